@@ -1,0 +1,3 @@
+-- What the proofs of `run` use.
+mod Rewrite
+mod Test

@@ -1,0 +1,3 @@
+-- What the proofs of `search` use.
+mod Scan
+mod Window

@@ -1,0 +1,177 @@
+// The search for a run of free blocks, a word at a time (003, sections 3 and 4), within a window: a start at or after
+// `from`, an end at or before `before`. Blocks outside the window are never read as free, whatever their bits are.
+ghost use mathlib.Core.Path.{_≡_};
+ghost use mathlib.Core.Bool.{Bool};
+ghost use Prim.Native.Nat.{ℕ, _+_, _-_, _*_, _/_, _<_, _≤_};
+ghost use lib.ListN.{length, getD};
+ghost use Rattle.freemap.specs.Blocks.{free, leastFit};
+ghost use Rattle.freemap.specs.Words.{bit, inWindow, Mask, Shows, Carried, Stepped, Bounded, Told};
+use super::Found;
+use super::Place;
+use super::Step;
+use super::word::ONES;
+use super::word::covers;
+use super::word::gaps;
+use super::word::part;
+use super::word::smaller;
+use super::word::span;
+use super::word::tail;
+
+// Where the s free blocks right before block base start. The formula of 003, section 4.1, points one word late where s is
+// 0 or a multiple of 64.
+fn run_start(base: u32, s: u32) -> u32
+    requires { ⌜ s ≤ base ⌝ }
+    ensures { λ r. ⌜ r ≡ base - s ⌝ }
+{
+    base - s
+}
+
+// The search at one word, whose first block is base, with s free blocks before it: prefix, gaps, suffix. A run of k in
+// the word holds all bits of core, so that one test spares most words the rounds where k is above 32.
+fn scan_word(w: u64, base: u32, s: u32, k: u32, core: u64) -> Step
+    requires { ⌜ (base ≤ 262144) × (s ≤ base) × (s < k) × Mask (64 - k) k core ⌝ }
+    ensures { λ r. ⌜ Bounded k (base + 64) r ⌝ }
+    ensures { λ r. ⌜ ((f : ℕ → Bool) → ((j : ℕ) → j < 64 → bit w j ≡ f (base + j)) → Carried f k base s → Stepped f k (base + 64) r) ⌝ }
+{
+    let p = k - s;
+    if 64 < p {
+        if w == ONES {
+            return Step::Next(s + 64);
+        }
+        return Step::Next(tail(w));
+    }
+    if covers(w, span(0, p)) {
+        return Step::Hit(run_start(base, s));
+    }
+    if covers(w, core) {
+        let g = gaps(w, k);
+        if g == 0 {
+            return Step::Next(tail(w));
+        }
+        return Step::Hit(base + u64::leading_zeros(g));
+    }
+    Step::Next(tail(w))
+}
+
+// The search at the words first to stop - 1, one after the other.
+fn scan_words(map: &[u64], first: usize, stop: usize, s: u32, k: u32, core: u64) -> Step
+    requires { ⌜ (first ≤ stop) × (stop ≤ 4096) × (stop ≤ length (now map)) × (s ≤ first * 64) × (s < k) × Mask (64 - k) k core ⌝ }
+    ensures { λ r. ⌜ Bounded k (stop * 64) r ⌝ }
+    ensures { λ r. ⌜ ((f : ℕ → Bool) → Shows (now (map .entry)) first stop f → Carried f k (first * 64) s → Stepped f k (stop * 64) r) ⌝ }
+{
+    let mut i = first;
+    let mut carried = s;
+    while i < stop {
+        match scan_word(map[i], (i as u32) * 64, carried, k, core) {
+            Step::Hit(start) => return Step::Hit(start),
+            Step::Next(next) => carried = next,
+        }
+        i += 1;
+    }
+    Step::Next(carried)
+}
+
+// The eight words from i on, or-ed together: 0 only where each of them is.
+fn any_free(map: &[u64], i: usize) -> u64
+    requires { ⌜ (i ≤ 4096) × (i + 8 ≤ length (now map)) ⌝ }
+    ensures { λ r. ⌜ (r ≡ 0 → (t : ℕ) → i ≤ t → t < i + 8 → getD (now (map .entry)) t 0 ≡ 0) ⌝ }
+{
+    let stop = i + 8;
+    let mut any: u64 = 0;
+    let mut t = i;
+    while t < stop {
+        any = any | map[t];
+        t += 1;
+    }
+    any
+}
+
+// Past the words from first on that are all taken, eight at a time, up to stop.
+fn skip_taken(map: &[u64], first: usize, stop: usize, s: u32) -> Place
+    requires { ⌜ (first ≤ stop) × (stop ≤ 4096) × (stop ≤ length (now map)) ⌝ }
+    ensures { λ r. ⌜ (first ≤ r .word) × (r .word ≤ stop) × (r .carried ≤ s) ⌝ }
+    ensures { λ r. ⌜ ((f : ℕ → Bool) (k : ℕ) → Shows (now (map .entry)) first stop f → Carried f k (first * 64) s → Carried f k (r .word * 64) (r .carried)) ⌝ }
+{
+    let mut i = first;
+    let mut carried = s;
+    while 8 <= stop - i {
+        if any_free(map, i) != 0 {
+            break;
+        }
+        i += 8;
+        carried = 0;
+    }
+    Place {
+        word: i,
+        carried: carried,
+    }
+}
+
+// The search at the words first to stop - 1, eight at a time: after each eight, words that are all taken are skipped.
+fn scan_groups(map: &[u64], first: usize, stop: usize, s: u32, k: u32, core: u64) -> Step
+    requires { ⌜ (first ≤ stop) × (stop ≤ 4096) × (stop ≤ length (now map)) × (s ≤ first * 64) × (s < k) × Mask (64 - k) k core ⌝ }
+    ensures { λ r. ⌜ Bounded k (stop * 64) r ⌝ }
+    ensures { λ r. ⌜ ((f : ℕ → Bool) → Shows (now (map .entry)) first stop f → Carried f k (first * 64) s → Stepped f k (stop * 64) r) ⌝ }
+{
+    let mut i = first;
+    let mut carried = s;
+    while 8 <= stop - i {
+        let end = i + 8;
+        match scan_words(map, i, end, carried, k, core) {
+            Step::Hit(start) => return Step::Hit(start),
+            Step::Next(next) => {
+                let place = skip_taken(map, end, stop, next);
+                i = place.word;
+                carried = place.carried;
+            }
+        }
+    }
+    scan_words(map, i, stop, carried, k, core)
+}
+
+// The search behind the window's first word, which ends in s free blocks: the words between, then the last one.
+fn search_on(map: &[u64], from: u32, before: u32, s: u32, k: u32, core: u64) -> Found
+    requires { ⌜ (from < before) × (before ≤ 262144) × (before ≤ 64 * length (now map)) × Mask (64 - k) k core ⌝ }
+    requires { ⌜ Carried (inWindow (free (now map)) from before) k (from / 64 * 64 + 64) s ⌝ }
+    ensures { λ r. ⌜ Told (inWindow (free (now (map .entry))) from before) k r ⌝ }
+{
+    let first = (from / 64) as usize + 1;
+    let last = ((before - 1) / 64) as usize;
+    if last < first {
+        return Found::Nothing;
+    }
+    match scan_groups(map, first, last, s, k, core) {
+        Step::Hit(start) => Found::At(start),
+        Step::Next(next) => {
+            let base = (last as u32) * 64;
+            match scan_word(map[last] & part(from, before, base), base, next, k, core) {
+                Step::Hit(start) => Found::At(start),
+                Step::Next(_) => Found::Nothing,
+            }
+        }
+    }
+}
+
+// The least fit for k within the window.
+pub fn search(map: &[u64], from: u32, before: u32, k: u32) -> Found
+    requires { ⌜ (before ≤ 262144) × (before ≤ 64 * length (now map)) × (0 < k) ⌝ }
+    ensures { λ r. ⌜ r ≡ leastFit (free (now (map .entry))) from before k ⌝ }
+{
+    if before <= from {
+        return Found::Nothing;
+    }
+    let inside = smaller(k, 64);
+    let core = span(64 - inside, inside);
+    let first = from / 64;
+    let base = first * 64;
+    match scan_word(
+        map[first as usize] & part(from, before, base),
+        base,
+        0,
+        k,
+        core,
+    ) {
+        Step::Hit(start) => Found::At(start),
+        Step::Next(s) => search_on(map, from, before, s, k, core),
+    }
+}

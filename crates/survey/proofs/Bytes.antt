@@ -1,0 +1,29 @@
+-- A byte before the blocks passed: its numbers in the table, and what they make of the summary.
+-- Assumes nothing.
+use mathlib.Core.Path.{_≡_}
+use mathlib.Core.Bool.{Bool, cond}
+use mathlib.Core.List.{List, _++_}
+use Prim.Native.Nat.{ℕ, _+_, _*_, _/_, _%_, _<_, max}
+use native.Mathlib.Omega.{arith}
+use lib.Dec.{eqb}
+use Rattle.survey.specs.Survey.{bitsOf, headOf, tailOf, longestOf, runsOf, meet, column, Summary}
+use Rattle.survey.proofs.Joining.{longest-append, runs-append, head-eight}
+use Rattle.survey.proofs.Words.{eight}
+
+pub columns : (i k b : ℕ) → i ≡ 4 * b + k → k < 4 → column (i % 4) (bitsOf 8 (i / 4)) ≡ column k (bitsOf 8 b)
+columns i k b e h =
+    let p : i % 4 ≡ k = omega arith in
+    let q : i / 4 ≡ b = omega arith in
+    rw (p, q)
+
+pub summary : (b h t l n head longest runs r1 m2 r2 r3 : ℕ)
+    → h ≡ headOf (bitsOf 8 b) → t ≡ tailOf (bitsOf 8 b) → l ≡ longestOf (bitsOf 8 b) → n ≡ runsOf (bitsOf 8 b)
+    → r1 ≡ cond (eqb h 8) (8 + head) h → m2 ≡ max l longest → r2 ≡ max m2 (t + head) → r3 + meet t head ≡ n + runs
+    → (ys : List Bool) → Summary head longest runs ys → Summary r1 r2 r3 (bitsOf 8 b ++ ys)
+summary b h t l n head longest runs r1 m2 r2 r3 eh et el en e1 em e2 e3 ys s =
+    let m : meet t head ≡ meet (tailOf (bitsOf 8 b)) (headOf ys) = (cc) in
+    record {
+      heads = cc (head-eight (bitsOf 8 b) ys (eight b));
+      longests = cc (longest-append (bitsOf 8 b) ys);
+      counts = omega (arith, runs-append (bitsOf 8 b) ys, s .counts);
+    }

@@ -1,0 +1,184 @@
+-- The counts of a survey: those of one list of blocks before another, and that taken blocks at the end add nothing.
+-- Assumes nothing.
+use mathlib.Core.Path.{_≡_, refl, ap, _∙_}
+use mathlib.Core.Bool.{Bool, true, false, cond}
+use mathlib.Core.Logic.{_⊎_, inl, inr, ⊎-elim}
+use mathlib.Core.List.{List, [], _∷_, _++_}
+use Prim.Native.Nat.{ℕ, zero, suc, _+_, _-_, _<_, _≤_, max}
+use native.Mathlib.Omega.{arith}
+use lib.Dec.{eqb}
+use lib.ListN.{length}
+use borrow.Author.Tests.{eq-eqb, ne-eqb}
+use Rattle.survey.specs.Survey.{freeOf, headOf, tailOf, longestOf, runsOf, meet, blocks}
+
+-- 1 where no free block follows
+abbrev none : ℕ → ℕ
+none h = cond (eqb h 0) 1 0
+
+-- what is known of a list that is all free, and of one that is not, before another
+record Full (xs ys : List Bool) : Type 0 where
+  h : headOf xs ≡ length xs
+  t : tailOf xs ≡ length xs
+  a : headOf (xs ++ ys) ≡ length xs + headOf ys
+
+record Broken (xs ys : List Bool) : Type 0 where
+  h : headOf xs < length xs
+  t : tailOf xs < length xs
+  a : headOf (xs ++ ys) ≡ headOf xs
+
+tail-full : (xs : List Bool) → tailOf xs ≡ length xs → tailOf (true ∷ xs) ≡ suc (tailOf xs)
+unfolding tailOf
+tail-full xs e = rw (eq-eqb (tailOf xs) (length xs) e)
+
+tail-broken : (xs : List Bool) → (tailOf xs < length xs) → tailOf (true ∷ xs) ≡ tailOf xs
+unfolding tailOf
+tail-broken xs e = rw (ne-eqb (tailOf xs) (length xs) (λ q. omega arith))
+
+parts : (xs ys : List Bool) → Full xs ys ⊎ Broken xs ys
+unfolding headOf tailOf
+parts [] ys = inl (record { h = refl; t = refl; a = omega arith })
+parts (false ∷ xs) ys =
+    ⊎-elim
+    (λ (f : Full xs ys). inr (record { h = omega arith; t = omega (arith, f .t); a = refl }))
+    (λ (f : Broken xs ys). inr (record { h = omega arith; t = omega (arith, f .t); a = refl }))
+    (parts xs ys)
+parts (true ∷ xs) ys =
+    ⊎-elim
+    (λ (f : Full xs ys). inl (record { h = ap suc (f .h); t = tail-full xs (f .t) ∙ ap suc (f .t); a = omega (arith, f .a) }))
+    (λ (f : Broken xs ys). inr (record { h = omega (arith, f .h); t = omega (arith, tail-broken xs (f .t), f .t); a = ap suc (f .a) }))
+    (parts xs ys)
+
+head-longest : (ys : List Bool) → headOf ys ≤ longestOf ys
+unfolding headOf longestOf
+head-longest [] = omega arith
+head-longest (y ∷ ys) = omega arith
+
+pub longest-append : (xs ys : List Bool) → longestOf (xs ++ ys) ≡ max (max (longestOf xs) (longestOf ys)) (tailOf xs + headOf ys)
+unfolding headOf tailOf longestOf
+longest-append [] ys = omega (arith, head-longest ys)
+longest-append (false ∷ xs) ys = omega (arith, longest-append xs ys)
+longest-append (true ∷ xs) ys =
+    ⊎-elim
+    (λ (f : Full xs ys). omega (arith, longest-append xs ys, tail-full xs (f .t), f .t, f .a, f .h))
+    (λ (f : Broken xs ys). omega (arith, longest-append xs ys, tail-broken xs (f .t), f .a))
+    (parts xs ys)
+
+none-pos : (h : ℕ) → 0 < h → none h ≡ 0
+none-pos h p = ap (λ (b : Bool). cond b 1 0) (ne-eqb h 0 (λ e. omega arith))
+
+none-meet : (h : ℕ) → none h + meet 1 h ≡ 1
+unfolding meet
+none-meet zero = refl
+none-meet (suc h) = ap (λ (n : ℕ). n + 1) (none-pos (suc h) (omega arith))
+
+meet-pos : (t h : ℕ) → 0 < t → meet (suc t) h ≡ meet t h
+unfolding meet
+meet-pos zero h p = absurd (omega arith)
+meet-pos (suc t) zero p = refl
+meet-pos (suc t) (suc h) p = refl
+
+pub runs-append : (xs ys : List Bool) → runsOf (xs ++ ys) + meet (tailOf xs) (headOf ys) ≡ runsOf xs + runsOf ys
+unfolding headOf tailOf runsOf meet
+runs-append [] ys = omega arith
+runs-append (false ∷ xs) ys = omega (arith, runs-append xs ys)
+runs-append (true ∷ []) ys = omega (arith, none-meet (headOf ys))
+runs-append (true ∷ x ∷ xs) ys =
+    ⊎-elim
+    (λ (f : Full (x ∷ xs) ys).
+    omega (
+      arith,
+      runs-append (x ∷ xs) ys,
+      none-pos (headOf ((x ∷ xs) ++ ys)) (omega (arith, f .a)),
+      none-pos (headOf (x ∷ xs)) (omega (arith, f .h)),
+      ap (λ (n : ℕ). meet n (headOf ys)) (tail-full (x ∷ xs) (f .t)),
+      meet-pos (tailOf (x ∷ xs)) (headOf ys) (omega (arith, f .t)),
+    ))
+    (λ (f : Broken (x ∷ xs) ys).
+    omega (arith, runs-append (x ∷ xs) ys, ap none (f .a), ap (λ (n : ℕ). meet n (headOf ys)) (tail-broken (x ∷ xs) (f .t))))
+    (parts (x ∷ xs) ys)
+
+true-runs : (xs : List Bool) → 0 < runsOf (true ∷ xs)
+unfolding headOf runsOf
+true-runs [] = omega arith
+true-runs (false ∷ xs) = omega arith
+true-runs (true ∷ xs) = omega (arith, true-runs xs)
+
+-- a list that ends in a free block has a run
+pub tail-runs : (xs : List Bool) → 0 < tailOf xs → 0 < runsOf xs
+unfolding tailOf runsOf
+tail-runs [] p = absurd (omega arith)
+tail-runs (false ∷ xs) p = omega (arith, tail-runs xs p)
+tail-runs (true ∷ xs) p = true-runs xs
+
+pub free-append : (xs ys : List Bool) → freeOf (xs ++ ys) ≡ freeOf xs + freeOf ys
+unfolding freeOf
+free-append [] ys = omega arith
+free-append (true ∷ xs) ys = omega (arith, free-append xs ys)
+free-append (false ∷ xs) ys = omega (arith, free-append xs ys)
+
+-- the free blocks at the head of eight before others
+pub head-eight : (xs ys : List Bool) → length xs ≡ 8 → headOf (xs ++ ys) ≡ cond (eqb (headOf xs) 8) (8 + headOf ys) (headOf xs)
+head-eight xs ys e =
+    ⊎-elim
+    (λ (f : Full xs ys). rw (eq-eqb (headOf xs) 8 (f .h ∙ e)) (f .a ∙ ap (λ (n : ℕ). n + headOf ys) e))
+    (λ (f : Broken xs ys). rw (ne-eqb (headOf xs) 8 (λ q. omega (arith, f .h))) (f .a))
+    (parts xs ys)
+
+pub meet-none : (t h : ℕ) → t ≡ 0 → meet t h ≡ 0
+unfolding meet
+meet-none zero h e = refl
+meet-none (suc t) h e = absurd (omega arith)
+
+pub meet-nothing : (t h : ℕ) → h ≡ 0 → meet t h ≡ 0
+unfolding meet
+meet-nothing zero h e = refl
+meet-nothing (suc t) zero e = refl
+meet-nothing (suc t) (suc h) e = absurd (omega arith)
+
+pub meet-some : (t h : ℕ) → 0 < t → 0 < h → meet t h ≡ 1
+unfolding meet
+meet-some zero h p q = absurd (omega arith)
+meet-some (suc t) zero p q = absurd (omega arith)
+meet-some (suc t) (suc h) p q = refl
+
+tail-longest : (xs : List Bool) → tailOf xs ≤ longestOf xs
+unfolding headOf tailOf longestOf
+tail-longest [] = omega arith
+tail-longest (false ∷ xs) = omega (arith, tail-longest xs)
+tail-longest (true ∷ xs) =
+    ⊎-elim
+    (λ (f : Full xs []). omega (arith, tail-full xs (f .t), f .t, f .h))
+    (λ (f : Broken xs []). omega (arith, tail-broken xs (f .t), tail-longest xs))
+    (parts xs [])
+
+-- ---- taken blocks at the end
+
+pub record Same (xs ys : List Bool) : Type 0 where
+  pub frees : freeOf xs ≡ freeOf ys
+  pub runs : runsOf xs ≡ runsOf ys
+  pub longest : longestOf xs ≡ longestOf ys
+
+record Empty (xs : List Bool) : Type 0 where
+  free : freeOf xs ≡ 0
+  head : headOf xs ≡ 0
+  longest : longestOf xs ≡ 0
+  runs : runsOf xs ≡ 0
+
+all-taken : (f : ℕ → Bool) (s m : ℕ) → ((b : ℕ) → s ≤ b → f b ≡ false) → Empty (blocks f s m)
+unfolding blocks freeOf headOf longestOf runsOf
+all-taken f s zero h = record { free = refl; head = refl; longest = refl; runs = refl }
+all-taken f s (suc m) h = go (f s) (h s (omega arith)) (all-taken f (suc s) m (λ b l. h b (omega arith)))
+  where
+    go : (x : Bool) → x ≡ false → Empty (blocks f (suc s) m) → Empty (x ∷ blocks f (suc s) m)
+    go true e rest = absurd (mathlib.Core.Bool.true≢false e)
+    go false e rest = record { free = omega (arith, rest .free); head = refl; longest = omega (arith, rest .longest); runs = omega (arith, rest .runs) }
+
+pub taken-end : (f : ℕ → Bool) (xs : List Bool) (s m : ℕ) → ((b : ℕ) → s ≤ b → f b ≡ false) → Same (xs ++ blocks f s m) xs
+taken-end f xs s m h =
+    let ys : List Bool = blocks f s m in
+    let e : Empty ys = all-taken f s m h in
+    record {
+      frees = omega (arith, free-append xs ys, e .free);
+      runs = omega (arith, runs-append xs ys, e .runs, meet-nothing (tailOf xs) (headOf ys) (e .head));
+      longest = omega (arith, longest-append xs ys, e .longest, e .head, tail-longest xs);
+    }

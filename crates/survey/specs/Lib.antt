@@ -1,0 +1,2 @@
+-- What the contracts of `survey` cite.
+pub mod Survey
