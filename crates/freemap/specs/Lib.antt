@@ -1,5 +1,4 @@
 -- What the contracts of `freemap` cite.
 pub mod Blocks
 pub mod Maps
-pub mod Table
 pub mod Words

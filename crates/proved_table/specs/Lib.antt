@@ -1,0 +1,2 @@
+-- The theorem that document 01 asks for.
+pub mod Table

@@ -1,0 +1,57 @@
+-- Document 01's "Table to be proved": one theorem, `table`, with its ten rows and the three figures that are also there.
+-- Assumes nothing.
+use mathlib.Core.Path.{_≡_, refl}
+use mathlib.Core.Bool.{Bool, true, false, _||_}
+use mathlib.Core.List.{List, _∷_, _++_}
+use Prim.Native.Nat.{ℕ}
+use lib.ListN.{replicate}
+use Rattle.freemap.specs.Blocks.{free, leastFit}
+use Rattle.freemap.specs.Maps.{mapOf, inRun}
+use Rattle.freemap.specs.declared.Found.{Found}
+use Rattle.freemap.specs.declared.Found.the-variants.{At, Nothing}
+use Rattle.block.specs.Sealed.{bytes4, front, sums}
+
+-- The answer of a search for k in a card of n blocks, with a map of w words and block b free where f b.
+abbrev pub answer : ℕ → ℕ → (ℕ → Bool) → ℕ → Found
+answer n w f k = leastFit (free (mapOf f w)) 0 n k
+
+-- The body of the fresh image of n = 64, c = 1: n, free count, c, the entry of an Absent sheet, a word of ones, zeros.
+abbrev pub freshBody : List ℕ
+freshBody =
+    bytes4 64 ++ bytes4 64 ++ bytes4 1 ++ bytes4 0x41 ++ bytes4 0 ++ bytes4 0 ++ replicate 8 255 ++ replicate 464 0
+
+-- Columns of the rows: n and its number of words, the free blocks, k, the result.
+pub record Table : Type 0 where
+  pub row-1 : answer 1 1 (inRun 0 1) 1 ≡ At 0
+  pub row-2 : answer 1 1 (λ b. false) 1 ≡ Nothing
+  pub row-3 : answer 64 1 (λ b. true) 64 ≡ At 0
+  pub row-4 : answer 64 1 (λ b. true) 65 ≡ Nothing
+  pub row-5 : answer 70 2 (λ b. true) 70 ≡ At 0
+  pub row-6 : answer 128 2 (inRun 60 10) 9 ≡ At 60
+  pub row-7 : answer 128 2 (λ b. inRun 10 3 b || inRun 60 10 b) 3 ≡ At 10
+  pub row-8 : answer 128 2 (inRun 64 64) 64 ≡ At 64
+  pub row-9 : answer 192 3 (inRun 63 66) 66 ≡ At 63
+  pub row-10 : answer 192 3 (inRun 63 66) 67 ≡ Nothing
+  -- sheet 0, place 0, zero payload: A 1, B 504; sheet 1 likewise: A 2, B 1,005
+  pub sheet-0 : sums 1 0 (front 0 0 (replicate 496 0)) ≡ (1, 504)
+  pub sheet-1 : sums 1 0 (front 1 0 (replicate 496 0)) ≡ (2, 1005)
+  -- the only block of the fresh image, number 0 of 1: A 2,236, B 3,003
+  pub fresh-image : sums 1 0 (front 0 1 freshBody) ≡ (2236, 3003)
+
+pub table : Table
+unfolding leastFit mapOf free sums bytes4
+table = record {
+  row-1 = refl;
+  row-2 = refl;
+  row-3 = refl;
+  row-4 = refl;
+  row-5 = refl;
+  row-6 = refl;
+  row-7 = refl;
+  row-8 = refl;
+  row-9 = refl;
+  row-10 = refl;
+  sheet-0 = refl;
+  sheet-1 = refl;
+  fresh-image = refl;
+}
