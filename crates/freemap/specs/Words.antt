@@ -27,6 +27,10 @@ covers w m = all (λ j. not (bit m j) || bit w j) 0 64
 abbrev pub Mask : ℕ → ℕ → ℕ → Type 0
 Mask lo hi m = (j : ℕ) → j < 64 → bit m j ≡ (leb lo j && ltb j hi)
 
+-- Every run of k bits in a word holds the bits of m.
+abbrev pub Core : ℕ → ℕ → Type 0
+Core k m = (j : ℕ) → j < 64 → bit m j ≡ true → (64 - k ≤ j) × (j < k)
+
 -- r ones stand at the end of w, and no more.
 pub record Tail (w r : ℕ) : Type 0 where
   pub within : r ≤ 64

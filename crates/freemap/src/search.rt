@@ -5,11 +5,10 @@ ghost use mathlib.Core.Bool.{Bool};
 ghost use Prim.Native.Nat.{ℕ, _+_, _-_, _*_, _/_, _<_, _≤_};
 ghost use lib.ListN.{length, getD};
 ghost use Rattle.freemap.specs.Blocks.{free, leastFit};
-ghost use Rattle.freemap.specs.Words.{bit, inWindow, Mask, Shows, Carried, Stepped, Bounded, Told};
+ghost use Rattle.freemap.specs.Words.{bit, inWindow, Core, Shows, Carried, Stepped, Bounded, Told};
 use super::Found;
 use super::Place;
 use super::Step;
-use super::word::ONES;
 use super::word::covers;
 use super::word::gaps;
 use super::word::part;
@@ -26,21 +25,30 @@ fn run_start(base: u32, s: u32) -> u32
     base - s
 }
 
-// The search at one word, whose first block is base, with s free blocks before it: prefix, gaps, suffix. A run of k in
-// the word holds all bits of core, so that one test spares most words the rounds where k is above 32.
+// Bits that every run of k in a word holds: the middle ones. Below 48 there are few or none, and testing them would be a
+// branch that is guessed wrong too often.
+fn core_of(k: u32) -> u64
+    ensures { λ r. ⌜ Core k r ⌝ }
+{
+    if k < 48 {
+        return 0;
+    }
+    let inside = smaller(k, 64);
+    span(64 - inside, inside)
+}
+
+// The search at one word, whose first block is base, with s free blocks before it: the three steps of 003, section 3. A
+// word that lacks a bit of the core has no run of k.
 fn scan_word(w: u64, base: u32, s: u32, k: u32, core: u64) -> Step
-    requires { ⌜ (base ≤ 262144) × (s ≤ base) × (s < k) × Mask (64 - k) k core ⌝ }
+    requires { ⌜ (base ≤ 262144) × (s ≤ base) × (s < k) × Core k core ⌝ }
     ensures { λ r. ⌜ Bounded k (base + 64) r ⌝ }
     ensures { λ r. ⌜ ((f : ℕ → Bool) → ((j : ℕ) → j < 64 → bit w j ≡ f (base + j)) → Carried f k base s → Stepped f k (base + 64) r) ⌝ }
 {
-    let p = k - s;
-    if 64 < p {
-        if w == ONES {
+    let wanted = k - s;
+    if covers(w, span(0, smaller(wanted, 64))) {
+        if 64 < wanted {
             return Step::Next(s + 64);
         }
-        return Step::Next(tail(w));
-    }
-    if covers(w, span(0, p)) {
         return Step::Hit(run_start(base, s));
     }
     if covers(w, core) {
@@ -55,7 +63,7 @@ fn scan_word(w: u64, base: u32, s: u32, k: u32, core: u64) -> Step
 
 // The search at the words first to stop - 1, one after the other.
 fn scan_words(map: &[u64], first: usize, stop: usize, s: u32, k: u32, core: u64) -> Step
-    requires { ⌜ (first ≤ stop) × (stop ≤ 4096) × (stop ≤ length (now map)) × (s ≤ first * 64) × (s < k) × Mask (64 - k) k core ⌝ }
+    requires { ⌜ (first ≤ stop) × (stop ≤ 4096) × (stop ≤ length (now map)) × (s ≤ first * 64) × (s < k) × Core k core ⌝ }
     ensures { λ r. ⌜ Bounded k (stop * 64) r ⌝ }
     ensures { λ r. ⌜ ((f : ℕ → Bool) → Shows (now (map .entry)) first stop f → Carried f k (first * 64) s → Stepped f k (stop * 64) r) ⌝ }
 {
@@ -109,7 +117,7 @@ fn skip_taken(map: &[u64], first: usize, stop: usize, s: u32) -> Place
 
 // The search at the words first to stop - 1, eight at a time: after each eight, words that are all taken are skipped.
 fn scan_groups(map: &[u64], first: usize, stop: usize, s: u32, k: u32, core: u64) -> Step
-    requires { ⌜ (first ≤ stop) × (stop ≤ 4096) × (stop ≤ length (now map)) × (s ≤ first * 64) × (s < k) × Mask (64 - k) k core ⌝ }
+    requires { ⌜ (first ≤ stop) × (stop ≤ 4096) × (stop ≤ length (now map)) × (s ≤ first * 64) × (s < k) × Core k core ⌝ }
     ensures { λ r. ⌜ Bounded k (stop * 64) r ⌝ }
     ensures { λ r. ⌜ ((f : ℕ → Bool) → Shows (now (map .entry)) first stop f → Carried f k (first * 64) s → Stepped f k (stop * 64) r) ⌝ }
 {
@@ -131,7 +139,7 @@ fn scan_groups(map: &[u64], first: usize, stop: usize, s: u32, k: u32, core: u64
 
 // The search behind the window's first word, which ends in s free blocks: the words between, then the last one.
 fn search_on(map: &[u64], from: u32, before: u32, s: u32, k: u32, core: u64) -> Found
-    requires { ⌜ (from < before) × (before ≤ 262144) × (before ≤ 64 * length (now map)) × Mask (64 - k) k core ⌝ }
+    requires { ⌜ (from < before) × (before ≤ 262144) × (before ≤ 64 * length (now map)) × Core k core ⌝ }
     requires { ⌜ Carried (inWindow (free (now map)) from before) k (from / 64 * 64 + 64) s ⌝ }
     ensures { λ r. ⌜ Told (inWindow (free (now (map .entry))) from before) k r ⌝ }
 {
@@ -160,8 +168,7 @@ pub fn search(map: &[u64], from: u32, before: u32, k: u32) -> Found
     if before <= from {
         return Found::Nothing;
     }
-    let inside = smaller(k, 64);
-    let core = span(64 - inside, inside);
+    let core = core_of(k);
     let first = from / 64;
     let base = first * 64;
     match scan_word(

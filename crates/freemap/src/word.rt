@@ -38,8 +38,36 @@ pub fn covers(w: u64, m: u64) -> bool
     w & m == m
 }
 
-// Bit j of the result is 1 where the k bits of w from j on are: the rounds of 003, section 4.2, with left shifts, so that
-// a bit marks a run's start.
+// Bit j of the result is 1 where the 16 bits of w from j on are: the first four rounds of 003, section 4.2, without a
+// branch between them. Shifts go left, so that a bit marks a run's start.
+fn sixteens(w: u64) -> u64
+    ensures { λ r. ⌜ ((j : ℕ) → bit r j ≡ all (bit w) j 16) ⌝ }
+{
+    let twos = w & (w << 1);
+    let fours = twos & (twos << 2);
+    let eights = fours & (fours << 4);
+    eights & (eights << 8)
+}
+
+// The rounds from runs of `have` to runs of k, each of which shifts by as much as it can. They stop where no run is left.
+fn rounds(runs: u64, have: u32, k: u32) -> u64
+    requires { ⌜ (0 < have) × (have ≤ k) × (k ≤ 64) ⌝ }
+    ensures { λ r. ⌜ ((w : ℕ) → ((j : ℕ) → bit runs j ≡ all (bit w) j have) → (j : ℕ) → bit r j ≡ all (bit w) j k) ⌝ }
+{
+    let mut g = runs;
+    let mut done = have;
+    while done < k {
+        if g == 0 {
+            return 0;
+        }
+        let shift = smaller(done, k - done);
+        g = g & (g << shift);
+        done += shift;
+    }
+    g
+}
+
+// Bit j of the result is 1 where the k bits of w from j on are (003, section 4.2).
 pub fn gaps(w: u64, k: u32) -> u64
     requires { ⌜ 0 < k ⌝ }
     ensures { λ r. ⌜ ((j : ℕ) → bit r j ≡ all (bit w) j k) ⌝ }
@@ -47,18 +75,10 @@ pub fn gaps(w: u64, k: u32) -> u64
     if 64 < k {
         return 0;
     }
-    let mut g = w;
-    let mut have: u32 = 1;
-    while have < k {
-        if g == 0 {
-            return 0;
-        }
-        let rest = k - have;
-        let shift = smaller(have, rest);
-        g = g & (g << shift);
-        have += shift;
+    if k < 16 {
+        return rounds(w, 1, k);
     }
-    g
+    rounds(sixteens(w), 16, k)
 }
 
 // The bits of the blocks lo to hi - 1 that lie in the word whose first block is base.

@@ -1,15 +1,16 @@
 -- The counts of a survey: those of one list of blocks before another, and that taken blocks at the end add nothing.
 -- Assumes nothing.
-use mathlib.Core.Path.{_≡_, refl, ap, _∙_}
+use mathlib.Core.Path.{_≡_, refl, sym, ap, _∙_}
 use mathlib.Core.Bool.{Bool, true, false, cond}
 use mathlib.Core.Logic.{_⊎_, inl, inr, ⊎-elim}
 use mathlib.Core.List.{List, [], _∷_, _++_}
-use Prim.Native.Nat.{ℕ, zero, suc, _+_, _-_, _<_, _≤_, max}
+use Prim.Native.Nat.{ℕ, zero, suc, _+_, _-_, _*_, _<_, _≤_, max}
+use native.Mathlib.Nat.{mul-pos, mul-zero, zero-mul}
 use native.Mathlib.Omega.{arith}
 use lib.Dec.{eqb}
 use lib.ListN.{length}
 use borrow.Author.Tests.{eq-eqb, ne-eqb}
-use Rattle.survey.specs.Survey.{freeOf, headOf, tailOf, longestOf, runsOf, meet, blocks}
+use Rattle.survey.specs.Survey.{freeOf, headOf, tailOf, longestOf, runsOf, meet, blocks, bitsOf, Summary}
 
 -- 1 where no free block follows
 abbrev none : ℕ → ℕ
@@ -135,11 +136,18 @@ meet-nothing zero h e = refl
 meet-nothing (suc t) zero e = refl
 meet-nothing (suc t) (suc h) e = absurd (omega arith)
 
-pub meet-some : (t h : ℕ) → 0 < t → 0 < h → meet t h ≡ 1
+-- the product is 0 exactly where one side has no free block at the meeting
+pub product-none : (t h : ℕ) → t * h ≡ 0 → meet t h ≡ 0
 unfolding meet
-meet-some zero h p q = absurd (omega arith)
-meet-some (suc t) zero p q = absurd (omega arith)
-meet-some (suc t) (suc h) p q = refl
+product-none zero h e = refl
+product-none (suc t) zero e = refl
+product-none (suc t) (suc h) e = let p : 0 < suc t * suc h = mul-pos (omega arith) (omega arith) in absurd (omega arith)
+
+pub product-some : (t h : ℕ) → (t * h ≡ 0 → ⊥) → (0 < t) × (meet t h ≡ 1)
+unfolding meet
+product-some zero h ne = absurd (ne (zero-mul h))
+product-some (suc t) zero ne = absurd (ne (mul-zero (suc t)))
+product-some (suc t) (suc h) ne = (omega arith, refl)
 
 tail-longest : (xs : List Bool) → tailOf xs ≤ longestOf xs
 unfolding headOf tailOf longestOf
@@ -182,3 +190,16 @@ taken-end f xs s m h =
       runs = omega (arith, runs-append xs ys, e .runs, meet-nothing (tailOf xs) (headOf ys) (e .head));
       longest = omega (arith, longest-append xs ys, e .longest, e .head, tail-longest xs);
     }
+
+-- ---- a word with no free block, before others
+
+past-none : (longest runs head : ℕ) (xs ys : List Bool) → longestOf xs ≡ 0 → tailOf xs ≡ 0 → runsOf xs ≡ 0 → headOf (xs ++ ys) ≡ 0 → Summary head longest runs ys → Summary 0 longest runs (xs ++ ys)
+past-none longest runs head xs ys l t r h s = record {
+  heads = sym h;
+  longests = omega (arith, s .longests, longest-append xs ys, head-longest ys);
+  counts = omega (arith, s .counts, runs-append xs ys, meet-none (tailOf xs) (headOf ys) t);
+}
+
+pub past-zero : (longest runs head : ℕ) (ys : List Bool) → Summary head longest runs ys → Summary 0 longest runs (bitsOf 64 0 ++ ys)
+unfolding bitsOf headOf tailOf longestOf runsOf
+past-zero longest runs head ys s = past-none longest runs head (bitsOf 64 0) ys refl refl refl refl s

@@ -45,22 +45,19 @@ fn larger(a: u32, b: u32) -> u32
 
 // The free blocks at the head of a byte, which has h, before others, which have head.
 fn joined_head(h: u32, head: u32) -> u32
-    requires { ⌜ (h < 256) × (head ≤ 2147483648) ⌝ }
+    requires { ⌜ (h < 256) × (head ≤ 16000000) ⌝ }
     ensures { λ r. ⌜ (r ≡ cond (eqb h 8) (8 + head) h) × (r ≤ head + 255) ⌝ }
 {
     if h == 8 { 8 + head } else { h }
 }
 
 // The runs of a byte, which has n and ends in t free blocks, before others: a run that goes on from one into the other
-// counts once.
+// counts once. The product is 0 where either side has none, and spares a branch.
 fn joined_runs(t: u32, n: u32, head: u32, runs: u32) -> u32
-    requires { ⌜ (n < 256) × (runs ≤ 2147483648) × (0 < t → 0 < n) ⌝ }
+    requires { ⌜ (t < 256) × (n < 256) × (head ≤ 16000000) × (runs ≤ 16000000) × (0 < t → 0 < n) ⌝ }
     ensures { λ r. ⌜ (r + meet t head ≡ n + runs) × (r ≤ runs + 255) ⌝ }
 {
-    if t == 0 {
-        return n + runs;
-    }
-    if head == 0 {
+    if t * head == 0 {
         return n + runs;
     }
     n + runs - 1
@@ -69,7 +66,7 @@ fn joined_runs(t: u32, n: u32, head: u32, runs: u32) -> u32
 // A byte before the blocks passed.
 fn prepend_byte(table: &[u8; 1024], passed: Passed, byte: usize) -> Passed
     requires { ⌜ Ruled (now table) ⌝ }
-    requires { ⌜ (byte < 256) × (passed .head ≤ 2147483648) × (passed .runs ≤ 2147483648) ⌝ }
+    requires { ⌜ (byte < 256) × (passed .head ≤ 16000000) × (passed .runs ≤ 16000000) ⌝ }
     ensures { λ r. ⌜ ((ys : List Bool) → Summary (passed .head) (passed .longest) (passed .runs) ys → Summary (r .head) (r .longest) (r .runs) (bitsOf 8 byte ++ ys)) ⌝ }
     ensures { λ r. ⌜ (r .head ≤ passed .head + 255) × (r .runs ≤ passed .runs + 255) ⌝ }
 {
@@ -86,13 +83,20 @@ fn prepend_byte(table: &[u8; 1024], passed: Passed, byte: usize) -> Passed
     }
 }
 
-// A word before the blocks passed, its last byte first.
+// A word before the blocks passed, its last byte first. A word with no free block needs no table.
 fn prepend_word(table: &[u8; 1024], passed: Passed, w: u64) -> Passed
     requires { ⌜ Ruled (now table) ⌝ }
-    requires { ⌜ (passed .head ≤ 1073741824) × (passed .runs ≤ 1073741824) ⌝ }
+    requires { ⌜ (passed .head ≤ 15000000) × (passed .runs ≤ 15000000) ⌝ }
     ensures { λ r. ⌜ ((ys : List Bool) → Summary (passed .head) (passed .longest) (passed .runs) ys → Summary (r .head) (r .longest) (r .runs) (bitsOf 64 w ++ ys)) ⌝ }
     ensures { λ r. ⌜ (r .head ≤ passed .head + 2040) × (r .runs ≤ passed .runs + 2040) ⌝ }
 {
+    if w == 0 {
+        return Passed {
+            head: 0,
+            longest: passed.longest,
+            runs: passed.runs,
+        };
+    }
     let w1 = w / 256;
     let w2 = w1 / 256;
     let w3 = w2 / 256;

@@ -11,7 +11,7 @@ use lib.ListN.{getD}
 use lib.Pow.{ones-lt}
 use borrow.Author.Tests.{lt-ltb, ltb-true, leb-true}
 use Rattle.freemap.specs.Blocks.{all}
-use Rattle.freemap.specs.Words.{bit, covers, Mask, Tail, Shows, Carried, Least}
+use Rattle.freemap.specs.Words.{bit, covers, Mask, Core, Tail, Shows, Carried, Least}
 use Rattle.freemap.proofs.Bools.{not-true, both-ways, clash, order, and-left, and-right}
 use Rattle.freemap.proofs.Runs.{all-intro, all-elim, all-break, all-part, all-same}
 use Rattle.freemap.proofs.Bits.{bit-past, bit-zero, bit-ones, word-ext, First}
@@ -23,26 +23,12 @@ use Rattle.freemap.proofs.Masks.{covers-intro, covers-run}
 pub prefix : (w m p : ℕ) → p ≤ 64 → Mask 0 p m → covers w m ≡ all (bit w) 0 p
 prefix w m p l mask = let e : p - 0 ≡ p = omega arith in covers-run w m 0 p l mask ∙ ap (all (bit w) 0) e
 
--- the core, the bits that every run of k in a word holds: none up to 32, and all from 64 on
-pub core-mask : (k c m : ℕ) → c ≡ min k 64 → Mask (64 - c) c m → Mask (64 - k) k m
-core-mask k c m e mask = λ j l. mask j l ∙
-    ap₂ _&&_
-    (let q : 64 - c ≡ 64 - k = omega arith in ap (λ (x : ℕ). leb x j) q)
-    (both-ways (ltb j c) (ltb j k) (λ h. let u : j < c = ltb-true j c h in lt-ltb j k (omega arith)) (λ h. let u : j < k = ltb-true j k h in lt-ltb j c (omega arith)))
-
 -- a word that lacks a bit of the core has no run of k
-pub core-fails : (w m k : ℕ) → Mask (64 - k) k m → covers w m ≡ false → (j : ℕ) → j + k ≤ 64 → all (bit w) j k ≡ false
-core-fails w m k mask e j l =
+pub core-fails : (w m k : ℕ) → Core k m → covers w m ≡ false → (j : ℕ) → j + k ≤ 64 → all (bit w) j k ≡ false
+core-fails w m k core e j l =
     not-true (all (bit w) j k) (λ h. clash (covers w m) (covers-intro w m (λ t u b.
-    let in-core : (leb (64 - k) t && ltb t k) ≡ true = sym (mask t u) ∙ b in
-    let lo : 64 - k ≤ t = leb-true (64 - k) t (and-left (leb (64 - k) t) (ltb t k) in-core) in
-    let hi : t < k = ltb-true t k (and-right (leb (64 - k) t) (ltb t k) in-core) in
+    let middle : (64 - k ≤ t) × (t < k) = core t u b in
     all-elim (bit w) j k h t (omega arith) (omega arith))) e)
-
--- a word that is not all ones does not end in 64 ones
-pub tail-short : (w r : ℕ) → w < 2 ^ 64 → (w ≡ 2 ^ 64 - 1 → ⊥) → Tail w r → r < 64
-tail-short w r b ne tail =
-    ⊎-elim (λ l. l) (λ g. absurd (ne (word-ext w (2 ^ 64 - 1) b (ones-lt 64) (λ j l. tail .held j l (omega arith) ∙ sym (bit-ones j l))))) (order r 64)
 
 -- a word with no run of k does not end in k ones
 pub tail-below : (w r k : ℕ) → ((j : ℕ) → j + k ≤ 64 → all (bit w) j k ≡ false) → Tail w r → r < k
@@ -73,10 +59,9 @@ module _ (f : ℕ → Bool) (k base s w : ℕ) (same : (j : ℕ) → j < 64 → 
     none = λ t a. at .none t (omega arith);
   }
 
-  -- the runs that start before the word all fail in its first k - s bits
-  pub head-fails : s < k → k - s ≤ 64 → all (bit w) 0 (k - s) ≡ false → (t : ℕ) → base ≤ t + s → t < base → all f t k ≡ false
-  head-fails h l e t a b =
-      all-part f t k (base + 0) (k - s) (omega arith) (omega arith) (sym (run 0 (k - s) (omega arith)) ∙ e)
+  -- the runs that start before the word all fail in its first m bits, which they hold
+  pub head-fails : (m : ℕ) → s < k → m ≤ k - s → m ≤ 64 → all (bit w) 0 m ≡ false → (t : ℕ) → base ≤ t + s → t < base → all f t k ≡ false
+  head-fails m h l u e t a b = all-part f t k (base + 0) m (omega arith) (omega arith) (sym (run 0 m (omega arith)) ∙ e)
 
   -- on to the next word
   pub next : (r : ℕ) → Tail w r → r < k → ((t : ℕ) → base ≤ t + s → t < base → all f t k ≡ false) → ((j : ℕ) → j + k ≤ 64 → all (bit w) j k ≡ false) → Carried f k (base + 64) r
@@ -90,10 +75,6 @@ module _ (f : ℕ → Bool) (k base s w : ℕ) (same : (j : ℕ) → j < 64 → 
       late : (t : ℕ) → base ≤ t → t + r < base + 64 → r ≤ 64 → (64 < t - base + k) ⊎ (t - base + k ≤ 64) → all f t k ≡ false
       late t g a lr (inl u) = all-break f t k (base + (63 - r)) (omega arith) (omega arith) (sym (same (63 - r) (omega arith)) ∙ tail .stop (63 - r) (omega arith))
       late t g a lr (inr u) = let e : base + (t - base) ≡ t = omega arith in ap (λ (x : ℕ). all f x k) (sym e) ∙ sym (run (t - base) k u) ∙ within (t - base) u
-
-  -- more than 64 blocks are wanted, and the word has a taken one
-  pub broken : (r : ℕ) → s + 64 < k → Tail w r → r < 64 → (t : ℕ) → base ≤ t + s → t < base → all f t k ≡ false
-  broken r l tail lr t a b = all-break f t k (base + (63 - r)) (omega arith) (omega arith) (sym (same (63 - r) (omega arith)) ∙ tail .stop (63 - r) (omega arith))
 
   -- the run before the word goes on in it
   pub head-hit : s < k → all (bit w) 0 (k - s) ≡ true → k - s ≤ 64 → Least f k (base - s)

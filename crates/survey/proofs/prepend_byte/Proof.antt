@@ -65,7 +65,7 @@ joined-runs-requires c κs =
     let start = e4 .before .before .before .before in
     let et = e4 .before .before .entry2 .ensures ∙ columns (4 * start .args .byte + 1) 1 (start .args .byte) (omega arith) (omega arith) in
     let en = e4 .entry4 .ensures ∙ columns (4 * start .args .byte + 3) 3 (start .args .byte) (omega arith) (omega arith) in
-    (search needs, search needs, λ p. omega (arith, en, tail-runs (bitsOf 8 (start .args .byte)) (omega (arith, et))))
+    (search needs, search needs, search needs, search needs, λ p. omega (arith, en, tail-runs (bitsOf 8 (start .args .byte)) (omega (arith, et))))
 
 returns : tie.Need-returns
 unfolding column

@@ -1,0 +1,2 @@
+-- What the proofs of `word` use.
+mod Doubling

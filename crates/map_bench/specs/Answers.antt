@@ -1,0 +1,36 @@
+-- What C is answered: document 01's search and survey as numbers.
+-- Assumes nothing.
+use mathlib.Core.Bool.{Bool, true, false, _&&_, cond}
+use mathlib.Core.List.{List}
+use Prim.Native.Nat.{ℕ, zero, suc, _+_, _/_}
+use lib.Dec.{eqb, leb}
+use lib.ListN.{length}
+use Rattle.freemap.specs.Blocks.{free, leastFit}
+use Rattle.survey.specs.Survey.{countsOf}
+use Rattle.survey.specs.declared.Counts as survey
+use Rattle.freemap.specs.declared.Found.{Found}
+use Rattle.freemap.specs.declared.Found.the-variants.{At, Nothing}
+use Rattle.map_bench.specs.declared.Counts.{Counts}
+
+-- A card has 1 to 262,144 blocks, and its map n/64 words, rounded up.
+unfoldable pub withinLimits : List ℕ → ℕ → Bool
+withinLimits map n = leb 1 n && leb n 262144 && eqb (length map) ((n + 63) / 64)
+
+-- The number that stands for what a search found.
+abbrev pub numberOf : Found → ℕ
+numberOf (At s) = s
+numberOf Nothing = 0xffff_ffff
+
+-- The search for k in a card of n blocks, for k ≥ 1.
+unfoldable pub searched : List ℕ → ℕ → ℕ → ℕ
+unfolding withinLimits
+searched map n k = cond (leb 1 k && withinLimits map n) (numberOf (leastFit (free map) 0 n k)) 0xffff_fffe
+
+-- The three counts, as C has them.
+abbrev pub countsFor : survey.Counts → Counts
+countsFor c = record { free = c .free; runs = c .runs; longest = c .longest }
+
+-- The survey of a card of n blocks.
+unfoldable pub surveyed : List ℕ → ℕ → Counts
+unfolding withinLimits
+surveyed map n = cond (withinLimits map n) (countsFor (countsOf (free map) n)) (record { free = 0; runs = 0; longest = 0 })

@@ -1,0 +1,2 @@
+-- What the contracts of `map_bench` cite.
+pub mod Answers

@@ -1,0 +1,162 @@
+//! A map as a list of blocks, one entry a block: true is free, false is taken (document 01, "Map and search").
+
+pub const FREE: bool = true;
+pub const TAKEN: bool = false;
+
+/// The blocks of a map: block b is bit 63 - (b mod 64) of word b div 64.
+pub fn from_words(words: &[u64]) -> Vec<bool> {
+    (0..64 * words.len())
+        .map(|b| words[b / 64] >> (63 - b % 64) & 1 == 1)
+        .collect()
+}
+
+/// The words of a map, each from its 64 blocks, the first the most significant.
+pub fn to_words(map: &[bool]) -> Vec<u64> {
+    map.chunks(64)
+        .map(|blocks| blocks.iter().fold(0, |word, &free| 2 * word + free as u64))
+        .collect()
+}
+
+/// How many words n blocks take.
+pub fn words_of(n: usize) -> usize {
+    n.div_ceil(64)
+}
+
+/// The map of w words of a fresh card of n blocks.
+pub fn fresh(n: usize, w: usize) -> Vec<bool> {
+    (0..64 * w).map(|b| b < n).collect()
+}
+
+/// Whether the blocks from start to end - 1 are all in a state.
+pub fn all(map: &[bool], start: usize, end: usize, state: bool) -> bool {
+    map[start..end].iter().all(|&block| block == state)
+}
+
+/// The blocks from start to end - 1 get a state.
+pub fn mark(map: &mut [bool], start: usize, end: usize, state: bool) {
+    map[start..end].fill(state);
+}
+
+/// The least start, at or after `from`, of k free blocks that end at or before `before`, for k ≥ 1. Goes from block to
+/// block and counts the free ones in a row: where there are k for the first time, the lowest run of k ends.
+pub fn least_fit(map: &[bool], from: usize, before: usize, k: usize) -> Option<usize> {
+    let mut row = 0;
+    for b in from..before {
+        row = if map[b] == FREE { row + 1 } else { 0 };
+        if row == k {
+            return Some(b + 1 - k);
+        }
+    }
+    None
+}
+
+/// What a survey answers.
+#[derive(Debug, PartialEq)]
+pub struct Counts {
+    pub free: usize,
+    pub runs: usize,
+    pub longest: usize,
+}
+
+/// The survey of the first n blocks: taken blocks part them into runs.
+pub fn survey(map: &[bool], n: usize) -> Counts {
+    let runs: Vec<usize> = map[..n]
+        .split(|&block| block == TAKEN)
+        .map(|run| run.len())
+        .filter(|&length| length > 0)
+        .collect();
+    Counts {
+        free: runs.iter().sum(),
+        runs: runs.len(),
+        longest: runs.iter().max().copied().unwrap_or(0),
+    }
+}
+
+#[cfg(test)]
+mod tests {
+    use super::*;
+
+    fn with_free(n: usize, free: &[std::ops::RangeInclusive<usize>]) -> Vec<bool> {
+        (0..n)
+            .map(|b| free.iter().any(|run| run.contains(&b)))
+            .collect()
+    }
+
+    /// All maps of n blocks.
+    fn all_maps(n: usize) -> impl Iterator<Item = Vec<bool>> {
+        (0..1usize << n).map(move |x| (0..n).map(|b| x >> b & 1 == 1).collect())
+    }
+
+    #[test]
+    fn searches_of_document_01s_table() {
+        let rows = [
+            (1, vec![0..=0], 1, Some(0)),
+            (1, vec![], 1, None),
+            (64, vec![0..=63], 64, Some(0)),
+            (64, vec![0..=63], 65, None),
+            (70, vec![0..=69], 70, Some(0)),
+            (128, vec![60..=69], 9, Some(60)),
+            (128, vec![10..=12, 60..=69], 3, Some(10)),
+            (128, vec![64..=127], 64, Some(64)),
+            (192, vec![63..=128], 66, Some(63)),
+            (192, vec![63..=128], 67, None),
+        ];
+        for (n, free, k, result) in rows {
+            assert_eq!(
+                least_fit(&with_free(n, &free), 0, n, k),
+                result,
+                "n {n}, k {k}"
+            );
+        }
+    }
+
+    /// The words of document 01: a fit for k is a start s with s + k ≤ n and blocks s to s + k - 1 all free.
+    #[test]
+    fn least_fit_is_the_first_of_all_fits() {
+        for map in all_maps(8) {
+            for (from, before) in (0..9).flat_map(|from| (0..9).map(move |before| (from, before))) {
+                for k in 1..10 {
+                    let fits = |&s: &usize| s + k <= before && all(&map, s, s + k, FREE);
+                    let first = (from..before).find(fits);
+                    assert_eq!(
+                        least_fit(&map, from, before, k),
+                        first,
+                        "{map:?} {from} {before} {k}"
+                    );
+                }
+            }
+        }
+    }
+
+    #[test]
+    fn block_0_is_the_most_significant_bit() {
+        let map = from_words(&[1 << 63, 1, 0]);
+        let free: Vec<usize> = (0..192).filter(|&b| map[b]).collect();
+        assert_eq!(free, [0, 127]);
+        assert_eq!(to_words(&map), [1 << 63, 1, 0]);
+        assert_eq!(to_words(&fresh(65, 2)), [u64::MAX, 1 << 63]);
+    }
+
+    /// Each free block counts, each that has no free one before it starts a run, and no run longer than the longest fits.
+    #[test]
+    fn counts_of_a_survey() {
+        for map in all_maps(10) {
+            let counts = survey(&map, 10);
+            let starts = (0..10)
+                .filter(|&b| map[b] && (b == 0 || !map[b - 1]))
+                .count();
+            let fitting = (1..11)
+                .filter(|&k| least_fit(&map, 0, 10, k).is_some())
+                .count();
+            let free = map.iter().filter(|&&block| block).count();
+            assert_eq!(
+                counts,
+                Counts {
+                    free,
+                    runs: starts,
+                    longest: fitting
+                }
+            );
+        }
+    }
+}

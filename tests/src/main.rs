@@ -1,0 +1,18 @@
+//! What the example programs must print, worked out bit by bit. The word given names the set of examples:
+//!
+//!     cargo run --release --offline --manifest-path tests/Cargo.toml -- map
+
+mod blocks;
+mod map;
+mod random;
+
+fn main() {
+    let set = std::env::args().nth(1);
+    match set.as_deref() {
+        Some("map") => print!("{}", map::examples()),
+        _ => {
+            eprintln!("usage: bitwise map");
+            std::process::exit(2);
+        }
+    }
+}
