@@ -1,0 +1,181 @@
+-- `calls::reserve::reserve_ruling` meets its contract: each way out by its row.
+-- Assumes nothing.
+use mathlib.Core.Path.{_≡_, refl, sym, ap, _∙_}
+use mathlib.Core.List.{List, [], _∷_}
+use Prim.Native.Nat.{ℕ, _≤_, _<_}
+use native.Mathlib.Omega.{arith}
+use borrow.Author.Needs.{needs}
+use borrow.Author.Tests.{eq-eqb, ne-eqb, lt-ltb, le-ltb}
+use denote.Ref.{now}
+use lib.Dec.{eqb, ltb}
+use Rattle.freemap.specs.Blocks.{free, leastFit}
+use Rattle.freemap.specs.declared.Found.{Found}
+use Rattle.freemap.specs.declared.Found.the-variants.{At, Nothing}
+use Rattle.calls.specs.Effects.{startAt, reserveVerdict, reserveStart}
+use Rattle.calls.specs.Openings.{refusedRow, rowOf}
+use Rattle.calls.specs.Rows.{Row, row, Verdict, accepted, refused, firstOf}
+use Rattle.calls.specs.Rulings.{rulingOf}
+use Rattle.calls.specs.Table.{none, tableOf}
+use Rattle.calls.specs.Views.{viewOn}
+use Rattle.calls.specs.declared.Opened.the-variants.{Refused, Stands}
+use Rattle.calls.specs.declared.Ruling.the-variants as ruling
+use Rattle.calls.specs.declared.Standing.{Standing}
+use Rattle.calls.specs.declared.Standing.the-variants.{Absent}
+use Rattle.calls.proofs.Admitted.{absent-else, absent-passes}
+use Rattle.calls.proofs.Lent.{Lent, lent, first, limits, refused-first, stands-first}
+use Rattle.calls.proofs.Openings.{Not, closed, skip, stop, none-left}
+use Rattle.calls.proofs.Room.{reserveVerdictOn, reserveStartOn}
+use Rattle.calls.proofs.reserve.reserve_ruling.Statement.{statement}
+use Rattle.calls.proofs.reserve.reserve_ruling.Tie as tie
+
+module _ (q : Lent) (k : ℕ) where
+  -- the ruling, once the verdict is known
+  ruled : (v : Verdict) → reserveVerdictOn q k ≡ v → rulingOf v (reserveStartOn q k) ≡ rulingOf (reserveVerdictOn q k) (reserveStartOn q k)
+  ruled v h = ap (λ (w : Verdict). rulingOf w (reserveStartOn q k)) (sym h)
+
+  shut : (number : ℕ) → first q ≡ Refused number → reserveVerdictOn q k ≡ refused number
+  unfolding reserveVerdict viewOn tableOf
+  shut number h = closed _ _ _ _ _ number h
+
+  other : (s : Standing) → first q ≡ Stands s → Not (1 ∷ 2 ∷ 3 ∷ 4 ∷ []) s → reserveVerdictOn q k ≡ refused (rowOf s)
+  unfolding reserveVerdict viewOn tableOf
+  other s h differs = absent-else _ _ _ _ _ s h differs
+
+  abbrev found : Found
+  found = leastFit (free (q .map)) 0 (q .n) k
+
+  -- the rows behind the standing's: 3, 10 and 4 for the count
+  abbrev rest : List Row
+  rest = row 3 (eqb k 0) ∷ row 10 (none found) ∷ row 4 (ltb (q .spare) k) ∷ []
+
+  admitted : first q ≡ Stands Absent → reserveVerdictOn q k ≡ firstOf rest
+  unfolding reserveVerdict viewOn tableOf
+  admitted h = absent-passes _ _ _ _ _ h
+
+  no-blocks : k ≡ 0 → firstOf rest ≡ refused 3
+  no-blocks z = stop 3 _ _ (eq-eqb k 0 z)
+
+  no-fit : (k ≡ 0 → ⊥) → found ≡ Nothing → firstOf rest ≡ refused 10
+  no-fit z f = skip 3 _ _ _ (ne-eqb k 0 z) (stop 10 _ _ (ap none f))
+
+  too-few : (s : ℕ) → (k ≡ 0 → ⊥) → found ≡ At s → q .spare < k → firstOf rest ≡ refused 4
+  too-few s z f l = skip 3 _ _ _ (ne-eqb k 0 z) (skip 10 _ _ _ (ap none f) (stop 4 _ _ (lt-ltb (q .spare) k l)))
+
+  passes : (s : ℕ) → (k ≡ 0 → ⊥) → found ≡ At s → k ≤ q .spare → firstOf rest ≡ accepted
+  passes s z f l = skip 3 _ _ _ (ne-eqb k 0 z) (skip 10 _ _ _ (ap none f) (skip 4 _ _ _ (le-ltb (q .spare) k l) none-left))
+
+  starts : (s : ℕ) → found ≡ At s → s ≡ reserveStartOn q k
+  unfolding reserveStart
+  starts s f = sym (ap startAt f)
+
+open-on-requires : tie.Need-open-on-requires
+open-on-requires c κs = search needs
+
+enum-known-opened : tie.Need-enum-known-opened
+enum-known-opened c = search needs
+
+enum-told : tie.Need-enum-told
+enum-told c = search needs
+
+refused-row-requires : tie.Need-refused-row-requires
+refused-row-requires c κs = search needs
+
+returns : tie.Need-returns
+returns c =
+    let a = c .before .before .before .before .before .before .args in
+    let q = lent (a .n) (a .free) (now (a .map)) (now (a .card)) (a .c) (a .entry) (a .sheet) in
+    let told = c .before .enum-told .given in
+    let shuts = refused-first q (c .before .before .before .open-on .result) (told .0 .0) (c .before .before .before .open-on .ensures) (told .1) in
+    ap ruling.Refused (c .refused-row .ensures ∙ ap refusedRow (told .1)) ∙ ruled q (a .k) (refused (told .0 .0)) (shut q (a .k) (told .0 .0) shuts)
+
+enum-told-2 : tie.Need-enum-told-2
+enum-told-2 c = search needs
+
+row-of-requires : tie.Need-row-of-requires
+row-of-requires c κs = search needs
+
+returns-2 : tie.Need-returns-2
+returns-2 c =
+    let here = c .before .before .before in
+    let a = here .before .before .before .before .before .args in
+    let q = lent (a .n) (a .free) (now (a .map)) (now (a .card)) (a .c) (a .entry) (a .sheet) in
+    let s = here .opened .given .0 .0 in
+    let stands = stands-first q (here .before .before .open-on .result) (here .opened .given .0 .0) s (here .before .before .open-on .ensures) (here .opened .given .1) refl in
+    ap ruling.Refused (c .row-of .ensures) ∙ ruled q (a .k) (refused (rowOf s)) (other q (a .k) s stands (c .before .match2 .keys2))
+
+returns-3 : tie.Need-returns-3
+returns-3 c =
+    let here = c .before .before .before .before in
+    let a = here .before .before .before .before .before .args in
+    let q = lent (a .n) (a .free) (now (a .map)) (now (a .card)) (a .c) (a .entry) (a .sheet) in
+    let absent = stands-first q (here .before .before .open-on .result) (here .opened .given .0 .0) Absent (here .before .before .open-on .ensures) (here .opened .given .1) (c .before .enum-told2 .given .1) in
+    ruled q (a .k) (refused 3) (admitted q (a .k) absent ∙ no-blocks q (a .k) (c .if1 .taken))
+
+search-requires : tie.Need-search-requires
+search-requires c κs =
+    let here = c .before .before .before .before in
+    let a = here .before .before .before .before .before .args in
+    let q = lent (a .n) (a .free) (now (a .map)) (now (a .card)) (a .c) (a .entry) (a .sheet) in
+    let absent = stands-first q (here .before .before .open-on .result) (here .opened .given .0 .0) Absent (here .before .before .open-on .ensures) (here .opened .given .1) (c .before .enum-told2 .given .1) in
+    let l = limits q Absent absent in
+    (l .shape .limit, l .shape .covered, omega (arith, c .if1 .left))
+
+enum-known-found : tie.Need-enum-known-found
+enum-known-found c = search needs
+
+enum-told-3 : tie.Need-enum-told-3
+enum-told-3 c = search needs
+
+returns-4 : tie.Need-returns-4
+returns-4 c =
+    let test = c .before .before .before in
+    let here = test .before .before .before .before in
+    let a = here .before .before .before .before .before .args in
+    let q = lent (a .n) (a .free) (now (a .map)) (now (a .card)) (a .c) (a .entry) (a .sheet) in
+    let absent = stands-first q (here .before .before .open-on .result) (here .opened .given .0 .0) Absent (here .before .before .open-on .ensures) (here .opened .given .1) (test .before .enum-told2 .given .1) in
+    ruled q (a .k) (refused 10)
+    (admitted q (a .k) absent ∙ no-fit q (a .k) (test .if1 .left) (sym (c .before .before .search .ensures) ∙ c .enum-told3 .given .1))
+
+returns-5 : tie.Need-returns-5
+returns-5 c =
+    let place = c .before .before in
+    let test = place .before .before .before in
+    let here = test .before .before .before .before in
+    let a = here .before .before .before .before .before .args in
+    let q = lent (a .n) (a .free) (now (a .map)) (now (a .card)) (a .c) (a .entry) (a .sheet) in
+    let absent = stands-first q (here .before .before .open-on .result) (here .opened .given .0 .0) Absent (here .before .before .open-on .ensures) (here .opened .given .1) (test .before .enum-told2 .given .1) in
+    let start = place .found .given .0 .0 in
+    let fit = sym (place .before .before .search .ensures) ∙ place .found .given .1 in
+    ruled q (a .k) (refused 4) (admitted q (a .k) absent ∙ too-few q (a .k) start (test .if1 .left) fit (c .if2 .taken))
+
+returns-6 : tie.Need-returns-6
+returns-6 c =
+    let place = c .before .before in
+    let test = place .before .before .before in
+    let here = test .before .before .before .before in
+    let a = here .before .before .before .before .before .args in
+    let q = lent (a .n) (a .free) (now (a .map)) (now (a .card)) (a .c) (a .entry) (a .sheet) in
+    let absent = stands-first q (here .before .before .open-on .result) (here .opened .given .0 .0) Absent (here .before .before .open-on .ensures) (here .opened .given .1) (test .before .enum-told2 .given .1) in
+    let start = place .found .given .0 .0 in
+    let fit = sym (place .before .before .search .ensures) ∙ place .found .given .1 in
+    ap ruling.At (starts q (a .k) start fit) ∙ ruled q (a .k) accepted (admitted q (a .k) absent ∙ passes q (a .k) start (test .if1 .left) fit (c .if2 .left))
+
+pub reserve-ruling-spec : {M : Type 1} → statement M
+reserve-ruling-spec =
+    tie.close
+    (tie.spec
+    open-on-requires
+    enum-known-opened
+    enum-told
+    refused-row-requires
+    returns
+    enum-told-2
+    row-of-requires
+    returns-2
+    returns-3
+    search-requires
+    enum-known-found
+    enum-told-3
+    returns-4
+    returns-5
+    returns-6)

@@ -1,0 +1,27 @@
+-- A table of refusals as data: rows in their order, each a number and a test. The verdict is the first row that holds.
+-- Assumes nothing.
+use Prim.Native.Nat.{ℕ}
+use mathlib.Core.Bool.{Bool, cond}
+use mathlib.Core.List.{List, [], _∷_}
+
+pub record Row : Type 0 where
+  pub number : ℕ
+  pub holds : Bool
+
+abbrev pub row : ℕ → Bool → Row
+row number holds = record { number = number; holds = holds }
+
+pub data Verdict : Type 0 where
+  accepted : Verdict
+  refused : ℕ → Verdict
+
+-- The number of the first row that holds, or acceptance if none does.
+unfoldable pub firstOf : List Row → Verdict
+firstOf [] = accepted
+firstOf (r ∷ rs) = cond (r .holds) (refused (r .number)) (firstOf rs)
+
+-- What stands after a verdict: the one thing on acceptance, the other on a refusal, by its number.
+module _ {ℓ} {A : Type ℓ} where
+  abbrev pub settle : Verdict → A → (ℕ → A) → A
+  settle accepted done refusal = done
+  settle (refused number) done refusal = refusal number

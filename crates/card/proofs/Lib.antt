@@ -1,0 +1,10 @@
+-- The walk of each parameter list of the calls, and what a refusal leaves.
+pub mod Completed
+pub mod Freshened
+pub mod Paused
+pub mod Put
+pub mod Refusals
+pub mod Released
+pub mod Reserved
+pub mod Shown
+pub mod Stood

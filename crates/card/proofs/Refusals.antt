@@ -1,0 +1,109 @@
+-- A refusal hands the shape back as it came and changes nothing that is lent (document 01, "What the caller gets instead"):
+-- for each call that may change something, what its contract says where its verdict is a refusal.
+-- Assumes nothing.
+use mathlib.Core.Path.{_≡_, ap, _∙_}
+use mathlib.Core.Bool.{false, true, cond}
+use mathlib.Core.List.{List}
+use Prim.Native.Nat.{ℕ, _+_, _-_}
+use lib.Dec.{eqb}
+use lib.ListN.{length, set}
+use Rattle.freemap.specs.Maps.{marked}
+use Rattle.block.specs.Card.{blockOf, withBlock, zeroed}
+use Rattle.block.specs.Sealed.{sealed, payloadOf}
+use Rattle.catalogue.specs.Entries.{entryAt, slotAt}
+use Rattle.catalogue.specs.declared.Entry.{Entry}
+use Rattle.catalogue.proofs.Storing.{stored-back}
+use Rattle.calls.specs.Effects as effects
+use Rattle.calls.specs.Rows.{Verdict, refused, settle}
+use Rattle.calls.specs.declared.Answer.{Answer}
+use Rattle.calls.specs.declared.Answer.the-variants.{Done, Start, Blank, Refused}
+use Rattle.calls.specs.declared.Out.{Out}
+use Rattle.card.specs.declared.Shape.{Shape}
+use Rattle.card.specs.Calls.{entryOf, outcomeOf, told, reserveOut, reserveMap, reserveCard, growOut, growMap, growCard, putOutcome, putCard, completeOut, pauseOut, releaseOut, releaseMap, showOutcome, showBuffer}
+
+-- a call that stores an entry: the shape and every entry are as they were
+pub record Unchanged (shape : Shape) (entries : List Entry) (sheet : ℕ) (answer : Answer) (out : Out) : Type 0 where
+  pub outcome : outcomeOf shape out ≡ told shape answer
+  pub catalogue : set entries sheet (entryOf out) ≡ entries
+
+unchanged : (shape : Shape) (entries : List Entry) (sheet : ℕ) (answer : Answer) (out : Out) → out ≡ effects.outOf (shape .free) (entryAt entries sheet) answer → Unchanged shape entries sheet answer out
+unchanged shape entries sheet answer out e = record {
+  outcome = ap (outcomeOf shape) e;
+  catalogue = ap (λ (o : Out). set entries sheet (entryOf o)) e ∙ stored-back entries sheet;
+}
+
+module _ (shape : Shape) (map card : List ℕ) (entries : List Entry) (sheet number : ℕ) where
+  abbrev n : ℕ
+  n = shape .blocks
+
+  abbrev free : ℕ
+  free = shape .free
+
+  abbrev c : ℕ
+  c = length entries
+
+  abbrev e : Entry
+  e = entryAt entries sheet
+
+  pub reserve-refused : (k : ℕ) → effects.reserveVerdict n free map card c e sheet k ≡ refused number
+      → Unchanged shape entries sheet (Refused number) (reserveOut shape map card (slotAt entries sheet) sheet k)
+      × (reserveMap shape map card (slotAt entries sheet) sheet k ≡ map) × (reserveCard shape map card (slotAt entries sheet) sheet k ≡ card)
+  unfolding effects.reserveOut effects.reserveMap effects.reserveCard
+  reserve-refused k h =
+      let start : ℕ = effects.reserveStart n free map card c e sheet k in (
+        unchanged shape entries sheet (Refused number) _
+            (ap (λ (v : Verdict). settle v (effects.outOf (free - k) (effects.entryOf 0x4f start k) (Start start)) (effects.refusalOut free e)) h),
+        ap (λ (v : Verdict). settle v (marked map start k false) (λ number. map)) h,
+        ap (λ (v : Verdict). settle v (zeroed card start k) (λ number. card)) h,
+      )
+
+  pub grow-refused : (m : ℕ) → effects.growVerdict n free map card c e sheet m ≡ refused number
+      → Unchanged shape entries sheet (Refused number) (growOut shape map card (slotAt entries sheet) sheet m)
+      × (growMap shape map card (slotAt entries sheet) sheet m ≡ map) × (growCard shape map card (slotAt entries sheet) sheet m ≡ card)
+  unfolding effects.growOut effects.growMap effects.growCard
+  grow-refused m h = (
+    unchanged shape entries sheet (Refused number) _
+        (ap (λ (v : Verdict). settle v (effects.outOf (free - m) (effects.entryOf 0x4f (e .start) (e .length + m)) Done) (effects.refusalOut free e)) h),
+    ap (λ (v : Verdict). settle v (marked map (e .start + e .length) m false) (λ number. map)) h,
+    ap (λ (v : Verdict). settle v (zeroed card (e .start + e .length) m) (λ number. card)) h,
+  )
+
+  pub put-refused : (place : ℕ) (payload : List ℕ) → effects.putVerdict n free map card c e sheet place payload ≡ refused number
+      → (putOutcome shape map card (slotAt entries sheet) sheet place payload ≡ told shape (Refused number))
+      × (putCard shape map card (slotAt entries sheet) sheet place payload ≡ card)
+  unfolding effects.putAnswer effects.putCard
+  put-refused place payload h = (
+    ap (λ (v : Verdict). told shape (settle v Done Refused)) h,
+    ap (λ (v : Verdict). settle v (withBlock card (e .start + place) (sealed sheet place payload)) (λ number. card)) h,
+  )
+
+  -- with 9 goes a place
+  pub complete-refused : effects.completeVerdict n free map card c e sheet ≡ refused number
+      → Unchanged shape entries sheet (cond (eqb number 9) (Blank (effects.blankPlace n free map card c e sheet)) (Refused number)) (completeOut shape map card (slotAt entries sheet) sheet)
+  unfolding effects.completeOut
+  complete-refused h =
+      let place : ℕ = effects.blankPlace n free map card c e sheet in
+      unchanged shape entries sheet (cond (eqb number 9) (Blank place) (Refused number)) _
+      (ap (λ (v : Verdict). settle v (effects.outOf free (effects.entryOf 0x43 (e .start) (e .length)) Done) (λ k. effects.outOf free e (cond (eqb k 9) (Blank place) (Refused k)))) h)
+
+  pub pause-refused : effects.pauseVerdict n free map c e sheet ≡ refused number → Unchanged shape entries sheet (Refused number) (pauseOut shape map (slotAt entries sheet) sheet)
+  unfolding effects.pauseOut
+  pause-refused h =
+      unchanged shape entries sheet (Refused number) _ (ap (λ (v : Verdict). settle v (effects.outOf free (effects.entryOf 0x50 0 0) Done) (effects.refusalOut free e)) h)
+
+  pub release-refused : effects.releaseVerdict n free map c e sheet ≡ refused number
+      → Unchanged shape entries sheet (Refused number) (releaseOut shape map (slotAt entries sheet) sheet) × (releaseMap shape map (slotAt entries sheet) sheet ≡ map)
+  unfolding effects.releaseOut effects.releaseMap
+  release-refused h = (
+    unchanged shape entries sheet (Refused number) _ (ap (λ (v : Verdict). settle v (effects.outOf (free + e .length) (effects.entryOf 0x41 0 0) Done) (effects.refusalOut free e)) h),
+    ap (λ (v : Verdict). settle v (marked map (e .start) (e .length) true) (λ number. map)) h,
+  )
+
+  pub show-refused : (place : ℕ) (buffer : List ℕ) → effects.showVerdict n free map card c e sheet place buffer ≡ refused number
+      → (showOutcome shape map card (slotAt entries sheet) sheet place buffer ≡ told shape (Refused number))
+      × (showBuffer shape map card (slotAt entries sheet) sheet place buffer ≡ buffer)
+  unfolding effects.showAnswer effects.showBuffer
+  show-refused place buffer h = (
+    ap (λ (v : Verdict). told shape (settle v Done Refused)) h,
+    ap (λ (v : Verdict). settle v (payloadOf (blockOf card (e .start + place))) (λ number. buffer)) h,
+  )

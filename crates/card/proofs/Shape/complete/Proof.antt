@@ -1,0 +1,37 @@
+-- Written by tools/walks: `card::Shape::complete` meets its contract, by the walk of `Completed.antt`, with the calls of `catalogue::find`, `card::complete_core`, `card::entry_of`, `catalogue::store`, `card::outcome_of`.
+-- Assumes nothing.
+use contract.Running.{givenOf, tables, tablesOf}
+use denote.Triple.Spec.{tripleOf}
+use denote.Triple.Table.{entered, cited}
+use lib.ListN.{set}
+use Rattle.catalogue.specs.Entries.{slotAt}
+use Rattle.card.specs.Calls.{entryOf, outcomeOf}
+use Rattle.card.specs.Calls.{completeOut}
+use Rattle.card.proofs.Completed.{find-contract, core-contract, entry-of-contract, store-contract, outcome-of-contract, meets}
+use Rattle.catalogue.proofs.find.Symbol as find-def
+use Rattle.catalogue.proofs.find.Met as find-met
+use Rattle.card.proofs.complete_core.Symbol as core-def
+use Rattle.card.proofs.complete_core.Met as core-met
+use Rattle.card.proofs.entry_of.Symbol as entry-of-def
+use Rattle.card.proofs.entry_of.Met as entry-of-met
+use Rattle.catalogue.proofs.store.Symbol as store-def
+use Rattle.catalogue.proofs.store.Met as store-met
+use Rattle.card.proofs.outcome_of.Symbol as outcome-of-def
+use Rattle.card.proofs.outcome_of.Met as outcome-of-met
+use Rattle.card.proofs.Shape.complete.Key.{name as #complete}
+use Rattle.card.proofs.Shape.complete as complete
+use Rattle.card.proofs.Shape.complete.Statement as stated
+use Rattle.card.proofs.Shape.complete.Code as code
+
+pub complete-spec : {M : Type 1} → stated.statement M
+unfolding code.routine tablesOf
+complete-spec 𝓤 H 𝓜 𝓖 𝓡 =
+    entered 𝓤 H (tripleOf 𝓤 H (𝓖 .A) complete.signature (complete.spec 𝓤 H (𝓖 .A) (𝓜 .mem) (𝓡 .run)))
+    (tables 𝓤 H 𝓜 𝓡 code.env .C) (tables 𝓤 H 𝓜 𝓡 code.env .Λ) #complete code.function (code.unfolded 𝓤 H 𝓜 𝓡)
+    (meets find-def.name core-def.name entry-of-def.name store-def.name outcome-of-def.name slotAt completeOut entryOf set outcomeOf
+    𝓤 H (𝓖 .A) (givenOf 𝓤 H 𝓜 𝓖) (tablesOf 𝓤 H 𝓜 (tables 𝓤 H 𝓜 𝓡 code.env))
+    (cited 𝓤 H (find-contract slotAt 𝓤 H (𝓖 .A)) 𝓜 𝓡 code.env find-def.name find-def.routine code.calls-catalogue·find (find-met.met 𝓤 H 𝓜 𝓖 𝓡))
+    (cited 𝓤 H (core-contract completeOut 𝓤 H (𝓖 .A)) 𝓜 𝓡 code.env core-def.name core-def.routine code.calls-card·complete-core (core-met.met 𝓤 H 𝓜 𝓖 𝓡))
+    (cited 𝓤 H (entry-of-contract entryOf 𝓤 H (𝓖 .A)) 𝓜 𝓡 code.env entry-of-def.name entry-of-def.routine code.calls-card·entry-of (entry-of-met.met 𝓤 H 𝓜 𝓖 𝓡))
+    (cited 𝓤 H (store-contract set 𝓤 H (𝓖 .A)) 𝓜 𝓡 code.env store-def.name store-def.routine code.calls-catalogue·store (store-met.met 𝓤 H 𝓜 𝓖 𝓡))
+    (cited 𝓤 H (outcome-of-contract outcomeOf 𝓤 H (𝓖 .A)) 𝓜 𝓡 code.env outcome-of-def.name outcome-of-def.routine code.calls-card·outcome-of (outcome-of-met.met 𝓤 H 𝓜 𝓖 𝓡)))

@@ -1,0 +1,32 @@
+-- The entries of a catalogue, as a list: what is found for a sheet, and what fresh leaves (document 01, "Shape, catalogue, blocks").
+-- Assumes nothing.
+use mathlib.Core.Bool.{Bool, cond}
+use mathlib.Core.List.{List}
+use Prim.Native.Nat.{ℕ}
+use lib.ListN.{length, getD, replicate}
+use Rattle.catalogue.specs.declared.Entry.{Entry}
+use Rattle.catalogue.specs.declared.Slot.{Slot}
+
+-- three zeros, which stand for the entry of a sheet that has none: damaged, never a pause
+abbrev pub zeros : Entry
+zeros = record { mark = 0; start = 0; length = 0 }
+
+-- Absent: mark 41 (hex), start 0 and length 0
+abbrev pub absent : Entry
+absent = record { mark = 0x41; start = 0; length = 0 }
+
+-- the entry of a sheet, the sheets being numbered from 0
+abbrev pub entryAt : List Entry → ℕ → Entry
+entryAt entries sheet = getD entries sheet zeros
+
+-- how many entries there are, and the entry of a sheet
+abbrev pub slotAt : List Entry → ℕ → Slot
+slotAt entries sheet = record { count = length entries; entry = entryAt entries sheet }
+
+-- an entry after fresh: Absent if fresh was accepted, else as it was
+abbrev pub cleared : Bool → Entry → Entry
+cleared accepted entry = cond accepted absent entry
+
+-- the entries after fresh: all Absent if fresh was accepted, else as they were
+abbrev pub clearedIf : List Entry → Bool → List Entry
+clearedIf entries accepted = cond accepted (replicate (length entries) absent) entries

@@ -1,0 +1,2 @@
+-- What a reader must believe: the entries of a catalogue.
+pub mod Entries

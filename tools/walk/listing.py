@@ -1,0 +1,71 @@
+"""walks.txt, line by line:
+
+    crate NAME                        the lines after it are about this crate
+    struct [CRATE::]NAME FIELD ..     a struct that is passed by value or in a slice; its fields, if a loop ends on one
+    use MODULE NAME ..                a module of antt that has these definitions
+    fn [CRATE::]NAME DEFINITION ..    a callee: what it gives, if anything, and what it leaves in each `&mut` slice
+    walk NAME(PARAMS) [-> RESULT]     a walk module; the lines after it are its code, with a type at each let
+    prove FUNCTION ROLE=FN .. LAW ..  a function that has this code: which fn a callee of the walk is, where it is not
+                                      the one of its name; for a loop also what it gives and leaves, with the laws of that"""
+import re
+
+from walk.chain import Chain
+from walk.loop import Loop
+from walk.proof import proof
+from walk.types import Type, parameters
+
+
+class Section:
+    """What the list says of a crate."""
+
+    def __init__(self, crate):
+        self.crate, self.structs, self.fields, self.uses, self.functions, self.walks = crate, {}, {}, [], {}, []
+
+    def add(self, word, rest, line):
+        if word == 'struct':
+            path, *fields = rest.split()
+            crate, _, name = path.rpartition('::')
+            self.structs[name], self.fields[name] = crate or self.crate, fields
+        elif word == 'use':
+            module, *names = rest.split()
+            self.uses.append((module, names))
+        elif word == 'fn':
+            path, *definitions = rest.split()
+            path = path if '::' in path else f'{self.crate}::{path}'
+            self.functions[path.split('::')[-1]] = (path, definitions)
+        elif word == 'walk':
+            self.walks.append((rest, [], []))
+        elif word == 'prove':
+            path, *words = rest.split()
+            chosen = dict(x.split('=') for x in words if '=' in x)
+            self.walks[-1][2].append((path, chosen, [x for x in words if '=' not in x]))
+        else:
+            self.walks[-1][1].append(line)
+
+    def function(self, name):
+        """a callee's path, and what it gives and leaves"""
+        if name not in self.functions:
+            raise ValueError(f'crate {self.crate} has no fn {name}')
+        return self.functions[name]
+
+    def files(self):
+        """each file that is written, and its text"""
+        for head, code, functions in self.walks:
+            name, params, result = re.fullmatch(r'(\w+)\((.*)\)(?: -> (\S+))?', head).groups()
+            form = Loop if 'catalogue[i]' in code[0] else Chain
+            walk = form(self, name, parameters(params, self.structs), Type(result or '()', self.structs), code)
+            yield f'crates/{self.crate}/proofs/{name}.antt', walk.text()
+            for path, chosen, laws in functions:
+                yield f'crates/{self.crate}/proofs/{path.replace("::", "/")}/Proof.antt', proof(walk, path, chosen, laws)
+
+
+def read(lines):
+    sections = []
+    for line in lines:
+        line = line.split('#')[0].strip()
+        word, _, rest = line.partition(' ')
+        if word == 'crate':
+            sections.append(Section(rest))
+        elif line:
+            sections[-1].add(word, rest, line)
+    return sections

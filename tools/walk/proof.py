@@ -1,0 +1,50 @@
+"""The proof of one function: its code is that of a walk module, and its callees are those that the list names."""
+from walk.module import SIGN, proofs
+
+
+def proof(walk, path, chosen, laws):
+    """path: the function, as Shape::pause; chosen: which function a callee of the walk is, if not the one of its name;
+    laws: what a loop gives and leaves, with the laws of that"""
+    section, name = walk.section, path.split('::')[-1].replace('_', '-')
+    here = section.crate
+    callees = [(c, *section.function(chosen.get(c.role, c.role))) for c in walk.callees]
+    for c, function, models in callees:
+        if len(models) != len(c.models):
+            raise ValueError(f'{here}::{path}: {function} has {len(models)} definitions, and its call wants {len(c.models)}')
+    given = [m for _, _, models in callees for m in models] + laws
+    lines = [f'{SIGN} `{here}::{path}` meets its contract, by the walk of `{walk.name}.antt`, with the calls of '
+             + ', '.join(f'`{function}`' for _, function, _ in callees) + '.',
+             '-- Assumes nothing.',
+             'use contract.Running.{givenOf, tables, tablesOf}',
+             'use denote.Triple.Spec.{tripleOf}',
+             'use denote.Triple.Table.{entered, cited}']
+    for module, names in section.uses:
+        wanted = [n for n in names if n in given]
+        if wanted:
+            lines.append(f'use {module}.{{{", ".join(wanted)}}}')
+    lines.append(f'use {proofs(here, here, walk.name)}.{{{", ".join(c.label + "-contract" for c in walk.callees)}, meets}}')
+    cites, brought = [], {}
+    for c, function, models in callees:
+        crate, _, rest = function.partition('::')
+        if function not in brought:      # a function that is called twice is brought in once
+            brought[function] = c.label
+            at = proofs(crate, here, rest.replace('::', '.'))
+            lines += [f'use {at}.Symbol as {c.label}-def', f'use {at}.Met as {c.label}-met']
+        f, called = brought[function], function.replace('::', '·').replace('_', '-')
+        cites.append(f'(cited 𝓤 H ({c.label}-contract {" ".join(models)} 𝓤 H (𝓖 .A)) 𝓜 𝓡 code.env {f}-def.name {f}-def.routine'
+                     f' code.calls-{called} ({f}-met.met 𝓤 H 𝓜 𝓖 𝓡))')
+    at = proofs(here, here, path.replace('::', '.'))
+    lines += [f'use {at}.Key.{{name as #{name}}}', f'use {at} as {name}', f'use {at}.Statement as stated', f'use {at}.Code as code']
+    keys = ' '.join(brought[function] + '-def.name' for _, function, _ in callees)
+    cited = '\n    '.join(cites)
+    return '\n'.join(lines) + f'''
+
+pub {name}-spec : {{M : Type 1}} → stated.statement M
+unfolding code.routine tablesOf
+{name}-spec 𝓤 H 𝓜 𝓖 𝓡 =
+    entered 𝓤 H (tripleOf 𝓤 H (𝓖 .A) {name}.signature ({name}.spec 𝓤 H (𝓖 .A) (𝓜 .mem) (𝓡 .run)))
+    (tables 𝓤 H 𝓜 𝓡 code.env .C) (tables 𝓤 H 𝓜 𝓡 code.env .Λ) #{name} code.function (code.unfolded 𝓤 H 𝓜 𝓡)
+    (meets {keys} {' '.join(given)}
+    𝓤 H (𝓖 .A) (givenOf 𝓤 H 𝓜 𝓖) (tablesOf 𝓤 H 𝓜 (tables 𝓤 H 𝓜 𝓡 code.env))
+    {cited})
+'''

@@ -1,0 +1,168 @@
+"""Pieces of antt text, and the steps of a proof with the items that it has in hand."""
+
+# the path of a place that is a whole local
+HERE = '(from ! (stop !))'
+
+
+def subscript(i):
+    return ''.join('₀₁₂₃₄₅₆₇₈₉'[int(c)] for c in str(i))
+
+
+def nest(xs):
+    """(x, (y, (z, tt)))"""
+    text = 'tt'
+    for x in reversed(xs):
+        text = f'({x}, {text})'
+    return text
+
+
+def product(xs):
+    """x × (y × (z × Unit))"""
+    text = 'Unit {0}'
+    for x in reversed(xs):
+        text = f'{x} × ({text})' if '×' in text else f'{x} × {text}'
+    return text
+
+
+def component(x, i):
+    """the i-th of a nested tuple"""
+    return x + ' .1' * i + ' .0'
+
+
+def facts(xs):
+    """a clause of a contract: one fact, or the product of several"""
+    return xs[0] if len(xs) == 1 else ' × '.join(f'({x})' for x in xs)
+
+
+def fact(e, i, n):
+    """the i-th of a clause's n facts"""
+    return f'{e} .{i}' if n > 1 else e
+
+
+def tuple_of(xs):
+    """(x, y), or x alone"""
+    return xs[0] if len(xs) == 1 else '(' + ', '.join(xs) + ')'
+
+
+def cons(xs):
+    """x ∷ y ∷ []"""
+    return ''.join(f'{x} ∷ ' for x in xs) + '[]'
+
+
+def arrows(xs):
+    """x → y → , in front of what is concluded"""
+    return ''.join(f'{x} → ' for x in xs)
+
+
+def spaced(xs):
+    """the words, each with a blank before it"""
+    return ''.join(f' {x}' for x in xs)
+
+
+def paragraphs(xs):
+    """texts, with one blank line between them"""
+    return '\n'.join(x.rstrip('\n') + '\n' for x in xs)
+
+
+class Steps:
+    """The steps of a proof. An item in hand is known by a label, so that the caller need not count: the steps of the
+    logic's kit name an item by its place, and work on those at the front."""
+    WIDTH = 150
+
+    def __init__(self, items):
+        self.items, self.lines, self.open = list(items), [], 0
+
+    def write(self, text, new_line=False):
+        if new_line or not self.lines or len(self.lines[-1]) + len(text) > self.WIDTH or self.lines[-1].startswith('--'):
+            self.lines.append(text)
+        else:
+            self.lines[-1] += ' ' + text
+
+    def say(self, step):
+        self.write(step + ' $')
+
+    def remark(self, text):
+        self.lines.append('-- ' + text)
+
+    def under(self, step, variable):
+        """a step whose rest stands under a λ"""
+        self.write(f'{step} (λ {variable}.')
+        self.open += 1
+
+    def take(self, step, count, *new):
+        """a step that takes items from the front, and leaves new ones there"""
+        self.say(step)
+        self.items[:count] = new
+
+    def at(self, label):
+        return self.items.index(label)
+
+    def front(self, *labels):
+        places = [self.at(x) for x in labels]
+        if places != list(range(len(labels))):
+            self.say(f'move ! ({cons(places)})')
+        for x in labels:
+            self.items.remove(x)
+        self.items[:0] = labels
+
+    def drop(self, *labels):
+        for x in labels:
+            self.front(x)
+            self.take('drop !', 1)
+
+    def part(self, step, label, *labels):
+        """takes an item that is a chain of products apart, and drops its end"""
+        for x in labels:
+            self.front(label)
+            self.take(step, 1, x, label)
+        self.drop(label)
+
+    def together(self, labels, last):
+        """joins items to one, the last of them at its end"""
+        for x in reversed(labels):
+            self.front(x, last)
+            self.take('join !', 2, x + '+')
+            last = x + '+'
+        return last
+
+    def owned(self, xs):
+        """joins what parameters own to one formula; each of xs is the label of an item, or a step that makes it"""
+        self.take('nothing !', 0, 'owned')
+        for x in reversed(xs):
+            if x in self.items:
+                self.front(x, 'owned')
+            else:
+                self.take(x, 0, 'made')
+            self.take('fjoin !', 2, 'owned')
+
+    # ---- the locals: the item L3 is what the local 3 has, and D3 that it dies
+
+    def place(self, i):
+        return self.at(f'L{i}')
+
+    def load(self, i):
+        return f'(load ! {HERE} (look ! {self.place(i)} refl))'
+
+    def look_in(self, i, field):
+        return f'(look-in ! {self.place(i)} (sub ! {field} refl (whole !)))'
+
+    def load_field(self, i, field):
+        return f'(load ! (from ! (fld ! refl (stop !))) {self.look_in(i, field)})'
+
+    def assign(self, to, value, typed, how='init', step='assigns'):
+        """the local gets a value that is of its type; `init` if it has none yet, else `store`"""
+        self.say(f'{step} ! ({value}) {HERE} ({how} ! {self.place(to)} refl {typed})')
+
+    def retell(self, i, mir, variable, value, equal):
+        """what the local has is said anew, by an equation"""
+        self.say(f'rewrite ! {self.place(i)} (λ ({variable}). ‵ (fat fullShare {mir} l{subscript(i)} 0 {value})) ({equal}) refl')
+
+    def leave(self, i, step='leave'):
+        self.say(f'{step} ! {self.place(i)} refl refl')
+        self.items.remove(f'L{i}')
+        self.items.remove(f'D{i}')
+
+    def close(self, last, indent):
+        """the text, with the step that ends it"""
+        self.write(last + ')' * self.open)
+        return ('\n' + indent).join(self.lines)
