@@ -1,5 +1,6 @@
 -- Laws that the proofs of several calls cite.
 pub mod Admitted
+pub mod BlankPlaces
 pub mod Entries
 pub mod Fillings
 pub mod Least
