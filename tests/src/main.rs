@@ -1,8 +1,11 @@
 //! What the example programs must print, worked out bit by bit. The word given names the set of examples:
 //!
 //!     cargo run --release --offline --manifest-path tests/Cargo.toml -- map
+//!     cargo run --release --offline --manifest-path tests/Cargo.toml -- calls
 
 mod blocks;
+mod calls;
+mod card;
 mod map;
 mod random;
 
@@ -10,8 +13,9 @@ fn main() {
     let set = std::env::args().nth(1);
     match set.as_deref() {
         Some("map") => print!("{}", map::examples()),
+        Some("calls") => print!("{}", calls::examples()),
         _ => {
-            eprintln!("usage: bitwise map");
+            eprintln!("usage: bitwise map | calls");
             std::process::exit(2);
         }
     }
