@@ -52,7 +52,7 @@ fn joined_head(h: u32, head: u32) -> u32
 }
 
 // The runs of a byte, which has n and ends in t free blocks, before others: a run that goes on from one into the other
-// counts once. The product is 0 where either side has none, and spares a branch.
+// counts once. The product is 0 exactly where one side has no free block at the meeting.
 fn joined_runs(t: u32, n: u32, head: u32, runs: u32) -> u32
     requires { ⌜ (t < 256) × (n < 256) × (head ≤ 16000000) × (runs ≤ 16000000) × (0 < t → 0 < n) ⌝ }
     ensures { λ r. ⌜ (r + meet t head ≡ n + runs) × (r ≤ runs + 255) ⌝ }
