@@ -1,0 +1,220 @@
+-- Demand 3: every list of calls from a fresh card answers and leaves what the ledger says (`every-list`), and every list has
+-- a run (`every-list-runs`).
+-- Assumes nothing.
+use Prim.Native.Nat.{ℕ, zero, suc, _+_, _*_, _/_, _≤_, _<_}
+use mathlib.Core.Path.{_≡_, refl, sym, ap, subst, _∙_}
+use mathlib.Core.Bool.{Bool, true, _&&_, false≢true}
+use mathlib.Core.List.{List, [], _∷_, map}
+use native.Mathlib.Nat.{not-suc-le-zero}
+use native.Mathlib.Omega.{arith}
+use lib.Dec.{eqb, ltb}
+use lib.ListN.{length, getD, replicate, length-replicate}
+use borrow.Author.Tests.{lt-ltb, le-ltb, lt-leb, eq-eqb}
+use Rattle.freemap.specs.Blocks.{free}
+use Rattle.freemap.specs.Maps.{freshMap}
+use Rattle.catalogue.specs.Entries.{absent}
+use Rattle.catalogue.specs.declared.Entry.{Entry}
+use Rattle.calls.specs.Rows.{Verdict, accepted, firstOf, settle}
+use Rattle.calls.specs.Table.{Call, reserve, put, grow, complete, pause, release, show, standing, tableOf}
+use Rattle.ledger.specs.Ledger.{Place, Blank, Payload, Sheet, Absent, Complete, standingIn, startIn, lengthIn, placesIn, bytesOf, sheetAt, placeAt, cover, freeIn, spareIn, listed, verdictIn, stepIn, after, begun, done, doneIn, refusedIn, toldIn}
+use Rattle.ledger.specs.Claim.{Answered, AllAnswered, SearchedBy, AllSearched, granted, returned, entryIn, Agrees, Gives, Claim}
+use Rattle.ledger.specs.Steps.{State, Reply, toldBy, Step, Runs, freshState}
+use Rattle.ledger.proofs.Agreement.{mapIn, stateOf, Kept, free-map}
+use Rattle.ledger.proofs.Cover.{covers-absent, held}
+use Rattle.ledger.proofs.History.{holding, last-put}
+use Rattle.ledger.proofs.Listed.{spare-is}
+use Rattle.ledger.proofs.Marks.{map-same}
+use Rattle.ledger.proofs.Results.{Result}
+use Rattle.ledger.proofs.Search.{searched}
+use Rattle.ledger.proofs.Stepping.{one-step, has-run}
+use Rattle.ledger.proofs.Sums.{moved}
+use Rattle.ledger.proofs.step.Complete.{complete-result}
+use Rattle.ledger.proofs.step.Grow.{grow-result}
+use Rattle.ledger.proofs.step.Pause.{pause-result}
+use Rattle.ledger.proofs.step.Put.{put-result}
+use Rattle.ledger.proofs.step.Release.{release-result}
+use Rattle.ledger.proofs.step.Reserve.{reserve-result}
+use Rattle.ledger.proofs.step.Show.{show-result}
+use Rattle.ledger.proofs.step.Standing.{standing-result}
+
+-- ---- one call
+
+pub result : (n : ℕ) (l : List Sheet) (card : List ℕ) → Kept n l card → (c : Call) → Result n l card c (stepIn n l c) (toldIn n l c)
+result n l card k (reserve i m) = reserve-result n l card k i m
+result n l card k (put i p payload) = put-result n l card k i p payload
+result n l card k (grow i m) = grow-result n l card k i m
+result n l card k (complete i) = complete-result n l card k i
+result n l card k (pause i) = pause-result n l card k i
+result n l card k (release i) = release-result n l card k i
+result n l card k (show i p buffer) = show-result n l card k i p buffer
+result n l card k (standing i) = standing-result n l card k i
+
+module _ (n : ℕ) (l : List Sheet) (card : List ℕ) (k : Kept n l card) (c : Call) (reply : Reply) (t : State) (st : Step (stateOf n l card) c reply t) where
+  pub answered : Answered n l c reply
+  answered =
+      let r = result n l card k c in
+      record {
+        place = r .place;
+        blank = r .blank;
+        told = ap toldBy (one-step (stateOf n l card) c reply t st .the-reply) ∙ r .told-so;
+      }
+
+  pub state-after : t ≡ stateOf n (stepIn n l c) (result n l card k c .card-left)
+  state-after = one-step (stateOf n l card) c reply t st .the-state ∙ result n l card k c .state-left
+
+  pub by-search : SearchedBy n l c (toldBy reply)
+  by-search = go c refl
+    where
+      go : (d : Call) → c ≡ d → SearchedBy n l d (toldBy reply)
+      go (reserve i m) e =
+          λ came. subst (Rattle.ledger.specs.Claim.Searched n l m) (sym (answered .told ∙ ap (λ (d : Call). toldIn n l d (answered .place)) e)) (searched n l i m (answered .place) came)
+      go (put i p payload) e = tt
+      go (grow i m) e = tt
+      go (complete i) e = tt
+      go (pause i) e = tt
+      go (release i) e = tt
+      go (show i p buffer) e = tt
+      go (standing i) e = tt
+
+-- ---- a list of calls
+
+-- what a list leaves, from the state that ledger l calls for
+pub record Left (n : ℕ) (l : List Sheet) (calls : List Call) (replies : List Reply) (t : State) : Type 0 where
+  pub card-left : List ℕ
+  pub state-left : t ≡ stateOf n (after n l calls) card-left
+  pub kept-left : Kept n (after n l calls) card-left
+  pub answers : AllAnswered n l calls replies
+  pub searches : AllSearched n l calls replies
+  pub sum : held (after n l calls) + returned n l calls ≡ held l + granted n l calls
+
+pub lists : (n : ℕ) (calls : List Call) (replies : List Reply) (l : List Sheet) (card : List ℕ) (s t : State) → Kept n l card → s ≡ stateOf n l card
+    → Runs s calls replies t → Left n l calls replies t
+lists n [] [] l card s t k e h = record { card-left = card; state-left = h ∙ e; kept-left = k; answers = tt; searches = tt; sum = refl }
+lists n [] (reply ∷ replies) l card s t k e h = absurd h
+lists n (c ∷ calls) [] l card s t k e h = absurd h
+lists n (c ∷ calls) (reply ∷ replies) l card s t k e h =
+    let st : Step (stateOf n l card) c reply (h .0) = subst (λ (x : State). Step x c reply (h .0)) e (h .1) in
+    let r : Result n l card c (stepIn n l c) (toldIn n l c) = result n l card k c in
+    let rest : Left n (stepIn n l c) calls replies t = lists n calls replies (stepIn n l c) (r .card-left) (h .0) t (r .kept-left) (state-after n l card k c reply (h .0) st) (h .2) in
+    record {
+      card-left = rest .card-left;
+      state-left = rest .state-left;
+      kept-left = rest .kept-left;
+      answers = (answered n l card k c reply (h .0) st, rest .answers);
+      searches = (by-search n l card k c reply (h .0) st, rest .searches);
+      sum = omega (arith, rest .sum, moved n l (k .sound) c);
+    }
+
+-- ---- a fresh card
+
+sheet-begun : (c i : ℕ) → sheetAt (begun c) i ≡ Absent
+sheet-begun zero i = refl
+sheet-begun (suc c) zero = refl
+sheet-begun (suc c) (suc i) = sheet-begun c i
+
+cover-begun : (c b : ℕ) → cover (begun c) b ≡ 0
+cover-begun zero b = refl
+cover-begun (suc c) b = omega (arith, cover-begun c b, covers-absent b)
+
+held-begun : (c : ℕ) → held (begun c) ≡ 0
+held-begun zero = refl
+held-begun (suc c) = omega (arith, held-begun c)
+
+entries-begun : (c : ℕ) → replicate c absent ≡ map entryIn (begun c)
+entries-begun zero = refl
+entries-begun (suc c) = ap (λ (r : List Entry). absent ∷ r) (entries-begun c)
+
+module _ (n c : ℕ) (card : List ℕ) (n-low : 1 ≤ n) (n-high : n ≤ 262144) (c-low : 1 ≤ c) (c-high : c ≤ 1024) (room : length card ≡ 512 * n) where
+  kept-begun : Kept n (begun c) card
+  kept-begun = record {
+    low = n-low;
+    high = n-high;
+    some-sheet = omega (arith, length-replicate c Absent);
+    few-sheets = omega (arith, length-replicate c Absent);
+    sound = record {
+      once = λ b. omega (arith, cover-begun c b);
+      fine = λ i. rw (sheet-begun c i) (record { inside = omega arith; needed = omega arith; sized = λ p. tt });
+    };
+    room = room;
+    blocks = λ i p h. absurd (not-suc-le-zero (subst (λ (x : Sheet). p < lengthIn x) (sheet-begun c i) h));
+  }
+
+  state-begun : freshState n c card ≡ stateOf n (begun c) card
+  unfolding freshMap
+  state-begun =
+      let spare : n ≡ spareIn n (begun c) = omega (arith, spare-is n (begun c) (kept-begun .sound), held-begun c) in
+      let whole : freshMap n ((n + 63) / 64) ≡ mapIn n (begun c) =
+      map-same (λ b. ltb b n) (freeIn n (begun c)) ((n + 63) / 64) (λ b lt. sym (ap (λ (x : Bool). ltb b n && x) (eq-eqb (cover (begun c) b) 0 (cover-begun c b)) ∙ mathlib.Core.Bool.and-true (ltb b n))) in
+      λ x. record { shape = record { blocks = n; free = spare x }; map = whole x; entries = entries-begun c x; card = card }
+
+-- ---- a complete sheet shows what was put
+
+listed-sheet : (l : List Sheet) (i s : ℕ) (xs : List (List ℕ)) → sheetAt l i ≡ Complete s xs → i < length l
+listed-sheet [] i s xs e = absurd (false≢true (ap holding e))
+listed-sheet (x ∷ l) zero s xs e = omega arith
+listed-sheet (x ∷ l) (suc i) s xs e = let later = listed-sheet l i s xs e in omega arith
+
+payload-of : (xs : List (List ℕ)) (p : ℕ) → p < length xs → getD (map Payload xs) p Blank ≡ Payload (getD xs p [])
+payload-of [] p h = absurd (not-suc-le-zero h)
+payload-of (x ∷ xs) zero h = refl
+payload-of (x ∷ xs) (suc p) h = payload-of xs p (omega arith)
+
+-- a show of a complete sheet's place is accepted
+show-accepted : (n : ℕ) (l : List Sheet) (i s : ℕ) (xs : List (List ℕ)) → sheetAt l i ≡ Complete s xs → (p : ℕ) → p < length xs
+    → (buffer : List ℕ) → length buffer ≡ 496 → verdictIn n l (show i p buffer) ≡ accepted
+unfolding tableOf listed firstOf
+show-accepted n l i s xs e p lp buffer len =
+    rw (ap standingIn e, lt-leb (length l) i (listed-sheet l i s xs e), lt-leb (length xs) p lp, eq-eqb (length buffer) 496 len) refl
+
+module _ (n : ℕ) (l : List Sheet) (card : List ℕ) (k : Kept n l card) (i s : ℕ) (xs : List (List ℕ)) (e : sheetAt l i ≡ Complete s xs) (p : ℕ) (lp : p < length xs) where
+  pub place-of : placeAt l i p ≡ Payload (getD xs p [])
+  place-of = ap (λ (x : Sheet). getD (placesIn x) p Blank) e ∙ payload-of xs p lp
+
+  pub shown : (t : State) → t ≡ stateOf n l card → Gives t i p (getD xs p [])
+  unfolding doneIn
+  shown t at buffer len reply u st =
+      let st′ : Step (stateOf n l card) (show i p buffer) reply u = subst (λ (x : State). Step x (show i p buffer) reply u) at st in
+      let a : Answered n l (show i p buffer) reply = answered n l card k (show i p buffer) reply u st′ in
+      a .told ∙ ap (λ (v : Verdict). settle v (doneIn n l (show i p buffer)) (refusedIn (show i p buffer) (a .place))) (show-accepted n l i s xs e p lp buffer len)
+      ∙ ap (λ (x : Place). done [] (bytesOf x)) place-of
+
+-- ---- the claim
+
+module _ (n c : ℕ) (card : List ℕ) (n-low : 1 ≤ n) (n-high : n ≤ 262144) (c-low : 1 ≤ c) (c-high : c ≤ 1024) (room : length card ≡ 512 * n) (calls : List Call) where
+  abbrev l : List Sheet
+  l = after n (begun c) calls
+
+  agreeing : (t : State) (card′ : List ℕ) → t ≡ stateOf n l card′ → Kept n l card′ → Agrees n l t
+  agreeing t card′ e k = record {
+    map-whole = ap (λ (x : State). x .map) e;
+    entries-whole = ap (λ (x : State). x .entries) e;
+    shape-whole = ap (λ (x : State). x .shape) e;
+    card-length = ap (λ (x : State). length (x .card)) e ∙ k .room;
+    card-blocks = λ i p h. ap (λ (x : State). Rattle.block.specs.Card.blockOf (x .card) (startIn (sheetAt l i) + p)) e ∙ k .blocks i p h;
+    free-uncovered = λ b h. reads b ∙ ap (λ (x : Bool). x && eqb (cover l b) 0) (lt-ltb b n h);
+    free-beyond = λ b h. reads b ∙ ap (λ (x : Bool). x && eqb (cover l b) 0) (le-ltb b n h);
+    covered-once = k .sound .once;
+  }
+    where
+      reads : (b : ℕ) → free (t .map) b ≡ freeIn n l b
+      reads b = ap (λ (x : State). free (x .map) b) e ∙ ap (λ (f : ℕ → Bool). f b) (free-map n l)
+
+  pub every-list : (replies : List Reply) (t : State) → Runs (freshState n c card) calls replies t → Claim n c calls replies t
+  every-list replies t runs =
+      let w : Left n (begun c) calls replies t =
+      lists n calls replies (begun c) card (freshState n c card) t (kept-begun n c card n-low n-high c-low c-high room) (state-begun n c card n-low n-high c-low c-high room) runs in
+      record {
+        answers = w .answers;
+        agrees = agreeing t (w .card-left) (w .state-left) (w .kept-left);
+        sum = omega (arith, w .sum, spare-is n l (w .kept-left .sound), held-begun c, ap (λ (x : State). x .shape .free) (w .state-left));
+        searches = w .searches;
+        shows = λ i s xs e p lp. (
+          getD xs p [],
+          sym (last-put n i p calls replies (begun c) Blank (λ h. absurd (false≢true (subst (λ (x : Sheet). holding x ≡ true) (sheet-begun c i) h))) (w .answers) (ap holding e))
+              ∙ place-of n l (w .card-left) (w .kept-left) i s xs e p lp,
+          shown n l (w .card-left) (w .kept-left) i s xs e p lp t (w .state-left),
+        );
+      }
+
+  pub every-list-runs : (replies : List Reply) × (t : State) × Runs (freshState n c card) calls replies t
+  every-list-runs = has-run (freshState n c card) calls

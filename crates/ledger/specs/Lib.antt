@@ -1,0 +1,4 @@
+-- The ledger, the program's runs, and what is claimed of them.
+pub mod Ledger
+pub mod Steps
+pub mod Claim
