@@ -1,5 +1,5 @@
 -- The steps of a run are the public calls' own contracts: what each method of `Shape` in crates/card ensures is the
--- proposition of specs/Steps.antt (`.._contract`), and that proposition is a step (`..-step`). That each method meets its
+-- proposition of specs/Steps.antt (`..-contract`), and that proposition is a step (`..-step`). That each method meets its
 -- contract is what the check of the crate card shows.
 -- Assumes nothing.
 use Prim.Native.Nat.{ℕ, _+_, _/_, _≤_}
@@ -98,7 +98,7 @@ module _ {M : Type 1} (𝓤 : URA M) (H : Heap 𝓤) (A : Atoms 𝓤) (mem : Mem
   standing-contract κs a r t = refl
 
 -- the state after a call, and its reply, by what the call handed back and left
-abbrev leaving : Outcome → List ℕ → List Entry → List ℕ → State
+abbrev pub leaving : Outcome → List ℕ → List Entry → List ℕ → State
 leaving r map entries card = record { shape = r .shape; map = map; entries = entries; card = card }
 
 abbrev replying : Outcome → List ℕ → Reply

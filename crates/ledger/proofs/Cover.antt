@@ -29,10 +29,10 @@ run-out s k b h = not-true _ (λ t. h (in-run s k b t))
 -- ---- the blocks that sheets cover
 
 pub covers-in : (x : Sheet) (b : ℕ) → startIn x ≤ b → b < startIn x + lengthIn x → covers x b ≡ 1
-covers-in x b p q = ap (λ (t : Bool). cond t 1 0) (run-in (startIn x) (lengthIn x) b p q)
+covers-in x b p q = ap {B = ℕ} (λ (t : Bool). cond t 1 0) (run-in (startIn x) (lengthIn x) b p q)
 
 pub covers-out : (x : Sheet) (b : ℕ) → ((startIn x ≤ b) × (b < startIn x + lengthIn x) → ⊥) → covers x b ≡ 0
-covers-out x b h = ap (λ (t : Bool). cond t 1 0) (run-out (startIn x) (lengthIn x) b h)
+covers-out x b h = ap {B = ℕ} (λ (t : Bool). cond t 1 0) (run-out (startIn x) (lengthIn x) b h)
 
 pub covers-absent : (b : ℕ) → covers Absent b ≡ 0
 covers-absent b = covers-out Absent b (λ h. omega (arith, h .0, h .1))

@@ -3,7 +3,7 @@
 -- Assumes nothing.
 use Prim.Native.Nat.{ℕ, zero, suc, _+_, _*_, _/_, _≤_, _<_}
 use mathlib.Core.Path.{_≡_, refl, sym, ap, subst, _∙_}
-use mathlib.Core.Bool.{Bool, true, _&&_, false≢true}
+use mathlib.Core.Bool.{and-true, Bool, true, _&&_, false≢true}
 use mathlib.Core.List.{List, [], _∷_, map}
 use native.Mathlib.Nat.{not-suc-le-zero}
 use native.Mathlib.Omega.{arith}
@@ -12,14 +12,19 @@ use lib.ListN.{length, getD, replicate, length-replicate}
 use borrow.Author.Tests.{lt-ltb, le-ltb, lt-leb, eq-eqb}
 use Rattle.freemap.specs.Blocks.{free}
 use Rattle.freemap.specs.Maps.{freshMap}
+use Rattle.block.specs.Card.{blockOf}
 use Rattle.catalogue.specs.Entries.{absent}
 use Rattle.catalogue.specs.declared.Entry.{Entry}
+use Rattle.calls.specs.Answers.{numberOf}
 use Rattle.calls.specs.Rows.{Verdict, accepted, firstOf, settle}
 use Rattle.calls.specs.Table.{Call, reserve, put, grow, complete, pause, release, show, standing, tableOf}
 use Rattle.ledger.specs.Ledger.{Place, Blank, Payload, Sheet, Absent, Complete, standingIn, startIn, lengthIn, placesIn, bytesOf, sheetAt, placeAt, cover, freeIn, spareIn, listed, verdictIn, stepIn, after, begun, done, doneIn, refusedIn, toldIn}
-use Rattle.ledger.specs.Claim.{Answered, AllAnswered, SearchedBy, AllSearched, granted, returned, entryIn, Agrees, Gives, Claim}
-use Rattle.ledger.specs.Steps.{State, Reply, toldBy, Step, Runs, freshState}
+use Rattle.ledger.specs.Claim.{Answered, AllAnswered, Searched, SearchedBy, AllSearched, granted, returned, entryIn, Agrees, Gives, Claim}
+use Rattle.card.specs.declared.Shape.{Shape}
+use Rattle.card.specs.declared.Outcome.{Outcome}
+use Rattle.ledger.specs.Steps.{Freshens, State, Reply, toldBy, Step, Runs, freshState}
 use Rattle.ledger.proofs.Agreement.{mapIn, stateOf, Kept, free-map}
+use Rattle.ledger.proofs.Contracts.{leaving, Limits, fresh-left}
 use Rattle.ledger.proofs.Cover.{covers-absent, held}
 use Rattle.ledger.proofs.History.{holding, last-put}
 use Rattle.ledger.proofs.Listed.{spare-is}
@@ -67,7 +72,7 @@ module _ (n : ℕ) (l : List Sheet) (card : List ℕ) (k : Kept n l card) (c : C
     where
       go : (d : Call) → c ≡ d → SearchedBy n l d (toldBy reply)
       go (reserve i m) e =
-          λ came. subst (Rattle.ledger.specs.Claim.Searched n l m) (sym (answered .told ∙ ap (λ (d : Call). toldIn n l d (answered .place)) e)) (searched n l i m (answered .place) came)
+          λ came. subst (Searched n l m) (sym (answered .told ∙ ap (λ (d : Call). toldIn n l d (answered .place)) e)) (searched n l i m (answered .place) came)
       go (put i p payload) e = tt
       go (grow i m) e = tt
       go (complete i) e = tt
@@ -144,7 +149,7 @@ module _ (n c : ℕ) (card : List ℕ) (n-low : 1 ≤ n) (n-high : n ≤ 262144)
   state-begun =
       let spare : n ≡ spareIn n (begun c) = omega (arith, spare-is n (begun c) (kept-begun .sound), held-begun c) in
       let whole : freshMap n ((n + 63) / 64) ≡ mapIn n (begun c) =
-      map-same (λ b. ltb b n) (freeIn n (begun c)) ((n + 63) / 64) (λ b lt. sym (ap (λ (x : Bool). ltb b n && x) (eq-eqb (cover (begun c) b) 0 (cover-begun c b)) ∙ mathlib.Core.Bool.and-true (ltb b n))) in
+      map-same (λ b. ltb b n) (freeIn n (begun c)) ((n + 63) / 64) (λ b lt. sym (ap (λ (x : Bool). ltb b n && x) (eq-eqb (cover (begun c) b) 0 (cover-begun c b)) ∙ and-true (ltb b n))) in
       λ x. record { shape = record { blocks = n; free = spare x }; map = whole x; entries = entries-begun c x; card = card }
 
 -- ---- a complete sheet shows what was put
@@ -190,7 +195,7 @@ module _ (n c : ℕ) (card : List ℕ) (n-low : 1 ≤ n) (n-high : n ≤ 262144)
     entries-whole = ap (λ (x : State). x .entries) e;
     shape-whole = ap (λ (x : State). x .shape) e;
     card-length = ap (λ (x : State). length (x .card)) e ∙ k .room;
-    card-blocks = λ i p h. ap (λ (x : State). Rattle.block.specs.Card.blockOf (x .card) (startIn (sheetAt l i) + p)) e ∙ k .blocks i p h;
+    card-blocks = λ i p h. ap (λ (x : State). blockOf (x .card) (startIn (sheetAt l i) + p)) e ∙ k .blocks i p h;
     free-uncovered = λ b h. reads b ∙ ap (λ (x : Bool). x && eqb (cover l b) 0) (lt-ltb b n h);
     free-beyond = λ b h. reads b ∙ ap (λ (x : Bool). x && eqb (cover l b) 0) (le-ltb b n h);
     covered-once = k .sound .once;
@@ -218,3 +223,13 @@ module _ (n c : ℕ) (card : List ℕ) (n-low : 1 ≤ n) (n-high : n ≤ 262144)
 
   pub every-list-runs : (replies : List Reply) × (t : State) × Runs (freshState n c card) calls replies t
   every-list-runs = has-run (freshState n c card) calls
+
+-- The same from the fresh call itself: what it left when it answered that it was done, and a card of 512·n bytes.
+pub every-list-from-fresh : (shape : Shape) (n : ℕ) (map : List ℕ) (entries : List Entry) (r : Outcome) (map′ : List ℕ) (entries′ : List Entry)
+    → Freshens shape n map entries r map′ entries′ → numberOf (r .answer) ≡ 0 → (card : List ℕ) → length card ≡ 512 * n
+    → (calls : List Call) (replies : List Reply) (t : State) → Runs (leaving r map′ entries′ card) calls replies t → Claim n (length entries) calls replies t
+every-list-from-fresh shape n map entries r map′ entries′ freshened done-so card room calls replies t runs =
+    let left = fresh-left shape n map entries r map′ entries′ freshened done-so in
+    let limits : Limits n (length entries) = left .0 in
+    every-list n (length entries) card (limits .n-low) (limits .n-high) (limits .c-low) (limits .c-high) room calls replies t
+    (subst (λ (s : State). Runs s calls replies t) (left .1 card) runs)

@@ -12,7 +12,7 @@ use lib.Seq.{getD-set-same, getD-set-other}
 use borrow.Author.Tests.{leb-false, eqb-true, eqb-false, eq-eqb, ne-eqb}
 use Rattle.calls.specs.Rows.{Row, Verdict, accepted, refused, firstOf, settle}
 use Rattle.calls.specs.Table.{Call, reserve, put, grow, complete, pause, release, show, standing, tableOf}
-use Rattle.ledger.specs.Ledger.{Place, Blank, Payload, Sheet, Absent, Paused, Open, Complete, lengthIn, placesIn, bytesOf, sheetAt, viewIn, listed, sheetOf, verdictIn, leastIn, putIn, growIn, completeIn, changeIn, stepIn, after, doneIn, refusedIn}
+use Rattle.ledger.specs.Ledger.{Place, Blank, Payload, Sheet, Absent, Paused, Open, Complete, lengthIn, placesIn, bytesOf, sheetAt, viewIn, listed, sheetOf, verdictIn, leastIn, putIn, growIn, completeIn, changeIn, stepIn, after, Told, doneIn, refusedIn}
 use Rattle.ledger.specs.Claim.{Answered, AllAnswered, noted, lastPut}
 use Rattle.ledger.specs.Steps.{Reply, toldBy}
 use Rattle.ledger.proofs.Listed.{or-left, full}
@@ -114,7 +114,7 @@ module _ (n : ℕ) (l : List Sheet) (i p : ℕ) (m : Place) (was : Has p m (shee
   done-zero (standing j) = refl
 
   pub noted-next : (c : Call) (reply : Reply) → Answered n l c reply → Has p (cond (eqb (toldBy reply .number) 0) (noted i p m c) m) (sheetAt (stepIn n l c) i)
-  noted-next c reply a = rw (ap (λ (t : Rattle.ledger.specs.Ledger.Told). eqb (t .number) 0) (a .told)) (go (verdictIn n l c) refl)
+  noted-next c reply a = rw (ap (λ (t : Told). eqb (t .number) 0) (a .told)) (go (verdictIn n l c) refl)
     where
       go : (v : Verdict) → verdictIn n l c ≡ v
           → Has p (cond (eqb (settle v (doneIn n l c) (refusedIn c (a .place)) .number) 0) (noted i p m c) m) (sheetAt (settle v (changeIn n l c) (λ number. l)) i)

@@ -2,7 +2,7 @@
 -- Assumes nothing.
 use Prim.Native.Nat.{ℕ, _+_, _*_, _/_, _^_, _≤_, _<_}
 use mathlib.Core.Path.{_≡_, refl, sym, ap, subst, _∙_}
-use mathlib.Core.Bool.{Bool, true, false, cond, _&&_}
+use mathlib.Core.Bool.{and-false, Bool, true, false, cond, _&&_}
 use mathlib.Core.List.{List}
 use lib.Dec.{eqb, ltb}
 use borrow.Author.Tests.{eq-eqb, ne-eqb, lt-ltb}
@@ -36,7 +36,7 @@ module _ (n : ℕ) (l l′ : List Sheet) where
   map-taken s k inside taken others = marked-map (freeIn n l) (freeIn n l′) ((n + 63) / 64) s k false (λ b. go b (inRun s k b) refl)
     where
       go : (b : ℕ) (t : Bool) → inRun s k b ≡ t → cond t false (freeIn n l b) ≡ freeIn n l′ b
-      go b true e = sym (ap (λ (t : Bool). ltb b n && t) (ne-eqb (cover l′ b) 0 (taken b e)) ∙ mathlib.Core.Bool.and-false (ltb b n))
+      go b true e = sym (ap (λ (t : Bool). ltb b n && t) (ne-eqb (cover l′ b) 0 (taken b e)) ∙ and-false (ltb b n))
       go b false e = ap (λ (c : ℕ). ltb b n && eqb c 0) (sym (others b e))
 
   -- a run given back: no block of it is covered now, and the others as before
