@@ -97,13 +97,13 @@ module _{self.model_params()} where
 
     def reborrow(self, places, new_local):
         """the statements that lend the slices, each in two new locals: the pointer, and the slice"""
-        statements = []
-        for a in self.lends:
-            ref, at = f'(tyRef erased {"mut" if a.slice == "mut" else "imm"} {a.of.type.element})', places[a.of.var]
-            a.pointer, a.place = new_local(ref), new_local(f'(sliceTy {ref})')
-            statements.append(f'assign (place {a.pointer} []) (addrOf (place {at} (field 0 ∷ deref {a.of.type.mir} ∷ [])))')
-            statements.append(f'assign (place {a.place} []) (aggregate ({copy(a.pointer)} ∷ {copy(at, 1)} ∷ []))')
-        return statements
+        return [s for a in self.lends for s in self.lends_again(a, places, new_local)]
+
+    def lends_again(self, a, places, new_local):
+        ref, at = f'(tyRef erased {"mut" if a.slice == "mut" else "imm"} {a.of.type.element})', places[a.of.var]
+        a.pointer, a.place = new_local(ref), new_local(f'(sliceTy {ref})')
+        return [f'assign (place {a.pointer} []) (addrOf (place {at} (field 0 ∷ deref {a.of.type.mir} ∷ [])))',
+                f'assign (place {a.place} []) (aggregate ({copy(a.pointer)} ∷ {copy(at, 1)} ∷ []))']
 
     def statement(self, places, to):
         self.operands = [a.place if a.lent else places[a.of.var] for a in self.args]
@@ -117,7 +117,7 @@ module _{self.model_params()} where
         ghosts = spaced([a.δ for a in self.lends] + [x for x, _ in free])
         over = [f'({x} : {t})' for x, t in free]
         quantified = lambda makes: ' '.join(makes + over) + ' → ' if makes or over else ''
-        args = nest([f'at-{a.of.var} {a.δ} {elements(a)}' if a.lent else a.of.var for a in self.args])
+        args = nest([f'{a.of.at} {a.δ} {elements(a)}' if a.lent else a.of.var for a in self.args])
         owns = [a.of.lent(a.slice, self.number(a), a.ν, a.δ, elements(a)) if a.lent else a.of.shared(self.number(a)) for a in self.slices]
         items = cons(self.tokens() + [f'‵ ({o})' for o in owns])
         tokens, slices = [f't{i}' for i in range(len(owns))], [f'o{i}' for i in range(len(owns))]
@@ -146,10 +146,13 @@ module _{self.model_params()} where
 
     def reborrows(self, steps, places):
         for a in self.lends:
-            at = places[a.of.var]
-            steps.assign(a.pointer, f'addr ! (from ! (fld ! refl (hop ! {steps.look_in(at, 0)} (stop !))))', '(tt, tt)')
-            parts = f'(and-then ! {steps.load(a.pointer)} (and-then ! {steps.load_field(at, 1)} (no-more !)))'
-            steps.assign(a.place, f'agg ! {parts}', a.of.fits)
+            self.reborrows_one(a, steps, places)
+
+    def reborrows_one(self, a, steps, places):
+        at = places[a.of.var]
+        steps.assign(a.pointer, f'addr ! (from ! (fld ! refl (hop ! {steps.look_in(at, 0)} (stop !))))', '(tt, tt)')
+        parts = f'(and-then ! {steps.load(a.pointer)} (and-then ! {steps.load_field(at, 1)} (no-more !)))'
+        steps.assign(a.place, f'agg ! {parts}', a.of.fits)
 
     def lending(self, a, elements, lengths):
         """what the laws of lending take"""
@@ -159,21 +162,24 @@ module _{self.model_params()} where
 
     def lend(self, steps, elements, lengths):
         for a in self.slices:
-            p, v = a.of, a.of.var
-            if not a.lent:
-                steps.front('o' + v)
-                steps.take(p.copied(), 1, 'two')
-                steps.take('split !', 1, 'a' + v, 'o' + v)
-                continue
-            steps.under('lft-new ! tt', a.ν)
-            steps.items.insert(0, 'ν' + v)
-            steps.front('o' + v, 't' + v)
-            lent, kept = p.lent(a.slice, self.number(a), a.ν, 'δ', elements(a)), p.kept(a.slice, a.ν, 'δ', elements(a))
-            law = 'lends-again' if a.slice == 'mut' else 'lends-out'
-            steps.take(f'use2 W (later (some (λ (δ : GName). ‵ ({lent}) ⊛ ‵ ({kept})))) ({law} {self.lending(a, elements, lengths)})', 2, 'new')
-            steps.say('await ! tt')
-            steps.under('pick !', a.δ)
-            steps.take('split !', 1, 'a' + v, 'k' + v)
+            self.lend_one(a, steps, elements, lengths)
+
+    def lend_one(self, a, steps, elements, lengths):
+        p, v = a.of, a.of.var
+        if not a.lent:
+            steps.front('o' + v)
+            steps.take(p.copied(), 1, 'two')
+            steps.take('split !', 1, 'a' + v, 'o' + v)
+            return
+        steps.under('lft-new ! tt', a.ν)
+        steps.items.insert(0, 'ν' + v)
+        steps.front('o' + v, 't' + v)
+        lent, kept = p.lent(a.slice, self.number(a), a.ν, 'δ', elements(a)), p.kept(a.slice, a.ν, 'δ', elements(a))
+        law = 'lends-again' if a.slice == 'mut' else 'lends-out'
+        steps.take(f'use2 W (later (some (λ (δ : GName). ‵ ({lent}) ⊛ ‵ ({kept})))) ({law} {self.lending(a, elements, lengths)})', 2, 'new')
+        steps.say('await ! tt')
+        steps.under('pick !', a.δ)
+        steps.take('split !', 1, 'a' + v, 'k' + v)
 
     def perform(self, steps, elements, told, free=()):
         """the call itself. Its machine value is w, its value r, the last lists zs, and e says what the contract says;
@@ -195,21 +201,13 @@ module _{self.model_params()} where
             operands = f'(and-then ! {steps.load(i)} {operands})'
         steps.under(f'calls-at ! (fmOf 𝓤 H (W .laws) 𝓣) {self.meant} known-{l} {to} {operands}', w)
         args, tokens = f'({l}-args{spaced(ghosts + free)})', ' ⊛ '.join(self.tokens() + ['‵ ftrue'])
-        clauses = f'({l}-clauses{spaced(self.models)} 𝓤)'
         steps.say(f'use1 W (later (some (λ (r : {self.result.denotes}). (({tokens}) ⊛ ‵ ({self.result.row} .own r ({w} ∷ [])))'
-                  f' ⊛ raw (ensured 𝓤 H A {l}-ended {clauses} {self.lifetimes()} {args} tt r)))) (id⊢ 𝓤 _)')
+                  f' ⊛ raw (ensured 𝓤 H A {l}-ended {self.clauses()} {self.lifetimes()} {args} tt r)))) (id⊢ 𝓤 _)')
         steps.say('await ! tt')
         steps.under('pick !', r)
         steps.take('split !', 1, 'gave', 'ensures')
         steps.front('ensures')
-        said = f'{l}-says{spaced(self.models)}{spaced(elements(a) for a in self.args)} {r}{spaced(self.last(a) for a in self.muts)}'
-        lists = product([a.of.speaks if a.slice == 'mut' else 'Unit {0}' for a in self.args])
-        steps.say(f'use1 W (some (λ ({zs} : {lists}). ‵ (lasts {l}-ended {self.lifetimes()} {args} {zs}) ⊛ raw (fact 𝓤 ({said})))) (id⊢ 𝓤 _)')
-        steps.under('pick !', zs)
-        steps.take('split !', 1, 'lasts', 'ensures')
-        steps.front('ensures')
-        steps.under(f'heard ! ({said})', e)
-        steps.items.remove('ensures')
+        self.hears(steps, elements, args, r, zs, product([a.of.speaks if a.slice == 'mut' else 'Unit {0}' for a in self.args]))
         steps.part('fsplit !', 'lasts', *[f'z{i}' for i in range(len(self.args))])
         for i, a in enumerate(self.args):
             steps.front(f'z{i}')
@@ -225,6 +223,24 @@ module _{self.model_params()} where
         steps.front('owned')
         return w, r, e
 
+    def clauses(self):
+        return f'({self.label}-clauses{spaced(self.models)} 𝓤)'
+
+    def stated(self, models):
+        """in the proof of a function: the contract, at what the callee gives and leaves"""
+        return f'({self.label}-contract {" ".join(models)} 𝓤 H (𝓖 .A))'
+
+    def hears(self, steps, elements, args, r, zs, lists):
+        """what the contract says is learned"""
+        l = self.label
+        said = f'{l}-says{spaced(self.models)}{spaced(elements(a) for a in self.args)} {r}{spaced(self.last(a) for a in self.muts)}'
+        steps.say(f'use1 W (some (λ ({zs} : {lists}). ‵ (lasts {l}-ended {self.lifetimes()} {args} {zs}) ⊛ raw (fact 𝓤 ({said})))) (id⊢ 𝓤 _)')
+        steps.under('pick !', zs)
+        steps.take('split !', 1, 'lasts', 'ensures')
+        steps.front('ensures')
+        steps.under(f'heard ! ({said})', 'e-' + l)
+        steps.items.remove('ensures')
+
     def last(self, a):
         """the list that the callee left"""
         return f'({component("zs-" + self.label, self.args.index(a))})'
@@ -233,18 +249,21 @@ module _{self.model_params()} where
         """left: what each `&mut` slice has now; longer: that it has as many elements as before the call"""
         steps.part('split !', 'tokens', *[('ν' if a.lent else 't') + a.of.var for a in self.slices])
         for a in self.lends:
-            p, v = a.of, a.of.var
-            steps.front('ν' + v)
-            steps.take('lft-end ! tt', 1, 'dead')
-            of = f'{self.lending(a, elements, lengths)} room-{v}'
-            if a.slice == 'mut':
-                steps.front('dead', 'k' + v, 'f' + v)
-                steps.take(f'use3 W (later (‵ ({p.held(left[v])}) ⊛ {p.token})) (comes-back {of} {a.δ} {left[v]} {longer[v]})', 3, 'back')
-            else:
-                steps.front('dead', 'k' + v)
-                steps.take(f'use2 W (later (‵ ({p.held(elements(a))}) ⊛ {p.token})) (comes-home {of})', 2, 'back')
-            steps.say('await ! tt')
-            steps.take('split !', 1, 'o' + v, 't' + v)
+            self.come_back_one(a, steps, elements, lengths, left, longer)
+
+    def come_back_one(self, a, steps, elements, lengths, left, longer):
+        p, v = a.of, a.of.var
+        steps.front('ν' + v)
+        steps.take('lft-end ! tt', 1, 'dead')
+        of = f'{self.lending(a, elements, lengths)} room-{v}'
+        if a.slice == 'mut':
+            steps.front('dead', 'k' + v, 'f' + v)
+            steps.take(f'use3 W (later (‵ ({p.held(left[v])}) ⊛ {p.token})) (comes-back {of} {a.δ} {left[v]} {longer[v]})', 3, 'back')
+        else:
+            steps.front('dead', 'k' + v)
+            steps.take(f'use2 W (later (‵ ({p.held(elements(a))}) ⊛ {p.token})) (comes-home {of})', 2, 'back')
+        steps.say('await ! tt')
+        steps.take('split !', 1, 'o' + v, 't' + v)
 
 
 def copy(i, field=None):

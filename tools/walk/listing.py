@@ -1,14 +1,15 @@
 """walks.txt, line by line:
 
     crate NAME                        the lines after it are about this crate
-    struct [CRATE::]NAME FIELD ..     a struct that is passed by value or in a slice; its fields, if a loop ends on one
+    struct [CRATE::]PATH FIELD ..     a struct that is passed by value or in a slice; its fields, if a loop ends on one
     use MODULE NAME ..                a module of antt that has these definitions
-    fn [CRATE::]NAME DEFINITION ..    a callee: what it gives, if anything, and what it leaves in each `&mut` slice
+    fn [CRATE::]PATH DEFINITION ..    a callee: what it gives, if anything, and what it leaves in each `&mut` slice
     walk NAME(PARAMS) [-> RESULT]     a walk module; the lines after it are its code, with a type at each let
     prove FUNCTION ROLE=FN .. LAW ..  a function that has this code: which fn a callee of the walk is, where it is not
                                       the one of its name; for a loop also what it gives and leaves, with the laws of that"""
 import re
 
+from walk.array import LentArray
 from walk.chain import Chain
 from walk.loop import Loop
 from walk.proof import proof
@@ -24,8 +25,9 @@ class Section:
     def add(self, word, rest, line):
         if word == 'struct':
             path, *fields = rest.split()
-            crate, _, name = path.rpartition('::')
-            self.structs[name], self.fields[name] = crate or self.crate, fields
+            crate, _, within = path.rpartition('::') if path.count('::') < 2 else path.partition('::')
+            name = path.split('::')[-1]
+            self.structs[name], self.fields[name] = (crate or self.crate, within.replace('::', '.')), fields
         elif word == 'use':
             module, *names = rest.split()
             self.uses.append((module, names))
@@ -52,7 +54,7 @@ class Section:
         """each file that is written, and its text"""
         for head, code, functions in self.walks:
             name, params, result = re.fullmatch(r'(\w+)\((.*)\)(?: -> (\S+))?', head).groups()
-            form = Loop if 'catalogue[i]' in code[0] else Chain
+            form = Loop if 'catalogue[i]' in code[0] else LentArray if re.fullmatch(r'let (mut )?\w+ = \w+;', code[0]) else Chain
             walk = form(self, name, parameters(params, self.structs), Type(result or '()', self.structs), code)
             yield f'crates/{self.crate}/proofs/{name}.antt', walk.text()
             for path, chosen, laws in functions:

@@ -30,13 +30,15 @@ def proof(walk, path, chosen, laws):
             brought[function] = c.label
             at = proofs(crate, here, rest.replace('::', '.'))
             lines += [f'use {at}.Symbol as {c.label}-def', f'use {at}.Met as {c.label}-met']
+            lines += [f'use {at} as {c.label}-said'] if walk.over else []
         f, called = brought[function], function.replace('::', '·').replace('_', '-')
-        cites.append(f'(cited 𝓤 H ({c.label}-contract {" ".join(models)} 𝓤 H (𝓖 .A)) 𝓜 𝓡 code.env {f}-def.name {f}-def.routine'
+        cites.append(f'(cited 𝓤 H {c.stated(models)} 𝓜 𝓡 code.env {f}-def.name {f}-def.routine'
                      f' code.calls-{called} ({f}-met.met 𝓤 H 𝓜 𝓖 𝓡))')
     at = proofs(here, here, path.replace('::', '.'))
     lines += [f'use {at}.Key.{{name as #{name}}}', f'use {at} as {name}', f'use {at}.Statement as stated', f'use {at}.Code as code']
     keys = ' '.join(brought[function] + '-def.name' for _, function, _ in callees)
     cited = '\n    '.join(cites)
+    over = ''.join('\n    ' + c.ensured() for c in walk.callees) + '\n   ' if walk.over else ''
     return '\n'.join(lines) + f'''
 
 pub {name}-spec : {{M : Type 1}} → stated.statement M
@@ -45,6 +47,6 @@ unfolding code.routine tablesOf
     entered 𝓤 H (tripleOf 𝓤 H (𝓖 .A) {name}.signature ({name}.spec 𝓤 H (𝓖 .A) (𝓜 .mem) (𝓡 .run)))
     (tables 𝓤 H 𝓜 𝓡 code.env .C) (tables 𝓤 H 𝓜 𝓡 code.env .Λ) #{name} code.function (code.unfolded 𝓤 H 𝓜 𝓡)
     (meets {keys} {' '.join(given)}
-    𝓤 H (𝓖 .A) (givenOf 𝓤 H 𝓜 𝓖) (tablesOf 𝓤 H 𝓜 (tables 𝓤 H 𝓜 𝓡 code.env))
+    𝓤 H (𝓖 .A) (givenOf 𝓤 H 𝓜 𝓖){over} (tablesOf 𝓤 H 𝓜 (tables 𝓤 H 𝓜 𝓡 code.env))
     {cited})
 '''

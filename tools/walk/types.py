@@ -8,7 +8,7 @@ WIDTHS = {'u8': 8, 'u16': 16, 'u32': 32, 'u64': 64, 'usize': 64}
 
 
 class Type:
-    """A type by value: a number, a bool, nothing, or a declared struct."""
+    """A type by value: a number, a bool, nothing, a declared struct, or an array of such."""
 
     def __init__(self, name, structs):
         self.name = name
@@ -27,11 +27,20 @@ class Type:
             self.row, self.denotes, self.mir = 'Nothing', '(Unit {0})', 'tyUnit'
             self.vals, self.tells = 'nothing-vals', 'nothing-tells'
             self.makes, self.typed = '(nothing-makes 𝓤 H A W)', '(nothing-lawful 𝓤 H A W .typed)'
+        elif name.startswith('['):
+            self.of, self.count = name[1:-1].split('; ')
+            e = Type(self.of, structs)
+            self.row, self.denotes, self.mir = f'(Array {e.row} {self.count})', f'(List {e.denotes})', f'(tyArray {e.mir} {self.count})'
+            self.vals, self.tells = f'(array-vals {e.vals})', f'(array-tells {e.row} {e.vals} {e.tells} {self.count})'
+            self.makes = f'(array-makes 𝓤 H A W {e.row} {e.makes} {self.count})'
+            self.typed = f'(array-lawful 𝓤 H A W {e.row} {e.lawful} {self.count} .typed)'
+            self.element = f'(tyArray {e.element} {self.count})'
         elif name in structs:
             of, laws = f'{name}′.the-type', f'{name}″.the-laws'
             self.row, self.denotes, self.mir = f'{name}′.the-row', name, f'{name}″.mir'
             self.vals, self.tells = f'(struct.vals {of} {laws})', f'(struct.tells {of} {laws})'
             self.makes = f'(struct.makes {of} {name}″.the-plain 𝓤 H A)'
+            self.lawful = f'(struct.lawful {of} {laws} 𝓤 H A W)'
             self.typed = f'(struct.lawful {of} {laws} 𝓤 H A W .typed)'
             # behind a reference a declared type is its bare name; by value it is spelled out
             self.element = f'(pointee ({name}′.the-row .written))'
@@ -72,6 +81,7 @@ class Param:
             self.κ, self.q = 'κ' + subscript(lifetime), 'q' + subscript(lifetime)
             self.speaks = f'List {self.type.denotes}'
             self.denotes, self.now, self.machine = f'RefT ({self.speaks})', f'(now {v})', f's-{v}'
+            self.at = f'at-{v}'
             self.known = f'(room-{v} : Room {self.row} (length (now {v})))'
             self.fits = f'(tt, (tt, (record {{ fits = room-{v} .0 }}, tt)))'
             self.token = f'‵ (flft {self.κ} {self.q})'

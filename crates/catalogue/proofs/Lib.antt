@@ -1,4 +1,5 @@
 -- The walks over a catalogue and what they are made of, and the laws of what is found, stored and cleared.
+pub mod Arrays
 pub mod Cleared
 pub mod Clearing
 pub mod Lending
