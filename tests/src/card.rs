@@ -51,15 +51,14 @@ enum Standing {
     Complete(usize, usize),
 }
 
-/// The shape, what is lent, and c.
+/// The shape, and what is lent.
 #[derive(Clone, PartialEq)]
 pub struct Card {
     pub n: usize,
     pub free: usize,
-    pub c: usize,
     /// 64 blocks for each word.
     pub map: Vec<bool>,
-    /// The first entries, as many as the examples keep.
+    /// One entry for each sheet.
     pub sheets: Vec<Entry>,
     pub bytes: Vec<u8>,
 }
@@ -103,12 +102,6 @@ impl Card {
         self.bytes[BLOCK * start..BLOCK * end].fill(0);
     }
 
-    /// The entry of a sheet. Those that the examples do not keep are three zeros.
-    fn entry(&self, sheet: u32) -> Entry {
-        let kept = self.sheets.get(sheet as usize);
-        kept.copied().unwrap_or(entry(0, 0, 0))
-    }
-
     // The rows that the calls share.
 
     /// Row 1 for n, the free count and the map.
@@ -120,13 +113,11 @@ impl Card {
 
     /// A sheet's standing, unless row 1, 2 or 4 for the entry holds.
     fn opened(&self, sheet: u32) -> Result<Standing, Answer> {
-        if self.misfit() || !(1..=1024).contains(&self.c) {
+        if self.misfit() || !(1..=1024).contains(&self.sheets.len()) {
             return Err(Refused(1));
         }
-        if sheet as usize >= self.c {
-            return Err(Refused(2));
-        }
-        self.standing_of(self.entry(sheet)).ok_or(Refused(4))
+        let entry = self.sheets.get(sheet as usize).ok_or(Refused(2))?;
+        self.standing_of(*entry).ok_or(Refused(4))
     }
 
     /// The same for a call that is lent the card.
@@ -177,7 +168,7 @@ impl Card {
 
     pub fn fresh(&mut self, n: usize) -> Result<Answer, Answer> {
         let fits = (1..=262144).contains(&n) && self.map.len() == 64 * words_of(n);
-        if !fits || !(1..=1024).contains(&self.c) {
+        if !fits || !(1..=1024).contains(&self.sheets.len()) {
             return Err(Refused(1));
         }
         self.map = fresh(n, words_of(n));

@@ -1,7 +1,6 @@
-// One number made of a card's state: from 1 on, 31 times the number and the next item added, modulo 2^32. The items are the words of
-// the map (each as its high and its low half), mark, start and length of the four entries, the bytes of the card, and those
-// of the show buffer. As 31 is odd, it changes with any single item.
-use crate::state::State;
+// One number made of a buffer: from 1 on, 31 times the number and the next item added, modulo 2^32. The items are the words of
+// the map (each as its high and its low half), mark, start and length of the entries, or bytes. As 31 is odd, the number
+// changes with any single item.
 use catalogue::Entry;
 
 fn step(h: u64, x: u64) -> u64 {
@@ -12,8 +11,8 @@ fn wide(x: u8) -> u64 {
     x as u64
 }
 
-fn words(h: u64, map: &[u64]) -> u64 {
-    let mut sum = h;
+pub fn words(map: &[u64]) -> u64 {
+    let mut sum: u64 = 1;
     let mut i: usize = 0;
     while i < map.len() {
         sum = step(step(sum, map[i] / 4294967296), map[i]);
@@ -22,8 +21,8 @@ fn words(h: u64, map: &[u64]) -> u64 {
     sum
 }
 
-pub fn bytes(h: u64, s: &[u8]) -> u64 {
-    let mut sum = h;
+pub fn bytes(s: &[u8]) -> u64 {
+    let mut sum: u64 = 1;
     let mut i: usize = 0;
     while i < s.len() {
         sum = step(sum, wide(s[i]));
@@ -38,16 +37,13 @@ fn entry(h: u64, e: Entry) -> u64 {
     step(b, e.length as u64)
 }
 
-fn sheets(h: u64, s: State) -> u64 {
-    let all = s.sheets;
-    let a = entry(h, all[0]);
-    let b = entry(a, all[1]);
-    let c = entry(b, all[2]);
-    entry(c, all[3])
-}
-
-// Map, entries and card.
-pub fn state(map: &[u64], card: &[u8], s: State) -> u64 {
-    let h = words(1, map);
-    bytes(sheets(h, s), card)
+pub fn entries(all: [Entry; 1025]) -> u64 {
+    let mut sum: u64 = 1;
+    let mut i: usize = 0;
+    while i < 1025 {
+        let e = all[i];
+        sum = entry(sum, e);
+        i += 1;
+    }
+    sum
 }

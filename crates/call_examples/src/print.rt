@@ -1,12 +1,10 @@
 // What the examples print, on standard output.
+use crate::digest;
+use crate::line;
+use crate::line::Line;
 use crate::state::State;
 use calls::Answer;
-use catalogue::Entry;
 use libc::STDOUT_FILENO;
-
-pub fn text(bytes: &[u8]) {
-    io::write_all(STDOUT_FILENO, bytes);
-}
 
 // A single byte of text.
 pub fn sign(byte: u8) {
@@ -15,35 +13,56 @@ pub fn sign(byte: u8) {
 }
 
 // A number, after a space.
-pub fn number(x: u32) {
+fn number(x: u32) {
     sign(b' ');
     io::print_decimal(STDOUT_FILENO, x as u64);
 }
 
-// A length, after a space.
-pub fn length(x: usize) {
-    sign(b' ');
-    io::print_decimal(STDOUT_FILENO, x as u64);
-}
-
-// A number in so many hex digits, after a space.
-pub fn hex(x: u64, digits: usize) {
-    sign(b' ');
-    io::print_hex(STDOUT_FILENO, x, digits);
-}
-
-pub fn two(a: u32, b: u32) {
+fn two(a: u32, b: u32) {
     number(a);
     number(b);
 }
 
-pub fn three(a: u32, b: u32, c: u32) {
+fn values(a: u32, b: u32, c: u32) {
+    number(0);
     number(a);
     two(b, c);
 }
 
-pub fn entry(e: Entry) {
-    three(e.mark, e.start, e.length);
+// The letter that a number has at its head, if any.
+fn letter(word: u64) {
+    let byte = word / 0x100_0000_0000_0000;
+    if byte == 0 {
+        return;
+    }
+    sign(byte as u8);
+}
+
+fn word(word: u64) {
+    let mut rest = word;
+    let mut i: u32 = 0;
+    while i < 8 {
+        letter(rest);
+        rest = rest % 0x100_0000_0000_0000 * 256;
+        i += 1;
+    }
+}
+
+// One of the numbers of a line, if it has so many.
+fn nth(l: Line, at: usize) {
+    if l.count <= at {
+        return;
+    }
+    number(line::number(l, at));
+}
+
+// A line of the list.
+pub fn line(l: Line) {
+    word(l.word);
+    nth(l, 0);
+    nth(l, 1);
+    nth(l, 2);
+    nth(l, 3);
 }
 
 // The number of an answer, 0 where the call was not refused, and the answer's values.
@@ -59,15 +78,20 @@ pub fn answer(a: Answer) {
     }
 }
 
-fn values(a: u32, b: u32, c: u32) {
-    number(0);
-    three(a, b, c);
+fn digest(x: u64) {
+    sign(b' ');
+    io::print_hex(STDOUT_FILENO, x, 8);
 }
 
-// The end of a line: n, the free count and the digest.
-pub fn end(s: State, digest: u64) {
+// The end of a line: n, the free count, and the digests.
+pub fn end(map: &[u64], card: &[u8], buffer: &[u8], s: State) {
     sign(b';');
-    two(s.n, s.free);
-    hex(digest, 8);
+    let shape = s.shape;
+    two(shape.blocks, shape.free);
+    let entries = s.entries;
+    digest(digest::words(map));
+    digest(digest::entries(entries));
+    digest(digest::bytes(card));
+    digest(digest::bytes(buffer));
     sign(b'\n');
 }

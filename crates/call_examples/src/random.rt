@@ -1,12 +1,10 @@
-// A random list of calls.
-use crate::call;
-use crate::print;
-use crate::state;
+// A random list of calls, for four sheets.
+use crate::line;
+use crate::line::Line;
 use crate::state::State;
+use crate::step;
 
 const SEED: u64 = 0x9e37_79b9_7f4a_7c15;
-
-const CALLS: u32 = 300;
 
 // The random number after x: xorshift64. A shift drops the bits that leave the word.
 fn next(x: u64) -> u64 {
@@ -15,60 +13,21 @@ fn next(x: u64) -> u64 {
     b ^ (b << 17)
 }
 
-// A number of blocks: mostly below 4, in 1 case of 8 below 72.
+// A number of blocks: mostly 0, 1 or 2, in 1 case of 16 one below 72.
 fn size(x: u64) -> u32 {
-    if x % 8 == 0 {
-        (x / 8 % 72) as u32
+    if x % 16 == 0 {
+        (x / 16 % 72) as u32
     } else {
-        (x / 8 % 4) as u32
+        ((x / 16 % 5 + 1) / 2) as u32
     }
 }
 
 // A length, in 1 case of 16 a wrong one.
-fn length(x: u64) -> usize {
+fn length(x: u64) -> u32 {
     if x % 16 == 0 {
-        (x / 16 % 501) as usize
+        (x / 16 % 501) as u32
     } else {
         496
-    }
-}
-
-// A call that may change the map, or pause.
-fn on_map(map: &mut [u64], card: &mut [u8], s: State, kind: u64, sheet: u32, x: u64) -> State {
-    match kind {
-        0..=5 => call::reserve(map, card, s, sheet, size(x)),
-        6 | 7 => call::grow(map, card, s, sheet, size(x)),
-        8 | 9 => call::release(map, card, s, sheet),
-        _ => call::pause(map, card, s, sheet),
-    }
-}
-
-// Put, for a place below 4.
-fn put(map: &[u64], card: &mut [u8], s: State, sheet: u32, x: u64) {
-    let place = (x % 4) as u32;
-    let y = x / 4;
-    let first = (y / 8192 % 256) as u32;
-    call::put_of(map, card, s, sheet, place, first, length(y));
-}
-
-// Show, for a place below 4.
-fn show(map: &[u64], card: &[u8], s: State, sheet: u32, x: u64) {
-    let place = (x % 4) as u32;
-    call::show_in(map, card, s, sheet, place, length(x / 4));
-}
-
-// Complete, show or standing.
-fn look(map: &[u64], card: &[u8], s: State, kind: u64, sheet: u32, x: u64) -> State {
-    match kind {
-        23..=26 => call::complete(map, card, s, sheet),
-        27..=30 => {
-            show(map, card, s, sheet, x);
-            s
-        }
-        _ => {
-            call::standing(map, card, s, sheet);
-            s
-        }
     }
 }
 
@@ -77,47 +36,47 @@ fn sheet_of(x: u64) -> u32 {
     if x % 16 == 0 { 4 } else { (x % 4) as u32 }
 }
 
-// One of the eight calls.
-fn any(map: &mut [u64], card: &mut [u8], s: State, x: u64) -> State {
-    let kind = x / 16 % 32;
+// One of the eight calls. Places are below 3.
+fn any(x: u64) -> Line {
     let sheet = sheet_of(x);
-    let y = x / 512;
-    if kind < 11 {
-        return on_map(map, card, s, kind, sheet, y);
+    let kind = x / 16 % 64;
+    let y = x / 1024;
+    let place = (y % 5 % 3) as u32;
+    let z = y / 8;
+    match kind {
+        0..=9 => line::of(line::RESERVE, 2, sheet, size(y), 0, 0),
+        10 | 11 => line::of(line::GROW, 2, sheet, size(y), 0, 0),
+        12 | 13 => line::of(line::RELEASE, 1, sheet, 0, 0, 0),
+        14 => line::of(line::PAUSE, 1, sheet, 0, 0, 0),
+        15..=36 => line::of(
+            line::PUT,
+            4,
+            sheet,
+            place,
+            (z / 8192 % 256) as u32,
+            length(z),
+        ),
+        37..=46 => line::of(line::COMPLETE, 1, sheet, 0, 0, 0),
+        47..=61 => line::of(line::SHOW, 3, sheet, place, length(z), 0),
+        _ => line::of(line::STANDING, 1, sheet, 0, 0, 0),
     }
-    if kind < 23 {
-        put(map, card, s, sheet, y);
-        return s;
-    }
-    look(map, card, s, kind, sheet, y)
 }
 
-fn list(map: &mut [u64], card: &mut [u8], s: State) -> State {
+pub fn list(
+    map: &mut [u64],
+    card: &mut [u8],
+    buffer: &mut [u8],
+    payload: &mut [u8],
+    s: State,
+    count: u32,
+) -> State {
     let mut t = s;
     let mut x = SEED;
     let mut i: u32 = 0;
-    while i < CALLS {
-        t = any(map, card, t, x);
+    while i < count {
+        t = step::step(map, card, buffer, payload, t, any(x));
         x = next(x);
         i += 1;
     }
     t
-}
-
-fn heading() {
-    print::text(b"== random, seed");
-    print::hex(SEED, 16);
-    print::sign(b'\n');
-}
-
-pub fn examples() {
-    heading();
-    let mut words = state::map_space();
-    let space: &mut [u64] = &mut words;
-    let mut bytes = state::card_space();
-    let store: &mut [u8] = &mut bytes;
-    let map = &mut space[0..2];
-    let card = &mut store[0..35840];
-    let s = call::fresh(map, card, state::unmade(), 70);
-    list(map, card, s);
 }

@@ -1,14 +1,19 @@
-// What the examples keep between calls, and the arrays that they lend.
+// What the examples keep between calls, and the arrays that they lend parts of.
 ghost use mathlib.Core.Path.{_≡_};
 ghost use lib.ListN;
+use crate::lend::Turn;
+use calls::Answer;
+use card::Outcome;
+use card::Shape;
 use catalogue::Entry;
 
-// The shape's n and free count, the number of sheets c, and the first four entries.
+// The shape last handed back, the entries, and how many words of the map, entries and bytes of the card are lent.
 pub struct State {
-    pub n: u32,
-    pub free: u32,
-    pub c: usize,
-    pub sheets: [Entry; 4],
+    pub shape: Shape,
+    pub entries: [Entry; 1025],
+    pub words: usize,
+    pub sheets: usize,
+    pub bytes: usize,
 }
 
 // One word more than 70 blocks take. What is ensured here and below is the length, which lending the array as a slice needs.
@@ -51,64 +56,63 @@ pub fn entry(mark: u32, start: u32, length: u32) -> Entry {
     }
 }
 
-// A shape of 9 blocks, and four damaged entries: what fresh takes, and reads nothing of.
-pub fn unmade() -> State {
-    State {
-        n: 9,
-        free: 9,
-        c: 4,
-        sheets: [entry(0, 0, 0); 4],
-    }
-}
-
-// What an accepted fresh makes of it.
-pub fn made(s: State, n: u32) -> State {
-    State {
-        n: n,
-        free: n,
-        c: s.c,
-        sheets: [entry(0x41, 0, 0); 4],
-    }
-}
-
-// The entry of a sheet, and three zeros where there is none.
-pub fn entry_of(s: State, sheet: u32) -> Entry {
-    if sheet < 4 {
-        let at = sheet as usize;
-        let sheets = s.sheets;
-        return sheets[at];
-    }
-    entry(0, 0, 0)
-}
-
-// The state with another free count and another entry of a sheet.
-pub fn changed(s: State, free: u32, sheet: u32, e: Entry) -> State {
-    let mut sheets = s.sheets;
-    if sheet < 4 {
-        let at = sheet as usize;
-        sheets[at] = e;
-        return State {
-            n: s.n,
-            free: free,
-            c: s.c,
-            sheets: sheets,
-        };
-    }
-    State {
-        n: s.n,
+pub fn shape(blocks: u32, free: u32) -> Shape {
+    Shape {
+        blocks: blocks,
         free: free,
-        c: s.c,
-        sheets: sheets,
     }
 }
 
-// The state with another shape and number of sheets.
-pub fn shaped(s: State, n: u32, free: u32, c: usize) -> State {
-    let sheets = s.sheets;
+// A shape of 9 blocks and damaged entries: what fresh takes, and reads nothing of.
+pub fn start() -> State {
     State {
-        n: n,
-        free: free,
-        c: c,
-        sheets: sheets,
+        shape: shape(9, 9),
+        entries: [entry(0, 0, 0); 1025],
+        words: 2,
+        sheets: 4,
+        bytes: 35840,
     }
+}
+
+// The state with another shape and other entries.
+pub fn with(s: State, shape: Shape, entries: [Entry; 1025]) -> State {
+    State {
+        shape: shape,
+        entries: entries,
+        words: s.words,
+        sheets: s.sheets,
+        bytes: s.bytes,
+    }
+}
+
+// The state after a call.
+pub fn after(s: State, turn: Turn) -> State {
+    let outcome = turn.outcome;
+    let shape = outcome.shape;
+    let entries = turn.entries;
+    with(s, shape, entries)
+}
+
+pub fn answer(turn: Turn) -> Answer {
+    let outcome = turn.outcome;
+    outcome.answer
+}
+
+// A call that is not lent the catalogue.
+pub fn turn(s: State, outcome: Outcome) -> Turn {
+    let entries = s.entries;
+    Turn {
+        outcome: outcome,
+        entries: entries,
+    }
+}
+
+// No call was made: the list has no such call, or lends more than there is.
+pub fn none(s: State) -> Turn {
+    let shape = s.shape;
+    let outcome = Outcome {
+        shape: shape,
+        answer: Answer::Refused(99),
+    };
+    turn(s, outcome)
 }

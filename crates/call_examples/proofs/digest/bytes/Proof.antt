@@ -7,10 +7,10 @@ use Rattle.call_examples.proofs.digest.bytes.Statement.{statement}
 use Rattle.call_examples.proofs.digest.bytes.Tie as tie
 
 abbrev Inv-loop : tie.InvT-loop
-Inv-loop h s sum₀ i₀ sum i = i ≤ length s
+Inv-loop s sum₀ i₀ sum i = i ≤ length s
 
 abbrev μ-loop : tie.MeasureT-loop
-μ-loop h s sum₀ i₀ sum i = length s - i
+μ-loop s sum₀ i₀ sum i = length s - i
 
 loop-holds : tie.Need-loop-holds Inv-loop μ-loop
 loop-holds c = search needs

@@ -7,10 +7,10 @@ use Rattle.call_examples.proofs.digest.words.Statement.{statement}
 use Rattle.call_examples.proofs.digest.words.Tie as tie
 
 abbrev Inv-loop : tie.InvT-loop
-Inv-loop h map sum₀ i₀ sum i = i ≤ length map
+Inv-loop map sum₀ i₀ sum i = i ≤ length map
 
 abbrev μ-loop : tie.MeasureT-loop
-μ-loop h map sum₀ i₀ sum i = length map - i
+μ-loop map sum₀ i₀ sum i = length map - i
 
 loop-holds : tie.Need-loop-holds Inv-loop μ-loop
 loop-holds c = search needs

@@ -1,0 +1,29 @@
+-- Written by tools/walks: `call_examples::lend::show` meets its contract, by the walk of `Showing.antt`, with the calls of `card::Shape::show`, `call_examples::lend::turn_of`.
+-- Assumes nothing.
+use contract.Running.{givenOf, tables, tablesOf}
+use denote.Triple.Spec.{tripleOf}
+use denote.Triple.Table.{entered, cited}
+use Rattle.call_examples.proofs.Showing.{call-contract, turn-of-contract, meets}
+use Rattle.card.proofs.Shape.show.Symbol as call-def
+use Rattle.card.proofs.Shape.show.Met as call-met
+use Rattle.card.proofs.Shape.show as call-said
+use Rattle.call_examples.proofs.lend.turn_of.Symbol as turn-of-def
+use Rattle.call_examples.proofs.lend.turn_of.Met as turn-of-met
+use Rattle.call_examples.proofs.lend.turn_of as turn-of-said
+use Rattle.call_examples.proofs.lend.show.Key.{name as #show}
+use Rattle.call_examples.proofs.lend.show as show
+use Rattle.call_examples.proofs.lend.show.Statement as stated
+use Rattle.call_examples.proofs.lend.show.Code as code
+
+pub show-spec : {M : Type 1} → stated.statement M
+unfolding code.routine tablesOf
+show-spec 𝓤 H 𝓜 𝓖 𝓡 =
+    entered 𝓤 H (tripleOf 𝓤 H (𝓖 .A) show.signature (show.spec 𝓤 H (𝓖 .A) (𝓜 .mem) (𝓡 .run)))
+    (tables 𝓤 H 𝓜 𝓡 code.env .C) (tables 𝓤 H 𝓜 𝓡 code.env .Λ) #show code.function (code.unfolded 𝓤 H 𝓜 𝓡)
+    (meets call-def.name turn-of-def.name
+    𝓤 H (𝓖 .A) (givenOf 𝓤 H 𝓜 𝓖)
+    (λ κs a r e. call-said.clauses 𝓤 H (𝓖 .A) (𝓜 .mem) (𝓡 .run) κs a .ensures tt r e)
+    (λ κs a r e. turn-of-said.clauses 𝓤 H (𝓖 .A) (𝓜 .mem) (𝓡 .run) κs a .ensures tt r e)
+    (tablesOf 𝓤 H 𝓜 (tables 𝓤 H 𝓜 𝓡 code.env))
+    (cited 𝓤 H (call-contract 𝓤 H (𝓖 .A) (λ κs a r e. call-said.clauses 𝓤 H (𝓖 .A) (𝓜 .mem) (𝓡 .run) κs a .ensures tt r e)) 𝓜 𝓡 code.env call-def.name call-def.routine code.calls-card·Shape·show (call-met.met 𝓤 H 𝓜 𝓖 𝓡))
+    (cited 𝓤 H (turn-of-contract 𝓤 H (𝓖 .A) (λ κs a r e. turn-of-said.clauses 𝓤 H (𝓖 .A) (𝓜 .mem) (𝓡 .run) κs a .ensures tt r e)) 𝓜 𝓡 code.env turn-of-def.name turn-of-def.routine code.calls-call-examples·lend·turn-of (turn-of-met.met 𝓤 H 𝓜 𝓖 𝓡)))
