@@ -36,7 +36,7 @@ def proof(walk, path, chosen, laws):
                      f' code.calls-{called} ({f}-met.met 𝓤 H 𝓜 𝓖 𝓡))')
     at = proofs(here, here, path.replace('::', '.'))
     lines += [f'use {at}.Key.{{name as #{name}}}', f'use {at} as {name}', f'use {at}.Statement as stated', f'use {at}.Code as code']
-    keys = ' '.join(brought[function] + '-def.name' for _, function, _ in callees)
+    keys = [brought[function] + '-def.name' for _, function, _ in callees]
     cited = '\n    '.join(cites)
     over = ''.join('\n    ' + c.ensured() for c in walk.callees) + '\n   ' if walk.over else ''
     return '\n'.join(lines) + f'''
@@ -46,7 +46,7 @@ unfolding code.routine tablesOf
 {name}-spec 𝓤 H 𝓜 𝓖 𝓡 =
     entered 𝓤 H (tripleOf 𝓤 H (𝓖 .A) {name}.signature ({name}.spec 𝓤 H (𝓖 .A) (𝓜 .mem) (𝓡 .run)))
     (tables 𝓤 H 𝓜 𝓡 code.env .C) (tables 𝓤 H 𝓜 𝓡 code.env .Λ) #{name} code.function (code.unfolded 𝓤 H 𝓜 𝓡)
-    (meets {keys} {' '.join(given)}
+    (meets {' '.join(keys + given)}
     𝓤 H (𝓖 .A) (givenOf 𝓤 H 𝓜 𝓖){over} (tablesOf 𝓤 H 𝓜 (tables 𝓤 H 𝓜 𝓡 code.env))
     {cited})
 '''
