@@ -11,6 +11,7 @@ use catalogue::Entry;
 use catalogue::Slot;
 
 // n and the carried free count.
+#[repr(C)]
 pub struct Shape {
     pub blocks: u32,
     pub free: u32,

@@ -5,6 +5,7 @@ ghost use lib.ListN.{length, set};
 ghost use Rattle.catalogue.specs.Entries.{slotAt, cleared, clearedIf};
 
 // A mark, a start and a length.
+#[repr(C)]
 pub struct Entry {
     pub mark: u32,
     pub start: u32,

@@ -1,0 +1,9 @@
+-- The walk of each parameter list of the calls.
+pub mod Completed
+pub mod Freshened
+pub mod Paused
+pub mod Put
+pub mod Released
+pub mod Reserved
+pub mod Shown
+pub mod Stood

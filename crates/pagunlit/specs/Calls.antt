@@ -1,0 +1,80 @@
+-- What each method of the card hands back and leaves, of all its arguments in order: what the contracts of crates/card say.
+-- Assumes nothing.
+use mathlib.Core.List.{List}
+use Prim.Native.Nat.{ℕ}
+use lib.ListN.{length, set}
+use Rattle.catalogue.specs.Entries.{slotAt, clearedIf}
+use Rattle.catalogue.specs.declared.Entry.{Entry}
+use Rattle.card.specs.Calls as calls
+use Rattle.card.specs.Calls.{entryOf, outcomeOf, acceptedOf}
+use Rattle.card.specs.declared.Outcome.{Outcome}
+use Rattle.card.specs.declared.Shape.{Shape}
+
+abbrev pub freshOutcome : Shape → ℕ → List ℕ → List Entry → Outcome
+freshOutcome shape blocks map entries = calls.freshOutcome shape blocks map (length entries)
+
+abbrev pub freshMap : Shape → ℕ → List ℕ → List Entry → List ℕ
+freshMap shape blocks map entries = calls.freshMap shape blocks map (length entries)
+
+abbrev pub freshEntries : Shape → ℕ → List ℕ → List Entry → List Entry
+freshEntries shape blocks map entries = clearedIf entries (acceptedOf (freshOutcome shape blocks map entries))
+
+abbrev pub reserveOutcome : Shape → List ℕ → List Entry → List ℕ → ℕ → ℕ → Outcome
+reserveOutcome shape map entries card sheet k = outcomeOf shape (calls.reserveOut shape map card (slotAt entries sheet) sheet k)
+
+abbrev pub reserveMap : Shape → List ℕ → List Entry → List ℕ → ℕ → ℕ → List ℕ
+reserveMap shape map entries card sheet k = calls.reserveMap shape map card (slotAt entries sheet) sheet k
+
+abbrev pub reserveEntries : Shape → List ℕ → List Entry → List ℕ → ℕ → ℕ → List Entry
+reserveEntries shape map entries card sheet k = set entries sheet (entryOf (calls.reserveOut shape map card (slotAt entries sheet) sheet k))
+
+abbrev pub reserveCard : Shape → List ℕ → List Entry → List ℕ → ℕ → ℕ → List ℕ
+reserveCard shape map entries card sheet k = calls.reserveCard shape map card (slotAt entries sheet) sheet k
+
+abbrev pub growOutcome : Shape → List ℕ → List Entry → List ℕ → ℕ → ℕ → Outcome
+growOutcome shape map entries card sheet m = outcomeOf shape (calls.growOut shape map card (slotAt entries sheet) sheet m)
+
+abbrev pub growMap : Shape → List ℕ → List Entry → List ℕ → ℕ → ℕ → List ℕ
+growMap shape map entries card sheet m = calls.growMap shape map card (slotAt entries sheet) sheet m
+
+abbrev pub growEntries : Shape → List ℕ → List Entry → List ℕ → ℕ → ℕ → List Entry
+growEntries shape map entries card sheet m = set entries sheet (entryOf (calls.growOut shape map card (slotAt entries sheet) sheet m))
+
+abbrev pub growCard : Shape → List ℕ → List Entry → List ℕ → ℕ → ℕ → List ℕ
+growCard shape map entries card sheet m = calls.growCard shape map card (slotAt entries sheet) sheet m
+
+abbrev pub putOutcome : Shape → List ℕ → List Entry → List ℕ → ℕ → ℕ → List ℕ → Outcome
+putOutcome shape map entries card sheet place payload = calls.putOutcome shape map card (slotAt entries sheet) sheet place payload
+
+abbrev pub putCard : Shape → List ℕ → List Entry → List ℕ → ℕ → ℕ → List ℕ → List ℕ
+putCard shape map entries card sheet place payload = calls.putCard shape map card (slotAt entries sheet) sheet place payload
+
+abbrev pub completeOutcome : Shape → List ℕ → List Entry → List ℕ → ℕ → Outcome
+completeOutcome shape map entries card sheet = outcomeOf shape (calls.completeOut shape map card (slotAt entries sheet) sheet)
+
+abbrev pub completeEntries : Shape → List ℕ → List Entry → List ℕ → ℕ → List Entry
+completeEntries shape map entries card sheet = set entries sheet (entryOf (calls.completeOut shape map card (slotAt entries sheet) sheet))
+
+abbrev pub pauseOutcome : Shape → List ℕ → List Entry → ℕ → Outcome
+pauseOutcome shape map entries sheet = outcomeOf shape (calls.pauseOut shape map (slotAt entries sheet) sheet)
+
+abbrev pub pauseEntries : Shape → List ℕ → List Entry → ℕ → List Entry
+pauseEntries shape map entries sheet = set entries sheet (entryOf (calls.pauseOut shape map (slotAt entries sheet) sheet))
+
+abbrev pub releaseOutcome : Shape → List ℕ → List Entry → ℕ → Outcome
+releaseOutcome shape map entries sheet = outcomeOf shape (calls.releaseOut shape map (slotAt entries sheet) sheet)
+
+abbrev pub releaseMap : Shape → List ℕ → List Entry → ℕ → List ℕ
+releaseMap shape map entries sheet = calls.releaseMap shape map (slotAt entries sheet) sheet
+
+abbrev pub releaseEntries : Shape → List ℕ → List Entry → ℕ → List Entry
+releaseEntries shape map entries sheet = set entries sheet (entryOf (calls.releaseOut shape map (slotAt entries sheet) sheet))
+
+abbrev pub showOutcome : Shape → List ℕ → List Entry → List ℕ → ℕ → ℕ → List ℕ → Outcome
+showOutcome shape map entries card sheet place buffer = calls.showOutcome shape map card (slotAt entries sheet) sheet place buffer
+
+abbrev pub showBuffer : Shape → List ℕ → List Entry → List ℕ → ℕ → ℕ → List ℕ → List ℕ
+showBuffer shape map entries card sheet place buffer = calls.showBuffer shape map card (slotAt entries sheet) sheet place buffer
+
+abbrev pub standingOutcome : Shape → List ℕ → List Entry → ℕ → Outcome
+standingOutcome shape map entries sheet = calls.standingOutcome shape map (slotAt entries sheet) sheet

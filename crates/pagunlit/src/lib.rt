@@ -1,0 +1,267 @@
+// The C library: every call of the card for the dispenser's C program (include/pagunlit.h). Each function calls the method
+// of its name on `Shape` and turns the outcome into document 01's numbers. A slice is a pointer and a length to C; the
+// shape, the entries and the reply are structs of 32-bit numbers.
+ghost use mathlib.Core.Path.{_≡_};
+ghost use lib.ListN.{getD};
+ghost use Rattle.block.specs.Calls.{sealAnswer, afterSeal, checkAnswer};
+ghost use Rattle.calls.specs.Answers.{numberOf, valuesOf};
+ghost use Rattle.card.specs.Calls.{searchOutcome, surveyOutcome};
+ghost use Rattle.pagunlit.specs.Replies.{replyOf};
+ghost use Rattle.pagunlit.specs.Calls.{freshOutcome, freshMap, freshEntries, reserveOutcome, reserveMap, reserveEntries, reserveCard, growOutcome, growMap, growEntries, growCard, putOutcome, putCard, completeOutcome, completeEntries, pauseOutcome, pauseEntries, releaseOutcome, releaseMap, releaseEntries, showOutcome, showBuffer, standingOutcome};
+use calls::Answer;
+use card::Outcome;
+use card::Shape;
+use catalogue::Entry;
+
+// The outcome of a call: the shape, 0 or the refusal's number, and the answer's values, 0 where there are none.
+#[repr(C)]
+pub struct Reply {
+    pub shape: Shape,
+    pub number: u32,
+    pub first: u32,
+    pub second: u32,
+    pub third: u32,
+}
+
+// 0 or the refusal's number.
+fn number_of(answer: Answer) -> u32
+    ensures { λ r. ⌜ r ≡ numberOf answer ⌝ }
+{
+    match answer {
+        Answer::Done => 0,
+        Answer::Start(_) => 0,
+        Answer::Stands(_, _, _) => 0,
+        Answer::Counted(_, _, _) => 0,
+        Answer::Blank(_) => 9,
+        Answer::Refused(number) => number,
+    }
+}
+
+// The first, the second and the third of the answer's values.
+fn first_of(answer: Answer) -> u32
+    ensures { λ r. ⌜ r ≡ getD (valuesOf answer) 0 0 ⌝ }
+{
+    match answer {
+        Answer::Done => 0,
+        Answer::Start(start) => start,
+        Answer::Stands(mark, _, _) => mark,
+        Answer::Counted(free, _, _) => free,
+        Answer::Blank(place) => place,
+        Answer::Refused(_) => 0,
+    }
+}
+
+fn second_of(answer: Answer) -> u32
+    ensures { λ r. ⌜ r ≡ getD (valuesOf answer) 1 0 ⌝ }
+{
+    match answer {
+        Answer::Done => 0,
+        Answer::Start(_) => 0,
+        Answer::Stands(_, start, _) => start,
+        Answer::Counted(_, runs, _) => runs,
+        Answer::Blank(_) => 0,
+        Answer::Refused(_) => 0,
+    }
+}
+
+fn third_of(answer: Answer) -> u32
+    ensures { λ r. ⌜ r ≡ getD (valuesOf answer) 2 0 ⌝ }
+{
+    match answer {
+        Answer::Done => 0,
+        Answer::Start(_) => 0,
+        Answer::Stands(_, _, length) => length,
+        Answer::Counted(_, _, longest) => longest,
+        Answer::Blank(_) => 0,
+        Answer::Refused(_) => 0,
+    }
+}
+
+fn reply_of(outcome: Outcome) -> Reply
+    ensures { λ r. ⌜ r ≡ replyOf outcome ⌝ }
+{
+    let shape = outcome.shape;
+    let answer = outcome.answer;
+    Reply {
+        shape: shape,
+        number: number_of(answer),
+        first: first_of(answer),
+        second: second_of(answer),
+        third: third_of(answer),
+    }
+}
+
+#[no_mangle]
+pub extern "C" fn pagunlit_fresh(
+    shape: Shape,
+    blocks: u32,
+    map: &mut [u64],
+    catalogue: &mut [Entry],
+) -> Reply
+    ensures { λ r. ⌜ (r ≡ replyOf (freshOutcome shape blocks (now (map .entry)) (now (catalogue .entry))))
+        × (now (map .exit) ≡ freshMap shape blocks (now (map .entry)) (now (catalogue .entry)))
+        × (now (catalogue .exit) ≡ freshEntries shape blocks (now (map .entry)) (now (catalogue .entry))) ⌝ }
+{
+    let outcome = shape.fresh(blocks, map, catalogue);
+    reply_of(outcome)
+}
+
+#[no_mangle]
+pub extern "C" fn pagunlit_search(shape: Shape, map: &[u64], k: u32) -> Reply
+    ensures { λ r. ⌜ r ≡ replyOf (searchOutcome shape (now (map .entry)) k) ⌝ }
+{
+    let outcome = shape.search(map, k);
+    reply_of(outcome)
+}
+
+#[no_mangle]
+pub extern "C" fn pagunlit_survey(shape: Shape, map: &[u64]) -> Reply
+    ensures { λ r. ⌜ r ≡ replyOf (surveyOutcome shape (now (map .entry))) ⌝ }
+{
+    let outcome = shape.survey(map);
+    reply_of(outcome)
+}
+
+#[no_mangle]
+pub extern "C" fn pagunlit_reserve(
+    shape: Shape,
+    map: &mut [u64],
+    catalogue: &mut [Entry],
+    card: &mut [u8],
+    sheet: u32,
+    count: u32,
+) -> Reply
+    ensures { λ r. ⌜ (r ≡ replyOf (reserveOutcome shape (now (map .entry)) (now (catalogue .entry)) (now (card .entry)) sheet count))
+        × (now (map .exit) ≡ reserveMap shape (now (map .entry)) (now (catalogue .entry)) (now (card .entry)) sheet count)
+        × (now (catalogue .exit) ≡ reserveEntries shape (now (map .entry)) (now (catalogue .entry)) (now (card .entry)) sheet count)
+        × (now (card .exit) ≡ reserveCard shape (now (map .entry)) (now (catalogue .entry)) (now (card .entry)) sheet count) ⌝ }
+{
+    let outcome = shape.reserve(map, catalogue, card, sheet, count);
+    reply_of(outcome)
+}
+
+#[no_mangle]
+pub extern "C" fn pagunlit_grow(
+    shape: Shape,
+    map: &mut [u64],
+    catalogue: &mut [Entry],
+    card: &mut [u8],
+    sheet: u32,
+    count: u32,
+) -> Reply
+    ensures { λ r. ⌜ (r ≡ replyOf (growOutcome shape (now (map .entry)) (now (catalogue .entry)) (now (card .entry)) sheet count))
+        × (now (map .exit) ≡ growMap shape (now (map .entry)) (now (catalogue .entry)) (now (card .entry)) sheet count)
+        × (now (catalogue .exit) ≡ growEntries shape (now (map .entry)) (now (catalogue .entry)) (now (card .entry)) sheet count)
+        × (now (card .exit) ≡ growCard shape (now (map .entry)) (now (catalogue .entry)) (now (card .entry)) sheet count) ⌝ }
+{
+    let outcome = shape.grow(map, catalogue, card, sheet, count);
+    reply_of(outcome)
+}
+
+#[no_mangle]
+pub extern "C" fn pagunlit_put(
+    shape: Shape,
+    map: &[u64],
+    catalogue: &[Entry],
+    card: &mut [u8],
+    sheet: u32,
+    place: u32,
+    payload: &[u8],
+) -> Reply
+    ensures { λ r. ⌜ (r ≡ replyOf (putOutcome shape (now (map .entry)) (now (catalogue .entry)) (now (card .entry)) sheet place (now (payload .entry))))
+        × (now (card .exit) ≡ putCard shape (now (map .entry)) (now (catalogue .entry)) (now (card .entry)) sheet place (now (payload .entry))) ⌝ }
+{
+    let outcome = shape.put(map, catalogue, card, sheet, place, payload);
+    reply_of(outcome)
+}
+
+#[no_mangle]
+pub extern "C" fn pagunlit_complete(
+    shape: Shape,
+    map: &[u64],
+    catalogue: &mut [Entry],
+    card: &[u8],
+    sheet: u32,
+) -> Reply
+    ensures { λ r. ⌜ (r ≡ replyOf (completeOutcome shape (now (map .entry)) (now (catalogue .entry)) (now (card .entry)) sheet))
+        × (now (catalogue .exit) ≡ completeEntries shape (now (map .entry)) (now (catalogue .entry)) (now (card .entry)) sheet) ⌝ }
+{
+    let outcome = shape.complete(map, catalogue, card, sheet);
+    reply_of(outcome)
+}
+
+#[no_mangle]
+pub extern "C" fn pagunlit_pause(
+    shape: Shape,
+    map: &[u64],
+    catalogue: &mut [Entry],
+    sheet: u32,
+) -> Reply
+    ensures { λ r. ⌜ (r ≡ replyOf (pauseOutcome shape (now (map .entry)) (now (catalogue .entry)) sheet))
+        × (now (catalogue .exit) ≡ pauseEntries shape (now (map .entry)) (now (catalogue .entry)) sheet) ⌝ }
+{
+    let outcome = shape.pause(map, catalogue, sheet);
+    reply_of(outcome)
+}
+
+#[no_mangle]
+pub extern "C" fn pagunlit_release(
+    shape: Shape,
+    map: &mut [u64],
+    catalogue: &mut [Entry],
+    sheet: u32,
+) -> Reply
+    ensures { λ r. ⌜ (r ≡ replyOf (releaseOutcome shape (now (map .entry)) (now (catalogue .entry)) sheet))
+        × (now (map .exit) ≡ releaseMap shape (now (map .entry)) (now (catalogue .entry)) sheet)
+        × (now (catalogue .exit) ≡ releaseEntries shape (now (map .entry)) (now (catalogue .entry)) sheet) ⌝ }
+{
+    let outcome = shape.release(map, catalogue, sheet);
+    reply_of(outcome)
+}
+
+#[no_mangle]
+pub extern "C" fn pagunlit_show(
+    shape: Shape,
+    map: &[u64],
+    catalogue: &[Entry],
+    card: &[u8],
+    sheet: u32,
+    place: u32,
+    buffer: &mut [u8],
+) -> Reply
+    ensures { λ r. ⌜ (r ≡ replyOf (showOutcome shape (now (map .entry)) (now (catalogue .entry)) (now (card .entry)) sheet place (now (buffer .entry))))
+        × (now (buffer .exit) ≡ showBuffer shape (now (map .entry)) (now (catalogue .entry)) (now (card .entry)) sheet place (now (buffer .entry))) ⌝ }
+{
+    let outcome = shape.show(map, catalogue, card, sheet, place, buffer);
+    reply_of(outcome)
+}
+
+#[no_mangle]
+pub extern "C" fn pagunlit_standing(
+    shape: Shape,
+    map: &[u64],
+    catalogue: &[Entry],
+    sheet: u32,
+) -> Reply
+    ensures { λ r. ⌜ r ≡ replyOf (standingOutcome shape (now (map .entry)) (now (catalogue .entry)) sheet) ⌝ }
+{
+    let outcome = shape.standing(map, catalogue, sheet);
+    reply_of(outcome)
+}
+
+// Single blocks, as the crate block has them.
+
+#[no_mangle]
+pub extern "C" fn seal(sheet: u32, place: u32, payload: &[u8], bytes: &mut [u8]) -> u32
+    ensures { λ r. ⌜ (r ≡ sealAnswer (now (payload .entry)) (now (bytes .entry)))
+        × (now (bytes .exit) ≡ afterSeal sheet place (now (payload .entry)) (now (bytes .entry))) ⌝ }
+{
+    block::seal(sheet, place, payload, bytes)
+}
+
+#[no_mangle]
+pub extern "C" fn check(bytes: &[u8]) -> u32
+    ensures { λ r. ⌜ r ≡ checkAnswer (now (bytes .entry)) ⌝ }
+{
+    block::check(bytes)
+}
