@@ -3,8 +3,8 @@ use crate::digest;
 use crate::line;
 use crate::line::Line;
 use crate::state::State;
-use calls::Answer;
 use libc::STDOUT_FILENO;
+use standings::Answer;
 
 // A single byte of text.
 pub fn sign(byte: u8) {

@@ -2,10 +2,10 @@
 ghost use mathlib.Core.Path.{_≡_};
 ghost use lib.ListN;
 use crate::lend::Turn;
-use calls::Answer;
 use card::Outcome;
 use card::Shape;
 use catalogue::Entry;
+use standings::Answer;
 
 // The shape last handed back, the entries, and how many words of the map, entries and bytes of the card are lent.
 pub struct State {

@@ -5,13 +5,13 @@ use mathlib.Core.Path.{_≡_, sym, ap, _∙_, subst}
 use mathlib.Core.Bool.{Bool}
 use mathlib.Core.List.{List, [], _∷_}
 use Prim.Native.Nat.{ℕ}
-use Rattle.calls.specs.Openings.{openedOf, rowOf}
-use Rattle.calls.specs.Rows.{Row, row, refused, firstOf}
-use Rattle.calls.specs.Standings.{isAbsent, isPaused, isOpen, isComplete}
-use Rattle.calls.specs.declared.Opened.the-variants.{Stands}
-use Rattle.calls.specs.declared.Standing.{Standing}
-use Rattle.calls.specs.declared.Standing.the-variants.{Absent, Open}
-use Rattle.calls.proofs.Openings.{rowsOf, opened, not-absent, not-open, is-absent, is-open, Not}
+use Rattle.standings.specs.Openings.{openedOf, rowOf}
+use Rattle.standings.specs.Rows.{Row, row, refused, firstOf}
+use Rattle.standings.specs.Standings.{isAbsent, isPaused, isOpen, isComplete}
+use Rattle.standings.specs.declared.Opened.the-variants.{Stands}
+use Rattle.standings.specs.declared.Standing.{Standing}
+use Rattle.standings.specs.declared.Standing.the-variants.{Absent, Open}
+use Rattle.standings.proofs.Openings.{rowsOf, opened, not-absent, not-open, is-absent, is-open, Not}
 
 module _ (fits : Bool) (c sheet : ℕ) (s : Standing) (rows : List Row) where
   abbrev absentOnly : List Row

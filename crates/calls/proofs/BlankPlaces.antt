@@ -14,15 +14,16 @@ use Rattle.freemap.proofs.Runs.{all-intro}
 use Rattle.block.specs.Card.{blockOf}
 use Rattle.block.specs.Sealed.{blank}
 use Rattle.catalogue.specs.declared.Entry.{Entry}
-use Rattle.calls.specs.Effects.{completeVerdict, blankPlace, startAt}
-use Rattle.calls.specs.Rows.{Row, row, refused, firstOf}
-use Rattle.calls.specs.Standings.{standingOf, isAbsent, isPaused, isComplete, isDamaged, lengthOf}
+use Rattle.calls.specs.Effects.{completeVerdict, blankPlace}
+use Rattle.standings.specs.Searches.{startAt}
+use Rattle.standings.specs.Rows.{Row, row, refused, firstOf}
+use Rattle.standings.specs.Standings.{standingOf, isAbsent, isPaused, isComplete, isDamaged, lengthOf}
 use Rattle.calls.specs.Table.{tableOf}
 use Rattle.calls.specs.Views.{viewOn}
-use Rattle.calls.specs.declared.Standing.{Standing}
-use Rattle.calls.specs.declared.Standing.the-variants.{Absent, Paused, Open, Complete, Damaged}
-use Rattle.calls.proofs.Least.{least-passes, none-passes}
-use Rattle.calls.proofs.Openings.{open-extent}
+use Rattle.standings.specs.declared.Standing.{Standing}
+use Rattle.standings.specs.declared.Standing.the-variants.{Absent, Paused, Open, Complete, Damaged}
+use Rattle.standings.proofs.Least.{least-passes, none-passes}
+use Rattle.standings.proofs.Openings.{open-extent}
 
 -- a row with another number than the verdict's does not hold
 later : (number m : ℕ) (test : Bool) (rows : List Row) → (number ≡ m → ⊥) → firstOf (row number test ∷ rows) ≡ refused m → (test ≡ false) × (firstOf rows ≡ refused m)

@@ -21,11 +21,11 @@ use Rattle.freemap.proofs.Runs.{all-intro, all-elim, all-break}
 use denote.Enum.Declared as Declared
 use types.Run as Run
 use Rattle.calls.proofs.Filling as FillingType
-use Rattle.calls.specs.Effects.{startAt}
+use Rattle.standings.specs.Searches.{startAt}
 use Rattle.calls.specs.Fillings.{blankAt, fillingOf, withPlace}
 use Rattle.calls.specs.declared.Filling.{Filling}
 use Rattle.calls.specs.declared.Filling.the-variants.{Filled, Blank, Broken}
-use Rattle.calls.proofs.Least.{orElse, least-passes, none-passes, least-more}
+use Rattle.standings.proofs.Least.{orElse, least-passes, none-passes, least-more}
 
 -- ---- a blank block is not sound
 

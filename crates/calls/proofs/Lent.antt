@@ -8,15 +8,15 @@ use lib.Dec.{eqb}
 use lib.ListN.{length}
 use Rattle.freemap.specs.Blocks.{free}
 use Rattle.catalogue.specs.declared.Entry.{Entry}
-use Rattle.calls.specs.Openings.{openedOf}
-use Rattle.calls.specs.Standings.{standingOf}
-use Rattle.calls.specs.Views.{shapeFits, sheetsFit}
-use Rattle.calls.specs.declared.Opened.{Opened}
-use Rattle.calls.specs.declared.Opened.the-variants.{Refused, Stands}
-use Rattle.calls.specs.declared.Standing.{Standing}
-use Rattle.calls.specs.declared.Standing.the-variants.{Open}
-use Rattle.calls.proofs.Limits.{CardFits, card-fits}
-use Rattle.calls.proofs.Openings.{Extent, opened, open-extent}
+use Rattle.standings.specs.Openings.{openedOf}
+use Rattle.standings.specs.Standings.{standingOf}
+use Rattle.standings.specs.Limits.{shapeFits, sheetsFit}
+use Rattle.standings.specs.declared.Opened.{Opened}
+use Rattle.standings.specs.declared.Opened.the-variants.{Refused, Stands}
+use Rattle.standings.specs.declared.Standing.{Standing}
+use Rattle.standings.specs.declared.Standing.the-variants.{Open}
+use Rattle.standings.proofs.Limits.{CardFits, card-fits}
+use Rattle.standings.proofs.Openings.{Extent, opened, open-extent}
 
 pub record Lent : Type 0 where
   pub n : ℕ

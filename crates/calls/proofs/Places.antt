@@ -7,8 +7,8 @@ use native.Mathlib.Omega.{arith}
 use lib.Dec.{leb, eqb}
 use borrow.Author.Tests.{le-leb, lt-leb, eq-eqb, ne-eqb}
 use Rattle.catalogue.specs.declared.Entry.{Entry}
-use Rattle.calls.proofs.Limits.{CardFits}
-use Rattle.calls.proofs.Openings.{Extent}
+use Rattle.standings.proofs.Limits.{CardFits}
+use Rattle.standings.proofs.Openings.{Extent}
 
 -- Row 3, for a sheet of so many blocks: a place that it does not have, or a slice that is not 496 bytes long.
 module _ (blocks place len : ℕ) where

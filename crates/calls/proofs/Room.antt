@@ -11,16 +11,18 @@ use Rattle.freemap.specs.Blocks.{all, free, fit, leastFit}
 use Rattle.freemap.specs.declared.Found.{Found}
 use Rattle.freemap.specs.declared.Found.the-variants.{At, Nothing}
 use Rattle.freemap.proofs.Bools.{and-left, and-right}
-use Rattle.calls.specs.Effects.{startAt, reserveVerdict, reserveStart, growVerdict}
-use Rattle.calls.specs.Rows.{Row, Verdict, accepted, refused, firstOf}
-use Rattle.calls.specs.Standings.{isAbsent, isPaused, isComplete, isDamaged, startOf, lengthOf}
-use Rattle.calls.specs.Table.{none, tableOf}
+use Rattle.standings.specs.Searches.{startAt}
+use Rattle.calls.specs.Effects.{reserveVerdict, reserveStart, growVerdict}
+use Rattle.standings.specs.Rows.{Row, Verdict, accepted, refused, firstOf}
+use Rattle.standings.specs.Standings.{isAbsent, isPaused, isComplete, isDamaged, startOf, lengthOf}
+use Rattle.standings.specs.Searches.{none}
+use Rattle.calls.specs.Table.{tableOf}
 use Rattle.calls.specs.Views.{viewOn}
-use Rattle.calls.specs.declared.Standing.{Standing}
-use Rattle.calls.specs.declared.Standing.the-variants.{Absent, Paused, Open, Complete, Damaged}
-use Rattle.calls.proofs.Least.{least-passes}
+use Rattle.standings.specs.declared.Standing.{Standing}
+use Rattle.standings.specs.declared.Standing.the-variants.{Absent, Paused, Open, Complete, Damaged}
+use Rattle.standings.proofs.Least.{least-passes}
 use Rattle.calls.proofs.Lent.{Lent, Sized, standing, sized}
-use Rattle.calls.proofs.Openings.{open-extent}
+use Rattle.standings.proofs.Openings.{open-extent}
 
 -- ---- no row of an accepted call holds
 

@@ -3,7 +3,7 @@
 use mathlib.Core.Path.{_≡_, refl, ap}
 use Prim.Native.Nat.{ℕ}
 use native.Mathlib.Omega.{arith}
-use Rattle.calls.specs.Rows.{Verdict, accepted, refused}
+use Rattle.standings.specs.Rows.{Verdict, accepted, refused}
 use Rattle.calls.specs.Rulings.{rulingOf}
 use Rattle.calls.specs.declared.Ruling.{Ruling}
 use Rattle.calls.specs.declared.Ruling.the-variants.{At, Refused}

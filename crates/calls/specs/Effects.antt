@@ -1,24 +1,22 @@
 -- What each call answers and leaves (document 01, "The ledger, call by call"): its verdict, then its change, or nothing changed.
 -- Assumes nothing.
 use Prim.Native.Nat.{ℕ, _+_, _-_}
-use mathlib.Core.Bool.{true, false, cond, not}
-use mathlib.Core.List.{List, [], _∷_}
+use mathlib.Core.Bool.{true, false, cond}
+use mathlib.Core.List.{List}
 use lib.Dec.{eqb}
 use lib.ListN.{length}
 use Rattle.freemap.specs.Blocks as map-blocks
 use Rattle.freemap.specs.Blocks.{least, leastFit}
 use Rattle.freemap.specs.Maps.{marked}
-use Rattle.freemap.specs.declared.Found.{Found}
-use Rattle.freemap.specs.declared.Found.the-variants.{At, Nothing}
-use Rattle.survey.specs.Survey.{countsOf}
 use Rattle.block.specs.Card.{blockOf, withBlock, zeroed}
 use Rattle.block.specs.Sealed.{sealed, payloadOf}
 use Rattle.catalogue.specs.declared.Entry.{Entry}
-use Rattle.calls.specs.Rows.{row, Verdict, firstOf, settle}
-use Rattle.calls.specs.Table.{none, reserve, put, grow, complete, pause, release, show, standing, verdictOf}
-use Rattle.calls.specs.Views.{shapeFits, viewAt, viewOn}
-use Rattle.calls.specs.declared.Answer.{Answer}
-use Rattle.calls.specs.declared.Answer.the-variants.{Done, Start, Stands, Counted, Blank, Refused}
+use Rattle.standings.specs.Rows.{Verdict, settle}
+use Rattle.standings.specs.Searches.{startAt}
+use Rattle.calls.specs.Table.{reserve, put, grow, complete, pause, release, show, standing, verdictOf}
+use Rattle.calls.specs.Views.{viewAt, viewOn}
+use Rattle.standings.specs.declared.Answer.{Answer}
+use Rattle.standings.specs.declared.Answer.the-variants.{Done, Start, Stands, Blank, Refused}
 use Rattle.calls.specs.declared.Out.{Out}
 
 abbrev pub entryOf : ℕ → ℕ → ℕ → Entry
@@ -30,11 +28,6 @@ outOf free e answer = record { free = free; entry = e; answer = answer }
 -- A refusal hands the free count and the entry back as they came.
 abbrev pub refusalOut : ℕ → Entry → ℕ → Out
 refusalOut free e number = outOf free e (Refused number)
-
--- The start that a search found.
-abbrev pub startAt : Found → ℕ
-startAt (At s) = s
-startAt Nothing = 0
 
 -- Reserve: Absent becomes Open at the least fit, its k blocks taken and filled with zeros.
 module _ (n free : ℕ) (map card : List ℕ) (c : ℕ) (e : Entry) (sheet k : ℕ) where
@@ -147,17 +140,3 @@ module _ (n free : ℕ) (map card : List ℕ) (c : ℕ) (e : Entry) (sheet place
   unfoldable pub showBuffer : List ℕ
   unfolding showVerdict
   showBuffer = settle showVerdict (payloadOf (blockOf card (e .start + place))) (λ number. buffer)
-
--- Search and survey are lent a shape and a map alone; fresh reads nothing of the shape it takes.
-unfoldable pub searchAnswer : ℕ → ℕ → List ℕ → ℕ → Answer
-unfolding shapeFits
-searchAnswer n free map k =
-    settle (firstOf (row 1 (not (shapeFits n free (length map))) ∷ row 3 (eqb k 0) ∷ row 10 (none (leastFit (map-blocks.free map) 0 n k)) ∷ []))
-    (Start (startAt (leastFit (map-blocks.free map) 0 n k))) Refused
-
-unfoldable pub surveyAnswer : ℕ → ℕ → List ℕ → Answer
-unfolding shapeFits
-surveyAnswer n free map =
-    settle (firstOf (row 1 (not (shapeFits n free (length map))) ∷ []))
-    (Counted (countsOf (map-blocks.free map) n .free) (countsOf (map-blocks.free map) n .runs) (countsOf (map-blocks.free map) n .longest))
-    Refused

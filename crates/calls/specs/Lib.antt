@@ -1,10 +1,6 @@
--- What the contracts of `calls` cite: standings, the table of refusals, and what each call leaves.
-pub mod Answers
+-- What the contracts of `calls` cite: the table of refusals, and what each call leaves.
 pub mod Effects
 pub mod Fillings
-pub mod Openings
-pub mod Rows
 pub mod Rulings
-pub mod Standings
 pub mod Table
 pub mod Views

@@ -1,7 +1,7 @@
 -- The ruling on a call that takes blocks: its verdict, with where the blocks start.
 -- Assumes nothing.
 use Prim.Native.Nat.{ℕ}
-use Rattle.calls.specs.Rows.{Verdict, accepted, refused}
+use Rattle.standings.specs.Rows.{Verdict, accepted, refused}
 use Rattle.calls.specs.declared.Ruling.{Ruling}
 use Rattle.calls.specs.declared.Ruling.the-variants.{At, Refused}
 

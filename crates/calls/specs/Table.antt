@@ -2,16 +2,15 @@
 -- entry, 5 to 8, 3, 4 for blocks, 9, 10 or 11, and last 4 for the count. A call is refused with the first row that holds.
 -- Assumes nothing.
 use Prim.Native.Nat.{ℕ, _+_}
-use mathlib.Core.Bool.{Bool, true, false, not, _||_}
+use mathlib.Core.Bool.{Bool, not, _||_}
 use mathlib.Core.List.{List, [], _∷_}
 use lib.Dec.{eqb, leb, ltb}
 use lib.ListN.{length}
 use Rattle.freemap.specs.Blocks.{all, fit, leastFit}
-use Rattle.freemap.specs.declared.Found.{Found}
-use Rattle.freemap.specs.declared.Found.the-variants.{At, Nothing}
-use Rattle.calls.specs.Rows.{Row, row, Verdict, firstOf}
-use Rattle.calls.specs.Standings.{isAbsent, isPaused, isOpen, isComplete, isDamaged, startOf, lengthOf}
-use Rattle.calls.specs.declared.Standing.{Standing}
+use Rattle.standings.specs.Searches.{none}
+use Rattle.standings.specs.Rows.{Row, row, Verdict, firstOf}
+use Rattle.standings.specs.Standings.{isAbsent, isPaused, isOpen, isComplete, isDamaged, startOf, lengthOf}
+use Rattle.standings.specs.declared.Standing.{Standing}
 
 -- The calls of a list.
 pub data Call : Type 0 where
@@ -39,10 +38,6 @@ pub record View : Type 0 where
   -- a place of the sheet is blank, or its block is sound
   pub blank : ℕ → Bool
   pub sound : ℕ → Bool
-
-abbrev pub none : Found → Bool
-none (At s) = false
-none Nothing = true
 
 -- Rows 5 to 8, for a standing that a call does not admit.
 abbrev pub absentRow : View → Row

@@ -1,29 +1,17 @@
 -- What the program's rows read: the view of shape, map, entry and card that a call is lent.
 -- Assumes nothing.
-use Prim.Native.Nat.{ℕ, _+_, _*_, _/_}
-use mathlib.Core.Bool.{Bool, false, not, _&&_}
+use Prim.Native.Nat.{ℕ, _+_, _*_}
+use mathlib.Core.Bool.{false, not, _&&_}
 use mathlib.Core.List.{List}
-use lib.Dec.{eqb, leb}
+use lib.Dec.{eqb}
 use lib.ListN.{length}
 use Rattle.freemap.specs.Blocks as map-blocks
 use Rattle.block.specs.Card.{blockOf}
 use Rattle.block.specs.Sealed as sealed-block
 use Rattle.catalogue.specs.declared.Entry.{Entry}
-use Rattle.calls.specs.Standings.{standingOf}
+use Rattle.standings.specs.Standings.{standingOf}
+use Rattle.standings.specs.Limits.{shapeFits, sheetsFit}
 use Rattle.calls.specs.Table.{View}
-
--- n and the free count are within their limits, and the map is n/64 rounded up words long.
-unfoldable pub shapeFits : ℕ → ℕ → ℕ → Bool
-shapeFits n free maplen = leb 1 n && leb n 262144 && leb free n && eqb maplen ((n + 63) / 64)
-
--- c is within its limits.
-unfoldable pub sheetsFit : ℕ → Bool
-sheetsFit c = leb 1 c && leb c 1024
-
--- Fresh takes n itself, and all of it is free.
-unfoldable pub freshFits : ℕ → ℕ → ℕ → Bool
-unfolding shapeFits sheetsFit
-freshFits n maplen c = shapeFits n n maplen && sheetsFit c
 
 -- A call that is not lent the card.
 unfoldable pub viewAt : ℕ → ℕ → List ℕ → ℕ → Entry → View

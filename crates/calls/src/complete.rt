@@ -6,18 +6,18 @@ ghost use Rattle.block.specs.Card.{blockOf};
 ghost use Rattle.block.specs.Sealed.{blank, sound};
 ghost use Rattle.calls.specs.Effects.{completeOut};
 ghost use Rattle.calls.specs.Fillings.{fillingOf, orBlank, withPlace};
-use crate::Answer;
 use crate::Filling;
-use crate::Opened;
 use crate::Out;
-use crate::Standing;
-use crate::opening::open_on;
-use crate::opening::refusal;
-use crate::opening::refused_row;
-use crate::opening::row_of;
+use crate::refusal;
 use block::blank_block;
 use block::sound_block;
 use catalogue::Entry;
+use standings::Answer;
+use standings::Opened;
+use standings::Standing;
+use standings::opening::open_on;
+use standings::opening::refused_row;
+use standings::opening::row_of;
 
 // One place more, in block b. A blank block fails the test for a sound one at its first bytes, so that a block is read
 // once, or nearly.

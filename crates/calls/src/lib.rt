@@ -1,32 +1,17 @@
-// The calls on a card, for an entry by value: the standing of a sheet, the refusals in their order, and what each call
-// changes (document 01, "The ledger, call by call" and "What the caller gets instead").
+// The calls on a card, for an entry by value: the refusals in their order, and what each call changes (document 01, "The ledger, call by call" and "What the caller gets instead").
 pub mod complete;
 pub mod grow;
-pub mod opening;
 pub mod pause;
 pub mod put;
 pub mod release;
 pub mod report;
 pub mod reserve;
 pub mod show;
-pub mod whole;
 
+ghost use mathlib.Core.Path.{_≡_};
+ghost use Rattle.calls.specs.Effects.{refusalOut};
 use catalogue::Entry;
-
-// What an entry says. An Open and a Complete sheet have a start and a length.
-pub enum Standing {
-    Absent,
-    Paused,
-    Open(u32, u32),
-    Complete(u32, u32),
-    Damaged,
-}
-
-// A sheet after the rows that every call begins with: refused, or its standing, which is not damaged.
-pub enum Opened {
-    Refused(u32),
-    Stands(Standing),
-}
+use standings::Answer;
 
 // The ruling on a call that takes blocks: where they start, or the refusal's number.
 pub enum Ruling {
@@ -42,20 +27,20 @@ pub enum Filling {
     Broken,
 }
 
-// What a call answers: that it was done, a start, a standing's mark, start and length, a survey's counts, the blank place
-// that goes with 9, or another refusal's number.
-pub enum Answer {
-    Done,
-    Start(u32),
-    Stands(u32, u32, u32),
-    Counted(u32, u32, u32),
-    Blank(u32),
-    Refused(u32),
-}
-
 // What a call that may change a sheet hands back: the free count, the sheet's entry and the answer.
 pub struct Out {
     pub free: u32,
     pub entry: Entry,
     pub answer: Answer,
+}
+
+// A refusal hands the free count and the entry back as they came.
+pub fn refusal(free: u32, entry: Entry, row: u32) -> Out
+    ensures { λ r. ⌜ r ≡ refusalOut free entry row ⌝ }
+{
+    Out {
+        free: free,
+        entry: entry,
+        answer: Answer::Refused(row),
+    }
 }

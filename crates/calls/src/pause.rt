@@ -1,15 +1,15 @@
 // Pause: Absent becomes Paused.
 ghost use mathlib.Core.Path.{_≡_};
 ghost use Rattle.calls.specs.Effects.{pauseOut};
-use crate::Answer;
-use crate::Opened;
 use crate::Out;
-use crate::Standing;
-use crate::opening::open_sheet;
-use crate::opening::refusal;
-use crate::opening::refused_row;
-use crate::opening::row_of;
+use crate::refusal;
 use catalogue::Entry;
+use standings::Answer;
+use standings::Opened;
+use standings::Standing;
+use standings::opening::open_sheet;
+use standings::opening::refused_row;
+use standings::opening::row_of;
 
 pub fn pause(n: u32, free: u32, map: &[u64], c: usize, entry: Entry, sheet: u32) -> Out
     ensures { λ r. ⌜ r ≡ pauseOut n free (now (map .entry)) c entry sheet ⌝ }

@@ -1,15 +1,15 @@
 // Put: on Open, the block of a place becomes the sealed payload.
 ghost use mathlib.Core.Path.{_≡_};
 ghost use Rattle.calls.specs.Effects.{putAnswer, putCard};
-use crate::Answer;
-use crate::Opened;
-use crate::Standing;
-use crate::opening::open_on;
-use crate::opening::refused_row;
-use crate::opening::row_of;
 use block::PAYLOAD;
 use block::write_block;
 use catalogue::Entry;
+use standings::Answer;
+use standings::Opened;
+use standings::Standing;
+use standings::opening::open_on;
+use standings::opening::refused_row;
+use standings::opening::row_of;
 
 pub fn put(
     n: u32,

@@ -1,16 +1,16 @@
 // Release: any standing but Absent becomes Absent, and its blocks free. The card's bytes stay.
 ghost use mathlib.Core.Path.{_≡_};
 ghost use Rattle.calls.specs.Effects.{releaseOut, releaseMap};
-use crate::Answer;
-use crate::Opened;
 use crate::Out;
-use crate::Standing;
-use crate::opening::open_sheet;
-use crate::opening::refusal;
-use crate::opening::refused_row;
+use crate::refusal;
 use catalogue::Entry;
 use freemap::run::FREE;
 use freemap::run::mark;
+use standings::Answer;
+use standings::Opened;
+use standings::Standing;
+use standings::opening::open_sheet;
+use standings::opening::refused_row;
 
 pub fn release(n: u32, free: u32, map: &mut [u64], c: usize, entry: Entry, sheet: u32) -> Out
     ensures { λ r. ⌜ (r ≡ releaseOut n free (now (map .entry)) c entry sheet) × (now (map .exit) ≡ releaseMap n free (now (map .entry)) c entry sheet) ⌝ }

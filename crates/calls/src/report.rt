@@ -1,11 +1,11 @@
 // Standing: answers mark, start and length.
 ghost use mathlib.Core.Path.{_≡_};
 ghost use Rattle.calls.specs.Effects.{standingAnswer};
-use crate::Answer;
-use crate::Opened;
-use crate::opening::open_sheet;
-use crate::opening::refused_row;
 use catalogue::Entry;
+use standings::Answer;
+use standings::Opened;
+use standings::opening::open_sheet;
+use standings::opening::refused_row;
 
 pub fn standing(n: u32, free: u32, map: &[u64], c: usize, entry: Entry, sheet: u32) -> Answer
     ensures { λ r. ⌜ r ≡ standingAnswer n free (now (map .entry)) c entry sheet ⌝ }

@@ -3,21 +3,21 @@
 ghost use mathlib.Core.Path.{_≡_};
 ghost use Rattle.calls.specs.Effects.{reserveVerdict, reserveStart, reserveOut, reserveMap, reserveCard};
 ghost use Rattle.calls.specs.Rulings.{rulingOf};
-use crate::Answer;
-use crate::Opened;
 use crate::Out;
 use crate::Ruling;
-use crate::Standing;
-use crate::opening::open_on;
-use crate::opening::refusal;
-use crate::opening::refused_row;
-use crate::opening::row_of;
+use crate::refusal;
 use block::zero_blocks;
 use catalogue::Entry;
 use freemap::Found;
 use freemap::run::TAKEN;
 use freemap::run::mark;
 use freemap::search::search;
+use standings::Answer;
+use standings::Opened;
+use standings::Standing;
+use standings::opening::open_on;
+use standings::opening::refused_row;
+use standings::opening::row_of;
 
 // The least fit, or the row that refuses the call.
 fn reserve_ruling(

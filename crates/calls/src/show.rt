@@ -1,16 +1,16 @@
 // Show: copies a payload of a Complete sheet. The entry is taken apart first, and no block is read unless it is Complete.
 ghost use mathlib.Core.Path.{_≡_};
 ghost use Rattle.calls.specs.Effects.{showAnswer, showBuffer};
-use crate::Answer;
-use crate::Opened;
-use crate::Standing;
-use crate::opening::open_on;
-use crate::opening::refused_row;
-use crate::opening::row_of;
 use block::PAYLOAD;
 use block::copy_payload;
 use block::sound_block;
 use catalogue::Entry;
+use standings::Answer;
+use standings::Opened;
+use standings::Standing;
+use standings::opening::open_on;
+use standings::opening::refused_row;
+use standings::opening::row_of;
 
 pub fn show(
     n: u32,

@@ -14,9 +14,9 @@ use Rattle.catalogue.specs.Entries.{entryAt, slotAt}
 use Rattle.catalogue.specs.declared.Entry.{Entry}
 use Rattle.catalogue.proofs.Storing.{stored-back}
 use Rattle.calls.specs.Effects as effects
-use Rattle.calls.specs.Rows.{Verdict, refused, settle}
-use Rattle.calls.specs.declared.Answer.{Answer}
-use Rattle.calls.specs.declared.Answer.the-variants.{Done, Start, Blank, Refused}
+use Rattle.standings.specs.Rows.{Verdict, refused, settle}
+use Rattle.standings.specs.declared.Answer.{Answer}
+use Rattle.standings.specs.declared.Answer.the-variants.{Done, Start, Blank, Refused}
 use Rattle.calls.specs.declared.Out.{Out}
 use Rattle.card.specs.declared.Shape.{Shape}
 use Rattle.card.specs.Calls.{entryOf, outcomeOf, told, reserveOut, reserveMap, reserveCard, growOut, growMap, growCard, putOutcome, putCard, completeOut, pauseOut, releaseOut, releaseMap, showOutcome, showBuffer}

@@ -9,9 +9,10 @@ use Rattle.freemap.specs.Maps as maps
 use Rattle.catalogue.specs.declared.Entry.{Entry}
 use Rattle.catalogue.specs.declared.Slot.{Slot}
 use Rattle.calls.specs.Effects as effects
-use Rattle.calls.specs.Views.{freshFits}
-use Rattle.calls.specs.declared.Answer.{Answer}
-use Rattle.calls.specs.declared.Answer.the-variants.{Done, Start, Stands, Counted, Blank, Refused}
+use Rattle.standings.specs.Searches as searches
+use Rattle.standings.specs.Limits.{freshFits}
+use Rattle.standings.specs.declared.Answer.{Answer}
+use Rattle.standings.specs.declared.Answer.the-variants.{Done, Start, Stands, Counted, Blank, Refused}
 use Rattle.calls.specs.declared.Out.{Out}
 use Rattle.card.specs.declared.Shape.{Shape}
 use Rattle.card.specs.declared.Outcome.{Outcome}
@@ -49,10 +50,10 @@ abbrev pub freshMap : Shape → ℕ → List ℕ → ℕ → List ℕ
 freshMap shape blocks map count = cond (freshFits blocks (length map) count) (maps.freshMap blocks (length map)) map
 
 abbrev pub searchOutcome : Shape → List ℕ → ℕ → Outcome
-searchOutcome shape map k = told shape (effects.searchAnswer (shape .blocks) (shape .free) map k)
+searchOutcome shape map k = told shape (searches.searchAnswer (shape .blocks) (shape .free) map k)
 
 abbrev pub surveyOutcome : Shape → List ℕ → Outcome
-surveyOutcome shape map = told shape (effects.surveyAnswer (shape .blocks) (shape .free) map)
+surveyOutcome shape map = told shape (searches.surveyAnswer (shape .blocks) (shape .free) map)
 
 abbrev pub reserveOut : Shape → List ℕ → List ℕ → Slot → ℕ → ℕ → Out
 reserveOut shape map card slot sheet k = effects.reserveOut (shape .blocks) (shape .free) map card (slot .count) (slot .entry) sheet k

@@ -5,10 +5,10 @@ ghost use mathlib.Core.Path.{_≡_};
 ghost use lib.ListN.{length, set};
 ghost use Rattle.catalogue.specs.Entries.{slotAt, clearedIf};
 ghost use Rattle.card.specs.Calls.{entryOf, outcomeOf, acceptedOf, freshOutcome, freshMap, searchOutcome, surveyOutcome, reserveOut, reserveMap, reserveCard, growOut, growMap, growCard, putOutcome, putCard, completeOut, pauseOut, releaseOut, releaseMap, showOutcome, showBuffer, standingOutcome};
-use calls::Answer;
 use calls::Out;
 use catalogue::Entry;
 use catalogue::Slot;
+use standings::Answer;
 
 // n and the carried free count.
 #[repr(C)]
@@ -61,7 +61,7 @@ fn accepted_of(outcome: Outcome) -> bool
 fn fresh_core(shape: Shape, blocks: u32, map: &mut [u64], count: usize) -> Outcome
     ensures { λ r. ⌜ (r ≡ freshOutcome shape blocks (now (map .entry)) count) × (now (map .exit) ≡ freshMap shape blocks (now (map .entry)) count) ⌝ }
 {
-    if calls::whole::fresh(blocks, map, count) {
+    if standings::whole::fresh(blocks, map, count) {
         return Outcome {
             shape: Shape {
                 blocks: blocks,
@@ -246,7 +246,7 @@ impl Shape {
     pub fn search(self, map: &[u64], k: u32) -> Outcome
         ensures { λ r. ⌜ r ≡ searchOutcome self (now (map .entry)) k ⌝ }
     {
-        let answer = calls::whole::search(self.blocks, self.free, map, k);
+        let answer = standings::whole::search(self.blocks, self.free, map, k);
         Outcome {
             shape: self,
             answer: answer,
@@ -257,7 +257,7 @@ impl Shape {
     pub fn survey(self, map: &[u64]) -> Outcome
         ensures { λ r. ⌜ r ≡ surveyOutcome self (now (map .entry)) ⌝ }
     {
-        let answer = calls::whole::survey(self.blocks, self.free, map);
+        let answer = standings::whole::survey(self.blocks, self.free, map);
         Outcome {
             shape: self,
             answer: answer,

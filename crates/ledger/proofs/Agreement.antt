@@ -20,11 +20,12 @@ use Rattle.block.proofs.Blank.{blank-zeros}
 use Rattle.block.proofs.Sealed.{sound-own, sound-zeros, blank-sealed}
 use Rattle.catalogue.specs.Entries.{entryAt}
 use Rattle.catalogue.specs.declared.Entry.{Entry}
-use Rattle.calls.specs.Rows.{Row, row, refused, firstOf}
-use Rattle.calls.specs.Standings.{extentHolds, standingOf}
+use Rattle.standings.specs.Rows.{Row, row, refused, firstOf}
+use Rattle.standings.specs.Standings.{extentHolds, standingOf}
 use Rattle.calls.specs.Table.{Call, reserve, put, grow, complete, pause, release, show, standing, View, tableOf, verdictOf}
-use Rattle.calls.specs.Views.{shapeFits, sheetsFit, viewAt, viewOn}
-use Rattle.calls.proofs.Openings.{skip, stop}
+use Rattle.standings.specs.Limits.{shapeFits, sheetsFit}
+use Rattle.calls.specs.Views.{viewAt, viewOn}
+use Rattle.standings.proofs.Openings.{skip, stop}
 use Rattle.ledger.specs.Ledger.{Place, Blank, Payload, Sheet, Absent, Paused, Open, Complete, standingIn, startIn, lengthIn, isBlank, sheetAt, placeAt, cover, freeIn, spareIn, viewIn, sheetOf, verdictIn}
 use Rattle.ledger.specs.Claim.{entryIn, blockIn}
 use Rattle.ledger.specs.Steps.{State}

@@ -26,9 +26,9 @@ use Rattle.freemap.specs.Maps as maps
 use Rattle.freemap.proofs.Bools.{and-left, and-right}
 use Rattle.catalogue.specs.Entries.{absent, clearedIf}
 use Rattle.catalogue.specs.declared.Entry.{Entry}
-use Rattle.calls.specs.Answers.{numberOf}
-use Rattle.calls.specs.Views.{freshFits, shapeFits, sheetsFit}
-use Rattle.calls.specs.declared.Answer.the-variants.{Done, Refused}
+use Rattle.standings.specs.Answers.{numberOf}
+use Rattle.standings.specs.Limits.{freshFits, shapeFits, sheetsFit}
+use Rattle.standings.specs.declared.Answer.the-variants.{Done, Refused}
 use Rattle.card.specs.Calls.{told, acceptedOf}
 use Rattle.card.specs.declared.Shape.{Shape}
 use Rattle.card.specs.declared.Outcome.{Outcome}

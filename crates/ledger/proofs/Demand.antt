@@ -15,8 +15,8 @@ use Rattle.freemap.specs.Maps.{freshMap}
 use Rattle.block.specs.Card.{blockOf}
 use Rattle.catalogue.specs.Entries.{absent}
 use Rattle.catalogue.specs.declared.Entry.{Entry}
-use Rattle.calls.specs.Answers.{numberOf}
-use Rattle.calls.specs.Rows.{Verdict, accepted, firstOf, settle}
+use Rattle.standings.specs.Answers.{numberOf}
+use Rattle.standings.specs.Rows.{Verdict, accepted, firstOf, settle}
 use Rattle.calls.specs.Table.{Call, reserve, put, grow, complete, pause, release, show, standing, tableOf}
 use Rattle.ledger.specs.Ledger.{Place, Blank, Payload, Sheet, Absent, Complete, standingIn, startIn, lengthIn, placesIn, bytesOf, sheetAt, placeAt, cover, freeIn, spareIn, listed, verdictIn, stepIn, after, begun, done, doneIn, refusedIn, toldIn}
 use Rattle.ledger.specs.Claim.{Answered, AllAnswered, Searched, SearchedBy, AllSearched, granted, returned, entryIn, Agrees, Gives, Claim}

@@ -10,7 +10,7 @@ use lib.Dec.{eqb}
 use lib.ListN.{length, getD, set, replicate}
 use lib.Seq.{getD-set-same, getD-set-other}
 use borrow.Author.Tests.{leb-false, eqb-true, eqb-false, eq-eqb, ne-eqb}
-use Rattle.calls.specs.Rows.{Row, Verdict, accepted, refused, firstOf, settle}
+use Rattle.standings.specs.Rows.{Row, Verdict, accepted, refused, firstOf, settle}
 use Rattle.calls.specs.Table.{Call, reserve, put, grow, complete, pause, release, show, standing, tableOf}
 use Rattle.ledger.specs.Ledger.{Place, Blank, Payload, Sheet, Absent, Paused, Open, Complete, lengthIn, placesIn, bytesOf, sheetAt, viewIn, listed, sheetOf, verdictIn, leastIn, putIn, growIn, completeIn, changeIn, stepIn, after, Told, doneIn, refusedIn}
 use Rattle.ledger.specs.Claim.{Answered, AllAnswered, noted, lastPut}

@@ -10,7 +10,7 @@ use borrow.Author.Tests.{ne-eqb}
 use Rattle.catalogue.specs.Entries.{entryAt}
 use Rattle.catalogue.specs.declared.Entry.{Entry}
 use Rattle.catalogue.proofs.Storing.{stored-back}
-use Rattle.calls.specs.Rows.{Row, accepted, refused, firstOf}
+use Rattle.standings.specs.Rows.{Row, accepted, refused, firstOf}
 use Rattle.calls.specs.Table.{Call, tableOf}
 use Rattle.ledger.specs.Ledger.{Blank, Sheet, lengthIn, sheetAt, placeAt, viewIn, listed, sheetOf, verdictIn, Told, refusedIn, bufferOf}
 use Rattle.ledger.specs.Claim.{entryIn}

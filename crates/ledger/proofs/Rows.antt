@@ -8,7 +8,7 @@ use mathlib.Core.List.{List, [], _∷_}
 use native.Mathlib.Omega.{arith}
 use lib.Dec.{eqb}
 use borrow.Author.Tests.{eqb-false}
-use Rattle.calls.specs.Rows.{Row, accepted, refused, firstOf}
+use Rattle.standings.specs.Rows.{Row, accepted, refused, firstOf}
 use Rattle.ledger.specs.Ledger.{listed}
 use Rattle.ledger.specs.Claim.{before}
 

@@ -16,7 +16,7 @@ use Rattle.freemap.specs.Blocks.{all, fit}
 use Rattle.freemap.specs.Maps.{inRun}
 use Rattle.freemap.proofs.Bools.{and-right}
 use Rattle.freemap.proofs.Runs.{all-elim}
-use Rattle.calls.specs.Standings.{isAbsent, isPaused, isOpen, isComplete}
+use Rattle.standings.specs.Standings.{isAbsent, isPaused, isOpen, isComplete}
 use Rattle.calls.proofs.Room.{fit-inside}
 use Rattle.ledger.specs.Ledger.{Place, Blank, Payload, Sheet, Absent, Paused, Open, Complete, standingIn, startIn, lengthIn, placesIn, isBlank, bytesOf, sheetAt, covers, cover, freeIn}
 use Rattle.ledger.proofs.Cover.{in-run, covers-in, covers-out, cover-set}

@@ -6,7 +6,7 @@ use mathlib.Core.List.{List, _++_, map}
 use native.Mathlib.Omega.{arith}
 use lib.ListN.{length, set, replicate, length-set, length-map, length-append, length-replicate}
 use borrow.Author.Tests.{leb-false}
-use Rattle.calls.specs.Rows.{Row, Verdict, accepted, refused, firstOf, settle}
+use Rattle.standings.specs.Rows.{Row, Verdict, accepted, refused, firstOf, settle}
 use Rattle.calls.specs.Table.{Call, reserve, put, grow, complete, pause, release, show, standing, tableOf}
 use Rattle.ledger.specs.Ledger.{Blank, Payload, Sheet, Absent, Paused, Open, Complete, lengthIn, bytesOf, sheetAt, viewIn, sheetOf, verdictIn, leastIn, putIn, growIn, completeIn, changeIn, stepIn, grants, returns}
 use Rattle.ledger.proofs.Cover.{held, held-set}

@@ -13,8 +13,8 @@ use Rattle.freemap.specs.Maps.{mapOf}
 use Rattle.block.specs.Card.{blockOf}
 use Rattle.block.specs.Sealed.{sealed}
 use Rattle.catalogue.specs.declared.Entry.{Entry}
-use Rattle.calls.specs.Rows.{Row, accepted, refused, firstOf, settle}
-use Rattle.calls.specs.Standings.{markOf}
+use Rattle.standings.specs.Rows.{Row, accepted, refused, firstOf, settle}
+use Rattle.standings.specs.Standings.{markOf}
 use Rattle.calls.specs.Table.{Call, reserve, put, grow, complete, pause, release, show, standing, tableOf}
 use Rattle.ledger.specs.Ledger.{Place, Blank, Payload, Sheet, Complete, standingIn, startIn, lengthIn, sheetAt, placeAt, cover, freeIn, spareIn, sheetOf, viewIn, listed, verdictIn, stepIn, after, begun, grants, returns, Told, done, toldIn}
 use Rattle.ledger.specs.Steps.{State, Reply, toldBy, Step}

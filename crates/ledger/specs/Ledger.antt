@@ -9,12 +9,12 @@ use lib.ListN.{length, getD, set, replicate}
 use Rattle.freemap.specs.Blocks.{leastFit}
 use Rattle.freemap.specs.Maps.{inRun}
 use Rattle.survey.specs.Survey.{blocks, freeOf}
-use Rattle.calls.specs.Effects.{startAt}
-use Rattle.calls.specs.Rows.{Row, Verdict, firstOf, settle}
-use Rattle.calls.specs.Standings.{markOf, startOf, lengthOf}
+use Rattle.standings.specs.Searches.{startAt}
+use Rattle.standings.specs.Rows.{Row, Verdict, firstOf, settle}
+use Rattle.standings.specs.Standings.{markOf, startOf, lengthOf}
 use Rattle.calls.specs.Table.{Call, reserve, put, grow, complete, pause, release, show, standing, View, tableOf}
-use Rattle.calls.specs.declared.Standing.{Standing}
-use Rattle.calls.specs.declared.Standing.the-variants as stands
+use Rattle.standings.specs.declared.Standing.{Standing}
+use Rattle.standings.specs.declared.Standing.the-variants as stands
 
 -- ---- what it holds
 

@@ -9,9 +9,9 @@ use lib.ListN.{length, set, replicate}
 use Rattle.freemap.specs.Maps as maps
 use Rattle.catalogue.specs.Entries.{absent, slotAt, clearedIf}
 use Rattle.catalogue.specs.declared.Entry.{Entry}
-use Rattle.calls.specs.Answers.{numberOf, valuesOf}
+use Rattle.standings.specs.Answers.{numberOf, valuesOf}
 use Rattle.calls.specs.Table.{Call, reserve, put, grow, complete, pause, release, show, standing}
-use Rattle.calls.specs.declared.Answer.{Answer}
+use Rattle.standings.specs.declared.Answer.{Answer}
 use Rattle.card.specs.Calls.{entryOf, outcomeOf, acceptedOf, freshOutcome, freshMap, reserveOut, reserveMap, reserveCard, growOut, growMap, growCard, putOutcome, putCard, completeOut, pauseOut, releaseOut, releaseMap, showOutcome, showBuffer, standingOutcome}
 use Rattle.card.specs.declared.Shape.{Shape}
 use Rattle.card.specs.declared.Outcome.{Outcome}

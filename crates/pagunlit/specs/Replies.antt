@@ -1,7 +1,7 @@
 -- The numbers that a C caller gets: document 01's number and values of an outcome.
 -- Assumes nothing.
 use lib.ListN.{getD}
-use Rattle.calls.specs.Answers.{numberOf, valuesOf}
+use Rattle.standings.specs.Answers.{numberOf, valuesOf}
 use Rattle.card.specs.declared.Outcome.{Outcome}
 use Rattle.pagunlit.specs.declared.Reply.{Reply}
 

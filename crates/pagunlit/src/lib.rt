@@ -4,14 +4,14 @@
 ghost use mathlib.Core.Path.{_≡_};
 ghost use lib.ListN.{getD};
 ghost use Rattle.block.specs.Calls.{sealAnswer, afterSeal, checkAnswer};
-ghost use Rattle.calls.specs.Answers.{numberOf, valuesOf};
+ghost use Rattle.standings.specs.Answers.{numberOf, valuesOf};
 ghost use Rattle.card.specs.Calls.{searchOutcome, surveyOutcome};
 ghost use Rattle.pagunlit.specs.Replies.{replyOf};
 ghost use Rattle.pagunlit.specs.Calls.{freshOutcome, freshMap, freshEntries, reserveOutcome, reserveMap, reserveEntries, reserveCard, growOutcome, growMap, growEntries, growCard, putOutcome, putCard, completeOutcome, completeEntries, pauseOutcome, pauseEntries, releaseOutcome, releaseMap, releaseEntries, showOutcome, showBuffer, standingOutcome};
-use calls::Answer;
 use card::Outcome;
 use card::Shape;
 use catalogue::Entry;
+use standings::Answer;
 
 // The outcome of a call: the shape, 0 or the refusal's number, and the answer's values, 0 where there are none.
 #[repr(C)]

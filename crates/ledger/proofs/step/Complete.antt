@@ -12,15 +12,15 @@ use Rattle.block.specs.Card.{blockOf}
 use Rattle.block.specs.Sealed as block
 use Rattle.catalogue.specs.Entries.{entryAt}
 use Rattle.catalogue.specs.declared.Entry.{Entry}
-use Rattle.calls.specs.Answers.{numberOf, valuesOf}
+use Rattle.standings.specs.Answers.{numberOf, valuesOf}
 use Rattle.calls.specs.Effects as effects
 use Rattle.calls.specs.Effects.{entryOf, outOf}
-use Rattle.calls.specs.Rows.{Row, Verdict, accepted, refused, settle}
+use Rattle.standings.specs.Rows.{Row, Verdict, accepted, refused, settle}
 use Rattle.calls.specs.Table.{Call, complete, tableOf}
 use Rattle.calls.specs.Views.{viewOn}
 use Rattle.calls.proofs.BlankPlaces.{place-is-blank}
-use Rattle.calls.specs.declared.Answer.the-variants as answers
-use Rattle.calls.specs.declared.Answer.the-variants.{Done, Refused}
+use Rattle.standings.specs.declared.Answer.the-variants as answers
+use Rattle.standings.specs.declared.Answer.the-variants.{Done, Refused}
 use Rattle.calls.specs.declared.Out.{Out}
 use Rattle.ledger.specs.Ledger.{Place, Blank, Payload, Sheet, Complete, lengthIn, isBlank, bytesOf, sheetAt, placeAt, spareIn, viewIn, listed, verdictIn, completeIn, changeIn, stepIn, Told, done, doneIn, refusedIn, toldIn}
 use Rattle.ledger.specs.Claim.{entryIn}

@@ -12,12 +12,12 @@ use Rattle.freemap.specs.Maps.{marked}
 use Rattle.block.specs.Card.{zeroed}
 use Rattle.catalogue.specs.Entries.{entryAt}
 use Rattle.catalogue.specs.declared.Entry.{Entry}
-use Rattle.calls.specs.Answers.{numberOf, valuesOf}
+use Rattle.standings.specs.Answers.{numberOf, valuesOf}
 use Rattle.calls.specs.Effects as effects
 use Rattle.calls.specs.Effects.{entryOf, outOf, refusalOut}
-use Rattle.calls.specs.Rows.{Row, Verdict, accepted, refused, settle}
+use Rattle.standings.specs.Rows.{Row, Verdict, accepted, refused, settle}
 use Rattle.calls.specs.Table.{Call, grow, tableOf}
-use Rattle.calls.specs.declared.Answer.the-variants.{Done}
+use Rattle.standings.specs.declared.Answer.the-variants.{Done}
 use Rattle.calls.specs.declared.Out.{Out}
 use Rattle.ledger.specs.Ledger.{Blank, Sheet, Open, startIn, lengthIn, sheetAt, freeIn, spareIn, viewIn, listed, verdictIn, growIn, changeIn, stepIn, Told, done, doneIn, refusedIn, toldIn}
 use Rattle.ledger.specs.Claim.{entryIn}

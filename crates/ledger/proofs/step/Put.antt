@@ -12,12 +12,12 @@ use Rattle.block.specs.Sealed.{sealed}
 use Rattle.catalogue.specs.Entries.{entryAt}
 use Rattle.catalogue.specs.declared.Entry.{Entry}
 use Rattle.catalogue.proofs.Storing.{stored-back}
-use Rattle.calls.specs.Answers.{numberOf, valuesOf}
+use Rattle.standings.specs.Answers.{numberOf, valuesOf}
 use Rattle.calls.specs.Effects as effects
 use Rattle.calls.specs.Effects.{entryOf}
-use Rattle.calls.specs.Rows.{Row, Verdict, accepted, refused, settle}
+use Rattle.standings.specs.Rows.{Row, Verdict, accepted, refused, settle}
 use Rattle.calls.specs.Table.{Call, put, tableOf}
-use Rattle.calls.specs.declared.Answer.the-variants.{Done, Refused}
+use Rattle.standings.specs.declared.Answer.the-variants.{Done, Refused}
 use Rattle.ledger.specs.Ledger.{Payload, Sheet, Open, lengthIn, sheetAt, spareIn, viewIn, listed, verdictIn, putIn, changeIn, stepIn, Told, done, doneIn, refusedIn, toldIn}
 use Rattle.ledger.specs.Claim.{entryIn}
 use Rattle.ledger.specs.Steps.{State, toldBy}

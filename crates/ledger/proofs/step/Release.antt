@@ -9,12 +9,12 @@ use borrow.Author.Tests.{leb-false}
 use Rattle.freemap.specs.Maps.{marked}
 use Rattle.catalogue.specs.Entries.{entryAt}
 use Rattle.catalogue.specs.declared.Entry.{Entry}
-use Rattle.calls.specs.Answers.{numberOf, valuesOf}
+use Rattle.standings.specs.Answers.{numberOf, valuesOf}
 use Rattle.calls.specs.Effects as effects
 use Rattle.calls.specs.Effects.{entryOf, outOf, refusalOut}
-use Rattle.calls.specs.Rows.{Row, Verdict, accepted, refused, settle}
+use Rattle.standings.specs.Rows.{Row, Verdict, accepted, refused, settle}
 use Rattle.calls.specs.Table.{Call, release, tableOf}
-use Rattle.calls.specs.declared.Answer.the-variants.{Done}
+use Rattle.standings.specs.declared.Answer.the-variants.{Done}
 use Rattle.calls.specs.declared.Out.{Out}
 use Rattle.ledger.specs.Ledger.{Sheet, Absent, startIn, lengthIn, sheetAt, spareIn, viewIn, listed, verdictIn, changeIn, stepIn, Told, doneIn, refusedIn, toldIn}
 use Rattle.ledger.specs.Claim.{entryIn}

@@ -13,12 +13,13 @@ use Rattle.freemap.specs.Maps.{marked}
 use Rattle.block.specs.Card.{zeroed}
 use Rattle.catalogue.specs.Entries.{entryAt}
 use Rattle.catalogue.specs.declared.Entry.{Entry}
-use Rattle.calls.specs.Answers.{numberOf, valuesOf}
+use Rattle.standings.specs.Answers.{numberOf, valuesOf}
 use Rattle.calls.specs.Effects as effects
-use Rattle.calls.specs.Effects.{entryOf, outOf, refusalOut, startAt}
-use Rattle.calls.specs.Rows.{Row, Verdict, accepted, refused, settle}
+use Rattle.calls.specs.Effects.{entryOf, outOf, refusalOut}
+use Rattle.standings.specs.Searches.{startAt}
+use Rattle.standings.specs.Rows.{Row, Verdict, accepted, refused, settle}
 use Rattle.calls.specs.Table.{Call, reserve, tableOf}
-use Rattle.calls.specs.declared.Answer.the-variants.{Start}
+use Rattle.standings.specs.declared.Answer.the-variants.{Start}
 use Rattle.calls.specs.declared.Out.{Out}
 use Rattle.ledger.specs.Ledger.{Blank, Sheet, Absent, Open, sheetAt, freeIn, spareIn, viewIn, listed, verdictIn, leastIn, changeIn, stepIn, Told, doneIn, refusedIn, toldIn}
 use Rattle.ledger.specs.Claim.{entryIn}

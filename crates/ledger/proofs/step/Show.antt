@@ -11,11 +11,11 @@ use Rattle.block.specs.Sealed.{payloadOf}
 use Rattle.block.proofs.Sealed.{payload-sealed}
 use Rattle.catalogue.specs.Entries.{entryAt}
 use Rattle.catalogue.specs.declared.Entry.{Entry}
-use Rattle.calls.specs.Answers.{numberOf, valuesOf}
+use Rattle.standings.specs.Answers.{numberOf, valuesOf}
 use Rattle.calls.specs.Effects as effects
-use Rattle.calls.specs.Rows.{Row, Verdict, accepted, refused, settle}
+use Rattle.standings.specs.Rows.{Row, Verdict, accepted, refused, settle}
 use Rattle.calls.specs.Table.{Call, show, tableOf}
-use Rattle.calls.specs.declared.Answer.the-variants.{Done, Refused}
+use Rattle.standings.specs.declared.Answer.the-variants.{Done, Refused}
 use Rattle.ledger.specs.Ledger.{Place, Blank, Payload, Sheet, lengthIn, placesIn, isBlank, bytesOf, sheetAt, placeAt, viewIn, listed, verdictIn, changeIn, stepIn, Told, done, doneIn, refusedIn, toldIn}
 use Rattle.ledger.specs.Claim.{entryIn, blockIn}
 use Rattle.ledger.specs.Steps.{toldBy}

@@ -7,12 +7,12 @@ use lib.ListN.{length}
 use borrow.Author.Tests.{leb-false}
 use Rattle.catalogue.specs.Entries.{entryAt}
 use Rattle.catalogue.specs.declared.Entry.{Entry}
-use Rattle.calls.specs.Answers.{numberOf, valuesOf}
+use Rattle.standings.specs.Answers.{numberOf, valuesOf}
 use Rattle.calls.specs.Effects as effects
-use Rattle.calls.specs.Rows.{Row, Verdict, accepted, refused, settle}
+use Rattle.standings.specs.Rows.{Row, Verdict, accepted, refused, settle}
 use Rattle.calls.specs.Table.{Call, standing, tableOf}
-use Rattle.calls.specs.declared.Answer.{Answer}
-use Rattle.calls.specs.declared.Answer.the-variants.{Stands, Refused}
+use Rattle.standings.specs.declared.Answer.{Answer}
+use Rattle.standings.specs.declared.Answer.the-variants.{Stands, Refused}
 use Rattle.ledger.specs.Ledger.{Sheet, viewIn, listed, verdictIn, changeIn, stepIn, Told, done, doneIn, refusedIn, toldIn}
 use Rattle.ledger.specs.Claim.{entryIn}
 use Rattle.ledger.specs.Steps.{toldBy}

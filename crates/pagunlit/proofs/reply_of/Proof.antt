@@ -1,7 +1,7 @@
 use Prim.Native.Nat.{ℕ}
 use mathlib.Core.Path.{_≡_}
 use lib.ListN.{getD}
-use Rattle.calls.specs.Answers.{numberOf, valuesOf}
+use Rattle.standings.specs.Answers.{numberOf, valuesOf}
 use Rattle.card.specs.declared.Outcome.{Outcome}
 use Rattle.pagunlit.specs.Replies.{replyOf}
 use Rattle.pagunlit.specs.declared.Reply.{Reply}

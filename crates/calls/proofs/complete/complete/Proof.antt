@@ -11,24 +11,25 @@ use lib.Dec.{eqb, leb}
 use Rattle.freemap.specs.Blocks.{all, least}
 use Rattle.block.specs.Card.{blockOf}
 use Rattle.block.specs.Sealed.{blank, sound}
-use Rattle.calls.specs.Effects.{entryOf, outOf, refusalOut, startAt, completeVerdict, blankPlace, completeOut}
+use Rattle.calls.specs.Effects.{entryOf, outOf, refusalOut, completeVerdict, blankPlace, completeOut}
+use Rattle.standings.specs.Searches.{startAt}
 use Rattle.calls.specs.Fillings.{fillingOf}
-use Rattle.calls.specs.Openings.{openedOf, undamaged, refusedRow, rowOf}
-use Rattle.calls.specs.Rows.{Row, row, Verdict, accepted, refused, firstOf, settle}
-use Rattle.calls.specs.Standings.{lengthOf}
+use Rattle.standings.specs.Openings.{openedOf, undamaged, refusedRow, rowOf}
+use Rattle.standings.specs.Rows.{Row, row, Verdict, accepted, refused, firstOf, settle}
+use Rattle.standings.specs.Standings.{lengthOf}
 use Rattle.calls.specs.Table.{tableOf}
 use Rattle.calls.specs.Views.{viewOn}
-use Rattle.calls.specs.declared.Answer.the-variants as answer
+use Rattle.standings.specs.declared.Answer.the-variants as answer
 use Rattle.calls.specs.declared.Filling.{Filling}
 use Rattle.calls.specs.declared.Filling.the-variants.{Filled, Blank, Broken}
-use Rattle.calls.specs.declared.Opened.the-variants.{Refused, Stands}
+use Rattle.standings.specs.declared.Opened.the-variants.{Refused, Stands}
 use Rattle.calls.specs.declared.Out.{Out}
-use Rattle.calls.specs.declared.Standing.{Standing}
-use Rattle.calls.specs.declared.Standing.the-variants.{Absent, Paused, Open, Complete, Damaged}
+use Rattle.standings.specs.declared.Standing.{Standing}
+use Rattle.standings.specs.declared.Standing.the-variants.{Absent, Paused, Open, Complete, Damaged}
 use Rattle.calls.proofs.Admitted.{open-else, open-passes}
 use Rattle.calls.proofs.Fillings.{was-broken, was-blank, was-filled}
 use Rattle.calls.proofs.Lent.{Lent, lent, allFits, standing, first, limits, extent, refused-first, stands-first}
-use Rattle.calls.proofs.Openings.{Not, closed, opened, skip, stop, none-left}
+use Rattle.standings.proofs.Openings.{Not, closed, opened, skip, stop, none-left}
 use Rattle.calls.proofs.complete.complete.Statement.{statement}
 use Rattle.calls.proofs.complete.complete.Tie as tie
 

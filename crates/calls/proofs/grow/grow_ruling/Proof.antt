@@ -11,19 +11,19 @@ use denote.Ref.{now}
 use lib.Dec.{eqb, ltb}
 use Rattle.freemap.specs.Blocks.{all, fit, free}
 use Rattle.calls.specs.Effects.{growVerdict}
-use Rattle.calls.specs.Openings.{refusedRow, rowOf}
-use Rattle.calls.specs.Rows.{Row, row, Verdict, accepted, refused, firstOf}
+use Rattle.standings.specs.Openings.{refusedRow, rowOf}
+use Rattle.standings.specs.Rows.{Row, row, Verdict, accepted, refused, firstOf}
 use Rattle.calls.specs.Rulings.{rulingOf}
-use Rattle.calls.specs.Standings.{startOf, lengthOf}
+use Rattle.standings.specs.Standings.{startOf, lengthOf}
 use Rattle.calls.specs.Table.{tableOf}
 use Rattle.calls.specs.Views.{viewOn}
-use Rattle.calls.specs.declared.Opened.the-variants.{Refused, Stands}
+use Rattle.standings.specs.declared.Opened.the-variants.{Refused, Stands}
 use Rattle.calls.specs.declared.Ruling.the-variants as ruling
-use Rattle.calls.specs.declared.Standing.{Standing}
-use Rattle.calls.specs.declared.Standing.the-variants.{Open}
+use Rattle.standings.specs.declared.Standing.{Standing}
+use Rattle.standings.specs.declared.Standing.the-variants.{Open}
 use Rattle.calls.proofs.Admitted.{open-else, open-passes}
 use Rattle.calls.proofs.Lent.{Lent, lent, allFits, standing, first, limits, extent, refused-first, stands-first}
-use Rattle.calls.proofs.Openings.{Not, closed, opened, skip, stop, none-left}
+use Rattle.standings.proofs.Openings.{Not, closed, opened, skip, stop, none-left}
 use Rattle.calls.proofs.Room.{growVerdictOn}
 use Rattle.calls.proofs.grow.grow_ruling.Statement.{statement}
 use Rattle.calls.proofs.grow.grow_ruling.Tie as tie

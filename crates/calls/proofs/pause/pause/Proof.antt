@@ -10,17 +10,18 @@ use lib.ListN.{length}
 use Rattle.freemap.specs.Blocks.{free}
 use Rattle.catalogue.specs.declared.Entry.{Entry}
 use Rattle.calls.specs.Effects.{entryOf, outOf, refusalOut, pauseVerdict, pauseOut}
-use Rattle.calls.specs.Openings.{openedOf, refusedRow, rowOf}
-use Rattle.calls.specs.Rows.{row, Verdict, accepted, refused, settle}
-use Rattle.calls.specs.Standings.{standingOf}
+use Rattle.standings.specs.Openings.{openedOf, refusedRow, rowOf}
+use Rattle.standings.specs.Rows.{row, Verdict, accepted, refused, settle}
+use Rattle.standings.specs.Standings.{standingOf}
 use Rattle.calls.specs.Table.{tableOf}
-use Rattle.calls.specs.Views.{shapeFits, sheetsFit, viewAt}
-use Rattle.calls.specs.declared.Answer.the-variants.{Done}
-use Rattle.calls.specs.declared.Opened.{Opened}
-use Rattle.calls.specs.declared.Opened.the-variants.{Refused, Stands}
-use Rattle.calls.specs.declared.Standing.{Standing}
-use Rattle.calls.specs.declared.Standing.the-variants.{Absent}
-use Rattle.calls.proofs.Openings.{closed, opened, not-absent, is-absent, none-left, Not}
+use Rattle.standings.specs.Limits.{shapeFits, sheetsFit}
+use Rattle.calls.specs.Views.{viewAt}
+use Rattle.standings.specs.declared.Answer.the-variants.{Done}
+use Rattle.standings.specs.declared.Opened.{Opened}
+use Rattle.standings.specs.declared.Opened.the-variants.{Refused, Stands}
+use Rattle.standings.specs.declared.Standing.{Standing}
+use Rattle.standings.specs.declared.Standing.the-variants.{Absent}
+use Rattle.standings.proofs.Openings.{closed, opened, not-absent, is-absent, none-left, Not}
 use Rattle.calls.proofs.pause.pause.Statement.{statement}
 use Rattle.calls.proofs.pause.pause.Tie as tie
 

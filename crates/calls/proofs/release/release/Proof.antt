@@ -15,20 +15,21 @@ use Rattle.freemap.specs.Blocks.{free}
 use Rattle.freemap.specs.Maps.{marked}
 use Rattle.catalogue.specs.declared.Entry.{Entry}
 use Rattle.calls.specs.Effects.{entryOf, outOf, refusalOut, releaseVerdict, releaseOut, releaseMap}
-use Rattle.calls.specs.Openings.{openedOf, refusedRow}
-use Rattle.calls.specs.Rows.{Verdict, accepted, refused, settle}
-use Rattle.calls.specs.Standings.{standingOf, isAbsent, lengthOf}
+use Rattle.standings.specs.Openings.{openedOf, refusedRow}
+use Rattle.standings.specs.Rows.{Verdict, accepted, refused, settle}
+use Rattle.standings.specs.Standings.{standingOf, isAbsent, lengthOf}
 use Rattle.calls.specs.Table.{tableOf}
-use Rattle.calls.specs.Views.{shapeFits, sheetsFit, viewAt}
-use Rattle.calls.specs.declared.Answer.the-variants.{Done}
-use Rattle.calls.specs.declared.Opened.{Opened}
-use Rattle.calls.specs.declared.Opened.the-variants.{Refused, Stands}
+use Rattle.standings.specs.Limits.{shapeFits, sheetsFit}
+use Rattle.calls.specs.Views.{viewAt}
+use Rattle.standings.specs.declared.Answer.the-variants.{Done}
+use Rattle.standings.specs.declared.Opened.{Opened}
+use Rattle.standings.specs.declared.Opened.the-variants.{Refused, Stands}
 use Rattle.calls.specs.declared.Out.{Out}
-use Rattle.calls.specs.declared.Standing.{Standing}
-use Rattle.calls.specs.declared.Standing.the-variants.{Absent, Paused, Open, Complete, Damaged}
-use Rattle.calls.proofs.Entries.{Inside, inside-of}
-use Rattle.calls.proofs.Limits.{Fits, sheet-fits}
-use Rattle.calls.proofs.Openings.{skip, stop, closed, opened, none-left, Not}
+use Rattle.standings.specs.declared.Standing.{Standing}
+use Rattle.standings.specs.declared.Standing.the-variants.{Absent, Paused, Open, Complete, Damaged}
+use Rattle.standings.proofs.Entries.{Inside, inside-of}
+use Rattle.standings.proofs.Limits.{Fits, sheet-fits}
+use Rattle.standings.proofs.Openings.{skip, stop, closed, opened, none-left, Not}
 use Rattle.calls.proofs.release.release.Statement.{statement}
 use Rattle.calls.proofs.release.release.Tie as tie
 

@@ -9,17 +9,18 @@ use lib.ListN.{length}
 use Rattle.freemap.specs.Blocks.{free}
 use Rattle.catalogue.specs.declared.Entry.{Entry}
 use Rattle.calls.specs.Effects.{standingAnswer}
-use Rattle.calls.specs.Openings.{openedOf, refusedRow}
-use Rattle.calls.specs.Rows.{Verdict, accepted, refused, settle}
-use Rattle.calls.specs.Standings.{standingOf}
+use Rattle.standings.specs.Openings.{openedOf, refusedRow}
+use Rattle.standings.specs.Rows.{Verdict, accepted, refused, settle}
+use Rattle.standings.specs.Standings.{standingOf}
 use Rattle.calls.specs.Table as table
 use Rattle.calls.specs.Table.{tableOf, verdictOf}
-use Rattle.calls.specs.Views.{shapeFits, sheetsFit, viewAt}
-use Rattle.calls.specs.declared.Answer.the-variants.{Stands, Refused}
-use Rattle.calls.specs.declared.Opened.{Opened}
-use Rattle.calls.specs.declared.Opened.the-variants as opening
-use Rattle.calls.specs.declared.Standing.{Standing}
-use Rattle.calls.proofs.Openings.{closed, opened, none-left}
+use Rattle.standings.specs.Limits.{shapeFits, sheetsFit}
+use Rattle.calls.specs.Views.{viewAt}
+use Rattle.standings.specs.declared.Answer.the-variants.{Stands, Refused}
+use Rattle.standings.specs.declared.Opened.{Opened}
+use Rattle.standings.specs.declared.Opened.the-variants as opening
+use Rattle.standings.specs.declared.Standing.{Standing}
+use Rattle.standings.proofs.Openings.{closed, opened, none-left}
 use Rattle.calls.proofs.report.standing.Statement.{statement}
 use Rattle.calls.proofs.report.standing.Tie as tie
 

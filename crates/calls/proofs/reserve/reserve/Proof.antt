@@ -11,8 +11,8 @@ use denote.Ref.{now}
 use Rattle.freemap.specs.Maps.{marked}
 use Rattle.block.specs.Card.{zeroed}
 use Rattle.calls.specs.Effects.{entryOf, outOf, refusalOut, reserveOut, reserveMap, reserveCard}
-use Rattle.calls.specs.Rows.{Verdict, accepted, refused, settle}
-use Rattle.calls.specs.declared.Answer.the-variants.{Start}
+use Rattle.standings.specs.Rows.{Verdict, accepted, refused, settle}
+use Rattle.standings.specs.declared.Answer.the-variants.{Start}
 use Rattle.calls.specs.declared.Out.{Out}
 use Rattle.calls.proofs.Lent.{Lent, lent}
 use Rattle.calls.proofs.Room.{reserveVerdictOn, reserveStartOn, reserve-room}

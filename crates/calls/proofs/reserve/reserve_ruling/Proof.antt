@@ -11,19 +11,21 @@ use lib.Dec.{eqb, ltb}
 use Rattle.freemap.specs.Blocks.{free, leastFit}
 use Rattle.freemap.specs.declared.Found.{Found}
 use Rattle.freemap.specs.declared.Found.the-variants.{At, Nothing}
-use Rattle.calls.specs.Effects.{startAt, reserveVerdict, reserveStart}
-use Rattle.calls.specs.Openings.{refusedRow, rowOf}
-use Rattle.calls.specs.Rows.{Row, row, Verdict, accepted, refused, firstOf}
+use Rattle.standings.specs.Searches.{startAt}
+use Rattle.calls.specs.Effects.{reserveVerdict, reserveStart}
+use Rattle.standings.specs.Openings.{refusedRow, rowOf}
+use Rattle.standings.specs.Rows.{Row, row, Verdict, accepted, refused, firstOf}
 use Rattle.calls.specs.Rulings.{rulingOf}
-use Rattle.calls.specs.Table.{none, tableOf}
+use Rattle.standings.specs.Searches.{none}
+use Rattle.calls.specs.Table.{tableOf}
 use Rattle.calls.specs.Views.{viewOn}
-use Rattle.calls.specs.declared.Opened.the-variants.{Refused, Stands}
+use Rattle.standings.specs.declared.Opened.the-variants.{Refused, Stands}
 use Rattle.calls.specs.declared.Ruling.the-variants as ruling
-use Rattle.calls.specs.declared.Standing.{Standing}
-use Rattle.calls.specs.declared.Standing.the-variants.{Absent}
+use Rattle.standings.specs.declared.Standing.{Standing}
+use Rattle.standings.specs.declared.Standing.the-variants.{Absent}
 use Rattle.calls.proofs.Admitted.{absent-else, absent-passes}
 use Rattle.calls.proofs.Lent.{Lent, lent, first, limits, refused-first, stands-first}
-use Rattle.calls.proofs.Openings.{Not, closed, skip, stop, none-left}
+use Rattle.standings.proofs.Openings.{Not, closed, skip, stop, none-left}
 use Rattle.calls.proofs.Room.{reserveVerdictOn, reserveStartOn}
 use Rattle.calls.proofs.reserve.reserve_ruling.Statement.{statement}
 use Rattle.calls.proofs.reserve.reserve_ruling.Tie as tie

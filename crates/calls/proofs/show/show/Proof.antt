@@ -14,21 +14,22 @@ use Rattle.block.specs.Sealed.{sound, payloadOf}
 use Rattle.freemap.specs.Blocks.{free}
 use Rattle.catalogue.specs.declared.Entry.{Entry}
 use Rattle.calls.specs.Effects.{showVerdict, showAnswer, showBuffer}
-use Rattle.calls.specs.Openings.{openedOf, refusedRow, rowOf}
-use Rattle.calls.specs.Rows.{row, Verdict, accepted, refused, firstOf, settle}
-use Rattle.calls.specs.Standings.{standingOf, lengthOf}
+use Rattle.standings.specs.Openings.{openedOf, refusedRow, rowOf}
+use Rattle.standings.specs.Rows.{row, Verdict, accepted, refused, firstOf, settle}
+use Rattle.standings.specs.Standings.{standingOf, lengthOf}
 use Rattle.calls.specs.Table.{tableOf}
-use Rattle.calls.specs.Views.{shapeFits, sheetsFit, viewOn}
-use Rattle.calls.specs.declared.Answer.{Answer}
-use Rattle.calls.specs.declared.Answer.the-variants.{Done, Refused}
-use Rattle.calls.specs.declared.Opened.{Opened}
-use Rattle.calls.specs.declared.Opened.the-variants as opening
-use Rattle.calls.specs.declared.Standing.{Standing}
-use Rattle.calls.specs.declared.Standing.the-variants.{Complete}
-use Rattle.calls.proofs.Limits.{CardFits, card-fits}
-use Rattle.calls.proofs.Openings.{skip, stop, closed, opened, not-complete, is-complete, none-left, Extent, complete-extent, Not}
+use Rattle.standings.specs.Limits.{shapeFits, sheetsFit}
+use Rattle.calls.specs.Views.{viewOn}
+use Rattle.standings.specs.declared.Answer.{Answer}
+use Rattle.standings.specs.declared.Answer.the-variants.{Done, Refused}
+use Rattle.standings.specs.declared.Opened.{Opened}
+use Rattle.standings.specs.declared.Opened.the-variants as opening
+use Rattle.standings.specs.declared.Standing.{Standing}
+use Rattle.standings.specs.declared.Standing.the-variants.{Complete}
+use Rattle.standings.proofs.Limits.{CardFits, card-fits}
+use Rattle.standings.proofs.Openings.{skip, stop, closed, opened, not-complete, is-complete, none-left, Extent, complete-extent, Not}
 use Rattle.calls.proofs.Places.{Misplaced, beyond, unsized, placed, block-number, block-bytes}
-use Rattle.calls.proofs.Tested.{fails, holds}
+use Rattle.standings.proofs.Tested.{fails, holds}
 use Rattle.calls.proofs.show.show.Statement.{statement}
 use Rattle.calls.proofs.show.show.Tie as tie
 

@@ -1,0 +1,52 @@
+// The calls on the whole card that are lent no entry: search, survey and fresh.
+ghost use mathlib.Core.Path.{_≡_};
+ghost use mathlib.Core.Bool.{cond};
+ghost use lib.ListN.{length};
+ghost use Rattle.freemap.specs.Maps.{freshMap};
+ghost use Rattle.standings.specs.Searches.{searchAnswer, surveyAnswer};
+ghost use Rattle.standings.specs.Limits.{freshFits};
+use crate::Answer;
+use crate::opening::shape_fits;
+use crate::opening::sheets_fit;
+use freemap::Found;
+
+pub fn search(n: u32, free: u32, map: &[u64], k: u32) -> Answer
+    ensures { λ r. ⌜ r ≡ searchAnswer n free (now (map .entry)) k ⌝ }
+{
+    if !shape_fits(n, free, map.len()) {
+        return Answer::Refused(1);
+    }
+    if k == 0 {
+        return Answer::Refused(3);
+    }
+    let found = freemap::search::search(map, 0, n, k);
+    let Found::At(start) = found else {
+        return Answer::Refused(10);
+    };
+    Answer::Start(start)
+}
+
+pub fn survey(n: u32, free: u32, map: &[u64]) -> Answer
+    ensures { λ r. ⌜ r ≡ surveyAnswer n free (now (map .entry)) ⌝ }
+{
+    if !shape_fits(n, free, map.len()) {
+        return Answer::Refused(1);
+    }
+    let counts = survey::survey(map, n);
+    Answer::Counted(counts.free, counts.runs, counts.longest)
+}
+
+// Whether fresh is accepted; if so the map is that of a fresh card of n blocks, all free.
+pub fn fresh(n: u32, map: &mut [u64], c: usize) -> bool
+    ensures { λ r. ⌜ (r ≡ freshFits n (length (now (map .entry))) c)
+        × (now (map .exit) ≡ cond (freshFits n (length (now (map .entry))) c) (freshMap n (length (now (map .entry)))) (now (map .entry))) ⌝ }
+{
+    if !shape_fits(n, n, map.len()) {
+        return false;
+    }
+    if !sheets_fit(c) {
+        return false;
+    }
+    freemap::run::fresh(map, n);
+    true
+}
