@@ -1,13 +1,13 @@
 -- A byte before the blocks passed: its numbers in the table, and what they make of the summary.
 -- Assumes nothing.
-use mathlib.Core.Path.{_≡_}
+use mathlib.Core.Path.{_≡_, sym, _∙_}
 use mathlib.Core.Bool.{Bool, cond}
 use mathlib.Core.List.{List, _++_}
 use Prim.Native.Nat.{ℕ, _+_, _*_, _/_, _%_, _<_, max}
 use native.Mathlib.Omega.{arith}
 use lib.Dec.{eqb}
 use Rattle.survey.specs.Survey.{bitsOf, headOf, tailOf, longestOf, runsOf, meet, column, Summary}
-use Rattle.survey.proofs.Joining.{longest-append, runs-append, head-eight}
+use Rattle.survey.proofs.Joining.{longest-append, longest-apart, runs-append, head-eight, head-apart}
 use Rattle.survey.proofs.Words.{eight}
 
 pub columns : (i k b : ℕ) → i ≡ 4 * b + k → k < 4 → column (i % 4) (bitsOf 8 (i / 4)) ≡ column k (bitsOf 8 b)
@@ -27,3 +27,13 @@ summary b h t l n head longest runs r1 m2 r2 r3 eh et el en e1 em e2 e3 ys s =
       longests = cc (longest-append (bitsOf 8 b) ys);
       counts = omega (arith, runs-append (bitsOf 8 b) ys, s .counts);
     }
+
+-- the same where no run goes on from the byte into the others
+pub summary-apart : (b h l n head longest runs r2 r3 : ℕ)
+    → h ≡ headOf (bitsOf 8 b) → l ≡ longestOf (bitsOf 8 b) → n ≡ runsOf (bitsOf 8 b) → r2 ≡ max l longest → r3 ≡ n + runs
+    → (ys : List Bool) → Summary head longest runs ys → meet (tailOf (bitsOf 8 b)) (headOf ys) ≡ 0 → Summary h r2 r3 (bitsOf 8 b ++ ys)
+summary-apart b h l n head longest runs r2 r3 eh el en e2 e3 ys s apart = record {
+  heads = eh ∙ sym (head-apart (bitsOf 8 b) ys (omega (arith, eight b)) apart);
+  longests = cc (longest-apart (bitsOf 8 b) ys apart);
+  counts = omega (arith, runs-append (bitsOf 8 b) ys, s .counts);
+}

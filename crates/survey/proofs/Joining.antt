@@ -10,7 +10,7 @@ use native.Mathlib.Omega.{arith}
 use lib.Dec.{eqb}
 use lib.ListN.{length}
 use borrow.Author.Tests.{eq-eqb, ne-eqb}
-use Rattle.survey.specs.Survey.{freeOf, headOf, tailOf, longestOf, runsOf, meet, blocks, bitsOf, Summary}
+use Rattle.survey.specs.Survey.{freeOf, headOf, tailOf, longestOf, runsOf, meet, blocks}
 
 -- 1 where no free block follows
 abbrev none : ℕ → ℕ
@@ -159,6 +159,34 @@ tail-longest (true ∷ xs) =
     (λ (f : Broken xs []). omega (arith, tail-broken xs (f .t), tail-longest xs))
     (parts xs [])
 
+-- a list that ends in a taken block
+pub tail-none : (x y : Bool) (xs : List Bool) → tailOf (y ∷ xs) ≡ 0 → tailOf (x ∷ y ∷ xs) ≡ 0
+unfolding tailOf
+tail-none false y xs e = e
+tail-none true y xs e = tail-broken (y ∷ xs) (omega (arith, e)) ∙ e
+
+-- ---- two lists that do not meet in one run
+
+one-side : (t h : ℕ) → meet t h ≡ 0 → (t ≡ 0) ⊎ (h ≡ 0)
+unfolding meet
+one-side zero h e = inl refl
+one-side (suc t) zero e = inr refl
+one-side (suc t) (suc h) e = absurd (omega arith)
+
+pub head-apart : (xs ys : List Bool) → 0 < length xs → meet (tailOf xs) (headOf ys) ≡ 0 → headOf (xs ++ ys) ≡ headOf xs
+head-apart xs ys p e =
+    ⊎-elim
+    (λ (f : Full xs ys). ⊎-elim (λ (t : tailOf xs ≡ 0). absurd (omega (arith, f .t))) (λ (h : headOf ys ≡ 0). omega (arith, f .a, f .h)) (one-side (tailOf xs) (headOf ys) e))
+    (λ (f : Broken xs ys). f .a)
+    (parts xs ys)
+
+pub longest-apart : (xs ys : List Bool) → meet (tailOf xs) (headOf ys) ≡ 0 → longestOf (xs ++ ys) ≡ max (longestOf xs) (longestOf ys)
+longest-apart xs ys e =
+    ⊎-elim
+    (λ (t : tailOf xs ≡ 0). omega (arith, longest-append xs ys, head-longest ys))
+    (λ (h : headOf ys ≡ 0). omega (arith, longest-append xs ys, tail-longest xs))
+    (one-side (tailOf xs) (headOf ys) e)
+
 -- ---- taken blocks at the end
 
 pub record Same (xs ys : List Bool) : Type 0 where
@@ -190,16 +218,3 @@ taken-end f xs s m h =
       runs = omega (arith, runs-append xs ys, e .runs, meet-nothing (tailOf xs) (headOf ys) (e .head));
       longest = omega (arith, longest-append xs ys, e .longest, e .head, tail-longest xs);
     }
-
--- ---- a word with no free block, before others
-
-past-none : (longest runs head : ℕ) (xs ys : List Bool) → longestOf xs ≡ 0 → tailOf xs ≡ 0 → runsOf xs ≡ 0 → headOf (xs ++ ys) ≡ 0 → Summary head longest runs ys → Summary 0 longest runs (xs ++ ys)
-past-none longest runs head xs ys l t r h s = record {
-  heads = sym h;
-  longests = omega (arith, s .longests, longest-append xs ys, head-longest ys);
-  counts = omega (arith, s .counts, runs-append xs ys, meet-none (tailOf xs) (headOf ys) t);
-}
-
-pub past-zero : (longest runs head : ℕ) (ys : List Bool) → Summary head longest runs ys → Summary 0 longest runs (bitsOf 64 0 ++ ys)
-unfolding bitsOf headOf tailOf longestOf runsOf
-past-zero longest runs head ys s = past-none longest runs head (bitsOf 64 0) ys refl refl refl refl s

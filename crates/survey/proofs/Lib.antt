@@ -1,4 +1,5 @@
 -- Laws that the proofs of several functions cite, and those for the crates above.
+pub mod Apart
 pub mod Blocks
 pub mod Bytes
 pub mod Joining

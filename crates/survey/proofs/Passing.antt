@@ -3,13 +3,14 @@
 use mathlib.Core.Path.{_≡_, refl, sym, ap, ap₂, _∙_, subst}
 use mathlib.Core.Bool.{Bool, true, false, _&&_}
 use mathlib.Core.List.{List, _++_}
-use Prim.Native.Nat.{ℕ, _+_, _-_, _*_, _<_, _≤_}
+use Prim.Native.Nat.{ℕ, _+_, _-_, _*_, _/_, _^_, _<_, _≤_}
 use native.Mathlib.Nat.{zero-add}
 use native.Mathlib.Omega.{arith}
-use lib.Dec.{leb}
+use lib.Dec.{leb, ltb}
 use borrow.Author.Tests.{lt-ltb, le-ltb, le-leb}
-use Rattle.survey.specs.Survey.{blocks, bitsOf, freeOf, headOf, longestOf, runsOf, countsOf, Summary}
+use Rattle.survey.specs.Survey.{blocks, bitsOf, freeOf, headOf, longestOf, runsOf, countsOf, Summary, Before}
 use Rattle.freemap.specs.Words.{bit, inWindow}
+use Rattle.freemap.proofs.Bits.{bit-ones}
 use Rattle.survey.specs.declared.Counts.{Counts}
 use Rattle.survey.proofs.Blocks.{blocks-join, blocks-same}
 use Rattle.survey.proofs.Joining.{Same, taken-end}
@@ -61,3 +62,13 @@ unfolding blocks freeOf headOf longestOf runsOf
 nothing g n words =
     let e : (words - words) * 64 ≡ 0 = omega arith in
     rw e (record { heads = refl; longests = refl; counts = refl }, refl)
+
+-- ---- the mask of a word: the last one's, and that of the words before it
+
+pub part-before : (n m : ℕ) → 0 < n → ((j : ℕ) → j < 64 → bit m j ≡ (leb 0 ((n - 1) / 64 * 64 + j) && ltb ((n - 1) / 64 * 64 + j) n)) → Before n ((n + 63) / 64) m
+part-before n m p h =
+    let e : (n - 1) / 64 ≡ (n + 63) / 64 - 1 = omega arith in
+    λ q. subst (λ (i : ℕ). (j : ℕ) → j < 64 → bit m j ≡ (leb 0 (i * 64 + j) && ltb (i * 64 + j) n)) e h
+
+pub ones-before : (n i : ℕ) → i * 64 ≤ n → Before n i (2 ^ 64 - 1)
+ones-before n i l p j u = bit-ones j u ∙ sym (ap₂ _&&_ (le-leb 0 ((i - 1) * 64 + j) (omega arith)) (lt-ltb ((i - 1) * 64 + j) n (omega arith)))

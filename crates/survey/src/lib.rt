@@ -1,18 +1,22 @@
 // The survey of a map: free blocks, separate free runs and the longest run, a byte at a time by a fixed table (document
 // 01, "Map and search"). It goes from the last word to the first, so that what it keeps describes the blocks behind.
 ghost use mathlib.Core.Path.{_≡_};
-ghost use mathlib.Core.Bool.{Bool, cond};
+ghost use mathlib.Core.Bool.{Bool, true, cond};
 ghost use mathlib.Core.List.{List, _++_};
 ghost use Prim.Native.Nat.{_+_, _*_, _-_, _<_, _≤_, _/_, _%_, max};
 ghost use lib.Dec.{eqb};
 ghost use lib.ListN.{length};
 ghost use Rattle.freemap.specs.Blocks.{free};
-ghost use Rattle.survey.specs.Survey.{bitsOf, column, countsOf, meet, Summary, Ruled};
+ghost use Rattle.survey.specs.Survey.{bitsOf, headOf, tailOf, column, countsOf, meet, Summary, Ruled, Apart, Before};
 
 mod table;
 
+use freemap::word::ONES;
 use freemap::word::part;
 use table::TABLE;
+
+// The last bits of seven bytes.
+const LAST_BITS: u64 = 0x0001_0101_0101_0101;
 
 // What a survey answers.
 pub struct Counts {
@@ -83,19 +87,64 @@ fn prepend_byte(table: &[u8; 1024], passed: Passed, byte: usize) -> Passed
     }
 }
 
-// A word before the blocks passed, its last byte first. A word with no free block needs no table.
+// A byte before the blocks passed, where no run goes on from it into them.
+fn prepend_byte_apart(table: &[u8; 1024], passed: Passed, byte: usize) -> Passed
+    requires { ⌜ Ruled (now table) ⌝ }
+    requires { ⌜ (byte < 256) × (passed .runs ≤ 16000000) ⌝ }
+    ensures { λ r. ⌜ ((ys : List Bool) → Summary (passed .head) (passed .longest) (passed .runs) ys → meet (tailOf (bitsOf 8 byte)) (headOf ys) ≡ 0 → Summary (r .head) (r .longest) (r .runs) (bitsOf 8 byte ++ ys)) ⌝ }
+    ensures { λ r. ⌜ (r .head ≤ 255) × (r .runs ≤ passed .runs + 255) ⌝ }
+{
+    let at = 4 * byte;
+    let h = entry(table, at) as u32;
+    let l = entry(table, at + 2) as u32;
+    let n = entry(table, at + 3) as u32;
+    Passed {
+        head: h,
+        longest: larger(l, passed.longest),
+        runs: n + passed.runs,
+    }
+}
+
+// No run goes on from a byte of w into the next: never are the last bit of one and the first bit of the next both 1.
+fn bytes_apart(w: u64) -> bool
+    ensures { λ r. ⌜ (r ≡ true → Apart 7 w) ⌝ }
+{
+    (w / 256) & (w / 128) & LAST_BITS == 0
+}
+
+// A word before the blocks passed, where no run goes on from one of its bytes into the next. Its last byte stands first.
+fn prepend_word_apart(table: &[u8; 1024], passed: Passed, w: u64) -> Passed
+    requires { ⌜ Ruled (now table) × Apart 7 w ⌝ }
+    requires { ⌜ (passed .head ≤ 15000000) × (passed .runs ≤ 15000000) ⌝ }
+    ensures { λ r. ⌜ ((ys : List Bool) → Summary (passed .head) (passed .longest) (passed .runs) ys → Summary (r .head) (r .longest) (r .runs) (bitsOf 64 w ++ ys)) ⌝ }
+    ensures { λ r. ⌜ (r .head ≤ passed .head + 2040) × (r .runs ≤ passed .runs + 2040) ⌝ }
+{
+    let w1 = w / 256;
+    let w2 = w1 / 256;
+    let w3 = w2 / 256;
+    let w4 = w3 / 256;
+    let w5 = w4 / 256;
+    let w6 = w5 / 256;
+    let w7 = w6 / 256;
+    let p0 = prepend_byte(table, passed, (w % 256) as usize);
+    let p1 = prepend_byte_apart(table, p0, (w1 % 256) as usize);
+    let p2 = prepend_byte_apart(table, p1, (w2 % 256) as usize);
+    let p3 = prepend_byte_apart(table, p2, (w3 % 256) as usize);
+    let p4 = prepend_byte_apart(table, p3, (w4 % 256) as usize);
+    let p5 = prepend_byte_apart(table, p4, (w5 % 256) as usize);
+    let p6 = prepend_byte_apart(table, p5, (w6 % 256) as usize);
+    prepend_byte_apart(table, p6, (w7 % 256) as usize)
+}
+
+// A word before the blocks passed, its last byte first.
 fn prepend_word(table: &[u8; 1024], passed: Passed, w: u64) -> Passed
     requires { ⌜ Ruled (now table) ⌝ }
     requires { ⌜ (passed .head ≤ 15000000) × (passed .runs ≤ 15000000) ⌝ }
     ensures { λ r. ⌜ ((ys : List Bool) → Summary (passed .head) (passed .longest) (passed .runs) ys → Summary (r .head) (r .longest) (r .runs) (bitsOf 64 w ++ ys)) ⌝ }
     ensures { λ r. ⌜ (r .head ≤ passed .head + 2040) × (r .runs ≤ passed .runs + 2040) ⌝ }
 {
-    if w == 0 {
-        return Passed {
-            head: 0,
-            longest: passed.longest,
-            runs: passed.runs,
-        };
+    if bytes_apart(w) {
+        return prepend_word_apart(table, passed, w);
     }
     let w1 = w / 256;
     let w2 = w1 / 256;
@@ -114,7 +163,18 @@ fn prepend_word(table: &[u8; 1024], passed: Passed, w: u64) -> Passed
     prepend_byte(table, p6, (w7 % 256) as usize)
 }
 
-// The three counts of the first n blocks. Bits from n on are read as taken.
+// The bits of the last word that holds one of the first n blocks which lie before block n.
+fn last_part(n: u32) -> u64
+    requires { ⌜ n ≤ 262144 ⌝ }
+    ensures { λ r. ⌜ Before n ((n + 63) / 64) r ⌝ }
+{
+    if n == 0 {
+        return ONES;
+    }
+    part(0, n, (n - 1) / 64 * 64)
+}
+
+// The three counts of the first n blocks. Bits from n on are read as taken: the last word is cut there, the others are not.
 pub fn survey(map: &[u64], n: u32) -> Counts
     requires { ⌜ (n ≤ 262144) × (n ≤ 64 * length (now map)) ⌝ }
     ensures { λ r. ⌜ r ≡ countsOf (free (now (map .entry))) n ⌝ }
@@ -127,11 +187,13 @@ pub fn survey(map: &[u64], n: u32) -> Counts
         runs: 0,
     };
     let mut i = ((n + 63) / 64) as usize;
+    let mut mask = last_part(n);
     while 0 < i {
         i -= 1;
-        let w = map[i] & part(0, n, (i as u32) * 64);
+        let w = map[i] & mask;
         free += u64::count_ones(w);
         passed = prepend_word(&table, passed, w);
+        mask = ONES;
     }
     Counts {
         free: free,

@@ -9,10 +9,10 @@ use lib.ListN.{getD}
 use borrow.Author.Needs.{needs}
 use denote.Ref.{now}
 use Rattle.freemap.specs.Blocks.{free}
-use Rattle.survey.specs.Survey.{Summary, bitsOf, freeOf, headOf, tailOf, longestOf, runsOf, column}
+use Rattle.survey.specs.Survey.{Summary, Before, bitsOf, freeOf, headOf, tailOf, longestOf, runsOf, column}
 use Rattle.freemap.proofs.Maps.{cut-word}
 use Rattle.survey.proofs.Joining.{free-append}
-use Rattle.survey.proofs.Passing.{rest, rest-more, counted, nothing}
+use Rattle.survey.proofs.Passing.{rest, rest-more, counted, nothing, ones-before}
 use Rattle.survey.proofs.Rule.{right, ruled}
 use Rattle.survey.proofs.Words.{free-word}
 use Rattle.survey.proofs.survey.Statement.{statement}
@@ -23,12 +23,12 @@ abbrev words : ℕ → ℕ
 words n = (n + 63) / 64
 
 abbrev Inv-loop : tie.InvT-loop
-Inv-loop map n table free₀ passed₀ i₀ free′ passed i =
+Inv-loop map n table free₀ passed₀ i₀ mask₀ free′ passed i mask =
     (i ≤ words n) × Summary (passed .head) (passed .longest) (passed .runs) (rest (free map) n (words n) i) × (free′ ≡ freeOf (rest (free map) n (words n) i))
-    × (passed .head ≤ 2040 * (words n - i)) × (passed .runs ≤ 2040 * (words n - i)) × (free′ ≤ 64 * (words n - i))
+    × (passed .head ≤ 2040 * (words n - i)) × (passed .runs ≤ 2040 * (words n - i)) × (free′ ≤ 64 * (words n - i)) × Before n i mask × (mask < 2 ^ 64)
 
 abbrev μ-loop : tie.MeasureT-loop
-μ-loop map n table free₀ passed₀ i₀ free′ passed i = i
+μ-loop map n table free₀ passed₀ i₀ mask₀ free′ passed i mask = i
 
 add-i : tie.Need-add-i Inv-loop μ-loop
 add-i c = search needs
@@ -36,11 +36,14 @@ add-i c = search needs
 cast-i : tie.Need-cast-i Inv-loop μ-loop
 cast-i c = search needs
 
+last-part-requires : tie.Need-last-part-requires Inv-loop μ-loop
+last-part-requires c κs = search needs
+
 loop-holds : tie.Need-loop-holds Inv-loop μ-loop
 loop-holds c =
-    let a = c .before .args in
+    let a = c .before .before .args in
     let start = nothing (free (now (a .map))) (a .n) (words (a .n)) in
-    (omega arith, start .0, start .1, omega arith, omega arith, omega arith)
+    (omega arith, start .0, start .1, omega arith, omega arith, omega arith, c .last-part .ensures, omega arith)
 
 sub-i : tie.Need-sub-i Inv-loop μ-loop
 sub-i c = search needs
@@ -51,21 +54,12 @@ mul-w c = search needs
 shared-slice-read-w : tie.Need-shared-slice-read-w Inv-loop μ-loop
 shared-slice-read-w c = search needs
 
-cast-part : tie.Need-cast-part Inv-loop μ-loop
-cast-part c = search needs
-
-mul-part : tie.Need-mul-part Inv-loop μ-loop
-mul-part c = search needs
-
-part-requires : tie.Need-part-requires Inv-loop μ-loop
-part-requires c κs = search needs
-
 add-free : tie.Need-add-free Inv-loop μ-loop
 add-free c =
-    let loop = c .before .before .before .loop in
-    let w : ℕ = bitAnd (getD (now (c .before .before .before .before .before .args .map)) (loop .i - 1) 0) (c .part .result) in
-    let small : w < 2 ^ 64 = omega (arith, and-le-r (getD (now (c .before .before .before .before .before .args .map)) (loop .i - 1) 0) (c .part .result)) in
-    omega (arith, ones-le 64 w small)
+    let loop = c .before .before .loop in
+    let word : ℕ = getD (now (c .before .before .before .before .before .args .map)) (loop .i - 1) 0 in
+    let small : bitAnd word (loop .mask) < 2 ^ 64 = omega (arith, and-le-r word (loop .mask), loop .inv .7) in
+    omega (arith, ones-le 64 (bitAnd word (loop .mask)) small)
 
 prepend-word-requires : tie.Need-prepend-word-requires Inv-loop μ-loop
 unfolding right bitsOf headOf tailOf longestOf runsOf column
@@ -76,25 +70,27 @@ loop-less c = search needs
 
 loop-again : tie.Need-loop-again Inv-loop μ-loop
 loop-again c =
-    let loop = c .before .before .before .before .before .loop in
+    let loop = c .before .before .before .before .loop in
     let a = c .before .before .before .before .before .before .before .args in
     let i : ℕ = loop .i in
-    let w : ℕ = bitAnd (getD (now (a .map)) (i - 1) 0) (c .before .before .part .result) in
-    let small : w < 2 ^ 64 = omega (arith, and-le-r (getD (now (a .map)) (i - 1) 0) (c .before .before .part .result)) in
+    let w : ℕ = bitAnd (getD (now (a .map)) (i - 1) 0) (loop .mask) in
+    let small : w < 2 ^ 64 = omega (arith, and-le-r (getD (now (a .map)) (i - 1) 0) (loop .mask), loop .inv .7) in
     let step = rest-more (free (now (a .map))) (a .n) (words (a .n)) i w (omega arith) (omega arith)
-    (cut-word (now (a .map)) 0 (a .n) (i - 1) (c .before .before .part .result) (c .before .before .part .ensures)) in (
+    (cut-word (now (a .map)) 0 (a .n) (i - 1) (loop .mask) (loop .inv .6 (omega arith))) in (
       omega arith,
       subst (Summary _ _ _) step (c .prepend-word .ensures .0 _ (loop .inv .1)),
       omega (arith, loop .inv .2, free-word w small, free-append (bitsOf 64 w) (rest (free (now (a .map))) (a .n) (words (a .n)) i), ap freeOf step),
       omega (arith, c .prepend-word .ensures .1, loop .inv .3),
       omega (arith, c .prepend-word .ensures .1, loop .inv .4),
       omega (arith, ones-le 64 w small, loop .inv .5),
+      ones-before (a .n) (i - 1) (omega arith),
+      omega arith,
     )
 
 returns : tie.Need-returns Inv-loop μ-loop
 returns c =
     let loop = c .before .loop in
-    let a = c .before .before .before .args in
+    let a = c .before .before .before .before .args in
     let z : loop .i ≡ 0 = omega arith in
     counted (free (now (a .map))) (a .n) (words (a .n)) (loop .free) (loop .passed .head) (loop .passed .longest) (loop .passed .runs) (omega arith)
     (loop .inv .2 ∙ ap (λ (i : ℕ). freeOf (rest (free (now (a .map))) (a .n) (words (a .n)) i)) z)
@@ -108,13 +104,11 @@ survey-spec =
     μ-loop
     add-i
     cast-i
+    last-part-requires
     loop-holds
     sub-i
     mul-w
     shared-slice-read-w
-    cast-part
-    mul-part
-    part-requires
     add-free
     prepend-word-requires
     loop-less
