@@ -20,3 +20,9 @@ pub struct Place {
     pub word: usize,
     pub carried: u32,
 }
+
+// The word that a search has come to, and its bits: those of blocks outside the window are 0.
+pub struct Reached {
+    pub word: usize,
+    pub bits: u64,
+}

@@ -8,6 +8,7 @@ ghost use Rattle.freemap.specs.Blocks.{free, leastFit};
 ghost use Rattle.freemap.specs.Words.{bit, inWindow, Core, Shows, Carried, Stepped, Bounded, Told};
 use super::Found;
 use super::Place;
+use super::Reached;
 use super::Step;
 use super::word::covers;
 use super::word::gaps;
@@ -137,17 +138,17 @@ fn scan_groups(map: &[u64], first: usize, stop: usize, s: u32, k: u32, core: u64
     scan_words(map, i, stop, carried, k, core)
 }
 
-// The search behind the window's first word, which ends in s free blocks: the words between, then the last one.
-fn search_on(map: &[u64], from: u32, before: u32, s: u32, k: u32, core: u64) -> Found
-    requires { ⌜ (from < before) × (before ≤ 262144) × (before ≤ 64 * length (now map)) × Core k core ⌝ }
-    requires { ⌜ Carried (inWindow (free (now map)) from before) k (from / 64 * 64 + 64) s ⌝ }
+// The search from word first on, with s free blocks right before it: the words up to the last one, then that.
+fn search_on(map: &[u64], from: u32, before: u32, first: usize, s: u32, k: u32) -> Found
+    requires { ⌜ (from < before) × (before ≤ 262144) × (before ≤ 64 * length (now map)) × (from ≤ first * 64) × (first ≤ 4096) ⌝ }
+    requires { ⌜ Carried (inWindow (free (now map)) from before) k (first * 64) s ⌝ }
     ensures { λ r. ⌜ Told (inWindow (free (now (map .entry))) from before) k r ⌝ }
 {
-    let first = (from / 64) as usize + 1;
     let last = ((before - 1) / 64) as usize;
     if last < first {
         return Found::Nothing;
     }
+    let core = core_of(k);
     match scan_groups(map, first, last, s, k, core) {
         Step::Hit(start) => Found::At(start),
         Step::Next(next) => {
@@ -160,7 +161,36 @@ fn search_on(map: &[u64], from: u32, before: u32, s: u32, k: u32, core: u64) -> 
     }
 }
 
-// The least fit for k within the window.
+// The first word of the window, or where it and words behind it are all taken, the first behind them, eight at the most.
+fn reach(map: &[u64], from: u32, before: u32) -> Reached
+    requires { ⌜ (from < before) × (before ≤ 262144) × (before ≤ 64 * length (now map)) ⌝ }
+    ensures { λ r. ⌜ (from / 64 ≤ r .word) × (r .word * 64 < before) ⌝ }
+    ensures { λ r. ⌜ ((j : ℕ) → j < 64 → bit (r .bits) j ≡ inWindow (free (now (map .entry))) from before (r .word * 64 + j)) ⌝ }
+    ensures { λ r. ⌜ ((k : ℕ) → 0 < k → Carried (inWindow (free (now (map .entry))) from before) k (r .word * 64) 0) ⌝ }
+{
+    let first = (from / 64) as usize;
+    let last = ((before - 1) / 64) as usize;
+    let mut i = first;
+    let mut w = map[first] & part(from, before, from / 64 * 64);
+    if last < first + 9 {
+        return Reached {
+            word: first,
+            bits: w,
+        };
+    }
+    let stop = first + 8;
+    while i < stop {
+        if w != 0 {
+            break;
+        }
+        i += 1;
+        w = map[i];
+    }
+    Reached { word: i, bits: w }
+}
+
+// The least fit for k within the window. The word reached first is looked at before anything else is worked out: for few
+// blocks the search is mostly over there.
 pub fn search(map: &[u64], from: u32, before: u32, k: u32) -> Found
     requires { ⌜ (before ≤ 262144) × (before ≤ 64 * length (now map)) × (0 < k) ⌝ }
     ensures { λ r. ⌜ r ≡ leastFit (free (now (map .entry))) from before k ⌝ }
@@ -168,17 +198,10 @@ pub fn search(map: &[u64], from: u32, before: u32, k: u32) -> Found
     if before <= from {
         return Found::Nothing;
     }
-    let core = core_of(k);
-    let first = from / 64;
-    let base = first * 64;
-    match scan_word(
-        map[first as usize] & part(from, before, base),
-        base,
-        0,
-        k,
-        core,
-    ) {
-        Step::Hit(start) => Found::At(start),
-        Step::Next(s) => search_on(map, from, before, s, k, core),
+    let reached = reach(map, from, before);
+    let g = gaps(reached.bits, k);
+    if g == 0 {
+        return search_on(map, from, before, reached.word + 1, tail(reached.bits), k);
     }
+    Found::At((reached.word as u32) * 64 + u64::leading_zeros(g))
 }

@@ -121,3 +121,9 @@ zero-words map first stop i m f shows a c zero b l u =
     let e : b / 64 * 64 + b % 64 ≡ b = omega arith in
     ap f (sym e) ∙ sym (shows (b / 64) (b % 64) (omega arith) (omega arith) (omega arith))
     ∙ ap (λ (w : ℕ). bit w (b % 64)) (zero (b / 64) (omega arith) (omega arith)) ∙ bit-zero (b % 64)
+
+-- a word that is 0
+pub past-word : (f : ℕ → Bool) (k base w : ℕ) → ((j : ℕ) → j < 64 → bit w j ≡ f (base + j)) → w ≡ 0 → Carried f k base 0 → Carried f k (base + 64) 0
+past-word f k base w same e at =
+    past-taken f k base (base + 64) 0 (omega arith)
+    (λ t a b. sym (inside f k base 0 w same at t a b) ∙ ap (λ (x : ℕ). bit x (t - base)) e ∙ bit-zero (t - base)) at

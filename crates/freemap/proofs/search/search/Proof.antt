@@ -1,15 +1,17 @@
--- `freemap::search::search` meets its contract: what the words tell is the least fit.
+-- `freemap::search::search` meets its contract: a run in the word reached is the least fit, and where there is none the search goes on behind it.
 -- Assumes nothing.
-use mathlib.Core.Path.{subst}
-use mathlib.Core.Bool.{Bool}
-use Prim.Native.Nat.{ℕ, _+_, _-_, _*_, _/_}
+use mathlib.Core.Path.{_≡_, sym, ap, _∙_, subst}
+use mathlib.Core.Bool.{Bool, false}
+use Prim.Native.Nat.{ℕ, _+_, _*_, _≤_}
 use native.Mathlib.Omega.{arith}
+use lib.Count.{leadingZeros, leading-le}
 use borrow.Author.Needs.{needs}
 use denote.Ref.{now}
-use Rattle.freemap.specs.Blocks.{free}
-use Rattle.freemap.specs.Words.{inWindow, Stepped}
+use Rattle.freemap.specs.Blocks.{free, all}
+use Rattle.freemap.specs.Words.{bit, inWindow, Carried}
 use Rattle.freemap.specs.declared.Found.the-variants.{At, Nothing}
-use Rattle.freemap.proofs.Maps.{cut-word}
+use Rattle.freemap.proofs.Bits.{bit-zero, first-set}
+use Rattle.freemap.proofs.search.Scan.{next, gap-hit, tail-below}
 use Rattle.freemap.proofs.search.Window.{at-start, at-end, told-least}
 use Rattle.freemap.proofs.search.search.Statement.{statement}
 use Rattle.freemap.proofs.search.search.Tie as tie
@@ -21,74 +23,73 @@ returns c =
     told-least g (a .from) (a .before) (a .k) (omega arith) Nothing
     (at-end g (a .from) (a .before) (a .k) (a .from) 0 (c .if1 .taken) (at-start g (a .from) (a .before) (a .k) (a .from) (omega arith) (omega arith)))
 
-core-of-requires : tie.Need-core-of-requires
-core-of-requires c κs = search needs
+reach-requires : tie.Need-reach-requires
+reach-requires c κs = search needs
 
-mul-base : tie.Need-mul-base
-mul-base c = search needs
+gaps-requires : tie.Need-gaps-requires
+gaps-requires c κs = search needs
 
-cast-scan-word : tie.Need-cast-scan-word
-cast-scan-word c = search needs
+add-search-on : tie.Need-add-search-on
+add-search-on c = search needs
 
-mul-scan-word : tie.Need-mul-scan-word
-mul-scan-word c = search needs
-
-shared-slice-read-scan-word : tie.Need-shared-slice-read-scan-word
-shared-slice-read-scan-word c = search needs
-
-part-requires : tie.Need-part-requires
-part-requires c κs = search needs
-
-scan-word-requires : tie.Need-scan-word-requires
-scan-word-requires c κs = (omega arith, omega arith, omega arith, c .before .before .core-of .ensures)
-
-enum-known-start : tie.Need-enum-known-start
-enum-known-start c = search needs
-
--- what the first word tells
-first : (c : tie.After-scan-word)
-    → Stepped (inWindow (free (now (c .before .before .before .before .before .before .args .map))) (c .before .before .before .before .before .before .args .from) (c .before .before .before .before .before .before .args .before))
-    (c .before .before .before .before .before .before .args .k) (c .before .before .before .before .before .before .args .from / 64 * 64 + 64) (c .scan-word .result)
-first c =
-    let a = c .before .before .before .before .before .before .args in
-    let g : ℕ → Bool = free (now (a .map)) in
-    c .scan-word .ensures .1 (inWindow g (a .from) (a .before))
-    (cut-word (now (a .map)) (a .from) (a .before) (a .from / 64) (c .before .part .result) (c .before .part .ensures))
-    (at-start g (a .from) (a .before) (a .k) (a .from / 64 * 64) (omega arith) (omega arith))
-
-enum-known-s : tie.Need-enum-known-s
-enum-known-s c = search needs
+tail-requires : tie.Need-tail-requires
+tail-requires c κs = search needs
 
 search-on-requires : tie.Need-search-on-requires
 search-on-requires c κs =
-    let here = c .before .before .before in
-    ((omega arith, omega arith, omega arith, here .before .before .before .core-of .ensures), subst (Stepped _ _ _) (c .before .s .given .1) (first here))
+    let at-gaps = c .before .before .before in
+    let here = at-gaps .before in
+    let a = here .before .before .before .args in
+    let w : ℕ = here .reach .result .bits in
+    let base : ℕ = here .reach .result .word * 64 in
+    let f : ℕ → Bool = inWindow (free (now (a .map))) (a .from) (a .before) in
+    let none : (j : ℕ) → j + a .k ≤ 64 → all (bit w) j (a .k) ≡ false =
+    λ j u. sym (at-gaps .gaps .ensures j) ∙ ap (λ (x : ℕ). bit x j) (c .before .before .if2 .taken) ∙ bit-zero j in
+    let e : base + 64 ≡ (here .reach .result .word + 1) * 64 = omega arith in (
+      (omega arith, omega arith, omega arith, omega arith, omega arith),
+      subst (λ (b : ℕ). Carried f (a .k) b (c .tail .result)) e
+          (next f (a .k) base 0 w (here .reach .ensures .1 .0) (here .reach .ensures .1 .1 (a .k) (omega arith)) (c .tail .result) (c .tail .ensures)
+          (tail-below w (c .tail .result) (a .k) none (c .tail .ensures)) (λ t u l. absurd (omega arith)) none),
+    )
 
 returns-2 : tie.Need-returns-2
 returns-2 c =
-    let here = c .before .before .before in
-    let a = here .before .before .before .before .before .before .args in
-    told-least (free (now (a .map))) (a .from) (a .before) (a .k) (omega arith) (At (c .before .start .given .0 .0)) (subst (Stepped _ _ _) (c .before .start .given .1) (first here))
+    let a = c .before .before .before .before .before .before .before .before .args in
+    told-least (free (now (a .map))) (a .from) (a .before) (a .k) (omega arith) (c .search-on .result) (c .search-on .ensures)
+
+cast-t10 : tie.Need-cast-t10
+cast-t10 c = search needs
+
+mul-t11 : tie.Need-mul-t11
+mul-t11 c = search needs
+
+add-t13 : tie.Need-add-t13
+add-t13 c = omega (arith, leading-le 64 (c .before .before .gaps .result))
 
 returns-3 : tie.Need-returns-3
 returns-3 c =
-    let a = c .before .before .before .before .before .before .before .before .before .before .args in
-    told-least (free (now (a .map))) (a .from) (a .before) (a .k) (omega arith) (c .search-on .result) (c .search-on .ensures)
+    let at-gaps = c .before .before in
+    let here = at-gaps .before in
+    let a = here .before .before .before .args in
+    let w : ℕ = here .reach .result .bits in
+    let base : ℕ = here .reach .result .word * 64 in
+    let g : ℕ = at-gaps .gaps .result in
+    told-least (free (now (a .map))) (a .from) (a .before) (a .k) (omega arith) (At (base + leadingZeros 64 g))
+    (gap-hit (inWindow (free (now (a .map))) (a .from) (a .before)) (a .k) base 0 w (here .reach .ensures .1 .0) (here .reach .ensures .1 .1 (a .k) (omega arith)) g (leadingZeros 64 g)
+    (at-gaps .gaps .ensures) (first-set g (omega arith) (omega arith)) (λ t u l. absurd (omega arith)))
 
 pub search-spec : {M : Type 1} → statement M
 search-spec =
     tie.close
     (tie.spec
     returns
-    core-of-requires
-    mul-base
-    cast-scan-word
-    mul-scan-word
-    shared-slice-read-scan-word
-    part-requires
-    scan-word-requires
-    enum-known-start
-    enum-known-s
+    reach-requires
+    gaps-requires
+    add-search-on
+    tail-requires
     search-on-requires
     returns-2
+    cast-t10
+    mul-t11
+    add-t13
     returns-3)

@@ -1,4 +1,4 @@
--- `freemap::search::search_on` meets its contract: what is known goes on from the first word to the words between, and from those to the last.
+-- `freemap::search::search_on` meets its contract: what is known goes on through the words before the last one, and from those to the last.
 -- Assumes nothing.
 use mathlib.Core.Path.{_≡_, subst}
 use mathlib.Core.Bool.{Bool}
@@ -7,30 +7,23 @@ use native.Mathlib.Omega.{arith}
 use borrow.Author.Needs.{needs}
 use denote.Ref.{now}
 use Rattle.freemap.specs.Blocks.{free}
-use Rattle.freemap.specs.Words.{inWindow, Carried, Stepped, Bounded}
+use Rattle.freemap.specs.Words.{inWindow, Stepped, Bounded}
 use Rattle.freemap.specs.declared.Step.the-variants.{Next}
 use Rattle.freemap.proofs.Maps.{cut-word}
 use Rattle.freemap.proofs.search.Window.{at-end, whole-words}
 use Rattle.freemap.proofs.search.search_on.Statement.{statement}
 use Rattle.freemap.proofs.search.search_on.Tie as tie
 
--- what the words between tell
+-- what the words before the last one tell
 between : (c : tie.After-scan-groups)
-    → Stepped (inWindow (free (now (c .before .before .before .args .map))) (c .before .before .before .args .from) (c .before .before .before .args .before)) (c .before .before .before .args .k)
-    ((c .before .before .before .args .before - 1) / 64 * 64) (c .scan-groups .result)
+    → Stepped (inWindow (free (now (c .before .before .before .before .args .map))) (c .before .before .before .before .args .from) (c .before .before .before .before .args .before)) (c .before .before .before .before .args .k)
+    ((c .before .before .before .before .args .before - 1) / 64 * 64) (c .scan-groups .result)
 between c =
-    let start = c .before .before .before in
+    let start = c .before .before .before .before in
     let a = start .args in
-    let e : a .from / 64 * 64 + 64 ≡ (a .from / 64 + 1) * 64 = omega arith in
     c .scan-groups .ensures .1 (inWindow (free (now (a .map))) (a .from) (a .before))
-    (whole-words (now (a .map)) (a .from) (a .before) (a .from / 64 + 1) ((a .before - 1) / 64) (omega arith) (omega arith))
-    (subst (λ (b : ℕ). Carried (inWindow (free (now (a .map))) (a .from) (a .before)) (a .k) b (a .s)) e (start .pre .1))
-
-cast-first : tie.Need-cast-first
-cast-first c = search needs
-
-add-first : tie.Need-add-first
-add-first c = search needs
+    (whole-words (now (a .map)) (a .from) (a .before) (a .first) ((a .before - 1) / 64) (omega arith) (omega arith))
+    (start .pre .1)
 
 sub-last : tie.Need-sub-last
 sub-last c = search needs
@@ -42,7 +35,10 @@ returns : tie.Need-returns
 returns c =
     let start = c .before .before in
     let a = start .args in
-    at-end (free (now (a .map))) (a .from) (a .before) (a .k) (a .from / 64 * 64 + 64) (a .s) (omega arith) (start .pre .1)
+    at-end (free (now (a .map))) (a .from) (a .before) (a .k) (a .first * 64) (a .s) (omega arith) (start .pre .1)
+
+core-of-requires : tie.Need-core-of-requires
+core-of-requires c κs = search needs
 
 scan-groups-requires : tie.Need-scan-groups-requires
 scan-groups-requires c κs = search needs
@@ -71,19 +67,19 @@ part-requires c κs = search needs
 scan-word-requires : tie.Need-scan-word-requires
 scan-word-requires c κs =
     let groups = c .before .before .before .before .before in
-    let start = groups .before .before .before in
+    let start = groups .before .before .before .before in
     let bounds : Bounded (start .args .k) ((start .args .before - 1) / 64 * 64) (Next (c .before .before .before .next .given .0 .0)) =
     subst (Bounded (start .args .k) ((start .args .before - 1) / 64 * 64)) (c .before .before .before .next .given .1) (groups .scan-groups .ensures .0) in
-    (omega arith, omega arith, omega arith, start .pre .0 .3)
+    (omega arith, omega arith, omega arith, groups .before .core-of .ensures)
 
 -- what the last word tells
 last : (c : tie.After-scan-word)
-    → Stepped (inWindow (free (now (c .before .before .before .before .before .before .before .before .before .args .map))) (c .before .before .before .before .before .before .before .before .before .args .from) (c .before .before .before .before .before .before .before .before .before .args .before))
-    (c .before .before .before .before .before .before .before .before .before .args .k)
-    ((c .before .before .before .before .before .before .before .before .before .args .before - 1) / 64 * 64 + 64) (c .scan-word .result)
+    → Stepped (inWindow (free (now (c .before .before .before .before .before .before .before .before .before .before .args .map))) (c .before .before .before .before .before .before .before .before .before .before .args .from) (c .before .before .before .before .before .before .before .before .before .before .args .before))
+    (c .before .before .before .before .before .before .before .before .before .before .args .k)
+    ((c .before .before .before .before .before .before .before .before .before .before .args .before - 1) / 64 * 64 + 64) (c .scan-word .result)
 last c =
     let groups = c .before .before .before .before .before .before in
-    let a = groups .before .before .before .args in
+    let a = groups .before .before .before .before .args in
     let f : ℕ → Bool = inWindow (free (now (a .map))) (a .from) (a .before) in
     c .scan-word .ensures .1 f (cut-word (now (a .map)) (a .from) (a .before) ((a .before - 1) / 64) (c .before .part .result) (c .before .part .ensures))
     (subst (Stepped f (a .k) ((a .before - 1) / 64 * 64)) (c .before .before .before .before .next .given .1) (between groups))
@@ -103,7 +99,7 @@ returns-3 c = subst (Stepped _ _ _) (c .before .start2 .given .1) (last (c .befo
 returns-4 : tie.Need-returns-4
 returns-4 c =
     let here = c .before .before in
-    let a = here .before .before .before .before .before .before .before .before .before .args in
+    let a = here .before .before .before .before .before .before .before .before .before .before .args in
     at-end (free (now (a .map))) (a .from) (a .before) (a .k) ((a .before - 1) / 64 * 64 + 64) _ (omega arith)
     (subst (Stepped _ _ _) (c .enum-told .given .1) (last here))
 
@@ -111,11 +107,10 @@ pub search-on-spec : {M : Type 1} → statement M
 search-on-spec =
     tie.close
     (tie.spec
-    cast-first
-    add-first
     sub-last
     cast-last
     returns
+    core-of-requires
     scan-groups-requires
     enum-known-start
     enum-known-next
