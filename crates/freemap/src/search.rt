@@ -116,6 +116,14 @@ fn skip_taken(map: &[u64], first: usize, stop: usize, s: u32) -> Place
     }
 }
 
+// The end of the group of words that starts at word i: eight words, or fewer before stop.
+fn group_end(i: usize, stop: usize) -> usize
+    requires { ⌜ (i < stop) × (stop ≤ 4096) ⌝ }
+    ensures { λ r. ⌜ (i < r) × (r ≤ stop) ⌝ }
+{
+    if 8 <= stop - i { i + 8 } else { stop }
+}
+
 // The search at the words first to stop - 1, eight at a time: after each eight, words that are all taken are skipped.
 fn scan_groups(map: &[u64], first: usize, stop: usize, s: u32, k: u32, core: u64) -> Step
     requires { ⌜ (first ≤ stop) × (stop ≤ 4096) × (stop ≤ length (now map)) × (s ≤ first * 64) × (s < k) × Core k core ⌝ }
@@ -124,8 +132,8 @@ fn scan_groups(map: &[u64], first: usize, stop: usize, s: u32, k: u32, core: u64
 {
     let mut i = first;
     let mut carried = s;
-    while 8 <= stop - i {
-        let end = i + 8;
+    while i < stop {
+        let end = group_end(i, stop);
         match scan_words(map, i, end, carried, k, core) {
             Step::Hit(start) => return Step::Hit(start),
             Step::Next(next) => {
@@ -135,7 +143,7 @@ fn scan_groups(map: &[u64], first: usize, stop: usize, s: u32, k: u32, core: u64
             }
         }
     }
-    scan_words(map, i, stop, carried, k, core)
+    Step::Next(carried)
 }
 
 // The search from word first on, with s free blocks right before it: the words up to the last one, then that.
