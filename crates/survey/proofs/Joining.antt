@@ -10,7 +10,7 @@ use native.Mathlib.Omega.{arith}
 use lib.Dec.{eqb}
 use lib.ListN.{length}
 use borrow.Author.Tests.{eq-eqb, ne-eqb}
-use Rattle.survey.specs.Survey.{freeOf, headOf, tailOf, longestOf, runsOf, meet, blocks}
+use Rattle.survey.specs.Survey.{freeOf, headOf, tailOf, longestOf, runsOf, meet, blocks, bitsOf, Summary}
 
 -- 1 where no free block follows
 abbrev none : ℕ → ℕ
@@ -218,3 +218,16 @@ taken-end f xs s m h =
       runs = omega (arith, runs-append xs ys, e .runs, meet-nothing (tailOf xs) (headOf ys) (e .head));
       longest = omega (arith, longest-append xs ys, e .longest, e .head, tail-longest xs);
     }
+
+-- ---- a word with no free block, before others
+
+past-none : (longest runs head : ℕ) (xs ys : List Bool) → longestOf xs ≡ 0 → tailOf xs ≡ 0 → runsOf xs ≡ 0 → headOf (xs ++ ys) ≡ 0 → Summary head longest runs ys → Summary 0 longest runs (xs ++ ys)
+past-none longest runs head xs ys l t r h s = record {
+  heads = sym h;
+  longests = omega (arith, s .longests, longest-append xs ys, head-longest ys);
+  counts = omega (arith, s .counts, runs-append xs ys, meet-none (tailOf xs) (headOf ys) t);
+}
+
+pub past-zero : (longest runs head : ℕ) (ys : List Bool) → Summary head longest runs ys → Summary 0 longest runs (bitsOf 64 0 ++ ys)
+unfolding bitsOf headOf tailOf longestOf runsOf
+past-zero longest runs head ys s = past-none longest runs head (bitsOf 64 0) ys refl refl refl refl s

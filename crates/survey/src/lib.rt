@@ -136,13 +136,23 @@ fn prepend_word_apart(table: &[u8; 1024], passed: Passed, w: u64) -> Passed
     prepend_byte_apart(table, p6, (w7 % 256) as usize)
 }
 
-// A word before the blocks passed, its last byte first.
+// A word before the blocks passed, its last byte first. A word with no free block needs no table, but it is looked for
+// only where no block passed is free: further on the test would be guessed wrong too often.
 fn prepend_word(table: &[u8; 1024], passed: Passed, w: u64) -> Passed
     requires { ⌜ Ruled (now table) ⌝ }
     requires { ⌜ (passed .head ≤ 15000000) × (passed .runs ≤ 15000000) ⌝ }
     ensures { λ r. ⌜ ((ys : List Bool) → Summary (passed .head) (passed .longest) (passed .runs) ys → Summary (r .head) (r .longest) (r .runs) (bitsOf 64 w ++ ys)) ⌝ }
     ensures { λ r. ⌜ (r .head ≤ passed .head + 2040) × (r .runs ≤ passed .runs + 2040) ⌝ }
 {
+    if passed.longest == 0 {
+        if w == 0 {
+            return Passed {
+                head: 0,
+                longest: 0,
+                runs: passed.runs,
+            };
+        }
+    }
     if bytes_apart(w) {
         return prepend_word_apart(table, passed, w);
     }
