@@ -15,7 +15,7 @@ use Rattle.survey.specs.Survey.{bitsOf, headOf, tailOf, meet, Apart}
 use Rattle.survey.proofs.Joining.{meet-none, meet-nothing, tail-none}
 
 -- the last bits of k bytes
-abbrev lasts : ℕ → ℕ
+abbrev pub lasts : ℕ → ℕ
 lasts zero = 0
 lasts (suc k) = lasts k * 256 + 1
 
@@ -35,14 +35,14 @@ apart zero w e = tt
 apart (suc k) w e = (edge-bits (w / 256) (w / 128) (lasts k) e, apart k (w / 256) (further w (lasts k) e))
 
 -- an even number ends in a 0
-tail-even : (k n : ℕ) → n % 2 ≡ 0 → tailOf (bitsOf (suc k) n) ≡ 0
+pub tail-even : (k n : ℕ) → n % 2 ≡ 0 → tailOf (bitsOf (suc k) n) ≡ 0
 unfolding bitsOf tailOf
 tail-even zero n e =
     let z : n / 2 ^ 0 % 2 ≡ 0 = omega arith in
     rw (z)
 tail-even (suc k) n e = tail-none (eqb (n / 2 ^ suc k % 2) 1) (eqb (n / 2 ^ k % 2) 1) (bitsOf k n) (tail-even k n e)
 
-head-small : (b : ℕ) (ys : List Bool) → b / 128 % 2 ≡ 0 → headOf (bitsOf 8 b ++ ys) ≡ 0
+pub head-small : (b : ℕ) (ys : List Bool) → b / 128 % 2 ≡ 0 → headOf (bitsOf 8 b ++ ys) ≡ 0
 unfolding bitsOf headOf
 head-small b ys e = rw (e)
 

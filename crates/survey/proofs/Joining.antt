@@ -49,7 +49,7 @@ parts (true ∷ xs) ys =
     (λ (f : Broken xs ys). inr (record { h = omega (arith, f .h); t = omega (arith, tail-broken xs (f .t), f .t); a = ap suc (f .a) }))
     (parts xs ys)
 
-head-longest : (ys : List Bool) → headOf ys ≤ longestOf ys
+pub head-longest : (ys : List Bool) → headOf ys ≤ longestOf ys
 unfolding headOf longestOf
 head-longest [] = omega arith
 head-longest (y ∷ ys) = omega arith
@@ -149,7 +149,7 @@ product-some zero h ne = absurd (ne (zero-mul h))
 product-some (suc t) zero ne = absurd (ne (mul-zero (suc t)))
 product-some (suc t) (suc h) ne = (omega arith, refl)
 
-tail-longest : (xs : List Bool) → tailOf xs ≤ longestOf xs
+pub tail-longest : (xs : List Bool) → tailOf xs ≤ longestOf xs
 unfolding headOf tailOf longestOf
 tail-longest [] = omega arith
 tail-longest (false ∷ xs) = omega (arith, tail-longest xs)
@@ -186,6 +186,36 @@ longest-apart xs ys e =
     (λ (t : tailOf xs ≡ 0). omega (arith, longest-append xs ys, head-longest ys))
     (λ (h : headOf ys ≡ 0). omega (arith, longest-append xs ys, tail-longest xs))
     (one-side (tailOf xs) (headOf ys) e)
+
+-- ---- a list that is not all free, before another and behind one
+
+pub head-short : (xs ys : List Bool) → headOf xs < length xs → headOf (xs ++ ys) ≡ headOf xs
+head-short xs ys l = ⊎-elim (λ (f : Full xs ys). absurd (omega (arith, f .h))) (λ (f : Broken xs ys). f .a) (parts xs ys)
+
+pub tail-pos : (x : Bool) (xs : List Bool) → 0 < tailOf xs → 0 < tailOf (x ∷ xs)
+unfolding tailOf
+tail-pos false xs p = p
+tail-pos true xs p = ⊎-elim (λ (f : Full xs []). omega (arith, tail-full xs (f .t))) (λ (f : Broken xs []). omega (arith, tail-broken xs (f .t))) (parts xs [])
+
+length-more : (xs ys : List Bool) → length (xs ++ ys) ≡ length xs + length ys
+length-more [] ys = omega arith
+length-more (x ∷ xs) ys = omega (arith, length-more xs ys)
+
+pub tail-short : (xs ys : List Bool) → tailOf ys < length ys → (tailOf (xs ++ ys) ≡ tailOf ys) × (tailOf (xs ++ ys) < length (xs ++ ys))
+unfolding tailOf
+tail-short [] ys l = (refl, l)
+tail-short (false ∷ xs) ys l = let r = tail-short xs ys l in (r .0, omega (arith, r .1))
+tail-short (true ∷ xs) ys l = let r = tail-short xs ys l in (tail-broken (xs ++ ys) (r .1) ∙ r .0, omega (arith, r .1, tail-broken (xs ++ ys) (r .1)))
+
+pub runs-length : (xs : List Bool) → runsOf xs ≤ length xs
+unfolding runsOf
+runs-length [] = omega arith
+runs-length (true ∷ xs) = one (eqb (headOf xs) 0) (runs-length xs)
+  where
+    one : (b : Bool) → runsOf xs ≤ length xs → cond b 1 0 + runsOf xs ≤ suc (length xs)
+    one true l = omega arith
+    one false l = omega arith
+runs-length (false ∷ xs) = omega (arith, runs-length xs)
 
 -- ---- taken blocks at the end
 

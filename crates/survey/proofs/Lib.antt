@@ -5,4 +5,5 @@ pub mod Bytes
 pub mod Joining
 pub mod Passing
 pub mod Rule
+pub mod Short
 pub mod Words

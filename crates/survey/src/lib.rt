@@ -7,7 +7,7 @@ ghost use Prim.Native.Nat.{_+_, _*_, _-_, _<_, _≤_, _/_, _%_, max};
 ghost use lib.Dec.{eqb};
 ghost use lib.ListN.{length};
 ghost use Rattle.freemap.specs.Blocks.{free};
-ghost use Rattle.survey.specs.Survey.{bitsOf, headOf, tailOf, column, countsOf, meet, Summary, Ruled, Apart, Before};
+ghost use Rattle.survey.specs.Survey.{bitsOf, headOf, tailOf, longestOf, runsOf, column, countsOf, meet, Summary, Ruled, Apart, Short, runsIn, crossed, Before};
 
 mod table;
 
@@ -136,26 +136,98 @@ fn prepend_word_apart(table: &[u8; 1024], passed: Passed, w: u64) -> Passed
     prepend_byte_apart(table, p6, (w7 % 256) as usize)
 }
 
-// A word before the blocks passed, its last byte first. A word with no free block needs no table, but it is looked for
-// only where no block passed is free: further on the test would be guessed wrong too often.
-fn prepend_word(table: &[u8; 1024], passed: Passed, w: u64) -> Passed
+// The longest run of the last byte of w.
+fn byte_longest(table: &[u8; 1024], w: u64) -> u8
+    requires { ⌜ Ruled (now table) ⌝ }
+    ensures { λ r. ⌜ r ≡ longestOf (bitsOf 8 (w % 256)) ⌝ }
+{
+    entry(table, 4 * ((w % 256) as usize) + 2)
+}
+
+// The runs of the last byte of w.
+fn byte_runs(table: &[u8; 1024], w: u64) -> u8
+    requires { ⌜ Ruled (now table) ⌝ }
+    ensures { λ r. ⌜ (r ≡ runsOf (bitsOf 8 (w % 256))) × (r ≤ 8) ⌝ }
+{
+    entry(table, 4 * ((w % 256) as usize) + 3)
+}
+
+// No byte of w is all free: their longest runs, or-ed together, are below 8.
+fn bytes_short(table: &[u8; 1024], w: u64) -> bool
+    requires { ⌜ Ruled (now table) ⌝ }
+    ensures { λ r. ⌜ (r ≡ true → Short 8 w) ⌝ }
+{
+    let w1 = w / 256;
+    let w2 = w1 / 256;
+    let w3 = w2 / 256;
+    let w4 = w3 / 256;
+    let w5 = w4 / 256;
+    let w6 = w5 / 256;
+    let w7 = w6 / 256;
+    let any1 = byte_longest(table, w) | byte_longest(table, w1);
+    let any2 = any1 | byte_longest(table, w2);
+    let any3 = any2 | byte_longest(table, w3);
+    let any4 = any3 | byte_longest(table, w4);
+    let any5 = any4 | byte_longest(table, w5);
+    let any6 = any5 | byte_longest(table, w6);
+    any6 | byte_longest(table, w7) < 8
+}
+
+// The runs of the bytes of w, added up.
+fn runs_of_bytes(table: &[u8; 1024], w: u64) -> u8
+    requires { ⌜ Ruled (now table) ⌝ }
+    ensures { λ r. ⌜ (r ≡ runsIn 8 w) × (r ≤ 64) ⌝ }
+{
+    let w1 = w / 256;
+    let w2 = w1 / 256;
+    let w3 = w2 / 256;
+    let w4 = w3 / 256;
+    let w5 = w4 / 256;
+    let w6 = w5 / 256;
+    let w7 = w6 / 256;
+    let n1 = byte_runs(table, w) + byte_runs(table, w1);
+    let n2 = n1 + byte_runs(table, w2);
+    let n3 = n2 + byte_runs(table, w3);
+    let n4 = n3 + byte_runs(table, w4);
+    let n5 = n4 + byte_runs(table, w5);
+    let n6 = n5 + byte_runs(table, w6);
+    n6 + byte_runs(table, w7)
+}
+
+// How often a run goes on from a byte of w into the next. The bits that tell it are a byte apart, so that their sum is the
+// remainder of 255.
+fn crossings(w: u64) -> u32
+    ensures { λ r. ⌜ r ≡ crossed 7 w ⌝ }
+{
+    (((w / 256) & (w / 128) & LAST_BITS) % 255) as u32
+}
+
+// A word before the blocks passed, where none of its bytes is all free and a run of 14, which is the longest that two such
+// bytes make, would not be the longest.
+fn prepend_word_short(table: &[u8; 1024], passed: Passed, w: u64) -> Passed
+    requires { ⌜ Ruled (now table) × Short 8 w ⌝ }
+    requires { ⌜ (14 ≤ passed .longest) × (passed .head ≤ 15000000) × (passed .runs ≤ 15000000) ⌝ }
+    ensures { λ r. ⌜ ((ys : List Bool) → Summary (passed .head) (passed .longest) (passed .runs) ys → Summary (r .head) (r .longest) (r .runs) (bitsOf 64 w ++ ys)) ⌝ }
+    ensures { λ r. ⌜ (r .head ≤ passed .head + 2040) × (r .runs ≤ passed .runs + 2040) ⌝ }
+{
+    let w7 = w / 256 / 256 / 256 / 256 / 256 / 256 / 256;
+    let h = entry(table, 4 * ((w7 % 256) as usize)) as u32;
+    let t = entry(table, 4 * ((w % 256) as usize) + 1) as u32;
+    let n = (runs_of_bytes(table, w) as u32) - crossings(w);
+    Passed {
+        head: h,
+        longest: larger(passed.longest, t + passed.head),
+        runs: joined_runs(t, n, passed.head, passed.runs),
+    }
+}
+
+// A word before the blocks passed, whatever its bytes are: the last one first, each joined to what is behind it.
+fn prepend_word_joined(table: &[u8; 1024], passed: Passed, w: u64) -> Passed
     requires { ⌜ Ruled (now table) ⌝ }
     requires { ⌜ (passed .head ≤ 15000000) × (passed .runs ≤ 15000000) ⌝ }
     ensures { λ r. ⌜ ((ys : List Bool) → Summary (passed .head) (passed .longest) (passed .runs) ys → Summary (r .head) (r .longest) (r .runs) (bitsOf 64 w ++ ys)) ⌝ }
     ensures { λ r. ⌜ (r .head ≤ passed .head + 2040) × (r .runs ≤ passed .runs + 2040) ⌝ }
 {
-    if passed.longest == 0 {
-        if w == 0 {
-            return Passed {
-                head: 0,
-                longest: 0,
-                runs: passed.runs,
-            };
-        }
-    }
-    if bytes_apart(w) {
-        return prepend_word_apart(table, passed, w);
-    }
     let w1 = w / 256;
     let w2 = w1 / 256;
     let w3 = w2 / 256;
@@ -171,6 +243,34 @@ fn prepend_word(table: &[u8; 1024], passed: Passed, w: u64) -> Passed
     let p5 = prepend_byte(table, p4, (w5 % 256) as usize);
     let p6 = prepend_byte(table, p5, (w6 % 256) as usize);
     prepend_byte(table, p6, (w7 % 256) as usize)
+}
+
+// A word before the blocks passed. A word with no free block needs no table, but it is looked for only where no block
+// passed is free: further on the test would be guessed wrong too often.
+fn prepend_word(table: &[u8; 1024], passed: Passed, w: u64) -> Passed
+    requires { ⌜ Ruled (now table) ⌝ }
+    requires { ⌜ (passed .head ≤ 15000000) × (passed .runs ≤ 15000000) ⌝ }
+    ensures { λ r. ⌜ ((ys : List Bool) → Summary (passed .head) (passed .longest) (passed .runs) ys → Summary (r .head) (r .longest) (r .runs) (bitsOf 64 w ++ ys)) ⌝ }
+    ensures { λ r. ⌜ (r .head ≤ passed .head + 2040) × (r .runs ≤ passed .runs + 2040) ⌝ }
+{
+    if passed.longest == 0 {
+        if w == 0 {
+            return Passed {
+                head: 0,
+                longest: 0,
+                runs: passed.runs,
+            };
+        }
+    }
+    if 14 <= passed.longest {
+        if bytes_short(table, w) {
+            return prepend_word_short(table, passed, w);
+        }
+    }
+    if bytes_apart(w) {
+        return prepend_word_apart(table, passed, w);
+    }
+    prepend_word_joined(table, passed, w)
 }
 
 // The bits of the last word that holds one of the first n blocks which lie before block n.

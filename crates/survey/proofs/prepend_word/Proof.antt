@@ -1,4 +1,4 @@
--- `survey::prepend_word` meets its contract: eight bytes, the lowest first.
+-- `survey::prepend_word` meets its contract, each way by the function it calls.
 -- Assumes nothing.
 use mathlib.Core.Path.{sym, subst}
 use mathlib.Core.List.{_++_}
@@ -6,7 +6,6 @@ use Prim.Native.Nat.{ℕ}
 use native.Mathlib.Omega.{arith}
 use Rattle.survey.specs.Survey.{bitsOf, Summary}
 use Rattle.survey.proofs.Joining.{past-zero}
-use Rattle.survey.proofs.Words.{word-bits}
 use borrow.Author.Needs.{needs}
 use Rattle.survey.proofs.prepend_word.Statement.{statement}
 use Rattle.survey.proofs.prepend_word.Tie as tie
@@ -21,62 +20,44 @@ returns c =
       omega arith,
     )
 
-bytes-apart-requires : tie.Need-bytes-apart-requires
-bytes-apart-requires c κs = search needs
+bytes-short-requires : tie.Need-bytes-short-requires
+bytes-short-requires c κs = search needs
 
-prepend-word-apart-requires : tie.Need-prepend-word-apart-requires
-prepend-word-apart-requires c κs = ((c .before .before .before .before .pre .0, c .before .bytes-apart .ensures (c .if3 .taken)), c .before .before .before .before .pre .1)
+prepend-word-short-requires : tie.Need-prepend-word-short-requires
+prepend-word-short-requires c κs =
+    let start = c .before .before .before .before .before .before in
+    ((start .pre .0, c .before .bytes-short .ensures (c .if4 .taken)), (omega arith, omega arith, omega arith))
 
 returns-2 : tie.Need-returns-2
 returns-2 c = search needs
 
-prepend-byte-requires : tie.Need-prepend-byte-requires
-prepend-byte-requires c κs = search needs
+bytes-apart-requires : tie.Need-bytes-apart-requires
+bytes-apart-requires c κs = search needs
 
-prepend-byte-requires-2 : tie.Need-prepend-byte-requires-2
-prepend-byte-requires-2 c κs = search needs
-
-prepend-byte-requires-3 : tie.Need-prepend-byte-requires-3
-prepend-byte-requires-3 c κs = search needs
-
-prepend-byte-requires-4 : tie.Need-prepend-byte-requires-4
-prepend-byte-requires-4 c κs = search needs
-
-prepend-byte-requires-5 : tie.Need-prepend-byte-requires-5
-prepend-byte-requires-5 c κs = search needs
-
-prepend-byte-requires-6 : tie.Need-prepend-byte-requires-6
-prepend-byte-requires-6 c κs = (c .before .before .before .before .before .before .before .before .before .pre .0, omega (arith, c .before .before .before .before .before .before .before .before .before .pre .1, c .before .before .before .before .prepend-byte .ensures .1, c .before .before .before .prepend-byte2 .ensures .1, c .before .before .prepend-byte3 .ensures .1, c .before .prepend-byte4 .ensures .1, c .prepend-byte5 .ensures .1))
-
-prepend-byte-requires-7 : tie.Need-prepend-byte-requires-7
-prepend-byte-requires-7 c κs = (c .before .before .before .before .before .before .before .before .before .before .pre .0, omega (arith, c .before .before .before .before .before .before .before .before .before .before .pre .1, c .prepend-byte6 .ensures .1, c .before .prepend-byte5 .ensures .1, c .before .before .prepend-byte4 .ensures .1, c .before .before .before .prepend-byte3 .ensures .1, c .before .before .before .before .prepend-byte2 .ensures .1, c .before .before .before .before .before .prepend-byte .ensures .1))
-
-prepend-byte-requires-8 : tie.Need-prepend-byte-requires-8
-prepend-byte-requires-8 c κs = (c .before .before .before .before .before .before .before .before .before .before .before .pre .0, omega (arith, c .before .before .before .before .before .before .before .before .before .before .before .pre .1, c .prepend-byte7 .ensures .1, c .before .prepend-byte6 .ensures .1, c .before .before .prepend-byte5 .ensures .1, c .before .before .before .prepend-byte4 .ensures .1, c .before .before .before .before .prepend-byte3 .ensures .1, c .before .before .before .before .before .prepend-byte2 .ensures .1, c .before .before .before .before .before .before .prepend-byte .ensures .1))
+prepend-word-apart-requires : tie.Need-prepend-word-apart-requires
+prepend-word-apart-requires c κs =
+    let start = c .before .before .before .before .before .before in
+    ((start .pre .0, c .before .bytes-apart .ensures (c .if5 .taken)), start .pre .1)
 
 returns-3 : tie.Need-returns-3
-returns-3 c = (
-  λ ys s.
-      subst (Summary _ _ _) (word-bits 8 (c .before .before .before .before .before .before .before .before .before .before .before .before .args .w) ys)
-      (c .prepend-byte8 .ensures .0 _ (c .before .prepend-byte7 .ensures .0 _ (c .before .before .prepend-byte6 .ensures .0 _ (c .before .before .before .prepend-byte5 .ensures .0 _
-      (c .before .before .before .before .prepend-byte4 .ensures .0 _ (c .before .before .before .before .before .prepend-byte3 .ensures .0 _ (c .before .before .before .before .before .before .prepend-byte2 .ensures .0 _ (c .before .before .before .before .before .before .before .prepend-byte .ensures .0 ys s)))))))),
-  omega (arith, c .prepend-byte8 .ensures .1, c .before .prepend-byte7 .ensures .1, c .before .before .prepend-byte6 .ensures .1, c .before .before .before .prepend-byte5 .ensures .1, c .before .before .before .before .prepend-byte4 .ensures .1, c .before .before .before .before .before .prepend-byte3 .ensures .1, c .before .before .before .before .before .before .prepend-byte2 .ensures .1, c .before .before .before .before .before .before .before .prepend-byte .ensures .1),
-)
+returns-3 c = search needs
+
+prepend-word-joined-requires : tie.Need-prepend-word-joined-requires
+prepend-word-joined-requires c κs = search needs
+
+returns-4 : tie.Need-returns-4
+returns-4 c = search needs
 
 pub prepend-word-spec : {M : Type 1} → statement M
 prepend-word-spec =
     tie.close
     (tie.spec
     returns
+    bytes-short-requires
+    prepend-word-short-requires
+    returns-2
     bytes-apart-requires
     prepend-word-apart-requires
-    returns-2
-    prepend-byte-requires
-    prepend-byte-requires-2
-    prepend-byte-requires-3
-    prepend-byte-requires-4
-    prepend-byte-requires-5
-    prepend-byte-requires-6
-    prepend-byte-requires-7
-    prepend-byte-requires-8
-    returns-3)
+    returns-3
+    prepend-word-joined-requires
+    returns-4)
