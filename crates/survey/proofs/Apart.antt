@@ -11,7 +11,8 @@ use lib.Dec.{eqb}
 use lib.ListN.{length}
 use borrow.Author.Tests.{ne-eqb}
 use Rattle.freemap.proofs.Bools.{order}
-use Rattle.survey.specs.Survey.{bitsOf, headOf, tailOf, meet, Apart}
+use Rattle.survey.specs.Survey.{bitsOf, headOf, tailOf, meet}
+use Rattle.survey.specs.Words.{Apart}
 use Rattle.survey.proofs.Joining.{meet-none, meet-nothing, tail-none}
 
 -- the last bits of k bytes

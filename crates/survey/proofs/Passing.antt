@@ -8,7 +8,8 @@ use native.Mathlib.Nat.{zero-add}
 use native.Mathlib.Omega.{arith}
 use lib.Dec.{leb, ltb}
 use borrow.Author.Tests.{lt-ltb, le-ltb, le-leb}
-use Rattle.survey.specs.Survey.{blocks, bitsOf, freeOf, headOf, longestOf, runsOf, countsOf, Summary, Before}
+use Rattle.survey.specs.Survey.{blocks, bitsOf, freeOf, headOf, longestOf, runsOf, countsOf, Summary}
+use Rattle.survey.specs.Words.{Before}
 use Rattle.freemap.specs.Words.{bit, inWindow}
 use Rattle.freemap.proofs.Bits.{bit-ones}
 use Rattle.survey.specs.declared.Counts.{Counts}

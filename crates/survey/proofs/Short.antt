@@ -10,7 +10,8 @@ use lib.Bits.{bitAnd, bitOr, and-step, and-shr, and-mod, and-mask, or-add-and, a
 use lib.Dec.{eqb}
 use lib.ListN.{length}
 use Rattle.freemap.proofs.Bools.{order}
-use Rattle.survey.specs.Survey.{bitsOf, headOf, tailOf, longestOf, runsOf, meet, Short, runsIn, crossed, Summary}
+use Rattle.survey.specs.Survey.{bitsOf, headOf, tailOf, longestOf, runsOf, meet, Summary}
+use Rattle.survey.specs.Words.{Short, runsIn, crossed}
 use Rattle.survey.proofs.Apart.{lasts, tail-even, head-small}
 use Rattle.survey.proofs.Joining.{meet-none, meet-nothing, longest-append, runs-append, head-short, tail-short, tail-longest, head-longest, tail-pos}
 use Rattle.survey.proofs.Words.{eight, bytes, word-bits}

@@ -1,2 +1,3 @@
 -- What the contracts of `survey` cite.
 pub mod Survey
+pub mod Words

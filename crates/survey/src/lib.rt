@@ -7,7 +7,8 @@ ghost use Prim.Native.Nat.{_+_, _*_, _-_, _<_, _≤_, _/_, _%_, max};
 ghost use lib.Dec.{eqb};
 ghost use lib.ListN.{length};
 ghost use Rattle.freemap.specs.Blocks.{free};
-ghost use Rattle.survey.specs.Survey.{bitsOf, headOf, tailOf, longestOf, runsOf, column, countsOf, meet, Summary, Ruled, Apart, Short, runsIn, crossed, Before};
+ghost use Rattle.survey.specs.Survey.{bitsOf, headOf, tailOf, longestOf, runsOf, column, countsOf, meet, Summary, Ruled};
+ghost use Rattle.survey.specs.Words.{Apart, Short, runsIn, crossed, Before};
 
 mod table;
 

@@ -4,7 +4,7 @@ use mathlib.Core.Path.{sym, subst}
 use Prim.Native.Nat.{ℕ, _+_, _-_, _*_, _/_, _<_}
 use native.Mathlib.Omega.{arith}
 use borrow.Author.Needs.{needs}
-use Rattle.survey.specs.Survey.{Before}
+use Rattle.survey.specs.Words.{Before}
 use Rattle.survey.proofs.Passing.{part-before}
 use Rattle.survey.proofs.last_part.Statement.{statement}
 use Rattle.survey.proofs.last_part.Tie as tie

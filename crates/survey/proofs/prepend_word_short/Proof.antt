@@ -3,7 +3,8 @@
 use mathlib.Core.Path.{_≡_, sym, _∙_}
 use Prim.Native.Nat.{ℕ, _*_, _+_, _-_, _/_, _%_}
 use native.Mathlib.Omega.{arith}
-use Rattle.survey.specs.Survey.{bitsOf, column, crossed, runsIn}
+use Rattle.survey.specs.Survey.{bitsOf, column}
+use Rattle.survey.specs.Words.{crossed, runsIn}
 use Rattle.survey.proofs.Bytes.{columns}
 use Rattle.survey.proofs.Joining.{tail-runs}
 use Rattle.survey.proofs.Short.{short-word, renamed, summary-short}

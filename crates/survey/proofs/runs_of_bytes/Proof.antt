@@ -1,7 +1,7 @@
 -- `survey::runs_of_bytes` meets its contract.
 -- Assumes nothing.
 use native.Mathlib.Omega.{arith}
-use Rattle.survey.specs.Survey.{runsIn}
+use Rattle.survey.specs.Words.{runsIn}
 use borrow.Author.Needs.{needs}
 use Rattle.survey.proofs.runs_of_bytes.Statement.{statement}
 use Rattle.survey.proofs.runs_of_bytes.Tie as tie

@@ -9,7 +9,8 @@ use lib.ListN.{getD}
 use borrow.Author.Needs.{needs}
 use denote.Ref.{now}
 use Rattle.freemap.specs.Blocks.{free}
-use Rattle.survey.specs.Survey.{Summary, Before, bitsOf, freeOf, headOf, tailOf, longestOf, runsOf, column}
+use Rattle.survey.specs.Survey.{Summary, bitsOf, freeOf, headOf, tailOf, longestOf, runsOf, column}
+use Rattle.survey.specs.Words.{Before}
 use Rattle.freemap.proofs.Maps.{cut-word}
 use Rattle.survey.proofs.Joining.{free-append}
 use Rattle.survey.proofs.Passing.{rest, rest-more, counted, nothing, ones-before}
