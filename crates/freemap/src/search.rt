@@ -180,6 +180,12 @@ fn reach(map: &[u64], from: u32, before: u32) -> Reached
     let last = ((before - 1) / 64) as usize;
     let mut i = first;
     let mut w = map[first] & part(from, before, from / 64 * 64);
+    if w != 0 {
+        return Reached {
+            word: first,
+            bits: w,
+        };
+    }
     if last < first + 9 {
         return Reached {
             word: first,

@@ -43,9 +43,6 @@ mul-part c = search needs
 part-requires : tie.Need-part-requires Inv-loop μ-loop
 part-requires c κs = search needs
 
-add-if1 : tie.Need-add-if1 Inv-loop μ-loop
-add-if1 c = search needs
-
 returns : tie.Need-returns Inv-loop μ-loop
 returns c =
     let a = c .before .before .before .before .args in (
@@ -56,15 +53,28 @@ returns c =
       ),
     )
 
+add-if2 : tie.Need-add-if2 Inv-loop μ-loop
+add-if2 c = search needs
+
+returns-2 : tie.Need-returns-2 Inv-loop μ-loop
+returns-2 c =
+    let a = c .before .before .before .before .before .args in (
+      (omega arith, omega arith),
+      (
+        cut-word (now (a .map)) (a .from) (a .before) (a .from / 64) (c .before .before .part .result) (c .before .before .part .ensures),
+        λ k h. at-start (free (now (a .map))) (a .from) (a .before) k (a .from / 64 * 64) h (omega arith),
+      ),
+    )
+
 add-stop : tie.Need-add-stop Inv-loop μ-loop
 add-stop c = search needs
 
 loop-holds : tie.Need-loop-holds Inv-loop μ-loop
 loop-holds c =
-    let a = c .before .before .before .before .args in (
+    let a = c .before .before .before .before .before .args in (
       omega arith,
       omega arith,
-      cut-word (now (a .map)) (a .from) (a .before) (a .from / 64) (c .before .part .result) (c .before .part .ensures),
+      cut-word (now (a .map)) (a .from) (a .before) (a .from / 64) (c .before .before .part .result) (c .before .before .part .ensures),
       λ k h. at-start (free (now (a .map))) (a .from) (a .before) k (a .from / 64 * 64) h (omega arith),
     )
 
@@ -83,21 +93,21 @@ loop-less c = search needs
 loop-again : tie.Need-loop-again Inv-loop μ-loop
 loop-again c =
     let loop = c .before .before .before .loop in
-    let a = c .before .before .before .before .before .before .before .before .args in
+    let a = c .before .before .before .before .before .before .before .before .before .args in
     let i : ℕ = loop .i in
     let e : i * 64 + 64 ≡ (i + 1) * 64 = omega arith in
     let f : ℕ → Bool = inWindow (free (now (a .map))) (a .from) (a .before) in (
       omega arith,
       omega arith,
       λ j l. whole-words (now (a .map)) (a .from) (a .before) (i + 1) (i + 2) (omega arith) (omega arith) (i + 1) j (omega arith) (omega arith) l,
-      λ k h. subst (λ (b : ℕ). Carried f k b 0) e (past-word f k (i * 64) (loop .w) (loop .inv .2) (c .before .if2 .left) (loop .inv .3 k h)),
+      λ k h. subst (λ (b : ℕ). Carried f k b 0) e (past-word f k (i * 64) (loop .w) (loop .inv .2) (c .before .if3 .left) (loop .inv .3 k h)),
     )
 
-returns-2 : tie.Need-returns-2 Inv-loop μ-loop
-returns-2 c = ((omega arith, omega arith), (c .before .loop .inv .2, c .before .loop .inv .3))
-
 returns-3 : tie.Need-returns-3 Inv-loop μ-loop
-returns-3 c = ((omega arith, omega arith), (c .before .before .loop .inv .2, c .before .before .loop .inv .3))
+returns-3 c = ((omega arith, omega arith), (c .before .loop .inv .2, c .before .loop .inv .3))
+
+returns-4 : tie.Need-returns-4 Inv-loop μ-loop
+returns-4 c = ((omega arith, omega arith), (c .before .before .loop .inv .2, c .before .before .loop .inv .3))
 
 pub reach-spec : {M : Type 1} → statement M
 reach-spec =
@@ -112,8 +122,9 @@ reach-spec =
     shared-slice-read-w
     mul-part
     part-requires
-    add-if1
     returns
+    add-if2
+    returns-2
     add-stop
     loop-holds
     add-i
@@ -121,5 +132,5 @@ reach-spec =
     shared-slice-read-w-2
     loop-less
     loop-again
-    returns-2
-    returns-3)
+    returns-3
+    returns-4)
