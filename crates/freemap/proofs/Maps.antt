@@ -1,7 +1,7 @@
 -- The words of a map and its blocks: each block is a bit of its word, and `mapOf` is the only list of words with its blocks free.
 -- Assumes nothing.
 use mathlib.Core.Path.{_≡_, refl, sym, ap, ap₂, _∙_, subst}
-use mathlib.Core.Bool.{Bool, true, false, _&&_, cond}
+use mathlib.Core.Bool.{Bool, true, false, _&&_, cond, not}
 use mathlib.Core.List.{List}
 use Prim.Native.Nat.{ℕ, zero, suc, _+_, _-_, _*_, _/_, _%_, _<_, _^_}
 use native.Mathlib.Nat.{zero-add, div-one}
@@ -14,7 +14,7 @@ use lib.Seq.{ext-getD}
 use lib.Pow.{shr-shr}
 use native.Mathlib.Numerals.{one-add}
 use Rattle.freemap.specs.Blocks.{free}
-use Rattle.freemap.specs.Maps.{pack, words, mapOf}
+use Rattle.freemap.specs.Maps.{pack, words, mapOf, inState}
 use Rattle.freemap.specs.Words.{bit, inWindow}
 use Rattle.freemap.proofs.Bools.{and-swap}
 use Rattle.freemap.proofs.Bits.{low, word-ext, bit-and}
@@ -98,3 +98,16 @@ map-ext f w l e small same =
     word-ext (getD l i 0) (pack f (i * 64) 64) (small i u) (pack-lt f (i * 64) 64) (λ j v.
     sym (free-bit l i j v) ∙ same (i * 64 + j) (omega arith) ∙ sym (pack-bit f (i * 64) j v))
     ∙ sym (map-at f w i u))
+
+-- a block is in a state exactly if that is its bit
+pub in-state : (map : List ℕ) (state : Bool) (b : ℕ) → inState map state b ≡ true → free map b ≡ state
+in-state map true b e = e
+in-state map false b e = not-not (free map b) e
+  where
+    not-not : (a : Bool) → not a ≡ true → a ≡ false
+    not-not true e = sym e
+    not-not false e = refl
+
+pub state-of : (map : List ℕ) (state : Bool) (b : ℕ) → free map b ≡ state → inState map state b ≡ true
+state-of map true b e = e
+state-of map false b e = ap not e

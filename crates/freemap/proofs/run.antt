@@ -1,3 +1,4 @@
 -- What the proofs of `run` use.
+mod Freshness
 mod Rewrite
 mod Test

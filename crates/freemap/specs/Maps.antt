@@ -6,7 +6,7 @@ use mathlib.Core.Bool.{Bool, not, _&&_, cond}
 use mathlib.Core.List.{List, [], _∷_}
 use lib.Dec.{leb, ltb}
 use lib.ListN.{length}
-use Rattle.freemap.specs.Blocks.{free}
+use Rattle.freemap.specs.Blocks.{free, all}
 
 -- The m blocks from b on as a number of m bits, the first the most significant; 1 is free.
 unfoldable pub pack : (ℕ → Bool) → ℕ → ℕ → ℕ
@@ -41,3 +41,7 @@ marked map start k to = mapOf (λ b. cond (inRun start k b) to (free map b)) (le
 -- Block b of the map is in a state: free (state is true) or taken.
 abbrev pub inState : List ℕ → Bool → ℕ → Bool
 inState map state b = cond state (free map b) (not (free map b))
+
+-- The map is that of a fresh card of n blocks: those below n are free, bits from n on are 0.
+unfoldable pub isFresh : List ℕ → ℕ → Bool
+isFresh map n = all (λ b. inState map (ltb b n) b) 0 (64 * length map)

@@ -5,7 +5,7 @@ ghost use Prim.Native.Nat.{ℕ, _+_, _*_, _<_, _≤_};
 ghost use lib.Dec.{ltb};
 ghost use lib.ListN.{length};
 ghost use Rattle.freemap.specs.Blocks.{all};
-ghost use Rattle.freemap.specs.Maps.{inState, marked, freshMap};
+ghost use Rattle.freemap.specs.Maps.{inState, marked, freshMap, isFresh};
 ghost use Rattle.freemap.specs.Words.{bit};
 use super::word::covers;
 use super::word::part;
@@ -75,4 +75,19 @@ pub fn fresh(map: &mut [u64], n: u32)
         map[i] = fresh_word((i as u32) * 64, n);
         i += 1;
     }
+}
+
+// Whether the map is that of a fresh card of n blocks.
+pub fn is_fresh(map: &[u64], n: u32) -> bool
+    requires { ⌜ length (now map) ≤ 4096 ⌝ }
+    ensures { λ r. ⌜ r ≡ isFresh (now (map .entry)) n ⌝ }
+{
+    let mut i: usize = 0;
+    while i < map.len() {
+        if map[i] != fresh_word((i as u32) * 64, n) {
+            return false;
+        }
+        i += 1;
+    }
+    true
 }
