@@ -1,0 +1,62 @@
+-- What save and load answer and leave (document 01, "Saved image"). A refusal changes nothing but the scratch, which is all
+-- zeros after every save and load.
+-- Assumes nothing.
+use mathlib.Core.Path.{_≡_}
+use mathlib.Core.List.{List}
+use Prim.Native.Nat.{ℕ}
+use lib.ListN.{length, replicate}
+use Rattle.calls.specs.Rows.{Verdict, settle}
+use Rattle.catalogue.specs.declared.Entry.{Entry}
+use Rattle.soundness.specs.Sound.{State}
+use Rattle.image.specs.Image.{imageOf, stateIn}
+use Rattle.image.specs.Table.{saveVerdict, loadVerdict}
+use Rattle.image.specs.declared.Loaded.{Loaded}
+
+-- 0 for a call that was accepted, or the refusal's number.
+abbrev pub numberOf : Verdict → ℕ
+numberOf v = settle v 0 (λ number. number)
+
+abbrev pub zeroed : List ℕ → List ℕ
+zeroed scratch = replicate (length scratch) 0
+
+-- Save, of n, the free count, the map and the entries, with a scratch and a buffer.
+module _ (n spare : ℕ) (map : List ℕ) (entries : List Entry) (scratch buffer : List ℕ) where
+  abbrev pub lentState : State
+  lentState = record { blocks = n; spare = spare; entries = entries; map = map }
+
+  unfoldable pub saveNumber : ℕ
+  unfolding saveVerdict
+  saveNumber = numberOf (saveVerdict lentState (length scratch) (length buffer))
+
+  unfoldable pub saveScratch : List ℕ
+  saveScratch = zeroed scratch
+
+  unfoldable pub saveBuffer : List ℕ
+  unfolding saveVerdict
+  saveBuffer = settle (saveVerdict lentState (length scratch) (length buffer)) (imageOf lentState) (λ number. buffer)
+
+  abbrev pub Saves : ℕ → List ℕ → List ℕ → Type 0
+  Saves r scratch′ buffer′ = (r ≡ saveNumber) × (scratch′ ≡ saveScratch) × (buffer′ ≡ saveBuffer)
+
+-- Load, of an image into a map, a catalogue and a scratch.
+module _ (image map : List ℕ) (entries : List Entry) (scratch : List ℕ) where
+  unfoldable pub loadOutcome : Loaded
+  unfolding loadVerdict
+  loadOutcome =
+      settle (loadVerdict image (length map) (length entries) (length scratch))
+      (record { number = 0; blocks = stateIn image .blocks; free = stateIn image .spare })
+      (λ number. record { number = number; blocks = 0; free = 0 })
+
+  unfoldable pub loadMap : List ℕ
+  unfolding loadVerdict
+  loadMap = settle (loadVerdict image (length map) (length entries) (length scratch)) (stateIn image .map) (λ number. map)
+
+  unfoldable pub loadEntries : List Entry
+  unfolding loadVerdict
+  loadEntries = settle (loadVerdict image (length map) (length entries) (length scratch)) (stateIn image .entries) (λ number. entries)
+
+  unfoldable pub loadScratch : List ℕ
+  loadScratch = zeroed scratch
+
+  abbrev pub Loads : Loaded → List ℕ → List Entry → List ℕ → Type 0
+  Loads r map′ entries′ scratch′ = (r ≡ loadOutcome) × (map′ ≡ loadMap) × (entries′ ≡ loadEntries) × (scratch′ ≡ loadScratch)

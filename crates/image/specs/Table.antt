@@ -1,0 +1,58 @@
+-- The rows of save and load (document 01, "Saved image"), in its order. A call is refused with the first row that holds.
+-- Assumes nothing.
+use mathlib.Core.Bool.{Bool, not, _&&_}
+use mathlib.Core.List.{List, [], _∷_}
+use Prim.Native.Nat.{ℕ, _*_, _/_, _%_}
+use lib.Dec.{eqb, leb}
+use lib.ListN.{length}
+use Rattle.calls.specs.Rows.{Row, row, Verdict, firstOf}
+use Rattle.calls.specs.Views.{shapeFits, sheetsFit}
+use Rattle.frames.specs.Frames.{totalOf, framed}
+use Rattle.soundness.specs.Sound.{State, sound}
+use Rattle.image.specs.Image.{wordsFor, framesFor, blocksIn, spareIn, sheetsIn, stateIn, filled}
+
+-- n, c and the free count are within their limits, and the lent map and scratch have w words.
+unfoldable pub saveFits : ℕ → ℕ → ℕ → ℕ → ℕ → Bool
+saveFits n spare c maplen scratchlen = shapeFits n spare maplen && sheetsFit c && eqb scratchlen maplen
+
+-- Save, of a state, with a scratch and a buffer of these lengths: 1, 4, then 12 unless the buffer is exactly the image's length.
+unfoldable pub saveRows : State → ℕ → ℕ → List Row
+unfolding saveFits
+saveRows s scratchlen bufferlen =
+    row 1 (not (saveFits (s .blocks) (s .spare) (length (s .entries)) (length (s .map)) scratchlen))
+    ∷ row 4 (not (sound s))
+    ∷ row 12 (not (eqb bufferlen (512 * framesFor (s .blocks) (length (s .entries)))))
+    ∷ []
+
+-- 1 to 91 whole blocks.
+unfoldable pub wholeBlocks : ℕ → Bool
+wholeBlocks bytes = eqb (bytes % 512) 0 && leb 1 (bytes / 512) && leb (bytes / 512) 91
+
+-- n, c and the free count are within their limits, and the number of image blocks fits them.
+unfoldable pub headFits : ℕ → ℕ → ℕ → ℕ → Bool
+headFits n spare c total = shapeFits n spare (wordsFor n) && sheetsFit c && eqb total (framesFor n c)
+
+-- The lent map, catalogue and scratch have the lengths that n and c want.
+unfoldable pub loadFits : ℕ → ℕ → ℕ → ℕ → ℕ → Bool
+loadFits n c maplen count scratchlen = eqb maplen (wordsFor n) && eqb count c && eqb scratchlen (wordsFor n)
+
+-- Load, of an image into a map, a catalogue and a scratch of these lengths: 12 unless 1 to 91 whole blocks; 13 if any frame's
+-- number, total or check is wrong; 14 if n, c or the free count is out of limits or the total doesn't fit them; 1 if a lent
+-- length is another; 14 if the state isn't sound or the fill not zero.
+unfoldable pub loadRows : List ℕ → ℕ → ℕ → ℕ → List Row
+unfolding wholeBlocks headFits loadFits
+loadRows image maplen count scratchlen =
+    row 12 (not (wholeBlocks (length image)))
+    ∷ row 13 (not (framed image))
+    ∷ row 14 (not (headFits (blocksIn image) (spareIn image) (sheetsIn image) (totalOf image)))
+    ∷ row 1 (not (loadFits (blocksIn image) (sheetsIn image) maplen count scratchlen))
+    ∷ row 14 (not (sound (stateIn image) && filled image (blocksIn image) (sheetsIn image)))
+    ∷ []
+
+unfoldable pub saveVerdict : State → ℕ → ℕ → Verdict
+unfolding saveRows
+saveVerdict s scratchlen bufferlen = firstOf (saveRows s scratchlen bufferlen)
+
+unfoldable pub loadVerdict : List ℕ → ℕ → ℕ → ℕ → Verdict
+unfolding loadRows
+loadVerdict image maplen count scratchlen = firstOf (loadRows image maplen count scratchlen)

@@ -1,0 +1,3 @@
+-- What the contracts of `soundness` cite.
+pub mod Releases
+pub mod Sound
