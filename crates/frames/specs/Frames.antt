@@ -3,11 +3,15 @@
 -- Assumes nothing.
 use mathlib.Core.Bool.{Bool}
 use mathlib.Core.List.{List, [], _++_}
-use Prim.Native.Nat.{ℕ, zero, suc, _/_}
-use lib.ListN.{length, take, drop}
+use Prim.Native.Nat.{ℕ, zero, suc, _/_, _<_}
+use lib.ListN.{length, getD, take, drop}
 use Rattle.freemap.specs.Blocks.{all}
 use Rattle.block.specs.Card.{blockOf}
 use Rattle.block.specs.Sealed.{sealed, sound, payloadOf}
+
+-- Every element of a list is a byte, as those of a byte slice are.
+abbrev pub Bytes : List ℕ → Type 0
+Bytes bytes = (i : ℕ) → getD bytes i 0 < 256
 
 -- k image blocks of `total`, from number i on, that carry the bytes of a body.
 unfoldable pub frames : ℕ → ℕ → ℕ → List ℕ → List ℕ
