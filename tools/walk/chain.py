@@ -3,13 +3,19 @@
     let x = first(..);  second(..);  ..  last(..)
 
 with a call or the name of a let at its end. Each callee is lent what it takes: a value and a `&` slice are copied; a
-`&mut` slice is lent again, or as a `&`, for a lifetime of the call, and comes back."""
+`&mut` slice is lent again, or as a `&`, for a lifetime of the call, and comes back.
+
+The function ensures what the calls come to, composed as they are; or, by a law, what follows from that."""
 import re
 
 from walk.call import Arg, Call, copy
 from walk.module import Walk, imports
 from walk.text import HERE, Steps, arrows, cons, facts, paragraphs, spaced, tuple_of
 from walk.types import Type, Value
+
+
+def indented(text):
+    return re.sub(r'(?m)^(?=.)', '  ', text)
 
 
 def parse(lines, params, result, structs):
@@ -34,10 +40,10 @@ def parse(lines, params, result, structs):
 
 
 class Chain(Walk):
-    def __init__(self, section, name, params, result, lines):
+    def __init__(self, section, name, params, result, lines, by_law=False):
         calls, self.returned = parse(lines, params, result, section.structs)
         super().__init__(section, name, params, result, calls)
-        self.lines = lines
+        self.lines, self.by_law = lines, by_law
         self.lay_out()
         self.name_values()
 
@@ -87,9 +93,12 @@ class Chain(Walk):
     # ---- the text of the module
 
     def text(self):
-        body = paragraphs([self.signature(), self.code()] + [c.contract() for c in self.callees]
-                          + [self.meaning(), self.clauses(), self.in_hand(), self.values_in_hand()]
-                          + [c.asks(self.elements(c)) for c in self.callees] + [self.exits(), self.walk(), self.theorem()])
+        walked = [self.clauses(), self.in_hand(), self.values_in_hand()]
+        walked += [c.asks(self.elements(c)) for c in self.callees] + [self.exits(), self.walk(), self.theorem()]
+        if self.by_law:
+            walked = [indented(x) for x in walked]
+            walked[0] = self.law() + walked[0]
+        body = paragraphs([self.signature(), self.code()] + [c.contract() for c in self.callees] + [self.meaning()] + walked)
         shown = '\n'.join(f'--     {line}' for line in self.lines)
         return f'''{self.headed()}
 {shown}
@@ -118,10 +127,23 @@ class Chain(Walk):
     {name}-of = {' '.join(w if i == 0 or w in params else w + '-of' for i, w in enumerate(words))}
 
 '''
+        if self.by_law:
+            return text.rstrip('\n') + '\n'
         of = lambda v: v if v in params else v + '-of'
         given = [f'r ≡ {self.returned.var}-of'] + [f'{p.var}′ ≡ {of(self.last[p.var])}' for p in self.muts]
         return text + f'''    abbrev Says : {self.result.denotes} → {arrows(p.speaks for p in self.muts)}Type 0
     Says r{spaced(p.var + '′' for p in self.muts)} = {facts(given)}
+'''
+
+    def law(self):
+        """what the function ensures, and the law that the chain gives that"""
+        words = spaced(p.var for p in self.params)
+        takes = ''.join(f' ({p.var} : {p.speaks})' for p in self.params)
+        of = lambda v: v if v in self.places and v.startswith('x-') else f'({v}-of{words})'
+        given = spaced([f'({self.returned.var}-of{words})'] + [of(self.last[p.var]) for p in self.muts])
+        return f'''  -- ---- what the function ensures: what a law says of that
+  module _ (Says : {arrows(p.speaks for p in self.params)}{self.result.denotes} → {arrows(p.speaks for p in self.muts)}Type 0)
+      (law :{takes} → Says{words}{given}) where
 '''
 
     def values_in_hand(self):
@@ -156,7 +178,7 @@ class Chain(Walk):
         self.left = [x for p in self.slices for x in ('o' + p.var, 't' + p.var)]
         lasts = [at_last[p.var] if p.slice == 'mut' else 'tt' for p in self.params]
         lengths = ['l-' + p.var if p.slice == 'mut' else 'tt' for p in self.params]
-        said = tuple_of(['refl'] * (1 + len(self.muts)))
+        said = f"(law{spaced(p.now for p in self.params)})" if self.by_law else tuple_of(['refl'] * (1 + len(self.muts)))
         ending = self.ends(Steps(self.left), r.machine, r.var, r.type.owns(r.var, 'is'), lasts, lengths, said)
         as_long = arrows(f'length {at_last[p.var]} ≡ length (now {p.var})' for p in self.muts)
         return f'''    -- ---- the exit

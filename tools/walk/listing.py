@@ -6,7 +6,9 @@
     fn [CRATE::]PATH DEFINITION ..    a callee: what it gives, if anything, and what it leaves in each `&mut` slice
     walk NAME(PARAMS) [-> RESULT]     a walk module; the lines after it are its code, with a type at each let
     prove FUNCTION ROLE=FN .. LAW ..  a function that has this code: which fn a callee of the walk is, where it is not
-                                      the one of its name; for a loop also what it gives and leaves, with the laws of that"""
+                                      the one of its name; for a loop also what it gives and leaves, with the laws of that;
+                                      for a chain whose contract follows from what its calls come to, the definition of
+                                      what it says and the law"""
 import re
 
 from walk.array import LentArray
@@ -54,8 +56,13 @@ class Section:
         """each file that is written, and its text"""
         for head, code, functions in self.walks:
             name, params, result = re.fullmatch(r'(\w+)\((.*)\)(?: -> (\S+))?', head).groups()
-            form = Loop if 'catalogue[i]' in code[0] else LentArray if re.fullmatch(r'let (mut )?\w+ = \w+;', code[0]) else Chain
-            walk = form(self, name, parameters(params, self.structs), Type(result or '()', self.structs), code)
+            words = (self, name, parameters(params, self.structs), Type(result or '()', self.structs), code)
+            if 'catalogue[i]' in code[0]:
+                walk = Loop(*words)
+            elif re.fullmatch(r'let (mut )?\w+ = \w+;', code[0]):
+                walk = LentArray(*words)
+            else:
+                walk = Chain(*words, by_law=any(laws for _, _, laws in functions))
             yield f'crates/{self.crate}/proofs/{name}.antt', walk.text()
             for path, chosen, laws in functions:
                 yield f'crates/{self.crate}/proofs/{path.replace("::", "/")}/Proof.antt', proof(walk, path, chosen, laws)

@@ -4,7 +4,7 @@ from walk.module import SIGN, proofs
 
 def proof(walk, path, chosen, laws):
     """path: the function, as Shape::pause; chosen: which function a callee of the walk is, if not the one of its name;
-    laws: what a loop gives and leaves, with the laws of that"""
+    laws: what a loop gives and leaves, with the laws of that; what a chain's contract says, with its law"""
     section, name = walk.section, path.split('::')[-1].replace('_', '-')
     here = section.crate
     callees = [(c, *section.function(chosen.get(c.role, c.role))) for c in walk.callees]

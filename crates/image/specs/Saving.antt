@@ -2,7 +2,7 @@
 -- Assumes nothing.
 use mathlib.Core.Bool.{Bool, true, false, not, _&&_, _||_, cond}
 use mathlib.Core.List.{List, [], _∷_, _++_}
-use Prim.Native.Nat.{ℕ, _+_, _-_, _*_, _/_}
+use Prim.Native.Nat.{ℕ, _+_, _-_, _*_, _/_, _%_}
 use lib.Dec.{eqb, leb}
 use lib.ListN.{length, replicate}
 use Rattle.block.specs.Sealed.{bytes4}
@@ -45,7 +45,7 @@ module _ (n spare count number : ℕ) (image : List ℕ) where
   headCursor = cursor 3 (not (eqb number 0))
 
   unfoldable pub headImage : List ℕ
-  headImage = cond (eqb number 0) (withNumber (withNumber (withNumber image 0 n) 1 spare) 2 count) image
+  headImage = cond (eqb number 0) (withNumber (withNumber (withNumber image 0 n) 1 spare) 2 (count % 4294967296)) image
 
 -- An entry is written at the cursor, which goes on behind it.
 unfoldable pub cursorAfter : Cursor → List ℕ → Entry → Cursor

@@ -10,6 +10,7 @@ use borrow.Author.Tests.{leb-true, not-true}
 use Rattle.freemap.specs.Blocks.{free}
 use Rattle.freemap.specs.Maps.{marked}
 use Rattle.freemap.proofs.Bools.{and-left, and-right}
+use Rattle.freemap.proofs.Maps.{map-length}
 use Rattle.catalogue.specs.declared.Entry.{Entry}
 use Rattle.calls.specs.Standings.{standingOf, isDamaged}
 use Rattle.calls.specs.Views.{shapeFits}
@@ -56,6 +57,15 @@ module _ (n : ℕ) (t : Tally) (scratch : List ℕ) (e : Entry) where
       by-length d =
           ap₂ (λ (a b : Bool). not a && b && not (isDamaged (standingOf n (free scratch) e)) && leb (e .length) (t .left)) s f
           ∙ ap (λ (a : Bool). not a && leb (e .length) (t .left)) d
+
+-- the scratch is as long as before
+pub scratch-length : (n : ℕ) (t : Tally) (scratch : List ℕ) (e : Entry) → length (scratchAfter n t scratch e) ≡ length scratch
+unfolding scratchAfter marked
+scratch-length n t scratch e = by (releasable n t scratch e)
+  where
+    by : (b : Bool) → length (cond b (marked scratch (e .start) (e .length) true) scratch) ≡ length scratch
+    by true = map-length _ (length scratch)
+    by false = refl
 
 -- what an entry that can be released shows
 pub record Releasable (n : ℕ) (t : Tally) (scratch : List ℕ) (e : Entry) : Type 0 where

@@ -1,0 +1,235 @@
+-- The tests of limits and lengths, one after the other, and what they show.
+-- Assumes nothing.
+use mathlib.Core.Path.{_≡_, refl, sym, ap, ap₂, _∙_}
+use mathlib.Core.Bool.{Bool, true, false, not, _&&_}
+use Prim.Native.Nat.{ℕ, _+_, _*_, _/_, _%_, _≤_, _<_}
+use native.Mathlib.Omega.{arith}
+use lib.Dec.{eqb, leb}
+use borrow.Author.Tests.{eqb-true, leb-true, eq-eqb, ne-eqb, lt-leb, le-leb}
+use Rattle.freemap.proofs.Bools.{and-left, and-right}
+use Rattle.calls.specs.Views.{shapeFits, sheetsFit}
+use Rattle.calls.proofs.Limits.{Fits, fits}
+use Rattle.image.specs.Image.{wordsFor, framesFor}
+use Rattle.image.specs.Saving.{restFits}
+use Rattle.image.specs.Table.{saveFits, wholeBlocks, headFits, loadFits}
+use Rattle.image.specs.declared.Cursor.{Cursor}
+
+pub record Sheets (c : ℕ) : Type 0 where
+  pub some : 1 ≤ c
+  pub few : c ≤ 1024
+
+sheets : (c : ℕ) → sheetsFit c ≡ true → Sheets c
+unfolding sheetsFit
+sheets c e = record { some = leb-true 1 c (and-left (leb 1 c) (leb c 1024) e); few = leb-true c 1024 (and-right (leb 1 c) (leb c 1024) e) }
+
+-- row 1 of save
+pub record SaveFits (n spare c maplen scratchlen : ℕ) : Type 0 where
+  pub shape : shapeFits n spare maplen ≡ true
+  pub limits : Fits n spare maplen
+  pub count : Sheets c
+  pub same : scratchlen ≡ maplen
+
+module _ (n spare c maplen scratchlen : ℕ) where
+  pub save-unshaped : shapeFits n spare maplen ≡ false → false ≡ saveFits n spare c maplen scratchlen
+  unfolding saveFits
+  save-unshaped s = sym (ap (λ (a : Bool). a && sheetsFit c && eqb scratchlen maplen) s)
+
+  module _ (s : shapeFits n spare maplen ≡ true) where
+    pub save-uncounted : sheetsFit c ≡ false → false ≡ saveFits n spare c maplen scratchlen
+    unfolding saveFits
+    save-uncounted t = sym (ap₂ (λ (a b : Bool). a && b && eqb scratchlen maplen) s t)
+
+    pub save-by-scratch : sheetsFit c ≡ true → eqb scratchlen maplen ≡ saveFits n spare c maplen scratchlen
+    unfolding saveFits
+    save-by-scratch t = sym (ap₂ (λ (a b : Bool). a && b && eqb scratchlen maplen) s t)
+
+  pub save-fits-to : saveFits n spare c maplen scratchlen ≡ true → SaveFits n spare c maplen scratchlen
+  unfolding saveFits
+  save-fits-to e =
+      let a : Bool = shapeFits n spare maplen in
+      let b : Bool = sheetsFit c in
+      let d : Bool = eqb scratchlen maplen in
+      let s = and-left a b (and-left (a && b) d e) in
+      record {
+        shape = s;
+        limits = fits n spare maplen s;
+        count = sheets c (and-right a b (and-left (a && b) d e));
+        same = eqb-true scratchlen maplen (and-right (a && b) d e);
+      }
+
+-- row 12 of load
+pub record Whole (bytes : ℕ) : Type 0 where
+  pub exact : bytes ≡ 512 * (bytes / 512)
+  pub some : 1 ≤ bytes / 512
+  pub few : bytes / 512 ≤ 91
+
+module _ (bytes : ℕ) where
+  pub whole-cut : (bytes % 512 ≡ 0 → ⊥) → false ≡ wholeBlocks bytes
+  unfolding wholeBlocks
+  whole-cut h = sym (ap (λ (a : Bool). a && leb 1 (bytes / 512) && leb (bytes / 512) 91) (ne-eqb (bytes % 512) 0 h))
+
+  module _ (z : bytes % 512 ≡ 0) where
+    pub whole-none : bytes / 512 < 1 → false ≡ wholeBlocks bytes
+    unfolding wholeBlocks
+    whole-none h = sym (ap₂ (λ (a b : Bool). a && b && leb (bytes / 512) 91) (eq-eqb (bytes % 512) 0 z) (lt-leb 1 (bytes / 512) h))
+
+    pub whole-by-few : leb 1 (bytes / 512) ≡ true → leb (bytes / 512) 91 ≡ wholeBlocks bytes
+    unfolding wholeBlocks
+    whole-by-few h = sym (ap₂ (λ (a b : Bool). a && b && leb (bytes / 512) 91) (eq-eqb (bytes % 512) 0 z) h)
+
+  pub whole-to : wholeBlocks bytes ≡ true → Whole bytes
+  unfolding wholeBlocks
+  whole-to e =
+      let a : Bool = eqb (bytes % 512) 0 in
+      let b : Bool = leb 1 (bytes / 512) in
+      let d : Bool = leb (bytes / 512) 91 in
+      let z : bytes % 512 ≡ 0 = eqb-true (bytes % 512) 0 (and-left a b (and-left (a && b) d e)) in
+      record {
+        exact = omega arith;
+        some = leb-true 1 (bytes / 512) (and-right a b (and-left (a && b) d e));
+        few = leb-true (bytes / 512) 91 (and-right (a && b) d e);
+      }
+
+pub to-whole : (bytes : ℕ) → Whole bytes → wholeBlocks bytes ≡ true
+to-whole bytes w =
+    let z : bytes % 512 ≡ 0 = omega (arith, w .exact) in
+    sym (whole-by-few bytes z (le-leb 1 (bytes / 512) (w .some))) ∙ le-leb (bytes / 512) 91 (w .few)
+
+-- row 14 of load for the head
+pub record Head (n spare c total : ℕ) : Type 0 where
+  pub shape : shapeFits n spare (wordsFor n) ≡ true
+  pub limits : Fits n spare (wordsFor n)
+  pub count : Sheets c
+  pub exact : total ≡ framesFor n c
+
+module _ (n spare c total : ℕ) where
+  pub head-unshaped : shapeFits n spare (wordsFor n) ≡ false → false ≡ headFits n spare c total
+  unfolding headFits
+  head-unshaped s = sym (ap (λ (a : Bool). a && sheetsFit c && eqb total (framesFor n c)) s)
+
+  pub head-large : 262144 < n → false ≡ headFits n spare c total
+  head-large h = head-unshaped (not-true′ (shapeFits n spare (wordsFor n)) (λ e. let l = fits n spare (wordsFor n) e in omega (arith, l .limit)))
+    where
+      not-true′ : (a : Bool) → (a ≡ true → ⊥) → a ≡ false
+      not-true′ true h = absurd (h refl)
+      not-true′ false h = refl
+
+  module _ (s : shapeFits n spare (wordsFor n) ≡ true) where
+    pub head-uncounted : sheetsFit c ≡ false → false ≡ headFits n spare c total
+    unfolding headFits
+    head-uncounted t = sym (ap₂ (λ (a b : Bool). a && b && eqb total (framesFor n c)) s t)
+
+    pub head-by-total : sheetsFit c ≡ true → (t : ℕ) → t ≡ framesFor n c → eqb total t ≡ headFits n spare c total
+    unfolding headFits
+    head-by-total k t e = ap (eqb total) e ∙ sym (ap₂ (λ (a b : Bool). a && b && eqb total (framesFor n c)) s k)
+
+  pub sheets-few : sheetsFit c ≡ true → c ≤ 1024
+  sheets-few e = sheets c e .few
+
+  pub head-to : headFits n spare c total ≡ true → Head n spare c total
+  unfolding headFits
+  head-to e =
+      let a : Bool = shapeFits n spare (wordsFor n) in
+      let b : Bool = sheetsFit c in
+      let d : Bool = eqb total (framesFor n c) in
+      let s = and-left a b (and-left (a && b) d e) in
+      record {
+        shape = s;
+        limits = fits n spare (wordsFor n) s;
+        count = sheets c (and-right a b (and-left (a && b) d e));
+        exact = eqb-true total (framesFor n c) (and-right (a && b) d e);
+      }
+
+-- row 1 of load
+pub record LoadFits (n c maplen count scratchlen : ℕ) : Type 0 where
+  pub words : maplen ≡ wordsFor n
+  pub entries : count ≡ c
+  pub scratch : scratchlen ≡ wordsFor n
+
+module _ (n c maplen count scratchlen w : ℕ) (ew : w ≡ wordsFor n) where
+  pub load-words : (maplen ≡ w → ⊥) → false ≡ loadFits n c maplen count scratchlen
+  unfolding loadFits
+  load-words h = sym (ap (λ (a : Bool). a && eqb count c && eqb scratchlen (wordsFor n)) (ne-eqb maplen (wordsFor n) (λ q. h (q ∙ sym ew))))
+
+  module _ (e : maplen ≡ w) where
+    pub load-entries : (count ≡ c → ⊥) → false ≡ loadFits n c maplen count scratchlen
+    unfolding loadFits
+    load-entries h = sym (ap₂ (λ (a b : Bool). a && b && eqb scratchlen (wordsFor n)) (eq-eqb maplen (wordsFor n) (e ∙ ew)) (ne-eqb count c h))
+
+    pub load-by-scratch : count ≡ c → (v : ℕ) → v ≡ wordsFor n → eqb scratchlen v ≡ loadFits n c maplen count scratchlen
+    unfolding loadFits
+    load-by-scratch h v ev = ap (eqb scratchlen) ev ∙ sym (ap₂ (λ (a b : Bool). a && b && eqb scratchlen (wordsFor n)) (eq-eqb maplen (wordsFor n) (e ∙ ew)) (eq-eqb count c h))
+
+pub load-fits-to : (n c maplen count scratchlen : ℕ) → loadFits n c maplen count scratchlen ≡ true → LoadFits n c maplen count scratchlen
+unfolding loadFits
+load-fits-to n c maplen count scratchlen e =
+    let a : Bool = eqb maplen (wordsFor n) in
+    let b : Bool = eqb count c in
+    let d : Bool = eqb scratchlen (wordsFor n) in
+    record {
+      words = eqb-true maplen (wordsFor n) (and-left a b (and-left (a && b) d e));
+      entries = eqb-true count c (and-right a b (and-left (a && b) d e));
+      scratch = eqb-true scratchlen (wordsFor n) (and-right (a && b) d e);
+    }
+
+-- room for the words of a map behind the cursor
+pub record RestFits (maplen : ℕ) (at : Cursor) (bytes : ℕ) : Type 0 where
+  pub whole : Whole bytes
+  pub near : at .next ≤ 4096
+  pub few : maplen ≤ 4096
+  pub room : at .next + 2 * maplen ≤ 124 * (bytes / 512)
+
+module _ (maplen : ℕ) (at : Cursor) (bytes : ℕ) where
+  abbrev tests : Bool → Bool → Bool → Bool → Bool
+  tests a b d f = not a && b && d && f && leb (at .next + 2 * maplen) (124 * (bytes / 512))
+
+  pub rest-stopped : at .stop ≡ true → false ≡ restFits maplen at bytes
+  unfolding restFits
+  rest-stopped s = sym (ap (λ (a : Bool). tests a (wholeBlocks bytes) (leb (at .next) 4096) (leb maplen 4096)) s)
+
+  module _ (s : at .stop ≡ false) where
+    pub rest-cut : wholeBlocks bytes ≡ false → false ≡ restFits maplen at bytes
+    unfolding restFits
+    rest-cut w = sym (ap₂ (λ (a b : Bool). tests a b (leb (at .next) 4096) (leb maplen 4096)) s w)
+
+    module _ (w : wholeBlocks bytes ≡ true) where
+      pub rest-far : 4096 < at .next → false ≡ restFits maplen at bytes
+      unfolding restFits
+      rest-far h =
+          sym (ap₂ (λ (a b : Bool). tests a b (leb (at .next) 4096) (leb maplen 4096)) s w ∙ ap (λ (d : Bool). d && leb maplen 4096 && leb (at .next + 2 * maplen) (124 * (bytes / 512))) (lt-leb (at .next) 4096 h))
+
+      module _ (near : leb (at .next) 4096 ≡ true) where
+        pub rest-many : 4096 < maplen → false ≡ restFits maplen at bytes
+        unfolding restFits
+        rest-many h =
+            sym (ap₂ (λ (a b : Bool). tests a b (leb (at .next) 4096) (leb maplen 4096)) s w
+            ∙ ap₂ (λ (d f : Bool). d && f && leb (at .next + 2 * maplen) (124 * (bytes / 512))) near (lt-leb maplen 4096 h))
+
+        pub rest-by-room : leb maplen 4096 ≡ true → leb (at .next + 2 * maplen) (124 * (bytes / 512)) ≡ restFits maplen at bytes
+        unfolding restFits
+        rest-by-room h =
+            sym (ap₂ (λ (a b : Bool). tests a b (leb (at .next) 4096) (leb maplen 4096)) s w
+            ∙ ap₂ (λ (d f : Bool). d && f && leb (at .next + 2 * maplen) (124 * (bytes / 512))) near h)
+
+  pub rest-to : restFits maplen at bytes ≡ true → RestFits maplen at bytes
+  unfolding restFits
+  rest-to e =
+      let a : Bool = not (at .stop) in
+      let b : Bool = wholeBlocks bytes in
+      let d : Bool = leb (at .next) 4096 in
+      let f : Bool = leb maplen 4096 in
+      let g : Bool = leb (at .next + 2 * maplen) (124 * (bytes / 512)) in
+      let e4 = and-left (a && b && d && f) g e in
+      let e3 = and-left (a && b && d) f e4 in
+      let e2 = and-left (a && b) d e3 in
+      record {
+        whole = whole-to bytes (and-right a b e2);
+        near = leb-true (at .next) 4096 (and-right (a && b) d e3);
+        few = leb-true maplen 4096 (and-right (a && b && d) f e4);
+        room = leb-true (at .next + 2 * maplen) (124 * (bytes / 512)) (and-right (a && b && d && f) g e);
+      }
+
+  pub to-rest : at .stop ≡ false → RestFits maplen at bytes → restFits maplen at bytes ≡ true
+  to-rest s r =
+      sym (rest-by-room s (to-whole bytes (r .whole)) (le-leb (at .next) 4096 (r .near)) (le-leb maplen 4096 (r .few)))
+      ∙ le-leb (at .next + 2 * maplen) (124 * (bytes / 512)) (r .room)

@@ -1,0 +1,27 @@
+-- `limits::save_fits` meets its contract, test by test.
+-- Assumes nothing.
+use mathlib.Core.Path.{_≡_, refl, sym, ap, ap₂, _∙_}
+use borrow.Author.Needs.{needs}
+use Rattle.calls.proofs.Tested.{fails, holds}
+use Rattle.image.proofs.Fitting.{save-unshaped, save-uncounted, save-by-scratch}
+use Rattle.image.proofs.limits.save_fits.Statement.{statement}
+use Rattle.image.proofs.limits.save_fits.Tie as tie
+
+shape-fits-requires : tie.Need-shape-fits-requires
+shape-fits-requires c κs = search needs
+
+returns : tie.Need-returns
+returns c = save-unshaped _ _ _ _ _ (fails (c .before .shape-fits .ensures) (c .if1 .taken))
+
+sheets-fit-requires : tie.Need-sheets-fit-requires
+sheets-fit-requires c κs = search needs
+
+returns-2 : tie.Need-returns-2
+returns-2 c = save-uncounted _ _ _ _ _ (holds (c .before .before .before .shape-fits .ensures) (c .before .before .if1 .left)) (fails (c .before .sheets-fit .ensures) (c .if2 .taken))
+
+returns-3 : tie.Need-returns-3
+returns-3 c = save-by-scratch _ _ _ _ _ (holds (c .before .before .before .shape-fits .ensures) (c .before .before .if1 .left)) (holds (c .before .sheets-fit .ensures) (c .if2 .left))
+
+pub save-fits-spec : {M : Type 1} → statement M
+save-fits-spec =
+    tie.close (tie.spec shape-fits-requires returns sheets-fit-requires returns-2 returns-3)

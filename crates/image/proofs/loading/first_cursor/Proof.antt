@@ -1,0 +1,14 @@
+-- `loading::first_cursor` meets its contract.
+-- Assumes nothing.
+use mathlib.Core.Path.{refl}
+use borrow.Author.Needs.{needs}
+use Rattle.image.specs.Loading.{firstCursor}
+use Rattle.image.proofs.loading.first_cursor.Statement.{statement}
+use Rattle.image.proofs.loading.first_cursor.Tie as tie
+
+returns : tie.Need-returns
+unfolding firstCursor
+returns c = refl
+
+pub first-cursor-spec : {M : Type 1} → statement M
+first-cursor-spec = tie.close (tie.spec returns)
