@@ -1,14 +1,13 @@
 -- `limits::head_fits` meets its contract, test by test.
 -- Assumes nothing.
-use mathlib.Core.Path.{_≡_, refl, sym, ap, ap₂, _∙_}
-use Prim.Native.Nat.{ℕ, _≤_, _<_, _-_, _+_, _*_, _/_, _%_}
+use mathlib.Core.Path.{sym, ap, _∙_}
 use native.Mathlib.Omega.{arith}
 use borrow.Author.Needs.{needs}
 use Rattle.calls.proofs.Tested.{fails, holds}
 use Rattle.calls.specs.Views.{shapeFits}
-use Rattle.image.proofs.Fitting.{head-large, head-unshaped, head-uncounted, head-by-total, sheets-few}
 use Rattle.image.proofs.limits.head_fits.Statement.{statement}
 use Rattle.image.proofs.limits.head_fits.Tie as tie
+use Rattle.image.proofs.Fitting.{head-large, head-unshaped, head-uncounted, head-by-total, sheets-few}
 
 returns : tie.Need-returns
 returns c = head-large _ _ _ _ (omega arith)

@@ -1,10 +1,9 @@
 -- `limits::load_fits` meets its contract, test by test.
 -- Assumes nothing.
-use mathlib.Core.Path.{_≡_, refl, sym, ap, ap₂, _∙_}
 use borrow.Author.Needs.{needs}
-use Rattle.image.proofs.Fitting.{load-words, load-entries, load-by-scratch}
 use Rattle.image.proofs.limits.load_fits.Statement.{statement}
 use Rattle.image.proofs.limits.load_fits.Tie as tie
+use Rattle.image.proofs.Fitting.{load-words, load-entries, load-by-scratch}
 
 words-for-requires : tie.Need-words-for-requires
 words-for-requires c κs = search needs

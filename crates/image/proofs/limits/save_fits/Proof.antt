@@ -1,11 +1,10 @@
 -- `limits::save_fits` meets its contract, test by test.
 -- Assumes nothing.
-use mathlib.Core.Path.{_≡_, refl, sym, ap, ap₂, _∙_}
 use borrow.Author.Needs.{needs}
 use Rattle.calls.proofs.Tested.{fails, holds}
-use Rattle.image.proofs.Fitting.{save-unshaped, save-uncounted, save-by-scratch}
 use Rattle.image.proofs.limits.save_fits.Statement.{statement}
 use Rattle.image.proofs.limits.save_fits.Tie as tie
+use Rattle.image.proofs.Fitting.{save-unshaped, save-uncounted, save-by-scratch}
 
 shape-fits-requires : tie.Need-shape-fits-requires
 shape-fits-requires c κs = search needs

@@ -1,13 +1,11 @@
 -- `limits::whole_blocks` meets its contract, test by test.
 -- Assumes nothing.
-use mathlib.Core.Path.{_≡_, refl, sym, ap, ap₂, _∙_}
-use Prim.Native.Nat.{ℕ, _/_, _≤_}
+use Prim.Native.Nat.{_/_}
 use native.Mathlib.Omega.{arith}
-use borrow.Author.Needs.{needs}
 use borrow.Author.Tests.{le-leb}
-use Rattle.image.proofs.Fitting.{whole-cut, whole-none, whole-by-few}
 use Rattle.image.proofs.limits.whole_blocks.Statement.{statement}
 use Rattle.image.proofs.limits.whole_blocks.Tie as tie
+use Rattle.image.proofs.Fitting.{whole-cut, whole-none, whole-by-few}
 
 returns : tie.Need-returns
 returns c = whole-cut _ (c .if1 .taken)

@@ -1,0 +1,45 @@
+-- Written by tools/walks: `saving::save` meets its contract, by the walk of `StateSaved.antt`, with the calls of `catalogue::count`, `saving::begin`, `soundness::release_entries`, `saving::save_number`, `saving::write_head`, `saving::write_entries`, `saving::write_rest`.
+-- Assumes nothing.
+use contract.Running.{givenOf, tables, tablesOf}
+use denote.Triple.Spec.{tripleOf}
+use denote.Triple.Table.{entered, cited}
+use lib.ListN.{length}
+use Rattle.soundness.specs.Releases.{tallyOf, scratchOf}
+use Rattle.image.specs.Effects.{Saves}
+use Rattle.saving.specs.Parts.{firstTally, firstScratch, numberBy, scratchCleared, headCursor, headImage}
+use Rattle.saving.specs.Parts.{entriesCursor, entriesImage, restImage}
+use Rattle.saving.proofs.Saves.{saves}
+use Rattle.saving.proofs.StateSaved.{count-contract, begin-contract, release-entries-contract, save-number-contract, write-head-contract, write-entries-contract, write-rest-contract, meets}
+use Rattle.catalogue.proofs.count.Symbol as count-def
+use Rattle.catalogue.proofs.count.Met as count-met
+use Rattle.saving.proofs.begin.Symbol as begin-def
+use Rattle.saving.proofs.begin.Met as begin-met
+use Rattle.soundness.proofs.release_entries.Symbol as release-entries-def
+use Rattle.soundness.proofs.release_entries.Met as release-entries-met
+use Rattle.saving.proofs.save_number.Symbol as save-number-def
+use Rattle.saving.proofs.save_number.Met as save-number-met
+use Rattle.saving.proofs.write_head.Symbol as write-head-def
+use Rattle.saving.proofs.write_head.Met as write-head-met
+use Rattle.saving.proofs.write_entries.Symbol as write-entries-def
+use Rattle.saving.proofs.write_entries.Met as write-entries-met
+use Rattle.saving.proofs.write_rest.Symbol as write-rest-def
+use Rattle.saving.proofs.write_rest.Met as write-rest-met
+use Rattle.saving.proofs.save.Key.{name as #save}
+use Rattle.saving.proofs.save as save
+use Rattle.saving.proofs.save.Statement as stated
+use Rattle.saving.proofs.save.Code as code
+
+pub save-spec : {M : Type 1} → stated.statement M
+unfolding code.routine tablesOf
+save-spec 𝓤 H 𝓜 𝓖 𝓡 =
+    entered 𝓤 H (tripleOf 𝓤 H (𝓖 .A) save.signature (save.spec 𝓤 H (𝓖 .A) (𝓜 .mem) (𝓡 .run)))
+    (tables 𝓤 H 𝓜 𝓡 code.env .C) (tables 𝓤 H 𝓜 𝓡 code.env .Λ) #save code.function (code.unfolded 𝓤 H 𝓜 𝓡)
+    (meets count-def.name begin-def.name release-entries-def.name save-number-def.name write-head-def.name write-entries-def.name write-rest-def.name length firstTally firstScratch tallyOf scratchOf numberBy scratchCleared headCursor headImage entriesCursor entriesImage restImage Saves saves
+    𝓤 H (𝓖 .A) (givenOf 𝓤 H 𝓜 𝓖) (tablesOf 𝓤 H 𝓜 (tables 𝓤 H 𝓜 𝓡 code.env))
+    (cited 𝓤 H (count-contract length 𝓤 H (𝓖 .A)) 𝓜 𝓡 code.env count-def.name count-def.routine code.calls-catalogue·count (count-met.met 𝓤 H 𝓜 𝓖 𝓡))
+    (cited 𝓤 H (begin-contract firstTally firstScratch 𝓤 H (𝓖 .A)) 𝓜 𝓡 code.env begin-def.name begin-def.routine code.calls-saving·begin (begin-met.met 𝓤 H 𝓜 𝓖 𝓡))
+    (cited 𝓤 H (release-entries-contract tallyOf scratchOf 𝓤 H (𝓖 .A)) 𝓜 𝓡 code.env release-entries-def.name release-entries-def.routine code.calls-soundness·release-entries (release-entries-met.met 𝓤 H 𝓜 𝓖 𝓡))
+    (cited 𝓤 H (save-number-contract numberBy scratchCleared 𝓤 H (𝓖 .A)) 𝓜 𝓡 code.env save-number-def.name save-number-def.routine code.calls-saving·save-number (save-number-met.met 𝓤 H 𝓜 𝓖 𝓡))
+    (cited 𝓤 H (write-head-contract headCursor headImage 𝓤 H (𝓖 .A)) 𝓜 𝓡 code.env write-head-def.name write-head-def.routine code.calls-saving·write-head (write-head-met.met 𝓤 H 𝓜 𝓖 𝓡))
+    (cited 𝓤 H (write-entries-contract entriesCursor entriesImage 𝓤 H (𝓖 .A)) 𝓜 𝓡 code.env write-entries-def.name write-entries-def.routine code.calls-saving·write-entries (write-entries-met.met 𝓤 H 𝓜 𝓖 𝓡))
+    (cited 𝓤 H (write-rest-contract restImage 𝓤 H (𝓖 .A)) 𝓜 𝓡 code.env write-rest-def.name write-rest-def.routine code.calls-saving·write-rest (write-rest-met.met 𝓤 H 𝓜 𝓖 𝓡)))
