@@ -8,3 +8,5 @@ pub mod Released
 pub mod Reserved
 pub mod Shown
 pub mod Stood
+pub mod Saved
+pub mod Restored

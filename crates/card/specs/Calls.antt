@@ -4,6 +4,7 @@
 use mathlib.Core.Bool.{Bool, true, false, cond}
 use mathlib.Core.List.{List}
 use Prim.Native.Nat.{ℕ}
+use lib.Dec.{eqb}
 use lib.ListN.{length}
 use Rattle.freemap.specs.Maps as maps
 use Rattle.catalogue.specs.declared.Entry.{Entry}
@@ -14,6 +15,7 @@ use Rattle.standings.specs.Limits.{freshFits}
 use Rattle.standings.specs.declared.Answer.{Answer}
 use Rattle.standings.specs.declared.Answer.the-variants.{Done, Start, Stands, Counted, Blank, Refused}
 use Rattle.calls.specs.declared.Out.{Out}
+use Rattle.image.specs.declared.Loaded.{Loaded}
 use Rattle.card.specs.declared.Shape.{Shape}
 use Rattle.card.specs.declared.Outcome.{Outcome}
 
@@ -101,3 +103,19 @@ showBuffer shape map card slot sheet place buffer = effects.showBuffer (shape .b
 
 abbrev pub standingOutcome : Shape → List ℕ → Slot → ℕ → Outcome
 standingOutcome shape map slot sheet = told shape (effects.standingAnswer (shape .blocks) (shape .free) map (slot .count) (slot .entry) sheet)
+
+-- n and the free count.
+abbrev pub blocksOf : Shape → ℕ
+blocksOf shape = shape .blocks
+
+abbrev pub freeOf : Shape → ℕ
+freeOf shape = shape .free
+
+-- Save hands the shape back as it came: 0 says that it was done.
+abbrev pub saveOutcome : Shape → ℕ → Outcome
+saveOutcome shape number = told shape (cond (eqb number 0) Done (Refused number))
+
+-- Load reads nothing of the shape it takes: it hands back the image's n and free count, or, refused, the shape as it came.
+abbrev pub loadOutcome : Shape → Loaded → Outcome
+loadOutcome shape loaded =
+    cond (eqb (loaded .number) 0) (told (record { blocks = loaded .blocks; free = loaded .free }) Done) (told shape (Refused (loaded .number)))

@@ -4,10 +4,13 @@
 ghost use mathlib.Core.Path.{_≡_};
 ghost use lib.ListN.{length, set};
 ghost use Rattle.catalogue.specs.Entries.{slotAt, clearedIf};
+ghost use Rattle.image.specs.Effects.{saveNumber, saveScratch, saveBuffer, loadResult, loadMap, loadEntries, loadScratch};
+ghost use Rattle.card.specs.Calls.{blocksOf, freeOf, saveOutcome, loadOutcome};
 ghost use Rattle.card.specs.Calls.{entryOf, outcomeOf, acceptedOf, freshOutcome, freshMap, searchOutcome, surveyOutcome, reserveOut, reserveMap, reserveCard, growOut, growMap, growCard, putOutcome, putCard, completeOut, pauseOut, releaseOut, releaseMap, showOutcome, showBuffer, standingOutcome};
 use calls::Out;
 use catalogue::Entry;
 use catalogue::Slot;
+use image::Loaded;
 use standings::Answer;
 
 // n and the carried free count.
@@ -219,6 +222,53 @@ fn standing_core(shape: Shape, map: &[u64], slot: Slot, sheet: u32) -> Outcome
     }
 }
 
+// n and the free count, for the calls that are lent no entry by value.
+
+fn blocks_of(shape: Shape) -> u32
+    ensures { λ r. ⌜ r ≡ blocksOf shape ⌝ }
+{
+    shape.blocks
+}
+
+fn free_of(shape: Shape) -> u32
+    ensures { λ r. ⌜ r ≡ freeOf shape ⌝ }
+{
+    shape.free
+}
+
+fn save_outcome(shape: Shape, number: u32) -> Outcome
+    ensures { λ r. ⌜ r ≡ saveOutcome shape number ⌝ }
+{
+    if number == 0 {
+        return Outcome {
+            shape: shape,
+            answer: Answer::Done,
+        };
+    }
+    Outcome {
+        shape: shape,
+        answer: Answer::Refused(number),
+    }
+}
+
+fn load_outcome(shape: Shape, loaded: Loaded) -> Outcome
+    ensures { λ r. ⌜ r ≡ loadOutcome shape loaded ⌝ }
+{
+    if loaded.number == 0 {
+        return Outcome {
+            shape: Shape {
+                blocks: loaded.blocks,
+                free: loaded.free,
+            },
+            answer: Answer::Done,
+        };
+    }
+    Outcome {
+        shape: shape,
+        answer: Answer::Refused(loaded.number),
+    }
+}
+
 impl Shape {
     // Bytes of a block and of a payload; the most blocks and sheets of a card.
     pub const BLOCK: usize = 512;
@@ -383,5 +433,42 @@ impl Shape {
     {
         let slot = catalogue::find(catalogue, sheet);
         standing_core(self, map, slot, sheet)
+    }
+
+    // Writes the image of the state, if it is sound and the buffer exactly the image's length. The scratch is all zeros after
+    // every save.
+    pub fn save(
+        self,
+        map: &[u64],
+        catalogue: &[Entry],
+        scratch: &mut [u64],
+        image: &mut [u8],
+    ) -> Outcome
+        ensures { λ r. ⌜ (r ≡ saveOutcome self (saveNumber (blocksOf self) (freeOf self) (now (map .entry)) (now (catalogue .entry)) (now (scratch .entry)) (now (image .entry))))
+            × (now (scratch .exit) ≡ saveScratch (blocksOf self) (freeOf self) (now (map .entry)) (now (catalogue .entry)) (now (scratch .entry)) (now (image .entry)))
+            × (now (image .exit) ≡ saveBuffer (blocksOf self) (freeOf self) (now (map .entry)) (now (catalogue .entry)) (now (scratch .entry)) (now (image .entry))) ⌝ }
+    {
+        let n = blocks_of(self);
+        let free = free_of(self);
+        let number = saving::save(n, free, map, catalogue, scratch, image);
+        save_outcome(self, number)
+    }
+
+    // Reads map, entries and shape from an image. It reads nothing of the shape it takes. The scratch is all zeros after every
+    // load.
+    pub fn load(
+        self,
+        image: &[u8],
+        map: &mut [u64],
+        catalogue: &mut [Entry],
+        scratch: &mut [u64],
+    ) -> Outcome
+        ensures { λ r. ⌜ (r ≡ loadOutcome self (loadResult (now (image .entry)) (now (map .entry)) (now (catalogue .entry)) (now (scratch .entry))))
+            × (now (map .exit) ≡ loadMap (now (image .entry)) (now (map .entry)) (now (catalogue .entry)) (now (scratch .entry)))
+            × (now (catalogue .exit) ≡ loadEntries (now (image .entry)) (now (map .entry)) (now (catalogue .entry)) (now (scratch .entry)))
+            × (now (scratch .exit) ≡ loadScratch (now (image .entry)) (now (map .entry)) (now (catalogue .entry)) (now (scratch .entry))) ⌝ }
+    {
+        let loaded = loading::load(image, map, catalogue, scratch);
+        load_outcome(self, loaded)
     }
 }

@@ -40,9 +40,9 @@ module _ (n spare : ℕ) (map : List ℕ) (entries : List Entry) (scratch buffer
 
 -- Load, of an image into a map, a catalogue and a scratch.
 module _ (image map : List ℕ) (entries : List Entry) (scratch : List ℕ) where
-  unfoldable pub loadOutcome : Loaded
+  unfoldable pub loadResult : Loaded
   unfolding loadVerdict
-  loadOutcome =
+  loadResult =
       settle (loadVerdict image (length map) (length entries) (length scratch))
       (record { number = 0; blocks = stateIn image .blocks; free = stateIn image .spare })
       (λ number. record { number = number; blocks = 0; free = 0 })
@@ -59,4 +59,4 @@ module _ (image map : List ℕ) (entries : List Entry) (scratch : List ℕ) wher
   loadScratch = zeroed scratch
 
   abbrev pub Loads : Loaded → List ℕ → List Entry → List ℕ → Type 0
-  Loads r map′ entries′ scratch′ = (r ≡ loadOutcome) × (map′ ≡ loadMap) × (entries′ ≡ loadEntries) × (scratch′ ≡ loadScratch)
+  Loads r map′ entries′ scratch′ = (r ≡ loadResult) × (map′ ≡ loadMap) × (entries′ ≡ loadEntries) × (scratch′ ≡ loadScratch)

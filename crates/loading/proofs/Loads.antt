@@ -12,7 +12,7 @@ use Rattle.calls.specs.Rows.{Verdict, accepted, refused, settle}
 use Rattle.catalogue.specs.declared.Entry.{Entry}
 use Rattle.frames.specs.Frames.{bodyOf, totalOf}
 use Rattle.image.specs.Cursors.{cursor}
-use Rattle.image.specs.Effects.{numberOf, loadOutcome, loadMap, loadEntries, loadScratch, Loads}
+use Rattle.image.specs.Effects.{numberOf, loadResult, loadMap, loadEntries, loadScratch, Loads}
 use Rattle.image.specs.Image.{blocksIn, spareIn, sheetsIn, entriesAt, entriesIn, stateIn}
 use Rattle.loading.specs.Parts.{coreLoaded, coreMap, coreScratch, firstCursor, readEntries}
 use Rattle.image.specs.Table.{loadVerdict}
@@ -62,5 +62,5 @@ module _ (image map : List ℕ) (entries : List Entry) (scratch : List ℕ) wher
 
   pub loads : Loads image map entries scratch (coreLoaded image map (length entries) scratch) (coreMap image map (length entries) scratch)
       (readEntries entries image (firstCursor (coreLoaded image map (length entries) scratch))) (coreScratch image map (length entries) scratch)
-  unfolding coreLoaded coreMap coreScratch loadOutcome loadMap loadScratch
+  unfolding coreLoaded coreMap coreScratch loadResult loadMap loadScratch
   loads = (refl, refl, entries-law, refl)

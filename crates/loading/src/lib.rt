@@ -7,7 +7,7 @@ ghost use lib.ListN.{length};
 ghost use Rattle.frames.specs.Frames.{totalOf};
 ghost use Rattle.soundness.specs.Releases.{tallyOf, scratchOf};
 ghost use Rattle.soundness.specs.Sound.{sound};
-ghost use Rattle.image.specs.Effects.{numberOf, loadOutcome, loadMap, loadEntries, loadScratch};
+ghost use Rattle.image.specs.Effects.{numberOf, loadResult, loadMap, loadEntries, loadScratch};
 ghost use Rattle.image.specs.Image.{wordsFor, blocksIn, spareIn, sheetsIn, entriesIn, stateIn, filled};
 ghost use Rattle.loading.specs.Parts.{coreLoaded, coreMap, coreScratch, firstCursor, entryAt, turnAfter, readCursor, readEntries};
 ghost use Rattle.image.specs.Table.{headFits, loadVerdict};
@@ -192,7 +192,7 @@ fn read_entries(catalogue: &mut [Entry], image: &[u8], start: Cursor) -> Cursor
 
 // Loads an image.
 pub fn load(image: &[u8], map: &mut [u64], catalogue: &mut [Entry], scratch: &mut [u64]) -> Loaded
-    ensures { λ r. ⌜ (r ≡ loadOutcome (now (image .entry)) (now (map .entry)) (now (catalogue .entry)) (now (scratch .entry)))
+    ensures { λ r. ⌜ (r ≡ loadResult (now (image .entry)) (now (map .entry)) (now (catalogue .entry)) (now (scratch .entry)))
         × (now (map .exit) ≡ loadMap (now (image .entry)) (now (map .entry)) (now (catalogue .entry)) (now (scratch .entry)))
         × (now (catalogue .exit) ≡ loadEntries (now (image .entry)) (now (map .entry)) (now (catalogue .entry)) (now (scratch .entry)))
         × (now (scratch .exit) ≡ loadScratch (now (image .entry)) (now (map .entry)) (now (catalogue .entry)) (now (scratch .entry))) ⌝ }

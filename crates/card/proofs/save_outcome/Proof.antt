@@ -1,0 +1,15 @@
+-- `card::save_outcome` meets its contract, by whether the number is 0.
+-- Assumes nothing.
+use borrow.Author.Needs.{needs}
+use borrow.Author.Tests.{eq-eqb, ne-eqb}
+use Rattle.card.proofs.save_outcome.Statement.{statement}
+use Rattle.card.proofs.save_outcome.Tie as tie
+
+returns : tie.Need-returns
+returns c = simp (eq-eqb _ 0 (c .if1 .taken))
+
+returns-2 : tie.Need-returns-2
+returns-2 c = simp (ne-eqb _ 0 (c .if1 .left))
+
+pub save-outcome-spec : {M : Type 1} → statement M
+save-outcome-spec = tie.close (tie.spec returns returns-2)
