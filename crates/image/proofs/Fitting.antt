@@ -7,8 +7,8 @@ use native.Mathlib.Omega.{arith}
 use lib.Dec.{eqb, leb}
 use borrow.Author.Tests.{eqb-true, leb-true, eq-eqb, ne-eqb, lt-leb, le-leb}
 use Rattle.freemap.proofs.Bools.{and-left, and-right}
-use Rattle.calls.specs.Views.{shapeFits, sheetsFit}
-use Rattle.calls.proofs.Limits.{Fits, fits}
+use Rattle.standings.specs.Limits.{shapeFits, sheetsFit}
+use Rattle.standings.proofs.Limits.{Fits, fits}
 use Rattle.image.specs.Image.{wordsFor, framesFor}
 use Rattle.image.specs.Table.{saveFits, wholeBlocks, headFits, loadFits}
 

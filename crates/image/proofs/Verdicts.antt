@@ -9,8 +9,8 @@ use lib.Dec.{eqb}
 use lib.ListN.{length}
 use borrow.Author.Tests.{eq-eqb, eqb-true}
 use Rattle.freemap.proofs.Bools.{and-left, and-right}
-use Rattle.calls.specs.Rows.{Row, row, Verdict, accepted, firstOf, settle}
-use Rattle.calls.proofs.Openings.{skip, none-left}
+use Rattle.standings.specs.Rows.{Row, row, Verdict, accepted, firstOf, settle}
+use Rattle.standings.proofs.Openings.{skip, none-left}
 use Rattle.frames.specs.Frames.{totalOf, framed}
 use Rattle.soundness.specs.Sound.{State, sound}
 use Rattle.image.specs.Effects.{numberOf}

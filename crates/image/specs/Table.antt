@@ -5,8 +5,8 @@ use mathlib.Core.List.{List, [], _∷_}
 use Prim.Native.Nat.{ℕ, _*_, _/_, _%_}
 use lib.Dec.{eqb, leb}
 use lib.ListN.{length}
-use Rattle.calls.specs.Rows.{Row, row, Verdict, firstOf}
-use Rattle.calls.specs.Views.{shapeFits, sheetsFit}
+use Rattle.standings.specs.Rows.{Row, row, Verdict, firstOf}
+use Rattle.standings.specs.Limits.{shapeFits, sheetsFit}
 use Rattle.frames.specs.Frames.{totalOf, framed}
 use Rattle.soundness.specs.Sound.{State, sound}
 use Rattle.image.specs.Image.{wordsFor, framesFor, blocksIn, spareIn, sheetsIn, stateIn, filled}

@@ -5,8 +5,8 @@ ghost use Rattle.image.specs.Image.{wordsFor, framesFor};
 ghost use Rattle.image.specs.Table.{saveFits, wholeBlocks, headFits, loadFits};
 use block::BLOCK;
 use block::PAYLOAD;
-use calls::opening::shape_fits;
-use calls::opening::sheets_fit;
+use standings::opening::shape_fits;
+use standings::opening::sheets_fit;
 
 // The most blocks of an image.
 const IMAGE_BLOCKS: usize = 91;

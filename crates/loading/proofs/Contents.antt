@@ -7,7 +7,7 @@ use Prim.Native.Nat.{ℕ, suc, _+_, _-_, _*_, _≤_, _<_}
 use native.Mathlib.Omega.{arith}
 use lib.ListN.{length, drop}
 use Rattle.block.specs.Sealed.{numberAt, blank}
-use Rattle.calls.specs.Views.{shapeFits}
+use Rattle.standings.specs.Limits.{shapeFits}
 use Rattle.catalogue.specs.declared.Entry.{Entry}
 use Rattle.frames.specs.Frames.{bodyOf}
 use Rattle.frames.specs.Numbers.{numberIn, wordsAt}

@@ -5,7 +5,7 @@ use mathlib.Core.Bool.{Bool, true, false, not, _&&_}
 use mathlib.Core.List.{List, []}
 use Prim.Native.Nat.{ℕ}
 use lib.ListN.{length}
-use Rattle.calls.proofs.Openings.{skip, stop, none-left}
+use Rattle.standings.proofs.Openings.{skip, stop, none-left}
 use Rattle.frames.specs.Frames.{totalOf, framed}
 use Rattle.soundness.specs.Sound.{sound}
 use Rattle.image.specs.Effects.{numberOf}

@@ -8,7 +8,7 @@ use native.Mathlib.Omega.{arith}
 use lib.Dec.{eqb}
 use lib.ListN.{length}
 use borrow.Author.Tests.{ne-eqb}
-use Rattle.calls.specs.Rows.{Verdict, accepted, refused, settle}
+use Rattle.standings.specs.Rows.{Verdict, accepted, refused, settle}
 use Rattle.catalogue.specs.declared.Entry.{Entry}
 use Rattle.frames.specs.Frames.{bodyOf, totalOf}
 use Rattle.image.specs.Cursors.{cursor}

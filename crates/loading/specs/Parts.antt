@@ -5,7 +5,7 @@ use mathlib.Core.List.{List, [], _∷_}
 use Prim.Native.Nat.{ℕ, _+_}
 use lib.Dec.{eqb}
 use lib.ListN.{length}
-use Rattle.calls.specs.Rows.{settle}
+use Rattle.standings.specs.Rows.{settle}
 use Rattle.catalogue.specs.declared.Entry.{Entry}
 use Rattle.frames.specs.Numbers.{numberIn}
 use Rattle.image.specs.Cursors.{cursor, active}

@@ -7,7 +7,7 @@ use Prim.Native.Nat.{ℕ, _*_}
 use lib.Dec.{eqb}
 use lib.ListN.{length}
 use borrow.Author.Tests.{eq-eqb, ne-eqb}
-use Rattle.calls.proofs.Openings.{skip, stop, none-left}
+use Rattle.standings.proofs.Openings.{skip, stop, none-left}
 use Rattle.soundness.specs.Releases.{allReleased}
 use Rattle.soundness.specs.declared.Tally.{Tally}
 use Rattle.image.specs.Effects.{numberOf}

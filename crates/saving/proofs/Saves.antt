@@ -10,7 +10,7 @@ use lib.ListN.{length, replicate, length-append, length-replicate}
 use borrow.Author.Tests.{eq-eqb, ne-eqb, eqb-true, eqb-false}
 use Rattle.block.specs.Sealed.{bytes4}
 use Rattle.block.proofs.Numbers.{bytes4-length}
-use Rattle.calls.specs.Rows.{Verdict, accepted, refused, settle, row, firstOf}
+use Rattle.standings.specs.Rows.{Verdict, accepted, refused, settle, row, firstOf}
 use Rattle.catalogue.specs.declared.Entry.{Entry}
 use Rattle.frames.specs.Frames.{frames, bodyOf, totalOf}
 use Rattle.frames.specs.Numbers.{replaced, withNumber, wordBytes}

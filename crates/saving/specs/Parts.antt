@@ -5,7 +5,7 @@ use mathlib.Core.List.{List, [], _∷_}
 use Prim.Native.Nat.{ℕ, _+_, _-_, _*_, _/_, _%_}
 use lib.Dec.{eqb, leb}
 use lib.ListN.{length, replicate}
-use Rattle.calls.specs.Rows.{row, firstOf}
+use Rattle.standings.specs.Rows.{row, firstOf}
 use Rattle.catalogue.specs.declared.Entry.{Entry}
 use Rattle.frames.specs.Frames.{totalOf, bodyOf, frames}
 use Rattle.frames.specs.Numbers.{replaced, withNumber, wordBytes}

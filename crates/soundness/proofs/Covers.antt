@@ -14,7 +14,7 @@ use Rattle.freemap.proofs.Bools.{and-left, and-right, and-both, order, clash}
 use Rattle.survey.specs.Survey.{blocks, freeOf, countsOf}
 use Rattle.survey.proofs.Blocks.{blocks-join}
 use Rattle.catalogue.specs.declared.Entry.{Entry}
-use Rattle.calls.specs.Standings.{standingOf, isDamaged}
+use Rattle.standings.specs.Standings.{standingOf, isDamaged}
 use Rattle.soundness.specs.Sound.{cover, undamaged}
 use Rattle.soundness.proofs.Damage.{extent-inside, extent-taken, still-undamaged}
 

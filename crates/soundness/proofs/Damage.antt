@@ -12,10 +12,10 @@ use Rattle.freemap.specs.Blocks.{all}
 use Rattle.freemap.proofs.Bools.{and-left, and-right, and-both}
 use Rattle.freemap.proofs.Runs.{all-intro, all-elim}
 use Rattle.catalogue.specs.declared.Entry.{Entry}
-use Rattle.calls.specs.Standings.{extentHolds, standingOf, isDamaged}
-use Rattle.calls.specs.declared.Standing.{Standing}
-use Rattle.calls.specs.declared.Standing.the-variants.{Absent, Paused, Open, Complete, Damaged}
-use Rattle.calls.proofs.Entries.{inside-of}
+use Rattle.standings.specs.Standings.{extentHolds, standingOf, isDamaged}
+use Rattle.standings.specs.declared.Standing.{Standing}
+use Rattle.standings.specs.declared.Standing.the-variants.{Absent, Paused, Open, Complete, Damaged}
+use Rattle.standings.proofs.Entries.{inside-of}
 
 -- the standing by the entry's mark, by whether start and length are 0, and by whether its extent holds
 said : Entry → Bool → Bool → Bool → Bool → Bool → Bool → Standing

@@ -12,9 +12,9 @@ use Rattle.freemap.specs.Maps.{marked}
 use Rattle.freemap.proofs.Bools.{and-left, and-right}
 use Rattle.freemap.proofs.Maps.{map-length}
 use Rattle.catalogue.specs.declared.Entry.{Entry}
-use Rattle.calls.specs.Standings.{standingOf, isDamaged}
-use Rattle.calls.specs.Views.{shapeFits}
-use Rattle.calls.proofs.Limits.{Fits, fits}
+use Rattle.standings.specs.Standings.{standingOf, isDamaged}
+use Rattle.standings.specs.Limits.{shapeFits}
+use Rattle.standings.proofs.Limits.{Fits, fits}
 use Rattle.soundness.specs.Releases.{tally, releasable, tallyAfter, scratchAfter, tallyOf, scratchOf}
 use Rattle.soundness.specs.declared.Tally.{Tally}
 use Rattle.soundness.proofs.Damage.{extent-inside}

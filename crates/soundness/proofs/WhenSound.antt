@@ -16,9 +16,9 @@ use Rattle.freemap.proofs.Maps.{map-free, map-length, in-state, state-of}
 use Rattle.freemap.proofs.Runs.{all-intro, all-elim}
 use Rattle.survey.specs.Survey.{countsOf}
 use Rattle.catalogue.specs.declared.Entry.{Entry}
-use Rattle.calls.specs.Standings.{standingOf, isDamaged}
-use Rattle.calls.specs.Views.{shapeFits}
-use Rattle.calls.proofs.Limits.{fits}
+use Rattle.standings.specs.Standings.{standingOf, isDamaged}
+use Rattle.standings.specs.Limits.{shapeFits}
+use Rattle.standings.proofs.Limits.{fits}
 use Rattle.soundness.specs.Releases.{tally, releasable, tallyAfter, scratchAfter, tallyOf, scratchOf, allReleased}
 use Rattle.soundness.specs.Sound.{State, cover, undamaged, sound}
 use Rattle.soundness.specs.declared.Tally.{Tally}

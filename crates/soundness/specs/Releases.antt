@@ -10,8 +10,8 @@ use lib.ListN.{length}
 use Rattle.freemap.specs.Blocks.{free}
 use Rattle.freemap.specs.Maps.{marked, isFresh}
 use Rattle.catalogue.specs.declared.Entry.{Entry}
-use Rattle.calls.specs.Standings.{standingOf, isDamaged}
-use Rattle.calls.specs.Views.{shapeFits}
+use Rattle.standings.specs.Standings.{standingOf, isDamaged}
+use Rattle.standings.specs.Limits.{shapeFits}
 use Rattle.soundness.specs.declared.Tally.{Tally}
 
 abbrev pub tally : ℕ → Bool → Tally

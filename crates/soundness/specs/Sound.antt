@@ -9,7 +9,7 @@ use Rattle.freemap.specs.Blocks.{free, all}
 use Rattle.freemap.specs.Maps.{inRun, inState}
 use Rattle.survey.specs.Survey.{countsOf}
 use Rattle.catalogue.specs.declared.Entry.{Entry}
-use Rattle.calls.specs.Standings.{standingOf, isDamaged}
+use Rattle.standings.specs.Standings.{standingOf, isDamaged}
 
 -- What is saved and loaded: n, the carried free count, the entries and the map.
 pub record State : Type 0 where

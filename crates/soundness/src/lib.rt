@@ -3,15 +3,15 @@
 ghost use mathlib.Core.Path.{_≡_};
 ghost use Prim.Native.Nat.{_≤_};
 ghost use lib.ListN.{length};
-ghost use Rattle.calls.specs.Standings.{isDamaged};
+ghost use Rattle.standings.specs.Standings.{isDamaged};
 ghost use Rattle.soundness.specs.Releases.{releasable, tallyAfter, scratchAfter, tallyOf, scratchOf, allReleased};
-use calls::Standing;
-use calls::opening::decode;
-use calls::opening::shape_fits;
 use catalogue::Entry;
 use freemap::run::FREE;
 use freemap::run::is_fresh;
 use freemap::run::mark;
+use standings::Standing;
+use standings::opening::decode;
+use standings::opening::shape_fits;
 
 // How many blocks the entries that are left must make, and whether one could not be released.
 pub struct Tally {

@@ -8,7 +8,7 @@ use native.Mathlib.Omega.{arith}
 use lib.ListN.{length}
 use borrow.Author.Needs.{needs}
 use denote.Ref.{now}
-use Rattle.calls.proofs.Tested.{fails, holds}
+use Rattle.standings.proofs.Tested.{fails, holds}
 use Rattle.image.specs.Image.{stateIn, filled, blocksIn, sheetsIn}
 use Rattle.soundness.specs.Sound.{sound}
 use Rattle.loading.proofs.content_holds.Statement.{statement}

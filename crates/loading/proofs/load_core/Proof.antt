@@ -7,7 +7,7 @@ use native.Mathlib.Omega.{arith}
 use lib.ListN.{length, replicate}
 use borrow.Author.Needs.{needs}
 use denote.Ref.{now}
-use Rattle.calls.specs.Rows.{Verdict, accepted, refused, settle}
+use Rattle.standings.specs.Rows.{Verdict, accepted, refused, settle}
 use Rattle.frames.specs.Frames.{bodyOf}
 use Rattle.frames.specs.Numbers.{numberIn, wordsAt}
 use Rattle.image.specs.Effects.{numberOf}

@@ -7,7 +7,7 @@ use native.Mathlib.Omega.{arith}
 use lib.ListN.{length}
 use borrow.Author.Needs.{needs}
 use denote.Ref.{now}
-use Rattle.calls.proofs.Tested.{fails, holds}
+use Rattle.standings.proofs.Tested.{fails, holds}
 use Rattle.frames.specs.Numbers.{numberIn}
 use Rattle.image.specs.Image.{blocksIn, spareIn, sheetsIn}
 use Rattle.image.specs.Table.{headFits, loadFits}

@@ -8,7 +8,7 @@ use native.Mathlib.Omega.{arith}
 use lib.ListN.{length}
 use borrow.Author.Needs.{needs}
 use denote.Ref.{now}
-use Rattle.calls.proofs.Tested.{fails, holds}
+use Rattle.standings.proofs.Tested.{fails, holds}
 use Rattle.saving.specs.Parts.{firstTally, firstScratch}
 use Rattle.image.specs.Table.{saveFits}
 use Rattle.soundness.specs.Releases.{tally}

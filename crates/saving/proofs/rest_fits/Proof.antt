@@ -3,7 +3,7 @@
 use native.Mathlib.Omega.{arith}
 use borrow.Author.Needs.{needs}
 use borrow.Author.Tests.{le-leb}
-use Rattle.calls.proofs.Tested.{fails, holds}
+use Rattle.standings.proofs.Tested.{fails, holds}
 use Rattle.saving.proofs.rest_fits.Statement.{statement}
 use Rattle.saving.proofs.rest_fits.Tie as tie
 use Rattle.saving.proofs.Room.{rest-stopped, rest-cut, rest-far, rest-many, rest-by-room}

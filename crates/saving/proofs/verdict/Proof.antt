@@ -3,7 +3,7 @@
 use native.Mathlib.Omega.{arith}
 use borrow.Author.Needs.{needs}
 use denote.Ref.{now}
-use Rattle.calls.proofs.Tested.{fails, holds}
+use Rattle.standings.proofs.Tested.{fails, holds}
 use Rattle.saving.proofs.verdict.Statement.{statement}
 use Rattle.saving.proofs.verdict.Tie as tie
 use Rattle.image.proofs.Fitting.{save-fits-to}

@@ -8,7 +8,7 @@ use native.Mathlib.Omega.{arith}
 use lib.ListN.{length, replicate}
 use borrow.Author.Needs.{needs}
 use denote.Ref.{now}
-use Rattle.calls.proofs.Tested.{fails, holds}
+use Rattle.standings.proofs.Tested.{fails, holds}
 use Rattle.frames.specs.Frames.{frames, bodyOf, totalOf, sealedImage}
 use Rattle.frames.specs.Numbers.{replaced, wordBytes}
 use Rattle.saving.specs.Parts.{restFits, restImage}

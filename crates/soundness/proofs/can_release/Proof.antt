@@ -4,9 +4,9 @@ use mathlib.Core.Path.{_≡_, refl, sym, ap, ap₂, _∙_}
 use native.Mathlib.Omega.{arith}
 use borrow.Author.Needs.{needs}
 use denote.Ref.{now}
-use Rattle.calls.proofs.Limits.{fits}
-use Rattle.calls.proofs.Tested.{fails, holds}
-use Rattle.calls.specs.Standings.{isDamaged}
+use Rattle.standings.proofs.Limits.{fits}
+use Rattle.standings.proofs.Tested.{fails, holds}
+use Rattle.standings.specs.Standings.{isDamaged}
 use Rattle.soundness.proofs.Releasing.{stopped, unfit, damaged, by-length}
 use Rattle.soundness.proofs.can_release.Statement.{statement}
 use Rattle.soundness.proofs.can_release.Tie as tie

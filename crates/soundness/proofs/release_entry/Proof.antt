@@ -5,7 +5,7 @@ use Prim.Native.Nat.{ℕ, _≤_, _<_, _-_, _+_, _*_}
 use native.Mathlib.Omega.{arith}
 use borrow.Author.Needs.{needs}
 use denote.Ref.{now}
-use Rattle.calls.proofs.Tested.{fails, holds}
+use Rattle.standings.proofs.Tested.{fails, holds}
 use Rattle.soundness.proofs.Releasing.{Releasable, releasable-to, passes, halts}
 use Rattle.soundness.proofs.release_entry.Statement.{statement}
 use Rattle.soundness.proofs.release_entry.Tie as tie
