@@ -1,7 +1,7 @@
 //! The examples of the calls: a line for each call, and for each change that no call makes.
 
 use crate::blocks::{from_words, to_words};
-use crate::card::{entry, sealed, Answer, Card, Entry};
+use crate::card::{entry, Answer, Card, Entry};
 use crate::random::Random;
 
 pub fn examples() -> String {
@@ -40,7 +40,8 @@ struct Store {
     map: Vec<bool>,
     sheets: Vec<Entry>,
     bytes: Vec<u8>,
-    buffer: Vec<u8>,
+    /// What the last call left in its buffer, if it was a show.
+    buffer: Option<Vec<u8>>,
     words_lent: usize,
     sheets_lent: usize,
     bytes_lent: usize,
@@ -61,7 +62,7 @@ impl Store {
             map: from_words(&[0x0123456789abcdef; 3]),
             sheets: vec![entry(0, 0, 0); 1025],
             bytes: vec![0xaa; 71 * 512],
-            buffer: vec![0xbb; 500],
+            buffer: None,
             words_lent: 2,
             sheets_lent: 4,
             bytes_lent: 70 * 512,
@@ -84,6 +85,7 @@ impl Store {
             .split_terminator(' ')
             .map(|n| n.parse().unwrap())
             .collect();
+        self.buffer = (word == "show").then(|| vec![0xbb; 500]);
         if let Some(change) = word.strip_prefix('+') {
             self.change(change, &numbers);
             return format!("{text}{}", self.end());
@@ -107,7 +109,10 @@ impl Store {
             "complete" => card.complete(numbers[0]),
             "pause" => card.pause(numbers[0]),
             "release" => card.release(numbers[0]),
-            "show" => card.show(numbers[0], numbers[1], &mut self.buffer[..at(2)]),
+            "show" => {
+                let buffer = self.buffer.as_mut().unwrap();
+                card.show(numbers[0], numbers[1], &mut buffer[..at(2)])
+            }
             "standing" => card.standing(numbers[0]),
             other => panic!("no call {other}"),
         };
@@ -149,29 +154,24 @@ impl Store {
                 self.map[64 * at(0)..64 * at(0) + 64].copy_from_slice(&blocks);
             }
             "byte" => self.bytes[at(0)] ^= numbers[1] as u8,
-            "seal" => {
-                let block = sealed(numbers[1], numbers[2], &payload(numbers[3], 496));
-                self.bytes[512 * at(0)..512 * at(0) + 512].copy_from_slice(&block);
-            }
             other => panic!("no change {other}"),
         }
     }
 
-    /// The end of a line: n, the free count, and the digests of map, catalogue, card and show buffer.
+    /// The end of a line: n, the free count, and the digests of map, catalogue and card, and for show of its buffer.
     fn end(&self) -> String {
         let words = to_words(&self.map);
         let halves = words
             .iter()
             .flat_map(|word| [(word >> 32) as u32, *word as u32]);
         let fields = self.sheets.iter().flat_map(|e| [e.mark, e.start, e.length]);
-        let digests = [
-            digest(halves),
-            digest(fields),
-            digest(self.bytes.iter().map(|&byte| byte as u32)),
-            digest(self.buffer.iter().map(|&byte| byte as u32)),
-        ]
-        .map(|digest| format!(" {digest:08x}"))
-        .concat();
+        let bytes = |bytes: &[u8]| digest(bytes.iter().map(|&byte| byte as u32));
+        let mut digests = vec![digest(halves), digest(fields), bytes(&self.bytes)];
+        digests.extend(self.buffer.iter().map(|buffer| bytes(buffer)));
+        let digests: String = digests
+            .iter()
+            .map(|digest| format!(" {digest:08x}"))
+            .collect();
         format!("; {} {}{digests}\n", self.n, self.free)
     }
 }
@@ -565,14 +565,20 @@ const COMPLETE: &str = "
     complete 1
     +byte 3067 1
 
-    +seal 5 2 2 3
+    +entry 2 79 3 3
+    put 2 2 3 496
+    +entry 2 65 0 0
     complete 1
-    +seal 5 1 1 3
+    +entry 1 79 4 2
+    put 1 1 3 496
+    +entry 1 79 3 4
     complete 1
-    +seal 4 1 2 3
+    +entry 1 79 2 3
+    put 1 2 3 496
+    +entry 1 79 3 4
     complete 1
-    +seal 4 1 1 50
-    +seal 5 1 2 60
+    put 1 1 50 496
+    put 1 2 60 496
     complete 1
     show 1 1 496
     show 1 2 496
@@ -673,13 +679,18 @@ const SHOW: &str = "
     show 1 0 496
     show 1 2 496
     show 1 1 495
-    +seal 1 1 0 5
-    show 1 1 496
-    +seal 1 0 1 5
-    show 1 1 496
-    +seal 1 1 1 6
-    show 1 1 496
+    +entry 1 79 1 1
+    put 1 0 5 496
     +entry 1 67 0 3
+    show 1 1 496
+    +entry 0 79 0 2
+    put 0 1 5 496
+    +entry 0 80 0 0
+    show 1 1 496
+    +entry 1 79 0 3
+    put 1 1 6 496
+    +entry 1 67 0 3
+    show 1 1 496
 
     +entry 2 67 4 0
     show 2 0 496

@@ -75,7 +75,7 @@ fn sums(bytes: &[u8]) -> (u32, u32) {
 }
 
 /// The sealed block of a sheet, a place and a payload.
-pub fn sealed(sheet: u32, place: u32, payload: &[u8]) -> Vec<u8> {
+fn sealed(sheet: u32, place: u32, payload: &[u8]) -> Vec<u8> {
     let mut block = [&sheet.to_be_bytes(), &place.to_be_bytes(), payload].concat();
     let (a, b) = sums(&block);
     block.extend(a.to_be_bytes());

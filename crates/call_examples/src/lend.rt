@@ -5,16 +5,19 @@ use card::Outcome;
 use card::Shape;
 use catalogue::Entry;
 
-// What a call answered, and the entries after it: one more than a catalogue can have, so that it can be too long.
+// What a call answered, the entries after it, and for show the digest of its buffer. There is one entry more than a
+// catalogue can have, so that it can be too long.
 pub struct Turn {
     pub outcome: Outcome,
     pub entries: [Entry; 1025],
+    pub shown: u64,
 }
 
 fn turn_of(outcome: Outcome, entries: [Entry; 1025]) -> Turn {
     Turn {
         outcome: outcome,
         entries: entries,
+        shown: 0,
     }
 }
 

@@ -41,27 +41,14 @@ pub const WORD: u64 = 0x2b_776f_7264;
 
 pub const BYTE: u64 = 0x2b_6279_7465;
 
-pub const SEAL: u64 = 0x2b_7365_616c;
-
-// A heading, of any text, and the random list.
+// A heading, of any text.
 pub const HEADING: u64 = 0x3d;
-
-pub const RANDOM: u64 = 0x7261_6e64_6f6d;
 
 pub fn empty() -> Line {
     Line {
         word: 0,
         count: 0,
         numbers: [0; 4],
-    }
-}
-
-// A line of a word and so many numbers.
-pub fn of(word: u64, count: usize, a: u32, b: u32, c: u32, d: u32) -> Line {
-    Line {
-        word: word,
-        count: count,
-        numbers: [a, b, c, d],
     }
 }
 
@@ -130,4 +117,12 @@ pub fn with(l: Line, byte: u8) -> Line {
 pub fn number(l: Line, at: usize) -> u32 {
     let numbers = l.numbers;
     if at < 4 { numbers[at] } else { 0 }
+}
+
+// Whether a byte ends a line that is to be done.
+pub fn ends(l: Line, byte: u8) -> bool {
+    if l.word == HEADING {
+        return false;
+    }
+    byte == b'\n'
 }

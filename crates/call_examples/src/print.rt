@@ -18,17 +18,6 @@ fn number(x: u32) {
     io::print_decimal(STDOUT_FILENO, x as u64);
 }
 
-fn two(a: u32, b: u32) {
-    number(a);
-    number(b);
-}
-
-fn values(a: u32, b: u32, c: u32) {
-    number(0);
-    number(a);
-    two(b, c);
-}
-
 // The letter that a number has at its head, if any.
 fn letter(word: u64) {
     let byte = word / 0x100_0000_0000_0000;
@@ -65,16 +54,52 @@ pub fn line(l: Line) {
     nth(l, 3);
 }
 
-// The number of an answer, 0 where the call was not refused, and the answer's values.
-pub fn answer(a: Answer) {
+// A byte of a heading.
+pub fn heading(l: Line, byte: u8) {
+    if l.word == line::HEADING {
+        sign(byte);
+        return;
+    }
+    if byte == b'=' {
+        sign(byte);
+    }
+}
+
+// The number of an answer: 0 where the call was not refused.
+fn code(x: u32) {
     sign(b':');
+    number(x);
+}
+
+fn one(x: u32, value: u32) {
+    code(x);
+    number(value);
+}
+
+fn three(a: u32, b: u32, c: u32) {
+    code(0);
+    number(a);
+    number(b);
+    number(c);
+}
+
+// A refusal. 0 is none: there was no call.
+fn refusal(row: u32) {
+    if row == 0 {
+        return;
+    }
+    code(row);
+}
+
+// The number of an answer, and its values.
+pub fn answer(a: Answer) {
     match a {
-        Answer::Done => number(0),
-        Answer::Start(start) => two(0, start),
-        Answer::Stands(mark, start, length) => values(mark, start, length),
-        Answer::Counted(free, runs, longest) => values(free, runs, longest),
-        Answer::Blank(place) => two(9, place),
-        Answer::Refused(row) => number(row),
+        Answer::Done => code(0),
+        Answer::Start(start) => one(0, start),
+        Answer::Stands(mark, start, length) => three(mark, start, length),
+        Answer::Counted(free, runs, longest) => three(free, runs, longest),
+        Answer::Blank(place) => one(9, place),
+        Answer::Refused(row) => refusal(row),
     }
 }
 
@@ -83,15 +108,23 @@ fn digest(x: u64) {
     io::print_hex(STDOUT_FILENO, x, 8);
 }
 
+fn shown(x: u64) {
+    if x == 0 {
+        return;
+    }
+    digest(x);
+}
+
 // The end of a line: n, the free count, and the digests.
-pub fn end(map: &[u64], card: &[u8], buffer: &[u8], s: State) {
+pub fn end(map: &[u64], card: &[u8], s: State) {
     sign(b';');
     let shape = s.shape;
-    two(shape.blocks, shape.free);
+    number(shape.blocks);
+    number(shape.free);
     let entries = s.entries;
     digest(digest::words(map));
     digest(digest::entries(entries));
     digest(digest::bytes(card));
-    digest(digest::bytes(buffer));
+    shown(s.shown);
     sign(b'\n');
 }

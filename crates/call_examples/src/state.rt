@@ -1,5 +1,6 @@
 // What the examples keep between calls, and the arrays that they lend parts of.
 ghost use mathlib.Core.Path.{_≡_};
+ghost use Prim.Native.Nat.{_≤_};
 ghost use lib.ListN;
 use crate::lend::Turn;
 use card::Outcome;
@@ -7,10 +8,12 @@ use card::Shape;
 use catalogue::Entry;
 use standings::Answer;
 
-// The shape last handed back, the entries, and how many words of the map, entries and bytes of the card are lent.
+// The shape last handed back, the entries, the digest of the buffer where the last call was a show, and how many words of
+// the map, entries and bytes of the card are lent.
 pub struct State {
     pub shape: Shape,
     pub entries: [Entry; 1025],
+    pub shown: u64,
     pub words: usize,
     pub sheets: usize,
     pub bytes: usize,
@@ -35,6 +38,13 @@ pub fn payload_space() -> [u8; 500]
     ensures { λ r. ⌜ 500 ≡ ListN.length r ⌝ }
 {
     [0xbb; 500]
+}
+
+// A length, or the limit where it is more.
+pub fn most(x: usize, limit: usize) -> usize
+    ensures { λ r. ⌜ r ≤ limit ⌝ }
+{
+    if limit < x { limit } else { x }
 }
 
 // A payload: the first byte is given, and each is 7 more than the one before it, modulo 256.
@@ -68,6 +78,7 @@ pub fn start() -> State {
     State {
         shape: shape(9, 9),
         entries: [entry(0, 0, 0); 1025],
+        shown: 0,
         words: 2,
         sheets: 4,
         bytes: 35840,
@@ -75,10 +86,11 @@ pub fn start() -> State {
 }
 
 // The state with another shape and other entries.
-pub fn with(s: State, shape: Shape, entries: [Entry; 1025]) -> State {
+pub fn with(s: State, shape: Shape, entries: [Entry; 1025], shown: u64) -> State {
     State {
         shape: shape,
         entries: entries,
+        shown: shown,
         words: s.words,
         sheets: s.sheets,
         bytes: s.bytes,
@@ -90,7 +102,7 @@ pub fn after(s: State, turn: Turn) -> State {
     let outcome = turn.outcome;
     let shape = outcome.shape;
     let entries = turn.entries;
-    with(s, shape, entries)
+    with(s, shape, entries, turn.shown)
 }
 
 pub fn answer(turn: Turn) -> Answer {
@@ -104,15 +116,27 @@ pub fn turn(s: State, outcome: Outcome) -> Turn {
     Turn {
         outcome: outcome,
         entries: entries,
+        shown: 0,
     }
 }
 
-// No call was made: the list has no such call, or lends more than there is.
+// A show, with the digest of its buffer.
+pub fn shown(turn: Turn, digest: u64) -> Turn {
+    let outcome = turn.outcome;
+    let entries = turn.entries;
+    Turn {
+        outcome: outcome,
+        entries: entries,
+        shown: digest,
+    }
+}
+
+// No call was made, as at a line that is no call.
 pub fn none(s: State) -> Turn {
     let shape = s.shape;
     let outcome = Outcome {
         shape: shape,
-        answer: Answer::Refused(99),
+        answer: Answer::Refused(0),
     };
     turn(s, outcome)
 }

@@ -1,44 +1,28 @@
 // A line of the list, done and printed.
 use crate::call;
 use crate::change;
+use crate::line;
 use crate::line::Line;
 use crate::print;
 use crate::state;
 use crate::state::State;
 
-fn changes(map: &mut [u64], card: &mut [u8], payload: &mut [u8], s: State, l: Line) -> State {
-    change::buffers(map, card, payload, l);
-    change::kept(s, l)
-}
-
-fn calls(
-    map: &mut [u64],
-    card: &mut [u8],
-    buffer: &mut [u8],
-    payload: &mut [u8],
-    s: State,
-    l: Line,
-) -> State {
-    let turn = call::lent(map, card, buffer, payload, s, l);
+// What a line changes, then what its call does; one of them is nothing.
+fn done(map: &mut [u64], card: &mut [u8], s: State, l: Line) -> State {
+    change::buffers(map, card, l);
+    let changed = change::kept(s, l);
+    let turn = call::lent(map, card, changed, l);
     print::answer(state::answer(turn));
-    state::after(s, turn)
+    state::after(changed, turn)
 }
 
-pub fn step(
-    map: &mut [u64],
-    card: &mut [u8],
-    buffer: &mut [u8],
-    payload: &mut [u8],
-    s: State,
-    l: Line,
-) -> State {
-    print::line(l);
-    if change::is(l) {
-        let t = changes(map, card, payload, s, l);
-        print::end(map, card, buffer, t);
-        return t;
+// At the end of a line, what it says.
+pub fn step(map: &mut [u64], card: &mut [u8], s: State, l: Line, byte: u8) -> State {
+    if !line::ends(l, byte) {
+        return s;
     }
-    let t = calls(map, card, buffer, payload, s, l);
-    print::end(map, card, buffer, t);
+    print::line(l);
+    let t = done(map, card, s, l);
+    print::end(map, card, t);
     t
 }

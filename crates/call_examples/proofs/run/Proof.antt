@@ -8,16 +8,19 @@ use Rattle.call_examples.proofs.run.Statement.{statement}
 use Rattle.call_examples.proofs.run.Tie as tie
 
 abbrev Inv-loop : tie.InvT-loop
-Inv-loop list map₀ card₀ buffer₀ payload₀ s₀ l₀ i₀ map card buffer payload s l i = (i ≤ length list) × (length map ≡ length map₀) × (length card ≡ length card₀) × (length buffer ≡ length buffer₀) × (length payload ≡ length payload₀)
+Inv-loop text read map₀ card₀ s₀ l₀ end i₀ map card s l i = (i ≤ end) × (length map ≡ length map₀) × (length card ≡ length card₀)
 
 abbrev μ-loop : tie.MeasureT-loop
-μ-loop list map₀ card₀ buffer₀ payload₀ s₀ l₀ i₀ map card buffer payload s l i = length list - i
+μ-loop text read map₀ card₀ s₀ l₀ end i₀ map card s l i = end - i
 
 start-requires : tie.Need-start-requires Inv-loop μ-loop
 start-requires c κs = search needs
 
 empty-requires : tie.Need-empty-requires Inv-loop μ-loop
 empty-requires c κs = search needs
+
+most-requires : tie.Need-most-requires Inv-loop μ-loop
+most-requires c κs = search needs
 
 loop-holds : tie.Need-loop-holds Inv-loop μ-loop
 loop-holds c = search needs
@@ -28,8 +31,11 @@ shared-slice-read-byte c = search needs
 add-i : tie.Need-add-i Inv-loop μ-loop
 add-i c = search needs
 
-act-requires : tie.Need-act-requires Inv-loop μ-loop
-act-requires c κs = search needs
+heading-requires : tie.Need-heading-requires Inv-loop μ-loop
+heading-requires c κs = search needs
+
+step-requires : tie.Need-step-requires Inv-loop μ-loop
+step-requires c κs = search needs
 
 with-requires : tie.Need-with-requires Inv-loop μ-loop
 with-requires c κs = search needs
@@ -46,12 +52,6 @@ same-length c = search needs
 same-length-2 : tie.Need-same-length-2 Inv-loop μ-loop
 same-length-2 c = search needs
 
-same-length-3 : tie.Need-same-length-3 Inv-loop μ-loop
-same-length-3 c = search needs
-
-same-length-4 : tie.Need-same-length-4 Inv-loop μ-loop
-same-length-4 c = search needs
-
 returns : tie.Need-returns Inv-loop μ-loop
 returns c = search needs
 
@@ -63,15 +63,15 @@ run-spec =
     μ-loop
     start-requires
     empty-requires
+    most-requires
     loop-holds
     shared-slice-read-byte
     add-i
-    act-requires
+    heading-requires
+    step-requires
     with-requires
     loop-less
     loop-again
     same-length
     same-length-2
-    same-length-3
-    same-length-4
     returns)
