@@ -27,8 +27,9 @@ fn run(text: &[u8], read: usize, map: &mut [u64], card: &mut [u8]) {
     while i < end {
         let byte = text[i];
         i += 1;
-        print::heading(l, byte);
-        s = step::step(map, card, s, l, byte);
+        let ends = line::ends(l, byte);
+        print::echo(byte, ends);
+        s = step::step(map, card, s, l, ends);
         l = line::with(l, byte);
     }
 }

@@ -1,7 +1,5 @@
 // What the examples print, on standard output.
 use crate::digest;
-use crate::line;
-use crate::line::Line;
 use crate::state::State;
 use libc::STDOUT_FILENO;
 use standings::Answer;
@@ -18,51 +16,12 @@ fn number(x: u32) {
     io::print_decimal(STDOUT_FILENO, x as u64);
 }
 
-// The letter that a number has at its head, if any.
-fn letter(word: u64) {
-    let byte = word / 0x100_0000_0000_0000;
-    if byte == 0 {
+// The list as it is read, but for the ends of lines that are to be done.
+pub fn echo(byte: u8, ends: bool) {
+    if ends {
         return;
     }
-    sign(byte as u8);
-}
-
-fn word(word: u64) {
-    let mut rest = word;
-    let mut i: u32 = 0;
-    while i < 8 {
-        letter(rest);
-        rest = rest % 0x100_0000_0000_0000 * 256;
-        i += 1;
-    }
-}
-
-// One of the numbers of a line, if it has so many.
-fn nth(l: Line, at: usize) {
-    if l.count <= at {
-        return;
-    }
-    number(line::number(l, at));
-}
-
-// A line of the list.
-pub fn line(l: Line) {
-    word(l.word);
-    nth(l, 0);
-    nth(l, 1);
-    nth(l, 2);
-    nth(l, 3);
-}
-
-// A byte of a heading.
-pub fn heading(l: Line, byte: u8) {
-    if l.word == line::HEADING {
-        sign(byte);
-        return;
-    }
-    if byte == b'=' {
-        sign(byte);
-    }
+    sign(byte);
 }
 
 // The number of an answer: 0 where the call was not refused.

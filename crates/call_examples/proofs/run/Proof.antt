@@ -31,8 +31,11 @@ shared-slice-read-byte c = search needs
 add-i : tie.Need-add-i Inv-loop μ-loop
 add-i c = search needs
 
-heading-requires : tie.Need-heading-requires Inv-loop μ-loop
-heading-requires c κs = search needs
+ends-requires : tie.Need-ends-requires Inv-loop μ-loop
+ends-requires c κs = search needs
+
+echo-requires : tie.Need-echo-requires Inv-loop μ-loop
+echo-requires c κs = search needs
 
 step-requires : tie.Need-step-requires Inv-loop μ-loop
 step-requires c κs = search needs
@@ -67,7 +70,8 @@ run-spec =
     loop-holds
     shared-slice-read-byte
     add-i
-    heading-requires
+    ends-requires
+    echo-requires
     step-requires
     with-requires
     loop-less
