@@ -16,19 +16,10 @@ fn put(map: &[u64], card: &mut [u8], c: usize, s: State, l: Line) -> Turn
     let entries = s.entries;
     let mut array = state::payload_space();
     let space: &mut [u8] = &mut array;
-    let k = state::most(line::number(l, 3) as usize, space.len());
+    let k = state::most(l.d as usize, space.len());
     let payload = &mut space[0..k];
-    state::fill(payload, line::number(l, 2));
-    lend::put(
-        shape,
-        map,
-        entries,
-        c,
-        card,
-        line::number(l, 0),
-        line::number(l, 1),
-        payload,
-    )
+    state::fill(payload, l.c);
+    lend::put(shape, map, entries, c, card, l.a, l.b, payload)
 }
 
 // Show, into the first bytes of a buffer, as many as the line says.
@@ -39,18 +30,9 @@ fn show(map: &[u64], card: &[u8], c: usize, s: State, l: Line) -> Turn
     let entries = s.entries;
     let mut array = state::payload_space();
     let space: &mut [u8] = &mut array;
-    let k = state::most(line::number(l, 2) as usize, space.len());
+    let k = state::most(l.d as usize, space.len());
     let buffer = &mut space[0..k];
-    let turn = lend::show(
-        shape,
-        map,
-        entries,
-        c,
-        card,
-        line::number(l, 0),
-        line::number(l, 1),
-        buffer,
-    );
+    let turn = lend::show(shape, map, entries, c, card, l.b, l.c, buffer);
     state::shown(turn, digest::bytes(space))
 }
 
@@ -60,15 +42,14 @@ fn look(map: &[u64], card: &[u8], c: usize, s: State, l: Line) -> Turn
 {
     let shape = s.shape;
     let entries = s.entries;
-    let a = line::number(l, 0);
     let kind = l.word;
     match kind {
-        line::SEARCH => state::turn(s, shape.search(map, a)),
+        line::SEARCH => state::turn(s, shape.search(map, l.d)),
         line::SURVEY => state::turn(s, shape.survey(map)),
-        line::COMPLETE => lend::complete(shape, map, entries, c, card, a),
-        line::PAUSE => lend::pause(shape, map, entries, c, a),
+        line::COMPLETE => lend::complete(shape, map, entries, c, card, l.d),
+        line::PAUSE => lend::pause(shape, map, entries, c, l.d),
         line::SHOW => show(map, card, c, s, l),
-        line::STANDING => lend::standing(shape, map, entries, c, a),
+        line::STANDING => lend::standing(shape, map, entries, c, l.d),
         _ => state::none(s),
     }
 }
@@ -78,15 +59,13 @@ fn on_parts(map: &mut [u64], card: &mut [u8], c: usize, s: State, l: Line) -> Tu
 {
     let shape = s.shape;
     let entries = s.entries;
-    let a = line::number(l, 0);
-    let b = line::number(l, 1);
     let kind = l.word;
     match kind {
-        line::FRESH => lend::fresh(shape, a, map, entries, c),
-        line::RESERVE => lend::reserve(shape, map, entries, c, card, a, b),
-        line::GROW => lend::grow(shape, map, entries, c, card, a, b),
+        line::FRESH => lend::fresh(shape, l.d, map, entries, c),
+        line::RESERVE => lend::reserve(shape, map, entries, c, card, l.c, l.d),
+        line::GROW => lend::grow(shape, map, entries, c, card, l.c, l.d),
         line::PUT => put(map, card, c, s, l),
-        line::RELEASE => lend::release(shape, map, entries, c, a),
+        line::RELEASE => lend::release(shape, map, entries, c, l.d),
         _ => look(map, card, c, s, l),
     }
 }

@@ -11,44 +11,39 @@ fn lend(s: State, l: Line) -> State {
         shape: shape,
         entries: entries,
         shown: 0,
-        words: line::number(l, 0) as usize,
-        sheets: line::number(l, 1) as usize,
-        bytes: line::number(l, 2) as usize,
+        words: l.b as usize,
+        sheets: l.c as usize,
+        bytes: l.d as usize,
     }
 }
 
 fn shape(s: State, l: Line) -> State {
     let entries = s.entries;
-    state::with(
-        s,
-        state::shape(line::number(l, 0), line::number(l, 1)),
-        entries,
-        0,
-    )
+    state::with(s, state::shape(l.c, l.d), entries, 0)
 }
 
 fn entry(s: State, l: Line) -> State {
     let shape = s.shape;
     let mut entries = s.entries;
-    let at = line::number(l, 0) as usize;
+    let at = l.a as usize;
     if 1025 <= at {
         return s;
     }
-    entries[at] = state::entry(line::number(l, 1), line::number(l, 2), line::number(l, 3));
+    entries[at] = state::entry(l.b, l.c, l.d);
     state::with(s, shape, entries, 0)
 }
 
 fn word(map: &mut [u64], l: Line) {
-    let at = line::number(l, 0) as usize;
+    let at = l.b as usize;
     if at < map.len() {
-        map[at] = line::number(l, 1) as u64 * 4294967296 + line::number(l, 2) as u64;
+        map[at] = l.c as u64 * 4294967296 + l.d as u64;
     }
 }
 
 fn byte(card: &mut [u8], l: Line) {
-    let at = line::number(l, 0) as usize;
+    let at = l.c as usize;
     if at < card.len() {
-        card[at] = card[at] ^ ((line::number(l, 1) % 256) as u8);
+        card[at] = card[at] ^ ((l.d % 256) as u8);
     }
 }
 

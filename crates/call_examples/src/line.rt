@@ -1,10 +1,13 @@
 // A line of the list: a word, and the numbers after it.
 
-// A word is the number that its letters make, 256 for each letter, at most eight of them.
+// A word is the number that its letters make, 256 for each letter, at most eight of them. The last number of a line is d, the
+// one before it c, and so on; where there are fewer than four the first are 0.
 pub struct Line {
     pub word: u64,
-    pub count: usize,
-    pub numbers: [u32; 4],
+    pub a: u32,
+    pub b: u32,
+    pub c: u32,
+    pub d: u32,
 }
 
 // The calls.
@@ -44,54 +47,28 @@ pub const BYTE: u64 = 0x2b_6279_7465;
 // A heading, of any text.
 pub const HEADING: u64 = 0x3d;
 
-pub fn empty() -> Line {
+fn of(word: u64, a: u32, b: u32, c: u32, d: u32) -> Line {
     Line {
-        word: 0,
-        count: 0,
-        numbers: [0; 4],
+        word: word,
+        a: a,
+        b: b,
+        c: c,
+        d: d,
     }
+}
+
+pub fn empty() -> Line {
+    of(0, 0, 0, 0, 0)
 }
 
 fn letter(l: Line, byte: u8) -> Line {
-    let numbers = l.numbers;
-    Line {
-        word: l.word % 0x100_0000_0000_0000 * 256 + byte as u64,
-        count: l.count,
-        numbers: numbers,
-    }
-}
-
-// A blank: another number begins.
-fn blank(l: Line) -> Line {
-    let numbers = l.numbers;
-    Line {
-        word: l.word,
-        count: l.count % 4 + 1,
-        numbers: numbers,
-    }
-}
-
-fn longer(x: u32, digit: u8) -> u32 {
-    let y = x as u64 * 10 + (digit % 10) as u64;
-    (y % 4294967296) as u32
+    let word = l.word % 0x100_0000_0000_0000 * 256 + byte as u64;
+    of(word, l.a, l.b, l.c, l.d)
 }
 
 fn digit(l: Line, digit: u8) -> Line {
-    let count = l.count;
-    if count == 0 {
-        return l;
-    }
-    if 4 < count {
-        return l;
-    }
-    let mut numbers = l.numbers;
-    let at = count - 1;
-    numbers[at] = longer(numbers[at], digit);
-    Line {
-        word: l.word,
-        count: count,
-        numbers: numbers,
-    }
+    let number = (l.d as u64 * 10 + (digit % 10) as u64) % 4294967296;
+    of(l.word, l.a, l.b, l.c, number as u32)
 }
 
 // The line with a byte more. Behind a line's end the next begins.
@@ -103,7 +80,7 @@ pub fn with(l: Line, byte: u8) -> Line {
         return l;
     }
     if byte == b' ' {
-        return blank(l);
+        return of(l.word, l.b, l.c, l.d, 0);
     }
     if byte < b'0' {
         return letter(l, byte);
@@ -112,11 +89,6 @@ pub fn with(l: Line, byte: u8) -> Line {
         return letter(l, byte);
     }
     digit(l, byte - b'0')
-}
-
-pub fn number(l: Line, at: usize) -> u32 {
-    let numbers = l.numbers;
-    if at < 4 { numbers[at] } else { 0 }
 }
 
 // Whether a byte ends a line that is to be done.
