@@ -23,9 +23,13 @@
  *   number 9    complete: a place is blank, and first has one
  *   number 10   search and reserve: no run of free blocks is long enough
  *   number 11   grow: the next blocks are not all free
+ *   number 12   save: the buffer is not exactly as long as the image; load: not 1 to 91 whole blocks
+ *   number 13   load: a frame's number, total or check is wrong
+ *   number 14   load: the contents cannot be
  *
- * A number that is not 0 is a refusal: the shape comes back as it was, and nothing that was lent is changed. If several
- * hold, the answer is the first in the order 1, 2, 4 for the entry, 5 to 8, 3, 4 for blocks, 9, 10 or 11, 4 for the count.
+ * A number that is not 0 is a refusal: the shape comes back as it was, and nothing that was lent is changed but a scratch.
+ * If several hold, the answer is the first in the order 1, 2, 4 for the entry, 5 to 8, 3, 4 for blocks, 9, 10 or 11, 4 for
+ * the count; save goes by 1, 4, 12, and load by 12, 13, 14 for the head, 1, 14 for the rest.
  */
 #ifndef PAGUNLIT_H
 #define PAGUNLIT_H
@@ -115,6 +119,20 @@ pagunlit_outcome pagunlit_standing(pagunlit_shape shape, const uint64_t *map, si
 pagunlit_outcome pagunlit_show(pagunlit_shape shape, const uint64_t *map, size_t maplen, const pagunlit_entry *catalogue,
                                size_t cataloguelen, const uint8_t *card, size_t cardlen, uint32_t sheet, uint32_t place,
                                uint8_t *buffer, size_t bufferlen);
+
+/* Bytes of the image of a card of n blocks and c sheets, for n and c within their limits. */
+#define PAGUNLIT_IMAGE_BYTES(n, c) ((12 + 12 * (size_t)(c) + 8 * PAGUNLIT_MAP_WORDS(n) + 495) / 496 * 512)
+
+/* Saves shape, map and catalogue as an image, of exactly PAGUNLIT_IMAGE_BYTES. The scratch has as many words as the map,
+ * and is all zeros afterwards, whatever the answer. The card's blocks are no part of the image. */
+pagunlit_outcome pagunlit_save(pagunlit_shape shape, const uint64_t *map, size_t maplen, const pagunlit_entry *catalogue,
+                               size_t cataloguelen, uint64_t *scratch, size_t scratchlen, uint8_t *image,
+                               size_t imagelen);
+
+/* Reads an image into a map and a catalogue of the lengths that it asks for, and hands back its shape. Nothing is written
+ * but the scratch, which is all zeros afterwards, unless all of the image is sound. It reads nothing of the shape. */
+pagunlit_outcome pagunlit_load(pagunlit_shape shape, const uint8_t *image, size_t imagelen, uint64_t *map, size_t maplen,
+                               pagunlit_entry *catalogue, size_t cataloguelen, uint64_t *scratch, size_t scratchlen);
 
 /* Writes the sealed block of a sheet, a place and a payload. Gives 0, or 3 unless payload has 496 bytes and block 512. */
 uint32_t seal(uint32_t sheet, uint32_t place, const uint8_t *payload, size_t payloadlen, uint8_t *block, size_t blocklen);

@@ -151,12 +151,12 @@ module _ (n : ℕ) (l : List Sheet) (card : List ℕ) (k : Kept n l card) where
   map-fits : length (mapIn n l) ≡ (n + 63) / 64
   map-fits = map-length (freeIn n l) ((n + 63) / 64)
 
-  shape-fits : shapeFits n (spareIn n l) (length (mapIn n l)) ≡ true
+  pub shape-fits : shapeFits n (spareIn n l) (length (mapIn n l)) ≡ true
   unfolding shapeFits
   shape-fits =
       simp (le-leb 1 n (k .low), le-leb n 262144 (k .high), le-leb (spareIn n l) n (omega (arith, spare-is n l (k .sound))), eq-eqb (length (mapIn n l)) ((n + 63) / 64) map-fits)
 
-  sheets-fit : sheetsFit (length (map entryIn l)) ≡ true
+  pub sheets-fit : sheetsFit (length (map entryIn l)) ≡ true
   unfolding sheetsFit
   sheets-fit = rw (length-map l entryIn) (simp (le-leb 1 (length l) (k .some-sheet), le-leb (length l) 1024 (k .few-sheets)))
 

@@ -130,7 +130,7 @@ entries-begun zero = refl
 entries-begun (suc c) = ap (λ (r : List Entry). absent ∷ r) (entries-begun c)
 
 module _ (n c : ℕ) (card : List ℕ) (n-low : 1 ≤ n) (n-high : n ≤ 262144) (c-low : 1 ≤ c) (c-high : c ≤ 1024) (room : length card ≡ 512 * n) where
-  kept-begun : Kept n (begun c) card
+  pub kept-begun : Kept n (begun c) card
   kept-begun = record {
     low = n-low;
     high = n-high;
@@ -144,7 +144,7 @@ module _ (n c : ℕ) (card : List ℕ) (n-low : 1 ≤ n) (n-high : n ≤ 262144)
     blocks = λ i p h. absurd (not-suc-le-zero (subst (λ (x : Sheet). p < lengthIn x) (sheet-begun c i) h));
   }
 
-  state-begun : freshState n c card ≡ stateOf n (begun c) card
+  pub state-begun : freshState n c card ≡ stateOf n (begun c) card
   unfolding freshMap
   state-begun =
       let spare : n ≡ spareIn n (begun c) = omega (arith, spare-is n (begun c) (kept-begun .sound), held-begun c) in

@@ -11,6 +11,7 @@ pub mod Marks
 pub mod Results
 pub mod Rows
 pub mod Search
+pub mod Savable
 pub mod Sheets
 pub mod Stepping
 pub mod Sums

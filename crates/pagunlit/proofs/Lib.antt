@@ -5,5 +5,7 @@ pub mod Paused
 pub mod Put
 pub mod Released
 pub mod Reserved
+pub mod Restored
+pub mod Saved
 pub mod Shown
 pub mod Stood

@@ -5,6 +5,7 @@ use Prim.Native.Nat.{ℕ}
 use lib.ListN.{length, set}
 use Rattle.catalogue.specs.Entries.{slotAt, clearedIf}
 use Rattle.catalogue.specs.declared.Entry.{Entry}
+use Rattle.image.specs.Effects as images
 use Rattle.card.specs.Calls as calls
 use Rattle.card.specs.Calls.{entryOf, outcomeOf, acceptedOf}
 use Rattle.card.specs.declared.Outcome.{Outcome}
@@ -78,3 +79,24 @@ showBuffer shape map entries card sheet place buffer = calls.showBuffer shape ma
 
 abbrev pub standingOutcome : Shape → List ℕ → List Entry → ℕ → Outcome
 standingOutcome shape map entries sheet = calls.standingOutcome shape map (slotAt entries sheet) sheet
+
+abbrev pub saveOutcome : Shape → List ℕ → List Entry → List ℕ → List ℕ → Outcome
+saveOutcome shape map entries scratch image = calls.saveOutcome shape (images.saveNumber (shape .blocks) (shape .free) map entries scratch image)
+
+abbrev pub saveScratch : Shape → List ℕ → List Entry → List ℕ → List ℕ → List ℕ
+saveScratch shape map entries scratch image = images.saveScratch (shape .blocks) (shape .free) map entries scratch image
+
+abbrev pub saveImage : Shape → List ℕ → List Entry → List ℕ → List ℕ → List ℕ
+saveImage shape map entries scratch image = images.saveBuffer (shape .blocks) (shape .free) map entries scratch image
+
+abbrev pub loadOutcome : Shape → List ℕ → List ℕ → List Entry → List ℕ → Outcome
+loadOutcome shape image map entries scratch = calls.loadOutcome shape (images.loadResult image map entries scratch)
+
+abbrev pub loadMap : Shape → List ℕ → List ℕ → List Entry → List ℕ → List ℕ
+loadMap shape image map entries scratch = images.loadMap image map entries scratch
+
+abbrev pub loadEntries : Shape → List ℕ → List ℕ → List Entry → List ℕ → List Entry
+loadEntries shape image map entries scratch = images.loadEntries image map entries scratch
+
+abbrev pub loadScratch : Shape → List ℕ → List ℕ → List Entry → List ℕ → List ℕ
+loadScratch shape image map entries scratch = images.loadScratch image map entries scratch

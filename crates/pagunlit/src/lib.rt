@@ -7,7 +7,7 @@ ghost use Rattle.block.specs.Calls.{sealAnswer, afterSeal, checkAnswer};
 ghost use Rattle.standings.specs.Answers.{numberOf, valuesOf};
 ghost use Rattle.card.specs.Calls.{searchOutcome, surveyOutcome};
 ghost use Rattle.pagunlit.specs.Replies.{replyOf};
-ghost use Rattle.pagunlit.specs.Calls.{freshOutcome, freshMap, freshEntries, reserveOutcome, reserveMap, reserveEntries, reserveCard, growOutcome, growMap, growEntries, growCard, putOutcome, putCard, completeOutcome, completeEntries, pauseOutcome, pauseEntries, releaseOutcome, releaseMap, releaseEntries, showOutcome, showBuffer, standingOutcome};
+ghost use Rattle.pagunlit.specs.Calls.{freshOutcome, freshMap, freshEntries, reserveOutcome, reserveMap, reserveEntries, reserveCard, growOutcome, growMap, growEntries, growCard, putOutcome, putCard, completeOutcome, completeEntries, pauseOutcome, pauseEntries, releaseOutcome, releaseMap, releaseEntries, showOutcome, showBuffer, standingOutcome, saveOutcome, saveScratch, saveImage, loadOutcome, loadMap, loadEntries, loadScratch};
 use card::Outcome;
 use card::Shape;
 use catalogue::Entry;
@@ -246,6 +246,39 @@ pub extern "C" fn pagunlit_standing(
     ensures { λ r. ⌜ r ≡ replyOf (standingOutcome shape (now (map .entry)) (now (catalogue .entry)) sheet) ⌝ }
 {
     let outcome = shape.standing(map, catalogue, sheet);
+    reply_of(outcome)
+}
+
+#[no_mangle]
+pub extern "C" fn pagunlit_save(
+    shape: Shape,
+    map: &[u64],
+    catalogue: &[Entry],
+    scratch: &mut [u64],
+    image: &mut [u8],
+) -> Reply
+    ensures { λ r. ⌜ (r ≡ replyOf (saveOutcome shape (now (map .entry)) (now (catalogue .entry)) (now (scratch .entry)) (now (image .entry))))
+        × (now (scratch .exit) ≡ saveScratch shape (now (map .entry)) (now (catalogue .entry)) (now (scratch .entry)) (now (image .entry)))
+        × (now (image .exit) ≡ saveImage shape (now (map .entry)) (now (catalogue .entry)) (now (scratch .entry)) (now (image .entry))) ⌝ }
+{
+    let outcome = shape.save(map, catalogue, scratch, image);
+    reply_of(outcome)
+}
+
+#[no_mangle]
+pub extern "C" fn pagunlit_load(
+    shape: Shape,
+    image: &[u8],
+    map: &mut [u64],
+    catalogue: &mut [Entry],
+    scratch: &mut [u64],
+) -> Reply
+    ensures { λ r. ⌜ (r ≡ replyOf (loadOutcome shape (now (image .entry)) (now (map .entry)) (now (catalogue .entry)) (now (scratch .entry))))
+        × (now (map .exit) ≡ loadMap shape (now (image .entry)) (now (map .entry)) (now (catalogue .entry)) (now (scratch .entry)))
+        × (now (catalogue .exit) ≡ loadEntries shape (now (image .entry)) (now (map .entry)) (now (catalogue .entry)) (now (scratch .entry)))
+        × (now (scratch .exit) ≡ loadScratch shape (now (image .entry)) (now (map .entry)) (now (catalogue .entry)) (now (scratch .entry))) ⌝ }
+{
+    let outcome = shape.load(image, map, catalogue, scratch);
     reply_of(outcome)
 }
 

@@ -1,0 +1,104 @@
+-- Every state that a list of calls from a fresh card leaves is sound (document 01, "Saved image"), so that it can be saved:
+-- `every-list-sound` and `every-list-saves`.
+-- Assumes nothing.
+use Prim.Native.Nat.{ℕ, zero, suc, _+_, _-_, _*_, _≤_, _<_}
+use mathlib.Core.Path.{_≡_, refl, sym, ap, subst, _∙_}
+use mathlib.Core.Bool.{Bool, true, false, cond, not, _&&_}
+use mathlib.Core.List.{List, [], _∷_, map}
+use native.Mathlib.Omega.{arith}
+use lib.Dec.{eqb, leb}
+use lib.ListN.{length}
+use borrow.Author.Tests.{le-leb, lt-ltb, le-ltb, eq-eqb}
+use Rattle.freemap.specs.Blocks.{free, all}
+use Rattle.freemap.specs.Maps.{inState}
+use Rattle.freemap.proofs.Bools.{and-both}
+use Rattle.freemap.proofs.Runs.{all-intro}
+use Rattle.survey.specs.Survey.{countsOf, freeOf, blocks}
+use Rattle.standings.specs.Standings.{standingOf, isDamaged}
+use Rattle.calls.specs.Table.{Call}
+use Rattle.standings.specs.Limits.{shapeFits, sheetsFit}
+use Rattle.standings.specs.Rows.{accepted, firstOf}
+use Rattle.standings.proofs.Openings.{skip}
+use Rattle.soundness.specs.Sound as saved
+use Rattle.image.specs.Image.{framesFor}
+use Rattle.image.specs.Table.{saveFits, saveRows, saveVerdict}
+use Rattle.ledger.specs.Ledger.{Sheet, sheetAt, covers, cover, freeIn, spareIn, after, begun}
+use Rattle.ledger.specs.Claim.{entryIn}
+use Rattle.ledger.specs.Steps.{State, Reply, Runs, freshState}
+use Rattle.ledger.proofs.Agreement.{mapIn, stateOf, Kept, entry-at, free-map, shape-fits, sheets-fit, stands-same}
+use Rattle.ledger.proofs.Demand.{Left, lists, kept-begun, state-begun}
+use Rattle.ledger.proofs.Listed.{undamaged}
+
+-- What save is lent of a state.
+abbrev pub savedOf : State → saved.State
+savedOf t = record { blocks = t .shape .blocks; spare = t .shape .free; entries = t .entries; map = t .map }
+
+all-undamaged : (n : ℕ) (f : ℕ → Bool) (l : List Sheet) → ((i : ℕ) → i < length l → isDamaged (standingOf n f (entryIn (sheetAt l i))) ≡ false)
+    → saved.undamaged n f (map entryIn l) ≡ true
+unfolding saved.undamaged
+all-undamaged n f [] h = refl
+all-undamaged n f (x ∷ l) h = and-both _ _ (ap not (h 0 (omega arith))) (all-undamaged n f l (λ i lt. h (suc i) (omega arith)))
+
+same-cover : (l : List Sheet) (b : ℕ) → saved.cover (map entryIn l) b ≡ cover l b
+unfolding saved.cover
+same-cover [] b = refl
+same-cover (x ∷ l) b = ap (λ (c : ℕ). covers x b + c) (same-cover l b)
+
+as-it-is : (t : Bool) → cond t t (not t) ≡ true
+as-it-is true = refl
+as-it-is false = refl
+
+none-left : firstOf [] ≡ accepted
+unfolding firstOf
+none-left = refl
+
+module _ (n : ℕ) (l : List Sheet) (card : List ℕ) (k : Kept n l card) where
+  reads : (b : ℕ) → free (mapIn n l) b ≡ freeIn n l b
+  reads b = ap (λ (f : ℕ → Bool). f b) (free-map n l)
+
+  below : (b : ℕ) → b < n → inState (mapIn n l) (eqb (saved.cover (map entryIn l) b) 0) b ≡ true
+  below b lt =
+      let here : free (mapIn n l) b ≡ eqb (cover l b) 0 = reads b ∙ ap (λ (t : Bool). t && eqb (cover l b) 0) (lt-ltb b n lt) in
+      ap (λ (c : ℕ). inState (mapIn n l) (eqb c 0) b) (same-cover l b)
+      ∙ ap (λ (t : Bool). cond (eqb (cover l b) 0) t (not t)) here ∙ as-it-is (eqb (cover l b) 0)
+
+  pub kept-sound : saved.sound (savedOf (stateOf n l card)) ≡ true
+  unfolding saved.sound countsOf
+  kept-sound =
+      and-both _ _
+      (and-both _ _
+      (and-both _ _
+      (and-both _ _
+      (all-undamaged n (free (mapIn n l)) l
+      (λ i lt. ap (λ e. isDamaged (standingOf n (free (mapIn n l)) e)) (sym (entry-at l i lt)) ∙ ap isDamaged (stands-same n l card k i lt) ∙ undamaged (sheetAt l i)))
+      (all-intro _ 0 n (λ b a lt. ap (λ (c : ℕ). leb c 1) (same-cover l b) ∙ le-leb (cover l b) 1 (k .sound .once b))))
+      (all-intro _ 0 n (λ b a lt. below b (omega arith))))
+      (all-intro _ n (64 * length (mapIn n l) - n) (λ b ge lt. ap not (reads b ∙ ap (λ (t : Bool). t && eqb (cover l b) 0) (le-ltb b n ge)))))
+      (eq-eqb (spareIn n l) _ (ap (λ (f : ℕ → Bool). freeOf (blocks f 0 n)) (sym (free-map n l))))
+
+  -- with a scratch as long as the map and a buffer of the image's length, save is accepted
+  pub kept-saves : (scratchlen bufferlen : ℕ) → scratchlen ≡ length (mapIn n l) → bufferlen ≡ 512 * framesFor n (length (map entryIn l))
+      → saveVerdict (savedOf (stateOf n l card)) scratchlen bufferlen ≡ accepted
+  unfolding saveVerdict saveRows saveFits
+  kept-saves scratchlen bufferlen es eb =
+      let fits : (shapeFits n (spareIn n l) (length (mapIn n l)) && sheetsFit (length (map entryIn l)) && eqb scratchlen (length (mapIn n l))) ≡ true =
+      and-both _ _ (and-both _ _ (shape-fits n l card k) (sheets-fit n l card k)) (eq-eqb scratchlen (length (mapIn n l)) es) in
+      skip 1 _ _ _ (ap not fits) (skip 4 _ _ _ (ap not kept-sound) (skip 12 _ _ _ (ap not (eq-eqb bufferlen (512 * framesFor n (length (map entryIn l))) eb)) none-left))
+
+-- ---- after a list
+
+module _ (n c : ℕ) (card : List ℕ) (n-low : 1 ≤ n) (n-high : n ≤ 262144) (c-low : 1 ≤ c) (c-high : c ≤ 1024) (room : length card ≡ 512 * n) (calls : List Call) (replies : List Reply) (t : State)
+    (runs : Runs (freshState n c card) calls replies t) where
+  left : Left n (begun c) calls replies t
+  left =
+      lists n calls replies (begun c) card (freshState n c card) t (kept-begun n c card n-low n-high c-low c-high room) (state-begun n c card n-low n-high c-low c-high room) runs
+
+  pub every-list-sound : saved.sound (savedOf t) ≡ true
+  every-list-sound =
+      ap (λ (s : State). saved.sound (savedOf s)) (left .state-left) ∙ kept-sound n (after n (begun c) calls) (left .card-left) (left .kept-left)
+
+  pub every-list-saves : (scratchlen bufferlen : ℕ) → scratchlen ≡ length (t .map) → bufferlen ≡ 512 * framesFor (t .shape .blocks) (length (t .entries))
+      → saveVerdict (savedOf t) scratchlen bufferlen ≡ accepted
+  every-list-saves scratchlen bufferlen =
+      subst (λ (s : State). scratchlen ≡ length (s .map) → bufferlen ≡ 512 * framesFor (s .shape .blocks) (length (s .entries)) → saveVerdict (savedOf s) scratchlen bufferlen ≡ accepted)
+      (sym (left .state-left)) (kept-saves n (after n (begun c) calls) (left .card-left) (left .kept-left) scratchlen bufferlen)
