@@ -1,0 +1,7 @@
+-- The laws of numbers in decimal and of what is written, and the walks over the entries.
+pub mod Cursors
+pub mod Decimals
+pub mod Described
+pub mod Lines
+pub mod SheetsWritten
+pub mod Written
