@@ -11,8 +11,9 @@ use borrow.Author.Tests.{lt-ltb, le-ltb, ltb-true, ltb-false}
 use Rattle.catalogue.specs.declared.Entry.{Entry}
 use Rattle.survey.specs.declared.Counts.{Counts}
 use Rattle.printing.specs.Decimal.{decimal}
-use Rattle.printing.specs.Text.{blank, newline, numeral, cardLine, runsLine, sheetLine, sheetLines, cardText}
-use Rattle.printing.specs.Writing.{behind, written, Writes, cursor, headCursor, headWritten, room, lineCursor, lineWritten, linesCursor, linesWritten, placeOf, Describes}
+use Rattle.printing.specs.Text.{space, newline, numeral, cardLine, runsLine, sheetLine, sheetLines, cardText}
+use Rattle.printing.specs.Sheets.{cursor, headCursor, headWritten, room, lineCursor, lineWritten, linesCursor, linesWritten, placeOf, Describes}
+use Rattle.printing.specs.Writing.{behind, written, Writes}
 use Rattle.printing.specs.declared.Cursor.{Cursor}
 use Rattle.printing.proofs.Written.{then, writes-past, writes-none}
 

@@ -3,5 +3,6 @@ pub mod Cursors
 pub mod Decimals
 pub mod Described
 pub mod Lines
+pub mod Room
 pub mod SheetsWritten
 pub mod Written

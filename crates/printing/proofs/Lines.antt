@@ -11,8 +11,9 @@ use Rattle.freemap.proofs.Bools.{order}
 use Rattle.catalogue.specs.declared.Entry.{Entry}
 use Rattle.survey.specs.declared.Counts.{Counts}
 use Rattle.printing.specs.Decimal.{decimal}
-use Rattle.printing.specs.Text.{blank, newline, numeral, cardLine, runsLine, sheetLine, sheetLines, cardText}
-use Rattle.printing.specs.Writing.{behind, written, Writes, cursor, headCursor, headWritten, lineCursor, lineWritten, linesCursor, linesWritten, placeOf, Describes}
+use Rattle.printing.specs.Text.{space, newline, numeral, cardLine, runsLine, sheetLine, sheetLines, cardText}
+use Rattle.printing.specs.Sheets.{cursor, headCursor, headWritten, lineCursor, lineWritten, linesCursor, linesWritten, placeOf, Describes}
+use Rattle.printing.specs.Writing.{behind, written, Writes}
 use Rattle.printing.specs.declared.Cursor.{Cursor}
 use Rattle.printing.proofs.Cursors.{full, going, line-some, line-none, cursor-stays, text-stays}
 use Rattle.printing.proofs.Written.{then, writes-past, writes-none, written-length}
@@ -21,7 +22,7 @@ use Rattle.printing.proofs.Written.{then, writes-past, writes-none, wri
 line-long : (sheet : ℕ) (e : Entry) → 0 < length (sheetLine sheet e)
 unfolding sheetLine numeral
 line-long sheet e =
-    let front : List ℕ = numeral sheet blank ++ (e .mark % 256 ∷ blank ∷ []) ++ numeral (e .start) blank in
+    let front : List ℕ = numeral sheet space ++ (e .mark % 256 ∷ space ∷ []) ++ numeral (e .start) space in
     omega (arith, length-append front (numeral (e .length) newline), length-append (decimal (e .length)) (newline ∷ []))
 
 -- the text is full when the sheet's number comes to its length

@@ -5,11 +5,12 @@ ghost use mathlib.Core.List.{List, [], _∷_};
 ghost use Prim.Native.Nat.{_<_};
 ghost use Rattle.printing.specs.Decimal.{decimal};
 ghost use Rattle.printing.specs.Text.{numeral, cardLine, runsLine, sheetLine, cardText, refusalText};
-ghost use Rattle.printing.specs.Writing.{Writes, headCursor, headWritten, lineCursor, lineWritten, linesCursor, linesWritten, placeOf};
+ghost use Rattle.printing.specs.Sheets.{headCursor, headWritten, lineCursor, lineWritten, linesCursor, linesWritten, placeOf};
+ghost use Rattle.printing.specs.Writing.{Writes};
 use catalogue::Entry;
 use survey::Counts;
 
-const BLANK: u8 = 0x20;
+const SPACE: u8 = 0x20;
 
 const NEWLINE: u8 = 0x0A;
 
@@ -68,8 +69,8 @@ fn write_card(text: &mut [u8], at: usize, n: u32, free: u32, c: usize) -> usize
     ensures { λ r. ⌜ Writes (cardLine n free c) (now (text .entry)) at r (now (text .exit)) ⌝ }
 {
     let at = write_word(text, at, b"card ");
-    let at = write_numeral(text, at, n as usize, BLANK);
-    let at = write_numeral(text, at, free as usize, BLANK);
+    let at = write_numeral(text, at, n as usize, SPACE);
+    let at = write_numeral(text, at, free as usize, SPACE);
     write_numeral(text, at, c, NEWLINE)
 }
 
@@ -100,10 +101,10 @@ fn write_head(n: u32, free: u32, c: usize, counts: Counts, text: &mut [u8]) -> C
 fn write_line(text: &mut [u8], at: usize, sheet: usize, entry: Entry) -> usize
     ensures { λ r. ⌜ Writes (sheetLine sheet entry) (now (text .entry)) at r (now (text .exit)) ⌝ }
 {
-    let at = write_numeral(text, at, sheet, BLANK);
+    let at = write_numeral(text, at, sheet, SPACE);
     let at = put(text, at, (entry.mark % 256) as u8);
-    let at = put(text, at, BLANK);
-    let at = write_numeral(text, at, entry.start as usize, BLANK);
+    let at = put(text, at, SPACE);
+    let at = write_numeral(text, at, entry.start as usize, SPACE);
     write_numeral(text, at, entry.length as usize, NEWLINE)
 }
 

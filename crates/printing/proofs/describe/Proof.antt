@@ -4,7 +4,7 @@ use contract.Running.{givenOf, tables, tablesOf}
 use denote.Triple.Spec.{tripleOf}
 use denote.Triple.Table.{entered, cited}
 use lib.ListN.{length}
-use Rattle.printing.specs.Writing.{headCursor, headWritten, linesCursor, linesWritten, placeOf, Describes}
+use Rattle.printing.specs.Sheets.{headCursor, headWritten, linesCursor, linesWritten, placeOf, Describes}
 use Rattle.printing.proofs.Lines.{describes}
 use Rattle.printing.proofs.Described.{count-contract, write-head-contract, write-sheets-contract, place-of-contract, meets}
 use Rattle.catalogue.proofs.count.Symbol as count-def

@@ -3,7 +3,7 @@
 use contract.Running.{givenOf, tables, tablesOf}
 use denote.Triple.Spec.{tripleOf}
 use denote.Triple.Table.{entered, cited}
-use Rattle.printing.specs.Writing.{lineCursor, lineWritten, linesCursor, linesWritten}
+use Rattle.printing.specs.Sheets.{lineCursor, lineWritten, linesCursor, linesWritten}
 use Rattle.printing.proofs.Cursors.{cursor-none, cursor-more, text-none, text-more}
 use Rattle.printing.proofs.SheetsWritten.{step-contract, meets}
 use Rattle.printing.proofs.write_sheet.Symbol as step-def
