@@ -1,7 +1,8 @@
 -- Laws of the definitions of specs/, for other crates too: bytes replaced, the body that an image carries, numbers and words
--- stored in it, and the frames of a body.
+-- stored in it, the frames of a body, and what is read back from them.
 pub mod Replaced
 pub mod Bodies
 pub mod Numbered
 pub mod Stored
 pub mod Framing
+pub mod Recovered

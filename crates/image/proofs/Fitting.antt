@@ -24,6 +24,7 @@ sheets c e = record { some = leb-true 1 c (and-left (leb 1 c) (leb c 1024) e); f
 pub record SaveFits (n spare c maplen scratchlen : ℕ) : Type 0 where
   pub shape : shapeFits n spare maplen ≡ true
   pub limits : Fits n spare maplen
+  pub listed : sheetsFit c ≡ true
   pub count : Sheets c
   pub same : scratchlen ≡ maplen
 
@@ -51,9 +52,13 @@ module _ (n spare c maplen scratchlen : ℕ) where
       record {
         shape = s;
         limits = fits n spare maplen s;
+        listed = and-right a b (and-left (a && b) d e);
         count = sheets c (and-right a b (and-left (a && b) d e));
         same = eqb-true scratchlen maplen (and-right (a && b) d e);
       }
+
+  pub to-save-fits : shapeFits n spare maplen ≡ true → sheetsFit c ≡ true → scratchlen ≡ maplen → saveFits n spare c maplen scratchlen ≡ true
+  to-save-fits s t e = sym (save-by-scratch s t) ∙ eq-eqb scratchlen maplen e
 
 -- row 12 of load
 pub record Whole (bytes : ℕ) : Type 0 where
@@ -97,6 +102,7 @@ to-whole bytes w =
 pub record Head (n spare c total : ℕ) : Type 0 where
   pub shape : shapeFits n spare (wordsFor n) ≡ true
   pub limits : Fits n spare (wordsFor n)
+  pub listed : sheetsFit c ≡ true
   pub count : Sheets c
   pub exact : total ≡ framesFor n c
 
@@ -134,9 +140,13 @@ module _ (n spare c total : ℕ) where
       record {
         shape = s;
         limits = fits n spare (wordsFor n) s;
+        listed = and-right a b (and-left (a && b) d e);
         count = sheets c (and-right a b (and-left (a && b) d e));
         exact = eqb-true total (framesFor n c) (and-right (a && b) d e);
       }
+
+pub to-head : (n spare c total : ℕ) → shapeFits n spare (wordsFor n) ≡ true → sheetsFit c ≡ true → total ≡ framesFor n c → headFits n spare c total ≡ true
+to-head n spare c total s k e = sym (head-by-total n spare c total s k (framesFor n c) refl) ∙ eq-eqb total (framesFor n c) e
 
 -- row 1 of load
 pub record LoadFits (n c maplen count scratchlen : ℕ) : Type 0 where
@@ -169,3 +179,7 @@ load-fits-to n c maplen count scratchlen e =
       entries = eqb-true count c (and-right a b (and-left (a && b) d e));
       scratch = eqb-true scratchlen (wordsFor n) (and-right (a && b) d e);
     }
+
+pub to-load-fits : (n c maplen count scratchlen : ℕ) → LoadFits n c maplen count scratchlen → loadFits n c maplen count scratchlen ≡ true
+to-load-fits n c maplen count scratchlen l =
+    sym (load-by-scratch n c maplen count scratchlen (wordsFor n) refl (l .words) (l .entries) (wordsFor n) refl) ∙ eq-eqb scratchlen (wordsFor n) (l .scratch)

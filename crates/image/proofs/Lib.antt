@@ -2,3 +2,5 @@
 pub mod Fitting
 pub mod Verdicts
 pub mod Cursors
+pub mod Journey
+pub mod ReturnJourney

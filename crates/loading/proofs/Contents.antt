@@ -11,7 +11,7 @@ use Rattle.standings.specs.Limits.{shapeFits}
 use Rattle.catalogue.specs.declared.Entry.{Entry}
 use Rattle.frames.specs.Frames.{bodyOf}
 use Rattle.frames.specs.Numbers.{numberIn, wordsAt}
-use Rattle.frames.proofs.Stored.{wordsAt-length}
+use Rattle.image.proofs.Journey.{map-length}
 use Rattle.soundness.specs.Releases.{tally, tallyAfter, scratchAfter, tallyOf, scratchOf, allReleased}
 use Rattle.soundness.specs.Sound.{State, sound}
 use Rattle.soundness.specs.declared.Tally.{Tally}
@@ -105,10 +105,6 @@ unfolding mapIn
 map-read image n c len words e r =
     let at : 4 * (3 + 3 * c) ≡ 12 + 12 * c = omega arith in
     r ∙ ap₂ (wordsAt (bodyOf image)) at e
-
-pub map-length : (image : List ℕ) (n c : ℕ) → length (mapIn image n c) ≡ wordsFor n
-unfolding mapIn
-map-length image n c = wordsAt-length (bodyOf image) (12 + 12 * c) (wordsFor n)
 
 abbrev state : ℕ → ℕ → List Entry → List ℕ → State
 state n spare entries map = record { blocks = n; spare = spare; entries = entries; map = map }

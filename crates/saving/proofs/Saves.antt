@@ -28,6 +28,7 @@ use Rattle.image.specs.Image.{wordsFor, contentLength, framesFor, entryBytes, b
 use Rattle.saving.specs.Parts.{firstTally, firstScratch, numberBy, scratchCleared, headCursor, headImage, imageAfter, entriesCursor, entriesImage, restImage}
 use Rattle.image.specs.Table.{saveFits, saveRows, saveVerdict}
 use Rattle.image.specs.declared.Cursor.{Cursor}
+use Rattle.image.proofs.Journey.{entryBytes-length}
 use Rattle.image.proofs.Cursors.{going}
 use Rattle.image.proofs.Fitting.{save-fits-to}
 use Rattle.image.proofs.Verdicts.{saved-to, save-accepted}
@@ -35,11 +36,6 @@ use Rattle.saving.proofs.Room.{RestFits, rest-stopped, to-rest}
 use Rattle.saving.proofs.Writing.{writes, cursor-stays, image-stays}
 
 -- ---- the entries, written behind what stands there
-
-entryBytes-length : (es : List Entry) → length (entryBytes es) ≡ 12 * length es
-unfolding entryBytes bytes4
-entryBytes-length [] = refl
-entryBytes-length (e ∷ es) = let h = entryBytes-length es in omega arith
 
 module _ (first : List ℕ) where
   record Entered (k : ℕ) (news : List ℕ) (es : List Entry) (at : Cursor) (image : List ℕ) : Type 0 where

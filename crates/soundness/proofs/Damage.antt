@@ -81,3 +81,17 @@ module _ (n : ℕ) (e : Entry) where
       ap isDamaged (standing-said g
       ∙ ap (said e (eqb (e .mark) 0x41) (eqb (e .mark) 0x50) (eqb (e .mark) 0x4f) (eqb (e .mark) 0x43) (eqb (e .start) 0 && eqb (e .length) 0)) same
       ∙ sym (standing-said f)) ∙ d
+
+  -- its mark is one of the four
+  pub mark-small : (f : ℕ → Bool) → isDamaged (standingOf n f e) ≡ false → e .mark < 256
+  unfolding said
+  mark-small f d =
+      by (eqb (e .mark) 0x41) (eqb (e .mark) 0x50) (eqb (e .mark) 0x4f) (eqb (e .mark) 0x43) refl refl refl refl (ap isDamaged (sym (standing-said f)) ∙ d)
+    where
+      by : (p q o k : Bool) → eqb (e .mark) 0x41 ≡ p → eqb (e .mark) 0x50 ≡ q → eqb (e .mark) 0x4f ≡ o → eqb (e .mark) 0x43 ≡ k
+          → isDamaged (said e p q o k (eqb (e .start) 0 && eqb (e .length) 0) (extentHolds n f (e .start) (e .length))) ≡ false → e .mark < 256
+      by true q o k ep eq eo ek h = omega (arith, eqb-true (e .mark) 0x41 ep)
+      by false true o k ep eq eo ek h = omega (arith, eqb-true (e .mark) 0x50 eq)
+      by false false true k ep eq eo ek h = omega (arith, eqb-true (e .mark) 0x4f eo)
+      by false false false true ep eq eo ek h = omega (arith, eqb-true (e .mark) 0x43 ek)
+      by false false false false ep eq eo ek h = absurd (true≢false h)
