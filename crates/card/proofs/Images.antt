@@ -1,0 +1,95 @@
+-- The saved image, of a shape's methods (document 01, "Saved image"). What a save was given, a load of what it wrote gives back:
+-- shape, map and entries (`saved-loads`). An image that load accepts is the image of what it gives, so it is the only one, and a
+-- save writes it again (`loaded-only`). A refusal changes nothing but the scratch (`save-refused`, `load-refused`).
+-- Assumes nothing.
+use mathlib.Core.Path.{_≡_, refl, sym, ap, ap₂, _∙_}
+use mathlib.Core.Bool.{Bool, true, false, cond}
+use mathlib.Core.List.{List}
+use Prim.Native.Nat.{ℕ}
+use native.Mathlib.Omega.{arith}
+use lib.Dec.{eqb}
+use lib.ListN.{length, replicate}
+use borrow.Author.Tests.{eqb-true}
+use Rattle.calls.specs.Rows.{Verdict, refused, settle}
+use Rattle.calls.specs.declared.Answer.{Answer}
+use Rattle.calls.specs.declared.Answer.the-variants.{Done, Start, Stands, Counted, Blank, Refused}
+use Rattle.catalogue.specs.declared.Entry.{Entry}
+use Rattle.frames.specs.Frames.{Bytes}
+use Rattle.soundness.specs.Sound.{State}
+use Rattle.image.specs.Effects.{numberOf, saveNumber, saveScratch, saveBuffer, loadResult, loadMap, loadEntries, loadScratch}
+use Rattle.image.specs.Image.{imageOf, stateIn}
+use Rattle.image.specs.Table.{saveVerdict, loadVerdict}
+use Rattle.image.specs.declared.Loaded.{Loaded}
+use Rattle.image.proofs.Journey.{Words}
+use Rattle.image.proofs.ReturnJourney as journey
+use Rattle.card.specs.declared.Outcome.{Outcome}
+use Rattle.card.specs.declared.Shape.{Shape}
+use Rattle.card.specs.Calls.{told, isDone, saveOutcome, loadOutcome}
+
+abbrev stateOf : Shape → List ℕ → List Entry → State
+stateOf shape map entries = record { blocks = shape .blocks; spare = shape .free; entries = entries; map = map }
+
+never-done : false ≡ true → ⊥
+never-done e = let z : _≡_ {A = ℕ} 1 0 = ap (λ (x : Bool). cond x 0 1) e in omega arith
+
+-- a save or a load that was done has the number 0
+done-save : (shape : Shape) (number : ℕ) → isDone (saveOutcome shape number .answer) ≡ true → number ≡ 0
+done-save shape number d = by (eqb number 0) refl d
+  where
+    by : (b : Bool) → eqb number 0 ≡ b → isDone (cond b Done (Refused number)) ≡ true → number ≡ 0
+    by true e h = eqb-true number 0 e
+    by false e h = absurd (never-done h)
+
+done-load : (shape : Shape) (given : Loaded) → isDone (loadOutcome shape given .answer) ≡ true → given .number ≡ 0
+done-load shape given d = by (eqb (given .number) 0) refl d
+  where
+    by : (b : Bool) → eqb (given .number) 0 ≡ b
+        → isDone (cond b (told (record { blocks = given .blocks; free = given .free }) Done) (told shape (Refused (given .number))) .answer) ≡ true → given .number ≡ 0
+    by true e h = eqb-true (given .number) 0 e
+    by false e h = absurd (never-done h)
+
+-- what a save of `map` and `entries` wrote, loaded into other buffers of the same lengths, whatever shape the load takes
+module _ (shape other : Shape) (map : List ℕ) (entries : List Entry) (scratch buffer map′ : List ℕ) (entries′ : List Entry) (scratch′ : List ℕ) where
+  abbrev written : List ℕ
+  written = saveBuffer (shape .blocks) (shape .free) map entries scratch buffer
+
+  pub record LoadsBack : Type 0 where
+    pub outcome : loadOutcome other (loadResult written map′ entries′ scratch′) ≡ told shape Done
+    pub words : loadMap written map′ entries′ scratch′ ≡ map
+    pub sheets : loadEntries written map′ entries′ scratch′ ≡ entries
+    pub zeros : loadScratch written map′ entries′ scratch′ ≡ replicate (length scratch′) 0
+
+  pub saved-loads : Words map → saveOutcome shape (saveNumber (shape .blocks) (shape .free) map entries scratch buffer) ≡ told shape Done
+      → length map′ ≡ length map → length entries′ ≡ length entries → length scratch′ ≡ length map → LoadsBack
+  saved-loads words e lm le ls =
+      let z = done-save shape (saveNumber (shape .blocks) (shape .free) map entries scratch buffer) (ap (λ (o : Outcome). isDone (o .answer)) e) in
+      let g = journey.saved-loads (shape .blocks) (shape .free) map entries scratch buffer map′ entries′ scratch′ words z lm le ls in
+      record { outcome = ap (loadOutcome other) (g .result); words = g .words; sheets = g .sheets; zeros = g .zeros }
+
+-- what a load gives, and the image that it was
+module _ (shape : Shape) (image map : List ℕ) (entries : List Entry) (scratch : List ℕ) (bytes : Bytes image) where
+  abbrev given : Loaded
+  given = loadResult image map entries scratch
+
+  abbrev handed : Outcome
+  handed = loadOutcome shape given
+
+  same-shape : given .number ≡ 0 → handed .shape ≡ record { blocks = given .blocks; free = given .free }
+  same-shape z = ap (λ (k : ℕ). cond (eqb k 0) (told (record { blocks = given .blocks; free = given .free }) Done) (told shape (Refused k)) .shape) z
+
+  pub loaded-only : isDone (handed .answer) ≡ true → imageOf (stateOf (handed .shape) (loadMap image map entries scratch) (loadEntries image map entries scratch)) ≡ image
+  loaded-only d =
+      let z = done-load shape given d in
+      ap (λ (s : Shape). imageOf (stateOf s (loadMap image map entries scratch) (loadEntries image map entries scratch))) (same-shape z) ∙ journey.loaded-only image map entries scratch bytes z
+
+-- a refusal changes nothing but the scratch
+pub save-refused : (shape : Shape) (map : List ℕ) (entries : List Entry) (scratch buffer : List ℕ) (number : ℕ)
+    → saveVerdict (stateOf shape map entries) (length scratch) (length buffer) ≡ refused number → saveBuffer (shape .blocks) (shape .free) map entries scratch buffer ≡ buffer
+unfolding saveBuffer
+save-refused shape map entries scratch buffer number v = ap (λ (w : Verdict). settle w (imageOf (stateOf shape map entries)) (λ k. buffer)) v
+
+pub load-refused : (image map : List ℕ) (entries : List Entry) (scratch : List ℕ) (number : ℕ) → loadVerdict image (length map) (length entries) (length scratch) ≡ refused number
+    → (loadMap image map entries scratch ≡ map) × (loadEntries image map entries scratch ≡ entries)
+unfolding loadMap loadEntries
+load-refused image map entries scratch number v =
+    (ap (λ (w : Verdict). settle w (stateIn image .map) (λ k. map)) v, ap (λ (w : Verdict). settle w (stateIn image .entries) (λ k. entries)) v)
