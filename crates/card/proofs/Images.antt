@@ -10,9 +10,9 @@ use native.Mathlib.Omega.{arith}
 use lib.Dec.{eqb}
 use lib.ListN.{length, replicate}
 use borrow.Author.Tests.{eqb-true}
-use Rattle.calls.specs.Rows.{Verdict, refused, settle}
-use Rattle.calls.specs.declared.Answer.{Answer}
-use Rattle.calls.specs.declared.Answer.the-variants.{Done, Start, Stands, Counted, Blank, Refused}
+use Rattle.standings.specs.Rows.{Verdict, refused, settle}
+use Rattle.standings.specs.declared.Answer.{Answer}
+use Rattle.standings.specs.declared.Answer.the-variants.{Done, Start, Stands, Counted, Blank, Refused}
 use Rattle.catalogue.specs.declared.Entry.{Entry}
 use Rattle.frames.specs.Frames.{Bytes}
 use Rattle.soundness.specs.Sound.{State}

@@ -13,8 +13,8 @@ use Rattle.freemap.specs.Blocks.{free}
 use Rattle.block.specs.Sealed.{bytes4, numberAt, blank}
 use Rattle.block.proofs.Blank.{blank-zeros, blank-is-zeros}
 use Rattle.block.proofs.Numbers.{bytes4-length, number-at}
-use Rattle.calls.specs.Rows.{Verdict, accepted, settle}
-use Rattle.calls.specs.Views.{shapeFits, sheetsFit}
+use Rattle.standings.specs.Rows.{Verdict, accepted, settle}
+use Rattle.standings.specs.Limits.{shapeFits, sheetsFit}
 use Rattle.catalogue.specs.declared.Entry.{Entry}
 use Rattle.frames.specs.Frames.{Bytes, frames, bodyOf, totalOf, framed, sealedImage}
 use Rattle.frames.specs.Numbers.{wordBytes, wordsAt}

@@ -9,7 +9,7 @@ use native.Mathlib.Omega.{arith}
 use lib.ListN.{length, replicate}
 use borrow.Author.Tests.{eq-eqb}
 use Rattle.freemap.proofs.Bools.{and-both}
-use Rattle.calls.specs.Rows.{Verdict, accepted, refused, settle}
+use Rattle.standings.specs.Rows.{Verdict, accepted, refused, settle}
 use Rattle.catalogue.specs.declared.Entry.{Entry}
 use Rattle.frames.specs.Frames.{Bytes, totalOf}
 use Rattle.soundness.specs.Sound.{State, sound}
