@@ -85,7 +85,7 @@ fn write_runs(text: &mut [u8], at: usize, counts: Counts) -> usize
 }
 
 // Writes the first two lines. Those of the sheets go behind them.
-fn write_head(n: u32, free: u32, c: usize, counts: Counts, text: &mut [u8]) -> Cursor
+pub fn write_head(n: u32, free: u32, c: usize, counts: Counts, text: &mut [u8]) -> Cursor
     ensures { λ r. ⌜ (r ≡ headCursor n free c counts (now (text .entry))) × (now (text .exit) ≡ headWritten n free c counts (now (text .entry))) ⌝ }
 {
     let second = write_card(text, 0, n, free, c);
@@ -137,7 +137,7 @@ fn write_sheet(from: Cursor, text: &mut [u8], entry: Entry) -> Cursor
 }
 
 // Writes a line for each sheet.
-fn write_sheets(catalogue: &[Entry], start: Cursor, text: &mut [u8]) -> Cursor
+pub fn write_sheets(catalogue: &[Entry], start: Cursor, text: &mut [u8]) -> Cursor
     ensures { λ r. ⌜ (r ≡ linesCursor (now (catalogue .entry)) start (now (text .entry))) × (now (text .exit) ≡ linesWritten (now (catalogue .entry)) start (now (text .entry))) ⌝ }
 {
     let mut state = start;
@@ -152,7 +152,7 @@ fn write_sheets(catalogue: &[Entry], start: Cursor, text: &mut [u8]) -> Cursor
     state
 }
 
-fn place_of(cursor: Cursor) -> usize
+pub fn place_of(cursor: Cursor) -> usize
     ensures { λ r. ⌜ r ≡ placeOf cursor ⌝ }
 {
     cursor.at

@@ -1,0 +1,46 @@
+-- What stands before the lines of the sheets, by the tests that lead there.
+-- Assumes nothing.
+use Prim.Native.Nat.{ℕ}
+use mathlib.Core.Path.{_≡_, refl, sym, ap, _∙_}
+use mathlib.Core.Bool.{true, false}
+use mathlib.Core.List.{List}
+use lib.Dec.{eqb}
+use lib.ListN.{length}
+use borrow.Author.Tests.{eq-eqb, ne-eqb}
+use Rattle.freemap.specs.Blocks.{free}
+use Rattle.survey.specs.Survey.{countsOf}
+use Rattle.survey.specs.declared.Counts.{Counts}
+use Rattle.standings.specs.Limits.{shapeFits}
+use Rattle.image.specs.declared.Loaded.{Loaded}
+use Rattle.printing.specs.Sheets.{headCursor, headWritten}
+use Rattle.printing.specs.Text.{refusalText}
+use Rattle.printing.specs.Writing.{Writes}
+use Rattle.printing.specs.declared.Cursor.{Cursor}
+use Rattle.card_print.specs.Beginnings.{refusalCursor, refusalWritten, beginCursor, beginWritten}
+
+pub refused-at : (number : ℕ) (text : List ℕ) (r : ℕ) (text′ : List ℕ) → Writes (refusalText number) text 0 r text′
+    → (_≡_ {A = Cursor} (record { at = r; sheet = 0; stop = true }) (refusalCursor number text)) × (text′ ≡ refusalWritten number text)
+unfolding refusalCursor refusalWritten
+refused-at number text r text′ w = (λ x. record { at = w .ends x; sheet = 0; stop = true }, w .leaves)
+
+module _ (loaded : Loaded) (map : List ℕ) (count : ℕ) (text : List ℕ) (r : Cursor) (text′ : List ℕ) where
+  abbrev Begins : Type 0
+  Begins = (r ≡ beginCursor loaded map count text) × (text′ ≡ beginWritten loaded map count text)
+
+  pub refusal-begins : (loaded .number ≡ 0 → ⊥) → r ≡ refusalCursor (loaded .number) text → text′ ≡ refusalWritten (loaded .number) text → Begins
+  unfolding beginCursor beginWritten
+  refusal-begins e p q = (simp (ne-eqb (loaded .number) 0 e) p, simp (ne-eqb (loaded .number) 0 e) q)
+
+  pub misfit-begins : loaded .number ≡ 0 → shapeFits (loaded .blocks) (loaded .free) (length map) ≡ false
+      → r ≡ refusalCursor 1 text → text′ ≡ refusalWritten 1 text → Begins
+  unfolding beginCursor beginWritten
+  misfit-begins e f p q = (simp (eq-eqb (loaded .number) 0 e, f) p, simp (eq-eqb (loaded .number) 0 e, f) q)
+
+  pub card-begins : (counts : Counts) → loaded .number ≡ 0 → shapeFits (loaded .blocks) (loaded .free) (length map) ≡ true
+      → counts ≡ countsOf (free map) (loaded .blocks) → r ≡ headCursor (loaded .blocks) (loaded .free) count counts text
+      → text′ ≡ headWritten (loaded .blocks) (loaded .free) count counts text → Begins
+  unfolding beginCursor beginWritten
+  card-begins counts e f c p q = (
+    simp (eq-eqb (loaded .number) 0 e, f) (p ∙ ap (λ (x : Counts). headCursor (loaded .blocks) (loaded .free) count x text) c),
+    simp (eq-eqb (loaded .number) 0 e, f) (q ∙ ap (λ (x : Counts). headWritten (loaded .blocks) (loaded .free) count x text) c),
+  )

@@ -1,0 +1,38 @@
+-- What stands in the text before the lines of the sheets: the first two lines of a card, or a refusal, behind which no sheet
+-- comes.
+-- Assumes nothing.
+use Prim.Native.Nat.{ℕ}
+use mathlib.Core.Bool.{true, cond}
+use mathlib.Core.List.{List}
+use lib.Dec.{eqb}
+use lib.ListN.{length}
+use Rattle.freemap.specs.Blocks.{free}
+use Rattle.survey.specs.Survey.{countsOf}
+use Rattle.standings.specs.Limits.{shapeFits}
+use Rattle.image.specs.declared.Loaded.{Loaded}
+use Rattle.printing.specs.Sheets.{cursor, headCursor, headWritten}
+use Rattle.printing.specs.Text.{refusalText}
+use Rattle.printing.specs.Writing.{behind, written}
+use Rattle.printing.specs.declared.Cursor.{Cursor}
+
+unfoldable pub refusalCursor : ℕ → List ℕ → Cursor
+refusalCursor number text = cursor (behind text 0 (refusalText number)) 0 true
+
+unfoldable pub refusalWritten : ℕ → List ℕ → List ℕ
+refusalWritten number text = written text 0 (refusalText number)
+
+-- By what a load gave, the map that it left and the number of sheets. The map of an accepted load fits its n.
+module _ (loaded : Loaded) (map : List ℕ) (count : ℕ) (text : List ℕ) where
+  unfoldable pub beginCursor : Cursor
+  beginCursor =
+      cond (eqb (loaded .number) 0)
+      (cond (shapeFits (loaded .blocks) (loaded .free) (length map))
+      (headCursor (loaded .blocks) (loaded .free) count (countsOf (free map) (loaded .blocks)) text) (refusalCursor 1 text))
+      (refusalCursor (loaded .number) text)
+
+  unfoldable pub beginWritten : List ℕ
+  beginWritten =
+      cond (eqb (loaded .number) 0)
+      (cond (shapeFits (loaded .blocks) (loaded .free) (length map))
+      (headWritten (loaded .blocks) (loaded .free) count (countsOf (free map) (loaded .blocks)) text) (refusalWritten 1 text))
+      (refusalWritten (loaded .number) text)

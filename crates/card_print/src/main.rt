@@ -1,0 +1,63 @@
+// The card printer: reads an image from standard input and prints the card that it is of, or `refused` and a number (document
+// 01, "Saved image").
+ghost use mathlib.Core.Path.{_≡_};
+ghost use Prim.Native.Nat.{_≤_};
+ghost use lib.ListN;
+
+mod print;
+
+use catalogue::Entry;
+use libc::STDIN_FILENO;
+use libc::STDOUT_FILENO;
+
+// 91 blocks, and one byte more, by which a longer input is seen.
+fn image_space() -> [u8; 46593]
+    ensures { λ r. ⌜ 46593 ≡ ListN.length r ⌝ }
+{
+    [0; 46593]
+}
+
+// The words of the largest map.
+fn map_space() -> [u64; 4096]
+    ensures { λ r. ⌜ 4096 ≡ ListN.length r ⌝ }
+{
+    [0; 4096]
+}
+
+// Room for the text of the card with the most sheets.
+fn text_space() -> [u8; 32768]
+    ensures { λ r. ⌜ 32768 ≡ ListN.length r ⌝ }
+{
+    [0; 32768]
+}
+
+fn smaller(a: usize, b: usize) -> usize
+    ensures { λ r. ⌜ (r ≤ a) × (r ≤ b) ⌝ }
+{
+    if a < b { a } else { b }
+}
+
+// Prints an image, with as many words and entries as it asks for and there are at most.
+fn print_card(image: &[u8], map: &mut [u64], scratch: &mut [u64], text: &mut [u8]) {
+    let entries = [Entry {
+        mark: 0,
+        start: 0,
+        length: 0,
+    }; 1024];
+    let words = (frames::number(image, 0) as usize + 63) / 64;
+    let w = smaller(words, smaller(map.len(), scratch.len()));
+    let c = smaller(frames::number(image, 2) as usize, 1024);
+    let used = print::print_with(image, &mut map[..w], entries, c, &mut scratch[..w], text);
+    let end = smaller(used, text.len());
+    io::write_all(STDOUT_FILENO, &text[..end]);
+}
+
+fn main() {
+    let mut image = image_space();
+    let read = io::read_full(STDIN_FILENO, &mut image);
+    let mut map = map_space();
+    let mut scratch = map_space();
+    let mut text = text_space();
+    let end = smaller(read, image.len());
+    print_card(&image[..end], &mut map, &mut scratch, &mut text);
+}

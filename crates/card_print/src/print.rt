@@ -1,0 +1,78 @@
+// The card printer's work: an image in, the text of its card or of a refusal out.
+ghost use mathlib.Core.Path.{_≡_};
+ghost use Prim.Native.Nat.{_≤_};
+ghost use Rattle.card_print.specs.Beginnings.{refusalCursor, refusalWritten, beginCursor, beginWritten};
+ghost use Rattle.card_print.specs.Printed.{Prints};
+use catalogue::Entry;
+use image::Loaded;
+use printing::Cursor;
+use printing::describe_refusal;
+use printing::place_of;
+use printing::write_head;
+use printing::write_sheets;
+use standings::opening::shape_fits;
+
+// Writes the text of a refusal. No line of a sheet goes behind it.
+fn refuse(number: u32, text: &mut [u8]) -> Cursor
+    ensures { λ r. ⌜ (r ≡ refusalCursor number (now (text .entry))) × (now (text .exit) ≡ refusalWritten number (now (text .entry))) ⌝ }
+{
+    let end = describe_refusal(number, text);
+    Cursor {
+        at: end,
+        sheet: 0,
+        stop: true,
+    }
+}
+
+// Writes a refusal, or the first two lines of a card.
+fn begin(loaded: Loaded, map: &[u64], count: usize, text: &mut [u8]) -> Cursor
+    ensures { λ r. ⌜ (r ≡ beginCursor loaded (now (map .entry)) count (now (text .entry))) × (now (text .exit) ≡ beginWritten loaded (now (map .entry)) count (now (text .entry))) ⌝ }
+{
+    if loaded.number != 0 {
+        return refuse(loaded.number, text);
+    }
+    if !shape_fits(loaded.blocks, loaded.free, map.len()) {
+        return refuse(1, text);
+    }
+    let counts = survey::survey(map, loaded.blocks);
+    write_head(loaded.blocks, loaded.free, count, counts, text)
+}
+
+// Writes what is to be printed of an image to the text, and gives the number of its bytes. The map and the scratch have a bit
+// for each block of the card, and the catalogue an entry for each sheet; load refuses them if not.
+pub fn print_image(
+    image: &[u8],
+    map: &mut [u64],
+    catalogue: &mut [Entry],
+    scratch: &mut [u64],
+    text: &mut [u8],
+) -> usize
+    ensures { λ r. ⌜ Prints (now (image .entry)) (now (map .entry)) (now (catalogue .entry)) (now (scratch .entry)) (now (text .entry)) r
+        (now (map .exit)) (now (catalogue .exit)) (now (scratch .exit)) (now (text .exit)) ⌝ }
+{
+    let count = catalogue::count(&*catalogue);
+    let loaded = loading::load(image, map, catalogue, scratch);
+    let first = begin(loaded, &*map, count, text);
+    let last = write_sheets(&*catalogue, first, text);
+    place_of(last)
+}
+
+fn used_of(used: usize, entries: [Entry; 1024]) -> usize {
+    used
+}
+
+// The same with the first c of some entries by value.
+pub fn print_with(
+    image: &[u8],
+    map: &mut [u64],
+    entries: [Entry; 1024],
+    c: usize,
+    scratch: &mut [u64],
+    text: &mut [u8],
+) -> usize
+    requires { ⌜ c ≤ 1024 ⌝ }
+{
+    let mut all = entries;
+    let used = print_image(image, map, &mut all[..c], scratch, text);
+    used_of(used, all)
+}
