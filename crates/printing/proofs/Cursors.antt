@@ -1,21 +1,17 @@
 -- The lines of sheets, written one after the other: a cursor that stopped stays, and so does the text.
 -- Assumes nothing.
-use mathlib.Core.Path.{_≡_, refl, sym, ap, ap₂, _∙_, subst}
+use mathlib.Core.Path.{_≡_, refl, sym, ap, ap₂, _∙_}
 use mathlib.Core.Bool.{Bool, true, false, not, _&&_, cond}
-use mathlib.Core.List.{List, [], _∷_, _++_}
-use Prim.Native.Nat.{ℕ, suc, _+_, _≤_, _<_, min, max}
-use native.Mathlib.Omega.{arith}
+use mathlib.Core.List.{List, [], _∷_}
+use Prim.Native.Nat.{ℕ, _+_, _≤_, _<_}
 use lib.Dec.{ltb}
-use lib.ListN.{length, length-append}
-use borrow.Author.Tests.{lt-ltb, le-ltb, ltb-true, ltb-false}
+use lib.ListN.{length}
+use borrow.Author.Tests.{lt-ltb, le-ltb}
 use Rattle.catalogue.specs.declared.Entry.{Entry}
-use Rattle.survey.specs.declared.Counts.{Counts}
-use Rattle.printing.specs.Decimal.{decimal}
-use Rattle.printing.specs.Text.{space, newline, numeral, cardLine, runsLine, sheetLine, sheetLines, cardText}
-use Rattle.printing.specs.Sheets.{cursor, headCursor, headWritten, room, lineCursor, lineWritten, linesCursor, linesWritten, placeOf, Describes}
+use Rattle.printing.specs.Text.{sheetLine}
+use Rattle.printing.specs.Sheets.{cursor, room, lineCursor, lineWritten, linesCursor, linesWritten}
 use Rattle.printing.specs.Writing.{behind, written, Writes}
 use Rattle.printing.specs.declared.Cursor.{Cursor}
-use Rattle.printing.proofs.Written.{then, writes-past, writes-none}
 
 -- whether there is room
 pub stopped : (at : Cursor) (text : List ℕ) → at .stop ≡ true → room at text ≡ false

@@ -2,21 +2,21 @@
 -- Assumes nothing.
 use mathlib.Core.Path.{_≡_, refl, sym, ap, ap₂, _∙_, subst}
 use mathlib.Core.Logic.{_⊎_, inl, inr}
-use mathlib.Core.Bool.{Bool, true, false}
+use mathlib.Core.Bool.{true, false}
 use mathlib.Core.List.{List, [], _∷_, _++_}
-use Prim.Native.Nat.{ℕ, suc, _+_, _%_, _≤_, _<_, min, max}
+use Prim.Native.Nat.{ℕ, suc, _+_, _%_, _≤_, _<_}
 use native.Mathlib.Omega.{arith}
 use lib.ListN.{length, length-append}
 use Rattle.freemap.proofs.Bools.{order}
 use Rattle.catalogue.specs.declared.Entry.{Entry}
 use Rattle.survey.specs.declared.Counts.{Counts}
 use Rattle.printing.specs.Decimal.{decimal}
-use Rattle.printing.specs.Text.{space, newline, numeral, cardLine, runsLine, sheetLine, sheetLines, cardText}
-use Rattle.printing.specs.Sheets.{cursor, headCursor, headWritten, lineCursor, lineWritten, linesCursor, linesWritten, placeOf, Describes}
+use Rattle.printing.specs.Text.{space, newline, numeral, sheetLine, sheetLines, cardText}
+use Rattle.printing.specs.Sheets.{cursor, headCursor, headWritten, linesCursor, linesWritten, placeOf, Describes}
 use Rattle.printing.specs.Writing.{behind, written, Writes}
 use Rattle.printing.specs.declared.Cursor.{Cursor}
 use Rattle.printing.proofs.Cursors.{full, going, line-some, line-none, cursor-stays, text-stays}
-use Rattle.printing.proofs.Written.{then, writes-past, writes-none, written-length}
+use Rattle.printing.proofs.Written.{then, writes-past, writes-none}
 
 -- a line has a byte
 line-long : (sheet : ℕ) (e : Entry) → 0 < length (sheetLine sheet e)

@@ -1,11 +1,11 @@
 -- The text of a card finds room in 32,768 bytes, and that of a refusal in 19. Where a text finds room, it is written whole.
 -- Assumes nothing.
-use mathlib.Core.Path.{_≡_, refl, sym, ap, _∙_}
+use mathlib.Core.Path.{_≡_, ap, _∙_}
 use mathlib.Core.List.{List, [], _∷_, _++_}
-use Prim.Native.Nat.{ℕ, zero, suc, _+_, _*_, _%_, _≤_, _<_, min, max}
+use Prim.Native.Nat.{ℕ, suc, _+_, _*_, _%_, _≤_, _<_}
 use native.Mathlib.Omega.{arith}
 use lib.ListN.{length, take, drop, length-append}
-use lib.Seq.{sets, sets-eq, take-append-seam}
+use lib.Seq.{sets-eq, take-append-seam}
 use Rattle.catalogue.specs.declared.Entry.{Entry}
 use Rattle.survey.specs.declared.Counts.{Counts}
 use Rattle.printing.specs.Decimal.{decimal}

@@ -3,11 +3,11 @@
 use mathlib.Core.Path.{_≡_, refl, sym, ap, ap₂, _∙_, subst}
 use mathlib.Core.Logic.{_⊎_, inl, inr}
 use mathlib.Core.List.{List, [], _∷_, _++_}
-use Prim.Native.Nat.{ℕ, zero, suc, _+_, _≤_, _<_, min, max}
+use Prim.Native.Nat.{ℕ, suc, _+_, _≤_, _<_, min, max}
 use Rattle.freemap.proofs.Bools.{order}
 use native.Mathlib.Omega.{arith}
-use lib.ListN.{length, getD, take, drop, set, length-append, length-set}
-use lib.Seq.{sets, length-sets, sets-eq, set-out, take-at, take-suc, take-all}
+use lib.ListN.{length, getD, take, set, length-append}
+use lib.Seq.{sets, length-sets, set-out, take-suc, take-all}
 use Rattle.printing.specs.Writing.{behind, written, Writes}
 
 sets-past : (bytes text : List ℕ) (at : ℕ) → length text ≤ at → sets text at bytes ≡ text

@@ -2,8 +2,7 @@
 -- refusal: one theorem, `printed`.
 -- Assumes nothing.
 use mathlib.Core.Path.{_≡_, refl}
-use mathlib.Core.List.{List, [], _∷_}
-use Prim.Native.Nat.{ℕ}
+use mathlib.Core.List.{[], _∷_}
 use Rattle.freemap.specs.Blocks.{free}
 use Rattle.freemap.specs.Maps.{freshMap}
 use Rattle.survey.specs.Survey.{countsOf}

@@ -1,8 +1,7 @@
 // The text that the card printer prints (document 01, "Saved image"): of a card, and of a refusal. It is written to a lent
 // text; what finds no room there is left out, so that no length has to be asked for.
 ghost use mathlib.Core.Path.{_≡_};
-ghost use mathlib.Core.List.{List, [], _∷_};
-ghost use Prim.Native.Nat.{_<_};
+ghost use mathlib.Core.List.{[], _∷_};
 ghost use Rattle.printing.specs.Decimal.{decimal};
 ghost use Rattle.printing.specs.Text.{numeral, cardLine, runsLine, sheetLine, cardText, refusalText};
 ghost use Rattle.printing.specs.Sheets.{headCursor, headWritten, lineCursor, lineWritten, linesCursor, linesWritten, placeOf};

@@ -1,10 +1,8 @@
 -- `write_number` meets its contract. The measure is the number.
 -- Assumes nothing.
-use mathlib.Core.Path.{_≡_, refl, sym, subst}
-use mathlib.Core.List.{List, [], _∷_, _++_}
-use native.Mathlib.Omega.{arith}
+use mathlib.Core.Path.{sym, subst}
+use mathlib.Core.List.{List, [], _∷_}
 use borrow.Author.Needs.{needs}
-use denote.Ref.{now}
 use Rattle.printing.specs.Decimal.{decimal}
 use Rattle.printing.specs.Writing.{Writes}
 use Rattle.printing.proofs.Decimals.{decimal-less, decimal-more}

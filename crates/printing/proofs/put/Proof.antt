@@ -1,7 +1,6 @@
 -- `put` meets its contract.
 -- Assumes nothing.
 use mathlib.Core.List.{[], _∷_}
-use native.Mathlib.Omega.{arith}
 use borrow.Author.Needs.{needs}
 use denote.Ref.{now}
 use Rattle.printing.proofs.Written.{writes-byte, writes-past}

@@ -1,6 +1,5 @@
 -- `write_sheet` meets its contract.
 -- Assumes nothing.
-use native.Mathlib.Omega.{arith}
 use borrow.Author.Needs.{needs}
 use denote.Ref.{now}
 use Rattle.printing.proofs.Cursors.{stopped, full, going, line-none, line-some}
