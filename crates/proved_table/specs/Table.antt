@@ -2,23 +2,27 @@
 -- Assumes nothing.
 use mathlib.Core.Path.{_≡_, refl}
 use mathlib.Core.Bool.{Bool, true, false, _||_}
-use mathlib.Core.List.{List, _∷_, _++_}
+use mathlib.Core.List.{[], _∷_}
 use Prim.Native.Nat.{ℕ}
-use lib.ListN.{replicate}
+use lib.ListN.{length, replicate}
 use Rattle.freemap.specs.Blocks.{free, leastFit}
-use Rattle.freemap.specs.Maps.{mapOf, inRun}
+use Rattle.freemap.specs.Maps.{mapOf, freshMap, inRun}
 use Rattle.freemap.specs.declared.Found.{Found}
 use Rattle.freemap.specs.declared.Found.the-variants.{At, Nothing}
-use Rattle.block.specs.Sealed.{bytes4, front, sums}
+use Rattle.block.specs.Sealed.{bytes4, numberAt, front, sums, sealed}
+use Rattle.catalogue.specs.Entries.{absent}
+use Rattle.frames.specs.Frames.{frames}
+use Rattle.frames.specs.Numbers.{bytes8, wordBytes}
+use Rattle.soundness.specs.Sound.{State}
+use Rattle.image.specs.Image.{entryBytes, body, imageOf}
 
 -- The answer of a search for k in a card of n blocks, with a map of w words and block b free where f b.
 abbrev pub answer : ℕ → ℕ → (ℕ → Bool) → ℕ → Found
 answer n w f k = leastFit (free (mapOf f w)) 0 n k
 
--- The body of the fresh image of n = 64, c = 1: n, free count, c, the entry of an Absent sheet, a word of ones, zeros.
-abbrev pub freshBody : List ℕ
-freshBody =
-    bytes4 64 ++ bytes4 64 ++ bytes4 1 ++ bytes4 0x41 ++ bytes4 0 ++ bytes4 0 ++ replicate 8 255 ++ replicate 464 0
+-- The fresh state of n = 64, c = 1: all blocks free, the sheet Absent.
+abbrev pub freshState : State
+freshState = record { blocks = 64; spare = 64; entries = absent ∷ []; map = freshMap 64 1 }
 
 -- Columns of the rows: n and its number of words, the free blocks, k, the result.
 pub record Table : Type 0 where
@@ -35,11 +39,13 @@ pub record Table : Type 0 where
   -- sheet 0, place 0, zero payload: A 1, B 504; sheet 1 likewise: A 2, B 1,005
   pub sheet-0 : sums 1 0 (front 0 0 (replicate 496 0)) ≡ (1, 504)
   pub sheet-1 : sums 1 0 (front 1 0 (replicate 496 0)) ≡ (2, 1005)
-  -- the only block of the fresh image, number 0 of 1: A 2,236, B 3,003
-  pub fresh-image : sums 1 0 (front 0 1 freshBody) ≡ (2236, 3003)
+  -- the fresh image, of one block: A 2,236, B 3,003
+  pub fresh-length : length (imageOf freshState) ≡ 512
+  pub fresh-A : numberAt (imageOf freshState) 504 ≡ 2236
+  pub fresh-B : numberAt (imageOf freshState) 508 ≡ 3003
 
 pub table : Table
-unfolding leastFit mapOf free sums bytes4
+unfolding leastFit mapOf freshMap free sums bytes4 numberAt sealed frames body entryBytes wordBytes bytes8 imageOf
 table = record {
   row-1 = refl;
   row-2 = refl;
@@ -53,5 +59,7 @@ table = record {
   row-10 = refl;
   sheet-0 = refl;
   sheet-1 = refl;
-  fresh-image = refl;
+  fresh-length = refl;
+  fresh-A = refl;
+  fresh-B = refl;
 }
