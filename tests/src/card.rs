@@ -44,7 +44,7 @@ fn complete(start: usize, length: usize) -> Entry {
 }
 
 /// What an entry says. Open and Complete have a start and a length.
-enum Standing {
+pub(crate) enum Standing {
     Absent,
     Paused,
     Open(usize, usize),
@@ -67,7 +67,7 @@ const BLOCK: usize = 512;
 const PAYLOAD: usize = 496;
 
 /// The sums A and B of bytes.
-fn sums(bytes: &[u8]) -> (u32, u32) {
+pub(crate) fn sums(bytes: &[u8]) -> (u32, u32) {
     bytes.iter().fold((1, 0), |(a, b), &byte| {
         let a = (a + byte as u32) % 65521;
         (a, (b + a) % 65521)
@@ -105,7 +105,7 @@ impl Card {
     // The rows that the calls share.
 
     /// Row 1 for n, the free count and the map.
-    fn misfit(&self) -> bool {
+    pub(crate) fn misfit(&self) -> bool {
         !(1..=262144).contains(&self.n)
             || self.free > self.n
             || self.map.len() != 64 * words_of(self.n)
@@ -129,7 +129,7 @@ impl Card {
     }
 
     /// What an entry says, and nothing if it is damaged.
-    fn standing_of(&self, e: Entry) -> Option<Standing> {
+    pub(crate) fn standing_of(&self, e: Entry) -> Option<Standing> {
         let (start, length) = (e.start as usize, e.length as usize);
         let none = start == 0 && length == 0;
         let extent = length >= 1

@@ -3,11 +3,7 @@
 //!     cargo run --release --offline --manifest-path tests/Cargo.toml -- map
 //!     cargo run --release --offline --manifest-path tests/Cargo.toml -- calls
 
-mod blocks;
-mod calls;
-mod card;
-mod map;
-mod random;
+use bitwise::{calls, map};
 
 fn main() {
     let set = std::env::args().nth(1);

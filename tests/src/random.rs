@@ -6,6 +6,14 @@ use crate::blocks::{from_words, mark, FREE};
 pub struct Random(pub u64);
 
 impl Random {
+    /// The numbers of a seed: neighbouring seeds have numbers that are nothing like each other.
+    pub fn of(seed: u64) -> Random {
+        let mut x = seed.wrapping_add(0x9e3779b97f4a7c15);
+        x = (x ^ x >> 30).wrapping_mul(0xbf58476d1ce4e5b9);
+        x = (x ^ x >> 27).wrapping_mul(0x94d049bb133111eb);
+        Random((x ^ x >> 31).max(1))
+    }
+
     /// The number at hand; the one after it is then at hand.
     pub fn draw(&mut self) -> u64 {
         let x = self.0;
@@ -16,6 +24,16 @@ impl Random {
     /// A number from low to high - 1.
     pub fn within(&mut self, low: usize, high: usize) -> usize {
         low + self.draw() as usize % (high - low)
+    }
+
+    /// True in `cases` of `of` cases.
+    pub fn chance(&mut self, cases: usize, of: usize) -> bool {
+        self.within(0, of) < cases
+    }
+
+    /// One of the items.
+    pub fn one<T: Copy>(&mut self, items: &[T]) -> T {
+        items[self.within(0, items.len())]
     }
 }
 

@@ -1,0 +1,311 @@
+//! The library beside the card and the ledger: every call is made of all three, and answers and buffers are compared.
+
+use crate::call::Call;
+use crate::library::{bytes, entries, words, Entry, Lent, Library, Outcome, Shape};
+use bitwise::blocks::to_words;
+use bitwise::card::{Answer, Card};
+use bitwise::ledger::Ledger;
+
+/// How much of the card's bytes is compared after a call.
+#[derive(Clone, Copy, PartialEq)]
+pub enum Compared {
+    All,
+    /// The blocks of the sheet that was called for and one to each side, and another part of the card after every call:
+    /// all of it in the course of 256 calls.
+    Part,
+}
+
+pub struct Beside {
+    pub card: Card,
+    ledger: Option<Ledger>,
+    library: Library,
+    margin: usize,
+    compared: Compared,
+    calls: usize,
+}
+
+fn shape_of(card: &Card) -> Shape {
+    Shape {
+        blocks: card.n as u32,
+        free: card.free as u32,
+    }
+}
+
+pub fn library_of(card: &Card, margin: usize) -> Library {
+    Library {
+        shape: shape_of(card),
+        map: words(&to_words(&card.map), margin),
+        catalogue: entries(&card.sheets, margin),
+        card: bytes(&card.bytes, margin),
+    }
+}
+
+/// Says where two slices first differ.
+fn same<T: PartialEq + std::fmt::Debug>(
+    what: &str,
+    library: &[T],
+    model: &[T],
+) -> Result<(), String> {
+    if library == model {
+        return Ok(());
+    }
+    let pairs = library.iter().zip(model);
+    let at = pairs.take_while(|(ours, theirs)| ours == theirs).count();
+    Err(format!(
+        "{what} differs at {at}: {:?}, and by document 01 {:?}",
+        library.get(at),
+        model.get(at)
+    ))
+}
+
+fn margins<T: Copy + PartialEq>(what: &str, lent: &Lent<T>) -> Result<(), String> {
+    if lent.margins_whole() {
+        return Ok(());
+    }
+    Err(format!("something beside the lent {what} was changed"))
+}
+
+/// A slice is as the model has it, and nothing beside it was changed.
+pub fn same_slice<T: Copy + PartialEq + std::fmt::Debug>(
+    what: &str,
+    lent: &Lent<T>,
+    model: &[T],
+) -> Result<(), String> {
+    same(what, lent.now(), model)?;
+    margins(what, lent)
+}
+
+/// The outcome is the answer and the shape of the model.
+pub fn same_outcome(outcome: Outcome, card: &Card, answer: Answer) -> Result<(), String> {
+    let expected = Outcome::of(shape_of(card), answer);
+    if outcome == expected {
+        return Ok(());
+    }
+    Err(format!(
+        "it gave {outcome:?}, and by document 01 {expected:?}"
+    ))
+}
+
+/// Map and catalogue are as the model has them.
+pub fn same_tables(library: &Library, card: &Card) -> Result<(), String> {
+    same_slice("map", &library.map, &to_words(&card.map))?;
+    let sheets: Vec<Entry> = card.sheets.iter().map(|&entry| entry.into()).collect();
+    same_slice("catalogue", &library.catalogue, &sheets)
+}
+
+impl Beside {
+    /// The library is lent copies of what the card has.
+    pub fn new(card: Card, margin: usize, compared: Compared) -> Beside {
+        Beside {
+            library: library_of(&card, margin),
+            card,
+            ledger: None,
+            margin,
+            compared,
+            calls: 0,
+        }
+    }
+
+    /// A list of calls starts: an accepted fresh was the last call.
+    pub fn start_ledger(&mut self) {
+        self.ledger = Some(Ledger::fresh(self.card.n, self.card.sheets.len()));
+    }
+
+    /// Makes a call and compares. The answer is what the library gave.
+    pub fn call(&mut self, call: Call) -> Result<Answer, String> {
+        let before = call.slice();
+        let mut after = before.clone();
+        let mut lent = bytes(&before, self.margin);
+        let outcome = self.on_library(call, &mut lent);
+        let answer = call.on_card(&mut self.card, &mut after);
+        let answer = self.with_place(call, answer, outcome)?;
+        same_outcome(outcome, &self.card, answer)?;
+        self.library.shape = outcome.shape;
+        same_slice("payload or buffer", &lent, &after)?;
+        same_tables(&self.library, &self.card)?;
+        self.same_bytes(call)?;
+        self.by_ledger(call, answer, before, &after)?;
+        self.calls += 1;
+        Ok(answer)
+    }
+
+    fn on_library(&mut self, call: Call, slice: &mut Lent<u8>) -> Outcome {
+        let library = &mut self.library;
+        match call {
+            Call::Fresh(n) => library.fresh(n),
+            Call::Search(k) => library.search(k),
+            Call::Survey => library.survey(),
+            Call::Reserve(sheet, k) => library.reserve(sheet, k),
+            Call::Put(sheet, place, _) => library.put(sheet, place, slice),
+            Call::Grow(sheet, m) => library.grow(sheet, m),
+            Call::Complete(sheet) => library.complete(sheet),
+            Call::Pause(sheet) => library.pause(sheet),
+            Call::Release(sheet) => library.release(sheet),
+            Call::Show(sheet, place, _) => library.show(sheet, place, slice),
+            Call::Standing(sheet) => library.standing(sheet),
+        }
+    }
+
+    /// With 9 the place may be any that is blank. If the library gave such a one, this is the answer.
+    fn with_place(&self, call: Call, answer: Answer, outcome: Outcome) -> Result<Answer, String> {
+        let (Answer::Blank(_), 9, Some(sheet)) = (answer, outcome.number, call.sheet()) else {
+            return Ok(answer);
+        };
+        let place = outcome.first as usize;
+        let entry = self.card.sheets[sheet as usize];
+        let at = 512 * (entry.start as usize + place);
+        if place < entry.length as usize && self.card.bytes[at..at + 512] == [0; 512] {
+            return Ok(Answer::Blank(place));
+        }
+        Err(format!(
+            "place {place} is given with 9, and it is not blank"
+        ))
+    }
+
+    fn same_bytes(&self, call: Call) -> Result<(), String> {
+        if self.compared == Compared::All {
+            return same_slice("card", &self.library.card, &self.card.bytes);
+        }
+        margins("card", &self.library.card)?;
+        let n = self.card.n;
+        let part = n.div_ceil(256);
+        let start = self.calls % 256 * part;
+        self.same_blocks(start.min(n), (start + part).min(n))?;
+        let sheet = call.sheet().unwrap_or(0) as usize;
+        let Some(entry) = self.card.sheets.get(sheet) else {
+            return Ok(());
+        };
+        let (start, end) = (entry.start as usize, (entry.start + entry.length) as usize);
+        self.same_blocks(start.saturating_sub(1), (end + 1).min(n))
+    }
+
+    /// The bytes of the blocks from start to end - 1.
+    fn same_blocks(&self, start: usize, end: usize) -> Result<(), String> {
+        let part = 512 * start..512 * end;
+        let what = format!("card from block {start} on");
+        same(
+            &what,
+            &self.library.card.now()[part.clone()],
+            &self.card.bytes[part],
+        )
+    }
+
+    // The ledger.
+
+    /// The ledger's answer is the same; so are what it says of the buffer, the map, the catalogue, the shape, the sum, and
+    /// the blocks of the sheet. `slice` is the payload or the buffer as it was before the call.
+    fn by_ledger(
+        &mut self,
+        call: Call,
+        answer: Answer,
+        mut slice: Vec<u8>,
+        after: &[u8],
+    ) -> Result<(), String> {
+        let Some(ledger) = &mut self.ledger else {
+            return Ok(());
+        };
+        let Some(by_ledger) = call.on_ledger(ledger, &mut slice) else {
+            return Ok(());
+        };
+        same("payload or buffer, by the ledger,", after, &slice)?;
+        let agrees = match (answer, by_ledger, call.sheet()) {
+            (Answer::Blank(place), Answer::Blank(_), Some(sheet)) => {
+                ledger.is_blank(sheet, place as u32)
+            }
+            _ => answer == by_ledger,
+        };
+        if !agrees {
+            return Err(format!(
+                "it answered {answer:?}, and by the ledger {by_ledger:?}"
+            ));
+        }
+        self.as_in_ledger()?;
+        match call.sheet() {
+            Some(sheet) if (sheet as usize) < self.card.sheets.len() => {
+                self.places_as_in_ledger(sheet as usize, self.compared)
+            }
+            _ => Ok(()),
+        }
+    }
+
+    /// The map, the catalogue and the shape are the ledger's, and free + granted = blocks + returned.
+    fn as_in_ledger(&self) -> Result<(), String> {
+        let Some(ledger) = &self.ledger else {
+            return Ok(());
+        };
+        let map = ledger.map();
+        same(
+            "map, by the ledger,",
+            self.library.map.now(),
+            &to_words(&map),
+        )?;
+        let catalogue = self.library.catalogue.now();
+        let sheets: Vec<Entry> = (0..catalogue.len())
+            .map(|sheet| ledger.entry(sheet).into())
+            .collect();
+        same("catalogue, by the ledger,", catalogue, &sheets)?;
+        let free = map.iter().filter(|&&free| free).count();
+        let shape = self.library.shape;
+        if (shape.blocks as usize, shape.free as usize) != (self.card.n, free) {
+            return Err(format!(
+                "the shape is {shape:?}, and the ledger has {free} free blocks"
+            ));
+        }
+        if free + ledger.granted != self.card.n + ledger.returned {
+            return Err("free + granted is not blocks + returned".to_string());
+        }
+        Ok(())
+    }
+
+    /// The blocks of a sheet are what the ledger has in its places; where only a part is compared, of 8 places spread over
+    /// the sheet.
+    fn places_as_in_ledger(&self, sheet: usize, compared: Compared) -> Result<(), String> {
+        let Some(ledger) = &self.ledger else {
+            return Ok(());
+        };
+        let entry = ledger.entry(sheet);
+        let (start, length) = (entry.start as usize, entry.length as usize);
+        let step = if compared == Compared::All {
+            1
+        } else {
+            length.div_ceil(8)
+        };
+        for place in (0..length).step_by(step.max(1)) {
+            let at = 512 * (start + place);
+            let block = &self.library.card.now()[at..at + 512];
+            let what = format!("block of sheet {sheet}, place {place}, by the ledger,");
+            same(&what, block, &ledger.block(sheet, place))?;
+        }
+        Ok(())
+    }
+
+    /// At the end of a list: every byte of the card, every place of every sheet by the ledger, and each place of each
+    /// complete sheet shown.
+    pub fn finish(&mut self) -> Result<(), String> {
+        same_slice("card", &self.library.card, &self.card.bytes)?;
+        self.as_in_ledger()?;
+        for sheet in 0..self.card.sheets.len() {
+            self.places_as_in_ledger(sheet, Compared::All)?;
+            self.show_all(sheet)?;
+        }
+        Ok(())
+    }
+
+    fn show_all(&mut self, sheet: usize) -> Result<(), String> {
+        let Some(ledger) = &self.ledger else {
+            return Ok(());
+        };
+        let entry = ledger.entry(sheet);
+        if entry.mark != 0x43 {
+            return Ok(());
+        }
+        for place in 0..entry.length {
+            let mut buffer = bytes(&[0x3c; 496], self.margin);
+            let outcome = self.library.show(sheet as u32, place, &mut buffer);
+            same_outcome(outcome, &self.card, Answer::Done)?;
+            let block = ledger.block(sheet, place as usize);
+            same_slice("shown payload", &buffer, &block[8..504])?;
+        }
+        Ok(())
+    }
+}

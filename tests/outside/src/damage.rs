@@ -1,0 +1,475 @@
+//! States that no list of calls leads to: damaged by another hand, of every wrong length, and all states of very small
+//! cards. Document 01's table says what each call answers there, too.
+
+use crate::beside::{Beside, Compared};
+use crate::call::{Bytes, Call};
+use crate::counts::Counts;
+use crate::generate::Generator;
+use crate::lists::{small_size, used_card};
+use bitwise::blocks::words_of;
+use bitwise::card::{entry, sealed, Card};
+use bitwise::random::Random;
+
+const MARKS: [u32; 4] = [0x41, 0x50, 0x4f, 0x43];
+const OTHER_MARKS: [u32; 6] = [0, 1, 0x42, 0x6f, 0x4f4f, 0x4300_0000];
+
+/// Random damage, and some calls on what is left.
+pub fn damaged(seed: u64, margin: usize, counts: &mut Counts) -> Result<(), String> {
+    let mut random = Random::of(seed);
+    let (n, c) = small_size(&mut random);
+    let generator = &mut Generator::new(random);
+    let card = &mut state(n, c, generator);
+    let log = &mut format!("a card of {n} blocks and {c} sheets after some calls\n");
+    let result = (0..4).try_for_each(|_| {
+        if generator.random.chance(2, 3) {
+            *log += &format!("    {}\n", fit(card, (n, c)));
+        }
+        for _ in 0..generator.random.within(1, 4) {
+            *log += &format!("    {}\n", damage(card, generator));
+        }
+        calls_on(card, margin, generator, log, counts)
+    });
+    result.map_err(|error| format!("{log}the last of these: {error}"))
+}
+
+/// What a list of calls on the model alone leaves.
+pub fn state(n: usize, c: usize, generator: &mut Generator) -> Card {
+    let mut card = used_card(n, c, &mut generator.random);
+    Call::Fresh(n as u32).on_card(&mut card, &mut []);
+    for _ in 0..generator.random.within(5, 80) {
+        let call = generator.call(&card);
+        call.on_card(&mut card, &mut call.slice());
+    }
+    card
+}
+
+fn calls_on(
+    card: &mut Card,
+    margin: usize,
+    generator: &mut Generator,
+    log: &mut String,
+    counts: &mut Counts,
+) -> Result<(), String> {
+    let mut beside = Beside::new(card.clone(), margin, Compared::All);
+    for _ in 0..generator.random.within(4, 16) {
+        let call = if generator.random.chance(1, 60) {
+            let n = card.n as u32;
+            Call::Fresh(generator.around(n))
+        } else {
+            generator.call(&beside.card)
+        };
+        *log += &format!("    {call}\n");
+        let answer = beside.call(call)?;
+        counts.note(call, answer, &beside.card);
+    }
+    *card = beside.card;
+    Ok(())
+}
+
+/// Makes all lengths and limits as they should be, so that not row 1 alone is the answer.
+fn fit(card: &mut Card, (n, c): (usize, usize)) -> String {
+    card.n = n;
+    card.free = card.free.min(n);
+    card.map.resize(64 * words_of(n), true);
+    card.sheets.resize(c, entry(0x41, 0, 0));
+    card.bytes.resize(512 * n, 0xee);
+    format!(
+        "lengths and limits are as they should be, the free count is {}",
+        card.free
+    )
+}
+
+/// Changes something, and says what.
+pub fn damage(card: &mut Card, generator: &mut Generator) -> String {
+    match generator.random.within(0, 20) {
+        0..=3 => damage_map(card, generator),
+        4..=8 => damage_entry(card, generator),
+        9..=13 => damage_block(card, generator),
+        14..=16 => damage_free_count(card, generator),
+        17 => damage_n(card, generator),
+        _ => damage_length(card, generator),
+    }
+}
+
+fn damage_map(card: &mut Card, generator: &mut Generator) -> String {
+    let random = &mut generator.random;
+    if card.map.is_empty() {
+        return "nothing".to_string();
+    }
+    let (start, most) = (random.within(0, card.map.len()), random.one(&[1, 4, 70]));
+    let end = card.map.len().min(start + random.within(1, most + 1));
+    let free = random.chance(1, 2);
+    card.map[start..end].fill(free);
+    let state = if free { "free" } else { "taken" };
+    format!("blocks {start} to {} of the map become {state}", end - 1)
+}
+
+fn damage_entry(card: &mut Card, generator: &mut Generator) -> String {
+    if card.sheets.is_empty() {
+        return "nothing".to_string();
+    }
+    let sheet = generator.random.within(0, card.sheets.len());
+    let other = generator.random.within(0, card.sheets.len());
+    let mut e = card.sheets[sheet];
+    let (start, length, n) = (e.start, e.length, card.n as u32);
+    match generator.random.within(0, 8) {
+        0 => e = entry(0, 0, 0),
+        1 => e.mark = generator.random.one(&OTHER_MARKS),
+        2 => e.mark = generator.random.one(&MARKS),
+        3 => e.start = generator.around(start),
+        4 => e.length = generator.around(length),
+        5 => e.start = generator.around(n),
+        6 => {
+            e = entry(
+                generator.random.one(&MARKS),
+                generator.around(n - length.min(n)),
+                generator.around(length),
+            )
+        }
+        _ => e = card.sheets[other],
+    }
+    if generator.random.chance(1, 8) {
+        let number = generator.random.one(&[u32::MAX, u32::MAX - 1, 1 << 31, n]);
+        if generator.random.chance(1, 2) {
+            e.start = number;
+        } else {
+            e.length = number;
+        }
+    }
+    card.sheets[sheet] = e;
+    format!(
+        "entry {sheet} becomes mark {}, start {}, length {}",
+        e.mark, e.start, e.length
+    )
+}
+
+/// A block of the card, mostly one that a sheet holds, with the sheet and the place.
+fn some_block(card: &Card, random: &mut Random) -> Option<(usize, u32, u32)> {
+    if card.bytes.len() < 512 {
+        return None;
+    }
+    let blocks = card.bytes.len() / 512;
+    if let Some(sheet) = card
+        .sheets
+        .len()
+        .checked_sub(1)
+        .map(|last| random.within(0, last + 1))
+    {
+        let entry = card.sheets[sheet];
+        let place = random.within(0, (entry.length as usize).clamp(1, blocks));
+        let block = entry.start as usize + place;
+        if block < blocks {
+            return Some((block, sheet as u32, place as u32));
+        }
+    }
+    Some((random.within(0, blocks), 0, 0))
+}
+
+fn damage_block(card: &mut Card, generator: &mut Generator) -> String {
+    let random = &mut generator.random;
+    let Some((block, sheet, place)) = some_block(card, random) else {
+        return "nothing".to_string();
+    };
+    let bytes = &mut card.bytes[512 * block..512 * block + 512];
+    match random.within(0, 6) {
+        0 => bytes.fill(0),
+        1 => bytes[random.one(&[0, 3, 7, 8, 503, 504, 507, 508, 511])] ^= 1 << random.within(0, 8),
+        2 => bytes[random.within(0, 512)] ^= 1 << random.within(0, 8),
+        3 => bytes.copy_from_slice(&sealed(sheet, place.wrapping_add(1), &[9; 496])),
+        4 => bytes.copy_from_slice(&sealed(sheet.wrapping_add(1), place, &[9; 496])),
+        // The same sums modulo 65,521, and not the same numbers.
+        _ => {
+            bytes.copy_from_slice(&sealed(sheet, place, &[9; 496]));
+            let at = random.one(&[504, 508]);
+            let sum = u32::from_be_bytes(bytes[at..at + 4].try_into().unwrap());
+            bytes[at..at + 4].copy_from_slice(&(sum + 65521).to_be_bytes());
+        }
+    }
+    format!("block {block} is changed")
+}
+
+fn damage_free_count(card: &mut Card, generator: &mut Generator) -> String {
+    let (n, free) = (card.n as u32, card.free as u32);
+    let number = match generator.random.within(0, 5) {
+        0 => 0,
+        1 => generator.around(free),
+        2 => generator.around(n),
+        3 => generator.random.one(&[1, 2, 3, u32::MAX]),
+        _ => generator.random.within(0, card.n + 1) as u32,
+    };
+    card.free = number as usize;
+    format!("the free count becomes {number}")
+}
+
+/// Another n; in half the cases with a card of that size.
+fn damage_n(card: &mut Card, generator: &mut Generator) -> String {
+    let n = card.n as u32;
+    let number = match generator.random.within(0, 3) {
+        0 => generator.random.one(&[0, 1, 64, 262144, 262145, u32::MAX]),
+        _ => generator.around(n),
+    };
+    card.n = number as usize;
+    if card.n <= 400 && generator.random.chance(1, 2) {
+        card.bytes.resize(512 * card.n, 0xee);
+        return format!("n becomes {number}, and the card is so long");
+    }
+    format!("n becomes {number}")
+}
+
+/// A slice gets longer or shorter, or as long as n and c ask for.
+fn damage_length(card: &mut Card, generator: &mut Generator) -> String {
+    let n = card.n.min(400);
+    match generator.random.within(0, 8) {
+        0 => card.map.resize(
+            generator
+                .random
+                .one(&[0, 64 * words_of(n) + 64, 64 * words_of(n).saturating_sub(1)]),
+            true,
+        ),
+        1 => card
+            .sheets
+            .resize(generator.random.one(&[0, 1, 1024, 1025]), entry(0x41, 0, 0)),
+        2 => card.bytes.resize(
+            generator
+                .random
+                .one(&[0, 512 * n + 1, (512 * n).saturating_sub(1), 512 * n + 512]),
+            0,
+        ),
+        3..=5 => card.map.resize(64 * words_of(n), true),
+        _ => card.bytes.resize(512 * n, 0xee),
+    }
+    if card.sheets.is_empty() || card.sheets.len() > 1000 && generator.random.chance(1, 2) {
+        card.sheets.resize(3, entry(0x41, 0, 0));
+    }
+    format!(
+        "lent are {} words, {} entries, {} bytes",
+        card.map.len() / 64,
+        card.sheets.len(),
+        card.bytes.len()
+    )
+}
+
+// Every length.
+
+/// One call on a card.
+fn one(card: &Card, call: Call, margin: usize, counts: &mut Counts) -> Result<(), String> {
+    let mut beside = Beside::new(card.clone(), margin, Compared::All);
+    let answer = beside.call(call).map_err(|error| {
+        let (words, sheets, bytes) = (card.map.len() / 64, card.sheets.len(), card.bytes.len());
+        format!(
+            "n {}, free {}, {words} words (blocks 0 to 3: {:?}), {sheets} entries (the first: {:?}), {bytes} bytes\n    {call}\n{error}",
+            card.n, card.free, card.map.get(..4), card.sheets.first()
+        )
+    })?;
+    counts.note(call, answer, &beside.card);
+    Ok(())
+}
+
+const PAYLOAD: Bytes = Bytes {
+    seed: 9,
+    length: 496,
+};
+
+/// A call of each kind; on the card of `three_sheets` each is accepted.
+const EACH: [Call; 11] = [
+    Call::Fresh(70),
+    Call::Search(3),
+    Call::Survey,
+    Call::Reserve(2, 3),
+    Call::Put(1, 0, PAYLOAD),
+    Call::Grow(1, 2),
+    Call::Complete(1),
+    Call::Pause(2),
+    Call::Release(0),
+    Call::Show(0, 1, PAYLOAD),
+    Call::Standing(0),
+];
+
+/// A card of 70 blocks: sheet 0 is complete, sheet 1 open and filled, sheet 2 absent.
+fn three_sheets() -> Card {
+    let mut card = used_card(70, 3, &mut Random::of(0));
+    let calls = [
+        Call::Fresh(70),
+        Call::Reserve(0, 2),
+        Call::Put(0, 0, PAYLOAD),
+        Call::Put(0, 1, PAYLOAD),
+        Call::Complete(0),
+        Call::Reserve(1, 1),
+        Call::Put(1, 0, PAYLOAD),
+    ];
+    for call in calls {
+        call.on_card(&mut card, &mut call.slice());
+    }
+    card
+}
+
+/// Each slice of each call in many lengths, the others as they should be.
+pub fn lengths(margin: usize, counts: &mut Counts) -> Result<(), String> {
+    let whole = three_sheets();
+    for call in EACH {
+        one(&whole, call, margin, counts)?;
+        for words in 0..=4 {
+            let mut card = whole.clone();
+            card.map.resize(64 * words, true);
+            one(&card, call, margin, counts)?;
+        }
+        for sheets in (0..=6).chain(1022..=1027) {
+            let mut card = whole.clone();
+            card.sheets.resize(sheets, entry(0x41, 0, 0));
+            one(&card, call, margin, counts)?;
+        }
+        for bytes in (0..=2)
+            .chain(510..=514)
+            .chain(70 * 512 - 514..=70 * 512 + 514)
+        {
+            let mut card = whole.clone();
+            card.bytes.resize(bytes, 0);
+            one(&card, call, margin, counts)?;
+        }
+        for n in [
+            0, 1, 63, 64, 65, 69, 71, 127, 128, 129, 262144, 262145, 4294967295,
+        ] {
+            let mut card = whole.clone();
+            card.n = n;
+            one(&card, call, margin, counts)?;
+            card.bytes.resize(512 * n.min(200), 0);
+            one(&card, call, margin, counts)?;
+        }
+        for free in (0..=72).chain([4294967295]) {
+            let mut card = whole.clone();
+            card.free = free;
+            one(&card, call, margin, counts)?;
+        }
+    }
+    for length in 0..=1100 {
+        let bytes = Bytes { seed: 5, length };
+        one(&whole, Call::Put(1, 0, bytes), margin, counts)?;
+        one(&whole, Call::Show(0, 1, bytes), margin, counts)?;
+    }
+    Ok(())
+}
+
+/// The largest numbers of blocks and of sheets, and one more, with slices of the right length.
+pub fn limits(margin: usize, counts: &mut Counts) -> Result<(), String> {
+    for n in [262143, 262144, 262145, 262208] {
+        for c in [1, 1023, 1024, 1025] {
+            let card = Card {
+                n,
+                free: n,
+                map: (0..64 * words_of(n)).map(|b| b < n).collect(),
+                sheets: vec![entry(0x41, 0, 0); c],
+                // Calls that are not lent the card need none.
+                bytes: Vec::new(),
+            };
+            at_limits(card, margin, counts)?;
+        }
+    }
+    let n = 262145;
+    let card = Card {
+        n,
+        free: n,
+        map: vec![true; 64 * words_of(n)],
+        sheets: vec![entry(0x41, 0, 0)],
+        bytes: vec![0; 512 * n],
+    };
+    at_limits(card, margin, counts)
+}
+
+fn at_limits(card: Card, margin: usize, counts: &mut Counts) -> Result<(), String> {
+    let (n, last) = (card.n as u32, card.sheets.len() as u32 - 1);
+    let calls = [
+        Call::Search(n),
+        Call::Survey,
+        Call::Standing(last),
+        Call::Reserve(last, n),
+        Call::Put(last, 0, PAYLOAD),
+        Call::Grow(last, 1),
+        Call::Complete(last),
+        Call::Show(last, 0, PAYLOAD),
+        Call::Pause(last),
+        Call::Release(last),
+        Call::Fresh(n),
+    ];
+    let limits = format!("{n} blocks and {} sheets", card.sheets.len());
+    let mut beside = Beside::new(card, margin, Compared::All);
+    for call in calls {
+        let answer = beside
+            .call(call)
+            .map_err(|error| format!("{limits}, {call}: {error}"))?;
+        counts.note(call, answer, &beside.card);
+    }
+    Ok(())
+}
+
+// All states.
+
+/// Every map, free count, entry and call of cards of up to `most` blocks and one sheet, and for complete and show every
+/// choice of blank, sound and unsound blocks.
+pub fn states(most: usize, margin: usize, counts: &mut Counts) -> Result<(), String> {
+    for n in 1..=most {
+        for map in 0..2 << n {
+            for free in 0..=n + 1 {
+                for mark in MARKS.into_iter().chain([0, 0x42]) {
+                    for extent in 0..(n + 2) * (n + 2) {
+                        let (start, length) = (extent / (n + 2), extent % (n + 2));
+                        let card = Card {
+                            n,
+                            free,
+                            // Those from n on are all free or all taken.
+                            map: (0..64).map(|b| map >> n.min(b) & 1 == 1).collect(),
+                            sheets: vec![entry(mark, start as u32, length as u32)],
+                            bytes: vec![0; 512 * n],
+                        };
+                        calls_on_state(card, margin, counts)?;
+                    }
+                }
+            }
+        }
+    }
+    Ok(())
+}
+
+fn calls_on_state(mut card: Card, margin: usize, counts: &mut Counts) -> Result<(), String> {
+    let n = card.n as u32;
+    for number in 0..=n + 1 {
+        let calls = [
+            Call::Search(number),
+            Call::Reserve(0, number),
+            Call::Grow(0, number),
+            Call::Put(0, number, PAYLOAD),
+            Call::Standing(number),
+        ];
+        for call in calls {
+            one(&card, call, margin, counts)?;
+        }
+    }
+    for call in [
+        Call::Survey,
+        Call::Pause(0),
+        Call::Release(0),
+        Call::Fresh(n),
+    ] {
+        one(&card, call, margin, counts)?;
+    }
+    let start = card.sheets[0].start;
+    let held = matches!(card.sheets[0].mark, 0x4f | 0x43) && card.sheets[0].length > 0;
+    let contents = if held { 3usize.pow(n) } else { 1 };
+    for content in 0..contents {
+        for b in 0..n {
+            let place = b.wrapping_sub(start);
+            let mut block = match content / 3usize.pow(b) % 3 {
+                0 => vec![0; 512],
+                _ => sealed(0, place, &PAYLOAD.contents()),
+            };
+            if content / 3usize.pow(b) % 3 == 2 {
+                block[7 + 124 * b as usize] ^= 1;
+            }
+            card.bytes[512 * b as usize..512 * b as usize + 512].copy_from_slice(&block);
+        }
+        one(&card, Call::Complete(0), margin, counts)?;
+        for place in 0..=n {
+            one(&card, Call::Show(0, place, PAYLOAD), margin, counts)?;
+        }
+    }
+    Ok(())
+}

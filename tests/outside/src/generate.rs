@@ -1,0 +1,180 @@
+//! Random calls: mostly those that a dispenser makes of the sheet at hand, as its entry stands, and some with any numbers.
+
+use crate::call::{Bytes, Call};
+use bitwise::blocks::survey;
+use bitwise::card::{Card, Entry};
+use bitwise::random::Random;
+
+pub struct Generator {
+    pub random: Random,
+    /// The sheet that the dispenser is busy with.
+    sheet: u32,
+}
+
+impl Generator {
+    pub fn new(random: Random) -> Generator {
+        Generator { random, sheet: 0 }
+    }
+
+    pub fn call(&mut self, card: &Card) -> Call {
+        if self.random.chance(1, 5) || card.sheets.is_empty() {
+            self.any_call(card)
+        } else {
+            self.likely_call(card)
+        }
+    }
+
+    /// A call that the sheet at hand admits, more often than not.
+    fn likely_call(&mut self, card: &Card) -> Call {
+        let c = card.sheets.len();
+        if self.sheet as usize >= c || self.random.chance(1, 6) {
+            self.sheet = self.random.within(0, c) as u32;
+        }
+        let sheet = self.sheet;
+        let entry = card.sheets[sheet as usize];
+        match entry.mark {
+            0x41 if self.random.chance(1, 10) => Call::Pause(sheet),
+            0x41 => self.of_absent(card, sheet),
+            0x50 if self.random.chance(1, 2) => Call::Release(sheet),
+            0x4f => self.of_open(card, sheet, entry),
+            0x43 if self.random.chance(1, 4) => Call::Release(sheet),
+            0x43 => Call::Show(sheet, self.likely_place(entry), self.bytes()),
+            _ => Call::Standing(sheet),
+        }
+    }
+
+    /// A reserve. If there are not so many blocks, another sheet gives way first, more often than not.
+    fn of_absent(&mut self, card: &Card, sheet: u32) -> Call {
+        let count = self.likely_count(card);
+        if count as usize > card.free && self.random.chance(7, 8) {
+            let from = self.random.within(0, card.sheets.len());
+            let sheets = (from..card.sheets.len()).chain(0..from);
+            let mut holders = sheets.filter(|&other| card.sheets[other].length > 0);
+            if let Some(holder) = holders.next() {
+                return Call::Release(holder as u32);
+            }
+        }
+        Call::Reserve(sheet, count)
+    }
+
+    fn of_open(&mut self, card: &Card, sheet: u32, entry: Entry) -> Call {
+        let blank = blank_place(card, entry);
+        match self.random.within(0, 32) {
+            0..=1 => Call::Grow(sheet, self.likely_count(card)),
+            2 => Call::Release(sheet),
+            3 => Call::Complete(sheet),
+            4 => Call::Put(sheet, self.likely_place(entry), self.bytes()),
+            _ => match blank {
+                Some(place) => Call::Put(sheet, place, self.bytes()),
+                None => Call::Complete(sheet),
+            },
+        }
+    }
+
+    /// Any of the calls with any numbers.
+    fn any_call(&mut self, card: &Card) -> Call {
+        let sheet = self.any_sheet(card);
+        match self.random.within(0, 20) {
+            0..=1 => Call::Search(self.any_count(card)),
+            2 => Call::Survey,
+            3..=5 => Call::Reserve(sheet, self.any_count(card)),
+            6..=8 => Call::Grow(sheet, self.any_count(card)),
+            9..=10 => Call::Put(sheet, self.any_place(card, sheet), self.bytes()),
+            11..=12 => Call::Complete(sheet),
+            13..=14 => Call::Pause(sheet),
+            15..=16 => Call::Release(sheet),
+            17..=18 => Call::Show(sheet, self.any_place(card, sheet), self.bytes()),
+            _ => Call::Standing(sheet),
+        }
+    }
+
+    // Numbers.
+
+    /// A number of blocks that has a fair chance of a fit: mostly a few, or a share of the card.
+    fn likely_count(&mut self, card: &Card) -> u32 {
+        let share = 2 * card.n / card.sheets.len() + 1;
+        match self.random.within(0, 8) {
+            0..=4 => self.random.within(1, 5) as u32,
+            5..=6 => self.random.within(1, share + 1) as u32,
+            _ => self.any_count(card),
+        }
+    }
+
+    /// A number of blocks: around the longest run, around n, or anything.
+    fn any_count(&mut self, card: &Card) -> u32 {
+        let longest = survey(&card.map, card.n.min(card.map.len())).longest as u32;
+        let n = card.n as u32;
+        match self.random.within(0, 8) {
+            0 => 0,
+            1 => self.random.within(1, 4) as u32,
+            2 => longest,
+            3 => longest + 1,
+            4 => self.random.within(0, longest as usize + 2) as u32,
+            5 => self.around(n),
+            6 => self.around(card.free as u32),
+            _ => self
+                .random
+                .one(&[1, 64, 65, 262144, 262145, u32::MAX - 1, u32::MAX]),
+        }
+    }
+
+    pub fn around(&mut self, number: u32) -> u32 {
+        self.random
+            .one(&[number.wrapping_sub(1), number, number.wrapping_add(1)])
+    }
+
+    pub fn any_sheet(&mut self, card: &Card) -> u32 {
+        let c = card.sheets.len();
+        if c == 0 || self.random.chance(1, 12) {
+            self.random
+                .one(&[c as u32, c as u32 + 1, 1023, 1024, u32::MAX])
+        } else {
+            self.random.within(0, c) as u32
+        }
+    }
+
+    fn likely_place(&mut self, entry: Entry) -> u32 {
+        if entry.length == 0 {
+            return 0;
+        }
+        self.random.within(0, entry.length as usize) as u32
+    }
+
+    fn any_place(&mut self, card: &Card, sheet: u32) -> u32 {
+        let length = card
+            .sheets
+            .get(sheet as usize)
+            .map_or(0, |entry| entry.length);
+        match self.random.within(0, 4) {
+            0 => self.around(length),
+            1 => self.random.one(&[0, 1, u32::MAX]),
+            _ => self.random.within(0, length as usize + 1) as u32,
+        }
+    }
+
+    /// A payload or a buffer, in 1 case of 16 of another length than 496.
+    fn bytes(&mut self) -> Bytes {
+        let seed = self.random.one(&[0, 1, 2, 3, 4, 5, 6, 7]);
+        let seed = if seed > 3 {
+            self.random.draw() as u32 | 4
+        } else {
+            seed
+        };
+        let length = if self.random.chance(1, 16) {
+            self.random.one(&[0, 1, 495, 497, 504, 512, 1024])
+        } else {
+            496
+        };
+        Bytes { seed, length }
+    }
+}
+
+/// The lowest blank place of an entry's extent, if it lies on the card.
+fn blank_place(card: &Card, entry: Entry) -> Option<u32> {
+    (0..entry.length).find(|place| {
+        let at = 512 * (entry.start as usize + *place as usize);
+        card.bytes
+            .get(at..at + 512)
+            .is_none_or(|block| block == [0; 512])
+    })
+}

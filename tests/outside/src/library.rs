@@ -1,0 +1,227 @@
+//! The C functions (include/pagunlit.h), and the slices that they are lent.
+
+use bitwise::card::{self, Answer};
+
+#[repr(C)]
+#[derive(Clone, Copy, Debug, PartialEq)]
+pub struct Shape {
+    pub blocks: u32,
+    pub free: u32,
+}
+
+#[repr(C)]
+#[derive(Clone, Copy, Debug, PartialEq)]
+pub struct Entry {
+    pub mark: u32,
+    pub start: u32,
+    pub length: u32,
+}
+
+#[repr(C)]
+#[derive(Clone, Copy, Debug, PartialEq)]
+pub struct Outcome {
+    pub shape: Shape,
+    pub number: u32,
+    pub first: u32,
+    pub second: u32,
+    pub third: u32,
+}
+
+impl From<card::Entry> for Entry {
+    fn from(entry: card::Entry) -> Entry {
+        Entry {
+            mark: entry.mark,
+            start: entry.start,
+            length: entry.length,
+        }
+    }
+}
+
+impl Outcome {
+    /// The outcome that hands a shape and an answer back: the answer's number and its values, 0 where there are none.
+    pub fn of(shape: Shape, answer: Answer) -> Outcome {
+        let (number, values) = match answer {
+            Answer::Done => (0, [0, 0, 0]),
+            Answer::Start(start) => (0, [start as u32, 0, 0]),
+            Answer::Stands(e) => (0, [e.mark, e.start, e.length]),
+            Answer::Counted(free, runs, longest) => (0, [free as u32, runs as u32, longest as u32]),
+            Answer::Blank(place) => (9, [place as u32, 0, 0]),
+            Answer::Refused(number) => (number, [0, 0, 0]),
+        };
+        Outcome {
+            shape,
+            number,
+            first: values[0],
+            second: values[1],
+            third: values[2],
+        }
+    }
+}
+
+#[rustfmt::skip]
+mod c {
+    use super::{Entry, Outcome, Shape};
+
+    extern "C" {
+        pub fn pagunlit_fresh(shape: Shape, blocks: u32, map: *mut u64, maplen: usize, catalogue: *mut Entry, cataloguelen: usize) -> Outcome;
+        pub fn pagunlit_search(shape: Shape, map: *const u64, maplen: usize, k: u32) -> Outcome;
+        pub fn pagunlit_survey(shape: Shape, map: *const u64, maplen: usize) -> Outcome;
+        pub fn pagunlit_reserve(shape: Shape, map: *mut u64, maplen: usize, catalogue: *mut Entry, cataloguelen: usize, card: *mut u8, cardlen: usize, sheet: u32, count: u32) -> Outcome;
+        pub fn pagunlit_grow(shape: Shape, map: *mut u64, maplen: usize, catalogue: *mut Entry, cataloguelen: usize, card: *mut u8, cardlen: usize, sheet: u32, count: u32) -> Outcome;
+        pub fn pagunlit_put(shape: Shape, map: *const u64, maplen: usize, catalogue: *const Entry, cataloguelen: usize, card: *mut u8, cardlen: usize, sheet: u32, place: u32, payload: *const u8, payloadlen: usize) -> Outcome;
+        pub fn pagunlit_complete(shape: Shape, map: *const u64, maplen: usize, catalogue: *mut Entry, cataloguelen: usize, card: *const u8, cardlen: usize, sheet: u32) -> Outcome;
+        pub fn pagunlit_pause(shape: Shape, map: *const u64, maplen: usize, catalogue: *mut Entry, cataloguelen: usize, sheet: u32) -> Outcome;
+        pub fn pagunlit_release(shape: Shape, map: *mut u64, maplen: usize, catalogue: *mut Entry, cataloguelen: usize, sheet: u32) -> Outcome;
+        pub fn pagunlit_standing(shape: Shape, map: *const u64, maplen: usize, catalogue: *const Entry, cataloguelen: usize, sheet: u32) -> Outcome;
+        pub fn pagunlit_show(shape: Shape, map: *const u64, maplen: usize, catalogue: *const Entry, cataloguelen: usize, card: *const u8, cardlen: usize, sheet: u32, place: u32, buffer: *mut u8, bufferlen: usize) -> Outcome;
+        pub fn seal(sheet: u32, place: u32, payload: *const u8, payloadlen: usize, block: *mut u8, blocklen: usize) -> u32;
+        pub fn check(block: *const u8, blocklen: usize) -> u32;
+    }
+
+    #[cfg(feature = "image")]
+    extern "C" {
+        pub fn pagunlit_save(shape: Shape, map: *const u64, maplen: usize, catalogue: *const Entry, cataloguelen: usize, scratch: *mut u64, scratchlen: usize, image: *mut u8, imagelen: usize) -> Outcome;
+        pub fn pagunlit_load(shape: Shape, image: *const u8, imagelen: usize, map: *mut u64, maplen: usize, catalogue: *mut Entry, cataloguelen: usize, scratch: *mut u64, scratchlen: usize) -> Outcome;
+    }
+}
+
+/// A slice to lend, with a margin of other elements before and behind it that no call may change. Without a margin the
+/// slice is the whole of its allocation, so that valgrind sees every read and write beside it.
+pub struct Lent<T> {
+    cells: Box<[T]>,
+    margin: usize,
+    guard: T,
+}
+
+impl<T: Copy + PartialEq> Lent<T> {
+    pub fn new(contents: impl ExactSizeIterator<Item = T>, margin: usize, guard: T) -> Lent<T> {
+        let mut cells = Vec::with_capacity(contents.len() + 2 * margin);
+        cells.extend(std::iter::repeat_n(guard, margin));
+        cells.extend(contents);
+        cells.extend(std::iter::repeat_n(guard, margin));
+        Lent {
+            cells: cells.into_boxed_slice(),
+            margin,
+            guard,
+        }
+    }
+
+    pub fn len(&self) -> usize {
+        self.cells.len() - 2 * self.margin
+    }
+
+    pub fn now(&self) -> &[T] {
+        &self.cells[self.margin..self.margin + self.len()]
+    }
+
+    /// No element beside the slice has changed.
+    pub fn margins_whole(&self) -> bool {
+        let (before, rest) = self.cells.split_at(self.margin);
+        let behind = &rest[self.len()..];
+        before.iter().chain(behind).all(|cell| *cell == self.guard)
+    }
+
+    fn at(&mut self) -> *mut T {
+        self.cells[self.margin..].as_mut_ptr()
+    }
+}
+
+pub fn bytes(contents: &[u8], margin: usize) -> Lent<u8> {
+    Lent::new(contents.iter().copied(), margin, 0xa5)
+}
+
+pub fn words(contents: &[u64], margin: usize) -> Lent<u64> {
+    Lent::new(contents.iter().copied(), margin, 0xa5a5_5a5a_1234_ffff)
+}
+
+pub fn entries(contents: &[card::Entry], margin: usize) -> Lent<Entry> {
+    let guard = Entry {
+        mark: 0x41,
+        start: 0,
+        length: 0,
+    };
+    Lent::new(contents.iter().map(|&entry| entry.into()), margin, guard)
+}
+
+/// What the calls are lent, and the shape last handed back.
+pub struct Library {
+    pub shape: Shape,
+    pub map: Lent<u64>,
+    pub catalogue: Lent<Entry>,
+    pub card: Lent<u8>,
+}
+
+/// The calls. Each lends whole slices that overlap no other, for the time of the call: this is what the C functions ask for.
+#[rustfmt::skip]
+impl Library {
+    pub fn fresh(&mut self, n: u32) -> Outcome {
+        unsafe { c::pagunlit_fresh(self.shape, n, self.map.at(), self.map.len(), self.catalogue.at(), self.catalogue.len()) }
+    }
+
+    pub fn search(&mut self, k: u32) -> Outcome {
+        unsafe { c::pagunlit_search(self.shape, self.map.at(), self.map.len(), k) }
+    }
+
+    pub fn survey(&mut self) -> Outcome {
+        unsafe { c::pagunlit_survey(self.shape, self.map.at(), self.map.len()) }
+    }
+
+    pub fn reserve(&mut self, sheet: u32, k: u32) -> Outcome {
+        unsafe { c::pagunlit_reserve(self.shape, self.map.at(), self.map.len(), self.catalogue.at(), self.catalogue.len(), self.card.at(), self.card.len(), sheet, k) }
+    }
+
+    pub fn grow(&mut self, sheet: u32, m: u32) -> Outcome {
+        unsafe { c::pagunlit_grow(self.shape, self.map.at(), self.map.len(), self.catalogue.at(), self.catalogue.len(), self.card.at(), self.card.len(), sheet, m) }
+    }
+
+    pub fn put(&mut self, sheet: u32, place: u32, payload: &mut Lent<u8>) -> Outcome {
+        unsafe { c::pagunlit_put(self.shape, self.map.at(), self.map.len(), self.catalogue.at(), self.catalogue.len(), self.card.at(), self.card.len(), sheet, place, payload.at(), payload.len()) }
+    }
+
+    pub fn complete(&mut self, sheet: u32) -> Outcome {
+        unsafe { c::pagunlit_complete(self.shape, self.map.at(), self.map.len(), self.catalogue.at(), self.catalogue.len(), self.card.at(), self.card.len(), sheet) }
+    }
+
+    pub fn pause(&mut self, sheet: u32) -> Outcome {
+        unsafe { c::pagunlit_pause(self.shape, self.map.at(), self.map.len(), self.catalogue.at(), self.catalogue.len(), sheet) }
+    }
+
+    pub fn release(&mut self, sheet: u32) -> Outcome {
+        unsafe { c::pagunlit_release(self.shape, self.map.at(), self.map.len(), self.catalogue.at(), self.catalogue.len(), sheet) }
+    }
+
+    pub fn show(&mut self, sheet: u32, place: u32, buffer: &mut Lent<u8>) -> Outcome {
+        unsafe { c::pagunlit_show(self.shape, self.map.at(), self.map.len(), self.catalogue.at(), self.catalogue.len(), self.card.at(), self.card.len(), sheet, place, buffer.at(), buffer.len()) }
+    }
+
+    pub fn standing(&mut self, sheet: u32) -> Outcome {
+        unsafe { c::pagunlit_standing(self.shape, self.map.at(), self.map.len(), self.catalogue.at(), self.catalogue.len(), sheet) }
+    }
+
+    #[cfg(feature = "image")]
+    pub fn save(&mut self, scratch: &mut Lent<u64>, image: &mut Lent<u8>) -> Outcome {
+        unsafe { c::pagunlit_save(self.shape, self.map.at(), self.map.len(), self.catalogue.at(), self.catalogue.len(), scratch.at(), scratch.len(), image.at(), image.len()) }
+    }
+
+    #[cfg(feature = "image")]
+    pub fn load(&mut self, image: &mut Lent<u8>, scratch: &mut Lent<u64>) -> Outcome {
+        unsafe { c::pagunlit_load(self.shape, image.at(), image.len(), self.map.at(), self.map.len(), self.catalogue.at(), self.catalogue.len(), scratch.at(), scratch.len()) }
+    }
+}
+
+pub fn seal(sheet: u32, place: u32, payload: &mut Lent<u8>, block: &mut Lent<u8>) -> u32 {
+    unsafe {
+        c::seal(
+            sheet,
+            place,
+            payload.at(),
+            payload.len(),
+            block.at(),
+            block.len(),
+        )
+    }
+}
+
+pub fn check(block: &mut Lent<u8>) -> u32 {
+    unsafe { c::check(block.at(), block.len()) }
+}

@@ -1,0 +1,175 @@
+//! Runs calls through the C library (target/staticlib/libpagunlit.a) beside the ledger and the card of document 01, worked
+//! out bit by bit (the package bitwise), and compares after every call its answer and every byte that it was lent.
+//!
+//!     outside check [SEED]          the same calls in every run, in less than a minute
+//!     outside for SECONDS [SEED]    as many lists as the time allows
+//!     outside valgrind [SEED]       few lists, on small cards, with nothing around what is lent
+//!     outside again PART SEED       one list again, as a failure names it
+
+mod beside;
+mod call;
+mod counts;
+mod damage;
+mod generate;
+#[cfg(feature = "image")]
+mod images;
+mod library;
+mod lists;
+mod singles;
+
+use counts::Counts;
+use std::time::{Duration, Instant};
+
+/// Makes the list of a seed, with a margin around what is lent.
+type List = fn(u64, usize, &mut Counts) -> Result<(), String>;
+
+struct Part {
+    name: &'static str,
+    list: List,
+    /// How many lists there are of it: in a check, between two looks at the clock, and under valgrind.
+    check: u64,
+    turn: u64,
+    valgrind: u64,
+}
+
+const fn part(name: &'static str, list: List, check: u64, turn: u64, valgrind: u64) -> Part {
+    Part {
+        name,
+        list,
+        check,
+        turn,
+        valgrind,
+    }
+}
+
+/// Parts whose answers are counted in one table.
+struct Group {
+    parts: &'static [Part],
+    report: fn(&Counts) -> Result<(), String>,
+}
+
+#[rustfmt::skip]
+const GROUPS: &[Group] = &[
+    // Lists from a fresh card.
+    Group {
+        parts: &[
+            part("small", lists::small, 2000, 200, 40),
+            part("full", lists::full, 2, 1, 0),
+        ],
+        report: |counts| counts.report(false),
+    },
+    // States that no list leads to.
+    Group {
+        parts: &[
+            part("damaged", damage::damaged, 20000, 2000, 1500),
+            part("lengths", |_, margin, counts| damage::lengths(margin, counts), 1, 0, 0),
+            part("limits", |_, margin, counts| damage::limits(margin, counts), 1, 0, 0),
+            part("states", |_, margin, counts| damage::states(3, margin, counts), 1, 0, 0),
+        ],
+        report: |counts| counts.report(true),
+    },
+    // Seal and check.
+    Group {
+        parts: &[part("singles", singles::single, 20000, 2000, 500)],
+        report: |_| Ok(()),
+    },
+    // Save and load.
+    #[cfg(feature = "image")]
+    Group {
+        parts: &[
+            part("images", images::images, 2000, 200, 60),
+            part("bytes", images::image_bytes, 20, 1, 0),
+            part("cut", |_, margin, counts| images::image_lengths(margin, counts), 1, 0, 0),
+            part("full-image", images::full_image, 1, 1, 0),
+        ],
+        report: Counts::report_images,
+    },
+];
+
+const MARGIN: usize = 64;
+
+/// The lists of a part from a seed on: list number i is that of seed + i.
+fn run(part: &Part, from: u64, count: u64, margin: usize, counts: &mut Counts) {
+    let begin = Instant::now();
+    let before = counts.calls;
+    for seed in from..from + count {
+        if let Err(error) = (part.list)(seed, margin, counts) {
+            eprintln!("{error}");
+            eprintln!(
+                "outside: FAILED: run it again with: outside again {} {seed}",
+                part.name
+            );
+            std::process::exit(1);
+        }
+    }
+    let calls = counts.calls - before;
+    let seconds = begin.elapsed().as_secs_f64();
+    println!(
+        "{:<10} {count:>5} from seed {from}: {calls} calls in {seconds:.1} s",
+        part.name
+    );
+}
+
+fn report(group: &Group, counts: &Counts) {
+    if let Err(error) = (group.report)(counts) {
+        eprintln!("outside: FAILED: {error}");
+        std::process::exit(1);
+    }
+}
+
+/// Each part as often as `count` says.
+fn run_all(seed: u64, margin: usize, count: fn(&Part) -> u64) {
+    for group in GROUPS {
+        let counts = &mut Counts::default();
+        for part in group.parts.iter().filter(|part| count(part) > 0) {
+            run(part, seed, count(part), margin, counts);
+        }
+        report(group, counts);
+    }
+}
+
+/// The parts by turns until the time is up.
+fn run_for(time: Duration, mut seed: u64) {
+    let begin = Instant::now();
+    let mut counts: Vec<Counts> = GROUPS.iter().map(|_| Counts::default()).collect();
+    while begin.elapsed() < time {
+        for (group, counts) in GROUPS.iter().zip(&mut counts) {
+            for part in group.parts.iter().filter(|part| part.turn > 0) {
+                run(part, seed, part.turn, MARGIN, counts);
+            }
+        }
+        seed += 10000;
+    }
+    for (group, counts) in GROUPS.iter().zip(&counts) {
+        report(group, counts);
+    }
+}
+
+fn usage() -> ! {
+    eprintln!(
+        "usage: outside check [SEED] | for SECONDS [SEED] | valgrind [SEED] | again PART SEED"
+    );
+    std::process::exit(2);
+}
+
+fn main() {
+    let words: Vec<String> = std::env::args().skip(1).collect();
+    let number = |at: usize| match words.get(at) {
+        None => 1,
+        Some(word) => word.parse().unwrap_or_else(|_| usage()),
+    };
+    match (words.first().map(String::as_str), words.get(1)) {
+        (Some("check"), _) => run_all(number(1), MARGIN, |part| part.check),
+        (Some("valgrind"), _) => run_all(number(1), 0, |part| part.valgrind),
+        (Some("for"), Some(_)) => run_for(Duration::from_secs(number(1)), number(2)),
+        (Some("again"), Some(name)) => {
+            let mut parts = GROUPS.iter().flat_map(|group| group.parts);
+            let part = parts
+                .find(|part| part.name == name)
+                .unwrap_or_else(|| usage());
+            run(part, number(2), 1, MARGIN, &mut Counts::default());
+        }
+        _ => usage(),
+    }
+    println!("outside: passed");
+}

@@ -1,0 +1,237 @@
+//! The ledger of document 01 ("The ledger, call by call"): it is fed n, c and each call's arguments, and reads nothing that
+//! the program keeps or answers. Rows 1 and 4 hold for no call of a list, so they are not here.
+
+use crate::blocks::{all, least_fit, words_of, FREE, TAKEN};
+use crate::card::Answer::*;
+use crate::card::{entry, sealed, Answer, Entry};
+
+type Payload = Vec<u8>;
+
+/// A sheet. Place p is block start + p.
+#[derive(Clone)]
+pub enum Sheet {
+    Absent,
+    Paused,
+    Open {
+        start: usize,
+        places: Vec<Option<Payload>>,
+    },
+    Complete {
+        start: usize,
+        payloads: Vec<Payload>,
+    },
+}
+
+pub struct Ledger {
+    n: usize,
+    sheets: Vec<Sheet>,
+    /// Blocks granted and returned by the accepted calls.
+    pub granted: usize,
+    pub returned: usize,
+}
+
+impl Ledger {
+    /// What an accepted fresh leaves.
+    pub fn fresh(n: usize, c: usize) -> Ledger {
+        Ledger {
+            n,
+            sheets: vec![Sheet::Absent; c],
+            granted: 0,
+            returned: 0,
+        }
+    }
+
+    // What the ledger says of a card.
+
+    /// The blocks that a sheet covers, as a start and a number of places.
+    fn extent(&self, sheet: usize) -> (usize, usize) {
+        match &self.sheets[sheet] {
+            Sheet::Absent | Sheet::Paused => (0, 0),
+            Sheet::Open { start, places } => (*start, places.len()),
+            Sheet::Complete { start, payloads } => (*start, payloads.len()),
+        }
+    }
+
+    /// The map: of the first n blocks those are free that no sheet covers, and none from n on. A block that two sheets cover
+    /// would break the second condition of the certificate.
+    pub fn map(&self) -> Vec<bool> {
+        let mut map: Vec<bool> = (0..64 * words_of(self.n)).map(|b| b < self.n).collect();
+        for sheet in 0..self.sheets.len() {
+            let (start, length) = self.extent(sheet);
+            for block in &mut map[start..start + length] {
+                assert!(*block == FREE, "the ledger covers a block twice");
+                *block = TAKEN;
+            }
+        }
+        map
+    }
+
+    pub fn free_count(&self) -> usize {
+        self.map().iter().filter(|&&block| block == FREE).count()
+    }
+
+    /// Mark, start and number of places, 0 and 0 for a sheet without places.
+    pub fn entry(&self, sheet: usize) -> Entry {
+        let mark = match self.sheets[sheet] {
+            Sheet::Absent => 0x41,
+            Sheet::Paused => 0x50,
+            Sheet::Open { .. } => 0x4f,
+            Sheet::Complete { .. } => 0x43,
+        };
+        let (start, length) = self.extent(sheet);
+        entry(mark, start as u32, length as u32)
+    }
+
+    /// The payload of a place, unless it is blank.
+    fn payload(&self, sheet: usize, place: usize) -> Option<&Payload> {
+        match &self.sheets[sheet] {
+            Sheet::Absent | Sheet::Paused => None,
+            Sheet::Open { places, .. } => places[place].as_ref(),
+            Sheet::Complete { payloads, .. } => Some(&payloads[place]),
+        }
+    }
+
+    pub fn is_blank(&self, sheet: u32, place: u32) -> bool {
+        let (sheet, place) = (sheet as usize, place as usize);
+        place < self.extent(sheet).1 && self.payload(sheet, place).is_none()
+    }
+
+    /// What the card has at a place: 512 zeros where it is blank, else the sealed block.
+    pub fn block(&self, sheet: usize, place: usize) -> Vec<u8> {
+        match self.payload(sheet, place) {
+            None => vec![0; 512],
+            Some(payload) => sealed(sheet as u32, place as u32, payload),
+        }
+    }
+
+    // The calls: the rows that hold for them in their order, then the change.
+
+    fn sheet(&mut self, sheet: u32) -> Result<&mut Sheet, Answer> {
+        self.sheets.get_mut(sheet as usize).ok_or(Refused(2))
+    }
+
+    fn absent(&mut self, sheet: u32) -> Result<&mut Sheet, Answer> {
+        let sheet = self.sheet(sheet)?;
+        match sheet {
+            Sheet::Absent => Ok(sheet),
+            Sheet::Paused => Err(Refused(6)),
+            Sheet::Open { .. } => Err(Refused(7)),
+            Sheet::Complete { .. } => Err(Refused(8)),
+        }
+    }
+
+    fn open(&mut self, sheet: u32) -> Result<(usize, &mut Vec<Option<Payload>>), Answer> {
+        match self.sheet(sheet)? {
+            Sheet::Absent => Err(Refused(5)),
+            Sheet::Paused => Err(Refused(6)),
+            Sheet::Open { start, places } => Ok((*start, places)),
+            Sheet::Complete { .. } => Err(Refused(8)),
+        }
+    }
+
+    pub fn reserve(&mut self, sheet: u32, k: usize) -> Result<Answer, Answer> {
+        self.absent(sheet)?;
+        if k == 0 {
+            return Err(Refused(3));
+        }
+        let start = least_fit(&self.map(), 0, self.n, k).ok_or(Refused(10))?;
+        let places = vec![None; k];
+        *self.absent(sheet)? = Sheet::Open { start, places };
+        self.granted += k;
+        Ok(Start(start))
+    }
+
+    pub fn put(&mut self, sheet: u32, place: u32, payload: &[u8]) -> Result<Answer, Answer> {
+        let (_, places) = self.open(sheet)?;
+        if place as usize >= places.len() || payload.len() != 496 {
+            return Err(Refused(3));
+        }
+        places[place as usize] = Some(payload.to_vec());
+        Ok(Done)
+    }
+
+    pub fn grow(&mut self, sheet: u32, m: usize) -> Result<Answer, Answer> {
+        let (start, places) = self.open(sheet)?;
+        if m == 0 {
+            return Err(Refused(3));
+        }
+        let end = start + places.len();
+        if end + m > self.n || !all(&self.map(), end, end + m, FREE) {
+            return Err(Refused(11));
+        }
+        let (_, places) = self.open(sheet)?;
+        places.resize(places.len() + m, None);
+        self.granted += m;
+        Ok(Done)
+    }
+
+    /// The place with 9 may be any blank one; this is the lowest.
+    pub fn complete(&mut self, sheet: u32) -> Result<Answer, Answer> {
+        let (start, places) = self.open(sheet)?;
+        if let Some(place) = places.iter().position(|place| place.is_none()) {
+            return Err(Blank(place));
+        }
+        let payloads = places.iter().flatten().cloned().collect();
+        *self.sheet(sheet)? = Sheet::Complete { start, payloads };
+        Ok(Done)
+    }
+
+    pub fn pause(&mut self, sheet: u32) -> Result<Answer, Answer> {
+        *self.absent(sheet)? = Sheet::Paused;
+        Ok(Done)
+    }
+
+    pub fn release(&mut self, sheet: u32) -> Result<Answer, Answer> {
+        if let Sheet::Absent = self.sheet(sheet)? {
+            return Err(Refused(5));
+        }
+        self.returned += self.extent(sheet as usize).1;
+        *self.sheet(sheet)? = Sheet::Absent;
+        Ok(Done)
+    }
+
+    pub fn show(&mut self, sheet: u32, place: u32, buffer: &mut [u8]) -> Result<Answer, Answer> {
+        match self.sheet(sheet)? {
+            Sheet::Absent => Err(Refused(5)),
+            Sheet::Paused => Err(Refused(6)),
+            Sheet::Open { .. } => Err(Refused(7)),
+            Sheet::Complete { payloads, .. } => {
+                if place as usize >= payloads.len() || buffer.len() != 496 {
+                    return Err(Refused(3));
+                }
+                buffer.copy_from_slice(&payloads[place as usize]);
+                Ok(Done)
+            }
+        }
+    }
+
+    pub fn standing(&mut self, sheet: u32) -> Result<Answer, Answer> {
+        self.sheet(sheet)?;
+        Ok(Stands(self.entry(sheet as usize)))
+    }
+}
+
+#[cfg(test)]
+mod tests {
+    use super::*;
+
+    /// A release gives the blocks back, and a new reserve has blank places, whatever was put there before.
+    #[test]
+    fn a_sheet_from_reserve_to_reserve() {
+        let mut ledger = Ledger::fresh(3, 2);
+        let buffer = &mut [0; 496];
+        assert_eq!(ledger.reserve(0, 2), Ok(Start(0)));
+        assert_eq!(ledger.put(0, 1, &[7; 496]), Ok(Done));
+        assert_eq!(ledger.complete(0), Err(Blank(0)));
+        assert_eq!(ledger.put(0, 0, &[8; 496]), Ok(Done));
+        assert_eq!(ledger.complete(0), Ok(Done));
+        assert_eq!(ledger.show(0, 1, buffer), Ok(Done));
+        assert_eq!(buffer[0], 7);
+        assert_eq!(ledger.reserve(1, 2), Err(Refused(10)));
+        assert_eq!(ledger.release(0), Ok(Done));
+        assert_eq!(ledger.reserve(1, 2), Ok(Start(0)));
+        assert!(ledger.is_blank(1, 0) && ledger.is_blank(1, 1) && !ledger.is_blank(1, 2));
+        assert_eq!((ledger.granted, ledger.returned), (4, 2));
+        assert_eq!(ledger.free_count(), 1);
+    }
+}

@@ -1,0 +1,9 @@
+//! Document 01 worked out bit by bit, to hold the proved library against. Nothing here is shared with the crates.
+
+pub mod blocks;
+pub mod calls;
+pub mod card;
+pub mod image;
+pub mod ledger;
+pub mod map;
+pub mod random;
