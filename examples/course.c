@@ -1,0 +1,181 @@
+/*
+ * A course of treatment, from an empty card on: the first page of the library's manual.
+ *
+ * The program keeps a card of 8 blocks and 4 sheets. After every call it prints what the call answered, and on the right
+ * which sheet holds each block of the card ('.' is free). Three things are to be seen in that column and in the answers,
+ * whatever is called: a sheet with a blank place is neither completed, shown nor taken for a pause; each block has one
+ * sheet at most; and a reserve is told that the card is full only when no run of free blocks is long enough.
+ *
+ *     examples/run        builds it, and compares what it prints with course.txt
+ */
+#include "pagunlit.h"
+
+#include <stdio.h>
+#include <string.h>
+
+enum { BLOCKS = 8, SHEETS = 4, WORDS = PAGUNLIT_MAP_WORDS(BLOCKS) };
+
+/* All that the library works on belongs to the program. The shape is handed from call to call. */
+static pagunlit_shape shape;
+static uint64_t map[WORDS];
+static pagunlit_entry catalogue[SHEETS];
+static uint8_t card[BLOCKS * PAGUNLIT_BLOCK];
+
+/* What stands in the place of block b: '.' if it is free, or the number of its sheet. Two sheets would show as '!'. */
+static char holder(uint32_t b)
+{
+    char c = map[b / 64] >> (63 - b % 64) & 1 ? '.' : '?';
+
+    for (uint32_t sheet = 0; sheet < SHEETS; sheet++) {
+        const pagunlit_entry *e = &catalogue[sheet];
+
+        if (e->start <= b && b < e->start + e->length)
+            c = c == '?' ? (char)('0' + sheet) : '!';
+    }
+    return c;
+}
+
+static const char *meaning(pagunlit_outcome outcome)
+{
+    static char text[40];
+
+    switch (outcome.number) {
+    case 0: return "done";
+    case 7: return "refused, 7: the sheet is open";
+    case 9: snprintf(text, sizeof text, "refused, 9: place %u is blank", outcome.first); return text;
+    case 10: return "refused, 10: no run is long enough";
+    default: snprintf(text, sizeof text, "refused, %u", outcome.number); return text;
+    }
+}
+
+/* Prints a line, and keeps the shape for the next call. */
+static void told(const char *call, pagunlit_outcome outcome)
+{
+    char blocks[BLOCKS + 1] = {0};
+
+    shape = outcome.shape;
+    for (uint32_t b = 0; b < BLOCKS; b++)
+        blocks[b] = holder(b);
+    printf("  %-26s %-36s %s\n", call, meaning(outcome), blocks);
+}
+
+/* The calls, each lent what it needs. */
+
+static void fresh(void)
+{
+    told("fresh", pagunlit_fresh(shape, BLOCKS, map, WORDS, catalogue, SHEETS));
+}
+
+static void reserve(uint32_t sheet, uint32_t places)
+{
+    char call[40];
+
+    snprintf(call, sizeof call, "reserve sheet %u, places %u", sheet, places);
+    told(call, pagunlit_reserve(shape, map, WORDS, catalogue, SHEETS, card, sizeof card, sheet, places));
+}
+
+/* A payload is 496 bytes: here a line of text, and zeros behind it. */
+static void put(uint32_t sheet, uint32_t place, const char *line)
+{
+    uint8_t payload[PAGUNLIT_PAYLOAD] = {0};
+    char call[40];
+
+    memcpy(payload, line, strlen(line));
+    snprintf(call, sizeof call, "put sheet %u, place %u", sheet, place);
+    told(call, pagunlit_put(shape, map, WORDS, catalogue, SHEETS, card, sizeof card, sheet, place, payload, sizeof payload));
+}
+
+static void complete(uint32_t sheet)
+{
+    char call[40];
+
+    snprintf(call, sizeof call, "complete sheet %u", sheet);
+    told(call, pagunlit_complete(shape, map, WORDS, catalogue, SHEETS, card, sizeof card, sheet));
+}
+
+static void pause_sheet(uint32_t sheet)
+{
+    char call[40];
+
+    snprintf(call, sizeof call, "pause sheet %u", sheet);
+    told(call, pagunlit_pause(shape, map, WORDS, catalogue, SHEETS, sheet));
+}
+
+static void release(uint32_t sheet)
+{
+    char call[40];
+
+    snprintf(call, sizeof call, "release sheet %u", sheet);
+    told(call, pagunlit_release(shape, map, WORDS, catalogue, SHEETS, sheet));
+}
+
+static void show(uint32_t sheet, uint32_t place)
+{
+    uint8_t buffer[PAGUNLIT_PAYLOAD];
+    char call[40];
+    pagunlit_outcome outcome =
+        pagunlit_show(shape, map, WORDS, catalogue, SHEETS, card, sizeof card, sheet, place, buffer, sizeof buffer);
+
+    snprintf(call, sizeof call, "show sheet %u, place %u", sheet, place);
+    told(call, outcome);
+    if (outcome.number == 0)
+        printf("      \"%s\"\n", (const char *)buffer);
+}
+
+/* What stands for each sheet. */
+static void standings(void)
+{
+    for (uint32_t sheet = 0; sheet < SHEETS; sheet++) {
+        pagunlit_outcome s = pagunlit_standing(shape, map, WORDS, catalogue, SHEETS, sheet);
+
+        printf("      sheet %u: %c, start %u, length %u\n", sheet, (char)s.first, s.second, s.third);
+    }
+}
+
+/* How full the card is. */
+static void survey(void)
+{
+    pagunlit_outcome s = pagunlit_survey(shape, map, WORDS);
+
+    printf("      free blocks %u, runs of them %u, longest run %u\n", s.first, s.second, s.third);
+}
+
+int main(void)
+{
+    puts("An empty card: all blocks are free, all sheets Absent.");
+    fresh();
+    survey();
+
+    puts("A prescription of three lines. Until all are there, it is Open: neither complete, nor shown, nor a pause.");
+    reserve(0, 3);
+    put(0, 0, "days 1 to 7: two tablets at 8, one at 20");
+    put(0, 2, "from day 15 on: none");
+    complete(0);
+    show(0, 0);
+    pause_sheet(0);
+    put(0, 1, "days 8 to 14: one tablet at 8");
+    complete(0);
+    show(0, 1);
+
+    puts("A pause is its own standing, without blocks.");
+    pause_sheet(1);
+    standings();
+
+    puts("The card fills up, and is called full when it is.");
+    reserve(2, 5);
+    survey();
+    reserve(3, 1);
+
+    puts("The first course is over: its blocks are free for the next, in which no old line passes for a new one.");
+    release(0);
+    reserve(3, 4);
+    reserve(3, 2);
+    put(3, 0, "days 1 to 3: one tablet at 8");
+    complete(3);
+    put(3, 1, "from day 4 on: none");
+    complete(3);
+    show(3, 0);
+    standings();
+    survey();
+    return 0;
+}
