@@ -13,10 +13,26 @@ use bitwise::random::Random;
 const MARKS: [u32; 4] = [0x41, 0x50, 0x4f, 0x43];
 const OTHER_MARKS: [u32; 6] = [0, 1, 0x42, 0x6f, 0x4f4f, 0x4300_0000];
 
-/// Random damage, and some calls on what is left.
+/// Random damage to a small card, and some calls on what is left.
 pub fn damaged(seed: u64, margin: usize, counts: &mut Counts) -> Result<(), String> {
     let mut random = Random::of(seed);
-    let (n, c) = small_size(&mut random);
+    let size = small_size(&mut random);
+    damaged_card(size, margin, random, counts)
+}
+
+/// The same with a card of full size.
+pub fn damaged_full(seed: u64, margin: usize, counts: &mut Counts) -> Result<(), String> {
+    let mut random = Random::of(seed);
+    let n = random.one(&[262144, 262143, 262081]);
+    damaged_card((n, 1024), margin, random, counts)
+}
+
+fn damaged_card(
+    (n, c): (usize, usize),
+    margin: usize,
+    random: Random,
+    counts: &mut Counts,
+) -> Result<(), String> {
     let generator = &mut Generator::new(random);
     let card = &mut state(n, c, generator);
     let log = &mut format!("a card of {n} blocks and {c} sheets after some calls\n");

@@ -62,6 +62,7 @@ const GROUPS: &[Group] = &[
     Group {
         parts: &[
             part("damaged", damage::damaged, 20000, 2000, 1500),
+            part("damaged-full", damage::damaged_full, 2, 1, 0),
             part("lengths", |_, margin, counts| damage::lengths(margin, counts), 1, 0, 0),
             part("limits", |_, margin, counts| damage::limits(margin, counts), 1, 0, 0),
             part("states", |_, margin, counts| damage::states(3, margin, counts), 1, 0, 0),
