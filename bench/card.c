@@ -402,6 +402,55 @@ static const struct way SEALS[] = {{"library", ours_seal}, {"byte by byte", byte
 static const struct way CHECKS[] = {{"library", ours_check}, {"byte by byte", bytes_check}, {"zlib's adler32", zlib_check}};
 static const struct way COMPLETES[] = {{"library", ours_complete}, {"byte by byte", bytes_complete}, {"zlib's adler32", zlib_complete}};
 
+// Save and load of a full card, beside copying the image and beside the sums of its frames alone.
+
+enum { IMAGE = PAGUNLIT_IMAGE_BYTES(BLOCKS, PAGUNLIT_SHEETS) };
+
+static pagunlit_shape full;
+static uint64_t full_map[BLOCKS / 64], scratch[BLOCKS / 64];
+static pagunlit_entry full_catalogue[PAGUNLIT_SHEETS];
+static uint8_t image[IMAGE], copy[IMAGE];
+
+// Every sheet holds 256 blocks, so that no block is free.
+static void fill_card(void) {
+    full = (pagunlit_shape){BLOCKS, 0};
+    memset(full_map, 0, sizeof full_map);
+    for (uint32_t s = 0; s < PAGUNLIT_SHEETS; s++)
+        full_catalogue[s] = (pagunlit_entry){s % 2 == 0 ? PAGUNLIT_OPEN : PAGUNLIT_COMPLETE, BLOCKS / PAGUNLIT_SHEETS * s, BLOCKS / PAGUNLIT_SHEETS};
+}
+
+static uint32_t ours_save(uint32_t unused) {
+    return unused + pagunlit_save(full, full_map, BLOCKS / 64, full_catalogue, PAGUNLIT_SHEETS, scratch, BLOCKS / 64, image, IMAGE).number;
+}
+
+static uint32_t ours_load(uint32_t unused) {
+    return unused + pagunlit_load(full, image, IMAGE, full_map, BLOCKS / 64, full_catalogue, PAGUNLIT_SHEETS, scratch, BLOCKS / 64).number;
+}
+
+static uint32_t copy_image(uint32_t unused) {
+    memcpy(copy, image, IMAGE);
+    sink += copy[sink % IMAGE];
+    return unused;
+}
+
+static inline uint32_t frame_sums(uint32_t (*sums)(const uint8_t *, size_t)) {
+    uint32_t wrong = 0;
+    for (size_t frame = 0; frame < IMAGE; frame += PAGUNLIT_BLOCK) wrong += !others_check(image + frame, sums);
+    return wrong;
+}
+
+static uint32_t zlib_frames(uint32_t unused) {
+    return unused + frame_sums(zlib_sums);
+}
+
+static uint32_t our_frames(uint32_t unused) {
+    for (size_t frame = 0; frame < IMAGE; frame += PAGUNLIT_BLOCK) unused += check(image + frame, PAGUNLIT_BLOCK) != 1;
+    return unused;
+}
+
+static const struct way SAVES[] = {{"library", ours_save}, {"memcpy", copy_image}, {"check of frames", our_frames}, {"adler32 of them", zlib_frames}};
+static const struct way LOADS[] = {{"library", ours_load}, {"memcpy", copy_image}, {"check of frames", our_frames}, {"adler32 of them", zlib_frames}};
+
 // The tables.
 
 static void aged_cards(void) {
@@ -454,6 +503,13 @@ static void sealed_blocks(void) {
     line("complete, 256 places", COMPLETES, 3, PLACES, 1);
 }
 
+static void images(void) {
+    fill_card();
+    heading("a full card of 262,144 blocks and 1,024 sheets", SAVES, 4);
+    line("save", SAVES, 4, 0, 1);
+    line("load", LOADS, 4, 0, 1);
+}
+
 int main(void) {
     card = calloc(BLOCKS, PAGUNLIT_BLOCK);
     if (card == NULL) give_up("no memory for a card");
@@ -461,5 +517,6 @@ int main(void) {
     aged_cards();
     sizes();
     sealed_blocks();
+    images();
     return 0;
 }

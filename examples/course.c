@@ -21,6 +21,10 @@ static uint64_t map[WORDS];
 static pagunlit_entry catalogue[SHEETS];
 static uint8_t card[BLOCKS * PAGUNLIT_BLOCK];
 
+/* For save and load: the image of the map and the catalogue, and a scratch as long as the map. */
+static uint8_t image[PAGUNLIT_IMAGE_BYTES(BLOCKS, SHEETS)];
+static uint64_t scratch[WORDS];
+
 /* What stands in the place of block b: '.' if it is free, or the number of its sheet. Two sheets would show as '!'. */
 static char holder(uint32_t b)
 {
@@ -44,6 +48,7 @@ static const char *meaning(pagunlit_outcome outcome)
     case 7: return "refused, 7: the sheet is open";
     case 9: snprintf(text, sizeof text, "refused, 9: place %u is blank", outcome.first); return text;
     case 10: return "refused, 10: no run is long enough";
+    case 13: return "refused, 13: the image is damaged";
     default: snprintf(text, sizeof text, "refused, %u", outcome.number); return text;
     }
 }
@@ -122,6 +127,24 @@ static void show(uint32_t sheet, uint32_t place)
         printf("      \"%s\"\n", (const char *)buffer);
 }
 
+static void save(void)
+{
+    told("save", pagunlit_save(shape, map, WORDS, catalogue, SHEETS, scratch, WORDS, image, sizeof image));
+}
+
+static void load(void)
+{
+    told("load", pagunlit_load(shape, image, sizeof image, map, WORDS, catalogue, SHEETS, scratch, WORDS));
+}
+
+/* The power is off: nothing is left but the card and the image. */
+static void forget(void)
+{
+    memset(map, 0, sizeof map);
+    memset(catalogue, 0, sizeof catalogue);
+    memset(&shape, 0, sizeof shape);
+}
+
 /* What stands for each sheet. */
 static void standings(void)
 {
@@ -176,6 +199,16 @@ int main(void)
     complete(3);
     show(3, 0);
     standings();
+    survey();
+
+    puts("Map and catalogue are saved, and loaded when the power is back. A damaged image is not taken for one.");
+    save();
+    forget();
+    image[100] ^= 1;
+    load();
+    image[100] ^= 1;
+    load();
+    show(3, 1);
     survey();
     return 0;
 }

@@ -75,7 +75,7 @@ pub(crate) fn sums(bytes: &[u8]) -> (u32, u32) {
 }
 
 /// The sealed block of a sheet, a place and a payload.
-fn sealed(sheet: u32, place: u32, payload: &[u8]) -> Vec<u8> {
+pub fn sealed(sheet: u32, place: u32, payload: &[u8]) -> Vec<u8> {
     let mut block = [&sheet.to_be_bytes(), &place.to_be_bytes(), payload].concat();
     let (a, b) = sums(&block);
     block.extend(a.to_be_bytes());

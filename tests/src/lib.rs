@@ -6,4 +6,5 @@ pub mod card;
 pub mod image;
 pub mod ledger;
 pub mod map;
+pub mod printer;
 pub mod random;

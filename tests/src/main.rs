@@ -2,16 +2,30 @@
 //!
 //!     cargo run --release --offline --manifest-path tests/Cargo.toml -- map
 //!     cargo run --release --offline --manifest-path tests/Cargo.toml -- calls
+//!
+//! `image` writes the card printer's example image, `print` prints what the printer must print of the image on standard
+//! input, and `printer PROGRAM` runs a card printer on many images and compares.
 
-use bitwise::{calls, map};
+use bitwise::{calls, map, printer};
+use std::io::{Read, Write};
 
 fn main() {
     let set = std::env::args().nth(1);
     match set.as_deref() {
         Some("map") => print!("{}", map::examples()),
         Some("calls") => print!("{}", calls::examples()),
+        Some("image") => std::io::stdout().write_all(&printer::example()).unwrap(),
+        Some("print") => {
+            let mut image = Vec::new();
+            std::io::stdin().read_to_end(&mut image).unwrap();
+            print!("{}", printer::text(&image));
+        }
+        Some("printer") => {
+            let program = std::env::args().nth(2).expect("the program to run");
+            std::process::exit(!printer::holds(&program) as i32);
+        }
         _ => {
-            eprintln!("usage: bitwise map | calls");
+            eprintln!("usage: bitwise map | calls | image | print | printer PROGRAM");
             std::process::exit(2);
         }
     }

@@ -2,7 +2,6 @@
 
 use crate::call::{Call, NAMES};
 use bitwise::card::{Answer, Card};
-#[cfg(feature = "image")]
 use std::collections::BTreeMap;
 
 /// The rows in their order. Row 4 is there three times.
@@ -15,7 +14,6 @@ pub struct Counts {
     pub calls: u64,
     answers: [[u64; ROWS.len()]; NAMES.len()],
     /// Saves and loads, by what was tried and the answer.
-    #[cfg(feature = "image")]
     images: BTreeMap<(&'static str, String), u64>,
 }
 
@@ -93,7 +91,6 @@ impl Counts {
     }
 }
 
-#[cfg(feature = "image")]
 impl Counts {
     pub fn note_image(&mut self, tried: &'static str, answer: Answer) {
         let answer = match answer {

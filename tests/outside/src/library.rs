@@ -78,7 +78,6 @@ mod c {
         pub fn check(block: *const u8, blocklen: usize) -> u32;
     }
 
-    #[cfg(feature = "image")]
     extern "C" {
         pub fn pagunlit_save(shape: Shape, map: *const u64, maplen: usize, catalogue: *const Entry, cataloguelen: usize, scratch: *mut u64, scratchlen: usize, image: *mut u8, imagelen: usize) -> Outcome;
         pub fn pagunlit_load(shape: Shape, image: *const u8, imagelen: usize, map: *mut u64, maplen: usize, catalogue: *mut Entry, cataloguelen: usize, scratch: *mut u64, scratchlen: usize) -> Outcome;
@@ -198,12 +197,10 @@ impl Library {
         unsafe { c::pagunlit_standing(self.shape, self.map.at(), self.map.len(), self.catalogue.at(), self.catalogue.len(), sheet) }
     }
 
-    #[cfg(feature = "image")]
     pub fn save(&mut self, scratch: &mut Lent<u64>, image: &mut Lent<u8>) -> Outcome {
         unsafe { c::pagunlit_save(self.shape, self.map.at(), self.map.len(), self.catalogue.at(), self.catalogue.len(), scratch.at(), scratch.len(), image.at(), image.len()) }
     }
 
-    #[cfg(feature = "image")]
     pub fn load(&mut self, image: &mut Lent<u8>, scratch: &mut Lent<u64>) -> Outcome {
         unsafe { c::pagunlit_load(self.shape, image.at(), image.len(), self.map.at(), self.map.len(), self.catalogue.at(), self.catalogue.len(), scratch.at(), scratch.len()) }
     }

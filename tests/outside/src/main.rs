@@ -11,7 +11,6 @@ mod call;
 mod counts;
 mod damage;
 mod generate;
-#[cfg(feature = "image")]
 mod images;
 mod library;
 mod lists;
@@ -75,7 +74,6 @@ const GROUPS: &[Group] = &[
         report: |_| Ok(()),
     },
     // Save and load.
-    #[cfg(feature = "image")]
     Group {
         parts: &[
             part("images", images::images, 2000, 200, 60),
