@@ -4,30 +4,34 @@
  * stands for each sheet: Absent, Paused, Open or Complete, and the run of blocks that it holds.
  *
  * The caller owns all memory. Each call is lent what it needs: a pointer and the number of elements behind it (words of a
- * map, entries of a catalogue, bytes of a card). No two slices of one call may overlap, unless both are const. A pointer
- * may be anything that is not NULL where its length is 0. Nothing is kept from one call to the next: the shape that a call
- * hands back goes into the next call, with the same map, catalogue and card.
+ * map, entries of a catalogue, bytes of a card). A length is no more than the memory behind its pointer. A pointer is not
+ * NULL and is aligned for its type, even where its length is 0. No two slices of one call may overlap, unless both are
+ * const. Nothing is kept from one call to the next: the shape that a call hands back goes into the next call, with the same
+ * map, catalogue and card. So calls may be made from any thread, as long as no other writes to what is lent meanwhile.
  *
  * Every call may be made with any numbers and any contents. It gives back a pagunlit_outcome:
  *
  *   number 0    done; first, second and third have the values that the call answers, 0 where there are none
- *   number 1    the shape's blocks are not 1 to 262144, or the sheets not 1 to 1024; its free count is above its blocks;
- *               or a map, a card, a scratch (for load also the catalogue) has the wrong length
+ *   number 1    the blocks (of the shape; for fresh, the argument) are not 1 to 262144, or the sheets not 1 to 1024; the
+ *               free count is above the blocks; or a map, a card, a scratch (for load also the catalogue) has the wrong
+ *               length
  *   number 2    there is no such sheet in the catalogue
  *   number 3    a count of 0; a place that the sheet does not have; a payload or a buffer that is not 496 bytes long
- *   number 4    damage: an entry that cannot be, a block that is not sound, a free count that contradicts the call
+ *   number 4    damage: an entry that cannot be, a block that is not sound, a free count that contradicts the call;
+ *               save: the state is not sound
  *   number 5    the sheet is Absent, and the call does not admit that
  *   number 6    it is Paused
  *   number 7    it is Open
  *   number 8    it is Complete
  *   number 9    complete: a place is blank, and first has one
  *   number 10   search and reserve: no run of free blocks is long enough
- *   number 11   grow: the next blocks are not all free
+ *   number 11   grow: the next blocks are not all free, or go past the card's last
  *   number 12   save: the buffer is not exactly as long as the image; load: not 1 to 91 whole blocks
  *   number 13   load: a frame's number, total or check is wrong
  *   number 14   load: the contents cannot be
  *
- * A number that is not 0 is a refusal: the shape comes back as it was, and nothing that was lent is changed but a scratch.
+ * A number that is not 0 is a refusal: the shape comes back as it was, nothing that was lent is changed but a scratch, and
+ * the values are 0, but for the place with 9.
  * If several hold, the answer is the first in the order 1, 2, 4 for the entry, 5 to 8, 3, 4 for blocks, 9, 10 or 11, 4 for
  * the count; save goes by 1, 4, 12, and load by 12, 13, 14 for the head, 1, 14 for the rest.
  */
@@ -129,12 +133,13 @@ pagunlit_outcome pagunlit_save(pagunlit_shape shape, const uint64_t *map, size_t
                                size_t cataloguelen, uint64_t *scratch, size_t scratchlen, uint8_t *image,
                                size_t imagelen);
 
-/* Reads an image into a map and a catalogue of the lengths that it asks for, and hands back its shape. Nothing is written
- * but the scratch, which is all zeros afterwards, unless all of the image is sound. It reads nothing of the shape. */
+/* Reads an image into a map and a catalogue of the lengths that it asks for, and hands back its shape. The image's blocks
+ * stand in its bytes 8 to 11 and its sheets in bytes 16 to 19, the high byte first. Nothing is written but the scratch, which is all zeros afterwards, unless all of the image is sound. It reads nothing of the shape. */
 pagunlit_outcome pagunlit_load(pagunlit_shape shape, const uint8_t *image, size_t imagelen, uint64_t *map, size_t maplen,
                                pagunlit_entry *catalogue, size_t cataloguelen, uint64_t *scratch, size_t scratchlen);
 
-/* Writes the sealed block of a sheet, a place and a payload. Gives 0, or 3 unless payload has 496 bytes and block 512. */
+/* Writes the sealed block of a sheet, a place and a payload. Gives 0, or 3 unless payload has 496 bytes and block 512;
+ * with 3 nothing is changed. */
 uint32_t seal(uint32_t sheet, uint32_t place, const uint8_t *payload, size_t payloadlen, uint8_t *block, size_t blocklen);
 
 /* Gives 1 if the check of a block holds, else 0; 3 unless the block has 512 bytes. */

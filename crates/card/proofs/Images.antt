@@ -1,16 +1,17 @@
 -- The saved image, of a shape's methods (document 01, "Saved image"). What a save was given, a load of what it wrote gives back:
--- shape, map and entries (`saved-loads`). An image that load accepts is the image of what it gives, so it is the only one, and a
--- save writes it again (`loaded-only`). A refusal changes nothing but the scratch (`save-refused`, `load-refused`).
+-- shape, map and entries (`saved-loads`). An image that load accepts is the image of what it gives, so it is the only one
+-- (`loaded-only`), and a save writes it again (`loaded-saves`). A refusal hands the shape back as it came and changes nothing but
+-- the scratch (`save-refused`, `load-refused`).
 -- Assumes nothing.
-use mathlib.Core.Path.{_≡_, refl, sym, ap, ap₂, _∙_}
+use mathlib.Core.Path.{_≡_, refl, sym, ap, subst, _∙_}
 use mathlib.Core.Bool.{Bool, true, false, cond}
 use mathlib.Core.List.{List}
 use Prim.Native.Nat.{ℕ}
 use native.Mathlib.Omega.{arith}
 use lib.Dec.{eqb}
 use lib.ListN.{length, replicate}
-use borrow.Author.Tests.{eqb-true}
-use Rattle.standings.specs.Rows.{Verdict, refused, settle}
+use borrow.Author.Tests.{eqb-true, ne-eqb}
+use Rattle.standings.specs.Rows.{Verdict, accepted, refused, settle}
 use Rattle.standings.specs.declared.Answer.{Answer}
 use Rattle.standings.specs.declared.Answer.the-variants.{Done, Start, Stands, Counted, Blank, Refused}
 use Rattle.catalogue.specs.declared.Entry.{Entry}
@@ -22,12 +23,16 @@ use Rattle.image.specs.Table.{saveVerdict, loadVerdict}
 use Rattle.image.specs.declared.Loaded.{Loaded}
 use Rattle.image.proofs.Journey.{Words}
 use Rattle.image.proofs.ReturnJourney as journey
+use Rattle.image.proofs.Verdicts.{load-accepted}
 use Rattle.card.specs.declared.Outcome.{Outcome}
 use Rattle.card.specs.declared.Shape.{Shape}
 use Rattle.card.specs.Calls.{told, isDone, saveOutcome, loadOutcome}
 
 abbrev stateOf : Shape → List ℕ → List Entry → State
 stateOf shape map entries = record { blocks = shape .blocks; spare = shape .free; entries = entries; map = map }
+
+never-accepted : (number : ℕ) → refused number ≡ accepted → ⊥
+never-accepted number e = let z : _≡_ {A = ℕ} 0 1 = cc in omega arith
 
 never-done : false ≡ true → ⊥
 never-done e = let z : _≡_ {A = ℕ} 1 0 = ap (λ (x : Bool). cond x 0 1) e in omega arith
@@ -82,14 +87,33 @@ module _ (shape : Shape) (image map : List ℕ) (entries : List Entry) (scratch 
       let z = done-load shape given d in
       ap (λ (s : Shape). imageOf (stateOf s (loadMap image map entries scratch) (loadEntries image map entries scratch))) (same-shape z) ∙ journey.loaded-only image map entries scratch bytes z
 
--- a refusal changes nothing but the scratch
-pub save-refused : (shape : Shape) (map : List ℕ) (entries : List Entry) (scratch buffer : List ℕ) (number : ℕ)
-    → saveVerdict (stateOf shape map entries) (length scratch) (length buffer) ≡ refused number → saveBuffer (shape .blocks) (shape .free) map entries scratch buffer ≡ buffer
-unfolding saveBuffer
-save-refused shape map entries scratch buffer number v = ap (λ (w : Verdict). settle w (imageOf (stateOf shape map entries)) (λ k. buffer)) v
+  -- a save of what was loaded is done, and writes the image again
+  pub loaded-saves : isDone (handed .answer) ≡ true → (other buffer : List ℕ) → length other ≡ length (loadMap image map entries scratch) → length buffer ≡ length image
+      → (saveOutcome (handed .shape) (saveNumber (handed .shape .blocks) (handed .shape .free) (loadMap image map entries scratch) (loadEntries image map entries scratch) other buffer) ≡ told (handed .shape) Done)
+      × (saveBuffer (handed .shape .blocks) (handed .shape .free) (loadMap image map entries scratch) (loadEntries image map entries scratch) other buffer ≡ image)
+  loaded-saves d other buffer lo lb =
+      let z = done-load shape given d in
+      let again = journey.loaded-saves image map entries scratch bytes z other buffer lo lb in
+      subst (λ (s : Shape). (saveOutcome s (saveNumber (s .blocks) (s .free) (loadMap image map entries scratch) (loadEntries image map entries scratch) other buffer) ≡ told s Done)
+      × (saveBuffer (s .blocks) (s .free) (loadMap image map entries scratch) (loadEntries image map entries scratch) other buffer ≡ image))
+      (sym (same-shape z))
+      (ap (λ (k : ℕ). saveOutcome (record { blocks = given .blocks; free = given .free }) k) (again .0), again .1)
 
-pub load-refused : (image map : List ℕ) (entries : List Entry) (scratch : List ℕ) (number : ℕ) → loadVerdict image (length map) (length entries) (length scratch) ≡ refused number
-    → (loadMap image map entries scratch ≡ map) × (loadEntries image map entries scratch ≡ entries)
-unfolding loadMap loadEntries
-load-refused image map entries scratch number v =
-    (ap (λ (w : Verdict). settle w (stateIn image .map) (λ k. map)) v, ap (λ (w : Verdict). settle w (stateIn image .entries) (λ k. entries)) v)
+-- a refusal hands the shape back as it came and changes nothing but the scratch
+pub save-refused : (shape : Shape) (map : List ℕ) (entries : List Entry) (scratch buffer : List ℕ) (number : ℕ)
+    → saveVerdict (stateOf shape map entries) (length scratch) (length buffer) ≡ refused number
+    → (saveOutcome shape (saveNumber (shape .blocks) (shape .free) map entries scratch buffer) .shape ≡ shape) × (saveBuffer (shape .blocks) (shape .free) map entries scratch buffer ≡ buffer)
+unfolding saveBuffer
+save-refused shape map entries scratch buffer number v = (refl, ap (λ (w : Verdict). settle w (imageOf (stateOf shape map entries)) (λ k. buffer)) v)
+
+pub load-refused : (shape : Shape) (image map : List ℕ) (entries : List Entry) (scratch : List ℕ) (number : ℕ) → loadVerdict image (length map) (length entries) (length scratch) ≡ refused number
+    → (loadOutcome shape (loadResult image map entries scratch) ≡ told shape (Refused number)) × (loadMap image map entries scratch ≡ map) × (loadEntries image map entries scratch ≡ entries)
+unfolding loadResult loadMap loadEntries
+load-refused shape image map entries scratch number v =
+    let some : eqb number 0 ≡ false =
+    ne-eqb number 0 (λ z. never-accepted number (sym v ∙ load-accepted image (length map) (length entries) (length scratch) (ap numberOf v ∙ z))) in (
+      ap (λ (w : Verdict). loadOutcome shape (settle w (record { number = 0; blocks = stateIn image .blocks; free = stateIn image .spare }) (λ k. record { number = k; blocks = 0; free = 0 }))) v
+          ∙ ap (λ (t : Bool). cond t (told (record { blocks = 0; free = 0 }) Done) (told shape (Refused number))) some,
+      ap (λ (w : Verdict). settle w (stateIn image .map) (λ k. map)) v,
+      ap (λ (w : Verdict). settle w (stateIn image .entries) (λ k. entries)) v,
+    )

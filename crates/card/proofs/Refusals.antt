@@ -2,24 +2,26 @@
 -- for each call that may change something, what its contract says where its verdict is a refusal.
 -- Assumes nothing.
 use mathlib.Core.Path.{_≡_, ap, _∙_}
-use mathlib.Core.Bool.{false, true, cond}
+use mathlib.Core.Bool.{Bool, false, true, cond}
 use mathlib.Core.List.{List}
 use Prim.Native.Nat.{ℕ, _+_, _-_}
 use lib.Dec.{eqb}
 use lib.ListN.{length, set}
+use Rattle.freemap.specs.Maps as maps
 use Rattle.freemap.specs.Maps.{marked}
 use Rattle.block.specs.Card.{blockOf, withBlock, zeroed}
 use Rattle.block.specs.Sealed.{sealed, payloadOf}
-use Rattle.catalogue.specs.Entries.{entryAt, slotAt}
+use Rattle.catalogue.specs.Entries.{entryAt, slotAt, clearedIf}
 use Rattle.catalogue.specs.declared.Entry.{Entry}
 use Rattle.catalogue.proofs.Storing.{stored-back}
 use Rattle.calls.specs.Effects as effects
+use Rattle.standings.specs.Limits.{freshFits}
 use Rattle.standings.specs.Rows.{Verdict, refused, settle}
 use Rattle.standings.specs.declared.Answer.{Answer}
 use Rattle.standings.specs.declared.Answer.the-variants.{Done, Start, Blank, Refused}
 use Rattle.calls.specs.declared.Out.{Out}
 use Rattle.card.specs.declared.Shape.{Shape}
-use Rattle.card.specs.Calls.{entryOf, outcomeOf, told, reserveOut, reserveMap, reserveCard, growOut, growMap, growCard, putOutcome, putCard, completeOut, pauseOut, releaseOut, releaseMap, showOutcome, showBuffer}
+use Rattle.card.specs.Calls.{entryOf, outcomeOf, told, acceptedOf, freshOutcome, freshMap, reserveOut, reserveMap, reserveCard, growOut, growMap, growCard, putOutcome, putCard, completeOut, pauseOut, releaseOut, releaseMap, showOutcome, showBuffer}
 
 -- a call that stores an entry: the shape and every entry are as they were
 pub record Unchanged (shape : Shape) (entries : List Entry) (sheet : ℕ) (answer : Answer) (out : Out) : Type 0 where
@@ -107,3 +109,13 @@ module _ (shape : Shape) (map card : List ℕ) (entries : List Entry) (sheet num
     ap (λ (v : Verdict). told shape (settle v Done Refused)) h,
     ap (λ (v : Verdict). settle v (payloadOf (blockOf card (e .start + place))) (λ number. buffer)) h,
   )
+
+-- fresh too
+pub fresh-refused : (shape : Shape) (blocks : ℕ) (map : List ℕ) (entries : List Entry) → freshFits blocks (length map) (length entries) ≡ false
+    → (freshOutcome shape blocks map (length entries) ≡ told shape (Refused 1)) × (freshMap shape blocks map (length entries) ≡ map)
+    × (clearedIf entries (acceptedOf (freshOutcome shape blocks map (length entries))) ≡ entries)
+fresh-refused shape blocks map entries e = (
+  ap (λ (t : Bool). cond t (told (record { blocks = blocks; free = blocks }) Done) (told shape (Refused 1))) e,
+  ap (λ (t : Bool). cond t (maps.freshMap blocks (length map)) map) e,
+  ap (λ (t : Bool). clearedIf entries (acceptedOf (cond t (told (record { blocks = blocks; free = blocks }) Done) (told shape (Refused 1))))) e,
+)

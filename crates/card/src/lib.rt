@@ -271,13 +271,13 @@ fn load_outcome(shape: Shape, loaded: Loaded) -> Outcome
 
 impl Shape {
     // Bytes of a block and of a payload; the most blocks and sheets of a card.
-    pub const BLOCK: usize = 512;
+    pub const BLOCK: usize = block::BLOCK;
 
-    pub const PAYLOAD: usize = 496;
+    pub const PAYLOAD: usize = block::PAYLOAD;
 
-    pub const BLOCKS: u32 = 262144;
+    pub const BLOCKS: u32 = standings::opening::BLOCKS;
 
-    pub const SHEETS: usize = 1024;
+    pub const SHEETS: usize = standings::opening::SHEETS;
 
     // All blocks free, all sheets Absent. It reads nothing of the shape it takes.
     pub fn fresh(self, blocks: u32, map: &mut [u64], catalogue: &mut [Entry]) -> Outcome

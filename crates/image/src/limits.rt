@@ -5,6 +5,7 @@ ghost use Rattle.image.specs.Image.{wordsFor, framesFor};
 ghost use Rattle.image.specs.Table.{saveFits, wholeBlocks, headFits, loadFits};
 use block::BLOCK;
 use block::PAYLOAD;
+use standings::opening::BLOCKS;
 use standings::opening::shape_fits;
 use standings::opening::sheets_fit;
 
@@ -57,7 +58,7 @@ pub fn whole_blocks(bytes: usize) -> bool
 pub fn head_fits(n: u32, free: u32, c: usize, total: usize) -> bool
     ensures { λ r. ⌜ r ≡ headFits n free c total ⌝ }
 {
-    if 262144 < n {
+    if BLOCKS < n {
         return false;
     }
     if !shape_fits(n, free, words_for(n)) {

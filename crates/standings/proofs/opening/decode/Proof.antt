@@ -1,4 +1,4 @@
--- `calls::opening::decode` meets its contract, mark by mark.
+-- `standings::opening::decode` meets its contract, mark by mark.
 -- Assumes nothing.
 use borrow.Author.Needs.{needs}
 use borrow.Author.Tests.{eq-eqb, ne-eqb}

@@ -1,4 +1,4 @@
--- `calls::opening::extent_holds` meets its contract, test by test.
+-- `standings::opening::extent_holds` meets its contract, test by test.
 -- Assumes nothing.
 use Prim.Native.Nat.{_+_, _<_, _≤_}
 use native.Mathlib.Omega.{arith}

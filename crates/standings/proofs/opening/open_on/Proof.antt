@@ -1,4 +1,4 @@
--- `calls::opening::open_on` meets its contract: the card's length, then the rows without it.
+-- `standings::opening::open_on` meets its contract: the card's length, then the rows without it.
 -- Assumes nothing.
 use mathlib.Core.Path.{_≡_, refl, sym, ap, _∙_}
 use mathlib.Core.Bool.{Bool, true, false, _&&_}

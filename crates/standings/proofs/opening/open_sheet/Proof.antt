@@ -1,4 +1,4 @@
--- `calls::opening::open_sheet` meets its contract, row by row.
+-- `standings::opening::open_sheet` meets its contract, row by row.
 -- Assumes nothing.
 use mathlib.Core.Path.{sym, ap, _∙_}
 use borrow.Author.Needs.{needs}

@@ -1,4 +1,4 @@
--- `calls::opening::shape_fits` meets its contract, test by test.
+-- `standings::opening::shape_fits` meets its contract, test by test.
 -- Assumes nothing.
 use borrow.Author.Needs.{needs}
 use borrow.Author.Tests.{le-leb, lt-leb}

@@ -1,4 +1,4 @@
--- `calls::opening::sheets_fit` meets its contract, test by test.
+-- `standings::opening::sheets_fit` meets its contract, test by test.
 -- Assumes nothing.
 use borrow.Author.Tests.{le-leb, lt-leb}
 use Rattle.standings.specs.Limits.{sheetsFit}

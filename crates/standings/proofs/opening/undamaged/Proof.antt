@@ -1,4 +1,4 @@
--- `calls::opening::undamaged` meets its contract, case by case.
+-- `standings::opening::undamaged` meets its contract, case by case.
 -- Assumes nothing.
 use mathlib.Core.Path.{sym, ap}
 use borrow.Author.Needs.{needs}

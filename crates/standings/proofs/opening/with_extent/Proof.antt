@@ -1,4 +1,4 @@
--- `calls::opening::with_extent` meets its contract.
+-- `standings::opening::with_extent` meets its contract.
 -- Assumes nothing.
 use mathlib.Core.Path.{sym, _∙_}
 use borrow.Author.Needs.{needs}

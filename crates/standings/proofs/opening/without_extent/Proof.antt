@@ -1,4 +1,4 @@
--- `calls::opening::without_extent` meets its contract, test by test.
+-- `standings::opening::without_extent` meets its contract, test by test.
 -- Assumes nothing.
 use borrow.Author.Tests.{eq-eqb, ne-eqb}
 use Rattle.standings.proofs.opening.without_extent.Statement.{statement}

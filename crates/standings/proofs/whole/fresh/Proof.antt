@@ -1,4 +1,4 @@
--- `calls::whole::fresh` meets its contract: refused with the map as it was, or the fresh map.
+-- `standings::whole::fresh` meets its contract: refused with the map as it was, or the fresh map.
 -- Assumes nothing.
 use mathlib.Core.Path.{_≡_, refl, sym, ap, _∙_}
 use mathlib.Core.Bool.{Bool, true, false, cond}

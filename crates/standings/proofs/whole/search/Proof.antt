@@ -1,4 +1,4 @@
--- `calls::whole::search` meets its contract: each way out by its row, and the start by what the map's search found.
+-- `standings::whole::search` meets its contract: each way out by its row, and the start by what the map's search found.
 -- Assumes nothing.
 use mathlib.Core.Path.{_≡_, sym, ap, _∙_}
 use mathlib.Core.Bool.{true, false, not}

@@ -1,4 +1,4 @@
--- `calls::whole::survey` meets its contract: row 1, or the counts of the first n blocks.
+-- `standings::whole::survey` meets its contract: row 1, or the counts of the first n blocks.
 -- Assumes nothing.
 use mathlib.Core.Path.{_≡_, sym, ap, _∙_}
 use mathlib.Core.Bool.{true, false, not}
