@@ -8,6 +8,7 @@
 
 #include "pagunlit.h"
 #include "plain.h"
+#include "random.h"
 #include "time.h"
 
 enum { BLOCKS = 262144, SHEETS = 1024, LENGTHS = 64, MOST_WAYS = 5, PLACES = 256 };
@@ -55,22 +56,6 @@ enum { KIND_COUNT = sizeof KINDS / sizeof *KINDS };
 
 // Lengths as the traces have them, for the reserves that are timed.
 static uint32_t lengths[LENGTHS];
-
-// A random number from 0 to 1: xorshift64.
-static double chance(void) {
-    static uint64_t x = 0x9e3779b97f4a7c15;
-    x ^= x << 13;
-    x ^= x >> 7;
-    x ^= x << 17;
-    return (double)(x >> 11) / (double)(1ull << 53);
-}
-
-// A random length of 1 or more with the given mean.
-static uint32_t random_length(double mean) {
-    uint32_t length = 1;
-    while (chance() * mean >= 1) length++;
-    return length;
-}
 
 static void make_bitmap(void) {
     struct ext2_super_block parameters = {0};

@@ -4,78 +4,30 @@
 #include <stdlib.h>
 #include <string.h>
 
+#include "plain.h"
+#include "random.h"
 #include "time.h"
 
 enum { BLOCKS = 262144, WORDS = BLOCKS / 64, MAPS = 8 };
-
-static const uint32_t NO_FIT = 0xffffffff;
-static const uint64_t ONES = 0xffffffffffffffff;
-
-struct counts {
-    uint32_t free, runs, longest;
-};
 
 // The crate map_bench.
 uint32_t map_bench_search(const uint64_t *map, size_t words, uint32_t n, uint32_t k);
 struct counts map_bench_survey(const uint64_t *map, size_t words, uint32_t n);
 
-static int is_free(const uint64_t *map, uint32_t block) {
-    return map[block / 64] >> (63 - block % 64) & 1;
-}
-
-// Bit by bit: counts the free blocks in a row.
-static uint32_t search_bits(const uint64_t *map, size_t words, uint32_t n, uint32_t k) {
+// The others, called as the proved ones are.
+static uint32_t bits_search(const uint64_t *map, size_t words, uint32_t n, uint32_t k) {
     (void)words;
-    uint32_t row = 0;
-    for (uint32_t b = 0; b < n; b++) {
-        row = is_free(map, b) ? row + 1 : 0;
-        if (row == k) return b + 1 - k;
-    }
-    return NO_FIT;
+    return search_bits(map, n, k);
 }
 
-// The first block from b to end - 1 whose bit, flipped where flip is ONES, is 1; end if there is none.
-static uint32_t next_bit(const uint64_t *map, uint32_t end, uint32_t b, uint64_t flip) {
-    if (b >= end) return end;
-    uint32_t i = b / 64, last = (end - 1) / 64;
-    uint64_t word = (map[i] ^ flip) & (ONES >> (b % 64));
-    while (word == 0) {
-        if (i == last) return end;
-        i++;
-        word = map[i] ^ flip;
-    }
-    uint32_t found = i * 64 + (uint32_t)__builtin_clzll(word);
-    return found < end ? found : end;
-}
-
-// The kernels' way: the next free block, the next taken one behind it, and on from there if they are too close.
-static uint32_t search_next(const uint64_t *map, size_t words, uint32_t n, uint32_t k) {
+static uint32_t runs_search(const uint64_t *map, size_t words, uint32_t n, uint32_t k) {
     (void)words;
-    uint32_t from = 0;
-    for (;;) {
-        uint32_t start = next_bit(map, n, from, 0);
-        if (k > n - start) return NO_FIT;
-        uint32_t taken = next_bit(map, start + k, start, ONES);
-        if (taken == start + k) return start;
-        from = taken + 1;
-    }
+    return search_runs(map, n, k);
 }
 
-static struct counts survey_bits(const uint64_t *map, size_t words, uint32_t n) {
+static struct counts bits_survey(const uint64_t *map, size_t words, uint32_t n) {
     (void)words;
-    struct counts counts = {0, 0, 0};
-    uint32_t row = 0;
-    for (uint32_t b = 0; b < n; b++) {
-        if (is_free(map, b)) {
-            counts.free++;
-            if (row == 0) counts.runs++;
-            row++;
-            if (row > counts.longest) counts.longest = row;
-        } else {
-            row = 0;
-        }
-    }
-    return counts;
+    return survey_bits(map, n);
 }
 
 // Maps.
@@ -99,32 +51,16 @@ enum { KIND_COUNT = sizeof KINDS / sizeof *KINDS };
 
 static uint64_t maps[MAPS][WORDS];
 
-// A random number from 0 to 1: xorshift64.
-static double chance(void) {
-    static uint64_t x = 0x9e3779b97f4a7c15;
-    x ^= x << 13;
-    x ^= x >> 7;
-    x ^= x << 17;
-    return (double)(x >> 11) / (double)(1ull << 53);
-}
-
-// A random length of 1 or more with the given mean.
-static uint32_t run_length(double mean) {
-    uint32_t length = 1;
-    while (chance() * mean >= 1) length++;
-    return length;
-}
-
 static void fill(uint64_t *map, struct kind kind) {
     memset(map, 0, WORDS * sizeof *map);
     if (kind.share == 0) return;
     double taken_mean = kind.mean * (1 - kind.share) / kind.share;
-    uint32_t b = chance() < kind.share ? 0 : run_length(taken_mean);
+    uint32_t b = chance() < kind.share ? 0 : random_length(taken_mean);
     while (b < BLOCKS) {
-        for (uint32_t left = run_length(kind.mean); left > 0 && b < BLOCKS; left--, b++) {
+        for (uint32_t left = random_length(kind.mean); left > 0 && b < BLOCKS; left--, b++) {
             map[b / 64] |= 1ull << (63 - b % 64);
         }
-        b += run_length(taken_mean);
+        b += random_length(taken_mean);
     }
 }
 
@@ -158,15 +94,15 @@ static void differ(const char *name, uint32_t k) {
 static void check_search(const char *name, uint32_t k) {
     for (int m = 0; m < MAPS; m++) {
         uint32_t start = map_bench_search(maps[m], WORDS, BLOCKS, k);
-        if (start != search_bits(maps[m], WORDS, BLOCKS, k)) differ(name, k);
-        if (start != search_next(maps[m], WORDS, BLOCKS, k)) differ(name, k);
+        if (start != bits_search(maps[m], WORDS, BLOCKS, k)) differ(name, k);
+        if (start != runs_search(maps[m], WORDS, BLOCKS, k)) differ(name, k);
     }
 }
 
 static void check_survey(const char *name) {
     for (int m = 0; m < MAPS; m++) {
         struct counts ours = map_bench_survey(maps[m], WORDS, BLOCKS);
-        struct counts bits = survey_bits(maps[m], WORDS, BLOCKS);
+        struct counts bits = bits_survey(maps[m], WORDS, BLOCKS);
         if (memcmp(&ours, &bits, sizeof ours) != 0) differ(name, 0);
     }
 }
@@ -186,7 +122,7 @@ static struct worst worst_bits, worst_next;
 
 static void time_search(const char *name, uint32_t k) {
     check_search(name, k);
-    struct search_job ours = {map_bench_search, k, 0}, bits = {search_bits, k, 0}, next = {search_next, k, 0};
+    struct search_job ours = {map_bench_search, k, 0}, bits = {bits_search, k, 0}, next = {runs_search, k, 0};
     void *jobs[] = {&ours, &bits, &next};
     double ns[3];
     least_times(3, run_search, jobs, ns);
@@ -197,7 +133,7 @@ static void time_search(const char *name, uint32_t k) {
 
 static void time_survey(const char *name) {
     check_survey(name);
-    struct survey_job ours = {map_bench_survey, 0}, bits = {survey_bits, 0};
+    struct survey_job ours = {map_bench_survey, 0}, bits = {bits_survey, 0};
     void *jobs[] = {&ours, &bits};
     double ns[2];
     least_times(2, run_survey, jobs, ns);

@@ -9,7 +9,7 @@ the walk uses nothing but that they are safe: what they ensure is a parameter of
 import re
 
 from walk.call import Arg, Call, copy
-from walk.module import Walk, imports
+from walk.module import Walk
 from walk.text import HERE, Steps, arrows, cons, paragraphs, spaced, subscript
 from walk.types import Type, Value
 
@@ -209,23 +209,10 @@ class LentArray(Walk):
         free = [(self.given.var, self.given.denotes), (self.given.machine, 'Val'), (self.all.var, self.all.denotes)]
         asks = [self.call.asks(of, [(p.block, 'ℕ')]), self.final.asks(of, free)]
         p.block = f'l{subscript(self.places[p.var])}'
-        body = paragraphs([self.signature(), self.code()] + [c.contract() for c in self.callees]
+        body = paragraphs([self.signature(), self.in_order()] + [c.contract() for c in self.callees]
                           + [f'module _ ({self.keys} : Name) where\n' + self.clauses(), self.in_hand(), self.lent_part()]
                           + asks + [self.exits(), self.walk(), self.theorem()])
-        shown = '\n'.join(f'--     {line}' for line in self.lines)
-        return f'''{self.headed()}
-{shown}
--- One walk serves every choice of the callees: it takes their names and what they ensure, of which it uses nothing.
--- Assumes `Given`.
-{imports(body, self.section)}
-
-{body}'''
-
-    def code(self):
-        body = f'seq ({self.statements[-1]}) return'
-        for s in reversed(self.statements[:-1]):
-            body = f'seq ({s})\n      ({body})'
-        return '-- ---- the code\n' + self.function(self.locals, body)
+        return self.page('One walk serves every choice of the callees: it takes their names and what they ensure, of which it uses nothing.', body)
 
     def clauses(self):
         asked = self.requires([f'(a{" .1" * i} .0)' for i in range(len(self.params))])

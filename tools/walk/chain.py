@@ -9,7 +9,7 @@ The function ensures what the calls come to, composed as they are; or, by a law,
 import re
 
 from walk.call import Arg, Call, copy
-from walk.module import Walk, imports
+from walk.module import Walk
 from walk.text import HERE, Steps, arrows, cons, facts, paragraphs, spaced, tuple_of
 from walk.types import Type, Value
 
@@ -98,21 +98,8 @@ class Chain(Walk):
         if self.by_law:
             walked = [indented(x) for x in walked]
             walked[0] = self.law() + walked[0]
-        body = paragraphs([self.signature(), self.code()] + [c.contract() for c in self.callees] + [self.meaning()] + walked)
-        shown = '\n'.join(f'--     {line}' for line in self.lines)
-        return f'''{self.headed()}
-{shown}
--- One walk serves every choice of the callees: it takes their names and what their contracts say.
--- Assumes `Given`.
-{imports(body, self.section)}
-
-{body}'''
-
-    def code(self):
-        body = f'seq ({self.statements[-1]}) return'
-        for s in reversed(self.statements[:-1]):
-            body = f'seq ({s})\n      ({body})'
-        return '-- ---- the code\n' + self.function(self.locals, body)
+        body = paragraphs([self.signature(), self.in_order()] + [c.contract() for c in self.callees] + [self.meaning()] + walked)
+        return self.page('One walk serves every choice of the callees: it takes their names and what their contracts say.', body)
 
     def meaning(self):
         """what the chain gives, and what the function ensures"""

@@ -121,6 +121,24 @@ class Walk:
         """the first words of the module"""
         return f"{SIGN} every function ({', '.join(p.text for p in self.params)}) whose code is"
 
+    def page(self, served, body):
+        """the text of the module, with its code as walks.txt has it and what one walk serves"""
+        shown = '\n'.join(f'--     {line}' for line in self.lines)
+        return f'''{self.headed()}
+{shown}
+-- {served}
+-- Assumes `Given`.
+{imports(body, self.section)}
+
+{body}'''
+
+    def in_order(self):
+        """the code, one statement after the other"""
+        body = f'seq ({self.statements[-1]}) return'
+        for s in reversed(self.statements[:-1]):
+            body = f'seq ({s})\n      ({body})'
+        return '-- ---- the code\n' + self.function(self.locals, body)
+
     def local(self, mir):
         """a new local; its number"""
         self.locals.append(mir)
