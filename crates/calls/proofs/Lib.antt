@@ -1,8 +1,14 @@
--- Laws that the proofs of several calls cite.
+-- Laws of the table and the effects: what the calls share, then each call in document 01's order.
 pub mod Admitted
-pub mod BlankPlaces
-pub mod Fillings
 pub mod Lent
 pub mod Places
 pub mod Room
-pub mod Rulings
+pub mod Reserve
+pub mod Put
+pub mod Grow
+pub mod Complete
+pub mod BlankPlaces
+pub mod Pause
+pub mod Release
+pub mod Show
+pub mod Standing

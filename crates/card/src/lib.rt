@@ -92,7 +92,7 @@ fn reserve_core(
         × (now (card .exit) ≡ reserveCard shape (now (map .entry)) (now (card .entry)) slot sheet k) ⌝ }
 {
     let entry = slot.entry;
-    calls::reserve::reserve(
+    taking::reserve::reserve(
         shape.blocks,
         shape.free,
         map,
@@ -110,7 +110,7 @@ fn grow_core(shape: Shape, map: &mut [u64], card: &mut [u8], slot: Slot, sheet: 
         × (now (card .exit) ≡ growCard shape (now (map .entry)) (now (card .entry)) slot sheet m) ⌝ }
 {
     let entry = slot.entry;
-    calls::grow::grow(
+    taking::grow::grow(
         shape.blocks,
         shape.free,
         map,
@@ -135,7 +135,7 @@ fn put_core(
         × (now (card .exit) ≡ putCard shape (now (map .entry)) (now (card .entry)) slot sheet place (now (payload .entry))) ⌝ }
 {
     let entry = slot.entry;
-    let answer = calls::put::put(
+    let answer = filling::put::put(
         shape.blocks,
         shape.free,
         map,
@@ -156,7 +156,7 @@ fn complete_core(shape: Shape, map: &[u64], card: &[u8], slot: Slot, sheet: u32)
     ensures { λ r. ⌜ r ≡ completeOut shape (now (map .entry)) (now (card .entry)) slot sheet ⌝ }
 {
     let entry = slot.entry;
-    calls::complete::complete(
+    filling::complete::complete(
         shape.blocks,
         shape.free,
         map,
@@ -171,14 +171,14 @@ fn pause_core(shape: Shape, map: &[u64], slot: Slot, sheet: u32) -> Out
     ensures { λ r. ⌜ r ≡ pauseOut shape (now (map .entry)) slot sheet ⌝ }
 {
     let entry = slot.entry;
-    calls::pause::pause(shape.blocks, shape.free, map, slot.count, entry, sheet)
+    ending::pause::pause(shape.blocks, shape.free, map, slot.count, entry, sheet)
 }
 
 fn release_core(shape: Shape, map: &mut [u64], slot: Slot, sheet: u32) -> Out
     ensures { λ r. ⌜ (r ≡ releaseOut shape (now (map .entry)) slot sheet) × (now (map .exit) ≡ releaseMap shape (now (map .entry)) slot sheet) ⌝ }
 {
     let entry = slot.entry;
-    calls::release::release(shape.blocks, shape.free, map, slot.count, entry, sheet)
+    ending::release::release(shape.blocks, shape.free, map, slot.count, entry, sheet)
 }
 
 fn show_core(
@@ -194,7 +194,7 @@ fn show_core(
         × (now (buffer .exit) ≡ showBuffer shape (now (map .entry)) (now (card .entry)) slot sheet place (now (buffer .entry))) ⌝ }
 {
     let entry = slot.entry;
-    let answer = calls::show::show(
+    let answer = telling::show::show(
         shape.blocks,
         shape.free,
         map,
@@ -215,7 +215,14 @@ fn standing_core(shape: Shape, map: &[u64], slot: Slot, sheet: u32) -> Outcome
     ensures { λ r. ⌜ r ≡ standingOutcome shape (now (map .entry)) slot sheet ⌝ }
 {
     let entry = slot.entry;
-    let answer = calls::report::standing(shape.blocks, shape.free, map, slot.count, entry, sheet);
+    let answer = telling::standing::standing(
+        shape.blocks,
+        shape.free,
+        map,
+        slot.count,
+        entry,
+        sheet,
+    );
     Outcome {
         shape: shape,
         answer: answer,

@@ -1,0 +1,46 @@
+-- What the rows of pause and its effects say: the verdict in each case, and what the call then hands back and leaves.
+-- Assumes nothing.
+use mathlib.Core.Path.{_≡_, sym, ap, _∙_, subst}
+use mathlib.Core.Bool.{_&&_}
+use mathlib.Core.List.{List, [], _∷_}
+use Prim.Native.Nat.{ℕ}
+use lib.ListN.{length}
+use Rattle.freemap.specs.Blocks.{free}
+use Rattle.catalogue.specs.declared.Entry.{Entry}
+use Rattle.calls.specs.Effects.{entryOf, outOf, refusalOut, pauseVerdict, pauseOut}
+use Rattle.standings.specs.Openings.{openedOf, rowOf}
+use Rattle.standings.specs.Rows.{Verdict, accepted, refused, settle}
+use Rattle.standings.specs.Standings.{standingOf}
+use Rattle.calls.specs.Table.{tableOf}
+use Rattle.standings.specs.Limits.{shapeFits, sheetsFit}
+use Rattle.calls.specs.Views.{viewAt}
+use Rattle.standings.specs.declared.Answer.the-variants.{Done}
+use Rattle.standings.specs.declared.Opened.{Opened}
+use Rattle.standings.specs.declared.Opened.the-variants.{Refused, Stands}
+use Rattle.standings.specs.declared.Standing.{Standing}
+use Rattle.standings.specs.declared.Standing.the-variants.{Absent}
+use Rattle.standings.proofs.Openings.{closed, opened, not-absent, is-absent, none-left, Not}
+
+module _ (n spare : ℕ) (map : List ℕ) (c : ℕ) (e : Entry) (sheet : ℕ) where
+  pub out : (v : Verdict) → pauseVerdict n spare map c e sheet ≡ v → pauseOut n spare map c e sheet ≡ settle v (outOf spare (entryOf 0x50 0 0) Done) (refusalOut spare e)
+  unfolding pauseOut
+  out v h = ap (λ (w : Verdict). settle w (outOf spare (entryOf 0x50 0 0) Done) (refusalOut spare e)) h
+
+  abbrev pub first : Opened
+  first = openedOf (shapeFits n spare (length map) && sheetsFit c) c sheet (standingOf n (free map) e)
+
+  pub shut : (number : ℕ) → first ≡ Refused number → pauseVerdict n spare map c e sheet ≡ refused number
+  unfolding pauseVerdict viewAt tableOf
+  shut number h = closed _ _ _ _ _ number h
+
+  pub other : (s : Standing) → first ≡ Stands s → Not (1 ∷ 2 ∷ 3 ∷ 4 ∷ []) s → pauseVerdict n spare map c e sheet ≡ refused (rowOf s)
+  unfolding pauseVerdict viewAt tableOf
+  other s h differs =
+      let o = opened _ _ _ _ s _ h in
+      o .verdict ∙ not-absent (standingOf n (free map) e) [] (subst (Not (1 ∷ 2 ∷ 3 ∷ 4 ∷ [])) (sym (o .same)) differs) (o .whole) ∙ ap (λ (t : Standing). refused (rowOf t)) (o .same)
+
+  pub passes : first ≡ Stands Absent → pauseVerdict n spare map c e sheet ≡ accepted
+  unfolding pauseVerdict viewAt tableOf
+  passes h =
+      let o = opened _ _ _ _ Absent _ h in
+      o .verdict ∙ is-absent (standingOf n (free map) e) [] (o .same) ∙ none-left

@@ -1,0 +1,106 @@
+-- What the rows of release and its effects say: the verdict in each case, and what the call then hands back and leaves.
+-- Assumes nothing.
+use mathlib.Core.Path.{_≡_, refl, sym, ap, _∙_}
+use mathlib.Core.Bool.{true, false, _&&_}
+use mathlib.Core.List.{List, [], _∷_}
+use Prim.Native.Nat.{ℕ, _+_, _*_, _-_, _<_, _≤_}
+use native.Mathlib.Omega.{arith}
+use borrow.Author.Tests.{le-ltb, lt-ltb}
+use lib.Dec.{ltb}
+use lib.ListN.{length}
+use types.Run as Run
+use Rattle.freemap.specs.Blocks.{free}
+use Rattle.freemap.specs.Maps.{marked}
+use Rattle.catalogue.specs.declared.Entry.{Entry}
+use Rattle.calls.specs.Effects.{entryOf, outOf, refusalOut, releaseVerdict, releaseOut, releaseMap}
+use Rattle.standings.specs.Openings.{openedOf}
+use Rattle.standings.specs.Rows.{Verdict, accepted, refused, settle}
+use Rattle.standings.specs.Standings.{standingOf, isAbsent, lengthOf}
+use Rattle.calls.specs.Table.{tableOf}
+use Rattle.standings.specs.Limits.{shapeFits, sheetsFit}
+use Rattle.calls.specs.Views.{viewAt}
+use Rattle.standings.specs.declared.Answer.the-variants.{Done}
+use Rattle.standings.specs.declared.Opened.{Opened}
+use Rattle.standings.specs.declared.Opened.the-variants.{Refused, Stands}
+use Rattle.calls.specs.declared.Out.{Out}
+use Rattle.standings.specs.declared.Standing.{Standing}
+use Rattle.standings.specs.declared.Standing.the-variants.{Absent, Paused, Open, Complete, Damaged}
+use Rattle.standings.proofs.Entries.{Inside, inside-of}
+use Rattle.standings.proofs.Limits.{Fits, sheet-fits}
+use Rattle.standings.proofs.Openings.{skip, stop, closed, opened, none-left, Not}
+
+pub present : (s : Standing) → Not (1 ∷ 2 ∷ 3 ∷ 4 ∷ []) s → isAbsent s ≡ false
+present Absent t = absurd (Run.miss (1 ∷ 2 ∷ 3 ∷ 4 ∷ []) 0 tt t)
+present Paused t = refl
+present (Open a b) t = refl
+present (Complete a b) t = refl
+present Damaged t = refl
+
+module _ (n spare : ℕ) (map : List ℕ) (c : ℕ) (e : Entry) (sheet : ℕ) where
+  abbrev pub verdict : Verdict
+  verdict = releaseVerdict n spare map c e sheet
+
+  abbrev pub done : Out
+  done = outOf (spare + e .length) (entryOf 0x41 0 0) Done
+
+  abbrev pub freed : List ℕ
+  freed = marked map (e .start) (e .length) true
+
+  -- what is answered and what the map becomes, after a verdict
+  pub out : (v : Verdict) → verdict ≡ v → (r : Out) (after : List ℕ) → r ≡ settle v done (refusalOut spare e) → after ≡ settle v freed (λ number. map)
+      → (r ≡ releaseOut n spare map c e sheet) × (after ≡ releaseMap n spare map c e sheet)
+  unfolding releaseOut releaseMap
+  out v h r after p q =
+      (p ∙ ap (λ (w : Verdict). settle w done (refusalOut spare e)) (sym h), q ∙ ap (λ (w : Verdict). settle w freed (λ number. map)) (sym h))
+
+  abbrev pub stands : Standing
+  stands = standingOf n (free map) e
+
+  abbrev pub first : Opened
+  first = openedOf (shapeFits n spare (length map) && sheetsFit c) c sheet stands
+
+  pub shut : {o : Opened} (number : ℕ) → o ≡ first → o ≡ Refused number → verdict ≡ refused number
+  unfolding releaseVerdict viewAt tableOf
+  shut number given told = closed _ _ _ _ _ number (sym given ∙ told)
+
+  pub absent : {o : Opened} → o ≡ first → o ≡ Stands Absent → verdict ≡ refused 5
+  unfolding releaseVerdict viewAt tableOf
+  absent given told =
+      let x = opened _ _ _ _ Absent _ (sym given ∙ told) in
+      x .verdict ∙ stop 5 (isAbsent stands) _ (ap isAbsent (x .same))
+
+  module _ (s : Standing) {o : Opened} (given : o ≡ first) (told : o ≡ Stands s) where
+    -- the limits, and the extent to be freed
+    pub limits : Fits n spare (length map)
+    limits = sheet-fits n spare (length map) c (opened _ _ _ _ s [] (sym given ∙ told) .all-fits)
+
+    pub extent : Inside n e stands
+    extent = inside-of n (free map) e (opened _ _ _ _ s [] (sym given ∙ told) .whole)
+
+    -- the blocks to be marked lie in the map
+    pub in-map : (e .start + e .length ≤ 262144) × (e .start + e .length ≤ 64 * length map)
+    in-map =
+        let f = limits in
+        let x = extent in
+        (omega (arith, f .limit, x .inside), omega (arith, f .covered, x .inside))
+
+    module _ (differs : Not (1 ∷ 2 ∷ 3 ∷ 4 ∷ []) s) where
+      pub over : n - spare < e .length → verdict ≡ refused 4
+      unfolding releaseVerdict viewAt tableOf
+      over above =
+          let x = opened _ _ _ _ s _ (sym given ∙ told) in
+          let below = limits .spare in
+          let lasts = extent .lasts in
+          x .verdict
+          ∙ skip 5 (isAbsent stands) _ (refused 4) (ap isAbsent (x .same) ∙ present s differs)
+          (stop 4 (ltb n (spare + lengthOf stands)) [] (lt-ltb n (spare + lengthOf stands) (omega arith)))
+
+      pub passes : e .length ≤ n - spare → verdict ≡ accepted
+      unfolding releaseVerdict viewAt tableOf
+      passes within =
+          let x = opened _ _ _ _ s _ (sym given ∙ told) in
+          let below = limits .spare in
+          let lasts = extent .lasts in
+          x .verdict
+          ∙ skip 5 (isAbsent stands) _ accepted (ap isAbsent (x .same) ∙ present s differs)
+          (skip 4 (ltb n (spare + lengthOf stands)) [] accepted (le-ltb n (spare + lengthOf stands) (omega arith)) none-left)

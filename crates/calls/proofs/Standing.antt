@@ -1,0 +1,41 @@
+-- What the rows of standing and its effects say: the verdict in each case, and what the call then hands back and leaves.
+-- Assumes nothing.
+use mathlib.Core.Path.{_≡_, sym, ap, _∙_}
+use mathlib.Core.Bool.{_&&_}
+use mathlib.Core.List.{List}
+use Prim.Native.Nat.{ℕ}
+use lib.ListN.{length}
+use Rattle.freemap.specs.Blocks.{free}
+use Rattle.catalogue.specs.declared.Entry.{Entry}
+use Rattle.calls.specs.Effects.{standingAnswer}
+use Rattle.standings.specs.Openings.{openedOf}
+use Rattle.standings.specs.Rows.{Verdict, accepted, refused, settle}
+use Rattle.standings.specs.Standings.{standingOf}
+use Rattle.calls.specs.Table as table
+use Rattle.calls.specs.Table.{tableOf, verdictOf}
+use Rattle.standings.specs.Limits.{shapeFits, sheetsFit}
+use Rattle.calls.specs.Views.{viewAt}
+use Rattle.standings.specs.declared.Answer.the-variants.{Stands, Refused}
+use Rattle.standings.specs.declared.Opened.{Opened}
+use Rattle.standings.specs.declared.Opened.the-variants as opening
+use Rattle.standings.specs.declared.Standing.{Standing}
+use Rattle.standings.proofs.Openings.{closed, opened, none-left}
+
+module _ (n spare : ℕ) (map : List ℕ) (c : ℕ) (e : Entry) (sheet : ℕ) where
+  abbrev pub verdict : Verdict
+  verdict = verdictOf (viewAt n spare map c e) (table.standing sheet)
+
+  pub out : (v : Verdict) → verdict ≡ v → standingAnswer n spare map c e sheet ≡ settle v (Stands (e .mark) (e .start) (e .length)) Refused
+  unfolding standingAnswer
+  out v h = ap (λ (w : Verdict). settle w (Stands (e .mark) (e .start) (e .length)) Refused) h
+
+  abbrev pub first : Opened
+  first = openedOf (shapeFits n spare (length map) && sheetsFit c) c sheet (standingOf n (free map) e)
+
+  pub shut : {o : Opened} (number : ℕ) → o ≡ first → o ≡ opening.Refused number → verdict ≡ refused number
+  unfolding viewAt tableOf
+  shut number given told = closed _ _ _ _ _ number (sym given ∙ told)
+
+  pub passes : {o : Opened} (s : Standing) → o ≡ first → o ≡ opening.Stands s → verdict ≡ accepted
+  unfolding viewAt tableOf
+  passes s given told = opened _ _ _ _ s _ (sym given ∙ told) .verdict ∙ none-left

@@ -1,0 +1,40 @@
+// Release: any standing but Absent becomes Absent, and its blocks free. The card's bytes stay.
+ghost use mathlib.Core.Path.{_≡_};
+ghost use Rattle.calls.specs.Effects.{releaseOut, releaseMap};
+use calls::Out;
+use calls::refusal;
+use catalogue::Entry;
+use freemap::run::FREE;
+use freemap::run::mark;
+use standings::Answer;
+use standings::Opened;
+use standings::Standing;
+use standings::opening::open_sheet;
+use standings::opening::refused_row;
+
+pub fn release(n: u32, free: u32, map: &mut [u64], c: usize, entry: Entry, sheet: u32) -> Out
+    ensures { λ r. ⌜ (r ≡ releaseOut n free (now (map .entry)) c entry sheet) × (now (map .exit) ≡ releaseMap n free (now (map .entry)) c entry sheet) ⌝ }
+{
+    let opened = open_sheet(n, free, map, c, sheet, entry);
+    let Opened::Stands(stands) = opened else {
+        return refusal(free, entry, refused_row(opened));
+    };
+    if let Standing::Absent = stands {
+        return refusal(free, entry, 5);
+    }
+    let start = entry.start;
+    let blocks = entry.length;
+    if n - free < blocks {
+        return refusal(free, entry, 4);
+    }
+    mark(map, start, blocks, FREE);
+    Out {
+        free: free + blocks,
+        entry: Entry {
+            mark: 0x41,
+            start: 0,
+            length: 0,
+        },
+        answer: Answer::Done,
+    }
+}

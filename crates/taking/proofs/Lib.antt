@@ -1,0 +1,2 @@
+-- Laws that the proofs of reserve and grow cite.
+pub mod Rulings

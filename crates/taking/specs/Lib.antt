@@ -1,0 +1,2 @@
+-- What the contracts of `taking` cite.
+pub mod Rulings

@@ -1,0 +1,3 @@
+// The calls that change nothing of a card's state, for an entry by value: show and standing.
+pub mod show;
+pub mod standing;
