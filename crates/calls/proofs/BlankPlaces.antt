@@ -22,7 +22,7 @@ use Rattle.calls.specs.Table.{tableOf}
 use Rattle.calls.specs.Views.{viewOn}
 use Rattle.standings.specs.declared.Standing.{Standing}
 use Rattle.standings.specs.declared.Standing.the-variants.{Absent, Paused, Open, Complete, Damaged}
-use Rattle.standings.proofs.Least.{least-passes, none-passes}
+use Rattle.freemap.proofs.Least.{least-passes, none-passes}
 use Rattle.standings.proofs.Openings.{open-extent}
 
 -- a row with another number than the verdict's does not hold

@@ -20,7 +20,7 @@ use Rattle.calls.specs.Table.{tableOf}
 use Rattle.calls.specs.Views.{viewOn}
 use Rattle.standings.specs.declared.Standing.{Standing}
 use Rattle.standings.specs.declared.Standing.the-variants.{Absent, Paused, Open, Complete, Damaged}
-use Rattle.standings.proofs.Least.{least-passes}
+use Rattle.freemap.proofs.Least.{least-passes}
 use Rattle.calls.proofs.Lent.{Lent, Sized, standing, sized}
 use Rattle.standings.proofs.Openings.{open-extent}
 

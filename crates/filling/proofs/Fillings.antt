@@ -25,7 +25,7 @@ use Rattle.standings.specs.Searches.{startAt}
 use Rattle.filling.specs.Fillings.{blankAt, fillingOf, withPlace}
 use Rattle.filling.specs.declared.Filling.{Filling}
 use Rattle.filling.specs.declared.Filling.the-variants.{Filled, Blank, Broken}
-use Rattle.standings.proofs.Least.{orElse, least-passes, none-passes, least-more}
+use Rattle.freemap.proofs.Least.{orElse, least-passes, none-passes, least-more}
 
 -- ---- a blank block is not sound
 

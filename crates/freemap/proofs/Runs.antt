@@ -1,14 +1,12 @@
--- Laws of `all`, a run of numbers that all pass a test, and of `least`, the least number that passes one.
+-- Laws of `all`, a run of numbers that all pass a test.
 -- Assumes nothing.
 use mathlib.Core.Path.{_≡_, refl, sym, ap, ap₂, _∙_, subst}
 use mathlib.Core.Logic.{⊎-elim}
-use mathlib.Core.Bool.{Bool, true, false, _&&_, cond}
+use mathlib.Core.Bool.{Bool, true, false, _&&_}
 use Prim.Native.Nat.{ℕ, zero, suc, _+_, _-_, _≤_, _<_}
 use native.Mathlib.Nat.{eq-or-lt-of-le, add-zero}
 use native.Mathlib.Omega.{arith}
-use Rattle.freemap.specs.Blocks.{all, least}
-use Rattle.freemap.specs.declared.Found.{Found}
-use Rattle.freemap.specs.declared.Found.the-variants.{At, Nothing}
+use Rattle.freemap.specs.Blocks.{all}
 use Rattle.freemap.proofs.Bools.{and-left, and-right, and-both, not-true, both-ways, clash, order}
 
 module _ (f : ℕ → Bool) where
@@ -65,18 +63,3 @@ all-same f g s s′ zero h = refl
 all-same f g s s′ (suc k) h =
     ap₂ _&&_ (ap f (sym (add-zero s)) ∙ h 0 (omega arith) ∙ ap g (add-zero s′))
     (all-same f g (suc s) (suc s′) k (λ j l. ap f (moved s j) ∙ h (suc j) (omega arith) ∙ ap g (sym (moved s′ j))))
-
-module _ (p : ℕ → Bool) where
-  pub least-at : (s m r : ℕ) → s ≤ r → r < s + m → p r ≡ true → ((t : ℕ) → s ≤ t → t < r → p t ≡ false) → least p s m ≡ At r
-  unfolding least
-  least-at s zero r a b e h = absurd (omega arith)
-  least-at s (suc m) r a b e h =
-      ⊎-elim (λ q. ap (λ (x : Bool). cond x (At s) (least p (suc s) m)) (subst (λ (x : ℕ). p x ≡ true) (sym q) e) ∙ ap At q)
-      (λ l. ap (λ (x : Bool). cond x (At s) (least p (suc s) m)) (h s (omega arith) l) ∙ least-at (suc s) m r l (omega arith) e (λ t c d. h t (omega arith) d))
-      (eq-or-lt-of-le a)
-
-  pub least-none : (s m : ℕ) → ((t : ℕ) → s ≤ t → t < s + m → p t ≡ false) → least p s m ≡ Nothing
-  unfolding least
-  least-none s zero h = refl
-  least-none s (suc m) h =
-      ap (λ (x : Bool). cond x (At s) (least p (suc s) m)) (h s (omega arith) (omega arith)) ∙ least-none (suc s) m (λ t a b. h t (omega arith) (omega arith))

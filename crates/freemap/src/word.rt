@@ -3,9 +3,8 @@ ghost use mathlib.Core.Path.{_≡_};
 ghost use mathlib.Core.Bool.{cond, _&&_};
 ghost use Prim.Native.Nat.{ℕ, _+_, _-_, _<_, _≤_, min};
 ghost use lib.Dec.{leb, ltb};
-ghost use Rattle.freemap.specs.Blocks.{all};
 ghost use Rattle.freemap.specs.Words;
-ghost use Rattle.freemap.specs.Words.{bit, Mask, Tail};
+ghost use Rattle.freemap.specs.Words.{bit, Mask};
 
 pub const ONES: u64 = 0xffff_ffff_ffff_ffff;
 
@@ -38,62 +37,12 @@ pub fn covers(w: u64, m: u64) -> bool
     w & m == m
 }
 
-// Bit j of the result is 1 where the 16 bits of w from j on are: the first four rounds of 003, section 4.2, without a
-// branch between them. Shifts go left, so that a bit marks a run's start.
-fn sixteens(w: u64) -> u64
-    ensures { λ r. ⌜ ((j : ℕ) → bit r j ≡ all (bit w) j 16) ⌝ }
-{
-    let twos = w & (w << 1);
-    let fours = twos & (twos << 2);
-    let eights = fours & (fours << 4);
-    eights & (eights << 8)
-}
-
-// The rounds from runs of `have` to runs of k, each of which shifts by as much as it can. They stop where no run is left.
-fn rounds(runs: u64, have: u32, k: u32) -> u64
-    requires { ⌜ (0 < have) × (have ≤ k) × (k ≤ 64) ⌝ }
-    ensures { λ r. ⌜ ((w : ℕ) → ((j : ℕ) → bit runs j ≡ all (bit w) j have) → (j : ℕ) → bit r j ≡ all (bit w) j k) ⌝ }
-{
-    let mut g = runs;
-    let mut done = have;
-    while done < k {
-        if g == 0 {
-            return 0;
-        }
-        let shift = smaller(done, k - done);
-        g = g & (g << shift);
-        done += shift;
-    }
-    g
-}
-
-// Bit j of the result is 1 where the k bits of w from j on are (003, section 4.2).
-pub fn gaps(w: u64, k: u32) -> u64
-    requires { ⌜ 0 < k ⌝ }
-    ensures { λ r. ⌜ ((j : ℕ) → bit r j ≡ all (bit w) j k) ⌝ }
-{
-    if 64 < k {
-        return 0;
-    }
-    if k < 16 {
-        return rounds(w, 1, k);
-    }
-    rounds(sixteens(w), 16, k)
-}
-
 // The bits of the blocks lo to hi - 1 that lie in the word whose first block is base.
 pub fn part(lo: u32, hi: u32, base: u32) -> u64
     requires { ⌜ (lo < base + 64) × (base < hi) × (base ≤ 262144) ⌝ }
     ensures { λ r. ⌜ ((j : ℕ) → j < 64 → bit r j ≡ (leb lo (base + j) && ltb (base + j) hi)) ⌝ }
 {
     span(beyond(lo, base), smaller(hi - base, 64))
-}
-
-// How many ones stand at the end of w (003, section 4.3).
-pub fn tail(w: u64) -> u32
-    ensures { λ r. ⌜ Tail w r ⌝ }
-{
-    u64::trailing_zeros(!w)
 }
 
 // w with the bits that m has set to 1 or to 0.

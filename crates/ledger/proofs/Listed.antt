@@ -12,13 +12,13 @@ use borrow.Author.Tests.{leb-false, eqb-false, le-ltb, not-false}
 use Rattle.freemap.specs.Blocks.{all, fit, leastFit}
 use Rattle.freemap.specs.declared.Found.{Found}
 use Rattle.freemap.specs.declared.Found.the-variants.{At, Nothing}
+use Rattle.freemap.proofs.Least.{least-passes}
 use Rattle.freemap.proofs.Runs.{all-intro, all-elim}
 use Rattle.standings.specs.Searches.{startAt}
 use Rattle.standings.specs.Rows.{firstOf}
 use Rattle.standings.specs.Standings.{isDamaged}
 use Rattle.calls.specs.Table.{Call, reserve, put, grow, complete, pause, release, show, standing, tableOf}
 use Rattle.standings.specs.Searches.{none}
-use Rattle.standings.proofs.Least.{least-passes}
 use Rattle.ledger.specs.Ledger.{Place, Blank, Payload, Sheet, Absent, Paused, Open, Complete, standingIn, startIn, lengthIn, placesIn, isBlank, bytesOf, sheetAt, placeAt, freeIn, spareIn, viewIn, sheetOf, leastIn, verdictIn}
 use Rattle.ledger.proofs.Cover.{held, held-set, length-held, spare-and-held}
 use Rattle.ledger.proofs.Rows.{Never, never-listed}

@@ -11,11 +11,11 @@ use Rattle.freemap.specs.Blocks.{fit, least, leastFit}
 use Rattle.freemap.specs.declared.Found.{Found}
 use Rattle.freemap.specs.declared.Found.the-variants.{At, Nothing}
 use Rattle.freemap.proofs.Bools.{not-true, order, clash}
+use Rattle.freemap.proofs.Least.{never-both, least-passes, none-passes}
 use Rattle.standings.specs.Searches.{startAt}
 use Rattle.standings.specs.Rows.{Verdict, accepted, refused, firstOf, settle}
 use Rattle.calls.specs.Table.{reserve, tableOf}
 use Rattle.standings.specs.Searches.{none}
-use Rattle.standings.proofs.Least.{never-both, least-passes, none-passes}
 use Rattle.calls.proofs.Room.{fit-inside}
 use Rattle.ledger.specs.Ledger.{Sheet, freeIn, viewIn, listed, verdictIn, leastIn, doneIn, refusedIn, Told, done, toldIn}
 use Rattle.ledger.specs.Claim.{before, Came, Searched}

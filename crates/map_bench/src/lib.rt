@@ -37,7 +37,7 @@ pub extern "C" fn map_bench_search(map: &[u64], n: u32, k: u32) -> u32
         return OUT_OF_LIMITS;
     }
     if within_limits(map, n) {
-        match freemap::search::search(map, 0, n, k) {
+        match search::search(map, 0, n, k) {
             Found::At(start) => start,
             Found::Nothing => NO_FIT,
         }

@@ -23,7 +23,7 @@ fn blocks_of(map: &[u64]) -> u32
 pub fn search(map: &[u64], from: u32, before: u32, k: u32) -> Found {
     if 0 < k {
         if before <= blocks_of(map) {
-            return freemap::search::search(map, from, before, k);
+            return search::search(map, from, before, k);
         }
     }
     Found::Nothing

@@ -19,7 +19,7 @@ pub fn search(n: u32, free: u32, map: &[u64], k: u32) -> Answer
     if k == 0 {
         return Answer::Refused(3);
     }
-    let found = freemap::search::search(map, 0, n, k);
+    let found = search::search(map, 0, n, k);
     let Found::At(start) = found else {
         return Answer::Refused(10);
     };

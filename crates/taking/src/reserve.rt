@@ -11,7 +11,7 @@ use catalogue::Entry;
 use freemap::Found;
 use freemap::run::TAKEN;
 use freemap::run::mark;
-use freemap::search::search;
+use search::search;
 use standings::Answer;
 use standings::Opened;
 use standings::Standing;

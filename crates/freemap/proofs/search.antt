@@ -1,3 +1,0 @@
--- What the proofs of `search` use.
-mod Scan
-mod Window

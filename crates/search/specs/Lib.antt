@@ -1,0 +1,2 @@
+-- What the contracts of `search` cite.
+pub mod Search
