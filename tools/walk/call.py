@@ -226,9 +226,9 @@ module _{self.model_params()} where
     def clauses(self):
         return f'({self.label}-clauses{spaced(self.models)} 𝓤)'
 
-    def stated(self, models):
-        """in the proof of a function: the contract, at what the callee gives and leaves"""
-        return f'({self.label}-contract {" ".join(models)} 𝓤 H (𝓖 .A))'
+    def stated(self, words):
+        """in the proof of a function: the contract, at the types by value, and at what the callee gives and leaves"""
+        return f'({self.label}-contract {" ".join(words)} 𝓤 H (𝓖 .A))'
 
     def hears(self, steps, elements, args, r, zs, lists):
         """what the contract says is learned"""

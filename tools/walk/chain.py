@@ -10,12 +10,8 @@ import re
 
 from walk.call import Arg, Call, copy
 from walk.module import Walk
-from walk.text import HERE, Steps, arrows, cons, facts, paragraphs, spaced, tuple_of
+from walk.text import HERE, Steps, arrows, cons, facts, indented, paragraphs, spaced, tuple_of
 from walk.types import Type, Value
-
-
-def indented(text):
-    return re.sub(r'(?m)^(?=.)', '  ', text)
 
 
 def parse(lines, params, result, structs):

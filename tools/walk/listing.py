@@ -2,9 +2,12 @@
 
     crate NAME                        the lines after it are about this crate
     struct [CRATE::]PATH FIELD ..     a struct that is passed by value or in a slice; its fields, if a loop ends on one
+    value NAME ..                     in a crate of walks: any type by value, for which a `prove` puts the struct of this name
     use MODULE NAME ..                a module of antt that has these definitions
     fn [CRATE::]PATH DEFINITION ..    a callee: what it gives, if anything, and what it leaves in each `&mut` slice
-    walk NAME(PARAMS) [-> RESULT]     a walk module; the lines after it are its code, with a type at each let
+    walk NAME(PARAMS) [-> RESULT]     a walk module; the lines after it are its code, with a type at each let. `by law` at the
+                                      end of the line: its functions' contracts follow from what its calls come to
+    by CRATE::NAME                    the walk module of another crate; the `prove` lines after it are by it
     prove FUNCTION ROLE=FN .. LAW ..  a function that has this code: which fn a callee of the walk is, where it is not
                                       the one of its name; for a loop also what it gives and leaves, with the laws of that;
                                       for a chain whose contract follows from what its calls come to, the definition of
@@ -23,6 +26,7 @@ class Section:
 
     def __init__(self, crate):
         self.crate, self.structs, self.fields, self.uses, self.functions, self.walks = crate, {}, {}, [], {}, []
+        self.made = {}      # the walks, once they are made
 
     def add(self, word, rest, line):
         if word == 'struct':
@@ -30,6 +34,8 @@ class Section:
             crate, _, within = path.rpartition('::') if path.count('::') < 2 else path.partition('::')
             name = path.split('::')[-1]
             self.structs[name], self.fields[name] = (crate or self.crate, within.replace('::', '.')), fields
+        elif word == 'value':
+            self.structs.update((name, None) for name in rest.split())
         elif word == 'use':
             module, *names = rest.split()
             self.uses.append((module, names))
@@ -37,8 +43,8 @@ class Section:
             path, *definitions = rest.split()
             path = path if '::' in path else f'{self.crate}::{path}'
             self.functions[path.split('::')[-1]] = (path, definitions)
-        elif word == 'walk':
-            self.walks.append((rest, [], []))
+        elif word in ('walk', 'by'):
+            self.walks.append((line, [], []))
         elif word == 'prove':
             path, *words = rest.split()
             chosen = dict(x.split('=') for x in words if '=' in x)
@@ -52,20 +58,29 @@ class Section:
             raise ValueError(f'crate {self.crate} has no fn {name}')
         return self.functions[name]
 
-    def files(self):
+    def files(self, sections):
         """each file that is written, and its text"""
-        for head, code, functions in self.walks:
-            name, params, result = re.fullmatch(r'(\w+)\((.*)\)(?: -> (\S+))?', head).groups()
-            words = (self, name, parameters(params, self.structs), Type(result or '()', self.structs), code)
-            if 'catalogue[i]' in code[0]:
-                walk = Loop(*words)
-            elif re.fullmatch(r'let (mut )?\w+ = \w+;', code[0]):
-                walk = LentArray(*words)
+        for line, code, functions in self.walks:
+            if line.startswith('by '):
+                crate, name = line.removeprefix('by ').split('::')
+                walk = next(s for s in sections if s.crate == crate).made[name]
             else:
-                walk = Chain(*words, by_law=any(laws for _, _, laws in functions))
-            yield f'crates/{self.crate}/proofs/{name}.antt', walk.text()
+                walk = self.walk(line.removeprefix('walk '), code, any(laws for _, _, laws in functions))
+                yield f'crates/{self.crate}/proofs/{walk.name}.antt', walk.text()
             for path, chosen, laws in functions:
-                yield f'crates/{self.crate}/proofs/{path.replace("::", "/")}/Proof.antt', proof(walk, path, chosen, laws)
+                yield f'crates/{self.crate}/proofs/{path.replace("::", "/")}/Proof.antt', proof(self, walk, path, chosen, laws)
+
+    def walk(self, head, code, by_law):
+        name, params, result, law = re.fullmatch(r'(\w+)\((.*)\)(?: -> (\S+))?( by law)?', head).groups()
+        words = (self, name, parameters(params, self.structs), Type(result or '()', self.structs), code)
+        if 'catalogue[i]' in code[0]:
+            walk = Loop(*words)
+        elif re.fullmatch(r'let (mut )?\w+ = \w+;', code[0]):
+            walk = LentArray(*words)
+        else:
+            walk = Chain(*words, by_law=by_law or bool(law))
+        self.made[name] = walk
+        return walk
 
 
 def read(lines):

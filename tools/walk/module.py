@@ -1,13 +1,16 @@
 """What every walk module has: its imports, the signature, the parameters in hand, and the theorem at its end."""
 import re
 
-from walk.text import arrows, component, cons, nest, product, subscript
+from walk.text import arrows, component, cons, indented, nest, product, subscript
 
 # what the first line of a written file begins with
 SIGN = '-- Written by tools/walks:'
 
 # the crate that has the proofs which every walk cites
 HOME = 'catalogue'
+
+# the crate that says what any type by value is, and that has the walks over such types
+VALUES = 'chains'
 
 # the modules of the library that a walk can need, each with the names that it can need of them
 LIBRARY = {
@@ -92,7 +95,11 @@ def imports(body, section):
         use(module, names.split())
     if 'struct' in words:
         lines.append('use denote.Struct.Laws as struct')
-    for name, (crate, within) in section.structs.items():
+    use(proofs(VALUES, here, 'Values'), ['Value', 'denotes', 'rowOf', 'mirOf', 'valsOf'])
+    for name, found in section.structs.items():
+        if not found:
+            continue
+        crate, within = found
         use(specs(crate, here, 'declared.' + within), [name])
         for mark, path in (('′', within), ('″', within + '.Laws')):
             if name + mark in words:
@@ -113,6 +120,8 @@ class Walk:
         self.muts = [p for p in params if p.slice == 'mut']
         self.κs, self.qs = nest([p.κ for p in self.slices]), nest([p.q for p in self.slices])
         self.keys = ' '.join('#' + c.label for c in callees)
+        named = {t.name for t in [p.type for p in params] + [result] + [c.result for c in callees]}
+        self.values = [name for name, found in section.structs.items() if not found and name in named]
         self.memory = set()                 # the locals whose address is taken
         self.over = self.over_all = ''      # what else the walk is over, with types and by name
         self.requires = None                # what the function requires, of words for its arguments
@@ -124,6 +133,9 @@ class Walk:
     def page(self, served, body):
         """the text of the module, with its code as walks.txt has it and what one walk serves"""
         shown = '\n'.join(f'--     {line}' for line in self.lines)
+        if self.values:
+            body = f"module _ ({' '.join(self.values)} : Value) where\n{indented(body)}"
+            served += ' The types by value are any, too.'
         return f'''{self.headed()}
 {shown}
 -- {served}

@@ -1,4 +1,5 @@
 """Pieces of antt text, and the steps of a proof with the items that it has in hand."""
+import re
 
 # the path of a place that is a whole local
 HERE = '(from ! (stop !))'
@@ -62,6 +63,10 @@ def spaced(xs):
 def paragraphs(xs):
     """texts, with one blank line between them"""
     return '\n'.join(x.rstrip('\n') + '\n' for x in xs)
+
+
+def indented(text):
+    return re.sub(r'(?m)^(?=.)', '  ', text)
 
 
 class Steps:

@@ -8,7 +8,7 @@ WIDTHS = {'u8': 8, 'u16': 16, 'u32': 32, 'u64': 64, 'usize': 64}
 
 
 class Type:
-    """A type by value: a number, a bool, nothing, a declared struct, or an array of such."""
+    """A type by value: a number, a bool, nothing, a declared struct, an array of such, or any type (structs[name] is None)."""
 
     def __init__(self, name, structs):
         self.name = name
@@ -35,6 +35,10 @@ class Type:
             self.makes = f'(array-makes 𝓤 H A W {e.row} {e.makes} {self.count})'
             self.typed = f'(array-lawful 𝓤 H A W {e.row} {e.lawful} {self.count} .typed)'
             self.element = f'(tyArray {e.element} {self.count})'
+        elif name in structs and structs[name] is None:
+            self.row, self.denotes, self.mir = f'(rowOf {name})', f'(denotes {name})', f'(mirOf {name})'
+            self.vals, self.tells = f'(valsOf {name})', f'({name} .tells)'
+            self.makes, self.typed = f'({name} .makes 𝓤 H A)', f'({name} .typed 𝓤 H A W)'
         elif name in structs:
             of, laws = f'{name}′.the-type', f'{name}″.the-laws'
             self.row, self.denotes, self.mir = f'{name}′.the-row', name, f'{name}″.mir'

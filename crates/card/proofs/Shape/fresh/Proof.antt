@@ -1,4 +1,4 @@
--- Written by tools/walks: `card::Shape::fresh` meets its contract, by the walk of `Freshened.antt`, with the calls of `catalogue::count`, `card::fresh_core`, `card::accepted_of`, `catalogue::clear_if`.
+-- Written by tools/walks: `card::Shape::fresh` meets its contract, by the walk of `Freshened.antt` of the crate chains, with the calls of `catalogue::count`, `card::fresh_core`, `card::accepted_of`, `catalogue::clear_if`.
 -- Assumes nothing.
 use contract.Running.{givenOf, tables, tablesOf}
 use denote.Triple.Spec.{tripleOf}
@@ -6,7 +6,12 @@ use denote.Triple.Table.{entered, cited}
 use lib.ListN.{length}
 use Rattle.catalogue.specs.Entries.{clearedIf}
 use Rattle.card.specs.Calls.{acceptedOf, freshOutcome, freshMap}
-use Rattle.card.proofs.Freshened.{count-contract, core-contract, accepted-of-contract, clear-if-contract, meets}
+use Rattle.chains.proofs.Values.{Value, valueOf}
+use Rattle.card.proofs.Shape as Shape′
+use Rattle.card.proofs.Shape.Laws as Shape″
+use Rattle.card.proofs.Outcome as Outcome′
+use Rattle.card.proofs.Outcome.Laws as Outcome″
+use Rattle.chains.proofs.Freshened.{count-contract, core-contract, accepted-of-contract, clear-if-contract, meets}
 use Rattle.catalogue.proofs.count.Symbol as count-def
 use Rattle.catalogue.proofs.count.Met as count-met
 use Rattle.card.proofs.fresh_core.Symbol as core-def
@@ -20,14 +25,20 @@ use Rattle.card.proofs.Shape.fresh as fresh
 use Rattle.card.proofs.Shape.fresh.Statement as stated
 use Rattle.card.proofs.Shape.fresh.Code as code
 
+abbrev Shape : Value
+Shape = valueOf Shape′.the-type Shape″.the-laws Shape″.the-plain
+
+abbrev Outcome : Value
+Outcome = valueOf Outcome′.the-type Outcome″.the-laws Outcome″.the-plain
+
 pub fresh-spec : {M : Type 1} → stated.statement M
 unfolding code.routine tablesOf
 fresh-spec 𝓤 H 𝓜 𝓖 𝓡 =
     entered 𝓤 H (tripleOf 𝓤 H (𝓖 .A) fresh.signature (fresh.spec 𝓤 H (𝓖 .A) (𝓜 .mem) (𝓡 .run)))
     (tables 𝓤 H 𝓜 𝓡 code.env .C) (tables 𝓤 H 𝓜 𝓡 code.env .Λ) #fresh code.function (code.unfolded 𝓤 H 𝓜 𝓡)
-    (meets count-def.name core-def.name accepted-of-def.name clear-if-def.name length freshOutcome freshMap acceptedOf clearedIf
+    (meets Shape Outcome count-def.name core-def.name accepted-of-def.name clear-if-def.name length freshOutcome freshMap acceptedOf clearedIf
     𝓤 H (𝓖 .A) (givenOf 𝓤 H 𝓜 𝓖) (tablesOf 𝓤 H 𝓜 (tables 𝓤 H 𝓜 𝓡 code.env))
-    (cited 𝓤 H (count-contract length 𝓤 H (𝓖 .A)) 𝓜 𝓡 code.env count-def.name count-def.routine code.calls-catalogue·count (count-met.met 𝓤 H 𝓜 𝓖 𝓡))
-    (cited 𝓤 H (core-contract freshOutcome freshMap 𝓤 H (𝓖 .A)) 𝓜 𝓡 code.env core-def.name core-def.routine code.calls-card·fresh-core (core-met.met 𝓤 H 𝓜 𝓖 𝓡))
-    (cited 𝓤 H (accepted-of-contract acceptedOf 𝓤 H (𝓖 .A)) 𝓜 𝓡 code.env accepted-of-def.name accepted-of-def.routine code.calls-card·accepted-of (accepted-of-met.met 𝓤 H 𝓜 𝓖 𝓡))
-    (cited 𝓤 H (clear-if-contract clearedIf 𝓤 H (𝓖 .A)) 𝓜 𝓡 code.env clear-if-def.name clear-if-def.routine code.calls-catalogue·clear-if (clear-if-met.met 𝓤 H 𝓜 𝓖 𝓡)))
+    (cited 𝓤 H (count-contract Shape Outcome length 𝓤 H (𝓖 .A)) 𝓜 𝓡 code.env count-def.name count-def.routine code.calls-catalogue·count (count-met.met 𝓤 H 𝓜 𝓖 𝓡))
+    (cited 𝓤 H (core-contract Shape Outcome freshOutcome freshMap 𝓤 H (𝓖 .A)) 𝓜 𝓡 code.env core-def.name core-def.routine code.calls-card·fresh-core (core-met.met 𝓤 H 𝓜 𝓖 𝓡))
+    (cited 𝓤 H (accepted-of-contract Shape Outcome acceptedOf 𝓤 H (𝓖 .A)) 𝓜 𝓡 code.env accepted-of-def.name accepted-of-def.routine code.calls-card·accepted-of (accepted-of-met.met 𝓤 H 𝓜 𝓖 𝓡))
+    (cited 𝓤 H (clear-if-contract Shape Outcome clearedIf 𝓤 H (𝓖 .A)) 𝓜 𝓡 code.env clear-if-def.name clear-if-def.routine code.calls-catalogue·clear-if (clear-if-met.met 𝓤 H 𝓜 𝓖 𝓡)))

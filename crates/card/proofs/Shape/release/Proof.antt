@@ -1,4 +1,4 @@
--- Written by tools/walks: `card::Shape::release` meets its contract, by the walk of `Released.antt`, with the calls of `catalogue::find`, `card::release_core`, `card::entry_of`, `catalogue::store`, `card::outcome_of`.
+-- Written by tools/walks: `card::Shape::release` meets its contract, by the walk of `Released.antt` of the crate chains, with the calls of `catalogue::find`, `card::release_core`, `card::entry_of`, `catalogue::store`, `card::outcome_of`.
 -- Assumes nothing.
 use contract.Running.{givenOf, tables, tablesOf}
 use denote.Triple.Spec.{tripleOf}
@@ -7,7 +7,16 @@ use lib.ListN.{set}
 use Rattle.catalogue.specs.Entries.{slotAt}
 use Rattle.card.specs.Calls.{entryOf, outcomeOf}
 use Rattle.card.specs.Calls.{releaseOut, releaseMap}
-use Rattle.card.proofs.Released.{find-contract, core-contract, entry-of-contract, store-contract, outcome-of-contract, meets}
+use Rattle.chains.proofs.Values.{Value, valueOf}
+use Rattle.catalogue.proofs.Slot as Slot′
+use Rattle.catalogue.proofs.Slot.Laws as Slot″
+use Rattle.calls.proofs.Out as Out′
+use Rattle.calls.proofs.Out.Laws as Out″
+use Rattle.card.proofs.Shape as Shape′
+use Rattle.card.proofs.Shape.Laws as Shape″
+use Rattle.card.proofs.Outcome as Outcome′
+use Rattle.card.proofs.Outcome.Laws as Outcome″
+use Rattle.chains.proofs.Released.{find-contract, core-contract, entry-of-contract, store-contract, outcome-of-contract, meets}
 use Rattle.catalogue.proofs.find.Symbol as find-def
 use Rattle.catalogue.proofs.find.Met as find-met
 use Rattle.card.proofs.release_core.Symbol as core-def
@@ -23,15 +32,27 @@ use Rattle.card.proofs.Shape.release as release
 use Rattle.card.proofs.Shape.release.Statement as stated
 use Rattle.card.proofs.Shape.release.Code as code
 
+abbrev Slot : Value
+Slot = valueOf Slot′.the-type Slot″.the-laws Slot″.the-plain
+
+abbrev Out : Value
+Out = valueOf Out′.the-type Out″.the-laws Out″.the-plain
+
+abbrev Shape : Value
+Shape = valueOf Shape′.the-type Shape″.the-laws Shape″.the-plain
+
+abbrev Outcome : Value
+Outcome = valueOf Outcome′.the-type Outcome″.the-laws Outcome″.the-plain
+
 pub release-spec : {M : Type 1} → stated.statement M
 unfolding code.routine tablesOf
 release-spec 𝓤 H 𝓜 𝓖 𝓡 =
     entered 𝓤 H (tripleOf 𝓤 H (𝓖 .A) release.signature (release.spec 𝓤 H (𝓖 .A) (𝓜 .mem) (𝓡 .run)))
     (tables 𝓤 H 𝓜 𝓡 code.env .C) (tables 𝓤 H 𝓜 𝓡 code.env .Λ) #release code.function (code.unfolded 𝓤 H 𝓜 𝓡)
-    (meets find-def.name core-def.name entry-of-def.name store-def.name outcome-of-def.name slotAt releaseOut releaseMap entryOf set outcomeOf
+    (meets Slot Out Shape Outcome find-def.name core-def.name entry-of-def.name store-def.name outcome-of-def.name slotAt releaseOut releaseMap entryOf set outcomeOf
     𝓤 H (𝓖 .A) (givenOf 𝓤 H 𝓜 𝓖) (tablesOf 𝓤 H 𝓜 (tables 𝓤 H 𝓜 𝓡 code.env))
-    (cited 𝓤 H (find-contract slotAt 𝓤 H (𝓖 .A)) 𝓜 𝓡 code.env find-def.name find-def.routine code.calls-catalogue·find (find-met.met 𝓤 H 𝓜 𝓖 𝓡))
-    (cited 𝓤 H (core-contract releaseOut releaseMap 𝓤 H (𝓖 .A)) 𝓜 𝓡 code.env core-def.name core-def.routine code.calls-card·release-core (core-met.met 𝓤 H 𝓜 𝓖 𝓡))
-    (cited 𝓤 H (entry-of-contract entryOf 𝓤 H (𝓖 .A)) 𝓜 𝓡 code.env entry-of-def.name entry-of-def.routine code.calls-card·entry-of (entry-of-met.met 𝓤 H 𝓜 𝓖 𝓡))
-    (cited 𝓤 H (store-contract set 𝓤 H (𝓖 .A)) 𝓜 𝓡 code.env store-def.name store-def.routine code.calls-catalogue·store (store-met.met 𝓤 H 𝓜 𝓖 𝓡))
-    (cited 𝓤 H (outcome-of-contract outcomeOf 𝓤 H (𝓖 .A)) 𝓜 𝓡 code.env outcome-of-def.name outcome-of-def.routine code.calls-card·outcome-of (outcome-of-met.met 𝓤 H 𝓜 𝓖 𝓡)))
+    (cited 𝓤 H (find-contract Slot Out Shape Outcome slotAt 𝓤 H (𝓖 .A)) 𝓜 𝓡 code.env find-def.name find-def.routine code.calls-catalogue·find (find-met.met 𝓤 H 𝓜 𝓖 𝓡))
+    (cited 𝓤 H (core-contract Slot Out Shape Outcome releaseOut releaseMap 𝓤 H (𝓖 .A)) 𝓜 𝓡 code.env core-def.name core-def.routine code.calls-card·release-core (core-met.met 𝓤 H 𝓜 𝓖 𝓡))
+    (cited 𝓤 H (entry-of-contract Slot Out Shape Outcome entryOf 𝓤 H (𝓖 .A)) 𝓜 𝓡 code.env entry-of-def.name entry-of-def.routine code.calls-card·entry-of (entry-of-met.met 𝓤 H 𝓜 𝓖 𝓡))
+    (cited 𝓤 H (store-contract Slot Out Shape Outcome set 𝓤 H (𝓖 .A)) 𝓜 𝓡 code.env store-def.name store-def.routine code.calls-catalogue·store (store-met.met 𝓤 H 𝓜 𝓖 𝓡))
+    (cited 𝓤 H (outcome-of-contract Slot Out Shape Outcome outcomeOf 𝓤 H (𝓖 .A)) 𝓜 𝓡 code.env outcome-of-def.name outcome-of-def.routine code.calls-card·outcome-of (outcome-of-met.met 𝓤 H 𝓜 𝓖 𝓡)))

@@ -1,11 +1,16 @@
--- Written by tools/walks: `card::Shape::save` meets its contract, by the walk of `Saved.antt`, with the calls of `card::blocks_of`, `card::free_of`, `saving::save`, `card::save_outcome`.
+-- Written by tools/walks: `card::Shape::save` meets its contract, by the walk of `Saved.antt` of the crate chains, with the calls of `card::blocks_of`, `card::free_of`, `saving::save`, `card::save_outcome`.
 -- Assumes nothing.
 use contract.Running.{givenOf, tables, tablesOf}
 use denote.Triple.Spec.{tripleOf}
 use denote.Triple.Table.{entered, cited}
 use Rattle.image.specs.Effects.{saveNumber, saveScratch, saveBuffer}
 use Rattle.card.specs.Calls.{blocksOf, freeOf, saveOutcome}
-use Rattle.card.proofs.Saved.{blocks-of-contract, free-of-contract, save-contract, save-outcome-contract, meets}
+use Rattle.chains.proofs.Values.{Value, valueOf}
+use Rattle.card.proofs.Shape as Shape′
+use Rattle.card.proofs.Shape.Laws as Shape″
+use Rattle.card.proofs.Outcome as Outcome′
+use Rattle.card.proofs.Outcome.Laws as Outcome″
+use Rattle.chains.proofs.Saved.{blocks-of-contract, free-of-contract, save-contract, save-outcome-contract, meets}
 use Rattle.card.proofs.blocks_of.Symbol as blocks-of-def
 use Rattle.card.proofs.blocks_of.Met as blocks-of-met
 use Rattle.card.proofs.free_of.Symbol as free-of-def
@@ -19,14 +24,20 @@ use Rattle.card.proofs.Shape.save as save
 use Rattle.card.proofs.Shape.save.Statement as stated
 use Rattle.card.proofs.Shape.save.Code as code
 
+abbrev Shape : Value
+Shape = valueOf Shape′.the-type Shape″.the-laws Shape″.the-plain
+
+abbrev Outcome : Value
+Outcome = valueOf Outcome′.the-type Outcome″.the-laws Outcome″.the-plain
+
 pub save-spec : {M : Type 1} → stated.statement M
 unfolding code.routine tablesOf
 save-spec 𝓤 H 𝓜 𝓖 𝓡 =
     entered 𝓤 H (tripleOf 𝓤 H (𝓖 .A) save.signature (save.spec 𝓤 H (𝓖 .A) (𝓜 .mem) (𝓡 .run)))
     (tables 𝓤 H 𝓜 𝓡 code.env .C) (tables 𝓤 H 𝓜 𝓡 code.env .Λ) #save code.function (code.unfolded 𝓤 H 𝓜 𝓡)
-    (meets blocks-of-def.name free-of-def.name save-def.name save-outcome-def.name blocksOf freeOf saveNumber saveScratch saveBuffer saveOutcome
+    (meets Shape Outcome blocks-of-def.name free-of-def.name save-def.name save-outcome-def.name blocksOf freeOf saveNumber saveScratch saveBuffer saveOutcome
     𝓤 H (𝓖 .A) (givenOf 𝓤 H 𝓜 𝓖) (tablesOf 𝓤 H 𝓜 (tables 𝓤 H 𝓜 𝓡 code.env))
-    (cited 𝓤 H (blocks-of-contract blocksOf 𝓤 H (𝓖 .A)) 𝓜 𝓡 code.env blocks-of-def.name blocks-of-def.routine code.calls-card·blocks-of (blocks-of-met.met 𝓤 H 𝓜 𝓖 𝓡))
-    (cited 𝓤 H (free-of-contract freeOf 𝓤 H (𝓖 .A)) 𝓜 𝓡 code.env free-of-def.name free-of-def.routine code.calls-card·free-of (free-of-met.met 𝓤 H 𝓜 𝓖 𝓡))
-    (cited 𝓤 H (save-contract saveNumber saveScratch saveBuffer 𝓤 H (𝓖 .A)) 𝓜 𝓡 code.env save-def.name save-def.routine code.calls-saving·save (save-met.met 𝓤 H 𝓜 𝓖 𝓡))
-    (cited 𝓤 H (save-outcome-contract saveOutcome 𝓤 H (𝓖 .A)) 𝓜 𝓡 code.env save-outcome-def.name save-outcome-def.routine code.calls-card·save-outcome (save-outcome-met.met 𝓤 H 𝓜 𝓖 𝓡)))
+    (cited 𝓤 H (blocks-of-contract Shape Outcome blocksOf 𝓤 H (𝓖 .A)) 𝓜 𝓡 code.env blocks-of-def.name blocks-of-def.routine code.calls-card·blocks-of (blocks-of-met.met 𝓤 H 𝓜 𝓖 𝓡))
+    (cited 𝓤 H (free-of-contract Shape Outcome freeOf 𝓤 H (𝓖 .A)) 𝓜 𝓡 code.env free-of-def.name free-of-def.routine code.calls-card·free-of (free-of-met.met 𝓤 H 𝓜 𝓖 𝓡))
+    (cited 𝓤 H (save-contract Shape Outcome saveNumber saveScratch saveBuffer 𝓤 H (𝓖 .A)) 𝓜 𝓡 code.env save-def.name save-def.routine code.calls-saving·save (save-met.met 𝓤 H 𝓜 𝓖 𝓡))
+    (cited 𝓤 H (save-outcome-contract Shape Outcome saveOutcome 𝓤 H (𝓖 .A)) 𝓜 𝓡 code.env save-outcome-def.name save-outcome-def.routine code.calls-card·save-outcome (save-outcome-met.met 𝓤 H 𝓜 𝓖 𝓡)))
