@@ -16,8 +16,9 @@ use Rattle.image.specs.declared.Loaded.{Loaded}
 abbrev pub numberOf : Verdict → ℕ
 numberOf v = settle v 0 (λ number. number)
 
-abbrev pub zeroed : List ℕ → List ℕ
-zeroed scratch = replicate (length scratch) 0
+-- zeros, as many as the scratch has words
+abbrev pub zerosFor : List ℕ → List ℕ
+zerosFor scratch = replicate (length scratch) 0
 
 -- Save, of n, the free count, the map and the entries, with a scratch and a buffer.
 module _ (n spare : ℕ) (map : List ℕ) (entries : List Entry) (scratch buffer : List ℕ) where
@@ -29,7 +30,7 @@ module _ (n spare : ℕ) (map : List ℕ) (entries : List Entry) (scratch buffer
   saveNumber = numberOf (saveVerdict lentState (length scratch) (length buffer))
 
   unfoldable pub saveScratch : List ℕ
-  saveScratch = zeroed scratch
+  saveScratch = zerosFor scratch
 
   unfoldable pub saveBuffer : List ℕ
   unfolding saveVerdict
@@ -56,7 +57,7 @@ module _ (image map : List ℕ) (entries : List Entry) (scratch : List ℕ) wher
   loadEntries = settle (loadVerdict image (length map) (length entries) (length scratch)) (stateIn image .entries) (λ number. entries)
 
   unfoldable pub loadScratch : List ℕ
-  loadScratch = zeroed scratch
+  loadScratch = zerosFor scratch
 
   abbrev pub Loads : Loaded → List ℕ → List Entry → List ℕ → Type 0
   Loads r map′ entries′ scratch′ = (r ≡ loadResult) × (map′ ≡ loadMap) × (entries′ ≡ loadEntries) × (scratch′ ≡ loadScratch)

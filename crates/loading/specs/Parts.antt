@@ -9,7 +9,7 @@ use Rattle.standings.specs.Rows.{settle}
 use Rattle.catalogue.specs.declared.Entry.{Entry}
 use Rattle.frames.specs.Numbers.{numberIn}
 use Rattle.image.specs.Cursors.{cursor, active}
-use Rattle.image.specs.Effects.{zeroed}
+use Rattle.image.specs.Effects.{zerosFor}
 use Rattle.image.specs.Image.{stateIn}
 use Rattle.image.specs.Table.{loadVerdict}
 use Rattle.image.specs.declared.Cursor.{Cursor}
@@ -28,7 +28,7 @@ module _ (image map : List ℕ) (count : ℕ) (scratch : List ℕ) where
   coreMap = settle (loadVerdict image (length map) count (length scratch)) (stateIn image .map) (λ number. map)
 
   unfoldable pub coreScratch : List ℕ
-  coreScratch = zeroed scratch
+  coreScratch = zerosFor scratch
 
 -- The entries stand behind n, free count and c, and are read if the load was accepted.
 unfoldable pub firstCursor : Loaded → Cursor

@@ -12,7 +12,7 @@ use Rattle.frames.specs.Numbers.{replaced, withNumber, wordBytes}
 use Rattle.soundness.specs.Releases.{tally, allReleased}
 use Rattle.soundness.specs.declared.Tally.{Tally}
 use Rattle.image.specs.Cursors.{cursor, active}
-use Rattle.image.specs.Effects.{numberOf, zeroed}
+use Rattle.image.specs.Effects.{numberOf, zerosFor}
 use Rattle.image.specs.Image.{framesFor}
 use Rattle.image.specs.Table.{saveFits, wholeBlocks}
 use Rattle.image.specs.declared.Cursor.{Cursor}
@@ -36,7 +36,7 @@ module _ (n spare : ℕ) (map : List ℕ) (count : ℕ) (t : Tally) (scratch ima
       ∷ []))
 
   unfoldable pub scratchCleared : List ℕ
-  scratchCleared = zeroed scratch
+  scratchCleared = zerosFor scratch
 
 -- n, free count and c are written, if the save was accepted; the entries stand behind them.
 module _ (n spare count number : ℕ) (image : List ℕ) where
