@@ -1,7 +1,8 @@
 /*
- * Times the proved functions of crate block beside what a C program would do
- * instead. Each line has the least time of many interleaved repeats, in
- * nanoseconds for one call, and how many times as fast the proved one is.
+ * Times the proved functions of crates block and card_blocks beside what a C
+ * program would do instead. Each line has the least time of many interleaved
+ * repeats, in nanoseconds for one call, and how many times as fast the proved
+ * one is.
  */
 #define _POSIX_C_SOURCE 199309L
 #include "block.h"

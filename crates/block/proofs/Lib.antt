@@ -1,10 +1,7 @@
--- Laws of the definitions of specs/, for other crates too: stored numbers, the sums, blank blocks, sealed blocks, the
--- blocks of a card. Then what the functions here do, step by step: stores, the stores of a seal, tests.
-pub mod Numbers
+-- Laws of the definitions of specs/, for other crates too: the sums, blank blocks, sealed blocks. Then what the functions
+-- here do, step by step: the stores of a seal, tests.
 pub mod Checksum
 pub mod Blank
 pub mod Sealed
-pub mod Card
-pub mod Stores
 pub mod Sealing
 pub mod Tests

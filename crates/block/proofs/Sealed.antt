@@ -9,8 +9,9 @@ use lib.Dec.{eqb, lit<}
 use lib.ListN.{length, take, drop, replicate, length-append}
 use lib.Seq.{take-at, drop-at}
 use borrow.Author.Tests.{eq-eqb, eqb-true}
-use Rattle.block.specs.Sealed.{sums, bytes4, numberAt, front, sealed, checkHolds, blank, sound, payloadOf}
-use Rattle.block.proofs.Numbers.{bytes4-length, number-at}
+use Rattle.byte_slices.specs.Numbers.{bytes4, numberAt}
+use Rattle.byte_slices.proofs.Numbers.{bytes4-length, number-at}
+use Rattle.block.specs.Sealed.{sums, front, sealed, checkHolds, blank, sound, payloadOf}
 use Rattle.block.proofs.Checksum.{sums-below}
 use Rattle.block.proofs.Blank.{blank-append, blank-is-zeros, and-left, and-right}
 

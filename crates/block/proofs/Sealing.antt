@@ -1,15 +1,20 @@
 -- The stores of a seal, part by part, leave the sealed block.
 -- Assumes nothing.
 use mathlib.Core.Path.{_≡_, ap, _∙_}
-use mathlib.Core.List.{List, _++_, append-nil}
+use mathlib.Core.List.{List, _++_, append-assoc, append-nil}
 use Prim.Native.Nat.{ℕ, _+_}
 use native.Mathlib.Omega.{arith}
 use lib.ListN.{length, take, drop, length-append, drop-of-length-le}
-use lib.Seq.{take-at}
+use lib.Seq.{take-at, drop-at, drop-drop}
 use borrow.Rule.Slice.PartMut.{putMid}
-use Rattle.block.specs.Sealed.{sums, bytes4, sealed}
-use Rattle.block.proofs.Numbers.{bytes4-length}
-use Rattle.block.proofs.Stores.{grown}
+use Rattle.byte_slices.specs.Numbers.{bytes4}
+use Rattle.byte_slices.proofs.Numbers.{bytes4-length}
+use Rattle.block.specs.Sealed.{sums, sealed}
+
+-- a part lent and given back, right behind what is known already: one part more is known
+grown : (known orig new : List ℕ) (at size : ℕ) → length known ≡ at
+    → take at (known ++ drop at orig) ++ (new ++ drop size (drop at (known ++ drop at orig))) ≡ known ++ new ++ drop (at + size) orig
+grown known orig new at size e = rw (take-at known (drop at orig) at e, drop-at known (drop at orig) at e, drop-drop, ← append-assoc)
 
 -- sheet, place and payload are stored
 module _ (orig sheet place payload : List ℕ) (l0 : length sheet ≡ 4) (l1 : length place ≡ 4) (l2 : length payload ≡ 496) where

@@ -7,7 +7,8 @@ use Prim.Native.Nat.{ℕ}
 use lib.Dec.{eqb}
 use lib.ListN.{length, take}
 use borrow.Author.Tests.{eq-eqb, ne-eqb}
-use Rattle.block.specs.Sealed.{sums, numberAt, sealed, checkHolds, sound}
+use Rattle.byte_slices.specs.Numbers.{numberAt}
+use Rattle.block.specs.Sealed.{sums, sealed, checkHolds, sound}
 use Rattle.block.specs.Calls.{checkAnswer, sealAnswer, afterSeal}
 
 -- n is the stored A and a the sum

@@ -1,4 +1,3 @@
--- What the contracts of `block` cite: a sealed block, the blocks of a card, and the two calls from C.
+-- What the contracts of `block` cite: a sealed block, and the two calls from C.
 pub mod Sealed
-pub mod Card
 pub mod Calls

@@ -3,9 +3,9 @@ ghost use mathlib.Core.Path.{_≡_};
 ghost use Prim.Native.Nat.{_+_, _*_, _≤_};
 ghost use lib.ListN.{length};
 ghost use Rattle.block.specs.Sealed.{sums, sealed, checkHolds, blank, sound};
-use crate::bytes::copy;
-use crate::bytes::get4;
-use crate::bytes::put4;
+use byte_slices::copy;
+use byte_slices::get4;
+use byte_slices::put4;
 
 const MODULUS: u32 = 65521;
 

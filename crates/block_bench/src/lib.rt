@@ -5,7 +5,7 @@ ghost use Prim.Native.Nat.{_+_, _*_};
 ghost use lib.Dec.{leb};
 ghost use lib.ListN.{length};
 ghost use Rattle.block.specs.Sealed.{blank};
-ghost use Rattle.block.specs.Card.{blockOf, zeroed};
+ghost use Rattle.card_blocks.specs.Card.{blockOf, zeroed};
 
 // Fills k blocks from b on with zeros, and gives 0.
 #[no_mangle]
@@ -14,7 +14,7 @@ pub extern "C" fn bench_zero_blocks(card: &mut [u8], b: u32, k: u32) -> u32
     ensures { λ _. ⌜ now (card .exit) ≡ cond (leb (512 * (b + k)) (length (now (card .entry)))) (zeroed (now (card .entry)) b k) (now (card .entry)) ⌝ }
 {
     if 512 * ((b as usize) + (k as usize)) <= card.len() {
-        block::zero_blocks(card, b, k);
+        card_blocks::zero_blocks(card, b, k);
         return 0;
     }
     3
@@ -26,7 +26,7 @@ pub extern "C" fn bench_blank_block(card: &[u8], b: u32) -> u32
     ensures { λ r. ⌜ r ≡ cond (leb (512 * b + 512) (length (now (card .entry)))) (cond (blank (blockOf (now (card .entry)) b)) 1 0) 3 ⌝ }
 {
     if 512 * (b as usize) + 512 <= card.len() {
-        if block::blank_block(card, b) {
+        if card_blocks::blank_block(card, b) {
             return 1;
         }
         return 0;

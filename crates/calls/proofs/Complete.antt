@@ -7,7 +7,7 @@ use Prim.Native.Nat.{ℕ, _+_}
 use native.Mathlib.Omega.{arith}
 use lib.Dec.{eqb, leb}
 use Rattle.freemap.specs.Blocks.{all, least}
-use Rattle.block.specs.Card.{blockOf}
+use Rattle.card_blocks.specs.Card.{blockOf}
 use Rattle.block.specs.Sealed.{blank, sound}
 use Rattle.calls.specs.Effects.{entryOf, outOf, refusalOut, completeVerdict, blankPlace, completeOut}
 use Rattle.standings.specs.Searches.{startAt}

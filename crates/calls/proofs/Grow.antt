@@ -22,7 +22,7 @@ use Rattle.calls.proofs.Lent.{Lent, allFits, standing, first}
 use Rattle.standings.proofs.Openings.{Not, closed, opened, skip, stop, none-left}
 use Rattle.calls.proofs.Room.{growVerdictOn}
 use Rattle.freemap.specs.Maps.{marked}
-use Rattle.block.specs.Card.{zeroed}
+use Rattle.card_blocks.specs.Card.{zeroed}
 use Rattle.standings.specs.declared.Answer.the-variants.{Done}
 use Rattle.calls.specs.declared.Out.{Out}
 

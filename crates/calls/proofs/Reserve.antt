@@ -23,7 +23,7 @@ use Rattle.standings.proofs.Openings.{Not, closed, skip, stop, none-left}
 use Rattle.calls.proofs.Room.{reserveVerdictOn, reserveStartOn}
 use mathlib.Core.Bool.{false}
 use Rattle.freemap.specs.Maps.{marked}
-use Rattle.block.specs.Card.{zeroed}
+use Rattle.card_blocks.specs.Card.{zeroed}
 use Rattle.standings.specs.declared.Answer.the-variants.{Start}
 use Rattle.calls.specs.declared.Out.{Out}
 

@@ -6,7 +6,7 @@ use mathlib.Core.List.{List}
 use lib.Dec.{eqb}
 use lib.ListN.{length}
 use Rattle.freemap.specs.Blocks as map-blocks
-use Rattle.block.specs.Card.{blockOf}
+use Rattle.card_blocks.specs.Card.{blockOf}
 use Rattle.block.specs.Sealed as sealed-block
 use Rattle.catalogue.specs.declared.Entry.{Entry}
 use Rattle.standings.specs.Standings.{standingOf}

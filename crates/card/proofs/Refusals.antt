@@ -9,7 +9,7 @@ use lib.Dec.{eqb}
 use lib.ListN.{length, set}
 use Rattle.freemap.specs.Maps as maps
 use Rattle.freemap.specs.Maps.{marked}
-use Rattle.block.specs.Card.{blockOf, withBlock, zeroed}
+use Rattle.card_blocks.specs.Card.{blockOf, withBlock, zeroed}
 use Rattle.block.specs.Sealed.{sealed, payloadOf}
 use Rattle.catalogue.specs.Entries.{entryAt, slotAt, clearedIf}
 use Rattle.catalogue.specs.declared.Entry.{Entry}

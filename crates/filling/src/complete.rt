@@ -2,13 +2,13 @@
 ghost use mathlib.Core.Path.{_≡_};
 ghost use Prim.Native.Nat.{_+_, _*_, _≤_};
 ghost use lib.ListN.{length};
-ghost use Rattle.block.specs.Card.{blockOf};
+ghost use Rattle.card_blocks.specs.Card.{blockOf};
 ghost use Rattle.block.specs.Sealed.{blank, sound};
 ghost use Rattle.calls.specs.Effects.{completeOut};
 ghost use Rattle.filling.specs.Fillings.{fillingOf, orBlank, withPlace};
 use crate::Filling;
-use block::blank_block;
-use block::sound_block;
+use card_blocks::blank_block;
+use card_blocks::sound_block;
 use calls::Out;
 use calls::refusal;
 use catalogue::Entry;

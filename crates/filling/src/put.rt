@@ -2,7 +2,7 @@
 ghost use mathlib.Core.Path.{_≡_};
 ghost use Rattle.calls.specs.Effects.{putAnswer, putCard};
 use block::PAYLOAD;
-use block::write_block;
+use card_blocks::write_block;
 use catalogue::Entry;
 use standings::Answer;
 use standings::Opened;

@@ -8,9 +8,9 @@ use native.Mathlib.Omega.{arith}
 use lib.ListN.{length, getD, take, drop, length-append, length-take, length-drop, List·getD-append}
 use lib.Seq.{getD-append-add, getD-take, getD-drop, length-take-le}
 use Rattle.freemap.proofs.Bools.{order}
-use Rattle.block.specs.Card.{blockOf}
+use Rattle.card_blocks.specs.Card.{blockOf}
 use Rattle.block.specs.Sealed.{payloadOf}
-use Rattle.block.proofs.Card.{block-length}
+use Rattle.card_blocks.proofs.Card.{block-length}
 use Rattle.frames.specs.Frames.{bodies, bodyOf, totalOf}
 
 pub payload-length : (block : List ℕ) → length block ≡ 512 → length (payloadOf block) ≡ 496

@@ -14,9 +14,10 @@ use borrow.Author.Tests.{eqb-true}
 use Rattle.freemap.specs.Blocks.{all}
 use Rattle.freemap.proofs.Bools.{and-left, and-right, order}
 use Rattle.freemap.proofs.Runs.{all-intro, all-elim}
-use Rattle.block.specs.Card.{blockOf, withBlock}
-use Rattle.block.specs.Sealed.{sums, bytes4, numberAt, front, sealed, checkHolds, sound, payloadOf}
-use Rattle.block.proofs.Card.{block-length, same-block, other-block, length-withBlock}
+use Rattle.card_blocks.specs.Card.{blockOf, withBlock}
+use Rattle.byte_slices.specs.Numbers.{bytes4, numberAt}
+use Rattle.block.specs.Sealed.{sums, front, sealed, checkHolds, sound, payloadOf}
+use Rattle.card_blocks.proofs.Card.{block-length, same-block, other-block, length-withBlock}
 use Rattle.block.proofs.Sealed.{sealed-length, sound-own, payload-sealed}
 use Rattle.frames.specs.Frames.{Bytes, frames, bodies, bodyOf, totalOf, framed, sealedImage}
 use Rattle.frames.proofs.Bodies.{payload-length, bodies-length}

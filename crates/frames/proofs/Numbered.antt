@@ -12,8 +12,8 @@ use lib.ListN.{length, getD, take, drop, List·getD-eq-default}
 use lib.Seq.{ext-getD}
 use borrow.Author.Tests.{lt-ltb, le-ltb}
 use Rattle.freemap.proofs.Bools.{order}
-use Rattle.block.specs.Sealed.{bytes4, numberAt}
-use Rattle.block.proofs.Numbers.{bytes4-length}
+use Rattle.byte_slices.specs.Numbers.{bytes4, numberAt}
+use Rattle.byte_slices.proofs.Numbers.{bytes4-length}
 use Rattle.frames.specs.Frames.{bodyOf, totalOf}
 use Rattle.frames.specs.Numbers.{placeOf, numberIn, replaced, withNumber}
 use Rattle.frames.proofs.Bodies.{body-length, body-at}

@@ -8,8 +8,8 @@ use native.Mathlib.Omega.{arith}
 use lib.ListN.{length, getD, take, drop, length-append, List·getD-eq-default}
 use lib.Seq.{take-add, drop-drop}
 use Rattle.freemap.proofs.Bools.{order}
-use Rattle.block.specs.Sealed.{bytes4, numberAt}
-use Rattle.block.proofs.Numbers.{bytes4-length, number-at}
+use Rattle.byte_slices.specs.Numbers.{bytes4, numberAt}
+use Rattle.byte_slices.proofs.Numbers.{bytes4-length, number-at}
 use Rattle.frames.specs.Frames.{Bytes, bodyOf, totalOf}
 use Rattle.frames.specs.Numbers.{bytes8, wordBytes, wordsAt}
 use Rattle.frames.proofs.Bodies.{body-length, body-at}

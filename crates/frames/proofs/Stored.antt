@@ -11,9 +11,10 @@ use native.Mathlib.Omega.{arith}
 use lib.ListN.{length, getD, set, take, drop, replicate, length-append, length-replicate, length-drop, length-set, replicate-append-replicate, getD-replicate, List·getD-eq-default}
 use lib.Seq.{ext-getD, take-suc, take-all, length-take-le, getD-drop, getD-set-same, getD-set-other}
 use Rattle.freemap.proofs.Bools.{order, not-true}
-use Rattle.block.specs.Sealed.{bytes4, numberAt, blank}
+use Rattle.byte_slices.specs.Numbers.{bytes4, numberAt}
+use Rattle.block.specs.Sealed.{blank}
 use Rattle.block.proofs.Blank.{blank-zeros, blank-is-zeros}
-use Rattle.block.proofs.Numbers.{bytes4-length}
+use Rattle.byte_slices.proofs.Numbers.{bytes4-length}
 use Rattle.frames.specs.Frames.{bodyOf, totalOf}
 use Rattle.frames.specs.Numbers.{numberIn, replaced, withNumber, bytes8, wordBytes, wordsAt}
 use Rattle.frames.proofs.Bodies.{body-length}

@@ -6,7 +6,7 @@ use mathlib.Core.List.{List, [], _++_}
 use Prim.Native.Nat.{ℕ, zero, suc, _/_, _<_}
 use lib.ListN.{length, getD, take, drop}
 use Rattle.freemap.specs.Blocks.{all}
-use Rattle.block.specs.Card.{blockOf}
+use Rattle.card_blocks.specs.Card.{blockOf}
 use Rattle.block.specs.Sealed.{sealed, sound, payloadOf}
 
 -- Every element of a list is a byte, as those of a byte slice are.

@@ -6,7 +6,7 @@ use mathlib.Core.List.{List, [], _∷_, _++_}
 use Prim.Native.Nat.{ℕ, zero, suc, _+_, _*_, _/_, _%_}
 use lib.Dec.{ltb}
 use lib.ListN.{length, take, drop}
-use Rattle.block.specs.Sealed.{bytes4, numberAt}
+use Rattle.byte_slices.specs.Numbers.{bytes4, numberAt}
 use Rattle.frames.specs.Frames.{totalOf, bodyOf}
 
 -- Where number k of the body stands in the image.

@@ -3,16 +3,16 @@ ghost use mathlib.Core.Path.{_≡_};
 ghost use Prim.Native.Nat.{_+_, _-_, _*_, _≤_};
 ghost use lib.ListN.{length, drop, replicate};
 ghost use Rattle.block.specs.Sealed.{sealed, blank, payloadOf};
-ghost use Rattle.block.specs.Card.{blockOf, withBlock};
+ghost use Rattle.card_blocks.specs.Card.{blockOf, withBlock};
 ghost use Rattle.frames.specs.Frames.{totalOf, bodyOf, framed, sealedImage};
 ghost use Rattle.frames.specs.Numbers.{numberIn, replaced, withNumber, wordBytes, wordsAt};
 use block::BLOCK;
 use block::PAYLOAD;
-use block::bytes::get4;
-use block::bytes::put4;
-use block::copy_payload;
-use block::sound_block;
-use block::write_block;
+use byte_slices::get4;
+use byte_slices::put4;
+use card_blocks::copy_payload;
+use card_blocks::sound_block;
+use card_blocks::write_block;
 
 // Numbers of 4 bytes in the body of an image block.
 pub const NUMBERS: usize = 124;

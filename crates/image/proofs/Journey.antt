@@ -10,9 +10,10 @@ use lib.Dec.{eqb}
 use lib.ListN.{length, getD, take, drop, replicate, length-append, length-replicate, length-drop, take-append-drop}
 use lib.Seq.{take-add, take-at, drop-at, drop-drop}
 use Rattle.freemap.specs.Blocks.{free}
-use Rattle.block.specs.Sealed.{bytes4, numberAt, blank}
+use Rattle.byte_slices.specs.Numbers.{bytes4, numberAt}
+use Rattle.block.specs.Sealed.{blank}
 use Rattle.block.proofs.Blank.{blank-zeros, blank-is-zeros}
-use Rattle.block.proofs.Numbers.{bytes4-length, number-at}
+use Rattle.byte_slices.proofs.Numbers.{bytes4-length, number-at}
 use Rattle.standings.specs.Rows.{Verdict, accepted, settle}
 use Rattle.standings.specs.Limits.{shapeFits, sheetsFit}
 use Rattle.catalogue.specs.declared.Entry.{Entry}

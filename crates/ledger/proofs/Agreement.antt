@@ -14,7 +14,7 @@ use Rattle.freemap.specs.Blocks.{all}
 use Rattle.freemap.specs.Maps.{mapOf}
 use Rattle.freemap.proofs.Maps.{map-length, map-free}
 use Rattle.freemap.proofs.Runs.{all-intro, all-same}
-use Rattle.block.specs.Card.{blockOf}
+use Rattle.card_blocks.specs.Card.{blockOf}
 use Rattle.block.specs.Sealed as sealed-block
 use Rattle.block.proofs.Blank.{blank-zeros}
 use Rattle.block.proofs.Sealed.{sound-own, sound-zeros, blank-sealed}

@@ -15,9 +15,9 @@ use borrow.Author.Tests.{eqb-true, eqb-false}
 use Rattle.freemap.specs.Blocks.{fit}
 use Rattle.freemap.specs.Maps.{inRun, marked}
 use Rattle.freemap.proofs.Bools.{clash, order}
-use Rattle.block.specs.Card.{blockOf, withBlock, zeroed}
+use Rattle.card_blocks.specs.Card.{blockOf, withBlock, zeroed}
 use Rattle.block.specs.Sealed.{sealed}
-use Rattle.block.proofs.Card.{same-block, other-block, length-withBlock, length-zeroed, zeroed-inside, zeroed-before, zeroed-after}
+use Rattle.card_blocks.proofs.Card.{same-block, other-block, length-withBlock, length-zeroed, zeroed-inside, zeroed-before, zeroed-after}
 use Rattle.block.proofs.Sealed.{sealed-length}
 use Rattle.catalogue.specs.declared.Entry.{Entry}
 use Rattle.calls.proofs.Room.{fit-inside}

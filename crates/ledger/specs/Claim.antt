@@ -10,7 +10,7 @@ use lib.Dec.{eqb}
 use lib.ListN.{length, replicate}
 use Rattle.freemap.specs.Blocks.{free, fit}
 use Rattle.freemap.specs.Maps.{mapOf}
-use Rattle.block.specs.Card.{blockOf}
+use Rattle.card_blocks.specs.Card.{blockOf}
 use Rattle.block.specs.Sealed.{sealed}
 use Rattle.catalogue.specs.declared.Entry.{Entry}
 use Rattle.standings.specs.Rows.{Row, accepted, refused, firstOf, settle}

@@ -8,8 +8,8 @@ use native.Mathlib.Omega.{arith}
 use lib.Dec.{eqb}
 use lib.ListN.{length, replicate, length-append, length-replicate}
 use borrow.Author.Tests.{eq-eqb, ne-eqb, eqb-true, eqb-false}
-use Rattle.block.specs.Sealed.{bytes4}
-use Rattle.block.proofs.Numbers.{bytes4-length}
+use Rattle.byte_slices.specs.Numbers.{bytes4}
+use Rattle.byte_slices.proofs.Numbers.{bytes4-length}
 use Rattle.standings.specs.Rows.{Verdict, accepted, refused, settle, row, firstOf}
 use Rattle.catalogue.specs.declared.Entry.{Entry}
 use Rattle.frames.specs.Frames.{frames, bodyOf, totalOf}

@@ -4,7 +4,7 @@ ghost use Prim.Native.Nat.{_+_};
 ghost use Rattle.calls.specs.Effects.{growVerdict, growOut, growMap, growCard};
 ghost use Rattle.taking.specs.Rulings.{rulingOf};
 use crate::Ruling;
-use block::zero_blocks;
+use card_blocks::zero_blocks;
 use calls::Out;
 use calls::refusal;
 use catalogue::Entry;

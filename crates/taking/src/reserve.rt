@@ -4,7 +4,7 @@ ghost use mathlib.Core.Path.{_≡_};
 ghost use Rattle.calls.specs.Effects.{reserveVerdict, reserveStart, reserveOut, reserveMap, reserveCard};
 ghost use Rattle.taking.specs.Rulings.{rulingOf};
 use crate::Ruling;
-use block::zero_blocks;
+use card_blocks::zero_blocks;
 use calls::Out;
 use calls::refusal;
 use catalogue::Entry;

@@ -2,8 +2,8 @@
 ghost use mathlib.Core.Path.{_≡_};
 ghost use Rattle.calls.specs.Effects.{showAnswer, showBuffer};
 use block::PAYLOAD;
-use block::copy_payload;
-use block::sound_block;
+use card_blocks::copy_payload;
+use card_blocks::sound_block;
 use catalogue::Entry;
 use standings::Answer;
 use standings::Opened;

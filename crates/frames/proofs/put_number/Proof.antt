@@ -7,7 +7,7 @@ use native.Mathlib.Omega.{arith}
 use borrow.Author.Needs.{needs}
 use borrow.Rule.Slice.PartMut.{putMid}
 use denote.Ref.{now}
-use Rattle.block.specs.Sealed.{bytes4}
+use Rattle.byte_slices.specs.Numbers.{bytes4}
 use Rattle.frames.proofs.Numbered.{stored-in, stored-out}
 use Rattle.frames.specs.Numbers.{placeOf, replaced}
 use Rattle.frames.proofs.put_number.Statement.{statement}

@@ -5,7 +5,7 @@ use mathlib.Core.Path.{_≡_, refl, sym, ap, _∙_}
 use Prim.Native.Nat.{ℕ, _≤_, _<_, _-_, _+_, _*_, _/_}
 use borrow.Author.Needs.{needs}
 use denote.Ref.{now}
-use Rattle.block.specs.Card.{withBlock}
+use Rattle.card_blocks.specs.Card.{withBlock}
 use Rattle.block.specs.Sealed.{sealed}
 use Rattle.frames.proofs.seal_frame.Statement.{statement}
 use Rattle.frames.proofs.seal_frame.Tie as tie

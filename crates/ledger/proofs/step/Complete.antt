@@ -8,7 +8,7 @@ use native.Mathlib.Omega.{arith}
 use lib.Dec.{eqb, leb}
 use lib.ListN.{length, set, length-map}
 use borrow.Author.Tests.{leb-false, eqb-true}
-use Rattle.block.specs.Card.{blockOf}
+use Rattle.card_blocks.specs.Card.{blockOf}
 use Rattle.block.specs.Sealed as block
 use Rattle.catalogue.specs.Entries.{entryAt}
 use Rattle.catalogue.specs.declared.Entry.{Entry}

@@ -9,7 +9,7 @@ use lib.ListN.{length, set, replicate, length-append, length-replicate}
 use borrow.Author.Tests.{leb-false, eqb-false, not-false}
 use Rattle.freemap.specs.Blocks.{fit}
 use Rattle.freemap.specs.Maps.{marked}
-use Rattle.block.specs.Card.{zeroed}
+use Rattle.card_blocks.specs.Card.{zeroed}
 use Rattle.catalogue.specs.Entries.{entryAt}
 use Rattle.catalogue.specs.declared.Entry.{Entry}
 use Rattle.standings.specs.Answers.{numberOf, valuesOf}

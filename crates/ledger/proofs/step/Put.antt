@@ -7,7 +7,7 @@ use native.Mathlib.Omega.{arith}
 use lib.Dec.{leb}
 use lib.ListN.{length, set, length-set}
 use borrow.Author.Tests.{leb-false, eqb-true, not-false}
-use Rattle.block.specs.Card.{withBlock}
+use Rattle.card_blocks.specs.Card.{withBlock}
 use Rattle.block.specs.Sealed.{sealed}
 use Rattle.catalogue.specs.Entries.{entryAt}
 use Rattle.catalogue.specs.declared.Entry.{Entry}

@@ -10,7 +10,7 @@ use borrow.Author.Tests.{leb-false, eqb-false}
 use Rattle.freemap.specs.Blocks as map-blocks
 use Rattle.freemap.specs.Blocks.{leastFit}
 use Rattle.freemap.specs.Maps.{marked}
-use Rattle.block.specs.Card.{zeroed}
+use Rattle.card_blocks.specs.Card.{zeroed}
 use Rattle.catalogue.specs.Entries.{entryAt}
 use Rattle.catalogue.specs.declared.Entry.{Entry}
 use Rattle.standings.specs.Answers.{numberOf, valuesOf}

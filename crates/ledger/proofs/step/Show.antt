@@ -6,7 +6,7 @@ use mathlib.Core.Bool.{false, true≢false}
 use mathlib.Core.List.{List, [], map}
 use lib.ListN.{length, getD}
 use borrow.Author.Tests.{leb-false}
-use Rattle.block.specs.Card.{blockOf}
+use Rattle.card_blocks.specs.Card.{blockOf}
 use Rattle.block.specs.Sealed.{payloadOf}
 use Rattle.block.proofs.Sealed.{payload-sealed}
 use Rattle.catalogue.specs.Entries.{entryAt}

@@ -7,7 +7,7 @@ use Prim.Native.Nat.{_+_}
 use native.Mathlib.Omega.{arith}
 use borrow.Author.Needs.{needs}
 use denote.Ref.{now}
-use Rattle.block.specs.Card.{blockOf}
+use Rattle.card_blocks.specs.Card.{blockOf}
 use Rattle.block.specs.Sealed.{sound}
 use Rattle.freemap.specs.Blocks.{free}
 use Rattle.standings.specs.Openings.{refusedRow, rowOf}

@@ -1,13 +1,13 @@
--- What stores and lent parts leave of a slice.
+-- What stores leave of a slice.
 -- Assumes nothing.
 use mathlib.Core.Path.{_≡_, refl, ap, _∙_}
-use mathlib.Core.List.{List, [], _∷_, _++_, append-assoc, append-nil}
+use mathlib.Core.List.{List, [], _∷_, _++_, append-nil}
 use Prim.Native.Nat.{ℕ, zero, suc, _+_, _<_}
 use native.Mathlib.Nat.{not-suc-le-zero, le-of-suc-le-suc, le-of-eq}
 use native.Mathlib.Numerals.{add-one}
 use native.Mathlib.Omega.{arith}
 use lib.ListN.{length, getD, set, take, drop, drop-of-length-le, replicate}
-use lib.Seq.{sets-eq, take-at, drop-at, drop-drop, take-all}
+use lib.Seq.{sets-eq, take-all}
 
 -- four stores over four bytes
 pub four-stores : (s : List ℕ) (a b c d : ℕ) → length s ≡ 4 → set (set (set (set s 0 a) 1 b) 2 c) 3 d ≡ a ∷ b ∷ c ∷ d ∷ []
@@ -31,8 +31,3 @@ copied d s i e h = rw (take-all i s (omega arith), drop-of-length-le d {i = i} (
 -- the end of a fill with zeros
 pub filled : (s : List ℕ) (i : ℕ) → i ≡ length s → replicate i 0 ++ drop i s ≡ replicate (length s) 0
 filled s i h = rw (drop-of-length-le s {i = i} (omega arith), append-nil, h)
-
--- a part lent and given back, right behind what is known already: one part more is known
-pub grown : (known orig new : List ℕ) (at size : ℕ) → length known ≡ at
-    → take at (known ++ drop at orig) ++ (new ++ drop size (drop at (known ++ drop at orig))) ≡ known ++ new ++ drop (at + size) orig
-grown known orig new at size e = rw (take-at known (drop at orig) at e, drop-at known (drop at orig) at e, drop-drop, ← append-assoc)

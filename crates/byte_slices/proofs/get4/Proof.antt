@@ -1,9 +1,9 @@
--- `bytes::get4` meets its contract: it joins the four bytes.
+-- `get4` meets its contract: it joins the four bytes.
 -- Assumes nothing.
-use Rattle.block.specs.Sealed.{numberAt}
+use Rattle.byte_slices.specs.Numbers.{numberAt}
 use borrow.Author.Needs.{needs}
-use Rattle.block.proofs.bytes.get4.Statement.{statement}
-use Rattle.block.proofs.bytes.get4.Tie as tie
+use Rattle.byte_slices.proofs.get4.Statement.{statement}
+use Rattle.byte_slices.proofs.get4.Tie as tie
 
 shared-slice-read-number : tie.Need-shared-slice-read-number
 shared-slice-read-number c = search needs

@@ -1,10 +1,10 @@
 -- `copy_payload` meets its contract: the part that is lent is the payload of block b.
 -- Assumes nothing.
 use mathlib.Core.Path.{_∙_}
-use Rattle.block.proofs.Card.{lent-payload}
+use Rattle.card_blocks.proofs.Card.{lent-payload}
 use borrow.Author.Needs.{needs}
-use Rattle.block.proofs.copy_payload.Statement.{statement}
-use Rattle.block.proofs.copy_payload.Tie as tie
+use Rattle.card_blocks.proofs.copy_payload.Statement.{statement}
+use Rattle.card_blocks.proofs.copy_payload.Tie as tie
 
 mul-start : tie.Need-mul-start
 mul-start c = search needs

@@ -1,9 +1,9 @@
 -- `write_block` meets its contract: the part of block b comes back with the sealed block in it.
 -- Assumes nothing.
-use Rattle.block.proofs.Card.{given-back}
+use Rattle.card_blocks.proofs.Card.{given-back}
 use borrow.Author.Needs.{needs}
-use Rattle.block.proofs.write_block.Statement.{statement}
-use Rattle.block.proofs.write_block.Tie as tie
+use Rattle.card_blocks.proofs.write_block.Statement.{statement}
+use Rattle.card_blocks.proofs.write_block.Tie as tie
 
 mul-start : tie.Need-mul-start
 mul-start c = search needs

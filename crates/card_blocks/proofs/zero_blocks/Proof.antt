@@ -4,11 +4,11 @@ use mathlib.Core.Path.{_≡_, ap, _∙_}
 use Prim.Native.Nat.{_≤_, _-_}
 use native.Mathlib.Omega.{arith}
 use lib.ListN.{length}
-use Rattle.block.specs.Card.{zeroed}
-use Rattle.block.proofs.Card.{zeroed-more}
+use Rattle.card_blocks.specs.Card.{zeroed}
+use Rattle.card_blocks.proofs.Card.{zeroed-more}
 use borrow.Author.Needs.{needs}
-use Rattle.block.proofs.zero_blocks.Statement.{statement}
-use Rattle.block.proofs.zero_blocks.Tie as tie
+use Rattle.card_blocks.proofs.zero_blocks.Statement.{statement}
+use Rattle.card_blocks.proofs.zero_blocks.Tie as tie
 
 abbrev Inv-loop : tie.InvT-loop
 Inv-loop card₀ b k first count i₀ card i = (i ≤ k) × (card ≡ zeroed card₀ b i) × (length card ≡ length card₀)

@@ -1,10 +1,10 @@
--- `bytes::put4` meets its contract: four stores over four bytes.
+-- `put4` meets its contract: four stores over four bytes.
 -- Assumes nothing.
-use Rattle.block.specs.Sealed.{bytes4}
-use Rattle.block.proofs.Stores.{four-stores}
+use Rattle.byte_slices.specs.Numbers.{bytes4}
+use Rattle.byte_slices.proofs.Stores.{four-stores}
 use borrow.Author.Needs.{needs}
-use Rattle.block.proofs.bytes.put4.Statement.{statement}
-use Rattle.block.proofs.bytes.put4.Tie as tie
+use Rattle.byte_slices.proofs.put4.Statement.{statement}
+use Rattle.byte_slices.proofs.put4.Tie as tie
 
 cast-s : tie.Need-cast-s
 cast-s c = search needs

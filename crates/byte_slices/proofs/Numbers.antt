@@ -7,7 +7,7 @@ use native.Mathlib.Nat.{add-zero}
 use native.Mathlib.Omega.{arith}
 use lib.ListN.{length}
 use lib.Seq.{getD-append-add}
-use Rattle.block.specs.Sealed.{bytes4, numberAt}
+use Rattle.byte_slices.specs.Numbers.{bytes4, numberAt}
 
 pub bytes4-length : (n : ℕ) → length (bytes4 n) ≡ 4
 unfolding bytes4

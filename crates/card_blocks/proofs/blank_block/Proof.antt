@@ -1,11 +1,11 @@
 -- `blank_block` meets its contract: the part that is lent is block b.
 -- Assumes nothing.
 use mathlib.Core.Path.{ap, _∙_}
 use Rattle.block.specs.Sealed.{blank}
-use Rattle.block.proofs.Card.{lent}
+use Rattle.card_blocks.proofs.Card.{lent}
 use borrow.Author.Needs.{needs}
-use Rattle.block.proofs.blank_block.Statement.{statement}
-use Rattle.block.proofs.blank_block.Tie as tie
+use Rattle.card_blocks.proofs.blank_block.Statement.{statement}
+use Rattle.card_blocks.proofs.blank_block.Tie as tie
 
 mul-start : tie.Need-mul-start
 mul-start c = search needs

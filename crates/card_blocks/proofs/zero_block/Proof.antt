@@ -3,10 +3,10 @@
 use mathlib.Core.Path.{ap, _∙_}
 use Prim.Native.Nat.{ℕ}
 use lib.ListN.{replicate}
-use Rattle.block.proofs.Card.{lent-length, given-back}
+use Rattle.card_blocks.proofs.Card.{lent-length, given-back}
 use borrow.Author.Needs.{needs}
-use Rattle.block.proofs.zero_block.Statement.{statement}
-use Rattle.block.proofs.zero_block.Tie as tie
+use Rattle.card_blocks.proofs.zero_block.Statement.{statement}
+use Rattle.card_blocks.proofs.zero_block.Tie as tie
 
 mul-start : tie.Need-mul-start
 mul-start c = search needs

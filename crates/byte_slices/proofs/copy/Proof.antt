@@ -1,14 +1,14 @@
--- `bytes::copy` meets its contract. The invariant: the first i bytes are copied and the others are as they were.
+-- `copy` meets its contract. The invariant: the first i bytes are copied and the others are as they were.
 -- Assumes nothing.
 use mathlib.Core.Path.{_≡_, _∙_}
 use mathlib.Core.List.{_++_}
 use Prim.Native.Nat.{_≤_, _-_}
 use native.Mathlib.Omega.{arith}
 use lib.ListN.{length, take, drop}
-use Rattle.block.proofs.Stores.{copy-more, copied}
+use Rattle.byte_slices.proofs.Stores.{copy-more, copied}
 use borrow.Author.Needs.{needs}
-use Rattle.block.proofs.bytes.copy.Statement.{statement}
-use Rattle.block.proofs.bytes.copy.Tie as tie
+use Rattle.byte_slices.proofs.copy.Statement.{statement}
+use Rattle.byte_slices.proofs.copy.Tie as tie
 
 abbrev Inv-loop : tie.InvT-loop
 Inv-loop to₀ from i₀ to i = (i ≤ length from) × (to ≡ take i from ++ drop i to₀) × (length to ≡ length to₀)

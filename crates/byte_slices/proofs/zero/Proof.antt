@@ -1,4 +1,4 @@
--- `bytes::zero` meets its contract. The invariant: the first i bytes are 0 and the others are as they were.
+-- `zero` meets its contract. The invariant: the first i bytes are 0 and the others are as they were.
 -- Assumes nothing.
 use mathlib.Core.Path.{_≡_, _∙_}
 use mathlib.Core.List.{_++_}
@@ -6,10 +6,10 @@ use Prim.Native.Nat.{_≤_, _-_}
 use native.Mathlib.Omega.{arith}
 use lib.ListN.{length, replicate, drop}
 use borrow.Author.Fill.{fill-more}
-use Rattle.block.proofs.Stores.{filled}
+use Rattle.byte_slices.proofs.Stores.{filled}
 use borrow.Author.Needs.{needs}
-use Rattle.block.proofs.bytes.zero.Statement.{statement}
-use Rattle.block.proofs.bytes.zero.Tie as tie
+use Rattle.byte_slices.proofs.zero.Statement.{statement}
+use Rattle.byte_slices.proofs.zero.Tie as tie
 
 abbrev Inv-loop : tie.InvT-loop
 Inv-loop s₀ i₀ s i = (i ≤ length s₀) × (s ≡ replicate i 0 ++ drop i s₀) × (length s ≡ length s₀)

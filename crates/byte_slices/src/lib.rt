@@ -1,8 +1,8 @@
-// Runs of bytes, and stored numbers: four bytes, the high byte first.
+// Byte slices: numbers stored in them as four bytes, the high byte first; a slice copied, and filled with zeros.
 ghost use mathlib.Core.Path.{_≡_};
 ghost use Prim.Native.Nat.{_+_, _*_, _≤_};
 ghost use lib.ListN.{length, replicate};
-ghost use Rattle.block.specs.Sealed.{bytes4, numberAt};
+ghost use Rattle.byte_slices.specs.Numbers.{bytes4, numberAt};
 
 // Stores n.
 pub fn put4(s: &mut [u8], n: u32)

@@ -1,0 +1,2 @@
+-- What the contracts of `byte_slices` cite.
+pub mod Numbers

@@ -1,0 +1,2 @@
+-- Laws of the definitions of specs/, for other crates too.
+pub mod Card

@@ -1,0 +1,2 @@
+-- What the contracts of `card_blocks` cite.
+pub mod Card
