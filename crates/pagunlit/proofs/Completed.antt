@@ -48,9 +48,9 @@ use Rattle.card.proofs.Shape.Laws as Shape″
 use Rattle.card.specs.declared.Outcome.{Outcome}
 use Rattle.card.proofs.Outcome as Outcome′
 use Rattle.card.proofs.Outcome.Laws as Outcome″
-use Rattle.pagunlit.specs.declared.Reply.{Reply}
-use Rattle.pagunlit.proofs.Reply as Reply′
-use Rattle.pagunlit.proofs.Reply.Laws as Reply″
+use Rattle.replies.specs.declared.Reply.{Reply}
+use Rattle.replies.proofs.Reply as Reply′
+use Rattle.replies.proofs.Reply.Laws as Reply″
 use Rattle.catalogue.proofs.Steps.{leave}
 use Rattle.catalogue.proofs.Lending.{LentAgain, lends-again, comes-back}
 

@@ -1,15 +1,15 @@
--- Written by tools/walks: `pagunlit::pagunlit_pause` meets its contract, by the walk of `Paused.antt`, with the calls of `card::Shape::pause`, `pagunlit::reply_of`.
+-- Written by tools/walks: `pagunlit::pagunlit_pause` meets its contract, by the walk of `Paused.antt`, with the calls of `card::Shape::pause`, `replies::reply_of`.
 -- Assumes nothing.
 use contract.Running.{givenOf, tables, tablesOf}
 use denote.Triple.Spec.{tripleOf}
 use denote.Triple.Table.{entered, cited}
-use Rattle.pagunlit.specs.Replies.{replyOf}
+use Rattle.replies.specs.Replies.{replyOf}
 use Rattle.pagunlit.specs.Calls.{pauseOutcome, pauseEntries}
 use Rattle.pagunlit.proofs.Paused.{call-contract, reply-of-contract, meets}
 use Rattle.card.proofs.Shape.pause.Symbol as call-def
 use Rattle.card.proofs.Shape.pause.Met as call-met
-use Rattle.pagunlit.proofs.reply_of.Symbol as reply-of-def
-use Rattle.pagunlit.proofs.reply_of.Met as reply-of-met
+use Rattle.replies.proofs.reply_of.Symbol as reply-of-def
+use Rattle.replies.proofs.reply_of.Met as reply-of-met
 use Rattle.pagunlit.proofs.pagunlit_pause.Key.{name as #pagunlit-pause}
 use Rattle.pagunlit.proofs.pagunlit_pause as pagunlit-pause
 use Rattle.pagunlit.proofs.pagunlit_pause.Statement as stated
@@ -23,4 +23,4 @@ pagunlit-pause-spec 𝓤 H 𝓜 𝓖 𝓡 =
     (meets call-def.name reply-of-def.name pauseOutcome pauseEntries replyOf
     𝓤 H (𝓖 .A) (givenOf 𝓤 H 𝓜 𝓖) (tablesOf 𝓤 H 𝓜 (tables 𝓤 H 𝓜 𝓡 code.env))
     (cited 𝓤 H (call-contract pauseOutcome pauseEntries 𝓤 H (𝓖 .A)) 𝓜 𝓡 code.env call-def.name call-def.routine code.calls-card·Shape·pause (call-met.met 𝓤 H 𝓜 𝓖 𝓡))
-    (cited 𝓤 H (reply-of-contract replyOf 𝓤 H (𝓖 .A)) 𝓜 𝓡 code.env reply-of-def.name reply-of-def.routine code.calls-pagunlit·reply-of (reply-of-met.met 𝓤 H 𝓜 𝓖 𝓡)))
+    (cited 𝓤 H (reply-of-contract replyOf 𝓤 H (𝓖 .A)) 𝓜 𝓡 code.env reply-of-def.name reply-of-def.routine code.calls-replies·reply-of (reply-of-met.met 𝓤 H 𝓜 𝓖 𝓡)))

@@ -1,15 +1,15 @@
--- Written by tools/walks: `pagunlit::pagunlit_release` meets its contract, by the walk of `Released.antt`, with the calls of `card::Shape::release`, `pagunlit::reply_of`.
+-- Written by tools/walks: `pagunlit::pagunlit_release` meets its contract, by the walk of `Released.antt`, with the calls of `card::Shape::release`, `replies::reply_of`.
 -- Assumes nothing.
 use contract.Running.{givenOf, tables, tablesOf}
 use denote.Triple.Spec.{tripleOf}
 use denote.Triple.Table.{entered, cited}
-use Rattle.pagunlit.specs.Replies.{replyOf}
+use Rattle.replies.specs.Replies.{replyOf}
 use Rattle.pagunlit.specs.Calls.{releaseOutcome, releaseMap, releaseEntries}
 use Rattle.pagunlit.proofs.Released.{call-contract, reply-of-contract, meets}
 use Rattle.card.proofs.Shape.release.Symbol as call-def
 use Rattle.card.proofs.Shape.release.Met as call-met
-use Rattle.pagunlit.proofs.reply_of.Symbol as reply-of-def
-use Rattle.pagunlit.proofs.reply_of.Met as reply-of-met
+use Rattle.replies.proofs.reply_of.Symbol as reply-of-def
+use Rattle.replies.proofs.reply_of.Met as reply-of-met
 use Rattle.pagunlit.proofs.pagunlit_release.Key.{name as #pagunlit-release}
 use Rattle.pagunlit.proofs.pagunlit_release as pagunlit-release
 use Rattle.pagunlit.proofs.pagunlit_release.Statement as stated
@@ -23,4 +23,4 @@ pagunlit-release-spec 𝓤 H 𝓜 𝓖 𝓡 =
     (meets call-def.name reply-of-def.name releaseOutcome releaseMap releaseEntries replyOf
     𝓤 H (𝓖 .A) (givenOf 𝓤 H 𝓜 𝓖) (tablesOf 𝓤 H 𝓜 (tables 𝓤 H 𝓜 𝓡 code.env))
     (cited 𝓤 H (call-contract releaseOutcome releaseMap releaseEntries 𝓤 H (𝓖 .A)) 𝓜 𝓡 code.env call-def.name call-def.routine code.calls-card·Shape·release (call-met.met 𝓤 H 𝓜 𝓖 𝓡))
-    (cited 𝓤 H (reply-of-contract replyOf 𝓤 H (𝓖 .A)) 𝓜 𝓡 code.env reply-of-def.name reply-of-def.routine code.calls-pagunlit·reply-of (reply-of-met.met 𝓤 H 𝓜 𝓖 𝓡)))
+    (cited 𝓤 H (reply-of-contract replyOf 𝓤 H (𝓖 .A)) 𝓜 𝓡 code.env reply-of-def.name reply-of-def.routine code.calls-replies·reply-of (reply-of-met.met 𝓤 H 𝓜 𝓖 𝓡)))

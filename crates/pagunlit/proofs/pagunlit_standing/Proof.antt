@@ -1,15 +1,15 @@
--- Written by tools/walks: `pagunlit::pagunlit_standing` meets its contract, by the walk of `Stood.antt`, with the calls of `card::Shape::standing`, `pagunlit::reply_of`.
+-- Written by tools/walks: `pagunlit::pagunlit_standing` meets its contract, by the walk of `Stood.antt`, with the calls of `card::Shape::standing`, `replies::reply_of`.
 -- Assumes nothing.
 use contract.Running.{givenOf, tables, tablesOf}
 use denote.Triple.Spec.{tripleOf}
 use denote.Triple.Table.{entered, cited}
-use Rattle.pagunlit.specs.Replies.{replyOf}
+use Rattle.replies.specs.Replies.{replyOf}
 use Rattle.pagunlit.specs.Calls.{standingOutcome}
 use Rattle.pagunlit.proofs.Stood.{call-contract, reply-of-contract, meets}
 use Rattle.card.proofs.Shape.standing.Symbol as call-def
 use Rattle.card.proofs.Shape.standing.Met as call-met
-use Rattle.pagunlit.proofs.reply_of.Symbol as reply-of-def
-use Rattle.pagunlit.proofs.reply_of.Met as reply-of-met
+use Rattle.replies.proofs.reply_of.Symbol as reply-of-def
+use Rattle.replies.proofs.reply_of.Met as reply-of-met
 use Rattle.pagunlit.proofs.pagunlit_standing.Key.{name as #pagunlit-standing}
 use Rattle.pagunlit.proofs.pagunlit_standing as pagunlit-standing
 use Rattle.pagunlit.proofs.pagunlit_standing.Statement as stated
@@ -23,4 +23,4 @@ pagunlit-standing-spec 𝓤 H 𝓜 𝓖 𝓡 =
     (meets call-def.name reply-of-def.name standingOutcome replyOf
     𝓤 H (𝓖 .A) (givenOf 𝓤 H 𝓜 𝓖) (tablesOf 𝓤 H 𝓜 (tables 𝓤 H 𝓜 𝓡 code.env))
     (cited 𝓤 H (call-contract standingOutcome 𝓤 H (𝓖 .A)) 𝓜 𝓡 code.env call-def.name call-def.routine code.calls-card·Shape·standing (call-met.met 𝓤 H 𝓜 𝓖 𝓡))
-    (cited 𝓤 H (reply-of-contract replyOf 𝓤 H (𝓖 .A)) 𝓜 𝓡 code.env reply-of-def.name reply-of-def.routine code.calls-pagunlit·reply-of (reply-of-met.met 𝓤 H 𝓜 𝓖 𝓡)))
+    (cited 𝓤 H (reply-of-contract replyOf 𝓤 H (𝓖 .A)) 𝓜 𝓡 code.env reply-of-def.name reply-of-def.routine code.calls-replies·reply-of (reply-of-met.met 𝓤 H 𝓜 𝓖 𝓡)))

@@ -3,11 +3,11 @@ use mathlib.Core.Path.{_≡_}
 use lib.ListN.{getD}
 use Rattle.standings.specs.Answers.{numberOf, valuesOf}
 use Rattle.card.specs.declared.Outcome.{Outcome}
-use Rattle.pagunlit.specs.Replies.{replyOf}
-use Rattle.pagunlit.specs.declared.Reply.{Reply}
+use Rattle.replies.specs.Replies.{replyOf}
+use Rattle.replies.specs.declared.Reply.{Reply}
 use borrow.Author.Needs.{needs}
-use Rattle.pagunlit.proofs.reply_of.Statement.{statement}
-use Rattle.pagunlit.proofs.reply_of.Tie as tie
+use Rattle.replies.proofs.reply_of.Statement.{statement}
+use Rattle.replies.proofs.reply_of.Tie as tie
 
 filled : (o : Outcome) (number first second third : ℕ) → number ≡ numberOf (o .answer) → first ≡ getD (valuesOf (o .answer)) 0 0 → second ≡ getD (valuesOf (o .answer)) 1 0
     → third ≡ getD (valuesOf (o .answer)) 2 0 → _≡_ {A = Reply} (record { shape = o .shape; number = number; first = first; second = second; third = third }) (replyOf o)

@@ -3,7 +3,7 @@
 use lib.ListN.{getD}
 use Rattle.standings.specs.Answers.{numberOf, valuesOf}
 use Rattle.card.specs.declared.Outcome.{Outcome}
-use Rattle.pagunlit.specs.declared.Reply.{Reply}
+use Rattle.replies.specs.declared.Reply.{Reply}
 
 -- 0 or the refusal's number, and the values that go with it, in their order; 0 where there are none.
 abbrev pub replyOf : Outcome → Reply
