@@ -1,12 +1,26 @@
 -- Types by value, and the walks over any of them.
 pub mod Values
 pub mod Completed
+pub mod CompletedReply
+pub mod Described
 pub mod Freshened
+pub mod FreshenedReply
 pub mod Paused
+pub mod PausedReply
+pub mod Printed
 pub mod Put
+pub mod PutReply
 pub mod Released
+pub mod ReleasedReply
 pub mod Reserved
+pub mod ReservedReply
 pub mod Restored
+pub mod RestoredReply
 pub mod Saved
+pub mod SavedReply
 pub mod Shown
+pub mod ShownReply
+pub mod StateLoaded
+pub mod StateSaved
 pub mod Stood
+pub mod StoodReply

@@ -1,7 +1,6 @@
--- What is read from an image, and what the parts of a load come to. `EntriesRead` and `StateLoaded` are the walks over the entries.
+-- What is read from an image, and what the parts of a load come to. `EntriesRead` is the walk over the entries.
 pub mod Contents
 pub mod Reading
 pub mod LoadRows
 pub mod Loads
 pub mod EntriesRead
-pub mod StateLoaded

@@ -1,7 +1,6 @@
--- The laws of numbers in decimal and of what is written, and the walks over the entries.
+-- The laws of numbers in decimal and of what is written, and the walk over the entries.
 pub mod Cursors
 pub mod Decimals
-pub mod Described
 pub mod Lines
 pub mod Room
 pub mod SheetsWritten

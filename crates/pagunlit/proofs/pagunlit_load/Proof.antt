@@ -1,11 +1,18 @@
--- Written by tools/walks: `pagunlit::pagunlit_load` meets its contract, by the walk of `Restored.antt`, with the calls of `card::Shape::load`, `replies::reply_of`.
+-- Written by tools/walks: `pagunlit::pagunlit_load` meets its contract, by the walk of `RestoredReply.antt` of the crate chains, with the calls of `card::Shape::load`, `replies::reply_of`.
 -- Assumes nothing.
 use contract.Running.{givenOf, tables, tablesOf}
 use denote.Triple.Spec.{tripleOf}
 use denote.Triple.Table.{entered, cited}
 use Rattle.replies.specs.Replies.{replyOf}
 use Rattle.pagunlit.specs.Calls.{loadOutcome, loadMap, loadEntries, loadScratch}
-use Rattle.pagunlit.proofs.Restored.{call-contract, reply-of-contract, meets}
+use Rattle.chains.proofs.Values.{Value, valueOf}
+use Rattle.card.proofs.Shape as Shape′
+use Rattle.card.proofs.Shape.Laws as Shape″
+use Rattle.card.proofs.Outcome as Outcome′
+use Rattle.card.proofs.Outcome.Laws as Outcome″
+use Rattle.replies.proofs.Reply as Reply′
+use Rattle.replies.proofs.Reply.Laws as Reply″
+use Rattle.chains.proofs.RestoredReply.{call-contract, reply-of-contract, meets}
 use Rattle.card.proofs.Shape.load.Symbol as call-def
 use Rattle.card.proofs.Shape.load.Met as call-met
 use Rattle.replies.proofs.reply_of.Symbol as reply-of-def
@@ -15,12 +22,21 @@ use Rattle.pagunlit.proofs.pagunlit_load as pagunlit-load
 use Rattle.pagunlit.proofs.pagunlit_load.Statement as stated
 use Rattle.pagunlit.proofs.pagunlit_load.Code as code
 
+abbrev Shape : Value
+Shape = valueOf Shape′.the-type Shape″.the-laws Shape″.the-plain
+
+abbrev Outcome : Value
+Outcome = valueOf Outcome′.the-type Outcome″.the-laws Outcome″.the-plain
+
+abbrev Reply : Value
+Reply = valueOf Reply′.the-type Reply″.the-laws Reply″.the-plain
+
 pub pagunlit-load-spec : {M : Type 1} → stated.statement M
 unfolding code.routine tablesOf
 pagunlit-load-spec 𝓤 H 𝓜 𝓖 𝓡 =
     entered 𝓤 H (tripleOf 𝓤 H (𝓖 .A) pagunlit-load.signature (pagunlit-load.spec 𝓤 H (𝓖 .A) (𝓜 .mem) (𝓡 .run)))
     (tables 𝓤 H 𝓜 𝓡 code.env .C) (tables 𝓤 H 𝓜 𝓡 code.env .Λ) #pagunlit-load code.function (code.unfolded 𝓤 H 𝓜 𝓡)
-    (meets call-def.name reply-of-def.name loadOutcome loadMap loadEntries loadScratch replyOf
+    (meets Shape Outcome Reply call-def.name reply-of-def.name loadOutcome loadMap loadEntries loadScratch replyOf
     𝓤 H (𝓖 .A) (givenOf 𝓤 H 𝓜 𝓖) (tablesOf 𝓤 H 𝓜 (tables 𝓤 H 𝓜 𝓡 code.env))
-    (cited 𝓤 H (call-contract loadOutcome loadMap loadEntries loadScratch 𝓤 H (𝓖 .A)) 𝓜 𝓡 code.env call-def.name call-def.routine code.calls-card·Shape·load (call-met.met 𝓤 H 𝓜 𝓖 𝓡))
-    (cited 𝓤 H (reply-of-contract replyOf 𝓤 H (𝓖 .A)) 𝓜 𝓡 code.env reply-of-def.name reply-of-def.routine code.calls-replies·reply-of (reply-of-met.met 𝓤 H 𝓜 𝓖 𝓡)))
+    (cited 𝓤 H (call-contract Shape Outcome Reply loadOutcome loadMap loadEntries loadScratch 𝓤 H (𝓖 .A)) 𝓜 𝓡 code.env call-def.name call-def.routine code.calls-card·Shape·load (call-met.met 𝓤 H 𝓜 𝓖 𝓡))
+    (cited 𝓤 H (reply-of-contract Shape Outcome Reply replyOf 𝓤 H (𝓖 .A)) 𝓜 𝓡 code.env reply-of-def.name reply-of-def.routine code.calls-replies·reply-of (reply-of-met.met 𝓤 H 𝓜 𝓖 𝓡)))

@@ -1,11 +1,18 @@
--- Written by tools/walks: `pagunlit::pagunlit_reserve` meets its contract, by the walk of `Reserved.antt`, with the calls of `card::Shape::reserve`, `replies::reply_of`.
+-- Written by tools/walks: `pagunlit::pagunlit_reserve` meets its contract, by the walk of `ReservedReply.antt` of the crate chains, with the calls of `card::Shape::reserve`, `replies::reply_of`.
 -- Assumes nothing.
 use contract.Running.{givenOf, tables, tablesOf}
 use denote.Triple.Spec.{tripleOf}
 use denote.Triple.Table.{entered, cited}
 use Rattle.replies.specs.Replies.{replyOf}
 use Rattle.pagunlit.specs.Calls.{reserveOutcome, reserveMap, reserveEntries, reserveCard}
-use Rattle.pagunlit.proofs.Reserved.{call-contract, reply-of-contract, meets}
+use Rattle.chains.proofs.Values.{Value, valueOf}
+use Rattle.card.proofs.Shape as Shape′
+use Rattle.card.proofs.Shape.Laws as Shape″
+use Rattle.card.proofs.Outcome as Outcome′
+use Rattle.card.proofs.Outcome.Laws as Outcome″
+use Rattle.replies.proofs.Reply as Reply′
+use Rattle.replies.proofs.Reply.Laws as Reply″
+use Rattle.chains.proofs.ReservedReply.{call-contract, reply-of-contract, meets}
 use Rattle.card.proofs.Shape.reserve.Symbol as call-def
 use Rattle.card.proofs.Shape.reserve.Met as call-met
 use Rattle.replies.proofs.reply_of.Symbol as reply-of-def
@@ -15,12 +22,21 @@ use Rattle.pagunlit.proofs.pagunlit_reserve as pagunlit-reserve
 use Rattle.pagunlit.proofs.pagunlit_reserve.Statement as stated
 use Rattle.pagunlit.proofs.pagunlit_reserve.Code as code
 
+abbrev Shape : Value
+Shape = valueOf Shape′.the-type Shape″.the-laws Shape″.the-plain
+
+abbrev Outcome : Value
+Outcome = valueOf Outcome′.the-type Outcome″.the-laws Outcome″.the-plain
+
+abbrev Reply : Value
+Reply = valueOf Reply′.the-type Reply″.the-laws Reply″.the-plain
+
 pub pagunlit-reserve-spec : {M : Type 1} → stated.statement M
 unfolding code.routine tablesOf
 pagunlit-reserve-spec 𝓤 H 𝓜 𝓖 𝓡 =
     entered 𝓤 H (tripleOf 𝓤 H (𝓖 .A) pagunlit-reserve.signature (pagunlit-reserve.spec 𝓤 H (𝓖 .A) (𝓜 .mem) (𝓡 .run)))
     (tables 𝓤 H 𝓜 𝓡 code.env .C) (tables 𝓤 H 𝓜 𝓡 code.env .Λ) #pagunlit-reserve code.function (code.unfolded 𝓤 H 𝓜 𝓡)
-    (meets call-def.name reply-of-def.name reserveOutcome reserveMap reserveEntries reserveCard replyOf
+    (meets Shape Outcome Reply call-def.name reply-of-def.name reserveOutcome reserveMap reserveEntries reserveCard replyOf
     𝓤 H (𝓖 .A) (givenOf 𝓤 H 𝓜 𝓖) (tablesOf 𝓤 H 𝓜 (tables 𝓤 H 𝓜 𝓡 code.env))
-    (cited 𝓤 H (call-contract reserveOutcome reserveMap reserveEntries reserveCard 𝓤 H (𝓖 .A)) 𝓜 𝓡 code.env call-def.name call-def.routine code.calls-card·Shape·reserve (call-met.met 𝓤 H 𝓜 𝓖 𝓡))
-    (cited 𝓤 H (reply-of-contract replyOf 𝓤 H (𝓖 .A)) 𝓜 𝓡 code.env reply-of-def.name reply-of-def.routine code.calls-replies·reply-of (reply-of-met.met 𝓤 H 𝓜 𝓖 𝓡)))
+    (cited 𝓤 H (call-contract Shape Outcome Reply reserveOutcome reserveMap reserveEntries reserveCard 𝓤 H (𝓖 .A)) 𝓜 𝓡 code.env call-def.name call-def.routine code.calls-card·Shape·reserve (call-met.met 𝓤 H 𝓜 𝓖 𝓡))
+    (cited 𝓤 H (reply-of-contract Shape Outcome Reply replyOf 𝓤 H (𝓖 .A)) 𝓜 𝓡 code.env reply-of-def.name reply-of-def.routine code.calls-replies·reply-of (reply-of-met.met 𝓤 H 𝓜 𝓖 𝓡)))

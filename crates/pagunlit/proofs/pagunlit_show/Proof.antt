@@ -1,11 +1,18 @@
--- Written by tools/walks: `pagunlit::pagunlit_show` meets its contract, by the walk of `Shown.antt`, with the calls of `card::Shape::show`, `replies::reply_of`.
+-- Written by tools/walks: `pagunlit::pagunlit_show` meets its contract, by the walk of `ShownReply.antt` of the crate chains, with the calls of `card::Shape::show`, `replies::reply_of`.
 -- Assumes nothing.
 use contract.Running.{givenOf, tables, tablesOf}
 use denote.Triple.Spec.{tripleOf}
 use denote.Triple.Table.{entered, cited}
 use Rattle.replies.specs.Replies.{replyOf}
 use Rattle.pagunlit.specs.Calls.{showOutcome, showBuffer}
-use Rattle.pagunlit.proofs.Shown.{call-contract, reply-of-contract, meets}
+use Rattle.chains.proofs.Values.{Value, valueOf}
+use Rattle.card.proofs.Shape as Shape′
+use Rattle.card.proofs.Shape.Laws as Shape″
+use Rattle.card.proofs.Outcome as Outcome′
+use Rattle.card.proofs.Outcome.Laws as Outcome″
+use Rattle.replies.proofs.Reply as Reply′
+use Rattle.replies.proofs.Reply.Laws as Reply″
+use Rattle.chains.proofs.ShownReply.{call-contract, reply-of-contract, meets}
 use Rattle.card.proofs.Shape.show.Symbol as call-def
 use Rattle.card.proofs.Shape.show.Met as call-met
 use Rattle.replies.proofs.reply_of.Symbol as reply-of-def
@@ -15,12 +22,21 @@ use Rattle.pagunlit.proofs.pagunlit_show as pagunlit-show
 use Rattle.pagunlit.proofs.pagunlit_show.Statement as stated
 use Rattle.pagunlit.proofs.pagunlit_show.Code as code
 
+abbrev Shape : Value
+Shape = valueOf Shape′.the-type Shape″.the-laws Shape″.the-plain
+
+abbrev Outcome : Value
+Outcome = valueOf Outcome′.the-type Outcome″.the-laws Outcome″.the-plain
+
+abbrev Reply : Value
+Reply = valueOf Reply′.the-type Reply″.the-laws Reply″.the-plain
+
 pub pagunlit-show-spec : {M : Type 1} → stated.statement M
 unfolding code.routine tablesOf
 pagunlit-show-spec 𝓤 H 𝓜 𝓖 𝓡 =
     entered 𝓤 H (tripleOf 𝓤 H (𝓖 .A) pagunlit-show.signature (pagunlit-show.spec 𝓤 H (𝓖 .A) (𝓜 .mem) (𝓡 .run)))
     (tables 𝓤 H 𝓜 𝓡 code.env .C) (tables 𝓤 H 𝓜 𝓡 code.env .Λ) #pagunlit-show code.function (code.unfolded 𝓤 H 𝓜 𝓡)
-    (meets call-def.name reply-of-def.name showOutcome showBuffer replyOf
+    (meets Shape Outcome Reply call-def.name reply-of-def.name showOutcome showBuffer replyOf
     𝓤 H (𝓖 .A) (givenOf 𝓤 H 𝓜 𝓖) (tablesOf 𝓤 H 𝓜 (tables 𝓤 H 𝓜 𝓡 code.env))
-    (cited 𝓤 H (call-contract showOutcome showBuffer 𝓤 H (𝓖 .A)) 𝓜 𝓡 code.env call-def.name call-def.routine code.calls-card·Shape·show (call-met.met 𝓤 H 𝓜 𝓖 𝓡))
-    (cited 𝓤 H (reply-of-contract replyOf 𝓤 H (𝓖 .A)) 𝓜 𝓡 code.env reply-of-def.name reply-of-def.routine code.calls-replies·reply-of (reply-of-met.met 𝓤 H 𝓜 𝓖 𝓡)))
+    (cited 𝓤 H (call-contract Shape Outcome Reply showOutcome showBuffer 𝓤 H (𝓖 .A)) 𝓜 𝓡 code.env call-def.name call-def.routine code.calls-card·Shape·show (call-met.met 𝓤 H 𝓜 𝓖 𝓡))
+    (cited 𝓤 H (reply-of-contract Shape Outcome Reply replyOf 𝓤 H (𝓖 .A)) 𝓜 𝓡 code.env reply-of-def.name reply-of-def.routine code.calls-replies·reply-of (reply-of-met.met 𝓤 H 𝓜 𝓖 𝓡)))

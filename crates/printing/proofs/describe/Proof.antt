@@ -1,4 +1,4 @@
--- Written by tools/walks: `printing::describe` meets its contract, by the walk of `Described.antt`, with the calls of `catalogue::count`, `printing::write_head`, `printing::write_sheets`, `printing::place_of`.
+-- Written by tools/walks: `printing::describe` meets its contract, by the walk of `Described.antt` of the crate chains, with the calls of `catalogue::count`, `printing::write_head`, `printing::write_sheets`, `printing::place_of`.
 -- Assumes nothing.
 use contract.Running.{givenOf, tables, tablesOf}
 use denote.Triple.Spec.{tripleOf}
@@ -6,7 +6,12 @@ use denote.Triple.Table.{entered, cited}
 use lib.ListN.{length}
 use Rattle.printing.specs.Sheets.{headCursor, headWritten, linesCursor, linesWritten, placeOf, Describes}
 use Rattle.printing.proofs.Lines.{describes}
-use Rattle.printing.proofs.Described.{count-contract, write-head-contract, write-sheets-contract, place-of-contract, meets}
+use Rattle.chains.proofs.Values.{Value, valueOf}
+use Rattle.survey.proofs.Counts as Counts′
+use Rattle.survey.proofs.Counts.Laws as Counts″
+use Rattle.printing.proofs.Cursor as Cursor′
+use Rattle.printing.proofs.Cursor.Laws as Cursor″
+use Rattle.chains.proofs.Described.{count-contract, write-head-contract, write-sheets-contract, place-of-contract, meets}
 use Rattle.catalogue.proofs.count.Symbol as count-def
 use Rattle.catalogue.proofs.count.Met as count-met
 use Rattle.printing.proofs.write_head.Symbol as write-head-def
@@ -20,14 +25,20 @@ use Rattle.printing.proofs.describe as describe
 use Rattle.printing.proofs.describe.Statement as stated
 use Rattle.printing.proofs.describe.Code as code
 
+abbrev Counts : Value
+Counts = valueOf Counts′.the-type Counts″.the-laws Counts″.the-plain
+
+abbrev Cursor : Value
+Cursor = valueOf Cursor′.the-type Cursor″.the-laws Cursor″.the-plain
+
 pub describe-spec : {M : Type 1} → stated.statement M
 unfolding code.routine tablesOf
 describe-spec 𝓤 H 𝓜 𝓖 𝓡 =
     entered 𝓤 H (tripleOf 𝓤 H (𝓖 .A) describe.signature (describe.spec 𝓤 H (𝓖 .A) (𝓜 .mem) (𝓡 .run)))
     (tables 𝓤 H 𝓜 𝓡 code.env .C) (tables 𝓤 H 𝓜 𝓡 code.env .Λ) #describe code.function (code.unfolded 𝓤 H 𝓜 𝓡)
-    (meets count-def.name write-head-def.name write-sheets-def.name place-of-def.name length headCursor headWritten linesCursor linesWritten placeOf Describes describes
+    (meets Counts Cursor count-def.name write-head-def.name write-sheets-def.name place-of-def.name length headCursor headWritten linesCursor linesWritten placeOf Describes describes
     𝓤 H (𝓖 .A) (givenOf 𝓤 H 𝓜 𝓖) (tablesOf 𝓤 H 𝓜 (tables 𝓤 H 𝓜 𝓡 code.env))
-    (cited 𝓤 H (count-contract length 𝓤 H (𝓖 .A)) 𝓜 𝓡 code.env count-def.name count-def.routine code.calls-catalogue·count (count-met.met 𝓤 H 𝓜 𝓖 𝓡))
-    (cited 𝓤 H (write-head-contract headCursor headWritten 𝓤 H (𝓖 .A)) 𝓜 𝓡 code.env write-head-def.name write-head-def.routine code.calls-printing·write-head (write-head-met.met 𝓤 H 𝓜 𝓖 𝓡))
-    (cited 𝓤 H (write-sheets-contract linesCursor linesWritten 𝓤 H (𝓖 .A)) 𝓜 𝓡 code.env write-sheets-def.name write-sheets-def.routine code.calls-printing·write-sheets (write-sheets-met.met 𝓤 H 𝓜 𝓖 𝓡))
-    (cited 𝓤 H (place-of-contract placeOf 𝓤 H (𝓖 .A)) 𝓜 𝓡 code.env place-of-def.name place-of-def.routine code.calls-printing·place-of (place-of-met.met 𝓤 H 𝓜 𝓖 𝓡)))
+    (cited 𝓤 H (count-contract Counts Cursor length 𝓤 H (𝓖 .A)) 𝓜 𝓡 code.env count-def.name count-def.routine code.calls-catalogue·count (count-met.met 𝓤 H 𝓜 𝓖 𝓡))
+    (cited 𝓤 H (write-head-contract Counts Cursor headCursor headWritten 𝓤 H (𝓖 .A)) 𝓜 𝓡 code.env write-head-def.name write-head-def.routine code.calls-printing·write-head (write-head-met.met 𝓤 H 𝓜 𝓖 𝓡))
+    (cited 𝓤 H (write-sheets-contract Counts Cursor linesCursor linesWritten 𝓤 H (𝓖 .A)) 𝓜 𝓡 code.env write-sheets-def.name write-sheets-def.routine code.calls-printing·write-sheets (write-sheets-met.met 𝓤 H 𝓜 𝓖 𝓡))
+    (cited 𝓤 H (place-of-contract Counts Cursor placeOf 𝓤 H (𝓖 .A)) 𝓜 𝓡 code.env place-of-def.name place-of-def.routine code.calls-printing·place-of (place-of-met.met 𝓤 H 𝓜 𝓖 𝓡)))

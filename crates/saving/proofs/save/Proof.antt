@@ -1,4 +1,4 @@
--- Written by tools/walks: `saving::save` meets its contract, by the walk of `StateSaved.antt`, with the calls of `catalogue::count`, `saving::begin`, `soundness::release_entries`, `saving::save_number`, `saving::write_head`, `saving::write_entries`, `saving::write_rest`.
+-- Written by tools/walks: `saving::save` meets its contract, by the walk of `StateSaved.antt` of the crate chains, with the calls of `catalogue::count`, `saving::begin`, `soundness::release_entries`, `saving::save_number`, `saving::write_head`, `saving::write_entries`, `saving::write_rest`.
 -- Assumes nothing.
 use contract.Running.{givenOf, tables, tablesOf}
 use denote.Triple.Spec.{tripleOf}
@@ -9,7 +9,12 @@ use Rattle.image.specs.Effects.{Saves}
 use Rattle.saving.specs.Parts.{firstTally, firstScratch, numberBy, scratchCleared, headCursor, headImage}
 use Rattle.saving.specs.Parts.{entriesCursor, entriesImage, restImage}
 use Rattle.saving.proofs.Saves.{saves}
-use Rattle.saving.proofs.StateSaved.{count-contract, begin-contract, release-entries-contract, save-number-contract, write-head-contract, write-entries-contract, write-rest-contract, meets}
+use Rattle.chains.proofs.Values.{Value, valueOf}
+use Rattle.soundness.proofs.Tally as Tally′
+use Rattle.soundness.proofs.Tally.Laws as Tally″
+use Rattle.image.proofs.Cursor as Cursor′
+use Rattle.image.proofs.Cursor.Laws as Cursor″
+use Rattle.chains.proofs.StateSaved.{count-contract, begin-contract, release-entries-contract, save-number-contract, write-head-contract, write-entries-contract, write-rest-contract, meets}
 use Rattle.catalogue.proofs.count.Symbol as count-def
 use Rattle.catalogue.proofs.count.Met as count-met
 use Rattle.saving.proofs.begin.Symbol as begin-def
@@ -29,17 +34,23 @@ use Rattle.saving.proofs.save as save
 use Rattle.saving.proofs.save.Statement as stated
 use Rattle.saving.proofs.save.Code as code
 
+abbrev Tally : Value
+Tally = valueOf Tally′.the-type Tally″.the-laws Tally″.the-plain
+
+abbrev Cursor : Value
+Cursor = valueOf Cursor′.the-type Cursor″.the-laws Cursor″.the-plain
+
 pub save-spec : {M : Type 1} → stated.statement M
 unfolding code.routine tablesOf
 save-spec 𝓤 H 𝓜 𝓖 𝓡 =
     entered 𝓤 H (tripleOf 𝓤 H (𝓖 .A) save.signature (save.spec 𝓤 H (𝓖 .A) (𝓜 .mem) (𝓡 .run)))
     (tables 𝓤 H 𝓜 𝓡 code.env .C) (tables 𝓤 H 𝓜 𝓡 code.env .Λ) #save code.function (code.unfolded 𝓤 H 𝓜 𝓡)
-    (meets count-def.name begin-def.name release-entries-def.name save-number-def.name write-head-def.name write-entries-def.name write-rest-def.name length firstTally firstScratch tallyOf scratchOf numberBy scratchCleared headCursor headImage entriesCursor entriesImage restImage Saves saves
+    (meets Tally Cursor count-def.name begin-def.name release-entries-def.name save-number-def.name write-head-def.name write-entries-def.name write-rest-def.name length firstTally firstScratch tallyOf scratchOf numberBy scratchCleared headCursor headImage entriesCursor entriesImage restImage Saves saves
     𝓤 H (𝓖 .A) (givenOf 𝓤 H 𝓜 𝓖) (tablesOf 𝓤 H 𝓜 (tables 𝓤 H 𝓜 𝓡 code.env))
-    (cited 𝓤 H (count-contract length 𝓤 H (𝓖 .A)) 𝓜 𝓡 code.env count-def.name count-def.routine code.calls-catalogue·count (count-met.met 𝓤 H 𝓜 𝓖 𝓡))
-    (cited 𝓤 H (begin-contract firstTally firstScratch 𝓤 H (𝓖 .A)) 𝓜 𝓡 code.env begin-def.name begin-def.routine code.calls-saving·begin (begin-met.met 𝓤 H 𝓜 𝓖 𝓡))
-    (cited 𝓤 H (release-entries-contract tallyOf scratchOf 𝓤 H (𝓖 .A)) 𝓜 𝓡 code.env release-entries-def.name release-entries-def.routine code.calls-soundness·release-entries (release-entries-met.met 𝓤 H 𝓜 𝓖 𝓡))
-    (cited 𝓤 H (save-number-contract numberBy scratchCleared 𝓤 H (𝓖 .A)) 𝓜 𝓡 code.env save-number-def.name save-number-def.routine code.calls-saving·save-number (save-number-met.met 𝓤 H 𝓜 𝓖 𝓡))
-    (cited 𝓤 H (write-head-contract headCursor headImage 𝓤 H (𝓖 .A)) 𝓜 𝓡 code.env write-head-def.name write-head-def.routine code.calls-saving·write-head (write-head-met.met 𝓤 H 𝓜 𝓖 𝓡))
-    (cited 𝓤 H (write-entries-contract entriesCursor entriesImage 𝓤 H (𝓖 .A)) 𝓜 𝓡 code.env write-entries-def.name write-entries-def.routine code.calls-saving·write-entries (write-entries-met.met 𝓤 H 𝓜 𝓖 𝓡))
-    (cited 𝓤 H (write-rest-contract restImage 𝓤 H (𝓖 .A)) 𝓜 𝓡 code.env write-rest-def.name write-rest-def.routine code.calls-saving·write-rest (write-rest-met.met 𝓤 H 𝓜 𝓖 𝓡)))
+    (cited 𝓤 H (count-contract Tally Cursor length 𝓤 H (𝓖 .A)) 𝓜 𝓡 code.env count-def.name count-def.routine code.calls-catalogue·count (count-met.met 𝓤 H 𝓜 𝓖 𝓡))
+    (cited 𝓤 H (begin-contract Tally Cursor firstTally firstScratch 𝓤 H (𝓖 .A)) 𝓜 𝓡 code.env begin-def.name begin-def.routine code.calls-saving·begin (begin-met.met 𝓤 H 𝓜 𝓖 𝓡))
+    (cited 𝓤 H (release-entries-contract Tally Cursor tallyOf scratchOf 𝓤 H (𝓖 .A)) 𝓜 𝓡 code.env release-entries-def.name release-entries-def.routine code.calls-soundness·release-entries (release-entries-met.met 𝓤 H 𝓜 𝓖 𝓡))
+    (cited 𝓤 H (save-number-contract Tally Cursor numberBy scratchCleared 𝓤 H (𝓖 .A)) 𝓜 𝓡 code.env save-number-def.name save-number-def.routine code.calls-saving·save-number (save-number-met.met 𝓤 H 𝓜 𝓖 𝓡))
+    (cited 𝓤 H (write-head-contract Tally Cursor headCursor headImage 𝓤 H (𝓖 .A)) 𝓜 𝓡 code.env write-head-def.name write-head-def.routine code.calls-saving·write-head (write-head-met.met 𝓤 H 𝓜 𝓖 𝓡))
+    (cited 𝓤 H (write-entries-contract Tally Cursor entriesCursor entriesImage 𝓤 H (𝓖 .A)) 𝓜 𝓡 code.env write-entries-def.name write-entries-def.routine code.calls-saving·write-entries (write-entries-met.met 𝓤 H 𝓜 𝓖 𝓡))
+    (cited 𝓤 H (write-rest-contract Tally Cursor restImage 𝓤 H (𝓖 .A)) 𝓜 𝓡 code.env write-rest-def.name write-rest-def.routine code.calls-saving·write-rest (write-rest-met.met 𝓤 H 𝓜 𝓖 𝓡)))

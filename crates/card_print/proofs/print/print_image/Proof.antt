@@ -1,4 +1,4 @@
--- Written by tools/walks: `card_print::print::print_image` meets its contract, by the walk of `Printed.antt`, with the calls of `catalogue::count`, `loading::load`, `card_print::print::begin`, `printing::write_sheets`, `printing::place_of`.
+-- Written by tools/walks: `card_print::print::print_image` meets its contract, by the walk of `Printed.antt` of the crate chains, with the calls of `catalogue::count`, `loading::load`, `card_print::print::begin`, `printing::write_sheets`, `printing::place_of`.
 -- Assumes nothing.
 use contract.Running.{givenOf, tables, tablesOf}
 use denote.Triple.Spec.{tripleOf}
@@ -9,7 +9,12 @@ use Rattle.printing.specs.Sheets.{linesCursor, linesWritten, placeOf}
 use Rattle.card_print.specs.Beginnings.{beginCursor, beginWritten}
 use Rattle.card_print.specs.Printed.{Prints}
 use Rattle.card_print.proofs.Prints.{prints}
-use Rattle.card_print.proofs.Printed.{count-contract, load-contract, begin-contract, write-sheets-contract, place-of-contract, meets}
+use Rattle.chains.proofs.Values.{Value, valueOf}
+use Rattle.printing.proofs.Cursor as Cursor′
+use Rattle.printing.proofs.Cursor.Laws as Cursor″
+use Rattle.image.proofs.Loaded as Loaded′
+use Rattle.image.proofs.Loaded.Laws as Loaded″
+use Rattle.chains.proofs.Printed.{count-contract, load-contract, begin-contract, write-sheets-contract, place-of-contract, meets}
 use Rattle.catalogue.proofs.count.Symbol as count-def
 use Rattle.catalogue.proofs.count.Met as count-met
 use Rattle.loading.proofs.load.Symbol as load-def
@@ -25,15 +30,21 @@ use Rattle.card_print.proofs.print.print_image as print-image
 use Rattle.card_print.proofs.print.print_image.Statement as stated
 use Rattle.card_print.proofs.print.print_image.Code as code
 
+abbrev Cursor : Value
+Cursor = valueOf Cursor′.the-type Cursor″.the-laws Cursor″.the-plain
+
+abbrev Loaded : Value
+Loaded = valueOf Loaded′.the-type Loaded″.the-laws Loaded″.the-plain
+
 pub print-image-spec : {M : Type 1} → stated.statement M
 unfolding code.routine tablesOf
 print-image-spec 𝓤 H 𝓜 𝓖 𝓡 =
     entered 𝓤 H (tripleOf 𝓤 H (𝓖 .A) print-image.signature (print-image.spec 𝓤 H (𝓖 .A) (𝓜 .mem) (𝓡 .run)))
     (tables 𝓤 H 𝓜 𝓡 code.env .C) (tables 𝓤 H 𝓜 𝓡 code.env .Λ) #print-image code.function (code.unfolded 𝓤 H 𝓜 𝓡)
-    (meets count-def.name load-def.name begin-def.name write-sheets-def.name place-of-def.name length loadResult loadMap loadEntries loadScratch beginCursor beginWritten linesCursor linesWritten placeOf Prints prints
+    (meets Cursor Loaded count-def.name load-def.name begin-def.name write-sheets-def.name place-of-def.name length loadResult loadMap loadEntries loadScratch beginCursor beginWritten linesCursor linesWritten placeOf Prints prints
     𝓤 H (𝓖 .A) (givenOf 𝓤 H 𝓜 𝓖) (tablesOf 𝓤 H 𝓜 (tables 𝓤 H 𝓜 𝓡 code.env))
-    (cited 𝓤 H (count-contract length 𝓤 H (𝓖 .A)) 𝓜 𝓡 code.env count-def.name count-def.routine code.calls-catalogue·count (count-met.met 𝓤 H 𝓜 𝓖 𝓡))
-    (cited 𝓤 H (load-contract loadResult loadMap loadEntries loadScratch 𝓤 H (𝓖 .A)) 𝓜 𝓡 code.env load-def.name load-def.routine code.calls-loading·load (load-met.met 𝓤 H 𝓜 𝓖 𝓡))
-    (cited 𝓤 H (begin-contract beginCursor beginWritten 𝓤 H (𝓖 .A)) 𝓜 𝓡 code.env begin-def.name begin-def.routine code.calls-card-print·print·begin (begin-met.met 𝓤 H 𝓜 𝓖 𝓡))
-    (cited 𝓤 H (write-sheets-contract linesCursor linesWritten 𝓤 H (𝓖 .A)) 𝓜 𝓡 code.env write-sheets-def.name write-sheets-def.routine code.calls-printing·write-sheets (write-sheets-met.met 𝓤 H 𝓜 𝓖 𝓡))
-    (cited 𝓤 H (place-of-contract placeOf 𝓤 H (𝓖 .A)) 𝓜 𝓡 code.env place-of-def.name place-of-def.routine code.calls-printing·place-of (place-of-met.met 𝓤 H 𝓜 𝓖 𝓡)))
+    (cited 𝓤 H (count-contract Cursor Loaded length 𝓤 H (𝓖 .A)) 𝓜 𝓡 code.env count-def.name count-def.routine code.calls-catalogue·count (count-met.met 𝓤 H 𝓜 𝓖 𝓡))
+    (cited 𝓤 H (load-contract Cursor Loaded loadResult loadMap loadEntries loadScratch 𝓤 H (𝓖 .A)) 𝓜 𝓡 code.env load-def.name load-def.routine code.calls-loading·load (load-met.met 𝓤 H 𝓜 𝓖 𝓡))
+    (cited 𝓤 H (begin-contract Cursor Loaded beginCursor beginWritten 𝓤 H (𝓖 .A)) 𝓜 𝓡 code.env begin-def.name begin-def.routine code.calls-card-print·print·begin (begin-met.met 𝓤 H 𝓜 𝓖 𝓡))
+    (cited 𝓤 H (write-sheets-contract Cursor Loaded linesCursor linesWritten 𝓤 H (𝓖 .A)) 𝓜 𝓡 code.env write-sheets-def.name write-sheets-def.routine code.calls-printing·write-sheets (write-sheets-met.met 𝓤 H 𝓜 𝓖 𝓡))
+    (cited 𝓤 H (place-of-contract Cursor Loaded placeOf 𝓤 H (𝓖 .A)) 𝓜 𝓡 code.env place-of-def.name place-of-def.routine code.calls-printing·place-of (place-of-met.met 𝓤 H 𝓜 𝓖 𝓡)))
