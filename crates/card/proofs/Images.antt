@@ -12,12 +12,11 @@ use lib.Dec.{eqb}
 use lib.ListN.{length, replicate}
 use borrow.Author.Tests.{eqb-true, ne-eqb}
 use Rattle.standings.specs.Rows.{Verdict, accepted, refused, settle}
-use Rattle.standings.specs.declared.Answer.{Answer}
-use Rattle.standings.specs.declared.Answer.the-variants.{Done, Start, Stands, Counted, Blank, Refused}
+use Rattle.standings.specs.declared.Answer.the-variants.{Done, Refused}
 use Rattle.catalogue.specs.declared.Entry.{Entry}
 use Rattle.frames.specs.Frames.{Bytes}
 use Rattle.soundness.specs.Sound.{State}
-use Rattle.image.specs.Effects.{numberOf, saveNumber, saveScratch, saveBuffer, loadResult, loadMap, loadEntries, loadScratch}
+use Rattle.image.specs.Effects.{numberOf, saveNumber, saveBuffer, loadResult, loadMap, loadEntries, loadScratch}
 use Rattle.image.specs.Image.{imageOf, stateIn}
 use Rattle.image.specs.Table.{saveVerdict, loadVerdict}
 use Rattle.image.specs.declared.Loaded.{Loaded}
@@ -26,7 +25,7 @@ use Rattle.image.proofs.ReturnJourney as journey
 use Rattle.image.proofs.Verdicts.{load-accepted}
 use Rattle.card.specs.declared.Outcome.{Outcome}
 use Rattle.card.specs.declared.Shape.{Shape}
-use Rattle.card.specs.Calls.{told, isDone, saveOutcome, loadOutcome}
+use Rattle.card.specs.Cores.{told, isDone, saveOutcome, loadOutcome}
 
 abbrev stateOf : Shape → List ℕ → List Entry → State
 stateOf shape map entries = record { blocks = shape .blocks; spare = shape .free; entries = entries; map = map }

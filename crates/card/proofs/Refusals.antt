@@ -21,7 +21,7 @@ use Rattle.standings.specs.declared.Answer.{Answer}
 use Rattle.standings.specs.declared.Answer.the-variants.{Done, Start, Blank, Refused}
 use Rattle.calls.specs.declared.Out.{Out}
 use Rattle.card.specs.declared.Shape.{Shape}
-use Rattle.card.specs.Calls.{entryOf, outcomeOf, told, acceptedOf, freshOutcome, freshMap, reserveOut, reserveMap, reserveCard, growOut, growMap, growCard, putOutcome, putCard, completeOut, pauseOut, releaseOut, releaseMap, showOutcome, showBuffer}
+use Rattle.card.specs.Cores.{entryOf, outcomeOf, told, acceptedOf, freshOutcome, freshMap, reserveOut, reserveMap, reserveCard, growOut, growMap, growCard, putOutcome, putCard, completeOut, pauseOut, releaseOut, releaseMap, showOutcome, showBuffer}
 
 -- a call that stores an entry: the shape and every entry are as they were
 pub record Unchanged (shape : Shape) (entries : List Entry) (sheet : ℕ) (answer : Answer) (out : Out) : Type 0 where

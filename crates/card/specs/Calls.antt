@@ -1,55 +1,27 @@
--- What each call hands back and leaves, for a shape and a slot of the catalogue: the definitions of the crate calls, with
--- the shape and the slot taken apart.
+-- What each public call hands back and leaves, of all its arguments in order: the contracts of `impl Shape`, of the C library
+-- and of the ledger's steps are made of these. A call on a sheet finds its entry, leaves it to the core, and stores what the
+-- core hands back.
 -- Assumes nothing.
-use mathlib.Core.Bool.{Bool, true, false, cond}
 use mathlib.Core.List.{List}
 use Prim.Native.Nat.{ℕ}
-use lib.Dec.{eqb}
-use lib.ListN.{length}
-use Rattle.freemap.specs.Maps as maps
+use lib.ListN.{length, set}
+use Rattle.catalogue.specs.Entries.{slotAt, clearedIf}
 use Rattle.catalogue.specs.declared.Entry.{Entry}
-use Rattle.catalogue.specs.declared.Slot.{Slot}
-use Rattle.calls.specs.Effects as effects
+use Rattle.image.specs.Effects as images
 use Rattle.standings.specs.Searches as searches
-use Rattle.standings.specs.Limits.{freshFits}
-use Rattle.standings.specs.declared.Answer.{Answer}
-use Rattle.standings.specs.declared.Answer.the-variants.{Done, Start, Stands, Counted, Blank, Refused}
-use Rattle.calls.specs.declared.Out.{Out}
-use Rattle.image.specs.declared.Loaded.{Loaded}
-use Rattle.card.specs.declared.Shape.{Shape}
+use Rattle.card.specs.Cores as cores
+use Rattle.card.specs.Cores.{told, entryOf, outcomeOf, acceptedOf}
 use Rattle.card.specs.declared.Outcome.{Outcome}
+use Rattle.card.specs.declared.Shape.{Shape}
 
--- The entry to store.
-abbrev pub entryOf : Out → Entry
-entryOf out = out .entry
+abbrev pub freshOutcome : Shape → ℕ → List ℕ → List Entry → Outcome
+freshOutcome shape blocks map entries = cores.freshOutcome shape blocks map (length entries)
 
--- The shape with the changed free count, and the answer.
-abbrev pub outcomeOf : Shape → Out → Outcome
-outcomeOf shape out = record { shape = record { blocks = shape .blocks; free = out .free }; answer = out .answer }
+abbrev pub freshMap : Shape → ℕ → List ℕ → List Entry → List ℕ
+freshMap shape blocks map entries = cores.freshMap shape blocks map (length entries)
 
--- The shape as it came, and an answer.
-abbrev pub told : Shape → Answer → Outcome
-told shape answer = record { shape = shape; answer = answer }
-
-abbrev pub isDone : Answer → Bool
-isDone Done = true
-isDone (Start s) = false
-isDone (Stands m s l) = false
-isDone (Counted f r l) = false
-isDone (Blank p) = false
-isDone (Refused k) = false
-
--- Whether fresh was accepted.
-abbrev pub acceptedOf : Outcome → Bool
-acceptedOf outcome = isDone (outcome .answer)
-
--- Fresh reads nothing of the shape it takes.
-abbrev pub freshOutcome : Shape → ℕ → List ℕ → ℕ → Outcome
-freshOutcome shape blocks map count =
-    cond (freshFits blocks (length map) count) (told (record { blocks = blocks; free = blocks }) Done) (told shape (Refused 1))
-
-abbrev pub freshMap : Shape → ℕ → List ℕ → ℕ → List ℕ
-freshMap shape blocks map count = cond (freshFits blocks (length map) count) (maps.freshMap blocks (length map)) map
+abbrev pub freshEntries : Shape → ℕ → List ℕ → List Entry → List Entry
+freshEntries shape blocks map entries = clearedIf entries (acceptedOf (freshOutcome shape blocks map entries))
 
 abbrev pub searchOutcome : Shape → List ℕ → ℕ → Outcome
 searchOutcome shape map k = told shape (searches.searchAnswer (shape .blocks) (shape .free) map k)
@@ -57,65 +29,83 @@ searchOutcome shape map k = told shape (searches.searchAnswer (shape .blocks) (s
 abbrev pub surveyOutcome : Shape → List ℕ → Outcome
 surveyOutcome shape map = told shape (searches.surveyAnswer (shape .blocks) (shape .free) map)
 
-abbrev pub reserveOut : Shape → List ℕ → List ℕ → Slot → ℕ → ℕ → Out
-reserveOut shape map card slot sheet k = effects.reserveOut (shape .blocks) (shape .free) map card (slot .count) (slot .entry) sheet k
+abbrev pub reserveOutcome : Shape → List ℕ → List Entry → List ℕ → ℕ → ℕ → Outcome
+reserveOutcome shape map entries card sheet k = outcomeOf shape (cores.reserveOut shape map card (slotAt entries sheet) sheet k)
 
-abbrev pub reserveMap : Shape → List ℕ → List ℕ → Slot → ℕ → ℕ → List ℕ
-reserveMap shape map card slot sheet k = effects.reserveMap (shape .blocks) (shape .free) map card (slot .count) (slot .entry) sheet k
+abbrev pub reserveMap : Shape → List ℕ → List Entry → List ℕ → ℕ → ℕ → List ℕ
+reserveMap shape map entries card sheet k = cores.reserveMap shape map card (slotAt entries sheet) sheet k
 
-abbrev pub reserveCard : Shape → List ℕ → List ℕ → Slot → ℕ → ℕ → List ℕ
-reserveCard shape map card slot sheet k = effects.reserveCard (shape .blocks) (shape .free) map card (slot .count) (slot .entry) sheet k
+abbrev pub reserveEntries : Shape → List ℕ → List Entry → List ℕ → ℕ → ℕ → List Entry
+reserveEntries shape map entries card sheet k = set entries sheet (entryOf (cores.reserveOut shape map card (slotAt entries sheet) sheet k))
 
-abbrev pub growOut : Shape → List ℕ → List ℕ → Slot → ℕ → ℕ → Out
-growOut shape map card slot sheet m = effects.growOut (shape .blocks) (shape .free) map card (slot .count) (slot .entry) sheet m
+abbrev pub reserveCard : Shape → List ℕ → List Entry → List ℕ → ℕ → ℕ → List ℕ
+reserveCard shape map entries card sheet k = cores.reserveCard shape map card (slotAt entries sheet) sheet k
 
-abbrev pub growMap : Shape → List ℕ → List ℕ → Slot → ℕ → ℕ → List ℕ
-growMap shape map card slot sheet m = effects.growMap (shape .blocks) (shape .free) map card (slot .count) (slot .entry) sheet m
+abbrev pub growOutcome : Shape → List ℕ → List Entry → List ℕ → ℕ → ℕ → Outcome
+growOutcome shape map entries card sheet m = outcomeOf shape (cores.growOut shape map card (slotAt entries sheet) sheet m)
 
-abbrev pub growCard : Shape → List ℕ → List ℕ → Slot → ℕ → ℕ → List ℕ
-growCard shape map card slot sheet m = effects.growCard (shape .blocks) (shape .free) map card (slot .count) (slot .entry) sheet m
+abbrev pub growMap : Shape → List ℕ → List Entry → List ℕ → ℕ → ℕ → List ℕ
+growMap shape map entries card sheet m = cores.growMap shape map card (slotAt entries sheet) sheet m
 
-abbrev pub putOutcome : Shape → List ℕ → List ℕ → Slot → ℕ → ℕ → List ℕ → Outcome
-putOutcome shape map card slot sheet place payload =
-    told shape (effects.putAnswer (shape .blocks) (shape .free) map card (slot .count) (slot .entry) sheet place payload)
+abbrev pub growEntries : Shape → List ℕ → List Entry → List ℕ → ℕ → ℕ → List Entry
+growEntries shape map entries card sheet m = set entries sheet (entryOf (cores.growOut shape map card (slotAt entries sheet) sheet m))
 
-abbrev pub putCard : Shape → List ℕ → List ℕ → Slot → ℕ → ℕ → List ℕ → List ℕ
-putCard shape map card slot sheet place payload = effects.putCard (shape .blocks) (shape .free) map card (slot .count) (slot .entry) sheet place payload
+abbrev pub growCard : Shape → List ℕ → List Entry → List ℕ → ℕ → ℕ → List ℕ
+growCard shape map entries card sheet m = cores.growCard shape map card (slotAt entries sheet) sheet m
 
-abbrev pub completeOut : Shape → List ℕ → List ℕ → Slot → ℕ → Out
-completeOut shape map card slot sheet = effects.completeOut (shape .blocks) (shape .free) map card (slot .count) (slot .entry) sheet
+abbrev pub putOutcome : Shape → List ℕ → List Entry → List ℕ → ℕ → ℕ → List ℕ → Outcome
+putOutcome shape map entries card sheet place payload = cores.putOutcome shape map card (slotAt entries sheet) sheet place payload
 
-abbrev pub pauseOut : Shape → List ℕ → Slot → ℕ → Out
-pauseOut shape map slot sheet = effects.pauseOut (shape .blocks) (shape .free) map (slot .count) (slot .entry) sheet
+abbrev pub putCard : Shape → List ℕ → List Entry → List ℕ → ℕ → ℕ → List ℕ → List ℕ
+putCard shape map entries card sheet place payload = cores.putCard shape map card (slotAt entries sheet) sheet place payload
 
-abbrev pub releaseOut : Shape → List ℕ → Slot → ℕ → Out
-releaseOut shape map slot sheet = effects.releaseOut (shape .blocks) (shape .free) map (slot .count) (slot .entry) sheet
+abbrev pub completeOutcome : Shape → List ℕ → List Entry → List ℕ → ℕ → Outcome
+completeOutcome shape map entries card sheet = outcomeOf shape (cores.completeOut shape map card (slotAt entries sheet) sheet)
 
-abbrev pub releaseMap : Shape → List ℕ → Slot → ℕ → List ℕ
-releaseMap shape map slot sheet = effects.releaseMap (shape .blocks) (shape .free) map (slot .count) (slot .entry) sheet
+abbrev pub completeEntries : Shape → List ℕ → List Entry → List ℕ → ℕ → List Entry
+completeEntries shape map entries card sheet = set entries sheet (entryOf (cores.completeOut shape map card (slotAt entries sheet) sheet))
 
-abbrev pub showOutcome : Shape → List ℕ → List ℕ → Slot → ℕ → ℕ → List ℕ → Outcome
-showOutcome shape map card slot sheet place buffer =
-    told shape (effects.showAnswer (shape .blocks) (shape .free) map card (slot .count) (slot .entry) sheet place buffer)
+abbrev pub pauseOutcome : Shape → List ℕ → List Entry → ℕ → Outcome
+pauseOutcome shape map entries sheet = outcomeOf shape (cores.pauseOut shape map (slotAt entries sheet) sheet)
 
-abbrev pub showBuffer : Shape → List ℕ → List ℕ → Slot → ℕ → ℕ → List ℕ → List ℕ
-showBuffer shape map card slot sheet place buffer = effects.showBuffer (shape .blocks) (shape .free) map card (slot .count) (slot .entry) sheet place buffer
+abbrev pub pauseEntries : Shape → List ℕ → List Entry → ℕ → List Entry
+pauseEntries shape map entries sheet = set entries sheet (entryOf (cores.pauseOut shape map (slotAt entries sheet) sheet))
 
-abbrev pub standingOutcome : Shape → List ℕ → Slot → ℕ → Outcome
-standingOutcome shape map slot sheet = told shape (effects.standingAnswer (shape .blocks) (shape .free) map (slot .count) (slot .entry) sheet)
+abbrev pub releaseOutcome : Shape → List ℕ → List Entry → ℕ → Outcome
+releaseOutcome shape map entries sheet = outcomeOf shape (cores.releaseOut shape map (slotAt entries sheet) sheet)
 
--- n and the free count.
-abbrev pub blocksOf : Shape → ℕ
-blocksOf shape = shape .blocks
+abbrev pub releaseMap : Shape → List ℕ → List Entry → ℕ → List ℕ
+releaseMap shape map entries sheet = cores.releaseMap shape map (slotAt entries sheet) sheet
 
-abbrev pub freeOf : Shape → ℕ
-freeOf shape = shape .free
+abbrev pub releaseEntries : Shape → List ℕ → List Entry → ℕ → List Entry
+releaseEntries shape map entries sheet = set entries sheet (entryOf (cores.releaseOut shape map (slotAt entries sheet) sheet))
 
--- Save hands the shape back as it came: 0 says that it was done.
-abbrev pub saveOutcome : Shape → ℕ → Outcome
-saveOutcome shape number = told shape (cond (eqb number 0) Done (Refused number))
+abbrev pub showOutcome : Shape → List ℕ → List Entry → List ℕ → ℕ → ℕ → List ℕ → Outcome
+showOutcome shape map entries card sheet place buffer = cores.showOutcome shape map card (slotAt entries sheet) sheet place buffer
 
--- Load reads nothing of the shape it takes: it hands back the image's n and free count, or, refused, the shape as it came.
-abbrev pub loadOutcome : Shape → Loaded → Outcome
-loadOutcome shape loaded =
-    cond (eqb (loaded .number) 0) (told (record { blocks = loaded .blocks; free = loaded .free }) Done) (told shape (Refused (loaded .number)))
+abbrev pub showBuffer : Shape → List ℕ → List Entry → List ℕ → ℕ → ℕ → List ℕ → List ℕ
+showBuffer shape map entries card sheet place buffer = cores.showBuffer shape map card (slotAt entries sheet) sheet place buffer
+
+abbrev pub standingOutcome : Shape → List ℕ → List Entry → ℕ → Outcome
+standingOutcome shape map entries sheet = cores.standingOutcome shape map (slotAt entries sheet) sheet
+
+abbrev pub saveOutcome : Shape → List ℕ → List Entry → List ℕ → List ℕ → Outcome
+saveOutcome shape map entries scratch image = cores.saveOutcome shape (images.saveNumber (shape .blocks) (shape .free) map entries scratch image)
+
+abbrev pub saveScratch : Shape → List ℕ → List Entry → List ℕ → List ℕ → List ℕ
+saveScratch shape map entries scratch image = images.saveScratch (shape .blocks) (shape .free) map entries scratch image
+
+abbrev pub saveImage : Shape → List ℕ → List Entry → List ℕ → List ℕ → List ℕ
+saveImage shape map entries scratch image = images.saveBuffer (shape .blocks) (shape .free) map entries scratch image
+
+abbrev pub loadOutcome : Shape → List ℕ → List ℕ → List Entry → List ℕ → Outcome
+loadOutcome shape image map entries scratch = cores.loadOutcome shape (images.loadResult image map entries scratch)
+
+abbrev pub loadMap : Shape → List ℕ → List ℕ → List Entry → List ℕ → List ℕ
+loadMap shape image map entries scratch = images.loadMap image map entries scratch
+
+abbrev pub loadEntries : Shape → List ℕ → List ℕ → List Entry → List ℕ → List Entry
+loadEntries shape image map entries scratch = images.loadEntries image map entries scratch
+
+abbrev pub loadScratch : Shape → List ℕ → List ℕ → List Entry → List ℕ → List ℕ
+loadScratch shape image map entries scratch = images.loadScratch image map entries scratch

@@ -1,2 +1,3 @@
--- What the contracts of `card` cite.
+-- What the contracts of `card` cite: the public calls, and the cores that they are made of.
 pub mod Calls
+pub mod Cores

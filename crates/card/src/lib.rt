@@ -1,16 +1,11 @@
 // The card: its shape, and every call as a method of it (document 01, "Shape, catalogue, blocks"). Each method is thin: it
 // reads one entry, calls a core on the entry by value and plain slices, and stores the entry. A refusal hands the shape
 // back as it came and changes nothing that is lent.
+mod cores;
+
 ghost use mathlib.Core.Path.{_≡_};
-ghost use lib.ListN.{length, set};
-ghost use Rattle.catalogue.specs.Entries.{slotAt, clearedIf};
-ghost use Rattle.image.specs.Effects.{saveNumber, saveScratch, saveBuffer, loadResult, loadMap, loadEntries, loadScratch};
-ghost use Rattle.card.specs.Calls.{blocksOf, freeOf, saveOutcome, loadOutcome};
-ghost use Rattle.card.specs.Calls.{entryOf, outcomeOf, acceptedOf, freshOutcome, freshMap, searchOutcome, surveyOutcome, reserveOut, reserveMap, reserveCard, growOut, growMap, growCard, putOutcome, putCard, completeOut, pauseOut, releaseOut, releaseMap, showOutcome, showBuffer, standingOutcome};
-use calls::Out;
+ghost use Rattle.card.specs.Calls.{freshOutcome, freshMap, freshEntries, searchOutcome, surveyOutcome, reserveOutcome, reserveMap, reserveEntries, reserveCard, growOutcome, growMap, growEntries, growCard, putOutcome, putCard, completeOutcome, completeEntries, pauseOutcome, pauseEntries, releaseOutcome, releaseMap, releaseEntries, showOutcome, showBuffer, standingOutcome, saveOutcome, saveScratch, saveImage, loadOutcome, loadMap, loadEntries, loadScratch};
 use catalogue::Entry;
-use catalogue::Slot;
-use image::Loaded;
 use standings::Answer;
 
 // n and the carried free count.
@@ -26,256 +21,6 @@ pub struct Outcome {
     pub answer: Answer,
 }
 
-fn entry_of(out: Out) -> Entry
-    ensures { λ r. ⌜ r ≡ entryOf out ⌝ }
-{
-    out.entry
-}
-
-fn outcome_of(shape: Shape, out: Out) -> Outcome
-    ensures { λ r. ⌜ r ≡ outcomeOf shape out ⌝ }
-{
-    let answer = out.answer;
-    Outcome {
-        shape: Shape {
-            blocks: shape.blocks,
-            free: out.free,
-        },
-        answer: answer,
-    }
-}
-
-fn accepted_of(outcome: Outcome) -> bool
-    ensures { λ r. ⌜ r ≡ acceptedOf outcome ⌝ }
-{
-    let answer = outcome.answer;
-    match answer {
-        Answer::Done => true,
-        Answer::Start(_) => false,
-        Answer::Stands(_, _, _) => false,
-        Answer::Counted(_, _, _) => false,
-        Answer::Blank(_) => false,
-        Answer::Refused(_) => false,
-    }
-}
-
-// The cores: each takes the shape and the slot apart.
-
-fn fresh_core(shape: Shape, blocks: u32, map: &mut [u64], count: usize) -> Outcome
-    ensures { λ r. ⌜ (r ≡ freshOutcome shape blocks (now (map .entry)) count) × (now (map .exit) ≡ freshMap shape blocks (now (map .entry)) count) ⌝ }
-{
-    if standings::whole::fresh(blocks, map, count) {
-        return Outcome {
-            shape: Shape {
-                blocks: blocks,
-                free: blocks,
-            },
-            answer: Answer::Done,
-        };
-    }
-    Outcome {
-        shape: shape,
-        answer: Answer::Refused(1),
-    }
-}
-
-fn reserve_core(
-    shape: Shape,
-    map: &mut [u64],
-    card: &mut [u8],
-    slot: Slot,
-    sheet: u32,
-    k: u32,
-) -> Out
-    ensures { λ r. ⌜ (r ≡ reserveOut shape (now (map .entry)) (now (card .entry)) slot sheet k)
-        × (now (map .exit) ≡ reserveMap shape (now (map .entry)) (now (card .entry)) slot sheet k)
-        × (now (card .exit) ≡ reserveCard shape (now (map .entry)) (now (card .entry)) slot sheet k) ⌝ }
-{
-    let entry = slot.entry;
-    taking::reserve::reserve(
-        shape.blocks,
-        shape.free,
-        map,
-        card,
-        slot.count,
-        entry,
-        sheet,
-        k,
-    )
-}
-
-fn grow_core(shape: Shape, map: &mut [u64], card: &mut [u8], slot: Slot, sheet: u32, m: u32) -> Out
-    ensures { λ r. ⌜ (r ≡ growOut shape (now (map .entry)) (now (card .entry)) slot sheet m)
-        × (now (map .exit) ≡ growMap shape (now (map .entry)) (now (card .entry)) slot sheet m)
-        × (now (card .exit) ≡ growCard shape (now (map .entry)) (now (card .entry)) slot sheet m) ⌝ }
-{
-    let entry = slot.entry;
-    taking::grow::grow(
-        shape.blocks,
-        shape.free,
-        map,
-        card,
-        slot.count,
-        entry,
-        sheet,
-        m,
-    )
-}
-
-fn put_core(
-    shape: Shape,
-    map: &[u64],
-    card: &mut [u8],
-    slot: Slot,
-    sheet: u32,
-    place: u32,
-    payload: &[u8],
-) -> Outcome
-    ensures { λ r. ⌜ (r ≡ putOutcome shape (now (map .entry)) (now (card .entry)) slot sheet place (now (payload .entry)))
-        × (now (card .exit) ≡ putCard shape (now (map .entry)) (now (card .entry)) slot sheet place (now (payload .entry))) ⌝ }
-{
-    let entry = slot.entry;
-    let answer = filling::put::put(
-        shape.blocks,
-        shape.free,
-        map,
-        card,
-        slot.count,
-        entry,
-        sheet,
-        place,
-        payload,
-    );
-    Outcome {
-        shape: shape,
-        answer: answer,
-    }
-}
-
-fn complete_core(shape: Shape, map: &[u64], card: &[u8], slot: Slot, sheet: u32) -> Out
-    ensures { λ r. ⌜ r ≡ completeOut shape (now (map .entry)) (now (card .entry)) slot sheet ⌝ }
-{
-    let entry = slot.entry;
-    filling::complete::complete(
-        shape.blocks,
-        shape.free,
-        map,
-        card,
-        slot.count,
-        entry,
-        sheet,
-    )
-}
-
-fn pause_core(shape: Shape, map: &[u64], slot: Slot, sheet: u32) -> Out
-    ensures { λ r. ⌜ r ≡ pauseOut shape (now (map .entry)) slot sheet ⌝ }
-{
-    let entry = slot.entry;
-    ending::pause::pause(shape.blocks, shape.free, map, slot.count, entry, sheet)
-}
-
-fn release_core(shape: Shape, map: &mut [u64], slot: Slot, sheet: u32) -> Out
-    ensures { λ r. ⌜ (r ≡ releaseOut shape (now (map .entry)) slot sheet) × (now (map .exit) ≡ releaseMap shape (now (map .entry)) slot sheet) ⌝ }
-{
-    let entry = slot.entry;
-    ending::release::release(shape.blocks, shape.free, map, slot.count, entry, sheet)
-}
-
-fn show_core(
-    shape: Shape,
-    map: &[u64],
-    card: &[u8],
-    slot: Slot,
-    sheet: u32,
-    place: u32,
-    buffer: &mut [u8],
-) -> Outcome
-    ensures { λ r. ⌜ (r ≡ showOutcome shape (now (map .entry)) (now (card .entry)) slot sheet place (now (buffer .entry)))
-        × (now (buffer .exit) ≡ showBuffer shape (now (map .entry)) (now (card .entry)) slot sheet place (now (buffer .entry))) ⌝ }
-{
-    let entry = slot.entry;
-    let answer = telling::show::show(
-        shape.blocks,
-        shape.free,
-        map,
-        card,
-        slot.count,
-        entry,
-        sheet,
-        place,
-        buffer,
-    );
-    Outcome {
-        shape: shape,
-        answer: answer,
-    }
-}
-
-fn standing_core(shape: Shape, map: &[u64], slot: Slot, sheet: u32) -> Outcome
-    ensures { λ r. ⌜ r ≡ standingOutcome shape (now (map .entry)) slot sheet ⌝ }
-{
-    let entry = slot.entry;
-    let answer = telling::standing::standing(
-        shape.blocks,
-        shape.free,
-        map,
-        slot.count,
-        entry,
-        sheet,
-    );
-    Outcome {
-        shape: shape,
-        answer: answer,
-    }
-}
-
-// n and the free count, for the calls that are lent no entry by value.
-
-fn blocks_of(shape: Shape) -> u32
-    ensures { λ r. ⌜ r ≡ blocksOf shape ⌝ }
-{
-    shape.blocks
-}
-
-fn free_of(shape: Shape) -> u32
-    ensures { λ r. ⌜ r ≡ freeOf shape ⌝ }
-{
-    shape.free
-}
-
-fn save_outcome(shape: Shape, number: u32) -> Outcome
-    ensures { λ r. ⌜ r ≡ saveOutcome shape number ⌝ }
-{
-    if number == 0 {
-        return Outcome {
-            shape: shape,
-            answer: Answer::Done,
-        };
-    }
-    Outcome {
-        shape: shape,
-        answer: Answer::Refused(number),
-    }
-}
-
-fn load_outcome(shape: Shape, loaded: Loaded) -> Outcome
-    ensures { λ r. ⌜ r ≡ loadOutcome shape loaded ⌝ }
-{
-    if loaded.number == 0 {
-        return Outcome {
-            shape: Shape {
-                blocks: loaded.blocks,
-                free: loaded.free,
-            },
-            answer: Answer::Done,
-        };
-    }
-    Outcome {
-        shape: shape,
-        answer: Answer::Refused(loaded.number),
-    }
-}
-
 impl Shape {
     // Bytes of a block and of a payload; the most blocks and sheets of a card.
     pub const BLOCK: usize = block::BLOCK;
@@ -288,13 +33,13 @@ impl Shape {
 
     // All blocks free, all sheets Absent. It reads nothing of the shape it takes.
     pub fn fresh(self, blocks: u32, map: &mut [u64], catalogue: &mut [Entry]) -> Outcome
-        ensures { λ r. ⌜ (r ≡ freshOutcome self blocks (now (map .entry)) (length (now (catalogue .entry))))
-            × (now (map .exit) ≡ freshMap self blocks (now (map .entry)) (length (now (catalogue .entry))))
-            × (now (catalogue .exit) ≡ clearedIf (now (catalogue .entry)) (acceptedOf (freshOutcome self blocks (now (map .entry)) (length (now (catalogue .entry)))))) ⌝ }
+        ensures { λ r. ⌜ (r ≡ freshOutcome self blocks (now (map .entry)) (now (catalogue .entry)))
+            × (now (map .exit) ≡ freshMap self blocks (now (map .entry)) (now (catalogue .entry)))
+            × (now (catalogue .exit) ≡ freshEntries self blocks (now (map .entry)) (now (catalogue .entry))) ⌝ }
     {
         let count = catalogue::count(&*catalogue);
-        let out = fresh_core(self, blocks, map, count);
-        let accepted = accepted_of(out);
+        let out = cores::fresh_core(self, blocks, map, count);
+        let accepted = cores::accepted_of(out);
         catalogue::clear_if(catalogue, accepted);
         out
     }
@@ -330,16 +75,16 @@ impl Shape {
         sheet: u32,
         k: u32,
     ) -> Outcome
-        ensures { λ r. ⌜ (r ≡ outcomeOf self (reserveOut self (now (map .entry)) (now (card .entry)) (slotAt (now (catalogue .entry)) sheet) sheet k))
-            × (now (map .exit) ≡ reserveMap self (now (map .entry)) (now (card .entry)) (slotAt (now (catalogue .entry)) sheet) sheet k)
-            × (now (catalogue .exit) ≡ set (now (catalogue .entry)) sheet (entryOf (reserveOut self (now (map .entry)) (now (card .entry)) (slotAt (now (catalogue .entry)) sheet) sheet k)))
-            × (now (card .exit) ≡ reserveCard self (now (map .entry)) (now (card .entry)) (slotAt (now (catalogue .entry)) sheet) sheet k) ⌝ }
+        ensures { λ r. ⌜ (r ≡ reserveOutcome self (now (map .entry)) (now (catalogue .entry)) (now (card .entry)) sheet k)
+            × (now (map .exit) ≡ reserveMap self (now (map .entry)) (now (catalogue .entry)) (now (card .entry)) sheet k)
+            × (now (catalogue .exit) ≡ reserveEntries self (now (map .entry)) (now (catalogue .entry)) (now (card .entry)) sheet k)
+            × (now (card .exit) ≡ reserveCard self (now (map .entry)) (now (catalogue .entry)) (now (card .entry)) sheet k) ⌝ }
     {
         let slot = catalogue::find(&*catalogue, sheet);
-        let out = reserve_core(self, map, card, slot, sheet, k);
-        let entry = entry_of(out);
+        let out = cores::reserve_core(self, map, card, slot, sheet, k);
+        let entry = cores::entry_of(out);
         catalogue::store(catalogue, sheet, entry);
-        outcome_of(self, out)
+        cores::outcome_of(self, out)
     }
 
     // The m blocks after an Open extent are added as blank places.
@@ -351,16 +96,16 @@ impl Shape {
         sheet: u32,
         m: u32,
     ) -> Outcome
-        ensures { λ r. ⌜ (r ≡ outcomeOf self (growOut self (now (map .entry)) (now (card .entry)) (slotAt (now (catalogue .entry)) sheet) sheet m))
-            × (now (map .exit) ≡ growMap self (now (map .entry)) (now (card .entry)) (slotAt (now (catalogue .entry)) sheet) sheet m)
-            × (now (catalogue .exit) ≡ set (now (catalogue .entry)) sheet (entryOf (growOut self (now (map .entry)) (now (card .entry)) (slotAt (now (catalogue .entry)) sheet) sheet m)))
-            × (now (card .exit) ≡ growCard self (now (map .entry)) (now (card .entry)) (slotAt (now (catalogue .entry)) sheet) sheet m) ⌝ }
+        ensures { λ r. ⌜ (r ≡ growOutcome self (now (map .entry)) (now (catalogue .entry)) (now (card .entry)) sheet m)
+            × (now (map .exit) ≡ growMap self (now (map .entry)) (now (catalogue .entry)) (now (card .entry)) sheet m)
+            × (now (catalogue .exit) ≡ growEntries self (now (map .entry)) (now (catalogue .entry)) (now (card .entry)) sheet m)
+            × (now (card .exit) ≡ growCard self (now (map .entry)) (now (catalogue .entry)) (now (card .entry)) sheet m) ⌝ }
     {
         let slot = catalogue::find(&*catalogue, sheet);
-        let out = grow_core(self, map, card, slot, sheet, m);
-        let entry = entry_of(out);
+        let out = cores::grow_core(self, map, card, slot, sheet, m);
+        let entry = cores::entry_of(out);
         catalogue::store(catalogue, sheet, entry);
-        outcome_of(self, out)
+        cores::outcome_of(self, out)
     }
 
     // On Open, a place becomes the payload.
@@ -373,48 +118,48 @@ impl Shape {
         place: u32,
         payload: &[u8],
     ) -> Outcome
-        ensures { λ r. ⌜ (r ≡ putOutcome self (now (map .entry)) (now (card .entry)) (slotAt (now (catalogue .entry)) sheet) sheet place (now (payload .entry)))
-            × (now (card .exit) ≡ putCard self (now (map .entry)) (now (card .entry)) (slotAt (now (catalogue .entry)) sheet) sheet place (now (payload .entry))) ⌝ }
+        ensures { λ r. ⌜ (r ≡ putOutcome self (now (map .entry)) (now (catalogue .entry)) (now (card .entry)) sheet place (now (payload .entry)))
+            × (now (card .exit) ≡ putCard self (now (map .entry)) (now (catalogue .entry)) (now (card .entry)) sheet place (now (payload .entry))) ⌝ }
     {
         let slot = catalogue::find(catalogue, sheet);
-        put_core(self, map, card, slot, sheet, place, payload)
+        cores::put_core(self, map, card, slot, sheet, place, payload)
     }
 
     // Open becomes Complete if every place is filled.
     pub fn complete(self, map: &[u64], catalogue: &mut [Entry], card: &[u8], sheet: u32) -> Outcome
-        ensures { λ r. ⌜ (r ≡ outcomeOf self (completeOut self (now (map .entry)) (now (card .entry)) (slotAt (now (catalogue .entry)) sheet) sheet))
-            × (now (catalogue .exit) ≡ set (now (catalogue .entry)) sheet (entryOf (completeOut self (now (map .entry)) (now (card .entry)) (slotAt (now (catalogue .entry)) sheet) sheet))) ⌝ }
+        ensures { λ r. ⌜ (r ≡ completeOutcome self (now (map .entry)) (now (catalogue .entry)) (now (card .entry)) sheet)
+            × (now (catalogue .exit) ≡ completeEntries self (now (map .entry)) (now (catalogue .entry)) (now (card .entry)) sheet) ⌝ }
     {
         let slot = catalogue::find(&*catalogue, sheet);
-        let out = complete_core(self, map, card, slot, sheet);
-        let entry = entry_of(out);
+        let out = cores::complete_core(self, map, card, slot, sheet);
+        let entry = cores::entry_of(out);
         catalogue::store(catalogue, sheet, entry);
-        outcome_of(self, out)
+        cores::outcome_of(self, out)
     }
 
     // Absent becomes Paused.
     pub fn pause(self, map: &[u64], catalogue: &mut [Entry], sheet: u32) -> Outcome
-        ensures { λ r. ⌜ (r ≡ outcomeOf self (pauseOut self (now (map .entry)) (slotAt (now (catalogue .entry)) sheet) sheet))
-            × (now (catalogue .exit) ≡ set (now (catalogue .entry)) sheet (entryOf (pauseOut self (now (map .entry)) (slotAt (now (catalogue .entry)) sheet) sheet))) ⌝ }
+        ensures { λ r. ⌜ (r ≡ pauseOutcome self (now (map .entry)) (now (catalogue .entry)) sheet)
+            × (now (catalogue .exit) ≡ pauseEntries self (now (map .entry)) (now (catalogue .entry)) sheet) ⌝ }
     {
         let slot = catalogue::find(&*catalogue, sheet);
-        let out = pause_core(self, map, slot, sheet);
-        let entry = entry_of(out);
+        let out = cores::pause_core(self, map, slot, sheet);
+        let entry = cores::entry_of(out);
         catalogue::store(catalogue, sheet, entry);
-        outcome_of(self, out)
+        cores::outcome_of(self, out)
     }
 
     // Any standing but Absent becomes Absent, and its blocks free.
     pub fn release(self, map: &mut [u64], catalogue: &mut [Entry], sheet: u32) -> Outcome
-        ensures { λ r. ⌜ (r ≡ outcomeOf self (releaseOut self (now (map .entry)) (slotAt (now (catalogue .entry)) sheet) sheet))
-            × (now (map .exit) ≡ releaseMap self (now (map .entry)) (slotAt (now (catalogue .entry)) sheet) sheet)
-            × (now (catalogue .exit) ≡ set (now (catalogue .entry)) sheet (entryOf (releaseOut self (now (map .entry)) (slotAt (now (catalogue .entry)) sheet) sheet))) ⌝ }
+        ensures { λ r. ⌜ (r ≡ releaseOutcome self (now (map .entry)) (now (catalogue .entry)) sheet)
+            × (now (map .exit) ≡ releaseMap self (now (map .entry)) (now (catalogue .entry)) sheet)
+            × (now (catalogue .exit) ≡ releaseEntries self (now (map .entry)) (now (catalogue .entry)) sheet) ⌝ }
     {
         let slot = catalogue::find(&*catalogue, sheet);
-        let out = release_core(self, map, slot, sheet);
-        let entry = entry_of(out);
+        let out = cores::release_core(self, map, slot, sheet);
+        let entry = cores::entry_of(out);
         catalogue::store(catalogue, sheet, entry);
-        outcome_of(self, out)
+        cores::outcome_of(self, out)
     }
 
     // Copies a payload of a Complete sheet.
@@ -427,19 +172,19 @@ impl Shape {
         place: u32,
         buffer: &mut [u8],
     ) -> Outcome
-        ensures { λ r. ⌜ (r ≡ showOutcome self (now (map .entry)) (now (card .entry)) (slotAt (now (catalogue .entry)) sheet) sheet place (now (buffer .entry)))
-            × (now (buffer .exit) ≡ showBuffer self (now (map .entry)) (now (card .entry)) (slotAt (now (catalogue .entry)) sheet) sheet place (now (buffer .entry))) ⌝ }
+        ensures { λ r. ⌜ (r ≡ showOutcome self (now (map .entry)) (now (catalogue .entry)) (now (card .entry)) sheet place (now (buffer .entry)))
+            × (now (buffer .exit) ≡ showBuffer self (now (map .entry)) (now (catalogue .entry)) (now (card .entry)) sheet place (now (buffer .entry))) ⌝ }
     {
         let slot = catalogue::find(catalogue, sheet);
-        show_core(self, map, card, slot, sheet, place, buffer)
+        cores::show_core(self, map, card, slot, sheet, place, buffer)
     }
 
     // Answers mark, start and length.
     pub fn standing(self, map: &[u64], catalogue: &[Entry], sheet: u32) -> Outcome
-        ensures { λ r. ⌜ r ≡ standingOutcome self (now (map .entry)) (slotAt (now (catalogue .entry)) sheet) sheet ⌝ }
+        ensures { λ r. ⌜ r ≡ standingOutcome self (now (map .entry)) (now (catalogue .entry)) sheet ⌝ }
     {
         let slot = catalogue::find(catalogue, sheet);
-        standing_core(self, map, slot, sheet)
+        cores::standing_core(self, map, slot, sheet)
     }
 
     // Writes the image of the state, if it is sound and the buffer exactly the image's length. The scratch is all zeros after
@@ -451,14 +196,14 @@ impl Shape {
         scratch: &mut [u64],
         image: &mut [u8],
     ) -> Outcome
-        ensures { λ r. ⌜ (r ≡ saveOutcome self (saveNumber (blocksOf self) (freeOf self) (now (map .entry)) (now (catalogue .entry)) (now (scratch .entry)) (now (image .entry))))
-            × (now (scratch .exit) ≡ saveScratch (blocksOf self) (freeOf self) (now (map .entry)) (now (catalogue .entry)) (now (scratch .entry)) (now (image .entry)))
-            × (now (image .exit) ≡ saveBuffer (blocksOf self) (freeOf self) (now (map .entry)) (now (catalogue .entry)) (now (scratch .entry)) (now (image .entry))) ⌝ }
+        ensures { λ r. ⌜ (r ≡ saveOutcome self (now (map .entry)) (now (catalogue .entry)) (now (scratch .entry)) (now (image .entry)))
+            × (now (scratch .exit) ≡ saveScratch self (now (map .entry)) (now (catalogue .entry)) (now (scratch .entry)) (now (image .entry)))
+            × (now (image .exit) ≡ saveImage self (now (map .entry)) (now (catalogue .entry)) (now (scratch .entry)) (now (image .entry))) ⌝ }
     {
-        let n = blocks_of(self);
-        let free = free_of(self);
+        let n = cores::blocks_of(self);
+        let free = cores::free_of(self);
         let number = saving::save(n, free, map, catalogue, scratch, image);
-        save_outcome(self, number)
+        cores::save_outcome(self, number)
     }
 
     // Reads map, entries and shape from an image. It reads nothing of the shape it takes. The scratch is all zeros after every
@@ -470,12 +215,12 @@ impl Shape {
         catalogue: &mut [Entry],
         scratch: &mut [u64],
     ) -> Outcome
-        ensures { λ r. ⌜ (r ≡ loadOutcome self (loadResult (now (image .entry)) (now (map .entry)) (now (catalogue .entry)) (now (scratch .entry))))
-            × (now (map .exit) ≡ loadMap (now (image .entry)) (now (map .entry)) (now (catalogue .entry)) (now (scratch .entry)))
-            × (now (catalogue .exit) ≡ loadEntries (now (image .entry)) (now (map .entry)) (now (catalogue .entry)) (now (scratch .entry)))
-            × (now (scratch .exit) ≡ loadScratch (now (image .entry)) (now (map .entry)) (now (catalogue .entry)) (now (scratch .entry))) ⌝ }
+        ensures { λ r. ⌜ (r ≡ loadOutcome self (now (image .entry)) (now (map .entry)) (now (catalogue .entry)) (now (scratch .entry)))
+            × (now (map .exit) ≡ loadMap self (now (image .entry)) (now (map .entry)) (now (catalogue .entry)) (now (scratch .entry)))
+            × (now (catalogue .exit) ≡ loadEntries self (now (image .entry)) (now (map .entry)) (now (catalogue .entry)) (now (scratch .entry)))
+            × (now (scratch .exit) ≡ loadScratch self (now (image .entry)) (now (map .entry)) (now (catalogue .entry)) (now (scratch .entry))) ⌝ }
     {
         let loaded = loading::load(image, map, catalogue, scratch);
-        load_outcome(self, loaded)
+        cores::load_outcome(self, loaded)
     }
 }

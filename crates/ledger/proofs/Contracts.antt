@@ -29,7 +29,7 @@ use Rattle.catalogue.specs.declared.Entry.{Entry}
 use Rattle.standings.specs.Answers.{numberOf}
 use Rattle.standings.specs.Limits.{freshFits, shapeFits, sheetsFit}
 use Rattle.standings.specs.declared.Answer.the-variants.{Done, Refused}
-use Rattle.card.specs.Calls.{told, acceptedOf}
+use Rattle.card.specs.Cores.{told, acceptedOf}
 use Rattle.card.specs.declared.Shape.{Shape}
 use Rattle.card.specs.declared.Outcome.{Outcome}
 use Rattle.card.proofs.Shape.fresh as fresh-method

@@ -3,49 +3,47 @@
 use Prim.Native.Nat.{ℕ}
 use mathlib.Core.Path.{_≡_, refl}
 use mathlib.Core.List.{List, [], _∷_}
-use lib.ListN.{set}
-use Rattle.catalogue.specs.Entries.{slotAt}
 use Rattle.catalogue.specs.declared.Entry.{Entry}
 use Rattle.calls.specs.Table.{Call, reserve, put, grow, complete, pause, release, show, standing}
-use Rattle.card.specs.Calls.{entryOf, outcomeOf, reserveOut, reserveMap, reserveCard, growOut, growMap, growCard, putOutcome, putCard, completeOut, pauseOut, releaseOut, releaseMap, showOutcome, showBuffer, standingOutcome}
+use Rattle.card.specs.Calls.{reserveOutcome, reserveMap, reserveEntries, reserveCard, growOutcome, growMap, growEntries, growCard, putOutcome, putCard, completeOutcome, completeEntries, pauseOutcome, pauseEntries, releaseOutcome, releaseMap, releaseEntries, showOutcome, showBuffer, standingOutcome}
 use Rattle.card.specs.declared.Outcome.{Outcome}
 use Rattle.ledger.specs.Steps.{State, Reply, resultOf, Step, Runs}
 
 -- the outcome of a call
 abbrev pub outcomeIn : State → Call → Outcome
-outcomeIn s (reserve i k) = outcomeOf (s .shape) (reserveOut (s .shape) (s .map) (s .card) (slotAt (s .entries) i) i k)
-outcomeIn s (put i p payload) = putOutcome (s .shape) (s .map) (s .card) (slotAt (s .entries) i) i p payload
-outcomeIn s (grow i m) = outcomeOf (s .shape) (growOut (s .shape) (s .map) (s .card) (slotAt (s .entries) i) i m)
-outcomeIn s (complete i) = outcomeOf (s .shape) (completeOut (s .shape) (s .map) (s .card) (slotAt (s .entries) i) i)
-outcomeIn s (pause i) = outcomeOf (s .shape) (pauseOut (s .shape) (s .map) (slotAt (s .entries) i) i)
-outcomeIn s (release i) = outcomeOf (s .shape) (releaseOut (s .shape) (s .map) (slotAt (s .entries) i) i)
-outcomeIn s (show i p buffer) = showOutcome (s .shape) (s .map) (s .card) (slotAt (s .entries) i) i p buffer
-outcomeIn s (standing i) = standingOutcome (s .shape) (s .map) (slotAt (s .entries) i) i
+outcomeIn s (reserve i k) = reserveOutcome (s .shape) (s .map) (s .entries) (s .card) i k
+outcomeIn s (put i p payload) = putOutcome (s .shape) (s .map) (s .entries) (s .card) i p payload
+outcomeIn s (grow i m) = growOutcome (s .shape) (s .map) (s .entries) (s .card) i m
+outcomeIn s (complete i) = completeOutcome (s .shape) (s .map) (s .entries) (s .card) i
+outcomeIn s (pause i) = pauseOutcome (s .shape) (s .map) (s .entries) i
+outcomeIn s (release i) = releaseOutcome (s .shape) (s .map) (s .entries) i
+outcomeIn s (show i p buffer) = showOutcome (s .shape) (s .map) (s .entries) (s .card) i p buffer
+outcomeIn s (standing i) = standingOutcome (s .shape) (s .map) (s .entries) i
 
 abbrev mapAfter : State → Call → List ℕ
-mapAfter s (reserve i k) = reserveMap (s .shape) (s .map) (s .card) (slotAt (s .entries) i) i k
+mapAfter s (reserve i k) = reserveMap (s .shape) (s .map) (s .entries) (s .card) i k
 mapAfter s (put i p payload) = s .map
-mapAfter s (grow i m) = growMap (s .shape) (s .map) (s .card) (slotAt (s .entries) i) i m
+mapAfter s (grow i m) = growMap (s .shape) (s .map) (s .entries) (s .card) i m
 mapAfter s (complete i) = s .map
 mapAfter s (pause i) = s .map
-mapAfter s (release i) = releaseMap (s .shape) (s .map) (slotAt (s .entries) i) i
+mapAfter s (release i) = releaseMap (s .shape) (s .map) (s .entries) i
 mapAfter s (show i p buffer) = s .map
 mapAfter s (standing i) = s .map
 
 abbrev entriesAfter : State → Call → List Entry
-entriesAfter s (reserve i k) = set (s .entries) i (entryOf (reserveOut (s .shape) (s .map) (s .card) (slotAt (s .entries) i) i k))
+entriesAfter s (reserve i k) = reserveEntries (s .shape) (s .map) (s .entries) (s .card) i k
 entriesAfter s (put i p payload) = s .entries
-entriesAfter s (grow i m) = set (s .entries) i (entryOf (growOut (s .shape) (s .map) (s .card) (slotAt (s .entries) i) i m))
-entriesAfter s (complete i) = set (s .entries) i (entryOf (completeOut (s .shape) (s .map) (s .card) (slotAt (s .entries) i) i))
-entriesAfter s (pause i) = set (s .entries) i (entryOf (pauseOut (s .shape) (s .map) (slotAt (s .entries) i) i))
-entriesAfter s (release i) = set (s .entries) i (entryOf (releaseOut (s .shape) (s .map) (slotAt (s .entries) i) i))
+entriesAfter s (grow i m) = growEntries (s .shape) (s .map) (s .entries) (s .card) i m
+entriesAfter s (complete i) = completeEntries (s .shape) (s .map) (s .entries) (s .card) i
+entriesAfter s (pause i) = pauseEntries (s .shape) (s .map) (s .entries) i
+entriesAfter s (release i) = releaseEntries (s .shape) (s .map) (s .entries) i
 entriesAfter s (show i p buffer) = s .entries
 entriesAfter s (standing i) = s .entries
 
 abbrev cardAfter : State → Call → List ℕ
-cardAfter s (reserve i k) = reserveCard (s .shape) (s .map) (s .card) (slotAt (s .entries) i) i k
-cardAfter s (put i p payload) = putCard (s .shape) (s .map) (s .card) (slotAt (s .entries) i) i p payload
-cardAfter s (grow i m) = growCard (s .shape) (s .map) (s .card) (slotAt (s .entries) i) i m
+cardAfter s (reserve i k) = reserveCard (s .shape) (s .map) (s .entries) (s .card) i k
+cardAfter s (put i p payload) = putCard (s .shape) (s .map) (s .entries) (s .card) i p payload
+cardAfter s (grow i m) = growCard (s .shape) (s .map) (s .entries) (s .card) i m
 cardAfter s (complete i) = s .card
 cardAfter s (pause i) = s .card
 cardAfter s (release i) = s .card
@@ -59,7 +57,7 @@ bufferAfter s (grow i m) = []
 bufferAfter s (complete i) = []
 bufferAfter s (pause i) = []
 bufferAfter s (release i) = []
-bufferAfter s (show i p buffer) = showBuffer (s .shape) (s .map) (s .card) (slotAt (s .entries) i) i p buffer
+bufferAfter s (show i p buffer) = showBuffer (s .shape) (s .map) (s .entries) (s .card) i p buffer
 bufferAfter s (standing i) = []
 
 abbrev pub replyTo : State → Call → Reply

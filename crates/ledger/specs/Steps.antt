@@ -5,14 +5,14 @@
 use Prim.Native.Nat.{ℕ, _+_, _/_}
 use mathlib.Core.Path.{_≡_}
 use mathlib.Core.List.{List, [], _∷_}
-use lib.ListN.{length, set, replicate}
+use lib.ListN.{replicate}
 use Rattle.freemap.specs.Maps as maps
-use Rattle.catalogue.specs.Entries.{absent, slotAt, clearedIf}
+use Rattle.catalogue.specs.Entries.{absent}
 use Rattle.catalogue.specs.declared.Entry.{Entry}
 use Rattle.standings.specs.Answers.{numberOf, valuesOf}
 use Rattle.calls.specs.Table.{Call, reserve, put, grow, complete, pause, release, show, standing}
 use Rattle.standings.specs.declared.Answer.{Answer}
-use Rattle.card.specs.Calls.{entryOf, outcomeOf, acceptedOf, freshOutcome, freshMap, reserveOut, reserveMap, reserveCard, growOut, growMap, growCard, putOutcome, putCard, completeOut, pauseOut, releaseOut, releaseMap, showOutcome, showBuffer, standingOutcome}
+use Rattle.card.specs.Calls.{freshOutcome, freshMap, freshEntries, reserveOutcome, reserveMap, reserveEntries, reserveCard, growOutcome, growMap, growEntries, growCard, putOutcome, putCard, completeOutcome, completeEntries, pauseOutcome, pauseEntries, releaseOutcome, releaseMap, releaseEntries, showOutcome, showBuffer, standingOutcome}
 use Rattle.card.specs.declared.Shape.{Shape}
 use Rattle.card.specs.declared.Outcome.{Outcome}
 use Rattle.ledger.specs.Ledger.{Told}
@@ -24,54 +24,48 @@ use Rattle.ledger.specs.Ledger.{Told}
 module _ (shape : Shape) (map : List ℕ) (entries : List Entry) (card : List ℕ) (sheet : ℕ) where
   abbrev pub Reserves : ℕ → Outcome → List ℕ → List Entry → List ℕ → Type 0
   Reserves k r map′ entries′ card′ =
-      (r ≡ outcomeOf shape (reserveOut shape map card (slotAt entries sheet) sheet k))
-      × (map′ ≡ reserveMap shape map card (slotAt entries sheet) sheet k)
-      × (entries′ ≡ set entries sheet (entryOf (reserveOut shape map card (slotAt entries sheet) sheet k)))
-      × (card′ ≡ reserveCard shape map card (slotAt entries sheet) sheet k)
+      (r ≡ reserveOutcome shape map entries card sheet k)
+      × (map′ ≡ reserveMap shape map entries card sheet k)
+      × (entries′ ≡ reserveEntries shape map entries card sheet k)
+      × (card′ ≡ reserveCard shape map entries card sheet k)
 
   abbrev pub Grows : ℕ → Outcome → List ℕ → List Entry → List ℕ → Type 0
   Grows m r map′ entries′ card′ =
-      (r ≡ outcomeOf shape (growOut shape map card (slotAt entries sheet) sheet m))
-      × (map′ ≡ growMap shape map card (slotAt entries sheet) sheet m)
-      × (entries′ ≡ set entries sheet (entryOf (growOut shape map card (slotAt entries sheet) sheet m)))
-      × (card′ ≡ growCard shape map card (slotAt entries sheet) sheet m)
+      (r ≡ growOutcome shape map entries card sheet m)
+      × (map′ ≡ growMap shape map entries card sheet m)
+      × (entries′ ≡ growEntries shape map entries card sheet m)
+      × (card′ ≡ growCard shape map entries card sheet m)
 
   abbrev pub Puts : ℕ → List ℕ → Outcome → List ℕ → Type 0
   Puts p payload r card′ =
-      (r ≡ putOutcome shape map card (slotAt entries sheet) sheet p payload)
-      × (card′ ≡ putCard shape map card (slotAt entries sheet) sheet p payload)
+      (r ≡ putOutcome shape map entries card sheet p payload)
+      × (card′ ≡ putCard shape map entries card sheet p payload)
 
   abbrev pub Completes : Outcome → List Entry → Type 0
-  Completes r entries′ =
-      (r ≡ outcomeOf shape (completeOut shape map card (slotAt entries sheet) sheet))
-      × (entries′ ≡ set entries sheet (entryOf (completeOut shape map card (slotAt entries sheet) sheet)))
+  Completes r entries′ = (r ≡ completeOutcome shape map entries card sheet) × (entries′ ≡ completeEntries shape map entries card sheet)
 
   abbrev pub Shows : ℕ → List ℕ → Outcome → List ℕ → Type 0
   Shows p buffer r buffer′ =
-      (r ≡ showOutcome shape map card (slotAt entries sheet) sheet p buffer)
-      × (buffer′ ≡ showBuffer shape map card (slotAt entries sheet) sheet p buffer)
+      (r ≡ showOutcome shape map entries card sheet p buffer)
+      × (buffer′ ≡ showBuffer shape map entries card sheet p buffer)
 
 module _ (shape : Shape) (map : List ℕ) (entries : List Entry) (sheet : ℕ) where
   abbrev pub Pauses : Outcome → List Entry → Type 0
-  Pauses r entries′ =
-      (r ≡ outcomeOf shape (pauseOut shape map (slotAt entries sheet) sheet))
-      × (entries′ ≡ set entries sheet (entryOf (pauseOut shape map (slotAt entries sheet) sheet)))
+  Pauses r entries′ = (r ≡ pauseOutcome shape map entries sheet) × (entries′ ≡ pauseEntries shape map entries sheet)
 
   abbrev pub Releases : Outcome → List ℕ → List Entry → Type 0
   Releases r map′ entries′ =
-      (r ≡ outcomeOf shape (releaseOut shape map (slotAt entries sheet) sheet))
-      × (map′ ≡ releaseMap shape map (slotAt entries sheet) sheet)
-      × (entries′ ≡ set entries sheet (entryOf (releaseOut shape map (slotAt entries sheet) sheet)))
+      (r ≡ releaseOutcome shape map entries sheet)
+      × (map′ ≡ releaseMap shape map entries sheet)
+      × (entries′ ≡ releaseEntries shape map entries sheet)
 
   abbrev pub Stands : Outcome → Type 0
-  Stands r = r ≡ standingOutcome shape map (slotAt entries sheet) sheet
+  Stands r = r ≡ standingOutcome shape map entries sheet
 
 -- Fresh is no member of a list: a list starts with what an accepted fresh left.
 abbrev pub Freshens : Shape → ℕ → List ℕ → List Entry → Outcome → List ℕ → List Entry → Type 0
 Freshens shape n map entries r map′ entries′ =
-    (r ≡ freshOutcome shape n map (length entries))
-    × (map′ ≡ freshMap shape n map (length entries))
-    × (entries′ ≡ clearedIf entries (acceptedOf (freshOutcome shape n map (length entries))))
+    (r ≡ freshOutcome shape n map entries) × (map′ ≡ freshMap shape n map entries) × (entries′ ≡ freshEntries shape n map entries)
 
 -- ---- steps
 

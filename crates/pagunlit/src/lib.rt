@@ -3,9 +3,8 @@
 // shape, the entries and the reply are structs of 32-bit numbers.
 ghost use mathlib.Core.Path.{_≡_};
 ghost use Rattle.block.specs.Calls.{sealAnswer, afterSeal, checkAnswer};
-ghost use Rattle.card.specs.Calls.{searchOutcome, surveyOutcome};
 ghost use Rattle.replies.specs.Replies.{replyOf};
-ghost use Rattle.pagunlit.specs.Calls.{freshOutcome, freshMap, freshEntries, reserveOutcome, reserveMap, reserveEntries, reserveCard, growOutcome, growMap, growEntries, growCard, putOutcome, putCard, completeOutcome, completeEntries, pauseOutcome, pauseEntries, releaseOutcome, releaseMap, releaseEntries, showOutcome, showBuffer, standingOutcome, saveOutcome, saveScratch, saveImage, loadOutcome, loadMap, loadEntries, loadScratch};
+ghost use Rattle.card.specs.Calls.{freshOutcome, freshMap, freshEntries, searchOutcome, surveyOutcome, reserveOutcome, reserveMap, reserveEntries, reserveCard, growOutcome, growMap, growEntries, growCard, putOutcome, putCard, completeOutcome, completeEntries, pauseOutcome, pauseEntries, releaseOutcome, releaseMap, releaseEntries, showOutcome, showBuffer, standingOutcome, saveOutcome, saveScratch, saveImage, loadOutcome, loadMap, loadEntries, loadScratch};
 use card::Shape;
 use catalogue::Entry;
 use replies::Reply;

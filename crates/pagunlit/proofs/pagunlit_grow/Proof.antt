@@ -4,7 +4,7 @@ use contract.Running.{givenOf, tables, tablesOf}
 use denote.Triple.Spec.{tripleOf}
 use denote.Triple.Table.{entered, cited}
 use Rattle.replies.specs.Replies.{replyOf}
-use Rattle.pagunlit.specs.Calls.{growOutcome, growMap, growEntries, growCard}
+use Rattle.card.specs.Calls.{growOutcome, growMap, growEntries, growCard}
 use Rattle.chains.proofs.Values.{Value, valueOf}
 use Rattle.card.proofs.Shape as Shape′
 use Rattle.card.proofs.Shape.Laws as Shape″

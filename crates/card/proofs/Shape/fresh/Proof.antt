@@ -1,11 +1,11 @@
--- Written by tools/walks: `card::Shape::fresh` meets its contract, by the walk of `Freshened.antt` of the crate chains, with the calls of `catalogue::count`, `card::fresh_core`, `card::accepted_of`, `catalogue::clear_if`.
+-- Written by tools/walks: `card::Shape::fresh` meets its contract, by the walk of `Freshened.antt` of the crate chains, with the calls of `catalogue::count`, `card::cores::fresh_core`, `card::cores::accepted_of`, `catalogue::clear_if`.
 -- Assumes nothing.
 use contract.Running.{givenOf, tables, tablesOf}
 use denote.Triple.Spec.{tripleOf}
 use denote.Triple.Table.{entered, cited}
 use lib.ListN.{length}
 use Rattle.catalogue.specs.Entries.{clearedIf}
-use Rattle.card.specs.Calls.{acceptedOf, freshOutcome, freshMap}
+use Rattle.card.specs.Cores.{acceptedOf, freshOutcome, freshMap}
 use Rattle.chains.proofs.Values.{Value, valueOf}
 use Rattle.card.proofs.Shape as Shape′
 use Rattle.card.proofs.Shape.Laws as Shape″
@@ -14,10 +14,10 @@ use Rattle.card.proofs.Outcome.Laws as Outcome″
 use Rattle.chains.proofs.Freshened.{count-contract, core-contract, accepted-of-contract, clear-if-contract, meets}
 use Rattle.catalogue.proofs.count.Symbol as count-def
 use Rattle.catalogue.proofs.count.Met as count-met
-use Rattle.card.proofs.fresh_core.Symbol as core-def
-use Rattle.card.proofs.fresh_core.Met as core-met
-use Rattle.card.proofs.accepted_of.Symbol as accepted-of-def
-use Rattle.card.proofs.accepted_of.Met as accepted-of-met
+use Rattle.card.proofs.cores.fresh_core.Symbol as core-def
+use Rattle.card.proofs.cores.fresh_core.Met as core-met
+use Rattle.card.proofs.cores.accepted_of.Symbol as accepted-of-def
+use Rattle.card.proofs.cores.accepted_of.Met as accepted-of-met
 use Rattle.catalogue.proofs.clear_if.Symbol as clear-if-def
 use Rattle.catalogue.proofs.clear_if.Met as clear-if-met
 use Rattle.card.proofs.Shape.fresh.Key.{name as #fresh}
@@ -39,6 +39,6 @@ fresh-spec 𝓤 H 𝓜 𝓖 𝓡 =
     (meets Shape Outcome count-def.name core-def.name accepted-of-def.name clear-if-def.name length freshOutcome freshMap acceptedOf clearedIf
     𝓤 H (𝓖 .A) (givenOf 𝓤 H 𝓜 𝓖) (tablesOf 𝓤 H 𝓜 (tables 𝓤 H 𝓜 𝓡 code.env))
     (cited 𝓤 H (count-contract Shape Outcome length 𝓤 H (𝓖 .A)) 𝓜 𝓡 code.env count-def.name count-def.routine code.calls-catalogue·count (count-met.met 𝓤 H 𝓜 𝓖 𝓡))
-    (cited 𝓤 H (core-contract Shape Outcome freshOutcome freshMap 𝓤 H (𝓖 .A)) 𝓜 𝓡 code.env core-def.name core-def.routine code.calls-card·fresh-core (core-met.met 𝓤 H 𝓜 𝓖 𝓡))
-    (cited 𝓤 H (accepted-of-contract Shape Outcome acceptedOf 𝓤 H (𝓖 .A)) 𝓜 𝓡 code.env accepted-of-def.name accepted-of-def.routine code.calls-card·accepted-of (accepted-of-met.met 𝓤 H 𝓜 𝓖 𝓡))
+    (cited 𝓤 H (core-contract Shape Outcome freshOutcome freshMap 𝓤 H (𝓖 .A)) 𝓜 𝓡 code.env core-def.name core-def.routine code.calls-card·cores·fresh-core (core-met.met 𝓤 H 𝓜 𝓖 𝓡))
+    (cited 𝓤 H (accepted-of-contract Shape Outcome acceptedOf 𝓤 H (𝓖 .A)) 𝓜 𝓡 code.env accepted-of-def.name accepted-of-def.routine code.calls-card·cores·accepted-of (accepted-of-met.met 𝓤 H 𝓜 𝓖 𝓡))
     (cited 𝓤 H (clear-if-contract Shape Outcome clearedIf 𝓤 H (𝓖 .A)) 𝓜 𝓡 code.env clear-if-def.name clear-if-def.routine code.calls-catalogue·clear-if (clear-if-met.met 𝓤 H 𝓜 𝓖 𝓡)))

@@ -1,11 +1,11 @@
--- Written by tools/walks: `card::Shape::grow` meets its contract, by the walk of `Reserved.antt` of the crate chains, with the calls of `catalogue::find`, `card::grow_core`, `card::entry_of`, `catalogue::store`, `card::outcome_of`.
+-- Written by tools/walks: `card::Shape::grow` meets its contract, by the walk of `Reserved.antt` of the crate chains, with the calls of `catalogue::find`, `card::cores::grow_core`, `card::cores::entry_of`, `catalogue::store`, `card::cores::outcome_of`.
 -- Assumes nothing.
 use contract.Running.{givenOf, tables, tablesOf}
 use denote.Triple.Spec.{tripleOf}
 use denote.Triple.Table.{entered, cited}
 use lib.ListN.{set}
 use Rattle.catalogue.specs.Entries.{slotAt}
-use Rattle.card.specs.Calls.{entryOf, outcomeOf, growOut, growMap, growCard}
+use Rattle.card.specs.Cores.{entryOf, outcomeOf, growOut, growMap, growCard}
 use Rattle.chains.proofs.Values.{Value, valueOf}
 use Rattle.catalogue.proofs.Slot as Slot′
 use Rattle.catalogue.proofs.Slot.Laws as Slot″
@@ -18,14 +18,14 @@ use Rattle.card.proofs.Outcome.Laws as Outcome″
 use Rattle.chains.proofs.Reserved.{find-contract, core-contract, entry-of-contract, store-contract, outcome-of-contract, meets}
 use Rattle.catalogue.proofs.find.Symbol as find-def
 use Rattle.catalogue.proofs.find.Met as find-met
-use Rattle.card.proofs.grow_core.Symbol as core-def
-use Rattle.card.proofs.grow_core.Met as core-met
-use Rattle.card.proofs.entry_of.Symbol as entry-of-def
-use Rattle.card.proofs.entry_of.Met as entry-of-met
+use Rattle.card.proofs.cores.grow_core.Symbol as core-def
+use Rattle.card.proofs.cores.grow_core.Met as core-met
+use Rattle.card.proofs.cores.entry_of.Symbol as entry-of-def
+use Rattle.card.proofs.cores.entry_of.Met as entry-of-met
 use Rattle.catalogue.proofs.store.Symbol as store-def
 use Rattle.catalogue.proofs.store.Met as store-met
-use Rattle.card.proofs.outcome_of.Symbol as outcome-of-def
-use Rattle.card.proofs.outcome_of.Met as outcome-of-met
+use Rattle.card.proofs.cores.outcome_of.Symbol as outcome-of-def
+use Rattle.card.proofs.cores.outcome_of.Met as outcome-of-met
 use Rattle.card.proofs.Shape.grow.Key.{name as #grow}
 use Rattle.card.proofs.Shape.grow as grow
 use Rattle.card.proofs.Shape.grow.Statement as stated
@@ -51,7 +51,7 @@ grow-spec 𝓤 H 𝓜 𝓖 𝓡 =
     (meets Slot Out Shape Outcome find-def.name core-def.name entry-of-def.name store-def.name outcome-of-def.name slotAt growOut growMap growCard entryOf set outcomeOf
     𝓤 H (𝓖 .A) (givenOf 𝓤 H 𝓜 𝓖) (tablesOf 𝓤 H 𝓜 (tables 𝓤 H 𝓜 𝓡 code.env))
     (cited 𝓤 H (find-contract Slot Out Shape Outcome slotAt 𝓤 H (𝓖 .A)) 𝓜 𝓡 code.env find-def.name find-def.routine code.calls-catalogue·find (find-met.met 𝓤 H 𝓜 𝓖 𝓡))
-    (cited 𝓤 H (core-contract Slot Out Shape Outcome growOut growMap growCard 𝓤 H (𝓖 .A)) 𝓜 𝓡 code.env core-def.name core-def.routine code.calls-card·grow-core (core-met.met 𝓤 H 𝓜 𝓖 𝓡))
-    (cited 𝓤 H (entry-of-contract Slot Out Shape Outcome entryOf 𝓤 H (𝓖 .A)) 𝓜 𝓡 code.env entry-of-def.name entry-of-def.routine code.calls-card·entry-of (entry-of-met.met 𝓤 H 𝓜 𝓖 𝓡))
+    (cited 𝓤 H (core-contract Slot Out Shape Outcome growOut growMap growCard 𝓤 H (𝓖 .A)) 𝓜 𝓡 code.env core-def.name core-def.routine code.calls-card·cores·grow-core (core-met.met 𝓤 H 𝓜 𝓖 𝓡))
+    (cited 𝓤 H (entry-of-contract Slot Out Shape Outcome entryOf 𝓤 H (𝓖 .A)) 𝓜 𝓡 code.env entry-of-def.name entry-of-def.routine code.calls-card·cores·entry-of (entry-of-met.met 𝓤 H 𝓜 𝓖 𝓡))
     (cited 𝓤 H (store-contract Slot Out Shape Outcome set 𝓤 H (𝓖 .A)) 𝓜 𝓡 code.env store-def.name store-def.routine code.calls-catalogue·store (store-met.met 𝓤 H 𝓜 𝓖 𝓡))
-    (cited 𝓤 H (outcome-of-contract Slot Out Shape Outcome outcomeOf 𝓤 H (𝓖 .A)) 𝓜 𝓡 code.env outcome-of-def.name outcome-of-def.routine code.calls-card·outcome-of (outcome-of-met.met 𝓤 H 𝓜 𝓖 𝓡)))
+    (cited 𝓤 H (outcome-of-contract Slot Out Shape Outcome outcomeOf 𝓤 H (𝓖 .A)) 𝓜 𝓡 code.env outcome-of-def.name outcome-of-def.routine code.calls-card·cores·outcome-of (outcome-of-met.met 𝓤 H 𝓜 𝓖 𝓡)))

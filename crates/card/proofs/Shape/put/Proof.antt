@@ -1,10 +1,10 @@
--- Written by tools/walks: `card::Shape::put` meets its contract, by the walk of `Put.antt` of the crate chains, with the calls of `catalogue::find`, `card::put_core`.
+-- Written by tools/walks: `card::Shape::put` meets its contract, by the walk of `Put.antt` of the crate chains, with the calls of `catalogue::find`, `card::cores::put_core`.
 -- Assumes nothing.
 use contract.Running.{givenOf, tables, tablesOf}
 use denote.Triple.Spec.{tripleOf}
 use denote.Triple.Table.{entered, cited}
 use Rattle.catalogue.specs.Entries.{slotAt}
-use Rattle.card.specs.Calls.{putOutcome, putCard}
+use Rattle.card.specs.Cores.{putOutcome, putCard}
 use Rattle.chains.proofs.Values.{Value, valueOf}
 use Rattle.catalogue.proofs.Slot as Slot′
 use Rattle.catalogue.proofs.Slot.Laws as Slot″
@@ -15,8 +15,8 @@ use Rattle.card.proofs.Outcome.Laws as Outcome″
 use Rattle.chains.proofs.Put.{find-contract, core-contract, meets}
 use Rattle.catalogue.proofs.find.Symbol as find-def
 use Rattle.catalogue.proofs.find.Met as find-met
-use Rattle.card.proofs.put_core.Symbol as core-def
-use Rattle.card.proofs.put_core.Met as core-met
+use Rattle.card.proofs.cores.put_core.Symbol as core-def
+use Rattle.card.proofs.cores.put_core.Met as core-met
 use Rattle.card.proofs.Shape.put.Key.{name as #put}
 use Rattle.card.proofs.Shape.put as put
 use Rattle.card.proofs.Shape.put.Statement as stated
@@ -39,4 +39,4 @@ put-spec 𝓤 H 𝓜 𝓖 𝓡 =
     (meets Slot Shape Outcome find-def.name core-def.name slotAt putOutcome putCard
     𝓤 H (𝓖 .A) (givenOf 𝓤 H 𝓜 𝓖) (tablesOf 𝓤 H 𝓜 (tables 𝓤 H 𝓜 𝓡 code.env))
     (cited 𝓤 H (find-contract Slot Shape Outcome slotAt 𝓤 H (𝓖 .A)) 𝓜 𝓡 code.env find-def.name find-def.routine code.calls-catalogue·find (find-met.met 𝓤 H 𝓜 𝓖 𝓡))
-    (cited 𝓤 H (core-contract Slot Shape Outcome putOutcome putCard 𝓤 H (𝓖 .A)) 𝓜 𝓡 code.env core-def.name core-def.routine code.calls-card·put-core (core-met.met 𝓤 H 𝓜 𝓖 𝓡)))
+    (cited 𝓤 H (core-contract Slot Shape Outcome putOutcome putCard 𝓤 H (𝓖 .A)) 𝓜 𝓡 code.env core-def.name core-def.routine code.calls-card·cores·put-core (core-met.met 𝓤 H 𝓜 𝓖 𝓡)))

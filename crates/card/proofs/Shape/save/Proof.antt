@@ -1,24 +1,24 @@
--- Written by tools/walks: `card::Shape::save` meets its contract, by the walk of `Saved.antt` of the crate chains, with the calls of `card::blocks_of`, `card::free_of`, `saving::save`, `card::save_outcome`.
+-- Written by tools/walks: `card::Shape::save` meets its contract, by the walk of `Saved.antt` of the crate chains, with the calls of `card::cores::blocks_of`, `card::cores::free_of`, `saving::save`, `card::cores::save_outcome`.
 -- Assumes nothing.
 use contract.Running.{givenOf, tables, tablesOf}
 use denote.Triple.Spec.{tripleOf}
 use denote.Triple.Table.{entered, cited}
 use Rattle.image.specs.Effects.{saveNumber, saveScratch, saveBuffer}
-use Rattle.card.specs.Calls.{blocksOf, freeOf, saveOutcome}
+use Rattle.card.specs.Cores.{blocksOf, freeOf, saveOutcome}
 use Rattle.chains.proofs.Values.{Value, valueOf}
 use Rattle.card.proofs.Shape as Shape′
 use Rattle.card.proofs.Shape.Laws as Shape″
 use Rattle.card.proofs.Outcome as Outcome′
 use Rattle.card.proofs.Outcome.Laws as Outcome″
 use Rattle.chains.proofs.Saved.{blocks-of-contract, free-of-contract, save-contract, save-outcome-contract, meets}
-use Rattle.card.proofs.blocks_of.Symbol as blocks-of-def
-use Rattle.card.proofs.blocks_of.Met as blocks-of-met
-use Rattle.card.proofs.free_of.Symbol as free-of-def
-use Rattle.card.proofs.free_of.Met as free-of-met
+use Rattle.card.proofs.cores.blocks_of.Symbol as blocks-of-def
+use Rattle.card.proofs.cores.blocks_of.Met as blocks-of-met
+use Rattle.card.proofs.cores.free_of.Symbol as free-of-def
+use Rattle.card.proofs.cores.free_of.Met as free-of-met
 use Rattle.saving.proofs.save.Symbol as save-def
 use Rattle.saving.proofs.save.Met as save-met
-use Rattle.card.proofs.save_outcome.Symbol as save-outcome-def
-use Rattle.card.proofs.save_outcome.Met as save-outcome-met
+use Rattle.card.proofs.cores.save_outcome.Symbol as save-outcome-def
+use Rattle.card.proofs.cores.save_outcome.Met as save-outcome-met
 use Rattle.card.proofs.Shape.save.Key.{name as #save}
 use Rattle.card.proofs.Shape.save as save
 use Rattle.card.proofs.Shape.save.Statement as stated
@@ -37,7 +37,7 @@ save-spec 𝓤 H 𝓜 𝓖 𝓡 =
     (tables 𝓤 H 𝓜 𝓡 code.env .C) (tables 𝓤 H 𝓜 𝓡 code.env .Λ) #save code.function (code.unfolded 𝓤 H 𝓜 𝓡)
     (meets Shape Outcome blocks-of-def.name free-of-def.name save-def.name save-outcome-def.name blocksOf freeOf saveNumber saveScratch saveBuffer saveOutcome
     𝓤 H (𝓖 .A) (givenOf 𝓤 H 𝓜 𝓖) (tablesOf 𝓤 H 𝓜 (tables 𝓤 H 𝓜 𝓡 code.env))
-    (cited 𝓤 H (blocks-of-contract Shape Outcome blocksOf 𝓤 H (𝓖 .A)) 𝓜 𝓡 code.env blocks-of-def.name blocks-of-def.routine code.calls-card·blocks-of (blocks-of-met.met 𝓤 H 𝓜 𝓖 𝓡))
-    (cited 𝓤 H (free-of-contract Shape Outcome freeOf 𝓤 H (𝓖 .A)) 𝓜 𝓡 code.env free-of-def.name free-of-def.routine code.calls-card·free-of (free-of-met.met 𝓤 H 𝓜 𝓖 𝓡))
+    (cited 𝓤 H (blocks-of-contract Shape Outcome blocksOf 𝓤 H (𝓖 .A)) 𝓜 𝓡 code.env blocks-of-def.name blocks-of-def.routine code.calls-card·cores·blocks-of (blocks-of-met.met 𝓤 H 𝓜 𝓖 𝓡))
+    (cited 𝓤 H (free-of-contract Shape Outcome freeOf 𝓤 H (𝓖 .A)) 𝓜 𝓡 code.env free-of-def.name free-of-def.routine code.calls-card·cores·free-of (free-of-met.met 𝓤 H 𝓜 𝓖 𝓡))
     (cited 𝓤 H (save-contract Shape Outcome saveNumber saveScratch saveBuffer 𝓤 H (𝓖 .A)) 𝓜 𝓡 code.env save-def.name save-def.routine code.calls-saving·save (save-met.met 𝓤 H 𝓜 𝓖 𝓡))
-    (cited 𝓤 H (save-outcome-contract Shape Outcome saveOutcome 𝓤 H (𝓖 .A)) 𝓜 𝓡 code.env save-outcome-def.name save-outcome-def.routine code.calls-card·save-outcome (save-outcome-met.met 𝓤 H 𝓜 𝓖 𝓡)))
+    (cited 𝓤 H (save-outcome-contract Shape Outcome saveOutcome 𝓤 H (𝓖 .A)) 𝓜 𝓡 code.env save-outcome-def.name save-outcome-def.routine code.calls-card·cores·save-outcome (save-outcome-met.met 𝓤 H 𝓜 𝓖 𝓡)))

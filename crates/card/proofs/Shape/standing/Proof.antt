@@ -1,10 +1,10 @@
--- Written by tools/walks: `card::Shape::standing` meets its contract, by the walk of `Stood.antt` of the crate chains, with the calls of `catalogue::find`, `card::standing_core`.
+-- Written by tools/walks: `card::Shape::standing` meets its contract, by the walk of `Stood.antt` of the crate chains, with the calls of `catalogue::find`, `card::cores::standing_core`.
 -- Assumes nothing.
 use contract.Running.{givenOf, tables, tablesOf}
 use denote.Triple.Spec.{tripleOf}
 use denote.Triple.Table.{entered, cited}
 use Rattle.catalogue.specs.Entries.{slotAt}
-use Rattle.card.specs.Calls.{standingOutcome}
+use Rattle.card.specs.Cores.{standingOutcome}
 use Rattle.chains.proofs.Values.{Value, valueOf}
 use Rattle.catalogue.proofs.Slot as Slot′
 use Rattle.catalogue.proofs.Slot.Laws as Slot″
@@ -15,8 +15,8 @@ use Rattle.card.proofs.Outcome.Laws as Outcome″
 use Rattle.chains.proofs.Stood.{find-contract, core-contract, meets}
 use Rattle.catalogue.proofs.find.Symbol as find-def
 use Rattle.catalogue.proofs.find.Met as find-met
-use Rattle.card.proofs.standing_core.Symbol as core-def
-use Rattle.card.proofs.standing_core.Met as core-met
+use Rattle.card.proofs.cores.standing_core.Symbol as core-def
+use Rattle.card.proofs.cores.standing_core.Met as core-met
 use Rattle.card.proofs.Shape.standing.Key.{name as #standing}
 use Rattle.card.proofs.Shape.standing as standing
 use Rattle.card.proofs.Shape.standing.Statement as stated
@@ -39,4 +39,4 @@ standing-spec 𝓤 H 𝓜 𝓖 𝓡 =
     (meets Slot Shape Outcome find-def.name core-def.name slotAt standingOutcome
     𝓤 H (𝓖 .A) (givenOf 𝓤 H 𝓜 𝓖) (tablesOf 𝓤 H 𝓜 (tables 𝓤 H 𝓜 𝓡 code.env))
     (cited 𝓤 H (find-contract Slot Shape Outcome slotAt 𝓤 H (𝓖 .A)) 𝓜 𝓡 code.env find-def.name find-def.routine code.calls-catalogue·find (find-met.met 𝓤 H 𝓜 𝓖 𝓡))
-    (cited 𝓤 H (core-contract Slot Shape Outcome standingOutcome 𝓤 H (𝓖 .A)) 𝓜 𝓡 code.env core-def.name core-def.routine code.calls-card·standing-core (core-met.met 𝓤 H 𝓜 𝓖 𝓡)))
+    (cited 𝓤 H (core-contract Slot Shape Outcome standingOutcome 𝓤 H (𝓖 .A)) 𝓜 𝓡 code.env core-def.name core-def.routine code.calls-card·cores·standing-core (core-met.met 𝓤 H 𝓜 𝓖 𝓡)))

@@ -1,10 +1,10 @@
--- `card::put_core` meets its contract: the answer and the card of the crate calls.
+-- `card::cores::put_core` meets its contract: the answer and the card of the crate calls.
 -- Assumes nothing.
 use mathlib.Core.Path.{ap}
 use borrow.Author.Needs.{needs}
-use Rattle.card.specs.Calls.{told}
-use Rattle.card.proofs.put_core.Statement.{statement}
-use Rattle.card.proofs.put_core.Tie as tie
+use Rattle.card.specs.Cores.{told}
+use Rattle.card.proofs.cores.put_core.Statement.{statement}
+use Rattle.card.proofs.cores.put_core.Tie as tie
 
 put-requires : tie.Need-put-requires
 put-requires c κs = search needs

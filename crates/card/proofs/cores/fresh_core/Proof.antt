@@ -1,9 +1,9 @@
--- `card::fresh_core` meets its contract, by whether fresh fits.
+-- `card::cores::fresh_core` meets its contract, by whether fresh fits.
 -- Assumes nothing.
 use mathlib.Core.Path.{sym, _∙_}
 use borrow.Author.Needs.{needs}
-use Rattle.card.proofs.fresh_core.Statement.{statement}
-use Rattle.card.proofs.fresh_core.Tie as tie
+use Rattle.card.proofs.cores.fresh_core.Statement.{statement}
+use Rattle.card.proofs.cores.fresh_core.Tie as tie
 
 fresh-requires : tie.Need-fresh-requires
 fresh-requires c κs = search needs

@@ -1,9 +1,9 @@
--- `card::load_outcome` meets its contract, by whether the number is 0.
+-- `card::cores::load_outcome` meets its contract, by whether the number is 0.
 -- Assumes nothing.
 use borrow.Author.Needs.{needs}
 use borrow.Author.Tests.{eq-eqb, ne-eqb}
-use Rattle.card.proofs.load_outcome.Statement.{statement}
-use Rattle.card.proofs.load_outcome.Tie as tie
+use Rattle.card.proofs.cores.load_outcome.Statement.{statement}
+use Rattle.card.proofs.cores.load_outcome.Tie as tie
 
 returns : tie.Need-returns
 returns c = simp (eq-eqb _ 0 (c .if1 .taken))

@@ -1,10 +1,10 @@
--- `card::show_core` meets its contract: the answer and the buffer of the crate calls.
+-- `card::cores::show_core` meets its contract: the answer and the buffer of the crate calls.
 -- Assumes nothing.
 use mathlib.Core.Path.{ap}
 use borrow.Author.Needs.{needs}
-use Rattle.card.specs.Calls.{told}
-use Rattle.card.proofs.show_core.Statement.{statement}
-use Rattle.card.proofs.show_core.Tie as tie
+use Rattle.card.specs.Cores.{told}
+use Rattle.card.proofs.cores.show_core.Statement.{statement}
+use Rattle.card.proofs.cores.show_core.Tie as tie
 
 show-requires : tie.Need-show-requires
 show-requires c κs = search needs

@@ -1,10 +1,10 @@
--- `card::standing_core` meets its contract: the answer of the crate calls.
+-- `card::cores::standing_core` meets its contract: the answer of the crate calls.
 -- Assumes nothing.
 use mathlib.Core.Path.{ap}
 use borrow.Author.Needs.{needs}
-use Rattle.card.specs.Calls.{told}
-use Rattle.card.proofs.standing_core.Statement.{statement}
-use Rattle.card.proofs.standing_core.Tie as tie
+use Rattle.card.specs.Cores.{told}
+use Rattle.card.proofs.cores.standing_core.Statement.{statement}
+use Rattle.card.proofs.cores.standing_core.Tie as tie
 
 standing-requires : tie.Need-standing-requires
 standing-requires c κs = search needs

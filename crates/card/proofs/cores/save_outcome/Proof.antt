@@ -1,9 +1,9 @@
--- `card::save_outcome` meets its contract, by whether the number is 0.
+-- `card::cores::save_outcome` meets its contract, by whether the number is 0.
 -- Assumes nothing.
 use borrow.Author.Needs.{needs}
 use borrow.Author.Tests.{eq-eqb, ne-eqb}
-use Rattle.card.proofs.save_outcome.Statement.{statement}
-use Rattle.card.proofs.save_outcome.Tie as tie
+use Rattle.card.proofs.cores.save_outcome.Statement.{statement}
+use Rattle.card.proofs.cores.save_outcome.Tie as tie
 
 returns : tie.Need-returns
 returns c = simp (eq-eqb _ 0 (c .if1 .taken))

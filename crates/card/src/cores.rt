@@ -1,0 +1,268 @@
+// The cores of the calls: on an entry by value and plain slices, with the shape taken apart for the crates below. Every
+// decision of a call is here or below; the methods of `Shape` only find the entry and store it.
+ghost use mathlib.Core.Path.{_≡_};
+ghost use Rattle.card.specs.Cores.{entryOf, outcomeOf, acceptedOf, freshOutcome, freshMap, reserveOut, reserveMap, reserveCard, growOut, growMap, growCard, putOutcome, putCard, completeOut, pauseOut, releaseOut, releaseMap, showOutcome, showBuffer, standingOutcome, blocksOf, freeOf, saveOutcome, loadOutcome};
+use crate::Outcome;
+use crate::Shape;
+use calls::Out;
+use catalogue::Entry;
+use catalogue::Slot;
+use image::Loaded;
+use standings::Answer;
+
+pub fn entry_of(out: Out) -> Entry
+    ensures { λ r. ⌜ r ≡ entryOf out ⌝ }
+{
+    out.entry
+}
+
+pub fn outcome_of(shape: Shape, out: Out) -> Outcome
+    ensures { λ r. ⌜ r ≡ outcomeOf shape out ⌝ }
+{
+    let answer = out.answer;
+    Outcome {
+        shape: Shape {
+            blocks: shape.blocks,
+            free: out.free,
+        },
+        answer: answer,
+    }
+}
+
+pub fn accepted_of(outcome: Outcome) -> bool
+    ensures { λ r. ⌜ r ≡ acceptedOf outcome ⌝ }
+{
+    let answer = outcome.answer;
+    match answer {
+        Answer::Done => true,
+        Answer::Start(_) => false,
+        Answer::Stands(_, _, _) => false,
+        Answer::Counted(_, _, _) => false,
+        Answer::Blank(_) => false,
+        Answer::Refused(_) => false,
+    }
+}
+
+// The cores: each takes the shape and the slot apart.
+
+pub fn fresh_core(shape: Shape, blocks: u32, map: &mut [u64], count: usize) -> Outcome
+    ensures { λ r. ⌜ (r ≡ freshOutcome shape blocks (now (map .entry)) count) × (now (map .exit) ≡ freshMap shape blocks (now (map .entry)) count) ⌝ }
+{
+    if standings::whole::fresh(blocks, map, count) {
+        return Outcome {
+            shape: Shape {
+                blocks: blocks,
+                free: blocks,
+            },
+            answer: Answer::Done,
+        };
+    }
+    Outcome {
+        shape: shape,
+        answer: Answer::Refused(1),
+    }
+}
+
+pub fn reserve_core(
+    shape: Shape,
+    map: &mut [u64],
+    card: &mut [u8],
+    slot: Slot,
+    sheet: u32,
+    k: u32,
+) -> Out
+    ensures { λ r. ⌜ (r ≡ reserveOut shape (now (map .entry)) (now (card .entry)) slot sheet k)
+        × (now (map .exit) ≡ reserveMap shape (now (map .entry)) (now (card .entry)) slot sheet k)
+        × (now (card .exit) ≡ reserveCard shape (now (map .entry)) (now (card .entry)) slot sheet k) ⌝ }
+{
+    let entry = slot.entry;
+    taking::reserve::reserve(
+        shape.blocks,
+        shape.free,
+        map,
+        card,
+        slot.count,
+        entry,
+        sheet,
+        k,
+    )
+}
+
+pub fn grow_core(
+    shape: Shape,
+    map: &mut [u64],
+    card: &mut [u8],
+    slot: Slot,
+    sheet: u32,
+    m: u32,
+) -> Out
+    ensures { λ r. ⌜ (r ≡ growOut shape (now (map .entry)) (now (card .entry)) slot sheet m)
+        × (now (map .exit) ≡ growMap shape (now (map .entry)) (now (card .entry)) slot sheet m)
+        × (now (card .exit) ≡ growCard shape (now (map .entry)) (now (card .entry)) slot sheet m) ⌝ }
+{
+    let entry = slot.entry;
+    taking::grow::grow(
+        shape.blocks,
+        shape.free,
+        map,
+        card,
+        slot.count,
+        entry,
+        sheet,
+        m,
+    )
+}
+
+pub fn put_core(
+    shape: Shape,
+    map: &[u64],
+    card: &mut [u8],
+    slot: Slot,
+    sheet: u32,
+    place: u32,
+    payload: &[u8],
+) -> Outcome
+    ensures { λ r. ⌜ (r ≡ putOutcome shape (now (map .entry)) (now (card .entry)) slot sheet place (now (payload .entry)))
+        × (now (card .exit) ≡ putCard shape (now (map .entry)) (now (card .entry)) slot sheet place (now (payload .entry))) ⌝ }
+{
+    let entry = slot.entry;
+    let answer = filling::put::put(
+        shape.blocks,
+        shape.free,
+        map,
+        card,
+        slot.count,
+        entry,
+        sheet,
+        place,
+        payload,
+    );
+    Outcome {
+        shape: shape,
+        answer: answer,
+    }
+}
+
+pub fn complete_core(shape: Shape, map: &[u64], card: &[u8], slot: Slot, sheet: u32) -> Out
+    ensures { λ r. ⌜ r ≡ completeOut shape (now (map .entry)) (now (card .entry)) slot sheet ⌝ }
+{
+    let entry = slot.entry;
+    filling::complete::complete(
+        shape.blocks,
+        shape.free,
+        map,
+        card,
+        slot.count,
+        entry,
+        sheet,
+    )
+}
+
+pub fn pause_core(shape: Shape, map: &[u64], slot: Slot, sheet: u32) -> Out
+    ensures { λ r. ⌜ r ≡ pauseOut shape (now (map .entry)) slot sheet ⌝ }
+{
+    let entry = slot.entry;
+    ending::pause::pause(shape.blocks, shape.free, map, slot.count, entry, sheet)
+}
+
+pub fn release_core(shape: Shape, map: &mut [u64], slot: Slot, sheet: u32) -> Out
+    ensures { λ r. ⌜ (r ≡ releaseOut shape (now (map .entry)) slot sheet) × (now (map .exit) ≡ releaseMap shape (now (map .entry)) slot sheet) ⌝ }
+{
+    let entry = slot.entry;
+    ending::release::release(shape.blocks, shape.free, map, slot.count, entry, sheet)
+}
+
+pub fn show_core(
+    shape: Shape,
+    map: &[u64],
+    card: &[u8],
+    slot: Slot,
+    sheet: u32,
+    place: u32,
+    buffer: &mut [u8],
+) -> Outcome
+    ensures { λ r. ⌜ (r ≡ showOutcome shape (now (map .entry)) (now (card .entry)) slot sheet place (now (buffer .entry)))
+        × (now (buffer .exit) ≡ showBuffer shape (now (map .entry)) (now (card .entry)) slot sheet place (now (buffer .entry))) ⌝ }
+{
+    let entry = slot.entry;
+    let answer = telling::show::show(
+        shape.blocks,
+        shape.free,
+        map,
+        card,
+        slot.count,
+        entry,
+        sheet,
+        place,
+        buffer,
+    );
+    Outcome {
+        shape: shape,
+        answer: answer,
+    }
+}
+
+pub fn standing_core(shape: Shape, map: &[u64], slot: Slot, sheet: u32) -> Outcome
+    ensures { λ r. ⌜ r ≡ standingOutcome shape (now (map .entry)) slot sheet ⌝ }
+{
+    let entry = slot.entry;
+    let answer = telling::standing::standing(
+        shape.blocks,
+        shape.free,
+        map,
+        slot.count,
+        entry,
+        sheet,
+    );
+    Outcome {
+        shape: shape,
+        answer: answer,
+    }
+}
+
+// n and the free count, for the calls that are lent no entry by value.
+
+pub fn blocks_of(shape: Shape) -> u32
+    ensures { λ r. ⌜ r ≡ blocksOf shape ⌝ }
+{
+    shape.blocks
+}
+
+pub fn free_of(shape: Shape) -> u32
+    ensures { λ r. ⌜ r ≡ freeOf shape ⌝ }
+{
+    shape.free
+}
+
+pub fn save_outcome(shape: Shape, number: u32) -> Outcome
+    ensures { λ r. ⌜ r ≡ saveOutcome shape number ⌝ }
+{
+    if number == 0 {
+        return Outcome {
+            shape: shape,
+            answer: Answer::Done,
+        };
+    }
+    Outcome {
+        shape: shape,
+        answer: Answer::Refused(number),
+    }
+}
+
+pub fn load_outcome(shape: Shape, loaded: Loaded) -> Outcome
+    ensures { λ r. ⌜ r ≡ loadOutcome shape loaded ⌝ }
+{
+    if loaded.number == 0 {
+        return Outcome {
+            shape: Shape {
+                blocks: loaded.blocks,
+                free: loaded.free,
+            },
+            answer: Answer::Done,
+        };
+    }
+    Outcome {
+        shape: shape,
+        answer: Answer::Refused(loaded.number),
+    }
+}

@@ -1,2 +1,0 @@
--- What each call hands back and leaves.
-pub mod Calls
