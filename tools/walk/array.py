@@ -89,8 +89,8 @@ module _ {{M : Type 1}} (𝓤 : URA M) where
         """in the proof of a function: what the callee ensures"""
         return f'(λ κs a r e. {self.label}-said.clauses 𝓤 H (𝓖 .A) (𝓜 .mem) (𝓡 .run) κs a .ensures tt r e)'
 
-    def stated(self, models):
-        return f'({self.label}-contract 𝓤 H (𝓖 .A) {self.ensured()})'
+    def stated(self, words):
+        return f'({self.label}-contract{spaced(words)} 𝓤 H (𝓖 .A) {self.ensured()})'
 
     def hears(self, steps, elements, args, r, zs, lists):
         l, κs = self.label, self.lifetimes()

@@ -6,11 +6,8 @@ from walk.text import arrows, component, cons, indented, nest, product, subscrip
 # what the first line of a written file begins with
 SIGN = '-- Written by tools/walks:'
 
-# the crate that has the proofs which every walk cites
+# the crate that has the proofs which every walk cites, and says what any type by value is
 HOME = 'catalogue'
-
-# the crate that says what any type by value is, and that has the walks over such types
-VALUES = 'chains'
 
 # the modules of the library that a walk can need, each with the names that it can need of them
 LIBRARY = {
@@ -95,7 +92,7 @@ def imports(body, section):
         use(module, names.split())
     if 'struct' in words:
         lines.append('use denote.Struct.Laws as struct')
-    use(proofs(VALUES, here, 'Values'), ['Value', 'denotes', 'rowOf', 'mirOf', 'valsOf'])
+    use(proofs(HOME, here, 'Values'), ['Value', 'denotes', 'rowOf', 'mirOf', 'valsOf'])
     for name, found in section.structs.items():
         if not found:
             continue

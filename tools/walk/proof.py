@@ -1,5 +1,5 @@
 """The proof of one function: its code is that of a walk module, and its callees are those that the list names."""
-from walk.module import SIGN, VALUES, proofs
+from walk.module import HOME, SIGN, proofs
 from walk.text import paragraphs
 
 
@@ -24,7 +24,7 @@ def proof(section, walk, path, chosen, laws):
         if wanted:
             lines.append(f'use {module}.{{{", ".join(wanted)}}}')
     if walk.values:
-        lines.append(f'use {proofs(VALUES, here, "Values")}.{{Value, valueOf}}')
+        lines.append(f'use {proofs(HOME, here, "Values")}.{{Value, valueOf}}')
     types = []
     for value in walk.values:
         if not section.structs.get(value):

@@ -1,4 +1,3 @@
--- What is printed follows from what load, the survey and the lines come to; and the walk of `print_with`.
+-- What is printed follows from what load, the survey and the lines come to.
 pub mod Beginning
 pub mod Prints
-pub mod Printing

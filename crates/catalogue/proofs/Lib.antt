@@ -5,3 +5,4 @@ pub mod Clearing
 pub mod Lending
 pub mod Steps
 pub mod Storing
+pub mod Values

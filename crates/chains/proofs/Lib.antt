@@ -1,13 +1,10 @@
--- Types by value, and the walks over any of them.
-pub mod Values
+-- The walks of the methods of `Shape`, and of the C functions over them (`..Reply`).
 pub mod Completed
 pub mod CompletedReply
-pub mod Described
 pub mod Freshened
 pub mod FreshenedReply
 pub mod Paused
 pub mod PausedReply
-pub mod Printed
 pub mod Put
 pub mod PutReply
 pub mod Released
@@ -20,7 +17,5 @@ pub mod Saved
 pub mod SavedReply
 pub mod Shown
 pub mod ShownReply
-pub mod StateLoaded
-pub mod StateSaved
 pub mod Stood
 pub mod StoodReply

@@ -1,4 +1,4 @@
--- Written by tools/walks: `loading::load` meets its contract, by the walk of `StateLoaded.antt` of the crate chains, with the calls of `catalogue::count`, `loading::load_core`, `loading::first_cursor`, `loading::read_entries`.
+-- Written by tools/walks: `loading::load` meets its contract, by the walk of `StateLoaded.antt` of the crate image_chains, with the calls of `catalogue::count`, `loading::load_core`, `loading::first_cursor`, `loading::read_entries`.
 -- Assumes nothing.
 use contract.Running.{givenOf, tables, tablesOf}
 use denote.Triple.Spec.{tripleOf}
@@ -7,12 +7,12 @@ use lib.ListN.{length}
 use Rattle.image.specs.Effects.{Loads}
 use Rattle.loading.specs.Parts.{coreLoaded, coreMap, coreScratch, firstCursor, readCursor, readEntries}
 use Rattle.loading.proofs.Loads.{loads}
-use Rattle.chains.proofs.Values.{Value, valueOf}
+use Rattle.catalogue.proofs.Values.{Value, valueOf}
 use Rattle.image.proofs.Cursor as Cursor′
 use Rattle.image.proofs.Cursor.Laws as Cursor″
 use Rattle.image.proofs.Loaded as Loaded′
 use Rattle.image.proofs.Loaded.Laws as Loaded″
-use Rattle.chains.proofs.StateLoaded.{count-contract, load-core-contract, first-cursor-contract, read-entries-contract, meets}
+use Rattle.image_chains.proofs.StateLoaded.{count-contract, load-core-contract, first-cursor-contract, read-entries-contract, meets}
 use Rattle.catalogue.proofs.count.Symbol as count-def
 use Rattle.catalogue.proofs.count.Met as count-met
 use Rattle.loading.proofs.load_core.Symbol as load-core-def

@@ -5,7 +5,7 @@ use denote.Triple.Spec.{tripleOf}
 use denote.Triple.Table.{entered, cited}
 use Rattle.replies.specs.Replies.{replyOf}
 use Rattle.card.specs.Calls.{completeOutcome, completeEntries}
-use Rattle.chains.proofs.Values.{Value, valueOf}
+use Rattle.catalogue.proofs.Values.{Value, valueOf}
 use Rattle.card.proofs.Shape as Shape′
 use Rattle.card.proofs.Shape.Laws as Shape″
 use Rattle.card.proofs.Outcome as Outcome′

@@ -1,4 +1,4 @@
--- Written by tools/walks: `printing::describe` meets its contract, by the walk of `Described.antt` of the crate chains, with the calls of `catalogue::count`, `printing::write_head`, `printing::write_sheets`, `printing::place_of`.
+-- Written by tools/walks: `printing::describe` meets its contract, by the walk of `Described.antt` of the crate image_chains, with the calls of `catalogue::count`, `printing::write_head`, `printing::write_sheets`, `printing::place_of`.
 -- Assumes nothing.
 use contract.Running.{givenOf, tables, tablesOf}
 use denote.Triple.Spec.{tripleOf}
@@ -6,12 +6,12 @@ use denote.Triple.Table.{entered, cited}
 use lib.ListN.{length}
 use Rattle.printing.specs.Sheets.{headCursor, headWritten, linesCursor, linesWritten, placeOf, Describes}
 use Rattle.printing.proofs.Lines.{describes}
-use Rattle.chains.proofs.Values.{Value, valueOf}
+use Rattle.catalogue.proofs.Values.{Value, valueOf}
 use Rattle.survey.proofs.Counts as Counts′
 use Rattle.survey.proofs.Counts.Laws as Counts″
 use Rattle.printing.proofs.Cursor as Cursor′
 use Rattle.printing.proofs.Cursor.Laws as Cursor″
-use Rattle.chains.proofs.Described.{count-contract, write-head-contract, write-sheets-contract, place-of-contract, meets}
+use Rattle.image_chains.proofs.Described.{count-contract, write-head-contract, write-sheets-contract, place-of-contract, meets}
 use Rattle.catalogue.proofs.count.Symbol as count-def
 use Rattle.catalogue.proofs.count.Met as count-met
 use Rattle.printing.proofs.write_head.Symbol as write-head-def

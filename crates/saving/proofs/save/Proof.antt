@@ -1,4 +1,4 @@
--- Written by tools/walks: `saving::save` meets its contract, by the walk of `StateSaved.antt` of the crate chains, with the calls of `catalogue::count`, `saving::begin`, `soundness::release_entries`, `saving::save_number`, `saving::write_head`, `saving::write_entries`, `saving::write_rest`.
+-- Written by tools/walks: `saving::save` meets its contract, by the walk of `StateSaved.antt` of the crate image_chains, with the calls of `catalogue::count`, `saving::begin`, `soundness::release_entries`, `saving::save_number`, `saving::write_head`, `saving::write_entries`, `saving::write_rest`.
 -- Assumes nothing.
 use contract.Running.{givenOf, tables, tablesOf}
 use denote.Triple.Spec.{tripleOf}
@@ -9,12 +9,12 @@ use Rattle.image.specs.Effects.{Saves}
 use Rattle.saving.specs.Parts.{firstTally, firstScratch, numberBy, scratchCleared, headCursor, headImage}
 use Rattle.saving.specs.Parts.{entriesCursor, entriesImage, restImage}
 use Rattle.saving.proofs.Saves.{saves}
-use Rattle.chains.proofs.Values.{Value, valueOf}
+use Rattle.catalogue.proofs.Values.{Value, valueOf}
 use Rattle.soundness.proofs.Tally as Tally′
 use Rattle.soundness.proofs.Tally.Laws as Tally″
 use Rattle.image.proofs.Cursor as Cursor′
 use Rattle.image.proofs.Cursor.Laws as Cursor″
-use Rattle.chains.proofs.StateSaved.{count-contract, begin-contract, release-entries-contract, save-number-contract, write-head-contract, write-entries-contract, write-rest-contract, meets}
+use Rattle.image_chains.proofs.StateSaved.{count-contract, begin-contract, release-entries-contract, save-number-contract, write-head-contract, write-entries-contract, write-rest-contract, meets}
 use Rattle.catalogue.proofs.count.Symbol as count-def
 use Rattle.catalogue.proofs.count.Met as count-met
 use Rattle.saving.proofs.begin.Symbol as begin-def

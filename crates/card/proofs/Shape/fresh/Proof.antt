@@ -6,7 +6,7 @@ use denote.Triple.Table.{entered, cited}
 use lib.ListN.{length}
 use Rattle.catalogue.specs.Entries.{clearedIf}
 use Rattle.card.specs.Cores.{acceptedOf, freshOutcome, freshMap}
-use Rattle.chains.proofs.Values.{Value, valueOf}
+use Rattle.catalogue.proofs.Values.{Value, valueOf}
 use Rattle.card.proofs.Shape as Shape′
 use Rattle.card.proofs.Shape.Laws as Shape″
 use Rattle.card.proofs.Outcome as Outcome′

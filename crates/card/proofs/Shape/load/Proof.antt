@@ -5,7 +5,7 @@ use denote.Triple.Spec.{tripleOf}
 use denote.Triple.Table.{entered, cited}
 use Rattle.image.specs.Effects.{loadResult, loadMap, loadEntries, loadScratch}
 use Rattle.card.specs.Cores.{loadOutcome}
-use Rattle.chains.proofs.Values.{Value, valueOf}
+use Rattle.catalogue.proofs.Values.{Value, valueOf}
 use Rattle.image.proofs.Loaded as Loaded′
 use Rattle.image.proofs.Loaded.Laws as Loaded″
 use Rattle.card.proofs.Shape as Shape′

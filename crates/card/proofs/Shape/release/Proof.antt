@@ -7,7 +7,7 @@ use lib.ListN.{set}
 use Rattle.catalogue.specs.Entries.{slotAt}
 use Rattle.card.specs.Cores.{entryOf, outcomeOf}
 use Rattle.card.specs.Cores.{releaseOut, releaseMap}
-use Rattle.chains.proofs.Values.{Value, valueOf}
+use Rattle.catalogue.proofs.Values.{Value, valueOf}
 use Rattle.catalogue.proofs.Slot as Slot′
 use Rattle.catalogue.proofs.Slot.Laws as Slot″
 use Rattle.calls.proofs.Out as Out′

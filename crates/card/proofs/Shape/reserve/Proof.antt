@@ -6,7 +6,7 @@ use denote.Triple.Table.{entered, cited}
 use lib.ListN.{set}
 use Rattle.catalogue.specs.Entries.{slotAt}
 use Rattle.card.specs.Cores.{entryOf, outcomeOf, reserveOut, reserveMap, reserveCard}
-use Rattle.chains.proofs.Values.{Value, valueOf}
+use Rattle.catalogue.proofs.Values.{Value, valueOf}
 use Rattle.catalogue.proofs.Slot as Slot′
 use Rattle.catalogue.proofs.Slot.Laws as Slot″
 use Rattle.calls.proofs.Out as Out′

@@ -1,4 +1,4 @@
--- Written by tools/walks: `card_print::print::print_image` meets its contract, by the walk of `Printed.antt` of the crate chains, with the calls of `catalogue::count`, `loading::load`, `card_print::print::begin`, `printing::write_sheets`, `printing::place_of`.
+-- Written by tools/walks: `card_print::print::print_image` meets its contract, by the walk of `Printed.antt` of the crate image_chains, with the calls of `catalogue::count`, `loading::load`, `card_print::print::begin`, `printing::write_sheets`, `printing::place_of`.
 -- Assumes nothing.
 use contract.Running.{givenOf, tables, tablesOf}
 use denote.Triple.Spec.{tripleOf}
@@ -9,12 +9,12 @@ use Rattle.printing.specs.Sheets.{linesCursor, linesWritten, placeOf}
 use Rattle.card_print.specs.Beginnings.{beginCursor, beginWritten}
 use Rattle.card_print.specs.Printed.{Prints}
 use Rattle.card_print.proofs.Prints.{prints}
-use Rattle.chains.proofs.Values.{Value, valueOf}
+use Rattle.catalogue.proofs.Values.{Value, valueOf}
 use Rattle.printing.proofs.Cursor as Cursor′
 use Rattle.printing.proofs.Cursor.Laws as Cursor″
 use Rattle.image.proofs.Loaded as Loaded′
 use Rattle.image.proofs.Loaded.Laws as Loaded″
-use Rattle.chains.proofs.Printed.{count-contract, load-contract, begin-contract, write-sheets-contract, place-of-contract, meets}
+use Rattle.image_chains.proofs.Printed.{count-contract, load-contract, begin-contract, write-sheets-contract, place-of-contract, meets}
 use Rattle.catalogue.proofs.count.Symbol as count-def
 use Rattle.catalogue.proofs.count.Met as count-met
 use Rattle.loading.proofs.load.Symbol as load-def

@@ -1,9 +1,9 @@
--- Written by tools/walks: `card_print::print::print_with` meets its contract, by the walk of `Printing.antt`, with the calls of `card_print::print::print_image`, `card_print::print::used_of`.
+-- Written by tools/walks: `card_print::print::print_with` meets its contract, by the walk of `Printing.antt` of the crate lent_arrays, with the calls of `card_print::print::print_image`, `card_print::print::used_of`.
 -- Assumes nothing.
 use contract.Running.{givenOf, tables, tablesOf}
 use denote.Triple.Spec.{tripleOf}
 use denote.Triple.Table.{entered, cited}
-use Rattle.card_print.proofs.Printing.{call-contract, used-of-contract, meets}
+use Rattle.lent_arrays.proofs.Printing.{call-contract, used-of-contract, meets}
 use Rattle.card_print.proofs.print.print_image.Symbol as call-def
 use Rattle.card_print.proofs.print.print_image.Met as call-met
 use Rattle.card_print.proofs.print.print_image as call-said
