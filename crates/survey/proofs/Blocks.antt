@@ -1,12 +1,13 @@
--- Laws of `blocks`, a part of the card as a list: two parts that join, and the same blocks under another name.
+-- Laws of a part of the card as a list of its blocks: two parts that join, the same blocks under another name, and the free
+-- blocks of two parts.
 -- Assumes nothing.
 use mathlib.Core.Path.{_≡_, refl, sym, ap, ap₂, _∙_}
-use mathlib.Core.Bool.{Bool}
-use mathlib.Core.List.{List, _∷_, _++_}
+use mathlib.Core.Bool.{Bool, true, false}
+use mathlib.Core.List.{List, [], _∷_, _++_}
 use Prim.Native.Nat.{ℕ, zero, suc, _+_, _<_}
 use native.Mathlib.Nat.{add-zero, zero-add, suc-add}
 use native.Mathlib.Omega.{arith}
-use Rattle.survey.specs.Survey.{blocks}
+use Rattle.survey.specs.Survey.{blocks, freeOf}
 
 moved : (s j : ℕ) → suc s + j ≡ s + suc j
 moved s j = omega arith
@@ -23,3 +24,10 @@ blocks-same f g s s′ zero h = refl
 blocks-same f g s s′ (suc m) h =
     ap₂ (λ (x : Bool) (xs : List Bool). x ∷ xs) (ap f (sym (add-zero s)) ∙ h 0 (omega arith) ∙ ap g (add-zero s′))
     (blocks-same f g (suc s) (suc s′) m (λ j l. ap f (moved s j) ∙ h (suc j) (omega arith) ∙ ap g (sym (moved s′ j))))
+
+-- the free blocks of one list before another
+pub free-append : (xs ys : List Bool) → freeOf (xs ++ ys) ≡ freeOf xs + freeOf ys
+unfolding freeOf
+free-append [] ys = omega arith
+free-append (true ∷ xs) ys = omega (arith, free-append xs ys)
+free-append (false ∷ xs) ys = omega (arith, free-append xs ys)

@@ -8,14 +8,17 @@ use native.Mathlib.Nat.{zero-add}
 use native.Mathlib.Omega.{arith}
 use lib.Dec.{leb, ltb}
 use borrow.Author.Tests.{lt-ltb, le-ltb, le-leb}
-use Rattle.survey.specs.Survey.{blocks, bitsOf, freeOf, headOf, longestOf, runsOf, countsOf, Summary}
+use Rattle.byte_counts.specs.Runs.{headOf, longestOf, runsOf}
+use Rattle.byte_counts.specs.Bytes.{bitsOf}
+use Rattle.passing.specs.Passing.{Summary}
+use Rattle.survey.specs.Survey.{blocks, freeOf, countsOf}
 use Rattle.survey.specs.Words.{Before}
+use Rattle.survey.proofs.Blocks.{blocks-join, blocks-same}
+use Rattle.survey.proofs.Taken.{Same, taken-end}
+use Rattle.survey.proofs.Words.{word-blocks}
 use Rattle.freemap.specs.Words.{bit, inWindow}
 use Rattle.freemap.proofs.Bits.{bit-ones}
 use Rattle.survey.specs.declared.Counts.{Counts}
-use Rattle.survey.proofs.Blocks.{blocks-join, blocks-same}
-use Rattle.survey.proofs.Joining.{Same, taken-end}
-use Rattle.survey.proofs.Words.{word-blocks}
 
 module _ (g : ℕ → Bool) (n : ℕ) where
   -- the blocks from word i on, up to the end of the last word; those from n on count as taken

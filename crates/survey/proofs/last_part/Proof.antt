@@ -1,10 +1,8 @@
 -- `survey::last_part` meets its contract.
 -- Assumes nothing.
-use mathlib.Core.Path.{sym, subst}
-use Prim.Native.Nat.{ℕ, _+_, _-_, _*_, _/_, _<_}
+use Prim.Native.Nat.{_-_}
 use native.Mathlib.Omega.{arith}
 use borrow.Author.Needs.{needs}
-use Rattle.survey.specs.Words.{Before}
 use Rattle.survey.proofs.Passing.{part-before}
 use Rattle.survey.proofs.last_part.Statement.{statement}
 use Rattle.survey.proofs.last_part.Tie as tie

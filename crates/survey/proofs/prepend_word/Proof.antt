@@ -4,8 +4,9 @@ use mathlib.Core.Path.{sym, subst}
 use mathlib.Core.List.{_++_}
 use Prim.Native.Nat.{ℕ}
 use native.Mathlib.Omega.{arith}
-use Rattle.survey.specs.Survey.{bitsOf, Summary}
-use Rattle.survey.proofs.Joining.{past-zero}
+use Rattle.byte_counts.specs.Bytes.{bitsOf}
+use Rattle.passing.specs.Passing.{Summary}
+use Rattle.survey.proofs.Taken.{past-zero}
 use borrow.Author.Needs.{needs}
 use Rattle.survey.proofs.prepend_word.Statement.{statement}
 use Rattle.survey.proofs.prepend_word.Tie as tie

@@ -9,13 +9,16 @@ use lib.ListN.{getD}
 use borrow.Author.Needs.{needs}
 use denote.Ref.{now}
 use Rattle.freemap.specs.Blocks.{free}
-use Rattle.survey.specs.Survey.{Summary, bitsOf, freeOf, headOf, tailOf, longestOf, runsOf, column}
+use Rattle.byte_counts.specs.Runs.{headOf, tailOf, longestOf, runsOf}
+use Rattle.byte_counts.specs.Bytes.{bitsOf, column}
+use Rattle.passing.specs.Passing.{Summary}
+use Rattle.survey.specs.Survey.{freeOf}
 use Rattle.survey.specs.Words.{Before}
-use Rattle.freemap.proofs.Maps.{cut-word}
-use Rattle.survey.proofs.Joining.{free-append}
+use Rattle.survey.proofs.Blocks.{free-append}
 use Rattle.survey.proofs.Passing.{rest, rest-more, counted, nothing, ones-before}
 use Rattle.survey.proofs.Rule.{right, ruled}
 use Rattle.survey.proofs.Words.{free-word}
+use Rattle.freemap.proofs.Maps.{cut-word}
 use Rattle.survey.proofs.survey.Statement.{statement}
 use Rattle.survey.proofs.survey.Tie as tie
 

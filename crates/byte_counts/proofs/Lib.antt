@@ -1,0 +1,4 @@
+-- Laws that the proofs of several functions cite, and those for the crates above.
+pub mod Bytes
+mod Edges
+mod Meeting

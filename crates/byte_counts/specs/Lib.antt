@@ -1,0 +1,3 @@
+-- What the contracts of `byte_counts` cite.
+pub mod Bytes
+pub mod Runs
