@@ -8,7 +8,7 @@ use lib.ListN.{length, set}
 use Rattle.catalogue.specs.Entries.{slotAt, clearedIf}
 use Rattle.catalogue.specs.declared.Entry.{Entry}
 use Rattle.image.specs.Effects as images
-use Rattle.standings.specs.Searches as searches
+use Rattle.whole_calls.specs.Answers as whole
 use Rattle.card.specs.Cores as cores
 use Rattle.card.specs.Cores.{told, entryOf, outcomeOf, acceptedOf}
 use Rattle.card.specs.declared.Outcome.{Outcome}
@@ -24,10 +24,10 @@ abbrev pub freshEntries : Shape → ℕ → List ℕ → List Entry → List Ent
 freshEntries shape blocks map entries = clearedIf entries (acceptedOf (freshOutcome shape blocks map entries))
 
 abbrev pub searchOutcome : Shape → List ℕ → ℕ → Outcome
-searchOutcome shape map k = told shape (searches.searchAnswer (shape .blocks) (shape .free) map k)
+searchOutcome shape map k = told shape (whole.searchAnswer (shape .blocks) (shape .free) map k)
 
 abbrev pub surveyOutcome : Shape → List ℕ → Outcome
-surveyOutcome shape map = told shape (searches.surveyAnswer (shape .blocks) (shape .free) map)
+surveyOutcome shape map = told shape (whole.surveyAnswer (shape .blocks) (shape .free) map)
 
 abbrev pub reserveOutcome : Shape → List ℕ → List Entry → List ℕ → ℕ → ℕ → Outcome
 reserveOutcome shape map entries card sheet k = outcomeOf shape (cores.reserveOut shape map card (slotAt entries sheet) sheet k)

@@ -48,7 +48,7 @@ pub fn accepted_of(outcome: Outcome) -> bool
 pub fn fresh_core(shape: Shape, blocks: u32, map: &mut [u64], count: usize) -> Outcome
     ensures { λ r. ⌜ (r ≡ freshOutcome shape blocks (now (map .entry)) count) × (now (map .exit) ≡ freshMap shape blocks (now (map .entry)) count) ⌝ }
 {
-    if standings::whole::fresh(blocks, map, count) {
+    if whole_calls::fresh(blocks, map, count) {
         return Outcome {
             shape: Shape {
                 blocks: blocks,

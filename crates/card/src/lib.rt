@@ -48,7 +48,7 @@ impl Shape {
     pub fn search(self, map: &[u64], k: u32) -> Outcome
         ensures { λ r. ⌜ r ≡ searchOutcome self (now (map .entry)) k ⌝ }
     {
-        let answer = standings::whole::search(self.blocks, self.free, map, k);
+        let answer = whole_calls::search(self.blocks, self.free, map, k);
         Outcome {
             shape: self,
             answer: answer,
@@ -59,7 +59,7 @@ impl Shape {
     pub fn survey(self, map: &[u64]) -> Outcome
         ensures { λ r. ⌜ r ≡ surveyOutcome self (now (map .entry)) ⌝ }
     {
-        let answer = standings::whole::survey(self.blocks, self.free, map);
+        let answer = whole_calls::survey(self.blocks, self.free, map);
         Outcome {
             shape: self,
             answer: answer,

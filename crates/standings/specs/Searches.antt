@@ -1,19 +1,9 @@
--- What the calls that are lent a shape and a map alone answer: search and survey (document 01, "Map and search").
+-- What a search found, as the rows and the answers have it.
 -- Assumes nothing.
 use Prim.Native.Nat.{ℕ}
-use mathlib.Core.Bool.{Bool, true, false, not}
-use mathlib.Core.List.{List, [], _∷_}
-use lib.Dec.{eqb}
-use lib.ListN.{length}
-use Rattle.freemap.specs.Blocks as map-blocks
-use Rattle.freemap.specs.Blocks.{leastFit}
+use mathlib.Core.Bool.{Bool, true, false}
 use Rattle.freemap.specs.declared.Found.{Found}
 use Rattle.freemap.specs.declared.Found.the-variants.{At, Nothing}
-use Rattle.survey.specs.Survey.{countsOf}
-use Rattle.standings.specs.Limits.{shapeFits}
-use Rattle.standings.specs.Rows.{row, firstOf, settle}
-use Rattle.standings.specs.declared.Answer.{Answer}
-use Rattle.standings.specs.declared.Answer.the-variants.{Start, Counted, Refused}
 
 -- Nothing was found.
 abbrev pub none : Found → Bool
@@ -24,16 +14,3 @@ none Nothing = true
 abbrev pub startAt : Found → ℕ
 startAt (At s) = s
 startAt Nothing = 0
-
-unfoldable pub searchAnswer : ℕ → ℕ → List ℕ → ℕ → Answer
-unfolding shapeFits
-searchAnswer n free map k =
-    settle (firstOf (row 1 (not (shapeFits n free (length map))) ∷ row 3 (eqb k 0) ∷ row 10 (none (leastFit (map-blocks.free map) 0 n k)) ∷ []))
-    (Start (startAt (leastFit (map-blocks.free map) 0 n k))) Refused
-
-unfoldable pub surveyAnswer : ℕ → ℕ → List ℕ → Answer
-unfolding shapeFits
-surveyAnswer n free map =
-    settle (firstOf (row 1 (not (shapeFits n free (length map))) ∷ []))
-    (Counted (countsOf (map-blocks.free map) n .free) (countsOf (map-blocks.free map) n .runs) (countsOf (map-blocks.free map) n .longest))
-    Refused

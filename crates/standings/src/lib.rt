@@ -1,7 +1,6 @@
 // The standing of a sheet and the rows that every call begins with (document 01, "Shape, catalogue, blocks" and "What the
-// caller gets instead"); the answers of a call; and the calls on the whole card that are lent no entry.
+// caller gets instead"); and the answers of a call.
 pub mod opening;
-pub mod whole;
 
 // What an entry says. An Open and a Complete sheet have a start and a length.
 pub enum Standing {

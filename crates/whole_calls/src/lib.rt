@@ -1,14 +1,14 @@
-// The calls on the whole card that are lent no entry: search, survey and fresh.
+// The calls on the whole card, which are lent no entry: search, survey and fresh.
 ghost use mathlib.Core.Path.{_≡_};
 ghost use mathlib.Core.Bool.{cond};
 ghost use lib.ListN.{length};
 ghost use Rattle.freemap.specs.Maps.{freshMap};
-ghost use Rattle.standings.specs.Searches.{searchAnswer, surveyAnswer};
 ghost use Rattle.standings.specs.Limits.{freshFits};
-use crate::Answer;
-use crate::opening::shape_fits;
-use crate::opening::sheets_fit;
+ghost use Rattle.whole_calls.specs.Answers.{searchAnswer, surveyAnswer};
 use freemap::Found;
+use standings::Answer;
+use standings::opening::shape_fits;
+use standings::opening::sheets_fit;
 
 pub fn search(n: u32, free: u32, map: &[u64], k: u32) -> Answer
     ensures { λ r. ⌜ r ≡ searchAnswer n free (now (map .entry)) k ⌝ }

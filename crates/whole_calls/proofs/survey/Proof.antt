@@ -1,4 +1,4 @@
--- `standings::whole::survey` meets its contract: row 1, or the counts of the first n blocks.
+-- `whole_calls::survey` meets its contract: row 1, or the counts of the first n blocks.
 -- Assumes nothing.
 use mathlib.Core.Path.{_≡_, sym, ap, _∙_}
 use mathlib.Core.Bool.{true, false, not}
@@ -11,16 +11,16 @@ use lib.ListN.{length}
 use Rattle.freemap.specs.Blocks.{free}
 use Rattle.survey.specs.Survey.{countsOf}
 use Rattle.survey.specs.declared.Counts.{Counts}
-use Rattle.standings.specs.Searches.{surveyAnswer}
 use Rattle.standings.specs.Rows.{Verdict, accepted, settle}
 use Rattle.standings.specs.Limits.{shapeFits}
 use Rattle.standings.specs.declared.Answer.{Answer}
 use Rattle.standings.specs.declared.Answer.the-variants.{Counted, Refused}
 use Rattle.standings.proofs.Limits.{fits}
 use Rattle.standings.proofs.Openings.{skip, stop, none-left}
 use Rattle.standings.proofs.Tested.{fails, holds}
-use Rattle.standings.proofs.whole.survey.Statement.{statement}
-use Rattle.standings.proofs.whole.survey.Tie as tie
+use Rattle.whole_calls.specs.Answers.{surveyAnswer}
+use Rattle.whole_calls.proofs.survey.Statement.{statement}
+use Rattle.whole_calls.proofs.survey.Tie as tie
 
 abbrev counted : Counts → Answer
 counted r = Counted (r .free) (r .runs) (r .longest)

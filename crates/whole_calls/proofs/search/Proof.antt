@@ -1,4 +1,4 @@
--- `standings::whole::search` meets its contract: each way out by its row, and the start by what the map's search found.
+-- `whole_calls::search` meets its contract: each way out by its row, and the start by what the map's search found.
 -- Assumes nothing.
 use mathlib.Core.Path.{_≡_, sym, ap, _∙_}
 use mathlib.Core.Bool.{true, false, not}
@@ -13,16 +13,16 @@ use lib.ListN.{length}
 use Rattle.freemap.specs.Blocks.{free, leastFit}
 use Rattle.freemap.specs.declared.Found.{Found}
 use Rattle.freemap.specs.declared.Found.the-variants.{At, Nothing}
-use Rattle.standings.specs.Searches.{startAt, searchAnswer}
+use Rattle.standings.specs.Searches.{none, startAt}
 use Rattle.standings.specs.Rows.{Verdict, row, accepted, refused, firstOf, settle}
-use Rattle.standings.specs.Searches.{none}
 use Rattle.standings.specs.Limits.{shapeFits}
 use Rattle.standings.specs.declared.Answer.the-variants.{Start, Refused}
 use Rattle.standings.proofs.Limits.{fits}
 use Rattle.standings.proofs.Openings.{skip, stop, none-left}
 use Rattle.standings.proofs.Tested.{fails, holds}
-use Rattle.standings.proofs.whole.search.Statement.{statement}
-use Rattle.standings.proofs.whole.search.Tie as tie
+use Rattle.whole_calls.specs.Answers.{searchAnswer}
+use Rattle.whole_calls.proofs.search.Statement.{statement}
+use Rattle.whole_calls.proofs.search.Tie as tie
 
 module _ (n spare : ℕ) (map : List ℕ) (k : ℕ) where
   abbrev found : Found

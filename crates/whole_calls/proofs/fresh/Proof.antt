@@ -1,4 +1,4 @@
--- `standings::whole::fresh` meets its contract: refused with the map as it was, or the fresh map.
+-- `whole_calls::fresh` meets its contract: refused with the map as it was, or the fresh map.
 -- Assumes nothing.
 use mathlib.Core.Path.{_≡_, refl, sym, ap, _∙_}
 use mathlib.Core.Bool.{Bool, true, false, cond}
@@ -9,11 +9,11 @@ use borrow.Author.Needs.{needs}
 use denote.Ref.{now}
 use lib.ListN.{length}
 use Rattle.freemap.specs.Maps.{freshMap}
 use Rattle.standings.specs.Limits.{shapeFits, sheetsFit, freshFits}
 use Rattle.standings.proofs.Limits.{fits}
 use Rattle.standings.proofs.Tested.{fails, holds}
-use Rattle.standings.proofs.whole.fresh.Statement.{statement}
-use Rattle.standings.proofs.whole.fresh.Tie as tie
+use Rattle.whole_calls.proofs.fresh.Statement.{statement}
+use Rattle.whole_calls.proofs.fresh.Tie as tie
 
 -- What fresh answers, and the map it leaves, by whether it is accepted.
 settled : (n : ℕ) (map after : List ℕ) (c : ℕ) (b : Bool) → freshFits n (length map) c ≡ b → after ≡ cond b (freshMap n (length map)) map

@@ -1,0 +1,2 @@
+-- What the contracts of `whole_calls` cite.
+pub mod Answers
