@@ -14,7 +14,7 @@ use Rattle.standings.specs.Limits.{shapeFits}
 use Rattle.image.specs.declared.Loaded.{Loaded}
 use Rattle.printing.specs.Sheets.{headCursor, headWritten}
 use Rattle.printing.specs.Text.{refusalText}
-use Rattle.printing.specs.Writing.{Writes}
+use Rattle.writing.specs.Writing.{Writes}
 use Rattle.printing.specs.declared.Cursor.{Cursor}
 use Rattle.card_print.specs.Beginnings.{refusalCursor, refusalWritten, beginCursor, beginWritten}
 

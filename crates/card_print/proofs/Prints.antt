@@ -24,7 +24,7 @@ use Rattle.image.proofs.Journey.{entries-length, map-length}
 use Rattle.image.proofs.Verdicts.{accepted-to, load-accepted}
 use Rattle.printing.specs.Sheets.{headCursor, headWritten, linesCursor, linesWritten, placeOf}
 use Rattle.printing.specs.Text.{stateText, refusalText}
-use Rattle.printing.specs.Writing.{Writes}
+use Rattle.writing.specs.Writing.{Writes}
 use Rattle.printing.specs.declared.Cursor.{Cursor}
 use Rattle.printing.proofs.Cursors.{cursor-stays, text-stays}
 use Rattle.printing.proofs.Lines.{describes}

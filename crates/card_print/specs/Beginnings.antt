@@ -12,7 +12,7 @@ use Rattle.standings.specs.Limits.{shapeFits}
 use Rattle.image.specs.declared.Loaded.{Loaded}
 use Rattle.printing.specs.Sheets.{cursor, headCursor, headWritten}
 use Rattle.printing.specs.Text.{refusalText}
-use Rattle.printing.specs.Writing.{behind, written}
+use Rattle.writing.specs.Writing.{behind, written}
 use Rattle.printing.specs.declared.Cursor.{Cursor}
 
 unfoldable pub refusalCursor : ℕ → List ℕ → Cursor

@@ -9,7 +9,7 @@ use Rattle.standings.specs.Rows.{settle}
 use Rattle.image.specs.Image.{stateIn}
 use Rattle.image.specs.Table.{loadVerdict}
 use Rattle.printing.specs.Text.{stateText, refusalText}
-use Rattle.printing.specs.Writing.{Writes}
+use Rattle.writing.specs.Writing.{Writes}
 
 -- Of an image, loaded into a map, a catalogue and a scratch of these lengths.
 abbrev pub printedOf : List ℕ → ℕ → ℕ → ℕ → List ℕ

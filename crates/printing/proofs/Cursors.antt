@@ -8,9 +8,9 @@ use lib.Dec.{ltb}
 use lib.ListN.{length}
 use borrow.Author.Tests.{lt-ltb, le-ltb}
 use Rattle.catalogue.specs.declared.Entry.{Entry}
-use Rattle.printing.specs.Text.{sheetLine}
+use Rattle.writing.specs.Writing.{behind, written, Writes}
+use Rattle.lines.specs.Lines.{sheetLine}
 use Rattle.printing.specs.Sheets.{cursor, room, lineCursor, lineWritten, linesCursor, linesWritten}
-use Rattle.printing.specs.Writing.{behind, written, Writes}
 use Rattle.printing.specs.declared.Cursor.{Cursor}
 
 -- whether there is room

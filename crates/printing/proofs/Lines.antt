@@ -10,13 +10,14 @@ use lib.ListN.{length, length-append}
 use Rattle.freemap.proofs.Bools.{order}
 use Rattle.catalogue.specs.declared.Entry.{Entry}
 use Rattle.survey.specs.declared.Counts.{Counts}
-use Rattle.printing.specs.Decimal.{decimal}
-use Rattle.printing.specs.Text.{space, newline, numeral, sheetLine, sheetLines, cardText}
+use Rattle.writing.specs.Decimal.{decimal, numeral}
+use Rattle.writing.specs.Writing.{behind, written, Writes}
+use Rattle.lines.specs.Lines.{space, newline, sheetLine}
+use Rattle.printing.specs.Text.{sheetLines, cardText}
 use Rattle.printing.specs.Sheets.{cursor, headCursor, headWritten, linesCursor, linesWritten, placeOf, Describes}
-use Rattle.printing.specs.Writing.{behind, written, Writes}
 use Rattle.printing.specs.declared.Cursor.{Cursor}
+use Rattle.writing.proofs.Written.{then, writes-past, writes-none}
 use Rattle.printing.proofs.Cursors.{full, going, line-some, line-none, cursor-stays, text-stays}
-use Rattle.printing.proofs.Written.{then, writes-past, writes-none}
 
 -- a line has a byte
 line-long : (sheet : ℕ) (e : Entry) → 0 < length (sheetLine sheet e)

@@ -8,10 +8,11 @@ use lib.ListN.{length, take, drop, length-append}
 use lib.Seq.{sets-eq, take-append-seam}
 use Rattle.catalogue.specs.declared.Entry.{Entry}
 use Rattle.survey.specs.declared.Counts.{Counts}
-use Rattle.printing.specs.Decimal.{decimal}
-use Rattle.printing.specs.Text.{space, newline, cardWord, runsWord, longestWord, refusedWord, numeral, cardLine, runsLine, sheetLine, sheetLines, cardText, refusalText, AllNumbers, Printable}
-use Rattle.printing.specs.Writing.{behind, written, Writes}
-use Rattle.printing.proofs.Decimals.{power, decimal-length}
+use Rattle.writing.specs.Decimal.{decimal, numeral}
+use Rattle.writing.specs.Writing.{behind, written, Writes}
+use Rattle.lines.specs.Lines.{space, newline, cardWord, runsWord, longestWord, cardLine, runsLine, sheetLine}
+use Rattle.printing.specs.Text.{refusedWord, sheetLines, cardText, refusalText, AllNumbers, Printable}
+use Rattle.writing.proofs.Decimals.{power, decimal-length}
 
 -- what finds room stands there whole
 pub whole : (bytes text text′ : List ℕ) (r : ℕ) → length bytes ≤ length text → Writes bytes text 0 r text′ → (r ≡ length bytes) × (take r text′ ≡ bytes)

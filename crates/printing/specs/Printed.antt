@@ -7,8 +7,9 @@ use Rattle.freemap.specs.Blocks.{free}
 use Rattle.freemap.specs.Maps.{freshMap}
 use Rattle.survey.specs.Survey.{countsOf}
 use Rattle.catalogue.specs.Entries.{absent}
-use Rattle.printing.specs.Decimal.{decimal}
-use Rattle.printing.specs.Text.{numeral, cardLine, runsLine, sheetLine, sheetLines, cardText, stateText, refusalText}
+use Rattle.writing.specs.Decimal.{decimal, numeral}
+use Rattle.lines.specs.Lines.{cardLine, runsLine, sheetLine}
+use Rattle.printing.specs.Text.{sheetLines, cardText, stateText, refusalText}
 
 pub record Printed : Type 0 where
   -- card 64 64 1

@@ -7,8 +7,9 @@ use lib.Dec.{ltb}
 use lib.ListN.{length}
 use Rattle.catalogue.specs.declared.Entry.{Entry}
 use Rattle.survey.specs.declared.Counts.{Counts}
-use Rattle.printing.specs.Text.{cardLine, runsLine, sheetLine, cardText}
-use Rattle.printing.specs.Writing.{behind, written, Writes}
+use Rattle.writing.specs.Writing.{behind, written, Writes}
+use Rattle.lines.specs.Lines.{cardLine, runsLine, sheetLine}
+use Rattle.printing.specs.Text.{cardText}
 use Rattle.printing.specs.declared.Cursor.{Cursor}
 
 abbrev pub cursor : ℕ → ℕ → Bool → Cursor

@@ -1,50 +1,20 @@
--- What the card printer prints (document 01, "Saved image"), in ASCII.
+-- What the card printer prints (document 01, "Saved image"), in ASCII. The lines of a card's text are those of `lines`
+-- (specs/Lines.antt there).
 -- Assumes nothing.
 use mathlib.Core.List.{List, [], _∷_, _++_}
-use Prim.Native.Nat.{ℕ, suc, _%_, _<_, _≤_}
+use Prim.Native.Nat.{ℕ, suc, _<_, _≤_}
 use lib.ListN.{length}
 use Rattle.freemap.specs.Blocks.{free}
 use Rattle.catalogue.specs.Entries.{entryAt}
 use Rattle.catalogue.specs.declared.Entry.{Entry}
 use Rattle.survey.specs.Survey.{countsOf}
 use Rattle.survey.specs.declared.Counts.{Counts}
-use Rattle.printing.specs.Decimal.{decimal}
+use Rattle.writing.specs.Decimal.{numeral}
+use Rattle.lines.specs.Lines.{space, newline, cardLine, runsLine, sheetLine}
 
-abbrev pub space : ℕ
-space = 0x20
-
-abbrev pub newline : ℕ
-newline = 0x0A
-
--- `card `, `runs `, ` longest ` and `refused `
-abbrev pub cardWord : List ℕ
-cardWord = 0x63 ∷ 0x61 ∷ 0x72 ∷ 0x64 ∷ space ∷ []
-
-abbrev pub runsWord : List ℕ
-runsWord = 0x72 ∷ 0x75 ∷ 0x6E ∷ 0x73 ∷ space ∷ []
-
-abbrev pub longestWord : List ℕ
-longestWord = space ∷ 0x6C ∷ 0x6F ∷ 0x6E ∷ 0x67 ∷ 0x65 ∷ 0x73 ∷ 0x74 ∷ space ∷ []
-
+-- `refused `
 abbrev pub refusedWord : List ℕ
 refusedWord = 0x72 ∷ 0x65 ∷ 0x66 ∷ 0x75 ∷ 0x73 ∷ 0x65 ∷ 0x64 ∷ space ∷ []
-
--- A number, and the byte behind it.
-unfoldable pub numeral : ℕ → ℕ → List ℕ
-numeral n behind = decimal n ++ behind ∷ []
-
--- The first line: n, free count, c.
-unfoldable pub cardLine : ℕ → ℕ → ℕ → List ℕ
-cardLine n spare c = cardWord ++ numeral n space ++ numeral spare space ++ numeral c newline
-
--- The second line: runs and longest run.
-unfoldable pub runsLine : Counts → List ℕ
-runsLine counts = runsWord ++ decimal (counts .runs) ++ longestWord ++ numeral (counts .longest) newline
-
--- The line of a sheet: number, mark as a letter, start, length. A mark is the ASCII code of its letter: 41, 50, 4F and 43 (hex)
--- are A, P, O and C.
-unfoldable pub sheetLine : ℕ → Entry → List ℕ
-sheetLine sheet e = numeral sheet space ++ (e .mark % 256 ∷ space ∷ []) ++ numeral (e .start) space ++ numeral (e .length) newline
 
 -- A line for each sheet, the first being number `sheet`.
 unfoldable pub sheetLines : ℕ → List Entry → List ℕ

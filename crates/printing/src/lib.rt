@@ -1,86 +1,23 @@
 // The text that the card printer prints (document 01, "Saved image"): of a card, and of a refusal. It is written to a lent
 // text; what finds no room there is left out, so that no length has to be asked for.
 ghost use mathlib.Core.Path.{_≡_};
-ghost use mathlib.Core.List.{[], _∷_};
-ghost use Rattle.printing.specs.Decimal.{decimal};
-ghost use Rattle.printing.specs.Text.{numeral, cardLine, runsLine, sheetLine, cardText, refusalText};
+ghost use Rattle.writing.specs.Writing.{Writes};
+ghost use Rattle.printing.specs.Text.{cardText, refusalText};
 ghost use Rattle.printing.specs.Sheets.{headCursor, headWritten, lineCursor, lineWritten, linesCursor, linesWritten, placeOf};
-ghost use Rattle.printing.specs.Writing.{Writes};
 use catalogue::Entry;
+use lines::NEWLINE;
+use lines::write_card;
+use lines::write_line;
+use lines::write_runs;
 use survey::Counts;
-
-const SPACE: u8 = 0x20;
-
-const NEWLINE: u8 = 0x0A;
+use writing::write_numeral;
+use writing::write_word;
 
 // Where the next line goes, which sheet it is of, and whether there is none to go on to.
 pub struct Cursor {
     pub at: usize,
     pub sheet: usize,
     pub stop: bool,
-}
-
-// Writes a byte.
-fn put(text: &mut [u8], at: usize, byte: u8) -> usize
-    ensures { λ r. ⌜ Writes (byte ∷ []) (now (text .entry)) at r (now (text .exit)) ⌝ }
-{
-    if at < text.len() {
-        text[at] = byte;
-        return at + 1;
-    }
-    at
-}
-
-// Writes bytes.
-fn write_word(text: &mut [u8], at: usize, word: &[u8]) -> usize
-    ensures { λ r. ⌜ Writes (now (word .entry)) (now (text .entry)) at r (now (text .exit)) ⌝ }
-{
-    let mut place = at;
-    let mut i: usize = 0;
-    while i < word.len() {
-        place = put(text, place, word[i]);
-        i += 1;
-    }
-    place
-}
-
-// Writes a number in decimal: what is before its last digit is a number too.
-fn write_number(text: &mut [u8], at: usize, number: usize) -> usize
-    ensures { λ r. ⌜ Writes (decimal number) (now (text .entry)) at r (now (text .exit)) ⌝ }
-{
-    if number < 10 {
-        return put(text, at, 0x30 + number as u8);
-    }
-    let last = write_number(text, at, number / 10);
-    put(text, last, 0x30 + (number % 10) as u8)
-}
-
-// Writes a number and the byte behind it.
-fn write_numeral(text: &mut [u8], at: usize, number: usize, end: u8) -> usize
-    ensures { λ r. ⌜ Writes (numeral number end) (now (text .entry)) at r (now (text .exit)) ⌝ }
-{
-    let last = write_number(text, at, number);
-    put(text, last, end)
-}
-
-// Writes the first line: n, free count and c.
-fn write_card(text: &mut [u8], at: usize, n: u32, free: u32, c: usize) -> usize
-    ensures { λ r. ⌜ Writes (cardLine n free c) (now (text .entry)) at r (now (text .exit)) ⌝ }
-{
-    let at = write_word(text, at, b"card ");
-    let at = write_numeral(text, at, n as usize, SPACE);
-    let at = write_numeral(text, at, free as usize, SPACE);
-    write_numeral(text, at, c, NEWLINE)
-}
-
-// Writes the second line: runs and longest run.
-fn write_runs(text: &mut [u8], at: usize, counts: Counts) -> usize
-    ensures { λ r. ⌜ Writes (runsLine counts) (now (text .entry)) at r (now (text .exit)) ⌝ }
-{
-    let at = write_word(text, at, b"runs ");
-    let at = write_number(text, at, counts.runs as usize);
-    let at = write_word(text, at, b" longest ");
-    write_numeral(text, at, counts.longest as usize, NEWLINE)
 }
 
 // Writes the first two lines. Those of the sheets go behind them.
@@ -94,17 +31,6 @@ pub fn write_head(n: u32, free: u32, c: usize, counts: Counts, text: &mut [u8]) 
         sheet: 0,
         stop: false,
     }
-}
-
-// Writes the line of a sheet: number, mark as a letter, start, length.
-fn write_line(text: &mut [u8], at: usize, sheet: usize, entry: Entry) -> usize
-    ensures { λ r. ⌜ Writes (sheetLine sheet entry) (now (text .entry)) at r (now (text .exit)) ⌝ }
-{
-    let at = write_numeral(text, at, sheet, SPACE);
-    let at = put(text, at, (entry.mark % 256) as u8);
-    let at = put(text, at, SPACE);
-    let at = write_numeral(text, at, entry.start as usize, SPACE);
-    write_numeral(text, at, entry.length as usize, NEWLINE)
 }
 
 // Writes the line of the cursor's sheet, if there is room.

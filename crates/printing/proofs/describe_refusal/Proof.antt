@@ -3,9 +3,11 @@
 use mathlib.Core.List.{List}
 use Prim.Native.Nat.{ℕ}
 use borrow.Author.Needs.{needs}
-use Rattle.printing.specs.Text.{refusedWord, newline, numeral, refusalText}
-use Rattle.printing.specs.Writing.{Writes}
-use Rattle.printing.proofs.Written.{then}
+use Rattle.writing.specs.Decimal.{numeral}
+use Rattle.writing.specs.Writing.{Writes}
+use Rattle.lines.specs.Lines.{newline}
+use Rattle.printing.specs.Text.{refusedWord, refusalText}
+use Rattle.writing.proofs.Written.{then}
 use Rattle.printing.proofs.describe_refusal.Statement.{statement}
 use Rattle.printing.proofs.describe_refusal.Tie as tie
 

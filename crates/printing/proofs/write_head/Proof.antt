@@ -6,10 +6,10 @@ use mathlib.Core.Bool.{false}
 use Prim.Native.Nat.{ℕ}
 use borrow.Author.Needs.{needs}
 use Rattle.survey.specs.declared.Counts.{Counts}
-use Rattle.printing.specs.Text.{cardLine, runsLine}
+use Rattle.writing.specs.Writing.{Writes}
+use Rattle.lines.specs.Lines.{cardLine, runsLine}
 use Rattle.printing.specs.Sheets.{cursor, headCursor, headWritten}
-use Rattle.printing.specs.Writing.{Writes}
-use Rattle.printing.proofs.Written.{then}
+use Rattle.writing.proofs.Written.{then}
 use Rattle.printing.proofs.write_head.Statement.{statement}
 use Rattle.printing.proofs.write_head.Tie as tie
 

@@ -3,19 +3,19 @@
 use mathlib.Core.Path.{sym, subst}
 use mathlib.Core.List.{List, [], _∷_}
 use borrow.Author.Needs.{needs}
-use Rattle.printing.specs.Decimal.{decimal}
-use Rattle.printing.specs.Writing.{Writes}
-use Rattle.printing.proofs.Decimals.{decimal-less, decimal-more}
-use Rattle.printing.proofs.Written.{then}
+use Rattle.writing.specs.Decimal.{decimal}
+use Rattle.writing.specs.Writing.{Writes}
+use Rattle.writing.proofs.Decimals.{decimal-less, decimal-more}
+use Rattle.writing.proofs.Written.{then}
 use Prim.Native.Nat.{ℕ, _+_, _/_, _%_, _<_, _≤_}
 use borrow.Fn.Kinds.{In}
 use borrow.Fn.PlainCycle.{Measures, is, falls, and}
-use Rattle.printing.proofs.write_number.Reads as write-number
-use Rattle.printing.proofs.write_number.Kinds as write-number-kinds
-use Rattle.printing.proofs.+write_number.Lts-write_number as write-number-lts
-use Rattle.printing.proofs.put.Reads as put-reads
-use Rattle.printing.proofs.+write_number.{statement}
-use Rattle.printing.proofs.+write_number.Tie.{close}
+use Rattle.writing.proofs.write_number.Reads as write-number
+use Rattle.writing.proofs.write_number.Kinds as write-number-kinds
+use Rattle.writing.proofs.+write_number.Lts-write_number as write-number-lts
+use Rattle.writing.proofs.put.Reads as put-reads
+use Rattle.writing.proofs.+write_number.{statement}
+use Rattle.writing.proofs.+write_number.Tie.{close}
 
 one-digit : (n : ℕ) (text text′ : List ℕ) (at r : ℕ) → n < 10 → Writes ((0x30 + n) ∷ []) text at r text′ → Writes (decimal n) text at r text′
 one-digit n text text′ at r h = subst (λ (bytes : List ℕ). Writes bytes text at r text′) (sym (decimal-less n h))

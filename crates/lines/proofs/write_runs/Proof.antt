@@ -4,12 +4,12 @@ use mathlib.Core.List.{List}
 use Prim.Native.Nat.{ℕ}
 use borrow.Author.Needs.{needs}
 use Rattle.survey.specs.declared.Counts.{Counts}
-use Rattle.printing.specs.Decimal.{decimal}
-use Rattle.printing.specs.Text.{runsWord, longestWord, newline, numeral, runsLine}
-use Rattle.printing.specs.Writing.{Writes}
-use Rattle.printing.proofs.Written.{then}
-use Rattle.printing.proofs.write_runs.Statement.{statement}
-use Rattle.printing.proofs.write_runs.Tie as tie
+use Rattle.writing.specs.Decimal.{decimal, numeral}
+use Rattle.writing.specs.Writing.{Writes}
+use Rattle.lines.specs.Lines.{runsWord, longestWord, newline, runsLine}
+use Rattle.writing.proofs.Written.{then}
+use Rattle.lines.proofs.write_runs.Statement.{statement}
+use Rattle.lines.proofs.write_runs.Tie as tie
 
 whole : (counts : Counts) (text t₁ t₂ t₃ t₄ : List ℕ) (at a₁ a₂ a₃ a₄ : ℕ) → Writes runsWord text at a₁ t₁ → Writes (decimal (counts .runs)) t₁ a₁ a₂ t₂
     → Writes longestWord t₂ a₂ a₃ t₃ → Writes (numeral (counts .longest) newline) t₃ a₃ a₄ t₄ → Writes (runsLine counts) text at a₄ t₄

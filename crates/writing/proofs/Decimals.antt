@@ -10,7 +10,7 @@ use native.Mathlib.Omega.{arith}
 use lib.Dec.{leb}
 use lib.ListN.{length, getD, length-append, List·getD-append}
 use borrow.Author.Tests.{le-leb}
-use Rattle.printing.specs.Decimal.{digitsOf, decimal, readFrom, allDigits}
+use Rattle.writing.specs.Decimal.{digitsOf, decimal, readFrom, allDigits}
 
 -- more digits than there are change nothing
 enough : (most more n : ℕ) → n ≤ most → n ≤ more → digitsOf most n ≡ digitsOf more n

@@ -6,10 +6,10 @@ use native.Mathlib.Omega.{arith}
 use lib.ListN.{length, take}
 use borrow.Author.Needs.{needs}
 use denote.Ref.{now}
-use Rattle.printing.specs.Writing.{Writes}
-use Rattle.printing.proofs.Written.{writes-none, writes-next, writes-all}
-use Rattle.printing.proofs.write_word.Statement.{statement}
-use Rattle.printing.proofs.write_word.Tie as tie
+use Rattle.writing.specs.Writing.{Writes}
+use Rattle.writing.proofs.Written.{writes-none, writes-next, writes-all}
+use Rattle.writing.proofs.write_word.Statement.{statement}
+use Rattle.writing.proofs.write_word.Tie as tie
 
 abbrev Inv-loop : tie.InvT-loop
 Inv-loop text₀ at word place₀ i₀ text place i = (i ≤ length word) × (length text ≡ length text₀) × Writes (take i word) text₀ at place text

@@ -18,6 +18,10 @@ unfolding digitsOf
 decimal zero = 0x30 ∷ []
 decimal (suc n) = digitsOf (suc n) (suc n)
 
+-- A number, and the byte behind it.
+unfoldable pub numeral : ℕ → ℕ → List ℕ
+numeral n behind = decimal n ++ behind ∷ []
+
 -- What digits read as, behind those that read as `before`.
 unfoldable pub readFrom : ℕ → List ℕ → ℕ
 readFrom before [] = before

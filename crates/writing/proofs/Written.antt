@@ -8,7 +8,7 @@ use Rattle.freemap.proofs.Bools.{order}
 use native.Mathlib.Omega.{arith}
 use lib.ListN.{length, getD, take, set, length-append}
 use lib.Seq.{sets, length-sets, set-out, take-suc, take-all}
-use Rattle.printing.specs.Writing.{behind, written, Writes}
+use Rattle.writing.specs.Writing.{behind, written, Writes}
 
 sets-past : (bytes text : List ℕ) (at : ℕ) → length text ≤ at → sets text at bytes ≡ text
 sets-past [] text at h = refl

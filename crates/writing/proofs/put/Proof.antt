@@ -3,9 +3,9 @@
 use mathlib.Core.List.{[], _∷_}
 use borrow.Author.Needs.{needs}
 use denote.Ref.{now}
-use Rattle.printing.proofs.Written.{writes-byte, writes-past}
-use Rattle.printing.proofs.put.Statement.{statement}
-use Rattle.printing.proofs.put.Tie as tie
+use Rattle.writing.proofs.Written.{writes-byte, writes-past}
+use Rattle.writing.proofs.put.Statement.{statement}
+use Rattle.writing.proofs.put.Tie as tie
 
 slice-write-text : tie.Need-slice-write-text
 slice-write-text c = search needs

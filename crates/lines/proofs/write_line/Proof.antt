@@ -4,11 +4,12 @@ use mathlib.Core.List.{List, [], _∷_}
 use Prim.Native.Nat.{ℕ, _%_}
 use borrow.Author.Needs.{needs}
 use Rattle.catalogue.specs.declared.Entry.{Entry}
-use Rattle.printing.specs.Text.{space, newline, numeral, sheetLine}
-use Rattle.printing.specs.Writing.{Writes}
-use Rattle.printing.proofs.Written.{then}
-use Rattle.printing.proofs.write_line.Statement.{statement}
-use Rattle.printing.proofs.write_line.Tie as tie
+use Rattle.writing.specs.Decimal.{numeral}
+use Rattle.writing.specs.Writing.{Writes}
+use Rattle.lines.specs.Lines.{space, newline, sheetLine}
+use Rattle.writing.proofs.Written.{then}
+use Rattle.lines.proofs.write_line.Statement.{statement}
+use Rattle.lines.proofs.write_line.Tie as tie
 
 whole : (sheet : ℕ) (e : Entry) (text t₁ t₂ t₃ t₄ t₅ : List ℕ) (at a₁ a₂ a₃ a₄ a₅ : ℕ) → Writes (numeral sheet space) text at a₁ t₁
     → Writes (e .mark % 256 ∷ []) t₁ a₁ a₂ t₂ → Writes (space ∷ []) t₂ a₂ a₃ t₃ → Writes (numeral (e .start) space) t₃ a₃ a₄ t₄

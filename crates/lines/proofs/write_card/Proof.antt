@@ -3,11 +3,12 @@
 use mathlib.Core.List.{List}
 use Prim.Native.Nat.{ℕ}
 use borrow.Author.Needs.{needs}
-use Rattle.printing.specs.Text.{cardWord, space, newline, numeral, cardLine}
-use Rattle.printing.specs.Writing.{Writes}
-use Rattle.printing.proofs.Written.{then}
-use Rattle.printing.proofs.write_card.Statement.{statement}
-use Rattle.printing.proofs.write_card.Tie as tie
+use Rattle.writing.specs.Decimal.{numeral}
+use Rattle.writing.specs.Writing.{Writes}
+use Rattle.lines.specs.Lines.{cardWord, space, newline, cardLine}
+use Rattle.writing.proofs.Written.{then}
+use Rattle.lines.proofs.write_card.Statement.{statement}
+use Rattle.lines.proofs.write_card.Tie as tie
 
 whole : (n spare c : ℕ) (text t₁ t₂ t₃ t₄ : List ℕ) (at a₁ a₂ a₃ a₄ : ℕ) → Writes cardWord text at a₁ t₁ → Writes (numeral n space) t₁ a₁ a₂ t₂
     → Writes (numeral spare space) t₂ a₂ a₃ t₃ → Writes (numeral c newline) t₃ a₃ a₄ t₄ → Writes (cardLine n spare c) text at a₄ t₄

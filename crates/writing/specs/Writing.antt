@@ -1,5 +1,6 @@
 -- Bytes written to a lent text, and how far they go. What finds no room is left out. The text of a card of at most 1,024 sheets
--- finds room in 32,768 bytes: `card-fits` in proofs/Room.antt; then what is written is that text, whole: `card-whole` there.
+-- finds room in 32,768 bytes: `card-fits` in crates/printing/proofs/Room.antt; then what is written is that text, whole:
+-- `card-whole` there.
 -- Assumes nothing.
 use mathlib.Core.Path.{_≡_}
 use mathlib.Core.List.{List}

@@ -3,12 +3,11 @@
 use mathlib.Core.List.{List, [], _∷_}
 use Prim.Native.Nat.{ℕ}
 use borrow.Author.Needs.{needs}
-use Rattle.printing.specs.Decimal.{decimal}
-use Rattle.printing.specs.Text.{numeral}
-use Rattle.printing.specs.Writing.{Writes}
-use Rattle.printing.proofs.Written.{then}
-use Rattle.printing.proofs.write_numeral.Statement.{statement}
-use Rattle.printing.proofs.write_numeral.Tie as tie
+use Rattle.writing.specs.Decimal.{decimal, numeral}
+use Rattle.writing.specs.Writing.{Writes}
+use Rattle.writing.proofs.Written.{then}
+use Rattle.writing.proofs.write_numeral.Statement.{statement}
+use Rattle.writing.proofs.write_numeral.Tie as tie
 
 both : (n end : ℕ) (text text′ text″ : List ℕ) (at at′ at″ : ℕ) → Writes (decimal n) text at at′ text′ → Writes (end ∷ []) text′ at′ at″ text″
     → Writes (numeral n end) text at at″ text″

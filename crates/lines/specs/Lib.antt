@@ -1,0 +1,2 @@
+-- The lines of a card's text.
+pub mod Lines

@@ -1,0 +1,3 @@
+-- The laws of numbers in decimal and of what is written.
+pub mod Decimals
+pub mod Written
