@@ -16,7 +16,7 @@ use Rattle.standings.specs.declared.Answer.the-variants.{Done, Refused}
 use Rattle.catalogue.specs.declared.Entry.{Entry}
 use Rattle.frames.specs.Frames.{Bytes}
 use Rattle.soundness.specs.Sound.{State}
-use Rattle.image.specs.Effects.{numberOf, saveNumber, saveBuffer, loadResult, loadMap, loadEntries, loadScratch}
+use Rattle.image.specs.Effects.{rowNumber, saveNumber, saveBuffer, loadResult, loadMap, loadEntries, loadScratch}
 use Rattle.image.specs.Image.{imageOf, stateIn}
 use Rattle.image.specs.Table.{saveVerdict, loadVerdict}
 use Rattle.image.specs.declared.Loaded.{Loaded}
@@ -110,7 +110,7 @@ pub load-refused : (shape : Shape) (image map : List ℕ) (entries : List Entry)
 unfolding loadResult loadMap loadEntries
 load-refused shape image map entries scratch number v =
     let some : eqb number 0 ≡ false =
-    ne-eqb number 0 (λ z. never-accepted number (sym v ∙ load-accepted image (length map) (length entries) (length scratch) (ap numberOf v ∙ z))) in (
+    ne-eqb number 0 (λ z. never-accepted number (sym v ∙ load-accepted image (length map) (length entries) (length scratch) (ap rowNumber v ∙ z))) in (
       ap (λ (w : Verdict). loadOutcome shape (settle w (record { number = 0; blocks = stateIn image .blocks; free = stateIn image .spare }) (λ k. record { number = k; blocks = 0; free = 0 }))) v
           ∙ ap (λ (t : Bool). cond t (told (record { blocks = 0; free = 0 }) Done) (told shape (Refused number))) some,
       ap (λ (w : Verdict). settle w (stateIn image .map) (λ k. map)) v,

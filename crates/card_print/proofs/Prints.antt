@@ -14,7 +14,7 @@ use Rattle.survey.specs.declared.Counts.{Counts}
 use Rattle.catalogue.specs.declared.Entry.{Entry}
 use Rattle.standings.specs.Limits.{shapeFits}
 use Rattle.standings.specs.Rows.{Verdict, accepted, refused, settle}
-use Rattle.image.specs.Effects.{numberOf, loadResult, loadMap, loadEntries, loadScratch}
+use Rattle.image.specs.Effects.{rowNumber, loadResult, loadMap, loadEntries, loadScratch}
 use Rattle.frames.specs.Frames.{totalOf}
 use Rattle.image.specs.Image.{sheetsIn, stateIn}
 use Rattle.image.specs.Table.{loadVerdict}
@@ -85,7 +85,7 @@ module _ (image map : List ℕ) (entries : List Entry) (scratch text : List ℕ)
   unfolding beginCursor beginWritten
   refused-print number e =
       let some : eqb number 0 ≡ false =
-      ne-eqb number 0 (λ z. never number (sym e ∙ load-accepted image (length map) (length entries) (length scratch) (ap numberOf e ∙ z))) in
+      ne-eqb number 0 (λ z. never number (sym e ∙ load-accepted image (length map) (length entries) (length scratch) (ap rowNumber e ∙ z))) in
       rw some (refuses entries number text)
 
   pub prints :

@@ -13,7 +13,7 @@ use Rattle.standings.specs.Rows.{Verdict, accepted, refused, settle}
 use Rattle.catalogue.specs.declared.Entry.{Entry}
 use Rattle.frames.specs.Frames.{Bytes, totalOf}
 use Rattle.soundness.specs.Sound.{State, sound}
-use Rattle.image.specs.Effects.{numberOf, saveNumber, saveBuffer, loadResult, loadMap, loadEntries, loadScratch}
+use Rattle.image.specs.Effects.{rowNumber, saveNumber, saveBuffer, loadResult, loadMap, loadEntries, loadScratch}
 use Rattle.image.specs.Image.{wordsFor, framesFor, imageOf, blocksIn, spareIn, sheetsIn, stateIn}
 use Rattle.image.specs.Table.{saveFits, saveVerdict, loadVerdict}
 use Rattle.image.specs.declared.Loaded.{Loaded}
@@ -52,7 +52,7 @@ module _ (image map : List ℕ) (entries : List Entry) (scratch : List ℕ) wher
   unfolding loadResult
   number-accepts e = load-accepted image (length map) (length entries) (length scratch) (sym (by ruling) ∙ e)
     where
-      by : (v : Verdict) → settle v (loaded 0 (blocksIn image) (spareIn image)) (λ number. loaded number 0 0) .number ≡ numberOf v
+      by : (v : Verdict) → settle v (loaded 0 (blocksIn image) (spareIn image)) (λ number. loaded number 0 0) .number ≡ rowNumber v
       by accepted = refl
       by (refused k) = refl
 
@@ -96,7 +96,7 @@ module _ (image map : List ℕ) (entries : List Entry) (scratch : List ℕ) (byt
   unfolding saveNumber saveBuffer
   loaded-saves other buffer lo lb =
       let v = accepts (length other) (length buffer) lo lb in
-      (ap numberOf v, ap (λ (w : Verdict). settle w (imageOf given) (λ number. buffer)) v ∙ loaded-only)
+      (ap rowNumber v, ap (λ (w : Verdict). settle w (imageOf given) (λ number. buffer)) v ∙ loaded-only)
     where
       accepts : (scratchlen bufferlen : ℕ) → scratchlen ≡ length (given .map) → bufferlen ≡ length image → saveVerdict given scratchlen bufferlen ≡ accepted
       accepts scratchlen bufferlen ls lb =

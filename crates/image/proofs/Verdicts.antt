@@ -13,13 +13,13 @@ use Rattle.standings.specs.Rows.{Row, row, Verdict, accepted, firstOf, settle}
 use Rattle.standings.proofs.Openings.{skip, none-left}
 use Rattle.frames.specs.Frames.{totalOf, framed}
 use Rattle.soundness.specs.Sound.{State, sound}
-use Rattle.image.specs.Effects.{numberOf}
+use Rattle.image.specs.Effects.{rowNumber}
 use Rattle.image.specs.Image.{framesFor, blocksIn, spareIn, sheetsIn, stateIn, filled}
 use Rattle.image.specs.Table.{saveFits, saveRows, saveVerdict, wholeBlocks, headFits, loadFits, loadRows, loadVerdict}
 
 -- 0 is the number of an accepted call alone, where no row has it
-zero-row : (number : ℕ) (test : Bool) (rows : List Row) → (number ≡ 0 → ⊥) → (numberOf (firstOf rows) ≡ 0 → firstOf rows ≡ accepted)
-    → numberOf (firstOf (row number test ∷ rows)) ≡ 0 → firstOf (row number test ∷ rows) ≡ accepted
+zero-row : (number : ℕ) (test : Bool) (rows : List Row) → (number ≡ 0 → ⊥) → (rowNumber (firstOf rows) ≡ 0 → firstOf rows ≡ accepted)
+    → rowNumber (firstOf (row number test ∷ rows)) ≡ 0 → firstOf (row number test ∷ rows) ≡ accepted
 unfolding firstOf
 zero-row number true rows n f e = absurd (n e)
 zero-row number false rows n f e = f e
@@ -55,7 +55,7 @@ module _ (s : State) (scratchlen bufferlen : ℕ) where
       (passes-row 4 (sound s) _ (p .whole)
       (passes-row 12 (eqb bufferlen (512 * framesFor (s .blocks) (length (s .entries)))) [] (eq-eqb bufferlen (512 * framesFor (s .blocks) (length (s .entries))) (p .exact)) none-left))
 
-  pub save-accepted : numberOf (saveVerdict s scratchlen bufferlen) ≡ 0 → saveVerdict s scratchlen bufferlen ≡ accepted
+  pub save-accepted : rowNumber (saveVerdict s scratchlen bufferlen) ≡ 0 → saveVerdict s scratchlen bufferlen ≡ accepted
   unfolding saveVerdict saveRows
   save-accepted =
       zero-row 1 _ _ (λ e. omega arith) (zero-row 4 _ _ (λ e. omega arith) (zero-row 12 _ [] (λ e. omega arith) (λ e. none-left)))
@@ -70,7 +70,7 @@ pub record Accepted (image : List ℕ) (maplen count scratchlen : ℕ) : Type 0 
   pub fill : filled image (blocksIn image) (sheetsIn image) ≡ true
 
 module _ (image : List ℕ) (maplen count scratchlen : ℕ) where
-  pub load-accepted : numberOf (loadVerdict image maplen count scratchlen) ≡ 0 → loadVerdict image maplen count scratchlen ≡ accepted
+  pub load-accepted : rowNumber (loadVerdict image maplen count scratchlen) ≡ 0 → loadVerdict image maplen count scratchlen ≡ accepted
   unfolding loadVerdict loadRows
   load-accepted =
       zero-row 12 _ _ (λ e. omega arith) (zero-row 13 _ _ (λ e. omega arith) (zero-row 14 _ _ (λ e. omega arith) (zero-row 1 _ _ (λ e. omega arith) (zero-row 14 _ [] (λ e. omega arith) (λ e. none-left)))))

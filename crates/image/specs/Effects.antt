@@ -13,8 +13,8 @@ use Rattle.image.specs.Table.{saveVerdict, loadVerdict}
 use Rattle.image.specs.declared.Loaded.{Loaded}
 
 -- 0 for a call that was accepted, or the refusal's number.
-abbrev pub numberOf : Verdict → ℕ
-numberOf v = settle v 0 (λ number. number)
+abbrev pub rowNumber : Verdict → ℕ
+rowNumber v = settle v 0 (λ number. number)
 
 -- zeros, as many as the scratch has words
 abbrev pub zerosFor : List ℕ → List ℕ
@@ -27,7 +27,7 @@ module _ (n spare : ℕ) (map : List ℕ) (entries : List Entry) (scratch buffer
 
   unfoldable pub saveNumber : ℕ
   unfolding saveVerdict
-  saveNumber = numberOf (saveVerdict lentState (length scratch) (length buffer))
+  saveNumber = rowNumber (saveVerdict lentState (length scratch) (length buffer))
 
   unfoldable pub saveScratch : List ℕ
   saveScratch = zerosFor scratch

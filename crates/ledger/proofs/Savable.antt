@@ -39,8 +39,8 @@ unfolding saved.undamaged
 all-undamaged n f [] h = refl
 all-undamaged n f (x ∷ l) h = and-both _ _ (ap not (h 0 (omega arith))) (all-undamaged n f l (λ i lt. h (suc i) (omega arith)))
 
-same-cover : (l : List Sheet) (b : ℕ) → saved.cover (map entryIn l) b ≡ cover l b
-unfolding saved.cover
+same-cover : (l : List Sheet) (b : ℕ) → saved.coverings (map entryIn l) b ≡ cover l b
+unfolding saved.coverings
 same-cover [] b = refl
 same-cover (x ∷ l) b = ap (λ (c : ℕ). covers x b + c) (same-cover l b)
 
@@ -56,7 +56,7 @@ module _ (n : ℕ) (l : List Sheet) (card : List ℕ) (k : Kept n l card) where
   reads : (b : ℕ) → free (mapIn n l) b ≡ freeIn n l b
   reads b = ap (λ (f : ℕ → Bool). f b) (free-map n l)
 
-  below : (b : ℕ) → b < n → inState (mapIn n l) (eqb (saved.cover (map entryIn l) b) 0) b ≡ true
+  below : (b : ℕ) → b < n → inState (mapIn n l) (eqb (saved.coverings (map entryIn l) b) 0) b ≡ true
   below b lt =
       let here : free (mapIn n l) b ≡ eqb (cover l b) 0 = reads b ∙ ap (λ (t : Bool). t && eqb (cover l b) 0) (lt-ltb b n lt) in
       ap (λ (c : ℕ). inState (mapIn n l) (eqb c 0) b) (same-cover l b)

@@ -12,7 +12,7 @@ use Rattle.standings.specs.Rows.{Verdict, accepted, refused, settle}
 use Rattle.catalogue.specs.declared.Entry.{Entry}
 use Rattle.frames.specs.Frames.{bodyOf, totalOf}
 use Rattle.image.specs.Cursors.{cursor}
-use Rattle.image.specs.Effects.{numberOf, loadResult, loadMap, loadEntries, loadScratch, Loads}
+use Rattle.image.specs.Effects.{rowNumber, loadResult, loadMap, loadEntries, loadScratch, Loads}
 use Rattle.image.specs.Image.{blocksIn, spareIn, sheetsIn, entriesAt, entriesIn, stateIn}
 use Rattle.loading.specs.Parts.{coreLoaded, coreMap, coreScratch, firstCursor, readEntries}
 use Rattle.image.specs.Table.{loadVerdict}
@@ -57,7 +57,7 @@ module _ (image map : List ℕ) (entries : List Entry) (scratch : List ℕ) wher
           let l = load-fits-to (blocksIn image) (sheetsIn image) (length map) (length entries) (length scratch) (p .lengths) in
           read-from image 3 12 entries refl (omega (arith, w .exact, h .exact, l .entries)) ∙ ap (entriesIn image) (l .entries)
       by (refused k) e =
-          let n : k ≡ 0 → ⊥ = λ z. never k (sym e ∙ load-accepted image (length map) (length entries) (length scratch) (ap numberOf e ∙ z)) in
+          let n : k ≡ 0 → ⊥ = λ z. never k (sym e ∙ load-accepted image (length map) (length entries) (length scratch) (ap rowNumber e ∙ z)) in
           ap (λ (b : Bool). readEntries entries image (cursor 3 (not b))) (ne-eqb k 0 n) ∙ entries-stay entries image (cursor 3 true) refl
 
   pub loads : Loads image map entries scratch (coreLoaded image map (length entries) scratch) (coreMap image map (length entries) scratch)

@@ -7,7 +7,7 @@ ghost use lib.ListN.{length};
 ghost use Rattle.frames.specs.Frames.{totalOf};
 ghost use Rattle.soundness.specs.Releases.{tallyOf, scratchOf};
 ghost use Rattle.soundness.specs.Sound.{sound};
-ghost use Rattle.image.specs.Effects.{numberOf, loadResult, loadMap, loadEntries, loadScratch};
+ghost use Rattle.image.specs.Effects.{rowNumber, loadResult, loadMap, loadEntries, loadScratch};
 ghost use Rattle.image.specs.Image.{wordsFor, blocksIn, spareIn, sheetsIn, entriesIn, stateIn, filled};
 ghost use Rattle.loading.specs.Parts.{coreLoaded, coreMap, coreScratch, firstCursor, entryAt, turnAfter, readCursor, readEntries};
 ghost use Rattle.image.specs.Table.{headFits, loadVerdict};
@@ -84,7 +84,7 @@ fn content_holds(image: &[u8], n: u32, free: u32, c: usize, scratch: &mut [u64])
 
 // The rows of load.
 fn verdict(image: &[u8], maplen: usize, count: usize, scratch: &mut [u64]) -> u32
-    ensures { λ r. ⌜ r ≡ numberOf (loadVerdict (now (image .entry)) maplen count (length (now (scratch .entry)))) ⌝ }
+    ensures { λ r. ⌜ r ≡ rowNumber (loadVerdict (now (image .entry)) maplen count (length (now (scratch .entry)))) ⌝ }
 {
     if !whole_blocks(image.len()) {
         return 12;

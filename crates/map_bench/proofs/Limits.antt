@@ -10,7 +10,7 @@ use lib.ListN.{length}
 use borrow.Author.Tests.{leb-true, eqb-true, le-leb, lt-leb}
 use Rattle.freemap.specs.Blocks.{free, leastFit}
 use Rattle.survey.specs.Survey.{countsOf}
-use Rattle.map_bench.specs.Answers.{withinLimits, numberOf, countsFor, searched, surveyed}
+use Rattle.map_bench.specs.Answers.{withinLimits, startFor, countsFor, searched, surveyed}
 use Rattle.map_bench.specs.declared.Counts.{Counts}
 
 and-left : (a b : Bool) → (a && b) ≡ true → a ≡ true
@@ -48,7 +48,7 @@ pub search-outside : (map : List ℕ) (n k : ℕ) → 0 < k → withinLimits map
 unfolding searched
 search-outside map n k p e = simp (le-leb 1 k p, e)
 
-pub search-within : (map : List ℕ) (n k : ℕ) → 0 < k → withinLimits map n ≡ true → numberOf (leastFit (free map) 0 n k) ≡ searched map n k
+pub search-within : (map : List ℕ) (n k : ℕ) → 0 < k → withinLimits map n ≡ true → startFor (leastFit (free map) 0 n k) ≡ searched map n k
 unfolding searched
 search-within map n k p e = simp (le-leb 1 k p, e)
 

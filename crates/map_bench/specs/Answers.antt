@@ -17,14 +17,14 @@ unfoldable pub withinLimits : List ℕ → ℕ → Bool
 withinLimits map n = leb 1 n && leb n 262144 && eqb (length map) ((n + 63) / 64)
 
 -- The number that stands for what a search found.
-abbrev pub numberOf : Found → ℕ
-numberOf (At s) = s
-numberOf Nothing = 0xffff_ffff
+abbrev pub startFor : Found → ℕ
+startFor (At s) = s
+startFor Nothing = 0xffff_ffff
 
 -- The search for k in a card of n blocks, for k ≥ 1.
 unfoldable pub searched : List ℕ → ℕ → ℕ → ℕ
 unfolding withinLimits
-searched map n k = cond (leb 1 k && withinLimits map n) (numberOf (leastFit (free map) 0 n k)) 0xffff_fffe
+searched map n k = cond (leb 1 k && withinLimits map n) (startFor (leastFit (free map) 0 n k)) 0xffff_fffe
 
 -- The three counts, as C has them.
 abbrev pub countsFor : survey.Counts → Counts

@@ -10,7 +10,7 @@ use borrow.Author.Tests.{eq-eqb, ne-eqb}
 use Rattle.standings.proofs.Openings.{skip, stop, none-left}
 use Rattle.soundness.specs.Releases.{allReleased}
 use Rattle.soundness.specs.declared.Tally.{Tally}
-use Rattle.image.specs.Effects.{numberOf}
+use Rattle.image.specs.Effects.{rowNumber}
 use Rattle.image.specs.Image.{framesFor}
 use Rattle.saving.specs.Parts.{numberBy}
 use Rattle.image.specs.Table.{saveFits}
@@ -22,22 +22,22 @@ module _ (n spare : ℕ) (map : List ℕ) (count : ℕ) (t : Tally) (scratch ima
 
   pub save-row-1 : fit ≡ false → 1 ≡ numberBy n spare map count t scratch image
   unfolding numberBy
-  save-row-1 f = sym (ap numberOf (stop 1 (not fit) _ (ap not f)))
+  save-row-1 f = sym (ap rowNumber (stop 1 (not fit) _ (ap not f)))
 
   module _ (f : fit ≡ true) where
     pub save-row-4 : allReleased n t scratch ≡ false → 4 ≡ numberBy n spare map count t scratch image
     unfolding numberBy
-    save-row-4 r = sym (ap numberOf (skip 1 (not fit) _ _ (ap not f) (stop 4 (not (allReleased n t scratch)) _ (ap not r))))
+    save-row-4 r = sym (ap rowNumber (skip 1 (not fit) _ _ (ap not f) (stop 4 (not (allReleased n t scratch)) _ (ap not r))))
 
     module _ (r : allReleased n t scratch ≡ true) (total : ℕ) (e : total ≡ framesFor n count) where
       pub save-row-12 : (length image ≡ 512 * total → ⊥) → 12 ≡ numberBy n spare map count t scratch image
       unfolding numberBy
       save-row-12 h =
-          sym (ap numberOf (skip 1 (not fit) _ _ (ap not f) (skip 4 (not (allReleased n t scratch)) _ _ (ap not r)
+          sym (ap rowNumber (skip 1 (not fit) _ _ (ap not f) (skip 4 (not (allReleased n t scratch)) _ _ (ap not r)
           (stop 12 (not (eqb (length image) (512 * framesFor n count))) [] (ap not (ne-eqb (length image) (512 * framesFor n count) (λ q. h (q ∙ ap (λ (x : ℕ). 512 * x) (sym e)))))))))
 
       pub save-row-none : length image ≡ 512 * total → 0 ≡ numberBy n spare map count t scratch image
       unfolding numberBy
       save-row-none h =
-          sym (ap numberOf (skip 1 (not fit) _ _ (ap not f) (skip 4 (not (allReleased n t scratch)) _ _ (ap not r)
+          sym (ap rowNumber (skip 1 (not fit) _ _ (ap not f) (skip 4 (not (allReleased n t scratch)) _ _ (ap not r)
           (skip 12 (not (eqb (length image) (512 * framesFor n count))) [] _ (ap not (eq-eqb (length image) (512 * framesFor n count) (h ∙ ap (λ (x : ℕ). 512 * x) e))) none-left))))

@@ -23,7 +23,7 @@ use Rattle.soundness.specs.declared.Tally.{Tally}
 use Rattle.soundness.proofs.Releasing.{scratch-length}
 use Rattle.soundness.proofs.WhenSound.{released-sound}
 use Rattle.image.specs.Cursors.{cursor}
-use Rattle.image.specs.Effects.{numberOf, saveNumber, saveScratch, saveBuffer, Saves}
+use Rattle.image.specs.Effects.{rowNumber, saveNumber, saveScratch, saveBuffer, Saves}
 use Rattle.image.specs.Image.{wordsFor, contentLength, framesFor, entryBytes, body, imageOf}
 use Rattle.saving.specs.Parts.{firstTally, firstScratch, numberBy, scratchCleared, headCursor, headImage, imageAfter, entriesCursor, entriesImage, restImage}
 use Rattle.image.specs.Table.{saveFits, saveRows, saveVerdict}
@@ -186,7 +186,7 @@ unfolding restImage
 stopped-rest map image = rw (← rest-stopped (length map) (cursor 3 true) (length image) refl)
 
 -- a number that is not 0 is a refusal's
-kept : (v : Verdict) (a b : List ℕ) → (numberOf v ≡ 0 → ⊥) → b ≡ settle v a (λ number. b)
+kept : (v : Verdict) (a b : List ℕ) → (rowNumber v ≡ 0 → ⊥) → b ≡ settle v a (λ number. b)
 kept accepted a b n = absurd (n refl)
 kept (refused k) a b n = refl
 
@@ -240,10 +240,10 @@ module _ (n spare : ℕ) (map : List ℕ) (entries : List Entry) (scratch image 
 
   number-law : given ≡ saveNumber n spare map entries scratch image
   unfolding numberBy saveNumber saveVerdict saveRows firstOf
-  number-law = ap (λ (k : ℕ). numberOf (rows (saveFits n spare (length entries) (length map) k) (allReleased n tallied used))) used-length ∙ by fit refl
+  number-law = ap (λ (k : ℕ). rowNumber (rows (saveFits n spare (length entries) (length map) k) (allReleased n tallied used))) used-length ∙ by fit refl
     where
-      by : (b : Bool) → fit ≡ b → numberOf (rows b (allReleased n tallied used)) ≡ numberOf (rows b (sound state))
-      by true f = ap (λ (r : Bool). numberOf (rows true r)) (released f)
+      by : (b : Bool) → fit ≡ b → rowNumber (rows b (allReleased n tallied used)) ≡ rowNumber (rows b (sound state))
+      by true f = ap (λ (r : Bool). rowNumber (rows true r)) (released f)
       by false f = refl
 
   scratch-law : scratchCleared n spare map (length entries) tallied used image ≡ saveScratch n spare map entries scratch image
@@ -259,7 +259,7 @@ module _ (n spare : ℕ) (map : List ℕ) (entries : List Entry) (scratch image 
   abbrev final : List ℕ
   final = restImage map (entriesCursor entries first headedImage) (entriesImage entries first headedImage)
 
-  number-verdict : given ≡ numberOf verdict
+  number-verdict : given ≡ rowNumber verdict
   unfolding saveNumber
   number-verdict = number-law
 

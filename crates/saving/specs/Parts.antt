@@ -12,7 +12,7 @@ use Rattle.frames.specs.Numbers.{replaced, withNumber, wordBytes}
 use Rattle.soundness.specs.Releases.{tally, allReleased}
 use Rattle.soundness.specs.declared.Tally.{Tally}
 use Rattle.image.specs.Cursors.{cursor, active}
-use Rattle.image.specs.Effects.{numberOf, zerosFor}
+use Rattle.image.specs.Effects.{rowNumber, zerosFor}
 use Rattle.image.specs.Image.{framesFor}
 use Rattle.image.specs.Table.{saveFits, wholeBlocks}
 use Rattle.image.specs.declared.Cursor.{Cursor}
@@ -29,7 +29,7 @@ module _ (n spare : ℕ) (map : List ℕ) (count : ℕ) (scratch : List ℕ) whe
 module _ (n spare : ℕ) (map : List ℕ) (count : ℕ) (t : Tally) (scratch image : List ℕ) where
   unfoldable pub numberBy : ℕ
   numberBy =
-      numberOf (firstOf
+      rowNumber (firstOf
       (row 1 (not (saveFits n spare count (length map) (length scratch)))
       ∷ row 4 (not (allReleased n t scratch))
       ∷ row 12 (not (eqb (length image) (512 * framesFor n count)))

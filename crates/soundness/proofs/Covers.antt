@@ -15,7 +15,7 @@ use Rattle.survey.specs.Survey.{blocks, freeOf, countsOf}
 use Rattle.survey.proofs.Blocks.{blocks-join}
 use Rattle.catalogue.specs.declared.Entry.{Entry}
 use Rattle.standings.specs.Standings.{standingOf, isDamaged}
-use Rattle.soundness.specs.Sound.{cover, undamaged}
+use Rattle.soundness.specs.Sound.{coverings, undamaged}
 use Rattle.soundness.proofs.Damage.{extent-inside, extent-taken, still-undamaged}
 
 -- 1 where a test holds
@@ -120,29 +120,29 @@ module _ (n : ℕ) (f : ℕ → Bool) where
   both-undamaged e es d u = and-both (not (isDamaged (standingOf n f e))) (undamaged n f es) (ap not d) u
 
   -- no block from n on is covered
-  pub cover-outside : (es : List Entry) → undamaged n f es ≡ true → (b : ℕ) → n ≤ b → cover es b ≡ 0
-  unfolding cover
+  pub cover-outside : (es : List Entry) → undamaged n f es ≡ true → (b : ℕ) → n ≤ b → coverings es b ≡ 0
+  unfolding coverings
   cover-outside [] u b h = refl
   cover-outside (e ∷ es) u b h =
       let i : e .start + e .length ≤ n = extent-inside n e f (head-undamaged e es u) in
       ap₂ _+_ (ap one (run-out (e .start) (e .length) b (omega arith))) (cover-outside es (tail-undamaged e es u) b h)
 
   -- the covers make the lengths
-  pub cover-total : (es : List Entry) → undamaged n f es ≡ true → total (cover es) n ≡ lengths es
-  unfolding cover lengths
-  cover-total [] u = total-same (cover []) (λ b. 0) n (λ b l. refl) ∙ total-none n
+  pub cover-total : (es : List Entry) → undamaged n f es ≡ true → total (coverings es) n ≡ lengths es
+  unfolding coverings lengths
+  cover-total [] u = total-same (coverings []) (λ b. 0) n (λ b l. refl) ∙ total-none n
   cover-total (e ∷ es) u =
       let i : e .start + e .length ≤ n = extent-inside n e f (head-undamaged e es u) in
       let r : total (λ b. one (inRun (e .start) (e .length) b)) n ≡ e .length = total-run (e .start) (e .length) n ∙ omega arith in
-      total-add (λ b. one (inRun (e .start) (e .length) b)) (cover es) n ∙ ap₂ _+_ r (cover-total es (tail-undamaged e es u))
+      total-add (λ b. one (inRun (e .start) (e .length) b)) (coverings es) n ∙ ap₂ _+_ r (cover-total es (tail-undamaged e es u))
 
 pub none-undamaged : (n : ℕ) (g : ℕ → Bool) → undamaged n g [] ≡ true
 unfolding undamaged
 none-undamaged n g = refl
 
 -- the same entries with other blocks free, none of them covered
-pub still-all : (n : ℕ) (f g : ℕ → Bool) (es : List Entry) → undamaged n f es ≡ true → ((b : ℕ) → b < n → 1 ≤ cover es b → f b ≡ false → g b ≡ false) → undamaged n g es ≡ true
-unfolding cover
+pub still-all : (n : ℕ) (f g : ℕ → Bool) (es : List Entry) → undamaged n f es ≡ true → ((b : ℕ) → b < n → 1 ≤ coverings es b → f b ≡ false → g b ≡ false) → undamaged n g es ≡ true
+unfolding coverings
 still-all n f g [] u h = none-undamaged n g
 still-all n f g (e ∷ es) u h =
     let d = head-undamaged n f e es u in

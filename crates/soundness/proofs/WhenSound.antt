@@ -20,7 +20,7 @@ use Rattle.standings.specs.Standings.{standingOf, isDamaged}
 use Rattle.standings.specs.Limits.{shapeFits}
 use Rattle.standings.proofs.Limits.{fits}
 use Rattle.soundness.specs.Releases.{tally, releasable, tallyAfter, scratchAfter, tallyOf, scratchOf, allReleased}
-use Rattle.soundness.specs.Sound.{State, cover, undamaged, sound}
+use Rattle.soundness.specs.Sound.{State, coverings, undamaged, sound}
 use Rattle.soundness.specs.declared.Tally.{Tally}
 use Rattle.soundness.proofs.Covers.{one, run-in, in-run, total, total-add, total-same, total-all, free-total, lengths, head-undamaged, tail-undamaged, both-undamaged, none-undamaged, cover-outside, cover-total, still-all}
 use Rattle.soundness.proofs.Damage.{extent-inside, extent-taken}
@@ -39,7 +39,7 @@ marked-length scratch s l = map-length (λ b. cond (inRun s l b) true (free scra
 -- lengths make what is left
 pub record Tidy (n left : ℕ) (scratch : List ℕ) (es : List Entry) : Type 0 where
   pub whole : undamaged n (free scratch) es ≡ true
-  pub once : (b : ℕ) → b < 64 * length scratch → cover es b + one (free scratch b) ≡ one (ltb b n)
+  pub once : (b : ℕ) → b < 64 * length scratch → coverings es b + one (free scratch b) ≡ one (ltb b n)
   pub sum : left ≡ lengths es
 
 -- of no entries
@@ -59,7 +59,7 @@ same-one false false e = refl
 
 module _ (n left : ℕ) (scratch : List ℕ) where
   none-tidy : allReleased n (tally left false) scratch ≡ true → Tidy n left scratch []
-  unfolding allReleased cover lengths
+  unfolding allReleased coverings lengths
   none-tidy r =
       let f = fresh-to n scratch (and-right (eqb left 0) (isFresh scratch n) r) in
       record {
@@ -69,7 +69,7 @@ module _ (n left : ℕ) (scratch : List ℕ) where
       }
 
   tidy-none : Tidy n left scratch [] → allReleased n (tally left false) scratch ≡ true
-  unfolding allReleased cover lengths
+  unfolding allReleased coverings lengths
   tidy-none t =
       and-both (eqb left 0) (isFresh scratch n) (eq-eqb left 0 (t .sum))
       (to-fresh n scratch (λ b h. let o : 0 + one (free scratch b) ≡ one (ltb b n) = t .once b h in same-one (free scratch b) (ltb b n) (omega arith)))
@@ -85,7 +85,7 @@ module _ (n left : ℕ) (scratch : List ℕ) (e : Entry) (es : List Entry) (cove
   next-length : length next ≡ length scratch
   next-length = marked-length scratch (e .start) (e .length)
 
-  -- a block of the entry is not free before, so that the release takes its cover over
+  -- a block of the entry is not free before, so that the release takes its covering over
   moved : isDamaged (standingOf n (free scratch) e) ≡ false → (b : ℕ) → b < 64 * length scratch
       → one (inRun (e .start) (e .length) b) + one (free scratch b) ≡ one (free next b)
   moved d b h = by (inRun (e .start) (e .length) b) refl
@@ -101,11 +101,11 @@ module _ (n left : ℕ) (scratch : List ℕ) (e : Entry) (es : List Entry) (cove
           omega arith
 
   more-tidy : isDamaged (standingOf n (free scratch) e) ≡ false → e .length ≤ left → Tidy n (left - e .length) next es → Tidy n left scratch (e ∷ es)
-  unfolding cover lengths
+  unfolding coverings lengths
   more-tidy d enough t = record {
     whole = both-undamaged n (free scratch) e es d (still-all n (free next) (free scratch) es (t .whole) (λ b l c f. before b (omega arith) f));
     once = λ b h.
-        let o : cover es b + one (free next b) ≡ one (ltb b n) = t .once b (omega (arith, next-length)) in
+        let o : coverings es b + one (free next b) ≡ one (ltb b n) = t .once b (omega (arith, next-length)) in
         let m = moved d b h in
         omega arith;
     sum = let s : left - e .length ≡ lengths es = t .sum in omega arith;
@@ -115,19 +115,19 @@ module _ (n left : ℕ) (scratch : List ℕ) (e : Entry) (es : List Entry) (cove
       before b h f = same-one (free scratch b) false (let m = moved d b h in let z : one (free next b) ≡ 0 = ap one f in omega arith)
 
   tidy-more : Tidy n left scratch (e ∷ es) → Tidy n (left - e .length) next es
-  unfolding cover lengths
+  unfolding coverings lengths
   tidy-more t =
       let d = head-undamaged n (free scratch) e es (t .whole) in
       record {
         whole = still-all n (free scratch) (free next) es (tail-undamaged n (free scratch) e es (t .whole)) (λ b l c f.
-            let o : one (inRun (e .start) (e .length) b) + cover es b + one (free scratch b) ≡ one (ltb b n) = t .once b (omega arith) in
+            let o : one (inRun (e .start) (e .length) b) + coverings es b + one (free scratch b) ≡ one (ltb b n) = t .once b (omega arith) in
             let m = moved d b (omega arith) in
             let u : one (ltb b n) ≡ 1 = ap one (lt-ltb b n l) in
             let z : one (free scratch b) ≡ 0 = ap one f in
             same-one (free next b) false (omega arith));
         once = λ b h.
             let k : length next ≡ length scratch = next-length in
-            let o : one (inRun (e .start) (e .length) b) + cover es b + one (free scratch b) ≡ one (ltb b n) = t .once b (omega arith) in
+            let o : one (inRun (e .start) (e .length) b) + coverings es b + one (free scratch b) ≡ one (ltb b n) = t .once b (omega arith) in
             let m = moved d b (omega arith) in
             omega arith;
         sum = let s : left ≡ e .length + lengths es = t .sum in omega arith;
@@ -185,17 +185,17 @@ tidy-released n left scratch (e ∷ es) fit t =
 -- soundness, in parts
 pub record Sound (s : State) : Type 0 where
   pub whole : undamaged (s .blocks) (free (s .map)) (s .entries) ≡ true
-  pub disjoint : (b : ℕ) → b < s .blocks → cover (s .entries) b ≤ 1
-  pub uncovered : (b : ℕ) → b < s .blocks → free (s .map) b ≡ eqb (cover (s .entries) b) 0
+  pub disjoint : (b : ℕ) → b < s .blocks → coverings (s .entries) b ≤ 1
+  pub uncovered : (b : ℕ) → b < s .blocks → free (s .map) b ≡ eqb (coverings (s .entries) b) 0
   pub beyond : (b : ℕ) → s .blocks ≤ b → b < 64 * length (s .map) → free (s .map) b ≡ false
   pub counted : s .spare ≡ countsOf (free (s .map)) (s .blocks) .free
 
 module _ (s : State) where
   abbrev disjoint-test : Bool
-  disjoint-test = all (λ b. leb (cover (s .entries) b) 1) 0 (s .blocks)
+  disjoint-test = all (λ b. leb (coverings (s .entries) b) 1) 0 (s .blocks)
 
   abbrev uncovered-test : Bool
-  uncovered-test = all (λ b. inState (s .map) (eqb (cover (s .entries) b) 0) b) 0 (s .blocks)
+  uncovered-test = all (λ b. inState (s .map) (eqb (coverings (s .entries) b) 0) b) 0 (s .blocks)
 
   abbrev beyond-test : Bool
   beyond-test = all (inState (s .map) false) (s .blocks) (64 * length (s .map) - s .blocks)
@@ -214,10 +214,10 @@ module _ (s : State) where
       let e2 = and-left (whole-test && disjoint-test) uncovered-test e3 in
       record {
         whole = and-left whole-test disjoint-test e2;
-        disjoint = λ b h. leb-true (cover (s .entries) b) 1 (all-elim (λ b. leb (cover (s .entries) b) 1) 0 (s .blocks) (and-right whole-test disjoint-test e2) b (omega arith) (omega arith));
+        disjoint = λ b h. leb-true (coverings (s .entries) b) 1 (all-elim (λ b. leb (coverings (s .entries) b) 1) 0 (s .blocks) (and-right whole-test disjoint-test e2) b (omega arith) (omega arith));
         uncovered = λ b h.
-            in-state (s .map) (eqb (cover (s .entries) b) 0) b
-            (all-elim (λ b. inState (s .map) (eqb (cover (s .entries) b) 0) b) 0 (s .blocks) (and-right (whole-test && disjoint-test) uncovered-test e3) b (omega arith) (omega arith));
+            in-state (s .map) (eqb (coverings (s .entries) b) 0) b
+            (all-elim (λ b. inState (s .map) (eqb (coverings (s .entries) b) 0) b) 0 (s .blocks) (and-right (whole-test && disjoint-test) uncovered-test e3) b (omega arith) (omega arith));
         beyond = λ b l h.
             in-state (s .map) false b
             (all-elim (inState (s .map) false) (s .blocks) (64 * length (s .map) - s .blocks) (and-right (whole-test && disjoint-test && uncovered-test) beyond-test e4) b l (omega arith));
@@ -230,8 +230,8 @@ module _ (s : State) where
       and-both (whole-test && disjoint-test && uncovered-test && beyond-test) counted-test
       (and-both (whole-test && disjoint-test && uncovered-test) beyond-test
       (and-both (whole-test && disjoint-test) uncovered-test
-      (and-both whole-test disjoint-test (p .whole) (all-intro (λ b. leb (cover (s .entries) b) 1) 0 (s .blocks) (λ b l h. le-leb (cover (s .entries) b) 1 (p .disjoint b (omega arith)))))
-      (all-intro (λ b. inState (s .map) (eqb (cover (s .entries) b) 0) b) 0 (s .blocks) (λ b l h. state-of (s .map) (eqb (cover (s .entries) b) 0) b (p .uncovered b (omega arith)))))
+      (and-both whole-test disjoint-test (p .whole) (all-intro (λ b. leb (coverings (s .entries) b) 1) 0 (s .blocks) (λ b l h. le-leb (coverings (s .entries) b) 1 (p .disjoint b (omega arith)))))
+      (all-intro (λ b. inState (s .map) (eqb (coverings (s .entries) b) 0) b) 0 (s .blocks) (λ b l h. state-of (s .map) (eqb (coverings (s .entries) b) 0) b (p .uncovered b (omega arith)))))
       (all-intro (inState (s .map) false) (s .blocks) (64 * length (s .map) - s .blocks) (λ b l h. state-of (s .map) false b (p .beyond b l (omega arith)))))
       (eq-eqb (s .spare) (countsOf (free (s .map)) (s .blocks) .free) (p .counted))
 
@@ -245,24 +245,24 @@ balance k true l e = let z = eqb-true k 0 (sym e) in omega arith
 balance k false l e = let z = eqb-false k 0 (sym e) in omega (arith, z)
 
 -- the covers and the free blocks make n
-count-law : (n : ℕ) (f : ℕ → Bool) (es : List Entry) → undamaged n f es ≡ true → ((b : ℕ) → b < n → cover es b + one (f b) ≡ 1) → lengths es + countsOf f n .free ≡ n
+count-law : (n : ℕ) (f : ℕ → Bool) (es : List Entry) → undamaged n f es ≡ true → ((b : ℕ) → b < n → coverings es b + one (f b) ≡ 1) → lengths es + countsOf f n .free ≡ n
 count-law n f es u o =
-    ap₂ _+_ (sym (cover-total n f es u)) (free-total f n) ∙ sym (total-add (cover es) (λ b. one (f b)) n)
-    ∙ total-same (λ b. cover es b + one (f b)) (λ b. 1) n o ∙ total-all n
+    ap₂ _+_ (sym (cover-total n f es u)) (free-total f n) ∙ sym (total-add (coverings es) (λ b. one (f b)) n)
+    ∙ total-same (λ b. coverings es b + one (f b)) (λ b. 1) n o ∙ total-all n
 
 module _ (s : State) (room : s .blocks ≤ 64 * length (s .map)) (few : s .spare ≤ s .blocks) where
   tidy-sound : Tidy (s .blocks) (s .blocks - s .spare) (s .map) (s .entries) → Sound s
   tidy-sound t =
       let n : ℕ = s .blocks in
-      let below : (b : ℕ) → b < n → cover (s .entries) b + one (free (s .map) b) ≡ 1 = λ b h. t .once b (omega arith) ∙ ap one (lt-ltb b n h) in
+      let below : (b : ℕ) → b < n → coverings (s .entries) b + one (free (s .map) b) ≡ 1 = λ b h. t .once b (omega arith) ∙ ap one (lt-ltb b n h) in
       let c = count-law n (free (s .map)) (s .entries) (t .whole) below in
       let l : n - s .spare ≡ lengths (s .entries) = t .sum in
       record {
         whole = t .whole;
-        disjoint = λ b h. balanced (cover (s .entries) b) (free (s .map) b) (below b h) .0;
-        uncovered = λ b h. balanced (cover (s .entries) b) (free (s .map) b) (below b h) .1;
+        disjoint = λ b h. balanced (coverings (s .entries) b) (free (s .map) b) (below b h) .0;
+        uncovered = λ b h. balanced (coverings (s .entries) b) (free (s .map) b) (below b h) .1;
         beyond = λ b l h.
-            let o : cover (s .entries) b + one (free (s .map) b) ≡ 0 = t .once b h ∙ ap one (le-ltb b n l) in
+            let o : coverings (s .entries) b + one (free (s .map) b) ≡ 0 = t .once b h ∙ ap one (le-ltb b n l) in
             same-one (free (s .map) b) false (omega arith);
         counted = omega arith;
       }
@@ -270,7 +270,7 @@ module _ (s : State) (room : s .blocks ≤ 64 * length (s .map)) (few : s .spare
   sound-tidy : Sound s → Tidy (s .blocks) (s .blocks - s .spare) (s .map) (s .entries)
   sound-tidy p =
       let n : ℕ = s .blocks in
-      let below : (b : ℕ) → b < n → cover (s .entries) b + one (free (s .map) b) ≡ 1 = λ b h. balance (cover (s .entries) b) (free (s .map) b) (p .disjoint b h) (p .uncovered b h) in
+      let below : (b : ℕ) → b < n → coverings (s .entries) b + one (free (s .map) b) ≡ 1 = λ b h. balance (coverings (s .entries) b) (free (s .map) b) (p .disjoint b h) (p .uncovered b h) in
       let c = count-law n (free (s .map)) (s .entries) (p .whole) below in
       let k = p .counted in
       record {

@@ -19,9 +19,9 @@ pub record State : Type 0 where
   pub map : List ℕ
 
 -- How many of the extents cover block b.
-unfoldable pub cover : List Entry → ℕ → ℕ
-cover [] b = 0
-cover (e ∷ es) b = cond (inRun (e .start) (e .length) b) 1 0 + cover es b
+unfoldable pub coverings : List Entry → ℕ → ℕ
+coverings [] b = 0
+coverings (e ∷ es) b = cond (inRun (e .start) (e .length) b) 1 0 + coverings es b
 
 -- No entry is damaged, f saying which blocks are free.
 unfoldable pub undamaged : ℕ → (ℕ → Bool) → List Entry → Bool
@@ -31,10 +31,10 @@ undamaged n f (e ∷ es) = not (isDamaged (standingOf n f e)) && undamaged n f e
 -- No entry is damaged; extents are disjoint; a block is free exactly when uncovered; bits from n on are 0; and the free count
 -- is the number of free blocks.
 unfoldable pub sound : State → Bool
-unfolding cover undamaged
+unfolding coverings undamaged
 sound s =
     undamaged (s .blocks) (free (s .map)) (s .entries)
-    && all (λ b. leb (cover (s .entries) b) 1) 0 (s .blocks)
-    && all (λ b. inState (s .map) (eqb (cover (s .entries) b) 0) b) 0 (s .blocks)
+    && all (λ b. leb (coverings (s .entries) b) 1) 0 (s .blocks)
+    && all (λ b. inState (s .map) (eqb (coverings (s .entries) b) 0) b) 0 (s .blocks)
     && all (inState (s .map) false) (s .blocks) (64 * length (s .map) - s .blocks)
     && eqb (s .spare) (countsOf (free (s .map)) (s .blocks) .free)

@@ -10,7 +10,7 @@ use denote.Ref.{now}
 use Rattle.standings.specs.Rows.{Verdict, accepted, refused, settle}
 use Rattle.frames.specs.Frames.{bodyOf}
 use Rattle.frames.specs.Numbers.{numberIn, wordsAt}
-use Rattle.image.specs.Effects.{numberOf}
+use Rattle.image.specs.Effects.{rowNumber}
 use Rattle.image.specs.Image.{blocksIn, spareIn, sheetsIn, stateIn, mapIn}
 use Rattle.loading.specs.Parts.{coreLoaded, coreMap, coreScratch}
 use Rattle.image.specs.Table.{loadVerdict}
@@ -29,11 +29,11 @@ module _ (image map : List ℕ) (count : ℕ) (scratch : List ℕ) where
   ruled = loadVerdict image (length map) count (length scratch)
 
   -- after a refusal
-  told-refused : (number : ℕ) → number ≡ numberOf ruled → (number ≡ 0 → ⊥) → (loaded number 0 0 ≡ coreLoaded image map count scratch) × (map ≡ coreMap image map count scratch)
+  told-refused : (number : ℕ) → number ≡ rowNumber ruled → (number ≡ 0 → ⊥) → (loaded number 0 0 ≡ coreLoaded image map count scratch) × (map ≡ coreMap image map count scratch)
   unfolding coreLoaded coreMap
   told-refused number e h = by ruled number e h
     where
-      by : (v : Verdict) (number : ℕ) → number ≡ numberOf v → (number ≡ 0 → ⊥)
+      by : (v : Verdict) (number : ℕ) → number ≡ rowNumber v → (number ≡ 0 → ⊥)
           → (loaded number 0 0 ≡ settle v (loaded 0 (blocksIn image) (spareIn image)) (λ k. loaded k 0 0)) × (map ≡ settle v (stateIn image .map) (λ k. map))
       by accepted number e h = absurd (h e)
       by (refused k) number e h = (ap (λ (x : ℕ). loaded x 0 0) e, refl)
@@ -45,7 +45,7 @@ module _ (image map : List ℕ) (count : ℕ) (scratch : List ℕ) where
     gives : (n spare : ℕ) → n ≡ numberIn image 0 → spare ≡ numberIn image 1 → loaded 0 n spare ≡ coreLoaded image map count scratch
     reads : (words : List ℕ) → words ≡ wordsAt (bodyOf image) (4 * (3 + 3 * count)) (length map) → words ≡ coreMap image map count scratch
 
-  done : (number : ℕ) → number ≡ numberOf ruled → number ≡ 0 → Done
+  done : (number : ℕ) → number ≡ rowNumber ruled → number ≡ 0 → Done
   unfolding coreLoaded coreMap
   done number e z =
       let v : ruled ≡ accepted = load-accepted image (length map) count (length scratch) (sym e ∙ z) in

@@ -2,7 +2,7 @@
 -- Assumes nothing.
 use mathlib.Core.Path.{sym, ap, _∙_}
 use borrow.Author.Needs.{needs}
-use Rattle.map_bench.specs.Answers.{numberOf}
+use Rattle.map_bench.specs.Answers.{startFor}
 use Rattle.map_bench.proofs.Limits.{fits, no-search, search-outside, search-within}
 use Rattle.map_bench.proofs.map_bench_search.Statement.{statement}
 use Rattle.map_bench.proofs.map_bench_search.Tie as tie
@@ -26,13 +26,13 @@ enum-told c = search needs
 
 returns-2 : tie.Need-returns-2
 returns-2 c =
-    ap numberOf (sym (c .before .start .given .1) ∙ c .before .before .before .search .ensures)
+    ap startFor (sym (c .before .start .given .1) ∙ c .before .before .before .search .ensures)
     ∙ search-within _ _ _ (search needs)
     (sym (c .before .before .before .before .before .within-limits .ensures) ∙ c .before .before .before .before .if2 .taken)
 
 returns-3 : tie.Need-returns-3
 returns-3 c =
-    ap numberOf (sym (c .enum-told .given .1) ∙ c .before .before .search .ensures)
+    ap startFor (sym (c .enum-told .given .1) ∙ c .before .before .search .ensures)
     ∙ search-within _ _ _ (search needs)
     (sym (c .before .before .before .before .within-limits .ensures) ∙ c .before .before .before .if2 .taken)
 
