@@ -1,7 +1,9 @@
 //! What the example programs must print, worked out bit by bit. The word given names the set of examples:
 //!
-//!     cargo run --release --offline --manifest-path tests/Cargo.toml -- map
+//!     cargo run --release --offline --manifest-path tests/Cargo.toml -- map < crates/map_examples/stdin
 //!     cargo run --release --offline --manifest-path tests/Cargo.toml -- calls
+//!
+//! For the map it is worked out from the list of examples on standard input, which `map-list` writes.
 //!
 //! `image` writes the card printer's example image, `print` prints what the printer must print of the image on standard
 //! input, and `printer PROGRAM` runs a card printer on many images and compares.
@@ -12,7 +14,11 @@ use std::io::{Read, Write};
 fn main() {
     let set = std::env::args().nth(1);
     match set.as_deref() {
-        Some("map") => print!("{}", map::examples()),
+        Some("map-list") => print!("{}", map::list()),
+        Some("map") => {
+            let list = std::io::read_to_string(std::io::stdin()).unwrap();
+            print!("{}", map::text(&list));
+        }
         Some("calls") => print!("{}", calls::examples()),
         Some("image") => std::io::stdout().write_all(&printer::example()).unwrap(),
         Some("print") => {
@@ -25,7 +31,7 @@ fn main() {
             std::process::exit(!printer::holds(&program) as i32);
         }
         _ => {
-            eprintln!("usage: bitwise map | calls | image | print | printer PROGRAM");
+            eprintln!("usage: bitwise map-list | map | calls | image | print | printer PROGRAM");
             std::process::exit(2);
         }
     }

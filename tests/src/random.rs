@@ -1,6 +1,6 @@
 //! Random numbers and maps, the same in every run.
 
-use crate::blocks::{from_words, mark, FREE};
+use crate::blocks::FREE;
 
 /// The generator xorshift64.
 pub struct Random(pub u64);
@@ -50,38 +50,44 @@ pub fn digest(words: &[u64]) -> u64 {
     words.iter().fold(1, |sum, word| after(sum ^ word))
 }
 
-/// A word made of three random ones. By its kind a block is free in 1, 2, 4, 6 or 7 cases of 8, or the whole word is free
-/// or taken.
-fn mixed(kind: u64, random: &mut Random) -> u64 {
-    let (a, b, c) = (random.draw(), random.draw(), random.draw());
-    match kind {
-        0 => a & b & c,
-        1 => a & b,
-        2 => a,
-        3 => a | b,
-        4 => a | b | c,
-        _ if a < b => u64::MAX,
-        _ => 0,
-    }
+/// The numbers of an example's seed.
+fn seeded(seed: u64) -> Random {
+    Random(after(seed * 2654435769 + 1))
 }
 
-/// Runs of 1 to `longest` blocks, free and taken by turns, to the end of the map.
-fn runs(w: usize, longest: usize, random: &mut Random) -> Vec<bool> {
-    let mut map = vec![FREE; 64 * w];
-    let (mut start, mut state) = (0, FREE);
-    while start < map.len() {
-        let end = map.len().min(start + random.within(1, longest + 1));
-        mark(&mut map, start, end, state);
-        (start, state) = (end, !state);
+/// A random map of w words, of a kind from 0 to 5. A block is free where its bits in three random words are all 1, or those in
+/// two of them, and so on; or a whole word is free where the first of the three is odd.
+pub fn words(w: usize, kind: usize, seed: u64) -> Vec<bool> {
+    let random = &mut seeded(seed);
+    let mut map = Vec::new();
+    for _ in 0..w {
+        let a = random.draw();
+        let b = after(a);
+        let c = after(b);
+        map.extend((0..64).map(|j| {
+            let [x, y, z] = [a, b, c].map(|word| word >> (63 - j) & 1 == 1);
+            match kind {
+                0 => x && y && z,
+                1 => x && y,
+                2 => x,
+                3 => x || y,
+                4 => x || y || z,
+                _ => a % 2 == 1,
+            }
+        }));
     }
     map
 }
 
-/// A random map of w words, of a kind from 0 to 7.
-pub fn map(w: usize, kind: u64, random: &mut Random) -> Vec<bool> {
-    match kind {
-        6 => runs(w, 16, random),
-        7 => runs(w, 128, random),
-        _ => from_words(&(0..w).map(|_| mixed(kind, random)).collect::<Vec<u64>>()),
+/// Runs of 1 to `longest` blocks, free and taken by turns, to the end of a map of w words.
+pub fn runs(w: usize, longest: usize, seed: u64) -> Vec<bool> {
+    let random = &mut seeded(seed);
+    let mut map = Vec::new();
+    let mut state = FREE;
+    while map.len() < 64 * w {
+        let end = map.len() + random.within(1, longest + 1);
+        map.resize(end.min(64 * w), state);
+        state = !state;
     }
+    map
 }

@@ -1,68 +1,70 @@
-// The functions of freemap, each called only where its `requires` holds, so that the examples have nothing to prove of
-// their arguments. No example is outside it: where one were, nothing would be done, and its line would be wrong.
-ghost use Prim.Native.Nat.{_*_, _≤_};
+// What the examples have of freemap, search and survey: the calls, each made only where its `requires` holds, and constants.
+ghost use Prim.Native.Nat.{_≤_};
 ghost use lib.ListN.{length};
+use crate::print;
+use crate::state::State;
 use freemap::Found;
+pub use freemap::run::FREE;
+pub use freemap::run::fresh;
+pub use freemap::word::ONES;
+pub use freemap::word::smaller;
 use survey::Counts;
 
-// The most blocks that a card may have.
-pub const LIMIT: u32 = 262144;
+fn found(answer: Found) {
+    match answer {
+        Found::At(start) => print::item(b':', start),
+        Found::Nothing => print::sign(b'-'),
+    }
+}
 
-// The blocks of a map, at most as many as a card may have.
-fn blocks_of(map: &[u64]) -> u32
-    ensures { λ r. ⌜ (r ≤ 262144) × (r ≤ 64 * length (now (map .entry))) ⌝ }
+// The least fit for so many blocks as the command says, within the window.
+pub fn search(map: &[u64], s: State)
+    requires { ⌜ length (now map) ≤ 4096 ⌝ }
 {
-    if map.len() < 4096 {
-        (map.len() as u32) * 64
-    } else {
-        LIMIT
-    }
-}
-
-// The least fit for k that starts at or after `from` and ends at or before `before`.
-pub fn search(map: &[u64], from: u32, before: u32, k: u32) -> Found {
-    if 0 < k {
-        if before <= blocks_of(map) {
-            return search::search(map, from, before, k);
+    if 0 < s.b {
+        if s.before as usize <= map.len() * 64 {
+            found(search::search(map, s.from, s.before, s.b));
+            return;
         }
     }
-    Found::Nothing
+    print::sign(b'!');
 }
 
-// The blocks from start to end - 1 become free, or taken.
-pub fn mark(map: &mut [u64], start: u32, end: u32, to: bool) {
-    if start <= end {
-        if end <= blocks_of(map) {
-            freemap::run::mark(map, start, end - start, to);
-        }
+// The k blocks from start on become free, or taken.
+pub fn mark(map: &mut [u64], start: u32, k: u32, to: bool)
+    requires { ⌜ length (now map) ≤ 4096 ⌝ }
+{
+    if start as usize + k as usize <= map.len() * 64 {
+        freemap::run::mark(map, start, k, to);
+        return;
     }
+    print::sign(b'!');
 }
 
-// The blocks from start to end - 1 are all free, or all taken.
-pub fn all_marked(map: &[u64], start: u32, end: u32, state: bool) -> bool {
-    if start <= end {
-        if end <= blocks_of(map) {
-            return freemap::run::all_marked(map, start, end - start, state);
-        }
+// The k blocks from start on are all free, or all taken.
+pub fn all_marked(map: &[u64], start: u32, k: u32, state: bool)
+    requires { ⌜ length (now map) ≤ 4096 ⌝ }
+{
+    if start as usize + k as usize <= map.len() * 64 {
+        print::item(b':', freemap::run::all_marked(map, start, k, state) as u32);
+        return;
     }
-    false
+    print::sign(b'!');
 }
 
-// The map of a fresh card of n blocks.
-pub fn fresh(map: &mut [u64], n: u32) {
-    if map.len() <= 4096 {
-        freemap::run::fresh(map, n);
-    } else {}
+fn counted(counts: Counts) {
+    print::item(b':', counts.free);
+    print::item(b',', counts.runs);
+    print::item(b',', counts.longest);
 }
 
 // The counts of the first n blocks.
-pub fn survey(map: &[u64], n: u32) -> Counts {
-    if n <= blocks_of(map) {
-        return survey::survey(map, n);
+pub fn survey(map: &[u64], n: u32)
+    requires { ⌜ length (now map) ≤ 4096 ⌝ }
+{
+    if n as usize <= map.len() * 64 {
+        counted(survey::survey(map, n));
+        return;
     }
-    Counts {
-        free: 0,
-        runs: 0,
-        longest: 0,
-    }
+    print::sign(b'!');
 }

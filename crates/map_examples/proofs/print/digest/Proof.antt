@@ -1,10 +1,10 @@
--- `map_examples::fill::digest` is safe and ends: the words left are the measure.
+-- `map_examples::print::digest` is safe and ends: the words left are the measure.
 -- Assumes nothing.
 use Prim.Native.Nat.{_≤_, _-_}
 use lib.ListN.{length}
 use borrow.Author.Needs.{needs}
-use Rattle.map_examples.proofs.fill.digest.Statement.{statement}
-use Rattle.map_examples.proofs.fill.digest.Tie as tie
+use Rattle.map_examples.proofs.print.digest.Statement.{statement}
+use Rattle.map_examples.proofs.print.digest.Tie as tie
 
 abbrev Inv-loop : tie.InvT-loop
 Inv-loop map sum₀ i₀ sum i = i ≤ length map
@@ -33,6 +33,9 @@ loop-less c = search needs
 loop-again : tie.Need-loop-again Inv-loop μ-loop
 loop-again c = search needs
 
+word-requires : tie.Need-word-requires Inv-loop μ-loop
+word-requires c κs = search needs
+
 returns : tie.Need-returns Inv-loop μ-loop
 returns c = search needs
 
@@ -49,4 +52,5 @@ digest-spec =
     add-i
     loop-less
     loop-again
+    word-requires
     returns)
