@@ -15,20 +15,17 @@ use Rattle.standings.specs.Rows.{Verdict, accepted, refused, settle}
 use Rattle.standings.specs.declared.Answer.the-variants.{Done, Refused}
 use Rattle.catalogue.specs.declared.Entry.{Entry}
 use Rattle.frames.specs.Frames.{Bytes}
-use Rattle.soundness.specs.Sound.{State}
-use Rattle.image.specs.Effects.{rowNumber, saveNumber, saveBuffer, loadResult, loadMap, loadEntries, loadScratch}
+use Rattle.image.specs.Effects as images
+use Rattle.image.specs.Effects.{rowNumber, loadResult}
 use Rattle.image.specs.Image.{imageOf, stateIn}
 use Rattle.image.specs.Table.{saveVerdict, loadVerdict}
 use Rattle.image.specs.declared.Loaded.{Loaded}
 use Rattle.image.proofs.Journey.{Words}
 use Rattle.image.proofs.ReturnJourney as journey
-use Rattle.image.proofs.Verdicts.{load-accepted}
+use Rattle.image.proofs.Verdicts.{save-accepted, load-accepted}
 use Rattle.card.specs.declared.Outcome.{Outcome}
 use Rattle.card.specs.declared.Shape.{Shape}
-use Rattle.card.specs.Cores.{told, isDone, saveOutcome, loadOutcome}
-
-abbrev stateOf : Shape → List ℕ → List Entry → State
-stateOf shape map entries = record { blocks = shape .blocks; spare = shape .free; entries = entries; map = map }
+use Rattle.card.specs.Calls.{told, isDone, savedState, saveOutcome, saveScratch, saveImage, loadOutcome, loadMap, loadEntries, loadScratch}
 
 never-accepted : (number : ℕ) → refused number ≡ accepted → ⊥
 never-accepted number e = let z : _≡_ {A = ℕ} 0 1 = cc in omega arith
@@ -37,14 +34,19 @@ never-done : false ≡ true → ⊥
 never-done e = let z : _≡_ {A = ℕ} 1 0 = ap (λ (x : Bool). cond x 0 1) e in omega arith
 
 -- a save or a load that was done has the number 0
-done-save : (shape : Shape) (number : ℕ) → isDone (saveOutcome shape number .answer) ≡ true → number ≡ 0
+done-save : (shape : Shape) (number : ℕ) → isDone (cond (eqb number 0) Done (Refused number)) ≡ true → number ≡ 0
 done-save shape number d = by (eqb number 0) refl d
   where
     by : (b : Bool) → eqb number 0 ≡ b → isDone (cond b Done (Refused number)) ≡ true → number ≡ 0
     by true e h = eqb-true number 0 e
     by false e h = absurd (never-done h)
 
-done-load : (shape : Shape) (given : Loaded) → isDone (loadOutcome shape given .answer) ≡ true → given .number ≡ 0
+-- what a load hands back, of its result
+abbrev handedBy : Shape → Loaded → Outcome
+handedBy shape given =
+    cond (eqb (given .number) 0) (told (record { blocks = given .blocks; free = given .free }) Done) (told shape (Refused (given .number)))
+
+done-load : (shape : Shape) (given : Loaded) → isDone (handedBy shape given .answer) ≡ true → given .number ≡ 0
 done-load shape given d = by (eqb (given .number) 0) refl d
   where
     by : (b : Bool) → eqb (given .number) 0 ≡ b
@@ -55,20 +57,20 @@ done-load shape given d = by (eqb (given .number) 0) refl d
 -- what a save of `map` and `entries` wrote, loaded into other buffers of the same lengths, whatever shape the load takes
 module _ (shape other : Shape) (map : List ℕ) (entries : List Entry) (scratch buffer map′ : List ℕ) (entries′ : List Entry) (scratch′ : List ℕ) where
   abbrev written : List ℕ
-  written = saveBuffer (shape .blocks) (shape .free) map entries scratch buffer
+  written = saveImage shape map entries scratch buffer
 
   pub record LoadsBack : Type 0 where
-    pub outcome : loadOutcome other (loadResult written map′ entries′ scratch′) ≡ told shape Done
-    pub words : loadMap written map′ entries′ scratch′ ≡ map
-    pub sheets : loadEntries written map′ entries′ scratch′ ≡ entries
-    pub zeros : loadScratch written map′ entries′ scratch′ ≡ replicate (length scratch′) 0
+    pub outcome : loadOutcome other written map′ entries′ scratch′ ≡ told shape Done
+    pub words : loadMap other written map′ entries′ scratch′ ≡ map
+    pub sheets : loadEntries other written map′ entries′ scratch′ ≡ entries
+    pub zeros : loadScratch other written map′ entries′ scratch′ ≡ replicate (length scratch′) 0
 
-  pub saved-loads : Words map → saveOutcome shape (saveNumber (shape .blocks) (shape .free) map entries scratch buffer) ≡ told shape Done
+  pub saved-loads : Words map → saveOutcome shape map entries scratch buffer ≡ told shape Done
       → length map′ ≡ length map → length entries′ ≡ length entries → length scratch′ ≡ length map → LoadsBack
   saved-loads words e lm le ls =
-      let z = done-save shape (saveNumber (shape .blocks) (shape .free) map entries scratch buffer) (ap (λ (o : Outcome). isDone (o .answer)) e) in
+      let z = done-save shape (images.saveNumber (shape .blocks) (shape .free) map entries scratch buffer) (ap (λ (o : Outcome). isDone (o .answer)) e) in
       let g = journey.saved-loads (shape .blocks) (shape .free) map entries scratch buffer map′ entries′ scratch′ words z lm le ls in
-      record { outcome = ap (loadOutcome other) (g .result); words = g .words; sheets = g .sheets; zeros = g .zeros }
+      record { outcome = ap (handedBy other) (g .result); words = g .words; sheets = g .sheets; zeros = g .zeros }
 
 -- what a load gives, and the image that it was
 module _ (shape : Shape) (image map : List ℕ) (entries : List Entry) (scratch : List ℕ) (bytes : Bytes image) where
@@ -76,43 +78,56 @@ module _ (shape : Shape) (image map : List ℕ) (entries : List Entry) (scratch 
   given = loadResult image map entries scratch
 
   abbrev handed : Outcome
-  handed = loadOutcome shape given
+  handed = loadOutcome shape image map entries scratch
+
+  abbrev map′ : List ℕ
+  map′ = loadMap shape image map entries scratch
+
+  abbrev entries′ : List Entry
+  entries′ = loadEntries shape image map entries scratch
 
   same-shape : given .number ≡ 0 → handed .shape ≡ record { blocks = given .blocks; free = given .free }
   same-shape z = ap (λ (k : ℕ). cond (eqb k 0) (told (record { blocks = given .blocks; free = given .free }) Done) (told shape (Refused k)) .shape) z
 
-  pub loaded-only : isDone (handed .answer) ≡ true → imageOf (stateOf (handed .shape) (loadMap image map entries scratch) (loadEntries image map entries scratch)) ≡ image
+  pub loaded-only : isDone (handed .answer) ≡ true → imageOf (savedState (handed .shape) map′ entries′) ≡ image
   loaded-only d =
       let z = done-load shape given d in
-      ap (λ (s : Shape). imageOf (stateOf s (loadMap image map entries scratch) (loadEntries image map entries scratch))) (same-shape z) ∙ journey.loaded-only image map entries scratch bytes z
+      ap (λ (s : Shape). imageOf (savedState s map′ entries′)) (same-shape z) ∙ journey.loaded-only image map entries scratch bytes z
 
   -- a save of what was loaded is done, and writes the image again
-  pub loaded-saves : isDone (handed .answer) ≡ true → (other buffer : List ℕ) → length other ≡ length (loadMap image map entries scratch) → length buffer ≡ length image
-      → (saveOutcome (handed .shape) (saveNumber (handed .shape .blocks) (handed .shape .free) (loadMap image map entries scratch) (loadEntries image map entries scratch) other buffer) ≡ told (handed .shape) Done)
-      × (saveBuffer (handed .shape .blocks) (handed .shape .free) (loadMap image map entries scratch) (loadEntries image map entries scratch) other buffer ≡ image)
+  pub loaded-saves : isDone (handed .answer) ≡ true → (other buffer : List ℕ) → length other ≡ length map′ → length buffer ≡ length image
+      → (saveOutcome (handed .shape) map′ entries′ other buffer ≡ told (handed .shape) Done) × (saveImage (handed .shape) map′ entries′ other buffer ≡ image)
   loaded-saves d other buffer lo lb =
       let z = done-load shape given d in
       let again = journey.loaded-saves image map entries scratch bytes z other buffer lo lb in
-      subst (λ (s : Shape). (saveOutcome s (saveNumber (s .blocks) (s .free) (loadMap image map entries scratch) (loadEntries image map entries scratch) other buffer) ≡ told s Done)
-      × (saveBuffer (s .blocks) (s .free) (loadMap image map entries scratch) (loadEntries image map entries scratch) other buffer ≡ image))
-      (sym (same-shape z))
-      (ap (λ (k : ℕ). saveOutcome (record { blocks = given .blocks; free = given .free }) k) (again .0), again .1)
+      subst (λ (s : Shape). (saveOutcome s map′ entries′ other buffer ≡ told s Done) × (saveImage s map′ entries′ other buffer ≡ image)) (sym (same-shape z))
+      (ap (λ (k : ℕ). told (record { blocks = given .blocks; free = given .free }) (cond (eqb k 0) Done (Refused k))) (again .0), again .1)
 
 -- a refusal hands the shape back as it came and changes nothing but the scratch
 pub save-refused : (shape : Shape) (map : List ℕ) (entries : List Entry) (scratch buffer : List ℕ) (number : ℕ)
-    → saveVerdict (stateOf shape map entries) (length scratch) (length buffer) ≡ refused number
-    → (saveOutcome shape (saveNumber (shape .blocks) (shape .free) map entries scratch buffer) .shape ≡ shape) × (saveBuffer (shape .blocks) (shape .free) map entries scratch buffer ≡ buffer)
-unfolding saveBuffer
-save-refused shape map entries scratch buffer number v = (refl, ap (λ (w : Verdict). settle w (imageOf (stateOf shape map entries)) (λ k. buffer)) v)
+    → saveVerdict (savedState shape map entries) (length scratch) (length buffer) ≡ refused number
+    → (saveOutcome shape map entries scratch buffer ≡ told shape (Refused number)) × (saveImage shape map entries scratch buffer ≡ buffer)
+    × (saveScratch shape map entries scratch buffer ≡ replicate (length scratch) 0)
+unfolding images.saveNumber images.saveImage images.saveScratch
+save-refused shape map entries scratch buffer number v =
+    let some : eqb number 0 ≡ false =
+    ne-eqb number 0 (λ z. never-accepted number (sym v ∙ save-accepted (savedState shape map entries) (length scratch) (length buffer) (ap rowNumber v ∙ z))) in (
+      ap (λ (w : Verdict). told shape (cond (eqb (rowNumber w) 0) Done (Refused (rowNumber w)))) v
+          ∙ ap (λ (t : Bool). told shape (cond t Done (Refused number))) some,
+      ap (λ (w : Verdict). settle w (imageOf (savedState shape map entries)) (λ k. buffer)) v,
+      refl,
+    )
 
 pub load-refused : (shape : Shape) (image map : List ℕ) (entries : List Entry) (scratch : List ℕ) (number : ℕ) → loadVerdict image (length map) (length entries) (length scratch) ≡ refused number
-    → (loadOutcome shape (loadResult image map entries scratch) ≡ told shape (Refused number)) × (loadMap image map entries scratch ≡ map) × (loadEntries image map entries scratch ≡ entries)
-unfolding loadResult loadMap loadEntries
+    → (loadOutcome shape image map entries scratch ≡ told shape (Refused number)) × (loadMap shape image map entries scratch ≡ map) × (loadEntries shape image map entries scratch ≡ entries)
+    × (loadScratch shape image map entries scratch ≡ replicate (length scratch) 0)
+unfolding images.loadResult images.loadMap images.loadEntries images.loadScratch
 load-refused shape image map entries scratch number v =
     let some : eqb number 0 ≡ false =
     ne-eqb number 0 (λ z. never-accepted number (sym v ∙ load-accepted image (length map) (length entries) (length scratch) (ap rowNumber v ∙ z))) in (
-      ap (λ (w : Verdict). loadOutcome shape (settle w (record { number = 0; blocks = stateIn image .blocks; free = stateIn image .spare }) (λ k. record { number = k; blocks = 0; free = 0 }))) v
+      ap (λ (w : Verdict). handedBy shape (settle w (record { number = 0; blocks = stateIn image .blocks; free = stateIn image .spare }) (λ k. record { number = k; blocks = 0; free = 0 }))) v
           ∙ ap (λ (t : Bool). cond t (told (record { blocks = 0; free = 0 }) Done) (told shape (Refused number))) some,
       ap (λ (w : Verdict). settle w (stateIn image .map) (λ k. map)) v,
       ap (λ (w : Verdict). settle w (stateIn image .entries) (λ k. entries)) v,
+      refl,
     )

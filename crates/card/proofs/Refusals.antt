@@ -11,7 +11,7 @@ use Rattle.freemap.specs.Maps as maps
 use Rattle.freemap.specs.Maps.{marked}
 use Rattle.card_blocks.specs.Card.{blockOf, withBlock, zeroed}
 use Rattle.block.specs.Sealed.{sealed, payloadOf}
-use Rattle.catalogue.specs.Entries.{entryAt, slotAt, clearedIf}
+use Rattle.catalogue.specs.Entries.{entryAt, clearedIf}
 use Rattle.catalogue.specs.declared.Entry.{Entry}
 use Rattle.catalogue.proofs.Storing.{stored-back}
 use Rattle.calls.specs.Effects as effects
@@ -21,20 +21,15 @@ use Rattle.standings.specs.declared.Answer.{Answer}
 use Rattle.standings.specs.declared.Answer.the-variants.{Done, Start, Blank, Refused}
 use Rattle.calls.specs.declared.Out.{Out}
 use Rattle.card.specs.declared.Shape.{Shape}
-use Rattle.card.specs.Cores.{entryOf, outcomeOf, told, acceptedOf, freshOutcome, freshMap, reserveOut, reserveMap, reserveCard, growOut, growMap, growCard, putOutcome, putCard, completeOut, pauseOut, releaseOut, releaseMap, showOutcome, showBuffer}
+use Rattle.card.specs.Calls.{told, outcomeOf, isDone, freshOutcome, freshMap, freshEntries, reserveOutcome, reserveMap, reserveEntries, reserveCard, growOutcome, growMap, growEntries, growCard, putOutcome, putCard, completeOutcome, completeEntries, pauseOutcome, pauseEntries, releaseOutcome, releaseMap, releaseEntries, showOutcome, showBuffer}
 
--- a call that stores an entry: the shape and every entry are as they were
-pub record Unchanged (shape : Shape) (entries : List Entry) (sheet : ℕ) (answer : Answer) (out : Out) : Type 0 where
-  pub outcome : outcomeOf shape out ≡ told shape answer
-  pub catalogue : set entries sheet (entryOf out) ≡ entries
+-- a refused call hands back the free count and the entry that it was given: shape and entries are as they were
+handed-back : (shape : Shape) (entries : List Entry) (sheet : ℕ) (answer : Answer) (out : Out) → out ≡ effects.outOf (shape .free) (entryAt entries sheet) answer
+    → (outcomeOf shape out ≡ told shape answer) × (set entries sheet (out .entry) ≡ entries)
+handed-back shape entries sheet answer out e =
+    (ap (outcomeOf shape) e, ap (λ (o : Out). set entries sheet (o .entry)) e ∙ stored-back entries sheet)
 
-unchanged : (shape : Shape) (entries : List Entry) (sheet : ℕ) (answer : Answer) (out : Out) → out ≡ effects.outOf (shape .free) (entryAt entries sheet) answer → Unchanged shape entries sheet answer out
-unchanged shape entries sheet answer out e = record {
-  outcome = ap (outcomeOf shape) e;
-  catalogue = ap (λ (o : Out). set entries sheet (entryOf o)) e ∙ stored-back entries sheet;
-}
-
-module _ (shape : Shape) (map card : List ℕ) (entries : List Entry) (sheet number : ℕ) where
+module _ (shape : Shape) (map : List ℕ) (entries : List Entry) (card : List ℕ) (sheet number : ℕ) where
   abbrev n : ℕ
   n = shape .blocks
 
@@ -48,31 +43,41 @@ module _ (shape : Shape) (map card : List ℕ) (entries : List Entry) (sheet num
   e = entryAt entries sheet
 
   pub reserve-refused : (k : ℕ) → effects.reserveVerdict n free map card c e sheet k ≡ refused number
-      → Unchanged shape entries sheet (Refused number) (reserveOut shape map card (slotAt entries sheet) sheet k)
-      × (reserveMap shape map card (slotAt entries sheet) sheet k ≡ map) × (reserveCard shape map card (slotAt entries sheet) sheet k ≡ card)
+      → (reserveOutcome shape map entries card sheet k ≡ told shape (Refused number))
+      × (reserveMap shape map entries card sheet k ≡ map)
+      × (reserveEntries shape map entries card sheet k ≡ entries)
+      × (reserveCard shape map entries card sheet k ≡ card)
   unfolding effects.reserveOut effects.reserveMap effects.reserveCard
   reserve-refused k h =
-      let start : ℕ = effects.reserveStart n free map card c e sheet k in (
-        unchanged shape entries sheet (Refused number) _
-            (ap (λ (v : Verdict). settle v (effects.outOf (free - k) (effects.entryOf 0x4f start k) (Start start)) (effects.refusalOut free e)) h),
+      let start : ℕ = effects.reserveStart n free map card c e sheet k in
+      let back =
+      handed-back shape entries sheet (Refused number) _
+      (ap (λ (v : Verdict). settle v (effects.outOf (free - k) (effects.entryOf 0x4f start k) (Start start)) (effects.refusalOut free e)) h) in (
+        back .0,
         ap (λ (v : Verdict). settle v (marked map start k false) (λ number. map)) h,
+        back .1,
         ap (λ (v : Verdict). settle v (zeroed card start k) (λ number. card)) h,
       )
 
   pub grow-refused : (m : ℕ) → effects.growVerdict n free map card c e sheet m ≡ refused number
-      → Unchanged shape entries sheet (Refused number) (growOut shape map card (slotAt entries sheet) sheet m)
-      × (growMap shape map card (slotAt entries sheet) sheet m ≡ map) × (growCard shape map card (slotAt entries sheet) sheet m ≡ card)
+      → (growOutcome shape map entries card sheet m ≡ told shape (Refused number))
+      × (growMap shape map entries card sheet m ≡ map)
+      × (growEntries shape map entries card sheet m ≡ entries)
+      × (growCard shape map entries card sheet m ≡ card)
   unfolding effects.growOut effects.growMap effects.growCard
-  grow-refused m h = (
-    unchanged shape entries sheet (Refused number) _
-        (ap (λ (v : Verdict). settle v (effects.outOf (free - m) (effects.entryOf 0x4f (e .start) (e .length + m)) Done) (effects.refusalOut free e)) h),
-    ap (λ (v : Verdict). settle v (marked map (e .start + e .length) m false) (λ number. map)) h,
-    ap (λ (v : Verdict). settle v (zeroed card (e .start + e .length) m) (λ number. card)) h,
-  )
+  grow-refused m h =
+      let back =
+      handed-back shape entries sheet (Refused number) _
+      (ap (λ (v : Verdict). settle v (effects.outOf (free - m) (effects.entryOf 0x4f (e .start) (e .length + m)) Done) (effects.refusalOut free e)) h) in (
+        back .0,
+        ap (λ (v : Verdict). settle v (marked map (e .start + e .length) m false) (λ number. map)) h,
+        back .1,
+        ap (λ (v : Verdict). settle v (zeroed card (e .start + e .length) m) (λ number. card)) h,
+      )
 
   pub put-refused : (place : ℕ) (payload : List ℕ) → effects.putVerdict n free map card c e sheet place payload ≡ refused number
-      → (putOutcome shape map card (slotAt entries sheet) sheet place payload ≡ told shape (Refused number))
-      × (putCard shape map card (slotAt entries sheet) sheet place payload ≡ card)
+      → (putOutcome shape map entries card sheet place payload ≡ told shape (Refused number))
+      × (putCard shape map entries card sheet place payload ≡ card)
   unfolding effects.putAnswer effects.putCard
   put-refused place payload h = (
     ap (λ (v : Verdict). told shape (settle v Done Refused)) h,
@@ -81,29 +86,33 @@ module _ (shape : Shape) (map card : List ℕ) (entries : List Entry) (sheet num
 
   -- with 9 goes a place
   pub complete-refused : effects.completeVerdict n free map card c e sheet ≡ refused number
-      → Unchanged shape entries sheet (cond (eqb number 9) (Blank (effects.blankPlace n free map card c e sheet)) (Refused number)) (completeOut shape map card (slotAt entries sheet) sheet)
+      → (completeOutcome shape map entries card sheet ≡ told shape (cond (eqb number 9) (Blank (effects.blankPlace n free map card c e sheet)) (Refused number)))
+      × (completeEntries shape map entries card sheet ≡ entries)
   unfolding effects.completeOut
   complete-refused h =
       let place : ℕ = effects.blankPlace n free map card c e sheet in
-      unchanged shape entries sheet (cond (eqb number 9) (Blank place) (Refused number)) _
+      handed-back shape entries sheet (cond (eqb number 9) (Blank place) (Refused number)) _
       (ap (λ (v : Verdict). settle v (effects.outOf free (effects.entryOf 0x43 (e .start) (e .length)) Done) (λ k. effects.outOf free e (cond (eqb k 9) (Blank place) (Refused k)))) h)
 
-  pub pause-refused : effects.pauseVerdict n free map c e sheet ≡ refused number → Unchanged shape entries sheet (Refused number) (pauseOut shape map (slotAt entries sheet) sheet)
+  pub pause-refused : effects.pauseVerdict n free map c e sheet ≡ refused number
+      → (pauseOutcome shape map entries sheet ≡ told shape (Refused number)) × (pauseEntries shape map entries sheet ≡ entries)
   unfolding effects.pauseOut
   pause-refused h =
-      unchanged shape entries sheet (Refused number) _ (ap (λ (v : Verdict). settle v (effects.outOf free (effects.entryOf 0x50 0 0) Done) (effects.refusalOut free e)) h)
+      handed-back shape entries sheet (Refused number) _ (ap (λ (v : Verdict). settle v (effects.outOf free (effects.entryOf 0x50 0 0) Done) (effects.refusalOut free e)) h)
 
   pub release-refused : effects.releaseVerdict n free map c e sheet ≡ refused number
-      → Unchanged shape entries sheet (Refused number) (releaseOut shape map (slotAt entries sheet) sheet) × (releaseMap shape map (slotAt entries sheet) sheet ≡ map)
+      → (releaseOutcome shape map entries sheet ≡ told shape (Refused number))
+      × (releaseMap shape map entries sheet ≡ map)
+      × (releaseEntries shape map entries sheet ≡ entries)
   unfolding effects.releaseOut effects.releaseMap
-  release-refused h = (
-    unchanged shape entries sheet (Refused number) _ (ap (λ (v : Verdict). settle v (effects.outOf (free + e .length) (effects.entryOf 0x41 0 0) Done) (effects.refusalOut free e)) h),
-    ap (λ (v : Verdict). settle v (marked map (e .start) (e .length) true) (λ number. map)) h,
-  )
+  release-refused h =
+      let back =
+      handed-back shape entries sheet (Refused number) _ (ap (λ (v : Verdict). settle v (effects.outOf (free + e .length) (effects.entryOf 0x41 0 0) Done) (effects.refusalOut free e)) h) in
+      (back .0, ap (λ (v : Verdict). settle v (marked map (e .start) (e .length) true) (λ number. map)) h, back .1)
 
   pub show-refused : (place : ℕ) (buffer : List ℕ) → effects.showVerdict n free map card c e sheet place buffer ≡ refused number
-      → (showOutcome shape map card (slotAt entries sheet) sheet place buffer ≡ told shape (Refused number))
-      × (showBuffer shape map card (slotAt entries sheet) sheet place buffer ≡ buffer)
+      → (showOutcome shape map entries card sheet place buffer ≡ told shape (Refused number))
+      × (showBuffer shape map entries card sheet place buffer ≡ buffer)
   unfolding effects.showAnswer effects.showBuffer
   show-refused place buffer h = (
     ap (λ (v : Verdict). told shape (settle v Done Refused)) h,
@@ -112,10 +121,10 @@ module _ (shape : Shape) (map card : List ℕ) (entries : List Entry) (sheet num
 
 -- fresh too
 pub fresh-refused : (shape : Shape) (blocks : ℕ) (map : List ℕ) (entries : List Entry) → freshFits blocks (length map) (length entries) ≡ false
-    → (freshOutcome shape blocks map (length entries) ≡ told shape (Refused 1)) × (freshMap shape blocks map (length entries) ≡ map)
-    × (clearedIf entries (acceptedOf (freshOutcome shape blocks map (length entries))) ≡ entries)
+    → (freshOutcome shape blocks map entries ≡ told shape (Refused 1)) × (freshMap shape blocks map entries ≡ map)
+    × (freshEntries shape blocks map entries ≡ entries)
 fresh-refused shape blocks map entries e = (
   ap (λ (t : Bool). cond t (told (record { blocks = blocks; free = blocks }) Done) (told shape (Refused 1))) e,
   ap (λ (t : Bool). cond t (maps.freshMap blocks (length map)) map) e,
-  ap (λ (t : Bool). clearedIf entries (acceptedOf (cond t (told (record { blocks = blocks; free = blocks }) Done) (told shape (Refused 1))))) e,
+  ap (λ (t : Bool). clearedIf entries (isDone (cond t (told (record { blocks = blocks; free = blocks }) Done) (told shape (Refused 1)) .answer))) e,
 )

@@ -1,27 +1,56 @@
 -- What each public call hands back and leaves, of all its arguments in order: the contracts of `impl Shape`, of the C library
--- and of the ledger's steps are made of these. A call on a sheet finds its entry, leaves it to the core, and stores what the
--- core hands back.
+-- and of the ledger's steps are made of these. A call on a sheet finds the sheet's entry, does what the crate calls says of it,
+-- and stores the entry that it hands back.
 -- Assumes nothing.
+use mathlib.Core.Bool.{Bool, true, false, cond}
 use mathlib.Core.List.{List}
 use Prim.Native.Nat.{ℕ}
+use lib.Dec.{eqb}
 use lib.ListN.{length, set}
-use Rattle.catalogue.specs.Entries.{slotAt, clearedIf}
+use Rattle.freemap.specs.Maps as maps
+use Rattle.catalogue.specs.Entries.{entryAt, clearedIf}
 use Rattle.catalogue.specs.declared.Entry.{Entry}
-use Rattle.image.specs.Effects as images
+use Rattle.standings.specs.Limits.{freshFits}
+use Rattle.standings.specs.declared.Answer.{Answer}
+use Rattle.standings.specs.declared.Answer.the-variants.{Done, Start, Stands, Counted, Blank, Refused}
 use Rattle.whole_calls.specs.Answers as whole
-use Rattle.card.specs.Cores as cores
-use Rattle.card.specs.Cores.{told, entryOf, outcomeOf, acceptedOf}
+use Rattle.calls.specs.Effects as effects
+use Rattle.calls.specs.declared.Out.{Out}
+use Rattle.soundness.specs.Sound.{State}
+use Rattle.image.specs.Effects as images
+use Rattle.image.specs.declared.Loaded.{Loaded}
 use Rattle.card.specs.declared.Outcome.{Outcome}
 use Rattle.card.specs.declared.Shape.{Shape}
 
-abbrev pub freshOutcome : Shape → ℕ → List ℕ → List Entry → Outcome
-freshOutcome shape blocks map entries = cores.freshOutcome shape blocks map (length entries)
+-- The shape as it came, and an answer.
+abbrev pub told : Shape → Answer → Outcome
+told shape answer = record { shape = shape; answer = answer }
 
-abbrev pub freshMap : Shape → ℕ → List ℕ → List Entry → List ℕ
-freshMap shape blocks map entries = cores.freshMap shape blocks map (length entries)
+-- The shape with the changed free count, and the answer.
+abbrev pub outcomeOf : Shape → Out → Outcome
+outcomeOf shape out = record { shape = record { blocks = shape .blocks; free = out .free }; answer = out .answer }
 
-abbrev pub freshEntries : Shape → ℕ → List ℕ → List Entry → List Entry
-freshEntries shape blocks map entries = clearedIf entries (acceptedOf (freshOutcome shape blocks map entries))
+abbrev pub isDone : Answer → Bool
+isDone Done = true
+isDone (Start s) = false
+isDone (Stands m s l) = false
+isDone (Counted f r l) = false
+isDone (Blank p) = false
+isDone (Refused k) = false
+
+-- ---- the whole card
+
+-- Fresh reads nothing of the shape it takes.
+module _ (shape : Shape) (blocks : ℕ) (map : List ℕ) (entries : List Entry) where
+  abbrev pub freshOutcome : Outcome
+  freshOutcome =
+      cond (freshFits blocks (length map) (length entries)) (told (record { blocks = blocks; free = blocks }) Done) (told shape (Refused 1))
+
+  abbrev pub freshMap : List ℕ
+  freshMap = cond (freshFits blocks (length map) (length entries)) (maps.freshMap blocks (length map)) map
+
+  abbrev pub freshEntries : List Entry
+  freshEntries = clearedIf entries (isDone (freshOutcome .answer))
 
 abbrev pub searchOutcome : Shape → List ℕ → ℕ → Outcome
 searchOutcome shape map k = told shape (whole.searchAnswer (shape .blocks) (shape .free) map k)
@@ -29,83 +58,123 @@ searchOutcome shape map k = told shape (whole.searchAnswer (shape .blocks) (shap
 abbrev pub surveyOutcome : Shape → List ℕ → Outcome
 surveyOutcome shape map = told shape (whole.surveyAnswer (shape .blocks) (shape .free) map)
 
-abbrev pub reserveOutcome : Shape → List ℕ → List Entry → List ℕ → ℕ → ℕ → Outcome
-reserveOutcome shape map entries card sheet k = outcomeOf shape (cores.reserveOut shape map card (slotAt entries sheet) sheet k)
+-- ---- a sheet, with the card
 
-abbrev pub reserveMap : Shape → List ℕ → List Entry → List ℕ → ℕ → ℕ → List ℕ
-reserveMap shape map entries card sheet k = cores.reserveMap shape map card (slotAt entries sheet) sheet k
+module _ (shape : Shape) (map : List ℕ) (entries : List Entry) (card : List ℕ) (sheet : ℕ) where
+  abbrev reserveOut : ℕ → Out
+  reserveOut k = effects.reserveOut (shape .blocks) (shape .free) map card (length entries) (entryAt entries sheet) sheet k
 
-abbrev pub reserveEntries : Shape → List ℕ → List Entry → List ℕ → ℕ → ℕ → List Entry
-reserveEntries shape map entries card sheet k = set entries sheet (entryOf (cores.reserveOut shape map card (slotAt entries sheet) sheet k))
+  abbrev pub reserveOutcome : ℕ → Outcome
+  reserveOutcome k = outcomeOf shape (reserveOut k)
 
-abbrev pub reserveCard : Shape → List ℕ → List Entry → List ℕ → ℕ → ℕ → List ℕ
-reserveCard shape map entries card sheet k = cores.reserveCard shape map card (slotAt entries sheet) sheet k
+  abbrev pub reserveMap : ℕ → List ℕ
+  reserveMap k = effects.reserveMap (shape .blocks) (shape .free) map card (length entries) (entryAt entries sheet) sheet k
 
-abbrev pub growOutcome : Shape → List ℕ → List Entry → List ℕ → ℕ → ℕ → Outcome
-growOutcome shape map entries card sheet m = outcomeOf shape (cores.growOut shape map card (slotAt entries sheet) sheet m)
+  abbrev pub reserveEntries : ℕ → List Entry
+  reserveEntries k = set entries sheet (reserveOut k .entry)
 
-abbrev pub growMap : Shape → List ℕ → List Entry → List ℕ → ℕ → ℕ → List ℕ
-growMap shape map entries card sheet m = cores.growMap shape map card (slotAt entries sheet) sheet m
+  abbrev pub reserveCard : ℕ → List ℕ
+  reserveCard k = effects.reserveCard (shape .blocks) (shape .free) map card (length entries) (entryAt entries sheet) sheet k
 
-abbrev pub growEntries : Shape → List ℕ → List Entry → List ℕ → ℕ → ℕ → List Entry
-growEntries shape map entries card sheet m = set entries sheet (entryOf (cores.growOut shape map card (slotAt entries sheet) sheet m))
+  abbrev growOut : ℕ → Out
+  growOut m = effects.growOut (shape .blocks) (shape .free) map card (length entries) (entryAt entries sheet) sheet m
 
-abbrev pub growCard : Shape → List ℕ → List Entry → List ℕ → ℕ → ℕ → List ℕ
-growCard shape map entries card sheet m = cores.growCard shape map card (slotAt entries sheet) sheet m
+  abbrev pub growOutcome : ℕ → Outcome
+  growOutcome m = outcomeOf shape (growOut m)
 
-abbrev pub putOutcome : Shape → List ℕ → List Entry → List ℕ → ℕ → ℕ → List ℕ → Outcome
-putOutcome shape map entries card sheet place payload = cores.putOutcome shape map card (slotAt entries sheet) sheet place payload
+  abbrev pub growMap : ℕ → List ℕ
+  growMap m = effects.growMap (shape .blocks) (shape .free) map card (length entries) (entryAt entries sheet) sheet m
 
-abbrev pub putCard : Shape → List ℕ → List Entry → List ℕ → ℕ → ℕ → List ℕ → List ℕ
-putCard shape map entries card sheet place payload = cores.putCard shape map card (slotAt entries sheet) sheet place payload
+  abbrev pub growEntries : ℕ → List Entry
+  growEntries m = set entries sheet (growOut m .entry)
 
-abbrev pub completeOutcome : Shape → List ℕ → List Entry → List ℕ → ℕ → Outcome
-completeOutcome shape map entries card sheet = outcomeOf shape (cores.completeOut shape map card (slotAt entries sheet) sheet)
+  abbrev pub growCard : ℕ → List ℕ
+  growCard m = effects.growCard (shape .blocks) (shape .free) map card (length entries) (entryAt entries sheet) sheet m
 
-abbrev pub completeEntries : Shape → List ℕ → List Entry → List ℕ → ℕ → List Entry
-completeEntries shape map entries card sheet = set entries sheet (entryOf (cores.completeOut shape map card (slotAt entries sheet) sheet))
+  abbrev pub putOutcome : ℕ → List ℕ → Outcome
+  putOutcome place payload =
+      told shape (effects.putAnswer (shape .blocks) (shape .free) map card (length entries) (entryAt entries sheet) sheet place payload)
 
-abbrev pub pauseOutcome : Shape → List ℕ → List Entry → ℕ → Outcome
-pauseOutcome shape map entries sheet = outcomeOf shape (cores.pauseOut shape map (slotAt entries sheet) sheet)
+  abbrev pub putCard : ℕ → List ℕ → List ℕ
+  putCard place payload = effects.putCard (shape .blocks) (shape .free) map card (length entries) (entryAt entries sheet) sheet place payload
 
-abbrev pub pauseEntries : Shape → List ℕ → List Entry → ℕ → List Entry
-pauseEntries shape map entries sheet = set entries sheet (entryOf (cores.pauseOut shape map (slotAt entries sheet) sheet))
+  abbrev completeOut : Out
+  completeOut = effects.completeOut (shape .blocks) (shape .free) map card (length entries) (entryAt entries sheet) sheet
 
-abbrev pub releaseOutcome : Shape → List ℕ → List Entry → ℕ → Outcome
-releaseOutcome shape map entries sheet = outcomeOf shape (cores.releaseOut shape map (slotAt entries sheet) sheet)
+  abbrev pub completeOutcome : Outcome
+  completeOutcome = outcomeOf shape completeOut
 
-abbrev pub releaseMap : Shape → List ℕ → List Entry → ℕ → List ℕ
-releaseMap shape map entries sheet = cores.releaseMap shape map (slotAt entries sheet) sheet
+  abbrev pub completeEntries : List Entry
+  completeEntries = set entries sheet (completeOut .entry)
 
-abbrev pub releaseEntries : Shape → List ℕ → List Entry → ℕ → List Entry
-releaseEntries shape map entries sheet = set entries sheet (entryOf (cores.releaseOut shape map (slotAt entries sheet) sheet))
+  abbrev pub showOutcome : ℕ → List ℕ → Outcome
+  showOutcome place buffer =
+      told shape (effects.showAnswer (shape .blocks) (shape .free) map card (length entries) (entryAt entries sheet) sheet place buffer)
 
-abbrev pub showOutcome : Shape → List ℕ → List Entry → List ℕ → ℕ → ℕ → List ℕ → Outcome
-showOutcome shape map entries card sheet place buffer = cores.showOutcome shape map card (slotAt entries sheet) sheet place buffer
+  abbrev pub showBuffer : ℕ → List ℕ → List ℕ
+  showBuffer place buffer = effects.showBuffer (shape .blocks) (shape .free) map card (length entries) (entryAt entries sheet) sheet place buffer
 
-abbrev pub showBuffer : Shape → List ℕ → List Entry → List ℕ → ℕ → ℕ → List ℕ → List ℕ
-showBuffer shape map entries card sheet place buffer = cores.showBuffer shape map card (slotAt entries sheet) sheet place buffer
+-- ---- a sheet, without the card
 
-abbrev pub standingOutcome : Shape → List ℕ → List Entry → ℕ → Outcome
-standingOutcome shape map entries sheet = cores.standingOutcome shape map (slotAt entries sheet) sheet
+module _ (shape : Shape) (map : List ℕ) (entries : List Entry) (sheet : ℕ) where
+  abbrev pauseOut : Out
+  pauseOut = effects.pauseOut (shape .blocks) (shape .free) map (length entries) (entryAt entries sheet) sheet
 
-abbrev pub saveOutcome : Shape → List ℕ → List Entry → List ℕ → List ℕ → Outcome
-saveOutcome shape map entries scratch image = cores.saveOutcome shape (images.saveNumber (shape .blocks) (shape .free) map entries scratch image)
+  abbrev pub pauseOutcome : Outcome
+  pauseOutcome = outcomeOf shape pauseOut
 
-abbrev pub saveScratch : Shape → List ℕ → List Entry → List ℕ → List ℕ → List ℕ
-saveScratch shape map entries scratch image = images.saveScratch (shape .blocks) (shape .free) map entries scratch image
+  abbrev pub pauseEntries : List Entry
+  pauseEntries = set entries sheet (pauseOut .entry)
 
-abbrev pub saveImage : Shape → List ℕ → List Entry → List ℕ → List ℕ → List ℕ
-saveImage shape map entries scratch image = images.saveBuffer (shape .blocks) (shape .free) map entries scratch image
+  abbrev releaseOut : Out
+  releaseOut = effects.releaseOut (shape .blocks) (shape .free) map (length entries) (entryAt entries sheet) sheet
 
-abbrev pub loadOutcome : Shape → List ℕ → List ℕ → List Entry → List ℕ → Outcome
-loadOutcome shape image map entries scratch = cores.loadOutcome shape (images.loadResult image map entries scratch)
+  abbrev pub releaseOutcome : Outcome
+  releaseOutcome = outcomeOf shape releaseOut
 
-abbrev pub loadMap : Shape → List ℕ → List ℕ → List Entry → List ℕ → List ℕ
-loadMap shape image map entries scratch = images.loadMap image map entries scratch
+  abbrev pub releaseMap : List ℕ
+  releaseMap = effects.releaseMap (shape .blocks) (shape .free) map (length entries) (entryAt entries sheet) sheet
 
-abbrev pub loadEntries : Shape → List ℕ → List ℕ → List Entry → List ℕ → List Entry
-loadEntries shape image map entries scratch = images.loadEntries image map entries scratch
+  abbrev pub releaseEntries : List Entry
+  releaseEntries = set entries sheet (releaseOut .entry)
 
-abbrev pub loadScratch : Shape → List ℕ → List ℕ → List Entry → List ℕ → List ℕ
-loadScratch shape image map entries scratch = images.loadScratch image map entries scratch
+  abbrev pub standingOutcome : Outcome
+  standingOutcome = told shape (effects.standingAnswer (shape .blocks) (shape .free) map (length entries) (entryAt entries sheet) sheet)
+
+-- ---- the saved image
+
+-- The state that a save is of.
+abbrev pub savedState : Shape → List ℕ → List Entry → State
+savedState shape map entries = record { blocks = shape .blocks; spare = shape .free; entries = entries; map = map }
+
+-- Save hands the shape back as it came: the number 0 says that it was done.
+module _ (shape : Shape) (map : List ℕ) (entries : List Entry) (scratch image : List ℕ) where
+  abbrev saveNumber : ℕ
+  saveNumber = images.saveNumber (shape .blocks) (shape .free) map entries scratch image
+
+  abbrev pub saveOutcome : Outcome
+  saveOutcome = told shape (cond (eqb saveNumber 0) Done (Refused saveNumber))
+
+  abbrev pub saveScratch : List ℕ
+  saveScratch = images.saveScratch (shape .blocks) (shape .free) map entries scratch image
+
+  abbrev pub saveImage : List ℕ
+  saveImage = images.saveImage (shape .blocks) (shape .free) map entries scratch image
+
+-- Load reads nothing of the shape it takes: it hands back the image's n and free count, or, refused, the shape as it came.
+module _ (shape : Shape) (image map : List ℕ) (entries : List Entry) (scratch : List ℕ) where
+  abbrev loaded : Loaded
+  loaded = images.loadResult image map entries scratch
+
+  abbrev pub loadOutcome : Outcome
+  loadOutcome =
+      cond (eqb (loaded .number) 0) (told (record { blocks = loaded .blocks; free = loaded .free }) Done) (told shape (Refused (loaded .number)))
+
+  abbrev pub loadMap : List ℕ
+  loadMap = images.loadMap image map entries scratch
+
+  abbrev pub loadEntries : List Entry
+  loadEntries = images.loadEntries image map entries scratch
+
+  abbrev pub loadScratch : List ℕ
+  loadScratch = images.loadScratch image map entries scratch

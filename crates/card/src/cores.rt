@@ -1,7 +1,8 @@
 // The cores of the calls: on an entry by value and plain slices, with the shape taken apart for the crates below. Every
 // decision of a call is here or below; the methods of `Shape` only find the entry and store it.
 ghost use mathlib.Core.Path.{_≡_};
-ghost use Rattle.card.specs.Cores.{entryOf, outcomeOf, acceptedOf, freshOutcome, freshMap, reserveOut, reserveMap, reserveCard, growOut, growMap, growCard, putOutcome, putCard, completeOut, pauseOut, releaseOut, releaseMap, showOutcome, showBuffer, standingOutcome, blocksOf, freeOf, saveOutcome, loadOutcome};
+ghost use Rattle.card.specs.Calls.{outcomeOf};
+ghost use Rattle.card.specs.Cores.{entryLeft, acceptedOf, freshOutcomeBy, freshMapBy, reserveOutAt, reserveMapAt, reserveCardAt, growOutAt, growMapAt, growCardAt, putOutcomeAt, putCardAt, completeOutAt, pauseOutAt, releaseOutAt, releaseMapAt, showOutcomeAt, showBufferAt, standingOutcomeAt, blocksOf, freeOf, saveOutcomeBy, loadOutcomeBy};
 use crate::Outcome;
 use crate::Shape;
 use calls::Out;
@@ -11,7 +12,7 @@ use image::Loaded;
 use standings::Answer;
 
 pub fn entry_of(out: Out) -> Entry
-    ensures { λ r. ⌜ r ≡ entryOf out ⌝ }
+    ensures { λ r. ⌜ r ≡ entryLeft out ⌝ }
 {
     out.entry
 }
@@ -46,7 +47,7 @@ pub fn accepted_of(outcome: Outcome) -> bool
 // The cores: each takes the shape and the slot apart.
 
 pub fn fresh_core(shape: Shape, blocks: u32, map: &mut [u64], count: usize) -> Outcome
-    ensures { λ r. ⌜ (r ≡ freshOutcome shape blocks (now (map .entry)) count) × (now (map .exit) ≡ freshMap shape blocks (now (map .entry)) count) ⌝ }
+    ensures { λ r. ⌜ (r ≡ freshOutcomeBy shape blocks (now (map .entry)) count) × (now (map .exit) ≡ freshMapBy shape blocks (now (map .entry)) count) ⌝ }
 {
     if whole_calls::fresh(blocks, map, count) {
         return Outcome {
@@ -71,9 +72,9 @@ pub fn reserve_core(
     sheet: u32,
     k: u32,
 ) -> Out
-    ensures { λ r. ⌜ (r ≡ reserveOut shape (now (map .entry)) (now (card .entry)) slot sheet k)
-        × (now (map .exit) ≡ reserveMap shape (now (map .entry)) (now (card .entry)) slot sheet k)
-        × (now (card .exit) ≡ reserveCard shape (now (map .entry)) (now (card .entry)) slot sheet k) ⌝ }
+    ensures { λ r. ⌜ (r ≡ reserveOutAt shape (now (map .entry)) (now (card .entry)) slot sheet k)
+        × (now (map .exit) ≡ reserveMapAt shape (now (map .entry)) (now (card .entry)) slot sheet k)
+        × (now (card .exit) ≡ reserveCardAt shape (now (map .entry)) (now (card .entry)) slot sheet k) ⌝ }
 {
     let entry = slot.entry;
     taking::reserve::reserve(
@@ -96,9 +97,9 @@ pub fn grow_core(
     sheet: u32,
     m: u32,
 ) -> Out
-    ensures { λ r. ⌜ (r ≡ growOut shape (now (map .entry)) (now (card .entry)) slot sheet m)
-        × (now (map .exit) ≡ growMap shape (now (map .entry)) (now (card .entry)) slot sheet m)
-        × (now (card .exit) ≡ growCard shape (now (map .entry)) (now (card .entry)) slot sheet m) ⌝ }
+    ensures { λ r. ⌜ (r ≡ growOutAt shape (now (map .entry)) (now (card .entry)) slot sheet m)
+        × (now (map .exit) ≡ growMapAt shape (now (map .entry)) (now (card .entry)) slot sheet m)
+        × (now (card .exit) ≡ growCardAt shape (now (map .entry)) (now (card .entry)) slot sheet m) ⌝ }
 {
     let entry = slot.entry;
     taking::grow::grow(
@@ -122,8 +123,8 @@ pub fn put_core(
     place: u32,
     payload: &[u8],
 ) -> Outcome
-    ensures { λ r. ⌜ (r ≡ putOutcome shape (now (map .entry)) (now (card .entry)) slot sheet place (now (payload .entry)))
-        × (now (card .exit) ≡ putCard shape (now (map .entry)) (now (card .entry)) slot sheet place (now (payload .entry))) ⌝ }
+    ensures { λ r. ⌜ (r ≡ putOutcomeAt shape (now (map .entry)) (now (card .entry)) slot sheet place (now (payload .entry)))
+        × (now (card .exit) ≡ putCardAt shape (now (map .entry)) (now (card .entry)) slot sheet place (now (payload .entry))) ⌝ }
 {
     let entry = slot.entry;
     let answer = filling::put::put(
@@ -144,7 +145,7 @@ pub fn put_core(
 }
 
 pub fn complete_core(shape: Shape, map: &[u64], card: &[u8], slot: Slot, sheet: u32) -> Out
-    ensures { λ r. ⌜ r ≡ completeOut shape (now (map .entry)) (now (card .entry)) slot sheet ⌝ }
+    ensures { λ r. ⌜ r ≡ completeOutAt shape (now (map .entry)) (now (card .entry)) slot sheet ⌝ }
 {
     let entry = slot.entry;
     filling::complete::complete(
@@ -159,14 +160,14 @@ pub fn complete_core(shape: Shape, map: &[u64], card: &[u8], slot: Slot, sheet: 
 }
 
 pub fn pause_core(shape: Shape, map: &[u64], slot: Slot, sheet: u32) -> Out
-    ensures { λ r. ⌜ r ≡ pauseOut shape (now (map .entry)) slot sheet ⌝ }
+    ensures { λ r. ⌜ r ≡ pauseOutAt shape (now (map .entry)) slot sheet ⌝ }
 {
     let entry = slot.entry;
     ending::pause::pause(shape.blocks, shape.free, map, slot.count, entry, sheet)
 }
 
 pub fn release_core(shape: Shape, map: &mut [u64], slot: Slot, sheet: u32) -> Out
-    ensures { λ r. ⌜ (r ≡ releaseOut shape (now (map .entry)) slot sheet) × (now (map .exit) ≡ releaseMap shape (now (map .entry)) slot sheet) ⌝ }
+    ensures { λ r. ⌜ (r ≡ releaseOutAt shape (now (map .entry)) slot sheet) × (now (map .exit) ≡ releaseMapAt shape (now (map .entry)) slot sheet) ⌝ }
 {
     let entry = slot.entry;
     ending::release::release(shape.blocks, shape.free, map, slot.count, entry, sheet)
@@ -181,8 +182,8 @@ pub fn show_core(
     place: u32,
     buffer: &mut [u8],
 ) -> Outcome
-    ensures { λ r. ⌜ (r ≡ showOutcome shape (now (map .entry)) (now (card .entry)) slot sheet place (now (buffer .entry)))
-        × (now (buffer .exit) ≡ showBuffer shape (now (map .entry)) (now (card .entry)) slot sheet place (now (buffer .entry))) ⌝ }
+    ensures { λ r. ⌜ (r ≡ showOutcomeAt shape (now (map .entry)) (now (card .entry)) slot sheet place (now (buffer .entry)))
+        × (now (buffer .exit) ≡ showBufferAt shape (now (map .entry)) (now (card .entry)) slot sheet place (now (buffer .entry))) ⌝ }
 {
     let entry = slot.entry;
     let answer = telling::show::show(
@@ -203,7 +204,7 @@ pub fn show_core(
 }
 
 pub fn standing_core(shape: Shape, map: &[u64], slot: Slot, sheet: u32) -> Outcome
-    ensures { λ r. ⌜ r ≡ standingOutcome shape (now (map .entry)) slot sheet ⌝ }
+    ensures { λ r. ⌜ r ≡ standingOutcomeAt shape (now (map .entry)) slot sheet ⌝ }
 {
     let entry = slot.entry;
     let answer = telling::standing::standing(
@@ -235,7 +236,7 @@ pub fn free_of(shape: Shape) -> u32
 }
 
 pub fn save_outcome(shape: Shape, number: u32) -> Outcome
-    ensures { λ r. ⌜ r ≡ saveOutcome shape number ⌝ }
+    ensures { λ r. ⌜ r ≡ saveOutcomeBy shape number ⌝ }
 {
     if number == 0 {
         return Outcome {
@@ -250,7 +251,7 @@ pub fn save_outcome(shape: Shape, number: u32) -> Outcome
 }
 
 pub fn load_outcome(shape: Shape, loaded: Loaded) -> Outcome
-    ensures { λ r. ⌜ r ≡ loadOutcome shape loaded ⌝ }
+    ensures { λ r. ⌜ r ≡ loadOutcomeBy shape loaded ⌝ }
 {
     if loaded.number == 0 {
         return Outcome {

@@ -27,7 +27,7 @@ use Rattle.soundness.specs.Sound.{State, sound, undamaged}
 use Rattle.soundness.proofs.Covers.{head-undamaged, tail-undamaged}
 use Rattle.soundness.proofs.Damage.{extent-inside, mark-small}
 use Rattle.soundness.proofs.WhenSound.{Sound, sound-to}
-use Rattle.image.specs.Effects.{rowNumber, lentState, saveNumber, saveBuffer, loadResult, loadMap, loadEntries, loadScratch}
+use Rattle.image.specs.Effects.{rowNumber, lentState, saveNumber, saveImage, loadResult, loadMap, loadEntries, loadScratch}
 use Rattle.image.specs.Image.{wordsFor, contentLength, framesFor, entryBytes, body, imageOf, entriesAt, blocksIn, spareIn, sheetsIn, entriesIn, mapIn, stateIn, filled}
 use Rattle.image.specs.Table.{saveFits, saveVerdict, wholeBlocks, headFits, loadFits, loadVerdict}
 use Rattle.image.specs.declared.Loaded.{Loaded}

@@ -13,7 +13,7 @@ use Rattle.standings.specs.Rows.{Verdict, accepted, refused, settle}
 use Rattle.catalogue.specs.declared.Entry.{Entry}
 use Rattle.frames.specs.Frames.{Bytes, totalOf}
 use Rattle.soundness.specs.Sound.{State, sound}
-use Rattle.image.specs.Effects.{rowNumber, saveNumber, saveBuffer, loadResult, loadMap, loadEntries, loadScratch}
+use Rattle.image.specs.Effects.{rowNumber, saveNumber, saveImage, loadResult, loadMap, loadEntries, loadScratch}
 use Rattle.image.specs.Image.{wordsFor, framesFor, imageOf, blocksIn, spareIn, sheetsIn, stateIn}
 use Rattle.image.specs.Table.{saveFits, saveVerdict, loadVerdict}
 use Rattle.image.specs.declared.Loaded.{Loaded}
@@ -59,8 +59,8 @@ module _ (image map : List ℕ) (entries : List Entry) (scratch : List ℕ) wher
 -- what was saved is loaded back
 module _ (n spare : ℕ) (map : List ℕ) (entries : List Entry) (scratch buffer map′ : List ℕ) (entries′ : List Entry) (scratch′ : List ℕ) where
   pub saved-loads : Words map → saveNumber n spare map entries scratch buffer ≡ 0 → length map′ ≡ length map → length entries′ ≡ length entries → length scratch′ ≡ length map
-      → Gives n spare map entries (saveBuffer n spare map entries scratch buffer) map′ entries′ scratch′
-  unfolding saveNumber saveBuffer
+      → Gives n spare map entries (saveImage n spare map entries scratch buffer) map′ entries′ scratch′
+  unfolding saveNumber saveImage
   saved-loads words e lm le ls =
       let s : State = state n spare entries map in
       let v : saveVerdict s (length scratch) (length buffer) ≡ accepted = save-accepted s (length scratch) (length buffer) e in
@@ -92,8 +92,8 @@ module _ (image map : List ℕ) (entries : List Entry) (scratch : List ℕ) (byt
 
   -- a save of it is accepted, and writes the image again
   pub loaded-saves : (other buffer : List ℕ) → length other ≡ length (given .map) → length buffer ≡ length image
-      → (saveNumber (given .blocks) (given .spare) (given .map) (given .entries) other buffer ≡ 0) × (saveBuffer (given .blocks) (given .spare) (given .map) (given .entries) other buffer ≡ image)
-  unfolding saveNumber saveBuffer
+      → (saveNumber (given .blocks) (given .spare) (given .map) (given .entries) other buffer ≡ 0) × (saveImage (given .blocks) (given .spare) (given .map) (given .entries) other buffer ≡ image)
+  unfolding saveNumber saveImage
   loaded-saves other buffer lo lb =
       let v = accepts (length other) (length buffer) lo lb in
       (ap rowNumber v, ap (λ (w : Verdict). settle w (imageOf given) (λ number. buffer)) v ∙ loaded-only)

@@ -32,12 +32,12 @@ module _ (n spare : ℕ) (map : List ℕ) (entries : List Entry) (scratch buffer
   unfoldable pub saveScratch : List ℕ
   saveScratch = zerosFor scratch
 
-  unfoldable pub saveBuffer : List ℕ
+  unfoldable pub saveImage : List ℕ
   unfolding saveVerdict
-  saveBuffer = settle (saveVerdict lentState (length scratch) (length buffer)) (imageOf lentState) (λ number. buffer)
+  saveImage = settle (saveVerdict lentState (length scratch) (length buffer)) (imageOf lentState) (λ number. buffer)
 
   abbrev pub Saves : ℕ → List ℕ → List ℕ → Type 0
-  Saves r scratch′ buffer′ = (r ≡ saveNumber) × (scratch′ ≡ saveScratch) × (buffer′ ≡ saveBuffer)
+  Saves r scratch′ buffer′ = (r ≡ saveNumber) × (scratch′ ≡ saveScratch) × (buffer′ ≡ saveImage)
 
 -- Load, of an image into a map, a catalogue and a scratch.
 module _ (image map : List ℕ) (entries : List Entry) (scratch : List ℕ) where

@@ -29,7 +29,7 @@ use Rattle.catalogue.specs.declared.Entry.{Entry}
 use Rattle.standings.specs.Answers.{numberOf}
 use Rattle.standings.specs.Limits.{freshFits, shapeFits, sheetsFit}
 use Rattle.standings.specs.declared.Answer.the-variants.{Done, Refused}
-use Rattle.card.specs.Cores.{told, acceptedOf}
+use Rattle.card.specs.Calls.{told, isDone}
 use Rattle.card.specs.declared.Shape.{Shape}
 use Rattle.card.specs.declared.Outcome.{Outcome}
 use Rattle.card.proofs.Shape.fresh as fresh-method
@@ -207,7 +207,7 @@ module _ (shape : Shape) (n : ℕ) (map : List ℕ) (entries : List Entry) (r : 
               ∙ ap (maps.freshMap n) (eqb-true (length map) ((n + 63) / 64) (and-right (leb 1 n && leb n 262144 && leb n n) _ fits))
 
           stored : entries′ ≡ replicate (length entries) absent
-          stored = h .2 ∙ ap (λ (t : Bool). clearedIf entries (acceptedOf (cond t (told (record { blocks = n; free = n }) Done) (told shape (Refused 1))))) e
+          stored = h .2 ∙ ap (λ (t : Bool). clearedIf entries (isDone (cond t (told (record { blocks = n; free = n }) Done) (told shape (Refused 1)) .answer))) e
       go false e =
           let one : numberOf (r .answer) ≡ 1 =
           ap (λ (x : Outcome). numberOf (x .answer)) (h .0) ∙ ap {B = ℕ} (λ (t : Bool). numberOf (cond t (told (record { blocks = n; free = n }) Done) (told shape (Refused 1)) .answer)) e in

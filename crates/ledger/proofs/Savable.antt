@@ -1,7 +1,7 @@
 -- Every state that a list of calls from a fresh card leaves is sound (document 01, "Saved image"), so that it can be saved:
 -- `every-list-sound` and `every-list-saves`.
 -- Assumes nothing.
-use Prim.Native.Nat.{ℕ, zero, suc, _+_, _-_, _*_, _≤_, _<_}
+use Prim.Native.Nat.{ℕ, suc, _+_, _-_, _*_, _≤_, _<_}
 use mathlib.Core.Path.{_≡_, refl, sym, ap, subst, _∙_}
 use mathlib.Core.Bool.{Bool, true, false, cond, not, _&&_}
 use mathlib.Core.List.{List, [], _∷_, map}
@@ -9,7 +9,7 @@ use native.Mathlib.Omega.{arith}
 use lib.Dec.{eqb, leb}
 use lib.ListN.{length}
 use borrow.Author.Tests.{le-leb, lt-ltb, le-ltb, eq-eqb}
-use Rattle.freemap.specs.Blocks.{free, all}
+use Rattle.freemap.specs.Blocks.{free}
 use Rattle.freemap.specs.Maps.{inState}
 use Rattle.freemap.proofs.Bools.{and-both}
 use Rattle.freemap.proofs.Runs.{all-intro}
@@ -24,14 +24,10 @@ use Rattle.image.specs.Image.{framesFor}
 use Rattle.image.specs.Table.{saveFits, saveRows, saveVerdict}
 use Rattle.ledger.specs.Ledger.{Sheet, sheetAt, covers, cover, freeIn, spareIn, after, begun}
 use Rattle.ledger.specs.Claim.{entryIn}
-use Rattle.ledger.specs.Steps.{State, Reply, Runs, freshState}
+use Rattle.ledger.specs.Steps.{State, Reply, Runs, freshState, savedOf}
 use Rattle.ledger.proofs.Agreement.{mapIn, stateOf, Kept, entry-at, free-map, shape-fits, sheets-fit, stands-same}
 use Rattle.ledger.proofs.Demand.{Left, lists, kept-begun, state-begun}
 use Rattle.ledger.proofs.Listed.{undamaged}
-
--- What save is lent of a state.
-abbrev pub savedOf : State → saved.State
-savedOf t = record { blocks = t .shape .blocks; spare = t .shape .free; entries = t .entries; map = t .map }
 
 all-undamaged : (n : ℕ) (f : ℕ → Bool) (l : List Sheet) → ((i : ℕ) → i < length l → isDamaged (standingOf n f (entryIn (sheetAt l i))) ≡ false)
     → saved.undamaged n f (map entryIn l) ≡ true

@@ -12,7 +12,8 @@ use Rattle.catalogue.specs.declared.Entry.{Entry}
 use Rattle.standings.specs.Answers.{numberOf, valuesOf}
 use Rattle.calls.specs.Table.{Call, reserve, put, grow, complete, pause, release, show, standing}
 use Rattle.standings.specs.declared.Answer.{Answer}
-use Rattle.card.specs.Calls.{freshOutcome, freshMap, freshEntries, reserveOutcome, reserveMap, reserveEntries, reserveCard, growOutcome, growMap, growEntries, growCard, putOutcome, putCard, completeOutcome, completeEntries, pauseOutcome, pauseEntries, releaseOutcome, releaseMap, releaseEntries, showOutcome, showBuffer, standingOutcome}
+use Rattle.card.specs.Calls.{freshOutcome, freshMap, freshEntries, reserveOutcome, reserveMap, reserveEntries, reserveCard, growOutcome, growMap, growEntries, growCard, putOutcome, putCard, completeOutcome, completeEntries, pauseOutcome, pauseEntries, releaseOutcome, releaseMap, releaseEntries, showOutcome, showBuffer, standingOutcome, savedState}
+use Rattle.soundness.specs.Sound as saved
 use Rattle.card.specs.declared.Shape.{Shape}
 use Rattle.card.specs.declared.Outcome.{Outcome}
 use Rattle.ledger.specs.Ledger.{Told}
@@ -132,3 +133,7 @@ freshState n c card = record {
   entries = replicate c absent;
   card = card;
 }
+
+-- What a save of a state is of.
+abbrev pub savedOf : State → saved.State
+savedOf t = savedState (t .shape) (t .map) (t .entries)

@@ -23,7 +23,7 @@ use Rattle.soundness.specs.declared.Tally.{Tally}
 use Rattle.soundness.proofs.Releasing.{scratch-length}
 use Rattle.soundness.proofs.WhenSound.{released-sound}
 use Rattle.image.specs.Cursors.{cursor}
-use Rattle.image.specs.Effects.{rowNumber, saveNumber, saveScratch, saveBuffer, Saves}
+use Rattle.image.specs.Effects.{rowNumber, saveNumber, saveScratch, saveImage, Saves}
 use Rattle.image.specs.Image.{wordsFor, contentLength, framesFor, entryBytes, body, imageOf}
 use Rattle.saving.specs.Parts.{firstTally, firstScratch, numberBy, scratchCleared, headCursor, headImage, imageAfter, entriesCursor, entriesImage, restImage}
 use Rattle.image.specs.Table.{saveFits, saveRows, saveVerdict}
@@ -263,8 +263,8 @@ module _ (n spare : ℕ) (map : List ℕ) (entries : List Entry) (scratch image 
   unfolding saveNumber
   number-verdict = number-law
 
-  refused-image : (given ≡ 0 → ⊥) → final ≡ saveBuffer n spare map entries scratch image
-  unfolding headCursor headImage saveBuffer
+  refused-image : (given ≡ 0 → ⊥) → final ≡ saveImage n spare map entries scratch image
+  unfolding headCursor headImage saveImage
   refused-image h =
       let z = ne-eqb given 0 h in
       let ef : first ≡ cursor 3 true = ap (λ (b : Bool). cursor 3 (not b)) z in
@@ -274,8 +274,8 @@ module _ (n spare : ℕ) (map : List ℕ) (entries : List Entry) (scratch image 
       ∙ stopped-rest map image
       ∙ kept verdict (imageOf state) image (λ e. h (number-verdict ∙ e))
 
-  saved-image : given ≡ 0 → final ≡ saveBuffer n spare map entries scratch image
-  unfolding headCursor headImage saveBuffer
+  saved-image : given ≡ 0 → final ≡ saveImage n spare map entries scratch image
+  unfolding headCursor headImage saveImage
   saved-image e =
       let z = eq-eqb given 0 e in
       let v : verdict ≡ accepted = save-accepted state (length scratch) (length image) (sym number-verdict ∙ e) in
@@ -288,10 +288,10 @@ module _ (n spare : ℕ) (map : List ℕ) (entries : List Entry) (scratch image 
       ∙ accepted-image state image (l .limits .limit) (l .count .few) (l .limits .words) (p .exact)
       ∙ sym (ap (λ (w : Verdict). settle w (imageOf state) (λ number. image)) v)
 
-  image-law : final ≡ saveBuffer n spare map entries scratch image
+  image-law : final ≡ saveImage n spare map entries scratch image
   image-law = by (eqb given 0) refl
     where
-      by : (b : Bool) → eqb given 0 ≡ b → final ≡ saveBuffer n spare map entries scratch image
+      by : (b : Bool) → eqb given 0 ≡ b → final ≡ saveImage n spare map entries scratch image
       by true e = saved-image (eqb-true given 0 e)
       by false e = refused-image (eqb-false given 0 e)
 

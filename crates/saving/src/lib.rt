@@ -1,7 +1,7 @@
 // Save (document 01, "Saved image"): the tally of the entries, the verdict, and then the image from its head to its fill.
 // Everything is validated before the first byte of the image is written, so that a refusal changes nothing but the scratch.
 ghost use mathlib.Core.Path.{_≡_};
-ghost use Rattle.image.specs.Effects.{saveNumber, saveScratch, saveBuffer};
+ghost use Rattle.image.specs.Effects.{saveNumber, saveScratch, saveImage};
 ghost use Rattle.saving.specs.Parts.{firstTally, firstScratch, numberBy, scratchCleared, headCursor, headImage, cursorAfter, imageAfter, entriesCursor, entriesImage, restFits, restImage};
 use block::BLOCK;
 use catalogue::Entry;
@@ -183,7 +183,7 @@ pub fn save(
 ) -> u32
     ensures { λ r. ⌜ (r ≡ saveNumber n free (now (map .entry)) (now (catalogue .entry)) (now (scratch .entry)) (now (image .entry)))
         × (now (scratch .exit) ≡ saveScratch n free (now (map .entry)) (now (catalogue .entry)) (now (scratch .entry)) (now (image .entry)))
-        × (now (image .exit) ≡ saveBuffer n free (now (map .entry)) (now (catalogue .entry)) (now (scratch .entry)) (now (image .entry))) ⌝ }
+        × (now (image .exit) ≡ saveImage n free (now (map .entry)) (now (catalogue .entry)) (now (scratch .entry)) (now (image .entry))) ⌝ }
 {
     let count = catalogue::count(catalogue);
     let start = begin(n, free, map, count, scratch);

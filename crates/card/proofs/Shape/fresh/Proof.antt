@@ -5,7 +5,7 @@ use denote.Triple.Spec.{tripleOf}
 use denote.Triple.Table.{entered, cited}
 use lib.ListN.{length}
 use Rattle.catalogue.specs.Entries.{clearedIf}
-use Rattle.card.specs.Cores.{acceptedOf, freshOutcome, freshMap}
+use Rattle.card.specs.Cores.{acceptedOf, freshOutcomeBy, freshMapBy}
 use Rattle.catalogue.proofs.Values.{Value, valueOf}
 use Rattle.card.proofs.Shape as Shape′
 use Rattle.card.proofs.Shape.Laws as Shape″
@@ -36,9 +36,9 @@ unfolding code.routine tablesOf
 fresh-spec 𝓤 H 𝓜 𝓖 𝓡 =
     entered 𝓤 H (tripleOf 𝓤 H (𝓖 .A) fresh.signature (fresh.spec 𝓤 H (𝓖 .A) (𝓜 .mem) (𝓡 .run)))
     (tables 𝓤 H 𝓜 𝓡 code.env .C) (tables 𝓤 H 𝓜 𝓡 code.env .Λ) #fresh code.function (code.unfolded 𝓤 H 𝓜 𝓡)
-    (meets Shape Outcome count-def.name core-def.name accepted-of-def.name clear-if-def.name length freshOutcome freshMap acceptedOf clearedIf
+    (meets Shape Outcome count-def.name core-def.name accepted-of-def.name clear-if-def.name length freshOutcomeBy freshMapBy acceptedOf clearedIf
     𝓤 H (𝓖 .A) (givenOf 𝓤 H 𝓜 𝓖) (tablesOf 𝓤 H 𝓜 (tables 𝓤 H 𝓜 𝓡 code.env))
     (cited 𝓤 H (count-contract Shape Outcome length 𝓤 H (𝓖 .A)) 𝓜 𝓡 code.env count-def.name count-def.routine code.calls-catalogue·count (count-met.met 𝓤 H 𝓜 𝓖 𝓡))
-    (cited 𝓤 H (core-contract Shape Outcome freshOutcome freshMap 𝓤 H (𝓖 .A)) 𝓜 𝓡 code.env core-def.name core-def.routine code.calls-card·cores·fresh-core (core-met.met 𝓤 H 𝓜 𝓖 𝓡))
+    (cited 𝓤 H (core-contract Shape Outcome freshOutcomeBy freshMapBy 𝓤 H (𝓖 .A)) 𝓜 𝓡 code.env core-def.name core-def.routine code.calls-card·cores·fresh-core (core-met.met 𝓤 H 𝓜 𝓖 𝓡))
     (cited 𝓤 H (accepted-of-contract Shape Outcome acceptedOf 𝓤 H (𝓖 .A)) 𝓜 𝓡 code.env accepted-of-def.name accepted-of-def.routine code.calls-card·cores·accepted-of (accepted-of-met.met 𝓤 H 𝓜 𝓖 𝓡))
     (cited 𝓤 H (clear-if-contract Shape Outcome clearedIf 𝓤 H (𝓖 .A)) 𝓜 𝓡 code.env clear-if-def.name clear-if-def.routine code.calls-catalogue·clear-if (clear-if-met.met 𝓤 H 𝓜 𝓖 𝓡)))

@@ -1,8 +1,8 @@
--- `card::Shape::survey` meets its contract: the answer of the crate calls.
+-- `card::Shape::survey` meets its contract: the answer of the crate whole_calls.
 -- Assumes nothing.
 use mathlib.Core.Path.{ap}
 use borrow.Author.Needs.{needs}
-use Rattle.card.specs.Cores.{told}
+use Rattle.card.specs.Calls.{told}
 use Rattle.card.proofs.Shape.survey.Statement.{statement}
 use Rattle.card.proofs.Shape.survey.Tie as tie
 

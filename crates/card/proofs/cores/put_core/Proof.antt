@@ -2,7 +2,7 @@
 -- Assumes nothing.
 use mathlib.Core.Path.{ap}
 use borrow.Author.Needs.{needs}
-use Rattle.card.specs.Cores.{told}
+use Rattle.card.specs.Calls.{told}
 use Rattle.card.proofs.cores.put_core.Statement.{statement}
 use Rattle.card.proofs.cores.put_core.Tie as tie
 
