@@ -44,7 +44,7 @@ pub fn accepted_of(outcome: Outcome) -> bool
     }
 }
 
-// The cores: each takes the shape and the slot apart.
+// The cores: each takes the shape, and the slot if it has one, apart.
 
 pub fn fresh_core(shape: Shape, blocks: u32, map: &mut [u64], count: usize) -> Outcome
     ensures { λ r. ⌜ (r ≡ freshOutcomeBy shape blocks (now (map .entry)) count) × (now (map .exit) ≡ freshMapBy shape blocks (now (map .entry)) count) ⌝ }

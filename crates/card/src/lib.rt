@@ -1,8 +1,9 @@
-// The card: its shape, and every call as a method of it (document 01, "Shape, catalogue, blocks"). Each method is thin: it
-// reads one entry, calls a core on the entry by value and plain slices, and stores the entry. A refusal hands the shape
-// back as it came and changes nothing that is lent.
+// The card: its shape, and every call as a method of it (document 01, "Shape, catalogue, blocks"). Each method is thin: one
+// that is for a sheet finds the sheet's entry, leaves the rest to a core on that entry by value, and stores what it hands
+// back. A refusal hands the shape back as it came and changes nothing that is lent but a scratch.
 mod cores;
 
+ghost use mathlib.Core.Bool.{true};
 ghost use mathlib.Core.Path.{_≡_};
 ghost use Rattle.card.specs.Calls.{freshOutcome, freshMap, freshEntries, searchOutcome, surveyOutcome, reserveOutcome, reserveMap, reserveEntries, reserveCard, growOutcome, growMap, growEntries, growCard, putOutcome, putCard, completeOutcome, completeEntries, pauseOutcome, pauseEntries, releaseOutcome, releaseMap, releaseEntries, showOutcome, showBuffer, standingOutcome, saveOutcome, saveScratch, saveImage, loadOutcome, loadMap, loadEntries, loadScratch};
 use catalogue::Entry;
@@ -30,6 +31,22 @@ impl Shape {
     pub const BLOCKS: u32 = standings::opening::BLOCKS;
 
     pub const SHEETS: usize = standings::opening::SHEETS;
+
+    // That the constants are document 01's numbers. It is for its contract, which holds them to that.
+    pub fn constants_hold() -> bool
+        ensures { λ r. ⌜ r ≡ true ⌝ }
+    {
+        if Self::BLOCK != 512 {
+            return false;
+        }
+        if Self::PAYLOAD != 496 {
+            return false;
+        }
+        if Self::BLOCKS != 262144 {
+            return false;
+        }
+        Self::SHEETS == 1024
+    }
 
     // All blocks free, all sheets Absent. It reads nothing of the shape it takes.
     pub fn fresh(self, blocks: u32, map: &mut [u64], catalogue: &mut [Entry]) -> Outcome

@@ -1,4 +1,4 @@
--- The walks over a catalogue and what they are made of, and the laws of what is found, stored and cleared.
+-- What every walk over entries is made of, the walk of `clear_if`, and the laws of what is found, stored and cleared.
 pub mod Arrays
 pub mod Cleared
 pub mod Clearing

@@ -1,3 +1,3 @@
-// The calls that need no card, for an entry by value: pause and release.
+// The calls that change an entry and are not lent the card, for an entry by value: pause and release.
 pub mod pause;
 pub mod release;

@@ -1,4 +1,4 @@
--- Laws of limits, verdicts and cursors, for save and load.
+-- Laws of limits, verdicts and cursors, for save and load, and the theorems of the return journey.
 pub mod Fitting
 pub mod Verdicts
 pub mod Cursors

@@ -1,5 +1,7 @@
 -- The laws that the claim is proved by: of the ledger alone (Cover, Rows, Sheets, Listed), of the state that it calls for
--- (Agreement, Marks, Keeping), and of the calls on that state (Stepping, Results, step).
+-- (Agreement, Marks, Keeping), of the calls on that state (Stepping, Results, step), and of the claim's parts (Sums, Search,
+-- History). Demand has the theorem, Contracts that the steps are the public calls' contracts, Savable that every state that a
+-- list leaves can be saved.
 pub mod Agreement
 pub mod Contracts
 pub mod Cover

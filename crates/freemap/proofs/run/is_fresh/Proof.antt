@@ -18,31 +18,24 @@ Inv-loop map n i₀ i = (i ≤ length map) × Passed map n i
 abbrev μ-loop : tie.MeasureT-loop
 μ-loop map n i₀ i = length map - i
 
--- src/run.rt:86:5
 loop-holds : tie.Need-loop-holds Inv-loop μ-loop
 loop-holds c = (omega arith, λ b h. absurd (omega arith))
 
--- src/run.rt:87:12
 mul-if1 : tie.Need-mul-if1 Inv-loop μ-loop
 mul-if1 c = search needs
 
--- src/run.rt:87:12
 shared-slice-read-if1 : tie.Need-shared-slice-read-if1 Inv-loop μ-loop
 shared-slice-read-if1 c = search needs
 
--- src/run.rt:87:34
 cast-fresh-word : tie.Need-cast-fresh-word Inv-loop μ-loop
 cast-fresh-word c = search needs
 
--- src/run.rt:87:33
 mul-fresh-word : tie.Need-mul-fresh-word Inv-loop μ-loop
 mul-fresh-word c = search needs
 
--- src/run.rt:87:22
 fresh-word-requires : tie.Need-fresh-word-requires Inv-loop μ-loop
 fresh-word-requires c κs = search needs
 
--- src/run.rt:88:13
 returns : tie.Need-returns Inv-loop μ-loop
 returns c =
     let at = c .before .before .before .before in
@@ -50,22 +43,18 @@ returns c =
     passed-not (now (a .map)) (a .n) (at .loop .i) _ (c .before .fresh-word .ensures) (omega arith)
     (omega (arith, c .before .before .shared-slice-known2 .given (at .loop .i))) (omega arith) (c .if1 .taken)
 
--- src/run.rt:90:9
 add-i : tie.Need-add-i Inv-loop μ-loop
 add-i c = search needs
 
--- src/run.rt:86:5
 loop-less : tie.Need-loop-less Inv-loop μ-loop
 loop-less c = search needs
 
--- src/run.rt:86:5
 loop-again : tie.Need-loop-again Inv-loop μ-loop
 loop-again c =
     let at = c .before .before .before .before in
     let a = at .before .before .args in
     (omega arith, passed-more (now (a .map)) (a .n) (at .loop .i) _ (c .before .fresh-word .ensures) (at .loop .inv .1) (c .if1 .left))
 
--- src/run.rt:81:1
 returns-2 : tie.Need-returns-2 Inv-loop μ-loop
 returns-2 c = passed-end _ _ (c .before .loop .i) (omega arith) (c .before .loop .inv .1)
 
