@@ -1,4 +1,3 @@
 -- Laws that the proofs of several functions cite.
-mod Ends
-mod Scan
 mod Window
+mod Words

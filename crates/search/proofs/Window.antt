@@ -12,7 +12,8 @@ use Rattle.freemap.specs.Blocks.{free, all, fit, leastFit}
 use Rattle.freemap.specs.Words.{inWindow}
 use Rattle.freemap.specs.declared.Found.{Found}
 use Rattle.freemap.specs.declared.Found.the-variants.{At, Nothing}
-use Rattle.search.specs.Search.{Shows, Carried, Told}
+use Rattle.scan.specs.Scan.{Carried}
+use Rattle.search.specs.Search.{Shows, Told}
 use Rattle.freemap.proofs.Bools.{and-left, and-right, and-both, not-true, clash, order}
 use Rattle.freemap.proofs.Maps.{free-bit}
 use Rattle.freemap.proofs.Least.{least-at, least-none}

@@ -2,30 +2,22 @@
 // `from`, an end at or before `before`. Blocks outside the window are never read as free, whatever their bits are.
 ghost use mathlib.Core.Path.{_≡_};
 ghost use mathlib.Core.Bool.{Bool};
-ghost use Prim.Native.Nat.{ℕ, _+_, _-_, _*_, _/_, _<_, _≤_};
+ghost use Prim.Native.Nat.{ℕ, _+_, _*_, _/_, _<_, _≤_};
 ghost use lib.ListN.{length, getD};
 ghost use Rattle.freemap.specs.Blocks.{free, leastFit};
 ghost use Rattle.freemap.specs.Words.{bit, inWindow};
-ghost use Rattle.search.specs.Search.{Core, Shows, Carried, Stepped, Bounded, Told};
-
-mod word;
-
+ghost use Rattle.scan.specs.Scan.{Core, Carried, Stepped, Bounded};
+ghost use Rattle.search.specs.Search.{Shows, Told};
 use freemap::Found;
-use freemap::word::covers;
 use freemap::word::part;
-use freemap::word::smaller;
-use freemap::word::span;
-use word::gaps;
-use word::tail;
-
-// What the words passed tell a search: where the run that it wants starts, or how many free blocks they end in.
-pub enum Step {
-    Hit(u32),
-    Next(u32),
-}
+use scan::Step;
+use scan::core_of;
+use scan::scan_word;
+use scan::word::gaps;
+use scan::word::tail;
 
 // Where a search goes on: at a word, with so many free blocks right before it.
-pub struct Place {
+pub struct Position {
     pub word: usize,
     pub carried: u32,
 }
@@ -34,51 +26,6 @@ pub struct Place {
 pub struct Reached {
     pub word: usize,
     pub bits: u64,
-}
-
-// Where the s free blocks right before block base start. The formula of 003, section 4.1, points one word late where s is
-// 0 or a multiple of 64.
-fn run_start(base: u32, s: u32) -> u32
-    requires { ⌜ s ≤ base ⌝ }
-    ensures { λ r. ⌜ r ≡ base - s ⌝ }
-{
-    base - s
-}
-
-// Bits that every run of k in a word holds: the middle ones. Below 48 there are few or none, and testing them would be a
-// branch that is guessed wrong too often.
-fn core_of(k: u32) -> u64
-    ensures { λ r. ⌜ Core k r ⌝ }
-{
-    if k < 48 {
-        return 0;
-    }
-    let inside = smaller(k, 64);
-    span(64 - inside, inside)
-}
-
-// The search at one word, whose first block is base, with s free blocks before it: the three steps of 003, section 3. A
-// word that lacks a bit of the core has no run of k.
-fn scan_word(w: u64, base: u32, s: u32, k: u32, core: u64) -> Step
-    requires { ⌜ (base ≤ 262144) × (s ≤ base) × (s < k) × Core k core ⌝ }
-    ensures { λ r. ⌜ Bounded k (base + 64) r ⌝ }
-    ensures { λ r. ⌜ ((f : ℕ → Bool) → ((j : ℕ) → j < 64 → bit w j ≡ f (base + j)) → Carried f k base s → Stepped f k (base + 64) r) ⌝ }
-{
-    let wanted = k - s;
-    if covers(w, span(0, smaller(wanted, 64))) {
-        if 64 < wanted {
-            return Step::Next(s + 64);
-        }
-        return Step::Hit(run_start(base, s));
-    }
-    if covers(w, core) {
-        let g = gaps(w, k);
-        if g == 0 {
-            return Step::Next(tail(w));
-        }
-        return Step::Hit(base + u64::leading_zeros(g));
-    }
-    Step::Next(tail(w))
 }
 
 // The search at the words first to stop - 1, one after the other.
@@ -115,7 +62,7 @@ fn any_free(map: &[u64], i: usize) -> u64
 }
 
 // Past the words from first on that are all taken, eight at a time, up to stop.
-fn skip_taken(map: &[u64], first: usize, stop: usize, s: u32) -> Place
+fn skip_taken(map: &[u64], first: usize, stop: usize, s: u32) -> Position
     requires { ⌜ (first ≤ stop) × (stop ≤ 4096) × (stop ≤ length (now map)) ⌝ }
     ensures { λ r. ⌜ (first ≤ r .word) × (r .word ≤ stop) × (r .carried ≤ s) ⌝ }
     ensures { λ r. ⌜ ((f : ℕ → Bool) (k : ℕ) → Shows (now (map .entry)) first stop f → Carried f k (first * 64) s → Carried f k (r .word * 64) (r .carried)) ⌝ }
@@ -129,7 +76,7 @@ fn skip_taken(map: &[u64], first: usize, stop: usize, s: u32) -> Place
         i += 8;
         carried = 0;
     }
-    Place {
+    Position {
         word: i,
         carried: carried,
     }
@@ -156,9 +103,9 @@ fn scan_groups(map: &[u64], first: usize, stop: usize, s: u32, k: u32, core: u64
         match scan_words(map, i, end, carried, k, core) {
             Step::Hit(start) => return Step::Hit(start),
             Step::Next(next) => {
-                let place = skip_taken(map, end, stop, next);
-                i = place.word;
-                carried = place.carried;
+                let position = skip_taken(map, end, stop, next);
+                i = position.word;
+                carried = position.carried;
             }
         }
     }

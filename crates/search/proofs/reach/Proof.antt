@@ -8,9 +8,9 @@ use borrow.Author.Needs.{needs}
 use denote.Ref.{now}
 use Rattle.freemap.specs.Blocks.{free}
 use Rattle.freemap.specs.Words.{bit, inWindow}
-use Rattle.search.specs.Search.{Carried}
+use Rattle.scan.specs.Scan.{Carried}
 use Rattle.freemap.proofs.Maps.{cut-word}
-use Rattle.search.proofs.Scan.{past-word}
+use Rattle.search.proofs.Words.{past-word}
 use Rattle.search.proofs.Window.{at-start, whole-words}
 use Rattle.search.proofs.reach.Statement.{statement}
 use Rattle.search.proofs.reach.Tie as tie

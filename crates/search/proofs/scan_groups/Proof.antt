@@ -6,9 +6,10 @@ use Prim.Native.Nat.{ℕ, _-_, _*_, _<_, _≤_}
 use native.Mathlib.Omega.{arith}
 use borrow.Author.Needs.{needs}
 use denote.Ref.{now}
-use Rattle.search.specs.Search.{Shows, Carried, Stepped, Bounded}
-use Rattle.search.specs.declared.Step.the-variants.{Hit, Next}
-use Rattle.search.proofs.Scan.{shows-part}
+use Rattle.scan.specs.Scan.{Carried, Stepped, Bounded}
+use Rattle.search.specs.Search.{Shows}
+use Rattle.scan.specs.declared.Step.the-variants.{Hit, Next}
+use Rattle.search.proofs.Words.{shows-part}
 use Rattle.search.proofs.scan_groups.Statement.{statement}
 use Rattle.search.proofs.scan_groups.Tie as tie
 

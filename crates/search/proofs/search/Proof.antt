@@ -10,10 +10,10 @@ use denote.Ref.{now}
 use Rattle.freemap.specs.Blocks.{free, all}
 use Rattle.freemap.specs.Words.{bit, inWindow}
 use Rattle.freemap.specs.declared.Found.the-variants.{At, Nothing}
-use Rattle.search.specs.Search.{Carried}
+use Rattle.scan.specs.Scan.{Carried}
 use Rattle.freemap.proofs.Bits.{bit-zero}
-use Rattle.search.proofs.Ends.{first-set}
-use Rattle.search.proofs.Scan.{next, gap-hit, tail-below}
+use Rattle.scan.proofs.Ends.{first-set}
+use Rattle.scan.proofs.Scan.{next, gap-hit, tail-below}
 use Rattle.search.proofs.Window.{at-start, at-end, told-least}
 use Rattle.search.proofs.search.Statement.{statement}
 use Rattle.search.proofs.search.Tie as tie

@@ -8,8 +8,8 @@ use borrow.Author.Needs.{needs}
 use denote.Ref.{now}
 use Rattle.freemap.specs.Blocks.{free}
 use Rattle.freemap.specs.Words.{inWindow}
-use Rattle.search.specs.Search.{Stepped, Bounded}
-use Rattle.search.specs.declared.Step.the-variants.{Next}
+use Rattle.scan.specs.Scan.{Stepped, Bounded}
+use Rattle.scan.specs.declared.Step.the-variants.{Next}
 use Rattle.freemap.proofs.Maps.{cut-word}
 use Rattle.search.proofs.Window.{at-end, whole-words}
 use Rattle.search.proofs.search_on.Statement.{statement}

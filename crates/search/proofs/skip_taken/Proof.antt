@@ -5,8 +5,9 @@ use Prim.Native.Nat.{ℕ, _+_, _-_, _*_, _≤_}
 use native.Mathlib.Omega.{arith}
 use borrow.Author.Needs.{needs}
 use denote.Ref.{now}
-use Rattle.search.specs.Search.{Shows, Carried}
-use Rattle.search.proofs.Scan.{past-taken, zero-words}
+use Rattle.scan.specs.Scan.{Carried}
+use Rattle.search.specs.Search.{Shows}
+use Rattle.search.proofs.Words.{past-taken, zero-words}
 use Rattle.search.proofs.skip_taken.Statement.{statement}
 use Rattle.search.proofs.skip_taken.Tie as tie
 

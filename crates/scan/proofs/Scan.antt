@@ -3,18 +3,16 @@
 use mathlib.Core.Path.{_≡_, sym, ap, _∙_}
 use mathlib.Core.Logic.{_⊎_, inl, inr, ⊎-elim}
 use mathlib.Core.Bool.{Bool, true, false}
-use mathlib.Core.List.{List}
-use Prim.Native.Nat.{ℕ, _+_, _-_, _*_, _/_, _%_, _≤_, _<_}
+use Prim.Native.Nat.{ℕ, _+_, _-_, _≤_, _<_}
 use native.Mathlib.Omega.{arith}
-use lib.ListN.{getD}
 use Rattle.freemap.specs.Blocks.{all}
 use Rattle.freemap.specs.Words.{bit, covers, Mask}
-use Rattle.search.specs.Search.{Core, Tail, Shows, Carried, Least}
+use Rattle.scan.specs.Scan.{Core, Tail, Carried, Least}
 use Rattle.freemap.proofs.Bools.{not-true, clash, order}
 use Rattle.freemap.proofs.Runs.{all-intro, all-elim, all-break, all-part, all-same}
-use Rattle.freemap.proofs.Bits.{bit-past, bit-zero}
+use Rattle.freemap.proofs.Bits.{bit-past}
 use Rattle.freemap.proofs.Masks.{covers-intro, covers-run}
-use Rattle.search.proofs.Ends.{First}
+use Rattle.scan.proofs.Ends.{First}
 
 -- ---- the word alone
 
@@ -39,7 +37,7 @@ tail-below w r k none tail =
 
 module _ (f : ℕ → Bool) (k base s w : ℕ) (same : (j : ℕ) → j < 64 → bit w j ≡ f (base + j)) (at : Carried f k base s) where
   -- a block of the word
-  inside : (t : ℕ) → base ≤ t → t < base + 64 → bit w (t - base) ≡ f t
+  pub inside : (t : ℕ) → base ≤ t → t < base + 64 → bit w (t - base) ≡ f t
   inside t a b = let e : base + (t - base) ≡ t = omega arith in same (t - base) (omega arith) ∙ ap f e
 
   -- a run that lies in the word
@@ -96,33 +94,3 @@ module _ (f : ℕ → Bool) (k base s w : ℕ) (same : (j : ℕ) → j < 64 → 
             (λ g. let e : base + (t - base) ≡ t = omega arith in
             ap (λ (x : ℕ). all f x k) (sym e) ∙ sym (run (t - base) k (omega arith)) ∙ sym (says (t - base)) ∙ first .before (t - base) (omega arith)) (order t base);
       }
-
--- ---- words one after the other
-
-pub shows-part : (map : List ℕ) (first stop a b : ℕ) (f : ℕ → Bool) → first ≤ a → b ≤ stop → Shows map first stop f → Shows map a b f
-shows-part map first stop a b f l u shows = λ i j c d. shows i j (omega arith) (omega arith)
-
--- words that are all taken
-pub past-taken : (f : ℕ → Bool) (k base end s : ℕ) → base < end → ((t : ℕ) → base ≤ t → t < end → f t ≡ false) → Carried f k base s → Carried f k end 0
-past-taken f k base end s l taken at = let h : s < k = at .short in record {
-  room = omega arith;
-  short = omega arith;
-  held = λ t a b. absurd (omega arith);
-  none = λ t a.
-      ⊎-elim (λ u. ⊎-elim (λ v. at .none t v) (λ g. all-break f t k base (omega arith) (omega arith) (taken base (omega arith) l)) (order (t + s) base))
-      (λ g. all-break f t k t (omega arith) (omega arith) (taken t g (omega arith))) (order t base);
-}
-
--- words that are 0 show no free block
-pub zero-words : (map : List ℕ) (first stop i m : ℕ) (f : ℕ → Bool) → Shows map first stop f → first ≤ i → i + m ≤ stop
-    → ((t : ℕ) → i ≤ t → t < i + m → getD map t 0 ≡ 0) → (b : ℕ) → i * 64 ≤ b → b < (i + m) * 64 → f b ≡ false
-zero-words map first stop i m f shows a c zero b l u =
-    let e : b / 64 * 64 + b % 64 ≡ b = omega arith in
-    ap f (sym e) ∙ sym (shows (b / 64) (b % 64) (omega arith) (omega arith) (omega arith))
-    ∙ ap (λ (w : ℕ). bit w (b % 64)) (zero (b / 64) (omega arith) (omega arith)) ∙ bit-zero (b % 64)
-
--- a word that is 0
-pub past-word : (f : ℕ → Bool) (k base w : ℕ) → ((j : ℕ) → j < 64 → bit w j ≡ f (base + j)) → w ≡ 0 → Carried f k base 0 → Carried f k (base + 64) 0
-past-word f k base w same e at =
-    past-taken f k base (base + 64) 0 (omega arith)
-    (λ t a b. sym (inside f k base 0 w same at t a b) ∙ ap (λ (x : ℕ). bit x (t - base)) e ∙ bit-zero (t - base)) at

@@ -1,4 +1,4 @@
--- `search::word::rounds` meets its contract. The loop's invariant: bit j of g says that the `done` bits from j on are 1.
+-- `scan::word::rounds` meets its contract. The loop's invariant: bit j of g says that the `done` bits from j on are 1.
 -- Assumes nothing.
 use mathlib.Core.Path.{_≡_, sym, ap, _∙_}
 use Prim.Native.Nat.{ℕ, _≤_, _<_, _-_}
@@ -8,9 +8,9 @@ use Rattle.freemap.specs.Blocks.{all}
 use Rattle.freemap.specs.Words.{bit}
 use Rattle.freemap.proofs.Bits.{bit-zero}
 use Rattle.freemap.proofs.Runs.{all-part}
-use Rattle.search.proofs.word.Doubling.{round}
-use Rattle.search.proofs.word.rounds.Statement.{statement}
-use Rattle.search.proofs.word.rounds.Tie as tie
+use Rattle.scan.proofs.word.Doubling.{round}
+use Rattle.scan.proofs.word.rounds.Statement.{statement}
+use Rattle.scan.proofs.word.rounds.Tie as tie
 
 abbrev Inv-loop : tie.InvT-loop
 Inv-loop runs have k g₀ done₀ g done =

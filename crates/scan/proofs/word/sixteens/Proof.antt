@@ -1,13 +1,13 @@
--- `search::word::sixteens` meets its contract: four rounds, from runs of 1 to runs of 16.
+-- `scan::word::sixteens` meets its contract: four rounds, from runs of 1 to runs of 16.
 -- Assumes nothing.
 use mathlib.Core.Path.{sym}
 use Prim.Native.Nat.{ℕ}
 use native.Mathlib.Omega.{arith}
 use Rattle.freemap.specs.Words.{bit}
 use Rattle.freemap.proofs.Runs.{all-one}
-use Rattle.search.proofs.word.Doubling.{round}
-use Rattle.search.proofs.word.sixteens.Statement.{statement}
-use Rattle.search.proofs.word.sixteens.Tie as tie
+use Rattle.scan.proofs.word.Doubling.{round}
+use Rattle.scan.proofs.word.sixteens.Statement.{statement}
+use Rattle.scan.proofs.word.sixteens.Tie as tie
 
 returns : tie.Need-returns
 returns c =

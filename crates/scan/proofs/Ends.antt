@@ -10,7 +10,7 @@ use lib.Pow.{shr-shr, pow-mono}
 use lib.Count.{leadingZeros, trailingZeros, under, leading-top, trailing-le}
 use borrow.Author.Tests.{not-false, not-true}
 use Rattle.freemap.specs.Words.{bit}
-use Rattle.search.specs.Search.{Tail}
+use Rattle.scan.specs.Scan.{Tail}
 use Rattle.freemap.proofs.Bits.{of-dig, of-zero, low, bit-not}
 
 -- ---- the first bit that is set

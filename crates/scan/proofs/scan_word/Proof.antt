@@ -1,4 +1,4 @@
--- `search::scan_word` meets its contract: each way out by its law in `Scan.antt`.
+-- `scan::scan_word` meets its contract: each way out by its law in `Scan.antt`.
 -- Assumes nothing.
 use mathlib.Core.Path.{_≡_, sym, ap, _∙_, subst}
 use mathlib.Core.Bool.{true, false}
@@ -8,13 +8,13 @@ use lib.Count.{leadingZeros, leading-le}
 use borrow.Author.Needs.{needs}
 use Rattle.freemap.specs.Blocks.{all}
 use Rattle.freemap.specs.Words.{bit}
-use Rattle.search.specs.Search.{Tail, Least}
+use Rattle.scan.specs.Scan.{Tail, Least}
 use Rattle.freemap.proofs.Bits.{bit-zero}
 use Rattle.freemap.proofs.Runs.{all-elim}
-use Rattle.search.proofs.Ends.{first-set}
-use Rattle.search.proofs.Scan.{prefix, core-fails, tail-below, whole, next, head-fails, head-hit, gap-hit}
-use Rattle.search.proofs.scan_word.Statement.{statement}
-use Rattle.search.proofs.scan_word.Tie as tie
+use Rattle.scan.proofs.Ends.{first-set}
+use Rattle.scan.proofs.Scan.{prefix, core-fails, tail-below, whole, next, head-fails, head-hit, gap-hit}
+use Rattle.scan.proofs.scan_word.Statement.{statement}
+use Rattle.scan.proofs.scan_word.Tie as tie
 
 -- the prefix test: the first bits of the word, 64 at the most, as far as they are wanted
 tested : (c : tie.After-covers) → c .covers .result ≡ all (bit (c .before .before .before .args .w)) 0 (min (c .before .before .before .args .k - c .before .before .before .args .s) 64)

@@ -1,4 +1,4 @@
--- `search::core_of` meets its contract: the bits from 64 - k to k - 1, or none.
+-- `scan::core_of` meets its contract: the bits from 64 - k to k - 1, or none.
 -- Assumes nothing.
 use mathlib.Core.Path.{_≡_, sym, _∙_}
 use mathlib.Core.Bool.{true, _&&_}
@@ -10,8 +10,8 @@ use borrow.Author.Tests.{leb-true, ltb-true}
 use Rattle.freemap.specs.Words.{bit}
 use Rattle.freemap.proofs.Bits.{bit-zero}
 use Rattle.freemap.proofs.Bools.{and-left, and-right, clash}
-use Rattle.search.proofs.core_of.Statement.{statement}
-use Rattle.search.proofs.core_of.Tie as tie
+use Rattle.scan.proofs.core_of.Statement.{statement}
+use Rattle.scan.proofs.core_of.Tie as tie
 
 returns : tie.Need-returns
 returns c = λ j l e. absurd (clash (bit 0 j) e (bit-zero j))

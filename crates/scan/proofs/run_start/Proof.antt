@@ -1,9 +1,9 @@
--- `search::run_start` meets its contract.
+-- `scan::run_start` meets its contract.
 -- Assumes nothing.
 use mathlib.Core.Path.{refl}
 use borrow.Author.Needs.{needs}
-use Rattle.search.proofs.run_start.Statement.{statement}
-use Rattle.search.proofs.run_start.Tie as tie
+use Rattle.scan.proofs.run_start.Statement.{statement}
+use Rattle.scan.proofs.run_start.Tie as tie
 
 sub-result : tie.Need-sub-result
 sub-result c = search needs

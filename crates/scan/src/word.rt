@@ -4,7 +4,7 @@ ghost use mathlib.Core.Path.{_≡_};
 ghost use Prim.Native.Nat.{ℕ, _<_, _≤_};
 ghost use Rattle.freemap.specs.Blocks.{all};
 ghost use Rattle.freemap.specs.Words.{bit};
-ghost use Rattle.search.specs.Search.{Tail};
+ghost use Rattle.scan.specs.Scan.{Tail};
 use freemap::word::smaller;
 
 // Bit j of the result is 1 where the 16 bits of w from j on are: the first four rounds of 003, section 4.2, without a

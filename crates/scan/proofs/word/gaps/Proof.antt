@@ -1,4 +1,4 @@
--- `search::word::gaps` meets its contract: the rounds go on from runs of 1, or of 16.
+-- `scan::word::gaps` meets its contract: the rounds go on from runs of 1, or of 16.
 -- Assumes nothing.
 use mathlib.Core.Path.{sym, _∙_}
 use Prim.Native.Nat.{ℕ, _+_}
@@ -7,8 +7,8 @@ use borrow.Author.Needs.{needs}
 use Rattle.freemap.specs.Words.{bit}
 use Rattle.freemap.proofs.Bits.{bit-past, bit-zero}
 use Rattle.freemap.proofs.Runs.{all-one, all-break}
-use Rattle.search.proofs.word.gaps.Statement.{statement}
-use Rattle.search.proofs.word.gaps.Tie as tie
+use Rattle.scan.proofs.word.gaps.Statement.{statement}
+use Rattle.scan.proofs.word.gaps.Tie as tie
 
 returns : tie.Need-returns
 returns c =

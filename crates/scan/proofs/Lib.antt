@@ -1,0 +1,3 @@
+-- Laws that the proofs of several functions cite, and those for the crates above.
+pub mod Ends
+pub mod Scan

@@ -1,0 +1,11 @@
+-- `scan::word::tail` meets its contract: the zeros at the end of the complement are the ones at the end of the word.
+-- Assumes nothing.
+use Rattle.scan.proofs.Ends.{tail-ones}
+use Rattle.scan.proofs.word.tail.Statement.{statement}
+use Rattle.scan.proofs.word.tail.Tie as tie
+
+returns : tie.Need-returns
+returns c = tail-ones (c .args .w) (c .fits .w .fits)
+
+pub tail-spec : {M : Type 1} → statement M
+tail-spec = tie.close (tie.spec returns)
