@@ -68,12 +68,6 @@ pub record Fine (n : ℕ) (x : Sheet) : Type 0 where
   pub needed : needs x ≤ lengthIn x
   pub sized : (p : ℕ) → Sized (getD (placesIn x) p Blank)
 
-pub places-length : (x : Sheet) → length (placesIn x) ≡ lengthIn x
-places-length Absent = refl
-places-length Paused = refl
-places-length (Open s ps) = refl
-places-length (Complete s xs) = length-map xs Payload
-
 sized-blanks : (k p : ℕ) → Sized (getD (replicate k Blank) p Blank)
 sized-blanks zero p = tt
 sized-blanks (suc k) zero = tt

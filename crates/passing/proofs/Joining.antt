@@ -177,10 +177,6 @@ unfolding tailOf
 tail-pos false xs p = p
 tail-pos true xs p = ⊎-elim (λ (f : Full xs []). omega (arith, tail-full xs (f .t))) (λ (f : Broken xs []). omega (arith, tail-broken xs (f .t))) (parts xs [])
 
-length-more : (xs ys : List Bool) → length (xs ++ ys) ≡ length xs + length ys
-length-more [] ys = omega arith
-length-more (x ∷ xs) ys = omega (arith, length-more xs ys)
-
 pub tail-short : (xs ys : List Bool) → tailOf ys < length ys → (tailOf (xs ++ ys) ≡ tailOf ys) × (tailOf (xs ++ ys) < length (xs ++ ys))
 unfolding tailOf
 tail-short [] ys l = (refl, l)

@@ -58,7 +58,7 @@ fn prepend_word(table: &[u8; 1024], passed: Passed, w: u64) -> Passed
     prepend_word_joined(table, passed, w)
 }
 
-// The bits of the last word that holds one of the first n blocks which lie before block n.
+// The bits of word (n - 1) div 64 that belong to blocks before n.
 fn last_part(n: u32) -> u64
     requires { ⌜ n ≤ 262144 ⌝ }
     ensures { λ r. ⌜ Before n ((n + 63) / 64) r ⌝ }

@@ -1,9 +1,3 @@
-// The calls that take blocks, for an entry by value: reserve and grow.
+// The calls that take blocks, for an entry by value: reserve and grow. Each does what its ruling says.
 pub mod grow;
 pub mod reserve;
-
-// The ruling on a call that takes blocks: where they start, or the refusal's number.
-pub enum Ruling {
-    At(u32),
-    Refused(u32),
-}

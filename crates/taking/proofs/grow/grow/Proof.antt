@@ -7,7 +7,7 @@ use borrow.Author.Needs.{needs}
 use denote.Ref.{now}
 use Rattle.calls.proofs.Lent.{lent}
 use Rattle.calls.proofs.Room.{growVerdictOn, grow-room}
-use Rattle.taking.proofs.Rulings.{accepts, refuses}
+use Rattle.rulings.proofs.Rulings.{accepts, refuses}
 use Rattle.taking.proofs.grow.grow.Statement.{statement}
 use Rattle.taking.proofs.grow.grow.Tie as tie
 use Rattle.calls.proofs.Grow.{unchanged, changed}

@@ -6,7 +6,7 @@ use borrow.Author.Needs.{needs}
 use denote.Ref.{now}
 use Rattle.calls.proofs.Lent.{lent}
 use Rattle.calls.proofs.Room.{reserveVerdictOn, reserveStartOn, reserve-room}
-use Rattle.taking.proofs.Rulings.{accepts, refuses}
+use Rattle.rulings.proofs.Rulings.{accepts, refuses}
 use Rattle.taking.proofs.reserve.reserve.Statement.{statement}
 use Rattle.taking.proofs.reserve.reserve.Tie as tie
 use Rattle.calls.proofs.Reserve.{unchanged, changed}

@@ -2,8 +2,8 @@
 -- Assumes nothing.
 use Prim.Native.Nat.{ℕ}
 use Rattle.standings.specs.Rows.{Verdict, accepted, refused}
-use Rattle.taking.specs.declared.Ruling.{Ruling}
-use Rattle.taking.specs.declared.Ruling.the-variants.{At, Refused}
+use Rattle.rulings.specs.declared.Ruling.{Ruling}
+use Rattle.rulings.specs.declared.Ruling.the-variants.{At, Refused}
 
 abbrev pub rulingOf : Verdict → ℕ → Ruling
 rulingOf accepted start = At start

@@ -4,9 +4,9 @@ use mathlib.Core.Path.{_≡_, refl, ap}
 use Prim.Native.Nat.{ℕ}
 use native.Mathlib.Omega.{arith}
 use Rattle.standings.specs.Rows.{Verdict, accepted, refused}
-use Rattle.taking.specs.Rulings.{rulingOf}
-use Rattle.taking.specs.declared.Ruling.{Ruling}
-use Rattle.taking.specs.declared.Ruling.the-variants.{At, Refused}
+use Rattle.rulings.specs.Rulings.{rulingOf}
+use Rattle.rulings.specs.declared.Ruling.{Ruling}
+use Rattle.rulings.specs.declared.Ruling.the-variants.{At, Refused}
 
 module _ (start : ℕ) (r : Ruling) where
   pub accepts : (v : Verdict) (s : ℕ) → r ≡ rulingOf v start → r ≡ At s → (v ≡ accepted) × (s ≡ start)

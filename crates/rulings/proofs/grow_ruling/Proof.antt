@@ -1,4 +1,4 @@
--- `taking::grow::grow_ruling` meets its contract: each way out by its row.
+-- `rulings::grow_ruling` meets its contract: each way out by its row.
 -- Assumes nothing.
 use mathlib.Core.Path.{_≡_, refl, sym, ap, _∙_}
 use mathlib.Core.List.{[]}
@@ -10,15 +10,15 @@ use denote.Ref.{now}
 use Rattle.freemap.specs.Blocks.{free}
 use Rattle.standings.specs.Openings.{refusedRow, rowOf}
 use Rattle.standings.specs.Rows.{Verdict, accepted, refused}
-use Rattle.taking.specs.Rulings.{rulingOf}
+use Rattle.rulings.specs.Rulings.{rulingOf}
 use Rattle.standings.specs.declared.Opened.the-variants.{Refused}
-use Rattle.taking.specs.declared.Ruling.the-variants as ruling
+use Rattle.rulings.specs.declared.Ruling.the-variants as ruling
 use Rattle.standings.specs.declared.Standing.the-variants.{Open}
 use Rattle.calls.proofs.Lent.{Lent, lent, limits, extent, refused-first, stands-first}
 use Rattle.standings.proofs.Openings.{opened}
 use Rattle.calls.proofs.Room.{growVerdictOn}
-use Rattle.taking.proofs.grow.grow_ruling.Statement.{statement}
-use Rattle.taking.proofs.grow.grow_ruling.Tie as tie
+use Rattle.rulings.proofs.grow_ruling.Statement.{statement}
+use Rattle.rulings.proofs.grow_ruling.Tie as tie
 use Rattle.calls.proofs.Grow.{shut, other, admitted, no-blocks, past-end, some-taken, too-few, passes}
 
 module _ (q : Lent) (m : ℕ) where

@@ -1,4 +1,4 @@
--- `taking::reserve::reserve_ruling` meets its contract: each way out by its row.
+-- `rulings::reserve_ruling` meets its contract: each way out by its row.
 -- Assumes nothing.
 use mathlib.Core.Path.{_≡_, refl, sym, ap, _∙_}
 use mathlib.Core.List.{[]}
@@ -10,14 +10,14 @@ use Rattle.freemap.specs.Blocks.{free}
 use Rattle.freemap.specs.declared.Found.the-variants.{At}
 use Rattle.standings.specs.Openings.{refusedRow, rowOf}
 use Rattle.standings.specs.Rows.{Verdict, accepted, refused}
-use Rattle.taking.specs.Rulings.{rulingOf}
+use Rattle.rulings.specs.Rulings.{rulingOf}
 use Rattle.standings.specs.declared.Opened.the-variants.{Refused}
-use Rattle.taking.specs.declared.Ruling.the-variants as ruling
+use Rattle.rulings.specs.declared.Ruling.the-variants as ruling
 use Rattle.standings.specs.declared.Standing.the-variants.{Absent}
 use Rattle.calls.proofs.Lent.{Lent, lent, limits, refused-first, stands-first}
 use Rattle.calls.proofs.Room.{reserveVerdictOn, reserveStartOn}
-use Rattle.taking.proofs.reserve.reserve_ruling.Statement.{statement}
-use Rattle.taking.proofs.reserve.reserve_ruling.Tie as tie
+use Rattle.rulings.proofs.reserve_ruling.Statement.{statement}
+use Rattle.rulings.proofs.reserve_ruling.Tie as tie
 use Rattle.calls.proofs.Reserve.{shut, other, found, admitted, no-blocks, no-fit, too-few, passes, starts}
 
 module _ (q : Lent) (k : ℕ) where

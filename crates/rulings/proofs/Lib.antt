@@ -1,0 +1,2 @@
+-- What a ruling says of its verdict, for the calls that go by it.
+pub mod Rulings

@@ -1,0 +1,2 @@
+-- What the contracts of `rulings` cite.
+pub mod Rulings

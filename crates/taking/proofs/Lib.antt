@@ -1,2 +1,0 @@
--- Laws that the proofs of reserve and grow cite.
-pub mod Rulings

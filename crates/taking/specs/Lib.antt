@@ -1,2 +1,0 @@
--- What the contracts of `taking` cite.
-pub mod Rulings
