@@ -1,3 +1,2 @@
--- What the contracts of `block` cite: a sealed block, and the two calls from C.
-pub mod Sealed
+-- What the contracts of `block` cite: the two calls from C.
 pub mod Calls

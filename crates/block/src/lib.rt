@@ -4,8 +4,8 @@
 // `check` are for the dispenser's C program: they take slices of any length, and refuse a wrong one with 3.
 ghost use mathlib.Core.Path.{_≡_};
 ghost use Rattle.block.specs.Calls.{sealAnswer, afterSeal, checkAnswer};
-
-pub mod frame;
+use checking::check_holds;
+use sealing::write_sealed;
 
 // Bytes of a block.
 pub const BLOCK: usize = 512;
@@ -28,7 +28,7 @@ pub extern "C" fn seal(sheet: u32, place: u32, payload: &[u8], block: &mut [u8])
     if block.len() != BLOCK {
         return WRONG_LENGTH;
     }
-    frame::write_sealed(block, sheet, place, payload);
+    write_sealed(block, sheet, place, payload);
     0
 }
 
@@ -40,5 +40,5 @@ pub extern "C" fn check(block: &[u8]) -> u32
     if block.len() != BLOCK {
         return WRONG_LENGTH;
     }
-    if frame::check_holds(block) { 1 } else { 0 }
+    if check_holds(block) { 1 } else { 0 }
 }

@@ -4,7 +4,7 @@ ghost use mathlib.Core.Bool.{cond};
 ghost use Prim.Native.Nat.{_+_, _*_};
 ghost use lib.Dec.{leb};
 ghost use lib.ListN.{length};
-ghost use Rattle.block.specs.Sealed.{blank};
+ghost use Rattle.sums.specs.Sealed.{blank};
 ghost use Rattle.card_blocks.specs.Card.{blockOf, zeroed};
 
 // Fills k blocks from b on with zeros, and gives 0.

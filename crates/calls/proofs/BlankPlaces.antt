@@ -12,7 +12,7 @@ use Rattle.freemap.specs.declared.Found.{Found}
 use Rattle.freemap.specs.declared.Found.the-variants.{At, Nothing}
 use Rattle.freemap.proofs.Runs.{all-intro}
 use Rattle.card_blocks.specs.Card.{blockOf}
-use Rattle.block.specs.Sealed.{blank}
+use Rattle.sums.specs.Sealed.{blank}
 use Rattle.catalogue.specs.declared.Entry.{Entry}
 use Rattle.calls.specs.Effects.{completeVerdict, blankPlace}
 use Rattle.standings.specs.Searches.{startAt}

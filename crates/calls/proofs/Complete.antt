@@ -8,7 +8,7 @@ use native.Mathlib.Omega.{arith}
 use lib.Dec.{eqb, leb}
 use Rattle.freemap.specs.Blocks.{all, least}
 use Rattle.card_blocks.specs.Card.{blockOf}
-use Rattle.block.specs.Sealed.{blank, sound}
+use Rattle.sums.specs.Sealed.{blank, sound}
 use Rattle.calls.specs.Effects.{entryOf, outOf, refusalOut, completeVerdict, blankPlace, completeOut}
 use Rattle.standings.specs.Searches.{startAt}
 use Rattle.standings.specs.Openings.{openedOf, undamaged, rowOf}

@@ -7,7 +7,7 @@ use Prim.Native.Nat.{ℕ, _+_, _*_, _<_, _≤_}
 use lib.Dec.{eqb}
 use lib.ListN.{length}
 use Rattle.card_blocks.specs.Card.{withBlock}
-use Rattle.block.specs.Sealed.{sealed}
+use Rattle.sums.specs.Sealed.{sealed}
 use Rattle.freemap.specs.Blocks.{free}
 use Rattle.catalogue.specs.declared.Entry.{Entry}
 use Rattle.calls.specs.Effects.{putVerdict, putAnswer, putCard}

@@ -7,7 +7,7 @@ use Prim.Native.Nat.{ℕ, _+_, _*_, _<_, _≤_}
 use lib.Dec.{eqb}
 use lib.ListN.{length}
 use Rattle.card_blocks.specs.Card.{blockOf}
-use Rattle.block.specs.Sealed.{sound, payloadOf}
+use Rattle.sums.specs.Sealed.{sound, payloadOf}
 use Rattle.freemap.specs.Blocks.{free}
 use Rattle.catalogue.specs.declared.Entry.{Entry}
 use Rattle.calls.specs.Effects.{showVerdict, showAnswer, showBuffer}

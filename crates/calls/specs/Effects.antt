@@ -9,7 +9,7 @@ use Rattle.freemap.specs.Blocks as map-blocks
 use Rattle.freemap.specs.Blocks.{least, leastFit}
 use Rattle.freemap.specs.Maps.{marked}
 use Rattle.card_blocks.specs.Card.{blockOf, withBlock, zeroed}
-use Rattle.block.specs.Sealed.{sealed, payloadOf}
+use Rattle.sums.specs.Sealed.{sealed, payloadOf}
 use Rattle.catalogue.specs.declared.Entry.{Entry}
 use Rattle.standings.specs.Rows.{Verdict, settle}
 use Rattle.standings.specs.Searches.{startAt}

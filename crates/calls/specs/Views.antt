@@ -7,7 +7,7 @@ use lib.Dec.{eqb}
 use lib.ListN.{length}
 use Rattle.freemap.specs.Blocks as map-blocks
 use Rattle.card_blocks.specs.Card.{blockOf}
-use Rattle.block.specs.Sealed as sealed-block
+use Rattle.sums.specs.Sealed as sealed-block
 use Rattle.catalogue.specs.declared.Entry.{Entry}
 use Rattle.standings.specs.Standings.{standingOf}
 use Rattle.standings.specs.Limits.{shapeFits, sheetsFit}

@@ -10,7 +10,7 @@ use lib.ListN.{length, set}
 use Rattle.freemap.specs.Maps as maps
 use Rattle.freemap.specs.Maps.{marked}
 use Rattle.card_blocks.specs.Card.{blockOf, withBlock, zeroed}
-use Rattle.block.specs.Sealed.{sealed, payloadOf}
+use Rattle.sums.specs.Sealed.{sealed, payloadOf}
 use Rattle.catalogue.specs.Entries.{entryAt, clearedIf}
 use Rattle.catalogue.specs.declared.Entry.{Entry}
 use Rattle.catalogue.proofs.Storing.{stored-back}

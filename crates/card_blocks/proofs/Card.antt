@@ -13,7 +13,7 @@ use lib.ListN.{length, take, drop, replicate, length-take, length-drop}
 use lib.Seq.{take-at, drop-at, take-take, drop-drop, length-take-le}
 use borrow.Author.Tests.{ltb-true, ltb-false}
 use borrow.Rule.Slice.PartMut.{midOf, putMid, mid-len, same-len-mid, take-put, drop-put}
-use Rattle.block.specs.Sealed.{payloadOf}
+use Rattle.sums.specs.Sealed.{payloadOf}
 use Rattle.card_blocks.specs.Card.{blockOf, withBlock, zeroed}
 
 size : (a : ℕ) → a + 512 - a ≡ 512

@@ -3,11 +3,10 @@
 ghost use mathlib.Core.Path.{_≡_};
 ghost use Prim.Native.Nat.{_+_, _*_, _≤_};
 ghost use lib.ListN.{length, replicate};
-ghost use Rattle.block.specs.Sealed.{sealed, blank, sound, payloadOf};
+ghost use Rattle.sums.specs.Sealed.{sealed, blank, sound, payloadOf};
 ghost use Rattle.card_blocks.specs.Card.{blockOf, withBlock, zeroed};
 use block::BLOCK;
 use block::PAYLOAD;
-use block::frame;
 
 // Where the payload starts in its block.
 const PAYLOAD_START: usize = 8;
@@ -19,7 +18,7 @@ pub fn write_block(card: &mut [u8], b: u32, sheet: u32, place: u32, payload: &[u
 {
     let start = BLOCK * (b as usize);
     let end = start + BLOCK;
-    frame::write_sealed(&mut card[start..end], sheet, place, payload);
+    sealing::write_sealed(&mut card[start..end], sheet, place, payload);
 }
 
 // Fills block b with zeros.
@@ -53,7 +52,7 @@ pub fn blank_block(card: &[u8], b: u32) -> bool
 {
     let start = BLOCK * (b as usize);
     let end = start + BLOCK;
-    frame::is_blank(&card[start..end])
+    checking::is_blank(&card[start..end])
 }
 
 // Whether block b is sound for a sheet and a place.
@@ -63,7 +62,7 @@ pub fn sound_block(card: &[u8], b: u32, sheet: u32, place: u32) -> bool
 {
     let start = BLOCK * (b as usize);
     let end = start + BLOCK;
-    frame::is_sound(&card[start..end], sheet, place)
+    checking::is_sound(&card[start..end], sheet, place)
 }
 
 // Copies the payload of block b out into a buffer.

@@ -10,10 +10,10 @@ use mathlib.Core.Logic.{⊎-elim}
 use native.Mathlib.Nat.{eq-or-lt-of-le, zero-add}
 use lib.ListN.{length, replicate}
 use Rattle.card_blocks.specs.Card.{blockOf}
-use Rattle.block.specs.Sealed as sealed-block
-use Rattle.block.proofs.Blank.{blank-is-zeros}
+use Rattle.sums.specs.Sealed as sealed-block
+use Rattle.sums.proofs.Blank.{blank-is-zeros}
 use Rattle.card_blocks.proofs.Card.{block-length}
-use Rattle.block.proofs.Sealed.{sound-zeros}
+use Rattle.sums.proofs.Sealed.{sound-zeros}
 use Rattle.freemap.specs.Blocks.{all, least}
 use Rattle.freemap.specs.declared.Found.{Found}
 use Rattle.freemap.specs.declared.Found.the-variants.{At, Nothing}

@@ -3,7 +3,7 @@ ghost use mathlib.Core.Path.{_≡_};
 ghost use Prim.Native.Nat.{_+_, _*_, _≤_};
 ghost use lib.ListN.{length};
 ghost use Rattle.card_blocks.specs.Card.{blockOf};
-ghost use Rattle.block.specs.Sealed.{blank, sound};
+ghost use Rattle.sums.specs.Sealed.{blank, sound};
 ghost use Rattle.calls.specs.Effects.{completeOut};
 ghost use Rattle.filling.specs.Fillings.{fillingOf, orBlank, withPlace};
 use crate::Filling;

@@ -9,7 +9,7 @@ use lib.ListN.{length, getD, take, drop, length-append, length-take, length-drop
 use lib.Seq.{getD-append-add, getD-take, getD-drop, length-take-le}
 use Rattle.freemap.proofs.Bools.{order}
 use Rattle.card_blocks.specs.Card.{blockOf}
-use Rattle.block.specs.Sealed.{payloadOf}
+use Rattle.sums.specs.Sealed.{payloadOf}
 use Rattle.card_blocks.proofs.Card.{block-length}
 use Rattle.frames.specs.Frames.{bodies, bodyOf, totalOf}
 

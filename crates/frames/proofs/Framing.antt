@@ -16,9 +16,9 @@ use Rattle.freemap.proofs.Bools.{and-left, and-right, order}
 use Rattle.freemap.proofs.Runs.{all-intro, all-elim}
 use Rattle.card_blocks.specs.Card.{blockOf, withBlock}
 use Rattle.byte_slices.specs.Numbers.{bytes4, numberAt}
-use Rattle.block.specs.Sealed.{sums, front, sealed, checkHolds, sound, payloadOf}
+use Rattle.sums.specs.Sealed.{sums, front, sealed, checkHolds, sound, payloadOf}
 use Rattle.card_blocks.proofs.Card.{block-length, same-block, other-block, length-withBlock}
-use Rattle.block.proofs.Sealed.{sealed-length, sound-own, payload-sealed}
+use Rattle.sums.proofs.Sealed.{sealed-length, sound-own, payload-sealed}
 use Rattle.frames.specs.Frames.{Bytes, frames, bodies, bodyOf, totalOf, framed, sealedImage}
 use Rattle.frames.proofs.Bodies.{payload-length, bodies-length}
 

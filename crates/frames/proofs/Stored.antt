@@ -12,8 +12,8 @@ use lib.ListN.{length, getD, set, take, drop, replicate, length-append, length-r
 use lib.Seq.{ext-getD, take-suc, take-all, length-take-le, getD-drop, getD-set-same, getD-set-other}
 use Rattle.freemap.proofs.Bools.{order, not-true}
 use Rattle.byte_slices.specs.Numbers.{bytes4, numberAt}
-use Rattle.block.specs.Sealed.{blank}
-use Rattle.block.proofs.Blank.{blank-zeros, blank-is-zeros}
+use Rattle.sums.specs.Sealed.{blank}
+use Rattle.sums.proofs.Blank.{blank-zeros, blank-is-zeros}
 use Rattle.byte_slices.proofs.Numbers.{bytes4-length}
 use Rattle.frames.specs.Frames.{bodyOf, totalOf}
 use Rattle.frames.specs.Numbers.{numberIn, replaced, withNumber, bytes8, wordBytes, wordsAt}

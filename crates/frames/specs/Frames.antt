@@ -7,7 +7,7 @@ use Prim.Native.Nat.{ℕ, zero, suc, _/_, _<_}
 use lib.ListN.{length, getD, take, drop}
 use Rattle.freemap.specs.Blocks.{all}
 use Rattle.card_blocks.specs.Card.{blockOf}
-use Rattle.block.specs.Sealed.{sealed, sound, payloadOf}
+use Rattle.sums.specs.Sealed.{sealed, sound, payloadOf}
 
 -- Every element of a list is a byte, as those of a byte slice are.
 abbrev pub Bytes : List ℕ → Type 0

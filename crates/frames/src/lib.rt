@@ -2,7 +2,7 @@
 ghost use mathlib.Core.Path.{_≡_};
 ghost use Prim.Native.Nat.{_+_, _-_, _*_, _≤_};
 ghost use lib.ListN.{length, drop, replicate};
-ghost use Rattle.block.specs.Sealed.{sealed, blank, payloadOf};
+ghost use Rattle.sums.specs.Sealed.{sealed, blank, payloadOf};
 ghost use Rattle.card_blocks.specs.Card.{blockOf, withBlock};
 ghost use Rattle.frames.specs.Frames.{totalOf, bodyOf, framed, sealedImage};
 ghost use Rattle.frames.specs.Numbers.{numberIn, replaced, withNumber, wordBytes, wordsAt};

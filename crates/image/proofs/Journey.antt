@@ -11,8 +11,8 @@ use lib.ListN.{length, getD, take, drop, replicate, length-append, length-replic
 use lib.Seq.{take-add, take-at, drop-at, drop-drop}
 use Rattle.freemap.specs.Blocks.{free}
 use Rattle.byte_slices.specs.Numbers.{bytes4, numberAt}
-use Rattle.block.specs.Sealed.{blank}
-use Rattle.block.proofs.Blank.{blank-zeros, blank-is-zeros}
+use Rattle.sums.specs.Sealed.{blank}
+use Rattle.sums.proofs.Blank.{blank-zeros, blank-is-zeros}
 use Rattle.byte_slices.proofs.Numbers.{bytes4-length, number-at}
 use Rattle.standings.specs.Rows.{Verdict, accepted, settle}
 use Rattle.standings.specs.Limits.{shapeFits, sheetsFit}

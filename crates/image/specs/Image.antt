@@ -6,7 +6,7 @@ use mathlib.Core.List.{List, [], _∷_, _++_}
 use Prim.Native.Nat.{ℕ, zero, suc, _+_, _-_, _*_, _/_}
 use lib.ListN.{length, drop, replicate}
 use Rattle.byte_slices.specs.Numbers.{bytes4, numberAt}
-use Rattle.block.specs.Sealed.{blank}
+use Rattle.sums.specs.Sealed.{blank}
 use Rattle.catalogue.specs.declared.Entry.{Entry}
 use Rattle.frames.specs.Frames.{frames, bodyOf}
 use Rattle.frames.specs.Numbers.{wordBytes, wordsAt}

@@ -15,9 +15,9 @@ use Rattle.freemap.specs.Maps.{mapOf}
 use Rattle.freemap.proofs.Maps.{map-length, map-free}
 use Rattle.freemap.proofs.Runs.{all-intro, all-same}
 use Rattle.card_blocks.specs.Card.{blockOf}
-use Rattle.block.specs.Sealed as sealed-block
-use Rattle.block.proofs.Blank.{blank-zeros}
-use Rattle.block.proofs.Sealed.{sound-own, sound-zeros, blank-sealed}
+use Rattle.sums.specs.Sealed as sealed-block
+use Rattle.sums.proofs.Blank.{blank-zeros}
+use Rattle.sums.proofs.Sealed.{sound-own, sound-zeros, blank-sealed}
 use Rattle.catalogue.specs.Entries.{entryAt}
 use Rattle.catalogue.specs.declared.Entry.{Entry}
 use Rattle.standings.specs.Rows.{Row, row, refused, firstOf}

@@ -16,9 +16,9 @@ use Rattle.freemap.specs.Blocks.{fit}
 use Rattle.freemap.specs.Maps.{inRun, marked}
 use Rattle.freemap.proofs.Bools.{clash, order}
 use Rattle.card_blocks.specs.Card.{blockOf, withBlock, zeroed}
-use Rattle.block.specs.Sealed.{sealed}
+use Rattle.sums.specs.Sealed.{sealed}
 use Rattle.card_blocks.proofs.Card.{same-block, other-block, length-withBlock, length-zeroed, zeroed-inside, zeroed-before, zeroed-after}
-use Rattle.block.proofs.Sealed.{sealed-length}
+use Rattle.sums.proofs.Sealed.{sealed-length}
 use Rattle.catalogue.specs.declared.Entry.{Entry}
 use Rattle.calls.proofs.Room.{fit-inside}
 use Rattle.ledger.specs.Ledger.{Place, Blank, Payload, Sheet, Absent, Open, Complete, startIn, lengthIn, placesIn, bytesOf, sheetAt, placeAt, covers, cover, freeIn, spareIn}

@@ -11,7 +11,7 @@ use lib.ListN.{length, replicate}
 use Rattle.freemap.specs.Blocks.{free, fit}
 use Rattle.freemap.specs.Maps.{mapOf}
 use Rattle.card_blocks.specs.Card.{blockOf}
-use Rattle.block.specs.Sealed.{sealed}
+use Rattle.sums.specs.Sealed.{sealed}
 use Rattle.catalogue.specs.declared.Entry.{Entry}
 use Rattle.standings.specs.Rows.{Row, accepted, refused, firstOf, settle}
 use Rattle.standings.specs.Standings.{markOf}

@@ -7,7 +7,7 @@ use Prim.Native.Nat.{ℕ, suc, _+_, _-_, _*_, _≤_, _<_}
 use native.Mathlib.Omega.{arith}
 use lib.ListN.{length, drop}
 use Rattle.byte_slices.specs.Numbers.{numberAt}
-use Rattle.block.specs.Sealed.{blank}
+use Rattle.sums.specs.Sealed.{blank}
 use Rattle.standings.specs.Limits.{shapeFits}
 use Rattle.catalogue.specs.declared.Entry.{Entry}
 use Rattle.frames.specs.Frames.{bodyOf}

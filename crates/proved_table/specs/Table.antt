@@ -10,7 +10,7 @@ use Rattle.freemap.specs.Maps.{mapOf, freshMap, inRun}
 use Rattle.freemap.specs.declared.Found.{Found}
 use Rattle.freemap.specs.declared.Found.the-variants.{At, Nothing}
 use Rattle.byte_slices.specs.Numbers.{bytes4, numberAt}
-use Rattle.block.specs.Sealed.{front, sums, sealed}
+use Rattle.sums.specs.Sealed.{front, sums, sealed}
 use Rattle.catalogue.specs.Entries.{absent}
 use Rattle.frames.specs.Frames.{frames}
 use Rattle.frames.specs.Numbers.{bytes8, wordBytes}

@@ -1,6 +1,6 @@
 -- `check` meets its contract, at each of its answers.
 -- Assumes nothing.
-use Rattle.block.proofs.Tests.{check-wrong, check-done}
+use Rattle.block.proofs.Answers.{check-wrong, check-done}
 use borrow.Author.Needs.{needs}
 use Rattle.block.proofs.check.Statement.{statement}
 use Rattle.block.proofs.check.Tie as tie

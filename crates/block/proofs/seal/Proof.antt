@@ -1,6 +1,6 @@
 -- `seal` meets its contract, at each of its answers.
 -- Assumes nothing.
-use Rattle.block.proofs.Tests.{seal-wrong-payload, seal-wrong-block, seal-done}
+use Rattle.block.proofs.Answers.{seal-wrong-payload, seal-wrong-block, seal-done}
 use borrow.Author.Needs.{needs}
 use Rattle.block.proofs.seal.Statement.{statement}
 use Rattle.block.proofs.seal.Tie as tie

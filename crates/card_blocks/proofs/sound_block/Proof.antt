@@ -1,7 +1,7 @@
 -- `sound_block` meets its contract: the part that is lent is block b.
 -- Assumes nothing.
 use mathlib.Core.Path.{ap, _∙_}
-use Rattle.block.specs.Sealed.{sound}
+use Rattle.sums.specs.Sealed.{sound}
 use Rattle.card_blocks.proofs.Card.{lent}
 use borrow.Author.Needs.{needs}
 use Rattle.card_blocks.proofs.sound_block.Statement.{statement}

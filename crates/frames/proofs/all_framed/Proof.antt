@@ -11,7 +11,7 @@ use borrow.Author.Needs.{needs}
 use borrow.Author.Tests.{not-true, not-false}
 use denote.Ref.{now}
 use Rattle.card_blocks.specs.Card.{blockOf}
-use Rattle.block.specs.Sealed.{sound}
+use Rattle.sums.specs.Sealed.{sound}
 use Rattle.frames.specs.Frames.{totalOf, framed}
 use Rattle.freemap.proofs.Runs.{all-intro, all-break}
 use Rattle.frames.proofs.all_framed.Statement.{statement}

@@ -6,7 +6,7 @@ use Prim.Native.Nat.{ℕ, _≤_, _<_, _-_, _+_, _*_, _/_}
 use borrow.Author.Needs.{needs}
 use denote.Ref.{now}
 use Rattle.card_blocks.specs.Card.{withBlock}
-use Rattle.block.specs.Sealed.{sealed}
+use Rattle.sums.specs.Sealed.{sealed}
 use Rattle.frames.proofs.seal_frame.Statement.{statement}
 use Rattle.frames.proofs.seal_frame.Tie as tie
 

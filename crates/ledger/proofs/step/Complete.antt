@@ -9,7 +9,7 @@ use lib.Dec.{eqb, leb}
 use lib.ListN.{length, set, length-map}
 use borrow.Author.Tests.{leb-false, eqb-true}
 use Rattle.card_blocks.specs.Card.{blockOf}
-use Rattle.block.specs.Sealed as block
+use Rattle.sums.specs.Sealed as block
 use Rattle.catalogue.specs.Entries.{entryAt}
 use Rattle.catalogue.specs.declared.Entry.{Entry}
 use Rattle.standings.specs.Answers.{numberOf, valuesOf}

@@ -8,7 +8,7 @@ use lib.Dec.{leb}
 use lib.ListN.{length, set, length-set}
 use borrow.Author.Tests.{leb-false, eqb-true, not-false}
 use Rattle.card_blocks.specs.Card.{withBlock}
-use Rattle.block.specs.Sealed.{sealed}
+use Rattle.sums.specs.Sealed.{sealed}
 use Rattle.catalogue.specs.Entries.{entryAt}
 use Rattle.catalogue.specs.declared.Entry.{Entry}
 use Rattle.catalogue.proofs.Storing.{stored-back}

@@ -7,8 +7,8 @@ use mathlib.Core.List.{List, [], map}
 use lib.ListN.{length, getD}
 use borrow.Author.Tests.{leb-false}
 use Rattle.card_blocks.specs.Card.{blockOf}
-use Rattle.block.specs.Sealed.{payloadOf}
-use Rattle.block.proofs.Sealed.{payload-sealed}
+use Rattle.sums.specs.Sealed.{payloadOf}
+use Rattle.sums.proofs.Sealed.{payload-sealed}
 use Rattle.catalogue.specs.Entries.{entryAt}
 use Rattle.catalogue.specs.declared.Entry.{Entry}
 use Rattle.standings.specs.Answers.{numberOf, valuesOf}

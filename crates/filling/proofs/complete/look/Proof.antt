@@ -9,7 +9,7 @@ use native.Mathlib.Omega.{arith}
 use lib.ListN.{length}
 use denote.Ref.{now}
 use Rattle.card_blocks.specs.Card.{blockOf}
-use Rattle.block.specs.Sealed.{blank, sound}
+use Rattle.sums.specs.Sealed.{blank, sound}
 use Rattle.filling.specs.Fillings.{fillingOf}
 use Rattle.filling.proofs.Fillings.{Passed, none-passed, all-passed, broken, breaks, passed-more, not-broken, blank-apart}
 use borrow.Author.Needs.{needs}

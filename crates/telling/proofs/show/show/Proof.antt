@@ -8,7 +8,7 @@ use native.Mathlib.Omega.{arith}
 use borrow.Author.Needs.{needs}
 use denote.Ref.{now}
 use Rattle.card_blocks.specs.Card.{blockOf}
-use Rattle.block.specs.Sealed.{sound}
+use Rattle.sums.specs.Sealed.{sound}
 use Rattle.freemap.specs.Blocks.{free}
 use Rattle.standings.specs.Openings.{refusedRow, rowOf}
 use Rattle.standings.specs.Rows.{refused}

@@ -1,0 +1,2 @@
+-- What the functions here find out, test by test.
+pub mod Tests

@@ -1,0 +1,2 @@
+-- The stores of a seal.
+pub mod Sealing
