@@ -2,8 +2,9 @@
 -- refusal that load gives.
 -- Assumes nothing.
 use Prim.Native.Nat.{ℕ}
+use mathlib.Core.Path.{_≡_}
 use mathlib.Core.List.{List}
-use lib.ListN.{length}
+use lib.ListN.{length, take}
 use Rattle.catalogue.specs.declared.Entry.{Entry}
 use Rattle.standings.specs.Rows.{settle}
 use Rattle.image.specs.Image.{stateIn}
@@ -22,3 +23,11 @@ printedOf image maplen count scratchlen =
 abbrev pub Prints : List ℕ → List ℕ → List Entry → List ℕ → List ℕ → ℕ → List ℕ → List Entry → List ℕ → List ℕ → Type 0
 Prints image map entries scratch text r map′ entries′ scratch′ text′ =
     Writes (printedOf image (length map) (length entries) (length scratch)) text 0 r text′
+
+-- So many bytes a text has in which all that is to be printed finds room (proofs/Whole.antt), as the program's has.
+abbrev pub room : ℕ
+room = 32768
+
+-- All of some bytes stand at the beginning of a text, and r is their number.
+abbrev pub Stands : List ℕ → ℕ → List ℕ → Type 0
+Stands bytes r text = (r ≡ length bytes) × (take r text ≡ bytes)
