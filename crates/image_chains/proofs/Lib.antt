@@ -1,5 +1,4 @@
 -- The walks of save, load and the printer.
-pub mod Described
 pub mod Printed
 pub mod StateLoaded
 pub mod StateSaved

@@ -48,6 +48,7 @@ linesWritten (e ∷ es) at text = linesWritten es (lineCursor at text e) (lineWr
 abbrev pub placeOf : Cursor → ℕ
 placeOf at = at .at
 
--- What `describe` says: the text of the card stands at the beginning, and the rest of the buffer is as it was.
+-- What the head and the lines of the sheets come to: the text of the card stands at the beginning, and the rest of the buffer
+-- is as it was.
 abbrev pub Describes : ℕ → ℕ → Counts → List Entry → List ℕ → ℕ → List ℕ → Type 0
 Describes n spare counts entries text r text′ = Writes (cardText n spare counts entries) text 0 r text′

@@ -2,7 +2,7 @@
 // text; what finds no room there is left out, so that no length has to be asked for.
 ghost use mathlib.Core.Path.{_≡_};
 ghost use Rattle.writing.specs.Writing.{Writes};
-ghost use Rattle.printing.specs.Text.{cardText, refusalText};
+ghost use Rattle.printing.specs.Text.{refusalText};
 ghost use Rattle.printing.specs.Sheets.{headCursor, headWritten, lineCursor, lineWritten, linesCursor, linesWritten, placeOf};
 use catalogue::Entry;
 use lines::NEWLINE;
@@ -81,17 +81,6 @@ pub fn place_of(cursor: Cursor) -> usize
     ensures { λ r. ⌜ r ≡ placeOf cursor ⌝ }
 {
     cursor.at
-}
-
-// Writes the text of a card of n blocks: its free count, what a survey of its map answers, and its entries. Gives the
-// number of bytes written; 32,768 bytes are enough for 1,024 sheets.
-pub fn describe(n: u32, free: u32, counts: Counts, catalogue: &[Entry], text: &mut [u8]) -> usize
-    ensures { λ r. ⌜ Writes (cardText n free counts (now (catalogue .entry))) (now (text .entry)) 0 r (now (text .exit)) ⌝ }
-{
-    let count = catalogue::count(catalogue);
-    let first = write_head(n, free, count, counts, text);
-    let last = write_sheets(catalogue, first, text);
-    place_of(last)
 }
 
 // Writes the text of a refusal, and gives the number of bytes written. 19 bytes are enough.
