@@ -10,6 +10,7 @@ use Rattle.freemap.specs.Blocks.{least, leastFit}
 use Rattle.freemap.specs.Maps.{marked}
 use Rattle.card_blocks.specs.Card.{blockOf, withBlock, zeroed}
 use Rattle.sums.specs.Sealed.{sealed, payloadOf}
+use Rattle.catalogue.specs.Entries.{absent, pausedMark, openMark, completeMark}
 use Rattle.catalogue.specs.declared.Entry.{Entry}
 use Rattle.standings.specs.Rows.{Verdict, settle}
 use Rattle.standings.specs.Searches.{startAt}
@@ -40,7 +41,7 @@ module _ (n free : ℕ) (map card : List ℕ) (c : ℕ) (e : Entry) (sheet k : �
 
   unfoldable pub reserveOut : Out
   unfolding reserveVerdict reserveStart
-  reserveOut = settle reserveVerdict (outOf (free - k) (entryOf 0x4f reserveStart k) (Start reserveStart)) (refusalOut free e)
+  reserveOut = settle reserveVerdict (outOf (free - k) (entryOf openMark reserveStart k) (Start reserveStart)) (refusalOut free e)
 
   unfoldable pub reserveMap : List ℕ
   unfolding reserveVerdict reserveStart
@@ -58,7 +59,7 @@ module _ (n free : ℕ) (map card : List ℕ) (c : ℕ) (e : Entry) (sheet m : �
 
   unfoldable pub growOut : Out
   unfolding growVerdict
-  growOut = settle growVerdict (outOf (free - m) (entryOf 0x4f (e .start) (e .length + m)) Done) (refusalOut free e)
+  growOut = settle growVerdict (outOf (free - m) (entryOf openMark (e .start) (e .length + m)) Done) (refusalOut free e)
 
   unfoldable pub growMap : List ℕ
   unfolding growVerdict
@@ -96,7 +97,7 @@ module _ (n free : ℕ) (map card : List ℕ) (c : ℕ) (e : Entry) (sheet : ℕ
   unfoldable pub completeOut : Out
   unfolding completeVerdict blankPlace
   completeOut =
-      settle completeVerdict (outOf free (entryOf 0x43 (e .start) (e .length)) Done)
+      settle completeVerdict (outOf free (entryOf completeMark (e .start) (e .length)) Done)
       (λ number. outOf free e (cond (eqb number 9) (Blank blankPlace) (Refused number)))
 
 module _ (n free : ℕ) (map : List ℕ) (c : ℕ) (e : Entry) (sheet : ℕ) where
@@ -107,7 +108,7 @@ module _ (n free : ℕ) (map : List ℕ) (c : ℕ) (e : Entry) (sheet : ℕ) whe
 
   unfoldable pub pauseOut : Out
   unfolding pauseVerdict
-  pauseOut = settle pauseVerdict (outOf free (entryOf 0x50 0 0) Done) (refusalOut free e)
+  pauseOut = settle pauseVerdict (outOf free (entryOf pausedMark 0 0) Done) (refusalOut free e)
 
   -- Release: any standing but Absent becomes Absent, its blocks free; the card's bytes stay.
   unfoldable pub releaseVerdict : Verdict
@@ -116,7 +117,7 @@ module _ (n free : ℕ) (map : List ℕ) (c : ℕ) (e : Entry) (sheet : ℕ) whe
 
   unfoldable pub releaseOut : Out
   unfolding releaseVerdict
-  releaseOut = settle releaseVerdict (outOf (free + e .length) (entryOf 0x41 0 0) Done) (refusalOut free e)
+  releaseOut = settle releaseVerdict (outOf (free + e .length) absent Done) (refusalOut free e)
 
   unfoldable pub releaseMap : List ℕ
   unfolding releaseVerdict

@@ -7,13 +7,26 @@ use lib.ListN.{length, getD, replicate}
 use Rattle.catalogue.specs.declared.Entry.{Entry}
 use Rattle.catalogue.specs.declared.Slot.{Slot}
 
+-- The mark of each standing, in ASCII: A, P, O and C.
+abbrev pub absentMark : ℕ
+absentMark = 0x41
+
+abbrev pub pausedMark : ℕ
+pausedMark = 0x50
+
+abbrev pub openMark : ℕ
+openMark = 0x4f
+
+abbrev pub completeMark : ℕ
+completeMark = 0x43
+
 -- three zeros, which stand for the entry of a sheet that has none: damaged, never a pause
 abbrev pub zeros : Entry
 zeros = record { mark = 0; start = 0; length = 0 }
 
--- Absent: mark 41 (hex), start 0 and length 0
+-- Absent has start 0 and length 0
 abbrev pub absent : Entry
-absent = record { mark = 0x41; start = 0; length = 0 }
+absent = record { mark = absentMark; start = 0; length = 0 }
 
 -- the entry of a sheet, the sheets being numbered from 0
 abbrev pub entryAt : List Entry → ℕ → Entry

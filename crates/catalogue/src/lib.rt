@@ -4,6 +4,15 @@ ghost use mathlib.Core.Path.{_≡_};
 ghost use lib.ListN.{length, set};
 ghost use Rattle.catalogue.specs.Entries.{slotAt, cleared, clearedIf};
 
+// The mark of each standing, in ASCII: A, P, O and C.
+pub const ABSENT: u32 = 0x41;
+
+pub const PAUSED: u32 = 0x50;
+
+pub const OPEN: u32 = 0x4f;
+
+pub const COMPLETE: u32 = 0x43;
+
 // A mark, a start and a length.
 #[repr(C)]
 pub struct Entry {
@@ -54,13 +63,13 @@ pub fn store(catalogue: &mut [Entry], sheet: u32, entry: Entry)
     }
 }
 
-// What an entry becomes: Absent (mark 41 hex) if fresh was accepted, else what it was.
+// What an entry becomes: Absent if fresh was accepted, else what it was.
 fn clear_entry(accepted: bool, entry: Entry) -> Entry
     ensures { λ r. ⌜ r ≡ cleared accepted entry ⌝ }
 {
     if accepted {
         Entry {
-            mark: 0x41,
+            mark: ABSENT,
             start: 0,
             length: 0,
         }

@@ -4,6 +4,7 @@ ghost use Rattle.calls.specs.Effects.{pauseOut};
 use calls::Out;
 use calls::refusal;
 use catalogue::Entry;
+use catalogue::PAUSED;
 use standings::Answer;
 use standings::Opened;
 use standings::Standing;
@@ -24,7 +25,7 @@ pub fn pause(n: u32, free: u32, map: &[u64], c: usize, entry: Entry, sheet: u32)
     Out {
         free: free,
         entry: Entry {
-            mark: 0x50,
+            mark: PAUSED,
             start: 0,
             length: 0,
         },

@@ -3,6 +3,7 @@ ghost use mathlib.Core.Path.{_≡_};
 ghost use Rattle.calls.specs.Effects.{releaseOut, releaseMap};
 use calls::Out;
 use calls::refusal;
+use catalogue::ABSENT;
 use catalogue::Entry;
 use freemap::run::FREE;
 use freemap::run::mark;
@@ -31,7 +32,7 @@ pub fn release(n: u32, free: u32, map: &mut [u64], c: usize, entry: Entry, sheet
     Out {
         free: free + blocks,
         entry: Entry {
-            mark: 0x41,
+            mark: ABSENT,
             start: 0,
             length: 0,
         },

@@ -11,6 +11,7 @@ use calls::Out;
 use calls::refusal;
 use card_blocks::blank_block;
 use card_blocks::sound_block;
+use catalogue::COMPLETE;
 use catalogue::Entry;
 use standings::Answer;
 use standings::Opened;
@@ -91,7 +92,7 @@ pub fn complete(
         Filling::Filled => Out {
             free: free,
             entry: Entry {
-                mark: 0x43,
+                mark: COMPLETE,
                 start: start,
                 length: blocks,
             },

@@ -4,6 +4,7 @@ use mathlib.Core.Bool.{Bool, true, false, not, _&&_, cond}
 use Prim.Native.Nat.{ℕ, _+_}
 use lib.Dec.{eqb, leb}
 use Rattle.freemap.specs.Blocks.{all}
+use Rattle.catalogue.specs.Entries.{absentMark, pausedMark, openMark, completeMark}
 use Rattle.catalogue.specs.declared.Entry.{Entry}
 use Rattle.standings.specs.declared.Standing.{Standing}
 use Rattle.standings.specs.declared.Standing.the-variants.{Absent, Paused, Open, Complete, Damaged}
@@ -12,15 +13,15 @@ use Rattle.standings.specs.declared.Standing.the-variants.{Absent, Pause
 unfoldable pub extentHolds : ℕ → (ℕ → Bool) → ℕ → ℕ → Bool
 extentHolds n free start length = leb 1 length && leb (start + length) n && all (λ b. not (free b)) start length
 
--- What an entry says, and Damaged where it breaks the rule of its mark: 41 Absent and 50 Paused have start 0 and length
--- 0, 4F Open and 43 Complete an extent that holds (hex). Any other mark is damage, and so is an entry of three zeros.
+-- What an entry says, and Damaged where it breaks the rule of its mark: Absent and Paused have start 0 and length 0, Open
+-- and Complete an extent that holds. Any other mark is damage, and so is an entry of three zeros.
 unfoldable pub standingOf : ℕ → (ℕ → Bool) → Entry → Standing
 unfolding extentHolds
 standingOf n free e =
-    cond (eqb (e .mark) 0x41) (cond (eqb (e .start) 0 && eqb (e .length) 0) Absent Damaged)
-    (cond (eqb (e .mark) 0x50) (cond (eqb (e .start) 0 && eqb (e .length) 0) Paused Damaged)
-    (cond (eqb (e .mark) 0x4f) (cond (extentHolds n free (e .start) (e .length)) (Open (e .start) (e .length)) Damaged)
-    (cond (eqb (e .mark) 0x43) (cond (extentHolds n free (e .start) (e .length)) (Complete (e .start) (e .length)) Damaged)
+    cond (eqb (e .mark) absentMark) (cond (eqb (e .start) 0 && eqb (e .length) 0) Absent Damaged)
+    (cond (eqb (e .mark) pausedMark) (cond (eqb (e .start) 0 && eqb (e .length) 0) Paused Damaged)
+    (cond (eqb (e .mark) openMark) (cond (extentHolds n free (e .start) (e .length)) (Open (e .start) (e .length)) Damaged)
+    (cond (eqb (e .mark) completeMark) (cond (extentHolds n free (e .start) (e .length)) (Complete (e .start) (e .length)) Damaged)
     Damaged)))
 
 abbrev pub isAbsent : Standing → Bool
@@ -60,10 +61,10 @@ isDamaged Damaged = true
 
 -- The mark, start and length that a standing has; a damaged one has none.
 abbrev pub markOf : Standing → ℕ
-markOf Absent = 0x41
-markOf Paused = 0x50
-markOf (Open s l) = 0x4f
-markOf (Complete s l) = 0x43
+markOf Absent = absentMark
+markOf Paused = pausedMark
+markOf (Open s l) = openMark
+markOf (Complete s l) = completeMark
 markOf Damaged = 0
 
 abbrev pub startOf : Standing → ℕ

@@ -12,7 +12,11 @@ ghost use Rattle.standings.specs.Openings;
 ghost use Rattle.standings.specs.Openings.{openedOf, rowOf, refusedRow};
 use crate::Opened;
 use crate::Standing;
+use catalogue::ABSENT;
+use catalogue::COMPLETE;
 use catalogue::Entry;
+use catalogue::OPEN;
+use catalogue::PAUSED;
 use freemap::run::TAKEN;
 use freemap::run::all_marked;
 
@@ -72,16 +76,16 @@ pub fn decode(n: u32, map: &[u64], entry: Entry) -> Standing
     let mark = entry.mark;
     let start = entry.start;
     let blocks = entry.length;
-    if mark == 0x41 {
+    if mark == ABSENT {
         return without_extent(start, blocks, Standing::Absent);
     }
-    if mark == 0x50 {
+    if mark == PAUSED {
         return without_extent(start, blocks, Standing::Paused);
     }
-    if mark == 0x4f {
+    if mark == OPEN {
         return with_extent(n, map, start, blocks, Standing::Open(start, blocks));
     }
-    if mark == 0x43 {
+    if mark == COMPLETE {
         return with_extent(n, map, start, blocks, Standing::Complete(start, blocks));
     }
     Standing::Damaged

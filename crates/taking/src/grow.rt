@@ -5,6 +5,7 @@ use calls::Out;
 use calls::refusal;
 use card_blocks::zero_blocks;
 use catalogue::Entry;
+use catalogue::OPEN;
 use freemap::run::TAKEN;
 use freemap::run::mark;
 use rulings::Ruling;
@@ -33,7 +34,7 @@ pub fn grow(
             Out {
                 free: free - m,
                 entry: Entry {
-                    mark: 0x4f,
+                    mark: OPEN,
                     start: entry.start,
                     length: entry.length + m,
                 },

@@ -6,6 +6,7 @@ use calls::Out;
 use calls::refusal;
 use card_blocks::zero_blocks;
 use catalogue::Entry;
+use catalogue::OPEN;
 use freemap::run::TAKEN;
 use freemap::run::mark;
 use rulings::Ruling;
@@ -34,7 +35,7 @@ pub fn reserve(
             Out {
                 free: free - k,
                 entry: Entry {
-                    mark: 0x4f,
+                    mark: OPEN,
                     start: start,
                     length: k,
                 },
