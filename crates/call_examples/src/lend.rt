@@ -1,24 +1,17 @@
 // The calls of `Shape`, on the first c of the entries that a state of the examples has by value. Each function lends them
 // to one call, and gives back what the call answered and what it left of them. The proofs are written by tools/walks.
 ghost use Prim.Native.Nat.{_≤_};
+use call_list::state;
+use call_list::state::Turn;
 use card::Outcome;
 use card::Shape;
 use catalogue::Entry;
 
-// What a call answered, the entries after it, and for show the digest of its buffer. There is one entry more than a
-// catalogue can have, so that it can be too long.
-pub struct Turn {
-    pub outcome: Outcome,
-    pub entries: [Entry; 1025],
-    pub shown: u64,
-}
-
-fn turn_of(outcome: Outcome, entries: [Entry; 1025]) -> Turn {
-    Turn {
-        outcome: outcome,
-        entries: entries,
-        shown: 0,
-    }
+// What a call handed back, and the entries after it.
+pub fn turn_of(outcome: Outcome, entries: [Entry; 1025]) -> Turn {
+    let shape = outcome.shape;
+    let answer = outcome.answer;
+    state::handed_back(shape.blocks, shape.free, answer, entries, 0)
 }
 
 pub fn fresh(shape: Shape, blocks: u32, map: &mut [u64], entries: [Entry; 1025], c: usize) -> Turn

@@ -3,34 +3,25 @@
 //     reserve 0 5       the call: sheet, then k, m or the place, then for a payload its first byte and its length, and for a
 //                       show buffer its length; for fresh n
 //     : 0 12            document 01's number of the answer and its values; 0 is a call that was not refused
-//     ; 70 65 ..        n, the free count, and the digests of map, catalogue and card, and for show of its buffer (digest.rt)
+//     ; 70 65 ..        n, the free count, and the digests of map, catalogue and card, and for show of its buffer
 // A line with + is no call: it sets how many words, entries and bytes are lent (+lend), n and the free count (+shape), an entry
 // (+entry), the two halves of a word of the map (+word), or other bits of a byte of the card (+byte). A line with = is a
-// heading.
+// heading. Here are the calls; all else is in the crate call_list.
 mod call;
-mod change;
-mod digest;
 mod lend;
-mod line;
-mod print;
-mod state;
-mod step;
 
+use call_list::state;
 use libc::STDIN_FILENO;
 
 // The list is in the first bytes of the text.
 fn run(text: &[u8], read: usize, map: &mut [u64], card: &mut [u8]) {
     let mut s = state::start();
-    let mut l = line::empty();
     let end = state::most(read, text.len());
     let mut i: usize = 0;
     while i < end {
         let byte = text[i];
         i += 1;
-        let ends = line::ends(l, byte);
-        print::echo(byte, ends);
-        s = step::step(map, card, s, l, ends);
-        l = line::with(l, byte);
+        s = call::step(map, card, s, byte);
     }
 }
 

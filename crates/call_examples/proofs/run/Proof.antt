@@ -8,16 +8,13 @@ use Rattle.call_examples.proofs.run.Statement.{statement}
 use Rattle.call_examples.proofs.run.Tie as tie
 
 abbrev Inv-loop : tie.InvT-loop
-Inv-loop text read map₀ card₀ s₀ l₀ end i₀ map card s l i = (i ≤ end) × (length map ≡ length map₀) × (length card ≡ length card₀)
+Inv-loop text read map₀ card₀ s₀ end i₀ map card s i = (i ≤ end) × (length map ≡ length map₀) × (length card ≡ length card₀)
 
 abbrev μ-loop : tie.MeasureT-loop
-μ-loop text read map₀ card₀ s₀ l₀ end i₀ map card s l i = end - i
+μ-loop text read map₀ card₀ s₀ end i₀ map card s i = end - i
 
 start-requires : tie.Need-start-requires Inv-loop μ-loop
 start-requires c κs = search needs
-
-empty-requires : tie.Need-empty-requires Inv-loop μ-loop
-empty-requires c κs = search needs
 
 most-requires : tie.Need-most-requires Inv-loop μ-loop
 most-requires c κs = search needs
@@ -31,17 +28,8 @@ shared-slice-read-byte c = search needs
 add-i : tie.Need-add-i Inv-loop μ-loop
 add-i c = search needs
 
-ends-requires : tie.Need-ends-requires Inv-loop μ-loop
-ends-requires c κs = search needs
-
-echo-requires : tie.Need-echo-requires Inv-loop μ-loop
-echo-requires c κs = search needs
-
 step-requires : tie.Need-step-requires Inv-loop μ-loop
 step-requires c κs = search needs
-
-with-requires : tie.Need-with-requires Inv-loop μ-loop
-with-requires c κs = search needs
 
 loop-less : tie.Need-loop-less Inv-loop μ-loop
 loop-less c = search needs
@@ -65,15 +53,11 @@ run-spec =
     Inv-loop
     μ-loop
     start-requires
-    empty-requires
     most-requires
     loop-holds
     shared-slice-read-byte
     add-i
-    ends-requires
-    echo-requires
     step-requires
-    with-requires
     loop-less
     loop-again
     same-length

@@ -8,8 +8,8 @@ use Rattle.card.proofs.Shape as Shape′
 use Rattle.card.proofs.Shape.Laws as Shape″
 use Rattle.card.proofs.Outcome as Outcome′
 use Rattle.card.proofs.Outcome.Laws as Outcome″
-use Rattle.call_examples.proofs.lend.Turn as Turn′
-use Rattle.call_examples.proofs.lend.Turn.Laws as Turn″
+use Rattle.call_list.proofs.state.Turn as Turn′
+use Rattle.call_list.proofs.state.Turn.Laws as Turn″
 use Rattle.lent_arrays.proofs.Standings.{call-contract, turn-of-contract, meets}
 use Rattle.card.proofs.Shape.standing.Symbol as call-def
 use Rattle.card.proofs.Shape.standing.Met as call-met

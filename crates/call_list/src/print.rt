@@ -1,11 +1,12 @@
 // What the examples print, on standard output.
 use crate::digest;
-use crate::state::State;
+use crate::line::Line;
+use crate::state::Turn;
 use libc::STDOUT_FILENO;
 use standings::Answer;
 
 // A single byte of text.
-pub fn sign(byte: u8) {
+fn sign(byte: u8) {
     let bytes = [byte];
     io::write_all(STDOUT_FILENO, &bytes);
 }
@@ -51,7 +52,7 @@ fn refusal(row: u32) {
 }
 
 // The number of an answer, and its values.
-pub fn answer(a: Answer) {
+fn answer(a: Answer) {
     match a {
         Answer::Done => code(0),
         Answer::Start(start) => one(0, start),
@@ -75,15 +76,24 @@ fn shown(x: u64) {
 }
 
 // The end of a line: n, the free count, and the digests.
-pub fn end(map: &[u64], card: &[u8], s: State) {
+fn end(map: &[u64], card: &[u8], turn: Turn) {
     sign(b';');
-    let shape = s.shape;
-    number(shape.blocks);
-    number(shape.free);
-    let entries = s.entries;
+    number(turn.blocks);
+    number(turn.free);
+    let entries = turn.entries;
     digest(digest::words(map));
     digest(digest::entries(entries));
     digest(digest::bytes(card));
-    shown(s.shown);
+    shown(turn.shown);
     sign(b'\n');
+}
+
+// What came of a line. The empty line is none.
+pub fn turn(map: &[u64], card: &[u8], turn: Turn, l: Line) {
+    if l.word == 0 {
+        return;
+    }
+    let a = turn.answer;
+    answer(a);
+    end(map, card, turn);
 }

@@ -1,11 +1,11 @@
--- `call_examples::state::fill` is safe and ends: the payload keeps its length, and the bytes left are the measure.
+-- `call_list::payload::fill` is safe and ends: the payload keeps its length, and the bytes left are the measure.
 -- Assumes nothing.
 use mathlib.Core.Path.{_≡_}
 use Prim.Native.Nat.{_≤_, _-_}
 use lib.ListN.{length}
 use borrow.Author.Needs.{needs}
-use Rattle.call_examples.proofs.state.fill.Statement.{statement}
-use Rattle.call_examples.proofs.state.fill.Tie as tie
+use Rattle.call_list.proofs.payload.fill.Statement.{statement}
+use Rattle.call_list.proofs.payload.fill.Tie as tie
 
 abbrev Inv-loop : tie.InvT-loop
 Inv-loop payload₀ first x₀ i₀ payload x i = (i ≤ length payload₀) × (length payload ≡ length payload₀)

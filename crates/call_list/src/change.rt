@@ -5,12 +5,14 @@ use crate::state;
 use crate::state::State;
 
 fn lend(s: State, l: Line) -> State {
-    let shape = s.shape;
+    let begun = s.begun;
     let entries = s.entries;
     State {
-        shape: shape,
+        begun: begun,
+        line: l,
+        blocks: s.blocks,
+        free: s.free,
         entries: entries,
-        shown: 0,
         words: l.b as usize,
         sheets: l.c as usize,
         bytes: l.d as usize,
@@ -19,18 +21,17 @@ fn lend(s: State, l: Line) -> State {
 
 fn shape(s: State, l: Line) -> State {
     let entries = s.entries;
-    state::with(s, state::shape(l.c, l.d), entries, 0)
+    state::with(s, l.c, l.d, entries)
 }
 
 fn entry(s: State, l: Line) -> State {
-    let shape = s.shape;
     let mut entries = s.entries;
     let at = l.a as usize;
     if 1025 <= at {
         return s;
     }
     entries[at] = state::entry(l.b, l.c, l.d);
-    state::with(s, shape, entries, 0)
+    state::with(s, s.blocks, s.free, entries)
 }
 
 fn word(map: &mut [u64], l: Line) {

@@ -98,3 +98,11 @@ pub fn ends(l: Line, byte: u8) -> bool {
     }
     byte == b'\n'
 }
+
+// The line, where a byte ends it; else the empty line, at which nothing is to be done.
+pub fn ended(l: Line, byte: u8) -> Line {
+    if ends(l, byte) {
+        return l;
+    }
+    empty()
+}

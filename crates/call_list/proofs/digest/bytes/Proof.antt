@@ -1,10 +1,10 @@
--- `call_examples::digest::bytes` is safe and ends: the bytes left are the measure.
+-- `call_list::digest::bytes` is safe and ends: the bytes left are the measure.
 -- Assumes nothing.
 use Prim.Native.Nat.{_≤_, _-_}
 use lib.ListN.{length}
 use borrow.Author.Needs.{needs}
-use Rattle.call_examples.proofs.digest.bytes.Statement.{statement}
-use Rattle.call_examples.proofs.digest.bytes.Tie as tie
+use Rattle.call_list.proofs.digest.bytes.Statement.{statement}
+use Rattle.call_list.proofs.digest.bytes.Tie as tie
 
 abbrev Inv-loop : tie.InvT-loop
 Inv-loop s sum₀ i₀ sum i = i ≤ length s

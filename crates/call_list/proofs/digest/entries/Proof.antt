@@ -1,9 +1,9 @@
--- `call_examples::digest::entries` is safe and ends: the entries left are the measure.
+-- `call_list::digest::entries` is safe and ends: the entries left are the measure.
 -- Assumes nothing.
 use Prim.Native.Nat.{_≤_, _-_}
 use borrow.Author.Needs.{needs}
-use Rattle.call_examples.proofs.digest.entries.Statement.{statement}
-use Rattle.call_examples.proofs.digest.entries.Tie as tie
+use Rattle.call_list.proofs.digest.entries.Statement.{statement}
+use Rattle.call_list.proofs.digest.entries.Tie as tie
 
 abbrev Inv-loop : tie.InvT-loop
 Inv-loop all sum₀ i₀ sum i = i ≤ 1025

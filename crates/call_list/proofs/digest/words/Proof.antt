@@ -1,10 +1,10 @@
--- `call_examples::digest::words` is safe and ends: the words left are the measure.
+-- `call_list::digest::words` is safe and ends: the words left are the measure.
 -- Assumes nothing.
 use Prim.Native.Nat.{_≤_, _-_}
 use lib.ListN.{length}
 use borrow.Author.Needs.{needs}
-use Rattle.call_examples.proofs.digest.words.Statement.{statement}
-use Rattle.call_examples.proofs.digest.words.Tie as tie
+use Rattle.call_list.proofs.digest.words.Statement.{statement}
+use Rattle.call_list.proofs.digest.words.Tie as tie
 
 abbrev Inv-loop : tie.InvT-loop
 Inv-loop map sum₀ i₀ sum i = i ≤ length map
