@@ -1,8 +1,8 @@
 -- What load, the beginning and the lines of the sheets come to is what is to be printed of the image.
 -- Assumes nothing.
 use Prim.Native.Nat.{ℕ}
-use mathlib.Core.Path.{_≡_, refl, sym, ap, subst, _∙_}
-use mathlib.Core.Bool.{Bool, true, false, cond}
+use mathlib.Core.Path.{_≡_, refl, sym, ap, _∙_}
+use mathlib.Core.Bool.{true, false}
 use mathlib.Core.List.{List}
 use native.Mathlib.Omega.{arith}
 use lib.Dec.{eqb}
@@ -22,14 +22,14 @@ use Rattle.image.specs.declared.Loaded.{Loaded}
 use Rattle.image.proofs.Fitting.{head-to, load-fits-to}
 use Rattle.image.proofs.Journey.{entries-length, map-length}
 use Rattle.image.proofs.Verdicts.{accepted-to, load-accepted}
-use Rattle.printing.specs.Sheets.{headCursor, headWritten, linesCursor, linesWritten, placeOf}
+use Rattle.printing.specs.Sheets.{linesCursor, linesWritten, placeOf}
 use Rattle.printing.specs.Text.{stateText, refusalText}
 use Rattle.writing.specs.Writing.{Writes}
 use Rattle.printing.specs.declared.Cursor.{Cursor}
 use Rattle.printing.proofs.Cursors.{cursor-stays, text-stays}
 use Rattle.printing.proofs.Lines.{describes}
 use Rattle.card_print.specs.Beginnings.{refusalCursor, refusalWritten, beginCursor, beginWritten}
-use Rattle.card_print.specs.Printed.{printedOf, Prints}
+use Rattle.card_print.specs.Printed.{Prints}
 
 never : (number : ℕ) → refused number ≡ accepted → ⊥
 never number e = let z : _≡_ {A = ℕ} 0 1 = cc in omega arith

@@ -4,7 +4,7 @@
 --     part-back                [†κ] ∗ PartLent ∗ finally γ zs  ⊢ ⇛ (the array at `zs ++ drop c xs`)
 --     part-home                [†κ] ∗ PartShown  ⊢ ⇛ (the array at xs)
 -- Assumes `Given`.
-use mathlib.Core.Path.{_≡_, refl, sym, _∙_, ap, subst}
+use mathlib.Core.Path.{_≡_, refl, sym, _∙_, subst}
 use Prim.Native.Nat.{ℕ, _≤_}
 use mathlib.Core.List.{List, [], _∷_, _++_}
 use lib.ListN.{length, take, drop as rest, take-append-drop}
@@ -17,7 +17,7 @@ use base.Logic.{SProp, ent, sep, ex, guard, guardI}
 use base.Fml.{Lft, GName, Fml, fsep, fat, fdead, flent}
 use prog.Wp.{Heap}
 use ghost.Atoms.{Atoms, sem}
-use types.Kit.{Given, ‵, _⊛_, some, given, later, _$_, _∵_, !, qed, by, move, use1, use2, use3, drop, split, pick, learn, rewrite, fsplit, fjoin, fpick, fpack, feqL, feqI, frame, await, updating, now as at-once, show, done}
+use types.Kit.{Given, ‵, _⊛_, some, given, later, _$_, _∵_, !, qed, by, move, use1, use2, use3, drop, split, pick, learn, rewrite, fsplit, fjoin, fpick, fpack, feqI, frame, await, updating, now as at-once, show, done}
 use types.SemTy.{cells, Arr}
 use types.Share.{arr-parts}
 use types.Tokens.{lent-back}

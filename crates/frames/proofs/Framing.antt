@@ -2,14 +2,14 @@
 -- Assumes nothing.
 use mathlib.Core.Path.{_≡_, refl, sym, ap, ap₂, subst, _∙_}
 use mathlib.Core.Logic.{⊎-elim}
-use mathlib.Core.Bool.{Bool, true, false, _&&_}
+use mathlib.Core.Bool.{true, _&&_}
 use mathlib.Core.List.{List, [], _∷_, _++_, append-assoc}
-use Prim.Native.Nat.{ℕ, zero, suc, _+_, _-_, _*_, _/_, _%_, _≤_, _<_}
+use Prim.Native.Nat.{ℕ, zero, suc, _+_, _*_, _/_, _%_, _≤_, _<_}
 use native.Mathlib.Nat.{add-zero, zero-add}
 use native.Mathlib.Omega.{arith}
 use lib.Dec.{eqb}
 use lib.ListN.{length, getD, take, drop, length-append, length-take, length-drop, take-append-drop, drop-of-length-le, List·getD-eq-default}
-use lib.Seq.{take-at, drop-at, take-add, take-all, drop-drop, drop-append-add, drop-cons, length-take-le, getD-take, getD-drop, ext-getD}
+use lib.Seq.{take-at, drop-at, take-add, take-all, drop-drop, drop-append-add, drop-cons, length-take-le, getD-take, getD-drop}
 use borrow.Author.Tests.{eqb-true}
 use Rattle.freemap.specs.Blocks.{all}
 use Rattle.freemap.proofs.Bools.{and-left, and-right, order}
@@ -20,7 +20,7 @@ use Rattle.sums.specs.Sealed.{sums, front, sealed, checkHolds, sound, payloadOf
 use Rattle.card_blocks.proofs.Card.{block-length, same-block, other-block, length-withBlock}
 use Rattle.sums.proofs.Sealed.{sealed-length, sound-own, payload-sealed}
 use Rattle.frames.specs.Frames.{Bytes, frames, bodies, bodyOf, totalOf, framed, sealedImage}
-use Rattle.frames.proofs.Bodies.{payload-length, bodies-length}
+use Rattle.frames.proofs.Bodies.{payload-length}
 
 part-length : (body : List ℕ) (k : ℕ) → length body ≡ 496 * suc k → length (take 496 body) ≡ 496
 part-length body k e = length-take-le 496 body (omega arith)

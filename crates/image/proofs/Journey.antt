@@ -1,38 +1,35 @@
 -- The image of a state that save accepts holds that state, and load accepts it; an image that load accepts is the image of the
 -- state that stands in it.
 -- Assumes nothing.
-use mathlib.Core.Path.{_≡_, refl, sym, ap, ap₂, subst, _∙_}
-use mathlib.Core.Bool.{Bool, true, false, _&&_}
+use mathlib.Core.Path.{_≡_, refl, sym, ap, ap₂, _∙_}
+use mathlib.Core.Bool.{Bool, true}
 use mathlib.Core.List.{List, [], _∷_, _++_, append-assoc}
-use Prim.Native.Nat.{ℕ, zero, suc, _+_, _-_, _*_, _/_, _%_, _≤_, _<_}
+use Prim.Native.Nat.{ℕ, zero, suc, _+_, _-_, _*_, _≤_, _<_}
 use native.Mathlib.Omega.{arith}
-use lib.Dec.{eqb}
 use lib.ListN.{length, getD, take, drop, replicate, length-append, length-replicate, length-drop, take-append-drop}
-use lib.Seq.{take-add, take-at, drop-at, drop-drop}
+use lib.Seq.{take-add, drop-at, drop-drop}
 use Rattle.freemap.specs.Blocks.{free}
 use Rattle.byte_slices.specs.Numbers.{bytes4, numberAt}
 use Rattle.sums.specs.Sealed.{blank}
 use Rattle.sums.proofs.Blank.{blank-zeros, blank-is-zeros}
 use Rattle.byte_slices.proofs.Numbers.{bytes4-length, number-at}
-use Rattle.standings.specs.Rows.{Verdict, accepted, settle}
-use Rattle.standings.specs.Limits.{shapeFits, sheetsFit}
+use Rattle.standings.specs.Rows.{accepted}
+use Rattle.standings.specs.Limits.{shapeFits}
 use Rattle.catalogue.specs.declared.Entry.{Entry}
 use Rattle.frames.specs.Frames.{Bytes, frames, bodyOf, totalOf, framed, sealedImage}
 use Rattle.frames.specs.Numbers.{wordBytes, wordsAt}
 use Rattle.frames.proofs.Bodies.{body-length}
 use Rattle.frames.proofs.Framing.{frames-length, frames-total, frames-body, frames-hold, framed-back, bytes-back}
-use Rattle.frames.proofs.Recovered.{body-bytes, number-small, words-back, words-stored}
+use Rattle.frames.proofs.Recovered.{body-bytes, words-back, words-stored}
 use Rattle.frames.proofs.Stored.{wordBytes-length, wordsAt-length}
 use Rattle.soundness.specs.Sound.{State, sound, undamaged}
 use Rattle.soundness.proofs.Covers.{head-undamaged, tail-undamaged}
 use Rattle.soundness.proofs.Damage.{extent-inside, mark-small}
-use Rattle.soundness.proofs.WhenSound.{Sound, sound-to}
-use Rattle.image.specs.Effects.{rowNumber, lentState, saveNumber, saveImage, loadResult, loadMap, loadEntries, loadScratch}
+use Rattle.soundness.proofs.WhenSound.{sound-to}
 use Rattle.image.specs.Image.{wordsFor, contentLength, framesFor, entryBytes, body, imageOf, entriesAt, blocksIn, spareIn, sheetsIn, entriesIn, mapIn, stateIn, filled}
-use Rattle.image.specs.Table.{saveFits, saveVerdict, wholeBlocks, headFits, loadFits, loadVerdict}
-use Rattle.image.specs.declared.Loaded.{Loaded}
-use Rattle.image.proofs.Fitting.{SaveFits, save-fits-to, Whole, whole-to, to-whole, Head, head-to, to-head, LoadFits, load-fits-to, to-load-fits}
-use Rattle.image.proofs.Verdicts.{Saved, saved-to, to-saved, save-accepted, Accepted, accepted-to, to-accepted, load-accepted}
+use Rattle.image.specs.Table.{saveVerdict, headFits, loadFits, loadVerdict}
+use Rattle.image.proofs.Fitting.{SaveFits, save-fits-to, whole-to, to-whole, Head, head-to, to-head, to-load-fits}
+use Rattle.image.proofs.Verdicts.{Saved, saved-to, Accepted, accepted-to, to-accepted}
 
 -- every element fits a 64-bit word, as those of a map do
 abbrev pub Words : List ℕ → Type 0

@@ -5,21 +5,18 @@
 use mathlib.Core.Path.{_≡_, refl, sym, ap, ap₂, subst, _∙_}
 use mathlib.Core.List.{List}
 use Prim.Native.Nat.{ℕ, _*_}
-use native.Mathlib.Omega.{arith}
 use lib.ListN.{length, replicate}
-use borrow.Author.Tests.{eq-eqb}
-use Rattle.freemap.proofs.Bools.{and-both}
 use Rattle.standings.specs.Rows.{Verdict, accepted, refused, settle}
 use Rattle.catalogue.specs.declared.Entry.{Entry}
 use Rattle.frames.specs.Frames.{Bytes, totalOf}
-use Rattle.soundness.specs.Sound.{State, sound}
+use Rattle.soundness.specs.Sound.{State}
 use Rattle.image.specs.Effects.{rowNumber, saveNumber, saveImage, loadResult, loadMap, loadEntries, loadScratch}
 use Rattle.image.specs.Image.{wordsFor, framesFor, imageOf, blocksIn, spareIn, sheetsIn, stateIn}
 use Rattle.image.specs.Table.{saveFits, saveVerdict, loadVerdict}
 use Rattle.image.specs.declared.Loaded.{Loaded}
-use Rattle.image.proofs.Fitting.{to-save-fits, Whole, whole-to, Head, head-to, LoadFits, load-fits-to}
+use Rattle.image.proofs.Fitting.{to-save-fits, whole-to, head-to}
 use Rattle.image.proofs.Journey.{Words, saved-state, saved-accepted, loaded-image, entries-length, map-length}
-use Rattle.image.proofs.Verdicts.{to-saved, save-accepted, Accepted, accepted-to, load-accepted}
+use Rattle.image.proofs.Verdicts.{to-saved, save-accepted, accepted-to, load-accepted}
 
 abbrev state : ℕ → ℕ → List Entry → List ℕ → State
 state n spare entries map = record { blocks = n; spare = spare; entries = entries; map = map }

@@ -1,6 +1,6 @@
 -- How often the entries cover a block, and the sum of that over the card.
 -- Assumes nothing.
-use mathlib.Core.Path.{_≡_, refl, sym, ap, ap₂, subst, _∙_}
+use mathlib.Core.Path.{_≡_, refl, ap, ap₂, _∙_}
 use mathlib.Core.Logic.{⊎-elim}
 use mathlib.Core.Bool.{Bool, true, false, not, _&&_, cond}
 use mathlib.Core.List.{List, [], _∷_, _++_}
@@ -8,9 +8,9 @@ use Prim.Native.Nat.{ℕ, zero, suc, _+_, _-_, _≤_, _<_, min}
 use native.Mathlib.Nat.{zero-add}
 use native.Mathlib.Omega.{arith}
 use lib.Dec.{leb, ltb}
-use borrow.Author.Tests.{leb-true, leb-false, ltb-true, ltb-false, le-leb, lt-leb, lt-ltb, le-ltb, not-true}
+use borrow.Author.Tests.{leb-true, ltb-true, le-leb, lt-ltb, not-true}
 use Rattle.freemap.specs.Maps.{inRun}
-use Rattle.freemap.proofs.Bools.{and-left, and-right, and-both, order, clash}
+use Rattle.freemap.proofs.Bools.{and-left, and-right, and-both, order}
 use Rattle.survey.specs.Survey.{blocks, freeOf, countsOf}
 use Rattle.survey.proofs.Blocks.{blocks-join}
 use Rattle.catalogue.specs.declared.Entry.{Entry}

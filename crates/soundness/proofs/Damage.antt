@@ -1,7 +1,7 @@
 -- An undamaged entry, whatever its mark: its extent lies inside n, and no block of it is free. Nothing else of which blocks are
 -- free matters to it.
 -- Assumes nothing.
-use mathlib.Core.Path.{_≡_, refl, sym, ap, ap₂, subst, _∙_}
+use mathlib.Core.Path.{_≡_, refl, sym, ap, _∙_}
 use mathlib.Core.Logic.{_⊎_, inl, inr, ⊎-elim}
 use mathlib.Core.Bool.{Bool, true, false, not, _&&_, cond, true≢false}
 use Prim.Native.Nat.{ℕ, _+_, _≤_, _<_}

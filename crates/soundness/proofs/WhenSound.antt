@@ -1,16 +1,16 @@
 -- The test by releases is soundness: every entry can be released in turn and leaves a fresh map, exactly if the state is sound.
 -- Assumes nothing.
-use mathlib.Core.Path.{_≡_, refl, sym, ap, ap₂, subst, _∙_}
+use mathlib.Core.Path.{_≡_, refl, sym, ap, ap₂, _∙_}
 use mathlib.Core.Logic.{⊎-elim}
-use mathlib.Core.Bool.{Bool, true, false, not, _&&_, cond, true≢false, false≢true}
+use mathlib.Core.Bool.{Bool, true, false, not, _&&_, cond}
 use mathlib.Core.List.{List, [], _∷_}
-use Prim.Native.Nat.{ℕ, zero, suc, _+_, _-_, _*_, _/_, _≤_, _<_}
+use Prim.Native.Nat.{ℕ, _+_, _-_, _*_, _/_, _≤_, _<_}
 use native.Mathlib.Omega.{arith}
 use lib.Dec.{eqb, leb, ltb}
 use lib.ListN.{length}
-use borrow.Author.Tests.{eqb-true, eqb-false, eq-eqb, ne-eqb, leb-true, le-leb, ltb-true, ltb-false, lt-ltb, le-ltb, not-true}
+use borrow.Author.Tests.{eqb-true, eqb-false, eq-eqb, ne-eqb, leb-true, le-leb, lt-ltb, le-ltb}
 use Rattle.freemap.specs.Blocks.{free, all}
-use Rattle.freemap.specs.Maps.{mapOf, marked, inRun, inState, isFresh}
+use Rattle.freemap.specs.Maps.{marked, inRun, inState, isFresh}
 use Rattle.freemap.proofs.Bools.{and-left, and-right, and-both, both-ways, order, clash}
 use Rattle.freemap.proofs.Maps.{map-free, map-length, in-state, state-of}
 use Rattle.freemap.proofs.Runs.{all-intro, all-elim}
@@ -22,9 +22,9 @@ use Rattle.standings.proofs.Limits.{fits}
 use Rattle.soundness.specs.Releases.{tally, releasable, tallyAfter, scratchAfter, tallyOf, scratchOf, allReleased}
 use Rattle.soundness.specs.Sound.{State, coverings, undamaged, sound}
 use Rattle.soundness.specs.declared.Tally.{Tally}
-use Rattle.soundness.proofs.Covers.{one, run-in, in-run, total, total-add, total-same, total-all, free-total, lengths, head-undamaged, tail-undamaged, both-undamaged, none-undamaged, cover-outside, cover-total, still-all}
-use Rattle.soundness.proofs.Damage.{extent-inside, extent-taken}
-use Rattle.soundness.proofs.Releasing.{passes, halts, Releasable, releasable-to, by-length, tally-stays}
+use Rattle.soundness.proofs.Covers.{one, in-run, total-add, total-same, total-all, free-total, lengths, head-undamaged, tail-undamaged, both-undamaged, none-undamaged, cover-outside, cover-total, still-all}
+use Rattle.soundness.proofs.Damage.{extent-taken}
+use Rattle.soundness.proofs.Releasing.{passes, halts, releasable-to, by-length, tally-stays}
 
 -- a release in the scratch
 marked-free : (scratch : List ℕ) (s l b : ℕ) → b < 64 * length scratch → free (marked scratch s l true) b ≡ cond (inRun s l b) true (free scratch b)

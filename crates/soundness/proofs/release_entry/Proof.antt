@@ -1,12 +1,11 @@
 -- `release_entry` meets its contract.
 -- Assumes nothing.
-use mathlib.Core.Path.{_≡_, refl, sym, ap, ap₂, _∙_}
-use Prim.Native.Nat.{ℕ, _≤_, _<_, _-_, _+_, _*_}
+use mathlib.Core.Path.{_∙_}
 use native.Mathlib.Omega.{arith}
 use borrow.Author.Needs.{needs}
 use denote.Ref.{now}
 use Rattle.standings.proofs.Tested.{fails, holds}
-use Rattle.soundness.proofs.Releasing.{Releasable, releasable-to, passes, halts}
+use Rattle.soundness.proofs.Releasing.{releasable-to, passes, halts}
 use Rattle.soundness.proofs.release_entry.Statement.{statement}
 use Rattle.soundness.proofs.release_entry.Tie as tie
 

@@ -1,6 +1,6 @@
 -- `card::Shape::constants_hold` meets its contract: each constant computes to its number.
 -- Assumes nothing.
-use mathlib.Core.Path.{_≡_, refl}
+use mathlib.Core.Path.{refl}
 use Rattle.card.proofs.Shape.constants_hold.Statement.{statement}
 use Rattle.card.proofs.Shape.constants_hold.Tie as tie
 

@@ -1,6 +1,5 @@
 -- `card::cores::load_outcome` meets its contract, by whether the number is 0.
 -- Assumes nothing.
-use borrow.Author.Needs.{needs}
 use borrow.Author.Tests.{eq-eqb, ne-eqb}
 use Rattle.card.proofs.cores.load_outcome.Statement.{statement}
 use Rattle.card.proofs.cores.load_outcome.Tie as tie

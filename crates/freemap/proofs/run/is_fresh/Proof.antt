@@ -8,9 +8,6 @@ use denote.Ref.{now}
 use Rattle.freemap.proofs.run.Freshness.{Passed, passed-more, passed-not, passed-end}
 use Rattle.freemap.proofs.run.is_fresh.Statement.{statement}
 use Rattle.freemap.proofs.run.is_fresh.Tie as tie
-use Rattle.freemap.proofs.run.is_fresh.Reads as reads
-use Rattle.freemap.proofs.run.is_fresh.Lts as lts
-use Rattle.freemap.proofs.run.fresh_word.Reads as fresh-word-reads
 
 abbrev Inv-loop : tie.InvT-loop
 Inv-loop map n i₀ i = (i ≤ length map) × Passed map n i
