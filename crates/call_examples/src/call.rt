@@ -8,60 +8,38 @@ use call_list::state::State;
 use call_list::state::Turn;
 use card::Shape;
 
-fn shape(s: State) -> Shape {
-    Shape {
-        blocks: s.blocks,
-        free: s.free,
-    }
-}
-
-// Put, of a payload that begins with a byte and is so long as the line says.
-fn put(map: &[u64], card: &mut [u8], s: State) -> Turn
-    requires { ⌜ s .sheets ≤ 1025 ⌝ }
-{
-    let l = s.line;
-    let entries = s.entries;
-    let all = payload::bytes(l);
-    let k = payload::length(l);
-    lend::put(shape(s), map, entries, s.sheets, card, l.a, l.b, &all[0..k])
-}
-
-// Show, into the first bytes of a buffer, as many as the line says.
-fn show(map: &[u64], card: &[u8], s: State) -> Turn
-    requires { ⌜ s .sheets ≤ 1025 ⌝ }
-{
-    let l = s.line;
-    let entries = s.entries;
-    let mut array = payload::buffer();
-    let all: &mut [u8] = &mut array;
-    let k = payload::length(l);
-    let turn = lend::show(
-        shape(s),
-        map,
-        entries,
-        s.sheets,
-        card,
-        l.b,
-        l.c,
-        &mut all[0..k],
-    );
-    payload::shown(turn, all)
-}
-
 // The calls that change neither the map nor the card.
 fn look(map: &[u64], card: &[u8], s: State) -> Turn
     requires { ⌜ s .sheets ≤ 1025 ⌝ }
 {
     let l = s.line;
     let entries = s.entries;
-    let shape = shape(s);
+    let shape = Shape {
+        blocks: s.blocks,
+        free: s.free,
+    };
     let kind = l.word;
     match kind {
         line::SEARCH => lend::turn_of(shape.search(map, l.d), entries),
         line::SURVEY => lend::turn_of(shape.survey(map), entries),
         line::COMPLETE => lend::complete(shape, map, entries, s.sheets, card, l.d),
         line::PAUSE => lend::pause(shape, map, entries, s.sheets, l.d),
-        line::SHOW => show(map, card, s),
+        line::SHOW => {
+            let mut array = payload::buffer();
+            let all: &mut [u8] = &mut array;
+            let k = payload::length(l);
+            let turn = lend::show(
+                shape,
+                map,
+                entries,
+                s.sheets,
+                card,
+                l.b,
+                l.c,
+                &mut all[0..k],
+            );
+            payload::shown(turn, all)
+        }
         line::STANDING => lend::standing(shape, map, entries, s.sheets, l.d),
         _ => state::none(s),
     }
@@ -72,13 +50,20 @@ fn on_parts(map: &mut [u64], card: &mut [u8], s: State) -> Turn
 {
     let l = s.line;
     let entries = s.entries;
-    let shape = shape(s);
+    let shape = Shape {
+        blocks: s.blocks,
+        free: s.free,
+    };
     let kind = l.word;
     match kind {
         line::FRESH => lend::fresh(shape, l.d, map, entries, s.sheets),
         line::RESERVE => lend::reserve(shape, map, entries, s.sheets, card, l.c, l.d),
         line::GROW => lend::grow(shape, map, entries, s.sheets, card, l.c, l.d),
-        line::PUT => put(map, card, s),
+        line::PUT => {
+            let all = payload::bytes(l);
+            let k = payload::length(l);
+            lend::put(shape, map, entries, s.sheets, card, l.a, l.b, &all[0..k])
+        }
         line::RELEASE => lend::release(shape, map, entries, s.sheets, l.d),
         _ => look(map, card, s),
     }

@@ -10,13 +10,15 @@
 mod call;
 mod lend;
 
+ghost use Prim.Native.Nat.{_≤_};
+ghost use lib.ListN;
 use call_list::state;
-use libc::STDIN_FILENO;
 
 // The list is in the first bytes of the text.
-fn run(text: &[u8], read: usize, map: &mut [u64], card: &mut [u8]) {
+fn run(text: &[u8], end: usize, map: &mut [u64], card: &mut [u8])
+    requires { ⌜ end ≤ ListN.length (now text) ⌝ }
+{
     let mut s = state::start();
-    let end = state::most(read, text.len());
     let mut i: usize = 0;
     while i < end {
         let byte = text[i];
@@ -27,8 +29,8 @@ fn run(text: &[u8], read: usize, map: &mut [u64], card: &mut [u8]) {
 
 fn main() {
     let mut text = io::large_buffer();
-    let read = io::read_full(STDIN_FILENO, &mut text);
+    let end = call_list::read(&mut text);
     let mut words = state::map_space();
     let mut bytes = state::card_space();
-    run(&text, read, &mut words, &mut bytes);
+    run(&text, end, &mut words, &mut bytes);
 }

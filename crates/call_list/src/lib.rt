@@ -9,8 +9,17 @@ pub mod state;
 
 ghost use Prim.Native.Nat.{_≤_};
 ghost use lib.ListN;
+use libc::STDIN_FILENO;
 use state::State;
 use state::Turn;
+
+// Standard input, as far as the text goes: how many bytes of it were read.
+pub fn read(text: &mut [u8]) -> usize
+    ensures { λ r. ⌜ r ≤ ListN.length (now (text .exit)) ⌝ }
+{
+    let read = io::read_full(STDIN_FILENO, text);
+    state::most(read, text.len())
+}
 
 // The list is read on by a byte, and printed but for the ends of lines that are to be done. At such an end, what the line
 // changes where it is no call. No more is lent than there is.
@@ -19,7 +28,7 @@ pub fn next(map: &mut [u64], card: &mut [u8], s: State, byte: u8) -> State
 {
     let begun = s.begun;
     print::echo(byte, line::ends(begun, byte));
-    let t = state::read(s, byte);
+    let t = state::read_on(s, byte);
     let l = t.line;
     change::buffers(map, card, l);
     state::within(change::kept(t, l), map.len(), card.len())

@@ -95,7 +95,7 @@ pub fn after(s: State, turn: Turn) -> State {
 }
 
 // The list is read on by a byte.
-pub fn read(s: State, byte: u8) -> State {
+pub fn read_on(s: State, byte: u8) -> State {
     let begun = s.begun;
     let entries = s.entries;
     State {

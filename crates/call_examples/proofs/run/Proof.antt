@@ -8,16 +8,13 @@ use Rattle.call_examples.proofs.run.Statement.{statement}
 use Rattle.call_examples.proofs.run.Tie as tie
 
 abbrev Inv-loop : tie.InvT-loop
-Inv-loop text read map₀ card₀ s₀ end i₀ map card s i = (i ≤ end) × (length map ≡ length map₀) × (length card ≡ length card₀)
+Inv-loop text end map₀ card₀ s₀ i₀ map card s i = (i ≤ end) × (length map ≡ length map₀) × (length card ≡ length card₀)
 
 abbrev μ-loop : tie.MeasureT-loop
-μ-loop text read map₀ card₀ s₀ end i₀ map card s i = end - i
+μ-loop text end map₀ card₀ s₀ i₀ map card s i = end - i
 
 start-requires : tie.Need-start-requires Inv-loop μ-loop
 start-requires c κs = search needs
-
-most-requires : tie.Need-most-requires Inv-loop μ-loop
-most-requires c κs = search needs
 
 loop-holds : tie.Need-loop-holds Inv-loop μ-loop
 loop-holds c = search needs
@@ -53,7 +50,6 @@ run-spec =
     Inv-loop
     μ-loop
     start-requires
-    most-requires
     loop-holds
     shared-slice-read-byte
     add-i
