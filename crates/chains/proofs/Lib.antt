@@ -1,21 +1,11 @@
--- The walks of the methods of `Shape`, and of the C functions over them (`..Reply`).
+-- The walks of the methods of `Shape`.
 pub mod Completed
-pub mod CompletedReply
 pub mod Freshened
-pub mod FreshenedReply
 pub mod Paused
-pub mod PausedReply
 pub mod Put
-pub mod PutReply
 pub mod Released
-pub mod ReleasedReply
 pub mod Reserved
-pub mod ReservedReply
 pub mod Restored
-pub mod RestoredReply
 pub mod Saved
-pub mod SavedReply
 pub mod Shown
-pub mod ShownReply
 pub mod Stood
-pub mod StoodReply

@@ -1,4 +1,4 @@
--- Written by tools/walks: `pagunlit::pagunlit_pause` meets its contract, by the walk of `PausedReply.antt` of the crate chains, with the calls of `card::Shape::pause`, `replies::reply_of`.
+-- Written by tools/walks: `pagunlit::pagunlit_pause` meets its contract, by the walk of `PausedReply.antt` of the crate reply_chains, with the calls of `card::Shape::pause`, `replies::reply_of`.
 -- Assumes nothing.
 use contract.Running.{givenOf, tables, tablesOf}
 use denote.Triple.Spec.{tripleOf}
@@ -12,7 +12,7 @@ use Rattle.card.proofs.Outcome as Outcome′
 use Rattle.card.proofs.Outcome.Laws as Outcome″
 use Rattle.replies.proofs.Reply as Reply′
 use Rattle.replies.proofs.Reply.Laws as Reply″
-use Rattle.chains.proofs.PausedReply.{call-contract, reply-of-contract, meets}
+use Rattle.reply_chains.proofs.PausedReply.{call-contract, reply-of-contract, meets}
 use Rattle.card.proofs.Shape.pause.Symbol as call-def
 use Rattle.card.proofs.Shape.pause.Met as call-met
 use Rattle.replies.proofs.reply_of.Symbol as reply-of-def
