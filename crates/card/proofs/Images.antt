@@ -25,7 +25,7 @@ use Rattle.image.proofs.ReturnJourney as journey
 use Rattle.image.proofs.Verdicts.{save-accepted, load-accepted}
 use Rattle.card.specs.declared.Outcome.{Outcome}
 use Rattle.card.specs.declared.Shape.{Shape}
-use Rattle.card.specs.Calls.{told, isDone, savedState, saveOutcome, saveScratch, saveImage, loadOutcome, loadMap, loadEntries, loadScratch}
+use Rattle.card.specs.Calls.{told, isDone, loadOutcomeBy, savedState, saveOutcome, saveScratch, saveImage, loadOutcome, loadMap, loadEntries, loadScratch}
 
 never-accepted : (number : ℕ) → refused number ≡ accepted → ⊥
 never-accepted number e = let z : _≡_ {A = ℕ} 0 1 = cc in omega arith
@@ -41,12 +41,7 @@ done-save shape number d = by (eqb number 0) refl d
     by true e h = eqb-true number 0 e
     by false e h = absurd (never-done h)
 
--- what a load hands back, of its result
-abbrev handedBy : Shape → Loaded → Outcome
-handedBy shape given =
-    cond (eqb (given .number) 0) (told (record { blocks = given .blocks; free = given .free }) Done) (told shape (Refused (given .number)))
-
-done-load : (shape : Shape) (given : Loaded) → isDone (handedBy shape given .answer) ≡ true → given .number ≡ 0
+done-load : (shape : Shape) (given : Loaded) → isDone (loadOutcomeBy shape given .answer) ≡ true → given .number ≡ 0
 done-load shape given d = by (eqb (given .number) 0) refl d
   where
     by : (b : Bool) → eqb (given .number) 0 ≡ b
@@ -70,7 +65,7 @@ module _ (shape other : Shape) (map : List ℕ) (entries : List Entry) (scratch 
   saved-loads words e lm le ls =
       let z = done-save shape (images.saveNumber (shape .blocks) (shape .free) map entries scratch buffer) (ap (λ (o : Outcome). isDone (o .answer)) e) in
       let g = journey.saved-loads (shape .blocks) (shape .free) map entries scratch buffer map′ entries′ scratch′ words z lm le ls in
-      record { outcome = ap (handedBy other) (g .result); words = g .words; sheets = g .sheets; zeros = g .zeros }
+      record { outcome = ap (loadOutcomeBy other) (g .result); words = g .words; sheets = g .sheets; zeros = g .zeros }
 
 -- what a load gives, and the image that it was
 module _ (shape : Shape) (image map : List ℕ) (entries : List Entry) (scratch : List ℕ) (bytes : Bytes image) where
@@ -125,7 +120,7 @@ unfolding images.loadResult images.loadMap images.loadEntries images.loadScratch
 load-refused shape image map entries scratch number v =
     let some : eqb number 0 ≡ false =
     ne-eqb number 0 (λ z. never-accepted number (sym v ∙ load-accepted image (length map) (length entries) (length scratch) (ap rowNumber v ∙ z))) in (
-      ap (λ (w : Verdict). handedBy shape (settle w (record { number = 0; blocks = stateIn image .blocks; free = stateIn image .spare }) (λ k. record { number = k; blocks = 0; free = 0 }))) v
+      ap (λ (w : Verdict). loadOutcomeBy shape (settle w (record { number = 0; blocks = stateIn image .blocks; free = stateIn image .spare }) (λ k. record { number = k; blocks = 0; free = 0 }))) v
           ∙ ap (λ (t : Bool). cond t (told (record { blocks = 0; free = 0 }) Done) (told shape (Refused number))) some,
       ap (λ (w : Verdict). settle w (stateIn image .map) (λ k. map)) v,
       ap (λ (w : Verdict). settle w (stateIn image .entries) (λ k. entries)) v,

@@ -40,14 +40,20 @@ isDone (Refused k) = false
 
 -- ---- the whole card
 
--- Fresh reads nothing of the shape it takes.
+-- Fresh reads nothing of the shape it takes, and of the catalogue how many entries there are.
+module _ (shape : Shape) (blocks : ℕ) (map : List ℕ) (count : ℕ) where
+  abbrev pub freshOutcomeBy : Outcome
+  freshOutcomeBy = cond (freshFits blocks (length map) count) (told (record { blocks = blocks; free = blocks }) Done) (told shape (Refused 1))
+
+  abbrev pub freshMapBy : List ℕ
+  freshMapBy = cond (freshFits blocks (length map) count) (maps.freshMap blocks (length map)) map
+
 module _ (shape : Shape) (blocks : ℕ) (map : List ℕ) (entries : List Entry) where
   abbrev pub freshOutcome : Outcome
-  freshOutcome =
-      cond (freshFits blocks (length map) (length entries)) (told (record { blocks = blocks; free = blocks }) Done) (told shape (Refused 1))
+  freshOutcome = freshOutcomeBy shape blocks map (length entries)
 
   abbrev pub freshMap : List ℕ
-  freshMap = cond (freshFits blocks (length map) (length entries)) (maps.freshMap blocks (length map)) map
+  freshMap = freshMapBy shape blocks map (length entries)
 
   abbrev pub freshEntries : List Entry
   freshEntries = clearedIf entries (isDone (freshOutcome .answer))
@@ -148,12 +154,12 @@ abbrev pub savedState : Shape → List ℕ → List Entry → State
 savedState shape map entries = record { blocks = shape .blocks; spare = shape .free; entries = entries; map = map }
 
 -- Save hands the shape back as it came: the number 0 says that it was done.
-module _ (shape : Shape) (map : List ℕ) (entries : List Entry) (scratch image : List ℕ) where
-  abbrev saveNumber : ℕ
-  saveNumber = images.saveNumber (shape .blocks) (shape .free) map entries scratch image
+abbrev pub saveOutcomeBy : Shape → ℕ → Outcome
+saveOutcomeBy shape number = told shape (cond (eqb number 0) Done (Refused number))
 
+module _ (shape : Shape) (map : List ℕ) (entries : List Entry) (scratch image : List ℕ) where
   abbrev pub saveOutcome : Outcome
-  saveOutcome = told shape (cond (eqb saveNumber 0) Done (Refused saveNumber))
+  saveOutcome = saveOutcomeBy shape (images.saveNumber (shape .blocks) (shape .free) map entries scratch image)
 
   abbrev pub saveScratch : List ℕ
   saveScratch = images.saveScratch (shape .blocks) (shape .free) map entries scratch image
@@ -162,13 +168,13 @@ module _ (shape : Shape) (map : List ℕ) (entries : List Entry) (scratch image 
   saveImage = images.saveImage (shape .blocks) (shape .free) map entries scratch image
 
 -- Load reads nothing of the shape it takes: it hands back the image's n and free count, or, refused, the shape as it came.
-module _ (shape : Shape) (image map : List ℕ) (entries : List Entry) (scratch : List ℕ) where
-  abbrev loaded : Loaded
-  loaded = images.loadResult image map entries scratch
+abbrev pub loadOutcomeBy : Shape → Loaded → Outcome
+loadOutcomeBy shape loaded =
+    cond (eqb (loaded .number) 0) (told (record { blocks = loaded .blocks; free = loaded .free }) Done) (told shape (Refused (loaded .number)))
 
+module _ (shape : Shape) (image map : List ℕ) (entries : List Entry) (scratch : List ℕ) where
   abbrev pub loadOutcome : Outcome
-  loadOutcome =
-      cond (eqb (loaded .number) 0) (told (record { blocks = loaded .blocks; free = loaded .free }) Done) (told shape (Refused (loaded .number)))
+  loadOutcome = loadOutcomeBy shape (images.loadResult image map entries scratch)
 
   abbrev pub loadMap : List ℕ
   loadMap = images.loadMap image map entries scratch

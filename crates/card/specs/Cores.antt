@@ -1,19 +1,13 @@
--- What the cores of the calls hand back and leave (src/cores.rt): `..At` for a shape and a slot of the catalogue, `..By` for
--- what the whole catalogue comes to. The public calls (Calls.antt) are made of the same definitions below.
+-- What the cores of the calls on a sheet hand back and leave (src/cores.rt), for a shape and a slot of the catalogue. The public
+-- calls (Calls.antt) are made of the same definitions of the crates below.
 -- Assumes nothing.
-use mathlib.Core.Bool.{Bool, cond}
+use mathlib.Core.Bool.{Bool}
 use mathlib.Core.List.{List}
 use Prim.Native.Nat.{ℕ}
-use lib.Dec.{eqb}
-use lib.ListN.{length}
-use Rattle.freemap.specs.Maps as maps
 use Rattle.catalogue.specs.declared.Entry.{Entry}
 use Rattle.catalogue.specs.declared.Slot.{Slot}
 use Rattle.calls.specs.Effects as effects
-use Rattle.standings.specs.Limits.{freshFits}
-use Rattle.standings.specs.declared.Answer.the-variants.{Done, Refused}
 use Rattle.calls.specs.declared.Out.{Out}
-use Rattle.image.specs.declared.Loaded.{Loaded}
 use Rattle.card.specs.Calls.{told, isDone}
 use Rattle.card.specs.declared.Shape.{Shape}
 use Rattle.card.specs.declared.Outcome.{Outcome}
@@ -25,14 +19,6 @@ entryLeft out = out .entry
 -- Whether fresh was accepted.
 abbrev pub acceptedOf : Outcome → Bool
 acceptedOf outcome = isDone (outcome .answer)
-
--- Fresh reads nothing of the shape it takes.
-abbrev pub freshOutcomeBy : Shape → ℕ → List ℕ → ℕ → Outcome
-freshOutcomeBy shape blocks map count =
-    cond (freshFits blocks (length map) count) (told (record { blocks = blocks; free = blocks }) Done) (told shape (Refused 1))
-
-abbrev pub freshMapBy : Shape → ℕ → List ℕ → ℕ → List ℕ
-freshMapBy shape blocks map count = cond (freshFits blocks (length map) count) (maps.freshMap blocks (length map)) map
 
 abbrev pub reserveOutAt : Shape → List ℕ → List ℕ → Slot → ℕ → ℕ → Out
 reserveOutAt shape map card slot sheet k = effects.reserveOut (shape .blocks) (shape .free) map card (slot .count) (slot .entry) sheet k
@@ -87,12 +73,3 @@ blocksOf shape = shape .blocks
 
 abbrev pub freeOf : Shape → ℕ
 freeOf shape = shape .free
-
--- Save hands the shape back as it came: 0 says that it was done.
-abbrev pub saveOutcomeBy : Shape → ℕ → Outcome
-saveOutcomeBy shape number = told shape (cond (eqb number 0) Done (Refused number))
-
--- Load reads nothing of the shape it takes: it hands back the image's n and free count, or, refused, the shape as it came.
-abbrev pub loadOutcomeBy : Shape → Loaded → Outcome
-loadOutcomeBy shape loaded =
-    cond (eqb (loaded .number) 0) (told (record { blocks = loaded .blocks; free = loaded .free }) Done) (told shape (Refused (loaded .number)))

@@ -1,8 +1,8 @@
 // The cores of the calls: on an entry by value and plain slices, with the shape taken apart for the crates below. Every
 // decision of a call is here or below; the methods of `Shape` only find the entry and store it.
 ghost use mathlib.Core.Path.{_≡_};
-ghost use Rattle.card.specs.Calls.{outcomeOf};
-ghost use Rattle.card.specs.Cores.{entryLeft, acceptedOf, freshOutcomeBy, freshMapBy, reserveOutAt, reserveMapAt, reserveCardAt, growOutAt, growMapAt, growCardAt, putOutcomeAt, putCardAt, completeOutAt, pauseOutAt, releaseOutAt, releaseMapAt, showOutcomeAt, showBufferAt, standingOutcomeAt, blocksOf, freeOf, saveOutcomeBy, loadOutcomeBy};
+ghost use Rattle.card.specs.Calls.{outcomeOf, freshOutcomeBy, freshMapBy, saveOutcomeBy, loadOutcomeBy};
+ghost use Rattle.card.specs.Cores.{entryLeft, acceptedOf, reserveOutAt, reserveMapAt, reserveCardAt, growOutAt, growMapAt, growCardAt, putOutcomeAt, putCardAt, completeOutAt, pauseOutAt, releaseOutAt, releaseMapAt, showOutcomeAt, showBufferAt, standingOutcomeAt, blocksOf, freeOf};
 use crate::Outcome;
 use crate::Shape;
 use calls::Out;

@@ -5,7 +5,8 @@ use denote.Triple.Spec.{tripleOf}
 use denote.Triple.Table.{entered, cited}
 use lib.ListN.{length}
 use Rattle.catalogue.specs.Entries.{clearedIf}
-use Rattle.card.specs.Cores.{acceptedOf, freshOutcomeBy, freshMapBy}
+use Rattle.card.specs.Calls.{freshOutcomeBy, freshMapBy}
+use Rattle.card.specs.Cores.{acceptedOf}
 use Rattle.catalogue.proofs.Values.{Value, valueOf}
 use Rattle.card.proofs.Shape as Shape′
 use Rattle.card.proofs.Shape.Laws as Shape″

@@ -4,7 +4,7 @@ use contract.Running.{givenOf, tables, tablesOf}
 use denote.Triple.Spec.{tripleOf}
 use denote.Triple.Table.{entered, cited}
 use Rattle.image.specs.Effects.{loadResult, loadMap, loadEntries, loadScratch}
-use Rattle.card.specs.Cores.{loadOutcomeBy}
+use Rattle.card.specs.Calls.{loadOutcomeBy}
 use Rattle.catalogue.proofs.Values.{Value, valueOf}
 use Rattle.image.proofs.Loaded as Loaded′
 use Rattle.image.proofs.Loaded.Laws as Loaded″

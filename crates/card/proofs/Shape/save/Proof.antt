@@ -4,7 +4,8 @@ use contract.Running.{givenOf, tables, tablesOf}
 use denote.Triple.Spec.{tripleOf}
 use denote.Triple.Table.{entered, cited}
 use Rattle.image.specs.Effects.{saveNumber, saveScratch, saveImage}
-use Rattle.card.specs.Cores.{blocksOf, freeOf, saveOutcomeBy}
+use Rattle.card.specs.Calls.{saveOutcomeBy}
+use Rattle.card.specs.Cores.{blocksOf, freeOf}
 use Rattle.catalogue.proofs.Values.{Value, valueOf}
 use Rattle.card.proofs.Shape as Shape′
 use Rattle.card.proofs.Shape.Laws as Shape″
