@@ -23,7 +23,7 @@ use Rattle.standings.proofs.Openings.{closed, opened, none-left}
 
 module _ (n spare : ℕ) (map : List ℕ) (c : ℕ) (e : Entry) (sheet : ℕ) where
   abbrev pub verdict : Verdict
-  verdict = verdictOf (viewAt n spare map c e) (table.standing sheet)
+  verdict = verdictOf (viewAt n spare map c e) (table.on sheet table.standing)
 
   pub out : (v : Verdict) → verdict ≡ v → standingAnswer n spare map c e sheet ≡ settle v (Stands (e .mark) (e .start) (e .length)) Refused
   unfolding standingAnswer

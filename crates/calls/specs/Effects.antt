@@ -14,7 +14,7 @@ use Rattle.catalogue.specs.Entries.{absent, pausedMark, openMark, completeMark}
 use Rattle.catalogue.specs.declared.Entry.{Entry}
 use Rattle.standings.specs.Rows.{Verdict, settle}
 use Rattle.standings.specs.Searches.{startAt}
-use Rattle.calls.specs.Table.{reserve, put, grow, complete, pause, release, show, standing, verdictOf}
+use Rattle.calls.specs.Table.{on, reserve, put, grow, complete, pause, release, show, standing, verdictOf}
 use Rattle.calls.specs.Views.{viewAt, viewOn}
 use Rattle.standings.specs.declared.Answer.{Answer}
 use Rattle.standings.specs.declared.Answer.the-variants.{Done, Start, Stands, Blank, Refused}
@@ -34,7 +34,7 @@ refusalOut free e number = outOf free e (Refused number)
 module _ (n free : ℕ) (map card : List ℕ) (c : ℕ) (e : Entry) (sheet k : ℕ) where
   unfoldable pub reserveVerdict : Verdict
   unfolding viewOn
-  reserveVerdict = verdictOf (viewOn n free map card c e sheet) (reserve sheet k)
+  reserveVerdict = verdictOf (viewOn n free map card c e sheet) (on sheet (reserve k))
 
   unfoldable pub reserveStart : ℕ
   reserveStart = startAt (leastFit (map-blocks.free map) 0 n k)
@@ -55,7 +55,7 @@ module _ (n free : ℕ) (map card : List ℕ) (c : ℕ) (e : Entry) (sheet k : �
 module _ (n free : ℕ) (map card : List ℕ) (c : ℕ) (e : Entry) (sheet m : ℕ) where
   unfoldable pub growVerdict : Verdict
   unfolding viewOn
-  growVerdict = verdictOf (viewOn n free map card c e sheet) (grow sheet m)
+  growVerdict = verdictOf (viewOn n free map card c e sheet) (on sheet (grow m))
 
   unfoldable pub growOut : Out
   unfolding growVerdict
@@ -73,7 +73,7 @@ module _ (n free : ℕ) (map card : List ℕ) (c : ℕ) (e : Entry) (sheet m : �
 module _ (n free : ℕ) (map card : List ℕ) (c : ℕ) (e : Entry) (sheet place : ℕ) (payload : List ℕ) where
   unfoldable pub putVerdict : Verdict
   unfolding viewOn
-  putVerdict = verdictOf (viewOn n free map card c e sheet) (put sheet place payload)
+  putVerdict = verdictOf (viewOn n free map card c e sheet) (on sheet (put place payload))
 
   unfoldable pub putAnswer : Answer
   unfolding putVerdict
@@ -88,7 +88,7 @@ module _ (n free : ℕ) (map card : List ℕ) (c : ℕ) (e : Entry) (sheet place
 module _ (n free : ℕ) (map card : List ℕ) (c : ℕ) (e : Entry) (sheet : ℕ) where
   unfoldable pub completeVerdict : Verdict
   unfolding viewOn
-  completeVerdict = verdictOf (viewOn n free map card c e sheet) (complete sheet)
+  completeVerdict = verdictOf (viewOn n free map card c e sheet) (on sheet complete)
 
   unfoldable pub blankPlace : ℕ
   unfolding viewOn
@@ -104,7 +104,7 @@ module _ (n free : ℕ) (map : List ℕ) (c : ℕ) (e : Entry) (sheet : ℕ) whe
   -- Pause: Absent becomes Paused.
   unfoldable pub pauseVerdict : Verdict
   unfolding viewAt
-  pauseVerdict = verdictOf (viewAt n free map c e) (pause sheet)
+  pauseVerdict = verdictOf (viewAt n free map c e) (on sheet pause)
 
   unfoldable pub pauseOut : Out
   unfolding pauseVerdict
@@ -113,7 +113,7 @@ module _ (n free : ℕ) (map : List ℕ) (c : ℕ) (e : Entry) (sheet : ℕ) whe
   -- Release: any standing but Absent becomes Absent, its blocks free; the card's bytes stay.
   unfoldable pub releaseVerdict : Verdict
   unfolding viewAt
-  releaseVerdict = verdictOf (viewAt n free map c e) (release sheet)
+  releaseVerdict = verdictOf (viewAt n free map c e) (on sheet release)
 
   unfoldable pub releaseOut : Out
   unfolding releaseVerdict
@@ -126,13 +126,13 @@ module _ (n free : ℕ) (map : List ℕ) (c : ℕ) (e : Entry) (sheet : ℕ) whe
   -- Standing: answers mark, start and length.
   unfoldable pub standingAnswer : Answer
   unfolding viewAt
-  standingAnswer = settle (verdictOf (viewAt n free map c e) (standing sheet)) (Stands (e .mark) (e .start) (e .length)) Refused
+  standingAnswer = settle (verdictOf (viewAt n free map c e) (on sheet standing)) (Stands (e .mark) (e .start) (e .length)) Refused
 
 -- Show: copies a Complete sheet's payload out.
 module _ (n free : ℕ) (map card : List ℕ) (c : ℕ) (e : Entry) (sheet place : ℕ) (buffer : List ℕ) where
   unfoldable pub showVerdict : Verdict
   unfolding viewOn
-  showVerdict = verdictOf (viewOn n free map card c e sheet) (show sheet place buffer)
+  showVerdict = verdictOf (viewOn n free map card c e sheet) (on sheet (show place buffer))
 
   unfoldable pub showAnswer : Answer
   unfolding showVerdict

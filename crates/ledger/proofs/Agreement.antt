@@ -2,7 +2,7 @@
 -- Assumes nothing.
 use Prim.Native.Nat.{ℕ, zero, suc, _+_, _-_, _*_, _/_, _%_, _^_, _≤_, _<_}
 use mathlib.Core.Path.{_≡_, refl, sym, ap, _∙_, fun-ext}
-use mathlib.Core.Bool.{Bool, true, false, cond, not, _&&_, _||_}
+use mathlib.Core.Bool.{Bool, true, false, cond, not, _&&_}
 use mathlib.Core.List.{List, [], _∷_, map}
 use native.Mathlib.Nat.{zero-div, not-suc-le-zero, le-of-suc-le-suc}
 use native.Mathlib.Omega.{arith}
@@ -10,27 +10,27 @@ use lib.Dec.{eqb, leb, ltb}
 use lib.ListN.{length, length-map, List·getD-eq-default}
 use borrow.Author.Tests.{le-leb, lt-ltb, le-ltb, eq-eqb, ne-eqb, leb-false, ltb-true, ltb-false}
 use Rattle.freemap.specs.Blocks as map-blocks
-use Rattle.freemap.specs.Blocks.{all}
 use Rattle.freemap.specs.Maps.{mapOf}
 use Rattle.freemap.proofs.Maps.{map-length, map-free}
-use Rattle.freemap.proofs.Runs.{all-intro, all-same}
+use Rattle.freemap.proofs.Runs.{all-intro}
 use Rattle.card_blocks.specs.Card.{blockOf}
 use Rattle.sums.specs.Sealed as sealed-block
 use Rattle.sums.proofs.Blank.{blank-zeros}
 use Rattle.sums.proofs.Sealed.{sound-own, sound-zeros, blank-sealed}
 use Rattle.catalogue.specs.Entries.{entryAt}
 use Rattle.catalogue.specs.declared.Entry.{Entry}
-use Rattle.standings.specs.Rows.{Row, row, refused, firstOf}
-use Rattle.standings.specs.Standings.{extentHolds, standingOf}
-use Rattle.calls.specs.Table.{Call, reserve, put, grow, complete, pause, release, show, standing, View, tableOf, verdictOf}
+use Rattle.standings.specs.Rows.{row, Verdict, refused, firstOf}
+use Rattle.standings.specs.Standings.{extentHolds, standingOf, isDamaged}
+use Rattle.calls.specs.Table.{Ask, on, View, rowsFor, tableOf, verdictOf}
 use Rattle.standings.specs.Limits.{shapeFits, sheetsFit}
 use Rattle.calls.specs.Views.{viewAt, viewOn}
 use Rattle.standings.proofs.Openings.{skip, stop}
-use Rattle.ledger.specs.Ledger.{Place, Blank, Payload, Sheet, Absent, Paused, Open, Complete, standingIn, startIn, lengthIn, isBlank, sheetAt, placeAt, cover, freeIn, spareIn, viewIn, sheetOf, verdictIn}
+use Rattle.ledger.specs.Ledger.{Place, Blank, Payload, Sheet, Absent, Paused, Open, Complete, standingIn, startIn, lengthIn, isBlank, sheetAt, placeAt, cover, freeIn, spareIn, viewIn, listed, verdictIn}
 use Rattle.ledger.specs.Claim.{entryIn, blockIn}
 use Rattle.ledger.specs.Steps.{State}
 use Rattle.ledger.proofs.Cover.{covers-in, cover-at}
-use Rattle.ledger.proofs.Listed.{or-left, listed-same, spare-is}
+use Rattle.ledger.proofs.Listed.{listed-same, spare-is}
+use Rattle.ledger.proofs.Rows.{Never}
 use Rattle.ledger.proofs.Sheets.{Sized, Fine, Sound}
 
 -- ---- the state that a ledger calls for
@@ -73,17 +73,26 @@ free-map n l = fun-ext (λ b. go b (ltb b ((n + 63) / 64 * 64)) refl)
         let past : (n + 63) / 64 * 64 ≤ b = ltb-false b ((n + 63) / 64 * 64) e in
         past-words (freeIn n l) ((n + 63) / 64) b past ∙ sym (ap (λ (t : Bool). t && eqb (cover l b) 0) (le-ltb b n (omega arith)))
 
--- a view of the ledger with other blank and sound places
-abbrev reads : ℕ → List Sheet → ℕ → (ℕ → Bool) → (ℕ → Bool) → View
-reads n l i blank sound = record {
+-- what a view shows of the sheet's places
+pub record Places : Type 0 where
+  pub blank : ℕ → Bool
+  pub sound : ℕ → Bool
+
+pub record Alike (k : ℕ) (x y : Places) : Type 0 where
+  pub blank : (p : ℕ) → p < k → x .blank p ≡ y .blank p
+  pub sound : (p : ℕ) → p < k → x .sound p ≡ y .sound p
+
+-- a view of the ledger with other places
+abbrev pub reads : ℕ → List Sheet → ℕ → Places → View
+reads n l i places = record {
   misfit = false;
   blocks = n;
   sheets = length l;
   spare = spareIn n l;
   stands = standingIn (sheetAt l i);
   free = freeIn n l;
-  blank = blank;
-  sound = sound;
+  blank = places .blank;
+  sound = places .sound;
 }
 
 stands-as : (n : ℕ) (free : ℕ → Bool) (x : Sheet) → Fine n x → ((b : ℕ) → startIn x ≤ b → b < startIn x + lengthIn x → free b ≡ false)
@@ -96,48 +105,36 @@ stands-as n free (Open s ps) f h =
 stands-as n free (Complete s xs) f h =
     simp (le-leb 1 (length xs) (f .needed), le-leb (s + length xs) n (f .inside), all-intro (λ b. not (free b)) s (length xs) (λ b p q. ap not (h b p q)))
 
--- a row that does not hold lets the next ones speak
-late : (r : Row) (rows rows′ : List Row) → (r .holds ≡ false → firstOf rows ≡ firstOf rows′) → firstOf (r ∷ rows) ≡ firstOf (r ∷ rows′)
-unfolding firstOf
-late r rows rows′ h = go (r .holds) refl
-  where
-    go : (t : Bool) → r .holds ≡ t → cond t (refused (r .number)) (firstOf rows) ≡ cond t (refused (r .number)) (firstOf rows′)
-    go true e = refl
-    go false e = h e
+-- what the rows of an ask say of the ledger, with other places
+abbrev pub saysOn : ℕ → List Sheet → ℕ → Ask → Places → Verdict
+saysOn n l i a places = firstOf (rowsFor (reads n l i places) a)
 
--- the rows look at no place but the sheet's own
-verdict-reads : (n : ℕ) (l : List Sheet) (blank sound blank′ sound′ : ℕ → Bool) (c : Call)
-    → ((p : ℕ) → p < lengthIn (sheetAt l (sheetOf c)) → blank p ≡ blank′ p) → ((p : ℕ) → p < lengthIn (sheetAt l (sheetOf c)) → sound p ≡ sound′ p)
-    → verdictOf (reads n l (sheetOf c) blank sound) c ≡ verdictOf (reads n l (sheetOf c) blank′ sound′) c
-unfolding tableOf
-verdict-reads n l blank sound blank′ sound′ (reserve i k) b s = refl
-verdict-reads n l blank sound blank′ sound′ (put i p payload) b s = refl
-verdict-reads n l blank sound blank′ sound′ (grow i m) b s = refl
-verdict-reads n l blank sound blank′ sound′ (complete i) b s =
-    let k : ℕ = lengthIn (sheetAt l i) in
-    let either : all (λ p. blank p || sound p) 0 k ≡ all (λ p. blank′ p || sound′ p) 0 k =
-    all-same (λ p. blank p || sound p) (λ p. blank′ p || sound′ p) 0 0 k (λ j h. ap (λ (t : Bool). t || sound (0 + j)) (b (0 + j) (omega arith)) ∙ ap (λ (t : Bool). blank′ (0 + j) || t) (s (0 + j) (omega arith))) in
-    let each : all (λ p. not (blank p)) 0 k ≡ all (λ p. not (blank′ p)) 0 k =
-    all-same (λ p. not (blank p)) (λ p. not (blank′ p)) 0 0 k (λ j h. ap not (b (0 + j) (omega arith))) in
-    rw (either, each)
-verdict-reads n l blank sound blank′ sound′ (pause i) b s = refl
-verdict-reads n l blank sound blank′ sound′ (release i) b s = refl
-verdict-reads n l blank sound blank′ sound′ (show i p buffer) b s =
-    late _ _ _ (λ h1. late _ _ _ (λ h2. late _ _ _ (λ h4. late _ _ _ (λ h5. late _ _ _ (λ h6. late _ _ _ (λ h7. late _ _ _ (λ h3.
-    ap (λ (t : Bool). firstOf (row 4 (not t) ∷ [])) (s p (leb-false (lengthIn (sheetAt l i)) p (or-left _ _ h3))))))))))
-verdict-reads n l blank sound blank′ sound′ (standing i) b s = refl
+-- they look at no place, or at none but the sheet's own
+abbrev pub Plain : ℕ → List Sheet → ℕ → Ask → Type 0
+Plain n l i a = (x y : Places) → saysOn n l i a x ≡ saysOn n l i a y
+
+abbrev pub OwnPlaces : ℕ → List Sheet → ℕ → Ask → Type 0
+OwnPlaces n l i a = (x y : Places) → Alike (lengthIn (sheetAt l i)) x y → saysOn n l i a x ≡ saysOn n l i a y
+
+-- the rows that all begin with look at none
+opened : (n : ℕ) (l : List Sheet) (i : ℕ) (a : Ask) (x y : Places) → saysOn n l i a x ≡ saysOn n l i a y
+    → verdictOf (reads n l i x) (on i a) ≡ verdictOf (reads n l i y) (on i a)
+unfolding tableOf firstOf
+opened n l i a x y h =
+    ap (λ (v : Verdict). cond (leb (length l) i) (refused 2) (cond (isDamaged (standingIn (sheetAt l i))) (refused 4) v)) h
+
+-- the places as the ledger has them
+abbrev placesOf : List Sheet → ℕ → Places
+placesOf l i = record { blank = λ p. isBlank (placeAt l i p); sound = λ p. not (isBlank (placeAt l i p)) }
 
 -- a sheet that the catalogue does not have
-pub beyond : (v : View) (c : Call) → v .misfit ≡ false → leb (v .sheets) (sheetOf c) ≡ true → verdictOf v c ≡ refused 2
+beyond : (v : View) (i : ℕ) (a : Ask) → v .misfit ≡ false → leb (v .sheets) i ≡ true → verdictOf v (on i a) ≡ refused 2
 unfolding tableOf
-beyond v (reserve i k) f e = skip 1 _ _ _ f (stop 2 _ _ e)
-beyond v (put i p payload) f e = skip 1 _ _ _ f (stop 2 _ _ e)
-beyond v (grow i m) f e = skip 1 _ _ _ f (stop 2 _ _ e)
-beyond v (complete i) f e = skip 1 _ _ _ f (stop 2 _ _ e)
-beyond v (pause i) f e = skip 1 _ _ _ f (stop 2 _ _ e)
-beyond v (release i) f e = skip 1 _ _ _ f (stop 2 _ _ e)
-beyond v (show i p buffer) f e = skip 1 _ _ _ f (stop 2 _ _ e)
-beyond v (standing i) f e = skip 1 _ _ _ f (stop 2 _ _ e)
+beyond v i a f e = skip 1 _ _ _ f (stop 2 _ _ e)
+
+pub beyond-in : (n : ℕ) (l : List Sheet) (i : ℕ) (a : Ask) → leb (length l) i ≡ true → verdictIn n l (on i a) ≡ refused 2
+unfolding tableOf listed
+beyond-in n l i a e = stop 2 _ _ e
 
 blank-block : (i p : ℕ) (x : Place) → Sized x → sealed-block.blank (blockIn i p x) ≡ isBlank x
 blank-block i p Blank h = blank-zeros 512
@@ -170,17 +167,17 @@ module _ (n : ℕ) (l : List Sheet) (card : List ℕ) (k : Kept n l card) where
     abbrev e : Entry
     e = entryAt (map entryIn l) i
 
-    abbrev pub on : View
-    on = viewOn n (spareIn n l) (mapIn n l) card (length (map entryIn l)) e i
+    abbrev pub on-card : View
+    on-card = viewOn n (spareIn n l) (mapIn n l) card (length (map entryIn l)) e i
 
     abbrev pub at : View
     at = viewAt n (spareIn n l) (mapIn n l) (length (map entryIn l)) e
 
-    fits-of : on .misfit ≡ false
+    fits-of : on-card .misfit ≡ false
     unfolding viewOn
     fits-of = fits-on
 
-    sheets-of : leb (on .sheets) i ≡ leb (length l) i
+    sheets-of : leb (on-card .sheets) i ≡ leb (length l) i
     unfolding viewOn
     sheets-of = ap (λ (c : ℕ). leb c i) (length-map l entryIn)
 
@@ -204,7 +201,7 @@ module _ (n : ℕ) (l : List Sheet) (card : List ℕ) (k : Kept n l card) where
           ap (standingOf n (map-blocks.free (mapIn n l))) (entry-at l i lt)
           ∙ stands-as n (map-blocks.free (mapIn n l)) (sheetAt l i) (k .sound .fine i) covered
 
-      on-reads : on ≡ reads n l i (on .blank) (on .sound)
+      on-reads : on-card ≡ reads n l i (record { blank = on-card .blank; sound = on-card .sound })
       unfolding viewOn
       on-reads = λ t. record {
         misfit = fits-on t;
@@ -217,7 +214,7 @@ module _ (n : ℕ) (l : List Sheet) (card : List ℕ) (k : Kept n l card) where
         sound = λ p. sealed-block.sound i p (blockOf card (e .start + p));
       }
 
-      at-reads : at ≡ reads n l i (λ p. false) (λ p. false)
+      at-reads : at ≡ reads n l i (record { blank = λ p. false; sound = λ p. false })
       unfolding viewAt
       at-reads = λ t. record {
         misfit = fits-at t;
@@ -233,11 +230,11 @@ module _ (n : ℕ) (l : List Sheet) (card : List ℕ) (k : Kept n l card) where
       here : (p : ℕ) → p < lengthIn (sheetAt l i) → blockOf card (e .start + p) ≡ blockIn i p (placeAt l i p)
       here p h = ap (λ (x : Entry). blockOf card (x .start + p)) (entry-at l i lt) ∙ k .blocks i p h
 
-      pub blank-same : (p : ℕ) → p < lengthIn (sheetAt l i) → on .blank p ≡ isBlank (placeAt l i p)
+      pub blank-same : (p : ℕ) → p < lengthIn (sheetAt l i) → on-card .blank p ≡ isBlank (placeAt l i p)
       unfolding viewOn
       blank-same p h = ap sealed-block.blank (here p h) ∙ blank-block i p (placeAt l i p) (k .sound .fine i .sized p)
 
-      pub sound-same : (p : ℕ) → p < lengthIn (sheetAt l i) → on .sound p ≡ not (isBlank (placeAt l i p))
+      pub sound-same : (p : ℕ) → p < lengthIn (sheetAt l i) → on-card .sound p ≡ not (isBlank (placeAt l i p))
       unfolding viewOn
       sound-same p h =
           ap (sealed-block.sound i p) (here p h)
@@ -245,38 +242,27 @@ module _ (n : ℕ) (l : List Sheet) (card : List ℕ) (k : Kept n l card) where
 
   -- ---- the verdicts
 
-  -- a call that is lent the card
-  pub verdict-on : (c : Call) → verdictOf (on (sheetOf c)) c ≡ verdictIn n l c
-  verdict-on c = go (leb (length l) (sheetOf c)) refl ∙ listed-same n l (k .sound) c
-    where
-      go : (t : Bool) → leb (length l) (sheetOf c) ≡ t → verdictOf (on (sheetOf c)) c ≡ verdictOf (viewIn n l (sheetOf c)) c
-      go true out =
-          beyond (on (sheetOf c)) c (fits-of (sheetOf c)) (sheets-of (sheetOf c) ∙ out) ∙ sym (beyond (viewIn n l (sheetOf c)) c refl out)
-      go false inside =
-          let lt : sheetOf c < length l = leb-false (length l) (sheetOf c) inside in
-          ap (λ (v : View). verdictOf v c) (on-reads (sheetOf c) lt)
-          ∙ verdict-reads n l (on (sheetOf c) .blank) (on (sheetOf c) .sound) _ _ c (blank-same (sheetOf c) lt) (sound-same (sheetOf c) lt)
+  -- no row 1 or 4 holds in the ledger behind those that all begin with
+  abbrev pub NeverRows : ℕ → Ask → Type 0
+  NeverRows i a = Never (row 2 (leb (length l) i) ∷ []) (rowsFor (viewIn n l i) a)
 
-  -- a call that is not
-  verdict-at : (c : Call) → ((b s b′ s′ : ℕ → Bool) → verdictOf (reads n l (sheetOf c) b s) c ≡ verdictOf (reads n l (sheetOf c) b′ s′) c)
-      → verdictOf (at (sheetOf c)) c ≡ verdictIn n l c
-  verdict-at c plain = go (leb (length l) (sheetOf c)) refl ∙ listed-same n l (k .sound) c
-    where
-      go : (t : Bool) → leb (length l) (sheetOf c) ≡ t → verdictOf (at (sheetOf c)) c ≡ verdictOf (viewIn n l (sheetOf c)) c
-      go true out =
-          beyond (at (sheetOf c)) c (fits-of-at (sheetOf c)) (sheets-of-at (sheetOf c) ∙ out) ∙ sym (beyond (viewIn n l (sheetOf c)) c refl out)
-      go false inside =
-          let lt : sheetOf c < length l = leb-false (length l) (sheetOf c) inside in
-          ap (λ (v : View). verdictOf v c) (at-reads (sheetOf c) lt) ∙ plain _ _ _ _
+  module _ (i : ℕ) (a : Ask) where
+    by-sheet : (v : View) → v .misfit ≡ false → leb (v .sheets) i ≡ leb (length l) i → (i < length l → verdictOf v (on i a) ≡ verdictOf (viewIn n l i) (on i a)) → NeverRows i a
+        → verdictOf v (on i a) ≡ verdictIn n l (on i a)
+    by-sheet v fits sheets same never = go (leb (length l) i) refl ∙ listed-same n l (k .sound) i a never
+      where
+        go : (t : Bool) → leb (length l) i ≡ t → verdictOf v (on i a) ≡ verdictOf (viewIn n l i) (on i a)
+        go true out = beyond v i a fits (sheets ∙ out) ∙ sym (beyond (viewIn n l i) i a refl out)
+        go false inside = same (leb-false (length l) i inside)
 
-  pub pause-verdict : (i : ℕ) → verdictOf (at i) (pause i) ≡ verdictIn n l (pause i)
-  unfolding tableOf
-  pause-verdict i = verdict-at (pause i) (λ b s b′ s′. refl)
+    -- a call that is lent the card
+    pub verdict-on : OwnPlaces n l i a → NeverRows i a → verdictOf (on-card i) (on i a) ≡ verdictIn n l (on i a)
+    verdict-on own never =
+        by-sheet (on-card i) (fits-of i) (sheets-of i)
+        (λ lt. ap (λ (v : View). verdictOf v (on i a)) (on-reads i lt) ∙ opened n l i a _ (placesOf l i) (own _ (placesOf l i) (record { blank = blank-same i lt; sound = sound-same i lt }))) never
 
-  pub release-verdict : (i : ℕ) → verdictOf (at i) (release i) ≡ verdictIn n l (release i)
-  unfolding tableOf
-  release-verdict i = verdict-at (release i) (λ b s b′ s′. refl)
-
-  pub standing-verdict : (i : ℕ) → verdictOf (at i) (standing i) ≡ verdictIn n l (standing i)
-  unfolding tableOf
-  standing-verdict i = verdict-at (standing i) (λ b s b′ s′. refl)
+    -- a call that is not
+    pub verdict-at : Plain n l i a → NeverRows i a → verdictOf (at i) (on i a) ≡ verdictIn n l (on i a)
+    verdict-at plain never =
+        by-sheet (at i) (fits-of-at i) (sheets-of-at i)
+        (λ lt. ap (λ (v : View). verdictOf v (on i a)) (at-reads i lt) ∙ opened n l i a _ (placesOf l i) (plain _ (placesOf l i))) never

@@ -1,6 +1,6 @@
--- The steps of a run are the public calls' own contracts: what each method of `Shape` in crates/card ensures is the
--- proposition of specs/Steps.antt (`..-contract`), it asks nothing (`..-asks-nothing`), and that proposition is a step (`..-step`). That each method meets its
--- contract is what the check of the crate card shows.
+-- The steps of a run are the public calls' own contracts: each method of `Shape` in crates/card ensures that its result and what
+-- it is lent by `&mut` are as `endWith` of specs/Steps.antt has them (`..-contract`), it asks nothing (`..-asks-nothing`), and
+-- so it is a step (`..-step`). That each method meets its contract is what the check of the crate card shows.
 -- Assumes nothing.
 use Prim.Native.Nat.{ℕ, _+_, _/_, _≤_}
 use mathlib.Core.Path.{_≡_, refl, ap, _∙_}
@@ -41,8 +41,8 @@ use Rattle.card.proofs.Shape.pause as pause-method
 use Rattle.card.proofs.Shape.release as release-method
 use Rattle.card.proofs.Shape.show as show-method
 use Rattle.card.proofs.Shape.standing as standing-method
-use Rattle.calls.specs.Table.{reserve, put, grow, complete, pause, release, show, standing}
-use Rattle.ledger.specs.Steps.{Freshens, Reserves, Grows, Puts, Completes, Pauses, Releases, Shows, Stands, State, Reply, Step, freshState}
+use Rattle.calls.specs.Table.{Call, on, reserve, put, grow, complete, pause, release, show, standing}
+use Rattle.ledger.specs.Steps.{Freshens, State, Reply, endWith, endOf, Step, freshState}
 
 module _ {M : Type 1} (𝓤 : URA M) (H : Heap 𝓤) (A : Atoms 𝓤) (mem : Memory → SProp 𝓤) (run : Routine → Fun 𝓤) where
   abbrev 𝓛 : Connectives 𝓤
@@ -58,44 +58,44 @@ module _ {M : Type 1} (𝓤 : URA M) (H : Heap 𝓤) (A : Atoms 𝓤) (mem : Mem
   fresh-contract κs a r t = refl
 
   pub reserve-contract : (κs : Lfts 3) (a : Args reserve-method.signature κs) (r : Res reserve-method.signature κs) (t : AtExit reserve-method.ended κs)
-      → reserve-method.clauses 𝓤 H A mem run κs a .ensures tt r t
-      ≡ ⌜ Reserves (a .0) (now (a .1 .0)) (now (a .1 .1 .0)) (now (a .1 .1 .1 .0)) (a .1 .1 .1 .1 .0) (a .1 .1 .1 .1 .1 .0) r (now (t .1 .0)) (now (t .1 .1 .0)) (now (t .1 .1 .1 .0)) ⌝
+      → let end = endWith (a .0) (now (a .1 .0)) (now (a .1 .1 .0)) (now (a .1 .1 .1 .0)) (on (a .1 .1 .1 .1 .0) (reserve (a .1 .1 .1 .1 .1 .0))) in
+      reserve-method.clauses 𝓤 H A mem run κs a .ensures tt r t ≡ ⌜ (r ≡ end .outcome) × (now (t .1 .0) ≡ end .map) × (now (t .1 .1 .0) ≡ end .entries) × (now (t .1 .1 .1 .0) ≡ end .card) ⌝
   reserve-contract κs a r t = refl
 
   pub grow-contract : (κs : Lfts 3) (a : Args grow-method.signature κs) (r : Res grow-method.signature κs) (t : AtExit grow-method.ended κs)
-      → grow-method.clauses 𝓤 H A mem run κs a .ensures tt r t
-      ≡ ⌜ Grows (a .0) (now (a .1 .0)) (now (a .1 .1 .0)) (now (a .1 .1 .1 .0)) (a .1 .1 .1 .1 .0) (a .1 .1 .1 .1 .1 .0) r (now (t .1 .0)) (now (t .1 .1 .0)) (now (t .1 .1 .1 .0)) ⌝
+      → let end = endWith (a .0) (now (a .1 .0)) (now (a .1 .1 .0)) (now (a .1 .1 .1 .0)) (on (a .1 .1 .1 .1 .0) (grow (a .1 .1 .1 .1 .1 .0))) in
+      grow-method.clauses 𝓤 H A mem run κs a .ensures tt r t ≡ ⌜ (r ≡ end .outcome) × (now (t .1 .0) ≡ end .map) × (now (t .1 .1 .0) ≡ end .entries) × (now (t .1 .1 .1 .0) ≡ end .card) ⌝
   grow-contract κs a r t = refl
 
   pub put-contract : (κs : Lfts 4) (a : Args put-method.signature κs) (r : Res put-method.signature κs) (t : AtExit put-method.ended κs)
-      → put-method.clauses 𝓤 H A mem run κs a .ensures tt r t
-      ≡ ⌜ Puts (a .0) (now (a .1 .0)) (now (a .1 .1 .0)) (now (a .1 .1 .1 .0)) (a .1 .1 .1 .1 .0) (a .1 .1 .1 .1 .1 .0) (now (a .1 .1 .1 .1 .1 .1 .0)) r (now (t .1 .1 .1 .0)) ⌝
+      → let end = endWith (a .0) (now (a .1 .0)) (now (a .1 .1 .0)) (now (a .1 .1 .1 .0)) (on (a .1 .1 .1 .1 .0) (put (a .1 .1 .1 .1 .1 .0) (now (a .1 .1 .1 .1 .1 .1 .0)))) in
+      put-method.clauses 𝓤 H A mem run κs a .ensures tt r t ≡ ⌜ (r ≡ end .outcome) × (now (t .1 .1 .1 .0) ≡ end .card) ⌝
   put-contract κs a r t = refl
 
   pub complete-contract : (κs : Lfts 3) (a : Args complete-method.signature κs) (r : Res complete-method.signature κs) (t : AtExit complete-method.ended κs)
-      → complete-method.clauses 𝓤 H A mem run κs a .ensures tt r t
-      ≡ ⌜ Completes (a .0) (now (a .1 .0)) (now (a .1 .1 .0)) (now (a .1 .1 .1 .0)) (a .1 .1 .1 .1 .0) r (now (t .1 .1 .0)) ⌝
+      → let end = endWith (a .0) (now (a .1 .0)) (now (a .1 .1 .0)) (now (a .1 .1 .1 .0)) (on (a .1 .1 .1 .1 .0) complete) in
+      complete-method.clauses 𝓤 H A mem run κs a .ensures tt r t ≡ ⌜ (r ≡ end .outcome) × (now (t .1 .1 .0) ≡ end .entries) ⌝
   complete-contract κs a r t = refl
 
-  pub pause-contract : (κs : Lfts 2) (a : Args pause-method.signature κs) (r : Res pause-method.signature κs) (t : AtExit pause-method.ended κs)
-      → pause-method.clauses 𝓤 H A mem run κs a .ensures tt r t
-      ≡ ⌜ Pauses (a .0) (now (a .1 .0)) (now (a .1 .1 .0)) (a .1 .1 .1 .0) r (now (t .1 .1 .0)) ⌝
-  pause-contract κs a r t = refl
+  pub pause-contract : (κs : Lfts 2) (a : Args pause-method.signature κs) (r : Res pause-method.signature κs) (t : AtExit pause-method.ended κs) (card : List ℕ)
+      → let end = endWith (a .0) (now (a .1 .0)) (now (a .1 .1 .0)) card (on (a .1 .1 .1 .0) pause) in
+      pause-method.clauses 𝓤 H A mem run κs a .ensures tt r t ≡ ⌜ (r ≡ end .outcome) × (now (t .1 .1 .0) ≡ end .entries) ⌝
+  pause-contract κs a r t card = refl
 
-  pub release-contract : (κs : Lfts 2) (a : Args release-method.signature κs) (r : Res release-method.signature κs) (t : AtExit release-method.ended κs)
-      → release-method.clauses 𝓤 H A mem run κs a .ensures tt r t
-      ≡ ⌜ Releases (a .0) (now (a .1 .0)) (now (a .1 .1 .0)) (a .1 .1 .1 .0) r (now (t .1 .0)) (now (t .1 .1 .0)) ⌝
-  release-contract κs a r t = refl
+  pub release-contract : (κs : Lfts 2) (a : Args release-method.signature κs) (r : Res release-method.signature κs) (t : AtExit release-method.ended κs) (card : List ℕ)
+      → let end = endWith (a .0) (now (a .1 .0)) (now (a .1 .1 .0)) card (on (a .1 .1 .1 .0) release) in
+      release-method.clauses 𝓤 H A mem run κs a .ensures tt r t ≡ ⌜ (r ≡ end .outcome) × (now (t .1 .0) ≡ end .map) × (now (t .1 .1 .0) ≡ end .entries) ⌝
+  release-contract κs a r t card = refl
 
   pub show-contract : (κs : Lfts 4) (a : Args show-method.signature κs) (r : Res show-method.signature κs) (t : AtExit show-method.ended κs)
-      → show-method.clauses 𝓤 H A mem run κs a .ensures tt r t
-      ≡ ⌜ Shows (a .0) (now (a .1 .0)) (now (a .1 .1 .0)) (now (a .1 .1 .1 .0)) (a .1 .1 .1 .1 .0) (a .1 .1 .1 .1 .1 .0) (now (a .1 .1 .1 .1 .1 .1 .0)) r (now (t .1 .1 .1 .1 .1 .1 .0)) ⌝
+      → let end = endWith (a .0) (now (a .1 .0)) (now (a .1 .1 .0)) (now (a .1 .1 .1 .0)) (on (a .1 .1 .1 .1 .0) (show (a .1 .1 .1 .1 .1 .0) (now (a .1 .1 .1 .1 .1 .1 .0)))) in
+      show-method.clauses 𝓤 H A mem run κs a .ensures tt r t ≡ ⌜ (r ≡ end .outcome) × (now (t .1 .1 .1 .1 .1 .1 .0) ≡ end .buffer) ⌝
   show-contract κs a r t = refl
 
-  pub standing-contract : (κs : Lfts 2) (a : Args standing-method.signature κs) (r : Res standing-method.signature κs) (t : AtExit standing-method.ended κs)
-      → standing-method.clauses 𝓤 H A mem run κs a .ensures tt r t
-      ≡ ⌜ Stands (a .0) (now (a .1 .0)) (now (a .1 .1 .0)) (a .1 .1 .1 .0) r ⌝
-  standing-contract κs a r t = refl
+  pub standing-contract : (κs : Lfts 2) (a : Args standing-method.signature κs) (r : Res standing-method.signature κs) (t : AtExit standing-method.ended κs) (card : List ℕ)
+      → let end = endWith (a .0) (now (a .1 .0)) (now (a .1 .1 .0)) card (on (a .1 .1 .1 .0) standing) in
+      standing-method.clauses 𝓤 H A mem run κs a .ensures tt r t ≡ ⌜ r ≡ end .outcome ⌝
+  standing-contract κs a r t card = refl
 
   -- and no call asks anything of its caller
   pub fresh-asks-nothing : (κs : Lfts 2) (a : Args fresh-method.signature κs) → fresh-method.clauses 𝓤 H A mem run κs a .requires tt ≡ ⊤ₛ
@@ -132,38 +132,44 @@ leaving r map entries card = record { shape = r .shape; map = map; entries = ent
 abbrev replying : Outcome → List ℕ → Reply
 replying r buffer = record { answer = r .answer; buffer = buffer }
 
+-- all that a call hands back and leaves is as its contract says
+met : (s : State) (c : Call) (r : Outcome) (map : List ℕ) (entries : List Entry) (card buffer : List ℕ) → r ≡ endOf s c .outcome → map ≡ endOf s c .map
+    → entries ≡ endOf s c .entries → card ≡ endOf s c .card → buffer ≡ endOf s c .buffer → Step s c (replying r buffer) (leaving r map entries card)
+met s c r map entries card buffer o m e d b = (λ x. record { answer = o x .answer; buffer = b x }, λ x. record { shape = o x .shape; map = m x; entries = e x; card = d x })
+
+-- what the contract says is a step: what a call is not lent by `&mut` is as it was
 module _ (s : State) (sheet : ℕ) (r : Outcome) where
-  pub reserve-step : (k : ℕ) (map : List ℕ) (entries : List Entry) (card : List ℕ) → Reserves (s .shape) (s .map) (s .entries) (s .card) sheet k r map entries card
-      → Step s (reserve sheet k) (replying r []) (leaving r map entries card)
-  reserve-step k map entries card h = (h, refl)
+  pub reserve-step : (k : ℕ) (map : List ℕ) (entries : List Entry) (card : List ℕ) → (r ≡ endOf s (on sheet (reserve k)) .outcome) × (map ≡ endOf s (on sheet (reserve k)) .map) × (entries ≡ endOf s (on sheet (reserve k)) .entries) × (card ≡ endOf s (on sheet (reserve k)) .card)
+      → Step s (on sheet (reserve k)) (replying r []) (leaving r map entries card)
+  reserve-step k map entries card h = met s (on sheet (reserve k)) r map entries card [] (h .0) (h .1) (h .2) (h .3) refl
 
-  pub grow-step : (m : ℕ) (map : List ℕ) (entries : List Entry) (card : List ℕ) → Grows (s .shape) (s .map) (s .entries) (s .card) sheet m r map entries card
-      → Step s (grow sheet m) (replying r []) (leaving r map entries card)
-  grow-step m map entries card h = (h, refl)
+  pub grow-step : (m : ℕ) (map : List ℕ) (entries : List Entry) (card : List ℕ) → (r ≡ endOf s (on sheet (grow m)) .outcome) × (map ≡ endOf s (on sheet (grow m)) .map) × (entries ≡ endOf s (on sheet (grow m)) .entries) × (card ≡ endOf s (on sheet (grow m)) .card)
+      → Step s (on sheet (grow m)) (replying r []) (leaving r map entries card)
+  grow-step m map entries card h = met s (on sheet (grow m)) r map entries card [] (h .0) (h .1) (h .2) (h .3) refl
 
-  pub put-step : (p : ℕ) (payload card : List ℕ) → Puts (s .shape) (s .map) (s .entries) (s .card) sheet p payload r card
-      → Step s (put sheet p payload) (replying r []) (leaving r (s .map) (s .entries) card)
-  put-step p payload card h = (h, refl, refl, refl)
+  pub put-step : (p : ℕ) (payload : List ℕ) (card : List ℕ) → (r ≡ endOf s (on sheet (put p payload)) .outcome) × (card ≡ endOf s (on sheet (put p payload)) .card)
+      → Step s (on sheet (put p payload)) (replying r []) (leaving r (s .map) (s .entries) card)
+  put-step p payload card h = met s (on sheet (put p payload)) r (s .map) (s .entries) card [] (h .0) refl refl (h .1) refl
 
-  pub complete-step : (entries : List Entry) → Completes (s .shape) (s .map) (s .entries) (s .card) sheet r entries
-      → Step s (complete sheet) (replying r []) (leaving r (s .map) entries (s .card))
-  complete-step entries h = (h, refl, refl, refl)
+  pub complete-step : (entries : List Entry) → (r ≡ endOf s (on sheet complete) .outcome) × (entries ≡ endOf s (on sheet complete) .entries)
+      → Step s (on sheet complete) (replying r []) (leaving r (s .map) entries (s .card))
+  complete-step entries h = met s (on sheet complete) r (s .map) entries (s .card) [] (h .0) refl (h .1) refl refl
 
-  pub pause-step : (entries : List Entry) → Pauses (s .shape) (s .map) (s .entries) sheet r entries
-      → Step s (pause sheet) (replying r []) (leaving r (s .map) entries (s .card))
-  pause-step entries h = (h, refl, refl, refl)
+  pub pause-step : (entries : List Entry) → (r ≡ endOf s (on sheet pause) .outcome) × (entries ≡ endOf s (on sheet pause) .entries)
+      → Step s (on sheet pause) (replying r []) (leaving r (s .map) entries (s .card))
+  pause-step entries h = met s (on sheet pause) r (s .map) entries (s .card) [] (h .0) refl (h .1) refl refl
 
-  pub release-step : (map : List ℕ) (entries : List Entry) → Releases (s .shape) (s .map) (s .entries) sheet r map entries
-      → Step s (release sheet) (replying r []) (leaving r map entries (s .card))
-  release-step map entries h = (h, refl, refl)
+  pub release-step : (map : List ℕ) (entries : List Entry) → (r ≡ endOf s (on sheet release) .outcome) × (map ≡ endOf s (on sheet release) .map) × (entries ≡ endOf s (on sheet release) .entries)
+      → Step s (on sheet release) (replying r []) (leaving r map entries (s .card))
+  release-step map entries h = met s (on sheet release) r map entries (s .card) [] (h .0) (h .1) (h .2) refl refl
 
-  pub show-step : (p : ℕ) (buffer buffer′ : List ℕ) → Shows (s .shape) (s .map) (s .entries) (s .card) sheet p buffer r buffer′
-      → Step s (show sheet p buffer) (replying r buffer′) (leaving r (s .map) (s .entries) (s .card))
-  show-step p buffer buffer′ h = (h, refl, refl, refl)
+  pub show-step : (p : ℕ) (buffer : List ℕ) (buffer′ : List ℕ) → (r ≡ endOf s (on sheet (show p buffer)) .outcome) × (buffer′ ≡ endOf s (on sheet (show p buffer)) .buffer)
+      → Step s (on sheet (show p buffer)) (replying r buffer′) (leaving r (s .map) (s .entries) (s .card))
+  show-step p buffer buffer′ h = met s (on sheet (show p buffer)) r (s .map) (s .entries) (s .card) buffer′ (h .0) refl refl refl (h .1)
 
-  pub standing-step : Stands (s .shape) (s .map) (s .entries) sheet r
-      → Step s (standing sheet) (replying r []) (leaving r (s .map) (s .entries) (s .card))
-  standing-step h = (h, refl, refl, refl, refl)
+  pub standing-step : r ≡ endOf s (on sheet standing) .outcome
+      → Step s (on sheet standing) (replying r []) (leaving r (s .map) (s .entries) (s .card))
+  standing-step h = met s (on sheet standing) r (s .map) (s .entries) (s .card) [] h refl refl refl refl
 
 -- ---- what an accepted fresh left
 

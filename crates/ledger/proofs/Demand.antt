@@ -17,69 +17,31 @@ use Rattle.catalogue.specs.Entries.{absent}
 use Rattle.catalogue.specs.declared.Entry.{Entry}
 use Rattle.standings.specs.Answers.{numberOf}
 use Rattle.standings.specs.Rows.{Verdict, accepted, firstOf, settle}
-use Rattle.calls.specs.Table.{Call, reserve, put, grow, complete, pause, release, show, standing, tableOf}
-use Rattle.ledger.specs.Ledger.{Place, Blank, Payload, Sheet, Absent, Complete, standingIn, startIn, lengthIn, placesIn, bytesOf, sheetAt, placeAt, cover, freeIn, spareIn, listed, verdictIn, stepIn, after, begun, done, doneIn, refusedIn, toldIn}
-use Rattle.ledger.specs.Claim.{Answered, AllAnswered, Searched, SearchedBy, AllSearched, granted, returned, entryIn, Agrees, Gives, Claim}
+use Rattle.calls.specs.Table.{Call, on, show, tableOf}
+use Rattle.ledger.specs.Ledger.{Place, Blank, Payload, Sheet, Absent, Complete, standingIn, startIn, lengthIn, placesIn, bytesOf, sheetAt, placeAt, cover, freeIn, spareIn, listed, verdictIn, deedIn, stepIn, after, begun, Told, done, refusedWith}
+use Rattle.ledger.specs.Claim.{Answered, AllAnswered, SearchedBy, AllSearched, granted, returned, lastPut, entryIn, Agrees, Gives, Claim}
 use Rattle.card.specs.declared.Shape.{Shape}
 use Rattle.card.specs.declared.Outcome.{Outcome}
-use Rattle.ledger.specs.Steps.{Freshens, State, Reply, toldBy, Step, Runs, freshState}
+use Rattle.ledger.specs.Steps.{Freshens, State, Reply, toldBy, endOf, replyOf, stateOn, Step, Runs, freshState}
 use Rattle.ledger.proofs.Agreement.{mapIn, stateOf, Kept, free-map}
 use Rattle.ledger.proofs.Contracts.{leaving, Limits, fresh-left}
 use Rattle.ledger.proofs.Cover.{covers-absent, held}
-use Rattle.ledger.proofs.History.{holding, last-put}
 use Rattle.ledger.proofs.Listed.{spare-is}
 use Rattle.ledger.proofs.Marks.{map-same}
 use Rattle.ledger.proofs.Results.{Result}
-use Rattle.ledger.proofs.Search.{searched}
-use Rattle.ledger.proofs.Stepping.{one-step, has-run}
-use Rattle.ledger.proofs.Sums.{moved}
-use Rattle.ledger.proofs.step.Complete.{complete-result}
-use Rattle.ledger.proofs.step.Grow.{grow-result}
-use Rattle.ledger.proofs.step.Pause.{pause-result}
-use Rattle.ledger.proofs.step.Put.{put-result}
-use Rattle.ledger.proofs.step.Release.{release-result}
-use Rattle.ledger.proofs.step.Reserve.{reserve-result}
-use Rattle.ledger.proofs.step.Show.{show-result}
-use Rattle.ledger.proofs.step.Standing.{standing-result}
+use Rattle.ledger.proofs.Sheets.{holding, Has}
+use Rattle.ledger.proofs.step.{result}
 
 -- ---- one call
-
-pub result : (n : ℕ) (l : List Sheet) (card : List ℕ) → Kept n l card → (c : Call) → Result n l card c (stepIn n l c) (toldIn n l c)
-result n l card k (reserve i m) = reserve-result n l card k i m
-result n l card k (put i p payload) = put-result n l card k i p payload
-result n l card k (grow i m) = grow-result n l card k i m
-result n l card k (complete i) = complete-result n l card k i
-result n l card k (pause i) = pause-result n l card k i
-result n l card k (release i) = release-result n l card k i
-result n l card k (show i p buffer) = show-result n l card k i p buffer
-result n l card k (standing i) = standing-result n l card k i
 
 module _ (n : ℕ) (l : List Sheet) (card : List ℕ) (k : Kept n l card) (c : Call) (reply : Reply) (t : State) (st : Step (stateOf n l card) c reply t) where
   pub answered : Answered n l c reply
   answered =
       let r = result n l card k c in
-      record {
-        place = r .place;
-        blank = r .blank;
-        told = ap toldBy (one-step (stateOf n l card) c reply t st .the-reply) ∙ r .told-so;
-      }
+      record { place = r .place; blank = r .blank; told = ap toldBy (st .0) ∙ r .told-so }
 
-  pub state-after : t ≡ stateOf n (stepIn n l c) (result n l card k c .card-left)
-  state-after = one-step (stateOf n l card) c reply t st .the-state ∙ result n l card k c .state-left
-
-  pub by-search : SearchedBy n l c (toldBy reply)
-  by-search = go c refl
-    where
-      go : (d : Call) → c ≡ d → SearchedBy n l d (toldBy reply)
-      go (reserve i m) e =
-          λ came. subst (Searched n l m) (sym (answered .told ∙ ap (λ (d : Call). toldIn n l d (answered .place)) e)) (searched n l i m (answered .place) came)
-      go (put i p payload) e = tt
-      go (grow i m) e = tt
-      go (complete i) e = tt
-      go (pause i) e = tt
-      go (release i) e = tt
-      go (show i p buffer) e = tt
-      go (standing i) e = tt
+  by-search : SearchedBy n l c (toldBy reply)
+  by-search = let r = result n l card k c in subst (SearchedBy n l c) (sym (ap toldBy (st .0) ∙ r .told-so)) (r .searched)
 
 -- ---- a list of calls
 
@@ -91,24 +53,35 @@ pub record Left (n : ℕ) (l : List Sheet) (calls : List Call) (replies : List R
   pub answers : AllAnswered n l calls replies
   pub searches : AllSearched n l calls replies
   pub sum : held (after n l calls) + returned n l calls ≡ held l + granted n l calls
+  -- what a place holds is what the history has last put there since the sheet's reserve
+  pub noted-so : (j p : ℕ) (m : Place) → Has p m (sheetAt l j) → Has p (lastPut j p m calls replies) (sheetAt (after n l calls) j)
 
 pub lists : (n : ℕ) (calls : List Call) (replies : List Reply) (l : List Sheet) (card : List ℕ) (s t : State) → Kept n l card → s ≡ stateOf n l card
     → Runs s calls replies t → Left n l calls replies t
-lists n [] [] l card s t k e h = record { card-left = card; state-left = h ∙ e; kept-left = k; answers = tt; searches = tt; sum = refl }
+lists n [] [] l card s t k e h =
+    record { card-left = card; state-left = h ∙ e; kept-left = k; answers = tt; searches = tt; sum = refl; noted-so = λ j p m was. was }
 lists n [] (reply ∷ replies) l card s t k e h = absurd h
 lists n (c ∷ calls) [] l card s t k e h = absurd h
 lists n (c ∷ calls) (reply ∷ replies) l card s t k e h =
     let st : Step (stateOf n l card) c reply (h .0) = subst (λ (x : State). Step x c reply (h .0)) e (h .1) in
-    let r : Result n l card c (stepIn n l c) (toldIn n l c) = result n l card k c in
-    let rest : Left n (stepIn n l c) calls replies t = lists n calls replies (stepIn n l c) (r .card-left) (h .0) t (r .kept-left) (state-after n l card k c reply (h .0) st) (h .2) in
+    let r : Result n l card c (verdictIn n l c) = result n l card k c in
+    let rest : Left n (stepIn n l c) calls replies t = lists n calls replies (stepIn n l c) (r .card-left) (h .0) t (r .kept-left) (st .1 ∙ r .state-left) (h .2) in
     record {
       card-left = rest .card-left;
       state-left = rest .state-left;
       kept-left = rest .kept-left;
       answers = (answered n l card k c reply (h .0) st, rest .answers);
       searches = (by-search n l card k c reply (h .0) st, rest .searches);
-      sum = omega (arith, rest .sum, moved n l (k .sound) c);
+      sum = omega (arith, rest .sum, r .sum);
+      noted-so = λ j p m was. rest .noted-so j p _ (rw (ap (λ (x : Reply). eqb (toldBy x .number) 0) (st .0) ∙ ap (λ (x : Told). eqb (x .number) 0) (r .told-so)) (r .noted-so j p m was));
     }
+
+-- and every list has a run
+pub has-run : (s : State) (calls : List Call) → (replies : List Reply) × (t : State) × Runs s calls replies t
+has-run s [] = ([], s, refl)
+has-run s (c ∷ calls) =
+    let e = endOf s c in
+    let rest = has-run (stateOn e) calls in (replyOf e ∷ rest .0, rest .1, (stateOn e, (refl, refl), rest .2))
 
 -- ---- a fresh card
 
@@ -166,7 +139,7 @@ payload-of (x ∷ xs) (suc p) h = payload-of xs p (omega arith)
 
 -- a show of a complete sheet's place is accepted
 show-accepted : (n : ℕ) (l : List Sheet) (i s : ℕ) (xs : List (List ℕ)) → sheetAt l i ≡ Complete s xs → (p : ℕ) → p < length xs
-    → (buffer : List ℕ) → length buffer ≡ 496 → verdictIn n l (show i p buffer) ≡ accepted
+    → (buffer : List ℕ) → length buffer ≡ 496 → verdictIn n l (on i (show p buffer)) ≡ accepted
 unfolding tableOf listed firstOf
 show-accepted n l i s xs e p lp buffer len =
     rw (ap standingIn e, lt-leb (length l) i (listed-sheet l i s xs e), lt-leb (length xs) p lp, eq-eqb (length buffer) 496 len) refl
@@ -176,11 +149,11 @@ module _ (n : ℕ) (l : List Sheet) (card : List ℕ) (k : Kept n l card) (i s :
   place-of = ap (λ (x : Sheet). getD (placesIn x) p Blank) e ∙ payload-of xs p lp
 
   pub shown : (t : State) → t ≡ stateOf n l card → Gives t i p (getD xs p [])
-  unfolding doneIn
+  unfolding deedIn
   shown t at buffer len reply u st =
-      let st′ : Step (stateOf n l card) (show i p buffer) reply u = subst (λ (x : State). Step x (show i p buffer) reply u) at st in
-      let a : Answered n l (show i p buffer) reply = answered n l card k (show i p buffer) reply u st′ in
-      a .told ∙ ap (λ (v : Verdict). settle v (doneIn n l (show i p buffer)) (refusedIn (show i p buffer) (a .place))) (show-accepted n l i s xs e p lp buffer len)
+      let st′ : Step (stateOf n l card) (on i (show p buffer)) reply u = subst (λ (x : State). Step x (on i (show p buffer)) reply u) at st in
+      let a : Answered n l (on i (show p buffer)) reply = answered n l card k (on i (show p buffer)) reply u st′ in
+      a .told ∙ ap (λ (v : Verdict). settle v (done [] (bytesOf (placeAt l i p))) (refusedWith buffer (a .place))) (show-accepted n l i s xs e p lp buffer len)
       ∙ ap (λ (x : Place). done [] (bytesOf x)) place-of
 
 -- ---- the claim
@@ -215,7 +188,7 @@ module _ (n c : ℕ) (card : List ℕ) (n-low : 1 ≤ n) (n-high : n ≤ 262144)
         searches = w .searches;
         shows = λ i s xs e p lp. (
           getD xs p [],
-          sym (last-put n i p calls replies (begun c) Blank (λ h. absurd (false≢true (subst (λ (x : Sheet). holding x ≡ true) (sheet-begun c i) h))) (w .answers) (ap holding e))
+          sym (w .noted-so i p Blank (λ h. absurd (false≢true (subst (λ (x : Sheet). holding x ≡ true) (sheet-begun c i) h))) (ap holding e))
               ∙ place-of n l (w .card-left) (w .kept-left) i s xs e p lp,
           shown n l (w .card-left) (w .kept-left) i s xs e p lp t (w .state-left),
         );

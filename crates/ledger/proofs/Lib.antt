@@ -1,12 +1,10 @@
--- The laws that the claim is proved by: of the ledger alone (Cover, Rows, Sheets, Listed), of the state that it calls for
--- (Agreement, Marks, Keeping), of the calls on that state (Stepping, Results, step), and of the claim's parts (Sums, Search,
--- History). Demand has the theorem, Contracts that the steps are the public calls' contracts, Savable that every state that a
--- list leaves can be saved.
+-- The laws that the claim is proved by: of the ledger alone (Cover, Rows, Sheets, Listed, Search), of the state that it calls for
+-- (Agreement, Marks, Keeping), and of the calls on that state (Results what they share, step each by itself). Demand has the
+-- theorem, Contracts that the steps are the public calls' contracts, Savable that every state that a list leaves can be saved.
 pub mod Agreement
 pub mod Contracts
 pub mod Cover
 pub mod Demand
-pub mod History
 pub mod Keeping
 pub mod Listed
 pub mod Marks
@@ -15,6 +13,4 @@ pub mod Rows
 pub mod Search
 pub mod Savable
 pub mod Sheets
-pub mod Stepping
-pub mod Sums
 pub mod step

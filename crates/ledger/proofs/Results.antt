@@ -1,71 +1,198 @@
 -- What a call comes to on the state that a ledger calls for: it answers as the ledger does, and leaves the state that the
--- ledger calls for then. Each of the eight calls has a file of its own in step/.
+-- ledger calls for then; the sum and the history go on with it. What the calls share is here: a refused call leaves all as it
+-- was, and a call that changes one sheet leaves the others. What is a call's own is in its file in step/.
 -- Assumes nothing.
-use Prim.Native.Nat.{ℕ, _<_}
-use mathlib.Core.Path.{_≡_, sym, ap, _∙_}
-use mathlib.Core.Bool.{Bool, false, cond}
+use Prim.Native.Nat.{ℕ, _+_, _<_}
+use mathlib.Core.Path.{_≡_, refl, sym, ap, subst, _∙_}
+use mathlib.Core.Logic.{_≢_}
+use mathlib.Core.Bool.{Bool, true, false, cond}
 use mathlib.Core.List.{List, [], _∷_, map}
-use lib.ListN.{set}
-use borrow.Author.Tests.{ne-eqb}
+use native.Mathlib.Omega.{arith}
+use lib.Dec.{eqb}
+use lib.ListN.{length, set}
+use lib.Seq.{getD-set-same, getD-set-other}
+use borrow.Author.Tests.{ne-eqb, eqb-true, eqb-false}
 use Rattle.catalogue.specs.Entries.{entryAt}
 use Rattle.catalogue.specs.declared.Entry.{Entry}
 use Rattle.catalogue.proofs.Storing.{stored-back}
-use Rattle.standings.specs.Rows.{Row, accepted, refused, firstOf}
-use Rattle.calls.specs.Table.{Call, tableOf}
-use Rattle.ledger.specs.Ledger.{Blank, Sheet, lengthIn, sheetAt, placeAt, viewIn, listed, sheetOf, verdictIn, Told, refusedIn, bufferOf}
-use Rattle.ledger.specs.Claim.{entryIn}
-use Rattle.ledger.specs.Steps.{State, toldBy}
-use Rattle.ledger.proofs.Agreement.{stateOf, Kept}
+use Rattle.standings.specs.Answers.{numberOf, valuesOf}
+use Rattle.standings.specs.Rows.{Verdict, accepted, refused, settle}
+use Rattle.standings.specs.declared.Answer.{Answer}
+use Rattle.standings.specs.declared.Answer.the-variants.{Refused}
+use Rattle.calls.specs.Effects.{outOf, refusalOut}
+use Rattle.calls.specs.Table.{Ask, Call, on}
+use Rattle.calls.specs.declared.Out.{Out}
+use Rattle.card.specs.Calls.{told, outcomeOf}
+use Rattle.ledger.specs.Ledger.{Place, Blank, Sheet, Absent, lengthIn, sheetAt, placeAt, spareIn, sheetOf, rowsIn, verdictIn, deedIn, Told, done, refusedWith}
+use Rattle.ledger.specs.Claim.{entryIn, noted, noteOf, SearchedBy}
+use Rattle.ledger.specs.Steps.{End, ending, endOf, replyOf, stateOn, toldBy}
+use Rattle.ledger.proofs.Agreement.{mapIn, stateOf, Kept}
+use Rattle.ledger.proofs.Cover.{held, held-set}
 use Rattle.ledger.proofs.Keeping.{entries-set, Changed}
-use Rattle.ledger.proofs.Listed.{listed-same}
 use Rattle.ledger.proofs.Rows.{says, never-says}
-use Rattle.ledger.proofs.Stepping.{replyTo, stateAfter}
+use Rattle.ledger.proofs.Sheets.{Has}
 
--- what a call comes to, where the ledger is l′ afterwards and tells what `told` says
-pub record Result (n : ℕ) (l : List Sheet) (card : List ℕ) (c : Call) (l′ : List Sheet) (told : ℕ → Told) : Type 0 where
+-- what a call comes to, by its verdict
+pub record Result (n : ℕ) (l : List Sheet) (card : List ℕ) (c : Call) (v : Verdict) : Type 0 where
   pub card-left : List ℕ
-  pub state-left : stateAfter (stateOf n l card) c ≡ stateOf n l′ card-left
-  pub kept-left : Kept n l′ card-left
+  pub state-left : stateOn (endOf (stateOf n l card) c) ≡ stateOf n (settle v (deedIn n l c .ledger) (λ number. l)) card-left
+  pub kept-left : Kept n (settle v (deedIn n l c .ledger) (λ number. l)) card-left
   pub place : ℕ
-  pub blank : verdictIn n l c ≡ refused 9 → (place < lengthIn (sheetAt l (sheetOf c))) × (placeAt l (sheetOf c) place ≡ Blank)
-  pub told-so : toldBy (replyTo (stateOf n l card) c) ≡ told place
+  pub blank : v ≡ refused 9 → (place < lengthIn (sheetAt l (sheetOf c))) × (placeAt l (sheetOf c) place ≡ Blank)
+  pub told-so : toldBy (replyOf (endOf (stateOf n l card) c)) ≡ settle v (done (deedIn n l c .values) (deedIn n l c .left)) (refusedWith (deedIn n l c .brought) place)
+  pub sum : held (settle v (deedIn n l c .ledger) (λ number. l)) + settle v (deedIn n l c .returns) (λ number. 0) ≡ held l + settle v (deedIn n l c .grants) (λ number. 0)
+  pub noted-so : (j p : ℕ) (m : Place) → Has p m (sheetAt l j)
+      → Has p (cond (eqb (settle v (done (deedIn n l c .values) (deedIn n l c .left)) (refusedWith (deedIn n l c .brought) place) .number) 0) (noted j p m (noteOf c)) m)
+      (sheetAt (settle v (deedIn n l c .ledger) (λ number. l)) j)
+  pub searched : SearchedBy n l c (settle v (done (deedIn n l c .values) (deedIn n l c .left)) (refusedWith (deedIn n l c .brought) place))
 
-module _ (n : ℕ) (l : List Sheet) (card : List ℕ) (k : Kept n l card) where
-  abbrev pub s : State
-  s = stateOf n l card
+module _ (n : ℕ) (l : List Sheet) (card : List ℕ) where
+  -- what a call comes to where it leaves the state that ledger l′ calls for
+  abbrev pub endIn : List Sheet → List ℕ → Answer → List ℕ → End
+  endIn l′ card′ answer buffer = ending (told (record { blocks = n; free = spareIn n l′ }) answer) (mapIn n l′) (map entryIn l′) card′ buffer
 
-  abbrev pub e : ℕ → Entry
-  e i = entryAt (map entryIn l) i
+  -- an accepted call, which comes to e
+  pub record Done (c : Call) (e : End) : Type 0 where
+    pub card-left : List ℕ
+    pub answer : Answer
+    pub ends-so : e ≡ endIn (deedIn n l c .ledger) card-left answer (deedIn n l c .left)
+    pub says-so : (numberOf answer ≡ 0) × (valuesOf answer ≡ deedIn n l c .values)
+    pub kept-left : Kept n (deedIn n l c .ledger) card-left
+    pub sum : held (deedIn n l c .ledger) + deedIn n l c .returns ≡ held l + deedIn n l c .grants
+    pub noted-so : (j p : ℕ) (m : Place) → Has p m (sheetAt l j) → Has p (noted j p m (noteOf c)) (sheetAt (deedIn n l c .ledger) j)
 
-  abbrev pub rows : Call → List Row
-  rows c = tableOf (viewIn n l (sheetOf c)) c
+  -- a refused call, which comes to `ends number`: all is as it was, and with 9 goes a blank place
+  pub record Back (c : Call) (ends : ℕ → End) : Type 0 where
+    pub place : ℕ
+    pub blank : verdictIn n l c ≡ refused 9 → (place < lengthIn (sheetAt l (sheetOf c))) × (placeAt l (sheetOf c) place ≡ Blank)
+    pub answer : ℕ → Answer
+    pub ends-so : (number : ℕ) → ends number ≡ endIn l card (answer number) (deedIn n l c .brought)
+    pub says-so : (number : ℕ) → verdictIn n l c ≡ refused number → (numberOf (answer number) ≡ number) × (valuesOf (answer number) ≡ cond (eqb number 9) (place ∷ []) [])
 
-  -- an accepted call has cleared all its rows
-  abbrev pub Accepted : Call → Type 0
-  Accepted c = verdictIn n l c ≡ accepted
+  module _ (k : Kept n l card) where
+    pub result-of : (c : Call) (ends : Verdict → End) → endOf (stateOf n l card) c ≡ ends (verdictIn n l c) → says 0 (rowsIn n l c) ≡ false
+        → (verdictIn n l c ≡ accepted → Done c (ends accepted)) → Back c (λ number. ends (refused number))
+        → ((p : ℕ) → SearchedBy n l c (settle (verdictIn n l c) (done (deedIn n l c .values) (deedIn n l c .left)) (refusedWith (deedIn n l c .brought) p)))
+        → Result n l card c (verdictIn n l c)
+    result-of c ends is zero accept refuse sought = go (verdictIn n l c) refl sought
+      where
+        tells : (a : Answer) (buffer : List ℕ) (number : ℕ) (values : List ℕ) → (numberOf a ≡ number) × (valuesOf a ≡ values)
+            → _≡_ {A = Told} (record { number = numberOf a; values = valuesOf a; buffer = buffer }) (record { number = number; values = values; buffer = buffer })
+        tells a buffer number values h = λ t. record { number = h .0 t; values = h .1 t; buffer = buffer }
 
-  pub all-rows : (c : Call) → Accepted c → firstOf (rows c) ≡ accepted
-  all-rows c h = listed-same n l (k .sound) c ∙ h
+        go : (v : Verdict) → verdictIn n l c ≡ v → ((p : ℕ) → SearchedBy n l c (settle v (done (deedIn n l c .values) (deedIn n l c .left)) (refusedWith (deedIn n l c .brought) p)))
+            → Result n l card c v
+        go accepted h sought =
+            let d = accept h in
+            let so = is ∙ ap ends h ∙ d .ends-so in
+            record {
+              card-left = d .card-left;
+              state-left = ap stateOn so;
+              kept-left = d .kept-left;
+              place = refuse .place;
+              blank = λ nine. refuse .blank (h ∙ nine);
+              told-so = ap (λ (e : End). toldBy (replyOf e)) so ∙ tells (d .answer) (deedIn n l c .left) 0 (deedIn n l c .values) (d .says-so);
+              sum = d .sum;
+              noted-so = d .noted-so;
+              searched = sought (refuse .place);
+            }
+        go (refused number) h sought =
+            let so = is ∙ ap ends h ∙ refuse .ends-so number in
+            record {
+              card-left = card;
+              state-left = ap stateOn so;
+              kept-left = k;
+              place = refuse .place;
+              blank = λ nine. refuse .blank (h ∙ nine);
+              told-so = ap (λ (e : End). toldBy (replyOf e)) so ∙ tells (refuse .answer number) (deedIn n l c .brought) number (cond (eqb number 9) (refuse .place ∷ []) []) (refuse .says-so number h);
+              sum = refl;
+              noted-so = λ j p m was. rw (ne-eqb number 0 (λ z. never-says 0 (rowsIn n l c) zero (h ∙ ap refused z))) was;
+              searched = sought (refuse .place);
+            }
 
-  abbrev pub unheard : Call → Type 0
-  unheard c = says 9 (listed (rows c)) ≡ false
+    -- a call without a row 9
+    pub plain-back : (c : Call) (ends : ℕ → End) → says 9 (rowsIn n l c) ≡ false → ((number : ℕ) → ends number ≡ endIn l card (Refused number) (deedIn n l c .brought)) → Back c ends
+    plain-back c ends unheard so = record {
+      place = 0;
+      blank = λ nine. absurd (never-says 9 (rowsIn n l c) unheard nine);
+      answer = Refused;
+      ends-so = so;
+      says-so = λ number h. (
+        refl,
+        ap {B = List ℕ} (λ (t : Bool). cond t (0 ∷ []) []) (sym (ne-eqb number 9 (λ q. never-says 9 (rowsIn n l c) unheard (h ∙ ap refused q)))),
+      );
+    }
 
-  pub not-nine : (c : Call) (A : Type 0) → unheard c → verdictIn n l c ≡ refused 9 → A
-  not-nine c A h v = absurd (never-says 9 (listed (rows c)) h v)
+    -- ---- a call that stores the entry of sheet i
 
-  pub refused-told : (c : Call) (number : ℕ) → unheard c → verdictIn n l c ≡ refused number
-      → _≡_ {A = Told} (record { number = number; values = []; buffer = bufferOf c }) (refusedIn c 0 number)
-  refused-told c number h v =
-      ap {B = Told} (λ (t : Bool). record { number = number; values = cond t (0 ∷ []) []; buffer = bufferOf c })
-      (sym (ne-eqb number 9 (λ q. never-says 9 (listed (rows c)) h (v ∙ ap refused q))))
+    abbrev pub e : ℕ → Entry
+    e i = entryAt (map entryIn l) i
 
-  -- a sheet changed to x, its entry stored
-  pub changed-state : (i : ℕ) (x : Sheet) (spare : ℕ) (marks card′ : List ℕ) (entry : Entry) → Changed n l i x spare marks card′ → entry ≡ entryIn x
-      → _≡_ {A = State} (record { shape = record { blocks = n; free = spare }; map = marks; entries = set (map entryIn l) i entry; card = card′ }) (stateOf n (set l i x) card′)
-  changed-state i x spare marks card′ entry c q =
-      let stored : set (map entryIn l) i entry ≡ map entryIn (set l i x) = ap (set (map entryIn l) i) q ∙ entries-set l i x in
-      λ t. record { shape = record { blocks = n; free = c .spare-left t }; map = c .map-left t; entries = stored t; card = card′ }
+    abbrev pub outEnd : ℕ → Out → List ℕ → List ℕ → End
+    outEnd i out marks card′ = ending (outcomeOf (record { blocks = n; free = spareIn n l }) out) marks (set (map entryIn l) i (out .entry)) card′ []
 
-  -- an entry stored back as it was
-  pub unchanged-state : (i : ℕ) → _≡_ {A = State} (record { shape = s .shape; map = s .map; entries = set (map entryIn l) i (e i); card = card }) s
-  unchanged-state i = λ t. record { shape = s .shape; map = s .map; entries = stored-back (map entryIn l) i t; card = card }
+    pub stored-again : (i : ℕ) (answer : Answer) → outEnd i (outOf (spareIn n l) (e i) answer) (mapIn n l) card ≡ endIn l card answer []
+    stored-again i answer = ap (λ (es : List Entry). ending (told (record { blocks = n; free = spareIn n l }) answer) (mapIn n l) es card []) (stored-back (map entryIn l) i)
+
+    pub out-back : (i number : ℕ) → outEnd i (refusalOut (spareIn n l) (e i) number) (mapIn n l) card ≡ endIn l card (Refused number) []
+    out-back i number = stored-again i (Refused number)
+
+    -- ---- an accepted call that changes one sheet
+
+    -- sheet i becomes `sheet`
+    pub record OneSheet (i : ℕ) (a : Ask) (end : End) : Type 0 where
+      pub inside : i < length l
+      pub sheet : Sheet
+      pub becomes : deedIn n l (on i a) .ledger ≡ set l i sheet
+      -- what the program then keeps, and answers
+      pub spare : ℕ
+      pub marks : List ℕ
+      pub card-left : List ℕ
+      pub entry : Entry
+      pub answer : Answer
+      pub changed : Changed n l i sheet spare marks card-left
+      pub stored : entry ≡ entryIn sheet
+      pub ends-so : end ≡ ending (told (record { blocks = n; free = spare }) answer) marks (set (map entryIn l) i entry) card-left (deedIn n l (on i a) .left)
+      pub says-so : (numberOf answer ≡ 0) × (valuesOf answer ≡ deedIn n l (on i a) .values)
+      -- the blocks that it has now, and what is noted of its places and of no other sheet's
+      pub moved : lengthIn sheet + deedIn n l (on i a) .returns ≡ lengthIn (sheetAt l i) + deedIn n l (on i a) .grants
+      pub noted-here : (p : ℕ) (m : Place) → Has p m (sheetAt l i) → Has p (noted i p m (noteOf (on i a))) sheet
+      pub noted-there : (j p : ℕ) (m : Place) → j ≢ i → noted j p m (noteOf (on i a)) ≡ m
+
+    pub one-sheet : (i : ℕ) (a : Ask) (end : End) → OneSheet i a end → Done (on i a) end
+    one-sheet i a end o = record {
+      card-left = o .card-left;
+      answer = o .answer;
+      ends-so = o .ends-so ∙ left ∙ ap (λ (l′ : List Sheet). endIn l′ (o .card-left) (o .answer) (deedIn n l (on i a) .left)) (sym (o .becomes));
+      says-so = o .says-so;
+      kept-left = rw (o .becomes) (o .changed .kept-left);
+      sum = omega (arith, o .moved, held-set l i (o .sheet) (o .inside), ap held (o .becomes));
+      noted-so = λ j p m was. rw (o .becomes) (go j p m was (eqb j i) refl);
+    }
+      where
+        stored : set (map entryIn l) i (o .entry) ≡ map entryIn (set l i (o .sheet))
+        stored = ap (set (map entryIn l) i) (o .stored) ∙ entries-set l i (o .sheet)
+
+        left : ending (told (record { blocks = n; free = o .spare }) (o .answer)) (o .marks) (set (map entryIn l) i (o .entry)) (o .card-left) (deedIn n l (on i a) .left)
+            ≡ endIn (set l i (o .sheet)) (o .card-left) (o .answer) (deedIn n l (on i a) .left)
+        left = λ t. ending (told (record { blocks = n; free = o .changed .spare-left t }) (o .answer)) (o .changed .map-left t) (stored t) (o .card-left) (deedIn n l (on i a) .left)
+
+        go : (j p : ℕ) (m : Place) → Has p m (sheetAt l j) → (t : Bool) → eqb j i ≡ t → Has p (noted j p m (noteOf (on i a))) (sheetAt (set l i (o .sheet)) j)
+        go j p m was true q =
+            rw (eqb-true j i q, getD-set-same l i (o .sheet) Absent (o .inside)) (o .noted-here p m (subst (λ (i′ : ℕ). Has p m (sheetAt l i′)) (eqb-true j i q) was))
+        go j p m was false q = rw (getD-set-other l i j (o .sheet) Absent (eqb-false j i q), o .noted-there j p m (eqb-false j i q)) was
+
+    -- ---- an accepted call that changes nothing
+
+    pub no-change : (c : Call) (end : End) (answer : Answer) → deedIn n l c .ledger ≡ l → deedIn n l c .returns ≡ deedIn n l c .grants
+        → ((j p : ℕ) (m : Place) → noted j p m (noteOf c) ≡ m) → end ≡ endIn l card answer (deedIn n l c .left) → (numberOf answer ≡ 0) × (valuesOf answer ≡ deedIn n l c .values)
+        → Done c end
+    no-change c end answer same moved unnoted so says-so = record {
+      card-left = card;
+      answer = answer;
+      ends-so = rw same so;
+      says-so = says-so;
+      kept-left = rw same k;
+      sum = rw same (ap (λ (b : ℕ). held l + b) moved);
+      noted-so = λ j p m was. rw (same, unnoted j p m) was;
+    }

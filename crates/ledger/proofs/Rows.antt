@@ -1,75 +1,41 @@
--- Rows of a table of refusals, read by their numbers, so that a new row moves nothing: those that an accepted call has
--- cleared, those that the ledger drops, and those before and from a number on.
+-- Rows of a table of refusals, read by their numbers, so that a new row moves nothing: those that the ledger drops, and those
+-- before and from a number on.
 -- Assumes nothing.
 use Prim.Native.Nat.{ℕ}
-use mathlib.Core.Path.{_≡_, refl, sym}
+use mathlib.Core.Path.{_≡_, refl, sym, ap, _∙_}
 use mathlib.Core.Bool.{Bool, true, false, cond, _||_, true≢false}
 use mathlib.Core.List.{List, [], _∷_}
-use native.Mathlib.Omega.{arith}
 use lib.Dec.{eqb}
 use borrow.Author.Tests.{eqb-false}
 use Rattle.standings.specs.Rows.{Row, accepted, refused, firstOf}
+use Rattle.calls.proofs.Rows.{either, not-refused, same-number, rest-accepted}
 use Rattle.ledger.specs.Ledger.{listed}
 use Rattle.ledger.specs.Claim.{before}
-
-abbrev either : Bool → Type 0 → Type 0 → Type 0
-either true A B = A
-either false A B = B
-
-either-in : {A B : Type 0} (t : Bool) → A → B → either t A B
-either-in true a b = a
-either-in false a b = b
-
-pub not-refused : (number : ℕ) → refused number ≡ accepted → ⊥
-not-refused number e = let z : _≡_ {A = ℕ} 0 1 = cc in omega arith
-
-pub same-number : (a b : ℕ) → refused a ≡ refused b → a ≡ b
-same-number a b e = cc
-
--- ---- the rows that an acceptance has cleared
-
--- no row with the number holds
-abbrev pub Clear : ℕ → List Row → Type 0
-Clear number [] = Unit {0}
-Clear number (r ∷ rows) = either (eqb (r .number) number) ((r .holds ≡ false) × Clear number rows) (Clear number rows)
-
-pub rest-accepted : (r : Row) (rows : List Row) → firstOf (r ∷ rows) ≡ accepted → (r .holds ≡ false) × (firstOf rows ≡ accepted)
-unfolding firstOf
-rest-accepted r rows e = go (r .holds) e
-  where
-    go : (t : Bool) → cond t (refused (r .number)) (firstOf rows) ≡ accepted → (t ≡ false) × (firstOf rows ≡ accepted)
-    go true e = absurd (not-refused (r .number) e)
-    go false e = (refl, e)
-
-pub clear : (number : ℕ) (rows : List Row) → firstOf rows ≡ accepted → Clear number rows
-clear number [] e = tt
-clear number (r ∷ rows) e =
-    let h = rest-accepted r rows e in
-    let later = clear number rows (h .1) in either-in (eqb (r .number) number) (h .0, later) later
 
 -- ---- the rows that the ledger drops
 
 abbrev dropped : Row → Bool
 dropped r = eqb (r .number) 1 || eqb (r .number) 4
 
--- rows 1 and 4 do not hold where no row before them does
-abbrev pub Never : List Row → Type 0
-Never [] = Unit {0}
-Never (r ∷ rows) = either (dropped r) ((r .holds ≡ false) × Never rows) (r .holds ≡ false → Never rows)
+-- rows 1 and 4 do not hold where no row seen before them does; those seen can be asked for by their numbers
+abbrev pub Never : List Row → List Row → Type 0
+Never seen [] = Unit {0}
+Never seen (r ∷ rows) = either (dropped r) ((firstOf seen ≡ accepted → r .holds ≡ false) × Never seen rows) (Never (r ∷ seen) rows)
 
-pub never-listed : (rows : List Row) → Never rows → firstOf rows ≡ firstOf (listed rows)
+pub never-listed : (seen rows : List Row) → firstOf seen ≡ accepted → Never seen rows → firstOf rows ≡ firstOf (listed rows)
 unfolding firstOf listed
-never-listed [] h = refl
-never-listed (r ∷ rows) h = step (dropped r) h (λ k. never-listed rows k)
+never-listed seen [] past h = refl
+never-listed seen (r ∷ rows) past h = step (dropped r) h (λ k. never-listed seen rows past k) (λ q k. never-listed (r ∷ seen) rows q k)
   where
-    step : (t : Bool) → either t ((r .holds ≡ false) × Never rows) (r .holds ≡ false → Never rows) → (Never rows → firstOf rows ≡ firstOf (listed rows))
+    step : (t : Bool) → either t ((firstOf seen ≡ accepted → r .holds ≡ false) × Never seen rows) (Never (r ∷ seen) rows)
+        → (Never seen rows → firstOf rows ≡ firstOf (listed rows)) → (firstOf (r ∷ seen) ≡ accepted → Never (r ∷ seen) rows → firstOf rows ≡ firstOf (listed rows))
         → cond (r .holds) (refused (r .number)) (firstOf rows) ≡ firstOf (cond t (listed rows) (r ∷ listed rows))
-    step true h later = rw (h .0) (later (h .1))
-    step false h later = go (r .holds) refl
+    step true h same more = rw (h .0 past) (same (h .1))
+    step false h same more = go (r .holds) refl
       where
         go : (t : Bool) → r .holds ≡ t → cond t (refused (r .number)) (firstOf rows) ≡ cond t (refused (r .number)) (firstOf (listed rows))
         go true e = refl
-        go false e = later (h e)
+        go false e = more (ap (λ (t : Bool). cond t (refused (r .number)) (firstOf seen)) e ∙ past) h
 
 -- ---- the rows from a number on: the verdict is theirs, where none before them holds
 

@@ -96,6 +96,27 @@ payload-at [] p h = absurd (not-suc-le-zero h)
 payload-at (x ∷ xs) zero h = refl
 payload-at (x ∷ xs) (suc p) h = payload-at xs p (omega arith)
 
+-- Open or Complete
+abbrev pub holding : Sheet → Bool
+holding Absent = false
+holding Paused = false
+holding (Open s ps) = true
+holding (Complete s xs) = true
+
+-- a sheet's place is m, if the sheet has places
+abbrev pub Has : ℕ → Place → Sheet → Type 0
+Has p m x = holding x ≡ true → getD (placesIn x) p Blank ≡ m
+
+pub blanks-at : (k p : ℕ) → getD (replicate k Blank) p Blank ≡ Blank
+blanks-at zero p = refl
+blanks-at (suc k) zero = refl
+blanks-at (suc k) (suc p) = blanks-at k p
+
+pub more-at : (ps : List Place) (k p : ℕ) → getD (ps ++ replicate k Blank) p Blank ≡ getD ps p Blank
+more-at [] k p = blanks-at k p
+more-at (x ∷ ps) k zero = refl
+more-at (x ∷ ps) k (suc p) = more-at ps k p
+
 -- ---- the sheets together
 
 pub record Sound (n : ℕ) (l : List Sheet) : Type 0 where

@@ -1,4 +1,5 @@
--- The eight calls, one by one.
+-- The calls, one by one: what each comes to is proved in its own file.
+-- Assumes nothing.
 pub mod Complete
 pub mod Grow
 pub mod Pause
@@ -7,3 +8,27 @@ pub mod Release
 pub mod Reserve
 pub mod Show
 pub mod Standing
+use Prim.Native.Nat.{ℕ}
+use mathlib.Core.List.{List}
+use Rattle.calls.specs.Table.{Call, on, reserve, put, grow, complete, pause, release, show, standing}
+use Rattle.ledger.specs.Ledger.{Sheet, verdictIn}
+use Rattle.ledger.proofs.Agreement.{Kept}
+use Rattle.ledger.proofs.Results.{Result}
+use Complete.{complete-result}
+use Grow.{grow-result}
+use Pause.{pause-result}
+use Put.{put-result}
+use Release.{release-result}
+use Reserve.{reserve-result}
+use Show.{show-result}
+use Standing.{standing-result}
+
+pub result : (n : ℕ) (l : List Sheet) (card : List ℕ) → Kept n l card → (c : Call) → Result n l card c (verdictIn n l c)
+result n l card k (on i (reserve m)) = reserve-result n l card k i m
+result n l card k (on i (put p payload)) = put-result n l card k i p payload
+result n l card k (on i (grow m)) = grow-result n l card k i m
+result n l card k (on i complete) = complete-result n l card k i
+result n l card k (on i pause) = pause-result n l card k i
+result n l card k (on i release) = release-result n l card k i
+result n l card k (on i (show p buffer)) = show-result n l card k i p buffer
+result n l card k (on i standing) = standing-result n l card k i

@@ -1,93 +1,64 @@
 -- Pause: Absent becomes Paused.
 -- Assumes nothing.
 use Prim.Native.Nat.{ℕ, _<_}
-use mathlib.Core.Path.{_≡_, refl, sym, ap, _∙_}
-use mathlib.Core.List.{List, [], map}
+use mathlib.Core.Path.{_≡_, refl, sym, ap}
+use mathlib.Core.Bool.{false≢true}
+use mathlib.Core.List.{List}
 use native.Mathlib.Omega.{arith}
-use lib.ListN.{length, set}
+use lib.ListN.{length}
 use borrow.Author.Tests.{leb-false}
-use Rattle.catalogue.specs.Entries.{entryAt}
-use Rattle.catalogue.specs.declared.Entry.{Entry}
-use Rattle.standings.specs.Answers.{numberOf, valuesOf}
+use Rattle.standings.specs.Rows.{Row, Verdict, accepted, settle}
+use Rattle.standings.specs.declared.Answer.the-variants.{Done}
 use Rattle.calls.specs.Effects as effects
 use Rattle.calls.specs.Effects.{entryOf, outOf, refusalOut}
-use Rattle.standings.specs.Rows.{Row, Verdict, accepted, refused, settle}
-use Rattle.calls.specs.Table.{Call, pause, tableOf}
-use Rattle.standings.specs.declared.Answer.the-variants.{Done}
-use Rattle.calls.specs.declared.Out.{Out}
-use Rattle.ledger.specs.Ledger.{Sheet, Absent, Paused, startIn, lengthIn, placesIn, sheetAt, spareIn, viewIn, listed, verdictIn, changeIn, stepIn, Told, doneIn, refusedIn, toldIn}
-use Rattle.ledger.specs.Claim.{entryIn}
-use Rattle.ledger.specs.Steps.{State, toldBy}
-use Rattle.ledger.proofs.Agreement.{mapIn, stateOf, Kept, pause-verdict}
+use Rattle.calls.specs.Table.{Call, on, pause, rowsFor, tableOf}
+use Rattle.calls.proofs.Rows.{clear}
+use Rattle.ledger.specs.Ledger.{Sheet, Absent, Paused, startIn, lengthIn, placesIn, sheetAt, spareIn, listed, rowsIn, verdictIn, deedIn}
+use Rattle.ledger.specs.Steps.{End, endOf}
+use Rattle.ledger.proofs.Agreement.{mapIn, stateOf, Kept, verdict-at}
 use Rattle.ledger.proofs.Keeping.{keep-places}
-use Rattle.ledger.proofs.Rows.{clear}
+use Rattle.ledger.proofs.Results as results
+use Rattle.ledger.proofs.Results.{Result, outEnd, out-back, plain-back, one-sheet, result-of}
 use Rattle.ledger.proofs.Sheets.{was-absent, sound-none}
-use Rattle.ledger.proofs.Results.{Result, all-rows, not-nine, refused-told, changed-state, unchanged-state}
-use Rattle.ledger.proofs.Stepping.{replyTo, stateAfter}
 
 module _ (n : ℕ) (l : List Sheet) (card : List ℕ) (k : Kept n l card) (i : ℕ) where
   abbrev call : Call
-  call = pause i
+  call = on i pause
 
   abbrev rows : List Row
-  rows = tableOf (viewIn n l i) call
+  rows = rowsIn n l call
 
-  abbrev e : Entry
-  e = entryAt (map entryIn l) i
+  abbrev ends : Verdict → End
+  ends v = outEnd n l card k i (settle v (outOf (spareIn n l) (entryOf 0x50 0 0) Done) (refusalOut (spareIn n l) (results.e n l card k i))) (mapIn n l) card
 
-  abbrev out : Verdict → Out
-  out v = settle v (outOf (spareIn n l) (entryOf 0x50 0 0) Done) (refusalOut (spareIn n l) e)
+  ends-so : endOf (stateOf n l card) call ≡ ends (verdictIn n l call)
+  unfolding effects.pauseOut rowsFor
+  ends-so = ap ends (verdict-at n l card k i pause (λ x y. refl) tt)
 
-  abbrev left : Verdict → State
-  left v = record {
-    shape = record { blocks = n; free = out v .free };
-    map = mapIn n l;
-    entries = set (map entryIn l) i (out v .entry);
-    card = card;
-  }
-
-  abbrev said : Verdict → Told
-  said v = record { number = numberOf (out v .answer); values = valuesOf (out v .answer); buffer = [] }
-
-  state-is : stateAfter (stateOf n l card) call ≡ left (verdictIn n l call)
-  unfolding effects.pauseOut effects.pauseVerdict
-  state-is = ap left (pause-verdict n l card k i)
-
-  told-is : toldBy (replyTo (stateOf n l card) call) ≡ said (verdictIn n l call)
-  unfolding effects.pauseOut effects.pauseVerdict
-  told-is = ap said (pause-verdict n l card k i)
-
-  accepted-call : verdictIn n l call ≡ accepted → Result n l card call (changeIn n l call) (λ q. doneIn n l call)
-  unfolding tableOf listed changeIn doneIn
-  accepted-call h =
-      let r = all-rows n l card k call h in
-      let lt : i < length l = leb-false (length l) i (clear 2 (rows) r .0) in
-      let gone : sheetAt l i ≡ Absent = was-absent (sheetAt l i) (clear 6 (rows) r .0) (clear 7 (rows) r .0) (clear 8 (rows) r .0) in
+  accepts : verdictIn n l call ≡ accepted → results.Done n l card call (ends accepted)
+  unfolding tableOf listed deedIn
+  accepts h =
+      let lt : i < length l = leb-false (length l) i (clear 2 rows h .0) in
+      let gone : sheetAt l i ≡ Absent = was-absent (sheetAt l i) (clear 6 rows h .0) (clear 7 rows h .0) (clear 8 rows h .0) in
       let ok = sound-none n l (k .sound) i lt Paused (record { inside = omega arith; needed = omega arith; sized = λ p. tt }) refl in
-      let c = keep-places n l card k i lt Paused ok (sym (ap startIn gone)) (sym (ap lengthIn gone)) (sym (ap placesIn gone)) in
-      record {
+      one-sheet n l card k i pause (ends accepted) (record {
+        inside = lt;
+        sheet = Paused;
+        becomes = refl;
+        spare = spareIn n l;
+        marks = mapIn n l;
         card-left = card;
-        state-left = state-is ∙ ap left h ∙ changed-state n l card k i Paused (spareIn n l) (mapIn n l) card (entryOf 0x50 0 0) c refl;
-        kept-left = c .kept-left;
-        place = 0;
-        blank = not-nine n l card k call _ refl;
-        told-so = told-is ∙ ap said h;
-      }
+        entry = entryOf 0x50 0 0;
+        answer = Done;
+        changed = keep-places n l card k i lt Paused ok (sym (ap startIn gone)) (sym (ap lengthIn gone)) (sym (ap placesIn gone));
+        stored = refl;
+        ends-so = refl;
+        says-so = (refl, refl);
+        moved = omega (arith, ap lengthIn gone);
+        noted-here = λ p m was holds. absurd (false≢true holds);
+        noted-there = λ j p m ne. refl;
+      })
 
-  refused-call : (number : ℕ) → verdictIn n l call ≡ refused number → Result n l card call l (λ q. refusedIn call q number)
-  unfolding tableOf listed
-  refused-call number h = record {
-    card-left = card;
-    state-left = state-is ∙ ap left h ∙ unchanged-state n l card k i;
-    kept-left = k;
-    place = 0;
-    blank = not-nine n l card k call _ refl;
-    told-so = told-is ∙ ap said h ∙ refused-told n l card k call number refl h;
-  }
-
-  pub pause-result : Result n l card call (stepIn n l call) (toldIn n l call)
-  pause-result = go (verdictIn n l call) refl
-    where
-      go : (v : Verdict) → verdictIn n l call ≡ v → Result n l card call (settle v (changeIn n l call) (λ number. l)) (λ p. settle v (doneIn n l call) (refusedIn call p))
-      go accepted h = accepted-call h
-      go (refused number) h = refused-call number h
+  pub pause-result : Result n l card call (verdictIn n l call)
+  unfolding tableOf listed deedIn
+  pause-result = result-of n l card k call ends ends-so refl accepts (plain-back n l card k call _ refl (out-back n l card k i)) (λ p. tt)

@@ -2,104 +2,89 @@
 -- Assumes nothing.
 use Prim.Native.Nat.{ℕ, _+_, _<_}
 use mathlib.Core.Path.{_≡_, refl, sym, ap, subst, _∙_}
+use mathlib.Core.Bool.{Bool, true, false, cond}
 use mathlib.Core.List.{List, [], map}
 use native.Mathlib.Omega.{arith}
-use lib.Dec.{leb}
-use lib.ListN.{length, set, length-set}
-use borrow.Author.Tests.{leb-false, eqb-true, not-false}
+use lib.Dec.{eqb, leb}
+use lib.ListN.{length, getD, set, length-set}
+use lib.Seq.{getD-set-same, getD-set-other}
+use borrow.Author.Tests.{leb-false, eqb-true, eqb-false, eq-eqb, ne-eqb, not-false}
 use Rattle.card_blocks.specs.Card.{withBlock}
 use Rattle.sums.specs.Sealed.{sealed}
-use Rattle.catalogue.specs.Entries.{entryAt}
 use Rattle.catalogue.specs.declared.Entry.{Entry}
 use Rattle.catalogue.proofs.Storing.{stored-back}
-use Rattle.standings.specs.Answers.{numberOf, valuesOf}
+use Rattle.standings.specs.Rows.{Row, Verdict, accepted, settle}
+use Rattle.standings.specs.declared.Answer.the-variants.{Done, Refused}
 use Rattle.calls.specs.Effects as effects
 use Rattle.calls.specs.Effects.{entryOf}
-use Rattle.standings.specs.Rows.{Row, Verdict, accepted, refused, settle}
-use Rattle.calls.specs.Table.{Call, put, tableOf}
-use Rattle.standings.specs.declared.Answer.the-variants.{Done, Refused}
-use Rattle.ledger.specs.Ledger.{Payload, Sheet, Open, lengthIn, sheetAt, spareIn, viewIn, listed, verdictIn, putIn, changeIn, stepIn, Told, done, doneIn, refusedIn, toldIn}
+use Rattle.calls.specs.Table.{Call, on, put, rowsFor, tableOf}
+use Rattle.calls.proofs.Rows.{clear}
+use Rattle.card.specs.Calls.{told}
+use Rattle.ledger.specs.Ledger.{Place, Blank, Payload, Sheet, Open, lengthIn, sheetAt, spareIn, putIn, listed, rowsIn, verdictIn, deedIn}
 use Rattle.ledger.specs.Claim.{entryIn}
-use Rattle.ledger.specs.Steps.{State, toldBy}
+use Rattle.ledger.specs.Steps.{End, ending, endOf}
 use Rattle.ledger.proofs.Agreement.{mapIn, stateOf, Kept, entry-at, verdict-on}
 use Rattle.ledger.proofs.Keeping.{keep-put}
 use Rattle.ledger.proofs.Listed.{or-left, or-right}
-use Rattle.ledger.proofs.Rows.{clear}
-use Rattle.ledger.proofs.Sheets.{was-open}
-use Rattle.ledger.proofs.Results.{Result, all-rows, not-nine, refused-told, changed-state}
-use Rattle.ledger.proofs.Stepping.{replyTo, stateAfter}
+use Rattle.ledger.proofs.Results as results
+use Rattle.ledger.proofs.Results.{Result, plain-back, one-sheet, result-of}
+use Rattle.ledger.proofs.Sheets.{was-open, Has}
 
 module _ (n : ℕ) (l : List Sheet) (card : List ℕ) (k : Kept n l card) (i p : ℕ) (payload : List ℕ) where
   abbrev call : Call
-  call = put i p payload
+  call = on i (put p payload)
 
   abbrev rows : List Row
-  rows = tableOf (viewIn n l i) call
+  rows = rowsIn n l call
 
   abbrev e : Entry
-  e = entryAt (map entryIn l) i
+  e = results.e n l card k i
 
-  abbrev left : Verdict → State
-  left v = record {
-    shape = (stateOf n l card) .shape;
-    map = mapIn n l;
-    entries = map entryIn l;
-    card = settle v (withBlock card (e .start + p) (sealed i p payload)) (λ number. card);
-  }
+  -- where the entries are these, and the sheet starts there
+  abbrev written : List Entry → ℕ → Verdict → End
+  written entries start v =
+      ending (told (record { blocks = n; free = spareIn n l }) (settle v Done Refused)) (mapIn n l) entries
+      (settle v (withBlock card (start + p) (sealed i p payload)) (λ number. card)) []
 
-  abbrev said : Verdict → Told
-  said v = record { number = numberOf (settle v Done Refused); values = valuesOf (settle v Done Refused); buffer = [] }
+  abbrev ends : Verdict → End
+  ends = written (map entryIn l) (e .start)
 
-  state-is : stateAfter (stateOf n l card) call ≡ left (verdictIn n l call)
-  unfolding effects.putCard effects.putVerdict
-  state-is = ap left (verdict-on n l card k call)
+  ends-so : endOf (stateOf n l card) call ≡ ends (verdictIn n l call)
+  unfolding effects.putAnswer effects.putCard rowsFor
+  ends-so = ap ends (verdict-on n l card k i (put p payload) (λ x y alike. refl) tt)
 
-  told-is : toldBy (replyTo (stateOf n l card) call) ≡ said (verdictIn n l call)
-  unfolding effects.putAnswer effects.putVerdict
-  told-is = ap said (verdict-on n l card k call)
+  put-at : (ps : List Place) (q : ℕ) (m : Place) → p < length ps → getD ps q Blank ≡ m → (t : Bool) → eqb q p ≡ t → getD (set ps p (Payload payload)) q Blank ≡ cond t (Payload payload) m
+  put-at ps q m lp was true h = rw (eqb-true q p h) (getD-set-same ps p (Payload payload) Blank lp)
+  put-at ps q m lp was false h = getD-set-other ps p q (Payload payload) Blank (eqb-false q p h) ∙ was
 
-  accepted-call : verdictIn n l call ≡ accepted → Result n l card call (changeIn n l call) (λ q. doneIn n l call)
-  unfolding tableOf listed changeIn doneIn
-  accepted-call h =
-      let r = all-rows n l card k call h in
-      let lt : i < length l = leb-false (length l) i (clear 2 (rows) r .0) in
-      let o = was-open (sheetAt l i) (clear 5 (rows) r .0) (clear 6 (rows) r .0) (clear 8 (rows) r .0) in
-      let three = clear 3 (rows) r .0 in
-      let lp : p < lengthIn (sheetAt l i) = leb-false (lengthIn (sheetAt l i)) p (or-left _ _ three) in
+  accepts : verdictIn n l call ≡ accepted → results.Done n l card call (ends accepted)
+  unfolding tableOf listed deedIn
+  accepts h =
+      let lt : i < length l = leb-false (length l) i (clear 2 rows h .0) in
+      let o = was-open (sheetAt l i) (clear 5 rows h .0) (clear 6 rows h .0) (clear 8 rows h .0) in
+      let three = clear 3 rows h .0 in
+      let w : length (set (o .1) p (Payload payload)) ≡ length (o .1) = length-set (o .1) p (Payload payload) in
+      let lp : p < length (o .1) = omega (arith, leb-false (lengthIn (sheetAt l i)) p (or-left _ _ three), ap lengthIn (o .2)) in
       let len : length payload ≡ 496 = eqb-true (length payload) 496 (not-false _ (or-right (leb (lengthIn (sheetAt l i)) p) _ three)) in
-      let x : Sheet = Open (o .0) (set (o .1) p (Payload payload)) in
-      let card′ : List ℕ = withBlock card (o .0 + p) (sealed i p payload) in
-      let c = keep-put n l card k i lt (o .0) (o .1) (o .2) p payload (omega (arith, lp, ap lengthIn (o .2))) len in
-      let same : e ≡ entryIn x = entry-at l i lt ∙ ap entryIn (o .2) ∙ ap (entryOf 0x4f (o .0)) (sym (length-set (o .1) p (Payload payload))) in
-      let where-it-is : e .start ≡ o .0 = ap (λ (y : Entry). y .start) same in
-      subst (λ (l′ : List Sheet). Result n l card call l′ (λ q. done [] [])) (sym (ap (λ (y : Sheet). set l i (putIn p payload y)) (o .2)))
-      (record {
-        card-left = card′;
-        state-left =
-            state-is ∙ ap left h
-            ∙ ap {B = State} (λ (b : ℕ). record { shape = (stateOf n l card) .shape; map = mapIn n l; entries = map entryIn l; card = withBlock card (b + p) (sealed i p payload) }) where-it-is
-            ∙ ap {B = State} (λ (entries : List Entry). record { shape = (stateOf n l card) .shape; map = mapIn n l; entries = entries; card = card′ }) (sym (stored-back (map entryIn l) i))
-            ∙ changed-state n l card k i x (spareIn n l) (mapIn n l) card′ e c same;
-        kept-left = c .kept-left;
-        place = 0;
-        blank = not-nine n l card k call _ refl;
-        told-so = told-is ∙ ap said h;
+      let was : e ≡ entryOf 0x4f (o .0) (length (o .1)) = entry-at l i lt ∙ ap entryIn (o .2) in
+      one-sheet n l card k i (put p payload) (ends accepted) (record {
+        inside = lt;
+        sheet = Open (o .0) (set (o .1) p (Payload payload));
+        becomes = ap (λ (y : Sheet). set l i (putIn p payload y)) (o .2);
+        spare = spareIn n l;
+        marks = mapIn n l;
+        card-left = withBlock card (o .0 + p) (sealed i p payload);
+        entry = e;
+        answer = Done;
+        changed = keep-put n l card k i lt (o .0) (o .1) (o .2) p payload lp len;
+        stored = was ∙ ap (entryOf 0x4f (o .0)) (sym w);
+        ends-so = ap (λ (y : Entry). written (map entryIn l) (y .start) accepted) was ∙ ap (λ (es : List Entry). written es (o .0) accepted) (sym (stored-back (map entryIn l) i));
+        says-so = (refl, refl);
+        moved = omega (arith, w, ap lengthIn (o .2));
+        noted-here = λ q m had holds. rw (eq-eqb i i refl) (put-at (o .1) q m lp (subst (Has q m) (o .2) had refl) (eqb q p) refl);
+        noted-there = λ j q m ne. rw (ne-eqb j i ne);
       })
 
-  refused-call : (number : ℕ) → verdictIn n l call ≡ refused number → Result n l card call l (λ q. refusedIn call q number)
-  unfolding tableOf listed
-  refused-call number h = record {
-    card-left = card;
-    state-left = state-is ∙ ap left h;
-    kept-left = k;
-    place = 0;
-    blank = not-nine n l card k call _ refl;
-    told-so = told-is ∙ ap said h ∙ refused-told n l card k call number refl h;
-  }
-
-  pub put-result : Result n l card call (stepIn n l call) (toldIn n l call)
-  put-result = go (verdictIn n l call) refl
-    where
-      go : (v : Verdict) → verdictIn n l call ≡ v → Result n l card call (settle v (changeIn n l call) (λ number. l)) (λ p. settle v (doneIn n l call) (refusedIn call p))
-      go accepted h = accepted-call h
-      go (refused number) h = refused-call number h
+  pub put-result : Result n l card call (verdictIn n l call)
+  unfolding tableOf listed deedIn
+  put-result = result-of n l card k call ends ends-so refl accepts (plain-back n l card k call _ refl (λ number. refl)) (λ p. tt)

@@ -2,108 +2,113 @@
 -- Assumes nothing.
 use Prim.Native.Nat.{ℕ, _-_, _<_}
 use mathlib.Core.Path.{_≡_, refl, sym, ap, _∙_}
-use mathlib.Core.Bool.{Bool, false}
-use mathlib.Core.List.{List, [], map}
+use mathlib.Core.Bool.{Bool, true, false}
+use mathlib.Core.List.{List}
 use native.Mathlib.Omega.{arith}
-use lib.ListN.{length, set, replicate, length-replicate}
-use borrow.Author.Tests.{leb-false, eqb-false}
+use lib.Dec.{eqb, leb}
+use lib.ListN.{length, replicate, length-replicate}
+use borrow.Author.Tests.{leb-false, eqb-false, eq-eqb, ne-eqb}
 use Rattle.freemap.specs.Blocks as map-blocks
-use Rattle.freemap.specs.Blocks.{leastFit}
+use Rattle.freemap.specs.Blocks.{fit, leastFit}
 use Rattle.freemap.specs.Maps.{marked}
+use Rattle.freemap.proofs.Bools.{not-true}
 use Rattle.card_blocks.specs.Card.{zeroed}
-use Rattle.catalogue.specs.Entries.{entryAt}
-use Rattle.catalogue.specs.declared.Entry.{Entry}
-use Rattle.standings.specs.Answers.{numberOf, valuesOf}
+use Rattle.standings.specs.Searches.{startAt, none}
+use Rattle.standings.specs.Standings.{isPaused, isOpen, isComplete}
+use Rattle.standings.specs.Rows.{Row, Verdict, accepted, firstOf, settle}
+use Rattle.standings.specs.declared.Answer.the-variants.{Start}
 use Rattle.calls.specs.Effects as effects
 use Rattle.calls.specs.Effects.{entryOf, outOf, refusalOut}
-use Rattle.standings.specs.Searches.{startAt}
-use Rattle.standings.specs.Rows.{Row, Verdict, accepted, refused, settle}
-use Rattle.calls.specs.Table.{Call, reserve, tableOf}
-use Rattle.standings.specs.declared.Answer.the-variants.{Start}
-use Rattle.calls.specs.declared.Out.{Out}
-use Rattle.ledger.specs.Ledger.{Blank, Sheet, Absent, Open, sheetAt, freeIn, spareIn, viewIn, listed, verdictIn, leastIn, changeIn, stepIn, Told, doneIn, refusedIn, toldIn}
-use Rattle.ledger.specs.Claim.{entryIn}
-use Rattle.ledger.specs.Steps.{State, toldBy}
-use Rattle.ledger.proofs.Agreement.{mapIn, stateOf, Kept, free-map, verdict-on}
+use Rattle.calls.specs.Table.{Call, on, reserve, rowsFor, tableOf}
+use Rattle.calls.proofs.Room.{fit-inside}
+use Rattle.calls.proofs.Rows.{clear}
+use Rattle.ledger.specs.Ledger.{Blank, Sheet, Absent, Open, standingIn, lengthIn, sheetAt, freeIn, spareIn, leastIn, listed, rowsIn, verdictIn, deedIn, toldIn}
+use Rattle.ledger.specs.Claim.{before, Came, Searched}
+use Rattle.ledger.specs.Steps.{End, endOf}
+use Rattle.ledger.proofs.Agreement.{mapIn, stateOf, Kept, NeverRows, free-map, verdict-on}
 use Rattle.ledger.proofs.Keeping.{keep-reserve}
-use Rattle.ledger.proofs.Listed.{found-fit}
-use Rattle.ledger.proofs.Rows.{clear}
-use Rattle.ledger.proofs.Sheets.{was-absent}
-use Rattle.ledger.proofs.Results.{Result, all-rows, not-nine, refused-told, changed-state, unchanged-state}
-use Rattle.ledger.proofs.Stepping.{replyTo, stateAfter}
+use Rattle.ledger.proofs.Listed.{found-fit, spared}
+use Rattle.ledger.proofs.Results as results
+use Rattle.ledger.proofs.Results.{Result, outEnd, out-back, plain-back, one-sheet, result-of}
+use Rattle.ledger.proofs.Rows.{onwards, from-there}
+use Rattle.ledger.proofs.Search.{searched}
+use Rattle.ledger.proofs.Sheets.{was-absent, reserved, blanks-at}
 
 module _ (n : ℕ) (l : List Sheet) (card : List ℕ) (k : Kept n l card) (i m : ℕ) where
   abbrev call : Call
-  call = reserve i m
+  call = on i (reserve m)
 
   abbrev rows : List Row
-  rows = tableOf (viewIn n l i) call
+  rows = rowsIn n l call
 
-  abbrev e : Entry
-  e = entryAt (map entryIn l) i
+  abbrev start : ℕ
+  start = leastIn n l m
 
-  abbrev out : Verdict → ℕ → Out
-  out v start = settle v (outOf (spareIn n l - m) (entryOf 0x4f start m) (Start start)) (refusalOut (spareIn n l) e)
+  -- what its rows have shown
+  record Shown : Type 0 where
+    inside : i < length l
+    gone : sheetAt l i ≡ Absent
+    some : 0 < m
+    fits : fit (freeIn n l) 0 n m start ≡ true
 
-  abbrev left : Verdict → ℕ → State
-  left v start = record {
-    shape = record { blocks = n; free = out v start .free };
-    map = settle v (marked (mapIn n l) start m false) (λ number. mapIn n l);
-    entries = set (map entryIn l) i (out v start .entry);
-    card = settle v (zeroed card start m) (λ number. card);
+  shown : leb (length l) i ≡ false → isPaused (standingIn (sheetAt l i)) ≡ false → isOpen (standingIn (sheetAt l i)) ≡ false → isComplete (standingIn (sheetAt l i)) ≡ false
+      → eqb m 0 ≡ false → none (leastFit (freeIn n l) 0 n m) ≡ false → Shown
+  shown h2 h6 h7 h8 h3 h10 = record {
+    inside = leb-false (length l) i h2;
+    gone = was-absent (sheetAt l i) h6 h7 h8;
+    some = omega (arith, eqb-false m 0 h3);
+    fits = found-fit (freeIn n l) n m h10;
   }
 
-  abbrev said : Verdict → ℕ → Told
-  said v start = record { number = numberOf (out v start .answer); values = valuesOf (out v start .answer); buffer = [] }
+  never : NeverRows n l card k i (reserve m)
+  unfolding rowsFor
+  never = (
+    (λ h. let s = shown (clear 2 _ h .0) (clear 6 _ h .0) (clear 7 _ h .0) (clear 8 _ h .0) (clear 3 _ h .0) (clear 10 _ h .0) in
+        spared n l (k .sound) i m (Open start (replicate m Blank)) (s .inside) (omega (arith, length-replicate m Blank, ap lengthIn (s .gone)))
+        (reserved n l (k .sound) i (s .inside) m start (s .some) (s .fits))),
+    tt,
+  )
 
-  abbrev searched : ℕ
-  searched = startAt (leastFit (map-blocks.free (mapIn n l)) 0 n m)
+  abbrev taken : ℕ → Verdict → End
+  taken at v =
+      outEnd n l card k i (settle v (outOf (spareIn n l - m) (entryOf 0x4f at m) (Start at)) (refusalOut (spareIn n l) (results.e n l card k i)))
+      (settle v (marked (mapIn n l) at m false) (λ number. mapIn n l)) (settle v (zeroed card at m) (λ number. card))
 
-  starts : searched ≡ leastIn n l m
-  starts = ap (λ (f : ℕ → Bool). startAt (leastFit f 0 n m)) (free-map n l)
+  ends-so : endOf (stateOf n l card) call ≡ taken start (verdictIn n l call)
+  unfolding effects.reserveOut effects.reserveMap effects.reserveCard rowsFor
+  ends-so =
+      ap (taken (startAt (leastFit (map-blocks.free (mapIn n l)) 0 n m))) (verdict-on n l card k i (reserve m) (λ x y alike. refl) never)
+      ∙ ap (λ (f : ℕ → Bool). taken (startAt (leastFit f 0 n m)) (verdictIn n l call)) (free-map n l)
 
-  state-is : stateAfter (stateOf n l card) call ≡ left (verdictIn n l call) (leastIn n l m)
-  unfolding effects.reserveOut effects.reserveMap effects.reserveCard effects.reserveVerdict effects.reserveStart
-  state-is = ap (λ (v : Verdict). left v searched) (verdict-on n l card k call) ∙ ap (left (verdictIn n l call)) starts
+  accepts : verdictIn n l call ≡ accepted → results.Done n l card call (taken start accepted)
+  unfolding tableOf listed deedIn
+  accepts h =
+      let s = shown (clear 2 rows h .0) (clear 6 rows h .0) (clear 7 rows h .0) (clear 8 rows h .0) (clear 3 rows h .0) (clear 10 rows h .0) in
+      one-sheet n l card k i (reserve m) (taken start accepted) (record {
+        inside = s .inside;
+        sheet = Open start (replicate m Blank);
+        becomes = refl;
+        spare = spareIn n l - m;
+        marks = marked (mapIn n l) start m false;
+        card-left = zeroed card start m;
+        entry = entryOf 0x4f start m;
+        answer = Start start;
+        changed = keep-reserve n l card k i (s .inside) m start (s .gone) (s .some) (s .fits);
+        stored = ap (entryOf 0x4f start) (sym (length-replicate m Blank));
+        ends-so = refl;
+        says-so = (refl, refl);
+        moved = omega (arith, length-replicate m Blank, ap lengthIn (s .gone));
+        noted-here = λ p q was holds. rw (eq-eqb i i refl) (blanks-at m p);
+        noted-there = λ j p q ne. rw (ne-eqb j i ne);
+      })
 
-  told-is : toldBy (replyTo (stateOf n l card) call) ≡ said (verdictIn n l call) (leastIn n l m)
-  unfolding effects.reserveOut effects.reserveVerdict effects.reserveStart
-  told-is = ap (λ (v : Verdict). said v searched) (verdict-on n l card k call) ∙ ap (said (verdictIn n l call)) starts
+  -- no start from n on is a fit, and the verdict is that of the search alone
+  by-search : (p : ℕ) → Came n l call → Searched (fit (freeIn n l) 0 n m) (toldIn n l call p)
+  unfolding tableOf listed before onwards firstOf deedIn leastFit
+  by-search p came =
+      let some : 0 < m = omega (arith, eqb-false m 0 (clear 3 (before 10 rows) came .0)) in
+      searched (fit (freeIn n l) 0 n m) n (λ s le. not-true _ (λ q. omega (arith, fit-inside (freeIn n l) n m s q))) (verdictIn n l call) p (from-there 10 rows came)
 
-  accepted-call : verdictIn n l call ≡ accepted → Result n l card call (changeIn n l call) (λ p. doneIn n l call)
-  unfolding tableOf listed changeIn doneIn
-  accepted-call h =
-      let r = all-rows n l card k call h in
-      let lt : i < length l = leb-false (length l) i (clear 2 (rows) r .0) in
-      let gone : sheetAt l i ≡ Absent = was-absent (sheetAt l i) (clear 6 (rows) r .0) (clear 7 (rows) r .0) (clear 8 (rows) r .0) in
-      let some : 0 < m = omega (arith, eqb-false m 0 (clear 3 (rows) r .0)) in
-      let c = keep-reserve n l card k i lt m (leastIn n l m) gone some (found-fit (freeIn n l) n m (clear 10 (rows) r .0)) in
-      record {
-        card-left = zeroed card (leastIn n l m) m;
-        state-left =
-            state-is ∙ ap (λ (v : Verdict). left v (leastIn n l m)) h
-            ∙ changed-state n l card k i (Open (leastIn n l m) (replicate m Blank)) (spareIn n l - m) (marked (mapIn n l) (leastIn n l m) m false) (zeroed card (leastIn n l m) m)
-            (entryOf 0x4f (leastIn n l m) m) c (ap (entryOf 0x4f (leastIn n l m)) (sym (length-replicate m Blank)));
-        kept-left = c .kept-left;
-        place = 0;
-        blank = not-nine n l card k call _ refl;
-        told-so = told-is ∙ ap (λ (v : Verdict). said v (leastIn n l m)) h;
-      }
-
-  refused-call : (number : ℕ) → verdictIn n l call ≡ refused number → Result n l card call l (λ p. refusedIn call p number)
-  unfolding tableOf listed
-  refused-call number h = record {
-    card-left = card;
-    state-left = state-is ∙ ap (λ (v : Verdict). left v (leastIn n l m)) h ∙ unchanged-state n l card k i;
-    kept-left = k;
-    place = 0;
-    blank = not-nine n l card k call _ refl;
-    told-so = told-is ∙ ap (λ (v : Verdict). said v (leastIn n l m)) h ∙ refused-told n l card k call number refl h;
-  }
-
-  pub reserve-result : Result n l card call (stepIn n l call) (toldIn n l call)
-  reserve-result = go (verdictIn n l call) refl
-    where
-      go : (v : Verdict) → verdictIn n l call ≡ v → Result n l card call (settle v (changeIn n l call) (λ number. l)) (λ p. settle v (doneIn n l call) (refusedIn call p))
-      go accepted h = accepted-call h
-      go (refused number) h = refused-call number h
+  pub reserve-result : Result n l card call (verdictIn n l call)
+  unfolding tableOf listed deedIn
+  reserve-result = result-of n l card k call (taken start) ends-so refl accepts (plain-back n l card k call _ refl (out-back n l card k i)) by-search

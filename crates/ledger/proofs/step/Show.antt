@@ -2,91 +2,90 @@
 -- Assumes nothing.
 use Prim.Native.Nat.{ℕ, _+_, _<_}
 use mathlib.Core.Path.{_≡_, refl, ap, subst, _∙_}
-use mathlib.Core.Bool.{false, true≢false}
-use mathlib.Core.List.{List, [], map}
+use mathlib.Core.Bool.{Bool, true, false, not, true≢false}
+use mathlib.Core.List.{List, map}
 use lib.ListN.{length, getD}
 use borrow.Author.Tests.{leb-false}
 use Rattle.card_blocks.specs.Card.{blockOf}
 use Rattle.sums.specs.Sealed.{payloadOf}
 use Rattle.sums.proofs.Sealed.{payload-sealed}
-use Rattle.catalogue.specs.Entries.{entryAt}
 use Rattle.catalogue.specs.declared.Entry.{Entry}
-use Rattle.standings.specs.Answers.{numberOf, valuesOf}
-use Rattle.calls.specs.Effects as effects
-use Rattle.standings.specs.Rows.{Row, Verdict, accepted, refused, settle}
-use Rattle.calls.specs.Table.{Call, show, tableOf}
+use Rattle.standings.specs.Standings.{isAbsent, isPaused, isOpen}
+use Rattle.standings.specs.Rows.{Row, Verdict, accepted, firstOf, settle}
 use Rattle.standings.specs.declared.Answer.the-variants.{Done, Refused}
-use Rattle.ledger.specs.Ledger.{Place, Blank, Payload, Sheet, lengthIn, placesIn, isBlank, bytesOf, sheetAt, placeAt, viewIn, listed, verdictIn, changeIn, stepIn, Told, done, doneIn, refusedIn, toldIn}
+use Rattle.calls.specs.Effects as effects
+use Rattle.calls.specs.Table.{Call, on, show, misplaced, rowsFor, tableOf}
+use Rattle.calls.proofs.Rows.{clear}
+use Rattle.card.specs.Calls.{told}
+use Rattle.ledger.specs.Ledger.{Place, Blank, Payload, Sheet, standingIn, lengthIn, placesIn, isBlank, bytesOf, sheetAt, placeAt, spareIn, viewIn, listed, rowsIn, verdictIn, deedIn}
 use Rattle.ledger.specs.Claim.{entryIn, blockIn}
-use Rattle.ledger.specs.Steps.{toldBy}
-use Rattle.ledger.proofs.Agreement.{stateOf, Kept, entry-at, verdict-on}
+use Rattle.ledger.specs.Steps.{End, ending, endOf}
+use Rattle.ledger.proofs.Agreement.{mapIn, stateOf, reads, Kept, NeverRows, OwnPlaces, entry-at, verdict-on}
 use Rattle.ledger.proofs.Listed.{or-left}
-use Rattle.ledger.proofs.Rows.{clear}
+use Rattle.ledger.proofs.Results as results
+use Rattle.ledger.proofs.Results.{Result, plain-back, no-change, result-of}
 use Rattle.ledger.proofs.Sheets.{was-complete, Sized, payload-at}
-use Rattle.ledger.proofs.Results.{Result, all-rows, not-nine, refused-told}
-use Rattle.ledger.proofs.Stepping.{replyTo}
 
 module _ (n : ℕ) (l : List Sheet) (card : List ℕ) (k : Kept n l card) (i p : ℕ) (buffer : List ℕ) where
   abbrev call : Call
-  call = show i p buffer
+  call = on i (show p buffer)
 
   abbrev rows : List Row
-  rows = tableOf (viewIn n l i) call
+  rows = rowsIn n l call
 
-  abbrev e : Entry
-  e = entryAt (map entryIn l) i
+  abbrev misses : Bool
+  misses = misplaced (viewIn n l i) p buffer
 
-  abbrev said : Verdict → Told
-  said v = record {
-    number = numberOf (settle v Done Refused);
-    values = valuesOf (settle v Done Refused);
-    buffer = settle v (payloadOf (blockOf card (e .start + p))) (λ number. buffer);
-  }
+  -- it looks at the place wanted only, and only where the sheet has it
+  own : OwnPlaces n l i (show p buffer)
+  unfolding rowsFor firstOf
+  own x y alike = go misses refl
+    where
+      go : (t : Bool) → misses ≡ t → firstOf (rowsFor (reads n l i x) (show p buffer)) ≡ firstOf (rowsFor (reads n l i y) (show p buffer))
+      go true h = rw h
+      go false h = rw (alike .sound p (leb-false (lengthIn (sheetAt l i)) p (or-left _ _ h)))
 
-  told-is : toldBy (replyTo (stateOf n l card) call) ≡ said (verdictIn n l call)
-  unfolding effects.showAnswer effects.showBuffer effects.showVerdict
-  told-is = ap said (verdict-on n l card k call)
+  filled : isAbsent (standingIn (sheetAt l i)) ≡ false → isPaused (standingIn (sheetAt l i)) ≡ false → isOpen (standingIn (sheetAt l i)) ≡ false → misses ≡ false
+      → (p < lengthIn (sheetAt l i)) × (isBlank (placeAt l i p) ≡ false)
+  filled h5 h6 h7 h3 =
+      let o = was-complete (sheetAt l i) h5 h6 h7 in
+      let lp : p < lengthIn (sheetAt l i) = leb-false (lengthIn (sheetAt l i)) p (or-left _ _ h3) in
+      (lp, ap (λ (y : Sheet). isBlank (getD (placesIn y) p Blank)) (o .2) ∙ payload-at (o .1) p (subst (λ (y : Sheet). p < lengthIn y) (o .2) lp))
+
+  never : NeverRows n l card k i (show p buffer)
+  unfolding rowsFor
+  never = (
+    (λ h. ap (λ (t : Bool). not (not t)) (filled (clear 5 _ h .0) (clear 6 _ h .0) (clear 7 _ h .0) (clear 3 _ h .0) .1)),
+    tt,
+  )
+
+  -- where the block has these bytes
+  abbrev tellsOf : List ℕ → Verdict → End
+  tellsOf bytes v =
+      ending (told (record { blocks = n; free = spareIn n l }) (settle v Done Refused)) (mapIn n l) (map entryIn l) card (settle v (payloadOf bytes) (λ number. buffer))
+
+  abbrev ends : Verdict → End
+  ends = tellsOf (blockOf card (results.e n l card k i .start + p))
+
+  ends-so : endOf (stateOf n l card) call ≡ ends (verdictIn n l call)
+  unfolding effects.showAnswer effects.showBuffer rowsFor
+  ends-so = ap ends (verdict-on n l card k i (show p buffer) own never)
 
   payload-in : (x : Place) → isBlank x ≡ false → Sized x → payloadOf (blockIn i p x) ≡ bytesOf x
   payload-in Blank h z = absurd (true≢false h)
   payload-in (Payload bytes) h z = payload-sealed i p bytes z
 
-  accepted-call : verdictIn n l call ≡ accepted → Result n l card call (changeIn n l call) (λ q. doneIn n l call)
-  unfolding tableOf listed changeIn doneIn
-  accepted-call h =
-      let r = all-rows n l card k call h in
-      let lt : i < length l = leb-false (length l) i (clear 2 rows r .0) in
-      let o = was-complete (sheetAt l i) (clear 5 rows r .0) (clear 6 rows r .0) (clear 7 rows r .0) in
-      let lp : p < lengthIn (sheetAt l i) = leb-false (lengthIn (sheetAt l i)) p (or-left _ _ (clear 3 rows r .0)) in
-      let some : isBlank (placeAt l i p) ≡ false =
-      ap (λ (y : Sheet). isBlank (getD (placesIn y) p Blank)) (o .2) ∙ payload-at (o .1) p (subst (λ (y : Sheet). p < lengthIn y) (o .2) lp) in
-      record {
-        card-left = card;
-        state-left = refl;
-        kept-left = k;
-        place = 0;
-        blank = not-nine n l card k call _ refl;
-        told-so =
-            told-is ∙ ap said h
-            ∙ ap {B = Told} (λ (x : Entry). done [] (payloadOf (blockOf card (x .start + p)))) (entry-at l i lt)
-            ∙ ap {B = Told} (λ (bytes : List ℕ). done [] (payloadOf bytes)) (k .blocks i p lp)
-            ∙ ap {B = Told} (λ (bytes : List ℕ). done [] bytes) (payload-in (placeAt l i p) some (k .sound .fine i .sized p));
-      }
+  accepts : verdictIn n l call ≡ accepted → results.Done n l card call (ends accepted)
+  unfolding tableOf listed deedIn
+  accepts h =
+      let lt : i < length l = leb-false (length l) i (clear 2 rows h .0) in
+      let f = filled (clear 5 rows h .0) (clear 6 rows h .0) (clear 7 rows h .0) (clear 3 rows h .0) in
+      no-change n l card k call (ends accepted) Done refl refl (λ j q m. refl)
+      (ap (λ (x : Entry). tellsOf (blockOf card (x .start + p)) accepted) (entry-at l i lt)
+      ∙ ap (λ (bytes : List ℕ). tellsOf bytes accepted) (k .blocks i p (f .0))
+      ∙ ap (λ (bytes : List ℕ). ending (told (record { blocks = n; free = spareIn n l }) Done) (mapIn n l) (map entryIn l) card bytes) (payload-in (placeAt l i p) (f .1) (k .sound .fine i .sized p)))
+      (refl, refl)
 
-  refused-call : (number : ℕ) → verdictIn n l call ≡ refused number → Result n l card call l (λ q. refusedIn call q number)
-  unfolding tableOf listed
-  refused-call number h = record {
-    card-left = card;
-    state-left = refl;
-    kept-left = k;
-    place = 0;
-    blank = not-nine n l card k call _ refl;
-    told-so = told-is ∙ ap said h ∙ refused-told n l card k call number refl h;
-  }
-
-  pub show-result : Result n l card call (stepIn n l call) (toldIn n l call)
-  show-result = go (verdictIn n l call) refl
-    where
-      go : (v : Verdict) → verdictIn n l call ≡ v → Result n l card call (settle v (changeIn n l call) (λ number. l)) (λ p. settle v (doneIn n l call) (refusedIn call p))
-      go accepted h = accepted-call h
-      go (refused number) h = refused-call number h
+  pub show-result : Result n l card call (verdictIn n l call)
+  unfolding tableOf listed deedIn
+  show-result = result-of n l card k call ends ends-so refl accepts (plain-back n l card k call _ refl (λ number. refl)) (λ p. tt)
