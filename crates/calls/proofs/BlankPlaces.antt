@@ -13,7 +13,7 @@ use Rattle.freemap.specs.declared.Found.the-variants.{At, Nothing}
 use Rattle.freemap.proofs.Runs.{all-intro}
 use Rattle.card_blocks.specs.Card.{blockOf}
 use Rattle.sums.specs.Sealed.{blank}
-use Rattle.catalogue.specs.declared.Entry.{Entry}
+use Rattle.calls.specs.Lent.{Lent}
 use Rattle.calls.specs.Effects.{completeVerdict, blankPlace}
 use Rattle.standings.specs.Searches.{startAt}
 use Rattle.standings.specs.Rows.{Row, row, refused, firstOf}
@@ -49,12 +49,12 @@ found : (test : ℕ → Bool) (m : ℕ) (r : Found) → least test 0 m ≡ r →
 found test m (At q) e some = let passes = least-passes test 0 m q e in (omega (arith, passes .high), passes .test)
 found test m Nothing e some = absurd (true≢false (sym (all-intro (λ p. not (test p)) 0 m (λ p a b. ap not (none-passes test 0 m e p a b))) ∙ some))
 
-module _ (n spare : ℕ) (map card : List ℕ) (c : ℕ) (e : Entry) (sheet : ℕ) where
-  pub place-is-blank : completeVerdict n spare map card c e sheet ≡ refused 9
-      → (blankPlace n spare map card c e sheet < e .length) × (blank (blockOf card (e .start + blankPlace n spare map card c e sheet)) ≡ true)
+module _ (q : Lent) where
+  pub place-is-blank : completeVerdict q ≡ refused 9
+      → (blankPlace q < q .entry .length) × (blank (blockOf (q .card) (q .entry .start + blankPlace q)) ≡ true)
   unfolding completeVerdict blankPlace viewOn tableOf
   place-is-blank h =
-      let s : Standing = standingOf n (free map) e in
+      let s : Standing = standingOf (q .n) (free (q .map)) (q .entry) in
       let r1 = later 1 9 _ _ (λ q. omega arith) h in
       let r2 = later 2 9 _ _ (λ q. omega arith) (r1 .1) in
       let r4 = later 4 9 _ _ (λ q. omega arith) (r2 .1) in
@@ -63,10 +63,10 @@ module _ (n spare : ℕ) (map card : List ℕ) (c : ℕ) (e : Entry) (sheet : �
       let r8 = later 8 9 _ _ (λ q. omega arith) (r6 .1) in
       let blocks = later 4 9 _ _ (λ q. omega arith) (r8 .1) in
       let o = is-open s (r4 .0) (r5 .0) (r6 .0) (r8 .0) in
-      let extent = open-extent n (free map) e (o .0) (o .1) (o .2) in
-      let size : lengthOf s ≡ e .length = ap lengthOf (o .2) ∙ sym (extent .lasts) in
-      let some : all (λ p. not (blank (blockOf card (e .start + p)))) 0 (lengthOf s) ≡ false = turned _ (last _ (blocks .1)) in
-      found (λ p. blank (blockOf card (e .start + p))) (e .length) _ refl (subst (λ (m : ℕ). all (λ p. not (blank (blockOf card (e .start + p)))) 0 m ≡ false) size some)
+      let extent = open-extent (q .n) (free (q .map)) (q .entry) (o .0) (o .1) (o .2) in
+      let size : lengthOf s ≡ q .entry .length = ap lengthOf (o .2) ∙ sym (extent .lasts) in
+      let some : all (λ p. not (blank (blockOf (q .card) (q .entry .start + p)))) 0 (lengthOf s) ≡ false = turned _ (last _ (blocks .1)) in
+      found (λ p. blank (blockOf (q .card) (q .entry .start + p))) (q .entry .length) _ refl (subst (λ (m : ℕ). all (λ p. not (blank (blockOf (q .card) (q .entry .start + p)))) 0 m ≡ false) size some)
     where
       turned : (b : Bool) → not b ≡ true → b ≡ false
       turned true e = absurd (true≢false (sym e))

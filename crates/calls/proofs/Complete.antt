@@ -22,7 +22,8 @@ use Rattle.calls.specs.declared.Out.{Out}
 use Rattle.standings.specs.declared.Standing.{Standing}
 use Rattle.standings.specs.declared.Standing.the-variants.{Absent, Paused, Open, Complete, Damaged}
 use Rattle.calls.proofs.Admitted.{open-else, open-passes}
-use Rattle.calls.proofs.Lent.{Lent, allFits, standing, first, extent}
+use Rattle.calls.specs.Lent.{Lent}
+use Rattle.calls.proofs.Lent.{allFits, standing, first, extent}
 use Rattle.standings.proofs.Openings.{Not, closed, opened}
 
 -- ---- no row but the last is 9
@@ -55,20 +56,20 @@ standing-row Damaged = refl
 
 module _ (q : Lent) where
   abbrev pub verdict : Verdict
-  verdict = completeVerdict (q .n) (q .spare) (q .map) (q .card) (q .sheets) (q .entry) (q .sheet)
+  verdict = completeVerdict q
 
   abbrev pub lowest : ℕ
-  lowest = blankPlace (q .n) (q .spare) (q .map) (q .card) (q .sheets) (q .entry) (q .sheet)
+  lowest = blankPlace q
 
   abbrev pub refusal : ℕ → Out
   refusal number = outOf (q .spare) (q .entry) (cond (eqb number 9) (answer.Blank lowest) (answer.Refused number))
 
   -- what the call hands back after its verdict
-  pub out : (v : Verdict) → verdict ≡ v → settle v (outOf (q .spare) (entryOf 0x43 (q .entry .start) (q .entry .length)) answer.Done) refusal ≡ completeOut (q .n) (q .spare) (q .map) (q .card) (q .sheets) (q .entry) (q .sheet)
+  pub out : (v : Verdict) → verdict ≡ v → settle v (outOf (q .spare) (entryOf 0x43 (q .entry .start) (q .entry .length)) answer.Done) refusal ≡ completeOut q
   unfolding completeOut
   out v h = ap (λ (w : Verdict). settle w (outOf (q .spare) (entryOf 0x43 (q .entry .start) (q .entry .length)) answer.Done) refusal) (sym h)
 
-  pub by-row : (number : ℕ) (r : Out) → r ≡ refusalOut (q .spare) (q .entry) number → verdict ≡ refused number → eqb number 9 ≡ false → r ≡ completeOut (q .n) (q .spare) (q .map) (q .card) (q .sheets) (q .entry) (q .sheet)
+  pub by-row : (number : ℕ) (r : Out) → r ≡ refusalOut (q .spare) (q .entry) number → verdict ≡ refused number → eqb number 9 ≡ false → r ≡ completeOut q
   by-row number r made h f =
       made ∙ ap (λ (b : Bool). outOf (q .spare) (q .entry) (cond b (answer.Blank lowest) (answer.Refused number))) (sym f) ∙ out (refused number) h
 

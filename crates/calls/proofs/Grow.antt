@@ -18,7 +18,8 @@ use Rattle.standings.specs.declared.Opened.the-variants.{Refused, Stands}
 use Rattle.standings.specs.declared.Standing.{Standing}
 use Rattle.standings.specs.declared.Standing.the-variants.{Open}
 use Rattle.calls.proofs.Admitted.{open-else, open-passes}
-use Rattle.calls.proofs.Lent.{Lent, allFits, standing, first}
+use Rattle.calls.specs.Lent.{Lent}
+use Rattle.calls.proofs.Lent.{allFits, standing, first}
 use Rattle.standings.proofs.Openings.{Not, closed, opened, skip, stop, none-left}
 use Rattle.calls.proofs.Room.{growVerdictOn}
 use Rattle.freemap.specs.Maps.{marked}
@@ -74,20 +75,20 @@ module _ (q : Lent) (m : ℕ) where
   -- what the call hands back and leaves
   abbrev pub Leaves : Out → List ℕ → List ℕ → Type 0
   Leaves r map card =
-      (r ≡ growOut (q .n) (q .spare) (q .map) (q .card) (q .sheets) (q .entry) (q .sheet) m)
-      × (map ≡ growMap (q .n) (q .spare) (q .map) (q .card) (q .sheets) (q .entry) (q .sheet) m)
-      × (card ≡ growCard (q .n) (q .spare) (q .map) (q .card) (q .sheets) (q .entry) (q .sheet) m)
+      (r ≡ growOut q m)
+      × (map ≡ growMap q m)
+      × (card ≡ growCard q m)
 
   -- each after its verdict
-  pub out : (v : Verdict) → growVerdictOn q m ≡ v → settle v (outOf (q .spare - m) (entryOf 0x4f (q .entry .start) (q .entry .length + m)) Done) (refusalOut (q .spare) (q .entry)) ≡ growOut (q .n) (q .spare) (q .map) (q .card) (q .sheets) (q .entry) (q .sheet) m
+  pub out : (v : Verdict) → growVerdictOn q m ≡ v → settle v (outOf (q .spare - m) (entryOf 0x4f (q .entry .start) (q .entry .length + m)) Done) (refusalOut (q .spare) (q .entry)) ≡ growOut q m
   unfolding growOut
   out v h = ap (λ (w : Verdict). settle w (outOf (q .spare - m) (entryOf 0x4f (q .entry .start) (q .entry .length + m)) Done) (refusalOut (q .spare) (q .entry))) (sym h)
 
-  pub map-after : (v : Verdict) → growVerdictOn q m ≡ v → settle v (marked (q .map) (q .entry .start + q .entry .length) m false) (λ number. q .map) ≡ growMap (q .n) (q .spare) (q .map) (q .card) (q .sheets) (q .entry) (q .sheet) m
+  pub map-after : (v : Verdict) → growVerdictOn q m ≡ v → settle v (marked (q .map) (q .entry .start + q .entry .length) m false) (λ number. q .map) ≡ growMap q m
   unfolding growMap
   map-after v h = ap (λ (w : Verdict). settle w (marked (q .map) (q .entry .start + q .entry .length) m false) (λ number. q .map)) (sym h)
 
-  pub card-after : (v : Verdict) → growVerdictOn q m ≡ v → settle v (zeroed (q .card) (q .entry .start + q .entry .length) m) (λ number. q .card) ≡ growCard (q .n) (q .spare) (q .map) (q .card) (q .sheets) (q .entry) (q .sheet) m
+  pub card-after : (v : Verdict) → growVerdictOn q m ≡ v → settle v (zeroed (q .card) (q .entry .start + q .entry .length) m) (λ number. q .card) ≡ growCard q m
   unfolding growCard
   card-after v h = ap (λ (w : Verdict). settle w (zeroed (q .card) (q .entry .start + q .entry .length) m) (λ number. q .card)) (sym h)
 

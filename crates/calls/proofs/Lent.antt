@@ -1,13 +1,13 @@
--- What a call with the card is lent, and what the rows that it begins with say of it.
+-- What the rows that a call begins with say of what it is lent, with the card.
 -- Assumes nothing.
 use mathlib.Core.Path.{_≡_, sym, ap, _∙_}
 use mathlib.Core.Bool.{Bool, true, _&&_}
-use mathlib.Core.List.{List, []}
+use mathlib.Core.List.{[]}
 use Prim.Native.Nat.{ℕ, _*_}
 use lib.Dec.{eqb}
 use lib.ListN.{length}
 use Rattle.freemap.specs.Blocks.{free}
-use Rattle.catalogue.specs.declared.Entry.{Entry}
+use Rattle.calls.specs.Lent.{Lent}
 use Rattle.standings.specs.Openings.{openedOf}
 use Rattle.standings.specs.Standings.{standingOf}
 use Rattle.standings.specs.Limits.{shapeFits, sheetsFit}
@@ -17,18 +17,6 @@ use Rattle.standings.specs.declared.Standing.{Standing}
 use Rattle.standings.specs.declared.Standing.the-variants.{Open}
 use Rattle.standings.proofs.Limits.{CardFits, card-fits}
 use Rattle.standings.proofs.Openings.{Extent, opened, open-extent}
-
-pub record Lent : Type 0 where
-  pub n : ℕ
-  pub spare : ℕ
-  pub map : List ℕ
-  pub card : List ℕ
-  pub sheets : ℕ
-  pub entry : Entry
-  pub sheet : ℕ
-
-abbrev pub lent : ℕ → ℕ → List ℕ → List ℕ → ℕ → Entry → ℕ → Lent
-lent n spare map card c e sheet = record { n = n; spare = spare; map = map; card = card; sheets = c; entry = e; sheet = sheet }
 
 -- row 1 does not hold: the limits of n, and the lengths of map and card
 abbrev pub Sized : Lent → Type 0

@@ -6,7 +6,7 @@ use mathlib.Core.List.{List, [], _∷_}
 use Prim.Native.Nat.{ℕ}
 use lib.ListN.{length}
 use Rattle.freemap.specs.Blocks.{free}
-use Rattle.catalogue.specs.declared.Entry.{Entry}
+use Rattle.calls.specs.Lent.{Lent}
 use Rattle.calls.specs.Effects.{entryOf, outOf, refusalOut, pauseVerdict, pauseOut}
 use Rattle.standings.specs.Openings.{openedOf, rowOf}
 use Rattle.standings.specs.Rows.{Verdict, accepted, refused, settle}
@@ -21,26 +21,26 @@ use Rattle.standings.specs.declared.Standing.{Standing}
 use Rattle.standings.specs.declared.Standing.the-variants.{Absent}
 use Rattle.standings.proofs.Openings.{closed, opened, not-absent, is-absent, none-left, Not}
 
-module _ (n spare : ℕ) (map : List ℕ) (c : ℕ) (e : Entry) (sheet : ℕ) where
-  pub out : (v : Verdict) → pauseVerdict n spare map c e sheet ≡ v → pauseOut n spare map c e sheet ≡ settle v (outOf spare (entryOf 0x50 0 0) Done) (refusalOut spare e)
+module _ (q : Lent) where
+  pub out : (v : Verdict) → pauseVerdict q ≡ v → pauseOut q ≡ settle v (outOf (q .spare) (entryOf 0x50 0 0) Done) (refusalOut (q .spare) (q .entry))
   unfolding pauseOut
-  out v h = ap (λ (w : Verdict). settle w (outOf spare (entryOf 0x50 0 0) Done) (refusalOut spare e)) h
+  out v h = ap (λ (w : Verdict). settle w (outOf (q .spare) (entryOf 0x50 0 0) Done) (refusalOut (q .spare) (q .entry))) h
 
   abbrev pub first : Opened
-  first = openedOf (shapeFits n spare (length map) && sheetsFit c) c sheet (standingOf n (free map) e)
+  first = openedOf (shapeFits (q .n) (q .spare) (length (q .map)) && sheetsFit (q .sheets)) (q .sheets) (q .sheet) (standingOf (q .n) (free (q .map)) (q .entry))
 
-  pub shut : (number : ℕ) → first ≡ Refused number → pauseVerdict n spare map c e sheet ≡ refused number
+  pub shut : (number : ℕ) → first ≡ Refused number → pauseVerdict q ≡ refused number
   unfolding pauseVerdict viewAt tableOf
   shut number h = closed _ _ _ _ _ number h
 
-  pub other : (s : Standing) → first ≡ Stands s → Not (1 ∷ 2 ∷ 3 ∷ 4 ∷ []) s → pauseVerdict n spare map c e sheet ≡ refused (rowOf s)
+  pub other : (s : Standing) → first ≡ Stands s → Not (1 ∷ 2 ∷ 3 ∷ 4 ∷ []) s → pauseVerdict q ≡ refused (rowOf s)
   unfolding pauseVerdict viewAt tableOf
   other s h differs =
       let o = opened _ _ _ _ s _ h in
-      o .verdict ∙ not-absent (standingOf n (free map) e) [] (subst (Not (1 ∷ 2 ∷ 3 ∷ 4 ∷ [])) (sym (o .same)) differs) (o .whole) ∙ ap (λ (t : Standing). refused (rowOf t)) (o .same)
+      o .verdict ∙ not-absent (standingOf (q .n) (free (q .map)) (q .entry)) [] (subst (Not (1 ∷ 2 ∷ 3 ∷ 4 ∷ [])) (sym (o .same)) differs) (o .whole) ∙ ap (λ (t : Standing). refused (rowOf t)) (o .same)
 
-  pub passes : first ≡ Stands Absent → pauseVerdict n spare map c e sheet ≡ accepted
+  pub passes : first ≡ Stands Absent → pauseVerdict q ≡ accepted
   unfolding pauseVerdict viewAt tableOf
   passes h =
       let o = opened _ _ _ _ Absent _ h in
-      o .verdict ∙ is-absent (standingOf n (free map) e) [] (o .same) ∙ none-left
+      o .verdict ∙ is-absent (standingOf (q .n) (free (q .map)) (q .entry)) [] (o .same) ∙ none-left

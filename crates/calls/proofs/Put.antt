@@ -9,7 +9,7 @@ use lib.ListN.{length}
 use Rattle.card_blocks.specs.Card.{withBlock}
 use Rattle.sums.specs.Sealed.{sealed}
 use Rattle.freemap.specs.Blocks.{free}
-use Rattle.catalogue.specs.declared.Entry.{Entry}
+use Rattle.calls.specs.Lent.{Lent}
 use Rattle.calls.specs.Effects.{putVerdict, putAnswer, putCard}
 use Rattle.standings.specs.Openings.{openedOf, rowOf}
 use Rattle.standings.specs.Rows.{row, Verdict, accepted, refused, firstOf, settle}
@@ -27,25 +27,25 @@ use Rattle.standings.proofs.Limits.{CardFits, card-fits}
 use Rattle.standings.proofs.Openings.{skip, stop, closed, opened, not-open, is-open, none-left, Extent, open-extent, Not}
 use Rattle.calls.proofs.Places.{Misplaced, beyond, unsized, placed, block-number, block-bytes}
 
-module _ (n spare : ℕ) (map card : List ℕ) (c : ℕ) (e : Entry) (sheet place : ℕ) (payload : List ℕ) where
+module _ (q : Lent) (place : ℕ) (payload : List ℕ) where
   abbrev pub verdict : Verdict
-  verdict = putVerdict n spare map card c e sheet place payload
+  verdict = putVerdict q place payload
 
   abbrev pub written : List ℕ
-  written = withBlock card (e .start + place) (sealed sheet place payload)
+  written = withBlock (q .card) (q .entry .start + place) (sealed (q .sheet) place payload)
 
   -- what is answered and what the card becomes, after a verdict
-  pub out : (v : Verdict) → verdict ≡ v → (r : Answer) (after : List ℕ) → r ≡ settle v Done Refused → after ≡ settle v written (λ number. card)
-      → (r ≡ putAnswer n spare map card c e sheet place payload) × (after ≡ putCard n spare map card c e sheet place payload)
+  pub out : (v : Verdict) → verdict ≡ v → (r : Answer) (after : List ℕ) → r ≡ settle v Done Refused → after ≡ settle v written (λ number. q .card)
+      → (r ≡ putAnswer q place payload) × (after ≡ putCard q place payload)
   unfolding putAnswer putCard
-  out v h r after p q =
-      (p ∙ ap (λ (w : Verdict). settle w Done Refused) (sym h), q ∙ ap (λ (w : Verdict). settle w written (λ number. card)) (sym h))
+  out v h r after made left =
+      (made ∙ ap (λ (w : Verdict). settle w Done Refused) (sym h), left ∙ ap (λ (w : Verdict). settle w written (λ number. q .card)) (sym h))
 
   abbrev pub stands : Standing
-  stands = standingOf n (free map) e
+  stands = standingOf (q .n) (free (q .map)) (q .entry)
 
   abbrev pub first : Opened
-  first = openedOf (shapeFits n spare (length map) && sheetsFit c && eqb (length card) (512 * n)) c sheet stands
+  first = openedOf (shapeFits (q .n) (q .spare) (length (q .map)) && sheetsFit (q .sheets) && eqb (length (q .card)) (512 * q .n)) (q .sheets) (q .sheet) stands
 
   pub shut : {o : Opened} (number : ℕ) → o ≡ first → o ≡ opening.Refused number → verdict ≡ refused number
   unfolding putVerdict viewOn tableOf
@@ -60,14 +60,14 @@ module _ (n spare : ℕ) (map card : List ℕ) (c : ℕ) (e : Entry) (sheet plac
       ∙ ap (λ (t : Standing). refused (rowOf t)) (x .same)
 
   module _ (start blocks : ℕ) {o : Opened} (given : o ≡ first) (told : o ≡ opening.Stands (Open start blocks)) where
-    pub limits : CardFits n spare (length map) (length card)
-    limits = card-fits n spare (length map) c (length card) (opened _ _ _ _ (Open start blocks) [] (sym given ∙ told) .all-fits)
+    pub limits : CardFits (q .n) (q .spare) (length (q .map)) (length (q .card))
+    limits = card-fits (q .n) (q .spare) (length (q .map)) (q .sheets) (length (q .card)) (opened _ _ _ _ (Open start blocks) [] (sym given ∙ told) .all-fits)
 
-    pub extent : Extent n (free map) e start blocks
-    extent = open-extent n (free map) e start blocks (opened _ _ _ _ (Open start blocks) [] (sym given ∙ told) .same)
+    pub extent : Extent (q .n) (free (q .map)) (q .entry) start blocks
+    extent = open-extent (q .n) (free (q .map)) (q .entry) start blocks (opened _ _ _ _ (Open start blocks) [] (sym given ∙ told) .same)
 
-    pub same-block : withBlock card (start + place) (sealed sheet place payload) ≡ written
-    same-block = ap (λ (s : ℕ). withBlock card (s + place) (sealed sheet place payload)) (sym (extent .starts))
+    pub same-block : withBlock (q .card) (start + place) (sealed (q .sheet) place payload) ≡ written
+    same-block = ap (λ (s : ℕ). withBlock (q .card) (s + place) (sealed (q .sheet) place payload)) (sym (extent .starts))
 
     -- an Open sheet comes to row 3
     pub reached : verdict ≡ firstOf (row 3 (Misplaced blocks place (length payload)) ∷ [])
@@ -88,12 +88,12 @@ module _ (n spare : ℕ) (map card : List ℕ) (c : ℕ) (e : Entry) (sheet plac
       pub passes : length payload ≡ 496 → verdict ≡ accepted
       passes d = reached ∙ skip 3 _ [] accepted (placed blocks place (length payload) listed d) none-left
 
-      pub done : length payload ≡ 496 → (after : List ℕ) → after ≡ withBlock card (start + place) (sealed sheet place payload)
-          → (Done ≡ putAnswer n spare map card c e sheet place payload) × (after ≡ putCard n spare map card c e sheet place payload)
+      pub done : length payload ≡ 496 → (after : List ℕ) → after ≡ withBlock (q .card) (start + place) (sealed (q .sheet) place payload)
+          → (Done ≡ putAnswer q place payload) × (after ≡ putCard q place payload)
       done d after w = out accepted (passes d) Done after refl (w ∙ same-block)
 
       pub number-fits : start + place < 262144
       number-fits = block-number limits extent listed
 
-      pub in-card : 512 * (start + place) + 512 ≤ length card
+      pub in-card : 512 * (start + place) + 512 ≤ length (q .card)
       in-card = block-bytes limits extent listed

@@ -11,7 +11,7 @@ use lib.ListN.{length}
 use types.Run as Run
 use Rattle.freemap.specs.Blocks.{free}
 use Rattle.freemap.specs.Maps.{marked}
-use Rattle.catalogue.specs.declared.Entry.{Entry}
+use Rattle.calls.specs.Lent.{Lent}
 use Rattle.calls.specs.Effects.{entryOf, outOf, refusalOut, releaseVerdict, releaseOut, releaseMap}
 use Rattle.standings.specs.Openings.{openedOf}
 use Rattle.standings.specs.Rows.{Verdict, accepted, refused, settle}
@@ -36,28 +36,28 @@ present (Open a b) t = refl
 present (Complete a b) t = refl
 present Damaged t = refl
 
-module _ (n spare : ℕ) (map : List ℕ) (c : ℕ) (e : Entry) (sheet : ℕ) where
+module _ (q : Lent) where
   abbrev pub verdict : Verdict
-  verdict = releaseVerdict n spare map c e sheet
+  verdict = releaseVerdict q
 
   abbrev pub done : Out
-  done = outOf (spare + e .length) (entryOf 0x41 0 0) Done
+  done = outOf (q .spare + q .entry .length) (entryOf 0x41 0 0) Done
 
   abbrev pub freed : List ℕ
-  freed = marked map (e .start) (e .length) true
+  freed = marked (q .map) (q .entry .start) (q .entry .length) true
 
   -- what is answered and what the map becomes, after a verdict
-  pub out : (v : Verdict) → verdict ≡ v → (r : Out) (after : List ℕ) → r ≡ settle v done (refusalOut spare e) → after ≡ settle v freed (λ number. map)
-      → (r ≡ releaseOut n spare map c e sheet) × (after ≡ releaseMap n spare map c e sheet)
+  pub out : (v : Verdict) → verdict ≡ v → (r : Out) (after : List ℕ) → r ≡ settle v done (refusalOut (q .spare) (q .entry)) → after ≡ settle v freed (λ number. q .map)
+      → (r ≡ releaseOut q) × (after ≡ releaseMap q)
   unfolding releaseOut releaseMap
-  out v h r after p q =
-      (p ∙ ap (λ (w : Verdict). settle w done (refusalOut spare e)) (sym h), q ∙ ap (λ (w : Verdict). settle w freed (λ number. map)) (sym h))
+  out v h r after made left =
+      (made ∙ ap (λ (w : Verdict). settle w done (refusalOut (q .spare) (q .entry))) (sym h), left ∙ ap (λ (w : Verdict). settle w freed (λ number. q .map)) (sym h))
 
   abbrev pub stands : Standing
-  stands = standingOf n (free map) e
+  stands = standingOf (q .n) (free (q .map)) (q .entry)
 
   abbrev pub first : Opened
-  first = openedOf (shapeFits n spare (length map) && sheetsFit c) c sheet stands
+  first = openedOf (shapeFits (q .n) (q .spare) (length (q .map)) && sheetsFit (q .sheets)) (q .sheets) (q .sheet) stands
 
   pub shut : {o : Opened} (number : ℕ) → o ≡ first → o ≡ Refused number → verdict ≡ refused number
   unfolding releaseVerdict viewAt tableOf
@@ -71,21 +71,21 @@ module _ (n spare : ℕ) (map : List ℕ) (c : ℕ) (e : Entry) (sheet : ℕ) wh
 
   module _ (s : Standing) {o : Opened} (given : o ≡ first) (told : o ≡ Stands s) where
     -- the limits, and the extent to be freed
-    pub limits : Fits n spare (length map)
-    limits = sheet-fits n spare (length map) c (opened _ _ _ _ s [] (sym given ∙ told) .all-fits)
+    pub limits : Fits (q .n) (q .spare) (length (q .map))
+    limits = sheet-fits (q .n) (q .spare) (length (q .map)) (q .sheets) (opened _ _ _ _ s [] (sym given ∙ told) .all-fits)
 
-    pub extent : Inside n e stands
-    extent = inside-of n (free map) e (opened _ _ _ _ s [] (sym given ∙ told) .whole)
+    pub extent : Inside (q .n) (q .entry) stands
+    extent = inside-of (q .n) (free (q .map)) (q .entry) (opened _ _ _ _ s [] (sym given ∙ told) .whole)
 
     -- the blocks to be marked lie in the map
-    pub in-map : (e .start + e .length ≤ 262144) × (e .start + e .length ≤ 64 * length map)
+    pub in-map : (q .entry .start + q .entry .length ≤ 262144) × (q .entry .start + q .entry .length ≤ 64 * length (q .map))
     in-map =
         let f = limits in
         let x = extent in
         (omega (arith, f .limit, x .inside), omega (arith, f .covered, x .inside))
 
     module _ (differs : Not (1 ∷ 2 ∷ 3 ∷ 4 ∷ []) s) where
-      pub over : n - spare < e .length → verdict ≡ refused 4
+      pub over : q .n - q .spare < q .entry .length → verdict ≡ refused 4
       unfolding releaseVerdict viewAt tableOf
       over above =
           let x = opened _ _ _ _ s _ (sym given ∙ told) in
@@ -93,9 +93,9 @@ module _ (n spare : ℕ) (map : List ℕ) (c : ℕ) (e : Entry) (sheet : ℕ) wh
           let lasts = extent .lasts in
           x .verdict
           ∙ skip 5 (isAbsent stands) _ (refused 4) (ap isAbsent (x .same) ∙ present s differs)
-          (stop 4 (ltb n (spare + lengthOf stands)) [] (lt-ltb n (spare + lengthOf stands) (omega arith)))
+          (stop 4 (ltb (q .n) (q .spare + lengthOf stands)) [] (lt-ltb (q .n) (q .spare + lengthOf stands) (omega arith)))
 
-      pub passes : e .length ≤ n - spare → verdict ≡ accepted
+      pub passes : q .entry .length ≤ q .n - q .spare → verdict ≡ accepted
       unfolding releaseVerdict viewAt tableOf
       passes within =
           let x = opened _ _ _ _ s _ (sym given ∙ told) in
@@ -103,4 +103,4 @@ module _ (n spare : ℕ) (map : List ℕ) (c : ℕ) (e : Entry) (sheet : ℕ) wh
           let lasts = extent .lasts in
           x .verdict
           ∙ skip 5 (isAbsent stands) _ accepted (ap isAbsent (x .same) ∙ present s differs)
-          (skip 4 (ltb n (spare + lengthOf stands)) [] accepted (le-ltb n (spare + lengthOf stands) (omega arith)) none-left)
+          (skip 4 (ltb (q .n) (q .spare + lengthOf stands)) [] accepted (le-ltb (q .n) (q .spare + lengthOf stands) (omega arith)) none-left)

@@ -18,7 +18,8 @@ use Rattle.standings.specs.declared.Opened.the-variants.{Refused, Stands}
 use Rattle.standings.specs.declared.Standing.{Standing}
 use Rattle.standings.specs.declared.Standing.the-variants.{Absent}
 use Rattle.calls.proofs.Admitted.{absent-else, absent-passes}
-use Rattle.calls.proofs.Lent.{Lent, first}
+use Rattle.calls.specs.Lent.{Lent}
+use Rattle.calls.proofs.Lent.{first}
 use Rattle.standings.proofs.Openings.{Not, closed, skip, stop, none-left}
 use Rattle.calls.proofs.Room.{reserveVerdictOn, reserveStartOn}
 use mathlib.Core.Bool.{false}
@@ -71,20 +72,20 @@ module _ (q : Lent) (k : ℕ) where
   -- what the call hands back and leaves
   abbrev pub Leaves : Out → List ℕ → List ℕ → Type 0
   Leaves r map card =
-      (r ≡ reserveOut (q .n) (q .spare) (q .map) (q .card) (q .sheets) (q .entry) (q .sheet) k)
-      × (map ≡ reserveMap (q .n) (q .spare) (q .map) (q .card) (q .sheets) (q .entry) (q .sheet) k)
-      × (card ≡ reserveCard (q .n) (q .spare) (q .map) (q .card) (q .sheets) (q .entry) (q .sheet) k)
+      (r ≡ reserveOut q k)
+      × (map ≡ reserveMap q k)
+      × (card ≡ reserveCard q k)
 
   -- each after its verdict
-  pub out : (v : Verdict) → reserveVerdictOn q k ≡ v → settle v (outOf (q .spare - k) (entryOf 0x4f (reserveStartOn q k) k) (Start (reserveStartOn q k))) (refusalOut (q .spare) (q .entry)) ≡ reserveOut (q .n) (q .spare) (q .map) (q .card) (q .sheets) (q .entry) (q .sheet) k
+  pub out : (v : Verdict) → reserveVerdictOn q k ≡ v → settle v (outOf (q .spare - k) (entryOf 0x4f (reserveStartOn q k) k) (Start (reserveStartOn q k))) (refusalOut (q .spare) (q .entry)) ≡ reserveOut q k
   unfolding reserveOut
   out v h = ap (λ (w : Verdict). settle w (outOf (q .spare - k) (entryOf 0x4f (reserveStartOn q k) k) (Start (reserveStartOn q k))) (refusalOut (q .spare) (q .entry))) (sym h)
 
-  pub map-after : (v : Verdict) → reserveVerdictOn q k ≡ v → settle v (marked (q .map) (reserveStartOn q k) k false) (λ number. q .map) ≡ reserveMap (q .n) (q .spare) (q .map) (q .card) (q .sheets) (q .entry) (q .sheet) k
+  pub map-after : (v : Verdict) → reserveVerdictOn q k ≡ v → settle v (marked (q .map) (reserveStartOn q k) k false) (λ number. q .map) ≡ reserveMap q k
   unfolding reserveMap
   map-after v h = ap (λ (w : Verdict). settle w (marked (q .map) (reserveStartOn q k) k false) (λ number. q .map)) (sym h)
 
-  pub card-after : (v : Verdict) → reserveVerdictOn q k ≡ v → settle v (zeroed (q .card) (reserveStartOn q k) k) (λ number. q .card) ≡ reserveCard (q .n) (q .spare) (q .map) (q .card) (q .sheets) (q .entry) (q .sheet) k
+  pub card-after : (v : Verdict) → reserveVerdictOn q k ≡ v → settle v (zeroed (q .card) (reserveStartOn q k) k) (λ number. q .card) ≡ reserveCard q k
   unfolding reserveCard
   card-after v h = ap (λ (w : Verdict). settle w (zeroed (q .card) (reserveStartOn q k) k) (λ number. q .card)) (sym h)
 

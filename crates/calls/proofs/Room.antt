@@ -21,7 +21,8 @@ use Rattle.standings.specs.declared.Standing.{Standing}
 use Rattle.standings.specs.declared.Standing.the-variants.{Absent, Paused, Open, Complete, Damaged}
 use Rattle.freemap.proofs.Least.{least-passes}
 use Rattle.calls.proofs.Rows.{clear}
-use Rattle.calls.proofs.Lent.{Lent, Sized, standing, sized}
+use Rattle.calls.specs.Lent.{Lent}
+use Rattle.calls.proofs.Lent.{Sized, standing, sized}
 use Rattle.standings.proofs.Openings.{open-extent}
 
 -- ---- where the blocks lie
@@ -52,14 +53,14 @@ only-open (Complete s l) d a p c = absurd (true≢false c)
 only-open Damaged d a p c = absurd (true≢false d)
 
 abbrev viewOf : Lent → View
-viewOf q = viewOn (q .n) (q .spare) (q .map) (q .card) (q .sheets) (q .entry) (q .sheet)
+viewOf q = viewOn q
 
 module _ (q : Lent) (k : ℕ) where
   abbrev pub reserveVerdictOn : Verdict
-  reserveVerdictOn = reserveVerdict (q .n) (q .spare) (q .map) (q .card) (q .sheets) (q .entry) (q .sheet) k
+  reserveVerdictOn = reserveVerdict q k
 
   abbrev pub reserveStartOn : ℕ
-  reserveStartOn = reserveStart (q .n) (q .spare) (q .map) (q .card) (q .sheets) (q .entry) (q .sheet) k
+  reserveStartOn = reserveStart q k
 
   pub reserve-room : reserveVerdictOn ≡ accepted → Room q reserveStartOn k
   unfolding reserveVerdict reserveStart viewOn tableOf
@@ -73,7 +74,7 @@ module _ (q : Lent) (k : ℕ) where
       }
 
   abbrev pub growVerdictOn : Verdict
-  growVerdictOn = growVerdict (q .n) (q .spare) (q .map) (q .card) (q .sheets) (q .entry) (q .sheet) k
+  growVerdictOn = growVerdict q k
 
   pub grow-room : growVerdictOn ≡ accepted → Room q (q .entry .start + q .entry .length) k
   unfolding growVerdict viewOn tableOf

@@ -9,7 +9,7 @@ use lib.ListN.{length}
 use Rattle.card_blocks.specs.Card.{blockOf}
 use Rattle.sums.specs.Sealed.{sound, payloadOf}
 use Rattle.freemap.specs.Blocks.{free}
-use Rattle.catalogue.specs.declared.Entry.{Entry}
+use Rattle.calls.specs.Lent.{Lent}
 use Rattle.calls.specs.Effects.{showVerdict, showAnswer, showBuffer}
 use Rattle.standings.specs.Openings.{openedOf, rowOf}
 use Rattle.standings.specs.Rows.{row, Verdict, accepted, refused, firstOf, settle}
@@ -27,25 +27,25 @@ use Rattle.standings.proofs.Limits.{CardFits, card-fits}
 use Rattle.standings.proofs.Openings.{skip, stop, closed, opened, not-complete, is-complete, none-left, Extent, complete-extent, Not}
 use Rattle.calls.proofs.Places.{Misplaced, beyond, unsized, placed, block-number, block-bytes}
 
-module _ (n spare : ℕ) (map card : List ℕ) (c : ℕ) (e : Entry) (sheet place : ℕ) (buffer : List ℕ) where
+module _ (q : Lent) (place : ℕ) (buffer : List ℕ) where
   abbrev pub verdict : Verdict
-  verdict = showVerdict n spare map card c e sheet place buffer
+  verdict = showVerdict q place buffer
 
   abbrev pub shown : List ℕ
-  shown = payloadOf (blockOf card (e .start + place))
+  shown = payloadOf (blockOf (q .card) (q .entry .start + place))
 
   -- what is answered and what the buffer becomes, after a verdict
   pub out : (v : Verdict) → verdict ≡ v → (r : Answer) (after : List ℕ) → r ≡ settle v Done Refused → after ≡ settle v shown (λ number. buffer)
-      → (r ≡ showAnswer n spare map card c e sheet place buffer) × (after ≡ showBuffer n spare map card c e sheet place buffer)
+      → (r ≡ showAnswer q place buffer) × (after ≡ showBuffer q place buffer)
   unfolding showAnswer showBuffer
-  out v h r after p q =
-      (p ∙ ap (λ (w : Verdict). settle w Done Refused) (sym h), q ∙ ap (λ (w : Verdict). settle w shown (λ number. buffer)) (sym h))
+  out v h r after made left =
+      (made ∙ ap (λ (w : Verdict). settle w Done Refused) (sym h), left ∙ ap (λ (w : Verdict). settle w shown (λ number. buffer)) (sym h))
 
   abbrev pub stands : Standing
-  stands = standingOf n (free map) e
+  stands = standingOf (q .n) (free (q .map)) (q .entry)
 
   abbrev pub first : Opened
-  first = openedOf (shapeFits n spare (length map) && sheetsFit c && eqb (length card) (512 * n)) c sheet stands
+  first = openedOf (shapeFits (q .n) (q .spare) (length (q .map)) && sheetsFit (q .sheets) && eqb (length (q .card)) (512 * q .n)) (q .sheets) (q .sheet) stands
 
   pub shut : {o : Opened} (number : ℕ) → o ≡ first → o ≡ opening.Refused number → verdict ≡ refused number
   unfolding showVerdict viewOn tableOf
@@ -60,25 +60,25 @@ module _ (n spare : ℕ) (map card : List ℕ) (c : ℕ) (e : Entry) (sheet plac
       ∙ ap (λ (t : Standing). refused (rowOf t)) (x .same)
 
   module _ (start blocks : ℕ) {o : Opened} (given : o ≡ first) (told : o ≡ opening.Stands (Complete start blocks)) where
-    pub limits : CardFits n spare (length map) (length card)
-    limits = card-fits n spare (length map) c (length card) (opened _ _ _ _ (Complete start blocks) [] (sym given ∙ told) .all-fits)
+    pub limits : CardFits (q .n) (q .spare) (length (q .map)) (length (q .card))
+    limits = card-fits (q .n) (q .spare) (length (q .map)) (q .sheets) (length (q .card)) (opened _ _ _ _ (Complete start blocks) [] (sym given ∙ told) .all-fits)
 
-    pub extent : Extent n (free map) e start blocks
-    extent = complete-extent n (free map) e start blocks (opened _ _ _ _ (Complete start blocks) [] (sym given ∙ told) .same)
+    pub extent : Extent (q .n) (free (q .map)) (q .entry) start blocks
+    extent = complete-extent (q .n) (free (q .map)) (q .entry) start blocks (opened _ _ _ _ (Complete start blocks) [] (sym given ∙ told) .same)
 
-    pub same-block : blockOf card (start + place) ≡ blockOf card (e .start + place)
-    same-block = ap (λ (s : ℕ). blockOf card (s + place)) (sym (extent .starts))
+    pub same-block : blockOf (q .card) (start + place) ≡ blockOf (q .card) (q .entry .start + place)
+    same-block = ap (λ (s : ℕ). blockOf (q .card) (s + place)) (sym (extent .starts))
 
     -- a Complete sheet comes to row 3, and then to row 4 for the block
     pub reached : verdict
-        ≡ firstOf (row 3 (Misplaced blocks place (length buffer)) ∷ row 4 (not (sound sheet place (blockOf card (start + place)))) ∷ [])
+        ≡ firstOf (row 3 (Misplaced blocks place (length buffer)) ∷ row 4 (not (sound (q .sheet) place (blockOf (q .card) (start + place)))) ∷ [])
     unfolding showVerdict viewOn tableOf
     reached =
         let x = opened _ _ _ _ (Complete start blocks) _ (sym given ∙ told) in
         x .verdict
         ∙ is-complete stands start blocks _ (x .same)
-        ∙ ap (λ (s : Standing). firstOf (row 3 (Misplaced (lengthOf s) place (length buffer)) ∷ row 4 (not (sound sheet place (blockOf card (e .start + place)))) ∷ [])) (x .same)
-        ∙ ap (λ (b : List ℕ). firstOf (row 3 (Misplaced blocks place (length buffer)) ∷ row 4 (not (sound sheet place b)) ∷ [])) (sym same-block)
+        ∙ ap (λ (s : Standing). firstOf (row 3 (Misplaced (lengthOf s) place (length buffer)) ∷ row 4 (not (sound (q .sheet) place (blockOf (q .card) (q .entry .start + place)))) ∷ [])) (x .same)
+        ∙ ap (λ (b : List ℕ). firstOf (row 3 (Misplaced blocks place (length buffer)) ∷ row 4 (not (sound (q .sheet) place b)) ∷ [])) (sym same-block)
 
     pub past-end : blocks ≤ place → verdict ≡ refused 3
     past-end b = reached ∙ stop 3 _ _ (beyond blocks place (length buffer) b)
@@ -90,16 +90,16 @@ module _ (n spare : ℕ) (map card : List ℕ) (c : ℕ) (e : Entry) (sheet plac
       pub number-fits : start + place < 262144
       number-fits = block-number limits extent listed
 
-      pub in-card : 512 * (start + place) + 512 ≤ length card
+      pub in-card : 512 * (start + place) + 512 ≤ length (q .card)
       in-card = block-bytes limits extent listed
 
       module _ (whole : length buffer ≡ 496) where
-        pub unsound : sound sheet place (blockOf card (start + place)) ≡ false → verdict ≡ refused 4
+        pub unsound : sound (q .sheet) place (blockOf (q .card) (start + place)) ≡ false → verdict ≡ refused 4
         unsound d = reached ∙ skip 3 _ _ (refused 4) (placed blocks place (length buffer) listed whole) (stop 4 _ [] (ap not d))
 
-        pub passes : sound sheet place (blockOf card (start + place)) ≡ true → verdict ≡ accepted
+        pub passes : sound (q .sheet) place (blockOf (q .card) (start + place)) ≡ true → verdict ≡ accepted
         passes d = reached ∙ skip 3 _ _ accepted (placed blocks place (length buffer) listed whole) (skip 4 _ [] accepted (ap not d) none-left)
 
-        pub done : sound sheet place (blockOf card (start + place)) ≡ true → (after : List ℕ) → after ≡ payloadOf (blockOf card (start + place))
-            → (Done ≡ showAnswer n spare map card c e sheet place buffer) × (after ≡ showBuffer n spare map card c e sheet place buffer)
+        pub done : sound (q .sheet) place (blockOf (q .card) (start + place)) ≡ true → (after : List ℕ) → after ≡ payloadOf (blockOf (q .card) (start + place))
+            → (Done ≡ showAnswer q place buffer) × (after ≡ showBuffer q place buffer)
         done d after w = out accepted (passes d) Done after refl (w ∙ ap payloadOf same-block)

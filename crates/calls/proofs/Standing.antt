@@ -6,7 +6,7 @@ use mathlib.Core.List.{List}
 use Prim.Native.Nat.{ℕ}
 use lib.ListN.{length}
 use Rattle.freemap.specs.Blocks.{free}
-use Rattle.catalogue.specs.declared.Entry.{Entry}
+use Rattle.calls.specs.Lent.{Lent}
 use Rattle.calls.specs.Effects.{standingAnswer}
 use Rattle.standings.specs.Openings.{openedOf}
 use Rattle.standings.specs.Rows.{Verdict, accepted, refused, settle}
@@ -21,16 +21,16 @@ use Rattle.standings.specs.declared.Opened.the-variants as opening
 use Rattle.standings.specs.declared.Standing.{Standing}
 use Rattle.standings.proofs.Openings.{closed, opened, none-left}
 
-module _ (n spare : ℕ) (map : List ℕ) (c : ℕ) (e : Entry) (sheet : ℕ) where
+module _ (q : Lent) where
   abbrev pub verdict : Verdict
-  verdict = verdictOf (viewAt n spare map c e) (table.on sheet table.standing)
+  verdict = verdictOf (viewAt q) (table.on (q .sheet) table.standing)
 
-  pub out : (v : Verdict) → verdict ≡ v → standingAnswer n spare map c e sheet ≡ settle v (Stands (e .mark) (e .start) (e .length)) Refused
+  pub out : (v : Verdict) → verdict ≡ v → standingAnswer q ≡ settle v (Stands (q .entry .mark) (q .entry .start) (q .entry .length)) Refused
   unfolding standingAnswer
-  out v h = ap (λ (w : Verdict). settle w (Stands (e .mark) (e .start) (e .length)) Refused) h
+  out v h = ap (λ (w : Verdict). settle w (Stands (q .entry .mark) (q .entry .start) (q .entry .length)) Refused) h
 
   abbrev pub first : Opened
-  first = openedOf (shapeFits n spare (length map) && sheetsFit c) c sheet (standingOf n (free map) e)
+  first = openedOf (shapeFits (q .n) (q .spare) (length (q .map)) && sheetsFit (q .sheets)) (q .sheets) (q .sheet) (standingOf (q .n) (free (q .map)) (q .entry))
 
   pub shut : {o : Opened} (number : ℕ) → o ≡ first → o ≡ opening.Refused number → verdict ≡ refused number
   unfolding viewAt tableOf

@@ -14,6 +14,7 @@ use Rattle.catalogue.specs.Entries.{absent, pausedMark, openMark, completeMark}
 use Rattle.catalogue.specs.declared.Entry.{Entry}
 use Rattle.standings.specs.Rows.{Verdict, settle}
 use Rattle.standings.specs.Searches.{startAt}
+use Rattle.calls.specs.Lent.{Lent}
 use Rattle.calls.specs.Table.{on, reserve, put, grow, complete, pause, release, show, standing, verdictOf}
 use Rattle.calls.specs.Views.{viewAt, viewOn}
 use Rattle.standings.specs.declared.Answer.{Answer}
@@ -31,49 +32,49 @@ abbrev pub refusalOut : ℕ → Entry → ℕ → Out
 refusalOut free e number = outOf free e (Refused number)
 
 -- Reserve: Absent becomes Open at the least fit, its k blocks taken and filled with zeros.
-module _ (n free : ℕ) (map card : List ℕ) (c : ℕ) (e : Entry) (sheet k : ℕ) where
+module _ (q : Lent) (k : ℕ) where
   unfoldable pub reserveVerdict : Verdict
   unfolding viewOn
-  reserveVerdict = verdictOf (viewOn n free map card c e sheet) (on sheet (reserve k))
+  reserveVerdict = verdictOf (viewOn q) (on (q .sheet) (reserve k))
 
   unfoldable pub reserveStart : ℕ
-  reserveStart = startAt (leastFit (map-blocks.free map) 0 n k)
+  reserveStart = startAt (leastFit (map-blocks.free (q .map)) 0 (q .n) k)
 
   unfoldable pub reserveOut : Out
   unfolding reserveVerdict reserveStart
-  reserveOut = settle reserveVerdict (outOf (free - k) (entryOf openMark reserveStart k) (Start reserveStart)) (refusalOut free e)
+  reserveOut = settle reserveVerdict (outOf (q .spare - k) (entryOf openMark reserveStart k) (Start reserveStart)) (refusalOut (q .spare) (q .entry))
 
   unfoldable pub reserveMap : List ℕ
   unfolding reserveVerdict reserveStart
-  reserveMap = settle reserveVerdict (marked map reserveStart k false) (λ number. map)
+  reserveMap = settle reserveVerdict (marked (q .map) reserveStart k false) (λ number. q .map)
 
   unfoldable pub reserveCard : List ℕ
   unfolding reserveVerdict reserveStart
-  reserveCard = settle reserveVerdict (zeroed card reserveStart k) (λ number. card)
+  reserveCard = settle reserveVerdict (zeroed (q .card) reserveStart k) (λ number. q .card)
 
 -- Grow: the m blocks after an Open extent are added, taken and filled with zeros.
-module _ (n free : ℕ) (map card : List ℕ) (c : ℕ) (e : Entry) (sheet m : ℕ) where
+module _ (q : Lent) (m : ℕ) where
   unfoldable pub growVerdict : Verdict
   unfolding viewOn
-  growVerdict = verdictOf (viewOn n free map card c e sheet) (on sheet (grow m))
+  growVerdict = verdictOf (viewOn q) (on (q .sheet) (grow m))
 
   unfoldable pub growOut : Out
   unfolding growVerdict
-  growOut = settle growVerdict (outOf (free - m) (entryOf openMark (e .start) (e .length + m)) Done) (refusalOut free e)
+  growOut = settle growVerdict (outOf (q .spare - m) (entryOf openMark (q .entry .start) (q .entry .length + m)) Done) (refusalOut (q .spare) (q .entry))
 
   unfoldable pub growMap : List ℕ
   unfolding growVerdict
-  growMap = settle growVerdict (marked map (e .start + e .length) m false) (λ number. map)
+  growMap = settle growVerdict (marked (q .map) (q .entry .start + q .entry .length) m false) (λ number. q .map)
 
   unfoldable pub growCard : List ℕ
   unfolding growVerdict
-  growCard = settle growVerdict (zeroed card (e .start + e .length) m) (λ number. card)
+  growCard = settle growVerdict (zeroed (q .card) (q .entry .start + q .entry .length) m) (λ number. q .card)
 
 -- Put: on Open, that place's block becomes the sealed payload.
-module _ (n free : ℕ) (map card : List ℕ) (c : ℕ) (e : Entry) (sheet place : ℕ) (payload : List ℕ) where
+module _ (q : Lent) (place : ℕ) (payload : List ℕ) where
   unfoldable pub putVerdict : Verdict
   unfolding viewOn
-  putVerdict = verdictOf (viewOn n free map card c e sheet) (on sheet (put place payload))
+  putVerdict = verdictOf (viewOn q) (on (q .sheet) (put place payload))
 
   unfoldable pub putAnswer : Answer
   unfolding putVerdict
@@ -81,58 +82,58 @@ module _ (n free : ℕ) (map card : List ℕ) (c : ℕ) (e : Entry) (sheet place
 
   unfoldable pub putCard : List ℕ
   unfolding putVerdict
-  putCard = settle putVerdict (withBlock card (e .start + place) (sealed sheet place payload)) (λ number. card)
+  putCard = settle putVerdict (withBlock (q .card) (q .entry .start + place) (sealed (q .sheet) place payload)) (λ number. q .card)
 
 -- Complete: Open becomes Complete if every place is filled. Which blank place is given with 9 is free in document 01;
 -- the program gives the lowest.
-module _ (n free : ℕ) (map card : List ℕ) (c : ℕ) (e : Entry) (sheet : ℕ) where
+module _ (q : Lent) where
   unfoldable pub completeVerdict : Verdict
   unfolding viewOn
-  completeVerdict = verdictOf (viewOn n free map card c e sheet) (on sheet complete)
+  completeVerdict = verdictOf (viewOn q) (on (q .sheet) complete)
 
   unfoldable pub blankPlace : ℕ
   unfolding viewOn
-  blankPlace = startAt (least (viewOn n free map card c e sheet .blank) 0 (e .length))
+  blankPlace = startAt (least (viewOn q .blank) 0 (q .entry .length))
 
   unfoldable pub completeOut : Out
   unfolding completeVerdict blankPlace
   completeOut =
-      settle completeVerdict (outOf free (entryOf completeMark (e .start) (e .length)) Done)
-      (λ number. outOf free e (cond (eqb number 9) (Blank blankPlace) (Refused number)))
+      settle completeVerdict (outOf (q .spare) (entryOf completeMark (q .entry .start) (q .entry .length)) Done)
+      (λ number. outOf (q .spare) (q .entry) (cond (eqb number 9) (Blank blankPlace) (Refused number)))
 
-module _ (n free : ℕ) (map : List ℕ) (c : ℕ) (e : Entry) (sheet : ℕ) where
+module _ (q : Lent) where
   -- Pause: Absent becomes Paused.
   unfoldable pub pauseVerdict : Verdict
   unfolding viewAt
-  pauseVerdict = verdictOf (viewAt n free map c e) (on sheet pause)
+  pauseVerdict = verdictOf (viewAt q) (on (q .sheet) pause)
 
   unfoldable pub pauseOut : Out
   unfolding pauseVerdict
-  pauseOut = settle pauseVerdict (outOf free (entryOf pausedMark 0 0) Done) (refusalOut free e)
+  pauseOut = settle pauseVerdict (outOf (q .spare) (entryOf pausedMark 0 0) Done) (refusalOut (q .spare) (q .entry))
 
   -- Release: any standing but Absent becomes Absent, its blocks free; the card's bytes stay.
   unfoldable pub releaseVerdict : Verdict
   unfolding viewAt
-  releaseVerdict = verdictOf (viewAt n free map c e) (on sheet release)
+  releaseVerdict = verdictOf (viewAt q) (on (q .sheet) release)
 
   unfoldable pub releaseOut : Out
   unfolding releaseVerdict
-  releaseOut = settle releaseVerdict (outOf (free + e .length) absent Done) (refusalOut free e)
+  releaseOut = settle releaseVerdict (outOf (q .spare + q .entry .length) absent Done) (refusalOut (q .spare) (q .entry))
 
   unfoldable pub releaseMap : List ℕ
   unfolding releaseVerdict
-  releaseMap = settle releaseVerdict (marked map (e .start) (e .length) true) (λ number. map)
+  releaseMap = settle releaseVerdict (marked (q .map) (q .entry .start) (q .entry .length) true) (λ number. q .map)
 
   -- Standing: answers mark, start and length.
   unfoldable pub standingAnswer : Answer
   unfolding viewAt
-  standingAnswer = settle (verdictOf (viewAt n free map c e) (on sheet standing)) (Stands (e .mark) (e .start) (e .length)) Refused
+  standingAnswer = settle (verdictOf (viewAt q) (on (q .sheet) standing)) (Stands (q .entry .mark) (q .entry .start) (q .entry .length)) Refused
 
 -- Show: copies a Complete sheet's payload out.
-module _ (n free : ℕ) (map card : List ℕ) (c : ℕ) (e : Entry) (sheet place : ℕ) (buffer : List ℕ) where
+module _ (q : Lent) (place : ℕ) (buffer : List ℕ) where
   unfoldable pub showVerdict : Verdict
   unfolding viewOn
-  showVerdict = verdictOf (viewOn n free map card c e sheet) (on sheet (show place buffer))
+  showVerdict = verdictOf (viewOn q) (on (q .sheet) (show place buffer))
 
   unfoldable pub showAnswer : Answer
   unfolding showVerdict
@@ -140,4 +141,4 @@ module _ (n free : ℕ) (map card : List ℕ) (c : ℕ) (e : Entry) (sheet place
 
   unfoldable pub showBuffer : List ℕ
   unfolding showVerdict
-  showBuffer = settle showVerdict (payloadOf (blockOf card (e .start + place))) (λ number. buffer)
+  showBuffer = settle showVerdict (payloadOf (blockOf (q .card) (q .entry .start + place))) (λ number. buffer)

@@ -14,6 +14,7 @@ use Rattle.sums.specs.Sealed.{sealed, payloadOf}
 use Rattle.catalogue.specs.Entries.{entryAt, clearedIf}
 use Rattle.catalogue.specs.declared.Entry.{Entry}
 use Rattle.catalogue.proofs.Storing.{stored-back}
+use Rattle.calls.specs.Lent.{Lent, noCard}
 use Rattle.calls.specs.Effects as effects
 use Rattle.standings.specs.Limits.{freshFits}
 use Rattle.standings.specs.Rows.{Verdict, refused, settle}
@@ -21,7 +22,7 @@ use Rattle.standings.specs.declared.Answer.{Answer}
 use Rattle.standings.specs.declared.Answer.the-variants.{Done, Start, Blank, Refused}
 use Rattle.calls.specs.declared.Out.{Out}
 use Rattle.card.specs.declared.Shape.{Shape}
-use Rattle.card.specs.Calls.{told, outcomeOf, isDone, freshOutcome, freshMap, freshEntries, reserveOutcome, reserveMap, reserveEntries, reserveCard, growOutcome, growMap, growEntries, growCard, putOutcome, putCard, completeOutcome, completeEntries, pauseOutcome, pauseEntries, releaseOutcome, releaseMap, releaseEntries, showOutcome, showBuffer}
+use Rattle.card.specs.Calls.{Kept, lentTo, told, outcomeOf, isDone, freshOutcome, freshMap, freshEntries, reserveOutcome, reserveMap, reserveEntries, reserveCard, growOutcome, growMap, growEntries, growCard, putOutcome, putCard, completeOutcome, completeEntries, pauseOutcome, pauseEntries, releaseOutcome, releaseMap, releaseEntries, showOutcome, showBuffer}
 
 -- a refused call hands back the free count and the entry that it was given: shape and entries are as they were
 handed-back : (shape : Shape) (entries : List Entry) (sheet : ℕ) (answer : Answer) (out : Out) → out ≡ effects.outOf (shape .free) (entryAt entries sheet) answer
@@ -29,94 +30,94 @@ handed-back : (shape : Shape) (entries : List Entry) (sheet : ℕ) (answer : Ans
 handed-back shape entries sheet answer out e =
     (ap (outcomeOf shape) e, ap (λ (o : Out). set entries sheet (o .entry)) e ∙ stored-back entries sheet)
 
-module _ (shape : Shape) (map : List ℕ) (entries : List Entry) (card : List ℕ) (sheet number : ℕ) where
-  abbrev n : ℕ
-  n = shape .blocks
-
+module _ (s : Kept) (sheet number : ℕ) where
   abbrev free : ℕ
-  free = shape .free
-
-  abbrev c : ℕ
-  c = length entries
+  free = s .shape .free
 
   abbrev e : Entry
-  e = entryAt entries sheet
+  e = entryAt (s .entries) sheet
 
-  pub reserve-refused : (k : ℕ) → effects.reserveVerdict n free map card c e sheet k ≡ refused number
-      → (reserveOutcome shape map entries card sheet k ≡ told shape (Refused number))
-      × (reserveMap shape map entries card sheet k ≡ map)
-      × (reserveEntries shape map entries card sheet k ≡ entries)
-      × (reserveCard shape map entries card sheet k ≡ card)
+  abbrev q : Lent
+  q = lentTo s (s .card) sheet
+
+  abbrev bare : Lent
+  bare = lentTo s noCard sheet
+
+  pub reserve-refused : (k : ℕ) → effects.reserveVerdict q k ≡ refused number
+      → (reserveOutcome s sheet k ≡ told (s .shape) (Refused number))
+      × (reserveMap s sheet k ≡ s .map)
+      × (reserveEntries s sheet k ≡ s .entries)
+      × (reserveCard s sheet k ≡ s .card)
   unfolding effects.reserveOut effects.reserveMap effects.reserveCard
   reserve-refused k h =
-      let start : ℕ = effects.reserveStart n free map card c e sheet k in
+      let start : ℕ = effects.reserveStart q k in
       let back =
-      handed-back shape entries sheet (Refused number) _
+      handed-back (s .shape) (s .entries) sheet (Refused number) _
       (ap (λ (v : Verdict). settle v (effects.outOf (free - k) (effects.entryOf 0x4f start k) (Start start)) (effects.refusalOut free e)) h) in (
         back .0,
-        ap (λ (v : Verdict). settle v (marked map start k false) (λ number. map)) h,
+        ap (λ (v : Verdict). settle v (marked (s .map) start k false) (λ number. s .map)) h,
         back .1,
-        ap (λ (v : Verdict). settle v (zeroed card start k) (λ number. card)) h,
+        ap (λ (v : Verdict). settle v (zeroed (s .card) start k) (λ number. s .card)) h,
       )
 
-  pub grow-refused : (m : ℕ) → effects.growVerdict n free map card c e sheet m ≡ refused number
-      → (growOutcome shape map entries card sheet m ≡ told shape (Refused number))
-      × (growMap shape map entries card sheet m ≡ map)
-      × (growEntries shape map entries card sheet m ≡ entries)
-      × (growCard shape map entries card sheet m ≡ card)
+  pub grow-refused : (m : ℕ) → effects.growVerdict q m ≡ refused number
+      → (growOutcome s sheet m ≡ told (s .shape) (Refused number))
+      × (growMap s sheet m ≡ s .map)
+      × (growEntries s sheet m ≡ s .entries)
+      × (growCard s sheet m ≡ s .card)
   unfolding effects.growOut effects.growMap effects.growCard
   grow-refused m h =
       let back =
-      handed-back shape entries sheet (Refused number) _
+      handed-back (s .shape) (s .entries) sheet (Refused number) _
       (ap (λ (v : Verdict). settle v (effects.outOf (free - m) (effects.entryOf 0x4f (e .start) (e .length + m)) Done) (effects.refusalOut free e)) h) in (
         back .0,
-        ap (λ (v : Verdict). settle v (marked map (e .start + e .length) m false) (λ number. map)) h,
+        ap (λ (v : Verdict). settle v (marked (s .map) (e .start + e .length) m false) (λ number. s .map)) h,
         back .1,
-        ap (λ (v : Verdict). settle v (zeroed card (e .start + e .length) m) (λ number. card)) h,
+        ap (λ (v : Verdict). settle v (zeroed (s .card) (e .start + e .length) m) (λ number. s .card)) h,
       )
 
-  pub put-refused : (place : ℕ) (payload : List ℕ) → effects.putVerdict n free map card c e sheet place payload ≡ refused number
-      → (putOutcome shape map entries card sheet place payload ≡ told shape (Refused number))
-      × (putCard shape map entries card sheet place payload ≡ card)
+  pub put-refused : (place : ℕ) (payload : List ℕ) → effects.putVerdict q place payload ≡ refused number
+      → (putOutcome s sheet place payload ≡ told (s .shape) (Refused number))
+      × (putCard s sheet place payload ≡ s .card)
   unfolding effects.putAnswer effects.putCard
   put-refused place payload h = (
-    ap (λ (v : Verdict). told shape (settle v Done Refused)) h,
-    ap (λ (v : Verdict). settle v (withBlock card (e .start + place) (sealed sheet place payload)) (λ number. card)) h,
+    ap (λ (v : Verdict). told (s .shape) (settle v Done Refused)) h,
+    ap (λ (v : Verdict). settle v (withBlock (s .card) (e .start + place) (sealed sheet place payload)) (λ number. s .card)) h,
   )
 
   -- with 9 goes a place
-  pub complete-refused : effects.completeVerdict n free map card c e sheet ≡ refused number
-      → (completeOutcome shape map entries card sheet ≡ told shape (cond (eqb number 9) (Blank (effects.blankPlace n free map card c e sheet)) (Refused number)))
-      × (completeEntries shape map entries card sheet ≡ entries)
+  pub complete-refused : effects.completeVerdict q ≡ refused number
+      → (completeOutcome s sheet ≡ told (s .shape) (cond (eqb number 9) (Blank (effects.blankPlace q)) (Refused number)))
+      × (completeEntries s sheet ≡ s .entries)
   unfolding effects.completeOut
   complete-refused h =
-      let place : ℕ = effects.blankPlace n free map card c e sheet in
-      handed-back shape entries sheet (cond (eqb number 9) (Blank place) (Refused number)) _
+      let place : ℕ = effects.blankPlace q in
+      handed-back (s .shape) (s .entries) sheet (cond (eqb number 9) (Blank place) (Refused number)) _
       (ap (λ (v : Verdict). settle v (effects.outOf free (effects.entryOf 0x43 (e .start) (e .length)) Done) (λ k. effects.outOf free e (cond (eqb k 9) (Blank place) (Refused k)))) h)
 
-  pub pause-refused : effects.pauseVerdict n free map c e sheet ≡ refused number
-      → (pauseOutcome shape map entries sheet ≡ told shape (Refused number)) × (pauseEntries shape map entries sheet ≡ entries)
+  pub pause-refused : effects.pauseVerdict bare ≡ refused number
+      → (pauseOutcome s sheet ≡ told (s .shape) (Refused number)) × (pauseEntries s sheet ≡ s .entries)
   unfolding effects.pauseOut
   pause-refused h =
-      handed-back shape entries sheet (Refused number) _ (ap (λ (v : Verdict). settle v (effects.outOf free (effects.entryOf 0x50 0 0) Done) (effects.refusalOut free e)) h)
+      handed-back (s .shape) (s .entries) sheet (Refused number) _ (ap (λ (v : Verdict). settle v (effects.outOf free (effects.entryOf 0x50 0 0) Done) (effects.refusalOut free e)) h)
 
-  pub release-refused : effects.releaseVerdict n free map c e sheet ≡ refused number
-      → (releaseOutcome shape map entries sheet ≡ told shape (Refused number))
-      × (releaseMap shape map entries sheet ≡ map)
-      × (releaseEntries shape map entries sheet ≡ entries)
+  pub release-refused : effects.releaseVerdict bare ≡ refused number
+      → (releaseOutcome s sheet ≡ told (s .shape) (Refused number))
+      × (releaseMap s sheet ≡ s .map)
+      × (releaseEntries s sheet ≡ s .entries)
   unfolding effects.releaseOut effects.releaseMap
   release-refused h =
       let back =
-      handed-back shape entries sheet (Refused number) _ (ap (λ (v : Verdict). settle v (effects.outOf (free + e .length) (effects.entryOf 0x41 0 0) Done) (effects.refusalOut free e)) h) in
-      (back .0, ap (λ (v : Verdict). settle v (marked map (e .start) (e .length) true) (λ number. map)) h, back .1)
+      handed-back (s .shape) (s .entries) sheet (Refused number) _ (ap (λ (v : Verdict). settle v (effects.outOf (free + e .length) (effects.entryOf 0x41 0 0) Done) (effects.refusalOut free e)) h) in
+      (back .0, ap (λ (v : Verdict). settle v (marked (s .map) (e .start) (e .length) true) (λ number. s .map)) h, back .1)
 
-  pub show-refused : (place : ℕ) (buffer : List ℕ) → effects.showVerdict n free map card c e sheet place buffer ≡ refused number
-      → (showOutcome shape map entries card sheet place buffer ≡ told shape (Refused number))
-      × (showBuffer shape map entries card sheet place buffer ≡ buffer)
+  pub show-refused : (place : ℕ) (buffer : List ℕ) → effects.showVerdict q place buffer ≡ refused number
+      → (showOutcome s sheet place buffer ≡ told (s .shape) (Refused number))
+      × (showBuffer s sheet place buffer ≡ buffer)
   unfolding effects.showAnswer effects.showBuffer
   show-refused place buffer h = (
-    ap (λ (v : Verdict). told shape (settle v Done Refused)) h,
-    ap (λ (v : Verdict). settle v (payloadOf (blockOf card (e .start + place))) (λ number. buffer)) h,
+    ap (λ (v : Verdict). told (s .shape) (settle v Done Refused)) h,
+    ap (λ (v : Verdict). settle v (payloadOf (blockOf (s .card) (e .start + place))) (λ number. buffer)) h,
   )
 
 -- fresh too

@@ -14,6 +14,7 @@ use Rattle.standings.specs.Limits.{freshFits}
 use Rattle.standings.specs.declared.Answer.{Answer}
 use Rattle.standings.specs.declared.Answer.the-variants.{Done, Start, Stands, Counted, Blank, Refused}
 use Rattle.whole_calls.specs.Answers as whole
+use Rattle.calls.specs.Lent.{Lent, lent, noCard}
 use Rattle.calls.specs.Effects as effects
 use Rattle.calls.specs.declared.Out.{Out}
 use Rattle.soundness.specs.Sound.{State}
@@ -64,88 +65,104 @@ searchOutcome shape map k = told shape (whole.searchAnswer (shape .blocks) (shap
 abbrev pub surveyOutcome : Shape → List ℕ → Outcome
 surveyOutcome shape map = told shape (whole.surveyAnswer (shape .blocks) (shape .free) map)
 
--- ---- a sheet, with the card
+-- ---- a sheet
 
-module _ (shape : Shape) (map : List ℕ) (entries : List Entry) (card : List ℕ) (sheet : ℕ) where
+-- What the program keeps between two calls.
+pub record Kept : Type 0 where
+  pub shape : Shape
+  pub map : List ℕ
+  pub entries : List Entry
+  pub card : List ℕ
+
+abbrev pub kept : Shape → List ℕ → List Entry → List ℕ → Kept
+kept shape map entries card = record { shape = shape; map = map; entries = entries; card = card }
+
+-- What a call on a sheet is lent, with the card and without: the catalogue gives c and the sheet's entry.
+abbrev pub lentTo : Kept → List ℕ → ℕ → Lent
+lentTo s card sheet =
+    lent (s .shape .blocks) (s .shape .free) (s .map) card (length (s .entries)) (entryAt (s .entries) sheet) sheet
+
+module _ (s : Kept) (sheet : ℕ) where
+  abbrev lends : Lent
+  lends = lentTo s (s .card) sheet
+
+  abbrev lendsNoCard : Lent
+  lendsNoCard = lentTo s noCard sheet
+
   abbrev reserveOut : ℕ → Out
-  reserveOut k = effects.reserveOut (shape .blocks) (shape .free) map card (length entries) (entryAt entries sheet) sheet k
+  reserveOut k = effects.reserveOut lends k
 
   abbrev pub reserveOutcome : ℕ → Outcome
-  reserveOutcome k = outcomeOf shape (reserveOut k)
+  reserveOutcome k = outcomeOf (s .shape) (reserveOut k)
 
   abbrev pub reserveMap : ℕ → List ℕ
-  reserveMap k = effects.reserveMap (shape .blocks) (shape .free) map card (length entries) (entryAt entries sheet) sheet k
+  reserveMap k = effects.reserveMap lends k
 
   abbrev pub reserveEntries : ℕ → List Entry
-  reserveEntries k = set entries sheet (reserveOut k .entry)
+  reserveEntries k = set (s .entries) sheet (reserveOut k .entry)
 
   abbrev pub reserveCard : ℕ → List ℕ
-  reserveCard k = effects.reserveCard (shape .blocks) (shape .free) map card (length entries) (entryAt entries sheet) sheet k
+  reserveCard k = effects.reserveCard lends k
 
   abbrev growOut : ℕ → Out
-  growOut m = effects.growOut (shape .blocks) (shape .free) map card (length entries) (entryAt entries sheet) sheet m
+  growOut m = effects.growOut lends m
 
   abbrev pub growOutcome : ℕ → Outcome
-  growOutcome m = outcomeOf shape (growOut m)
+  growOutcome m = outcomeOf (s .shape) (growOut m)
 
   abbrev pub growMap : ℕ → List ℕ
-  growMap m = effects.growMap (shape .blocks) (shape .free) map card (length entries) (entryAt entries sheet) sheet m
+  growMap m = effects.growMap lends m
 
   abbrev pub growEntries : ℕ → List Entry
-  growEntries m = set entries sheet (growOut m .entry)
+  growEntries m = set (s .entries) sheet (growOut m .entry)
 
   abbrev pub growCard : ℕ → List ℕ
-  growCard m = effects.growCard (shape .blocks) (shape .free) map card (length entries) (entryAt entries sheet) sheet m
+  growCard m = effects.growCard lends m
 
   abbrev pub putOutcome : ℕ → List ℕ → Outcome
-  putOutcome place payload =
-      told shape (effects.putAnswer (shape .blocks) (shape .free) map card (length entries) (entryAt entries sheet) sheet place payload)
+  putOutcome place payload = told (s .shape) (effects.putAnswer lends place payload)
 
   abbrev pub putCard : ℕ → List ℕ → List ℕ
-  putCard place payload = effects.putCard (shape .blocks) (shape .free) map card (length entries) (entryAt entries sheet) sheet place payload
+  putCard place payload = effects.putCard lends place payload
 
   abbrev completeOut : Out
-  completeOut = effects.completeOut (shape .blocks) (shape .free) map card (length entries) (entryAt entries sheet) sheet
+  completeOut = effects.completeOut lends
 
   abbrev pub completeOutcome : Outcome
-  completeOutcome = outcomeOf shape completeOut
+  completeOutcome = outcomeOf (s .shape) completeOut
 
   abbrev pub completeEntries : List Entry
-  completeEntries = set entries sheet (completeOut .entry)
+  completeEntries = set (s .entries) sheet (completeOut .entry)
 
   abbrev pub showOutcome : ℕ → List ℕ → Outcome
-  showOutcome place buffer =
-      told shape (effects.showAnswer (shape .blocks) (shape .free) map card (length entries) (entryAt entries sheet) sheet place buffer)
+  showOutcome place buffer = told (s .shape) (effects.showAnswer lends place buffer)
 
   abbrev pub showBuffer : ℕ → List ℕ → List ℕ
-  showBuffer place buffer = effects.showBuffer (shape .blocks) (shape .free) map card (length entries) (entryAt entries sheet) sheet place buffer
+  showBuffer place buffer = effects.showBuffer lends place buffer
 
--- ---- a sheet, without the card
-
-module _ (shape : Shape) (map : List ℕ) (entries : List Entry) (sheet : ℕ) where
   abbrev pauseOut : Out
-  pauseOut = effects.pauseOut (shape .blocks) (shape .free) map (length entries) (entryAt entries sheet) sheet
+  pauseOut = effects.pauseOut lendsNoCard
 
   abbrev pub pauseOutcome : Outcome
-  pauseOutcome = outcomeOf shape pauseOut
+  pauseOutcome = outcomeOf (s .shape) pauseOut
 
   abbrev pub pauseEntries : List Entry
-  pauseEntries = set entries sheet (pauseOut .entry)
+  pauseEntries = set (s .entries) sheet (pauseOut .entry)
 
   abbrev releaseOut : Out
-  releaseOut = effects.releaseOut (shape .blocks) (shape .free) map (length entries) (entryAt entries sheet) sheet
+  releaseOut = effects.releaseOut lendsNoCard
 
   abbrev pub releaseOutcome : Outcome
-  releaseOutcome = outcomeOf shape releaseOut
+  releaseOutcome = outcomeOf (s .shape) releaseOut
 
   abbrev pub releaseMap : List ℕ
-  releaseMap = effects.releaseMap (shape .blocks) (shape .free) map (length entries) (entryAt entries sheet) sheet
+  releaseMap = effects.releaseMap lendsNoCard
 
   abbrev pub releaseEntries : List Entry
-  releaseEntries = set entries sheet (releaseOut .entry)
+  releaseEntries = set (s .entries) sheet (releaseOut .entry)
 
   abbrev pub standingOutcome : Outcome
-  standingOutcome = told shape (effects.standingAnswer (shape .blocks) (shape .free) map (length entries) (entryAt entries sheet) sheet)
+  standingOutcome = told (s .shape) (effects.standingAnswer lendsNoCard)
 
 -- ---- the saved image
 

@@ -5,7 +5,8 @@ mod cores;
 
 ghost use mathlib.Core.Bool.{true};
 ghost use mathlib.Core.Path.{_≡_};
-ghost use Rattle.card.specs.Calls.{freshOutcome, freshMap, freshEntries, searchOutcome, surveyOutcome, reserveOutcome, reserveMap, reserveEntries, reserveCard, growOutcome, growMap, growEntries, growCard, putOutcome, putCard, completeOutcome, completeEntries, pauseOutcome, pauseEntries, releaseOutcome, releaseMap, releaseEntries, showOutcome, showBuffer, standingOutcome, saveOutcome, saveScratch, saveImage, loadOutcome, loadMap, loadEntries, loadScratch};
+ghost use Rattle.calls.specs.Lent.{noCard};
+ghost use Rattle.card.specs.Calls.{kept, freshOutcome, freshMap, freshEntries, searchOutcome, surveyOutcome, reserveOutcome, reserveMap, reserveEntries, reserveCard, growOutcome, growMap, growEntries, growCard, putOutcome, putCard, completeOutcome, completeEntries, pauseOutcome, pauseEntries, releaseOutcome, releaseMap, releaseEntries, showOutcome, showBuffer, standingOutcome, saveOutcome, saveScratch, saveImage, loadOutcome, loadMap, loadEntries, loadScratch};
 use catalogue::Entry;
 use standings::Answer;
 
@@ -92,10 +93,11 @@ impl Shape {
         sheet: u32,
         k: u32,
     ) -> Outcome
-        ensures { λ r. ⌜ (r ≡ reserveOutcome self (now (map .entry)) (now (catalogue .entry)) (now (card .entry)) sheet k)
-            × (now (map .exit) ≡ reserveMap self (now (map .entry)) (now (catalogue .entry)) (now (card .entry)) sheet k)
-            × (now (catalogue .exit) ≡ reserveEntries self (now (map .entry)) (now (catalogue .entry)) (now (card .entry)) sheet k)
-            × (now (card .exit) ≡ reserveCard self (now (map .entry)) (now (catalogue .entry)) (now (card .entry)) sheet k) ⌝ }
+        ensures { λ r. let s = kept self (now (map .entry)) (now (catalogue .entry)) (now (card .entry)) in
+            ⌜ (r ≡ reserveOutcome s sheet k)
+            × (now (map .exit) ≡ reserveMap s sheet k)
+            × (now (catalogue .exit) ≡ reserveEntries s sheet k)
+            × (now (card .exit) ≡ reserveCard s sheet k) ⌝ }
     {
         let slot = catalogue::find(&*catalogue, sheet);
         let out = cores::reserve_core(self, map, card, slot, sheet, k);
@@ -113,10 +115,11 @@ impl Shape {
         sheet: u32,
         m: u32,
     ) -> Outcome
-        ensures { λ r. ⌜ (r ≡ growOutcome self (now (map .entry)) (now (catalogue .entry)) (now (card .entry)) sheet m)
-            × (now (map .exit) ≡ growMap self (now (map .entry)) (now (catalogue .entry)) (now (card .entry)) sheet m)
-            × (now (catalogue .exit) ≡ growEntries self (now (map .entry)) (now (catalogue .entry)) (now (card .entry)) sheet m)
-            × (now (card .exit) ≡ growCard self (now (map .entry)) (now (catalogue .entry)) (now (card .entry)) sheet m) ⌝ }
+        ensures { λ r. let s = kept self (now (map .entry)) (now (catalogue .entry)) (now (card .entry)) in
+            ⌜ (r ≡ growOutcome s sheet m)
+            × (now (map .exit) ≡ growMap s sheet m)
+            × (now (catalogue .exit) ≡ growEntries s sheet m)
+            × (now (card .exit) ≡ growCard s sheet m) ⌝ }
     {
         let slot = catalogue::find(&*catalogue, sheet);
         let out = cores::grow_core(self, map, card, slot, sheet, m);
@@ -135,8 +138,9 @@ impl Shape {
         place: u32,
         payload: &[u8],
     ) -> Outcome
-        ensures { λ r. ⌜ (r ≡ putOutcome self (now (map .entry)) (now (catalogue .entry)) (now (card .entry)) sheet place (now (payload .entry)))
-            × (now (card .exit) ≡ putCard self (now (map .entry)) (now (catalogue .entry)) (now (card .entry)) sheet place (now (payload .entry))) ⌝ }
+        ensures { λ r. let s = kept self (now (map .entry)) (now (catalogue .entry)) (now (card .entry)) in
+            ⌜ (r ≡ putOutcome s sheet place (now (payload .entry)))
+            × (now (card .exit) ≡ putCard s sheet place (now (payload .entry))) ⌝ }
     {
         let slot = catalogue::find(catalogue, sheet);
         cores::put_core(self, map, card, slot, sheet, place, payload)
@@ -144,8 +148,9 @@ impl Shape {
 
     // Open becomes Complete if every place is filled.
     pub fn complete(self, map: &[u64], catalogue: &mut [Entry], card: &[u8], sheet: u32) -> Outcome
-        ensures { λ r. ⌜ (r ≡ completeOutcome self (now (map .entry)) (now (catalogue .entry)) (now (card .entry)) sheet)
-            × (now (catalogue .exit) ≡ completeEntries self (now (map .entry)) (now (catalogue .entry)) (now (card .entry)) sheet) ⌝ }
+        ensures { λ r. let s = kept self (now (map .entry)) (now (catalogue .entry)) (now (card .entry)) in
+            ⌜ (r ≡ completeOutcome s sheet)
+            × (now (catalogue .exit) ≡ completeEntries s sheet) ⌝ }
     {
         let slot = catalogue::find(&*catalogue, sheet);
         let out = cores::complete_core(self, map, card, slot, sheet);
@@ -156,8 +161,9 @@ impl Shape {
 
     // Absent becomes Paused.
     pub fn pause(self, map: &[u64], catalogue: &mut [Entry], sheet: u32) -> Outcome
-        ensures { λ r. ⌜ (r ≡ pauseOutcome self (now (map .entry)) (now (catalogue .entry)) sheet)
-            × (now (catalogue .exit) ≡ pauseEntries self (now (map .entry)) (now (catalogue .entry)) sheet) ⌝ }
+        ensures { λ r. let s = kept self (now (map .entry)) (now (catalogue .entry)) noCard in
+            ⌜ (r ≡ pauseOutcome s sheet)
+            × (now (catalogue .exit) ≡ pauseEntries s sheet) ⌝ }
     {
         let slot = catalogue::find(&*catalogue, sheet);
         let out = cores::pause_core(self, map, slot, sheet);
@@ -168,9 +174,10 @@ impl Shape {
 
     // Any standing but Absent becomes Absent, and its blocks free.
     pub fn release(self, map: &mut [u64], catalogue: &mut [Entry], sheet: u32) -> Outcome
-        ensures { λ r. ⌜ (r ≡ releaseOutcome self (now (map .entry)) (now (catalogue .entry)) sheet)
-            × (now (map .exit) ≡ releaseMap self (now (map .entry)) (now (catalogue .entry)) sheet)
-            × (now (catalogue .exit) ≡ releaseEntries self (now (map .entry)) (now (catalogue .entry)) sheet) ⌝ }
+        ensures { λ r. let s = kept self (now (map .entry)) (now (catalogue .entry)) noCard in
+            ⌜ (r ≡ releaseOutcome s sheet)
+            × (now (map .exit) ≡ releaseMap s sheet)
+            × (now (catalogue .exit) ≡ releaseEntries s sheet) ⌝ }
     {
         let slot = catalogue::find(&*catalogue, sheet);
         let out = cores::release_core(self, map, slot, sheet);
@@ -189,8 +196,9 @@ impl Shape {
         place: u32,
         buffer: &mut [u8],
     ) -> Outcome
-        ensures { λ r. ⌜ (r ≡ showOutcome self (now (map .entry)) (now (catalogue .entry)) (now (card .entry)) sheet place (now (buffer .entry)))
-            × (now (buffer .exit) ≡ showBuffer self (now (map .entry)) (now (catalogue .entry)) (now (card .entry)) sheet place (now (buffer .entry))) ⌝ }
+        ensures { λ r. let s = kept self (now (map .entry)) (now (catalogue .entry)) (now (card .entry)) in
+            ⌜ (r ≡ showOutcome s sheet place (now (buffer .entry)))
+            × (now (buffer .exit) ≡ showBuffer s sheet place (now (buffer .entry))) ⌝ }
     {
         let slot = catalogue::find(catalogue, sheet);
         cores::show_core(self, map, card, slot, sheet, place, buffer)
@@ -198,7 +206,8 @@ impl Shape {
 
     // Answers mark, start and length.
     pub fn standing(self, map: &[u64], catalogue: &[Entry], sheet: u32) -> Outcome
-        ensures { λ r. ⌜ r ≡ standingOutcome self (now (map .entry)) (now (catalogue .entry)) sheet ⌝ }
+        ensures { λ r. let s = kept self (now (map .entry)) (now (catalogue .entry)) noCard in
+            ⌜ r ≡ standingOutcome s sheet ⌝ }
     {
         let slot = catalogue::find(catalogue, sheet);
         cores::standing_core(self, map, slot, sheet)

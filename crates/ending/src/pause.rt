@@ -1,5 +1,6 @@
 // Pause: Absent becomes Paused.
 ghost use mathlib.Core.Path.{_≡_};
+ghost use Rattle.calls.specs.Lent.{lent, noCard};
 ghost use Rattle.calls.specs.Effects.{pauseOut};
 use calls::Out;
 use calls::refusal;
@@ -13,7 +14,8 @@ use standings::opening::refused_row;
 use standings::opening::row_of;
 
 pub fn pause(n: u32, free: u32, map: &[u64], c: usize, entry: Entry, sheet: u32) -> Out
-    ensures { λ r. ⌜ r ≡ pauseOut n free (now (map .entry)) c entry sheet ⌝ }
+    ensures { λ r. let q = lent n free (now (map .entry)) noCard c entry sheet in
+        ⌜ r ≡ pauseOut q ⌝ }
 {
     let opened = open_sheet(n, free, map, c, sheet, entry);
     let Opened::Stands(stands) = opened else {

@@ -1,5 +1,6 @@
 // Release: any standing but Absent becomes Absent, and its blocks free. The card's bytes stay.
 ghost use mathlib.Core.Path.{_≡_};
+ghost use Rattle.calls.specs.Lent.{lent, noCard};
 ghost use Rattle.calls.specs.Effects.{releaseOut, releaseMap};
 use calls::Out;
 use calls::refusal;
@@ -14,7 +15,8 @@ use standings::opening::open_sheet;
 use standings::opening::refused_row;
 
 pub fn release(n: u32, free: u32, map: &mut [u64], c: usize, entry: Entry, sheet: u32) -> Out
-    ensures { λ r. ⌜ (r ≡ releaseOut n free (now (map .entry)) c entry sheet) × (now (map .exit) ≡ releaseMap n free (now (map .entry)) c entry sheet) ⌝ }
+    ensures { λ r. let q = lent n free (now (map .entry)) noCard c entry sheet in
+        ⌜ (r ≡ releaseOut q) × (now (map .exit) ≡ releaseMap q) ⌝ }
 {
     let opened = open_sheet(n, free, map, c, sheet, entry);
     let Opened::Stands(stands) = opened else {

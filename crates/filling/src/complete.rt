@@ -4,6 +4,7 @@ ghost use Prim.Native.Nat.{_+_, _*_, _≤_};
 ghost use lib.ListN.{length};
 ghost use Rattle.card_blocks.specs.Card.{blockOf};
 ghost use Rattle.sums.specs.Sealed.{blank, sound};
+ghost use Rattle.calls.specs.Lent.{lent};
 ghost use Rattle.calls.specs.Effects.{completeOut};
 ghost use Rattle.filling.specs.Fillings.{fillingOf, orBlank, withPlace};
 use crate::Filling;
@@ -73,7 +74,8 @@ pub fn complete(
     entry: Entry,
     sheet: u32,
 ) -> Out
-    ensures { λ r. ⌜ r ≡ completeOut n free (now (map .entry)) (now (card .entry)) c entry sheet ⌝ }
+    ensures { λ r. let q = lent n free (now (map .entry)) (now (card .entry)) c entry sheet in
+        ⌜ r ≡ completeOut q ⌝ }
 {
     let opened = open_on(n, free, map, card.len(), c, sheet, entry);
     let Opened::Stands(stands) = opened else {

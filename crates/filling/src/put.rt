@@ -1,5 +1,6 @@
 // Put: on Open, the block of a place becomes the sealed payload.
 ghost use mathlib.Core.Path.{_≡_};
+ghost use Rattle.calls.specs.Lent.{lent};
 ghost use Rattle.calls.specs.Effects.{putAnswer, putCard};
 use block::PAYLOAD;
 use card_blocks::write_block;
@@ -22,8 +23,9 @@ pub fn put(
     place: u32,
     payload: &[u8],
 ) -> Answer
-    ensures { λ r. ⌜ (r ≡ putAnswer n free (now (map .entry)) (now (card .entry)) c entry sheet place (now (payload .entry)))
-        × (now (card .exit) ≡ putCard n free (now (map .entry)) (now (card .entry)) c entry sheet place (now (payload .entry))) ⌝ }
+    ensures { λ r. let q = lent n free (now (map .entry)) (now (card .entry)) c entry sheet in
+        ⌜ (r ≡ putAnswer q place (now (payload .entry)))
+        × (now (card .exit) ≡ putCard q place (now (payload .entry))) ⌝ }
 {
     let opened = open_on(n, free, map, card.len(), c, sheet, entry);
     let Opened::Stands(stands) = opened else {

@@ -23,11 +23,13 @@ use Rattle.standings.specs.Rows.{row, Verdict, refused, firstOf}
 use Rattle.standings.specs.Standings.{extentHolds, standingOf, isDamaged}
 use Rattle.calls.specs.Table.{Ask, on, View, rowsFor, tableOf, verdictOf}
 use Rattle.standings.specs.Limits.{shapeFits, sheetsFit}
+use Rattle.calls.specs.Lent.{lent, noCard}
 use Rattle.calls.specs.Views.{viewAt, viewOn}
 use Rattle.standings.proofs.Openings.{skip, stop}
 use Rattle.ledger.specs.Ledger.{Place, Blank, Payload, Sheet, Absent, Paused, Open, Complete, standingIn, startIn, lengthIn, isBlank, sheetAt, placeAt, cover, freeIn, spareIn, viewIn, listed, verdictIn}
 use Rattle.ledger.specs.Claim.{entryIn, blockIn}
-use Rattle.ledger.specs.Steps.{State}
+use Rattle.card.specs.Calls.{Kept}
+use Rattle.ledger.specs.Steps.{}
 use Rattle.ledger.proofs.Cover.{covers-in, cover-at}
 use Rattle.ledger.proofs.Listed.{listed-same, spare-is}
 use Rattle.ledger.proofs.Rows.{Never}
@@ -38,11 +40,11 @@ use Rattle.ledger.proofs.Sheets.{Sized, Fine, Sound}
 abbrev pub mapIn : ℕ → List Sheet → List ℕ
 mapIn n l = mapOf (freeIn n l) ((n + 63) / 64)
 
-abbrev pub stateOf : ℕ → List Sheet → List ℕ → State
+abbrev pub stateOf : ℕ → List Sheet → List ℕ → Kept
 stateOf n l card = record { shape = record { blocks = n; free = spareIn n l }; map = mapIn n l; entries = map entryIn l; card = card }
 
 -- what holds of a ledger and of the card beside it, after every list
-pub record Kept (n : ℕ) (l : List Sheet) (card : List ℕ) : Type 0 where
+pub record Matches (n : ℕ) (l : List Sheet) (card : List ℕ) : Type 0 where
   pub low : 1 ≤ n
   pub high : n ≤ 262144
   pub some-sheet : 1 ≤ length l
@@ -144,7 +146,7 @@ sound-block : (i p : ℕ) (x : Place) → Sized x → i < 4294967296 → p < 429
 sound-block i p Blank h hi hp = sound-zeros i p
 sound-block i p (Payload bytes) h hi hp = sound-own i p bytes h hi hp
 
-module _ (n : ℕ) (l : List Sheet) (card : List ℕ) (k : Kept n l card) where
+module _ (n : ℕ) (l : List Sheet) (card : List ℕ) (k : Matches n l card) where
   map-fits : length (mapIn n l) ≡ (n + 63) / 64
   map-fits = map-length (freeIn n l) ((n + 63) / 64)
 
@@ -168,10 +170,10 @@ module _ (n : ℕ) (l : List Sheet) (card : List ℕ) (k : Kept n l card) where
     e = entryAt (map entryIn l) i
 
     abbrev pub on-card : View
-    on-card = viewOn n (spareIn n l) (mapIn n l) card (length (map entryIn l)) e i
+    on-card = viewOn (lent n (spareIn n l) (mapIn n l) card (length (map entryIn l)) e i)
 
     abbrev pub at : View
-    at = viewAt n (spareIn n l) (mapIn n l) (length (map entryIn l)) e
+    at = viewAt (lent n (spareIn n l) (mapIn n l) noCard (length (map entryIn l)) e i)
 
     fits-of : on-card .misfit ≡ false
     unfolding viewOn

@@ -1,5 +1,5 @@
 -- The steps of a run are the public calls' own contracts: each method of `Shape` in crates/card ensures that its result and what
--- it is lent by `&mut` are as `endWith` of specs/Steps.antt has them (`..-contract`), it asks nothing (`..-asks-nothing`), and
+-- it is lent by `&mut` are as `endOf` of specs/Steps.antt has them (`..-contract`), it asks nothing (`..-asks-nothing`), and
 -- so it is a step (`..-step`). That each method meets its contract is what the check of the crate card shows.
 -- Assumes nothing.
 use Prim.Native.Nat.{ℕ, _+_, _/_, _≤_}
@@ -29,7 +29,7 @@ use Rattle.catalogue.specs.declared.Entry.{Entry}
 use Rattle.standings.specs.Answers.{numberOf}
 use Rattle.standings.specs.Limits.{freshFits, shapeFits, sheetsFit}
 use Rattle.standings.specs.declared.Answer.the-variants.{Done, Refused}
-use Rattle.card.specs.Calls.{told, isDone}
+use Rattle.card.specs.Calls.{Kept, kept, told, isDone}
 use Rattle.card.specs.declared.Shape.{Shape}
 use Rattle.card.specs.declared.Outcome.{Outcome}
 use Rattle.card.proofs.Shape.fresh as fresh-method
@@ -42,7 +42,7 @@ use Rattle.card.proofs.Shape.release as release-method
 use Rattle.card.proofs.Shape.show as show-method
 use Rattle.card.proofs.Shape.standing as standing-method
 use Rattle.calls.specs.Table.{Call, on, reserve, put, grow, complete, pause, release, show, standing}
-use Rattle.ledger.specs.Steps.{Freshens, State, Reply, endWith, endOf, Step, freshState}
+use Rattle.ledger.specs.Steps.{Freshens, Reply, endOf, Step, freshState}
 
 module _ {M : Type 1} (𝓤 : URA M) (H : Heap 𝓤) (A : Atoms 𝓤) (mem : Memory → SProp 𝓤) (run : Routine → Fun 𝓤) where
   abbrev 𝓛 : Connectives 𝓤
@@ -58,42 +58,42 @@ module _ {M : Type 1} (𝓤 : URA M) (H : Heap 𝓤) (A : Atoms 𝓤) (mem : Mem
   fresh-contract κs a r t = refl
 
   pub reserve-contract : (κs : Lfts 3) (a : Args reserve-method.signature κs) (r : Res reserve-method.signature κs) (t : AtExit reserve-method.ended κs)
-      → let end = endWith (a .0) (now (a .1 .0)) (now (a .1 .1 .0)) (now (a .1 .1 .1 .0)) (on (a .1 .1 .1 .1 .0) (reserve (a .1 .1 .1 .1 .1 .0))) in
+      → let end = endOf (kept (a .0) (now (a .1 .0)) (now (a .1 .1 .0)) (now (a .1 .1 .1 .0))) (on (a .1 .1 .1 .1 .0) (reserve (a .1 .1 .1 .1 .1 .0))) in
       reserve-method.clauses 𝓤 H A mem run κs a .ensures tt r t ≡ ⌜ (r ≡ end .outcome) × (now (t .1 .0) ≡ end .map) × (now (t .1 .1 .0) ≡ end .entries) × (now (t .1 .1 .1 .0) ≡ end .card) ⌝
   reserve-contract κs a r t = refl
 
   pub grow-contract : (κs : Lfts 3) (a : Args grow-method.signature κs) (r : Res grow-method.signature κs) (t : AtExit grow-method.ended κs)
-      → let end = endWith (a .0) (now (a .1 .0)) (now (a .1 .1 .0)) (now (a .1 .1 .1 .0)) (on (a .1 .1 .1 .1 .0) (grow (a .1 .1 .1 .1 .1 .0))) in
+      → let end = endOf (kept (a .0) (now (a .1 .0)) (now (a .1 .1 .0)) (now (a .1 .1 .1 .0))) (on (a .1 .1 .1 .1 .0) (grow (a .1 .1 .1 .1 .1 .0))) in
       grow-method.clauses 𝓤 H A mem run κs a .ensures tt r t ≡ ⌜ (r ≡ end .outcome) × (now (t .1 .0) ≡ end .map) × (now (t .1 .1 .0) ≡ end .entries) × (now (t .1 .1 .1 .0) ≡ end .card) ⌝
   grow-contract κs a r t = refl
 
   pub put-contract : (κs : Lfts 4) (a : Args put-method.signature κs) (r : Res put-method.signature κs) (t : AtExit put-method.ended κs)
-      → let end = endWith (a .0) (now (a .1 .0)) (now (a .1 .1 .0)) (now (a .1 .1 .1 .0)) (on (a .1 .1 .1 .1 .0) (put (a .1 .1 .1 .1 .1 .0) (now (a .1 .1 .1 .1 .1 .1 .0)))) in
+      → let end = endOf (kept (a .0) (now (a .1 .0)) (now (a .1 .1 .0)) (now (a .1 .1 .1 .0))) (on (a .1 .1 .1 .1 .0) (put (a .1 .1 .1 .1 .1 .0) (now (a .1 .1 .1 .1 .1 .1 .0)))) in
       put-method.clauses 𝓤 H A mem run κs a .ensures tt r t ≡ ⌜ (r ≡ end .outcome) × (now (t .1 .1 .1 .0) ≡ end .card) ⌝
   put-contract κs a r t = refl
 
   pub complete-contract : (κs : Lfts 3) (a : Args complete-method.signature κs) (r : Res complete-method.signature κs) (t : AtExit complete-method.ended κs)
-      → let end = endWith (a .0) (now (a .1 .0)) (now (a .1 .1 .0)) (now (a .1 .1 .1 .0)) (on (a .1 .1 .1 .1 .0) complete) in
+      → let end = endOf (kept (a .0) (now (a .1 .0)) (now (a .1 .1 .0)) (now (a .1 .1 .1 .0))) (on (a .1 .1 .1 .1 .0) complete) in
       complete-method.clauses 𝓤 H A mem run κs a .ensures tt r t ≡ ⌜ (r ≡ end .outcome) × (now (t .1 .1 .0) ≡ end .entries) ⌝
   complete-contract κs a r t = refl
 
   pub pause-contract : (κs : Lfts 2) (a : Args pause-method.signature κs) (r : Res pause-method.signature κs) (t : AtExit pause-method.ended κs) (card : List ℕ)
-      → let end = endWith (a .0) (now (a .1 .0)) (now (a .1 .1 .0)) card (on (a .1 .1 .1 .0) pause) in
+      → let end = endOf (kept (a .0) (now (a .1 .0)) (now (a .1 .1 .0)) card) (on (a .1 .1 .1 .0) pause) in
       pause-method.clauses 𝓤 H A mem run κs a .ensures tt r t ≡ ⌜ (r ≡ end .outcome) × (now (t .1 .1 .0) ≡ end .entries) ⌝
   pause-contract κs a r t card = refl
 
   pub release-contract : (κs : Lfts 2) (a : Args release-method.signature κs) (r : Res release-method.signature κs) (t : AtExit release-method.ended κs) (card : List ℕ)
-      → let end = endWith (a .0) (now (a .1 .0)) (now (a .1 .1 .0)) card (on (a .1 .1 .1 .0) release) in
+      → let end = endOf (kept (a .0) (now (a .1 .0)) (now (a .1 .1 .0)) card) (on (a .1 .1 .1 .0) release) in
       release-method.clauses 𝓤 H A mem run κs a .ensures tt r t ≡ ⌜ (r ≡ end .outcome) × (now (t .1 .0) ≡ end .map) × (now (t .1 .1 .0) ≡ end .entries) ⌝
   release-contract κs a r t card = refl
 
   pub show-contract : (κs : Lfts 4) (a : Args show-method.signature κs) (r : Res show-method.signature κs) (t : AtExit show-method.ended κs)
-      → let end = endWith (a .0) (now (a .1 .0)) (now (a .1 .1 .0)) (now (a .1 .1 .1 .0)) (on (a .1 .1 .1 .1 .0) (show (a .1 .1 .1 .1 .1 .0) (now (a .1 .1 .1 .1 .1 .1 .0)))) in
+      → let end = endOf (kept (a .0) (now (a .1 .0)) (now (a .1 .1 .0)) (now (a .1 .1 .1 .0))) (on (a .1 .1 .1 .1 .0) (show (a .1 .1 .1 .1 .1 .0) (now (a .1 .1 .1 .1 .1 .1 .0)))) in
       show-method.clauses 𝓤 H A mem run κs a .ensures tt r t ≡ ⌜ (r ≡ end .outcome) × (now (t .1 .1 .1 .1 .1 .1 .0) ≡ end .buffer) ⌝
   show-contract κs a r t = refl
 
   pub standing-contract : (κs : Lfts 2) (a : Args standing-method.signature κs) (r : Res standing-method.signature κs) (t : AtExit standing-method.ended κs) (card : List ℕ)
-      → let end = endWith (a .0) (now (a .1 .0)) (now (a .1 .1 .0)) card (on (a .1 .1 .1 .0) standing) in
+      → let end = endOf (kept (a .0) (now (a .1 .0)) (now (a .1 .1 .0)) card) (on (a .1 .1 .1 .0) standing) in
       standing-method.clauses 𝓤 H A mem run κs a .ensures tt r t ≡ ⌜ r ≡ end .outcome ⌝
   standing-contract κs a r t card = refl
 
@@ -126,19 +126,19 @@ module _ {M : Type 1} (𝓤 : URA M) (H : Heap 𝓤) (A : Atoms 𝓤) (mem : Mem
   standing-asks-nothing κs a = refl
 
 -- the state after a call, and its reply, by what the call handed back and left
-abbrev pub leaving : Outcome → List ℕ → List Entry → List ℕ → State
-leaving r map entries card = record { shape = r .shape; map = map; entries = entries; card = card }
+abbrev pub leaving : Outcome → List ℕ → List Entry → List ℕ → Kept
+leaving r map entries card = kept (r .shape) map entries card
 
 abbrev replying : Outcome → List ℕ → Reply
 replying r buffer = record { answer = r .answer; buffer = buffer }
 
 -- all that a call hands back and leaves is as its contract says
-met : (s : State) (c : Call) (r : Outcome) (map : List ℕ) (entries : List Entry) (card buffer : List ℕ) → r ≡ endOf s c .outcome → map ≡ endOf s c .map
+met : (s : Kept) (c : Call) (r : Outcome) (map : List ℕ) (entries : List Entry) (card buffer : List ℕ) → r ≡ endOf s c .outcome → map ≡ endOf s c .map
     → entries ≡ endOf s c .entries → card ≡ endOf s c .card → buffer ≡ endOf s c .buffer → Step s c (replying r buffer) (leaving r map entries card)
 met s c r map entries card buffer o m e d b = (λ x. record { answer = o x .answer; buffer = b x }, λ x. record { shape = o x .shape; map = m x; entries = e x; card = d x })
 
 -- what the contract says is a step: what a call is not lent by `&mut` is as it was
-module _ (s : State) (sheet : ℕ) (r : Outcome) where
+module _ (s : Kept) (sheet : ℕ) (r : Outcome) where
   pub reserve-step : (k : ℕ) (map : List ℕ) (entries : List Entry) (card : List ℕ) → (r ≡ endOf s (on sheet (reserve k)) .outcome) × (map ≡ endOf s (on sheet (reserve k)) .map) × (entries ≡ endOf s (on sheet (reserve k)) .entries) × (card ≡ endOf s (on sheet (reserve k)) .card)
       → Step s (on sheet (reserve k)) (replying r []) (leaving r map entries card)
   reserve-step k map entries card h = met s (on sheet (reserve k)) r map entries card [] (h .0) (h .1) (h .2) (h .3) refl

@@ -22,8 +22,9 @@ use Rattle.ledger.specs.Ledger.{Place, Blank, Payload, Sheet, Absent, Co
 use Rattle.ledger.specs.Claim.{Answered, AllAnswered, SearchedBy, AllSearched, granted, returned, lastPut, entryIn, Agrees, Gives, Claim}
 use Rattle.card.specs.declared.Shape.{Shape}
 use Rattle.card.specs.declared.Outcome.{Outcome}
-use Rattle.ledger.specs.Steps.{Freshens, State, Reply, toldBy, endOf, replyOf, stateOn, Step, Runs, freshState}
-use Rattle.ledger.proofs.Agreement.{mapIn, stateOf, Kept, free-map}
+use Rattle.card.specs.Calls.{Kept}
+use Rattle.ledger.specs.Steps.{Freshens, Reply, toldBy, endOf, replyOf, stateOn, Step, Runs, freshState}
+use Rattle.ledger.proofs.Agreement.{mapIn, stateOf, Matches, free-map}
 use Rattle.ledger.proofs.Contracts.{leaving, Limits, fresh-left}
 use Rattle.ledger.proofs.Cover.{covers-absent, held}
 use Rattle.ledger.proofs.Listed.{spare-is}
@@ -34,7 +35,7 @@ use Rattle.ledger.proofs.step.{result}
 
 -- ---- one call
 
-module _ (n : ℕ) (l : List Sheet) (card : List ℕ) (k : Kept n l card) (c : Call) (reply : Reply) (t : State) (st : Step (stateOf n l card) c reply t) where
+module _ (n : ℕ) (l : List Sheet) (card : List ℕ) (k : Matches n l card) (c : Call) (reply : Reply) (t : Kept) (st : Step (stateOf n l card) c reply t) where
   pub answered : Answered n l c reply
   answered =
       let r = result n l card k c in
@@ -46,24 +47,24 @@ module _ (n : ℕ) (l : List Sheet) (card : List ℕ) (k : Kept n l card) (c : C
 -- ---- a list of calls
 
 -- what a list leaves, from the state that ledger l calls for
-pub record Left (n : ℕ) (l : List Sheet) (calls : List Call) (replies : List Reply) (t : State) : Type 0 where
+pub record Left (n : ℕ) (l : List Sheet) (calls : List Call) (replies : List Reply) (t : Kept) : Type 0 where
   pub card-left : List ℕ
   pub state-left : t ≡ stateOf n (after n l calls) card-left
-  pub kept-left : Kept n (after n l calls) card-left
+  pub kept-left : Matches n (after n l calls) card-left
   pub answers : AllAnswered n l calls replies
   pub searches : AllSearched n l calls replies
   pub sum : held (after n l calls) + returned n l calls ≡ held l + granted n l calls
   -- what a place holds is what the history has last put there since the sheet's reserve
   pub noted-so : (j p : ℕ) (m : Place) → Has p m (sheetAt l j) → Has p (lastPut j p m calls replies) (sheetAt (after n l calls) j)
 
-pub lists : (n : ℕ) (calls : List Call) (replies : List Reply) (l : List Sheet) (card : List ℕ) (s t : State) → Kept n l card → s ≡ stateOf n l card
+pub lists : (n : ℕ) (calls : List Call) (replies : List Reply) (l : List Sheet) (card : List ℕ) (s t : Kept) → Matches n l card → s ≡ stateOf n l card
     → Runs s calls replies t → Left n l calls replies t
 lists n [] [] l card s t k e h =
     record { card-left = card; state-left = h ∙ e; kept-left = k; answers = tt; searches = tt; sum = refl; noted-so = λ j p m was. was }
 lists n [] (reply ∷ replies) l card s t k e h = absurd h
 lists n (c ∷ calls) [] l card s t k e h = absurd h
 lists n (c ∷ calls) (reply ∷ replies) l card s t k e h =
-    let st : Step (stateOf n l card) c reply (h .0) = subst (λ (x : State). Step x c reply (h .0)) e (h .1) in
+    let st : Step (stateOf n l card) c reply (h .0) = subst (λ (x : Kept). Step x c reply (h .0)) e (h .1) in
     let r : Result n l card c (verdictIn n l c) = result n l card k c in
     let rest : Left n (stepIn n l c) calls replies t = lists n calls replies (stepIn n l c) (r .card-left) (h .0) t (r .kept-left) (st .1 ∙ r .state-left) (h .2) in
     record {
@@ -77,7 +78,7 @@ lists n (c ∷ calls) (reply ∷ replies) l card s t k e h =
     }
 
 -- and every list has a run
-pub has-run : (s : State) (calls : List Call) → (replies : List Reply) × (t : State) × Runs s calls replies t
+pub has-run : (s : Kept) (calls : List Call) → (replies : List Reply) × (t : Kept) × Runs s calls replies t
 has-run s [] = ([], s, refl)
 has-run s (c ∷ calls) =
     let e = endOf s c in
@@ -103,7 +104,7 @@ entries-begun zero = refl
 entries-begun (suc c) = ap (λ (r : List Entry). absent ∷ r) (entries-begun c)
 
 module _ (n c : ℕ) (card : List ℕ) (n-low : 1 ≤ n) (n-high : n ≤ 262144) (c-low : 1 ≤ c) (c-high : c ≤ 1024) (room : length card ≡ 512 * n) where
-  pub kept-begun : Kept n (begun c) card
+  pub kept-begun : Matches n (begun c) card
   kept-begun = record {
     low = n-low;
     high = n-high;
@@ -144,14 +145,14 @@ unfolding tableOf listed firstOf
 show-accepted n l i s xs e p lp buffer len =
     rw (ap standingIn e, lt-leb (length l) i (listed-sheet l i s xs e), lt-leb (length xs) p lp, eq-eqb (length buffer) 496 len) refl
 
-module _ (n : ℕ) (l : List Sheet) (card : List ℕ) (k : Kept n l card) (i s : ℕ) (xs : List (List ℕ)) (e : sheetAt l i ≡ Complete s xs) (p : ℕ) (lp : p < length xs) where
+module _ (n : ℕ) (l : List Sheet) (card : List ℕ) (k : Matches n l card) (i s : ℕ) (xs : List (List ℕ)) (e : sheetAt l i ≡ Complete s xs) (p : ℕ) (lp : p < length xs) where
   pub place-of : placeAt l i p ≡ Payload (getD xs p [])
   place-of = ap (λ (x : Sheet). getD (placesIn x) p Blank) e ∙ payload-of xs p lp
 
-  pub shown : (t : State) → t ≡ stateOf n l card → Gives t i p (getD xs p [])
+  pub shown : (t : Kept) → t ≡ stateOf n l card → Gives t i p (getD xs p [])
   unfolding deedIn
   shown t at buffer len reply u st =
-      let st′ : Step (stateOf n l card) (on i (show p buffer)) reply u = subst (λ (x : State). Step x (on i (show p buffer)) reply u) at st in
+      let st′ : Step (stateOf n l card) (on i (show p buffer)) reply u = subst (λ (x : Kept). Step x (on i (show p buffer)) reply u) at st in
       let a : Answered n l (on i (show p buffer)) reply = answered n l card k (on i (show p buffer)) reply u st′ in
       a .told ∙ ap (λ (v : Verdict). settle v (done [] (bytesOf (placeAt l i p))) (refusedWith buffer (a .place))) (show-accepted n l i s xs e p lp buffer len)
       ∙ ap (λ (x : Place). done [] (bytesOf x)) place-of
@@ -162,29 +163,29 @@ module _ (n c : ℕ) (card : List ℕ) (n-low : 1 ≤ n) (n-high : n ≤ 262144)
   abbrev l : List Sheet
   l = after n (begun c) calls
 
-  agreeing : (t : State) (card′ : List ℕ) → t ≡ stateOf n l card′ → Kept n l card′ → Agrees n l t
+  agreeing : (t : Kept) (card′ : List ℕ) → t ≡ stateOf n l card′ → Matches n l card′ → Agrees n l t
   agreeing t card′ e k = record {
-    map-whole = ap (λ (x : State). x .map) e;
-    entries-whole = ap (λ (x : State). x .entries) e;
-    shape-whole = ap (λ (x : State). x .shape) e;
-    card-length = ap (λ (x : State). length (x .card)) e ∙ k .room;
-    card-blocks = λ i p h. ap (λ (x : State). blockOf (x .card) (startIn (sheetAt l i) + p)) e ∙ k .blocks i p h;
+    map-whole = ap (λ (x : Kept). x .map) e;
+    entries-whole = ap (λ (x : Kept). x .entries) e;
+    shape-whole = ap (λ (x : Kept). x .shape) e;
+    card-length = ap (λ (x : Kept). length (x .card)) e ∙ k .room;
+    card-blocks = λ i p h. ap (λ (x : Kept). blockOf (x .card) (startIn (sheetAt l i) + p)) e ∙ k .blocks i p h;
     free-uncovered = λ b h. reads b ∙ ap (λ (x : Bool). x && eqb (cover l b) 0) (lt-ltb b n h);
     free-beyond = λ b h. reads b ∙ ap (λ (x : Bool). x && eqb (cover l b) 0) (le-ltb b n h);
     covered-once = k .sound .once;
   }
     where
       reads : (b : ℕ) → free (t .map) b ≡ freeIn n l b
-      reads b = ap (λ (x : State). free (x .map) b) e ∙ ap (λ (f : ℕ → Bool). f b) (free-map n l)
+      reads b = ap (λ (x : Kept). free (x .map) b) e ∙ ap (λ (f : ℕ → Bool). f b) (free-map n l)
 
-  pub every-list : (replies : List Reply) (t : State) → Runs (freshState n c card) calls replies t → Claim n c calls replies t
+  pub every-list : (replies : List Reply) (t : Kept) → Runs (freshState n c card) calls replies t → Claim n c calls replies t
   every-list replies t runs =
       let w : Left n (begun c) calls replies t =
       lists n calls replies (begun c) card (freshState n c card) t (kept-begun n c card n-low n-high c-low c-high room) (state-begun n c card n-low n-high c-low c-high room) runs in
       record {
         answers = w .answers;
         agrees = agreeing t (w .card-left) (w .state-left) (w .kept-left);
-        sum = omega (arith, w .sum, spare-is n l (w .kept-left .sound), held-begun c, ap (λ (x : State). x .shape .free) (w .state-left));
+        sum = omega (arith, w .sum, spare-is n l (w .kept-left .sound), held-begun c, ap (λ (x : Kept). x .shape .free) (w .state-left));
         searches = w .searches;
         shows = λ i s xs e p lp. (
           getD xs p [],
@@ -194,15 +195,15 @@ module _ (n c : ℕ) (card : List ℕ) (n-low : 1 ≤ n) (n-high : n ≤ 262144)
         );
       }
 
-  pub every-list-runs : (replies : List Reply) × (t : State) × Runs (freshState n c card) calls replies t
+  pub every-list-runs : (replies : List Reply) × (t : Kept) × Runs (freshState n c card) calls replies t
   every-list-runs = has-run (freshState n c card) calls
 
 -- The same from the fresh call itself: what it left when it answered that it was done, and a card of 512·n bytes.
 pub every-list-from-fresh : (shape : Shape) (n : ℕ) (map : List ℕ) (entries : List Entry) (r : Outcome) (map′ : List ℕ) (entries′ : List Entry)
     → Freshens shape n map entries r map′ entries′ → numberOf (r .answer) ≡ 0 → (card : List ℕ) → length card ≡ 512 * n
-    → (calls : List Call) (replies : List Reply) (t : State) → Runs (leaving r map′ entries′ card) calls replies t → Claim n (length entries) calls replies t
+    → (calls : List Call) (replies : List Reply) (t : Kept) → Runs (leaving r map′ entries′ card) calls replies t → Claim n (length entries) calls replies t
 every-list-from-fresh shape n map entries r map′ entries′ freshened done-so card room calls replies t runs =
     let left = fresh-left shape n map entries r map′ entries′ freshened done-so in
     let limits : Limits n (length entries) = left .0 in
     every-list n (length entries) card (limits .n-low) (limits .n-high) (limits .c-low) (limits .c-high) room calls replies t
-    (subst (λ (s : State). Runs s calls replies t) (left .1 card) runs)
+    (subst (λ (s : Kept). Runs s calls replies t) (left .1 card) runs)

@@ -23,7 +23,7 @@ use Rattle.catalogue.specs.declared.Entry.{Entry}
 use Rattle.calls.proofs.Room.{fit-inside}
 use Rattle.ledger.specs.Ledger.{Place, Blank, Payload, Sheet, Absent, Open, Complete, startIn, lengthIn, placesIn, bytesOf, sheetAt, placeAt, covers, cover, freeIn, spareIn}
 use Rattle.ledger.specs.Claim.{entryIn, blockIn}
-use Rattle.ledger.proofs.Agreement.{mapIn, Kept}
+use Rattle.ledger.proofs.Agreement.{mapIn, Matches}
 use Rattle.ledger.proofs.Cover.{in-run, run-in, covers-in, covers-out, covers-absent, cover-set, cover-at, cover-two, held-set}
 use Rattle.ledger.proofs.Listed.{spare-is}
 use Rattle.ledger.proofs.Marks.{map-kept, map-taken, map-given}
@@ -42,11 +42,11 @@ Filled card j x = (p : ℕ) → p < lengthIn x → blockOf card (startIn x + p) 
 pub record Changed (n : ℕ) (l : List Sheet) (i : ℕ) (x : Sheet) (spare : ℕ) (marks : List ℕ) (card : List ℕ) : Type 0 where
   pub spare-left : spare ≡ spareIn n (set l i x)
   pub map-left : marks ≡ mapIn n (set l i x)
-  pub kept-left : Kept n (set l i x) card
+  pub kept-left : Matches n (set l i x) card
 
-module _ (n : ℕ) (l : List Sheet) (card : List ℕ) (k : Kept n l card) (i : ℕ) (lt : i < length l) where
+module _ (n : ℕ) (l : List Sheet) (card : List ℕ) (k : Matches n l card) (i : ℕ) (lt : i < length l) where
   keep : (x : Sheet) (card′ : List ℕ) → Sound n (set l i x) → length card′ ≡ 512 * n → Filled card′ i x → ((j : ℕ) → j ≢ i → Filled card′ j (sheetAt l j))
-      → Kept n (set l i x) card′
+      → Matches n (set l i x) card′
   keep x card′ ok room new old =
       let len : length (set l i x) ≡ length l = length-set l i x in
       record {

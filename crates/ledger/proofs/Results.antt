@@ -26,7 +26,7 @@ use Rattle.card.specs.Calls.{told, outcomeOf}
 use Rattle.ledger.specs.Ledger.{Place, Blank, Sheet, Absent, lengthIn, sheetAt, placeAt, spareIn, sheetOf, rowsIn, verdictIn, deedIn, Told, done, refusedWith}
 use Rattle.ledger.specs.Claim.{entryIn, noted, noteOf, SearchedBy}
 use Rattle.ledger.specs.Steps.{End, ending, endOf, replyOf, stateOn, toldBy}
-use Rattle.ledger.proofs.Agreement.{mapIn, stateOf, Kept}
+use Rattle.ledger.proofs.Agreement.{mapIn, stateOf, Matches}
 use Rattle.ledger.proofs.Cover.{held, held-set}
 use Rattle.ledger.proofs.Keeping.{entries-set, Changed}
 use Rattle.ledger.proofs.Rows.{says, never-says}
@@ -36,7 +36,7 @@ use Rattle.ledger.proofs.Sheets.{Has}
 pub record Result (n : ℕ) (l : List Sheet) (card : List ℕ) (c : Call) (v : Verdict) : Type 0 where
   pub card-left : List ℕ
   pub state-left : stateOn (endOf (stateOf n l card) c) ≡ stateOf n (settle v (deedIn n l c .ledger) (λ number. l)) card-left
-  pub kept-left : Kept n (settle v (deedIn n l c .ledger) (λ number. l)) card-left
+  pub kept-left : Matches n (settle v (deedIn n l c .ledger) (λ number. l)) card-left
   pub place : ℕ
   pub blank : v ≡ refused 9 → (place < lengthIn (sheetAt l (sheetOf c))) × (placeAt l (sheetOf c) place ≡ Blank)
   pub told-so : toldBy (replyOf (endOf (stateOf n l card) c)) ≡ settle v (done (deedIn n l c .values) (deedIn n l c .left)) (refusedWith (deedIn n l c .brought) place)
@@ -57,7 +57,7 @@ module _ (n : ℕ) (l : List Sheet) (card : List ℕ) where
     pub answer : Answer
     pub ends-so : e ≡ endIn (deedIn n l c .ledger) card-left answer (deedIn n l c .left)
     pub says-so : (numberOf answer ≡ 0) × (valuesOf answer ≡ deedIn n l c .values)
-    pub kept-left : Kept n (deedIn n l c .ledger) card-left
+    pub kept-left : Matches n (deedIn n l c .ledger) card-left
     pub sum : held (deedIn n l c .ledger) + deedIn n l c .returns ≡ held l + deedIn n l c .grants
     pub noted-so : (j p : ℕ) (m : Place) → Has p m (sheetAt l j) → Has p (noted j p m (noteOf c)) (sheetAt (deedIn n l c .ledger) j)
 
@@ -69,7 +69,7 @@ module _ (n : ℕ) (l : List Sheet) (card : List ℕ) where
     pub ends-so : (number : ℕ) → ends number ≡ endIn l card (answer number) (deedIn n l c .brought)
     pub says-so : (number : ℕ) → verdictIn n l c ≡ refused number → (numberOf (answer number) ≡ number) × (valuesOf (answer number) ≡ cond (eqb number 9) (place ∷ []) [])
 
-  module _ (k : Kept n l card) where
+  module _ (k : Matches n l card) where
     pub result-of : (c : Call) (ends : Verdict → End) → endOf (stateOf n l card) c ≡ ends (verdictIn n l c) → says 0 (rowsIn n l c) ≡ false
         → (verdictIn n l c ≡ accepted → Done c (ends accepted)) → Back c (λ number. ends (refused number))
         → ((p : ℕ) → SearchedBy n l c (settle (verdictIn n l c) (done (deedIn n l c .values) (deedIn n l c .left)) (refusedWith (deedIn n l c .brought) p)))

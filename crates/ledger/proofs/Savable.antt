@@ -24,8 +24,9 @@ use Rattle.image.specs.Image.{framesFor}
 use Rattle.image.specs.Table.{saveFits, saveRows, saveVerdict}
 use Rattle.ledger.specs.Ledger.{Sheet, sheetAt, covers, cover, freeIn, spareIn, after, begun}
 use Rattle.ledger.specs.Claim.{entryIn}
-use Rattle.ledger.specs.Steps.{State, Reply, Runs, freshState, savedOf}
-use Rattle.ledger.proofs.Agreement.{mapIn, stateOf, Kept, entry-at, free-map, shape-fits, sheets-fit, stands-same}
+use Rattle.card.specs.Calls.{Kept}
+use Rattle.ledger.specs.Steps.{Reply, Runs, freshState, savedOf}
+use Rattle.ledger.proofs.Agreement.{mapIn, stateOf, Matches, entry-at, free-map, shape-fits, sheets-fit, stands-same}
 use Rattle.ledger.proofs.Demand.{Left, lists, kept-begun, state-begun}
 use Rattle.ledger.proofs.Listed.{undamaged}
 
@@ -48,7 +49,7 @@ none-left : firstOf [] ≡ accepted
 unfolding firstOf
 none-left = refl
 
-module _ (n : ℕ) (l : List Sheet) (card : List ℕ) (k : Kept n l card) where
+module _ (n : ℕ) (l : List Sheet) (card : List ℕ) (k : Matches n l card) where
   reads : (b : ℕ) → free (mapIn n l) b ≡ freeIn n l b
   reads b = ap (λ (f : ℕ → Bool). f b) (free-map n l)
 
@@ -83,7 +84,7 @@ module _ (n : ℕ) (l : List Sheet) (card : List ℕ) (k : Kept n l card) where
 
 -- ---- after a list
 
-module _ (n c : ℕ) (card : List ℕ) (n-low : 1 ≤ n) (n-high : n ≤ 262144) (c-low : 1 ≤ c) (c-high : c ≤ 1024) (room : length card ≡ 512 * n) (calls : List Call) (replies : List Reply) (t : State)
+module _ (n c : ℕ) (card : List ℕ) (n-low : 1 ≤ n) (n-high : n ≤ 262144) (c-low : 1 ≤ c) (c-high : c ≤ 1024) (room : length card ≡ 512 * n) (calls : List Call) (replies : List Reply) (t : Kept)
     (runs : Runs (freshState n c card) calls replies t) where
   left : Left n (begun c) calls replies t
   left =
@@ -91,10 +92,10 @@ module _ (n c : ℕ) (card : List ℕ) (n-low : 1 ≤ n) (n-high : n ≤ 262144)
 
   pub every-list-sound : saved.sound (savedOf t) ≡ true
   every-list-sound =
-      ap (λ (s : State). saved.sound (savedOf s)) (left .state-left) ∙ kept-sound n (after n (begun c) calls) (left .card-left) (left .kept-left)
+      ap (λ (s : Kept). saved.sound (savedOf s)) (left .state-left) ∙ kept-sound n (after n (begun c) calls) (left .card-left) (left .kept-left)
 
   pub every-list-saves : (scratchlen bufferlen : ℕ) → scratchlen ≡ length (t .map) → bufferlen ≡ 512 * framesFor (t .shape .blocks) (length (t .entries))
       → saveVerdict (savedOf t) scratchlen bufferlen ≡ accepted
   every-list-saves scratchlen bufferlen =
-      subst (λ (s : State). scratchlen ≡ length (s .map) → bufferlen ≡ 512 * framesFor (s .shape .blocks) (length (s .entries)) → saveVerdict (savedOf s) scratchlen bufferlen ≡ accepted)
+      subst (λ (s : Kept). scratchlen ≡ length (s .map) → bufferlen ≡ 512 * framesFor (s .shape .blocks) (length (s .entries)) → saveVerdict (savedOf s) scratchlen bufferlen ≡ accepted)
       (sym (left .state-left)) (kept-saves n (after n (begun c) calls) (left .card-left) (left .kept-left) scratchlen bufferlen)

@@ -12,7 +12,7 @@ use Prim.Native.Nat.{ℕ}
 use mathlib.Core.List.{List}
 use Rattle.calls.specs.Table.{Call, on, reserve, put, grow, complete, pause, release, show, standing}
 use Rattle.ledger.specs.Ledger.{Sheet, verdictIn}
-use Rattle.ledger.proofs.Agreement.{Kept}
+use Rattle.ledger.proofs.Agreement.{Matches}
 use Rattle.ledger.proofs.Results.{Result}
 use Complete.{complete-result}
 use Grow.{grow-result}
@@ -23,7 +23,7 @@ use Reserve.{reserve-result}
 use Show.{show-result}
 use Standing.{standing-result}
 
-pub result : (n : ℕ) (l : List Sheet) (card : List ℕ) → Kept n l card → (c : Call) → Result n l card c (verdictIn n l c)
+pub result : (n : ℕ) (l : List Sheet) (card : List ℕ) → Matches n l card → (c : Call) → Result n l card c (verdictIn n l c)
 result n l card k (on i (reserve m)) = reserve-result n l card k i m
 result n l card k (on i (put p payload)) = put-result n l card k i p payload
 result n l card k (on i (grow m)) = grow-result n l card k i m

@@ -4,7 +4,8 @@
 ghost use mathlib.Core.Path.{_≡_};
 ghost use Rattle.block.specs.Calls.{sealAnswer, afterSeal, checkAnswer};
 ghost use Rattle.replies.specs.Replies.{replyOf};
-ghost use Rattle.card.specs.Calls.{freshOutcome, freshMap, freshEntries, searchOutcome, surveyOutcome, reserveOutcome, reserveMap, reserveEntries, reserveCard, growOutcome, growMap, growEntries, growCard, putOutcome, putCard, completeOutcome, completeEntries, pauseOutcome, pauseEntries, releaseOutcome, releaseMap, releaseEntries, showOutcome, showBuffer, standingOutcome, saveOutcome, saveScratch, saveImage, loadOutcome, loadMap, loadEntries, loadScratch};
+ghost use Rattle.calls.specs.Lent.{noCard};
+ghost use Rattle.card.specs.Calls.{kept, freshOutcome, freshMap, freshEntries, searchOutcome, surveyOutcome, reserveOutcome, reserveMap, reserveEntries, reserveCard, growOutcome, growMap, growEntries, growCard, putOutcome, putCard, completeOutcome, completeEntries, pauseOutcome, pauseEntries, releaseOutcome, releaseMap, releaseEntries, showOutcome, showBuffer, standingOutcome, saveOutcome, saveScratch, saveImage, loadOutcome, loadMap, loadEntries, loadScratch};
 use card::Shape;
 use catalogue::Entry;
 use replies::Reply;
@@ -50,10 +51,11 @@ pub extern "C" fn pagunlit_reserve(
     sheet: u32,
     count: u32,
 ) -> Reply
-    ensures { λ r. ⌜ (r ≡ replyOf (reserveOutcome shape (now (map .entry)) (now (catalogue .entry)) (now (card .entry)) sheet count))
-        × (now (map .exit) ≡ reserveMap shape (now (map .entry)) (now (catalogue .entry)) (now (card .entry)) sheet count)
-        × (now (catalogue .exit) ≡ reserveEntries shape (now (map .entry)) (now (catalogue .entry)) (now (card .entry)) sheet count)
-        × (now (card .exit) ≡ reserveCard shape (now (map .entry)) (now (catalogue .entry)) (now (card .entry)) sheet count) ⌝ }
+    ensures { λ r. let s = kept shape (now (map .entry)) (now (catalogue .entry)) (now (card .entry)) in
+        ⌜ (r ≡ replyOf (reserveOutcome s sheet count))
+        × (now (map .exit) ≡ reserveMap s sheet count)
+        × (now (catalogue .exit) ≡ reserveEntries s sheet count)
+        × (now (card .exit) ≡ reserveCard s sheet count) ⌝ }
 {
     let outcome = shape.reserve(map, catalogue, card, sheet, count);
     reply_of(outcome)
@@ -68,10 +70,11 @@ pub extern "C" fn pagunlit_grow(
     sheet: u32,
     count: u32,
 ) -> Reply
-    ensures { λ r. ⌜ (r ≡ replyOf (growOutcome shape (now (map .entry)) (now (catalogue .entry)) (now (card .entry)) sheet count))
-        × (now (map .exit) ≡ growMap shape (now (map .entry)) (now (catalogue .entry)) (now (card .entry)) sheet count)
-        × (now (catalogue .exit) ≡ growEntries shape (now (map .entry)) (now (catalogue .entry)) (now (card .entry)) sheet count)
-        × (now (card .exit) ≡ growCard shape (now (map .entry)) (now (catalogue .entry)) (now (card .entry)) sheet count) ⌝ }
+    ensures { λ r. let s = kept shape (now (map .entry)) (now (catalogue .entry)) (now (card .entry)) in
+        ⌜ (r ≡ replyOf (growOutcome s sheet count))
+        × (now (map .exit) ≡ growMap s sheet count)
+        × (now (catalogue .exit) ≡ growEntries s sheet count)
+        × (now (card .exit) ≡ growCard s sheet count) ⌝ }
 {
     let outcome = shape.grow(map, catalogue, card, sheet, count);
     reply_of(outcome)
@@ -87,8 +90,9 @@ pub extern "C" fn pagunlit_put(
     place: u32,
     payload: &[u8],
 ) -> Reply
-    ensures { λ r. ⌜ (r ≡ replyOf (putOutcome shape (now (map .entry)) (now (catalogue .entry)) (now (card .entry)) sheet place (now (payload .entry))))
-        × (now (card .exit) ≡ putCard shape (now (map .entry)) (now (catalogue .entry)) (now (card .entry)) sheet place (now (payload .entry))) ⌝ }
+    ensures { λ r. let s = kept shape (now (map .entry)) (now (catalogue .entry)) (now (card .entry)) in
+        ⌜ (r ≡ replyOf (putOutcome s sheet place (now (payload .entry))))
+        × (now (card .exit) ≡ putCard s sheet place (now (payload .entry))) ⌝ }
 {
     let outcome = shape.put(map, catalogue, card, sheet, place, payload);
     reply_of(outcome)
@@ -102,8 +106,9 @@ pub extern "C" fn pagunlit_complete(
     card: &[u8],
     sheet: u32,
 ) -> Reply
-    ensures { λ r. ⌜ (r ≡ replyOf (completeOutcome shape (now (map .entry)) (now (catalogue .entry)) (now (card .entry)) sheet))
-        × (now (catalogue .exit) ≡ completeEntries shape (now (map .entry)) (now (catalogue .entry)) (now (card .entry)) sheet) ⌝ }
+    ensures { λ r. let s = kept shape (now (map .entry)) (now (catalogue .entry)) (now (card .entry)) in
+        ⌜ (r ≡ replyOf (completeOutcome s sheet))
+        × (now (catalogue .exit) ≡ completeEntries s sheet) ⌝ }
 {
     let outcome = shape.complete(map, catalogue, card, sheet);
     reply_of(outcome)
@@ -116,8 +121,9 @@ pub extern "C" fn pagunlit_pause(
     catalogue: &mut [Entry],
     sheet: u32,
 ) -> Reply
-    ensures { λ r. ⌜ (r ≡ replyOf (pauseOutcome shape (now (map .entry)) (now (catalogue .entry)) sheet))
-        × (now (catalogue .exit) ≡ pauseEntries shape (now (map .entry)) (now (catalogue .entry)) sheet) ⌝ }
+    ensures { λ r. let s = kept shape (now (map .entry)) (now (catalogue .entry)) noCard in
+        ⌜ (r ≡ replyOf (pauseOutcome s sheet))
+        × (now (catalogue .exit) ≡ pauseEntries s sheet) ⌝ }
 {
     let outcome = shape.pause(map, catalogue, sheet);
     reply_of(outcome)
@@ -130,9 +136,10 @@ pub extern "C" fn pagunlit_release(
     catalogue: &mut [Entry],
     sheet: u32,
 ) -> Reply
-    ensures { λ r. ⌜ (r ≡ replyOf (releaseOutcome shape (now (map .entry)) (now (catalogue .entry)) sheet))
-        × (now (map .exit) ≡ releaseMap shape (now (map .entry)) (now (catalogue .entry)) sheet)
-        × (now (catalogue .exit) ≡ releaseEntries shape (now (map .entry)) (now (catalogue .entry)) sheet) ⌝ }
+    ensures { λ r. let s = kept shape (now (map .entry)) (now (catalogue .entry)) noCard in
+        ⌜ (r ≡ replyOf (releaseOutcome s sheet))
+        × (now (map .exit) ≡ releaseMap s sheet)
+        × (now (catalogue .exit) ≡ releaseEntries s sheet) ⌝ }
 {
     let outcome = shape.release(map, catalogue, sheet);
     reply_of(outcome)
@@ -148,8 +155,9 @@ pub extern "C" fn pagunlit_show(
     place: u32,
     buffer: &mut [u8],
 ) -> Reply
-    ensures { λ r. ⌜ (r ≡ replyOf (showOutcome shape (now (map .entry)) (now (catalogue .entry)) (now (card .entry)) sheet place (now (buffer .entry))))
-        × (now (buffer .exit) ≡ showBuffer shape (now (map .entry)) (now (catalogue .entry)) (now (card .entry)) sheet place (now (buffer .entry))) ⌝ }
+    ensures { λ r. let s = kept shape (now (map .entry)) (now (catalogue .entry)) (now (card .entry)) in
+        ⌜ (r ≡ replyOf (showOutcome s sheet place (now (buffer .entry))))
+        × (now (buffer .exit) ≡ showBuffer s sheet place (now (buffer .entry))) ⌝ }
 {
     let outcome = shape.show(map, catalogue, card, sheet, place, buffer);
     reply_of(outcome)
@@ -162,7 +170,8 @@ pub extern "C" fn pagunlit_standing(
     catalogue: &[Entry],
     sheet: u32,
 ) -> Reply
-    ensures { λ r. ⌜ r ≡ replyOf (standingOutcome shape (now (map .entry)) (now (catalogue .entry)) sheet) ⌝ }
+    ensures { λ r. let s = kept shape (now (map .entry)) (now (catalogue .entry)) noCard in
+        ⌜ r ≡ replyOf (standingOutcome s sheet) ⌝ }
 {
     let outcome = shape.standing(map, catalogue, sheet);
     reply_of(outcome)

@@ -1,6 +1,7 @@
 // The rulings on the calls that take blocks, reserve and grow: where the blocks start, or the row that refuses the call.
 ghost use mathlib.Core.Path.{_≡_};
 ghost use Prim.Native.Nat.{_+_};
+ghost use Rattle.calls.specs.Lent.{lent};
 ghost use Rattle.calls.specs.Effects.{reserveVerdict, reserveStart, growVerdict};
 ghost use Rattle.rulings.specs.Rulings.{rulingOf};
 use catalogue::Entry;
@@ -31,7 +32,8 @@ pub fn reserve_ruling(
     sheet: u32,
     k: u32,
 ) -> Ruling
-    ensures { λ r. ⌜ r ≡ rulingOf (reserveVerdict n free (now (map .entry)) (now (card .entry)) c entry sheet k) (reserveStart n free (now (map .entry)) (now (card .entry)) c entry sheet k) ⌝ }
+    ensures { λ r. let q = lent n free (now (map .entry)) (now (card .entry)) c entry sheet in
+        ⌜ r ≡ rulingOf (reserveVerdict q k) (reserveStart q k) ⌝ }
 {
     let opened = open_on(n, free, map, card.len(), c, sheet, entry);
     let Opened::Stands(stands) = opened else {
@@ -64,7 +66,8 @@ pub fn grow_ruling(
     sheet: u32,
     m: u32,
 ) -> Ruling
-    ensures { λ r. ⌜ r ≡ rulingOf (growVerdict n free (now (map .entry)) (now (card .entry)) c entry sheet m) (entry .start + entry .length) ⌝ }
+    ensures { λ r. let q = lent n free (now (map .entry)) (now (card .entry)) c entry sheet in
+        ⌜ r ≡ rulingOf (growVerdict q m) (entry .start + entry .length) ⌝ }
 {
     let opened = open_on(n, free, map, card.len(), c, sheet, entry);
     let Opened::Stands(stands) = opened else {

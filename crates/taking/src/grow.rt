@@ -1,5 +1,6 @@
 // Grow: the m blocks after an Open extent are added, taken and filled with zeros.
 ghost use mathlib.Core.Path.{_≡_};
+ghost use Rattle.calls.specs.Lent.{lent};
 ghost use Rattle.calls.specs.Effects.{growOut, growMap, growCard};
 use calls::Out;
 use calls::refusal;
@@ -22,9 +23,10 @@ pub fn grow(
     sheet: u32,
     m: u32,
 ) -> Out
-    ensures { λ r. ⌜ (r ≡ growOut n free (now (map .entry)) (now (card .entry)) c entry sheet m)
-        × (now (map .exit) ≡ growMap n free (now (map .entry)) (now (card .entry)) c entry sheet m)
-        × (now (card .exit) ≡ growCard n free (now (map .entry)) (now (card .entry)) c entry sheet m) ⌝ }
+    ensures { λ r. let q = lent n free (now (map .entry)) (now (card .entry)) c entry sheet in
+        ⌜ (r ≡ growOut q m)
+        × (now (map .exit) ≡ growMap q m)
+        × (now (card .exit) ≡ growCard q m) ⌝ }
 {
     match grow_ruling(n, free, map, card, c, entry, sheet, m) {
         Ruling::Refused(row) => refusal(free, entry, row),

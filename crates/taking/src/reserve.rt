@@ -1,6 +1,7 @@
 // Reserve: Absent becomes Open at the least fit. Every block taken is filled with zeros, so that no old seal of the same
 // sheet passes for a new place.
 ghost use mathlib.Core.Path.{_≡_};
+ghost use Rattle.calls.specs.Lent.{lent};
 ghost use Rattle.calls.specs.Effects.{reserveOut, reserveMap, reserveCard};
 use calls::Out;
 use calls::refusal;
@@ -23,9 +24,10 @@ pub fn reserve(
     sheet: u32,
     k: u32,
 ) -> Out
-    ensures { λ r. ⌜ (r ≡ reserveOut n free (now (map .entry)) (now (card .entry)) c entry sheet k)
-        × (now (map .exit) ≡ reserveMap n free (now (map .entry)) (now (card .entry)) c entry sheet k)
-        × (now (card .exit) ≡ reserveCard n free (now (map .entry)) (now (card .entry)) c entry sheet k) ⌝ }
+    ensures { λ r. let q = lent n free (now (map .entry)) (now (card .entry)) c entry sheet in
+        ⌜ (r ≡ reserveOut q k)
+        × (now (map .exit) ≡ reserveMap q k)
+        × (now (card .exit) ≡ reserveCard q k) ⌝ }
 {
     match reserve_ruling(n, free, map, card, c, entry, sheet, k) {
         Ruling::Refused(row) => refusal(free, entry, row),

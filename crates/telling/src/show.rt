@@ -1,5 +1,6 @@
 // Show: copies a payload of a Complete sheet. The entry is taken apart first, and no block is read unless it is Complete.
 ghost use mathlib.Core.Path.{_≡_};
+ghost use Rattle.calls.specs.Lent.{lent};
 ghost use Rattle.calls.specs.Effects.{showAnswer, showBuffer};
 use block::PAYLOAD;
 use card_blocks::copy_payload;
@@ -23,8 +24,9 @@ pub fn show(
     place: u32,
     buffer: &mut [u8],
 ) -> Answer
-    ensures { λ r. ⌜ (r ≡ showAnswer n free (now (map .entry)) (now (card .entry)) c entry sheet place (now (buffer .entry)))
-        × (now (buffer .exit) ≡ showBuffer n free (now (map .entry)) (now (card .entry)) c entry sheet place (now (buffer .entry))) ⌝ }
+    ensures { λ r. let q = lent n free (now (map .entry)) (now (card .entry)) c entry sheet in
+        ⌜ (r ≡ showAnswer q place (now (buffer .entry)))
+        × (now (buffer .exit) ≡ showBuffer q place (now (buffer .entry))) ⌝ }
 {
     let opened = open_on(n, free, map, card.len(), c, sheet, entry);
     let Opened::Stands(stands) = opened else {

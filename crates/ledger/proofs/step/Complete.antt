@@ -18,6 +18,7 @@ use Rattle.standings.specs.Rows.{Row, Verdict, accepted, refused, settle}
 use Rattle.standings.specs.declared.Answer.{Answer}
 use Rattle.standings.specs.declared.Answer.the-variants as answers
 use Rattle.standings.specs.declared.Answer.the-variants.{Done, Refused}
+use Rattle.calls.specs.Lent.{lent}
 use Rattle.calls.specs.Effects as effects
 use Rattle.calls.specs.Effects.{entryOf, outOf}
 use Rattle.calls.specs.Table.{Call, on, complete, rowsFor, tableOf}
@@ -27,14 +28,14 @@ use Rattle.calls.proofs.Rows.{clear, same-number}
 use Rattle.ledger.specs.Ledger.{Place, Blank, Payload, Sheet, Complete, lengthIn, isBlank, bytesOf, sheetAt, placeAt, spareIn, completeIn, listed, rowsIn, verdictIn, deedIn}
 use Rattle.ledger.specs.Claim.{entryIn}
 use Rattle.ledger.specs.Steps.{End, endOf}
-use Rattle.ledger.proofs.Agreement.{mapIn, stateOf, Kept, NeverRows, OwnPlaces, entry-at, on-card, blank-same, beyond-in, verdict-on}
+use Rattle.ledger.proofs.Agreement.{mapIn, stateOf, Matches, NeverRows, OwnPlaces, entry-at, on-card, blank-same, beyond-in, verdict-on}
 use Rattle.ledger.proofs.Keeping.{keep-complete}
 use Rattle.ledger.proofs.Listed.{full, or-not}
 use Rattle.ledger.proofs.Results as results
 use Rattle.ledger.proofs.Results.{Result, Back, outEnd, stored-again, one-sheet, result-of}
 use Rattle.ledger.proofs.Sheets.{was-open, Has}
 
-module _ (n : ℕ) (l : List Sheet) (card : List ℕ) (k : Kept n l card) (i : ℕ) where
+module _ (n : ℕ) (l : List Sheet) (card : List ℕ) (k : Matches n l card) (i : ℕ) where
   abbrev call : Call
   call = on i complete
 
@@ -61,7 +62,7 @@ module _ (n : ℕ) (l : List Sheet) (card : List ℕ) (k : Kept n l card) (i : �
 
   -- the place that goes with 9
   abbrev given : ℕ
-  given = effects.blankPlace n (spareIn n l) (mapIn n l) card (length (map entryIn l)) e i
+  given = effects.blankPlace (lent n (spareIn n l) (mapIn n l) card (length (map entryIn l)) e i)
 
   abbrev answer : ℕ → Answer
   answer number = cond (eqb number 9) (answers.Blank given) (Refused number)
@@ -73,7 +74,7 @@ module _ (n : ℕ) (l : List Sheet) (card : List ℕ) (k : Kept n l card) (i : �
   abbrev ends : Verdict → End
   ends = stored (entryOf 0x43 (e .start) (e .length))
 
-  verdict : effects.completeVerdict n (spareIn n l) (mapIn n l) card (length (map entryIn l)) e i ≡ verdictIn n l call
+  verdict : effects.completeVerdict (lent n (spareIn n l) (mapIn n l) card (length (map entryIn l)) e i) ≡ verdictIn n l call
   unfolding effects.completeVerdict
   verdict = verdict-on n l card k i complete own never
 
@@ -113,7 +114,7 @@ module _ (n : ℕ) (l : List Sheet) (card : List ℕ) (k : Kept n l card) (i : �
   given-is-blank nine = (inside, is-blank-place (placeAt l i given) (sym (blank-same n l card k i lt given inside) ∙ blank-there))
     where
       found : (given < e .length) × (block.blank (blockOf card (e .start + given)) ≡ true)
-      found = place-is-blank n (spareIn n l) (mapIn n l) card (length (map entryIn l)) e i (verdict ∙ nine)
+      found = place-is-blank (lent n (spareIn n l) (mapIn n l) card (length (map entryIn l)) e i) (verdict ∙ nine)
 
       in-list : (t : Bool) → leb (length l) i ≡ t → i < length l
       in-list true out = let q : _≡_ {A = ℕ} 2 9 = same-number 2 9 (sym (beyond-in n l i complete out) ∙ nine) in absurd (omega arith)

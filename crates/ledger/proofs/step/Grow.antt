@@ -22,14 +22,14 @@ use Rattle.calls.proofs.Rows.{clear}
 use Rattle.ledger.specs.Ledger.{Place, Blank, Sheet, Open, standingIn, startIn, lengthIn, sheetAt, freeIn, spareIn, growIn, listed, rowsIn, verdictIn, deedIn}
 use Rattle.ledger.specs.Claim.{entryIn}
 use Rattle.ledger.specs.Steps.{End, endOf}
-use Rattle.ledger.proofs.Agreement.{mapIn, stateOf, Kept, NeverRows, entry-at, verdict-on}
+use Rattle.ledger.proofs.Agreement.{mapIn, stateOf, Matches, NeverRows, entry-at, verdict-on}
 use Rattle.ledger.proofs.Keeping.{keep-grow}
 use Rattle.ledger.proofs.Listed.{spared}
 use Rattle.ledger.proofs.Results as results
 use Rattle.ledger.proofs.Results.{Result, outEnd, out-back, plain-back, one-sheet, result-of}
 use Rattle.ledger.proofs.Sheets.{was-open, grown, Has, more-at}
 
-module _ (n : ℕ) (l : List Sheet) (card : List ℕ) (k : Kept n l card) (i m : ℕ) where
+module _ (n : ℕ) (l : List Sheet) (card : List ℕ) (k : Matches n l card) (i m : ℕ) where
   abbrev call : Call
   call = on i (grow m)
 

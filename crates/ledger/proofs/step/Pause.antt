@@ -15,13 +15,13 @@ use Rattle.calls.specs.Table.{Call, on, pause, rowsFor, tableOf}
 use Rattle.calls.proofs.Rows.{clear}
 use Rattle.ledger.specs.Ledger.{Sheet, Absent, Paused, startIn, lengthIn, placesIn, sheetAt, spareIn, listed, rowsIn, verdictIn, deedIn}
 use Rattle.ledger.specs.Steps.{End, endOf}
-use Rattle.ledger.proofs.Agreement.{mapIn, stateOf, Kept, verdict-at}
+use Rattle.ledger.proofs.Agreement.{mapIn, stateOf, Matches, verdict-at}
 use Rattle.ledger.proofs.Keeping.{keep-places}
 use Rattle.ledger.proofs.Results as results
 use Rattle.ledger.proofs.Results.{Result, outEnd, out-back, plain-back, one-sheet, result-of}
 use Rattle.ledger.proofs.Sheets.{was-absent, sound-none}
 
-module _ (n : ℕ) (l : List Sheet) (card : List ℕ) (k : Kept n l card) (i : ℕ) where
+module _ (n : ℕ) (l : List Sheet) (card : List ℕ) (k : Matches n l card) (i : ℕ) where
   abbrev call : Call
   call = on i pause
 

@@ -23,14 +23,14 @@ use Rattle.card.specs.Calls.{told}
 use Rattle.ledger.specs.Ledger.{Place, Blank, Payload, Sheet, Open, lengthIn, sheetAt, spareIn, putIn, listed, rowsIn, verdictIn, deedIn}
 use Rattle.ledger.specs.Claim.{entryIn}
 use Rattle.ledger.specs.Steps.{End, ending, endOf}
-use Rattle.ledger.proofs.Agreement.{mapIn, stateOf, Kept, entry-at, verdict-on}
+use Rattle.ledger.proofs.Agreement.{mapIn, stateOf, Matches, entry-at, verdict-on}
 use Rattle.ledger.proofs.Keeping.{keep-put}
 use Rattle.ledger.proofs.Listed.{or-left, or-right}
 use Rattle.ledger.proofs.Results as results
 use Rattle.ledger.proofs.Results.{Result, plain-back, one-sheet, result-of}
 use Rattle.ledger.proofs.Sheets.{was-open, Has}
 
-module _ (n : ℕ) (l : List Sheet) (card : List ℕ) (k : Kept n l card) (i p : ℕ) (payload : List ℕ) where
+module _ (n : ℕ) (l : List Sheet) (card : List ℕ) (k : Matches n l card) (i p : ℕ) (payload : List ℕ) where
   abbrev call : Call
   call = on i (put p payload)
 

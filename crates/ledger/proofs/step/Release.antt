@@ -17,14 +17,14 @@ use Rattle.calls.specs.Table.{Call, on, release, rowsFor, tableOf}
 use Rattle.calls.proofs.Rows.{clear}
 use Rattle.ledger.specs.Ledger.{Sheet, Absent, startIn, lengthIn, sheetAt, spareIn, listed, rowsIn, verdictIn, deedIn}
 use Rattle.ledger.specs.Steps.{End, endOf}
-use Rattle.ledger.proofs.Agreement.{mapIn, stateOf, Kept, entry-at, verdict-at}
+use Rattle.ledger.proofs.Agreement.{mapIn, stateOf, Matches, entry-at, verdict-at}
 use Rattle.ledger.proofs.Cover.{length-held}
 use Rattle.ledger.proofs.Keeping.{keep-release}
 use Rattle.ledger.proofs.Listed.{spare-is}
 use Rattle.ledger.proofs.Results as results
 use Rattle.ledger.proofs.Results.{Result, outEnd, out-back, plain-back, one-sheet, result-of}
 
-module _ (n : ℕ) (l : List Sheet) (card : List ℕ) (k : Kept n l card) (i : ℕ) where
+module _ (n : ℕ) (l : List Sheet) (card : List ℕ) (k : Matches n l card) (i : ℕ) where
   abbrev call : Call
   call = on i release
 

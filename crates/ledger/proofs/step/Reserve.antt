@@ -25,7 +25,7 @@ use Rattle.calls.proofs.Rows.{clear}
 use Rattle.ledger.specs.Ledger.{Blank, Sheet, Absent, Open, standingIn, lengthIn, sheetAt, freeIn, spareIn, leastIn, listed, rowsIn, verdictIn, deedIn, toldIn}
 use Rattle.ledger.specs.Claim.{before, Came, Searched}
 use Rattle.ledger.specs.Steps.{End, endOf}
-use Rattle.ledger.proofs.Agreement.{mapIn, stateOf, Kept, NeverRows, free-map, verdict-on}
+use Rattle.ledger.proofs.Agreement.{mapIn, stateOf, Matches, NeverRows, free-map, verdict-on}
 use Rattle.ledger.proofs.Keeping.{keep-reserve}
 use Rattle.ledger.proofs.Listed.{found-fit, spared}
 use Rattle.ledger.proofs.Results as results
@@ -34,7 +34,7 @@ use Rattle.ledger.proofs.Rows.{onwards, from-there}
 use Rattle.ledger.proofs.Search.{searched}
 use Rattle.ledger.proofs.Sheets.{was-absent, reserved, blanks-at}
 
-module _ (n : ℕ) (l : List Sheet) (card : List ℕ) (k : Kept n l card) (i m : ℕ) where
+module _ (n : ℕ) (l : List Sheet) (card : List ℕ) (k : Matches n l card) (i m : ℕ) where
   abbrev call : Call
   call = on i (reserve m)
 

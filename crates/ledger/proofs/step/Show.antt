@@ -20,13 +20,13 @@ use Rattle.card.specs.Calls.{told}
 use Rattle.ledger.specs.Ledger.{Place, Blank, Payload, Sheet, standingIn, lengthIn, placesIn, isBlank, bytesOf, sheetAt, placeAt, spareIn, viewIn, listed, rowsIn, verdictIn, deedIn}
 use Rattle.ledger.specs.Claim.{entryIn, blockIn}
 use Rattle.ledger.specs.Steps.{End, ending, endOf}
-use Rattle.ledger.proofs.Agreement.{mapIn, stateOf, reads, Kept, NeverRows, OwnPlaces, entry-at, verdict-on}
+use Rattle.ledger.proofs.Agreement.{mapIn, stateOf, reads, Matches, NeverRows, OwnPlaces, entry-at, verdict-on}
 use Rattle.ledger.proofs.Listed.{or-left}
 use Rattle.ledger.proofs.Results as results
 use Rattle.ledger.proofs.Results.{Result, plain-back, no-change, result-of}
 use Rattle.ledger.proofs.Sheets.{was-complete, Sized, payload-at}
 
-module _ (n : ℕ) (l : List Sheet) (card : List ℕ) (k : Kept n l card) (i p : ℕ) (buffer : List ℕ) where
+module _ (n : ℕ) (l : List Sheet) (card : List ℕ) (k : Matches n l card) (i p : ℕ) (buffer : List ℕ) where
   abbrev call : Call
   call = on i (show p buffer)
 

@@ -15,11 +15,11 @@ use Rattle.card.specs.Calls.{told}
 use Rattle.ledger.specs.Ledger.{Sheet, sheetAt, spareIn, listed, rowsIn, verdictIn, deedIn}
 use Rattle.ledger.specs.Claim.{entryIn}
 use Rattle.ledger.specs.Steps.{End, ending, endOf}
-use Rattle.ledger.proofs.Agreement.{mapIn, stateOf, Kept, entry-at, verdict-at}
+use Rattle.ledger.proofs.Agreement.{mapIn, stateOf, Matches, entry-at, verdict-at}
 use Rattle.ledger.proofs.Results as results
 use Rattle.ledger.proofs.Results.{Result, plain-back, no-change, result-of}
 
-module _ (n : ℕ) (l : List Sheet) (card : List ℕ) (k : Kept n l card) (i : ℕ) where
+module _ (n : ℕ) (l : List Sheet) (card : List ℕ) (k : Matches n l card) (i : ℕ) where
   abbrev call : Call
   call = on i standing
 

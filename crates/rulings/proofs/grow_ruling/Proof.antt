@@ -14,7 +14,8 @@ use Rattle.rulings.specs.Rulings.{rulingOf}
 use Rattle.standings.specs.declared.Opened.the-variants.{Refused}
 use Rattle.rulings.specs.declared.Ruling.the-variants as ruling
 use Rattle.standings.specs.declared.Standing.the-variants.{Open}
-use Rattle.calls.proofs.Lent.{Lent, lent, limits, extent, refused-first, stands-first}
+use Rattle.calls.specs.Lent.{Lent, lent}
+use Rattle.calls.proofs.Lent.{limits, extent, refused-first, stands-first}
 use Rattle.standings.proofs.Openings.{opened}
 use Rattle.calls.proofs.Room.{growVerdictOn}
 use Rattle.rulings.proofs.grow_ruling.Statement.{statement}

@@ -14,7 +14,8 @@ use Rattle.rulings.specs.Rulings.{rulingOf}
 use Rattle.standings.specs.declared.Opened.the-variants.{Refused}
 use Rattle.rulings.specs.declared.Ruling.the-variants as ruling
 use Rattle.standings.specs.declared.Standing.the-variants.{Absent}
-use Rattle.calls.proofs.Lent.{Lent, lent, limits, refused-first, stands-first}
+use Rattle.calls.specs.Lent.{Lent, lent}
+use Rattle.calls.proofs.Lent.{limits, refused-first, stands-first}
 use Rattle.calls.proofs.Room.{reserveVerdictOn, reserveStartOn}
 use Rattle.rulings.proofs.reserve_ruling.Statement.{statement}
 use Rattle.rulings.proofs.reserve_ruling.Tie as tie

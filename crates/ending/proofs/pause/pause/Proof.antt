@@ -5,6 +5,7 @@ use mathlib.Core.List.{[]}
 use borrow.Author.Needs.{needs}
 use denote.Ref.{now}
 use Rattle.freemap.specs.Blocks.{free}
+use Rattle.calls.specs.Lent.{lent, noCard}
 use Rattle.calls.specs.Effects.{refusalOut}
 use Rattle.standings.specs.Openings.{refusedRow, rowOf}
 use Rattle.standings.specs.Rows.{accepted, refused}
@@ -34,7 +35,7 @@ returns c =
     let a = c .before .before .before .before .before .before .args in
     let told = c .before .before .enum-told .given in
     c .refusal .ensures ∙ ap (refusalOut (a .free) (a .entry)) (c .before .refused-row .ensures ∙ ap refusedRow (told .1))
-    ∙ sym (out (a .n) (a .free) (now (a .map)) (a .c) (a .entry) (a .sheet) (refused (told .0 .0)) (shut (a .n) (a .free) (now (a .map)) (a .c) (a .entry) (a .sheet) (told .0 .0) (sym (c .before .before .before .before .open-sheet .ensures) ∙ told .1)))
+    ∙ sym (out (lent (a .n) (a .free) (now (a .map)) noCard (a .c) (a .entry) (a .sheet)) (refused (told .0 .0)) (shut (lent (a .n) (a .free) (now (a .map)) noCard (a .c) (a .entry) (a .sheet)) (told .0 .0) (sym (c .before .before .before .before .open-sheet .ensures) ∙ told .1)))
 
 enum-told-2 : tie.Need-enum-told-2
 enum-told-2 c = search needs
@@ -51,16 +52,16 @@ returns-2 c =
     let a = here .before .before .before .before .before .args in
     let stands = here .before .opened .given in
     c .refusal2 .ensures ∙ ap (refusalOut (a .free) (a .entry)) (c .before .row-of .ensures)
-    ∙ sym (out (a .n) (a .free) (now (a .map)) (a .c) (a .entry) (a .sheet) (refused (rowOf (stands .0 .0)))
-    (other (a .n) (a .free) (now (a .map)) (a .c) (a .entry) (a .sheet) (stands .0 .0) (sym (here .before .before .before .open-sheet .ensures) ∙ stands .1) (c .before .before .match2 .keys2)))
+    ∙ sym (out (lent (a .n) (a .free) (now (a .map)) noCard (a .c) (a .entry) (a .sheet)) (refused (rowOf (stands .0 .0)))
+    (other (lent (a .n) (a .free) (now (a .map)) noCard (a .c) (a .entry) (a .sheet)) (stands .0 .0) (sym (here .before .before .before .open-sheet .ensures) ∙ stands .1) (c .before .before .match2 .keys2)))
 
 returns-3 : tie.Need-returns-3
 returns-3 c =
     let here = c .before .before in
     let a = here .before .before .before .before .before .args in
     let stands = here .before .opened .given in
-    sym (out (a .n) (a .free) (now (a .map)) (a .c) (a .entry) (a .sheet) accepted
-    (passes (a .n) (a .free) (now (a .map)) (a .c) (a .entry) (a .sheet) (sym (here .before .before .before .open-sheet .ensures) ∙ stands .1 ∙ ap Stands (c .enum-told2 .given .1))))
+    sym (out (lent (a .n) (a .free) (now (a .map)) noCard (a .c) (a .entry) (a .sheet)) accepted
+    (passes (lent (a .n) (a .free) (now (a .map)) noCard (a .c) (a .entry) (a .sheet)) (sym (here .before .before .before .open-sheet .ensures) ∙ stands .1 ∙ ap Stands (c .enum-told2 .given .1))))
 
 pub pause-spec : {M : Type 1} → statement M
 pause-spec =

@@ -6,6 +6,7 @@ use native.Mathlib.Omega.{arith}
 use borrow.Author.Needs.{needs}
 use denote.Ref.{now}
 use Rattle.freemap.specs.Blocks.{free}
+use Rattle.calls.specs.Lent.{lent, noCard}
 use Rattle.calls.specs.Effects.{refusalOut}
 use Rattle.standings.specs.Openings.{refusedRow}
 use Rattle.standings.specs.Rows.{accepted, refused}
@@ -37,7 +38,7 @@ returns : tie.Need-returns
 returns c =
     let here = c .before .before in
     let told = here .enum-told .given in
-    out _ _ _ _ _ _ (refused (told .0 .0)) (shut _ _ _ _ _ _ (told .0 .0) (here .before .before .open-sheet .ensures) (told .1)) _ _
+    out _ (refused (told .0 .0)) (shut _ (told .0 .0) (here .before .before .open-sheet .ensures) (told .1)) _ _
     (c .refusal .ensures ∙ ap (refusalOut _ _) (c .before .refused-row .ensures ∙ ap refusedRow (told .1)))
     refl
 
@@ -53,15 +54,15 @@ same-length-2 c = search needs
 returns-2 : tie.Need-returns-2
 returns-2 c =
     let here = c .before .before .before .before in
-    out _ _ _ _ _ _ (refused 5)
-    (absent _ _ _ _ _ _ (here .before .before .open-sheet .ensures) (here .opened .given .1 ∙ ap Stands (c .before .enum-told2 .given .1))) _ _
+    out _ (refused 5)
+    (absent _ (here .before .before .open-sheet .ensures) (here .opened .given .1 ∙ ap Stands (c .before .enum-told2 .given .1))) _ _
     (c .refusal2 .ensures) refl
 
 sub-if1 : tie.Need-sub-if1
 sub-if1 c =
     let here = c .before .before in
     let a = here .before .before .before .before .before .args in
-    let f = limits (a .n) (a .free) (now (a .map)) (a .c) (a .entry) (a .sheet) (here .opened .given .0 .0) (here .before .before .open-sheet .ensures) (here .opened .given .1) in
+    let f = limits (lent (a .n) (a .free) (now (a .map)) noCard (a .c) (a .entry) (a .sheet)) (here .opened .given .0 .0) (here .before .before .open-sheet .ensures) (here .opened .given .1) in
     omega (arith, f .spare)
 
 refusal-requires-3 : tie.Need-refusal-requires-3
@@ -73,21 +74,21 @@ same-length-3 c = search needs
 returns-3 : tie.Need-returns-3
 returns-3 c =
     let here = c .before .before .before .before in
-    out _ _ _ _ _ _ (refused 4)
-    (over _ _ _ _ _ _ _ (here .before .before .open-sheet .ensures) (here .opened .given .1) (c .before .before .match2 .keys2) (c .before .if1 .taken)) _ _
+    out _ (refused 4)
+    (over _ _ (here .before .before .open-sheet .ensures) (here .opened .given .1) (c .before .before .match2 .keys2) (c .before .if1 .taken)) _ _
     (c .refusal3 .ensures) refl
 
 mark-requires : tie.Need-mark-requires
 mark-requires c κs =
     let here = c .before .before .before .before in
     let a = here .before .before .before .before .before .args in
-    in-map (a .n) (a .free) (now (a .map)) (a .c) (a .entry) (a .sheet) (here .opened .given .0 .0) (here .before .before .open-sheet .ensures) (here .opened .given .1)
+    in-map (lent (a .n) (a .free) (now (a .map)) noCard (a .c) (a .entry) (a .sheet)) (here .opened .given .0 .0) (here .before .before .open-sheet .ensures) (here .opened .given .1)
 
 add-t14 : tie.Need-add-t14
 add-t14 c =
     let here = c .before .before .before .before .before .before .before in
     let a = here .before .before .before .before .before .args in
-    let f = limits (a .n) (a .free) (now (a .map)) (a .c) (a .entry) (a .sheet) (here .opened .given .0 .0) (here .before .before .open-sheet .ensures) (here .opened .given .1) in
+    let f = limits (lent (a .n) (a .free) (now (a .map)) noCard (a .c) (a .entry) (a .sheet)) (here .opened .given .0 .0) (here .before .before .open-sheet .ensures) (here .opened .given .1) in
     omega (arith, f .limit, f .spare, c .before .before .before .before .if1 .left)
 
 same-length-4 : tie.Need-same-length-4
@@ -97,8 +98,8 @@ returns-4 : tie.Need-returns-4
 returns-4 c =
     let if1 = c .before .before .before .before in
     let here = if1 .before .before .before in
-    out _ _ _ _ _ _ accepted
-    (passes _ _ _ _ _ _ _ (here .before .before .open-sheet .ensures) (here .opened .given .1) (if1 .before .match2 .keys2) (if1 .if1 .left)) _ _
+    out _ accepted
+    (passes _ _ (here .before .before .open-sheet .ensures) (here .opened .given .1) (if1 .before .match2 .keys2) (if1 .if1 .left)) _ _
     refl (c .before .before .mark .ensures)
 
 pub release-spec : {M : Type 1} → statement M

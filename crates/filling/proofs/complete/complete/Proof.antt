@@ -17,7 +17,8 @@ use Rattle.filling.specs.declared.Filling.the-variants.{Filled, Blank, B
 use Rattle.standings.specs.declared.Opened.the-variants.{Stands}
 use Rattle.standings.specs.declared.Standing.the-variants.{Open}
 use Rattle.filling.proofs.Fillings.{was-broken, was-blank, was-filled}
-use Rattle.calls.proofs.Lent.{Lent, lent, allFits, standing, first, limits, extent, refused-first, stands-first}
+use Rattle.calls.specs.Lent.{Lent, lent}
+use Rattle.calls.proofs.Lent.{allFits, standing, first, limits, extent, refused-first, stands-first}
 use Rattle.standings.proofs.Openings.{opened, skip, stop, none-left}
 use Rattle.filling.proofs.complete.complete.Statement.{statement}
 use Rattle.filling.proofs.complete.complete.Tie as tie
@@ -30,13 +31,13 @@ module _ (q : Lent) (start blocks : ℕ) (opens : first q ≡ Stands (Open start
     some-broken : filling ≡ Broken → verdict q ≡ refused 4
     some-broken h = admitted q start blocks opens ∙ stop 4 _ _ (ap not (was-broken (blankAt q start) (soundAt q start) blocks (sym seen ∙ h)))
 
-    some-blank : (p : ℕ) → filling ≡ Blank p → outOf (q .spare) (q .entry) (answer.Blank p) ≡ completeOut (q .n) (q .spare) (q .map) (q .card) (q .sheets) (q .entry) (q .sheet)
+    some-blank : (p : ℕ) → filling ≡ Blank p → outOf (q .spare) (q .entry) (answer.Blank p) ≡ completeOut q
     some-blank p h =
         let w = was-blank (blankAt q start) (soundAt q start) blocks p (sym seen ∙ h) in
         ap (λ (p : ℕ). outOf (q .spare) (q .entry) (answer.Blank p)) (sym (w .2) ∙ lowest-is q start blocks opens)
         ∙ out q (refused 9) (admitted q start blocks opens ∙ skip 4 _ _ _ (ap not (w .0)) (stop 9 _ _ (ap not (w .1))))
 
-    all-filled : filling ≡ Filled → outOf (q .spare) (entryOf 0x43 start blocks) answer.Done ≡ completeOut (q .n) (q .spare) (q .map) (q .card) (q .sheets) (q .entry) (q .sheet)
+    all-filled : filling ≡ Filled → outOf (q .spare) (entryOf 0x43 start blocks) answer.Done ≡ completeOut q
     all-filled h =
         let w = was-filled (blankAt q start) (soundAt q start) blocks (sym seen ∙ h) in
         let x = extent q start blocks opens in

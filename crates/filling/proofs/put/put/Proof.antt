@@ -13,6 +13,7 @@ use Rattle.standings.specs.declared.Opened.the-variants as opening
 use Rattle.standings.proofs.Openings.{opened}
 use Rattle.filling.proofs.put.put.Statement.{statement}
 use Rattle.filling.proofs.put.put.Tie as tie
+use Rattle.calls.specs.Lent.{lent}
 use Rattle.calls.proofs.Put.{out, stands, shut, other, past-end, misfit, done, number-fits, in-card}
 
 open-on-requires : tie.Need-open-on-requires
@@ -31,7 +32,7 @@ returns : tie.Need-returns
 returns c =
     let here = c .before in
     let told = here .enum-told .given in
-    out _ _ _ _ _ _ _ _ _ (refused (told .0 .0)) (shut _ _ _ _ _ _ _ _ _ (told .0 .0) (here .before .before .open-on .ensures) (told .1)) _ _
+    out _ _ _ (refused (told .0 .0)) (shut _ _ _ (told .0 .0) (here .before .before .open-on .ensures) (told .1)) _ _
     (ap Refused (c .refused-row .ensures ∙ ap refusedRow (told .1)))
     refl
 
@@ -45,16 +46,16 @@ returns-2 : tie.Need-returns-2
 returns-2 c =
     let here = c .before .before .before in
     let sheet-stands = here .opened .given in
-    out _ _ _ _ _ _ _ _ _ (refused (rowOf (sheet-stands .0 .0)))
-    (other _ _ _ _ _ _ _ _ _ (sheet-stands .0 .0) (here .before .before .open-on .ensures) (sheet-stands .1) (c .before .match2 .keys2)) _ _
+    out _ _ _ (refused (rowOf (sheet-stands .0 .0)))
+    (other _ _ _ (sheet-stands .0 .0) (here .before .before .open-on .ensures) (sheet-stands .1) (c .before .match2 .keys2)) _ _
     (ap Refused (c .row-of .ensures)) refl
 
 returns-3 : tie.Need-returns-3
 returns-3 c =
     let at = c .before .before .stands .given in
     let here = c .before .before .before .before .before in
-    out _ _ _ _ _ _ _ _ _ (refused 3)
-    (past-end _ _ _ _ _ _ _ _ _ (at .0 .0) (at .0 .1 .0)
+    out _ _ _ (refused 3)
+    (past-end _ _ _ (at .0 .0) (at .0 .1 .0)
     (here .before .before .open-on .ensures) (here .opened .given .1 ∙ ap opening.Stands (at .1)) (c .if1 .taken)) _ _
     refl refl
 
@@ -62,8 +63,8 @@ returns-4 : tie.Need-returns-4
 returns-4 c =
     let at = c .before .before .before .stands .given in
     let here = c .before .before .before .before .before .before in
-    out _ _ _ _ _ _ _ _ _ (refused 3)
-    (misfit _ _ _ _ _ _ _ _ _ (at .0 .0) (at .0 .1 .0)
+    out _ _ _ (refused 3)
+    (misfit _ _ _ (at .0 .0) (at .0 .1 .0)
     (here .before .before .open-on .ensures) (here .opened .given .1 ∙ ap opening.Stands (at .1)) (c .before .if1 .left) (c .if2 .taken)) _ _
     refl refl
 
@@ -73,7 +74,7 @@ add-write-block c =
     let here = c .before .before .before .before .before .before .before in
     let a = here .before .before .before .before .before .before .args in
     let fits =
-    number-fits (a .n) (a .free) (now (a .map)) (now (a .card)) (a .c) (a .entry) (a .sheet) (a .place) (now (a .payload)) (at .0 .0) (at .0 .1 .0)
+    number-fits (lent (a .n) (a .free) (now (a .map)) (now (a .card)) (a .c) (a .entry) (a .sheet)) (a .place) (now (a .payload)) (at .0 .0) (at .0 .1 .0)
     (here .before .before .open-on .ensures) (here .opened .given .1 ∙ ap opening.Stands (at .1)) (c .before .before .if1 .left) in
     omega (arith, fits)
 
@@ -83,7 +84,7 @@ write-block-requires c κs =
     let here = c .before .before .before .before .before .before .before in
     let a = here .before .before .before .before .before .before .args in
     let inside =
-    in-card (a .n) (a .free) (now (a .map)) (now (a .card)) (a .c) (a .entry) (a .sheet) (a .place) (now (a .payload)) (at .0 .0) (at .0 .1 .0)
+    in-card (lent (a .n) (a .free) (now (a .map)) (now (a .card)) (a .c) (a .entry) (a .sheet)) (a .place) (now (a .payload)) (at .0 .0) (at .0 .1 .0)
     (here .before .before .open-on .ensures) (here .opened .given .1 ∙ ap opening.Stands (at .1)) (c .before .before .if1 .left) in
     (omega (arith, inside), c .before .if2 .left)
 
@@ -95,7 +96,7 @@ returns-5 c =
     let if2 = c .before .before .before .before in
     let at = if2 .before .before .before .stands .given in
     let here = if2 .before .before .before .before .before .before in
-    done _ _ _ _ _ _ _ _ _ (at .0 .0) (at .0 .1 .0)
+    done _ _ _ (at .0 .0) (at .0 .1 .0)
     (here .before .before .open-on .ensures) (here .opened .given .1 ∙ ap opening.Stands (at .1)) (if2 .before .if1 .left) (if2 .if2 .left) _
     (c .before .before .write-block .ensures)
 

@@ -5,7 +5,7 @@ use Prim.Native.Nat.{_+_}
 use native.Mathlib.Omega.{arith}
 use borrow.Author.Needs.{needs}
 use denote.Ref.{now}
-use Rattle.calls.proofs.Lent.{lent}
+use Rattle.calls.specs.Lent.{lent}
 use Rattle.calls.proofs.Room.{growVerdictOn, grow-room}
 use Rattle.rulings.proofs.Rulings.{accepts, refuses}
 use Rattle.taking.proofs.grow.grow.Statement.{statement}

@@ -4,7 +4,7 @@
 use native.Mathlib.Omega.{arith}
 use borrow.Author.Needs.{needs}
 use denote.Ref.{now}
-use Rattle.calls.proofs.Lent.{lent}
+use Rattle.calls.specs.Lent.{lent}
 use Rattle.calls.proofs.Room.{reserveVerdictOn, reserveStartOn, reserve-room}
 use Rattle.rulings.proofs.Rulings.{accepts, refuses}
 use Rattle.taking.proofs.reserve.reserve.Statement.{statement}

@@ -18,6 +18,7 @@ use Rattle.standings.proofs.Openings.{opened}
 use Rattle.standings.proofs.Tested.{fails, holds}
 use Rattle.telling.proofs.show.show.Statement.{statement}
 use Rattle.telling.proofs.show.show.Tie as tie
+use Rattle.calls.specs.Lent.{lent}
 use Rattle.calls.proofs.Show.{out, stands, shut, other, past-end, misfit, number-fits, in-card, unsound, done}
 
 open-on-requires : tie.Need-open-on-requires
@@ -36,7 +37,7 @@ returns : tie.Need-returns
 returns c =
     let here = c .before in
     let told = here .enum-told .given in
-    out _ _ _ _ _ _ _ _ _ (refused (told .0 .0)) (shut _ _ _ _ _ _ _ _ _ (told .0 .0) (here .before .before .open-on .ensures) (told .1)) _ _
+    out _ _ _ (refused (told .0 .0)) (shut _ _ _ (told .0 .0) (here .before .before .open-on .ensures) (told .1)) _ _
     (ap Refused (c .refused-row .ensures ∙ ap refusedRow (told .1)))
     refl
 
@@ -50,16 +51,16 @@ returns-2 : tie.Need-returns-2
 returns-2 c =
     let here = c .before .before .before in
     let sheet-stands = here .opened .given in
-    out _ _ _ _ _ _ _ _ _ (refused (rowOf (sheet-stands .0 .0)))
-    (other _ _ _ _ _ _ _ _ _ (sheet-stands .0 .0) (here .before .before .open-on .ensures) (sheet-stands .1) (c .before .match2 .keys2)) _ _
+    out _ _ _ (refused (rowOf (sheet-stands .0 .0)))
+    (other _ _ _ (sheet-stands .0 .0) (here .before .before .open-on .ensures) (sheet-stands .1) (c .before .match2 .keys2)) _ _
     (ap Refused (c .row-of .ensures)) refl
 
 returns-3 : tie.Need-returns-3
 returns-3 c =
     let at = c .before .before .stands .given in
     let here = c .before .before .before .before .before in
-    out _ _ _ _ _ _ _ _ _ (refused 3)
-    (past-end _ _ _ _ _ _ _ _ _ (at .0 .0) (at .0 .1 .0)
+    out _ _ _ (refused 3)
+    (past-end _ _ _ (at .0 .0) (at .0 .1 .0)
     (here .before .before .open-on .ensures) (here .opened .given .1 ∙ ap opening.Stands (at .1)) (c .if1 .taken)) _ _
     refl refl
 
@@ -67,8 +68,8 @@ returns-4 : tie.Need-returns-4
 returns-4 c =
     let at = c .before .before .before .stands .given in
     let here = c .before .before .before .before .before .before in
-    out _ _ _ _ _ _ _ _ _ (refused 3)
-    (misfit _ _ _ _ _ _ _ _ _ (at .0 .0) (at .0 .1 .0)
+    out _ _ _ (refused 3)
+    (misfit _ _ _ (at .0 .0) (at .0 .1 .0)
     (here .before .before .open-on .ensures) (here .opened .given .1 ∙ ap opening.Stands (at .1)) (c .before .if1 .left) (c .if2 .taken)) _ _
     refl refl
 
@@ -78,7 +79,7 @@ add-sound-block c =
     let here = c .before .before .before .before .before .before in
     let a = here .before .before .before .before .before .before .args in
     let fits =
-    number-fits (a .n) (a .free) (now (a .map)) (now (a .card)) (a .c) (a .entry) (a .sheet) (a .place) (now (a .buffer)) (at .0 .0) (at .0 .1 .0)
+    number-fits (lent (a .n) (a .free) (now (a .map)) (now (a .card)) (a .c) (a .entry) (a .sheet)) (a .place) (now (a .buffer)) (at .0 .0) (at .0 .1 .0)
     (here .before .before .open-on .ensures) (here .opened .given .1 ∙ ap opening.Stands (at .1)) (c .before .if1 .left) in
     omega (arith, fits)
 
@@ -88,7 +89,7 @@ sound-block-requires c κs =
     let here = c .before .before .before .before .before .before in
     let a = here .before .before .before .before .before .before .args in
     let inside =
-    in-card (a .n) (a .free) (now (a .map)) (now (a .card)) (a .c) (a .entry) (a .sheet) (a .place) (now (a .buffer)) (at .0 .0) (at .0 .1 .0)
+    in-card (lent (a .n) (a .free) (now (a .map)) (now (a .card)) (a .c) (a .entry) (a .sheet)) (a .place) (now (a .buffer)) (at .0 .0) (at .0 .1 .0)
     (here .before .before .open-on .ensures) (here .opened .given .1 ∙ ap opening.Stands (at .1)) (c .before .if1 .left) in
     omega (arith, inside)
 
@@ -100,8 +101,8 @@ returns-5 c =
     let a = here .before .before .before .before .before .before .args in
     let not-sound : sound (a .sheet) (a .place) (blockOf (now (a .card)) (at .0 .0 + a .place)) ≡ false =
     fails (c .before .sound-block .ensures) (c .if3 .taken) in
-    out _ _ _ _ _ _ _ _ _ (refused 4)
-    (unsound _ _ _ _ _ _ _ _ _ (at .0 .0) (at .0 .1 .0)
+    out _ _ _ (refused 4)
+    (unsound _ _ _ (at .0 .0) (at .0 .1 .0)
     (here .before .before .open-on .ensures) (here .opened .given .1 ∙ ap opening.Stands (at .1)) (if2 .before .if1 .left) (if2 .if2 .left) not-sound) _ _
     refl refl
 
@@ -112,7 +113,7 @@ add-copy-payload c =
     let here = if2 .before .before .before .before .before .before in
     let a = here .before .before .before .before .before .before .args in
     let fits =
-    number-fits (a .n) (a .free) (now (a .map)) (now (a .card)) (a .c) (a .entry) (a .sheet) (a .place) (now (a .buffer)) (at .0 .0) (at .0 .1 .0)
+    number-fits (lent (a .n) (a .free) (now (a .map)) (now (a .card)) (a .c) (a .entry) (a .sheet)) (a .place) (now (a .buffer)) (at .0 .0) (at .0 .1 .0)
     (here .before .before .open-on .ensures) (here .opened .given .1 ∙ ap opening.Stands (at .1)) (if2 .before .if1 .left) in
     omega (arith, fits)
 
@@ -123,7 +124,7 @@ copy-payload-requires c κs =
     let here = if2 .before .before .before .before .before .before in
     let a = here .before .before .before .before .before .before .args in
     let inside =
-    in-card (a .n) (a .free) (now (a .map)) (now (a .card)) (a .c) (a .entry) (a .sheet) (a .place) (now (a .buffer)) (at .0 .0) (at .0 .1 .0)
+    in-card (lent (a .n) (a .free) (now (a .map)) (now (a .card)) (a .c) (a .entry) (a .sheet)) (a .place) (now (a .buffer)) (at .0 .0) (at .0 .1 .0)
     (here .before .before .open-on .ensures) (here .opened .given .1 ∙ ap opening.Stands (at .1)) (if2 .before .if1 .left) in
     (omega (arith, inside), if2 .if2 .left)
 
@@ -139,7 +140,7 @@ returns-6 c =
     let a = here .before .before .before .before .before .before .args in
     let is-sound : sound (a .sheet) (a .place) (blockOf (now (a .card)) (at .0 .0 + a .place)) ≡ true =
     holds (if3 .before .sound-block .ensures) (if3 .if3 .left) in
-    done _ _ _ _ _ _ _ _ _ (at .0 .0) (at .0 .1 .0)
+    done _ _ _ (at .0 .0) (at .0 .1 .0)
     (here .before .before .open-on .ensures) (here .opened .given .1 ∙ ap opening.Stands (at .1)) (if2 .before .if1 .left) (if2 .if2 .left) is-sound _
     (c .before .before .copy-payload .ensures)
 

@@ -25,12 +25,12 @@ returns : tie.Need-returns
 returns c =
     let told = c .before .enum-told2 .given in
     ap Refused (c .refused-row .ensures ∙ ap refusedRow (told .1))
-    ∙ sym (out _ _ _ _ _ _ (refused (told .0 .0)) (shut _ _ _ _ _ _ (told .0 .0) (c .before .before .before .open-sheet .ensures) (told .1)))
+    ∙ sym (out _ (refused (told .0 .0)) (shut _ (told .0 .0) (c .before .before .before .open-sheet .ensures) (told .1)))
 
 returns-2 : tie.Need-returns-2
 returns-2 c =
     let told = c .enum-told .given in
-    sym (out _ _ _ _ _ _ accepted (passes _ _ _ _ _ _ (told .0 .0) (c .before .before .open-sheet .ensures) (told .1)))
+    sym (out _ accepted (passes _ (told .0 .0) (c .before .before .open-sheet .ensures) (told .1)))
 
 pub standing-spec : {M : Type 1} → statement M
 standing-spec = tie.close (tie.spec open-sheet-requires enum-told enum-told-2 refused-row-requires returns returns-2)
