@@ -4,7 +4,8 @@
     struct [CRATE::]PATH FIELD ..     a struct that is passed by value or in a slice; its fields, if a loop ends on one
     value NAME ..                     in a crate of walks: any type by value, for which a `prove` puts the struct of this name
     use MODULE NAME ..                a module of antt that has these definitions
-    fn [CRATE::]PATH DEFINITION ..    a callee: what it gives, if anything, and what it leaves in each `&mut` slice
+    fn [CRATE::]PATH DEFINITION ..    a callee: what it gives, if anything, and what it leaves in each `&mut` slice, each of the
+                                      parameters in order; F(D) is D with its arguments put in that order by F
     walk NAME(PARAMS) [-> RESULT]     a walk module; the lines after it are its code, with a type at each let. `by law` at the
                                       end of the line: its functions' contracts follow from what its calls come to
     by CRATE::NAME                    the walk module of another crate; the `prove` lines after it are by it
@@ -41,6 +42,7 @@ class Section:
             self.uses.append((module, names))
         elif word == 'fn':
             path, *definitions = rest.split()
+            definitions = [re.sub(r'(\w+)\((\w+)\)', r'(\1 \2)', d) for d in definitions]
             path = path if '::' in path else f'{self.crate}::{path}'
             self.functions[path.split('::')[-1]] = (path, definitions)
         elif word in ('walk', 'by'):

@@ -1,4 +1,6 @@
 """The proof of one function: its code is that of a walk module, and its callees are those that the list names."""
+import re
+
 from walk.module import HOME, SIGN, proofs
 from walk.text import paragraphs
 
@@ -12,6 +14,7 @@ def proof(section, walk, path, chosen, laws):
         if len(models) != len(c.models):
             raise ValueError(f'{here}::{path}: {function} has {len(models)} definitions, and its call wants {len(c.models)}')
     given = [m for _, _, models in callees for m in models] + laws
+    named = {n for m in given for n in re.findall(r"[^()\s]+", m)}
     of = '' if walk.section is section else f' of the crate {walk.section.crate}'
     lines = [f'{SIGN} `{here}::{path}` meets its contract, by the walk of `{walk.name}.antt`{of}, with the calls of '
              + ', '.join(f'`{function}`' for _, function, _ in callees) + '.',
@@ -20,7 +23,7 @@ def proof(section, walk, path, chosen, laws):
              'use denote.Triple.Spec.{tripleOf}',
              'use denote.Triple.Table.{entered, cited}']
     for module, names in section.uses:
-        wanted = [n for n in names if n in given]
+        wanted = [n for n in names if n in named]
         if wanted:
             lines.append(f'use {module}.{{{", ".join(wanted)}}}')
     if walk.values:

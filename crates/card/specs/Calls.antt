@@ -77,6 +77,13 @@ pub record Kept : Type 0 where
 abbrev pub kept : Shape → List ℕ → List Entry → List ℕ → Kept
 kept shape map entries card = record { shape = shape; map = map; entries = entries; card = card }
 
+-- What is said of that, as a function of what a call is lent in order.
+abbrev pub withCard : {A : Type 0} → (Kept → A) → Shape → List ℕ → List Entry → List ℕ → A
+withCard says shape map entries card = says (kept shape map entries card)
+
+abbrev pub withoutCard : {A : Type 0} → (Kept → A) → Shape → List ℕ → List Entry → A
+withoutCard says shape map entries = says (kept shape map entries noCard)
+
 -- What a call on a sheet is lent, with the card and without: the catalogue gives c and the sheet's entry.
 abbrev pub lentTo : Kept → List ℕ → ℕ → Lent
 lentTo s card sheet =

@@ -2,7 +2,11 @@
 // decision of a call is here or below; the methods of `Shape` only find the entry and store it.
 ghost use mathlib.Core.Path.{_≡_};
 ghost use Rattle.card.specs.Calls.{outcomeOf, freshOutcomeBy, freshMapBy, saveOutcomeBy, loadOutcomeBy};
-ghost use Rattle.card.specs.Cores.{entryLeft, acceptedOf, reserveOutAt, reserveMapAt, reserveCardAt, growOutAt, growMapAt, growCardAt, putOutcomeAt, putCardAt, completeOutAt, pauseOutAt, releaseOutAt, releaseMapAt, showOutcomeAt, showBufferAt, standingOutcomeAt, blocksOf, freeOf};
+ghost use Rattle.card.specs.Cores.{entryLeft, doneBy, lentAt, putOutcomeAt, showOutcomeAt, standingOutcomeAt};
+ghost use Rattle.card.specs.Cores.{blocksOf, spareOf};
+ghost use Rattle.calls.specs.Lent.{noCard};
+ghost use Rattle.calls.specs.Effects.{reserveOut, reserveMap, reserveCard, growOut, growMap, growCard};
+ghost use Rattle.calls.specs.Effects.{putCard, completeOut, pauseOut, releaseOut, releaseMap, showBuffer};
 use crate::Outcome;
 use crate::Shape;
 use calls::Out;
@@ -30,8 +34,9 @@ pub fn outcome_of(shape: Shape, out: Out) -> Outcome
     }
 }
 
-pub fn accepted_of(outcome: Outcome) -> bool
-    ensures { λ r. ⌜ r ≡ acceptedOf outcome ⌝ }
+// A call that answers no values, as fresh, was done.
+pub fn is_done(outcome: Outcome) -> bool
+    ensures { λ r. ⌜ r ≡ doneBy outcome ⌝ }
 {
     let answer = outcome.answer;
     match answer {
@@ -72,9 +77,10 @@ pub fn reserve_core(
     sheet: u32,
     k: u32,
 ) -> Out
-    ensures { λ r. ⌜ (r ≡ reserveOutAt shape (now (map .entry)) (now (card .entry)) slot sheet k)
-        × (now (map .exit) ≡ reserveMapAt shape (now (map .entry)) (now (card .entry)) slot sheet k)
-        × (now (card .exit) ≡ reserveCardAt shape (now (map .entry)) (now (card .entry)) slot sheet k) ⌝ }
+    ensures { λ r. let q = lentAt shape (now (map .entry)) (now (card .entry)) slot sheet in
+        ⌜ (r ≡ reserveOut q k)
+        × (now (map .exit) ≡ reserveMap q k)
+        × (now (card .exit) ≡ reserveCard q k) ⌝ }
 {
     let entry = slot.entry;
     taking::reserve::reserve(
@@ -97,9 +103,10 @@ pub fn grow_core(
     sheet: u32,
     m: u32,
 ) -> Out
-    ensures { λ r. ⌜ (r ≡ growOutAt shape (now (map .entry)) (now (card .entry)) slot sheet m)
-        × (now (map .exit) ≡ growMapAt shape (now (map .entry)) (now (card .entry)) slot sheet m)
-        × (now (card .exit) ≡ growCardAt shape (now (map .entry)) (now (card .entry)) slot sheet m) ⌝ }
+    ensures { λ r. let q = lentAt shape (now (map .entry)) (now (card .entry)) slot sheet in
+        ⌜ (r ≡ growOut q m)
+        × (now (map .exit) ≡ growMap q m)
+        × (now (card .exit) ≡ growCard q m) ⌝ }
 {
     let entry = slot.entry;
     taking::grow::grow(
@@ -123,8 +130,9 @@ pub fn put_core(
     place: u32,
     payload: &[u8],
 ) -> Outcome
-    ensures { λ r. ⌜ (r ≡ putOutcomeAt shape (now (map .entry)) (now (card .entry)) slot sheet place (now (payload .entry)))
-        × (now (card .exit) ≡ putCardAt shape (now (map .entry)) (now (card .entry)) slot sheet place (now (payload .entry))) ⌝ }
+    ensures { λ r. let q = lentAt shape (now (map .entry)) (now (card .entry)) slot sheet in
+        ⌜ (r ≡ putOutcomeAt shape (now (map .entry)) (now (card .entry)) slot sheet place (now (payload .entry)))
+        × (now (card .exit) ≡ putCard q place (now (payload .entry))) ⌝ }
 {
     let entry = slot.entry;
     let answer = filling::put::put(
@@ -145,7 +153,8 @@ pub fn put_core(
 }
 
 pub fn complete_core(shape: Shape, map: &[u64], card: &[u8], slot: Slot, sheet: u32) -> Out
-    ensures { λ r. ⌜ r ≡ completeOutAt shape (now (map .entry)) (now (card .entry)) slot sheet ⌝ }
+    ensures { λ r. let q = lentAt shape (now (map .entry)) (now (card .entry)) slot sheet in
+        ⌜ r ≡ completeOut q ⌝ }
 {
     let entry = slot.entry;
     filling::complete::complete(
@@ -160,14 +169,16 @@ pub fn complete_core(shape: Shape, map: &[u64], card: &[u8], slot: Slot, sheet: 
 }
 
 pub fn pause_core(shape: Shape, map: &[u64], slot: Slot, sheet: u32) -> Out
-    ensures { λ r. ⌜ r ≡ pauseOutAt shape (now (map .entry)) slot sheet ⌝ }
+    ensures { λ r. let q = lentAt shape (now (map .entry)) noCard slot sheet in
+        ⌜ r ≡ pauseOut q ⌝ }
 {
     let entry = slot.entry;
     ending::pause::pause(shape.blocks, shape.free, map, slot.count, entry, sheet)
 }
 
 pub fn release_core(shape: Shape, map: &mut [u64], slot: Slot, sheet: u32) -> Out
-    ensures { λ r. ⌜ (r ≡ releaseOutAt shape (now (map .entry)) slot sheet) × (now (map .exit) ≡ releaseMapAt shape (now (map .entry)) slot sheet) ⌝ }
+    ensures { λ r. let q = lentAt shape (now (map .entry)) noCard slot sheet in
+        ⌜ (r ≡ releaseOut q) × (now (map .exit) ≡ releaseMap q) ⌝ }
 {
     let entry = slot.entry;
     ending::release::release(shape.blocks, shape.free, map, slot.count, entry, sheet)
@@ -182,8 +193,9 @@ pub fn show_core(
     place: u32,
     buffer: &mut [u8],
 ) -> Outcome
-    ensures { λ r. ⌜ (r ≡ showOutcomeAt shape (now (map .entry)) (now (card .entry)) slot sheet place (now (buffer .entry)))
-        × (now (buffer .exit) ≡ showBufferAt shape (now (map .entry)) (now (card .entry)) slot sheet place (now (buffer .entry))) ⌝ }
+    ensures { λ r. let q = lentAt shape (now (map .entry)) (now (card .entry)) slot sheet in
+        ⌜ (r ≡ showOutcomeAt shape (now (map .entry)) (now (card .entry)) slot sheet place (now (buffer .entry)))
+        × (now (buffer .exit) ≡ showBuffer q place (now (buffer .entry))) ⌝ }
 {
     let entry = slot.entry;
     let answer = telling::show::show(
@@ -230,7 +242,7 @@ pub fn blocks_of(shape: Shape) -> u32
 }
 
 pub fn free_of(shape: Shape) -> u32
-    ensures { λ r. ⌜ r ≡ freeOf shape ⌝ }
+    ensures { λ r. ⌜ r ≡ spareOf shape ⌝ }
 {
     shape.free
 }

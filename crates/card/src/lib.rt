@@ -57,7 +57,7 @@ impl Shape {
     {
         let count = catalogue::count(&*catalogue);
         let out = cores::fresh_core(self, blocks, map, count);
-        let accepted = cores::accepted_of(out);
+        let accepted = cores::is_done(out);
         catalogue::clear_if(catalogue, accepted);
         out
     }

@@ -1,7 +1,7 @@
 -- Written by tools/walks: every function (self: Shape, blocks: u32, map: &mut [u64], catalogue: &mut [Entry]) whose code is
 --     let count: usize = count(&*catalogue);
 --     let out: Outcome = core(self, blocks, map, count);
---     let accepted: bool = accepted_of(out);
+--     let accepted: bool = is_done(out);
 --     clear_if(catalogue, accepted);
 --     out
 -- One walk serves every choice of the callees: it takes their names and what their contracts say. The types by value are any, too.
@@ -62,7 +62,7 @@ module _ (Shape Outcome : Value) where
 
   -- ---- the code
   abbrev function : Name → Name → Name → Name → Fn
-  function #count #core #accepted-of #clear-if = record {
+  function #count #core #is-done #clear-if = record {
     lifetimes = 2;
     outlives = [];
     params = 4;
@@ -73,7 +73,7 @@ module _ (Shape Outcome : Value) where
         (seq (assign (place 10 []) (addrOf (place 3 (field 0 ∷ deref (tyInt w64) ∷ []))))
         (seq (assign (place 11 []) (aggregate (copy (place 10 []) ∷ copy (place 3 (field 1 ∷ [])) ∷ [])))
         (seq (call #core (copy (place 1 []) ∷ copy (place 2 []) ∷ copy (place 11 []) ∷ copy (place 5 []) ∷ []) (place 6 []))
-        (seq (call #accepted-of (copy (place 6 []) ∷ []) (place 7 []))
+        (seq (call #is-done (copy (place 6 []) ∷ []) (place 7 []))
         (seq (assign (place 13 []) (addrOf (place 4 (field 0 ∷ deref Entry″.mir ∷ []))))
         (seq (assign (place 14 []) (aggregate (copy (place 13 []) ∷ copy (place 4 (field 1 ∷ [])) ∷ [])))
         (seq (call #clear-if (copy (place 14 []) ∷ copy (place 7 []) ∷ []) (place 12 []))
@@ -124,27 +124,27 @@ module _ (Shape Outcome : Value) where
         abbrev pub core-contract : Contract 𝓤
         core-contract = tripleOf 𝓤 H A core-signature (closing 𝓤 H A core-ended core-clauses)
 
-  -- ---- what `accepted-of` is, and what it ensures
-  abbrev accepted-of-signature : Signature
-  accepted-of-signature = record { lifetimes = 0; outlives = []; params = plain (λ _. (rowOf Outcome)) ∷ []; result = plain (λ _. Boolean) }
+  -- ---- what `is-done` is, and what it ensures
+  abbrev is-done-signature : Signature
+  is-done-signature = record { lifetimes = 0; outlives = []; params = plain (λ _. (rowOf Outcome)) ∷ []; result = plain (λ _. Boolean) }
 
-  abbrev accepted-of-ended : Ended
-  accepted-of-ended = record { signature = accepted-of-signature; kept = (yes, tt) }
+  abbrev is-done-ended : Ended
+  is-done-ended = record { signature = is-done-signature; kept = (yes, tt) }
 
-  abbrev accepted-of-Model : Type 0 → Type 0
-  accepted-of-Model X = (denotes Outcome) → X
+  abbrev is-done-Model : Type 0 → Type 0
+  is-done-Model X = (denotes Outcome) → X
 
-  module _ (accepted-of-out : accepted-of-Model Bool) where
-    abbrev accepted-of-says : (denotes Outcome) → Bool → Type 0
-    accepted-of-says a0 r = r ≡ accepted-of-out a0
+  module _ (is-done-out : is-done-Model Bool) where
+    abbrev is-done-says : (denotes Outcome) → Bool → Type 0
+    is-done-says a0 r = r ≡ is-done-out a0
 
     module _ {M : Type 1} (𝓤 : URA M) where
-      abbrev accepted-of-clauses : Clauses 𝓤 accepted-of-ended
-      accepted-of-clauses κs a = record { ghost = Unit {0}; requires = λ _. emp 𝓤; ensures = λ _ r e. fact 𝓤 (accepted-of-says (a .0) r) }
+      abbrev is-done-clauses : Clauses 𝓤 is-done-ended
+      is-done-clauses κs a = record { ghost = Unit {0}; requires = λ _. emp 𝓤; ensures = λ _ r e. fact 𝓤 (is-done-says (a .0) r) }
 
       module _ (H : Heap 𝓤) (A : Atoms 𝓤) where
-        abbrev pub accepted-of-contract : Contract 𝓤
-        accepted-of-contract = tripleOf 𝓤 H A accepted-of-signature (closing 𝓤 H A accepted-of-ended accepted-of-clauses)
+        abbrev pub is-done-contract : Contract 𝓤
+        is-done-contract = tripleOf 𝓤 H A is-done-signature (closing 𝓤 H A is-done-ended is-done-clauses)
 
   -- ---- what `clear-if` is, and what it ensures
   abbrev clear-if-signature : Signature
@@ -168,7 +168,7 @@ module _ (Shape Outcome : Value) where
         abbrev pub clear-if-contract : Contract 𝓤
         clear-if-contract = tripleOf 𝓤 H A clear-if-signature (closing 𝓤 H A clear-if-ended clear-if-clauses)
 
-  module _ (#count #core #accepted-of #clear-if : Name) (count-out : count-Model ℕ) (core-out : core-Model (denotes Outcome)) (core-x-map : core-Model (List ℕ)) (accepted-of-out : accepted-of-Model Bool) (clear-if-x-catalogue : clear-if-Model (List Entry)) where
+  module _ (#count #core #is-done #clear-if : Name) (count-out : count-Model ℕ) (core-out : core-Model (denotes Outcome)) (core-x-map : core-Model (List ℕ)) (is-done-out : is-done-Model Bool) (clear-if-x-catalogue : clear-if-Model (List Entry)) where
     -- ---- what the chain gives, call by call
     module _ (x-self : (denotes Shape)) (x-blocks : ℕ) (x-map : List ℕ) (x-catalogue : List Entry) where
       abbrev v-count-of : ℕ
@@ -181,7 +181,7 @@ module _ (Shape Outcome : Value) where
       z-core-x-map-of = core-x-map x-self x-blocks x-map v-count-of
 
       abbrev v-accepted-of : Bool
-      v-accepted-of = accepted-of-out v-out-of
+      v-accepted-of = is-done-out v-out-of
 
       abbrev z-clear-if-x-catalogue-of : List Entry
       z-clear-if-x-catalogue-of = clear-if-x-catalogue x-catalogue v-accepted-of
@@ -300,15 +300,15 @@ module _ (Shape Outcome : Value) where
           move ! (2 ∷ 0 ∷ []) $ fjoin ! $ owned ! u32 (Is u32) (uint-makes 𝓤 H A W w32) x-blocks _ is-x-blocks $ fjoin ! $
           owned ! (rowOf Shape) (Is (rowOf Shape)) (Shape .makes 𝓤 H A) x-self _ is-x-self $ fjoin ! $ move ! (1 ∷ 0 ∷ []) $ join ! $ frame ! $ done !
 
-      -- ---- the caller has what `accepted-of` asks
-      abbrev accepted-of-args : (denotes Outcome) × Unit {0}
-      accepted-of-args = (v-out, tt)
+      -- ---- the caller has what `is-done` asks
+      abbrev is-done-args : (denotes Outcome) × Unit {0}
+      is-done-args = (v-out, tt)
 
-      abbrev to-accepted-of : (accepted-of-contract accepted-of-out 𝓤 H A) .Ghost
-      to-accepted-of = ((tt, tt, tt, accepted-of-args, (m-v-out ∷ [], tt)), tt)
+      abbrev to-is-done : (is-done-contract is-done-out 𝓤 H A) .Ghost
+      to-is-done = ((tt, tt, tt, is-done-args, (m-v-out ∷ [], tt)), tt)
 
-      goes-accepted-of : Is (rowOf Outcome) v-out (m-v-out ∷ []) → ent 𝓤 (⋆ 𝓤 H A ([])) ((accepted-of-contract accepted-of-out 𝓤 H A) .pre (to-accepted-of))
-      goes-accepted-of is-v-out =
+      goes-is-done : Is (rowOf Outcome) v-out (m-v-out ∷ []) → ent 𝓤 (⋆ 𝓤 H A ([])) ((is-done-contract is-done-out 𝓤 H A) .pre (to-is-done))
+      goes-is-done is-v-out =
           qed W ([]) ∵
           nothing ! $ nothing ! $ owned ! (rowOf Outcome) (Is (rowOf Outcome)) (Outcome .makes 𝓤 H A) v-out _ is-v-out $ fjoin ! $ move ! (1 ∷ 0 ∷ []) $ join ! $
           frame ! $ done !
@@ -337,11 +337,11 @@ module _ (Shape Outcome : Value) where
           owned ! (rowOf Outcome) (Is (rowOf Outcome)) (Outcome .makes 𝓤 H A) v-out _ is $ move ! (1 ∷ 0 ∷ []) $ done !
 
       -- ---- the walk
-      walk : (𝓣 : Tables 𝓤 H) → Triple 𝓤 (𝓣 .C #count) (count-contract count-out 𝓤 H A) → Triple 𝓤 (𝓣 .C #core) (core-contract core-out core-x-map 𝓤 H A) → Triple 𝓤 (𝓣 .C #accepted-of) (accepted-of-contract accepted-of-out 𝓤 H A) → Triple 𝓤 (𝓣 .C #clear-if) (clear-if-contract clear-if-x-catalogue 𝓤 H A) → ent 𝓤 (onEntry 𝓤 H A signature (κ₀, (κ₁, tt)) (q₀, (q₁, tt)) args vals)
-          (WpFn 𝓤 H (𝓣 .C) (𝓣 .Λ) (function #count #core #accepted-of #clear-if) (m-x-self ∷ m-x-blocks ∷ s-x-map ∷ s-x-catalogue ∷ []) Post)
-      walk 𝓣 known-count known-core known-accepted-of known-clear-if =
+      walk : (𝓣 : Tables 𝓤 H) → Triple 𝓤 (𝓣 .C #count) (count-contract count-out 𝓤 H A) → Triple 𝓤 (𝓣 .C #core) (core-contract core-out core-x-map 𝓤 H A) → Triple 𝓤 (𝓣 .C #is-done) (is-done-contract is-done-out 𝓤 H A) → Triple 𝓤 (𝓣 .C #clear-if) (clear-if-contract clear-if-x-catalogue 𝓤 H A) → ent 𝓤 (onEntry 𝓤 H A signature (κ₀, (κ₁, tt)) (q₀, (q₁, tt)) args vals)
+          (WpFn 𝓤 H (𝓣 .C) (𝓣 .Λ) (function #count #core #is-done #clear-if) (m-x-self ∷ m-x-blocks ∷ s-x-map ∷ s-x-catalogue ∷ []) Post)
+      walk 𝓣 known-count known-core known-is-done known-clear-if =
           qed W ((‵ (flft κ₀ q₀) ⊛ ‵ (flft κ₁ q₁) ⊛ ‵ ftrue) ∷ ‵ (owns ((rowOf Shape) ∷ u32 ∷ MutSlice (named 0) κ₀ u64 ∷ MutSlice (named 1) κ₁ Entry′.the-row ∷ []) args vals) ∷ []) ∵
-          enter ! (𝓣 .C) (𝓣 .Λ) (function #count #core #accepted-of #clear-if) (m-x-self ∷ m-x-blocks ∷ s-x-map ∷ s-x-catalogue ∷ []) _ $
+          enter ! (𝓣 .C) (𝓣 .Λ) (function #count #core #is-done #clear-if) (m-x-self ∷ m-x-blocks ∷ s-x-map ∷ s-x-catalogue ∷ []) _ $
           alloc1 ! (λ l₀. alloc1 ! (λ l₁. alloc1 ! (λ l₂. alloc1 ! (λ l₃. alloc1 ! (λ l₄. alloc1 ! (λ l₅. alloc1 ! (λ l₆. alloc1 ! (λ l₇. alloc1 ! (λ l₈.
           alloc1 ! (λ l₉. alloc1 ! (λ l₁₀. alloc1 ! (λ l₁₁. alloc1 ! (λ l₁₂. alloc1 ! (λ l₁₃. alloc1 ! (λ l₁₄. alloc0 ! $ params1 ! $
           pass1 ! (init ! 26 refl typed-x-self) $ pass1 ! (init ! 24 refl typed-x-blocks) $
@@ -391,25 +391,24 @@ module _ (Shape Outcome : Value) where
           move ! (1 ∷ []) $ drop ! $ lft-end ! tt $ move ! (0 ∷ 2 ∷ 1 ∷ []) $
           use3 W (later (‵ (MutSlice (named 0) κ₀ u64 .own (at-x-map (x-map .name) z-core-x-map) (s-x-map ∷ [])) ⊛ ‵ (flft κ₀ q₀))) (comes-back u64 κ₀ (ν₀-core ∷ []) q₀ (x-map .name) (x-map .ptr .0) (x-map .ptr .1) 𝓤 H A W (named 0) (named 0) (now x-map) (length (now x-map)) refl room-x-map δ₀-core z-core-x-map (ap {B = ℕ} length (sym (e-core .1)) ∙ h-core-x-map)) $
           await ! tt $ split ! $
-          -- accepted-of
-          use0 W (raw ((accepted-of-contract accepted-of-out 𝓤 H A) .pre (to-accepted-of))) (goes-accepted-of (spelled-v-out w-core is-w-core)) $
-          calls-at ! (fmOf 𝓤 H (W .laws) 𝓣) (accepted-of-contract accepted-of-out 𝓤 H A) known-accepted-of (to-accepted-of) (and-then ! (load ! (from ! (stop !)) (look ! 21 refl)) (no-more !)) (λ w-accepted-of.
-          use1 W (later (some (λ (r : Bool). ((‵ ftrue) ⊛ ‵ (Boolean .own r (w-accepted-of ∷ []))) ⊛ raw (ensured 𝓤 H A accepted-of-ended (accepted-of-clauses accepted-of-out 𝓤) tt (accepted-of-args) tt r)))) (id⊢ 𝓤 _) $
-          await ! tt $ pick ! (λ r-accepted-of. split ! $ move ! (1 ∷ []) $
-          use1 W (some (λ (zs-accepted-of : Unit {0} × Unit {0}). ‵ (lasts accepted-of-ended tt (accepted-of-args) zs-accepted-of) ⊛ raw (fact 𝓤 (accepted-of-says accepted-of-out v-out r-accepted-of)))) (id⊢ 𝓤 _) $
-          pick ! (λ zs-accepted-of. split ! $ move ! (1 ∷ []) $ heard ! (accepted-of-says accepted-of-out v-out r-accepted-of) (λ e-accepted-of. fsplit ! $
-          move ! (1 ∷ []) $ drop ! $ drop ! $ split ! $ move ! (1 ∷ []) $
-          rewrite ! 0 (λ (r : Bool). ‵ (Boolean .own r (w-accepted-of ∷ []))) (e-accepted-of) refl $
-          peeks ! Boolean (Is Boolean) (shows 𝓤 H A Boolean) v-accepted (w-accepted-of ∷ []) (λ is-w-accepted-of.
-          land ! (from ! (stop !)) (init ! 20 refl ((bool-lawful 𝓤 H A W .typed) v-accepted _ is-w-accepted-of .0)) $
-          rewrite ! 20 (λ (u : Val). ‵ (fat fullShare tyBool l₇ 0 u)) (ap only (bool-tells v-accepted _ is-w-accepted-of)) refl $ drop ! $ drop ! $
+          -- is-done
+          use0 W (raw ((is-done-contract is-done-out 𝓤 H A) .pre (to-is-done))) (goes-is-done (spelled-v-out w-core is-w-core)) $
+          calls-at ! (fmOf 𝓤 H (W .laws) 𝓣) (is-done-contract is-done-out 𝓤 H A) known-is-done (to-is-done) (and-then ! (load ! (from ! (stop !)) (look ! 21 refl)) (no-more !)) (λ w-is-done.
+          use1 W (later (some (λ (r : Bool). ((‵ ftrue) ⊛ ‵ (Boolean .own r (w-is-done ∷ []))) ⊛ raw (ensured 𝓤 H A is-done-ended (is-done-clauses is-done-out 𝓤) tt (is-done-args) tt r)))) (id⊢ 𝓤 _) $
+          await ! tt $ pick ! (λ r-is-done. split ! $ move ! (1 ∷ []) $
+          use1 W (some (λ (zs-is-done : Unit {0} × Unit {0}). ‵ (lasts is-done-ended tt (is-done-args) zs-is-done) ⊛ raw (fact 𝓤 (is-done-says is-done-out v-out r-is-done)))) (id⊢ 𝓤 _) $
+          pick ! (λ zs-is-done. split ! $ move ! (1 ∷ []) $ heard ! (is-done-says is-done-out v-out r-is-done) (λ e-is-done. fsplit ! $ move ! (1 ∷ []) $
+          drop ! $ drop ! $ split ! $ move ! (1 ∷ []) $ rewrite ! 0 (λ (r : Bool). ‵ (Boolean .own r (w-is-done ∷ []))) (e-is-done) refl $
+          peeks ! Boolean (Is Boolean) (shows 𝓤 H A Boolean) v-accepted (w-is-done ∷ []) (λ is-w-is-done.
+          land ! (from ! (stop !)) (init ! 20 refl ((bool-lawful 𝓤 H A W .typed) v-accepted _ is-w-is-done .0)) $
+          rewrite ! 20 (λ (u : Val). ‵ (fat fullShare tyBool l₇ 0 u)) (ap only (bool-tells v-accepted _ is-w-is-done)) refl $ drop ! $ drop ! $
           -- clear-if
           assigns ! (addr ! (from ! (fld ! refl (hop ! (look-in ! 24 (sub ! 0 refl (whole !))) (stop !))))) (from ! (stop !)) (init ! 6 refl (tt, tt)) $
           assigns ! (agg ! (and-then ! (load ! (from ! (stop !)) (look ! 6 refl)) (and-then ! (load ! (from ! (fld ! refl (stop !))) (look-in ! 24 (sub ! 1 refl (whole !)))) (no-more !)))) (from ! (stop !)) (init ! 4 refl (tt, (tt, (record { fits = room-x-catalogue .0 }, tt)))) $
           lft-new ! tt (λ ν₀-clear-if. move ! (3 ∷ 4 ∷ []) $
           use2 W (later (some (λ (δ : GName). ‵ (MutSlice (named 0) (ν₀-clear-if ∷ []) Entry′.the-row .own (at-x-catalogue δ (now x-catalogue)) (s-x-catalogue ∷ [])) ⊛ ‵ (LentAgain Entry′.the-row κ₁ (ν₀-clear-if ∷ []) q₁ (x-catalogue .name) (x-catalogue .ptr .0) (x-catalogue .ptr .1) δ (now x-catalogue))))) (lends-again Entry′.the-row κ₁ (ν₀-clear-if ∷ []) q₁ (x-catalogue .name) (x-catalogue .ptr .0) (x-catalogue .ptr .1) 𝓤 H A W (named 1) (named 0) (now x-catalogue) (length (now x-catalogue)) refl) $
           await ! tt $ pick ! (λ δ₀-clear-if. split ! $ move ! (2 ∷ 0 ∷ []) $ join ! $
-          use1 W (raw ((clear-if-contract clear-if-x-catalogue 𝓤 H A) .pre (to-clear-if ν₀-clear-if δ₀-clear-if))) (goes-clear-if ν₀-clear-if δ₀-clear-if (spelled-v-accepted w-accepted-of is-w-accepted-of)) $
+          use1 W (raw ((clear-if-contract clear-if-x-catalogue 𝓤 H A) .pre (to-clear-if ν₀-clear-if δ₀-clear-if))) (goes-clear-if ν₀-clear-if δ₀-clear-if (spelled-v-accepted w-is-done is-w-is-done)) $
           calls-at ! (fmOf 𝓤 H (W .laws) 𝓣) (clear-if-contract clear-if-x-catalogue 𝓤 H A) known-clear-if (to-clear-if ν₀-clear-if δ₀-clear-if) (and-then ! (load ! (from ! (stop !)) (look ! 4 refl)) (and-then ! (load ! (from ! (stop !)) (look ! 18 refl)) (no-more !))) (λ w-clear-if.
           use1 W (later (some (λ (r : (Unit {0})). ((‵ (flft (ν₀-clear-if ∷ []) fullShare) ⊛ ‵ ftrue) ⊛ ‵ (Nothing .own r (w-clear-if ∷ []))) ⊛ raw (ensured 𝓤 H A clear-if-ended (clear-if-clauses clear-if-x-catalogue 𝓤) (ν₀-clear-if ∷ [], tt) (clear-if-args δ₀-clear-if) tt r)))) (id⊢ 𝓤 _) $
           await ! tt $ pick ! (λ r-clear-if. split ! $ move ! (1 ∷ []) $
@@ -431,13 +430,13 @@ module _ (Shape Outcome : Value) where
           by ! (exits (spelled-v-out w-core is-w-core) (ap {B = ℕ} length (sym (e-core .1)) ∙ h-core-x-map) (ap {B = ℕ} length (sym (e-clear-if)) ∙ h-clear-if-x-catalogue)))))))))))))))))))))))))))))))))))))))))))))
 
     module _ {M : Type 1} (𝓤 : URA M) (H : Heap 𝓤) (A : Atoms 𝓤) (W : Given 𝓤 H A) where
-      walks : (𝓣 : Tables 𝓤 H) → Triple 𝓤 (𝓣 .C #count) (count-contract count-out 𝓤 H A) → Triple 𝓤 (𝓣 .C #core) (core-contract core-out core-x-map 𝓤 H A) → Triple 𝓤 (𝓣 .C #accepted-of) (accepted-of-contract accepted-of-out 𝓤 H A) → Triple 𝓤 (𝓣 .C #clear-if) (clear-if-contract clear-if-x-catalogue 𝓤 H A) → Walks 𝓤 H A ended stayed (WpFn 𝓤 H (𝓣 .C) (𝓣 .Λ) (function #count #core #accepted-of #clear-if)) (clauses 𝓤)
-      walks 𝓣 known-count known-core known-accepted-of known-clear-if =
-          walked 𝓤 H A ended stayed (clauses 𝓤) (WpFn 𝓤 H (𝓣 .C) (𝓣 .Λ) (function #count #core #accepted-of #clear-if)) (λ κs. ((valsOf Shape), ((uint-vals w32), (slice-vals, (slice-vals, tt)))))
+      walks : (𝓣 : Tables 𝓤 H) → Triple 𝓤 (𝓣 .C #count) (count-contract count-out 𝓤 H A) → Triple 𝓤 (𝓣 .C #core) (core-contract core-out core-x-map 𝓤 H A) → Triple 𝓤 (𝓣 .C #is-done) (is-done-contract is-done-out 𝓤 H A) → Triple 𝓤 (𝓣 .C #clear-if) (clear-if-contract clear-if-x-catalogue 𝓤 H A) → Walks 𝓤 H A ended stayed (WpFn 𝓤 H (𝓣 .C) (𝓣 .Λ) (function #count #core #is-done #clear-if)) (clauses 𝓤)
+      walks 𝓣 known-count known-core known-is-done known-clear-if =
+          walked 𝓤 H A ended stayed (clauses 𝓤) (WpFn 𝓤 H (𝓣 .C) (𝓣 .Λ) (function #count #core #is-done #clear-if)) (λ κs. ((valsOf Shape), ((uint-vals w32), (slice-vals, (slice-vals, tt)))))
           (λ κs. ((Shape .tells), ((uint-tells w32), (mut-slice-tells (named 0) (κs .0) u64, (mut-slice-tells (named 1) (κs .1 .0) Entry′.the-row, tt)))))
-          (λ κs qs bounds a g are. via 𝓤 _ (fst∗ 𝓤 _ (emp 𝓤)) (walk 𝓤 H A W (κs .0) (κs .1 .0) (qs .0) (qs .1 .0) (a .0) (a .1 .0) (a .1 .1 .0) (a .1 .1 .1 .0) (are .0) (are .1 .0) (are .1 .1 .0 .0 .1) (are .1 .1 .1 .0 .0 .1) 𝓣 known-count known-core known-accepted-of known-clear-if))
+          (λ κs qs bounds a g are. via 𝓤 _ (fst∗ 𝓤 _ (emp 𝓤)) (walk 𝓤 H A W (κs .0) (κs .1 .0) (qs .0) (qs .1 .0) (a .0) (a .1 .0) (a .1 .1 .0) (a .1 .1 .1 .0) (are .0) (are .1 .0) (are .1 .1 .0 .0 .1) (are .1 .1 .1 .0 .0 .1) 𝓣 known-count known-core known-is-done known-clear-if))
 
-      pub meets : (𝓣 : Tables 𝓤 H) → Triple 𝓤 (𝓣 .C #count) (count-contract count-out 𝓤 H A) → Triple 𝓤 (𝓣 .C #core) (core-contract core-out core-x-map 𝓤 H A) → Triple 𝓤 (𝓣 .C #accepted-of) (accepted-of-contract accepted-of-out 𝓤 H A) → Triple 𝓤 (𝓣 .C #clear-if) (clear-if-contract clear-if-x-catalogue 𝓤 H A) → Meets 𝓤 H A signature (WpFn 𝓤 H (𝓣 .C) (𝓣 .Λ) (function #count #core #accepted-of #clear-if)) (closing 𝓤 H A ended (clauses 𝓤))
-      meets 𝓣 known-count known-core known-accepted-of known-clear-if =
+      pub meets : (𝓣 : Tables 𝓤 H) → Triple 𝓤 (𝓣 .C #count) (count-contract count-out 𝓤 H A) → Triple 𝓤 (𝓣 .C #core) (core-contract core-out core-x-map 𝓤 H A) → Triple 𝓤 (𝓣 .C #is-done) (is-done-contract is-done-out 𝓤 H A) → Triple 𝓤 (𝓣 .C #clear-if) (clear-if-contract clear-if-x-catalogue 𝓤 H A) → Meets 𝓤 H A signature (WpFn 𝓤 H (𝓣 .C) (𝓣 .Λ) (function #count #core #is-done #clear-if)) (closing 𝓤 H A ended (clauses 𝓤))
+      meets 𝓣 known-count known-core known-is-done known-clear-if =
           walk-meets 𝓤 H A ended stayed W (goes-none 𝓤 H A W 2 (λ _. (rowOf Shape)) yes (λ κs x f. refl), (goes-none 𝓤 H A W 2 (λ _. u32) yes (λ κs x f. refl), (goes-slice 𝓤 H A W 2 0 tt (plain (λ _. u64)), (goes-slice 𝓤 H A W 2 1 tt (plain (λ _. Entry′.the-row)), tt))))
-          (clauses 𝓤) (WpFn 𝓤 H (𝓣 .C) (𝓣 .Λ) (function #count #core #accepted-of #clear-if)) (WpFn-mono 𝓤 H (W .laws) 𝓣 (function #count #core #accepted-of #clear-if)) (walks 𝓣 known-count known-core known-accepted-of known-clear-if)
+          (clauses 𝓤) (WpFn 𝓤 H (𝓣 .C) (𝓣 .Λ) (function #count #core #is-done #clear-if)) (WpFn-mono 𝓤 H (W .laws) 𝓣 (function #count #core #is-done #clear-if)) (walks 𝓣 known-count known-core known-is-done known-clear-if)

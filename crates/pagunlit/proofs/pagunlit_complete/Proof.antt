@@ -4,6 +4,7 @@ use contract.Running.{givenOf, tables, tablesOf}
 use denote.Triple.Spec.{tripleOf}
 use denote.Triple.Table.{entered, cited}
 use Rattle.replies.specs.Replies.{replyOf}
+use Rattle.card.specs.Calls.{withCard}
 use Rattle.card.specs.Calls.{completeOutcome, completeEntries}
 use Rattle.catalogue.proofs.Values.{Value, valueOf}
 use Rattle.card.proofs.Shape as Shape′
@@ -36,7 +37,7 @@ unfolding code.routine tablesOf
 pagunlit-complete-spec 𝓤 H 𝓜 𝓖 𝓡 =
     entered 𝓤 H (tripleOf 𝓤 H (𝓖 .A) pagunlit-complete.signature (pagunlit-complete.spec 𝓤 H (𝓖 .A) (𝓜 .mem) (𝓡 .run)))
     (tables 𝓤 H 𝓜 𝓡 code.env .C) (tables 𝓤 H 𝓜 𝓡 code.env .Λ) #pagunlit-complete code.function (code.unfolded 𝓤 H 𝓜 𝓡)
-    (meets Shape Outcome Reply call-def.name reply-of-def.name completeOutcome completeEntries replyOf
+    (meets Shape Outcome Reply call-def.name reply-of-def.name (withCard completeOutcome) (withCard completeEntries) replyOf
     𝓤 H (𝓖 .A) (givenOf 𝓤 H 𝓜 𝓖) (tablesOf 𝓤 H 𝓜 (tables 𝓤 H 𝓜 𝓡 code.env))
-    (cited 𝓤 H (call-contract Shape Outcome Reply completeOutcome completeEntries 𝓤 H (𝓖 .A)) 𝓜 𝓡 code.env call-def.name call-def.routine code.calls-card·Shape·complete (call-met.met 𝓤 H 𝓜 𝓖 𝓡))
+    (cited 𝓤 H (call-contract Shape Outcome Reply (withCard completeOutcome) (withCard completeEntries) 𝓤 H (𝓖 .A)) 𝓜 𝓡 code.env call-def.name call-def.routine code.calls-card·Shape·complete (call-met.met 𝓤 H 𝓜 𝓖 𝓡))
     (cited 𝓤 H (reply-of-contract Shape Outcome Reply replyOf 𝓤 H (𝓖 .A)) 𝓜 𝓡 code.env reply-of-def.name reply-of-def.routine code.calls-replies·reply-of (reply-of-met.met 𝓤 H 𝓜 𝓖 𝓡)))

@@ -6,7 +6,9 @@ use denote.Triple.Table.{entered, cited}
 use lib.ListN.{set}
 use Rattle.catalogue.specs.Entries.{slotAt}
 use Rattle.card.specs.Calls.{outcomeOf}
-use Rattle.card.specs.Cores.{entryLeft, growOutAt, growMapAt, growCardAt}
+use Rattle.card.specs.Cores.{entryLeft}
+use Rattle.card.specs.Cores.{withSlot}
+use Rattle.calls.specs.Effects.{growOut, growMap, growCard}
 use Rattle.catalogue.proofs.Values.{Value, valueOf}
 use Rattle.catalogue.proofs.Slot as Slot′
 use Rattle.catalogue.proofs.Slot.Laws as Slot″
@@ -49,10 +51,10 @@ unfolding code.routine tablesOf
 grow-spec 𝓤 H 𝓜 𝓖 𝓡 =
     entered 𝓤 H (tripleOf 𝓤 H (𝓖 .A) grow.signature (grow.spec 𝓤 H (𝓖 .A) (𝓜 .mem) (𝓡 .run)))
     (tables 𝓤 H 𝓜 𝓡 code.env .C) (tables 𝓤 H 𝓜 𝓡 code.env .Λ) #grow code.function (code.unfolded 𝓤 H 𝓜 𝓡)
-    (meets Slot Out Shape Outcome find-def.name core-def.name entry-of-def.name store-def.name outcome-of-def.name slotAt growOutAt growMapAt growCardAt entryLeft set outcomeOf
+    (meets Slot Out Shape Outcome find-def.name core-def.name entry-of-def.name store-def.name outcome-of-def.name slotAt (withSlot growOut) (withSlot growMap) (withSlot growCard) entryLeft set outcomeOf
     𝓤 H (𝓖 .A) (givenOf 𝓤 H 𝓜 𝓖) (tablesOf 𝓤 H 𝓜 (tables 𝓤 H 𝓜 𝓡 code.env))
     (cited 𝓤 H (find-contract Slot Out Shape Outcome slotAt 𝓤 H (𝓖 .A)) 𝓜 𝓡 code.env find-def.name find-def.routine code.calls-catalogue·find (find-met.met 𝓤 H 𝓜 𝓖 𝓡))
-    (cited 𝓤 H (core-contract Slot Out Shape Outcome growOutAt growMapAt growCardAt 𝓤 H (𝓖 .A)) 𝓜 𝓡 code.env core-def.name core-def.routine code.calls-card·cores·grow-core (core-met.met 𝓤 H 𝓜 𝓖 𝓡))
+    (cited 𝓤 H (core-contract Slot Out Shape Outcome (withSlot growOut) (withSlot growMap) (withSlot growCard) 𝓤 H (𝓖 .A)) 𝓜 𝓡 code.env core-def.name core-def.routine code.calls-card·cores·grow-core (core-met.met 𝓤 H 𝓜 𝓖 𝓡))
     (cited 𝓤 H (entry-of-contract Slot Out Shape Outcome entryLeft 𝓤 H (𝓖 .A)) 𝓜 𝓡 code.env entry-of-def.name entry-of-def.routine code.calls-card·cores·entry-of (entry-of-met.met 𝓤 H 𝓜 𝓖 𝓡))
     (cited 𝓤 H (store-contract Slot Out Shape Outcome set 𝓤 H (𝓖 .A)) 𝓜 𝓡 code.env store-def.name store-def.routine code.calls-catalogue·store (store-met.met 𝓤 H 𝓜 𝓖 𝓡))
     (cited 𝓤 H (outcome-of-contract Slot Out Shape Outcome outcomeOf 𝓤 H (𝓖 .A)) 𝓜 𝓡 code.env outcome-of-def.name outcome-of-def.routine code.calls-card·cores·outcome-of (outcome-of-met.met 𝓤 H 𝓜 𝓖 𝓡)))
