@@ -1,5 +1,5 @@
 /*
- * Times the proved functions of crates block and card_blocks beside what a C
+ * Times the proved functions of crates block and blocks_of_card beside what a C
  * program would do instead. Each line has the least time of many interleaved
  * repeats, in nanoseconds for one call, and how many times as fast the proved
  * one is.
@@ -13,7 +13,7 @@
 #include <time.h>
 #include <zlib.h>
 
-/* Of crate block_bench: 3 if the blocks do not lie inside the card. */
+/* Of crate bench_block: 3 if the blocks do not lie inside the card. */
 uint32_t bench_zero_blocks(uint8_t *card, size_t length, uint32_t b, uint32_t k);
 uint32_t bench_blank_block(const uint8_t *card, size_t length, uint32_t b);
 

@@ -10,7 +10,7 @@
 
 enum { BLOCKS = 262144, WORDS = BLOCKS / 64, MAPS = 8 };
 
-// The crate map_bench.
+// The crate bench_map.
 uint32_t map_bench_search(const uint64_t *map, size_t words, uint32_t n, uint32_t k);
 struct counts map_bench_survey(const uint64_t *map, size_t words, uint32_t n);
 

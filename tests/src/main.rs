@@ -1,6 +1,6 @@
 //! What the example programs must print, worked out bit by bit. The word given names the set of examples:
 //!
-//!     cargo run --release --offline --manifest-path tests/Cargo.toml -- map < crates/map_examples/stdin
+//!     cargo run --release --offline --manifest-path tests/Cargo.toml -- map < crates/example_map/stdin
 //!     cargo run --release --offline --manifest-path tests/Cargo.toml -- calls
 //!
 //! For the map it is worked out from the list of examples on standard input, which `map-list` writes.
@@ -19,7 +19,7 @@ fn main() {
             let list = std::io::read_to_string(std::io::stdin()).unwrap();
             print!("{}", map::text(&list));
         }
-        Some("calls") => print!("{}", calls::examples()),
+        Some("calls") => print!("{}", refusals::examples()),
         Some("image") => std::io::stdout().write_all(&printer::example()).unwrap(),
         Some("print") => {
             let mut image = Vec::new();

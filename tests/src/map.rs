@@ -1,5 +1,5 @@
 //! The examples of the map: a list of commands (searches, marks, tests, fresh maps and surveys), and what the example program
-//! must print of a list. A command is a letter with up to two numbers; crates/map_examples/src/main.rt says what each does.
+//! must print of a list. A command is a letter with up to two numbers; crates/example_map/src/main.rt says what each does.
 
 use crate::blocks::*;
 use crate::random::{self, digest, Random};

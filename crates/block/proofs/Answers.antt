@@ -6,7 +6,7 @@ use mathlib.Core.List.{List}
 use Prim.Native.Nat.{ℕ}
 use lib.ListN.{length}
 use borrow.Author.Tests.{eq-eqb, ne-eqb}
-use Rattle.sums.specs.Sealed.{sealed, checkHolds}
+use Rattle.block_seals.specs.Sealed.{sealed, checkHolds}
 use Rattle.block.specs.Calls.{checkAnswer, sealAnswer, afterSeal}
 
 module _ (block : List ℕ) where

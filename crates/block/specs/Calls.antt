@@ -5,7 +5,7 @@ use mathlib.Core.List.{List}
 use Prim.Native.Nat.{ℕ}
 use lib.Dec.{eqb}
 use lib.ListN.{length}
-use Rattle.sums.specs.Sealed.{sealed, checkHolds}
+use Rattle.block_seals.specs.Sealed.{sealed, checkHolds}
 
 -- a payload of 496 bytes and a block of 512
 abbrev pub rightLengths : List ℕ → List ℕ → Bool

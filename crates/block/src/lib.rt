@@ -4,8 +4,8 @@
 // `check` are for the dispenser's C program: they take slices of any length, and refuse a wrong one with 3.
 ghost use mathlib.Core.Path.{_≡_};
 ghost use Rattle.block.specs.Calls.{sealAnswer, afterSeal, checkAnswer};
-use checking::check_holds;
-use sealing::write_sealed;
+use block_seals::check_holds;
+use block_seals::write_sealed;
 
 // Bytes of a block.
 pub const BLOCK: usize = 512;

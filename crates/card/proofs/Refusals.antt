@@ -7,20 +7,20 @@ use mathlib.Core.List.{List}
 use Prim.Native.Nat.{ℕ, _+_, _-_}
 use lib.Dec.{eqb}
 use lib.ListN.{length, set}
-use Rattle.freemap.specs.Maps as maps
-use Rattle.freemap.specs.Maps.{marked}
-use Rattle.card_blocks.specs.Card.{blockOf, withBlock, zeroed}
-use Rattle.sums.specs.Sealed.{sealed, payloadOf}
-use Rattle.catalogue.specs.Entries.{entryAt, clearedIf}
+use Rattle.map_blocks.specs.Maps as maps
+use Rattle.map_blocks.specs.Maps.{marked}
+use Rattle.blocks_of_card.specs.Card.{blockOf, withBlock, zeroed}
+use Rattle.block_seals.specs.Sealed.{sealed, payloadOf}
+use Rattle.catalogue.specs.Entries.{entryAt, clearedIf, openMark, completeMark, pausedMark, absentMark}
 use Rattle.catalogue.specs.declared.Entry.{Entry}
 use Rattle.catalogue.proofs.Storing.{stored-back}
-use Rattle.calls.specs.Lent.{Lent, noCard}
-use Rattle.calls.specs.Effects as effects
-use Rattle.standings.specs.Limits.{freshFits}
-use Rattle.standings.specs.Rows.{Verdict, refused, settle}
-use Rattle.standings.specs.declared.Answer.{Answer}
-use Rattle.standings.specs.declared.Answer.the-variants.{Done, Start, Blank, Refused}
-use Rattle.calls.specs.declared.Out.{Out}
+use Rattle.refusals.specs.Lent.{Lent, noCard}
+use Rattle.refusals.specs.Effects as effects
+use Rattle.catalogue_standings.specs.Limits.{freshFits}
+use Rattle.catalogue_standings.specs.Rows.{Verdict, refused, settle}
+use Rattle.catalogue_standings.specs.declared.Answer.{Answer}
+use Rattle.catalogue_standings.specs.declared.Answer.the-variants.{Done, Start, Blank, Refused}
+use Rattle.refusals.specs.declared.Out.{Out}
 use Rattle.card.specs.declared.Shape.{Shape}
 use Rattle.card.specs.Calls.{Kept, lentTo, told, outcomeOf, isDone, freshOutcome, freshMap, freshEntries, reserveOutcome, reserveMap, reserveEntries, reserveCard, growOutcome, growMap, growEntries, growCard, putOutcome, putCard, completeOutcome, completeEntries, pauseOutcome, pauseEntries, releaseOutcome, releaseMap, releaseEntries, showOutcome, showBuffer}
 
@@ -53,7 +53,7 @@ module _ (s : Kept) (sheet number : ℕ) where
       let start : ℕ = effects.reserveStart q k in
       let back =
       handed-back (s .shape) (s .entries) sheet (Refused number) _
-      (ap (λ (v : Verdict). settle v (effects.outOf (free - k) (effects.entryOf 0x4f start k) (Start start)) (effects.refusalOut free e)) h) in (
+      (ap (λ (v : Verdict). settle v (effects.outOf (free - k) (effects.entryOf openMark start k) (Start start)) (effects.refusalOut free e)) h) in (
         back .0,
         ap (λ (v : Verdict). settle v (marked (s .map) start k false) (λ number. s .map)) h,
         back .1,
@@ -69,7 +69,7 @@ module _ (s : Kept) (sheet number : ℕ) where
   grow-refused m h =
       let back =
       handed-back (s .shape) (s .entries) sheet (Refused number) _
-      (ap (λ (v : Verdict). settle v (effects.outOf (free - m) (effects.entryOf 0x4f (e .start) (e .length + m)) Done) (effects.refusalOut free e)) h) in (
+      (ap (λ (v : Verdict). settle v (effects.outOf (free - m) (effects.entryOf openMark (e .start) (e .length + m)) Done) (effects.refusalOut free e)) h) in (
         back .0,
         ap (λ (v : Verdict). settle v (marked (s .map) (e .start + e .length) m false) (λ number. s .map)) h,
         back .1,
@@ -93,13 +93,13 @@ module _ (s : Kept) (sheet number : ℕ) where
   complete-refused h =
       let place : ℕ = effects.blankPlace q in
       handed-back (s .shape) (s .entries) sheet (cond (eqb number 9) (Blank place) (Refused number)) _
-      (ap (λ (v : Verdict). settle v (effects.outOf free (effects.entryOf 0x43 (e .start) (e .length)) Done) (λ k. effects.outOf free e (cond (eqb k 9) (Blank place) (Refused k)))) h)
+      (ap (λ (v : Verdict). settle v (effects.outOf free (effects.entryOf completeMark (e .start) (e .length)) Done) (λ k. effects.outOf free e (cond (eqb k 9) (Blank place) (Refused k)))) h)
 
   pub pause-refused : effects.pauseVerdict bare ≡ refused number
       → (pauseOutcome s sheet ≡ told (s .shape) (Refused number)) × (pauseEntries s sheet ≡ s .entries)
   unfolding effects.pauseOut
   pause-refused h =
-      handed-back (s .shape) (s .entries) sheet (Refused number) _ (ap (λ (v : Verdict). settle v (effects.outOf free (effects.entryOf 0x50 0 0) Done) (effects.refusalOut free e)) h)
+      handed-back (s .shape) (s .entries) sheet (Refused number) _ (ap (λ (v : Verdict). settle v (effects.outOf free (effects.entryOf pausedMark 0 0) Done) (effects.refusalOut free e)) h)
 
   pub release-refused : effects.releaseVerdict bare ≡ refused number
       → (releaseOutcome s sheet ≡ told (s .shape) (Refused number))
@@ -108,7 +108,7 @@ module _ (s : Kept) (sheet number : ℕ) where
   unfolding effects.releaseOut effects.releaseMap
   release-refused h =
       let back =
-      handed-back (s .shape) (s .entries) sheet (Refused number) _ (ap (λ (v : Verdict). settle v (effects.outOf (free + e .length) (effects.entryOf 0x41 0 0) Done) (effects.refusalOut free e)) h) in
+      handed-back (s .shape) (s .entries) sheet (Refused number) _ (ap (λ (v : Verdict). settle v (effects.outOf (free + e .length) (effects.entryOf absentMark 0 0) Done) (effects.refusalOut free e)) h) in
       (back .0, ap (λ (v : Verdict). settle v (marked (s .map) (e .start) (e .length) true) (λ number. s .map)) h, back .1)
 
   pub show-refused : (place : ℕ) (buffer : List ℕ) → effects.showVerdict q place buffer ≡ refused number

@@ -1,5 +1,5 @@
 -- What each public call hands back and leaves, of all its arguments in order: the contracts of `impl Shape`, of the C library
--- and of the ledger's steps are made of these. A call on a sheet finds the sheet's entry, does what the crate calls says of it,
+-- and of the ledger's steps are made of these. A call on a sheet finds the sheet's entry, does what the crate refusals says of it,
 -- and stores the entry that it hands back.
 -- Assumes nothing.
 use mathlib.Core.Bool.{Bool, true, false, cond}
@@ -7,17 +7,17 @@ use mathlib.Core.List.{List}
 use Prim.Native.Nat.{ℕ}
 use lib.Dec.{eqb}
 use lib.ListN.{length, set}
-use Rattle.freemap.specs.Maps as maps
+use Rattle.map_blocks.specs.Maps as maps
 use Rattle.catalogue.specs.Entries.{entryAt, clearedIf}
 use Rattle.catalogue.specs.declared.Entry.{Entry}
-use Rattle.standings.specs.Limits.{freshFits}
-use Rattle.standings.specs.declared.Answer.{Answer}
-use Rattle.standings.specs.declared.Answer.the-variants.{Done, Start, Stands, Counted, Blank, Refused}
-use Rattle.whole_calls.specs.Answers as whole
-use Rattle.calls.specs.Lent.{Lent, lent, noCard}
-use Rattle.calls.specs.Effects as effects
-use Rattle.calls.specs.declared.Out.{Out}
-use Rattle.soundness.specs.Sound.{State}
+use Rattle.catalogue_standings.specs.Limits.{freshFits}
+use Rattle.catalogue_standings.specs.declared.Answer.{Answer}
+use Rattle.catalogue_standings.specs.declared.Answer.the-variants.{Done, Start, Reads, Counted, Blank, Refused}
+use Rattle.call_search.specs.Answers as whole
+use Rattle.refusals.specs.Lent.{Lent, lent, noCard}
+use Rattle.refusals.specs.Effects as effects
+use Rattle.refusals.specs.declared.Out.{Out}
+use Rattle.image_soundness.specs.Sound.{State}
 use Rattle.image.specs.Effects as images
 use Rattle.image.specs.declared.Loaded.{Loaded}
 use Rattle.card.specs.declared.Outcome.{Outcome}
@@ -34,7 +34,7 @@ outcomeOf shape out = record { shape = record { blocks = shape .blocks; free = o
 abbrev pub isDone : Answer → Bool
 isDone Done = true
 isDone (Start s) = false
-isDone (Stands m s l) = false
+isDone (Reads m s l) = false
 isDone (Counted f r l) = false
 isDone (Blank p) = false
 isDone (Refused k) = false

@@ -6,9 +6,9 @@ use mathlib.Core.List.{List}
 use Prim.Native.Nat.{ℕ}
 use Rattle.catalogue.specs.declared.Entry.{Entry}
 use Rattle.catalogue.specs.declared.Slot.{Slot}
-use Rattle.calls.specs.Lent.{Lent, lent, noCard}
-use Rattle.calls.specs.Effects as effects
-use Rattle.calls.specs.declared.Out.{Out}
+use Rattle.refusals.specs.Lent.{Lent, lent, noCard}
+use Rattle.refusals.specs.Effects as effects
+use Rattle.refusals.specs.declared.Out.{Out}
 use Rattle.card.specs.Calls.{told, isDone}
 use Rattle.card.specs.declared.Shape.{Shape}
 use Rattle.card.specs.declared.Outcome.{Outcome}

@@ -4,16 +4,16 @@ ghost use mathlib.Core.Path.{_≡_};
 ghost use Rattle.card.specs.Calls.{outcomeOf, freshOutcomeBy, freshMapBy, saveOutcomeBy, loadOutcomeBy};
 ghost use Rattle.card.specs.Cores.{entryLeft, doneBy, lentAt, putOutcomeAt, showOutcomeAt, standingOutcomeAt};
 ghost use Rattle.card.specs.Cores.{blocksOf, spareOf};
-ghost use Rattle.calls.specs.Lent.{noCard};
-ghost use Rattle.calls.specs.Effects.{reserveOut, reserveMap, reserveCard, growOut, growMap, growCard};
-ghost use Rattle.calls.specs.Effects.{putCard, completeOut, pauseOut, releaseOut, releaseMap, showBuffer};
+ghost use Rattle.refusals.specs.Lent.{noCard};
+ghost use Rattle.refusals.specs.Effects.{reserveOut, reserveMap, reserveCard, growOut, growMap, growCard};
+ghost use Rattle.refusals.specs.Effects.{putCard, completeOut, pauseOut, releaseOut, releaseMap, showBuffer};
 use crate::Outcome;
 use crate::Shape;
-use calls::Out;
 use catalogue::Entry;
 use catalogue::Slot;
+use catalogue_standings::Answer;
 use image::Loaded;
-use standings::Answer;
+use refusals::Out;
 
 pub fn entry_of(out: Out) -> Entry
     ensures { λ r. ⌜ r ≡ entryLeft out ⌝ }
@@ -42,7 +42,7 @@ pub fn is_done(outcome: Outcome) -> bool
     match answer {
         Answer::Done => true,
         Answer::Start(_) => false,
-        Answer::Stands(_, _, _) => false,
+        Answer::Reads(_, _, _) => false,
         Answer::Counted(_, _, _) => false,
         Answer::Blank(_) => false,
         Answer::Refused(_) => false,
@@ -54,7 +54,7 @@ pub fn is_done(outcome: Outcome) -> bool
 pub fn fresh_core(shape: Shape, blocks: u32, map: &mut [u64], count: usize) -> Outcome
     ensures { λ r. ⌜ (r ≡ freshOutcomeBy shape blocks (now (map .entry)) count) × (now (map .exit) ≡ freshMapBy shape blocks (now (map .entry)) count) ⌝ }
 {
-    if whole_calls::fresh(blocks, map, count) {
+    if call_search::fresh(blocks, map, count) {
         return Outcome {
             shape: Shape {
                 blocks: blocks,
@@ -83,7 +83,7 @@ pub fn reserve_core(
         × (now (card .exit) ≡ reserveCard q k) ⌝ }
 {
     let entry = slot.entry;
-    taking::reserve::reserve(
+    call_reserve::reserve::reserve(
         shape.blocks,
         shape.free,
         map,
@@ -109,7 +109,7 @@ pub fn grow_core(
         × (now (card .exit) ≡ growCard q m) ⌝ }
 {
     let entry = slot.entry;
-    taking::grow::grow(
+    call_reserve::grow::grow(
         shape.blocks,
         shape.free,
         map,
@@ -135,7 +135,7 @@ pub fn put_core(
         × (now (card .exit) ≡ putCard q place (now (payload .entry))) ⌝ }
 {
     let entry = slot.entry;
-    let answer = filling::put::put(
+    let answer = call_put::put::put(
         shape.blocks,
         shape.free,
         map,
@@ -157,7 +157,7 @@ pub fn complete_core(shape: Shape, map: &[u64], card: &[u8], slot: Slot, sheet: 
         ⌜ r ≡ completeOut q ⌝ }
 {
     let entry = slot.entry;
-    filling::complete::complete(
+    call_put::complete::complete(
         shape.blocks,
         shape.free,
         map,
@@ -173,7 +173,7 @@ pub fn pause_core(shape: Shape, map: &[u64], slot: Slot, sheet: u32) -> Out
         ⌜ r ≡ pauseOut q ⌝ }
 {
     let entry = slot.entry;
-    ending::pause::pause(shape.blocks, shape.free, map, slot.count, entry, sheet)
+    call_release::pause::pause(shape.blocks, shape.free, map, slot.count, entry, sheet)
 }
 
 pub fn release_core(shape: Shape, map: &mut [u64], slot: Slot, sheet: u32) -> Out
@@ -181,7 +181,7 @@ pub fn release_core(shape: Shape, map: &mut [u64], slot: Slot, sheet: u32) -> Ou
         ⌜ (r ≡ releaseOut q) × (now (map .exit) ≡ releaseMap q) ⌝ }
 {
     let entry = slot.entry;
-    ending::release::release(shape.blocks, shape.free, map, slot.count, entry, sheet)
+    call_release::release::release(shape.blocks, shape.free, map, slot.count, entry, sheet)
 }
 
 pub fn show_core(
@@ -198,7 +198,7 @@ pub fn show_core(
         × (now (buffer .exit) ≡ showBuffer q place (now (buffer .entry))) ⌝ }
 {
     let entry = slot.entry;
-    let answer = telling::show::show(
+    let answer = call_show::show::show(
         shape.blocks,
         shape.free,
         map,
@@ -219,7 +219,7 @@ pub fn standing_core(shape: Shape, map: &[u64], slot: Slot, sheet: u32) -> Outco
     ensures { λ r. ⌜ r ≡ standingOutcomeAt shape (now (map .entry)) slot sheet ⌝ }
 {
     let entry = slot.entry;
-    let answer = telling::standing::standing(
+    let answer = call_show::standing::standing(
         shape.blocks,
         shape.free,
         map,

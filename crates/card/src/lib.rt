@@ -5,10 +5,10 @@ mod cores;
 
 ghost use mathlib.Core.Bool.{true};
 ghost use mathlib.Core.Path.{_≡_};
-ghost use Rattle.calls.specs.Lent.{noCard};
+ghost use Rattle.refusals.specs.Lent.{noCard};
 ghost use Rattle.card.specs.Calls.{kept, freshOutcome, freshMap, freshEntries, searchOutcome, surveyOutcome, reserveOutcome, reserveMap, reserveEntries, reserveCard, growOutcome, growMap, growEntries, growCard, putOutcome, putCard, completeOutcome, completeEntries, pauseOutcome, pauseEntries, releaseOutcome, releaseMap, releaseEntries, showOutcome, showBuffer, standingOutcome, saveOutcome, saveScratch, saveImage, loadOutcome, loadMap, loadEntries, loadScratch};
 use catalogue::Entry;
-use standings::Answer;
+use catalogue_standings::Answer;
 
 // n and the carried free count.
 #[repr(C)]
@@ -29,9 +29,9 @@ impl Shape {
 
     pub const PAYLOAD: usize = block::PAYLOAD;
 
-    pub const BLOCKS: u32 = standings::opening::BLOCKS;
+    pub const BLOCKS: u32 = catalogue_standings::opening::BLOCKS;
 
-    pub const SHEETS: usize = standings::opening::SHEETS;
+    pub const SHEETS: usize = catalogue_standings::opening::SHEETS;
 
     // That the constants are document 01's numbers. It is for its contract, which holds them to that.
     pub fn constants_hold() -> bool
@@ -66,7 +66,7 @@ impl Shape {
     pub fn search(self, map: &[u64], k: u32) -> Outcome
         ensures { λ r. ⌜ r ≡ searchOutcome self (now (map .entry)) k ⌝ }
     {
-        let answer = whole_calls::search(self.blocks, self.free, map, k);
+        let answer = call_search::search(self.blocks, self.free, map, k);
         Outcome {
             shape: self,
             answer: answer,
@@ -77,7 +77,7 @@ impl Shape {
     pub fn survey(self, map: &[u64]) -> Outcome
         ensures { λ r. ⌜ r ≡ surveyOutcome self (now (map .entry)) ⌝ }
     {
-        let answer = whole_calls::survey(self.blocks, self.free, map);
+        let answer = call_search::survey(self.blocks, self.free, map);
         Outcome {
             shape: self,
             answer: answer,
@@ -228,7 +228,7 @@ impl Shape {
     {
         let n = cores::blocks_of(self);
         let free = cores::free_of(self);
-        let number = saving::save(n, free, map, catalogue, scratch, image);
+        let number = image_save::save(n, free, map, catalogue, scratch, image);
         cores::save_outcome(self, number)
     }
 
@@ -246,7 +246,7 @@ impl Shape {
             × (now (catalogue .exit) ≡ loadEntries self (now (image .entry)) (now (map .entry)) (now (catalogue .entry)) (now (scratch .entry)))
             × (now (scratch .exit) ≡ loadScratch self (now (image .entry)) (now (map .entry)) (now (catalogue .entry)) (now (scratch .entry))) ⌝ }
     {
-        let loaded = loading::load(image, map, catalogue, scratch);
+        let loaded = image_load::load(image, map, catalogue, scratch);
         cores::load_outcome(self, loaded)
     }
 }

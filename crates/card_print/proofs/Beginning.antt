@@ -6,15 +6,15 @@ use mathlib.Core.Bool.{true, false}
 use mathlib.Core.List.{List}
 use lib.ListN.{length}
 use borrow.Author.Tests.{eq-eqb, ne-eqb}
-use Rattle.freemap.specs.Blocks.{free}
+use Rattle.map_blocks.specs.Blocks.{free}
 use Rattle.survey.specs.Survey.{countsOf}
 use Rattle.survey.specs.declared.Counts.{Counts}
-use Rattle.standings.specs.Limits.{shapeFits}
+use Rattle.catalogue_standings.specs.Limits.{shapeFits}
 use Rattle.image.specs.declared.Loaded.{Loaded}
-use Rattle.printing.specs.Sheets.{headCursor, headWritten}
-use Rattle.printing.specs.Text.{refusalText}
-use Rattle.writing.specs.Writing.{Writes}
-use Rattle.printing.specs.declared.Cursor.{Cursor}
+use Rattle.printer.specs.Sheets.{headCursor, headWritten}
+use Rattle.printer.specs.Text.{refusalText}
+use Rattle.printer.specs.Writing.{Writes}
+use Rattle.printer.specs.declared.Cursor.{Cursor}
 use Rattle.card_print.specs.Beginnings.{refusalCursor, refusalWritten, beginCursor, beginWritten}
 
 pub refused-at : (number : ℕ) (text : List ℕ) (r : ℕ) (text′ : List ℕ) → Writes (refusalText number) text 0 r text′

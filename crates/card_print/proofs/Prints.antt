@@ -8,26 +8,26 @@ use native.Mathlib.Omega.{arith}
 use lib.Dec.{eqb}
 use lib.ListN.{length}
 use borrow.Author.Tests.{ne-eqb}
-use Rattle.freemap.specs.Blocks.{free}
+use Rattle.map_blocks.specs.Blocks.{free}
 use Rattle.survey.specs.Survey.{countsOf}
 use Rattle.survey.specs.declared.Counts.{Counts}
 use Rattle.catalogue.specs.declared.Entry.{Entry}
-use Rattle.standings.specs.Limits.{shapeFits}
-use Rattle.standings.specs.Rows.{Verdict, accepted, refused, settle}
+use Rattle.catalogue_standings.specs.Limits.{shapeFits}
+use Rattle.catalogue_standings.specs.Rows.{Verdict, accepted, refused, settle}
 use Rattle.image.specs.Effects.{rowNumber, loadResult, loadMap, loadEntries, loadScratch}
-use Rattle.frames.specs.Frames.{totalOf}
+use Rattle.image_frames.specs.Frames.{totalOf}
 use Rattle.image.specs.Image.{sheetsIn, stateIn}
 use Rattle.image.specs.Table.{loadVerdict}
 use Rattle.image.specs.declared.Loaded.{Loaded}
 use Rattle.image.proofs.Fitting.{head-to, load-fits-to}
 use Rattle.image.proofs.Journey.{entries-length, map-length}
 use Rattle.image.proofs.Verdicts.{accepted-to, load-accepted}
-use Rattle.printing.specs.Sheets.{linesCursor, linesWritten, placeOf}
-use Rattle.printing.specs.Text.{stateText, refusalText}
-use Rattle.writing.specs.Writing.{Writes}
-use Rattle.printing.specs.declared.Cursor.{Cursor}
-use Rattle.printing.proofs.Cursors.{cursor-stays, text-stays}
-use Rattle.printing.proofs.Lines.{describes}
+use Rattle.printer.specs.Sheets.{linesCursor, linesWritten, placeOf}
+use Rattle.printer.specs.Text.{stateText, refusalText}
+use Rattle.printer.specs.Writing.{Writes}
+use Rattle.printer.specs.declared.Cursor.{Cursor}
+use Rattle.printer.proofs.Cursors.{cursor-stays, text-stays}
+use Rattle.printer.proofs.Lines.{describes}
 use Rattle.card_print.specs.Beginnings.{refusalCursor, refusalWritten, beginCursor, beginWritten}
 use Rattle.card_print.specs.Printed.{Prints}
 

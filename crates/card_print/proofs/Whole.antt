@@ -7,27 +7,27 @@ use mathlib.Core.Bool.{Bool, true, false}
 use mathlib.Core.List.{List, [], _∷_}
 use native.Mathlib.Omega.{arith}
 use lib.ListN.{length}
-use Rattle.freemap.specs.Blocks.{free}
-use Rattle.byte_counts.specs.Runs.{headOf, longestOf}
-use Rattle.byte_counts.proofs.Bytes.{runs-length}
+use Rattle.map_blocks.specs.Blocks.{free}
+use Rattle.survey_bytes.specs.Runs.{headOf, longestOf}
+use Rattle.survey_bytes.proofs.Bytes.{runs-length}
 use Rattle.survey.specs.Survey.{blocks, countsOf}
 use Rattle.catalogue.specs.declared.Entry.{Entry}
-use Rattle.standings.specs.Rows.{Row, row, Verdict, accepted, refused, firstOf, settle}
-use Rattle.soundness.specs.Sound.{State, undamaged, sound}
-use Rattle.soundness.proofs.Covers.{head-undamaged, tail-undamaged}
-use Rattle.soundness.proofs.Damage.{extent-inside}
-use Rattle.soundness.proofs.WhenSound.{sound-to}
-use Rattle.frames.specs.Frames.{totalOf}
+use Rattle.catalogue_standings.specs.Rows.{Row, row, Verdict, accepted, refused, firstOf, settle}
+use Rattle.image_soundness.specs.Sound.{State, undamaged, sound}
+use Rattle.image_soundness.proofs.Covers.{head-undamaged, tail-undamaged}
+use Rattle.image_soundness.proofs.Damage.{extent-inside}
+use Rattle.image_soundness.proofs.WhenSound.{sound-to}
+use Rattle.image_frames.specs.Frames.{totalOf}
 use Rattle.image.specs.Effects.{rowNumber}
-use Rattle.image.specs.Image.{framesFor, imageOf, blocksIn, spareIn, sheetsIn, stateIn}
+use Rattle.image.specs.Image.{framesFor, imageOf, blocksIn, freeCountIn, sheetsIn, stateIn}
 use Rattle.image.specs.Table.{saveFits, saveVerdict, loadRows, loadVerdict}
 use Rattle.image.proofs.Fitting.{head-to}
 use Rattle.image.proofs.Journey.{Words, entries-length, saved-state, saved-accepted}
 use Rattle.image.proofs.Verdicts.{accepted-to, to-saved}
-use Rattle.printing.specs.Text.{AllNumbers, Printable, stateText, refusalText}
-use Rattle.printing.proofs.Room.{card-whole, refusal-whole}
-use Rattle.writing.specs.Writing.{Writes}
-use Rattle.card_print.specs.Printed.{printedOf, Prints, room, Stands}
+use Rattle.printer.specs.Text.{AllNumbers, Printable, stateText, refusalText}
+use Rattle.printer.proofs.Room.{card-whole, refusal-whole}
+use Rattle.printer.specs.Writing.{Writes}
+use Rattle.card_print.specs.Printed.{printedOf, Prints, room, Begins}
 
 -- ---- the number of a refusal
 
@@ -102,14 +102,14 @@ module _ (image : List ℕ) (maplen count scratchlen : ℕ) where
       → Printable (stateIn image .blocks) (stateIn image .spare) (countsOf (free (stateIn image .map)) (stateIn image .blocks)) (stateIn image .entries)
   loaded-printable e =
       let a = accepted-to image maplen count scratchlen e in
-      let h = head-to (blocksIn image) (spareIn image) (sheetsIn image) (totalOf image) (a .first) in
+      let h = head-to (blocksIn image) (freeCountIn image) (sheetsIn image) (totalOf image) (a .first) in
       printable (stateIn image) (h .limits .limit) (h .limits .spare) (omega (arith, h .count .few, entries-length image (sheetsIn image))) (a .whole)
 
   pub printed-whole : (text text′ : List ℕ) (r : ℕ) → room ≤ length text → Writes (printedOf image maplen count scratchlen) text 0 r text′
-      → Stands (printedOf image maplen count scratchlen) r text′
+      → Begins (printedOf image maplen count scratchlen) r text′
   printed-whole text text′ r h w = go (loadVerdict image maplen count scratchlen) refl w
     where
-      go : (v : Verdict) → loadVerdict image maplen count scratchlen ≡ v → Writes (settle v card refusalText) text 0 r text′ → Stands (settle v card refusalText) r text′
+      go : (v : Verdict) → loadVerdict image maplen count scratchlen ≡ v → Writes (settle v card refusalText) text 0 r text′ → Begins (settle v card refusalText) r text′
       go accepted e w =
           card-whole (stateIn image .blocks) (stateIn image .spare) (countsOf (free (stateIn image .map)) (stateIn image .blocks)) (stateIn image .entries) text text′ r (loaded-printable e) (omega (arith, h)) w
       go (refused number) e w =
@@ -119,7 +119,7 @@ module _ (image : List ℕ) (maplen count scratchlen : ℕ) where
 -- in the words of the contract of `print_image`
 pub prints-whole : (image map : List ℕ) (entries : List Entry) (scratch text : List ℕ) (r : ℕ) (map′ : List ℕ) (entries′ : List Entry) (scratch′ text′ : List ℕ)
     → room ≤ length text → Prints image map entries scratch text r map′ entries′ scratch′ text′
-    → Stands (printedOf image (length map) (length entries) (length scratch)) r text′
+    → Begins (printedOf image (length map) (length entries) (length scratch)) r text′
 prints-whole image map entries scratch text r map′ entries′ scratch′ text′ h w = printed-whole image (length map) (length entries) (length scratch) text text′ r h w
 
 -- ---- what is printed of the image of a state that can be saved
@@ -143,6 +143,6 @@ module _ (s : State) (words : Words (s .map)) (fit : saveFits (s .blocks) (s .sp
       ∙ ap text-of (saved-state s (length (s .map)) image-length words saves)
 
   -- so its text stands there, whole
-  pub saved-whole : (text text′ : List ℕ) (r : ℕ) → room ≤ length text → Writes printed text 0 r text′ → Stands (text-of s) r text′
+  pub saved-whole : (text text′ : List ℕ) (r : ℕ) → room ≤ length text → Writes printed text 0 r text′ → Begins (text-of s) r text′
   saved-whole text text′ r h w =
-      subst (λ (bytes : List ℕ). Stands bytes r text′) saved-printed (printed-whole (imageOf s) (length (s .map)) (length (s .entries)) (length (s .map)) text text′ r h w)
+      subst (λ (bytes : List ℕ). Begins bytes r text′) saved-printed (printed-whole (imageOf s) (length (s .map)) (length (s .entries)) (length (s .map)) text text′ r h w)

@@ -6,14 +6,14 @@ use mathlib.Core.Bool.{true, cond}
 use mathlib.Core.List.{List}
 use lib.Dec.{eqb}
 use lib.ListN.{length}
-use Rattle.freemap.specs.Blocks.{free}
+use Rattle.map_blocks.specs.Blocks.{free}
 use Rattle.survey.specs.Survey.{countsOf}
-use Rattle.standings.specs.Limits.{shapeFits}
+use Rattle.catalogue_standings.specs.Limits.{shapeFits}
 use Rattle.image.specs.declared.Loaded.{Loaded}
-use Rattle.printing.specs.Sheets.{cursor, headCursor, headWritten}
-use Rattle.printing.specs.Text.{refusalText}
-use Rattle.writing.specs.Writing.{behind, written}
-use Rattle.printing.specs.declared.Cursor.{Cursor}
+use Rattle.printer.specs.Sheets.{cursor, headCursor, headWritten}
+use Rattle.printer.specs.Text.{refusalText}
+use Rattle.printer.specs.Writing.{behind, written}
+use Rattle.printer.specs.declared.Cursor.{Cursor}
 
 unfoldable pub refusalCursor : ℕ → List ℕ → Cursor
 refusalCursor number text = cursor (behind text 0 (refusalText number)) 0 true

@@ -6,11 +6,11 @@ use mathlib.Core.Path.{_≡_}
 use mathlib.Core.List.{List}
 use lib.ListN.{length, take}
 use Rattle.catalogue.specs.declared.Entry.{Entry}
-use Rattle.standings.specs.Rows.{settle}
+use Rattle.catalogue_standings.specs.Rows.{settle}
 use Rattle.image.specs.Image.{stateIn}
 use Rattle.image.specs.Table.{loadVerdict}
-use Rattle.printing.specs.Text.{stateText, refusalText}
-use Rattle.writing.specs.Writing.{Writes}
+use Rattle.printer.specs.Text.{stateText, refusalText}
+use Rattle.printer.specs.Writing.{Writes}
 
 -- Of an image, loaded into a map, a catalogue and a scratch of these lengths.
 abbrev pub printedOf : List ℕ → ℕ → ℕ → ℕ → List ℕ
@@ -29,5 +29,5 @@ abbrev pub room : ℕ
 room = 32768
 
 -- All of some bytes stand at the beginning of a text, and r is their number.
-abbrev pub Stands : List ℕ → ℕ → List ℕ → Type 0
-Stands bytes r text = (r ≡ length bytes) × (take r text ≡ bytes)
+abbrev pub Begins : List ℕ → ℕ → List ℕ → Type 0
+Begins bytes r text = (r ≡ length bytes) × (take r text ≡ bytes)

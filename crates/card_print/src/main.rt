@@ -44,9 +44,9 @@ fn print_card(image: &[u8], map: &mut [u64], scratch: &mut [u64], text: &mut [u8
         start: 0,
         length: 0,
     }; 1024];
-    let words = (frames::number(image, 0) as usize + 63) / 64;
+    let words = (image_frames::number(image, 0) as usize + 63) / 64;
     let w = smaller(words, smaller(map.len(), scratch.len()));
-    let c = smaller(frames::number(image, 2) as usize, 1024);
+    let c = smaller(image_frames::number(image, 2) as usize, 1024);
     let used = print::print_with(image, &mut map[..w], entries, c, &mut scratch[..w], text);
     let end = smaller(used, text.len());
     io::write_all(STDOUT_FILENO, &text[..end]);

@@ -4,13 +4,13 @@ ghost use Prim.Native.Nat.{_≤_};
 ghost use Rattle.card_print.specs.Beginnings.{refusalCursor, refusalWritten, beginCursor, beginWritten};
 ghost use Rattle.card_print.specs.Printed.{Prints};
 use catalogue::Entry;
+use catalogue_standings::opening::shape_fits;
 use image::Loaded;
-use printing::Cursor;
-use printing::describe_refusal;
-use printing::place_of;
-use printing::write_head;
-use printing::write_sheets;
-use standings::opening::shape_fits;
+use printer::Cursor;
+use printer::describe_refusal;
+use printer::place_of;
+use printer::write_head;
+use printer::write_sheets;
 
 // Writes the text of a refusal. No line of a sheet goes behind it.
 fn refuse(number: u32, text: &mut [u8]) -> Cursor
@@ -51,7 +51,7 @@ pub fn print_image(
         (now (map .exit)) (now (catalogue .exit)) (now (scratch .exit)) (now (text .exit)) ⌝ }
 {
     let count = catalogue::count(&*catalogue);
-    let loaded = loading::load(image, map, catalogue, scratch);
+    let loaded = image_load::load(image, map, catalogue, scratch);
     let first = begin(loaded, &*map, count, text);
     let last = write_sheets(&*catalogue, first, text);
     place_of(last)

@@ -6,10 +6,11 @@ use Prim.Native.Nat.{ℕ, _*_, _/_, _%_, _≤_, _<_}
 use native.Mathlib.Omega.{arith}
 use lib.Dec.{eqb, leb}
 use borrow.Author.Tests.{eqb-true, leb-true, eq-eqb, ne-eqb, lt-leb, le-leb}
-use Rattle.freemap.proofs.Bools.{and-left, and-right}
-use Rattle.standings.specs.Limits.{shapeFits, sheetsFit}
-use Rattle.standings.proofs.Limits.{Fits, fits}
-use Rattle.image.specs.Image.{wordsFor, framesFor}
+use Rattle.map_blocks.specs.Maps.{wordsFor}
+use Rattle.laws.proofs.Bools.{and-left, and-right}
+use Rattle.catalogue_standings.specs.Limits.{shapeFits, sheetsFit}
+use Rattle.catalogue_standings.proofs.Limits.{Fits, fits}
+use Rattle.image.specs.Image.{framesFor}
 use Rattle.image.specs.Table.{saveFits, wholeBlocks, headFits, loadFits}
 
 pub record Sheets (c : ℕ) : Type 0 where

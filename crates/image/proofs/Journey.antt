@@ -8,25 +8,26 @@ use Prim.Native.Nat.{ℕ, zero, suc, _+_, _-_, _*_, _≤_, _<_}
 use native.Mathlib.Omega.{arith}
 use lib.ListN.{length, getD, take, drop, replicate, length-append, length-replicate, length-drop, take-append-drop}
 use lib.Seq.{take-add, drop-at, drop-drop}
-use Rattle.freemap.specs.Blocks.{free}
-use Rattle.byte_slices.specs.Numbers.{bytes4, numberAt}
-use Rattle.sums.specs.Sealed.{blank}
-use Rattle.sums.proofs.Blank.{blank-zeros, blank-is-zeros}
-use Rattle.byte_slices.proofs.Numbers.{bytes4-length, number-at}
-use Rattle.standings.specs.Rows.{accepted}
-use Rattle.standings.specs.Limits.{shapeFits}
+use Rattle.map_blocks.specs.Maps.{wordsFor}
+use Rattle.map_blocks.specs.Blocks.{free}
+use Rattle.block_bytes.specs.Numbers.{bytes4, numberAt}
+use Rattle.block_seals.specs.Sealed.{blank}
+use Rattle.block_seals.proofs.Blank.{blank-zeros, blank-is-zeros}
+use Rattle.block_bytes.proofs.Numbers.{bytes4-length, number-at}
+use Rattle.catalogue_standings.specs.Rows.{accepted}
+use Rattle.catalogue_standings.specs.Limits.{shapeFits}
 use Rattle.catalogue.specs.declared.Entry.{Entry}
-use Rattle.frames.specs.Frames.{Bytes, frames, bodyOf, totalOf, framed, sealedImage}
-use Rattle.frames.specs.Numbers.{wordBytes, wordsAt}
-use Rattle.frames.proofs.Bodies.{body-length}
-use Rattle.frames.proofs.Framing.{frames-length, frames-total, frames-body, frames-hold, framed-back, bytes-back}
-use Rattle.frames.proofs.Recovered.{body-bytes, words-back, words-stored}
-use Rattle.frames.proofs.Stored.{wordBytes-length, wordsAt-length}
-use Rattle.soundness.specs.Sound.{State, sound, undamaged}
-use Rattle.soundness.proofs.Covers.{head-undamaged, tail-undamaged}
-use Rattle.soundness.proofs.Damage.{extent-inside, mark-small}
-use Rattle.soundness.proofs.WhenSound.{sound-to}
-use Rattle.image.specs.Image.{wordsFor, contentLength, framesFor, entryBytes, body, imageOf, entriesAt, blocksIn, spareIn, sheetsIn, entriesIn, mapIn, stateIn, filled}
+use Rattle.image_frames.specs.Frames.{Bytes, frames, bodyOf, totalOf, framed, sealedImage}
+use Rattle.image_frames.specs.Numbers.{wordBytes, wordsAt}
+use Rattle.image_frames.proofs.Bodies.{body-length}
+use Rattle.image_frames.proofs.Framing.{frames-length, frames-total, frames-body, frames-hold, framed-back, bytes-back}
+use Rattle.image_frames.proofs.Recovered.{body-bytes, words-back, words-stored}
+use Rattle.image_frames.proofs.Stored.{wordBytes-length, wordsAt-length}
+use Rattle.image_soundness.specs.Sound.{State, sound, undamaged}
+use Rattle.image_soundness.proofs.Covers.{head-undamaged, tail-undamaged}
+use Rattle.image_soundness.proofs.Damage.{extent-inside, mark-small}
+use Rattle.image_soundness.proofs.WhenSound.{sound-to}
+use Rattle.image.specs.Image.{contentLength, framesFor, entryBytes, body, imageOf, entriesAt, blocksIn, freeCountIn, sheetsIn, entriesIn, mapIn, stateIn, filled}
 use Rattle.image.specs.Table.{saveVerdict, headFits, loadFits, loadVerdict}
 use Rattle.image.proofs.Fitting.{SaveFits, save-fits-to, whole-to, to-whole, Head, head-to, to-head, to-load-fits}
 use Rattle.image.proofs.Verdicts.{Saved, saved-to, Accepted, accepted-to, to-accepted}
@@ -138,8 +139,8 @@ module _ (image : List ℕ) (maplen count scratchlen : ℕ) (small : Bytes image
   abbrev map : List ℕ
   map = mapIn image n c
 
-  head : Head n (spareIn image) c (totalOf image)
-  head = head-to n (spareIn image) c (totalOf image) (facts .first)
+  head : Head n (freeCountIn image) c (totalOf image)
+  head = head-to n (freeCountIn image) c (totalOf image) (facts .first)
 
   long : length b ≡ 496 * framesFor n c
   long = body-length image ∙ ap (λ (k : ℕ). 496 * k) (head .exact)
@@ -147,8 +148,8 @@ module _ (image : List ℕ) (maplen count scratchlen : ℕ) (small : Bytes image
   bytes : Bytes b
   bytes = body-bytes image small
 
-  first-bytes : bytes4 n ++ bytes4 (spareIn image) ++ bytes4 c ≡ take 12 b
-  unfolding blocksIn spareIn sheetsIn
+  first-bytes : bytes4 n ++ bytes4 (freeCountIn image) ++ bytes4 c ≡ take 12 b
+  unfolding blocksIn freeCountIn sheetsIn
   first-bytes =
       let l = long in
       ap₂ (λ (x y : List ℕ). (x ++ y) ++ bytes4 (numberAt b 8)) (bytes-back b 0 bytes (omega arith)) (bytes-back b 4 bytes (omega arith))
@@ -172,7 +173,7 @@ module _ (image : List ℕ) (maplen count scratchlen : ℕ) (small : Bytes image
   body-back : body (stateIn image) ≡ b
   unfolding body
   body-back =
-      ap (λ (k : ℕ). (bytes4 n ++ bytes4 (spareIn image) ++ bytes4 k) ++ entryBytes entries ++ wordBytes map ++ replicate (496 * framesFor n k - contentLength n k) 0) (entries-length image c)
+      ap (λ (k : ℕ). (bytes4 n ++ bytes4 (freeCountIn image) ++ bytes4 k) ++ entryBytes entries ++ wordBytes map ++ replicate (496 * framesFor n k - contentLength n k) 0) (entries-length image c)
       ∙ ap₂ (λ (x y : List ℕ). x ++ y ++ wordBytes map ++ replicate (496 * framesFor n c - contentLength n c) 0) first-bytes entry-bytes
       ∙ ap₂ (λ (x y : List ℕ). x ++ y ++ replicate (496 * framesFor n c - contentLength n c) 0) (sym (take-add 12 (12 * c) b)) word-bytes
       ∙ ap₂ _++_ (sym (take-add (12 + 12 * c) (8 * wordsFor n) b)) fill-bytes
@@ -261,8 +262,8 @@ module _ (s : State) (scratchlen bufferlen : ℕ) (words : Words (s .map)) (v : 
       let a : H ++ E ++ M ++ Z ≡ bytes4 N ++ (bytes4 (s .spare) ++ (bytes4 C ++ (E ++ (M ++ Z)))) = simp append-assoc in
       ap (λ (l : List ℕ). numberAt l 0) (image-body ∙ a) ∙ number-at [] (bytes4 (s .spare) ++ (bytes4 C ++ (E ++ (M ++ Z)))) N 0 refl (omega (arith, fit .limits .limit))
 
-  image-spare : spareIn image ≡ s .spare
-  unfolding spareIn
+  image-spare : freeCountIn image ≡ s .spare
+  unfolding freeCountIn
   image-spare =
       let a : H ++ E ++ M ++ Z ≡ bytes4 N ++ (bytes4 (s .spare) ++ (bytes4 C ++ (E ++ (M ++ Z)))) = simp append-assoc in
       ap (λ (l : List ℕ). numberAt l 4) (image-body ∙ a) ∙ number-at (bytes4 N) (bytes4 C ++ (E ++ (M ++ Z))) (s .spare) 4 (bytes4-length N) (omega (arith, fit .limits .limit, fit .limits .spare))
@@ -294,7 +295,7 @@ module _ (s : State) (scratchlen bufferlen : ℕ) (words : Words (s .map)) (v : 
   -- the state that stands in the image is the one saved
   pub saved-state : stateIn image ≡ s
   saved-state =
-      ap₂ (λ (x y : ℕ). state x (spareIn image) (entriesIn image y) (mapIn image x y)) image-blocks image-sheets
+      ap₂ (λ (x y : ℕ). state x (freeCountIn image) (entriesIn image y) (mapIn image x y)) image-blocks image-sheets
       ∙ ap₂ (λ (x : ℕ) (l : List Entry). state N x l (mapIn image N C)) image-spare image-entries ∙ ap (state N (s .spare) (s .entries)) image-map
 
   -- and load accepts it
@@ -304,7 +305,7 @@ module _ (s : State) (scratchlen bufferlen : ℕ) (words : Words (s .map)) (v : 
       to-accepted image (length (s .map)) C (length (s .map)) (record {
         blocks = to-whole (length image) (record { exact = omega (arith, image-length); some = omega (arith, image-length); few = omega (arith, image-length, few) });
         frames = image-framed;
-        first = ap₂ (λ (x y : ℕ). headFits x (spareIn image) y (totalOf image)) image-blocks image-sheets ∙ ap₂ (λ (x t : ℕ). headFits N x C t) image-spare image-total
+        first = ap₂ (λ (x y : ℕ). headFits x (freeCountIn image) y (totalOf image)) image-blocks image-sheets ∙ ap₂ (λ (x t : ℕ). headFits N x C t) image-spare image-total
             ∙ to-head N (s .spare) C T (ap (shapeFits N (s .spare)) (sym w) ∙ fit .shape) (fit .listed) refl;
         lengths = ap₂ (λ (x y : ℕ). loadFits x y (length (s .map)) C (length (s .map))) image-blocks image-sheets ∙ to-load-fits N C (length (s .map)) C (length (s .map)) (record { words = w; entries = refl; scratch = w });
         whole = ap sound saved-state ∙ saved .whole;

@@ -6,12 +6,13 @@ use mathlib.Core.Path.{_≡_, refl, sym, ap, ap₂, subst, _∙_}
 use mathlib.Core.List.{List}
 use Prim.Native.Nat.{ℕ, _*_}
 use lib.ListN.{length, replicate}
-use Rattle.standings.specs.Rows.{Verdict, accepted, refused, settle}
+use Rattle.map_blocks.specs.Maps.{wordsFor}
+use Rattle.catalogue_standings.specs.Rows.{Verdict, accepted, refused, settle}
 use Rattle.catalogue.specs.declared.Entry.{Entry}
-use Rattle.frames.specs.Frames.{Bytes, totalOf}
-use Rattle.soundness.specs.Sound.{State}
+use Rattle.image_frames.specs.Frames.{Bytes, totalOf}
+use Rattle.image_soundness.specs.Sound.{State}
 use Rattle.image.specs.Effects.{rowNumber, saveNumber, saveImage, loadResult, loadMap, loadEntries, loadScratch}
-use Rattle.image.specs.Image.{wordsFor, framesFor, imageOf, blocksIn, spareIn, sheetsIn, stateIn}
+use Rattle.image.specs.Image.{framesFor, imageOf, blocksIn, freeCountIn, sheetsIn, stateIn}
 use Rattle.image.specs.Table.{saveFits, saveVerdict, loadVerdict}
 use Rattle.image.specs.declared.Loaded.{Loaded}
 use Rattle.image.proofs.Fitting.{to-save-fits, whole-to, head-to}
@@ -36,10 +37,10 @@ module _ (image map : List ℕ) (entries : List Entry) (scratch : List ℕ) wher
   abbrev ruling : Verdict
   ruling = loadVerdict image (length map) (length entries) (length scratch)
 
-  accepted-gives : ruling ≡ accepted → Gives (blocksIn image) (spareIn image) (stateIn image .map) (stateIn image .entries) image map entries scratch
+  accepted-gives : ruling ≡ accepted → Gives (blocksIn image) (freeCountIn image) (stateIn image .map) (stateIn image .entries) image map entries scratch
   unfolding loadResult loadMap loadEntries loadScratch
   accepted-gives v = record {
-    result = ap (λ (w : Verdict). settle w (loaded 0 (blocksIn image) (spareIn image)) (λ number. loaded number 0 0)) v;
+    result = ap (λ (w : Verdict). settle w (loaded 0 (blocksIn image) (freeCountIn image)) (λ number. loaded number 0 0)) v;
     words = ap (λ (w : Verdict). settle w (stateIn image .map) (λ number. map)) v;
     sheets = ap (λ (w : Verdict). settle w (stateIn image .entries) (λ number. entries)) v;
     zeros = refl;
@@ -49,7 +50,7 @@ module _ (image map : List ℕ) (entries : List Entry) (scratch : List ℕ) wher
   unfolding loadResult
   number-accepts e = load-accepted image (length map) (length entries) (length scratch) (sym (by ruling) ∙ e)
     where
-      by : (v : Verdict) → settle v (loaded 0 (blocksIn image) (spareIn image)) (λ number. loaded number 0 0) .number ≡ rowNumber v
+      by : (v : Verdict) → settle v (loaded 0 (blocksIn image) (freeCountIn image)) (λ number. loaded number 0 0) .number ≡ rowNumber v
       by accepted = refl
       by (refused k) = refl
 
@@ -82,7 +83,7 @@ module _ (image map : List ℕ) (entries : List Entry) (scratch : List ℕ) (byt
   same-given =
       let g = accepted-gives image map entries scratch (number-accepts image map entries scratch done) in
       sym (ap₂ (λ (x : Loaded) (l : List Entry). state (x .blocks) (x .free) l (loadMap image map entries scratch)) (g .result) (g .sheets)
-      ∙ ap (state (blocksIn image) (spareIn image) (stateIn image .entries)) (g .words))
+      ∙ ap (state (blocksIn image) (freeCountIn image) (stateIn image .entries)) (g .words))
 
   pub loaded-only : imageOf given ≡ image
   loaded-only = ap imageOf (sym same-given) ∙ loaded-image image (length map) (length entries) (length scratch) bytes (number-accepts image map entries scratch done)
@@ -99,11 +100,11 @@ module _ (image map : List ℕ) (entries : List Entry) (scratch : List ℕ) (byt
       accepts scratchlen bufferlen ls lb =
           let p = accepted-to image (length map) (length entries) (length scratch) (number-accepts image map entries scratch done) in
           let w = whole-to (length image) (p .blocks) in
-          let h = head-to (blocksIn image) (spareIn image) (sheetsIn image) (totalOf image) (p .first) in
+          let h = head-to (blocksIn image) (freeCountIn image) (sheetsIn image) (totalOf image) (p .first) in
           subst (λ (s : State). saveVerdict s scratchlen bufferlen ≡ accepted) same-given
           (to-saved (stateIn image) scratchlen bufferlen (record {
-            lengths = ap₂ (λ (x y : ℕ). saveFits (blocksIn image) (spareIn image) x y scratchlen) (entries-length image (sheetsIn image)) (map-length image (blocksIn image) (sheetsIn image))
-                ∙ to-save-fits (blocksIn image) (spareIn image) (sheetsIn image) (wordsFor (blocksIn image)) scratchlen (h .shape) (h .listed)
+            lengths = ap₂ (λ (x y : ℕ). saveFits (blocksIn image) (freeCountIn image) x y scratchlen) (entries-length image (sheetsIn image)) (map-length image (blocksIn image) (sheetsIn image))
+                ∙ to-save-fits (blocksIn image) (freeCountIn image) (sheetsIn image) (wordsFor (blocksIn image)) scratchlen (h .shape) (h .listed)
                 (ls ∙ ap (λ (x : State). length (x .map)) (sym same-given) ∙ map-length image (blocksIn image) (sheetsIn image));
             whole = p .whole;
             exact = lb ∙ w .exact ∙ ap (λ (k : ℕ). 512 * k) (h .exact ∙ ap (framesFor (blocksIn image)) (sym (entries-length image (sheetsIn image))));

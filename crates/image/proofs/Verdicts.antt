@@ -8,13 +8,13 @@ use native.Mathlib.Omega.{arith}
 use lib.Dec.{eqb}
 use lib.ListN.{length}
 use borrow.Author.Tests.{eq-eqb, eqb-true}
-use Rattle.freemap.proofs.Bools.{and-left, and-right}
-use Rattle.standings.specs.Rows.{Row, row, Verdict, accepted, firstOf, settle}
-use Rattle.standings.proofs.Openings.{skip, none-left}
-use Rattle.frames.specs.Frames.{totalOf, framed}
-use Rattle.soundness.specs.Sound.{State, sound}
+use Rattle.laws.proofs.Bools.{and-left, and-right}
+use Rattle.catalogue_standings.specs.Rows.{Row, row, Verdict, accepted, firstOf, settle}
+use Rattle.catalogue_standings.proofs.Openings.{skip, none-left}
+use Rattle.image_frames.specs.Frames.{totalOf, framed}
+use Rattle.image_soundness.specs.Sound.{State, sound}
 use Rattle.image.specs.Effects.{rowNumber}
-use Rattle.image.specs.Image.{framesFor, blocksIn, spareIn, sheetsIn, stateIn, filled}
+use Rattle.image.specs.Image.{framesFor, blocksIn, freeCountIn, sheetsIn, stateIn, filled}
 use Rattle.image.specs.Table.{saveFits, saveRows, saveVerdict, wholeBlocks, headFits, loadFits, loadRows, loadVerdict}
 
 -- 0 is the number of an accepted call alone, where no row has it
@@ -64,7 +64,7 @@ module _ (s : State) (scratchlen bufferlen : ℕ) where
 pub record Accepted (image : List ℕ) (maplen count scratchlen : ℕ) : Type 0 where
   pub blocks : wholeBlocks (length image) ≡ true
   pub frames : framed image ≡ true
-  pub first : headFits (blocksIn image) (spareIn image) (sheetsIn image) (totalOf image) ≡ true
+  pub first : headFits (blocksIn image) (freeCountIn image) (sheetsIn image) (totalOf image) ≡ true
   pub lengths : loadFits (blocksIn image) (sheetsIn image) maplen count scratchlen ≡ true
   pub whole : sound (stateIn image) ≡ true
   pub fill : filled image (blocksIn image) (sheetsIn image) ≡ true
@@ -80,7 +80,7 @@ module _ (image : List ℕ) (maplen count scratchlen : ℕ) where
   accepted-to e =
       let r1 = row-passed 12 (wholeBlocks (length image)) _ e in
       let r2 = row-passed 13 (framed image) _ (r1 .1) in
-      let r3 = row-passed 14 (headFits (blocksIn image) (spareIn image) (sheetsIn image) (totalOf image)) _ (r2 .1) in
+      let r3 = row-passed 14 (headFits (blocksIn image) (freeCountIn image) (sheetsIn image) (totalOf image)) _ (r2 .1) in
       let r4 = row-passed 1 (loadFits (blocksIn image) (sheetsIn image) maplen count scratchlen) _ (r3 .1) in
       let r5 = row-passed 14 (sound (stateIn image) && filled image (blocksIn image) (sheetsIn image)) [] (r4 .1) in
       record {
@@ -97,6 +97,6 @@ module _ (image : List ℕ) (maplen count scratchlen : ℕ) where
   to-accepted p =
       passes-row 12 (wholeBlocks (length image)) _ (p .blocks)
       (passes-row 13 (framed image) _ (p .frames)
-      (passes-row 14 (headFits (blocksIn image) (spareIn image) (sheetsIn image) (totalOf image)) _ (p .first)
+      (passes-row 14 (headFits (blocksIn image) (freeCountIn image) (sheetsIn image) (totalOf image)) _ (p .first)
       (passes-row 1 (loadFits (blocksIn image) (sheetsIn image) maplen count scratchlen) _ (p .lengths)
       (passes-row 14 (sound (stateIn image) && filled image (blocksIn image) (sheetsIn image)) [] (ap₂ _&&_ (p .whole) (p .fill)) none-left))))

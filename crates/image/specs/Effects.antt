@@ -5,9 +5,9 @@ use mathlib.Core.Path.{_≡_}
 use mathlib.Core.List.{List}
 use Prim.Native.Nat.{ℕ}
 use lib.ListN.{length, replicate}
-use Rattle.standings.specs.Rows.{Verdict, settle}
+use Rattle.catalogue_standings.specs.Rows.{Verdict, settle}
 use Rattle.catalogue.specs.declared.Entry.{Entry}
-use Rattle.soundness.specs.Sound.{State}
+use Rattle.image_soundness.specs.Sound.{State}
 use Rattle.image.specs.Image.{imageOf, stateIn}
 use Rattle.image.specs.Table.{saveVerdict, loadVerdict}
 use Rattle.image.specs.declared.Loaded.{Loaded}

@@ -5,16 +5,13 @@ use mathlib.Core.Bool.{Bool}
 use mathlib.Core.List.{List, [], _∷_, _++_}
 use Prim.Native.Nat.{ℕ, zero, suc, _+_, _-_, _*_, _/_}
 use lib.ListN.{length, drop, replicate}
-use Rattle.byte_slices.specs.Numbers.{bytes4, numberAt}
-use Rattle.sums.specs.Sealed.{blank}
+use Rattle.block_bytes.specs.Numbers.{bytes4, numberAt}
+use Rattle.block_seals.specs.Sealed.{blank}
+use Rattle.map_blocks.specs.Maps.{wordsFor}
 use Rattle.catalogue.specs.declared.Entry.{Entry}
-use Rattle.frames.specs.Frames.{frames, bodyOf}
-use Rattle.frames.specs.Numbers.{wordBytes, wordsAt}
-use Rattle.soundness.specs.Sound.{State}
-
--- w, the words of a map of n blocks.
-abbrev pub wordsFor : ℕ → ℕ
-wordsFor n = (n + 63) / 64
+use Rattle.image_frames.specs.Frames.{frames, bodyOf}
+use Rattle.image_frames.specs.Numbers.{wordBytes, wordsAt}
+use Rattle.image_soundness.specs.Sound.{State}
 
 -- The bytes of a body before its fill: n, free count and c (4 each), c entries of 12, w words of 8.
 abbrev pub contentLength : ℕ → ℕ → ℕ
@@ -53,8 +50,8 @@ entriesAt bytes at (suc c) =
 unfoldable pub blocksIn : List ℕ → ℕ
 blocksIn image = numberAt (bodyOf image) 0
 
-unfoldable pub spareIn : List ℕ → ℕ
-spareIn image = numberAt (bodyOf image) 4
+unfoldable pub freeCountIn : List ℕ → ℕ
+freeCountIn image = numberAt (bodyOf image) 4
 
 unfoldable pub sheetsIn : List ℕ → ℕ
 sheetsIn image = numberAt (bodyOf image) 8
@@ -71,7 +68,7 @@ mapIn image n c = wordsAt (bodyOf image) (12 + 12 * c) (wordsFor n)
 abbrev pub stateIn : List ℕ → State
 stateIn image = record {
   blocks = blocksIn image;
-  spare = spareIn image;
+  spare = freeCountIn image;
   entries = entriesIn image (sheetsIn image);
   map = mapIn image (blocksIn image) (sheetsIn image);
 }

@@ -5,11 +5,12 @@ use mathlib.Core.List.{List, [], _∷_}
 use Prim.Native.Nat.{ℕ, _*_, _/_, _%_}
 use lib.Dec.{eqb, leb}
 use lib.ListN.{length}
-use Rattle.standings.specs.Rows.{Row, row, Verdict, firstOf}
-use Rattle.standings.specs.Limits.{shapeFits, sheetsFit}
-use Rattle.frames.specs.Frames.{totalOf, framed}
-use Rattle.soundness.specs.Sound.{State, sound}
-use Rattle.image.specs.Image.{wordsFor, framesFor, blocksIn, spareIn, sheetsIn, stateIn, filled}
+use Rattle.map_blocks.specs.Maps.{wordsFor}
+use Rattle.catalogue_standings.specs.Rows.{Row, row, Verdict, firstOf}
+use Rattle.catalogue_standings.specs.Limits.{shapeFits, sheetsFit}
+use Rattle.image_frames.specs.Frames.{totalOf, framed}
+use Rattle.image_soundness.specs.Sound.{State, sound}
+use Rattle.image.specs.Image.{framesFor, blocksIn, freeCountIn, sheetsIn, stateIn, filled}
 
 -- n, c and the free count are within their limits, and the lent map and scratch have w words.
 unfoldable pub saveFits : ℕ → ℕ → ℕ → ℕ → ℕ → Bool
@@ -44,7 +45,7 @@ unfolding wholeBlocks headFits loadFits
 loadRows image maplen count scratchlen =
     row 12 (not (wholeBlocks (length image)))
     ∷ row 13 (not (framed image))
-    ∷ row 14 (not (headFits (blocksIn image) (spareIn image) (sheetsIn image) (totalOf image)))
+    ∷ row 14 (not (headFits (blocksIn image) (freeCountIn image) (sheetsIn image) (totalOf image)))
     ∷ row 1 (not (loadFits (blocksIn image) (sheetsIn image) maplen count scratchlen))
     ∷ row 14 (not (sound (stateIn image) && filled image (blocksIn image) (sheetsIn image)))
     ∷ []

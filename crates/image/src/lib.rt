@@ -1,4 +1,4 @@
-// Images (document 01, "Saved image"): what save and load share. They are in the crates saving and loading.
+// Images (document 01, "Saved image"): what save and load share. They are in the crates image_save and loading.
 pub mod limits;
 pub mod words;
 

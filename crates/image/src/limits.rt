@@ -1,13 +1,14 @@
 // The tests of limits and lengths that the rows of save and load make.
 ghost use mathlib.Core.Path.{_≡_};
 ghost use Prim.Native.Nat.{_≤_};
-ghost use Rattle.image.specs.Image.{wordsFor, framesFor};
+ghost use Rattle.map_blocks.specs.Maps.{wordsFor};
+ghost use Rattle.image.specs.Image.{framesFor};
 ghost use Rattle.image.specs.Table.{saveFits, wholeBlocks, headFits, loadFits};
 use block::BLOCK;
 use block::PAYLOAD;
-use standings::opening::BLOCKS;
-use standings::opening::shape_fits;
-use standings::opening::sheets_fit;
+use catalogue_standings::opening::BLOCKS;
+use catalogue_standings::opening::shape_fits;
+use catalogue_standings::opening::sheets_fit;
 
 // The most blocks of an image.
 const IMAGE_BLOCKS: usize = 91;

@@ -9,23 +9,23 @@ use native.Mathlib.Omega.{arith}
 use lib.Dec.{eqb, leb, ltb}
 use lib.ListN.{length, length-map, List·getD-eq-default}
 use borrow.Author.Tests.{le-leb, lt-ltb, le-ltb, eq-eqb, ne-eqb, leb-false, ltb-true, ltb-false}
-use Rattle.freemap.specs.Blocks as map-blocks
-use Rattle.freemap.specs.Maps.{mapOf}
-use Rattle.freemap.proofs.Maps.{map-length, map-free}
-use Rattle.freemap.proofs.Runs.{all-intro}
-use Rattle.card_blocks.specs.Card.{blockOf}
-use Rattle.sums.specs.Sealed as sealed-block
-use Rattle.sums.proofs.Blank.{blank-zeros}
-use Rattle.sums.proofs.Sealed.{sound-own, sound-zeros, blank-sealed}
+use Rattle.map_blocks.specs.Blocks as map-blocks
+use Rattle.map_blocks.specs.Maps.{mapOf, wordsFor}
+use Rattle.map_blocks.proofs.Maps.{map-length, map-free}
+use Rattle.map_blocks.proofs.Runs.{all-intro}
+use Rattle.blocks_of_card.specs.Card.{blockOf}
+use Rattle.block_seals.specs.Sealed as sealed-block
+use Rattle.block_seals.proofs.Blank.{blank-zeros}
+use Rattle.block_seals.proofs.Sealed.{sound-own, sound-zeros, blank-sealed}
 use Rattle.catalogue.specs.Entries.{entryAt}
 use Rattle.catalogue.specs.declared.Entry.{Entry}
-use Rattle.standings.specs.Rows.{row, Verdict, refused, firstOf}
-use Rattle.standings.specs.Standings.{extentHolds, standingOf, isDamaged}
-use Rattle.calls.specs.Table.{Ask, on, View, rowsFor, tableOf, verdictOf}
-use Rattle.standings.specs.Limits.{shapeFits, sheetsFit}
-use Rattle.calls.specs.Lent.{lent, noCard}
-use Rattle.calls.specs.Views.{viewAt, viewOn}
-use Rattle.standings.proofs.Openings.{skip, stop}
+use Rattle.catalogue_standings.specs.Rows.{row, Verdict, refused, firstOf}
+use Rattle.catalogue_standings.specs.Standings.{extentHolds, standingOf, isDamaged}
+use Rattle.refusals.specs.Table.{Ask, on, View, rowsFor, tableOf, verdictOf}
+use Rattle.catalogue_standings.specs.Limits.{shapeFits, sheetsFit}
+use Rattle.refusals.specs.Lent.{lent, noCard}
+use Rattle.refusals.specs.Views.{viewAt, viewOn}
+use Rattle.catalogue_standings.proofs.Openings.{skip, stop}
 use Rattle.ledger.specs.Ledger.{Place, Blank, Payload, Sheet, Absent, Paused, Open, Complete, standingIn, startIn, lengthIn, isBlank, sheetAt, placeAt, cover, freeIn, spareIn, viewIn, listed, verdictIn}
 use Rattle.ledger.specs.Claim.{entryIn, blockIn}
 use Rattle.card.specs.Calls.{Kept}
@@ -38,7 +38,7 @@ use Rattle.ledger.proofs.Sheets.{Sized, Fine, Sound}
 -- ---- the state that a ledger calls for
 
 abbrev pub mapIn : ℕ → List Sheet → List ℕ
-mapIn n l = mapOf (freeIn n l) ((n + 63) / 64)
+mapIn n l = mapOf (freeIn n l) (wordsFor n)
 
 abbrev pub stateOf : ℕ → List Sheet → List ℕ → Kept
 stateOf n l card = record { shape = record { blocks = n; free = spareIn n l }; map = mapIn n l; entries = map entryIn l; card = card }
@@ -67,13 +67,13 @@ past-words f w b h =
     ∙ ap {B = Bool} (λ (x : ℕ). eqb (x % 2) 1) (zero-div (2 ^ (63 - b % 64)))
 
 pub free-map : (n : ℕ) (l : List Sheet) → map-blocks.free (mapIn n l) ≡ freeIn n l
-free-map n l = fun-ext (λ b. go b (ltb b ((n + 63) / 64 * 64)) refl)
+free-map n l = fun-ext (λ b. go b (ltb b (wordsFor n * 64)) refl)
   where
-    go : (b : ℕ) (t : Bool) → ltb b ((n + 63) / 64 * 64) ≡ t → map-blocks.free (mapIn n l) b ≡ freeIn n l b
-    go b true e = map-free (freeIn n l) ((n + 63) / 64) b (ltb-true b ((n + 63) / 64 * 64) e)
+    go : (b : ℕ) (t : Bool) → ltb b (wordsFor n * 64) ≡ t → map-blocks.free (mapIn n l) b ≡ freeIn n l b
+    go b true e = map-free (freeIn n l) (wordsFor n) b (ltb-true b (wordsFor n * 64) e)
     go b false e =
-        let past : (n + 63) / 64 * 64 ≤ b = ltb-false b ((n + 63) / 64 * 64) e in
-        past-words (freeIn n l) ((n + 63) / 64) b past ∙ sym (ap (λ (t : Bool). t && eqb (cover l b) 0) (le-ltb b n (omega arith)))
+        let past : wordsFor n * 64 ≤ b = ltb-false b (wordsFor n * 64) e in
+        past-words (freeIn n l) (wordsFor n) b past ∙ sym (ap (λ (t : Bool). t && eqb (cover l b) 0) (le-ltb b n (omega arith)))
 
 -- what a view shows of the sheet's places
 pub record Places : Type 0 where
@@ -147,13 +147,13 @@ sound-block i p Blank h hi hp = sound-zeros i p
 sound-block i p (Payload bytes) h hi hp = sound-own i p bytes h hi hp
 
 module _ (n : ℕ) (l : List Sheet) (card : List ℕ) (k : Matches n l card) where
-  map-fits : length (mapIn n l) ≡ (n + 63) / 64
-  map-fits = map-length (freeIn n l) ((n + 63) / 64)
+  map-fits : length (mapIn n l) ≡ wordsFor n
+  map-fits = map-length (freeIn n l) (wordsFor n)
 
   pub shape-fits : shapeFits n (spareIn n l) (length (mapIn n l)) ≡ true
   unfolding shapeFits
   shape-fits =
-      simp (le-leb 1 n (k .low), le-leb n 262144 (k .high), le-leb (spareIn n l) n (omega (arith, spare-is n l (k .sound))), eq-eqb (length (mapIn n l)) ((n + 63) / 64) map-fits)
+      simp (le-leb 1 n (k .low), le-leb n 262144 (k .high), le-leb (spareIn n l) n (omega (arith, spare-is n l (k .sound))), eq-eqb (length (mapIn n l)) (wordsFor n) map-fits)
 
   pub sheets-fit : sheetsFit (length (map entryIn l)) ≡ true
   unfolding sheetsFit

@@ -22,13 +22,14 @@ use ghost.Atoms.{Atoms}
 use prog.Memory.{Memory}
 use prog.Routine.{Routine}
 use prog.Wp.{Heap}
-use Rattle.freemap.specs.Maps as maps
-use Rattle.freemap.proofs.Bools.{and-left, and-right}
+use Rattle.map_blocks.specs.Maps.{wordsFor}
+use Rattle.map_blocks.specs.Maps as maps
+use Rattle.laws.proofs.Bools.{and-left, and-right}
 use Rattle.catalogue.specs.Entries.{absent, clearedIf}
 use Rattle.catalogue.specs.declared.Entry.{Entry}
-use Rattle.standings.specs.Answers.{numberOf}
-use Rattle.standings.specs.Limits.{freshFits, shapeFits, sheetsFit}
-use Rattle.standings.specs.declared.Answer.the-variants.{Done, Refused}
+use Rattle.catalogue_standings.specs.Answers.{numberOf}
+use Rattle.catalogue_standings.specs.Limits.{freshFits, shapeFits, sheetsFit}
+use Rattle.catalogue_standings.specs.declared.Answer.the-variants.{Done, Refused}
 use Rattle.card.specs.Calls.{Kept, kept, told, isDone}
 use Rattle.card.specs.declared.Shape.{Shape}
 use Rattle.card.specs.declared.Outcome.{Outcome}
@@ -41,8 +42,8 @@ use Rattle.card.proofs.Shape.pause as pause-method
 use Rattle.card.proofs.Shape.release as release-method
 use Rattle.card.proofs.Shape.show as show-method
 use Rattle.card.proofs.Shape.standing as standing-method
-use Rattle.calls.specs.Table.{Call, on, reserve, put, grow, complete, pause, release, show, standing}
-use Rattle.ledger.specs.Steps.{Freshens, Reply, endOf, Step, freshState}
+use Rattle.refusals.specs.Table.{Call, on, reserve, put, grow, complete, pause, release, show, standing}
+use Rattle.ledger.specs.Steps.{Freshens, Response, endOf, Step, freshState}
 
 module _ {M : Type 1} (𝓤 : URA M) (H : Heap 𝓤) (A : Atoms 𝓤) (mem : Memory → SProp 𝓤) (run : Routine → Fun 𝓤) where
   abbrev 𝓛 : Connectives 𝓤
@@ -129,7 +130,7 @@ module _ {M : Type 1} (𝓤 : URA M) (H : Heap 𝓤) (A : Atoms 𝓤) (mem : Mem
 abbrev pub leaving : Outcome → List ℕ → List Entry → List ℕ → Kept
 leaving r map entries card = kept (r .shape) map entries card
 
-abbrev replying : Outcome → List ℕ → Reply
+abbrev replying : Outcome → List ℕ → Response
 replying r buffer = record { answer = r .answer; buffer = buffer }
 
 -- all that a call hands back and leaves is as its contract says
@@ -198,19 +199,19 @@ module _ (shape : Shape) (n : ℕ) (map : List ℕ) (entries : List Entry) (r : 
         λ card x. record { shape = outcome x .shape; map = marks x; entries = stored x; card = card },
       )
         where
-          fits : (leb 1 n && leb n 262144 && leb n n && eqb (length map) ((n + 63) / 64)) ≡ true
+          fits : (leb 1 n && leb n 262144 && leb n n && eqb (length map) (wordsFor n)) ≡ true
           fits = and-left _ _ e
 
           sheets : (leb 1 (length entries) && leb (length entries) 1024) ≡ true
-          sheets = and-right (leb 1 n && leb n 262144 && leb n n && eqb (length map) ((n + 63) / 64)) _ e
+          sheets = and-right (leb 1 n && leb n 262144 && leb n n && eqb (length map) (wordsFor n)) _ e
 
           outcome : r ≡ told (record { blocks = n; free = n }) Done
           outcome = h .0 ∙ ap (λ (t : Bool). cond t (told (record { blocks = n; free = n }) Done) (told shape (Refused 1))) e
 
-          marks : map′ ≡ maps.freshMap n ((n + 63) / 64)
+          marks : map′ ≡ maps.freshMap n (wordsFor n)
           marks =
               h .1 ∙ ap (λ (t : Bool). cond t (maps.freshMap n (length map)) map) e
-              ∙ ap (maps.freshMap n) (eqb-true (length map) ((n + 63) / 64) (and-right (leb 1 n && leb n 262144 && leb n n) _ fits))
+              ∙ ap (maps.freshMap n) (eqb-true (length map) (wordsFor n) (and-right (leb 1 n && leb n 262144 && leb n n) _ fits))
 
           stored : entries′ ≡ replicate (length entries) absent
           stored = h .2 ∙ ap (λ (t : Bool). clearedIf entries (isDone (cond t (told (record { blocks = n; free = n }) Done) (told shape (Refused 1)) .answer))) e
@@ -220,7 +221,7 @@ module _ (shape : Shape) (n : ℕ) (map : List ℕ) (entries : List Entry) (r : 
           absurd (omega arith)
 
   -- and fresh is accepted for all n and c within their limits, over a map of their length
-  pub fresh-accepts : Freshens shape n map entries r map′ entries′ → Limits n (length entries) → length map ≡ (n + 63) / 64 → numberOf (r .answer) ≡ 0
+  pub fresh-accepts : Freshens shape n map entries r map′ entries′ → Limits n (length entries) → length map ≡ wordsFor n → numberOf (r .answer) ≡ 0
   unfolding freshFits shapeFits sheetsFit
   fresh-accepts h limits e =
       let fits : freshFits n (length map) (length entries) ≡ true =
@@ -228,7 +229,7 @@ module _ (shape : Shape) (n : ℕ) (map : List ℕ) (entries : List Entry) (r : 
         le-leb 1 n (limits .n-low),
         le-leb n 262144 (limits .n-high),
         le-leb n n (omega arith),
-        eq-eqb (length map) ((n + 63) / 64) e,
+        eq-eqb (length map) (wordsFor n) e,
         le-leb 1 (length entries) (limits .c-low),
         le-leb (length entries) 1024 (limits .c-high),
       ) in

@@ -10,8 +10,8 @@ use native.Mathlib.Omega.{arith}
 use lib.Dec.{eqb, leb, ltb}
 use lib.ListN.{length, set}
 use borrow.Author.Tests.{ltb-true, ltb-false, leb-true, le-leb, lt-ltb, eqb-true, eqb-false}
-use Rattle.freemap.specs.Maps.{inRun}
-use Rattle.freemap.proofs.Bools.{and-left, and-right, and-both, not-true, clash}
+use Rattle.map_blocks.specs.Maps.{inRun}
+use Rattle.laws.proofs.Bools.{and-left, and-right, and-both, not-true, clash}
 use Rattle.survey.specs.Survey.{blocks, freeOf}
 use Rattle.ledger.specs.Ledger.{Sheet, Absent, startIn, lengthIn, sheetAt, covers, cover, freeIn, spareIn}
 

@@ -10,20 +10,20 @@ use native.Mathlib.Omega.{arith}
 use lib.Dec.{eqb, ltb}
 use lib.ListN.{length, getD, replicate, length-replicate}
 use borrow.Author.Tests.{lt-ltb, le-ltb, lt-leb, eq-eqb}
-use Rattle.freemap.specs.Blocks.{free}
-use Rattle.freemap.specs.Maps.{freshMap}
-use Rattle.card_blocks.specs.Card.{blockOf}
+use Rattle.map_blocks.specs.Blocks.{free}
+use Rattle.map_blocks.specs.Maps.{freshMap, wordsFor}
+use Rattle.blocks_of_card.specs.Card.{blockOf}
 use Rattle.catalogue.specs.Entries.{absent}
 use Rattle.catalogue.specs.declared.Entry.{Entry}
-use Rattle.standings.specs.Answers.{numberOf}
-use Rattle.standings.specs.Rows.{Verdict, accepted, firstOf, settle}
-use Rattle.calls.specs.Table.{Call, on, show, tableOf}
+use Rattle.catalogue_standings.specs.Answers.{numberOf}
+use Rattle.catalogue_standings.specs.Rows.{Verdict, accepted, firstOf, settle}
+use Rattle.refusals.specs.Table.{Call, on, show, tableOf}
 use Rattle.ledger.specs.Ledger.{Place, Blank, Payload, Sheet, Absent, Complete, standingIn, startIn, lengthIn, placesIn, bytesOf, sheetAt, placeAt, cover, freeIn, spareIn, listed, verdictIn, deedIn, stepIn, after, begun, Told, done, refusedWith}
 use Rattle.ledger.specs.Claim.{Answered, AllAnswered, SearchedBy, AllSearched, granted, returned, lastPut, entryIn, Agrees, Gives, Claim}
 use Rattle.card.specs.declared.Shape.{Shape}
 use Rattle.card.specs.declared.Outcome.{Outcome}
 use Rattle.card.specs.Calls.{Kept}
-use Rattle.ledger.specs.Steps.{Freshens, Reply, toldBy, endOf, replyOf, stateOn, Step, Runs, freshState}
+use Rattle.ledger.specs.Steps.{Freshens, Response, toldBy, endOf, responseOf, stateOn, Step, Runs, freshState}
 use Rattle.ledger.proofs.Agreement.{mapIn, stateOf, Matches, free-map}
 use Rattle.ledger.proofs.Contracts.{leaving, Limits, fresh-left}
 use Rattle.ledger.proofs.Cover.{covers-absent, held}
@@ -35,7 +35,7 @@ use Rattle.ledger.proofs.step.{result}
 
 -- ---- one call
 
-module _ (n : ℕ) (l : List Sheet) (card : List ℕ) (k : Matches n l card) (c : Call) (reply : Reply) (t : Kept) (st : Step (stateOf n l card) c reply t) where
+module _ (n : ℕ) (l : List Sheet) (card : List ℕ) (k : Matches n l card) (c : Call) (reply : Response) (t : Kept) (st : Step (stateOf n l card) c reply t) where
   pub answered : Answered n l c reply
   answered =
       let r = result n l card k c in
@@ -47,7 +47,7 @@ module _ (n : ℕ) (l : List Sheet) (card : List ℕ) (k : Matches n l card) (c 
 -- ---- a list of calls
 
 -- what a list leaves, from the state that ledger l calls for
-pub record Left (n : ℕ) (l : List Sheet) (calls : List Call) (replies : List Reply) (t : Kept) : Type 0 where
+pub record Left (n : ℕ) (l : List Sheet) (calls : List Call) (replies : List Response) (t : Kept) : Type 0 where
   pub card-left : List ℕ
   pub state-left : t ≡ stateOf n (after n l calls) card-left
   pub kept-left : Matches n (after n l calls) card-left
@@ -57,7 +57,7 @@ pub record Left (n : ℕ) (l : List Sheet) (calls : List Call) (replies : List R
   -- what a place holds is what the history has last put there since the sheet's reserve
   pub noted-so : (j p : ℕ) (m : Place) → Has p m (sheetAt l j) → Has p (lastPut j p m calls replies) (sheetAt (after n l calls) j)
 
-pub lists : (n : ℕ) (calls : List Call) (replies : List Reply) (l : List Sheet) (card : List ℕ) (s t : Kept) → Matches n l card → s ≡ stateOf n l card
+pub lists : (n : ℕ) (calls : List Call) (replies : List Response) (l : List Sheet) (card : List ℕ) (s t : Kept) → Matches n l card → s ≡ stateOf n l card
     → Runs s calls replies t → Left n l calls replies t
 lists n [] [] l card s t k e h =
     record { card-left = card; state-left = h ∙ e; kept-left = k; answers = tt; searches = tt; sum = refl; noted-so = λ j p m was. was }
@@ -74,15 +74,15 @@ lists n (c ∷ calls) (reply ∷ replies) l card s t k e h =
       answers = (answered n l card k c reply (h .0) st, rest .answers);
       searches = (by-search n l card k c reply (h .0) st, rest .searches);
       sum = omega (arith, rest .sum, r .sum);
-      noted-so = λ j p m was. rest .noted-so j p _ (rw (ap (λ (x : Reply). eqb (toldBy x .number) 0) (st .0) ∙ ap (λ (x : Told). eqb (x .number) 0) (r .told-so)) (r .noted-so j p m was));
+      noted-so = λ j p m was. rest .noted-so j p _ (rw (ap (λ (x : Response). eqb (toldBy x .number) 0) (st .0) ∙ ap (λ (x : Told). eqb (x .number) 0) (r .told-so)) (r .noted-so j p m was));
     }
 
 -- and every list has a run
-pub has-run : (s : Kept) (calls : List Call) → (replies : List Reply) × (t : Kept) × Runs s calls replies t
+pub has-run : (s : Kept) (calls : List Call) → (replies : List Response) × (t : Kept) × Runs s calls replies t
 has-run s [] = ([], s, refl)
 has-run s (c ∷ calls) =
     let e = endOf s c in
-    let rest = has-run (stateOn e) calls in (replyOf e ∷ rest .0, rest .1, (stateOn e, (refl, refl), rest .2))
+    let rest = has-run (stateOn e) calls in (responseOf e ∷ rest .0, rest .1, (stateOn e, (refl, refl), rest .2))
 
 -- ---- a fresh card
 
@@ -122,8 +122,8 @@ module _ (n c : ℕ) (card : List ℕ) (n-low : 1 ≤ n) (n-high : n ≤ 262144)
   unfolding freshMap
   state-begun =
       let spare : n ≡ spareIn n (begun c) = omega (arith, spare-is n (begun c) (kept-begun .sound), held-begun c) in
-      let whole : freshMap n ((n + 63) / 64) ≡ mapIn n (begun c) =
-      map-same (λ b. ltb b n) (freeIn n (begun c)) ((n + 63) / 64) (λ b lt. sym (ap (λ (x : Bool). ltb b n && x) (eq-eqb (cover (begun c) b) 0 (cover-begun c b)) ∙ and-true (ltb b n))) in
+      let whole : freshMap n (wordsFor n) ≡ mapIn n (begun c) =
+      map-same (λ b. ltb b n) (freeIn n (begun c)) (wordsFor n) (λ b lt. sym (ap (λ (x : Bool). ltb b n && x) (eq-eqb (cover (begun c) b) 0 (cover-begun c b)) ∙ and-true (ltb b n))) in
       λ x. record { shape = record { blocks = n; free = spare x }; map = whole x; entries = entries-begun c x; card = card }
 
 -- ---- a complete sheet shows what was put
@@ -178,7 +178,7 @@ module _ (n c : ℕ) (card : List ℕ) (n-low : 1 ≤ n) (n-high : n ≤ 262144)
       reads : (b : ℕ) → free (t .map) b ≡ freeIn n l b
       reads b = ap (λ (x : Kept). free (x .map) b) e ∙ ap (λ (f : ℕ → Bool). f b) (free-map n l)
 
-  pub every-list : (replies : List Reply) (t : Kept) → Runs (freshState n c card) calls replies t → Claim n c calls replies t
+  pub every-list : (replies : List Response) (t : Kept) → Runs (freshState n c card) calls replies t → Claim n c calls replies t
   every-list replies t runs =
       let w : Left n (begun c) calls replies t =
       lists n calls replies (begun c) card (freshState n c card) t (kept-begun n c card n-low n-high c-low c-high room) (state-begun n c card n-low n-high c-low c-high room) runs in
@@ -195,13 +195,13 @@ module _ (n c : ℕ) (card : List ℕ) (n-low : 1 ≤ n) (n-high : n ≤ 262144)
         );
       }
 
-  pub every-list-runs : (replies : List Reply) × (t : Kept) × Runs (freshState n c card) calls replies t
+  pub every-list-runs : (replies : List Response) × (t : Kept) × Runs (freshState n c card) calls replies t
   every-list-runs = has-run (freshState n c card) calls
 
 -- The same from the fresh call itself: what it left when it answered that it was done, and a card of 512·n bytes.
 pub every-list-from-fresh : (shape : Shape) (n : ℕ) (map : List ℕ) (entries : List Entry) (r : Outcome) (map′ : List ℕ) (entries′ : List Entry)
     → Freshens shape n map entries r map′ entries′ → numberOf (r .answer) ≡ 0 → (card : List ℕ) → length card ≡ 512 * n
-    → (calls : List Call) (replies : List Reply) (t : Kept) → Runs (leaving r map′ entries′ card) calls replies t → Claim n (length entries) calls replies t
+    → (calls : List Call) (replies : List Response) (t : Kept) → Runs (leaving r map′ entries′ card) calls replies t → Claim n (length entries) calls replies t
 every-list-from-fresh shape n map entries r map′ entries′ freshened done-so card room calls replies t runs =
     let left = fresh-left shape n map entries r map′ entries′ freshened done-so in
     let limits : Limits n (length entries) = left .0 in

@@ -12,15 +12,15 @@ use lib.Dec.{eqb}
 use lib.ListN.{length, getD, set, replicate, length-set, length-map, length-append, length-replicate, List·getD-append, getD-replicate}
 use lib.Seq.{getD-set-same, getD-set-other, getD-append-add}
 use borrow.Author.Tests.{eqb-true, eqb-false}
-use Rattle.freemap.specs.Blocks.{fit}
-use Rattle.freemap.specs.Maps.{inRun, marked}
-use Rattle.freemap.proofs.Bools.{clash, order}
-use Rattle.card_blocks.specs.Card.{blockOf, withBlock, zeroed}
-use Rattle.sums.specs.Sealed.{sealed}
-use Rattle.card_blocks.proofs.Card.{same-block, other-block, length-withBlock, length-zeroed, zeroed-inside, zeroed-before, zeroed-after}
-use Rattle.sums.proofs.Sealed.{sealed-length}
+use Rattle.map_blocks.specs.Blocks.{fit}
+use Rattle.map_blocks.specs.Maps.{inRun, marked}
+use Rattle.laws.proofs.Bools.{clash, order}
+use Rattle.blocks_of_card.specs.Card.{blockOf, withBlock, zeroed}
+use Rattle.block_seals.specs.Sealed.{sealed}
+use Rattle.blocks_of_card.proofs.Card.{same-block, other-block, length-withBlock, length-zeroed, zeroed-inside, zeroed-before, zeroed-after}
+use Rattle.block_seals.proofs.Sealed.{sealed-length}
 use Rattle.catalogue.specs.declared.Entry.{Entry}
-use Rattle.calls.proofs.Room.{fit-inside}
+use Rattle.refusals.proofs.Room.{fit-inside}
 use Rattle.ledger.specs.Ledger.{Place, Blank, Payload, Sheet, Absent, Open, Complete, startIn, lengthIn, placesIn, bytesOf, sheetAt, placeAt, covers, cover, freeIn, spareIn}
 use Rattle.ledger.specs.Claim.{entryIn, blockIn}
 use Rattle.ledger.proofs.Agreement.{mapIn, Matches}

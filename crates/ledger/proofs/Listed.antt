@@ -8,16 +8,16 @@ use native.Mathlib.Omega.{arith}
 use lib.Dec.{leb, ltb}
 use lib.ListN.{length, getD, set}
 use borrow.Author.Tests.{le-ltb, not-false}
-use Rattle.freemap.specs.Blocks.{all, fit, leastFit}
-use Rattle.freemap.specs.declared.Found.{Found}
-use Rattle.freemap.specs.declared.Found.the-variants.{At, Nothing}
-use Rattle.freemap.proofs.Least.{least-passes}
-use Rattle.freemap.proofs.Runs.{all-elim}
-use Rattle.standings.specs.Searches.{startAt}
-use Rattle.standings.specs.Rows.{row, firstOf}
-use Rattle.standings.specs.Standings.{isDamaged}
-use Rattle.calls.specs.Table.{Ask, on, rowsFor, tableOf}
-use Rattle.standings.specs.Searches.{none}
+use Rattle.map_blocks.specs.Blocks.{all, fit, leastFit}
+use Rattle.map_blocks.specs.declared.Found.{Found}
+use Rattle.map_blocks.specs.declared.Found.the-variants.{At, Nothing}
+use Rattle.map_blocks.proofs.Least.{least-passes}
+use Rattle.map_blocks.proofs.Runs.{all-elim}
+use Rattle.catalogue_standings.specs.Searches.{startAt}
+use Rattle.catalogue_standings.specs.Rows.{row, firstOf}
+use Rattle.catalogue_standings.specs.Standings.{isDamaged}
+use Rattle.refusals.specs.Table.{Ask, on, rowsFor, tableOf}
+use Rattle.catalogue_standings.specs.Searches.{none}
 use Rattle.ledger.specs.Ledger.{Place, Blank, Payload, Sheet, Absent, Paused, Open, Complete, standingIn, lengthIn, placesIn, isBlank, bytesOf, sheetAt, placeAt, spareIn, viewIn, verdictIn}
 use Rattle.ledger.proofs.Cover.{held, held-set, spare-and-held}
 use Rattle.ledger.proofs.Rows.{Never, never-listed}
@@ -35,11 +35,11 @@ pub or-not : (t : Bool) → (t || not t) ≡ true
 or-not true = refl
 or-not false = refl
 
-pub undamaged : (x : Sheet) → isDamaged (standingIn x) ≡ false
-undamaged Absent = refl
-undamaged Paused = refl
-undamaged (Open s ps) = refl
-undamaged (Complete s xs) = refl
+pub sheet-undamaged : (x : Sheet) → isDamaged (standingIn x) ≡ false
+sheet-undamaged Absent = refl
+sheet-undamaged Paused = refl
+sheet-undamaged (Open s ps) = refl
+sheet-undamaged (Complete s xs) = refl
 
 -- the least fit is a fit, where one was found
 pub found-fit : (f : ℕ → Bool) (n k : ℕ) → none (leastFit f 0 n k) ≡ false → fit f 0 n k (startAt (leastFit f 0 n k)) ≡ true
@@ -75,4 +75,4 @@ module _ (n : ℕ) (l : List Sheet) (ok : Sound n l) where
   -- no dropped row holds, if none of those behind the opening does
   pub listed-same : (i : ℕ) (a : Ask) → Never (row 2 (leb (length l) i) ∷ []) (rowsFor (viewIn n l i) a) → firstOf (tableOf (viewIn n l i) (on i a)) ≡ verdictIn n l (on i a)
   unfolding tableOf firstOf
-  listed-same i a h = never-listed [] (tableOf (viewIn n l i) (on i a)) refl (λ p. refl, (λ p. undamaged (sheetAt l i), h))
+  listed-same i a h = never-listed [] (tableOf (viewIn n l i) (on i a)) refl (λ p. refl, (λ p. sheet-undamaged (sheetAt l i), h))

@@ -6,9 +6,9 @@ use mathlib.Core.Bool.{and-false, Bool, true, false, cond, _&&_}
 use mathlib.Core.List.{List}
 use lib.Dec.{eqb, ltb}
 use borrow.Author.Tests.{eq-eqb, ne-eqb, lt-ltb}
-use Rattle.freemap.specs.Blocks.{free}
-use Rattle.freemap.specs.Maps.{mapOf, inRun, marked}
-use Rattle.freemap.proofs.Maps.{pack-lt, map-length, map-at, map-free, map-ext}
+use Rattle.map_blocks.specs.Blocks.{free}
+use Rattle.map_blocks.specs.Maps.{mapOf, inRun, marked, wordsFor}
+use Rattle.map_blocks.proofs.Maps.{pack-lt, map-length, map-at, map-free, map-ext}
 use Rattle.ledger.specs.Ledger.{Sheet, cover, freeIn}
 use Rattle.ledger.proofs.Agreement.{mapIn}
 
@@ -28,12 +28,12 @@ marked-map f g w s k to h =
 module _ (n : ℕ) (l l′ : List Sheet) where
   -- every block covered as before
   pub map-kept : ((b : ℕ) → cover l′ b ≡ cover l b) → mapIn n l ≡ mapIn n l′
-  map-kept h = map-same (freeIn n l) (freeIn n l′) ((n + 63) / 64) (λ b lt. ap (λ (c : ℕ). ltb b n && eqb c 0) (sym (h b)))
+  map-kept h = map-same (freeIn n l) (freeIn n l′) (wordsFor n) (λ b lt. ap (λ (c : ℕ). ltb b n && eqb c 0) (sym (h b)))
 
   -- a run taken: its blocks are covered now, and the others as before
   pub map-taken : (s k : ℕ) → s + k ≤ n → ((b : ℕ) → inRun s k b ≡ true → cover l′ b ≡ 0 → ⊥) → ((b : ℕ) → inRun s k b ≡ false → cover l′ b ≡ cover l b)
       → marked (mapIn n l) s k false ≡ mapIn n l′
-  map-taken s k inside taken others = marked-map (freeIn n l) (freeIn n l′) ((n + 63) / 64) s k false (λ b. go b (inRun s k b) refl)
+  map-taken s k inside taken others = marked-map (freeIn n l) (freeIn n l′) (wordsFor n) s k false (λ b. go b (inRun s k b) refl)
     where
       go : (b : ℕ) (t : Bool) → inRun s k b ≡ t → cond t false (freeIn n l b) ≡ freeIn n l′ b
       go b true e = sym (ap (λ (t : Bool). ltb b n && t) (ne-eqb (cover l′ b) 0 (taken b e)) ∙ and-false (ltb b n))
@@ -42,7 +42,7 @@ module _ (n : ℕ) (l l′ : List Sheet) where
   -- a run given back: no block of it is covered now, and the others as before
   pub map-given : (s k : ℕ) → s + k ≤ n → ((b : ℕ) → inRun s k b ≡ true → (b < n) × (cover l′ b ≡ 0)) → ((b : ℕ) → inRun s k b ≡ false → cover l′ b ≡ cover l b)
       → marked (mapIn n l) s k true ≡ mapIn n l′
-  map-given s k inside given others = marked-map (freeIn n l) (freeIn n l′) ((n + 63) / 64) s k true (λ b. go b (inRun s k b) refl)
+  map-given s k inside given others = marked-map (freeIn n l) (freeIn n l′) (wordsFor n) s k true (λ b. go b (inRun s k b) refl)
     where
       go : (b : ℕ) (t : Bool) → inRun s k b ≡ t → cond t true (freeIn n l b) ≡ freeIn n l′ b
       go b true e =

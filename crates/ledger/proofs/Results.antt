@@ -15,17 +15,17 @@ use borrow.Author.Tests.{ne-eqb, eqb-true, eqb-false}
 use Rattle.catalogue.specs.Entries.{entryAt}
 use Rattle.catalogue.specs.declared.Entry.{Entry}
 use Rattle.catalogue.proofs.Storing.{stored-back}
-use Rattle.standings.specs.Answers.{numberOf, valuesOf}
-use Rattle.standings.specs.Rows.{Verdict, accepted, refused, settle}
-use Rattle.standings.specs.declared.Answer.{Answer}
-use Rattle.standings.specs.declared.Answer.the-variants.{Refused}
-use Rattle.calls.specs.Effects.{outOf, refusalOut}
-use Rattle.calls.specs.Table.{Ask, Call, on}
-use Rattle.calls.specs.declared.Out.{Out}
+use Rattle.catalogue_standings.specs.Answers.{numberOf, valuesOf}
+use Rattle.catalogue_standings.specs.Rows.{Verdict, accepted, refused, settle}
+use Rattle.catalogue_standings.specs.declared.Answer.{Answer}
+use Rattle.catalogue_standings.specs.declared.Answer.the-variants.{Refused}
+use Rattle.refusals.specs.Effects.{outOf, refusalOut}
+use Rattle.refusals.specs.Table.{Ask, Call, on}
+use Rattle.refusals.specs.declared.Out.{Out}
 use Rattle.card.specs.Calls.{told, outcomeOf}
 use Rattle.ledger.specs.Ledger.{Place, Blank, Sheet, Absent, lengthIn, sheetAt, placeAt, spareIn, sheetOf, rowsIn, verdictIn, deedIn, Told, done, refusedWith}
 use Rattle.ledger.specs.Claim.{entryIn, noted, noteOf, SearchedBy}
-use Rattle.ledger.specs.Steps.{End, ending, endOf, replyOf, stateOn, toldBy}
+use Rattle.ledger.specs.Steps.{End, ending, endOf, responseOf, stateOn, toldBy}
 use Rattle.ledger.proofs.Agreement.{mapIn, stateOf, Matches}
 use Rattle.ledger.proofs.Cover.{held, held-set}
 use Rattle.ledger.proofs.Keeping.{entries-set, Changed}
@@ -39,7 +39,7 @@ pub record Result (n : ℕ) (l : List Sheet) (card : List ℕ) (c : Call) (v : V
   pub kept-left : Matches n (settle v (deedIn n l c .ledger) (λ number. l)) card-left
   pub place : ℕ
   pub blank : v ≡ refused 9 → (place < lengthIn (sheetAt l (sheetOf c))) × (placeAt l (sheetOf c) place ≡ Blank)
-  pub told-so : toldBy (replyOf (endOf (stateOf n l card) c)) ≡ settle v (done (deedIn n l c .values) (deedIn n l c .left)) (refusedWith (deedIn n l c .brought) place)
+  pub told-so : toldBy (responseOf (endOf (stateOf n l card) c)) ≡ settle v (done (deedIn n l c .values) (deedIn n l c .left)) (refusedWith (deedIn n l c .brought) place)
   pub sum : held (settle v (deedIn n l c .ledger) (λ number. l)) + settle v (deedIn n l c .returns) (λ number. 0) ≡ held l + settle v (deedIn n l c .grants) (λ number. 0)
   pub noted-so : (j p : ℕ) (m : Place) → Has p m (sheetAt l j)
       → Has p (cond (eqb (settle v (done (deedIn n l c .values) (deedIn n l c .left)) (refusedWith (deedIn n l c .brought) place) .number) 0) (noted j p m (noteOf c)) m)
@@ -91,7 +91,7 @@ module _ (n : ℕ) (l : List Sheet) (card : List ℕ) where
               kept-left = d .kept-left;
               place = refuse .place;
               blank = λ nine. refuse .blank (h ∙ nine);
-              told-so = ap (λ (e : End). toldBy (replyOf e)) so ∙ tells (d .answer) (deedIn n l c .left) 0 (deedIn n l c .values) (d .says-so);
+              told-so = ap (λ (e : End). toldBy (responseOf e)) so ∙ tells (d .answer) (deedIn n l c .left) 0 (deedIn n l c .values) (d .says-so);
               sum = d .sum;
               noted-so = d .noted-so;
               searched = sought (refuse .place);
@@ -104,7 +104,7 @@ module _ (n : ℕ) (l : List Sheet) (card : List ℕ) where
               kept-left = k;
               place = refuse .place;
               blank = λ nine. refuse .blank (h ∙ nine);
-              told-so = ap (λ (e : End). toldBy (replyOf e)) so ∙ tells (refuse .answer number) (deedIn n l c .brought) number (cond (eqb number 9) (refuse .place ∷ []) []) (refuse .says-so number h);
+              told-so = ap (λ (e : End). toldBy (responseOf e)) so ∙ tells (refuse .answer number) (deedIn n l c .brought) number (cond (eqb number 9) (refuse .place ∷ []) []) (refuse .says-so number h);
               sum = refl;
               noted-so = λ j p m was. rw (ne-eqb number 0 (λ z. never-says 0 (rowsIn n l c) zero (h ∙ ap refused z))) was;
               searched = sought (refuse .place);

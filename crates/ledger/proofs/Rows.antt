@@ -7,8 +7,8 @@ use mathlib.Core.Bool.{Bool, true, false, cond, _||_, true≢false}
 use mathlib.Core.List.{List, [], _∷_}
 use lib.Dec.{eqb}
 use borrow.Author.Tests.{eqb-false}
-use Rattle.standings.specs.Rows.{Row, accepted, refused, firstOf}
-use Rattle.calls.proofs.Rows.{either, not-refused, same-number, rest-accepted}
+use Rattle.catalogue_standings.specs.Rows.{Row, accepted, refused, firstOf}
+use Rattle.refusals.proofs.Rows.{either, not-refused, same-number, rest-accepted}
 use Rattle.ledger.specs.Ledger.{listed}
 use Rattle.ledger.specs.Claim.{before}
 

@@ -9,23 +9,23 @@ use native.Mathlib.Omega.{arith}
 use lib.Dec.{eqb, leb}
 use lib.ListN.{length}
 use borrow.Author.Tests.{le-leb, lt-ltb, le-ltb, eq-eqb}
-use Rattle.freemap.specs.Blocks.{free}
-use Rattle.freemap.specs.Maps.{inState}
-use Rattle.freemap.proofs.Bools.{and-both}
-use Rattle.freemap.proofs.Runs.{all-intro}
+use Rattle.map_blocks.specs.Blocks.{free}
+use Rattle.map_blocks.specs.Maps.{inState}
+use Rattle.laws.proofs.Bools.{and-both}
+use Rattle.map_blocks.proofs.Runs.{all-intro}
 use Rattle.survey.specs.Survey.{countsOf, freeOf, blocks}
-use Rattle.standings.specs.Standings.{standingOf, isDamaged}
-use Rattle.calls.specs.Table.{Call}
-use Rattle.standings.specs.Limits.{shapeFits, sheetsFit}
-use Rattle.standings.specs.Rows.{accepted, firstOf}
-use Rattle.standings.proofs.Openings.{skip}
-use Rattle.soundness.specs.Sound as saved
+use Rattle.catalogue_standings.specs.Standings.{standingOf, isDamaged}
+use Rattle.refusals.specs.Table.{Call}
+use Rattle.catalogue_standings.specs.Limits.{shapeFits, sheetsFit}
+use Rattle.catalogue_standings.specs.Rows.{accepted, firstOf}
+use Rattle.catalogue_standings.proofs.Openings.{skip}
+use Rattle.image_soundness.specs.Sound as saved
 use Rattle.image.specs.Image.{framesFor}
 use Rattle.image.specs.Table.{saveFits, saveRows, saveVerdict}
 use Rattle.ledger.specs.Ledger.{Sheet, sheetAt, covers, cover, freeIn, spareIn, after, begun}
 use Rattle.ledger.specs.Claim.{entryIn}
 use Rattle.card.specs.Calls.{Kept}
-use Rattle.ledger.specs.Steps.{Reply, Runs, freshState, savedOf}
+use Rattle.ledger.specs.Steps.{Response, Runs, freshState, savedOf}
 use Rattle.ledger.proofs.Agreement.{mapIn, stateOf, Matches, entry-at, free-map, shape-fits, sheets-fit, stands-same}
 use Rattle.ledger.proofs.Demand.{Left, lists, kept-begun, state-begun}
 use Rattle.ledger.proofs.Listed.{undamaged}
@@ -84,7 +84,7 @@ module _ (n : ℕ) (l : List Sheet) (card : List ℕ) (k : Matches n l card) whe
 
 -- ---- after a list
 
-module _ (n c : ℕ) (card : List ℕ) (n-low : 1 ≤ n) (n-high : n ≤ 262144) (c-low : 1 ≤ c) (c-high : c ≤ 1024) (room : length card ≡ 512 * n) (calls : List Call) (replies : List Reply) (t : Kept)
+module _ (n c : ℕ) (card : List ℕ) (n-low : 1 ≤ n) (n-high : n ≤ 262144) (c-low : 1 ≤ c) (c-high : c ≤ 1024) (room : length card ≡ 512 * n) (calls : List Call) (replies : List Response) (t : Kept)
     (runs : Runs (freshState n c card) calls replies t) where
   left : Left n (begun c) calls replies t
   left =

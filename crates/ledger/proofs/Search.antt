@@ -7,13 +7,13 @@ use mathlib.Core.Logic.{_⊎_, inl, inr}
 use mathlib.Core.Bool.{Bool, true, false, cond}
 use mathlib.Core.List.{[], _∷_}
 use native.Mathlib.Omega.{arith}
-use Rattle.freemap.specs.Blocks.{least}
-use Rattle.freemap.specs.declared.Found.{Found}
-use Rattle.freemap.specs.declared.Found.the-variants.{At, Nothing}
-use Rattle.freemap.proofs.Bools.{order, clash}
-use Rattle.freemap.proofs.Least.{never-both, least-passes, none-passes}
-use Rattle.standings.specs.Searches.{startAt, none}
-use Rattle.standings.specs.Rows.{Verdict, accepted, refused, settle}
+use Rattle.map_blocks.specs.Blocks.{least}
+use Rattle.map_blocks.specs.declared.Found.{Found}
+use Rattle.map_blocks.specs.declared.Found.the-variants.{At, Nothing}
+use Rattle.laws.proofs.Bools.{order, clash}
+use Rattle.map_blocks.proofs.Least.{never-both, least-passes, none-passes}
+use Rattle.catalogue_standings.specs.Searches.{startAt, none}
+use Rattle.catalogue_standings.specs.Rows.{Verdict, accepted, refused, settle}
 use Rattle.ledger.specs.Ledger.{refusedWith, Told, done}
 use Rattle.ledger.specs.Claim.{Searched}
 

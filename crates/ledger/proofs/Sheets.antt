@@ -12,12 +12,12 @@ use lib.Dec.{eqb, leb, ltb}
 use lib.ListN.{length, getD, set, replicate, length-set, length-map, length-append, length-replicate}
 use lib.Seq.{getD-set-same, getD-set-other}
 use borrow.Author.Tests.{ltb-true, ltb-false, eqb-true, eqb-false}
-use Rattle.freemap.specs.Blocks.{all, fit}
-use Rattle.freemap.specs.Maps.{inRun}
-use Rattle.freemap.proofs.Bools.{and-right}
-use Rattle.freemap.proofs.Runs.{all-elim}
-use Rattle.standings.specs.Standings.{isAbsent, isPaused, isOpen, isComplete}
-use Rattle.calls.proofs.Room.{fit-inside}
+use Rattle.map_blocks.specs.Blocks.{all, fit}
+use Rattle.map_blocks.specs.Maps.{inRun}
+use Rattle.laws.proofs.Bools.{and-right}
+use Rattle.map_blocks.proofs.Runs.{all-elim}
+use Rattle.catalogue_standings.specs.Standings.{isAbsent, isPaused, isOpen, isComplete}
+use Rattle.refusals.proofs.Room.{fit-inside}
 use Rattle.ledger.specs.Ledger.{Place, Blank, Payload, Sheet, Absent, Paused, Open, Complete, standingIn, startIn, lengthIn, placesIn, isBlank, bytesOf, sheetAt, covers, cover, freeIn}
 use Rattle.ledger.proofs.Cover.{in-run, covers-in, covers-out, cover-set}
 

@@ -10,7 +10,7 @@ pub mod Show
 pub mod Standing
 use Prim.Native.Nat.{ℕ}
 use mathlib.Core.List.{List}
-use Rattle.calls.specs.Table.{Call, on, reserve, put, grow, complete, pause, release, show, standing}
+use Rattle.refusals.specs.Table.{Call, on, reserve, put, grow, complete, pause, release, show, standing}
 use Rattle.ledger.specs.Ledger.{Sheet, verdictIn}
 use Rattle.ledger.proofs.Agreement.{Matches}
 use Rattle.ledger.proofs.Results.{Result}

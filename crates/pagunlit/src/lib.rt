@@ -3,13 +3,13 @@
 // shape, the entries and the reply are structs of 32-bit numbers.
 ghost use mathlib.Core.Path.{_≡_};
 ghost use Rattle.block.specs.Calls.{sealAnswer, afterSeal, checkAnswer};
-ghost use Rattle.replies.specs.Replies.{replyOf};
-ghost use Rattle.calls.specs.Lent.{noCard};
+ghost use Rattle.pagunlit_replies.specs.Replies.{replyOf};
+ghost use Rattle.refusals.specs.Lent.{noCard};
 ghost use Rattle.card.specs.Calls.{kept, freshOutcome, freshMap, freshEntries, searchOutcome, surveyOutcome, reserveOutcome, reserveMap, reserveEntries, reserveCard, growOutcome, growMap, growEntries, growCard, putOutcome, putCard, completeOutcome, completeEntries, pauseOutcome, pauseEntries, releaseOutcome, releaseMap, releaseEntries, showOutcome, showBuffer, standingOutcome, saveOutcome, saveScratch, saveImage, loadOutcome, loadMap, loadEntries, loadScratch};
 use card::Shape;
 use catalogue::Entry;
-use replies::Reply;
-use replies::reply_of;
+use pagunlit_replies::Reply;
+use pagunlit_replies::reply_of;
 
 #[no_mangle]
 pub extern "C" fn pagunlit_fresh(

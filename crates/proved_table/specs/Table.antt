@@ -5,16 +5,16 @@ use mathlib.Core.Bool.{Bool, true, false, _||_}
 use mathlib.Core.List.{[], _∷_}
 use Prim.Native.Nat.{ℕ}
 use lib.ListN.{length, replicate}
-use Rattle.freemap.specs.Blocks.{free, leastFit}
-use Rattle.freemap.specs.Maps.{mapOf, freshMap, inRun}
-use Rattle.freemap.specs.declared.Found.{Found}
-use Rattle.freemap.specs.declared.Found.the-variants.{At, Nothing}
-use Rattle.byte_slices.specs.Numbers.{bytes4, numberAt}
-use Rattle.sums.specs.Sealed.{front, sums, sealed}
+use Rattle.map_blocks.specs.Blocks.{free, leastFit}
+use Rattle.map_blocks.specs.Maps.{mapOf, freshMap, inRun}
+use Rattle.map_blocks.specs.declared.Found.{Found}
+use Rattle.map_blocks.specs.declared.Found.the-variants.{At, Nothing}
+use Rattle.block_bytes.specs.Numbers.{bytes4, numberAt}
+use Rattle.block_seals.specs.Sealed.{front, sums, sealed}
 use Rattle.catalogue.specs.Entries.{absent}
-use Rattle.frames.specs.Frames.{frames}
-use Rattle.frames.specs.Numbers.{bytes8, wordBytes}
-use Rattle.soundness.specs.Sound.{State}
+use Rattle.image_frames.specs.Frames.{frames}
+use Rattle.image_frames.specs.Numbers.{bytes8, wordBytes}
+use Rattle.image_soundness.specs.Sound.{State}
 use Rattle.image.specs.Image.{entryBytes, body, imageOf}
 
 -- The answer of a search for k in a card of n blocks, with a map of w words and block b free where f b.

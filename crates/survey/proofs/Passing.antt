@@ -8,16 +8,17 @@ use native.Mathlib.Nat.{zero-add}
 use native.Mathlib.Omega.{arith}
 use lib.Dec.{leb, ltb}
 use borrow.Author.Tests.{lt-ltb, le-ltb, le-leb}
-use Rattle.byte_counts.specs.Runs.{headOf, longestOf, runsOf}
-use Rattle.byte_counts.specs.Bytes.{bitsOf}
-use Rattle.passing.specs.Passing.{Summary}
+use Rattle.map_blocks.specs.Maps.{wordsFor}
+use Rattle.survey_bytes.specs.Runs.{headOf, longestOf, runsOf}
+use Rattle.survey_bytes.specs.Bytes.{bitsOf}
+use Rattle.survey_words.specs.Passing.{Summary}
 use Rattle.survey.specs.Survey.{blocks, freeOf, countsOf}
 use Rattle.survey.specs.Words.{Before}
 use Rattle.survey.proofs.Blocks.{blocks-join, blocks-same}
 use Rattle.survey.proofs.Taken.{Same, taken-end}
 use Rattle.survey.proofs.Words.{word-blocks}
-use Rattle.freemap.specs.Words.{bit, inWindow}
-use Rattle.freemap.proofs.Bits.{bit-ones}
+use Rattle.map_blocks.specs.Words.{bit, inWindow}
+use Rattle.map_blocks.proofs.Bits.{bit-ones}
 use Rattle.survey.specs.declared.Counts.{Counts}
 
 module _ (g : ℕ → Bool) (n : ℕ) where
@@ -69,9 +70,9 @@ nothing g n words =
 
 -- ---- the mask of a word: the last one's, and that of the words before it
 
-pub part-before : (n m : ℕ) → 0 < n → ((j : ℕ) → j < 64 → bit m j ≡ (leb 0 ((n - 1) / 64 * 64 + j) && ltb ((n - 1) / 64 * 64 + j) n)) → Before n ((n + 63) / 64) m
+pub part-before : (n m : ℕ) → 0 < n → ((j : ℕ) → j < 64 → bit m j ≡ (leb 0 ((n - 1) / 64 * 64 + j) && ltb ((n - 1) / 64 * 64 + j) n)) → Before n (wordsFor n) m
 part-before n m p h =
-    let e : (n - 1) / 64 ≡ (n + 63) / 64 - 1 = omega arith in
+    let e : (n - 1) / 64 ≡ wordsFor n - 1 = omega arith in
     λ q. subst (λ (i : ℕ). (j : ℕ) → j < 64 → bit m j ≡ (leb 0 (i * 64 + j) && ltb (i * 64 + j) n)) e h
 
 pub ones-before : (n i : ℕ) → i * 64 ≤ n → Before n i (2 ^ 64 - 1)

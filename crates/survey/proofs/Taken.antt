@@ -5,11 +5,11 @@ use mathlib.Core.Bool.{Bool, true, false}
 use mathlib.Core.List.{List, _∷_, _++_}
 use Prim.Native.Nat.{ℕ, zero, suc, _≤_}
 use native.Mathlib.Omega.{arith}
-use Rattle.byte_counts.specs.Runs.{headOf, tailOf, longestOf, runsOf}
-use Rattle.byte_counts.specs.Bytes.{bitsOf}
-use Rattle.passing.specs.Passing.{Summary}
+use Rattle.survey_bytes.specs.Runs.{headOf, tailOf, longestOf, runsOf}
+use Rattle.survey_bytes.specs.Bytes.{bitsOf}
+use Rattle.survey_words.specs.Passing.{Summary}
 use Rattle.survey.specs.Survey.{freeOf, blocks}
-use Rattle.passing.proofs.Joining.{head-longest, tail-longest, longest-append, runs-append, meet-none, meet-nothing}
+use Rattle.survey_words.proofs.Joining.{head-longest, tail-longest, longest-append, runs-append, meet-none, meet-nothing}
 use Rattle.survey.proofs.Blocks.{free-append}
 
 -- ---- taken blocks at the end

@@ -10,10 +10,10 @@ use native.Mathlib.Omega.{arith}
 use lib.Dec.{eqb}
 use lib.Pow.{pow-pos, mod-pow-add}
 use lib.Count.{ones, onesIn, ones-cat}
-use Rattle.byte_counts.specs.Bytes.{bitsOf}
+use Rattle.survey_bytes.specs.Bytes.{bitsOf}
 use Rattle.survey.specs.Survey.{blocks, freeOf}
-use Rattle.freemap.specs.Words.{bit}
-use Rattle.freemap.proofs.Bits.{low as bit-low}
+use Rattle.map_blocks.specs.Words.{bit}
+use Rattle.map_blocks.proofs.Bits.{low as bit-low}
 
 free-bit : (b : ℕ) (xs : List Bool) → b < 2 → freeOf (eqb b 1 ∷ xs) ≡ b + freeOf xs
 unfolding freeOf

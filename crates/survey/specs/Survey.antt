@@ -1,10 +1,10 @@
 -- The three counts of a survey, over the blocks of a card as a list (document 01, "Map and search"). The longest run and the
--- number of runs of a list are byte_counts' (specs/Runs.antt).
+-- number of runs of a list are survey_bytes' (specs/Runs.antt).
 -- Assumes nothing.
 use mathlib.Core.Bool.{Bool, cond}
 use mathlib.Core.List.{List, [], _∷_}
 use Prim.Native.Nat.{ℕ, zero, suc, _+_}
-use Rattle.byte_counts.specs.Runs.{longestOf, runsOf}
+use Rattle.survey_bytes.specs.Runs.{longestOf, runsOf}
 use Rattle.survey.specs.declared.Counts.{Counts}
 
 -- The m blocks from s on, in order; true is free.

@@ -5,7 +5,7 @@ use mathlib.Core.Path.{_≡_}
 use mathlib.Core.Bool.{_&&_}
 use Prim.Native.Nat.{ℕ, _+_, _-_, _*_, _<_}
 use lib.Dec.{leb, ltb}
-use Rattle.freemap.specs.Words.{bit}
+use Rattle.map_blocks.specs.Words.{bit}
 
 -- The mask m has the bits of those blocks of word i - 1 that lie before block n, and no others.
 abbrev pub Before : ℕ → ℕ → ℕ → Type 0

@@ -5,22 +5,23 @@ ghost use mathlib.Core.Bool.{Bool};
 ghost use mathlib.Core.List.{List, _++_};
 ghost use Prim.Native.Nat.{_+_, _*_, _≤_, _/_};
 ghost use lib.ListN.{length};
-ghost use Rattle.freemap.specs.Blocks.{free};
-ghost use Rattle.byte_counts.specs.Bytes.{bitsOf, Ruled};
-ghost use Rattle.passing.specs.Passing.{Summary};
+ghost use Rattle.map_blocks.specs.Blocks.{free};
+ghost use Rattle.map_blocks.specs.Maps.{wordsFor};
+ghost use Rattle.survey_bytes.specs.Bytes.{bitsOf, Ruled};
+ghost use Rattle.survey_words.specs.Passing.{Summary};
 ghost use Rattle.survey.specs.Survey.{countsOf};
 ghost use Rattle.survey.specs.Words.{Before};
 
 mod table;
 
-use byte_counts::bytes_apart;
-use freemap::word::ONES;
-use freemap::word::part;
-use passing::Passed;
-use passing::bytes_short;
-use passing::prepend_word_apart;
-use passing::prepend_word_joined;
-use passing::prepend_word_short;
+use map_blocks::word::ONES;
+use map_blocks::word::part;
+use survey_bytes::bytes_apart;
+use survey_words::Passed;
+use survey_words::bytes_short;
+use survey_words::prepend_word_apart;
+use survey_words::prepend_word_joined;
+use survey_words::prepend_word_short;
 use table::TABLE;
 
 // What a survey answers.
@@ -61,7 +62,7 @@ fn prepend_word(table: &[u8; 1024], passed: Passed, w: u64) -> Passed
 // The bits of word (n - 1) div 64 that belong to blocks before n.
 fn last_part(n: u32) -> u64
     requires { ⌜ n ≤ 262144 ⌝ }
-    ensures { λ r. ⌜ Before n ((n + 63) / 64) r ⌝ }
+    ensures { λ r. ⌜ Before n (wordsFor n) r ⌝ }
 {
     if n == 0 {
         return ONES;

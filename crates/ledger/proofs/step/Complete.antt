@@ -8,23 +8,24 @@ use native.Mathlib.Omega.{arith}
 use lib.Dec.{eqb, leb}
 use lib.ListN.{length, getD, set, length-map}
 use borrow.Author.Tests.{leb-false, eqb-true}
-use Rattle.freemap.specs.Blocks.{all}
-use Rattle.freemap.proofs.Runs.{all-intro, all-same}
-use Rattle.card_blocks.specs.Card.{blockOf}
-use Rattle.sums.specs.Sealed as block
+use Rattle.catalogue.specs.Entries.{completeMark, openMark}
+use Rattle.map_blocks.specs.Blocks.{all}
+use Rattle.map_blocks.proofs.Runs.{all-intro, all-same}
+use Rattle.blocks_of_card.specs.Card.{blockOf}
+use Rattle.block_seals.specs.Sealed as block
 use Rattle.catalogue.specs.declared.Entry.{Entry}
-use Rattle.standings.specs.Answers.{numberOf, valuesOf}
-use Rattle.standings.specs.Rows.{Row, Verdict, accepted, refused, settle}
-use Rattle.standings.specs.declared.Answer.{Answer}
-use Rattle.standings.specs.declared.Answer.the-variants as answers
-use Rattle.standings.specs.declared.Answer.the-variants.{Done, Refused}
-use Rattle.calls.specs.Lent.{lent}
-use Rattle.calls.specs.Effects as effects
-use Rattle.calls.specs.Effects.{entryOf, outOf}
-use Rattle.calls.specs.Table.{Call, on, complete, rowsFor, tableOf}
-use Rattle.calls.specs.Views.{viewOn}
-use Rattle.calls.proofs.BlankPlaces.{place-is-blank}
-use Rattle.calls.proofs.Rows.{clear, same-number}
+use Rattle.catalogue_standings.specs.Answers.{numberOf, valuesOf}
+use Rattle.catalogue_standings.specs.Rows.{Row, Verdict, accepted, refused, settle}
+use Rattle.catalogue_standings.specs.declared.Answer.{Answer}
+use Rattle.catalogue_standings.specs.declared.Answer.the-variants as answers
+use Rattle.catalogue_standings.specs.declared.Answer.the-variants.{Done, Refused}
+use Rattle.refusals.specs.Lent.{lent}
+use Rattle.refusals.specs.Effects as effects
+use Rattle.refusals.specs.Effects.{entryOf, outOf}
+use Rattle.refusals.specs.Table.{Call, on, complete, rowsFor, tableOf}
+use Rattle.refusals.specs.Views.{viewOn}
+use Rattle.refusals.proofs.BlankPlaces.{place-is-blank}
+use Rattle.refusals.proofs.Rows.{clear, same-number}
 use Rattle.ledger.specs.Ledger.{Place, Blank, Payload, Sheet, Complete, lengthIn, isBlank, bytesOf, sheetAt, placeAt, spareIn, completeIn, listed, rowsIn, verdictIn, deedIn}
 use Rattle.ledger.specs.Claim.{entryIn}
 use Rattle.ledger.specs.Steps.{End, endOf}
@@ -72,7 +73,7 @@ module _ (n : ℕ) (l : List Sheet) (card : List ℕ) (k : Matches n l card) (i 
   stored entry v = outEnd n l card k i (settle v (outOf (spareIn n l) entry Done) (λ number. outOf (spareIn n l) e (answer number))) (mapIn n l) card
 
   abbrev ends : Verdict → End
-  ends = stored (entryOf 0x43 (e .start) (e .length))
+  ends = stored (entryOf completeMark (e .start) (e .length))
 
   verdict : effects.completeVerdict (lent n (spareIn n l) (mapIn n l) card (length (map entryIn l)) e i) ≡ verdictIn n l call
   unfolding effects.completeVerdict
@@ -89,7 +90,7 @@ module _ (n : ℕ) (l : List Sheet) (card : List ℕ) (k : Matches n l card) (i 
       let o = was-open (sheetAt l i) (clear 5 rows h .0) (clear 6 rows h .0) (clear 8 rows h .0) in
       let filled = full l i (o .0) (o .1) (o .2) (clear 9 rows h .0) in
       let w : length (map bytesOf (o .1)) ≡ length (o .1) = length-map (o .1) bytesOf in
-      let was : e ≡ entryOf 0x4f (o .0) (length (o .1)) = entry-at l i lt ∙ ap entryIn (o .2) in
+      let was : e ≡ entryOf openMark (o .0) (length (o .1)) = entry-at l i lt ∙ ap entryIn (o .2) in
       one-sheet n l card k i complete (ends accepted) (record {
         inside = lt;
         sheet = Complete (o .0) (map bytesOf (o .1));
@@ -97,11 +98,11 @@ module _ (n : ℕ) (l : List Sheet) (card : List ℕ) (k : Matches n l card) (i 
         spare = spareIn n l;
         marks = mapIn n l;
         card-left = card;
-        entry = entryOf 0x43 (o .0) (length (o .1));
+        entry = entryOf completeMark (o .0) (length (o .1));
         answer = Done;
         changed = keep-complete n l card k i lt (o .0) (o .1) (o .2) filled;
-        stored = ap (entryOf 0x43 (o .0)) (sym w);
-        ends-so = ap (λ (y : Entry). stored (entryOf 0x43 (y .start) (y .length)) accepted) was;
+        stored = ap (entryOf completeMark (o .0)) (sym w);
+        ends-so = ap (λ (y : Entry). stored (entryOf completeMark (y .start) (y .length)) accepted) was;
         says-so = (refl, refl);
         moved = omega (arith, w, ap lengthIn (o .2));
         noted-here = λ p m had holds. ap (λ (ps : List Place). getD ps p Blank) filled ∙ subst (Has p m) (o .2) had refl;

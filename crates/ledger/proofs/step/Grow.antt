@@ -8,17 +8,18 @@ use native.Mathlib.Omega.{arith}
 use lib.Dec.{eqb, leb}
 use lib.ListN.{length, set, replicate, length-append, length-replicate}
 use borrow.Author.Tests.{leb-false, eqb-false, not-false}
-use Rattle.freemap.specs.Blocks.{fit}
-use Rattle.freemap.specs.Maps.{marked}
-use Rattle.card_blocks.specs.Card.{zeroed}
+use Rattle.catalogue.specs.Entries.{openMark}
+use Rattle.map_blocks.specs.Blocks.{fit}
+use Rattle.map_blocks.specs.Maps.{marked}
+use Rattle.blocks_of_card.specs.Card.{zeroed}
 use Rattle.catalogue.specs.declared.Entry.{Entry}
-use Rattle.standings.specs.Standings.{isAbsent, isPaused, isComplete}
-use Rattle.standings.specs.Rows.{Row, Verdict, accepted, settle}
-use Rattle.standings.specs.declared.Answer.the-variants.{Done}
-use Rattle.calls.specs.Effects as effects
-use Rattle.calls.specs.Effects.{entryOf, outOf, refusalOut}
-use Rattle.calls.specs.Table.{Call, on, grow, rowsFor, tableOf}
-use Rattle.calls.proofs.Rows.{clear}
+use Rattle.catalogue_standings.specs.Standings.{isAbsent, isPaused, isComplete}
+use Rattle.catalogue_standings.specs.Rows.{Row, Verdict, accepted, settle}
+use Rattle.catalogue_standings.specs.declared.Answer.the-variants.{Done}
+use Rattle.refusals.specs.Effects as effects
+use Rattle.refusals.specs.Effects.{entryOf, outOf, refusalOut}
+use Rattle.refusals.specs.Table.{Call, on, grow, rowsFor, tableOf}
+use Rattle.refusals.proofs.Rows.{clear}
 use Rattle.ledger.specs.Ledger.{Place, Blank, Sheet, Open, standingIn, startIn, lengthIn, sheetAt, freeIn, spareIn, growIn, listed, rowsIn, verdictIn, deedIn}
 use Rattle.ledger.specs.Claim.{entryIn}
 use Rattle.ledger.specs.Steps.{End, endOf}
@@ -72,7 +73,7 @@ module _ (n : ℕ) (l : List Sheet) (card : List ℕ) (k : Matches n l card) (i 
   -- where the entry is e
   abbrev taken : Entry → Verdict → End
   taken e v =
-      outEnd n l card k i (settle v (outOf (spareIn n l - m) (entryOf 0x4f (e .start) (e .length + m)) Done) (refusalOut (spareIn n l) e))
+      outEnd n l card k i (settle v (outOf (spareIn n l - m) (entryOf openMark (e .start) (e .length + m)) Done) (refusalOut (spareIn n l) e))
       (settle v (marked (mapIn n l) (e .start + e .length) m false) (λ number. mapIn n l)) (settle v (zeroed card (e .start + e .length) m) (λ number. card))
 
   abbrev ends : Verdict → End
@@ -94,10 +95,10 @@ module _ (n : ℕ) (l : List Sheet) (card : List ℕ) (k : Matches n l card) (i 
         spare = spareIn n l - m;
         marks = marked (mapIn n l) b m false;
         card-left = zeroed card b m;
-        entry = entryOf 0x4f (s .start) (length (s .places) + m);
+        entry = entryOf openMark (s .start) (length (s .places) + m);
         answer = Done;
         changed = keep-grow n l card k i (s .inside) (s .start) (s .places) (s .was) m (s .some) (s .fits);
-        stored = ap (entryOf 0x4f (s .start)) (sym (s .wide));
+        stored = ap (entryOf openMark (s .start)) (sym (s .wide));
         ends-so = ap (λ (y : Entry). taken y accepted) (entry-at l i (s .inside) ∙ ap entryIn (s .was));
         says-so = (refl, refl);
         moved = omega (arith, s .wide, ap lengthIn (s .was));

@@ -7,12 +7,13 @@ use mathlib.Core.List.{List}
 use native.Mathlib.Omega.{arith}
 use lib.ListN.{length}
 use borrow.Author.Tests.{leb-false}
-use Rattle.standings.specs.Rows.{Row, Verdict, accepted, settle}
-use Rattle.standings.specs.declared.Answer.the-variants.{Done}
-use Rattle.calls.specs.Effects as effects
-use Rattle.calls.specs.Effects.{entryOf, outOf, refusalOut}
-use Rattle.calls.specs.Table.{Call, on, pause, rowsFor, tableOf}
-use Rattle.calls.proofs.Rows.{clear}
+use Rattle.catalogue.specs.Entries.{pausedMark}
+use Rattle.catalogue_standings.specs.Rows.{Row, Verdict, accepted, settle}
+use Rattle.catalogue_standings.specs.declared.Answer.the-variants.{Done}
+use Rattle.refusals.specs.Effects as effects
+use Rattle.refusals.specs.Effects.{entryOf, outOf, refusalOut}
+use Rattle.refusals.specs.Table.{Call, on, pause, rowsFor, tableOf}
+use Rattle.refusals.proofs.Rows.{clear}
 use Rattle.ledger.specs.Ledger.{Sheet, Absent, Paused, startIn, lengthIn, placesIn, sheetAt, spareIn, listed, rowsIn, verdictIn, deedIn}
 use Rattle.ledger.specs.Steps.{End, endOf}
 use Rattle.ledger.proofs.Agreement.{mapIn, stateOf, Matches, verdict-at}
@@ -29,7 +30,7 @@ module _ (n : ℕ) (l : List Sheet) (card : List ℕ) (k : Matches n l card) (i 
   rows = rowsIn n l call
 
   abbrev ends : Verdict → End
-  ends v = outEnd n l card k i (settle v (outOf (spareIn n l) (entryOf 0x50 0 0) Done) (refusalOut (spareIn n l) (results.e n l card k i))) (mapIn n l) card
+  ends v = outEnd n l card k i (settle v (outOf (spareIn n l) (entryOf pausedMark 0 0) Done) (refusalOut (spareIn n l) (results.e n l card k i))) (mapIn n l) card
 
   ends-so : endOf (stateOf n l card) call ≡ ends (verdictIn n l call)
   unfolding effects.pauseOut rowsFor
@@ -48,7 +49,7 @@ module _ (n : ℕ) (l : List Sheet) (card : List ℕ) (k : Matches n l card) (i 
         spare = spareIn n l;
         marks = mapIn n l;
         card-left = card;
-        entry = entryOf 0x50 0 0;
+        entry = entryOf pausedMark 0 0;
         answer = Done;
         changed = keep-places n l card k i lt Paused ok (sym (ap startIn gone)) (sym (ap lengthIn gone)) (sym (ap placesIn gone));
         stored = refl;

@@ -9,16 +9,17 @@ use lib.Dec.{eqb, leb}
 use lib.ListN.{length, getD, set, length-set}
 use lib.Seq.{getD-set-same, getD-set-other}
 use borrow.Author.Tests.{leb-false, eqb-true, eqb-false, eq-eqb, ne-eqb, not-false}
-use Rattle.card_blocks.specs.Card.{withBlock}
-use Rattle.sums.specs.Sealed.{sealed}
+use Rattle.catalogue.specs.Entries.{openMark}
+use Rattle.blocks_of_card.specs.Card.{withBlock}
+use Rattle.block_seals.specs.Sealed.{sealed}
 use Rattle.catalogue.specs.declared.Entry.{Entry}
 use Rattle.catalogue.proofs.Storing.{stored-back}
-use Rattle.standings.specs.Rows.{Row, Verdict, accepted, settle}
-use Rattle.standings.specs.declared.Answer.the-variants.{Done, Refused}
-use Rattle.calls.specs.Effects as effects
-use Rattle.calls.specs.Effects.{entryOf}
-use Rattle.calls.specs.Table.{Call, on, put, rowsFor, tableOf}
-use Rattle.calls.proofs.Rows.{clear}
+use Rattle.catalogue_standings.specs.Rows.{Row, Verdict, accepted, settle}
+use Rattle.catalogue_standings.specs.declared.Answer.the-variants.{Done, Refused}
+use Rattle.refusals.specs.Effects as effects
+use Rattle.refusals.specs.Effects.{entryOf}
+use Rattle.refusals.specs.Table.{Call, on, put, rowsFor, tableOf}
+use Rattle.refusals.proofs.Rows.{clear}
 use Rattle.card.specs.Calls.{told}
 use Rattle.ledger.specs.Ledger.{Place, Blank, Payload, Sheet, Open, lengthIn, sheetAt, spareIn, putIn, listed, rowsIn, verdictIn, deedIn}
 use Rattle.ledger.specs.Claim.{entryIn}
@@ -66,7 +67,7 @@ module _ (n : ℕ) (l : List Sheet) (card : List ℕ) (k : Matches n l card) (i 
       let w : length (set (o .1) p (Payload payload)) ≡ length (o .1) = length-set (o .1) p (Payload payload) in
       let lp : p < length (o .1) = omega (arith, leb-false (lengthIn (sheetAt l i)) p (or-left _ _ three), ap lengthIn (o .2)) in
       let len : length payload ≡ 496 = eqb-true (length payload) 496 (not-false _ (or-right (leb (lengthIn (sheetAt l i)) p) _ three)) in
-      let was : e ≡ entryOf 0x4f (o .0) (length (o .1)) = entry-at l i lt ∙ ap entryIn (o .2) in
+      let was : e ≡ entryOf openMark (o .0) (length (o .1)) = entry-at l i lt ∙ ap entryIn (o .2) in
       one-sheet n l card k i (put p payload) (ends accepted) (record {
         inside = lt;
         sheet = Open (o .0) (set (o .1) p (Payload payload));
@@ -77,7 +78,7 @@ module _ (n : ℕ) (l : List Sheet) (card : List ℕ) (k : Matches n l card) (i 
         entry = e;
         answer = Done;
         changed = keep-put n l card k i lt (o .0) (o .1) (o .2) p payload lp len;
-        stored = was ∙ ap (entryOf 0x4f (o .0)) (sym w);
+        stored = was ∙ ap (entryOf openMark (o .0)) (sym w);
         ends-so = ap (λ (y : Entry). written (map entryIn l) (y .start) accepted) was ∙ ap (λ (es : List Entry). written es (o .0) accepted) (sym (stored-back (map entryIn l) i));
         says-so = (refl, refl);
         moved = omega (arith, w, ap lengthIn (o .2));

@@ -7,14 +7,15 @@ use mathlib.Core.List.{List}
 use native.Mathlib.Omega.{arith}
 use lib.ListN.{length}
 use borrow.Author.Tests.{leb-false, le-ltb}
-use Rattle.freemap.specs.Maps.{marked}
+use Rattle.catalogue.specs.Entries.{absentMark}
+use Rattle.map_blocks.specs.Maps.{marked}
 use Rattle.catalogue.specs.declared.Entry.{Entry}
-use Rattle.standings.specs.Rows.{Row, Verdict, accepted, settle}
-use Rattle.standings.specs.declared.Answer.the-variants.{Done}
-use Rattle.calls.specs.Effects as effects
-use Rattle.calls.specs.Effects.{entryOf, outOf, refusalOut}
-use Rattle.calls.specs.Table.{Call, on, release, rowsFor, tableOf}
-use Rattle.calls.proofs.Rows.{clear}
+use Rattle.catalogue_standings.specs.Rows.{Row, Verdict, accepted, settle}
+use Rattle.catalogue_standings.specs.declared.Answer.the-variants.{Done}
+use Rattle.refusals.specs.Effects as effects
+use Rattle.refusals.specs.Effects.{entryOf, outOf, refusalOut}
+use Rattle.refusals.specs.Table.{Call, on, release, rowsFor, tableOf}
+use Rattle.refusals.proofs.Rows.{clear}
 use Rattle.ledger.specs.Ledger.{Sheet, Absent, startIn, lengthIn, sheetAt, spareIn, listed, rowsIn, verdictIn, deedIn}
 use Rattle.ledger.specs.Steps.{End, endOf}
 use Rattle.ledger.proofs.Agreement.{mapIn, stateOf, Matches, entry-at, verdict-at}
@@ -34,7 +35,7 @@ module _ (n : ℕ) (l : List Sheet) (card : List ℕ) (k : Matches n l card) (i 
   -- where the entry is e
   abbrev freed : Entry → Verdict → End
   freed e v =
-      outEnd n l card k i (settle v (outOf (spareIn n l + e .length) (entryOf 0x41 0 0) Done) (refusalOut (spareIn n l) e))
+      outEnd n l card k i (settle v (outOf (spareIn n l + e .length) (entryOf absentMark 0 0) Done) (refusalOut (spareIn n l) e))
       (settle v (marked (mapIn n l) (e .start) (e .length) true) (λ number. mapIn n l)) card
 
   abbrev ends : Verdict → End
@@ -59,7 +60,7 @@ module _ (n : ℕ) (l : List Sheet) (card : List ℕ) (k : Matches n l card) (i 
         spare = spareIn n l + lengthIn x;
         marks = marked (mapIn n l) (startIn x) (lengthIn x) true;
         card-left = card;
-        entry = entryOf 0x41 0 0;
+        entry = entryOf absentMark 0 0;
         answer = Done;
         changed = keep-release n l card k i lt;
         stored = refl;

@@ -8,20 +8,21 @@ use native.Mathlib.Omega.{arith}
 use lib.Dec.{eqb, leb}
 use lib.ListN.{length, replicate, length-replicate}
 use borrow.Author.Tests.{leb-false, eqb-false, eq-eqb, ne-eqb}
-use Rattle.freemap.specs.Blocks as map-blocks
-use Rattle.freemap.specs.Blocks.{fit, leastFit}
-use Rattle.freemap.specs.Maps.{marked}
-use Rattle.freemap.proofs.Bools.{not-true}
-use Rattle.card_blocks.specs.Card.{zeroed}
-use Rattle.standings.specs.Searches.{startAt, none}
-use Rattle.standings.specs.Standings.{isPaused, isOpen, isComplete}
-use Rattle.standings.specs.Rows.{Row, Verdict, accepted, firstOf, settle}
-use Rattle.standings.specs.declared.Answer.the-variants.{Start}
-use Rattle.calls.specs.Effects as effects
-use Rattle.calls.specs.Effects.{entryOf, outOf, refusalOut}
-use Rattle.calls.specs.Table.{Call, on, reserve, rowsFor, tableOf}
-use Rattle.calls.proofs.Room.{fit-inside}
-use Rattle.calls.proofs.Rows.{clear}
+use Rattle.catalogue.specs.Entries.{openMark}
+use Rattle.map_blocks.specs.Blocks as map-blocks
+use Rattle.map_blocks.specs.Blocks.{fit, leastFit}
+use Rattle.map_blocks.specs.Maps.{marked}
+use Rattle.laws.proofs.Bools.{not-true}
+use Rattle.blocks_of_card.specs.Card.{zeroed}
+use Rattle.catalogue_standings.specs.Searches.{startAt, none}
+use Rattle.catalogue_standings.specs.Standings.{isPaused, isOpen, isComplete}
+use Rattle.catalogue_standings.specs.Rows.{Row, Verdict, accepted, firstOf, settle}
+use Rattle.catalogue_standings.specs.declared.Answer.the-variants.{Start}
+use Rattle.refusals.specs.Effects as effects
+use Rattle.refusals.specs.Effects.{entryOf, outOf, refusalOut}
+use Rattle.refusals.specs.Table.{Call, on, reserve, rowsFor, tableOf}
+use Rattle.refusals.proofs.Room.{fit-inside}
+use Rattle.refusals.proofs.Rows.{clear}
 use Rattle.ledger.specs.Ledger.{Blank, Sheet, Absent, Open, standingIn, lengthIn, sheetAt, freeIn, spareIn, leastIn, listed, rowsIn, verdictIn, deedIn, toldIn}
 use Rattle.ledger.specs.Claim.{before, Came, Searched}
 use Rattle.ledger.specs.Steps.{End, endOf}
@@ -71,7 +72,7 @@ module _ (n : ℕ) (l : List Sheet) (card : List ℕ) (k : Matches n l card) (i 
 
   abbrev taken : ℕ → Verdict → End
   taken at v =
-      outEnd n l card k i (settle v (outOf (spareIn n l - m) (entryOf 0x4f at m) (Start at)) (refusalOut (spareIn n l) (results.e n l card k i)))
+      outEnd n l card k i (settle v (outOf (spareIn n l - m) (entryOf openMark at m) (Start at)) (refusalOut (spareIn n l) (results.e n l card k i)))
       (settle v (marked (mapIn n l) at m false) (λ number. mapIn n l)) (settle v (zeroed card at m) (λ number. card))
 
   ends-so : endOf (stateOf n l card) call ≡ taken start (verdictIn n l call)
@@ -91,10 +92,10 @@ module _ (n : ℕ) (l : List Sheet) (card : List ℕ) (k : Matches n l card) (i 
         spare = spareIn n l - m;
         marks = marked (mapIn n l) start m false;
         card-left = zeroed card start m;
-        entry = entryOf 0x4f start m;
+        entry = entryOf openMark start m;
         answer = Start start;
         changed = keep-reserve n l card k i (s .inside) m start (s .gone) (s .some) (s .fits);
-        stored = ap (entryOf 0x4f start) (sym (length-replicate m Blank));
+        stored = ap (entryOf openMark start) (sym (length-replicate m Blank));
         ends-so = refl;
         says-so = (refl, refl);
         moved = omega (arith, length-replicate m Blank, ap lengthIn (s .gone));

@@ -6,16 +6,16 @@ use mathlib.Core.Bool.{Bool, true, false, not, true≢false}
 use mathlib.Core.List.{List, map}
 use lib.ListN.{length, getD}
 use borrow.Author.Tests.{leb-false}
-use Rattle.card_blocks.specs.Card.{blockOf}
-use Rattle.sums.specs.Sealed.{payloadOf}
-use Rattle.sums.proofs.Sealed.{payload-sealed}
+use Rattle.blocks_of_card.specs.Card.{blockOf}
+use Rattle.block_seals.specs.Sealed.{payloadOf}
+use Rattle.block_seals.proofs.Sealed.{payload-sealed}
 use Rattle.catalogue.specs.declared.Entry.{Entry}
-use Rattle.standings.specs.Standings.{isAbsent, isPaused, isOpen}
-use Rattle.standings.specs.Rows.{Row, Verdict, accepted, firstOf, settle}
-use Rattle.standings.specs.declared.Answer.the-variants.{Done, Refused}
-use Rattle.calls.specs.Effects as effects
-use Rattle.calls.specs.Table.{Call, on, show, misplaced, rowsFor, tableOf}
-use Rattle.calls.proofs.Rows.{clear}
+use Rattle.catalogue_standings.specs.Standings.{isAbsent, isPaused, isOpen}
+use Rattle.catalogue_standings.specs.Rows.{Row, Verdict, accepted, firstOf, settle}
+use Rattle.catalogue_standings.specs.declared.Answer.the-variants.{Done, Refused}
+use Rattle.refusals.specs.Effects as effects
+use Rattle.refusals.specs.Table.{Call, on, show, misplaced, rowsFor, tableOf}
+use Rattle.refusals.proofs.Rows.{clear}
 use Rattle.card.specs.Calls.{told}
 use Rattle.ledger.specs.Ledger.{Place, Blank, Payload, Sheet, standingIn, lengthIn, placesIn, isBlank, bytesOf, sheetAt, placeAt, spareIn, viewIn, listed, rowsIn, verdictIn, deedIn}
 use Rattle.ledger.specs.Claim.{entryIn, blockIn}

@@ -6,11 +6,11 @@ use mathlib.Core.List.{List, [], map}
 use lib.ListN.{length}
 use borrow.Author.Tests.{leb-false}
 use Rattle.catalogue.specs.declared.Entry.{Entry}
-use Rattle.standings.specs.Rows.{Row, Verdict, accepted, settle}
-use Rattle.standings.specs.declared.Answer.the-variants.{Stands, Refused}
-use Rattle.calls.specs.Effects as effects
-use Rattle.calls.specs.Table.{Call, on, standing, rowsFor, tableOf}
-use Rattle.calls.proofs.Rows.{clear}
+use Rattle.catalogue_standings.specs.Rows.{Row, Verdict, accepted, settle}
+use Rattle.catalogue_standings.specs.declared.Answer.the-variants.{Reads, Refused}
+use Rattle.refusals.specs.Effects as effects
+use Rattle.refusals.specs.Table.{Call, on, standing, rowsFor, tableOf}
+use Rattle.refusals.proofs.Rows.{clear}
 use Rattle.card.specs.Calls.{told}
 use Rattle.ledger.specs.Ledger.{Sheet, sheetAt, spareIn, listed, rowsIn, verdictIn, deedIn}
 use Rattle.ledger.specs.Claim.{entryIn}
@@ -27,7 +27,7 @@ module _ (n : ℕ) (l : List Sheet) (card : List ℕ) (k : Matches n l card) (i 
   rows = rowsIn n l call
 
   abbrev tellsOf : Entry → Verdict → End
-  tellsOf e v = ending (told (record { blocks = n; free = spareIn n l }) (settle v (Stands (e .mark) (e .start) (e .length)) Refused)) (mapIn n l) (map entryIn l) card []
+  tellsOf e v = ending (told (record { blocks = n; free = spareIn n l }) (settle v (Reads (e .mark) (e .start) (e .length)) Refused)) (mapIn n l) (map entryIn l) card []
 
   abbrev ends : Verdict → End
   ends = tellsOf (results.e n l card k i)
@@ -41,7 +41,7 @@ module _ (n : ℕ) (l : List Sheet) (card : List ℕ) (k : Matches n l card) (i 
   accepts h =
       let lt : i < length l = leb-false (length l) i (clear 2 rows h .0) in
       let x = entryIn (sheetAt l i) in
-      no-change n l card k call (ends accepted) (Stands (x .mark) (x .start) (x .length)) refl refl (λ j p m. refl) (ap (λ (e : Entry). tellsOf e accepted) (entry-at l i lt)) (refl, refl)
+      no-change n l card k call (ends accepted) (Reads (x .mark) (x .start) (x .length)) refl refl (λ j p m. refl) (ap (λ (e : Entry). tellsOf e accepted) (entry-at l i lt)) (refl, refl)
 
   pub standing-result : Result n l card call (verdictIn n l call)
   unfolding tableOf listed deedIn

@@ -1,5 +1,5 @@
 use mathlib.Core.Path.{ap, _∙_}
-use Rattle.replies.specs.Replies.{replyOf}
+use Rattle.pagunlit_replies.specs.Replies.{replyOf}
 use borrow.Author.Needs.{needs}
 use Rattle.pagunlit.proofs.pagunlit_search.Statement.{statement}
 use Rattle.pagunlit.proofs.pagunlit_search.Tie as tie

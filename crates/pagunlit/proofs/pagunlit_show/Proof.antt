@@ -1,9 +1,9 @@
--- Written by tools/walks: `pagunlit::pagunlit_show` meets its contract, by the walk of `ShownReply.antt` of the crate reply_chains, with the calls of `card::Shape::show`, `replies::reply_of`.
+-- Written by tools/walks: `pagunlit::pagunlit_show` meets its contract, by the walk of `ShownReply.antt` of the crate reply_chains, with the calls of `card::Shape::show`, `pagunlit_replies::reply_of`.
 -- Assumes nothing.
 use contract.Running.{givenOf, tables, tablesOf}
 use denote.Triple.Spec.{tripleOf}
 use denote.Triple.Table.{entered, cited}
-use Rattle.replies.specs.Replies.{replyOf}
+use Rattle.pagunlit_replies.specs.Replies.{replyOf}
 use Rattle.card.specs.Calls.{withCard}
 use Rattle.card.specs.Calls.{showOutcome, showBuffer}
 use Rattle.catalogue.proofs.Values.{Value, valueOf}
@@ -11,13 +11,13 @@ use Rattle.card.proofs.Shape as Shape′
 use Rattle.card.proofs.Shape.Laws as Shape″
 use Rattle.card.proofs.Outcome as Outcome′
 use Rattle.card.proofs.Outcome.Laws as Outcome″
-use Rattle.replies.proofs.Reply as Reply′
-use Rattle.replies.proofs.Reply.Laws as Reply″
+use Rattle.pagunlit_replies.proofs.Reply as Reply′
+use Rattle.pagunlit_replies.proofs.Reply.Laws as Reply″
 use Rattle.reply_chains.proofs.ShownReply.{call-contract, reply-of-contract, meets}
 use Rattle.card.proofs.Shape.show.Symbol as call-def
 use Rattle.card.proofs.Shape.show.Met as call-met
-use Rattle.replies.proofs.reply_of.Symbol as reply-of-def
-use Rattle.replies.proofs.reply_of.Met as reply-of-met
+use Rattle.pagunlit_replies.proofs.reply_of.Symbol as reply-of-def
+use Rattle.pagunlit_replies.proofs.reply_of.Met as reply-of-met
 use Rattle.pagunlit.proofs.pagunlit_show.Key.{name as #pagunlit-show}
 use Rattle.pagunlit.proofs.pagunlit_show as pagunlit-show
 use Rattle.pagunlit.proofs.pagunlit_show.Statement as stated
@@ -40,4 +40,4 @@ pagunlit-show-spec 𝓤 H 𝓜 𝓖 𝓡 =
     (meets Shape Outcome Reply call-def.name reply-of-def.name (withCard showOutcome) (withCard showBuffer) replyOf
     𝓤 H (𝓖 .A) (givenOf 𝓤 H 𝓜 𝓖) (tablesOf 𝓤 H 𝓜 (tables 𝓤 H 𝓜 𝓡 code.env))
     (cited 𝓤 H (call-contract Shape Outcome Reply (withCard showOutcome) (withCard showBuffer) 𝓤 H (𝓖 .A)) 𝓜 𝓡 code.env call-def.name call-def.routine code.calls-card·Shape·show (call-met.met 𝓤 H 𝓜 𝓖 𝓡))
-    (cited 𝓤 H (reply-of-contract Shape Outcome Reply replyOf 𝓤 H (𝓖 .A)) 𝓜 𝓡 code.env reply-of-def.name reply-of-def.routine code.calls-replies·reply-of (reply-of-met.met 𝓤 H 𝓜 𝓖 𝓡)))
+    (cited 𝓤 H (reply-of-contract Shape Outcome Reply replyOf 𝓤 H (𝓖 .A)) 𝓜 𝓡 code.env reply-of-def.name reply-of-def.routine code.calls-pagunlit-replies·reply-of (reply-of-met.met 𝓤 H 𝓜 𝓖 𝓡)))

@@ -4,8 +4,8 @@ use mathlib.Core.Path.{sym, subst}
 use mathlib.Core.List.{_++_}
 use Prim.Native.Nat.{ℕ}
 use native.Mathlib.Omega.{arith}
-use Rattle.byte_counts.specs.Bytes.{bitsOf}
-use Rattle.passing.specs.Passing.{Summary}
+use Rattle.survey_bytes.specs.Bytes.{bitsOf}
+use Rattle.survey_words.specs.Passing.{Summary}
 use Rattle.survey.proofs.Taken.{past-zero}
 use borrow.Author.Needs.{needs}
 use Rattle.survey.proofs.prepend_word.Statement.{statement}

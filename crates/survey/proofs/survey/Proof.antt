@@ -8,28 +8,25 @@ use lib.Count.{ones-le}
 use lib.ListN.{getD}
 use borrow.Author.Needs.{needs}
 use denote.Ref.{now}
-use Rattle.freemap.specs.Blocks.{free}
-use Rattle.byte_counts.specs.Runs.{headOf, tailOf, longestOf, runsOf}
-use Rattle.byte_counts.specs.Bytes.{bitsOf, column}
-use Rattle.passing.specs.Passing.{Summary}
+use Rattle.map_blocks.specs.Maps.{wordsFor}
+use Rattle.map_blocks.specs.Blocks.{free}
+use Rattle.survey_bytes.specs.Runs.{headOf, tailOf, longestOf, runsOf}
+use Rattle.survey_bytes.specs.Bytes.{bitsOf, column}
+use Rattle.survey_words.specs.Passing.{Summary}
 use Rattle.survey.specs.Survey.{freeOf}
 use Rattle.survey.specs.Words.{Before}
 use Rattle.survey.proofs.Blocks.{free-append}
 use Rattle.survey.proofs.Passing.{rest, rest-more, counted, nothing, ones-before}
 use Rattle.survey.proofs.Rule.{right, ruled}
 use Rattle.survey.proofs.Words.{free-word}
-use Rattle.freemap.proofs.Maps.{cut-word}
+use Rattle.map_blocks.proofs.Maps.{cut-word}
 use Rattle.survey.proofs.survey.Statement.{statement}
 use Rattle.survey.proofs.survey.Tie as tie
 
--- the words that hold the first n blocks
-abbrev words : ℕ → ℕ
-words n = (n + 63) / 64
-
 abbrev Inv-loop : tie.InvT-loop
 Inv-loop map n table free₀ passed₀ i₀ mask₀ free′ passed i mask =
-    (i ≤ words n) × Summary (passed .head) (passed .longest) (passed .runs) (rest (free map) n (words n) i) × (free′ ≡ freeOf (rest (free map) n (words n) i))
-    × (passed .head ≤ 2040 * (words n - i)) × (passed .runs ≤ 2040 * (words n - i)) × (free′ ≤ 64 * (words n - i)) × Before n i mask × (mask < 2 ^ 64)
+    (i ≤ wordsFor n) × Summary (passed .head) (passed .longest) (passed .runs) (rest (free map) n (wordsFor n) i) × (free′ ≡ freeOf (rest (free map) n (wordsFor n) i))
+    × (passed .head ≤ 2040 * (wordsFor n - i)) × (passed .runs ≤ 2040 * (wordsFor n - i)) × (free′ ≤ 64 * (wordsFor n - i)) × Before n i mask × (mask < 2 ^ 64)
 
 abbrev μ-loop : tie.MeasureT-loop
 μ-loop map n table free₀ passed₀ i₀ mask₀ free′ passed i mask = i
@@ -46,7 +43,7 @@ last-part-requires c κs = search needs
 loop-holds : tie.Need-loop-holds Inv-loop μ-loop
 loop-holds c =
     let a = c .before .before .args in
-    let start = nothing (free (now (a .map))) (a .n) (words (a .n)) in
+    let start = nothing (free (now (a .map))) (a .n) (wordsFor (a .n)) in
     (omega arith, start .0, start .1, omega arith, omega arith, omega arith, c .last-part .ensures, omega arith)
 
 sub-i : tie.Need-sub-i Inv-loop μ-loop
@@ -79,11 +76,11 @@ loop-again c =
     let i : ℕ = loop .i in
     let w : ℕ = bitAnd (getD (now (a .map)) (i - 1) 0) (loop .mask) in
     let small : w < 2 ^ 64 = omega (arith, and-le-r (getD (now (a .map)) (i - 1) 0) (loop .mask), loop .inv .7) in
-    let step = rest-more (free (now (a .map))) (a .n) (words (a .n)) i w (omega arith) (omega arith)
+    let step = rest-more (free (now (a .map))) (a .n) (wordsFor (a .n)) i w (omega arith) (omega arith)
     (cut-word (now (a .map)) 0 (a .n) (i - 1) (loop .mask) (loop .inv .6 (omega arith))) in (
       omega arith,
       subst (Summary _ _ _) step (c .prepend-word .ensures .0 _ (loop .inv .1)),
-      omega (arith, loop .inv .2, free-word w small, free-append (bitsOf 64 w) (rest (free (now (a .map))) (a .n) (words (a .n)) i), ap freeOf step),
+      omega (arith, loop .inv .2, free-word w small, free-append (bitsOf 64 w) (rest (free (now (a .map))) (a .n) (wordsFor (a .n)) i), ap freeOf step),
       omega (arith, c .prepend-word .ensures .1, loop .inv .3),
       omega (arith, c .prepend-word .ensures .1, loop .inv .4),
       omega (arith, ones-le 64 w small, loop .inv .5),
@@ -96,9 +93,9 @@ returns c =
     let loop = c .before .loop in
     let a = c .before .before .before .before .args in
     let z : loop .i ≡ 0 = omega arith in
-    counted (free (now (a .map))) (a .n) (words (a .n)) (loop .free) (loop .passed .head) (loop .passed .longest) (loop .passed .runs) (omega arith)
-    (loop .inv .2 ∙ ap (λ (i : ℕ). freeOf (rest (free (now (a .map))) (a .n) (words (a .n)) i)) z)
-    (subst (λ (i : ℕ). Summary (loop .passed .head) (loop .passed .longest) (loop .passed .runs) (rest (free (now (a .map))) (a .n) (words (a .n)) i)) z (loop .inv .1))
+    counted (free (now (a .map))) (a .n) (wordsFor (a .n)) (loop .free) (loop .passed .head) (loop .passed .longest) (loop .passed .runs) (omega arith)
+    (loop .inv .2 ∙ ap (λ (i : ℕ). freeOf (rest (free (now (a .map))) (a .n) (wordsFor (a .n)) i)) z)
+    (subst (λ (i : ℕ). Summary (loop .passed .head) (loop .passed .longest) (loop .passed .runs) (rest (free (now (a .map))) (a .n) (wordsFor (a .n)) i)) z (loop .inv .1))
 
 pub survey-spec : {M : Type 1} → statement M
 survey-spec =

@@ -8,12 +8,12 @@ use Rattle.catalogue.specs.Entries.{slotAt}
 use Rattle.card.specs.Calls.{outcomeOf}
 use Rattle.card.specs.Cores.{entryLeft}
 use Rattle.card.specs.Cores.{withSlot}
-use Rattle.calls.specs.Effects.{completeOut}
+use Rattle.refusals.specs.Effects.{completeOut}
 use Rattle.catalogue.proofs.Values.{Value, valueOf}
 use Rattle.catalogue.proofs.Slot as Slot′
 use Rattle.catalogue.proofs.Slot.Laws as Slot″
-use Rattle.calls.proofs.Out as Out′
-use Rattle.calls.proofs.Out.Laws as Out″
+use Rattle.refusals.proofs.Out as Out′
+use Rattle.refusals.proofs.Out.Laws as Out″
 use Rattle.card.proofs.Shape as Shape′
 use Rattle.card.proofs.Shape.Laws as Shape″
 use Rattle.card.proofs.Outcome as Outcome′

@@ -5,7 +5,7 @@ use denote.Triple.Spec.{tripleOf}
 use denote.Triple.Table.{entered, cited}
 use Rattle.catalogue.specs.Entries.{slotAt}
 use Rattle.card.specs.Cores.{withSlot, putOutcomeAt}
-use Rattle.calls.specs.Effects.{putCard}
+use Rattle.refusals.specs.Effects.{putCard}
 use Rattle.catalogue.proofs.Values.{Value, valueOf}
 use Rattle.catalogue.proofs.Slot as Slot′
 use Rattle.catalogue.proofs.Slot.Laws as Slot″

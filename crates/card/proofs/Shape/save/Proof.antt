@@ -1,4 +1,4 @@
--- Written by tools/walks: `card::Shape::save` meets its contract, by the walk of `Saved.antt` of the crate chains, with the calls of `card::cores::blocks_of`, `card::cores::free_of`, `saving::save`, `card::cores::save_outcome`.
+-- Written by tools/walks: `card::Shape::save` meets its contract, by the walk of `Saved.antt` of the crate chains, with the calls of `card::cores::blocks_of`, `card::cores::free_of`, `image_save::save`, `card::cores::save_outcome`.
 -- Assumes nothing.
 use contract.Running.{givenOf, tables, tablesOf}
 use denote.Triple.Spec.{tripleOf}
@@ -16,8 +16,8 @@ use Rattle.card.proofs.cores.blocks_of.Symbol as blocks-of-def
 use Rattle.card.proofs.cores.blocks_of.Met as blocks-of-met
 use Rattle.card.proofs.cores.free_of.Symbol as free-of-def
 use Rattle.card.proofs.cores.free_of.Met as free-of-met
-use Rattle.saving.proofs.save.Symbol as save-def
-use Rattle.saving.proofs.save.Met as save-met
+use Rattle.image_save.proofs.save.Symbol as save-def
+use Rattle.image_save.proofs.save.Met as save-met
 use Rattle.card.proofs.cores.save_outcome.Symbol as save-outcome-def
 use Rattle.card.proofs.cores.save_outcome.Met as save-outcome-met
 use Rattle.card.proofs.Shape.save.Key.{name as #save}
@@ -40,5 +40,5 @@ save-spec 𝓤 H 𝓜 𝓖 𝓡 =
     𝓤 H (𝓖 .A) (givenOf 𝓤 H 𝓜 𝓖) (tablesOf 𝓤 H 𝓜 (tables 𝓤 H 𝓜 𝓡 code.env))
     (cited 𝓤 H (blocks-of-contract Shape Outcome blocksOf 𝓤 H (𝓖 .A)) 𝓜 𝓡 code.env blocks-of-def.name blocks-of-def.routine code.calls-card·cores·blocks-of (blocks-of-met.met 𝓤 H 𝓜 𝓖 𝓡))
     (cited 𝓤 H (free-of-contract Shape Outcome spareOf 𝓤 H (𝓖 .A)) 𝓜 𝓡 code.env free-of-def.name free-of-def.routine code.calls-card·cores·free-of (free-of-met.met 𝓤 H 𝓜 𝓖 𝓡))
-    (cited 𝓤 H (save-contract Shape Outcome saveNumber saveScratch saveImage 𝓤 H (𝓖 .A)) 𝓜 𝓡 code.env save-def.name save-def.routine code.calls-saving·save (save-met.met 𝓤 H 𝓜 𝓖 𝓡))
+    (cited 𝓤 H (save-contract Shape Outcome saveNumber saveScratch saveImage 𝓤 H (𝓖 .A)) 𝓜 𝓡 code.env save-def.name save-def.routine code.calls-image-save·save (save-met.met 𝓤 H 𝓜 𝓖 𝓡))
     (cited 𝓤 H (save-outcome-contract Shape Outcome saveOutcomeBy 𝓤 H (𝓖 .A)) 𝓜 𝓡 code.env save-outcome-def.name save-outcome-def.routine code.calls-card·cores·save-outcome (save-outcome-met.met 𝓤 H 𝓜 𝓖 𝓡)))

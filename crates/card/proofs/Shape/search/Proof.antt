@@ -1,4 +1,4 @@
--- `card::Shape::search` meets its contract: the answer of the crate whole_calls.
+-- `card::Shape::search` meets its contract: the answer of the crate call_search.
 -- Assumes nothing.
 use mathlib.Core.Path.{ap}
 use borrow.Author.Needs.{needs}

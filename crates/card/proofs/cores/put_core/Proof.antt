@@ -1,4 +1,4 @@
--- `card::cores::put_core` meets its contract: the answer and the card of the crate calls.
+-- `card::cores::put_core` meets its contract: the answer and the card of the crate refusals.
 -- Assumes nothing.
 use mathlib.Core.Path.{ap}
 use borrow.Author.Needs.{needs}

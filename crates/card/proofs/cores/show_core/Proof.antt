@@ -1,4 +1,4 @@
--- `card::cores::show_core` meets its contract: the answer and the buffer of the crate calls.
+-- `card::cores::show_core` meets its contract: the answer and the buffer of the crate refusals.
 -- Assumes nothing.
 use mathlib.Core.Path.{ap}
 use borrow.Author.Needs.{needs}

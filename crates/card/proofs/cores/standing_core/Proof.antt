@@ -1,4 +1,4 @@
--- `card::cores::standing_core` meets its contract: the answer of the crate calls.
+-- `card::cores::standing_core` meets its contract: the answer of the crate refusals.
 -- Assumes nothing.
 use mathlib.Core.Path.{ap}
 use borrow.Author.Needs.{needs}

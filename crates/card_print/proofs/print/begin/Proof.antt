@@ -1,6 +1,6 @@
 use denote.Ref.{now}
-use Rattle.standings.proofs.Limits.{fits}
-use Rattle.standings.proofs.Tested.{fails, holds}
+use Rattle.catalogue_standings.proofs.Limits.{fits}
+use Rattle.catalogue_standings.proofs.Tested.{fails, holds}
 use Rattle.card_print.proofs.Beginning.{refusal-begins, misfit-begins, card-begins}
 use borrow.Author.Needs.{needs}
 use Rattle.card_print.proofs.print.begin.Statement.{statement}

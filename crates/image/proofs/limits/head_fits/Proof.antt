@@ -3,8 +3,8 @@
 use mathlib.Core.Path.{sym, ap, _∙_}
 use native.Mathlib.Omega.{arith}
 use borrow.Author.Needs.{needs}
-use Rattle.standings.proofs.Tested.{fails, holds}
-use Rattle.standings.specs.Limits.{shapeFits}
+use Rattle.catalogue_standings.proofs.Tested.{fails, holds}
+use Rattle.catalogue_standings.specs.Limits.{shapeFits}
 use Rattle.image.proofs.limits.head_fits.Statement.{statement}
 use Rattle.image.proofs.limits.head_fits.Tie as tie
 use Rattle.image.proofs.Fitting.{head-large, head-unshaped, head-uncounted, head-by-total, sheets-few}

@@ -1,7 +1,7 @@
 -- `limits::save_fits` meets its contract, test by test.
 -- Assumes nothing.
 use borrow.Author.Needs.{needs}
-use Rattle.standings.proofs.Tested.{fails, holds}
+use Rattle.catalogue_standings.proofs.Tested.{fails, holds}
 use Rattle.image.proofs.limits.save_fits.Statement.{statement}
 use Rattle.image.proofs.limits.save_fits.Tie as tie
 use Rattle.image.proofs.Fitting.{save-unshaped, save-uncounted, save-by-scratch}

@@ -7,7 +7,7 @@ use native.Mathlib.Omega.{arith}
 use lib.ListN.{length, replicate, drop}
 use borrow.Author.Fill.{fill-more}
 use borrow.Author.Needs.{needs}
-use Rattle.byte_slices.proofs.Stores.{filled}
+use Rattle.block_bytes.proofs.Stores.{filled}
 use Rattle.image.proofs.words.clear.Statement.{statement}
 use Rattle.image.proofs.words.clear.Tie as tie
 

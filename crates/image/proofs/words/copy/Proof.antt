@@ -6,7 +6,7 @@ use Prim.Native.Nat.{_≤_, _-_}
 use native.Mathlib.Omega.{arith}
 use lib.ListN.{length, take, drop}
 use borrow.Author.Needs.{needs}
-use Rattle.byte_slices.proofs.Stores.{copy-more, copied}
+use Rattle.block_bytes.proofs.Stores.{copy-more, copied}
 use Rattle.image.proofs.words.copy.Statement.{statement}
 use Rattle.image.proofs.words.copy.Tie as tie
 

@@ -1,0 +1,2 @@
+-- What the contracts of `bench_map` cite.
+pub mod Answers

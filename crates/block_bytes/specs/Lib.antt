@@ -1,0 +1,2 @@
+-- What the contracts of `block_bytes` cite.
+pub mod Numbers

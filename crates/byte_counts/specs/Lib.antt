@@ -1,3 +1,0 @@
--- What the contracts of `byte_counts` cite.
-pub mod Bytes
-pub mod Runs

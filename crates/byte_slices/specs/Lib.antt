@@ -1,2 +1,0 @@
--- What the contracts of `byte_slices` cite.
-pub mod Numbers

@@ -1,0 +1,43 @@
+// Release: any standing but Absent becomes Absent, and its blocks free. The card's bytes stay.
+ghost use mathlib.Core.Path.{_≡_};
+ghost use Rattle.refusals.specs.Lent.{lent, noCard};
+ghost use Rattle.refusals.specs.Effects.{releaseOut, releaseMap};
+use catalogue::ABSENT;
+use catalogue::Entry;
+use catalogue_standings::Answer;
+use catalogue_standings::Opened;
+use catalogue_standings::Standing;
+use catalogue_standings::opening::open_sheet;
+use catalogue_standings::opening::refused_row;
+use map_blocks::run::FREE;
+use map_blocks::run::mark;
+use refusals::Out;
+use refusals::refusal;
+
+pub fn release(n: u32, free: u32, map: &mut [u64], c: usize, entry: Entry, sheet: u32) -> Out
+    ensures { λ r. let q = lent n free (now (map .entry)) noCard c entry sheet in
+        ⌜ (r ≡ releaseOut q) × (now (map .exit) ≡ releaseMap q) ⌝ }
+{
+    let opened = open_sheet(n, free, map, c, sheet, entry);
+    let Opened::Stands(stands) = opened else {
+        return refusal(free, entry, refused_row(opened));
+    };
+    if let Standing::Absent = stands {
+        return refusal(free, entry, 5);
+    }
+    let start = entry.start;
+    let blocks = entry.length;
+    if n - free < blocks {
+        return refusal(free, entry, 4);
+    }
+    mark(map, start, blocks, FREE);
+    Out {
+        free: free + blocks,
+        entry: Entry {
+            mark: ABSENT,
+            start: 0,
+            length: 0,
+        },
+        answer: Answer::Done,
+    }
+}

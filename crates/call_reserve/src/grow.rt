@@ -1,0 +1,47 @@
+// Grow: the m blocks after an Open extent are added, taken and filled with zeros.
+ghost use mathlib.Core.Path.{_≡_};
+ghost use Rattle.refusals.specs.Lent.{lent};
+ghost use Rattle.refusals.specs.Effects.{growOut, growMap, growCard};
+use blocks_of_card::zero_blocks;
+use catalogue::Entry;
+use catalogue::OPEN;
+use catalogue_standings::Answer;
+use map_blocks::run::TAKEN;
+use map_blocks::run::mark;
+use refusals::Out;
+use refusals::refusal;
+use refusals_rulings::Ruling;
+use refusals_rulings::grow_ruling;
+
+pub fn grow(
+    n: u32,
+    free: u32,
+    map: &mut [u64],
+    card: &mut [u8],
+    c: usize,
+    entry: Entry,
+    sheet: u32,
+    m: u32,
+) -> Out
+    ensures { λ r. let q = lent n free (now (map .entry)) (now (card .entry)) c entry sheet in
+        ⌜ (r ≡ growOut q m)
+        × (now (map .exit) ≡ growMap q m)
+        × (now (card .exit) ≡ growCard q m) ⌝ }
+{
+    match grow_ruling(n, free, map, card, c, entry, sheet, m) {
+        Ruling::Refused(row) => refusal(free, entry, row),
+        Ruling::At(end) => {
+            mark(map, end, m, TAKEN);
+            zero_blocks(card, end, m);
+            Out {
+                free: free - m,
+                entry: Entry {
+                    mark: OPEN,
+                    start: entry.start,
+                    length: entry.length + m,
+                },
+                answer: Answer::Done,
+            }
+        }
+    }
+}

@@ -1,0 +1,48 @@
+// Reserve: Absent becomes Open at the least fit. Every block taken is filled with zeros, so that no old seal of the same
+// sheet passes for a new place.
+ghost use mathlib.Core.Path.{_≡_};
+ghost use Rattle.refusals.specs.Lent.{lent};
+ghost use Rattle.refusals.specs.Effects.{reserveOut, reserveMap, reserveCard};
+use blocks_of_card::zero_blocks;
+use catalogue::Entry;
+use catalogue::OPEN;
+use catalogue_standings::Answer;
+use map_blocks::run::TAKEN;
+use map_blocks::run::mark;
+use refusals::Out;
+use refusals::refusal;
+use refusals_rulings::Ruling;
+use refusals_rulings::reserve_ruling;
+
+pub fn reserve(
+    n: u32,
+    free: u32,
+    map: &mut [u64],
+    card: &mut [u8],
+    c: usize,
+    entry: Entry,
+    sheet: u32,
+    k: u32,
+) -> Out
+    ensures { λ r. let q = lent n free (now (map .entry)) (now (card .entry)) c entry sheet in
+        ⌜ (r ≡ reserveOut q k)
+        × (now (map .exit) ≡ reserveMap q k)
+        × (now (card .exit) ≡ reserveCard q k) ⌝ }
+{
+    match reserve_ruling(n, free, map, card, c, entry, sheet, k) {
+        Ruling::Refused(row) => refusal(free, entry, row),
+        Ruling::At(start) => {
+            mark(map, start, k, TAKEN);
+            zero_blocks(card, start, k);
+            Out {
+                free: free - k,
+                entry: Entry {
+                    mark: OPEN,
+                    start: start,
+                    length: k,
+                },
+                answer: Answer::Start(start),
+            }
+        }
+    }
+}

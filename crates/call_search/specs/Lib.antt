@@ -1,0 +1,2 @@
+-- What the contracts of `call_search` cite.
+pub mod Answers

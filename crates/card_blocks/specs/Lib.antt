@@ -1,2 +1,0 @@
--- What the contracts of `card_blocks` cite.
-pub mod Card

@@ -1,2 +1,0 @@
--- What the functions here find out, test by test.
-pub mod Tests

@@ -1,0 +1,70 @@
+// What no call does: shapes, lengths, entries, words and bytes set from outside.
+use crate::line;
+use crate::line::Line;
+use crate::state;
+use crate::state::Setup;
+
+fn lend(s: Setup, l: Line) -> Setup {
+    let begun = s.begun;
+    let entries = s.entries;
+    Setup {
+        begun: begun,
+        line: l,
+        blocks: s.blocks,
+        free: s.free,
+        entries: entries,
+        words: l.b as usize,
+        sheets: l.c as usize,
+        bytes: l.d as usize,
+    }
+}
+
+fn shape(s: Setup, l: Line) -> Setup {
+    let entries = s.entries;
+    state::with(s, l.c, l.d, entries)
+}
+
+fn entry(s: Setup, l: Line) -> Setup {
+    let mut entries = s.entries;
+    let at = l.a as usize;
+    if 1025 <= at {
+        return s;
+    }
+    entries[at] = state::entry(l.b, l.c, l.d);
+    state::with(s, s.blocks, s.free, entries)
+}
+
+fn word(map: &mut [u64], l: Line) {
+    let at = l.b as usize;
+    if at < map.len() {
+        map[at] = l.c as u64 * 4294967296 + l.d as u64;
+    }
+}
+
+fn byte(card: &mut [u8], l: Line) {
+    let at = l.c as usize;
+    if at < card.len() {
+        card[at] = card[at] ^ ((l.d % 256) as u8);
+    }
+}
+
+// A change of what lies in the map or on the card.
+pub fn buffers(map: &mut [u64], card: &mut [u8], l: Line) {
+    let kind = l.word;
+    match kind {
+        line::WORD => word(map, l),
+        line::BYTE => byte(card, l),
+        _ => {}
+    }
+}
+
+// A change of the shape, the entries, or what is lent.
+pub fn kept(s: Setup, l: Line) -> Setup {
+    let kind = l.word;
+    match kind {
+        line::LEND => lend(s, l),
+        line::SHAPE => shape(s, l),
+        line::ENTRY => entry(s, l),
+        _ => s,
+    }
+}

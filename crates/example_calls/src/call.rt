@@ -1,0 +1,80 @@
+// The call of a line, on what is lent to it.
+ghost use Prim.Native.Nat.{_≤_};
+use crate::lend;
+use card::Shape;
+use example_call_list::line;
+use example_call_list::payload;
+use example_call_list::state;
+use example_call_list::state::Setup;
+use example_call_list::state::Turn;
+
+// The calls that change neither the map nor the card.
+fn look(map: &[u64], card: &[u8], s: Setup) -> Turn
+    requires { ⌜ s .sheets ≤ 1025 ⌝ }
+{
+    let l = s.line;
+    let entries = s.entries;
+    let shape = Shape {
+        blocks: s.blocks,
+        free: s.free,
+    };
+    let kind = l.word;
+    match kind {
+        line::SEARCH => lend::turn_of(shape.search(map, l.d), entries),
+        line::SURVEY => lend::turn_of(shape.survey(map), entries),
+        line::COMPLETE => lend::complete(shape, map, entries, s.sheets, card, l.d),
+        line::PAUSE => lend::pause(shape, map, entries, s.sheets, l.d),
+        line::SHOW => {
+            let mut array = payload::buffer();
+            let all: &mut [u8] = &mut array;
+            let k = payload::length(l);
+            let turn = lend::show(
+                shape,
+                map,
+                entries,
+                s.sheets,
+                card,
+                l.b,
+                l.c,
+                &mut all[0..k],
+            );
+            payload::shown(turn, all)
+        }
+        line::STANDING => lend::standing(shape, map, entries, s.sheets, l.d),
+        _ => state::none(s),
+    }
+}
+
+fn on_parts(map: &mut [u64], card: &mut [u8], s: Setup) -> Turn
+    requires { ⌜ s .sheets ≤ 1025 ⌝ }
+{
+    let l = s.line;
+    let entries = s.entries;
+    let shape = Shape {
+        blocks: s.blocks,
+        free: s.free,
+    };
+    let kind = l.word;
+    match kind {
+        line::FRESH => lend::fresh(shape, l.d, map, entries, s.sheets),
+        line::RESERVE => lend::reserve(shape, map, entries, s.sheets, card, l.c, l.d),
+        line::GROW => lend::grow(shape, map, entries, s.sheets, card, l.c, l.d),
+        line::PUT => {
+            let all = payload::bytes(l);
+            let k = payload::length(l);
+            lend::put(shape, map, entries, s.sheets, card, l.a, l.b, &all[0..k])
+        }
+        line::RELEASE => lend::release(shape, map, entries, s.sheets, l.d),
+        _ => look(map, card, s),
+    }
+}
+
+// The list is read on by a byte, and the call made of a line that it ends. The first words, entries and bytes are lent, as many
+// as the state says.
+pub fn step(map: &mut [u64], card: &mut [u8], s: Setup, byte: u8) -> Setup {
+    let t = example_call_list::next(map, card, s, byte);
+    let words = t.words;
+    let bytes = t.bytes;
+    let turn = on_parts(&mut map[0..words], &mut card[0..bytes], t);
+    example_call_list::done(map, card, t, turn)
+}

@@ -1,0 +1,128 @@
+// The calls of `Shape`, on the first c of the entries that a state of the examples has by value. Each function lends them
+// to one call, and gives back what the call answered and what it left of them. The proofs are written by tools/walks.
+ghost use Prim.Native.Nat.{_≤_};
+use card::Outcome;
+use card::Shape;
+use catalogue::Entry;
+use example_call_list::state;
+use example_call_list::state::Turn;
+
+// What a call handed back, and the entries after it.
+pub fn turn_of(outcome: Outcome, entries: [Entry; 1025]) -> Turn {
+    let shape = outcome.shape;
+    let answer = outcome.answer;
+    state::handed_back(shape.blocks, shape.free, answer, entries, 0)
+}
+
+pub fn fresh(shape: Shape, blocks: u32, map: &mut [u64], entries: [Entry; 1025], c: usize) -> Turn
+    requires { ⌜ c ≤ 1025 ⌝ }
+{
+    let mut all = entries;
+    let outcome = shape.fresh(blocks, map, &mut all[..c]);
+    turn_of(outcome, all)
+}
+
+pub fn reserve(
+    shape: Shape,
+    map: &mut [u64],
+    entries: [Entry; 1025],
+    c: usize,
+    card: &mut [u8],
+    sheet: u32,
+    k: u32,
+) -> Turn
+    requires { ⌜ c ≤ 1025 ⌝ }
+{
+    let mut all = entries;
+    let outcome = shape.reserve(map, &mut all[..c], card, sheet, k);
+    turn_of(outcome, all)
+}
+
+pub fn grow(
+    shape: Shape,
+    map: &mut [u64],
+    entries: [Entry; 1025],
+    c: usize,
+    card: &mut [u8],
+    sheet: u32,
+    m: u32,
+) -> Turn
+    requires { ⌜ c ≤ 1025 ⌝ }
+{
+    let mut all = entries;
+    let outcome = shape.grow(map, &mut all[..c], card, sheet, m);
+    turn_of(outcome, all)
+}
+
+pub fn put(
+    shape: Shape,
+    map: &[u64],
+    entries: [Entry; 1025],
+    c: usize,
+    card: &mut [u8],
+    sheet: u32,
+    place: u32,
+    payload: &[u8],
+) -> Turn
+    requires { ⌜ c ≤ 1025 ⌝ }
+{
+    let all = entries;
+    let outcome = shape.put(map, &all[..c], card, sheet, place, payload);
+    turn_of(outcome, all)
+}
+
+pub fn complete(
+    shape: Shape,
+    map: &[u64],
+    entries: [Entry; 1025],
+    c: usize,
+    card: &[u8],
+    sheet: u32,
+) -> Turn
+    requires { ⌜ c ≤ 1025 ⌝ }
+{
+    let mut all = entries;
+    let outcome = shape.complete(map, &mut all[..c], card, sheet);
+    turn_of(outcome, all)
+}
+
+pub fn pause(shape: Shape, map: &[u64], entries: [Entry; 1025], c: usize, sheet: u32) -> Turn
+    requires { ⌜ c ≤ 1025 ⌝ }
+{
+    let mut all = entries;
+    let outcome = shape.pause(map, &mut all[..c], sheet);
+    turn_of(outcome, all)
+}
+
+pub fn release(shape: Shape, map: &mut [u64], entries: [Entry; 1025], c: usize, sheet: u32) -> Turn
+    requires { ⌜ c ≤ 1025 ⌝ }
+{
+    let mut all = entries;
+    let outcome = shape.release(map, &mut all[..c], sheet);
+    turn_of(outcome, all)
+}
+
+pub fn show(
+    shape: Shape,
+    map: &[u64],
+    entries: [Entry; 1025],
+    c: usize,
+    card: &[u8],
+    sheet: u32,
+    place: u32,
+    buffer: &mut [u8],
+) -> Turn
+    requires { ⌜ c ≤ 1025 ⌝ }
+{
+    let all = entries;
+    let outcome = shape.show(map, &all[..c], card, sheet, place, buffer);
+    turn_of(outcome, all)
+}
+
+pub fn standing(shape: Shape, map: &[u64], entries: [Entry; 1025], c: usize, sheet: u32) -> Turn
+    requires { ⌜ c ≤ 1025 ⌝ }
+{
+    let all = entries;
+    let outcome = shape.standing(map, &all[..c], sheet);
+    turn_of(outcome, all)
+}

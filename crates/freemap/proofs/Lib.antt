@@ -1,7 +1,0 @@
--- Laws that the proofs of several functions cite, and those for the crates above.
-pub mod Bits
-pub mod Bools
-pub mod Least
-pub mod Maps
-pub mod Masks
-pub mod Runs

@@ -1,4 +1,0 @@
--- What the contracts of `freemap` cite.
-pub mod Blocks
-pub mod Maps
-pub mod Words

@@ -1,0 +1,206 @@
+// Load (document 01, "Saved image"): the verdict, and then the map and the entries one by one. Everything is validated before the
+// first word of the map or the first entry is written, so that a refusal changes nothing but the scratch.
+ghost use mathlib.Core.Path.{_≡_};
+ghost use mathlib.Core.Bool.{true, _&&_};
+ghost use Prim.Native.Nat.{_+_, _≤_};
+ghost use lib.ListN.{length};
+ghost use Rattle.image_frames.specs.Frames.{totalOf};
+ghost use Rattle.image_soundness.specs.Releases.{tallyOf, scratchOf};
+ghost use Rattle.image_soundness.specs.Sound.{sound};
+ghost use Rattle.image.specs.Effects.{rowNumber, loadResult, loadMap, loadEntries, loadScratch};
+ghost use Rattle.map_blocks.specs.Maps.{wordsFor};
+ghost use Rattle.image.specs.Image.{blocksIn, freeCountIn, sheetsIn, entriesIn, stateIn, filled};
+ghost use Rattle.image_load.specs.Parts.{coreLoaded, coreMap, coreScratch, firstCursor, entryFrom, turnAfter, readCursor, readEntries};
+ghost use Rattle.image.specs.Table.{headFits, loadVerdict};
+use block::BLOCK;
+use catalogue::Entry;
+use image::Cursor;
+use image::Loaded;
+use image::limits::head_fits;
+use image::limits::load_fits;
+use image::limits::whole_blocks;
+use image::limits::words_for;
+use image::words::clear;
+use image_frames::all_framed;
+use image_frames::number;
+use image_frames::read_words;
+use image_frames::zeros_from;
+use image_soundness::Tally;
+use image_soundness::all_released;
+use image_soundness::release_entry;
+
+// One entry read: where the next one stands, and the entry.
+pub struct Turn {
+    pub state: Cursor,
+    pub entry: Entry,
+}
+
+// The entry that stands at number k of the body.
+fn entry_at(image: &[u8], k: usize) -> Entry
+    requires { ⌜ k + 2 ≤ 18446744073709551615 ⌝ }
+    ensures { λ r. ⌜ r ≡ entryFrom (now (image .entry)) k ⌝ }
+{
+    let mark = number(image, k);
+    let start = number(image, k + 1);
+    let blocks = number(image, k + 2);
+    Entry {
+        mark: mark,
+        start: start,
+        length: blocks,
+    }
+}
+
+// Releases the c entries that stand in an image, in the scratch.
+fn release_in(n: u32, first: Tally, scratch: &mut [u64], image: &[u8], c: usize) -> Tally
+    requires { ⌜ c ≤ 1024 ⌝ }
+    ensures { λ r. ⌜ (r ≡ tallyOf (entriesIn (now (image .entry)) c) n first (now (scratch .entry)))
+        × (now (scratch .exit) ≡ scratchOf (entriesIn (now (image .entry)) c) n first (now (scratch .entry))) ⌝ }
+{
+    let mut tally = first;
+    let mut i: usize = 0;
+    while i < c {
+        tally = release_entry(n, tally, scratch, entry_at(image, 3 + 3 * i));
+        i += 1;
+    }
+    tally
+}
+
+// Whether the state that stands in an image is sound and the fill zero.
+fn content_holds(image: &[u8], n: u32, free: u32, c: usize, scratch: &mut [u64]) -> bool
+    requires { ⌜ (n ≡ blocksIn (now image)) × (free ≡ freeCountIn (now image)) × (c ≡ sheetsIn (now image)) × (headFits n free c (totalOf (now image)) ≡ true)
+        × (length (now scratch) ≡ wordsFor n) × (length (now image) ≤ 46592) ⌝ }
+    ensures { λ r. ⌜ r ≡ (sound (stateIn (now (image .entry))) && filled (now (image .entry)) (blocksIn (now (image .entry))) (sheetsIn (now (image .entry)))) ⌝ }
+{
+    read_words(scratch, image, 3 + 3 * c);
+    let first = Tally {
+        left: n - free,
+        stop: false,
+    };
+    let tally = release_in(n, first, scratch, image, c);
+    if !all_released(n, tally, scratch) {
+        return false;
+    }
+    zeros_from(image, 3 + 3 * c + 2 * words_for(n))
+}
+
+// The rows of load.
+fn verdict(image: &[u8], maplen: usize, count: usize, scratch: &mut [u64]) -> u32
+    ensures { λ r. ⌜ r ≡ rowNumber (loadVerdict (now (image .entry)) maplen count (length (now (scratch .entry)))) ⌝ }
+{
+    if !whole_blocks(image.len()) {
+        return 12;
+    }
+    if !all_framed(image) {
+        return 13;
+    }
+    let n = number(image, 0);
+    let free = number(image, 1);
+    let c = number(image, 2) as usize;
+    if !head_fits(n, free, c, image.len() / BLOCK) {
+        return 14;
+    }
+    if !load_fits(n, c, maplen, count, scratch.len()) {
+        return 1;
+    }
+    if !content_holds(image, n, free, c, scratch) {
+        return 14;
+    }
+    0
+}
+
+// All of a load but the entries, for a catalogue of `count` of them.
+fn load_core(image: &[u8], map: &mut [u64], count: usize, scratch: &mut [u64]) -> Loaded
+    ensures { λ r. ⌜ (r ≡ coreLoaded (now (image .entry)) (now (map .entry)) count (now (scratch .entry)))
+        × (now (map .exit) ≡ coreMap (now (image .entry)) (now (map .entry)) count (now (scratch .entry)))
+        × (now (scratch .exit) ≡ coreScratch (now (image .entry)) (now (map .entry)) count (now (scratch .entry))) ⌝ }
+{
+    let refusal = verdict(image, map.len(), count, scratch);
+    clear(scratch);
+    if refusal != 0 {
+        return Loaded {
+            number: refusal,
+            blocks: 0,
+            free: 0,
+        };
+    }
+    read_words(map, image, 3 + 3 * count);
+    Loaded {
+        number: 0,
+        blocks: number(image, 0),
+        free: number(image, 1),
+    }
+}
+
+// Where the first entry stands. Nothing is read if the load was refused.
+fn first_cursor(loaded: Loaded) -> Cursor
+    ensures { λ r. ⌜ r ≡ firstCursor loaded ⌝ }
+{
+    Cursor {
+        next: 3,
+        stop: loaded.number != 0,
+    }
+}
+
+// Reads an entry.
+fn read_entry(image: &[u8], at: Cursor, entry: Entry) -> Turn
+    ensures { λ r. ⌜ r ≡ turnAfter (now (image .entry)) at entry ⌝ }
+{
+    let next = at.next;
+    if at.stop {
+        return Turn {
+            state: Cursor {
+                next: next,
+                stop: true,
+            },
+            entry: entry,
+        };
+    }
+    if image.len() <= next {
+        return Turn {
+            state: Cursor {
+                next: next,
+                stop: true,
+            },
+            entry: entry,
+        };
+    }
+    Turn {
+        state: Cursor {
+            next: next + 3,
+            stop: false,
+        },
+        entry: entry_at(image, next),
+    }
+}
+
+// Reads every entry into the catalogue.
+fn read_entries(catalogue: &mut [Entry], image: &[u8], start: Cursor) -> Cursor
+    ensures { λ r. ⌜ (r ≡ readCursor (now (catalogue .entry)) (now (image .entry)) start) × (now (catalogue .exit) ≡ readEntries (now (catalogue .entry)) (now (image .entry)) start) ⌝ }
+{
+    let mut state = start;
+    let mut i: usize = 0;
+    while i < catalogue.len() {
+        let turn = read_entry(image, state, catalogue[i]);
+        catalogue[i] = turn.entry;
+        state = turn.state;
+        if state.stop {
+            break;
+        }
+        i += 1;
+    }
+    state
+}
+
+// Loads an image.
+pub fn load(image: &[u8], map: &mut [u64], catalogue: &mut [Entry], scratch: &mut [u64]) -> Loaded
+    ensures { λ r. ⌜ (r ≡ loadResult (now (image .entry)) (now (map .entry)) (now (catalogue .entry)) (now (scratch .entry)))
+        × (now (map .exit) ≡ loadMap (now (image .entry)) (now (map .entry)) (now (catalogue .entry)) (now (scratch .entry)))
+        × (now (catalogue .exit) ≡ loadEntries (now (image .entry)) (now (map .entry)) (now (catalogue .entry)) (now (scratch .entry)))
+        × (now (scratch .exit) ≡ loadScratch (now (image .entry)) (now (map .entry)) (now (catalogue .entry)) (now (scratch .entry))) ⌝ }
+{
+    let count = catalogue::count(&*catalogue);
+    let loaded = load_core(image, map, count, scratch);
+    let first = first_cursor(loaded);
+    let last = read_entries(catalogue, image, first);
+    loaded
+}

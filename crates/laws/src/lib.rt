@@ -1,0 +1,1 @@
+// No code: general laws of tests and of order, which are about no card.

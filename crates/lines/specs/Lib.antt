@@ -1,2 +1,0 @@
--- The lines of a card's text.
-pub mod Lines

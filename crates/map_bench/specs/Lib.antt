@@ -1,2 +1,0 @@
--- What the contracts of `map_bench` cite.
-pub mod Answers

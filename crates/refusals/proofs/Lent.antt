@@ -1,0 +1,50 @@
+-- What the rows that a call begins with say of what it is lent, with the card.
+-- Assumes nothing.
+use mathlib.Core.Path.{_≡_, sym, ap, _∙_}
+use mathlib.Core.Bool.{Bool, true, _&&_}
+use mathlib.Core.List.{[]}
+use Prim.Native.Nat.{ℕ, _*_}
+use lib.Dec.{eqb}
+use lib.ListN.{length}
+use Rattle.map_blocks.specs.Blocks.{free}
+use Rattle.refusals.specs.Lent.{Lent}
+use Rattle.catalogue_standings.specs.Openings.{openedOf}
+use Rattle.catalogue_standings.specs.Standings.{standingOf}
+use Rattle.catalogue_standings.specs.Limits.{shapeFits, sheetsFit}
+use Rattle.catalogue_standings.specs.declared.Opened.{Opened}
+use Rattle.catalogue_standings.specs.declared.Opened.the-variants.{Refused, Stands}
+use Rattle.catalogue_standings.specs.declared.Standing.{Standing}
+use Rattle.catalogue_standings.specs.declared.Standing.the-variants.{Open}
+use Rattle.catalogue_standings.proofs.Limits.{CardFits, card-fits}
+use Rattle.catalogue_standings.proofs.Openings.{Extent, opened, open-extent}
+
+-- row 1 does not hold: the limits of n, and the lengths of map and card
+abbrev pub Sized : Lent → Type 0
+Sized q = CardFits (q .n) (q .spare) (length (q .map)) (length (q .card))
+
+module _ (q : Lent) where
+  abbrev pub allFits : Bool
+  allFits = shapeFits (q .n) (q .spare) (length (q .map)) && sheetsFit (q .sheets) && eqb (length (q .card)) (512 * q .n)
+
+  abbrev pub standing : Standing
+  standing = standingOf (q .n) (free (q .map)) (q .entry)
+
+  -- what the rows that the call begins with answer
+  abbrev pub first : Opened
+  first = openedOf allFits (q .sheets) (q .sheet) standing
+
+  pub sized : allFits ≡ true → Sized q
+  sized e = card-fits (q .n) (q .spare) (length (q .map)) (q .sheets) (length (q .card)) e
+
+  pub refused-first : (r : Opened) (number : ℕ) → r ≡ first → r ≡ Refused number → first ≡ Refused number
+  refused-first r number asked told = sym asked ∙ told
+
+  pub stands-first : (r : Opened) (s t : Standing) → r ≡ first → r ≡ Stands s → s ≡ t → first ≡ Stands t
+  stands-first r s t asked told same = sym asked ∙ told ∙ ap Stands same
+
+  pub limits : (s : Standing) → first ≡ Stands s → Sized q
+  limits s h = sized (opened allFits (q .sheets) (q .sheet) standing s [] h .all-fits)
+
+  pub extent : (start blocks : ℕ) → first ≡ Stands (Open start blocks) → Extent (q .n) (free (q .map)) (q .entry) start blocks
+  extent start blocks h =
+      open-extent (q .n) (free (q .map)) (q .entry) start blocks (opened allFits (q .sheets) (q .sheet) standing (Open start blocks) [] h .same)

@@ -1,0 +1,107 @@
+-- What the rows of release and its effects say: the verdict in each case, and what the call then hands back and leaves.
+-- Assumes nothing.
+use mathlib.Core.Path.{_≡_, refl, sym, ap, _∙_}
+use mathlib.Core.Bool.{true, false, _&&_}
+use mathlib.Core.List.{List, [], _∷_}
+use Prim.Native.Nat.{ℕ, _+_, _*_, _-_, _<_, _≤_}
+use native.Mathlib.Omega.{arith}
+use borrow.Author.Tests.{le-ltb, lt-ltb}
+use lib.Dec.{ltb}
+use lib.ListN.{length}
+use types.Run as Run
+use Rattle.catalogue.specs.Entries.{absentMark}
+use Rattle.map_blocks.specs.Blocks.{free}
+use Rattle.map_blocks.specs.Maps.{marked}
+use Rattle.refusals.specs.Lent.{Lent}
+use Rattle.refusals.specs.Effects.{entryOf, outOf, refusalOut, releaseVerdict, releaseOut, releaseMap}
+use Rattle.catalogue_standings.specs.Openings.{openedOf}
+use Rattle.catalogue_standings.specs.Rows.{Verdict, accepted, refused, settle}
+use Rattle.catalogue_standings.specs.Standings.{standingOf, isAbsent, lengthOf}
+use Rattle.refusals.specs.Table.{tableOf}
+use Rattle.catalogue_standings.specs.Limits.{shapeFits, sheetsFit}
+use Rattle.refusals.specs.Views.{viewAt}
+use Rattle.catalogue_standings.specs.declared.Answer.the-variants.{Done}
+use Rattle.catalogue_standings.specs.declared.Opened.{Opened}
+use Rattle.catalogue_standings.specs.declared.Opened.the-variants.{Refused, Stands}
+use Rattle.refusals.specs.declared.Out.{Out}
+use Rattle.catalogue_standings.specs.declared.Standing.{Standing}
+use Rattle.catalogue_standings.specs.declared.Standing.the-variants.{Absent, Paused, Open, Complete, Damaged}
+use Rattle.catalogue_standings.proofs.Entries.{Inside, inside-of}
+use Rattle.catalogue_standings.proofs.Limits.{Fits, sheet-fits}
+use Rattle.catalogue_standings.proofs.Openings.{skip, stop, closed, opened, none-left, Not}
+
+pub present : (s : Standing) → Not (1 ∷ 2 ∷ 3 ∷ 4 ∷ []) s → isAbsent s ≡ false
+present Absent t = absurd (Run.miss (1 ∷ 2 ∷ 3 ∷ 4 ∷ []) 0 tt t)
+present Paused t = refl
+present (Open a b) t = refl
+present (Complete a b) t = refl
+present Damaged t = refl
+
+module _ (q : Lent) where
+  abbrev pub verdict : Verdict
+  verdict = releaseVerdict q
+
+  abbrev pub done : Out
+  done = outOf (q .spare + q .entry .length) (entryOf absentMark 0 0) Done
+
+  abbrev pub freed : List ℕ
+  freed = marked (q .map) (q .entry .start) (q .entry .length) true
+
+  -- what is answered and what the map becomes, after a verdict
+  pub out : (v : Verdict) → verdict ≡ v → (r : Out) (after : List ℕ) → r ≡ settle v done (refusalOut (q .spare) (q .entry)) → after ≡ settle v freed (λ number. q .map)
+      → (r ≡ releaseOut q) × (after ≡ releaseMap q)
+  unfolding releaseOut releaseMap
+  out v h r after made left =
+      (made ∙ ap (λ (w : Verdict). settle w done (refusalOut (q .spare) (q .entry))) (sym h), left ∙ ap (λ (w : Verdict). settle w freed (λ number. q .map)) (sym h))
+
+  abbrev pub stands : Standing
+  stands = standingOf (q .n) (free (q .map)) (q .entry)
+
+  abbrev pub first : Opened
+  first = openedOf (shapeFits (q .n) (q .spare) (length (q .map)) && sheetsFit (q .sheets)) (q .sheets) (q .sheet) stands
+
+  pub shut : {o : Opened} (number : ℕ) → o ≡ first → o ≡ Refused number → verdict ≡ refused number
+  unfolding releaseVerdict viewAt tableOf
+  shut number given told = closed _ _ _ _ _ number (sym given ∙ told)
+
+  pub absent : {o : Opened} → o ≡ first → o ≡ Stands Absent → verdict ≡ refused 5
+  unfolding releaseVerdict viewAt tableOf
+  absent given told =
+      let x = opened _ _ _ _ Absent _ (sym given ∙ told) in
+      x .verdict ∙ stop 5 (isAbsent stands) _ (ap isAbsent (x .same))
+
+  module _ (s : Standing) {o : Opened} (given : o ≡ first) (told : o ≡ Stands s) where
+    -- the limits, and the extent to be freed
+    pub limits : Fits (q .n) (q .spare) (length (q .map))
+    limits = sheet-fits (q .n) (q .spare) (length (q .map)) (q .sheets) (opened _ _ _ _ s [] (sym given ∙ told) .all-fits)
+
+    pub extent : Inside (q .n) (q .entry) stands
+    extent = inside-of (q .n) (free (q .map)) (q .entry) (opened _ _ _ _ s [] (sym given ∙ told) .whole)
+
+    -- the blocks to be marked lie in the map
+    pub in-map : (q .entry .start + q .entry .length ≤ 262144) × (q .entry .start + q .entry .length ≤ 64 * length (q .map))
+    in-map =
+        let f = limits in
+        let x = extent in
+        (omega (arith, f .limit, x .inside), omega (arith, f .covered, x .inside))
+
+    module _ (differs : Not (1 ∷ 2 ∷ 3 ∷ 4 ∷ []) s) where
+      pub over : q .n - q .spare < q .entry .length → verdict ≡ refused 4
+      unfolding releaseVerdict viewAt tableOf
+      over above =
+          let x = opened _ _ _ _ s _ (sym given ∙ told) in
+          let below = limits .spare in
+          let lasts = extent .lasts in
+          x .verdict
+          ∙ skip 5 (isAbsent stands) _ (refused 4) (ap isAbsent (x .same) ∙ present s differs)
+          (stop 4 (ltb (q .n) (q .spare + lengthOf stands)) [] (lt-ltb (q .n) (q .spare + lengthOf stands) (omega arith)))
+
+      pub passes : q .entry .length ≤ q .n - q .spare → verdict ≡ accepted
+      unfolding releaseVerdict viewAt tableOf
+      passes within =
+          let x = opened _ _ _ _ s _ (sym given ∙ told) in
+          let below = limits .spare in
+          let lasts = extent .lasts in
+          x .verdict
+          ∙ skip 5 (isAbsent stands) _ accepted (ap isAbsent (x .same) ∙ present s differs)
+          (skip 4 (ltb (q .n) (q .spare + lengthOf stands)) [] accepted (le-ltb (q .n) (q .spare + lengthOf stands) (omega arith)) none-left)

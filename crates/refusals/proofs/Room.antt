@@ -1,0 +1,92 @@
+-- What an accepted reserve or grow has room for: its blocks lie inside the card, and the free count has as many.
+-- Assumes nothing.
+use mathlib.Core.Path.{_≡_, refl}
+use mathlib.Core.Bool.{Bool, true, false, _&&_, true≢false}
+use Prim.Native.Nat.{ℕ, _+_, _≤_}
+use native.Mathlib.Omega.{arith}
+use lib.Dec.{leb}
+use borrow.Author.Tests.{leb-true, ltb-false, not-false}
+use Rattle.map_blocks.specs.Blocks.{all, free, fit, leastFit}
+use Rattle.map_blocks.specs.declared.Found.{Found}
+use Rattle.map_blocks.specs.declared.Found.the-variants.{At, Nothing}
+use Rattle.laws.proofs.Bools.{and-left, and-right}
+use Rattle.catalogue_standings.specs.Searches.{startAt}
+use Rattle.refusals.specs.Effects.{reserveVerdict, reserveStart, growVerdict}
+use Rattle.catalogue_standings.specs.Rows.{Verdict, accepted}
+use Rattle.catalogue_standings.specs.Standings.{isAbsent, isPaused, isComplete, isDamaged, startOf, lengthOf}
+use Rattle.catalogue_standings.specs.Searches.{none}
+use Rattle.refusals.specs.Table.{View, on, reserve, grow, tableOf}
+use Rattle.refusals.specs.Views.{viewOn}
+use Rattle.catalogue_standings.specs.declared.Standing.{Standing}
+use Rattle.catalogue_standings.specs.declared.Standing.the-variants.{Absent, Paused, Open, Complete, Damaged}
+use Rattle.map_blocks.proofs.Least.{least-passes}
+use Rattle.refusals.proofs.Rows.{clear}
+use Rattle.refusals.specs.Lent.{Lent}
+use Rattle.refusals.proofs.Lent.{Sized, standing, sized}
+use Rattle.catalogue_standings.proofs.Openings.{open-extent}
+
+-- ---- where the blocks lie
+
+pub record Room (q : Lent) (start k : ℕ) : Type 0 where
+  pub sizes : Sized q
+  pub inside : start + k ≤ q .n
+  pub enough : k ≤ q .spare
+
+pub fit-inside : (f : ℕ → Bool) (n k s : ℕ) → fit f 0 n k s ≡ true → s + k ≤ n
+unfolding fit
+fit-inside f n k s e = leb-true (s + k) n (and-right (leb 0 s) (leb (s + k) n) (and-left (leb 0 s && leb (s + k) n) (all f s k) e))
+
+least-inside : (f : ℕ → Bool) (n k s : ℕ) → leastFit f 0 n k ≡ At s → s + k ≤ n
+unfolding leastFit
+least-inside f n k s e = fit-inside f n k s (least-passes (fit f 0 n k) 0 n s e .test)
+
+is-found : (o : Found) → none o ≡ false → o ≡ At (startAt o)
+is-found (At s) e = refl
+is-found Nothing e = absurd (true≢false e)
+
+-- the one standing that grow admits
+only-open : (s : Standing) → isDamaged s ≡ false → isAbsent s ≡ false → isPaused s ≡ false → isComplete s ≡ false → s ≡ Open (startOf s) (lengthOf s)
+only-open Absent d a p c = absurd (true≢false a)
+only-open Paused d a p c = absurd (true≢false p)
+only-open (Open s l) d a p c = refl
+only-open (Complete s l) d a p c = absurd (true≢false c)
+only-open Damaged d a p c = absurd (true≢false d)
+
+abbrev viewOf : Lent → View
+viewOf q = viewOn q
+
+module _ (q : Lent) (k : ℕ) where
+  abbrev pub reserveVerdictOn : Verdict
+  reserveVerdictOn = reserveVerdict q k
+
+  abbrev pub reserveStartOn : ℕ
+  reserveStartOn = reserveStart q k
+
+  pub reserve-room : reserveVerdictOn ≡ accepted → Room q reserveStartOn k
+  unfolding reserveVerdict reserveStart viewOn tableOf
+  reserve-room h =
+      let rows = tableOf (viewOf q) (on (q .sheet) (reserve k)) in
+      let found = leastFit (free (q .map)) 0 (q .n) k in
+      record {
+        sizes = sized q (not-false _ (clear 1 rows h .0));
+        inside = least-inside (free (q .map)) (q .n) k (startAt found) (is-found found (clear 10 rows h .0));
+        enough = ltb-false (q .spare) k (clear 4 rows h .1 .0);
+      }
+
+  abbrev pub growVerdictOn : Verdict
+  growVerdictOn = growVerdict q k
+
+  pub grow-room : growVerdictOn ≡ accepted → Room q (q .entry .start + q .entry .length) k
+  unfolding growVerdict viewOn tableOf
+  grow-room h =
+      let rows = tableOf (viewOf q) (on (q .sheet) (grow k)) in
+      let s : Standing = standing q in
+      let x =
+      open-extent (q .n) (free (q .map)) (q .entry) (startOf s) (lengthOf s)
+      (only-open s (clear 4 rows h .0) (clear 5 rows h .0) (clear 6 rows h .0) (clear 8 rows h .0)) in
+      let inside = fit-inside (free (q .map)) (q .n) k (startOf s + lengthOf s) (not-false _ (clear 11 rows h .0)) in
+      record {
+        sizes = sized q (not-false _ (clear 1 rows h .0));
+        inside = omega (arith, x .starts, x .lasts, inside);
+        enough = ltb-false (q .spare) k (clear 4 rows h .1 .0);
+      }

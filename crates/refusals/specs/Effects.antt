@@ -1,0 +1,144 @@
+-- What each call answers and leaves (document 01, "The ledger, call by call"): its verdict, then its change, or nothing changed.
+-- Assumes nothing.
+use Prim.Native.Nat.{ℕ, _+_, _-_}
+use mathlib.Core.Bool.{true, false, cond}
+use mathlib.Core.List.{List}
+use lib.Dec.{eqb}
+use lib.ListN.{length}
+use Rattle.map_blocks.specs.Blocks as map-blocks
+use Rattle.map_blocks.specs.Blocks.{least, leastFit}
+use Rattle.map_blocks.specs.Maps.{marked}
+use Rattle.blocks_of_card.specs.Card.{blockOf, withBlock, zeroed}
+use Rattle.block_seals.specs.Sealed.{sealed, payloadOf}
+use Rattle.catalogue.specs.Entries.{absent, pausedMark, openMark, completeMark}
+use Rattle.catalogue.specs.declared.Entry.{Entry}
+use Rattle.catalogue_standings.specs.Rows.{Verdict, settle}
+use Rattle.catalogue_standings.specs.Searches.{startAt}
+use Rattle.refusals.specs.Lent.{Lent}
+use Rattle.refusals.specs.Table.{on, reserve, put, grow, complete, pause, release, show, standing, verdictOf}
+use Rattle.refusals.specs.Views.{viewAt, viewOn}
+use Rattle.catalogue_standings.specs.declared.Answer.{Answer}
+use Rattle.catalogue_standings.specs.declared.Answer.the-variants.{Done, Start, Reads, Blank, Refused}
+use Rattle.refusals.specs.declared.Out.{Out}
+
+abbrev pub entryOf : ℕ → ℕ → ℕ → Entry
+entryOf mark start length = record { mark = mark; start = start; length = length }
+
+abbrev pub outOf : ℕ → Entry → Answer → Out
+outOf free e answer = record { free = free; entry = e; answer = answer }
+
+-- A refusal hands the free count and the entry back as they came.
+abbrev pub refusalOut : ℕ → Entry → ℕ → Out
+refusalOut free e number = outOf free e (Refused number)
+
+-- Reserve: Absent becomes Open at the least fit, its k blocks taken and filled with zeros.
+module _ (q : Lent) (k : ℕ) where
+  unfoldable pub reserveVerdict : Verdict
+  unfolding viewOn
+  reserveVerdict = verdictOf (viewOn q) (on (q .sheet) (reserve k))
+
+  unfoldable pub reserveStart : ℕ
+  reserveStart = startAt (leastFit (map-blocks.free (q .map)) 0 (q .n) k)
+
+  unfoldable pub reserveOut : Out
+  unfolding reserveVerdict reserveStart
+  reserveOut = settle reserveVerdict (outOf (q .spare - k) (entryOf openMark reserveStart k) (Start reserveStart)) (refusalOut (q .spare) (q .entry))
+
+  unfoldable pub reserveMap : List ℕ
+  unfolding reserveVerdict reserveStart
+  reserveMap = settle reserveVerdict (marked (q .map) reserveStart k false) (λ number. q .map)
+
+  unfoldable pub reserveCard : List ℕ
+  unfolding reserveVerdict reserveStart
+  reserveCard = settle reserveVerdict (zeroed (q .card) reserveStart k) (λ number. q .card)
+
+-- Grow: the m blocks after an Open extent are added, taken and filled with zeros.
+module _ (q : Lent) (m : ℕ) where
+  unfoldable pub growVerdict : Verdict
+  unfolding viewOn
+  growVerdict = verdictOf (viewOn q) (on (q .sheet) (grow m))
+
+  unfoldable pub growOut : Out
+  unfolding growVerdict
+  growOut = settle growVerdict (outOf (q .spare - m) (entryOf openMark (q .entry .start) (q .entry .length + m)) Done) (refusalOut (q .spare) (q .entry))
+
+  unfoldable pub growMap : List ℕ
+  unfolding growVerdict
+  growMap = settle growVerdict (marked (q .map) (q .entry .start + q .entry .length) m false) (λ number. q .map)
+
+  unfoldable pub growCard : List ℕ
+  unfolding growVerdict
+  growCard = settle growVerdict (zeroed (q .card) (q .entry .start + q .entry .length) m) (λ number. q .card)
+
+-- Put: on Open, that place's block becomes the sealed payload.
+module _ (q : Lent) (place : ℕ) (payload : List ℕ) where
+  unfoldable pub putVerdict : Verdict
+  unfolding viewOn
+  putVerdict = verdictOf (viewOn q) (on (q .sheet) (put place payload))
+
+  unfoldable pub putAnswer : Answer
+  unfolding putVerdict
+  putAnswer = settle putVerdict Done Refused
+
+  unfoldable pub putCard : List ℕ
+  unfolding putVerdict
+  putCard = settle putVerdict (withBlock (q .card) (q .entry .start + place) (sealed (q .sheet) place payload)) (λ number. q .card)
+
+-- Complete: Open becomes Complete if every place is filled. Which blank place is given with 9 is free in document 01;
+-- the program gives the lowest.
+module _ (q : Lent) where
+  unfoldable pub completeVerdict : Verdict
+  unfolding viewOn
+  completeVerdict = verdictOf (viewOn q) (on (q .sheet) complete)
+
+  unfoldable pub blankPlace : ℕ
+  unfolding viewOn
+  blankPlace = startAt (least (viewOn q .blank) 0 (q .entry .length))
+
+  unfoldable pub completeOut : Out
+  unfolding completeVerdict blankPlace
+  completeOut =
+      settle completeVerdict (outOf (q .spare) (entryOf completeMark (q .entry .start) (q .entry .length)) Done)
+      (λ number. outOf (q .spare) (q .entry) (cond (eqb number 9) (Blank blankPlace) (Refused number)))
+
+module _ (q : Lent) where
+  -- Pause: Absent becomes Paused.
+  unfoldable pub pauseVerdict : Verdict
+  unfolding viewAt
+  pauseVerdict = verdictOf (viewAt q) (on (q .sheet) pause)
+
+  unfoldable pub pauseOut : Out
+  unfolding pauseVerdict
+  pauseOut = settle pauseVerdict (outOf (q .spare) (entryOf pausedMark 0 0) Done) (refusalOut (q .spare) (q .entry))
+
+  -- Release: any standing but Absent becomes Absent, its blocks free; the card's bytes stay.
+  unfoldable pub releaseVerdict : Verdict
+  unfolding viewAt
+  releaseVerdict = verdictOf (viewAt q) (on (q .sheet) release)
+
+  unfoldable pub releaseOut : Out
+  unfolding releaseVerdict
+  releaseOut = settle releaseVerdict (outOf (q .spare + q .entry .length) absent Done) (refusalOut (q .spare) (q .entry))
+
+  unfoldable pub releaseMap : List ℕ
+  unfolding releaseVerdict
+  releaseMap = settle releaseVerdict (marked (q .map) (q .entry .start) (q .entry .length) true) (λ number. q .map)
+
+  -- Standing: answers mark, start and length.
+  unfoldable pub standingAnswer : Answer
+  unfolding viewAt
+  standingAnswer = settle (verdictOf (viewAt q) (on (q .sheet) standing)) (Reads (q .entry .mark) (q .entry .start) (q .entry .length)) Refused
+
+-- Show: copies a Complete sheet's payload out.
+module _ (q : Lent) (place : ℕ) (buffer : List ℕ) where
+  unfoldable pub showVerdict : Verdict
+  unfolding viewOn
+  showVerdict = verdictOf (viewOn q) (on (q .sheet) (show place buffer))
+
+  unfoldable pub showAnswer : Answer
+  unfolding showVerdict
+  showAnswer = settle showVerdict Done Refused
+
+  unfoldable pub showBuffer : List ℕ
+  unfolding showVerdict
+  showBuffer = settle showVerdict (payloadOf (blockOf (q .card) (q .entry .start + place))) (λ number. buffer)

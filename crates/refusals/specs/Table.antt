@@ -1,0 +1,97 @@
+-- The table of refusals (document 01, "What the caller gets instead"): for each call its rows, in the order 1, 2, 4 for the
+-- entry, 5 to 8, 3, 4 for blocks, 9, 10 or 11, and last 4 for the count. A call is refused with the first row that holds.
+-- Assumes nothing.
+use Prim.Native.Nat.{ℕ, _+_}
+use mathlib.Core.Bool.{Bool, not, _||_}
+use mathlib.Core.List.{List, [], _∷_}
+use lib.Dec.{eqb, leb, ltb}
+use lib.ListN.{length}
+use Rattle.map_blocks.specs.Blocks.{all, fit, leastFit}
+use Rattle.catalogue_standings.specs.Searches.{none}
+use Rattle.catalogue_standings.specs.Rows.{Row, row, Verdict, firstOf}
+use Rattle.catalogue_standings.specs.Standings.{isAbsent, isPaused, isOpen, isComplete, isDamaged, startOf, lengthOf}
+use Rattle.catalogue_standings.specs.declared.Standing.{Standing}
+
+-- What is asked of a sheet.
+pub data Ask : Type 0 where
+  reserve : ℕ → Ask
+  put : ℕ → List ℕ → Ask
+  grow : ℕ → Ask
+  complete : Ask
+  pause : Ask
+  release : Ask
+  show : ℕ → List ℕ → Ask
+  standing : Ask
+
+-- The calls of a list: something is asked of a sheet.
+pub data Call : Type 0 where
+  on : ℕ → Ask → Call
+
+-- What the rows read, for the sheet that is called for. The program's view is of shape, map, entry and card; the ledger's
+-- is of the ledger.
+pub record View : Type 0 where
+  -- row 1: a limit or a lent length is wrong
+  pub misfit : Bool
+  -- n, c and the free count
+  pub blocks : ℕ
+  pub sheets : ℕ
+  pub spare : ℕ
+  -- the sheet's standing, and which blocks are free
+  pub stands : Standing
+  pub free : ℕ → Bool
+  -- a place of the sheet is blank, or its block is sound
+  pub blank : ℕ → Bool
+  pub sound : ℕ → Bool
+
+-- Rows 5 to 8, for a standing that a call does not admit.
+abbrev pub absentRow : View → Row
+absentRow v = row 5 (isAbsent (v .stands))
+
+abbrev pub pausedRow : View → Row
+pausedRow v = row 6 (isPaused (v .stands))
+
+abbrev pub openRow : View → Row
+openRow v = row 7 (isOpen (v .stands))
+
+abbrev pub completeRow : View → Row
+completeRow v = row 8 (isComplete (v .stands))
+
+-- Rows 1, 2 and 4 for the entry, before the rows of the call.
+abbrev pub opening : View → ℕ → List Row → List Row
+opening v sheet rows = row 1 (v .misfit) ∷ row 2 (leb (v .sheets) sheet) ∷ row 4 (isDamaged (v .stands)) ∷ rows
+
+-- A place that the sheet does not have, or a slice that is not 496 bytes long.
+abbrev pub misplaced : View → ℕ → List ℕ → Bool
+misplaced v place slice = leb (lengthOf (v .stands)) place || not (eqb (length slice) 496)
+
+-- Every place of the sheet passes the test.
+abbrev pub everyPlace : View → (ℕ → Bool) → Bool
+everyPlace v test = all test 0 (lengthOf (v .stands))
+
+-- The rows of each, behind those that all begin with.
+unfoldable pub rowsFor : View → Ask → List Row
+unfolding all fit leastFit
+rowsFor v (reserve k) =
+    pausedRow v ∷ openRow v ∷ completeRow v ∷ row 3 (eqb k 0) ∷ row 10 (none (leastFit (v .free) 0 (v .blocks) k))
+    ∷ row 4 (ltb (v .spare) k) ∷ []
+rowsFor v (put place payload) = absentRow v ∷ pausedRow v ∷ completeRow v ∷ row 3 (misplaced v place payload) ∷ []
+rowsFor v (grow m) =
+    absentRow v ∷ pausedRow v ∷ completeRow v ∷ row 3 (eqb m 0)
+    ∷ row 11 (not (fit (v .free) 0 (v .blocks) m (startOf (v .stands) + lengthOf (v .stands))))
+    ∷ row 4 (ltb (v .spare) m) ∷ []
+rowsFor v complete =
+    absentRow v ∷ pausedRow v ∷ completeRow v ∷ row 4 (not (everyPlace v (λ p. v .blank p || v .sound p)))
+    ∷ row 9 (not (everyPlace v (λ p. not (v .blank p)))) ∷ []
+rowsFor v pause = pausedRow v ∷ openRow v ∷ completeRow v ∷ []
+rowsFor v release = absentRow v ∷ row 4 (ltb (v .blocks) (v .spare + lengthOf (v .stands))) ∷ []
+rowsFor v (show place buffer) =
+    absentRow v ∷ pausedRow v ∷ openRow v ∷ row 3 (misplaced v place buffer) ∷ row 4 (not (v .sound place)) ∷ []
+rowsFor v standing = []
+
+unfoldable pub tableOf : View → Call → List Row
+unfolding rowsFor
+tableOf v (on sheet ask) = opening v sheet (rowsFor v ask)
+
+-- The verdict on a call.
+abbrev pub verdictOf : View → Call → Verdict
+verdictOf v c = firstOf (tableOf v c)

@@ -1,0 +1,41 @@
+-- What the program's rows read: the view of shape, map, entry and card that a call is lent.
+-- Assumes nothing.
+use Prim.Native.Nat.{_+_, _*_}
+use mathlib.Core.Bool.{false, not, _&&_}
+use lib.Dec.{eqb}
+use lib.ListN.{length}
+use Rattle.map_blocks.specs.Blocks as map-blocks
+use Rattle.blocks_of_card.specs.Card.{blockOf}
+use Rattle.block_seals.specs.Sealed as sealed-block
+use Rattle.catalogue_standings.specs.Standings.{standingOf}
+use Rattle.catalogue_standings.specs.Limits.{shapeFits, sheetsFit}
+use Rattle.refusals.specs.Lent.{Lent}
+use Rattle.refusals.specs.Table.{View}
+
+-- A call that is not lent the card.
+unfoldable pub viewAt : Lent → View
+unfolding shapeFits sheetsFit
+viewAt q = record {
+  misfit = not (shapeFits (q .n) (q .spare) (length (q .map)) && sheetsFit (q .sheets));
+  blocks = q .n;
+  sheets = q .sheets;
+  spare = q .spare;
+  stands = standingOf (q .n) (map-blocks.free (q .map)) (q .entry);
+  free = map-blocks.free (q .map);
+  blank = λ p. false;
+  sound = λ p. false;
+}
+
+-- A call that is lent the card, of 512·n bytes.
+unfoldable pub viewOn : Lent → View
+unfolding shapeFits sheetsFit
+viewOn q = record {
+  misfit = not (shapeFits (q .n) (q .spare) (length (q .map)) && sheetsFit (q .sheets) && eqb (length (q .card)) (512 * q .n));
+  blocks = q .n;
+  sheets = q .sheets;
+  spare = q .spare;
+  stands = standingOf (q .n) (map-blocks.free (q .map)) (q .entry);
+  free = map-blocks.free (q .map);
+  blank = λ p. sealed-block.blank (blockOf (q .card) (q .entry .start + p));
+  sound = λ p. sealed-block.sound (q .sheet) p (blockOf (q .card) (q .entry .start + p));
+}

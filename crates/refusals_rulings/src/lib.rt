@@ -1,0 +1,93 @@
+// The rulings on the calls that take blocks, reserve and grow: where the blocks start, or the row that refuses the call.
+ghost use mathlib.Core.Path.{_≡_};
+ghost use Prim.Native.Nat.{_+_};
+ghost use Rattle.refusals.specs.Lent.{lent};
+ghost use Rattle.refusals.specs.Effects.{reserveVerdict, reserveStart, growVerdict};
+ghost use Rattle.refusals_rulings.specs.Rulings.{rulingOf};
+use catalogue::Entry;
+use catalogue_standings::Opened;
+use catalogue_standings::Standing;
+use catalogue_standings::opening::open_on;
+use catalogue_standings::opening::refused_row;
+use catalogue_standings::opening::row_of;
+use map_blocks::Found;
+use map_blocks::run::FREE;
+use map_blocks::run::all_marked;
+use map_search::search;
+
+// Where the blocks that a call takes start, or the number of the refusal.
+pub enum Ruling {
+    At(u32),
+    Refused(u32),
+}
+
+// The least fit, or the row that refuses the call.
+pub fn reserve_ruling(
+    n: u32,
+    free: u32,
+    map: &[u64],
+    card: &[u8],
+    c: usize,
+    entry: Entry,
+    sheet: u32,
+    k: u32,
+) -> Ruling
+    ensures { λ r. let q = lent n free (now (map .entry)) (now (card .entry)) c entry sheet in
+        ⌜ r ≡ rulingOf (reserveVerdict q k) (reserveStart q k) ⌝ }
+{
+    let opened = open_on(n, free, map, card.len(), c, sheet, entry);
+    let Opened::Stands(stands) = opened else {
+        return Ruling::Refused(refused_row(opened));
+    };
+    let Standing::Absent = stands else {
+        return Ruling::Refused(row_of(stands));
+    };
+    if k == 0 {
+        return Ruling::Refused(3);
+    }
+    let found = search(map, 0, n, k);
+    let Found::At(least) = found else {
+        return Ruling::Refused(10);
+    };
+    if free < k {
+        return Ruling::Refused(4);
+    }
+    Ruling::At(least)
+}
+
+// The end of the extent, or the row that refuses the call.
+pub fn grow_ruling(
+    n: u32,
+    free: u32,
+    map: &[u64],
+    card: &[u8],
+    c: usize,
+    entry: Entry,
+    sheet: u32,
+    m: u32,
+) -> Ruling
+    ensures { λ r. let q = lent n free (now (map .entry)) (now (card .entry)) c entry sheet in
+        ⌜ r ≡ rulingOf (growVerdict q m) (entry .start + entry .length) ⌝ }
+{
+    let opened = open_on(n, free, map, card.len(), c, sheet, entry);
+    let Opened::Stands(stands) = opened else {
+        return Ruling::Refused(refused_row(opened));
+    };
+    let Standing::Open(start, blocks) = stands else {
+        return Ruling::Refused(row_of(stands));
+    };
+    if m == 0 {
+        return Ruling::Refused(3);
+    }
+    let end = start + blocks;
+    if n - end < m {
+        return Ruling::Refused(11);
+    }
+    if !all_marked(map, end, m, FREE) {
+        return Ruling::Refused(11);
+    }
+    if free < m {
+        return Ruling::Refused(4);
+    }
+    Ruling::At(end)
+}

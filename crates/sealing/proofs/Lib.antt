@@ -1,2 +1,0 @@
--- The stores of a seal.
-pub mod Sealing

@@ -1,0 +1,176 @@
+// The blocks that a survey has passed, with a byte or a word before them. A word has three ways, each a byte at a time by the
+// table: each byte joined to what is behind it, and two that need fewer of its numbers, where the bits allow them.
+ghost use mathlib.Core.Path.{_≡_};
+ghost use mathlib.Core.Bool.{Bool, true};
+ghost use mathlib.Core.List.{List, _++_};
+ghost use Prim.Native.Nat.{_+_, _<_, _≤_, max};
+ghost use Rattle.survey_bytes.specs.Runs.{headOf, tailOf, meet};
+ghost use Rattle.survey_bytes.specs.Bytes.{bitsOf, Ruled, Apart};
+ghost use Rattle.survey_words.specs.Passing.{Summary, Short, runsIn};
+use survey_bytes::byte_longest;
+use survey_bytes::byte_runs;
+use survey_bytes::crossings;
+use survey_bytes::entry;
+use survey_bytes::joined_head;
+use survey_bytes::joined_runs;
+
+// What a survey keeps of the blocks passed: the free blocks at their head, their longest run, their number of runs.
+pub struct Passed {
+    pub head: u32,
+    pub longest: u32,
+    pub runs: u32,
+}
+
+// The larger of two.
+fn larger(a: u32, b: u32) -> u32
+    ensures { λ r. ⌜ r ≡ max a b ⌝ }
+{
+    if a < b { b } else { a }
+}
+
+// A byte before the blocks passed.
+fn prepend_byte(table: &[u8; 1024], passed: Passed, byte: usize) -> Passed
+    requires { ⌜ Ruled (now table) ⌝ }
+    requires { ⌜ (byte < 256) × (passed .head ≤ 16000000) × (passed .runs ≤ 16000000) ⌝ }
+    ensures { λ r. ⌜ ((ys : List Bool) → Summary (passed .head) (passed .longest) (passed .runs) ys → Summary (r .head) (r .longest) (r .runs) (bitsOf 8 byte ++ ys)) ⌝ }
+    ensures { λ r. ⌜ (r .head ≤ passed .head + 255) × (r .runs ≤ passed .runs + 255) ⌝ }
+{
+    let at = 4 * byte;
+    let h = entry(table, at) as u32;
+    let t = entry(table, at + 1) as u32;
+    let l = entry(table, at + 2) as u32;
+    let n = entry(table, at + 3) as u32;
+    let head = passed.head;
+    Passed {
+        head: joined_head(h, head),
+        longest: larger(larger(l, passed.longest), t + head),
+        runs: joined_runs(t, n, head, passed.runs),
+    }
+}
+
+// A byte before the blocks passed, where no run goes on from it into them.
+fn prepend_byte_apart(table: &[u8; 1024], passed: Passed, byte: usize) -> Passed
+    requires { ⌜ Ruled (now table) ⌝ }
+    requires { ⌜ (byte < 256) × (passed .runs ≤ 16000000) ⌝ }
+    ensures { λ r. ⌜ ((ys : List Bool) → Summary (passed .head) (passed .longest) (passed .runs) ys → meet (tailOf (bitsOf 8 byte)) (headOf ys) ≡ 0 → Summary (r .head) (r .longest) (r .runs) (bitsOf 8 byte ++ ys)) ⌝ }
+    ensures { λ r. ⌜ (r .head ≤ 255) × (r .runs ≤ passed .runs + 255) ⌝ }
+{
+    let at = 4 * byte;
+    let h = entry(table, at) as u32;
+    let l = entry(table, at + 2) as u32;
+    let n = entry(table, at + 3) as u32;
+    Passed {
+        head: h,
+        longest: larger(l, passed.longest),
+        runs: n + passed.runs,
+    }
+}
+
+// A word before the blocks passed, where no run goes on from one of its bytes into the next. Its last byte stands first.
+pub fn prepend_word_apart(table: &[u8; 1024], passed: Passed, w: u64) -> Passed
+    requires { ⌜ Ruled (now table) × Apart 7 w ⌝ }
+    requires { ⌜ (passed .head ≤ 15000000) × (passed .runs ≤ 15000000) ⌝ }
+    ensures { λ r. ⌜ ((ys : List Bool) → Summary (passed .head) (passed .longest) (passed .runs) ys → Summary (r .head) (r .longest) (r .runs) (bitsOf 64 w ++ ys)) ⌝ }
+    ensures { λ r. ⌜ (r .head ≤ passed .head + 2040) × (r .runs ≤ passed .runs + 2040) ⌝ }
+{
+    let w1 = w / 256;
+    let w2 = w1 / 256;
+    let w3 = w2 / 256;
+    let w4 = w3 / 256;
+    let w5 = w4 / 256;
+    let w6 = w5 / 256;
+    let w7 = w6 / 256;
+    let p0 = prepend_byte(table, passed, (w % 256) as usize);
+    let p1 = prepend_byte_apart(table, p0, (w1 % 256) as usize);
+    let p2 = prepend_byte_apart(table, p1, (w2 % 256) as usize);
+    let p3 = prepend_byte_apart(table, p2, (w3 % 256) as usize);
+    let p4 = prepend_byte_apart(table, p3, (w4 % 256) as usize);
+    let p5 = prepend_byte_apart(table, p4, (w5 % 256) as usize);
+    let p6 = prepend_byte_apart(table, p5, (w6 % 256) as usize);
+    prepend_byte_apart(table, p6, (w7 % 256) as usize)
+}
+
+// No byte of w is all free: their longest runs, or-ed together, are below 8.
+pub fn bytes_short(table: &[u8; 1024], w: u64) -> bool
+    requires { ⌜ Ruled (now table) ⌝ }
+    ensures { λ r. ⌜ (r ≡ true → Short 8 w) ⌝ }
+{
+    let w1 = w / 256;
+    let w2 = w1 / 256;
+    let w3 = w2 / 256;
+    let w4 = w3 / 256;
+    let w5 = w4 / 256;
+    let w6 = w5 / 256;
+    let w7 = w6 / 256;
+    let any1 = byte_longest(table, w) | byte_longest(table, w1);
+    let any2 = any1 | byte_longest(table, w2);
+    let any3 = any2 | byte_longest(table, w3);
+    let any4 = any3 | byte_longest(table, w4);
+    let any5 = any4 | byte_longest(table, w5);
+    let any6 = any5 | byte_longest(table, w6);
+    any6 | byte_longest(table, w7) < 8
+}
+
+// The runs of the bytes of w, added up.
+fn runs_of_bytes(table: &[u8; 1024], w: u64) -> u8
+    requires { ⌜ Ruled (now table) ⌝ }
+    ensures { λ r. ⌜ (r ≡ runsIn 8 w) × (r ≤ 64) ⌝ }
+{
+    let w1 = w / 256;
+    let w2 = w1 / 256;
+    let w3 = w2 / 256;
+    let w4 = w3 / 256;
+    let w5 = w4 / 256;
+    let w6 = w5 / 256;
+    let w7 = w6 / 256;
+    let n1 = byte_runs(table, w) + byte_runs(table, w1);
+    let n2 = n1 + byte_runs(table, w2);
+    let n3 = n2 + byte_runs(table, w3);
+    let n4 = n3 + byte_runs(table, w4);
+    let n5 = n4 + byte_runs(table, w5);
+    let n6 = n5 + byte_runs(table, w6);
+    n6 + byte_runs(table, w7)
+}
+
+// A word before the blocks passed, where none of its bytes is all free and a run of 14, which is the longest that two such
+// bytes make, would not be the longest.
+pub fn prepend_word_short(table: &[u8; 1024], passed: Passed, w: u64) -> Passed
+    requires { ⌜ Ruled (now table) × Short 8 w ⌝ }
+    requires { ⌜ (14 ≤ passed .longest) × (passed .head ≤ 15000000) × (passed .runs ≤ 15000000) ⌝ }
+    ensures { λ r. ⌜ ((ys : List Bool) → Summary (passed .head) (passed .longest) (passed .runs) ys → Summary (r .head) (r .longest) (r .runs) (bitsOf 64 w ++ ys)) ⌝ }
+    ensures { λ r. ⌜ (r .head ≤ passed .head + 2040) × (r .runs ≤ passed .runs + 2040) ⌝ }
+{
+    let w7 = w / 256 / 256 / 256 / 256 / 256 / 256 / 256;
+    let h = entry(table, 4 * ((w7 % 256) as usize)) as u32;
+    let t = entry(table, 4 * ((w % 256) as usize) + 1) as u32;
+    let n = (runs_of_bytes(table, w) as u32) - crossings(w);
+    Passed {
+        head: h,
+        longest: larger(passed.longest, t + passed.head),
+        runs: joined_runs(t, n, passed.head, passed.runs),
+    }
+}
+
+// A word before the blocks passed, whatever its bytes are: the last one first, each joined to what is behind it.
+pub fn prepend_word_joined(table: &[u8; 1024], passed: Passed, w: u64) -> Passed
+    requires { ⌜ Ruled (now table) ⌝ }
+    requires { ⌜ (passed .head ≤ 15000000) × (passed .runs ≤ 15000000) ⌝ }
+    ensures { λ r. ⌜ ((ys : List Bool) → Summary (passed .head) (passed .longest) (passed .runs) ys → Summary (r .head) (r .longest) (r .runs) (bitsOf 64 w ++ ys)) ⌝ }
+    ensures { λ r. ⌜ (r .head ≤ passed .head + 2040) × (r .runs ≤ passed .runs + 2040) ⌝ }
+{
+    let w1 = w / 256;
+    let w2 = w1 / 256;
+    let w3 = w2 / 256;
+    let w4 = w3 / 256;
+    let w5 = w4 / 256;
+    let w6 = w5 / 256;
+    let w7 = w6 / 256;
+    let p0 = prepend_byte(table, passed, (w % 256) as usize);
+    let p1 = prepend_byte(table, p0, (w1 % 256) as usize);
+    let p2 = prepend_byte(table, p1, (w2 % 256) as usize);
+    let p3 = prepend_byte(table, p2, (w3 % 256) as usize);
+    let p4 = prepend_byte(table, p3, (w4 % 256) as usize);
+    let p5 = prepend_byte(table, p4, (w5 % 256) as usize);
+    let p6 = prepend_byte(table, p5, (w6 % 256) as usize);
+    prepend_byte(table, p6, (w7 % 256) as usize)
+}

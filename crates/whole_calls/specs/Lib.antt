@@ -1,2 +1,0 @@
--- What the contracts of `whole_calls` cite.
-pub mod Answers
