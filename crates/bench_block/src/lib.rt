@@ -11,7 +11,8 @@ ghost use Rattle.blocks_of_card.specs.Card.{blockOf, zeroed};
 #[no_mangle]
 pub extern "C" fn bench_zero_blocks(card: &mut [u8], b: u32, k: u32) -> u32
     ensures { λ r. ⌜ r ≡ cond (leb (512 * (b + k)) (length (now (card .entry)))) 0 3 ⌝ }
-    ensures { λ _. ⌜ now (card .exit) ≡ cond (leb (512 * (b + k)) (length (now (card .entry)))) (zeroed (now (card .entry)) b k) (now (card .entry)) ⌝ }
+    ensures { λ _. ⌜ now (card .exit) ≡ cond (leb (512 * (b + k)) (length (now (card .entry))))
+        (zeroed (now (card .entry)) b k) (now (card .entry)) ⌝ }
 {
     if 512 * ((b as usize) + (k as usize)) <= card.len() {
         blocks_of_card::zero_blocks(card, b, k);
@@ -23,7 +24,8 @@ pub extern "C" fn bench_zero_blocks(card: &mut [u8], b: u32, k: u32) -> u32
 // Gives 1 if block b is blank, else 0.
 #[no_mangle]
 pub extern "C" fn bench_blank_block(card: &[u8], b: u32) -> u32
-    ensures { λ r. ⌜ r ≡ cond (leb (512 * b + 512) (length (now (card .entry)))) (cond (blank (blockOf (now (card .entry)) b)) 1 0) 3 ⌝ }
+    ensures { λ r. ⌜ r ≡ cond (leb (512 * b + 512) (length (now (card .entry))))
+        (cond (blank (blockOf (now (card .entry)) b)) 1 0) 3 ⌝ }
 {
     if 512 * (b as usize) + 512 <= card.len() {
         if blocks_of_card::blank_block(card, b) {

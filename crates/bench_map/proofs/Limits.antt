@@ -49,11 +49,13 @@ pub search-outside : (map : List ℕ) (n k : ℕ) → 0 < k → withinLimits map
 unfolding searched
 search-outside map n k p e = simp (le-leb 1 k p, e)
 
-pub search-within : (map : List ℕ) (n k : ℕ) → 0 < k → withinLimits map n ≡ true → startFor (leastFit (free map) 0 n k) ≡ searched map n k
+pub search-within : (map : List ℕ) (n k : ℕ) → 0 < k → withinLimits map n ≡ true
+    → startFor (leastFit (free map) 0 n k) ≡ searched map n k
 unfolding searched
 search-within map n k p e = simp (le-leb 1 k p, e)
 
-pub survey-outside : (map : List ℕ) (n : ℕ) → withinLimits map n ≡ false → _≡_ {A = Counts} (record { free = 0; runs = 0; longest = 0 }) (surveyed map n)
+pub survey-outside : (map : List ℕ) (n : ℕ) → withinLimits map n ≡ false
+    → _≡_ {A = Counts} (record { free = 0; runs = 0; longest = 0 }) (surveyed map n)
 unfolding surveyed
 survey-outside map n e = simp e
 

@@ -19,17 +19,23 @@ module _ (block : List ℕ) where
   check-done r n h e en = rw (eq-eqb (length block) 512 h, ← e) en
 
 module _ (sheet place : ℕ) (payload block : List ℕ) where
-  pub seal-wrong-payload : (length payload ≡ 496 → ⊥) → (3 ≡ sealAnswer payload block) × (block ≡ afterSeal sheet place payload block)
+  pub seal-wrong-payload : (length payload ≡ 496 → ⊥)
+      → (3 ≡ sealAnswer payload block) × (block ≡ afterSeal sheet place payload block)
   unfolding sealAnswer afterSeal
   seal-wrong-payload h = (rw (ne-eqb (length payload) 496 h), rw (ne-eqb (length payload) 496 h))
 
-  pub seal-wrong-block : length payload ≡ 496 → (length block ≡ 512 → ⊥) → (3 ≡ sealAnswer payload block) × (block ≡ afterSeal sheet place payload block)
+  pub seal-wrong-block : length payload ≡ 496 → (length block ≡ 512 → ⊥)
+      → (3 ≡ sealAnswer payload block) × (block ≡ afterSeal sheet place payload block)
   unfolding sealAnswer afterSeal
-  seal-wrong-block p h =
-      (rw (eq-eqb (length payload) 496 p, ne-eqb (length block) 512 h), rw (eq-eqb (length payload) 496 p, ne-eqb (length block) 512 h))
+  seal-wrong-block p h = (
+    rw (eq-eqb (length payload) 496 p, ne-eqb (length block) 512 h),
+    rw (eq-eqb (length payload) 496 p, ne-eqb (length block) 512 h),
+  )
 
   pub seal-done : (l : List ℕ) → length payload ≡ 496 → length block ≡ 512 → l ≡ sealed sheet place payload
       → (0 ≡ sealAnswer payload block) × (l ≡ afterSeal sheet place payload block)
   unfolding sealAnswer afterSeal
-  seal-done l p h e =
-      (rw (eq-eqb (length payload) 496 p, eq-eqb (length block) 512 h), rw (eq-eqb (length payload) 496 p, eq-eqb (length block) 512 h) e)
+  seal-done l p h e = (
+    rw (eq-eqb (length payload) 496 p, eq-eqb (length block) 512 h),
+    rw (eq-eqb (length payload) 496 p, eq-eqb (length block) 512 h) e,
+  )

@@ -1,4 +1,5 @@
--- What seal and check answer the dispenser's C program, and what seal leaves in the lent block (document 01, "Shape, catalogue, blocks").
+-- What seal and check answer the dispenser's C program, and what seal leaves in the lent block (document 01, "Shape, catalogue,
+-- blocks").
 -- Assumes nothing.
 use mathlib.Core.Bool.{Bool, cond, _&&_}
 use mathlib.Core.List.{List}

@@ -36,5 +36,13 @@ unfolding bytes4 numberAt
 number-at p q n at e h =
     let l = n / 16777216 % 256 ∷ n / 65536 % 256 ∷ n / 256 % 256 ∷ n % 256 ∷ q in
     subst (λ (k : ℕ). numberAt (p ++ l) k ≡ n) e
-    (rw (numberAt, ← add-zero (length p), getD-append-add p l 0 0, add-zero, getD-append-add p l 1 0, getD-append-add p l 2 0, getD-append-add p l 3 0)
+    (rw (
+      numberAt,
+      ← add-zero (length p),
+      getD-append-add p l 0 0,
+      add-zero,
+      getD-append-add p l 1 0,
+      getD-append-add p l 2 0,
+      getD-append-add p l 3 0,
+    )
     (from-bytes _ _ _ _ _ _ _ n (top n h) (second n) (third n) (last n)))

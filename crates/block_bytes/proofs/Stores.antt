@@ -16,13 +16,15 @@ four-stores s a b c d e =
     ∙ ap (λ (t : List ℕ). a ∷ b ∷ c ∷ d ∷ t) (drop-of-length-le s (le-of-eq e))
 
 -- a turn of a copy from the front, and its end
-copy-suc : (i : ℕ) (d s : List ℕ) → i < length d → i < length s → set (take i s ++ drop i d) i (getD s i 0) ≡ take (suc i) s ++ drop (suc i) d
+copy-suc : (i : ℕ) (d s : List ℕ) → i < length d → i < length s
+    → set (take i s ++ drop i d) i (getD s i 0) ≡ take (suc i) s ++ drop (suc i) d
 copy-suc i [] s h k = absurd (not-suc-le-zero h)
 copy-suc i (y ∷ d) [] h k = absurd (not-suc-le-zero k)
 copy-suc zero (y ∷ d) (x ∷ s) h k = refl
 copy-suc (suc i) (y ∷ d) (x ∷ s) h k = ap (λ (t : List ℕ). x ∷ t) (copy-suc i d s (le-of-suc-le-suc h) (le-of-suc-le-suc k))
 
-pub copy-more : (i : ℕ) (d s : List ℕ) → i < length d → i < length s → set (take i s ++ drop i d) i (getD s i 0) ≡ take (i + 1) s ++ drop (i + 1) d
+pub copy-more : (i : ℕ) (d s : List ℕ) → i < length d → i < length s
+    → set (take i s ++ drop i d) i (getD s i 0) ≡ take (i + 1) s ++ drop (i + 1) d
 copy-more i d s h k = rw add-one (copy-suc i d s h k)
 
 pub copied : (d s : List ℕ) (i : ℕ) → length d ≡ length s → i ≡ length s → take i s ++ drop i d ≡ s

@@ -18,7 +18,10 @@ or-both : (t x : ℕ) → eqb (bitOr t x) 0 ≡ eqb t 0 && eqb x 0
 or-both zero zero = refl
 or-both zero (suc x) = refl
 or-both (suc t) x =
-    rw (ne-eqb (bitOr (suc t) x) 0 (λ e. omega (arith, or-add-and (suc t) x, and-le-r (suc t) x)), ne-eqb (suc t) 0 (λ e. omega arith))
+    rw (
+      ne-eqb (bitOr (suc t) x) 0 (λ e. omega (arith, or-add-and (suc t) x, and-le-r (suc t) x)),
+      ne-eqb (suc t) 0 (λ e. omega arith),
+    )
 
 module _ (s : List ℕ) (i all : ℕ) where
   -- a turn of the test
@@ -35,7 +38,8 @@ module _ (s : List ℕ) (i all : ℕ) where
 pub blank-append : (xs ys : List ℕ) → blank (xs ++ ys) ≡ blank xs && blank ys
 unfolding blank
 blank-append [] ys = refl
-blank-append (x ∷ xs) ys = ap (λ (r : Bool). eqb x 0 && r) (blank-append xs ys) ∙ sym (and-assoc (eqb x 0) (blank xs) (blank ys))
+blank-append (x ∷ xs) ys = ap (λ (r : Bool). eqb x 0 && r) (blank-append xs ys)
+    ∙ sym (and-assoc (eqb x 0) (blank xs) (blank ys))
 
 -- both halves of a test that holds
 pub and-left : (a b : Bool) → a && b ≡ true → a ≡ true

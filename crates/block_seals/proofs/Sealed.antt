@@ -47,7 +47,14 @@ module _ (sheet place : ℕ) (payload : List ℕ) (whole : length payload ≡ 49
   pub sealed-length : length (sealed sheet place payload) ≡ 512
   sealed-length =
       ap length by-front
-      ∙ omega (arith, length-append (front sheet place payload) (bytes4 A ++ bytes4 B), length-append (bytes4 A) (bytes4 B), front-length, bytes4-length A, bytes4-length B)
+      ∙ omega (
+        arith,
+        length-append (front sheet place payload) (bytes4 A ++ bytes4 B),
+        length-append (bytes4 A) (bytes4 B),
+        front-length,
+        bytes4-length A,
+        bytes4-length B,
+      )
 
   -- its first 504 bytes are what was summed
   pub front-sealed : take 504 (sealed sheet place payload) ≡ front sheet place payload
@@ -57,14 +64,16 @@ module _ (sheet place : ℕ) (payload : List ℕ) (whole : length payload ≡ 49
   pub payload-sealed : payloadOf (sealed sheet place payload) ≡ payload
   unfolding payloadOf
   payload-sealed =
-      ap (λ (l : List ℕ). take 496 (drop 8 l)) (by-front ∙ append-assoc (bytes4 sheet ++ bytes4 place) payload (bytes4 A ++ bytes4 B))
+      ap (λ (l : List ℕ). take 496 (drop 8 l)) (by-front
+      ∙ append-assoc (bytes4 sheet ++ bytes4 place) payload (bytes4 A ++ bytes4 B))
       ∙ ap (take 496) (drop-at (bytes4 sheet ++ bytes4 place) (payload ++ (bytes4 A ++ bytes4 B)) 8 eight)
       ∙ take-at payload (bytes4 A ++ bytes4 B) 496 whole
 
   -- it carries its sheet and its place
   pub sheet-sealed : sheet < 4294967296 → numberAt (sealed sheet place payload) 0 ≡ sheet
   sheet-sealed h =
-      ap (λ (l : List ℕ). numberAt l 0) by-parts ∙ number-at [] (bytes4 place ++ (payload ++ (bytes4 A ++ bytes4 B))) sheet 0 refl h
+      ap (λ (l : List ℕ). numberAt l 0) by-parts ∙ number-at []
+      (bytes4 place ++ (payload ++ (bytes4 A ++ bytes4 B))) sheet 0 refl h
 
   pub place-sealed : place < 4294967296 → numberAt (sealed sheet place payload) 4 ≡ place
   place-sealed h =
@@ -77,10 +86,13 @@ module _ (sheet place : ℕ) (payload : List ℕ) (whole : length payload ≡ 49
   check-sealed =
       let s = sums-below 1 0 (front sheet place payload) (lit< tt) (lit< tt) in
       let a : numberAt (sealed sheet place payload) 504 ≡ A =
-      ap (λ (l : List ℕ). numberAt l 504) by-front ∙ number-at (front sheet place payload) (bytes4 B) A 504 front-length (omega (arith, s .0)) in
+      ap (λ (l : List ℕ). numberAt l 504) by-front
+      ∙ number-at (front sheet place payload) (bytes4 B) A 504 front-length (omega (arith, s .0)) in
       let b : numberAt (sealed sheet place payload) 508 ≡ B =
       ap (λ (l : List ℕ). numberAt l 508) by-last
-      ∙ number-at (front sheet place payload ++ bytes4 A) [] B 508 (omega (arith, length-append (front sheet place payload) (bytes4 A), bytes4-length A, front-length)) (omega (arith, s .1)) in
+      ∙ number-at (front sheet place payload ++ bytes4 A) [] B 508
+      (omega (arith, length-append (front sheet place payload) (bytes4 A), bytes4-length A, front-length))
+      (omega (arith, s .1)) in
       rw (front-sealed, a, b, eq-eqb A A refl, eq-eqb B B refl)
 
   -- it is sound for its own sheet and place and for no other
@@ -92,15 +104,19 @@ module _ (sheet place : ℕ) (payload : List ℕ) (whole : length payload ≡ 49
   pub sound-own : sheet < 4294967296 → place < 4294967296 → sound sheet place (sealed sheet place payload) ≡ true
   sound-own hs hp = sound-sealed sheet place hs hp ∙ rw (eq-eqb sheet sheet refl, eq-eqb place place refl)
 
-  pub sound-only : (s p : ℕ) → sheet < 4294967296 → place < 4294967296 → sound s p (sealed sheet place payload) ≡ true → (s ≡ sheet) × (p ≡ place)
+  pub sound-only : (s p : ℕ) → sheet < 4294967296 → place < 4294967296 → sound s p (sealed sheet place payload) ≡ true
+      → (s ≡ sheet) × (p ≡ place)
   sound-only s p hs hp e =
-      let both = sym (sound-sealed s p hs hp) ∙ e in
-      (sym (eqb-true sheet s (and-left (eqb sheet s) (eqb place p) both)), sym (eqb-true place p (and-right (eqb sheet s) (eqb place p) both)))
+      let both = sym (sound-sealed s p hs hp) ∙ e in (
+        sym (eqb-true sheet s (and-left (eqb sheet s) (eqb place p) both)),
+        sym (eqb-true place p (and-right (eqb sheet s) (eqb place p) both)),
+      )
 
   -- it is never blank: over zeros alone A is 1
   pub blank-sealed : blank (sealed sheet place payload) ≡ false
   unfolding blank sums bytes4 A B
-  blank-sealed = ap blank by-front ∙ blank-append (front sheet place payload) (bytes4 A ++ bytes4 B) ∙ by (blank (front sheet place payload)) refl
+  blank-sealed = ap blank by-front ∙ blank-append (front sheet place payload) (bytes4 A ++ bytes4 B)
+      ∙ by (blank (front sheet place payload)) refl
     where
       by : (r : Bool) → blank (front sheet place payload) ≡ r → r && blank (bytes4 A ++ bytes4 B) ≡ false
       by false e = refl

@@ -14,8 +14,14 @@ use Rattle.block_seals.proofs.Sealed.{front-length}
 
 -- a part lent and given back, right behind what is known already: one part more is known
 grown : (known orig new : List ℕ) (at size : ℕ) → length known ≡ at
-    → take at (known ++ drop at orig) ++ (new ++ drop size (drop at (known ++ drop at orig))) ≡ known ++ new ++ drop (at + size) orig
-grown known orig new at size e = rw (take-at known (drop at orig) at e, drop-at known (drop at orig) at e, drop-drop, ← append-assoc)
+    → take at (known ++ drop at orig) ++ (new ++ drop size (drop at (known ++ drop at orig))) ≡ known ++ new
+    ++ drop (at + size) orig
+grown known orig new at size e = rw (
+  take-at known (drop at orig) at e,
+  drop-at known (drop at orig) at e,
+  drop-drop,
+  ← append-assoc,
+)
 
 -- nothing is left of a slice that is known to its end
 whole : (known orig : List ℕ) (size : ℕ) → length orig ≡ size → known ++ drop size orig ≡ known

@@ -24,10 +24,12 @@ pub lent : (card : List ℕ) (b : ℕ) → midOf (512 * b) (512 * b + 512 - 512 
 unfolding blockOf
 lent card b = rw (size (512 * b))
 
-pub lent-length : (card : List ℕ) (b : ℕ) → 512 * b + 512 ≤ length card → length (midOf (512 * b) (512 * b + 512 - 512 * b) card) ≡ 512
+pub lent-length : (card : List ℕ) (b : ℕ) → 512 * b + 512 ≤ length card
+    → length (midOf (512 * b) (512 * b + 512 - 512 * b) card) ≡ 512
 lent-length card b h = mid-len (512 * b) (512 * b + 512) card h ∙ size (512 * b)
 
-pub given-back : (card : List ℕ) (b : ℕ) (ys zs : List ℕ) → ys ≡ zs → putMid (512 * b) (512 * b + 512 - 512 * b) card ys ≡ withBlock card b zs
+pub given-back : (card : List ℕ) (b : ℕ) (ys zs : List ℕ) → ys ≡ zs
+    → putMid (512 * b) (512 * b + 512 - 512 * b) card ys ≡ withBlock card b zs
 unfolding withBlock
 given-back card b ys zs e = rw (size (512 * b), e)
 
@@ -39,7 +41,8 @@ mid-before (suc a) k (suc n) [] h = refl
 mid-before (suc a) k (suc n) (x ∷ l) h = mid-before a k n l (omega arith)
 
 -- the part of the payload of block b, as it is lent
-pub lent-payload : (card : List ℕ) (b : ℕ) → midOf (512 * b + 8) (512 * b + 8 + 496 - (512 * b + 8)) card ≡ payloadOf (blockOf card b)
+pub lent-payload : (card : List ℕ) (b : ℕ) → midOf (512 * b + 8) (512 * b + 8 + 496 - (512 * b + 8)) card
+    ≡ payloadOf (blockOf card b)
 unfolding payloadOf blockOf
 lent-payload card b =
     let e : 512 * b + 8 + 496 - (512 * b + 8) ≡ 496 = omega arith in
@@ -102,32 +105,39 @@ length-zeroed card b (suc k) h =
     let l = length-zeroed card b k (omega arith) in
     length-withBlock (zeroed card b k) (replicate 512 0) (b + k) (omega arith) refl ∙ l
 
-pub zeroed-inside : (card : List ℕ) (b k d : ℕ) → 512 * (b + k) ≤ length card → b ≤ d → d < b + k → blockOf (zeroed card b k) d ≡ replicate 512 0
+pub zeroed-inside : (card : List ℕ) (b k d : ℕ) → 512 * (b + k) ≤ length card → b ≤ d → d < b + k
+    → blockOf (zeroed card b k) d ≡ replicate 512 0
 unfolding zeroed
 zeroed-inside card b zero d h p q = absurd (omega arith)
 zeroed-inside card b (suc k) d h p q =
     let l = length-zeroed card b k (omega arith) in
     ⊎-elim
     (λ (w : d ≡ b + k). rw w (same-block (zeroed card b k) (replicate 512 0) (b + k) (omega arith) refl))
-    (λ (w : d < b + k). other-block (zeroed card b k) (replicate 512 0) (b + k) (omega arith) refl d (λ e. omega arith) ∙ zeroed-inside card b k d (omega arith) p w)
+    (λ (w : d < b + k). other-block (zeroed card b k) (replicate 512 0) (b + k) (omega arith) refl d (λ e. omega arith)
+    ∙ zeroed-inside card b k d (omega arith) p w)
     (eq-or-lt-of-le {n = d} {m = b + k} (omega arith))
 
 -- those before b and from b + k on are as they were
-pub zeroed-before : (card : List ℕ) (b k d : ℕ) → 512 * (b + k) ≤ length card → d < b → blockOf (zeroed card b k) d ≡ blockOf card d
+pub zeroed-before : (card : List ℕ) (b k d : ℕ) → 512 * (b + k) ≤ length card → d < b
+    → blockOf (zeroed card b k) d ≡ blockOf card d
 unfolding zeroed
 zeroed-before card b zero d h q = refl
 zeroed-before card b (suc k) d h q =
     let l = length-zeroed card b k (omega arith) in
-    other-block (zeroed card b k) (replicate 512 0) (b + k) (omega arith) refl d (λ e. omega arith) ∙ zeroed-before card b k d (omega arith) q
+    other-block (zeroed card b k) (replicate 512 0) (b + k) (omega arith) refl d (λ e. omega arith)
+    ∙ zeroed-before card b k d (omega arith) q
 
-pub zeroed-after : (card : List ℕ) (b k d : ℕ) → 512 * (b + k) ≤ length card → b + k ≤ d → blockOf (zeroed card b k) d ≡ blockOf card d
+pub zeroed-after : (card : List ℕ) (b k d : ℕ) → 512 * (b + k) ≤ length card → b + k ≤ d
+    → blockOf (zeroed card b k) d ≡ blockOf card d
 unfolding zeroed
 zeroed-after card b zero d h q = refl
 zeroed-after card b (suc k) d h q =
     let l = length-zeroed card b k (omega arith) in
-    other-block (zeroed card b k) (replicate 512 0) (b + k) (omega arith) refl d (λ e. omega arith) ∙ zeroed-after card b k d (omega arith) (omega arith)
+    other-block (zeroed card b k) (replicate 512 0) (b + k) (omega arith) refl d (λ e. omega arith)
+    ∙ zeroed-after card b k d (omega arith) (omega arith)
 
 -- one block more is filled
-pub zeroed-more : (card next orig : List ℕ) (b i : ℕ) → card ≡ zeroed orig b i → next ≡ withBlock card (b + i) (replicate 512 0) → next ≡ zeroed orig b (i + 1)
+pub zeroed-more : (card next orig : List ℕ) (b i : ℕ) → card ≡ zeroed orig b i
+    → next ≡ withBlock card (b + i) (replicate 512 0) → next ≡ zeroed orig b (i + 1)
 unfolding zeroed
 zeroed-more card next orig b i e en = rw (en, e, add-one)

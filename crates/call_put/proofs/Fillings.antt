@@ -29,9 +29,11 @@ use Rattle.map_blocks.proofs.Least.{orElse, least-passes, none-passes, least-mo
 
 -- ---- a blank block is not sound
 
-pub blank-apart : (card : List ℕ) (b sheet place : ℕ) → 512 * b + 512 ≤ length card → sealed-block.blank (blockOf card b) ≡ true → sealed-block.sound sheet place (blockOf card b) ≡ false
+pub blank-apart : (card : List ℕ) (b sheet place : ℕ) → 512 * b + 512 ≤ length card
+    → sealed-block.blank (blockOf card b) ≡ true → sealed-block.sound sheet place (blockOf card b) ≡ false
 blank-apart card b sheet place inside e =
-    ap (sealed-block.sound sheet place) (blank-is-zeros (blockOf card b) e ∙ ap (λ (size : ℕ). replicate size 0) (block-length card b inside))
+    ap (sealed-block.sound sheet place) (blank-is-zeros (blockOf card b) e
+    ∙ ap (λ (size : ℕ). replicate size 0) (block-length card b inside))
     ∙ sound-zeros sheet place
 
 -- ---- what is known of the places passed
@@ -59,12 +61,15 @@ module _ (blank sound : ℕ → Bool) where
 
   pub broken : (k p : ℕ) → p < k → either p ≡ false → Broken ≡ fillingOf blank sound k
   unfolding fillingOf
-  broken k p l e = sym (ap (λ (b : Bool). cond b (blankAt (least blank 0 k)) Broken) (all-break either 0 k p (omega arith) (omega arith) e))
+  broken k p l e =
+      sym (ap (λ (b : Bool). cond b (blankAt (least blank 0 k)) Broken) (all-break either 0 k p (omega arith) (omega arith) e))
 
   -- a place that breaks the sheet is neither blank nor sound
-  pub breaks : (p : ℕ) (filling next : Filling) → Passed p filling → next ≡ withPlace filling p (blank p) (sound p) → next ≡ Broken → either p ≡ false
+  pub breaks : (p : ℕ) (filling next : Filling) → Passed p filling → next ≡ withPlace filling p (blank p) (sound p)
+      → next ≡ Broken → either p ≡ false
   unfolding withPlace
-  breaks p filling next h e b = go (blank p) (sound p) (least blank 0 p) (ap (λ (f : Filling). withPlace f p (blank p) (sound p)) (sym (h .lowest)) ∙ sym e ∙ b)
+  breaks p filling next h e b = go (blank p) (sound p) (least blank 0 p)
+      (ap (λ (f : Filling). withPlace f p (blank p) (sound p)) (sym (h .lowest)) ∙ sym e ∙ b)
     where
       go : (b s : Bool) (o : Found) → withPlace (blankAt o) p b s ≡ Broken → (b || s) ≡ false
       go b true o e = absurd (never-broken o e)
@@ -73,11 +78,13 @@ module _ (blank sound : ℕ → Bool) where
       go false false o e = refl
 
   -- any other is passed too
-  pub passed-more : (p : ℕ) (filling next : Filling) → Passed p filling → (blank p ≡ true → sound p ≡ false) → next ≡ withPlace filling p (blank p) (sound p) → (next ≡ Broken → ⊥)
+  pub passed-more : (p : ℕ) (filling next : Filling) → Passed p filling → (blank p ≡ true → sound p ≡ false)
+      → next ≡ withPlace filling p (blank p) (sound p) → (next ≡ Broken → ⊥)
       → Passed (p + 1) next
   unfolding withPlace
   passed-more p filling next h apart e whole = record {
-    whole = all-intro either 0 (p + 1) (λ t a l. ⊎-elim (λ (w : t ≡ p). ap either w ∙ held) (λ (w : t < p). all-elim either 0 p (h .whole) t a (omega arith)) (eq-or-lt-of-le {n = t} {m = p} (omega arith)));
+    whole = all-intro either 0 (p + 1) (λ t a l. ⊎-elim (λ (w : t ≡ p). ap either w ∙ held)
+        (λ (w : t < p). all-elim either 0 p (h .whole) t a (omega arith)) (eq-or-lt-of-le {n = t} {m = p} (omega arith)));
     lowest =
         e ∙ ap (λ (f : Filling). withPlace f p (blank p) (sound p)) (h .lowest) ∙ go (blank p) (sound p) (least blank 0 p) apart
         (λ q. whole (e ∙ ap (λ (f : Filling). withPlace f p (blank p) (sound p)) (h .lowest) ∙ q))
@@ -93,7 +100,8 @@ module _ (blank sound : ℕ → Bool) where
       held : either p ≡ true
       held = both (blank p) (sound p) (λ q. whole (e ∙ q))
 
-      go : (b s : Bool) (o : Found) → (b ≡ true → s ≡ false) → (withPlace (blankAt o) p b s ≡ Broken → ⊥) → withPlace (blankAt o) p b s ≡ blankAt (orElse o (cond b (At p) Nothing))
+      go : (b s : Bool) (o : Found) → (b ≡ true → s ≡ false) → (withPlace (blankAt o) p b s ≡ Broken → ⊥)
+          → withPlace (blankAt o) p b s ≡ blankAt (orElse o (cond b (At p) Nothing))
       go true true o a n = absurd (true≢false (a refl))
       go false true (At q) a n = refl
       go false true Nothing a n = refl
@@ -124,17 +132,22 @@ module _ (blank sound : ℕ → Bool) (k : ℕ) where
       go true o e = absurd (never-broken o e)
       go false o e = refl
 
-  pub was-filled : fillingOf blank sound k ≡ Filled → (all (λ p. blank p || sound p) 0 k ≡ true) × (all (λ p. not (blank p)) 0 k ≡ true)
+  pub was-filled : fillingOf blank sound k ≡ Filled
+      → (all (λ p. blank p || sound p) 0 k ≡ true) × (all (λ p. not (blank p)) 0 k ≡ true)
   unfolding fillingOf
   was-filled e =
-      let w = whole (all (λ p. blank p || sound p) 0 k) (least blank 0 k) Filled (λ q. never-broken Nothing q) e in
-      (w .0, all-intro (λ p. not (blank p)) 0 k (λ t a l. ap not (none-passes blank 0 k (nothing (least blank 0 k) (w .1)) t a l)))
+      let w = whole (all (λ p. blank p || sound p) 0 k) (least blank 0 k) Filled (λ q. never-broken Nothing q) e in (
+        w .0,
+        all-intro (λ p. not (blank p)) 0 k (λ t a l. ap
+            not (none-passes blank 0 k (nothing (least blank 0 k) (w .1)) t a l)),
+      )
     where
       nothing : (o : Found) → blankAt o ≡ Filled → o ≡ Nothing
       nothing (At p) e = absurd (let z : _≡_ {A = ℕ} 0 1 = cc in omega arith)
       nothing Nothing e = refl
 
-  pub was-blank : (p : ℕ) → fillingOf blank sound k ≡ Blank p → (all (λ p. blank p || sound p) 0 k ≡ true) × (all (λ p. not (blank p)) 0 k ≡ false) × (startAt (least blank 0 k) ≡ p)
+  pub was-blank : (p : ℕ) → fillingOf blank sound k ≡ Blank p
+      → (all (λ p. blank p || sound p) 0 k ≡ true) × (all (λ p. not (blank p)) 0 k ≡ false) × (startAt (least blank 0 k) ≡ p)
   unfolding fillingOf
   was-blank p e =
       let w = whole (all (λ p. blank p || sound p) 0 k) (least blank 0 k) (Blank p) (λ q. never-broken (At p) q) e in

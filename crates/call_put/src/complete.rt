@@ -25,7 +25,8 @@ use refusals::refusal;
 // once, or nearly.
 fn with_place(card: &[u8], b: u32, sheet: u32, place: u32, passed: Filling) -> Filling
     requires { ⌜ 512 * b + 512 ≤ length (now card) ⌝ }
-    ensures { λ r. ⌜ r ≡ withPlace passed place (blank (blockOf (now (card .entry)) b)) (sound sheet place (blockOf (now (card .entry)) b)) ⌝ }
+    ensures { λ r. ⌜ r ≡ withPlace passed place (blank (blockOf (now (card .entry)) b))
+        (sound sheet place (blockOf (now (card .entry)) b)) ⌝ }
 {
     if sound_block(card, b, sheet, place) {
         return passed;
@@ -50,7 +51,8 @@ fn or_blank(passed: Filling, place: u32) -> Filling
 // What the places of the extent hold.
 fn look(card: &[u8], start: u32, blocks: u32, sheet: u32) -> Filling
     requires { ⌜ (start + blocks ≤ 262144) × (512 * (start + blocks) ≤ length (now card)) ⌝ }
-    ensures { λ r. ⌜ r ≡ fillingOf (λ p. blank (blockOf (now (card .entry)) (start + p))) (λ p. sound sheet p (blockOf (now (card .entry)) (start + p))) blocks ⌝ }
+    ensures { λ r. ⌜ r ≡ fillingOf (λ p. blank (blockOf (now (card .entry)) (start + p)))
+        (λ p. sound sheet p (blockOf (now (card .entry)) (start + p))) blocks ⌝ }
 {
     let mut passed = Filling::Filled;
     let mut place: u32 = 0;

@@ -17,12 +17,14 @@ use Rattle.catalogue_standings.specs.declared.Answer.the-variants.{Start, Count
 unfoldable pub searchAnswer : ℕ → ℕ → List ℕ → ℕ → Answer
 unfolding shapeFits
 searchAnswer n free map k =
-    settle (firstOf (row 1 (not (shapeFits n free (length map))) ∷ row 3 (eqb k 0) ∷ row 10 (none (leastFit (map-blocks.free map) 0 n k)) ∷ []))
+    settle (firstOf (row 1 (not (shapeFits n free (length map))) ∷ row 3 (eqb k 0)
+    ∷ row 10 (none (leastFit (map-blocks.free map) 0 n k)) ∷ []))
     (Start (startAt (leastFit (map-blocks.free map) 0 n k))) Refused
 
 unfoldable pub surveyAnswer : ℕ → ℕ → List ℕ → Answer
 unfolding shapeFits
 surveyAnswer n free map =
     settle (firstOf (row 1 (not (shapeFits n free (length map))) ∷ []))
-    (Counted (countsOf (map-blocks.free map) n .free) (countsOf (map-blocks.free map) n .runs) (countsOf (map-blocks.free map) n .longest))
+    (Counted (countsOf (map-blocks.free map) n .free) (countsOf (map-blocks.free map) n .runs)
+    (countsOf (map-blocks.free map) n .longest))
     Refused

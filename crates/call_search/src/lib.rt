@@ -39,7 +39,8 @@ pub fn survey(n: u32, free: u32, map: &[u64]) -> Answer
 // Whether fresh is accepted; if so the map is that of a fresh card of n blocks, all free.
 pub fn fresh(n: u32, map: &mut [u64], c: usize) -> bool
     ensures { λ r. ⌜ (r ≡ freshFits n (length (now (map .entry))) c)
-        × (now (map .exit) ≡ cond (freshFits n (length (now (map .entry))) c) (freshMap n (length (now (map .entry)))) (now (map .entry))) ⌝ }
+        × (now (map .exit) ≡ cond (freshFits n (length (now (map .entry))) c) (freshMap n (length (now (map .entry))))
+        (now (map .entry))) ⌝ }
 {
     if !shape_fits(n, n, map.len()) {
         return false;

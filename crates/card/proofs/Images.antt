@@ -1,6 +1,8 @@
--- The saved image, of a shape's methods (document 01, "Saved image"). What a save was given, a load of what it wrote gives back:
+-- The saved image, of a shape's methods (document 01, "Saved image"). What a save was given, a load of what it wrote gives
+-- back:
 -- shape, map and entries (`saved-loads`). An image that load accepts is the image of what it gives, so it is the only one
--- (`loaded-only`), and a save writes it again (`loaded-saves`). A refusal hands the shape back as it came and changes nothing but
+-- (`loaded-only`), and a save writes it again (`loaded-saves`). A refusal hands the shape back as it came and changes nothing
+-- but
 -- the scratch (`save-refused`, `load-refused`).
 -- Assumes nothing.
 use mathlib.Core.Path.{_≡_, refl, sym, ap, subst, _∙_}
@@ -25,7 +27,8 @@ use Rattle.image.proofs.ReturnJourney as journey
 use Rattle.image.proofs.Verdicts.{save-accepted, load-accepted}
 use Rattle.card.specs.declared.Outcome.{Outcome}
 use Rattle.card.specs.declared.Shape.{Shape}
-use Rattle.card.specs.Calls.{told, isDone, loadOutcomeBy, savedState, saveOutcome, saveScratch, saveImage, loadOutcome, loadMap, loadEntries, loadScratch}
+use Rattle.card.specs.Calls.{told, isDone, loadOutcomeBy, savedState, saveOutcome, saveScratch, saveImage, loadOutcome}
+use Rattle.card.specs.Calls.{loadMap, loadEntries, loadScratch}
 
 never-accepted : (number : ℕ) → refused number ≡ accepted → ⊥
 never-accepted number e = let z : _≡_ {A = ℕ} 0 1 = cc in omega arith
@@ -45,12 +48,14 @@ done-load : (shape : Shape) (given : Loaded) → isDone (loadOutcomeBy shape giv
 done-load shape given d = by (eqb (given .number) 0) refl d
   where
     by : (b : Bool) → eqb (given .number) 0 ≡ b
-        → isDone (cond b (told (record { blocks = given .blocks; free = given .free }) Done) (told shape (Refused (given .number))) .answer) ≡ true → given .number ≡ 0
+        → isDone (cond b (told (record { blocks = given .blocks; free = given .free }) Done)
+        (told shape (Refused (given .number))) .answer) ≡ true → given .number ≡ 0
     by true e h = eqb-true (given .number) 0 e
     by false e h = absurd (never-done h)
 
 -- what a save of `map` and `entries` wrote, loaded into other buffers of the same lengths, whatever shape the load takes
-module _ (shape other : Shape) (map : List ℕ) (entries : List Entry) (scratch buffer map′ : List ℕ) (entries′ : List Entry) (scratch′ : List ℕ) where
+module _ (shape other : Shape) (map : List ℕ) (entries : List Entry) (scratch buffer map′ : List ℕ) (entries′ : List Entry)
+    (scratch′ : List ℕ) where
   abbrev written : List ℕ
   written = saveImage shape map entries scratch buffer
 
@@ -63,8 +68,10 @@ module _ (shape other : Shape) (map : List ℕ) (entries : List Entry) (scratch 
   pub saved-loads : Words map → saveOutcome shape map entries scratch buffer ≡ told shape Done
       → length map′ ≡ length map → length entries′ ≡ length entries → length scratch′ ≡ length map → LoadsBack
   saved-loads words e lm le ls =
-      let z = done-save shape (images.saveNumber (shape .blocks) (shape .free) map entries scratch buffer) (ap (λ (o : Outcome). isDone (o .answer)) e) in
-      let g = journey.saved-loads (shape .blocks) (shape .free) map entries scratch buffer map′ entries′ scratch′ words z lm le ls in
+      let z = done-save shape (images.saveNumber (shape .blocks) (shape .free) map entries scratch buffer)
+      (ap (λ (o : Outcome). isDone (o .answer)) e) in
+      let g = journey.saved-loads (shape .blocks) (shape .free) map entries scratch buffer map′ entries′ scratch′ words z lm le
+      ls in
       record { outcome = ap (loadOutcomeBy other) (g .result); words = g .words; sheets = g .sheets; zeros = g .zeros }
 
 -- what a load gives, and the image that it was
@@ -82,45 +89,63 @@ module _ (shape : Shape) (image map : List ℕ) (entries : List Entry) (scratch 
   entries′ = loadEntries shape image map entries scratch
 
   same-shape : given .number ≡ 0 → handed .shape ≡ record { blocks = given .blocks; free = given .free }
-  same-shape z = ap (λ (k : ℕ). cond (eqb k 0) (told (record { blocks = given .blocks; free = given .free }) Done) (told shape (Refused k)) .shape) z
+  same-shape z =
+      ap (λ (k : ℕ). cond (eqb k 0) (told (record { blocks = given .blocks; free = given .free }) Done)
+      (told shape (Refused k)) .shape) z
 
   pub loaded-only : isDone (handed .answer) ≡ true → imageOf (savedState (handed .shape) map′ entries′) ≡ image
   loaded-only d =
       let z = done-load shape given d in
-      ap (λ (s : Shape). imageOf (savedState s map′ entries′)) (same-shape z) ∙ journey.loaded-only image map entries scratch bytes z
+      ap (λ (s : Shape). imageOf (savedState s map′ entries′)) (same-shape z)
+      ∙ journey.loaded-only image map entries scratch bytes z
 
   -- a save of what was loaded is done, and writes the image again
-  pub loaded-saves : isDone (handed .answer) ≡ true → (other buffer : List ℕ) → length other ≡ length map′ → length buffer ≡ length image
-      → (saveOutcome (handed .shape) map′ entries′ other buffer ≡ told (handed .shape) Done) × (saveImage (handed .shape) map′ entries′ other buffer ≡ image)
+  pub loaded-saves : isDone (handed .answer) ≡ true → (other buffer : List ℕ) → length other ≡ length map′
+      → length buffer ≡ length image
+      → (saveOutcome (handed .shape) map′ entries′ other buffer ≡ told (handed .shape) Done)
+      × (saveImage (handed .shape) map′ entries′ other buffer ≡ image)
   loaded-saves d other buffer lo lb =
       let z = done-load shape given d in
       let again = journey.loaded-saves image map entries scratch bytes z other buffer lo lb in
-      subst (λ (s : Shape). (saveOutcome s map′ entries′ other buffer ≡ told s Done) × (saveImage s map′ entries′ other buffer ≡ image)) (sym (same-shape z))
-      (ap (λ (k : ℕ). told (record { blocks = given .blocks; free = given .free }) (cond (eqb k 0) Done (Refused k))) (again .0), again .1)
+      subst (λ (s : Shape). (saveOutcome s map′ entries′ other buffer ≡ told s Done)
+      × (saveImage s map′ entries′ other buffer ≡ image)) (sym (same-shape z)) (
+        ap (λ (k : ℕ). told (record { blocks = given .blocks; free = given .free }) (cond (eqb k 0) Done (Refused k)))
+            (again .0),
+        again .1,
+      )
 
 -- a refusal hands the shape back as it came and changes nothing but the scratch
 pub save-refused : (shape : Shape) (map : List ℕ) (entries : List Entry) (scratch buffer : List ℕ) (number : ℕ)
     → saveVerdict (savedState shape map entries) (length scratch) (length buffer) ≡ refused number
-    → (saveOutcome shape map entries scratch buffer ≡ told shape (Refused number)) × (saveImage shape map entries scratch buffer ≡ buffer)
+    → (saveOutcome shape map entries scratch buffer ≡ told shape (Refused number))
+    × (saveImage shape map entries scratch buffer ≡ buffer)
     × (saveScratch shape map entries scratch buffer ≡ replicate (length scratch) 0)
 unfolding images.saveNumber images.saveImage images.saveScratch
 save-refused shape map entries scratch buffer number v =
     let some : eqb number 0 ≡ false =
-    ne-eqb number 0 (λ z. never-accepted number (sym v ∙ save-accepted (savedState shape map entries) (length scratch) (length buffer) (ap rowNumber v ∙ z))) in (
+    ne-eqb number 0
+    (λ z. never-accepted number (sym v ∙ save-accepted (savedState shape map entries) (length scratch) (length buffer)
+    (ap rowNumber v ∙ z))) in (
       ap (λ (w : Verdict). told shape (cond (eqb (rowNumber w) 0) Done (Refused (rowNumber w)))) v
           ∙ ap (λ (t : Bool). told shape (cond t Done (Refused number))) some,
       ap (λ (w : Verdict). settle w (imageOf (savedState shape map entries)) (λ k. buffer)) v,
       refl,
     )
 
-pub load-refused : (shape : Shape) (image map : List ℕ) (entries : List Entry) (scratch : List ℕ) (number : ℕ) → loadVerdict image (length map) (length entries) (length scratch) ≡ refused number
-    → (loadOutcome shape image map entries scratch ≡ told shape (Refused number)) × (loadMap shape image map entries scratch ≡ map) × (loadEntries shape image map entries scratch ≡ entries)
+pub load-refused : (shape : Shape) (image map : List ℕ) (entries : List Entry) (scratch : List ℕ) (number : ℕ)
+    → loadVerdict image (length map) (length entries) (length scratch) ≡ refused number
+    → (loadOutcome shape image map entries scratch ≡ told shape (Refused number))
+    × (loadMap shape image map entries scratch ≡ map) × (loadEntries shape image map entries scratch ≡ entries)
     × (loadScratch shape image map entries scratch ≡ replicate (length scratch) 0)
 unfolding images.loadResult images.loadMap images.loadEntries images.loadScratch
 load-refused shape image map entries scratch number v =
     let some : eqb number 0 ≡ false =
-    ne-eqb number 0 (λ z. never-accepted number (sym v ∙ load-accepted image (length map) (length entries) (length scratch) (ap rowNumber v ∙ z))) in (
-      ap (λ (w : Verdict). loadOutcomeBy shape (settle w (record { number = 0; blocks = stateIn image .blocks; free = stateIn image .spare }) (λ k. record { number = k; blocks = 0; free = 0 }))) v
+    ne-eqb number 0
+    (λ z. never-accepted number (sym v ∙ load-accepted image (length map) (length entries) (length scratch)
+    (ap rowNumber v ∙ z))) in (
+      ap (λ (w : Verdict). loadOutcomeBy shape (settle w
+          (record { number = 0; blocks = stateIn image .blocks; free = stateIn image .spare })
+          (λ k. record { number = k; blocks = 0; free = 0 }))) v
           ∙ ap (λ (t : Bool). cond t (told (record { blocks = 0; free = 0 }) Done) (told shape (Refused number))) some,
       ap (λ (w : Verdict). settle w (stateIn image .map) (λ k. map)) v,
       ap (λ (w : Verdict). settle w (stateIn image .entries) (λ k. entries)) v,

@@ -22,10 +22,14 @@ use Rattle.catalogue_standings.specs.declared.Answer.{Answer}
 use Rattle.catalogue_standings.specs.declared.Answer.the-variants.{Done, Start, Blank, Refused}
 use Rattle.refusals.specs.declared.Out.{Out}
 use Rattle.card.specs.declared.Shape.{Shape}
-use Rattle.card.specs.Calls.{Kept, lentTo, told, outcomeOf, isDone, freshOutcome, freshMap, freshEntries, reserveOutcome, reserveMap, reserveEntries, reserveCard, growOutcome, growMap, growEntries, growCard, putOutcome, putCard, completeOutcome, completeEntries, pauseOutcome, pauseEntries, releaseOutcome, releaseMap, releaseEntries, showOutcome, showBuffer}
+use Rattle.card.specs.Calls.{Kept, lentTo, told, outcomeOf, isDone, freshOutcome, freshMap, freshEntries, reserveOutcome}
+use Rattle.card.specs.Calls.{reserveMap, reserveEntries, reserveCard, growOutcome, growMap, growEntries, growCard}
+use Rattle.card.specs.Calls.{putOutcome, putCard, completeOutcome, completeEntries, pauseOutcome, pauseEntries}
+use Rattle.card.specs.Calls.{releaseOutcome, releaseMap, releaseEntries, showOutcome, showBuffer}
 
 -- a refused call hands back the free count and the entry that it was given: shape and entries are as they were
-handed-back : (shape : Shape) (entries : List Entry) (sheet : ℕ) (answer : Answer) (out : Out) → out ≡ effects.outOf (shape .free) (entryAt entries sheet) answer
+handed-back : (shape : Shape) (entries : List Entry) (sheet : ℕ) (answer : Answer) (out : Out)
+    → out ≡ effects.outOf (shape .free) (entryAt entries sheet) answer
     → (outcomeOf shape out ≡ told shape answer) × (set entries sheet (out .entry) ≡ entries)
 handed-back shape entries sheet answer out e =
     (ap (outcomeOf shape) e, ap (λ (o : Out). set entries sheet (o .entry)) e ∙ stored-back entries sheet)
@@ -53,7 +57,8 @@ module _ (s : Kept) (sheet number : ℕ) where
       let start : ℕ = effects.reserveStart q k in
       let back =
       handed-back (s .shape) (s .entries) sheet (Refused number) _
-      (ap (λ (v : Verdict). settle v (effects.outOf (free - k) (effects.entryOf openMark start k) (Start start)) (effects.refusalOut free e)) h) in (
+      (ap (λ (v : Verdict). settle v (effects.outOf (free - k) (effects.entryOf openMark start k) (Start start))
+      (effects.refusalOut free e)) h) in (
         back .0,
         ap (λ (v : Verdict). settle v (marked (s .map) start k false) (λ number. s .map)) h,
         back .1,
@@ -69,7 +74,8 @@ module _ (s : Kept) (sheet number : ℕ) where
   grow-refused m h =
       let back =
       handed-back (s .shape) (s .entries) sheet (Refused number) _
-      (ap (λ (v : Verdict). settle v (effects.outOf (free - m) (effects.entryOf openMark (e .start) (e .length + m)) Done) (effects.refusalOut free e)) h) in (
+      (ap (λ (v : Verdict). settle v (effects.outOf (free - m) (effects.entryOf openMark (e .start) (e .length + m)) Done)
+      (effects.refusalOut free e)) h) in (
         back .0,
         ap (λ (v : Verdict). settle v (marked (s .map) (e .start + e .length) m false) (λ number. s .map)) h,
         back .1,
@@ -93,13 +99,16 @@ module _ (s : Kept) (sheet number : ℕ) where
   complete-refused h =
       let place : ℕ = effects.blankPlace q in
       handed-back (s .shape) (s .entries) sheet (cond (eqb number 9) (Blank place) (Refused number)) _
-      (ap (λ (v : Verdict). settle v (effects.outOf free (effects.entryOf completeMark (e .start) (e .length)) Done) (λ k. effects.outOf free e (cond (eqb k 9) (Blank place) (Refused k)))) h)
+      (ap (λ (v : Verdict). settle v (effects.outOf free (effects.entryOf completeMark (e .start) (e .length)) Done)
+      (λ k. effects.outOf free e (cond (eqb k 9) (Blank place) (Refused k)))) h)
 
   pub pause-refused : effects.pauseVerdict bare ≡ refused number
       → (pauseOutcome s sheet ≡ told (s .shape) (Refused number)) × (pauseEntries s sheet ≡ s .entries)
   unfolding effects.pauseOut
   pause-refused h =
-      handed-back (s .shape) (s .entries) sheet (Refused number) _ (ap (λ (v : Verdict). settle v (effects.outOf free (effects.entryOf pausedMark 0 0) Done) (effects.refusalOut free e)) h)
+      handed-back (s .shape) (s .entries) sheet (Refused number) _
+      (ap (λ (v : Verdict). settle v (effects.outOf free (effects.entryOf pausedMark 0 0) Done)
+      (effects.refusalOut free e)) h)
 
   pub release-refused : effects.releaseVerdict bare ≡ refused number
       → (releaseOutcome s sheet ≡ told (s .shape) (Refused number))
@@ -108,7 +117,9 @@ module _ (s : Kept) (sheet number : ℕ) where
   unfolding effects.releaseOut effects.releaseMap
   release-refused h =
       let back =
-      handed-back (s .shape) (s .entries) sheet (Refused number) _ (ap (λ (v : Verdict). settle v (effects.outOf (free + e .length) (effects.entryOf absentMark 0 0) Done) (effects.refusalOut free e)) h) in
+      handed-back (s .shape) (s .entries) sheet (Refused number) _
+      (ap (λ (v : Verdict). settle v (effects.outOf (free + e .length) (effects.entryOf absentMark 0 0) Done)
+      (effects.refusalOut free e)) h) in
       (back .0, ap (λ (v : Verdict). settle v (marked (s .map) (e .start) (e .length) true) (λ number. s .map)) h, back .1)
 
   pub show-refused : (place : ℕ) (buffer : List ℕ) → effects.showVerdict q place buffer ≡ refused number
@@ -121,11 +132,13 @@ module _ (s : Kept) (sheet number : ℕ) where
   )
 
 -- fresh too
-pub fresh-refused : (shape : Shape) (blocks : ℕ) (map : List ℕ) (entries : List Entry) → freshFits blocks (length map) (length entries) ≡ false
+pub fresh-refused : (shape : Shape) (blocks : ℕ) (map : List ℕ) (entries : List Entry)
+    → freshFits blocks (length map) (length entries) ≡ false
     → (freshOutcome shape blocks map entries ≡ told shape (Refused 1)) × (freshMap shape blocks map entries ≡ map)
     × (freshEntries shape blocks map entries ≡ entries)
 fresh-refused shape blocks map entries e = (
   ap (λ (t : Bool). cond t (told (record { blocks = blocks; free = blocks }) Done) (told shape (Refused 1))) e,
   ap (λ (t : Bool). cond t (maps.freshMap blocks (length map)) map) e,
-  ap (λ (t : Bool). clearedIf entries (isDone (cond t (told (record { blocks = blocks; free = blocks }) Done) (told shape (Refused 1)) .answer))) e,
+  ap (λ (t : Bool). clearedIf entries
+      (isDone (cond t (told (record { blocks = blocks; free = blocks }) Done) (told shape (Refused 1)) .answer))) e,
 )

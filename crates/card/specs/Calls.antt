@@ -1,5 +1,6 @@
 -- What each public call hands back and leaves, of all its arguments in order: the contracts of `impl Shape`, of the C library
--- and of the ledger's steps are made of these. A call on a sheet finds the sheet's entry, does what the crate refusals says of it,
+-- and of the ledger's steps are made of these. A call on a sheet finds the sheet's entry, does what the crate refusals says of
+-- it,
 -- and stores the entry that it hands back.
 -- Assumes nothing.
 use mathlib.Core.Bool.{Bool, true, false, cond}
@@ -44,7 +45,8 @@ isDone (Refused k) = false
 -- Fresh reads nothing of the shape it takes, and of the catalogue how many entries there are.
 module _ (shape : Shape) (blocks : ℕ) (map : List ℕ) (count : ℕ) where
   abbrev pub freshOutcomeBy : Outcome
-  freshOutcomeBy = cond (freshFits blocks (length map) count) (told (record { blocks = blocks; free = blocks }) Done) (told shape (Refused 1))
+  freshOutcomeBy = cond (freshFits blocks (length map) count) (told (record { blocks = blocks; free = blocks }) Done)
+      (told shape (Refused 1))
 
   abbrev pub freshMapBy : List ℕ
   freshMapBy = cond (freshFits blocks (length map) count) (maps.freshMap blocks (length map)) map
@@ -194,7 +196,8 @@ module _ (shape : Shape) (map : List ℕ) (entries : List Entry) (scratch image 
 -- Load reads nothing of the shape it takes: it hands back the image's n and free count, or, refused, the shape as it came.
 abbrev pub loadOutcomeBy : Shape → Loaded → Outcome
 loadOutcomeBy shape loaded =
-    cond (eqb (loaded .number) 0) (told (record { blocks = loaded .blocks; free = loaded .free }) Done) (told shape (Refused (loaded .number)))
+    cond (eqb (loaded .number) 0) (told (record { blocks = loaded .blocks; free = loaded .free }) Done)
+    (told shape (Refused (loaded .number)))
 
 module _ (shape : Shape) (image map : List ℕ) (entries : List Entry) (scratch : List ℕ) where
   abbrev pub loadOutcome : Outcome

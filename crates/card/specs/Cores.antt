@@ -1,4 +1,5 @@
--- What the cores of the calls on a sheet hand back and leave (src/cores.rt), for a shape and a slot of the catalogue. The public
+-- What the cores of the calls on a sheet hand back and leave (src/cores.rt), for a shape and a slot of the catalogue. The
+-- public
 -- calls (Calls.antt) are made of the same definitions of the crates below.
 -- Assumes nothing.
 use mathlib.Core.Bool.{Bool}
@@ -34,10 +35,12 @@ withSlotAlone says shape map slot sheet = says (lentAt shape map noCard slot she
 
 -- A call that hands the shape back as it came.
 abbrev pub putOutcomeAt : Shape → List ℕ → List ℕ → Slot → ℕ → ℕ → List ℕ → Outcome
-putOutcomeAt shape map card slot sheet place payload = told shape (effects.putAnswer (lentAt shape map card slot sheet) place payload)
+putOutcomeAt shape map card slot sheet place payload =
+    told shape (effects.putAnswer (lentAt shape map card slot sheet) place payload)
 
 abbrev pub showOutcomeAt : Shape → List ℕ → List ℕ → Slot → ℕ → ℕ → List ℕ → Outcome
-showOutcomeAt shape map card slot sheet place buffer = told shape (effects.showAnswer (lentAt shape map card slot sheet) place buffer)
+showOutcomeAt shape map card slot sheet place buffer =
+    told shape (effects.showAnswer (lentAt shape map card slot sheet) place buffer)
 
 abbrev pub standingOutcomeAt : Shape → List ℕ → Slot → ℕ → Outcome
 standingOutcomeAt shape map slot sheet = told shape (effects.standingAnswer (lentAt shape map noCard slot sheet))

@@ -52,7 +52,8 @@ pub fn is_done(outcome: Outcome) -> bool
 // The cores: each takes the shape, and the slot if it has one, apart.
 
 pub fn fresh_core(shape: Shape, blocks: u32, map: &mut [u64], count: usize) -> Outcome
-    ensures { λ r. ⌜ (r ≡ freshOutcomeBy shape blocks (now (map .entry)) count) × (now (map .exit) ≡ freshMapBy shape blocks (now (map .entry)) count) ⌝ }
+    ensures { λ r. ⌜ (r ≡ freshOutcomeBy shape blocks (now (map .entry)) count)
+        × (now (map .exit) ≡ freshMapBy shape blocks (now (map .entry)) count) ⌝ }
 {
     if call_search::fresh(blocks, map, count) {
         return Outcome {

@@ -6,7 +6,12 @@ mod cores;
 ghost use mathlib.Core.Bool.{true};
 ghost use mathlib.Core.Path.{_≡_};
 ghost use Rattle.refusals.specs.Lent.{noCard};
-ghost use Rattle.card.specs.Calls.{kept, freshOutcome, freshMap, freshEntries, searchOutcome, surveyOutcome, reserveOutcome, reserveMap, reserveEntries, reserveCard, growOutcome, growMap, growEntries, growCard, putOutcome, putCard, completeOutcome, completeEntries, pauseOutcome, pauseEntries, releaseOutcome, releaseMap, releaseEntries, showOutcome, showBuffer, standingOutcome, saveOutcome, saveScratch, saveImage, loadOutcome, loadMap, loadEntries, loadScratch};
+ghost use Rattle.card.specs.Calls.{kept, freshOutcome, freshMap, freshEntries, searchOutcome, surveyOutcome};
+ghost use Rattle.card.specs.Calls.{reserveOutcome, reserveMap, reserveEntries, reserveCard, growOutcome, growMap};
+ghost use Rattle.card.specs.Calls.{growEntries, growCard, putOutcome, putCard, completeOutcome, completeEntries};
+ghost use Rattle.card.specs.Calls.{pauseOutcome, pauseEntries, releaseOutcome, releaseMap, releaseEntries, showOutcome};
+ghost use Rattle.card.specs.Calls.{showBuffer, standingOutcome, saveOutcome, saveScratch, saveImage, loadOutcome};
+ghost use Rattle.card.specs.Calls.{loadMap, loadEntries, loadScratch};
 use catalogue::Entry;
 use catalogue_standings::Answer;
 
@@ -222,9 +227,12 @@ impl Shape {
         scratch: &mut [u64],
         image: &mut [u8],
     ) -> Outcome
-        ensures { λ r. ⌜ (r ≡ saveOutcome self (now (map .entry)) (now (catalogue .entry)) (now (scratch .entry)) (now (image .entry)))
-            × (now (scratch .exit) ≡ saveScratch self (now (map .entry)) (now (catalogue .entry)) (now (scratch .entry)) (now (image .entry)))
-            × (now (image .exit) ≡ saveImage self (now (map .entry)) (now (catalogue .entry)) (now (scratch .entry)) (now (image .entry))) ⌝ }
+        ensures { λ r.
+            ⌜ (r ≡ saveOutcome self (now (map .entry)) (now (catalogue .entry)) (now (scratch .entry)) (now (image .entry)))
+            × (now (scratch .exit) ≡ saveScratch self (now (map .entry)) (now (catalogue .entry)) (now (scratch .entry))
+            (now (image .entry)))
+            × (now (image .exit) ≡ saveImage self (now (map .entry)) (now (catalogue .entry)) (now (scratch .entry))
+            (now (image .entry))) ⌝ }
     {
         let n = cores::blocks_of(self);
         let free = cores::free_of(self);
@@ -241,10 +249,14 @@ impl Shape {
         catalogue: &mut [Entry],
         scratch: &mut [u64],
     ) -> Outcome
-        ensures { λ r. ⌜ (r ≡ loadOutcome self (now (image .entry)) (now (map .entry)) (now (catalogue .entry)) (now (scratch .entry)))
-            × (now (map .exit) ≡ loadMap self (now (image .entry)) (now (map .entry)) (now (catalogue .entry)) (now (scratch .entry)))
-            × (now (catalogue .exit) ≡ loadEntries self (now (image .entry)) (now (map .entry)) (now (catalogue .entry)) (now (scratch .entry)))
-            × (now (scratch .exit) ≡ loadScratch self (now (image .entry)) (now (map .entry)) (now (catalogue .entry)) (now (scratch .entry))) ⌝ }
+        ensures { λ r.
+            ⌜ (r ≡ loadOutcome self (now (image .entry)) (now (map .entry)) (now (catalogue .entry)) (now (scratch .entry)))
+            × (now (map .exit) ≡ loadMap self (now (image .entry)) (now (map .entry)) (now (catalogue .entry))
+            (now (scratch .entry)))
+            × (now (catalogue .exit) ≡ loadEntries self (now (image .entry)) (now (map .entry)) (now (catalogue .entry))
+            (now (scratch .entry)))
+            × (now (scratch .exit) ≡ loadScratch self (now (image .entry)) (now (map .entry)) (now (catalogue .entry))
+            (now (scratch .entry))) ⌝ }
     {
         let loaded = image_load::load(image, map, catalogue, scratch);
         cores::load_outcome(self, loaded)

@@ -18,7 +18,8 @@ use Rattle.printer.specs.declared.Cursor.{Cursor}
 use Rattle.card_print.specs.Beginnings.{refusalCursor, refusalWritten, beginCursor, beginWritten}
 
 pub refused-at : (number : ℕ) (text : List ℕ) (r : ℕ) (text′ : List ℕ) → Writes (refusalText number) text 0 r text′
-    → (_≡_ {A = Cursor} (record { at = r; sheet = 0; stop = true }) (refusalCursor number text)) × (text′ ≡ refusalWritten number text)
+    → (_≡_ {A = Cursor} (record { at = r; sheet = 0; stop = true }) (refusalCursor number text))
+    × (text′ ≡ refusalWritten number text)
 unfolding refusalCursor refusalWritten
 refused-at number text r text′ w = (λ x. record { at = w .ends x; sheet = 0; stop = true }, w .leaves)
 
@@ -26,7 +27,8 @@ module _ (loaded : Loaded) (map : List ℕ) (count : ℕ) (text : List ℕ) (r :
   abbrev Begins : Type 0
   Begins = (r ≡ beginCursor loaded map count text) × (text′ ≡ beginWritten loaded map count text)
 
-  pub refusal-begins : (loaded .number ≡ 0 → ⊥) → r ≡ refusalCursor (loaded .number) text → text′ ≡ refusalWritten (loaded .number) text → Begins
+  pub refusal-begins : (loaded .number ≡ 0 → ⊥) → r ≡ refusalCursor (loaded .number) text
+      → text′ ≡ refusalWritten (loaded .number) text → Begins
   unfolding beginCursor beginWritten
   refusal-begins e p q = (simp (ne-eqb (loaded .number) 0 e) p, simp (ne-eqb (loaded .number) 0 e) q)
 

@@ -36,10 +36,12 @@ never number e = let z : _≡_ {A = ℕ} 0 1 = cc in omega arith
 
 -- the text after a beginning and the lines of some entries
 abbrev Ends : List Entry → Cursor → List ℕ → List ℕ → List ℕ → Type 0
-Ends entries first begun bytes text = Writes bytes text 0 (placeOf (linesCursor entries first begun)) (linesWritten entries first begun)
+Ends entries first begun bytes text = Writes bytes text 0 (placeOf (linesCursor entries first begun))
+    (linesWritten entries first begun)
 
 -- a refusal stands by itself
-refuses : (entries : List Entry) (number : ℕ) (text : List ℕ) → Ends entries (refusalCursor number text) (refusalWritten number text) (refusalText number) text
+refuses : (entries : List Entry) (number : ℕ) (text : List ℕ)
+    → Ends entries (refusalCursor number text) (refusalWritten number text) (refusalText number) text
 unfolding refusalCursor refusalWritten
 refuses entries number text = record {
   ends = ap placeOf (cursor-stays entries _ _ refl);
@@ -55,7 +57,8 @@ module _ (image map : List ℕ) (entries : List Entry) (scratch text : List ℕ)
 
   -- what stands after the load, by its verdict
   abbrev left : Verdict → Loaded
-  left v = settle v (record { number = 0; blocks = stateIn image .blocks; free = stateIn image .spare }) (λ number. record { number = number; blocks = 0; free = 0 })
+  left v = settle v (record { number = 0; blocks = stateIn image .blocks; free = stateIn image .spare })
+      (λ number. record { number = number; blocks = 0; free = 0 })
 
   abbrev words : Verdict → List ℕ
   words v = settle v (stateIn image .map) (λ number. map)
@@ -65,8 +68,10 @@ module _ (image map : List ℕ) (entries : List Entry) (scratch text : List ℕ)
 
   abbrev Printed : Verdict → Type 0
   Printed v =
-      Ends (sheets v) (beginCursor (left v) (words v) (length entries) text) (beginWritten (left v) (words v) (length entries) text)
-      (settle v (stateText (stateIn image .blocks) (stateIn image .spare) (stateIn image .map) (stateIn image .entries)) refusalText) text
+      Ends (sheets v) (beginCursor (left v) (words v) (length entries) text)
+      (beginWritten (left v) (words v) (length entries) text)
+      (settle v (stateText (stateIn image .blocks) (stateIn image .spare) (stateIn image .map) (stateIn image .entries))
+      refusalText) text
 
   accepted-print : verdict ≡ accepted → Printed accepted
   unfolding beginCursor beginWritten
@@ -76,23 +81,31 @@ module _ (image map : List ℕ) (entries : List Entry) (scratch text : List ℕ)
       let spare : ℕ = stateIn image .spare in
       let counts : Counts = countsOf (free (stateIn image .map)) n in
       let fits : shapeFits n spare (length (stateIn image .map)) ≡ true =
-      ap (shapeFits n spare) (map-length image n (sheetsIn image)) ∙ head-to n spare (sheetsIn image) (totalOf image) (a .first) .shape in
+      ap (shapeFits n spare) (map-length image n (sheetsIn image))
+      ∙ head-to n spare (sheetsIn image) (totalOf image) (a .first) .shape in
       let count : length entries ≡ length (stateIn image .entries) =
-      load-fits-to n (sheetsIn image) (length map) (length entries) (length scratch) (a .lengths) .entries ∙ sym (entries-length image (sheetsIn image)) in
+      load-fits-to n (sheetsIn image) (length map) (length entries) (length scratch) (a .lengths) .entries
+      ∙ sym (entries-length image (sheetsIn image)) in
       rw (fits, count) (describes n spare counts (stateIn image .entries) text)
 
   refused-print : (number : ℕ) → verdict ≡ refused number → Printed (refused number)
   unfolding beginCursor beginWritten
   refused-print number e =
       let some : eqb number 0 ≡ false =
-      ne-eqb number 0 (λ z. never number (sym e ∙ load-accepted image (length map) (length entries) (length scratch) (ap rowNumber e ∙ z))) in
+      ne-eqb number 0
+      (λ z. never number (sym e ∙ load-accepted image (length map) (length entries) (length scratch)
+      (ap rowNumber e ∙ z))) in
       rw some (refuses entries number text)
 
   pub prints :
       Prints image map entries scratch text
-      (placeOf (linesCursor (loadEntries image map entries scratch) (beginCursor loaded (loadMap image map entries scratch) (length entries) text) (beginWritten loaded (loadMap image map entries scratch) (length entries) text)))
+      (placeOf (linesCursor (loadEntries image map entries scratch)
+      (beginCursor loaded (loadMap image map entries scratch) (length entries) text)
+      (beginWritten loaded (loadMap image map entries scratch) (length entries) text)))
       (loadMap image map entries scratch) (loadEntries image map entries scratch) (loadScratch image map entries scratch)
-      (linesWritten (loadEntries image map entries scratch) (beginCursor loaded (loadMap image map entries scratch) (length entries) text) (beginWritten loaded (loadMap image map entries scratch) (length entries) text))
+      (linesWritten (loadEntries image map entries scratch)
+      (beginCursor loaded (loadMap image map entries scratch) (length entries) text)
+      (beginWritten loaded (loadMap image map entries scratch) (length entries) text))
   unfolding loadResult loadMap loadEntries
   prints = go verdict refl
     where

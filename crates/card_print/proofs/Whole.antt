@@ -31,7 +31,8 @@ use Rattle.card_print.specs.Printed.{printedOf, Prints, room, Begins}
 
 -- ---- the number of a refusal
 
-small-row : (number : ℕ) (test : Bool) (rows : List Row) → number ≤ 14 → rowNumber (firstOf rows) ≤ 14 → rowNumber (firstOf (row number test ∷ rows)) ≤ 14
+small-row : (number : ℕ) (test : Bool) (rows : List Row) → number ≤ 14 → rowNumber (firstOf rows) ≤ 14
+    → rowNumber (firstOf (row number test ∷ rows)) ≤ 14
 unfolding firstOf
 small-row number true rows n f = n
 small-row number false rows n f = f
@@ -44,7 +45,8 @@ no-row = omega arith
 load-number : (image : List ℕ) (maplen count scratchlen : ℕ) → rowNumber (loadVerdict image maplen count scratchlen) ≤ 14
 unfolding loadVerdict loadRows
 load-number image maplen count scratchlen =
-    small-row 12 _ _ (omega arith) (small-row 13 _ _ (omega arith) (small-row 14 _ _ (omega arith) (small-row 1 _ _ (omega arith) (small-row 14 _ [] (omega arith) no-row))))
+    small-row 12 _ _ (omega arith) (small-row 13 _ _ (omega arith)
+    (small-row 14 _ _ (omega arith) (small-row 1 _ _ (omega arith) (small-row 14 _ [] (omega arith) no-row))))
 
 -- ---- the numbers of a sound state
 
@@ -76,7 +78,8 @@ counts-small f n = (
 -- an extent that is not damaged lies inside the card
 numbers-inside : (n : ℕ) (f : ℕ → Bool) (es : List Entry) → n < 4294967296 → undamaged n f es ≡ true → AllNumbers es
 numbers-inside n f [] h u i = (omega arith, omega arith)
-numbers-inside n f (e ∷ es) h u zero = let l = extent-inside n e f (head-undamaged n f e es u) in (omega (arith, l), omega (arith, l))
+numbers-inside n f (e ∷ es) h u zero = let l = extent-inside n e f (head-undamaged n f e es u) in
+    (omega (arith, l), omega (arith, l))
 numbers-inside n f (e ∷ es) h u (suc i) = numbers-inside n f es h (tail-undamaged n f e es u) i
 
 printable : (s : State) → s .blocks ≤ 262144 → s .spare ≤ s .blocks → length (s .entries) ≤ 1024 → sound s ≡ true
@@ -99,32 +102,42 @@ module _ (image : List ℕ) (maplen count scratchlen : ℕ) where
   card = stateText (stateIn image .blocks) (stateIn image .spare) (stateIn image .map) (stateIn image .entries)
 
   loaded-printable : loadVerdict image maplen count scratchlen ≡ accepted
-      → Printable (stateIn image .blocks) (stateIn image .spare) (countsOf (free (stateIn image .map)) (stateIn image .blocks)) (stateIn image .entries)
+      → Printable (stateIn image .blocks) (stateIn image .spare) (countsOf (free (stateIn image .map)) (stateIn image .blocks))
+      (stateIn image .entries)
   loaded-printable e =
       let a = accepted-to image maplen count scratchlen e in
       let h = head-to (blocksIn image) (freeCountIn image) (sheetsIn image) (totalOf image) (a .first) in
-      printable (stateIn image) (h .limits .limit) (h .limits .spare) (omega (arith, h .count .few, entries-length image (sheetsIn image))) (a .whole)
+      printable (stateIn image) (h .limits .limit) (h .limits .spare)
+      (omega (arith, h .count .few, entries-length image (sheetsIn image))) (a .whole)
 
-  pub printed-whole : (text text′ : List ℕ) (r : ℕ) → room ≤ length text → Writes (printedOf image maplen count scratchlen) text 0 r text′
+  pub printed-whole : (text text′ : List ℕ) (r : ℕ) → room ≤ length text
+      → Writes (printedOf image maplen count scratchlen) text 0 r text′
       → Begins (printedOf image maplen count scratchlen) r text′
   printed-whole text text′ r h w = go (loadVerdict image maplen count scratchlen) refl w
     where
-      go : (v : Verdict) → loadVerdict image maplen count scratchlen ≡ v → Writes (settle v card refusalText) text 0 r text′ → Begins (settle v card refusalText) r text′
+      go : (v : Verdict) → loadVerdict image maplen count scratchlen ≡ v → Writes (settle v card refusalText) text 0 r text′
+          → Begins (settle v card refusalText) r text′
       go accepted e w =
-          card-whole (stateIn image .blocks) (stateIn image .spare) (countsOf (free (stateIn image .map)) (stateIn image .blocks)) (stateIn image .entries) text text′ r (loaded-printable e) (omega (arith, h)) w
+          card-whole (stateIn image .blocks) (stateIn image .spare)
+          (countsOf (free (stateIn image .map)) (stateIn image .blocks)) (stateIn image .entries) text text′ r
+          (loaded-printable e) (omega (arith, h)) w
       go (refused number) e w =
           let l : number ≤ 14 = subst (λ (v : Verdict). rowNumber v ≤ 14) e (load-number image maplen count scratchlen) in
           refusal-whole number text text′ r (omega (arith, l)) (omega (arith, h)) w
 
 -- in the words of the contract of `print_image`
-pub prints-whole : (image map : List ℕ) (entries : List Entry) (scratch text : List ℕ) (r : ℕ) (map′ : List ℕ) (entries′ : List Entry) (scratch′ text′ : List ℕ)
+pub prints-whole : (image map : List ℕ) (entries : List Entry) (scratch text : List ℕ) (r : ℕ) (map′ : List ℕ)
+    (entries′ : List Entry) (scratch′ text′ : List ℕ)
     → room ≤ length text → Prints image map entries scratch text r map′ entries′ scratch′ text′
     → Begins (printedOf image (length map) (length entries) (length scratch)) r text′
-prints-whole image map entries scratch text r map′ entries′ scratch′ text′ h w = printed-whole image (length map) (length entries) (length scratch) text text′ r h w
+prints-whole image map entries scratch text r map′ entries′ scratch′ text′ h w =
+    printed-whole image (length map) (length entries) (length scratch) text text′ r h w
 
 -- ---- what is printed of the image of a state that can be saved
 
-module _ (s : State) (words : Words (s .map)) (fit : saveFits (s .blocks) (s .spare) (length (s .entries)) (length (s .map)) (length (s .map)) ≡ true) (whole : sound s ≡ true) where
+module _ (s : State) (words : Words (s .map))
+    (fit : saveFits (s .blocks) (s .spare) (length (s .entries)) (length (s .map)) (length (s .map)) ≡ true)
+    (whole : sound s ≡ true) where
   abbrev printed : List ℕ
   printed = printedOf (imageOf s) (length (s .map)) (length (s .entries)) (length (s .map))
 
@@ -139,10 +152,13 @@ module _ (s : State) (words : Words (s .map)) (fit : saveFits (s .blocks) (s .sp
 
   pub saved-printed : printed ≡ text-of s
   saved-printed =
-      ap (λ (v : Verdict). settle v (text-of (stateIn (imageOf s))) refusalText) (saved-accepted s (length (s .map)) image-length words saves)
+      ap (λ (v : Verdict). settle v (text-of (stateIn (imageOf s))) refusalText)
+      (saved-accepted s (length (s .map)) image-length words saves)
       ∙ ap text-of (saved-state s (length (s .map)) image-length words saves)
 
   -- so its text stands there, whole
-  pub saved-whole : (text text′ : List ℕ) (r : ℕ) → room ≤ length text → Writes printed text 0 r text′ → Begins (text-of s) r text′
+  pub saved-whole : (text text′ : List ℕ) (r : ℕ) → room ≤ length text → Writes printed text 0 r text′
+      → Begins (text-of s) r text′
   saved-whole text text′ r h w =
-      subst (λ (bytes : List ℕ). Begins bytes r text′) saved-printed (printed-whole (imageOf s) (length (s .map)) (length (s .entries)) (length (s .map)) text text′ r h w)
+      subst (λ (bytes : List ℕ). Begins bytes r text′) saved-printed
+      (printed-whole (imageOf s) (length (s .map)) (length (s .entries)) (length (s .map)) text text′ r h w)

@@ -14,7 +14,8 @@ use printer::write_sheets;
 
 // Writes the text of a refusal. No line of a sheet goes behind it.
 fn refuse(number: u32, text: &mut [u8]) -> Cursor
-    ensures { λ r. ⌜ (r ≡ refusalCursor number (now (text .entry))) × (now (text .exit) ≡ refusalWritten number (now (text .entry))) ⌝ }
+    ensures { λ r. ⌜ (r ≡ refusalCursor number (now (text .entry)))
+        × (now (text .exit) ≡ refusalWritten number (now (text .entry))) ⌝ }
 {
     let end = describe_refusal(number, text);
     Cursor {
@@ -26,7 +27,8 @@ fn refuse(number: u32, text: &mut [u8]) -> Cursor
 
 // Writes a refusal, or the first two lines of a card.
 fn begin(loaded: Loaded, map: &[u64], count: usize, text: &mut [u8]) -> Cursor
-    ensures { λ r. ⌜ (r ≡ beginCursor loaded (now (map .entry)) count (now (text .entry))) × (now (text .exit) ≡ beginWritten loaded (now (map .entry)) count (now (text .entry))) ⌝ }
+    ensures { λ r. ⌜ (r ≡ beginCursor loaded (now (map .entry)) count (now (text .entry)))
+        × (now (text .exit) ≡ beginWritten loaded (now (map .entry)) count (now (text .entry))) ⌝ }
 {
     if loaded.number != 0 {
         return refuse(loaded.number, text);
@@ -47,7 +49,8 @@ pub fn print_image(
     scratch: &mut [u64],
     text: &mut [u8],
 ) -> usize
-    ensures { λ r. ⌜ Prints (now (image .entry)) (now (map .entry)) (now (catalogue .entry)) (now (scratch .entry)) (now (text .entry)) r
+    ensures { λ r. ⌜ Prints (now (image .entry)) (now (map .entry)) (now (catalogue .entry)) (now (scratch .entry))
+        (now (text .entry)) r
         (now (map .exit)) (now (catalogue .exit)) (now (scratch .exit)) (now (text .exit)) ⌝ }
 {
     let count = catalogue::count(&*catalogue);

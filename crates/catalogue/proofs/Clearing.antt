@@ -11,6 +11,7 @@ pub cleared-none : (accepted : Bool) → clearedIf [] accepted ≡ []
 cleared-none true = refl
 cleared-none false = refl
 
-pub cleared-more : (e : Entry) (es : List Entry) (accepted : Bool) → clearedIf (e ∷ es) accepted ≡ cleared accepted e ∷ clearedIf es accepted
+pub cleared-more : (e : Entry) (es : List Entry) (accepted : Bool)
+    → clearedIf (e ∷ es) accepted ≡ cleared accepted e ∷ clearedIf es accepted
 cleared-more e es true = refl
 cleared-more e es false = refl

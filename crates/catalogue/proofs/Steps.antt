@@ -1,7 +1,8 @@
 -- Steps of a walk that the library has in smaller pieces. They say nothing of the crate.
 --     leave n          the function has returned: the local at entry n, with the word after it, is freed. Whatever it holds
 --     leave-room n     the same for a local that was never written
---     if-then          `if c { a }`, with what follows. The arm that runs a has `on`, which goes on with what follows, after a's last statement (`assigns-last`)
+-- if-then `if c { a }`, with what follows. The arm that runs a has `on`, which goes on with what follows, after a's last
+-- statement (`assigns-last`)
 --     breaks-if        `if c { break; }`, with what follows
 --     says-nothing     at the exit of a function that ensures nothing
 --     is-true, is-false, is-not   a test that came out, as an equation
@@ -26,21 +27,29 @@ use types.Kit.{Given, use1, Item, Goal, Post, ‵, ⋆, Seq, Step, step, _$_, ru
 use types.Run.{Opd, free1, first, branches, skips, jumps}
 
 module _ {M : Type 1} {𝓤 : URA M} {H : Heap 𝓤} {A : Atoms 𝓤} {K : Type 0} {W : Given 𝓤 H A} {Γ : List (Item 𝓤)} where
-  pub leave-room : K → (n : ℕ) {τ : Ty} {b : ℕ} {E : Env 𝓤 H} {g : Goal 𝓤 H} → nth 𝓤 H A n Γ ≡ ‵ (froom τ b zero) → nth 𝓤 H A n (del 𝓤 H A n Γ) ≡ ‵ (fdies τ b)
+  pub leave-room : K → (n : ℕ) {τ : Ty} {b : ℕ} {E : Env 𝓤 H} {g : Goal 𝓤 H} → nth 𝓤 H A n Γ ≡ ‵ (froom τ b zero)
+      → nth 𝓤 H A n (del 𝓤 H A n Γ) ≡ ‵ (fdies τ b)
       → Step K W (del 𝓤 H A n (del 𝓤 H A n Γ)) (frees E g) Γ (frees ((τ, b) ∷ E) g)
   leave-room t n {τ} {b} {E} {g} e e′ = step (λ s. record {
-    prf = via 𝓤 (⋆ 𝓤 H A (nth 𝓤 H A n Γ ∷ nth 𝓤 H A n (del 𝓤 H A n Γ) ∷ del 𝓤 H A n (del 𝓤 H A n Γ))) (sel⊢ 𝓤 H A (n ∷ n ∷ []) Γ)
-        (subst (λ (j : Item 𝓤). ent 𝓤 (⋆ 𝓤 H A (j ∷ nth 𝓤 H A n (del 𝓤 H A n Γ) ∷ del 𝓤 H A n (del 𝓤 H A n Γ))) (aim 𝓤 H (frees ((τ, b) ∷ E) g))) (sym e)
-        (subst (λ (j : Item 𝓤). ent 𝓤 (⋆ 𝓤 H A (‵ (froom τ b zero) ∷ j ∷ del 𝓤 H A n (del 𝓤 H A n Γ))) (aim 𝓤 H (frees ((τ, b) ∷ E) g))) (sym e′)
+    prf = via 𝓤 (⋆ 𝓤 H A (nth 𝓤 H A n Γ ∷ nth 𝓤 H A n (del 𝓤 H A n Γ) ∷ del 𝓤 H A n (del 𝓤 H A n Γ)))
+        (sel⊢ 𝓤 H A (n ∷ n ∷ []) Γ)
+        (subst (λ (j : Item 𝓤). ent 𝓤 (⋆ 𝓤 H A (j ∷ nth 𝓤 H A n (del 𝓤 H A n Γ) ∷ del 𝓤 H A n (del 𝓤 H A n Γ)))
+        (aim 𝓤 H (frees ((τ, b) ∷ E) g))) (sym e)
+        (subst (λ (j : Item 𝓤). ent 𝓤 (⋆ 𝓤 H A (‵ (froom τ b zero) ∷ j ∷ del 𝓤 H A n (del 𝓤 H A n Γ)))
+        (aim 𝓤 H (frees ((τ, b) ∷ E) g))) (sym e′)
         ((free1 t $ s) .prf)));
   })
 
-  pub leave : K → (n : ℕ) {τ : Ty} {b : ℕ} {v : Val} {E : Env 𝓤 H} {g : Goal 𝓤 H} → nth 𝓤 H A n Γ ≡ ‵ (fat fullShare τ b zero v) → nth 𝓤 H A n (del 𝓤 H A n Γ) ≡ ‵ (fdies τ b)
+  pub leave : K → (n : ℕ) {τ : Ty} {b : ℕ} {v : Val} {E : Env 𝓤 H} {g : Goal 𝓤 H}
+      → nth 𝓤 H A n Γ ≡ ‵ (fat fullShare τ b zero v) → nth 𝓤 H A n (del 𝓤 H A n Γ) ≡ ‵ (fdies τ b)
       → Step K W (del 𝓤 H A n (del 𝓤 H A n Γ)) (frees E g) Γ (frees ((τ, b) ∷ E) g)
   leave t n {τ} {b} {v} {E} {g} e e′ = step (λ s. record {
-    prf = via 𝓤 (⋆ 𝓤 H A (nth 𝓤 H A n Γ ∷ nth 𝓤 H A n (del 𝓤 H A n Γ) ∷ del 𝓤 H A n (del 𝓤 H A n Γ))) (sel⊢ 𝓤 H A (n ∷ n ∷ []) Γ)
-        (subst (λ (j : Item 𝓤). ent 𝓤 (⋆ 𝓤 H A (j ∷ nth 𝓤 H A n (del 𝓤 H A n Γ) ∷ del 𝓤 H A n (del 𝓤 H A n Γ))) (aim 𝓤 H (frees ((τ, b) ∷ E) g))) (sym e)
-        (subst (λ (j : Item 𝓤). ent 𝓤 (⋆ 𝓤 H A (‵ (fat fullShare τ b zero v) ∷ j ∷ del 𝓤 H A n (del 𝓤 H A n Γ))) (aim 𝓤 H (frees ((τ, b) ∷ E) g))) (sym e′)
+    prf = via 𝓤 (⋆ 𝓤 H A (nth 𝓤 H A n Γ ∷ nth 𝓤 H A n (del 𝓤 H A n Γ) ∷ del 𝓤 H A n (del 𝓤 H A n Γ)))
+        (sel⊢ 𝓤 H A (n ∷ n ∷ []) Γ)
+        (subst (λ (j : Item 𝓤). ent 𝓤 (⋆ 𝓤 H A (j ∷ nth 𝓤 H A n (del 𝓤 H A n Γ) ∷ del 𝓤 H A n (del 𝓤 H A n Γ)))
+        (aim 𝓤 H (frees ((τ, b) ∷ E) g))) (sym e)
+        (subst (λ (j : Item 𝓤). ent 𝓤 (⋆ 𝓤 H A (‵ (fat fullShare τ b zero v) ∷ j ∷ del 𝓤 H A n (del 𝓤 H A n Γ)))
+        (aim 𝓤 H (frees ((τ, b) ∷ E) g))) (sym e′)
         ((use1 W {i = ‵ (fat fullShare τ b zero v)} (‵ (froom τ b zero)) (W .laws .at-room τ b zero v) $ free1 t $ s) .prf)));
   })
 
@@ -49,13 +58,19 @@ module _ {M : Type 1} {𝓤 : URA M} {H : Heap 𝓤} {A : Atoms 𝓤} {K : Type 
 
   module _ {C : Calls 𝓤 H} {Λ : Loops 𝓤 H} {E : Env 𝓤 H} {q : Post 𝓤 H} {rest : Body} where
     pub if-then : K → {c : Operand} {a : Body} {y : Bool} → Opd K W Γ E c (vbool y)
-        → (T y → ((Γ′ : List (Item 𝓤)) → Seq K W Γ′ (runs C Λ E rest q) → Seq K W Γ′ (prop (afterSeq 𝓤 H (Wp 𝓤 H C Λ E rest (post 𝓤 H q)) (post 𝓤 H q) next)))
-        → Seq K W Γ (runs C Λ E a (anyQ (afterSeq 𝓤 H (Wp 𝓤 H C Λ E rest (post 𝓤 H q)) (post 𝓤 H q))))) → (T (not y) → Seq K W Γ (runs C Λ E rest q))
+        → (T y → ((Γ′ : List (Item 𝓤)) → Seq K W Γ′ (runs C Λ E rest q)
+        → Seq K W Γ′ (prop (afterSeq 𝓤 H (Wp 𝓤 H C Λ E rest (post 𝓤 H q)) (post 𝓤 H q) next)))
+        → Seq K W Γ (runs C Λ E a (anyQ (afterSeq 𝓤 H (Wp 𝓤 H C Λ E rest (post 𝓤 H q)) (post 𝓤 H q)))))
+        → (T (not y) → Seq K W Γ (runs C Λ E rest q))
         → Seq K W Γ (runs C Λ E (seq (cond c a skip) rest) q)
-    if-then t o held failed = first t $ branches t o (λ z. held z (λ Γ′ s. record { prf = s .prf })) (λ z. skips t $ record { prf = failed z .prf })
+    if-then t o held failed = first t $ branches t o (λ z. held z (λ Γ′ s. record { prf = s .prf }))
+        (λ z. skips t $ record { prf = failed z .prf })
 
-    pub breaks-if : K → {c : Operand} {n : ℕ} {y : Bool} → Opd K W Γ E c (vbool y) → (T y → Seq K W Γ (prop (post 𝓤 H q (exits n)))) → (T (not y) → Seq K W Γ (runs C Λ E rest q)) → Seq K W Γ (runs C Λ E (seq (cond c (exit n) skip) rest) q)
-    breaks-if t o held failed = first t $ branches t o (λ z. jumps t $ record { prf = held z .prf }) (λ z. skips t $ record { prf = failed z .prf })
+    pub breaks-if : K → {c : Operand} {n : ℕ} {y : Bool} → Opd K W Γ E c (vbool y)
+        → (T y → Seq K W Γ (prop (post 𝓤 H q (exits n)))) → (T (not y) → Seq K W Γ (runs C Λ E rest q))
+        → Seq K W Γ (runs C Λ E (seq (cond c (exit n) skip) rest) q)
+    breaks-if t o held failed = first t $ branches t o (λ z. jumps t $ record { prf = held z .prf })
+        (λ z. skips t $ record { prf = failed z .prf })
 
 pub is-true : (b : Bool) → T b → b ≡ true
 is-true true t = refl

@@ -27,7 +27,8 @@ module _ (entries : List Entry) (sheet : ℕ) (entry : Entry) where
   entry-elsewhere other differs = getD-set-other entries sheet other entry zeros differs
 
   -- and the same for all that is found
-  pub slot-stored : sheet < length entries → slotAt (set entries sheet entry) sheet ≡ record { count = length entries; entry = entry }
+  pub slot-stored : sheet < length entries → slotAt (set entries sheet entry) sheet
+      ≡ record { count = length entries; entry = entry }
   slot-stored inside = λ i. record { count = count-stored i; entry = entry-stored inside i }
 
   pub slot-elsewhere : (other : ℕ) → other ≢ sheet → slotAt (set entries sheet entry) other ≡ slotAt entries other

@@ -42,7 +42,8 @@ pub record Value : Type 2 where
   pub of : Data
   pub val : of .D → Val
   pub tells : Tells (meaning of) (Is (meaning of)) (λ x. val x ∷ [])
-  pub typed : {M : Type 1} (𝓤 : URA M) (H : Heap 𝓤) (A : Atoms 𝓤) (W : Given 𝓤 H A) → (x : of .D) (vs : List Val) → Is (meaning of) x vs → Typed (of .mir ∷ []) vs
+  pub typed : {M : Type 1} (𝓤 : URA M) (H : Heap 𝓤) (A : Atoms 𝓤) (W : Given 𝓤 H A) → (x : of .D) (vs : List Val)
+      → Is (meaning of) x vs → Typed (of .mir ∷ []) vs
   pub makes : {M : Type 1} (𝓤 : URA M) (H : Heap 𝓤) (A : Atoms 𝓤) → Makes 𝓤 H A (meaning of) (Is (meaning of))
 
 abbrev pub denotes : Value → Type 0

@@ -1,4 +1,5 @@
--- The entries of a catalogue, as a list: what is found for a sheet, and what fresh leaves (document 01, "Shape, catalogue, blocks").
+-- The entries of a catalogue, as a list: what is found for a sheet, and what fresh leaves (document 01, "Shape, catalogue,
+-- blocks").
 -- Assumes nothing.
 use mathlib.Core.Bool.{Bool, cond}
 use mathlib.Core.List.{List}

@@ -26,7 +26,8 @@ module _ (n : ℕ) (free : ℕ → Bool) (e : Entry) where
   holds = extentHolds n free (e .start) (e .length)
 
   -- a standing without an extent has start 0 and length 0
-  without : (s : Standing) → lengthOf s ≡ 0 → (b : Bool) → zeros ≡ b → isDamaged (cond b s Damaged) ≡ false → Inside n e (cond b s Damaged)
+  without : (s : Standing) → lengthOf s ≡ 0 → (b : Bool) → zeros ≡ b → isDamaged (cond b s Damaged) ≡ false
+      → Inside n e (cond b s Damaged)
   unfolding zeros
   without s z false q d = absurd (true≢false d)
   without s z true q d =
@@ -35,7 +36,8 @@ module _ (n : ℕ) (free : ℕ → Bool) (e : Entry) where
       record { lasts = z ∙ sym length; inside = omega arith }
 
   -- an extent that holds ends at n or before it
-  reaching : (s : Standing) → lengthOf s ≡ e .length → (b : Bool) → holds ≡ b → isDamaged (cond b s Damaged) ≡ false → Inside n e (cond b s Damaged)
+  reaching : (s : Standing) → lengthOf s ≡ e .length → (b : Bool) → holds ≡ b → isDamaged (cond b s Damaged) ≡ false
+      → Inside n e (cond b s Damaged)
   unfolding holds extentHolds
   reaching s z false q d = absurd (true≢false d)
   reaching s z true q d =
@@ -62,4 +64,5 @@ module _ (n : ℕ) (free : ℕ → Bool) (e : Entry) where
 
   pub inside-of : isDamaged (standingOf n free e) ≡ false → Inside n e (standingOf n free e)
   unfolding standingOf zeros holds
-  inside-of d = by-mark (eqb (e .mark) absentMark) (eqb (e .mark) pausedMark) (eqb (e .mark) openMark) (eqb (e .mark) completeMark) d
+  inside-of d = by-mark (eqb (e .mark) absentMark) (eqb (e .mark) pausedMark) (eqb (e .mark) openMark)
+      (eqb (e .mark) completeMark) d

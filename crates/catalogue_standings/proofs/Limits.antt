@@ -42,7 +42,8 @@ pub record CardFits (n free maplen cardlen : ℕ) : Type 0 where
   pub shape : Fits n free maplen
   pub bytes : cardlen ≡ 512 * n
 
-pub card-fits : (n free maplen c cardlen : ℕ) → (shapeFits n free maplen && sheetsFit c && eqb cardlen (512 * n)) ≡ true → CardFits n free maplen cardlen
+pub card-fits : (n free maplen c cardlen : ℕ) → (shapeFits n free maplen && sheetsFit c && eqb cardlen (512 * n)) ≡ true
+    → CardFits n free maplen cardlen
 card-fits n free maplen c cardlen e =
     let a : Bool = shapeFits n free maplen && sheetsFit c in
     let b : Bool = eqb cardlen (512 * n) in

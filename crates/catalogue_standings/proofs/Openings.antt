@@ -16,14 +16,16 @@ use types.Run as Run
 use Rattle.catalogue_standings.proofs.Standing as StandingType
 use Rattle.catalogue_standings.specs.Openings.{openedOf, unlessDamaged, rowOf}
 use Rattle.catalogue_standings.specs.Rows.{Row, row, Verdict, accepted, refused, firstOf}
-use Rattle.catalogue_standings.specs.Standings.{extentHolds, standingOf, isAbsent, isPaused, isOpen, isComplete, isDamaged}
+use Rattle.catalogue_standings.specs.Standings.{extentHolds, standingOf, isAbsent, isPaused, isOpen, isComplete}
+use Rattle.catalogue_standings.specs.Standings.{isDamaged}
 use Rattle.catalogue_standings.specs.declared.Standing.{Standing}
 use Rattle.catalogue_standings.specs.declared.Standing.the-variants.{Absent, Paused, Open, Complete, Damaged}
 use Rattle.catalogue_standings.specs.declared.Opened.the-variants.{Refused, Stands}
 
 -- ---- rows one after the other
 
-pub skip : (number : ℕ) (test : Bool) (rows : List Row) (v : Verdict) → test ≡ false → firstOf rows ≡ v → firstOf (row number test ∷ rows) ≡ v
+pub skip : (number : ℕ) (test : Bool) (rows : List Row) (v : Verdict) → test ≡ false → firstOf rows ≡ v
+    → firstOf (row number test ∷ rows) ≡ v
 unfolding firstOf
 skip number test rows v e h = simp e h
 
@@ -36,12 +38,14 @@ stop number test rows e = simp e
 abbrev pub rowsOf : Bool → ℕ → ℕ → Standing → List Row → List Row
 rowsOf fits c sheet s rows = row 1 (not fits) ∷ row 2 (leb c sheet) ∷ row 4 (isDamaged s) ∷ rows
 
-pub closed : (fits : Bool) (c sheet : ℕ) (s : Standing) (rows : List Row) (number : ℕ) → openedOf fits c sheet s ≡ Refused number → firstOf (rowsOf fits c sheet s rows) ≡ refused number
+pub closed : (fits : Bool) (c sheet : ℕ) (s : Standing) (rows : List Row) (number : ℕ)
+    → openedOf fits c sheet s ≡ Refused number → firstOf (rowsOf fits c sheet s rows) ≡ refused number
 unfolding openedOf firstOf
 closed false c sheet s rows number e = cc
 closed true c sheet s rows number e = go (leb c sheet) s e
   where
-    go : (b : Bool) (s : Standing) → cond b (Refused 2) (unlessDamaged s) ≡ Refused number → cond b (refused 2) (cond (isDamaged s) (refused 4) (firstOf rows)) ≡ refused number
+    go : (b : Bool) (s : Standing) → cond b (Refused 2) (unlessDamaged s) ≡ Refused number
+        → cond b (refused 2) (cond (isDamaged s) (refused 4) (firstOf rows)) ≡ refused number
     go true s e = cc
     go false Absent e = cc
     go false Paused e = cc
@@ -56,7 +60,8 @@ pub record Opening (fits : Bool) (c sheet : ℕ) (s t : Standing) (rows : List R
   pub whole : isDamaged s ≡ false
   pub verdict : firstOf (rowsOf fits c sheet s rows) ≡ firstOf rows
 
-pub opened : (fits : Bool) (c sheet : ℕ) (s t : Standing) (rows : List Row) → openedOf fits c sheet s ≡ Stands t → Opening fits c sheet s t rows
+pub opened : (fits : Bool) (c sheet : ℕ) (s t : Standing) (rows : List Row) → openedOf fits c sheet s ≡ Stands t
+    → Opening fits c sheet s t rows
 unfolding openedOf firstOf
 opened false c sheet s t rows e = absurd (never e)
   where
@@ -67,10 +72,12 @@ opened true c sheet s t rows e = go (leb c sheet) refl s e
     never : (number : ℕ) → Refused number ≡ Stands t → ⊥
     never number e = let z : _≡_ {A = ℕ} 0 1 = cc in omega arith
 
-    made : (b : Bool) → leb c sheet ≡ b → (s : Standing) → b ≡ false → s ≡ t → isDamaged s ≡ false → Opening true c sheet s t rows
+    made : (b : Bool) → leb c sheet ≡ b → (s : Standing) → b ≡ false → s ≡ t → isDamaged s ≡ false
+        → Opening true c sheet s t rows
     made b q s f p d = record { all-fits = refl; listed = q ∙ f; same = p; whole = d; verdict = simp (q ∙ f, d) }
 
-    go : (b : Bool) → leb c sheet ≡ b → (s : Standing) → cond b (Refused 2) (unlessDamaged s) ≡ Stands t → Opening true c sheet s t rows
+    go : (b : Bool) → leb c sheet ≡ b → (s : Standing) → cond b (Refused 2) (unlessDamaged s) ≡ Stands t
+        → Opening true c sheet s t rows
     go true q s e = absurd (never 2 e)
     go false q Absent e = made false q Absent refl (cc) refl
     go false q Paused e = made false q Paused refl (cc) refl
@@ -87,7 +94,8 @@ pub record Extent (n : ℕ) (free : ℕ → Bool) (e : Entry) (start blocks : �
   pub inside : start + blocks ≤ n
   pub taken : all (λ b. not (free b)) start blocks ≡ true
 
-held : (n : ℕ) (free : ℕ → Bool) (e : Entry) → extentHolds n free (e .start) (e .length) ≡ true → Extent n free e (e .start) (e .length)
+held : (n : ℕ) (free : ℕ → Bool) (e : Entry) → extentHolds n free (e .start) (e .length) ≡ true
+    → Extent n free e (e .start) (e .length)
 unfolding extentHolds
 held n free e h =
     let a : Bool = leb 1 (e .length) in
@@ -135,17 +143,22 @@ not-complete Damaged rows t d = absurd (true≢false d)
 
 -- ---- a standing that a call admits passes
 
-pub is-absent : (s : Standing) (rows : List Row) → s ≡ Absent → firstOf (row 6 (isPaused s) ∷ row 7 (isOpen s) ∷ row 8 (isComplete s) ∷ rows) ≡ firstOf rows
+pub is-absent : (s : Standing) (rows : List Row) → s ≡ Absent
+    → firstOf (row 6 (isPaused s) ∷ row 7 (isOpen s) ∷ row 8 (isComplete s) ∷ rows) ≡ firstOf rows
 unfolding firstOf
 is-absent s rows e = ap (λ (t : Standing). firstOf (row 6 (isPaused t) ∷ row 7 (isOpen t) ∷ row 8 (isComplete t) ∷ rows)) e
 
-pub is-open : (s : Standing) (start blocks : ℕ) (rows : List Row) → s ≡ Open start blocks → firstOf (row 5 (isAbsent s) ∷ row 6 (isPaused s) ∷ row 8 (isComplete s) ∷ rows) ≡ firstOf rows
+pub is-open : (s : Standing) (start blocks : ℕ) (rows : List Row) → s ≡ Open start blocks
+    → firstOf (row 5 (isAbsent s) ∷ row 6 (isPaused s) ∷ row 8 (isComplete s) ∷ rows) ≡ firstOf rows
 unfolding firstOf
-is-open s start blocks rows e = ap (λ (t : Standing). firstOf (row 5 (isAbsent t) ∷ row 6 (isPaused t) ∷ row 8 (isComplete t) ∷ rows)) e
+is-open s start blocks rows e =
+    ap (λ (t : Standing). firstOf (row 5 (isAbsent t) ∷ row 6 (isPaused t) ∷ row 8 (isComplete t) ∷ rows)) e
 
-pub is-complete : (s : Standing) (start blocks : ℕ) (rows : List Row) → s ≡ Complete start blocks → firstOf (row 5 (isAbsent s) ∷ row 6 (isPaused s) ∷ row 7 (isOpen s) ∷ rows) ≡ firstOf rows
+pub is-complete : (s : Standing) (start blocks : ℕ) (rows : List Row) → s ≡ Complete start blocks
+    → firstOf (row 5 (isAbsent s) ∷ row 6 (isPaused s) ∷ row 7 (isOpen s) ∷ rows) ≡ firstOf rows
 unfolding firstOf
-is-complete s start blocks rows e = ap (λ (t : Standing). firstOf (row 5 (isAbsent t) ∷ row 6 (isPaused t) ∷ row 7 (isOpen t) ∷ rows)) e
+is-complete s start blocks rows e =
+    ap (λ (t : Standing). firstOf (row 5 (isAbsent t) ∷ row 6 (isPaused t) ∷ row 7 (isOpen t) ∷ rows)) e
 
 pub none-left : firstOf [] ≡ accepted
 unfolding firstOf
@@ -154,18 +167,21 @@ none-left = refl
 -- ---- the entry of an Open or a Complete sheet has an extent that holds
 
 -- neither a standing without an extent, nor damage
-plain : (t : Standing → Bool) (b : Bool) (s r : Standing) → t s ≡ false → t Damaged ≡ false → t r ≡ true → cond b s Damaged ≡ r → ⊥
+plain : (t : Standing → Bool) (b : Bool) (s r : Standing) → t s ≡ false → t Damaged ≡ false → t r ≡ true → cond b s Damaged ≡ r
+    → ⊥
 plain t true s r p d q e = true≢false (sym q ∙ ap t (sym e) ∙ p)
 plain t false s r p d q e = true≢false (sym q ∙ ap t (sym e) ∙ d)
 
-holding : (b : Bool) (s r : Standing) (t : Standing → Bool) → t Damaged ≡ false → t r ≡ true → cond b s Damaged ≡ r → (b ≡ true) × (s ≡ r)
+holding : (b : Bool) (s r : Standing) (t : Standing → Bool) → t Damaged ≡ false → t r ≡ true → cond b s Damaged ≡ r
+    → (b ≡ true) × (s ≡ r)
 holding true s r t d q e = (refl, e)
 holding false s r t d q e = absurd (true≢false (sym q ∙ ap t (sym e) ∙ d))
 
 module _ (n : ℕ) (free : ℕ → Bool) (e : Entry) where
   pub open-extent : (start blocks : ℕ) → standingOf n free e ≡ Open start blocks → Extent n free e start blocks
   unfolding standingOf
-  open-extent start blocks h = go (eqb (e .mark) absentMark) (eqb (e .mark) pausedMark) (eqb (e .mark) openMark) (eqb (e .mark) completeMark) h
+  open-extent start blocks h = go (eqb (e .mark) absentMark) (eqb (e .mark) pausedMark) (eqb (e .mark) openMark)
+      (eqb (e .mark) completeMark) h
     where
       zeros : Bool
       zeros = eqb (e .start) 0 && eqb (e .length) 0
@@ -177,21 +193,26 @@ module _ (n : ℕ) (free : ℕ → Bool) (e : Entry) where
       made r =
           let a : e .start ≡ start = (cc (r .1)) in
           let b : e .length ≡ blocks = (cc (r .1)) in
-          subst (λ (x : ℕ). Extent n free e x blocks) a (subst (λ (y : ℕ). Extent n free e (e .start) y) b (held n free e (r .0)))
+          subst (λ (x : ℕ). Extent n free e x blocks) a
+          (subst (λ (y : ℕ). Extent n free e (e .start) y) b (held n free e (r .0)))
 
       go : (p q o k : Bool)
-          → cond p (cond zeros Absent Damaged) (cond q (cond zeros Paused Damaged) (cond o (cond holds (Open (e .start) (e .length)) Damaged) (cond k (cond holds (Complete (e .start) (e .length)) Damaged) Damaged)))
+          → cond p (cond zeros Absent Damaged) (cond q (cond zeros Paused Damaged)
+          (cond o (cond holds (Open (e .start) (e .length)) Damaged)
+          (cond k (cond holds (Complete (e .start) (e .length)) Damaged) Damaged)))
           ≡ Open start blocks
           → Extent n free e start blocks
       go true q o k h = absurd (plain isOpen zeros Absent (Open start blocks) refl refl refl h)
       go false true o k h = absurd (plain isOpen zeros Paused (Open start blocks) refl refl refl h)
       go false false true k h = made (holding holds (Open (e .start) (e .length)) (Open start blocks) isOpen refl refl h)
-      go false false false true h = absurd (plain isOpen holds (Complete (e .start) (e .length)) (Open start blocks) refl refl refl h)
+      go false false false true h =
+          absurd (plain isOpen holds (Complete (e .start) (e .length)) (Open start blocks) refl refl refl h)
       go false false false false h = absurd (plain isOpen false Damaged (Open start blocks) refl refl refl h)
 
   pub complete-extent : (start blocks : ℕ) → standingOf n free e ≡ Complete start blocks → Extent n free e start blocks
   unfolding standingOf
-  complete-extent start blocks h = go (eqb (e .mark) absentMark) (eqb (e .mark) pausedMark) (eqb (e .mark) openMark) (eqb (e .mark) completeMark) h
+  complete-extent start blocks h = go (eqb (e .mark) absentMark) (eqb (e .mark) pausedMark) (eqb (e .mark) openMark)
+      (eqb (e .mark) completeMark) h
     where
       zeros : Bool
       zeros = eqb (e .start) 0 && eqb (e .length) 0
@@ -203,14 +224,19 @@ module _ (n : ℕ) (free : ℕ → Bool) (e : Entry) where
       made r =
           let a : e .start ≡ start = (cc (r .1)) in
           let b : e .length ≡ blocks = (cc (r .1)) in
-          subst (λ (x : ℕ). Extent n free e x blocks) a (subst (λ (y : ℕ). Extent n free e (e .start) y) b (held n free e (r .0)))
+          subst (λ (x : ℕ). Extent n free e x blocks) a
+          (subst (λ (y : ℕ). Extent n free e (e .start) y) b (held n free e (r .0)))
 
       go : (p q o k : Bool)
-          → cond p (cond zeros Absent Damaged) (cond q (cond zeros Paused Damaged) (cond o (cond holds (Open (e .start) (e .length)) Damaged) (cond k (cond holds (Complete (e .start) (e .length)) Damaged) Damaged)))
+          → cond p (cond zeros Absent Damaged) (cond q (cond zeros Paused Damaged)
+          (cond o (cond holds (Open (e .start) (e .length)) Damaged)
+          (cond k (cond holds (Complete (e .start) (e .length)) Damaged) Damaged)))
           ≡ Complete start blocks
           → Extent n free e start blocks
       go true q o k h = absurd (plain isComplete zeros Absent (Complete start blocks) refl refl refl h)
       go false true o k h = absurd (plain isComplete zeros Paused (Complete start blocks) refl refl refl h)
-      go false false true k h = absurd (plain isComplete holds (Open (e .start) (e .length)) (Complete start blocks) refl refl refl h)
-      go false false false true h = made (holding holds (Complete (e .start) (e .length)) (Complete start blocks) isComplete refl refl h)
+      go false false true k h =
+          absurd (plain isComplete holds (Open (e .start) (e .length)) (Complete start blocks) refl refl refl h)
+      go false false false true h =
+          made (holding holds (Complete (e .start) (e .length)) (Complete start blocks) isComplete refl refl h)
       go false false false false h = absurd (plain isComplete false Damaged (Complete start blocks) refl refl refl h)

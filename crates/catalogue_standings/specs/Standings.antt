@@ -21,7 +21,8 @@ standingOf n free e =
     cond (eqb (e .mark) absentMark) (cond (eqb (e .start) 0 && eqb (e .length) 0) Absent Damaged)
     (cond (eqb (e .mark) pausedMark) (cond (eqb (e .start) 0 && eqb (e .length) 0) Paused Damaged)
     (cond (eqb (e .mark) openMark) (cond (extentHolds n free (e .start) (e .length)) (Open (e .start) (e .length)) Damaged)
-    (cond (eqb (e .mark) completeMark) (cond (extentHolds n free (e .start) (e .length)) (Complete (e .start) (e .length)) Damaged)
+    (cond (eqb (e .mark) completeMark) (cond (extentHolds n free (e .start) (e .length))
+    (Complete (e .start) (e .length)) Damaged)
     Damaged)))
 
 abbrev pub isAbsent : Standing → Bool

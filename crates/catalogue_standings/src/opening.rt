@@ -142,7 +142,8 @@ pub fn row_of(stands: Standing) -> u32
 
 // Rows 1, 2 and 4 for the entry, of a call that is not lent the card.
 pub fn open_sheet(n: u32, free: u32, map: &[u64], c: usize, sheet: u32, entry: Entry) -> Opened
-    ensures { λ r. ⌜ r ≡ openedOf (shapeFits n free (length (now (map .entry))) && sheetsFit c) c sheet (standingOf n (Blocks.free (now (map .entry))) entry) ⌝ }
+    ensures { λ r. ⌜ r ≡ openedOf (shapeFits n free (length (now (map .entry))) && sheetsFit c) c sheet
+        (standingOf n (Blocks.free (now (map .entry))) entry) ⌝ }
 {
     if !shape_fits(n, free, map.len()) {
         return Opened::Refused(1);
@@ -166,7 +167,8 @@ pub fn open_on(
     sheet: u32,
     entry: Entry,
 ) -> Opened
-    ensures { λ r. ⌜ r ≡ openedOf (shapeFits n free (length (now (map .entry))) && sheetsFit c && eqb cardlen (512 * n)) c sheet (standingOf n (Blocks.free (now (map .entry))) entry) ⌝ }
+    ensures { λ r. ⌜ r ≡ openedOf (shapeFits n free (length (now (map .entry))) && sheetsFit c && eqb cardlen (512 * n)) c
+        sheet (standingOf n (Blocks.free (now (map .entry))) entry) ⌝ }
 {
     if cardlen != 512 * (n as usize) {
         return Opened::Refused(1);

@@ -24,7 +24,8 @@ pub fn read(text: &mut [u8]) -> usize
 // The list is read on by a byte, and printed but for the ends of lines that are to be done. At such an end, what the line
 // changes where it is no call. No more is lent than there is.
 pub fn next(map: &mut [u64], card: &mut [u8], s: Setup, byte: u8) -> Setup
-    ensures { λ r. ⌜ (r .words ≤ ListN.length (now (map .exit))) × (r .sheets ≤ 1025) × (r .bytes ≤ ListN.length (now (card .exit))) ⌝ }
+    ensures { λ r. ⌜ (r .words ≤ ListN.length (now (map .exit))) × (r .sheets ≤ 1025)
+        × (r .bytes ≤ ListN.length (now (card .exit))) ⌝ }
 {
     let begun = s.begun;
     print::echo(byte, line::ends(begun, byte));

@@ -8,7 +8,8 @@ use catalogue::Entry;
 use catalogue_standings::Answer;
 
 // The line that is read, the line to be done (empty until its end is read), n and the free count, the entries, and how many
-// words of the map, entries and bytes of the card are lent. There is one entry more than a catalogue can have, so that it can be too long.
+// words of the map, entries and bytes of the card are lent. There is one entry more than a catalogue can have, so that it can
+// be too long.
 pub struct Setup {
     pub begun: Line,
     pub line: Line,

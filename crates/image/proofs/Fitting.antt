@@ -19,7 +19,11 @@ pub record Sheets (c : ℕ) : Type 0 where
 
 sheets : (c : ℕ) → sheetsFit c ≡ true → Sheets c
 unfolding sheetsFit
-sheets c e = record { some = leb-true 1 c (and-left (leb 1 c) (leb c 1024) e); few = leb-true c 1024 (and-right (leb 1 c) (leb c 1024) e) }
+sheets c e = record {
+  some = leb-true 1 c (and-left (leb 1 c) (leb c 1024) e);
+  few =
+      leb-true c 1024 (and-right (leb 1 c) (leb c 1024) e);
+}
 
 -- row 1 of save
 pub record SaveFits (n spare c maplen scratchlen : ℕ) : Type 0 where
@@ -58,7 +62,8 @@ module _ (n spare c maplen scratchlen : ℕ) where
         same = eqb-true scratchlen maplen (and-right (a && b) d e);
       }
 
-  pub to-save-fits : shapeFits n spare maplen ≡ true → sheetsFit c ≡ true → scratchlen ≡ maplen → saveFits n spare c maplen scratchlen ≡ true
+  pub to-save-fits : shapeFits n spare maplen ≡ true → sheetsFit c ≡ true → scratchlen ≡ maplen
+      → saveFits n spare c maplen scratchlen ≡ true
   to-save-fits s t e = sym (save-by-scratch s t) ∙ eq-eqb scratchlen maplen e
 
 -- row 12 of load
@@ -75,7 +80,8 @@ module _ (bytes : ℕ) where
   module _ (z : bytes % 512 ≡ 0) where
     pub whole-none : bytes / 512 < 1 → false ≡ wholeBlocks bytes
     unfolding wholeBlocks
-    whole-none h = sym (ap₂ (λ (a b : Bool). a && b && leb (bytes / 512) 91) (eq-eqb (bytes % 512) 0 z) (lt-leb 1 (bytes / 512) h))
+    whole-none h =
+        sym (ap₂ (λ (a b : Bool). a && b && leb (bytes / 512) 91) (eq-eqb (bytes % 512) 0 z) (lt-leb 1 (bytes / 512) h))
 
     pub whole-by-few : leb 1 (bytes / 512) ≡ true → leb (bytes / 512) 91 ≡ wholeBlocks bytes
     unfolding wholeBlocks
@@ -113,7 +119,9 @@ module _ (n spare c total : ℕ) where
   head-unshaped s = sym (ap (λ (a : Bool). a && sheetsFit c && eqb total (framesFor n c)) s)
 
   pub head-large : 262144 < n → false ≡ headFits n spare c total
-  head-large h = head-unshaped (not-true′ (shapeFits n spare (wordsFor n)) (λ e. let l = fits n spare (wordsFor n) e in omega (arith, l .limit)))
+  head-large h =
+      head-unshaped (not-true′ (shapeFits n spare (wordsFor n))
+      (λ e. let l = fits n spare (wordsFor n) e in omega (arith, l .limit)))
     where
       not-true′ : (a : Bool) → (a ≡ true → ⊥) → a ≡ false
       not-true′ true h = absurd (h refl)
@@ -146,7 +154,8 @@ module _ (n spare c total : ℕ) where
         exact = eqb-true total (framesFor n c) (and-right (a && b) d e);
       }
 
-pub to-head : (n spare c total : ℕ) → shapeFits n spare (wordsFor n) ≡ true → sheetsFit c ≡ true → total ≡ framesFor n c → headFits n spare c total ≡ true
+pub to-head : (n spare c total : ℕ) → shapeFits n spare (wordsFor n) ≡ true → sheetsFit c ≡ true → total ≡ framesFor n c
+    → headFits n spare c total ≡ true
 to-head n spare c total s k e = sym (head-by-total n spare c total s k (framesFor n c) refl) ∙ eq-eqb total (framesFor n c) e
 
 -- row 1 of load
@@ -158,18 +167,25 @@ pub record LoadFits (n c maplen count scratchlen : ℕ) : Type 0 where
 module _ (n c maplen count scratchlen w : ℕ) (ew : w ≡ wordsFor n) where
   pub load-words : (maplen ≡ w → ⊥) → false ≡ loadFits n c maplen count scratchlen
   unfolding loadFits
-  load-words h = sym (ap (λ (a : Bool). a && eqb count c && eqb scratchlen (wordsFor n)) (ne-eqb maplen (wordsFor n) (λ q. h (q ∙ sym ew))))
+  load-words h =
+      sym (ap (λ (a : Bool). a && eqb count c && eqb scratchlen (wordsFor n))
+      (ne-eqb maplen (wordsFor n) (λ q. h (q ∙ sym ew))))
 
   module _ (e : maplen ≡ w) where
     pub load-entries : (count ≡ c → ⊥) → false ≡ loadFits n c maplen count scratchlen
     unfolding loadFits
-    load-entries h = sym (ap₂ (λ (a b : Bool). a && b && eqb scratchlen (wordsFor n)) (eq-eqb maplen (wordsFor n) (e ∙ ew)) (ne-eqb count c h))
+    load-entries h =
+        sym (ap₂ (λ (a b : Bool). a && b && eqb scratchlen (wordsFor n)) (eq-eqb maplen (wordsFor n) (e ∙ ew))
+        (ne-eqb count c h))
 
     pub load-by-scratch : count ≡ c → (v : ℕ) → v ≡ wordsFor n → eqb scratchlen v ≡ loadFits n c maplen count scratchlen
     unfolding loadFits
-    load-by-scratch h v ev = ap (eqb scratchlen) ev ∙ sym (ap₂ (λ (a b : Bool). a && b && eqb scratchlen (wordsFor n)) (eq-eqb maplen (wordsFor n) (e ∙ ew)) (eq-eqb count c h))
+    load-by-scratch h v ev = ap (eqb scratchlen) ev
+        ∙ sym (ap₂ (λ (a b : Bool). a && b && eqb scratchlen (wordsFor n)) (eq-eqb maplen (wordsFor n) (e ∙ ew))
+        (eq-eqb count c h))
 
-pub load-fits-to : (n c maplen count scratchlen : ℕ) → loadFits n c maplen count scratchlen ≡ true → LoadFits n c maplen count scratchlen
+pub load-fits-to : (n c maplen count scratchlen : ℕ) → loadFits n c maplen count scratchlen ≡ true
+    → LoadFits n c maplen count scratchlen
 unfolding loadFits
 load-fits-to n c maplen count scratchlen e =
     let a : Bool = eqb maplen (wordsFor n) in
@@ -181,6 +197,8 @@ load-fits-to n c maplen count scratchlen e =
       scratch = eqb-true scratchlen (wordsFor n) (and-right (a && b) d e);
     }
 
-pub to-load-fits : (n c maplen count scratchlen : ℕ) → LoadFits n c maplen count scratchlen → loadFits n c maplen count scratchlen ≡ true
+pub to-load-fits : (n c maplen count scratchlen : ℕ) → LoadFits n c maplen count scratchlen
+    → loadFits n c maplen count scratchlen ≡ true
 to-load-fits n c maplen count scratchlen l =
-    sym (load-by-scratch n c maplen count scratchlen (wordsFor n) refl (l .words) (l .entries) (wordsFor n) refl) ∙ eq-eqb scratchlen (wordsFor n) (l .scratch)
+    sym (load-by-scratch n c maplen count scratchlen (wordsFor n) refl (l .words) (l .entries) (wordsFor n) refl)
+    ∙ eq-eqb scratchlen (wordsFor n) (l .scratch)

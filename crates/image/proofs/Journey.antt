@@ -27,7 +27,8 @@ use Rattle.image_soundness.specs.Sound.{State, sound, undamaged}
 use Rattle.image_soundness.proofs.Covers.{head-undamaged, tail-undamaged}
 use Rattle.image_soundness.proofs.Damage.{extent-inside, mark-small}
 use Rattle.image_soundness.proofs.WhenSound.{sound-to}
-use Rattle.image.specs.Image.{contentLength, framesFor, entryBytes, body, imageOf, entriesAt, blocksIn, freeCountIn, sheetsIn, entriesIn, mapIn, stateIn, filled}
+use Rattle.image.specs.Image.{contentLength, framesFor, entryBytes, body, imageOf, entriesAt, blocksIn, freeCountIn}
+use Rattle.image.specs.Image.{sheetsIn, entriesIn, mapIn, stateIn, filled}
 use Rattle.image.specs.Table.{saveVerdict, headFits, loadFits, loadVerdict}
 use Rattle.image.proofs.Fitting.{SaveFits, save-fits-to, whole-to, to-whole, Head, head-to, to-head, to-load-fits}
 use Rattle.image.proofs.Verdicts.{Saved, saved-to, Accepted, accepted-to, to-accepted}
@@ -59,7 +60,8 @@ map-length image n c = wordsAt-length (bodyOf image) (12 + 12 * c) (wordsFor n)
 abbrev entry : ℕ → ℕ → ℕ → Entry
 entry m s l = record { mark = m; start = s; length = l }
 
-entries-stored : (n : ℕ) (f : ℕ → Bool) (p : List ℕ) (es : List Entry) (q : List ℕ) (at : ℕ) → n ≤ 262144 → undamaged n f es ≡ true → length p ≡ at
+entries-stored : (n : ℕ) (f : ℕ → Bool) (p : List ℕ) (es : List Entry) (q : List ℕ) (at : ℕ) → n ≤ 262144
+    → undamaged n f es ≡ true → length p ≡ at
     → entriesAt (p ++ (entryBytes es ++ q)) at (length es) ≡ es
 unfolding entryBytes entriesAt
 entries-stored n f p [] q at h u e = refl
@@ -81,17 +83,24 @@ entries-stored n f p (x ∷ es) q at h u e =
     let b1 : p ++ (m ++ (s ++ (l ++ rest))) ≡ (p ++ m) ++ (s ++ (l ++ rest)) = sym (append-assoc p m (s ++ (l ++ rest))) in
     let b2 : p ++ (m ++ (s ++ (l ++ rest))) ≡ ((p ++ m) ++ s) ++ (l ++ rest) = b1 ∙ sym (append-assoc (p ++ m) s (l ++ rest)) in
     let b3 : p ++ (m ++ (s ++ (l ++ rest))) ≡ (((p ++ m) ++ s) ++ l) ++ rest = b2 ∙ sym (append-assoc ((p ++ m) ++ s) l rest) in
-    let e0 : numberAt (p ++ (m ++ (s ++ (l ++ rest)))) at ≡ x .mark = number-at p (s ++ (l ++ rest)) (x .mark) at e (omega arith) in
+    let e0 : numberAt (p ++ (m ++ (s ++ (l ++ rest)))) at ≡ x .mark =
+    number-at p (s ++ (l ++ rest)) (x .mark) at e (omega arith) in
     let e1 : numberAt (p ++ (m ++ (s ++ (l ++ rest)))) (at + 4) ≡ x .start =
-    ap (λ (b : List ℕ). numberAt b (at + 4)) b1 ∙ number-at (p ++ m) (l ++ rest) (x .start) (at + 4) (omega arith) (omega arith) in
+    ap (λ (b : List ℕ). numberAt b (at + 4)) b1 ∙ number-at (p ++ m) (l ++ rest) (x .start) (at + 4) (omega arith)
+    (omega arith) in
     let e2 : numberAt (p ++ (m ++ (s ++ (l ++ rest)))) (at + 8) ≡ x .length =
-    ap (λ (b : List ℕ). numberAt b (at + 8)) b2 ∙ number-at ((p ++ m) ++ s) rest (x .length) (at + 8) (omega arith) (omega arith) in
-    ap (λ (b : List ℕ). entry (numberAt b at) (numberAt b (at + 4)) (numberAt b (at + 8)) ∷ entriesAt b (at + 12) (length es)) all
-    ∙ ap₂ (λ (y : Entry) (ys : List Entry). y ∷ ys) (ap₂ (λ (a b : ℕ). entry a b (numberAt (p ++ (m ++ (s ++ (l ++ rest)))) (at + 8))) e0 e1 ∙ ap (entry (x .mark) (x .start)) e2)
+    ap (λ (b : List ℕ). numberAt b (at + 8)) b2 ∙ number-at ((p ++ m) ++ s) rest (x .length) (at + 8) (omega arith)
+    (omega arith) in
+    ap (λ (b : List ℕ). entry (numberAt b at) (numberAt b (at + 4)) (numberAt b (at + 8)) ∷ entriesAt b (at + 12) (length es))
+    all
+    ∙ ap₂ (λ (y : Entry) (ys : List Entry). y ∷ ys)
+    (ap₂ (λ (a b : ℕ). entry a b (numberAt (p ++ (m ++ (s ++ (l ++ rest)))) (at + 8))) e0 e1
+    ∙ ap (entry (x .mark) (x .start)) e2)
     (ap (λ (b : List ℕ). entriesAt b (at + 12) (length es)) b3
     ∙ entries-stored n f (((p ++ m) ++ s) ++ l) es q (at + 12) h (tail-undamaged n f x es u) (omega arith))
 
-entries-back : (bytes : List ℕ) (at c : ℕ) → Bytes bytes → at + 12 * c ≤ length bytes → entryBytes (entriesAt bytes at c) ≡ take (12 * c) (drop at bytes)
+entries-back : (bytes : List ℕ) (at c : ℕ) → Bytes bytes → at + 12 * c ≤ length bytes
+    → entryBytes (entriesAt bytes at c) ≡ take (12 * c) (drop at bytes)
 unfolding entryBytes entriesAt
 entries-back bytes at zero small h = refl
 entries-back bytes at (suc c) small h =
@@ -103,8 +112,10 @@ entries-back bytes at (suc c) small h =
     let l : List ℕ = bytes4 (numberAt bytes (at + 8)) in
     let rest : List ℕ = entryBytes (entriesAt bytes (at + 12) c) in
     let d4 : drop (at + 4) bytes ≡ drop 4 (drop at bytes) = sym (drop-drop 4 at bytes) in
-    let d8 : drop (at + 8) bytes ≡ drop 4 (drop 4 (drop at bytes)) = ap (λ (x : ℕ). drop x bytes) (sym a8) ∙ sym (drop-drop 4 (at + 4) bytes) ∙ ap (drop 4) d4 in
-    let d12 : drop (at + 12) bytes ≡ drop 4 (drop 4 (drop 4 (drop at bytes))) = ap (λ (x : ℕ). drop x bytes) (sym a12) ∙ sym (drop-drop 4 (at + 8) bytes) ∙ ap (drop 4) d8 in
+    let d8 : drop (at + 8) bytes ≡ drop 4 (drop 4 (drop at bytes)) = ap (λ (x : ℕ). drop x bytes) (sym a8)
+    ∙ sym (drop-drop 4 (at + 4) bytes) ∙ ap (drop 4) d4 in
+    let d12 : drop (at + 12) bytes ≡ drop 4 (drop 4 (drop 4 (drop at bytes))) = ap (λ (x : ℕ). drop x bytes) (sym a12)
+    ∙ sym (drop-drop 4 (at + 8) bytes) ∙ ap (drop 4) d8 in
     let shape : ((m ++ s) ++ l) ++ rest ≡ m ++ (s ++ (l ++ rest)) = simp append-assoc in
     shape
     ∙ ap₂ _++_ (bytes-back bytes at small (omega arith))
@@ -120,7 +131,8 @@ state n spare entries map = record { blocks = n; spare = spare; entries = entrie
 
 -- ---- an image that load accepts
 
-module _ (image : List ℕ) (maplen count scratchlen : ℕ) (small : Bytes image) (v : loadVerdict image maplen count scratchlen ≡ accepted) where
+module _ (image : List ℕ) (maplen count scratchlen : ℕ) (small : Bytes image)
+    (v : loadVerdict image maplen count scratchlen ≡ accepted) where
   facts : Accepted image maplen count scratchlen
   facts = accepted-to image maplen count scratchlen v
 
@@ -152,7 +164,8 @@ module _ (image : List ℕ) (maplen count scratchlen : ℕ) (small : Bytes image
   unfolding blocksIn freeCountIn sheetsIn
   first-bytes =
       let l = long in
-      ap₂ (λ (x y : List ℕ). (x ++ y) ++ bytes4 (numberAt b 8)) (bytes-back b 0 bytes (omega arith)) (bytes-back b 4 bytes (omega arith))
+      ap₂ (λ (x y : List ℕ). (x ++ y) ++ bytes4 (numberAt b 8)) (bytes-back b 0 bytes (omega arith))
+      (bytes-back b 4 bytes (omega arith))
       ∙ ap (λ (x : List ℕ). (take 4 (drop 0 b) ++ take 4 (drop 4 b)) ++ x) (bytes-back b 8 bytes (omega arith))
       ∙ ap (λ (x : List ℕ). x ++ take 4 (drop 8 b)) (sym (take-add 4 4 b)) ∙ sym (take-add 8 4 b)
 
@@ -167,15 +180,19 @@ module _ (image : List ℕ) (maplen count scratchlen : ℕ) (small : Bytes image
   fill-bytes : replicate (496 * framesFor n c - contentLength n c) 0 ≡ drop (contentLength n c) b
   unfolding filled
   fill-bytes =
-      let l : length (drop (contentLength n c) b) ≡ 496 * framesFor n c - contentLength n c = length-drop (contentLength n c) b ∙ ap (λ (k : ℕ). k - contentLength n c) long in
+      let l : length (drop (contentLength n c) b) ≡ 496 * framesFor n c - contentLength n c = length-drop (contentLength n c) b
+      ∙ ap (λ (k : ℕ). k - contentLength n c) long in
       sym (blank-is-zeros (drop (contentLength n c) b) (facts .fill) ∙ ap (λ (k : ℕ). replicate k 0) l)
 
   body-back : body (stateIn image) ≡ b
   unfolding body
   body-back =
-      ap (λ (k : ℕ). (bytes4 n ++ bytes4 (freeCountIn image) ++ bytes4 k) ++ entryBytes entries ++ wordBytes map ++ replicate (496 * framesFor n k - contentLength n k) 0) (entries-length image c)
-      ∙ ap₂ (λ (x y : List ℕ). x ++ y ++ wordBytes map ++ replicate (496 * framesFor n c - contentLength n c) 0) first-bytes entry-bytes
-      ∙ ap₂ (λ (x y : List ℕ). x ++ y ++ replicate (496 * framesFor n c - contentLength n c) 0) (sym (take-add 12 (12 * c) b)) word-bytes
+      ap (λ (k : ℕ). (bytes4 n ++ bytes4 (freeCountIn image) ++ bytes4 k) ++ entryBytes entries ++ wordBytes map
+      ++ replicate (496 * framesFor n k - contentLength n k) 0) (entries-length image c)
+      ∙ ap₂ (λ (x y : List ℕ). x ++ y ++ wordBytes map ++ replicate (496 * framesFor n c - contentLength n c) 0) first-bytes
+      entry-bytes
+      ∙ ap₂ (λ (x y : List ℕ). x ++ y ++ replicate (496 * framesFor n c - contentLength n c) 0)
+      (sym (take-add 12 (12 * c) b)) word-bytes
       ∙ ap₂ _++_ (sym (take-add (12 + 12 * c) (8 * wordsFor n) b)) fill-bytes
       ∙ take-append-drop (contentLength n c) b
 
@@ -189,7 +206,8 @@ module _ (image : List ℕ) (maplen count scratchlen : ℕ) (small : Bytes image
 
 -- ---- a state that save accepts
 
-module _ (s : State) (scratchlen bufferlen : ℕ) (words : Words (s .map)) (v : saveVerdict s scratchlen bufferlen ≡ accepted) where
+module _ (s : State) (scratchlen bufferlen : ℕ) (words : Words (s .map))
+    (v : saveVerdict s scratchlen bufferlen ≡ accepted) where
   saved : Saved s scratchlen bufferlen
   saved = saved-to s scratchlen bufferlen v
 
@@ -218,7 +236,14 @@ module _ (s : State) (scratchlen bufferlen : ℕ) (words : Words (s .map)) (v : 
   H = bytes4 N ++ bytes4 (s .spare) ++ bytes4 C
 
   H-length : length H ≡ 12
-  H-length = omega (arith, length-append (bytes4 N ++ bytes4 (s .spare)) (bytes4 C), length-append (bytes4 N) (bytes4 (s .spare)), bytes4-length N, bytes4-length (s .spare), bytes4-length C)
+  H-length = omega (
+    arith,
+    length-append (bytes4 N ++ bytes4 (s .spare)) (bytes4 C),
+    length-append (bytes4 N) (bytes4 (s .spare)),
+    bytes4-length N,
+    bytes4-length (s .spare),
+    bytes4-length C,
+  )
 
   HE-length : length (H ++ E) ≡ 12 + 12 * C
   HE-length = omega (arith, length-append H E, H-length, entryBytes-length (s .entries))
@@ -231,7 +256,12 @@ module _ (s : State) (scratchlen bufferlen : ℕ) (words : Words (s .map)) (v : 
   saved-body = refl
 
   body-long : length (body s) ≡ 496 * T
-  body-long = ap length saved-body ∙ omega (arith, length-append (H ++ E ++ M) Z, HEM-length, length-replicate {A = ℕ} (496 * T - contentLength N C) 0)
+  body-long = ap length saved-body ∙ omega (
+    arith,
+    length-append (H ++ E ++ M) Z,
+    HEM-length,
+    length-replicate {A = ℕ} (496 * T - contentLength N C) 0,
+  )
 
   abbrev image : List ℕ
   image = imageOf s
@@ -260,54 +290,73 @@ module _ (s : State) (scratchlen bufferlen : ℕ) (words : Words (s .map)) (v : 
   unfolding blocksIn
   image-blocks =
       let a : H ++ E ++ M ++ Z ≡ bytes4 N ++ (bytes4 (s .spare) ++ (bytes4 C ++ (E ++ (M ++ Z)))) = simp append-assoc in
-      ap (λ (l : List ℕ). numberAt l 0) (image-body ∙ a) ∙ number-at [] (bytes4 (s .spare) ++ (bytes4 C ++ (E ++ (M ++ Z)))) N 0 refl (omega (arith, fit .limits .limit))
+      ap (λ (l : List ℕ). numberAt l 0) (image-body ∙ a)
+      ∙ number-at [] (bytes4 (s .spare) ++ (bytes4 C ++ (E ++ (M ++ Z)))) N 0 refl (omega (arith, fit .limits .limit))
 
   image-spare : freeCountIn image ≡ s .spare
   unfolding freeCountIn
   image-spare =
       let a : H ++ E ++ M ++ Z ≡ bytes4 N ++ (bytes4 (s .spare) ++ (bytes4 C ++ (E ++ (M ++ Z)))) = simp append-assoc in
-      ap (λ (l : List ℕ). numberAt l 4) (image-body ∙ a) ∙ number-at (bytes4 N) (bytes4 C ++ (E ++ (M ++ Z))) (s .spare) 4 (bytes4-length N) (omega (arith, fit .limits .limit, fit .limits .spare))
+      ap (λ (l : List ℕ). numberAt l 4) (image-body ∙ a)
+      ∙ number-at (bytes4 N) (bytes4 C ++ (E ++ (M ++ Z))) (s .spare) 4 (bytes4-length N)
+      (omega (arith, fit .limits .limit, fit .limits .spare))
 
   image-sheets : sheetsIn image ≡ C
   unfolding sheetsIn
   image-sheets =
       let a : H ++ E ++ M ++ Z ≡ (bytes4 N ++ bytes4 (s .spare)) ++ (bytes4 C ++ (E ++ (M ++ Z))) = simp append-assoc in
       ap (λ (l : List ℕ). numberAt l 8) (image-body ∙ a)
-      ∙ number-at (bytes4 N ++ bytes4 (s .spare)) (E ++ (M ++ Z)) C 8 (omega (arith, length-append (bytes4 N) (bytes4 (s .spare)), bytes4-length N, bytes4-length (s .spare))) (omega (arith, fit .count .few))
+      ∙ number-at (bytes4 N ++ bytes4 (s .spare)) (E ++ (M ++ Z)) C 8
+      (omega (arith, length-append (bytes4 N) (bytes4 (s .spare)), bytes4-length N, bytes4-length (s .spare)))
+      (omega (arith, fit .count .few))
 
   image-entries : entriesIn image C ≡ s .entries
   unfolding entriesIn
   image-entries =
       let a : H ++ E ++ M ++ Z ≡ H ++ (E ++ (M ++ Z)) = append-assoc (H ++ E) M Z ∙ append-assoc H E (M ++ Z) in
-      ap (λ (l : List ℕ). entriesAt l 12 C) (image-body ∙ a) ∙ entries-stored N (free (s .map)) H (s .entries) (M ++ Z) 12 (fit .limits .limit) (sound-to s (saved .whole) .whole) H-length
+      ap (λ (l : List ℕ). entriesAt l 12 C) (image-body ∙ a)
+      ∙ entries-stored N (free (s .map)) H (s .entries) (M ++ Z) 12 (fit .limits .limit)
+      (sound-to s (saved .whole) .whole) H-length
 
   image-map : mapIn image N C ≡ s .map
   unfolding mapIn
   image-map =
       let a : H ++ E ++ M ++ Z ≡ (H ++ E) ++ (M ++ Z) = append-assoc (H ++ E) M Z in
-      ap₂ (λ (l : List ℕ) (k : ℕ). wordsAt l (12 + 12 * C) k) (image-body ∙ a) (sym (fit .limits .words)) ∙ words-stored (H ++ E) (s .map) Z (12 + 12 * C) HE-length words
+      ap₂ (λ (l : List ℕ) (k : ℕ). wordsAt l (12 + 12 * C) k) (image-body ∙ a) (sym (fit .limits .words))
+      ∙ words-stored (H ++ E) (s .map) Z (12 + 12 * C) HE-length words
 
   image-filled : filled image N C ≡ true
   unfolding filled
   image-filled =
-      ap (λ (l : List ℕ). blank (drop (contentLength N C) l)) image-body ∙ ap blank (drop-at (H ++ E ++ M) Z (contentLength N C) HEM-length) ∙ blank-zeros (496 * T - contentLength N C)
+      ap (λ (l : List ℕ). blank (drop (contentLength N C) l)) image-body
+      ∙ ap blank (drop-at (H ++ E ++ M) Z (contentLength N C) HEM-length) ∙ blank-zeros (496 * T - contentLength N C)
 
   -- the state that stands in the image is the one saved
   pub saved-state : stateIn image ≡ s
   saved-state =
       ap₂ (λ (x y : ℕ). state x (freeCountIn image) (entriesIn image y) (mapIn image x y)) image-blocks image-sheets
-      ∙ ap₂ (λ (x : ℕ) (l : List Entry). state N x l (mapIn image N C)) image-spare image-entries ∙ ap (state N (s .spare) (s .entries)) image-map
+      ∙ ap₂ (λ (x : ℕ) (l : List Entry). state N x l (mapIn image N C)) image-spare image-entries
+      ∙ ap (state N (s .spare) (s .entries)) image-map
 
   -- and load accepts it
   pub saved-accepted : loadVerdict image (length (s .map)) C (length (s .map)) ≡ accepted
   saved-accepted =
       let w = fit .limits .words in
       to-accepted image (length (s .map)) C (length (s .map)) (record {
-        blocks = to-whole (length image) (record { exact = omega (arith, image-length); some = omega (arith, image-length); few = omega (arith, image-length, few) });
+        blocks =
+            to-whole (length image)
+            (record {
+              exact = omega (arith, image-length);
+              some = omega (arith, image-length);
+              few =
+                  omega (arith, image-length, few);
+            });
         frames = image-framed;
-        first = ap₂ (λ (x y : ℕ). headFits x (freeCountIn image) y (totalOf image)) image-blocks image-sheets ∙ ap₂ (λ (x t : ℕ). headFits N x C t) image-spare image-total
+        first = ap₂ (λ (x y : ℕ). headFits x (freeCountIn image) y (totalOf image)) image-blocks image-sheets
+            ∙ ap₂ (λ (x t : ℕ). headFits N x C t) image-spare image-total
             ∙ to-head N (s .spare) C T (ap (shapeFits N (s .spare)) (sym w) ∙ fit .shape) (fit .listed) refl;
-        lengths = ap₂ (λ (x y : ℕ). loadFits x y (length (s .map)) C (length (s .map))) image-blocks image-sheets ∙ to-load-fits N C (length (s .map)) C (length (s .map)) (record { words = w; entries = refl; scratch = w });
+        lengths = ap₂ (λ (x y : ℕ). loadFits x y (length (s .map)) C (length (s .map))) image-blocks image-sheets
+            ∙ to-load-fits N C (length (s .map)) C (length (s .map)) (record { words = w; entries = refl; scratch = w });
         whole = ap sound saved-state ∙ saved .whole;
         fill = ap₂ (filled image) image-blocks image-sheets ∙ image-filled;
       })

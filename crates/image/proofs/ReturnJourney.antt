@@ -1,5 +1,7 @@
--- The two theorems of the saved image, of what save and load give and leave. What a save was given, a load of what it wrote gives
--- back (`saved-loads`). And an image that a load accepts is the image of what the load gives, so that no other image gives it, and
+-- The two theorems of the saved image, of what save and load give and leave. What a save was given, a load of what it wrote
+-- gives
+-- back (`saved-loads`). And an image that a load accepts is the image of what the load gives, so that no other image gives it,
+-- and
 -- a save of it writes that image again (`loaded-only`, `loaded-saves`).
 -- Assumes nothing.
 use mathlib.Core.Path.{_≡_, refl, sym, ap, ap₂, subst, _∙_}
@@ -26,7 +28,8 @@ abbrev loaded : ℕ → ℕ → ℕ → Loaded
 loaded number n spare = record { number = number; blocks = n; free = spare }
 
 -- a load gives n, the free count, the map and the entries, and leaves zeros in the scratch
-pub record Gives (n spare : ℕ) (map : List ℕ) (entries : List Entry) (image map′ : List ℕ) (entries′ : List Entry) (scratch′ : List ℕ) : Type 0 where
+pub record Gives (n spare : ℕ) (map : List ℕ) (entries : List Entry) (image map′ : List ℕ) (entries′ : List Entry)
+    (scratch′ : List ℕ) : Type 0 where
   pub result : loadResult image map′ entries′ scratch′ ≡ loaded 0 n spare
   pub words : loadMap image map′ entries′ scratch′ ≡ map
   pub sheets : loadEntries image map′ entries′ scratch′ ≡ entries
@@ -37,7 +40,8 @@ module _ (image map : List ℕ) (entries : List Entry) (scratch : List ℕ) wher
   abbrev ruling : Verdict
   ruling = loadVerdict image (length map) (length entries) (length scratch)
 
-  accepted-gives : ruling ≡ accepted → Gives (blocksIn image) (freeCountIn image) (stateIn image .map) (stateIn image .entries) image map entries scratch
+  accepted-gives : ruling ≡ accepted → Gives (blocksIn image) (freeCountIn image) (stateIn image .map)
+      (stateIn image .entries) image map entries scratch
   unfolding loadResult loadMap loadEntries loadScratch
   accepted-gives v = record {
     result = ap (λ (w : Verdict). settle w (loaded 0 (blocksIn image) (freeCountIn image)) (λ number. loaded number 0 0)) v;
@@ -50,22 +54,28 @@ module _ (image map : List ℕ) (entries : List Entry) (scratch : List ℕ) wher
   unfolding loadResult
   number-accepts e = load-accepted image (length map) (length entries) (length scratch) (sym (by ruling) ∙ e)
     where
-      by : (v : Verdict) → settle v (loaded 0 (blocksIn image) (freeCountIn image)) (λ number. loaded number 0 0) .number ≡ rowNumber v
+      by : (v : Verdict) → settle v (loaded 0 (blocksIn image) (freeCountIn image)) (λ number. loaded number 0 0) .number
+          ≡ rowNumber v
       by accepted = refl
       by (refused k) = refl
 
 -- what was saved is loaded back
-module _ (n spare : ℕ) (map : List ℕ) (entries : List Entry) (scratch buffer map′ : List ℕ) (entries′ : List Entry) (scratch′ : List ℕ) where
-  pub saved-loads : Words map → saveNumber n spare map entries scratch buffer ≡ 0 → length map′ ≡ length map → length entries′ ≡ length entries → length scratch′ ≡ length map
+module _ (n spare : ℕ) (map : List ℕ) (entries : List Entry) (scratch buffer map′ : List ℕ) (entries′ : List Entry)
+    (scratch′ : List ℕ) where
+  pub saved-loads : Words map → saveNumber n spare map entries scratch buffer ≡ 0 → length map′ ≡ length map
+      → length entries′ ≡ length entries → length scratch′ ≡ length map
       → Gives n spare map entries (saveImage n spare map entries scratch buffer) map′ entries′ scratch′
   unfolding saveNumber saveImage
   saved-loads words e lm le ls =
       let s : State = state n spare entries map in
       let v : saveVerdict s (length scratch) (length buffer) ≡ accepted = save-accepted s (length scratch) (length buffer) e in
-      let written : settle (saveVerdict s (length scratch) (length buffer)) (imageOf s) (λ number. buffer) ≡ imageOf s = ap (λ (w : Verdict). settle w (imageOf s) (λ number. buffer)) v in
+      let written : settle (saveVerdict s (length scratch) (length buffer)) (imageOf s) (λ number. buffer) ≡ imageOf s =
+      ap (λ (w : Verdict). settle w (imageOf s) (λ number. buffer)) v in
       let same = saved-state s (length scratch) (length buffer) words v in
       let a : loadVerdict (imageOf s) (length map′) (length entries′) (length scratch′) ≡ accepted =
-      ap₂ (λ (x y : ℕ). loadVerdict (imageOf s) x y (length scratch′)) lm le ∙ ap (loadVerdict (imageOf s) (length map) (length entries)) ls ∙ saved-accepted s (length scratch) (length buffer) words v in
+      ap₂ (λ (x y : ℕ). loadVerdict (imageOf s) x y (length scratch′)) lm le
+      ∙ ap (loadVerdict (imageOf s) (length map) (length entries)) ls
+      ∙ saved-accepted s (length scratch) (length buffer) words v in
       let g = accepted-gives (imageOf s) map′ entries′ scratch′ a in
       subst (λ (i : List ℕ). Gives n spare map entries i map′ entries′ scratch′) (sym written) (record {
         result = g .result ∙ ap (λ (x : State). loaded 0 (x .blocks) (x .spare)) same;
@@ -75,37 +85,48 @@ module _ (n spare : ℕ) (map : List ℕ) (entries : List Entry) (scratch buffer
       })
 
 -- what is loaded is in no other image
-module _ (image map : List ℕ) (entries : List Entry) (scratch : List ℕ) (bytes : Bytes image) (done : loadResult image map entries scratch .number ≡ 0) where
+module _ (image map : List ℕ) (entries : List Entry) (scratch : List ℕ) (bytes : Bytes image)
+    (done : loadResult image map entries scratch .number ≡ 0) where
   abbrev given : State
-  given = state (loadResult image map entries scratch .blocks) (loadResult image map entries scratch .free) (loadEntries image map entries scratch) (loadMap image map entries scratch)
+  given = state (loadResult image map entries scratch .blocks) (loadResult image map entries scratch .free)
+      (loadEntries image map entries scratch) (loadMap image map entries scratch)
 
   same-given : stateIn image ≡ given
   same-given =
       let g = accepted-gives image map entries scratch (number-accepts image map entries scratch done) in
-      sym (ap₂ (λ (x : Loaded) (l : List Entry). state (x .blocks) (x .free) l (loadMap image map entries scratch)) (g .result) (g .sheets)
+      sym (ap₂ (λ (x : Loaded) (l : List Entry). state (x .blocks) (x .free) l (loadMap image map entries scratch)) (g .result)
+      (g .sheets)
       ∙ ap (state (blocksIn image) (freeCountIn image) (stateIn image .entries)) (g .words))
 
   pub loaded-only : imageOf given ≡ image
-  loaded-only = ap imageOf (sym same-given) ∙ loaded-image image (length map) (length entries) (length scratch) bytes (number-accepts image map entries scratch done)
+  loaded-only = ap imageOf (sym same-given) ∙ loaded-image image (length map) (length entries) (length scratch) bytes
+      (number-accepts image map entries scratch done)
 
   -- a save of it is accepted, and writes the image again
   pub loaded-saves : (other buffer : List ℕ) → length other ≡ length (given .map) → length buffer ≡ length image
-      → (saveNumber (given .blocks) (given .spare) (given .map) (given .entries) other buffer ≡ 0) × (saveImage (given .blocks) (given .spare) (given .map) (given .entries) other buffer ≡ image)
+      → (saveNumber (given .blocks) (given .spare) (given .map) (given .entries) other buffer ≡ 0)
+      × (saveImage (given .blocks) (given .spare) (given .map) (given .entries) other buffer ≡ image)
   unfolding saveNumber saveImage
   loaded-saves other buffer lo lb =
       let v = accepts (length other) (length buffer) lo lb in
       (ap rowNumber v, ap (λ (w : Verdict). settle w (imageOf given) (λ number. buffer)) v ∙ loaded-only)
     where
-      accepts : (scratchlen bufferlen : ℕ) → scratchlen ≡ length (given .map) → bufferlen ≡ length image → saveVerdict given scratchlen bufferlen ≡ accepted
+      accepts : (scratchlen bufferlen : ℕ) → scratchlen ≡ length (given .map) → bufferlen ≡ length image
+          → saveVerdict given scratchlen bufferlen ≡ accepted
       accepts scratchlen bufferlen ls lb =
-          let p = accepted-to image (length map) (length entries) (length scratch) (number-accepts image map entries scratch done) in
+          let p = accepted-to image (length map) (length entries) (length scratch)
+          (number-accepts image map entries scratch done) in
           let w = whole-to (length image) (p .blocks) in
           let h = head-to (blocksIn image) (freeCountIn image) (sheetsIn image) (totalOf image) (p .first) in
           subst (λ (s : State). saveVerdict s scratchlen bufferlen ≡ accepted) same-given
           (to-saved (stateIn image) scratchlen bufferlen (record {
-            lengths = ap₂ (λ (x y : ℕ). saveFits (blocksIn image) (freeCountIn image) x y scratchlen) (entries-length image (sheetsIn image)) (map-length image (blocksIn image) (sheetsIn image))
-                ∙ to-save-fits (blocksIn image) (freeCountIn image) (sheetsIn image) (wordsFor (blocksIn image)) scratchlen (h .shape) (h .listed)
-                (ls ∙ ap (λ (x : State). length (x .map)) (sym same-given) ∙ map-length image (blocksIn image) (sheetsIn image));
+            lengths = ap₂ (λ (x y : ℕ). saveFits (blocksIn image) (freeCountIn image) x y scratchlen)
+                (entries-length image (sheetsIn image)) (map-length image (blocksIn image) (sheetsIn image))
+                ∙ to-save-fits (blocksIn image) (freeCountIn image) (sheetsIn image) (wordsFor (blocksIn image)) scratchlen
+                (h .shape) (h .listed)
+                (ls ∙ ap (λ (x : State). length (x .map)) (sym same-given)
+                ∙ map-length image (blocksIn image) (sheetsIn image));
             whole = p .whole;
-            exact = lb ∙ w .exact ∙ ap (λ (k : ℕ). 512 * k) (h .exact ∙ ap (framesFor (blocksIn image)) (sym (entries-length image (sheetsIn image))));
+            exact = lb ∙ w .exact ∙ ap (λ (k : ℕ). 512 * k)
+                (h .exact ∙ ap (framesFor (blocksIn image)) (sym (entries-length image (sheetsIn image))));
           }))

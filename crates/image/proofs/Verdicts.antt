@@ -18,19 +18,22 @@ use Rattle.image.specs.Image.{framesFor, blocksIn, freeCountIn, sheetsIn
 use Rattle.image.specs.Table.{saveFits, saveRows, saveVerdict, wholeBlocks, headFits, loadFits, loadRows, loadVerdict}
 
 -- 0 is the number of an accepted call alone, where no row has it
-zero-row : (number : ℕ) (test : Bool) (rows : List Row) → (number ≡ 0 → ⊥) → (rowNumber (firstOf rows) ≡ 0 → firstOf rows ≡ accepted)
+zero-row : (number : ℕ) (test : Bool) (rows : List Row) → (number ≡ 0 → ⊥)
+    → (rowNumber (firstOf rows) ≡ 0 → firstOf rows ≡ accepted)
     → rowNumber (firstOf (row number test ∷ rows)) ≡ 0 → firstOf (row number test ∷ rows) ≡ accepted
 unfolding firstOf
 zero-row number true rows n f e = absurd (n e)
 zero-row number false rows n f e = f e
 
 -- a row that does not hold, of an accepted call
-row-passed : (number : ℕ) (test : Bool) (rows : List Row) → firstOf (row number (not test) ∷ rows) ≡ accepted → (test ≡ true) × (firstOf rows ≡ accepted)
+row-passed : (number : ℕ) (test : Bool) (rows : List Row) → firstOf (row number (not test) ∷ rows) ≡ accepted
+    → (test ≡ true) × (firstOf rows ≡ accepted)
 unfolding firstOf
 row-passed number true rows e = (refl, e)
 row-passed number false rows e = let z : _≡_ {A = ℕ} 0 1 = ap (λ (v : Verdict). settle v 1 (λ k. 0)) e in absurd (omega arith)
 
-passes-row : (number : ℕ) (test : Bool) (rows : List Row) → test ≡ true → firstOf rows ≡ accepted → firstOf (row number (not test) ∷ rows) ≡ accepted
+passes-row : (number : ℕ) (test : Bool) (rows : List Row) → test ≡ true → firstOf rows ≡ accepted
+    → firstOf (row number (not test) ∷ rows) ≡ accepted
 passes-row number test rows t h = skip number (not test) rows accepted (ap not t) h
 
 -- an accepted save
@@ -46,19 +49,26 @@ module _ (s : State) (scratchlen bufferlen : ℕ) where
       let r1 = row-passed 1 (saveFits (s .blocks) (s .spare) (length (s .entries)) (length (s .map)) scratchlen) _ e in
       let r4 = row-passed 4 (sound s) _ (r1 .1) in
       let r12 = row-passed 12 (eqb bufferlen (512 * framesFor (s .blocks) (length (s .entries)))) [] (r4 .1) in
-      record { lengths = r1 .0; whole = r4 .0; exact = eqb-true bufferlen (512 * framesFor (s .blocks) (length (s .entries))) (r12 .0) }
+      record {
+        lengths = r1 .0;
+        whole = r4 .0;
+        exact =
+            eqb-true bufferlen (512 * framesFor (s .blocks) (length (s .entries))) (r12 .0);
+      }
 
   pub to-saved : Saved s scratchlen bufferlen → saveVerdict s scratchlen bufferlen ≡ accepted
   unfolding saveVerdict saveRows
   to-saved p =
       passes-row 1 (saveFits (s .blocks) (s .spare) (length (s .entries)) (length (s .map)) scratchlen) _ (p .lengths)
       (passes-row 4 (sound s) _ (p .whole)
-      (passes-row 12 (eqb bufferlen (512 * framesFor (s .blocks) (length (s .entries)))) [] (eq-eqb bufferlen (512 * framesFor (s .blocks) (length (s .entries))) (p .exact)) none-left))
+      (passes-row 12 (eqb bufferlen (512 * framesFor (s .blocks) (length (s .entries)))) []
+      (eq-eqb bufferlen (512 * framesFor (s .blocks) (length (s .entries))) (p .exact)) none-left))
 
   pub save-accepted : rowNumber (saveVerdict s scratchlen bufferlen) ≡ 0 → saveVerdict s scratchlen bufferlen ≡ accepted
   unfolding saveVerdict saveRows
   save-accepted =
-      zero-row 1 _ _ (λ e. omega arith) (zero-row 4 _ _ (λ e. omega arith) (zero-row 12 _ [] (λ e. omega arith) (λ e. none-left)))
+      zero-row 1 _ _ (λ e. omega arith) (zero-row 4 _ _ (λ e. omega arith)
+      (zero-row 12 _ [] (λ e. omega arith) (λ e. none-left)))
 
 -- an accepted load
 pub record Accepted (image : List ℕ) (maplen count scratchlen : ℕ) : Type 0 where
@@ -70,10 +80,13 @@ pub record Accepted (image : List ℕ) (maplen count scratchlen : ℕ) : Type 0 
   pub fill : filled image (blocksIn image) (sheetsIn image) ≡ true
 
 module _ (image : List ℕ) (maplen count scratchlen : ℕ) where
-  pub load-accepted : rowNumber (loadVerdict image maplen count scratchlen) ≡ 0 → loadVerdict image maplen count scratchlen ≡ accepted
+  pub load-accepted : rowNumber (loadVerdict image maplen count scratchlen) ≡ 0
+      → loadVerdict image maplen count scratchlen ≡ accepted
   unfolding loadVerdict loadRows
   load-accepted =
-      zero-row 12 _ _ (λ e. omega arith) (zero-row 13 _ _ (λ e. omega arith) (zero-row 14 _ _ (λ e. omega arith) (zero-row 1 _ _ (λ e. omega arith) (zero-row 14 _ [] (λ e. omega arith) (λ e. none-left)))))
+      zero-row 12 _ _ (λ e. omega arith) (zero-row 13 _ _ (λ e. omega arith)
+      (zero-row 14 _ _ (λ e. omega arith) (zero-row 1 _ _ (λ e. omega arith)
+      (zero-row 14 _ [] (λ e. omega arith) (λ e. none-left)))))
 
   pub accepted-to : loadVerdict image maplen count scratchlen ≡ accepted → Accepted image maplen count scratchlen
   unfolding loadVerdict loadRows
@@ -99,4 +112,5 @@ module _ (image : List ℕ) (maplen count scratchlen : ℕ) where
       (passes-row 13 (framed image) _ (p .frames)
       (passes-row 14 (headFits (blocksIn image) (freeCountIn image) (sheetsIn image) (totalOf image)) _ (p .first)
       (passes-row 1 (loadFits (blocksIn image) (sheetsIn image) maplen count scratchlen) _ (p .lengths)
-      (passes-row 14 (sound (stateIn image) && filled image (blocksIn image) (sheetsIn image)) [] (ap₂ _&&_ (p .whole) (p .fill)) none-left))))
+      (passes-row 14 (sound (stateIn image) && filled image (blocksIn image) (sheetsIn image)) []
+      (ap₂ _&&_ (p .whole) (p .fill)) none-left))))

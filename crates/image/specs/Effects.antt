@@ -54,7 +54,8 @@ module _ (image map : List ℕ) (entries : List Entry) (scratch : List ℕ) wher
 
   unfoldable pub loadEntries : List Entry
   unfolding loadVerdict
-  loadEntries = settle (loadVerdict image (length map) (length entries) (length scratch)) (stateIn image .entries) (λ number. entries)
+  loadEntries = settle (loadVerdict image (length map) (length entries) (length scratch)) (stateIn image .entries)
+      (λ number. entries)
 
   unfoldable pub loadScratch : List ℕ
   loadScratch = zerosFor scratch

@@ -44,7 +44,8 @@ imageOf s = frames (framesFor (s .blocks) (length (s .entries))) 0 (framesFor (s
 unfoldable pub entriesAt : List ℕ → ℕ → ℕ → List Entry
 entriesAt bytes at zero = []
 entriesAt bytes at (suc c) =
-    record { mark = numberAt bytes at; start = numberAt bytes (at + 4); length = numberAt bytes (at + 8) } ∷ entriesAt bytes (at + 12) c
+    record { mark = numberAt bytes at; start = numberAt bytes (at + 4); length = numberAt bytes (at + 8) }
+    ∷ entriesAt bytes (at + 12) c
 
 -- n, the free count and c, as an image has them.
 unfoldable pub blocksIn : List ℕ → ℕ

@@ -16,7 +16,8 @@ use Rattle.image.specs.Image.{framesFor, blocksIn, freeCountIn, sheetsIn
 unfoldable pub saveFits : ℕ → ℕ → ℕ → ℕ → ℕ → Bool
 saveFits n spare c maplen scratchlen = shapeFits n spare maplen && sheetsFit c && eqb scratchlen maplen
 
--- Save, of a state, with a scratch and a buffer of these lengths: 1, 4, then 12 unless the buffer is exactly the image's length.
+-- Save, of a state, with a scratch and a buffer of these lengths: 1, 4, then 12 unless the buffer is exactly the image's
+-- length.
 unfoldable pub saveRows : State → ℕ → ℕ → List Row
 unfolding saveFits
 saveRows s scratchlen bufferlen =

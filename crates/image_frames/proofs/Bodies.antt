@@ -22,16 +22,23 @@ unfolding payloadOf blockOf
 payload-at image i y h =
     let e : 512 * i + (8 + y) ≡ 512 * i + 8 + y = omega arith in
     getD-take 496 (drop 8 (take 512 (drop (512 * i) image))) y 0 h ∙ getD-drop 8 (take 512 (drop (512 * i) image)) y 0
-    ∙ getD-take 512 (drop (512 * i) image) (8 + y) 0 (omega arith) ∙ getD-drop (512 * i) image (8 + y) 0 ∙ ap (λ (x : ℕ). getD image x 0) e
+    ∙ getD-take 512 (drop (512 * i) image) (8 + y) 0 (omega arith) ∙ getD-drop (512 * i) image (8 + y) 0
+    ∙ ap (λ (x : ℕ). getD image x 0) e
 
 pub bodies-length : (image : List ℕ) (i k : ℕ) → 512 * (i + k) ≤ length image → length (bodies image i k) ≡ 496 * k
 unfolding bodies
 bodies-length image i zero h = refl
 bodies-length image i (suc k) h =
-    omega (arith, length-append (payloadOf (blockOf image i)) (bodies image (suc i) k), payload-length (blockOf image i) (block-length image i (omega arith)), bodies-length image (suc i) k (omega arith))
+    omega (
+      arith,
+      length-append (payloadOf (blockOf image i)) (bodies image (suc i) k),
+      payload-length (blockOf image i) (block-length image i (omega arith)),
+      bodies-length image (suc i) k (omega arith),
+    )
 
 -- byte j of what the blocks from i on carry
-pub bodies-at : (image : List ℕ) (i k j : ℕ) → 512 * (i + k) ≤ length image → j < 496 * k → getD (bodies image i k) j 0 ≡ getD image (512 * (i + j / 496) + 8 + j % 496) 0
+pub bodies-at : (image : List ℕ) (i k j : ℕ) → 512 * (i + k) ≤ length image → j < 496 * k
+    → getD (bodies image i k) j 0 ≡ getD image (512 * (i + j / 496) + 8 + j % 496) 0
 unfolding bodies
 bodies-at image i zero j h l = absurd (omega arith)
 bodies-at image i (suc k) j h l =
@@ -53,7 +60,8 @@ pub body-length : (image : List ℕ) → length (bodyOf image) ≡ 496 * totalOf
 unfolding bodyOf
 body-length image = bodies-length image 0 (totalOf image) (omega arith)
 
-pub body-at : (image : List ℕ) (j : ℕ) → j < 496 * totalOf image → getD (bodyOf image) j 0 ≡ getD image (512 * (j / 496) + 8 + j % 496) 0
+pub body-at : (image : List ℕ) (j : ℕ) → j < 496 * totalOf image
+    → getD (bodyOf image) j 0 ≡ getD image (512 * (j / 496) + 8 + j % 496) 0
 unfolding bodyOf
 body-at image j h =
     let e : 512 * (0 + j / 496) + 8 + j % 496 ≡ 512 * (j / 496) + 8 + j % 496 = omega arith in

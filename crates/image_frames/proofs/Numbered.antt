@@ -19,10 +19,12 @@ use Rattle.image_frames.proofs.Bodies.{body-length, body-at}
 use Rattle.image_frames.proofs.Replaced.{replaced-length, replaced-before, replaced-in, replaced-after}
 
 -- numbers with the same four bytes
-pub number-moved : (xs ys : List ℕ) (a b : ℕ) → ((y : ℕ) → y < 4 → getD xs (a + y) 0 ≡ getD ys (b + y) 0) → numberAt xs a ≡ numberAt ys b
+pub number-moved : (xs ys : List ℕ) (a b : ℕ) → ((y : ℕ) → y < 4 → getD xs (a + y) 0 ≡ getD ys (b + y) 0)
+    → numberAt xs a ≡ numberAt ys b
 unfolding numberAt
 number-moved xs ys a b h =
-    let h0 : getD xs a 0 ≡ getD ys b 0 = ap (λ (x : ℕ). getD xs x 0) (sym (add-zero a)) ∙ h 0 (omega arith) ∙ ap (λ (x : ℕ). getD ys x 0) (add-zero b) in
+    let h0 : getD xs a 0 ≡ getD ys b 0 = ap (λ (x : ℕ). getD xs x 0) (sym (add-zero a)) ∙ h 0 (omega arith)
+    ∙ ap (λ (x : ℕ). getD ys x 0) (add-zero b) in
     let h1 = h 1 (omega arith) in
     let h2 = h 2 (omega arith) in
     let h3 = h 3 (omega arith) in
@@ -41,17 +43,21 @@ module _ (image : List ℕ) (k : ℕ) where
   pub number-out : totalOf image ≤ k / 124 → 0 ≡ numberIn image k
   unfolding numberIn numberAt
   number-out h =
-      let past : (y : ℕ) → getD (bodyOf image) (4 * k + y) 0 ≡ 0 = λ y. List·getD-eq-default (bodyOf image) 0 {n = 4 * k + y} (omega (arith, body-length image)) in
+      let past : (y : ℕ) → getD (bodyOf image) (4 * k + y) 0 ≡ 0 =
+      λ y. List·getD-eq-default (bodyOf image) 0 {n = 4 * k + y} (omega (arith, body-length image)) in
       let z : getD (bodyOf image) (4 * k) 0 ≡ 0 = ap (λ (x : ℕ). getD (bodyOf image) x 0) (sym (add-zero (4 * k))) ∙ past 0 in
       omega (arith, z, past 1, past 2, past 3)
 
-  pub stored-in : (number : ℕ) → k / 124 < totalOf image → withNumber image k number ≡ replaced image (placeOf k) (bytes4 number)
+  pub stored-in : (number : ℕ) → k / 124 < totalOf image
+      → withNumber image k number ≡ replaced image (placeOf k) (bytes4 number)
   unfolding withNumber
-  stored-in number h = ap (λ (t : Bool). cond t (replaced image (placeOf k) (bytes4 number)) image) (lt-ltb (k / 124) (totalOf image) h)
+  stored-in number h = ap (λ (t : Bool). cond t (replaced image (placeOf k) (bytes4 number)) image)
+      (lt-ltb (k / 124) (totalOf image) h)
 
   pub stored-out : (number : ℕ) → totalOf image ≤ k / 124 → withNumber image k number ≡ image
   unfolding withNumber
-  stored-out number h = ap (λ (t : Bool). cond t (replaced image (placeOf k) (bytes4 number)) image) (le-ltb (k / 124) (totalOf image) h)
+  stored-out number h = ap (λ (t : Bool). cond t (replaced image (placeOf k) (bytes4 number)) image)
+      (le-ltb (k / 124) (totalOf image) h)
 
   pub stored-length : (number : ℕ) → length (withNumber image k number) ≡ length image
   stored-length number =
@@ -68,14 +74,17 @@ module _ (image : List ℕ) (k : ℕ) where
 
     new-total : totalOf new ≡ totalOf image
     unfolding new
-    new-total = ap (λ (n : ℕ). n / 512) (replaced-length image (placeOf k) (bytes4 number) (omega (arith, bytes4-length number)))
+    new-total =
+        ap (λ (n : ℕ). n / 512) (replaced-length image (placeOf k) (bytes4 number) (omega (arith, bytes4-length number)))
 
-    byte : (j : ℕ) → j < 496 * totalOf image → getD (bodyOf new) j 0 ≡ getD (replaced (bodyOf image) (4 * k) (bytes4 number)) j 0
+    byte : (j : ℕ) → j < 496 * totalOf image → getD (bodyOf new) j 0
+        ≡ getD (replaced (bodyOf image) (4 * k) (bytes4 number)) j 0
     unfolding new
     byte j h =
         let l = bytes4-length number in
         let b = body-length image in
-        let from : getD (bodyOf new) j 0 ≡ getD new (512 * (j / 496) + 8 + j % 496) 0 = body-at new j (omega (arith, new-total)) in
+        let from : getD (bodyOf new) j 0 ≡ getD new (512 * (j / 496) + 8 + j % 496) 0 =
+        body-at new j (omega (arith, new-total)) in
         let kept : getD image (512 * (j / 496) + 8 + j % 496) 0 ≡ getD (bodyOf image) j 0 = sym (body-at image j h) in
         ⊎-elim
         (λ (lo : j < 4 * k).
@@ -90,10 +99,13 @@ module _ (image : List ℕ) (k : ℕ) where
         (λ (in4 : j < 4 * k + 4).
         let e : 512 * (j / 496) + 8 + j % 496 ≡ placeOf k + (j - 4 * k) = omega arith in
         let q : j ≡ 4 * k + (j - 4 * k) = omega arith in
-        from ∙ ap (λ (x : ℕ). getD new x 0) e ∙ replaced-in image (placeOf k) (bytes4 number) (omega arith) (j - 4 * k) (omega arith)
-        ∙ sym (ap (λ (x : ℕ). getD (replaced (bodyOf image) (4 * k) (bytes4 number)) x 0) q ∙ replaced-in (bodyOf image) (4 * k) (bytes4 number) (omega arith) (j - 4 * k) (omega arith)))
+        from ∙ ap (λ (x : ℕ). getD new x 0) e ∙ replaced-in image (placeOf k) (bytes4 number) (omega arith) (j - 4 * k)
+        (omega arith)
+        ∙ sym (ap (λ (x : ℕ). getD (replaced (bodyOf image) (4 * k) (bytes4 number)) x 0) q
+        ∙ replaced-in (bodyOf image) (4 * k) (bytes4 number) (omega arith) (j - 4 * k) (omega arith)))
         (λ (out : 4 * k + 4 ≤ j).
-        from ∙ replaced-after image (placeOf k) (bytes4 number) (omega arith) (512 * (j / 496) + 8 + j % 496) (omega arith) ∙ kept
+        from ∙ replaced-after image (placeOf k) (bytes4 number) (omega arith) (512 * (j / 496) + 8 + j % 496) (omega arith)
+        ∙ kept
         ∙ sym (replaced-after (bodyOf image) (4 * k) (bytes4 number) (omega arith) j (omega arith)))
         (order j (4 * k + 4)))
         (order j (4 * k))

@@ -24,12 +24,20 @@ module _ (bytes : List ℕ) (at : ℕ) (news : List ℕ) (fits : at + length new
   unfolding replaced
   replaced-length =
       let rest : List ℕ = drop (length news) (drop at bytes) in
-      omega (arith, length-append (take at bytes) (news ++ rest), length-append news rest, length-drop (length news) (drop at bytes), length-drop at bytes, head-length)
+      omega (
+        arith,
+        length-append (take at bytes) (news ++ rest),
+        length-append news rest,
+        length-drop (length news) (drop at bytes),
+        length-drop at bytes,
+        head-length,
+      )
 
   pub replaced-before : (j : ℕ) → j < at → getD (replaced bytes at news) j 0 ≡ getD bytes j 0
   unfolding replaced
   replaced-before j h =
-      List·getD-append (take at bytes) (news ++ drop (length news) (drop at bytes)) 0 j (omega (arith, head-length)) ∙ getD-take at bytes j 0 h
+      List·getD-append (take at bytes) (news ++ drop (length news) (drop at bytes)) 0 j (omega (arith, head-length))
+      ∙ getD-take at bytes j 0 h
 
   -- a place behind the head
   behind : (y : ℕ) → getD (replaced bytes at news) (at + y) 0 ≡ getD (news ++ drop (length news) (drop at bytes)) y 0
@@ -53,17 +61,23 @@ module _ (bytes : List ℕ) (at : ℕ) (news : List ℕ) (fits : at + length new
       ∙ ap (λ (x : ℕ). getD bytes x 0) p
 
   -- a write behind the one before it
-  pub replaced-more : (more : List ℕ) → replaced (replaced bytes at news) (at + length news) more ≡ replaced bytes at (news ++ more)
+  pub replaced-more : (more : List ℕ) → replaced (replaced bytes at news) (at + length news) more
+      ≡ replaced bytes at (news ++ more)
   unfolding replaced
   replaced-more more =
       let rest : List ℕ = drop (length news) (drop at bytes) in
       let front : List ℕ = take at bytes ++ news in
-      let long : length (take at bytes ++ news) ≡ at + length news = length-append (take at bytes) news ∙ ap (λ (k : ℕ). k + length news) head-length in
+      let long : length (take at bytes ++ news) ≡ at + length news = length-append (take at bytes) news
+      ∙ ap (λ (k : ℕ). k + length news) head-length in
       let whole : take at bytes ++ (news ++ rest) ≡ front ++ rest = sym (append-assoc (take at bytes) news rest) in
-      let t : take (at + length news) (take at bytes ++ (news ++ rest)) ≡ front = ap (take (at + length news)) whole ∙ take-at front rest (at + length news) long in
-      let d : drop (at + length news) (take at bytes ++ (news ++ rest)) ≡ rest = ap (drop (at + length news)) whole ∙ drop-at front rest (at + length news) long in
+      let t : take (at + length news) (take at bytes ++ (news ++ rest)) ≡ front = ap (take (at + length news)) whole
+      ∙ take-at front rest (at + length news) long in
+      let d : drop (at + length news) (take at bytes ++ (news ++ rest)) ≡ rest = ap (drop (at + length news)) whole
+      ∙ drop-at front rest (at + length news) long in
       let r : drop (length more) rest ≡ drop (length (news ++ more)) (drop at bytes) =
-      drop-drop (length more) (length news) (drop at bytes) ∙ ap (λ (k : ℕ). drop k (drop at bytes)) (sym (length-append news more)) in
+      drop-drop (length more) (length news) (drop at bytes)
+      ∙ ap (λ (k : ℕ). drop k (drop at bytes)) (sym (length-append news more)) in
       ap₂ (λ (x y : List ℕ). x ++ (more ++ drop (length more) y)) t d
       ∙ append-assoc (take at bytes) news (more ++ drop (length more) rest)
-      ∙ ap (λ (x : List ℕ). take at bytes ++ x) (sym (append-assoc news more (drop (length more) rest)) ∙ ap (λ (x : List ℕ). (news ++ more) ++ x) r)
+      ∙ ap (λ (x : List ℕ). take at bytes ++ x) (sym (append-assoc news more (drop (length more) rest))
+      ∙ ap (λ (x : List ℕ). (news ++ more) ++ x) r)

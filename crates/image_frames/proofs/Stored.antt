@@ -8,7 +8,8 @@ use Prim.Native.Nat.{ℕ, zero, suc, _+_, _-_, _*_, _/_, _%_, _≤_, _<_}
 use native.Mathlib.Nat.{add-zero}
 use native.Mathlib.Numerals.{add-one}
 use native.Mathlib.Omega.{arith}
-use lib.ListN.{length, getD, set, take, drop, replicate, length-append, length-replicate, length-drop, length-set, replicate-append-replicate}
+use lib.ListN.{length, getD, set, take, drop, replicate, length-append, length-replicate, length-drop, length-set}
+use lib.ListN.{replicate-append-replicate}
 use lib.Seq.{ext-getD, take-suc, take-all, length-take-le, getD-drop, getD-set-same, getD-set-other}
 use Rattle.laws.proofs.Bools.{order, not-true}
 use Rattle.block_bytes.specs.Numbers.{bytes4, numberAt}
@@ -31,13 +32,15 @@ module _ (first : List ℕ) (k : ℕ) where
   written-none = record { long = refl; bytes = sym (replaced-none (bodyOf first) (4 * k)) }
 
   -- one number more behind them
-  pub written-number : (news image next : List ℕ) (i number : ℕ) → 4 * i ≡ 4 * k + length news → i / 124 < totalOf first → next ≡ withNumber image i number
+  pub written-number : (news image next : List ℕ) (i number : ℕ) → 4 * i ≡ 4 * k + length news → i / 124 < totalOf first
+      → next ≡ withNumber image i number
       → Written first k news image → Written first k (news ++ bytes4 number) next
   written-number news image next i number e h said w =
       let t : totalOf image ≡ totalOf first = ap (λ (n : ℕ). n / 512) (w .long) in
       record {
         long = ap length said ∙ stored-length image i number ∙ w .long;
-        bytes = ap bodyOf said ∙ stored-body image i number (omega arith) ∙ ap₂ (λ (x : List ℕ) (y : ℕ). replaced x y (bytes4 number)) (w .bytes) e
+        bytes = ap bodyOf said ∙ stored-body image i number (omega arith)
+            ∙ ap₂ (λ (x : List ℕ) (y : ℕ). replaced x y (bytes4 number)) (w .bytes) e
             ∙ replaced-more (bodyOf first) (4 * k) news (omega (arith, body-length first)) (bytes4 number);
       }
 
@@ -51,7 +54,8 @@ module _ (first : List ℕ) (k : ℕ) where
   zeros-more image next i o h said w =
       let l : length {A = ℕ} (replicate (4 * (i - k)) 0) ≡ 4 * (i - k) = length-replicate {A = ℕ} (4 * (i - k)) 0 in
       let e : 4 * (i - k) + 4 ≡ 4 * (i + 1 - k) = omega arith in
-      subst (λ (l : List ℕ). Written first k l next) (replicate-append-replicate {A = ℕ} (4 * (i - k)) 4 0 ∙ ap (λ (n : ℕ). replicate n 0) e)
+      subst (λ (l : List ℕ). Written first k l next)
+      (replicate-append-replicate {A = ℕ} (4 * (i - k)) 4 0 ∙ ap (λ (n : ℕ). replicate n 0) e)
       (written-number (replicate (4 * (i - k)) 0) image next i 0 (omega arith) h said w)
 
 -- words as bytes
@@ -67,10 +71,12 @@ wordBytes-length (x ∷ xs) = omega (arith, length-append (bytes8 x) (wordBytes 
 pub wordBytes-append : (xs ys : List ℕ) → wordBytes (xs ++ ys) ≡ wordBytes xs ++ wordBytes ys
 unfolding wordBytes
 wordBytes-append [] ys = refl
-wordBytes-append (x ∷ xs) ys = ap (λ (l : List ℕ). bytes8 x ++ l) (wordBytes-append xs ys) ∙ sym (append-assoc (bytes8 x) (wordBytes xs) (wordBytes ys))
+wordBytes-append (x ∷ xs) ys = ap (λ (l : List ℕ). bytes8 x ++ l) (wordBytes-append xs ys)
+    ∙ sym (append-assoc (bytes8 x) (wordBytes xs) (wordBytes ys))
 
 word-behind : (words : List ℕ) (i : ℕ) → i < length words
-    → (wordBytes (take i words) ++ bytes4 (getD words i 0 / 4294967296)) ++ bytes4 (getD words i 0 % 4294967296) ≡ wordBytes (take (i + 1) words)
+    → (wordBytes (take i words) ++ bytes4 (getD words i 0 / 4294967296)) ++ bytes4 (getD words i 0 % 4294967296)
+    ≡ wordBytes (take (i + 1) words)
 unfolding wordBytes bytes8
 word-behind words i h =
     let x : ℕ = getD words i 0 in
@@ -86,18 +92,23 @@ module _ (first : List ℕ) (k : ℕ) (words : List ℕ) where
   words-none = written-none first k
 
   pub words-more : (image next last : List ℕ) (i : ℕ) → i < length words → (k + 2 * i + 1) / 124 < totalOf first
-      → next ≡ withNumber image (k + 2 * i) (getD words i 0 / 4294967296) → last ≡ withNumber next (k + 2 * i + 1) (getD words i 0 % 4294967296)
+      → next ≡ withNumber image (k + 2 * i) (getD words i 0 / 4294967296)
+      → last ≡ withNumber next (k + 2 * i + 1) (getD words i 0 % 4294967296)
       → Written first k (wordBytes (take i words)) image → Written first k (wordBytes (take (i + 1) words)) last
   words-more image next last i h inside said said′ w =
       let x : ℕ = getD words i 0 in
       let news : List ℕ = wordBytes (take i words) in
-      let l : length (wordBytes (take i words)) ≡ 8 * i = wordBytes-length (take i words) ∙ ap (λ (n : ℕ). 8 * n) (length-take-le i words (omega arith)) in
-      let l2 : length (wordBytes (take i words) ++ bytes4 (x / 4294967296)) ≡ 8 * i + 4 = omega (arith, length-append news (bytes4 (x / 4294967296)), bytes4-length (x / 4294967296)) in
+      let l : length (wordBytes (take i words)) ≡ 8 * i = wordBytes-length (take i words)
+      ∙ ap (λ (n : ℕ). 8 * n) (length-take-le i words (omega arith)) in
+      let l2 : length (wordBytes (take i words) ++ bytes4 (x / 4294967296)) ≡ 8 * i + 4 =
+      omega (arith, length-append news (bytes4 (x / 4294967296)), bytes4-length (x / 4294967296)) in
       subst (λ (b : List ℕ). Written first k b last) (word-behind words i h)
-      (written-number first k (news ++ bytes4 (x / 4294967296)) next last (k + 2 * i + 1) (x % 4294967296) (omega arith) inside said′
+      (written-number first k (news ++ bytes4 (x / 4294967296)) next last (k + 2 * i + 1) (x % 4294967296)
+      (omega arith) inside said′
       (written-number first k news image next (k + 2 * i) (x / 4294967296) (omega arith) (omega arith) said w))
 
-  pub words-end : (image : List ℕ) (i : ℕ) → length words ≤ i → Written first k (wordBytes (take i words)) image → Written first k (wordBytes words) image
+  pub words-end : (image : List ℕ) (i : ℕ) → length words ≤ i → Written first k (wordBytes (take i words)) image
+      → Written first k (wordBytes words) image
   words-end image i h w = subst (λ (l : List ℕ). Written first k (wordBytes l) image) (take-all i words h) w
 
 -- words read
@@ -106,7 +117,8 @@ unfolding wordsAt
 wordsAt-length bytes at zero = refl
 wordsAt-length bytes at (suc w) = ap suc (wordsAt-length bytes (at + 8) w)
 
-pub wordsAt-at : (bytes : List ℕ) (at w i : ℕ) → i < w → getD (wordsAt bytes at w) i 0 ≡ numberAt bytes (at + 8 * i) * 4294967296 + numberAt bytes (at + 8 * i + 4)
+pub wordsAt-at : (bytes : List ℕ) (at w i : ℕ) → i < w
+    → getD (wordsAt bytes at w) i 0 ≡ numberAt bytes (at + 8 * i) * 4294967296 + numberAt bytes (at + 8 * i + 4)
 unfolding wordsAt
 wordsAt-at bytes at zero i h = absurd (omega arith)
 wordsAt-at bytes at (suc w) zero h =
@@ -122,7 +134,8 @@ pub record Reading (image : List ℕ) (k : ℕ) (first : List ℕ) (i : ℕ) (wo
   pub read : (j : ℕ) → j < i → getD words j 0 ≡ numberIn image (k + 2 * j) * 4294967296 + numberIn image (k + 2 * j + 1)
 
 module _ (image : List ℕ) (k : ℕ) (first : List ℕ) where
-  pub reading-more : (i : ℕ) (words : List ℕ) (x : ℕ) → i < length words → x ≡ numberIn image (k + 2 * i) * 4294967296 + numberIn image (k + 2 * i + 1)
+  pub reading-more : (i : ℕ) (words : List ℕ) (x : ℕ) → i < length words
+      → x ≡ numberIn image (k + 2 * i) * 4294967296 + numberIn image (k + 2 * i + 1)
       → Reading image k first i words → Reading image k first (i + 1) (set words i x)
   reading-more i words x h e r = record {
     long = length-set words i x ∙ r .long;
@@ -134,11 +147,13 @@ module _ (image : List ℕ) (k : ℕ) (first : List ℕ) where
         ∙ ap (λ (y : ℕ). numberIn image (k + 2 * y) * 4294967296 + numberIn image (k + 2 * y + 1)) q) (order j i);
   }
 
-  pub reading-end : (i : ℕ) (words : List ℕ) → length first ≤ i → Reading image k first i words → words ≡ wordsAt (bodyOf image) (4 * k) (length first)
+  pub reading-end : (i : ℕ) (words : List ℕ) → length first ≤ i → Reading image k first i words
+      → words ≡ wordsAt (bodyOf image) (4 * k) (length first)
   unfolding numberIn
   reading-end i words h r =
       let long : length words ≡ length first = r .long in
-      ext-getD 0 words (wordsAt (bodyOf image) (4 * k) (length first)) (long ∙ sym (wordsAt-length (bodyOf image) (4 * k) (length first)))
+      ext-getD 0 words (wordsAt (bodyOf image) (4 * k) (length first))
+      (long ∙ sym (wordsAt-length (bodyOf image) (4 * k) (length first)))
       (λ j u.
       let a : 4 * (k + 2 * j) ≡ 4 * k + 8 * j = omega arith in
       let b : 4 * (k + 2 * j + 1) ≡ 4 * k + 8 * j + 4 = omega arith in
@@ -167,7 +182,8 @@ zeros-at (suc n) (suc y) = zeros-at n y
 
 -- the fill, number by number
 module _ (image : List ℕ) (k : ℕ) where
-  pub zeros-all : (i : ℕ) → 124 * totalOf image ≤ i → ((j : ℕ) → k ≤ j → j < i → numberIn image j ≡ 0) → true ≡ blank (drop (4 * k) (bodyOf image))
+  pub zeros-all : (i : ℕ) → 124 * totalOf image ≤ i → ((j : ℕ) → k ≤ j → j < i → numberIn image j ≡ 0)
+      → true ≡ blank (drop (4 * k) (bodyOf image))
   unfolding numberIn
   zeros-all i h passed =
       let rest : List ℕ = drop (4 * k) (bodyOf image) in
@@ -175,7 +191,8 @@ module _ (image : List ℕ) (k : ℕ) where
       ext-getD 0 rest (replicate (length rest) 0) (sym (length-replicate {A = ℕ} (length rest) 0)) (λ y u.
       let e : 4 * k + y ≡ 4 * (k + y / 4) + y % 4 = omega arith in
       getD-drop (4 * k) (bodyOf image) y 0 ∙ ap (λ (x : ℕ). getD (bodyOf image) x 0) e
-      ∙ bytes-zero (bodyOf image) (4 * (k + y / 4)) (y % 4) (omega arith) (passed (k + y / 4) (omega arith) (omega (arith, length-drop (4 * k) (bodyOf image), body-length image)))
+      ∙ bytes-zero (bodyOf image) (4 * (k + y / 4)) (y % 4) (omega arith)
+      (passed (k + y / 4) (omega arith) (omega (arith, length-drop (4 * k) (bodyOf image), body-length image)))
       ∙ sym (zeros-at (length rest) y)) in
       sym (ap blank same ∙ blank-zeros (length rest))
 

@@ -1,5 +1,6 @@
 -- The frames of an image (document 01, "Saved image"): each 496 bytes of the body travel in a 512-byte block with its number
--- from 0, the number of image blocks, and A and B. That is a sealed block, its number for the sheet and the total for the place.
+-- from 0, the number of image blocks, and A and B. That is a sealed block, its number for the sheet and the total for the
+-- place.
 -- Assumes nothing.
 use mathlib.Core.Bool.{Bool}
 use mathlib.Core.List.{List, [], _++_}

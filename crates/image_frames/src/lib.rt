@@ -47,7 +47,8 @@ pub fn put_number(image: &mut [u8], k: usize, number: u32)
 // Fills the body with zeros from number k on.
 pub fn put_zeros(image: &mut [u8], k: usize)
     requires { ⌜ (length (now image) ≤ 46592) × (k ≤ 124 * totalOf (now image)) ⌝ }
-    ensures { λ _. ⌜ bodyOf (now (image .exit)) ≡ replaced (bodyOf (now (image .entry))) (4 * k) (replicate (496 * totalOf (now (image .entry)) - 4 * k) 0) ⌝ }
+    ensures { λ _. ⌜ bodyOf (now (image .exit)) ≡ replaced (bodyOf (now (image .entry))) (4 * k)
+        (replicate (496 * totalOf (now (image .entry)) - 4 * k) 0) ⌝ }
 {
     let end = NUMBERS * (image.len() / BLOCK);
     let mut i = k;
@@ -98,7 +99,8 @@ pub fn read_words(words: &mut [u64], image: &[u8], k: usize)
 // Stores words from number k on.
 pub fn write_words(image: &mut [u8], k: usize, words: &[u64])
     requires { ⌜ (length (now image) ≤ 46592) × (k + 2 * length (now words) ≤ 124 * totalOf (now image)) ⌝ }
-    ensures { λ _. ⌜ bodyOf (now (image .exit)) ≡ replaced (bodyOf (now (image .entry))) (4 * k) (wordBytes (now (words .entry))) ⌝ }
+    ensures { λ _. ⌜ bodyOf (now (image .exit)) ≡ replaced (bodyOf (now (image .entry))) (4 * k)
+        (wordBytes (now (words .entry))) ⌝ }
 {
     let mut i: usize = 0;
     while i < words.len() {
@@ -128,7 +130,8 @@ pub fn all_framed(image: &[u8]) -> bool
 // Seals what image block i carries.
 fn seal_frame(image: &mut [u8], i: u32, total: u32)
     requires { ⌜ 512 * i + 512 ≤ length (now image) ⌝ }
-    ensures { λ _. ⌜ now (image .exit) ≡ withBlock (now (image .entry)) i (sealed i total (payloadOf (blockOf (now (image .entry)) i))) ⌝ }
+    ensures { λ _. ⌜ now (image .exit) ≡ withBlock (now (image .entry)) i
+        (sealed i total (payloadOf (blockOf (now (image .entry)) i))) ⌝ }
 {
     let mut payload = [0u8; PAYLOAD];
     copy_payload(image, i, &mut payload);

@@ -39,13 +39,15 @@ module _ (image : List ℕ) where
   entry m s l = record { mark = m; start = s; length = l }
 
   -- an entry, by its number and by its byte
-  pub entry-at : (k at : ℕ) → at ≡ 4 * k → entryFrom image k ≡ entry (numberAt (bodyOf image) at) (numberAt (bodyOf image) (at + 4)) (numberAt (bodyOf image) (at + 8))
+  pub entry-at : (k at : ℕ) → at ≡ 4 * k → entryFrom image k
+      ≡ entry (numberAt (bodyOf image) at) (numberAt (bodyOf image) (at + 4)) (numberAt (bodyOf image) (at + 8))
   unfolding entryFrom numberIn
   entry-at k at e =
       let e0 : 4 * k ≡ at = sym e in
       let e1 : 4 * (k + 1) ≡ at + 4 = omega arith in
       let e2 : 4 * (k + 2) ≡ at + 8 = omega arith in
-      ap₂ (λ (x y : ℕ). entry (numberAt (bodyOf image) x) (numberAt (bodyOf image) y) (numberAt (bodyOf image) (4 * (k + 2)))) e0 e1
+      ap₂ (λ (x y : ℕ). entry (numberAt (bodyOf image) x) (numberAt (bodyOf image) y) (numberAt (bodyOf image) (4 * (k + 2))))
+      e0 e1
       ∙ ap (λ (x : ℕ). entry (numberAt (bodyOf image) at) (numberAt (bodyOf image) (at + 4)) (numberAt (bodyOf image) x)) e2
 
   -- the entries from number i on
@@ -58,7 +60,8 @@ module _ (image : List ℕ) where
       let e : c - i ≡ suc (c - (i + 1)) = omega arith in
       let next : 12 + 12 * i + 12 ≡ 12 + 12 * (i + 1) = omega arith in
       ap (entriesAt (bodyOf image) (12 + 12 * i)) e
-      ∙ ap₂ (λ (x : Entry) (l : List Entry). x ∷ l) (sym (entry-at (3 + 3 * i) (12 + 12 * i) (omega arith))) (ap (λ (x : ℕ). entriesAt (bodyOf image) x (c - (i + 1))) next)
+      ∙ ap₂ (λ (x : Entry) (l : List Entry). x ∷ l) (sym (entry-at (3 + 3 * i) (12 + 12 * i) (omega arith)))
+      (ap (λ (x : ℕ). entriesAt (bodyOf image) x (c - (i + 1))) next)
 
   pub entries-none : (c i : ℕ) → c ≤ i → entriesFrom c i ≡ []
   unfolding entriesAt
@@ -66,10 +69,12 @@ module _ (image : List ℕ) where
 
   pub entries-all : (c : ℕ) → entriesFrom c 0 ≡ entriesIn image c
   unfolding entriesIn
-  entries-all c = let e : 12 + 12 * 0 ≡ 12 = omega arith in let q : c - 0 ≡ c = omega arith in ap₂ (entriesAt (bodyOf image)) e q
+  entries-all c = let e : 12 + 12 * 0 ≡ 12 = omega arith in let q : c - 0 ≡ c = omega arith in
+      ap₂ (entriesAt (bodyOf image)) e q
 
 -- the entries of an image released one by one: those left come to what all of them come to
-pub record Left (n : ℕ) (image : List ℕ) (c : ℕ) (first : Tally) (start : List ℕ) (i : ℕ) (t : Tally) (scratch : List ℕ) : Type 0 where
+pub record Left (n : ℕ) (image : List ℕ) (c : ℕ) (first : Tally) (start : List ℕ) (i : ℕ) (t : Tally)
+    (scratch : List ℕ) : Type 0 where
   pub long : length scratch ≡ length start
   pub tallied : tallyOf (entriesFrom image c i) n t scratch ≡ tallyOf (entriesIn image c) n first start
   pub scratched : scratchOf (entriesFrom image c i) n t scratch ≡ scratchOf (entriesIn image c) n first start
@@ -82,15 +87,19 @@ module _ (n : ℕ) (image : List ℕ) (c : ℕ) (first : Tally) (start : List �
     scratched = ap (λ (l : List Entry). scratchOf l n first start) (entries-all image c);
   }
 
-  pub left-less : (i : ℕ) (t t′ : Tally) (scratch scratch′ : List ℕ) (e : Entry) → i < c → e ≡ entryFrom image (3 + 3 * i) → t′ ≡ tallyAfter n t scratch e → scratch′ ≡ scratchAfter n t scratch e
+  pub left-less : (i : ℕ) (t t′ : Tally) (scratch scratch′ : List ℕ) (e : Entry) → i < c → e ≡ entryFrom image (3 + 3 * i)
+      → t′ ≡ tallyAfter n t scratch e → scratch′ ≡ scratchAfter n t scratch e
       → Left n image c first start i t scratch → Left n image c first start (i + 1) t′ scratch′
   unfolding tallyOf scratchOf
   left-less i t t′ scratch scratch′ e h ee et es l =
-      let more : entriesFrom image c i ≡ e ∷ entriesFrom image c (i + 1) = entries-more image c i h ∙ ap (λ (x : Entry). x ∷ entriesFrom image c (i + 1)) (sym ee) in
+      let more : entriesFrom image c i ≡ e ∷ entriesFrom image c (i + 1) = entries-more image c i h
+      ∙ ap (λ (x : Entry). x ∷ entriesFrom image c (i + 1)) (sym ee) in
       record {
         long = ap length es ∙ scratch-length n t scratch e ∙ l .long;
-        tallied = ap₂ (tallyOf (entriesFrom image c (i + 1)) n) et es ∙ ap (λ (l : List Entry). tallyOf l n t scratch) (sym more) ∙ l .tallied;
-        scratched = ap₂ (scratchOf (entriesFrom image c (i + 1)) n) et es ∙ ap (λ (l : List Entry). scratchOf l n t scratch) (sym more) ∙ l .scratched;
+        tallied = ap₂ (tallyOf (entriesFrom image c (i + 1)) n) et es
+            ∙ ap (λ (l : List Entry). tallyOf l n t scratch) (sym more) ∙ l .tallied;
+        scratched = ap₂ (scratchOf (entriesFrom image c (i + 1)) n) et es
+            ∙ ap (λ (l : List Entry). scratchOf l n t scratch) (sym more) ∙ l .scratched;
       }
 
   pub left-none : (i : ℕ) (t : Tally) (scratch : List ℕ) → c ≤ i → Left n image c first start i t scratch
@@ -102,7 +111,8 @@ module _ (n : ℕ) (image : List ℕ) (c : ℕ) (first : Tally) (start : List �
   )
 
 -- the map
-pub map-read : (image : List ℕ) (n c len : ℕ) (words : List ℕ) → len ≡ wordsFor n → words ≡ wordsAt (bodyOf image) (4 * (3 + 3 * c)) len → words ≡ mapIn image n c
+pub map-read : (image : List ℕ) (n c len : ℕ) (words : List ℕ) → len ≡ wordsFor n
+    → words ≡ wordsAt (bodyOf image) (4 * (3 + 3 * c)) len → words ≡ mapIn image n c
 unfolding mapIn
 map-read image n c len words e r =
     let at : 4 * (3 + 3 * c) ≡ 12 + 12 * c = omega arith in
@@ -112,17 +122,23 @@ abbrev state : ℕ → ℕ → List Entry → List ℕ → State
 state n spare entries map = record { blocks = n; spare = spare; entries = entries; map = map }
 
 -- n, free count and c as they were read
-module _ (image : List ℕ) (n spare c : ℕ) (en : n ≡ blocksIn image) (es : spare ≡ freeCountIn image) (ec : c ≡ sheetsIn image) where
+module _ (image : List ℕ) (n spare c : ℕ) (en : n ≡ blocksIn image) (es : spare ≡ freeCountIn image)
+    (ec : c ≡ sheetsIn image) where
   pub content-sound : shapeFits n spare (wordsFor n) ≡ true → (scratch last : List ℕ) (t : Tally) → scratch ≡ mapIn image n c
-      → t ≡ tallyOf (entriesIn image c) n (tally (n - spare) false) scratch → last ≡ scratchOf (entriesIn image c) n (tally (n - spare) false) scratch
+      → t ≡ tallyOf (entriesIn image c) n (tally (n - spare) false) scratch
+      → last ≡ scratchOf (entriesIn image c) n (tally (n - spare) false) scratch
       → allReleased n t last ≡ sound (stateIn image)
   content-sound fit scratch last t em et el =
-      ap₂ (allReleased n) (et ∙ ap (tallyOf (entriesIn image c) n (tally (n - spare) false)) em) (el ∙ ap (scratchOf (entriesIn image c) n (tally (n - spare) false)) em)
-      ∙ released-sound (state n spare (entriesIn image c) (mapIn image n c)) (ap (shapeFits n spare) (map-length image n c) ∙ fit)
+      ap₂ (allReleased n) (et ∙ ap (tallyOf (entriesIn image c) n (tally (n - spare) false)) em)
+      (el ∙ ap (scratchOf (entriesIn image c) n (tally (n - spare) false)) em)
+      ∙ released-sound (state n spare (entriesIn image c) (mapIn image n c))
+      (ap (shapeFits n spare) (map-length image n c) ∙ fit)
       ∙ ap₂ (λ (x y : ℕ). sound (state x y (entriesIn image c) (mapIn image x c))) en es
-      ∙ ap (λ (x : ℕ). sound (state (blocksIn image) (freeCountIn image) (entriesIn image x) (mapIn image (blocksIn image) x))) ec
+      ∙ ap (λ (x : ℕ). sound (state (blocksIn image) (freeCountIn image) (entriesIn image x) (mapIn image (blocksIn image) x)))
+      ec
 
-  pub content-filled : (w : ℕ) → w ≡ wordsFor n → blank (drop (4 * (3 + 3 * c + 2 * w)) (bodyOf image)) ≡ filled image (blocksIn image) (sheetsIn image)
+  pub content-filled : (w : ℕ) → w ≡ wordsFor n
+      → blank (drop (4 * (3 + 3 * c + 2 * w)) (bodyOf image)) ≡ filled image (blocksIn image) (sheetsIn image)
   unfolding filled
   content-filled w ew =
       let e : 4 * (3 + 3 * c + 2 * w) ≡ contentLength n c = omega arith in

@@ -30,29 +30,36 @@ module _ (image : List ℕ) (maplen count scratchlen : ℕ) where
   module _ (w : wholeBlocks (length image) ≡ true) where
     pub load-row-13 : framed image ≡ false → 13 ≡ rowNumber (loadVerdict image maplen count scratchlen)
     unfolding loadVerdict loadRows
-    load-row-13 f = sym (ap rowNumber (skip 12 (not (wholeBlocks (length image))) _ _ (ap not w) (stop 13 (not (framed image)) _ (ap not f))))
+    load-row-13 f =
+        sym (ap rowNumber (skip 12 (not (wholeBlocks (length image))) _ _ (ap not w)
+        (stop 13 (not (framed image)) _ (ap not f))))
 
     module _ (f : framed image ≡ true) where
       pub load-row-14 : head ≡ false → 14 ≡ rowNumber (loadVerdict image maplen count scratchlen)
       unfolding loadVerdict loadRows
       load-row-14 h =
-          sym (ap rowNumber (skip 12 (not (wholeBlocks (length image))) _ _ (ap not w) (skip 13 (not (framed image)) _ _ (ap not f) (stop 14 (not head) _ (ap not h)))))
+          sym (ap rowNumber (skip 12 (not (wholeBlocks (length image))) _ _ (ap not w)
+          (skip 13 (not (framed image)) _ _ (ap not f) (stop 14 (not head) _ (ap not h)))))
 
       module _ (h : head ≡ true) where
         pub load-row-1 : lent ≡ false → 1 ≡ rowNumber (loadVerdict image maplen count scratchlen)
         unfolding loadVerdict loadRows
         load-row-1 l =
-            sym (ap rowNumber (skip 12 (not (wholeBlocks (length image))) _ _ (ap not w) (skip 13 (not (framed image)) _ _ (ap not f) (skip 14 (not head) _ _ (ap not h) (stop 1 (not lent) _ (ap not l))))))
+            sym (ap rowNumber (skip 12 (not (wholeBlocks (length image))) _ _ (ap not w)
+            (skip 13 (not (framed image)) _ _ (ap not f)
+            (skip 14 (not head) _ _ (ap not h) (stop 1 (not lent) _ (ap not l))))))
 
         module _ (l : lent ≡ true) where
           pub load-row-content : content ≡ false → 14 ≡ rowNumber (loadVerdict image maplen count scratchlen)
           unfolding loadVerdict loadRows
           load-row-content c =
-              sym (ap rowNumber (skip 12 (not (wholeBlocks (length image))) _ _ (ap not w) (skip 13 (not (framed image)) _ _ (ap not f) (skip 14 (not head) _ _ (ap not h)
+              sym (ap rowNumber (skip 12 (not (wholeBlocks (length image))) _ _ (ap not w)
+              (skip 13 (not (framed image)) _ _ (ap not f) (skip 14 (not head) _ _ (ap not h)
               (skip 1 (not lent) _ _ (ap not l) (stop 14 (not content) [] (ap not c)))))))
 
           pub load-row-none : content ≡ true → 0 ≡ rowNumber (loadVerdict image maplen count scratchlen)
           unfolding loadVerdict loadRows
           load-row-none c =
-              sym (ap rowNumber (skip 12 (not (wholeBlocks (length image))) _ _ (ap not w) (skip 13 (not (framed image)) _ _ (ap not f) (skip 14 (not head) _ _ (ap not h)
+              sym (ap rowNumber (skip 12 (not (wholeBlocks (length image))) _ _ (ap not w)
+              (skip 13 (not (framed image)) _ _ (ap not f) (skip 14 (not head) _ _ (ap not h)
               (skip 1 (not lent) _ _ (ap not l) (skip 14 (not content) [] _ (ap not c) none-left))))))

@@ -25,12 +25,15 @@ use Rattle.image_load.proofs.Contents.{entry-at}
 use Rattle.image_load.proofs.Reading.{reads, entries-stay}
 
 -- the entries read from number k on
-read-from : (image : List ℕ) (k at : ℕ) (es : List Entry) → at ≡ 4 * k → k + 3 * length es ≤ length image → readEntries es image (cursor k false) ≡ entriesAt (bodyOf image) at (length es)
+read-from : (image : List ℕ) (k at : ℕ) (es : List Entry) → at ≡ 4 * k → k + 3 * length es ≤ length image
+    → readEntries es image (cursor k false) ≡ entriesAt (bodyOf image) at (length es)
 unfolding readEntries entriesAt
 read-from image k at [] e room = refl
 read-from image k at (x ∷ es) e room =
-    ap (λ (t : Turn). t .entry ∷ readEntries es image (t .state)) (sym (reads (cursor k false) image x (going (cursor k false) image refl (omega arith))))
-    ∙ ap₂ (λ (y : Entry) (l : List Entry). y ∷ l) (entry-at image k at e) (read-from image (k + 3) (at + 12) es (omega arith) (omega arith))
+    ap (λ (t : Turn). t .entry ∷ readEntries es image (t .state))
+    (sym (reads (cursor k false) image x (going (cursor k false) image refl (omega arith))))
+    ∙ ap₂ (λ (y : Entry) (l : List Entry). y ∷ l) (entry-at image k at e)
+    (read-from image (k + 3) (at + 12) es (omega arith) (omega arith))
 
 never : (k : ℕ) → refused k ≡ accepted → ⊥
 never k q = let z : _≡_ {A = ℕ} 0 1 = ap (λ (v : Verdict). settle v 1 (λ j. 0)) q in omega arith
@@ -45,11 +48,13 @@ module _ (image map : List ℕ) (entries : List Entry) (scratch : List ℕ) wher
   abbrev given : Verdict → Loaded
   given v = settle v (loaded 0 (blocksIn image) (freeCountIn image)) (λ number. loaded number 0 0)
 
-  entries-law : readEntries entries image (firstCursor (coreLoaded image map (length entries) scratch)) ≡ loadEntries image map entries scratch
+  entries-law : readEntries entries image (firstCursor (coreLoaded image map (length entries) scratch))
+      ≡ loadEntries image map entries scratch
   unfolding coreLoaded firstCursor loadEntries entriesIn
   entries-law = by verdict refl
     where
-      by : (v : Verdict) → verdict ≡ v → readEntries entries image (cursor 3 (not (eqb (given v .number) 0))) ≡ settle v (stateIn image .entries) (λ number. entries)
+      by : (v : Verdict) → verdict ≡ v → readEntries entries image (cursor 3 (not (eqb (given v .number) 0)))
+          ≡ settle v (stateIn image .entries) (λ number. entries)
       by accepted e =
           let p = accepted-to image (length map) (length entries) (length scratch) e in
           let w = whole-to (length image) (p .blocks) in
@@ -57,10 +62,15 @@ module _ (image map : List ℕ) (entries : List Entry) (scratch : List ℕ) wher
           let l = load-fits-to (blocksIn image) (sheetsIn image) (length map) (length entries) (length scratch) (p .lengths) in
           read-from image 3 12 entries refl (omega (arith, w .exact, h .exact, l .entries)) ∙ ap (entriesIn image) (l .entries)
       by (refused k) e =
-          let n : k ≡ 0 → ⊥ = λ z. never k (sym e ∙ load-accepted image (length map) (length entries) (length scratch) (ap rowNumber e ∙ z)) in
-          ap (λ (b : Bool). readEntries entries image (cursor 3 (not b))) (ne-eqb k 0 n) ∙ entries-stay entries image (cursor 3 true) refl
+          let n : k ≡ 0
+          → ⊥ = λ z. never k (sym e ∙ load-accepted image (length map) (length entries) (length scratch)
+          (ap rowNumber e ∙ z)) in
+          ap (λ (b : Bool). readEntries entries image (cursor 3 (not b))) (ne-eqb k 0 n)
+          ∙ entries-stay entries image (cursor 3 true) refl
 
-  pub loads : Loads image map entries scratch (coreLoaded image map (length entries) scratch) (coreMap image map (length entries) scratch)
-      (readEntries entries image (firstCursor (coreLoaded image map (length entries) scratch))) (coreScratch image map (length entries) scratch)
+  pub loads : Loads image map entries scratch (coreLoaded image map (length entries) scratch)
+      (coreMap image map (length entries) scratch)
+      (readEntries entries image (firstCursor (coreLoaded image map (length entries) scratch)))
+      (coreScratch image map (length entries) scratch)
   unfolding coreLoaded coreMap coreScratch loadResult loadMap loadScratch
   loads = (refl, refl, entries-law, refl)

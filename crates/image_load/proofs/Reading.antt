@@ -18,11 +18,15 @@ turn at e = record { state = at; entry = e }
 module _ (at : Cursor) (image : List ℕ) (e : Entry) where
   pub reads : active at image ≡ true → turn (cursor (at .next + 3) false) (entryFrom image (at .next)) ≡ turnAfter image at e
   unfolding turnAfter
-  reads a = ap (λ (b : Bool). cond b (turn (cursor (at .next + 3) false) (entryFrom image (at .next))) (turn (cursor (at .next) true) e)) (sym a)
+  reads a =
+      ap (λ (b : Bool). cond b (turn (cursor (at .next + 3) false) (entryFrom image (at .next)))
+      (turn (cursor (at .next) true) e)) (sym a)
 
   pub reads-none : active at image ≡ false → turn (cursor (at .next) true) e ≡ turnAfter image at e
   unfolding turnAfter
-  reads-none a = ap (λ (b : Bool). cond b (turn (cursor (at .next + 3) false) (entryFrom image (at .next))) (turn (cursor (at .next) true) e)) (sym a)
+  reads-none a =
+      ap (λ (b : Bool). cond b (turn (cursor (at .next + 3) false) (entryFrom image (at .next)))
+      (turn (cursor (at .next) true) e)) (sym a)
 
 -- a cursor that stopped
 pub read-cursor-stays : (es : List Entry) (image : List ℕ) (at : Cursor) → at .stop ≡ true → readCursor es image at ≡ at
@@ -37,7 +41,8 @@ unfolding readEntries
 entries-stay [] image at s = refl
 entries-stay (e ∷ es) image at s =
     ap (λ (t : Turn). t .entry ∷ readEntries es image (t .state)) (sym (reads-none at image e (stopped at image s)))
-    ∙ ap (λ (x : Cursor). e ∷ readEntries es image x) (same-cursor at s) ∙ ap (λ (l : List Entry). e ∷ l) (entries-stay es image at s)
+    ∙ ap (λ (x : Cursor). e ∷ readEntries es image x) (same-cursor at s)
+    ∙ ap (λ (l : List Entry). e ∷ l) (entries-stay es image at s)
 
 -- entry by entry, as the loop goes
 pub read-cursor-none : (image : List ℕ) (at : Cursor) → readCursor [] image at ≡ at
@@ -45,12 +50,14 @@ unfolding readCursor
 read-cursor-none image at = refl
 
 pub read-cursor-more : (e : Entry) (es : List Entry) (image : List ℕ) (at : Cursor)
-    → readCursor (e ∷ es) image at ≡ cond (turnAfter image at e .state .stop) (turnAfter image at e .state) (readCursor es image (turnAfter image at e .state))
+    → readCursor (e ∷ es) image at ≡ cond (turnAfter image at e .state .stop) (turnAfter image at e .state)
+    (readCursor es image (turnAfter image at e .state))
 unfolding readCursor
 read-cursor-more e es image at = by (turnAfter image at e .state .stop) refl
   where
     by : (b : Bool) → turnAfter image at e .state .stop ≡ b
-        → readCursor es image (turnAfter image at e .state) ≡ cond b (turnAfter image at e .state) (readCursor es image (turnAfter image at e .state))
+        → readCursor es image (turnAfter image at e .state)
+        ≡ cond b (turnAfter image at e .state) (readCursor es image (turnAfter image at e .state))
     by true s = read-cursor-stays es image (turnAfter image at e .state) s
     by false s = refl
 
@@ -59,12 +66,14 @@ unfolding readEntries
 read-none image at = refl
 
 pub read-more : (e : Entry) (es : List Entry) (image : List ℕ) (at : Cursor)
-    → readEntries (e ∷ es) image at ≡ cond (turnAfter image at e .state .stop) (turnAfter image at e .entry ∷ es) (turnAfter image at e .entry ∷ readEntries es image (turnAfter image at e .state))
+    → readEntries (e ∷ es) image at ≡ cond (turnAfter image at e .state .stop) (turnAfter image at e .entry ∷ es)
+    (turnAfter image at e .entry ∷ readEntries es image (turnAfter image at e .state))
 unfolding readEntries
 read-more e es image at = by (turnAfter image at e .state .stop) refl
   where
     by : (b : Bool) → turnAfter image at e .state .stop ≡ b
         → turnAfter image at e .entry ∷ readEntries es image (turnAfter image at e .state)
-        ≡ cond b (turnAfter image at e .entry ∷ es) (turnAfter image at e .entry ∷ readEntries es image (turnAfter image at e .state))
+        ≡ cond b (turnAfter image at e .entry ∷ es) (turnAfter image at e .entry
+        ∷ readEntries es image (turnAfter image at e .state))
     by true s = ap (λ (l : List Entry). turnAfter image at e .entry ∷ l) (entries-stay es image (turnAfter image at e .state) s)
     by false s = refl

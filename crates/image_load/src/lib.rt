@@ -1,4 +1,5 @@
-// Load (document 01, "Saved image"): the verdict, and then the map and the entries one by one. Everything is validated before the
+// Load (document 01, "Saved image"): the verdict, and then the map and the entries one by one. Everything is validated before
+// the
 // first word of the map or the first entry is written, so that a refusal changes nothing but the scratch.
 ghost use mathlib.Core.Path.{_≡_};
 ghost use mathlib.Core.Bool.{true, _&&_};
@@ -10,7 +11,8 @@ ghost use Rattle.image_soundness.specs.Sound.{sound};
 ghost use Rattle.image.specs.Effects.{rowNumber, loadResult, loadMap, loadEntries, loadScratch};
 ghost use Rattle.map_blocks.specs.Maps.{wordsFor};
 ghost use Rattle.image.specs.Image.{blocksIn, freeCountIn, sheetsIn, entriesIn, stateIn, filled};
-ghost use Rattle.image_load.specs.Parts.{coreLoaded, coreMap, coreScratch, firstCursor, entryFrom, turnAfter, readCursor, readEntries};
+ghost use Rattle.image_load.specs.Parts.{coreLoaded, coreMap, coreScratch, firstCursor, entryFrom, turnAfter, readCursor};
+ghost use Rattle.image_load.specs.Parts.{readEntries};
 ghost use Rattle.image.specs.Table.{headFits, loadVerdict};
 use block::BLOCK;
 use catalogue::Entry;
@@ -67,9 +69,12 @@ fn release_in(n: u32, first: Tally, scratch: &mut [u64], image: &[u8], c: usize)
 
 // Whether the state that stands in an image is sound and the fill zero.
 fn content_holds(image: &[u8], n: u32, free: u32, c: usize, scratch: &mut [u64]) -> bool
-    requires { ⌜ (n ≡ blocksIn (now image)) × (free ≡ freeCountIn (now image)) × (c ≡ sheetsIn (now image)) × (headFits n free c (totalOf (now image)) ≡ true)
+    requires { ⌜ (n ≡ blocksIn (now image)) × (free ≡ freeCountIn (now image)) × (c ≡ sheetsIn (now image))
+        × (headFits n free c (totalOf (now image)) ≡ true)
         × (length (now scratch) ≡ wordsFor n) × (length (now image) ≤ 46592) ⌝ }
-    ensures { λ r. ⌜ r ≡ (sound (stateIn (now (image .entry))) && filled (now (image .entry)) (blocksIn (now (image .entry))) (sheetsIn (now (image .entry)))) ⌝ }
+    ensures { λ r.
+        ⌜ r ≡ (sound (stateIn (now (image .entry))) && filled (now (image .entry)) (blocksIn (now (image .entry)))
+        (sheetsIn (now (image .entry)))) ⌝ }
 {
     read_words(scratch, image, 3 + 3 * c);
     let first = Tally {
@@ -175,7 +180,8 @@ fn read_entry(image: &[u8], at: Cursor, entry: Entry) -> Turn
 
 // Reads every entry into the catalogue.
 fn read_entries(catalogue: &mut [Entry], image: &[u8], start: Cursor) -> Cursor
-    ensures { λ r. ⌜ (r ≡ readCursor (now (catalogue .entry)) (now (image .entry)) start) × (now (catalogue .exit) ≡ readEntries (now (catalogue .entry)) (now (image .entry)) start) ⌝ }
+    ensures { λ r. ⌜ (r ≡ readCursor (now (catalogue .entry)) (now (image .entry)) start)
+        × (now (catalogue .exit) ≡ readEntries (now (catalogue .entry)) (now (image .entry)) start) ⌝ }
 {
     let mut state = start;
     let mut i: usize = 0;
@@ -195,8 +201,10 @@ fn read_entries(catalogue: &mut [Entry], image: &[u8], start: Cursor) -> Cursor
 pub fn load(image: &[u8], map: &mut [u64], catalogue: &mut [Entry], scratch: &mut [u64]) -> Loaded
     ensures { λ r. ⌜ (r ≡ loadResult (now (image .entry)) (now (map .entry)) (now (catalogue .entry)) (now (scratch .entry)))
         × (now (map .exit) ≡ loadMap (now (image .entry)) (now (map .entry)) (now (catalogue .entry)) (now (scratch .entry)))
-        × (now (catalogue .exit) ≡ loadEntries (now (image .entry)) (now (map .entry)) (now (catalogue .entry)) (now (scratch .entry)))
-        × (now (scratch .exit) ≡ loadScratch (now (image .entry)) (now (map .entry)) (now (catalogue .entry)) (now (scratch .entry))) ⌝ }
+        × (now (catalogue .exit) ≡ loadEntries (now (image .entry)) (now (map .entry)) (now (catalogue .entry))
+        (now (scratch .entry)))
+        × (now (scratch .exit) ≡ loadScratch (now (image .entry)) (now (map .entry)) (now (catalogue .entry))
+        (now (scratch .entry))) ⌝ }
 {
     let count = catalogue::count(&*catalogue);
     let loaded = load_core(image, map, count, scratch);

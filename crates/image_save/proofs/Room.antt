@@ -35,7 +35,9 @@ module _ (maplen : ℕ) (at : Cursor) (bytes : ℕ) where
       pub rest-far : 4096 < at .next → false ≡ restFits maplen at bytes
       unfolding restFits
       rest-far h =
-          sym (ap₂ (λ (a b : Bool). tests a b (leb (at .next) 4096) (leb maplen 4096)) s w ∙ ap (λ (d : Bool). d && leb maplen 4096 && leb (at .next + 2 * maplen) (124 * (bytes / 512))) (lt-leb (at .next) 4096 h))
+          sym (ap₂ (λ (a b : Bool). tests a b (leb (at .next) 4096) (leb maplen 4096)) s w
+          ∙ ap (λ (d : Bool). d && leb maplen 4096 && leb (at .next + 2 * maplen) (124 * (bytes / 512)))
+          (lt-leb (at .next) 4096 h))
 
       module _ (near : leb (at .next) 4096 ≡ true) where
         pub rest-many : 4096 < maplen → false ≡ restFits maplen at bytes

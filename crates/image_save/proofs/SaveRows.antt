@@ -34,10 +34,12 @@ module _ (n spare : ℕ) (map : List ℕ) (count : ℕ) (t : Tally) (scratch ima
       unfolding numberBy
       save-row-12 h =
           sym (ap rowNumber (skip 1 (not fit) _ _ (ap not f) (skip 4 (not (allReleased n t scratch)) _ _ (ap not r)
-          (stop 12 (not (eqb (length image) (512 * framesFor n count))) [] (ap not (ne-eqb (length image) (512 * framesFor n count) (λ q. h (q ∙ ap (λ (x : ℕ). 512 * x) (sym e)))))))))
+          (stop 12 (not (eqb (length image) (512 * framesFor n count))) []
+          (ap not (ne-eqb (length image) (512 * framesFor n count) (λ q. h (q ∙ ap (λ (x : ℕ). 512 * x) (sym e)))))))))
 
       pub save-row-none : length image ≡ 512 * total → 0 ≡ numberBy n spare map count t scratch image
       unfolding numberBy
       save-row-none h =
           sym (ap rowNumber (skip 1 (not fit) _ _ (ap not f) (skip 4 (not (allReleased n t scratch)) _ _ (ap not r)
-          (skip 12 (not (eqb (length image) (512 * framesFor n count))) [] _ (ap not (eq-eqb (length image) (512 * framesFor n count) (h ∙ ap (λ (x : ℕ). 512 * x) e))) none-left))))
+          (skip 12 (not (eqb (length image) (512 * framesFor n count))) [] _
+          (ap not (eq-eqb (length image) (512 * framesFor n count) (h ∙ ap (λ (x : ℕ). 512 * x) e))) none-left))))

@@ -26,7 +26,8 @@ use Rattle.image_soundness.proofs.WhenSound.{released-sound}
 use Rattle.image.specs.Cursors.{cursor}
 use Rattle.image.specs.Effects.{rowNumber, saveNumber, saveScratch, saveImage, Saves}
 use Rattle.image.specs.Image.{contentLength, framesFor, entryBytes, body, imageOf}
-use Rattle.image_save.specs.Parts.{firstTally, firstScratch, numberBy, scratchCleared, headCursor, headImage, imageAfter, entriesCursor, entriesImage, restImage}
+use Rattle.image_save.specs.Parts.{firstTally, firstScratch, numberBy, scratchCleared, headCursor, headImage, imageAfter}
+use Rattle.image_save.specs.Parts.{entriesCursor, entriesImage, restImage}
 use Rattle.image.specs.Table.{saveFits, saveRows, saveVerdict}
 use Rattle.image.specs.declared.Cursor.{Cursor}
 use Rattle.image.proofs.Journey.{entryBytes-length}
@@ -43,7 +44,8 @@ module _ (first : List ℕ) where
     where-to : at ≡ cursor (k + 3 * length es) false
     written : Written first 0 (news ++ entryBytes es) image
 
-  entered : (k : ℕ) (news image : List ℕ) (es : List Entry) → 4 * k ≡ length news → k + 3 * length es ≤ 124 * totalOf first → Written first 0 news image
+  entered : (k : ℕ) (news image : List ℕ) (es : List Entry) → 4 * k ≡ length news → k + 3 * length es ≤ 124 * totalOf first
+      → Written first 0 news image
       → Entered k news es (entriesCursor es (cursor k false) image) (entriesImage es (cursor k false) image)
   unfolding entriesCursor entriesImage entryBytes
   entered k news image [] e room w = record {
@@ -69,19 +71,28 @@ module _ (first : List ℕ) where
       let w1 = written-number first 0 news image _ k (e .mark) (omega arith) (omega arith) refl w in
       let w2 = written-number first 0 (news ++ m) _ _ (k + 1) (e .start) (omega arith) (omega arith) refl w1 in
       let w3 = written-number first 0 ((news ++ m) ++ s) _ _ (k + 2) (e .length) (omega arith) (omega arith) refl w2 in
-      let whole : ((news ++ m) ++ s) ++ l ≡ news ++ ((m ++ s) ++ l) = ap (λ (x : List ℕ). x ++ l) (append-assoc news m s) ∙ append-assoc news (m ++ s) l in
-      let r = entered (k + 3) (news ++ ((m ++ s) ++ l)) (imageAfter (cursor k false) image e) es (omega (arith, ap length whole)) (omega arith)
-      (subst (Written first 0 (news ++ ((m ++ s) ++ l))) (a .1) (subst (λ (x : List ℕ). Written first 0 x (withNumber (withNumber (withNumber image k (e .mark)) (k + 1) (e .start)) (k + 2) (e .length))) whole w3)) in
+      let whole : ((news ++ m) ++ s) ++ l ≡ news ++ ((m ++ s) ++ l) = ap (λ (x : List ℕ). x ++ l) (append-assoc news m s)
+      ∙ append-assoc news (m ++ s) l in
+      let r = entered (k + 3) (news ++ ((m ++ s) ++ l)) (imageAfter (cursor k false) image e) es
+      (omega (arith, ap length whole)) (omega arith)
+      (subst (Written first 0 (news ++ ((m ++ s) ++ l))) (a .1)
+      (subst (λ (x : List ℕ). Written first 0 x (withNumber (withNumber (withNumber image k (e .mark)) (k + 1) (e .start))
+      (k + 2) (e .length))) whole w3)) in
       let next : k + 3 + 3 * length es ≡ k + 3 * suc (length es) = omega arith in
       record {
-        where-to = ap (λ (x : Cursor). entriesCursor es x (imageAfter (cursor k false) image e)) (sym (a .0)) ∙ r .where-to ∙ ap (λ (x : ℕ). cursor x false) next;
-        written = subst (λ (x : Cursor). Written first 0 (news ++ (((m ++ s) ++ l) ++ entryBytes es)) (entriesImage es x (imageAfter (cursor k false) image e))) (a .0)
-            (subst (λ (b : List ℕ). Written first 0 b (entriesImage es (cursor (k + 3) false) (imageAfter (cursor k false) image e))) (append-assoc news ((m ++ s) ++ l) (entryBytes es)) (r .written));
+        where-to = ap (λ (x : Cursor). entriesCursor es x (imageAfter (cursor k false) image e)) (sym (a .0)) ∙ r .where-to
+            ∙ ap (λ (x : ℕ). cursor x false) next;
+        written =
+            subst (λ (x : Cursor). Written first 0 (news ++ (((m ++ s) ++ l) ++ entryBytes es))
+            (entriesImage es x (imageAfter (cursor k false) image e))) (a .0)
+            (subst (λ (b : List ℕ). Written first 0 b (entriesImage es (cursor (k + 3) false)
+            (imageAfter (cursor k false) image e))) (append-assoc news ((m ++ s) ++ l) (entryBytes es)) (r .written));
       }
 
 -- ---- an accepted save
 
-module _ (s : State) (image : List ℕ) (n-high : s .blocks ≤ 262144) (c-high : length (s .entries) ≤ 1024) (words : length (s .map) ≡ wordsFor (s .blocks))
+module _ (s : State) (image : List ℕ) (n-high : s .blocks ≤ 262144) (c-high : length (s .entries) ≤ 1024)
+    (words : length (s .map) ≡ wordsFor (s .blocks))
     (exact : length image ≡ 512 * framesFor (s .blocks) (length (s .entries))) where
   abbrev c : ℕ
   c = length (s .entries)
@@ -100,7 +111,14 @@ module _ (s : State) (image : List ℕ) (n-high : s .blocks ≤ 262144) (c-high 
 
   head-length : length headBytes ≡ 12
   head-length =
-      omega (arith, length-append (bytes4 (s .blocks) ++ bytes4 (s .spare)) (bytes4 c), length-append (bytes4 (s .blocks)) (bytes4 (s .spare)), bytes4-length (s .blocks), bytes4-length (s .spare), bytes4-length c)
+      omega (
+        arith,
+        length-append (bytes4 (s .blocks) ++ bytes4 (s .spare)) (bytes4 c),
+        length-append (bytes4 (s .blocks)) (bytes4 (s .spare)),
+        bytes4-length (s .blocks),
+        bytes4-length (s .spare),
+        bytes4-length c,
+      )
 
   head-written : Written image 0 headBytes headed
   head-written =
@@ -121,7 +139,8 @@ module _ (s : State) (image : List ℕ) (n-high : s .blocks ≤ 262144) (c-high 
   listed = entriesImage (s .entries) (cursor 3 false) headed
 
   all-entered : Entered image 3 headBytes (s .entries) last listed
-  all-entered = let t = total in let h = head-length in entered image 3 headBytes headed (s .entries) (omega arith) (omega arith) head-written
+  all-entered = let t = total in let h = head-length in
+      entered image 3 headBytes headed (s .entries) (omega arith) (omega arith) head-written
 
   abbrev end : ℕ
   end = 3 + 3 * c + 2 * length (s .map)
@@ -131,7 +150,8 @@ module _ (s : State) (image : List ℕ) (n-high : s .blocks ≤ 262144) (c-high 
 
   -- the body that is written
   whole-body : (b : List ℕ) → b ≡ replaced (bodyOf image) (4 * 0) (headBytes ++ entryBytes (s .entries))
-      → replaced (replaced b (4 * (3 + 3 * c)) (wordBytes (s .map))) (4 * end) (replicate (496 * T - contentLength (s .blocks) c) 0) ≡ body s
+      → replaced (replaced b (4 * (3 + 3 * c)) (wordBytes (s .map))) (4 * end)
+      (replicate (496 * T - contentLength (s .blocks) c) 0) ≡ body s
   unfolding body
   whole-body b e =
       let t = total in
@@ -141,7 +161,8 @@ module _ (s : State) (image : List ℕ) (n-high : s .blocks ≤ 262144) (c-high 
       let lh = head-length in
       let le = entryBytes-length (s .entries) in
       let lw = wordBytes-length (s .map) in
-      let lz : length {A = ℕ} (replicate (496 * T - contentLength (s .blocks) c) 0) ≡ 496 * T - contentLength (s .blocks) c = length-replicate {A = ℕ} (496 * T - contentLength (s .blocks) c) 0 in
+      let lz : length {A = ℕ} (replicate (496 * T - contentLength (s .blocks) c) 0) ≡ 496 * T - contentLength (s .blocks) c =
+      length-replicate {A = ℕ} (496 * T - contentLength (s .blocks) c) 0 in
       let l1 = length-append headBytes E in
       let l2 = length-append (headBytes ++ E) W in
       let l3 = length-append ((headBytes ++ E) ++ W) Z in
@@ -170,8 +191,11 @@ module _ (s : State) (image : List ℕ) (n-high : s .blocks ≤ 262144) (c-high 
       let t : totalOf listed ≡ T = ap (λ (k : ℕ). k / 512) same ∙ total in
       ap (λ (x : Cursor). restImage (s .map) x listed) (all-entered .where-to)
       ∙ ap (λ (b : Bool). cond b (frames (totalOf listed) 0 (totalOf listed)
-      (replaced (replaced (bodyOf listed) (4 * (3 + 3 * c)) (wordBytes (s .map))) (4 * end) (replicate (496 * totalOf listed - 4 * end) 0))) listed) (to-rest (length (s .map)) (cursor (3 + 3 * c) false) (length listed) refl rest-room)
-      ∙ ap₂ (λ (k : ℕ) (z : ℕ). frames k 0 k (replaced (replaced (bodyOf listed) (4 * (3 + 3 * c)) (wordBytes (s .map))) (4 * end) (replicate z 0))) t (fill-law (totalOf listed) t)
+      (replaced (replaced (bodyOf listed) (4 * (3 + 3 * c)) (wordBytes (s .map))) (4 * end)
+      (replicate (496 * totalOf listed - 4 * end) 0))) listed)
+      (to-rest (length (s .map)) (cursor (3 + 3 * c) false) (length listed) refl rest-room)
+      ∙ ap₂ (λ (k : ℕ) (z : ℕ). frames k 0 k (replaced (replaced (bodyOf listed) (4 * (3 + 3 * c)) (wordBytes (s .map)))
+      (4 * end) (replicate z 0))) t (fill-law (totalOf listed) t)
       ∙ ap (frames T 0 T) (whole-body (bodyOf listed) (all-entered .written .bytes))
 
 -- ---- the three things that a save gives and leaves
@@ -179,7 +203,8 @@ module _ (s : State) (image : List ℕ) (n-high : s .blocks ≤ 262144) (c-high 
 scratchOf-length : (es : List Entry) (n : ℕ) (t : Tally) (scratch : List ℕ) → length (scratchOf es n t scratch) ≡ length scratch
 unfolding scratchOf
 scratchOf-length [] n t scratch = refl
-scratchOf-length (e ∷ es) n t scratch = scratchOf-length es n (tallyAfter n t scratch e) (scratchAfter n t scratch e) ∙ scratch-length n t scratch e
+scratchOf-length (e ∷ es) n t scratch = scratchOf-length es n (tallyAfter n t scratch e) (scratchAfter n t scratch e)
+    ∙ scratch-length n t scratch e
 
 -- a cursor that stopped leaves the image
 stopped-rest : (map image : List ℕ) → restImage map (cursor 3 true) image ≡ image
@@ -234,14 +259,17 @@ module _ (n spare : ℕ) (map : List ℕ) (entries : List Entry) (scratch image 
       let l = save-fits-to n spare (length entries) (length map) (length scratch) f in
       let et : start ≡ tally (n - spare) false = ap (λ (b : Bool). cond b (tally (n - spare) false) (tally 0 true)) f in
       let es : copied ≡ map = ap (λ (b : Bool). cond b map scratch) f in
-      ap₂ (λ (t : Tally) (l : List ℕ). allReleased n (tallyOf entries n t l) (scratchOf entries n t l)) et es ∙ released-sound state (l .shape)
+      ap₂ (λ (t : Tally) (l : List ℕ). allReleased n (tallyOf entries n t l) (scratchOf entries n t l)) et es
+      ∙ released-sound state (l .shape)
 
   abbrev rows : Bool → Bool → Verdict
-  rows f r = firstOf (row 1 (not f) ∷ row 4 (not r) ∷ row 12 (not (eqb (length image) (512 * framesFor n (length entries)))) ∷ [])
+  rows f r = firstOf (row 1 (not f) ∷ row 4 (not r) ∷ row 12 (not (eqb (length image) (512 * framesFor n (length entries))))
+      ∷ [])
 
   number-law : given ≡ saveNumber n spare map entries scratch image
   unfolding numberBy saveNumber saveVerdict saveRows firstOf
-  number-law = ap (λ (k : ℕ). rowNumber (rows (saveFits n spare (length entries) (length map) k) (allReleased n tallied used))) used-length ∙ by fit refl
+  number-law = ap (λ (k : ℕ). rowNumber (rows (saveFits n spare (length entries) (length map) k) (allReleased n tallied used)))
+      used-length ∙ by fit refl
     where
       by : (b : Bool) → fit ≡ b → rowNumber (rows b (allReleased n tallied used)) ≡ rowNumber (rows b (sound state))
       by true f = ap (λ (r : Bool). rowNumber (rows true r)) (released f)
@@ -269,7 +297,9 @@ module _ (n spare : ℕ) (map : List ℕ) (entries : List Entry) (scratch image 
   refused-image h =
       let z = ne-eqb given 0 h in
       let ef : first ≡ cursor 3 true = ap (λ (b : Bool). cursor 3 (not b)) z in
-      let ei : headedImage ≡ image = ap (λ (b : Bool). cond b (withNumber (withNumber (withNumber image 0 n) 1 spare) 2 (length entries % 4294967296)) image) z in
+      let ei : headedImage ≡ image =
+      ap (λ (b : Bool). cond b (withNumber (withNumber (withNumber image 0 n) 1 spare) 2 (length entries % 4294967296))
+      image) z in
       ap₂ (λ (f : Cursor) (i : List ℕ). restImage map (entriesCursor entries f i) (entriesImage entries f i)) ef ei
       ∙ ap₂ (restImage map) (cursor-stays entries (cursor 3 true) image refl) (image-stays entries (cursor 3 true) image refl)
       ∙ stopped-rest map image
@@ -284,7 +314,8 @@ module _ (n spare : ℕ) (map : List ℕ) (entries : List Entry) (scratch image 
       let l = save-fits-to n spare (length entries) (length map) (length scratch) (p .lengths) in
       let ef : first ≡ cursor 3 false = ap (λ (b : Bool). cursor 3 (not b)) z in
       let ei : headedImage ≡ withNumber (withNumber (withNumber image 0 n) 1 spare) 2 (length entries % 4294967296) =
-      ap (λ (b : Bool). cond b (withNumber (withNumber (withNumber image 0 n) 1 spare) 2 (length entries % 4294967296)) image) z in
+      ap (λ (b : Bool). cond b (withNumber (withNumber (withNumber image 0 n) 1 spare) 2 (length entries % 4294967296)) image)
+      z in
       ap₂ (λ (f : Cursor) (i : List ℕ). restImage map (entriesCursor entries f i) (entriesImage entries f i)) ef ei
       ∙ accepted-image state image (l .limits .limit) (l .count .few) (l .limits .words) (p .exact)
       ∙ sym (ap (λ (w : Verdict). settle w (imageOf state) (λ number. image)) v)
@@ -296,5 +327,6 @@ module _ (n spare : ℕ) (map : List ℕ) (entries : List Entry) (scratch image 
       by true e = saved-image (eqb-true given 0 e)
       by false e = refused-image (eqb-false given 0 e)
 
-  pub saves : Saves n spare map entries scratch image given (scratchCleared n spare map (length entries) tallied used image) final
+  pub saves : Saves n spare map entries scratch image given
+      (scratchCleared n spare map (length entries) tallied used image) final
   saves = (number-law, scratch-law, image-law)

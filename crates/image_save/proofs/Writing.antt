@@ -17,14 +17,16 @@ withEntry image k e = withNumber (withNumber (withNumber image k (e .mark)) (k +
 
 -- one entry written, or none
 module _ (at : Cursor) (image : List ℕ) (e : Entry) where
-  pub writes : active at image ≡ true → (cursor (at .next + 3) false ≡ cursorAfter at image e) × (withEntry image (at .next) e ≡ imageAfter at image e)
+  pub writes : active at image ≡ true → (cursor (at .next + 3) false ≡ cursorAfter at image e)
+      × (withEntry image (at .next) e ≡ imageAfter at image e)
   unfolding cursorAfter imageAfter
   writes a = (
     ap (λ (b : Bool). cond b (cursor (at .next + 3) false) (cursor (at .next) true)) (sym a),
     ap (λ (b : Bool). cond b (withEntry image (at .next) e) image) (sym a),
   )
 
-  pub writes-none : active at image ≡ false → (cursor (at .next) true ≡ cursorAfter at image e) × (image ≡ imageAfter at image e)
+  pub writes-none : active at image ≡ false → (cursor (at .next) true ≡ cursorAfter at image e)
+      × (image ≡ imageAfter at image e)
   unfolding cursorAfter imageAfter
   writes-none a = (
     ap (λ (b : Bool). cond b (cursor (at .next + 3) false) (cursor (at .next) true)) (sym a),
@@ -52,12 +54,14 @@ unfolding entriesCursor
 cursor-none at image = refl
 
 pub cursor-more : (e : Entry) (es : List Entry) (at : Cursor) (image : List ℕ)
-    → entriesCursor (e ∷ es) at image ≡ cond (cursorAfter at image e .stop) (cursorAfter at image e) (entriesCursor es (cursorAfter at image e) (imageAfter at image e))
+    → entriesCursor (e ∷ es) at image ≡ cond (cursorAfter at image e .stop) (cursorAfter at image e)
+    (entriesCursor es (cursorAfter at image e) (imageAfter at image e))
 unfolding entriesCursor
 cursor-more e es at image = by (cursorAfter at image e .stop) refl
   where
     by : (b : Bool) → cursorAfter at image e .stop ≡ b
-        → entriesCursor es (cursorAfter at image e) (imageAfter at image e) ≡ cond b (cursorAfter at image e) (entriesCursor es (cursorAfter at image e) (imageAfter at image e))
+        → entriesCursor es (cursorAfter at image e) (imageAfter at image e)
+        ≡ cond b (cursorAfter at image e) (entriesCursor es (cursorAfter at image e) (imageAfter at image e))
     by true s = cursor-stays es (cursorAfter at image e) (imageAfter at image e) s
     by false s = refl
 
@@ -66,11 +70,13 @@ unfolding entriesImage
 image-none at image = refl
 
 pub image-more : (e : Entry) (es : List Entry) (at : Cursor) (image : List ℕ)
-    → entriesImage (e ∷ es) at image ≡ cond (cursorAfter at image e .stop) (imageAfter at image e) (entriesImage es (cursorAfter at image e) (imageAfter at image e))
+    → entriesImage (e ∷ es) at image ≡ cond (cursorAfter at image e .stop) (imageAfter at image e)
+    (entriesImage es (cursorAfter at image e) (imageAfter at image e))
 unfolding entriesImage
 image-more e es at image = by (cursorAfter at image e .stop) refl
   where
     by : (b : Bool) → cursorAfter at image e .stop ≡ b
-        → entriesImage es (cursorAfter at image e) (imageAfter at image e) ≡ cond b (imageAfter at image e) (entriesImage es (cursorAfter at image e) (imageAfter at image e))
+        → entriesImage es (cursorAfter at image e) (imageAfter at image e)
+        ≡ cond b (imageAfter at image e) (entriesImage es (cursorAfter at image e) (imageAfter at image e))
     by true s = image-stays es (cursorAfter at image e) (imageAfter at image e) s
     by false s = refl

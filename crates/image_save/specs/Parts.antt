@@ -68,7 +68,8 @@ entriesImage (e ∷ es) at image = entriesImage es (cursorAfter at image e) (ima
 -- There is room behind the cursor for the words of a map.
 unfoldable pub restFits : ℕ → Cursor → ℕ → Bool
 restFits maplen at bytes =
-    not (at .stop) && wholeBlocks bytes && leb (at .next) 4096 && leb maplen 4096 && leb (at .next + 2 * maplen) (124 * (bytes / 512))
+    not (at .stop) && wholeBlocks bytes && leb (at .next) 4096 && leb maplen 4096
+    && leb (at .next + 2 * maplen) (124 * (bytes / 512))
 
 -- The words are written at the cursor, then zeros, and the frames are sealed.
 unfoldable pub restImage : List ℕ → Cursor → List ℕ → List ℕ

@@ -2,7 +2,8 @@
 // Everything is validated before the first byte of the image is written, so that a refusal changes nothing but the scratch.
 ghost use mathlib.Core.Path.{_≡_};
 ghost use Rattle.image.specs.Effects.{saveNumber, saveScratch, saveImage};
-ghost use Rattle.image_save.specs.Parts.{firstTally, firstScratch, numberBy, scratchCleared, headCursor, headImage, cursorAfter, imageAfter, entriesCursor, entriesImage, restFits, restImage};
+ghost use Rattle.image_save.specs.Parts.{firstTally, firstScratch, numberBy, scratchCleared, headCursor, headImage};
+ghost use Rattle.image_save.specs.Parts.{cursorAfter, imageAfter, entriesCursor, entriesImage, restFits, restImage};
 use block::BLOCK;
 use catalogue::Entry;
 use image::Cursor;
@@ -73,7 +74,8 @@ fn save_number(
     image: &[u8],
 ) -> u32
     ensures { λ r. ⌜ (r ≡ numberBy n free (now (map .entry)) count tally (now (scratch .entry)) (now (image .entry)))
-        × (now (scratch .exit) ≡ scratchCleared n free (now (map .entry)) count tally (now (scratch .entry)) (now (image .entry))) ⌝ }
+        × (now (scratch .exit) ≡ scratchCleared n free (now (map .entry)) count tally (now (scratch .entry))
+        (now (image .entry))) ⌝ }
 {
     let number = verdict(n, free, map, count, tally, scratch, image);
     clear(scratch);
@@ -82,7 +84,8 @@ fn save_number(
 
 // Writes n, free count and c, if the save was accepted. The entries stand behind them.
 fn write_head(n: u32, free: u32, count: usize, number: u32, image: &mut [u8]) -> Cursor
-    ensures { λ r. ⌜ (r ≡ headCursor n free count number (now (image .entry))) × (now (image .exit) ≡ headImage n free count number (now (image .entry))) ⌝ }
+    ensures { λ r. ⌜ (r ≡ headCursor n free count number (now (image .entry)))
+        × (now (image .exit) ≡ headImage n free count number (now (image .entry))) ⌝ }
 {
     if number != 0 {
         return Cursor {
@@ -101,7 +104,8 @@ fn write_head(n: u32, free: u32, count: usize, number: u32, image: &mut [u8]) ->
 
 // Writes an entry: mark, start and length.
 fn write_entry(at: Cursor, image: &mut [u8], entry: Entry) -> Cursor
-    ensures { λ r. ⌜ (r ≡ cursorAfter at (now (image .entry)) entry) × (now (image .exit) ≡ imageAfter at (now (image .entry)) entry) ⌝ }
+    ensures { λ r. ⌜ (r ≡ cursorAfter at (now (image .entry)) entry)
+        × (now (image .exit) ≡ imageAfter at (now (image .entry)) entry) ⌝ }
 {
     let next = at.next;
     if at.stop {
@@ -127,7 +131,8 @@ fn write_entry(at: Cursor, image: &mut [u8], entry: Entry) -> Cursor
 
 // Writes every entry.
 fn write_entries(catalogue: &[Entry], start: Cursor, image: &mut [u8]) -> Cursor
-    ensures { λ r. ⌜ (r ≡ entriesCursor (now (catalogue .entry)) start (now (image .entry))) × (now (image .exit) ≡ entriesImage (now (catalogue .entry)) start (now (image .entry))) ⌝ }
+    ensures { λ r. ⌜ (r ≡ entriesCursor (now (catalogue .entry)) start (now (image .entry)))
+        × (now (image .exit) ≡ entriesImage (now (catalogue .entry)) start (now (image .entry))) ⌝ }
 {
     let mut state = start;
     let mut i: usize = 0;
@@ -181,9 +186,12 @@ pub fn save(
     scratch: &mut [u64],
     image: &mut [u8],
 ) -> u32
-    ensures { λ r. ⌜ (r ≡ saveNumber n free (now (map .entry)) (now (catalogue .entry)) (now (scratch .entry)) (now (image .entry)))
-        × (now (scratch .exit) ≡ saveScratch n free (now (map .entry)) (now (catalogue .entry)) (now (scratch .entry)) (now (image .entry)))
-        × (now (image .exit) ≡ saveImage n free (now (map .entry)) (now (catalogue .entry)) (now (scratch .entry)) (now (image .entry))) ⌝ }
+    ensures { λ r.
+        ⌜ (r ≡ saveNumber n free (now (map .entry)) (now (catalogue .entry)) (now (scratch .entry)) (now (image .entry)))
+        × (now (scratch .exit) ≡ saveScratch n free (now (map .entry)) (now (catalogue .entry)) (now (scratch .entry))
+        (now (image .entry)))
+        × (now (image .exit) ≡ saveImage n free (now (map .entry)) (now (catalogue .entry)) (now (scratch .entry))
+        (now (image .entry))) ⌝ }
 {
     let count = catalogue::count(catalogue);
     let start = begin(n, free, map, count, scratch);

@@ -27,7 +27,10 @@ pub run-in : (s l b : ℕ) → s ≤ b → b < s + l → inRun s l b ≡ true
 run-in s l b p q = and-both (leb s b) (ltb b (s + l)) (le-leb s b p) (lt-ltb b (s + l) q)
 
 pub in-run : (s l b : ℕ) → inRun s l b ≡ true → (s ≤ b) × (b < s + l)
-in-run s l b e = (leb-true s b (and-left (leb s b) (ltb b (s + l)) e), ltb-true b (s + l) (and-right (leb s b) (ltb b (s + l)) e))
+in-run s l b e = (
+  leb-true s b (and-left (leb s b) (ltb b (s + l)) e),
+  ltb-true b (s + l) (and-right (leb s b) (ltb b (s + l)) e),
+)
 
 pub run-out : (s l b : ℕ) → s + l ≤ b → inRun s l b ≡ false
 run-out s l b h = by (inRun s l b) refl
@@ -87,7 +90,8 @@ free-more : (f : ℕ → Bool) (m : ℕ) → freeOf (blocks f 0 (suc m)) ≡ fre
 unfolding blocks freeOf
 free-more f m =
     let e : suc m ≡ m + 1 = omega arith in
-    ap (λ (k : ℕ). freeOf (blocks f 0 k)) e ∙ ap freeOf (blocks-join f 0 m 1) ∙ joined (blocks f 0 m) (f (0 + m)) ∙ ap (λ (k : ℕ). freeOf (blocks f 0 m) + one (f k)) (zero-add m)
+    ap (λ (k : ℕ). freeOf (blocks f 0 k)) e ∙ ap freeOf (blocks-join f 0 m 1) ∙ joined (blocks f 0 m) (f (0 + m))
+    ∙ ap (λ (k : ℕ). freeOf (blocks f 0 m) + one (f k)) (zero-add m)
   where
     joined : (xs : List Bool) (x : Bool) → freeOf (xs ++ (x ∷ [])) ≡ freeOf xs + one x
     joined [] x = omega arith
@@ -115,7 +119,8 @@ module _ (n : ℕ) (f : ℕ → Bool) where
   unfolding undamaged
   tail-undamaged e es u = and-right (not (isDamaged (standingOf n f e))) (undamaged n f es) u
 
-  pub both-undamaged : (e : Entry) (es : List Entry) → isDamaged (standingOf n f e) ≡ false → undamaged n f es ≡ true → undamaged n f (e ∷ es) ≡ true
+  pub both-undamaged : (e : Entry) (es : List Entry) → isDamaged (standingOf n f e) ≡ false → undamaged n f es ≡ true
+      → undamaged n f (e ∷ es) ≡ true
   unfolding undamaged
   both-undamaged e es d u = and-both (not (isDamaged (standingOf n f e))) (undamaged n f es) (ap not d) u
 
@@ -133,15 +138,18 @@ module _ (n : ℕ) (f : ℕ → Bool) where
   cover-total [] u = total-same (coverings []) (λ b. 0) n (λ b l. refl) ∙ total-none n
   cover-total (e ∷ es) u =
       let i : e .start + e .length ≤ n = extent-inside n e f (head-undamaged e es u) in
-      let r : total (λ b. one (inRun (e .start) (e .length) b)) n ≡ e .length = total-run (e .start) (e .length) n ∙ omega arith in
-      total-add (λ b. one (inRun (e .start) (e .length) b)) (coverings es) n ∙ ap₂ _+_ r (cover-total es (tail-undamaged e es u))
+      let r : total (λ b. one (inRun (e .start) (e .length) b)) n ≡ e .length = total-run (e .start) (e .length) n
+      ∙ omega arith in
+      total-add (λ b. one (inRun (e .start) (e .length) b)) (coverings es) n
+      ∙ ap₂ _+_ r (cover-total es (tail-undamaged e es u))
 
 pub none-undamaged : (n : ℕ) (g : ℕ → Bool) → undamaged n g [] ≡ true
 unfolding undamaged
 none-undamaged n g = refl
 
 -- the same entries with other blocks free, none of them covered
-pub still-all : (n : ℕ) (f g : ℕ → Bool) (es : List Entry) → undamaged n f es ≡ true → ((b : ℕ) → b < n → 1 ≤ coverings es b → f b ≡ false → g b ≡ false) → undamaged n g es ≡ true
+pub still-all : (n : ℕ) (f g : ℕ → Bool) (es : List Entry) → undamaged n f es ≡ true
+    → ((b : ℕ) → b < n → 1 ≤ coverings es b → f b ≡ false → g b ≡ false) → undamaged n g es ≡ true
 unfolding coverings
 still-all n f g [] u h = none-undamaged n g
 still-all n f g (e ∷ es) u h =

@@ -21,14 +21,16 @@ use Rattle.image_soundness.proofs.Damage.{extent-inside}
 
 module _ (n : ℕ) (t : Tally) (scratch : List ℕ) (e : Entry) where
   pub passes : releasable n t scratch e ≡ true
-      → (tally (t .left - e .length) false ≡ tallyAfter n t scratch e) × (marked scratch (e .start) (e .length) true ≡ scratchAfter n t scratch e)
+      → (tally (t .left - e .length) false ≡ tallyAfter n t scratch e)
+      × (marked scratch (e .start) (e .length) true ≡ scratchAfter n t scratch e)
   unfolding tallyAfter scratchAfter
   passes r = (
     ap (λ (b : Bool). cond b (tally (t .left - e .length) false) (tally (t .left) true)) (sym r),
     ap (λ (b : Bool). cond b (marked scratch (e .start) (e .length) true) scratch) (sym r),
   )
 
-  pub halts : releasable n t scratch e ≡ false → (tally (t .left) true ≡ tallyAfter n t scratch e) × (scratch ≡ scratchAfter n t scratch e)
+  pub halts : releasable n t scratch e ≡ false
+      → (tally (t .left) true ≡ tallyAfter n t scratch e) × (scratch ≡ scratchAfter n t scratch e)
   unfolding tallyAfter scratchAfter
   halts r = (
     ap (λ (b : Bool). cond b (tally (t .left - e .length) false) (tally (t .left) true)) (sym r),
@@ -38,12 +40,14 @@ module _ (n : ℕ) (t : Tally) (scratch : List ℕ) (e : Entry) where
   -- the tests, one after the other
   pub stopped : t .stop ≡ true → releasable n t scratch e ≡ false
   unfolding releasable
-  stopped s = ap (λ (b : Bool). not b && shapeFits n 0 (length scratch) && not (isDamaged (standingOf n (free scratch) e)) && leb (e .length) (t .left)) s
+  stopped s = ap (λ (b : Bool). not b && shapeFits n 0 (length scratch) && not (isDamaged (standingOf n (free scratch) e))
+      && leb (e .length) (t .left)) s
 
   module _ (s : t .stop ≡ false) where
     pub unfit : shapeFits n 0 (length scratch) ≡ false → releasable n t scratch e ≡ false
     unfolding releasable
-    unfit f = ap₂ (λ (a b : Bool). not a && b && not (isDamaged (standingOf n (free scratch) e)) && leb (e .length) (t .left)) s f
+    unfit f = ap₂ (λ (a b : Bool). not a && b && not (isDamaged (standingOf n (free scratch) e)) && leb (e .length) (t .left))
+        s f
 
     module _ (f : shapeFits n 0 (length scratch) ≡ true) where
       pub damaged : isDamaged (standingOf n (free scratch) e) ≡ true → releasable n t scratch e ≡ false
@@ -74,7 +78,8 @@ pub record Releasable (n : ℕ) (t : Tally) (scratch : List ℕ) (e : Entry) : T
   pub inside : e .start + e .length ≤ n
   pub enough : e .length ≤ t .left
 
-pub releasable-to : (n : ℕ) (t : Tally) (scratch : List ℕ) (e : Entry) → releasable n t scratch e ≡ true → Releasable n t scratch e
+pub releasable-to : (n : ℕ) (t : Tally) (scratch : List ℕ) (e : Entry) → releasable n t scratch e ≡ true
+    → Releasable n t scratch e
 unfolding releasable
 releasable-to n t scratch e r =
     let a : Bool = not (t .stop) in
@@ -100,7 +105,8 @@ tally-stays (e ∷ es) n t scratch s =
     let h = halts n t scratch e (stopped n t scratch e s) in
     ap₂ (tallyOf es n) (sym (h .0) ∙ same-tally t s) (sym (h .1)) ∙ tally-stays es n t scratch s
 
-pub scratch-stays : (es : List Entry) (n : ℕ) (t : Tally) (scratch : List ℕ) → t .stop ≡ true → scratchOf es n t scratch ≡ scratch
+pub scratch-stays : (es : List Entry) (n : ℕ) (t : Tally) (scratch : List ℕ) → t .stop ≡ true
+    → scratchOf es n t scratch ≡ scratch
 unfolding scratchOf
 scratch-stays [] n t scratch s = refl
 scratch-stays (e ∷ es) n t scratch s =
@@ -113,12 +119,14 @@ unfolding tallyOf
 tally-none n t scratch = refl
 
 pub tally-more : (e : Entry) (es : List Entry) (n : ℕ) (t : Tally) (scratch : List ℕ)
-    → tallyOf (e ∷ es) n t scratch ≡ cond (tallyAfter n t scratch e .stop) (tallyAfter n t scratch e) (tallyOf es n (tallyAfter n t scratch e) (scratchAfter n t scratch e))
+    → tallyOf (e ∷ es) n t scratch ≡ cond (tallyAfter n t scratch e .stop) (tallyAfter n t scratch e)
+    (tallyOf es n (tallyAfter n t scratch e) (scratchAfter n t scratch e))
 unfolding tallyOf
 tally-more e es n t scratch = by (tallyAfter n t scratch e .stop) refl
   where
     by : (b : Bool) → tallyAfter n t scratch e .stop ≡ b
-        → tallyOf es n (tallyAfter n t scratch e) (scratchAfter n t scratch e) ≡ cond b (tallyAfter n t scratch e) (tallyOf es n (tallyAfter n t scratch e) (scratchAfter n t scratch e))
+        → tallyOf es n (tallyAfter n t scratch e) (scratchAfter n t scratch e)
+        ≡ cond b (tallyAfter n t scratch e) (tallyOf es n (tallyAfter n t scratch e) (scratchAfter n t scratch e))
     by true s = tally-stays es n (tallyAfter n t scratch e) (scratchAfter n t scratch e) s
     by false s = refl
 
@@ -127,11 +135,13 @@ unfolding scratchOf
 scratch-none n t scratch = refl
 
 pub scratch-more : (e : Entry) (es : List Entry) (n : ℕ) (t : Tally) (scratch : List ℕ)
-    → scratchOf (e ∷ es) n t scratch ≡ cond (tallyAfter n t scratch e .stop) (scratchAfter n t scratch e) (scratchOf es n (tallyAfter n t scratch e) (scratchAfter n t scratch e))
+    → scratchOf (e ∷ es) n t scratch ≡ cond (tallyAfter n t scratch e .stop) (scratchAfter n t scratch e)
+    (scratchOf es n (tallyAfter n t scratch e) (scratchAfter n t scratch e))
 unfolding scratchOf
 scratch-more e es n t scratch = by (tallyAfter n t scratch e .stop) refl
   where
     by : (b : Bool) → tallyAfter n t scratch e .stop ≡ b
-        → scratchOf es n (tallyAfter n t scratch e) (scratchAfter n t scratch e) ≡ cond b (scratchAfter n t scratch e) (scratchOf es n (tallyAfter n t scratch e) (scratchAfter n t scratch e))
+        → scratchOf es n (tallyAfter n t scratch e) (scratchAfter n t scratch e)
+        ≡ cond b (scratchAfter n t scratch e) (scratchOf es n (tallyAfter n t scratch e) (scratchAfter n t scratch e))
     by true s = scratch-stays es n (tallyAfter n t scratch e) (scratchAfter n t scratch e) s
     by false s = refl

@@ -1,5 +1,7 @@
--- How soundness is tested: in a copy of the map every entry is released in turn. Each entry must be undamaged there, so that its
--- blocks are taken and no entry before it had them; at the end every block must be free, and the lengths must make what the free
+-- How soundness is tested: in a copy of the map every entry is released in turn. Each entry must be undamaged there, so that
+-- its
+-- blocks are taken and no entry before it had them; at the end every block must be free, and the lengths must make what the
+-- free
 -- count leaves of n. `released-sound` (proofs/WhenSound.antt) says that this is soundness.
 -- Assumes nothing.
 use mathlib.Core.Bool.{Bool, true, false, not, _&&_, cond}
@@ -20,7 +22,8 @@ tally left stop = record { left = left; stop = stop }
 -- The entry can be released: nothing has failed, it is undamaged in the scratch, and no longer than what is left.
 unfoldable pub releasable : ℕ → Tally → List ℕ → Entry → Bool
 releasable n t scratch e =
-    not (t .stop) && shapeFits n 0 (length scratch) && not (isDamaged (standingOf n (free scratch) e)) && leb (e .length) (t .left)
+    not (t .stop) && shapeFits n 0 (length scratch) && not (isDamaged (standingOf n (free scratch) e))
+    && leb (e .length) (t .left)
 
 -- The tally and the scratch after one entry.
 unfoldable pub tallyAfter : ℕ → Tally → List ℕ → Entry → Tally

@@ -49,7 +49,8 @@ fn can_release(n: u32, tally: Tally, scratch: &[u64], entry: Entry) -> bool
 
 // Releases an entry in the scratch, if it can be.
 pub fn release_entry(n: u32, tally: Tally, scratch: &mut [u64], entry: Entry) -> Tally
-    ensures { λ r. ⌜ (r ≡ tallyAfter n tally (now (scratch .entry)) entry) × (now (scratch .exit) ≡ scratchAfter n tally (now (scratch .entry)) entry) ⌝ }
+    ensures { λ r. ⌜ (r ≡ tallyAfter n tally (now (scratch .entry)) entry)
+        × (now (scratch .exit) ≡ scratchAfter n tally (now (scratch .entry)) entry) ⌝ }
 {
     let left = tally.left;
     let blocks = entry.length;
@@ -68,7 +69,8 @@ pub fn release_entry(n: u32, tally: Tally, scratch: &mut [u64], entry: Entry) ->
 
 // Releases every entry in the scratch, up to one that cannot be.
 pub fn release_entries(catalogue: &[Entry], n: u32, start: Tally, scratch: &mut [u64]) -> Tally
-    ensures { λ r. ⌜ (r ≡ tallyOf (now (catalogue .entry)) n start (now (scratch .entry))) × (now (scratch .exit) ≡ scratchOf (now (catalogue .entry)) n start (now (scratch .entry))) ⌝ }
+    ensures { λ r. ⌜ (r ≡ tallyOf (now (catalogue .entry)) n start (now (scratch .entry)))
+        × (now (scratch .exit) ≡ scratchOf (now (catalogue .entry)) n start (now (scratch .entry))) ⌝ }
 {
     let mut state = start;
     let mut i: usize = 0;

@@ -26,7 +26,8 @@ use Rattle.catalogue_standings.specs.Limits.{shapeFits, sheetsFit}
 use Rattle.refusals.specs.Lent.{lent, noCard}
 use Rattle.refusals.specs.Views.{viewAt, viewOn}
 use Rattle.catalogue_standings.proofs.Openings.{skip, stop}
-use Rattle.ledger.specs.Ledger.{Place, Blank, Payload, Sheet, Absent, Paused, Open, Complete, standingIn, startIn, lengthIn, isBlank, sheetAt, placeAt, cover, freeIn, spareIn, viewIn, listed, verdictIn}
+use Rattle.ledger.specs.Ledger.{Place, Blank, Payload, Sheet, Absent, Paused, Open, Complete, standingIn, startIn}
+use Rattle.ledger.specs.Ledger.{lengthIn, isBlank, sheetAt, placeAt, cover, freeIn, spareIn, viewIn, listed, verdictIn}
 use Rattle.ledger.specs.Claim.{entryIn, blockIn}
 use Rattle.card.specs.Calls.{Kept}
 use Rattle.ledger.specs.Steps.{}
@@ -41,7 +42,13 @@ abbrev pub mapIn : ℕ → List Sheet → List ℕ
 mapIn n l = mapOf (freeIn n l) (wordsFor n)
 
 abbrev pub stateOf : ℕ → List Sheet → List ℕ → Kept
-stateOf n l card = record { shape = record { blocks = n; free = spareIn n l }; map = mapIn n l; entries = map entryIn l; card = card }
+stateOf n l card = record {
+  shape = record { blocks = n; free = spareIn n l };
+  map = mapIn n l;
+  entries = map entryIn l;
+  card =
+      card;
+}
 
 -- what holds of a ledger and of the card beside it, after every list
 pub record Matches (n : ℕ) (l : List Sheet) (card : List ℕ) : Type 0 where
@@ -63,7 +70,8 @@ entry-at (x ∷ l) (suc i) h = entry-at l i (le-of-suc-le-suc h)
 past-words : (f : ℕ → Bool) (w b : ℕ) → w * 64 ≤ b → map-blocks.free (mapOf f w) b ≡ false
 unfolding map-blocks.free
 past-words f w b h =
-    ap {B = Bool} (λ (x : ℕ). eqb (x / 2 ^ (63 - b % 64) % 2) 1) (List·getD-eq-default (mapOf f w) 0 (omega (arith, map-length f w)))
+    ap {B = Bool} (λ (x : ℕ). eqb (x / 2 ^ (63 - b % 64) % 2) 1)
+    (List·getD-eq-default (mapOf f w) 0 (omega (arith, map-length f w)))
     ∙ ap {B = Bool} (λ (x : ℕ). eqb (x % 2) 1) (zero-div (2 ^ (63 - b % 64)))
 
 pub free-map : (n : ℕ) (l : List Sheet) → map-blocks.free (mapIn n l) ≡ freeIn n l
@@ -97,15 +105,24 @@ reads n l i places = record {
   sound = places .sound;
 }
 
-stands-as : (n : ℕ) (free : ℕ → Bool) (x : Sheet) → Fine n x → ((b : ℕ) → startIn x ≤ b → b < startIn x + lengthIn x → free b ≡ false)
+stands-as : (n : ℕ) (free : ℕ → Bool) (x : Sheet) → Fine n x
+    → ((b : ℕ) → startIn x ≤ b → b < startIn x + lengthIn x → free b ≡ false)
     → standingOf n free (entryIn x) ≡ standingIn x
 unfolding standingOf extentHolds
 stands-as n free Absent f h = refl
 stands-as n free Paused f h = refl
 stands-as n free (Open s ps) f h =
-    simp (le-leb 1 (length ps) (f .needed), le-leb (s + length ps) n (f .inside), all-intro (λ b. not (free b)) s (length ps) (λ b p q. ap not (h b p q)))
+    simp (
+      le-leb 1 (length ps) (f .needed),
+      le-leb (s + length ps) n (f .inside),
+      all-intro (λ b. not (free b)) s (length ps) (λ b p q. ap not (h b p q)),
+    )
 stands-as n free (Complete s xs) f h =
-    simp (le-leb 1 (length xs) (f .needed), le-leb (s + length xs) n (f .inside), all-intro (λ b. not (free b)) s (length xs) (λ b p q. ap not (h b p q)))
+    simp (
+      le-leb 1 (length xs) (f .needed),
+      le-leb (s + length xs) n (f .inside),
+      all-intro (λ b. not (free b)) s (length xs) (λ b p q. ap not (h b p q)),
+    )
 
 -- what the rows of an ask say of the ledger, with other places
 abbrev pub saysOn : ℕ → List Sheet → ℕ → Ask → Places → Verdict
@@ -142,7 +159,8 @@ blank-block : (i p : ℕ) (x : Place) → Sized x → sealed-block.blank (blockI
 blank-block i p Blank h = blank-zeros 512
 blank-block i p (Payload bytes) h = blank-sealed i p bytes h
 
-sound-block : (i p : ℕ) (x : Place) → Sized x → i < 4294967296 → p < 4294967296 → sealed-block.sound i p (blockIn i p x) ≡ not (isBlank x)
+sound-block : (i p : ℕ) (x : Place) → Sized x → i < 4294967296 → p < 4294967296
+    → sealed-block.sound i p (blockIn i p x) ≡ not (isBlank x)
 sound-block i p Blank h hi hp = sound-zeros i p
 sound-block i p (Payload bytes) h hi hp = sound-own i p bytes h hi hp
 
@@ -153,7 +171,12 @@ module _ (n : ℕ) (l : List Sheet) (card : List ℕ) (k : Matches n l card) whe
   pub shape-fits : shapeFits n (spareIn n l) (length (mapIn n l)) ≡ true
   unfolding shapeFits
   shape-fits =
-      simp (le-leb 1 n (k .low), le-leb n 262144 (k .high), le-leb (spareIn n l) n (omega (arith, spare-is n l (k .sound))), eq-eqb (length (mapIn n l)) (wordsFor n) map-fits)
+      simp (
+        le-leb 1 n (k .low),
+        le-leb n 262144 (k .high),
+        le-leb (spareIn n l) n (omega (arith, spare-is n l (k .sound))),
+        eq-eqb (length (mapIn n l)) (wordsFor n) map-fits,
+      )
 
   pub sheets-fit : sheetsFit (length (map entryIn l)) ≡ true
   unfolding sheetsFit
@@ -162,7 +185,8 @@ module _ (n : ℕ) (l : List Sheet) (card : List ℕ) (k : Matches n l card) whe
   fits-at : not (shapeFits n (spareIn n l) (length (mapIn n l)) && sheetsFit (length (map entryIn l))) ≡ false
   fits-at = rw (shape-fits, sheets-fit) refl
 
-  fits-on : not (shapeFits n (spareIn n l) (length (mapIn n l)) && sheetsFit (length (map entryIn l)) && eqb (length card) (512 * n)) ≡ false
+  fits-on : not (shapeFits n (spareIn n l) (length (mapIn n l)) && sheetsFit (length (map entryIn l))
+      && eqb (length card) (512 * n)) ≡ false
   fits-on = rw (shape-fits, sheets-fit, eq-eqb (length card) (512 * n) (k .room)) refl
 
   module _ (i : ℕ) where
@@ -192,7 +216,8 @@ module _ (n : ℕ) (l : List Sheet) (card : List ℕ) (k : Matches n l card) whe
     sheets-of-at = ap (λ (c : ℕ). leb c i) (length-map l entryIn)
 
     module _ (lt : i < length l) where
-      covered : (b : ℕ) → startIn (sheetAt l i) ≤ b → b < startIn (sheetAt l i) + lengthIn (sheetAt l i) → map-blocks.free (mapIn n l) b ≡ false
+      covered : (b : ℕ) → startIn (sheetAt l i) ≤ b → b < startIn (sheetAt l i) + lengthIn (sheetAt l i)
+          → map-blocks.free (mapIn n l) b ≡ false
       covered b p q =
           ap (λ (f : ℕ → Bool). f b) (free-map n l)
           ∙ ap (λ (t : Bool). t && eqb (cover l b) 0) (lt-ltb b n (omega (arith, k .sound .fine i .inside)))
@@ -240,7 +265,8 @@ module _ (n : ℕ) (l : List Sheet) (card : List ℕ) (k : Matches n l card) whe
       unfolding viewOn
       sound-same p h =
           ap (sealed-block.sound i p) (here p h)
-          ∙ sound-block i p (placeAt l i p) (k .sound .fine i .sized p) (omega (arith, k .few-sheets)) (omega (arith, k .high, k .sound .fine i .inside))
+          ∙ sound-block i p (placeAt l i p) (k .sound .fine i .sized p) (omega (arith, k .few-sheets))
+          (omega (arith, k .high, k .sound .fine i .inside))
 
   -- ---- the verdicts
 
@@ -249,7 +275,8 @@ module _ (n : ℕ) (l : List Sheet) (card : List ℕ) (k : Matches n l card) whe
   NeverRows i a = Never (row 2 (leb (length l) i) ∷ []) (rowsFor (viewIn n l i) a)
 
   module _ (i : ℕ) (a : Ask) where
-    by-sheet : (v : View) → v .misfit ≡ false → leb (v .sheets) i ≡ leb (length l) i → (i < length l → verdictOf v (on i a) ≡ verdictOf (viewIn n l i) (on i a)) → NeverRows i a
+    by-sheet : (v : View) → v .misfit ≡ false → leb (v .sheets) i ≡ leb (length l) i
+        → (i < length l → verdictOf v (on i a) ≡ verdictOf (viewIn n l i) (on i a)) → NeverRows i a
         → verdictOf v (on i a) ≡ verdictIn n l (on i a)
     by-sheet v fits sheets same never = go (leb (length l) i) refl ∙ listed-same n l (k .sound) i a never
       where
@@ -261,10 +288,13 @@ module _ (n : ℕ) (l : List Sheet) (card : List ℕ) (k : Matches n l card) whe
     pub verdict-on : OwnPlaces n l i a → NeverRows i a → verdictOf (on-card i) (on i a) ≡ verdictIn n l (on i a)
     verdict-on own never =
         by-sheet (on-card i) (fits-of i) (sheets-of i)
-        (λ lt. ap (λ (v : View). verdictOf v (on i a)) (on-reads i lt) ∙ opened n l i a _ (placesOf l i) (own _ (placesOf l i) (record { blank = blank-same i lt; sound = sound-same i lt }))) never
+        (λ lt. ap (λ (v : View). verdictOf v (on i a)) (on-reads i lt)
+        ∙ opened n l i a _ (placesOf l i) (own _ (placesOf l i)
+        (record { blank = blank-same i lt; sound = sound-same i lt }))) never
 
     -- a call that is not
     pub verdict-at : Plain n l i a → NeverRows i a → verdictOf (at i) (on i a) ≡ verdictIn n l (on i a)
     verdict-at plain never =
         by-sheet (at i) (fits-of-at i) (sheets-of-at i)
-        (λ lt. ap (λ (v : View). verdictOf v (on i a)) (at-reads i lt) ∙ opened n l i a _ (placesOf l i) (plain _ (placesOf l i))) never
+        (λ lt. ap (λ (v : View). verdictOf v (on i a)) (at-reads i lt)
+        ∙ opened n l i a _ (placesOf l i) (plain _ (placesOf l i))) never

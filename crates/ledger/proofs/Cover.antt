@@ -37,7 +37,8 @@ covers-out x b h = ap {B = ℕ} (λ (t : Bool). cond t 1 0) (run-out (startIn x)
 pub covers-absent : (b : ℕ) → covers Absent b ≡ 0
 covers-absent b = covers-out Absent b (λ h. omega (arith, h .0, h .1))
 
-pub cover-set : (l : List Sheet) (i : ℕ) (x : Sheet) (b : ℕ) → i < length l → cover (set l i x) b + covers (sheetAt l i) b ≡ cover l b + covers x b
+pub cover-set : (l : List Sheet) (i : ℕ) (x : Sheet) (b : ℕ) → i < length l
+    → cover (set l i x) b + covers (sheetAt l i) b ≡ cover l b + covers x b
 cover-set [] i x b h = absurd (not-suc-le-zero h)
 cover-set (y ∷ l) zero x b h = omega arith
 cover-set (y ∷ l) (suc i) x b h = omega (arith, cover-set l i x b (le-of-suc-le-suc h))
@@ -60,7 +61,8 @@ abbrev pub held : List Sheet → ℕ
 held [] = 0
 held (x ∷ l) = lengthIn x + held l
 
-pub held-set : (l : List Sheet) (i : ℕ) (x : Sheet) → i < length l → held (set l i x) + lengthIn (sheetAt l i) ≡ held l + lengthIn x
+pub held-set : (l : List Sheet) (i : ℕ) (x : Sheet) → i < length l
+    → held (set l i x) + lengthIn (sheetAt l i) ≡ held l + lengthIn x
 held-set [] i x h = absurd (not-suc-le-zero h)
 held-set (y ∷ l) zero x h = omega arith
 held-set (y ∷ l) (suc i) x h = omega (arith, held-set l i x (le-of-suc-le-suc h))
@@ -103,13 +105,15 @@ sum-run a k s zero = rw (add-zero s) (omega arith)
 sum-run a k s (suc m) =
     let shift : s + suc m ≡ suc s + m = omega arith in
     rw shift
-    (joined (cond (inRun a k s) 1 0) (sum (λ b. cond (inRun a k b) 1 0) (suc s) m) (min s (a + k)) (min (suc s) (a + k)) (min s a) (min (suc s) a) (min (suc s + m) a)
+    (joined (cond (inRun a k s) 1 0) (sum (λ b. cond (inRun a k b) 1 0) (suc s) m) (min s (a + k)) (min (suc s) (a + k))
+    (min s a) (min (suc s) a) (min (suc s + m) a)
     (min (suc s + m) (a + k)) (run-step a k s (inRun a k s) refl) (sum-run a k (suc s) m))
   where
     joined : (t u x x′ y y′ z w : ℕ) → t + x + y′ ≡ x′ + y → u + x′ + z ≡ w + y′ → t + u + x + z ≡ w + y
     joined t u x x′ y y′ z w p q = omega arith
 
-sum-cover : (n : ℕ) (l : List Sheet) → ((i : ℕ) → startIn (sheetAt l i) + lengthIn (sheetAt l i) ≤ n) → sum (cover l) 0 n ≡ held l
+sum-cover : (n : ℕ) (l : List Sheet) → ((i : ℕ) → startIn (sheetAt l i) + lengthIn (sheetAt l i) ≤ n)
+    → sum (cover l) 0 n ≡ held l
 sum-cover n [] h = sum-none 0 n
 sum-cover n (x ∷ l) h =
     omega (arith, sum-add (covers x) (cover l) 0 n, sum-run (startIn x) (lengthIn x) 0 n, h 0, sum-cover n l (λ i. h (suc i)))
@@ -118,7 +122,8 @@ one-or-none : (f : ℕ) (t : Bool) → f ≤ 1 → eqb f 0 ≡ t → cond t 1 0 
 one-or-none f true h e = omega (arith, eqb-true f 0 e)
 one-or-none f false h e = omega (arith, eqb-false f 0 e)
 
-count-sum : (n : ℕ) (l : List Sheet) → ((b : ℕ) → cover l b ≤ 1) → (s m : ℕ) → s + m ≤ n → freeOf (blocks (freeIn n l) s m) + sum (cover l) s m ≡ m
+count-sum : (n : ℕ) (l : List Sheet) → ((b : ℕ) → cover l b ≤ 1) → (s m : ℕ) → s + m ≤ n
+    → freeOf (blocks (freeIn n l) s m) + sum (cover l) s m ≡ m
 unfolding freeOf blocks
 count-sum n l h s zero le = refl
 count-sum n l h s (suc m) le =
@@ -131,6 +136,7 @@ count-sum n l h s (suc m) le =
     )
 
 -- where no block is covered twice and no sheet leaves the card
-pub spare-and-held : (n : ℕ) (l : List Sheet) → ((b : ℕ) → cover l b ≤ 1) → ((i : ℕ) → startIn (sheetAt l i) + lengthIn (sheetAt l i) ≤ n)
+pub spare-and-held : (n : ℕ) (l : List Sheet) → ((b : ℕ) → cover l b ≤ 1)
+    → ((i : ℕ) → startIn (sheetAt l i) + lengthIn (sheetAt l i) ≤ n)
     → spareIn n l + held l ≡ n
 spare-and-held n l once inside = omega (arith, count-sum n l once 0 n (omega arith), sum-cover n l inside)

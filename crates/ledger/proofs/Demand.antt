@@ -18,8 +18,11 @@ use Rattle.catalogue.specs.declared.Entry.{Entry}
 use Rattle.catalogue_standings.specs.Answers.{numberOf}
 use Rattle.catalogue_standings.specs.Rows.{Verdict, accepted, firstOf, settle}
 use Rattle.refusals.specs.Table.{Call, on, show, tableOf}
-use Rattle.ledger.specs.Ledger.{Place, Blank, Payload, Sheet, Absent, Complete, standingIn, startIn, lengthIn, placesIn, bytesOf, sheetAt, placeAt, cover, freeIn, spareIn, listed, verdictIn, deedIn, stepIn, after, begun, Told, done, refusedWith}
-use Rattle.ledger.specs.Claim.{Answered, AllAnswered, SearchedBy, AllSearched, granted, returned, lastPut, entryIn, Agrees, Gives, Claim}
+use Rattle.ledger.specs.Ledger.{Place, Blank, Payload, Sheet, Absent, Complete, standingIn, startIn, lengthIn, placesIn}
+use Rattle.ledger.specs.Ledger.{bytesOf, sheetAt, placeAt, cover, freeIn, spareIn, listed, verdictIn, deedIn, stepIn}
+use Rattle.ledger.specs.Ledger.{after, begun, Told, done, refusedWith}
+use Rattle.ledger.specs.Claim.{Answered, AllAnswered, SearchedBy, AllSearched, granted, returned, lastPut, entryIn}
+use Rattle.ledger.specs.Claim.{Agrees, Gives, Claim}
 use Rattle.card.specs.declared.Shape.{Shape}
 use Rattle.card.specs.declared.Outcome.{Outcome}
 use Rattle.card.specs.Calls.{Kept}
@@ -35,7 +38,8 @@ use Rattle.ledger.proofs.step.{result}
 
 -- ---- one call
 
-module _ (n : ℕ) (l : List Sheet) (card : List ℕ) (k : Matches n l card) (c : Call) (reply : Response) (t : Kept) (st : Step (stateOf n l card) c reply t) where
+module _ (n : ℕ) (l : List Sheet) (card : List ℕ) (k : Matches n l card) (c : Call) (reply : Response) (t : Kept)
+    (st : Step (stateOf n l card) c reply t) where
   pub answered : Answered n l c reply
   answered =
       let r = result n l card k c in
@@ -55,18 +59,30 @@ pub record Left (n : ℕ) (l : List Sheet) (calls : List Call) (replies : List R
   pub searches : AllSearched n l calls replies
   pub sum : held (after n l calls) + returned n l calls ≡ held l + granted n l calls
   -- what a place holds is what the history has last put there since the sheet's reserve
-  pub noted-so : (j p : ℕ) (m : Place) → Has p m (sheetAt l j) → Has p (lastPut j p m calls replies) (sheetAt (after n l calls) j)
+  pub noted-so : (j p : ℕ) (m : Place) → Has p m (sheetAt l j)
+      → Has p (lastPut j p m calls replies) (sheetAt (after n l calls) j)
 
-pub lists : (n : ℕ) (calls : List Call) (replies : List Response) (l : List Sheet) (card : List ℕ) (s t : Kept) → Matches n l card → s ≡ stateOf n l card
+pub lists : (n : ℕ) (calls : List Call) (replies : List Response) (l : List Sheet) (card : List ℕ) (s t : Kept)
+    → Matches n l card → s ≡ stateOf n l card
     → Runs s calls replies t → Left n l calls replies t
 lists n [] [] l card s t k e h =
-    record { card-left = card; state-left = h ∙ e; kept-left = k; answers = tt; searches = tt; sum = refl; noted-so = λ j p m was. was }
+    record {
+      card-left = card;
+      state-left = h ∙ e;
+      kept-left = k;
+      answers = tt;
+      searches = tt;
+      sum = refl;
+      noted-so =
+          λ j p m was. was;
+    }
 lists n [] (reply ∷ replies) l card s t k e h = absurd h
 lists n (c ∷ calls) [] l card s t k e h = absurd h
 lists n (c ∷ calls) (reply ∷ replies) l card s t k e h =
     let st : Step (stateOf n l card) c reply (h .0) = subst (λ (x : Kept). Step x c reply (h .0)) e (h .1) in
     let r : Result n l card c (verdictIn n l c) = result n l card k c in
-    let rest : Left n (stepIn n l c) calls replies t = lists n calls replies (stepIn n l c) (r .card-left) (h .0) t (r .kept-left) (st .1 ∙ r .state-left) (h .2) in
+    let rest : Left n (stepIn n l c) calls replies t =
+    lists n calls replies (stepIn n l c) (r .card-left) (h .0) t (r .kept-left) (st .1 ∙ r .state-left) (h .2) in
     record {
       card-left = rest .card-left;
       state-left = rest .state-left;
@@ -74,7 +90,9 @@ lists n (c ∷ calls) (reply ∷ replies) l card s t k e h =
       answers = (answered n l card k c reply (h .0) st, rest .answers);
       searches = (by-search n l card k c reply (h .0) st, rest .searches);
       sum = omega (arith, rest .sum, r .sum);
-      noted-so = λ j p m was. rest .noted-so j p _ (rw (ap (λ (x : Response). eqb (toldBy x .number) 0) (st .0) ∙ ap (λ (x : Told). eqb (x .number) 0) (r .told-so)) (r .noted-so j p m was));
+      noted-so = λ j p m was. rest .noted-so j p _
+          (rw (ap (λ (x : Response). eqb (toldBy x .number) 0) (st .0) ∙ ap (λ (x : Told). eqb (x .number) 0) (r .told-so))
+          (r .noted-so j p m was));
     }
 
 -- and every list has a run
@@ -103,7 +121,8 @@ entries-begun : (c : ℕ) → replicate c absent ≡ map entryIn (begun c)
 entries-begun zero = refl
 entries-begun (suc c) = ap (λ (r : List Entry). absent ∷ r) (entries-begun c)
 
-module _ (n c : ℕ) (card : List ℕ) (n-low : 1 ≤ n) (n-high : n ≤ 262144) (c-low : 1 ≤ c) (c-high : c ≤ 1024) (room : length card ≡ 512 * n) where
+module _ (n c : ℕ) (card : List ℕ) (n-low : 1 ≤ n) (n-high : n ≤ 262144) (c-low : 1 ≤ c) (c-high : c ≤ 1024)
+    (room : length card ≡ 512 * n) where
   pub kept-begun : Matches n (begun c) card
   kept-begun = record {
     low = n-low;
@@ -123,7 +142,9 @@ module _ (n c : ℕ) (card : List ℕ) (n-low : 1 ≤ n) (n-high : n ≤ 262144)
   state-begun =
       let spare : n ≡ spareIn n (begun c) = omega (arith, spare-is n (begun c) (kept-begun .sound), held-begun c) in
       let whole : freshMap n (wordsFor n) ≡ mapIn n (begun c) =
-      map-same (λ b. ltb b n) (freeIn n (begun c)) (wordsFor n) (λ b lt. sym (ap (λ (x : Bool). ltb b n && x) (eq-eqb (cover (begun c) b) 0 (cover-begun c b)) ∙ and-true (ltb b n))) in
+      map-same (λ b. ltb b n) (freeIn n (begun c)) (wordsFor n)
+      (λ b lt. sym (ap (λ (x : Bool). ltb b n && x) (eq-eqb (cover (begun c) b) 0 (cover-begun c b))
+      ∙ and-true (ltb b n))) in
       λ x. record { shape = record { blocks = n; free = spare x }; map = whole x; entries = entries-begun c x; card = card }
 
 -- ---- a complete sheet shows what was put
@@ -143,23 +164,32 @@ show-accepted : (n : ℕ) (l : List Sheet) (i s : ℕ) (xs : List (List ℕ)) �
     → (buffer : List ℕ) → length buffer ≡ 496 → verdictIn n l (on i (show p buffer)) ≡ accepted
 unfolding tableOf listed firstOf
 show-accepted n l i s xs e p lp buffer len =
-    rw (ap standingIn e, lt-leb (length l) i (listed-sheet l i s xs e), lt-leb (length xs) p lp, eq-eqb (length buffer) 496 len) refl
+    rw (
+      ap standingIn e,
+      lt-leb (length l) i (listed-sheet l i s xs e),
+      lt-leb (length xs) p lp,
+      eq-eqb (length buffer) 496 len,
+    ) refl
 
-module _ (n : ℕ) (l : List Sheet) (card : List ℕ) (k : Matches n l card) (i s : ℕ) (xs : List (List ℕ)) (e : sheetAt l i ≡ Complete s xs) (p : ℕ) (lp : p < length xs) where
+module _ (n : ℕ) (l : List Sheet) (card : List ℕ) (k : Matches n l card) (i s : ℕ) (xs : List (List ℕ))
+    (e : sheetAt l i ≡ Complete s xs) (p : ℕ) (lp : p < length xs) where
   pub place-of : placeAt l i p ≡ Payload (getD xs p [])
   place-of = ap (λ (x : Sheet). getD (placesIn x) p Blank) e ∙ payload-of xs p lp
 
   pub shown : (t : Kept) → t ≡ stateOf n l card → Gives t i p (getD xs p [])
   unfolding deedIn
   shown t at buffer len reply u st =
-      let st′ : Step (stateOf n l card) (on i (show p buffer)) reply u = subst (λ (x : Kept). Step x (on i (show p buffer)) reply u) at st in
+      let st′ : Step (stateOf n l card) (on i (show p buffer)) reply u =
+      subst (λ (x : Kept). Step x (on i (show p buffer)) reply u) at st in
       let a : Answered n l (on i (show p buffer)) reply = answered n l card k (on i (show p buffer)) reply u st′ in
-      a .told ∙ ap (λ (v : Verdict). settle v (done [] (bytesOf (placeAt l i p))) (refusedWith buffer (a .place))) (show-accepted n l i s xs e p lp buffer len)
+      a .told ∙ ap (λ (v : Verdict). settle v (done [] (bytesOf (placeAt l i p))) (refusedWith buffer (a .place)))
+      (show-accepted n l i s xs e p lp buffer len)
       ∙ ap (λ (x : Place). done [] (bytesOf x)) place-of
 
 -- ---- the claim
 
-module _ (n c : ℕ) (card : List ℕ) (n-low : 1 ≤ n) (n-high : n ≤ 262144) (c-low : 1 ≤ c) (c-high : c ≤ 1024) (room : length card ≡ 512 * n) (calls : List Call) where
+module _ (n c : ℕ) (card : List ℕ) (n-low : 1 ≤ n) (n-high : n ≤ 262144) (c-low : 1 ≤ c) (c-high : c ≤ 1024)
+    (room : length card ≡ 512 * n) (calls : List Call) where
   abbrev l : List Sheet
   l = after n (begun c) calls
 
@@ -181,15 +211,23 @@ module _ (n c : ℕ) (card : List ℕ) (n-low : 1 ≤ n) (n-high : n ≤ 262144)
   pub every-list : (replies : List Response) (t : Kept) → Runs (freshState n c card) calls replies t → Claim n c calls replies t
   every-list replies t runs =
       let w : Left n (begun c) calls replies t =
-      lists n calls replies (begun c) card (freshState n c card) t (kept-begun n c card n-low n-high c-low c-high room) (state-begun n c card n-low n-high c-low c-high room) runs in
+      lists n calls replies (begun c) card (freshState n c card) t (kept-begun n c card n-low n-high c-low c-high room)
+      (state-begun n c card n-low n-high c-low c-high room) runs in
       record {
         answers = w .answers;
         agrees = agreeing t (w .card-left) (w .state-left) (w .kept-left);
-        sum = omega (arith, w .sum, spare-is n l (w .kept-left .sound), held-begun c, ap (λ (x : Kept). x .shape .free) (w .state-left));
+        sum = omega (
+          arith,
+          w .sum,
+          spare-is n l (w .kept-left .sound),
+          held-begun c,
+          ap (λ (x : Kept). x .shape .free) (w .state-left),
+        );
         searches = w .searches;
         shows = λ i s xs e p lp. (
           getD xs p [],
-          sym (w .noted-so i p Blank (λ h. absurd (false≢true (subst (λ (x : Sheet). holding x ≡ true) (sheet-begun c i) h))) (ap holding e))
+          sym (w .noted-so i p Blank (λ h. absurd (false≢true (subst (λ (x : Sheet). holding x ≡ true) (sheet-begun c i) h)))
+              (ap holding e))
               ∙ place-of n l (w .card-left) (w .kept-left) i s xs e p lp,
           shown n l (w .card-left) (w .kept-left) i s xs e p lp t (w .state-left),
         );
@@ -199,9 +237,11 @@ module _ (n c : ℕ) (card : List ℕ) (n-low : 1 ≤ n) (n-high : n ≤ 262144)
   every-list-runs = has-run (freshState n c card) calls
 
 -- The same from the fresh call itself: what it left when it answered that it was done, and a card of 512·n bytes.
-pub every-list-from-fresh : (shape : Shape) (n : ℕ) (map : List ℕ) (entries : List Entry) (r : Outcome) (map′ : List ℕ) (entries′ : List Entry)
+pub every-list-from-fresh : (shape : Shape) (n : ℕ) (map : List ℕ) (entries : List Entry) (r : Outcome) (map′ : List ℕ)
+    (entries′ : List Entry)
     → Freshens shape n map entries r map′ entries′ → numberOf (r .answer) ≡ 0 → (card : List ℕ) → length card ≡ 512 * n
-    → (calls : List Call) (replies : List Response) (t : Kept) → Runs (leaving r map′ entries′ card) calls replies t → Claim n (length entries) calls replies t
+    → (calls : List Call) (replies : List Response) (t : Kept) → Runs (leaving r map′ entries′ card) calls replies t
+    → Claim n (length entries) calls replies t
 every-list-from-fresh shape n map entries r map′ entries′ freshened done-so card room calls replies t runs =
     let left = fresh-left shape n map entries r map′ entries′ freshened done-so in
     let limits : Limits n (length entries) = left .0 in

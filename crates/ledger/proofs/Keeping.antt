@@ -9,7 +9,8 @@ use mathlib.Core.List.{List, [], _∷_, _++_, map}
 use native.Mathlib.Nat.{not-suc-le-zero}
 use native.Mathlib.Omega.{arith}
 use lib.Dec.{eqb}
-use lib.ListN.{length, getD, set, replicate, length-set, length-map, length-append, length-replicate, List·getD-append, getD-replicate}
+use lib.ListN.{length, getD, set, replicate, length-set, length-map, length-append, length-replicate, List·getD-append}
+use lib.ListN.{getD-replicate}
 use lib.Seq.{getD-set-same, getD-set-other, getD-append-add}
 use borrow.Author.Tests.{eqb-true, eqb-false}
 use Rattle.map_blocks.specs.Blocks.{fit}
@@ -17,14 +18,17 @@ use Rattle.map_blocks.specs.Maps.{inRun, marked}
 use Rattle.laws.proofs.Bools.{clash, order}
 use Rattle.blocks_of_card.specs.Card.{blockOf, withBlock, zeroed}
 use Rattle.block_seals.specs.Sealed.{sealed}
-use Rattle.blocks_of_card.proofs.Card.{same-block, other-block, length-withBlock, length-zeroed, zeroed-inside, zeroed-before, zeroed-after}
+use Rattle.blocks_of_card.proofs.Card.{same-block, other-block, length-withBlock, length-zeroed, zeroed-inside, zeroed-before}
+use Rattle.blocks_of_card.proofs.Card.{zeroed-after}
 use Rattle.block_seals.proofs.Sealed.{sealed-length}
 use Rattle.catalogue.specs.declared.Entry.{Entry}
 use Rattle.refusals.proofs.Room.{fit-inside}
-use Rattle.ledger.specs.Ledger.{Place, Blank, Payload, Sheet, Absent, Open, Complete, startIn, lengthIn, placesIn, bytesOf, sheetAt, placeAt, covers, cover, freeIn, spareIn}
+use Rattle.ledger.specs.Ledger.{Place, Blank, Payload, Sheet, Absent, Open, Complete, startIn, lengthIn, placesIn}
+use Rattle.ledger.specs.Ledger.{bytesOf, sheetAt, placeAt, covers, cover, freeIn, spareIn}
 use Rattle.ledger.specs.Claim.{entryIn, blockIn}
 use Rattle.ledger.proofs.Agreement.{mapIn, Matches}
-use Rattle.ledger.proofs.Cover.{in-run, run-in, covers-in, covers-out, covers-absent, cover-set, cover-at, cover-two, held-set}
+use Rattle.ledger.proofs.Cover.{in-run, run-in, covers-in, covers-out, covers-absent, cover-set, cover-at, cover-two}
+use Rattle.ledger.proofs.Cover.{held-set}
 use Rattle.ledger.proofs.Listed.{spare-is}
 use Rattle.ledger.proofs.Marks.{map-kept, map-taken, map-given}
 use Rattle.ledger.proofs.Sheets.{Fine, Sound, set-cases, fit-free, sound-none, reserved, grown, completed, putting}
@@ -45,7 +49,8 @@ pub record Changed (n : ℕ) (l : List Sheet) (i : ℕ) (x : Sheet) (spare : ℕ
   pub kept-left : Matches n (set l i x) card
 
 module _ (n : ℕ) (l : List Sheet) (card : List ℕ) (k : Matches n l card) (i : ℕ) (lt : i < length l) where
-  keep : (x : Sheet) (card′ : List ℕ) → Sound n (set l i x) → length card′ ≡ 512 * n → Filled card′ i x → ((j : ℕ) → j ≢ i → Filled card′ j (sheetAt l j))
+  keep : (x : Sheet) (card′ : List ℕ) → Sound n (set l i x) → length card′ ≡ 512 * n → Filled card′ i x
+      → ((j : ℕ) → j ≢ i → Filled card′ j (sheetAt l j))
       → Matches n (set l i x) card′
   keep x card′ ok room new old =
       let len : length (set l i x) ≡ length l = length-set l i x in
@@ -67,7 +72,8 @@ module _ (n : ℕ) (l : List Sheet) (card : List ℕ) (k : Matches n l card) (i 
   cover-rest x b e = omega (arith, cover-set l i x b lt, e)
 
   -- no sheet has a block in a run that is free
-  others : (s m : ℕ) → s + m ≤ n → ((b : ℕ) → s ≤ b → b < s + m → cover l b ≡ 0) → (j : ℕ) → Filled (zeroed card s m) j (sheetAt l j)
+  others : (s m : ℕ) → s + m ≤ n → ((b : ℕ) → s ≤ b → b < s + m → cover l b ≡ 0) → (j : ℕ)
+      → Filled (zeroed card s m) j (sheetAt l j)
   others s m inside unheld j p lp = go (order b s)
     where
       b : ℕ
@@ -105,16 +111,24 @@ module _ (n : ℕ) (l : List Sheet) (card : List ℕ) (k : Matches n l card) (i 
         spare-left = omega (arith, spare-set x ok);
         map-left =
             map-taken n l (set l i x) s m inside
-            (λ b e q. let r = in-run s m b e in omega (arith, cover-set l i x b lt, bare b, covers-in x b (r .0) (omega (arith, r .1))))
-            (λ b e. cover-rest x b (covers-out x b (λ r. clash (inRun s m b) (run-in s m b (r .0) (omega (arith, r .1))) e) ∙ sym (bare b)));
+            (λ b e q. let r = in-run s m b e in omega (
+              arith,
+              cover-set l i x b lt,
+              bare b,
+              covers-in x b (r .0) (omega (arith, r .1)),
+            ))
+            (λ b e. cover-rest x b (covers-out x b (λ r. clash (inRun s m b) (run-in s m b (r .0) (omega (arith, r .1))) e)
+            ∙ sym (bare b)));
         kept-left =
             keep x (zeroed card s m) ok (length-zeroed card s m fits ∙ k .room)
-            (λ p lp. zeroed-inside card s m (s + p) fits (omega arith) (omega arith) ∙ sym (ap (blockIn i p) (getD-replicate m p Blank Blank (omega arith))))
+            (λ p lp. zeroed-inside card s m (s + p) fits (omega arith) (omega arith)
+            ∙ sym (ap (blockIn i p) (getD-replicate m p Blank Blank (omega arith))))
             (λ j ne. others s m inside (fit-free n l m s f) j);
       }
 
   -- sheet i becomes one that has the same places, the card as it was
-  pub keep-places : (x : Sheet) → Sound n (set l i x) → startIn x ≡ startIn (sheetAt l i) → lengthIn x ≡ lengthIn (sheetAt l i) → placesIn x ≡ placesIn (sheetAt l i)
+  pub keep-places : (x : Sheet) → Sound n (set l i x) → startIn x ≡ startIn (sheetAt l i) → lengthIn x ≡ lengthIn (sheetAt l i)
+      → placesIn x ≡ placesIn (sheetAt l i)
       → Changed n l i x (spareIn n l) (mapIn n l) card
   keep-places x ok es el ep =
       record {
@@ -124,11 +138,13 @@ module _ (n : ℕ) (l : List Sheet) (card : List ℕ) (k : Matches n l card) (i 
       }
 
   -- sheet i gives its blocks back
-  pub keep-release : Changed n l i Absent (spareIn n l + lengthIn (sheetAt l i)) (marked (mapIn n l) (startIn (sheetAt l i)) (lengthIn (sheetAt l i)) true) card
+  pub keep-release : Changed n l i Absent (spareIn n l + lengthIn (sheetAt l i))
+      (marked (mapIn n l) (startIn (sheetAt l i)) (lengthIn (sheetAt l i)) true) card
   keep-release =
       let x : Sheet = sheetAt l i in
       let inside : startIn x + lengthIn x ≤ n = k .sound .fine i .inside in
-      let ok : Sound n (set l i Absent) = sound-none n l (k .sound) i lt Absent (record { inside = omega arith; needed = omega arith; sized = λ p. tt }) refl in
+      let ok : Sound n (set l i Absent) = sound-none n l (k .sound) i lt Absent
+      (record { inside = omega arith; needed = omega arith; sized = λ p. tt }) refl in
       record {
         spare-left = omega (arith, spare-set Absent ok);
         map-left =
@@ -137,20 +153,24 @@ module _ (n : ℕ) (l : List Sheet) (card : List ℕ) (k : Matches n l card) (i 
               omega (arith, r .1),
               omega (arith, cover-set l i Absent b lt, covers-absent b, covers-in x b (r .0) (r .1), k .sound .once b),
             ))
-            (λ b e. cover-rest Absent b (covers-absent b ∙ sym (covers-out x b (λ r. clash (inRun (startIn x) (lengthIn x) b) (run-in (startIn x) (lengthIn x) b (r .0) (r .1)) e))));
+            (λ b e. cover-rest Absent b (covers-absent b
+            ∙ sym (covers-out x b (λ r. clash (inRun (startIn x) (lengthIn x) b)
+            (run-in (startIn x) (lengthIn x) b (r .0) (r .1)) e))));
         kept-left = keep Absent card ok (k .room) (λ p lp. absurd (not-suc-le-zero lp)) (λ j ne. k .blocks j);
       }
 
   module _ (s : ℕ) (ps : List Place) (was : sheetAt l i ≡ Open s ps) where
     had : (p : ℕ) → p < length ps → blockOf card (s + p) ≡ blockIn i p (getD ps p Blank)
-    had p = subst (λ (y : Sheet). p < lengthIn y → blockOf card (startIn y + p) ≡ blockIn i p (getD (placesIn y) p Blank)) was (k .blocks i p)
+    had p = subst (λ (y : Sheet). p < lengthIn y → blockOf card (startIn y + p) ≡ blockIn i p (getD (placesIn y) p Blank)) was
+        (k .blocks i p)
 
     held-before : lengthIn (sheetAt l i) ≡ length ps
     held-before = ap lengthIn was
 
     -- sheet i takes the blocks after its extent
     pub keep-grow : (m : ℕ) → 0 < m → fit (freeIn n l) 0 n m (s + length ps) ≡ true
-        → Changed n l i (Open s (ps ++ replicate m Blank)) (spareIn n l - m) (marked (mapIn n l) (s + length ps) m false) (zeroed card (s + length ps) m)
+        → Changed n l i (Open s (ps ++ replicate m Blank)) (spareIn n l - m) (marked (mapIn n l) (s + length ps) m false)
+        (zeroed card (s + length ps) m)
     keep-grow m pos f =
         record {
           spare-left = omega (arith, spare-set x ok, held-before, wide);
@@ -201,25 +221,30 @@ module _ (n : ℕ) (l : List Sheet) (card : List ℕ) (k : Matches n l card) (i 
                 covers-out x b (λ r. two r (order b at) q)
                 ∙ sym (covers-out (Open s ps) b (λ r. clash (inRun s (length ps) b) (run-in s (length ps) b (r .0) (r .1)) q))
 
-        new : (p : ℕ) → (p < length ps) ⊎ (length ps ≤ p) → p < length ps + m → blockOf (zeroed card at m) (s + p) ≡ blockIn i p (getD (ps ++ replicate m Blank) p Blank)
+        new : (p : ℕ) → (p < length ps) ⊎ (length ps ≤ p) → p < length ps + m
+            → blockOf (zeroed card at m) (s + p) ≡ blockIn i p (getD (ps ++ replicate m Blank) p Blank)
         new p (inl lp) h =
-            zeroed-before card at m (s + p) fits (omega arith) ∙ had p lp ∙ ap (blockIn i p) (sym (List·getD-append ps (replicate m Blank) Blank p lp))
+            zeroed-before card at m (s + p) fits (omega arith) ∙ had p lp
+            ∙ ap (blockIn i p) (sym (List·getD-append ps (replicate m Blank) Blank p lp))
         new p (inr ge) h =
             let q : length ps + (p - length ps) ≡ p = omega arith in
             let g : getD (ps ++ replicate m Blank) p Blank ≡ Blank =
-            ap (λ (j : ℕ). getD (ps ++ replicate m Blank) j Blank) (sym q) ∙ getD-append-add ps (replicate m Blank) (p - length ps) Blank
+            ap (λ (j : ℕ). getD (ps ++ replicate m Blank) j Blank) (sym q)
+            ∙ getD-append-add ps (replicate m Blank) (p - length ps) Blank
             ∙ getD-replicate m (p - length ps) Blank Blank (omega arith) in
             zeroed-inside card at m (s + p) fits (omega arith) (omega arith) ∙ sym (ap (blockIn i p) g)
 
     -- every place was filled
-    pub keep-complete : map Payload (map bytesOf ps) ≡ ps → Changed n l i (Complete s (map bytesOf ps)) (spareIn n l) (mapIn n l) card
+    pub keep-complete : map Payload (map bytesOf ps) ≡ ps
+        → Changed n l i (Complete s (map bytesOf ps)) (spareIn n l) (mapIn n l) card
     keep-complete full =
         keep-places (Complete s (map bytesOf ps)) (completed n l (k .sound) i lt s ps was full) (sym (ap startIn was))
         (length-map ps bytesOf ∙ sym held-before) (full ∙ sym (ap placesIn was))
 
     -- a place is filled
     pub keep-put : (p : ℕ) (payload : List ℕ) → p < length ps → length payload ≡ 496
-        → Changed n l i (Open s (set ps p (Payload payload))) (spareIn n l) (mapIn n l) (withBlock card (s + p) (sealed i p payload))
+        → Changed n l i (Open s (set ps p (Payload payload))) (spareIn n l) (mapIn n l)
+        (withBlock card (s + p) (sealed i p payload))
     keep-put p payload lp len =
         record {
           spare-left = omega (arith, spare-set x ok, held-before, w);
@@ -227,7 +252,8 @@ module _ (n : ℕ) (l : List Sheet) (card : List ℕ) (k : Matches n l card) (i 
           kept-left =
               keep x card′ ok (length-withBlock card bytes (s + p) big whole ∙ k .room)
               (λ q lq. new q (eqb q p) refl (omega (arith, w)))
-              (λ j ne q lq. other-block card bytes (s + p) big whole (startIn (sheetAt l j) + q) (elsewhere j ne q lq) ∙ k .blocks j q lq);
+              (λ j ne q lq. other-block card bytes (s + p) big whole (startIn (sheetAt l j) + q) (elsewhere j ne q lq)
+              ∙ k .blocks j q lq);
         }
       where
         x : Sheet
@@ -265,8 +291,10 @@ module _ (n : ℕ) (l : List Sheet) (card : List ℕ) (k : Matches n l card) (i 
               covers-in (Open s ps) (s + p) (omega arith) (omega arith),
             )
 
-        new : (q : ℕ) (t : Bool) → eqb q p ≡ t → q < length ps → blockOf card′ (s + q) ≡ blockIn i q (getD (set ps p (Payload payload)) q Blank)
-        new q true e lq = rw (eqb-true q p e, getD-set-same ps p (Payload payload) Blank lp) (same-block card bytes (s + p) big whole)
+        new : (q : ℕ) (t : Bool) → eqb q p ≡ t → q < length ps
+            → blockOf card′ (s + q) ≡ blockIn i q (getD (set ps p (Payload payload)) q Blank)
+        new q true e lq = rw (eqb-true q p e, getD-set-same ps p (Payload payload) Blank lp)
+            (same-block card bytes (s + p) big whole)
         new q false e lq =
             other-block card bytes (s + p) big whole (s + q) (λ r. omega (arith, eqb-false q p e)) ∙ had q lq
             ∙ ap (blockIn i q) (sym (getD-set-other ps p q (Payload payload) Blank (eqb-false q p e)))

@@ -1,4 +1,5 @@
--- The laws that the claim is proved by: of the ledger alone (Cover, Rows, Sheets, Listed, Search), of the state that it calls for
+-- The laws that the claim is proved by: of the ledger alone (Cover, Rows, Sheets, Listed, Search), of the state that it calls
+-- for
 -- (Agreement, Marks, Keeping), and of the calls on that state (Results what they share, step each by itself). Demand has the
 -- theorem, Contracts that the steps are the public calls' contracts, Savable that every state that a list leaves can be saved.
 pub mod Agreement

@@ -18,7 +18,8 @@ use Rattle.catalogue_standings.specs.Rows.{row, firstOf}
 use Rattle.catalogue_standings.specs.Standings.{isDamaged}
 use Rattle.refusals.specs.Table.{Ask, on, rowsFor, tableOf}
 use Rattle.catalogue_standings.specs.Searches.{none}
-use Rattle.ledger.specs.Ledger.{Place, Blank, Payload, Sheet, Absent, Paused, Open, Complete, standingIn, lengthIn, placesIn, isBlank, bytesOf, sheetAt, placeAt, spareIn, viewIn, verdictIn}
+use Rattle.ledger.specs.Ledger.{Place, Blank, Payload, Sheet, Absent, Paused, Open, Complete, standingIn, lengthIn}
+use Rattle.ledger.specs.Ledger.{placesIn, isBlank, bytesOf, sheetAt, placeAt, spareIn, viewIn, verdictIn}
 use Rattle.ledger.proofs.Cover.{held, held-set, spare-and-held}
 use Rattle.ledger.proofs.Rows.{Never, never-listed}
 use Rattle.ledger.proofs.Sheets.{Sound, refilled}
@@ -51,12 +52,14 @@ found-fit f n k h = least-passes (fit f 0 n k) 0 n (startAt (leastFit f 0 n k)) 
     is-found Nothing e = absurd (true≢false e)
 
 -- every place of an open sheet is filled, where no place is blank
-pub full : (l : List Sheet) (i s : ℕ) (ps : List Place) → sheetAt l i ≡ Open s ps → not (all (λ p. not (isBlank (placeAt l i p))) 0 (lengthIn (sheetAt l i))) ≡ false
+pub full : (l : List Sheet) (i s : ℕ) (ps : List Place) → sheetAt l i ≡ Open s ps
+    → not (all (λ p. not (isBlank (placeAt l i p))) 0 (lengthIn (sheetAt l i))) ≡ false
     → map Payload (map bytesOf ps) ≡ ps
 full l i s ps was h =
     let every : all (λ p. not (isBlank (getD ps p Blank))) 0 (length ps) ≡ true =
     subst (λ (x : Sheet). all (λ p. not (isBlank (getD (placesIn x) p Blank))) 0 (lengthIn x) ≡ true) was (not-false _ h) in
-    refilled ps (λ p lp. not-true-is (isBlank (getD ps p Blank)) (all-elim (λ p. not (isBlank (getD ps p Blank))) 0 (length ps) every p (omega arith) (omega arith)))
+    refilled ps (λ p lp. not-true-is (isBlank (getD ps p Blank))
+    (all-elim (λ p. not (isBlank (getD ps p Blank))) 0 (length ps) every p (omega arith) (omega arith)))
   where
     not-true-is : (t : Bool) → not t ≡ true → t ≡ false
     not-true-is true e = absurd (true≢false (sym e))
@@ -67,12 +70,15 @@ module _ (n : ℕ) (l : List Sheet) (ok : Sound n l) where
   spare-is = spare-and-held n l (ok .once) (λ i. ok .fine i .inside)
 
   -- what is granted was spare
-  pub spared : (i k : ℕ) (x : Sheet) → i < length l → lengthIn x ≡ k + lengthIn (sheetAt l i) → Sound n (set l i x) → ltb (spareIn n l) k ≡ false
+  pub spared : (i k : ℕ) (x : Sheet) → i < length l → lengthIn x ≡ k + lengthIn (sheetAt l i) → Sound n (set l i x)
+      → ltb (spareIn n l) k ≡ false
   spared i k x h e then =
       le-ltb (spareIn n l) k
       (omega (arith, spare-is, held-set l i x h, spare-and-held n (set l i x) (then .once) (λ j. then .fine j .inside)))
 
   -- no dropped row holds, if none of those behind the opening does
-  pub listed-same : (i : ℕ) (a : Ask) → Never (row 2 (leb (length l) i) ∷ []) (rowsFor (viewIn n l i) a) → firstOf (tableOf (viewIn n l i) (on i a)) ≡ verdictIn n l (on i a)
+  pub listed-same : (i : ℕ) (a : Ask) → Never (row 2 (leb (length l) i) ∷ []) (rowsFor (viewIn n l i) a)
+      → firstOf (tableOf (viewIn n l i) (on i a)) ≡ verdictIn n l (on i a)
   unfolding tableOf firstOf
-  listed-same i a h = never-listed [] (tableOf (viewIn n l i) (on i a)) refl (λ p. refl, (λ p. sheet-undamaged (sheetAt l i), h))
+  listed-same i a h = never-listed [] (tableOf (viewIn n l i) (on i a)) refl
+      (λ p. refl, (λ p. sheet-undamaged (sheetAt l i), h))

@@ -23,7 +23,8 @@ use Rattle.refusals.specs.Effects.{outOf, refusalOut}
 use Rattle.refusals.specs.Table.{Ask, Call, on}
 use Rattle.refusals.specs.declared.Out.{Out}
 use Rattle.card.specs.Calls.{told, outcomeOf}
-use Rattle.ledger.specs.Ledger.{Place, Blank, Sheet, Absent, lengthIn, sheetAt, placeAt, spareIn, sheetOf, rowsIn, verdictIn, deedIn, Told, done, refusedWith}
+use Rattle.ledger.specs.Ledger.{Place, Blank, Sheet, Absent, lengthIn, sheetAt, placeAt, spareIn, sheetOf, rowsIn}
+use Rattle.ledger.specs.Ledger.{verdictIn, deedIn, Told, done, refusedWith}
 use Rattle.ledger.specs.Claim.{entryIn, noted, noteOf, SearchedBy}
 use Rattle.ledger.specs.Steps.{End, ending, endOf, responseOf, stateOn, toldBy}
 use Rattle.ledger.proofs.Agreement.{mapIn, stateOf, Matches}
@@ -39,17 +40,23 @@ pub record Result (n : ℕ) (l : List Sheet) (card : List ℕ) (c : Call) (v : V
   pub kept-left : Matches n (settle v (deedIn n l c .ledger) (λ number. l)) card-left
   pub place : ℕ
   pub blank : v ≡ refused 9 → (place < lengthIn (sheetAt l (sheetOf c))) × (placeAt l (sheetOf c) place ≡ Blank)
-  pub told-so : toldBy (responseOf (endOf (stateOf n l card) c)) ≡ settle v (done (deedIn n l c .values) (deedIn n l c .left)) (refusedWith (deedIn n l c .brought) place)
-  pub sum : held (settle v (deedIn n l c .ledger) (λ number. l)) + settle v (deedIn n l c .returns) (λ number. 0) ≡ held l + settle v (deedIn n l c .grants) (λ number. 0)
+  pub told-so : toldBy (responseOf (endOf (stateOf n l card) c))
+      ≡ settle v (done (deedIn n l c .values) (deedIn n l c .left)) (refusedWith (deedIn n l c .brought) place)
+  pub sum : held (settle v (deedIn n l c .ledger) (λ number. l)) + settle v (deedIn n l c .returns) (λ number. 0)
+      ≡ held l + settle v (deedIn n l c .grants) (λ number. 0)
   pub noted-so : (j p : ℕ) (m : Place) → Has p m (sheetAt l j)
-      → Has p (cond (eqb (settle v (done (deedIn n l c .values) (deedIn n l c .left)) (refusedWith (deedIn n l c .brought) place) .number) 0) (noted j p m (noteOf c)) m)
+      → Has p (cond
+      (eqb (settle v (done (deedIn n l c .values) (deedIn n l c .left))
+      (refusedWith (deedIn n l c .brought) place) .number) 0) (noted j p m (noteOf c)) m)
       (sheetAt (settle v (deedIn n l c .ledger) (λ number. l)) j)
-  pub searched : SearchedBy n l c (settle v (done (deedIn n l c .values) (deedIn n l c .left)) (refusedWith (deedIn n l c .brought) place))
+  pub searched : SearchedBy n l c (settle v (done (deedIn n l c .values) (deedIn n l c .left))
+      (refusedWith (deedIn n l c .brought) place))
 
 module _ (n : ℕ) (l : List Sheet) (card : List ℕ) where
   -- what a call comes to where it leaves the state that ledger l′ calls for
   abbrev pub endIn : List Sheet → List ℕ → Answer → List ℕ → End
-  endIn l′ card′ answer buffer = ending (told (record { blocks = n; free = spareIn n l′ }) answer) (mapIn n l′) (map entryIn l′) card′ buffer
+  endIn l′ card′ answer buffer = ending (told (record { blocks = n; free = spareIn n l′ }) answer) (mapIn n l′)
+      (map entryIn l′) card′ buffer
 
   -- an accepted call, which comes to e
   pub record Done (c : Call) (e : End) : Type 0 where
@@ -59,7 +66,8 @@ module _ (n : ℕ) (l : List Sheet) (card : List ℕ) where
     pub says-so : (numberOf answer ≡ 0) × (valuesOf answer ≡ deedIn n l c .values)
     pub kept-left : Matches n (deedIn n l c .ledger) card-left
     pub sum : held (deedIn n l c .ledger) + deedIn n l c .returns ≡ held l + deedIn n l c .grants
-    pub noted-so : (j p : ℕ) (m : Place) → Has p m (sheetAt l j) → Has p (noted j p m (noteOf c)) (sheetAt (deedIn n l c .ledger) j)
+    pub noted-so : (j p : ℕ) (m : Place) → Has p m (sheetAt l j)
+        → Has p (noted j p m (noteOf c)) (sheetAt (deedIn n l c .ledger) j)
 
   -- a refused call, which comes to `ends number`: all is as it was, and with 9 goes a blank place
   pub record Back (c : Call) (ends : ℕ → End) : Type 0 where
@@ -67,20 +75,27 @@ module _ (n : ℕ) (l : List Sheet) (card : List ℕ) where
     pub blank : verdictIn n l c ≡ refused 9 → (place < lengthIn (sheetAt l (sheetOf c))) × (placeAt l (sheetOf c) place ≡ Blank)
     pub answer : ℕ → Answer
     pub ends-so : (number : ℕ) → ends number ≡ endIn l card (answer number) (deedIn n l c .brought)
-    pub says-so : (number : ℕ) → verdictIn n l c ≡ refused number → (numberOf (answer number) ≡ number) × (valuesOf (answer number) ≡ cond (eqb number 9) (place ∷ []) [])
+    pub says-so : (number : ℕ) → verdictIn n l c ≡ refused number
+        → (numberOf (answer number) ≡ number) × (valuesOf (answer number) ≡ cond (eqb number 9) (place ∷ []) [])
 
   module _ (k : Matches n l card) where
-    pub result-of : (c : Call) (ends : Verdict → End) → endOf (stateOf n l card) c ≡ ends (verdictIn n l c) → says 0 (rowsIn n l c) ≡ false
+    pub result-of : (c : Call) (ends : Verdict → End) → endOf (stateOf n l card) c ≡ ends (verdictIn n l c)
+        → says 0 (rowsIn n l c) ≡ false
         → (verdictIn n l c ≡ accepted → Done c (ends accepted)) → Back c (λ number. ends (refused number))
-        → ((p : ℕ) → SearchedBy n l c (settle (verdictIn n l c) (done (deedIn n l c .values) (deedIn n l c .left)) (refusedWith (deedIn n l c .brought) p)))
+        → ((p : ℕ)
+        → SearchedBy n l c (settle (verdictIn n l c) (done (deedIn n l c .values) (deedIn n l c .left))
+        (refusedWith (deedIn n l c .brought) p)))
         → Result n l card c (verdictIn n l c)
     result-of c ends is zero accept refuse sought = go (verdictIn n l c) refl sought
       where
         tells : (a : Answer) (buffer : List ℕ) (number : ℕ) (values : List ℕ) → (numberOf a ≡ number) × (valuesOf a ≡ values)
-            → _≡_ {A = Told} (record { number = numberOf a; values = valuesOf a; buffer = buffer }) (record { number = number; values = values; buffer = buffer })
+            → _≡_ {A = Told} (record { number = numberOf a; values = valuesOf a; buffer = buffer })
+            (record { number = number; values = values; buffer = buffer })
         tells a buffer number values h = λ t. record { number = h .0 t; values = h .1 t; buffer = buffer }
 
-        go : (v : Verdict) → verdictIn n l c ≡ v → ((p : ℕ) → SearchedBy n l c (settle v (done (deedIn n l c .values) (deedIn n l c .left)) (refusedWith (deedIn n l c .brought) p)))
+        go : (v : Verdict) → verdictIn n l c ≡ v → ((p : ℕ)
+            → SearchedBy n l c (settle v (done (deedIn n l c .values) (deedIn n l c .left))
+            (refusedWith (deedIn n l c .brought) p)))
             → Result n l card c v
         go accepted h sought =
             let d = accept h in
@@ -91,7 +106,8 @@ module _ (n : ℕ) (l : List Sheet) (card : List ℕ) where
               kept-left = d .kept-left;
               place = refuse .place;
               blank = λ nine. refuse .blank (h ∙ nine);
-              told-so = ap (λ (e : End). toldBy (responseOf e)) so ∙ tells (d .answer) (deedIn n l c .left) 0 (deedIn n l c .values) (d .says-so);
+              told-so = ap (λ (e : End). toldBy (responseOf e)) so
+                  ∙ tells (d .answer) (deedIn n l c .left) 0 (deedIn n l c .values) (d .says-so);
               sum = d .sum;
               noted-so = d .noted-so;
               searched = sought (refuse .place);
@@ -104,14 +120,17 @@ module _ (n : ℕ) (l : List Sheet) (card : List ℕ) where
               kept-left = k;
               place = refuse .place;
               blank = λ nine. refuse .blank (h ∙ nine);
-              told-so = ap (λ (e : End). toldBy (responseOf e)) so ∙ tells (refuse .answer number) (deedIn n l c .brought) number (cond (eqb number 9) (refuse .place ∷ []) []) (refuse .says-so number h);
+              told-so = ap (λ (e : End). toldBy (responseOf e)) so
+                  ∙ tells (refuse .answer number) (deedIn n l c .brought) number (cond (eqb number 9) (refuse .place ∷ []) [])
+                  (refuse .says-so number h);
               sum = refl;
               noted-so = λ j p m was. rw (ne-eqb number 0 (λ z. never-says 0 (rowsIn n l c) zero (h ∙ ap refused z))) was;
               searched = sought (refuse .place);
             }
 
     -- a call without a row 9
-    pub plain-back : (c : Call) (ends : ℕ → End) → says 9 (rowsIn n l c) ≡ false → ((number : ℕ) → ends number ≡ endIn l card (Refused number) (deedIn n l c .brought)) → Back c ends
+    pub plain-back : (c : Call) (ends : ℕ → End) → says 9 (rowsIn n l c) ≡ false
+        → ((number : ℕ) → ends number ≡ endIn l card (Refused number) (deedIn n l c .brought)) → Back c ends
     plain-back c ends unheard so = record {
       place = 0;
       blank = λ nine. absurd (never-says 9 (rowsIn n l c) unheard nine);
@@ -119,7 +138,8 @@ module _ (n : ℕ) (l : List Sheet) (card : List ℕ) where
       ends-so = so;
       says-so = λ number h. (
         refl,
-        ap {B = List ℕ} (λ (t : Bool). cond t (0 ∷ []) []) (sym (ne-eqb number 9 (λ q. never-says 9 (rowsIn n l c) unheard (h ∙ ap refused q)))),
+        ap {B = List ℕ} (λ (t : Bool). cond t (0 ∷ []) [])
+            (sym (ne-eqb number 9 (λ q. never-says 9 (rowsIn n l c) unheard (h ∙ ap refused q)))),
       );
     }
 
@@ -129,12 +149,17 @@ module _ (n : ℕ) (l : List Sheet) (card : List ℕ) where
     e i = entryAt (map entryIn l) i
 
     abbrev pub outEnd : ℕ → Out → List ℕ → List ℕ → End
-    outEnd i out marks card′ = ending (outcomeOf (record { blocks = n; free = spareIn n l }) out) marks (set (map entryIn l) i (out .entry)) card′ []
+    outEnd i out marks card′ = ending (outcomeOf (record { blocks = n; free = spareIn n l }) out) marks
+        (set (map entryIn l) i (out .entry)) card′ []
 
-    pub stored-again : (i : ℕ) (answer : Answer) → outEnd i (outOf (spareIn n l) (e i) answer) (mapIn n l) card ≡ endIn l card answer []
-    stored-again i answer = ap (λ (es : List Entry). ending (told (record { blocks = n; free = spareIn n l }) answer) (mapIn n l) es card []) (stored-back (map entryIn l) i)
+    pub stored-again : (i : ℕ) (answer : Answer)
+        → outEnd i (outOf (spareIn n l) (e i) answer) (mapIn n l) card ≡ endIn l card answer []
+    stored-again i answer =
+        ap (λ (es : List Entry). ending (told (record { blocks = n; free = spareIn n l }) answer) (mapIn n l) es card [])
+        (stored-back (map entryIn l) i)
 
-    pub out-back : (i number : ℕ) → outEnd i (refusalOut (spareIn n l) (e i) number) (mapIn n l) card ≡ endIn l card (Refused number) []
+    pub out-back : (i number : ℕ) → outEnd i (refusalOut (spareIn n l) (e i) number) (mapIn n l) card
+        ≡ endIn l card (Refused number) []
     out-back i number = stored-again i (Refused number)
 
     -- ---- an accepted call that changes one sheet
@@ -152,7 +177,8 @@ module _ (n : ℕ) (l : List Sheet) (card : List ℕ) where
       pub answer : Answer
       pub changed : Changed n l i sheet spare marks card-left
       pub stored : entry ≡ entryIn sheet
-      pub ends-so : end ≡ ending (told (record { blocks = n; free = spare }) answer) marks (set (map entryIn l) i entry) card-left (deedIn n l (on i a) .left)
+      pub ends-so : end ≡ ending (told (record { blocks = n; free = spare }) answer) marks
+          (set (map entryIn l) i entry) card-left (deedIn n l (on i a) .left)
       pub says-so : (numberOf answer ≡ 0) × (valuesOf answer ≡ deedIn n l (on i a) .values)
       -- the blocks that it has now, and what is noted of its places and of no other sheet's
       pub moved : lengthIn sheet + deedIn n l (on i a) .returns ≡ lengthIn (sheetAt l i) + deedIn n l (on i a) .grants
@@ -163,7 +189,8 @@ module _ (n : ℕ) (l : List Sheet) (card : List ℕ) where
     one-sheet i a end o = record {
       card-left = o .card-left;
       answer = o .answer;
-      ends-so = o .ends-so ∙ left ∙ ap (λ (l′ : List Sheet). endIn l′ (o .card-left) (o .answer) (deedIn n l (on i a) .left)) (sym (o .becomes));
+      ends-so = o .ends-so ∙ left ∙ ap (λ (l′ : List Sheet). endIn l′ (o .card-left) (o .answer) (deedIn n l (on i a) .left))
+          (sym (o .becomes));
       says-so = o .says-so;
       kept-left = rw (o .becomes) (o .changed .kept-left);
       sum = omega (arith, o .moved, held-set l i (o .sheet) (o .inside), ap held (o .becomes));
@@ -173,19 +200,28 @@ module _ (n : ℕ) (l : List Sheet) (card : List ℕ) where
         stored : set (map entryIn l) i (o .entry) ≡ map entryIn (set l i (o .sheet))
         stored = ap (set (map entryIn l) i) (o .stored) ∙ entries-set l i (o .sheet)
 
-        left : ending (told (record { blocks = n; free = o .spare }) (o .answer)) (o .marks) (set (map entryIn l) i (o .entry)) (o .card-left) (deedIn n l (on i a) .left)
+        left : ending (told (record { blocks = n; free = o .spare }) (o .answer)) (o .marks) (set (map entryIn l) i (o .entry))
+            (o .card-left) (deedIn n l (on i a) .left)
             ≡ endIn (set l i (o .sheet)) (o .card-left) (o .answer) (deedIn n l (on i a) .left)
-        left = λ t. ending (told (record { blocks = n; free = o .changed .spare-left t }) (o .answer)) (o .changed .map-left t) (stored t) (o .card-left) (deedIn n l (on i a) .left)
+        left = λ t. ending (told (record { blocks = n; free = o .changed .spare-left t }) (o .answer)) (o .changed .map-left t)
+            (stored t) (o .card-left) (deedIn n l (on i a) .left)
 
-        go : (j p : ℕ) (m : Place) → Has p m (sheetAt l j) → (t : Bool) → eqb j i ≡ t → Has p (noted j p m (noteOf (on i a))) (sheetAt (set l i (o .sheet)) j)
+        go : (j p : ℕ) (m : Place) → Has p m (sheetAt l j) → (t : Bool) → eqb j i ≡ t
+            → Has p (noted j p m (noteOf (on i a))) (sheetAt (set l i (o .sheet)) j)
         go j p m was true q =
-            rw (eqb-true j i q, getD-set-same l i (o .sheet) Absent (o .inside)) (o .noted-here p m (subst (λ (i′ : ℕ). Has p m (sheetAt l i′)) (eqb-true j i q) was))
-        go j p m was false q = rw (getD-set-other l i j (o .sheet) Absent (eqb-false j i q), o .noted-there j p m (eqb-false j i q)) was
+            rw (eqb-true j i q, getD-set-same l i (o .sheet) Absent (o .inside))
+            (o .noted-here p m (subst (λ (i′ : ℕ). Has p m (sheetAt l i′)) (eqb-true j i q) was))
+        go j p m was false q = rw (
+          getD-set-other l i j (o .sheet) Absent (eqb-false j i q),
+          o .noted-there j p m (eqb-false j i q),
+        ) was
 
     -- ---- an accepted call that changes nothing
 
-    pub no-change : (c : Call) (end : End) (answer : Answer) → deedIn n l c .ledger ≡ l → deedIn n l c .returns ≡ deedIn n l c .grants
-        → ((j p : ℕ) (m : Place) → noted j p m (noteOf c) ≡ m) → end ≡ endIn l card answer (deedIn n l c .left) → (numberOf answer ≡ 0) × (valuesOf answer ≡ deedIn n l c .values)
+    pub no-change : (c : Call) (end : End) (answer : Answer) → deedIn n l c .ledger ≡ l
+        → deedIn n l c .returns ≡ deedIn n l c .grants
+        → ((j p : ℕ) (m : Place) → noted j p m (noteOf c) ≡ m) → end ≡ endIn l card answer (deedIn n l c .left)
+        → (numberOf answer ≡ 0) × (valuesOf answer ≡ deedIn n l c .values)
         → Done c end
     no-change c end answer same moved unnoted so says-so = record {
       card-left = card;

@@ -20,20 +20,24 @@ dropped r = eqb (r .number) 1 || eqb (r .number) 4
 -- rows 1 and 4 do not hold where no row seen before them does; those seen can be asked for by their numbers
 abbrev pub Never : List Row → List Row → Type 0
 Never seen [] = Unit {0}
-Never seen (r ∷ rows) = either (dropped r) ((firstOf seen ≡ accepted → r .holds ≡ false) × Never seen rows) (Never (r ∷ seen) rows)
+Never seen (r ∷ rows) = either (dropped r) ((firstOf seen ≡ accepted → r .holds ≡ false) × Never seen rows)
+    (Never (r ∷ seen) rows)
 
 pub never-listed : (seen rows : List Row) → firstOf seen ≡ accepted → Never seen rows → firstOf rows ≡ firstOf (listed rows)
 unfolding firstOf listed
 never-listed seen [] past h = refl
-never-listed seen (r ∷ rows) past h = step (dropped r) h (λ k. never-listed seen rows past k) (λ q k. never-listed (r ∷ seen) rows q k)
+never-listed seen (r ∷ rows) past h = step (dropped r) h (λ k. never-listed seen rows past k)
+    (λ q k. never-listed (r ∷ seen) rows q k)
   where
     step : (t : Bool) → either t ((firstOf seen ≡ accepted → r .holds ≡ false) × Never seen rows) (Never (r ∷ seen) rows)
-        → (Never seen rows → firstOf rows ≡ firstOf (listed rows)) → (firstOf (r ∷ seen) ≡ accepted → Never (r ∷ seen) rows → firstOf rows ≡ firstOf (listed rows))
+        → (Never seen rows → firstOf rows ≡ firstOf (listed rows))
+        → (firstOf (r ∷ seen) ≡ accepted → Never (r ∷ seen) rows → firstOf rows ≡ firstOf (listed rows))
         → cond (r .holds) (refused (r .number)) (firstOf rows) ≡ firstOf (cond t (listed rows) (r ∷ listed rows))
     step true h same more = rw (h .0 past) (same (h .1))
     step false h same more = go (r .holds) refl
       where
-        go : (t : Bool) → r .holds ≡ t → cond t (refused (r .number)) (firstOf rows) ≡ cond t (refused (r .number)) (firstOf (listed rows))
+        go : (t : Bool) → r .holds ≡ t → cond t (refused (r .number)) (firstOf rows)
+            ≡ cond t (refused (r .number)) (firstOf (listed rows))
         go true e = refl
         go false e = more (ap (λ (t : Bool). cond t (refused (r .number)) (firstOf seen)) e ∙ past) h
 
@@ -43,12 +47,14 @@ unfoldable pub onwards : ℕ → List Row → List Row
 onwards number [] = []
 onwards number (r ∷ rows) = cond (eqb (r .number) number) (r ∷ rows) (onwards number rows)
 
-pub from-there : (number : ℕ) (rows : List Row) → firstOf (before number rows) ≡ accepted → firstOf rows ≡ firstOf (onwards number rows)
+pub from-there : (number : ℕ) (rows : List Row) → firstOf (before number rows) ≡ accepted
+    → firstOf rows ≡ firstOf (onwards number rows)
 unfolding firstOf before onwards
 from-there number [] h = refl
 from-there number (r ∷ rows) h = go (eqb (r .number) number) h (from-there number rows)
   where
-    go : (t : Bool) → firstOf (cond t [] (r ∷ before number rows)) ≡ accepted → (firstOf (before number rows) ≡ accepted → firstOf rows ≡ firstOf (onwards number rows))
+    go : (t : Bool) → firstOf (cond t [] (r ∷ before number rows)) ≡ accepted
+        → (firstOf (before number rows) ≡ accepted → firstOf rows ≡ firstOf (onwards number rows))
         → firstOf (r ∷ rows) ≡ firstOf (cond t (r ∷ rows) (onwards number rows))
     go true h later = refl
     go false h later = let c = rest-accepted r (before number rows) h in rw (c .0) (later (c .1))
@@ -64,7 +70,8 @@ unfolding firstOf
 never-says number [] h e = not-refused number (sym e)
 never-says number (r ∷ rows) h e = go (eqb (r .number) number) refl (r .holds) h e (λ u v. never-says number rows u v)
   where
-    go : (t : Bool) → eqb (r .number) number ≡ t → (holds : Bool) → (t || says number rows) ≡ false → cond holds (refused (r .number)) (firstOf rows) ≡ refused number
+    go : (t : Bool) → eqb (r .number) number ≡ t → (holds : Bool) → (t || says number rows) ≡ false
+        → cond holds (refused (r .number)) (firstOf rows) ≡ refused number
         → (says number rows ≡ false → firstOf rows ≡ refused number → ⊥) → ⊥
     go true q holds h e later = true≢false h
     go false q true h e later = eqb-false (r .number) number q (same-number (r .number) number e)

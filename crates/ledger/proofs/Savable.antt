@@ -30,7 +30,8 @@ use Rattle.ledger.proofs.Agreement.{mapIn, stateOf, Matches, entry-at, 
 use Rattle.ledger.proofs.Demand.{Left, lists, kept-begun, state-begun}
 use Rattle.ledger.proofs.Listed.{undamaged}
 
-all-undamaged : (n : ℕ) (f : ℕ → Bool) (l : List Sheet) → ((i : ℕ) → i < length l → isDamaged (standingOf n f (entryIn (sheetAt l i))) ≡ false)
+all-undamaged : (n : ℕ) (f : ℕ → Bool) (l : List Sheet)
+    → ((i : ℕ) → i < length l → isDamaged (standingOf n f (entryIn (sheetAt l i))) ≡ false)
     → saved.undamaged n f (map entryIn l) ≡ true
 unfolding saved.undamaged
 all-undamaged n f [] h = refl
@@ -67,35 +68,45 @@ module _ (n : ℕ) (l : List Sheet) (card : List ℕ) (k : Matches n l card) whe
       (and-both _ _
       (and-both _ _
       (all-undamaged n (free (mapIn n l)) l
-      (λ i lt. ap (λ e. isDamaged (standingOf n (free (mapIn n l)) e)) (sym (entry-at l i lt)) ∙ ap isDamaged (stands-same n l card k i lt) ∙ undamaged (sheetAt l i)))
+      (λ i lt. ap (λ e. isDamaged (standingOf n (free (mapIn n l)) e)) (sym (entry-at l i lt))
+      ∙ ap isDamaged (stands-same n l card k i lt) ∙ undamaged (sheetAt l i)))
       (all-intro _ 0 n (λ b a lt. ap (λ (c : ℕ). leb c 1) (same-cover l b) ∙ le-leb (cover l b) 1 (k .sound .once b))))
       (all-intro _ 0 n (λ b a lt. below b (omega arith))))
-      (all-intro _ n (64 * length (mapIn n l) - n) (λ b ge lt. ap not (reads b ∙ ap (λ (t : Bool). t && eqb (cover l b) 0) (le-ltb b n ge)))))
+      (all-intro _ n (64 * length (mapIn n l) - n)
+      (λ b ge lt. ap not (reads b ∙ ap (λ (t : Bool). t && eqb (cover l b) 0) (le-ltb b n ge)))))
       (eq-eqb (spareIn n l) _ (ap (λ (f : ℕ → Bool). freeOf (blocks f 0 n)) (sym (free-map n l))))
 
   -- with a scratch as long as the map and a buffer of the image's length, save is accepted
-  pub kept-saves : (scratchlen bufferlen : ℕ) → scratchlen ≡ length (mapIn n l) → bufferlen ≡ 512 * framesFor n (length (map entryIn l))
+  pub kept-saves : (scratchlen bufferlen : ℕ) → scratchlen ≡ length (mapIn n l)
+      → bufferlen ≡ 512 * framesFor n (length (map entryIn l))
       → saveVerdict (savedOf (stateOf n l card)) scratchlen bufferlen ≡ accepted
   unfolding saveVerdict saveRows saveFits
   kept-saves scratchlen bufferlen es eb =
-      let fits : (shapeFits n (spareIn n l) (length (mapIn n l)) && sheetsFit (length (map entryIn l)) && eqb scratchlen (length (mapIn n l))) ≡ true =
+      let fits : (shapeFits n (spareIn n l) (length (mapIn n l)) && sheetsFit (length (map entryIn l))
+      && eqb scratchlen (length (mapIn n l))) ≡ true =
       and-both _ _ (and-both _ _ (shape-fits n l card k) (sheets-fit n l card k)) (eq-eqb scratchlen (length (mapIn n l)) es) in
-      skip 1 _ _ _ (ap not fits) (skip 4 _ _ _ (ap not kept-sound) (skip 12 _ _ _ (ap not (eq-eqb bufferlen (512 * framesFor n (length (map entryIn l))) eb)) none-left))
+      skip 1 _ _ _ (ap not fits) (skip 4 _ _ _ (ap not kept-sound)
+      (skip 12 _ _ _ (ap not (eq-eqb bufferlen (512 * framesFor n (length (map entryIn l))) eb)) none-left))
 
 -- ---- after a list
 
-module _ (n c : ℕ) (card : List ℕ) (n-low : 1 ≤ n) (n-high : n ≤ 262144) (c-low : 1 ≤ c) (c-high : c ≤ 1024) (room : length card ≡ 512 * n) (calls : List Call) (replies : List Response) (t : Kept)
+module _ (n c : ℕ) (card : List ℕ) (n-low : 1 ≤ n) (n-high : n ≤ 262144) (c-low : 1 ≤ c) (c-high : c ≤ 1024)
+    (room : length card ≡ 512 * n) (calls : List Call) (replies : List Response) (t : Kept)
     (runs : Runs (freshState n c card) calls replies t) where
   left : Left n (begun c) calls replies t
   left =
-      lists n calls replies (begun c) card (freshState n c card) t (kept-begun n c card n-low n-high c-low c-high room) (state-begun n c card n-low n-high c-low c-high room) runs
+      lists n calls replies (begun c) card (freshState n c card) t (kept-begun n c card n-low n-high c-low c-high room)
+      (state-begun n c card n-low n-high c-low c-high room) runs
 
   pub every-list-sound : saved.sound (savedOf t) ≡ true
   every-list-sound =
-      ap (λ (s : Kept). saved.sound (savedOf s)) (left .state-left) ∙ kept-sound n (after n (begun c) calls) (left .card-left) (left .kept-left)
+      ap (λ (s : Kept). saved.sound (savedOf s)) (left .state-left)
+      ∙ kept-sound n (after n (begun c) calls) (left .card-left) (left .kept-left)
 
-  pub every-list-saves : (scratchlen bufferlen : ℕ) → scratchlen ≡ length (t .map) → bufferlen ≡ 512 * framesFor (t .shape .blocks) (length (t .entries))
+  pub every-list-saves : (scratchlen bufferlen : ℕ) → scratchlen ≡ length (t .map)
+      → bufferlen ≡ 512 * framesFor (t .shape .blocks) (length (t .entries))
       → saveVerdict (savedOf t) scratchlen bufferlen ≡ accepted
   every-list-saves scratchlen bufferlen =
-      subst (λ (s : Kept). scratchlen ≡ length (s .map) → bufferlen ≡ 512 * framesFor (s .shape .blocks) (length (s .entries)) → saveVerdict (savedOf s) scratchlen bufferlen ≡ accepted)
+      subst (λ (s : Kept). scratchlen ≡ length (s .map) → bufferlen ≡ 512 * framesFor (s .shape .blocks) (length (s .entries))
+      → saveVerdict (savedOf s) scratchlen bufferlen ≡ accepted)
       (sym (left .state-left)) (kept-saves n (after n (begun c) calls) (left .card-left) (left .kept-left) scratchlen bufferlen)

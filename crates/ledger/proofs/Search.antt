@@ -28,7 +28,8 @@ unfolding least
 least-below p s zero r e t a b = absurd (never-both r (sym e))
 least-below p s (suc m) r e t a b = go (p s) refl e (least-below p (suc s) m r)
   where
-    go : (v : Bool) → p s ≡ v → cond v (At s) (least p (suc s) m) ≡ At r → (least p (suc s) m ≡ At r → (t : ℕ) → suc s ≤ t → t < r → p t ≡ false) → p t ≡ false
+    go : (v : Bool) → p s ≡ v → cond v (At s) (least p (suc s) m) ≡ At r
+        → (least p (suc s) m ≡ At r → (t : ℕ) → suc s ≤ t → t < r → p t ≡ false) → p t ≡ false
     go true q e later = absurd (omega (arith, same-start s r e))
     go false q e later = by-order (order s t)
       where
@@ -46,7 +47,8 @@ module _ (passes : ℕ → Bool) (n : ℕ) (beyond : (s : ℕ) → n ≤ s → p
   tellsBy v o p = settle v (done (startAt o ∷ []) []) (refusedWith [] p)
 
   pub searched : (v : Verdict) (p : ℕ) → v ≡ verdictBy (least passes 0 n) → Searched passes (tellsBy v (least passes 0 n) p)
-  searched v p is = subst (λ (w : Verdict). Searched passes (tellsBy w (least passes 0 n) p)) (sym is) (go (least passes 0 n) refl)
+  searched v p is = subst (λ (w : Verdict). Searched passes (tellsBy w (least passes 0 n) p)) (sym is)
+      (go (least passes 0 n) refl)
     where
       found : (s : ℕ) → least passes 0 n ≡ At s → Searched passes (tellsBy accepted (At s) p)
       found s e =

@@ -18,25 +18,29 @@ use Rattle.laws.proofs.Bools.{and-right}
 use Rattle.map_blocks.proofs.Runs.{all-elim}
 use Rattle.catalogue_standings.specs.Standings.{isAbsent, isPaused, isOpen, isComplete}
 use Rattle.refusals.proofs.Room.{fit-inside}
-use Rattle.ledger.specs.Ledger.{Place, Blank, Payload, Sheet, Absent, Paused, Open, Complete, standingIn, startIn, lengthIn, placesIn, isBlank, bytesOf, sheetAt, covers, cover, freeIn}
+use Rattle.ledger.specs.Ledger.{Place, Blank, Payload, Sheet, Absent, Paused, Open, Complete, standingIn, startIn}
+use Rattle.ledger.specs.Ledger.{lengthIn, placesIn, isBlank, bytesOf, sheetAt, covers, cover, freeIn}
 use Rattle.ledger.proofs.Cover.{in-run, covers-in, covers-out, cover-set}
 
 -- ---- what an accepted call has shown of the sheet's standing
 
-pub was-absent : (x : Sheet) → isPaused (standingIn x) ≡ false → isOpen (standingIn x) ≡ false → isComplete (standingIn x) ≡ false → x ≡ Absent
+pub was-absent : (x : Sheet) → isPaused (standingIn x) ≡ false → isOpen (standingIn x) ≡ false
+    → isComplete (standingIn x) ≡ false → x ≡ Absent
 was-absent Absent p o c = refl
 was-absent Paused p o c = absurd (true≢false p)
 was-absent (Open s ps) p o c = absurd (true≢false o)
 was-absent (Complete s xs) p o c = absurd (true≢false c)
 
-pub was-open : (x : Sheet) → isAbsent (standingIn x) ≡ false → isPaused (standingIn x) ≡ false → isComplete (standingIn x) ≡ false
+pub was-open : (x : Sheet) → isAbsent (standingIn x) ≡ false → isPaused (standingIn x) ≡ false
+    → isComplete (standingIn x) ≡ false
     → (at : ℕ) × (ps : List Place) × (x ≡ Open at ps)
 was-open Absent a p c = absurd (true≢false a)
 was-open Paused a p c = absurd (true≢false p)
 was-open (Open s ps) a p c = (s, ps, refl)
 was-open (Complete s xs) a p c = absurd (true≢false c)
 
-pub was-complete : (x : Sheet) → isAbsent (standingIn x) ≡ false → isPaused (standingIn x) ≡ false → isOpen (standingIn x) ≡ false
+pub was-complete : (x : Sheet) → isAbsent (standingIn x) ≡ false → isPaused (standingIn x) ≡ false
+    → isOpen (standingIn x) ≡ false
     → (at : ℕ) × (xs : List (List ℕ)) × (x ≡ Complete at xs)
 was-complete Absent a p o = absurd (true≢false a)
 was-complete Paused a p o = absurd (true≢false p)
@@ -44,10 +48,12 @@ was-complete (Open s ps) a p o = absurd (true≢false o)
 was-complete (Complete s xs) a p o = (s, xs, refl)
 
 -- a fit's blocks are covered by none
-pub fit-free : (n : ℕ) (l : List Sheet) (k s : ℕ) → fit (freeIn n l) 0 n k s ≡ true → (b : ℕ) → s ≤ b → b < s + k → cover l b ≡ 0
+pub fit-free : (n : ℕ) (l : List Sheet) (k s : ℕ) → fit (freeIn n l) 0 n k s ≡ true → (b : ℕ) → s ≤ b → b < s + k
+    → cover l b ≡ 0
 unfolding fit
 fit-free n l k s h b p q =
-    eqb-true (cover l b) 0 (and-right (ltb b n) _ (all-elim (freeIn n l) s k (and-right (leb 0 s && leb (s + k) n) (all (freeIn n l) s k) h) b p q))
+    eqb-true (cover l b) 0 (and-right (ltb b n) _
+    (all-elim (freeIn n l) s k (and-right (leb 0 s && leb (s + k) n) (all (freeIn n l) s k) h) b p q))
 
 -- ---- a sheet by itself
 
@@ -73,12 +79,14 @@ sized-blanks zero p = tt
 sized-blanks (suc k) zero = tt
 sized-blanks (suc k) (suc p) = sized-blanks k p
 
-sized-more : (ps : List Place) (k : ℕ) → ((p : ℕ) → Sized (getD ps p Blank)) → (p : ℕ) → Sized (getD (ps ++ replicate k Blank) p Blank)
+sized-more : (ps : List Place) (k : ℕ) → ((p : ℕ) → Sized (getD ps p Blank)) → (p : ℕ)
+    → Sized (getD (ps ++ replicate k Blank) p Blank)
 sized-more [] k h p = sized-blanks k p
 sized-more (x ∷ ps) k h zero = h 0
 sized-more (x ∷ ps) k h (suc p) = sized-more ps k (λ q. h (suc q)) p
 
-sized-set : (ps : List Place) (q : ℕ) (x : Place) → Sized x → ((p : ℕ) → Sized (getD ps p Blank)) → (p : ℕ) → Sized (getD (set ps q x) p Blank)
+sized-set : (ps : List Place) (q : ℕ) (x : Place) → Sized x → ((p : ℕ) → Sized (getD ps p Blank)) → (p : ℕ)
+    → Sized (getD (set ps q x) p Blank)
 sized-set [] q x s h p = tt
 sized-set (y ∷ ps) zero x s h zero = s
 sized-set (y ∷ ps) zero x s h (suc p) = h (suc p)
@@ -86,7 +94,8 @@ sized-set (y ∷ ps) (suc q) x s h zero = h 0
 sized-set (y ∷ ps) (suc q) x s h (suc p) = sized-set ps q x s (λ r. h (suc r)) p
 
 -- places without a blank are those of their payloads
-pub refilled : (ps : List Place) → ((p : ℕ) → p < length ps → isBlank (getD ps p Blank) ≡ false) → map Payload (map bytesOf ps) ≡ ps
+pub refilled : (ps : List Place) → ((p : ℕ) → p < length ps → isBlank (getD ps p Blank) ≡ false)
+    → map Payload (map bytesOf ps) ≡ ps
 refilled [] h = refl
 refilled (Blank ∷ ps) h = absurd (true≢false (h 0 (omega arith)))
 refilled (Payload x ∷ ps) h = ap (λ (r : List Place). Payload x ∷ r) (refilled ps (λ p l. h (suc p) (omega arith)))
@@ -124,7 +133,8 @@ pub record Sound (n : ℕ) (l : List Sheet) : Type 0 where
   pub fine : (i : ℕ) → Fine n (sheetAt l i)
 
 -- what holds of every sheet, after one has changed
-pub set-cases : (P : ℕ → Sheet → Type 0) (l : List Sheet) (i : ℕ) (x : Sheet) → i < length l → P i x → ((j : ℕ) → j ≢ i → P j (sheetAt l j))
+pub set-cases : (P : ℕ → Sheet → Type 0) (l : List Sheet) (i : ℕ) (x : Sheet) → i < length l → P i x
+    → ((j : ℕ) → j ≢ i → P j (sheetAt l j))
     → (j : ℕ) → P j (sheetAt (set l i x) j)
 set-cases P l i x h new old j = go (eqb j i) refl
   where
@@ -155,7 +165,8 @@ module _ (n : ℕ) (l : List Sheet) (ok : Sound n l) (i : ℕ) (lt : i < length 
       (record { inside = omega (arith, fit-inside (freeIn n l) n k s f); needed = omega arith; sized = sized-blanks k })
       (λ b. go b (inRun s (length (replicate k Blank)) b) refl)
     where
-      go : (b : ℕ) (t : Bool) → inRun s (length (replicate k Blank)) b ≡ t → cover l b + covers (Open s (replicate k Blank)) b ≤ 1 + covers (sheetAt l i) b
+      go : (b : ℕ) (t : Bool) → inRun s (length (replicate k Blank)) b ≡ t
+          → cover l b + covers (Open s (replicate k Blank)) b ≤ 1 + covers (sheetAt l i) b
       go b true e =
           let r = in-run s (length (replicate k Blank)) b e in
           rw e (omega (arith, fit-free n l k s f b (r .0) (omega (arith, r .1, length-replicate k Blank))))
@@ -166,10 +177,16 @@ module _ (n : ℕ) (l : List Sheet) (ok : Sound n l) (i : ℕ) (lt : i < length 
     before-it = subst (Fine n) was (ok .fine i)
 
     -- a grow at the blocks after the extent
-    pub grown : (m : ℕ) → 0 < m → fit (freeIn n l) 0 n m (s + length ps) ≡ true → Sound n (set l i (Open s (ps ++ replicate m Blank)))
+    pub grown : (m : ℕ) → 0 < m → fit (freeIn n l) 0 n m (s + length ps) ≡ true
+        → Sound n (set l i (Open s (ps ++ replicate m Blank)))
     grown m pos f =
         sound-set (Open s (ps ++ replicate m Blank))
-        (record { inside = omega (arith, wide, fit-inside (freeIn n l) n m (s + length ps) f); needed = omega (arith, wide); sized = sized-more ps m (before-it .sized) })
+        (record {
+          inside = omega (arith, wide, fit-inside (freeIn n l) n m (s + length ps) f);
+          needed =
+              omega (arith, wide);
+          sized = sized-more ps m (before-it .sized);
+        })
         (λ b. go b (inRun s (length (ps ++ replicate m Blank)) b) refl)
       where
         wide : length (ps ++ replicate m Blank) ≡ length ps + m
@@ -192,12 +209,22 @@ module _ (n : ℕ) (l : List Sheet) (ok : Sound n l) (i : ℕ) (lt : i < length 
     completed full =
         let w : length (map bytesOf ps) ≡ length ps = length-map ps bytesOf in
         sound-same (Complete s (map bytesOf ps))
-        (record { inside = omega (arith, before-it .inside); needed = omega (arith, before-it .needed); sized = λ p. rw full (before-it .sized p) })
+        (record {
+          inside = omega (arith, before-it .inside);
+          needed = omega (arith, before-it .needed);
+          sized =
+              λ p. rw full (before-it .sized p);
+        })
         (λ b. rw (was, w))
 
     pub putting : (p : ℕ) (payload : List ℕ) → length payload ≡ 496 → Sound n (set l i (Open s (set ps p (Payload payload))))
     putting p payload len =
         let w : length (set ps p (Payload payload)) ≡ length ps = length-set ps p (Payload payload) in
         sound-same (Open s (set ps p (Payload payload)))
-        (record { inside = omega (arith, before-it .inside); needed = omega (arith, before-it .needed); sized = sized-set ps p (Payload payload) len (before-it .sized) })
+        (record {
+          inside = omega (arith, before-it .inside);
+          needed = omega (arith, before-it .needed);
+          sized =
+              sized-set ps p (Payload payload) len (before-it .sized);
+        })
         (λ b. rw (was, w))

@@ -4,7 +4,8 @@ use mathlib.Core.Path.{_≡_, refl, sym, ap, ap₂, _∙_, subst}
 use mathlib.Core.Logic.{_⊎_, inl, inr, ⊎-elim}
 use mathlib.Core.Bool.{Bool, true, false, not, _&&_, _||_}
 use Prim.Native.Nat.{ℕ, zero, suc, _+_, _-_, _*_, _/_, _%_, _^_, _≤_, _<_, min, max}
-use native.Mathlib.Nat.{add-zero, mul-assoc, mod-lt, mul-div-mul-right, mul-add-div-right, mul-add-mod-self-right, div-eq-of-lt, mul-mod-left, mul-div-cancel, zero-lt-suc, div-add-mod', lt-of-lt-of-le, zero-mul, div-one}
+use native.Mathlib.Nat.{add-zero, mul-assoc, mod-lt, mul-div-mul-right, mul-add-div-right, mul-add-mod-self-right, div-eq-of-lt}
+use native.Mathlib.Nat.{mul-mod-left, mul-div-cancel, zero-lt-suc, div-add-mod', lt-of-lt-of-le, zero-mul, div-one}
 use native.Mathlib.Numerals.{add-one, one-add}
 use native.Mathlib.Omega.{arith}
 use lib.Dec.{eqb, leb}
@@ -57,7 +58,8 @@ module _ (op f : ℕ → ℕ → ℕ) (o : op 0 0 ≡ 0)
     (next : (a b : ℕ) → op a b ≡ op (a / 2) (b / 2) * 2 + f (a % 2) (b % 2))
     (digit : (x y : ℕ) → x < 2 → y < 2 → f x y < 2) where
   op-low : (a b : ℕ) → op a b % 2 ≡ f (a % 2) (b % 2)
-  op-low a b = ap (λ (x : ℕ). x % 2) (next a b) ∙ digits-mod (op (a / 2) (b / 2)) (digit (a % 2) (b % 2) (mod-lt a (zero-lt-suc 1)) (mod-lt b (zero-lt-suc 1)))
+  op-low a b = ap (λ (x : ℕ). x % 2) (next a b)
+      ∙ digits-mod (op (a / 2) (b / 2)) (digit (a % 2) (b % 2) (mod-lt a (zero-lt-suc 1)) (mod-lt b (zero-lt-suc 1)))
 
   op-shl : (a b k : ℕ) → op a b * 2 ^ k ≡ op (a * 2 ^ k) (b * 2 ^ k)
   op-shl a b k =
@@ -103,20 +105,26 @@ bit-or a b j =
 
 -- bit j from the most significant end is digit i from the least, where i and j make 63
 pub low : (w i j : ℕ) → i + j ≡ 63 → w * 2 ^ j / 2 ^ 63 ≡ w / 2 ^ i
-low w i j e = ap (λ (x : ℕ). w * 2 ^ j / 2 ^ x) (sym e) ∙ ap (λ (x : ℕ). w * 2 ^ j / x) (pow-add 2 i j) ∙ mul-div-mul-right w (2 ^ i) (pow-pos j)
+low w i j e = ap (λ (x : ℕ). w * 2 ^ j / 2 ^ x) (sym e) ∙ ap (λ (x : ℕ). w * 2 ^ j / x) (pow-add 2 i j)
+    ∙ mul-div-mul-right w (2 ^ i) (pow-pos j)
 
 -- there is no bit 64
 pub bit-past : (w j : ℕ) → 64 ≤ j → bit w j ≡ false
-bit-past w j h = of-zero w j (ap (λ (x : ℕ). w * 2 ^ x / 2 ^ 63 % 2) (cut j h) ∙ ap (λ (x : ℕ). x / 2 ^ 63 % 2) (grouped w (j - 64)) ∙ ap (λ (x : ℕ). x % 2) (mul-div-cancel (w * 2 ^ (j - 64) * 2) (pow-pos 63)) ∙ mul-mod-left (w * 2 ^ (j - 64)) 2)
+bit-past w j h = of-zero w j (ap (λ (x : ℕ). w * 2 ^ x / 2 ^ 63 % 2) (cut j h)
+    ∙ ap (λ (x : ℕ). x / 2 ^ 63 % 2) (grouped w (j - 64))
+    ∙ ap (λ (x : ℕ). x % 2) (mul-div-cancel (w * 2 ^ (j - 64) * 2) (pow-pos 63)) ∙ mul-mod-left (w * 2 ^ (j - 64)) 2)
   where
     cut : (j : ℕ) → 64 ≤ j → j ≡ (j - 64) + 64
     cut j h = omega arith
 
     grouped : (w e : ℕ) → w * 2 ^ (e + 64) ≡ w * 2 ^ e * 2 * 2 ^ 63
-    grouped w e = ap (λ (x : ℕ). w * x) (pow-add 2 e 64) ∙ sym (mul-assoc w (2 ^ e) (2 ^ 64)) ∙ sym (mul-assoc (w * 2 ^ e) 2 (2 ^ 63))
+    grouped w e = ap (λ (x : ℕ). w * x) (pow-add 2 e 64) ∙ sym (mul-assoc w (2 ^ e) (2 ^ 64))
+        ∙ sym (mul-assoc (w * 2 ^ e) 2 (2 ^ 63))
 
 pub bit-shl : (w k j : ℕ) → bit ((w * 2 ^ k) % 2 ^ 64) j ≡ bit w (k + j)
-bit-shl w k j = same-dig ((w * 2 ^ k) % 2 ^ 64) w j (k + j) (sym (dropped (w * 2 ^ k) j) ∙ ap (λ (x : ℕ). x / 2 ^ 63 % 2) (mul-assoc w (2 ^ k) (2 ^ j) ∙ ap (λ (x : ℕ). w * x) (sym (pow-add 2 k j))))
+bit-shl w k j = same-dig ((w * 2 ^ k) % 2 ^ 64) w j (k + j)
+    (sym (dropped (w * 2 ^ k) j) ∙ ap (λ (x : ℕ). x / 2 ^ 63 % 2)
+    (mul-assoc w (2 ^ k) (2 ^ j) ∙ ap (λ (x : ℕ). w * x) (sym (pow-add 2 k j))))
   where
     spread : (q r P : ℕ) → (q * 2 ^ 64 + r) * P ≡ (q * P * 2) * 2 ^ 63 + r * P
     spread q r P = omega arith
@@ -130,7 +138,9 @@ bit-shl w k j = same-dig ((w * 2 ^ k) % 2 ^ 64) w j (k + j) (sym (dropped (w * 2
 
 -- after a shift right by p, bit p + j is what bit j was, and the first p bits are 0
 pub bit-shr : (w p j : ℕ) → p + j < 64 → bit (w / 2 ^ p) (p + j) ≡ bit w j
-bit-shr w p j h = same-dig (w / 2 ^ p) w (p + j) j (ap (λ (x : ℕ). x % 2) (low (w / 2 ^ p) (63 - (p + j)) (p + j) (omega arith) ∙ shr-shr w p (63 - (p + j)) ∙ sym (low w (p + (63 - (p + j))) j (omega arith))))
+bit-shr w p j h = same-dig (w / 2 ^ p) w (p + j) j
+    (ap (λ (x : ℕ). x % 2) (low (w / 2 ^ p) (63 - (p + j)) (p + j) (omega arith) ∙ shr-shr w p (63 - (p + j))
+    ∙ sym (low w (p + (63 - (p + j))) j (omega arith))))
 
 pub bit-shr-none : (w p j : ℕ) → w < 2 ^ 64 → p ≤ 64 → j < p → bit (w / 2 ^ p) j ≡ false
 bit-shr-none w p j b l h =
@@ -146,8 +156,10 @@ bit-shr-none w p j b l h =
 -- the digits of a complement: each of the m above the i lowest
 not-shr : (w m i : ℕ) → w < 2 ^ (m + i) → ((2 ^ (m + i) - 1) - w) / 2 ^ i ≡ (2 ^ m - 1) - w / 2 ^ i
 not-shr w m i h =
-    ap (λ (x : ℕ). x / 2 ^ i) (ap (λ (x : ℕ). (x - 1) - w) (pow-add 2 m i) ∙ ap (λ (x : ℕ). (2 ^ m * 2 ^ i - 1) - x) (sym (split w i))
-    ∙ parts (2 ^ m) (2 ^ i) (w / 2 ^ i) (w % 2 ^ i) ((2 ^ m - 1) - w / 2 ^ i) (above (2 ^ m) (w / 2 ^ i) (shr-lt m i h)) (mod-lt w (pow-pos i)))
+    ap (λ (x : ℕ). x / 2 ^ i) (ap (λ (x : ℕ). (x - 1) - w) (pow-add 2 m i)
+    ∙ ap (λ (x : ℕ). (2 ^ m * 2 ^ i - 1) - x) (sym (split w i))
+    ∙ parts (2 ^ m) (2 ^ i) (w / 2 ^ i) (w % 2 ^ i) ((2 ^ m - 1) - w / 2 ^ i) (above (2 ^ m) (w / 2 ^ i) (shr-lt m i h))
+    (mod-lt w (pow-pos i)))
     ∙ digits-div ((2 ^ m - 1) - w / 2 ^ i) (below (2 ^ i) (w % 2 ^ i) (mod-lt w (pow-pos i)))
   where
     above : (M q : ℕ) → q < M → M ≡ ((M - 1) - q) + 1 + q
@@ -165,7 +177,8 @@ not-shr w m i h =
 -- a digit of the complement, and the digit
 not-digit : (w m i : ℕ) → suc m + i ≡ 64 → w < 2 ^ 64 → ((2 ^ 64 - 1) - w) / 2 ^ i % 2 + w / 2 ^ i % 2 ≡ 1
 not-digit w m i e b =
-    ap (λ (x : ℕ). x % 2 + w / 2 ^ i % 2) (subst (λ (x : ℕ). w < 2 ^ x → ((2 ^ x - 1) - w) / 2 ^ i ≡ (2 ^ suc m - 1) - w / 2 ^ i) e (not-shr w (suc m) i) b)
+    ap (λ (x : ℕ). x % 2 + w / 2 ^ i % 2) (subst
+    (λ (x : ℕ). w < 2 ^ x → ((2 ^ x - 1) - w) / 2 ^ i ≡ (2 ^ suc m - 1) - w / 2 ^ i) e (not-shr w (suc m) i) b)
     ∙ odd m (w / 2 ^ i) (shr-lt (suc m) i (subst (λ (x : ℕ). w < 2 ^ x) (sym e) b))
   where
     odd : (m q : ℕ) → q < 2 ^ suc m → ((2 ^ suc m - 1) - q) % 2 + q % 2 ≡ 1
@@ -193,7 +206,8 @@ pub ones-shr : (p j : ℕ) → p ≤ 64 → j < 64 → bit ((2 ^ 64 - 1) / 2 ^ p
 ones-shr p j h l =
     ⊎-elim (λ u. bit-shr-none (2 ^ 64 - 1) p j (ones-lt 64) h u ∙ sym (lt-leb p j u))
     (λ g. let e : p + (j - p) ≡ j = omega arith in
-    subst (λ (x : ℕ). bit ((2 ^ 64 - 1) / 2 ^ p) x ≡ true) e (bit-shr (2 ^ 64 - 1) p (j - p) (omega arith) ∙ bit-ones (j - p) (omega arith)) ∙ sym (le-leb p j g)) (order j p)
+    subst (λ (x : ℕ). bit ((2 ^ 64 - 1) / 2 ^ p) x ≡ true) e
+    (bit-shr (2 ^ 64 - 1) p (j - p) (omega arith) ∙ bit-ones (j - p) (omega arith)) ∙ sym (le-leb p j g)) (order j p)
 
 -- ---- two words with the same bits are one
 
@@ -202,7 +216,8 @@ low-ext zero a b p q h = lt-one p ∙ sym (lt-one q)
 low-ext (suc k) a b p q h =
     sym (div-add-mod' a 2)
     ∙ ap₂ (λ (x y : ℕ). x * 2 + y)
-    (low-ext k (a / 2) (b / 2) (shr-lt k 1 (subst (λ (x : ℕ). a < 2 ^ x) (sym (add-one k)) p)) (shr-lt k 1 (subst (λ (x : ℕ). b < 2 ^ x) (sym (add-one k)) q))
+    (low-ext k (a / 2) (b / 2) (shr-lt k 1 (subst (λ (x : ℕ). a < 2 ^ x) (sym (add-one k)) p))
+    (shr-lt k 1 (subst (λ (x : ℕ). b < 2 ^ x) (sym (add-one k)) q))
     (λ i l. ap (λ (x : ℕ). x % 2) (shifted a i) ∙ h (suc i) (omega arith) ∙ ap (λ (x : ℕ). x % 2) (sym (shifted b i))))
     (sym (ap (λ (x : ℕ). x % 2) (div-one a)) ∙ h 0 (omega arith) ∙ ap (λ (x : ℕ). x % 2) (div-one b))
     ∙ div-add-mod' b 2
@@ -213,8 +228,10 @@ low-ext (suc k) a b p q h =
 pub word-ext : (a b : ℕ) → a < 2 ^ 64 → b < 2 ^ 64 → ((j : ℕ) → j < 64 → bit a j ≡ bit b j) → a ≡ b
 word-ext a b p q h =
     low-ext 64 a b p q (λ i l.
-    ap (λ (x : ℕ). x % 2) (sym (low a i (63 - i) (omega arith))) ∙ digits (63 - i) (h (63 - i) (omega arith)) ∙ ap (λ (x : ℕ). x % 2) (low b i (63 - i) (omega arith)))
+    ap (λ (x : ℕ). x % 2) (sym (low a i (63 - i) (omega arith))) ∙ digits (63 - i) (h (63 - i) (omega arith))
+    ∙ ap (λ (x : ℕ). x % 2) (low b i (63 - i) (omega arith)))
   where
     digits : (j : ℕ) → bit a j ≡ bit b j → dig a j ≡ dig b j
     digits j e =
-        ⊎-elim (λ z. z ∙ sym (to-zero b j (sym e ∙ of-zero a j z))) (λ o. o ∙ sym (to-dig b j (sym e ∙ of-dig a j o))) (digit-cases (dig a j) (dig-lt a j))
+        ⊎-elim (λ z. z ∙ sym (to-zero b j (sym e ∙ of-zero a j z))) (λ o. o ∙ sym (to-dig b j (sym e ∙ of-dig a j o)))
+        (digit-cases (dig a j) (dig-lt a j))

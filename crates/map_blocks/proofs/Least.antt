@@ -30,16 +30,19 @@ module _ (p : ℕ → Bool) where
   least-at s zero r a b e h = absurd (omega arith)
   least-at s (suc m) r a b e h =
       ⊎-elim (λ q. ap (λ (x : Bool). cond x (At s) (least p (suc s) m)) (subst (λ (x : ℕ). p x ≡ true) (sym q) e) ∙ ap At q)
-      (λ l. ap (λ (x : Bool). cond x (At s) (least p (suc s) m)) (h s (omega arith) l) ∙ least-at (suc s) m r l (omega arith) e (λ t c d. h t (omega arith) d))
+      (λ l. ap (λ (x : Bool). cond x (At s) (least p (suc s) m)) (h s (omega arith) l)
+      ∙ least-at (suc s) m r l (omega arith) e (λ t c d. h t (omega arith) d))
       (eq-or-lt-of-le a)
 
   pub least-none : (s m : ℕ) → ((t : ℕ) → s ≤ t → t < s + m → p t ≡ false) → least p s m ≡ Nothing
   unfolding least
   least-none s zero h = refl
   least-none s (suc m) h =
-      ap (λ (x : Bool). cond x (At s) (least p (suc s) m)) (h s (omega arith) (omega arith)) ∙ least-none (suc s) m (λ t a b. h t (omega arith) (omega arith))
+      ap (λ (x : Bool). cond x (At s) (least p (suc s) m)) (h s (omega arith) (omega arith))
+      ∙ least-none (suc s) m (λ t a b. h t (omega arith) (omega arith))
 
-  passes-on : (s m r : ℕ) (b : Bool) (rest : Found) → p s ≡ b → cond b (At s) rest ≡ At r → (rest ≡ At r → Passes p (suc s) m r) → Passes p s (suc m) r
+  passes-on : (s m r : ℕ) (b : Bool) (rest : Found) → p s ≡ b → cond b (At s) rest ≡ At r
+      → (rest ≡ At r → Passes p (suc s) m r) → Passes p s (suc m) r
   passes-on s m r true rest q e later =
       let same : s ≡ r = cc in
       record { low = omega arith; high = omega arith; test = ap p (sym same) ∙ q }
@@ -52,20 +55,23 @@ module _ (p : ℕ → Bool) where
   least-passes s zero r e = absurd (never-both r (sym e))
   least-passes s (suc m) r e = passes-on s m r (p s) (least p (suc s) m) refl e (λ h. least-passes (suc s) m r h)
 
-  none-on : (s t : ℕ) (b : Bool) (rest : Found) → p s ≡ b → cond b (At s) rest ≡ Nothing → s ≤ t → (rest ≡ Nothing → s < t → p t ≡ false) → p t ≡ false
+  none-on : (s t : ℕ) (b : Bool) (rest : Found) → p s ≡ b → cond b (At s) rest ≡ Nothing → s ≤ t
+      → (rest ≡ Nothing → s < t → p t ≡ false) → p t ≡ false
   none-on s t true rest q e a later = absurd (never-both s e)
   none-on s t false rest q e a later = ⊎-elim (λ (w : s ≡ t). ap p (sym w) ∙ q) (λ (w : s < t). later e w) (eq-or-lt-of-le a)
 
   pub none-passes : (s m : ℕ) → least p s m ≡ Nothing → (t : ℕ) → s ≤ t → t < s + m → p t ≡ false
   unfolding least
   none-passes s zero e t a b = absurd (omega arith)
-  none-passes s (suc m) e t a b = none-on s t (p s) (least p (suc s) m) refl e a (λ h w. none-passes (suc s) m h t (omega arith) (omega arith))
+  none-passes s (suc m) e t a b = none-on s t (p s) (least p (suc s) m) refl e a
+      (λ h w. none-passes (suc s) m h t (omega arith) (omega arith))
 
   pub least-more : (s m : ℕ) → least p s (suc m) ≡ orElse (least p s m) (cond (p (s + m)) (At (s + m)) Nothing)
   unfolding least
   least-more s zero = rw add-zero
   least-more s (suc m) =
-      ap (cond (p s) (At s)) (least-more (suc s) m) ∙ outside (p s) (least p (suc s) m) (cond (p (suc s + m)) (At (suc s + m)) Nothing)
+      ap (cond (p s) (At s)) (least-more (suc s) m)
+      ∙ outside (p s) (least p (suc s) m) (cond (p (suc s + m)) (At (suc s + m)) Nothing)
       ∙ ap (λ (t : ℕ). orElse (cond (p s) (At s) (least p (suc s) m)) (cond (p t) (At t) Nothing)) (moved s m)
     where
       outside : (b : Bool) (x y : Found) → cond b (At s) (orElse x y) ≡ orElse (cond b (At s) x) y

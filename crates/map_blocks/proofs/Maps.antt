@@ -1,4 +1,5 @@
--- The words of a map and its blocks: each block is a bit of its word, and `mapOf` is the only list of words with its blocks free.
+-- The words of a map and its blocks: each block is a bit of its word, and `mapOf` is the only list of words with its blocks
+-- free.
 -- Assumes nothing.
 use mathlib.Core.Path.{_≡_, refl, sym, ap, ap₂, _∙_, subst}
 use mathlib.Core.Bool.{Bool, true, false, _&&_, cond, not}
@@ -25,10 +26,12 @@ unfolding free bit
 free-bit map i j l =
     let q : (i * 64 + j) / 64 ≡ i = omega arith in
     let r : 63 - (i * 64 + j) % 64 ≡ 63 - j = omega arith in
-    ap₂ (λ (x y : ℕ). eqb (getD map x 0 / 2 ^ y % 2) 1) q r ∙ ap (λ (x : ℕ). eqb (x % 2) 1) (sym (low (getD map i 0) (63 - j) j (omega arith)))
+    ap₂ (λ (x y : ℕ). eqb (getD map x 0 / 2 ^ y % 2) 1) q r
+    ∙ ap (λ (x : ℕ). eqb (x % 2) 1) (sym (low (getD map i 0) (63 - j) j (omega arith)))
 
 -- a word with the bits of blocks outside a window set to 0 shows the blocks inside it
-pub cut-word : (map : List ℕ) (from before i m : ℕ) → ((j : ℕ) → j < 64 → bit m j ≡ (leb from (i * 64 + j) && ltb (i * 64 + j) before))
+pub cut-word : (map : List ℕ) (from before i m : ℕ)
+    → ((j : ℕ) → j < 64 → bit m j ≡ (leb from (i * 64 + j) && ltb (i * 64 + j) before))
     → (j : ℕ) → j < 64 → bit (bitAnd (getD map i 0) m) j ≡ inWindow (free map) from before (i * 64 + j)
 cut-word map from before i m mask j l =
     bit-and (getD map i 0) m j ∙ and-swap (bit (getD map i 0) j) (bit m j) ∙ ap₂ _&&_ (mask j l) (sym (free-bit map i j l))
@@ -40,7 +43,8 @@ digit-lt false = omega arith
 pub pack-lt : (f : ℕ → Bool) (b m : ℕ) → pack f b m < 2 ^ m
 unfolding pack
 pack-lt f b zero = omega arith
-pack-lt f b (suc m) = let h : pack f b m < 2 ^ m = pack-lt f b m in let d : cond (f (b + m)) 1 0 < 2 = digit-lt (f (b + m)) in omega arith
+pack-lt f b (suc m) = let h : pack f b m < 2 ^ m = pack-lt f b m in let d : cond (f (b + m)) 1 0 < 2 = digit-lt (f (b + m)) in
+    omega arith
 
 -- digit i from the least significant end, where i and j + 1 make m
 pack-low : (f : ℕ → Bool) (b m i j : ℕ) → suc (i + j) ≡ m → pack f b m / 2 ^ i % 2 ≡ cond (f (b + j)) 1 0
@@ -48,9 +52,12 @@ unfolding pack
 pack-low f b zero i j e = absurd (omega arith)
 pack-low f b (suc m) zero j e =
     let q : m ≡ j = omega arith in
-    ap (λ (x : ℕ). x % 2) (div-one (pack f b m * 2 + cond (f (b + m)) 1 0)) ∙ digits-mod (pack f b m) (digit-lt (f (b + m))) ∙ ap (λ (x : ℕ). cond (f (b + x)) 1 0) q
+    ap (λ (x : ℕ). x % 2) (div-one (pack f b m * 2 + cond (f (b + m)) 1 0)) ∙ digits-mod (pack f b m) (digit-lt (f (b + m)))
+    ∙ ap (λ (x : ℕ). cond (f (b + x)) 1 0) q
 pack-low f b (suc m) (suc i) j e =
-    ap (λ (x : ℕ). x % 2) (sym (shr-shr (pack f b m * 2 + cond (f (b + m)) 1 0) 1 i ∙ ap (λ (y : ℕ). (pack f b m * 2 + cond (f (b + m)) 1 0) / 2 ^ y) (one-add i)))
+    ap (λ (x : ℕ). x % 2)
+    (sym (shr-shr (pack f b m * 2 + cond (f (b + m)) 1 0) 1 i
+    ∙ ap (λ (y : ℕ). (pack f b m * 2 + cond (f (b + m)) 1 0) / 2 ^ y) (one-add i)))
     ∙ ap (λ (x : ℕ). x / 2 ^ i % 2) (digits-div (pack f b m) (digit-lt (f (b + m))))
     ∙ pack-low f b m i j (omega arith)
 
@@ -73,7 +80,8 @@ pub words-at : (f : ℕ → Bool) (b w i : ℕ) → i < w → getD (words f b w)
 unfolding words
 words-at f b zero i l = absurd (omega arith)
 words-at f b (suc w) zero l = let e : b ≡ b + 0 * 64 = omega arith in ap (λ (x : ℕ). pack f x 64) e
-words-at f b (suc w) (suc i) l = let e : b + 64 + i * 64 ≡ b + suc i * 64 = omega arith in words-at f (b + 64) w i (omega arith) ∙ ap (λ (x : ℕ). pack f x 64) e
+words-at f b (suc w) (suc i) l = let e : b + 64 + i * 64 ≡ b + suc i * 64 = omega arith in
+    words-at f (b + 64) w i (omega arith) ∙ ap (λ (x : ℕ). pack f x 64) e
 
 pub map-length : (f : ℕ → Bool) (w : ℕ) → length (mapOf f w) ≡ w
 unfolding mapOf
@@ -88,10 +96,12 @@ pub map-free : (f : ℕ → Bool) (w b : ℕ) → b < w * 64 → free (mapOf f w
 map-free f w b l =
     let e : b / 64 * 64 + b % 64 ≡ b = omega arith in
     subst (λ (x : ℕ). free (mapOf f w) x ≡ f x) e
-    (free-bit (mapOf f w) (b / 64) (b % 64) (omega arith) ∙ ap (λ (x : ℕ). bit x (b % 64)) (map-at f w (b / 64) (omega arith)) ∙ pack-bit f (b / 64 * 64) (b % 64) (omega arith))
+    (free-bit (mapOf f w) (b / 64) (b % 64) (omega arith) ∙ ap (λ (x : ℕ). bit x (b % 64)) (map-at f w (b / 64) (omega arith))
+    ∙ pack-bit f (b / 64 * 64) (b % 64) (omega arith))
 
 -- the only such list of words
-pub map-ext : (f : ℕ → Bool) (w : ℕ) (l : List ℕ) → length l ≡ w → ((i : ℕ) → i < w → getD l i 0 < 2 ^ 64) → ((b : ℕ) → b < w * 64 → free l b ≡ f b) → l ≡ mapOf f w
+pub map-ext : (f : ℕ → Bool) (w : ℕ) (l : List ℕ) → length l ≡ w → ((i : ℕ) → i < w → getD l i 0 < 2 ^ 64)
+    → ((b : ℕ) → b < w * 64 → free l b ≡ f b) → l ≡ mapOf f w
 map-ext f w l e small same =
     ext-getD 0 l (mapOf f w) (e ∙ sym (map-length f w)) (λ i h.
     let u : i < w = omega arith in

@@ -32,7 +32,8 @@ module _ (f : ℕ → Bool) where
   -- a run within one that fails
   pub all-part : (s k s′ k′ : ℕ) → s ≤ s′ → s′ + k′ ≤ s + k → all f s′ k′ ≡ false → all f s k ≡ false
   all-part s k s′ k′ a b e =
-      not-true (all f s k) (λ h. clash (all f s′ k′) (all-intro s′ k′ (λ t l u. all-elim s k h t (omega arith) (omega arith))) e)
+      not-true (all f s k) (λ h. clash (all f s′ k′)
+      (all-intro s′ k′ (λ t l u. all-elim s k h t (omega arith) (omega arith))) e)
 
   -- two runs of m that meet or overlap
   pub all-join : (s m d : ℕ) → d ≤ m → (all f s m && all f (d + s) m) ≡ all f s (m + d)

@@ -1,4 +1,5 @@
--- A search within a window: what it knows at the window's ends, the words inside it, and that the run it finds is the least fit.
+-- A search within a window: what it knows at the window's ends, the words inside it, and that the run it finds is the least
+-- fit.
 -- Assumes nothing.
 use mathlib.Core.Path.{_≡_, refl, sym, ap, ap₂, _∙_}
 use mathlib.Core.Logic.{⊎-elim}
@@ -39,29 +40,40 @@ module _ (g : ℕ → Bool) (from before : ℕ) where
     none = λ t a. all-break (inWindow g from before) t k t (omega arith) (omega arith) (outside-before t (omega arith));
   }
 
-  pub at-end : (k base s : ℕ) → before ≤ base → Carried (inWindow g from before) k base s → (t : ℕ) → all (inWindow g from before) t k ≡ false
+  pub at-end : (k base s : ℕ) → before ≤ base → Carried (inWindow g from before) k base s → (t : ℕ)
+      → all (inWindow g from before) t k ≡ false
   at-end k base s l at t =
       let h : s < k = at .short in
       ⊎-elim (λ u. at .none t u)
-      (λ u. all-break (inWindow g from before) t k (t + (k - 1)) (omega arith) (omega arith) (outside-after (t + (k - 1)) (omega arith))) (order (t + s) base)
+      (λ u. all-break (inWindow g from before) t k (t + (k - 1)) (omega arith) (omega arith)
+      (outside-after (t + (k - 1)) (omega arith))) (order (t + s) base)
 
   -- ---- runs within the window are fits
 
   run-fit : (k t : ℕ) → 0 < k → all (inWindow g from before) t k ≡ true → (from ≤ t) × (t + k ≤ before) × (all g t k ≡ true)
   run-fit k t h e =
-      let parts : (b : ℕ) → t ≤ b → b < t + k → inWindow g from before b ≡ true = λ b l u. all-elim (inWindow g from before) t k e b l u in
-      let lo : from ≤ t = leb-true from t (and-left (leb from t) (ltb t before) (and-left (leb from t && ltb t before) (g t) (parts t (omega arith) (omega arith)))) in
+      let parts : (b : ℕ) → t ≤ b → b < t + k → inWindow g from before b ≡ true =
+      λ b l u. all-elim (inWindow g from before) t k e b l u in
+      let lo : from ≤ t =
+      leb-true from t (and-left (leb from t) (ltb t before)
+      (and-left (leb from t && ltb t before) (g t) (parts t (omega arith) (omega arith)))) in
       let q : ℕ = t + (k - 1) in
-      let hi : q < before = ltb-true q before (and-right (leb from q) (ltb q before) (and-left (leb from q && ltb q before) (g q) (parts q (omega arith) (omega arith)))) in
+      let hi : q < before =
+      ltb-true q before (and-right (leb from q) (ltb q before)
+      (and-left (leb from q && ltb q before) (g q) (parts q (omega arith) (omega arith)))) in
       (lo, omega arith, all-intro g t k (λ b l u. and-right (leb from b && ltb b before) (g b) (parts b l u)))
 
   fit-run : (k t : ℕ) → fit g from before k t ≡ true → all (inWindow g from before) t k ≡ true
   unfolding fit
   fit-run k t e =
-      let a : from ≤ t = leb-true from t (and-left (leb from t) (leb (t + k) before) (and-left (leb from t && leb (t + k) before) (all g t k) e)) in
-      let b : t + k ≤ before = leb-true (t + k) before (and-right (leb from t) (leb (t + k) before) (and-left (leb from t && leb (t + k) before) (all g t k) e)) in
+      let a : from ≤ t =
+      leb-true from t (and-left (leb from t) (leb (t + k) before)
+      (and-left (leb from t && leb (t + k) before) (all g t k) e)) in
+      let b : t + k ≤ before = leb-true (t + k) before
+      (and-right (leb from t) (leb (t + k) before) (and-left (leb from t && leb (t + k) before) (all g t k) e)) in
       all-intro (inWindow g from before) t k (λ c l u.
-      and-both (leb from c && ltb c before) (g c) (and-both (leb from c) (ltb c before) (le-leb from c (omega arith)) (lt-ltb c before (omega arith)))
+      and-both (leb from c && ltb c before) (g c) (and-both (leb from c) (ltb c before) (le-leb from c (omega arith))
+      (lt-ltb c before (omega arith)))
       (all-elim g t k (and-right (leb from t && leb (t + k) before) (all g t k) e) c l u))
 
   no-fit : (k t : ℕ) → all (inWindow g from before) t k ≡ false → fit g from before k t ≡ false
@@ -74,12 +86,15 @@ module _ (g : ℕ → Bool) (from before : ℕ) where
       let run = run-fit k s h (told .fits) in
       let u : s + k ≤ before = run .1 in
       sym (least-at (fit g from before k) 0 before s (omega arith) (omega arith)
-      (and-both (leb from s && leb (s + k) before) (all g s k) (and-both (leb from s) (leb (s + k) before) (le-leb from s (run .0)) (le-leb (s + k) before u)) (run .2))
+      (and-both (leb from s && leb (s + k) before) (all g s k)
+      (and-both (leb from s) (leb (s + k) before) (le-leb from s (run .0)) (le-leb (s + k) before u)) (run .2))
       (λ t a b. no-fit k t (told .none t b)))
   told-least k h Nothing told = sym (least-none (fit g from before k) 0 before (λ t a b. no-fit k t (told t)))
 
 -- the words that lie in the window whole
-pub whole-words : (map : List ℕ) (from before first stop : ℕ) → from ≤ first * 64 → stop * 64 ≤ before → HasBits map first stop (inWindow (free map) from before)
+pub whole-words : (map : List ℕ) (from before first stop : ℕ) → from ≤ first * 64 → stop * 64 ≤ before
+    → HasBits map first stop (inWindow (free map) from before)
 whole-words map from before first stop a b i j c d l =
     sym (free-bit map i j l)
-    ∙ sym (ap₂ (λ (x y : Bool). (x && y) && free map (i * 64 + j)) (le-leb from (i * 64 + j) (omega arith)) (lt-ltb (i * 64 + j) before (omega arith)))
+    ∙ sym (ap₂ (λ (x y : Bool). (x && y) && free map (i * 64 + j)) (le-leb from (i * 64 + j) (omega arith))
+    (lt-ltb (i * 64 + j) before (omega arith)))

@@ -32,7 +32,9 @@ pub struct Reached {
 fn scan_words(map: &[u64], first: usize, stop: usize, s: u32, k: u32, core: u64) -> Step
     requires { ⌜ (first ≤ stop) × (stop ≤ 4096) × (stop ≤ length (now map)) × (s ≤ first * 64) × (s < k) × Core k core ⌝ }
     ensures { λ r. ⌜ Bounded k (stop * 64) r ⌝ }
-    ensures { λ r. ⌜ ((f : ℕ → Bool) → HasBits (now (map .entry)) first stop f → Carried f k (first * 64) s → Stepped f k (stop * 64) r) ⌝ }
+    ensures { λ r.
+        ⌜ ((f : ℕ → Bool) → HasBits (now (map .entry)) first stop f → Carried f k (first * 64) s
+        → Stepped f k (stop * 64) r) ⌝ }
 {
     let mut i = first;
     let mut carried = s;
@@ -65,7 +67,9 @@ fn any_free(map: &[u64], i: usize) -> u64
 fn skip_taken(map: &[u64], first: usize, stop: usize, s: u32) -> Position
     requires { ⌜ (first ≤ stop) × (stop ≤ 4096) × (stop ≤ length (now map)) ⌝ }
     ensures { λ r. ⌜ (first ≤ r .word) × (r .word ≤ stop) × (r .carried ≤ s) ⌝ }
-    ensures { λ r. ⌜ ((f : ℕ → Bool) (k : ℕ) → HasBits (now (map .entry)) first stop f → Carried f k (first * 64) s → Carried f k (r .word * 64) (r .carried)) ⌝ }
+    ensures { λ r.
+        ⌜ ((f : ℕ → Bool) (k : ℕ) → HasBits (now (map .entry)) first stop f → Carried f k (first * 64) s
+        → Carried f k (r .word * 64) (r .carried)) ⌝ }
 {
     let mut i = first;
     let mut carried = s;
@@ -94,7 +98,9 @@ fn group_end(i: usize, stop: usize) -> usize
 fn scan_groups(map: &[u64], first: usize, stop: usize, s: u32, k: u32, core: u64) -> Step
     requires { ⌜ (first ≤ stop) × (stop ≤ 4096) × (stop ≤ length (now map)) × (s ≤ first * 64) × (s < k) × Core k core ⌝ }
     ensures { λ r. ⌜ Bounded k (stop * 64) r ⌝ }
-    ensures { λ r. ⌜ ((f : ℕ → Bool) → HasBits (now (map .entry)) first stop f → Carried f k (first * 64) s → Stepped f k (stop * 64) r) ⌝ }
+    ensures { λ r.
+        ⌜ ((f : ℕ → Bool) → HasBits (now (map .entry)) first stop f → Carried f k (first * 64) s
+        → Stepped f k (stop * 64) r) ⌝ }
 {
     let mut i = first;
     let mut carried = s;
@@ -114,7 +120,8 @@ fn scan_groups(map: &[u64], first: usize, stop: usize, s: u32, k: u32, core: u64
 
 // The search from word first on, with s free blocks right before it: the words up to the last one, then that.
 fn search_on(map: &[u64], from: u32, before: u32, first: usize, s: u32, k: u32) -> Found
-    requires { ⌜ (from < before) × (before ≤ 262144) × (before ≤ 64 * length (now map)) × (from ≤ first * 64) × (first ≤ 4096) ⌝ }
+    requires { ⌜ (from < before) × (before ≤ 262144) × (before ≤ 64 * length (now map))
+        × (from ≤ first * 64) × (first ≤ 4096) ⌝ }
     requires { ⌜ Carried (inWindow (free (now map)) from before) k (first * 64) s ⌝ }
     ensures { λ r. ⌜ Finds (inWindow (free (now (map .entry))) from before) k r ⌝ }
 {
@@ -139,7 +146,8 @@ fn search_on(map: &[u64], from: u32, before: u32, first: usize, s: u32, k: u32) 
 fn reach(map: &[u64], from: u32, before: u32) -> Reached
     requires { ⌜ (from < before) × (before ≤ 262144) × (before ≤ 64 * length (now map)) ⌝ }
     ensures { λ r. ⌜ (from / 64 ≤ r .word) × (r .word * 64 < before) ⌝ }
-    ensures { λ r. ⌜ ((j : ℕ) → j < 64 → bit (r .bits) j ≡ inWindow (free (now (map .entry))) from before (r .word * 64 + j)) ⌝ }
+    ensures { λ r.
+        ⌜ ((j : ℕ) → j < 64 → bit (r .bits) j ≡ inWindow (free (now (map .entry))) from before (r .word * 64 + j)) ⌝ }
     ensures { λ r. ⌜ ((k : ℕ) → 0 < k → Carried (inWindow (free (now (map .entry))) from before) k (r .word * 64) 0) ⌝ }
 {
     let first = (from / 64) as usize;

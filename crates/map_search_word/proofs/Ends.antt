@@ -28,8 +28,12 @@ first-set w p b =
     let hi : w < 2 ^ suc (t .0) = t .3 in
     record {
       within = omega arith;
-      here = of-dig w (leadingZeros 64 w) (ap (λ (x : ℕ). x % 2) (low w (t .0) (leadingZeros 64 w) (omega arith) ∙ top (2 ^ t .0) w (omega arith) (omega arith)));
-      before = λ j l. of-zero w j (ap (λ (x : ℕ). x % 2) (low w (63 - j) j (omega arith) ∙ div-eq-of-lt (lt-of-lt-of-le hi (pow-mono (room (t .0) (leadingZeros 64 w) j e l)))));
+      here = of-dig w (leadingZeros 64 w) (ap (λ (x : ℕ). x % 2)
+          (low w (t .0) (leadingZeros 64 w) (omega arith) ∙ top (2 ^ t .0) w (omega arith) (omega arith)));
+      before =
+          λ j l. of-zero w j
+          (ap (λ (x : ℕ). x % 2) (low w (63 - j) j (omega arith)
+          ∙ div-eq-of-lt (lt-of-lt-of-le hi (pow-mono (room (t .0) (leadingZeros 64 w) j e l)))));
     }
   where
     room : (t z j : ℕ) → z + suc t ≡ 64 → j < z → suc t ≤ 63 - j
@@ -48,7 +52,8 @@ unfolding trailingZeros
 tz-zero zero x i h = absurd (omega arith)
 tz-zero (suc k) x i h = go (tz-zero k (x / 2)) (x % 2) refl i h
   where
-    go : ((i : ℕ) → i < trailingZeros k (x / 2) → x / 2 / 2 ^ i % 2 ≡ 0) → (d : ℕ) → x % 2 ≡ d → (i : ℕ) → i < under d (trailingZeros k (x / 2)) → x / 2 ^ i % 2 ≡ 0
+    go : ((i : ℕ) → i < trailingZeros k (x / 2) → x / 2 / 2 ^ i % 2 ≡ 0) → (d : ℕ) → x % 2 ≡ d → (i : ℕ)
+        → i < under d (trailingZeros k (x / 2)) → x / 2 ^ i % 2 ≡ 0
     go rec zero e zero h = ap (λ (y : ℕ). y % 2) (div-one x) ∙ e
     go rec zero e (suc i) h = ap (λ (y : ℕ). y % 2) (half-shift x i) ∙ rec i (omega arith)
     go rec (suc d) e i h = absurd (omega arith)
@@ -58,7 +63,8 @@ unfolding trailingZeros
 tz-one zero x h = absurd (omega arith)
 tz-one (suc k) x h = go (tz-one k (x / 2)) (x % 2) refl h
   where
-    go : (trailingZeros k (x / 2) < k → x / 2 / 2 ^ trailingZeros k (x / 2) % 2 ≡ 1) → (d : ℕ) → x % 2 ≡ d → under d (trailingZeros k (x / 2)) < suc k
+    go : (trailingZeros k (x / 2) < k → x / 2 / 2 ^ trailingZeros k (x / 2) % 2 ≡ 1) → (d : ℕ) → x % 2 ≡ d
+        → under d (trailingZeros k (x / 2)) < suc k
         → x / 2 ^ under d (trailingZeros k (x / 2)) % 2 ≡ 1
     go rec zero e h = ap (λ (y : ℕ). y % 2) (half-shift x (trailingZeros k (x / 2))) ∙ rec (omega arith)
     go rec (suc d) e h = ap (λ (y : ℕ). y % 2) (div-one x) ∙ omega arith
@@ -70,8 +76,10 @@ tail-ones w b =
     let z : ℕ = trailingZeros 64 v in
     record {
       within = trailing-le 64 v;
-      held = λ j l h. flipped j l (of-zero v j (ap (λ (x : ℕ). x % 2) (low v (63 - j) j (omega arith)) ∙ tz-zero 64 v (63 - j) (omega arith)));
-      stop = λ j e. flipped′ j (omega arith) (of-dig v j (ap (λ (x : ℕ). x % 2) (low v z j (omega arith)) ∙ tz-one 64 v (omega arith)));
+      held = λ j l h. flipped j l
+          (of-zero v j (ap (λ (x : ℕ). x % 2) (low v (63 - j) j (omega arith)) ∙ tz-zero 64 v (63 - j) (omega arith)));
+      stop = λ j e. flipped′ j (omega arith) (of-dig v j
+          (ap (λ (x : ℕ). x % 2) (low v z j (omega arith)) ∙ tz-one 64 v (omega arith)));
     }
   where
     flipped : (j : ℕ) → j < 64 → bit ((2 ^ 64 - 1) - w) j ≡ false → bit w j ≡ true

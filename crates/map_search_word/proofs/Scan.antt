@@ -1,4 +1,5 @@
--- The search at one word: what each of its ways out knows. f says which blocks are free, and the word's bits are f's from `base` on.
+-- The search at one word: what each of its ways out knows. f says which blocks are free, and the word's bits are f's from
+-- `base` on.
 -- Assumes nothing.
 use mathlib.Core.Path.{_≡_, sym, ap, _∙_}
 use mathlib.Core.Logic.{_⊎_, inl, inr, ⊎-elim}
@@ -31,7 +32,10 @@ core-fails w m k core e j l =
 pub tail-below : (w r k : ℕ) → ((j : ℕ) → j + k ≤ 64 → all (bit w) j k ≡ false) → Tail w r → r < k
 tail-below w r k none tail =
     let l : r ≤ 64 = tail .within in
-    ⊎-elim (λ u. u) (λ g. absurd (clash (all (bit w) (64 - k) k) (all-intro (bit w) (64 - k) k (λ t a b. tail .held t (omega arith) (omega arith))) (none (64 - k) (omega arith)))) (order r k)
+    ⊎-elim (λ u. u)
+    (λ g. absurd (clash (all (bit w) (64 - k) k)
+    (all-intro (bit w) (64 - k) k (λ t a b. tail .held t (omega arith) (omega arith))) (none (64 - k) (omega arith))))
+    (order r k)
 
 -- ---- the word behind s free blocks
 
@@ -52,45 +56,56 @@ module _ (f : ℕ → Bool) (k base s w : ℕ) (same : (j : ℕ) → j < 64 → 
   whole l h = record {
     room = let r : s ≤ base = at .room in omega arith;
     short = l;
-    held = λ t a b. ⊎-elim (λ u. at .held t (omega arith) u) (λ g. sym (inside t g b) ∙ h (t - base) (omega arith)) (order t base);
+    held = λ t a b. ⊎-elim (λ u. at .held t (omega arith) u) (λ g. sym (inside t g b) ∙ h (t - base) (omega arith))
+        (order t base);
     none = λ t a. at .none t (omega arith);
   }
 
   -- the runs that start before the word all fail in its first m bits, which they hold
-  pub head-fails : (m : ℕ) → s < k → m ≤ k - s → m ≤ 64 → all (bit w) 0 m ≡ false → (t : ℕ) → base ≤ t + s → t < base → all f t k ≡ false
+  pub head-fails : (m : ℕ) → s < k → m ≤ k - s → m ≤ 64 → all (bit w) 0 m ≡ false → (t : ℕ) → base ≤ t + s → t < base
+      → all f t k ≡ false
   head-fails m h l u e t a b = all-part f t k (base + 0) m (omega arith) (omega arith) (sym (run 0 m (omega arith)) ∙ e)
 
   -- on to the next word
-  pub next : (r : ℕ) → Tail w r → r < k → ((t : ℕ) → base ≤ t + s → t < base → all f t k ≡ false) → ((j : ℕ) → j + k ≤ 64 → all (bit w) j k ≡ false) → Carried f k (base + 64) r
+  pub next : (r : ℕ) → Tail w r → r < k → ((t : ℕ) → base ≤ t + s → t < base → all f t k ≡ false)
+      → ((j : ℕ) → j + k ≤ 64 → all (bit w) j k ≡ false) → Carried f k (base + 64) r
   next r tail l early within = let lr : r ≤ 64 = tail .within in record {
     room = omega arith;
     short = l;
     held = λ t a b. sym (inside t (omega arith) b) ∙ tail .held (t - base) (omega arith) (omega arith);
-    none = λ t a. ⊎-elim (λ u. ⊎-elim (λ v. at .none t v) (λ g. early t g u) (order (t + s) base)) (λ g. late t g a lr (order 64 (t - base + k))) (order t base);
+    none = λ t a. ⊎-elim (λ u. ⊎-elim (λ v. at .none t v) (λ g. early t g u) (order (t + s) base))
+        (λ g. late t g a lr (order 64 (t - base + k))) (order t base);
   }
     where
       late : (t : ℕ) → base ≤ t → t + r < base + 64 → r ≤ 64 → (64 < t - base + k) ⊎ (t - base + k ≤ 64) → all f t k ≡ false
-      late t g a lr (inl u) = all-break f t k (base + (63 - r)) (omega arith) (omega arith) (sym (same (63 - r) (omega arith)) ∙ tail .stop (63 - r) (omega arith))
-      late t g a lr (inr u) = let e : base + (t - base) ≡ t = omega arith in ap (λ (x : ℕ). all f x k) (sym e) ∙ sym (run (t - base) k u) ∙ within (t - base) u
+      late t g a lr (inl u) = all-break f t k (base + (63 - r)) (omega arith) (omega arith)
+          (sym (same (63 - r) (omega arith)) ∙ tail .stop (63 - r) (omega arith))
+      late t g a lr (inr u) = let e : base + (t - base) ≡ t = omega arith in
+          ap (λ (x : ℕ). all f x k) (sym e) ∙ sym (run (t - base) k u) ∙ within (t - base) u
 
   -- the run before the word goes on in it
   pub head-hit : s < k → all (bit w) 0 (k - s) ≡ true → k - s ≤ 64 → Least f k (base - s)
   head-hit h e l = let r : s ≤ base = at .room in record {
     fits = all-intro f (base - s) k (λ t a b.
         ⊎-elim (λ u. at .held t (omega arith) u)
-        (λ g. sym (inside t g (omega arith)) ∙ all-elim (bit w) 0 (k - s) e (t - base) (omega arith) (omega arith)) (order t base));
+        (λ g. sym (inside t g (omega arith)) ∙ all-elim (bit w) 0 (k - s) e (t - base) (omega arith) (omega arith))
+        (order t base));
     none = λ t a. at .none t (omega arith);
   }
 
   -- a run in the word
-  pub gap-hit : (g r : ℕ) → ((j : ℕ) → bit g j ≡ all (bit w) j k) → First g r → ((t : ℕ) → base ≤ t + s → t < base → all f t k ≡ false) → Least f k (base + r)
+  pub gap-hit : (g r : ℕ) → ((j : ℕ) → bit g j ≡ all (bit w) j k) → First g r
+      → ((t : ℕ) → base ≤ t + s → t < base → all f t k ≡ false) → Least f k (base + r)
   gap-hit g r says first early =
       let whole : all (bit w) r k ≡ true = sym (says r) ∙ first .here in
       let lr : r < 64 = first .within in
-      let fits : r + k ≤ 64 = ⊎-elim (λ (u : 64 < r + k). absurd (clash (bit w 64) (all-elim (bit w) r k whole 64 (omega arith) u) (bit-past w 64 (omega arith)))) (λ u. u) (order 64 (r + k)) in
+      let fits : r + k ≤ 64 =
+      ⊎-elim (λ (u : 64 < r + k). absurd (clash (bit w 64) (all-elim (bit w) r k whole 64 (omega arith) u)
+      (bit-past w 64 (omega arith)))) (λ u. u) (order 64 (r + k)) in
       record {
         fits = sym (run r k fits) ∙ whole;
         none = λ t a. ⊎-elim (λ u. ⊎-elim (λ v. at .none t v) (λ g. early t g u) (order (t + s) base))
             (λ g. let e : base + (t - base) ≡ t = omega arith in
-            ap (λ (x : ℕ). all f x k) (sym e) ∙ sym (run (t - base) k (omega arith)) ∙ sym (says (t - base)) ∙ first .before (t - base) (omega arith)) (order t base);
+            ap (λ (x : ℕ). all f x k) (sym e) ∙ sym (run (t - base) k (omega arith)) ∙ sym (says (t - base))
+            ∙ first .before (t - base) (omega arith)) (order t base);
       }

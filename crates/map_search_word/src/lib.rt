@@ -46,7 +46,8 @@ pub fn core_of(k: u32) -> u64
 pub fn scan_word(w: u64, base: u32, s: u32, k: u32, core: u64) -> Step
     requires { ⌜ (base ≤ 262144) × (s ≤ base) × (s < k) × Core k core ⌝ }
     ensures { λ r. ⌜ Bounded k (base + 64) r ⌝ }
-    ensures { λ r. ⌜ ((f : ℕ → Bool) → ((j : ℕ) → j < 64 → bit w j ≡ f (base + j)) → Carried f k base s → Stepped f k (base + 64) r) ⌝ }
+    ensures { λ r.
+        ⌜ ((f : ℕ → Bool) → ((j : ℕ) → j < 64 → bit w j ≡ f (base + j)) → Carried f k base s → Stepped f k (base + 64) r) ⌝ }
 {
     let wanted = k - s;
     if has_all(w, span(0, smaller(wanted, 64))) {

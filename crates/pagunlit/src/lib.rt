@@ -5,7 +5,11 @@ ghost use mathlib.Core.Path.{_≡_};
 ghost use Rattle.block.specs.Calls.{sealAnswer, afterSeal, checkAnswer};
 ghost use Rattle.pagunlit_replies.specs.Replies.{replyOf};
 ghost use Rattle.refusals.specs.Lent.{noCard};
-ghost use Rattle.card.specs.Calls.{kept, freshOutcome, freshMap, freshEntries, searchOutcome, surveyOutcome, reserveOutcome, reserveMap, reserveEntries, reserveCard, growOutcome, growMap, growEntries, growCard, putOutcome, putCard, completeOutcome, completeEntries, pauseOutcome, pauseEntries, releaseOutcome, releaseMap, releaseEntries, showOutcome, showBuffer, standingOutcome, saveOutcome, saveScratch, saveImage, loadOutcome, loadMap, loadEntries, loadScratch};
+ghost use Rattle.card.specs.Calls.{kept, freshOutcome, freshMap, freshEntries, searchOutcome, surveyOutcome, reserveOutcome};
+ghost use Rattle.card.specs.Calls.{reserveMap, reserveEntries, reserveCard, growOutcome, growMap, growEntries, growCard};
+ghost use Rattle.card.specs.Calls.{putOutcome, putCard, completeOutcome, completeEntries, pauseOutcome, pauseEntries};
+ghost use Rattle.card.specs.Calls.{releaseOutcome, releaseMap, releaseEntries, showOutcome, showBuffer, standingOutcome};
+ghost use Rattle.card.specs.Calls.{saveOutcome, saveScratch, saveImage, loadOutcome, loadMap, loadEntries, loadScratch};
 use card::Shape;
 use catalogue::Entry;
 use pagunlit_replies::Reply;
@@ -185,9 +189,13 @@ pub extern "C" fn pagunlit_save(
     scratch: &mut [u64],
     image: &mut [u8],
 ) -> Reply
-    ensures { λ r. ⌜ (r ≡ replyOf (saveOutcome shape (now (map .entry)) (now (catalogue .entry)) (now (scratch .entry)) (now (image .entry))))
-        × (now (scratch .exit) ≡ saveScratch shape (now (map .entry)) (now (catalogue .entry)) (now (scratch .entry)) (now (image .entry)))
-        × (now (image .exit) ≡ saveImage shape (now (map .entry)) (now (catalogue .entry)) (now (scratch .entry)) (now (image .entry))) ⌝ }
+    ensures { λ r.
+        ⌜ (r ≡ replyOf (saveOutcome shape (now (map .entry)) (now (catalogue .entry)) (now (scratch .entry))
+        (now (image .entry))))
+        × (now (scratch .exit) ≡ saveScratch shape (now (map .entry)) (now (catalogue .entry)) (now (scratch .entry))
+        (now (image .entry)))
+        × (now (image .exit) ≡ saveImage shape (now (map .entry)) (now (catalogue .entry)) (now (scratch .entry))
+        (now (image .entry))) ⌝ }
 {
     let outcome = shape.save(map, catalogue, scratch, image);
     reply_of(outcome)
@@ -201,10 +209,15 @@ pub extern "C" fn pagunlit_load(
     catalogue: &mut [Entry],
     scratch: &mut [u64],
 ) -> Reply
-    ensures { λ r. ⌜ (r ≡ replyOf (loadOutcome shape (now (image .entry)) (now (map .entry)) (now (catalogue .entry)) (now (scratch .entry))))
-        × (now (map .exit) ≡ loadMap shape (now (image .entry)) (now (map .entry)) (now (catalogue .entry)) (now (scratch .entry)))
-        × (now (catalogue .exit) ≡ loadEntries shape (now (image .entry)) (now (map .entry)) (now (catalogue .entry)) (now (scratch .entry)))
-        × (now (scratch .exit) ≡ loadScratch shape (now (image .entry)) (now (map .entry)) (now (catalogue .entry)) (now (scratch .entry))) ⌝ }
+    ensures { λ r.
+        ⌜ (r ≡ replyOf (loadOutcome shape (now (image .entry)) (now (map .entry)) (now (catalogue .entry))
+        (now (scratch .entry))))
+        × (now (map .exit) ≡ loadMap shape (now (image .entry)) (now (map .entry)) (now (catalogue .entry))
+        (now (scratch .entry)))
+        × (now (catalogue .exit) ≡ loadEntries shape (now (image .entry)) (now (map .entry)) (now (catalogue .entry))
+        (now (scratch .entry)))
+        × (now (scratch .exit) ≡ loadScratch shape (now (image .entry)) (now (map .entry)) (now (catalogue .entry))
+        (now (scratch .entry))) ⌝ }
 {
     let outcome = shape.load(image, map, catalogue, scratch);
     reply_of(outcome)

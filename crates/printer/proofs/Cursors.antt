@@ -33,14 +33,17 @@ module _ (at : Cursor) (text : List ℕ) (e : Entry) where
   unfolding lineCursor lineWritten
   line-some r text′ a w = (
     ap (λ (i : ℕ). cursor i (at .sheet + 1) false) (w .ends)
-        ∙ ap (λ (b : Bool). cond b (cursor (behind text (at .at) line) (at .sheet + 1) false) (cursor (at .at) (at .sheet) true)) (sym a),
+        ∙ ap (λ (b : Bool). cond b (cursor (behind text (at .at) line) (at .sheet + 1) false)
+        (cursor (at .at) (at .sheet) true)) (sym a),
     w .leaves ∙ ap (λ (b : Bool). cond b (written text (at .at) line) text) (sym a),
   )
 
-  pub line-none : room at text ≡ false → (cursor (at .at) (at .sheet) true ≡ lineCursor at text e) × (text ≡ lineWritten at text e)
+  pub line-none : room at text ≡ false → (cursor (at .at) (at .sheet) true ≡ lineCursor at text e)
+      × (text ≡ lineWritten at text e)
   unfolding lineCursor lineWritten
   line-none a = (
-    ap (λ (b : Bool). cond b (cursor (behind text (at .at) line) (at .sheet + 1) false) (cursor (at .at) (at .sheet) true)) (sym a),
+    ap (λ (b : Bool). cond b (cursor (behind text (at .at) line) (at .sheet + 1) false) (cursor (at .at) (at .sheet) true))
+        (sym a),
     ap (λ (b : Bool). cond b (written text (at .at) line) text) (sym a),
   )
 
@@ -65,12 +68,14 @@ unfolding linesCursor
 cursor-none at text = refl
 
 pub cursor-more : (e : Entry) (es : List Entry) (at : Cursor) (text : List ℕ)
-    → linesCursor (e ∷ es) at text ≡ cond (lineCursor at text e .stop) (lineCursor at text e) (linesCursor es (lineCursor at text e) (lineWritten at text e))
+    → linesCursor (e ∷ es) at text ≡ cond (lineCursor at text e .stop) (lineCursor at text e)
+    (linesCursor es (lineCursor at text e) (lineWritten at text e))
 unfolding linesCursor
 cursor-more e es at text = which (lineCursor at text e .stop) refl
   where
     which : (b : Bool) → lineCursor at text e .stop ≡ b
-        → linesCursor es (lineCursor at text e) (lineWritten at text e) ≡ cond b (lineCursor at text e) (linesCursor es (lineCursor at text e) (lineWritten at text e))
+        → linesCursor es (lineCursor at text e) (lineWritten at text e)
+        ≡ cond b (lineCursor at text e) (linesCursor es (lineCursor at text e) (lineWritten at text e))
     which true s = cursor-stays es (lineCursor at text e) (lineWritten at text e) s
     which false s = refl
 
@@ -79,11 +84,13 @@ unfolding linesWritten
 text-none at text = refl
 
 pub text-more : (e : Entry) (es : List Entry) (at : Cursor) (text : List ℕ)
-    → linesWritten (e ∷ es) at text ≡ cond (lineCursor at text e .stop) (lineWritten at text e) (linesWritten es (lineCursor at text e) (lineWritten at text e))
+    → linesWritten (e ∷ es) at text ≡ cond (lineCursor at text e .stop) (lineWritten at text e)
+    (linesWritten es (lineCursor at text e) (lineWritten at text e))
 unfolding linesWritten
 text-more e es at text = which (lineCursor at text e .stop) refl
   where
     which : (b : Bool) → lineCursor at text e .stop ≡ b
-        → linesWritten es (lineCursor at text e) (lineWritten at text e) ≡ cond b (lineWritten at text e) (linesWritten es (lineCursor at text e) (lineWritten at text e))
+        → linesWritten es (lineCursor at text e) (lineWritten at text e)
+        ≡ cond b (lineWritten at text e) (linesWritten es (lineCursor at text e) (lineWritten at text e))
     which true s = text-stays es (lineCursor at text e) (lineWritten at text e) s
     which false s = refl

@@ -31,12 +31,14 @@ decimal-less zero h = refl
 decimal-less (suc n) h =
     let none : suc n / 10 ≡ 0 = omega (arith, h) in
     let e : suc n % 10 ≡ suc n = omega (arith, h) in
-    ap₂ (λ (m d : ℕ). digitsOf n m ++ (0x30 + d) ∷ []) none e ∙ ap (λ (l : List ℕ). l ++ (0x30 + suc n) ∷ []) (enough n 0 0 (omega arith) (omega arith))
+    ap₂ (λ (m d : ℕ). digitsOf n m ++ (0x30 + d) ∷ []) none e
+    ∙ ap (λ (l : List ℕ). l ++ (0x30 + suc n) ∷ []) (enough n 0 0 (omega arith) (omega arith))
 
 pub decimal-more : (n : ℕ) → 10 ≤ n → decimal n ≡ decimal (n / 10) ++ (0x30 + n % 10) ∷ []
 unfolding decimal digitsOf
 decimal-more zero h = absurd (omega (arith, h))
-decimal-more (suc n) h = ap (λ (l : List ℕ). l ++ (0x30 + suc n % 10) ∷ []) (whole (suc n / 10) (omega (arith, h)) (omega (arith, h)))
+decimal-more (suc n) h = ap (λ (l : List ℕ). l ++ (0x30 + suc n % 10) ∷ [])
+    (whole (suc n / 10) (omega (arith, h)) (omega (arith, h)))
   where
     whole : (m : ℕ) → 0 < m → m ≤ n → digitsOf n m ≡ decimal m
     whole zero p k = absurd (omega (arith, p))
@@ -76,7 +78,8 @@ reads-back = by-digits (λ n. readFrom 0 (decimal n) ≡ n) one more
 -- all are digits
 digits-last : (xs : List ℕ) (d : ℕ) → d < 10 → allDigits xs ≡ true → allDigits (xs ++ (0x30 + d) ∷ []) ≡ true
 unfolding allDigits
-digits-last [] d h e = ap₂ (λ (a b : Bool). a && b && true) (le-leb 0x30 (0x30 + d) (omega arith)) (le-leb (0x30 + d) 0x39 (omega (arith, h)))
+digits-last [] d h e = ap₂ (λ (a b : Bool). a && b && true) (le-leb 0x30 (0x30 + d) (omega arith))
+    (le-leb (0x30 + d) 0x39 (omega (arith, h)))
 digits-last (x ∷ xs) d h e = which (leb 0x30 x && leb x 0x39) (λ f. digits-last xs d h f) e
   where
     which : (b : Bool) → (allDigits xs ≡ true → allDigits (xs ++ (0x30 + d) ∷ []) ≡ true)
@@ -115,7 +118,8 @@ no-leading-zero = by-digits (λ n. getD (decimal n) 0 0 ≡ 0x30 → n ≡ 0) on
     more : (n : ℕ) → 10 ≤ n → (getD (decimal (n / 10)) 0 0 ≡ 0x30 → n / 10 ≡ 0) → getD (decimal n) 0 0 ≡ 0x30 → n ≡ 0
     more n h f e =
         let first : getD (decimal n) 0 0 ≡ getD (decimal (n / 10)) 0 0 =
-        ap (λ (l : List ℕ). getD l 0 0) (decimal-more n h) ∙ List·getD-append (decimal (n / 10)) ((0x30 + n % 10) ∷ []) 0 0 (some (n / 10)) in
+        ap (λ (l : List ℕ). getD l 0 0) (decimal-more n h)
+        ∙ List·getD-append (decimal (n / 10)) ((0x30 + n % 10) ∷ []) 0 0 (some (n / 10)) in
         let none : n / 10 ≡ 0 = f (sym first ∙ e) in
         omega (arith, none, h)
 
@@ -130,7 +134,8 @@ unfolding power
 decimal-length zero n h = omega (arith, ap {B = ℕ} length (decimal-less n h))
 decimal-length (suc k) n h = which (order n 10) (λ z. decimal-length k (n / 10) z)
   where
-    which : (n < 10) ⊎ (10 ≤ n) → (n / 10 < power (suc k) → length (decimal (n / 10)) ≤ suc k) → length (decimal n) ≤ suc (suc k)
+    which : (n < 10) ⊎ (10 ≤ n) → (n / 10 < power (suc k) → length (decimal (n / 10)) ≤ suc k)
+        → length (decimal n) ≤ suc (suc k)
     which (inl l) f = omega (arith, ap {B = ℕ} length (decimal-less n l))
     which (inr g) f =
         let less : n / 10 < power (suc k) = omega (arith, h) in

@@ -27,7 +27,8 @@ line-long sheet e =
     omega (arith, length-append front (numeral (e .length) newline), length-append (decimal (e .length)) (newline ∷ []))
 
 -- the text is full when the sheet's number comes to its length
-next-room : (sheet at : ℕ) (text line : List ℕ) → sheet < length text → sheet ≤ at → 0 < length line → sheet + 1 ≤ behind text at line
+next-room : (sheet at : ℕ) (text line : List ℕ) → sheet < length text → sheet ≤ at → 0 < length line
+    → sheet + 1 ≤ behind text at line
 unfolding behind
 next-room sheet at text line h k l = omega (arith, h, k, l)
 
@@ -41,14 +42,17 @@ after-none at text = writes-none text (at .at)
 
 -- with room for the line of the first
 after-some : (e : Entry) (es : List Entry) (at : Cursor) (text : List ℕ) → at .stop ≡ false → at .sheet < length text
-    → After es (cursor (behind text (at .at) (sheetLine (at .sheet) e)) (at .sheet + 1) false) (written text (at .at) (sheetLine (at .sheet) e)) → After (e ∷ es) at text
+    → After es (cursor (behind text (at .at) (sheetLine (at .sheet) e)) (at .sheet + 1) false)
+    (written text (at .at) (sheetLine (at .sheet) e)) → After (e ∷ es) at text
 unfolding sheetLines linesCursor linesWritten
 after-some e es at text s h w =
-    let first : Writes (sheetLine (at .sheet) e) text (at .at) (behind text (at .at) (sheetLine (at .sheet) e)) (written text (at .at) (sheetLine (at .sheet) e)) =
+    let first : Writes (sheetLine (at .sheet) e) text (at .at) (behind text (at .at) (sheetLine (at .sheet) e))
+    (written text (at .at) (sheetLine (at .sheet) e)) =
     record { ends = refl; leaves = refl } in
     let l = line-some at text e _ _ (going at text s h) first in
     let next : at .sheet + 1 ≡ suc (at .sheet) = omega arith in
-    subst (λ (n : ℕ). Writes (sheetLine (at .sheet) e ++ sheetLines n es) text (at .at) (linesCursor (e ∷ es) at text .at) (linesWritten (e ∷ es) at text)) next
+    subst (λ (n : ℕ). Writes (sheetLine (at .sheet) e ++ sheetLines n es) text (at .at) (linesCursor (e ∷ es) at text .at)
+    (linesWritten (e ∷ es) at text)) next
     (then first
     (record {
       ends = ap₂ (λ (c : Cursor) (t : List ℕ). linesCursor es c t .at) (sym (l .0)) (sym (l .1)) ∙ w .ends;
@@ -56,31 +60,40 @@ after-some e es at text s h w =
     }))
 
 -- without
-after-full : (e : Entry) (es : List Entry) (at : Cursor) (text : List ℕ) → at .stop ≡ false → length text ≤ at .sheet → at .sheet ≤ at .at → After (e ∷ es) at text
+after-full : (e : Entry) (es : List Entry) (at : Cursor) (text : List ℕ) → at .stop ≡ false → length text ≤ at .sheet
+    → at .sheet ≤ at .at → After (e ∷ es) at text
 unfolding linesCursor linesWritten
 after-full e es at text s h k =
     let l = line-none at text e (full at text s h) in
     let p = writes-past (sheetLines (at .sheet) (e ∷ es)) text (at .at) (omega (arith, h, k)) in
     record {
-      ends = ap (λ (c : Cursor). c .at) (ap₂ (linesCursor es) (sym (l .0)) (sym (l .1)) ∙ cursor-stays es (cursor (at .at) (at .sheet) true) text refl) ∙ p .ends;
-      leaves = ap₂ (linesWritten es) (sym (l .0)) (sym (l .1)) ∙ text-stays es (cursor (at .at) (at .sheet) true) text refl ∙ p .leaves;
+      ends = ap (λ (c : Cursor). c .at) (ap₂ (linesCursor es) (sym (l .0)) (sym (l .1))
+          ∙ cursor-stays es (cursor (at .at) (at .sheet) true) text refl) ∙ p .ends;
+      leaves = ap₂ (linesWritten es) (sym (l .0)) (sym (l .1)) ∙ text-stays es (cursor (at .at) (at .sheet) true) text refl
+          ∙ p .leaves;
     }
 
 pub after : (es : List Entry) (at : Cursor) (text : List ℕ) → at .stop ≡ false → at .sheet ≤ at .at → After es at text
 after [] at text s k = after-none at text
 after (e ∷ es) at text s k = which (order (at .sheet) (length text)) (λ c t z k. after es c t z k)
   where
-    which : (at .sheet < length text) ⊎ (length text ≤ at .sheet) → ((c : Cursor) (t : List ℕ) → c .stop ≡ false → c .sheet ≤ c .at → After es c t) → After (e ∷ es) at text
+    which : (at .sheet < length text) ⊎ (length text ≤ at .sheet)
+        → ((c : Cursor) (t : List ℕ) → c .stop ≡ false → c .sheet ≤ c .at → After es c t) → After (e ∷ es) at text
     which (inl h) rest =
         after-some e es at text s h
-        (rest (cursor (behind text (at .at) (sheetLine (at .sheet) e)) (at .sheet + 1) false) (written text (at .at) (sheetLine (at .sheet) e)) refl (next-room (at .sheet) (at .at) text (sheetLine (at .sheet) e) h k (line-long (at .sheet) e)))
+        (rest (cursor (behind text (at .at) (sheetLine (at .sheet) e)) (at .sheet + 1) false)
+        (written text (at .at) (sheetLine (at .sheet) e)) refl
+        (next-room (at .sheet) (at .at) text (sheetLine (at .sheet) e) h k (line-long (at .sheet) e)))
     which (inr h) rest = after-full e es at text s h k
 
 -- the lines behind the first two are the text of the card
 pub describes : (n spare : ℕ) (counts : Counts) (entries : List Entry) (text : List ℕ)
-    → Describes n spare counts entries text (placeOf (linesCursor entries (headCursor n spare (length entries) counts text) (headWritten n spare (length entries) counts text)))
+    → Describes n spare counts entries text (placeOf
+    (linesCursor entries (headCursor n spare (length entries) counts text)
+    (headWritten n spare (length entries) counts text)))
     (linesWritten entries (headCursor n spare (length entries) counts text) (headWritten n spare (length entries) counts text))
 unfolding headCursor headWritten cardText
 describes n spare counts entries text =
     then (record { ends = refl; leaves = refl })
-    (after entries (headCursor n spare (length entries) counts text) (headWritten n spare (length entries) counts text) refl (omega arith))
+    (after entries (headCursor n spare (length entries) counts text) (headWritten n spare (length entries) counts text) refl
+    (omega arith))

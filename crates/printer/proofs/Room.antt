@@ -15,12 +15,16 @@ use Rattle.printer.specs.Text.{refusedWord, sheetLines, cardText, refusa
 use Rattle.printer.proofs.Decimals.{power, decimal-length}
 
 -- what finds room stands there whole
-pub whole : (bytes text text′ : List ℕ) (r : ℕ) → length bytes ≤ length text → Writes bytes text 0 r text′ → (r ≡ length bytes) × (take r text′ ≡ bytes)
+pub whole : (bytes text text′ : List ℕ) (r : ℕ) → length bytes ≤ length text → Writes bytes text 0 r text′
+    → (r ≡ length bytes) × (take r text′ ≡ bytes)
 unfolding behind written
 whole bytes text text′ r h w =
     let all : r ≡ length bytes = omega (arith, w .ends, h) in
-    let fits : 0 + length bytes ≤ length text = omega (arith, h) in
-    (all, ap (λ (k : ℕ). take k text′) all ∙ ap (take (length bytes)) (w .leaves ∙ sets-eq bytes text 0 fits) ∙ take-append-seam bytes (drop (0 + length bytes) text))
+    let fits : 0 + length bytes ≤ length text = omega (arith, h) in (
+      all,
+      ap (λ (k : ℕ). take k text′) all ∙ ap (take (length bytes)) (w .leaves ∙ sets-eq bytes text 0 fits)
+          ∙ take-append-seam bytes (drop (0 + length bytes) text),
+    )
 
 -- a 32-bit number has at most 10 digits, and a sheet's number at most 4
 word-digits : (n : ℕ) → n < 4294967296 → length (decimal n) ≤ 10
@@ -35,7 +39,8 @@ numeral-length : (n end : ℕ) → length (numeral n end) ≡ length (decimal n)
 unfolding numeral
 numeral-length n end = length-append (decimal n) (end ∷ [])
 
-line-length : (sheet : ℕ) (e : Entry) → sheet < 10000 → e .start < 4294967296 → e .length < 4294967296 → length (sheetLine sheet e) ≤ 29
+line-length : (sheet : ℕ) (e : Entry) → sheet < 10000 → e .start < 4294967296 → e .length < 4294967296
+    → length (sheetLine sheet e) ≤ 29
 unfolding sheetLine
 line-length sheet e h s l =
     let mark : List ℕ = e .mark % 256 ∷ space ∷ [] in
@@ -55,7 +60,8 @@ line-length sheet e h s l =
       word-digits (e .length) l,
     )
 
-lines-length : (es : List Entry) (sheet : ℕ) → sheet + length es ≤ 10000 → AllNumbers es → length (sheetLines sheet es) ≤ 29 * length es
+lines-length : (es : List Entry) (sheet : ℕ) → sheet + length es ≤ 10000 → AllNumbers es
+    → length (sheetLines sheet es) ≤ 29 * length es
 unfolding sheetLines
 lines-length [] sheet h a = omega arith
 lines-length (e ∷ es) sheet h a =
@@ -97,7 +103,8 @@ runs-line-length counts hr hl =
       word-digits (counts .longest) hl,
     )
 
-pub card-fits : (n spare : ℕ) (counts : Counts) (entries : List Entry) → Printable n spare counts entries → length (cardText n spare counts entries) ≤ 32768
+pub card-fits : (n spare : ℕ) (counts : Counts) (entries : List Entry) → Printable n spare counts entries
+    → length (cardText n spare counts entries) ≤ 32768
 unfolding cardText
 card-fits n spare counts entries p =
     let first = cardLine n spare (length entries) in
@@ -111,15 +118,23 @@ card-fits n spare counts entries p =
       p .sheets,
     )
 
-pub card-whole : (n spare : ℕ) (counts : Counts) (entries : List Entry) (text text′ : List ℕ) (r : ℕ) → Printable n spare counts entries → 32768 ≤ length text
-    → Writes (cardText n spare counts entries) text 0 r text′ → (r ≡ length (cardText n spare counts entries)) × (take r text′ ≡ cardText n spare counts entries)
+pub card-whole : (n spare : ℕ) (counts : Counts) (entries : List Entry) (text text′ : List ℕ) (r : ℕ)
+    → Printable n spare counts entries → 32768 ≤ length text
+    → Writes (cardText n spare counts entries) text 0 r text′
+    → (r ≡ length (cardText n spare counts entries)) × (take r text′ ≡ cardText n spare counts entries)
 card-whole n spare counts entries text text′ r p h w =
     whole (cardText n spare counts entries) text text′ r (omega (arith, h, card-fits n spare counts entries p)) w
 
 refusal-fits : (number : ℕ) → number < 4294967296 → length (refusalText number) ≤ 19
 unfolding refusalText
-refusal-fits number h = omega (arith, length-append refusedWord (numeral number newline), numeral-length number newline, word-digits number h)
+refusal-fits number h = omega (
+  arith,
+  length-append refusedWord (numeral number newline),
+  numeral-length number newline,
+  word-digits number h,
+)
 
-pub refusal-whole : (number : ℕ) (text text′ : List ℕ) (r : ℕ) → number < 4294967296 → 19 ≤ length text → Writes (refusalText number) text 0 r text′
+pub refusal-whole : (number : ℕ) (text text′ : List ℕ) (r : ℕ) → number < 4294967296 → 19 ≤ length text
+    → Writes (refusalText number) text 0 r text′
     → (r ≡ length (refusalText number)) × (take r text′ ≡ refusalText number)
 refusal-whole number text text′ r k h w = whole (refusalText number) text text′ r (omega (arith, h, refusal-fits number k)) w

@@ -43,7 +43,8 @@ unfolding behind
 behind-none text at = omega arith
 
 -- the second of two writes stands where the first ends, or all of it is past the end
-pub written-both : (xs ys text : List ℕ) (at : ℕ) → written (written text at xs) (behind text at xs) ys ≡ written text at (xs ++ ys)
+pub written-both : (xs ys text : List ℕ) (at : ℕ)
+    → written (written text at xs) (behind text at xs) ys ≡ written text at (xs ++ ys)
 unfolding written behind
 written-both xs ys text at = which (order (at + length xs) (length text))
   where
@@ -59,12 +60,14 @@ written-both xs ys text at = which (order (at + length xs) (length text))
         sets-past ys (sets text at xs) (max at (min (at + length xs) (length text))) far
         ∙ sym (sets-past ys (sets text at xs) (at + length xs) last) ∙ sets-both xs ys text at
 
-pub behind-both : (xs ys text text′ : List ℕ) (at : ℕ) → length text′ ≡ length text → behind text′ (behind text at xs) ys ≡ behind text at (xs ++ ys)
+pub behind-both : (xs ys text text′ : List ℕ) (at : ℕ) → length text′ ≡ length text
+    → behind text′ (behind text at xs) ys ≡ behind text at (xs ++ ys)
 unfolding behind
 behind-both xs ys text text′ at l = omega (arith, l, length-append xs ys)
 
 -- `then first second`: what two writes come to
-pub then : {xs ys text text′ text″ : List ℕ} {at at′ at″ : ℕ} → Writes xs text at at′ text′ → Writes ys text′ at′ at″ text″ → Writes (xs ++ ys) text at at″ text″
+pub then : {xs ys text text′ text″ : List ℕ} {at at′ at″ : ℕ} → Writes xs text at at′ text′ → Writes ys text′ at′ at″ text″
+    → Writes (xs ++ ys) text at at″ text″
 then {xs} {ys} {text} {text′} {text″} {at} {at′} {at″} w w′ =
     let l : length text′ ≡ length text = ap length (w .leaves) ∙ written-length text at xs in
     record {
@@ -91,5 +94,6 @@ writes-next word text text′ text″ at at′ at″ i h w w′ =
     subst (λ (bytes : List ℕ). Writes bytes text at at″ text″) (sym (ap (λ (k : ℕ). take k word) e ∙ take-suc word i 0 h))
     (then w w′)
 
-pub writes-all : (word text text′ : List ℕ) (at at′ i : ℕ) → length word ≤ i → Writes (take i word) text at at′ text′ → Writes word text at at′ text′
+pub writes-all : (word text text′ : List ℕ) (at at′ i : ℕ) → length word ≤ i → Writes (take i word) text at at′ text′
+    → Writes word text at at′ text′
 writes-all word text text′ at at′ i h = subst (λ (bytes : List ℕ). Writes bytes text at at′ text′) (take-all i word h)

@@ -33,4 +33,5 @@ runsLine counts = runsWord ++ decimal (counts .runs) ++ longestWord ++ numeral (
 -- The line of a sheet: number, mark as a letter, start, length. A mark is the ASCII code of its letter: 41, 50, 4F and 43 (hex)
 -- are A, P, O and C.
 unfoldable pub sheetLine : ℕ → Entry → List ℕ
-sheetLine sheet e = numeral sheet space ++ (e .mark % 256 ∷ space ∷ []) ++ numeral (e .start) space ++ numeral (e .length) newline
+sheetLine sheet e = numeral sheet space ++ (e .mark % 256 ∷ space ∷ []) ++ numeral (e .start) space
+    ++ numeral (e .length) newline

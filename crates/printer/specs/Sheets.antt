@@ -1,4 +1,5 @@
--- What the functions that write a card's text give and leave, one after the other. The lines of the sheets are written by a cursor.
+-- What the functions that write a card's text give and leave, one after the other. The lines of the sheets are written by a
+-- cursor.
 -- Assumes nothing.
 use mathlib.Core.Bool.{Bool, true, false, not, _&&_, cond}
 use mathlib.Core.List.{List, [], _∷_, _++_}
@@ -31,7 +32,8 @@ room at text = not (at .stop) && ltb (at .sheet) (length text)
 -- The cursor's line is written, and that of the next one goes behind it.
 unfoldable pub lineCursor : Cursor → List ℕ → Entry → Cursor
 lineCursor at text e =
-    cond (room at text) (cursor (behind text (at .at) (sheetLine (at .sheet) e)) (at .sheet + 1) false) (cursor (at .at) (at .sheet) true)
+    cond (room at text) (cursor (behind text (at .at) (sheetLine (at .sheet) e)) (at .sheet + 1) false)
+    (cursor (at .at) (at .sheet) true)
 
 unfoldable pub lineWritten : Cursor → List ℕ → Entry → List ℕ
 lineWritten at text e = cond (room at text) (written text (at .at) (sheetLine (at .sheet) e)) text

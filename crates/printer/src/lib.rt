@@ -98,7 +98,8 @@ pub struct Cursor {
 
 // Writes the first two lines. Those of the sheets go behind them.
 pub fn write_head(n: u32, free: u32, c: usize, counts: Counts, text: &mut [u8]) -> Cursor
-    ensures { λ r. ⌜ (r ≡ headCursor n free c counts (now (text .entry))) × (now (text .exit) ≡ headWritten n free c counts (now (text .entry))) ⌝ }
+    ensures { λ r. ⌜ (r ≡ headCursor n free c counts (now (text .entry)))
+        × (now (text .exit) ≡ headWritten n free c counts (now (text .entry))) ⌝ }
 {
     let second = write_card(text, 0, n, free, c);
     let third = write_runs(text, second, counts);
@@ -111,7 +112,8 @@ pub fn write_head(n: u32, free: u32, c: usize, counts: Counts, text: &mut [u8]) 
 
 // Writes the line of the cursor's sheet, if there is room.
 fn write_sheet(from: Cursor, text: &mut [u8], entry: Entry) -> Cursor
-    ensures { λ r. ⌜ (r ≡ lineCursor from (now (text .entry)) entry) × (now (text .exit) ≡ lineWritten from (now (text .entry)) entry) ⌝ }
+    ensures { λ r. ⌜ (r ≡ lineCursor from (now (text .entry)) entry)
+        × (now (text .exit) ≡ lineWritten from (now (text .entry)) entry) ⌝ }
 {
     let at = from.at;
     let sheet = from.sheet;
@@ -139,7 +141,8 @@ fn write_sheet(from: Cursor, text: &mut [u8], entry: Entry) -> Cursor
 
 // Writes a line for each sheet.
 pub fn write_sheets(catalogue: &[Entry], start: Cursor, text: &mut [u8]) -> Cursor
-    ensures { λ r. ⌜ (r ≡ linesCursor (now (catalogue .entry)) start (now (text .entry))) × (now (text .exit) ≡ linesWritten (now (catalogue .entry)) start (now (text .entry))) ⌝ }
+    ensures { λ r. ⌜ (r ≡ linesCursor (now (catalogue .entry)) start (now (text .entry)))
+        × (now (text .exit) ≡ linesWritten (now (catalogue .entry)) start (now (text .entry))) ⌝ }
 {
     let mut state = start;
     let mut i: usize = 0;

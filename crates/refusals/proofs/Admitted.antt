@@ -17,10 +17,12 @@ module _ (fits : Bool) (c sheet : ℕ) (s : Standing) (rows : List Row) where
   abbrev absentOnly : List Row
   absentOnly = rowsOf fits c sheet s (row 6 (isPaused s) ∷ row 7 (isOpen s) ∷ row 8 (isComplete s) ∷ rows)
 
-  pub absent-else : (t : Standing) → openedOf fits c sheet s ≡ Stands t → Not (1 ∷ 2 ∷ 3 ∷ 4 ∷ []) t → firstOf absentOnly ≡ refused (rowOf t)
+  pub absent-else : (t : Standing) → openedOf fits c sheet s ≡ Stands t → Not (1 ∷ 2 ∷ 3 ∷ 4 ∷ []) t
+      → firstOf absentOnly ≡ refused (rowOf t)
   absent-else t h differs =
       let o = opened fits c sheet s t _ h in
-      o .verdict ∙ not-absent s rows (subst (Not (1 ∷ 2 ∷ 3 ∷ 4 ∷ [])) (sym (o .same)) differs) (o .whole) ∙ ap (λ (t : Standing). refused (rowOf t)) (o .same)
+      o .verdict ∙ not-absent s rows (subst (Not (1 ∷ 2 ∷ 3 ∷ 4 ∷ [])) (sym (o .same)) differs) (o .whole)
+      ∙ ap (λ (t : Standing). refused (rowOf t)) (o .same)
 
   pub absent-passes : openedOf fits c sheet s ≡ Stands Absent → firstOf absentOnly ≡ firstOf rows
   absent-passes h =
@@ -30,10 +32,12 @@ module _ (fits : Bool) (c sheet : ℕ) (s : Standing) (rows : List Row) where
   abbrev openOnly : List Row
   openOnly = rowsOf fits c sheet s (row 5 (isAbsent s) ∷ row 6 (isPaused s) ∷ row 8 (isComplete s) ∷ rows)
 
-  pub open-else : (t : Standing) → openedOf fits c sheet s ≡ Stands t → Not (0 ∷ 1 ∷ 3 ∷ 4 ∷ []) t → firstOf openOnly ≡ refused (rowOf t)
+  pub open-else : (t : Standing) → openedOf fits c sheet s ≡ Stands t → Not (0 ∷ 1 ∷ 3 ∷ 4 ∷ []) t
+      → firstOf openOnly ≡ refused (rowOf t)
   open-else t h differs =
       let o = opened fits c sheet s t _ h in
-      o .verdict ∙ not-open s rows (subst (Not (0 ∷ 1 ∷ 3 ∷ 4 ∷ [])) (sym (o .same)) differs) (o .whole) ∙ ap (λ (t : Standing). refused (rowOf t)) (o .same)
+      o .verdict ∙ not-open s rows (subst (Not (0 ∷ 1 ∷ 3 ∷ 4 ∷ [])) (sym (o .same)) differs) (o .whole)
+      ∙ ap (λ (t : Standing). refused (rowOf t)) (o .same)
 
   pub open-passes : (start blocks : ℕ) → openedOf fits c sheet s ≡ Stands (Open start blocks) → firstOf openOnly ≡ firstOf rows
   open-passes start blocks h =

@@ -26,7 +26,8 @@ use Rattle.map_blocks.proofs.Least.{least-passes, none-passes}
 use Rattle.catalogue_standings.proofs.Openings.{open-extent}
 
 -- a row with another number than the verdict's does not hold
-later : (number m : ℕ) (test : Bool) (rows : List Row) → (number ≡ m → ⊥) → firstOf (row number test ∷ rows) ≡ refused m → (test ≡ false) × (firstOf rows ≡ refused m)
+later : (number m : ℕ) (test : Bool) (rows : List Row) → (number ≡ m → ⊥) → firstOf (row number test ∷ rows) ≡ refused m
+    → (test ≡ false) × (firstOf rows ≡ refused m)
 unfolding firstOf
 later number m true rows differs e = absurd (differs (cc))
 later number m false rows differs e = (refl, e)
@@ -37,7 +38,8 @@ last true e = refl
 last false e = let z : _≡_ {A = ℕ} 0 1 = cc in absurd (omega arith)
 
 -- the standing that is left
-is-open : (s : Standing) → isDamaged s ≡ false → isAbsent s ≡ false → isPaused s ≡ false → isComplete s ≡ false → (start : ℕ) × (blocks : ℕ) × (s ≡ Open start blocks)
+is-open : (s : Standing) → isDamaged s ≡ false → isAbsent s ≡ false → isPaused s ≡ false → isComplete s ≡ false
+    → (start : ℕ) × (blocks : ℕ) × (s ≡ Open start blocks)
 is-open Absent d a p c = absurd (true≢false a)
 is-open Paused d a p c = absurd (true≢false p)
 is-open (Open start blocks) d a p c = (start, blocks, refl)
@@ -45,9 +47,11 @@ is-open (Complete start blocks) d a p c = absurd (true≢false c)
 is-open Damaged d a p c = absurd (true≢false d)
 
 -- where not every number fails the test, the least that passes it does
-found : (test : ℕ → Bool) (m : ℕ) (r : Found) → least test 0 m ≡ r → all (λ p. not (test p)) 0 m ≡ false → (startAt r < m) × (test (startAt r) ≡ true)
+found : (test : ℕ → Bool) (m : ℕ) (r : Found) → least test 0 m ≡ r → all (λ p. not (test p)) 0 m ≡ false
+    → (startAt r < m) × (test (startAt r) ≡ true)
 found test m (At q) e some = let passes = least-passes test 0 m q e in (omega (arith, passes .high), passes .test)
-found test m Nothing e some = absurd (true≢false (sym (all-intro (λ p. not (test p)) 0 m (λ p a b. ap not (none-passes test 0 m e p a b))) ∙ some))
+found test m Nothing e some =
+    absurd (true≢false (sym (all-intro (λ p. not (test p)) 0 m (λ p a b. ap not (none-passes test 0 m e p a b))) ∙ some))
 
 module _ (q : Lent) where
   pub place-is-blank : completeVerdict q ≡ refused 9
@@ -65,8 +69,10 @@ module _ (q : Lent) where
       let o = is-open s (r4 .0) (r5 .0) (r6 .0) (r8 .0) in
       let extent = open-extent (q .n) (free (q .map)) (q .entry) (o .0) (o .1) (o .2) in
       let size : lengthOf s ≡ q .entry .length = ap lengthOf (o .2) ∙ sym (extent .lasts) in
-      let some : all (λ p. not (blank (blockOf (q .card) (q .entry .start + p)))) 0 (lengthOf s) ≡ false = turned _ (last _ (blocks .1)) in
-      found (λ p. blank (blockOf (q .card) (q .entry .start + p))) (q .entry .length) _ refl (subst (λ (m : ℕ). all (λ p. not (blank (blockOf (q .card) (q .entry .start + p)))) 0 m ≡ false) size some)
+      let some : all (λ p. not (blank (blockOf (q .card) (q .entry .start + p)))) 0 (lengthOf s) ≡ false =
+      turned _ (last _ (blocks .1)) in
+      found (λ p. blank (blockOf (q .card) (q .entry .start + p))) (q .entry .length) _ refl
+      (subst (λ (m : ℕ). all (λ p. not (blank (blockOf (q .card) (q .entry .start + p)))) 0 m ≡ false) size some)
     where
       turned : (b : Bool) → not b ≡ true → b ≡ false
       turned true e = absurd (true≢false (sym e))

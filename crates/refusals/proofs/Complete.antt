@@ -29,7 +29,8 @@ use Rattle.catalogue_standings.proofs.Openings.{Not, closed, opened}
 
 -- ---- no row but the last is 9
 
-pub opening-row : (fits : Bool) (c sheet : ℕ) (s : Standing) (number : ℕ) → openedOf fits c sheet s ≡ Refused number → eqb number 9 ≡ false
+pub opening-row : (fits : Bool) (c sheet : ℕ) (s : Standing) (number : ℕ) → openedOf fits c sheet s ≡ Refused number
+    → eqb number 9 ≡ false
 unfolding openedOf
 opening-row fits c sheet s number e = go fits (leb c sheet) s e
   where
@@ -39,7 +40,8 @@ opening-row fits c sheet s number e = go fits (leb c sheet) s e
     never : (s : Standing) → Stands s ≡ Refused number → ⊥
     never s e = let z : _≡_ {A = ℕ} 0 1 = cc in omega arith
 
-    go : (fits late : Bool) (s : Standing) → cond fits (cond late (Refused 2) (unlessDamaged s)) (Refused 1) ≡ Refused number → eqb number 9 ≡ false
+    go : (fits late : Bool) (s : Standing) → cond fits (cond late (Refused 2) (unlessDamaged s)) (Refused 1) ≡ Refused number
+        → eqb number 9 ≡ false
     go false late s e = is 1 refl e
     go true true s e = is 2 refl e
     go true false Absent e = absurd (never Absent e)
@@ -66,13 +68,18 @@ module _ (q : Lent) where
   refusal number = outOf (q .spare) (q .entry) (cond (eqb number 9) (answer.Blank lowest) (answer.Refused number))
 
   -- what the call hands back after its verdict
-  pub out : (v : Verdict) → verdict ≡ v → settle v (outOf (q .spare) (entryOf completeMark (q .entry .start) (q .entry .length)) answer.Done) refusal ≡ completeOut q
+  pub out : (v : Verdict) → verdict ≡ v → settle v
+      (outOf (q .spare) (entryOf completeMark (q .entry .start) (q .entry .length)) answer.Done) refusal ≡ completeOut q
   unfolding completeOut
-  out v h = ap (λ (w : Verdict). settle w (outOf (q .spare) (entryOf completeMark (q .entry .start) (q .entry .length)) answer.Done) refusal) (sym h)
+  out v h =
+      ap (λ (w : Verdict). settle w (outOf (q .spare) (entryOf completeMark (q .entry .start) (q .entry .length)) answer.Done)
+      refusal) (sym h)
 
-  pub by-row : (number : ℕ) (r : Out) → r ≡ refusalOut (q .spare) (q .entry) number → verdict ≡ refused number → eqb number 9 ≡ false → r ≡ completeOut q
+  pub by-row : (number : ℕ) (r : Out) → r ≡ refusalOut (q .spare) (q .entry) number → verdict ≡ refused number
+      → eqb number 9 ≡ false → r ≡ completeOut q
   by-row number r made h f =
-      made ∙ ap (λ (b : Bool). outOf (q .spare) (q .entry) (cond b (answer.Blank lowest) (answer.Refused number))) (sym f) ∙ out (refused number) h
+      made ∙ ap (λ (b : Bool). outOf (q .spare) (q .entry) (cond b (answer.Blank lowest) (answer.Refused number))) (sym f)
+      ∙ out (refused number) h
 
   pub shut : (number : ℕ) → first q ≡ Refused number → verdict ≡ refused number
   unfolding completeVerdict viewOn tableOf
@@ -91,18 +98,21 @@ module _ (q : Lent) where
 
   abbrev pub rest : ℕ → ℕ → List Row
   rest start blocks =
-      row 4 (not (all (λ p. blankAt start p || soundAt start p) 0 blocks)) ∷ row 9 (not (all (λ p. not (blankAt start p)) 0 blocks)) ∷ []
+      row 4 (not (all (λ p. blankAt start p || soundAt start p) 0 blocks))
+      ∷ row 9 (not (all (λ p. not (blankAt start p)) 0 blocks)) ∷ []
 
   module _ (start blocks : ℕ) (opens : first q ≡ Stands (Open start blocks)) where
     pub admitted : verdict ≡ firstOf (rest start blocks)
     unfolding completeVerdict viewOn tableOf
     admitted =
         open-passes _ _ _ _ _ start blocks opens
-        ∙ ap (λ (s : Standing). firstOf (rest (q .entry .start) (lengthOf s))) (opened (allFits q) (q .sheets) (q .sheet) (standing q) (Open start blocks) [] opens .same)
+        ∙ ap (λ (s : Standing). firstOf (rest (q .entry .start) (lengthOf s)))
+        (opened (allFits q) (q .sheets) (q .sheet) (standing q) (Open start blocks) [] opens .same)
         ∙ ap (λ (s : ℕ). firstOf (rest s blocks)) (extent q start blocks opens .starts)
 
     pub lowest-is : startAt (least (blankAt start) 0 blocks) ≡ lowest
     unfolding blankPlace viewOn
     lowest-is =
         let x = extent q start blocks opens in
-        ap (λ (s : ℕ). startAt (least (blankAt s) 0 blocks)) (sym (x .starts)) ∙ ap (λ (l : ℕ). startAt (least (blankAt (q .entry .start)) 0 l)) (sym (x .lasts))
+        ap (λ (s : ℕ). startAt (least (blankAt s) 0 blocks)) (sym (x .starts))
+        ∙ ap (λ (l : ℕ). startAt (least (blankAt (q .entry .start)) 0 l)) (sym (x .lasts))

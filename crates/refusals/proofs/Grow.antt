@@ -47,7 +47,8 @@ module _ (q : Lent) (m : ℕ) where
   unfolding growVerdict viewOn tableOf
   admitted start blocks h =
       open-passes _ _ _ _ _ start blocks h
-      ∙ ap (λ (s : Standing). firstOf (rest (startOf s + lengthOf s))) (opened (allFits q) (q .sheets) (q .sheet) (standing q) (Open start blocks) [] h .same)
+      ∙ ap (λ (s : Standing). firstOf (rest (startOf s + lengthOf s)))
+      (opened (allFits q) (q .sheets) (q .sheet) (standing q) (Open start blocks) [] h .same)
 
   pub no-blocks : (end : ℕ) → m ≡ 0 → firstOf (rest end) ≡ refused 3
   no-blocks end z = stop 3 _ _ (eq-eqb m 0 z)
@@ -56,19 +57,24 @@ module _ (q : Lent) (m : ℕ) where
   unfolding fit
   past-end end z l = skip 3 _ _ _ (ne-eqb m 0 z) (stop 11 _ _ (simp (le-leb 0 end (omega arith), lt-leb (end + m) (q .n) l)))
 
-  pub some-taken : (end : ℕ) → (m ≡ 0 → ⊥) → end + m ≤ q .n → all (free (q .map)) end m ≡ false → firstOf (rest end) ≡ refused 11
+  pub some-taken : (end : ℕ) → (m ≡ 0 → ⊥) → end + m ≤ q .n → all (free (q .map)) end m ≡ false
+      → firstOf (rest end) ≡ refused 11
   unfolding fit
-  some-taken end z l t = skip 3 _ _ _ (ne-eqb m 0 z) (stop 11 _ _ (simp (le-leb 0 end (omega arith), le-leb (end + m) (q .n) l, t)))
+  some-taken end z l t = skip 3 _ _ _ (ne-eqb m 0 z)
+      (stop 11 _ _ (simp (le-leb 0 end (omega arith), le-leb (end + m) (q .n) l, t)))
 
   pub fits : (end : ℕ) → end + m ≤ q .n → all (free (q .map)) end m ≡ true → not (fit (free (q .map)) 0 (q .n) m end) ≡ false
   unfolding fit
   fits end l t = simp (le-leb 0 end (omega arith), le-leb (end + m) (q .n) l, t)
 
-  pub too-few : (end : ℕ) → (m ≡ 0 → ⊥) → end + m ≤ q .n → all (free (q .map)) end m ≡ true → q .spare < m → firstOf (rest end) ≡ refused 4
+  pub too-few : (end : ℕ) → (m ≡ 0 → ⊥) → end + m ≤ q .n → all (free (q .map)) end m ≡ true → q .spare < m
+      → firstOf (rest end) ≡ refused 4
   too-few end z l t h = skip 3 _ _ _ (ne-eqb m 0 z) (skip 11 _ _ _ (fits end l t) (stop 4 _ _ (lt-ltb (q .spare) m h)))
 
-  pub passes : (end : ℕ) → (m ≡ 0 → ⊥) → end + m ≤ q .n → all (free (q .map)) end m ≡ true → m ≤ q .spare → firstOf (rest end) ≡ accepted
-  passes end z l t h = skip 3 _ _ _ (ne-eqb m 0 z) (skip 11 _ _ _ (fits end l t) (skip 4 _ _ _ (le-ltb (q .spare) m h) none-left))
+  pub passes : (end : ℕ) → (m ≡ 0 → ⊥) → end + m ≤ q .n → all (free (q .map)) end m ≡ true → m ≤ q .spare
+      → firstOf (rest end) ≡ accepted
+  passes end z l t h = skip 3 _ _ _ (ne-eqb m 0 z)
+      (skip 11 _ _ _ (fits end l t) (skip 4 _ _ _ (le-ltb (q .spare) m h) none-left))
 
 -- ---- what the call then hands back and leaves
 
@@ -81,22 +87,32 @@ module _ (q : Lent) (m : ℕ) where
       × (card ≡ growCard q m)
 
   -- each after its verdict
-  pub out : (v : Verdict) → growVerdictOn q m ≡ v → settle v (outOf (q .spare - m) (entryOf openMark (q .entry .start) (q .entry .length + m)) Done) (refusalOut (q .spare) (q .entry)) ≡ growOut q m
+  pub out : (v : Verdict) → growVerdictOn q m ≡ v
+      → settle v (outOf (q .spare - m) (entryOf openMark (q .entry .start) (q .entry .length + m)) Done)
+      (refusalOut (q .spare) (q .entry)) ≡ growOut q m
   unfolding growOut
-  out v h = ap (λ (w : Verdict). settle w (outOf (q .spare - m) (entryOf openMark (q .entry .start) (q .entry .length + m)) Done) (refusalOut (q .spare) (q .entry))) (sym h)
+  out v h =
+      ap (λ (w : Verdict). settle w (outOf (q .spare - m) (entryOf openMark (q .entry .start) (q .entry .length + m)) Done)
+      (refusalOut (q .spare) (q .entry))) (sym h)
 
-  pub map-after : (v : Verdict) → growVerdictOn q m ≡ v → settle v (marked (q .map) (q .entry .start + q .entry .length) m false) (λ number. q .map) ≡ growMap q m
+  pub map-after : (v : Verdict) → growVerdictOn q m ≡ v
+      → settle v (marked (q .map) (q .entry .start + q .entry .length) m false) (λ number. q .map) ≡ growMap q m
   unfolding growMap
-  map-after v h = ap (λ (w : Verdict). settle w (marked (q .map) (q .entry .start + q .entry .length) m false) (λ number. q .map)) (sym h)
+  map-after v h =
+      ap (λ (w : Verdict). settle w (marked (q .map) (q .entry .start + q .entry .length) m false) (λ number. q .map)) (sym h)
 
-  pub card-after : (v : Verdict) → growVerdictOn q m ≡ v → settle v (zeroed (q .card) (q .entry .start + q .entry .length) m) (λ number. q .card) ≡ growCard q m
+  pub card-after : (v : Verdict) → growVerdictOn q m ≡ v
+      → settle v (zeroed (q .card) (q .entry .start + q .entry .length) m) (λ number. q .card) ≡ growCard q m
   unfolding growCard
-  card-after v h = ap (λ (w : Verdict). settle w (zeroed (q .card) (q .entry .start + q .entry .length) m) (λ number. q .card)) (sym h)
+  card-after v h = ap (λ (w : Verdict). settle w (zeroed (q .card) (q .entry .start + q .entry .length) m) (λ number. q .card))
+      (sym h)
 
-  pub unchanged : (number : ℕ) (r : Out) → growVerdictOn q m ≡ refused number → r ≡ refusalOut (q .spare) (q .entry) number → Leaves r (q .map) (q .card)
+  pub unchanged : (number : ℕ) (r : Out) → growVerdictOn q m ≡ refused number → r ≡ refusalOut (q .spare) (q .entry) number
+      → Leaves r (q .map) (q .card)
   unchanged number r h made = (made ∙ out (refused number) h, map-after (refused number) h, card-after (refused number) h)
 
-  pub changed : (s : ℕ) (map card : List ℕ) → growVerdictOn q m ≡ accepted → s ≡ (q .entry .start + q .entry .length) → map ≡ marked (q .map) s m false → card ≡ zeroed (q .card) s m
+  pub changed : (s : ℕ) (map card : List ℕ) → growVerdictOn q m ≡ accepted → s ≡ (q .entry .start + q .entry .length)
+      → map ≡ marked (q .map) s m false → card ≡ zeroed (q .card) s m
       → Leaves (outOf (q .spare - m) (entryOf openMark (q .entry .start) (q .entry .length + m)) Done) map card
   changed s map card h same marks zeros = (
     out accepted h,

@@ -47,4 +47,5 @@ module _ (q : Lent) where
 
   pub extent : (start blocks : ℕ) → first ≡ Stands (Open start blocks) → Extent (q .n) (free (q .map)) (q .entry) start blocks
   extent start blocks h =
-      open-extent (q .n) (free (q .map)) (q .entry) start blocks (opened allFits (q .sheets) (q .sheet) standing (Open start blocks) [] h .same)
+      open-extent (q .n) (free (q .map)) (q .entry) start blocks
+      (opened allFits (q .sheets) (q .sheet) standing (Open start blocks) [] h .same)

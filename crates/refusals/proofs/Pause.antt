@@ -23,12 +23,14 @@ use Rattle.catalogue_standings.specs.declared.Standing.the-variants.{Absent}
 use Rattle.catalogue_standings.proofs.Openings.{closed, opened, not-absent, is-absent, none-left, Not}
 
 module _ (q : Lent) where
-  pub out : (v : Verdict) → pauseVerdict q ≡ v → pauseOut q ≡ settle v (outOf (q .spare) (entryOf pausedMark 0 0) Done) (refusalOut (q .spare) (q .entry))
+  pub out : (v : Verdict) → pauseVerdict q ≡ v
+      → pauseOut q ≡ settle v (outOf (q .spare) (entryOf pausedMark 0 0) Done) (refusalOut (q .spare) (q .entry))
   unfolding pauseOut
   out v h = ap (λ (w : Verdict). settle w (outOf (q .spare) (entryOf pausedMark 0 0) Done) (refusalOut (q .spare) (q .entry))) h
 
   abbrev pub first : Opened
-  first = openedOf (shapeFits (q .n) (q .spare) (length (q .map)) && sheetsFit (q .sheets)) (q .sheets) (q .sheet) (standingOf (q .n) (free (q .map)) (q .entry))
+  first = openedOf (shapeFits (q .n) (q .spare) (length (q .map)) && sheetsFit (q .sheets)) (q .sheets) (q .sheet)
+      (standingOf (q .n) (free (q .map)) (q .entry))
 
   pub shut : (number : ℕ) → first ≡ Refused number → pauseVerdict q ≡ refused number
   unfolding pauseVerdict viewAt tableOf
@@ -38,7 +40,9 @@ module _ (q : Lent) where
   unfolding pauseVerdict viewAt tableOf
   other s h differs =
       let o = opened _ _ _ _ s _ h in
-      o .verdict ∙ not-absent (standingOf (q .n) (free (q .map)) (q .entry)) [] (subst (Not (1 ∷ 2 ∷ 3 ∷ 4 ∷ [])) (sym (o .same)) differs) (o .whole) ∙ ap (λ (t : Standing). refused (rowOf t)) (o .same)
+      o .verdict ∙ not-absent (standingOf (q .n) (free (q .map)) (q .entry)) []
+      (subst (Not (1 ∷ 2 ∷ 3 ∷ 4 ∷ [])) (sym (o .same)) differs) (o .whole)
+      ∙ ap (λ (t : Standing). refused (rowOf t)) (o .same)
 
   pub passes : first ≡ Stands Absent → pauseVerdict q ≡ accepted
   unfolding pauseVerdict viewAt tableOf

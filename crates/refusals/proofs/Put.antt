@@ -24,7 +24,8 @@ use Rattle.catalogue_standings.specs.declared.Opened.the-variants as opening
 use Rattle.catalogue_standings.specs.declared.Standing.{Standing}
 use Rattle.catalogue_standings.specs.declared.Standing.the-variants.{Open}
 use Rattle.catalogue_standings.proofs.Limits.{CardFits, card-fits}
-use Rattle.catalogue_standings.proofs.Openings.{skip, stop, closed, opened, not-open, is-open, none-left, Extent, open-extent, Not}
+use Rattle.catalogue_standings.proofs.Openings.{skip, stop, closed, opened, not-open, is-open, none-left, Extent, open-extent}
+use Rattle.catalogue_standings.proofs.Openings.{Not}
 use Rattle.refusals.proofs.Places.{Misplaced, beyond, unsized, placed, block-number, block-bytes}
 
 module _ (q : Lent) (place : ℕ) (payload : List ℕ) where
@@ -35,23 +36,29 @@ module _ (q : Lent) (place : ℕ) (payload : List ℕ) where
   written = withBlock (q .card) (q .entry .start + place) (sealed (q .sheet) place payload)
 
   -- what is answered and what the card becomes, after a verdict
-  pub out : (v : Verdict) → verdict ≡ v → (r : Answer) (after : List ℕ) → r ≡ settle v Done Refused → after ≡ settle v written (λ number. q .card)
+  pub out : (v : Verdict) → verdict ≡ v → (r : Answer) (after : List ℕ) → r ≡ settle v Done Refused
+      → after ≡ settle v written (λ number. q .card)
       → (r ≡ putAnswer q place payload) × (after ≡ putCard q place payload)
   unfolding putAnswer putCard
-  out v h r after made left =
-      (made ∙ ap (λ (w : Verdict). settle w Done Refused) (sym h), left ∙ ap (λ (w : Verdict). settle w written (λ number. q .card)) (sym h))
+  out v h r after made left = (
+    made ∙ ap (λ (w : Verdict). settle w Done Refused) (sym h),
+    left
+        ∙ ap (λ (w : Verdict). settle w written (λ number. q .card)) (sym h),
+  )
 
   abbrev pub stands : Standing
   stands = standingOf (q .n) (free (q .map)) (q .entry)
 
   abbrev pub first : Opened
-  first = openedOf (shapeFits (q .n) (q .spare) (length (q .map)) && sheetsFit (q .sheets) && eqb (length (q .card)) (512 * q .n)) (q .sheets) (q .sheet) stands
+  first = openedOf (shapeFits (q .n) (q .spare) (length (q .map)) && sheetsFit (q .sheets)
+      && eqb (length (q .card)) (512 * q .n)) (q .sheets) (q .sheet) stands
 
   pub shut : {o : Opened} (number : ℕ) → o ≡ first → o ≡ opening.Refused number → verdict ≡ refused number
   unfolding putVerdict viewOn tableOf
   shut number given told = closed _ _ _ _ _ number (sym given ∙ told)
 
-  pub other : {o : Opened} (s : Standing) → o ≡ first → o ≡ opening.Stands s → Not (0 ∷ 1 ∷ 3 ∷ 4 ∷ []) s → verdict ≡ refused (rowOf s)
+  pub other : {o : Opened} (s : Standing) → o ≡ first → o ≡ opening.Stands s → Not (0 ∷ 1 ∷ 3 ∷ 4 ∷ []) s
+      → verdict ≡ refused (rowOf s)
   unfolding putVerdict viewOn tableOf
   other s given told differs =
       let x = opened _ _ _ _ s _ (sym given ∙ told) in
@@ -61,10 +68,12 @@ module _ (q : Lent) (place : ℕ) (payload : List ℕ) where
 
   module _ (start blocks : ℕ) {o : Opened} (given : o ≡ first) (told : o ≡ opening.Stands (Open start blocks)) where
     pub limits : CardFits (q .n) (q .spare) (length (q .map)) (length (q .card))
-    limits = card-fits (q .n) (q .spare) (length (q .map)) (q .sheets) (length (q .card)) (opened _ _ _ _ (Open start blocks) [] (sym given ∙ told) .all-fits)
+    limits = card-fits (q .n) (q .spare) (length (q .map)) (q .sheets) (length (q .card))
+        (opened _ _ _ _ (Open start blocks) [] (sym given ∙ told) .all-fits)
 
     pub extent : Extent (q .n) (free (q .map)) (q .entry) start blocks
-    extent = open-extent (q .n) (free (q .map)) (q .entry) start blocks (opened _ _ _ _ (Open start blocks) [] (sym given ∙ told) .same)
+    extent = open-extent (q .n) (free (q .map)) (q .entry) start blocks
+        (opened _ _ _ _ (Open start blocks) [] (sym given ∙ told) .same)
 
     pub same-block : withBlock (q .card) (start + place) (sealed (q .sheet) place payload) ≡ written
     same-block = ap (λ (s : ℕ). withBlock (q .card) (s + place) (sealed (q .sheet) place payload)) (sym (extent .starts))
@@ -88,7 +97,8 @@ module _ (q : Lent) (place : ℕ) (payload : List ℕ) where
       pub passes : length payload ≡ 496 → verdict ≡ accepted
       passes d = reached ∙ skip 3 _ [] accepted (placed blocks place (length payload) listed d) none-left
 
-      pub done : length payload ≡ 496 → (after : List ℕ) → after ≡ withBlock (q .card) (start + place) (sealed (q .sheet) place payload)
+      pub done : length payload ≡ 496 → (after : List ℕ)
+          → after ≡ withBlock (q .card) (start + place) (sealed (q .sheet) place payload)
           → (Done ≡ putAnswer q place payload) × (after ≡ putCard q place payload)
       done d after w = out accepted (passes d) Done after refl (w ∙ same-block)
 

@@ -48,11 +48,15 @@ module _ (q : Lent) where
   freed = marked (q .map) (q .entry .start) (q .entry .length) true
 
   -- what is answered and what the map becomes, after a verdict
-  pub out : (v : Verdict) → verdict ≡ v → (r : Out) (after : List ℕ) → r ≡ settle v done (refusalOut (q .spare) (q .entry)) → after ≡ settle v freed (λ number. q .map)
+  pub out : (v : Verdict) → verdict ≡ v → (r : Out) (after : List ℕ) → r ≡ settle v done (refusalOut (q .spare) (q .entry))
+      → after ≡ settle v freed (λ number. q .map)
       → (r ≡ releaseOut q) × (after ≡ releaseMap q)
   unfolding releaseOut releaseMap
-  out v h r after made left =
-      (made ∙ ap (λ (w : Verdict). settle w done (refusalOut (q .spare) (q .entry))) (sym h), left ∙ ap (λ (w : Verdict). settle w freed (λ number. q .map)) (sym h))
+  out v h r after made left = (
+    made ∙ ap (λ (w : Verdict). settle w done (refusalOut (q .spare) (q .entry))) (sym h),
+    left
+        ∙ ap (λ (w : Verdict). settle w freed (λ number. q .map)) (sym h),
+  )
 
   abbrev pub stands : Standing
   stands = standingOf (q .n) (free (q .map)) (q .entry)
@@ -104,4 +108,5 @@ module _ (q : Lent) where
           let lasts = extent .lasts in
           x .verdict
           ∙ skip 5 (isAbsent stands) _ accepted (ap isAbsent (x .same) ∙ present s differs)
-          (skip 4 (ltb (q .n) (q .spare + lengthOf stands)) [] accepted (le-ltb (q .n) (q .spare + lengthOf stands) (omega arith)) none-left)
+          (skip 4 (ltb (q .n) (q .spare + lengthOf stands)) [] accepted
+          (le-ltb (q .n) (q .spare + lengthOf stands) (omega arith)) none-left)

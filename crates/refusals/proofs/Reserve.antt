@@ -10,7 +10,8 @@ use Rattle.map_blocks.specs.Blocks.{free, leastFit}
 use Rattle.map_blocks.specs.declared.Found.{Found}
 use Rattle.map_blocks.specs.declared.Found.the-variants.{At, Nothing}
 use Rattle.catalogue_standings.specs.Searches.{startAt, none}
-use Rattle.refusals.specs.Effects.{reserveVerdict, reserveStart, entryOf, outOf, refusalOut, reserveOut, reserveMap, reserveCard}
+use Rattle.refusals.specs.Effects.{reserveVerdict, reserveStart, entryOf, outOf, refusalOut, reserveOut, reserveMap}
+use Rattle.refusals.specs.Effects.{reserveCard}
 use Rattle.catalogue_standings.specs.Openings.{rowOf}
 use Rattle.catalogue_standings.specs.Rows.{Row, row, Verdict, accepted, refused, firstOf, settle}
 use Rattle.refusals.specs.Table.{tableOf}
@@ -78,22 +79,30 @@ module _ (q : Lent) (k : ℕ) where
       × (card ≡ reserveCard q k)
 
   -- each after its verdict
-  pub out : (v : Verdict) → reserveVerdictOn q k ≡ v → settle v (outOf (q .spare - k) (entryOf openMark (reserveStartOn q k) k) (Start (reserveStartOn q k))) (refusalOut (q .spare) (q .entry)) ≡ reserveOut q k
+  pub out : (v : Verdict) → reserveVerdictOn q k ≡ v
+      → settle v (outOf (q .spare - k) (entryOf openMark (reserveStartOn q k) k) (Start (reserveStartOn q k)))
+      (refusalOut (q .spare) (q .entry)) ≡ reserveOut q k
   unfolding reserveOut
-  out v h = ap (λ (w : Verdict). settle w (outOf (q .spare - k) (entryOf openMark (reserveStartOn q k) k) (Start (reserveStartOn q k))) (refusalOut (q .spare) (q .entry))) (sym h)
+  out v h =
+      ap (λ (w : Verdict). settle w (outOf (q .spare - k) (entryOf openMark (reserveStartOn q k) k)
+      (Start (reserveStartOn q k))) (refusalOut (q .spare) (q .entry))) (sym h)
 
-  pub map-after : (v : Verdict) → reserveVerdictOn q k ≡ v → settle v (marked (q .map) (reserveStartOn q k) k false) (λ number. q .map) ≡ reserveMap q k
+  pub map-after : (v : Verdict) → reserveVerdictOn q k ≡ v
+      → settle v (marked (q .map) (reserveStartOn q k) k false) (λ number. q .map) ≡ reserveMap q k
   unfolding reserveMap
   map-after v h = ap (λ (w : Verdict). settle w (marked (q .map) (reserveStartOn q k) k false) (λ number. q .map)) (sym h)
 
-  pub card-after : (v : Verdict) → reserveVerdictOn q k ≡ v → settle v (zeroed (q .card) (reserveStartOn q k) k) (λ number. q .card) ≡ reserveCard q k
+  pub card-after : (v : Verdict) → reserveVerdictOn q k ≡ v
+      → settle v (zeroed (q .card) (reserveStartOn q k) k) (λ number. q .card) ≡ reserveCard q k
   unfolding reserveCard
   card-after v h = ap (λ (w : Verdict). settle w (zeroed (q .card) (reserveStartOn q k) k) (λ number. q .card)) (sym h)
 
-  pub unchanged : (number : ℕ) (r : Out) → reserveVerdictOn q k ≡ refused number → r ≡ refusalOut (q .spare) (q .entry) number → Leaves r (q .map) (q .card)
+  pub unchanged : (number : ℕ) (r : Out) → reserveVerdictOn q k ≡ refused number → r ≡ refusalOut (q .spare) (q .entry) number
+      → Leaves r (q .map) (q .card)
   unchanged number r h made = (made ∙ out (refused number) h, map-after (refused number) h, card-after (refused number) h)
 
-  pub changed : (s : ℕ) (map card : List ℕ) → reserveVerdictOn q k ≡ accepted → s ≡ (reserveStartOn q k) → map ≡ marked (q .map) s k false → card ≡ zeroed (q .card) s k
+  pub changed : (s : ℕ) (map card : List ℕ) → reserveVerdictOn q k ≡ accepted → s ≡ (reserveStartOn q k)
+      → map ≡ marked (q .map) s k false → card ≡ zeroed (q .card) s k
       → Leaves (outOf (q .spare - k) (entryOf openMark s k) (Start s)) map card
   changed s map card h same marks zeros = (
     ap (λ (t : ℕ). outOf (q .spare - k) (entryOf openMark t k) (Start t)) same ∙ out accepted h,

@@ -34,7 +34,8 @@ pub record Room (q : Lent) (start k : ℕ) : Type 0 where
 
 pub fit-inside : (f : ℕ → Bool) (n k s : ℕ) → fit f 0 n k s ≡ true → s + k ≤ n
 unfolding fit
-fit-inside f n k s e = leb-true (s + k) n (and-right (leb 0 s) (leb (s + k) n) (and-left (leb 0 s && leb (s + k) n) (all f s k) e))
+fit-inside f n k s e =
+    leb-true (s + k) n (and-right (leb 0 s) (leb (s + k) n) (and-left (leb 0 s && leb (s + k) n) (all f s k) e))
 
 least-inside : (f : ℕ → Bool) (n k s : ℕ) → leastFit f 0 n k ≡ At s → s + k ≤ n
 unfolding leastFit
@@ -45,7 +46,8 @@ is-found (At s) e = refl
 is-found Nothing e = absurd (true≢false e)
 
 -- the one standing that grow admits
-only-open : (s : Standing) → isDamaged s ≡ false → isAbsent s ≡ false → isPaused s ≡ false → isComplete s ≡ false → s ≡ Open (startOf s) (lengthOf s)
+only-open : (s : Standing) → isDamaged s ≡ false → isAbsent s ≡ false → isPaused s ≡ false → isComplete s ≡ false
+    → s ≡ Open (startOf s) (lengthOf s)
 only-open Absent d a p c = absurd (true≢false a)
 only-open Paused d a p c = absurd (true≢false p)
 only-open (Open s l) d a p c = refl

@@ -25,12 +25,14 @@ module _ (q : Lent) where
   abbrev pub verdict : Verdict
   verdict = verdictOf (viewAt q) (table.on (q .sheet) table.standing)
 
-  pub out : (v : Verdict) → verdict ≡ v → standingAnswer q ≡ settle v (Reads (q .entry .mark) (q .entry .start) (q .entry .length)) Refused
+  pub out : (v : Verdict) → verdict ≡ v → standingAnswer q
+      ≡ settle v (Reads (q .entry .mark) (q .entry .start) (q .entry .length)) Refused
   unfolding standingAnswer
   out v h = ap (λ (w : Verdict). settle w (Reads (q .entry .mark) (q .entry .start) (q .entry .length)) Refused) h
 
   abbrev pub first : Opened
-  first = openedOf (shapeFits (q .n) (q .spare) (length (q .map)) && sheetsFit (q .sheets)) (q .sheets) (q .sheet) (standingOf (q .n) (free (q .map)) (q .entry))
+  first = openedOf (shapeFits (q .n) (q .spare) (length (q .map)) && sheetsFit (q .sheets)) (q .sheets) (q .sheet)
+      (standingOf (q .n) (free (q .map)) (q .entry))
 
   pub shut : {o : Opened} (number : ℕ) → o ≡ first → o ≡ opening.Refused number → verdict ≡ refused number
   unfolding viewAt tableOf

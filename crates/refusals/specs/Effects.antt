@@ -1,4 +1,5 @@
--- What each call answers and leaves (document 01, "The ledger, call by call"): its verdict, then its change, or nothing changed.
+-- What each call answers and leaves (document 01, "The ledger, call by call"): its verdict, then its change, or nothing
+-- changed.
 -- Assumes nothing.
 use Prim.Native.Nat.{ℕ, _+_, _-_}
 use mathlib.Core.Bool.{true, false, cond}
@@ -42,7 +43,8 @@ module _ (q : Lent) (k : ℕ) where
 
   unfoldable pub reserveOut : Out
   unfolding reserveVerdict reserveStart
-  reserveOut = settle reserveVerdict (outOf (q .spare - k) (entryOf openMark reserveStart k) (Start reserveStart)) (refusalOut (q .spare) (q .entry))
+  reserveOut = settle reserveVerdict (outOf (q .spare - k) (entryOf openMark reserveStart k) (Start reserveStart))
+      (refusalOut (q .spare) (q .entry))
 
   unfoldable pub reserveMap : List ℕ
   unfolding reserveVerdict reserveStart
@@ -60,7 +62,8 @@ module _ (q : Lent) (m : ℕ) where
 
   unfoldable pub growOut : Out
   unfolding growVerdict
-  growOut = settle growVerdict (outOf (q .spare - m) (entryOf openMark (q .entry .start) (q .entry .length + m)) Done) (refusalOut (q .spare) (q .entry))
+  growOut = settle growVerdict (outOf (q .spare - m) (entryOf openMark (q .entry .start) (q .entry .length + m)) Done)
+      (refusalOut (q .spare) (q .entry))
 
   unfoldable pub growMap : List ℕ
   unfolding growVerdict
@@ -82,7 +85,8 @@ module _ (q : Lent) (place : ℕ) (payload : List ℕ) where
 
   unfoldable pub putCard : List ℕ
   unfolding putVerdict
-  putCard = settle putVerdict (withBlock (q .card) (q .entry .start + place) (sealed (q .sheet) place payload)) (λ number. q .card)
+  putCard = settle putVerdict (withBlock (q .card) (q .entry .start + place) (sealed (q .sheet) place payload))
+      (λ number. q .card)
 
 -- Complete: Open becomes Complete if every place is filled. Which blank place is given with 9 is free in document 01;
 -- the program gives the lowest.
@@ -127,7 +131,8 @@ module _ (q : Lent) where
   -- Standing: answers mark, start and length.
   unfoldable pub standingAnswer : Answer
   unfolding viewAt
-  standingAnswer = settle (verdictOf (viewAt q) (on (q .sheet) standing)) (Reads (q .entry .mark) (q .entry .start) (q .entry .length)) Refused
+  standingAnswer = settle (verdictOf (viewAt q) (on (q .sheet) standing))
+      (Reads (q .entry .mark) (q .entry .start) (q .entry .length)) Refused
 
 -- Show: copies a Complete sheet's payload out.
 module _ (q : Lent) (place : ℕ) (buffer : List ℕ) where

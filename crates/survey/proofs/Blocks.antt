@@ -16,7 +16,8 @@ pub blocks-join : (f : ℕ → Bool) (s a b : ℕ) → blocks f s (a + b) ≡ bl
 unfolding blocks
 blocks-join f s zero b = ap (blocks f s) (zero-add b) ∙ ap (λ (x : ℕ). blocks f x b) (sym (add-zero s))
 blocks-join f s (suc a) b =
-    ap (blocks f s) (suc-add a b) ∙ ap (λ (xs : List Bool). f s ∷ xs) (blocks-join f (suc s) a b ∙ ap (λ (x : ℕ). blocks f (suc s) a ++ blocks f x b) (moved s a))
+    ap (blocks f s) (suc-add a b) ∙ ap (λ (xs : List Bool). f s ∷ xs)
+    (blocks-join f (suc s) a b ∙ ap (λ (x : ℕ). blocks f (suc s) a ++ blocks f x b) (moved s a))
 
 pub blocks-same : (f g : ℕ → Bool) (s s′ m : ℕ) → ((j : ℕ) → j < m → f (s + j) ≡ g (s′ + j)) → blocks f s m ≡ blocks g s′ m
 unfolding blocks

@@ -27,7 +27,8 @@ module _ (g : ℕ → Bool) (n : ℕ) where
   rest words i = blocks (inWindow g 0 n) (i * 64) ((words - i) * 64)
 
   -- a word more
-  pub rest-more : (words i w : ℕ) → 0 < i → i ≤ words → ((j : ℕ) → j < 64 → bit w j ≡ inWindow g 0 n ((i - 1) * 64 + j)) → bitsOf 64 w ++ rest words i ≡ rest words (i - 1)
+  pub rest-more : (words i w : ℕ) → 0 < i → i ≤ words → ((j : ℕ) → j < 64 → bit w j ≡ inWindow g 0 n ((i - 1) * 64 + j))
+      → bitsOf 64 w ++ rest words i ≡ rest words (i - 1)
   rest-more words i w p l shows =
       let f : ℕ → Bool = inWindow g 0 n in
       let a : (i - 1) * 64 + 64 ≡ i * 64 = omega arith in
@@ -42,16 +43,21 @@ module _ (g : ℕ → Bool) (n : ℕ) where
   whole words l =
       let f : ℕ → Bool = inWindow g 0 n in
       let e : (words - 0) * 64 ≡ n + (words * 64 - n) = omega arith in
-      let inside : blocks f 0 n ≡ blocks g 0 n = blocks-same f g 0 0 n (λ j u. ap₂ (λ (x y : Bool). (x && y) && g (0 + j)) (le-leb 0 (0 + j) (omega arith)) (lt-ltb (0 + j) n (omega arith))) in
+      let inside : blocks f 0 n ≡ blocks g 0 n = blocks-same f g 0 0 n
+      (λ j u. ap₂ (λ (x y : Bool). (x && y) && g (0 + j)) (le-leb 0 (0 + j) (omega arith))
+      (lt-ltb (0 + j) n (omega arith))) in
       subst (λ (xs : List Bool). Same xs (blocks g 0 n))
-      (sym (ap (blocks f 0) e ∙ blocks-join f 0 n (words * 64 - n) ∙ ap₂ (λ (xs : List Bool) (x : ℕ). xs ++ blocks f x (words * 64 - n)) inside (zero-add n)))
-      (taken-end f (blocks g 0 n) n (words * 64 - n) (λ b u. ap (λ (x : Bool). (leb 0 b && x) && g b) (le-ltb b n u) ∙ none (leb 0 b) (g b)))
+      (sym (ap (blocks f 0) e ∙ blocks-join f 0 n (words * 64 - n)
+      ∙ ap₂ (λ (xs : List Bool) (x : ℕ). xs ++ blocks f x (words * 64 - n)) inside (zero-add n)))
+      (taken-end f (blocks g 0 n) n (words * 64 - n)
+      (λ b u. ap (λ (x : Bool). (leb 0 b && x) && g b) (le-ltb b n u) ∙ none (leb 0 b) (g b)))
     where
       none : (x y : Bool) → ((x && false) && y) ≡ false
       none true y = refl
       none false y = refl
 
-  pub counted : (words free head longest runs : ℕ) → n ≤ words * 64 → free ≡ freeOf (rest words 0) → Summary head longest runs (rest words 0)
+  pub counted : (words free head longest runs : ℕ) → n ≤ words * 64 → free ≡ freeOf (rest words 0)
+      → Summary head longest runs (rest words 0)
       → _≡_ {A = Counts} (record { free = free; runs = runs; longest = longest }) (countsOf g n)
   unfolding countsOf
   counted words free head longest runs l e s =
@@ -70,10 +76,12 @@ nothing g n words =
 
 -- ---- the mask of a word: the last one's, and that of the words before it
 
-pub part-before : (n m : ℕ) → 0 < n → ((j : ℕ) → j < 64 → bit m j ≡ (leb 0 ((n - 1) / 64 * 64 + j) && ltb ((n - 1) / 64 * 64 + j) n)) → Before n (wordsFor n) m
+pub part-before : (n m : ℕ) → 0 < n → ((j : ℕ) → j < 64
+    → bit m j ≡ (leb 0 ((n - 1) / 64 * 64 + j) && ltb ((n - 1) / 64 * 64 + j) n)) → Before n (wordsFor n) m
 part-before n m p h =
     let e : (n - 1) / 64 ≡ wordsFor n - 1 = omega arith in
     λ q. subst (λ (i : ℕ). (j : ℕ) → j < 64 → bit m j ≡ (leb 0 (i * 64 + j) && ltb (i * 64 + j) n)) e h
 
 pub ones-before : (n i : ℕ) → i * 64 ≤ n → Before n i (2 ^ 64 - 1)
-ones-before n i l p j u = bit-ones j u ∙ sym (ap₂ _&&_ (le-leb 0 ((i - 1) * 64 + j) (omega arith)) (lt-ltb ((i - 1) * 64 + j) n (omega arith)))
+ones-before n i l p j u = bit-ones j u ∙ sym
+    (ap₂ _&&_ (le-leb 0 ((i - 1) * 64 + j) (omega arith)) (lt-ltb ((i - 1) * 64 + j) n (omega arith)))

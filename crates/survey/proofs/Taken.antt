@@ -32,7 +32,13 @@ all-taken f s (suc m) h = go (f s) (h s (omega arith)) (all-taken f (suc s) m (�
   where
     go : (x : Bool) → x ≡ false → Empty (blocks f (suc s) m) → Empty (x ∷ blocks f (suc s) m)
     go true e rest = absurd (mathlib.Core.Bool.true≢false e)
-    go false e rest = record { free = omega (arith, rest .free); head = refl; longest = omega (arith, rest .longest); runs = omega (arith, rest .runs) }
+    go false e rest = record {
+      free = omega (arith, rest .free);
+      head = refl;
+      longest = omega (arith, rest .longest);
+      runs =
+          omega (arith, rest .runs);
+    }
 
 pub taken-end : (f : ℕ → Bool) (xs : List Bool) (s m : ℕ) → ((b : ℕ) → s ≤ b → f b ≡ false) → Same (xs ++ blocks f s m) xs
 taken-end f xs s m h =
@@ -46,13 +52,15 @@ taken-end f xs s m h =
 
 -- ---- a word with no free block, before others
 
-past-none : (longest runs head : ℕ) (xs ys : List Bool) → longestOf xs ≡ 0 → tailOf xs ≡ 0 → runsOf xs ≡ 0 → headOf (xs ++ ys) ≡ 0 → Summary head longest runs ys → Summary 0 longest runs (xs ++ ys)
+past-none : (longest runs head : ℕ) (xs ys : List Bool) → longestOf xs ≡ 0 → tailOf xs ≡ 0 → runsOf xs ≡ 0
+    → headOf (xs ++ ys) ≡ 0 → Summary head longest runs ys → Summary 0 longest runs (xs ++ ys)
 past-none longest runs head xs ys l t r h s = record {
   heads = sym h;
   longests = omega (arith, s .longests, longest-append xs ys, head-longest ys);
   counts = omega (arith, s .counts, runs-append xs ys, meet-none (tailOf xs) (headOf ys) t);
 }
 
-pub past-zero : (longest runs head : ℕ) (ys : List Bool) → Summary head longest runs ys → Summary 0 longest runs (bitsOf 64 0 ++ ys)
+pub past-zero : (longest runs head : ℕ) (ys : List Bool) → Summary head longest runs ys
+    → Summary 0 longest runs (bitsOf 64 0 ++ ys)
 unfolding bitsOf headOf tailOf longestOf runsOf
 past-zero longest runs head ys s = past-none longest runs head (bitsOf 64 0) ys refl refl refl refl s

@@ -46,7 +46,8 @@ bits-from : (w k j : ℕ) → k + j ≡ 64 → bitsOf k w ≡ blocks (bit w) j k
 unfolding bitsOf blocks bit
 bits-from w zero j e = refl
 bits-from w (suc k) j e =
-    ap₂ (λ (x : Bool) (xs : List Bool). x ∷ xs) (ap (λ (x : ℕ). eqb (x % 2) 1) (sym (bit-low w k j (omega arith)))) (bits-from w k (suc j) (omega arith))
+    ap₂ (λ (x : Bool) (xs : List Bool). x ∷ xs) (ap (λ (x : ℕ). eqb (x % 2) 1) (sym (bit-low w k j (omega arith))))
+    (bits-from w k (suc j) (omega arith))
 
 pub word-blocks : (w : ℕ) → bitsOf 64 w ≡ blocks (bit w) 0 64
 word-blocks w = bits-from w 64 0 refl

@@ -36,7 +36,9 @@ pub struct Counts {
 fn prepend_word(table: &[u8; 1024], passed: Passed, w: u64) -> Passed
     requires { ⌜ Ruled (now table) ⌝ }
     requires { ⌜ (passed .head ≤ 15000000) × (passed .runs ≤ 15000000) ⌝ }
-    ensures { λ r. ⌜ ((ys : List Bool) → Summary (passed .head) (passed .longest) (passed .runs) ys → Summary (r .head) (r .longest) (r .runs) (bitsOf 64 w ++ ys)) ⌝ }
+    ensures { λ r.
+        ⌜ ((ys : List Bool) → Summary (passed .head) (passed .longest) (passed .runs) ys
+        → Summary (r .head) (r .longest) (r .runs) (bitsOf 64 w ++ ys)) ⌝ }
     ensures { λ r. ⌜ (r .head ≤ passed .head + 2040) × (r .runs ≤ passed .runs + 2040) ⌝ }
 {
     if passed.longest == 0 {

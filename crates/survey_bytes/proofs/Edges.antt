@@ -15,11 +15,13 @@ edge-bits : (a b m : ℕ) → bitAnd (bitAnd a b) (m * 256 + 1) ≡ 0 → min (a
 edge-bits a b m e = omega (arith, and-step (bitAnd a b) (m * 256 + 1), and-step a b)
 
 -- a byte further
-further : (w m : ℕ) → bitAnd (bitAnd (w / 256) (w / 128)) (m * 256 + 1) ≡ 0 → bitAnd (bitAnd (w / 256 / 256) (w / 256 / 128)) m ≡ 0
+further : (w m : ℕ) → bitAnd (bitAnd (w / 256) (w / 128)) (m * 256 + 1) ≡ 0
+    → bitAnd (bitAnd (w / 256 / 256) (w / 256 / 128)) m ≡ 0
 further w m e =
     let p : w / 256 / 128 ≡ w / 128 / 256 = omega arith in
     let q : m ≡ (m * 256 + 1) / 256 = omega arith in
-    ap₂ bitAnd (ap (bitAnd (w / 256 / 256)) p ∙ sym (and-shr (w / 256) (w / 128) 8)) q ∙ sym (and-shr (bitAnd (w / 256) (w / 128)) (m * 256 + 1) 8)
+    ap₂ bitAnd (ap (bitAnd (w / 256 / 256)) p ∙ sym (and-shr (w / 256) (w / 128) 8)) q
+    ∙ sym (and-shr (bitAnd (w / 256) (w / 128)) (m * 256 + 1) 8)
     ∙ ap (λ (x : ℕ). x / 256) e
 
 pub apart : (k w : ℕ) → bitAnd (bitAnd (w / 256) (w / 128)) (lasts k) ≡ 0 → Apart k w
@@ -32,13 +34,16 @@ low-bit : (a b m : ℕ) → bitAnd (bitAnd a b) (m * 256 + 1) % 256 ≡ min (a %
 low-bit a b m =
     let one : (m * 256 + 1) % 256 ≡ 1 = omega arith in
     let e : bitAnd a b % 256 % 2 ≡ bitAnd a b % 2 = omega arith in
-    and-mod (bitAnd a b) (m * 256 + 1) 8 ∙ ap (bitAnd (bitAnd a b % 256)) one ∙ and-mask (bitAnd a b % 256) 1 ∙ e ∙ omega (arith, and-step a b)
+    and-mod (bitAnd a b) (m * 256 + 1) 8 ∙ ap (bitAnd (bitAnd a b % 256)) one ∙ and-mask (bitAnd a b % 256) 1 ∙ e
+    ∙ omega (arith, and-step a b)
 
-high-bits : (w m : ℕ) → bitAnd (bitAnd (w / 256) (w / 128)) (m * 256 + 1) / 256 ≡ bitAnd (bitAnd (w / 256 / 256) (w / 256 / 128)) m
+high-bits : (w m : ℕ) → bitAnd (bitAnd (w / 256) (w / 128)) (m * 256 + 1) / 256
+    ≡ bitAnd (bitAnd (w / 256 / 256) (w / 256 / 128)) m
 high-bits w m =
     let p : w / 128 / 256 ≡ w / 256 / 128 = omega arith in
     let q : (m * 256 + 1) / 256 ≡ m = omega arith in
-    and-shr (bitAnd (w / 256) (w / 128)) (m * 256 + 1) 8 ∙ ap₂ bitAnd (and-shr (w / 256) (w / 128) 8 ∙ ap (bitAnd (w / 256 / 256)) p) q
+    and-shr (bitAnd (w / 256) (w / 128)) (m * 256 + 1) 8
+    ∙ ap₂ bitAnd (and-shr (w / 256) (w / 128) 8 ∙ ap (bitAnd (w / 256 / 256)) p) q
 
 crossed-le : (k w : ℕ) → crossed k w ≤ k
 unfolding crossed
@@ -50,7 +55,8 @@ unfolding crossed
 counted-crossings zero w l = omega (arith, and-le-r (bitAnd (w / 256) (w / 128)) 0)
 counted-crossings (suc k) w l =
     let x : ℕ = bitAnd (bitAnd (w / 256) (w / 128)) (lasts k * 256 + 1) in
-    let rec : bitAnd (bitAnd (w / 256 / 256) (w / 256 / 128)) (lasts k) % 255 ≡ crossed k (w / 256) = counted-crossings k (w / 256) (omega arith) in
+    let rec : bitAnd (bitAnd (w / 256 / 256) (w / 256 / 128)) (lasts k) % 255 ≡ crossed k (w / 256) =
+    counted-crossings k (w / 256) (omega arith) in
     let hi : x / 256 ≡ bitAnd (bitAnd (w / 256 / 256) (w / 256 / 128)) (lasts k) = high-bits w (lasts k) in
     let lo : x % 256 ≡ min (w / 256 % 2) (w / 128 % 2) = low-bit (w / 256) (w / 128) (lasts k) in
     omega (arith, rec, hi, lo, crossed-le k (w / 256))

@@ -25,7 +25,8 @@ unfolding bitsOf headOf
 head-small b ys e = rw (e)
 
 -- the last two bytes of a number, before others, do not meet
-pub bytes-part : (w : ℕ) (ys : List Bool) → min (w / 256 % 2) (w / 128 % 2) ≡ 0 → meet (tailOf (bitsOf 8 (w / 256 % 256))) (headOf (bitsOf 8 (w % 256) ++ ys)) ≡ 0
+pub bytes-part : (w : ℕ) (ys : List Bool) → min (w / 256 % 2) (w / 128 % 2) ≡ 0
+    → meet (tailOf (bitsOf 8 (w / 256 % 256))) (headOf (bitsOf 8 (w % 256) ++ ys)) ≡ 0
 bytes-part w ys e =
     ⊎-elim
     (λ (l : w / 256 % 2 < 1). meet-none _ _ (tail-even 7 (w / 256 % 256) (omega arith)))

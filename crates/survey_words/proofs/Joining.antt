@@ -45,7 +45,8 @@ parts (false ∷ xs) ys =
 parts (true ∷ xs) ys =
     ⊎-elim
     (λ (f : Full xs ys). inl (record { h = ap suc (f .h); t = tail-full xs (f .t) ∙ ap suc (f .t); a = omega (arith, f .a) }))
-    (λ (f : Broken xs ys). inr (record { h = omega (arith, f .h); t = omega (arith, tail-broken xs (f .t), f .t); a = ap suc (f .a) }))
+    (λ (f : Broken xs ys). inr
+    (record { h = omega (arith, f .h); t = omega (arith, tail-broken xs (f .t), f .t); a = ap suc (f .a) }))
     (parts xs ys)
 
 pub head-longest : (ys : List Bool) → headOf ys ≤ longestOf ys
@@ -53,7 +54,8 @@ unfolding headOf longestOf
 head-longest [] = omega arith
 head-longest (y ∷ ys) = omega arith
 
-pub longest-append : (xs ys : List Bool) → longestOf (xs ++ ys) ≡ max (max (longestOf xs) (longestOf ys)) (tailOf xs + headOf ys)
+pub longest-append : (xs ys : List Bool) → longestOf (xs ++ ys)
+    ≡ max (max (longestOf xs) (longestOf ys)) (tailOf xs + headOf ys)
 unfolding headOf tailOf longestOf
 longest-append [] ys = omega (arith, head-longest ys)
 longest-append (false ∷ xs) ys = omega (arith, longest-append xs ys)
@@ -156,11 +158,13 @@ one-side (suc t) (suc h) e = absurd (omega arith)
 pub head-apart : (xs ys : List Bool) → 0 < length xs → meet (tailOf xs) (headOf ys) ≡ 0 → headOf (xs ++ ys) ≡ headOf xs
 head-apart xs ys p e =
     ⊎-elim
-    (λ (f : Full xs ys). ⊎-elim (λ (t : tailOf xs ≡ 0). absurd (omega (arith, f .t))) (λ (h : headOf ys ≡ 0). omega (arith, f .a, f .h)) (one-side (tailOf xs) (headOf ys) e))
+    (λ (f : Full xs ys). ⊎-elim (λ (t : tailOf xs ≡ 0). absurd (omega (arith, f .t)))
+    (λ (h : headOf ys ≡ 0). omega (arith, f .a, f .h)) (one-side (tailOf xs) (headOf ys) e))
     (λ (f : Broken xs ys). f .a)
     (parts xs ys)
 
-pub longest-apart : (xs ys : List Bool) → meet (tailOf xs) (headOf ys) ≡ 0 → longestOf (xs ++ ys) ≡ max (longestOf xs) (longestOf ys)
+pub longest-apart : (xs ys : List Bool) → meet (tailOf xs) (headOf ys) ≡ 0
+    → longestOf (xs ++ ys) ≡ max (longestOf xs) (longestOf ys)
 longest-apart xs ys e =
     ⊎-elim
     (λ (t : tailOf xs ≡ 0). omega (arith, longest-append xs ys, head-longest ys))
@@ -175,10 +179,13 @@ head-short xs ys l = ⊎-elim (λ (f : Full xs ys). absurd (omega (arith, f .h))
 pub tail-pos : (x : Bool) (xs : List Bool) → 0 < tailOf xs → 0 < tailOf (x ∷ xs)
 unfolding tailOf
 tail-pos false xs p = p
-tail-pos true xs p = ⊎-elim (λ (f : Full xs []). omega (arith, tail-full xs (f .t))) (λ (f : Broken xs []). omega (arith, tail-broken xs (f .t))) (parts xs [])
+tail-pos true xs p = ⊎-elim (λ (f : Full xs []). omega (arith, tail-full xs (f .t)))
+    (λ (f : Broken xs []). omega (arith, tail-broken xs (f .t))) (parts xs [])
 
-pub tail-short : (xs ys : List Bool) → tailOf ys < length ys → (tailOf (xs ++ ys) ≡ tailOf ys) × (tailOf (xs ++ ys) < length (xs ++ ys))
+pub tail-short : (xs ys : List Bool) → tailOf ys < length ys
+    → (tailOf (xs ++ ys) ≡ tailOf ys) × (tailOf (xs ++ ys) < length (xs ++ ys))
 unfolding tailOf
 tail-short [] ys l = (refl, l)
 tail-short (false ∷ xs) ys l = let r = tail-short xs ys l in (r .0, omega (arith, r .1))
-tail-short (true ∷ xs) ys l = let r = tail-short xs ys l in (tail-broken (xs ++ ys) (r .1) ∙ r .0, omega (arith, r .1, tail-broken (xs ++ ys) (r .1)))
+tail-short (true ∷ xs) ys l = let r = tail-short xs ys l in
+    (tail-broken (xs ++ ys) (r .1) ∙ r .0, omega (arith, r .1, tail-broken (xs ++ ys) (r .1)))

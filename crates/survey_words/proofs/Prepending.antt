@@ -27,7 +27,8 @@ summary b h t l n head longest runs r1 m2 r2 r3 eh et el en e1 em e2 e3 ys s =
 -- the same where no run goes on from the byte into the others
 pub summary-apart : (b h l n head longest runs r2 r3 : ℕ)
     → h ≡ headOf (bitsOf 8 b) → l ≡ longestOf (bitsOf 8 b) → n ≡ runsOf (bitsOf 8 b) → r2 ≡ max l longest → r3 ≡ n + runs
-    → (ys : List Bool) → Summary head longest runs ys → meet (tailOf (bitsOf 8 b)) (headOf ys) ≡ 0 → Summary h r2 r3 (bitsOf 8 b ++ ys)
+    → (ys : List Bool) → Summary head longest runs ys → meet (tailOf (bitsOf 8 b)) (headOf ys) ≡ 0
+    → Summary h r2 r3 (bitsOf 8 b ++ ys)
 summary-apart b h l n head longest runs r2 r3 eh el en e2 e3 ys s apart = record {
   heads = eh ∙ sym (head-apart (bitsOf 8 b) ys (omega (arith, eight b)) apart);
   longests = cc (longest-apart (bitsOf 8 b) ys apart);

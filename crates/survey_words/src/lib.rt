@@ -32,7 +32,9 @@ fn larger(a: u32, b: u32) -> u32
 fn prepend_byte(table: &[u8; 1024], passed: Passed, byte: usize) -> Passed
     requires { ⌜ Ruled (now table) ⌝ }
     requires { ⌜ (byte < 256) × (passed .head ≤ 16000000) × (passed .runs ≤ 16000000) ⌝ }
-    ensures { λ r. ⌜ ((ys : List Bool) → Summary (passed .head) (passed .longest) (passed .runs) ys → Summary (r .head) (r .longest) (r .runs) (bitsOf 8 byte ++ ys)) ⌝ }
+    ensures { λ r.
+        ⌜ ((ys : List Bool) → Summary (passed .head) (passed .longest) (passed .runs) ys
+        → Summary (r .head) (r .longest) (r .runs) (bitsOf 8 byte ++ ys)) ⌝ }
     ensures { λ r. ⌜ (r .head ≤ passed .head + 255) × (r .runs ≤ passed .runs + 255) ⌝ }
 {
     let at = 4 * byte;
@@ -52,7 +54,10 @@ fn prepend_byte(table: &[u8; 1024], passed: Passed, byte: usize) -> Passed
 fn prepend_byte_apart(table: &[u8; 1024], passed: Passed, byte: usize) -> Passed
     requires { ⌜ Ruled (now table) ⌝ }
     requires { ⌜ (byte < 256) × (passed .runs ≤ 16000000) ⌝ }
-    ensures { λ r. ⌜ ((ys : List Bool) → Summary (passed .head) (passed .longest) (passed .runs) ys → meet (tailOf (bitsOf 8 byte)) (headOf ys) ≡ 0 → Summary (r .head) (r .longest) (r .runs) (bitsOf 8 byte ++ ys)) ⌝ }
+    ensures { λ r.
+        ⌜ ((ys : List Bool) → Summary (passed .head) (passed .longest) (passed .runs) ys
+        → meet (tailOf (bitsOf 8 byte)) (headOf ys) ≡ 0
+        → Summary (r .head) (r .longest) (r .runs) (bitsOf 8 byte ++ ys)) ⌝ }
     ensures { λ r. ⌜ (r .head ≤ 255) × (r .runs ≤ passed .runs + 255) ⌝ }
 {
     let at = 4 * byte;
@@ -70,7 +75,9 @@ fn prepend_byte_apart(table: &[u8; 1024], passed: Passed, byte: usize) -> Passed
 pub fn prepend_word_apart(table: &[u8; 1024], passed: Passed, w: u64) -> Passed
     requires { ⌜ Ruled (now table) × Apart 7 w ⌝ }
     requires { ⌜ (passed .head ≤ 15000000) × (passed .runs ≤ 15000000) ⌝ }
-    ensures { λ r. ⌜ ((ys : List Bool) → Summary (passed .head) (passed .longest) (passed .runs) ys → Summary (r .head) (r .longest) (r .runs) (bitsOf 64 w ++ ys)) ⌝ }
+    ensures { λ r.
+        ⌜ ((ys : List Bool) → Summary (passed .head) (passed .longest) (passed .runs) ys
+        → Summary (r .head) (r .longest) (r .runs) (bitsOf 64 w ++ ys)) ⌝ }
     ensures { λ r. ⌜ (r .head ≤ passed .head + 2040) × (r .runs ≤ passed .runs + 2040) ⌝ }
 {
     let w1 = w / 256;
@@ -137,7 +144,9 @@ fn runs_of_bytes(table: &[u8; 1024], w: u64) -> u8
 pub fn prepend_word_short(table: &[u8; 1024], passed: Passed, w: u64) -> Passed
     requires { ⌜ Ruled (now table) × Short 8 w ⌝ }
     requires { ⌜ (14 ≤ passed .longest) × (passed .head ≤ 15000000) × (passed .runs ≤ 15000000) ⌝ }
-    ensures { λ r. ⌜ ((ys : List Bool) → Summary (passed .head) (passed .longest) (passed .runs) ys → Summary (r .head) (r .longest) (r .runs) (bitsOf 64 w ++ ys)) ⌝ }
+    ensures { λ r.
+        ⌜ ((ys : List Bool) → Summary (passed .head) (passed .longest) (passed .runs) ys
+        → Summary (r .head) (r .longest) (r .runs) (bitsOf 64 w ++ ys)) ⌝ }
     ensures { λ r. ⌜ (r .head ≤ passed .head + 2040) × (r .runs ≤ passed .runs + 2040) ⌝ }
 {
     let w7 = w / 256 / 256 / 256 / 256 / 256 / 256 / 256;
@@ -155,7 +164,9 @@ pub fn prepend_word_short(table: &[u8; 1024], passed: Passed, w: u64) -> Passed
 pub fn prepend_word_joined(table: &[u8; 1024], passed: Passed, w: u64) -> Passed
     requires { ⌜ Ruled (now table) ⌝ }
     requires { ⌜ (passed .head ≤ 15000000) × (passed .runs ≤ 15000000) ⌝ }
-    ensures { λ r. ⌜ ((ys : List Bool) → Summary (passed .head) (passed .longest) (passed .runs) ys → Summary (r .head) (r .longest) (r .runs) (bitsOf 64 w ++ ys)) ⌝ }
+    ensures { λ r.
+        ⌜ ((ys : List Bool) → Summary (passed .head) (passed .longest) (passed .runs) ys
+        → Summary (r .head) (r .longest) (r .runs) (bitsOf 64 w ++ ys)) ⌝ }
     ensures { λ r. ⌜ (r .head ≤ passed .head + 2040) × (r .runs ≤ passed .runs + 2040) ⌝ }
 {
     let w1 = w / 256;

@@ -18,7 +18,10 @@ same-length : tie.Need-same-length
 same-length c = search needs
 
 returns : tie.Need-returns
-returns c = (rw (le-leb _ _ (c .before .before .before .before .if1 .taken)), rw (le-leb _ _ (c .before .before .before .before .if1 .taken)) (c .before .before .zero-blocks .ensures))
+returns c = (
+  rw (le-leb _ _ (c .before .before .before .before .if1 .taken)),
+  rw (le-leb _ _ (c .before .before .before .before .if1 .taken)) (c .before .before .zero-blocks .ensures),
+)
 
 returns-2 : tie.Need-returns-2
 returns-2 c = (rw (lt-leb _ _ (c .if1 .left)), rw (lt-leb _ _ (c .if1 .left)))

@@ -23,7 +23,8 @@ get4-requires c κs = search needs
 returns : tie.Need-returns
 returns c =
     let sums-of = c .before .before .before in
-    check-not-A (sums-of .before .before .before .args .block .now) _ _ (c .before .before .get4 .ensures) (sums-of .sums-of .ensures .0) (c .if1 .taken)
+    check-not-A (sums-of .before .before .before .args .block .now) _ _ (c .before .before .get4 .ensures)
+    (sums-of .sums-of .ensures .0) (c .if1 .taken)
 
 get4-requires-2 : tie.Need-get4-requires-2
 get4-requires-2 c κs = search needs
@@ -32,7 +33,8 @@ returns-2 : tie.Need-returns-2
 returns-2 c =
     let if1 = c .before .before in
     let sums-of = if1 .before .before .before in
-    check-by-B (sums-of .before .before .before .args .block .now) _ _ (if1 .before .before .get4 .ensures) (sums-of .sums-of .ensures .0) _ _ (if1 .if1 .left)
+    check-by-B (sums-of .before .before .before .args .block .now) _ _ (if1 .before .before .get4 .ensures)
+    (sums-of .sums-of .ensures .0) _ _ (if1 .if1 .left)
     (c .before .get42 .ensures) (sums-of .sums-of .ensures .1)
 
 pub check-holds-spec : {M : Type 1} → statement M

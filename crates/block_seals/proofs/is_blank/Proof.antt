@@ -32,11 +32,15 @@ loop-less c = search needs
 
 loop-again : tie.Need-loop-again Inv-loop μ-loop
 loop-again c =
-    let loop = c .before .before in
-    (search needs, gather-more (loop .before .args .block .now) (loop .loop .i) (loop .loop .all) (omega arith) ∙ loop .loop .inv .1)
+    let loop = c .before .before in (
+      search needs,
+      gather-more (loop .before .args .block .now) (loop .loop .i) (loop .loop .all) (omega arith)
+          ∙ loop .loop .inv .1,
+    )
 
 returns : tie.Need-returns Inv-loop μ-loop
-returns c = gathered (c .before .before .args .block .now) (c .before .loop .i) (c .before .loop .all) (omega arith) ∙ c .before .loop .inv .1
+returns c = gathered (c .before .before .args .block .now) (c .before .loop .i) (c .before .loop .all) (omega arith)
+    ∙ c .before .loop .inv .1
 
 pub is-blank-spec : {M : Type 1} → statement M
 is-blank-spec =

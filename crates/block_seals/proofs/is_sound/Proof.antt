@@ -19,7 +19,8 @@ get4-requires-2 c κs = search needs
 returns-2 : tie.Need-returns-2
 returns-2 c =
     let if1 = c .before .before in
-    sound-not-place _ _ _ _ (if1 .before .before .before .args .block .now) (if1 .before .get4 .ensures) (if1 .if1 .left) (c .before .get42 .ensures) (c .if2 .taken)
+    sound-not-place _ _ _ _ (if1 .before .before .before .args .block .now) (if1 .before .get4 .ensures) (if1 .if1 .left)
+    (c .before .get42 .ensures) (c .if2 .taken)
 
 check-holds-requires : tie.Need-check-holds-requires
 check-holds-requires c κs = search needs
@@ -28,7 +29,8 @@ returns-3 : tie.Need-returns-3
 returns-3 c =
     let if2 = c .before in
     let if1 = if2 .before .before in
-    sound-by-check _ _ _ _ (if1 .before .before .before .args .block .now) (if1 .before .get4 .ensures) (if1 .if1 .left) (if2 .before .get42 .ensures) _ (if2 .if2 .left) (c .check-holds .ensures)
+    sound-by-check _ _ _ _ (if1 .before .before .before .args .block .now) (if1 .before .get4 .ensures) (if1 .if1 .left)
+    (if2 .before .get42 .ensures) _ (if2 .if2 .left) (c .check-holds .ensures)
 
 pub is-sound-spec : {M : Type 1} → statement M
 is-sound-spec =

@@ -1,4 +1,5 @@
--- `sums_of` meets its contract. The invariant: going on over the rest from the A and B so far, reduced, gives the sums of the whole.
+-- `sums_of` meets its contract. The invariant: going on over the rest from the A and B so far, reduced, gives the sums of the
+-- whole.
 -- Assumes nothing.
 use mathlib.Core.Path.{_≡_, ap, _∙_}
 use mathlib.Core.List.{[]}
@@ -65,7 +66,8 @@ loop-again c =
     let wide = c .before .before in
     let loop = wide .before .before .before in
     let more =
-    two-bytes (loop .loop .even) (loop .loop .odd) (loop .loop .evens) (loop .loop .odds) (wide .wide .result) (c .wide2 .result)
+    two-bytes (loop .loop .even) (loop .loop .odd) (loop .loop .evens) (loop .loop .odds) (wide .wide .result)
+    (c .wide2 .result)
     (loop .loop .i) (loop .before .before .args .s .now) (omega arith) (wide .wide .ensures .0) (c .wide2 .ensures .0) in
     (omega arith, omega arith, more ∙ loop .loop .inv .2, omega arith, omega arith, omega arith, omega arith)
 

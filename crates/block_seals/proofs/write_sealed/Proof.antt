@@ -63,8 +63,10 @@ returns c =
     let sums-of = put4 .before .before in
     let write-front = sums-of .before .before .before .before .before in
     let start = write-front .before .before .before .before in
-    seals (start .args .block .now) _ _ _ (start .args .payload .now) (start .args .sheet) (start .args .place) _ _ (start .pre .0) (start .pre .1)
-    (write-front .write-front .ensures) (sums-of .sums-of .ensures .0) (sums-of .sums-of .ensures .1) (put4 .put4 .ensures) (put42 .put42 .ensures)
+    seals (start .args .block .now) _ _ _ (start .args .payload .now) (start .args .sheet) (start .args .place) _ _
+    (start .pre .0) (start .pre .1)
+    (write-front .write-front .ensures) (sums-of .sums-of .ensures .0) (sums-of .sums-of .ensures .1) (put4 .put4 .ensures)
+    (put42 .put42 .ensures)
 
 pub write-sealed-spec : {M : Type 1} → statement M
 write-sealed-spec =

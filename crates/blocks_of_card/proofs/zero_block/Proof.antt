@@ -33,7 +33,8 @@ returns : tie.Need-returns
 returns c =
     let start = c .before .before .before .before .before in
     given-back (start .args .card .now) (start .args .b) _ _
-    (c .before .before .zero .ensures ∙ ap (λ (n : ℕ). replicate n 0) (lent-length (start .args .card .now) (start .args .b) (start .pre)))
+    (c .before .before .zero .ensures ∙ ap (λ (n : ℕ). replicate n 0)
+    (lent-length (start .args .card .now) (start .args .b) (start .pre)))
 
 pub zero-block-spec : {M : Type 1} → statement M
 zero-block-spec =

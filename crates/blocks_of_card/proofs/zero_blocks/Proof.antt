@@ -35,8 +35,12 @@ loop-less c = search needs
 loop-again : tie.Need-loop-again Inv-loop μ-loop
 loop-again c =
     let loop = c .before .before .before .before .before in
-    let start = loop .before .before in
-    (omega arith, zeroed-more (loop .loop .card) _ (start .args .card .now) (start .args .b) (loop .loop .i) (loop .loop .inv .1) (c .before .before .zero-block .ensures), search needs)
+    let start = loop .before .before in (
+      omega arith,
+      zeroed-more (loop .loop .card) _ (start .args .card .now) (start .args .b) (loop .loop .i)
+          (loop .loop .inv .1) (c .before .before .zero-block .ensures),
+      search needs,
+    )
 
 same-length : tie.Need-same-length Inv-loop μ-loop
 same-length c = search needs

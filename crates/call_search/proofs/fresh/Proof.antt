@@ -16,7 +16,8 @@ use Rattle.call_search.proofs.fresh.Statement.{statement}
 use Rattle.call_search.proofs.fresh.Tie as tie
 
 -- What fresh answers, and the map it leaves, by whether it is accepted.
-settled : (n : ℕ) (map after : List ℕ) (c : ℕ) (b : Bool) → freshFits n (length map) c ≡ b → after ≡ cond b (freshMap n (length map)) map
+settled : (n : ℕ) (map after : List ℕ) (c : ℕ) (b : Bool) → freshFits n (length map) c ≡ b
+    → after ≡ cond b (freshMap n (length map)) map
     → (b ≡ freshFits n (length map) c) × (after ≡ cond (freshFits n (length map) c) (freshMap n (length map)) map)
 settled n map after c b e h = (sym e, h ∙ ap (λ (x : Bool). cond x (freshMap n (length map)) map) (sym e))
 

@@ -63,7 +63,8 @@ returns-2 c =
     let a = c .before .before .before .before .args in
     let shape = c .before in
     out (a .n) (a .free) (now (a .map)) (a .k) (refused 3)
-    (empty (a .n) (a .free) (now (a .map)) (a .k) (holds (shape .before .shape-fits .ensures) (shape .if1 .left)) (c .if2 .taken))
+    (empty (a .n) (a .free) (now (a .map)) (a .k) (holds (shape .before .shape-fits .ensures) (shape .if1 .left))
+    (c .if2 .taken))
 
 search-requires : tie.Need-search-requires
 search-requires c κs =
@@ -83,7 +84,8 @@ returns-3 c =
     let shape = some .before in
     let a = shape .before .before .before .args in
     out (a .n) (a .free) (now (a .map)) (a .k) (refused 10)
-    (nothing (a .n) (a .free) (now (a .map)) (a .k) (holds (shape .before .shape-fits .ensures) (shape .if1 .left)) (ne-eqb _ _ (some .if2 .left))
+    (nothing (a .n) (a .free) (now (a .map)) (a .k) (holds (shape .before .shape-fits .ensures) (shape .if1 .left))
+    (ne-eqb _ _ (some .if2 .left))
     (sym (c .before .before .search .ensures) ∙ c .enum-told .given .1))
 
 returns-4 : tie.Need-returns-4
@@ -95,7 +97,8 @@ returns-4 c =
     let here = sym (c .before .before .before .search .ensures) ∙ at .1 in
     ap Start (sym (ap startAt here))
     ∙ out (a .n) (a .free) (now (a .map)) (a .k) accepted
-    (passes (a .n) (a .free) (now (a .map)) (a .k) (holds (shape .before .shape-fits .ensures) (shape .if1 .left)) (ne-eqb _ _ (some .if2 .left)) (at .0 .0) here)
+    (passes (a .n) (a .free) (now (a .map)) (a .k) (holds (shape .before .shape-fits .ensures) (shape .if1 .left))
+    (ne-eqb _ _ (some .if2 .left)) (at .0 .0) here)
 
 pub search-spec : {M : Type 1} → statement M
 search-spec =

@@ -32,7 +32,8 @@ module _ (n spare : ℕ) (map : List ℕ) where
 
   passes : shapeFits n spare (length map) ≡ true → counted (countsOf (free map) n) ≡ surveyAnswer n spare map
   unfolding surveyAnswer
-  passes e = sym (ap (λ (v : Verdict). settle v (counted (countsOf (free map) n)) Refused) (skip 1 _ [] accepted (ap not e) none-left))
+  passes e =
+      sym (ap (λ (v : Verdict). settle v (counted (countsOf (free map) n)) Refused) (skip 1 _ [] accepted (ap not e) none-left))
 
 shape-fits-requires : tie.Need-shape-fits-requires
 shape-fits-requires c κs = search needs

@@ -16,7 +16,8 @@ use ghost.Atoms.{Atoms}
 use contract.Monad.{Fun}
 use contract.Running.{givenOf, tables, tablesOf}
 use types.Kit.{Given, ‵, _⊛_, _$_, _∵_, !, qed, by, move, suffices, frame, done}
-use types.Run.{look, init, forget, stop, fld, from, load, of-opd, assigns, returns, enter, alloc1, alloc0, params1, pass1, pass0, free1, free0}
+use types.Run.{look, init, forget, stop, fld, from, load, of-opd, assigns, returns, enter, alloc1, alloc0, params1, pass1}
+use types.Run.{pass0, free1, free0}
 use types.Part.{whole, sub, look-in}
 use sound.WpLaws.{WpFn-mono}
 use denote.RattleType.{owns}
@@ -42,7 +43,8 @@ use Rattle.catalogue.proofs.count.Code as code
 abbrev stayed : Stays (count.ended .signature .params) (count.ended .kept)
 stayed = (stay-none-slice (0 ∷ []) tt (plain (λ _. Entry′.the-row)) yes, tt)
 
-module _ {M : Type 1} (𝓤 : URA M) (H : Heap 𝓤) (A : Atoms 𝓤) (W : Given 𝓤 H A) (mem : Memory → SProp 𝓤) (run : Routine → Fun 𝓤) (κ : Lft) (q : Share) (x : RefT (List Entry)) where
+module _ {M : Type 1} (𝓤 : URA M) (H : Heap 𝓤) (A : Atoms 𝓤) (W : Given 𝓤 H A) (mem : Memory → SProp 𝓤) (run : Routine → Fun 𝓤)
+    (κ : Lft) (q : Share) (x : RefT (List Entry)) where
   abbrev n : ℕ
   n = length (x .now)
 
@@ -55,25 +57,37 @@ module _ {M : Type 1} (𝓤 : URA M) (H : Heap 𝓤) (A : Atoms 𝓤) (W : Given
   exits : Room Entry′.the-row n → ent 𝓤 (onEntry 𝓤 H A count.signature (κ, tt) (q, tt) (x, tt) (s ∷ [], tt)) (Post (vint w64 n))
   exits g =
       qed W ((‵ (flft κ q) ⊛ ‵ ftrue) ∷ ‵ (owns (ShrSlice (named 0) κ Entry′.the-row ∷ []) (x, tt) (s ∷ [], tt)) ∷ []) ∵
-      suffices ! _ (ends-at 𝓤 H A count.ended stayed (count.clauses 𝓤 H A mem run) W (((κ, tt), (q, tt), tt, (x, tt), (s ∷ [], tt)), tt) (vint w64 n) n (tt, tt) (tt, tt)) $ says ! refl $
+      suffices ! _ (ends-at 𝓤 H A count.ended stayed (count.clauses 𝓤 H A mem run) W
+      (((κ, tt), (q, tt), tt, (x, tt), (s ∷ [], tt)), tt) (vint w64 n) n (tt, tt) (tt, tt)) $ says ! refl $
       frame ! $ frame ! $ owned ! usize (Is usize) (uint-makes 𝓤 H A W w64) n _ (refl, g .0) $ done !
 
   module _ (C : Calls 𝓤 H) (Λ : Loops 𝓤 H) where
-    walk : Room Entry′.the-row n → ent 𝓤 (onEntry 𝓤 H A count.signature (κ, tt) (q, tt) (x, tt) (s ∷ [], tt)) (WpFn 𝓤 H C Λ code.function (s ∷ []) Post)
+    walk : Room Entry′.the-row n → ent 𝓤 (onEntry 𝓤 H A count.signature (κ, tt) (q, tt) (x, tt) (s ∷ [], tt))
+        (WpFn 𝓤 H C Λ code.function (s ∷ []) Post)
     walk g =
-        qed W ((‵ (flft κ q) ⊛ ‵ ftrue) ∷ ‵ (owns (ShrSlice (named 0) κ Entry′.the-row ∷ []) (x, tt) (s ∷ [], tt)) ∷ []) ∵ enter ! C Λ code.function (s ∷ []) _ $
-        alloc1 ! (λ l₀. alloc1 ! (λ l₁. alloc0 ! $ params1 ! $ pass1 ! (init ! 0 refl (tt, (tt, (record { fits = g .0 }, tt)))) $ pass0 ! $
-        assigns ! (of-opd ! (load ! (from ! (fld ! refl (stop !))) (look-in ! 0 (sub ! 1 refl (whole !))))) (from ! (stop !)) (init ! 2 refl (tt, record { fits = g .0 })) $
-        returns ! (look ! 2 refl) $ forget ! 0 refl $ forget ! 2 refl $ move ! (2 ∷ 3 ∷ []) $ free1 ! $ free1 ! $ free0 ! $ by ! (exits g)))
+        qed W ((‵ (flft κ q) ⊛ ‵ ftrue) ∷ ‵ (owns (ShrSlice (named 0) κ Entry′.the-row ∷ []) (x, tt) (s ∷ [], tt)) ∷ []) ∵
+        enter ! C Λ code.function (s ∷ []) _ $
+        alloc1 !
+        (λ l₀. alloc1 ! (λ l₁. alloc0 ! $ params1 ! $ pass1 !
+        (init ! 0 refl (tt, (tt, (record { fits = g .0 }, tt)))) $ pass0 ! $
+        assigns ! (of-opd ! (load ! (from ! (fld ! refl (stop !))) (look-in ! 0 (sub ! 1 refl (whole !))))) (from ! (stop !))
+        (init ! 2 refl (tt, record { fits = g .0 })) $
+        returns ! (look ! 2 refl) $ forget ! 0 refl $ forget ! 2 refl $ move !
+        (2 ∷ 3 ∷ []) $ free1 ! $ free1 ! $ free0 ! $ by ! (exits g)))
 
-module _ {M : Type 1} (𝓤 : URA M) (H : Heap 𝓤) (A : Atoms 𝓤) (W : Given 𝓤 H A) (mem : Memory → SProp 𝓤) (run : Routine → Fun 𝓤) where
-  count-walks : (C : Calls 𝓤 H) (Λ : Loops 𝓤 H) → Walks 𝓤 H A count.ended stayed (WpFn 𝓤 H C Λ code.function) (count.clauses 𝓤 H A mem run)
-  count-walks C Λ = walked 𝓤 H A count.ended stayed (count.clauses 𝓤 H A mem run) (WpFn 𝓤 H C Λ code.function) (λ κs. (slice-vals, tt)) (λ κs. (shr-slice-tells (named 0) (κs .0) Entry′.the-row, tt))
+module _ {M : Type 1} (𝓤 : URA M) (H : Heap 𝓤) (A : Atoms 𝓤) (W : Given 𝓤 H A) (mem : Memory → SProp 𝓤)
+    (run : Routine → Fun 𝓤) where
+  count-walks : (C : Calls 𝓤 H) (Λ : Loops 𝓤 H)
+      → Walks 𝓤 H A count.ended stayed (WpFn 𝓤 H C Λ code.function) (count.clauses 𝓤 H A mem run)
+  count-walks C Λ = walked 𝓤 H A count.ended stayed (count.clauses 𝓤 H A mem run) (WpFn 𝓤 H C Λ code.function)
+      (λ κs. (slice-vals, tt)) (λ κs. (shr-slice-tells (named 0) (κs .0) Entry′.the-row, tt))
       (λ κs qs bounds a g are. via 𝓤 _ (fst∗ 𝓤 _ (emp 𝓤)) (walk 𝓤 H A W mem run (κs .0) (qs .0) (a .0) C Λ (are .0 .0 .1)))
 
-count-meets : {M : Type 1} (𝓤 : URA M) (H : Heap 𝓤) (A : Atoms 𝓤) → Given 𝓤 H A → (mem : Memory → SProp 𝓤) (run : Routine → Fun 𝓤) (𝓣 : Tables 𝓤 H)
+count-meets : {M : Type 1} (𝓤 : URA M) (H : Heap 𝓤) (A : Atoms 𝓤) → Given 𝓤 H A
+    → (mem : Memory → SProp 𝓤) (run : Routine → Fun 𝓤) (𝓣 : Tables 𝓤 H)
     → Meets 𝓤 H A count.signature (WpFn 𝓤 H (𝓣 .C) (𝓣 .Λ) code.function) (count.spec 𝓤 H A mem run)
-count-meets 𝓤 H A W mem run 𝓣 = walk-meets 𝓤 H A count.ended stayed W (goes-none-slice 𝓤 H A W 1 (0 ∷ []) tt (plain (λ _. Entry′.the-row)) yes, tt) (count.clauses 𝓤 H A mem run)
+count-meets 𝓤 H A W mem run 𝓣 = walk-meets 𝓤 H A count.ended stayed W
+    (goes-none-slice 𝓤 H A W 1 (0 ∷ []) tt (plain (λ _. Entry′.the-row)) yes, tt) (count.clauses 𝓤 H A mem run)
     (WpFn 𝓤 H (𝓣 .C) (𝓣 .Λ) code.function) (WpFn-mono 𝓤 H (W .laws) 𝓣 code.function) (count-walks 𝓤 H A W mem run (𝓣 .C) (𝓣 .Λ))
 
 pub count-spec : {M : Type 1} → stated.statement M

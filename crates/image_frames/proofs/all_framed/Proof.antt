@@ -17,13 +17,16 @@ use Rattle.map_blocks.proofs.Runs.{all-intro, all-break}
 use Rattle.image_frames.proofs.all_framed.Statement.{statement}
 use Rattle.image_frames.proofs.all_framed.Tie as tie
 
-whole : (image : List ℕ) → ((j : ℕ) → j < totalOf image → sound j (totalOf image) (blockOf image j) ≡ true) → true ≡ framed image
+whole : (image : List ℕ) → ((j : ℕ) → j < totalOf image → sound j (totalOf image) (blockOf image j) ≡ true)
+    → true ≡ framed image
 unfolding framed
-whole image good = sym (all-intro (λ i. sound i (totalOf image) (blockOf image i)) 0 (totalOf image) (λ j l u. good j (omega arith)))
+whole image good =
+    sym (all-intro (λ i. sound i (totalOf image) (blockOf image i)) 0 (totalOf image) (λ j l u. good j (omega arith)))
 
 broken : (image : List ℕ) (j : ℕ) → j < totalOf image → sound j (totalOf image) (blockOf image j) ≡ false → false ≡ framed image
 unfolding framed
-broken image j u e = sym (all-break (λ i. sound i (totalOf image) (blockOf image i)) 0 (totalOf image) j (omega arith) (omega arith) e)
+broken image j u e =
+    sym (all-break (λ i. sound i (totalOf image) (blockOf image i)) 0 (totalOf image) j (omega arith) (omega arith) e)
 
 abbrev Inv-loop : tie.InvT-loop
 Inv-loop image total i₀ i = (i ≤ total) × ((j : ℕ) → j < i → sound j total (blockOf image j) ≡ true)
@@ -44,7 +47,8 @@ returns : tie.Need-returns Inv-loop μ-loop
 returns c =
     let loop = c .before .before .before .loop in
     let a = c .before .before .before .before .before .args in
-    broken (now (a .image)) (loop .i) (omega arith) (sym (c .before .sound-block .ensures) ∙ not-true (c .before .sound-block .result) (c .if1 .taken))
+    broken (now (a .image)) (loop .i) (omega arith)
+    (sym (c .before .sound-block .ensures) ∙ not-true (c .before .sound-block .result) (c .if1 .taken))
 
 add-i : tie.Need-add-i Inv-loop μ-loop
 add-i c = search needs
@@ -54,8 +58,11 @@ loop-less c = search needs
 
 loop-again : tie.Need-loop-again Inv-loop μ-loop
 loop-again c =
-    let loop = c .before .before .before .loop in
-    (omega arith, below-more _ _ (loop .inv .1) (sym (c .before .sound-block .ensures) ∙ not-false (c .before .sound-block .result) (c .if1 .left)))
+    let loop = c .before .before .before .loop in (
+      omega arith,
+      below-more _ _ (loop .inv .1) (sym (c .before .sound-block .ensures)
+          ∙ not-false (c .before .sound-block .result) (c .if1 .left)),
+    )
 
 returns-2 : tie.Need-returns-2 Inv-loop μ-loop
 returns-2 c =

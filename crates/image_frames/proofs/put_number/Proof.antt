@@ -54,7 +54,8 @@ same-length c = search needs
 returns : tie.Need-returns
 returns c =
     let a = c .before .before .before .before .before .before .args in
-    put-back (now (a .image)) (a .k) (a .number) _ (c .before .before .put4 .ensures) ∙ sym (stored-in (now (a .image)) (a .k) (a .number) (omega arith))
+    put-back (now (a .image)) (a .k) (a .number) _ (c .before .before .put4 .ensures)
+    ∙ sym (stored-in (now (a .image)) (a .k) (a .number) (omega arith))
 
 returns-2 : tie.Need-returns-2
 returns-2 c =

@@ -13,9 +13,11 @@ use Rattle.image_frames.specs.Numbers.{replaced}
 use Rattle.image_frames.proofs.put_zeros.Statement.{statement}
 use Rattle.image_frames.proofs.put_zeros.Tie as tie
 
-whole : (first : List ℕ) (k i : ℕ) (image : List ℕ) → i ≡ 124 * totalOf first → Written first k (replicate (4 * (i - k)) 0) image
+whole : (first : List ℕ) (k i : ℕ) (image : List ℕ) → i ≡ 124 * totalOf first
+    → Written first k (replicate (4 * (i - k)) 0) image
     → bodyOf image ≡ replaced (bodyOf first) (4 * k) (replicate (496 * totalOf first - 4 * k) 0)
-whole first k i image e w = let q : 4 * (i - k) ≡ 496 * totalOf first - 4 * k = omega arith in w .bytes ∙ ap (λ (n : ℕ). replaced (bodyOf first) (4 * k) (replicate n 0)) q
+whole first k i image e w = let q : 4 * (i - k) ≡ 496 * totalOf first - 4 * k = omega arith in
+    w .bytes ∙ ap (λ (n : ℕ). replaced (bodyOf first) (4 * k) (replicate n 0)) q
 
 abbrev Inv-loop : tie.InvT-loop
 Inv-loop image₀ k end i₀ image i = (k ≤ i) × (i ≤ end) × Written image₀ k (replicate (4 * (i - k)) 0) image
@@ -41,8 +43,12 @@ loop-less c = search needs
 loop-again : tie.Need-loop-again Inv-loop μ-loop
 loop-again c =
     let loop = c .before .before .before .before .before .loop in
-    let a = c .before .before .before .before .before .before .before .args in
-    (omega arith, omega arith, zeros-more (now (a .image)) (a .k) (loop .image) _ (loop .i) (omega arith) (omega arith) (c .before .before .put-number .ensures) (loop .inv .2))
+    let a = c .before .before .before .before .before .before .before .args in (
+      omega arith,
+      omega arith,
+      zeros-more (now (a .image)) (a .k) (loop .image) _ (loop .i) (omega arith) (omega arith)
+          (c .before .before .put-number .ensures) (loop .inv .2),
+    )
 
 same-length : tie.Need-same-length Inv-loop μ-loop
 same-length c = c .before .loop .inv .2 .long

@@ -44,8 +44,11 @@ loop-again : tie.Need-loop-again Inv-loop μ-loop
 loop-again c =
     let loop = c .before .before .loop in
     let a = c .before .before .before .before .before .args in
-    let long : length (loop .words) ≡ length (now (a .words)) = loop .inv .1 .long in
-    (omega arith, reading-more (now (a .image)) (a .k) (now (a .words)) (loop .i) (loop .words) _ (omega arith) (c .word .ensures) (loop .inv .1))
+    let long : length (loop .words) ≡ length (now (a .words)) = loop .inv .1 .long in (
+      omega arith,
+      reading-more (now (a .image)) (a .k) (now (a .words)) (loop .i) (loop .words) _ (omega arith)
+          (c .word .ensures) (loop .inv .1),
+    )
 
 same-length : tie.Need-same-length Inv-loop μ-loop
 same-length c = c .before .loop .inv .1 .long

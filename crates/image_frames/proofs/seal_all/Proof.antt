@@ -37,8 +37,10 @@ loop-again c =
     let loop = c .before .before .before .before .before .loop in
     let a = c .before .before .before .before .before .before .before .args in (
       omega arith,
-      subst (λ (l : List ℕ). Sealing (now (a .image)) (length (now (a .image)) / 512) (loop .i + 1) l) (sym (c .before .before .seal-frame .ensures))
-          (sealing-more (now (a .image)) (length (now (a .image)) / 512) (omega arith) (loop .i) (loop .image) (omega arith) (loop .inv .1)),
+      subst (λ (l : List ℕ). Sealing (now (a .image)) (length (now (a .image)) / 512) (loop .i + 1) l)
+          (sym (c .before .before .seal-frame .ensures))
+          (sealing-more (now (a .image)) (length (now (a .image)) / 512) (omega arith) (loop .i) (loop .image) (omega arith)
+          (loop .inv .1)),
     )
 
 same-length : tie.Need-same-length Inv-loop μ-loop
@@ -48,7 +50,8 @@ returns : tie.Need-returns Inv-loop μ-loop
 returns c =
     let loop = c .before .loop in
     let a = c .before .before .before .args in
-    sealing-end (now (a .image)) (length (now (a .image)) / 512) (omega arith) (loop .i) (loop .image) (omega arith) refl (loop .inv .1)
+    sealing-end (now (a .image)) (length (now (a .image)) / 512) (omega arith) (loop .i) (loop .image) (omega arith) refl
+    (loop .inv .1)
 
 pub seal-all-spec : {M : Type 1} → statement M
 seal-all-spec =

@@ -29,7 +29,8 @@ returns : tie.Need-returns
 returns c =
     let a = c .before .before .before .before .before .before .before .before .before .before .args in
     c .before .before .write-block .ensures
-    ∙ ap (λ (p : List ℕ). withBlock (now (a .image)) (a .i) (sealed (a .i) (a .total) p)) (c .before .before .before .before .before .before .copy-payload .ensures)
+    ∙ ap (λ (p : List ℕ). withBlock (now (a .image)) (a .i) (sealed (a .i) (a .total) p))
+    (c .before .before .before .before .before .before .copy-payload .ensures)
 
 pub seal-frame-spec : {M : Type 1} → statement M
 seal-frame-spec =

@@ -61,8 +61,12 @@ loop-less c = search needs
 loop-again : tie.Need-loop-again Inv-loop μ-loop
 loop-again c =
     let loop = c .before .before .before .before .before .before .before .before .before .before .loop in
-    let a = c .before .before .before .before .before .before .before .before .before .before .before .before .before .args in
-    (omega arith, words-more (now (a .image)) (a .k) (now (a .words)) (loop .image) _ _ (loop .i) (omega arith) (omega arith) (c .before .before .before .before .before .before .put-number .ensures) (c .before .before .put-number2 .ensures) (loop .inv .1))
+    let a = c .before .before .before .before .before .before .before .before .before .before .before .before .before .args in (
+      omega arith,
+      words-more (now (a .image)) (a .k) (now (a .words)) (loop .image) _ _ (loop .i) (omega arith) (omega arith)
+          (c .before .before .before .before .before .before .put-number .ensures) (c .before .before .put-number2 .ensures)
+          (loop .inv .1),
+    )
 
 same-length : tie.Need-same-length Inv-loop μ-loop
 same-length c = c .before .loop .inv .1 .long

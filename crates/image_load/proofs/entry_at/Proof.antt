@@ -14,7 +14,8 @@ use Rattle.image_load.proofs.entry_at.Tie as tie
 abbrev entry : ℕ → ℕ → ℕ → Entry
 entry m s l = record { mark = m; start = s; length = l }
 
-made : (image : List ℕ) (k m s l : ℕ) → m ≡ numberIn image k → s ≡ numberIn image (k + 1) → l ≡ numberIn image (k + 2) → entry m s l ≡ entryFrom image k
+made : (image : List ℕ) (k m s l : ℕ) → m ≡ numberIn image k → s ≡ numberIn image (k + 1) → l ≡ numberIn image (k + 2)
+    → entry m s l ≡ entryFrom image k
 unfolding entryFrom
 made image k m s l p q r = ap₂ (λ (x y : ℕ). entry x y l) p q ∙ ap (entry (numberIn image k) (numberIn image (k + 1))) r
 

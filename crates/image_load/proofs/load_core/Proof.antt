@@ -29,12 +29,14 @@ module _ (image map : List ℕ) (count : ℕ) (scratch : List ℕ) where
   ruled = loadVerdict image (length map) count (length scratch)
 
   -- after a refusal
-  told-refused : (number : ℕ) → number ≡ rowNumber ruled → (number ≡ 0 → ⊥) → (loaded number 0 0 ≡ coreLoaded image map count scratch) × (map ≡ coreMap image map count scratch)
+  told-refused : (number : ℕ) → number ≡ rowNumber ruled → (number ≡ 0 → ⊥)
+      → (loaded number 0 0 ≡ coreLoaded image map count scratch) × (map ≡ coreMap image map count scratch)
   unfolding coreLoaded coreMap
   told-refused number e h = by ruled number e h
     where
       by : (v : Verdict) (number : ℕ) → number ≡ rowNumber v → (number ≡ 0 → ⊥)
-          → (loaded number 0 0 ≡ settle v (loaded 0 (blocksIn image) (freeCountIn image)) (λ k. loaded k 0 0)) × (map ≡ settle v (stateIn image .map) (λ k. map))
+          → (loaded number 0 0 ≡ settle v (loaded 0 (blocksIn image) (freeCountIn image)) (λ k. loaded k 0 0))
+          × (map ≡ settle v (stateIn image .map) (λ k. map))
       by accepted number e h = absurd (h e)
       by (refused k) number e h = (ap (λ (x : ℕ). loaded x 0 0) e, refl)
 
@@ -42,8 +44,10 @@ module _ (image map : List ℕ) (count : ℕ) (scratch : List ℕ) where
   record Done : Type 0 where
     few : count ≤ 1024
     short : length map ≤ 4096
-    gives : (n spare : ℕ) → n ≡ numberIn image 0 → spare ≡ numberIn image 1 → loaded 0 n spare ≡ coreLoaded image map count scratch
-    reads : (words : List ℕ) → words ≡ wordsAt (bodyOf image) (4 * (3 + 3 * count)) (length map) → words ≡ coreMap image map count scratch
+    gives : (n spare : ℕ) → n ≡ numberIn image 0 → spare ≡ numberIn image 1
+        → loaded 0 n spare ≡ coreLoaded image map count scratch
+    reads : (words : List ℕ) → words ≡ wordsAt (bodyOf image) (4 * (3 + 3 * count)) (length map)
+        → words ≡ coreMap image map count scratch
 
   done : (number : ℕ) → number ≡ rowNumber ruled → number ≡ 0 → Done
   unfolding coreLoaded coreMap
@@ -59,7 +63,8 @@ module _ (image map : List ℕ) (count : ℕ) (scratch : List ℕ) where
             ap₂ (loaded 0) (en ∙ blocks-in image) (es ∙ spare-in image)
             ∙ ap (λ (w : Verdict). settle w (loaded 0 (blocksIn image) (freeCountIn image)) (λ k. loaded k 0 0)) (sym v);
         reads = λ words e.
-            map-read image (blocksIn image) count (length map) words (l .words) e ∙ ap (mapIn image (blocksIn image)) (l .entries)
+            map-read image (blocksIn image) count (length map) words (l .words) e
+            ∙ ap (mapIn image (blocksIn image)) (l .entries)
             ∙ ap (λ (w : Verdict). settle w (stateIn image .map) (λ k. map)) (sym v);
       }
 
@@ -79,25 +84,35 @@ same-length c = search needs
 returns : tie.Need-returns
 returns c =
     let a = c .before .before .before .before .before .before .before .before .before .before .before .before .args in
-    let r = told-refused (now (a .image)) (now (a .map)) (a .count) (now (a .scratch)) _ (c .before .before .before .before .before .before .before .verdict .ensures) (c .if1 .taken) in
-    (r .0, r .1, c .before .before .before .clear .ensures ∙ cleared (now (a .image)) (now (a .map)) (a .count) (now (a .scratch)) (c .before .before .before .before .before .before .before .verdict .last .1 .1 .1 .0) (c .before .before .before .before .before .before .scratch .given))
+    let r = told-refused (now (a .image)) (now (a .map)) (a .count) (now (a .scratch)) _
+    (c .before .before .before .before .before .before .before .verdict .ensures) (c .if1 .taken) in (
+      r .0,
+      r .1,
+      c .before .before .before .clear .ensures
+          ∙ cleared (now (a .image)) (now (a .map)) (a .count) (now (a .scratch))
+          (c .before .before .before .before .before .before .before .verdict .last .1 .1 .1 .0)
+          (c .before .before .before .before .before .before .scratch .given),
+    )
 
 mul-read-words : tie.Need-mul-read-words
 mul-read-words c =
     let a = c .before .before .before .before .before .before .before .before .before .before .before .before .before .args in
-    let f = done (now (a .image)) (now (a .map)) (a .count) (now (a .scratch)) _ (c .before .before .before .before .before .before .before .before .verdict .ensures) (c .before .if1 .left) in
+    let f = done (now (a .image)) (now (a .map)) (a .count) (now (a .scratch)) _
+    (c .before .before .before .before .before .before .before .before .verdict .ensures) (c .before .if1 .left) in
     omega (arith, f .few)
 
 add-read-words : tie.Need-add-read-words
 add-read-words c =
     let a = c .before .before .before .before .before .before .before .before .before .before .before .before .before .args in
-    let f = done (now (a .image)) (now (a .map)) (a .count) (now (a .scratch)) _ (c .before .before .before .before .before .before .before .before .verdict .ensures) (c .before .if1 .left) in
+    let f = done (now (a .image)) (now (a .map)) (a .count) (now (a .scratch)) _
+    (c .before .before .before .before .before .before .before .before .verdict .ensures) (c .before .if1 .left) in
     omega (arith, f .few)
 
 read-words-requires : tie.Need-read-words-requires
 read-words-requires c κs =
     let a = c .before .before .before .before .before .before .before .before .before .before .before .before .before .args in
-    let f = done (now (a .image)) (now (a .map)) (a .count) (now (a .scratch)) _ (c .before .before .before .before .before .before .before .before .verdict .ensures) (c .before .if1 .left) in
+    let f = done (now (a .image)) (now (a .map)) (a .count) (now (a .scratch)) _
+    (c .before .before .before .before .before .before .before .before .verdict .ensures) (c .before .if1 .left) in
     (omega (arith, f .few), f .short)
 
 number-requires : tie.Need-number-requires
@@ -114,9 +129,18 @@ same-length-3 c = search needs
 
 returns-2 : tie.Need-returns-2
 returns-2 c =
-    let a = c .before .before .before .before .before .before .before .before .before .before .before .before .before .before .before .before .before .before .args in
-    let f = done (now (a .image)) (now (a .map)) (a .count) (now (a .scratch)) _ (c .before .before .before .before .before .before .before .before .before .before .before .before .before .verdict .ensures) (c .before .before .before .before .before .before .if1 .left) in
-    (f .gives _ _ (c .before .number .ensures) (c .number2 .ensures), f .reads _ (c .before .before .before .before .read-words .ensures), c .before .before .before .before .before .before .before .before .before .clear .ensures ∙ cleared (now (a .image)) (now (a .map)) (a .count) (now (a .scratch)) (c .before .before .before .before .before .before .before .before .before .before .before .before .before .verdict .last .1 .1 .1 .0) (c .before .before .before .before .before .before .before .before .before .before .before .before .scratch .given))
+    let far = c .before .before .before .before .before .before .before .before in
+    let a = far .before .before .before .before .before .before .before .before .before .before .args in
+    let f = done (now (a .image)) (now (a .map)) (a .count) (now (a .scratch)) _
+    (far .before .before .before .before .before .verdict .ensures)
+    (c .before .before .before .before .before .before .if1 .left) in (
+      f .gives _ _ (c .before .number .ensures) (c .number2 .ensures),
+      f .reads _ (c .before .before .before .before .read-words .ensures),
+      far .before .clear .ensures
+          ∙ cleared (now (a .image)) (now (a .map)) (a .count) (now (a .scratch))
+          (far .before .before .before .before .before .verdict .last .1 .1 .1 .0)
+          (far .before .before .before .before .scratch .given),
+    )
 
 pub load-core-spec : {M : Type 1} → statement M
 load-core-spec =

@@ -30,7 +30,9 @@ entry-at-requires c κs = search needs
 returns-3 : tie.Need-returns-3
 returns-3 c =
     let a = c .before .before .before .before .args in
-    ap (turn (cursor (a .at .next + 3) _)) (c .entry-at .ensures) ∙ reads (a .at) (now (a .image)) (a .entry) (going (a .at) (now (a .image)) (c .before .before .if1 .left) (omega arith))
+    ap (turn (cursor (a .at .next + 3) _)) (c .entry-at .ensures)
+    ∙ reads (a .at) (now (a .image)) (a .entry) (going (a .at) (now (a .image)) (c .before .before .if1 .left)
+    (omega arith))
 
 pub read-entry-spec : {M : Type 1} → statement M
 read-entry-spec = tie.close (tie.spec returns returns-2 add-t7 entry-at-requires returns-3)

@@ -39,8 +39,11 @@ loop-again : tie.Need-loop-again Inv-loop μ-loop
 loop-again c =
     let loop = c .before .before .before .before .before .before .loop in
     let a = c .before .before .before .before .before .before .before .before .before .args in
-    let r = c .before .before .release-entry .ensures in
-    (omega arith, left-less (a .n) (now (a .image)) (a .c) _ (now (a .scratch)) (loop .i) (loop .tally) _ (loop .scratch) _ _ (omega arith) (c .before .before .before .entry-at .ensures) (r .0) (r .1) (loop .inv .1))
+    let r = c .before .before .release-entry .ensures in (
+      omega arith,
+      left-less (a .n) (now (a .image)) (a .c) _ (now (a .scratch)) (loop .i) (loop .tally) _ (loop .scratch) _ _
+          (omega arith) (c .before .before .before .entry-at .ensures) (r .0) (r .1) (loop .inv .1),
+    )
 
 same-length : tie.Need-same-length Inv-loop μ-loop
 same-length c = c .before .loop .inv .1 .long
@@ -49,7 +52,8 @@ returns : tie.Need-returns Inv-loop μ-loop
 returns c =
     let loop = c .before .loop in
     let a = c .before .before .before .before .args in
-    left-none (a .n) (now (a .image)) (a .c) _ (now (a .scratch)) (loop .i) (loop .tally) (loop .scratch) (omega arith) (loop .inv .1)
+    left-none (a .n) (now (a .image)) (a .c) _ (now (a .scratch)) (loop .i) (loop .tally) (loop .scratch) (omega arith)
+    (loop .inv .1)
 
 pub release-in-spec : {M : Type 1} → statement M
 release-in-spec =

@@ -17,13 +17,21 @@ use Rattle.image_save.proofs.begin.Tie as tie
 use Rattle.image.proofs.Fitting.{save-fits-to}
 
 module _ (n spare : ℕ) (map : List ℕ) (count : ℕ) (scratch : List ℕ) where
-  refused : saveFits n spare count (length map) (length scratch) ≡ false → (tally 0 true ≡ firstTally n spare map count scratch) × (scratch ≡ firstScratch n spare map count scratch)
+  refused : saveFits n spare count (length map) (length scratch) ≡ false
+      → (tally 0 true ≡ firstTally n spare map count scratch) × (scratch ≡ firstScratch n spare map count scratch)
   unfolding firstTally firstScratch
-  refused f = (ap (λ (b : Bool). cond b (tally (n - spare) false) (tally 0 true)) (sym f), ap (λ (b : Bool). cond b map scratch) (sym f))
+  refused f = (
+    ap (λ (b : Bool). cond b (tally (n - spare) false) (tally 0 true)) (sym f),
+    ap (λ (b : Bool). cond b map scratch) (sym f),
+  )
 
-  begun : saveFits n spare count (length map) (length scratch) ≡ true → (tally (n - spare) false ≡ firstTally n spare map count scratch) × (map ≡ firstScratch n spare map count scratch)
+  begun : saveFits n spare count (length map) (length scratch) ≡ true
+      → (tally (n - spare) false ≡ firstTally n spare map count scratch) × (map ≡ firstScratch n spare map count scratch)
   unfolding firstTally firstScratch
-  begun f = (ap (λ (b : Bool). cond b (tally (n - spare) false) (tally 0 true)) (sym f), ap (λ (b : Bool). cond b map scratch) (sym f))
+  begun f = (
+    ap (λ (b : Bool). cond b (tally (n - spare) false) (tally 0 true)) (sym f),
+    ap (λ (b : Bool). cond b map scratch) (sym f),
+  )
 
 save-fits-requires : tie.Need-save-fits-requires
 save-fits-requires c κs = search needs
@@ -31,7 +39,8 @@ save-fits-requires c κs = search needs
 returns : tie.Need-returns
 returns c =
     let a = c .before .before .before .before .args in
-    refused (a .n) (a .free) (now (a .map)) (a .count) (now (a .scratch)) (fails (c .before .save-fits .ensures) (c .if1 .taken))
+    refused (a .n) (a .free) (now (a .map)) (a .count) (now (a .scratch))
+    (fails (c .before .save-fits .ensures) (c .if1 .taken))
 
 copy-requires : tie.Need-copy-requires
 copy-requires c κs =
@@ -51,7 +60,8 @@ returns-2 : tie.Need-returns-2
 returns-2 c =
     let at = c .before .before .before .before in
     let a = at .before .before .before .before .args in
-    let b = begun (a .n) (a .free) (now (a .map)) (a .count) (now (a .scratch)) (holds (at .before .save-fits .ensures) (at .if1 .left)) in
+    let b = begun (a .n) (a .free) (now (a .map)) (a .count) (now (a .scratch))
+    (holds (at .before .save-fits .ensures) (at .if1 .left)) in
     (b .0, c .before .before .copy .ensures ∙ b .1)
 
 pub begin-spec : {M : Type 1} → statement M

@@ -18,13 +18,15 @@ returns-2 : tie.Need-returns-2
 returns-2 c = rest-cut _ _ _ (c .before .before .if1 .left) (fails (c .before .whole-blocks .ensures) (c .if2 .taken))
 
 returns-3 : tie.Need-returns-3
-returns-3 c = rest-far _ _ _ (c .before .before .before .before .if1 .left) (holds (c .before .before .before .whole-blocks .ensures) (c .before .before .if2 .left)) (omega arith)
+returns-3 c = rest-far _ _ _ (c .before .before .before .before .if1 .left)
+    (holds (c .before .before .before .whole-blocks .ensures) (c .before .before .if2 .left)) (omega arith)
 
 returns-4 : tie.Need-returns-4
 returns-4 c =
     let at = c .before .before .before in
     let a = c .before .before .before .before .before .before .args in
-    rest-many (a .maplen) (a .at) (a .bytes) (at .before .before .if1 .left) (holds (at .before .whole-blocks .ensures) (at .if2 .left)) (le-leb (a .at .next) 4096 (omega arith)) (omega arith)
+    rest-many (a .maplen) (a .at) (a .bytes) (at .before .before .if1 .left)
+    (holds (at .before .whole-blocks .ensures) (at .if2 .left)) (le-leb (a .at .next) 4096 (omega arith)) (omega arith)
 
 mul-result : tie.Need-mul-result
 mul-result c = search needs
@@ -39,7 +41,9 @@ returns-5 : tie.Need-returns-5
 returns-5 c =
     let at = c .before .before .before .before in
     let a = at .before .before .before .args in
-    rest-by-room (a .maplen) (a .at) (a .bytes) (at .before .before .if1 .left) (holds (at .before .whole-blocks .ensures) (at .if2 .left)) (le-leb (a .at .next) 4096 (omega arith)) (le-leb (a .maplen) 4096 (omega arith))
+    rest-by-room (a .maplen) (a .at) (a .bytes) (at .before .before .if1 .left)
+    (holds (at .before .whole-blocks .ensures) (at .if2 .left)) (le-leb (a .at .next) 4096 (omega arith))
+    (le-leb (a .maplen) 4096 (omega arith))
 
 pub rest-fits-spec : {M : Type 1} → statement M
 rest-fits-spec =

@@ -15,7 +15,8 @@ save-fits-requires c κs = search needs
 returns : tie.Need-returns
 returns c =
     let a = c .before .before .before .before .before .args in
-    save-row-1 (a .n) (a .free) (now (a .map)) (a .count) (a .tally) (now (a .scratch)) (now (a .image)) (fails (c .before .save-fits .ensures) (c .if1 .taken))
+    save-row-1 (a .n) (a .free) (now (a .map)) (a .count) (a .tally) (now (a .scratch)) (now (a .image))
+    (fails (c .before .save-fits .ensures) (c .if1 .taken))
 
 all-released-requires : tie.Need-all-released-requires
 all-released-requires c κs =
@@ -28,7 +29,8 @@ returns-2 : tie.Need-returns-2
 returns-2 c =
     let at = c .before .before in
     let a = at .before .before .before .before .before .args in
-    save-row-4 (a .n) (a .free) (now (a .map)) (a .count) (a .tally) (now (a .scratch)) (now (a .image)) (holds (at .before .save-fits .ensures) (at .if1 .left)) (fails (c .before .all-released .ensures) (c .if2 .taken))
+    save-row-4 (a .n) (a .free) (now (a .map)) (a .count) (a .tally) (now (a .scratch)) (now (a .image))
+    (holds (at .before .save-fits .ensures) (at .if1 .left)) (fails (c .before .all-released .ensures) (c .if2 .taken))
 
 frames-for-requires : tie.Need-frames-for-requires
 frames-for-requires c κs =
@@ -46,14 +48,18 @@ returns-3 : tie.Need-returns-3
 returns-3 c =
     let at = c .before .before .before .before in
     let a = at .before .before .before .before .before .args in
-    save-row-12 (a .n) (a .free) (now (a .map)) (a .count) (a .tally) (now (a .scratch)) (now (a .image)) (holds (at .before .save-fits .ensures) (at .if1 .left)) (holds (c .before .before .before .all-released .ensures) (c .before .before .if2 .left))
+    save-row-12 (a .n) (a .free) (now (a .map)) (a .count) (a .tally) (now (a .scratch)) (now (a .image))
+    (holds (at .before .save-fits .ensures) (at .if1 .left))
+    (holds (c .before .before .before .all-released .ensures) (c .before .before .if2 .left))
     _ (c .before .frames-for .ensures) (c .if3 .taken)
 
 returns-4 : tie.Need-returns-4
 returns-4 c =
     let at = c .before .before .before .before in
     let a = at .before .before .before .before .before .args in
-    save-row-none (a .n) (a .free) (now (a .map)) (a .count) (a .tally) (now (a .scratch)) (now (a .image)) (holds (at .before .save-fits .ensures) (at .if1 .left)) (holds (c .before .before .before .all-released .ensures) (c .before .before .if2 .left))
+    save-row-none (a .n) (a .free) (now (a .map)) (a .count) (a .tally) (now (a .scratch)) (now (a .image))
+    (holds (at .before .save-fits .ensures) (at .if1 .left))
+    (holds (c .before .before .before .all-released .ensures) (c .before .before .if2 .left))
     _ (c .before .frames-for .ensures) (c .if3 .left)
 
 pub verdict-spec : {M : Type 1} → statement M

@@ -50,8 +50,11 @@ returns-3 c =
     let w = writes (a .at) (now (a .image)) (a .entry) (going (a .at) (now (a .image)) (at .before .if1 .left) (omega arith)) in
     let i1 = c .before .before .before .before .before .before .before .before .before .before .put-number .ensures in
     let i2 = c .before .before .before .before .before .before .put-number2 .ensures in
-    let i3 = c .before .before .put-number3 .ensures in
-    (w .0, i3 ∙ ap (λ (l : List ℕ). withNumber l (a .at .next + 2) (a .entry .length)) (i2 ∙ ap (λ (l : List ℕ). withNumber l (a .at .next + 1) (a .entry .start)) i1) ∙ w .1)
+    let i3 = c .before .before .put-number3 .ensures in (
+      w .0,
+      i3 ∙ ap (λ (l : List ℕ). withNumber l (a .at .next + 2) (a .entry .length))
+          (i2 ∙ ap (λ (l : List ℕ). withNumber l (a .at .next + 1) (a .entry .start)) i1) ∙ w .1,
+    )
 
 pub write-entry-spec : {M : Type 1} → statement M
 write-entry-spec =

@@ -18,13 +18,21 @@ module _ (n spare count number : ℕ) (image : List ℕ) where
   abbrev whole : List ℕ
   whole = withNumber (withNumber (withNumber image 0 n) 1 spare) 2 (count % 4294967296)
 
-  refused : (number ≡ 0 → ⊥) → (cursor 3 true ≡ headCursor n spare count number image) × (image ≡ headImage n spare count number image)
+  refused : (number ≡ 0 → ⊥) → (cursor 3 true ≡ headCursor n spare count number image)
+      × (image ≡ headImage n spare count number image)
   unfolding headCursor headImage
-  refused h = (ap (λ (b : Bool). cursor 3 (not b)) (sym (ne-eqb number 0 h)), ap (λ (b : Bool). cond b whole image) (sym (ne-eqb number 0 h)))
+  refused h = (
+    ap (λ (b : Bool). cursor 3 (not b)) (sym (ne-eqb number 0 h)),
+    ap (λ (b : Bool). cond b whole image) (sym (ne-eqb number 0 h)),
+  )
 
-  written : number ≡ 0 → (cursor 3 false ≡ headCursor n spare count number image) × (whole ≡ headImage n spare count number image)
+  written : number ≡ 0 → (cursor 3 false ≡ headCursor n spare count number image)
+      × (whole ≡ headImage n spare count number image)
   unfolding headCursor headImage
-  written h = (ap (λ (b : Bool). cursor 3 (not b)) (sym (eq-eqb number 0 h)), ap (λ (b : Bool). cond b whole image) (sym (eq-eqb number 0 h)))
+  written h = (
+    ap (λ (b : Bool). cursor 3 (not b)) (sym (eq-eqb number 0 h)),
+    ap (λ (b : Bool). cond b whole image) (sym (eq-eqb number 0 h)),
+  )
 
 returns : tie.Need-returns
 returns c =
@@ -53,8 +61,11 @@ returns-2 c =
     let w = written (a .n) (a .free) (a .count) (a .number) (now (a .image)) (at .if1 .left) in
     let i1 = c .before .before .before .before .before .before .before .before .before .before .put-number .ensures in
     let i2 = c .before .before .before .before .before .before .put-number2 .ensures in
-    let i3 = c .before .before .put-number3 .ensures in
-    (w .0, i3 ∙ ap (λ (l : List ℕ). withNumber l 2 (a .count % 4294967296)) (i2 ∙ ap (λ (l : List ℕ). withNumber l 1 (a .free)) i1) ∙ w .1)
+    let i3 = c .before .before .put-number3 .ensures in (
+      w .0,
+      i3 ∙ ap (λ (l : List ℕ). withNumber l 2 (a .count % 4294967296))
+          (i2 ∙ ap (λ (l : List ℕ). withNumber l 1 (a .free)) i1) ∙ w .1,
+    )
 
 pub write-head-spec : {M : Type 1} → statement M
 write-head-spec =

@@ -24,20 +24,24 @@ module _ (map : List ℕ) (at : Cursor) (image : List ℕ) where
   abbrev whole : List ℕ
   whole =
       frames (totalOf image) 0 (totalOf image)
-      (replaced (replaced (bodyOf image) (4 * at .next) (wordBytes map)) (4 * end) (replicate (496 * totalOf image - 4 * end) 0))
+      (replaced (replaced (bodyOf image) (4 * at .next) (wordBytes map)) (4 * end)
+      (replicate (496 * totalOf image - 4 * end) 0))
 
   unfit : restFits (length map) at (length image) ≡ false → image ≡ restImage map at image
   unfolding restImage
   unfit f = ap (λ (b : Bool). cond b whole image) (sym f)
 
-  written : restFits (length map) at (length image) ≡ true → (next more last : List ℕ) → length next ≡ length image → length more ≡ length image
-      → bodyOf next ≡ replaced (bodyOf image) (4 * at .next) (wordBytes map) → bodyOf more ≡ replaced (bodyOf next) (4 * end) (replicate (496 * totalOf next - 4 * end) 0)
+  written : restFits (length map) at (length image) ≡ true → (next more last : List ℕ) → length next ≡ length image
+      → length more ≡ length image
+      → bodyOf next ≡ replaced (bodyOf image) (4 * at .next) (wordBytes map)
+      → bodyOf more ≡ replaced (bodyOf next) (4 * end) (replicate (496 * totalOf next - 4 * end) 0)
       → last ≡ sealedImage more → last ≡ restImage map at image
   unfolding restImage sealedImage
   written f next more last ln lm en em el =
       let tn : totalOf next ≡ totalOf image = ap (λ (k : ℕ). k / 512) ln in
       let tm : totalOf more ≡ totalOf image = ap (λ (k : ℕ). k / 512) lm in
-      el ∙ ap₂ (λ (t : ℕ) (b : List ℕ). frames t 0 t b) tm (em ∙ ap₂ (λ (b : List ℕ) (t : ℕ). replaced b (4 * end) (replicate (496 * t - 4 * end) 0)) en tn)
+      el ∙ ap₂ (λ (t : ℕ) (b : List ℕ). frames t 0 t b) tm
+      (em ∙ ap₂ (λ (b : List ℕ) (t : ℕ). replaced b (4 * end) (replicate (496 * t - 4 * end) 0)) en tn)
       ∙ ap (λ (b : Bool). cond b whole image) (sym f)
 
 rest-fits-requires : tie.Need-rest-fits-requires
@@ -69,16 +73,21 @@ put-zeros-requires c κs =
     let at = c .before .before .before .before .before .before in
     let a = at .before .before .before .before .args in
     let r = rest-to _ _ _ (holds (at .before .rest-fits .ensures) (at .if1 .left)) in
-    let same : length (c .before .before .before .before .write-words .last .0) ≡ length (now (a .image)) = c .before .before .before .image .given in
-    (omega (arith, r .whole .exact, r .whole .few), subst (λ (k : ℕ). a .at .next + 2 * length (now (a .map)) ≤ 124 * (k / 512)) (sym same) (r .room))
+    let same : length (c .before .before .before .before .write-words .last .0) ≡ length (now (a .image)) =
+    c .before .before .before .image .given in (
+      omega (arith, r .whole .exact, r .whole .few),
+      subst (λ (k : ℕ). a .at .next + 2 * length (now (a .map)) ≤ 124 * (k / 512)) (sym same) (r .room),
+    )
 
 seal-all-requires : tie.Need-seal-all-requires
 seal-all-requires c κs =
     let at = c .before .before .before .before .before .before .before .before .before .before in
     let a = at .before .before .before .before .args in
     let r = rest-to _ _ _ (holds (at .before .rest-fits .ensures) (at .if1 .left)) in
-    let next : length (c .before .before .before .before .before .before .before .before .write-words .last .0) ≡ length (now (a .image)) = c .before .before .before .before .before .before .before .image .given in
-    let more : length (c .before .before .before .put-zeros .last .0) ≡ length (now (a .image)) = c .before .before .image2 .given ∙ next in
+    let next : length (c .before .before .before .before .before .before .before .before .write-words .last .0)
+    ≡ length (now (a .image)) = c .before .before .before .before .before .before .before .image .given in
+    let more : length (c .before .before .before .put-zeros .last .0) ≡ length (now (a .image)) =
+    c .before .before .image2 .given ∙ next in
     (omega (arith, r .whole .exact, r .whole .few), omega (arith, r .whole .exact))
 
 same-length : tie.Need-same-length
@@ -88,9 +97,14 @@ returns-2 : tie.Need-returns-2
 returns-2 c =
     let at = c .before .before .before .before .before .before .before .before .before .before .before .before .before in
     let a = at .before .before .before .before .args in
-    let next : length (c .before .before .before .before .before .before .before .before .before .before .before .write-words .last .0) ≡ length (now (a .image)) = c .before .before .before .before .before .before .before .before .before .before .image .given in
-    written (now (a .map)) (a .at) (now (a .image)) (holds (at .before .rest-fits .ensures) (at .if1 .left)) _ _ _ next (c .before .before .before .before .before .image2 .given ∙ next)
-    (c .before .before .before .before .before .before .before .before .before .before .before .write-words .ensures) (c .before .before .before .before .before .before .put-zeros .ensures) (c .before .before .seal-all .ensures)
+    let next : length
+    (c .before .before .before .before .before .before .before .before .before .before .before .write-words .last .0)
+    ≡ length (now (a .image)) =
+    c .before .before .before .before .before .before .before .before .before .before .image .given in
+    written (now (a .map)) (a .at) (now (a .image)) (holds (at .before .rest-fits .ensures) (at .if1 .left)) _ _ _ next
+    (c .before .before .before .before .before .image2 .given ∙ next)
+    (c .before .before .before .before .before .before .before .before .before .before .before .write-words .ensures)
+    (c .before .before .before .before .before .before .put-zeros .ensures) (c .before .before .seal-all .ensures)
 
 pub write-rest-spec : {M : Type 1} → statement M
 write-rest-spec =

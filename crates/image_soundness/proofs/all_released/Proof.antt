@@ -44,7 +44,8 @@ is-fresh-requires c κs = search needs
 returns-3 : tie.Need-returns-3
 returns-3 c =
     let a = c .before .before .before .before .before .args in
-    c .is-fresh .ensures ∙ none-left (a .n) (a .tally) (now (a .scratch)) (c .before .before .before .if1 .left) (c .before .if2 .left)
+    c .is-fresh .ensures ∙ none-left (a .n) (a .tally) (now (a .scratch)) (c .before .before .before .if1 .left)
+    (c .before .if2 .left)
 
 pub all-released-spec : {M : Type 1} → statement M
 all-released-spec = tie.close (tie.spec returns returns-2 is-fresh-requires returns-3)

@@ -21,7 +21,8 @@ shape-fits-requires c κs = search needs
 returns-2 : tie.Need-returns-2
 returns-2 c =
     let a = c .before .before .before .before .args in
-    sym (unfit (a .n) (a .tally) (now (a .scratch)) (a .entry) (c .before .before .if1 .left) (fails (c .before .shape-fits .ensures) (c .if2 .taken)))
+    sym (unfit (a .n) (a .tally) (now (a .scratch)) (a .entry) (c .before .before .if1 .left)
+    (fails (c .before .shape-fits .ensures) (c .if2 .taken)))
 
 decode-requires : tie.Need-decode-requires
 decode-requires c κs =
@@ -35,14 +36,16 @@ is-damaged-requires c κs = search needs
 returns-3 : tie.Need-returns-3
 returns-3 c =
     let a = c .before .before .before .before .before .before .before .args in
-    sym (damaged (a .n) (a .tally) (now (a .scratch)) (a .entry) (c .before .before .before .before .before .if1 .left) (holds (c .before .before .before .before .shape-fits .ensures) (c .before .before .before .if2 .left))
+    sym (damaged (a .n) (a .tally) (now (a .scratch)) (a .entry) (c .before .before .before .before .before .if1 .left)
+    (holds (c .before .before .before .before .shape-fits .ensures) (c .before .before .before .if2 .left))
     (sym (c .before .is-damaged .ensures ∙ ap isDamaged (c .before .before .decode .ensures)) ∙ c .if3 .taken))
 
 returns-4 : tie.Need-returns-4
 returns-4 c =
     let at = c .before .before in
     let a = at .before .before .before .before .before .before .before .args in
-    sym (by-length (a .n) (a .tally) (now (a .scratch)) (a .entry) (at .before .before .before .before .before .if1 .left) (holds (at .before .before .before .before .shape-fits .ensures) (at .before .before .before .if2 .left))
+    sym (by-length (a .n) (a .tally) (now (a .scratch)) (a .entry) (at .before .before .before .before .before .if1 .left)
+    (holds (at .before .before .before .before .shape-fits .ensures) (at .before .before .before .if2 .left))
     (sym (at .before .is-damaged .ensures ∙ ap isDamaged (at .before .before .decode .ensures)) ∙ at .if3 .left))
 
 pub can-release-spec : {M : Type 1} → statement M

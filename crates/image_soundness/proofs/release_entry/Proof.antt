@@ -23,7 +23,8 @@ returns c =
 mark-requires : tie.Need-mark-requires
 mark-requires c κs =
     let a = c .before .before .before .before .before .args in
-    let r = releasable-to (a .n) (a .tally) (now (a .scratch)) (a .entry) (holds (c .before .before .can-release .ensures) (c .before .if1 .left)) in
+    let r = releasable-to (a .n) (a .tally) (now (a .scratch)) (a .entry)
+    (holds (c .before .before .can-release .ensures) (c .before .if1 .left)) in
     let i = r .inside in
     let l = r .limits in
     (omega arith, omega arith)
@@ -32,7 +33,8 @@ sub-t14 : tie.Need-sub-t14
 sub-t14 c =
     let at = c .before .before .before .before in
     let a = at .before .before .before .before .args in
-    let r = releasable-to (a .n) (a .tally) (now (a .scratch)) (a .entry) (holds (at .before .can-release .ensures) (at .if1 .left)) in
+    let r = releasable-to (a .n) (a .tally) (now (a .scratch)) (a .entry)
+    (holds (at .before .can-release .ensures) (at .if1 .left)) in
     omega (arith, r .enough)
 
 same-length-2 : tie.Need-same-length-2

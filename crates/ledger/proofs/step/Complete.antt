@@ -26,10 +26,12 @@ use Rattle.refusals.specs.Table.{Call, on, complete, rowsFor, tableOf}
 use Rattle.refusals.specs.Views.{viewOn}
 use Rattle.refusals.proofs.BlankPlaces.{place-is-blank}
 use Rattle.refusals.proofs.Rows.{clear, same-number}
-use Rattle.ledger.specs.Ledger.{Place, Blank, Payload, Sheet, Complete, lengthIn, isBlank, bytesOf, sheetAt, placeAt, spareIn, completeIn, listed, rowsIn, verdictIn, deedIn}
+use Rattle.ledger.specs.Ledger.{Place, Blank, Payload, Sheet, Complete, lengthIn, isBlank, bytesOf, sheetAt, placeAt}
+use Rattle.ledger.specs.Ledger.{spareIn, completeIn, listed, rowsIn, verdictIn, deedIn}
 use Rattle.ledger.specs.Claim.{entryIn}
 use Rattle.ledger.specs.Steps.{End, endOf}
-use Rattle.ledger.proofs.Agreement.{mapIn, stateOf, Matches, NeverRows, OwnPlaces, entry-at, on-card, blank-same, beyond-in, verdict-on}
+use Rattle.ledger.proofs.Agreement.{mapIn, stateOf, Matches, NeverRows, OwnPlaces, entry-at, on-card, blank-same}
+use Rattle.ledger.proofs.Agreement.{beyond-in, verdict-on}
 use Rattle.ledger.proofs.Keeping.{keep-complete}
 use Rattle.ledger.proofs.Listed.{full, or-not}
 use Rattle.ledger.proofs.Results as results
@@ -52,7 +54,8 @@ module _ (n : ℕ) (l : List Sheet) (card : List ℕ) (k : Matches n l card) (i 
       let m : ℕ = lengthIn (sheetAt l i) in
       let either : all (λ p. x .blank p || x .sound p) 0 m ≡ all (λ p. y .blank p || y .sound p) 0 m =
       all-same (λ p. x .blank p || x .sound p) (λ p. y .blank p || y .sound p) 0 0 m
-      (λ j h. ap (λ (t : Bool). t || x .sound (0 + j)) (alike .blank (0 + j) (omega arith)) ∙ ap (λ (t : Bool). y .blank (0 + j) || t) (alike .sound (0 + j) (omega arith))) in
+      (λ j h. ap (λ (t : Bool). t || x .sound (0 + j)) (alike .blank (0 + j) (omega arith))
+      ∙ ap (λ (t : Bool). y .blank (0 + j) || t) (alike .sound (0 + j) (omega arith))) in
       let each : all (λ p. not (x .blank p)) 0 m ≡ all (λ p. not (y .blank p)) 0 m =
       all-same (λ p. not (x .blank p)) (λ p. not (y .blank p)) 0 0 m (λ j h. ap not (alike .blank (0 + j) (omega arith))) in
       rw (either, each)
@@ -70,7 +73,9 @@ module _ (n : ℕ) (l : List Sheet) (card : List ℕ) (k : Matches n l card) (i 
 
   -- where the entry becomes this one
   abbrev stored : Entry → Verdict → End
-  stored entry v = outEnd n l card k i (settle v (outOf (spareIn n l) entry Done) (λ number. outOf (spareIn n l) e (answer number))) (mapIn n l) card
+  stored entry v =
+      outEnd n l card k i (settle v (outOf (spareIn n l) entry Done) (λ number. outOf (spareIn n l) e (answer number)))
+      (mapIn n l) card
 
   abbrev ends : Verdict → End
   ends = stored (entryOf completeMark (e .start) (e .length))
@@ -112,13 +117,15 @@ module _ (n : ℕ) (l : List Sheet) (card : List ℕ) (k : Matches n l card) (i 
   -- the place given is one of the sheet's, and blank in the ledger
   given-is-blank : verdictIn n l call ≡ refused 9 → (given < lengthIn (sheetAt l i)) × (placeAt l i given ≡ Blank)
   unfolding viewOn
-  given-is-blank nine = (inside, is-blank-place (placeAt l i given) (sym (blank-same n l card k i lt given inside) ∙ blank-there))
+  given-is-blank nine =
+      (inside, is-blank-place (placeAt l i given) (sym (blank-same n l card k i lt given inside) ∙ blank-there))
     where
       found : (given < e .length) × (block.blank (blockOf card (e .start + given)) ≡ true)
       found = place-is-blank (lent n (spareIn n l) (mapIn n l) card (length (map entryIn l)) e i) (verdict ∙ nine)
 
       in-list : (t : Bool) → leb (length l) i ≡ t → i < length l
-      in-list true out = let q : _≡_ {A = ℕ} 2 9 = same-number 2 9 (sym (beyond-in n l i complete out) ∙ nine) in absurd (omega arith)
+      in-list true out = let q : _≡_ {A = ℕ} 2 9 = same-number 2 9 (sym (beyond-in n l i complete out) ∙ nine) in
+          absurd (omega arith)
       in-list false q = leb-false (length l) i q
 
       lt : i < length l
@@ -144,7 +151,8 @@ module _ (n : ℕ) (l : List Sheet) (card : List ℕ) (k : Matches n l card) (i 
     says-so = λ number h. with-place number (eqb number 9) refl;
   }
     where
-      with-place : (number : ℕ) (t : Bool) → eqb number 9 ≡ t → (numberOf (answer number) ≡ number) × (valuesOf (answer number) ≡ cond (eqb number 9) (given ∷ []) [])
+      with-place : (number : ℕ) (t : Bool) → eqb number 9 ≡ t
+          → (numberOf (answer number) ≡ number) × (valuesOf (answer number) ≡ cond (eqb number 9) (given ∷ []) [])
       with-place number true q = rw (q) (sym (eqb-true number 9 q), refl)
       with-place number false q = rw (q) (refl, refl)
 

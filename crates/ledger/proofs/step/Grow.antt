@@ -20,7 +20,8 @@ use Rattle.refusals.specs.Effects as effects
 use Rattle.refusals.specs.Effects.{entryOf, outOf, refusalOut}
 use Rattle.refusals.specs.Table.{Call, on, grow, rowsFor, tableOf}
 use Rattle.refusals.proofs.Rows.{clear}
-use Rattle.ledger.specs.Ledger.{Place, Blank, Sheet, Open, standingIn, startIn, lengthIn, sheetAt, freeIn, spareIn, growIn, listed, rowsIn, verdictIn, deedIn}
+use Rattle.ledger.specs.Ledger.{Place, Blank, Sheet, Open, standingIn, startIn, lengthIn, sheetAt, freeIn, spareIn}
+use Rattle.ledger.specs.Ledger.{growIn, listed, rowsIn, verdictIn, deedIn}
 use Rattle.ledger.specs.Claim.{entryIn}
 use Rattle.ledger.specs.Steps.{End, endOf}
 use Rattle.ledger.proofs.Agreement.{mapIn, stateOf, Matches, NeverRows, entry-at, verdict-on}
@@ -47,7 +48,8 @@ module _ (n : ℕ) (l : List Sheet) (card : List ℕ) (k : Matches n l card) (i 
     fits : fit (freeIn n l) 0 n m (start + length places) ≡ true
     wide : length (places ++ replicate m Blank) ≡ length places + m
 
-  shown : leb (length l) i ≡ false → isAbsent (standingIn (sheetAt l i)) ≡ false → isPaused (standingIn (sheetAt l i)) ≡ false → isComplete (standingIn (sheetAt l i)) ≡ false
+  shown : leb (length l) i ≡ false → isAbsent (standingIn (sheetAt l i)) ≡ false → isPaused (standingIn (sheetAt l i)) ≡ false
+      → isComplete (standingIn (sheetAt l i)) ≡ false
       → eqb m 0 ≡ false → not (fit (freeIn n l) 0 n m (startIn (sheetAt l i) + lengthIn (sheetAt l i))) ≡ false → Shown
   shown h2 h5 h6 h8 h3 h11 =
       let o = was-open (sheetAt l i) h5 h6 h8 in
@@ -64,8 +66,10 @@ module _ (n : ℕ) (l : List Sheet) (card : List ℕ) (k : Matches n l card) (i 
   never : NeverRows n l card k i (grow m)
   unfolding rowsFor
   never = (
-    (λ h. let s = shown (clear 2 _ h .0) (clear 5 _ h .0) (clear 6 _ h .0) (clear 8 _ h .0) (clear 3 _ h .0) (clear 11 _ h .0) in
-        spared n l (k .sound) i m (Open (s .start) (s .places ++ replicate m Blank)) (s .inside) (omega (arith, s .wide, ap lengthIn (s .was)))
+    (λ h. let s = shown (clear 2 _ h .0) (clear 5 _ h .0) (clear 6 _ h .0) (clear 8 _ h .0) (clear 3 _ h .0)
+        (clear 11 _ h .0) in
+        spared n l (k .sound) i m (Open (s .start) (s .places ++ replicate m Blank)) (s .inside)
+        (omega (arith, s .wide, ap lengthIn (s .was)))
         (grown n l (k .sound) i (s .inside) (s .start) (s .places) (s .was) m (s .some) (s .fits))),
     tt,
   )
@@ -73,8 +77,10 @@ module _ (n : ℕ) (l : List Sheet) (card : List ℕ) (k : Matches n l card) (i 
   -- where the entry is e
   abbrev taken : Entry → Verdict → End
   taken e v =
-      outEnd n l card k i (settle v (outOf (spareIn n l - m) (entryOf openMark (e .start) (e .length + m)) Done) (refusalOut (spareIn n l) e))
-      (settle v (marked (mapIn n l) (e .start + e .length) m false) (λ number. mapIn n l)) (settle v (zeroed card (e .start + e .length) m) (λ number. card))
+      outEnd n l card k i (settle v (outOf (spareIn n l - m) (entryOf openMark (e .start) (e .length + m)) Done)
+      (refusalOut (spareIn n l) e))
+      (settle v (marked (mapIn n l) (e .start + e .length) m false) (λ number. mapIn n l))
+      (settle v (zeroed card (e .start + e .length) m) (λ number. card))
 
   abbrev ends : Verdict → End
   ends = taken (results.e n l card k i)
@@ -86,7 +92,8 @@ module _ (n : ℕ) (l : List Sheet) (card : List ℕ) (k : Matches n l card) (i 
   accepts : verdictIn n l call ≡ accepted → results.Done n l card call (ends accepted)
   unfolding tableOf listed deedIn
   accepts h =
-      let s = shown (clear 2 rows h .0) (clear 5 rows h .0) (clear 6 rows h .0) (clear 8 rows h .0) (clear 3 rows h .0) (clear 11 rows h .0) in
+      let s = shown (clear 2 rows h .0) (clear 5 rows h .0) (clear 6 rows h .0) (clear 8 rows h .0) (clear 3 rows h .0)
+      (clear 11 rows h .0) in
       let b : ℕ = s .start + length (s .places) in
       one-sheet n l card k i (grow m) (ends accepted) (record {
         inside = s .inside;
@@ -108,4 +115,5 @@ module _ (n : ℕ) (l : List Sheet) (card : List ℕ) (k : Matches n l card) (i 
 
   pub grow-result : Result n l card call (verdictIn n l call)
   unfolding tableOf listed deedIn
-  grow-result = result-of n l card k call ends ends-so refl accepts (plain-back n l card k call _ refl (out-back n l card k i)) (λ p. tt)
+  grow-result = result-of n l card k call ends ends-so refl accepts (plain-back n l card k call _ refl (out-back n l card k i))
+      (λ p. tt)

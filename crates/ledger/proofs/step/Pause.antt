@@ -14,7 +14,8 @@ use Rattle.refusals.specs.Effects as effects
 use Rattle.refusals.specs.Effects.{entryOf, outOf, refusalOut}
 use Rattle.refusals.specs.Table.{Call, on, pause, rowsFor, tableOf}
 use Rattle.refusals.proofs.Rows.{clear}
-use Rattle.ledger.specs.Ledger.{Sheet, Absent, Paused, startIn, lengthIn, placesIn, sheetAt, spareIn, listed, rowsIn, verdictIn, deedIn}
+use Rattle.ledger.specs.Ledger.{Sheet, Absent, Paused, startIn, lengthIn, placesIn, sheetAt, spareIn, listed, rowsIn}
+use Rattle.ledger.specs.Ledger.{verdictIn, deedIn}
 use Rattle.ledger.specs.Steps.{End, endOf}
 use Rattle.ledger.proofs.Agreement.{mapIn, stateOf, Matches, verdict-at}
 use Rattle.ledger.proofs.Keeping.{keep-places}
@@ -30,7 +31,9 @@ module _ (n : ℕ) (l : List Sheet) (card : List ℕ) (k : Matches n l card) (i 
   rows = rowsIn n l call
 
   abbrev ends : Verdict → End
-  ends v = outEnd n l card k i (settle v (outOf (spareIn n l) (entryOf pausedMark 0 0) Done) (refusalOut (spareIn n l) (results.e n l card k i))) (mapIn n l) card
+  ends v =
+      outEnd n l card k i (settle v (outOf (spareIn n l) (entryOf pausedMark 0 0) Done)
+      (refusalOut (spareIn n l) (results.e n l card k i))) (mapIn n l) card
 
   ends-so : endOf (stateOf n l card) call ≡ ends (verdictIn n l call)
   unfolding effects.pauseOut rowsFor
@@ -41,7 +44,8 @@ module _ (n : ℕ) (l : List Sheet) (card : List ℕ) (k : Matches n l card) (i 
   accepts h =
       let lt : i < length l = leb-false (length l) i (clear 2 rows h .0) in
       let gone : sheetAt l i ≡ Absent = was-absent (sheetAt l i) (clear 6 rows h .0) (clear 7 rows h .0) (clear 8 rows h .0) in
-      let ok = sound-none n l (k .sound) i lt Paused (record { inside = omega arith; needed = omega arith; sized = λ p. tt }) refl in
+      let ok = sound-none n l (k .sound) i lt Paused
+      (record { inside = omega arith; needed = omega arith; sized = λ p. tt }) refl in
       one-sheet n l card k i pause (ends accepted) (record {
         inside = lt;
         sheet = Paused;
@@ -51,7 +55,8 @@ module _ (n : ℕ) (l : List Sheet) (card : List ℕ) (k : Matches n l card) (i 
         card-left = card;
         entry = entryOf pausedMark 0 0;
         answer = Done;
-        changed = keep-places n l card k i lt Paused ok (sym (ap startIn gone)) (sym (ap lengthIn gone)) (sym (ap placesIn gone));
+        changed = keep-places n l card k i lt Paused ok (sym (ap startIn gone)) (sym (ap lengthIn gone))
+            (sym (ap placesIn gone));
         stored = refl;
         ends-so = refl;
         says-so = (refl, refl);
@@ -62,4 +67,5 @@ module _ (n : ℕ) (l : List Sheet) (card : List ℕ) (k : Matches n l card) (i 
 
   pub pause-result : Result n l card call (verdictIn n l call)
   unfolding tableOf listed deedIn
-  pause-result = result-of n l card k call ends ends-so refl accepts (plain-back n l card k call _ refl (out-back n l card k i)) (λ p. tt)
+  pause-result = result-of n l card k call ends ends-so refl accepts
+      (plain-back n l card k call _ refl (out-back n l card k i)) (λ p. tt)

@@ -21,7 +21,8 @@ use Rattle.refusals.specs.Effects.{entryOf}
 use Rattle.refusals.specs.Table.{Call, on, put, rowsFor, tableOf}
 use Rattle.refusals.proofs.Rows.{clear}
 use Rattle.card.specs.Calls.{told}
-use Rattle.ledger.specs.Ledger.{Place, Blank, Payload, Sheet, Open, lengthIn, sheetAt, spareIn, putIn, listed, rowsIn, verdictIn, deedIn}
+use Rattle.ledger.specs.Ledger.{Place, Blank, Payload, Sheet, Open, lengthIn, sheetAt, spareIn, putIn, listed, rowsIn}
+use Rattle.ledger.specs.Ledger.{verdictIn, deedIn}
 use Rattle.ledger.specs.Claim.{entryIn}
 use Rattle.ledger.specs.Steps.{End, ending, endOf}
 use Rattle.ledger.proofs.Agreement.{mapIn, stateOf, Matches, entry-at, verdict-on}
@@ -54,7 +55,8 @@ module _ (n : ℕ) (l : List Sheet) (card : List ℕ) (k : Matches n l card) (i 
   unfolding effects.putAnswer effects.putCard rowsFor
   ends-so = ap ends (verdict-on n l card k i (put p payload) (λ x y alike. refl) tt)
 
-  put-at : (ps : List Place) (q : ℕ) (m : Place) → p < length ps → getD ps q Blank ≡ m → (t : Bool) → eqb q p ≡ t → getD (set ps p (Payload payload)) q Blank ≡ cond t (Payload payload) m
+  put-at : (ps : List Place) (q : ℕ) (m : Place) → p < length ps → getD ps q Blank ≡ m → (t : Bool) → eqb q p ≡ t
+      → getD (set ps p (Payload payload)) q Blank ≡ cond t (Payload payload) m
   put-at ps q m lp was true h = rw (eqb-true q p h) (getD-set-same ps p (Payload payload) Blank lp)
   put-at ps q m lp was false h = getD-set-other ps p q (Payload payload) Blank (eqb-false q p h) ∙ was
 
@@ -65,8 +67,13 @@ module _ (n : ℕ) (l : List Sheet) (card : List ℕ) (k : Matches n l card) (i 
       let o = was-open (sheetAt l i) (clear 5 rows h .0) (clear 6 rows h .0) (clear 8 rows h .0) in
       let three = clear 3 rows h .0 in
       let w : length (set (o .1) p (Payload payload)) ≡ length (o .1) = length-set (o .1) p (Payload payload) in
-      let lp : p < length (o .1) = omega (arith, leb-false (lengthIn (sheetAt l i)) p (or-left _ _ three), ap lengthIn (o .2)) in
-      let len : length payload ≡ 496 = eqb-true (length payload) 496 (not-false _ (or-right (leb (lengthIn (sheetAt l i)) p) _ three)) in
+      let lp : p < length (o .1) = omega (
+        arith,
+        leb-false (lengthIn (sheetAt l i)) p (or-left _ _ three),
+        ap lengthIn (o .2),
+      ) in
+      let len : length payload ≡ 496 = eqb-true (length payload) 496
+      (not-false _ (or-right (leb (lengthIn (sheetAt l i)) p) _ three)) in
       let was : e ≡ entryOf openMark (o .0) (length (o .1)) = entry-at l i lt ∙ ap entryIn (o .2) in
       one-sheet n l card k i (put p payload) (ends accepted) (record {
         inside = lt;
@@ -79,13 +86,16 @@ module _ (n : ℕ) (l : List Sheet) (card : List ℕ) (k : Matches n l card) (i 
         answer = Done;
         changed = keep-put n l card k i lt (o .0) (o .1) (o .2) p payload lp len;
         stored = was ∙ ap (entryOf openMark (o .0)) (sym w);
-        ends-so = ap (λ (y : Entry). written (map entryIn l) (y .start) accepted) was ∙ ap (λ (es : List Entry). written es (o .0) accepted) (sym (stored-back (map entryIn l) i));
+        ends-so = ap (λ (y : Entry). written (map entryIn l) (y .start) accepted) was
+            ∙ ap (λ (es : List Entry). written es (o .0) accepted) (sym (stored-back (map entryIn l) i));
         says-so = (refl, refl);
         moved = omega (arith, w, ap lengthIn (o .2));
-        noted-here = λ q m had holds. rw (eq-eqb i i refl) (put-at (o .1) q m lp (subst (Has q m) (o .2) had refl) (eqb q p) refl);
+        noted-here = λ q m had holds. rw (eq-eqb i i refl)
+            (put-at (o .1) q m lp (subst (Has q m) (o .2) had refl) (eqb q p) refl);
         noted-there = λ j q m ne. rw (ne-eqb j i ne);
       })
 
   pub put-result : Result n l card call (verdictIn n l call)
   unfolding tableOf listed deedIn
-  put-result = result-of n l card k call ends ends-so refl accepts (plain-back n l card k call _ refl (λ number. refl)) (λ p. tt)
+  put-result = result-of n l card k call ends ends-so refl accepts (plain-back n l card k call _ refl (λ number. refl))
+      (λ p. tt)

@@ -35,7 +35,8 @@ module _ (n : ℕ) (l : List Sheet) (card : List ℕ) (k : Matches n l card) (i 
   -- where the entry is e
   abbrev freed : Entry → Verdict → End
   freed e v =
-      outEnd n l card k i (settle v (outOf (spareIn n l + e .length) (entryOf absentMark 0 0) Done) (refusalOut (spareIn n l) e))
+      outEnd n l card k i (settle v (outOf (spareIn n l + e .length) (entryOf absentMark 0 0) Done)
+      (refusalOut (spareIn n l) e))
       (settle v (marked (mapIn n l) (e .start) (e .length) true) (λ number. mapIn n l)) card
 
   abbrev ends : Verdict → End
@@ -73,4 +74,5 @@ module _ (n : ℕ) (l : List Sheet) (card : List ℕ) (k : Matches n l card) (i 
 
   pub release-result : Result n l card call (verdictIn n l call)
   unfolding tableOf listed deedIn
-  release-result = result-of n l card k call ends ends-so refl accepts (plain-back n l card k call _ refl (out-back n l card k i)) (λ p. tt)
+  release-result = result-of n l card k call ends ends-so refl accepts
+      (plain-back n l card k call _ refl (out-back n l card k i)) (λ p. tt)

@@ -23,7 +23,8 @@ use Rattle.refusals.specs.Effects.{entryOf, outOf, refusalOut}
 use Rattle.refusals.specs.Table.{Call, on, reserve, rowsFor, tableOf}
 use Rattle.refusals.proofs.Room.{fit-inside}
 use Rattle.refusals.proofs.Rows.{clear}
-use Rattle.ledger.specs.Ledger.{Blank, Sheet, Absent, Open, standingIn, lengthIn, sheetAt, freeIn, spareIn, leastIn, listed, rowsIn, verdictIn, deedIn, toldIn}
+use Rattle.ledger.specs.Ledger.{Blank, Sheet, Absent, Open, standingIn, lengthIn, sheetAt, freeIn, spareIn, leastIn}
+use Rattle.ledger.specs.Ledger.{listed, rowsIn, verdictIn, deedIn, toldIn}
 use Rattle.ledger.specs.Claim.{before, Came, Searched}
 use Rattle.ledger.specs.Steps.{End, endOf}
 use Rattle.ledger.proofs.Agreement.{mapIn, stateOf, Matches, NeverRows, free-map, verdict-on}
@@ -52,7 +53,8 @@ module _ (n : ℕ) (l : List Sheet) (card : List ℕ) (k : Matches n l card) (i 
     some : 0 < m
     fits : fit (freeIn n l) 0 n m start ≡ true
 
-  shown : leb (length l) i ≡ false → isPaused (standingIn (sheetAt l i)) ≡ false → isOpen (standingIn (sheetAt l i)) ≡ false → isComplete (standingIn (sheetAt l i)) ≡ false
+  shown : leb (length l) i ≡ false → isPaused (standingIn (sheetAt l i)) ≡ false → isOpen (standingIn (sheetAt l i)) ≡ false
+      → isComplete (standingIn (sheetAt l i)) ≡ false
       → eqb m 0 ≡ false → none (leastFit (freeIn n l) 0 n m) ≡ false → Shown
   shown h2 h6 h7 h8 h3 h10 = record {
     inside = leb-false (length l) i h2;
@@ -64,27 +66,32 @@ module _ (n : ℕ) (l : List Sheet) (card : List ℕ) (k : Matches n l card) (i 
   never : NeverRows n l card k i (reserve m)
   unfolding rowsFor
   never = (
-    (λ h. let s = shown (clear 2 _ h .0) (clear 6 _ h .0) (clear 7 _ h .0) (clear 8 _ h .0) (clear 3 _ h .0) (clear 10 _ h .0) in
-        spared n l (k .sound) i m (Open start (replicate m Blank)) (s .inside) (omega (arith, length-replicate m Blank, ap lengthIn (s .gone)))
+    (λ h. let s = shown (clear 2 _ h .0) (clear 6 _ h .0) (clear 7 _ h .0) (clear 8 _ h .0) (clear 3 _ h .0)
+        (clear 10 _ h .0) in
+        spared n l (k .sound) i m (Open start (replicate m Blank)) (s .inside)
+        (omega (arith, length-replicate m Blank, ap lengthIn (s .gone)))
         (reserved n l (k .sound) i (s .inside) m start (s .some) (s .fits))),
     tt,
   )
 
   abbrev taken : ℕ → Verdict → End
   taken at v =
-      outEnd n l card k i (settle v (outOf (spareIn n l - m) (entryOf openMark at m) (Start at)) (refusalOut (spareIn n l) (results.e n l card k i)))
+      outEnd n l card k i (settle v (outOf (spareIn n l - m) (entryOf openMark at m) (Start at))
+      (refusalOut (spareIn n l) (results.e n l card k i)))
       (settle v (marked (mapIn n l) at m false) (λ number. mapIn n l)) (settle v (zeroed card at m) (λ number. card))
 
   ends-so : endOf (stateOf n l card) call ≡ taken start (verdictIn n l call)
   unfolding effects.reserveOut effects.reserveMap effects.reserveCard rowsFor
   ends-so =
-      ap (taken (startAt (leastFit (map-blocks.free (mapIn n l)) 0 n m))) (verdict-on n l card k i (reserve m) (λ x y alike. refl) never)
+      ap (taken (startAt (leastFit (map-blocks.free (mapIn n l)) 0 n m)))
+      (verdict-on n l card k i (reserve m) (λ x y alike. refl) never)
       ∙ ap (λ (f : ℕ → Bool). taken (startAt (leastFit f 0 n m)) (verdictIn n l call)) (free-map n l)
 
   accepts : verdictIn n l call ≡ accepted → results.Done n l card call (taken start accepted)
   unfolding tableOf listed deedIn
   accepts h =
-      let s = shown (clear 2 rows h .0) (clear 6 rows h .0) (clear 7 rows h .0) (clear 8 rows h .0) (clear 3 rows h .0) (clear 10 rows h .0) in
+      let s = shown (clear 2 rows h .0) (clear 6 rows h .0) (clear 7 rows h .0) (clear 8 rows h .0) (clear 3 rows h .0)
+      (clear 10 rows h .0) in
       one-sheet n l card k i (reserve m) (taken start accepted) (record {
         inside = s .inside;
         sheet = Open start (replicate m Blank);
@@ -108,8 +115,10 @@ module _ (n : ℕ) (l : List Sheet) (card : List ℕ) (k : Matches n l card) (i 
   unfolding tableOf listed before onwards firstOf deedIn leastFit
   by-search p came =
       let some : 0 < m = omega (arith, eqb-false m 0 (clear 3 (before 10 rows) came .0)) in
-      searched (fit (freeIn n l) 0 n m) n (λ s le. not-true _ (λ q. omega (arith, fit-inside (freeIn n l) n m s q))) (verdictIn n l call) p (from-there 10 rows came)
+      searched (fit (freeIn n l) 0 n m) n (λ s le. not-true _ (λ q. omega (arith, fit-inside (freeIn n l) n m s q)))
+      (verdictIn n l call) p (from-there 10 rows came)
 
   pub reserve-result : Result n l card call (verdictIn n l call)
   unfolding tableOf listed deedIn
-  reserve-result = result-of n l card k call (taken start) ends-so refl accepts (plain-back n l card k call _ refl (out-back n l card k i)) by-search
+  reserve-result = result-of n l card k call (taken start) ends-so refl accepts
+      (plain-back n l card k call _ refl (out-back n l card k i)) by-search

@@ -17,7 +17,8 @@ use Rattle.refusals.specs.Effects as effects
 use Rattle.refusals.specs.Table.{Call, on, show, misplaced, rowsFor, tableOf}
 use Rattle.refusals.proofs.Rows.{clear}
 use Rattle.card.specs.Calls.{told}
-use Rattle.ledger.specs.Ledger.{Place, Blank, Payload, Sheet, standingIn, lengthIn, placesIn, isBlank, bytesOf, sheetAt, placeAt, spareIn, viewIn, listed, rowsIn, verdictIn, deedIn}
+use Rattle.ledger.specs.Ledger.{Place, Blank, Payload, Sheet, standingIn, lengthIn, placesIn, isBlank, bytesOf, sheetAt}
+use Rattle.ledger.specs.Ledger.{placeAt, spareIn, viewIn, listed, rowsIn, verdictIn, deedIn}
 use Rattle.ledger.specs.Claim.{entryIn, blockIn}
 use Rattle.ledger.specs.Steps.{End, ending, endOf}
 use Rattle.ledger.proofs.Agreement.{mapIn, stateOf, reads, Matches, NeverRows, OwnPlaces, entry-at, verdict-on}
@@ -41,16 +42,21 @@ module _ (n : ℕ) (l : List Sheet) (card : List ℕ) (k : Matches n l card) (i 
   unfolding rowsFor firstOf
   own x y alike = go misses refl
     where
-      go : (t : Bool) → misses ≡ t → firstOf (rowsFor (reads n l i x) (show p buffer)) ≡ firstOf (rowsFor (reads n l i y) (show p buffer))
+      go : (t : Bool) → misses ≡ t → firstOf (rowsFor (reads n l i x) (show p buffer))
+          ≡ firstOf (rowsFor (reads n l i y) (show p buffer))
       go true h = rw h
       go false h = rw (alike .sound p (leb-false (lengthIn (sheetAt l i)) p (or-left _ _ h)))
 
-  filled : isAbsent (standingIn (sheetAt l i)) ≡ false → isPaused (standingIn (sheetAt l i)) ≡ false → isOpen (standingIn (sheetAt l i)) ≡ false → misses ≡ false
+  filled : isAbsent (standingIn (sheetAt l i)) ≡ false → isPaused (standingIn (sheetAt l i)) ≡ false
+      → isOpen (standingIn (sheetAt l i)) ≡ false → misses ≡ false
       → (p < lengthIn (sheetAt l i)) × (isBlank (placeAt l i p) ≡ false)
   filled h5 h6 h7 h3 =
       let o = was-complete (sheetAt l i) h5 h6 h7 in
-      let lp : p < lengthIn (sheetAt l i) = leb-false (lengthIn (sheetAt l i)) p (or-left _ _ h3) in
-      (lp, ap (λ (y : Sheet). isBlank (getD (placesIn y) p Blank)) (o .2) ∙ payload-at (o .1) p (subst (λ (y : Sheet). p < lengthIn y) (o .2) lp))
+      let lp : p < lengthIn (sheetAt l i) = leb-false (lengthIn (sheetAt l i)) p (or-left _ _ h3) in (
+        lp,
+        ap (λ (y : Sheet). isBlank (getD (placesIn y) p Blank)) (o .2)
+            ∙ payload-at (o .1) p (subst (λ (y : Sheet). p < lengthIn y) (o .2) lp),
+      )
 
   never : NeverRows n l card k i (show p buffer)
   unfolding rowsFor
@@ -62,7 +68,8 @@ module _ (n : ℕ) (l : List Sheet) (card : List ℕ) (k : Matches n l card) (i 
   -- where the block has these bytes
   abbrev tellsOf : List ℕ → Verdict → End
   tellsOf bytes v =
-      ending (told (record { blocks = n; free = spareIn n l }) (settle v Done Refused)) (mapIn n l) (map entryIn l) card (settle v (payloadOf bytes) (λ number. buffer))
+      ending (told (record { blocks = n; free = spareIn n l }) (settle v Done Refused)) (mapIn n l) (map entryIn l) card
+      (settle v (payloadOf bytes) (λ number. buffer))
 
   abbrev ends : Verdict → End
   ends = tellsOf (blockOf card (results.e n l card k i .start + p))
@@ -83,9 +90,11 @@ module _ (n : ℕ) (l : List Sheet) (card : List ℕ) (k : Matches n l card) (i 
       no-change n l card k call (ends accepted) Done refl refl (λ j q m. refl)
       (ap (λ (x : Entry). tellsOf (blockOf card (x .start + p)) accepted) (entry-at l i lt)
       ∙ ap (λ (bytes : List ℕ). tellsOf bytes accepted) (k .blocks i p (f .0))
-      ∙ ap (λ (bytes : List ℕ). ending (told (record { blocks = n; free = spareIn n l }) Done) (mapIn n l) (map entryIn l) card bytes) (payload-in (placeAt l i p) (f .1) (k .sound .fine i .sized p)))
+      ∙ ap (λ (bytes : List ℕ). ending (told (record { blocks = n; free = spareIn n l }) Done) (mapIn n l)
+      (map entryIn l) card bytes) (payload-in (placeAt l i p) (f .1) (k .sound .fine i .sized p)))
       (refl, refl)
 
   pub show-result : Result n l card call (verdictIn n l call)
   unfolding tableOf listed deedIn
-  show-result = result-of n l card k call ends ends-so refl accepts (plain-back n l card k call _ refl (λ number. refl)) (λ p. tt)
+  show-result = result-of n l card k call ends ends-so refl accepts (plain-back n l card k call _ refl (λ number. refl))
+      (λ p. tt)

@@ -27,7 +27,9 @@ module _ (n : ℕ) (l : List Sheet) (card : List ℕ) (k : Matches n l card) (i 
   rows = rowsIn n l call
 
   abbrev tellsOf : Entry → Verdict → End
-  tellsOf e v = ending (told (record { blocks = n; free = spareIn n l }) (settle v (Reads (e .mark) (e .start) (e .length)) Refused)) (mapIn n l) (map entryIn l) card []
+  tellsOf e v =
+      ending (told (record { blocks = n; free = spareIn n l }) (settle v (Reads (e .mark) (e .start) (e .length)) Refused))
+      (mapIn n l) (map entryIn l) card []
 
   abbrev ends : Verdict → End
   ends = tellsOf (results.e n l card k i)
@@ -41,8 +43,10 @@ module _ (n : ℕ) (l : List Sheet) (card : List ℕ) (k : Matches n l card) (i 
   accepts h =
       let lt : i < length l = leb-false (length l) i (clear 2 rows h .0) in
       let x = entryIn (sheetAt l i) in
-      no-change n l card k call (ends accepted) (Reads (x .mark) (x .start) (x .length)) refl refl (λ j p m. refl) (ap (λ (e : Entry). tellsOf e accepted) (entry-at l i lt)) (refl, refl)
+      no-change n l card k call (ends accepted) (Reads (x .mark) (x .start) (x .length)) refl refl (λ j p m. refl)
+      (ap (λ (e : Entry). tellsOf e accepted) (entry-at l i lt)) (refl, refl)
 
   pub standing-result : Result n l card call (verdictIn n l call)
   unfolding tableOf listed deedIn
-  standing-result = result-of n l card k call ends ends-so refl accepts (plain-back n l card k call _ refl (λ number. refl)) (λ p. tt)
+  standing-result = result-of n l card k call ends ends-so refl accepts (plain-back n l card k call _ refl (λ number. refl))
+      (λ p. tt)

@@ -35,9 +35,11 @@ module _ (map : List ℕ) (n : ℕ) where
         sym (not-true (isFresh map n) (λ h.
         ne (word-ext (getD map i 0) v small small′ (λ j u.
         sym (free-bit map i j u)
-        ∙ in-state map (ltb (i * 64 + j) n) (i * 64 + j) (all-elim (λ b. inState map (ltb b n) b) 0 (64 * length map) h (i * 64 + j) (omega arith) (omega arith))
+        ∙ in-state map (ltb (i * 64 + j) n) (i * 64 + j)
+        (all-elim (λ b. inState map (ltb b n) b) 0 (64 * length map) h (i * 64 + j) (omega arith) (omega arith))
         ∙ sym (says j u)))))
 
   pub passed-end : (i : ℕ) → length map ≤ i → Passed i → true ≡ isFresh map n
   unfolding isFresh
-  passed-end i l p = sym (all-intro (λ b. inState map (ltb b n) b) 0 (64 * length map) (λ b a h. state-of map (ltb b n) b (p b (omega arith))))
+  passed-end i l p =
+      sym (all-intro (λ b. inState map (ltb b n) b) 0 (64 * length map) (λ b a h. state-of map (ltb b n) b (p b (omega arith))))

@@ -12,7 +12,10 @@ use Rattle.map_search.proofs.any_free.Statement.{statement}
 use Rattle.map_search.proofs.any_free.Tie as tie
 
 or-zero : (a b : ℕ) → bitOr a b ≡ 0 → (a ≡ 0) × (b ≡ 0)
-or-zero a b e = (omega (arith, or-add-and a b, and-le-l a b, and-le-r a b), omega (arith, or-add-and a b, and-le-l a b, and-le-r a b))
+or-zero a b e = (
+  omega (arith, or-add-and a b, and-le-l a b, and-le-r a b),
+  omega (arith, or-add-and a b, and-le-l a b, and-le-r a b),
+)
 
 abbrev Inv-loop : tie.InvT-loop
 Inv-loop map i stop any₀ t₀ any t = (i ≤ t) × (t ≤ i + 8) × (any ≡ 0 → (u : ℕ) → i ≤ u → u < t → getD map u 0 ≡ 0)
@@ -46,7 +49,8 @@ loop-again c =
       omega arith,
       λ e u a b.
           let zero = or-zero (loop .any) (getD map (loop .t) 0) e in
-          ⊎-elim (λ l. loop .inv .2 (zero .0) u a l) (λ g. let q : loop .t ≡ u = omega arith in subst (λ (x : ℕ). getD map x 0 ≡ 0) q (zero .1)) (order u (loop .t)),
+          ⊎-elim (λ l. loop .inv .2 (zero .0) u a l) (λ g. let q : loop .t ≡ u = omega arith in
+          subst (λ (x : ℕ). getD map x 0 ≡ 0) q (zero .1)) (order u (loop .t)),
     )
 
 returns : tie.Need-returns Inv-loop μ-loop

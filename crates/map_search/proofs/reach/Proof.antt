@@ -1,4 +1,5 @@
--- `map_search::reach` meets its contract. The loop's invariant: w shows the blocks of word i, and the words before it are all taken.
+-- `map_search::reach` meets its contract. The loop's invariant: w shows the blocks of word i, and the words before it are all
+-- taken.
 -- Assumes nothing.
 use mathlib.Core.Path.{_≡_, subst}
 use mathlib.Core.Bool.{Bool}
@@ -62,7 +63,8 @@ returns-2 c =
     let a = c .before .before .before .before .before .args in (
       (omega arith, omega arith),
       (
-        cut-word (now (a .map)) (a .from) (a .before) (a .from / 64) (c .before .before .part .result) (c .before .before .part .ensures),
+        cut-word (now (a .map)) (a .from) (a .before) (a .from / 64) (c .before .before .part .result)
+            (c .before .before .part .ensures),
         λ k h. at-start (free (now (a .map))) (a .from) (a .before) k (a .from / 64 * 64) h (omega arith),
       ),
     )
@@ -75,7 +77,8 @@ loop-holds c =
     let a = c .before .before .before .before .before .args in (
       omega arith,
       omega arith,
-      cut-word (now (a .map)) (a .from) (a .before) (a .from / 64) (c .before .before .part .result) (c .before .before .part .ensures),
+      cut-word (now (a .map)) (a .from) (a .before) (a .from / 64) (c .before .before .part .result)
+          (c .before .before .part .ensures),
       λ k h. at-start (free (now (a .map))) (a .from) (a .before) k (a .from / 64 * 64) h (omega arith),
     )
 
@@ -100,8 +103,10 @@ loop-again c =
     let f : ℕ → Bool = inWindow (free (now (a .map))) (a .from) (a .before) in (
       omega arith,
       omega arith,
-      λ j l. whole-words (now (a .map)) (a .from) (a .before) (i + 1) (i + 2) (omega arith) (omega arith) (i + 1) j (omega arith) (omega arith) l,
-      λ k h. subst (λ (b : ℕ). Carried f k b 0) e (past-word f k (i * 64) (loop .w) (loop .inv .2) (c .before .if3 .left) (loop .inv .3 k h)),
+      λ j l. whole-words (now (a .map)) (a .from) (a .before) (i + 1) (i + 2) (omega arith) (omega arith) (i + 1) j
+          (omega arith) (omega arith) l,
+      λ k h. subst (λ (b : ℕ). Carried f k b 0) e (past-word f k (i * 64) (loop .w) (loop .inv .2) (c .before .if3 .left)
+          (loop .inv .3 k h)),
     )
 
 returns-3 : tie.Need-returns-3 Inv-loop μ-loop

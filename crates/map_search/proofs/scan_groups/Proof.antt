@@ -23,13 +23,16 @@ abbrev μ-loop : tie.MeasureT-loop
 
 -- what a group of words tells
 group : (c : tie.After-scan-words Inv-loop μ-loop) (f : ℕ → Bool)
-    → HasBits (now (c .before .before .before .before .before .args .map)) (c .before .before .before .before .before .args .first) (c .before .before .before .before .before .args .stop) f
-    → Carried f (c .before .before .before .before .before .args .k) (c .before .before .before .before .before .args .first * 64) (c .before .before .before .before .before .args .s)
+    → HasBits (now (c .before .before .before .before .before .args .map))
+    (c .before .before .before .before .before .args .first) (c .before .before .before .before .before .args .stop) f
+    → Carried f (c .before .before .before .before .before .args .k)
+    (c .before .before .before .before .before .args .first * 64) (c .before .before .before .before .before .args .s)
     → Stepped f (c .before .before .before .before .before .args .k) (c .before .group-end .result * 64) (c .scan-words .result)
 group c f shows at =
     let loop = c .before .before .before .loop in
     let a = c .before .before .before .before .before .args in
-    c .scan-words .ensures .1 f (shows-part (now (a .map)) (a .first) (a .stop) (loop .i) (c .before .group-end .result) f (omega arith) (omega arith) shows) (loop .inv .4 f shows at)
+    c .scan-words .ensures .1 f (shows-part (now (a .map)) (a .first) (a .stop) (loop .i) (c .before .group-end .result) f
+    (omega arith) (omega arith) shows) (loop .inv .4 f shows at)
 
 loop-holds : tie.Need-loop-holds Inv-loop μ-loop
 loop-holds c = (omega arith, omega arith, omega arith, omega arith, λ f shows at. at)
@@ -48,7 +51,8 @@ returns c =
     let here = c .before .before .before in
     let a = here .before .before .before .before .before .args in
     let end : ℕ = here .before .group-end .result * 64 in
-    let bounds : Bounded (a .k) end (Hit (c .before .start .given .0 .0)) = subst (Bounded (a .k) end) (c .before .start .given .1) (here .scan-words .ensures .0) in
+    let bounds : Bounded (a .k) end (Hit (c .before .start .given .0 .0)) =
+    subst (Bounded (a .k) end) (c .before .start .given .1) (here .scan-words .ensures .0) in
     (omega arith, λ f shows at. subst (Stepped f (a .k) end) (c .before .start .given .1) (group here f shows at))
 
 enum-known-next : tie.Need-enum-known-next Inv-loop μ-loop
@@ -66,13 +70,15 @@ loop-again c =
     let a = here .before .before .before .before .before .args in
     let end : ℕ = here .before .group-end .result in
     let s : ℕ = c .before .before .next .given .0 .0 in
-    let bounds : Bounded (a .k) (end * 64) (Next s) = subst (Bounded (a .k) (end * 64)) (c .before .before .next .given .1) (here .scan-words .ensures .0) in (
+    let bounds : Bounded (a .k) (end * 64) (Next s) =
+    subst (Bounded (a .k) (end * 64)) (c .before .before .next .given .1) (here .scan-words .ensures .0) in (
       omega arith,
       omega arith,
       omega arith,
       omega arith,
       λ f shows at.
-          c .skip-taken .ensures .1 f (a .k) (shows-part (now (a .map)) (a .first) (a .stop) end (a .stop) f (omega arith) (omega arith) shows)
+          c .skip-taken .ensures .1 f (a .k) (shows-part (now (a .map)) (a .first) (a .stop) end (a .stop) f (omega arith)
+          (omega arith) shows)
           (subst (Stepped f (a .k) (end * 64)) (c .before .before .next .given .1) (group here f shows at)),
     )
 
@@ -80,8 +86,11 @@ returns-2 : tie.Need-returns-2 Inv-loop μ-loop
 returns-2 c =
     let loop = c .before .loop in
     let a = c .before .before .before .args in
-    let e : loop .i ≡ a .stop = omega arith in
-    ((omega arith, omega arith), λ f shows at. subst (λ (i : ℕ). Carried f (a .k) (i * 64) (loop .carried)) e (loop .inv .4 f shows at))
+    let e : loop .i ≡ a .stop = omega arith in (
+      (omega arith, omega arith),
+      λ f shows at. subst (λ (i : ℕ). Carried f (a .k) (i * 64) (loop .carried)) e
+          (loop .inv .4 f shows at),
+    )
 
 pub scan-groups-spec : {M : Type 1} → statement M
 scan-groups-spec =

@@ -22,9 +22,12 @@ abbrev μ-loop : tie.MeasureT-loop
 
 -- what the word tells
 word : (c : tie.After-scan-word Inv-loop μ-loop) (f : ℕ → Bool)
-    → HasBits (now (c .before .before .before .before .before .args .map)) (c .before .before .before .before .before .args .first) (c .before .before .before .before .before .args .stop) f
-    → Carried f (c .before .before .before .before .before .args .k) (c .before .before .before .before .before .args .first * 64) (c .before .before .before .before .before .args .s)
-    → Stepped f (c .before .before .before .before .before .args .k) (c .before .before .before .loop .i * 64 + 64) (c .scan-word .result)
+    → HasBits (now (c .before .before .before .before .before .args .map))
+    (c .before .before .before .before .before .args .first) (c .before .before .before .before .before .args .stop) f
+    → Carried f (c .before .before .before .before .before .args .k)
+    (c .before .before .before .before .before .args .first * 64) (c .before .before .before .before .before .args .s)
+    → Stepped f (c .before .before .before .before .before .args .k) (c .before .before .before .loop .i * 64 + 64)
+    (c .scan-word .result)
 word c f shows at =
     let loop = c .before .before .before .loop in
     c .scan-word .ensures .1 f (λ j l. shows (loop .i) j (omega arith) (omega arith) l) (loop .inv .4 f shows at)
@@ -74,20 +77,25 @@ loop-again c =
     let a = here .before .before .before .before .before .args in
     let i : ℕ = here .before .before .before .loop .i in
     let e : i * 64 + 64 ≡ (i + 1) * 64 = omega arith in
-    let bounds : Bounded (a .k) (i * 64 + 64) (Next (c .before .next .given .0 .0)) = subst (Bounded (a .k) (i * 64 + 64)) (c .before .next .given .1) (here .scan-word .ensures .0) in (
+    let bounds : Bounded (a .k) (i * 64 + 64) (Next (c .before .next .given .0 .0)) =
+    subst (Bounded (a .k) (i * 64 + 64)) (c .before .next .given .1) (here .scan-word .ensures .0) in (
       omega arith,
       omega arith,
       omega arith,
       omega arith,
-      λ f shows at. subst (λ (b : ℕ). Carried f (a .k) b (c .before .next .given .0 .0)) e (subst (Stepped f (a .k) (i * 64 + 64)) (c .before .next .given .1) (word here f shows at)),
+      λ f shows at. subst (λ (b : ℕ). Carried f (a .k) b (c .before .next .given .0 .0)) e
+          (subst (Stepped f (a .k) (i * 64 + 64)) (c .before .next .given .1) (word here f shows at)),
     )
 
 returns-2 : tie.Need-returns-2 Inv-loop μ-loop
 returns-2 c =
     let a = c .before .before .before .args in
     let loop = c .before .loop in
-    let e : loop .i ≡ a .stop = omega arith in
-    ((omega arith, omega arith), λ f shows at. subst (λ (x : ℕ). Carried f (a .k) (x * 64) (loop .carried)) e (loop .inv .4 f shows at))
+    let e : loop .i ≡ a .stop = omega arith in (
+      (omega arith, omega arith),
+      λ f shows at. subst (λ (x : ℕ). Carried f (a .k) (x * 64) (loop .carried)) e
+          (loop .inv .4 f shows at),
+    )
 
 pub scan-words-spec : {M : Type 1} → statement M
 scan-words-spec =

@@ -1,4 +1,5 @@
--- `map_search::search` meets its contract: a run in the word reached is the least fit, and where there is none the search goes on behind it.
+-- `map_search::search` meets its contract: a run in the word reached is the least fit, and where there is none the search goes
+-- on behind it.
 -- Assumes nothing.
 use mathlib.Core.Path.{_≡_, sym, ap, _∙_, subst}
 use mathlib.Core.Bool.{Bool, false}
@@ -23,7 +24,8 @@ returns c =
     let a = c .before .before .args in
     let g : ℕ → Bool = free (now (a .map)) in
     told-least g (a .from) (a .before) (a .k) (omega arith) Nothing
-    (at-end g (a .from) (a .before) (a .k) (a .from) 0 (c .if1 .taken) (at-start g (a .from) (a .before) (a .k) (a .from) (omega arith) (omega arith)))
+    (at-end g (a .from) (a .before) (a .k) (a .from) 0 (c .if1 .taken)
+    (at-start g (a .from) (a .before) (a .k) (a .from) (omega arith) (omega arith)))
 
 reach-requires : tie.Need-reach-requires
 reach-requires c κs = search needs
@@ -50,7 +52,8 @@ search-on-requires c κs =
     let e : base + 64 ≡ (here .reach .result .word + 1) * 64 = omega arith in (
       (omega arith, omega arith, omega arith, omega arith, omega arith),
       subst (λ (b : ℕ). Carried f (a .k) b (c .tail .result)) e
-          (next f (a .k) base 0 w (here .reach .ensures .1 .0) (here .reach .ensures .1 .1 (a .k) (omega arith)) (c .tail .result) (c .tail .ensures)
+          (next f (a .k) base 0 w (here .reach .ensures .1 .0) (here .reach .ensures .1 .1 (a .k) (omega arith))
+          (c .tail .result) (c .tail .ensures)
           (tail-below w (c .tail .result) (a .k) none (c .tail .ensures)) (λ t u l. absurd (omega arith)) none),
     )
 
@@ -77,7 +80,8 @@ returns-3 c =
     let base : ℕ = here .reach .result .word * 64 in
     let g : ℕ = at-gaps .gaps .result in
     told-least (free (now (a .map))) (a .from) (a .before) (a .k) (omega arith) (At (base + leadingZeros 64 g))
-    (gap-hit (inWindow (free (now (a .map))) (a .from) (a .before)) (a .k) base 0 w (here .reach .ensures .1 .0) (here .reach .ensures .1 .1 (a .k) (omega arith)) g (leadingZeros 64 g)
+    (gap-hit (inWindow (free (now (a .map))) (a .from) (a .before)) (a .k) base 0 w (here .reach .ensures .1 .0)
+    (here .reach .ensures .1 .1 (a .k) (omega arith)) g (leadingZeros 64 g)
     (at-gaps .gaps .ensures) (first-set g (omega arith) (omega arith)) (λ t u l. absurd (omega arith)))
 
 pub search-spec : {M : Type 1} → statement M

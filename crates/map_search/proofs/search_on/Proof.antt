@@ -1,4 +1,5 @@
--- `map_search::search_on` meets its contract: what is known goes on through the words before the last one, and from those to the last.
+-- `map_search::search_on` meets its contract: what is known goes on through the words before the last one, and from those to
+-- the last.
 -- Assumes nothing.
 use mathlib.Core.Path.{subst}
 use mathlib.Core.Bool.{Bool}
@@ -17,7 +18,9 @@ use Rattle.map_search.proofs.search_on.Tie as tie
 
 -- what the words before the last one tell
 between : (c : tie.After-scan-groups)
-    → Stepped (inWindow (free (now (c .before .before .before .before .args .map))) (c .before .before .before .before .args .from) (c .before .before .before .before .args .before)) (c .before .before .before .before .args .k)
+    → Stepped (inWindow (free (now (c .before .before .before .before .args .map)))
+    (c .before .before .before .before .args .from) (c .before .before .before .before .args .before))
+    (c .before .before .before .before .args .k)
     ((c .before .before .before .before .args .before - 1) / 64 * 64) (c .scan-groups .result)
 between c =
     let start = c .before .before .before .before in
@@ -69,20 +72,27 @@ scan-word-requires : tie.Need-scan-word-requires
 scan-word-requires c κs =
     let groups = c .before .before .before .before .before in
     let start = groups .before .before .before .before in
-    let bounds : Bounded (start .args .k) ((start .args .before - 1) / 64 * 64) (Next (c .before .before .before .next .given .0 .0)) =
-    subst (Bounded (start .args .k) ((start .args .before - 1) / 64 * 64)) (c .before .before .before .next .given .1) (groups .scan-groups .ensures .0) in
+    let bounds : Bounded (start .args .k) ((start .args .before - 1) / 64 * 64)
+    (Next (c .before .before .before .next .given .0 .0)) =
+    subst (Bounded (start .args .k) ((start .args .before - 1) / 64 * 64)) (c .before .before .before .next .given .1)
+    (groups .scan-groups .ensures .0) in
     (omega arith, omega arith, omega arith, groups .before .core-of .ensures)
 
 -- what the last word tells
 last : (c : tie.After-scan-word)
-    → Stepped (inWindow (free (now (c .before .before .before .before .before .before .before .before .before .before .args .map))) (c .before .before .before .before .before .before .before .before .before .before .args .from) (c .before .before .before .before .before .before .before .before .before .before .args .before))
+    → Stepped
+    (inWindow (free (now (c .before .before .before .before .before .before .before .before .before .before .args .map)))
+    (c .before .before .before .before .before .before .before .before .before .before .args .from)
+    (c .before .before .before .before .before .before .before .before .before .before .args .before))
     (c .before .before .before .before .before .before .before .before .before .before .args .k)
-    ((c .before .before .before .before .before .before .before .before .before .before .args .before - 1) / 64 * 64 + 64) (c .scan-word .result)
+    ((c .before .before .before .before .before .before .before .before .before .before .args .before - 1) / 64 * 64 + 64)
+    (c .scan-word .result)
 last c =
     let groups = c .before .before .before .before .before .before in
     let a = groups .before .before .before .before .args in
     let f : ℕ → Bool = inWindow (free (now (a .map))) (a .from) (a .before) in
-    c .scan-word .ensures .1 f (cut-word (now (a .map)) (a .from) (a .before) ((a .before - 1) / 64) (c .before .part .result) (c .before .part .ensures))
+    c .scan-word .ensures .1 f (cut-word (now (a .map)) (a .from) (a .before) ((a .before - 1) / 64) (c .before .part .result)
+    (c .before .part .ensures))
     (subst (Stepped f (a .k) ((a .before - 1) / 64 * 64)) (c .before .before .before .before .next .given .1) (between groups))
 
 enum-known-start-2 : tie.Need-enum-known-start-2

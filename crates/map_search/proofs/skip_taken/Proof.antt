@@ -44,7 +44,8 @@ loop-again c =
       omega arith,
       λ f k shows at.
           past-taken f k (i * 64) ((i + 8) * 64) (loop .carried) (omega arith)
-          (zero-words (now (a .map)) (a .first) (a .stop) i 8 f shows (omega arith) (omega arith) (c .before .any-free .ensures (c .if1 .left)))
+          (zero-words (now (a .map)) (a .first) (a .stop) i 8 f shows (omega arith) (omega arith)
+          (c .before .any-free .ensures (c .if1 .left)))
           (loop .inv .3 f k shows at),
     )
 

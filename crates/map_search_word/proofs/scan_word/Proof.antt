@@ -17,14 +17,19 @@ use Rattle.map_search_word.proofs.scan_word.Statement.{statement}
 use Rattle.map_search_word.proofs.scan_word.Tie as tie
 
 -- the prefix test: the first bits of the word, 64 at the most, as far as they are wanted
-tested : (c : tie.After-has-all) → c .has-all .result ≡ all (bit (c .before .before .before .args .w)) 0 (min (c .before .before .before .args .k - c .before .before .before .args .s) 64)
+tested : (c : tie.After-has-all) → c .has-all .result
+    ≡ all (bit (c .before .before .before .args .w)) 0
+    (min (c .before .before .before .args .k - c .before .before .before .args .s) 64)
 tested c =
     let start = c .before .before .before in
-    let e : c .before .before .smaller .result ≡ min (start .args .k - start .args .s) 64 = c .before .before .smaller .ensures in
-    c .has-all .ensures ∙ prefix (start .args .w) (c .before .span .result) (c .before .before .smaller .result) (omega arith) (c .before .span .ensures) ∙ ap (all (bit (start .args .w)) 0) e
+    let e : c .before .before .smaller .result ≡ min (start .args .k - start .args .s) 64 =
+    c .before .before .smaller .ensures in
+    c .has-all .ensures ∙ prefix (start .args .w) (c .before .span .result) (c .before .before .smaller .result) (omega arith)
+    (c .before .span .ensures) ∙ ap (all (bit (start .args .w)) 0) e
 
 -- it failed
-early : (c : tie.Else1) → all (bit (c .before .before .before .before .args .w)) 0 (min (c .before .before .before .before .args .k - c .before .before .before .before .args .s) 64) ≡ false
+early : (c : tie.Else1) → all (bit (c .before .before .before .before .args .w)) 0
+    (min (c .before .before .before .before .args .k - c .before .before .before .before .args .s) 64) ≡ false
 early c = sym (tested (c .before)) ∙ c .if1 .left
 
 sub-wanted : tie.Need-sub-wanted
@@ -62,9 +67,11 @@ returns-2 c =
     let start = here .before .before .before in
     let w : ℕ = start .args .w in
     let e : min (start .args .k - start .args .s) 64 ≡ start .args .k - start .args .s = omega arith in
-    let ones : all (bit w) 0 (start .args .k - start .args .s) ≡ true = ap (all (bit w) 0) (sym e) ∙ sym (tested here) ∙ c .before .before .if1 .taken in (
+    let ones : all (bit w) 0 (start .args .k - start .args .s) ≡ true = ap (all (bit w) 0) (sym e) ∙ sym (tested here)
+    ∙ c .before .before .if1 .taken in (
       omega (arith, c .run-start .ensures),
-      λ f same at. subst (Least f (start .args .k)) (sym (c .run-start .ensures)) (head-hit f _ _ _ w same at (omega arith) ones (omega arith)),
+      λ f same at. subst (Least f (start .args .k)) (sym (c .run-start .ensures))
+          (head-hit f _ _ _ w same at (omega arith) ones (omega arith)),
     )
 
 has-all-requires-2 : tie.Need-has-all-requires-2
@@ -86,7 +93,8 @@ returns-3 c =
     λ j u. sym (c .before .before .gaps .ensures j) ∙ ap (λ (x : ℕ). bit x j) (c .before .if4 .taken) ∙ bit-zero j in
     let below : c .tail .result < start .args .k = tail-below w (c .tail .result) (start .args .k) none tail in (
       (below, omega (arith, tail .within)),
-      λ f same at. next f _ _ _ w same at (c .tail .result) tail below (head-fails f _ _ _ w same at _ (omega arith) (omega arith) (omega arith) (early at-if1)) none,
+      λ f same at. next f _ _ _ w same at (c .tail .result) tail below
+          (head-fails f _ _ _ w same at _ (omega arith) (omega arith) (omega arith) (early at-if1)) none,
     )
 
 add-t18 : tie.Need-add-t18
@@ -114,10 +122,12 @@ returns-5 c =
     let w : ℕ = start .args .w in
     let tail : Tail w (c .tail2 .result) = c .tail2 .ensures in
     let none : (j : ℕ) → j + start .args .k ≤ 64 → all (bit w) j (start .args .k) ≡ false =
-    core-fails w (start .args .core) (start .args .k) (start .pre .3) (sym (c .before .before .covers2 .ensures) ∙ c .before .if3 .left) in
+    core-fails w (start .args .core) (start .args .k) (start .pre .3)
+    (sym (c .before .before .covers2 .ensures) ∙ c .before .if3 .left) in
     let below : c .tail2 .result < start .args .k = tail-below w (c .tail2 .result) (start .args .k) none tail in (
       (below, omega (arith, tail .within)),
-      λ f same at. next f _ _ _ w same at (c .tail2 .result) tail below (head-fails f _ _ _ w same at _ (omega arith) (omega arith) (omega arith) (early at-if1)) none,
+      λ f same at. next f _ _ _ w same at (c .tail2 .result) tail below
+          (head-fails f _ _ _ w same at _ (omega arith) (omega arith) (omega arith) (early at-if1)) none,
     )
 
 pub scan-word-spec : {M : Type 1} → statement M

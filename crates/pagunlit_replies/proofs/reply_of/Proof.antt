@@ -9,9 +9,12 @@ use borrow.Author.Needs.{needs}
 use Rattle.pagunlit_replies.proofs.reply_of.Statement.{statement}
 use Rattle.pagunlit_replies.proofs.reply_of.Tie as tie
 
-filled : (o : Outcome) (number first second third : ℕ) → number ≡ numberOf (o .answer) → first ≡ getD (valuesOf (o .answer)) 0 0 → second ≡ getD (valuesOf (o .answer)) 1 0
-    → third ≡ getD (valuesOf (o .answer)) 2 0 → _≡_ {A = Reply} (record { shape = o .shape; number = number; first = first; second = second; third = third }) (replyOf o)
-filled o number first second third n a b c = λ t. record { shape = o .shape; number = n t; first = a t; second = b t; third = c t }
+filled : (o : Outcome) (number first second third : ℕ) → number ≡ numberOf (o .answer)
+    → first ≡ getD (valuesOf (o .answer)) 0 0 → second ≡ getD (valuesOf (o .answer)) 1 0
+    → third ≡ getD (valuesOf (o .answer)) 2 0 → _≡_ {A = Reply}
+    (record { shape = o .shape; number = number; first = first; second = second; third = third }) (replyOf o)
+filled o number first second third n a b c =
+    λ t. record { shape = o .shape; number = n t; first = a t; second = b t; third = c t }
 
 number-of-requires : tie.Need-number-of-requires
 number-of-requires c κs = search needs
@@ -27,7 +30,8 @@ third-of-requires c κs = search needs
 
 returns : tie.Need-returns
 returns c =
-    filled (c .before .before .before .before .before .args .outcome) _ _ _ _ (c .before .before .before .number-of .ensures) (c .before .before .first-of .ensures) (c .before .second-of .ensures) (c .third-of .ensures)
+    filled (c .before .before .before .before .before .args .outcome) _ _ _ _ (c .before .before .before .number-of .ensures)
+    (c .before .before .first-of .ensures) (c .before .second-of .ensures) (c .third-of .ensures)
 
 pub reply-of-spec : {M : Type 1} → statement M
 reply-of-spec =

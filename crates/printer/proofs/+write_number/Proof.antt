@@ -17,7 +17,8 @@ use Rattle.printer.proofs.write_byte.Reads as write-byte-reads
 use Rattle.printer.proofs.+write_number.{statement}
 use Rattle.printer.proofs.+write_number.Tie.{close}
 
-one-digit : (n : ℕ) (text text′ : List ℕ) (at r : ℕ) → n < 10 → Writes ((0x30 + n) ∷ []) text at r text′ → Writes (decimal n) text at r text′
+one-digit : (n : ℕ) (text text′ : List ℕ) (at r : ℕ) → n < 10 → Writes ((0x30 + n) ∷ []) text at r text′
+    → Writes (decimal n) text at r text′
 one-digit n text text′ at r h = subst (λ (bytes : List ℕ). Writes bytes text at r text′) (sym (decimal-less n h))
 
 one-more : (n : ℕ) (text text′ text″ : List ℕ) (at at′ r : ℕ) → 10 ≤ n → Writes (decimal (n / 10)) text at at′ text′

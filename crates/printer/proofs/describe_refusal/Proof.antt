@@ -11,7 +11,8 @@ use Rattle.printer.proofs.Written.{then}
 use Rattle.printer.proofs.describe_refusal.Statement.{statement}
 use Rattle.printer.proofs.describe_refusal.Tie as tie
 
-whole : (number : ℕ) (text t₁ t₂ : List ℕ) (at a₁ a₂ : ℕ) → Writes refusedWord text at a₁ t₁ → Writes (numeral number newline) t₁ a₁ a₂ t₂
+whole : (number : ℕ) (text t₁ t₂ : List ℕ) (at a₁ a₂ : ℕ) → Writes refusedWord text at a₁ t₁
+    → Writes (numeral number newline) t₁ a₁ a₂ t₂
     → Writes (refusalText number) text at a₂ t₂
 unfolding refusalText
 whole number text t₁ t₂ at a₁ a₂ w₁ w₂ = then w₁ w₂
@@ -30,7 +31,8 @@ same-length c = search needs
 
 returns : tie.Need-returns
 returns c =
-    whole _ _ _ _ _ _ _ (c .before .before .before .before .before .before .write-word .ensures) (c .before .before .write-numeral .ensures)
+    whole _ _ _ _ _ _ _ (c .before .before .before .before .before .before .write-word .ensures)
+    (c .before .before .write-numeral .ensures)
 
 pub describe-refusal-spec : {M : Type 1} → statement M
 describe-refusal-spec =

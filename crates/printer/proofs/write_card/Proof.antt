@@ -10,8 +10,10 @@ use Rattle.printer.proofs.Written.{then}
 use Rattle.printer.proofs.write_card.Statement.{statement}
 use Rattle.printer.proofs.write_card.Tie as tie
 
-whole : (n spare c : ℕ) (text t₁ t₂ t₃ t₄ : List ℕ) (at a₁ a₂ a₃ a₄ : ℕ) → Writes cardWord text at a₁ t₁ → Writes (numeral n space) t₁ a₁ a₂ t₂
-    → Writes (numeral spare space) t₂ a₂ a₃ t₃ → Writes (numeral c newline) t₃ a₃ a₄ t₄ → Writes (cardLine n spare c) text at a₄ t₄
+whole : (n spare c : ℕ) (text t₁ t₂ t₃ t₄ : List ℕ) (at a₁ a₂ a₃ a₄ : ℕ) → Writes cardWord text at a₁ t₁
+    → Writes (numeral n space) t₁ a₁ a₂ t₂
+    → Writes (numeral spare space) t₂ a₂ a₃ t₃ → Writes (numeral c newline) t₃ a₃ a₄ t₄
+    → Writes (cardLine n spare c) text at a₄ t₄
 unfolding cardLine
 whole n spare c text t₁ t₂ t₃ t₄ at a₁ a₂ a₃ a₄ w₁ w₂ w₃ w₄ = then (then (then w₁ w₂) w₃) w₄
 
@@ -39,7 +41,8 @@ returns c =
     let third = last .before .before .before .before in
     let second = third .before .before .before .before in
     let first = second .before .before .before .before in
-    whole _ _ _ _ _ _ _ _ _ _ _ _ _ (first .write-word .ensures) (second .write-numeral .ensures) (third .write-numeral2 .ensures)
+    whole _ _ _ _ _ _ _ _ _ _ _ _ _ (first .write-word .ensures) (second .write-numeral .ensures)
+    (third .write-numeral2 .ensures)
     (last .write-numeral3 .ensures)
 
 pub write-card-spec : {M : Type 1} → statement M

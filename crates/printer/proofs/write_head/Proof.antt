@@ -13,7 +13,8 @@ use Rattle.printer.proofs.Written.{then}
 use Rattle.printer.proofs.write_head.Statement.{statement}
 use Rattle.printer.proofs.write_head.Tie as tie
 
-whole : (n spare c : ℕ) (counts : Counts) (text t₁ t₂ : List ℕ) (a₁ a₂ : ℕ) → Writes (cardLine n spare c) text 0 a₁ t₁ → Writes (runsLine counts) t₁ a₁ a₂ t₂
+whole : (n spare c : ℕ) (counts : Counts) (text t₁ t₂ : List ℕ) (a₁ a₂ : ℕ) → Writes (cardLine n spare c) text 0 a₁ t₁
+    → Writes (runsLine counts) t₁ a₁ a₂ t₂
     → (cursor a₂ 0 false ≡ headCursor n spare c counts text) × (t₂ ≡ headWritten n spare c counts text)
 unfolding headCursor headWritten
 whole n spare c counts text t₁ t₂ a₁ a₂ w₁ w₂ = (ap (λ (at : ℕ). cursor at 0 false) (then w₁ w₂ .ends), then w₁ w₂ .leaves)
@@ -29,7 +30,8 @@ same-length c = search needs
 
 returns : tie.Need-returns
 returns c =
-    whole _ _ _ _ _ _ _ _ _ (c .before .before .before .before .before .before .write-card .ensures) (c .before .before .write-runs .ensures)
+    whole _ _ _ _ _ _ _ _ _ (c .before .before .before .before .before .before .write-card .ensures)
+    (c .before .before .write-runs .ensures)
 
 pub write-head-spec : {M : Type 1} → statement M
 write-head-spec = tie.close (tie.spec write-card-requires write-runs-requires same-length returns)

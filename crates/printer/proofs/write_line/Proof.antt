@@ -11,7 +11,8 @@ use Rattle.printer.proofs.Written.{then}
 use Rattle.printer.proofs.write_line.Statement.{statement}
 use Rattle.printer.proofs.write_line.Tie as tie
 
-whole : (sheet : ℕ) (e : Entry) (text t₁ t₂ t₃ t₄ t₅ : List ℕ) (at a₁ a₂ a₃ a₄ a₅ : ℕ) → Writes (numeral sheet space) text at a₁ t₁
+whole : (sheet : ℕ) (e : Entry) (text t₁ t₂ t₃ t₄ t₅ : List ℕ) (at a₁ a₂ a₃ a₄ a₅ : ℕ)
+    → Writes (numeral sheet space) text at a₁ t₁
     → Writes (e .mark % 256 ∷ []) t₁ a₁ a₂ t₂ → Writes (space ∷ []) t₂ a₂ a₃ t₃ → Writes (numeral (e .start) space) t₃ a₃ a₄ t₄
     → Writes (numeral (e .length) newline) t₄ a₄ a₅ t₅ → Writes (sheetLine sheet e) text at a₅ t₅
 unfolding sheetLine
@@ -51,7 +52,8 @@ returns c =
     let gap = start .before .before .before .before .before in
     let mark = gap .before .before .before .before in
     let sheet = mark .before .before .before .before .before in
-    whole _ _ _ _ _ _ _ _ _ _ _ _ _ _ (sheet .write-numeral .ensures) (mark .write-byte .ensures) (gap .put2 .ensures) (start .write-numeral2 .ensures)
+    whole _ _ _ _ _ _ _ _ _ _ _ _ _ _ (sheet .write-numeral .ensures) (mark .write-byte .ensures) (gap .put2 .ensures)
+    (start .write-numeral2 .ensures)
     (last .write-numeral3 .ensures)
 
 pub write-line-spec : {M : Type 1} → statement M

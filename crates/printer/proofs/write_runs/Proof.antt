@@ -11,8 +11,10 @@ use Rattle.printer.proofs.Written.{then}
 use Rattle.printer.proofs.write_runs.Statement.{statement}
 use Rattle.printer.proofs.write_runs.Tie as tie
 
-whole : (counts : Counts) (text t₁ t₂ t₃ t₄ : List ℕ) (at a₁ a₂ a₃ a₄ : ℕ) → Writes runsWord text at a₁ t₁ → Writes (decimal (counts .runs)) t₁ a₁ a₂ t₂
-    → Writes longestWord t₂ a₂ a₃ t₃ → Writes (numeral (counts .longest) newline) t₃ a₃ a₄ t₄ → Writes (runsLine counts) text at a₄ t₄
+whole : (counts : Counts) (text t₁ t₂ t₃ t₄ : List ℕ) (at a₁ a₂ a₃ a₄ : ℕ) → Writes runsWord text at a₁ t₁
+    → Writes (decimal (counts .runs)) t₁ a₁ a₂ t₂
+    → Writes longestWord t₂ a₂ a₃ t₃ → Writes (numeral (counts .longest) newline) t₃ a₃ a₄ t₄
+    → Writes (runsLine counts) text at a₄ t₄
 unfolding runsLine
 whole counts text t₁ t₂ t₃ t₄ at a₁ a₂ a₃ a₄ w₁ w₂ w₃ w₄ = then (then (then w₁ w₂) w₃) w₄
 

@@ -29,7 +29,8 @@ returns-3 : tie.Need-returns-3
 returns-3 c =
     let tests = c .before .before .before .before in
     let a = tests .before .before .before .args in
-    line-some (a .from) (now (a .text)) (a .entry) _ _ (going (a .from) (now (a .text)) (tests .before .if1 .left) (tests .if2 .left)) (c .before .before .write-line .ensures)
+    line-some (a .from) (now (a .text)) (a .entry) _ _
+    (going (a .from) (now (a .text)) (tests .before .if1 .left) (tests .if2 .left)) (c .before .before .write-line .ensures)
 
 pub write-sheet-spec : {M : Type 1} → statement M
 write-sheet-spec =

@@ -12,7 +12,8 @@ use Rattle.printer.proofs.write_word.Statement.{statement}
 use Rattle.printer.proofs.write_word.Tie as tie
 
 abbrev Inv-loop : tie.InvT-loop
-Inv-loop text₀ at word place₀ i₀ text place i = (i ≤ length word) × (length text ≡ length text₀) × Writes (take i word) text₀ at place text
+Inv-loop text₀ at word place₀ i₀ text place i = (i ≤ length word) × (length text ≡ length text₀)
+    × Writes (take i word) text₀ at place text
 
 abbrev μ-loop : tie.MeasureT-loop
 μ-loop text₀ at word place₀ i₀ text place i = length word - i

@@ -23,7 +23,8 @@ use Rattle.refusals.proofs.Reserve.{shut, other, found, admitted, no-blocks, no
 
 module _ (q : Lent) (k : ℕ) where
   -- the ruling, once the verdict is known
-  ruled : (v : Verdict) → reserveVerdictOn q k ≡ v → rulingOf v (reserveStartOn q k) ≡ rulingOf (reserveVerdictOn q k) (reserveStartOn q k)
+  ruled : (v : Verdict) → reserveVerdictOn q k ≡ v
+      → rulingOf v (reserveStartOn q k) ≡ rulingOf (reserveVerdictOn q k) (reserveStartOn q k)
   ruled v h = ap (λ (w : Verdict). rulingOf w (reserveStartOn q k)) (sym h)
 
 open-on-requires : tie.Need-open-on-requires
@@ -43,8 +44,10 @@ returns c =
     let a = c .before .before .before .before .before .before .args in
     let q = lent (a .n) (a .free) (now (a .map)) (now (a .card)) (a .c) (a .entry) (a .sheet) in
     let told = c .before .enum-told .given in
-    let shuts = refused-first q (c .before .before .before .open-on .result) (told .0 .0) (c .before .before .before .open-on .ensures) (told .1) in
-    ap ruling.Refused (c .refused-row .ensures ∙ ap refusedRow (told .1)) ∙ ruled q (a .k) (refused (told .0 .0)) (shut q (a .k) (told .0 .0) shuts)
+    let shuts = refused-first q (c .before .before .before .open-on .result) (told .0 .0)
+    (c .before .before .before .open-on .ensures) (told .1) in
+    ap ruling.Refused (c .refused-row .ensures ∙ ap refusedRow (told .1))
+    ∙ ruled q (a .k) (refused (told .0 .0)) (shut q (a .k) (told .0 .0) shuts)
 
 enum-told-2 : tie.Need-enum-told-2
 enum-told-2 c = search needs
@@ -58,15 +61,18 @@ returns-2 c =
     let a = here .before .before .before .before .before .args in
     let q = lent (a .n) (a .free) (now (a .map)) (now (a .card)) (a .c) (a .entry) (a .sheet) in
     let s = here .opened .given .0 .0 in
-    let stands = stands-first q (here .before .before .open-on .result) (here .opened .given .0 .0) s (here .before .before .open-on .ensures) (here .opened .given .1) refl in
-    ap ruling.Refused (c .row-of .ensures) ∙ ruled q (a .k) (refused (rowOf s)) (other q (a .k) s stands (c .before .match2 .keys2))
+    let stands = stands-first q (here .before .before .open-on .result) (here .opened .given .0 .0) s
+    (here .before .before .open-on .ensures) (here .opened .given .1) refl in
+    ap ruling.Refused (c .row-of .ensures) ∙ ruled q (a .k) (refused (rowOf s))
+    (other q (a .k) s stands (c .before .match2 .keys2))
 
 returns-3 : tie.Need-returns-3
 returns-3 c =
     let here = c .before .before .before .before in
     let a = here .before .before .before .before .before .args in
     let q = lent (a .n) (a .free) (now (a .map)) (now (a .card)) (a .c) (a .entry) (a .sheet) in
-    let absent = stands-first q (here .before .before .open-on .result) (here .opened .given .0 .0) Absent (here .before .before .open-on .ensures) (here .opened .given .1) (c .before .enum-told2 .given .1) in
+    let absent = stands-first q (here .before .before .open-on .result) (here .opened .given .0 .0) Absent
+    (here .before .before .open-on .ensures) (here .opened .given .1) (c .before .enum-told2 .given .1) in
     ruled q (a .k) (refused 3) (admitted q (a .k) absent ∙ no-blocks q (a .k) (c .if1 .taken))
 
 search-requires : tie.Need-search-requires
@@ -74,7 +80,8 @@ search-requires c κs =
     let here = c .before .before .before .before in
     let a = here .before .before .before .before .before .args in
     let q = lent (a .n) (a .free) (now (a .map)) (now (a .card)) (a .c) (a .entry) (a .sheet) in
-    let absent = stands-first q (here .before .before .open-on .result) (here .opened .given .0 .0) Absent (here .before .before .open-on .ensures) (here .opened .given .1) (c .before .enum-told2 .given .1) in
+    let absent = stands-first q (here .before .before .open-on .result) (here .opened .given .0 .0) Absent
+    (here .before .before .open-on .ensures) (here .opened .given .1) (c .before .enum-told2 .given .1) in
     let l = limits q Absent absent in
     (l .shape .limit, l .shape .covered, omega (arith, c .if1 .left))
 
@@ -90,9 +97,11 @@ returns-4 c =
     let here = test .before .before .before .before in
     let a = here .before .before .before .before .before .args in
     let q = lent (a .n) (a .free) (now (a .map)) (now (a .card)) (a .c) (a .entry) (a .sheet) in
-    let absent = stands-first q (here .before .before .open-on .result) (here .opened .given .0 .0) Absent (here .before .before .open-on .ensures) (here .opened .given .1) (test .before .enum-told2 .given .1) in
+    let absent = stands-first q (here .before .before .open-on .result) (here .opened .given .0 .0) Absent
+    (here .before .before .open-on .ensures) (here .opened .given .1) (test .before .enum-told2 .given .1) in
     ruled q (a .k) (refused 10)
-    (admitted q (a .k) absent ∙ no-fit q (a .k) (test .if1 .left) (sym (c .before .before .search .ensures) ∙ c .enum-told3 .given .1))
+    (admitted q (a .k) absent ∙ no-fit q (a .k) (test .if1 .left)
+    (sym (c .before .before .search .ensures) ∙ c .enum-told3 .given .1))
 
 returns-5 : tie.Need-returns-5
 returns-5 c =
@@ -101,7 +110,8 @@ returns-5 c =
     let here = test .before .before .before .before in
     let a = here .before .before .before .before .before .args in
     let q = lent (a .n) (a .free) (now (a .map)) (now (a .card)) (a .c) (a .entry) (a .sheet) in
-    let absent = stands-first q (here .before .before .open-on .result) (here .opened .given .0 .0) Absent (here .before .before .open-on .ensures) (here .opened .given .1) (test .before .enum-told2 .given .1) in
+    let absent = stands-first q (here .before .before .open-on .result) (here .opened .given .0 .0) Absent
+    (here .before .before .open-on .ensures) (here .opened .given .1) (test .before .enum-told2 .given .1) in
     let start = place .found .given .0 .0 in
     let fit = sym (place .before .before .search .ensures) ∙ place .found .given .1 in
     ruled q (a .k) (refused 4) (admitted q (a .k) absent ∙ too-few q (a .k) start (test .if1 .left) fit (c .if2 .taken))
@@ -113,10 +123,12 @@ returns-6 c =
     let here = test .before .before .before .before in
     let a = here .before .before .before .before .before .args in
     let q = lent (a .n) (a .free) (now (a .map)) (now (a .card)) (a .c) (a .entry) (a .sheet) in
-    let absent = stands-first q (here .before .before .open-on .result) (here .opened .given .0 .0) Absent (here .before .before .open-on .ensures) (here .opened .given .1) (test .before .enum-told2 .given .1) in
+    let absent = stands-first q (here .before .before .open-on .result) (here .opened .given .0 .0) Absent
+    (here .before .before .open-on .ensures) (here .opened .given .1) (test .before .enum-told2 .given .1) in
     let start = place .found .given .0 .0 in
     let fit = sym (place .before .before .search .ensures) ∙ place .found .given .1 in
-    ap ruling.At (starts q (a .k) start fit) ∙ ruled q (a .k) accepted (admitted q (a .k) absent ∙ passes q (a .k) start (test .if1 .left) fit (c .if2 .left))
+    ap ruling.At (starts q (a .k) start fit) ∙ ruled q (a .k) accepted
+    (admitted q (a .k) absent ∙ passes q (a .k) start (test .if1 .left) fit (c .if2 .left))
 
 pub reserve-ruling-spec : {M : Type 1} → statement M
 reserve-ruling-spec =

@@ -16,8 +16,10 @@ returns : tie.Need-returns
 returns c =
     let a = c .before .before .before .args in (
       λ ys s.
-          let none : Summary (a .passed .head) 0 (a .passed .runs) ys = subst (λ (l : ℕ). Summary (a .passed .head) l (a .passed .runs) ys) (c .before .if1 .taken) s in
-          subst (λ (w : ℕ). Summary 0 0 (a .passed .runs) (bitsOf 64 w ++ ys)) (sym (c .if2 .taken)) (past-zero _ _ (a .passed .head) ys none),
+          let none : Summary (a .passed .head) 0 (a .passed .runs) ys =
+          subst (λ (l : ℕ). Summary (a .passed .head) l (a .passed .runs) ys) (c .before .if1 .taken) s in
+          subst (λ (w : ℕ). Summary 0 0 (a .passed .runs) (bitsOf 64 w ++ ys)) (sym (c .if2 .taken))
+          (past-zero _ _ (a .passed .head) ys none),
       omega arith,
     )
 

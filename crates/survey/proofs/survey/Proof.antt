@@ -1,4 +1,5 @@
--- `survey::survey` meets its contract. The loop's invariant: the numbers summarize the blocks of the words passed, which are the last ones.
+-- `survey::survey` meets its contract. The loop's invariant: the numbers summarize the blocks of the words passed, which are
+-- the last ones.
 -- Assumes nothing.
 use mathlib.Core.Path.{_≡_, refl, ap, subst, _∙_}
 use Prim.Native.Nat.{ℕ, _<_, _≤_, _-_, _*_, _+_, _/_, _^_}
@@ -25,8 +26,10 @@ use Rattle.survey.proofs.survey.Tie as tie
 
 abbrev Inv-loop : tie.InvT-loop
 Inv-loop map n table free₀ passed₀ i₀ mask₀ free′ passed i mask =
-    (i ≤ wordsFor n) × Summary (passed .head) (passed .longest) (passed .runs) (rest (free map) n (wordsFor n) i) × (free′ ≡ freeOf (rest (free map) n (wordsFor n) i))
-    × (passed .head ≤ 2040 * (wordsFor n - i)) × (passed .runs ≤ 2040 * (wordsFor n - i)) × (free′ ≤ 64 * (wordsFor n - i)) × Before n i mask × (mask < 2 ^ 64)
+    (i ≤ wordsFor n) × Summary (passed .head) (passed .longest) (passed .runs) (rest (free map) n (wordsFor n) i)
+    × (free′ ≡ freeOf (rest (free map) n (wordsFor n) i))
+    × (passed .head ≤ 2040 * (wordsFor n - i)) × (passed .runs ≤ 2040 * (wordsFor n - i)) × (free′ ≤ 64 * (wordsFor n - i))
+    × Before n i mask × (mask < 2 ^ 64)
 
 abbrev μ-loop : tie.MeasureT-loop
 μ-loop map n table free₀ passed₀ i₀ mask₀ free′ passed i mask = i
@@ -80,7 +83,13 @@ loop-again c =
     (cut-word (now (a .map)) 0 (a .n) (i - 1) (loop .mask) (loop .inv .6 (omega arith))) in (
       omega arith,
       subst (Summary _ _ _) step (c .prepend-word .ensures .0 _ (loop .inv .1)),
-      omega (arith, loop .inv .2, free-word w small, free-append (bitsOf 64 w) (rest (free (now (a .map))) (a .n) (wordsFor (a .n)) i), ap freeOf step),
+      omega (
+        arith,
+        loop .inv .2,
+        free-word w small,
+        free-append (bitsOf 64 w) (rest (free (now (a .map))) (a .n) (wordsFor (a .n)) i),
+        ap freeOf step,
+      ),
       omega (arith, c .prepend-word .ensures .1, loop .inv .3),
       omega (arith, c .prepend-word .ensures .1, loop .inv .4),
       omega (arith, ones-le 64 w small, loop .inv .5),
@@ -93,9 +102,11 @@ returns c =
     let loop = c .before .loop in
     let a = c .before .before .before .before .args in
     let z : loop .i ≡ 0 = omega arith in
-    counted (free (now (a .map))) (a .n) (wordsFor (a .n)) (loop .free) (loop .passed .head) (loop .passed .longest) (loop .passed .runs) (omega arith)
+    counted (free (now (a .map))) (a .n) (wordsFor (a .n)) (loop .free) (loop .passed .head) (loop .passed .longest)
+    (loop .passed .runs) (omega arith)
     (loop .inv .2 ∙ ap (λ (i : ℕ). freeOf (rest (free (now (a .map))) (a .n) (wordsFor (a .n)) i)) z)
-    (subst (λ (i : ℕ). Summary (loop .passed .head) (loop .passed .longest) (loop .passed .runs) (rest (free (now (a .map))) (a .n) (wordsFor (a .n)) i)) z (loop .inv .1))
+    (subst (λ (i : ℕ). Summary (loop .passed .head) (loop .passed .longest) (loop .passed .runs)
+    (rest (free (now (a .map))) (a .n) (wordsFor (a .n)) i)) z (loop .inv .1))
 
 pub survey-spec : {M : Type 1} → statement M
 survey-spec =

@@ -20,7 +20,8 @@ entry-requires c κs = search needs
 
 returns : tie.Need-returns
 unfolding column
-returns c = let w = c .before .args .w in c .entry .ensures ∙ columns (4 * (w % 256) + 2) 2 (w % 256) (omega arith) (omega arith)
+returns c = let w = c .before .args .w in c .entry .ensures
+    ∙ columns (4 * (w % 256) + 2) 2 (w % 256) (omega arith) (omega arith)
 
 pub byte-longest-spec : {M : Type 1} → statement M
 byte-longest-spec = tie.close (tie.spec mul-entry add-entry entry-requires returns)

@@ -34,8 +34,33 @@ byte-longest-requires-8 c κs = search needs
 
 returns : tie.Need-returns
 returns c = λ e.
-    let all = all-below (c .before .before .before .before .before .before .before .byte-longest .result) (c .before .before .before .before .before .before .byte-longest2 .result) (c .before .before .before .before .before .byte-longest3 .result) (c .before .before .before .before .byte-longest4 .result) (c .before .before .before .byte-longest5 .result) (c .before .before .byte-longest6 .result) (c .before .byte-longest7 .result) (c .byte-longest8 .result) (ltb-true _ _ e) in
-    (subst (λ (n : ℕ). n < 8) (c .before .before .before .before .before .before .before .byte-longest .ensures) (all .0), (subst (λ (n : ℕ). n < 8) (c .before .before .before .before .before .before .byte-longest2 .ensures) (all .1), (subst (λ (n : ℕ). n < 8) (c .before .before .before .before .before .byte-longest3 .ensures) (all .2), (subst (λ (n : ℕ). n < 8) (c .before .before .before .before .byte-longest4 .ensures) (all .3), (subst (λ (n : ℕ). n < 8) (c .before .before .before .byte-longest5 .ensures) (all .4), (subst (λ (n : ℕ). n < 8) (c .before .before .byte-longest6 .ensures) (all .5), (subst (λ (n : ℕ). n < 8) (c .before .byte-longest7 .ensures) (all .6), (subst (λ (n : ℕ). n < 8) (c .byte-longest8 .ensures) (all .7), tt))))))))
+    let all = all-below (c .before .before .before .before .before .before .before .byte-longest .result)
+    (c .before .before .before .before .before .before .byte-longest2 .result)
+    (c .before .before .before .before .before .byte-longest3 .result)
+    (c .before .before .before .before .byte-longest4 .result) (c .before .before .before .byte-longest5 .result)
+    (c .before .before .byte-longest6 .result) (c .before .byte-longest7 .result) (c .byte-longest8 .result)
+    (ltb-true _ _ e) in (
+      subst (λ (n : ℕ). n < 8) (c .before .before .before .before .before .before .before .byte-longest .ensures) (all .0),
+      (
+        subst (λ (n : ℕ). n < 8) (c .before .before .before .before .before .before .byte-longest2 .ensures) (all .1),
+        (
+          subst (λ (n : ℕ). n < 8) (c .before .before .before .before .before .byte-longest3 .ensures) (all .2),
+          (
+            subst (λ (n : ℕ). n < 8) (c .before .before .before .before .byte-longest4 .ensures) (all .3),
+            (
+              subst (λ (n : ℕ). n < 8) (c .before .before .before .byte-longest5 .ensures) (all .4),
+              (
+                subst (λ (n : ℕ). n < 8) (c .before .before .byte-longest6 .ensures) (all .5),
+                (
+                  subst (λ (n : ℕ). n < 8) (c .before .byte-longest7 .ensures) (all .6),
+                  (subst (λ (n : ℕ). n < 8) (c .byte-longest8 .ensures) (all .7), tt),
+                ),
+              ),
+            ),
+          ),
+        ),
+      ),
+    )
 
 pub bytes-short-spec : {M : Type 1} → statement M
 bytes-short-spec =

@@ -64,20 +64,30 @@ unfolding column
 joined-runs-requires c κs =
     let e4 = c .before .before .before in
     let start = e4 .before .before .before .before in
-    let et = e4 .before .before .entry2 .ensures ∙ columns (4 * start .args .byte + 1) 1 (start .args .byte) (omega arith) (omega arith) in
-    let en = e4 .entry4 .ensures ∙ columns (4 * start .args .byte + 3) 3 (start .args .byte) (omega arith) (omega arith) in
-    (search needs, search needs, search needs, search needs, λ p. omega (arith, en, tail-runs (bitsOf 8 (start .args .byte)) (omega (arith, et))))
+    let et = e4 .before .before .entry2 .ensures
+    ∙ columns (4 * start .args .byte + 1) 1 (start .args .byte) (omega arith) (omega arith) in
+    let en = e4 .entry4 .ensures ∙ columns (4 * start .args .byte + 3) 3 (start .args .byte) (omega arith) (omega arith) in (
+      search needs,
+      search needs,
+      search needs,
+      search needs,
+      λ p. omega (arith, en, tail-runs (bitsOf 8 (start .args .byte)) (omega (arith, et))),
+    )
 
 returns : tie.Need-returns
 unfolding column
 returns c =
     let e4 = c .before .before .before .before in
     let start = e4 .before .before .before .before in
-    let eh = e4 .before .before .before .entry .ensures ∙ columns (4 * start .args .byte) 0 (start .args .byte) (omega arith) (omega arith) in
-    let et = e4 .before .before .entry2 .ensures ∙ columns (4 * start .args .byte + 1) 1 (start .args .byte) (omega arith) (omega arith) in
-    let el = e4 .before .entry3 .ensures ∙ columns (4 * start .args .byte + 2) 2 (start .args .byte) (omega arith) (omega arith) in
+    let eh = e4 .before .before .before .entry .ensures
+    ∙ columns (4 * start .args .byte) 0 (start .args .byte) (omega arith) (omega arith) in
+    let et = e4 .before .before .entry2 .ensures
+    ∙ columns (4 * start .args .byte + 1) 1 (start .args .byte) (omega arith) (omega arith) in
+    let el = e4 .before .entry3 .ensures ∙ columns (4 * start .args .byte + 2) 2 (start .args .byte) (omega arith)
+    (omega arith) in
     let en = e4 .entry4 .ensures ∙ columns (4 * start .args .byte + 3) 3 (start .args .byte) (omega arith) (omega arith) in (
-      summary (start .args .byte) _ _ _ _ (start .args .passed .head) (start .args .passed .longest) (start .args .passed .runs) _ _ _ _ eh et el en (c .before .before .before .joined-head .ensures .0)
+      summary (start .args .byte) _ _ _ _ (start .args .passed .head) (start .args .passed .longest)
+          (start .args .passed .runs) _ _ _ _ eh et el en (c .before .before .before .joined-head .ensures .0)
           (c .before .before .larger .ensures) (c .before .larger2 .ensures) (c .joined-runs .ensures .0),
       (c .before .before .before .joined-head .ensures .1, c .joined-runs .ensures .1),
     )

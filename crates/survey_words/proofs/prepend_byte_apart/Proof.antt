@@ -51,7 +51,8 @@ returns c =
     let eh = e1 .entry .ensures ∙ columns (4 * a .byte) 0 (a .byte) (omega arith) (omega arith) in
     let el = c .before .before .before .entry2 .ensures ∙ columns (4 * a .byte + 2) 2 (a .byte) (omega arith) (omega arith) in
     let en = c .before .before .entry3 .ensures ∙ columns (4 * a .byte + 3) 3 (a .byte) (omega arith) (omega arith) in (
-      summary-apart (a .byte) _ _ _ (a .passed .head) (a .passed .longest) (a .passed .runs) _ _ eh el en (c .before .larger .ensures) refl,
+      summary-apart (a .byte) _ _ _ (a .passed .head) (a .passed .longest) (a .passed .runs) _ _ eh el en
+          (c .before .larger .ensures) refl,
       (omega arith, omega arith),
     )
 

@@ -27,18 +27,57 @@ prepend-byte-requires-6 : tie.Need-prepend-byte-requires-6
 prepend-byte-requires-6 c κs = search needs
 
 prepend-byte-requires-7 : tie.Need-prepend-byte-requires-7
-prepend-byte-requires-7 c κs = (c .before .before .before .before .before .before .pre .0, omega (arith, c .before .before .before .before .before .before .pre .1, c .prepend-byte6 .ensures .1, c .before .prepend-byte5 .ensures .1, c .before .before .prepend-byte4 .ensures .1, c .before .before .before .prepend-byte3 .ensures .1, c .before .before .before .before .prepend-byte2 .ensures .1, c .before .before .before .before .before .prepend-byte .ensures .1))
+prepend-byte-requires-7 c κs = (
+  c .before .before .before .before .before .before .pre .0,
+  omega (
+    arith,
+    c .before .before .before .before .before .before .pre .1,
+    c .prepend-byte6 .ensures .1,
+    c .before .prepend-byte5 .ensures .1,
+    c .before .before .prepend-byte4 .ensures .1,
+    c .before .before .before .prepend-byte3 .ensures .1,
+    c .before .before .before .before .prepend-byte2 .ensures .1,
+    c .before .before .before .before .before .prepend-byte .ensures .1,
+  ),
+)
 
 prepend-byte-requires-8 : tie.Need-prepend-byte-requires-8
-prepend-byte-requires-8 c κs = (c .before .before .before .before .before .before .before .pre .0, omega (arith, c .before .before .before .before .before .before .before .pre .1, c .prepend-byte7 .ensures .1, c .before .prepend-byte6 .ensures .1, c .before .before .prepend-byte5 .ensures .1, c .before .before .before .prepend-byte4 .ensures .1, c .before .before .before .before .prepend-byte3 .ensures .1, c .before .before .before .before .before .prepend-byte2 .ensures .1, c .before .before .before .before .before .before .prepend-byte .ensures .1))
+prepend-byte-requires-8 c κs = (
+  c .before .before .before .before .before .before .before .pre .0,
+  omega (
+    arith,
+    c .before .before .before .before .before .before .before .pre .1,
+    c .prepend-byte7 .ensures .1,
+    c .before .prepend-byte6 .ensures .1,
+    c .before .before .prepend-byte5 .ensures .1,
+    c .before .before .before .prepend-byte4 .ensures .1,
+    c .before .before .before .before .prepend-byte3 .ensures .1,
+    c .before .before .before .before .before .prepend-byte2 .ensures .1,
+    c .before .before .before .before .before .before .prepend-byte .ensures .1,
+  ),
+)
 
 returns : tie.Need-returns
 returns c = (
   λ ys s.
       subst (Summary _ _ _) (word-bits 8 (c .before .before .before .before .before .before .before .before .args .w) ys)
-      (c .prepend-byte8 .ensures .0 _ (c .before .prepend-byte7 .ensures .0 _ (c .before .before .prepend-byte6 .ensures .0 _ (c .before .before .before .prepend-byte5 .ensures .0 _
-      (c .before .before .before .before .prepend-byte4 .ensures .0 _ (c .before .before .before .before .before .prepend-byte3 .ensures .0 _ (c .before .before .before .before .before .before .prepend-byte2 .ensures .0 _ (c .before .before .before .before .before .before .before .prepend-byte .ensures .0 ys s)))))))),
-  omega (arith, c .prepend-byte8 .ensures .1, c .before .prepend-byte7 .ensures .1, c .before .before .prepend-byte6 .ensures .1, c .before .before .before .prepend-byte5 .ensures .1, c .before .before .before .before .prepend-byte4 .ensures .1, c .before .before .before .before .before .prepend-byte3 .ensures .1, c .before .before .before .before .before .before .prepend-byte2 .ensures .1, c .before .before .before .before .before .before .before .prepend-byte .ensures .1),
+      (c .prepend-byte8 .ensures .0 _ (c .before .prepend-byte7 .ensures .0 _
+      (c .before .before .prepend-byte6 .ensures .0 _ (c .before .before .before .prepend-byte5 .ensures .0 _
+      (c .before .before .before .before .prepend-byte4 .ensures .0 _
+      (c .before .before .before .before .before .prepend-byte3 .ensures .0 _
+      (c .before .before .before .before .before .before .prepend-byte2 .ensures .0 _
+      (c .before .before .before .before .before .before .before .prepend-byte .ensures .0 ys s)))))))),
+  omega (
+    arith,
+    c .prepend-byte8 .ensures .1,
+    c .before .prepend-byte7 .ensures .1,
+    c .before .before .prepend-byte6 .ensures .1,
+    c .before .before .before .prepend-byte5 .ensures .1,
+    c .before .before .before .before .prepend-byte4 .ensures .1,
+    c .before .before .before .before .before .prepend-byte3 .ensures .1,
+    c .before .before .before .before .before .before .prepend-byte2 .ensures .1,
+    c .before .before .before .before .before .before .before .prepend-byte .ensures .1,
+  ),
 )
 
 pub prepend-word-joined-spec : {M : Type 1} → statement M

@@ -1,4 +1,5 @@
--- `survey_words::prepend_word_short` meets its contract: the table gives the numbers of each byte, and the bits at their ends the crossings.
+-- `survey_words::prepend_word_short` meets its contract: the table gives the numbers of each byte, and the bits at their ends
+-- the crossings.
 -- Assumes nothing.
 use mathlib.Core.Path.{_≡_, sym, _∙_}
 use Prim.Native.Nat.{ℕ, _*_, _+_, _-_, _/_, _%_}
@@ -66,7 +67,13 @@ joined-runs-requires c κs =
       omega (arith, counted .before .runs-of-bytes .ensures),
       omega (arith, start .pre .1),
       omega (arith, start .pre .1),
-      λ p. omega (arith, known .counts, counted .before .runs-of-bytes .ensures, counted .crossings .ensures, tail-runs (bitsOf 64 w) (omega (arith, et, known .tails))),
+      λ p. omega (
+        arith,
+        known .counts,
+        counted .before .runs-of-bytes .ensures,
+        counted .crossings .ensures,
+        tail-runs (bitsOf 64 w) (omega (arith, et, known .tails)),
+      ),
     )
 
 returns : tie.Need-returns
@@ -78,11 +85,14 @@ returns c =
     let w : ℕ = a .w in
     let w7 : ℕ = w / 256 / 256 / 256 / 256 / 256 / 256 / 256 in
     let known = short-word w (start .pre .0 .1) in
-    let eh = counted .before .before .before .entry .ensures ∙ columns (4 * (w7 % 256)) 0 (w7 % 256) (omega arith) (omega arith) in
+    let eh = counted .before .before .before .entry .ensures
+    ∙ columns (4 * (w7 % 256)) 0 (w7 % 256) (omega arith) (omega arith) in
     let et = counted .before .before .entry2 .ensures ∙ columns (4 * (w % 256) + 1) 1 (w % 256) (omega arith) (omega arith) in
-    let e : counted .before .runs-of-bytes .result - counted .crossings .result + crossed 7 w ≡ runsIn 8 w = omega (arith, known .counts, counted .before .runs-of-bytes .ensures, counted .crossings .ensures) in (
+    let e : counted .before .runs-of-bytes .result - counted .crossings .result + crossed 7 w ≡ runsIn 8 w =
+    omega (arith, known .counts, counted .before .runs-of-bytes .ensures, counted .crossings .ensures) in (
       summary-short w (a .passed .head) (a .passed .longest) (a .passed .runs) _ _ (crossed 7 w) (runsIn 8 w) _ _ _
-          (renamed _ _ _ _ _ _ _ (sym eh) (sym et) known) e (start .pre .1 .0) (c .before .larger .ensures) (c .joined-runs .ensures .0),
+          (renamed _ _ _ _ _ _ _ (sym eh) (sym et) known) e (start .pre .1 .0) (c .before .larger .ensures)
+          (c .joined-runs .ensures .0),
       (omega (arith, eh, known .low), omega (arith, c .joined-runs .ensures .1)),
     )
 

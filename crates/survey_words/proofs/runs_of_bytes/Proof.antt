@@ -53,7 +53,30 @@ add-result c = search needs
 
 returns : tie.Need-returns
 unfolding runsIn
-returns c = (omega (arith, c .before .before .before .before .before .before .before .byte-runs .ensures, c .before .before .before .before .before .before .byte-runs2 .ensures, c .before .before .before .before .before .byte-runs3 .ensures, c .before .before .before .before .byte-runs4 .ensures, c .before .before .before .byte-runs5 .ensures, c .before .before .byte-runs6 .ensures, c .before .byte-runs7 .ensures, c .byte-runs8 .ensures), omega (arith, c .before .before .before .before .before .before .before .byte-runs .ensures, c .before .before .before .before .before .before .byte-runs2 .ensures, c .before .before .before .before .before .byte-runs3 .ensures, c .before .before .before .before .byte-runs4 .ensures, c .before .before .before .byte-runs5 .ensures, c .before .before .byte-runs6 .ensures, c .before .byte-runs7 .ensures, c .byte-runs8 .ensures))
+returns c = (
+  omega (
+    arith,
+    c .before .before .before .before .before .before .before .byte-runs .ensures,
+    c .before .before .before .before .before .before .byte-runs2 .ensures,
+    c .before .before .before .before .before .byte-runs3 .ensures,
+    c .before .before .before .before .byte-runs4 .ensures,
+    c .before .before .before .byte-runs5 .ensures,
+    c .before .before .byte-runs6 .ensures,
+    c .before .byte-runs7 .ensures,
+    c .byte-runs8 .ensures,
+  ),
+  omega (
+    arith,
+    c .before .before .before .before .before .before .before .byte-runs .ensures,
+    c .before .before .before .before .before .before .byte-runs2 .ensures,
+    c .before .before .before .before .before .byte-runs3 .ensures,
+    c .before .before .before .before .byte-runs4 .ensures,
+    c .before .before .before .byte-runs5 .ensures,
+    c .before .before .byte-runs6 .ensures,
+    c .before .byte-runs7 .ensures,
+    c .byte-runs8 .ensures,
+  ),
+)
 
 pub runs-of-bytes-spec : {M : Type 1} → statement M
 runs-of-bytes-spec =

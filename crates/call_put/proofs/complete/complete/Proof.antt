@@ -23,14 +23,16 @@ use Rattle.refusals.proofs.Lent.{allFits, standing, first, limits, extent, refu
 use Rattle.catalogue_standings.proofs.Openings.{opened, skip, stop, none-left}
 use Rattle.call_put.proofs.complete.complete.Statement.{statement}
 use Rattle.call_put.proofs.complete.complete.Tie as tie
-use Rattle.refusals.proofs.Complete.{opening-row, standing-row, verdict, refusal, out, by-row, shut, other, blankAt, soundAt, admitted, lowest-is}
+use Rattle.refusals.proofs.Complete.{opening-row, standing-row, verdict, refusal, out, by-row, shut, other, blankAt, soundAt}
+use Rattle.refusals.proofs.Complete.{admitted, lowest-is}
 
 -- what the places hold, and the row or the entry that it comes to
 module _ (q : Lent) (start blocks : ℕ) (opens : first q ≡ Stands (Open start blocks))
     (filling : Filling) (seen : filling ≡ fillingOf (blankAt q start) (soundAt q start) blocks)
   where
     some-broken : filling ≡ Broken → verdict q ≡ refused 4
-    some-broken h = admitted q start blocks opens ∙ stop 4 _ _ (ap not (was-broken (blankAt q start) (soundAt q start) blocks (sym seen ∙ h)))
+    some-broken h = admitted q start blocks opens
+        ∙ stop 4 _ _ (ap not (was-broken (blankAt q start) (soundAt q start) blocks (sym seen ∙ h)))
 
     some-blank : (p : ℕ) → filling ≡ Blank p → outOf (q .spare) (q .entry) (answer.Blank p) ≡ completeOut q
     some-blank p h =
@@ -66,8 +68,10 @@ returns c =
     let a = c .before .before .before .before .before .before .before .args in
     let q = lent (a .n) (a .free) (now (a .map)) (now (a .card)) (a .c) (a .entry) (a .sheet) in
     let told = c .before .before .enum-told .given in
-    let shuts = refused-first q (c .before .before .before .before .open-on .result) (told .0 .0) (c .before .before .before .before .open-on .ensures) (told .1) in
-    by-row q (told .0 .0) (c .refusal .result) (c .refusal .ensures ∙ ap (refusalOut (a .free) (a .entry)) (c .before .refused-row .ensures ∙ ap refusedRow (told .1)))
+    let shuts = refused-first q (c .before .before .before .before .open-on .result) (told .0 .0)
+    (c .before .before .before .before .open-on .ensures) (told .1) in
+    by-row q (told .0 .0) (c .refusal .result) (c .refusal .ensures
+    ∙ ap (refusalOut (a .free) (a .entry)) (c .before .refused-row .ensures ∙ ap refusedRow (told .1)))
     (shut q (told .0 .0) shuts) (opening-row (allFits q) (q .sheets) (q .sheet) (standing q) (told .0 .0) shuts)
 
 enum-known-stands : tie.Need-enum-known-stands
@@ -85,8 +89,10 @@ returns-2 c =
     let a = here .before .before .before .before .before .args in
     let q = lent (a .n) (a .free) (now (a .map)) (now (a .card)) (a .c) (a .entry) (a .sheet) in
     let s = here .opened .given .0 .0 in
-    let stands = stands-first q (here .before .before .open-on .result) (here .opened .given .0 .0) s (here .before .before .open-on .ensures) (here .opened .given .1) refl in
-    by-row q (rowOf s) (c .refusal2 .result) (c .refusal2 .ensures ∙ ap (refusalOut (a .free) (a .entry)) (c .before .row-of .ensures))
+    let stands = stands-first q (here .before .before .open-on .result) (here .opened .given .0 .0) s
+    (here .before .before .open-on .ensures) (here .opened .given .1) refl in
+    by-row q (rowOf s) (c .refusal2 .result) (c .refusal2 .ensures
+    ∙ ap (refusalOut (a .free) (a .entry)) (c .before .row-of .ensures))
     (other q s stands (c .before .before .match2 .keys2)) (standing-row s)
 
 look-requires : tie.Need-look-requires
@@ -97,7 +103,8 @@ look-requires c κs =
     let q = lent (a .n) (a .free) (now (a .map)) (now (a .card)) (a .c) (a .entry) (a .sheet) in
     let start = place .stands .given .0 .0 in
     let blocks = place .stands .given .0 .1 .0 in
-    let opens = stands-first q (here .before .before .open-on .result) (here .opened .given .0 .0) (Open start blocks) (here .before .before .open-on .ensures) (here .opened .given .1) (place .stands .given .1) in
+    let opens = stands-first q (here .before .before .open-on .result) (here .opened .given .0 .0) (Open start blocks)
+    (here .before .before .open-on .ensures) (here .opened .given .1) (place .stands .given .1) in
     let x = extent q start blocks opens in
     let l = limits q (Open start blocks) opens in
     (omega (arith, x .inside, l .shape .limit), omega (arith, x .inside, l .bytes))
@@ -123,8 +130,10 @@ returns-3 c =
     let q = lent (a .n) (a .free) (now (a .map)) (now (a .card)) (a .c) (a .entry) (a .sheet) in
     let start = place .stands .given .0 .0 in
     let blocks = place .stands .given .0 .1 .0 in
-    let opens = stands-first q (here .before .before .open-on .result) (here .opened .given .0 .0) (Open start blocks) (here .before .before .open-on .ensures) (here .opened .given .1) (place .stands .given .1) in
-    by-row q 4 (c .refusal3 .result) (c .refusal3 .ensures) (some-broken q start blocks opens (seen .result) (seen .ensures) (c .before .enum-told2 .given .1)) refl
+    let opens = stands-first q (here .before .before .open-on .result) (here .opened .given .0 .0) (Open start blocks)
+    (here .before .before .open-on .ensures) (here .opened .given .1) (place .stands .given .1) in
+    by-row q 4 (c .refusal3 .result) (c .refusal3 .ensures)
+    (some-broken q start blocks opens (seen .result) (seen .ensures) (c .before .enum-told2 .given .1)) refl
 
 returns-4 : tie.Need-returns-4
 returns-4 c =
@@ -135,7 +144,8 @@ returns-4 c =
     let q = lent (a .n) (a .free) (now (a .map)) (now (a .card)) (a .c) (a .entry) (a .sheet) in
     let start = place .stands .given .0 .0 in
     let blocks = place .stands .given .0 .1 .0 in
-    let opens = stands-first q (here .before .before .open-on .result) (here .opened .given .0 .0) (Open start blocks) (here .before .before .open-on .ensures) (here .opened .given .1) (place .stands .given .1) in
+    let opens = stands-first q (here .before .before .open-on .result) (here .opened .given .0 .0) (Open start blocks)
+    (here .before .before .open-on .ensures) (here .opened .given .1) (place .stands .given .1) in
     some-blank q start blocks opens (seen .result) (seen .ensures) (c .before .place .given .0 .0) (c .before .place .given .1)
 
 returns-5 : tie.Need-returns-5
@@ -147,7 +157,8 @@ returns-5 c =
     let q = lent (a .n) (a .free) (now (a .map)) (now (a .card)) (a .c) (a .entry) (a .sheet) in
     let start = place .stands .given .0 .0 in
     let blocks = place .stands .given .0 .1 .0 in
-    let opens = stands-first q (here .before .before .open-on .result) (here .opened .given .0 .0) (Open start blocks) (here .before .before .open-on .ensures) (here .opened .given .1) (place .stands .given .1) in
+    let opens = stands-first q (here .before .before .open-on .result) (here .opened .given .0 .0) (Open start blocks)
+    (here .before .before .open-on .ensures) (here .opened .given .1) (place .stands .given .1) in
     all-filled q start blocks opens (seen .result) (seen .ensures) (c .enum-told3 .given .1)
 
 pub complete-spec : {M : Type 1} → statement M

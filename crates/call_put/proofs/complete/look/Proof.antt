@@ -11,7 +11,8 @@ use denote.Ref.{now}
 use Rattle.blocks_of_card.specs.Card.{blockOf}
 use Rattle.block_seals.specs.Sealed.{blank, sound}
 use Rattle.call_put.specs.Fillings.{fillingOf}
-use Rattle.call_put.proofs.Fillings.{Passed, none-passed, all-passed, broken, breaks, passed-more, not-broken, blank-apart}
+use Rattle.call_put.proofs.Fillings.{Passed, none-passed, all-passed, broken, breaks, passed-more, not-broken}
+use Rattle.call_put.proofs.Fillings.{blank-apart}
 use borrow.Author.Needs.{needs}
 use Rattle.call_put.proofs.complete.look.Statement.{statement}
 use Rattle.call_put.proofs.complete.look.Tie as tie
@@ -23,7 +24,8 @@ abbrev soundIn : List ℕ → ℕ → ℕ → ℕ → Bool
 soundIn card start sheet p = sound sheet p (blockOf card (start + p))
 
 abbrev Inv-loop : tie.InvT-loop
-Inv-loop card start blocks sheet passed₀ place₀ passed place = (place ≤ blocks) × Passed (blankIn card start) (soundIn card start sheet) place passed
+Inv-loop card start blocks sheet passed₀ place₀ passed place = (place ≤ blocks)
+    × Passed (blankIn card start) (soundIn card start sheet) place passed
 
 abbrev μ-loop : tie.MeasureT-loop
 μ-loop card start blocks sheet passed₀ place₀ passed place = blocks - place
@@ -47,8 +49,10 @@ returns c =
     let loop = c .before .before .before .before .loop in
     let a = c .before .before .before .before .before .before .args in
     let step = c .before .before .with-place in
-    broken (blankIn (now (a .card)) (a .start)) (soundIn (now (a .card)) (a .start) (a .sheet)) (a .blocks) (loop .place) (omega arith)
-    (breaks (blankIn (now (a .card)) (a .start)) (soundIn (now (a .card)) (a .start) (a .sheet)) (loop .place) (loop .passed) (step .result) (loop .inv .1) (step .ensures) (c .enum-told .given .1))
+    broken (blankIn (now (a .card)) (a .start)) (soundIn (now (a .card)) (a .start) (a .sheet)) (a .blocks) (loop .place)
+    (omega arith)
+    (breaks (blankIn (now (a .card)) (a .start)) (soundIn (now (a .card)) (a .start) (a .sheet)) (loop .place) (loop .passed)
+    (step .result) (loop .inv .1) (step .ensures) (c .enum-told .given .1))
 
 add-place : tie.Need-add-place Inv-loop μ-loop
 add-place c = search needs
@@ -63,8 +67,10 @@ loop-again c =
     let inside : 512 * (a .start + loop .place) + 512 ≤ length (now (a .card)) = omega arith in
     let step = c .before .with-place in (
       omega arith,
-      passed-more (blankIn (now (a .card)) (a .start)) (soundIn (now (a .card)) (a .start) (a .sheet)) (loop .place) (loop .passed) (step .result) (loop .inv .1)
-          (blank-apart (now (a .card)) (a .start + loop .place) (a .sheet) (loop .place) inside) (step .ensures) (not-broken (step .result) (c .match .keys2)),
+      passed-more (blankIn (now (a .card)) (a .start)) (soundIn (now (a .card)) (a .start) (a .sheet)) (loop .place)
+          (loop .passed) (step .result) (loop .inv .1)
+          (blank-apart (now (a .card)) (a .start + loop .place) (a .sheet) (loop .place) inside) (step .ensures)
+          (not-broken (step .result) (c .match .keys2)),
     )
 
 returns-2 : tie.Need-returns-2 Inv-loop μ-loop
@@ -72,7 +78,8 @@ returns-2 c =
     let loop = c .before .loop in
     let a = c .before .before .before .args in
     let last : loop .place ≡ a .blocks = omega arith in
-    all-passed (blankIn (now (a .card)) (a .start)) (soundIn (now (a .card)) (a .start) (a .sheet)) (loop .place) (loop .passed) (loop .inv .1)
+    all-passed (blankIn (now (a .card)) (a .start)) (soundIn (now (a .card)) (a .start) (a .sheet)) (loop .place)
+    (loop .passed) (loop .inv .1)
     ∙ ap (fillingOf (blankIn (now (a .card)) (a .start)) (soundIn (now (a .card)) (a .start) (a .sheet))) last
 
 pub look-spec : {M : Type 1} → statement M

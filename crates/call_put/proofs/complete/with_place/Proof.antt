@@ -23,7 +23,11 @@ returns-2 : tie.Need-returns-2
 unfolding withPlace
 returns-2 c =
     let test = c .before .before .before in
-    simp (sym (test .before .sound-block .ensures) ∙ test .if1 .left, sym (c .before .before .blank-block .ensures) ∙ c .before .if2 .taken) (c .or-blank .ensures)
+    simp (
+      sym (test .before .sound-block .ensures) ∙ test .if1 .left,
+      sym (c .before .before .blank-block .ensures)
+          ∙ c .before .if2 .taken,
+    ) (c .or-blank .ensures)
 
 returns-3 : tie.Need-returns-3
 unfolding withPlace

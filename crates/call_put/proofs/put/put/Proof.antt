@@ -65,7 +65,8 @@ returns-4 c =
     let here = c .before .before .before .before .before .before in
     out _ _ _ (refused 3)
     (misfit _ _ _ (at .0 .0) (at .0 .1 .0)
-    (here .before .before .open-on .ensures) (here .opened .given .1 ∙ ap opening.Stands (at .1)) (c .before .if1 .left) (c .if2 .taken)) _ _
+    (here .before .before .open-on .ensures) (here .opened .given .1 ∙ ap opening.Stands (at .1)) (c .before .if1 .left)
+    (c .if2 .taken)) _ _
     refl refl
 
 add-write-block : tie.Need-add-write-block
@@ -74,8 +75,10 @@ add-write-block c =
     let here = c .before .before .before .before .before .before .before in
     let a = here .before .before .before .before .before .before .args in
     let fits =
-    number-fits (lent (a .n) (a .free) (now (a .map)) (now (a .card)) (a .c) (a .entry) (a .sheet)) (a .place) (now (a .payload)) (at .0 .0) (at .0 .1 .0)
-    (here .before .before .open-on .ensures) (here .opened .given .1 ∙ ap opening.Stands (at .1)) (c .before .before .if1 .left) in
+    number-fits (lent (a .n) (a .free) (now (a .map)) (now (a .card)) (a .c) (a .entry) (a .sheet)) (a .place)
+    (now (a .payload)) (at .0 .0) (at .0 .1 .0)
+    (here .before .before .open-on .ensures) (here .opened .given .1 ∙ ap opening.Stands (at .1))
+    (c .before .before .if1 .left) in
     omega (arith, fits)
 
 write-block-requires : tie.Need-write-block-requires
@@ -84,8 +87,10 @@ write-block-requires c κs =
     let here = c .before .before .before .before .before .before .before in
     let a = here .before .before .before .before .before .before .args in
     let inside =
-    in-card (lent (a .n) (a .free) (now (a .map)) (now (a .card)) (a .c) (a .entry) (a .sheet)) (a .place) (now (a .payload)) (at .0 .0) (at .0 .1 .0)
-    (here .before .before .open-on .ensures) (here .opened .given .1 ∙ ap opening.Stands (at .1)) (c .before .before .if1 .left) in
+    in-card (lent (a .n) (a .free) (now (a .map)) (now (a .card)) (a .c) (a .entry) (a .sheet)) (a .place) (now (a .payload))
+    (at .0 .0) (at .0 .1 .0)
+    (here .before .before .open-on .ensures) (here .opened .given .1 ∙ ap opening.Stands (at .1))
+    (c .before .before .if1 .left) in
     (omega (arith, inside), c .before .if2 .left)
 
 same-length : tie.Need-same-length
@@ -97,7 +102,8 @@ returns-5 c =
     let at = if2 .before .before .before .stands .given in
     let here = if2 .before .before .before .before .before .before in
     done _ _ _ (at .0 .0) (at .0 .1 .0)
-    (here .before .before .open-on .ensures) (here .opened .given .1 ∙ ap opening.Stands (at .1)) (if2 .before .if1 .left) (if2 .if2 .left) _
+    (here .before .before .open-on .ensures) (here .opened .given .1 ∙ ap opening.Stands (at .1)) (if2 .before .if1 .left)
+    (if2 .if2 .left) _
     (c .before .before .write-block .ensures)
 
 pub put-spec : {M : Type 1} → statement M

@@ -35,7 +35,9 @@ returns c =
     let a = c .before .before .before .before .before .before .args in
     let told = c .before .before .enum-told .given in
     c .refusal .ensures ∙ ap (refusalOut (a .free) (a .entry)) (c .before .refused-row .ensures ∙ ap refusedRow (told .1))
-    ∙ sym (out (lent (a .n) (a .free) (now (a .map)) noCard (a .c) (a .entry) (a .sheet)) (refused (told .0 .0)) (shut (lent (a .n) (a .free) (now (a .map)) noCard (a .c) (a .entry) (a .sheet)) (told .0 .0) (sym (c .before .before .before .before .open-sheet .ensures) ∙ told .1)))
+    ∙ sym (out (lent (a .n) (a .free) (now (a .map)) noCard (a .c) (a .entry) (a .sheet)) (refused (told .0 .0))
+    (shut (lent (a .n) (a .free) (now (a .map)) noCard (a .c) (a .entry) (a .sheet)) (told .0 .0)
+    (sym (c .before .before .before .before .open-sheet .ensures) ∙ told .1)))
 
 enum-told-2 : tie.Need-enum-told-2
 enum-told-2 c = search needs
@@ -53,7 +55,8 @@ returns-2 c =
     let stands = here .before .opened .given in
     c .refusal2 .ensures ∙ ap (refusalOut (a .free) (a .entry)) (c .before .row-of .ensures)
     ∙ sym (out (lent (a .n) (a .free) (now (a .map)) noCard (a .c) (a .entry) (a .sheet)) (refused (rowOf (stands .0 .0)))
-    (other (lent (a .n) (a .free) (now (a .map)) noCard (a .c) (a .entry) (a .sheet)) (stands .0 .0) (sym (here .before .before .before .open-sheet .ensures) ∙ stands .1) (c .before .before .match2 .keys2)))
+    (other (lent (a .n) (a .free) (now (a .map)) noCard (a .c) (a .entry) (a .sheet)) (stands .0 .0)
+    (sym (here .before .before .before .open-sheet .ensures) ∙ stands .1) (c .before .before .match2 .keys2)))
 
 returns-3 : tie.Need-returns-3
 returns-3 c =
@@ -61,7 +64,8 @@ returns-3 c =
     let a = here .before .before .before .before .before .args in
     let stands = here .before .opened .given in
     sym (out (lent (a .n) (a .free) (now (a .map)) noCard (a .c) (a .entry) (a .sheet)) accepted
-    (passes (lent (a .n) (a .free) (now (a .map)) noCard (a .c) (a .entry) (a .sheet)) (sym (here .before .before .before .open-sheet .ensures) ∙ stands .1 ∙ ap Stands (c .enum-told2 .given .1))))
+    (passes (lent (a .n) (a .free) (now (a .map)) noCard (a .c) (a .entry) (a .sheet))
+    (sym (here .before .before .before .open-sheet .ensures) ∙ stands .1 ∙ ap Stands (c .enum-told2 .given .1))))
 
 pub pause-spec : {M : Type 1} → statement M
 pause-spec =

@@ -55,14 +55,16 @@ returns-2 : tie.Need-returns-2
 returns-2 c =
     let here = c .before .before .before .before in
     out _ (refused 5)
-    (absent _ (here .before .before .open-sheet .ensures) (here .opened .given .1 ∙ ap Stands (c .before .enum-told2 .given .1))) _ _
+    (absent _ (here .before .before .open-sheet .ensures)
+    (here .opened .given .1 ∙ ap Stands (c .before .enum-told2 .given .1))) _ _
     (c .refusal2 .ensures) refl
 
 sub-if1 : tie.Need-sub-if1
 sub-if1 c =
     let here = c .before .before in
     let a = here .before .before .before .before .before .args in
-    let f = limits (lent (a .n) (a .free) (now (a .map)) noCard (a .c) (a .entry) (a .sheet)) (here .opened .given .0 .0) (here .before .before .open-sheet .ensures) (here .opened .given .1) in
+    let f = limits (lent (a .n) (a .free) (now (a .map)) noCard (a .c) (a .entry) (a .sheet)) (here .opened .given .0 .0)
+    (here .before .before .open-sheet .ensures) (here .opened .given .1) in
     omega (arith, f .spare)
 
 refusal-requires-3 : tie.Need-refusal-requires-3
@@ -75,20 +77,23 @@ returns-3 : tie.Need-returns-3
 returns-3 c =
     let here = c .before .before .before .before in
     out _ (refused 4)
-    (over _ _ (here .before .before .open-sheet .ensures) (here .opened .given .1) (c .before .before .match2 .keys2) (c .before .if1 .taken)) _ _
+    (over _ _ (here .before .before .open-sheet .ensures) (here .opened .given .1) (c .before .before .match2 .keys2)
+    (c .before .if1 .taken)) _ _
     (c .refusal3 .ensures) refl
 
 mark-requires : tie.Need-mark-requires
 mark-requires c κs =
     let here = c .before .before .before .before in
     let a = here .before .before .before .before .before .args in
-    in-map (lent (a .n) (a .free) (now (a .map)) noCard (a .c) (a .entry) (a .sheet)) (here .opened .given .0 .0) (here .before .before .open-sheet .ensures) (here .opened .given .1)
+    in-map (lent (a .n) (a .free) (now (a .map)) noCard (a .c) (a .entry) (a .sheet)) (here .opened .given .0 .0)
+    (here .before .before .open-sheet .ensures) (here .opened .given .1)
 
 add-t14 : tie.Need-add-t14
 add-t14 c =
     let here = c .before .before .before .before .before .before .before in
     let a = here .before .before .before .before .before .args in
-    let f = limits (lent (a .n) (a .free) (now (a .map)) noCard (a .c) (a .entry) (a .sheet)) (here .opened .given .0 .0) (here .before .before .open-sheet .ensures) (here .opened .given .1) in
+    let f = limits (lent (a .n) (a .free) (now (a .map)) noCard (a .c) (a .entry) (a .sheet)) (here .opened .given .0 .0)
+    (here .before .before .open-sheet .ensures) (here .opened .given .1) in
     omega (arith, f .limit, f .spare, c .before .before .before .before .if1 .left)
 
 same-length-4 : tie.Need-same-length-4
@@ -99,7 +104,8 @@ returns-4 c =
     let if1 = c .before .before .before .before in
     let here = if1 .before .before .before in
     out _ accepted
-    (passes _ _ (here .before .before .open-sheet .ensures) (here .opened .given .1) (if1 .before .match2 .keys2) (if1 .if1 .left)) _ _
+    (passes _ _ (here .before .before .open-sheet .ensures) (here .opened .given .1) (if1 .before .match2 .keys2)
+    (if1 .if1 .left)) _ _
     refl (c .before .before .mark .ensures)
 
 pub release-spec : {M : Type 1} → statement M

@@ -30,9 +30,12 @@ mark-requires c κs =
     let call = place .before .before .grow-ruling in
     let a = place .before .before .before .before .before .before .before .args in
     let q = lent (a .n) (a .free) (now (a .map)) (now (a .card)) (a .c) (a .entry) (a .sheet) in
-    let ruled = accepts (a .entry .start + a .entry .length) (call .result) (growVerdictOn q (a .m)) (place .end .given .0 .0) (call .ensures) (place .end .given .1) in
-    let room = grow-room q (a .m) (ruled .0) in
-    (omega (arith, room .inside, room .sizes .shape .limit, ruled .1), omega (arith, room .inside, room .sizes .shape .covered, ruled .1))
+    let ruled = accepts (a .entry .start + a .entry .length) (call .result) (growVerdictOn q (a .m)) (place .end .given .0 .0)
+    (call .ensures) (place .end .given .1) in
+    let room = grow-room q (a .m) (ruled .0) in (
+      omega (arith, room .inside, room .sizes .shape .limit, ruled .1),
+      omega (arith, room .inside, room .sizes .shape .covered, ruled .1),
+    )
 
 zero-blocks-requires : tie.Need-zero-blocks-requires
 zero-blocks-requires c κs =
@@ -40,7 +43,8 @@ zero-blocks-requires c κs =
     let call = place .before .before .grow-ruling in
     let a = place .before .before .before .before .before .before .before .args in
     let q = lent (a .n) (a .free) (now (a .map)) (now (a .card)) (a .c) (a .entry) (a .sheet) in
-    let ruled = accepts (a .entry .start + a .entry .length) (call .result) (growVerdictOn q (a .m)) (place .end .given .0 .0) (call .ensures) (place .end .given .1) in
+    let ruled = accepts (a .entry .start + a .entry .length) (call .result) (growVerdictOn q (a .m)) (place .end .given .0 .0)
+    (call .ensures) (place .end .given .1) in
     let room = grow-room q (a .m) (ruled .0) in
     omega (arith, room .inside, room .sizes .bytes, ruled .1)
 
@@ -50,7 +54,8 @@ sub-t22 c =
     let call = place .before .before .grow-ruling in
     let a = place .before .before .before .before .before .before .before .args in
     let q = lent (a .n) (a .free) (now (a .map)) (now (a .card)) (a .c) (a .entry) (a .sheet) in
-    let ruled = accepts (a .entry .start + a .entry .length) (call .result) (growVerdictOn q (a .m)) (place .end .given .0 .0) (call .ensures) (place .end .given .1) in
+    let ruled = accepts (a .entry .start + a .entry .length) (call .result) (growVerdictOn q (a .m)) (place .end .given .0 .0)
+    (call .ensures) (place .end .given .1) in
     let room = grow-room q (a .m) (ruled .0) in
     omega (arith, room .enough)
 
@@ -60,7 +65,8 @@ add-t23 c =
     let call = place .before .before .grow-ruling in
     let a = place .before .before .before .before .before .before .before .args in
     let q = lent (a .n) (a .free) (now (a .map)) (now (a .card)) (a .c) (a .entry) (a .sheet) in
-    let ruled = accepts (a .entry .start + a .entry .length) (call .result) (growVerdictOn q (a .m)) (place .end .given .0 .0) (call .ensures) (place .end .given .1) in
+    let ruled = accepts (a .entry .start + a .entry .length) (call .result) (growVerdictOn q (a .m)) (place .end .given .0 .0)
+    (call .ensures) (place .end .given .1) in
     let room = grow-room q (a .m) (ruled .0) in
     omega (arith, room .inside, room .sizes .shape .limit)
 
@@ -77,7 +83,9 @@ returns c =
     let a = place .before .before .before .before .before .before .before .args in
     let q = lent (a .n) (a .free) (now (a .map)) (now (a .card)) (a .c) (a .entry) (a .sheet) in
     let number = place .row .given .0 .0 in
-    unchanged q (a .m) number (c .refusal .result) (refuses (a .entry .start + a .entry .length) (call .result) (growVerdictOn q (a .m)) number (call .ensures) (place .row .given .1)) (c .refusal .ensures)
+    unchanged q (a .m) number (c .refusal .result)
+    (refuses (a .entry .start + a .entry .length) (call .result) (growVerdictOn q (a .m)) number (call .ensures)
+    (place .row .given .1)) (c .refusal .ensures)
 
 same-length-3 : tie.Need-same-length-3
 same-length-3 c = search needs
@@ -91,10 +99,12 @@ returns-2 c =
     let call = place .before .before .grow-ruling in
     let a = place .before .before .before .before .before .before .before .args in
     let q = lent (a .n) (a .free) (now (a .map)) (now (a .card)) (a .c) (a .entry) (a .sheet) in
-    let ruled = accepts (a .entry .start + a .entry .length) (call .result) (growVerdictOn q (a .m)) (place .end .given .0 .0) (call .ensures) (place .end .given .1) in
+    let ruled = accepts (a .entry .start + a .entry .length) (call .result) (growVerdictOn q (a .m)) (place .end .given .0 .0)
+    (call .ensures) (place .end .given .1) in
     let marks = c .before .before .before .before .before .before .before .mark in
     let zeros = c .before .before .before .zero-blocks in
-    changed q (a .m) (place .end .given .0 .0) (marks .last .0) (zeros .last .0) (ruled .0) (ruled .1) (marks .ensures) (zeros .ensures)
+    changed q (a .m) (place .end .given .0 .0) (marks .last .0) (zeros .last .0) (ruled .0) (ruled .1) (marks .ensures)
+    (zeros .ensures)
 
 pub grow-spec : {M : Type 1} → statement M
 grow-spec =

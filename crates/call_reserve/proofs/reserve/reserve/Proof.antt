@@ -1,4 +1,5 @@
--- `call_reserve::reserve::reserve` meets its contract: a refusal changes nothing, and on acceptance the blocks that it takes lie
+-- `call_reserve::reserve::reserve` meets its contract: a refusal changes nothing, and on acceptance the blocks that it takes
+-- lie
 -- inside the card.
 -- Assumes nothing.
 use native.Mathlib.Omega.{arith}
@@ -29,9 +30,12 @@ mark-requires c κs =
     let call = place .before .before .reserve-ruling in
     let a = place .before .before .before .before .before .before .before .args in
     let q = lent (a .n) (a .free) (now (a .map)) (now (a .card)) (a .c) (a .entry) (a .sheet) in
-    let ruled = accepts (reserveStartOn q (a .k)) (call .result) (reserveVerdictOn q (a .k)) (place .start .given .0 .0) (call .ensures) (place .start .given .1) in
-    let room = reserve-room q (a .k) (ruled .0) in
-    (omega (arith, room .inside, room .sizes .shape .limit, ruled .1), omega (arith, room .inside, room .sizes .shape .covered, ruled .1))
+    let ruled = accepts (reserveStartOn q (a .k)) (call .result) (reserveVerdictOn q (a .k)) (place .start .given .0 .0)
+    (call .ensures) (place .start .given .1) in
+    let room = reserve-room q (a .k) (ruled .0) in (
+      omega (arith, room .inside, room .sizes .shape .limit, ruled .1),
+      omega (arith, room .inside, room .sizes .shape .covered, ruled .1),
+    )
 
 zero-blocks-requires : tie.Need-zero-blocks-requires
 zero-blocks-requires c κs =
@@ -39,7 +43,8 @@ zero-blocks-requires c κs =
     let call = place .before .before .reserve-ruling in
     let a = place .before .before .before .before .before .before .before .args in
     let q = lent (a .n) (a .free) (now (a .map)) (now (a .card)) (a .c) (a .entry) (a .sheet) in
-    let ruled = accepts (reserveStartOn q (a .k)) (call .result) (reserveVerdictOn q (a .k)) (place .start .given .0 .0) (call .ensures) (place .start .given .1) in
+    let ruled = accepts (reserveStartOn q (a .k)) (call .result) (reserveVerdictOn q (a .k)) (place .start .given .0 .0)
+    (call .ensures) (place .start .given .1) in
     let room = reserve-room q (a .k) (ruled .0) in
     omega (arith, room .inside, room .sizes .bytes, ruled .1)
 
@@ -49,7 +54,8 @@ sub-t22 c =
     let call = place .before .before .reserve-ruling in
     let a = place .before .before .before .before .before .before .before .args in
     let q = lent (a .n) (a .free) (now (a .map)) (now (a .card)) (a .c) (a .entry) (a .sheet) in
-    let ruled = accepts (reserveStartOn q (a .k)) (call .result) (reserveVerdictOn q (a .k)) (place .start .given .0 .0) (call .ensures) (place .start .given .1) in
+    let ruled = accepts (reserveStartOn q (a .k)) (call .result) (reserveVerdictOn q (a .k)) (place .start .given .0 .0)
+    (call .ensures) (place .start .given .1) in
     let room = reserve-room q (a .k) (ruled .0) in
     omega (arith, room .enough)
 
@@ -66,7 +72,9 @@ returns c =
     let a = place .before .before .before .before .before .before .before .args in
     let q = lent (a .n) (a .free) (now (a .map)) (now (a .card)) (a .c) (a .entry) (a .sheet) in
     let number = place .row .given .0 .0 in
-    unchanged q (a .k) number (c .refusal .result) (refuses (reserveStartOn q (a .k)) (call .result) (reserveVerdictOn q (a .k)) number (call .ensures) (place .row .given .1)) (c .refusal .ensures)
+    unchanged q (a .k) number (c .refusal .result)
+    (refuses (reserveStartOn q (a .k)) (call .result) (reserveVerdictOn q (a .k)) number (call .ensures)
+    (place .row .given .1)) (c .refusal .ensures)
 
 same-length-3 : tie.Need-same-length-3
 same-length-3 c = search needs
@@ -80,10 +88,12 @@ returns-2 c =
     let call = place .before .before .reserve-ruling in
     let a = place .before .before .before .before .before .before .before .args in
     let q = lent (a .n) (a .free) (now (a .map)) (now (a .card)) (a .c) (a .entry) (a .sheet) in
-    let ruled = accepts (reserveStartOn q (a .k)) (call .result) (reserveVerdictOn q (a .k)) (place .start .given .0 .0) (call .ensures) (place .start .given .1) in
+    let ruled = accepts (reserveStartOn q (a .k)) (call .result) (reserveVerdictOn q (a .k)) (place .start .given .0 .0)
+    (call .ensures) (place .start .given .1) in
     let marks = c .before .before .before .before .before .before .mark in
     let zeros = c .before .before .zero-blocks in
-    changed q (a .k) (place .start .given .0 .0) (marks .last .0) (zeros .last .0) (ruled .0) (ruled .1) (marks .ensures) (zeros .ensures)
+    changed q (a .k) (place .start .given .0 .0) (marks .last .0) (zeros .last .0) (ruled .0) (ruled .1) (marks .ensures)
+    (zeros .ensures)
 
 pub reserve-spec : {M : Type 1} → statement M
 reserve-spec =

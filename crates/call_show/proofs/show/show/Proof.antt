@@ -70,7 +70,8 @@ returns-4 c =
     let here = c .before .before .before .before .before .before in
     out _ _ _ (refused 3)
     (misfit _ _ _ (at .0 .0) (at .0 .1 .0)
-    (here .before .before .open-on .ensures) (here .opened .given .1 ∙ ap opening.Stands (at .1)) (c .before .if1 .left) (c .if2 .taken)) _ _
+    (here .before .before .open-on .ensures) (here .opened .given .1 ∙ ap opening.Stands (at .1)) (c .before .if1 .left)
+    (c .if2 .taken)) _ _
     refl refl
 
 add-sound-block : tie.Need-add-sound-block
@@ -79,7 +80,8 @@ add-sound-block c =
     let here = c .before .before .before .before .before .before in
     let a = here .before .before .before .before .before .before .args in
     let fits =
-    number-fits (lent (a .n) (a .free) (now (a .map)) (now (a .card)) (a .c) (a .entry) (a .sheet)) (a .place) (now (a .buffer)) (at .0 .0) (at .0 .1 .0)
+    number-fits (lent (a .n) (a .free) (now (a .map)) (now (a .card)) (a .c) (a .entry) (a .sheet)) (a .place)
+    (now (a .buffer)) (at .0 .0) (at .0 .1 .0)
     (here .before .before .open-on .ensures) (here .opened .given .1 ∙ ap opening.Stands (at .1)) (c .before .if1 .left) in
     omega (arith, fits)
 
@@ -89,7 +91,8 @@ sound-block-requires c κs =
     let here = c .before .before .before .before .before .before in
     let a = here .before .before .before .before .before .before .args in
     let inside =
-    in-card (lent (a .n) (a .free) (now (a .map)) (now (a .card)) (a .c) (a .entry) (a .sheet)) (a .place) (now (a .buffer)) (at .0 .0) (at .0 .1 .0)
+    in-card (lent (a .n) (a .free) (now (a .map)) (now (a .card)) (a .c) (a .entry) (a .sheet)) (a .place) (now (a .buffer))
+    (at .0 .0) (at .0 .1 .0)
     (here .before .before .open-on .ensures) (here .opened .given .1 ∙ ap opening.Stands (at .1)) (c .before .if1 .left) in
     omega (arith, inside)
 
@@ -103,7 +106,8 @@ returns-5 c =
     fails (c .before .sound-block .ensures) (c .if3 .taken) in
     out _ _ _ (refused 4)
     (unsound _ _ _ (at .0 .0) (at .0 .1 .0)
-    (here .before .before .open-on .ensures) (here .opened .given .1 ∙ ap opening.Stands (at .1)) (if2 .before .if1 .left) (if2 .if2 .left) not-sound) _ _
+    (here .before .before .open-on .ensures) (here .opened .given .1 ∙ ap opening.Stands (at .1)) (if2 .before .if1 .left)
+    (if2 .if2 .left) not-sound) _ _
     refl refl
 
 add-copy-payload : tie.Need-add-copy-payload
@@ -113,7 +117,8 @@ add-copy-payload c =
     let here = if2 .before .before .before .before .before .before in
     let a = here .before .before .before .before .before .before .args in
     let fits =
-    number-fits (lent (a .n) (a .free) (now (a .map)) (now (a .card)) (a .c) (a .entry) (a .sheet)) (a .place) (now (a .buffer)) (at .0 .0) (at .0 .1 .0)
+    number-fits (lent (a .n) (a .free) (now (a .map)) (now (a .card)) (a .c) (a .entry) (a .sheet)) (a .place)
+    (now (a .buffer)) (at .0 .0) (at .0 .1 .0)
     (here .before .before .open-on .ensures) (here .opened .given .1 ∙ ap opening.Stands (at .1)) (if2 .before .if1 .left) in
     omega (arith, fits)
 
@@ -124,7 +129,8 @@ copy-payload-requires c κs =
     let here = if2 .before .before .before .before .before .before in
     let a = here .before .before .before .before .before .before .args in
     let inside =
-    in-card (lent (a .n) (a .free) (now (a .map)) (now (a .card)) (a .c) (a .entry) (a .sheet)) (a .place) (now (a .buffer)) (at .0 .0) (at .0 .1 .0)
+    in-card (lent (a .n) (a .free) (now (a .map)) (now (a .card)) (a .c) (a .entry) (a .sheet)) (a .place) (now (a .buffer))
+    (at .0 .0) (at .0 .1 .0)
     (here .before .before .open-on .ensures) (here .opened .given .1 ∙ ap opening.Stands (at .1)) (if2 .before .if1 .left) in
     (omega (arith, inside), if2 .if2 .left)
 
@@ -141,7 +147,8 @@ returns-6 c =
     let is-sound : sound (a .sheet) (a .place) (blockOf (now (a .card)) (at .0 .0 + a .place)) ≡ true =
     holds (if3 .before .sound-block .ensures) (if3 .if3 .left) in
     done _ _ _ (at .0 .0) (at .0 .1 .0)
-    (here .before .before .open-on .ensures) (here .opened .given .1 ∙ ap opening.Stands (at .1)) (if2 .before .if1 .left) (if2 .if2 .left) is-sound _
+    (here .before .before .open-on .ensures) (here .opened .given .1 ∙ ap opening.Stands (at .1)) (if2 .before .if1 .left)
+    (if2 .if2 .left) is-sound _
     (c .before .before .copy-payload .ensures)
 
 pub show-spec : {M : Type 1} → statement M

@@ -14,8 +14,10 @@ same-length c = search needs
 
 returns : tie.Need-returns
 returns c =
-    let show = c .before .before in
-    (ap (told (show .before .before .before .before .before .before .args .shape)) (show .show .ensures .0), show .show .ensures .1)
+    let show = c .before .before in (
+      ap (told (show .before .before .before .before .before .before .args .shape)) (show .show .ensures .0),
+      show .show .ensures .1,
+    )
 
 pub show-core-spec : {M : Type 1} → statement M
 show-core-spec = tie.close (tie.spec show-requires same-length returns)

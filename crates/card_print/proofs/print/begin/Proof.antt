@@ -16,7 +16,8 @@ returns : tie.Need-returns
 returns c =
     let call = c .before .before in
     let a = call .before .before .before .before .before .before .args in
-    refusal-begins (a .loaded) (now (a .map)) (a .count) (now (a .text)) _ _ (call .before .before .if1 .taken) (call .refuse .ensures .0) (call .refuse .ensures .1)
+    refusal-begins (a .loaded) (now (a .map)) (a .count) (now (a .text)) _ _ (call .before .before .if1 .taken)
+    (call .refuse .ensures .0) (call .refuse .ensures .1)
 
 shape-fits-requires : tie.Need-shape-fits-requires
 shape-fits-requires c κs = search needs
@@ -32,7 +33,8 @@ returns-2 c =
     let call = c .before .before in
     let fits = call .before .before .before in
     let a = fits .before .before .before .before .before .args in
-    misfit-begins (a .loaded) (now (a .map)) (a .count) (now (a .text)) _ _ (fits .before .if1 .left) (fails (fits .shape-fits .ensures) (call .before .before .if2 .taken))
+    misfit-begins (a .loaded) (now (a .map)) (a .count) (now (a .text)) _ _ (fits .before .if1 .left)
+    (fails (fits .shape-fits .ensures) (call .before .before .if2 .taken))
     (call .refuse2 .ensures .0) (call .refuse2 .ensures .1)
 
 survey-requires : tie.Need-survey-requires
@@ -52,7 +54,8 @@ returns-3 c =
     let counted = call .before .before in
     let fits = counted .before .before in
     let a = fits .before .before .before .before .before .args in
-    card-begins (a .loaded) (now (a .map)) (a .count) (now (a .text)) _ _ _ (fits .before .if1 .left) (holds (fits .shape-fits .ensures) (counted .before .if2 .left))
+    card-begins (a .loaded) (now (a .map)) (a .count) (now (a .text)) _ _ _ (fits .before .if1 .left)
+    (holds (fits .shape-fits .ensures) (counted .before .if2 .left))
     (counted .survey .ensures) (call .write-head .ensures .0) (call .write-head .ensures .1)
 
 pub begin-spec : {M : Type 1} → statement M

@@ -13,7 +13,8 @@ same-length c = search needs
 returns : tie.Need-returns
 returns c =
     let d = c .before .before in
-    refused-at (d .before .before .before .args .number) (now (d .before .before .before .args .text)) _ _ (d .describe-refusal .ensures)
+    refused-at (d .before .before .before .args .number) (now (d .before .before .before .args .text)) _ _
+    (d .describe-refusal .ensures)
 
 pub refuse-spec : {M : Type 1} → statement M
 refuse-spec = tie.close (tie.spec describe-refusal-requires same-length returns)

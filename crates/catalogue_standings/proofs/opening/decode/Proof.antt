@@ -25,18 +25,32 @@ with-extent-requires c κs = search needs
 
 returns-3 : tie.Need-returns-3
 unfolding standingOf
-returns-3 c = simp (ne-eqb _ _ (c .before .before .before .if1 .left), ne-eqb _ _ (c .before .before .if2 .left), eq-eqb _ _ (c .before .if3 .taken)) (c .with-extent .ensures)
+returns-3 c = simp (
+  ne-eqb _ _ (c .before .before .before .if1 .left),
+  ne-eqb _ _ (c .before .before .if2 .left),
+  eq-eqb _ _ (c .before .if3 .taken),
+) (c .with-extent .ensures)
 
 with-extent-requires-2 : tie.Need-with-extent-requires-2
 with-extent-requires-2 c κs = search needs
 
 returns-4 : tie.Need-returns-4
 unfolding standingOf
-returns-4 c = simp (ne-eqb _ _ (c .before .before .before .before .if1 .left), ne-eqb _ _ (c .before .before .before .if2 .left), ne-eqb _ _ (c .before .before .if3 .left), eq-eqb _ _ (c .before .if4 .taken)) (c .with-extent2 .ensures)
+returns-4 c = simp (
+  ne-eqb _ _ (c .before .before .before .before .if1 .left),
+  ne-eqb _ _ (c .before .before .before .if2 .left),
+  ne-eqb _ _ (c .before .before .if3 .left),
+  eq-eqb _ _ (c .before .if4 .taken),
+) (c .with-extent2 .ensures)
 
 returns-5 : tie.Need-returns-5
 unfolding standingOf
-returns-5 c = simp (ne-eqb _ _ (c .before .before .before .if1 .left), ne-eqb _ _ (c .before .before .if2 .left), ne-eqb _ _ (c .before .if3 .left), ne-eqb _ _ (c .if4 .left))
+returns-5 c = simp (
+  ne-eqb _ _ (c .before .before .before .if1 .left),
+  ne-eqb _ _ (c .before .before .if2 .left),
+  ne-eqb _ _ (c .before .if3 .left),
+  ne-eqb _ _ (c .if4 .left),
+)
 
 pub decode-spec : {M : Type 1} → statement M
 decode-spec =

@@ -37,7 +37,8 @@ returns : tie.Need-returns
 returns c =
     let a = c .before .before .args in
     fitted _ _ _ _
-    (and-false (shapeFits (a .n) (a .free) (length (now (a .map))) && sheetsFit (a .c)) (eqb (a .cardlen) (512 * a .n)) (ne-eqb _ _ (c .if1 .taken)))
+    (and-false (shapeFits (a .n) (a .free) (length (now (a .map))) && sheetsFit (a .c)) (eqb (a .cardlen) (512 * a .n))
+    (ne-eqb _ _ (c .if1 .taken)))
 
 open-sheet-requires : tie.Need-open-sheet-requires
 open-sheet-requires c κs = search needs
@@ -47,7 +48,8 @@ returns-2 c =
     let a = c .before .before .before .args in
     c .open-sheet .ensures
     ∙ ap (λ (fits : Bool). openedOf fits (a .c) (a .sheet) (standingOf (a .n) (free (now (a .map))) (a .entry)))
-    (sym (and-true (shapeFits (a .n) (a .free) (length (now (a .map))) && sheetsFit (a .c)) (eqb (a .cardlen) (512 * a .n)) (eq-eqb _ _ (c .before .if1 .left))))
+    (sym (and-true (shapeFits (a .n) (a .free) (length (now (a .map))) && sheetsFit (a .c)) (eqb (a .cardlen) (512 * a .n))
+    (eq-eqb _ _ (c .before .if1 .left))))
 
 pub open-on-spec : {M : Type 1} → statement M
 open-on-spec = tie.close (tie.spec mul-if1 returns open-sheet-requires returns-2)

@@ -23,7 +23,10 @@ returns-2 : tie.Need-returns-2
 unfolding openedOf
 returns-2 c =
     let shape = c .before .before in
-    simp (sym (shape .before .shape-fits .ensures) ∙ not-false (shape .before .shape-fits .result) (shape .if1 .left), sym (c .before .sheets-fit .ensures) ∙ not-true (c .before .sheets-fit .result) (c .if2 .taken))
+    simp (
+      sym (shape .before .shape-fits .ensures) ∙ not-false (shape .before .shape-fits .result) (shape .if1 .left),
+      sym (c .before .sheets-fit .ensures) ∙ not-true (c .before .sheets-fit .result) (c .if2 .taken),
+    )
 
 returns-3 : tie.Need-returns-3
 unfolding openedOf
@@ -39,7 +42,8 @@ returns-3 c =
 decode-requires : tie.Need-decode-requires
 decode-requires c κs =
     let shape = c .before .before .before in
-    let f = fits _ _ _ (sym (shape .before .shape-fits .ensures) ∙ not-false (shape .before .shape-fits .result) (shape .if1 .left)) in
+    let f = fits _ _ _ (sym (shape .before .shape-fits .ensures)
+    ∙ not-false (shape .before .shape-fits .result) (shape .if1 .left)) in
     (f .limit, f .covered)
 
 unless-damaged-requires : tie.Need-unless-damaged-requires

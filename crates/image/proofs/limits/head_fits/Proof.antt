@@ -21,7 +21,9 @@ shape-fits-requires c κs = search needs
 returns-2 : tie.Need-returns-2
 returns-2 c =
     let a = c .before .before .before .before .args in
-    head-unshaped (a .n) (a .free) (a .c) (a .total) (ap (shapeFits (a .n) (a .free)) (sym (c .before .before .words-for .ensures)) ∙ fails (c .before .shape-fits .ensures) (c .if2 .taken))
+    head-unshaped (a .n) (a .free) (a .c) (a .total)
+    (ap (shapeFits (a .n) (a .free)) (sym (c .before .before .words-for .ensures))
+    ∙ fails (c .before .shape-fits .ensures) (c .if2 .taken))
 
 sheets-fit-requires : tie.Need-sheets-fit-requires
 sheets-fit-requires c κs = search needs
@@ -30,7 +32,9 @@ returns-3 : tie.Need-returns-3
 returns-3 c =
     let at = c .before .before in
     let a = at .before .before .before .before .args in
-    head-uncounted (a .n) (a .free) (a .c) (a .total) (ap (shapeFits (a .n) (a .free)) (sym (at .before .before .words-for .ensures)) ∙ holds (at .before .shape-fits .ensures) (at .if2 .left))
+    head-uncounted (a .n) (a .free) (a .c) (a .total)
+    (ap (shapeFits (a .n) (a .free)) (sym (at .before .before .words-for .ensures))
+    ∙ holds (at .before .shape-fits .ensures) (at .if2 .left))
     (fails (c .before .sheets-fit .ensures) (c .if3 .taken))
 
 frames-for-requires : tie.Need-frames-for-requires
@@ -42,7 +46,9 @@ returns-4 : tie.Need-returns-4
 returns-4 c =
     let at = c .before .before .before in
     let a = at .before .before .before .before .args in
-    head-by-total (a .n) (a .free) (a .c) (a .total) (ap (shapeFits (a .n) (a .free)) (sym (at .before .before .words-for .ensures)) ∙ holds (at .before .shape-fits .ensures) (at .if2 .left))
+    head-by-total (a .n) (a .free) (a .c) (a .total)
+    (ap (shapeFits (a .n) (a .free)) (sym (at .before .before .words-for .ensures))
+    ∙ holds (at .before .shape-fits .ensures) (at .if2 .left))
     (holds (c .before .before .sheets-fit .ensures) (c .before .if3 .left)) _ (c .frames-for .ensures)
 
 pub head-fits-spec : {M : Type 1} → statement M

@@ -18,7 +18,8 @@ words-for-requires-2 : tie.Need-words-for-requires-2
 words-for-requires-2 c κs = search needs
 
 returns-3 : tie.Need-returns-3
-returns-3 c = load-by-scratch _ _ _ _ _ _ (c .before .before .before .words-for .ensures) (c .before .before .if1 .left) (c .before .if2 .left) _ (c .words-for2 .ensures)
+returns-3 c = load-by-scratch _ _ _ _ _ _ (c .before .before .before .words-for .ensures) (c .before .before .if1 .left)
+    (c .before .if2 .left) _ (c .words-for2 .ensures)
 
 pub load-fits-spec : {M : Type 1} → statement M
 load-fits-spec =

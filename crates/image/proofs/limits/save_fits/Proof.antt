@@ -16,10 +16,12 @@ sheets-fit-requires : tie.Need-sheets-fit-requires
 sheets-fit-requires c κs = search needs
 
 returns-2 : tie.Need-returns-2
-returns-2 c = save-uncounted _ _ _ _ _ (holds (c .before .before .before .shape-fits .ensures) (c .before .before .if1 .left)) (fails (c .before .sheets-fit .ensures) (c .if2 .taken))
+returns-2 c = save-uncounted _ _ _ _ _ (holds (c .before .before .before .shape-fits .ensures) (c .before .before .if1 .left))
+    (fails (c .before .sheets-fit .ensures) (c .if2 .taken))
 
 returns-3 : tie.Need-returns-3
-returns-3 c = save-by-scratch _ _ _ _ _ (holds (c .before .before .before .shape-fits .ensures) (c .before .before .if1 .left)) (holds (c .before .sheets-fit .ensures) (c .if2 .left))
+returns-3 c = save-by-scratch _ _ _ _ _ (holds (c .before .before .before .shape-fits .ensures) (c .before .before .if1 .left))
+    (holds (c .before .sheets-fit .ensures) (c .if2 .left))
 
 pub save-fits-spec : {M : Type 1} → statement M
 save-fits-spec =

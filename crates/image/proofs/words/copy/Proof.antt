@@ -39,8 +39,12 @@ loop-less c = search needs
 
 loop-again : tie.Need-loop-again Inv-loop μ-loop
 loop-again c =
-    let at = c .before .before in
-    (search needs, rw (at .loop .inv .1) (copy-more (at .loop .i) (at .before .args .to .now) (at .before .args .from .now) (omega arith) (omega arith)), search needs)
+    let at = c .before .before in (
+      search needs,
+      rw (at .loop .inv .1) (copy-more (at .loop .i) (at .before .args .to .now) (at .before .args .from .now) (omega arith)
+          (omega arith)),
+      search needs,
+    )
 
 same-length : tie.Need-same-length Inv-loop μ-loop
 same-length c = search needs

@@ -21,14 +21,16 @@ use Rattle.map_blocks.proofs.run.all_marked.Statement.{statement}
 use Rattle.map_blocks.proofs.run.all_marked.Tie as tie
 
 -- the state of a word's blocks, by its bits
-shown : (map : List ℕ) (state : Bool) (base w : ℕ) → base % 64 ≡ 0 → ((j : ℕ) → j < 64 → bit w j ≡ cond state (bit (getD map (base / 64) 0) j) (not (bit (getD map (base / 64) 0) j)))
+shown : (map : List ℕ) (state : Bool) (base w : ℕ) → base % 64 ≡ 0
+    → ((j : ℕ) → j < 64 → bit w j ≡ cond state (bit (getD map (base / 64) 0) j) (not (bit (getD map (base / 64) 0) j)))
     → (j : ℕ) → j < 64 → bit w j ≡ inState map state (base + j)
 shown map state base w z says j l =
     let e : base / 64 * 64 + j ≡ base + j = omega arith in
     says j l ∙ ap (λ (x : Bool). cond state x (not x)) (sym (free-bit map (base / 64) j l) ∙ ap (free map) e)
 
 abbrev Inv-loop : tie.InvT-loop
-Inv-loop map start k state end base₀ base = (base % 64 ≡ 0) × (start < base + 64) × ((t : ℕ) → start ≤ t → t < base → t < start + k → inState map state t ≡ true)
+Inv-loop map start k state end base₀ base = (base % 64 ≡ 0) × (start < base + 64)
+    × ((t : ℕ) → start ≤ t → t < base → t < start + k → inState map state t ≡ true)
 
 abbrev μ-loop : tie.MeasureT-loop
 μ-loop map start k state end base₀ base = end - base
@@ -65,8 +67,10 @@ returns c =
     let at = c .before .before .before .before .before .before in
     let a = at .before .before .args in
     let state = c .before .before .before .in-state in
-    sym (fails (inState (now (a .map)) (a .state)) (a .start) (a .start + a .k) (at .loop .base) (state .result) (c .before .before .part .result)
-    (c .before .before .part .ensures) (shown (now (a .map)) (a .state) (at .loop .base) (state .result) (omega arith) (state .ensures))
+    sym (fails (inState (now (a .map)) (a .state)) (a .start) (a .start + a .k) (at .loop .base) (state .result)
+    (c .before .before .part .result)
+    (c .before .before .part .ensures) (shown (now (a .map)) (a .state) (at .loop .base) (state .result) (omega arith)
+    (state .ensures))
     (a .k) refl (sym (c .before .has-all .ensures) ∙ not-true (c .before .has-all .result) (c .if1 .taken)))
 
 add-base : tie.Need-add-base Inv-loop μ-loop
@@ -85,9 +89,12 @@ loop-again c =
       λ t l u v.
           ⊎-elim (λ b. at .loop .inv .2 t l b v)
           (λ g.
-          holds (inState (now (a .map)) (a .state)) (a .start) (a .start + a .k) (at .loop .base) (state .result) (c .before .before .part .result)
-          (c .before .before .part .ensures) (shown (now (a .map)) (a .state) (at .loop .base) (state .result) (omega arith) (state .ensures))
-          (sym (c .before .has-all .ensures) ∙ not-false (c .before .has-all .result) (c .if1 .left)) t g u l v) (order t (at .loop .base)),
+          holds (inState (now (a .map)) (a .state)) (a .start) (a .start + a .k) (at .loop .base) (state .result)
+          (c .before .before .part .result)
+          (c .before .before .part .ensures) (shown (now (a .map)) (a .state) (at .loop .base) (state .result) (omega arith)
+          (state .ensures))
+          (sym (c .before .has-all .ensures) ∙ not-false (c .before .has-all .result) (c .if1 .left)) t g u l v)
+          (order t (at .loop .base)),
     )
 
 returns-2 : tie.Need-returns-2 Inv-loop μ-loop

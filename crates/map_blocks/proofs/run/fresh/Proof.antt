@@ -19,7 +19,8 @@ Inv-loop map₀ n i₀ map i = (i ≤ length map₀) × Rewritten (λ b. ltb b n
 abbrev μ-loop : tie.MeasureT-loop
 μ-loop map₀ n i₀ map i = length map₀ - i
 
-whole : (n : ℕ) (old : List ℕ) (i : ℕ) (map : List ℕ) → length old ≤ i → Rewritten (λ b. ltb b n) old (i * 64) map → map ≡ freshMap n (length old)
+whole : (n : ℕ) (old : List ℕ) (i : ℕ) (map : List ℕ) → length old ≤ i → Rewritten (λ b. ltb b n) old (i * 64) map
+    → map ≡ freshMap n (length old)
 unfolding freshMap
 whole n old i map h m = finish (λ b. ltb b n) old (i * 64) map m (λ b l u. absurd (omega arith))
 
@@ -56,7 +57,8 @@ loop-again c =
     let long : length (loop .map) ≡ length (now (a .map)) = loop .inv .1 .long in (
       omega arith,
       subst (λ (b : ℕ). Rewritten (λ t. ltb t (a .n)) (now (a .map)) b (set (loop .map) i (c .fresh-word .result))) e
-          (turn (λ t. ltb t (a .n)) (now (a .map)) i (loop .map) (c .fresh-word .result) (loop .inv .1) (omega arith) (omega arith) (c .fresh-word .ensures)),
+          (turn (λ t. ltb t (a .n)) (now (a .map)) i (loop .map) (c .fresh-word .result) (loop .inv .1) (omega arith)
+          (omega arith) (c .fresh-word .ensures)),
     )
 
 same-length : tie.Need-same-length Inv-loop μ-loop

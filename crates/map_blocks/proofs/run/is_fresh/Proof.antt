@@ -49,8 +49,11 @@ loop-less c = search needs
 loop-again : tie.Need-loop-again Inv-loop μ-loop
 loop-again c =
     let at = c .before .before .before .before in
-    let a = at .before .before .args in
-    (omega arith, passed-more (now (a .map)) (a .n) (at .loop .i) _ (c .before .fresh-word .ensures) (at .loop .inv .1) (c .if1 .left))
+    let a = at .before .before .args in (
+      omega arith,
+      passed-more (now (a .map)) (a .n) (at .loop .i) _ (c .before .fresh-word .ensures) (at .loop .inv .1)
+          (c .if1 .left),
+    )
 
 returns-2 : tie.Need-returns-2 Inv-loop μ-loop
 returns-2 c = passed-end _ _ (c .before .loop .i) (omega arith) (c .before .loop .inv .1)

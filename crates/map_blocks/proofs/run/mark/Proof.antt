@@ -1,4 +1,5 @@
--- `map_blocks::run::mark` meets its contract. The loop's invariant is `Rewritten`: the words passed are those of the marked map.
+-- `map_blocks::run::mark` meets its contract. The loop's invariant is `Rewritten`: the words passed are those of the marked
+-- map.
 -- Assumes nothing.
 use mathlib.Core.Path.{_≡_, sym, ap, ap₂, _∙_, subst}
 use mathlib.Core.Logic.{inl, inr}
@@ -23,24 +24,29 @@ abbrev goal : List ℕ → ℕ → ℕ → Bool → ℕ → Bool
 goal map start k to b = cond (inRun start k b) to (free map b)
 
 -- one word, with the run's part in it marked
-word : (old : List ℕ) (start k : ℕ) (to : Bool) (base : ℕ) (map : List ℕ) (v m : ℕ) → base % 64 ≡ 0 → Rewritten (goal old start k to) old base map → base / 64 < length map → v < 2 ^ 64
+word : (old : List ℕ) (start k : ℕ) (to : Bool) (base : ℕ) (map : List ℕ) (v m : ℕ) → base % 64 ≡ 0
+    → Rewritten (goal old start k to) old base map → base / 64 < length map → v < 2 ^ 64
     → ((j : ℕ) → j < 64 → bit m j ≡ (leb start (base + j) && ltb (base + j) (start + k)))
     → ((j : ℕ) → j < 64 → bit v j ≡ cond (bit m j) to (bit (getD map (base / 64) 0) j))
     → Rewritten (goal old start k to) old (base + 64) (set map (base / 64) v)
 word old start k to base map v m z at u small mask says =
     let e : base / 64 * 64 ≡ base = omega arith in
     subst (λ (x : ℕ). Rewritten (goal old start k to) old (x + 64) (set map (base / 64) v)) e
-    (turn (goal old start k to) old (base / 64) map v (subst (λ (x : ℕ). Rewritten (goal old start k to) old x map) (sym e) at) u small
+    (turn (goal old start k to) old (base / 64) map v
+    (subst (λ (x : ℕ). Rewritten (goal old start k to) old x map) (sym e) at) u small
     (λ j l. let q : base + j ≡ base / 64 * 64 + j = omega arith in
     says j l ∙ ap₂ (λ (x y : Bool). cond x to y) (mask j l ∙ ap (inRun start k) q)
     (sym (free-bit map (base / 64) j l) ∙ at .left (base / 64 * 64 + j) (omega arith))))
 
-all-done : (old : List ℕ) (start k : ℕ) (to : Bool) (base : ℕ) (map : List ℕ) → start + k ≤ base → Rewritten (goal old start k to) old base map → map ≡ marked old start k to
+all-done : (old : List ℕ) (start k : ℕ) (to : Bool) (base : ℕ) (map : List ℕ) → start + k ≤ base
+    → Rewritten (goal old start k to) old base map → map ≡ marked old start k to
 unfolding marked
-all-done old start k to base map h at = finish (goal old start k to) old base map at (λ b l u. outside start k b to (free old b) (inr (omega arith)))
+all-done old start k to base map h at = finish (goal old start k to) old base map at
+    (λ b l u. outside start k b to (free old b) (inr (omega arith)))
 
 abbrev Inv-loop : tie.InvT-loop
-Inv-loop map₀ start k to end base₀ map base = (base % 64 ≡ 0) × (start < base + 64) × Rewritten (goal map₀ start k to) map₀ base map
+Inv-loop map₀ start k to end base₀ map base = (base % 64 ≡ 0) × (start < base + 64)
+    × Rewritten (goal map₀ start k to) map₀ base map
 
 abbrev μ-loop : tie.MeasureT-loop
 μ-loop map₀ start k to end base₀ map base = end - base
@@ -52,7 +58,12 @@ mul-base : tie.Need-mul-base Inv-loop μ-loop
 mul-base c = search needs
 
 loop-holds : tie.Need-loop-holds Inv-loop μ-loop
-loop-holds c = (omega arith, omega arith, begin _ _ _ (λ i l. omega (arith, c .slice-known .given i)) (λ b l. outside _ _ b _ _ (inl (omega arith))))
+loop-holds c = (
+  omega arith,
+  omega arith,
+  begin _ _ _ (λ i l. omega (arith, c .slice-known .given i))
+      (λ b l. outside _ _ b _ _ (inl (omega arith))),
+)
 
 cast-i : tie.Need-cast-i Inv-loop μ-loop
 cast-i c = search needs
@@ -90,7 +101,8 @@ loop-again c =
     let long : length map ≡ length (now (a .map)) = at .loop .inv .2 .long in (
       omega arith,
       omega arith,
-      word (now (a .map)) (a .start) (a .k) (a .to) base map (c .set-bits .result) (c .before .part .result) (omega arith) (at .loop .inv .2) (omega arith) (omega arith)
+      word (now (a .map)) (a .start) (a .k) (a .to) base map (c .set-bits .result) (c .before .part .result) (omega arith)
+          (at .loop .inv .2) (omega arith) (omega arith)
           (c .before .part .ensures) (c .set-bits .ensures),
     )
 

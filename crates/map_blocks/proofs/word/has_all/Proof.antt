@@ -25,8 +25,10 @@ kept false false h = refl
 masked : (w m : ℕ) → w < 2 ^ 64 → m < 2 ^ 64 → eqb (bitAnd w m) m ≡ hasAll w m
 masked w m a b =
     both-ways (eqb (bitAnd w m) m) (hasAll w m)
-    (λ e. has-all-intro w m (λ j l. held (bit w j) (bit m j) (sym (bit-and w m j) ∙ ap (λ (x : ℕ). bit x j) (eqb-true (bitAnd w m) m e))))
-    (λ e. eq-eqb (bitAnd w m) m (word-ext (bitAnd w m) m (and-lt 64 w m a b) b (λ j l. bit-and w m j ∙ kept (bit w j) (bit m j) (has-all-elim w m e j l))))
+    (λ e. has-all-intro w m (λ j l. held (bit w j) (bit m j)
+    (sym (bit-and w m j) ∙ ap (λ (x : ℕ). bit x j) (eqb-true (bitAnd w m) m e))))
+    (λ e. eq-eqb (bitAnd w m) m (word-ext (bitAnd w m) m (and-lt 64 w m a b) b
+    (λ j l. bit-and w m j ∙ kept (bit w j) (bit m j) (has-all-elim w m e j l))))
 
 returns : tie.Need-returns
 returns c = masked (c .args .w) (c .args .m) (c .fits .w .fits) (c .fits .m .fits)

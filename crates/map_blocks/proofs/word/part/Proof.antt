@@ -25,7 +25,8 @@ span-requires c κs = search needs
 returns : tie.Need-returns
 returns c = λ j l.
     let a = c .before .before .before .args in
-    c .span .ensures j l ∙ ap₂ (λ (x y : ℕ). leb x j && ltb j y) (c .before .before .beyond .ensures) (c .before .smaller .ensures)
+    c .span .ensures j l ∙ ap₂ (λ (x y : ℕ). leb x j && ltb j y) (c .before .before .beyond .ensures)
+    (c .before .smaller .ensures)
     ∙ in-word (a .lo) (a .hi) (a .base) j l (omega arith)
 
 pub part-spec : {M : Type 1} → statement M

@@ -30,7 +30,8 @@ returns-2 : tie.Need-returns-2
 returns-2 c = λ j l.
     let w : ℕ = c .before .args .w in
     let m : ℕ = c .before .args .m in
-    bit-and w ((2 ^ 64 - 1) - m) j ∙ ap (λ (t : Bool). bit w j && t) (bit-not m j (c .before .fits .m .fits) l) ∙ set-zero (bit w j) (bit m j)
+    bit-and w ((2 ^ 64 - 1) - m) j ∙ ap (λ (t : Bool). bit w j && t) (bit-not m j (c .before .fits .m .fits) l)
+    ∙ set-zero (bit w j) (bit m j)
     ∙ ap (λ (t : Bool). cond (bit m j) t (bit w j)) (sym (c .if1 .left))
 
 pub set-bits-spec : {M : Type 1} → statement M

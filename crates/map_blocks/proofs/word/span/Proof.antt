@@ -15,12 +15,14 @@ use Rattle.map_blocks.proofs.Bits.{bit-and, bit-shl, bit-past, bit-ones
 use Rattle.map_blocks.proofs.word.span.Statement.{statement}
 use Rattle.map_blocks.proofs.word.span.Tie as tie
 
-masks : (lo hi j : ℕ) → lo < 64 → 0 < hi → hi ≤ 64 → j < 64 → bit (bitAnd ((2 ^ 64 - 1) / 2 ^ lo) (((2 ^ 64 - 1) * 2 ^ (64 - hi)) % 2 ^ 64)) j ≡ (leb lo j && ltb j hi)
+masks : (lo hi j : ℕ) → lo < 64 → 0 < hi → hi ≤ 64 → j < 64
+    → bit (bitAnd ((2 ^ 64 - 1) / 2 ^ lo) (((2 ^ 64 - 1) * 2 ^ (64 - hi)) % 2 ^ 64)) j ≡ (leb lo j && ltb j hi)
 masks lo hi j a b c l =
     bit-and ((2 ^ 64 - 1) / 2 ^ lo) (((2 ^ 64 - 1) * 2 ^ (64 - hi)) % 2 ^ 64) j
     ∙ ap₂ _&&_ (ones-shr lo j (omega arith) l)
     (bit-shl (2 ^ 64 - 1) (64 - hi) j
-    ∙ ⊎-elim (λ u. bit-ones (64 - hi + j) (omega arith) ∙ sym (lt-ltb j hi u)) (λ g. bit-past (2 ^ 64 - 1) (64 - hi + j) (omega arith) ∙ sym (le-ltb j hi g)) (order j hi))
+    ∙ ⊎-elim (λ u. bit-ones (64 - hi + j) (omega arith) ∙ sym (lt-ltb j hi u))
+    (λ g. bit-past (2 ^ 64 - 1) (64 - hi + j) (omega arith) ∙ sym (le-ltb j hi g)) (order j hi))
 
 shr-result : tie.Need-shr-result
 shr-result c = search needs

@@ -14,7 +14,8 @@ returns : tie.Need-returns
 returns c =
     let a = c .before .args in
     -- no run of more than 64 is in a word
-    λ j. bit-zero j ∙ sym (all-break (bit (a .w)) j (a .k) (j + 64) (omega arith) (omega arith) (bit-past (a .w) (j + 64) (omega arith)))
+    λ j. bit-zero j
+    ∙ sym (all-break (bit (a .w)) j (a .k) (j + 64) (omega arith) (omega arith) (bit-past (a .w) (j + 64) (omega arith)))
 
 rounds-requires : tie.Need-rounds-requires
 rounds-requires c κs = search needs

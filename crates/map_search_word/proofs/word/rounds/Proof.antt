@@ -1,4 +1,5 @@
--- `map_search_word::word::rounds` meets its contract. The loop's invariant: bit j of g says that the `done` bits from j on are 1.
+-- `map_search_word::word::rounds` meets its contract. The loop's invariant: bit j of g says that the `done` bits from j on are
+-- 1.
 -- Assumes nothing.
 use mathlib.Core.Path.{_≡_, sym, ap, _∙_}
 use Prim.Native.Nat.{ℕ, _≤_, _<_, _-_}
@@ -47,7 +48,8 @@ loop-less : tie.Need-loop-less Inv-loop μ-loop
 loop-less c = search needs
 
 loop-again : tie.Need-loop-again Inv-loop μ-loop
-loop-again c = (omega arith, omega arith, λ w says. round w _ _ _ (omega arith) (c .before .before .before .loop .inv .2 w says))
+loop-again c =
+    (omega arith, omega arith, λ w says. round w _ _ _ (omega arith) (c .before .before .before .loop .inv .2 w says))
 
 returns-2 : tie.Need-returns-2 Inv-loop μ-loop
 returns-2 c =

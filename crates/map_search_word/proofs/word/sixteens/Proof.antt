@@ -12,7 +12,8 @@ use Rattle.map_search_word.proofs.word.sixteens.Tie as tie
 returns : tie.Need-returns
 returns c =
     let w : ℕ = c .args .w in
-    round w _ 8 8 (omega arith) (round w _ 4 4 (omega arith) (round w _ 2 2 (omega arith) (round w w 1 1 (omega arith) (λ j. sym (all-one (bit w) j)))))
+    round w _ 8 8 (omega arith) (round w _ 4 4 (omega arith)
+    (round w _ 2 2 (omega arith) (round w w 1 1 (omega arith) (λ j. sym (all-one (bit w) j)))))
 
 pub sixteens-spec : {M : Type 1} → statement M
 sixteens-spec = tie.close (tie.spec returns)
