@@ -1,14 +1,15 @@
 /*
  * A course of treatment, from an empty card on: the first page of the library's manual.
  *
- * The program keeps a card of 8 blocks and 4 sheets. After every call it prints what the call answered, and on the right
- * which sheet holds each block of the card ('.' is free). Three things are to be seen in that column and in the answers,
+ * The program keeps a card of 8 blocks and 4 sheets. After every call it prints which sheet holds each block of the
+ * card ('.' is free), and what the call answered. Three things are to be seen in that column and in the answers,
  * whatever is called: a sheet with a blank place is neither completed, shown nor taken for a pause; each block has one
  * sheet at most; and a reserve is told that the card is full only when no run of free blocks is long enough.
  *
- *     examples/run        builds it, and compares what it prints with course.txt
+ *     examples/run        builds it, prints what it prints, and compares that with course.txt
  */
 #include "pagunlit.h"
+#include "pagunlit_text.h"
 
 #include <stdio.h>
 #include <string.h>
@@ -39,21 +40,7 @@ static char holder(uint32_t b)
     return c;
 }
 
-static const char *meaning(pagunlit_outcome outcome)
-{
-    static char text[40];
-
-    switch (outcome.number) {
-    case 0: return "done";
-    case 7: return "refused, 7: the sheet is open";
-    case 9: snprintf(text, sizeof text, "refused, 9: place %u is blank", outcome.first); return text;
-    case 10: return "refused, 10: no run is long enough";
-    case 13: return "refused, 13: the image is damaged";
-    default: snprintf(text, sizeof text, "refused, %u", outcome.number); return text;
-    }
-}
-
-/* Prints a line, and keeps the shape for the next call. */
+/* Prints a line: the call, the card's blocks, and what the call answered. Keeps the shape for the next call. */
 static void told(const char *call, pagunlit_outcome outcome)
 {
     char blocks[BLOCKS + 1] = {0};
@@ -61,7 +48,13 @@ static void told(const char *call, pagunlit_outcome outcome)
     shape = outcome.shape;
     for (uint32_t b = 0; b < BLOCKS; b++)
         blocks[b] = holder(b);
-    printf("  %-26s %-36s %s\n", call, meaning(outcome), blocks);
+    printf("  %-26s %s  ", call, blocks);
+    if (outcome.number != PAGUNLIT_DONE)
+        printf("refused, %u: ", outcome.number);
+    printf("%s", pagunlit_meaning(outcome.number));
+    if (outcome.number == PAGUNLIT_PLACE_BLANK)
+        printf(" (place %u)", outcome.first);
+    putchar('\n');
 }
 
 /* The calls, each lent what it needs. */
@@ -123,7 +116,7 @@ static void show(uint32_t sheet, uint32_t place)
 
     snprintf(call, sizeof call, "show sheet %u, place %u", sheet, place);
     told(call, outcome);
-    if (outcome.number == 0)
+    if (outcome.number == PAGUNLIT_DONE)
         printf("      \"%s\"\n", (const char *)buffer);
 }
 
@@ -132,8 +125,14 @@ static void save(void)
     told("save", pagunlit_save(shape, map, WORDS, catalogue, SHEETS, scratch, WORDS, image, sizeof image));
 }
 
+/* The head of an image says how long a map and a catalogue it needs. This program has room for one card. */
 static void load(void)
 {
+    uint32_t blocks = pagunlit_image_blocks(image, sizeof image), sheets = pagunlit_image_sheets(image, sizeof image);
+
+    printf("      the image is of %u blocks and %u sheets\n", blocks, sheets);
+    if (blocks != BLOCKS || sheets != SHEETS)
+        return;
     told("load", pagunlit_load(shape, image, sizeof image, map, WORDS, catalogue, SHEETS, scratch, WORDS));
 }
 

@@ -3,37 +3,29 @@
  * A card is `blocks` blocks of 512 bytes. A map keeps which of them are free, one bit to a block. A catalogue keeps what
  * stands for each sheet: Absent, Paused, Open or Complete, and the run of blocks that it holds.
  *
+ * Build and link. `rt staticlib pagunlit` proves the library and writes target/staticlib/libpagunlit.a, for x86-64 Linux;
+ *
+ *     gcc -std=c99 -Iinclude program.c target/staticlib/libpagunlit.a -o program
+ *
+ * compiles a program against it. `tools/install PREFIX` copies this header, pagunlit_text.h and the archive, with a file for
+ * pkg-config. The library allocates nothing, opens nothing and keeps nothing. Of the C library it needs memset alone. A survey
+ * takes up to 1,168 bytes of stack, any other call 256 at most. docs/C.md has more on all of this.
+ *
+ * Global names: all begin with pagunlit_ or PAGUNLIT_, but for the functions `seal` and `check`, which the dispenser's program
+ * calls by these names. A program that links the library can have no other global function of these two names.
+ *
  * The caller owns all memory. Each call is lent what it needs: a pointer and the number of elements behind it (words of a
  * map, entries of a catalogue, bytes of a card). A length is no more than the memory behind its pointer. A pointer is not
  * NULL and is aligned for its type, even where its length is 0. No two slices of one call may overlap, unless both are
  * const. Nothing is kept from one call to the next: the shape that a call hands back goes into the next call, with the same
  * map, catalogue and card. So calls may be made from any thread, as long as no other writes to what is lent meanwhile.
  *
- * Every call may be made with any numbers and any contents. It gives back a pagunlit_outcome:
+ * Every call may be made with any numbers and any contents. It gives back a pagunlit_outcome. Number 0 is done; first, second
+ * and third have then the values that the call answers, 0 where there are none. Any other number is a refusal: the shape
+ * comes back as it was, nothing that was lent is changed but a scratch, and the values are 0, but for the place with 9.
  *
- *   number 0    done; first, second and third have the values that the call answers, 0 where there are none
- *   number 1    the blocks (of the shape; for fresh, the argument) are not 1 to 262144, or the sheets not 1 to 1024; the
- *               free count is above the blocks; or a map, a card, a scratch (for load also the catalogue) has the wrong
- *               length
- *   number 2    there is no such sheet in the catalogue
- *   number 3    a count of 0; a place that the sheet does not have; a payload or a buffer that is not 496 bytes long
- *   number 4    damage: an entry that cannot be, a block that is not sound, a free count that contradicts the call;
- *               save: the state is not sound
- *   number 5    the sheet is Absent, and the call does not admit that
- *   number 6    it is Paused
- *   number 7    it is Open
- *   number 8    it is Complete
- *   number 9    complete: a place is blank, and first has one
- *   number 10   search and reserve: no run of free blocks is long enough
- *   number 11   grow: the next blocks are not all free, or go past the card's last
- *   number 12   save: the buffer is not exactly as long as the image; load: not 1 to 91 whole blocks
- *   number 13   load: a frame's number, total or check is wrong
- *   number 14   load: the contents cannot be
- *
- * A number that is not 0 is a refusal: the shape comes back as it was, nothing that was lent is changed but a scratch, and
- * the values are 0, but for the place with 9.
- * If several hold, the answer is the first in the order 1, 2, 4 for the entry, 5 to 8, 3, 4 for blocks, 9, 10 or 11, 4 for
- * the count; save goes by 1, 4, 12, and load by 12, 13, 14 for the head, 1, 14 for the rest.
+ * Each function below lists its numbers in their order: if several hold, the answer is the first of them. A number that is
+ * not listed is never given.
  */
 #ifndef PAGUNLIT_H
 #define PAGUNLIT_H
@@ -45,6 +37,10 @@
 extern "C" {
 #endif
 
+/* The version of this header, 10000 * first + 100 * second + third, and as a text. */
+#define PAGUNLIT_VERSION 10000
+#define PAGUNLIT_VERSION_TEXT "1.0.0"
+
 enum {
     PAGUNLIT_BLOCK = 512,       /* bytes of a block */
     PAGUNLIT_PAYLOAD = 496,     /* bytes of a payload */
@@ -52,8 +48,24 @@ enum {
     PAGUNLIT_SHEETS = 1024      /* most sheets of a catalogue */
 };
 
-/* Words of the map of a card of n blocks. Block b is bit 63 - b % 64 of word b / 64; 1 is free. */
-#define PAGUNLIT_MAP_WORDS(n) (((size_t)(n) + 63) / 64)
+/* The numbers that a call gives. pagunlit_text.h has their meanings as texts, docs/NUMBERS.md causes and remedies. */
+enum {
+    PAGUNLIT_DONE = 0,
+    PAGUNLIT_WRONG_SIZE = 1,     /* blocks, sheets or free count out of limits; a map, card or scratch of the wrong length */
+    PAGUNLIT_NO_SHEET = 2,       /* there is no such sheet in the catalogue */
+    PAGUNLIT_WRONG_ARGUMENT = 3, /* a count of 0; a place that the sheet does not have; a payload, block or buffer length */
+    PAGUNLIT_DAMAGED = 4,        /* an entry that cannot be, a block that is not sound, a free count that contradicts */
+    PAGUNLIT_IS_ABSENT = 5,      /* the sheet is Absent, and the call does not admit that */
+    PAGUNLIT_IS_PAUSED = 6,      /* it is Paused */
+    PAGUNLIT_IS_OPEN = 7,        /* it is Open */
+    PAGUNLIT_IS_COMPLETE = 8,    /* it is Complete */
+    PAGUNLIT_PLACE_BLANK = 9,    /* complete: a place is blank */
+    PAGUNLIT_NO_FIT = 10,        /* search and reserve: no run of free blocks is long enough */
+    PAGUNLIT_CANNOT_GROW = 11,   /* grow: the next blocks are not all free and on the card */
+    PAGUNLIT_IMAGE_LENGTH = 12,  /* save and load: the image's length */
+    PAGUNLIT_IMAGE_FRAME = 13,   /* load: a frame's number, total or check */
+    PAGUNLIT_IMAGE_CONTENT = 14  /* load: the contents cannot be */
+};
 
 /* Marks of an entry. */
 enum {
@@ -62,6 +74,12 @@ enum {
     PAGUNLIT_OPEN = 0x4F,
     PAGUNLIT_COMPLETE = 0x43
 };
+
+/* Words of the map of a card of n blocks. Block b is bit 63 - b % 64 of word b / 64; 1 is free. */
+#define PAGUNLIT_MAP_WORDS(n) (((size_t)(n) + 63) / 64)
+
+/* Bytes of the image of a card of n blocks and c sheets, for n and c within their limits. */
+#define PAGUNLIT_IMAGE_BYTES(n, c) ((12 + 12 * (size_t)(c) + 8 * PAGUNLIT_MAP_WORDS(n) + 495) / 496 * 512)
 
 /* The shape of a card: how many blocks it has, and how many of them are free. */
 typedef struct {
@@ -80,69 +98,117 @@ typedef struct {
     uint32_t number, first, second, third;
 } pagunlit_outcome;
 
-/* Makes a card of `blocks` blocks: all free, all sheets Absent. It reads nothing of the shape, and needs no card. */
+/* Makes a card of `blocks` blocks: all free, all sheets Absent. It reads nothing of the shape, and needs no card.
+ *   1   blocks is not 1 to 262144, cataloguelen not 1 to 1024, or maplen not PAGUNLIT_MAP_WORDS(blocks) */
 pagunlit_outcome pagunlit_fresh(pagunlit_shape shape, uint32_t blocks, uint64_t *map, size_t maplen,
                                 pagunlit_entry *catalogue, size_t cataloguelen);
 
-/* first: the lowest start of a run of k free blocks. */
+/* What the functions below mean by "as above":
+ *   1   the shape's blocks are not 1 to 262144, or its free count is above them; maplen is not PAGUNLIT_MAP_WORDS of them;
+ *       and of a call that is lent them: cataloguelen is not 1 to 1024, cardlen not PAGUNLIT_BLOCK times the blocks,
+ *       scratchlen not maplen
+ *   2   sheet is not below cataloguelen
+ *   4   the sheet's entry is damaged: its mark is none of the four; or it is Absent or Paused and has a start or a length; or
+ *       it is Open or Complete and has length 0, goes past the card's last block, or has a block that is free in the map */
+
+/* The lowest run of k free blocks. first: its start.
+ *   1   as above     3   k is 0     10   no run of free blocks is long enough */
 pagunlit_outcome pagunlit_search(pagunlit_shape shape, const uint64_t *map, size_t maplen, uint32_t k);
 
-/* first, second, third: the free blocks, the separate runs of them, and the longest run. */
+/* first, second, third: the free blocks, the separate runs of them, and the longest run, as the map has them.
+ *   1   as above */
 pagunlit_outcome pagunlit_survey(pagunlit_shape shape, const uint64_t *map, size_t maplen);
 
-/* An Absent sheet becomes Open with `count` blank places, at the lowest run that is long enough. first: its start. */
+/* An Absent sheet becomes Open with `count` blank places, at the lowest run that is long enough. Its blocks are filled with
+ * zeros. first: its start.
+ *   1, 2, 4   as above
+ *   6, 7, 8   the sheet is Paused, Open, Complete
+ *   3         count is 0
+ *   10        no run of free blocks is long enough
+ *   4         count is more than the shape's free count, though there is a run */
 pagunlit_outcome pagunlit_reserve(pagunlit_shape shape, uint64_t *map, size_t maplen, pagunlit_entry *catalogue,
                                   size_t cataloguelen, uint8_t *card, size_t cardlen, uint32_t sheet, uint32_t count);
 
-/* An Open sheet gets `count` more blank places, in the blocks after its own. */
+/* An Open sheet gets `count` more blank places, in the blocks after its own, which are filled with zeros.
+ *   1, 2, 4   as above
+ *   5, 6, 8   the sheet is Absent, Paused, Complete
+ *   3         count is 0
+ *   11        the next blocks are not all free, or go past the card's last
+ *   4         count is more than the shape's free count, though they are free */
 pagunlit_outcome pagunlit_grow(pagunlit_shape shape, uint64_t *map, size_t maplen, pagunlit_entry *catalogue,
                                size_t cataloguelen, uint8_t *card, size_t cardlen, uint32_t sheet, uint32_t count);
 
-/* Puts a payload of 496 bytes to a place of an Open sheet. */
+/* Puts a payload of 496 bytes to a place of an Open sheet, whether it is blank or not.
+ *   1, 2, 4   as above
+ *   5, 6, 8   the sheet is Absent, Paused, Complete
+ *   3         place is not below the sheet's length, or payloadlen is not 496 */
 pagunlit_outcome pagunlit_put(pagunlit_shape shape, const uint64_t *map, size_t maplen, const pagunlit_entry *catalogue,
                               size_t cataloguelen, uint8_t *card, size_t cardlen, uint32_t sheet, uint32_t place,
                               const uint8_t *payload, size_t payloadlen);
 
-/* An Open sheet becomes Complete, if none of its places is blank. With number 9, first is a blank place. */
+/* An Open sheet becomes Complete, if none of its places is blank.
+ *   1, 2, 4   as above
+ *   5, 6, 8   the sheet is Absent, Paused, Complete
+ *   4         a block of the sheet is neither blank (all zeros) nor sound: it carries another sheet or place, or its check
+ *             does not hold
+ *   9         a place is blank, and first is one such place */
 pagunlit_outcome pagunlit_complete(pagunlit_shape shape, const uint64_t *map, size_t maplen, pagunlit_entry *catalogue,
                                    size_t cataloguelen, const uint8_t *card, size_t cardlen, uint32_t sheet);
 
-/* An Absent sheet becomes Paused. */
+/* An Absent sheet becomes Paused.
+ *   1, 2, 4   as above
+ *   6, 7, 8   the sheet is Paused, Open, Complete */
 pagunlit_outcome pagunlit_pause(pagunlit_shape shape, const uint64_t *map, size_t maplen, pagunlit_entry *catalogue,
                                 size_t cataloguelen, uint32_t sheet);
 
-/* A sheet that is not Absent becomes Absent, and its blocks free. The card's bytes stay. */
+/* A sheet that is not Absent becomes Absent, and its blocks free. The card's bytes stay.
+ *   1, 2, 4   as above
+ *   5         the sheet is Absent
+ *   4         the free count with the sheet's blocks would be above the shape's blocks */
 pagunlit_outcome pagunlit_release(pagunlit_shape shape, uint64_t *map, size_t maplen, pagunlit_entry *catalogue,
                                   size_t cataloguelen, uint32_t sheet);
 
-/* first, second, third: the sheet's mark, start and length. */
+/* first, second, third: the sheet's mark, start and length.
+ *   1, 2, 4   as above */
 pagunlit_outcome pagunlit_standing(pagunlit_shape shape, const uint64_t *map, size_t maplen,
                                    const pagunlit_entry *catalogue, size_t cataloguelen, uint32_t sheet);
 
-/* Copies the payload of a place of a Complete sheet to the buffer, of 496 bytes. */
+/* Copies the payload of a place of a Complete sheet to the buffer, of 496 bytes.
+ *   1, 2, 4   as above
+ *   5, 6, 7   the sheet is Absent, Paused, Open
+ *   3         place is not below the sheet's length, or bufferlen is not 496
+ *   4         the block of this place is not sound: it carries another sheet or place, or its check does not hold */
 pagunlit_outcome pagunlit_show(pagunlit_shape shape, const uint64_t *map, size_t maplen, const pagunlit_entry *catalogue,
                                size_t cataloguelen, const uint8_t *card, size_t cardlen, uint32_t sheet, uint32_t place,
                                uint8_t *buffer, size_t bufferlen);
 
-/* Bytes of the image of a card of n blocks and c sheets, for n and c within their limits. */
-#define PAGUNLIT_IMAGE_BYTES(n, c) ((12 + 12 * (size_t)(c) + 8 * PAGUNLIT_MAP_WORDS(n) + 495) / 496 * 512)
-
 /* Saves shape, map and catalogue as an image, of exactly PAGUNLIT_IMAGE_BYTES. The scratch has as many words as the map,
- * and is all zeros afterwards, whatever the answer. The card's blocks are no part of the image. */
+ * and is all zeros afterwards, whatever the answer. The card's blocks are no part of the image.
+ *   1   as above
+ *   4   the state is not sound: an entry cannot be, two sheets share a block, a block is free and held or neither, a bit of
+ *       the map is 1 behind the last block, or the free count is not the number of free blocks
+ *   12  imagelen is not PAGUNLIT_IMAGE_BYTES(blocks, cataloguelen) */
 pagunlit_outcome pagunlit_save(pagunlit_shape shape, const uint64_t *map, size_t maplen, const pagunlit_entry *catalogue,
                                size_t cataloguelen, uint64_t *scratch, size_t scratchlen, uint8_t *image,
                                size_t imagelen);
 
-/* Reads an image into a map and a catalogue of the lengths that it asks for, and hands back its shape. The image's blocks
- * stand in its bytes 8 to 11 and its sheets in bytes 16 to 19, the high byte first. Nothing is written but the scratch, which is all zeros afterwards, unless all of the image is sound. It reads nothing of the shape. */
+/* Reads an image into a map and a catalogue of the lengths that it asks for (pagunlit_image_blocks and pagunlit_image_sheets
+ * of pagunlit_text.h read them), and hands back its shape. It reads nothing of the shape it takes. Nothing is written but the
+ * scratch, which is all zeros afterwards, unless all of the image is sound.
+ *   12  imagelen is not 1 to 91 whole blocks of 512 bytes
+ *   13  a frame's number, total or check is wrong
+ *   14  the blocks, the sheets or the free count in the image are out of limits, or it is not as long as they ask for
+ *   1   maplen or scratchlen is not PAGUNLIT_MAP_WORDS of the image's blocks, or cataloguelen not its sheets
+ *   14  the state in the image is not sound, or what fills it up is not all zeros */
 pagunlit_outcome pagunlit_load(pagunlit_shape shape, const uint8_t *image, size_t imagelen, uint64_t *map, size_t maplen,
                                pagunlit_entry *catalogue, size_t cataloguelen, uint64_t *scratch, size_t scratchlen);
 
-/* Writes the sealed block of a sheet, a place and a payload. Gives 0, or 3 unless payload has 496 bytes and block 512;
- * with 3 nothing is changed. */
+/* Writes the sealed block of a sheet, a place and a payload, whatever the two numbers are. Gives PAGUNLIT_DONE, or
+ * PAGUNLIT_WRONG_ARGUMENT (3) unless payload has 496 bytes and block 512; then nothing is changed. */
 uint32_t seal(uint32_t sheet, uint32_t place, const uint8_t *payload, size_t payloadlen, uint8_t *block, size_t blocklen);
 
-/* Gives 1 if the check of a block holds, else 0; 3 unless the block has 512 bytes. */
+/* Gives 1 if the check of a block holds (its stored sums are those of its bytes), else 0; PAGUNLIT_WRONG_ARGUMENT (3) unless
+ * the block has 512 bytes. Here 1 and 0 are answers and no refusals. */
 uint32_t check(const uint8_t *block, size_t blocklen);
 
 #ifdef __cplusplus
