@@ -1,0 +1,209 @@
+/* Calls every function through the headers, with arguments that all differ, and prints what came back and what was changed.
+ * tests/header/src/calls.rs works the same calls out by the card of tests/src, bit by bit, and compares line by line. */
+#include "pagunlit.h"
+#include "pagunlit_text.h"
+
+#include <inttypes.h>
+#include <stdio.h>
+#include <string.h>
+
+enum { N = 70, C = 3, W = PAGUNLIT_MAP_WORDS(N), CARD = N * PAGUNLIT_BLOCK, IMAGE = PAGUNLIT_IMAGE_BYTES(N, C) };
+
+static pagunlit_shape shape;
+static uint64_t map[W], scratch[W];
+static pagunlit_entry catalogue[C];
+static uint8_t card[CARD], image[IMAGE], slice[PAGUNLIT_PAYLOAD];
+
+/* A number for a run of bytes (FNV-1a), so that a line stays short. */
+static uint64_t number_of(const void *bytes, size_t length)
+{
+    uint64_t number = 0xcbf29ce484222325;
+
+    for (size_t i = 0; i < length; i++)
+        number = (number ^ ((const uint8_t *)bytes)[i]) * 0x100000001b3;
+    return number;
+}
+
+static void fill(uint8_t *bytes, size_t length, uint32_t seed)
+{
+    for (size_t i = 0; i < length; i++)
+        bytes[i] = (uint8_t)(seed + 7 * i + i / 256);
+}
+
+/* Whatever was there before: nothing of it may be taken for a card. */
+static void disorder(void)
+{
+    shape.blocks = 11;
+    shape.free = 12;
+    for (uint32_t i = 0; i < W; i++) {
+        map[i] = 0x0123456789abcdef + i;
+        scratch[i] = 0xfedcba9876543210 + i;
+    }
+    for (uint32_t s = 0; s < C; s++) {
+        catalogue[s].mark = 3 * s + 1;
+        catalogue[s].start = 3 * s + 2;
+        catalogue[s].length = 3 * s + 3;
+    }
+    fill(slice, sizeof slice, 99);
+}
+
+static void told(const char *call, pagunlit_outcome outcome)
+{
+    printf("%s\tshape %u %u number %u values %u %u %u map", call, outcome.shape.blocks, outcome.shape.free, outcome.number,
+           outcome.first, outcome.second, outcome.third);
+    for (uint32_t i = 0; i < W; i++)
+        printf(" %016" PRIx64, map[i]);
+    printf(" catalogue");
+    for (uint32_t s = 0; s < C; s++)
+        printf(" %u/%u/%u", catalogue[s].mark, catalogue[s].start, catalogue[s].length);
+    printf(" scratch");
+    for (uint32_t i = 0; i < W; i++)
+        printf(" %016" PRIx64, scratch[i]);
+    printf(" card %016" PRIx64 " image %016" PRIx64 " slice %016" PRIx64 "\n", number_of(card, sizeof card),
+           number_of(image, sizeof image), number_of(slice, sizeof slice));
+    shape = outcome.shape;
+}
+
+static void reserve(const char *call, uint32_t sheet, uint32_t count)
+{
+    told(call, pagunlit_reserve(shape, map, W, catalogue, C, card, sizeof card, sheet, count));
+}
+
+static void grow(const char *call, uint32_t sheet, uint32_t count)
+{
+    told(call, pagunlit_grow(shape, map, W, catalogue, C, card, sizeof card, sheet, count));
+}
+
+static void put(const char *call, uint32_t sheet, uint32_t place)
+{
+    fill(slice, sizeof slice, 16 * sheet + place);
+    told(call, pagunlit_put(shape, map, W, catalogue, C, card, sizeof card, sheet, place, slice, sizeof slice));
+}
+
+static void complete(const char *call, uint32_t sheet)
+{
+    told(call, pagunlit_complete(shape, map, W, catalogue, C, card, sizeof card, sheet));
+}
+
+static void show(const char *call, uint32_t sheet, uint32_t place)
+{
+    fill(slice, sizeof slice, 99);
+    told(call, pagunlit_show(shape, map, W, catalogue, C, card, sizeof card, sheet, place, slice, sizeof slice));
+}
+
+static void standing(const char *call, uint32_t sheet)
+{
+    told(call, pagunlit_standing(shape, map, W, catalogue, C, sheet));
+}
+
+static void search(const char *call, uint32_t k)
+{
+    told(call, pagunlit_search(shape, map, W, k));
+}
+
+static void survey(const char *call)
+{
+    told(call, pagunlit_survey(shape, map, W));
+}
+
+static void save(const char *call, size_t length)
+{
+    told(call, pagunlit_save(shape, map, W, catalogue, C, scratch, W, image, length));
+}
+
+static void load(const char *call)
+{
+    told(call, pagunlit_load(shape, image, sizeof image, map, W, catalogue, C, scratch, W));
+}
+
+/* From a fresh card to a saved one. */
+static void course(void)
+{
+    told("fresh 70", pagunlit_fresh(shape, N, map, W, catalogue, C));
+    reserve("reserve 2 3", 2, 3);
+    reserve("reserve 1 5", 1, 5);
+    grow("grow 1 2", 1, 2);
+    search("search 9", 9);
+    survey("survey");
+    put("put 1 6", 1, 6);
+    put("put 2 0", 2, 0);
+    put("put 2 1", 2, 1);
+    complete("complete 2", 2);
+    put("put 2 2", 2, 2);
+    complete("complete 2 again", 2);
+    show("show 2 1", 2, 1);
+    standing("standing 1", 1);
+    standing("standing 2", 2);
+    told("pause 0", pagunlit_pause(shape, map, W, catalogue, C, 0));
+    grow("grow 2 1", 2, 1);
+    told("release 2", pagunlit_release(shape, map, W, catalogue, C, 2));
+    survey("survey again");
+    save("save", sizeof image);
+    printf("head\t%u %u\n", pagunlit_image_blocks(image, sizeof image), pagunlit_image_sheets(image, sizeof image));
+}
+
+/* The other refusals, by a state that is sound. */
+static void refusals(void)
+{
+    search("search 61", 61);
+    search("search 0", 0);
+    standing("standing 3", 3);
+    put("put 0 0", 0, 0);
+    put("put 1 7", 1, 7);
+    complete("complete absent 2", 2);
+    told("pause 1", pagunlit_pause(shape, map, W, catalogue, C, 1));
+    grow("grow 1 61", 1, 61);
+    save("save short", sizeof image - 1);
+}
+
+/* A damaged image, one that asks for no sheets, and the saved one; then an entry that cannot be. */
+static void images(void)
+{
+    uint8_t payload[PAGUNLIT_PAYLOAD];
+
+    disorder();
+    image[100] ^= 1;
+    load("load damaged");
+    image[100] ^= 1;
+    memcpy(payload, image + 8, sizeof payload);
+    payload[11] = 0;
+    printf("seal no sheets\t%u\n", seal(0, 1, payload, sizeof payload, image, sizeof image));
+    load("load no sheets");
+    payload[11] = C;
+    printf("seal sheets\t%u\n", seal(0, 1, payload, sizeof payload, image, sizeof image));
+    load("load");
+    catalogue[1].mark = 0;
+    standing("standing damaged 1", 1);
+    save("save damaged", sizeof image);
+    shape.free = N + 1;
+    survey("survey free above n");
+}
+
+/* Single blocks: a sheet and a place all of whose bytes differ. */
+static void blocks(void)
+{
+    uint8_t block[PAGUNLIT_BLOCK];
+
+    fill(slice, sizeof slice, 77);
+    printf("seal\t%u", seal(0x01020304, 0x05060708, slice, sizeof slice, block, sizeof block));
+    printf(" block %016" PRIx64 "\n", number_of(block, sizeof block));
+    printf("check\t%u\n", check(block, sizeof block));
+    block[300] ^= 64;
+    printf("check damaged\t%u\n", check(block, sizeof block));
+    printf("check short\t%u\n", check(block, sizeof block - 1));
+    printf("seal short payload\t%u\n", seal(1, 2, slice, sizeof slice - 1, block, sizeof block));
+    printf("seal short block\t%u\n", seal(1, 2, slice, sizeof slice, block, sizeof block - 1));
+}
+
+int main(void)
+{
+    fill(card, sizeof card, 5);
+    fill(image, sizeof image, 6);
+    disorder();
+    course();
+    refusals();
+    images();
+    blocks();
+    puts("end");
+    return 0;
+}

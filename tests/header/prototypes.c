@@ -1,0 +1,36 @@
+/* The functions of the library, as document 01 and the signatures of the C library's Rattle source have them: a slice is a
+ * pointer and a length, const where the call only reads it. It is compiled with the headers, so that a prototype with other
+ * types there is a conflict and does not compile; the names of the parameters are compared by tests/header/src/names.rs. */
+#include "pagunlit.h"
+#include "pagunlit_text.h"
+#include "block.h"
+
+#define SHAPE pagunlit_shape shape
+#define MAP uint64_t *map, size_t maplen
+#define CATALOGUE pagunlit_entry *catalogue, size_t cataloguelen
+#define CARD uint8_t *card, size_t cardlen
+#define SCRATCH uint64_t *scratch, size_t scratchlen
+#define IMAGE uint8_t *image, size_t imagelen
+
+pagunlit_outcome pagunlit_fresh(SHAPE, uint32_t blocks, MAP, CATALOGUE);
+pagunlit_outcome pagunlit_search(SHAPE, const MAP, uint32_t k);
+pagunlit_outcome pagunlit_survey(SHAPE, const MAP);
+pagunlit_outcome pagunlit_reserve(SHAPE, MAP, CATALOGUE, CARD, uint32_t sheet, uint32_t count);
+pagunlit_outcome pagunlit_grow(SHAPE, MAP, CATALOGUE, CARD, uint32_t sheet, uint32_t count);
+pagunlit_outcome pagunlit_put(SHAPE, const MAP, const CATALOGUE, CARD, uint32_t sheet, uint32_t place, const uint8_t *payload,
+                              size_t payloadlen);
+pagunlit_outcome pagunlit_complete(SHAPE, const MAP, CATALOGUE, const CARD, uint32_t sheet);
+pagunlit_outcome pagunlit_pause(SHAPE, const MAP, CATALOGUE, uint32_t sheet);
+pagunlit_outcome pagunlit_release(SHAPE, MAP, CATALOGUE, uint32_t sheet);
+pagunlit_outcome pagunlit_standing(SHAPE, const MAP, const CATALOGUE, uint32_t sheet);
+pagunlit_outcome pagunlit_show(SHAPE, const MAP, const CATALOGUE, const CARD, uint32_t sheet, uint32_t place, uint8_t *buffer,
+                               size_t bufferlen);
+pagunlit_outcome pagunlit_save(SHAPE, const MAP, const CATALOGUE, SCRATCH, IMAGE);
+pagunlit_outcome pagunlit_load(SHAPE, const IMAGE, MAP, CATALOGUE, SCRATCH);
+uint32_t seal(uint32_t sheet, uint32_t place, const uint8_t *payload, size_t payloadlen, uint8_t *block, size_t blocklen);
+uint32_t check(const uint8_t *block, size_t blocklen);
+
+static inline const char *pagunlit_meaning(uint32_t number);
+static inline uint32_t pagunlit_image_number(const uint8_t *image, size_t imagelen, size_t at);
+static inline uint32_t pagunlit_image_blocks(const uint8_t *image, size_t imagelen);
+static inline uint32_t pagunlit_image_sheets(const uint8_t *image, size_t imagelen);

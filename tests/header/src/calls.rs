@@ -1,0 +1,228 @@
+//! The calls of calls.c, worked out bit by bit by the card of tests/src.
+
+use bitwise::blocks::{from_words, to_words};
+use bitwise::card::{entry, sealed, Answer, Card};
+use std::fmt::Write;
+
+const N: usize = 70;
+const C: u32 = 3;
+
+/// What calls.c keeps: the card, and the slices that a call may be lent besides.
+struct State {
+    card: Card,
+    scratch: Vec<u64>,
+    image: Vec<u8>,
+    slice: Vec<u8>,
+    lines: Vec<(String, String)>,
+}
+
+/// A number for a run of bytes (FNV-1a).
+fn number_of(bytes: &[u8]) -> u64 {
+    bytes.iter().fold(0xcbf29ce484222325, |number, &byte| {
+        (number ^ byte as u64).wrapping_mul(0x100000001b3)
+    })
+}
+
+fn filled(length: usize, seed: u32) -> Vec<u8> {
+    (0..length)
+        .map(|i| (seed as usize + 7 * i + i / 256) as u8)
+        .collect()
+}
+
+/// The number and the values of an answer (document 01, "What the caller gets instead").
+fn numbers(answer: Result<Answer, Answer>) -> (u32, [usize; 3]) {
+    match answer.unwrap_or_else(|refusal| refusal) {
+        Answer::Done => (0, [0; 3]),
+        Answer::Start(start) => (0, [start, 0, 0]),
+        Answer::Stands(e) => (0, [e.mark, e.start, e.length].map(|number| number as usize)),
+        Answer::Counted(free, runs, longest) => (0, [free, runs, longest]),
+        Answer::Blank(place) => (9, [place, 0, 0]),
+        Answer::Refused(number) => (number, [0; 3]),
+    }
+}
+
+impl State {
+    fn new() -> State {
+        let card = Card {
+            n: 0,
+            free: 0,
+            map: vec![],
+            sheets: vec![],
+            bytes: filled(512 * N, 5),
+        };
+        let mut state = State {
+            card,
+            scratch: vec![],
+            image: filled(512, 6),
+            slice: vec![],
+            lines: vec![],
+        };
+        state.disorder();
+        state
+    }
+
+    fn disorder(&mut self) {
+        (self.card.n, self.card.free) = (11, 12);
+        self.card.map = from_words(&[0x0123456789abcdef, 0x0123456789abcdf0]);
+        self.scratch = vec![0xfedcba9876543210, 0xfedcba9876543211];
+        self.card.sheets = (0..C)
+            .map(|s| entry(3 * s + 1, 3 * s + 2, 3 * s + 3))
+            .collect();
+        self.slice = filled(496, 99);
+    }
+
+    fn line(&mut self, call: &str, value: String) {
+        self.lines.push((call.to_string(), value));
+    }
+
+    fn told(&mut self, call: &str, answer: Result<Answer, Answer>) {
+        let (number, [first, second, third]) = numbers(answer);
+        let card = &self.card;
+        let mut line = format!("shape {} {} number {number}", card.n, card.free);
+        write!(line, " values {first} {second} {third} map").unwrap();
+        let words = |words: &[u64]| {
+            words
+                .iter()
+                .map(|word| format!(" {word:016x}"))
+                .collect::<String>()
+        };
+        line += &words(&to_words(&card.map));
+        line += " catalogue";
+        for e in &card.sheets {
+            write!(line, " {}/{}/{}", e.mark, e.start, e.length).unwrap();
+        }
+        line += " scratch";
+        line += &words(&self.scratch);
+        let slices = [&card.bytes, &self.image, &self.slice].map(|slice| number_of(slice));
+        write!(
+            line,
+            " card {:016x} image {:016x} slice {:016x}",
+            slices[0], slices[1], slices[2]
+        )
+        .unwrap();
+        self.line(call, line);
+    }
+
+    fn put(&mut self, call: &str, sheet: u32, place: u32) {
+        self.slice = filled(496, 16 * sheet + place);
+        let answer = self.card.put(sheet, place, &self.slice);
+        self.told(call, answer);
+    }
+
+    fn show(&mut self, call: &str, sheet: u32, place: u32) {
+        self.slice = filled(496, 99);
+        let answer = self.card.show(sheet, place, &mut self.slice);
+        self.told(call, answer);
+    }
+
+    /// The first `length` bytes of the image are lent.
+    fn save(&mut self, call: &str, length: usize) {
+        let answer = self.card.save(&mut self.scratch, &mut self.image[..length]);
+        self.told(call, answer);
+    }
+
+    fn load(&mut self, call: &str) {
+        let answer = self.card.load(&self.image, &mut self.scratch);
+        self.told(call, answer);
+    }
+
+    /// A call that changes the card, or asks it.
+    fn call(&mut self, call: &str, answer: fn(&mut Card) -> Result<Answer, Answer>) {
+        let answer = answer(&mut self.card);
+        self.told(call, answer);
+    }
+
+    fn course(&mut self) {
+        self.call("fresh 70", |card| card.fresh(N));
+        self.call("reserve 2 3", |card| card.reserve(2, 3));
+        self.call("reserve 1 5", |card| card.reserve(1, 5));
+        self.call("grow 1 2", |card| card.grow(1, 2));
+        self.call("search 9", |card| card.search(9));
+        self.call("survey", |card| card.survey());
+        self.put("put 1 6", 1, 6);
+        self.put("put 2 0", 2, 0);
+        self.put("put 2 1", 2, 1);
+        self.call("complete 2", |card| card.complete(2));
+        self.put("put 2 2", 2, 2);
+        self.call("complete 2 again", |card| card.complete(2));
+        self.show("show 2 1", 2, 1);
+        self.call("standing 1", |card| card.standing(1));
+        self.call("standing 2", |card| card.standing(2));
+        self.call("pause 0", |card| card.pause(0));
+        self.call("grow 2 1", |card| card.grow(2, 1));
+        self.call("release 2", |card| card.release(2));
+        self.call("survey again", |card| card.survey());
+        self.save("save", 512);
+        self.line("head", format!("{N} {C}"));
+    }
+
+    fn refusals(&mut self) {
+        self.call("search 61", |card| card.search(61));
+        self.call("search 0", |card| card.search(0));
+        self.call("standing 3", |card| card.standing(3));
+        self.put("put 0 0", 0, 0);
+        self.put("put 1 7", 1, 7);
+        self.call("complete absent 2", |card| card.complete(2));
+        self.call("pause 1", |card| card.pause(1));
+        self.call("grow 1 61", |card| card.grow(1, 61));
+        self.save("save short", 511);
+    }
+
+    fn images(&mut self) {
+        self.disorder();
+        self.image[100] ^= 1;
+        self.load("load damaged");
+        self.image[100] ^= 1;
+        let mut payload = self.image[8..504].to_vec();
+        payload[11] = 0;
+        self.image = sealed(0, 1, &payload);
+        self.line("seal no sheets", "0".to_string());
+        self.load("load no sheets");
+        payload[11] = C as u8;
+        self.image = sealed(0, 1, &payload);
+        self.line("seal sheets", "0".to_string());
+        self.load("load");
+        self.card.sheets[1].mark = 0;
+        self.call("standing damaged 1", |card| card.standing(1));
+        self.save("save damaged", 512);
+        self.card.free = N + 1;
+        self.call("survey free above n", |card| card.survey());
+    }
+
+    fn blocks(&mut self) {
+        let block = sealed(0x01020304, 0x05060708, &filled(496, 77));
+        self.line("seal", format!("0 block {:016x}", number_of(&block)));
+        for (call, answer) in [
+            ("check", 1),
+            ("check damaged", 0),
+            ("check short", 3),
+            ("seal short payload", 3),
+            ("seal short block", 3),
+        ] {
+            self.line(call, answer.to_string());
+        }
+    }
+}
+
+/// What is wrong in what calls.c printed, and how many lines were compared.
+pub fn compare(printed: &str) -> (Vec<String>, usize) {
+    let mut state = State::new();
+    state.course();
+    state.refusals();
+    state.images();
+    state.blocks();
+    state.line("end", String::new());
+    let mut lines = printed.lines();
+    let mut wrong = Vec::new();
+    for (call, expected) in &state.lines {
+        let line = lines.next().unwrap_or("");
+        let (name, value) = line.split_once('\t').unwrap_or((line, ""));
+        if (name, value) != (call.as_str(), expected.as_str()) {
+            wrong.push(format!(
+                "the call `{call}`\n    gave through the header  {name}: {value}\n    and by document 01       {call}: {expected}"
+            ));
+        }
+    }
+    wrong.extend(lines.map(|line| format!("calls.c printed more: {line}")));
+    (wrong, state.lines.len())
+}

@@ -1,0 +1,286 @@
+//! The figures of document 01 that the headers have to have: constants, structs, macros, texts, the head of an image. Nothing
+//! is read from the headers.
+
+use std::collections::HashMap;
+
+/// Blocks, payloads and limits ("Shape, catalogue, blocks"), marks in hex, and what seal and check give.
+const CONSTANTS: [(&str, u64); 14] = [
+    ("PAGUNLIT_BLOCK", 512),
+    ("PAGUNLIT_PAYLOAD", 496),
+    ("PAGUNLIT_BLOCKS", 262_144),
+    ("PAGUNLIT_SHEETS", 1_024),
+    ("PAGUNLIT_ABSENT", 0x41),
+    ("PAGUNLIT_PAUSED", 0x50),
+    ("PAGUNLIT_OPEN", 0x4f),
+    ("PAGUNLIT_COMPLETE", 0x43),
+    ("BLOCK_SIZE", 512),
+    ("PAYLOAD_SIZE", 496),
+    ("BLOCK_SEALED", 0),
+    ("BLOCK_DAMAGED", 0),
+    ("BLOCK_HOLDS", 1),
+    ("BLOCK_WRONG_LENGTH", 3),
+];
+
+/// The rows of "What the caller gets instead", with the name that a C program has for each. Number 0 is "done".
+const NUMBERS: [(&str, &str); 15] = [
+    ("PAGUNLIT_DONE", "done"),
+    (
+        "PAGUNLIT_WRONG_SIZE",
+        "n or c is outside its limits; free count above n; a lent map, card or scratch (on load also the catalogue) has the \
+         wrong length",
+    ),
+    ("PAGUNLIT_NO_SHEET", "sheet number >= c"),
+    (
+        "PAGUNLIT_WRONG_ARGUMENT",
+        "k or m is 0; place >= length; a payload, block or show buffer has the wrong length",
+    ),
+    (
+        "PAGUNLIT_DAMAGED",
+        "entry damaged; block not sound; free count contradicts the call; state not sound when saved",
+    ),
+    (
+        "PAGUNLIT_IS_ABSENT",
+        "sheet is Absent and the call doesn't admit that",
+    ),
+    (
+        "PAGUNLIT_IS_PAUSED",
+        "sheet is Paused and the call doesn't admit that",
+    ),
+    (
+        "PAGUNLIT_IS_OPEN",
+        "sheet is Open and the call doesn't admit that",
+    ),
+    (
+        "PAGUNLIT_IS_COMPLETE",
+        "sheet is Complete and the call doesn't admit that",
+    ),
+    ("PAGUNLIT_PLACE_BLANK", "complete: some place is blank"),
+    ("PAGUNLIT_NO_FIT", "search or reserve: no fit"),
+    (
+        "PAGUNLIT_CANNOT_GROW",
+        "grow: the m next blocks are not all free and inside n",
+    ),
+    ("PAGUNLIT_IMAGE_LENGTH", "image length"),
+    ("PAGUNLIT_IMAGE_FRAME", "image frame"),
+    ("PAGUNLIT_IMAGE_CONTENT", "image content"),
+];
+
+/// What has no figure in document 01: the version, which has to say the same as a number and as a text.
+const VERSION: [&str; 2] = ["PAGUNLIT_VERSION", "PAGUNLIT_VERSION_TEXT"];
+
+/// The shape is n and the free count, an entry a mark, a start and a length, 32 bits each.
+const STRUCTS: [(&str, &[&str]); 3] = [
+    ("pagunlit_shape", &["blocks", "free"]),
+    ("pagunlit_entry", &["mark", "start", "length"]),
+    (
+        "pagunlit_outcome",
+        &["shape", "number", "first", "second", "third"],
+    ),
+];
+
+/// The names that the headers may have besides functions and types.
+pub fn names() -> Vec<&'static str> {
+    let constants = CONSTANTS.iter().map(|(name, _)| *name);
+    let numbers = NUMBERS.iter().map(|(name, _)| *name);
+    let macros = ["PAGUNLIT_MAP_WORDS", "PAGUNLIT_IMAGE_BYTES"];
+    constants
+        .chain(numbers)
+        .chain(VERSION)
+        .chain(macros)
+        .collect()
+}
+
+/// w = n/64 rounded up, by counting words until they hold n blocks.
+fn words(n: u64) -> u64 {
+    let mut w = n / 64;
+    while 64 * w < n {
+        w += 1;
+    }
+    w
+}
+
+/// The image's blocks of 512 bytes, each with 496 of the body: n, free count, c, c entries of 12 bytes, w words of 8.
+fn image_bytes(n: u64, c: u64) -> u64 {
+    let body = 4 + 4 + 4 + 12 * c + 8 * words(n);
+    let mut blocks = body / 496;
+    while 496 * blocks < body {
+        blocks += 1;
+    }
+    512 * blocks
+}
+
+/// The bytes of the image that figures.c reads.
+fn head_byte(i: usize) -> u8 {
+    251u8.wrapping_sub((3 * i) as u8)
+}
+
+/// The number in four bytes of that image, the high byte first; 0 if it is shorter than a block or they lie behind it.
+fn head_number(length: usize, at: usize) -> u64 {
+    if length < 512 || at + 4 > 512 {
+        return 0;
+    }
+    (at..at + 4).fold(0, |number, i| 256 * number + head_byte(i) as u64)
+}
+
+fn lines_of_constants() -> Vec<(String, String)> {
+    let plain = CONSTANTS
+        .iter()
+        .map(|(name, value)| (name.to_string(), value.to_string()));
+    let numbers = NUMBERS
+        .iter()
+        .enumerate()
+        .map(|(number, (name, _))| (name.to_string(), number.to_string()));
+    let others = (0..40).chain([u32::MAX as usize]).map(|number| {
+        let text = NUMBERS.get(number).map(|(_, text)| *text);
+        (
+            format!("meaning {number}"),
+            text.unwrap_or("no number of this library").to_string(),
+        )
+    });
+    plain.chain(numbers).chain(others).collect()
+}
+
+fn lines_of_structs() -> Vec<(String, String)> {
+    let mut lines = Vec::new();
+    for (name, fields) in STRUCTS {
+        let mut offset = 0;
+        for field in fields {
+            let (size, kind) = match *field {
+                "shape" => (8, "pagunlit_shape"),
+                _ => (4, "uint32_t"),
+            };
+            lines.push((
+                format!("{name}.{field}"),
+                format!("offset {offset} size {size} type {kind}"),
+            ));
+            offset += size;
+        }
+        lines.push((name.to_string(), format!("size {offset} align 4")));
+    }
+    lines
+}
+
+fn lines_of_macros() -> Vec<(String, String)> {
+    let n_of_words = (0..=5000).chain(262_144 - 5000..=262_145);
+    let word = |n: u64| (format!("PAGUNLIT_MAP_WORDS({n})"), words(n).to_string());
+    let image = |n: u64, c: u64| {
+        (
+            format!("PAGUNLIT_IMAGE_BYTES({n},{c})"),
+            image_bytes(n, c).to_string(),
+        )
+    };
+    let mut lines: Vec<_> = n_of_words.chain([u32::MAX as u64]).map(word).collect();
+    for n in 0..=5000 {
+        lines.extend((0..=1024).step_by(32).map(|c| image(n, c)));
+    }
+    for c in 0..=1024 {
+        lines.extend((0..=80).map(|w| image(64 * w, c)));
+        lines.extend([image(262_143, c), image(262_144, c)]);
+    }
+    lines.extend((0..=4096).map(|w| image(64 * w, 1)));
+    lines.push(image(262_144, u32::MAX as u64));
+    lines
+}
+
+fn lines_of_expressions() -> Vec<(String, String)> {
+    let line = |what: &str, value: u64| (what.to_string(), value.to_string());
+    let size = |what: &str| (format!("type {what}"), "size_t".to_string());
+    vec![
+        size("PAGUNLIT_MAP_WORDS"),
+        size("PAGUNLIT_IMAGE_BYTES"),
+        line("inside PAGUNLIT_MAP_WORDS(1|64)", words(65)),
+        line(
+            "inside PAGUNLIT_IMAGE_BYTES(1|4096,1)",
+            image_bytes(4097, 1),
+        ),
+        line(
+            "inside PAGUNLIT_IMAGE_BYTES(64,1|128)",
+            image_bytes(64, 129),
+        ),
+        line("outside 128/PAGUNLIT_MAP_WORDS(65)", 128 / words(65)),
+        line(
+            "outside 4096/PAGUNLIT_IMAGE_BYTES(64,100)",
+            4096 / image_bytes(64, 100),
+        ),
+    ]
+}
+
+fn lines_of_heads() -> Vec<(String, String)> {
+    let mut lines = Vec::new();
+    for length in [0, 1, 11, 12, 19, 20, 496, 511, 512, 513, 1024, 46592] {
+        for (name, at) in [("pagunlit_image_blocks", 8), ("pagunlit_image_sheets", 16)] {
+            lines.push((
+                format!("{name}({length})"),
+                head_number(length, at).to_string(),
+            ));
+        }
+    }
+    for at in 0..=520 {
+        lines.push((
+            format!("pagunlit_image_number(512,{at})"),
+            head_number(512, at).to_string(),
+        ));
+    }
+    lines
+}
+
+fn expected() -> Vec<(String, String)> {
+    [
+        lines_of_constants(),
+        lines_of_structs(),
+        lines_of_macros(),
+        lines_of_expressions(),
+        lines_of_heads(),
+    ]
+    .concat()
+}
+
+/// The version's number and text say the same: 10000 * first + 100 * second + third.
+fn same_version(number: &str, text: &str) -> bool {
+    let parts: Vec<u32> = text
+        .split('.')
+        .filter_map(|part| part.parse().ok())
+        .collect();
+    match parts[..] {
+        [a, b, c] => b < 100 && c < 100 && number == (10000 * a + 100 * b + c).to_string(),
+        _ => false,
+    }
+}
+
+/// What is wrong in what figures.c printed, and how many figures were compared.
+pub fn compare(printed: &str) -> (Vec<String>, usize) {
+    let mut found: HashMap<&str, &str> = HashMap::new();
+    let mut wrong = Vec::new();
+    for line in printed.lines() {
+        let (name, value) = line.split_once('\t').unwrap_or((line, ""));
+        if found.insert(name, value).is_some_and(|was| was != value) {
+            wrong.push(format!("two figures were printed for {name}"));
+        }
+    }
+    if found.remove("end").is_none() {
+        wrong.push("figures.c did not come to its end".to_string());
+    }
+    let [number, text] = VERSION.map(|name| found.remove(name).unwrap_or("nothing"));
+    if !same_version(number, text) {
+        wrong.push(format!(
+            "PAGUNLIT_VERSION is {number}, and PAGUNLIT_VERSION_TEXT {text}"
+        ));
+    }
+    let expected: HashMap<String, String> = expected().into_iter().collect();
+    for (name, value) in &expected {
+        match found.remove(name.as_str()) {
+            Some(printed) if printed == value => {}
+            Some(printed) => wrong.push(format!("{name} is {printed}, and by document 01 {value}")),
+            None => wrong.push(format!(
+                "{name} was not printed; by document 01 it is {value}"
+            )),
+        }
+    }
+    wrong.extend(
+        found.iter().map(|(name, value)| {
+            format!("{name} is {value}, and document 01 has no figure for it")
+        }),
+    );
+    wrong.sort_by_key(|line| (line.contains('('), line.clone()));
+    (wrong, expected.len())
+}

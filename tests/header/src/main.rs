@@ -1,0 +1,40 @@
+//! Holds the headers of include/, and calls that C makes through them, to document 01. tests/header/run runs it:
+//!
+//!     header names FOLDER      what the headers of the folder declare
+//!     header figures           the figures that figures.c printed, on standard input
+//!     header calls             what calls.c printed, on standard input
+//!     header symbols           what the archive has and needs, as `nm` prints it, on standard input
+
+mod calls;
+mod figures;
+mod names;
+mod symbols;
+
+/// A wrong figure makes many wrong lines: the first of them say enough.
+const SHOWN: usize = 12;
+
+fn main() {
+    let words: Vec<String> = std::env::args().skip(1).collect();
+    let words: Vec<&str> = words.iter().map(|word| word.as_str()).collect();
+    let input = || std::io::read_to_string(std::io::stdin()).expect("standard input is text");
+    let (what, (wrong, count)) = match words[..] {
+        ["names", folder] => ("functions of the headers", names::compare(folder)),
+        ["figures"] => ("figures of the headers", figures::compare(&input())),
+        ["calls"] => ("calls through the headers", refusals::compare(&input())),
+        ["symbols"] => ("symbols of the archive", symbols::compare(&input())),
+        _ => {
+            eprintln!("usage: header names FOLDER | figures | calls | symbols");
+            std::process::exit(2);
+        }
+    };
+    for line in wrong.iter().take(SHOWN) {
+        eprintln!("header: {line}");
+    }
+    if wrong.len() > SHOWN {
+        eprintln!("header: and {} more", wrong.len() - SHOWN);
+    }
+    if !wrong.is_empty() {
+        std::process::exit(1);
+    }
+    println!("{count} {what} are as document 01 has them");
+}

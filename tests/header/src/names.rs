@@ -1,0 +1,184 @@
+//! What the headers declare: every function with the names of its parameters in their order, and no constant or macro that
+//! has no figure. The compiler compares types alone (tests/header/prototypes.c), so two numbers that trade places, as a sheet
+//! and a place, are only seen by their names.
+
+use crate::figures;
+use std::collections::BTreeMap;
+
+/// The functions of each header, as document 01 and the signatures of the Rattle source have them.
+const HEADERS: [(&str, &[(&str, &str)]); 3] = [
+    (
+        "pagunlit.h",
+        &[
+            ("pagunlit_fresh", "shape blocks map.. catalogue.."),
+            ("pagunlit_search", "shape map.. k"),
+            ("pagunlit_survey", "shape map.."),
+            (
+                "pagunlit_reserve",
+                "shape map.. catalogue.. card.. sheet count",
+            ),
+            (
+                "pagunlit_grow",
+                "shape map.. catalogue.. card.. sheet count",
+            ),
+            (
+                "pagunlit_put",
+                "shape map.. catalogue.. card.. sheet place payload..",
+            ),
+            ("pagunlit_complete", "shape map.. catalogue.. card.. sheet"),
+            ("pagunlit_pause", "shape map.. catalogue.. sheet"),
+            ("pagunlit_release", "shape map.. catalogue.. sheet"),
+            ("pagunlit_standing", "shape map.. catalogue.. sheet"),
+            (
+                "pagunlit_show",
+                "shape map.. catalogue.. card.. sheet place buffer..",
+            ),
+            ("pagunlit_save", "shape map.. catalogue.. scratch.. image.."),
+            ("pagunlit_load", "shape image.. map.. catalogue.. scratch.."),
+            ("seal", "sheet place payload.. block.."),
+            ("check", "block.."),
+        ],
+    ),
+    (
+        "pagunlit_text.h",
+        &[
+            ("pagunlit_meaning", "number"),
+            ("pagunlit_image_number", "image.. at"),
+            ("pagunlit_image_blocks", "image.."),
+            ("pagunlit_image_sheets", "image.."),
+        ],
+    ),
+    (
+        "block.h",
+        &[
+            (
+                "seal",
+                "sheet place payload payload_length block block_length",
+            ),
+            ("check", "block block_length"),
+        ],
+    ),
+];
+
+/// The parameters in full: a slice is a pointer and its length.
+fn in_full(parameters: &str) -> Vec<String> {
+    parameters
+        .split(' ')
+        .flat_map(|name| match name.strip_suffix("..") {
+            Some(slice) => vec![slice.to_string(), format!("{slice}len")],
+            None => vec![name.to_string()],
+        })
+        .collect()
+}
+
+/// The text without its comments.
+fn without_comments(text: &str) -> String {
+    let mut parts = text.split("/*");
+    let first = parts.next().unwrap_or("").to_string();
+    parts.fold(first, |kept, part| {
+        kept + " " + part.split_once("*/").map_or("", |(_, rest)| rest)
+    })
+}
+
+fn is_name(c: char) -> bool {
+    c.is_ascii_alphanumeric() || c == '_'
+}
+
+fn last_name(text: &str) -> &str {
+    let text = text.trim_end();
+    &text[text.rfind(|c| !is_name(c)).map_or(0, |at| at + 1)..]
+}
+
+/// The functions that a header declares or defines, outside of all braces, with the names of their parameters.
+fn functions(code: &str) -> BTreeMap<String, Vec<String>> {
+    let code: String = code
+        .lines()
+        .filter(|line| !line.trim_start().starts_with('#'))
+        .map(|line| format!("{line}\n"))
+        .collect();
+    let code = code.replace("extern \"C\" {", "");
+    let (mut depth, mut outside) = (0, String::new());
+    for c in code.chars() {
+        depth += (c == '{') as i32;
+        if depth <= 0 {
+            outside.push(c);
+        } else if c == '}' {
+            depth -= 1;
+            outside.push(';');
+        }
+    }
+    let mut found = BTreeMap::new();
+    for declaration in outside.split(';') {
+        let Some((head, parameters)) = declaration.split_once('(') else {
+            continue;
+        };
+        let names = parameters.trim_end().trim_end_matches(')').split(',');
+        found.insert(
+            last_name(head).to_string(),
+            names.map(|name| last_name(name).to_string()).collect(),
+        );
+    }
+    found
+}
+
+/// The names in capitals that a header defines: enum constants, and macros but for the one that guards it.
+fn constants<'a>(code: &'a str, header: &str) -> Vec<&'a str> {
+    let guard = header.to_uppercase().replace('.', "_");
+    code.split(|c| !is_name(c))
+        .filter(|name| {
+            ["PAGUNLIT_", "BLOCK_", "PAYLOAD_"]
+                .iter()
+                .any(|p| name.starts_with(p))
+        })
+        .filter(|name| *name != guard)
+        .collect()
+}
+
+fn compare_header(header: &str, text: &str, expected: &[(&str, &str)], wrong: &mut Vec<String>) {
+    let code = without_comments(text);
+    let mut found = functions(&code);
+    for (name, parameters) in expected {
+        let parameters = in_full(parameters);
+        match found.remove(*name) {
+            None => wrong.push(format!("include/{header} does not declare {name}")),
+            Some(names) if names == parameters => {}
+            Some(names) => wrong.push(format!(
+                "include/{header}: {name} has the parameters {}, and should have {}",
+                names.join(", "),
+                parameters.join(", ")
+            )),
+        }
+    }
+    wrong.extend(
+        found.keys().map(|name| {
+            format!("include/{header} declares {name}, which tests/header does not know")
+        }),
+    );
+    let figures = figures::names();
+    for name in constants(&code, header) {
+        if !figures.contains(&name) && !wrong.iter().any(|line| line.ends_with(name)) {
+            wrong.push(format!(
+                "include/{header} has a name without a figure in tests/header: {name}"
+            ));
+        }
+    }
+}
+
+/// What is wrong in the headers of a folder, and how many functions were compared.
+pub fn compare(folder: &str) -> (Vec<String>, usize) {
+    let mut wrong = Vec::new();
+    let mut count = 0;
+    for (header, expected) in HEADERS {
+        match std::fs::read_to_string(format!("{folder}/{header}")) {
+            Ok(text) => compare_header(header, &text, expected, &mut wrong),
+            Err(error) => wrong.push(format!("include/{header}: {error}")),
+        }
+        count += expected.len();
+    }
+    (wrong, count)
+}
+
+/// The functions that the library exports.
+pub fn exported() -> Vec<&'static str> {
+    HEADERS[0].1.iter().map(|(name, _)| *name).collect()
+}

@@ -1,0 +1,84 @@
+"""How deep each call's stack goes at most, read from the machine code of an archive, and held to the figures of docs/C.md.
+
+    stack.py ARCHIVE C.md        ARCHIVE is target/staticlib/libpagunlit.a
+
+A function takes 8 bytes for the address that it returns to, 8 for each push, what it subtracts from the stack pointer, and then
+what the deepest function that it calls takes, or 128 bytes if it uses what lies below the stack pointer. Every push and every
+subtraction is counted, whichever way the code goes, so no call with any arguments goes deeper. Of a function of the C library
+only the address that it returns to is counted. The figure of a call in docs/C.md may be larger than what is read here, but not
+smaller."""
+import re
+import subprocess
+import sys
+
+BELOW = 128
+
+
+def functions(archive):
+    """For each function of the archive its instructions, and the names that it calls or jumps to."""
+    text = subprocess.run(['objdump', '-dr', '--no-show-raw-insn', archive], check=True, capture_output=True, text=True).stdout
+    found, last = {}, ''
+    for line in text.splitlines():
+        head = re.fullmatch(r'[0-9a-f]+ <(.+)>:', line)
+        relocation = re.search(r'R_X86_64_(?:PLT32|PC32)\s+(\S+?)-0x', line)
+        instruction = re.match(r'\s*[0-9a-f]+:\t(.+)', line)
+        if head:
+            code, calls = found.setdefault(head[1], ([], set()))
+        elif relocation and last.split()[0] in ('call', 'jmp'):
+            calls.add(relocation[1].removeprefix('.text.'))
+        elif instruction and not relocation:
+            last = instruction[1]
+            code.append(last)
+    return found
+
+
+def own_depth(name, code):
+    """What a function takes itself: the bytes above the functions that it calls, and those below its stack pointer."""
+    depth = 8
+    for instruction in code:
+        operation, _, operands = instruction.partition(' ')
+        operands = operands.strip()
+        if operation == 'push':
+            depth += 8
+        elif operation == 'sub' and operands.endswith(',%rsp'):
+            depth += int(re.fullmatch(r'\$(0x[0-9a-f]+),%rsp', operands)[1], 16)
+        elif operation == 'and' and operands.endswith(',%rsp') or re.match(r'call\s+\*', instruction):
+            sys.exit(f'stack.py: FAILED: {name} has "{instruction}", which this program cannot follow')
+    return depth, BELOW if any(re.search(r'-0x[0-9a-f]+\(%rsp', i) for i in code) else 0
+
+
+def deepest(name, found, above=()):
+    if name in above:
+        sys.exit(f'stack.py: FAILED: {name} calls itself: how often it can stand on the stack has to be said in this program')
+    if name not in found:
+        return 8
+    code, calls = found[name]
+    depth, below = own_depth(name, code)
+    return depth + max([below] + [deepest(callee, found, (*above, name)) for callee in calls])
+
+
+def said(page):
+    """The figures of the page: lines `| name | bytes |`."""
+    with open(page, encoding='utf-8') as file:
+        rows = re.findall(r'^\| `(\w+)` \| ([0-9,]+) \|$', file.read(), re.M)
+    return {name: int(figure.replace(',', '')) for name, figure in rows}
+
+
+def main():
+    if len(sys.argv) != 3:
+        sys.exit(__doc__)
+    found, figures = functions(sys.argv[1]), said(sys.argv[2])
+    depths = {name: deepest(name, found) for name in found if re.fullmatch(r'\w+', name)}
+    if not depths:
+        sys.exit(f'stack.py: FAILED: {sys.argv[1]} has no functions')
+    wrong = [f'{n} takes up to {d} bytes of stack, and docs/C.md says {figures.get(n, "nothing")}'
+             for n, d in depths.items() if d > figures.get(n, -1)]
+    wrong += [f'docs/C.md has a figure for {n}, which the archive does not have' for n in figures if n not in depths]
+    for line in wrong:
+        print(f'stack.py: {line}', file=sys.stderr)
+    if wrong:
+        sys.exit('stack.py: FAILED: docs/C.md, "Stack", does not hold (see above)')
+    print('stack: ' + ', '.join(f'{name} {depth}' for name, depth in sorted(depths.items())))
+
+
+main()
