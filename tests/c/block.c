@@ -56,7 +56,8 @@ static void figures(void)
     uint8_t payload[PAYLOAD_SIZE] = {0}, block[BLOCK_SIZE];
 
     for (uint32_t sheet = 0; sheet < 2; sheet++) {
-        expect(seal(sheet, 0, payload, sizeof payload, block, sizeof block) == BLOCK_SEALED, "a zero payload was not sealed", sheet);
+        expect(seal(sheet, 0, payload, sizeof payload, block, sizeof block) == BLOCK_SEALED, "a zero payload was not sealed",
+               sheet);
         expect(number_at(block + 504) == A[sheet], "A of a zero payload", sheet);
         expect(number_at(block + 508) == B[sheet], "B of a zero payload", sheet);
     }

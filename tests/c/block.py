@@ -34,7 +34,8 @@ def main():
             at = next(k for k in range(512) if block[k] != expected[k])
             sys.exit(f"block.py: block {i} differs at byte {at}: {block[at]}, by zlib {expected[at]}")
         if answers != (0, 1, check(damaged)):
-            sys.exit(f"block.py: block {i}: seal, check and check after damage answered {answers}, by zlib {(0, 1, check(damaged))}")
+            wanted = (0, 1, check(damaged))
+            sys.exit(f"block.py: block {i}: seal, check and check after damage answered {answers}, by zlib {wanted}")
         holding += answers[2]
     if not 0 < holding < BLOCKS:
         sys.exit(f"block.py: {holding} of {BLOCKS} blocks hold after the damage: the test tests nothing")

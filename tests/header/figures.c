@@ -1,6 +1,6 @@
-/* Hands over what the headers say: every constant, the size of every struct with the offset, size and type of every field, the
- * macros for many n and c, the texts of the numbers, and what is read from an image's head. A line has a name, a tab and a value;
- * tests/header/src/figures.rs compares each with its own figures. */
+/* Hands over what the headers say: every constant, the size of every struct with the offset, size and type of every field,
+ * the macros for many n and c, the texts of the numbers, and what is read from an image's head. A line has a name, a tab and
+ * a value; tests/header/src/figures.rs compares each with its own figures. */
 #include "pagunlit.h"
 #include "pagunlit_text.h"
 #include "block.h"
