@@ -1,12 +1,12 @@
-"""How deep each call's stack goes at most, read from the machine code of an archive, and held to the figures of docs/C.md.
+"""How deep each call's stack goes at most, read from the machine code of an archive, and held to the figures of docs/C.md and
+of the line "Stack:" of include/pagunlit.h.
 
-    stack.py ARCHIVE C.md        ARCHIVE is target/staticlib/libpagunlit.a
+    stack.py ARCHIVE C.md HEADER        ARCHIVE is target/staticlib/libpagunlit.a
 
 A function takes 8 bytes for the address that it returns to, 8 for each push, what it subtracts from the stack pointer, and then
 what the deepest function that it calls takes, or 128 bytes if it uses what lies below the stack pointer. Every push and every
 subtraction is counted, whichever way the code goes, so no call with any arguments goes deeper. Of a function of the C library
-only the address that it returns to is counted. The figure of a call in docs/C.md may be larger than what is read here, but not
-smaller."""
+only the address that it returns to is counted. A figure may be larger than what is read here, but not smaller."""
 import re
 import subprocess
 import sys
@@ -57,27 +57,45 @@ def deepest(name, found, above=()):
     return depth + max([below] + [deepest(callee, found, (*above, name)) for callee in calls])
 
 
+def number(text):
+    return int(text.replace(',', ''))
+
+
 def said(page):
     """The figures of the page: lines `| name | bytes |`."""
     with open(page, encoding='utf-8') as file:
-        rows = re.findall(r'^\| `(\w+)` \| ([0-9,]+) \|$', file.read(), re.M)
-    return {name: int(figure.replace(',', '')) for name, figure in rows}
+        return {name: number(figure) for name, figure in re.findall(r'^\| `(\w+)` \| ([0-9,]+) \|$', file.read(), re.M)}
+
+
+def said_in_header(header):
+    """The two figures of the header: the survey's, and that of any other call."""
+    with open(header, encoding='utf-8') as file:
+        line = re.search(r'Stack: a survey takes up to ([0-9,]+) bytes, any other call ([0-9,]+) at most', file.read())
+    if not line:
+        sys.exit(f'stack.py: FAILED: {header} does not say how much stack a call takes')
+    return number(line[1]), number(line[2])
 
 
 def main():
-    if len(sys.argv) != 3:
+    if len(sys.argv) != 4:
         sys.exit(__doc__)
     found, figures = functions(sys.argv[1]), said(sys.argv[2])
+    survey, other = said_in_header(sys.argv[3])
     depths = {name: deepest(name, found) for name in found if re.fullmatch(r'\w+', name)}
     if not depths:
         sys.exit(f'stack.py: FAILED: {sys.argv[1]} has no functions')
-    wrong = [f'{n} takes up to {d} bytes of stack, and docs/C.md says {figures.get(n, "nothing")}'
-             for n, d in depths.items() if d > figures.get(n, -1)]
-    wrong += [f'docs/C.md has a figure for {n}, which the archive does not have' for n in figures if n not in depths]
+    wrong = []
+    for name, depth in sorted(depths.items()):
+        in_header = survey if name == 'pagunlit_survey' else other
+        if depth > figures.get(name, -1):
+            wrong.append(f'{name} takes up to {depth} bytes of stack, and docs/C.md says {figures.get(name, "nothing")}')
+        if depth > in_header:
+            wrong.append(f'{name} takes up to {depth} bytes of stack, and include/pagunlit.h says {in_header}')
+    wrong += [f'docs/C.md has a figure for {name}, which the archive does not have' for name in figures if name not in depths]
     for line in wrong:
         print(f'stack.py: {line}', file=sys.stderr)
     if wrong:
-        sys.exit('stack.py: FAILED: docs/C.md, "Stack", does not hold (see above)')
+        sys.exit(1)
     print('stack: ' + ', '.join(f'{name} {depth}' for name, depth in sorted(depths.items())))
 
 
