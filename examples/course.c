@@ -162,7 +162,7 @@ static void survey(void)
     printf("      free blocks %u, runs of them %u, longest run %u\n", s.first, s.second, s.third);
 }
 
-int main(void)
+static void prescription(void)
 {
     puts("An empty card: all blocks are free, all sheets Absent.");
     fresh();
@@ -182,7 +182,10 @@ int main(void)
     puts("A pause is its own standing, without blocks.");
     pause_sheet(1);
     standings();
+}
 
+static void full_card(void)
+{
     puts("The card fills up, and is called full when it is.");
     reserve(2, 5);
     survey();
@@ -199,7 +202,10 @@ int main(void)
     show(3, 0);
     standings();
     survey();
+}
 
+static void power_cut(void)
+{
     puts("Map and catalogue are saved, and loaded when the power is back. A damaged image is not taken for one.");
     save();
     forget();
@@ -209,5 +215,12 @@ int main(void)
     load();
     show(3, 1);
     survey();
+}
+
+int main(void)
+{
+    prescription();
+    full_card();
+    power_cut();
     return 0;
 }
