@@ -123,7 +123,7 @@ returns-5 c =
     let tail : Tail w (c .tail2 .result) = c .tail2 .ensures in
     let none : (j : ℕ) → j + start .args .k ≤ 64 → all (bit w) j (start .args .k) ≡ false =
     core-fails w (start .args .core) (start .args .k) (start .pre .3)
-    (sym (c .before .before .covers2 .ensures) ∙ c .before .if3 .left) in
+    (sym (c .before .before .has-all2 .ensures) ∙ c .before .if3 .left) in
     let below : c .tail2 .result < start .args .k = tail-below w (c .tail2 .result) (start .args .k) none tail in (
       (below, omega (arith, tail .within)),
       λ f same at. next f _ _ _ w same at (c .tail2 .result) tail below

@@ -52,7 +52,7 @@ returns c =
     let gap = start .before .before .before .before .before in
     let mark = gap .before .before .before .before in
     let sheet = mark .before .before .before .before .before in
-    whole _ _ _ _ _ _ _ _ _ _ _ _ _ _ (sheet .write-numeral .ensures) (mark .write-byte .ensures) (gap .put2 .ensures)
+    whole _ _ _ _ _ _ _ _ _ _ _ _ _ _ (sheet .write-numeral .ensures) (mark .write-byte .ensures) (gap .write-byte2 .ensures)
     (start .write-numeral2 .ensures)
     (last .write-numeral3 .ensures)
 
