@@ -65,7 +65,7 @@ pub fn runs(map: &mut [u64], s: Setup)
     while at < end {
         x = next(x);
         let k = smaller((x % 128) as u32 & s.a, end - at - 1) + 1;
-        refusals::mark(map, at, k, to);
+        calls::mark(map, at, k, to);
         at += k;
         to = !to;
     }

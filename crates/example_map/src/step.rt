@@ -14,9 +14,9 @@ fn look(map: &[u64], s: Setup)
 {
     let letter = s.letter;
     match letter {
-        b's' => refusals::search(map, s),
-        b'c' => refusals::survey(map, s.before),
-        b'F' | b'T' => refusals::all_marked(map, s.a, s.b, letter == b'F'),
+        b's' => calls::search(map, s),
+        b'c' => calls::survey(map, s.before),
+        b'F' | b'T' => calls::all_marked(map, s.a, s.b, letter == b'F'),
         b'w' => print::word_at(map, s.b as usize),
         b'd' => print::digest(map),
         _ => {}
@@ -30,8 +30,8 @@ fn act(map: &mut [u64], s: Setup)
     match letter {
         b'x' | b'o' | b'r' => fill::words(map, s),
         b'q' => fill::runs(map, s),
-        b'm' => refusals::fresh(map, s.b),
-        b'f' | b't' => refusals::mark(map, s.a, s.b, letter == b'f'),
+        b'm' => calls::fresh(map, s.b),
+        b'f' | b't' => calls::mark(map, s.a, s.b, letter == b'f'),
         _ => look(map, s),
     }
 }
@@ -44,7 +44,7 @@ pub fn step(map: &mut [u64], s: Setup, byte: u8) -> Setup
     if b' ' < byte {
         return state::with(s, byte);
     }
-    let w = refusals::smaller(s.words, 4096) as usize;
+    let w = calls::smaller(s.words, 4096) as usize;
     act(&mut map[0..w], s);
     state::after(s)
 }
