@@ -28,7 +28,7 @@ use Rattle.card.specs.Calls.{Kept}
 use Rattle.ledger.specs.Steps.{Response, Runs, freshState, savedOf}
 use Rattle.ledger.proofs.Agreement.{mapIn, stateOf, Matches, entry-at, free-map, shape-fits, sheets-fit, stands-same}
 use Rattle.ledger.proofs.Demand.{Left, lists, kept-begun, state-begun}
-use Rattle.ledger.proofs.Listed.{undamaged}
+use Rattle.ledger.proofs.Listed.{sheet-undamaged}
 
 all-undamaged : (n : ℕ) (f : ℕ → Bool) (l : List Sheet)
     → ((i : ℕ) → i < length l → isDamaged (standingOf n f (entryIn (sheetAt l i))) ≡ false)
@@ -69,7 +69,7 @@ module _ (n : ℕ) (l : List Sheet) (card : List ℕ) (k : Matches n l card) whe
       (and-both _ _
       (all-undamaged n (free (mapIn n l)) l
       (λ i lt. ap (λ e. isDamaged (standingOf n (free (mapIn n l)) e)) (sym (entry-at l i lt))
-      ∙ ap isDamaged (stands-same n l card k i lt) ∙ undamaged (sheetAt l i)))
+      ∙ ap isDamaged (stands-same n l card k i lt) ∙ sheet-undamaged (sheetAt l i)))
       (all-intro _ 0 n (λ b a lt. ap (λ (c : ℕ). leb c 1) (same-cover l b) ∙ le-leb (cover l b) 1 (k .sound .once b))))
       (all-intro _ 0 n (λ b a lt. below b (omega arith))))
       (all-intro _ n (64 * length (mapIn n l) - n)
