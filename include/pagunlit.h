@@ -5,7 +5,7 @@
  *
  * Build and link. `rt staticlib pagunlit` proves the library and writes target/staticlib/libpagunlit.a, for x86-64 Linux;
  *
- *     gcc -std=c99 -Iinclude program.c target/staticlib/libpagunlit.a -o program
+ *     gcc -std=c99 -Iinclude examples/course.c target/staticlib/libpagunlit.a -o course
  *
  * compiles a program against it. `tools/install PREFIX` copies this header, pagunlit_text.h and the archive, with a file for
  * pkg-config. The library allocates nothing, opens nothing and keeps nothing. Of the C library it needs memset alone.
