@@ -1,0 +1,41 @@
+//! Random calls.
+
+pub(super) const CALLS: usize = 600;
+
+/// A number of blocks: mostly 0, 1 or 2, in 1 case of 16 one below 72.
+fn random_size(x: u64) -> u64 {
+    if x % 16 == 0 {
+        x / 16 % 72
+    } else {
+        (x / 16 % 5 + 1) / 2
+    }
+}
+
+/// A length, in 1 case of 16 a wrong one.
+fn random_length(x: u64) -> u64 {
+    if x % 16 == 0 {
+        x / 16 % 501
+    } else {
+        496
+    }
+}
+
+/// One of the eight calls, for one of the four sheets or, in 1 case of 16, for none. Places are below 3.
+pub(super) fn random_call(x: u64) -> String {
+    let sheet = if x % 16 == 0 { 4 } else { x % 4 };
+    let y = x / 1024;
+    let (place, z) = (y % 5 % 3, y / 8);
+    match x / 16 % 64 {
+        0..=9 => format!("reserve {sheet} {}", random_size(y)),
+        10..=11 => format!("grow {sheet} {}", random_size(y)),
+        12..=13 => format!("release {sheet}"),
+        14 => format!("pause {sheet}"),
+        15..=36 => {
+            let first = z / 8192 % 256;
+            format!("put {sheet} {place} {first} {}", random_length(z))
+        }
+        37..=46 => format!("complete {sheet}"),
+        47..=61 => format!("show {sheet} {place} {}", random_length(z)),
+        _ => format!("standing {sheet}"),
+    }
+}
