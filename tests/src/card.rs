@@ -1,7 +1,9 @@
 //! A card as document 01 has it: one entry for each block of the map, one byte for each byte of the card, and for each call
-//! the refusals in their order, then the change.
+//! the rows that hold for it, then the change.
 
 use crate::blocks::*;
+use crate::call::{Call, Kind};
+use crate::rows::Row;
 
 /// What a call answers.
 #[derive(Clone, Copy, Debug, PartialEq)]
@@ -26,6 +28,8 @@ pub struct Entry {
 
 const ABSENT: Entry = entry(0x41, 0, 0);
 const PAUSED: Entry = entry(0x50, 0, 0);
+const OPEN: u32 = 0x4f;
+const COMPLETE: u32 = 0x43;
 
 pub const fn entry(mark: u32, start: u32, length: u32) -> Entry {
     Entry {
@@ -33,22 +37,6 @@ pub const fn entry(mark: u32, start: u32, length: u32) -> Entry {
         start,
         length,
     }
-}
-
-fn open(start: usize, length: usize) -> Entry {
-    entry(0x4f, start as u32, length as u32)
-}
-
-fn complete(start: usize, length: usize) -> Entry {
-    entry(0x43, start as u32, length as u32)
-}
-
-/// What an entry says. Open and Complete have a start and a length.
-pub(crate) enum Standing {
-    Absent,
-    Paused,
-    Open(usize, usize),
-    Complete(usize, usize),
 }
 
 /// The shape, and what is lent.
@@ -92,213 +80,205 @@ fn blank(block: &[u8]) -> bool {
     block.iter().all(|&byte| byte == 0)
 }
 
+/// What the rows of document 01's table ask of a card. Each is worked out from what is lent, whatever the rows before it say,
+/// so that all that hold for a call can be told: where the entry is damaged, a standing is that of its mark, a length is the
+/// one that it has, and blocks are those of them that the lent map or card has.
 impl Card {
-    /// The bytes of block b.
-    fn block(&self, b: usize) -> &[u8] {
-        &self.bytes[BLOCK * b..BLOCK * (b + 1)]
+    /// The bytes of block b, if the card has it.
+    fn block(&self, b: usize) -> Option<&[u8]> {
+        self.bytes.get(BLOCK * b..BLOCK * (b + 1))
     }
 
-    fn zero(&mut self, start: usize, end: usize) {
-        self.bytes[BLOCK * start..BLOCK * end].fill(0);
+    /// The entry of the call's sheet, if the catalogue has it.
+    fn entry_of(&self, call: Call) -> Option<Entry> {
+        self.sheets.get(call.sheet as usize).copied()
     }
 
-    // The rows that the calls share.
-
-    /// Row 1 for n, the free count and the map.
-    pub(crate) fn misfit(&self) -> bool {
-        !(1..=262144).contains(&self.n)
-            || self.free > self.n
-            || self.map.len() != 64 * words_of(self.n)
+    /// The first row that holds for a call.
+    pub fn first(&self, call: Call) -> Option<Row> {
+        let mut rows = call.kind.rows().iter().copied();
+        rows.find(|row| self.holds(*row, call))
     }
 
-    /// A sheet's standing, unless row 1, 2 or 4 for the entry holds.
-    fn opened(&self, sheet: u32) -> Result<Standing, Answer> {
-        if self.misfit() || !(1..=1024).contains(&self.sheets.len()) {
-            return Err(Refused(1));
+    /// All rows that hold for a call, in their order.
+    pub fn held(&self, call: Call) -> Vec<Row> {
+        let rows = call.kind.rows().iter().copied();
+        rows.filter(|row| self.holds(*row, call)).collect()
+    }
+
+    fn holds(&self, row: Row, call: Call) -> bool {
+        let number = call.number as usize;
+        // Fresh reads nothing of the shape that it takes.
+        let n = if call.kind == Kind::Fresh {
+            number
+        } else {
+            self.n
+        };
+        match row {
+            Row::Blocks => !(1..=262144).contains(&n),
+            Row::Sheets => !(1..=1024).contains(&self.sheets.len()),
+            Row::FreeAboveN => self.free > self.n,
+            Row::MapLength => self.map.len() != 64 * words_of(n),
+            Row::CardLength => self.bytes.len() != BLOCK * self.n,
+            Row::NoSheet => self.entry_of(call).is_none(),
+            Row::NoBlocks => number == 0,
+            Row::SliceLength => call.bytes.length != PAYLOAD,
+            Row::NoFit => number > 0 && self.least_fit(number).is_none(),
+            Row::FreeCount if call.kind != Kind::Release => number > self.free,
+            _ => match self.entry_of(call) {
+                Some(entry) => self.holds_for_entry(row, call, entry),
+                None => false,
+            },
         }
-        let entry = self.sheets.get(sheet as usize).ok_or(Refused(2))?;
-        self.standing_of(*entry).ok_or(Refused(4))
     }
 
-    /// The same for a call that is lent the card.
-    fn opened_on_card(&self, sheet: u32) -> Result<Standing, Answer> {
-        if self.bytes.len() != BLOCK * self.n {
-            return Err(Refused(1));
+    fn holds_for_entry(&self, row: Row, call: Call, entry: Entry) -> bool {
+        let (number, length) = (call.number as usize, entry.length as usize);
+        match row {
+            Row::Damaged => self.damaged(entry),
+            Row::Absent => entry.mark == ABSENT.mark,
+            Row::Paused => entry.mark == PAUSED.mark,
+            Row::Open => entry.mark == OPEN,
+            Row::Complete => entry.mark == COMPLETE,
+            Row::NoPlace => number >= length,
+            Row::Unsound if call.kind == Kind::Show => self.unsound_at(call, entry, number),
+            Row::Unsound => self
+                .places(entry)
+                .any(|place| !self.blank_at(entry, place) && self.unsound_at(call, entry, place)),
+            Row::Blank => self.lowest_blank(entry).is_some(),
+            Row::NotNext => number > 0 && !self.next_are_free(entry, number),
+            Row::FreeCount => self.free + length > self.n,
+            other => unreachable!("{other:?} is no row of a call on a sheet"),
         }
-        self.opened(sheet)
     }
 
-    /// What an entry says, and nothing if it is damaged.
-    pub(crate) fn standing_of(&self, e: Entry) -> Option<Standing> {
-        let (start, length) = (e.start as usize, e.length as usize);
-        let none = start == 0 && length == 0;
-        let extent = length >= 1
-            && start + length <= self.n
-            && (start..start + length).all(|b| self.map[b] == TAKEN);
+    /// An entry breaks its mark's rule, or a block of its extent is free in the map.
+    pub(crate) fn damaged(&self, e: Entry) -> bool {
+        let (start, end) = (e.start as usize, e.start as usize + e.length as usize);
+        let last = self.map.len();
         match e.mark {
-            0x41 if none => Some(Standing::Absent),
-            0x50 if none => Some(Standing::Paused),
-            0x4f if extent => Some(Standing::Open(start, length)),
-            0x43 if extent => Some(Standing::Complete(start, length)),
-            _ => None,
+            0x41 | 0x50 => end != 0,
+            0x4f | 0x43 => {
+                let inside = e.length >= 1 && end <= self.n;
+                !inside || self.map[start.min(last)..end.min(last)].contains(&FREE)
+            }
+            _ => true,
         }
     }
 
-    /// The extent of an Open sheet. Any other is row 5, 6 or 8.
-    fn open(&self, sheet: u32) -> Result<(usize, usize), Answer> {
-        match self.opened_on_card(sheet)? {
-            Standing::Absent => Err(Refused(5)),
-            Standing::Paused => Err(Refused(6)),
-            Standing::Open(start, length) => Ok((start, length)),
-            Standing::Complete(..) => Err(Refused(8)),
+    fn least_fit(&self, k: usize) -> Option<usize> {
+        least_fit(&self.map, 0, self.n.min(self.map.len()), k)
+    }
+
+    /// The m blocks after the extent are all free and inside n.
+    fn next_are_free(&self, e: Entry, m: usize) -> bool {
+        let end = e.start as usize + e.length as usize;
+        let next = self.map.get(end..end + m);
+        end + m <= self.n && next.is_some_and(|blocks| !blocks.contains(&TAKEN))
+    }
+
+    /// The places of an entry whose blocks the card has.
+    fn places(&self, e: Entry) -> std::ops::Range<usize> {
+        let blocks = self.bytes.len() / BLOCK;
+        0..(e.length as usize).min(blocks.saturating_sub(e.start as usize))
+    }
+
+    fn blank_at(&self, e: Entry, place: usize) -> bool {
+        self.block(e.start as usize + place).is_some_and(blank)
+    }
+
+    fn unsound_at(&self, call: Call, e: Entry, place: usize) -> bool {
+        let block = self.block(e.start as usize + place);
+        block.is_some_and(|block| !sound(block, call.sheet, place as u32))
+    }
+
+    pub fn lowest_blank(&self, e: Entry) -> Option<usize> {
+        self.places(e).find(|place| self.blank_at(e, *place))
+    }
+}
+
+/// The calls.
+impl Card {
+    /// What a call answers, and what it leaves in the card and in its payload or buffer: it is refused with the first row that
+    /// holds, and then changes nothing. Which blank place goes with 9 is free in document 01. The examples want the lowest.
+    pub fn call(&mut self, call: Call, slice: &mut [u8]) -> Answer {
+        match self.first(call) {
+            None => self.accepted(call, slice),
+            Some(Row::Blank) => {
+                let entry = self.sheets[call.sheet as usize];
+                Blank(self.lowest_blank(entry).unwrap())
+            }
+            Some(row) => Refused(row.number()),
         }
     }
 
-    /// A sheet must be Absent. Any other is row 6, 7 or 8.
-    fn absent(stands: Standing) -> Result<(), Answer> {
-        match stands {
-            Standing::Absent => Ok(()),
-            Standing::Paused => Err(Refused(6)),
-            Standing::Open(..) => Err(Refused(7)),
-            Standing::Complete(..) => Err(Refused(8)),
+    /// A call for which no row holds.
+    fn accepted(&mut self, call: Call, slice: &mut [u8]) -> Answer {
+        let (sheet, number) = (call.sheet as usize, call.number as usize);
+        match call.kind {
+            Kind::Fresh => self.fresh(number),
+            Kind::Search => Start(self.least_fit(number).unwrap()),
+            Kind::Survey => {
+                let counts = survey(&self.map, self.n);
+                Counted(counts.free, counts.runs, counts.longest)
+            }
+            Kind::Reserve => {
+                let start = self.least_fit(number).unwrap();
+                self.take(sheet, start, start, number);
+                Start(start)
+            }
+            Kind::Grow => {
+                let Entry { start, length, .. } = self.sheets[sheet];
+                self.take(sheet, start as usize, (start + length) as usize, number);
+                Done
+            }
+            Kind::Put => self.put(sheet, number, slice),
+            Kind::Complete => self.mark(sheet, COMPLETE),
+            Kind::Pause => self.mark(sheet, PAUSED.mark),
+            Kind::Release => self.release(sheet),
+            Kind::Show => {
+                let block = self.block(self.sheets[sheet].start as usize + number);
+                slice.copy_from_slice(&block.unwrap()[8..8 + PAYLOAD]);
+                Done
+            }
+            Kind::Standing => Stands(self.sheets[sheet]),
         }
     }
 
-    // The calls. A refusal has changed nothing.
-
-    pub fn fresh(&mut self, n: usize) -> Result<Answer, Answer> {
-        let fits = (1..=262144).contains(&n) && self.map.len() == 64 * words_of(n);
-        if !fits || !(1..=1024).contains(&self.sheets.len()) {
-            return Err(Refused(1));
-        }
+    fn fresh(&mut self, n: usize) -> Answer {
         self.map = fresh(n, words_of(n));
         self.sheets.fill(ABSENT);
         (self.n, self.free) = (n, n);
-        Ok(Done)
+        Done
     }
 
-    pub fn search(&self, k: usize) -> Result<Answer, Answer> {
-        if self.misfit() {
-            return Err(Refused(1));
-        }
-        if k == 0 {
-            return Err(Refused(3));
-        }
-        least_fit(&self.map, 0, self.n, k)
-            .map(Start)
-            .ok_or(Refused(10))
-    }
-
-    pub fn survey(&self) -> Result<Answer, Answer> {
-        if self.misfit() {
-            return Err(Refused(1));
-        }
-        let counts = survey(&self.map, self.n);
-        Ok(Counted(counts.free, counts.runs, counts.longest))
-    }
-
-    pub fn reserve(&mut self, sheet: u32, k: usize) -> Result<Answer, Answer> {
-        Self::absent(self.opened_on_card(sheet)?)?;
-        if k == 0 {
-            return Err(Refused(3));
-        }
-        let start = least_fit(&self.map, 0, self.n, k).ok_or(Refused(10))?;
-        if k > self.free {
-            return Err(Refused(4));
-        }
-        mark(&mut self.map, start, start + k, TAKEN);
-        self.zero(start, start + k);
+    /// A sheet is open from `start` on, and k blocks from `from` on are its last ones: taken, and filled with zeros.
+    fn take(&mut self, sheet: usize, start: usize, from: usize, k: usize) {
+        mark(&mut self.map, from, from + k, TAKEN);
+        self.bytes[BLOCK * from..BLOCK * (from + k)].fill(0);
         self.free -= k;
-        self.sheets[sheet as usize] = open(start, k);
-        Ok(Start(start))
+        self.sheets[sheet] = entry(OPEN, start as u32, (from + k - start) as u32);
     }
 
-    pub fn put(&mut self, sheet: u32, place: u32, payload: &[u8]) -> Result<Answer, Answer> {
-        let (start, length) = self.open(sheet)?;
-        if place as usize >= length || payload.len() != PAYLOAD {
-            return Err(Refused(3));
-        }
-        let at = BLOCK * (start + place as usize);
-        self.bytes[at..at + BLOCK].copy_from_slice(&sealed(sheet, place, payload));
-        Ok(Done)
+    fn put(&mut self, sheet: usize, place: usize, payload: &[u8]) -> Answer {
+        let at = BLOCK * (self.sheets[sheet].start as usize + place);
+        let block = sealed(sheet as u32, place as u32, payload);
+        self.bytes[at..at + BLOCK].copy_from_slice(&block);
+        Done
     }
 
-    pub fn grow(&mut self, sheet: u32, m: usize) -> Result<Answer, Answer> {
-        let (start, length) = self.open(sheet)?;
-        if m == 0 {
-            return Err(Refused(3));
-        }
-        let (end, grown) = (start + length, start + length + m);
-        if grown > self.n || !all(&self.map, end, grown, FREE) {
-            return Err(Refused(11));
-        }
-        if m > self.free {
-            return Err(Refused(4));
-        }
-        mark(&mut self.map, end, grown, TAKEN);
-        self.zero(end, grown);
-        self.free -= m;
-        self.sheets[sheet as usize] = open(start, length + m);
-        Ok(Done)
+    fn mark(&mut self, sheet: usize, mark: u32) -> Answer {
+        self.sheets[sheet].mark = mark;
+        Done
     }
 
-    /// Which blank place goes with 9 is free in document 01. The examples want the lowest.
-    pub fn complete(&mut self, sheet: u32) -> Result<Answer, Answer> {
-        let (start, length) = self.open(sheet)?;
-        let is_blank = |place: &usize| blank(self.block(start + place));
-        let is_sound = |place: &usize| sound(self.block(start + place), sheet, *place as u32);
-        if !(0..length).all(|place| is_blank(&place) || is_sound(&place)) {
-            return Err(Refused(4));
-        }
-        if let Some(place) = (0..length).find(is_blank) {
-            return Err(Blank(place));
-        }
-        self.sheets[sheet as usize] = complete(start, length);
-        Ok(Done)
-    }
-
-    pub fn pause(&mut self, sheet: u32) -> Result<Answer, Answer> {
-        Self::absent(self.opened(sheet)?)?;
-        self.sheets[sheet as usize] = PAUSED;
-        Ok(Done)
-    }
-
-    pub fn release(&mut self, sheet: u32) -> Result<Answer, Answer> {
-        let (start, length) = match self.opened(sheet)? {
-            Standing::Absent => return Err(Refused(5)),
-            Standing::Paused => (0, 0),
-            Standing::Open(start, length) | Standing::Complete(start, length) => (start, length),
-        };
-        if self.free + length > self.n {
-            return Err(Refused(4));
-        }
+    fn release(&mut self, sheet: usize) -> Answer {
+        let Entry { start, length, .. } = self.sheets[sheet];
+        let (start, length) = (start as usize, length as usize);
         mark(&mut self.map, start, start + length, FREE);
         self.free += length;
-        self.sheets[sheet as usize] = ABSENT;
-        Ok(Done)
-    }
-
-    pub fn show(&self, sheet: u32, place: u32, buffer: &mut [u8]) -> Result<Answer, Answer> {
-        let (start, length) = match self.opened_on_card(sheet)? {
-            Standing::Absent => return Err(Refused(5)),
-            Standing::Paused => return Err(Refused(6)),
-            Standing::Open(..) => return Err(Refused(7)),
-            Standing::Complete(start, length) => (start, length),
-        };
-        if place as usize >= length || buffer.len() != PAYLOAD {
-            return Err(Refused(3));
-        }
-        let block = self.block(start + place as usize);
-        if !sound(block, sheet, place) {
-            return Err(Refused(4));
-        }
-        buffer.copy_from_slice(&block[8..8 + PAYLOAD]);
-        Ok(Done)
-    }
-
-    pub fn standing(&self, sheet: u32) -> Result<Answer, Answer> {
-        self.opened(sheet)?;
-        Ok(Stands(self.sheets[sheet as usize]))
+        self.sheets[sheet] = ABSENT;
+        Done
     }
 }
 

@@ -1,8 +1,10 @@
 //! The saved image (document 01, "Saved image"), written out byte by byte.
 
 use crate::blocks::{from_words, to_words, words_of, FREE};
+use crate::call::{LOAD, SAVE};
 use crate::card::Answer::*;
-use crate::card::{sums, Answer, Card, Entry, Standing};
+use crate::card::{entry, sums, Answer, Card};
+use crate::rows::Row;
 
 const BLOCK: usize = 512;
 const BODY: usize = 496;
@@ -68,105 +70,191 @@ fn word_at(bytes: &[u8], at: usize) -> u64 {
         .fold(0, |word, &byte| 256 * word + byte as u64)
 }
 
+/// The rows of save and load. Each is worked out from what is lent and from the whole blocks that an image has, whatever the
+/// rows before it say.
 impl Card {
     /// No entry is damaged, extents are disjoint, a block is free exactly when uncovered, bits from n on are 0, and the
     /// free count is the number of free blocks.
     fn sound(&self) -> bool {
-        let mut holders = vec![0; self.n];
+        if self.sheets.iter().any(|entry| self.damaged(*entry)) {
+            return false;
+        }
+        let n = self.n.min(self.map.len());
+        let mut holders = vec![0; n];
         for entry in &self.sheets {
-            match self.standing_of(*entry) {
-                None => return false,
-                Some(Standing::Absent | Standing::Paused) => {}
-                Some(Standing::Open(start, length) | Standing::Complete(start, length)) => {
-                    for block in &mut holders[start..start + length] {
-                        *block += 1;
-                    }
-                }
+            let (start, length) = (entry.start as usize, entry.length as usize);
+            for block in holders.iter_mut().skip(start).take(length) {
+                *block += 1;
             }
         }
         let disjoint = holders.iter().all(|&count| count < 2);
-        let free_if_uncovered = (0..self.n).all(|b| (self.map[b] == FREE) == (holders[b] == 0));
-        let none_from_n_on = self.map[self.n..].iter().all(|&block| block != FREE);
+        let free_if_uncovered = (0..n).all(|b| (self.map[b] == FREE) == (holders[b] == 0));
+        let none_from_n_on = self.map[n..].iter().all(|&block| block != FREE);
         let count = self.map.iter().filter(|&&block| block == FREE).count();
         disjoint && free_if_uncovered && none_from_n_on && count == self.free
     }
 
+    fn save_holds(&self, row: Row, scratch: usize, length: usize) -> bool {
+        match row {
+            Row::Blocks => !(1..=262144).contains(&self.n),
+            Row::Sheets => !(1..=1024).contains(&self.sheets.len()),
+            Row::FreeAboveN => self.free > self.n,
+            Row::MapLength => self.map.len() != 64 * words_of(self.n),
+            Row::ScratchLength => scratch != words_of(self.n),
+            Row::SavedState => !self.sound(),
+            Row::ImageLength => length != BLOCK * blocks_of(self.n, self.sheets.len()),
+            other => unreachable!("{other:?} is no row of save"),
+        }
+    }
+
+    fn load_holds(&self, row: Row, image: &Image, scratch: usize) -> bool {
+        let frames = |wrong: fn(&Image, usize) -> bool| (0..image.total()).any(|b| wrong(image, b));
+        match row {
+            Row::ImageLength => {
+                !image.bytes.len().is_multiple_of(BLOCK) || !(1..=MOST).contains(&image.total())
+            }
+            Row::FrameNumber => frames(|image, b| number_at(image.block(b), 0) != b),
+            Row::FrameTotal => frames(|image, b| number_at(image.block(b), 4) != image.total()),
+            Row::FrameCheck => frames(|image, b| !image.check_holds(b)),
+            // An image without a whole block has no head.
+            _ if image.total() == 0 => false,
+            Row::HeadLimits => !image.within_limits(),
+            Row::HeadTotal => image.total() != blocks_of(image.n(), image.c()),
+            Row::MapLength => self.map.len() != 64 * words_of(image.n()),
+            Row::CatalogueLength => self.sheets.len() != image.c(),
+            Row::ScratchLength => scratch != words_of(image.n()),
+            Row::LoadedState => image.state().is_some_and(|state| !state.sound()),
+            Row::Fill => image.fill().iter().any(|&byte| byte != 0),
+            other => unreachable!("{other:?} is no row of load"),
+        }
+    }
+
+    /// All rows that hold for a save to an image of a length, in their order.
+    pub fn held_by_save(&self, scratch: usize, length: usize) -> Vec<Row> {
+        let rows = SAVE.1.iter().copied();
+        rows.filter(|row| self.save_holds(*row, scratch, length))
+            .collect()
+    }
+
+    /// The same for a load.
+    pub fn held_by_load(&self, image: &[u8], scratch: usize) -> Vec<Row> {
+        let (image, rows) = (&Image::of(image), LOAD.1.iter().copied());
+        rows.filter(|row| self.load_holds(*row, image, scratch))
+            .collect()
+    }
+
     /// Save. The scratch is all zeros afterwards, whatever the answer.
-    pub fn save(&self, scratch: &mut [u64], image: &mut [u8]) -> Result<Answer, Answer> {
+    pub fn save(&self, scratch: &mut [u64], image: &mut [u8]) -> Answer {
         scratch.fill(0);
-        let c = self.sheets.len();
-        if self.misfit() || !(1..=1024).contains(&c) || 64 * scratch.len() != self.map.len() {
-            return Err(Refused(1));
-        }
-        if !self.sound() {
-            return Err(Refused(4));
-        }
-        if image.len() != BLOCK * blocks_of(self.n, c) {
-            return Err(Refused(12));
+        let mut rows = SAVE.1.iter();
+        if let Some(row) = rows.find(|row| self.save_holds(**row, scratch.len(), image.len())) {
+            return Refused(row.number());
         }
         image.copy_from_slice(&image_of(&body_of(self)));
-        Ok(Done)
+        Done
     }
 
     /// Load: the shape, the map and the catalogue become the image's. The scratch is all zeros afterwards, whatever the
     /// answer.
-    pub fn load(&mut self, image: &[u8], scratch: &mut [u64]) -> Result<Answer, Answer> {
+    pub fn load(&mut self, image: &[u8], scratch: &mut [u64]) -> Answer {
         scratch.fill(0);
-        let total = image.len() / BLOCK;
-        if image.len() % BLOCK != 0 || !(1..=MOST).contains(&total) {
-            return Err(Refused(12));
+        let (image, mut rows) = (&Image::of(image), LOAD.1.iter());
+        if let Some(row) = rows.find(|row| self.load_holds(**row, image, scratch.len())) {
+            return Refused(row.number());
         }
-        let mut body = Vec::new();
-        for (number, frame) in image.chunks(BLOCK).enumerate() {
-            let part = &frame[8..8 + BODY];
-            if frame != framed(number, total, part) {
-                return Err(Refused(13));
-            }
-            body.extend(part);
+        let state = image.state().unwrap();
+        (self.n, self.free) = (state.n, state.free);
+        self.map = state.map;
+        self.sheets = state.sheets;
+        Done
+    }
+}
+
+/// An image with the bodies of its whole blocks.
+struct Image<'a> {
+    bytes: &'a [u8],
+    body: Vec<u8>,
+}
+
+impl Image<'_> {
+    fn of(bytes: &[u8]) -> Image<'_> {
+        let parts = bytes.chunks_exact(BLOCK).map(|block| &block[8..8 + BODY]);
+        Image {
+            bytes,
+            body: parts.collect::<Vec<&[u8]>>().concat(),
         }
-        let (n, free, c) = (
-            number_at(&body, 0),
-            number_at(&body, 4),
-            number_at(&body, 8),
-        );
-        let within = (1..=262144).contains(&n) && (1..=1024).contains(&c) && free <= n;
-        if !within || total != blocks_of(n, c) {
-            return Err(Refused(14));
+    }
+
+    /// The number of whole blocks.
+    fn total(&self) -> usize {
+        self.bytes.len() / BLOCK
+    }
+
+    fn block(&self, b: usize) -> &[u8] {
+        &self.bytes[BLOCK * b..BLOCK * (b + 1)]
+    }
+
+    fn check_holds(&self, b: usize) -> bool {
+        let (first, sums_of_it) = (&self.block(b)[..504], &self.block(b)[504..]);
+        let (a, b) = sums(first);
+        sums_of_it == [a.to_be_bytes(), b.to_be_bytes()].concat()
+    }
+
+    fn n(&self) -> usize {
+        number_at(&self.body, 0)
+    }
+
+    fn free(&self) -> usize {
+        number_at(&self.body, 4)
+    }
+
+    fn c(&self) -> usize {
+        number_at(&self.body, 8)
+    }
+
+    fn within_limits(&self) -> bool {
+        (1..=262144).contains(&self.n())
+            && (1..=1024).contains(&self.c())
+            && self.free() <= self.n()
+    }
+
+    /// Where the entries, the words and the fill begin.
+    fn fill_at(&self) -> usize {
+        12 + 12 * self.c() + 8 * words_of(self.n())
+    }
+
+    fn fill(&self) -> &[u8] {
+        self.body.get(self.fill_at()..).unwrap_or(&[])
+    }
+
+    /// The state, if the body has all of it.
+    fn state(&self) -> Option<Card> {
+        if self.fill_at() > self.body.len() {
+            return None;
         }
-        let w = words_of(n);
-        if self.map.len() != 64 * w || self.sheets.len() != c || scratch.len() != w {
-            return Err(Refused(1));
-        }
-        let sheet = |s| Entry {
-            mark: number_at(&body, 12 + 12 * s) as u32,
-            start: number_at(&body, 16 + 12 * s) as u32,
-            length: number_at(&body, 20 + 12 * s) as u32,
+        let number = |at: usize| number_at(&self.body, at) as u32;
+        let sheet = |s: usize| {
+            entry(
+                number(12 + 12 * s),
+                number(16 + 12 * s),
+                number(20 + 12 * s),
+            )
         };
-        let words: Vec<u64> = (0..w)
-            .map(|i| word_at(&body, 12 + 12 * c + 8 * i))
-            .collect();
-        let loaded = Card {
-            n,
-            free,
-            map: from_words(&words),
-            sheets: (0..c).map(sheet).collect(),
+        let words = |i: usize| word_at(&self.body, 12 + 12 * self.c() + 8 * i);
+        Some(Card {
+            n: self.n(),
+            free: self.free(),
+            map: from_words(&(0..words_of(self.n())).map(words).collect::<Vec<u64>>()),
+            sheets: (0..self.c()).map(sheet).collect(),
             bytes: Vec::new(),
-        };
-        let fill = &body[12 + 12 * c + 8 * w..];
-        if !loaded.sound() || fill.iter().any(|&byte| byte != 0) {
-            return Err(Refused(14));
-        }
-        (self.n, self.free) = (n, free);
-        self.map = loaded.map;
-        self.sheets = loaded.sheets;
-        Ok(Done)
+        })
     }
 }
 
 #[cfg(test)]
 mod tests {
     use super::*;
-    use crate::card::entry;
+    use crate::call::{call, Kind};
 
     fn fresh(n: usize, c: usize) -> Card {
         let mut card = Card {
@@ -176,7 +264,7 @@ mod tests {
             sheets: vec![entry(0, 0, 0); c],
             bytes: vec![],
         };
-        assert_eq!(card.fresh(n), Ok(Done));
+        assert_eq!(card.call(call(Kind::Fresh, 0, n as u32), &mut []), Done);
         card
     }
 
@@ -184,7 +272,7 @@ mod tests {
     #[test]
     fn sums_of_the_fresh_image() {
         let mut image = vec![0; 512];
-        assert_eq!(fresh(64, 1).save(&mut [0], &mut image), Ok(Done));
+        assert_eq!(fresh(64, 1).save(&mut [0], &mut image), Done);
         assert_eq!(number_at(&image, 504), 2236);
         assert_eq!(number_at(&image, 508), 3003);
     }
@@ -199,16 +287,16 @@ mod tests {
     fn what_is_saved_loads_back() {
         let mut card = fresh(70, 3);
         card.bytes = vec![0; 70 * 512];
-        assert_eq!(card.reserve(1, 66), Ok(Start(0)));
+        assert_eq!(card.call(call(Kind::Reserve, 1, 66), &mut []), Start(0));
         let scratch = &mut [5, 5];
         let mut image = vec![0; 512];
-        assert_eq!(card.save(scratch, &mut image), Ok(Done));
+        assert_eq!(card.save(scratch, &mut image), Done);
         assert_eq!(*scratch, [0, 0]);
         let mut other = fresh(100, 3);
-        assert_eq!(other.load(&image, scratch), Ok(Done));
+        assert_eq!(other.load(&image, scratch), Done);
         other.bytes = card.bytes.clone();
         assert!(other == card);
         image[300] ^= 1;
-        assert_eq!(other.load(&image, scratch), Err(Refused(13)));
+        assert_eq!(other.load(&image, scratch), Refused(13));
     }
 }

@@ -2,6 +2,7 @@
 //! the program keeps or answers. Rows 1 and 4 hold for no call of a list, so they are not here.
 
 use crate::blocks::{all, least_fit, words_of, FREE, TAKEN};
+use crate::call::{Call, Kind};
 use crate::card::Answer::*;
 use crate::card::{entry, sealed, Answer, Entry};
 
@@ -106,6 +107,23 @@ impl Ledger {
 
     // The calls: the rows that hold for them in their order, then the change.
 
+    /// What the ledger answers to a call of a list, and leaves in its payload or buffer. Fresh, search and survey are none.
+    pub fn call(&mut self, call: Call, slice: &mut [u8]) -> Option<Answer> {
+        let (sheet, number) = (call.sheet, call.number);
+        let answer = match call.kind {
+            Kind::Fresh | Kind::Search | Kind::Survey => return None,
+            Kind::Reserve => self.reserve(sheet, number as usize),
+            Kind::Put => self.put(sheet, number, slice),
+            Kind::Grow => self.grow(sheet, number as usize),
+            Kind::Complete => self.complete(sheet),
+            Kind::Pause => self.pause(sheet),
+            Kind::Release => self.release(sheet),
+            Kind::Show => self.show(sheet, number, slice),
+            Kind::Standing => self.standing(sheet),
+        };
+        Some(answer.unwrap_or_else(|refusal| refusal))
+    }
+
     fn sheet(&mut self, sheet: u32) -> Result<&mut Sheet, Answer> {
         self.sheets.get_mut(sheet as usize).ok_or(Refused(2))
     }
@@ -129,7 +147,7 @@ impl Ledger {
         }
     }
 
-    pub fn reserve(&mut self, sheet: u32, k: usize) -> Result<Answer, Answer> {
+    fn reserve(&mut self, sheet: u32, k: usize) -> Result<Answer, Answer> {
         self.absent(sheet)?;
         if k == 0 {
             return Err(Refused(3));
@@ -141,7 +159,7 @@ impl Ledger {
         Ok(Start(start))
     }
 
-    pub fn put(&mut self, sheet: u32, place: u32, payload: &[u8]) -> Result<Answer, Answer> {
+    fn put(&mut self, sheet: u32, place: u32, payload: &[u8]) -> Result<Answer, Answer> {
         let (_, places) = self.open(sheet)?;
         if place as usize >= places.len() || payload.len() != 496 {
             return Err(Refused(3));
@@ -150,7 +168,7 @@ impl Ledger {
         Ok(Done)
     }
 
-    pub fn grow(&mut self, sheet: u32, m: usize) -> Result<Answer, Answer> {
+    fn grow(&mut self, sheet: u32, m: usize) -> Result<Answer, Answer> {
         let (start, places) = self.open(sheet)?;
         if m == 0 {
             return Err(Refused(3));
@@ -166,7 +184,7 @@ impl Ledger {
     }
 
     /// The place with 9 may be any blank one; this is the lowest.
-    pub fn complete(&mut self, sheet: u32) -> Result<Answer, Answer> {
+    fn complete(&mut self, sheet: u32) -> Result<Answer, Answer> {
         let (start, places) = self.open(sheet)?;
         if let Some(place) = places.iter().position(|place| place.is_none()) {
             return Err(Blank(place));
@@ -176,12 +194,12 @@ impl Ledger {
         Ok(Done)
     }
 
-    pub fn pause(&mut self, sheet: u32) -> Result<Answer, Answer> {
+    fn pause(&mut self, sheet: u32) -> Result<Answer, Answer> {
         *self.absent(sheet)? = Sheet::Paused;
         Ok(Done)
     }
 
-    pub fn release(&mut self, sheet: u32) -> Result<Answer, Answer> {
+    fn release(&mut self, sheet: u32) -> Result<Answer, Answer> {
         if let Sheet::Absent = self.sheet(sheet)? {
             return Err(Refused(5));
         }
@@ -190,7 +208,7 @@ impl Ledger {
         Ok(Done)
     }
 
-    pub fn show(&mut self, sheet: u32, place: u32, buffer: &mut [u8]) -> Result<Answer, Answer> {
+    fn show(&mut self, sheet: u32, place: u32, buffer: &mut [u8]) -> Result<Answer, Answer> {
         match self.sheet(sheet)? {
             Sheet::Absent => Err(Refused(5)),
             Sheet::Paused => Err(Refused(6)),
@@ -205,7 +223,7 @@ impl Ledger {
         }
     }
 
-    pub fn standing(&mut self, sheet: u32) -> Result<Answer, Answer> {
+    fn standing(&mut self, sheet: u32) -> Result<Answer, Answer> {
         self.sheet(sheet)?;
         Ok(Stands(self.entry(sheet as usize)))
     }

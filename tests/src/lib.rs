@@ -1,6 +1,7 @@
 //! Document 01 worked out bit by bit, to hold the proved library against. Nothing here is shared with the crates.
 
 pub mod blocks;
+pub mod call;
 pub mod calls;
 pub mod card;
 pub mod image;
@@ -8,3 +9,4 @@ pub mod ledger;
 pub mod map;
 pub mod printer;
 pub mod random;
+pub mod rows;

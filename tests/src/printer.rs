@@ -51,9 +51,8 @@ pub fn text(image: &[u8]) -> String {
     let mut card = fresh(n, c);
     let mut scratch = vec![0; words_of(n)];
     match card.load(image, &mut scratch) {
-        Ok(_) => {}
-        Err(Answer::Refused(number)) => return format!("refused {number}\n"),
-        Err(_) => unreachable!("load gives no other refusal"),
+        Answer::Refused(number) => return format!("refused {number}\n"),
+        _ => {}
     }
     let Counts { runs, longest, .. } = survey(&card.map, card.n);
     let mut text = format!(

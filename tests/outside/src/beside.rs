@@ -1,8 +1,9 @@
 //! The library beside the card and the ledger: every call is made of all three, and answers and buffers are compared.
 
-use crate::call::Call;
+use crate::counts::Counts;
 use crate::library::{bytes, entries, words, Entry, Lent, Library, Outcome, Shape};
 use bitwise::blocks::to_words;
+use bitwise::call::{call, Call, Kind};
 use bitwise::card::{Answer, Card};
 use bitwise::ledger::Ledger;
 
@@ -111,13 +112,23 @@ impl Beside {
         self.ledger = Some(Ledger::fresh(self.card.n, self.card.sheets.len()));
     }
 
-    /// Makes a call and compares. The answer is what the library gave.
-    pub fn call(&mut self, call: Call) -> Result<Answer, String> {
+    /// Makes a call, compares, and counts the rows that held for it. On a card of full size only the first row is looked for.
+    pub fn call(&mut self, call: Call, counts: &mut Counts) -> Result<(), String> {
+        let held = match self.compared {
+            Compared::All => self.card.held(call),
+            Compared::Part => self.card.first(call).into_iter().collect(),
+        };
+        self.compare(call)?;
+        counts.note(call.kind.name(), &held);
+        Ok(())
+    }
+
+    fn compare(&mut self, call: Call) -> Result<(), String> {
         let before = call.slice();
         let mut after = before.clone();
         let mut lent = bytes(&before, self.margin);
-        let outcome = self.on_library(call, &mut lent);
-        let answer = call.on_card(&mut self.card, &mut after);
+        let outcome = self.library.call(call, &mut lent);
+        let answer = self.card.call(call, &mut after);
         let answer = self.with_place(call, answer, outcome)?;
         same_outcome(outcome, &self.card, answer)?;
         self.library.shape = outcome.shape;
@@ -126,33 +137,16 @@ impl Beside {
         self.same_bytes(call)?;
         self.by_ledger(call, answer, before, &after)?;
         self.calls += 1;
-        Ok(answer)
-    }
-
-    fn on_library(&mut self, call: Call, slice: &mut Lent<u8>) -> Outcome {
-        let library = &mut self.library;
-        match call {
-            Call::Fresh(n) => library.fresh(n),
-            Call::Search(k) => library.search(k),
-            Call::Survey => library.survey(),
-            Call::Reserve(sheet, k) => library.reserve(sheet, k),
-            Call::Put(sheet, place, _) => library.put(sheet, place, slice),
-            Call::Grow(sheet, m) => library.grow(sheet, m),
-            Call::Complete(sheet) => library.complete(sheet),
-            Call::Pause(sheet) => library.pause(sheet),
-            Call::Release(sheet) => library.release(sheet),
-            Call::Show(sheet, place, _) => library.show(sheet, place, slice),
-            Call::Standing(sheet) => library.standing(sheet),
-        }
+        Ok(())
     }
 
     /// With 9 the place may be any that is blank. If the library gave such a one, this is the answer.
     fn with_place(&self, call: Call, answer: Answer, outcome: Outcome) -> Result<Answer, String> {
-        let (Answer::Blank(_), 9, Some(sheet)) = (answer, outcome.number, call.sheet()) else {
+        let (Answer::Blank(_), 9) = (answer, outcome.number) else {
             return Ok(answer);
         };
         let place = outcome.first as usize;
-        let entry = self.card.sheets[sheet as usize];
+        let entry = self.card.sheets[call.sheet as usize];
         let at = 512 * (entry.start as usize + place);
         if place < entry.length as usize && self.card.bytes[at..at + 512] == [0; 512] {
             return Ok(Answer::Blank(place));
@@ -171,8 +165,7 @@ impl Beside {
         let part = n.div_ceil(256);
         let start = self.calls % 256 * part;
         self.same_blocks(start.min(n), (start + part).min(n))?;
-        let sheet = call.sheet().unwrap_or(0) as usize;
-        let Some(entry) = self.card.sheets.get(sheet) else {
+        let Some(entry) = self.card.sheets.get(call.sheet as usize) else {
             return Ok(());
         };
         let (start, end) = (entry.start as usize, (entry.start + entry.length) as usize);
@@ -204,14 +197,12 @@ impl Beside {
         let Some(ledger) = &mut self.ledger else {
             return Ok(());
         };
-        let Some(by_ledger) = call.on_ledger(ledger, &mut slice) else {
+        let Some(by_ledger) = ledger.call(call, &mut slice) else {
             return Ok(());
         };
         same("payload or buffer, by the ledger,", after, &slice)?;
-        let agrees = match (answer, by_ledger, call.sheet()) {
-            (Answer::Blank(place), Answer::Blank(_), Some(sheet)) => {
-                ledger.is_blank(sheet, place as u32)
-            }
+        let agrees = match (answer, by_ledger) {
+            (Answer::Blank(place), Answer::Blank(_)) => ledger.is_blank(call.sheet, place as u32),
             _ => answer == by_ledger,
         };
         if !agrees {
@@ -220,12 +211,10 @@ impl Beside {
             ));
         }
         self.as_in_ledger()?;
-        match call.sheet() {
-            Some(sheet) if (sheet as usize) < self.card.sheets.len() => {
-                self.places_as_in_ledger(sheet as usize, self.compared)
-            }
-            _ => Ok(()),
+        if (call.sheet as usize) < self.card.sheets.len() {
+            self.places_as_in_ledger(call.sheet as usize, self.compared)?;
         }
+        Ok(())
     }
 
     /// The map, the catalogue and the shape are the ledger's, and free + granted = blocks + returned.
@@ -301,7 +290,9 @@ impl Beside {
         }
         for place in 0..entry.length {
             let mut buffer = bytes(&[0x3c; 496], self.margin);
-            let outcome = self.library.show(sheet as u32, place, &mut buffer);
+            let outcome = self
+                .library
+                .call(call(Kind::Show, sheet as u32, place), &mut buffer);
             same_outcome(outcome, &self.card, Answer::Done)?;
             let block = ledger.block(sheet, place as usize);
             same_slice("shown payload", &buffer, &block[8..504])?;

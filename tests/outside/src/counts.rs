@@ -1,85 +1,74 @@
-//! How often each call was answered with each row of document 01's table.
+//! How often each call was answered with each row of document 01's table, and how often two rows held for it at once.
 
-use crate::call::{Call, NAMES};
-use bitwise::card::{Answer, Card};
+use bitwise::call::{orders, CALLS};
+use bitwise::card::Answer;
+use bitwise::rows::{pairs, Row};
 use std::collections::BTreeMap;
 
-/// The rows in their order. Row 4 is there three times.
-const ROWS: [&str; 14] = [
+/// The columns of the table of answers, in the order of the rows. Row 4 is there three times.
+const COLUMNS: [&str; 14] = [
     "done", "1", "2", "4 entry", "5", "6", "7", "8", "3", "4 block", "9", "10", "11", "4 count",
 ];
+
+/// The column that a row is counted in.
+fn column(row: Option<Row>) -> String {
+    match row {
+        None => "done".to_string(),
+        Some(Row::Damaged) => "4 entry".to_string(),
+        Some(Row::Unsound) => "4 block".to_string(),
+        Some(Row::FreeCount) => "4 count".to_string(),
+        Some(row) => row.number().to_string(),
+    }
+}
 
 #[derive(Default)]
 pub struct Counts {
     pub calls: u64,
-    answers: [[u64; ROWS.len()]; NAMES.len()],
+    /// By the name of the call and the first row that held.
+    answers: BTreeMap<(&'static str, Option<Row>), u64>,
+    /// By the name of the call, the first row that held, and another that did.
+    pairs: BTreeMap<(&'static str, Row, Row), u64>,
     /// Saves and loads, by what was tried and the answer.
     images: BTreeMap<(&'static str, String), u64>,
 }
 
-/// The rows that a call can be answered with. Of them "1" and "4" hold in damaged states only.
-fn possible(name: &str) -> &'static [&'static str] {
-    match name {
-        "fresh" => &["1"],
-        "search" => &["1", "3", "10"],
-        "survey" => &["1"],
-        "reserve" => &["1", "2", "4 entry", "6", "7", "8", "3", "10", "4 count"],
-        "put" => &["1", "2", "4 entry", "5", "6", "8", "3"],
-        "grow" => &["1", "2", "4 entry", "5", "6", "8", "3", "11", "4 count"],
-        "complete" => &["1", "2", "4 entry", "5", "6", "8", "4 block", "9"],
-        "pause" => &["1", "2", "4 entry", "6", "7", "8"],
-        "release" => &["1", "2", "4 entry", "5", "4 count"],
-        "show" => &["1", "2", "4 entry", "5", "6", "7", "3", "4 block"],
-        _ => &["1", "2", "4 entry"],
-    }
-}
-
-/// Which row it was. 4 was for the entry if standing gives 4, too: the refusal has changed nothing.
-fn row_of(call: Call, answer: Answer, card: &Card) -> String {
-    let number = match answer {
-        Answer::Refused(4) => {
-            let sheet = call.sheet().unwrap_or(0);
-            return match (card.standing(sheet), call) {
-                (Err(_), _) => "4 entry".to_string(),
-                (Ok(_), Call::Complete(_) | Call::Show(..)) => "4 block".to_string(),
-                (Ok(_), _) => "4 count".to_string(),
-            };
-        }
-        Answer::Refused(number) => number,
-        Answer::Blank(_) => 9,
-        _ => return "done".to_string(),
-    };
-    number.to_string()
-}
-
 impl Counts {
-    /// An answer, with the card as the call left it.
-    pub fn note(&mut self, call: Call, answer: Answer, card: &Card) {
-        let row = row_of(call, answer, card);
-        let at = ROWS.iter().position(|name| *name == row);
-        self.answers[call.kind()][at.expect("a row of the table")] += 1;
+    /// A call that was made, with the rows that held for it, the first of which was the answer.
+    pub fn note(&mut self, name: &'static str, held: &[Row]) {
+        let first = held.first().copied();
+        *self.answers.entry((name, first)).or_default() += 1;
+        for other in held.iter().skip(1) {
+            *self.pairs.entry((name, held[0], *other)).or_default() += 1;
+        }
         self.calls += 1;
     }
 
+    /// How often a call was answered with a row of a column.
+    fn answered(&self, name: &str, in_column: &str) -> u64 {
+        let counts = self.answers.iter();
+        counts
+            .filter(|((other, row), _)| *other == name && column(*row) == in_column)
+            .map(|(_, count)| count)
+            .sum()
+    }
+
     /// A line for each call. A row that could have been the answer and never was is an error, for then the calls have not
-    /// tested it.
+    /// tested it. Rows 1 and 4 hold in damaged states only.
     pub fn report(&self, damaged: bool) -> Result<(), String> {
         print!("  {:<8}", "");
-        for row in ROWS {
-            print!(" {row:>7}");
-        }
+        COLUMNS.iter().for_each(|column| print!(" {column:>7}"));
         println!();
         let mut missing = Vec::new();
-        for (name, counts) in NAMES.iter().zip(&self.answers) {
+        for (_, name, rows) in CALLS {
             print!("  {name:<8}");
-            for (row, count) in ROWS.iter().zip(counts) {
-                let only_damaged = *row == "1" || row.starts_with('4');
-                let can_be =
-                    *row == "done" || possible(name).contains(row) && (damaged || !only_damaged);
-                match count {
-                    0 if can_be => missing.push(format!("{name} {row}")),
+            for in_column in COLUMNS {
+                let only_damaged = in_column == "1" || in_column.starts_with('4');
+                let possible = rows.iter().any(|row| column(Some(*row)) == in_column);
+                let can_be = in_column == "done" || possible && (damaged || !only_damaged);
+                match self.answered(name, in_column) {
+                    0 if can_be => missing.push(format!("{name} {in_column}")),
                     0 => print!(" {:>7}", "-"),
-                    _ => print!(" {count:>7}"),
+                    count => print!(" {count:>7}"),
                 }
             }
             println!();
@@ -89,16 +78,13 @@ impl Counts {
         }
         Err(format!("never answered: {}", missing.join(", ")))
     }
-}
 
-impl Counts {
     pub fn note_image(&mut self, tried: &'static str, answer: Answer) {
         let answer = match answer {
             Answer::Refused(number) => number.to_string(),
             _ => "done".to_string(),
         };
         *self.images.entry((tried, answer)).or_default() += 1;
-        self.calls += 1;
     }
 
     /// A line for each thing tried and each answer to it. One that should have been tried and never was is an error.
@@ -107,12 +93,72 @@ impl Counts {
             println!("  {tried:<44} {answer:>4} {count:>7}");
         }
         let tried = |name: &&str| self.images.keys().any(|(other, _)| other == name);
-        let missing: Vec<&str> = crate::images::expected()
+        let missing: Vec<&str> = crate::flaws::expected()
             .filter(|name| !tried(name))
             .collect();
         if missing.is_empty() {
             return Ok(());
         }
         Err(format!("never tried: {}", missing.join(", ")))
+    }
+}
+
+/// A row as it is printed: its number, and what it is about.
+fn printed(row: Row) -> String {
+    format!("{} {row:?}", row.number())
+}
+
+/// The pairs of rows that held at once.
+impl Counts {
+    pub fn add_pairs(&mut self, other: &Counts) {
+        for (pair, count) in &other.pairs {
+            *self.pairs.entry(*pair).or_default() += count;
+        }
+    }
+
+    /// A line for each call: how many pairs can hold at once, in how many calls one did, and the one that did least often.
+    /// A pair that can hold and never did is an error, and so is one that did and was thought not to.
+    pub fn report_pairs(&self) -> Result<(), String> {
+        println!("  two rows at once: pairs     seen  least often");
+        let mut wrong = Vec::new();
+        for (name, order) in orders() {
+            let possible = pairs(name, order);
+            let seen = |(first, other): (Row, Row)| match self.pairs.get(&(name, first, other)) {
+                Some(count) => *count,
+                None => 0,
+            };
+            let total: u64 = possible.iter().map(|pair| seen(*pair)).sum();
+            let least = possible.iter().copied().min_by_key(|pair| seen(*pair));
+            let least = least.map_or("".to_string(), |pair| {
+                format!(
+                    "{} before {}: {}",
+                    printed(pair.0),
+                    printed(pair.1),
+                    seen(pair)
+                )
+            });
+            println!("  {name:<17} {:>5} {total:>8}  {least}", possible.len());
+            for (first, other) in possible.iter().filter(|pair| seen(**pair) == 0) {
+                wrong.push(format!(
+                    "{name}: {} with {} never held",
+                    printed(*first),
+                    printed(*other)
+                ));
+            }
+            let keys = self.pairs.keys().filter(|(other, ..)| *other == name);
+            for (_, first, other) in
+                keys.filter(|(_, first, other)| !possible.contains(&(*first, *other)))
+            {
+                wrong.push(format!(
+                    "{name}: {} held with {}, and cannot",
+                    printed(*first),
+                    printed(*other)
+                ));
+            }
+        }
+        if wrong.is_empty() {
+            return Ok(());
+        }
+        Err(wrong.join("\n    "))
     }
 }

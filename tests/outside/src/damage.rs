@@ -1,16 +1,16 @@
-//! States that no list of calls leads to: damaged by another hand, of every wrong length, and all states of very small
-//! cards. Document 01's table says what each call answers there, too.
+//! States that no list of calls leads to: damaged by another hand. Document 01's table says what each call answers there,
+//! too.
 
 use crate::beside::{Beside, Compared};
-use crate::call::{Bytes, Call};
 use crate::counts::Counts;
 use crate::generate::Generator;
 use crate::lists::{small_size, used_card};
 use bitwise::blocks::words_of;
+use bitwise::call::{call, Kind};
 use bitwise::card::{entry, sealed, Card};
 use bitwise::random::Random;
 
-const MARKS: [u32; 4] = [0x41, 0x50, 0x4f, 0x43];
+pub const MARKS: [u32; 4] = [0x41, 0x50, 0x4f, 0x43];
 const OTHER_MARKS: [u32; 6] = [0, 1, 0x42, 0x6f, 0x4f4f, 0x4300_0000];
 
 /// Random damage to a small card, and some calls on what is left.
@@ -51,10 +51,10 @@ fn damaged_card(
 /// What a list of calls on the model alone leaves.
 pub fn state(n: usize, c: usize, generator: &mut Generator) -> Card {
     let mut card = used_card(n, c, &mut generator.random);
-    Call::Fresh(n as u32).on_card(&mut card, &mut []);
+    card.call(call(Kind::Fresh, 0, n as u32), &mut []);
     for _ in 0..generator.random.within(5, 80) {
         let call = generator.call(&card);
-        call.on_card(&mut card, &mut call.slice());
+        card.call(call, &mut call.slice());
     }
     card
 }
@@ -70,13 +70,12 @@ fn calls_on(
     for _ in 0..generator.random.within(4, 16) {
         let call = if generator.random.chance(1, 60) {
             let n = card.n as u32;
-            Call::Fresh(generator.around(n))
+            call(Kind::Fresh, 0, generator.around(n))
         } else {
             generator.call(&beside.card)
         };
         *log += &format!("    {call}\n");
-        let answer = beside.call(call)?;
-        counts.note(call, answer, &beside.card);
+        beside.call(call, counts)?;
     }
     *card = beside.card;
     Ok(())
@@ -263,229 +262,4 @@ fn damage_length(card: &mut Card, generator: &mut Generator) -> String {
         card.sheets.len(),
         card.bytes.len()
     )
-}
-
-// Every length.
-
-/// One call on a card.
-fn one(card: &Card, call: Call, margin: usize, counts: &mut Counts) -> Result<(), String> {
-    let mut beside = Beside::new(card.clone(), margin, Compared::All);
-    let answer = beside.call(call).map_err(|error| {
-        let (words, sheets, bytes) = (card.map.len() / 64, card.sheets.len(), card.bytes.len());
-        format!(
-            "n {}, free {}, {words} words (blocks 0 to 3: {:?}), {sheets} entries (the first: {:?}), {bytes} bytes\n    {call}\n{error}",
-            card.n, card.free, card.map.get(..4), card.sheets.first()
-        )
-    })?;
-    counts.note(call, answer, &beside.card);
-    Ok(())
-}
-
-const PAYLOAD: Bytes = Bytes {
-    seed: 9,
-    length: 496,
-};
-
-/// A call of each kind; on the card of `three_sheets` each is accepted.
-const EACH: [Call; 11] = [
-    Call::Fresh(70),
-    Call::Search(3),
-    Call::Survey,
-    Call::Reserve(2, 3),
-    Call::Put(1, 0, PAYLOAD),
-    Call::Grow(1, 2),
-    Call::Complete(1),
-    Call::Pause(2),
-    Call::Release(0),
-    Call::Show(0, 1, PAYLOAD),
-    Call::Standing(0),
-];
-
-/// A card of 70 blocks: sheet 0 is complete, sheet 1 open and filled, sheet 2 absent.
-fn three_sheets() -> Card {
-    let mut card = used_card(70, 3, &mut Random::of(0));
-    let calls = [
-        Call::Fresh(70),
-        Call::Reserve(0, 2),
-        Call::Put(0, 0, PAYLOAD),
-        Call::Put(0, 1, PAYLOAD),
-        Call::Complete(0),
-        Call::Reserve(1, 1),
-        Call::Put(1, 0, PAYLOAD),
-    ];
-    for call in calls {
-        call.on_card(&mut card, &mut call.slice());
-    }
-    card
-}
-
-/// Each slice of each call in many lengths, the others as they should be.
-pub fn lengths(margin: usize, counts: &mut Counts) -> Result<(), String> {
-    let whole = three_sheets();
-    for call in EACH {
-        one(&whole, call, margin, counts)?;
-        for words in 0..=4 {
-            let mut card = whole.clone();
-            card.map.resize(64 * words, true);
-            one(&card, call, margin, counts)?;
-        }
-        for sheets in (0..=6).chain(1022..=1027) {
-            let mut card = whole.clone();
-            card.sheets.resize(sheets, entry(0x41, 0, 0));
-            one(&card, call, margin, counts)?;
-        }
-        for bytes in (0..=2)
-            .chain(510..=514)
-            .chain(70 * 512 - 514..=70 * 512 + 514)
-        {
-            let mut card = whole.clone();
-            card.bytes.resize(bytes, 0);
-            one(&card, call, margin, counts)?;
-        }
-        for n in [
-            0, 1, 63, 64, 65, 69, 71, 127, 128, 129, 262144, 262145, 4294967295,
-        ] {
-            let mut card = whole.clone();
-            card.n = n;
-            one(&card, call, margin, counts)?;
-            card.bytes.resize(512 * n.min(200), 0);
-            one(&card, call, margin, counts)?;
-        }
-        for free in (0..=72).chain([4294967295]) {
-            let mut card = whole.clone();
-            card.free = free;
-            one(&card, call, margin, counts)?;
-        }
-    }
-    for length in 0..=1100 {
-        let bytes = Bytes { seed: 5, length };
-        one(&whole, Call::Put(1, 0, bytes), margin, counts)?;
-        one(&whole, Call::Show(0, 1, bytes), margin, counts)?;
-    }
-    Ok(())
-}
-
-/// The largest numbers of blocks and of sheets, and one more, with slices of the right length.
-pub fn limits(margin: usize, counts: &mut Counts) -> Result<(), String> {
-    for n in [262143, 262144, 262145, 262208] {
-        for c in [1, 1023, 1024, 1025] {
-            let card = Card {
-                n,
-                free: n,
-                map: (0..64 * words_of(n)).map(|b| b < n).collect(),
-                sheets: vec![entry(0x41, 0, 0); c],
-                // Calls that are not lent the card need none.
-                bytes: Vec::new(),
-            };
-            at_limits(card, margin, counts)?;
-        }
-    }
-    let n = 262145;
-    let card = Card {
-        n,
-        free: n,
-        map: vec![true; 64 * words_of(n)],
-        sheets: vec![entry(0x41, 0, 0)],
-        bytes: vec![0; 512 * n],
-    };
-    at_limits(card, margin, counts)
-}
-
-fn at_limits(card: Card, margin: usize, counts: &mut Counts) -> Result<(), String> {
-    let (n, last) = (card.n as u32, card.sheets.len() as u32 - 1);
-    let calls = [
-        Call::Search(n),
-        Call::Survey,
-        Call::Standing(last),
-        Call::Reserve(last, n),
-        Call::Put(last, 0, PAYLOAD),
-        Call::Grow(last, 1),
-        Call::Complete(last),
-        Call::Show(last, 0, PAYLOAD),
-        Call::Pause(last),
-        Call::Release(last),
-        Call::Fresh(n),
-    ];
-    let limits = format!("{n} blocks and {} sheets", card.sheets.len());
-    let mut beside = Beside::new(card, margin, Compared::All);
-    for call in calls {
-        let answer = beside
-            .call(call)
-            .map_err(|error| format!("{limits}, {call}: {error}"))?;
-        counts.note(call, answer, &beside.card);
-    }
-    Ok(())
-}
-
-// All states.
-
-/// Every map, free count, entry and call of cards of up to `most` blocks and one sheet, and for complete and show every
-/// choice of blank, sound and unsound blocks.
-pub fn states(most: usize, margin: usize, counts: &mut Counts) -> Result<(), String> {
-    for n in 1..=most {
-        for map in 0..2 << n {
-            for free in 0..=n + 1 {
-                for mark in MARKS.into_iter().chain([0, 0x42]) {
-                    for extent in 0..(n + 2) * (n + 2) {
-                        let (start, length) = (extent / (n + 2), extent % (n + 2));
-                        let card = Card {
-                            n,
-                            free,
-                            // Those from n on are all free or all taken.
-                            map: (0..64).map(|b| map >> n.min(b) & 1 == 1).collect(),
-                            sheets: vec![entry(mark, start as u32, length as u32)],
-                            bytes: vec![0; 512 * n],
-                        };
-                        calls_on_state(card, margin, counts)?;
-                    }
-                }
-            }
-        }
-    }
-    Ok(())
-}
-
-fn calls_on_state(mut card: Card, margin: usize, counts: &mut Counts) -> Result<(), String> {
-    let n = card.n as u32;
-    for number in 0..=n + 1 {
-        let calls = [
-            Call::Search(number),
-            Call::Reserve(0, number),
-            Call::Grow(0, number),
-            Call::Put(0, number, PAYLOAD),
-            Call::Standing(number),
-        ];
-        for call in calls {
-            one(&card, call, margin, counts)?;
-        }
-    }
-    for call in [
-        Call::Survey,
-        Call::Pause(0),
-        Call::Release(0),
-        Call::Fresh(n),
-    ] {
-        one(&card, call, margin, counts)?;
-    }
-    let start = card.sheets[0].start;
-    let held = matches!(card.sheets[0].mark, 0x4f | 0x43) && card.sheets[0].length > 0;
-    let contents = if held { 3usize.pow(n) } else { 1 };
-    for content in 0..contents {
-        for b in 0..n {
-            let place = b.wrapping_sub(start);
-            let mut block = match content / 3usize.pow(b) % 3 {
-                0 => vec![0; 512],
-                _ => sealed(0, place, &PAYLOAD.contents()),
-            };
-            if content / 3usize.pow(b) % 3 == 2 {
-                block[7 + 124 * b as usize] ^= 1;
-            }
-            card.bytes[512 * b as usize..512 * b as usize + 512].copy_from_slice(&block);
-        }
-        one(&card, Call::Complete(0), margin, counts)?;
-        for place in 0..=n {
-            one(&card, Call::Show(0, place, PAYLOAD), margin, counts)?;
-        }
-    }
-    Ok(())
 }

@@ -1,7 +1,7 @@
 //! Random calls: mostly those that a dispenser makes of the sheet at hand, as its entry stands, and some with any numbers.
 
-use crate::call::{Bytes, Call};
 use bitwise::blocks::survey;
+use bitwise::call::{call, Bytes, Call, Kind};
 use bitwise::card::{Card, Entry};
 use bitwise::random::Random;
 
@@ -33,13 +33,13 @@ impl Generator {
         let sheet = self.sheet;
         let entry = card.sheets[sheet as usize];
         match entry.mark {
-            0x41 if self.random.chance(1, 10) => Call::Pause(sheet),
+            0x41 if self.random.chance(1, 10) => call(Kind::Pause, sheet, 0),
             0x41 => self.of_absent(card, sheet),
-            0x50 if self.random.chance(1, 2) => Call::Release(sheet),
+            0x50 if self.random.chance(1, 2) => call(Kind::Release, sheet, 0),
             0x4f => self.of_open(card, sheet, entry),
-            0x43 if self.random.chance(1, 4) => Call::Release(sheet),
-            0x43 => Call::Show(sheet, self.likely_place(entry), self.bytes()),
-            _ => Call::Standing(sheet),
+            0x43 if self.random.chance(1, 4) => call(Kind::Release, sheet, 0),
+            0x43 => call(Kind::Show, sheet, self.likely_place(entry)).with_bytes(self.bytes()),
+            _ => call(Kind::Standing, sheet, 0),
         }
     }
 
@@ -51,22 +51,22 @@ impl Generator {
             let sheets = (from..card.sheets.len()).chain(0..from);
             let mut holders = sheets.filter(|&other| card.sheets[other].length > 0);
             if let Some(holder) = holders.next() {
-                return Call::Release(holder as u32);
+                return call(Kind::Release, holder as u32, 0);
             }
         }
-        Call::Reserve(sheet, count)
+        call(Kind::Reserve, sheet, count)
     }
 
     fn of_open(&mut self, card: &Card, sheet: u32, entry: Entry) -> Call {
         let blank = blank_place(card, entry);
         match self.random.within(0, 32) {
-            0..=1 => Call::Grow(sheet, self.likely_count(card)),
-            2 => Call::Release(sheet),
-            3 => Call::Complete(sheet),
-            4 => Call::Put(sheet, self.likely_place(entry), self.bytes()),
+            0..=1 => call(Kind::Grow, sheet, self.likely_count(card)),
+            2 => call(Kind::Release, sheet, 0),
+            3 => call(Kind::Complete, sheet, 0),
+            4 => call(Kind::Put, sheet, self.likely_place(entry)).with_bytes(self.bytes()),
             _ => match blank {
-                Some(place) => Call::Put(sheet, place, self.bytes()),
-                None => Call::Complete(sheet),
+                Some(place) => call(Kind::Put, sheet, place).with_bytes(self.bytes()),
+                None => call(Kind::Complete, sheet, 0),
             },
         }
     }
@@ -75,16 +75,18 @@ impl Generator {
     fn any_call(&mut self, card: &Card) -> Call {
         let sheet = self.any_sheet(card);
         match self.random.within(0, 20) {
-            0..=1 => Call::Search(self.any_count(card)),
-            2 => Call::Survey,
-            3..=5 => Call::Reserve(sheet, self.any_count(card)),
-            6..=8 => Call::Grow(sheet, self.any_count(card)),
-            9..=10 => Call::Put(sheet, self.any_place(card, sheet), self.bytes()),
-            11..=12 => Call::Complete(sheet),
-            13..=14 => Call::Pause(sheet),
-            15..=16 => Call::Release(sheet),
-            17..=18 => Call::Show(sheet, self.any_place(card, sheet), self.bytes()),
-            _ => Call::Standing(sheet),
+            0..=1 => call(Kind::Search, 0, self.any_count(card)),
+            2 => call(Kind::Survey, 0, 0),
+            3..=5 => call(Kind::Reserve, sheet, self.any_count(card)),
+            6..=8 => call(Kind::Grow, sheet, self.any_count(card)),
+            9..=10 => call(Kind::Put, sheet, self.any_place(card, sheet)).with_bytes(self.bytes()),
+            11..=12 => call(Kind::Complete, sheet, 0),
+            13..=14 => call(Kind::Pause, sheet, 0),
+            15..=16 => call(Kind::Release, sheet, 0),
+            17..=18 => {
+                call(Kind::Show, sheet, self.any_place(card, sheet)).with_bytes(self.bytes())
+            }
+            _ => call(Kind::Standing, sheet, 0),
         }
     }
 

@@ -1,5 +1,6 @@
 //! The C functions (include/pagunlit.h), and the slices that they are lent.
 
+use bitwise::call::{Call, Kind};
 use bitwise::card::{self, Answer};
 
 #[repr(C)]
@@ -63,24 +64,32 @@ mod c {
     use super::{Entry, Outcome, Shape};
 
     extern "C" {
-        pub fn pagunlit_fresh(shape: Shape, blocks: u32, map: *mut u64, maplen: usize, catalogue: *mut Entry, cataloguelen: usize) -> Outcome;
+        pub fn pagunlit_fresh(shape: Shape, blocks: u32, map: *mut u64, maplen: usize,
+            catalogue: *mut Entry, cataloguelen: usize) -> Outcome;
         pub fn pagunlit_search(shape: Shape, map: *const u64, maplen: usize, k: u32) -> Outcome;
         pub fn pagunlit_survey(shape: Shape, map: *const u64, maplen: usize) -> Outcome;
-        pub fn pagunlit_reserve(shape: Shape, map: *mut u64, maplen: usize, catalogue: *mut Entry, cataloguelen: usize, card: *mut u8, cardlen: usize, sheet: u32, count: u32) -> Outcome;
-        pub fn pagunlit_grow(shape: Shape, map: *mut u64, maplen: usize, catalogue: *mut Entry, cataloguelen: usize, card: *mut u8, cardlen: usize, sheet: u32, count: u32) -> Outcome;
-        pub fn pagunlit_put(shape: Shape, map: *const u64, maplen: usize, catalogue: *const Entry, cataloguelen: usize, card: *mut u8, cardlen: usize, sheet: u32, place: u32, payload: *const u8, payloadlen: usize) -> Outcome;
-        pub fn pagunlit_complete(shape: Shape, map: *const u64, maplen: usize, catalogue: *mut Entry, cataloguelen: usize, card: *const u8, cardlen: usize, sheet: u32) -> Outcome;
-        pub fn pagunlit_pause(shape: Shape, map: *const u64, maplen: usize, catalogue: *mut Entry, cataloguelen: usize, sheet: u32) -> Outcome;
-        pub fn pagunlit_release(shape: Shape, map: *mut u64, maplen: usize, catalogue: *mut Entry, cataloguelen: usize, sheet: u32) -> Outcome;
-        pub fn pagunlit_standing(shape: Shape, map: *const u64, maplen: usize, catalogue: *const Entry, cataloguelen: usize, sheet: u32) -> Outcome;
-        pub fn pagunlit_show(shape: Shape, map: *const u64, maplen: usize, catalogue: *const Entry, cataloguelen: usize, card: *const u8, cardlen: usize, sheet: u32, place: u32, buffer: *mut u8, bufferlen: usize) -> Outcome;
+        pub fn pagunlit_reserve(shape: Shape, map: *mut u64, maplen: usize, catalogue: *mut Entry, cataloguelen: usize,
+            card: *mut u8, cardlen: usize, sheet: u32, count: u32) -> Outcome;
+        pub fn pagunlit_grow(shape: Shape, map: *mut u64, maplen: usize, catalogue: *mut Entry, cataloguelen: usize,
+            card: *mut u8, cardlen: usize, sheet: u32, count: u32) -> Outcome;
+        pub fn pagunlit_put(shape: Shape, map: *const u64, maplen: usize, catalogue: *const Entry, cataloguelen: usize,
+            card: *mut u8, cardlen: usize, sheet: u32, place: u32, payload: *const u8, payloadlen: usize) -> Outcome;
+        pub fn pagunlit_complete(shape: Shape, map: *const u64, maplen: usize, catalogue: *mut Entry, cataloguelen: usize,
+            card: *const u8, cardlen: usize, sheet: u32) -> Outcome;
+        pub fn pagunlit_pause(shape: Shape, map: *const u64, maplen: usize, catalogue: *mut Entry, cataloguelen: usize,
+            sheet: u32) -> Outcome;
+        pub fn pagunlit_release(shape: Shape, map: *mut u64, maplen: usize, catalogue: *mut Entry, cataloguelen: usize,
+            sheet: u32) -> Outcome;
+        pub fn pagunlit_standing(shape: Shape, map: *const u64, maplen: usize, catalogue: *const Entry, cataloguelen: usize,
+            sheet: u32) -> Outcome;
+        pub fn pagunlit_show(shape: Shape, map: *const u64, maplen: usize, catalogue: *const Entry, cataloguelen: usize,
+            card: *const u8, cardlen: usize, sheet: u32, place: u32, buffer: *mut u8, bufferlen: usize) -> Outcome;
+        pub fn pagunlit_save(shape: Shape, map: *const u64, maplen: usize, catalogue: *const Entry, cataloguelen: usize,
+            scratch: *mut u64, scratchlen: usize, image: *mut u8, imagelen: usize) -> Outcome;
+        pub fn pagunlit_load(shape: Shape, image: *const u8, imagelen: usize, map: *mut u64, maplen: usize,
+            catalogue: *mut Entry, cataloguelen: usize, scratch: *mut u64, scratchlen: usize) -> Outcome;
         pub fn seal(sheet: u32, place: u32, payload: *const u8, payloadlen: usize, block: *mut u8, blocklen: usize) -> u32;
         pub fn check(block: *const u8, blocklen: usize) -> u32;
-    }
-
-    extern "C" {
-        pub fn pagunlit_save(shape: Shape, map: *const u64, maplen: usize, catalogue: *const Entry, cataloguelen: usize, scratch: *mut u64, scratchlen: usize, image: *mut u8, imagelen: usize) -> Outcome;
-        pub fn pagunlit_load(shape: Shape, image: *const u8, imagelen: usize, map: *mut u64, maplen: usize, catalogue: *mut Entry, cataloguelen: usize, scratch: *mut u64, scratchlen: usize) -> Outcome;
     }
 }
 
@@ -153,56 +162,41 @@ pub struct Library {
 /// The calls. Each lends whole slices that overlap no other, for the time of the call: this is what the C functions ask for.
 #[rustfmt::skip]
 impl Library {
-    pub fn fresh(&mut self, n: u32) -> Outcome {
-        unsafe { c::pagunlit_fresh(self.shape, n, self.map.at(), self.map.len(), self.catalogue.at(), self.catalogue.len()) }
-    }
-
-    pub fn search(&mut self, k: u32) -> Outcome {
-        unsafe { c::pagunlit_search(self.shape, self.map.at(), self.map.len(), k) }
-    }
-
-    pub fn survey(&mut self) -> Outcome {
-        unsafe { c::pagunlit_survey(self.shape, self.map.at(), self.map.len()) }
-    }
-
-    pub fn reserve(&mut self, sheet: u32, k: u32) -> Outcome {
-        unsafe { c::pagunlit_reserve(self.shape, self.map.at(), self.map.len(), self.catalogue.at(), self.catalogue.len(), self.card.at(), self.card.len(), sheet, k) }
-    }
-
-    pub fn grow(&mut self, sheet: u32, m: u32) -> Outcome {
-        unsafe { c::pagunlit_grow(self.shape, self.map.at(), self.map.len(), self.catalogue.at(), self.catalogue.len(), self.card.at(), self.card.len(), sheet, m) }
-    }
-
-    pub fn put(&mut self, sheet: u32, place: u32, payload: &mut Lent<u8>) -> Outcome {
-        unsafe { c::pagunlit_put(self.shape, self.map.at(), self.map.len(), self.catalogue.at(), self.catalogue.len(), self.card.at(), self.card.len(), sheet, place, payload.at(), payload.len()) }
-    }
-
-    pub fn complete(&mut self, sheet: u32) -> Outcome {
-        unsafe { c::pagunlit_complete(self.shape, self.map.at(), self.map.len(), self.catalogue.at(), self.catalogue.len(), self.card.at(), self.card.len(), sheet) }
-    }
-
-    pub fn pause(&mut self, sheet: u32) -> Outcome {
-        unsafe { c::pagunlit_pause(self.shape, self.map.at(), self.map.len(), self.catalogue.at(), self.catalogue.len(), sheet) }
-    }
-
-    pub fn release(&mut self, sheet: u32) -> Outcome {
-        unsafe { c::pagunlit_release(self.shape, self.map.at(), self.map.len(), self.catalogue.at(), self.catalogue.len(), sheet) }
-    }
-
-    pub fn show(&mut self, sheet: u32, place: u32, buffer: &mut Lent<u8>) -> Outcome {
-        unsafe { c::pagunlit_show(self.shape, self.map.at(), self.map.len(), self.catalogue.at(), self.catalogue.len(), self.card.at(), self.card.len(), sheet, place, buffer.at(), buffer.len()) }
-    }
-
-    pub fn standing(&mut self, sheet: u32) -> Outcome {
-        unsafe { c::pagunlit_standing(self.shape, self.map.at(), self.map.len(), self.catalogue.at(), self.catalogue.len(), sheet) }
+    pub fn call(&mut self, call: Call, slice: &mut Lent<u8>) -> Outcome {
+        let (shape, sheet, number) = (self.shape, call.sheet, call.number);
+        let (map, w) = (self.map.at(), self.map.len());
+        let (sheets, c) = (self.catalogue.at(), self.catalogue.len());
+        let (card, length) = (self.card.at(), self.card.len());
+        let (bytes, count) = (slice.at(), slice.len());
+        unsafe {
+            match call.kind {
+                Kind::Fresh => c::pagunlit_fresh(shape, number, map, w, sheets, c),
+                Kind::Search => c::pagunlit_search(shape, map, w, number),
+                Kind::Survey => c::pagunlit_survey(shape, map, w),
+                Kind::Reserve => c::pagunlit_reserve(shape, map, w, sheets, c, card, length, sheet, number),
+                Kind::Put => c::pagunlit_put(shape, map, w, sheets, c, card, length, sheet, number, bytes, count),
+                Kind::Grow => c::pagunlit_grow(shape, map, w, sheets, c, card, length, sheet, number),
+                Kind::Complete => c::pagunlit_complete(shape, map, w, sheets, c, card, length, sheet),
+                Kind::Pause => c::pagunlit_pause(shape, map, w, sheets, c, sheet),
+                Kind::Release => c::pagunlit_release(shape, map, w, sheets, c, sheet),
+                Kind::Show => c::pagunlit_show(shape, map, w, sheets, c, card, length, sheet, number, bytes, count),
+                Kind::Standing => c::pagunlit_standing(shape, map, w, sheets, c, sheet),
+            }
+        }
     }
 
     pub fn save(&mut self, scratch: &mut Lent<u64>, image: &mut Lent<u8>) -> Outcome {
-        unsafe { c::pagunlit_save(self.shape, self.map.at(), self.map.len(), self.catalogue.at(), self.catalogue.len(), scratch.at(), scratch.len(), image.at(), image.len()) }
+        let (map, w) = (self.map.at(), self.map.len());
+        let (sheets, c) = (self.catalogue.at(), self.catalogue.len());
+        let (zeros, words) = (scratch.at(), scratch.len());
+        unsafe { c::pagunlit_save(self.shape, map, w, sheets, c, zeros, words, image.at(), image.len()) }
     }
 
     pub fn load(&mut self, image: &mut Lent<u8>, scratch: &mut Lent<u64>) -> Outcome {
-        unsafe { c::pagunlit_load(self.shape, image.at(), image.len(), self.map.at(), self.map.len(), self.catalogue.at(), self.catalogue.len(), scratch.at(), scratch.len()) }
+        let (map, w) = (self.map.at(), self.map.len());
+        let (sheets, c) = (self.catalogue.at(), self.catalogue.len());
+        let (zeros, words) = (scratch.at(), scratch.len());
+        unsafe { c::pagunlit_load(self.shape, image.at(), image.len(), map, w, sheets, c, zeros, words) }
     }
 }
 

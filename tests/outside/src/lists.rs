@@ -1,10 +1,10 @@
 //! Lists of calls from a fresh card, on small cards and on cards of full size.
 
 use crate::beside::{Beside, Compared};
-use crate::call::Call;
 use crate::counts::Counts;
 use crate::generate::Generator;
 use bitwise::blocks::words_of;
+use bitwise::call::{call, Call, Kind};
 use bitwise::card::{entry, Card};
 use bitwise::random::Random;
 
@@ -65,15 +65,12 @@ fn follow(
     calls: &mut Vec<Call>,
     counts: &mut Counts,
 ) -> Result<(), String> {
-    let fresh = Call::Fresh(n as u32);
-    let answer = beside.call(fresh)?;
-    counts.note(fresh, answer, &beside.card);
+    beside.call(call(Kind::Fresh, 0, n as u32), counts)?;
     beside.start_ledger();
     for _ in 0..length {
         let call = generator.call(&beside.card);
         calls.push(call);
-        let answer = beside.call(call)?;
-        counts.note(call, answer, &beside.card);
+        beside.call(call, counts)?;
     }
     beside.finish()
 }

@@ -7,14 +7,16 @@
 //!     outside again PART SEED       one list again, as a failure names it
 
 mod beside;
-mod call;
 mod counts;
 mod damage;
+mod flaws;
 mod generate;
 mod images;
+mod lengths;
 mod library;
 mod lists;
 mod singles;
+mod states;
 
 use counts::Counts;
 use std::time::{Duration, Instant};
@@ -62,9 +64,9 @@ const GROUPS: &[Group] = &[
         parts: &[
             part("damaged", damage::damaged, 20000, 2000, 1500),
             part("damaged-full", damage::damaged_full, 2, 1, 0),
-            part("lengths", |_, margin, counts| damage::lengths(margin, counts), 1, 0, 0),
-            part("limits", |_, margin, counts| damage::limits(margin, counts), 1, 0, 0),
-            part("states", |_, margin, counts| damage::states(3, margin, counts), 1, 0, 0),
+            part("lengths", |_, margin, counts| lengths::lengths(margin, counts), 1, 0, 0),
+            part("limits", |_, margin, counts| lengths::limits(margin, counts), 1, 0, 0),
+            part("states", |_, margin, counts| states::states(3, margin, counts), 1, 0, 0),
         ],
         report: |counts| counts.report(true),
     },

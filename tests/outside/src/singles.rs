@@ -1,9 +1,9 @@
 //! Single blocks: seal and check, of any numbers, bytes and lengths.
 
 use crate::beside::same_slice;
-use crate::call::Bytes;
 use crate::counts::Counts;
 use crate::library::{bytes, check, seal};
+use bitwise::call::Bytes;
 use bitwise::card::sealed;
 use bitwise::random::Random;
 

@@ -1,6 +1,7 @@
 //! What the calls of the examples work on, and what a line of them prints.
 
 use crate::blocks::{from_words, to_words};
+use crate::call::{call, Bytes, Kind};
 use crate::card::{entry, Answer, Card, Entry};
 
 /// What the calls work on, of which they are lent the first words, entries and bytes.
@@ -68,32 +69,34 @@ impl Store {
     fn call(&mut self, word: &str, numbers: &[u32]) -> Answer {
         let card = &mut self.lent();
         let before = card.clone();
-        let at = |i: usize| numbers[i] as usize;
-        let answer = match word {
-            "fresh" => card.fresh(at(0)),
-            "search" => card.search(at(0)),
-            "survey" => card.survey(),
-            "reserve" => card.reserve(numbers[0], at(1)),
-            "put" => card.put(numbers[0], numbers[1], &payload(numbers[2], at(3))),
-            "grow" => card.grow(numbers[0], at(1)),
-            "complete" => card.complete(numbers[0]),
-            "pause" => card.pause(numbers[0]),
-            "release" => card.release(numbers[0]),
-            "show" => {
-                let buffer = self.buffer.as_mut().unwrap();
-                card.show(numbers[0], numbers[1], &mut buffer[..at(2)])
-            }
-            "standing" => card.standing(numbers[0]),
-            other => panic!("no call {other}"),
+        let kind = Kind::named(word).expect("a call");
+        let at = |i: usize| numbers.get(i).copied().unwrap_or(0);
+        let (sheet, number) = if kind.has_sheet() {
+            (at(0), at(1))
+        } else {
+            (0, at(0))
         };
-        if answer.is_err() {
+        let mut brought = match kind {
+            Kind::Put => payload(at(2), at(3) as usize),
+            _ => Vec::new(),
+        };
+        let slice = match &mut self.buffer {
+            Some(buffer) => &mut buffer[..at(2) as usize],
+            None => &mut brought[..],
+        };
+        let bytes = Bytes {
+            seed: 0,
+            length: slice.len(),
+        };
+        let answer = card.call(call(kind, sheet, number).with_bytes(bytes), slice);
+        if matches!(answer, Answer::Refused(_) | Answer::Blank(_)) {
             assert!(
                 *card == before,
                 "a refusal changed something: {word} {numbers:?}"
             );
         }
         self.take_back(card);
-        answer.unwrap_or_else(|refusal| refusal)
+        answer
     }
 
     fn lent(&self) -> Card {

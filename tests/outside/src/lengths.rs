@@ -1,0 +1,163 @@
+//! Every length of what a call is lent, and the largest numbers.
+
+use crate::beside::{Beside, Compared};
+use crate::counts::Counts;
+use crate::lists::used_card;
+use bitwise::blocks::words_of;
+use bitwise::call::{call, Bytes, Call, Kind};
+use bitwise::card::{entry, Card};
+use bitwise::random::Random;
+
+/// One call on a card.
+pub fn one(card: &Card, call: Call, margin: usize, counts: &mut Counts) -> Result<(), String> {
+    let mut beside = Beside::new(card.clone(), margin, Compared::All);
+    beside.call(call, counts).map_err(|error| {
+        let (words, sheets, bytes) = (card.map.len() / 64, card.sheets.len(), card.bytes.len());
+        let (blocks, first) = (card.map.get(..4), card.sheets.first());
+        format!(
+            "n {}, free {}, {words} words (blocks 0 to 3: {blocks:?}), {sheets} entries (the first: {first:?}), \
+            {bytes} bytes\n    {call}\n{error}",
+            card.n, card.free
+        )
+    })
+}
+
+/// A call of each kind; on the card of `three_sheets` each is accepted.
+const EACH: [Call; 11] = [
+    call(Kind::Fresh, 0, 70),
+    call(Kind::Search, 0, 3),
+    call(Kind::Survey, 0, 0),
+    call(Kind::Reserve, 2, 3),
+    call(Kind::Put, 1, 0),
+    call(Kind::Grow, 1, 2),
+    call(Kind::Complete, 1, 0),
+    call(Kind::Pause, 2, 0),
+    call(Kind::Release, 0, 0),
+    call(Kind::Show, 0, 1),
+    call(Kind::Standing, 0, 0),
+];
+
+/// A card of 70 blocks: sheet 0 is complete, sheet 1 open and filled, sheet 2 absent.
+fn three_sheets() -> Card {
+    let mut card = used_card(70, 3, &mut Random::of(0));
+    let calls = [
+        call(Kind::Fresh, 0, 70),
+        call(Kind::Reserve, 0, 2),
+        call(Kind::Put, 0, 0),
+        call(Kind::Put, 0, 1),
+        call(Kind::Complete, 0, 0),
+        call(Kind::Reserve, 1, 1),
+        call(Kind::Put, 1, 0),
+    ];
+    for call in calls {
+        card.call(call, &mut call.slice());
+    }
+    card
+}
+
+/// Each slice of each call in many lengths, the others as they should be.
+pub fn lengths(margin: usize, counts: &mut Counts) -> Result<(), String> {
+    let whole = three_sheets();
+    for call in EACH {
+        one(&whole, call, margin, counts)?;
+        for words in 0..=4 {
+            let mut card = whole.clone();
+            card.map.resize(64 * words, true);
+            one(&card, call, margin, counts)?;
+        }
+        for sheets in (0..=6).chain(1022..=1027) {
+            let mut card = whole.clone();
+            card.sheets.resize(sheets, entry(0x41, 0, 0));
+            one(&card, call, margin, counts)?;
+        }
+        for bytes in (0..=2)
+            .chain(510..=514)
+            .chain(70 * 512 - 514..=70 * 512 + 514)
+        {
+            let mut card = whole.clone();
+            card.bytes.resize(bytes, 0);
+            one(&card, call, margin, counts)?;
+        }
+        for n in [
+            0, 1, 63, 64, 65, 69, 71, 127, 128, 129, 262144, 262145, 4294967295,
+        ] {
+            let mut card = whole.clone();
+            card.n = n;
+            one(&card, call, margin, counts)?;
+            card.bytes.resize(512 * n.min(200), 0);
+            one(&card, call, margin, counts)?;
+        }
+        for free in (0..=72).chain([4294967295]) {
+            let mut card = whole.clone();
+            card.free = free;
+            one(&card, call, margin, counts)?;
+        }
+    }
+    for length in 0..=1100 {
+        let bytes = Bytes { seed: 5, length };
+        one(
+            &whole,
+            call(Kind::Put, 1, 0).with_bytes(bytes),
+            margin,
+            counts,
+        )?;
+        one(
+            &whole,
+            call(Kind::Show, 0, 1).with_bytes(bytes),
+            margin,
+            counts,
+        )?;
+    }
+    Ok(())
+}
+
+/// The largest numbers of blocks and of sheets, and one more, with slices of the right length.
+pub fn limits(margin: usize, counts: &mut Counts) -> Result<(), String> {
+    for n in [262143, 262144, 262145, 262208] {
+        for c in [1, 1023, 1024, 1025] {
+            let card = Card {
+                n,
+                free: n,
+                map: (0..64 * words_of(n)).map(|b| b < n).collect(),
+                sheets: vec![entry(0x41, 0, 0); c],
+                // Calls that are not lent the card need none.
+                bytes: Vec::new(),
+            };
+            at_limits(card, margin, counts)?;
+        }
+    }
+    let n = 262145;
+    let card = Card {
+        n,
+        free: n,
+        map: vec![true; 64 * words_of(n)],
+        sheets: vec![entry(0x41, 0, 0)],
+        bytes: vec![0; 512 * n],
+    };
+    at_limits(card, margin, counts)
+}
+
+fn at_limits(card: Card, margin: usize, counts: &mut Counts) -> Result<(), String> {
+    let (n, last) = (card.n as u32, card.sheets.len() as u32 - 1);
+    let calls = [
+        call(Kind::Search, 0, n),
+        call(Kind::Survey, 0, 0),
+        call(Kind::Standing, last, 0),
+        call(Kind::Reserve, last, n),
+        call(Kind::Put, last, 0),
+        call(Kind::Grow, last, 1),
+        call(Kind::Complete, last, 0),
+        call(Kind::Show, last, 0),
+        call(Kind::Pause, last, 0),
+        call(Kind::Release, last, 0),
+        call(Kind::Fresh, 0, n),
+    ];
+    let limits = format!("{n} blocks and {} sheets", card.sheets.len());
+    let mut beside = Beside::new(card, margin, Compared::All);
+    for call in calls {
+        beside
+            .call(call, counts)
+            .map_err(|error| format!("{limits}, {call}: {error}"))?;
+    }
+    Ok(())
+}

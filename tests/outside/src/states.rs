@@ -1,0 +1,78 @@
+//! All states of very small cards.
+
+use crate::counts::Counts;
+use crate::damage::MARKS;
+use crate::lengths::one;
+use bitwise::call::{call, Kind, PAYLOAD};
+use bitwise::card::{entry, sealed, Card};
+
+/// Every map, free count, entry and call of cards of up to `most` blocks and one sheet, and for complete and show every
+/// choice of blank, sound and unsound blocks.
+pub fn states(most: usize, margin: usize, counts: &mut Counts) -> Result<(), String> {
+    for n in 1..=most {
+        for map in 0..2 << n {
+            for free in 0..=n + 1 {
+                for mark in MARKS.into_iter().chain([0, 0x42]) {
+                    for extent in 0..(n + 2) * (n + 2) {
+                        let (start, length) = (extent / (n + 2), extent % (n + 2));
+                        let card = Card {
+                            n,
+                            free,
+                            // Those from n on are all free or all taken.
+                            map: (0..64).map(|b| map >> n.min(b) & 1 == 1).collect(),
+                            sheets: vec![entry(mark, start as u32, length as u32)],
+                            bytes: vec![0; 512 * n],
+                        };
+                        calls_on_state(card, margin, counts)?;
+                    }
+                }
+            }
+        }
+    }
+    Ok(())
+}
+
+fn calls_on_state(mut card: Card, margin: usize, counts: &mut Counts) -> Result<(), String> {
+    let n = card.n as u32;
+    for number in 0..=n + 1 {
+        let calls = [
+            call(Kind::Search, 0, number),
+            call(Kind::Reserve, 0, number),
+            call(Kind::Grow, 0, number),
+            call(Kind::Put, 0, number),
+            call(Kind::Standing, number, 0),
+        ];
+        for call in calls {
+            one(&card, call, margin, counts)?;
+        }
+    }
+    for call in [
+        call(Kind::Survey, 0, 0),
+        call(Kind::Pause, 0, 0),
+        call(Kind::Release, 0, 0),
+        call(Kind::Fresh, 0, n),
+    ] {
+        one(&card, call, margin, counts)?;
+    }
+    let start = card.sheets[0].start;
+    let held = matches!(card.sheets[0].mark, 0x4f | 0x43) && card.sheets[0].length > 0;
+    let contents = if held { 3usize.pow(n) } else { 1 };
+    for content in 0..contents {
+        for b in 0..n {
+            let place = b.wrapping_sub(start);
+            let mut block = match content / 3usize.pow(b) % 3 {
+                0 => vec![0; 512],
+                _ => sealed(0, place, &PAYLOAD.contents()),
+            };
+            if content / 3usize.pow(b) % 3 == 2 {
+                block[7 + 124 * b as usize] ^= 1;
+            }
+            card.bytes[512 * b as usize..512 * b as usize + 512].copy_from_slice(&block);
+        }
+        one(&card, call(Kind::Complete, 0, 0), margin, counts)?;
+        for place in 0..=n {
+            one(&card, call(Kind::Show, 0, place), margin, counts)?;
+        }
+    }
+    Ok(())
+}

@@ -1,0 +1,208 @@
+//! A call with its arguments, as it is made of the card, of the ledger and of the library; and of each kind of call its name
+//! and the rows that refuse it.
+
+use crate::random::Random;
+use crate::rows::Row::{self, *};
+use std::fmt;
+
+#[derive(Clone, Copy, Debug, PartialEq, Eq, PartialOrd, Ord)]
+pub enum Kind {
+    Fresh,
+    Search,
+    Survey,
+    Reserve,
+    Put,
+    Grow,
+    Complete,
+    Pause,
+    Release,
+    Show,
+    Standing,
+}
+
+/// Every kind of call, with the rows of document 01's table that can refuse it, in the order under the table.
+#[rustfmt::skip]
+pub const CALLS: [(Kind, &str, &[Row]); 11] = [
+    (Kind::Fresh, "fresh", &[Blocks, Sheets, MapLength]),
+    (Kind::Search, "search", &[Blocks, FreeAboveN, MapLength, NoBlocks, NoFit]),
+    (Kind::Survey, "survey", &[Blocks, FreeAboveN, MapLength]),
+    (Kind::Reserve, "reserve", &[Blocks, Sheets, FreeAboveN, MapLength, CardLength, NoSheet, Damaged,
+        Paused, Open, Complete, NoBlocks, NoFit, FreeCount]),
+    (Kind::Put, "put", &[Blocks, Sheets, FreeAboveN, MapLength, CardLength, NoSheet, Damaged,
+        Absent, Paused, Complete, NoPlace, SliceLength]),
+    (Kind::Grow, "grow", &[Blocks, Sheets, FreeAboveN, MapLength, CardLength, NoSheet, Damaged,
+        Absent, Paused, Complete, NoBlocks, NotNext, FreeCount]),
+    (Kind::Complete, "complete", &[Blocks, Sheets, FreeAboveN, MapLength, CardLength, NoSheet, Damaged,
+        Absent, Paused, Complete, Unsound, Blank]),
+    (Kind::Pause, "pause", &[Blocks, Sheets, FreeAboveN, MapLength, NoSheet, Damaged, Paused, Open, Complete]),
+    (Kind::Release, "release", &[Blocks, Sheets, FreeAboveN, MapLength, NoSheet, Damaged, Absent, FreeCount]),
+    (Kind::Show, "show", &[Blocks, Sheets, FreeAboveN, MapLength, CardLength, NoSheet, Damaged,
+        Absent, Paused, Open, NoPlace, SliceLength, Unsound]),
+    (Kind::Standing, "standing", &[Blocks, Sheets, FreeAboveN, MapLength, NoSheet, Damaged]),
+];
+
+/// The rows of save and load, which have an image and a scratch and no other arguments.
+pub const SAVE: (&str, &[Row]) = (
+    "save",
+    &[
+        Blocks,
+        Sheets,
+        FreeAboveN,
+        MapLength,
+        ScratchLength,
+        SavedState,
+        ImageLength,
+    ],
+);
+pub const LOAD: (&str, &[Row]) = (
+    "load",
+    &[
+        ImageLength,
+        FrameNumber,
+        FrameTotal,
+        FrameCheck,
+        HeadLimits,
+        HeadTotal,
+        MapLength,
+        CatalogueLength,
+        ScratchLength,
+        LoadedState,
+        Fill,
+    ],
+);
+
+/// The names of all calls with their rows.
+pub fn orders() -> impl Iterator<Item = (&'static str, &'static [Row])> {
+    CALLS
+        .iter()
+        .map(|(_, name, rows)| (*name, *rows))
+        .chain([SAVE, LOAD])
+}
+
+impl Kind {
+    pub fn name(self) -> &'static str {
+        CALLS[self as usize].1
+    }
+
+    /// The rows that can refuse the call, in their order.
+    pub fn rows(self) -> &'static [Row] {
+        CALLS[self as usize].2
+    }
+
+    pub fn named(name: &str) -> Option<Kind> {
+        let call = CALLS.iter().find(|(_, other, _)| *other == name);
+        call.map(|(kind, ..)| *kind)
+    }
+
+    /// Whether the call is for a sheet.
+    pub fn has_sheet(self) -> bool {
+        self.rows().contains(&NoSheet)
+    }
+
+    /// Whether the call brings a payload or a buffer.
+    pub fn has_slice(self) -> bool {
+        self.rows().contains(&SliceLength)
+    }
+}
+
+/// Bytes that a number stands for, so that a call can be printed: 0 for zeros, 1 for 255s, any other for random bytes.
+#[derive(Clone, Copy)]
+pub struct Bytes {
+    pub seed: u32,
+    pub length: usize,
+}
+
+pub const PAYLOAD: Bytes = Bytes {
+    seed: 9,
+    length: 496,
+};
+
+impl Bytes {
+    pub fn contents(self) -> Vec<u8> {
+        match self.seed {
+            0 => vec![0; self.length],
+            1 => vec![255; self.length],
+            seed => {
+                let random = &mut Random::of(seed as u64);
+                (0..self.length)
+                    .map(|_| (random.draw() >> 33) as u8)
+                    .collect()
+            }
+        }
+    }
+}
+
+#[derive(Clone, Copy)]
+pub struct Call {
+    pub kind: Kind,
+    /// The sheet that the call is for, 0 where it is for none.
+    pub sheet: u32,
+    /// n, k, m or the place, 0 where there is none.
+    pub number: u32,
+    /// The payload that a put brings, or what a show's buffer has before.
+    pub bytes: Bytes,
+}
+
+/// A call with a payload or a buffer of the right length.
+pub const fn call(kind: Kind, sheet: u32, number: u32) -> Call {
+    Call {
+        kind,
+        sheet,
+        number,
+        bytes: PAYLOAD,
+    }
+}
+
+impl Call {
+    pub const fn with_bytes(self, bytes: Bytes) -> Call {
+        Call { bytes, ..self }
+    }
+
+    /// The payload or the buffer, empty for a call that has none.
+    pub fn slice(self) -> Vec<u8> {
+        if self.kind.has_slice() {
+            self.bytes.contents()
+        } else {
+            Vec::new()
+        }
+    }
+}
+
+impl fmt::Display for Call {
+    fn fmt(&self, f: &mut fmt::Formatter) -> fmt::Result {
+        let (name, sheet, number) = (self.kind.name(), self.sheet, self.number);
+        let Bytes { seed, length } = self.bytes;
+        match self.kind {
+            Kind::Survey => write!(f, "{name}"),
+            Kind::Fresh | Kind::Search => write!(f, "{name} {number}"),
+            Kind::Reserve | Kind::Grow => write!(f, "{name} {sheet} {number}"),
+            Kind::Put | Kind::Show => {
+                write!(f, "{name} {sheet} {number}, {length} bytes from {seed}")
+            }
+            Kind::Complete | Kind::Pause | Kind::Release | Kind::Standing => {
+                write!(f, "{name} {sheet}")
+            }
+        }
+    }
+}
+
+#[cfg(test)]
+mod tests {
+    use super::*;
+
+    #[test]
+    fn each_kind_is_in_its_place() {
+        for (at, (kind, name, _)) in CALLS.iter().enumerate() {
+            assert_eq!(*kind as usize, at);
+            assert_eq!(Kind::named(name), Some(*kind));
+        }
+    }
+
+    /// Document 01, "Order: 1, 2, 4 for the entry, 5 to 8, 3, then 4 for blocks, 9, 10 or 11, and last 4 for the count".
+    #[test]
+    fn rows_stand_in_document_01s_order() {
+        for (_, name, rows) in CALLS {
+            assert!(rows.windows(2).all(|two| two[0] < two[1]), "{name}");
+        }
+    }
+}
