@@ -180,3 +180,37 @@ fn blank_place(card: &Card, entry: Entry) -> Option<u32> {
             .is_none_or(|block| block == [0; 512])
     })
 }
+
+/// A call of a kind that is accepted on a card with sheets of every standing, all places filled, and two free blocks or more
+/// behind each extent.
+pub fn accepted(kind: Kind, card: &Card, random: &mut Random) -> Call {
+    let marks: &[u32] = match kind {
+        Kind::Fresh | Kind::Search | Kind::Survey => {
+            return call(kind, 0, whole_number(kind, card, random))
+        }
+        Kind::Reserve | Kind::Pause => &[0x41],
+        Kind::Put | Kind::Grow | Kind::Complete => &[0x4f],
+        Kind::Show => &[0x43],
+        Kind::Release => &[0x50, 0x4f, 0x43],
+        Kind::Standing => &[0x41, 0x50, 0x4f, 0x43],
+    };
+    let sheets: Vec<usize> = (0..card.sheets.len())
+        .filter(|sheet| marks.contains(&card.sheets[*sheet].mark))
+        .collect();
+    let sheet = random.one(&sheets);
+    let number = match kind {
+        Kind::Reserve | Kind::Grow => random.within(1, 3),
+        Kind::Put | Kind::Show => random.within(0, card.sheets[sheet].length as usize),
+        _ => 0,
+    };
+    call(kind, sheet as u32, number as u32)
+}
+
+/// n of a fresh, or k of a search.
+fn whole_number(kind: Kind, card: &Card, random: &mut Random) -> u32 {
+    match kind {
+        Kind::Fresh => card.n as u32,
+        Kind::Search => random.within(1, 3) as u32,
+        _ => 0,
+    }
+}

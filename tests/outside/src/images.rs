@@ -16,7 +16,7 @@ use bitwise::random::Random;
 const BLOCK: usize = 512;
 
 /// A save into a buffer that held something, beside the model. Gives the answer, and what the buffer has afterwards.
-fn save(
+pub fn save(
     card: &Card,
     scratch: usize,
     length: usize,
@@ -40,7 +40,7 @@ fn save(
 }
 
 /// A load beside the model, into the card's map and catalogue.
-fn load(
+pub fn load(
     card: &mut Card,
     image: &[u8],
     scratch: usize,
@@ -71,7 +71,7 @@ fn load(
 }
 
 /// A shape, a map and a catalogue that hold something else, of the lengths that n blocks and c sheets ask for.
-fn other_tables(n: usize, c: usize) -> Card {
+pub fn other_tables(n: usize, c: usize) -> Card {
     Card {
         n: 7,
         free: 3000,

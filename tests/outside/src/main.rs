@@ -12,11 +12,13 @@ mod damage;
 mod flaws;
 mod generate;
 mod images;
+mod images_together;
 mod lengths;
 mod library;
 mod lists;
 mod singles;
 mod states;
+mod together;
 
 use counts::Counts;
 use std::time::{Duration, Instant};
@@ -75,6 +77,14 @@ const GROUPS: &[Group] = &[
         parts: &[part("singles", singles::single, 20000, 2000, 500)],
         report: |_| Ok(()),
     },
+    // Two rows or more that hold at once.
+    Group {
+        parts: &[
+            part("together", together::together, 100, 10, 1),
+            part("images-together", images_together::images_together, 100, 10, 2),
+        ],
+        report: |_| Ok(()),
+    },
     // Save and load.
     Group {
         parts: &[
@@ -106,7 +116,7 @@ fn run(part: &Part, from: u64, count: u64, margin: usize, counts: &mut Counts) {
     let calls = counts.calls - before;
     let seconds = begin.elapsed().as_secs_f64();
     println!(
-        "{:<10} {count:>5} from seed {from}: {calls} calls in {seconds:.1} s",
+        "{:<15} {count:>5} from seed {from}: {calls} calls in {seconds:.1} s",
         part.name
     );
 }
@@ -119,18 +129,21 @@ fn report(group: &Group, counts: &Counts) {
 }
 
 /// Each part as often as `count` says.
-fn run_all(seed: u64, margin: usize, count: fn(&Part) -> u64) {
+fn run_all(seed: u64, margin: usize, count: fn(&Part) -> u64) -> Counts {
+    let mut total = Counts::default();
     for group in GROUPS {
         let counts = &mut Counts::default();
         for part in group.parts.iter().filter(|part| count(part) > 0) {
             run(part, seed, count(part), margin, counts);
         }
         report(group, counts);
+        total.add_pairs(counts);
     }
+    total
 }
 
 /// The parts by turns until the time is up.
-fn run_for(time: Duration, mut seed: u64) {
+fn run_for(time: Duration, mut seed: u64) -> Counts {
     let begin = Instant::now();
     let mut counts: Vec<Counts> = GROUPS.iter().map(|_| Counts::default()).collect();
     while begin.elapsed() < time {
@@ -141,8 +154,19 @@ fn run_for(time: Duration, mut seed: u64) {
         }
         seed += 10000;
     }
+    let mut total = Counts::default();
     for (group, counts) in GROUPS.iter().zip(&counts) {
         report(group, counts);
+        total.add_pairs(counts);
+    }
+    total
+}
+
+/// Every pair of rows that can hold at once must have been met.
+fn report_pairs(counts: Counts) {
+    if let Err(error) = counts.report_pairs() {
+        eprintln!("outside: FAILED: {error}");
+        std::process::exit(1);
     }
 }
 
@@ -160,9 +184,9 @@ fn main() {
         Some(word) => word.parse().unwrap_or_else(|_| usage()),
     };
     match (words.first().map(String::as_str), words.get(1)) {
-        (Some("check"), _) => run_all(number(1), MARGIN, |part| part.check),
-        (Some("valgrind"), _) => run_all(number(1), 0, |part| part.valgrind),
-        (Some("for"), Some(_)) => run_for(Duration::from_secs(number(1)), number(2)),
+        (Some("check"), _) => report_pairs(run_all(number(1), MARGIN, |part| part.check)),
+        (Some("valgrind"), _) => drop(run_all(number(1), 0, |part| part.valgrind)),
+        (Some("for"), Some(_)) => report_pairs(run_for(Duration::from_secs(number(1)), number(2))),
         (Some("again"), Some(name)) => {
             let mut parts = GROUPS.iter().flat_map(|group| group.parts);
             let part = parts

@@ -1,0 +1,236 @@
+//! Calls for which two or more rows of document 01's table hold at once, made so: a card on which the call would be accepted
+//! is changed, or the call is, until the rows hold. Which of them the answer names shows their order.
+
+use crate::counts::Counts;
+use crate::damage::MARKS;
+use crate::generate::accepted;
+use crate::lengths::one;
+use bitwise::blocks::{survey, words_of, FREE, TAKEN};
+use bitwise::call::{Bytes, Call, Kind, CALLS};
+use bitwise::card::{entry, sealed, Card};
+use bitwise::random::Random;
+use bitwise::rows::{pairs, Row};
+
+/// Each pair of rows of each call once, in 1 case of 3 with a third row.
+pub fn together(seed: u64, margin: usize, counts: &mut Counts) -> Result<(), String> {
+    let random = &mut Random::of(seed);
+    for (kind, name, order) in CALLS {
+        for (first, other) in pairs(name, order) {
+            let mut rows = vec![first, other];
+            let third = random.one(order);
+            if random.chance(1, 3) && !rows.contains(&third) {
+                rows.push(third);
+            }
+            let card = &mut card(random);
+            let call = &mut accepted(kind, card, random);
+            rows.sort_by_key(|row| step(*row));
+            for row in &rows {
+                make_hold(*row, card, call, random);
+            }
+            one(card, *call, margin, counts).map_err(|error| format!("{rows:?}: {error}"))?;
+        }
+    }
+    Ok(())
+}
+
+/// A sound state with sheets of every standing, in any order. All places are filled, and behind each extent two blocks or more
+/// are free, so that each call has arguments with which it is accepted.
+pub fn card(random: &mut Random) -> Card {
+    let mut marks = MARKS.to_vec();
+    for _ in 0..random.within(0, 5) {
+        marks.insert(random.within(0, marks.len()), random.one(&MARKS));
+    }
+    marks.rotate_left(random.within(0, 4));
+    let mut card = Card {
+        n: random.within(0, 3),
+        free: 0,
+        map: Vec::new(),
+        sheets: Vec::new(),
+        bytes: Vec::new(),
+    };
+    for mark in marks {
+        let (start, length) = (card.n as u32, random.one(&[1, 2, 2, 3, 3, 4, 20]));
+        let held = mark == 0x4f || mark == 0x43;
+        card.sheets.push(if held {
+            entry(mark, start, length)
+        } else {
+            entry(mark, 0, 0)
+        });
+        card.n += if held {
+            length as usize + random.within(2, 6)
+        } else {
+            0
+        };
+    }
+    card.n += random.one(&[0, 0, 1, 70]);
+    fill(&mut card, random);
+    card
+}
+
+/// The map, the free count and the blocks that go with the entries.
+fn fill(card: &mut Card, random: &mut Random) {
+    card.map = (0..64 * words_of(card.n)).map(|b| b < card.n).collect();
+    card.bytes = vec![random.one(&[0, 0x5a]); 512 * card.n];
+    for (sheet, held) in card.sheets.iter().enumerate() {
+        for place in 0..held.length {
+            let b = (held.start + place) as usize;
+            card.map[b] = TAKEN;
+            let payload = [random.draw() as u8; 496];
+            card.bytes[512 * b..512 * b + 512].copy_from_slice(&sealed(
+                sheet as u32,
+                place,
+                &payload,
+            ));
+        }
+    }
+    card.free = card.map.iter().filter(|&&block| block == FREE).count();
+}
+
+/// The turn in which rows are made to hold: first the sheet, then its entry, then what is asked of them, and the lengths and
+/// limits last, so that one change does not undo another.
+fn step(row: Row) -> u32 {
+    match row {
+        Row::Absent | Row::Paused | Row::Open | Row::Complete => 0,
+        Row::NoPlace | Row::NoBlocks | Row::SliceLength | Row::Unsound => 1,
+        Row::Blank | Row::NoFit | Row::NotNext => 2,
+        Row::FreeCount => 3,
+        Row::Damaged => 4,
+        Row::Blocks => 5,
+        Row::FreeAboveN => 6,
+        Row::Sheets => 7,
+        Row::NoSheet => 8,
+        _ => 9,
+    }
+}
+
+fn make_hold(row: Row, card: &mut Card, call: &mut Call, random: &mut Random) {
+    let c = card.sheets.len() as u32;
+    match row {
+        Row::Absent => call.sheet = sheet_of(card, 0x41, call.sheet),
+        Row::Paused => call.sheet = sheet_of(card, 0x50, call.sheet),
+        Row::Open => call.sheet = sheet_of(card, 0x4f, call.sheet),
+        Row::Complete => call.sheet = sheet_of(card, 0x43, call.sheet),
+        Row::NoSheet => call.sheet = random.one(&[c, c + 1, u32::MAX]),
+        Row::NoBlocks => call.number = 0,
+        Row::NoPlace => {
+            let length = card.sheets[call.sheet as usize].length;
+            call.number = random.one(&[length, length, length + 1, u32::MAX]);
+        }
+        Row::SliceLength => {
+            let length = random.one(&[0, 1, 495, 497, 512]);
+            call.bytes = Bytes {
+                length,
+                ..call.bytes
+            };
+        }
+        Row::Unsound => spoil_block(card, *call, random),
+        Row::Blank => empty_block(card, *call, random),
+        Row::NoFit | Row::NotNext => leave_no_room(card, call, random),
+        Row::FreeCount => contradict_count(card, call, random),
+        Row::Damaged => damage_entry(card, *call, random),
+        Row::Blocks if call.kind == Kind::Fresh => call.number = random.one(&[0, 262145, u32::MAX]),
+        _ => wrong_limit(row, card, random),
+    }
+}
+
+/// Row 1 for the shape, the number of sheets and the lengths.
+pub fn wrong_limit(row: Row, card: &mut Card, random: &mut Random) {
+    const LAST: usize = u32::MAX as usize;
+    let (w, length) = (card.map.len() / 64, card.bytes.len());
+    match row {
+        Row::Blocks => {
+            card.n = random.one(&[0, 262145, LAST]);
+            // In half the cases it is the only reason for row 1.
+            if card.n == 0 && random.chance(1, 2) {
+                (card.free, card.map, card.bytes) = (0, Vec::new(), Vec::new());
+            }
+        }
+        Row::FreeAboveN => {
+            let above = random.one(&[card.n + 1, card.n + 1, 2 * card.n + 7, LAST]);
+            card.free = above.min(LAST);
+        }
+        Row::Sheets => {
+            let sheets = random.one(&[0, 1025, 1025]);
+            card.sheets.resize(sheets, entry(0x41, 0, 0));
+        }
+        Row::MapLength => {
+            let words = random.one(&[w + 1, w + 1, w.saturating_sub(1), 0]);
+            card.map.resize(64 * words, random.chance(1, 2));
+        }
+        Row::CardLength => {
+            let less = length.saturating_sub(random.one(&[1, 512]));
+            let bytes = random.one(&[length + 1, length + 512, less, 0]);
+            card.bytes.resize(bytes, 0);
+        }
+        other => unreachable!("{other:?} is not about the shape or a length"),
+    }
+}
+
+/// The first sheet with a mark that is not the sheet at hand, which is kept if there is none.
+fn sheet_of(card: &Card, mark: u32, sheet: u32) -> u32 {
+    let found = card.sheets.iter().position(|entry| entry.mark == mark);
+    found.map_or(sheet, |found| found as u32)
+}
+
+/// An entry that keeps its mark, more often than not, and breaks its rule; or a free block in its extent.
+fn damage_entry(card: &mut Card, call: Call, random: &mut Random) {
+    let n = card.n as u32;
+    let e = &mut card.sheets[call.sheet as usize];
+    let held = e.length > 0;
+    match random.within(0, 6) {
+        0 => *e = entry(0, 0, 0),
+        1 => e.mark = random.one(&[0, 0x42, 0x4f00]),
+        2 if held => e.length = 0,
+        2 => e.length = 1,
+        3 if held => e.length = random.one(&[n + 1 - e.start, u32::MAX - e.start + 1]),
+        3 => e.start = 1,
+        _ if held => {
+            card.map[(e.start + random.within(0, e.length as usize) as u32) as usize] = FREE
+        }
+        _ => (e.start, e.length) = (random.within(0, 3) as u32, random.within(1, 3) as u32),
+    }
+}
+
+/// A block of the call's sheet that is not sound: of show the block of the place wanted.
+fn spoil_block(card: &mut Card, call: Call, random: &mut Random) {
+    let e = card.sheets[call.sheet as usize];
+    let place = match call.kind {
+        Kind::Show => call.number as usize,
+        _ => random.within(0, e.length.max(1) as usize),
+    };
+    let at = 512 * (e.start as usize + place);
+    if let Some(block) = card.bytes.get_mut(at..at + 512) {
+        block[random.one(&[3, 7, 8, 503, 507, 511])] ^= 1 << random.within(0, 8);
+    }
+}
+
+/// Another place than the first of the call's sheet becomes blank, if there is one.
+fn empty_block(card: &mut Card, call: Call, random: &mut Random) {
+    let e = card.sheets[call.sheet as usize];
+    let place = random.within(0, e.length.max(1) as usize);
+    let at = 512 * (e.start as usize + place);
+    card.bytes[at..at + 512].fill(0);
+}
+
+/// More blocks than there are in a row, or one taken block too many.
+fn leave_no_room(card: &mut Card, call: &mut Call, random: &mut Random) {
+    let longest = survey(&card.map, card.n).longest as u32;
+    match random.within(0, 4) {
+        0 => call.number = u32::MAX,
+        1 => call.number = card.n as u32 + 1,
+        2 => call.number = longest + 1,
+        _ => card.map.fill(TAKEN),
+    }
+}
+
+/// A free count below what is wanted, or so high that a release would lift it above n.
+fn contradict_count(card: &mut Card, call: &mut Call, random: &mut Random) {
+    if call.kind == Kind::Release {
+        card.free =
+            card.n - random.within(0, card.sheets[call.sheet as usize].length.max(1) as usize);
+    } else if call.number > 0 && random.chance(2, 3) {
+        card.free = (call.number as usize - 1).min(random.one(&[0, 1, card.n]));
+    } else {
+        call.number = u32::MAX;
+    }
+}
