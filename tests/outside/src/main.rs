@@ -5,6 +5,7 @@
 //!     outside for SECONDS [SEED]    as many lists as the time allows
 //!     outside valgrind [SEED]       few lists, on small cards, with nothing around what is lent
 //!     outside again PART SEED       one list again, as a failure names it
+//!     outside library               the sha256 checksum of the archive that it is linked with
 
 mod beside;
 mod counts;
@@ -172,7 +173,7 @@ fn report_pairs(counts: Counts) {
 
 fn usage() -> ! {
     eprintln!(
-        "usage: outside check [SEED] | for SECONDS [SEED] | valgrind [SEED] | again PART SEED"
+        "usage: outside check [SEED] | for SECONDS [SEED] | valgrind [SEED] | again PART SEED | library"
     );
     std::process::exit(2);
 }
@@ -184,6 +185,10 @@ fn main() {
         Some(word) => word.parse().unwrap_or_else(|_| usage()),
     };
     match (words.first().map(String::as_str), words.get(1)) {
+        (Some("library"), _) => {
+            println!("{}", env!("ARCHIVE_SHA256"));
+            return;
+        }
         (Some("check"), _) => report_pairs(run_all(number(1), MARGIN, |part| part.check)),
         (Some("valgrind"), _) => drop(run_all(number(1), 0, |part| part.valgrind)),
         (Some("for"), Some(_)) => report_pairs(run_for(Duration::from_secs(number(1)), number(2))),
