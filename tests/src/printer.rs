@@ -70,8 +70,7 @@ pub fn text(image: &[u8]) -> String {
 /// blocks and a byte to either side, changed bytes, and contents that cannot be behind correct frames.
 fn images() -> Vec<Vec<u8>> {
     let mut random = Random::of(17);
-    let mut images = vec![example()];
-    for (n, c) in [
+    let sizes = [
         (64, 1),
         (1, 1),
         (65, 2),
@@ -79,21 +78,11 @@ fn images() -> Vec<Vec<u8>> {
         (262144, 1),
         (1, 1024),
         (4096, 1024),
-    ] {
-        images.push(image_of(&body_of(&fresh(n, c))));
-    }
-    let mut card = fresh(262144, 1024);
-    for sheet in 0..1024 {
-        hold(
-            &mut card,
-            sheet,
-            if sheet % 3 == 0 { 0x4f } else { 0x43 },
-            256 * sheet,
-            1 + sheet % 200,
-        );
-    }
-    images.push(image_of(&body_of(&card)));
-    let most = images.last().unwrap().clone();
+    ];
+    let mut images = vec![example()];
+    images.extend(sizes.map(|(n, c)| image_of(&body_of(&fresh(n, c)))));
+    let most = largest();
+    images.push(most.clone());
     for blocks in 0..=93 {
         for length in [
             512 * blocks,
@@ -112,17 +101,32 @@ fn images() -> Vec<Vec<u8>> {
         image[at] ^= 1 << random.within(0, 8);
         images.push(image);
     }
-    // contents behind correct frames: each byte of the body in turn
+    images.extend(other_contents(&mut random));
+    images
+}
+
+/// The image of a card of full size with all its sheets.
+fn largest() -> Vec<u8> {
+    let mut card = fresh(262144, 1024);
+    for sheet in 0..1024 {
+        let mark = if sheet % 3 == 0 { 0x4f } else { 0x43 };
+        hold(&mut card, sheet, mark, 256 * sheet, 1 + sheet % 200);
+    }
+    image_of(&body_of(&card))
+}
+
+/// Contents behind correct frames: each byte of the body in turn is changed.
+fn other_contents(random: &mut Random) -> Vec<Vec<u8>> {
     let mut card = fresh(70, 3);
     hold(&mut card, 0, 0x4f, 0, 3);
     hold(&mut card, 2, 0x43, 60, 10);
     let body = body_of(&card);
-    for at in 0..body.len() {
+    let changed = |at: usize| {
         let mut changed = body.clone();
         changed[at] ^= 1 << random.within(0, 8);
-        images.push(framed(0, blocks_of(70, 3), &changed));
-    }
-    images
+        framed(0, blocks_of(70, 3), &changed)
+    };
+    (0..body.len()).map(changed).collect()
 }
 
 /// Runs the printer on all images. Prints the first difference, and says whether there was none.

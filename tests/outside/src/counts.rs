@@ -2,7 +2,7 @@
 
 use bitwise::call::{orders, CALLS};
 use bitwise::card::Answer;
-use bitwise::rows::{pairs, Row};
+use bitwise::rows::{pairs, Pair, Row};
 use std::collections::BTreeMap;
 
 /// The columns of the table of answers, in the order of the rows. Row 4 is there three times.
@@ -116,49 +116,46 @@ impl Counts {
         }
     }
 
-    /// A line for each call: how many pairs can hold at once, in how many calls one did, and the one that did least often.
-    /// A pair that can hold and never did is an error, and so is one that did and was thought not to.
+    fn seen(&self, name: &'static str, (first, other): Pair) -> u64 {
+        let count = self.pairs.get(&(name, first, other));
+        count.copied().unwrap_or(0)
+    }
+
+    /// A line for each call: how many pairs can hold at once, how often they did, and the one that did least often. A pair
+    /// that can hold and never did is an error, and so is one that did and was thought not to.
     pub fn report_pairs(&self) -> Result<(), String> {
         println!("  two rows at once: pairs     seen  least often");
         let mut wrong = Vec::new();
         for (name, order) in orders() {
             let possible = pairs(name, order);
-            let seen = |(first, other): (Row, Row)| match self.pairs.get(&(name, first, other)) {
-                Some(count) => *count,
-                None => 0,
-            };
-            let total: u64 = possible.iter().map(|pair| seen(*pair)).sum();
-            let least = possible.iter().copied().min_by_key(|pair| seen(*pair));
-            let least = least.map_or("".to_string(), |pair| {
-                format!(
-                    "{} before {}: {}",
-                    printed(pair.0),
-                    printed(pair.1),
-                    seen(pair)
-                )
+            let total: u64 = possible.iter().map(|pair| self.seen(name, *pair)).sum();
+            let least = possible.iter().min_by_key(|pair| self.seen(name, **pair));
+            let least = least.map_or(String::new(), |pair| {
+                let count = self.seen(name, *pair);
+                format!("{} before {}: {count}", printed(pair.0), printed(pair.1))
             });
             println!("  {name:<17} {:>5} {total:>8}  {least}", possible.len());
-            for (first, other) in possible.iter().filter(|pair| seen(**pair) == 0) {
-                wrong.push(format!(
-                    "{name}: {} with {} never held",
-                    printed(*first),
-                    printed(*other)
-                ));
-            }
-            let keys = self.pairs.keys().filter(|(other, ..)| *other == name);
-            for (_, first, other) in
-                keys.filter(|(_, first, other)| !possible.contains(&(*first, *other)))
-            {
-                wrong.push(format!(
-                    "{name}: {} held with {}, and cannot",
-                    printed(*first),
-                    printed(*other)
-                ));
-            }
+            wrong.extend(self.wrong_pairs(name, &possible));
         }
         if wrong.is_empty() {
             return Ok(());
         }
         Err(wrong.join("\n    "))
+    }
+
+    /// What is to be said of the pairs of a call that should have been met and were not, or the other way round.
+    fn wrong_pairs(&self, name: &'static str, possible: &[Pair]) -> Vec<String> {
+        let never = possible.iter().filter(|pair| self.seen(name, **pair) == 0);
+        let never = never.map(|(first, other)| {
+            let (first, other) = (printed(*first), printed(*other));
+            format!("{name}: {first} never held at once with {other}")
+        });
+        let met = self.pairs.keys().filter(|(other, ..)| *other == name);
+        let apart = met.filter(|(_, first, other)| !possible.contains(&(*first, *other)));
+        let apart = apart.map(|(_, first, other)| {
+            let (first, other) = (printed(*first), printed(*other));
+            format!("{name}: {first} held at once with {other}, and rows.rs has them apart")
+        });
+        never.chain(apart).collect()
     }
 }

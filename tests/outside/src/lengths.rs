@@ -2,9 +2,10 @@
 
 use crate::beside::{Beside, Compared};
 use crate::counts::Counts;
+use crate::generate::accepted;
 use crate::lists::used_card;
 use bitwise::blocks::words_of;
-use bitwise::call::{call, Bytes, Call, Kind};
+use bitwise::call::{call, Bytes, Call, Kind, CALLS};
 use bitwise::card::{entry, Card};
 use bitwise::random::Random;
 
@@ -21,21 +22,6 @@ pub fn one(card: &Card, call: Call, margin: usize, counts: &mut Counts) -> Resul
         )
     })
 }
-
-/// A call of each kind; on the card of `three_sheets` each is accepted.
-const EACH: [Call; 11] = [
-    call(Kind::Fresh, 0, 70),
-    call(Kind::Search, 0, 3),
-    call(Kind::Survey, 0, 0),
-    call(Kind::Reserve, 2, 3),
-    call(Kind::Put, 1, 0),
-    call(Kind::Grow, 1, 2),
-    call(Kind::Complete, 1, 0),
-    call(Kind::Pause, 2, 0),
-    call(Kind::Release, 0, 0),
-    call(Kind::Show, 0, 1),
-    call(Kind::Standing, 0, 0),
-];
 
 /// A card of 70 blocks: sheet 0 is complete, sheet 1 open and filled, sheet 2 absent.
 fn three_sheets() -> Card {
@@ -58,57 +44,52 @@ fn three_sheets() -> Card {
 /// Each slice of each call in many lengths, the others as they should be.
 pub fn lengths(margin: usize, counts: &mut Counts) -> Result<(), String> {
     let whole = three_sheets();
-    for call in EACH {
-        one(&whole, call, margin, counts)?;
-        for words in 0..=4 {
-            let mut card = whole.clone();
-            card.map.resize(64 * words, true);
-            one(&card, call, margin, counts)?;
-        }
-        for sheets in (0..=6).chain(1022..=1027) {
-            let mut card = whole.clone();
-            card.sheets.resize(sheets, entry(0x41, 0, 0));
-            one(&card, call, margin, counts)?;
-        }
-        for bytes in (0..=2)
-            .chain(510..=514)
-            .chain(70 * 512 - 514..=70 * 512 + 514)
-        {
-            let mut card = whole.clone();
-            card.bytes.resize(bytes, 0);
-            one(&card, call, margin, counts)?;
-        }
-        for n in [
-            0, 1, 63, 64, 65, 69, 71, 127, 128, 129, 262144, 262145, 4294967295,
-        ] {
-            let mut card = whole.clone();
-            card.n = n;
-            one(&card, call, margin, counts)?;
-            card.bytes.resize(512 * n.min(200), 0);
-            one(&card, call, margin, counts)?;
-        }
-        for free in (0..=72).chain([4294967295]) {
-            let mut card = whole.clone();
-            card.free = free;
+    for (kind, ..) in CALLS {
+        let call = accepted(kind, &whole, &mut Random::of(1));
+        for card in other_lengths(&whole) {
             one(&card, call, margin, counts)?;
         }
     }
     for length in 0..=1100 {
         let bytes = Bytes { seed: 5, length };
-        one(
-            &whole,
-            call(Kind::Put, 1, 0).with_bytes(bytes),
-            margin,
-            counts,
-        )?;
-        one(
-            &whole,
-            call(Kind::Show, 0, 1).with_bytes(bytes),
-            margin,
-            counts,
-        )?;
+        for call in [call(Kind::Put, 1, 0), call(Kind::Show, 0, 1)] {
+            one(&whole, call.with_bytes(bytes), margin, counts)?;
+        }
     }
     Ok(())
+}
+
+/// A card, and the same with another length of the map, the catalogue or the card, or with another n or free count.
+fn other_lengths(whole: &Card) -> Vec<Card> {
+    let mut cards = vec![whole.clone()];
+    let mut add = |change: &dyn Fn(&mut Card)| {
+        let mut card = whole.clone();
+        change(&mut card);
+        cards.push(card);
+    };
+    for words in 0..=4 {
+        add(&|card| card.map.resize(64 * words, true));
+    }
+    for sheets in (0..=6).chain(1022..=1027) {
+        add(&|card| card.sheets.resize(sheets, entry(0x41, 0, 0)));
+    }
+    let around = 70 * 512 - 514..=70 * 512 + 514;
+    for bytes in (0..=2).chain(510..=514).chain(around) {
+        add(&|card| card.bytes.resize(bytes, 0));
+    }
+    for n in [
+        0, 1, 63, 64, 65, 69, 71, 127, 128, 129, 262144, 262145, 4294967295,
+    ] {
+        add(&|card| card.n = n);
+        add(&|card| {
+            card.n = n;
+            card.bytes.resize(512 * n.min(200), 0);
+        });
+    }
+    for free in (0..=72).chain([4294967295]) {
+        add(&|card| card.free = free);
+    }
+    cards
 }
 
 /// The largest numbers of blocks and of sheets, and one more, with slices of the right length.

@@ -32,7 +32,7 @@ pub fn states(most: usize, margin: usize, counts: &mut Counts) -> Result<(), Str
     Ok(())
 }
 
-fn calls_on_state(mut card: Card, margin: usize, counts: &mut Counts) -> Result<(), String> {
+fn calls_on_state(card: Card, margin: usize, counts: &mut Counts) -> Result<(), String> {
     let n = card.n as u32;
     for number in 0..=n + 1 {
         let calls = [
@@ -54,6 +54,12 @@ fn calls_on_state(mut card: Card, margin: usize, counts: &mut Counts) -> Result<
     ] {
         one(&card, call, margin, counts)?;
     }
+    on_all_blocks(card, margin, counts)
+}
+
+/// Complete and show, of every choice of blank, sound and unsound blocks.
+fn on_all_blocks(mut card: Card, margin: usize, counts: &mut Counts) -> Result<(), String> {
+    let n = card.n as u32;
     let start = card.sheets[0].start;
     let held = matches!(card.sheets[0].mark, 0x4f | 0x43) && card.sheets[0].length > 0;
     let contents = if held { 3usize.pow(n) } else { 1 };
