@@ -19,7 +19,7 @@ fn main() {
             let list = std::io::read_to_string(std::io::stdin()).unwrap();
             print!("{}", map::text(&list));
         }
-        Some("calls") => print!("{}", refusals::examples()),
+        Some("calls") => print!("{}", calls::examples()),
         Some("image") => std::io::stdout().write_all(&printer::example()).unwrap(),
         Some("print") => {
             let mut image = Vec::new();

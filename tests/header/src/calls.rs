@@ -1,6 +1,7 @@
 //! The calls of calls.c, worked out bit by bit by the card of tests/src.
 
 use bitwise::blocks::{from_words, to_words};
+use bitwise::call::{call, Kind};
 use bitwise::card::{entry, sealed, Answer, Card};
 use std::fmt::Write;
 
@@ -30,8 +31,8 @@ fn filled(length: usize, seed: u32) -> Vec<u8> {
 }
 
 /// The number and the values of an answer (document 01, "What the caller gets instead").
-fn numbers(answer: Result<Answer, Answer>) -> (u32, [usize; 3]) {
-    match answer.unwrap_or_else(|refusal| refusal) {
+fn numbers(answer: Answer) -> (u32, [usize; 3]) {
+    match answer {
         Answer::Done => (0, [0; 3]),
         Answer::Start(start) => (0, [start, 0, 0]),
         Answer::Stands(e) => (0, [e.mark, e.start, e.length].map(|number| number as usize)),
@@ -75,7 +76,7 @@ impl State {
         self.lines.push((call.to_string(), value));
     }
 
-    fn told(&mut self, call: &str, answer: Result<Answer, Answer>) {
+    fn told(&mut self, call: &str, answer: Answer) {
         let (number, [first, second, third]) = numbers(answer);
         let card = &self.card;
         let mut line = format!("shape {} {} number {number}", card.n, card.free);
@@ -103,16 +104,14 @@ impl State {
         self.line(call, line);
     }
 
-    fn put(&mut self, call: &str, sheet: u32, place: u32) {
+    fn put(&mut self, name: &str, sheet: u32, place: u32) {
         self.slice = filled(496, 16 * sheet + place);
-        let answer = self.card.put(sheet, place, &self.slice);
-        self.told(call, answer);
+        self.call(name, Kind::Put, sheet, place);
     }
 
-    fn show(&mut self, call: &str, sheet: u32, place: u32) {
+    fn show(&mut self, name: &str, sheet: u32, place: u32) {
         self.slice = filled(496, 99);
-        let answer = self.card.show(sheet, place, &mut self.slice);
-        self.told(call, answer);
+        self.call(name, Kind::Show, sheet, place);
     }
 
     /// The first `length` bytes of the image are lent.
@@ -127,44 +126,44 @@ impl State {
     }
 
     /// A call that changes the card, or asks it.
-    fn call(&mut self, call: &str, answer: fn(&mut Card) -> Result<Answer, Answer>) {
-        let answer = answer(&mut self.card);
-        self.told(call, answer);
+    fn call(&mut self, name: &str, kind: Kind, sheet: u32, number: u32) {
+        let answer = self.card.call(call(kind, sheet, number), &mut self.slice);
+        self.told(name, answer);
     }
 
     fn course(&mut self) {
-        self.call("fresh 70", |card| card.fresh(N));
-        self.call("reserve 2 3", |card| card.reserve(2, 3));
-        self.call("reserve 1 5", |card| card.reserve(1, 5));
-        self.call("grow 1 2", |card| card.grow(1, 2));
-        self.call("search 9", |card| card.search(9));
-        self.call("survey", |card| card.survey());
+        self.call("fresh 70", Kind::Fresh, 0, N as u32);
+        self.call("reserve 2 3", Kind::Reserve, 2, 3);
+        self.call("reserve 1 5", Kind::Reserve, 1, 5);
+        self.call("grow 1 2", Kind::Grow, 1, 2);
+        self.call("search 9", Kind::Search, 0, 9);
+        self.call("survey", Kind::Survey, 0, 0);
         self.put("put 1 6", 1, 6);
         self.put("put 2 0", 2, 0);
         self.put("put 2 1", 2, 1);
-        self.call("complete 2", |card| card.complete(2));
+        self.call("complete 2", Kind::Complete, 2, 0);
         self.put("put 2 2", 2, 2);
-        self.call("complete 2 again", |card| card.complete(2));
+        self.call("complete 2 again", Kind::Complete, 2, 0);
         self.show("show 2 1", 2, 1);
-        self.call("standing 1", |card| card.standing(1));
-        self.call("standing 2", |card| card.standing(2));
-        self.call("pause 0", |card| card.pause(0));
-        self.call("grow 2 1", |card| card.grow(2, 1));
-        self.call("release 2", |card| card.release(2));
-        self.call("survey again", |card| card.survey());
+        self.call("standing 1", Kind::Standing, 1, 0);
+        self.call("standing 2", Kind::Standing, 2, 0);
+        self.call("pause 0", Kind::Pause, 0, 0);
+        self.call("grow 2 1", Kind::Grow, 2, 1);
+        self.call("release 2", Kind::Release, 2, 0);
+        self.call("survey again", Kind::Survey, 0, 0);
         self.save("save", 512);
         self.line("head", format!("{N} {C}"));
     }
 
     fn refusals(&mut self) {
-        self.call("search 61", |card| card.search(61));
-        self.call("search 0", |card| card.search(0));
-        self.call("standing 3", |card| card.standing(3));
+        self.call("search 61", Kind::Search, 0, 61);
+        self.call("search 0", Kind::Search, 0, 0);
+        self.call("standing 3", Kind::Standing, 3, 0);
         self.put("put 0 0", 0, 0);
         self.put("put 1 7", 1, 7);
-        self.call("complete absent 2", |card| card.complete(2));
-        self.call("pause 1", |card| card.pause(1));
-        self.call("grow 1 61", |card| card.grow(1, 61));
+        self.call("complete absent 2", Kind::Complete, 2, 0);
+        self.call("pause 1", Kind::Pause, 1, 0);
+        self.call("grow 1 61", Kind::Grow, 1, 61);
         self.save("save short", 511);
     }
 
@@ -183,10 +182,10 @@ impl State {
         self.line("seal sheets", "0".to_string());
         self.load("load");
         self.card.sheets[1].mark = 0;
-        self.call("standing damaged 1", |card| card.standing(1));
+        self.call("standing damaged 1", Kind::Standing, 1, 0);
         self.save("save damaged", 512);
         self.card.free = N + 1;
-        self.call("survey free above n", |card| card.survey());
+        self.call("survey free above n", Kind::Survey, 0, 0);
     }
 
     fn blocks(&mut self) {

@@ -20,7 +20,7 @@ fn main() {
     let (what, (wrong, count)) = match words[..] {
         ["names", folder] => ("functions of the headers", names::compare(folder)),
         ["figures"] => ("figures of the headers", figures::compare(&input())),
-        ["calls"] => ("calls through the headers", refusals::compare(&input())),
+        ["calls"] => ("calls through the headers", calls::compare(&input())),
         ["symbols"] => ("symbols of the archive", symbols::compare(&input())),
         _ => {
             eprintln!("usage: header names FOLDER | figures | calls | symbols");
