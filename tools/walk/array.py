@@ -8,10 +8,12 @@ The array is a parameter by value, and c another; the function requires that c i
 the walk uses nothing but that they are safe: what they ensure is a parameter of the module. The function ensures nothing."""
 import re
 
-from walk.call import Arg, Call, copy
+from walk.call import Arg, Call, argument, copy
 from walk.module import Walk
-from walk.text import HERE, Steps, arrows, cons, paragraphs, spaced, subscript
+from walk.naming import check_name
+from walk.text import HERE, Steps, arrows, cons, paragraphs, signature, spaced, subscript
 from walk.types import Type, Value
+from walk.wrong import Wrong, at
 
 
 class Part:
@@ -61,11 +63,10 @@ class Silent(Call):
 
     def contract(self):
         l = self.label
-        slots = cons(a.of.slot(self.number(a), a.slice) if a.slice else a.of.slot() for a in self.args)
         kept = ''.join('(yes, ' for _ in self.args) + 'tt' + ')' * len(self.args)
         return f'''-- ---- what `{l}` is
 abbrev {l}-signature : Signature
-{l}-signature = record {{ lifetimes = {len(self.slices)}; outlives = []; params = {slots}; result = plain (λ _. {self.result.row}) }}
+{l}-signature = {signature(self.slices, self.slots(), self.result)}
 
 abbrev {l}-ended : Ended
 {l}-ended = record {{ signature = {l}-signature; kept = {kept} }}
@@ -137,7 +138,8 @@ module _ {{M : Type 1}} (𝓤 : URA M) where
         steps.front(p.item)
         lent, kept = p.lent(a.slice, self.number(a), a.ν, 'δ', p.elements), p.kept(a.slice, a.ν, 'δ', p.elements)
         law = 'lends-part' if a.slice == 'mut' else 'shows-part'
-        steps.take(f'use1 W (later (some (λ (δ : GName). ‵ ({lent}) ⊛ ‵ ({kept})))) ({law} {self.of_part(p, a.ν)} (named {self.number(a)}))', 1, 'new')
+        both = f'later (some (λ (δ : GName). ‵ ({lent}) ⊛ ‵ ({kept})))'
+        steps.take(f'use1 W ({both}) ({law} {self.of_part(p, a.ν)} (named {self.number(a)}))', 1, 'new')
         steps.say('await ! tt')
         steps.under('pick !', a.δ)
         steps.take('split !', 1, 'a' + v, 'k' + v)
@@ -152,7 +154,8 @@ module _ {{M : Type 1}} (𝓤 : URA M) where
             now = f'({left[v]} ++ drop-list {p.count.var} {p.array.var})'
             known = f'Is {p.array.type.row} {now} ({p.array.type.vals} {now})'
             steps.front('dead', 'k' + v, 'f' + v)
-            steps.take(f'use3 W (later (given ({known}) (‵ ({p.whole(now)})))) (part-back {self.of_part(p, a.ν)} {a.δ} {left[v]} {longer[v]})', 3, p.item)
+            law = f'part-back {self.of_part(p, a.ν)} {a.δ} {left[v]} {longer[v]}'
+            steps.take(f'use3 W (later (given ({known}) (‵ ({p.whole(now)})))) ({law})', 3, p.item)
             steps.say('await ! tt')
             steps.under('learn !', f'is-now-{v}')
             p.now, p.is_now = now, f'is-now-{v}'
@@ -165,29 +168,54 @@ module _ {{M : Type 1}} (𝓤 : URA M) where
 
 class LentArray(Walk):
     def __init__(self, section, name, params, result, lines):
-        values = {p.name: p for p in params}
-        first = re.fullmatch(r'let (?:mut )?(\w+) = (\w+);', lines[0])
-        second = re.fullmatch(r'let (\w+): (\S+) = (\w+)\((.*)\);', lines[1])
-        third = re.fullmatch(r'(\w+)\((\w+), (\w+)\)', lines[2])
-        if not (first and second and third) or len(lines) != 3 or third[2] != second[1] or third[3] != first[1]:
-            raise ValueError(f'no call on a part of an array: {lines}')
-        self.lines, array = lines, values[first[2]]
-        args = []
-        for word in re.split(r',\s*', second[4]):
-            part = re.fullmatch(r'&(mut )?(\w+)\[\.\.(\w+)\]', word)
-            if part:
-                self.part = Part(part[2], array, values[part[3]], section.structs)
-                args.append(Arg(self.part, not part[1]))
-            else:
-                args.append(Arg(values[word.removeprefix('&*')], word.startswith('&*')))
-        self.given, self.all = Value(second[1], Type(second[2], section.structs)), Value(first[1], array.type)
+        self.lines, values = lines, {p.name: p for p in params}
+        first, second, third = self.parse()
+        array = at(lines[0], lambda: argument(first[2], values)).of
+        if not hasattr(array.type, 'of'):
+            raise Wrong(f'the parameter {first[2]} is no array by value', lines[0])
+        args = at(lines[1], lambda: [self.argument(a, array, values, section) for a in re.split(r',\s*', second[4])])
+        lent = [a for a in args if isinstance(a.of, Part)]
+        if len(lent) != 1 or lent[0].of.name != first[1]:
+            raise Wrong(f'a part of {first[1]} is one of the arguments: `&mut {first[1]}[..c]` or `&{first[1]}[..c]`', lines[1])
+        self.part = lent[0].of
+        self.given = Value(second[1], at(lines[1], lambda: Type(second[2], section.structs)))
+        self.all = Value(first[1], array.type)
         self.given.machine, self.all.machine = 'm-' + self.given.var, f'only ({array.type.vals} {self.all.var})'
-        self.call, self.final = Silent(second[3], args, self.given.type), Silent(third[1], [Arg(self.given), Arg(self.all)], result)
+        self.call = Silent(second[3], args, self.given.type)
+        self.final = Silent(third[1], [Arg(self.given), Arg(self.all)], result)
         super().__init__(section, name, params, result, [self.call, self.final])
+        check_name(self, lent[0])
         self.requires = lambda args: f'{args[params.index(self.part.count)]} ≤ {array.type.count}'
         self.over = ''.join(f' ({c.label}-ensures : {c.label}-Ensures 𝓤)' for c in self.callees)
         self.over_all = spaced(c.label + '-ensures' for c in self.callees)
         self.lay_out()
+
+    def parse(self):
+        """the three lines, taken apart"""
+        forms = (r'let (?:mut )?(\w+) = (\w+);', r'let (\w+): (\S+) = (\w+)\((.*)\);', r'(\w+)\((\w+), (\w+)\)')
+        shown = ('let mut ALL = ARRAY;', 'let GIVEN: TYPE = CALL(.., &mut ALL[..c], ..);', 'LAST(GIVEN, ALL)')
+        if len(self.lines) != 3:
+            raise Wrong(f'a call on a part of an array has three lines: {"  ".join(shown)}', self.lines[-1])
+        found = [re.fullmatch(form, line) for form, line in zip(forms, self.lines)]
+        for m, line, words in zip(found, self.lines, shown):
+            if not m:
+                raise Wrong(f'the line is of another form than `{words}`, in a call on a part of an array', line)
+        first, second, third = found
+        if third[2] != second[1] or third[3] != first[1]:
+            raise Wrong(f'the last call takes {second[1]} and {first[1]}, in this order', self.lines[2])
+        return found
+
+    def argument(self, text, array, values, section):
+        part = re.fullmatch(r'&(mut )?(\w+)\[\.\.(\w+)\]', text)
+        if not part:
+            return argument(text, values)
+        if part[3] not in values:
+            raise Wrong(f'no parameter is named `{part[3]}`')
+        return Arg(Part(part[2], array, values[part[3]], section.structs), not part[1])
+
+    def wants(self):
+        """what `prove` takes besides the callees: nothing"""
+        return []
 
     def lay_out(self):
         """the locals in the compiler's order: the result, the parameters, the lets, then temporaries as they come"""
@@ -212,7 +240,9 @@ class LentArray(Walk):
         body = paragraphs([self.signature(), self.in_order()] + [c.contract() for c in self.callees]
                           + [f'module _ ({self.keys} : Name) where\n' + self.clauses(), self.in_hand(), self.lent_part()]
                           + asks + [self.exits(), self.walk(), self.theorem()])
-        return self.page('One walk serves every choice of the callees: it takes their names and what they ensure, of which it uses nothing.', body)
+        served = ('One walk serves every choice of the callees: it takes their names and what they ensure,'
+                  ' and uses nothing of that.')
+        return self.page(served, body)
 
     def clauses(self):
         asked = self.requires([f'(a{" .1" * i} .0)' for i in range(len(self.params))])
@@ -234,7 +264,7 @@ class LentArray(Walk):
     def exits(self):
         """the walk's end: what is in hand is what the contract says, whatever the call gave and left"""
         t, lists = self.result, {p.var: 'z-' + p.var for p in self.muts}
-        items = cons(x for p in self.slices for x in (f'‵ ({p.held(lists[p.var]) if p.slice == "mut" else p.shared()})', p.token))
+        items = cons(x for p in self.slices for x in p.left(lists))
         self.left = [x for p in self.slices for x in ('o' + p.var, 't' + p.var)]
         lasts = [lists[p.var] if p.slice == 'mut' else 'tt' for p in self.params]
         lengths = ['l-' + p.var if p.slice == 'mut' else 'tt' for p in self.params]
@@ -265,7 +295,8 @@ class LentArray(Walk):
         c.come_back(steps, of, lengths, left, longer)
         steps.remark(f.label)
         t = self.all.type
-        steps.assign(self.places[self.all.var], f'of-opd ! {steps.load(self.places[p.var])}', f'({t.typed} {p.now} _ {p.is_now} .0)')
+        typed = f'({t.typed} {p.now} _ {p.is_now} .0)'
+        steps.assign(self.places[self.all.var], f'of-opd ! {steps.load(self.places[p.var])}', typed)
         told = {self.given.var: f'is-{w}', self.all.var: p.is_now}
         w2, r2, _ = f.perform(steps, of, told, [r, w, p.now])
         self.lands(steps, f, w2, r2, 0)

@@ -1,6 +1,10 @@
 """A call: a callee with any contract of equations, and the steps of a walk from what is lent to it to what it ensures."""
-from walk.text import Steps, arrows, component, cons, fact, facts, nest, product, spaced, subscript
+import re
+
+from walk.text import Steps, arrows, at_entry, at_exit, component, cons, fact, facts, nest, product, signature, spaced
+from walk.text import subscript
 from walk.types import Value
+from walk.wrong import Wrong
 
 
 class Arg:
@@ -11,6 +15,23 @@ class Arg:
         self.slice = 'shr' if as_shared else of.slice
         # a `&mut` slice is lent for the call, and comes back; a `&` slice is copied
         self.lent = of.slice == 'mut'
+
+
+# what an argument cannot be, by the form of its text
+NO_ARGUMENT = (r'[0-9"\'-]|true$|false$', 'literal'), (r'.*\(', 'call'), (r'.*\[', 'part of a slice'), (r'.*\.', 'field')
+
+
+def argument(word, values):
+    """an argument as the source writes it: a parameter, a let, or a `&mut` slice that is lent as a `&`"""
+    name, shared = word.removeprefix('&*'), word.startswith('&*')
+    if name in values:
+        if shared and values[name].slice != 'mut':
+            raise Wrong(f'the argument `{word}`: {name} is no `&mut` slice; it is passed as `{name}`')
+        return Arg(values[name], shared)
+    for form, is_a in NO_ARGUMENT:
+        if re.match(form, name):
+            raise Wrong(f'the argument `{word}` is a {is_a}; an argument is a parameter, a let, or `&*NAME`')
+    raise Wrong(f'no parameter and no let is named `{name}`')
 
 
 class Call:
@@ -61,18 +82,19 @@ class Call:
     def tokens(self):
         return [f'‵ (flft ({a.ν} ∷ []) fullShare)' if a.lent else a.of.token for a in self.slices]
 
+    def slots(self):
+        return [a.of.slot(self.number(a), a.slice) if a.slice else a.of.slot() for a in self.args]
+
     def contract(self):
         """the callee's signature and contract"""
         l, xs = self.label, [f'a{i}' for i in range(len(self.args))]
         lasts = [f'b{i}' for i, a in enumerate(self.args) if a.slice == 'mut']
         given = [f'{x} ≡ {m} {" ".join(xs)}' for x, m in zip((['r'] if self.gives else []) + lasts, self.models)]
-        slots = cons(a.of.slot(self.number(a), a.slice) if a.slice else a.of.slot() for a in self.args)
-        entry = ''.join(f' (now ({component("a", i)}))' if a.slice else f' ({component("a", i)})' for i, a in enumerate(self.args))
-        exit = ''.join(f' (now ({component("e", i)}))' for i, a in enumerate(self.args) if a.slice == 'mut')
+        ensures = f'fact 𝓤 ({l}-says{at_entry(self.args)} r{at_exit(self.args)})'
         to = arrows(a.of.speaks for a in self.args)
         return f'''-- ---- what `{l}` is, and what it ensures
 abbrev {l}-signature : Signature
-{l}-signature = record {{ lifetimes = {len(self.slices)}; outlives = []; params = {slots}; result = plain (λ _. {self.result.row}) }}
+{l}-signature = {signature(self.slices, self.slots(), self.result)}
 
 abbrev {l}-ended : Ended
 {l}-ended = record {{ signature = {l}-signature; kept = {nest(['yes'] * len(self.args))} }}
@@ -86,7 +108,7 @@ module _{self.model_params()} where
 
   module _ {{M : Type 1}} (𝓤 : URA M) where
     abbrev {l}-clauses : Clauses 𝓤 {l}-ended
-    {l}-clauses κs a = record {{ ghost = Unit {{0}}; requires = λ _. emp 𝓤; ensures = λ _ r e. fact 𝓤 ({l}-says{entry} r{exit}) }}
+    {l}-clauses κs a = record {{ ghost = Unit {{0}}; requires = λ _. emp 𝓤; ensures = λ _ r e. {ensures} }}
 
     module _ (H : Heap 𝓤) (A : Atoms 𝓤) where
       abbrev pub {l}-contract : Contract 𝓤
@@ -118,7 +140,8 @@ module _{self.model_params()} where
         over = [f'({x} : {t})' for x, t in free]
         quantified = lambda makes: ' '.join(makes + over) + ' → ' if makes or over else ''
         args = nest([f'{a.of.at} {a.δ} {elements(a)}' if a.lent else a.of.var for a in self.args])
-        owns = [a.of.lent(a.slice, self.number(a), a.ν, a.δ, elements(a)) if a.lent else a.of.shared(self.number(a)) for a in self.slices]
+        owns = [a.of.lent(a.slice, self.number(a), a.ν, a.δ, elements(a)) if a.lent else a.of.shared(self.number(a))
+                for a in self.slices]
         items = cons(self.tokens() + [f'‵ ({o})' for o in owns])
         tokens, slices = [f't{i}' for i in range(len(owns))], [f'o{i}' for i in range(len(owns))]
         steps = Steps(tokens + slices)
@@ -129,12 +152,13 @@ module _{self.model_params()} where
         steps.take('join !', 2, 'all')
         steps.take('frame !', 1)
         known = arrows(f'Is {x.row} {x.var} ({x.machine} ∷ [])' for x in self.values)
+        machine = nest([a.of.machine + ' ∷ []' for a in self.args])
         return f'''    -- ---- the caller has what `{l}` asks
     abbrev {l}-args : {quantified(self.ghost_types())}{product([a.of.denotes for a in self.args])}
     {l}-args{ghosts} = {args}
 
     abbrev to-{l} : {quantified(self.fresh_types())}{self.meant} .Ghost
-    to-{l}{fresh} = (({self.lifetimes()}, {self.shares()}, tt, {l}-args{ghosts}, {nest([a.of.machine + ' ∷ []' for a in self.args])}), tt)
+    to-{l}{fresh} = (({self.lifetimes()}, {self.shares()}, tt, {l}-args{ghosts}, {machine}), tt)
 
     goes-{l} : {quantified(self.fresh_types())}{known}ent 𝓤 (⋆ 𝓤 H A ({items})) ({self.meant} .pre (to-{l}{fresh}))
     goes-{l}{fresh}{spaced('is-' + x.var for x in self.values)} =
@@ -176,7 +200,8 @@ module _{self.model_params()} where
         steps.front('o' + v, 't' + v)
         lent, kept = p.lent(a.slice, self.number(a), a.ν, 'δ', elements(a)), p.kept(a.slice, a.ν, 'δ', elements(a))
         law = 'lends-again' if a.slice == 'mut' else 'lends-out'
-        steps.take(f'use2 W (later (some (λ (δ : GName). ‵ ({lent}) ⊛ ‵ ({kept})))) ({law} {self.lending(a, elements, lengths)})', 2, 'new')
+        both = f'later (some (λ (δ : GName). ‵ ({lent}) ⊛ ‵ ({kept})))'
+        steps.take(f'use2 W ({both}) ({law} {self.lending(a, elements, lengths)})', 2, 'new')
         steps.say('await ! tt')
         steps.under('pick !', a.δ)
         steps.take('split !', 1, 'a' + v, 'k' + v)
@@ -188,7 +213,8 @@ module _{self.model_params()} where
         w, r, zs, e = (x + '-' + l for x in ('w', 'r', 'zs', 'e'))
         ghosts, free = [a.δ for a in self.lends], list(free)
         to = f'(to-{l}{spaced(self.fresh() + free)})'
-        has = f'(raw ({self.meant} .pre {to})) (goes-{l}{spaced(self.fresh() + free)}{spaced(told[x.var] for x in self.values)})'
+        goes = f'goes-{l}{spaced(self.fresh() + free + [told[x.var] for x in self.values])}'
+        has = f'(raw ({self.meant} .pre {to})) ({goes})'
         lent = [('ν' if a.lent else 't') + a.of.var for a in self.slices] + ['a' + a.of.var for a in self.slices]
         if lent:
             steps.front(*lent)
@@ -208,6 +234,14 @@ module _{self.model_params()} where
         steps.take('split !', 1, 'gave', 'ensures')
         steps.front('ensures')
         self.hears(steps, elements, args, r, zs, product([a.of.speaks if a.slice == 'mut' else 'Unit {0}' for a in self.args]))
+        self.learns_lengths(steps)
+        steps.front('gave')
+        steps.take('split !', 1, 'tokens', 'owned')
+        steps.front('owned')
+        return w, r, e
+
+    def learns_lengths(self, steps):
+        """that each `&mut` slice has as many elements as before"""
         steps.part('fsplit !', 'lasts', *[f'z{i}' for i in range(len(self.args))])
         for i, a in enumerate(self.args):
             steps.front(f'z{i}')
@@ -216,12 +250,8 @@ module _{self.model_params()} where
                 continue
             steps.take('fsplit !', 1, 'f' + a.of.var, 'length')
             steps.front('length')
-            steps.under('feqL !', f'h-{l}-{a.of.var}')
+            steps.under('feqL !', f'h-{self.label}-{a.of.var}')
             steps.items.remove('length')
-        steps.front('gave')
-        steps.take('split !', 1, 'tokens', 'owned')
-        steps.front('owned')
-        return w, r, e
 
     def clauses(self):
         return f'({self.label}-clauses{spaced(self.models)} 𝓤)'
@@ -233,8 +263,9 @@ module _{self.model_params()} where
     def hears(self, steps, elements, args, r, zs, lists):
         """what the contract says is learned"""
         l = self.label
-        said = f'{l}-says{spaced(self.models)}{spaced(elements(a) for a in self.args)} {r}{spaced(self.last(a) for a in self.muts)}'
-        steps.say(f'use1 W (some (λ ({zs} : {lists}). ‵ (lasts {l}-ended {self.lifetimes()} {args} {zs}) ⊛ raw (fact 𝓤 ({said})))) (id⊢ 𝓤 _)')
+        words = spaced([elements(a) for a in self.args] + [r] + [self.last(a) for a in self.muts])
+        said, at_last = f'{l}-says{spaced(self.models)}{words}', f'lasts {l}-ended {self.lifetimes()} {args} {zs}'
+        steps.say(f'use1 W (some (λ ({zs} : {lists}). ‵ ({at_last}) ⊛ raw (fact 𝓤 ({said})))) (id⊢ 𝓤 _)')
         steps.under('pick !', zs)
         steps.take('split !', 1, 'lasts', 'ensures')
         steps.front('ensures')
@@ -258,7 +289,8 @@ module _{self.model_params()} where
         of = f'{self.lending(a, elements, lengths)} room-{v}'
         if a.slice == 'mut':
             steps.front('dead', 'k' + v, 'f' + v)
-            steps.take(f'use3 W (later (‵ ({p.held(left[v])}) ⊛ {p.token})) (comes-back {of} {a.δ} {left[v]} {longer[v]})', 3, 'back')
+            law = f'comes-back {of} {a.δ} {left[v]} {longer[v]}'
+            steps.take(f'use3 W (later (‵ ({p.held(left[v])}) ⊛ {p.token})) ({law})', 3, 'back')
         else:
             steps.front('dead', 'k' + v)
             steps.take(f'use2 W (later (‵ ({p.held(elements(a))}) ⊛ {p.token})) (comes-home {of})', 2, 'back')

@@ -8,31 +8,48 @@ with a call or the name of a let at its end. Each callee is lent what it takes: 
 The function ensures what the calls come to, composed as they are; or, by a law, what follows from that."""
 import re
 
-from walk.call import Arg, Call, copy
+from walk.call import Call, argument, copy
 from walk.module import Walk
+from walk.naming import check_name
 from walk.text import HERE, Steps, arrows, cons, facts, indented, paragraphs, spaced, tuple_of
 from walk.types import Type, Value
+from walk.wrong import Wrong, at
 
 
 def parse(lines, params, result, structs):
     """the calls, of statements as the source has them, with a type at each let; and what is returned"""
     values = {p.name: p for p in params}
     calls = []
-    for line in lines:
-        m = re.fullmatch(r'(?:let (\w+): (\S+) = )?(\w+)\((.*)\)(;?)', line)
+    for line in lines[:-1]:
+        m = re.fullmatch(r'(?:let (\w+): (\S+) = )?(\w+)\((.*)\);', line)
         if not m:
-            break
-        args = [Arg(values[a.removeprefix('&*')], a.startswith('&*')) for a in re.split(r',\s*', m[4])]
-        name, type = (m[1] or m[3], Type(m[2] or '()', structs)) if m[5] else ('result', result)
-        values[name] = Value(name, type)
-        calls.append(Call(m[3], args, type))
-        calls[-1].value = values[name]
-    returned = values.get('result') or values.get(lines[-1])
-    if not returned or len(calls) != len(lines) - ('result' not in values) or result.name == '()':
-        raise ValueError(f'no chain of calls that gives something: {lines}')
-    if len({c.label for c in calls}) != len(calls):
-        raise ValueError(f'two calls of one name; give each a name of its own, and say in `prove` which fn it is: {lines}')
-    return calls, returned
+            raise Wrong('no line of a chain of calls: that is `let NAME: TYPE = CALL(..);` or `CALL(..);`', line)
+        call = at(line, lambda: Call(m[3], arguments(m[4], values), Type(m[2] or '()', structs)))
+        if call.label in [c.label for c in calls]:
+            raise Wrong(f'two calls are named {m[3]}: give one a name of its own, and say in `prove` which fn it is', line)
+        calls.append(call)
+        call.value = values[m[1] or m[3]] = Value(m[1] or m[3], call.result)
+    return ended(calls, lines[-1], values, result)
+
+
+def arguments(text, values):
+    return [argument(a, values) for a in re.split(r',\s*', text)]
+
+
+def ended(calls, line, values, result):
+    """the calls with the one that a chain ends on, if it ends on a call; and what is returned"""
+    m = re.fullmatch(r'(\w+)(?:\((.*)\))?', line)
+    if not m or result.name == '()':
+        raise Wrong('a chain of calls gives something: its last line is a call or the name of a let, without `;`', line)
+    if m[2] is None:
+        if line not in [c.value.name for c in calls if c.gives]:
+            raise Wrong(f'no let is named `{line}`', line)
+        return calls, values[line]
+    calls.append(at(line, lambda: Call(m[1], arguments(m[2], values), result)))
+    if calls[-1].label in [c.label for c in calls[:-1]]:
+        raise Wrong(f'two calls are named {m[1]}: give one a name of its own, and say in `prove` which fn it is', line)
+    calls[-1].value = Value('result', result)
+    return calls, calls[-1].value
 
 
 class Chain(Walk):
@@ -40,6 +57,7 @@ class Chain(Walk):
         calls, self.returned = parse(lines, params, result, section.structs)
         super().__init__(section, name, params, result, calls)
         self.lines, self.by_law = lines, by_law
+        check_name(self)
         self.lay_out()
         self.name_values()
 
@@ -79,6 +97,11 @@ class Chain(Walk):
             now.update(c.left)
         self.last = now
 
+    def wants(self):
+        """what `prove` takes besides the callees"""
+        law = ['the definition of what the contract says', 'the law that what the calls come to meets it']
+        return law if self.by_law else []
+
     def elements(self, c):
         """what an argument is when c is called: of a slice, its elements"""
         def of(a):
@@ -94,8 +117,10 @@ class Chain(Walk):
         if self.by_law:
             walked = [indented(x) for x in walked]
             walked[0] = self.law() + walked[0]
-        body = paragraphs([self.signature(), self.in_order()] + [c.contract() for c in self.callees] + [self.meaning()] + walked)
-        return self.page('One walk serves every choice of the callees: it takes their names and what their contracts say.', body)
+        callees = [c.contract() for c in self.callees]
+        body = paragraphs([self.signature(), self.in_order()] + callees + [self.meaning()] + walked)
+        served = 'One walk serves every choice of the callees: it takes their names and what their contracts say.'
+        return self.page(served, body)
 
     def meaning(self):
         """what the chain gives, and what the function ensures"""
@@ -157,7 +182,7 @@ class Chain(Walk):
         """the walk's end: what is in hand is what the contract says"""
         r = self.returned
         at_last = {p.var: f'(now {p.var})' if self.last[p.var] == p.var else self.last[p.var] for p in self.muts}
-        items = cons(x for p in self.slices for x in (f'‵ ({p.held(at_last[p.var]) if p.slice == "mut" else p.shared()})', p.token))
+        items = cons(x for p in self.slices for x in p.left(at_last))
         self.left = [x for p in self.slices for x in ('o' + p.var, 't' + p.var)]
         lasts = [at_last[p.var] if p.slice == 'mut' else 'tt' for p in self.params]
         lengths = ['l-' + p.var if p.slice == 'mut' else 'tt' for p in self.params]
@@ -181,7 +206,8 @@ class Chain(Walk):
             self.calls(c, steps, lengths, told)
         known_result = told[self.returned.var]
         if self.returned.name != 'result':
-            steps.assign(0, f'of-opd ! {steps.load(self.places[self.returned.var])}', f'({self.result.typed} {self.returned.var} _ {known_result} .0)')
+            typed = f'({self.result.typed} {self.returned.var} _ {known_result} .0)'
+            steps.assign(0, f'of-opd ! {steps.load(self.places[self.returned.var])}', typed)
         steps.say(f'returns ! (look ! {steps.place(0)} refl)')
         for i in range(len(self.locals)):
             steps.leave(i)
@@ -209,11 +235,13 @@ class Chain(Walk):
         longer = {}
         for i, a in enumerate(c.muts, len(c.gives)):
             v = a.of.var
-            steps.say(f'rewrite ! {steps.at("f" + v)} (λ (l : {a.of.speaks}). ‵ (finally {a.of.row} {a.δ} l)) ({c.said(e, i)}) refl')
+            has = f'‵ (finally {a.of.row} {a.δ} l)'
+            steps.say(f'rewrite ! {steps.at("f" + v)} (λ (l : {a.of.speaks}). {has}) ({c.said(e, i)}) refl')
             longer[v] = f'(ap {{B = ℕ}} length (sym ({c.said(e, i)})) ∙ h-{c.label}-{v})'
         told[x.var] = f'(spelled-{x.var} {w} is-{w})'
         steps.under(f'peeks ! {t.row} (Is {t.row}) (shows 𝓤 H A {t.row}) {x.var} ({w} ∷ [])', f'is-{w}')
-        steps.say(f'land ! {HERE} ({"init" if c.first_use else "store"} ! {steps.place(c.to)} refl ({t.typed} {x.var} _ is-{w} .0))')
+        how = 'init' if c.first_use else 'store'
+        steps.say(f'land ! {HERE} ({how} ! {steps.place(c.to)} refl ({t.typed} {x.var} _ is-{w} .0))')
         steps.retell(c.to, self.locals[c.to], 'u : Val', 'u', f'ap only ({t.tells} {x.var} _ is-{w})')
         steps.drop('owned')
         c.come_back(steps, elements, lengths, c.left, longer)

@@ -55,6 +55,22 @@ def arrows(xs):
     return ''.join(f'{x} → ' for x in xs)
 
 
+def signature(slices, slots, result):
+    """a signature, as a record"""
+    result = f'plain (λ _. {result.row})'
+    return f'record {{ lifetimes = {len(slices)}; outlives = []; params = {cons(slots)}; result = {result} }}'
+
+
+def at_entry(xs):
+    """what the arguments `a` of a clause are at the entry: of a slice, its elements"""
+    return ''.join(f' (now ({component("a", i)}))' if x.slice else f' ({component("a", i)})' for i, x in enumerate(xs))
+
+
+def at_exit(xs):
+    """what the `&mut` slices have at the exit `e` of a clause"""
+    return ''.join(f' (now ({component("e", i)}))' for i, x in enumerate(xs) if x.slice == 'mut')
+
+
 def spaced(xs):
     """the words, each with a blank before it"""
     return ''.join(f' {x}' for x in xs)
@@ -72,7 +88,7 @@ def indented(text):
 class Steps:
     """The steps of a proof. An item in hand is known by a label, so that the caller need not count: the steps of the
     logic's kit name an item by its place, and work on those at the front."""
-    WIDTH = 150
+    WIDTH = 108
 
     def __init__(self, items):
         self.items, self.lines, self.open = list(items), [], 0
@@ -160,7 +176,8 @@ class Steps:
 
     def retell(self, i, mir, variable, value, equal):
         """what the local has is said anew, by an equation"""
-        self.say(f'rewrite ! {self.place(i)} (λ ({variable}). ‵ (fat fullShare {mir} l{subscript(i)} 0 {value})) ({equal}) refl')
+        has = f'‵ (fat fullShare {mir} l{subscript(i)} 0 {value})'
+        self.say(f'rewrite ! {self.place(i)} (λ ({variable}). {has}) ({equal}) refl')
 
     def leave(self, i, step='leave'):
         self.say(f'{step} ! {self.place(i)} refl refl')

@@ -3,6 +3,7 @@
 The words are the logic's. A type has a row (its meaning), a denotation (what a contract speaks of), its MIR, and laws
 about the machine value of a denotation."""
 from walk.text import component, subscript
+from walk.wrong import Wrong
 
 WIDTHS = {'u8': 8, 'u16': 16, 'u32': 32, 'u64': 64, 'usize': 64}
 
@@ -28,13 +29,7 @@ class Type:
             self.vals, self.tells = 'nothing-vals', 'nothing-tells'
             self.makes, self.typed = '(nothing-makes 𝓤 H A W)', '(nothing-lawful 𝓤 H A W .typed)'
         elif name.startswith('['):
-            self.of, self.count = name[1:-1].split('; ')
-            e = Type(self.of, structs)
-            self.row, self.denotes, self.mir = f'(Array {e.row} {self.count})', f'(List {e.denotes})', f'(tyArray {e.mir} {self.count})'
-            self.vals, self.tells = f'(array-vals {e.vals})', f'(array-tells {e.row} {e.vals} {e.tells} {self.count})'
-            self.makes = f'(array-makes 𝓤 H A W {e.row} {e.makes} {self.count})'
-            self.typed = f'(array-lawful 𝓤 H A W {e.row} {e.lawful} {self.count} .typed)'
-            self.element = f'(tyArray {e.element} {self.count})'
+            self.array(structs)
         elif name in structs and structs[name] is None:
             self.row, self.denotes, self.mir = f'(rowOf {name})', f'(denotes {name})', f'(mirOf {name})'
             self.vals, self.tells = f'(valsOf {name})', f'({name} .tells)'
@@ -49,7 +44,19 @@ class Type:
             # behind a reference a declared type is its bare name; by value it is spelled out
             self.element = f'(pointee ({name}′.the-row .written))'
         else:
-            raise ValueError(f'no type {name}')
+            raise Wrong(f'no type {name}: it is no number, no bool, and no `struct` or `value` of the crate')
+
+    def array(self, structs):
+        self.of, _, self.count = self.name[1:-1].partition('; ')
+        e = Type(self.of, structs)
+        if not self.count.isdigit() or not hasattr(e, 'lawful'):
+            raise Wrong(f'no type {self.name}: an array by value is `[STRUCT; NUMBER]`, and a slice is `&[..]` or `&mut [..]`')
+        self.row, self.denotes = f'(Array {e.row} {self.count})', f'(List {e.denotes})'
+        self.mir = f'(tyArray {e.mir} {self.count})'
+        self.vals, self.tells = f'(array-vals {e.vals})', f'(array-tells {e.row} {e.vals} {e.tells} {self.count})'
+        self.makes = f'(array-makes 𝓤 H A W {e.row} {e.makes} {self.count})'
+        self.typed = f'(array-lawful 𝓤 H A W {e.row} {e.lawful} {self.count} .typed)'
+        self.element = f'(tyArray {e.element} {self.count})'
 
     def owns(self, x, known):
         """the step that makes what the value x owns, from what is known of its machine value"""
@@ -146,7 +153,12 @@ class Param:
 
     def held(self, elements):
         """a `&mut` slice that has these elements"""
-        return f'MutSlice (named {self.lifetime}) {self.κ} {self.row} .own (at-{self.var} ({self.var} .name) {elements}) ({self.machine} ∷ [])'
+        at = f'(at-{self.var} ({self.var} .name) {elements})'
+        return f'MutSlice (named {self.lifetime}) {self.κ} {self.row} .own {at} ({self.machine} ∷ [])'
+
+    def left(self, lists):
+        """what the function hands back of a slice, a `&mut` one with the list that it has at last; and its token"""
+        return [f'‵ ({self.held(lists[self.var]) if self.slice == "mut" else self.shared()})', self.token]
 
     def lent(self, slice, lifetime, ν, δ, elements):
         """a `&mut` slice, lent for the lifetime ν of a call under the ghost name δ: again, or as a `&`"""
@@ -161,7 +173,8 @@ class Param:
     def copied(self):
         """the step that makes two of a `&` slice, and those two"""
         two = f'‵ ({self.shared()}) ⊛ ‵ ({self.shared()})'
-        return f'use1 W ({two}) (shr-slice-copy 𝓤 H A W (named {self.lifetime}) {self.κ} {self.row} .twice {self.var} ({self.machine} ∷ []))'
+        law = f'shr-slice-copy 𝓤 H A W (named {self.lifetime}) {self.κ} {self.row}'
+        return f'use1 W ({two}) ({law} .twice {self.var} ({self.machine} ∷ []))'
 
 
 def parameters(text, structs):
@@ -169,6 +182,8 @@ def parameters(text, structs):
     found, lifetime = [], 0
     for piece in text.split(','):
         name, _, type = piece.strip().partition(':')
+        if not type:
+            raise Wrong(f'the parameter `{piece.strip()}` has no type')
         found.append(Param(name.strip(), type.strip(), structs, lifetime))
         lifetime += bool(found[-1].slice)
     return found

@@ -11,37 +11,37 @@ use Rattle.survey.specs.Survey.{countsOf}
 use Rattle.survey.specs.declared.Counts.{Counts}
 use Rattle.catalogue_standings.specs.Limits.{shapeFits}
 use Rattle.image.specs.declared.Loaded.{Loaded}
-use Rattle.printer.specs.Sheets.{headCursor, headWritten}
+use Rattle.printer.specs.Sheets.{headWriter, headWritten}
 use Rattle.printer.specs.Text.{refusalText}
 use Rattle.printer.specs.Writing.{Writes}
-use Rattle.printer.specs.declared.Cursor.{Cursor}
-use Rattle.card_print.specs.Beginnings.{refusalCursor, refusalWritten, beginCursor, beginWritten}
+use Rattle.printer.specs.declared.Writer.{Writer}
+use Rattle.card_print.specs.Beginnings.{refusalWriter, refusalWritten, beginWriter, beginWritten}
 
 pub refused-at : (number : ℕ) (text : List ℕ) (r : ℕ) (text′ : List ℕ) → Writes (refusalText number) text 0 r text′
-    → (_≡_ {A = Cursor} (record { at = r; sheet = 0; stop = true }) (refusalCursor number text))
+    → (_≡_ {A = Writer} (record { at = r; sheet = 0; stop = true }) (refusalWriter number text))
     × (text′ ≡ refusalWritten number text)
-unfolding refusalCursor refusalWritten
+unfolding refusalWriter refusalWritten
 refused-at number text r text′ w = (λ x. record { at = w .ends x; sheet = 0; stop = true }, w .leaves)
 
-module _ (loaded : Loaded) (map : List ℕ) (count : ℕ) (text : List ℕ) (r : Cursor) (text′ : List ℕ) where
+module _ (loaded : Loaded) (map : List ℕ) (count : ℕ) (text : List ℕ) (r : Writer) (text′ : List ℕ) where
   abbrev Begins : Type 0
-  Begins = (r ≡ beginCursor loaded map count text) × (text′ ≡ beginWritten loaded map count text)
+  Begins = (r ≡ beginWriter loaded map count text) × (text′ ≡ beginWritten loaded map count text)
 
-  pub refusal-begins : (loaded .number ≡ 0 → ⊥) → r ≡ refusalCursor (loaded .number) text
+  pub refusal-begins : (loaded .number ≡ 0 → ⊥) → r ≡ refusalWriter (loaded .number) text
       → text′ ≡ refusalWritten (loaded .number) text → Begins
-  unfolding beginCursor beginWritten
+  unfolding beginWriter beginWritten
   refusal-begins e p q = (simp (ne-eqb (loaded .number) 0 e) p, simp (ne-eqb (loaded .number) 0 e) q)
 
   pub misfit-begins : loaded .number ≡ 0 → shapeFits (loaded .blocks) (loaded .free) (length map) ≡ false
-      → r ≡ refusalCursor 1 text → text′ ≡ refusalWritten 1 text → Begins
-  unfolding beginCursor beginWritten
+      → r ≡ refusalWriter 1 text → text′ ≡ refusalWritten 1 text → Begins
+  unfolding beginWriter beginWritten
   misfit-begins e f p q = (simp (eq-eqb (loaded .number) 0 e, f) p, simp (eq-eqb (loaded .number) 0 e, f) q)
 
   pub card-begins : (counts : Counts) → loaded .number ≡ 0 → shapeFits (loaded .blocks) (loaded .free) (length map) ≡ true
-      → counts ≡ countsOf (free map) (loaded .blocks) → r ≡ headCursor (loaded .blocks) (loaded .free) count counts text
+      → counts ≡ countsOf (free map) (loaded .blocks) → r ≡ headWriter (loaded .blocks) (loaded .free) count counts text
       → text′ ≡ headWritten (loaded .blocks) (loaded .free) count counts text → Begins
-  unfolding beginCursor beginWritten
+  unfolding beginWriter beginWritten
   card-begins counts e f c p q = (
-    simp (eq-eqb (loaded .number) 0 e, f) (p ∙ ap (λ (x : Counts). headCursor (loaded .blocks) (loaded .free) count x text) c),
+    simp (eq-eqb (loaded .number) 0 e, f) (p ∙ ap (λ (x : Counts). headWriter (loaded .blocks) (loaded .free) count x text) c),
     simp (eq-eqb (loaded .number) 0 e, f) (q ∙ ap (λ (x : Counts). headWritten (loaded .blocks) (loaded .free) count x text) c),
   )

@@ -22,27 +22,27 @@ use Rattle.image.specs.declared.Loaded.{Loaded}
 use Rattle.image.proofs.Fitting.{head-to, load-fits-to}
 use Rattle.image.proofs.Journey.{entries-length, map-length}
 use Rattle.image.proofs.Verdicts.{accepted-to, load-accepted}
-use Rattle.printer.specs.Sheets.{linesCursor, linesWritten, placeOf}
+use Rattle.printer.specs.Sheets.{linesWriter, linesWritten, placeOf}
 use Rattle.printer.specs.Text.{stateText, refusalText}
 use Rattle.printer.specs.Writing.{Writes}
-use Rattle.printer.specs.declared.Cursor.{Cursor}
-use Rattle.printer.proofs.Cursors.{cursor-stays, text-stays}
+use Rattle.printer.specs.declared.Writer.{Writer}
+use Rattle.printer.proofs.Writers.{cursor-stays, text-stays}
 use Rattle.printer.proofs.Lines.{describes}
-use Rattle.card_print.specs.Beginnings.{refusalCursor, refusalWritten, beginCursor, beginWritten}
+use Rattle.card_print.specs.Beginnings.{refusalWriter, refusalWritten, beginWriter, beginWritten}
 use Rattle.card_print.specs.Printed.{Prints}
 
 never : (number : ℕ) → refused number ≡ accepted → ⊥
 never number e = let z : _≡_ {A = ℕ} 0 1 = cc in omega arith
 
 -- the text after a beginning and the lines of some entries
-abbrev Ends : List Entry → Cursor → List ℕ → List ℕ → List ℕ → Type 0
-Ends entries first begun bytes text = Writes bytes text 0 (placeOf (linesCursor entries first begun))
+abbrev Ends : List Entry → Writer → List ℕ → List ℕ → List ℕ → Type 0
+Ends entries first begun bytes text = Writes bytes text 0 (placeOf (linesWriter entries first begun))
     (linesWritten entries first begun)
 
 -- a refusal stands by itself
 refuses : (entries : List Entry) (number : ℕ) (text : List ℕ)
-    → Ends entries (refusalCursor number text) (refusalWritten number text) (refusalText number) text
-unfolding refusalCursor refusalWritten
+    → Ends entries (refusalWriter number text) (refusalWritten number text) (refusalText number) text
+unfolding refusalWriter refusalWritten
 refuses entries number text = record {
   ends = ap placeOf (cursor-stays entries _ _ refl);
   leaves = text-stays entries _ _ refl;
@@ -68,13 +68,13 @@ module _ (image map : List ℕ) (entries : List Entry) (scratch text : List ℕ)
 
   abbrev Printed : Verdict → Type 0
   Printed v =
-      Ends (sheets v) (beginCursor (left v) (words v) (length entries) text)
+      Ends (sheets v) (beginWriter (left v) (words v) (length entries) text)
       (beginWritten (left v) (words v) (length entries) text)
       (settle v (stateText (stateIn image .blocks) (stateIn image .spare) (stateIn image .map) (stateIn image .entries))
       refusalText) text
 
   accepted-print : verdict ≡ accepted → Printed accepted
-  unfolding beginCursor beginWritten
+  unfolding beginWriter beginWritten
   accepted-print e =
       let a = accepted-to image (length map) (length entries) (length scratch) e in
       let n : ℕ = stateIn image .blocks in
@@ -89,7 +89,7 @@ module _ (image map : List ℕ) (entries : List Entry) (scratch text : List ℕ)
       rw (fits, count) (describes n spare counts (stateIn image .entries) text)
 
   refused-print : (number : ℕ) → verdict ≡ refused number → Printed (refused number)
-  unfolding beginCursor beginWritten
+  unfolding beginWriter beginWritten
   refused-print number e =
       let some : eqb number 0 ≡ false =
       ne-eqb number 0
@@ -99,12 +99,12 @@ module _ (image map : List ℕ) (entries : List Entry) (scratch text : List ℕ)
 
   pub prints :
       Prints image map entries scratch text
-      (placeOf (linesCursor (loadEntries image map entries scratch)
-      (beginCursor loaded (loadMap image map entries scratch) (length entries) text)
+      (placeOf (linesWriter (loadEntries image map entries scratch)
+      (beginWriter loaded (loadMap image map entries scratch) (length entries) text)
       (beginWritten loaded (loadMap image map entries scratch) (length entries) text)))
       (loadMap image map entries scratch) (loadEntries image map entries scratch) (loadScratch image map entries scratch)
       (linesWritten (loadEntries image map entries scratch)
-      (beginCursor loaded (loadMap image map entries scratch) (length entries) text)
+      (beginWriter loaded (loadMap image map entries scratch) (length entries) text)
       (beginWritten loaded (loadMap image map entries scratch) (length entries) text))
   unfolding loadResult loadMap loadEntries
   prints = go verdict refl

@@ -10,25 +10,25 @@ use Rattle.map_blocks.specs.Blocks.{free}
 use Rattle.survey.specs.Survey.{countsOf}
 use Rattle.catalogue_standings.specs.Limits.{shapeFits}
 use Rattle.image.specs.declared.Loaded.{Loaded}
-use Rattle.printer.specs.Sheets.{cursor, headCursor, headWritten}
+use Rattle.printer.specs.Sheets.{cursor, headWriter, headWritten}
 use Rattle.printer.specs.Text.{refusalText}
 use Rattle.printer.specs.Writing.{behind, written}
-use Rattle.printer.specs.declared.Cursor.{Cursor}
+use Rattle.printer.specs.declared.Writer.{Writer}
 
-unfoldable pub refusalCursor : ℕ → List ℕ → Cursor
-refusalCursor number text = cursor (behind text 0 (refusalText number)) 0 true
+unfoldable pub refusalWriter : ℕ → List ℕ → Writer
+refusalWriter number text = cursor (behind text 0 (refusalText number)) 0 true
 
 unfoldable pub refusalWritten : ℕ → List ℕ → List ℕ
 refusalWritten number text = written text 0 (refusalText number)
 
 -- By what a load gave, the map that it left and the number of sheets. The map of an accepted load fits its n.
 module _ (loaded : Loaded) (map : List ℕ) (count : ℕ) (text : List ℕ) where
-  unfoldable pub beginCursor : Cursor
-  beginCursor =
+  unfoldable pub beginWriter : Writer
+  beginWriter =
       cond (eqb (loaded .number) 0)
       (cond (shapeFits (loaded .blocks) (loaded .free) (length map))
-      (headCursor (loaded .blocks) (loaded .free) count (countsOf (free map) (loaded .blocks)) text) (refusalCursor 1 text))
-      (refusalCursor (loaded .number) text)
+      (headWriter (loaded .blocks) (loaded .free) count (countsOf (free map) (loaded .blocks)) text) (refusalWriter 1 text))
+      (refusalWriter (loaded .number) text)
 
   unfoldable pub beginWritten : List ℕ
   beginWritten =

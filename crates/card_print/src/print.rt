@@ -1,24 +1,24 @@
 // The card printer's work: an image in, the text of its card or of a refusal out.
 ghost use mathlib.Core.Path.{_≡_};
 ghost use Prim.Native.Nat.{_≤_};
-ghost use Rattle.card_print.specs.Beginnings.{refusalCursor, refusalWritten, beginCursor, beginWritten};
+ghost use Rattle.card_print.specs.Beginnings.{refusalWriter, refusalWritten, beginWriter, beginWritten};
 ghost use Rattle.card_print.specs.Printed.{Prints};
 use catalogue::Entry;
 use catalogue_standings::opening::shape_fits;
 use image::Loaded;
-use printer::Cursor;
+use printer::Writer;
 use printer::describe_refusal;
 use printer::place_of;
 use printer::write_head;
 use printer::write_sheets;
 
 // Writes the text of a refusal. No line of a sheet goes behind it.
-fn refuse(number: u32, text: &mut [u8]) -> Cursor
-    ensures { λ r. ⌜ (r ≡ refusalCursor number (now (text .entry)))
+fn refuse(number: u32, text: &mut [u8]) -> Writer
+    ensures { λ r. ⌜ (r ≡ refusalWriter number (now (text .entry)))
         × (now (text .exit) ≡ refusalWritten number (now (text .entry))) ⌝ }
 {
     let end = describe_refusal(number, text);
-    Cursor {
+    Writer {
         at: end,
         sheet: 0,
         stop: true,
@@ -26,8 +26,8 @@ fn refuse(number: u32, text: &mut [u8]) -> Cursor
 }
 
 // Writes a refusal, or the first two lines of a card.
-fn begin(loaded: Loaded, map: &[u64], count: usize, text: &mut [u8]) -> Cursor
-    ensures { λ r. ⌜ (r ≡ beginCursor loaded (now (map .entry)) count (now (text .entry)))
+fn begin(loaded: Loaded, map: &[u64], count: usize, text: &mut [u8]) -> Writer
+    ensures { λ r. ⌜ (r ≡ beginWriter loaded (now (map .entry)) count (now (text .entry)))
         × (now (text .exit) ≡ beginWritten loaded (now (map .entry)) count (now (text .entry))) ⌝ }
 {
     if loaded.number != 0 {

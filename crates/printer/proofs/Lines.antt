@@ -14,10 +14,10 @@ use Rattle.printer.specs.Decimal.{decimal, numeral}
 use Rattle.printer.specs.Writing.{behind, written, Writes}
 use Rattle.printer.specs.Lines.{space, newline, sheetLine}
 use Rattle.printer.specs.Text.{sheetLines, cardText}
-use Rattle.printer.specs.Sheets.{cursor, headCursor, headWritten, linesCursor, linesWritten, placeOf, Describes}
-use Rattle.printer.specs.declared.Cursor.{Cursor}
+use Rattle.printer.specs.Sheets.{cursor, headWriter, headWritten, linesWriter, linesWritten, placeOf, Describes}
+use Rattle.printer.specs.declared.Writer.{Writer}
 use Rattle.printer.proofs.Written.{then, writes-past, writes-none}
-use Rattle.printer.proofs.Cursors.{full, going, line-some, line-none, cursor-stays, text-stays}
+use Rattle.printer.proofs.Writers.{full, going, line-some, line-none, cursor-stays, text-stays}
 
 -- a line has a byte
 line-long : (sheet : ℕ) (e : Entry) → 0 < length (sheetLine sheet e)
@@ -33,52 +33,52 @@ unfolding behind
 next-room sheet at text line h k l = omega (arith, h, k, l)
 
 -- what stands after the lines of sheets from `sheet` on
-abbrev After : List Entry → Cursor → List ℕ → Type 0
-After es at text = Writes (sheetLines (at .sheet) es) text (at .at) (linesCursor es at text .at) (linesWritten es at text)
+abbrev After : List Entry → Writer → List ℕ → Type 0
+After es at text = Writes (sheetLines (at .sheet) es) text (at .at) (linesWriter es at text .at) (linesWritten es at text)
 
-after-none : (at : Cursor) (text : List ℕ) → After [] at text
-unfolding sheetLines linesCursor linesWritten
+after-none : (at : Writer) (text : List ℕ) → After [] at text
+unfolding sheetLines linesWriter linesWritten
 after-none at text = writes-none text (at .at)
 
 -- with room for the line of the first
-after-some : (e : Entry) (es : List Entry) (at : Cursor) (text : List ℕ) → at .stop ≡ false → at .sheet < length text
+after-some : (e : Entry) (es : List Entry) (at : Writer) (text : List ℕ) → at .stop ≡ false → at .sheet < length text
     → After es (cursor (behind text (at .at) (sheetLine (at .sheet) e)) (at .sheet + 1) false)
     (written text (at .at) (sheetLine (at .sheet) e)) → After (e ∷ es) at text
-unfolding sheetLines linesCursor linesWritten
+unfolding sheetLines linesWriter linesWritten
 after-some e es at text s h w =
     let first : Writes (sheetLine (at .sheet) e) text (at .at) (behind text (at .at) (sheetLine (at .sheet) e))
     (written text (at .at) (sheetLine (at .sheet) e)) =
     record { ends = refl; leaves = refl } in
     let l = line-some at text e _ _ (going at text s h) first in
     let next : at .sheet + 1 ≡ suc (at .sheet) = omega arith in
-    subst (λ (n : ℕ). Writes (sheetLine (at .sheet) e ++ sheetLines n es) text (at .at) (linesCursor (e ∷ es) at text .at)
+    subst (λ (n : ℕ). Writes (sheetLine (at .sheet) e ++ sheetLines n es) text (at .at) (linesWriter (e ∷ es) at text .at)
     (linesWritten (e ∷ es) at text)) next
     (then first
     (record {
-      ends = ap₂ (λ (c : Cursor) (t : List ℕ). linesCursor es c t .at) (sym (l .0)) (sym (l .1)) ∙ w .ends;
+      ends = ap₂ (λ (c : Writer) (t : List ℕ). linesWriter es c t .at) (sym (l .0)) (sym (l .1)) ∙ w .ends;
       leaves = ap₂ (linesWritten es) (sym (l .0)) (sym (l .1)) ∙ w .leaves;
     }))
 
 -- without
-after-full : (e : Entry) (es : List Entry) (at : Cursor) (text : List ℕ) → at .stop ≡ false → length text ≤ at .sheet
+after-full : (e : Entry) (es : List Entry) (at : Writer) (text : List ℕ) → at .stop ≡ false → length text ≤ at .sheet
     → at .sheet ≤ at .at → After (e ∷ es) at text
-unfolding linesCursor linesWritten
+unfolding linesWriter linesWritten
 after-full e es at text s h k =
     let l = line-none at text e (full at text s h) in
     let p = writes-past (sheetLines (at .sheet) (e ∷ es)) text (at .at) (omega (arith, h, k)) in
     record {
-      ends = ap (λ (c : Cursor). c .at) (ap₂ (linesCursor es) (sym (l .0)) (sym (l .1))
+      ends = ap (λ (c : Writer). c .at) (ap₂ (linesWriter es) (sym (l .0)) (sym (l .1))
           ∙ cursor-stays es (cursor (at .at) (at .sheet) true) text refl) ∙ p .ends;
       leaves = ap₂ (linesWritten es) (sym (l .0)) (sym (l .1)) ∙ text-stays es (cursor (at .at) (at .sheet) true) text refl
           ∙ p .leaves;
     }
 
-pub after : (es : List Entry) (at : Cursor) (text : List ℕ) → at .stop ≡ false → at .sheet ≤ at .at → After es at text
+pub after : (es : List Entry) (at : Writer) (text : List ℕ) → at .stop ≡ false → at .sheet ≤ at .at → After es at text
 after [] at text s k = after-none at text
 after (e ∷ es) at text s k = which (order (at .sheet) (length text)) (λ c t z k. after es c t z k)
   where
     which : (at .sheet < length text) ⊎ (length text ≤ at .sheet)
-        → ((c : Cursor) (t : List ℕ) → c .stop ≡ false → c .sheet ≤ c .at → After es c t) → After (e ∷ es) at text
+        → ((c : Writer) (t : List ℕ) → c .stop ≡ false → c .sheet ≤ c .at → After es c t) → After (e ∷ es) at text
     which (inl h) rest =
         after-some e es at text s h
         (rest (cursor (behind text (at .at) (sheetLine (at .sheet) e)) (at .sheet + 1) false)
@@ -89,11 +89,11 @@ after (e ∷ es) at text s k = which (order (at .sheet) (length text)) (λ c t z
 -- the lines behind the first two are the text of the card
 pub describes : (n spare : ℕ) (counts : Counts) (entries : List Entry) (text : List ℕ)
     → Describes n spare counts entries text (placeOf
-    (linesCursor entries (headCursor n spare (length entries) counts text)
+    (linesWriter entries (headWriter n spare (length entries) counts text)
     (headWritten n spare (length entries) counts text)))
-    (linesWritten entries (headCursor n spare (length entries) counts text) (headWritten n spare (length entries) counts text))
-unfolding headCursor headWritten cardText
+    (linesWritten entries (headWriter n spare (length entries) counts text) (headWritten n spare (length entries) counts text))
+unfolding headWriter headWritten cardText
 describes n spare counts entries text =
     then (record { ends = refl; leaves = refl })
-    (after entries (headCursor n spare (length entries) counts text) (headWritten n spare (length entries) counts text) refl
+    (after entries (headWriter n spare (length entries) counts text) (headWritten n spare (length entries) counts text) refl
     (omega arith))

@@ -11,43 +11,43 @@ use Rattle.survey.specs.declared.Counts.{Counts}
 use Rattle.printer.specs.Writing.{behind, written, Writes}
 use Rattle.printer.specs.Lines.{cardLine, runsLine, sheetLine}
 use Rattle.printer.specs.Text.{cardText}
-use Rattle.printer.specs.declared.Cursor.{Cursor}
+use Rattle.printer.specs.declared.Writer.{Writer}
 
-abbrev pub cursor : ℕ → ℕ → Bool → Cursor
+abbrev pub cursor : ℕ → ℕ → Bool → Writer
 cursor at sheet stop = record { at = at; sheet = sheet; stop = stop }
 
 -- The first two lines are written, and those of the sheets go behind them.
 module _ (n spare c : ℕ) (counts : Counts) (text : List ℕ) where
-  unfoldable pub headCursor : Cursor
-  headCursor = cursor (behind text 0 (cardLine n spare c ++ runsLine counts)) 0 false
+  unfoldable pub headWriter : Writer
+  headWriter = cursor (behind text 0 (cardLine n spare c ++ runsLine counts)) 0 false
 
   unfoldable pub headWritten : List ℕ
   headWritten = written text 0 (cardLine n spare c ++ runsLine counts)
 
 -- There is room for the line of a sheet. A line is longer than one byte, so that a text is full before a sheet's number
 -- comes to its length.
-abbrev pub room : Cursor → List ℕ → Bool
+abbrev pub room : Writer → List ℕ → Bool
 room at text = not (at .stop) && ltb (at .sheet) (length text)
 
 -- The cursor's line is written, and that of the next one goes behind it.
-unfoldable pub lineCursor : Cursor → List ℕ → Entry → Cursor
-lineCursor at text e =
+unfoldable pub lineWriter : Writer → List ℕ → Entry → Writer
+lineWriter at text e =
     cond (room at text) (cursor (behind text (at .at) (sheetLine (at .sheet) e)) (at .sheet + 1) false)
     (cursor (at .at) (at .sheet) true)
 
-unfoldable pub lineWritten : Cursor → List ℕ → Entry → List ℕ
+unfoldable pub lineWritten : Writer → List ℕ → Entry → List ℕ
 lineWritten at text e = cond (room at text) (written text (at .at) (sheetLine (at .sheet) e)) text
 
 -- The lines of all sheets.
-unfoldable pub linesCursor : List Entry → Cursor → List ℕ → Cursor
-linesCursor [] at text = at
-linesCursor (e ∷ es) at text = linesCursor es (lineCursor at text e) (lineWritten at text e)
+unfoldable pub linesWriter : List Entry → Writer → List ℕ → Writer
+linesWriter [] at text = at
+linesWriter (e ∷ es) at text = linesWriter es (lineWriter at text e) (lineWritten at text e)
 
-unfoldable pub linesWritten : List Entry → Cursor → List ℕ → List ℕ
+unfoldable pub linesWritten : List Entry → Writer → List ℕ → List ℕ
 linesWritten [] at text = text
-linesWritten (e ∷ es) at text = linesWritten es (lineCursor at text e) (lineWritten at text e)
+linesWritten (e ∷ es) at text = linesWritten es (lineWriter at text e) (lineWritten at text e)
 
-abbrev pub placeOf : Cursor → ℕ
+abbrev pub placeOf : Writer → ℕ
 placeOf at = at .at
 
 -- What the head and the lines of the sheets come to: the text of the card stands at the beginning, and the rest of the buffer

@@ -4,8 +4,8 @@ ghost use mathlib.Core.List.{[], _∷_};
 ghost use mathlib.Core.Path.{_≡_};
 ghost use Rattle.printer.specs.Decimal.{decimal, numeral};
 ghost use Rattle.printer.specs.Lines.{cardLine, runsLine, sheetLine};
-ghost use Rattle.printer.specs.Sheets.{headCursor, headWritten, lineCursor, lineWritten};
-ghost use Rattle.printer.specs.Sheets.{linesCursor, linesWritten, placeOf};
+ghost use Rattle.printer.specs.Sheets.{headWriter, headWritten, lineWriter, lineWritten};
+ghost use Rattle.printer.specs.Sheets.{linesWriter, linesWritten, placeOf};
 ghost use Rattle.printer.specs.Text.{refusalText};
 ghost use Rattle.printer.specs.Writing.{Writes};
 use catalogue::Entry;
@@ -90,20 +90,20 @@ pub fn write_line(text: &mut [u8], at: usize, sheet: usize, entry: Entry) -> usi
 }
 
 // Where the next line goes, which sheet it is of, and whether there is none to go on to.
-pub struct Cursor {
+pub struct Writer {
     pub at: usize,
     pub sheet: usize,
     pub stop: bool,
 }
 
 // Writes the first two lines. Those of the sheets go behind them.
-pub fn write_head(n: u32, free: u32, c: usize, counts: Counts, text: &mut [u8]) -> Cursor
-    ensures { λ r. ⌜ (r ≡ headCursor n free c counts (now (text .entry)))
+pub fn write_head(n: u32, free: u32, c: usize, counts: Counts, text: &mut [u8]) -> Writer
+    ensures { λ r. ⌜ (r ≡ headWriter n free c counts (now (text .entry)))
         × (now (text .exit) ≡ headWritten n free c counts (now (text .entry))) ⌝ }
 {
     let second = write_card(text, 0, n, free, c);
     let third = write_runs(text, second, counts);
-    Cursor {
+    Writer {
         at: third,
         sheet: 0,
         stop: false,
@@ -111,28 +111,28 @@ pub fn write_head(n: u32, free: u32, c: usize, counts: Counts, text: &mut [u8]) 
 }
 
 // Writes the line of the cursor's sheet, if there is room.
-fn write_sheet(from: Cursor, text: &mut [u8], entry: Entry) -> Cursor
-    ensures { λ r. ⌜ (r ≡ lineCursor from (now (text .entry)) entry)
+fn write_sheet(from: Writer, text: &mut [u8], entry: Entry) -> Writer
+    ensures { λ r. ⌜ (r ≡ lineWriter from (now (text .entry)) entry)
         × (now (text .exit) ≡ lineWritten from (now (text .entry)) entry) ⌝ }
 {
     let at = from.at;
     let sheet = from.sheet;
     if from.stop {
-        return Cursor {
+        return Writer {
             at: at,
             sheet: sheet,
             stop: true,
         };
     }
     if text.len() <= sheet {
-        return Cursor {
+        return Writer {
             at: at,
             sheet: sheet,
             stop: true,
         };
     }
     let last = write_line(text, at, sheet, entry);
-    Cursor {
+    Writer {
         at: last,
         sheet: sheet + 1,
         stop: false,
@@ -140,8 +140,8 @@ fn write_sheet(from: Cursor, text: &mut [u8], entry: Entry) -> Cursor
 }
 
 // Writes a line for each sheet.
-pub fn write_sheets(catalogue: &[Entry], start: Cursor, text: &mut [u8]) -> Cursor
-    ensures { λ r. ⌜ (r ≡ linesCursor (now (catalogue .entry)) start (now (text .entry)))
+pub fn write_sheets(catalogue: &[Entry], start: Writer, text: &mut [u8]) -> Writer
+    ensures { λ r. ⌜ (r ≡ linesWriter (now (catalogue .entry)) start (now (text .entry)))
         × (now (text .exit) ≡ linesWritten (now (catalogue .entry)) start (now (text .entry))) ⌝ }
 {
     let mut state = start;
@@ -156,7 +156,7 @@ pub fn write_sheets(catalogue: &[Entry], start: Cursor, text: &mut [u8]) -> Curs
     state
 }
 
-pub fn place_of(cursor: Cursor) -> usize
+pub fn place_of(cursor: Writer) -> usize
     ensures { λ r. ⌜ r ≡ placeOf cursor ⌝ }
 {
     cursor.at

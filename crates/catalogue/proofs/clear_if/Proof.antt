@@ -1,4 +1,5 @@
--- Written by tools/walks: `catalogue::clear_if` meets its contract, by the walk of `Cleared.antt`, with the calls of `catalogue::clear_entry`.
+-- Written by tools/walks: `catalogue::clear_if` meets its contract, by the walk of `Cleared.antt`, with the calls of
+-- `catalogue::clear_entry`.
 -- Assumes nothing.
 use contract.Running.{givenOf, tables, tablesOf}
 use denote.Triple.Spec.{tripleOf}
@@ -20,4 +21,5 @@ clear-if-spec 𝓤 H 𝓜 𝓖 𝓡 =
     (tables 𝓤 H 𝓜 𝓡 code.env .C) (tables 𝓤 H 𝓜 𝓡 code.env .Λ) #clear-if code.function (code.unfolded 𝓤 H 𝓜 𝓡)
     (meets step-def.name cleared clearedIf cleared-none cleared-more
     𝓤 H (𝓖 .A) (givenOf 𝓤 H 𝓜 𝓖) (tablesOf 𝓤 H 𝓜 (tables 𝓤 H 𝓜 𝓡 code.env))
-    (cited 𝓤 H (step-contract cleared 𝓤 H (𝓖 .A)) 𝓜 𝓡 code.env step-def.name step-def.routine code.calls-catalogue·clear-entry (step-met.met 𝓤 H 𝓜 𝓖 𝓡)))
+    (cited 𝓤 H (step-contract cleared 𝓤 H (𝓖 .A)) 𝓜 𝓡 code.env step-def.name step-def.routine code.calls-catalogue·clear-entry
+    (step-met.met 𝓤 H 𝓜 𝓖 𝓡)))

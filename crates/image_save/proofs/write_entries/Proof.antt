@@ -1,4 +1,5 @@
--- Written by tools/walks: `image_save::write_entries` meets its contract, by the walk of `EntriesWritten.antt`, with the calls of `image_save::write_entry`.
+-- Written by tools/walks: `image_save::write_entries` meets its contract, by the walk of `EntriesWritten.antt`, with the calls
+-- of `image_save::write_entry`.
 -- Assumes nothing.
 use contract.Running.{givenOf, tables, tablesOf}
 use denote.Triple.Spec.{tripleOf}
@@ -20,4 +21,5 @@ write-entries-spec 𝓤 H 𝓜 𝓖 𝓡 =
     (tables 𝓤 H 𝓜 𝓡 code.env .C) (tables 𝓤 H 𝓜 𝓡 code.env .Λ) #write-entries code.function (code.unfolded 𝓤 H 𝓜 𝓡)
     (meets step-def.name cursorAfter imageAfter entriesCursor cursor-none cursor-more entriesImage image-none image-more
     𝓤 H (𝓖 .A) (givenOf 𝓤 H 𝓜 𝓖) (tablesOf 𝓤 H 𝓜 (tables 𝓤 H 𝓜 𝓡 code.env))
-    (cited 𝓤 H (step-contract cursorAfter imageAfter 𝓤 H (𝓖 .A)) 𝓜 𝓡 code.env step-def.name step-def.routine code.calls-image-save·write-entry (step-met.met 𝓤 H 𝓜 𝓖 𝓡)))
+    (cited 𝓤 H (step-contract cursorAfter imageAfter 𝓤 H (𝓖 .A)) 𝓜 𝓡 code.env step-def.name step-def.routine
+    code.calls-image-save·write-entry (step-met.met 𝓤 H 𝓜 𝓖 𝓡)))

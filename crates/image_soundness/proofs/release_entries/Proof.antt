@@ -1,4 +1,5 @@
--- Written by tools/walks: `image_soundness::release_entries` meets its contract, by the walk of `Released.antt`, with the calls of `image_soundness::release_entry`.
+-- Written by tools/walks: `image_soundness::release_entries` meets its contract, by the walk of `Released.antt`, with the calls
+-- of `image_soundness::release_entry`.
 -- Assumes nothing.
 use contract.Running.{givenOf, tables, tablesOf}
 use denote.Triple.Spec.{tripleOf}
@@ -20,4 +21,5 @@ release-entries-spec 𝓤 H 𝓜 𝓖 𝓡 =
     (tables 𝓤 H 𝓜 𝓡 code.env .C) (tables 𝓤 H 𝓜 𝓡 code.env .Λ) #release-entries code.function (code.unfolded 𝓤 H 𝓜 𝓡)
     (meets step-def.name tallyAfter scratchAfter tallyOf tally-none tally-more scratchOf scratch-none scratch-more
     𝓤 H (𝓖 .A) (givenOf 𝓤 H 𝓜 𝓖) (tablesOf 𝓤 H 𝓜 (tables 𝓤 H 𝓜 𝓡 code.env))
-    (cited 𝓤 H (step-contract tallyAfter scratchAfter 𝓤 H (𝓖 .A)) 𝓜 𝓡 code.env step-def.name step-def.routine code.calls-image-soundness·release-entry (step-met.met 𝓤 H 𝓜 𝓖 𝓡)))
+    (cited 𝓤 H (step-contract tallyAfter scratchAfter 𝓤 H (𝓖 .A)) 𝓜 𝓡 code.env step-def.name step-def.routine
+    code.calls-image-soundness·release-entry (step-met.met 𝓤 H 𝓜 𝓖 𝓡)))

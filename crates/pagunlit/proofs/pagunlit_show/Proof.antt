@@ -1,4 +1,5 @@
--- Written by tools/walks: `pagunlit::pagunlit_show` meets its contract, by the walk of `ShownReply.antt` of the crate reply_chains, with the calls of `card::Shape::show`, `pagunlit_replies::reply_of`.
+-- Written by tools/walks: `pagunlit::pagunlit_show` meets its contract, by the walk of `BufferFromMapCatalogueCard2.antt` of
+-- the crate walk_replies, with the calls of `card::Shape::show`, `pagunlit_replies::reply_of`.
 -- Assumes nothing.
 use contract.Running.{givenOf, tables, tablesOf}
 use denote.Triple.Spec.{tripleOf}
@@ -13,7 +14,7 @@ use Rattle.card.proofs.Outcome as Outcome′
 use Rattle.card.proofs.Outcome.Laws as Outcome″
 use Rattle.pagunlit_replies.proofs.Reply as Reply′
 use Rattle.pagunlit_replies.proofs.Reply.Laws as Reply″
-use Rattle.reply_chains.proofs.ShownReply.{call-contract, reply-of-contract, meets}
+use Rattle.walk_replies.proofs.BufferFromMapCatalogueCard2.{call-contract, reply-of-contract, meets}
 use Rattle.card.proofs.Shape.show.Symbol as call-def
 use Rattle.card.proofs.Shape.show.Met as call-met
 use Rattle.pagunlit_replies.proofs.reply_of.Symbol as reply-of-def
@@ -39,5 +40,7 @@ pagunlit-show-spec 𝓤 H 𝓜 𝓖 𝓡 =
     (tables 𝓤 H 𝓜 𝓡 code.env .C) (tables 𝓤 H 𝓜 𝓡 code.env .Λ) #pagunlit-show code.function (code.unfolded 𝓤 H 𝓜 𝓡)
     (meets Shape Outcome Reply call-def.name reply-of-def.name (withCard showOutcome) (withCard showBuffer) replyOf
     𝓤 H (𝓖 .A) (givenOf 𝓤 H 𝓜 𝓖) (tablesOf 𝓤 H 𝓜 (tables 𝓤 H 𝓜 𝓡 code.env))
-    (cited 𝓤 H (call-contract Shape Outcome Reply (withCard showOutcome) (withCard showBuffer) 𝓤 H (𝓖 .A)) 𝓜 𝓡 code.env call-def.name call-def.routine code.calls-card·Shape·show (call-met.met 𝓤 H 𝓜 𝓖 𝓡))
-    (cited 𝓤 H (reply-of-contract Shape Outcome Reply replyOf 𝓤 H (𝓖 .A)) 𝓜 𝓡 code.env reply-of-def.name reply-of-def.routine code.calls-pagunlit-replies·reply-of (reply-of-met.met 𝓤 H 𝓜 𝓖 𝓡)))
+    (cited 𝓤 H (call-contract Shape Outcome Reply (withCard showOutcome) (withCard showBuffer) 𝓤 H (𝓖 .A)) 𝓜 𝓡 code.env
+    call-def.name call-def.routine code.calls-card·Shape·show (call-met.met 𝓤 H 𝓜 𝓖 𝓡))
+    (cited 𝓤 H (reply-of-contract Shape Outcome Reply replyOf 𝓤 H (𝓖 .A)) 𝓜 𝓡 code.env reply-of-def.name reply-of-def.routine
+    code.calls-pagunlit-replies·reply-of (reply-of-met.met 𝓤 H 𝓜 𝓖 𝓡)))

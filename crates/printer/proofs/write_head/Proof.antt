@@ -8,15 +8,15 @@ use borrow.Author.Needs.{needs}
 use Rattle.survey.specs.declared.Counts.{Counts}
 use Rattle.printer.specs.Writing.{Writes}
 use Rattle.printer.specs.Lines.{cardLine, runsLine}
-use Rattle.printer.specs.Sheets.{cursor, headCursor, headWritten}
+use Rattle.printer.specs.Sheets.{cursor, headWriter, headWritten}
 use Rattle.printer.proofs.Written.{then}
 use Rattle.printer.proofs.write_head.Statement.{statement}
 use Rattle.printer.proofs.write_head.Tie as tie
 
 whole : (n spare c : ℕ) (counts : Counts) (text t₁ t₂ : List ℕ) (a₁ a₂ : ℕ) → Writes (cardLine n spare c) text 0 a₁ t₁
     → Writes (runsLine counts) t₁ a₁ a₂ t₂
-    → (cursor a₂ 0 false ≡ headCursor n spare c counts text) × (t₂ ≡ headWritten n spare c counts text)
-unfolding headCursor headWritten
+    → (cursor a₂ 0 false ≡ headWriter n spare c counts text) × (t₂ ≡ headWritten n spare c counts text)
+unfolding headWriter headWritten
 whole n spare c counts text t₁ t₂ a₁ a₂ w₁ w₂ = (ap (λ (at : ℕ). cursor at 0 false) (then w₁ w₂ .ends), then w₁ w₂ .leaves)
 
 write-card-requires : tie.Need-write-card-requires

@@ -2,7 +2,7 @@
 -- Assumes nothing.
 use borrow.Author.Needs.{needs}
 use denote.Ref.{now}
-use Rattle.printer.proofs.Cursors.{stopped, full, going, line-none, line-some}
+use Rattle.printer.proofs.Writers.{stopped, full, going, line-none, line-some}
 use Rattle.printer.proofs.write_sheet.Statement.{statement}
 use Rattle.printer.proofs.write_sheet.Tie as tie
 

@@ -1,4 +1,6 @@
--- Written by tools/walks: `card::Shape::complete` meets its contract, by the walk of `Completed.antt` of the crate chains, with the calls of `catalogue::find`, `card::cores::complete_core`, `card::cores::entry_of`, `catalogue::store`, `card::cores::outcome_of`.
+-- Written by tools/walks: `card::Shape::complete` meets its contract, by the walk of `CatalogueFromMapCard1.antt` of the crate
+-- walk_methods, with the calls of `catalogue::find`, `card::cores::complete_core`, `card::cores::entry_of`, `catalogue::store`,
+-- `card::cores::outcome_of`.
 -- Assumes nothing.
 use contract.Running.{givenOf, tables, tablesOf}
 use denote.Triple.Spec.{tripleOf}
@@ -18,7 +20,8 @@ use Rattle.card.proofs.Shape as Shape′
 use Rattle.card.proofs.Shape.Laws as Shape″
 use Rattle.card.proofs.Outcome as Outcome′
 use Rattle.card.proofs.Outcome.Laws as Outcome″
-use Rattle.chains.proofs.Completed.{find-contract, core-contract, entry-of-contract, store-contract, outcome-of-contract, meets}
+use Rattle.walk_methods.proofs.CatalogueFromMapCard1.{find-contract, core-contract, entry-of-contract, store-contract}
+use Rattle.walk_methods.proofs.CatalogueFromMapCard1.{outcome-of-contract, meets}
 use Rattle.catalogue.proofs.find.Symbol as find-def
 use Rattle.catalogue.proofs.find.Met as find-met
 use Rattle.card.proofs.cores.complete_core.Symbol as core-def
@@ -51,10 +54,16 @@ unfolding code.routine tablesOf
 complete-spec 𝓤 H 𝓜 𝓖 𝓡 =
     entered 𝓤 H (tripleOf 𝓤 H (𝓖 .A) complete.signature (complete.spec 𝓤 H (𝓖 .A) (𝓜 .mem) (𝓡 .run)))
     (tables 𝓤 H 𝓜 𝓡 code.env .C) (tables 𝓤 H 𝓜 𝓡 code.env .Λ) #complete code.function (code.unfolded 𝓤 H 𝓜 𝓡)
-    (meets Slot Out Shape Outcome find-def.name core-def.name entry-of-def.name store-def.name outcome-of-def.name slotAt (withSlot completeOut) entryLeft set outcomeOf
+    (meets Slot Out Shape Outcome find-def.name core-def.name entry-of-def.name store-def.name outcome-of-def.name slotAt
+    (withSlot completeOut) entryLeft set outcomeOf
     𝓤 H (𝓖 .A) (givenOf 𝓤 H 𝓜 𝓖) (tablesOf 𝓤 H 𝓜 (tables 𝓤 H 𝓜 𝓡 code.env))
-    (cited 𝓤 H (find-contract Slot Out Shape Outcome slotAt 𝓤 H (𝓖 .A)) 𝓜 𝓡 code.env find-def.name find-def.routine code.calls-catalogue·find (find-met.met 𝓤 H 𝓜 𝓖 𝓡))
-    (cited 𝓤 H (core-contract Slot Out Shape Outcome (withSlot completeOut) 𝓤 H (𝓖 .A)) 𝓜 𝓡 code.env core-def.name core-def.routine code.calls-card·cores·complete-core (core-met.met 𝓤 H 𝓜 𝓖 𝓡))
-    (cited 𝓤 H (entry-of-contract Slot Out Shape Outcome entryLeft 𝓤 H (𝓖 .A)) 𝓜 𝓡 code.env entry-of-def.name entry-of-def.routine code.calls-card·cores·entry-of (entry-of-met.met 𝓤 H 𝓜 𝓖 𝓡))
-    (cited 𝓤 H (store-contract Slot Out Shape Outcome set 𝓤 H (𝓖 .A)) 𝓜 𝓡 code.env store-def.name store-def.routine code.calls-catalogue·store (store-met.met 𝓤 H 𝓜 𝓖 𝓡))
-    (cited 𝓤 H (outcome-of-contract Slot Out Shape Outcome outcomeOf 𝓤 H (𝓖 .A)) 𝓜 𝓡 code.env outcome-of-def.name outcome-of-def.routine code.calls-card·cores·outcome-of (outcome-of-met.met 𝓤 H 𝓜 𝓖 𝓡)))
+    (cited 𝓤 H (find-contract Slot Out Shape Outcome slotAt 𝓤 H (𝓖 .A)) 𝓜 𝓡 code.env find-def.name find-def.routine
+    code.calls-catalogue·find (find-met.met 𝓤 H 𝓜 𝓖 𝓡))
+    (cited 𝓤 H (core-contract Slot Out Shape Outcome (withSlot completeOut) 𝓤 H (𝓖 .A)) 𝓜 𝓡 code.env core-def.name
+    core-def.routine code.calls-card·cores·complete-core (core-met.met 𝓤 H 𝓜 𝓖 𝓡))
+    (cited 𝓤 H (entry-of-contract Slot Out Shape Outcome entryLeft 𝓤 H (𝓖 .A)) 𝓜 𝓡 code.env entry-of-def.name
+    entry-of-def.routine code.calls-card·cores·entry-of (entry-of-met.met 𝓤 H 𝓜 𝓖 𝓡))
+    (cited 𝓤 H (store-contract Slot Out Shape Outcome set 𝓤 H (𝓖 .A)) 𝓜 𝓡 code.env store-def.name store-def.routine
+    code.calls-catalogue·store (store-met.met 𝓤 H 𝓜 𝓖 𝓡))
+    (cited 𝓤 H (outcome-of-contract Slot Out Shape Outcome outcomeOf 𝓤 H (𝓖 .A)) 𝓜 𝓡 code.env outcome-of-def.name
+    outcome-of-def.routine code.calls-card·cores·outcome-of (outcome-of-met.met 𝓤 H 𝓜 𝓖 𝓡)))

@@ -1,4 +1,5 @@
--- Written by tools/walks: `card::Shape::fresh` meets its contract, by the walk of `Freshened.antt` of the crate chains, with the calls of `catalogue::count`, `card::cores::fresh_core`, `card::cores::is_done`, `catalogue::clear_if`.
+-- Written by tools/walks: `card::Shape::fresh` meets its contract, by the walk of `MapCatalogue1First.antt` of the crate
+-- walk_methods, with the calls of `catalogue::count`, `card::cores::fresh_core`, `card::cores::is_done`, `catalogue::clear_if`.
 -- Assumes nothing.
 use contract.Running.{givenOf, tables, tablesOf}
 use denote.Triple.Spec.{tripleOf}
@@ -12,7 +13,7 @@ use Rattle.card.proofs.Shape as Shape′
 use Rattle.card.proofs.Shape.Laws as Shape″
 use Rattle.card.proofs.Outcome as Outcome′
 use Rattle.card.proofs.Outcome.Laws as Outcome″
-use Rattle.chains.proofs.Freshened.{count-contract, core-contract, is-done-contract, clear-if-contract, meets}
+use Rattle.walk_methods.proofs.MapCatalogue1First.{count-contract, core-contract, is-done-contract, clear-if-contract, meets}
 use Rattle.catalogue.proofs.count.Symbol as count-def
 use Rattle.catalogue.proofs.count.Met as count-met
 use Rattle.card.proofs.cores.fresh_core.Symbol as core-def
@@ -37,9 +38,14 @@ unfolding code.routine tablesOf
 fresh-spec 𝓤 H 𝓜 𝓖 𝓡 =
     entered 𝓤 H (tripleOf 𝓤 H (𝓖 .A) fresh.signature (fresh.spec 𝓤 H (𝓖 .A) (𝓜 .mem) (𝓡 .run)))
     (tables 𝓤 H 𝓜 𝓡 code.env .C) (tables 𝓤 H 𝓜 𝓡 code.env .Λ) #fresh code.function (code.unfolded 𝓤 H 𝓜 𝓡)
-    (meets Shape Outcome count-def.name core-def.name is-done-def.name clear-if-def.name length freshOutcomeBy freshMapBy doneBy clearedIf
+    (meets Shape Outcome count-def.name core-def.name is-done-def.name clear-if-def.name length freshOutcomeBy freshMapBy doneBy
+    clearedIf
     𝓤 H (𝓖 .A) (givenOf 𝓤 H 𝓜 𝓖) (tablesOf 𝓤 H 𝓜 (tables 𝓤 H 𝓜 𝓡 code.env))
-    (cited 𝓤 H (count-contract Shape Outcome length 𝓤 H (𝓖 .A)) 𝓜 𝓡 code.env count-def.name count-def.routine code.calls-catalogue·count (count-met.met 𝓤 H 𝓜 𝓖 𝓡))
-    (cited 𝓤 H (core-contract Shape Outcome freshOutcomeBy freshMapBy 𝓤 H (𝓖 .A)) 𝓜 𝓡 code.env core-def.name core-def.routine code.calls-card·cores·fresh-core (core-met.met 𝓤 H 𝓜 𝓖 𝓡))
-    (cited 𝓤 H (is-done-contract Shape Outcome doneBy 𝓤 H (𝓖 .A)) 𝓜 𝓡 code.env is-done-def.name is-done-def.routine code.calls-card·cores·is-done (is-done-met.met 𝓤 H 𝓜 𝓖 𝓡))
-    (cited 𝓤 H (clear-if-contract Shape Outcome clearedIf 𝓤 H (𝓖 .A)) 𝓜 𝓡 code.env clear-if-def.name clear-if-def.routine code.calls-catalogue·clear-if (clear-if-met.met 𝓤 H 𝓜 𝓖 𝓡)))
+    (cited 𝓤 H (count-contract Shape Outcome length 𝓤 H (𝓖 .A)) 𝓜 𝓡 code.env count-def.name count-def.routine
+    code.calls-catalogue·count (count-met.met 𝓤 H 𝓜 𝓖 𝓡))
+    (cited 𝓤 H (core-contract Shape Outcome freshOutcomeBy freshMapBy 𝓤 H (𝓖 .A)) 𝓜 𝓡 code.env core-def.name core-def.routine
+    code.calls-card·cores·fresh-core (core-met.met 𝓤 H 𝓜 𝓖 𝓡))
+    (cited 𝓤 H (is-done-contract Shape Outcome doneBy 𝓤 H (𝓖 .A)) 𝓜 𝓡 code.env is-done-def.name is-done-def.routine
+    code.calls-card·cores·is-done (is-done-met.met 𝓤 H 𝓜 𝓖 𝓡))
+    (cited 𝓤 H (clear-if-contract Shape Outcome clearedIf 𝓤 H (𝓖 .A)) 𝓜 𝓡 code.env clear-if-def.name clear-if-def.routine
+    code.calls-catalogue·clear-if (clear-if-met.met 𝓤 H 𝓜 𝓖 𝓡)))

@@ -1,4 +1,5 @@
--- Written by tools/walks: `card::Shape::load` meets its contract, by the walk of `Restored.antt` of the crate chains, with the calls of `image_load::load`, `card::cores::load_outcome`.
+-- Written by tools/walks: `card::Shape::load` meets its contract, by the walk of `MapCatalogueScratchFromImage.antt` of the
+-- crate walk_methods, with the calls of `image_load::load`, `card::cores::load_outcome`.
 -- Assumes nothing.
 use contract.Running.{givenOf, tables, tablesOf}
 use denote.Triple.Spec.{tripleOf}
@@ -12,7 +13,7 @@ use Rattle.card.proofs.Shape as Shape′
 use Rattle.card.proofs.Shape.Laws as Shape″
 use Rattle.card.proofs.Outcome as Outcome′
 use Rattle.card.proofs.Outcome.Laws as Outcome″
-use Rattle.chains.proofs.Restored.{load-contract, load-outcome-contract, meets}
+use Rattle.walk_methods.proofs.MapCatalogueScratchFromImage.{load-contract, load-outcome-contract, meets}
 use Rattle.image_load.proofs.load.Symbol as load-def
 use Rattle.image_load.proofs.load.Met as load-met
 use Rattle.card.proofs.cores.load_outcome.Symbol as load-outcome-def
@@ -38,5 +39,7 @@ load-spec 𝓤 H 𝓜 𝓖 𝓡 =
     (tables 𝓤 H 𝓜 𝓡 code.env .C) (tables 𝓤 H 𝓜 𝓡 code.env .Λ) #load code.function (code.unfolded 𝓤 H 𝓜 𝓡)
     (meets Loaded Shape Outcome load-def.name load-outcome-def.name loadResult loadMap loadEntries loadScratch loadOutcomeBy
     𝓤 H (𝓖 .A) (givenOf 𝓤 H 𝓜 𝓖) (tablesOf 𝓤 H 𝓜 (tables 𝓤 H 𝓜 𝓡 code.env))
-    (cited 𝓤 H (load-contract Loaded Shape Outcome loadResult loadMap loadEntries loadScratch 𝓤 H (𝓖 .A)) 𝓜 𝓡 code.env load-def.name load-def.routine code.calls-image-load·load (load-met.met 𝓤 H 𝓜 𝓖 𝓡))
-    (cited 𝓤 H (load-outcome-contract Loaded Shape Outcome loadOutcomeBy 𝓤 H (𝓖 .A)) 𝓜 𝓡 code.env load-outcome-def.name load-outcome-def.routine code.calls-card·cores·load-outcome (load-outcome-met.met 𝓤 H 𝓜 𝓖 𝓡)))
+    (cited 𝓤 H (load-contract Loaded Shape Outcome loadResult loadMap loadEntries loadScratch 𝓤 H (𝓖 .A)) 𝓜 𝓡 code.env
+    load-def.name load-def.routine code.calls-image-load·load (load-met.met 𝓤 H 𝓜 𝓖 𝓡))
+    (cited 𝓤 H (load-outcome-contract Loaded Shape Outcome loadOutcomeBy 𝓤 H (𝓖 .A)) 𝓜 𝓡 code.env load-outcome-def.name
+    load-outcome-def.routine code.calls-card·cores·load-outcome (load-outcome-met.met 𝓤 H 𝓜 𝓖 𝓡)))

@@ -1,4 +1,5 @@
--- Written by tools/walks: `card::Shape::show` meets its contract, by the walk of `Shown.antt` of the crate chains, with the calls of `catalogue::find`, `card::cores::show_core`.
+-- Written by tools/walks: `card::Shape::show` meets its contract, by the walk of `BufferFromMapCatalogueCard2.antt` of the
+-- crate walk_methods, with the calls of `catalogue::find`, `card::cores::show_core`.
 -- Assumes nothing.
 use contract.Running.{givenOf, tables, tablesOf}
 use denote.Triple.Spec.{tripleOf}
@@ -13,7 +14,7 @@ use Rattle.card.proofs.Shape as Shape′
 use Rattle.card.proofs.Shape.Laws as Shape″
 use Rattle.card.proofs.Outcome as Outcome′
 use Rattle.card.proofs.Outcome.Laws as Outcome″
-use Rattle.chains.proofs.Shown.{find-contract, core-contract, meets}
+use Rattle.walk_methods.proofs.BufferFromMapCatalogueCard2.{find-contract, core-contract, meets}
 use Rattle.catalogue.proofs.find.Symbol as find-def
 use Rattle.catalogue.proofs.find.Met as find-met
 use Rattle.card.proofs.cores.show_core.Symbol as core-def
@@ -39,5 +40,7 @@ show-spec 𝓤 H 𝓜 𝓖 𝓡 =
     (tables 𝓤 H 𝓜 𝓡 code.env .C) (tables 𝓤 H 𝓜 𝓡 code.env .Λ) #show code.function (code.unfolded 𝓤 H 𝓜 𝓡)
     (meets Slot Shape Outcome find-def.name core-def.name slotAt showOutcomeAt (withSlot showBuffer)
     𝓤 H (𝓖 .A) (givenOf 𝓤 H 𝓜 𝓖) (tablesOf 𝓤 H 𝓜 (tables 𝓤 H 𝓜 𝓡 code.env))
-    (cited 𝓤 H (find-contract Slot Shape Outcome slotAt 𝓤 H (𝓖 .A)) 𝓜 𝓡 code.env find-def.name find-def.routine code.calls-catalogue·find (find-met.met 𝓤 H 𝓜 𝓖 𝓡))
-    (cited 𝓤 H (core-contract Slot Shape Outcome showOutcomeAt (withSlot showBuffer) 𝓤 H (𝓖 .A)) 𝓜 𝓡 code.env core-def.name core-def.routine code.calls-card·cores·show-core (core-met.met 𝓤 H 𝓜 𝓖 𝓡)))
+    (cited 𝓤 H (find-contract Slot Shape Outcome slotAt 𝓤 H (𝓖 .A)) 𝓜 𝓡 code.env find-def.name find-def.routine
+    code.calls-catalogue·find (find-met.met 𝓤 H 𝓜 𝓖 𝓡))
+    (cited 𝓤 H (core-contract Slot Shape Outcome showOutcomeAt (withSlot showBuffer) 𝓤 H (𝓖 .A)) 𝓜 𝓡 code.env core-def.name
+    core-def.routine code.calls-card·cores·show-core (core-met.met 𝓤 H 𝓜 𝓖 𝓡)))

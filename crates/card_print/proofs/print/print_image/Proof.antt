@@ -1,20 +1,23 @@
--- Written by tools/walks: `card_print::print::print_image` meets its contract, by the walk of `Printed.antt` of the crate image_chains, with the calls of `catalogue::count`, `image_load::load`, `card_print::print::begin`, `printer::write_sheets`, `printer::place_of`.
+-- Written by tools/walks: `card_print::print::print_image` meets its contract, by the walk of
+-- `MapCatalogueScratchTextFromImage.antt` of the crate walk_images, with the calls of `catalogue::count`, `image_load::load`,
+-- `card_print::print::begin`, `printer::write_sheets`, `printer::place_of`.
 -- Assumes nothing.
 use contract.Running.{givenOf, tables, tablesOf}
 use denote.Triple.Spec.{tripleOf}
 use denote.Triple.Table.{entered, cited}
 use lib.ListN.{length}
 use Rattle.image.specs.Effects.{loadResult, loadMap, loadEntries, loadScratch}
-use Rattle.printer.specs.Sheets.{linesCursor, linesWritten, placeOf}
-use Rattle.card_print.specs.Beginnings.{beginCursor, beginWritten}
+use Rattle.printer.specs.Sheets.{linesWriter, linesWritten, placeOf}
+use Rattle.card_print.specs.Beginnings.{beginWriter, beginWritten}
 use Rattle.card_print.specs.Printed.{Prints}
 use Rattle.card_print.proofs.Prints.{prints}
 use Rattle.catalogue.proofs.Values.{Value, valueOf}
-use Rattle.printer.proofs.Cursor as Cursor′
-use Rattle.printer.proofs.Cursor.Laws as Cursor″
+use Rattle.printer.proofs.Writer as Writer′
+use Rattle.printer.proofs.Writer.Laws as Writer″
 use Rattle.image.proofs.Loaded as Loaded′
 use Rattle.image.proofs.Loaded.Laws as Loaded″
-use Rattle.image_chains.proofs.Printed.{count-contract, load-contract, begin-contract, write-sheets-contract, place-of-contract, meets}
+use Rattle.walk_images.proofs.MapCatalogueScratchTextFromImage.{count-contract, load-contract, begin-contract}
+use Rattle.walk_images.proofs.MapCatalogueScratchTextFromImage.{write-sheets-contract, place-of-contract, meets}
 use Rattle.catalogue.proofs.count.Symbol as count-def
 use Rattle.catalogue.proofs.count.Met as count-met
 use Rattle.image_load.proofs.load.Symbol as load-def
@@ -30,8 +33,8 @@ use Rattle.card_print.proofs.print.print_image as print-image
 use Rattle.card_print.proofs.print.print_image.Statement as stated
 use Rattle.card_print.proofs.print.print_image.Code as code
 
-abbrev Cursor : Value
-Cursor = valueOf Cursor′.the-type Cursor″.the-laws Cursor″.the-plain
+abbrev Writer : Value
+Writer = valueOf Writer′.the-type Writer″.the-laws Writer″.the-plain
 
 abbrev Loaded : Value
 Loaded = valueOf Loaded′.the-type Loaded″.the-laws Loaded″.the-plain
@@ -41,10 +44,16 @@ unfolding code.routine tablesOf
 print-image-spec 𝓤 H 𝓜 𝓖 𝓡 =
     entered 𝓤 H (tripleOf 𝓤 H (𝓖 .A) print-image.signature (print-image.spec 𝓤 H (𝓖 .A) (𝓜 .mem) (𝓡 .run)))
     (tables 𝓤 H 𝓜 𝓡 code.env .C) (tables 𝓤 H 𝓜 𝓡 code.env .Λ) #print-image code.function (code.unfolded 𝓤 H 𝓜 𝓡)
-    (meets Cursor Loaded count-def.name load-def.name begin-def.name write-sheets-def.name place-of-def.name length loadResult loadMap loadEntries loadScratch beginCursor beginWritten linesCursor linesWritten placeOf Prints prints
+    (meets Writer Loaded count-def.name load-def.name begin-def.name write-sheets-def.name place-of-def.name length loadResult
+    loadMap loadEntries loadScratch beginWriter beginWritten linesWriter linesWritten placeOf Prints prints
     𝓤 H (𝓖 .A) (givenOf 𝓤 H 𝓜 𝓖) (tablesOf 𝓤 H 𝓜 (tables 𝓤 H 𝓜 𝓡 code.env))
-    (cited 𝓤 H (count-contract Cursor Loaded length 𝓤 H (𝓖 .A)) 𝓜 𝓡 code.env count-def.name count-def.routine code.calls-catalogue·count (count-met.met 𝓤 H 𝓜 𝓖 𝓡))
-    (cited 𝓤 H (load-contract Cursor Loaded loadResult loadMap loadEntries loadScratch 𝓤 H (𝓖 .A)) 𝓜 𝓡 code.env load-def.name load-def.routine code.calls-image-load·load (load-met.met 𝓤 H 𝓜 𝓖 𝓡))
-    (cited 𝓤 H (begin-contract Cursor Loaded beginCursor beginWritten 𝓤 H (𝓖 .A)) 𝓜 𝓡 code.env begin-def.name begin-def.routine code.calls-card-print·print·begin (begin-met.met 𝓤 H 𝓜 𝓖 𝓡))
-    (cited 𝓤 H (write-sheets-contract Cursor Loaded linesCursor linesWritten 𝓤 H (𝓖 .A)) 𝓜 𝓡 code.env write-sheets-def.name write-sheets-def.routine code.calls-printer·write-sheets (write-sheets-met.met 𝓤 H 𝓜 𝓖 𝓡))
-    (cited 𝓤 H (place-of-contract Cursor Loaded placeOf 𝓤 H (𝓖 .A)) 𝓜 𝓡 code.env place-of-def.name place-of-def.routine code.calls-printer·place-of (place-of-met.met 𝓤 H 𝓜 𝓖 𝓡)))
+    (cited 𝓤 H (count-contract Writer Loaded length 𝓤 H (𝓖 .A)) 𝓜 𝓡 code.env count-def.name count-def.routine
+    code.calls-catalogue·count (count-met.met 𝓤 H 𝓜 𝓖 𝓡))
+    (cited 𝓤 H (load-contract Writer Loaded loadResult loadMap loadEntries loadScratch 𝓤 H (𝓖 .A)) 𝓜 𝓡 code.env load-def.name
+    load-def.routine code.calls-image-load·load (load-met.met 𝓤 H 𝓜 𝓖 𝓡))
+    (cited 𝓤 H (begin-contract Writer Loaded beginWriter beginWritten 𝓤 H (𝓖 .A)) 𝓜 𝓡 code.env begin-def.name begin-def.routine
+    code.calls-card-print·print·begin (begin-met.met 𝓤 H 𝓜 𝓖 𝓡))
+    (cited 𝓤 H (write-sheets-contract Writer Loaded linesWriter linesWritten 𝓤 H (𝓖 .A)) 𝓜 𝓡 code.env write-sheets-def.name
+    write-sheets-def.routine code.calls-printer·write-sheets (write-sheets-met.met 𝓤 H 𝓜 𝓖 𝓡))
+    (cited 𝓤 H (place-of-contract Writer Loaded placeOf 𝓤 H (𝓖 .A)) 𝓜 𝓡 code.env place-of-def.name place-of-def.routine
+    code.calls-printer·place-of (place-of-met.met 𝓤 H 𝓜 𝓖 𝓡)))

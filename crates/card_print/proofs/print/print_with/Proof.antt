@@ -1,9 +1,11 @@
--- Written by tools/walks: `card_print::print::print_with` meets its contract, by the walk of `Printing.antt` of the crate lent_arrays, with the calls of `card_print::print::print_image`, `card_print::print::used_of`.
+-- Written by tools/walks: `card_print::print::print_with` meets its contract, by the walk of
+-- `MapEntriesScratchTextFromImage.antt` of the crate walk_arrays, with the calls of `card_print::print::print_image`,
+-- `card_print::print::used_of`.
 -- Assumes nothing.
 use contract.Running.{givenOf, tables, tablesOf}
 use denote.Triple.Spec.{tripleOf}
 use denote.Triple.Table.{entered, cited}
-use Rattle.lent_arrays.proofs.Printing.{call-contract, used-of-contract, meets}
+use Rattle.walk_arrays.proofs.MapEntriesScratchTextFromImage.{call-contract, used-of-contract, meets}
 use Rattle.card_print.proofs.print.print_image.Symbol as call-def
 use Rattle.card_print.proofs.print.print_image.Met as call-met
 use Rattle.card_print.proofs.print.print_image as call-said
@@ -25,5 +27,7 @@ print-with-spec 𝓤 H 𝓜 𝓖 𝓡 =
     (λ κs a r e. call-said.clauses 𝓤 H (𝓖 .A) (𝓜 .mem) (𝓡 .run) κs a .ensures tt r e)
     (λ κs a r e. used-of-said.clauses 𝓤 H (𝓖 .A) (𝓜 .mem) (𝓡 .run) κs a .ensures tt r e)
     (tablesOf 𝓤 H 𝓜 (tables 𝓤 H 𝓜 𝓡 code.env))
-    (cited 𝓤 H (call-contract 𝓤 H (𝓖 .A) (λ κs a r e. call-said.clauses 𝓤 H (𝓖 .A) (𝓜 .mem) (𝓡 .run) κs a .ensures tt r e)) 𝓜 𝓡 code.env call-def.name call-def.routine code.calls-card-print·print·print-image (call-met.met 𝓤 H 𝓜 𝓖 𝓡))
-    (cited 𝓤 H (used-of-contract 𝓤 H (𝓖 .A) (λ κs a r e. used-of-said.clauses 𝓤 H (𝓖 .A) (𝓜 .mem) (𝓡 .run) κs a .ensures tt r e)) 𝓜 𝓡 code.env used-of-def.name used-of-def.routine code.calls-card-print·print·used-of (used-of-met.met 𝓤 H 𝓜 𝓖 𝓡)))
+    (cited 𝓤 H (call-contract 𝓤 H (𝓖 .A) (λ κs a r e. call-said.clauses 𝓤 H (𝓖 .A) (𝓜 .mem) (𝓡 .run) κs a .ensures tt r e)) 𝓜 𝓡
+    code.env call-def.name call-def.routine code.calls-card-print·print·print-image (call-met.met 𝓤 H 𝓜 𝓖 𝓡))
+    (cited 𝓤 H (used-of-contract 𝓤 H (𝓖 .A) (λ κs a r e. used-of-said.clauses 𝓤 H (𝓖 .A) (𝓜 .mem) (𝓡 .run) κs a .ensures tt r
+    e)) 𝓜 𝓡 code.env used-of-def.name used-of-def.routine code.calls-card-print·print·used-of (used-of-met.met 𝓤 H 𝓜 𝓖 𝓡)))

@@ -1,0 +1,10 @@
+-- The walks of calls on the first entries of a local array.
+pub mod BufferFromMapEntriesCard2
+pub mod CardFromMapEntriesPayload2
+pub mod EntriesFromMap1
+pub mod EntriesFromMapCard1
+pub mod FromMapEntries1
+pub mod MapEntries1
+pub mod MapEntries1First
+pub mod MapEntriesCard2
+pub mod MapEntriesScratchTextFromImage

@@ -1,0 +1,4 @@
+-- The walks of save, load and the printer.
+pub mod MapCatalogueScratchFromImage
+pub mod MapCatalogueScratchTextFromImage
+pub mod ScratchImageFromMapCatalogue2First

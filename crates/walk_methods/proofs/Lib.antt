@@ -1,0 +1,11 @@
+-- The walks of the methods of `Shape`.
+pub mod BufferFromMapCatalogueCard2
+pub mod CardFromMapCataloguePayload2
+pub mod CatalogueFromMap1
+pub mod CatalogueFromMapCard1
+pub mod FromMapCatalogue1
+pub mod MapCatalogue1
+pub mod MapCatalogue1First
+pub mod MapCatalogueCard2
+pub mod MapCatalogueScratchFromImage
+pub mod ScratchImageFromMapCatalogue
