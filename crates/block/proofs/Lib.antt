@@ -1,2 +1,4 @@
--- The answers of seal and check.
+-- The answers of seal and check, their contracts, and what a contract theorem says.
 pub mod Answers
+pub mod Clauses
+pub mod Contracts

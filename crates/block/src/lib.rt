@@ -19,8 +19,8 @@ const WRONG_LENGTH: u32 = 3;
 // Writes the sealed block of a sheet, a place and a payload, and gives 0.
 #[no_mangle]
 pub extern "C" fn seal(sheet: u32, place: u32, payload: &[u8], block: &mut [u8]) -> u32
-    ensures { λ r. ⌜ r ≡ sealAnswer (now (payload .entry)) (now (block .entry)) ⌝ }
-    ensures { λ _. ⌜ now (block .exit) ≡ afterSeal sheet place (now (payload .entry)) (now (block .entry)) ⌝ }
+    ensures { λ r. ⌜ (r ≡ sealAnswer (now (payload .entry)) (now (block .entry)))
+        × (now (block .exit) ≡ afterSeal sheet place (now (payload .entry)) (now (block .entry))) ⌝ }
 {
     if payload.len() != PAYLOAD {
         return WRONG_LENGTH;

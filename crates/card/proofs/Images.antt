@@ -1,9 +1,7 @@
 -- The saved image, of a shape's methods (document 01, "Saved image"). What a save was given, a load of what it wrote gives
--- back:
--- shape, map and entries (`saved-loads`). An image that load accepts is the image of what it gives, so it is the only one
--- (`loaded-only`), and a save writes it again (`loaded-saves`). A refusal hands the shape back as it came and changes nothing
--- but
--- the scratch (`save-refused`, `load-refused`).
+-- back: shape, map and entries (`saved-loads`). An image that load accepts is the image of what it gives, so it is the only
+-- one (`loaded-only`), and a save writes it again (`loaded-saves`). A refusal hands the shape back as it came and changes
+-- nothing but the scratch (`save-refused`, `load-refused`).
 -- Assumes nothing.
 use mathlib.Core.Path.{_≡_, refl, sym, ap, subst, _∙_}
 use mathlib.Core.Bool.{Bool, true, false, cond}

@@ -1,7 +1,6 @@
 -- What each public call hands back and leaves, of all its arguments in order: the contracts of `impl Shape`, of the C library
--- and of the ledger's steps are made of these. A call on a sheet finds the sheet's entry, does what the crate refusals says of
--- it,
--- and stores the entry that it hands back.
+-- and of the ledger's steps are made of these. A call on a sheet finds the sheet's entry, does what the crate refusals says
+-- of it, and stores the entry that it hands back.
 -- Assumes nothing.
 use mathlib.Core.Bool.{Bool, true, false, cond}
 use mathlib.Core.List.{List}

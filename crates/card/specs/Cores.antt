@@ -1,6 +1,5 @@
 -- What the cores of the calls on a sheet hand back and leave (src/cores.rt), for a shape and a slot of the catalogue. The
--- public
--- calls (Calls.antt) are made of the same definitions of the crates below.
+-- public calls (Calls.antt) are made of the same definitions of the crates below.
 -- Assumes nothing.
 use mathlib.Core.Bool.{Bool}
 use mathlib.Core.List.{List}

@@ -1,3 +1,4 @@
--- What the contracts of `card` cite: the public calls, and the cores that they are made of.
+-- What the contracts of `card` cite: the public calls, and the cores that they are made of; and the contracts as propositions.
 pub mod Calls
+pub mod Contracts
 pub mod Cores

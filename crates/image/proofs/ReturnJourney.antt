@@ -1,8 +1,6 @@
 -- The two theorems of the saved image, of what save and load give and leave. What a save was given, a load of what it wrote
--- gives
--- back (`saved-loads`). And an image that a load accepts is the image of what the load gives, so that no other image gives it,
--- and
--- a save of it writes that image again (`loaded-only`, `loaded-saves`).
+-- gives back (`saved-loads`). And an image that a load accepts is the image of what the load gives, so that no other image
+-- gives it, and a save of it writes that image again (`loaded-only`, `loaded-saves`).
 -- Assumes nothing.
 use mathlib.Core.Path.{_≡_, refl, sym, ap, ap₂, subst, _∙_}
 use mathlib.Core.List.{List}

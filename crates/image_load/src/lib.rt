@@ -1,6 +1,5 @@
 // Load (document 01, "Saved image"): the verdict, and then the map and the entries one by one. Everything is validated before
-// the
-// first word of the map or the first entry is written, so that a refusal changes nothing but the scratch.
+// the first word of the map or the first entry is written, so that a refusal changes nothing but the scratch.
 ghost use mathlib.Core.Path.{_≡_};
 ghost use mathlib.Core.Bool.{true, _&&_};
 ghost use Prim.Native.Nat.{_+_, _≤_};

@@ -1,8 +1,6 @@
 -- How soundness is tested: in a copy of the map every entry is released in turn. Each entry must be undamaged there, so that
--- its
--- blocks are taken and no entry before it had them; at the end every block must be free, and the lengths must make what the
--- free
--- count leaves of n. `released-sound` (proofs/WhenSound.antt) says that this is soundness.
+-- its blocks are taken and no entry before it had them; at the end every block must be free, and the lengths must make what
+-- the free count leaves of n. `released-sound` (proofs/WhenSound.antt) says that this is soundness.
 -- Assumes nothing.
 use mathlib.Core.Bool.{Bool, true, false, not, _&&_, cond}
 use mathlib.Core.List.{List, [], _∷_}

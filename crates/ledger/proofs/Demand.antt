@@ -26,7 +26,8 @@ use Rattle.ledger.specs.Claim.{Agrees, Gives, Claim}
 use Rattle.card.specs.declared.Shape.{Shape}
 use Rattle.card.specs.declared.Outcome.{Outcome}
 use Rattle.card.specs.Calls.{Kept}
-use Rattle.ledger.specs.Steps.{Freshens, Response, toldBy, endOf, responseOf, stateOn, Step, Runs, freshState}
+use Rattle.card.specs.Contracts.{itself, Freshens}
+use Rattle.ledger.specs.Steps.{Response, toldBy, endOf, responseOf, stateOn, Step, Runs, freshState}
 use Rattle.ledger.proofs.Agreement.{mapIn, stateOf, Matches, free-map}
 use Rattle.ledger.proofs.Contracts.{leaving, Limits, fresh-left}
 use Rattle.ledger.proofs.Cover.{covers-absent, held}
@@ -239,7 +240,7 @@ module _ (n c : ℕ) (card : List ℕ) (n-low : 1 ≤ n) (n-high : n ≤ 262144)
 -- The same from the fresh call itself: what it left when it answered that it was done, and a card of 512·n bytes.
 pub every-list-from-fresh : (shape : Shape) (n : ℕ) (map : List ℕ) (entries : List Entry) (r : Outcome) (map′ : List ℕ)
     (entries′ : List Entry)
-    → Freshens shape n map entries r map′ entries′ → numberOf (r .answer) ≡ 0 → (card : List ℕ) → length card ≡ 512 * n
+    → Freshens itself shape n map entries r map′ entries′ → numberOf (r .answer) ≡ 0 → (card : List ℕ) → length card ≡ 512 * n
     → (calls : List Call) (replies : List Response) (t : Kept) → Runs (leaving r map′ entries′ card) calls replies t
     → Claim n (length entries) calls replies t
 every-list-from-fresh shape n map entries r map′ entries′ freshened done-so card room calls replies t runs =

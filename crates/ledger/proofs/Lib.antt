@@ -1,7 +1,7 @@
 -- The laws that the claim is proved by: of the ledger alone (Cover, Rows, Sheets, Listed, Search), of the state that it calls
--- for
--- (Agreement, Marks, Keeping), and of the calls on that state (Results what they share, step each by itself). Demand has the
--- theorem, Contracts that the steps are the public calls' contracts, Savable that every state that a list leaves can be saved.
+-- for (Agreement, Marks, Keeping), and of the calls on that state (Results what they share, step each by itself). Demand has
+-- the theorem, Contracts that the steps are the public calls' contracts, WholeCard what search and survey answer by theirs,
+-- Savable that every state that a list leaves can be saved.
 pub mod Agreement
 pub mod Contracts
 pub mod Cover
@@ -14,4 +14,5 @@ pub mod Rows
 pub mod Search
 pub mod Savable
 pub mod Sheets
+pub mod WholeCard
 pub mod step

@@ -9,13 +9,10 @@ use lib.Dec.{eqb}
 use borrow.Author.Tests.{eqb-false}
 use Rattle.catalogue_standings.specs.Rows.{Row, accepted, refused, firstOf}
 use Rattle.refusals.proofs.Rows.{either, not-refused, same-number, rest-accepted}
-use Rattle.ledger.specs.Ledger.{listed}
+use Rattle.ledger.specs.Ledger.{dropped, listed}
 use Rattle.ledger.specs.Claim.{before}
 
 -- ---- the rows that the ledger drops
-
-abbrev dropped : Row → Bool
-dropped r = eqb (r .number) 1 || eqb (r .number) 4
 
 -- rows 1 and 4 do not hold where no row seen before them does; those seen can be asked for by their numbers
 abbrev pub Never : List Row → List Row → Type 0

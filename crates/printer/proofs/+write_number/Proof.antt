@@ -131,7 +131,8 @@ write-number-returns-2 : (t : ℕ) → write-number-lts.Need-returns-2 (
 ) (write-number-at t) write-number.Post
 write-number-returns-2 t c =
     let first = c .before .before .before .before .before .before in
-    one-more _ _ _ _ _ _ _ (first .before .before .if1 .left) (first .write-number .ensures) (c .before .before .write-byte2 .ensures)
+    one-more _ _ _ _ _ _ _ (first .before .before .if1 .left) (first .write-number .ensures)
+    (c .before .before .write-byte2 .ensures)
 
 pub +write-number-spec : {M : Type 1} → statement M
 +write-number-spec = close μ-write-number λ t. write-number-lts.spec (

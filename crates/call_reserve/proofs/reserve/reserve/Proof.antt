@@ -1,6 +1,5 @@
 -- `call_reserve::reserve::reserve` meets its contract: a refusal changes nothing, and on acceptance the blocks that it takes
--- lie
--- inside the card.
+-- lie inside the card.
 -- Assumes nothing.
 use native.Mathlib.Omega.{arith}
 use borrow.Author.Needs.{needs}

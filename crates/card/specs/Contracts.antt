@@ -1,0 +1,97 @@
+-- What each public method of `Shape` ensures, as a proposition of what it is given, what it hands back (r) and what it leaves
+-- in what it is lent by `&mut` (the names with a prime). The outcome is handed back `itself`; by the C function of that name
+-- it is handed back as a reply, and all else is the same. That these are the functions' own contracts is proved in
+-- proofs/Contracts.antt here and of the crate pagunlit; the promises (proofs/Promises.antt) are stated of them.
+-- Assumes nothing.
+use mathlib.Core.Path.{_≡_}
+use mathlib.Core.List.{List}
+use Prim.Native.Nat.{ℕ}
+use Rattle.catalogue.specs.declared.Entry.{Entry}
+use Rattle.card.specs.Calls.{Kept, freshOutcome, freshMap, freshEntries, searchOutcome, surveyOutcome}
+use Rattle.card.specs.Calls.{reserveOutcome, reserveMap, reserveEntries, reserveCard}
+use Rattle.card.specs.Calls.{growOutcome, growMap, growEntries, growCard}
+use Rattle.card.specs.Calls.{putOutcome, putCard, completeOutcome, completeEntries, showOutcome, showBuffer}
+use Rattle.card.specs.Calls.{pauseOutcome, pauseEntries, releaseOutcome, releaseMap, releaseEntries, standingOutcome}
+use Rattle.card.specs.Calls.{saveOutcome, saveScratch, saveImage, loadOutcome, loadMap, loadEntries, loadScratch}
+use Rattle.card.specs.declared.Outcome.{Outcome}
+use Rattle.card.specs.declared.Shape.{Shape}
+
+-- How a method hands its outcome back.
+abbrev pub itself : Outcome → Outcome
+itself outcome = outcome
+
+-- ---- the whole card
+
+module _ {R : Type 0} (how : Outcome → R) (shape : Shape) (blocks : ℕ) (map : List ℕ) (entries : List Entry) where
+  abbrev pub Freshens : R → List ℕ → List Entry → Type 0
+  Freshens r map′ entries′ =
+      (r ≡ how (freshOutcome shape blocks map entries))
+      × (map′ ≡ freshMap shape blocks map entries)
+      × (entries′ ≡ freshEntries shape blocks map entries)
+
+module _ {R : Type 0} (how : Outcome → R) (shape : Shape) (map : List ℕ) where
+  abbrev pub Searches : ℕ → R → Type 0
+  Searches k r = r ≡ how (searchOutcome shape map k)
+
+  abbrev pub Surveys : R → Type 0
+  Surveys r = r ≡ how (surveyOutcome shape map)
+
+-- ---- a sheet
+
+module _ {R : Type 0} (how : Outcome → R) (s : Kept) (sheet : ℕ) where
+  abbrev pub Reserves : ℕ → R → List ℕ → List Entry → List ℕ → Type 0
+  Reserves k r map′ entries′ card′ =
+      (r ≡ how (reserveOutcome s sheet k))
+      × (map′ ≡ reserveMap s sheet k)
+      × (entries′ ≡ reserveEntries s sheet k)
+      × (card′ ≡ reserveCard s sheet k)
+
+  abbrev pub Grows : ℕ → R → List ℕ → List Entry → List ℕ → Type 0
+  Grows m r map′ entries′ card′ =
+      (r ≡ how (growOutcome s sheet m))
+      × (map′ ≡ growMap s sheet m)
+      × (entries′ ≡ growEntries s sheet m)
+      × (card′ ≡ growCard s sheet m)
+
+  abbrev pub Puts : ℕ → List ℕ → R → List ℕ → Type 0
+  Puts place payload r card′ =
+      (r ≡ how (putOutcome s sheet place payload))
+      × (card′ ≡ putCard s sheet place payload)
+
+  abbrev pub Completes : R → List Entry → Type 0
+  Completes r entries′ =
+      (r ≡ how (completeOutcome s sheet)) × (entries′ ≡ completeEntries s sheet)
+
+  abbrev pub Shows : ℕ → List ℕ → R → List ℕ → Type 0
+  Shows place buffer r buffer′ =
+      (r ≡ how (showOutcome s sheet place buffer))
+      × (buffer′ ≡ showBuffer s sheet place buffer)
+
+  abbrev pub Pauses : R → List Entry → Type 0
+  Pauses r entries′ = (r ≡ how (pauseOutcome s sheet)) × (entries′ ≡ pauseEntries s sheet)
+
+  abbrev pub Releases : R → List ℕ → List Entry → Type 0
+  Releases r map′ entries′ =
+      (r ≡ how (releaseOutcome s sheet))
+      × (map′ ≡ releaseMap s sheet)
+      × (entries′ ≡ releaseEntries s sheet)
+
+  abbrev pub TellsStanding : R → Type 0
+  TellsStanding r = r ≡ how (standingOutcome s sheet)
+
+-- ---- the saved image
+
+module _ {R : Type 0} (how : Outcome → R) (shape : Shape) (map : List ℕ) (entries : List Entry) (scratch image : List ℕ) where
+  abbrev pub Saves : R → List ℕ → List ℕ → Type 0
+  Saves r scratch′ image′ =
+      (r ≡ how (saveOutcome shape map entries scratch image))
+      × (scratch′ ≡ saveScratch shape map entries scratch image)
+      × (image′ ≡ saveImage shape map entries scratch image)
+
+module _ {R : Type 0} (how : Outcome → R) (shape : Shape) (image map : List ℕ) (entries : List Entry) (scratch : List ℕ) where
+  abbrev pub Loads : R → List ℕ → List Entry → List ℕ → Type 0
+  Loads r map′ entries′ scratch′ =
+      (r ≡ how (loadOutcome shape image map entries scratch))
+      × (map′ ≡ loadMap shape image map entries scratch)
+      × (entries′ ≡ loadEntries shape image map entries scratch)
+      × (scratch′ ≡ loadScratch shape image map entries scratch)

@@ -1,0 +1,2 @@
+-- That the contracts of the C library are what they are meant to be.
+pub mod Contracts
