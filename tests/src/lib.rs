@@ -10,3 +10,4 @@ pub mod map;
 pub mod printer;
 pub mod random;
 pub mod rows;
+pub mod worked;

@@ -6,9 +6,10 @@
 //! For the map it is worked out from the list of examples on standard input, which `map-list` writes.
 //!
 //! `image` writes the card printer's example image, `print` prints what the printer must print of the image on standard
-//! input, and `printer PROGRAM` runs a card printer on many images and compares.
+//! input, and `printer PROGRAM` runs a card printer on many images and compares. `worked-image` and `worked-text` write the
+//! image and the text of a card whose values all differ, as definitions for the theorems that hold them.
 
-use bitwise::{calls, map, printer};
+use bitwise::{calls, map, printer, worked};
 use std::io::{Read, Write};
 
 fn main() {
@@ -26,12 +27,14 @@ fn main() {
             std::io::stdin().read_to_end(&mut image).unwrap();
             print!("{}", printer::text(&image));
         }
+        Some("worked-image") => print!("{}", worked::image()),
+        Some("worked-text") => print!("{}", worked::text()),
         Some("printer") => {
             let program = std::env::args().nth(2).expect("the program to run");
             std::process::exit(!printer::holds(&program) as i32);
         }
         _ => {
-            eprintln!("usage: bitwise map-list | map | calls | image | print | printer PROGRAM");
+            eprintln!("usage: bitwise map-list | map | calls | image | print | worked-image | worked-text | printer PROGRAM");
             std::process::exit(2);
         }
     }

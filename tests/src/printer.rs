@@ -4,6 +4,7 @@ use crate::blocks::{from_words, survey, words_of, Counts};
 use crate::card::{entry, Answer, Card};
 use crate::image::{blocks_of, body_of, framed, image_of};
 use crate::random::Random;
+use crate::worked;
 use std::fmt::Write as _;
 use std::io::Write as _;
 use std::process::{Command, Stdio};
@@ -83,6 +84,7 @@ fn images() -> Vec<Vec<u8>> {
     images.extend(sizes.map(|(n, c)| image_of(&body_of(&fresh(n, c)))));
     let most = largest();
     images.push(most.clone());
+    images.push(worked::longest());
     for blocks in 0..=93 {
         for length in [
             512 * blocks,

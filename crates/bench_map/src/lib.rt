@@ -1,6 +1,7 @@
 // The search and the survey for C, as the benchmark calls them: numbers and a slice of words.
 ghost use mathlib.Core.Path.{_≡_};
 ghost use Rattle.bench_map.specs.Answers.{withinLimits, searched, surveyed};
+use catalogue_standings::opening::BLOCKS;
 use map_blocks::Found;
 
 const NO_FIT: u32 = 0xffff_ffff;
@@ -22,7 +23,7 @@ fn within_limits(map: &[u64], n: u32) -> bool
     if n == 0 {
         return false;
     }
-    if 262144 < n {
+    if BLOCKS < n {
         return false;
     }
     map.len() == ((n + 63) / 64) as usize

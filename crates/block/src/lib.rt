@@ -7,11 +7,10 @@ ghost use Rattle.block.specs.Calls.{sealAnswer, afterSeal, checkAnswer};
 use block_seals::check_holds;
 use block_seals::write_sealed;
 
-// Bytes of a block.
-pub const BLOCK: usize = 512;
+// Bytes of a block and of a payload.
+pub const BLOCK: usize = block_seals::BLOCK;
 
-// Bytes of a payload.
-pub const PAYLOAD: usize = 496;
+pub const PAYLOAD: usize = block_seals::PAYLOAD;
 
 // What `seal` and `check` give for a slice of the wrong length: row 3 of document 01's table of refusals.
 const WRONG_LENGTH: u32 = 3;

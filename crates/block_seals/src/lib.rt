@@ -9,6 +9,11 @@ use block_bytes::copy;
 use block_bytes::get4;
 use block_bytes::put4;
 
+// Bytes of a block and of a payload.
+pub const BLOCK: usize = 512;
+
+pub const PAYLOAD: usize = 496;
+
 const MODULUS: u32 = 65521;
 
 // The sums A and B.
@@ -69,7 +74,7 @@ pub fn is_blank(block: &[u8]) -> bool
 {
     let mut all: u8 = 0;
     let mut i = 0;
-    while i < 512 {
+    while i < BLOCK {
         all |= block[i];
         i += 1;
     }
@@ -108,5 +113,5 @@ pub fn write_sealed(block: &mut [u8], sheet: u32, place: u32, payload: &[u8])
     write_front(&mut block[0..504], sheet, place, payload);
     let s = sums_of(&block[0..504]);
     put4(&mut block[504..508], s.a);
-    put4(&mut block[508..512], s.b);
+    put4(&mut block[508..BLOCK], s.b);
 }

@@ -3,10 +3,12 @@
 ghost use mathlib.Core.Path.{_≡_};
 ghost use Prim.Native.Nat.{_≤_};
 ghost use lib.ListN;
+ghost use Rattle.card_print.specs.Printed.{room};
 
 mod print;
 
 use catalogue::Entry;
+use catalogue_standings::opening::SHEETS;
 use libc::STDIN_FILENO;
 use libc::STDOUT_FILENO;
 
@@ -37,16 +39,19 @@ fn smaller(a: usize, b: usize) -> usize
     if a < b { a } else { b }
 }
 
-// Prints an image, with as many words and entries as it asks for and there are at most.
-fn print_card(image: &[u8], map: &mut [u64], scratch: &mut [u64], text: &mut [u8]) {
+// Prints an image, with as many words and entries as it asks for and there are at most. The text has room for all that is to
+// be printed: in so many bytes nothing is cut (`prints-whole`, proofs/Whole.antt).
+fn print_card(image: &[u8], map: &mut [u64], scratch: &mut [u64], text: &mut [u8])
+    requires { ⌜ room ≤ ListN.length (now text) ⌝ }
+{
     let entries = [Entry {
         mark: 0,
         start: 0,
         length: 0,
-    }; 1024];
+    }; SHEETS];
     let words = (image_frames::number(image, 0) as usize + 63) / 64;
     let w = smaller(words, smaller(map.len(), scratch.len()));
-    let c = smaller(image_frames::number(image, 2) as usize, 1024);
+    let c = smaller(image_frames::number(image, 2) as usize, SHEETS);
     let used = print::print_with(image, &mut map[..w], entries, c, &mut scratch[..w], text);
     let end = smaller(used, text.len());
     io::write_all(STDOUT_FILENO, &text[..end]);

@@ -4,6 +4,7 @@ ghost use Prim.Native.Nat.{_≤_};
 ghost use Rattle.card_print.specs.Beginnings.{refusalWriter, refusalWritten, beginWriter, beginWritten};
 ghost use Rattle.card_print.specs.Printed.{Prints};
 use catalogue::Entry;
+use catalogue_standings::opening::SHEETS;
 use catalogue_standings::opening::shape_fits;
 use image::Loaded;
 use printer::Writer;
@@ -60,7 +61,7 @@ pub fn print_image(
     place_of(last)
 }
 
-fn used_of(used: usize, entries: [Entry; 1024]) -> usize {
+fn used_of(used: usize, entries: [Entry; SHEETS]) -> usize {
     used
 }
 
@@ -68,7 +69,7 @@ fn used_of(used: usize, entries: [Entry; 1024]) -> usize {
 pub fn print_with(
     image: &[u8],
     map: &mut [u64],
-    entries: [Entry; 1024],
+    entries: [Entry; SHEETS],
     c: usize,
     scratch: &mut [u64],
     text: &mut [u8],

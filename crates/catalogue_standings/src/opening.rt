@@ -12,6 +12,7 @@ ghost use Rattle.catalogue_standings.specs.Openings;
 ghost use Rattle.catalogue_standings.specs.Openings.{openedOf, rowOf, refusedRow};
 use crate::Opened;
 use crate::Standing;
+use block_seals::BLOCK;
 use catalogue::ABSENT;
 use catalogue::COMPLETE;
 use catalogue::Entry;
@@ -170,7 +171,7 @@ pub fn open_on(
     ensures { λ r. ⌜ r ≡ openedOf (shapeFits n free (length (now (map .entry))) && sheetsFit c && eqb cardlen (512 * n)) c
         sheet (standingOf n (Blocks.free (now (map .entry))) entry) ⌝ }
 {
-    if cardlen != 512 * (n as usize) {
+    if cardlen != BLOCK * (n as usize) {
         return Opened::Refused(1);
     }
     open_sheet(n, free, map, c, sheet, entry)

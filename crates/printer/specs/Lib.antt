@@ -3,5 +3,6 @@ pub mod Decimal
 pub mod Writing
 pub mod Lines
 pub mod Text
+pub mod ExampleFigures
 pub mod Printed
 pub mod Sheets
