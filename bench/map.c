@@ -142,7 +142,8 @@ static void time_survey(const char *name) {
 
 int main(void) {
     static const uint32_t ks[] = {1, 2, 3, 5, 9, 16, 17, 33, 48, 63, 64, 65, 100, 200};
-    printf("Maps of %d blocks, %d of each kind. The time of the proved function, and how many times as long C takes:\n", BLOCKS, MAPS);
+    printf("Maps of %d blocks, %d of each kind. The time of the proved function, and how many times as long C takes:\n",
+           BLOCKS, MAPS);
     printf("(1) bit by bit, (2) next free block, next taken block, and on.\n");
     for (int i = 0; i < KIND_COUNT; i++) {
         for (int m = 0; m < MAPS; m++) fill(maps[m], KINDS[i]);
@@ -150,7 +151,8 @@ int main(void) {
         for (size_t j = 0; j < sizeof ks / sizeof *ks; j++) time_search(KINDS[i].name, ks[j]);
         time_survey(KINDS[i].name);
     }
-    printf("\nleast of the searches: (1) %.2f (%s, k %u); (2) %.2f (%s, k %u)\n", worst_bits.ratio, worst_bits.name, worst_bits.k,
+    printf("\nleast of the searches: (1) %.2f (%s, k %u); (2) %.2f (%s, k %u)\n",
+           worst_bits.ratio, worst_bits.name, worst_bits.k,
            worst_next.ratio, worst_next.name, worst_next.k);
     return 0;
 }

@@ -218,7 +218,9 @@ pub fn compare(printed: &str) -> (Vec<String>, usize) {
         let (name, value) = line.split_once('\t').unwrap_or((line, ""));
         if (name, value) != (call.as_str(), expected.as_str()) {
             wrong.push(format!(
-                "the call `{call}`\n    gave through the header  {name}: {value}\n    and by document 01       {call}: {expected}"
+                "the call `{call}`\n    gave through the header  {name}: {value}\n\
+                 {0:4}and by document 01       {call}: {expected}",
+                ""
             ));
         }
     }
