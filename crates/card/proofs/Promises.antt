@@ -71,7 +71,7 @@ module _ {R : Type 0} (how : Outcome → R) (s : Kept) (sheet number : ℕ) (r :
       let same = refusals.put-refused s sheet number place payload v in
       (h .0 ∙ ap how (same .0), h .1 ∙ same .1)
 
-  -- with 9 goes a place
+  -- with 9 goes the lowest blank place
   pub complete-refused : (entries′ : List Entry)
       → Completes how s sheet r entries′
       → effects.completeVerdict q ≡ refused number

@@ -91,7 +91,7 @@ module _ (s : Kept) (sheet number : ℕ) where
     ap (λ (v : Verdict). settle v (withBlock (s .card) (e .start + place) (sealed sheet place payload)) (λ number. s .card)) h,
   )
 
-  -- with 9 goes a place
+  -- with 9 goes the lowest blank place
   pub complete-refused : effects.completeVerdict q ≡ refused number
       → (completeOutcome s sheet ≡ told (s .shape) (cond (eqb number 9) (Blank (effects.blankPlace q)) (Refused number)))
       × (completeEntries s sheet ≡ s .entries)

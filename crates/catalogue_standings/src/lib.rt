@@ -17,8 +17,8 @@ pub enum Opened {
     Stands(Standing),
 }
 
-// What a call answers: that it was done, a start, a standing's mark, start and length, a survey's counts, the blank place
-// that goes with 9, or another refusal's number.
+// What a call answers: that it was done, a start, a standing's mark, start and length, a survey's counts, the lowest blank
+// place, which goes with 9, or another refusal's number.
 pub enum Answer {
     Done,
     Start(u32),

@@ -2,7 +2,7 @@
 -- a run (`every-list-runs`).
 -- Assumes nothing.
 use Prim.Native.Nat.{ℕ, zero, suc, _+_, _*_, _/_, _≤_, _<_}
-use mathlib.Core.Path.{_≡_, refl, sym, ap, subst, _∙_}
+use mathlib.Core.Path.{_≡_, refl, sym, ap, ap₂, subst, _∙_}
 use mathlib.Core.Bool.{and-true, Bool, true, _&&_, false≢true}
 use mathlib.Core.List.{List, [], _∷_, map}
 use native.Mathlib.Nat.{not-suc-le-zero}
@@ -17,11 +17,11 @@ use Rattle.catalogue.specs.Entries.{absent}
 use Rattle.catalogue.specs.declared.Entry.{Entry}
 use Rattle.catalogue_standings.specs.Answers.{numberOf}
 use Rattle.catalogue_standings.specs.Rows.{Verdict, accepted, firstOf, settle}
-use Rattle.refusals.specs.Table.{Call, on, show, tableOf}
+use Rattle.refusals.specs.Table.{Call, on, show, lowestBlank, tableOf}
 use Rattle.ledger.specs.Ledger.{Place, Blank, Payload, Sheet, Absent, Complete, standingIn, startIn, lengthIn, placesIn}
 use Rattle.ledger.specs.Ledger.{bytesOf, sheetAt, placeAt, cover, freeIn, spareIn, listed, verdictIn, deedIn, stepIn}
-use Rattle.ledger.specs.Ledger.{after, begun, Told, done, refusedWith}
-use Rattle.ledger.specs.Claim.{Answered, AllAnswered, SearchedBy, AllSearched, granted, returned, lastPut, entryIn}
+use Rattle.ledger.specs.Ledger.{viewIn, after, begun, Told, done, refusedWith, toldIn, allToldIn}
+use Rattle.ledger.specs.Claim.{SearchedBy, AllSearched, granted, returned, lastPut, entryIn}
 use Rattle.ledger.specs.Claim.{Agrees, Gives, Claim}
 use Rattle.card.specs.declared.Shape.{Shape}
 use Rattle.card.specs.declared.Outcome.{Outcome}
@@ -41,13 +41,11 @@ use Rattle.ledger.proofs.step.{result}
 
 module _ (n : ℕ) (l : List Sheet) (card : List ℕ) (k : Matches n l card) (c : Call) (reply : Response) (t : Kept)
     (st : Step (stateOf n l card) c reply t) where
-  pub answered : Answered n l c reply
-  answered =
-      let r = result n l card k c in
-      record { place = r .place; blank = r .blank; told = ap toldBy (st .0) ∙ r .told-so }
+  pub answered : toldBy reply ≡ toldIn n l c
+  answered = ap toldBy (st .0) ∙ result n l card k c .told-so
 
   by-search : SearchedBy n l c (toldBy reply)
-  by-search = let r = result n l card k c in subst (SearchedBy n l c) (sym (ap toldBy (st .0) ∙ r .told-so)) (r .searched)
+  by-search = subst (SearchedBy n l c) (sym answered) (result n l card k c .searched)
 
 -- ---- a list of calls
 
@@ -56,7 +54,7 @@ pub record Left (n : ℕ) (l : List Sheet) (calls : List Call) (replies : List R
   pub card-left : List ℕ
   pub state-left : t ≡ stateOf n (after n l calls) card-left
   pub kept-left : Matches n (after n l calls) card-left
-  pub answers : AllAnswered n l calls replies
+  pub answers : map toldBy replies ≡ allToldIn n l calls
   pub searches : AllSearched n l calls replies
   pub sum : held (after n l calls) + returned n l calls ≡ held l + granted n l calls
   -- what a place holds is what the history has last put there since the sheet's reserve
@@ -71,7 +69,7 @@ lists n [] [] l card s t k e h =
       card-left = card;
       state-left = h ∙ e;
       kept-left = k;
-      answers = tt;
+      answers = refl;
       searches = tt;
       sum = refl;
       noted-so =
@@ -88,7 +86,7 @@ lists n (c ∷ calls) (reply ∷ replies) l card s t k e h =
       card-left = rest .card-left;
       state-left = rest .state-left;
       kept-left = rest .kept-left;
-      answers = (answered n l card k c reply (h .0) st, rest .answers);
+      answers = ap₂ _∷_ (answered n l card k c reply (h .0) st) (rest .answers);
       searches = (by-search n l card k c reply (h .0) st, rest .searches);
       sum = omega (arith, rest .sum, r .sum);
       noted-so = λ j p m was. rest .noted-so j p _
@@ -182,8 +180,8 @@ module _ (n : ℕ) (l : List Sheet) (card : List ℕ) (k : Matches n l card) (i 
   shown t at buffer len reply u st =
       let st′ : Step (stateOf n l card) (on i (show p buffer)) reply u =
       subst (λ (x : Kept). Step x (on i (show p buffer)) reply u) at st in
-      let a : Answered n l (on i (show p buffer)) reply = answered n l card k (on i (show p buffer)) reply u st′ in
-      a .told ∙ ap (λ (v : Verdict). settle v (done [] (bytesOf (placeAt l i p))) (refusedWith buffer (a .place)))
+      answered n l card k (on i (show p buffer)) reply u st′
+      ∙ ap (λ (v : Verdict). settle v (done [] (bytesOf (placeAt l i p))) (refusedWith buffer (lowestBlank (viewIn n l i))))
       (show-accepted n l i s xs e p lp buffer len)
       ∙ ap (λ (x : Place). done [] (bytesOf x)) place-of
 

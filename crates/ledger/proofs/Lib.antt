@@ -1,8 +1,9 @@
 -- The laws that the claim is proved by: of the ledger alone (Cover, Rows, Sheets, Listed, Search), of the state that it calls
 -- for (Agreement, Marks, Keeping), and of the calls on that state (Results what they share, step each by itself). Demand has
--- the theorem, Contracts that the steps are the public calls' contracts, WholeCard what search and survey answer by theirs,
--- Savable that every state that a list leaves can be saved.
+-- the theorem, BlankPlaces which place the ledger answers with 9, Contracts that the steps are the public calls' contracts,
+-- WholeCard what search and survey answer by theirs, Savable that every state that a list leaves can be saved.
 pub mod Agreement
+pub mod BlankPlaces
 pub mod Contracts
 pub mod Cover
 pub mod Demand

@@ -20,10 +20,10 @@ use Rattle.catalogue_standings.specs.Rows.{Verdict, accepted, refused, settle}
 use Rattle.catalogue_standings.specs.declared.Answer.{Answer}
 use Rattle.catalogue_standings.specs.declared.Answer.the-variants.{Refused}
 use Rattle.refusals.specs.Effects.{outOf, refusalOut}
-use Rattle.refusals.specs.Table.{Ask, Call, on}
+use Rattle.refusals.specs.Table.{Ask, Call, on, lowestBlank}
 use Rattle.refusals.specs.declared.Out.{Out}
 use Rattle.card.specs.Calls.{told, outcomeOf}
-use Rattle.ledger.specs.Ledger.{Place, Blank, Sheet, Absent, lengthIn, sheetAt, placeAt, spareIn, sheetOf, rowsIn}
+use Rattle.ledger.specs.Ledger.{Place, Sheet, Absent, lengthIn, sheetAt, spareIn, sheetOf, viewIn, rowsIn}
 use Rattle.ledger.specs.Ledger.{verdictIn, deedIn, Told, done, refusedWith}
 use Rattle.ledger.specs.Claim.{entryIn, noted, noteOf, SearchedBy}
 use Rattle.ledger.specs.Steps.{End, ending, endOf, responseOf, stateOn, toldBy}
@@ -33,24 +33,23 @@ use Rattle.ledger.proofs.Keeping.{entries-set, Changed}
 use Rattle.ledger.proofs.Rows.{says, never-says}
 use Rattle.ledger.proofs.Sheets.{Has}
 
+-- what the ledger answers to a call, by its verdict
+abbrev pub tells : ℕ → List Sheet → Call → Verdict → Told
+tells n l c v = settle v (done (deedIn n l c .values) (deedIn n l c .left))
+    (refusedWith (deedIn n l c .brought) (lowestBlank (viewIn n l (sheetOf c))))
+
 -- what a call comes to, by its verdict
 pub record Result (n : ℕ) (l : List Sheet) (card : List ℕ) (c : Call) (v : Verdict) : Type 0 where
   pub card-left : List ℕ
   pub state-left : stateOn (endOf (stateOf n l card) c) ≡ stateOf n (settle v (deedIn n l c .ledger) (λ number. l)) card-left
   pub kept-left : Matches n (settle v (deedIn n l c .ledger) (λ number. l)) card-left
-  pub place : ℕ
-  pub blank : v ≡ refused 9 → (place < lengthIn (sheetAt l (sheetOf c))) × (placeAt l (sheetOf c) place ≡ Blank)
-  pub told-so : toldBy (responseOf (endOf (stateOf n l card) c))
-      ≡ settle v (done (deedIn n l c .values) (deedIn n l c .left)) (refusedWith (deedIn n l c .brought) place)
+  pub told-so : toldBy (responseOf (endOf (stateOf n l card) c)) ≡ tells n l c v
   pub sum : held (settle v (deedIn n l c .ledger) (λ number. l)) + settle v (deedIn n l c .returns) (λ number. 0)
       ≡ held l + settle v (deedIn n l c .grants) (λ number. 0)
   pub noted-so : (j p : ℕ) (m : Place) → Has p m (sheetAt l j)
-      → Has p (cond
-      (eqb (settle v (done (deedIn n l c .values) (deedIn n l c .left))
-      (refusedWith (deedIn n l c .brought) place) .number) 0) (noted j p m (noteOf c)) m)
+      → Has p (cond (eqb (tells n l c v .number) 0) (noted j p m (noteOf c)) m)
       (sheetAt (settle v (deedIn n l c .ledger) (λ number. l)) j)
-  pub searched : SearchedBy n l c (settle v (done (deedIn n l c .values) (deedIn n l c .left))
-      (refusedWith (deedIn n l c .brought) place))
+  pub searched : SearchedBy n l c (tells n l c v)
 
 module _ (n : ℕ) (l : List Sheet) (card : List ℕ) where
   -- what a call comes to where it leaves the state that ledger l′ calls for
@@ -69,34 +68,27 @@ module _ (n : ℕ) (l : List Sheet) (card : List ℕ) where
     pub noted-so : (j p : ℕ) (m : Place) → Has p m (sheetAt l j)
         → Has p (noted j p m (noteOf c)) (sheetAt (deedIn n l c .ledger) j)
 
-  -- a refused call, which comes to `ends number`: all is as it was, and with 9 goes a blank place
+  -- a refused call, which comes to `ends number`: all is as it was, and with 9 goes the ledger's lowest blank place
   pub record Back (c : Call) (ends : ℕ → End) : Type 0 where
-    pub place : ℕ
-    pub blank : verdictIn n l c ≡ refused 9 → (place < lengthIn (sheetAt l (sheetOf c))) × (placeAt l (sheetOf c) place ≡ Blank)
     pub answer : ℕ → Answer
     pub ends-so : (number : ℕ) → ends number ≡ endIn l card (answer number) (deedIn n l c .brought)
     pub says-so : (number : ℕ) → verdictIn n l c ≡ refused number
-        → (numberOf (answer number) ≡ number) × (valuesOf (answer number) ≡ cond (eqb number 9) (place ∷ []) [])
+        → (numberOf (answer number) ≡ number)
+        × (valuesOf (answer number) ≡ cond (eqb number 9) (lowestBlank (viewIn n l (sheetOf c)) ∷ []) [])
 
   module _ (k : Matches n l card) where
     pub result-of : (c : Call) (ends : Verdict → End) → endOf (stateOf n l card) c ≡ ends (verdictIn n l c)
         → says 0 (rowsIn n l c) ≡ false
         → (verdictIn n l c ≡ accepted → Done c (ends accepted)) → Back c (λ number. ends (refused number))
-        → ((p : ℕ)
-        → SearchedBy n l c (settle (verdictIn n l c) (done (deedIn n l c .values) (deedIn n l c .left))
-        (refusedWith (deedIn n l c .brought) p)))
-        → Result n l card c (verdictIn n l c)
+        → SearchedBy n l c (tells n l c (verdictIn n l c)) → Result n l card c (verdictIn n l c)
     result-of c ends is zero accept refuse sought = go (verdictIn n l c) refl sought
       where
-        tells : (a : Answer) (buffer : List ℕ) (number : ℕ) (values : List ℕ) → (numberOf a ≡ number) × (valuesOf a ≡ values)
+        says-all : (a : Answer) (buffer : List ℕ) (number : ℕ) (values : List ℕ) → (numberOf a ≡ number) × (valuesOf a ≡ values)
             → _≡_ {A = Told} (record { number = numberOf a; values = valuesOf a; buffer = buffer })
             (record { number = number; values = values; buffer = buffer })
-        tells a buffer number values h = λ t. record { number = h .0 t; values = h .1 t; buffer = buffer }
+        says-all a buffer number values h = λ t. record { number = h .0 t; values = h .1 t; buffer = buffer }
 
-        go : (v : Verdict) → verdictIn n l c ≡ v → ((p : ℕ)
-            → SearchedBy n l c (settle v (done (deedIn n l c .values) (deedIn n l c .left))
-            (refusedWith (deedIn n l c .brought) p)))
-            → Result n l card c v
+        go : (v : Verdict) → verdictIn n l c ≡ v → SearchedBy n l c (tells n l c v) → Result n l card c v
         go accepted h sought =
             let d = accept h in
             let so = is ∙ ap ends h ∙ d .ends-so in
@@ -104,13 +96,11 @@ module _ (n : ℕ) (l : List Sheet) (card : List ℕ) where
               card-left = d .card-left;
               state-left = ap stateOn so;
               kept-left = d .kept-left;
-              place = refuse .place;
-              blank = λ nine. refuse .blank (h ∙ nine);
               told-so = ap (λ (e : End). toldBy (responseOf e)) so
-                  ∙ tells (d .answer) (deedIn n l c .left) 0 (deedIn n l c .values) (d .says-so);
+                  ∙ says-all (d .answer) (deedIn n l c .left) 0 (deedIn n l c .values) (d .says-so);
               sum = d .sum;
               noted-so = d .noted-so;
-              searched = sought (refuse .place);
+              searched = sought;
             }
         go (refused number) h sought =
             let so = is ∙ ap ends h ∙ refuse .ends-so number in
@@ -118,27 +108,23 @@ module _ (n : ℕ) (l : List Sheet) (card : List ℕ) where
               card-left = card;
               state-left = ap stateOn so;
               kept-left = k;
-              place = refuse .place;
-              blank = λ nine. refuse .blank (h ∙ nine);
               told-so = ap (λ (e : End). toldBy (responseOf e)) so
-                  ∙ tells (refuse .answer number) (deedIn n l c .brought) number (cond (eqb number 9) (refuse .place ∷ []) [])
-                  (refuse .says-so number h);
+                  ∙ says-all (refuse .answer number) (deedIn n l c .brought) number
+                  (cond (eqb number 9) (lowestBlank (viewIn n l (sheetOf c)) ∷ []) []) (refuse .says-so number h);
               sum = refl;
               noted-so = λ j p m was. rw (ne-eqb number 0 (λ z. never-says 0 (rowsIn n l c) zero (h ∙ ap refused z))) was;
-              searched = sought (refuse .place);
+              searched = sought;
             }
 
     -- a call without a row 9
     pub plain-back : (c : Call) (ends : ℕ → End) → says 9 (rowsIn n l c) ≡ false
         → ((number : ℕ) → ends number ≡ endIn l card (Refused number) (deedIn n l c .brought)) → Back c ends
     plain-back c ends unheard so = record {
-      place = 0;
-      blank = λ nine. absurd (never-says 9 (rowsIn n l c) unheard nine);
       answer = Refused;
       ends-so = so;
       says-so = λ number h. (
         refl,
-        ap {B = List ℕ} (λ (t : Bool). cond t (0 ∷ []) [])
+        ap {B = List ℕ} (λ (t : Bool). cond t (lowestBlank (viewIn n l (sheetOf c)) ∷ []) [])
             (sym (ne-eqb number 9 (λ q. never-says 9 (rowsIn n l c) unheard (h ∙ ap refused q)))),
       );
     }

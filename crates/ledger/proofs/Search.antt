@@ -1,8 +1,8 @@
 -- A search for the least start that passes a test: a call that comes to it is answered 10 exactly when no start passes, and
 -- otherwise given the least.
 -- Assumes nothing.
-use Prim.Native.Nat.{ℕ, zero, suc, _≤_, _<_}
-use mathlib.Core.Path.{_≡_, refl, sym, ap, subst, _∙_}
+use Prim.Native.Nat.{ℕ, _≤_, _<_}
+use mathlib.Core.Path.{_≡_, refl, sym, subst}
 use mathlib.Core.Logic.{_⊎_, inl, inr}
 use mathlib.Core.Bool.{Bool, true, false, cond}
 use mathlib.Core.List.{[], _∷_}
@@ -11,31 +11,11 @@ use Rattle.map_blocks.specs.Blocks.{least}
 use Rattle.map_blocks.specs.declared.Found.{Found}
 use Rattle.map_blocks.specs.declared.Found.the-variants.{At, Nothing}
 use Rattle.laws.proofs.Bools.{order, clash}
-use Rattle.map_blocks.proofs.Least.{never-both, least-passes, none-passes}
+use Rattle.map_blocks.proofs.Least.{least-passes, least-below, none-passes}
 use Rattle.catalogue_standings.specs.Searches.{startAt, none}
 use Rattle.catalogue_standings.specs.Rows.{Verdict, accepted, refused, settle}
 use Rattle.ledger.specs.Ledger.{refusedWith, Told, done}
 use Rattle.ledger.specs.Claim.{Searched}
-
--- ---- least
-
-same-start : (s r : ℕ) → At s ≡ At r → s ≡ r
-same-start s r e = ap startAt e
-
--- no number below the least one passes
-least-below : (p : ℕ → Bool) (s m r : ℕ) → least p s m ≡ At r → (t : ℕ) → s ≤ t → t < r → p t ≡ false
-unfolding least
-least-below p s zero r e t a b = absurd (never-both r (sym e))
-least-below p s (suc m) r e t a b = go (p s) refl e (least-below p (suc s) m r)
-  where
-    go : (v : Bool) → p s ≡ v → cond v (At s) (least p (suc s) m) ≡ At r
-        → (least p (suc s) m ≡ At r → (t : ℕ) → suc s ≤ t → t < r → p t ≡ false) → p t ≡ false
-    go true q e later = absurd (omega (arith, same-start s r e))
-    go false q e later = by-order (order s t)
-      where
-        by-order : (s < t) ⊎ (t ≤ s) → p t ≡ false
-        by-order (inl h) = later e t h b
-        by-order (inr h) = let same : t ≡ s = omega arith in ap p same ∙ q
 
 -- no start from n on passes
 module _ (passes : ℕ → Bool) (n : ℕ) (beyond : (s : ℕ) → n ≤ s → passes s ≡ false) where

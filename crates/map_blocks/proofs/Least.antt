@@ -1,7 +1,8 @@
 -- Laws of `least`, the least number that passes a test: what it answers, what its answer says (the number found passes the
--- test, and where there is none, none does), and one number more behind those looked at.
+-- test and no lower one does, and where there is none, none does), one number more behind those looked at, and that tests
+-- which agree have the same answer.
 -- Assumes nothing.
-use mathlib.Core.Path.{_≡_, refl, sym, ap, _∙_, subst}
+use mathlib.Core.Path.{_≡_, refl, sym, ap, ap₂, _∙_, subst}
 use mathlib.Core.Logic.{⊎-elim}
 use mathlib.Core.Bool.{Bool, true, false, cond}
 use Prim.Native.Nat.{ℕ, zero, suc, _+_, _≤_, _<_}
@@ -55,6 +56,18 @@ module _ (p : ℕ → Bool) where
   least-passes s zero r e = absurd (never-both r (sym e))
   least-passes s (suc m) r e = passes-on s m r (p s) (least p (suc s) m) refl e (λ h. least-passes (suc s) m r h)
 
+  below-on : (s t r : ℕ) (b : Bool) (rest : Found) → p s ≡ b → cond b (At s) rest ≡ At r → s ≤ t → t < r
+      → (rest ≡ At r → s < t → p t ≡ false) → p t ≡ false
+  below-on s t r true rest q e a l later = let same : s ≡ r = cc in absurd (omega arith)
+  below-on s t r false rest q e a l later =
+      ⊎-elim (λ (w : s ≡ t). ap p (sym w) ∙ q) (λ (w : s < t). later e w) (eq-or-lt-of-le a)
+
+  pub least-below : (s m r : ℕ) → least p s m ≡ At r → (t : ℕ) → s ≤ t → t < r → p t ≡ false
+  unfolding least
+  least-below s zero r e t a l = absurd (never-both r (sym e))
+  least-below s (suc m) r e t a l = below-on s t r (p s) (least p (suc s) m) refl e a l
+      (λ h w. least-below (suc s) m r h t (omega arith) l)
+
   none-on : (s t : ℕ) (b : Bool) (rest : Found) → p s ≡ b → cond b (At s) rest ≡ Nothing → s ≤ t
       → (rest ≡ Nothing → s < t → p t ≡ false) → p t ≡ false
   none-on s t true rest q e a later = absurd (never-both s e)
@@ -80,3 +93,10 @@ module _ (p : ℕ → Bool) where
 
       moved : (s m : ℕ) → suc s + m ≡ s + suc m
       moved s m = omega arith
+
+pub least-same : (p q : ℕ → Bool) (s m : ℕ) → ((t : ℕ) → s ≤ t → t < s + m → p t ≡ q t) → least p s m ≡ least q s m
+unfolding least
+least-same p q s zero h = refl
+least-same p q s (suc m) h =
+    ap₂ (λ (b : Bool) (rest : Found). cond b (At s) rest) (h s (omega arith) (omega arith))
+    (least-same p q (suc s) m (λ t a l. h t (omega arith) (omega arith)))

@@ -15,7 +15,7 @@ use Rattle.catalogue_standings.specs.Searches.{startAt}
 use Rattle.catalogue_standings.specs.Openings.{openedOf, unlessDamaged, rowOf}
 use Rattle.catalogue_standings.specs.Rows.{Row, row, Verdict, refused, firstOf, settle}
 use Rattle.catalogue_standings.specs.Standings.{lengthOf}
-use Rattle.refusals.specs.Table.{tableOf}
+use Rattle.refusals.specs.Table.{lowestBlank, tableOf}
 use Rattle.refusals.specs.Views.{viewOn}
 use Rattle.catalogue_standings.specs.declared.Answer.the-variants as answer
 use Rattle.catalogue_standings.specs.declared.Opened.the-variants.{Refused, Stands}
@@ -111,8 +111,8 @@ module _ (q : Lent) where
         ∙ ap (λ (s : ℕ). firstOf (rest s blocks)) (extent q start blocks opens .starts)
 
     pub lowest-is : startAt (least (blankAt start) 0 blocks) ≡ lowest
-    unfolding blankPlace viewOn
+    unfolding blankPlace viewOn lowestBlank
     lowest-is =
-        let x = extent q start blocks opens in
-        ap (λ (s : ℕ). startAt (least (blankAt s) 0 blocks)) (sym (x .starts))
-        ∙ ap (λ (l : ℕ). startAt (least (blankAt (q .entry .start)) 0 l)) (sym (x .lasts))
+        ap (λ (s : ℕ). startAt (least (blankAt s) 0 blocks)) (sym (extent q start blocks opens .starts))
+        ∙ ap (λ (s : Standing). startAt (least (blankAt (q .entry .start)) 0 (lengthOf s)))
+        (sym (opened (allFits q) (q .sheets) (q .sheet) (standing q) (Open start blocks) [] opens .same))

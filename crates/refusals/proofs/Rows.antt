@@ -1,11 +1,14 @@
--- Rows of a table of refusals, read by their numbers, so that a new row moves nothing: those that an accepted call has cleared.
+-- Rows of a table of refusals, read by their numbers, so that a new row moves nothing: those that an accepted call has
+-- cleared, and the one that a refused call was refused with.
 -- Assumes nothing.
 use Prim.Native.Nat.{ℕ}
-use mathlib.Core.Path.{_≡_, refl}
+use mathlib.Core.Path.{_≡_, refl, sym}
+use mathlib.Core.Logic.{_⊎_, inl, inr}
 use mathlib.Core.Bool.{Bool, true, false, cond}
 use mathlib.Core.List.{List, [], _∷_}
 use native.Mathlib.Omega.{arith}
 use lib.Dec.{eqb}
+use borrow.Author.Tests.{eqb-false}
 use Rattle.catalogue_standings.specs.Rows.{Row, accepted, refused, firstOf}
 
 abbrev pub either : Bool → Type 0 → Type 0 → Type 0
@@ -42,3 +45,24 @@ clear number [] e = tt
 clear number (r ∷ rows) e =
     let h = rest-accepted r rows e in
     let later = clear number rows (h .1) in either-in (eqb (r .number) number) (h .0, later) later
+
+-- ---- the row that a refusal names
+
+-- some row with the number holds
+abbrev pub Holds : ℕ → List Row → Type 0
+Holds number [] = ⊥
+Holds number (r ∷ rows) = either (eqb (r .number) number) ((r .holds ≡ true) ⊎ Holds number rows) (Holds number rows)
+
+pub holds : (number : ℕ) (rows : List Row) → firstOf rows ≡ refused number → Holds number rows
+unfolding firstOf
+holds number [] e = absurd (not-refused number (sym e))
+holds number (r ∷ rows) e = go (eqb (r .number) number) refl (r .holds) refl e (holds number rows)
+  where
+    go : (t : Bool) → eqb (r .number) number ≡ t → (b : Bool) → r .holds ≡ b
+        → cond b (refused (r .number)) (firstOf rows) ≡ refused number
+        → (firstOf rows ≡ refused number → Holds number rows)
+        → either t ((r .holds ≡ true) ⊎ Holds number rows) (Holds number rows)
+    go true q true h e later = inl h
+    go true q false h e later = inr (later e)
+    go false q true h e later = absurd (eqb-false (r .number) number q (same-number (r .number) number e))
+    go false q false h e later = later e

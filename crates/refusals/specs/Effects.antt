@@ -7,7 +7,7 @@ use mathlib.Core.List.{List}
 use lib.Dec.{eqb}
 use lib.ListN.{length}
 use Rattle.map_blocks.specs.Blocks as map-blocks
-use Rattle.map_blocks.specs.Blocks.{least, leastFit}
+use Rattle.map_blocks.specs.Blocks.{leastFit}
 use Rattle.map_blocks.specs.Maps.{marked}
 use Rattle.blocks_of_card.specs.Card.{blockOf, withBlock, zeroed}
 use Rattle.block_seals.specs.Sealed.{sealed, payloadOf}
@@ -16,7 +16,8 @@ use Rattle.catalogue.specs.declared.Entry.{Entry}
 use Rattle.catalogue_standings.specs.Rows.{Verdict, settle}
 use Rattle.catalogue_standings.specs.Searches.{startAt}
 use Rattle.refusals.specs.Lent.{Lent}
-use Rattle.refusals.specs.Table.{on, reserve, put, grow, complete, pause, release, show, standing, verdictOf}
+use Rattle.refusals.specs.Table.{on, reserve, put, grow, complete, pause, release, show, standing, lowestBlank}
+use Rattle.refusals.specs.Table.{verdictOf}
 use Rattle.refusals.specs.Views.{viewAt, viewOn}
 use Rattle.catalogue_standings.specs.declared.Answer.{Answer}
 use Rattle.catalogue_standings.specs.declared.Answer.the-variants.{Done, Start, Reads, Blank, Refused}
@@ -88,16 +89,15 @@ module _ (q : Lent) (place : ℕ) (payload : List ℕ) where
   putCard = settle putVerdict (withBlock (q .card) (q .entry .start + place) (sealed (q .sheet) place payload))
       (λ number. q .card)
 
--- Complete: Open becomes Complete if every place is filled. Which blank place is given with 9 is free in document 01;
--- the program gives the lowest.
+-- Complete: Open becomes Complete if every place is filled. With 9 goes the lowest blank place (document 02 (d)).
 module _ (q : Lent) where
   unfoldable pub completeVerdict : Verdict
   unfolding viewOn
   completeVerdict = verdictOf (viewOn q) (on (q .sheet) complete)
 
   unfoldable pub blankPlace : ℕ
-  unfolding viewOn
-  blankPlace = startAt (least (viewOn q .blank) 0 (q .entry .length))
+  unfolding viewOn lowestBlank
+  blankPlace = lowestBlank (viewOn q)
 
   unfoldable pub completeOut : Out
   unfolding completeVerdict blankPlace

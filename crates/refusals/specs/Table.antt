@@ -6,8 +6,8 @@ use mathlib.Core.Bool.{Bool, not, _||_}
 use mathlib.Core.List.{List, [], _∷_}
 use lib.Dec.{eqb, leb, ltb}
 use lib.ListN.{length}
-use Rattle.map_blocks.specs.Blocks.{all, fit, leastFit}
-use Rattle.catalogue_standings.specs.Searches.{none}
+use Rattle.map_blocks.specs.Blocks.{all, fit, least, leastFit}
+use Rattle.catalogue_standings.specs.Searches.{none, startAt}
 use Rattle.catalogue_standings.specs.Rows.{Row, row, Verdict, firstOf}
 use Rattle.catalogue_standings.specs.Standings.{isAbsent, isPaused, isOpen, isComplete, isDamaged, startOf, lengthOf}
 use Rattle.catalogue_standings.specs.declared.Standing.{Standing}
@@ -67,6 +67,11 @@ misplaced v place slice = leb (lengthOf (v .stands)) place || not (eqb (length s
 -- Every place of the sheet passes the test.
 abbrev pub everyPlace : View → (ℕ → Bool) → Bool
 everyPlace v test = all test 0 (lengthOf (v .stands))
+
+-- The lowest blank place of the sheet, which goes with 9 (document 02 (d)).
+unfoldable pub lowestBlank : View → ℕ
+unfolding least
+lowestBlank v = startAt (least (v .blank) 0 (lengthOf (v .stands)))
 
 -- The rows of each, behind those that all begin with.
 unfoldable pub rowsFor : View → Ask → List Row

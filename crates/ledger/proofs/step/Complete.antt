@@ -1,37 +1,38 @@
--- Complete: an Open sheet without a blank place becomes Complete; with 9 goes a place that is blank in the ledger.
+-- Complete: an Open sheet without a blank place becomes Complete; with 9 goes the ledger's lowest blank place.
 -- Assumes nothing.
 use Prim.Native.Nat.{ℕ, _+_, _<_}
 use mathlib.Core.Path.{_≡_, refl, sym, ap, subst, _∙_}
-use mathlib.Core.Bool.{Bool, true, false, cond, not, _||_, true≢false}
+use mathlib.Core.Bool.{Bool, true, false, cond, not, _||_}
 use mathlib.Core.List.{List, [], _∷_, map}
 use native.Mathlib.Omega.{arith}
 use lib.Dec.{eqb, leb}
 use lib.ListN.{length, getD, set, length-map}
 use borrow.Author.Tests.{leb-false, eqb-true}
 use Rattle.catalogue.specs.Entries.{completeMark, openMark}
-use Rattle.map_blocks.specs.Blocks.{all}
+use Rattle.map_blocks.specs.Blocks.{all, least}
+use Rattle.map_blocks.proofs.Least.{least-same}
 use Rattle.map_blocks.proofs.Runs.{all-intro, all-same}
-use Rattle.blocks_of_card.specs.Card.{blockOf}
-use Rattle.block_seals.specs.Sealed as block
 use Rattle.catalogue.specs.declared.Entry.{Entry}
 use Rattle.catalogue_standings.specs.Answers.{numberOf, valuesOf}
 use Rattle.catalogue_standings.specs.Rows.{Row, Verdict, accepted, refused, settle}
+use Rattle.catalogue_standings.specs.Searches.{startAt}
+use Rattle.catalogue_standings.specs.Standings.{lengthOf}
+use Rattle.catalogue_standings.specs.declared.Standing.{Standing}
 use Rattle.catalogue_standings.specs.declared.Answer.{Answer}
 use Rattle.catalogue_standings.specs.declared.Answer.the-variants as answers
 use Rattle.catalogue_standings.specs.declared.Answer.the-variants.{Done, Refused}
 use Rattle.refusals.specs.Lent.{lent}
 use Rattle.refusals.specs.Effects as effects
 use Rattle.refusals.specs.Effects.{entryOf, outOf}
-use Rattle.refusals.specs.Table.{Call, on, complete, rowsFor, tableOf}
+use Rattle.refusals.specs.Table.{Call, on, complete, rowsFor, lowestBlank, tableOf}
 use Rattle.refusals.specs.Views.{viewOn}
-use Rattle.refusals.proofs.BlankPlaces.{place-is-blank}
 use Rattle.refusals.proofs.Rows.{clear, same-number}
-use Rattle.ledger.specs.Ledger.{Place, Blank, Payload, Sheet, Complete, lengthIn, isBlank, bytesOf, sheetAt, placeAt}
-use Rattle.ledger.specs.Ledger.{spareIn, completeIn, listed, rowsIn, verdictIn, deedIn}
+use Rattle.ledger.specs.Ledger.{Place, Blank, Sheet, Complete, lengthIn, isBlank, bytesOf, sheetAt, placeAt}
+use Rattle.ledger.specs.Ledger.{spareIn, viewIn, completeIn, listed, rowsIn, verdictIn, deedIn}
 use Rattle.ledger.specs.Claim.{entryIn}
 use Rattle.ledger.specs.Steps.{End, endOf}
 use Rattle.ledger.proofs.Agreement.{mapIn, stateOf, Matches, NeverRows, OwnPlaces, entry-at, on-card, blank-same}
-use Rattle.ledger.proofs.Agreement.{beyond-in, verdict-on}
+use Rattle.ledger.proofs.Agreement.{beyond-in, stands-same, verdict-on}
 use Rattle.ledger.proofs.Keeping.{keep-complete}
 use Rattle.ledger.proofs.Listed.{full, or-not}
 use Rattle.ledger.proofs.Results as results
@@ -114,15 +115,14 @@ module _ (n : ℕ) (l : List Sheet) (card : List ℕ) (k : Matches n l card) (i 
         noted-there = λ j p m ne. refl;
       })
 
-  -- the place given is one of the sheet's, and blank in the ledger
-  given-is-blank : verdictIn n l call ≡ refused 9 → (given < lengthIn (sheetAt l i)) × (placeAt l i given ≡ Blank)
-  unfolding viewOn
-  given-is-blank nine =
-      (inside, is-blank-place (placeAt l i given) (sym (blank-same n l card k i lt given inside) ∙ blank-there))
+  -- the place given is the ledger's
+  given-same : verdictIn n l call ≡ refused 9 → given ≡ lowestBlank (viewIn n l i)
+  unfolding effects.blankPlace lowestBlank viewOn
+  given-same nine =
+      ap (λ (s : Standing). startAt (least (on-card n l card k i .blank) 0 (lengthOf s))) (stands-same n l card k i lt)
+      ∙ ap startAt (least-same (on-card n l card k i .blank) (λ p. isBlank (placeAt l i p)) 0 (lengthIn (sheetAt l i))
+      (λ p low high. blank-same n l card k i lt p (omega arith)))
     where
-      found : (given < e .length) × (block.blank (blockOf card (e .start + given)) ≡ true)
-      found = place-is-blank (lent n (spareIn n l) (mapIn n l) card (length (map entryIn l)) e i) (verdict ∙ nine)
-
       in-list : (t : Bool) → leb (length l) i ≡ t → i < length l
       in-list true out = let q : _≡_ {A = ℕ} 2 9 = same-number 2 9 (sym (beyond-in n l i complete out) ∙ nine) in
           absurd (omega arith)
@@ -131,31 +131,22 @@ module _ (n : ℕ) (l : List Sheet) (card : List ℕ) (k : Matches n l card) (i 
       lt : i < length l
       lt = in-list (leb (length l) i) refl
 
-      inside : given < lengthIn (sheetAt l i)
-      inside = subst (λ (y : Entry). given < y .length) (entry-at l i lt) (found .0)
-
-      blank-there : on-card n l card k i .blank given ≡ true
-      blank-there = found .1
-
-      is-blank-place : (p : Place) → isBlank p ≡ true → p ≡ Blank
-      is-blank-place Blank h = refl
-      is-blank-place (Payload bytes) h = absurd (true≢false (sym h))
-
   refuses : Back n l card call (λ number. ends (refused number))
   unfolding deedIn
   refuses = record {
-    place = given;
-    blank = given-is-blank;
     answer = answer;
     ends-so = λ number. stored-again n l card k i (answer number);
-    says-so = λ number h. with-place number (eqb number 9) refl;
+    says-so = λ number h. with-place number h (eqb number 9) refl;
   }
     where
-      with-place : (number : ℕ) (t : Bool) → eqb number 9 ≡ t
-          → (numberOf (answer number) ≡ number) × (valuesOf (answer number) ≡ cond (eqb number 9) (given ∷ []) [])
-      with-place number true q = rw (q) (sym (eqb-true number 9 q), refl)
-      with-place number false q = rw (q) (refl, refl)
+      with-place : (number : ℕ) → verdictIn n l call ≡ refused number → (t : Bool) → eqb number 9 ≡ t
+          → (numberOf (answer number) ≡ number)
+          × (valuesOf (answer number) ≡ cond (eqb number 9) (lowestBlank (viewIn n l i) ∷ []) [])
+      with-place number h true q =
+          let nine : number ≡ 9 = eqb-true number 9 q in
+          rw (q) (sym nine, ap (λ (p : ℕ). p ∷ []) (given-same (h ∙ ap refused nine)))
+      with-place number h false q = rw (q) (refl, refl)
 
   pub complete-result : Result n l card call (verdictIn n l call)
   unfolding tableOf listed deedIn
-  complete-result = result-of n l card k call ends ends-so refl accepts refuses (λ p. tt)
+  complete-result = result-of n l card k call ends ends-so refl accepts refuses tt

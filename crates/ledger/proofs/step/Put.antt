@@ -98,4 +98,4 @@ module _ (n : ℕ) (l : List Sheet) (card : List ℕ) (k : Matches n l card) (i 
   pub put-result : Result n l card call (verdictIn n l call)
   unfolding tableOf listed deedIn
   put-result = result-of n l card k call ends ends-so refl accepts (plain-back n l card k call _ refl (λ number. refl))
-      (λ p. tt)
+      tt

@@ -75,4 +75,4 @@ module _ (n : ℕ) (l : List Sheet) (card : List ℕ) (k : Matches n l card) (i 
   pub release-result : Result n l card call (verdictIn n l call)
   unfolding tableOf listed deedIn
   release-result = result-of n l card k call ends ends-so refl accepts
-      (plain-back n l card k call _ refl (out-back n l card k i)) (λ p. tt)
+      (plain-back n l card k call _ refl (out-back n l card k i)) tt

@@ -20,11 +20,11 @@ use Rattle.catalogue_standings.specs.Rows.{Row, Verdict, accepted, firstOf, set
 use Rattle.catalogue_standings.specs.declared.Answer.the-variants.{Start}
 use Rattle.refusals.specs.Effects as effects
 use Rattle.refusals.specs.Effects.{entryOf, outOf, refusalOut}
-use Rattle.refusals.specs.Table.{Call, on, reserve, rowsFor, tableOf}
+use Rattle.refusals.specs.Table.{Call, on, reserve, rowsFor, lowestBlank, tableOf}
 use Rattle.refusals.proofs.Room.{fit-inside}
 use Rattle.refusals.proofs.Rows.{clear}
 use Rattle.ledger.specs.Ledger.{Blank, Sheet, Absent, Open, standingIn, lengthIn, sheetAt, freeIn, spareIn, leastIn}
-use Rattle.ledger.specs.Ledger.{listed, rowsIn, verdictIn, deedIn, toldIn}
+use Rattle.ledger.specs.Ledger.{viewIn, listed, rowsIn, verdictIn, deedIn, toldIn}
 use Rattle.ledger.specs.Claim.{before, Came, Searched}
 use Rattle.ledger.specs.Steps.{End, endOf}
 use Rattle.ledger.proofs.Agreement.{mapIn, stateOf, Matches, NeverRows, free-map, verdict-on}
@@ -111,12 +111,12 @@ module _ (n : ℕ) (l : List Sheet) (card : List ℕ) (k : Matches n l card) (i 
       })
 
   -- no start from n on is a fit, and the verdict is that of the search alone
-  by-search : (p : ℕ) → Came n l call → Searched (fit (freeIn n l) 0 n m) (toldIn n l call p)
+  by-search : Came n l call → Searched (fit (freeIn n l) 0 n m) (toldIn n l call)
   unfolding tableOf listed before onwards firstOf deedIn leastFit
-  by-search p came =
+  by-search came =
       let some : 0 < m = omega (arith, eqb-false m 0 (clear 3 (before 10 rows) came .0)) in
       searched (fit (freeIn n l) 0 n m) n (λ s le. not-true _ (λ q. omega (arith, fit-inside (freeIn n l) n m s q)))
-      (verdictIn n l call) p (from-there 10 rows came)
+      (verdictIn n l call) (lowestBlank (viewIn n l i)) (from-there 10 rows came)
 
   pub reserve-result : Result n l card call (verdictIn n l call)
   unfolding tableOf listed deedIn
