@@ -200,7 +200,7 @@ impl Card {
 /// The calls.
 impl Card {
     /// What a call answers, and what it leaves in the card and in its payload or buffer: it is refused with the first row that
-    /// holds, and then changes nothing. Which blank place goes with 9 is free in document 01. The examples want the lowest.
+    /// holds, and then changes nothing. With 9 goes the lowest blank place (document 02 (d)).
     pub fn call(&mut self, call: Call, slice: &mut [u8]) -> Answer {
         match self.first(call) {
             None => self.accepted(call, slice),
@@ -285,6 +285,7 @@ impl Card {
 #[cfg(test)]
 mod tests {
     use super::*;
+    use crate::call::call;
 
     /// Document 01, "Table to be proved".
     #[test]
@@ -297,5 +298,22 @@ mod tests {
     #[test]
     fn a_blank_block_is_never_sound() {
         assert!(!sound(&[0; BLOCK], 0, 0));
+    }
+
+    /// Of 5 places from block 2 on, those that are filled in this order, and the place with 9 after each.
+    #[test]
+    fn the_lowest_blank_place() {
+        let mut card = Card {
+            n: 8,
+            free: 3,
+            map: (0..64).map(|b| b == 0 || b == 1 || b == 7).collect(),
+            sheets: vec![entry(OPEN, 2, 5)],
+            bytes: vec![0; 8 * BLOCK],
+        };
+        let complete = call(Kind::Complete, 0, 0);
+        for (filled, lowest) in [(1, 0), (4, 0), (0, 2), (3, 2)] {
+            assert_eq!(card.put(0, filled, &[7; PAYLOAD]), Done);
+            assert_eq!(card.call(complete, &mut []), Blank(lowest));
+        }
     }
 }

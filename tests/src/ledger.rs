@@ -92,11 +92,6 @@ impl Ledger {
         }
     }
 
-    pub fn is_blank(&self, sheet: u32, place: u32) -> bool {
-        let (sheet, place) = (sheet as usize, place as usize);
-        place < self.extent(sheet).1 && self.payload(sheet, place).is_none()
-    }
-
     /// What the card has at a place: 512 zeros where it is blank, else the sealed block.
     pub fn block(&self, sheet: usize, place: usize) -> Vec<u8> {
         match self.payload(sheet, place) {
@@ -183,7 +178,7 @@ impl Ledger {
         Ok(Done)
     }
 
-    /// The place with 9 may be any blank one; this is the lowest.
+    /// The place with 9 is the lowest blank one (document 02 (d)).
     fn complete(&mut self, sheet: u32) -> Result<Answer, Answer> {
         let (start, places) = self.open(sheet)?;
         if let Some(place) = places.iter().position(|place| place.is_none()) {
@@ -248,8 +243,21 @@ mod tests {
         assert_eq!(ledger.reserve(1, 2), Err(Refused(10)));
         assert_eq!(ledger.release(0), Ok(Done));
         assert_eq!(ledger.reserve(1, 2), Ok(Start(0)));
-        assert!(ledger.is_blank(1, 0) && ledger.is_blank(1, 1) && !ledger.is_blank(1, 2));
+        assert_eq!(ledger.complete(1), Err(Blank(0)));
+        assert_eq!(ledger.put(1, 0, &[9; 496]), Ok(Done));
+        assert_eq!(ledger.complete(1), Err(Blank(1)));
         assert_eq!((ledger.granted, ledger.returned), (4, 2));
         assert_eq!(ledger.free_count(), 1);
+    }
+
+    /// Of 5 places, those that are filled in this order, and the place with 9 after each.
+    #[test]
+    fn the_lowest_blank_place() {
+        let mut ledger = Ledger::fresh(8, 1);
+        assert_eq!(ledger.reserve(0, 5), Ok(Start(0)));
+        for (filled, lowest) in [(1, 0), (4, 0), (0, 2), (3, 2)] {
+            assert_eq!(ledger.put(0, filled, &[7; 496]), Ok(Done));
+            assert_eq!(ledger.complete(0), Err(Blank(lowest)));
+        }
     }
 }

@@ -129,7 +129,6 @@ impl Beside {
         let mut lent = bytes(&before, self.margin);
         let outcome = self.library.call(call, &mut lent);
         let answer = self.card.call(call, &mut after);
-        let answer = self.with_place(call, answer, outcome)?;
         same_outcome(outcome, &self.card, answer)?;
         self.library.shape = outcome.shape;
         same_slice("payload or buffer", &lent, &after)?;
@@ -138,22 +137,6 @@ impl Beside {
         self.by_ledger(call, answer, before, &after)?;
         self.calls += 1;
         Ok(())
-    }
-
-    /// With 9 the place may be any that is blank. If the library gave such a one, this is the answer.
-    fn with_place(&self, call: Call, answer: Answer, outcome: Outcome) -> Result<Answer, String> {
-        let (Answer::Blank(_), 9) = (answer, outcome.number) else {
-            return Ok(answer);
-        };
-        let place = outcome.first as usize;
-        let entry = self.card.sheets[call.sheet as usize];
-        let at = 512 * (entry.start as usize + place);
-        if place < entry.length as usize && self.card.bytes[at..at + 512] == [0; 512] {
-            return Ok(Answer::Blank(place));
-        }
-        Err(format!(
-            "place {place} is given with 9, and it is not blank"
-        ))
     }
 
     fn same_bytes(&self, call: Call) -> Result<(), String> {
@@ -201,11 +184,7 @@ impl Beside {
             return Ok(());
         };
         same("payload or buffer, by the ledger,", after, &slice)?;
-        let agrees = match (answer, by_ledger) {
-            (Answer::Blank(place), Answer::Blank(_)) => ledger.is_blank(call.sheet, place as u32),
-            _ => answer == by_ledger,
-        };
-        if !agrees {
+        if answer != by_ledger {
             return Err(format!(
                 "it answered {answer:?}, and by the ledger {by_ledger:?}"
             ));
