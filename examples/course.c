@@ -144,6 +144,35 @@ static void forget(void)
     memset(&shape, 0, sizeof shape);
 }
 
+/* A count of a payload, as a prescriber reads it: with two decimals, or absent, which is not 0. */
+static void count(const uint8_t *payload, uint32_t which)
+{
+    pagunlit_count c = pagunlit_read_count(payload, PAGUNLIT_PAYLOAD, which);
+
+    printf("      count %u: ", which);
+    if (c.number != 0)
+        printf("refused, %u: %s\n", c.number, pagunlit_meaning(c.number));
+    else if (c.hundredths == PAGUNLIT_COUNT_ABSENT)
+        puts("absent");
+    else
+        printf("%u.%02u\n", c.hundredths / 100, c.hundredths % 100);
+}
+
+/* The doses of a day, as counts of a payload. */
+static void doses(void)
+{
+    uint8_t payload[PAGUNLIT_PAYLOAD] = {0};
+
+    pagunlit_write_count(payload, sizeof payload, 0, 250);
+    pagunlit_write_count(payload, sizeof payload, 1, PAGUNLIT_COUNT_ABSENT);
+    printf("      2.50 tablets are the bytes %02X %02X %02X %02X\n", payload[0], payload[1], payload[2], payload[3]);
+    count(payload, 0);
+    count(payload, 1);
+    count(payload, 2);
+    payload[3] = 0x5A;
+    count(payload, 0);
+}
+
 /* What stands for each sheet. */
 static void standings(void)
 {
@@ -222,5 +251,7 @@ int main(void)
     prescription();
     full_card();
     power_cut();
+    puts("Doses are counts with two decimals. None is not 0, and a digit that cannot be is refused.");
+    doses();
     return 0;
 }

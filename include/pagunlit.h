@@ -38,8 +38,8 @@ extern "C" {
 #endif
 
 /* The version of this header, 10000 * first + 100 * second + third, and as a text. */
-#define PAGUNLIT_VERSION 10000
-#define PAGUNLIT_VERSION_TEXT "1.0.0"
+#define PAGUNLIT_VERSION 10100
+#define PAGUNLIT_VERSION_TEXT "1.1.0"
 
 enum {
     PAGUNLIT_BLOCK = 512,       /* bytes of a block */
@@ -64,7 +64,8 @@ enum {
     PAGUNLIT_CANNOT_GROW = 11,   /* grow: the next blocks are not all free and on the card */
     PAGUNLIT_IMAGE_LENGTH = 12,  /* save and load: the image's length */
     PAGUNLIT_IMAGE_FRAME = 13,   /* load: a frame's number, total or check */
-    PAGUNLIT_IMAGE_CONTENT = 14  /* load: the contents cannot be */
+    PAGUNLIT_IMAGE_CONTENT = 14, /* load: the contents cannot be */
+    PAGUNLIT_WRONG_COUNT = 16    /* dose counts: another digit, a number out of range, or no such count */
 };
 
 /* Marks of an entry. */
@@ -202,6 +203,29 @@ pagunlit_outcome pagunlit_save(pagunlit_shape shape, const uint64_t *map, size_t
  *   14  the state in the image is not sound, or what fills it up is not all zeros */
 pagunlit_outcome pagunlit_load(pagunlit_shape shape, const uint8_t *image, size_t imagelen, uint64_t *map, size_t maplen,
                                pagunlit_entry *catalogue, size_t cataloguelen, uint64_t *scratch, size_t scratchlen);
+
+/* Dose counts in packed decimal. A payload holds 124 counts of four bytes, count number `which` at byte 4 * which: two
+ * digits a byte, the high digit first, six whole digits and two of hundredths. Four bytes of 0xFF mean absent; in any other
+ * count every digit is 0 to 9. A count is handed over as its hundredths, 0 to 99999999, or as PAGUNLIT_COUNT_ABSENT. */
+#define PAGUNLIT_COUNT_ABSENT 0xFFFFFFFFu
+
+/* What a read of a count hands back. hundredths is PAGUNLIT_COUNT_ABSENT with a refusal too, so that it is never taken for
+ * a dose of 0. */
+typedef struct {
+    uint32_t number, hundredths;
+} pagunlit_count;
+
+/* Reads a count.
+ *   3    payloadlen is not 496
+ *   16   there is no such count (which is 124 or more), or its four bytes have another digit than 0 to 9 and are not all
+ *        0xFF */
+pagunlit_count pagunlit_read_count(const uint8_t *payload, size_t payloadlen, uint32_t which);
+
+/* Writes a count: those four bytes and no others. Each count has just one form: what was read, written again, leaves the same
+ * bytes. Gives PAGUNLIT_DONE, or
+ *   3    payloadlen is not 496
+ *   16   there is no such count, or hundredths is neither 0 to 99999999 nor PAGUNLIT_COUNT_ABSENT */
+uint32_t pagunlit_write_count(uint8_t *payload, size_t payloadlen, uint32_t which, uint32_t hundredths);
 
 /* Writes the sealed block of a sheet, a place and a payload, whatever the two numbers are. Gives PAGUNLIT_DONE, or
  * PAGUNLIT_WRONG_ARGUMENT (3) unless payload has 496 bytes and block 512; then nothing is changed. */

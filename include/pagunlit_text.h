@@ -40,6 +40,9 @@ static inline const char *pagunlit_meaning(uint32_t number)
         return "image frame";
     case PAGUNLIT_IMAGE_CONTENT:
         return "image content";
+    case PAGUNLIT_WRONG_COUNT:
+        return "dose counts: another digit in the four bytes read, a number out of range when writing, "
+               "or a count number of 124 or more";
     default:
         return "no number of this library";
     }

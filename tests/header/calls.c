@@ -195,6 +195,26 @@ static void blocks(void)
     printf("seal short block\t%u\n", seal(1, 2, slice, sizeof slice, block, sizeof block - 1));
 }
 
+/* Dose counts, in a payload whose bytes all count: 1,234.56 as the last count, then absent, then a digit that cannot be. */
+static void doses(void)
+{
+    pagunlit_count count;
+    uint32_t number;
+
+    memset(slice, 0x11, sizeof slice);
+    number = pagunlit_write_count(slice, sizeof slice, 123, 123456);
+    printf("write count\t%u slice %016" PRIx64 "\n", number, number_of(slice, sizeof slice));
+    count = pagunlit_read_count(slice, sizeof slice, 123);
+    printf("read count\t%u %u\n", count.number, count.hundredths);
+    printf("write absent\t%u\n", pagunlit_write_count(slice, sizeof slice, 1, PAGUNLIT_COUNT_ABSENT));
+    count = pagunlit_read_count(slice, sizeof slice, 1);
+    printf("read absent\t%u %u\n", count.number, count.hundredths);
+    slice[8] = 0x1A;
+    count = pagunlit_read_count(slice, sizeof slice, 2);
+    printf("read digit\t%u %u\n", count.number, count.hundredths);
+    printf("write short\t%u\n", pagunlit_write_count(slice, sizeof slice - 1, 124, 1));
+}
+
 int main(void)
 {
     fill(card, sizeof card, 5);
@@ -204,6 +224,7 @@ int main(void)
     refusals();
     images();
     blocks();
+    doses();
     puts("end");
     return 0;
 }

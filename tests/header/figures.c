@@ -29,6 +29,7 @@ static void constants(void)
     CONSTANT(PAGUNLIT_PAUSED);
     CONSTANT(PAGUNLIT_OPEN);
     CONSTANT(PAGUNLIT_COMPLETE);
+    CONSTANT(PAGUNLIT_COUNT_ABSENT);
     CONSTANT(PAGUNLIT_VERSION);
     printf("PAGUNLIT_VERSION_TEXT\t%s\n", PAGUNLIT_VERSION_TEXT);
     CONSTANT(BLOCK_SIZE);
@@ -56,6 +57,7 @@ static void numbers(void)
     CONSTANT(PAGUNLIT_IMAGE_LENGTH);
     CONSTANT(PAGUNLIT_IMAGE_FRAME);
     CONSTANT(PAGUNLIT_IMAGE_CONTENT);
+    CONSTANT(PAGUNLIT_WRONG_COUNT);
     for (uint32_t number = 0; number < 40; number++)
         printf("meaning %u\t%s\n", number, pagunlit_meaning(number));
     printf("meaning %u\t%s\n", UINT32_MAX, pagunlit_meaning(UINT32_MAX));
@@ -76,6 +78,9 @@ static void structs(void)
     FIELD(pagunlit_outcome, first);
     FIELD(pagunlit_outcome, second);
     FIELD(pagunlit_outcome, third);
+    STRUCT(pagunlit_count);
+    FIELD(pagunlit_count, number);
+    FIELD(pagunlit_count, hundredths);
 }
 
 static void words(uint32_t n)

@@ -4,6 +4,7 @@ pub mod blocks;
 pub mod call;
 pub mod calls;
 pub mod card;
+pub mod counts;
 pub mod image;
 pub mod ledger;
 pub mod map;

@@ -1,2 +1,3 @@
--- What the contracts of `block_bytes` cite.
+-- What the contracts of `block_bytes`, and of crates above it, cite.
 pub mod Numbers
+pub mod Replaced

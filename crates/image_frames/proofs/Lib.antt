@@ -1,6 +1,5 @@
--- Laws of the definitions of specs/, for other crates too: bytes replaced, the body that an image carries, numbers and words
--- stored in it, the frames of a body, and what is read back from them.
-pub mod Replaced
+-- Laws of the definitions of specs/, for other crates too: the body that an image carries, numbers and words stored in it, the
+-- frames of a body, and what is read back from them.
 pub mod Bodies
 pub mod Numbered
 pub mod Stored

@@ -14,9 +14,10 @@ use Rattle.laws.proofs.Bools.{order}
 use Rattle.block_bytes.specs.Numbers.{bytes4, numberAt}
 use Rattle.block_bytes.proofs.Numbers.{bytes4-length}
 use Rattle.image_frames.specs.Frames.{bodyOf, totalOf}
-use Rattle.image_frames.specs.Numbers.{placeOf, numberIn, replaced, withNumber}
+use Rattle.block_bytes.specs.Replaced.{replaced}
+use Rattle.block_bytes.proofs.Replaced.{replaced-length, replaced-before, replaced-in, replaced-after}
+use Rattle.image_frames.specs.Numbers.{placeOf, numberIn, withNumber}
 use Rattle.image_frames.proofs.Bodies.{body-length, body-at}
-use Rattle.image_frames.proofs.Replaced.{replaced-length, replaced-before, replaced-in, replaced-after}
 
 -- numbers with the same four bytes
 pub number-moved : (xs ys : List ℕ) (a b : ℕ) → ((y : ℕ) → y < 4 → getD xs (a + y) 0 ≡ getD ys (b + y) 0)

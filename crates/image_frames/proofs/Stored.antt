@@ -17,10 +17,11 @@ use Rattle.block_seals.specs.Sealed.{blank}
 use Rattle.block_seals.proofs.Blank.{blank-zeros, blank-is-zeros}
 use Rattle.block_bytes.proofs.Numbers.{bytes4-length}
 use Rattle.image_frames.specs.Frames.{bodyOf, totalOf}
-use Rattle.image_frames.specs.Numbers.{numberIn, replaced, withNumber, bytes8, wordBytes, wordsAt}
+use Rattle.block_bytes.specs.Replaced.{replaced}
+use Rattle.block_bytes.proofs.Replaced.{replaced-none, replaced-more}
+use Rattle.image_frames.specs.Numbers.{numberIn, withNumber, bytes8, wordBytes, wordsAt}
 use Rattle.image_frames.proofs.Bodies.{body-length}
 use Rattle.image_frames.proofs.Numbered.{stored-length, stored-body}
-use Rattle.image_frames.proofs.Replaced.{replaced-none, replaced-more}
 
 -- some bytes were written, from number k on, over the body of an image
 pub record Written (first : List ℕ) (k : ℕ) (news image : List ℕ) : Type 0 where

@@ -5,8 +5,8 @@ use mathlib.Core.Bool.{cond}
 use mathlib.Core.List.{List, [], _∷_, _++_}
 use Prim.Native.Nat.{ℕ, zero, suc, _+_, _*_, _/_, _%_}
 use lib.Dec.{ltb}
-use lib.ListN.{length, take, drop}
 use Rattle.block_bytes.specs.Numbers.{bytes4, numberAt}
+use Rattle.block_bytes.specs.Replaced.{replaced}
 use Rattle.image_frames.specs.Frames.{totalOf, bodyOf}
 
 -- Where number k of the body stands in the image.
@@ -17,10 +17,6 @@ placeOf k = 512 * (k / 124) + 8 + 4 * (k % 124)
 unfoldable pub numberIn : List ℕ → ℕ → ℕ
 unfolding bodyOf numberAt
 numberIn image k = numberAt (bodyOf image) (4 * k)
-
--- Bytes with those from `at` on replaced.
-unfoldable pub replaced : List ℕ → ℕ → List ℕ → List ℕ
-replaced bytes at news = take at bytes ++ (news ++ drop (length news) (drop at bytes))
 
 -- The image with number k of its body replaced; past the end nothing changes.
 unfoldable pub withNumber : List ℕ → ℕ → ℕ → List ℕ

@@ -14,9 +14,10 @@ use Rattle.block_bytes.proofs.Numbers.{bytes4-length}
 use Rattle.catalogue_standings.specs.Rows.{Verdict, accepted, refused, settle, row, firstOf}
 use Rattle.catalogue.specs.declared.Entry.{Entry}
 use Rattle.image_frames.specs.Frames.{frames, bodyOf, totalOf}
-use Rattle.image_frames.specs.Numbers.{replaced, withNumber, wordBytes}
+use Rattle.block_bytes.specs.Replaced.{replaced}
+use Rattle.image_frames.specs.Numbers.{withNumber, wordBytes}
 use Rattle.image_frames.proofs.Bodies.{body-length}
-use Rattle.image_frames.proofs.Replaced.{replaced-all, replaced-more}
+use Rattle.block_bytes.proofs.Replaced.{replaced-all, replaced-more}
 use Rattle.image_frames.proofs.Stored.{Written, written-none, written-number, wordBytes-length}
 use Rattle.image_soundness.specs.Releases.{tally, tallyAfter, scratchAfter, tallyOf, scratchOf, allReleased}
 use Rattle.image_soundness.specs.Sound.{State, sound}

@@ -8,7 +8,8 @@ use lib.ListN.{length, replicate}
 use Rattle.catalogue_standings.specs.Rows.{row, firstOf}
 use Rattle.catalogue.specs.declared.Entry.{Entry}
 use Rattle.image_frames.specs.Frames.{totalOf, bodyOf, frames}
-use Rattle.image_frames.specs.Numbers.{replaced, withNumber, wordBytes}
+use Rattle.block_bytes.specs.Replaced.{replaced}
+use Rattle.image_frames.specs.Numbers.{withNumber, wordBytes}
 use Rattle.image_soundness.specs.Releases.{tally, allReleased}
 use Rattle.image_soundness.specs.declared.Tally.{Tally}
 use Rattle.image.specs.Cursors.{cursor, active}

@@ -13,6 +13,8 @@ use prog.Memory.{Memory}
 use prog.Routine.{Routine}
 use prog.Wp.{Heap}
 use Rattle.block.specs.Calls.{sealAnswer, afterSeal, checkAnswer}
+use Rattle.counts.specs.Counts.{readOf, writeAnswer, afterWrite}
+use Rattle.counts.specs.Replies.{countReply, countFrom}
 use Rattle.block.proofs.Clauses.{Ensures, AsksNothing}
 use Rattle.pagunlit_replies.specs.Replies.{replyOf}
 use Rattle.refusals.specs.Lent.{noCard}
@@ -32,6 +34,8 @@ use Rattle.pagunlit.proofs.pagunlit_show as show-function
 use Rattle.pagunlit.proofs.pagunlit_standing as standing-function
 use Rattle.pagunlit.proofs.pagunlit_save as save-function
 use Rattle.pagunlit.proofs.pagunlit_load as load-function
+use Rattle.pagunlit.proofs.pagunlit_read_count as read-count-function
+use Rattle.pagunlit.proofs.pagunlit_write_count as write-count-function
 use Rattle.pagunlit.proofs.seal as seal-function
 use Rattle.pagunlit.proofs.check as check-function
 
@@ -107,6 +111,15 @@ module _ {M : Type 1} (𝓤 : URA M) (H : Heap 𝓤) (A : Atoms 𝓤) (mem : Mem
       r ≡ checkAnswer (now (a .0)))
   check-contract κs a r t g = refl
 
+  pub pagunlit-read-count-contract : Ensures 𝓤 read-count-function.ended (read-count-function.clauses 𝓤 H A mem run)
+      (λ κs a r t. r ≡ countReply (readOf (now (a .0)) (a .1 .0)))
+  pagunlit-read-count-contract κs a r t g = refl
+
+  pub pagunlit-write-count-contract : Ensures 𝓤 write-count-function.ended (write-count-function.clauses 𝓤 H A mem run)
+      (λ κs a r t. (r ≡ writeAnswer (now (a .0)) (a .1 .0) (countFrom (a .1 .1 .0)))
+      × (now (t .0) ≡ afterWrite (now (a .0)) (a .1 .0) (countFrom (a .1 .1 .0))))
+  pagunlit-write-count-contract κs a r t g = refl
+
   pub pagunlit-fresh-asks-nothing : AsksNothing 𝓤 fresh-function.ended (fresh-function.clauses 𝓤 H A mem run)
   pagunlit-fresh-asks-nothing κs a g = refl
 
@@ -151,3 +164,10 @@ module _ {M : Type 1} (𝓤 : URA M) (H : Heap 𝓤) (A : Atoms 𝓤) (mem : Mem
 
   pub check-asks-nothing : AsksNothing 𝓤 check-function.ended (check-function.clauses 𝓤 H A mem run)
   check-asks-nothing κs a g = refl
+
+  pub pagunlit-read-count-asks-nothing : AsksNothing 𝓤 read-count-function.ended (read-count-function.clauses 𝓤 H A mem run)
+  pagunlit-read-count-asks-nothing κs a g = refl
+
+  pub pagunlit-write-count-asks-nothing : AsksNothing 𝓤 write-count-function.ended
+      (write-count-function.clauses 𝓤 H A mem run)
+  pagunlit-write-count-asks-nothing κs a g = refl

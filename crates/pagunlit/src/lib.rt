@@ -3,6 +3,8 @@
 // shape, the entries and the reply are structs of 32-bit numbers.
 ghost use mathlib.Core.Path.{_≡_};
 ghost use Rattle.block.specs.Calls.{sealAnswer, afterSeal, checkAnswer};
+ghost use Rattle.counts.specs.Counts.{readOf, writeAnswer, afterWrite};
+ghost use Rattle.counts.specs.Replies.{countReply, countFrom};
 ghost use Rattle.pagunlit_replies.specs.Replies.{replyOf};
 ghost use Rattle.refusals.specs.Lent.{noCard};
 ghost use Rattle.card.specs.Calls.{kept, freshOutcome, freshMap, freshEntries, searchOutcome, surveyOutcome, reserveOutcome};
@@ -12,6 +14,7 @@ ghost use Rattle.card.specs.Calls.{releaseOutcome, releaseMap, releaseEntries, 
 ghost use Rattle.card.specs.Calls.{saveOutcome, saveScratch, saveImage, loadOutcome, loadMap, loadEntries, loadScratch};
 use card::Shape;
 use catalogue::Entry;
+use counts::CountReply;
 use pagunlit_replies::Reply;
 use pagunlit_replies::reply_of;
 
@@ -238,4 +241,21 @@ pub extern "C" fn check(bytes: &[u8]) -> u32
     ensures { λ r. ⌜ r ≡ checkAnswer (now (bytes .entry)) ⌝ }
 {
     block::check(bytes)
+}
+
+// Dose counts of a payload, as the crate counts has them.
+
+#[no_mangle]
+pub extern "C" fn pagunlit_read_count(payload: &[u8], which: u32) -> CountReply
+    ensures { λ r. ⌜ r ≡ countReply (readOf (now (payload .entry)) which) ⌝ }
+{
+    counts::reply_of(counts::read_count(payload, which))
+}
+
+#[no_mangle]
+pub extern "C" fn pagunlit_write_count(payload: &mut [u8], which: u32, hundredths: u32) -> u32
+    ensures { λ r. ⌜ (r ≡ writeAnswer (now (payload .entry)) which (countFrom hundredths))
+        × (now (payload .exit) ≡ afterWrite (now (payload .entry)) which (countFrom hundredths)) ⌝ }
+{
+    counts::write_count(payload, which, counts::count_from(hundredths))
 }

@@ -203,6 +203,23 @@ impl State {
     }
 }
 
+/// Dose counts (document 02, request (e)): 1,234.56 is the digits 00123456, two a byte, at byte 4 · 123.
+fn doses() -> Vec<(&'static str, String)> {
+    let mut payload = vec![0x11; 496];
+    payload[492..].copy_from_slice(&[0x00, 0x12, 0x34, 0x56]);
+    vec![
+        (
+            "write count",
+            format!("0 slice {:016x}", number_of(&payload)),
+        ),
+        ("read count", "0 123456".to_string()),
+        ("write absent", "0".to_string()),
+        ("read absent", format!("0 {}", u32::MAX)),
+        ("read digit", format!("16 {}", u32::MAX)),
+        ("write short", "3".to_string()),
+    ]
+}
+
 /// What is wrong in what calls.c printed, and how many lines were compared.
 pub fn compare(printed: &str) -> (Vec<String>, usize) {
     let mut state = State::new();
@@ -210,6 +227,9 @@ pub fn compare(printed: &str) -> (Vec<String>, usize) {
     state.refusals();
     state.images();
     state.blocks();
+    for (call, value) in doses() {
+        state.line(call, value);
+    }
     state.line("end", String::new());
     let mut lines = printed.lines();
     let mut wrong = Vec::new();

@@ -3,8 +3,9 @@
 
 use std::collections::HashMap;
 
-/// Blocks, payloads and limits ("Shape, catalogue, blocks"), marks in hex, and what seal and check give.
-const CONSTANTS: [(&str, u64); 14] = [
+/// Blocks, payloads and limits ("Shape, catalogue, blocks"), marks in hex, the number of four bytes of FF, and what seal and
+/// check give.
+const CONSTANTS: [(&str, u64); 15] = [
     ("PAGUNLIT_BLOCK", 512),
     ("PAGUNLIT_PAYLOAD", 496),
     ("PAGUNLIT_BLOCKS", 262_144),
@@ -13,6 +14,7 @@ const CONSTANTS: [(&str, u64); 14] = [
     ("PAGUNLIT_PAUSED", 0x50),
     ("PAGUNLIT_OPEN", 0x4f),
     ("PAGUNLIT_COMPLETE", 0x43),
+    ("PAGUNLIT_COUNT_ABSENT", 0xffff_ffff),
     ("BLOCK_SIZE", 512),
     ("PAYLOAD_SIZE", 496),
     ("BLOCK_SEALED", 0),
@@ -21,67 +23,51 @@ const CONSTANTS: [(&str, u64); 14] = [
     ("BLOCK_WRONG_LENGTH", 3),
 ];
 
-/// The rows of "What the caller gets instead", with the name that a C program has for each. Number 0 is "done".
-const NUMBERS: [(&str, &str); 15] = [
-    ("PAGUNLIT_DONE", "done"),
+/// The rows of "What the caller gets instead" and those of document 02, with the name that a C program has for each. Number 0
+/// is "done".
+const NUMBERS: [(u32, &str, &str); 16] = [
+    (0, "PAGUNLIT_DONE", "done"),
     (
+        1,
         "PAGUNLIT_WRONG_SIZE",
         "n or c is outside its limits; free count above n; a lent map, card or scratch (on load also the catalogue) has the \
          wrong length",
     ),
-    ("PAGUNLIT_NO_SHEET", "sheet number >= c"),
-    (
-        "PAGUNLIT_WRONG_ARGUMENT",
-        "k or m is 0; place >= length; a payload, block or show buffer has the wrong length",
-    ),
-    (
-        "PAGUNLIT_DAMAGED",
-        "entry damaged; block not sound; free count contradicts the call; state not sound when saved",
-    ),
-    (
-        "PAGUNLIT_IS_ABSENT",
-        "sheet is Absent and the call doesn't admit that",
-    ),
-    (
-        "PAGUNLIT_IS_PAUSED",
-        "sheet is Paused and the call doesn't admit that",
-    ),
-    (
-        "PAGUNLIT_IS_OPEN",
-        "sheet is Open and the call doesn't admit that",
-    ),
-    (
-        "PAGUNLIT_IS_COMPLETE",
-        "sheet is Complete and the call doesn't admit that",
-    ),
-    ("PAGUNLIT_PLACE_BLANK", "complete: some place is blank"),
-    ("PAGUNLIT_NO_FIT", "search or reserve: no fit"),
-    (
-        "PAGUNLIT_CANNOT_GROW",
-        "grow: the m next blocks are not all free and inside n",
-    ),
-    ("PAGUNLIT_IMAGE_LENGTH", "image length"),
-    ("PAGUNLIT_IMAGE_FRAME", "image frame"),
-    ("PAGUNLIT_IMAGE_CONTENT", "image content"),
+    (2, "PAGUNLIT_NO_SHEET", "sheet number >= c"),
+    (3, "PAGUNLIT_WRONG_ARGUMENT", "k or m is 0; place >= length; a payload, block or show buffer has the wrong length"),
+    (4, "PAGUNLIT_DAMAGED", "entry damaged; block not sound; free count contradicts the call; state not sound when saved"),
+    (5, "PAGUNLIT_IS_ABSENT", "sheet is Absent and the call doesn't admit that"),
+    (6, "PAGUNLIT_IS_PAUSED", "sheet is Paused and the call doesn't admit that"),
+    (7, "PAGUNLIT_IS_OPEN", "sheet is Open and the call doesn't admit that"),
+    (8, "PAGUNLIT_IS_COMPLETE", "sheet is Complete and the call doesn't admit that"),
+    (9, "PAGUNLIT_PLACE_BLANK", "complete: some place is blank"),
+    (10, "PAGUNLIT_NO_FIT", "search or reserve: no fit"),
+    (11, "PAGUNLIT_CANNOT_GROW", "grow: the m next blocks are not all free and inside n"),
+    (12, "PAGUNLIT_IMAGE_LENGTH", "image length"),
+    (13, "PAGUNLIT_IMAGE_FRAME", "image frame"),
+    (14, "PAGUNLIT_IMAGE_CONTENT", "image content"),
+    (16, "PAGUNLIT_WRONG_COUNT", "dose counts: another digit in the four bytes read, a number out of range when writing, or a \
+         count number of 124 or more"),
 ];
 
 /// What has no figure in document 01: the version, which has to say the same as a number and as a text.
 const VERSION: [&str; 2] = ["PAGUNLIT_VERSION", "PAGUNLIT_VERSION_TEXT"];
 
 /// The shape is n and the free count, an entry a mark, a start and a length, 32 bits each.
-const STRUCTS: [(&str, &[&str]); 3] = [
+const STRUCTS: [(&str, &[&str]); 4] = [
     ("pagunlit_shape", &["blocks", "free"]),
     ("pagunlit_entry", &["mark", "start", "length"]),
     (
         "pagunlit_outcome",
         &["shape", "number", "first", "second", "third"],
     ),
+    ("pagunlit_count", &["number", "hundredths"]),
 ];
 
 /// The names that the headers may have besides functions and types.
 pub fn names() -> Vec<&'static str> {
     let constants = CONSTANTS.iter().map(|(name, _)| *name);
-    let numbers = NUMBERS.iter().map(|(name, _)| *name);
+    let numbers = NUMBERS.iter().map(|(_, name, _)| *name);
     let macros = ["PAGUNLIT_MAP_WORDS", "PAGUNLIT_IMAGE_BYTES"];
     constants
         .chain(numbers)
@@ -128,10 +114,10 @@ fn lines_of_constants() -> Vec<(String, String)> {
         .map(|(name, value)| (name.to_string(), value.to_string()));
     let numbers = NUMBERS
         .iter()
-        .enumerate()
-        .map(|(number, (name, _))| (name.to_string(), number.to_string()));
-    let others = (0..40).chain([u32::MAX as usize]).map(|number| {
-        let text = NUMBERS.get(number).map(|(_, text)| *text);
+        .map(|(number, name, _)| (name.to_string(), number.to_string()));
+    let others = (0..40).chain([u32::MAX]).map(|number| {
+        let row = NUMBERS.iter().find(|(other, ..)| *other == number);
+        let text = row.map(|(_, _, text)| *text);
         (
             format!("meaning {number}"),
             text.unwrap_or("no number of this library").to_string(),

@@ -35,6 +35,8 @@ const HEADERS: [(&str, &[(&str, &str)]); 3] = [
             ),
             ("pagunlit_save", "shape map.. catalogue.. scratch.. image.."),
             ("pagunlit_load", "shape image.. map.. catalogue.. scratch.."),
+            ("pagunlit_read_count", "payload.. which"),
+            ("pagunlit_write_count", "payload.. which hundredths"),
             ("seal", "sheet place payload.. block.."),
             ("check", "block.."),
         ],

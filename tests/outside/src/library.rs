@@ -129,7 +129,7 @@ impl<T: Copy + PartialEq> Lent<T> {
         before.iter().chain(behind).all(|cell| *cell == self.guard)
     }
 
-    fn at(&mut self) -> *mut T {
+    pub fn at(&mut self) -> *mut T {
         self.cells[self.margin..].as_mut_ptr()
     }
 }

@@ -10,6 +10,7 @@
 mod beside;
 mod counts;
 mod damage;
+mod doses;
 mod flaws;
 mod generate;
 mod images;
@@ -76,6 +77,17 @@ const GROUPS: &[Group] = &[
     // Seal and check.
     Group {
         parts: &[part("singles", singles::single, 20000, 2000, 500)],
+        report: |_| Ok(()),
+    },
+    // Dose counts.
+    Group {
+        parts: &[
+            part("digits", |_, margin, counts| doses::digits(margin, counts), 1, 0, 0),
+            part("payloads", |_, margin, counts| doses::lengths(margin, counts), 1, 0, 0),
+            part("doses", doses::random, 200, 100, 10),
+            part("numbers", doses::numbers, 2, 1, 0),
+            part("all-numbers", |_, _, counts| doses::all_numbers(counts), 0, 0, 0),
+        ],
         report: |_| Ok(()),
     },
     // Two rows or more that hold at once.

@@ -9,7 +9,8 @@ use borrow.Rule.Slice.PartMut.{putMid}
 use denote.Ref.{now}
 use Rattle.block_bytes.specs.Numbers.{bytes4}
 use Rattle.image_frames.proofs.Numbered.{stored-in, stored-out}
-use Rattle.image_frames.specs.Numbers.{placeOf, replaced}
+use Rattle.block_bytes.specs.Replaced.{replaced}
+use Rattle.image_frames.specs.Numbers.{placeOf}
 use Rattle.image_frames.proofs.put_number.Statement.{statement}
 use Rattle.image_frames.proofs.put_number.Tie as tie
 

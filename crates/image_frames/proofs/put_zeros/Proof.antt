@@ -9,7 +9,7 @@ use borrow.Author.Needs.{needs}
 use denote.Ref.{now}
 use Rattle.image_frames.proofs.Stored.{Written, zeros-none, zeros-more}
 use Rattle.image_frames.specs.Frames.{bodyOf, totalOf}
-use Rattle.image_frames.specs.Numbers.{replaced}
+use Rattle.block_bytes.specs.Replaced.{replaced}
 use Rattle.image_frames.proofs.put_zeros.Statement.{statement}
 use Rattle.image_frames.proofs.put_zeros.Tie as tie
 

@@ -10,7 +10,8 @@ use borrow.Author.Needs.{needs}
 use denote.Ref.{now}
 use Rattle.catalogue_standings.proofs.Tested.{fails, holds}
 use Rattle.image_frames.specs.Frames.{frames, bodyOf, totalOf, sealedImage}
-use Rattle.image_frames.specs.Numbers.{replaced, wordBytes}
+use Rattle.block_bytes.specs.Replaced.{replaced}
+use Rattle.image_frames.specs.Numbers.{wordBytes}
 use Rattle.image_save.specs.Parts.{restFits, restImage}
 use Rattle.image.specs.declared.Cursor.{Cursor}
 use Rattle.image_save.proofs.write_rest.Statement.{statement}

@@ -6,7 +6,7 @@ use Prim.Native.Nat.{ℕ, _+_, _-_, _≤_, _<_}
 use native.Mathlib.Omega.{arith}
 use lib.ListN.{length, getD, take, drop, length-append, length-drop, take-append-drop, drop-of-length-le, List·getD-append}
 use lib.Seq.{take-at, drop-at, drop-drop, length-take-le, getD-append-add, getD-take, getD-drop}
-use Rattle.image_frames.specs.Numbers.{replaced}
+use Rattle.block_bytes.specs.Replaced.{replaced}
 
 pub replaced-none : (bytes : List ℕ) (at : ℕ) → replaced bytes at [] ≡ bytes
 unfolding replaced
