@@ -53,7 +53,7 @@ static void told(const char *call, pagunlit_outcome outcome)
         printf("refused, %u: ", outcome.number);
     printf("%s", pagunlit_meaning(outcome.number));
     if (outcome.number == PAGUNLIT_PLACE_BLANK)
-        printf(" (place %u)", outcome.first);
+        printf(" (the lowest: place %u)", outcome.first);
     putchar('\n');
 }
 

@@ -152,7 +152,7 @@ pagunlit_outcome pagunlit_put(pagunlit_shape shape, const uint64_t *map, size_t 
  *   5, 6, 8   the sheet is Absent, Paused, Complete
  *   4         a block of the sheet is neither blank (all zeros) nor sound: it carries another sheet or place, or its check
  *             does not hold
- *   9         a place is blank, and first is one such place */
+ *   9         a place is blank, and first is the lowest blank place */
 pagunlit_outcome pagunlit_complete(pagunlit_shape shape, const uint64_t *map, size_t maplen, pagunlit_entry *catalogue,
                                    size_t cataloguelen, const uint8_t *card, size_t cardlen, uint32_t sheet);
 
