@@ -55,6 +55,11 @@ uint32_t seal(uint32_t sheet, uint32_t place,
  * Whether the check of a block holds: its stored A and B are the sums over its
  * first 504 bytes. It says nothing of which sheet and place the block carries.
  *
+ * What it catches: a sealed block in which one byte or two have changed, or two
+ * unequal neighbours have traded places, never gives BLOCK_HOLDS. Where that
+ * ends: three changed bytes can (neighbours changed by +1, -2 and +1 leave both
+ * sums as they were).
+ *
  * block, block_length: read only. The length is BLOCK_SIZE.
  *
  * Returns BLOCK_HOLDS or BLOCK_DAMAGED, or BLOCK_WRONG_LENGTH if the length is

@@ -232,7 +232,9 @@ uint32_t pagunlit_write_count(uint8_t *payload, size_t payloadlen, uint32_t whic
 uint32_t seal(uint32_t sheet, uint32_t place, const uint8_t *payload, size_t payloadlen, uint8_t *block, size_t blocklen);
 
 /* Gives 1 if the check of a block holds (its stored sums are those of its bytes), else 0; PAGUNLIT_WRONG_ARGUMENT (3) unless
- * the block has 512 bytes. Here 1 and 0 are answers and no refusals. */
+ * the block has 512 bytes. Here 1 and 0 are answers and no refusals.
+ * A sealed block in which one byte or two have changed, or two unequal neighbours have traded places, never gives 1. Three
+ * changed bytes can: neighbours changed by +1, -2 and +1 leave both sums as they were. */
 uint32_t check(const uint8_t *block, size_t blocklen);
 
 #ifdef __cplusplus

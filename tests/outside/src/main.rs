@@ -8,6 +8,7 @@
 //!     outside library               the sha256 checksum of the archive that it is linked with
 
 mod beside;
+mod caught;
 mod counts;
 mod damage;
 mod doses;
@@ -76,7 +77,13 @@ const GROUPS: &[Group] = &[
     },
     // Seal and check.
     Group {
-        parts: &[part("singles", singles::single, 20000, 2000, 500)],
+        parts: &[
+            part("singles", singles::single, 20000, 2000, 500),
+            part("one-byte", caught::one_byte, 4, 1, 0),
+            part("trades", caught::trades, 20, 10, 1),
+            part("two-bytes", caught::two_bytes, 1000, 100, 1),
+            part("three-bytes", |_, _, counts| caught::three_bytes(counts), 1, 0, 0),
+        ],
         report: |_| Ok(()),
     },
     // Dose counts.

@@ -1,0 +1,4 @@
+-- What the theorems on the check cite.
+pub mod Damage
+pub mod Images
+pub mod Sheets
