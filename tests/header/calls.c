@@ -1,5 +1,6 @@
 /* Calls every function through the headers, with arguments that all differ, and prints what came back and what was changed.
- * tests/header/src/calls.rs works the same calls out by the card of tests/src, bit by bit, and compares line by line. */
+ * tests/header/src/calls.rs works the same calls out by the card of tests/src, bit by bit, and compares line by line; which
+ * calls the first two parts make, it is told by the names: the call, its sheet and its number. */
 #include "pagunlit.h"
 #include "pagunlit_text.h"
 

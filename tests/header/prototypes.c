@@ -1,10 +1,7 @@
-/* The functions of the library, as document 01 and the signatures of the C library's Rattle source have them: a slice is a
- * pointer and a length, const where the call only reads it. It is compiled with the headers, so that a prototype with other
- * types there is a conflict and does not compile; the names of the parameters are compared by tests/header/src/names.rs. */
-#include "pagunlit.h"
-#include "pagunlit_text.h"
-#include "block.h"
-
+/* The functions that each header declares, as document 01 and the signatures of the C library's Rattle source have them: a
+ * slice is a pointer and a length, const where the call only reads it. Behind each header are its functions. This is compiled,
+ * so that a prototype with other types in a header is a conflict; and tests/header/src/names.rs reads it, and compares the
+ * names of the functions and of their parameters. */
 #define SHAPE pagunlit_shape shape
 #define MAP uint64_t *map, size_t maplen
 #define CATALOGUE pagunlit_entry *catalogue, size_t cataloguelen
@@ -12,6 +9,7 @@
 #define SCRATCH uint64_t *scratch, size_t scratchlen
 #define IMAGE uint8_t *image, size_t imagelen
 
+#include "pagunlit.h"
 pagunlit_outcome pagunlit_fresh(SHAPE, uint32_t blocks, MAP, CATALOGUE);
 pagunlit_outcome pagunlit_search(SHAPE, const MAP, uint32_t k);
 pagunlit_outcome pagunlit_survey(SHAPE, const MAP);
@@ -32,7 +30,13 @@ uint32_t pagunlit_write_count(uint8_t *payload, size_t payloadlen, uint32_t whic
 uint32_t seal(uint32_t sheet, uint32_t place, const uint8_t *payload, size_t payloadlen, uint8_t *block, size_t blocklen);
 uint32_t check(const uint8_t *block, size_t blocklen);
 
+#include "pagunlit_text.h"
 static inline const char *pagunlit_meaning(uint32_t number);
 static inline uint32_t pagunlit_image_number(const uint8_t *image, size_t imagelen, size_t at);
 static inline uint32_t pagunlit_image_blocks(const uint8_t *image, size_t imagelen);
 static inline uint32_t pagunlit_image_sheets(const uint8_t *image, size_t imagelen);
+
+#include "block.h"
+uint32_t seal(uint32_t sheet, uint32_t place, const uint8_t *payload, size_t payload_length, uint8_t *block,
+              size_t block_length);
+uint32_t check(const uint8_t *block, size_t block_length);

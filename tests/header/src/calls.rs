@@ -1,12 +1,15 @@
-//! The calls of calls.c, worked out bit by bit by the card of tests/src.
+//! The calls of calls.c, worked out bit by bit by the card of tests/src. Which calls it makes of a sound card is told by the
+//! names that it prints: the word of the call, and its numbers; other words tell it from another call of that name.
 
 use bitwise::blocks::{from_words, to_words};
-use bitwise::call::{call, Kind};
+use bitwise::call::{call, Kind, CALLS};
 use bitwise::card::{entry, sealed, Answer, Card};
 use std::fmt::Write;
 
 const N: usize = 70;
 const C: u32 = 3;
+/// The refusals of calls on a sound card with slices of the right lengths.
+const REFUSALS: [u32; 9] = [2, 3, 5, 6, 7, 8, 9, 10, 11];
 
 /// What calls.c keeps: the card, and the slices that a call may be lent besides.
 struct State {
@@ -15,6 +18,8 @@ struct State {
     image: Vec<u8>,
     slice: Vec<u8>,
     lines: Vec<(String, String)>,
+    /// The calls of a sound card, with their numbers: 0 for a call that is done, else the refusal's.
+    made: Vec<(Kind, u32)>,
 }
 
 /// A number for a run of bytes (FNV-1a).
@@ -57,6 +62,7 @@ impl State {
             image: filled(512, 6),
             slice: vec![],
             lines: vec![],
+            made: vec![],
         };
         state.disorder();
         state
@@ -104,16 +110,6 @@ impl State {
         self.line(call, line);
     }
 
-    fn put(&mut self, name: &str, sheet: u32, place: u32) {
-        self.slice = filled(496, 16 * sheet + place);
-        self.call(name, Kind::Put, sheet, place);
-    }
-
-    fn show(&mut self, name: &str, sheet: u32, place: u32) {
-        self.slice = filled(496, 99);
-        self.call(name, Kind::Show, sheet, place);
-    }
-
     /// The first `length` bytes of the image are lent.
     fn save(&mut self, call: &str, length: usize) {
         let answer = self.card.save(&mut self.scratch, &mut self.image[..length]);
@@ -125,46 +121,37 @@ impl State {
         self.told(call, answer);
     }
 
-    /// A call that changes the card, or asks it.
+    /// A call that changes the card, or asks it. A put brings bytes of its own, and a show a buffer that is filled before.
     fn call(&mut self, name: &str, kind: Kind, sheet: u32, number: u32) {
+        match kind {
+            Kind::Put => self.slice = filled(496, 16 * sheet + number),
+            Kind::Show => self.slice = filled(496, 99),
+            _ => {}
+        }
         let answer = self.card.call(call(kind, sheet, number), &mut self.slice);
+        self.made.push((kind, numbers(answer).0));
         self.told(name, answer);
     }
 
-    fn course(&mut self) {
-        self.call("fresh 70", Kind::Fresh, 0, N as u32);
-        self.call("reserve 2 3", Kind::Reserve, 2, 3);
-        self.call("reserve 1 5", Kind::Reserve, 1, 5);
-        self.call("grow 1 2", Kind::Grow, 1, 2);
-        self.call("search 9", Kind::Search, 0, 9);
-        self.call("survey", Kind::Survey, 0, 0);
-        self.put("put 1 6", 1, 6);
-        self.put("put 2 0", 2, 0);
-        self.put("put 2 1", 2, 1);
-        self.call("complete 2", Kind::Complete, 2, 0);
-        self.put("put 2 2", 2, 2);
-        self.call("complete 2 again", Kind::Complete, 2, 0);
-        self.show("show 2 1", 2, 1);
-        self.call("standing 1", Kind::Standing, 1, 0);
-        self.call("standing 2", Kind::Standing, 2, 0);
-        self.call("pause 0", Kind::Pause, 0, 0);
-        self.call("grow 2 1", Kind::Grow, 2, 1);
-        self.call("release 2", Kind::Release, 2, 0);
-        self.call("survey again", Kind::Survey, 0, 0);
-        self.save("save", 512);
-        self.line("head", format!("{N} {C}"));
-    }
-
-    fn refusals(&mut self) {
-        self.call("search 61", Kind::Search, 0, 61);
-        self.call("search 0", Kind::Search, 0, 0);
-        self.call("standing 3", Kind::Standing, 3, 0);
-        self.put("put 0 0", 0, 0);
-        self.put("put 1 7", 1, 7);
-        self.call("complete absent 2", Kind::Complete, 2, 0);
-        self.call("pause 1", Kind::Pause, 1, 0);
-        self.call("grow 1 61", Kind::Grow, 1, 61);
-        self.save("save short", 511);
+    /// What calls.c does of a sound card, by the name that it prints.
+    fn named(&mut self, name: &str) {
+        let word = name.split(' ').next().unwrap_or("");
+        let mut numbers = name.split(' ').filter_map(|word| word.parse().ok());
+        match (name, Kind::named(word)) {
+            ("save", _) => self.save(name, 512),
+            ("save short", _) => self.save(name, 511),
+            ("head", _) => self.line(name, format!("{N} {C}")),
+            (_, None) => self.line(word, "is no call of document 01".to_string()),
+            (_, Some(kind)) => {
+                let sheet = if kind.has_sheet() {
+                    numbers.next()
+                } else {
+                    None
+                };
+                let number = numbers.next();
+                self.call(name, kind, sheet.unwrap_or(0), number.unwrap_or(0));
+            }
+        }
     }
 
     fn images(&mut self) {
@@ -220,11 +207,39 @@ fn doses() -> Vec<(&'static str, String)> {
     ]
 }
 
+/// What calls.c should do of a sound card, and does not: every call, and every refusal.
+fn missing(state: &State) -> Vec<String> {
+    let mut wrong = Vec::new();
+    for (kind, name, _) in CALLS {
+        if !state.made.contains(&(kind, 0)) {
+            wrong.push(format!("calls.c makes no call of {name} that is done"));
+        }
+    }
+    for number in REFUSALS {
+        if !state.made.iter().any(|(_, made)| *made == number) {
+            wrong.push(format!(
+                "calls.c makes no call that is refused with {number}"
+            ));
+        }
+    }
+    for name in ["save", "save short", "head"] {
+        if !state.lines.iter().any(|(line, _)| line == name) {
+            wrong.push(format!("calls.c has no line `{name}`"));
+        }
+    }
+    wrong
+}
+
 /// What is wrong in what calls.c printed, and how many lines were compared.
 pub fn compare(printed: &str) -> (Vec<String>, usize) {
     let mut state = State::new();
-    state.course();
-    state.refusals();
+    let names = printed
+        .lines()
+        .map(|line| line.split('\t').next().unwrap_or(""));
+    for name in names.take_while(|name| *name != "load damaged") {
+        state.named(name);
+    }
+    let mut wrong = missing(&state);
     state.images();
     state.blocks();
     for (call, value) in doses() {
@@ -232,7 +247,6 @@ pub fn compare(printed: &str) -> (Vec<String>, usize) {
     }
     state.line("end", String::new());
     let mut lines = printed.lines();
-    let mut wrong = Vec::new();
     for (call, expected) in &state.lines {
         let line = lines.next().unwrap_or("");
         let (name, value) = line.split_once('\t').unwrap_or((line, ""));

@@ -5,72 +5,25 @@
 use crate::figures;
 use std::collections::BTreeMap;
 
-/// The functions of each header, as document 01 and the signatures of the Rattle source have them.
-const HEADERS: [(&str, &[(&str, &str)]); 3] = [
-    (
-        "pagunlit.h",
-        &[
-            ("pagunlit_fresh", "shape blocks map.. catalogue.."),
-            ("pagunlit_search", "shape map.. k"),
-            ("pagunlit_survey", "shape map.."),
-            (
-                "pagunlit_reserve",
-                "shape map.. catalogue.. card.. sheet count",
-            ),
-            (
-                "pagunlit_grow",
-                "shape map.. catalogue.. card.. sheet count",
-            ),
-            (
-                "pagunlit_put",
-                "shape map.. catalogue.. card.. sheet place payload..",
-            ),
-            ("pagunlit_complete", "shape map.. catalogue.. card.. sheet"),
-            ("pagunlit_pause", "shape map.. catalogue.. sheet"),
-            ("pagunlit_release", "shape map.. catalogue.. sheet"),
-            ("pagunlit_standing", "shape map.. catalogue.. sheet"),
-            (
-                "pagunlit_show",
-                "shape map.. catalogue.. card.. sheet place buffer..",
-            ),
-            ("pagunlit_save", "shape map.. catalogue.. scratch.. image.."),
-            ("pagunlit_load", "shape image.. map.. catalogue.. scratch.."),
-            ("pagunlit_read_count", "payload.. which"),
-            ("pagunlit_write_count", "payload.. which hundredths"),
-            ("seal", "sheet place payload.. block.."),
-            ("check", "block.."),
-        ],
-    ),
-    (
-        "pagunlit_text.h",
-        &[
-            ("pagunlit_meaning", "number"),
-            ("pagunlit_image_number", "image.. at"),
-            ("pagunlit_image_blocks", "image.."),
-            ("pagunlit_image_sheets", "image.."),
-        ],
-    ),
-    (
-        "block.h",
-        &[
-            (
-                "seal",
-                "sheet place payload payload_length block block_length",
-            ),
-            ("check", "block block_length"),
-        ],
-    ),
-];
+/// The functions of each header, with the names of their parameters.
+type Functions = BTreeMap<String, Vec<String>>;
 
-/// The parameters in full: a slice is a pointer and its length.
-fn in_full(parameters: &str) -> Vec<String> {
-    parameters
-        .split(' ')
-        .flat_map(|name| match name.strip_suffix("..") {
-            Some(slice) => vec![slice.to_string(), format!("{slice}len")],
-            None => vec![name.to_string()],
-        })
-        .collect()
+/// The functions of each header, as document 01 and the signatures of the Rattle source have them.
+const PROTOTYPES: &str = include_str!("../prototypes.c");
+const HEADERS: [&str; 3] = ["pagunlit.h", "pagunlit_text.h", "block.h"];
+
+/// What prototypes.c has behind a header, its macros written out.
+fn expected(header: &str) -> Functions {
+    let include = format!("#include \"{header}\"\n");
+    let behind = PROTOTYPES.split_once(&include).map_or("", |(_, rest)| rest);
+    let section = behind.split("#include").next().unwrap_or("");
+    let macros = PROTOTYPES
+        .lines()
+        .filter_map(|line| line.strip_prefix("#define ")?.split_once(' '));
+    let section = macros.fold(section.to_string(), |code, (name, text)| {
+        code.replace(name, text)
+    });
+    functions(&section)
 }
 
 /// The text without its comments.
@@ -92,7 +45,7 @@ fn last_name(text: &str) -> &str {
 }
 
 /// The functions that a header declares or defines, outside of all braces, with the names of their parameters.
-fn functions(code: &str) -> BTreeMap<String, Vec<String>> {
+fn functions(code: &str) -> Functions {
     let code: String = code
         .lines()
         .filter(|line| !line.trim_start().starts_with('#'))
@@ -136,14 +89,13 @@ fn constants<'a>(code: &'a str, header: &str) -> Vec<&'a str> {
         .collect()
 }
 
-fn compare_header(header: &str, text: &str, expected: &[(&str, &str)], wrong: &mut Vec<String>) {
+fn compare_header(header: &str, text: &str, expected: &Functions, wrong: &mut Vec<String>) {
     let code = without_comments(text);
     let mut found = functions(&code);
     for (name, parameters) in expected {
-        let parameters = in_full(parameters);
-        match found.remove(*name) {
+        match found.remove(name) {
             None => wrong.push(format!("include/{header} does not declare {name}")),
-            Some(names) if names == parameters => {}
+            Some(names) if names == *parameters => {}
             Some(names) => wrong.push(format!(
                 "include/{header}: {name} has the parameters {}, and should have {}",
                 names.join(", "),
@@ -151,11 +103,9 @@ fn compare_header(header: &str, text: &str, expected: &[(&str, &str)], wrong: &m
             )),
         }
     }
-    wrong.extend(
-        found.keys().map(|name| {
-            format!("include/{header} declares {name}, which tests/header does not know")
-        }),
-    );
+    wrong.extend(found.keys().map(|name| {
+        format!("include/{header} declares {name}, which tests/header/prototypes.c does not have")
+    }));
     let figures = figures::names();
     for name in constants(&code, header) {
         if !figures.contains(&name) && !wrong.iter().any(|line| line.ends_with(name)) {
@@ -170,9 +120,10 @@ fn compare_header(header: &str, text: &str, expected: &[(&str, &str)], wrong: &m
 pub fn compare(folder: &str) -> (Vec<String>, usize) {
     let mut wrong = Vec::new();
     let mut count = 0;
-    for (header, expected) in HEADERS {
+    for header in HEADERS {
+        let expected = expected(header);
         match std::fs::read_to_string(format!("{folder}/{header}")) {
-            Ok(text) => compare_header(header, &text, expected, &mut wrong),
+            Ok(text) => compare_header(header, &text, &expected, &mut wrong),
             Err(error) => wrong.push(format!("include/{header}: {error}")),
         }
         count += expected.len();
@@ -181,6 +132,6 @@ pub fn compare(folder: &str) -> (Vec<String>, usize) {
 }
 
 /// The functions that the library exports.
-pub fn exported() -> Vec<&'static str> {
-    HEADERS[0].1.iter().map(|(name, _)| *name).collect()
+pub fn exported() -> Vec<String> {
+    expected("pagunlit.h").into_keys().collect()
 }

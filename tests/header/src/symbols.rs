@@ -26,12 +26,12 @@ pub fn compare(printed: &str) -> (Vec<String>, usize) {
                 "the archive needs {name}, which docs/C.md does not say"
             ));
         }
-        if kind == "T" && !missing.contains(&name) {
+        if kind == "T" && !missing.iter().any(|wanted| wanted == name) {
             wrong.push(format!(
                 "the archive has the global name {name}, which include/pagunlit.h does not declare"
             ));
         }
-        missing.retain(|wanted| kind != "T" || *wanted != name);
+        missing.retain(|wanted| kind != "T" || wanted != name);
     }
     wrong.extend(
         missing
