@@ -99,6 +99,11 @@ impl Kind {
         self.rows().contains(&NoSheet)
     }
 
+    /// Whether the call has n, k, m or a place.
+    pub fn has_number(self) -> bool {
+        self == Kind::Fresh || self.rows().contains(&NoBlocks) || self.rows().contains(&NoPlace)
+    }
+
     /// Whether the call brings a payload or a buffer.
     pub fn has_slice(self) -> bool {
         self.rows().contains(&SliceLength)
@@ -170,19 +175,19 @@ impl Call {
 
 impl fmt::Display for Call {
     fn fmt(&self, f: &mut fmt::Formatter) -> fmt::Result {
-        let (name, sheet, number) = (self.kind.name(), self.sheet, self.number);
-        let Bytes { seed, length } = self.bytes;
-        match self.kind {
-            Kind::Survey => write!(f, "{name}"),
-            Kind::Fresh | Kind::Search => write!(f, "{name} {number}"),
-            Kind::Reserve | Kind::Grow => write!(f, "{name} {sheet} {number}"),
-            Kind::Put | Kind::Show => {
-                write!(f, "{name} {sheet} {number}, {length} bytes from {seed}")
-            }
-            Kind::Complete | Kind::Pause | Kind::Release | Kind::Standing => {
-                write!(f, "{name} {sheet}")
-            }
+        let kind = self.kind;
+        write!(f, "{}", kind.name())?;
+        if kind.has_sheet() {
+            write!(f, " {}", self.sheet)?;
         }
+        if kind.has_number() {
+            write!(f, " {}", self.number)?;
+        }
+        let Bytes { seed, length } = self.bytes;
+        if kind.has_slice() {
+            write!(f, ", {length} bytes from {seed}")?;
+        }
+        Ok(())
     }
 }
 

@@ -1,9 +1,10 @@
 //! Random calls: mostly those that a dispenser makes of the sheet at hand, as its entry stands, and some with any numbers.
 
 use bitwise::blocks::survey;
-use bitwise::call::{call, Bytes, Call, Kind};
+use bitwise::call::{call, Bytes, Call, Kind, CALLS, PAYLOAD};
 use bitwise::card::{Card, Entry};
 use bitwise::random::Random;
+use bitwise::rows::Row;
 
 pub struct Generator {
     pub random: Random,
@@ -71,23 +72,27 @@ impl Generator {
         }
     }
 
-    /// Any of the calls with any numbers.
+    /// Any of the calls but fresh, with any numbers.
     fn any_call(&mut self, card: &Card) -> Call {
-        let sheet = self.any_sheet(card);
-        match self.random.within(0, 20) {
-            0..=1 => call(Kind::Search, 0, self.any_count(card)),
-            2 => call(Kind::Survey, 0, 0),
-            3..=5 => call(Kind::Reserve, sheet, self.any_count(card)),
-            6..=8 => call(Kind::Grow, sheet, self.any_count(card)),
-            9..=10 => call(Kind::Put, sheet, self.any_place(card, sheet)).with_bytes(self.bytes()),
-            11..=12 => call(Kind::Complete, sheet, 0),
-            13..=14 => call(Kind::Pause, sheet, 0),
-            15..=16 => call(Kind::Release, sheet, 0),
-            17..=18 => {
-                call(Kind::Show, sheet, self.any_place(card, sheet)).with_bytes(self.bytes())
-            }
-            _ => call(Kind::Standing, sheet, 0),
-        }
+        let kind = self.random.one(&CALLS[1..]).0;
+        let sheet = if kind.has_sheet() {
+            self.any_sheet(card)
+        } else {
+            0
+        };
+        let number = if kind.rows().contains(&Row::NoPlace) {
+            self.any_place(card, sheet)
+        } else if kind.has_number() {
+            self.any_count(card)
+        } else {
+            0
+        };
+        let bytes = if kind.has_slice() {
+            self.bytes()
+        } else {
+            PAYLOAD
+        };
+        call(kind, sheet, number).with_bytes(bytes)
     }
 
     // Numbers.
@@ -184,18 +189,22 @@ fn blank_place(card: &Card, entry: Entry) -> Option<u32> {
 /// A call of a kind that is accepted on a card with sheets of every standing, all places filled, and two free blocks or more
 /// behind each extent.
 pub fn accepted(kind: Kind, card: &Card, random: &mut Random) -> Call {
-    let marks: &[u32] = match kind {
-        Kind::Fresh | Kind::Search | Kind::Survey => {
-            return call(kind, 0, whole_number(kind, card, random))
-        }
-        Kind::Reserve | Kind::Pause => &[0x41],
-        Kind::Put | Kind::Grow | Kind::Complete => &[0x4f],
-        Kind::Show => &[0x43],
-        Kind::Release => &[0x50, 0x4f, 0x43],
-        Kind::Standing => &[0x41, 0x50, 0x4f, 0x43],
+    if !kind.has_sheet() {
+        return call(kind, 0, whole_number(kind, card, random));
+    }
+    // The call admits the standings that no row of it refuses.
+    let standings = [
+        (Row::Absent, 0x41),
+        (Row::Paused, 0x50),
+        (Row::Open, 0x4f),
+        (Row::Complete, 0x43),
+    ];
+    let admits = |entry: &Entry| {
+        let standing = standings.iter().find(|(_, mark)| *mark == entry.mark);
+        standing.is_some_and(|(row, _)| !kind.rows().contains(row))
     };
     let sheets: Vec<usize> = (0..card.sheets.len())
-        .filter(|sheet| marks.contains(&card.sheets[*sheet].mark))
+        .filter(|sheet| admits(&card.sheets[*sheet]))
         .collect();
     let sheet = random.one(&sheets);
     let number = match kind {

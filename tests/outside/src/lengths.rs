@@ -120,19 +120,18 @@ pub fn limits(margin: usize, counts: &mut Counts) -> Result<(), String> {
 
 fn at_limits(card: Card, margin: usize, counts: &mut Counts) -> Result<(), String> {
     let (n, last) = (card.n as u32, card.sheets.len() as u32 - 1);
-    let calls = [
-        call(Kind::Search, 0, n),
-        call(Kind::Survey, 0, 0),
-        call(Kind::Standing, last, 0),
-        call(Kind::Reserve, last, n),
-        call(Kind::Put, last, 0),
-        call(Kind::Grow, last, 1),
-        call(Kind::Complete, last, 0),
-        call(Kind::Show, last, 0),
-        call(Kind::Pause, last, 0),
-        call(Kind::Release, last, 0),
-        call(Kind::Fresh, 0, n),
-    ];
+    // Standing first, of an Absent sheet; then all calls, of which the last take back what the others did.
+    let others = CALLS.iter().map(|(kind, ..)| *kind);
+    let others = others.filter(|kind| !matches!(kind, Kind::Release | Kind::Fresh));
+    let kinds = std::iter::once(Kind::Standing).chain(others);
+    let calls = kinds.chain([Kind::Release, Kind::Fresh]).map(|kind| {
+        let sheet = if kind.has_sheet() { last } else { 0 };
+        match kind {
+            Kind::Fresh | Kind::Search | Kind::Reserve => call(kind, sheet, n),
+            Kind::Grow => call(kind, sheet, 1),
+            _ => call(kind, sheet, 0),
+        }
+    });
     let limits = format!("{n} blocks and {} sheets", card.sheets.len());
     let mut beside = Beside::new(card, margin, Compared::All);
     for call in calls {

@@ -3,7 +3,7 @@
 use crate::counts::Counts;
 use crate::damage::MARKS;
 use crate::lengths::one;
-use bitwise::call::{call, Kind, PAYLOAD};
+use bitwise::call::{call, Kind, CALLS, PAYLOAD};
 use bitwise::card::{entry, sealed, Card};
 
 /// Every map, free count, entry and call of cards of up to `most` blocks and one sheet, and for complete and show every
@@ -34,25 +34,20 @@ pub fn states(most: usize, margin: usize, counts: &mut Counts) -> Result<(), Str
 
 fn calls_on_state(card: Card, margin: usize, counts: &mut Counts) -> Result<(), String> {
     let n = card.n as u32;
-    for number in 0..=n + 1 {
-        let calls = [
-            call(Kind::Search, 0, number),
-            call(Kind::Reserve, 0, number),
-            call(Kind::Grow, 0, number),
-            call(Kind::Put, 0, number),
-            call(Kind::Standing, number, 0),
-        ];
-        for call in calls {
-            one(&card, call, margin, counts)?;
+    for (kind, ..) in CALLS {
+        let numbers = match kind {
+            // Of these every choice of blocks is tried below.
+            Kind::Complete | Kind::Show => continue,
+            Kind::Fresh => n..=n,
+            kind if kind.has_number() => 0..=n + 1,
+            _ => 0..=0,
+        };
+        for number in numbers {
+            one(&card, call(kind, 0, number), margin, counts)?;
         }
     }
-    for call in [
-        call(Kind::Survey, 0, 0),
-        call(Kind::Pause, 0, 0),
-        call(Kind::Release, 0, 0),
-        call(Kind::Fresh, 0, n),
-    ] {
-        one(&card, call, margin, counts)?;
+    for sheet in 1..=n + 1 {
+        one(&card, call(Kind::Standing, sheet, 0), margin, counts)?;
     }
     on_all_blocks(card, margin, counts)
 }
