@@ -11,21 +11,18 @@ use store::Store;
 
 pub fn examples() -> String {
     let store = &mut Store::new();
-    let sections = [
+    let first = [
         ("fresh", limits::fresh()),
         ("search and survey", limits::searches()),
-        ("reserve", on_70(filling_calls::RESERVE)),
-        ("put", on_70(filling_calls::PUT)),
-        ("grow", on_70(filling_calls::GROW)),
-        ("complete", on_70(filling_calls::COMPLETE)),
-        ("pause", on_70(other_calls::PAUSE)),
-        ("release", on_70(other_calls::RELEASE)),
-        ("show", on_70(other_calls::SHOW)),
-        ("standing", on_70(other_calls::STANDING)),
+    ];
+    let last = [
         ("word boundaries", limits::BOUNDARIES.to_string()),
         ("numbers of sheets", limits::SHEETS.to_string()),
         ("row 1", limits::row_1()),
     ];
+    let lists = filling_calls::LISTS.iter().chain(other_calls::LISTS);
+    let lists = lists.map(|(name, list)| (*name, on_70(list)));
+    let sections = first.into_iter().chain(lists).chain(last);
     let mut text = String::new();
     for (name, list) in sections {
         text += &format!("== {name}\n");

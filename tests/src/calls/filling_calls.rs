@@ -1,7 +1,14 @@
 //! Lists for the calls that lead to a complete sheet: reserve, put, grow and complete. A line is a call, or with + what no
 //! call does.
 
-pub(super) const RESERVE: &str = "
+pub(super) const LISTS: &[(&str, &str)] = &[
+    ("reserve", RESERVE),
+    ("put", PUT),
+    ("grow", GROW),
+    ("complete", COMPLETE),
+];
+
+const RESERVE: &str = "
     reserve 4 1
     reserve 4294967295 0
     reserve 0 0
@@ -51,7 +58,7 @@ pub(super) const RESERVE: &str = "
     reserve 0 1
 ";
 
-pub(super) const PUT: &str = "
+const PUT: &str = "
     reserve 0 3
     put 0 0 1 496
     put 0 2 255 496
@@ -88,7 +95,7 @@ pub(super) const PUT: &str = "
     put 1 1 9 496
 ";
 
-pub(super) const GROW: &str = "
+const GROW: &str = "
     reserve 0 2
     put 0 1 1 496
     grow 0 3
@@ -135,7 +142,7 @@ pub(super) const GROW: &str = "
     grow 0 1
 ";
 
-pub(super) const COMPLETE: &str = "
+const COMPLETE: &str = "
     complete 4
     reserve 0 3
     complete 0

@@ -1,6 +1,13 @@
 //! Lists for pause, release, show and standing. A line is a call, or with + what no call does.
 
-pub(super) const PAUSE: &str = "
+pub(super) const LISTS: &[(&str, &str)] = &[
+    ("pause", PAUSE),
+    ("release", RELEASE),
+    ("show", SHOW),
+    ("standing", STANDING),
+];
+
+const PAUSE: &str = "
     pause 0
     standing 0
     pause 0
@@ -23,7 +30,7 @@ pub(super) const PAUSE: &str = "
     pause 2
 ";
 
-pub(super) const RELEASE: &str = "
+const RELEASE: &str = "
     release 0
     reserve 0 66
     release 0
@@ -66,7 +73,7 @@ pub(super) const RELEASE: &str = "
     release 3
 ";
 
-pub(super) const SHOW: &str = "
+const SHOW: &str = "
     show 0 0 496
     show 0 0 495
     pause 0
@@ -117,7 +124,7 @@ pub(super) const SHOW: &str = "
     show 3 0 496
 ";
 
-pub(super) const STANDING: &str = "
+const STANDING: &str = "
     standing 0
     standing 4
     standing 4294967295

@@ -20,7 +20,7 @@ fn random_length(x: u64) -> u64 {
     }
 }
 
-/// One of the eight calls, for one of the four sheets or, in 1 case of 16, for none. Places are below 3.
+/// One of the calls of a list, for one of the four sheets or, in 1 case of 16, for none. Places are below 3.
 pub(super) fn random_call(x: u64) -> String {
     let sheet = if x % 16 == 0 { 4 } else { x % 4 };
     let y = x / 1024;
