@@ -1,4 +1,4 @@
-// A line of the list: a word, and the numbers after it.
+// A line of the list: a word, and the numbers after it. The words of the calls are where they are made (example_calls).
 
 // A word is the number that its letters make, 256 for each letter, at most eight of them. The last number of a line is d, the
 // one before it c, and so on; where there are fewer than four the first are 0.
@@ -9,29 +9,6 @@ pub struct Line {
     pub c: u32,
     pub d: u32,
 }
-
-// The calls.
-pub const FRESH: u64 = 0x66_7265_7368;
-
-pub const SEARCH: u64 = 0x7365_6172_6368;
-
-pub const SURVEY: u64 = 0x7375_7276_6579;
-
-pub const RESERVE: u64 = 0x72_6573_6572_7665;
-
-pub const GROW: u64 = 0x6772_6f77;
-
-pub const PUT: u64 = 0x70_7574;
-
-pub const COMPLETE: u64 = 0x636f_6d70_6c65_7465;
-
-pub const PAUSE: u64 = 0x70_6175_7365;
-
-pub const RELEASE: u64 = 0x72_656c_6561_7365;
-
-pub const SHOW: u64 = 0x7368_6f77;
-
-pub const STANDING: u64 = 0x7374_616e_6469_6e67;
 
 // What no call does.
 pub const LEND: u64 = 0x2b_6c65_6e64;

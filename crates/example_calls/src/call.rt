@@ -2,11 +2,33 @@
 ghost use Prim.Native.Nat.{_≤_};
 use crate::lend;
 use card::Shape;
-use example_call_list::line;
 use example_call_list::payload;
 use example_call_list::state;
 use example_call_list::state::Setup;
 use example_call_list::state::Turn;
+
+// The words of the calls (`Line`).
+const FRESH: u64 = 0x66_7265_7368;
+
+const SEARCH: u64 = 0x7365_6172_6368;
+
+const SURVEY: u64 = 0x7375_7276_6579;
+
+const RESERVE: u64 = 0x72_6573_6572_7665;
+
+const GROW: u64 = 0x6772_6f77;
+
+const PUT: u64 = 0x70_7574;
+
+const COMPLETE: u64 = 0x636f_6d70_6c65_7465;
+
+const PAUSE: u64 = 0x70_6175_7365;
+
+const RELEASE: u64 = 0x72_656c_6561_7365;
+
+const SHOW: u64 = 0x7368_6f77;
+
+const STANDING: u64 = 0x7374_616e_6469_6e67;
 
 // The calls that change neither the map nor the card.
 fn look(map: &[u64], card: &[u8], s: Setup) -> Turn
@@ -20,11 +42,11 @@ fn look(map: &[u64], card: &[u8], s: Setup) -> Turn
     };
     let kind = l.word;
     match kind {
-        line::SEARCH => lend::turn_of(shape.search(map, l.d), entries),
-        line::SURVEY => lend::turn_of(shape.survey(map), entries),
-        line::COMPLETE => lend::complete(shape, map, entries, s.sheets, card, l.d),
-        line::PAUSE => lend::pause(shape, map, entries, s.sheets, l.d),
-        line::SHOW => {
+        SEARCH => lend::turn_of(shape.search(map, l.d), entries),
+        SURVEY => lend::turn_of(shape.survey(map), entries),
+        COMPLETE => lend::complete(shape, map, entries, s.sheets, card, l.d),
+        PAUSE => lend::pause(shape, map, entries, s.sheets, l.d),
+        SHOW => {
             let mut array = payload::buffer();
             let all: &mut [u8] = &mut array;
             let k = payload::length(l);
@@ -40,7 +62,7 @@ fn look(map: &[u64], card: &[u8], s: Setup) -> Turn
             );
             payload::shown(turn, all)
         }
-        line::STANDING => lend::standing(shape, map, entries, s.sheets, l.d),
+        STANDING => lend::standing(shape, map, entries, s.sheets, l.d),
         _ => state::none(s),
     }
 }
@@ -56,15 +78,15 @@ fn on_parts(map: &mut [u64], card: &mut [u8], s: Setup) -> Turn
     };
     let kind = l.word;
     match kind {
-        line::FRESH => lend::fresh(shape, l.d, map, entries, s.sheets),
-        line::RESERVE => lend::reserve(shape, map, entries, s.sheets, card, l.c, l.d),
-        line::GROW => lend::grow(shape, map, entries, s.sheets, card, l.c, l.d),
-        line::PUT => {
+        FRESH => lend::fresh(shape, l.d, map, entries, s.sheets),
+        RESERVE => lend::reserve(shape, map, entries, s.sheets, card, l.c, l.d),
+        GROW => lend::grow(shape, map, entries, s.sheets, card, l.c, l.d),
+        PUT => {
             let all = payload::bytes(l);
             let k = payload::length(l);
             lend::put(shape, map, entries, s.sheets, card, l.a, l.b, &all[0..k])
         }
-        line::RELEASE => lend::release(shape, map, entries, s.sheets, l.d),
+        RELEASE => lend::release(shape, map, entries, s.sheets, l.d),
         _ => look(map, card, s),
     }
 }
