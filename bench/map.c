@@ -4,11 +4,9 @@
 #include <stdlib.h>
 #include <string.h>
 
+#include "maps.h"
 #include "plain.h"
-#include "random.h"
 #include "time.h"
-
-enum { BLOCKS = 262144, WORDS = BLOCKS / 64, MAPS = 8 };
 
 // The crate bench_map.
 uint32_t map_bench_search(const uint64_t *map, size_t words, uint32_t n, uint32_t k);
@@ -28,40 +26,6 @@ static uint32_t runs_search(const uint64_t *map, size_t words, uint32_t n, uint3
 static struct counts bits_survey(const uint64_t *map, size_t words, uint32_t n) {
     (void)words;
     return survey_bits(map, n);
-}
-
-// Maps.
-
-// What share of the blocks is free, and the mean length of a free run. The last three are as free as the maps of 003's
-// traces, section 5.2, with runs as long as its mean allocations.
-struct kind {
-    const char *name;
-    double share, mean;
-};
-
-static const struct kind KINDS[] = {
-    {"all taken", 0, 0},
-    {"free and taken by turns", 0.5, 1},
-    {"51 % free in runs of 2.6", 0.51, 2.6},
-    {"38 % free in runs of 2.3", 0.38, 2.3},
-    {"4 % free in runs of 3.6", 0.04, 3.6},
-};
-
-enum { KIND_COUNT = sizeof KINDS / sizeof *KINDS };
-
-static uint64_t maps[MAPS][WORDS];
-
-static void fill(uint64_t *map, struct kind kind) {
-    memset(map, 0, WORDS * sizeof *map);
-    if (kind.share == 0) return;
-    double taken_mean = kind.mean * (1 - kind.share) / kind.share;
-    uint32_t b = chance() < kind.share ? 0 : random_length(taken_mean);
-    while (b < BLOCKS) {
-        for (uint32_t left = random_length(kind.mean); left > 0 && b < BLOCKS; left--, b++) {
-            map[b / 64] |= 1ull << (63 - b % 64);
-        }
-        b += random_length(taken_mean);
-    }
 }
 
 // Jobs: a way over all maps of a kind.

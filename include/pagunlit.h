@@ -60,11 +60,12 @@ enum {
     PAGUNLIT_IS_OPEN = 7,        /* it is Open */
     PAGUNLIT_IS_COMPLETE = 8,    /* it is Complete */
     PAGUNLIT_PLACE_BLANK = 9,    /* complete: a place is blank */
-    PAGUNLIT_NO_FIT = 10,        /* search and reserve: no run of free blocks is long enough */
+    PAGUNLIT_NO_FIT = 10,        /* search and both reserves: no run of free blocks is long enough (within the figures) */
     PAGUNLIT_CANNOT_GROW = 11,   /* grow: the next blocks are not all free and on the card */
     PAGUNLIT_IMAGE_LENGTH = 12,  /* save and load: the image's length */
     PAGUNLIT_IMAGE_FRAME = 13,   /* load: a frame's number, total or check */
     PAGUNLIT_IMAGE_CONTENT = 14, /* load: the contents cannot be */
+    PAGUNLIT_WRONG_FIGURES = 15, /* placed reserve: step is 0, from is not below before, or before is above the blocks */
     PAGUNLIT_WRONG_COUNT = 16    /* dose counts: another digit, a number out of range, or no such count */
 };
 
@@ -129,6 +130,18 @@ pagunlit_outcome pagunlit_survey(pagunlit_shape shape, const uint64_t *map, size
  *   4         count is more than the shape's free count, though there is a run */
 pagunlit_outcome pagunlit_reserve(pagunlit_shape shape, uint64_t *map, size_t maplen, pagunlit_entry *catalogue,
                                   size_t cataloguelen, uint8_t *card, size_t cardlen, uint32_t sheet, uint32_t count);
+
+/* The same with three figures: the lowest run that is long enough, starts at or after `from`, starts on a multiple of `step`,
+ * and whose last block is below `before`. pagunlit_reserve is the one with 0, the card's blocks and 1. first: its start.
+ *   1, 2, 4   as above
+ *   6, 7, 8   the sheet is Paused, Open, Complete
+ *   3         count is 0
+ *   15        step is 0, from is not below before, or before is above the card's blocks
+ *   10        no run of free blocks within the figures is long enough
+ *   4         count is more than the shape's free count, though there is a run */
+pagunlit_outcome pagunlit_reserve_placed(pagunlit_shape shape, uint64_t *map, size_t maplen, pagunlit_entry *catalogue,
+                                         size_t cataloguelen, uint8_t *card, size_t cardlen, uint32_t sheet, uint32_t count,
+                                         uint32_t from, uint32_t before, uint32_t step);
 
 /* An Open sheet gets `count` more blank places, in the blocks after its own, which are filled with zeros.
  *   1, 2, 4   as above

@@ -40,6 +40,8 @@ static inline const char *pagunlit_meaning(uint32_t number)
         return "image frame";
     case PAGUNLIT_IMAGE_CONTENT:
         return "image content";
+    case PAGUNLIT_WRONG_FIGURES:
+        return "placed reserve: step is 0, from >= before or before > n";
     case PAGUNLIT_WRONG_COUNT:
         return "dose counts: another digit in the four bytes read, a number out of range when writing, "
                "or a count number of 124 or more";

@@ -1,7 +1,9 @@
-// Reserve: Absent becomes Open at the least fit. Every block taken is filled with zeros, so that no old seal of the same
+// Reserve: Absent becomes Open at the least fit within the figures. Every block taken is filled with zeros, so that no old seal
+// of the same
 // sheet passes for a new place.
 ghost use mathlib.Core.Path.{_≡_};
 ghost use Rattle.refusals.specs.Lent.{lent};
+ghost use Rattle.refusals.specs.Placement.{placed};
 ghost use Rattle.refusals.specs.Effects.{reserveOut, reserveMap, reserveCard};
 use blocks_of_card::zero_blocks;
 use catalogue::Entry;
@@ -9,6 +11,7 @@ use catalogue::OPEN;
 use catalogue_standings::Answer;
 use map_blocks::run::TAKEN;
 use map_blocks::run::mark;
+use refusals::Figures;
 use refusals::Out;
 use refusals::refusal;
 use refusals_rulings::Ruling;
@@ -23,13 +26,14 @@ pub fn reserve(
     entry: Entry,
     sheet: u32,
     k: u32,
+    figures: Figures,
 ) -> Out
     ensures { λ r. let q = lent n free (now (map .entry)) (now (card .entry)) c entry sheet in
-        ⌜ (r ≡ reserveOut q k)
-        × (now (map .exit) ≡ reserveMap q k)
-        × (now (card .exit) ≡ reserveCard q k) ⌝ }
+        ⌜ (r ≡ reserveOut q k (placed figures))
+        × (now (map .exit) ≡ reserveMap q k (placed figures))
+        × (now (card .exit) ≡ reserveCard q k (placed figures)) ⌝ }
 {
-    match reserve_ruling(n, free, map, card, c, entry, sheet, k) {
+    match reserve_ruling(n, free, map, card, c, entry, sheet, k, figures) {
         Ruling::Refused(row) => refusal(free, entry, row),
         Ruling::At(start) => {
             mark(map, start, k, TAKEN);

@@ -18,8 +18,8 @@ unfoldable pub searchAnswer : ℕ → ℕ → List ℕ → ℕ → Answer
 unfolding shapeFits
 searchAnswer n free map k =
     settle (firstOf (row 1 (not (shapeFits n free (length map))) ∷ row 3 (eqb k 0)
-    ∷ row 10 (none (leastFit (map-blocks.free map) 0 n k)) ∷ []))
-    (Start (startAt (leastFit (map-blocks.free map) 0 n k))) Refused
+    ∷ row 10 (none (leastFit (map-blocks.free map) 0 n 1 k)) ∷ []))
+    (Start (startAt (leastFit (map-blocks.free map) 0 n 1 k))) Refused
 
 unfoldable pub surveyAnswer : ℕ → ℕ → List ℕ → Answer
 unfolding shapeFits

@@ -13,6 +13,7 @@ use Rattle.catalogue_standings.specs.Limits.{freshFits}
 use Rattle.catalogue_standings.specs.Rows.{refused}
 use Rattle.catalogue_standings.specs.declared.Answer.{Answer}
 use Rattle.catalogue_standings.specs.declared.Answer.the-variants.{Done, Blank, Refused}
+use Rattle.refusals.specs.Placement.{plain, placed, figures}
 use Rattle.refusals.specs.Effects as effects
 use Rattle.image_frames.specs.Frames.{Bytes}
 use Rattle.image.specs.Image.{imageOf}
@@ -23,7 +24,8 @@ use Rattle.card.specs.declared.Shape.{Shape}
 use Rattle.refusals.specs.Lent.{Lent, noCard}
 use Rattle.card.specs.Calls.{Kept, lentTo, told, isDone, savedState, saveOutcome, saveImage}
 use Rattle.card.specs.Calls.{loadOutcome, loadMap, loadEntries, loadScratch}
-use Rattle.card.specs.Contracts.{itself, Freshens, Reserves, Grows, Puts, Completes, Shows, Pauses, Releases}
+use Rattle.card.specs.Contracts.{itself, Freshens, Reserves, ReservesPlaced, Grows, Puts, Completes, Shows, Pauses}
+use Rattle.card.specs.Contracts.{Releases}
 use Rattle.card.specs.Contracts.{Saves, Loads}
 use Rattle.card.proofs.Images as images
 use Rattle.card.proofs.Refusals as refusals
@@ -49,10 +51,18 @@ module _ {R : Type 0} (how : Outcome → R) (s : Kept) (sheet number : ℕ) (r :
 
   pub reserve-refused : (k : ℕ) (map′ : List ℕ) (entries′ : List Entry) (card′ : List ℕ)
       → Reserves how s sheet k r map′ entries′ card′
-      → effects.reserveVerdict q k ≡ refused number
+      → effects.reserveVerdict q k plain ≡ refused number
       → (r ≡ how (told (s .shape) (Refused number))) × (map′ ≡ s .map) × (entries′ ≡ s .entries) × (card′ ≡ s .card)
   reserve-refused k map′ entries′ card′ h v =
-      let same = refusals.reserve-refused s sheet number k v in
+      let same = refusals.reserve-refused s sheet number k plain v in
+      (h .0 ∙ ap how (same .0), h .1 ∙ same .1, h .2 ∙ same .2, h .3 ∙ same .3)
+
+  pub reserve-placed-refused : (k from before step : ℕ) (map′ : List ℕ) (entries′ : List Entry) (card′ : List ℕ)
+      → ReservesPlaced how s sheet k from before step r map′ entries′ card′
+      → effects.reserveVerdict q k (placed (figures from before step)) ≡ refused number
+      → (r ≡ how (told (s .shape) (Refused number))) × (map′ ≡ s .map) × (entries′ ≡ s .entries) × (card′ ≡ s .card)
+  reserve-placed-refused k from before step map′ entries′ card′ h v =
+      let same = refusals.reserve-refused s sheet number k (placed (figures from before step)) v in
       (h .0 ∙ ap how (same .0), h .1 ∙ same .1, h .2 ∙ same .2, h .3 ∙ same .3)
 
   pub grow-refused : (m : ℕ) (map′ : List ℕ) (entries′ : List Entry) (card′ : List ℕ)

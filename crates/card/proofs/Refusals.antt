@@ -15,6 +15,7 @@ use Rattle.catalogue.specs.Entries.{entryAt, clearedIf, openMark, completeMark,
 use Rattle.catalogue.specs.declared.Entry.{Entry}
 use Rattle.catalogue.proofs.Storing.{stored-back}
 use Rattle.refusals.specs.Lent.{Lent, noCard}
+use Rattle.refusals.specs.Placement.{Placement}
 use Rattle.refusals.specs.Effects as effects
 use Rattle.catalogue_standings.specs.Limits.{freshFits}
 use Rattle.catalogue_standings.specs.Rows.{Verdict, refused, settle}
@@ -47,14 +48,15 @@ module _ (s : Kept) (sheet number : ℕ) where
   abbrev bare : Lent
   bare = lentTo s noCard sheet
 
-  pub reserve-refused : (k : ℕ) → effects.reserveVerdict q k ≡ refused number
-      → (reserveOutcome s sheet k ≡ told (s .shape) (Refused number))
-      × (reserveMap s sheet k ≡ s .map)
-      × (reserveEntries s sheet k ≡ s .entries)
-      × (reserveCard s sheet k ≡ s .card)
-  unfolding effects.reserveOut effects.reserveMap effects.reserveCard
-  reserve-refused k h =
-      let start : ℕ = effects.reserveStart q k in
+  -- plain and placed
+  pub reserve-refused : (k : ℕ) (p : Placement) → effects.reserveVerdict q k p ≡ refused number
+      → (reserveOutcome s sheet k p ≡ told (s .shape) (Refused number))
+      × (reserveMap s sheet k p ≡ s .map)
+      × (reserveEntries s sheet k p ≡ s .entries)
+      × (reserveCard s sheet k p ≡ s .card)
+  unfolding effects.reserveOut effects.reserveMap effects.reserveCard effects.takenOut effects.takenMap effects.takenCard
+  reserve-refused k p h =
+      let start : ℕ = effects.reserveStart q k p in
       let back =
       handed-back (s .shape) (s .entries) sheet (Refused number) _
       (ap (λ (v : Verdict). settle v (effects.outOf (free - k) (effects.entryOf openMark start k) (Start start))

@@ -15,6 +15,7 @@ use Rattle.catalogue_standings.specs.declared.Answer.{Answer}
 use Rattle.catalogue_standings.specs.declared.Answer.the-variants.{Done, Start, Reads, Counted, Blank, Refused}
 use Rattle.call_search.specs.Answers as whole
 use Rattle.refusals.specs.Lent.{Lent, lent, noCard}
+use Rattle.refusals.specs.Placement.{Placement}
 use Rattle.refusals.specs.Effects as effects
 use Rattle.refusals.specs.declared.Out.{Out}
 use Rattle.image_soundness.specs.Sound.{State}
@@ -97,20 +98,21 @@ module _ (s : Kept) (sheet : ℕ) where
   abbrev lendsNoCard : Lent
   lendsNoCard = lentTo s noCard sheet
 
-  abbrev reserveOut : ℕ → Out
-  reserveOut k = effects.reserveOut lends k
+  -- reserve, plain or placed
+  abbrev reserveOut : ℕ → Placement → Out
+  reserveOut k placement = effects.reserveOut lends k placement
 
-  abbrev pub reserveOutcome : ℕ → Outcome
-  reserveOutcome k = outcomeOf (s .shape) (reserveOut k)
+  abbrev pub reserveOutcome : ℕ → Placement → Outcome
+  reserveOutcome k placement = outcomeOf (s .shape) (reserveOut k placement)
 
-  abbrev pub reserveMap : ℕ → List ℕ
-  reserveMap k = effects.reserveMap lends k
+  abbrev pub reserveMap : ℕ → Placement → List ℕ
+  reserveMap k placement = effects.reserveMap lends k placement
 
-  abbrev pub reserveEntries : ℕ → List Entry
-  reserveEntries k = set (s .entries) sheet (reserveOut k .entry)
+  abbrev pub reserveEntries : ℕ → Placement → List Entry
+  reserveEntries k placement = set (s .entries) sheet (reserveOut k placement .entry)
 
-  abbrev pub reserveCard : ℕ → List ℕ
-  reserveCard k = effects.reserveCard lends k
+  abbrev pub reserveCard : ℕ → Placement → List ℕ
+  reserveCard k placement = effects.reserveCard lends k placement
 
   abbrev growOut : ℕ → Out
   growOut m = effects.growOut lends m

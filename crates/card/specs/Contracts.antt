@@ -8,7 +8,8 @@ use mathlib.Core.List.{List}
 use Prim.Native.Nat.{ℕ}
 use Rattle.catalogue.specs.declared.Entry.{Entry}
 use Rattle.card.specs.Calls.{Kept, freshOutcome, freshMap, freshEntries, searchOutcome, surveyOutcome}
-use Rattle.card.specs.Calls.{reserveOutcome, reserveMap, reserveEntries, reserveCard}
+use Rattle.card.specs.Reserves.{plainOutcome, plainMapLeft, plainEntries, plainCardLeft}
+use Rattle.card.specs.Reserves.{placedOutcome, placedMapLeft, placedEntries, placedCardLeft}
 use Rattle.card.specs.Calls.{growOutcome, growMap, growEntries, growCard}
 use Rattle.card.specs.Calls.{putOutcome, putCard, completeOutcome, completeEntries, showOutcome, showBuffer}
 use Rattle.card.specs.Calls.{pauseOutcome, pauseEntries, releaseOutcome, releaseMap, releaseEntries, standingOutcome}
@@ -41,10 +42,17 @@ module _ {R : Type 0} (how : Outcome → R) (shape : Shape) (map : List ℕ) whe
 module _ {R : Type 0} (how : Outcome → R) (s : Kept) (sheet : ℕ) where
   abbrev pub Reserves : ℕ → R → List ℕ → List Entry → List ℕ → Type 0
   Reserves k r map′ entries′ card′ =
-      (r ≡ how (reserveOutcome s sheet k))
-      × (map′ ≡ reserveMap s sheet k)
-      × (entries′ ≡ reserveEntries s sheet k)
-      × (card′ ≡ reserveCard s sheet k)
+      (r ≡ how (plainOutcome s sheet k))
+      × (map′ ≡ plainMapLeft s sheet k)
+      × (entries′ ≡ plainEntries s sheet k)
+      × (card′ ≡ plainCardLeft s sheet k)
+
+  abbrev pub ReservesPlaced : ℕ → ℕ → ℕ → ℕ → R → List ℕ → List Entry → List ℕ → Type 0
+  ReservesPlaced k from before step r map′ entries′ card′ =
+      (r ≡ how (placedOutcome s sheet k from before step))
+      × (map′ ≡ placedMapLeft s sheet k from before step)
+      × (entries′ ≡ placedEntries s sheet k from before step)
+      × (card′ ≡ placedCardLeft s sheet k from before step)
 
   abbrev pub Grows : ℕ → R → List ℕ → List Entry → List ℕ → Type 0
   Grows m r map′ entries′ card′ =

@@ -4,8 +4,9 @@ ghost use mathlib.Core.Path.{_≡_};
 ghost use Rattle.card.specs.Calls.{outcomeOf, freshOutcomeBy, freshMapBy, saveOutcomeBy, loadOutcomeBy};
 ghost use Rattle.card.specs.Cores.{entryLeft, doneBy, lentAt, putOutcomeAt, showOutcomeAt, standingOutcomeAt};
 ghost use Rattle.card.specs.Cores.{blocksOf, spareOf};
+ghost use Rattle.card.specs.Reserves.{plainOut, plainMap, plainCard, placedOut, placedMap, placedCard};
 ghost use Rattle.refusals.specs.Lent.{noCard};
-ghost use Rattle.refusals.specs.Effects.{reserveOut, reserveMap, reserveCard, growOut, growMap, growCard};
+ghost use Rattle.refusals.specs.Effects.{growOut, growMap, growCard};
 ghost use Rattle.refusals.specs.Effects.{putCard, completeOut, pauseOut, releaseOut, releaseMap, showBuffer};
 use crate::Outcome;
 use crate::Shape;
@@ -13,6 +14,7 @@ use catalogue::Entry;
 use catalogue::Slot;
 use catalogue_standings::Answer;
 use image::Loaded;
+use refusals::Figures;
 use refusals::Out;
 
 pub fn entry_of(out: Out) -> Entry
@@ -70,6 +72,7 @@ pub fn fresh_core(shape: Shape, blocks: u32, map: &mut [u64], count: usize) -> O
     }
 }
 
+// The plain reserve is the one with 0, n and 1.
 pub fn reserve_core(
     shape: Shape,
     map: &mut [u64],
@@ -79,11 +82,35 @@ pub fn reserve_core(
     k: u32,
 ) -> Out
     ensures { λ r. let q = lentAt shape (now (map .entry)) (now (card .entry)) slot sheet in
-        ⌜ (r ≡ reserveOut q k)
-        × (now (map .exit) ≡ reserveMap q k)
-        × (now (card .exit) ≡ reserveCard q k) ⌝ }
+        ⌜ (r ≡ plainOut q k)
+        × (now (map .exit) ≡ plainMap q k)
+        × (now (card .exit) ≡ plainCard q k) ⌝ }
+{
+    reserve_placed_core(shape, map, card, slot, sheet, k, 0, shape.blocks, 1)
+}
+
+pub fn reserve_placed_core(
+    shape: Shape,
+    map: &mut [u64],
+    card: &mut [u8],
+    slot: Slot,
+    sheet: u32,
+    k: u32,
+    from: u32,
+    before: u32,
+    step: u32,
+) -> Out
+    ensures { λ r. let q = lentAt shape (now (map .entry)) (now (card .entry)) slot sheet in
+        ⌜ (r ≡ placedOut q k from before step)
+        × (now (map .exit) ≡ placedMap q k from before step)
+        × (now (card .exit) ≡ placedCard q k from before step) ⌝ }
 {
     let entry = slot.entry;
+    let figures = Figures {
+        from: from,
+        before: before,
+        step: step,
+    };
     call_reserve::reserve::reserve(
         shape.blocks,
         shape.free,
@@ -93,6 +120,7 @@ pub fn reserve_core(
         entry,
         sheet,
         k,
+        figures,
     )
 }
 

@@ -6,6 +6,7 @@ mod cores;
 ghost use mathlib.Core.Bool.{true};
 ghost use mathlib.Core.Path.{_≡_};
 ghost use Rattle.refusals.specs.Lent.{noCard};
+ghost use Rattle.refusals.specs.Placement.{plain, placed, figures};
 ghost use Rattle.card.specs.Calls.{kept, freshOutcome, freshMap, freshEntries, searchOutcome, surveyOutcome};
 ghost use Rattle.card.specs.Calls.{reserveOutcome, reserveMap, reserveEntries, reserveCard, growOutcome, growMap};
 ghost use Rattle.card.specs.Calls.{growEntries, growCard, putOutcome, putCard, completeOutcome, completeEntries};
@@ -99,13 +100,40 @@ impl Shape {
         k: u32,
     ) -> Outcome
         ensures { λ r. let s = kept self (now (map .entry)) (now (catalogue .entry)) (now (card .entry)) in
-            ⌜ (r ≡ reserveOutcome s sheet k)
-            × (now (map .exit) ≡ reserveMap s sheet k)
-            × (now (catalogue .exit) ≡ reserveEntries s sheet k)
-            × (now (card .exit) ≡ reserveCard s sheet k) ⌝ }
+            ⌜ (r ≡ reserveOutcome s sheet k plain)
+            × (now (map .exit) ≡ reserveMap s sheet k plain)
+            × (now (catalogue .exit) ≡ reserveEntries s sheet k plain)
+            × (now (card .exit) ≡ reserveCard s sheet k plain) ⌝ }
     {
         let slot = catalogue::find(&*catalogue, sheet);
         let out = cores::reserve_core(self, map, card, slot, sheet, k);
+        let entry = cores::entry_of(out);
+        catalogue::store(catalogue, sheet, entry);
+        cores::outcome_of(self, out)
+    }
+
+    // The same at the least fit within three figures: it starts at or after `from`, ends at or before `before`, and starts on a
+    // multiple of `step` (document 02, request a).
+    pub fn reserve_placed(
+        self,
+        map: &mut [u64],
+        catalogue: &mut [Entry],
+        card: &mut [u8],
+        sheet: u32,
+        k: u32,
+        from: u32,
+        before: u32,
+        step: u32,
+    ) -> Outcome
+        ensures { λ r. let s = kept self (now (map .entry)) (now (catalogue .entry)) (now (card .entry)) in
+            let p = placed (figures from before step) in
+            ⌜ (r ≡ reserveOutcome s sheet k p)
+            × (now (map .exit) ≡ reserveMap s sheet k p)
+            × (now (catalogue .exit) ≡ reserveEntries s sheet k p)
+            × (now (card .exit) ≡ reserveCard s sheet k p) ⌝ }
+    {
+        let slot = catalogue::find(&*catalogue, sheet);
+        let out = cores::reserve_placed_core(self, map, card, slot, sheet, k, from, before, step);
         let entry = cores::entry_of(out);
         catalogue::store(catalogue, sheet, entry);
         cores::outcome_of(self, out)

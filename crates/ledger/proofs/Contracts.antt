@@ -20,9 +20,11 @@ use Rattle.catalogue_standings.specs.Answers.{numberOf}
 use Rattle.catalogue_standings.specs.Limits.{freshFits, shapeFits, sheetsFit}
 use Rattle.catalogue_standings.specs.declared.Answer.the-variants.{Done, Refused}
 use Rattle.card.specs.Calls.{Kept, kept, told, isDone}
-use Rattle.card.specs.Contracts.{itself, Freshens, Reserves, Grows, Puts, Completes, Shows, Pauses, Releases, TellsStanding}
+use Rattle.card.specs.Contracts.{itself, Freshens, Reserves, ReservesPlaced, Grows, Puts, Completes, Shows, Pauses, Releases}
+use Rattle.card.specs.Contracts.{TellsStanding}
 use Rattle.card.specs.declared.Shape.{Shape}
 use Rattle.card.specs.declared.Outcome.{Outcome}
+use Rattle.refusals.specs.Placement.{plain, placed, figures}
 use Rattle.refusals.specs.Table.{Call, on, reserve, put, grow, complete, pause, release, show, standing}
 use Rattle.ledger.specs.Steps.{Response, endOf, Step, freshState}
 
@@ -47,8 +49,15 @@ met s c r map entries card buffer o m e d b = (
 module _ (s : Kept) (sheet : ℕ) (r : Outcome) where
   pub reserve-step : (k : ℕ) (map : List ℕ) (entries : List Entry) (card : List ℕ)
       → Reserves itself s sheet k r map entries card
-      → Step s (on sheet (reserve k)) (replying r []) (leaving r map entries card)
-  reserve-step k map entries card h = met s (on sheet (reserve k)) r map entries card [] (h .0) (h .1) (h .2) (h .3) refl
+      → Step s (on sheet (reserve k plain)) (replying r []) (leaving r map entries card)
+  reserve-step k map entries card h =
+      met s (on sheet (reserve k plain)) r map entries card [] (h .0) (h .1) (h .2) (h .3) refl
+
+  pub reserve-placed-step : (k from before step : ℕ) (map : List ℕ) (entries : List Entry) (card : List ℕ)
+      → ReservesPlaced itself s sheet k from before step r map entries card
+      → Step s (on sheet (reserve k (placed (figures from before step)))) (replying r []) (leaving r map entries card)
+  reserve-placed-step k from before step map entries card h =
+      met s (on sheet (reserve k (placed (figures from before step)))) r map entries card [] (h .0) (h .1) (h .2) (h .3) refl
 
   pub grow-step : (m : ℕ) (map : List ℕ) (entries : List Entry) (card : List ℕ)
       → Grows itself s sheet m r map entries card

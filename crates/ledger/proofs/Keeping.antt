@@ -97,7 +97,7 @@ module _ (n : ℕ) (l : List Sheet) (card : List ℕ) (k : Matches n l card) (i 
           past (inr r) = after r
 
   -- sheet i had nothing, and takes a fit
-  pub keep-reserve : (m s : ℕ) → sheetAt l i ≡ Absent → 0 < m → fit (freeIn n l) 0 n m s ≡ true
+  pub keep-reserve : (m s : ℕ) → sheetAt l i ≡ Absent → 0 < m → fit (freeIn n l) 0 n 1 m s ≡ true
       → Changed n l i (Open s (replicate m Blank)) (spareIn n l - m) (marked (mapIn n l) s m false) (zeroed card s m)
   keep-reserve m s gone pos f =
       let x : Sheet = Open s (replicate m Blank) in
@@ -168,7 +168,7 @@ module _ (n : ℕ) (l : List Sheet) (card : List ℕ) (k : Matches n l card) (i 
     held-before = ap lengthIn was
 
     -- sheet i takes the blocks after its extent
-    pub keep-grow : (m : ℕ) → 0 < m → fit (freeIn n l) 0 n m (s + length ps) ≡ true
+    pub keep-grow : (m : ℕ) → 0 < m → fit (freeIn n l) 0 n 1 m (s + length ps) ≡ true
         → Changed n l i (Open s (ps ++ replicate m Blank)) (spareIn n l - m) (marked (mapIn n l) (s + length ps) m false)
         (zeroed card (s + length ps) m)
     keep-grow m pos f =

@@ -8,16 +8,11 @@ use native.Mathlib.Omega.{arith}
 use lib.Dec.{leb, ltb}
 use lib.ListN.{length, getD, set}
 use borrow.Author.Tests.{le-ltb, not-false}
-use Rattle.map_blocks.specs.Blocks.{all, fit, leastFit}
-use Rattle.map_blocks.specs.declared.Found.{Found}
-use Rattle.map_blocks.specs.declared.Found.the-variants.{At, Nothing}
-use Rattle.map_blocks.proofs.Least.{least-passes}
+use Rattle.map_blocks.specs.Blocks.{all}
 use Rattle.map_blocks.proofs.Runs.{all-elim}
-use Rattle.catalogue_standings.specs.Searches.{startAt}
 use Rattle.catalogue_standings.specs.Rows.{row, firstOf}
 use Rattle.catalogue_standings.specs.Standings.{isDamaged}
 use Rattle.refusals.specs.Table.{Ask, on, rowsFor, tableOf}
-use Rattle.catalogue_standings.specs.Searches.{none}
 use Rattle.ledger.specs.Ledger.{Place, Blank, Payload, Sheet, Absent, Paused, Open, Complete, standingIn, lengthIn}
 use Rattle.ledger.specs.Ledger.{placesIn, isBlank, bytesOf, sheetAt, placeAt, spareIn, viewIn, verdictIn}
 use Rattle.ledger.proofs.Cover.{held, held-set, spare-and-held}
@@ -41,15 +36,6 @@ sheet-undamaged Absent = refl
 sheet-undamaged Paused = refl
 sheet-undamaged (Open s ps) = refl
 sheet-undamaged (Complete s xs) = refl
-
--- the least fit is a fit, where one was found
-pub found-fit : (f : ℕ → Bool) (n k : ℕ) → none (leastFit f 0 n k) ≡ false → fit f 0 n k (startAt (leastFit f 0 n k)) ≡ true
-unfolding leastFit
-found-fit f n k h = least-passes (fit f 0 n k) 0 n (startAt (leastFit f 0 n k)) (is-found (leastFit f 0 n k) h) .test
-  where
-    is-found : (o : Found) → none o ≡ false → o ≡ At (startAt o)
-    is-found (At s) e = refl
-    is-found Nothing e = absurd (true≢false e)
 
 -- every place of an open sheet is filled, where no place is blank
 pub full : (l : List Sheet) (i s : ℕ) (ps : List Place) → sheetAt l i ≡ Open s ps

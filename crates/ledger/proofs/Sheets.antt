@@ -4,17 +4,18 @@
 use Prim.Native.Nat.{ℕ, zero, suc, _+_, _≤_, _<_}
 use mathlib.Core.Path.{_≡_, refl, ap, subst, _∙_}
 use mathlib.Core.Logic.{_≢_}
-use mathlib.Core.Bool.{Bool, true, false, _&&_, true≢false}
+use mathlib.Core.Bool.{Bool, true, false, true≢false}
 use mathlib.Core.List.{List, [], _∷_, _++_, map}
 use native.Mathlib.Nat.{not-suc-le-zero}
 use native.Mathlib.Omega.{arith}
-use lib.Dec.{eqb, leb, ltb}
+use lib.Dec.{eqb, ltb}
 use lib.ListN.{length, getD, set, replicate, length-set, length-map, length-append, length-replicate}
 use lib.Seq.{getD-set-same, getD-set-other}
 use borrow.Author.Tests.{ltb-true, ltb-false, eqb-true, eqb-false}
-use Rattle.map_blocks.specs.Blocks.{all, fit}
+use Rattle.map_blocks.specs.Blocks.{fit}
 use Rattle.map_blocks.specs.Maps.{inRun}
 use Rattle.laws.proofs.Bools.{and-right}
+use Rattle.map_blocks.proofs.Fits.{fit-is}
 use Rattle.map_blocks.proofs.Runs.{all-elim}
 use Rattle.catalogue_standings.specs.Standings.{isAbsent, isPaused, isOpen, isComplete}
 use Rattle.refusals.proofs.Room.{fit-inside}
@@ -48,12 +49,10 @@ was-complete (Open s ps) a p o = absurd (true≢false o)
 was-complete (Complete s xs) a p o = (s, xs, refl)
 
 -- a fit's blocks are covered by none
-pub fit-free : (n : ℕ) (l : List Sheet) (k s : ℕ) → fit (freeIn n l) 0 n k s ≡ true → (b : ℕ) → s ≤ b → b < s + k
+pub fit-free : (n : ℕ) (l : List Sheet) (k s : ℕ) → fit (freeIn n l) 0 n 1 k s ≡ true → (b : ℕ) → s ≤ b → b < s + k
     → cover l b ≡ 0
-unfolding fit
 fit-free n l k s h b p q =
-    eqb-true (cover l b) 0 (and-right (ltb b n) _
-    (all-elim (freeIn n l) s k (and-right (leb 0 s && leb (s + k) n) (all (freeIn n l) s k) h) b p q))
+    eqb-true (cover l b) 0 (and-right (ltb b n) _ (all-elim (freeIn n l) s k (fit-is (freeIn n l) 0 n 1 k s h .free) b p q))
 
 -- ---- a sheet by itself
 
@@ -158,7 +157,7 @@ module _ (n : ℕ) (l : List Sheet) (ok : Sound n l) (i : ℕ) (lt : i < length 
   sound-same x f e = sound-set x f (λ b. omega (arith, e b, ok .once b))
 
   -- a reserve at a fit
-  pub reserved : (k s : ℕ) → 0 < k → fit (freeIn n l) 0 n k s ≡ true → Sound n (set l i (Open s (replicate k Blank)))
+  pub reserved : (k s : ℕ) → 0 < k → fit (freeIn n l) 0 n 1 k s ≡ true → Sound n (set l i (Open s (replicate k Blank)))
   reserved k s pos f =
       let e : length (replicate k Blank) ≡ k = length-replicate k Blank in
       sound-set (Open s (replicate k Blank))
@@ -177,7 +176,7 @@ module _ (n : ℕ) (l : List Sheet) (ok : Sound n l) (i : ℕ) (lt : i < length 
     before-it = subst (Fine n) was (ok .fine i)
 
     -- a grow at the blocks after the extent
-    pub grown : (m : ℕ) → 0 < m → fit (freeIn n l) 0 n m (s + length ps) ≡ true
+    pub grown : (m : ℕ) → 0 < m → fit (freeIn n l) 0 n 1 m (s + length ps) ≡ true
         → Sound n (set l i (Open s (ps ++ replicate m Blank)))
     grown m pos f =
         sound-set (Open s (ps ++ replicate m Blank))

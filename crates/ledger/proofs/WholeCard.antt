@@ -24,7 +24,7 @@ use Rattle.catalogue_standings.specs.Searches.{none, startAt}
 use Rattle.catalogue_standings.specs.declared.Answer.{Answer}
 use Rattle.catalogue_standings.specs.declared.Answer.the-variants.{Start, Counted, Refused}
 use Rattle.call_search.specs.Answers.{searchAnswer, surveyAnswer}
-use Rattle.refusals.proofs.Room.{fit-inside}
+use Rattle.map_blocks.proofs.Fits.{fit-is}
 use Rattle.card.specs.Calls.{told}
 use Rattle.card.specs.Contracts.{itself, Searches, Surveys}
 use Rattle.card.specs.declared.Outcome.{Outcome}
@@ -50,10 +50,10 @@ module _ (shape : Shape) (map : List ℕ) (fits : shapeFits (shape .blocks) (sha
 
   module _ (k : ℕ) (some : 1 ≤ k) where
     abbrev fits-at : ℕ → Bool
-    fits-at = fit free 0 n k
+    fits-at = fit free 0 n 1 k
 
     beyond : (s : ℕ) → n ≤ s → fits-at s ≡ false
-    beyond s le = not-true _ (λ q. omega (arith, fit-inside free n k s q))
+    beyond s le = not-true _ (λ q. omega (arith, fit-is free 0 n 1 k s q .high))
 
     by-found : (o : Found) → toldOf (answerBy false false o) ≡ tellsBy fits-at n beyond (verdictBy fits-at n beyond o) o 0
     unfolding firstOf

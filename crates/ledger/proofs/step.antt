@@ -24,7 +24,7 @@ use Show.{show-result}
 use Standing.{standing-result}
 
 pub result : (n : ℕ) (l : List Sheet) (card : List ℕ) → Matches n l card → (c : Call) → Result n l card c (verdictIn n l c)
-result n l card k (on i (reserve m)) = reserve-result n l card k i m
+result n l card k (on i (reserve m placement)) = reserve-result n l card k i m placement
 result n l card k (on i (put p payload)) = put-result n l card k i p payload
 result n l card k (on i (grow m)) = grow-result n l card k i m
 result n l card k (on i complete) = complete-result n l card k i

@@ -94,6 +94,7 @@ module _ (p : ℕ → Bool) where
       moved : (s m : ℕ) → suc s + m ≡ s + suc m
       moved s m = omega arith
 
+-- two tests that agree
 pub least-same : (p q : ℕ → Bool) (s m : ℕ) → ((t : ℕ) → s ≤ t → t < s + m → p t ≡ q t) → least p s m ≡ least q s m
 unfolding least
 least-same p q s zero h = refl

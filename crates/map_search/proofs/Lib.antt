@@ -1,3 +1,3 @@
 -- Laws that the proofs of several functions cite.
-mod Window
-mod Words
+pub mod Window
+pub mod Words

@@ -15,7 +15,8 @@ use Rattle.map_blocks.specs.declared.Found.{Found}
 use Rattle.map_blocks.specs.declared.Found.the-variants.{At, Nothing}
 use Rattle.map_search_word.specs.Scan.{Carried}
 use Rattle.map_search.specs.Search.{HasBits, Finds}
-use Rattle.laws.proofs.Bools.{and-left, and-right, and-both, not-true, clash, order}
+use Rattle.laws.proofs.Bools.{and-left, and-right, and-both, clash, order}
+use Rattle.map_blocks.proofs.Fits.{Fits, is-fit, no-fit, on-one}
 use Rattle.map_blocks.proofs.Maps.{free-bit}
 use Rattle.map_blocks.proofs.Least.{least-at, least-none}
 use Rattle.map_blocks.proofs.Runs.{all-intro, all-elim, all-break}
@@ -25,7 +26,7 @@ module _ (g : ℕ → Bool) (from before : ℕ) where
   outside-before : (b : ℕ) → b < from → inWindow g from before b ≡ false
   outside-before b l = ap (λ (x : Bool). (x && ltb b before) && g b) (lt-leb from b l)
 
-  outside-after : (b : ℕ) → before ≤ b → inWindow g from before b ≡ false
+  pub outside-after : (b : ℕ) → before ≤ b → inWindow g from before b ≡ false
   outside-after b l = ap (λ (x : Bool). (leb from b && x) && g b) (le-ltb b before l) ∙ none (leb from b) (g b)
     where
       none : (x y : Bool) → ((x && false) && y) ≡ false
@@ -50,7 +51,7 @@ module _ (g : ℕ → Bool) (from before : ℕ) where
 
   -- ---- runs within the window are fits
 
-  run-fit : (k t : ℕ) → 0 < k → all (inWindow g from before) t k ≡ true → (from ≤ t) × (t + k ≤ before) × (all g t k ≡ true)
+  pub run-fit : (k t : ℕ) → 0 < k → all (inWindow g from before) t k ≡ true → (from ≤ t) × (t + k ≤ before) × (all g t k ≡ true)
   run-fit k t h e =
       let parts : (b : ℕ) → t ≤ b → b < t + k → inWindow g from before b ≡ true =
       λ b l u. all-elim (inWindow g from before) t k e b l u in
@@ -63,33 +64,29 @@ module _ (g : ℕ → Bool) (from before : ℕ) where
       (and-left (leb from q && ltb q before) (g q) (parts q (omega arith) (omega arith)))) in
       (lo, omega arith, all-intro g t k (λ b l u. and-right (leb from b && ltb b before) (g b) (parts b l u)))
 
-  fit-run : (k t : ℕ) → fit g from before k t ≡ true → all (inWindow g from before) t k ≡ true
-  unfolding fit
-  fit-run k t e =
-      let a : from ≤ t =
-      leb-true from t (and-left (leb from t) (leb (t + k) before)
-      (and-left (leb from t && leb (t + k) before) (all g t k) e)) in
-      let b : t + k ≤ before = leb-true (t + k) before
-      (and-right (leb from t) (leb (t + k) before) (and-left (leb from t && leb (t + k) before) (all g t k) e)) in
+  pub fit-run : (step k t : ℕ) → Fits g from before step k t → all (inWindow g from before) t k ≡ true
+  fit-run step k t h =
+      let a : from ≤ t = h .low in
+      let b : t + k ≤ before = h .high in
       all-intro (inWindow g from before) t k (λ c l u.
       and-both (leb from c && ltb c before) (g c) (and-both (leb from c) (ltb c before) (le-leb from c (omega arith))
       (lt-ltb c before (omega arith)))
-      (all-elim g t k (and-right (leb from t && leb (t + k) before) (all g t k) e) c l u))
+      (all-elim g t k (h .free) c l u))
 
-  no-fit : (k t : ℕ) → all (inWindow g from before) t k ≡ false → fit g from before k t ≡ false
-  no-fit k t e = not-true (fit g from before k t) (λ p. clash (all (inWindow g from before) t k) (fit-run k t p) e)
+  no-run : (step k t : ℕ) → all (inWindow g from before) t k ≡ false → fit g from before step k t ≡ false
+  no-run step k t e =
+      no-fit g from before step k t (λ h. clash (all (inWindow g from before) t k) (fit-run step k t h) e)
 
   -- what a search has found is the least fit
-  pub told-least : (k : ℕ) → 0 < k → (r : Found) → Finds (inWindow g from before) k r → r ≡ leastFit g from before k
-  unfolding leastFit fit
+  pub told-least : (k : ℕ) → 0 < k → (r : Found) → Finds (inWindow g from before) k r → r ≡ leastFit g from before 1 k
+  unfolding leastFit
   told-least k h (At s) told =
       let run = run-fit k s h (told .fits) in
       let u : s + k ≤ before = run .1 in
-      sym (least-at (fit g from before k) 0 before s (omega arith) (omega arith)
-      (and-both (leb from s && leb (s + k) before) (all g s k)
-      (and-both (leb from s) (leb (s + k) before) (le-leb from s (run .0)) (le-leb (s + k) before u)) (run .2))
-      (λ t a b. no-fit k t (told .none t b)))
-  told-least k h Nothing told = sym (least-none (fit g from before k) 0 before (λ t a b. no-fit k t (told t)))
+      sym (least-at (fit g from before 1 k) 0 before s (omega arith) (omega arith)
+      (is-fit g from before 1 k s (record { low = run .0; high = u; free = run .2; placed = on-one s }))
+      (λ t a b. no-run 1 k t (told .none t b)))
+  told-least k h Nothing told = sym (least-none (fit g from before 1 k) 0 before (λ t a b. no-run 1 k t (told t)))
 
 -- the words that lie in the window whole
 pub whole-words : (map : List ℕ) (from before first stop : ℕ) → from ≤ first * 64 → stop * 64 ≤ before

@@ -49,7 +49,7 @@ fn scan_words(map: &[u64], first: usize, stop: usize, s: u32, k: u32, core: u64)
 }
 
 // The eight words from i on, or-ed together: 0 only where each of them is.
-fn any_free(map: &[u64], i: usize) -> u64
+pub fn any_free(map: &[u64], i: usize) -> u64
     requires { ⌜ (i ≤ 4096) × (i + 8 ≤ length (now map)) ⌝ }
     ensures { λ r. ⌜ (r ≡ 0 → (t : ℕ) → i ≤ t → t < i + 8 → getD (now (map .entry)) t 0 ≡ 0) ⌝ }
 {
@@ -87,7 +87,7 @@ fn skip_taken(map: &[u64], first: usize, stop: usize, s: u32) -> Position
 }
 
 // The end of the group of words that starts at word i: eight words, or fewer before stop.
-fn group_end(i: usize, stop: usize) -> usize
+pub fn group_end(i: usize, stop: usize) -> usize
     requires { ⌜ (i < stop) × (stop ≤ 4096) ⌝ }
     ensures { λ r. ⌜ (i < r) × (r ≤ stop) ⌝ }
 {
@@ -177,11 +177,12 @@ fn reach(map: &[u64], from: u32, before: u32) -> Reached
     Reached { word: i, bits: w }
 }
 
-// The least fit for k within the window. The word reached first is looked at before anything else is worked out: for few
+// The least fit for k within the window, wherever it starts: the one with a step of 1. The word reached first is looked at
+// before anything else is worked out: for few
 // blocks the search is mostly over there.
 pub fn search(map: &[u64], from: u32, before: u32, k: u32) -> Found
     requires { ⌜ (before ≤ 262144) × (before ≤ 64 * length (now map)) × (0 < k) ⌝ }
-    ensures { λ r. ⌜ r ≡ leastFit (free (now (map .entry))) from before k ⌝ }
+    ensures { λ r. ⌜ r ≡ leastFit (free (now (map .entry))) from before 1 k ⌝ }
 {
     if before <= from {
         return Found::Nothing;

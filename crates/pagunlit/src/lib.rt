@@ -7,6 +7,7 @@ ghost use Rattle.counts.specs.Counts.{readOf, writeAnswer, afterWrite};
 ghost use Rattle.counts.specs.Replies.{countReply, countFrom};
 ghost use Rattle.pagunlit_replies.specs.Replies.{replyOf};
 ghost use Rattle.refusals.specs.Lent.{noCard};
+ghost use Rattle.refusals.specs.Placement.{plain, placed, figures};
 ghost use Rattle.card.specs.Calls.{kept, freshOutcome, freshMap, freshEntries, searchOutcome, surveyOutcome, reserveOutcome};
 ghost use Rattle.card.specs.Calls.{reserveMap, reserveEntries, reserveCard, growOutcome, growMap, growEntries, growCard};
 ghost use Rattle.card.specs.Calls.{putOutcome, putCard, completeOutcome, completeEntries, pauseOutcome, pauseEntries};
@@ -59,12 +60,35 @@ pub extern "C" fn pagunlit_reserve(
     count: u32,
 ) -> Reply
     ensures { λ r. let s = kept shape (now (map .entry)) (now (catalogue .entry)) (now (card .entry)) in
-        ⌜ (r ≡ replyOf (reserveOutcome s sheet count))
-        × (now (map .exit) ≡ reserveMap s sheet count)
-        × (now (catalogue .exit) ≡ reserveEntries s sheet count)
-        × (now (card .exit) ≡ reserveCard s sheet count) ⌝ }
+        ⌜ (r ≡ replyOf (reserveOutcome s sheet count plain))
+        × (now (map .exit) ≡ reserveMap s sheet count plain)
+        × (now (catalogue .exit) ≡ reserveEntries s sheet count plain)
+        × (now (card .exit) ≡ reserveCard s sheet count plain) ⌝ }
 {
     let outcome = shape.reserve(map, catalogue, card, sheet, count);
+    reply_of(outcome)
+}
+
+#[no_mangle]
+pub extern "C" fn pagunlit_reserve_placed(
+    shape: Shape,
+    map: &mut [u64],
+    catalogue: &mut [Entry],
+    card: &mut [u8],
+    sheet: u32,
+    count: u32,
+    from: u32,
+    before: u32,
+    step: u32,
+) -> Reply
+    ensures { λ r. let s = kept shape (now (map .entry)) (now (catalogue .entry)) (now (card .entry)) in
+        let p = placed (figures from before step) in
+        ⌜ (r ≡ replyOf (reserveOutcome s sheet count p))
+        × (now (map .exit) ≡ reserveMap s sheet count p)
+        × (now (catalogue .exit) ≡ reserveEntries s sheet count p)
+        × (now (card .exit) ≡ reserveCard s sheet count p) ⌝ }
+{
+    let outcome = shape.reserve_placed(map, catalogue, card, sheet, count, from, before, step);
     reply_of(outcome)
 }
 

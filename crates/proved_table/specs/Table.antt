@@ -19,7 +19,7 @@ use Rattle.image.specs.Image.{entryBytes, body, imageOf}
 
 -- The answer of a search for k in a card of n blocks, with a map of w words and block b free where f b.
 abbrev pub answer : ℕ → ℕ → (ℕ → Bool) → ℕ → Found
-answer n w f k = leastFit (free (mapOf f w)) 0 n k
+answer n w f k = leastFit (free (mapOf f w)) 0 n 1 k
 
 -- The fresh state of n = 64, c = 1: all blocks free, the sheet Absent.
 abbrev pub freshState : State

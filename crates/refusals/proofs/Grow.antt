@@ -5,10 +5,12 @@ use mathlib.Core.Bool.{true, false, not}
 use mathlib.Core.List.{List, [], _∷_}
 use Prim.Native.Nat.{ℕ, _+_, _≤_, _<_, _-_}
 use native.Mathlib.Omega.{arith}
-use borrow.Author.Tests.{eq-eqb, ne-eqb, lt-ltb, le-ltb, le-leb, lt-leb}
+use borrow.Author.Tests.{eq-eqb, ne-eqb, lt-ltb, le-ltb}
 use lib.Dec.{eqb, ltb}
 use Rattle.catalogue.specs.Entries.{openMark}
 use Rattle.map_blocks.specs.Blocks.{all, fit, free}
+use Rattle.laws.proofs.Bools.{clash}
+use Rattle.map_blocks.proofs.Fits.{is-fit, no-fit, on-one}
 use Rattle.refusals.specs.Effects.{growVerdict, entryOf, outOf, refusalOut, growOut, growMap, growCard}
 use Rattle.catalogue_standings.specs.Openings.{rowOf}
 use Rattle.catalogue_standings.specs.Rows.{Row, row, Verdict, accepted, refused, firstOf, settle}
@@ -41,7 +43,7 @@ module _ (q : Lent) (m : ℕ) where
 
   -- the rows behind the standing's, for an extent that ends at `end`: 3, 11 and 4 for the count
   abbrev pub rest : ℕ → List Row
-  rest end = row 3 (eqb m 0) ∷ row 11 (not (fit (free (q .map)) 0 (q .n) m end)) ∷ row 4 (ltb (q .spare) m) ∷ []
+  rest end = row 3 (eqb m 0) ∷ row 11 (not (fit (free (q .map)) 0 (q .n) 1 m end)) ∷ row 4 (ltb (q .spare) m) ∷ []
 
   pub admitted : (start blocks : ℕ) → first q ≡ Stands (Open start blocks) → growVerdictOn q m ≡ firstOf (rest (start + blocks))
   unfolding growVerdict viewOn tableOf
@@ -54,18 +56,18 @@ module _ (q : Lent) (m : ℕ) where
   no-blocks end z = stop 3 _ _ (eq-eqb m 0 z)
 
   pub past-end : (end : ℕ) → (m ≡ 0 → ⊥) → q .n < end + m → firstOf (rest end) ≡ refused 11
-  unfolding fit
-  past-end end z l = skip 3 _ _ _ (ne-eqb m 0 z) (stop 11 _ _ (simp (le-leb 0 end (omega arith), lt-leb (end + m) (q .n) l)))
+  past-end end z l = skip 3 _ _ _ (ne-eqb m 0 z) (stop 11 _ _ (ap not (no-fit (free (q .map)) 0 (q .n) 1 m end
+      (λ f. let h : end + m ≤ q .n = f .high in absurd (omega arith)))))
 
   pub some-taken : (end : ℕ) → (m ≡ 0 → ⊥) → end + m ≤ q .n → all (free (q .map)) end m ≡ false
       → firstOf (rest end) ≡ refused 11
-  unfolding fit
-  some-taken end z l t = skip 3 _ _ _ (ne-eqb m 0 z)
-      (stop 11 _ _ (simp (le-leb 0 end (omega arith), le-leb (end + m) (q .n) l, t)))
+  some-taken end z l t = skip 3 _ _ _ (ne-eqb m 0 z) (stop 11 _ _ (ap not (no-fit (free (q .map)) 0 (q .n) 1 m end
+      (λ f. clash (all (free (q .map)) end m) (f .free) t))))
 
-  pub fits : (end : ℕ) → end + m ≤ q .n → all (free (q .map)) end m ≡ true → not (fit (free (q .map)) 0 (q .n) m end) ≡ false
-  unfolding fit
-  fits end l t = simp (le-leb 0 end (omega arith), le-leb (end + m) (q .n) l, t)
+  pub fits : (end : ℕ) → end + m ≤ q .n → all (free (q .map)) end m ≡ true
+      → not (fit (free (q .map)) 0 (q .n) 1 m end) ≡ false
+  fits end l t = ap not (is-fit (free (q .map)) 0 (q .n) 1 m end
+      (record { low = omega arith; high = l; free = t; placed = on-one end }))
 
   pub too-few : (end : ℕ) → (m ≡ 0 → ⊥) → end + m ≤ q .n → all (free (q .map)) end m ≡ true → q .spare < m
       → firstOf (rest end) ≡ refused 4

@@ -2,6 +2,7 @@
 pub mod Rows
 pub mod Admitted
 pub mod Lent
+pub mod Placement
 pub mod Places
 pub mod Room
 pub mod Reserve

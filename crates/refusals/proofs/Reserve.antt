@@ -1,17 +1,19 @@
 -- What the rows of reserve and its effects say: the verdict in each case, and what the call then hands back and leaves.
 -- Assumes nothing.
-use mathlib.Core.Path.{_≡_, sym, ap, _∙_}
+use mathlib.Core.Path.{_≡_, refl, sym, ap, _∙_}
 use mathlib.Core.List.{List, [], _∷_}
 use Prim.Native.Nat.{ℕ, _≤_, _<_, _-_}
 use borrow.Author.Tests.{eq-eqb, ne-eqb, lt-ltb, le-ltb}
 use lib.Dec.{eqb, ltb}
 use Rattle.catalogue.specs.Entries.{openMark}
-use Rattle.map_blocks.specs.Blocks.{free, leastFit}
+use Rattle.map_blocks.specs.Blocks.{free}
 use Rattle.map_blocks.specs.declared.Found.{Found}
 use Rattle.map_blocks.specs.declared.Found.the-variants.{At, Nothing}
 use Rattle.catalogue_standings.specs.Searches.{startAt, none}
 use Rattle.refusals.specs.Effects.{reserveVerdict, reserveStart, entryOf, outOf, refusalOut, reserveOut, reserveMap}
-use Rattle.refusals.specs.Effects.{reserveCard}
+use Rattle.refusals.specs.Effects.{reserveCard, takenOut, takenMap, takenCard}
+use Rattle.refusals.specs.Placement.{Placement, plain, placed, figures, figuresIn, misfigured, leastWithin}
+use Rattle.refusals.specs.declared.Figures.{Figures}
 use Rattle.catalogue_standings.specs.Openings.{rowOf}
 use Rattle.catalogue_standings.specs.Rows.{Row, row, Verdict, accepted, refused, firstOf, settle}
 use Rattle.refusals.specs.Table.{tableOf}
@@ -24,7 +26,7 @@ use Rattle.refusals.specs.Lent.{Lent}
 use Rattle.refusals.proofs.Lent.{first}
 use Rattle.catalogue_standings.proofs.Openings.{Not, closed, skip, stop, none-left}
 use Rattle.refusals.proofs.Room.{reserveVerdictOn, reserveStartOn}
-use mathlib.Core.Bool.{false}
+use mathlib.Core.Bool.{true, false}
 use Rattle.map_blocks.specs.Maps.{marked}
 use Rattle.blocks_of_card.specs.Card.{zeroed}
 use Rattle.catalogue_standings.specs.declared.Answer.the-variants.{Start}
@@ -32,76 +34,86 @@ use Rattle.refusals.specs.declared.Out.{Out}
 
 -- ---- the verdict in each case
 
-module _ (q : Lent) (k : ℕ) where
-  pub shut : (number : ℕ) → first q ≡ Refused number → reserveVerdictOn q k ≡ refused number
+module _ (q : Lent) (k : ℕ) (p : Placement) where
+  pub shut : (number : ℕ) → first q ≡ Refused number → reserveVerdictOn q k p ≡ refused number
   unfolding reserveVerdict viewOn tableOf
   shut number h = closed _ _ _ _ _ number h
 
-  pub other : (s : Standing) → first q ≡ Stands s → Not (1 ∷ 2 ∷ 3 ∷ 4 ∷ []) s → reserveVerdictOn q k ≡ refused (rowOf s)
+  pub other : (s : Standing) → first q ≡ Stands s → Not (1 ∷ 2 ∷ 3 ∷ 4 ∷ []) s → reserveVerdictOn q k p ≡ refused (rowOf s)
   unfolding reserveVerdict viewOn tableOf
   other s h differs = absent-else _ _ _ _ _ s h differs
 
+  abbrev pub figured : Figures
+  figured = figuresIn (q .n) p
+
   abbrev pub found : Found
-  found = leastFit (free (q .map)) 0 (q .n) k
+  found = leastWithin (free (q .map)) figured k
 
-  -- the rows behind the standing's: 3, 10 and 4 for the count
+  -- the rows behind the standing's: 3, 15, 10 and 4 for the count
   abbrev pub rest : List Row
-  rest = row 3 (eqb k 0) ∷ row 10 (none found) ∷ row 4 (ltb (q .spare) k) ∷ []
+  rest = row 3 (eqb k 0) ∷ row 15 (misfigured (q .n) figured) ∷ row 10 (none found) ∷ row 4 (ltb (q .spare) k) ∷ []
 
-  pub admitted : first q ≡ Stands Absent → reserveVerdictOn q k ≡ firstOf rest
+  pub admitted : first q ≡ Stands Absent → reserveVerdictOn q k p ≡ firstOf rest
   unfolding reserveVerdict viewOn tableOf
   admitted h = absent-passes _ _ _ _ _ h
 
   pub no-blocks : k ≡ 0 → firstOf rest ≡ refused 3
   no-blocks z = stop 3 _ _ (eq-eqb k 0 z)
 
-  pub no-fit : (k ≡ 0 → ⊥) → found ≡ Nothing → firstOf rest ≡ refused 10
-  no-fit z f = skip 3 _ _ _ (ne-eqb k 0 z) (stop 10 _ _ (ap none f))
+  pub wrong-figures : (k ≡ 0 → ⊥) → misfigured (q .n) figured ≡ true → firstOf rest ≡ refused 15
+  wrong-figures z w = skip 3 _ _ _ (ne-eqb k 0 z) (stop 15 _ _ w)
 
-  pub too-few : (s : ℕ) → (k ≡ 0 → ⊥) → found ≡ At s → q .spare < k → firstOf rest ≡ refused 4
-  too-few s z f l = skip 3 _ _ _ (ne-eqb k 0 z) (skip 10 _ _ _ (ap none f) (stop 4 _ _ (lt-ltb (q .spare) k l)))
+  pub no-fit : (k ≡ 0 → ⊥) → misfigured (q .n) figured ≡ false → found ≡ Nothing → firstOf rest ≡ refused 10
+  no-fit z w f = skip 3 _ _ _ (ne-eqb k 0 z) (skip 15 _ _ _ w (stop 10 _ _ (ap none f)))
 
-  pub passes : (s : ℕ) → (k ≡ 0 → ⊥) → found ≡ At s → k ≤ q .spare → firstOf rest ≡ accepted
-  passes s z f l = skip 3 _ _ _ (ne-eqb k 0 z) (skip 10 _ _ _ (ap none f) (skip 4 _ _ _ (le-ltb (q .spare) k l) none-left))
+  pub too-few : (s : ℕ) → (k ≡ 0 → ⊥) → misfigured (q .n) figured ≡ false → found ≡ At s → q .spare < k
+      → firstOf rest ≡ refused 4
+  too-few s z w f l = skip 3 _ _ _ (ne-eqb k 0 z)
+      (skip 15 _ _ _ w (skip 10 _ _ _ (ap none f) (stop 4 _ _ (lt-ltb (q .spare) k l))))
 
-  pub starts : (s : ℕ) → found ≡ At s → s ≡ reserveStartOn q k
+  pub passes : (s : ℕ) → (k ≡ 0 → ⊥) → misfigured (q .n) figured ≡ false → found ≡ At s → k ≤ q .spare
+      → firstOf rest ≡ accepted
+  passes s z w f l = skip 3 _ _ _ (ne-eqb k 0 z)
+      (skip 15 _ _ _ w (skip 10 _ _ _ (ap none f) (skip 4 _ _ _ (le-ltb (q .spare) k l) none-left)))
+
+  pub starts : (s : ℕ) → found ≡ At s → s ≡ reserveStartOn q k p
   unfolding reserveStart
   starts s f = sym (ap startAt f)
 
 -- ---- what the call then hands back and leaves
 
-module _ (q : Lent) (k : ℕ) where
+module _ (q : Lent) (k : ℕ) (p : Placement) where
   -- what the call hands back and leaves
   abbrev pub Leaves : Out → List ℕ → List ℕ → Type 0
   Leaves r map card =
-      (r ≡ reserveOut q k)
-      × (map ≡ reserveMap q k)
-      × (card ≡ reserveCard q k)
+      (r ≡ reserveOut q k p)
+      × (map ≡ reserveMap q k p)
+      × (card ≡ reserveCard q k p)
 
   -- each after its verdict
-  pub out : (v : Verdict) → reserveVerdictOn q k ≡ v
-      → settle v (outOf (q .spare - k) (entryOf openMark (reserveStartOn q k) k) (Start (reserveStartOn q k)))
-      (refusalOut (q .spare) (q .entry)) ≡ reserveOut q k
-  unfolding reserveOut
+  pub out : (v : Verdict) → reserveVerdictOn q k p ≡ v
+      → settle v (outOf (q .spare - k) (entryOf openMark (reserveStartOn q k p) k) (Start (reserveStartOn q k p)))
+      (refusalOut (q .spare) (q .entry)) ≡ reserveOut q k p
+  unfolding reserveOut takenOut
   out v h =
-      ap (λ (w : Verdict). settle w (outOf (q .spare - k) (entryOf openMark (reserveStartOn q k) k)
-      (Start (reserveStartOn q k))) (refusalOut (q .spare) (q .entry))) (sym h)
+      ap (λ (w : Verdict). settle w (outOf (q .spare - k) (entryOf openMark (reserveStartOn q k p) k)
+      (Start (reserveStartOn q k p))) (refusalOut (q .spare) (q .entry))) (sym h)
 
-  pub map-after : (v : Verdict) → reserveVerdictOn q k ≡ v
-      → settle v (marked (q .map) (reserveStartOn q k) k false) (λ number. q .map) ≡ reserveMap q k
-  unfolding reserveMap
-  map-after v h = ap (λ (w : Verdict). settle w (marked (q .map) (reserveStartOn q k) k false) (λ number. q .map)) (sym h)
+  pub map-after : (v : Verdict) → reserveVerdictOn q k p ≡ v
+      → settle v (marked (q .map) (reserveStartOn q k p) k false) (λ number. q .map) ≡ reserveMap q k p
+  unfolding reserveMap takenMap
+  map-after v h = ap (λ (w : Verdict). settle w (marked (q .map) (reserveStartOn q k p) k false) (λ number. q .map)) (sym h)
 
-  pub card-after : (v : Verdict) → reserveVerdictOn q k ≡ v
-      → settle v (zeroed (q .card) (reserveStartOn q k) k) (λ number. q .card) ≡ reserveCard q k
-  unfolding reserveCard
-  card-after v h = ap (λ (w : Verdict). settle w (zeroed (q .card) (reserveStartOn q k) k) (λ number. q .card)) (sym h)
+  pub card-after : (v : Verdict) → reserveVerdictOn q k p ≡ v
+      → settle v (zeroed (q .card) (reserveStartOn q k p) k) (λ number. q .card) ≡ reserveCard q k p
+  unfolding reserveCard takenCard
+  card-after v h = ap (λ (w : Verdict). settle w (zeroed (q .card) (reserveStartOn q k p) k) (λ number. q .card)) (sym h)
 
-  pub unchanged : (number : ℕ) (r : Out) → reserveVerdictOn q k ≡ refused number → r ≡ refusalOut (q .spare) (q .entry) number
+  pub unchanged : (number : ℕ) (r : Out) → reserveVerdictOn q k p ≡ refused number → r ≡ refusalOut (q .spare) (q .entry) number
       → Leaves r (q .map) (q .card)
   unchanged number r h made = (made ∙ out (refused number) h, map-after (refused number) h, card-after (refused number) h)
 
-  pub changed : (s : ℕ) (map card : List ℕ) → reserveVerdictOn q k ≡ accepted → s ≡ (reserveStartOn q k)
+  pub changed : (s : ℕ) (map card : List ℕ) → reserveVerdictOn q k p ≡ accepted → s ≡ (reserveStartOn q k p)
       → map ≡ marked (q .map) s k false → card ≡ zeroed (q .card) s k
       → Leaves (outOf (q .spare - k) (entryOf openMark s k) (Start s)) map card
   changed s map card h same marks zeros = (
@@ -109,3 +121,17 @@ module _ (q : Lent) (k : ℕ) where
     marks ∙ ap (λ (t : ℕ). marked (q .map) t k false) same ∙ map-after accepted h,
     zeros ∙ ap (λ (t : ℕ). zeroed (q .card) t k) same ∙ card-after accepted h,
   )
+
+-- ---- the plain reserve is the one with 0, n and 1
+
+pub plain-out : (q : Lent) (k : ℕ) → reserveOut q k (placed (figures 0 (q .n) 1)) ≡ reserveOut q k plain
+unfolding reserveOut reserveVerdict reserveStart tableOf
+plain-out q k = refl
+
+pub plain-map : (q : Lent) (k : ℕ) → reserveMap q k (placed (figures 0 (q .n) 1)) ≡ reserveMap q k plain
+unfolding reserveMap reserveVerdict reserveStart tableOf
+plain-map q k = refl
+
+pub plain-card : (q : Lent) (k : ℕ) → reserveCard q k (placed (figures 0 (q .n) 1)) ≡ reserveCard q k plain
+unfolding reserveCard reserveVerdict reserveStart tableOf
+plain-card q k = refl

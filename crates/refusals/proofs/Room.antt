@@ -1,28 +1,26 @@
 -- What an accepted reserve or grow has room for: its blocks lie inside the card, and the free count has as many.
 -- Assumes nothing.
 use mathlib.Core.Path.{_≡_, refl}
-use mathlib.Core.Bool.{Bool, true, false, _&&_, true≢false}
+use mathlib.Core.Bool.{Bool, true, false, true≢false}
 use Prim.Native.Nat.{ℕ, _+_, _≤_}
 use native.Mathlib.Omega.{arith}
-use lib.Dec.{leb}
-use borrow.Author.Tests.{leb-true, ltb-false, not-false}
-use Rattle.map_blocks.specs.Blocks.{all, free, fit, leastFit}
-use Rattle.map_blocks.specs.declared.Found.{Found}
-use Rattle.map_blocks.specs.declared.Found.the-variants.{At, Nothing}
-use Rattle.laws.proofs.Bools.{and-left, and-right}
+use borrow.Author.Tests.{ltb-false, not-false}
+use Rattle.map_blocks.specs.Blocks.{free, fit}
+use Rattle.map_blocks.proofs.Fits.{fit-is}
 use Rattle.catalogue_standings.specs.Searches.{startAt}
 use Rattle.refusals.specs.Effects.{reserveVerdict, reserveStart, growVerdict}
 use Rattle.catalogue_standings.specs.Rows.{Verdict, accepted}
 use Rattle.catalogue_standings.specs.Standings.{isAbsent, isPaused, isComplete, isDamaged, startOf, lengthOf}
-use Rattle.catalogue_standings.specs.Searches.{none}
 use Rattle.refusals.specs.Table.{View, on, reserve, grow, tableOf}
 use Rattle.refusals.specs.Views.{viewOn}
 use Rattle.catalogue_standings.specs.declared.Standing.{Standing}
 use Rattle.catalogue_standings.specs.declared.Standing.the-variants.{Absent, Paused, Open, Complete, Damaged}
-use Rattle.map_blocks.proofs.Least.{least-passes}
 use Rattle.refusals.proofs.Rows.{clear}
 use Rattle.refusals.specs.Lent.{Lent}
+use Rattle.refusals.specs.Placement.{Placement, figuresIn, leastWithin}
+use Rattle.refusals.specs.declared.Figures.{Figures}
 use Rattle.refusals.proofs.Lent.{Sized, standing, sized}
+use Rattle.refusals.proofs.Placement.{figured, plain-fit, found-fit}
 use Rattle.catalogue_standings.proofs.Openings.{open-extent}
 
 -- ---- where the blocks lie
@@ -32,18 +30,8 @@ pub record Room (q : Lent) (start k : ℕ) : Type 0 where
   pub inside : start + k ≤ q .n
   pub enough : k ≤ q .spare
 
-pub fit-inside : (f : ℕ → Bool) (n k s : ℕ) → fit f 0 n k s ≡ true → s + k ≤ n
-unfolding fit
-fit-inside f n k s e =
-    leb-true (s + k) n (and-right (leb 0 s) (leb (s + k) n) (and-left (leb 0 s && leb (s + k) n) (all f s k) e))
-
-least-inside : (f : ℕ → Bool) (n k s : ℕ) → leastFit f 0 n k ≡ At s → s + k ≤ n
-unfolding leastFit
-least-inside f n k s e = fit-inside f n k s (least-passes (fit f 0 n k) 0 n s e .test)
-
-is-found : (o : Found) → none o ≡ false → o ≡ At (startAt o)
-is-found (At s) e = refl
-is-found Nothing e = absurd (true≢false e)
+pub fit-inside : (f : ℕ → Bool) (n k s : ℕ) → fit f 0 n 1 k s ≡ true → s + k ≤ n
+fit-inside f n k s e = fit-is f 0 n 1 k s e .high
 
 -- the one standing that grow admits
 only-open : (s : Standing) → isDamaged s ≡ false → isAbsent s ≡ false → isPaused s ≡ false → isComplete s ≡ false
@@ -57,24 +45,29 @@ only-open Damaged d a p c = absurd (true≢false d)
 abbrev viewOf : Lent → View
 viewOf q = viewOn q
 
-module _ (q : Lent) (k : ℕ) where
+module _ (q : Lent) (k : ℕ) (p : Placement) where
   abbrev pub reserveVerdictOn : Verdict
-  reserveVerdictOn = reserveVerdict q k
+  reserveVerdictOn = reserveVerdict q k p
 
   abbrev pub reserveStartOn : ℕ
-  reserveStartOn = reserveStart q k
+  reserveStartOn = reserveStart q k p
 
   pub reserve-room : reserveVerdictOn ≡ accepted → Room q reserveStartOn k
   unfolding reserveVerdict reserveStart viewOn tableOf
   reserve-room h =
-      let rows = tableOf (viewOf q) (on (q .sheet) (reserve k)) in
-      let found = leastFit (free (q .map)) 0 (q .n) k in
+      let rows = tableOf (viewOf q) (on (q .sheet) (reserve k p)) in
+      let g : Figures = figuresIn (q .n) p in
+      let f = free (q .map) in
+      let least : ℕ = startAt (leastWithin f g k) in
+      let fits = plain-fit f (q .n) g k least (figured (q .n) g (clear 15 rows h .0) .inside)
+      (found-fit f g k (clear 10 rows h .0)) in
       record {
         sizes = sized q (not-false _ (clear 1 rows h .0));
-        inside = least-inside (free (q .map)) (q .n) k (startAt found) (is-found found (clear 10 rows h .0));
+        inside = fit-inside f (q .n) k least fits;
         enough = ltb-false (q .spare) k (clear 4 rows h .1 .0);
       }
 
+module _ (q : Lent) (k : ℕ) where
   abbrev pub growVerdictOn : Verdict
   growVerdictOn = growVerdict q k
 

@@ -7,7 +7,6 @@ use mathlib.Core.List.{List}
 use lib.Dec.{eqb}
 use lib.ListN.{length}
 use Rattle.map_blocks.specs.Blocks as map-blocks
-use Rattle.map_blocks.specs.Blocks.{leastFit}
 use Rattle.map_blocks.specs.Maps.{marked}
 use Rattle.blocks_of_card.specs.Card.{blockOf, withBlock, zeroed}
 use Rattle.block_seals.specs.Sealed.{sealed, payloadOf}
@@ -16,6 +15,7 @@ use Rattle.catalogue.specs.declared.Entry.{Entry}
 use Rattle.catalogue_standings.specs.Rows.{Verdict, settle}
 use Rattle.catalogue_standings.specs.Searches.{startAt}
 use Rattle.refusals.specs.Lent.{Lent}
+use Rattle.refusals.specs.Placement.{Placement, figuresIn, leastWithin}
 use Rattle.refusals.specs.Table.{on, reserve, put, grow, complete, pause, release, show, standing, lowestBlank}
 use Rattle.refusals.specs.Table.{verdictOf}
 use Rattle.refusals.specs.Views.{viewAt, viewOn}
@@ -33,27 +33,38 @@ outOf free e answer = record { free = free; entry = e; answer = answer }
 abbrev pub refusalOut : ℕ → Entry → ℕ → Out
 refusalOut free e number = outOf free e (Refused number)
 
--- Reserve: Absent becomes Open at the least fit, its k blocks taken and filled with zeros.
-module _ (q : Lent) (k : ℕ) where
+-- A sheet without blocks takes k from a start on, which are filled with zeros, and becomes Open: what is handed back and left
+-- where the verdict is v.
+module _ (q : Lent) (v : Verdict) (start k : ℕ) where
+  unfoldable pub takenOut : Out
+  takenOut = settle v (outOf (q .spare - k) (entryOf openMark start k) (Start start)) (refusalOut (q .spare) (q .entry))
+
+  unfoldable pub takenMap : List ℕ
+  takenMap = settle v (marked (q .map) start k false) (λ number. q .map)
+
+  unfoldable pub takenCard : List ℕ
+  takenCard = settle v (zeroed (q .card) start k) (λ number. q .card)
+
+-- Reserve: Absent becomes Open at the least fit within its figures.
+module _ (q : Lent) (k : ℕ) (placement : Placement) where
   unfoldable pub reserveVerdict : Verdict
   unfolding viewOn
-  reserveVerdict = verdictOf (viewOn q) (on (q .sheet) (reserve k))
+  reserveVerdict = verdictOf (viewOn q) (on (q .sheet) (reserve k placement))
 
   unfoldable pub reserveStart : ℕ
-  reserveStart = startAt (leastFit (map-blocks.free (q .map)) 0 (q .n) k)
+  reserveStart = startAt (leastWithin (map-blocks.free (q .map)) (figuresIn (q .n) placement) k)
 
   unfoldable pub reserveOut : Out
-  unfolding reserveVerdict reserveStart
-  reserveOut = settle reserveVerdict (outOf (q .spare - k) (entryOf openMark reserveStart k) (Start reserveStart))
-      (refusalOut (q .spare) (q .entry))
+  unfolding reserveVerdict reserveStart takenOut
+  reserveOut = takenOut q reserveVerdict reserveStart k
 
   unfoldable pub reserveMap : List ℕ
-  unfolding reserveVerdict reserveStart
-  reserveMap = settle reserveVerdict (marked (q .map) reserveStart k false) (λ number. q .map)
+  unfolding reserveVerdict reserveStart takenMap
+  reserveMap = takenMap q reserveVerdict reserveStart k
 
   unfoldable pub reserveCard : List ℕ
-  unfolding reserveVerdict reserveStart
-  reserveCard = settle reserveVerdict (zeroed (q .card) reserveStart k) (λ number. q .card)
+  unfolding reserveVerdict reserveStart takenCard
+  reserveCard = takenCard q reserveVerdict reserveStart k
 
 -- Grow: the m blocks after an Open extent are added, taken and filled with zeros.
 module _ (q : Lent) (m : ℕ) where

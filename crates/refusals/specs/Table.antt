@@ -1,5 +1,7 @@
 -- The table of refusals (document 01, "What the caller gets instead"): for each call its rows, in the order 1, 2, 4 for the
--- entry, 5 to 8, 3, 4 for blocks, 9, 10 or 11, and last 4 for the count. A call is refused with the first row that holds.
+-- entry, 5 to 8, 3, 15 (document 02, request a), 4 for blocks, 9, 10 or 11, and last 4 for the count. A call is refused with
+-- the
+-- first row that holds.
 -- Assumes nothing.
 use Prim.Native.Nat.{ℕ, _+_}
 use mathlib.Core.Bool.{Bool, not, _||_}
@@ -7,14 +9,15 @@ use mathlib.Core.List.{List, [], _∷_}
 use lib.Dec.{eqb, leb, ltb}
 use lib.ListN.{length}
 use Rattle.map_blocks.specs.Blocks.{all, fit, least, leastFit}
+use Rattle.refusals.specs.Placement.{Placement, figuresIn, misfigured, leastWithin}
 use Rattle.catalogue_standings.specs.Searches.{none, startAt}
 use Rattle.catalogue_standings.specs.Rows.{Row, row, Verdict, firstOf}
 use Rattle.catalogue_standings.specs.Standings.{isAbsent, isPaused, isOpen, isComplete, isDamaged, startOf, lengthOf}
 use Rattle.catalogue_standings.specs.declared.Standing.{Standing}
 
--- What is asked of a sheet.
+-- What is asked of a sheet. A reserve of k blocks is plain or placed.
 pub data Ask : Type 0 where
-  reserve : ℕ → Ask
+  reserve : ℕ → Placement → Ask
   put : ℕ → List ℕ → Ask
   grow : ℕ → Ask
   complete : Ask
@@ -76,13 +79,14 @@ lowestBlank v = startAt (least (v .blank) 0 (lengthOf (v .stands)))
 -- The rows of each, behind those that all begin with.
 unfoldable pub rowsFor : View → Ask → List Row
 unfolding all fit leastFit
-rowsFor v (reserve k) =
-    pausedRow v ∷ openRow v ∷ completeRow v ∷ row 3 (eqb k 0) ∷ row 10 (none (leastFit (v .free) 0 (v .blocks) k))
-    ∷ row 4 (ltb (v .spare) k) ∷ []
+rowsFor v (reserve k placement) =
+    let g = figuresIn (v .blocks) placement in
+    pausedRow v ∷ openRow v ∷ completeRow v ∷ row 3 (eqb k 0) ∷ row 15 (misfigured (v .blocks) g)
+    ∷ row 10 (none (leastWithin (v .free) g k)) ∷ row 4 (ltb (v .spare) k) ∷ []
 rowsFor v (put place payload) = absentRow v ∷ pausedRow v ∷ completeRow v ∷ row 3 (misplaced v place payload) ∷ []
 rowsFor v (grow m) =
     absentRow v ∷ pausedRow v ∷ completeRow v ∷ row 3 (eqb m 0)
-    ∷ row 11 (not (fit (v .free) 0 (v .blocks) m (startOf (v .stands) + lengthOf (v .stands))))
+    ∷ row 11 (not (fit (v .free) 0 (v .blocks) 1 m (startOf (v .stands) + lengthOf (v .stands))))
     ∷ row 4 (ltb (v .spare) m) ∷ []
 rowsFor v complete =
     absentRow v ∷ pausedRow v ∷ completeRow v ∷ row 4 (not (everyPlace v (λ p. v .blank p || v .sound p)))

@@ -6,6 +6,14 @@ ghost use Rattle.refusals.specs.Effects.{refusalOut};
 use catalogue::Entry;
 use catalogue_standings::Answer;
 
+// The figures of a reserve (document 02, request a): it starts at or after `from`, ends at or before `before`, and starts on a
+// multiple of `step`.
+pub struct Figures {
+    pub from: u32,
+    pub before: u32,
+    pub step: u32,
+}
+
 // What a call that may change a sheet hands back: the free count, the sheet's entry and the answer.
 pub struct Out {
     pub free: u32,

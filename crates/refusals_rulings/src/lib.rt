@@ -2,6 +2,7 @@
 ghost use mathlib.Core.Path.{_≡_};
 ghost use Prim.Native.Nat.{_+_};
 ghost use Rattle.refusals.specs.Lent.{lent};
+ghost use Rattle.refusals.specs.Placement.{placed, misfigured};
 ghost use Rattle.refusals.specs.Effects.{reserveVerdict, reserveStart, growVerdict};
 ghost use Rattle.refusals_rulings.specs.Rulings.{rulingOf};
 use catalogue::Entry;
@@ -13,7 +14,8 @@ use catalogue_standings::opening::row_of;
 use map_blocks::Found;
 use map_blocks::run::FREE;
 use map_blocks::run::all_marked;
-use map_search::search;
+use map_search_placed::search_placed;
+use refusals::Figures;
 
 // Where the blocks that a call takes start, or the number of the refusal.
 pub enum Ruling {
@@ -21,7 +23,20 @@ pub enum Ruling {
     Refused(u32),
 }
 
-// The least fit, or the row that refuses the call.
+// Row 15: the figures are not within a card of n blocks.
+fn figures_wrong(n: u32, figures: Figures) -> bool
+    ensures { λ r. ⌜ r ≡ misfigured n figures ⌝ }
+{
+    if figures.step == 0 {
+        return true;
+    }
+    if figures.before <= figures.from {
+        return true;
+    }
+    n < figures.before
+}
+
+// The least fit within the figures, or the row that refuses the call.
 pub fn reserve_ruling(
     n: u32,
     free: u32,
@@ -31,9 +46,10 @@ pub fn reserve_ruling(
     entry: Entry,
     sheet: u32,
     k: u32,
+    figures: Figures,
 ) -> Ruling
     ensures { λ r. let q = lent n free (now (map .entry)) (now (card .entry)) c entry sheet in
-        ⌜ r ≡ rulingOf (reserveVerdict q k) (reserveStart q k) ⌝ }
+        ⌜ r ≡ rulingOf (reserveVerdict q k (placed figures)) (reserveStart q k (placed figures)) ⌝ }
 {
     let opened = open_on(n, free, map, card.len(), c, sheet, entry);
     let Opened::Stands(stands) = opened else {
@@ -45,7 +61,10 @@ pub fn reserve_ruling(
     if k == 0 {
         return Ruling::Refused(3);
     }
-    let found = search(map, 0, n, k);
+    if figures_wrong(n, figures) {
+        return Ruling::Refused(15);
+    }
+    let found = search_placed(map, figures.from, figures.before, figures.step, k);
     let Found::At(least) = found else {
         return Ruling::Refused(10);
     };

@@ -7,5 +7,6 @@ pub mod FromMapCatalogue1
 pub mod MapCatalogue1
 pub mod MapCatalogue1First
 pub mod MapCatalogueCard2
+pub mod MapCatalogueCard5
 pub mod MapCatalogueScratchFromImage
 pub mod ScratchImageFromMapCatalogue

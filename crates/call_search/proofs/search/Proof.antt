@@ -26,7 +26,7 @@ use Rattle.call_search.proofs.search.Tie as tie
 
 module _ (n spare : ℕ) (map : List ℕ) (k : ℕ) where
   abbrev found : Found
-  found = leastFit (free map) 0 n k
+  found = leastFit (free map) 0 n 1 k
 
   abbrev verdict : Verdict
   verdict = firstOf (row 1 (not (shapeFits n spare (length map))) ∷ row 3 (eqb k 0) ∷ row 10 (none found) ∷ [])

@@ -45,12 +45,12 @@ module _ (n : ℕ) (l : List Sheet) (card : List ℕ) (k : Matches n l card) (i 
     places : List Place
     was : sheetAt l i ≡ Open start places
     some : 0 < m
-    fits : fit (freeIn n l) 0 n m (start + length places) ≡ true
+    fits : fit (freeIn n l) 0 n 1 m (start + length places) ≡ true
     wide : length (places ++ replicate m Blank) ≡ length places + m
 
   shown : leb (length l) i ≡ false → isAbsent (standingIn (sheetAt l i)) ≡ false → isPaused (standingIn (sheetAt l i)) ≡ false
       → isComplete (standingIn (sheetAt l i)) ≡ false
-      → eqb m 0 ≡ false → not (fit (freeIn n l) 0 n m (startIn (sheetAt l i) + lengthIn (sheetAt l i))) ≡ false → Shown
+      → eqb m 0 ≡ false → not (fit (freeIn n l) 0 n 1 m (startIn (sheetAt l i) + lengthIn (sheetAt l i))) ≡ false → Shown
   shown h2 h5 h6 h8 h3 h11 =
       let o = was-open (sheetAt l i) h5 h6 h8 in
       record {
@@ -59,7 +59,7 @@ module _ (n : ℕ) (l : List Sheet) (card : List ℕ) (k : Matches n l card) (i 
         places = o .1;
         was = o .2;
         some = omega (arith, eqb-false m 0 h3);
-        fits = subst (λ (y : Sheet). fit (freeIn n l) 0 n m (startIn y + lengthIn y) ≡ true) (o .2) (not-false _ h11);
+        fits = subst (λ (y : Sheet). fit (freeIn n l) 0 n 1 m (startIn y + lengthIn y) ≡ true) (o .2) (not-false _ h11);
         wide = length-append (o .1) (replicate m Blank) ∙ ap (λ (j : ℕ). length (o .1) + j) (length-replicate m Blank);
       }
 

@@ -6,7 +6,7 @@ use denote.Triple.Spec.{tripleOf}
 use denote.Triple.Table.{entered, cited}
 use Rattle.pagunlit_replies.specs.Replies.{replyOf}
 use Rattle.card.specs.Calls.{withCard}
-use Rattle.card.specs.Calls.{reserveOutcome, reserveMap, reserveEntries, reserveCard}
+use Rattle.card.specs.Reserves.{plainOutcome, plainMapLeft, plainEntries, plainCardLeft}
 use Rattle.catalogue.proofs.Values.{Value, valueOf}
 use Rattle.card.proofs.Shape as Shape′
 use Rattle.card.proofs.Shape.Laws as Shape″
@@ -38,11 +38,11 @@ unfolding code.routine tablesOf
 pagunlit-reserve-spec 𝓤 H 𝓜 𝓖 𝓡 =
     entered 𝓤 H (tripleOf 𝓤 H (𝓖 .A) pagunlit-reserve.signature (pagunlit-reserve.spec 𝓤 H (𝓖 .A) (𝓜 .mem) (𝓡 .run)))
     (tables 𝓤 H 𝓜 𝓡 code.env .C) (tables 𝓤 H 𝓜 𝓡 code.env .Λ) #pagunlit-reserve code.function (code.unfolded 𝓤 H 𝓜 𝓡)
-    (meets Shape Outcome Reply call-def.name reply-of-def.name (withCard reserveOutcome) (withCard reserveMap)
-    (withCard reserveEntries) (withCard reserveCard) replyOf
+    (meets Shape Outcome Reply call-def.name reply-of-def.name (withCard plainOutcome) (withCard plainMapLeft)
+    (withCard plainEntries) (withCard plainCardLeft) replyOf
     𝓤 H (𝓖 .A) (givenOf 𝓤 H 𝓜 𝓖) (tablesOf 𝓤 H 𝓜 (tables 𝓤 H 𝓜 𝓡 code.env))
-    (cited 𝓤 H (call-contract Shape Outcome Reply (withCard reserveOutcome) (withCard reserveMap) (withCard reserveEntries)
-    (withCard reserveCard) 𝓤 H (𝓖 .A)) 𝓜 𝓡 code.env call-def.name call-def.routine code.calls-card·Shape·reserve
+    (cited 𝓤 H (call-contract Shape Outcome Reply (withCard plainOutcome) (withCard plainMapLeft) (withCard plainEntries)
+    (withCard plainCardLeft) 𝓤 H (𝓖 .A)) 𝓜 𝓡 code.env call-def.name call-def.routine code.calls-card·Shape·reserve
     (call-met.met 𝓤 H 𝓜 𝓖 𝓡))
     (cited 𝓤 H (reply-of-contract Shape Outcome Reply replyOf 𝓤 H (𝓖 .A)) 𝓜 𝓡 code.env reply-of-def.name reply-of-def.routine
     code.calls-pagunlit-replies·reply-of (reply-of-met.met 𝓤 H 𝓜 𝓖 𝓡)))

@@ -5,6 +5,7 @@ use native.Mathlib.Omega.{arith}
 use borrow.Author.Needs.{needs}
 use denote.Ref.{now}
 use Rattle.refusals.specs.Lent.{lent}
+use Rattle.refusals.specs.Placement.{placed}
 use Rattle.refusals.proofs.Room.{reserveVerdictOn, reserveStartOn, reserve-room}
 use Rattle.refusals_rulings.proofs.Rulings.{accepts, refuses}
 use Rattle.call_reserve.proofs.reserve.reserve.Statement.{statement}
@@ -29,9 +30,10 @@ mark-requires c κs =
     let call = place .before .before .reserve-ruling in
     let a = place .before .before .before .before .before .before .before .args in
     let q = lent (a .n) (a .free) (now (a .map)) (now (a .card)) (a .c) (a .entry) (a .sheet) in
-    let ruled = accepts (reserveStartOn q (a .k)) (call .result) (reserveVerdictOn q (a .k)) (place .start .given .0 .0)
+    let ruled = accepts (reserveStartOn q (a .k) (placed (a .figures))) (call .result)
+    (reserveVerdictOn q (a .k) (placed (a .figures))) (place .start .given .0 .0)
     (call .ensures) (place .start .given .1) in
-    let room = reserve-room q (a .k) (ruled .0) in (
+    let room = reserve-room q (a .k) (placed (a .figures)) (ruled .0) in (
       omega (arith, room .inside, room .sizes .shape .limit, ruled .1),
       omega (arith, room .inside, room .sizes .shape .covered, ruled .1),
     )
@@ -42,20 +44,22 @@ zero-blocks-requires c κs =
     let call = place .before .before .reserve-ruling in
     let a = place .before .before .before .before .before .before .before .args in
     let q = lent (a .n) (a .free) (now (a .map)) (now (a .card)) (a .c) (a .entry) (a .sheet) in
-    let ruled = accepts (reserveStartOn q (a .k)) (call .result) (reserveVerdictOn q (a .k)) (place .start .given .0 .0)
+    let ruled = accepts (reserveStartOn q (a .k) (placed (a .figures))) (call .result)
+    (reserveVerdictOn q (a .k) (placed (a .figures))) (place .start .given .0 .0)
     (call .ensures) (place .start .given .1) in
-    let room = reserve-room q (a .k) (ruled .0) in
+    let room = reserve-room q (a .k) (placed (a .figures)) (ruled .0) in
     omega (arith, room .inside, room .sizes .bytes, ruled .1)
 
-sub-t22 : tie.Need-sub-t22
-sub-t22 c =
+sub-t23 : tie.Need-sub-t23
+sub-t23 c =
     let place = c .before .before .before .before .before .before .before .before .before in
     let call = place .before .before .reserve-ruling in
     let a = place .before .before .before .before .before .before .before .args in
     let q = lent (a .n) (a .free) (now (a .map)) (now (a .card)) (a .c) (a .entry) (a .sheet) in
-    let ruled = accepts (reserveStartOn q (a .k)) (call .result) (reserveVerdictOn q (a .k)) (place .start .given .0 .0)
+    let ruled = accepts (reserveStartOn q (a .k) (placed (a .figures))) (call .result)
+    (reserveVerdictOn q (a .k) (placed (a .figures))) (place .start .given .0 .0)
     (call .ensures) (place .start .given .1) in
-    let room = reserve-room q (a .k) (ruled .0) in
+    let room = reserve-room q (a .k) (placed (a .figures)) (ruled .0) in
     omega (arith, room .enough)
 
 same-length : tie.Need-same-length
@@ -71,8 +75,9 @@ returns c =
     let a = place .before .before .before .before .before .before .before .args in
     let q = lent (a .n) (a .free) (now (a .map)) (now (a .card)) (a .c) (a .entry) (a .sheet) in
     let number = place .row .given .0 .0 in
-    unchanged q (a .k) number (c .refusal .result)
-    (refuses (reserveStartOn q (a .k)) (call .result) (reserveVerdictOn q (a .k)) number (call .ensures)
+    unchanged q (a .k) (placed (a .figures)) number (c .refusal .result)
+    (refuses (reserveStartOn q (a .k) (placed (a .figures))) (call .result)
+    (reserveVerdictOn q (a .k) (placed (a .figures))) number (call .ensures)
     (place .row .given .1)) (c .refusal .ensures)
 
 same-length-3 : tie.Need-same-length-3
@@ -87,11 +92,13 @@ returns-2 c =
     let call = place .before .before .reserve-ruling in
     let a = place .before .before .before .before .before .before .before .args in
     let q = lent (a .n) (a .free) (now (a .map)) (now (a .card)) (a .c) (a .entry) (a .sheet) in
-    let ruled = accepts (reserveStartOn q (a .k)) (call .result) (reserveVerdictOn q (a .k)) (place .start .given .0 .0)
+    let ruled = accepts (reserveStartOn q (a .k) (placed (a .figures))) (call .result)
+    (reserveVerdictOn q (a .k) (placed (a .figures))) (place .start .given .0 .0)
     (call .ensures) (place .start .given .1) in
     let marks = c .before .before .before .before .before .before .mark in
     let zeros = c .before .before .zero-blocks in
-    changed q (a .k) (place .start .given .0 .0) (marks .last .0) (zeros .last .0) (ruled .0) (ruled .1) (marks .ensures)
+    changed q (a .k) (placed (a .figures)) (place .start .given .0 .0) (marks .last .0) (zeros .last .0) (ruled .0) (ruled .1)
+    (marks .ensures)
     (zeros .ensures)
 
 pub reserve-spec : {M : Type 1} → statement M
@@ -104,7 +111,7 @@ reserve-spec =
     enum-known-start
     mark-requires
     zero-blocks-requires
-    sub-t22
+    sub-t23
     same-length
     same-length-2
     returns
