@@ -70,6 +70,11 @@ static void reserve(const char *call, uint32_t sheet, uint32_t count)
     told(call, pagunlit_reserve(shape, map, W, catalogue, C, card, sizeof card, sheet, count));
 }
 
+static void reserve_placed(const char *call, uint32_t sheet, uint32_t count, uint32_t from, uint32_t before, uint32_t step)
+{
+    told(call, pagunlit_reserve_placed(shape, map, W, catalogue, C, card, sizeof card, sheet, count, from, before, step));
+}
+
 static void grow(const char *call, uint32_t sheet, uint32_t count)
 {
     told(call, pagunlit_grow(shape, map, W, catalogue, C, card, sizeof card, sheet, count));
@@ -138,6 +143,8 @@ static void course(void)
     told("pause 0", pagunlit_pause(shape, map, W, catalogue, C, 0));
     grow("grow 2 1", 2, 1);
     told("release 2", pagunlit_release(shape, map, W, catalogue, C, 2));
+    reserve_placed("reserve-placed 2 4 21 66 7", 2, 4, 21, 66, 7);
+    told("release placed 2", pagunlit_release(shape, map, W, catalogue, C, 2));
     survey("survey again");
     save("save", sizeof image);
     printf("head\t%u %u\n", pagunlit_image_blocks(image, sizeof image), pagunlit_image_sheets(image, sizeof image));
@@ -152,6 +159,11 @@ static void refusals(void)
     put("put 0 0", 0, 0);
     put("put 1 7", 1, 7);
     complete("complete absent 2", 2);
+    reserve_placed("reserve-placed 2 9 58 66 1", 2, 9, 58, 66, 1);
+    reserve_placed("reserve-placed 2 1 3 71 2", 2, 1, 3, 71, 2);
+    reserve_placed("reserve-placed 2 1 9 8 2", 2, 1, 9, 8, 2);
+    reserve_placed("reserve-placed 2 1 9 60 0", 2, 1, 9, 60, 0);
+    reserve_placed("reserve-placed 2 0 9 60 0", 2, 0, 9, 60, 0);
     told("pause 1", pagunlit_pause(shape, map, W, catalogue, C, 1));
     grow("grow 1 61", 1, 61);
     save("save short", sizeof image - 1);

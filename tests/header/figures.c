@@ -57,6 +57,7 @@ static void numbers(void)
     CONSTANT(PAGUNLIT_IMAGE_LENGTH);
     CONSTANT(PAGUNLIT_IMAGE_FRAME);
     CONSTANT(PAGUNLIT_IMAGE_CONTENT);
+    CONSTANT(PAGUNLIT_WRONG_FIGURES);
     CONSTANT(PAGUNLIT_WRONG_COUNT);
     for (uint32_t number = 0; number < 40; number++)
         printf("meaning %u\t%s\n", number, pagunlit_meaning(number));

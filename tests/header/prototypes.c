@@ -1,4 +1,4 @@
-/* The functions that each header declares, as document 01 and the signatures of the C library's Rattle source have them: a
+/* The functions that each header declares, as documents 01 and 02 and the signatures of the C library's Rattle source have them: a
  * slice is a pointer and a length, const where the call only reads it. Behind each header are its functions. This is compiled,
  * so that a prototype with other types in a header is a conflict; and tests/header/src/names.rs reads it, and compares the
  * names of the functions and of their parameters. */
@@ -14,6 +14,8 @@ pagunlit_outcome pagunlit_fresh(SHAPE, uint32_t blocks, MAP, CATALOGUE);
 pagunlit_outcome pagunlit_search(SHAPE, const MAP, uint32_t k);
 pagunlit_outcome pagunlit_survey(SHAPE, const MAP);
 pagunlit_outcome pagunlit_reserve(SHAPE, MAP, CATALOGUE, CARD, uint32_t sheet, uint32_t count);
+pagunlit_outcome pagunlit_reserve_placed(SHAPE, MAP, CATALOGUE, CARD, uint32_t sheet, uint32_t count, uint32_t from,
+                                         uint32_t before, uint32_t step);
 pagunlit_outcome pagunlit_grow(SHAPE, MAP, CATALOGUE, CARD, uint32_t sheet, uint32_t count);
 pagunlit_outcome pagunlit_put(SHAPE, const MAP, const CATALOGUE, CARD, uint32_t sheet, uint32_t place, const uint8_t *payload,
                               size_t payloadlen);

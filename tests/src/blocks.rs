@@ -37,13 +37,39 @@ pub fn mark(map: &mut [bool], start: usize, end: usize, state: bool) {
     map[start..end].fill(state);
 }
 
-/// The least start, at or after `from`, of k free blocks that end at or before `before`, for k ≥ 1. Goes from block to
-/// block and counts the free ones in a row: where there are k for the first time, the lowest run of k ends.
-pub fn least_fit(map: &[bool], from: usize, before: usize, k: usize) -> Option<usize> {
+/// The figures of a reserve (document 02, (a)): a fit starts at or after `from` and on a multiple of `step`, and start + k is
+/// at most `before`.
+#[derive(Clone, Copy, Debug, PartialEq)]
+pub struct Figures {
+    pub from: u32,
+    pub before: u32,
+    pub step: u32,
+}
+
+pub const fn figures(from: u32, before: u32, step: u32) -> Figures {
+    Figures { from, before, step }
+}
+
+/// The figures of the plain reserve and of a search: 0, n and 1.
+pub const fn plain(n: usize) -> Figures {
+    figures(0, n as u32, 1)
+}
+
+/// Whether a number is a multiple of another. The only multiple of 0 is 0.
+fn is_multiple(number: usize, of: usize) -> bool {
+    number == 0 || of != 0 && number % of == 0
+}
+
+/// The least fit of the figures for k ≥ 1 in a map of the card's n blocks. Goes from block to block and counts the free ones in
+/// a row, from `from` on: where there are k of them or more, the last k are a run, and the first such run that starts on a
+/// multiple is the lowest.
+pub fn least_fit(map: &[bool], figures: Figures, k: usize) -> Option<usize> {
+    let [from, before, step] =
+        [figures.from, figures.before, figures.step].map(|figure| figure as usize);
     let mut row = 0;
-    for b in from..before {
+    for b in from..before.min(map.len()) {
         row = if map[b] == FREE { row + 1 } else { 0 };
-        if row == k {
+        if row >= k && is_multiple(b + 1 - k, step) {
             return Some(b + 1 - k);
         }
     }
@@ -103,28 +129,67 @@ mod tests {
         ];
         for (n, free, k, result) in rows {
             assert_eq!(
-                least_fit(&with_free(n, &free), 0, n, k),
+                least_fit(&with_free(n, &free), plain(n), k),
                 result,
                 "n {n}, k {k}"
             );
         }
     }
 
-    /// The words of document 01: a fit for k is a start s with s + k ≤ n and blocks s to s + k - 1 all free.
+    /// The words of document 01: a fit for k is a start s with s + k ≤ n and blocks s to s + k - 1 all free; and those of
+    /// document 02: it starts at or after from, has s + k at most before, and starts on a multiple of step. Figures past n
+    /// are those of a card where row 15 holds.
     #[test]
     fn least_fit_is_the_first_of_all_fits() {
-        for map in all_maps(8) {
-            for (from, before) in (0..9).flat_map(|from| (0..9).map(move |before| (from, before))) {
-                for k in 1..10 {
-                    let fits = |&s: &usize| s + k <= before && all(&map, s, s + k, FREE);
-                    let first = (from..before).find(fits);
+        const N: usize = 6;
+        let some = || (0..=N as u32 + 1).chain([u32::MAX]);
+        for map in all_maps(N) {
+            for (from, before) in some().flat_map(|from| some().map(move |before| (from, before))) {
+                for (step, k) in some().flat_map(|step| (1..=N + 1).map(move |k| (step, k))) {
+                    let fits = |&s: &usize| {
+                        let multiple = (0..=N).any(|times| times * step as usize == s);
+                        let inside = s >= from as usize && s + k <= before as usize;
+                        s + k <= N && all(&map, s, s + k, FREE) && inside && multiple
+                    };
+                    let first = (0..N).find(fits);
+                    let figures = figures(from, before, step);
                     assert_eq!(
-                        least_fit(&map, from, before, k),
+                        least_fit(&map, figures, k),
                         first,
-                        "{map:?} {from} {before} {k}"
+                        "{map:?} {figures:?} {k}"
                     );
                 }
             }
+        }
+    }
+
+    /// In a row of 64-bit words: steps within a word, of a word and across words, and windows that start and end inside one.
+    #[test]
+    fn fits_of_figures() {
+        let map = &with_free(200, &[3..=20, 60..=140, 150..=199]);
+        let rows = [
+            (figures(0, 200, 1), 5, Some(3)),
+            (figures(0, 200, 2), 5, Some(4)),
+            (figures(0, 200, 7), 5, Some(7)),
+            (figures(8, 200, 7), 5, Some(14)),
+            (figures(8, 18, 7), 5, None),
+            (figures(8, 19, 7), 5, Some(14)),
+            (figures(0, 200, 63), 5, Some(63)),
+            (figures(0, 200, 64), 5, Some(64)),
+            (figures(0, 200, 65), 5, Some(65)),
+            (figures(0, 200, 64), 77, Some(64)),
+            (figures(0, 200, 64), 78, None),
+            (figures(0, 141, 60), 81, Some(60)),
+            (figures(61, 200, 1), 81, None),
+            (figures(0, 140, 1), 81, None),
+            (figures(0, 200, 100), 40, Some(100)),
+            (figures(0, 200, 4096), 1, None),
+            (figures(0, 200, u32::MAX), 1, None),
+            (figures(195, 200, 1), 5, Some(195)),
+            (figures(196, 200, 1), 5, None),
+        ];
+        for (figures, k, result) in rows {
+            assert_eq!(least_fit(map, figures, k), result, "{figures:?}, k {k}");
         }
     }
 
@@ -146,7 +211,7 @@ mod tests {
                 .filter(|&b| map[b] && (b == 0 || !map[b - 1]))
                 .count();
             let fitting = (1..11)
-                .filter(|&k| least_fit(&map, 0, 10, k).is_some())
+                .filter(|&k| least_fit(&map, plain(10), k).is_some())
                 .count();
             let free = map.iter().filter(|&&block| block).count();
             assert_eq!(

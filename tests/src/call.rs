@@ -1,6 +1,7 @@
 //! A call with its arguments, as it is made of the card, of the ledger and of the library; and of each kind of call its name
 //! and the rows that refuse it.
 
+use crate::blocks::{figures, Figures};
 use crate::random::Random;
 use crate::rows::Row::{self, *};
 use std::fmt;
@@ -11,6 +12,7 @@ pub enum Kind {
     Search,
     Survey,
     Reserve,
+    ReservePlaced,
     Put,
     Grow,
     Complete,
@@ -20,14 +22,17 @@ pub enum Kind {
     Standing,
 }
 
-/// Every kind of call, with the rows of document 01's table that can refuse it, in the order under the table.
+/// Every kind of call, with the rows of document 01's table that can refuse it, in the order under the table. A row of
+/// document 02 stands where its request says.
 #[rustfmt::skip]
-pub const CALLS: [(Kind, &str, &[Row]); 11] = [
+pub const CALLS: [(Kind, &str, &[Row]); 12] = [
     (Kind::Fresh, "fresh", &[Blocks, Sheets, MapLength]),
     (Kind::Search, "search", &[Blocks, FreeAboveN, MapLength, NoBlocks, NoFit]),
     (Kind::Survey, "survey", &[Blocks, FreeAboveN, MapLength]),
     (Kind::Reserve, "reserve", &[Blocks, Sheets, FreeAboveN, MapLength, CardLength, NoSheet, Damaged,
         Paused, Open, Complete, NoBlocks, NoFit, FreeCount]),
+    (Kind::ReservePlaced, "reserve-placed", &[Blocks, Sheets, FreeAboveN, MapLength, CardLength, NoSheet, Damaged,
+        Paused, Open, Complete, NoBlocks, NoStep, FromNotBefore, BeforeAboveN, NoFit, FreeCount]),
     (Kind::Put, "put", &[Blocks, Sheets, FreeAboveN, MapLength, CardLength, NoSheet, Damaged,
         Absent, Paused, Complete, NoPlace, SliceLength]),
     (Kind::Grow, "grow", &[Blocks, Sheets, FreeAboveN, MapLength, CardLength, NoSheet, Damaged,
@@ -144,6 +149,8 @@ pub struct Call {
     pub sheet: u32,
     /// n, k, m or the place, 0 where there is none.
     pub number: u32,
+    /// Those of a placed reserve, 0 where there are none.
+    pub figures: Figures,
     /// The payload that a put brings, or what a show's buffer has before.
     pub bytes: Bytes,
 }
@@ -154,7 +161,16 @@ pub const fn call(kind: Kind, sheet: u32, number: u32) -> Call {
         kind,
         sheet,
         number,
+        figures: figures(0, 0, 0),
         bytes: PAYLOAD,
+    }
+}
+
+/// A placed reserve.
+pub const fn placed(sheet: u32, count: u32, figures: Figures) -> Call {
+    Call {
+        figures,
+        ..call(Kind::ReservePlaced, sheet, count)
     }
 }
 
@@ -183,6 +199,10 @@ impl fmt::Display for Call {
         if kind.has_number() {
             write!(f, " {}", self.number)?;
         }
+        if kind == Kind::ReservePlaced {
+            let Figures { from, before, step } = self.figures;
+            write!(f, " {from} {before} {step}")?;
+        }
         let Bytes { seed, length } = self.bytes;
         if kind.has_slice() {
             write!(f, ", {length} bytes from {seed}")?;
@@ -203,11 +223,19 @@ mod tests {
         }
     }
 
-    /// Document 01, "Order: 1, 2, 4 for the entry, 5 to 8, 3, then 4 for blocks, 9, 10 or 11, and last 4 for the count".
+    /// Document 01, "Order: 1, 2, 4 for the entry, 5 to 8, 3, then 4 for blocks, 9, 10 or 11, and last 4 for the count", and
+    /// document 02, "it comes after 3", of 15.
     #[test]
-    fn rows_stand_in_document_01s_order() {
+    fn rows_stand_in_the_documents_order() {
         for (_, name, rows) in CALLS {
             assert!(rows.windows(2).all(|two| two[0] < two[1]), "{name}");
+            let mut numbers: Vec<u32> = rows.iter().map(|row| row.number()).collect();
+            numbers.dedup();
+            let mut order = [1, 2, 4, 5, 6, 7, 8, 3, 15, 4, 9, 10, 11, 4].into_iter();
+            for number in numbers {
+                // Behind the number before it.
+                assert!(order.any(|next| next == number), "{name}: {number}");
+            }
         }
     }
 }

@@ -3,6 +3,7 @@
 mod filling_calls;
 mod limits;
 mod other_calls;
+mod placed_calls;
 mod random_calls;
 mod store;
 
@@ -17,10 +18,19 @@ pub fn examples() -> String {
     ];
     let last = [
         ("word boundaries", limits::BOUNDARIES.to_string()),
+        (
+            "word boundaries of placed reserves",
+            placed_calls::BOUNDARIES.to_string(),
+        ),
         ("numbers of sheets", limits::SHEETS.to_string()),
         ("row 1", limits::row_1()),
     ];
-    let lists = filling_calls::LISTS.iter().chain(other_calls::LISTS);
+    let lists = [
+        filling_calls::LISTS,
+        placed_calls::LISTS,
+        other_calls::LISTS,
+    ];
+    let lists = lists.iter().flat_map(|lists| lists.iter());
     let lists = lists.map(|(name, list)| (*name, on_70(list)));
     let sections = first.into_iter().chain(lists).chain(last);
     let mut text = String::new();

@@ -123,7 +123,10 @@ impl Card {
             Row::NoSheet => self.entry_of(call).is_none(),
             Row::NoBlocks => number == 0,
             Row::SliceLength => call.bytes.length != PAYLOAD,
-            Row::NoFit => number > 0 && self.least_fit(number).is_none(),
+            Row::NoStep => call.figures.step == 0,
+            Row::FromNotBefore => call.figures.from >= call.figures.before,
+            Row::BeforeAboveN => call.figures.before as usize > n,
+            Row::NoFit => number > 0 && self.least_fit(call).is_none(),
             Row::FreeCount if call.kind != Kind::Release => number > self.free,
             _ => match self.entry_of(call) {
                 Some(entry) => self.holds_for_entry(row, call, entry),
@@ -166,8 +169,14 @@ impl Card {
         }
     }
 
-    fn least_fit(&self, k: usize) -> Option<usize> {
-        least_fit(&self.map, 0, self.n.min(self.map.len()), k)
+    /// The least fit for a search or a reserve, a plain one being the one with the figures 0, n and 1.
+    fn least_fit(&self, call: Call) -> Option<usize> {
+        let figures = match call.kind {
+            Kind::ReservePlaced => call.figures,
+            _ => plain(self.n),
+        };
+        let blocks = self.n.min(self.map.len());
+        least_fit(&self.map[..blocks], figures, call.number as usize)
     }
 
     /// The m blocks after the extent are all free and inside n.
@@ -217,13 +226,13 @@ impl Card {
         let (sheet, number) = (call.sheet as usize, call.number as usize);
         match call.kind {
             Kind::Fresh => self.fresh(number),
-            Kind::Search => Start(self.least_fit(number).unwrap()),
+            Kind::Search => Start(self.least_fit(call).unwrap()),
             Kind::Survey => {
                 let counts = survey(&self.map, self.n);
                 Counted(counts.free, counts.runs, counts.longest)
             }
-            Kind::Reserve => {
-                let start = self.least_fit(number).unwrap();
+            Kind::Reserve | Kind::ReservePlaced => {
+                let start = self.least_fit(call).unwrap();
                 self.take(sheet, start, start, number);
                 Start(start)
             }
@@ -281,6 +290,9 @@ impl Card {
         Done
     }
 }
+
+#[cfg(test)]
+mod placed_tests;
 
 #[cfg(test)]
 mod tests {

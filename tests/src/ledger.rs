@@ -1,7 +1,7 @@
 //! The ledger of document 01 ("The ledger, call by call"): it is fed n, c and each call's arguments, and reads nothing that
 //! the program keeps or answers. Rows 1 and 4 hold for no call of a list, so they are not here.
 
-use crate::blocks::{all, least_fit, words_of, FREE, TAKEN};
+use crate::blocks::{all, least_fit, plain, words_of, Figures, FREE, TAKEN};
 use crate::call::{Call, Kind};
 use crate::card::Answer::*;
 use crate::card::{entry, sealed, Answer, Entry};
@@ -107,7 +107,8 @@ impl Ledger {
         let (sheet, number) = (call.sheet, call.number);
         let answer = match call.kind {
             Kind::Fresh | Kind::Search | Kind::Survey => return None,
-            Kind::Reserve => self.reserve(sheet, number as usize),
+            Kind::Reserve => self.reserve(sheet, number as usize, plain(self.n)),
+            Kind::ReservePlaced => self.reserve(sheet, number as usize, call.figures),
             Kind::Put => self.put(sheet, number, slice),
             Kind::Grow => self.grow(sheet, number as usize),
             Kind::Complete => self.complete(sheet),
@@ -142,12 +143,17 @@ impl Ledger {
         }
     }
 
-    fn reserve(&mut self, sheet: u32, k: usize) -> Result<Answer, Answer> {
+    /// A reserve with figures: the plain one is the one with 0, n and 1.
+    fn reserve(&mut self, sheet: u32, k: usize, figures: Figures) -> Result<Answer, Answer> {
         self.absent(sheet)?;
         if k == 0 {
             return Err(Refused(3));
         }
-        let start = least_fit(&self.map(), 0, self.n, k).ok_or(Refused(10))?;
+        let Figures { from, before, step } = figures;
+        if step == 0 || from >= before || before as usize > self.n {
+            return Err(Refused(15));
+        }
+        let start = least_fit(&self.map()[..self.n], figures, k).ok_or(Refused(10))?;
         let places = vec![None; k];
         *self.absent(sheet)? = Sheet::Open { start, places };
         self.granted += k;
@@ -227,22 +233,26 @@ impl Ledger {
 #[cfg(test)]
 mod tests {
     use super::*;
+    use crate::blocks::figures;
+    use crate::call::{call, placed};
+    use crate::card::Card;
+    use crate::random::Random;
 
     /// A release gives the blocks back, and a new reserve has blank places, whatever was put there before.
     #[test]
     fn a_sheet_from_reserve_to_reserve() {
         let mut ledger = Ledger::fresh(3, 2);
         let buffer = &mut [0; 496];
-        assert_eq!(ledger.reserve(0, 2), Ok(Start(0)));
+        assert_eq!(ledger.reserve(0, 2, plain(3)), Ok(Start(0)));
         assert_eq!(ledger.put(0, 1, &[7; 496]), Ok(Done));
         assert_eq!(ledger.complete(0), Err(Blank(0)));
         assert_eq!(ledger.put(0, 0, &[8; 496]), Ok(Done));
         assert_eq!(ledger.complete(0), Ok(Done));
         assert_eq!(ledger.show(0, 1, buffer), Ok(Done));
         assert_eq!(buffer[0], 7);
-        assert_eq!(ledger.reserve(1, 2), Err(Refused(10)));
+        assert_eq!(ledger.reserve(1, 2, plain(3)), Err(Refused(10)));
         assert_eq!(ledger.release(0), Ok(Done));
-        assert_eq!(ledger.reserve(1, 2), Ok(Start(0)));
+        assert_eq!(ledger.reserve(1, 2, plain(3)), Ok(Start(0)));
         assert_eq!(ledger.complete(1), Err(Blank(0)));
         assert_eq!(ledger.put(1, 0, &[9; 496]), Ok(Done));
         assert_eq!(ledger.complete(1), Err(Blank(1)));
@@ -254,10 +264,67 @@ mod tests {
     #[test]
     fn the_lowest_blank_place() {
         let mut ledger = Ledger::fresh(8, 1);
-        assert_eq!(ledger.reserve(0, 5), Ok(Start(0)));
+        assert_eq!(ledger.reserve(0, 5, plain(8)), Ok(Start(0)));
         for (filled, lowest) in [(1, 0), (4, 0), (0, 2), (3, 2)] {
             assert_eq!(ledger.put(0, filled, &[7; 496]), Ok(Done));
             assert_eq!(ledger.complete(0), Err(Blank(lowest)));
+        }
+    }
+
+    /// Document 02, (a): the ledger's fits are those of the figures, 15 comes after 3 and before 10, and a refused call leaves
+    /// the ledger alone.
+    #[test]
+    fn placed_reserves() {
+        let mut ledger = Ledger::fresh(100, 3);
+        assert_eq!(ledger.reserve(0, 10, plain(100)), Ok(Start(0)));
+        for (k, refused) in [(0, 3), (1, 15), (101, 15)] {
+            for (from, before, step) in [(0, 100, 0), (9, 9, 1), (0, 101, 1)] {
+                let answer = ledger.reserve(1, k, figures(from, before, step));
+                assert_eq!(answer, Err(Refused(refused)));
+            }
+        }
+        assert_eq!(ledger.reserve(0, 0, figures(0, 0, 0)), Err(Refused(7)));
+        assert_eq!(ledger.reserve(3, 0, figures(0, 0, 0)), Err(Refused(2)));
+        assert_eq!(ledger.reserve(1, 5, figures(0, 20, 8)), Err(Refused(10)));
+        assert_eq!(ledger.free_count(), 90);
+        assert_eq!(ledger.reserve(1, 5, figures(0, 21, 8)), Ok(Start(16)));
+        assert_eq!(ledger.reserve(2, 6, plain(100)), Ok(Start(10)));
+        assert_eq!((ledger.granted, ledger.free_count()), (21, 79));
+    }
+
+    /// A call for one of 3 sheets: a reserve of either kind, or a release.
+    fn random_call(n: usize, random: &mut Random) -> Call {
+        let (sheet, k) = (random.within(0, 3) as u32, random.within(0, n) as u32 / 3);
+        let mut figure = || random.within(0, n + 2) as u32;
+        let placed_at = figures(figure(), figure(), figure() / 4);
+        match random.within(0, 4) {
+            0 => call(Kind::Reserve, sheet, k),
+            1 => call(Kind::Release, sheet, 0),
+            _ => placed(sheet, k, placed_at),
+        }
+    }
+
+    /// Lists of reserves and releases: the card answers as the ledger does, and has its map and its entries.
+    #[test]
+    fn the_card_answers_as_the_ledger() {
+        for n in [1, 2, 9, 64, 70] {
+            let random = &mut Random::of(n as u64);
+            let mut ledger = Ledger::fresh(n, 3);
+            let mut card = Card {
+                n,
+                free: n,
+                map: ledger.map(),
+                sheets: vec![entry(0x41, 0, 0); 3],
+                bytes: vec![0; 512 * n],
+            };
+            for _ in 0..2000 {
+                let call = random_call(n, random);
+                let answer = card.call(call, &mut []);
+                assert_eq!(Some(answer), ledger.call(call, &mut []), "{n}: {call}");
+                assert!(card.map == ledger.map() && card.free == ledger.free_count());
+                assert!((0..3).all(|sheet| card.sheets[sheet] == ledger.entry(sheet)));
+            }
+            assert_eq!(card.free + ledger.granted, n + ledger.returned);
         }
     }
 }

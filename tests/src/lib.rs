@@ -1,4 +1,5 @@
-//! Document 01 worked out bit by bit, to hold the proved library against. Nothing here is shared with the crates.
+//! Document 01, with the requests of document 02 that have landed, worked out bit by bit, to hold the proved library against.
+//! Nothing here is shared with the crates.
 
 pub mod blocks;
 pub mod call;

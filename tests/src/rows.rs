@@ -1,5 +1,5 @@
-//! Document 01's table of refusals: its rows, the order in which each call looks at them, and which two of them can hold at
-//! once.
+//! Document 01's table of refusals, with the rows that document 02 adds: the order in which each call looks at them, and
+//! which two of them can hold at once.
 //!
 //! A row that has several reasons ("n or c is outside its limits; free count above n; ...") is here once for each of them, so
 //! that each reason is seen to come before, and behind, what the order says.
@@ -33,6 +33,10 @@ pub enum Row {
     NoPlace,
     /// 3: the payload or the show buffer has the wrong length.
     SliceLength,
+    /// 15, of a placed reserve: step is 0, from ≥ before, or before > n.
+    NoStep,
+    FromNotBefore,
+    BeforeAboveN,
     /// 4: a block is not sound; for complete also not blank.
     Unsound,
     /// 9: some place is blank.
@@ -80,6 +84,7 @@ impl Row {
             ImageLength => 12,
             FrameNumber | FrameTotal | FrameCheck => 13,
             HeadLimits | HeadTotal | LoadedState | Fill => 14,
+            NoStep | FromNotBefore | BeforeAboveN => 15,
         }
     }
 }

@@ -1,15 +1,15 @@
 //! The calls of calls.c, worked out bit by bit by the card of tests/src. Which calls it makes of a sound card is told by the
 //! names that it prints: the word of the call, and its numbers; other words tell it from another call of that name.
 
-use bitwise::blocks::{from_words, to_words};
-use bitwise::call::{call, Kind, CALLS};
+use bitwise::blocks::{figures, from_words, to_words};
+use bitwise::call::{call, placed, Kind, CALLS};
 use bitwise::card::{entry, sealed, Answer, Card};
 use std::fmt::Write;
 
 const N: usize = 70;
 const C: u32 = 3;
 /// The refusals of calls on a sound card with slices of the right lengths.
-const REFUSALS: [u32; 9] = [2, 3, 5, 6, 7, 8, 9, 10, 11];
+const REFUSALS: [u32; 10] = [2, 3, 5, 6, 7, 8, 9, 10, 11, 15];
 
 /// What calls.c keeps: the card, and the slices that a call may be lent besides.
 struct State {
@@ -148,8 +148,16 @@ impl State {
                 } else {
                     None
                 };
-                let number = numbers.next();
-                self.call(name, kind, sheet.unwrap_or(0), number.unwrap_or(0));
+                let (sheet, number) = (sheet.unwrap_or(0), numbers.next().unwrap_or(0));
+                if let (Some(from), Some(before), Some(step)) =
+                    (numbers.next(), numbers.next(), numbers.next())
+                {
+                    let placed = placed(sheet, number, figures(from, before, step));
+                    let answer = self.card.call(placed, &mut self.slice);
+                    self.made.push((kind, self::numbers(answer).0));
+                    return self.told(name, answer);
+                }
+                self.call(name, kind, sheet, number);
             }
         }
     }

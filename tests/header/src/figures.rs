@@ -25,7 +25,7 @@ const CONSTANTS: [(&str, u64); 15] = [
 
 /// The rows of "What the caller gets instead" and those of document 02, with the name that a C program has for each. Number 0
 /// is "done".
-const NUMBERS: [(u32, &str, &str); 16] = [
+const NUMBERS: [(u32, &str, &str); 17] = [
     (0, "PAGUNLIT_DONE", "done"),
     (
         1,
@@ -46,6 +46,7 @@ const NUMBERS: [(u32, &str, &str); 16] = [
     (12, "PAGUNLIT_IMAGE_LENGTH", "image length"),
     (13, "PAGUNLIT_IMAGE_FRAME", "image frame"),
     (14, "PAGUNLIT_IMAGE_CONTENT", "image content"),
+    (15, "PAGUNLIT_WRONG_FIGURES", "placed reserve: step is 0, from >= before or before > n"),
     (16, "PAGUNLIT_WRONG_COUNT", "dose counts: another digit in the four bytes read, a number out of range when writing, or a \
          count number of 124 or more"),
 ];

@@ -6,8 +6,9 @@ use bitwise::rows::{pairs, Pair, Row};
 use std::collections::BTreeMap;
 
 /// The columns of the table of answers, in the order of the rows. Row 4 is there three times.
-const COLUMNS: [&str; 14] = [
-    "done", "1", "2", "4 entry", "5", "6", "7", "8", "3", "4 block", "9", "10", "11", "4 count",
+const COLUMNS: [&str; 15] = [
+    "done", "1", "2", "4 entry", "5", "6", "7", "8", "3", "15", "4 block", "9", "10", "11",
+    "4 count",
 ];
 
 /// The column that a row is counted in.
@@ -30,6 +31,8 @@ pub struct Counts {
     pairs: BTreeMap<(&'static str, Row, Row), u64>,
     /// Saves and loads, by what was tried and the answer.
     images: BTreeMap<(&'static str, String), u64>,
+    /// Placed reserves, by what they are examples of.
+    placed: BTreeMap<String, u64>,
 }
 
 impl Counts {
@@ -55,12 +58,12 @@ impl Counts {
     /// A line for each call. A row that could have been the answer and never was is an error, for then the calls have not
     /// tested it. Rows 1 and 4 hold in damaged states only.
     pub fn report(&self, damaged: bool) -> Result<(), String> {
-        print!("  {:<8}", "");
+        print!("  {:<14}", "");
         COLUMNS.iter().for_each(|column| print!(" {column:>7}"));
         println!();
         let mut missing = Vec::new();
         for (_, name, rows) in CALLS {
-            print!("  {name:<8}");
+            print!("  {name:<14}");
             for in_column in COLUMNS {
                 let only_damaged = in_column == "1" || in_column.starts_with('4');
                 let possible = rows.iter().any(|row| column(Some(*row)) == in_column);
@@ -100,6 +103,27 @@ impl Counts {
             return Ok(());
         }
         Err(format!("never tried: {}", missing.join(", ")))
+    }
+
+    pub fn note_placed(&mut self, kind: &str) {
+        *self.placed.entry(kind.to_string()).or_default() += 1;
+    }
+
+    /// A line for each kind of placed reserve. One that should have been made and never was is an error.
+    pub fn report_placed(&self) -> Result<(), String> {
+        let expected: Vec<String> = crate::placed::expected().collect();
+        let made = |kind: &String| self.placed.get(kind).copied().unwrap_or(0);
+        for kind in &expected {
+            println!("  {kind:<52} {:>7}", made(kind));
+        }
+        let missing: Vec<String> = expected
+            .into_iter()
+            .filter(|kind| made(kind) == 0)
+            .collect();
+        if missing.is_empty() {
+            return Ok(());
+        }
+        Err(format!("never made: {}", missing.join(", ")))
     }
 }
 

@@ -1,7 +1,8 @@
 //! Random calls: mostly those that a dispenser makes of the sheet at hand, as its entry stands, and some with any numbers.
 
+use crate::figures::{admitting, any_figures};
 use bitwise::blocks::survey;
-use bitwise::call::{call, Bytes, Call, Kind, CALLS, PAYLOAD};
+use bitwise::call::{call, placed, Bytes, Call, Kind, CALLS, PAYLOAD};
 use bitwise::card::{Card, Entry};
 use bitwise::random::Random;
 use bitwise::rows::Row;
@@ -55,7 +56,15 @@ impl Generator {
                 return call(Kind::Release, holder as u32, 0);
             }
         }
-        call(Kind::Reserve, sheet, count)
+        self.reserve(card, sheet, count)
+    }
+
+    /// A reserve of either kind.
+    fn reserve(&mut self, card: &Card, sheet: u32, count: u32) -> Call {
+        if self.random.chance(1, 2) {
+            return call(Kind::Reserve, sheet, count);
+        }
+        placed(sheet, count, any_figures(card.n, count, &mut self.random))
     }
 
     fn of_open(&mut self, card: &Card, sheet: u32, entry: Entry) -> Call {
@@ -87,6 +96,9 @@ impl Generator {
         } else {
             0
         };
+        if kind == Kind::ReservePlaced {
+            return placed(sheet, number, any_figures(&mut self.random, card.n));
+        }
         let bytes = if kind.has_slice() {
             self.bytes()
         } else {
@@ -208,11 +220,15 @@ pub fn accepted(kind: Kind, card: &Card, random: &mut Random) -> Call {
         .collect();
     let sheet = random.one(&sheets);
     let number = match kind {
-        Kind::Reserve | Kind::Grow => random.within(1, 3),
+        Kind::Reserve | Kind::ReservePlaced | Kind::Grow => random.within(1, 3),
         Kind::Put | Kind::Show => random.within(0, card.sheets[sheet].length as usize),
         _ => 0,
     };
-    call(kind, sheet as u32, number as u32)
+    let call = call(kind, sheet as u32, number as u32);
+    match kind {
+        Kind::ReservePlaced => placed(call.sheet, call.number, admitting(card, number, random)),
+        _ => call,
+    }
 }
 
 /// n of a fresh, or k of a search.

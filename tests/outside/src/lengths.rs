@@ -4,8 +4,8 @@ use crate::beside::{Beside, Compared};
 use crate::counts::Counts;
 use crate::generate::accepted;
 use crate::lists::used_card;
-use bitwise::blocks::words_of;
-use bitwise::call::{call, Bytes, Call, Kind, CALLS};
+use bitwise::blocks::{figures, words_of};
+use bitwise::call::{call, placed, Bytes, Call, Kind, CALLS};
 use bitwise::card::{entry, Card};
 use bitwise::random::Random;
 
@@ -122,7 +122,8 @@ fn at_limits(card: Card, margin: usize, counts: &mut Counts) -> Result<(), Strin
     let (n, last) = (card.n as u32, card.sheets.len() as u32 - 1);
     // Standing first, of an Absent sheet; then all calls, of which the last take back what the others did.
     let others = CALLS.iter().map(|(kind, ..)| *kind);
-    let others = others.filter(|kind| !matches!(kind, Kind::Release | Kind::Fresh));
+    let others =
+        others.filter(|kind| !matches!(kind, Kind::Release | Kind::Fresh | Kind::ReservePlaced));
     let kinds = std::iter::once(Kind::Standing).chain(others);
     let calls = kinds.chain([Kind::Release, Kind::Fresh]).map(|kind| {
         let sheet = if kind.has_sheet() { last } else { 0 };
@@ -132,6 +133,13 @@ fn at_limits(card: Card, margin: usize, counts: &mut Counts) -> Result<(), Strin
             _ => call(kind, sheet, 0),
         }
     });
+    // Placed reserves before them: one that finds no fit, and one of all blocks, which is then released.
+    let placed_first = [
+        placed(last, 1, figures(1, n, n)),
+        placed(last, n, figures(0, n, n)),
+        call(Kind::Release, last, 0),
+    ];
+    let calls = placed_first.into_iter().chain(calls);
     let limits = format!("{n} blocks and {} sheets", card.sheets.len());
     let mut beside = Beside::new(card, margin, Compared::All);
     for call in calls {

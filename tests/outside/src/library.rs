@@ -1,5 +1,6 @@
 //! The C functions (include/pagunlit.h), and the slices that they are lent.
 
+use bitwise::blocks::Figures;
 use bitwise::call::{Call, Kind};
 use bitwise::card::{self, Answer};
 
@@ -70,6 +71,8 @@ mod c {
         pub fn pagunlit_survey(shape: Shape, map: *const u64, maplen: usize) -> Outcome;
         pub fn pagunlit_reserve(shape: Shape, map: *mut u64, maplen: usize, catalogue: *mut Entry, cataloguelen: usize,
             card: *mut u8, cardlen: usize, sheet: u32, count: u32) -> Outcome;
+        pub fn pagunlit_reserve_placed(shape: Shape, map: *mut u64, maplen: usize, catalogue: *mut Entry, cataloguelen: usize,
+            card: *mut u8, cardlen: usize, sheet: u32, count: u32, from: u32, before: u32, step: u32) -> Outcome;
         pub fn pagunlit_grow(shape: Shape, map: *mut u64, maplen: usize, catalogue: *mut Entry, cataloguelen: usize,
             card: *mut u8, cardlen: usize, sheet: u32, count: u32) -> Outcome;
         pub fn pagunlit_put(shape: Shape, map: *const u64, maplen: usize, catalogue: *const Entry, cataloguelen: usize,
@@ -174,6 +177,10 @@ impl Library {
                 Kind::Search => c::pagunlit_search(shape, map, w, number),
                 Kind::Survey => c::pagunlit_survey(shape, map, w),
                 Kind::Reserve => c::pagunlit_reserve(shape, map, w, sheets, c, card, length, sheet, number),
+                Kind::ReservePlaced => {
+                    let Figures { from, before, step } = call.figures;
+                    c::pagunlit_reserve_placed(shape, map, w, sheets, c, card, length, sheet, number, from, before, step)
+                }
                 Kind::Put => c::pagunlit_put(shape, map, w, sheets, c, card, length, sheet, number, bytes, count),
                 Kind::Grow => c::pagunlit_grow(shape, map, w, sheets, c, card, length, sheet, number),
                 Kind::Complete => c::pagunlit_complete(shape, map, w, sheets, c, card, length, sheet),

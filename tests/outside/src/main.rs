@@ -12,6 +12,7 @@ mod caught;
 mod counts;
 mod damage;
 mod doses;
+mod figures;
 mod flaws;
 mod generate;
 mod images;
@@ -19,6 +20,7 @@ mod images_together;
 mod lengths;
 mod library;
 mod lists;
+mod placed;
 mod singles;
 mod states;
 mod together;
@@ -74,6 +76,15 @@ const GROUPS: &[Group] = &[
             part("states", |_, margin, counts| states::states(3, margin, counts), 1, 0, 0),
         ],
         report: |counts| counts.report(true),
+    },
+    // Placed reserves with figures of every kind.
+    Group {
+        parts: &[
+            part("placed", placed::placed, 20000, 2000, 500),
+            part("placed-full", placed::placed_full, 3, 1, 0),
+            part("placed-all", |_, margin, counts| placed::all_figures(margin, counts), 1, 0, 0),
+        ],
+        report: Counts::report_placed,
     },
     // Seal and check.
     Group {

@@ -3,7 +3,8 @@
 use crate::counts::Counts;
 use crate::damage::MARKS;
 use crate::lengths::one;
-use bitwise::call::{call, Kind, CALLS, PAYLOAD};
+use bitwise::blocks::figures;
+use bitwise::call::{call, placed, Kind, CALLS, PAYLOAD};
 use bitwise::card::{entry, sealed, Card};
 
 /// Every map, free count, entry and call of cards of up to `most` blocks and one sheet, and for complete and show every
@@ -43,7 +44,11 @@ fn calls_on_state(card: Card, margin: usize, counts: &mut Counts) -> Result<(), 
             _ => 0..=0,
         };
         for number in numbers {
-            one(&card, call(kind, 0, number), margin, counts)?;
+            let call = match kind {
+                Kind::ReservePlaced => placed(0, number, figures(number / 2, n, number)),
+                _ => call(kind, 0, number),
+            };
+            one(&card, call, margin, counts)?;
         }
     }
     for sheet in 1..=n + 1 {

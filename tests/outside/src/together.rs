@@ -93,7 +93,8 @@ fn step(row: Row) -> u32 {
         Row::Absent | Row::Paused | Row::Open | Row::Complete => 0,
         Row::NoPlace | Row::NoBlocks | Row::SliceLength | Row::Unsound => 1,
         Row::Blank | Row::NoFit | Row::NotNext => 2,
-        Row::FreeCount => 3,
+        Row::NoStep | Row::BeforeAboveN => 2,
+        Row::FreeCount | Row::FromNotBefore => 3,
         Row::Damaged => 4,
         Row::Blocks => 5,
         Row::FreeAboveN => 6,
@@ -122,6 +123,11 @@ fn make_hold(row: Row, card: &mut Card, call: &mut Call, random: &mut Random) {
                 length,
                 ..call.bytes
             };
+        }
+        Row::NoStep => call.figures.step = 0,
+        Row::FromNotBefore => call.figures.from = random.one(&[call.figures.before, u32::MAX]),
+        Row::BeforeAboveN => {
+            call.figures.before = random.one(&[card.n as u32 + 1, 262146, u32::MAX])
         }
         Row::Unsound => spoil_block(card, *call, random),
         Row::Blank => empty_block(card, *call, random),
@@ -212,14 +218,21 @@ fn empty_block(card: &mut Card, call: Call, random: &mut Random) {
     card.bytes[at..at + 512].fill(0);
 }
 
-/// More blocks than there are in a row, or one taken block too many.
+/// More blocks than there are in a row, no free block, or figures that no start has.
 fn leave_no_room(card: &mut Card, call: &mut Call, random: &mut Random) {
     let longest = survey(&card.map, card.n).longest as u32;
-    match random.within(0, 4) {
+    let ways = if call.kind == Kind::ReservePlaced {
+        6
+    } else {
+        4
+    };
+    match random.within(0, ways) {
         0 => call.number = u32::MAX,
         1 => call.number = card.n as u32 + 1,
         2 => call.number = longest + 1,
-        _ => card.map.fill(TAKEN),
+        3 => card.map.fill(TAKEN),
+        4 if call.number > 1 => (call.figures.from, call.figures.before) = (0, call.number - 1),
+        _ => (call.figures.from, call.figures.step) = (1, card.n as u32),
     }
 }
 

@@ -94,6 +94,8 @@ const EACH: &str = "
     pause 2
     release 2
     release 0
+    reserve-placed 0 2 5 60 9
+    release 0
 ";
 
 /// Too few or too many words, entries and bytes lent, and shapes outside their limits, and at them.

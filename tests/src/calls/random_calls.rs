@@ -20,13 +20,23 @@ fn random_length(x: u64) -> u64 {
     }
 }
 
+/// From, before and step: mostly a window of the 70 blocks. In 1 case of 24 before is too large, in 1 of 10 step is 0.
+fn random_figures(x: u64) -> String {
+    let (from, before, step) = (x % 52, 71 - x / 64 % 24, x / 2048 % 10);
+    format!("{from} {before} {step}")
+}
+
 /// One of the calls of a list, for one of the four sheets or, in 1 case of 16, for none. Places are below 3.
 pub(super) fn random_call(x: u64) -> String {
     let sheet = if x % 16 == 0 { 4 } else { x % 4 };
     let y = x / 1024;
     let (place, z) = (y % 5 % 3, y / 8);
     match x / 16 % 64 {
-        0..=9 => format!("reserve {sheet} {}", random_size(y)),
+        0..=4 => format!("reserve {sheet} {}", random_size(y)),
+        5..=9 => {
+            let figures = random_figures(y / 16384);
+            format!("reserve-placed {sheet} {} {figures}", random_size(y))
+        }
         10..=11 => format!("grow {sheet} {}", random_size(y)),
         12..=13 => format!("release {sheet}"),
         14 => format!("pause {sheet}"),

@@ -1,7 +1,7 @@
 //! What the calls of the examples work on, and what a line of them prints.
 
-use crate::blocks::{from_words, to_words};
-use crate::call::{call, Bytes, Kind};
+use crate::blocks::{figures, from_words, to_words};
+use crate::call::{call, placed, Bytes, Kind};
 use crate::card::{entry, Answer, Card, Entry};
 
 /// What the calls work on, of which they are lent the first words, entries and bytes.
@@ -88,7 +88,11 @@ impl Store {
             seed: 0,
             length: slice.len(),
         };
-        let answer = card.call(call(kind, sheet, number).with_bytes(bytes), slice);
+        let call = match kind {
+            Kind::ReservePlaced => placed(sheet, number, figures(at(2), at(3), at(4))),
+            _ => call(kind, sheet, number).with_bytes(bytes),
+        };
+        let answer = card.call(call, slice);
         if matches!(answer, Answer::Refused(_) | Answer::Blank(_)) {
             assert!(
                 *card == before,

@@ -107,7 +107,7 @@ impl Store {
         if k == 0 {
             return None;
         }
-        let found = least_fit(map, from, before, k);
+        let found = least_fit(map, figures(from as u32, before as u32, 1), k);
         Some(found.map_or("-".to_string(), |start| format!(":{start}")))
     }
 
