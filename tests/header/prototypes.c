@@ -1,7 +1,7 @@
-/* The functions that each header declares, as documents 01 and 02 and the signatures of the C library's Rattle source have them: a
- * slice is a pointer and a length, const where the call only reads it. Behind each header are its functions. This is compiled,
- * so that a prototype with other types in a header is a conflict; and tests/header/src/names.rs reads it, and compares the
- * names of the functions and of their parameters. */
+/* The functions that each header declares, as documents 01 and 02 and the signatures of the C library's Rattle source have
+ * them: a slice is a pointer and a length, const where the call only reads it. Behind each header are its functions. This is
+ * compiled, so that a prototype with other types in a header is a conflict; and tests/header/src/names.rs reads it, and
+ * compares the names of the functions and of their parameters. */
 #define SHAPE pagunlit_shape shape
 #define MAP uint64_t *map, size_t maplen
 #define CATALOGUE pagunlit_entry *catalogue, size_t cataloguelen

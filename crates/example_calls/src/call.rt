@@ -16,6 +16,9 @@ const SURVEY: u64 = 0x7375_7276_6579;
 
 const RESERVE: u64 = 0x72_6573_6572_7665;
 
+// The last eight letters of reserve-placed.
+const RESERVE_PLACED: u64 = 0x652d_706c_6163_6564;
+
 const GROW: u64 = 0x6772_6f77;
 
 const PUT: u64 = 0x70_7574;
@@ -80,6 +83,18 @@ fn on_parts(map: &mut [u64], card: &mut [u8], s: Setup) -> Turn
     match kind {
         FRESH => lend::fresh(shape, l.d, map, entries, s.sheets),
         RESERVE => lend::reserve(shape, map, entries, s.sheets, card, l.c, l.d),
+        RESERVE_PLACED => lend::reserve_placed(
+            shape,
+            map,
+            entries,
+            s.sheets,
+            card,
+            l.sheet,
+            l.a,
+            l.b,
+            l.c,
+            l.d,
+        ),
         GROW => lend::grow(shape, map, entries, s.sheets, card, l.c, l.d),
         PUT => {
             let all = payload::bytes(l);

@@ -38,6 +38,25 @@ pub fn reserve(
     turn_of(outcome, all)
 }
 
+pub fn reserve_placed(
+    shape: Shape,
+    map: &mut [u64],
+    entries: [Entry; 1025],
+    c: usize,
+    card: &mut [u8],
+    sheet: u32,
+    k: u32,
+    from: u32,
+    before: u32,
+    step: u32,
+) -> Turn
+    requires { ⌜ c ≤ 1025 ⌝ }
+{
+    let mut all = entries;
+    let outcome = shape.reserve_placed(map, &mut all[..c], card, sheet, k, from, before, step);
+    turn_of(outcome, all)
+}
+
 pub fn grow(
     shape: Shape,
     map: &mut [u64],

@@ -7,4 +7,5 @@ pub mod FromMapEntries1
 pub mod MapEntries1
 pub mod MapEntries1First
 pub mod MapEntriesCard2
+pub mod MapEntriesCard5
 pub mod MapEntriesScratchTextFromImage
