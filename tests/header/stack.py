@@ -68,25 +68,27 @@ def said(page):
 
 
 def said_in_header(header):
-    """The two figures of the header: the survey's, and that of any other call."""
+    """The figures of the header: the survey's, that of both reserves, and that of any other call."""
     with open(header, encoding='utf-8') as file:
-        line = re.search(r'Stack: a survey takes up to ([0-9,]+) bytes, any other call ([0-9,]+) at most', file.read())
+        line = re.search(r'Stack: a survey takes up to ([0-9,]+) bytes, a reserve ([0-9,]+), any other call ([0-9,]+) at most',
+                         file.read())
     if not line:
         sys.exit(f'stack.py: FAILED: {header} does not say how much stack a call takes')
-    return number(line[1]), number(line[2])
+    survey, reserve, other = (number(line[i]) for i in (1, 2, 3))
+    return {'pagunlit_survey': survey, 'pagunlit_reserve': reserve, 'pagunlit_reserve_placed': reserve}, other
 
 
 def main():
     if len(sys.argv) != 4:
         sys.exit(__doc__)
     found, figures = functions(sys.argv[1]), said(sys.argv[2])
-    survey, other = said_in_header(sys.argv[3])
+    named, other = said_in_header(sys.argv[3])
     depths = {name: deepest(name, found) for name in found if re.fullmatch(r'\w+', name)}
     if not depths:
         sys.exit(f'stack.py: FAILED: {sys.argv[1]} has no functions')
     wrong = []
     for name, depth in sorted(depths.items()):
-        in_header = survey if name == 'pagunlit_survey' else other
+        in_header = named.get(name, other)
         if depth > figures.get(name, -1):
             wrong.append(f'{name} takes up to {depth} bytes of stack, and docs/C.md says {figures.get(name, "nothing")}')
         if depth > in_header:

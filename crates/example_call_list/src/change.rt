@@ -26,7 +26,7 @@ fn shape(s: Setup, l: Line) -> Setup {
 
 fn entry(s: Setup, l: Line) -> Setup {
     let mut entries = s.entries;
-    let at = l.a as usize;
+    let at = line::fourth(l) as usize;
     if 1025 <= at {
         return s;
     }

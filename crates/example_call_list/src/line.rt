@@ -1,12 +1,11 @@
 // A line of the list: a word, and the numbers after it. The words of the calls are where they are made (example_calls).
 
 // A word is the number that its letters make, 256 for each letter, of the last eight of them. The last number of a line is d,
-// the one before it c, and so on; where there are fewer than five the first are 0. Where there are five, the first is the
-// sheet.
+// the one before it c, then b; the two before that are one number of 64 bits, `front`, since no line has more than five. Where
+// there are fewer, the first are 0.
 pub struct Line {
     pub word: u64,
-    pub sheet: u32,
-    pub a: u32,
+    pub front: u64,
     pub b: u32,
     pub c: u32,
     pub d: u32,
@@ -26,11 +25,10 @@ pub const BYTE: u64 = 0x2b_6279_7465;
 // A heading, of any text.
 pub const HEADING: u64 = 0x3d;
 
-fn of(word: u64, sheet: u32, a: u32, b: u32, c: u32, d: u32) -> Line {
+fn of(word: u64, front: u64, b: u32, c: u32, d: u32) -> Line {
     Line {
         word: word,
-        sheet: sheet,
-        a: a,
+        front: front,
         b: b,
         c: c,
         d: d,
@@ -38,17 +36,26 @@ fn of(word: u64, sheet: u32, a: u32, b: u32, c: u32, d: u32) -> Line {
 }
 
 pub fn empty() -> Line {
-    of(0, 0, 0, 0, 0, 0)
+    of(0, 0, 0, 0, 0)
+}
+
+// The fourth number of a line from its end, and the fifth.
+pub fn fourth(l: Line) -> u32 {
+    (l.front % 4294967296) as u32
+}
+
+pub fn fifth(l: Line) -> u32 {
+    (l.front / 4294967296) as u32
 }
 
 fn letter(l: Line, byte: u8) -> Line {
     let word = l.word % 0x100_0000_0000_0000 * 256 + byte as u64;
-    of(word, l.sheet, l.a, l.b, l.c, l.d)
+    of(word, l.front, l.b, l.c, l.d)
 }
 
 fn digit(l: Line, digit: u8) -> Line {
     let number = (l.d as u64 * 10 + (digit % 10) as u64) % 4294967296;
-    of(l.word, l.sheet, l.a, l.b, l.c, number as u32)
+    of(l.word, l.front, l.b, l.c, number as u32)
 }
 
 // The line with a byte more. Behind a line's end the next begins.
@@ -60,7 +67,8 @@ pub fn with(l: Line, byte: u8) -> Line {
         return l;
     }
     if byte == b' ' {
-        return of(l.word, l.a, l.b, l.c, l.d, 0);
+        let front = l.front % 4294967296 * 4294967296 + l.b as u64;
+        return of(l.word, front, l.c, l.d, 0);
     }
     if byte < b'0' {
         return letter(l, byte);

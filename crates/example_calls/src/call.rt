@@ -2,6 +2,7 @@
 ghost use Prim.Native.Nat.{_≤_};
 use crate::lend;
 use card::Shape;
+use example_call_list::line;
 use example_call_list::payload;
 use example_call_list::state;
 use example_call_list::state::Setup;
@@ -89,8 +90,8 @@ fn on_parts(map: &mut [u64], card: &mut [u8], s: Setup) -> Turn
             entries,
             s.sheets,
             card,
-            l.sheet,
-            l.a,
+            line::fifth(l),
+            line::fourth(l),
             l.b,
             l.c,
             l.d,
@@ -99,7 +100,16 @@ fn on_parts(map: &mut [u64], card: &mut [u8], s: Setup) -> Turn
         PUT => {
             let all = payload::bytes(l);
             let k = payload::length(l);
-            lend::put(shape, map, entries, s.sheets, card, l.a, l.b, &all[0..k])
+            lend::put(
+                shape,
+                map,
+                entries,
+                s.sheets,
+                card,
+                line::fourth(l),
+                l.b,
+                &all[0..k],
+            )
         }
         RELEASE => lend::release(shape, map, entries, s.sheets, l.d),
         _ => look(map, card, s),
