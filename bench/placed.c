@@ -9,7 +9,7 @@
 #include "plain.h"
 #include "time.h"
 
-// The crate bench_map.
+// The crate bench_placed.
 uint32_t map_bench_search_placed(const uint64_t *map, size_t words, uint32_t n, uint32_t from, uint32_t before, uint32_t step,
                                  uint32_t k);
 

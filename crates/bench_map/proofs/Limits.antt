@@ -11,7 +11,7 @@ use borrow.Author.Tests.{leb-true, eqb-true, le-leb, lt-leb}
 use Rattle.map_blocks.specs.Maps.{wordsFor}
 use Rattle.map_blocks.specs.Blocks.{free, leastFit}
 use Rattle.survey.specs.Survey.{countsOf}
-use Rattle.bench_map.specs.Answers.{withinLimits, startFor, countsFor, searched, placedSearched, surveyed}
+use Rattle.bench_map.specs.Answers.{withinLimits, startFor, countsFor, searched, surveyed}
 use Rattle.bench_map.specs.declared.Counts.{Counts}
 
 and-left : (a b : Bool) → (a && b) ≡ true → a ≡ true
@@ -53,33 +53,6 @@ pub search-within : (map : List ℕ) (n k : ℕ) → 0 < k → withinLimits map 
     → startFor (leastFit (free map) 0 n 1 k) ≡ searched map n k
 unfolding searched
 search-within map n k p e = simp (le-leb 1 k p, e)
-
--- ---- within figures
-
-module _ (map : List ℕ) (n from before step k : ℕ) where
-  pub no-blocks : k ≡ 0 → 0xffff_fffe ≡ placedSearched map n from before step k
-  unfolding placedSearched
-  no-blocks e = simp (lt-leb 1 k (omega arith))
-
-  pub no-step : 0 < k → step ≡ 0 → 0xffff_fffe ≡ placedSearched map n from before step k
-  unfolding placedSearched
-  no-step p e = simp (le-leb 1 k p, lt-leb 1 step (omega arith))
-
-  pub past-last : 0 < k → 0 < step → n < before → 0xffff_fffe ≡ placedSearched map n from before step k
-  unfolding placedSearched
-  past-last p s l = simp (le-leb 1 k p, le-leb 1 step s, lt-leb before n l)
-
-  pub placed-outside : 0 < k → 0 < step → before ≤ n → withinLimits map n ≡ false
-      → 0xffff_fffe ≡ placedSearched map n from before step k
-  unfolding placedSearched
-  placed-outside p s l e = simp (le-leb 1 k p, le-leb 1 step s, le-leb before n l, e)
-
-  pub placed-within : 0 < k → 0 < step → before ≤ n → withinLimits map n ≡ true
-      → startFor (leastFit (free map) from before step k) ≡ placedSearched map n from before step k
-  unfolding placedSearched
-  placed-within p s l e = simp (le-leb 1 k p, le-leb 1 step s, le-leb before n l, e)
-
--- ---- the survey
 
 pub survey-outside : (map : List ℕ) (n : ℕ) → withinLimits map n ≡ false
     → _≡_ {A = Counts} (record { free = 0; runs = 0; longest = 0 }) (surveyed map n)

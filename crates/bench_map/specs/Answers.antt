@@ -27,13 +27,6 @@ unfoldable pub searched : List ℕ → ℕ → ℕ → ℕ
 unfolding withinLimits
 searched map n k = cond (leb 1 k && withinLimits map n) (startFor (leastFit (free map) 0 n 1 k)) 0xffff_fffe
 
--- The same within the figures from, before and step, for a step ≥ 1 and before ≤ n.
-unfoldable pub placedSearched : List ℕ → ℕ → ℕ → ℕ → ℕ → ℕ → ℕ
-unfolding withinLimits
-placedSearched map n from before step k =
-    cond (leb 1 k && leb 1 step && leb before n && withinLimits map n) (startFor (leastFit (free map) from before step k))
-    0xffff_fffe
-
 -- The three counts, as C has them.
 abbrev pub countsFor : survey.Counts → Counts
 countsFor c = record { free = c .free; runs = c .runs; longest = c .longest }

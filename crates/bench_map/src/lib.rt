@@ -1,12 +1,12 @@
 // The search and the survey for C, as the benchmark calls them: numbers and a slice of words.
 ghost use mathlib.Core.Path.{_≡_};
-ghost use Rattle.bench_map.specs.Answers.{withinLimits, searched, placedSearched, surveyed};
+ghost use Rattle.bench_map.specs.Answers.{withinLimits, searched, surveyed};
 use catalogue_standings::opening::BLOCKS;
 use map_blocks::Found;
 
-const NO_FIT: u32 = 0xffff_ffff;
+pub const NO_FIT: u32 = 0xffff_ffff;
 
-const OUT_OF_LIMITS: u32 = 0xffff_fffe;
+pub const OUT_OF_LIMITS: u32 = 0xffff_fffe;
 
 // What a survey answers, as C has it.
 #[repr(C)]
@@ -17,7 +17,7 @@ pub struct Counts {
 }
 
 // n is the size of a card, and the map has its words.
-fn within_limits(map: &[u64], n: u32) -> bool
+pub fn within_limits(map: &[u64], n: u32) -> bool
     ensures { λ r. ⌜ r ≡ withinLimits (now (map .entry)) n ⌝ }
 {
     if n == 0 {
@@ -39,37 +39,6 @@ pub extern "C" fn map_bench_search(map: &[u64], n: u32, k: u32) -> u32
     }
     if within_limits(map, n) {
         match map_search::search(map, 0, n, k) {
-            Found::At(start) => start,
-            Found::Nothing => NO_FIT,
-        }
-    } else {
-        OUT_OF_LIMITS
-    }
-}
-
-// The start of the least fit for k within the figures from, before and step.
-#[no_mangle]
-pub extern "C" fn map_bench_search_placed(
-    map: &[u64],
-    n: u32,
-    from: u32,
-    before: u32,
-    step: u32,
-    k: u32,
-) -> u32
-    ensures { λ r. ⌜ r ≡ placedSearched (now (map .entry)) n from before step k ⌝ }
-{
-    if k == 0 {
-        return OUT_OF_LIMITS;
-    }
-    if step == 0 {
-        return OUT_OF_LIMITS;
-    }
-    if n < before {
-        return OUT_OF_LIMITS;
-    }
-    if within_limits(map, n) {
-        match map_search_placed::search_placed(map, from, before, step, k) {
             Found::At(start) => start,
             Found::Nothing => NO_FIT,
         }

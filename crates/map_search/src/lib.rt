@@ -178,8 +178,7 @@ fn reach(map: &[u64], from: u32, before: u32) -> Reached
 }
 
 // The least fit for k within the window, wherever it starts: the one with a step of 1. The word reached first is looked at
-// before anything else is worked out: for few
-// blocks the search is mostly over there.
+// before anything else is worked out: for few blocks the search is mostly over there.
 pub fn search(map: &[u64], from: u32, before: u32, k: u32) -> Found
     requires { ⌜ (before ≤ 262144) × (before ≤ 64 * length (now map)) × (0 < k) ⌝ }
     ensures { λ r. ⌜ r ≡ leastFit (free (now (map .entry))) from before 1 k ⌝ }

@@ -1,5 +1,5 @@
-// The search for a run of free blocks within three figures: from, before and step (document 02, request a). A step of 1 is
-// the plain search. Below 64 the starts are masked word by word; from 64 on the search goes from start to start.
+// The search for a run of free blocks within three figures: from, before and step (document 02, request a). From block 0 on
+// with a step of 1 it is the plain search. Below 64 the starts are masked word by word; from 64 on it goes from start to start.
 ghost use mathlib.Core.Path.{_≡_};
 ghost use mathlib.Core.Bool.{Bool, true, false, cond};
 ghost use Prim.Native.Nat.{ℕ, _+_, _*_, _%_, _<_, _≤_};
@@ -234,13 +234,16 @@ fn search_far(map: &[u64], from: u32, before: u32, step: u32, k: u32) -> Found
     Found::Nothing
 }
 
-// The least fit for k within the three figures.
+// The least fit for k within the three figures. The plain search is handed 0 as a constant, and keeps the speed that it has
+// where it is called with 0 alone.
 pub fn search_placed(map: &[u64], from: u32, before: u32, step: u32, k: u32) -> Found
     requires { ⌜ (before ≤ 262144) × (before ≤ 64 * length (now map)) × (0 < k) × (0 < step) ⌝ }
     ensures { λ r. ⌜ r ≡ leastFit (free (now (map .entry))) from before step k ⌝ }
 {
     if step == 1 {
-        return search(map, from, before, k);
+        if from == 0 {
+            return search(map, 0, before, k);
+        }
     }
     if before <= from {
         return Found::Nothing;

@@ -1,4 +1,4 @@
--- `map_search_placed::search_placed` meets its contract: the plain search is the one with a step of 1.
+-- `map_search_placed::search_placed` meets its contract: the plain search is the one from 0 on with a step of 1.
 -- Assumes nothing.
 use mathlib.Core.Path.{_≡_, sym, ap, _∙_}
 use Prim.Native.Nat.{ℕ, min}
@@ -15,14 +15,14 @@ search-requires c κs = search needs
 
 returns : tie.Need-returns
 returns c =
-    let a = c .before .before .before .args in
-    c .search .ensures ∙ ap (λ (x : ℕ). leastFit (free (now (a .map))) (a .from) (a .before) x (a .k))
-    (sym (c .before .if1 .taken))
+    let a = c .before .before .before .before .args in
+    c .search .ensures ∙ ap (λ (x : ℕ). leastFit (free (now (a .map))) x (a .before) 1 (a .k)) (sym (c .before .if2 .taken))
+    ∙ ap (λ (x : ℕ). leastFit (free (now (a .map))) (a .from) (a .before) x (a .k)) (sym (c .before .before .if1 .taken))
 
 returns-2 : tie.Need-returns-2
 returns-2 c =
     let a = c .before .before .before .args in
-    empty-window (free (now (a .map))) (a .from) (a .before) (a .step) (a .k) (omega arith) (c .if2 .taken)
+    empty-window (free (now (a .map))) (a .from) (a .before) (a .step) (a .k) (omega arith) (c .if3 .taken)
 
 search-near-requires : tie.Need-search-near-requires
 search-near-requires c κs = search needs

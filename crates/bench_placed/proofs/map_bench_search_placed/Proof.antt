@@ -1,12 +1,13 @@
--- `bench_map::map_bench_search_placed` meets its contract: within the limits it is the number of what `search_placed` found.
+-- `bench_placed::map_bench_search_placed` meets its contract: within the limits it is the number of what `search_placed` found.
 -- Assumes nothing.
 use mathlib.Core.Path.{sym, ap, _∙_}
 use native.Mathlib.Omega.{arith}
 use borrow.Author.Needs.{needs}
 use Rattle.bench_map.specs.Answers.{startFor}
-use Rattle.bench_map.proofs.Limits.{fits, no-blocks, no-step, past-last, placed-outside, placed-within}
-use Rattle.bench_map.proofs.map_bench_search_placed.Statement.{statement}
-use Rattle.bench_map.proofs.map_bench_search_placed.Tie as tie
+use Rattle.bench_map.proofs.Limits.{fits}
+use Rattle.bench_placed.proofs.Figures.{no-blocks, no-step, past-last, placed-outside, placed-within}
+use Rattle.bench_placed.proofs.map_bench_search_placed.Statement.{statement}
+use Rattle.bench_placed.proofs.map_bench_search_placed.Tie as tie
 
 returns : tie.Need-returns
 returns c = no-blocks _ _ _ _ _ _ (search needs)

@@ -1,0 +1,2 @@
+-- What the contracts of `bench_placed` cite.
+pub mod Answers
