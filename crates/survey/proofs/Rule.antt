@@ -39,8 +39,8 @@ at f xs t k h = subst (λ (m : ℕ). T (f m (getD xs k 0))) (zero-add k) (from f
 
 -- the test of one entry, and of the whole table
 unfoldable pub right : ℕ → ℕ → Bool
-right i x = eqb x (column (i % 4) (bitsOf 8 (i / 4)))
+right i x = eqb x (column (i % 2) (bitsOf 8 (i / 2)))
 
-pub ruled : (table : List ℕ) → length table ≡ 1024 → T (every right 0 table) → Ruled table
+pub ruled : (table : List ℕ) → length table ≡ 512 → T (every right 0 table) → Ruled table
 unfolding right Ruled
-ruled table e t i h = eqb→eq (getD table i 0) (column (i % 4) (bitsOf 8 (i / 4))) (at right table t i (omega arith))
+ruled table e t i h = eqb→eq (getD table i 0) (column (i % 2) (bitsOf 8 (i / 2))) (at right table t i (omega arith))

@@ -33,7 +33,7 @@ pub struct Counts {
 
 // A word before the blocks passed. A word with no free block needs no table, but it is looked for only where no block
 // passed is free: further on the test would be guessed wrong too often.
-fn prepend_word(table: &[u8; 1024], passed: Passed, w: u64) -> Passed
+fn prepend_word(table: &[u8; 512], passed: Passed, w: u64) -> Passed
     requires { ⌜ Ruled (now table) ⌝ }
     requires { ⌜ (passed .head ≤ 15000000) × (passed .runs ≤ 15000000) ⌝ }
     ensures { λ r.
@@ -51,7 +51,7 @@ fn prepend_word(table: &[u8; 1024], passed: Passed, w: u64) -> Passed
         }
     }
     if 14 <= passed.longest {
-        if bytes_short(table, w) {
+        if bytes_short(w) {
             return prepend_word_short(table, passed, w);
         }
     }

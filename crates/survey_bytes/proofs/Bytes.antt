@@ -10,10 +10,10 @@ use lib.ListN.{length}
 use Rattle.survey_bytes.specs.Runs.{headOf, runsOf}
 use Rattle.survey_bytes.specs.Bytes.{bitsOf, column}
 
-pub columns : (i k b : ℕ) → i ≡ 4 * b + k → k < 4 → column (i % 4) (bitsOf 8 (i / 4)) ≡ column k (bitsOf 8 b)
+pub columns : (i k b : ℕ) → i ≡ 2 * b + k → k < 2 → column (i % 2) (bitsOf 8 (i / 2)) ≡ column k (bitsOf 8 b)
 columns i k b e h =
-    let p : i % 4 ≡ k = omega arith in
-    let q : i / 4 ≡ b = omega arith in
+    let p : i % 2 ≡ k = omega arith in
+    let q : i / 2 ≡ b = omega arith in
     rw (p, q)
 
 pub eight : (n : ℕ) → length (bitsOf 8 n) ≡ 8

@@ -1,4 +1,5 @@
 -- Laws that the proofs of several functions cite, and those for the crates above.
 pub mod Bytes
 mod Edges
-mod Meeting
+pub mod Ends
+pub mod Meeting

@@ -1,37 +1,53 @@
-// What a survey goes by at a byte: its numbers in the table (document 01, "Map and search"), how they join those of the
-// blocks behind it, and where a run goes on from a byte of a word into the next.
+// What a survey goes by at a byte: its head and tail, which are worked out, and its numbers in the table (document 01, "Map and
+// search"; document 02 (c)), how they join those of the blocks behind it, and where a run goes on from a byte of a word into
+// the next.
 ghost use mathlib.Core.Path.{_≡_};
 ghost use mathlib.Core.Bool.{true, cond};
 ghost use Prim.Native.Nat.{_+_, _<_, _≤_, _/_, _%_};
 ghost use lib.Dec.{eqb};
-ghost use Rattle.survey_bytes.specs.Runs.{longestOf, runsOf, meet};
+ghost use Rattle.survey_bytes.specs.Runs.{headOf, tailOf, longestOf, runsOf, meet};
 ghost use Rattle.survey_bytes.specs.Bytes.{bitsOf, column, Ruled, Apart, crossed};
 
 // The last bits of seven bytes.
 const LAST_BITS: u64 = 0x0001_0101_0101_0101;
 
+// The ones at the head of the last byte of w, which is its most significant side: the zeros at the head of its complement. The
+// byte is taken with 24 zeros behind it, whose complement is never 0 as a whole.
+pub fn byte_head(w: u64) -> u32
+    ensures { λ r. ⌜ (r ≡ headOf (bitsOf 8 (w % 256))) × (r ≤ 8) ⌝ }
+{
+    u32::leading_zeros(!((w % 256) as u32 * 0x0100_0000))
+}
+
+// The ones at the tail of the last byte of w: 1 more than the byte has as many zeros there.
+pub fn byte_tail(w: u64) -> u32
+    ensures { λ r. ⌜ (r ≡ tailOf (bitsOf 8 (w % 256))) × (r ≤ 8) ⌝ }
+{
+    u32::trailing_zeros((w % 256) as u32 + 1)
+}
+
 // One number of the table.
-pub fn entry(table: &[u8; 1024], i: usize) -> u8
-    requires { ⌜ (i < 1024) × Ruled (now table) ⌝ }
-    ensures { λ r. ⌜ r ≡ column (i % 4) (bitsOf 8 (i / 4)) ⌝ }
+fn entry(table: &[u8; 512], i: usize) -> u8
+    requires { ⌜ (i < 512) × Ruled (now table) ⌝ }
+    ensures { λ r. ⌜ r ≡ column (i % 2) (bitsOf 8 (i / 2)) ⌝ }
 {
     table[i]
 }
 
 // The longest run of the last byte of w.
-pub fn byte_longest(table: &[u8; 1024], w: u64) -> u8
+pub fn byte_longest(table: &[u8; 512], w: u64) -> u8
     requires { ⌜ Ruled (now table) ⌝ }
     ensures { λ r. ⌜ r ≡ longestOf (bitsOf 8 (w % 256)) ⌝ }
 {
-    entry(table, 4 * ((w % 256) as usize) + 2)
+    entry(table, 2 * ((w % 256) as usize))
 }
 
 // The runs of the last byte of w.
-pub fn byte_runs(table: &[u8; 1024], w: u64) -> u8
+pub fn byte_runs(table: &[u8; 512], w: u64) -> u8
     requires { ⌜ Ruled (now table) ⌝ }
     ensures { λ r. ⌜ (r ≡ runsOf (bitsOf 8 (w % 256))) × (r ≤ 8) ⌝ }
 {
-    entry(table, 4 * ((w % 256) as usize) + 3)
+    entry(table, 2 * ((w % 256) as usize) + 1)
 }
 
 // The free blocks at the head of a byte, which has h, before others, which have head.

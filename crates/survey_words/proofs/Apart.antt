@@ -10,15 +10,8 @@ use lib.Dec.{eqb}
 use Rattle.laws.proofs.Bools.{order}
 use Rattle.survey_bytes.specs.Runs.{headOf, tailOf, meet}
 use Rattle.survey_bytes.specs.Bytes.{bitsOf}
-use Rattle.survey_words.proofs.Joining.{meet-none, meet-nothing, tail-none}
-
--- an even number ends in a 0
-pub tail-even : (k n : ℕ) → n % 2 ≡ 0 → tailOf (bitsOf (suc k) n) ≡ 0
-unfolding bitsOf tailOf
-tail-even zero n e =
-    let z : n / 2 ^ 0 % 2 ≡ 0 = omega arith in
-    rw (z)
-tail-even (suc k) n e = tail-none (eqb (n / 2 ^ suc k % 2) 1) (eqb (n / 2 ^ k % 2) 1) (bitsOf k n) (tail-even k n e)
+use Rattle.survey_bytes.proofs.Ends.{tail-even}
+use Rattle.survey_words.proofs.Joining.{meet-none, meet-nothing, one-side}
 
 pub head-small : (b : ℕ) (ys : List Bool) → b / 128 % 2 ≡ 0 → headOf (bitsOf 8 b ++ ys) ≡ 0
 unfolding bitsOf headOf
@@ -32,3 +25,11 @@ bytes-part w ys e =
     (λ (l : w / 256 % 2 < 1). meet-none _ _ (tail-even 7 (w / 256 % 256) (omega arith)))
     (λ (g : 1 ≤ w / 256 % 2). meet-nothing _ _ (head-small (w % 256) ys (omega arith)))
     (order (w / 256 % 2) 1)
+
+-- a byte of which the last bit and the others do not meet
+pub byte-parts : (w h : ℕ) → meet (w % 2) h ≡ 0 → meet (tailOf (bitsOf 8 (w % 256))) h ≡ 0
+byte-parts w h e =
+    ⊎-elim
+    (λ (z : w % 2 ≡ 0). meet-none _ _ (tail-even 7 (w % 256) (omega arith)))
+    (λ (z : h ≡ 0). meet-nothing _ _ z)
+    (one-side (w % 2) h e)

@@ -141,15 +141,9 @@ tail-longest (true ∷ xs) =
     (λ (f : Broken xs []). omega (arith, tail-broken xs (f .t), tail-longest xs))
     (parts xs [])
 
--- a list that ends in a taken block
-pub tail-none : (x y : Bool) (xs : List Bool) → tailOf (y ∷ xs) ≡ 0 → tailOf (x ∷ y ∷ xs) ≡ 0
-unfolding tailOf
-tail-none false y xs e = e
-tail-none true y xs e = tail-broken (y ∷ xs) (omega (arith, e)) ∙ e
-
 -- ---- two lists that do not meet in one run
 
-one-side : (t h : ℕ) → meet t h ≡ 0 → (t ≡ 0) ⊎ (h ≡ 0)
+pub one-side : (t h : ℕ) → meet t h ≡ 0 → (t ≡ 0) ⊎ (h ≡ 0)
 unfolding meet
 one-side zero h e = inl refl
 one-side (suc t) zero e = inr refl
@@ -175,12 +169,6 @@ longest-apart xs ys e =
 
 pub head-short : (xs ys : List Bool) → headOf xs < length xs → headOf (xs ++ ys) ≡ headOf xs
 head-short xs ys l = ⊎-elim (λ (f : Full xs ys). absurd (omega (arith, f .h))) (λ (f : Broken xs ys). f .a) (parts xs ys)
-
-pub tail-pos : (x : Bool) (xs : List Bool) → 0 < tailOf xs → 0 < tailOf (x ∷ xs)
-unfolding tailOf
-tail-pos false xs p = p
-tail-pos true xs p = ⊎-elim (λ (f : Full xs []). omega (arith, tail-full xs (f .t)))
-    (λ (f : Broken xs []). omega (arith, tail-broken xs (f .t))) (parts xs [])
 
 pub tail-short : (xs ys : List Bool) → tailOf ys < length ys
     → (tailOf (xs ++ ys) ≡ tailOf ys) × (tailOf (xs ++ ys) < length (xs ++ ys))

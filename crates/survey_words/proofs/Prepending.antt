@@ -1,4 +1,4 @@
--- A byte before the blocks passed: its numbers in the table, and what they make of the summary.
+-- A byte before the blocks passed: its four numbers, and what they make of the summary.
 -- Assumes nothing.
 use mathlib.Core.Path.{_≡_, sym, _∙_}
 use mathlib.Core.Bool.{Bool, cond}
@@ -34,3 +34,7 @@ summary-apart b h l n head longest runs r2 r3 eh el en e2 e3 ys s apart = record
   longests = cc (longest-apart (bitsOf 8 b) ys apart);
   counts = omega (arith, runs-append (bitsOf 8 b) ys, s .counts);
 }
+
+-- the runs counted another way
+pub recounted : (head longest runs r : ℕ) (xs : List Bool) → Summary head longest runs xs → r ≡ runsOf xs → Summary head longest r xs
+recounted head longest runs r xs s e = record { heads = s .heads; longests = s .longests; counts = e }

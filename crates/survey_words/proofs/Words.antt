@@ -2,7 +2,7 @@
 -- Assumes nothing.
 use mathlib.Core.Path.{_≡_, refl, sym, ap, _∙_}
 use mathlib.Core.Bool.{Bool}
-use mathlib.Core.List.{List, _++_, append-assoc}
+use mathlib.Core.List.{List, [], _∷_, _++_, append-assoc}
 use Prim.Native.Nat.{ℕ, zero, suc, _+_, _/_, _%_, _^_}
 use native.Mathlib.Nat.{suc-add, div-div-eq-div-mul, mul-comm}
 use native.Mathlib.Omega.{arith}
@@ -61,3 +61,7 @@ pub word-bits : (k w : ℕ) (ys : List Bool) → bytes k w ys ≡ bitsOf (eights
 unfolding bitsOf
 word-bits zero w ys = refl
 word-bits (suc k) w ys = word-bits k (w / 256) (bitsOf 8 (w % 256) ++ ys) ∙ sym (one (eights k) w ys)
+
+pub nothing-behind : (xs : List Bool) → xs ++ [] ≡ xs
+nothing-behind [] = refl
+nothing-behind (x ∷ xs) = ap (λ (l : List Bool). x ∷ l) (nothing-behind xs)

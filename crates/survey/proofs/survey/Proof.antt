@@ -11,7 +11,7 @@ use borrow.Author.Needs.{needs}
 use denote.Ref.{now}
 use Rattle.map_blocks.specs.Maps.{wordsFor}
 use Rattle.map_blocks.specs.Blocks.{free}
-use Rattle.survey_bytes.specs.Runs.{headOf, tailOf, longestOf, runsOf}
+use Rattle.survey_bytes.specs.Runs.{headOf, longestOf, runsOf}
 use Rattle.survey_bytes.specs.Bytes.{bitsOf, column}
 use Rattle.survey_words.specs.Passing.{Summary}
 use Rattle.survey.specs.Survey.{freeOf}
@@ -66,7 +66,7 @@ add-free c =
     omega (arith, ones-le 64 (bitAnd word (loop .mask)) small)
 
 prepend-word-requires : tie.Need-prepend-word-requires Inv-loop μ-loop
-unfolding right bitsOf headOf tailOf longestOf runsOf column
+unfolding right bitsOf headOf longestOf runsOf column
 prepend-word-requires c κs = (ruled _ refl tt, omega arith)
 
 loop-less : tie.Need-loop-less Inv-loop μ-loop

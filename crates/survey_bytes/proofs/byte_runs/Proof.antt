@@ -22,7 +22,7 @@ returns : tie.Need-returns
 unfolding column
 returns c =
     let w = c .before .args .w in
-    let e = c .entry .ensures ∙ columns (4 * (w % 256) + 3) 3 (w % 256) (omega arith) (omega arith) in
+    let e = c .entry .ensures ∙ columns (2 * (w % 256) + 1) 1 (w % 256) (omega arith) (omega arith) in
     (e, omega (arith, e, runs-length (bitsOf 8 (w % 256)), eight (w % 256)))
 
 pub byte-runs-spec : {M : Type 1} → statement M

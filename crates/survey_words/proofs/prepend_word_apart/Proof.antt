@@ -11,8 +11,8 @@ use borrow.Author.Needs.{needs}
 use Rattle.survey_words.proofs.prepend_word_apart.Statement.{statement}
 use Rattle.survey_words.proofs.prepend_word_apart.Tie as tie
 
-prepend-byte-requires : tie.Need-prepend-byte-requires
-prepend-byte-requires c κs = search needs
+prepend-last-byte-requires : tie.Need-prepend-last-byte-requires
+prepend-last-byte-requires c κs = search needs
 
 prepend-byte-apart-requires : tie.Need-prepend-byte-apart-requires
 prepend-byte-apart-requires c κs = search needs
@@ -38,7 +38,7 @@ prepend-byte-apart-requires-7 c κs = (
   omega (
     arith,
     c .before .before .before .before .before .before .before .pre .1,
-    c .before .before .before .before .before .before .prepend-byte .ensures .1,
+    c .before .before .before .before .before .before .prepend-last-byte .ensures .1,
     c .before .before .before .before .before .prepend-byte-apart .ensures .1,
     c .before .before .before .before .prepend-byte-apart2 .ensures .1,
     c .before .before .before .prepend-byte-apart3 .ensures .1,
@@ -59,7 +59,7 @@ returns c =
           (c .before .before .before .before .prepend-byte-apart3 .ensures .0 _
           (c .before .before .before .before .before .prepend-byte-apart2 .ensures .0 _
           (c .before .before .before .before .before .before .prepend-byte-apart .ensures .0 _
-          (c .before .before .before .before .before .before .before .prepend-byte .ensures .0 ys s)
+          (c .before .before .before .before .before .before .before .prepend-last-byte .ensures .0 ys s)
           (bytes-part w _ (pre .0 .1 .0))) (bytes-part (w / 256) _ (pre .0 .1 .1 .0)))
           (bytes-part (w / 256 / 256) _ (pre .0 .1 .1 .1 .0)))
           (bytes-part (w / 256 / 256 / 256) _ (pre .0 .1 .1 .1 .1 .0)))
@@ -70,7 +70,7 @@ returns c =
           (pre .0 .1 .1 .1 .1 .1 .1 .1 .0))),
       omega (
         arith,
-        c .before .before .before .before .before .before .before .prepend-byte .ensures .1,
+        c .before .before .before .before .before .before .before .prepend-last-byte .ensures .1,
         c .before .before .before .before .before .before .prepend-byte-apart .ensures .1,
         c .before .before .before .before .before .prepend-byte-apart2 .ensures .1,
         c .before .before .before .before .prepend-byte-apart3 .ensures .1,
@@ -85,7 +85,7 @@ pub prepend-word-apart-spec : {M : Type 1} → statement M
 prepend-word-apart-spec =
     tie.close
     (tie.spec
-    prepend-byte-requires
+    prepend-last-byte-requires
     prepend-byte-apart-requires
     prepend-byte-apart-requires-2
     prepend-byte-apart-requires-3
