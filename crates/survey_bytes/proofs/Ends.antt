@@ -1,10 +1,10 @@
 -- The ones at the head and at the tail of a byte, by the counts of zeros that work them out.
 -- Assumes nothing.
-use mathlib.Core.Path.{_≡_, refl, sym, ap, _∙_, subst}
-use mathlib.Core.Bool.{Bool, true, false, _&&_, cond}
+use mathlib.Core.Path.{_≡_, refl, sym, ap, _∙_}
+use mathlib.Core.Bool.{Bool, true, false, cond}
 use mathlib.Core.List.{List, [], _∷_}
 use Prim.Native.Nat.{ℕ, zero, suc, _+_, _-_, _*_, _/_, _%_, _^_, _<_, _≤_, compare·suc-suc}
-use native.Mathlib.Nat.{mod-lt, mod-one, mod-eq-of-lt}
+use native.Mathlib.Nat.{mod-lt, mod-one}
 use native.Mathlib.Numerals.{one-add}
 use native.Mathlib.Omega.{arith}
 use lib.Count.{leadingZeros, trailingZeros, under, leading-unique}

@@ -46,8 +46,8 @@ others (suc k) w ys =
     let zs : List Bool = bitsOf 8 (w % 256) ++ ys in
     omega (arith, others k (w / 256) zs, runs-append (bitsOf 8 (w / 256 % 256)) zs, crossing w ys)
 
-pub counted : (w : ℕ) (ys : List Bool) → runsOf (bitsOf 64 w ++ ys) + crossed 7 w + meet (tailOf (bitsOf 8 (w % 256))) (headOf ys)
-    ≡ runsIn 8 w + runsOf ys
+pub counted : (w : ℕ) (ys : List Bool)
+    → runsOf (bitsOf 64 w ++ ys) + crossed 7 w + meet (tailOf (bitsOf 8 (w % 256))) (headOf ys) ≡ runsIn 8 w + runsOf ys
 unfolding runsIn
 counted w ys = omega (arith, ap runsOf (word-bits 8 w ys), others 7 w ys, runs-append (bitsOf 8 (w % 256)) ys)
 

@@ -36,5 +36,6 @@ summary-apart b h l n head longest runs r2 r3 eh el en e2 e3 ys s apart = record
 }
 
 -- the runs counted another way
-pub recounted : (head longest runs r : ℕ) (xs : List Bool) → Summary head longest runs xs → r ≡ runsOf xs → Summary head longest r xs
+pub recounted : (head longest runs r : ℕ) (xs : List Bool) → Summary head longest runs xs → r ≡ runsOf xs
+    → Summary head longest r xs
 recounted head longest runs r xs s e = record { heads = s .heads; longests = s .longests; counts = e }

@@ -1,2 +1,2 @@
--- What the contracts of `passing` cite.
+-- What the contracts of `survey_words` cite.
 pub mod Passing

@@ -34,7 +34,9 @@ larger-requires : tie.Need-larger-requires
 larger-requires c κs = search needs
 
 add-larger : tie.Need-add-larger
-add-larger c = omega (arith, c .before .before .before .before .before .byte-tail .ensures .1, c .before .before .before .before .before .before .pre .1)
+add-larger c =
+    let tail = c .before .before .before .before .before in
+    omega (arith, tail .byte-tail .ensures .1, tail .before .pre .1)
 
 larger-requires-2 : tie.Need-larger-requires-2
 larger-requires-2 c κs = search needs

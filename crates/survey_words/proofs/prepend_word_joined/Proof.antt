@@ -64,7 +64,9 @@ prepend-byte-requires-8 c κs = (
 returns : tie.Need-returns
 returns c = (
   λ ys s.
-      recounted _ _ _ _ _ (subst (Summary _ _ _) (word-bits 8 (c .before .before .before .before .before .before .before .before .before .args .w) ys)
+      recounted _ _ _ _ _
+      (subst (Summary _ _ _)
+      (word-bits 8 (c .before .before .before .before .before .before .before .before .before .args .w) ys)
       (c .prepend-byte8 .ensures .0 _ (c .before .prepend-byte7 .ensures .0 _
       (c .before .before .prepend-byte6 .ensures .0 _ (c .before .before .before .prepend-byte5 .ensures .0 _
       (c .before .before .before .before .prepend-byte4 .ensures .0 _

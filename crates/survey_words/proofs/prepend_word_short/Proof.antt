@@ -19,7 +19,9 @@ larger-requires : tie.Need-larger-requires
 larger-requires c κs = search needs
 
 word-runs-requires : tie.Need-word-runs-requires
-word-runs-requires c κs = (c .before .before .before .before .pre .0 .0, omega (arith, c .before .before .before .before .pre .1))
+word-runs-requires c κs =
+    let start = c .before .before .before .before in
+    (start .pre .0 .0, omega (arith, start .pre .1))
 
 returns : tie.Need-returns
 returns c =
@@ -27,8 +29,8 @@ returns c =
     let start = headed .before in
     let a = start .args in (
       summary-short (a .w) (a .passed .head) (a .passed .longest) (a .passed .runs) _ _ _ _ (start .pre .0 .1)
-          (headed .byte-head .ensures .0) (c .before .before .before .byte-tail .ensures .0) (start .pre .1 .0) (c .before .larger .ensures)
-          (c .word-runs .ensures .0),
+          (headed .byte-head .ensures .0) (c .before .before .before .byte-tail .ensures .0) (start .pre .1 .0)
+          (c .before .larger .ensures) (c .word-runs .ensures .0),
       (omega (arith, headed .byte-head .ensures .1), omega (arith, c .word-runs .ensures .1)),
     )
 

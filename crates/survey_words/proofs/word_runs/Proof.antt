@@ -1,4 +1,5 @@
--- `survey_words::word_runs` meets its contract: the table gives the runs of each byte, and the bits at their ends the crossings.
+-- `survey_words::word_runs` meets its contract: the table gives the runs of each byte, and the bits at their ends tell the
+-- crossings.
 -- Assumes nothing.
 use mathlib.Core.Path.{_≡_}
 use Prim.Native.Nat.{ℕ, _+_, _-_}
