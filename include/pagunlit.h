@@ -9,7 +9,7 @@
  *
  * compiles a program against it. `tools/install PREFIX` copies this header, pagunlit_text.h and the archive, with a file for
  * pkg-config. The library allocates nothing, opens nothing and keeps nothing. Of the C library it needs memset alone.
- * Stack: a survey takes up to 1,168 bytes, a reserve 600, any other call 256 at most. docs/C.md has more on all of this.
+ * Stack: a survey takes up to 648 bytes, a reserve 600, any other call 256 at most. docs/C.md has more on all of this.
  *
  * Global names: all begin with pagunlit_ or PAGUNLIT_, but for the functions `seal` and `check`, which the dispenser's program
  * calls by these names. A program that links the library can have no other global function of these two names.
@@ -38,8 +38,8 @@ extern "C" {
 #endif
 
 /* The version of this header, 10000 * first + 100 * second + third, and as a text. */
-#define PAGUNLIT_VERSION 10100
-#define PAGUNLIT_VERSION_TEXT "1.1.0"
+#define PAGUNLIT_VERSION 10200
+#define PAGUNLIT_VERSION_TEXT "1.2.0"
 
 enum {
     PAGUNLIT_BLOCK = 512,       /* bytes of a block */

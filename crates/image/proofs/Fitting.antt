@@ -21,8 +21,7 @@ sheets : (c : ℕ) → sheetsFit c ≡ true → Sheets c
 unfolding sheetsFit
 sheets c e = record {
   some = leb-true 1 c (and-left (leb 1 c) (leb c 1024) e);
-  few =
-      leb-true c 1024 (and-right (leb 1 c) (leb c 1024) e);
+  few = leb-true c 1024 (and-right (leb 1 c) (leb c 1024) e);
 }
 
 -- row 1 of save

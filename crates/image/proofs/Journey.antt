@@ -348,8 +348,7 @@ module _ (s : State) (scratchlen bufferlen : ℕ) (words : Words (s .map))
             (record {
               exact = omega (arith, image-length);
               some = omega (arith, image-length);
-              few =
-                  omega (arith, image-length, few);
+              few = omega (arith, image-length, few);
             });
         frames = image-framed;
         first = ap₂ (λ (x y : ℕ). headFits x (freeCountIn image) y (totalOf image)) image-blocks image-sheets

@@ -52,8 +52,7 @@ module _ (s : State) (scratchlen bufferlen : ℕ) where
       record {
         lengths = r1 .0;
         whole = r4 .0;
-        exact =
-            eqb-true bufferlen (512 * framesFor (s .blocks) (length (s .entries))) (r12 .0);
+        exact = eqb-true bufferlen (512 * framesFor (s .blocks) (length (s .entries))) (r12 .0);
       }
 
   pub to-saved : Saved s scratchlen bufferlen → saveVerdict s scratchlen bufferlen ≡ accepted

@@ -46,8 +46,7 @@ stateOf n l card = record {
   shape = record { blocks = n; free = spareIn n l };
   map = mapIn n l;
   entries = map entryIn l;
-  card =
-      card;
+  card = card;
 }
 
 -- what holds of a ledger and of the card beside it, after every list

@@ -72,8 +72,7 @@ lists n [] [] l card s t k e h =
       answers = refl;
       searches = tt;
       sum = refl;
-      noted-so =
-          λ j p m was. was;
+      noted-so = λ j p m was. was;
     }
 lists n [] (reply ∷ replies) l card s t k e h = absurd h
 lists n (c ∷ calls) [] l card s t k e h = absurd h

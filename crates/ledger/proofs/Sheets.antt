@@ -182,8 +182,7 @@ module _ (n : ℕ) (l : List Sheet) (ok : Sound n l) (i : ℕ) (lt : i < length 
         sound-set (Open s (ps ++ replicate m Blank))
         (record {
           inside = omega (arith, wide, fit-inside (freeIn n l) n m (s + length ps) f);
-          needed =
-              omega (arith, wide);
+          needed = omega (arith, wide);
           sized = sized-more ps m (before-it .sized);
         })
         (λ b. go b (inRun s (length (ps ++ replicate m Blank)) b) refl)
@@ -211,8 +210,7 @@ module _ (n : ℕ) (l : List Sheet) (ok : Sound n l) (i : ℕ) (lt : i < length 
         (record {
           inside = omega (arith, before-it .inside);
           needed = omega (arith, before-it .needed);
-          sized =
-              λ p. rw full (before-it .sized p);
+          sized = λ p. rw full (before-it .sized p);
         })
         (λ b. rw (was, w))
 
@@ -223,7 +221,6 @@ module _ (n : ℕ) (l : List Sheet) (ok : Sound n l) (i : ℕ) (lt : i < length 
         (record {
           inside = omega (arith, before-it .inside);
           needed = omega (arith, before-it .needed);
-          sized =
-              sized-set ps p (Payload payload) len (before-it .sized);
+          sized = sized-set ps p (Payload payload) len (before-it .sized);
         })
         (λ b. rw (was, w))

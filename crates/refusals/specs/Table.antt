@@ -1,7 +1,6 @@
 -- The table of refusals (document 01, "What the caller gets instead"): for each call its rows, in the order 1, 2, 4 for the
--- entry, 5 to 8, 3, 15 (document 02, request a), 4 for blocks, 9, 10 or 11, and last 4 for the count. A call is refused with
--- the
--- first row that holds.
+-- entry, 5 to 8, 3, 15 (document 02, request a), 4 for blocks, 9, 10 or 11, and last 4 for the count. A call is refused
+-- with the first row that holds.
 -- Assumes nothing.
 use Prim.Native.Nat.{ℕ, _+_}
 use mathlib.Core.Bool.{Bool, not, _||_}

@@ -36,8 +36,7 @@ all-taken f s (suc m) h = go (f s) (h s (omega arith)) (all-taken f (suc s) m (�
       free = omega (arith, rest .free);
       head = refl;
       longest = omega (arith, rest .longest);
-      runs =
-          omega (arith, rest .runs);
+      runs = omega (arith, rest .runs);
     }
 
 pub taken-end : (f : ℕ → Bool) (xs : List Bool) (s m : ℕ) → ((b : ℕ) → s ≤ b → f b ≡ false) → Same (xs ++ blocks f s m) xs

@@ -75,10 +75,8 @@ returns-3 c =
     (record {
       low = omega arith;
       high = omega arith;
-      free =
-          space-fits g s (a .k) (c .before .space .result) (c .if3 .taken) told;
-      placed =
-          mod-on (a .step) s (here .past-taken .ensures .2);
+      free = space-fits g s (a .k) (c .before .space .result) (c .if3 .taken) told;
+      placed = mod-on (a .step) s (here .past-taken .ensures .2);
     })
     (past-starts g (a .from) (a .before) (a .step) (a .k) (here .before .before .loop .c) s (omega arith)
     (here .past-taken .ensures .3) (here .before .before .loop .inv .3))
