@@ -1,9 +1,9 @@
 //! What the check catches (document 02, request (i)): sealed blocks of any sheet, place and payload with one byte changed, two
 //! changed, or two neighbours traded; and three changed bytes that pass, where the promise ends.
 
-use crate::call::Bytes;
 use crate::counts::Counts;
 use crate::library::{bytes, check};
+use bitwise::call::Bytes;
 use bitwise::card::sealed;
 use bitwise::random::Random;
 

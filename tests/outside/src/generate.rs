@@ -97,7 +97,7 @@ impl Generator {
             0
         };
         if kind == Kind::ReservePlaced {
-            return placed(sheet, number, any_figures(&mut self.random, card.n));
+            return placed(sheet, number, any_figures(card.n, number, &mut self.random));
         }
         let bytes = if kind.has_slice() {
             self.bytes()
