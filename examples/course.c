@@ -72,6 +72,17 @@ static void reserve(uint32_t sheet, uint32_t places)
     told(call, pagunlit_reserve(shape, map, WORDS, catalogue, SHEETS, card, sizeof card, sheet, places));
 }
 
+/* Where a sheet would start, and how long it could become there. */
+static void search(uint32_t places)
+{
+    pagunlit_outcome s = pagunlit_search(shape, map, WORDS, places);
+
+    if (s.number == PAGUNLIT_DONE)
+        printf("      %u places would start at block %u, with space for %u\n", places, s.first, s.second);
+    else
+        printf("      %u places: refused, %u: %s\n", places, s.number, pagunlit_meaning(s.number));
+}
+
 /* A payload is 496 bytes: here a line of text, and zeros behind it. */
 static void put(uint32_t sheet, uint32_t place, const char *line)
 {
@@ -223,6 +234,10 @@ static void full_card(void)
     puts("The first course is over: its blocks are free for the next, in which no old line passes for a new one.");
     release(0);
     reserve(3, 4);
+
+    puts("The pharmacist chooses a length by what could be added to it later.");
+    search(3);
+    search(2);
     reserve(3, 2);
     put(3, 0, "days 1 to 3: one tablet at 8");
     complete(3);

@@ -38,8 +38,8 @@ extern "C" {
 #endif
 
 /* The version of this header, 10000 * first + 100 * second + third, and as a text. */
-#define PAGUNLIT_VERSION 10200
-#define PAGUNLIT_VERSION_TEXT "1.2.0"
+#define PAGUNLIT_VERSION 10300
+#define PAGUNLIT_VERSION_TEXT "1.3.0"
 
 enum {
     PAGUNLIT_BLOCK = 512,       /* bytes of a block */
@@ -113,7 +113,8 @@ pagunlit_outcome pagunlit_fresh(pagunlit_shape shape, uint32_t blocks, uint64_t 
  *   4   the sheet's entry is damaged: its mark is none of the four; or it is Absent or Paused and has a start or a length; or
  *       it is Open or Complete and has length 0, goes past the card's last block, or has a block that is free in the map */
 
-/* The lowest run of k free blocks. first: its start.
+/* The lowest run of k free blocks. first: its start. second: the space behind it, the number of free blocks from its start to
+ * the next taken block or the card's end, which is k or more.
  *   1   as above     3   k is 0     10   no run of free blocks is long enough */
 pagunlit_outcome pagunlit_search(pagunlit_shape shape, const uint64_t *map, size_t maplen, uint32_t k);
 
@@ -122,7 +123,7 @@ pagunlit_outcome pagunlit_search(pagunlit_shape shape, const uint64_t *map, size
 pagunlit_outcome pagunlit_survey(pagunlit_shape shape, const uint64_t *map, size_t maplen);
 
 /* An Absent sheet becomes Open with `count` blank places, at the lowest run that is long enough. Its blocks are filled with
- * zeros. first: its start.
+ * zeros. first: its start. second: the space behind it as it was before, count and what grow could add to it.
  *   1, 2, 4   as above
  *   6, 7, 8   the sheet is Paused, Open, Complete
  *   3         count is 0
@@ -133,6 +134,7 @@ pagunlit_outcome pagunlit_reserve(pagunlit_shape shape, uint64_t *map, size_t ma
 
 /* The same with three figures: the lowest run that is long enough, starts at or after `from`, starts on a multiple of `step`,
  * and whose last block is below `before`. pagunlit_reserve is the one with 0, the card's blocks and 1. first: its start.
+ * second: the space behind it, as above; it ends at the next taken block or the card's end, whatever `before` is.
  *   1, 2, 4   as above
  *   6, 7, 8   the sheet is Paused, Open, Complete
  *   3         count is 0

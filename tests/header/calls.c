@@ -143,6 +143,7 @@ static void course(void)
     told("pause 0", pagunlit_pause(shape, map, W, catalogue, C, 0));
     grow("grow 2 1", 2, 1);
     told("release 2", pagunlit_release(shape, map, W, catalogue, C, 2));
+    search("search 2", 2);
     reserve_placed("reserve-placed 2 4 21 66 7", 2, 4, 21, 66, 7);
     told("release placed 2", pagunlit_release(shape, map, W, catalogue, C, 2));
     survey("survey again");

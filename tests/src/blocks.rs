@@ -76,6 +76,13 @@ pub fn least_fit(map: &[bool], figures: Figures, k: usize) -> Option<usize> {
     None
 }
 
+/// The space behind a start (document 02, (b)): the number of free blocks from it to the next taken block or n, in a map of the
+/// card's n blocks.
+pub fn space(map: &[bool], start: usize) -> usize {
+    let free = map[start..].iter().take_while(|&&block| block == FREE);
+    free.count()
+}
+
 /// What a survey answers.
 #[derive(Debug, PartialEq)]
 pub struct Counts {
@@ -190,6 +197,37 @@ mod tests {
         ];
         for (figures, k, result) in rows {
             assert_eq!(least_fit(map, figures, k), result, "{figures:?}, k {k}");
+        }
+    }
+
+    /// Of all maps of 10 blocks and all starts: so many blocks are free from there on that the next is taken or is none.
+    #[test]
+    fn spaces() {
+        for map in all_maps(10) {
+            for start in 0..10 {
+                let end = start + space(&map, start);
+                assert!(all(&map, start, end, FREE), "{map:?} from {start}");
+                assert!(end == 10 || map[end] == TAKEN, "{map:?} from {start}");
+            }
+        }
+    }
+
+    /// Spaces that end inside a word, at its end and behind it, in a later word and at n.
+    #[test]
+    fn spaces_over_words() {
+        let map = &with_free(200, &[3..=20, 60..=63, 65..=140, 150..=199]);
+        for (start, length) in [
+            (3, 18),
+            (20, 1),
+            (60, 4),
+            (63, 1),
+            (65, 76),
+            (128, 13),
+            (150, 50),
+            (199, 1),
+            (64, 0),
+        ] {
+            assert_eq!(space(map, start), length, "from {start}");
         }
     }
 

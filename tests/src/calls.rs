@@ -5,6 +5,7 @@ mod limits;
 mod other_calls;
 mod placed_calls;
 mod random_calls;
+mod space_calls;
 mod store;
 
 use crate::random::Random;
@@ -22,12 +23,14 @@ pub fn examples() -> String {
             "word boundaries of placed reserves",
             placed_calls::BOUNDARIES.to_string(),
         ),
+        ("spaces over words", space_calls::WORDS.to_string()),
         ("numbers of sheets", limits::SHEETS.to_string()),
         ("row 1", limits::row_1()),
     ];
     let lists = [
         filling_calls::LISTS,
         placed_calls::LISTS,
+        space_calls::LISTS,
         other_calls::LISTS,
     ];
     let lists = lists.iter().flat_map(|lists| lists.iter());

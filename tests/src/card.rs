@@ -9,7 +9,8 @@ use crate::rows::Row;
 #[derive(Clone, Copy, Debug, PartialEq)]
 pub enum Answer {
     Done,
-    Start(usize),
+    /// A start, and the space behind it.
+    Start(usize, usize),
     Stands(Entry),
     Counted(usize, usize, usize),
     Blank(usize),
@@ -179,6 +180,12 @@ impl Card {
         least_fit(&self.map[..blocks], figures, call.number as usize)
     }
 
+    /// The start of that fit, and the space behind it: up to the next taken block or n, whatever `before` is.
+    fn found(&self, call: Call) -> Answer {
+        let start = self.least_fit(call).unwrap();
+        Start(start, space(&self.map[..self.n], start))
+    }
+
     /// The m blocks after the extent are all free and inside n.
     fn next_are_free(&self, e: Entry, m: usize) -> bool {
         let end = e.start as usize + e.length as usize;
@@ -226,15 +233,15 @@ impl Card {
         let (sheet, number) = (call.sheet as usize, call.number as usize);
         match call.kind {
             Kind::Fresh => self.fresh(number),
-            Kind::Search => Start(self.least_fit(call).unwrap()),
+            Kind::Search => self.found(call),
             Kind::Survey => {
                 let counts = survey(&self.map, self.n);
                 Counted(counts.free, counts.runs, counts.longest)
             }
             Kind::Reserve | Kind::ReservePlaced => {
-                let start = self.least_fit(call).unwrap();
+                let (start, answer) = (self.least_fit(call).unwrap(), self.found(call));
                 self.take(sheet, start, start, number);
-                Start(start)
+                answer
             }
             Kind::Grow => {
                 let Entry { start, length, .. } = self.sheets[sheet];

@@ -287,7 +287,7 @@ mod tests {
     fn what_is_saved_loads_back() {
         let mut card = fresh(70, 3);
         card.bytes = vec![0; 70 * 512];
-        assert_eq!(card.call(call(Kind::Reserve, 1, 66), &mut []), Start(0));
+        assert_eq!(card.call(call(Kind::Reserve, 1, 66), &mut []), Start(0, 70));
         let scratch = &mut [5, 5];
         let mut image = vec![0; 512];
         assert_eq!(card.save(scratch, &mut image), Done);

@@ -67,6 +67,13 @@ impl Ledger {
         map
     }
 
+    /// The first block from a start on that a sheet covers, or n.
+    fn next_covered(&self, start: usize) -> usize {
+        let extents = (0..self.sheets.len()).map(|sheet| self.extent(sheet));
+        let covered = extents.filter(|(first, places)| *places > 0 && *first >= start);
+        covered.map(|(first, _)| first).min().unwrap_or(self.n)
+    }
+
     pub fn free_count(&self) -> usize {
         self.map().iter().filter(|&&block| block == FREE).count()
     }
@@ -154,10 +161,12 @@ impl Ledger {
             return Err(Refused(15));
         }
         let start = least_fit(&self.map()[..self.n], figures, k).ok_or(Refused(10))?;
+        // No sheet covers the start: the space behind it ends where the next sheet begins.
+        let space = self.next_covered(start) - start;
         let places = vec![None; k];
         *self.absent(sheet)? = Sheet::Open { start, places };
         self.granted += k;
-        Ok(Start(start))
+        Ok(Start(start, space))
     }
 
     fn put(&mut self, sheet: u32, place: u32, payload: &[u8]) -> Result<Answer, Answer> {
@@ -243,7 +252,7 @@ mod tests {
     fn a_sheet_from_reserve_to_reserve() {
         let mut ledger = Ledger::fresh(3, 2);
         let buffer = &mut [0; 496];
-        assert_eq!(ledger.reserve(0, 2, plain(3)), Ok(Start(0)));
+        assert_eq!(ledger.reserve(0, 2, plain(3)), Ok(Start(0, 3)));
         assert_eq!(ledger.put(0, 1, &[7; 496]), Ok(Done));
         assert_eq!(ledger.complete(0), Err(Blank(0)));
         assert_eq!(ledger.put(0, 0, &[8; 496]), Ok(Done));
@@ -252,7 +261,7 @@ mod tests {
         assert_eq!(buffer[0], 7);
         assert_eq!(ledger.reserve(1, 2, plain(3)), Err(Refused(10)));
         assert_eq!(ledger.release(0), Ok(Done));
-        assert_eq!(ledger.reserve(1, 2, plain(3)), Ok(Start(0)));
+        assert_eq!(ledger.reserve(1, 2, plain(3)), Ok(Start(0, 3)));
         assert_eq!(ledger.complete(1), Err(Blank(0)));
         assert_eq!(ledger.put(1, 0, &[9; 496]), Ok(Done));
         assert_eq!(ledger.complete(1), Err(Blank(1)));
@@ -264,7 +273,7 @@ mod tests {
     #[test]
     fn the_lowest_blank_place() {
         let mut ledger = Ledger::fresh(8, 1);
-        assert_eq!(ledger.reserve(0, 5, plain(8)), Ok(Start(0)));
+        assert_eq!(ledger.reserve(0, 5, plain(8)), Ok(Start(0, 8)));
         for (filled, lowest) in [(1, 0), (4, 0), (0, 2), (3, 2)] {
             assert_eq!(ledger.put(0, filled, &[7; 496]), Ok(Done));
             assert_eq!(ledger.complete(0), Err(Blank(lowest)));
@@ -276,7 +285,7 @@ mod tests {
     #[test]
     fn placed_reserves() {
         let mut ledger = Ledger::fresh(100, 3);
-        assert_eq!(ledger.reserve(0, 10, plain(100)), Ok(Start(0)));
+        assert_eq!(ledger.reserve(0, 10, plain(100)), Ok(Start(0, 100)));
         for (k, refused) in [(0, 3), (1, 15), (101, 15)] {
             for (from, before, step) in [(0, 100, 0), (9, 9, 1), (0, 101, 1)] {
                 let answer = ledger.reserve(1, k, figures(from, before, step));
@@ -287,9 +296,25 @@ mod tests {
         assert_eq!(ledger.reserve(3, 0, figures(0, 0, 0)), Err(Refused(2)));
         assert_eq!(ledger.reserve(1, 5, figures(0, 20, 8)), Err(Refused(10)));
         assert_eq!(ledger.free_count(), 90);
-        assert_eq!(ledger.reserve(1, 5, figures(0, 21, 8)), Ok(Start(16)));
-        assert_eq!(ledger.reserve(2, 6, plain(100)), Ok(Start(10)));
+        assert_eq!(ledger.reserve(1, 5, figures(0, 21, 8)), Ok(Start(16, 84)));
+        assert_eq!(ledger.reserve(2, 6, plain(100)), Ok(Start(10, 6)));
         assert_eq!((ledger.granted, ledger.free_count()), (21, 79));
+    }
+
+    /// Document 02, (b): the space behind a start is measured before the marking, ends at the next taken block or n, whatever
+    /// `before` is, and is what could be added to the sheet.
+    #[test]
+    fn the_space_behind_a_start() {
+        let mut ledger = Ledger::fresh(100, 4);
+        assert_eq!(ledger.reserve(0, 10, figures(20, 40, 1)), Ok(Start(20, 80)));
+        assert_eq!(ledger.reserve(1, 5, plain(100)), Ok(Start(0, 20)));
+        assert_eq!(ledger.reserve(2, 5, figures(8, 13, 4)), Ok(Start(8, 12)));
+        assert_eq!(ledger.reserve(3, 3, plain(100)), Ok(Start(5, 3)));
+        assert_eq!(ledger.grow(3, 1), Err(Refused(11)));
+        assert_eq!(ledger.grow(2, 8), Err(Refused(11)));
+        assert_eq!(ledger.grow(2, 7), Ok(Done));
+        assert_eq!(ledger.grow(0, 71), Err(Refused(11)));
+        assert_eq!(ledger.grow(0, 70), Ok(Done));
     }
 
     /// A call for one of 3 sheets: a reserve of either kind, or a release.

@@ -1,16 +1,10 @@
-// Reserve: Absent becomes Open at the least fit within the figures. Every block taken is filled with zeros, so that no old seal
-// of the same
-// sheet passes for a new place.
+// Reserve: Absent becomes Open at the least fit within the figures.
 ghost use mathlib.Core.Path.{_≡_};
 ghost use Rattle.refusals.specs.Lent.{lent};
 ghost use Rattle.refusals.specs.Placement.{placed};
 ghost use Rattle.refusals.specs.Effects.{reserveOut, reserveMap, reserveCard};
-use blocks_of_card::zero_blocks;
+use crate::take::take;
 use catalogue::Entry;
-use catalogue::OPEN;
-use catalogue_standings::Answer;
-use map_blocks::run::TAKEN;
-use map_blocks::run::mark;
 use refusals::Figures;
 use refusals::Out;
 use refusals::refusal;
@@ -35,18 +29,6 @@ pub fn reserve(
 {
     match reserve_ruling(n, free, map, card, c, entry, sheet, k, figures) {
         Ruling::Refused(row) => refusal(free, entry, row),
-        Ruling::At(start) => {
-            mark(map, start, k, TAKEN);
-            zero_blocks(card, start, k);
-            Out {
-                free: free - k,
-                entry: Entry {
-                    mark: OPEN,
-                    start: start,
-                    length: k,
-                },
-                answer: Answer::Start(start),
-            }
-        }
+        Ruling::At(start) => take(n, free, map, card, start, k),
     }
 }

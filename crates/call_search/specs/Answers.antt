@@ -10,16 +10,16 @@ use Rattle.map_blocks.specs.Blocks.{leastFit}
 use Rattle.survey.specs.Survey.{countsOf}
 use Rattle.catalogue_standings.specs.Limits.{shapeFits}
 use Rattle.catalogue_standings.specs.Rows.{row, firstOf, settle}
-use Rattle.catalogue_standings.specs.Searches.{none, startAt}
+use Rattle.catalogue_standings.specs.Searches.{none, startAt, startWithSpace}
 use Rattle.catalogue_standings.specs.declared.Answer.{Answer}
-use Rattle.catalogue_standings.specs.declared.Answer.the-variants.{Start, Counted, Refused}
+use Rattle.catalogue_standings.specs.declared.Answer.the-variants.{Counted, Refused}
 
 unfoldable pub searchAnswer : ℕ → ℕ → List ℕ → ℕ → Answer
 unfolding shapeFits
 searchAnswer n free map k =
     settle (firstOf (row 1 (not (shapeFits n free (length map))) ∷ row 3 (eqb k 0)
     ∷ row 10 (none (leastFit (map-blocks.free map) 0 n 1 k)) ∷ []))
-    (Start (startAt (leastFit (map-blocks.free map) 0 n 1 k))) Refused
+    (startWithSpace (map-blocks.free map) n (startAt (leastFit (map-blocks.free map) 0 n 1 k))) Refused
 
 unfoldable pub surveyAnswer : ℕ → ℕ → List ℕ → Answer
 unfolding shapeFits

@@ -9,7 +9,9 @@ use catalogue_standings::Answer;
 use catalogue_standings::opening::shape_fits;
 use catalogue_standings::opening::sheets_fit;
 use map_blocks::Found;
+use map_space::space;
 
+// The least fit for k, and the space behind it.
 pub fn search(n: u32, free: u32, map: &[u64], k: u32) -> Answer
     ensures { λ r. ⌜ r ≡ searchAnswer n free (now (map .entry)) k ⌝ }
 {
@@ -23,7 +25,7 @@ pub fn search(n: u32, free: u32, map: &[u64], k: u32) -> Answer
     let Found::At(start) = found else {
         return Answer::Refused(10);
     };
-    Answer::Start(start)
+    Answer::Start(start, space(map, start, n))
 }
 
 pub fn survey(n: u32, free: u32, map: &[u64]) -> Answer

@@ -7,6 +7,7 @@ use mathlib.Core.List.{List}
 use Prim.Native.Nat.{ℕ, _+_, _-_}
 use lib.Dec.{eqb}
 use lib.ListN.{length, set}
+use Rattle.map_blocks.specs.Blocks as map-blocks
 use Rattle.map_blocks.specs.Maps as maps
 use Rattle.map_blocks.specs.Maps.{marked}
 use Rattle.blocks_of_card.specs.Card.{blockOf, withBlock, zeroed}
@@ -19,8 +20,9 @@ use Rattle.refusals.specs.Placement.{Placement}
 use Rattle.refusals.specs.Effects as effects
 use Rattle.catalogue_standings.specs.Limits.{freshFits}
 use Rattle.catalogue_standings.specs.Rows.{Verdict, refused, settle}
+use Rattle.catalogue_standings.specs.Searches.{startWithSpace}
 use Rattle.catalogue_standings.specs.declared.Answer.{Answer}
-use Rattle.catalogue_standings.specs.declared.Answer.the-variants.{Done, Start, Blank, Refused}
+use Rattle.catalogue_standings.specs.declared.Answer.the-variants.{Done, Blank, Refused}
 use Rattle.refusals.specs.declared.Out.{Out}
 use Rattle.card.specs.declared.Shape.{Shape}
 use Rattle.card.specs.Calls.{Kept, lentTo, told, outcomeOf, isDone, freshOutcome, freshMap, freshEntries, reserveOutcome}
@@ -59,7 +61,8 @@ module _ (s : Kept) (sheet number : ℕ) where
       let start : ℕ = effects.reserveStart q k p in
       let back =
       handed-back (s .shape) (s .entries) sheet (Refused number) _
-      (ap (λ (v : Verdict). settle v (effects.outOf (free - k) (effects.entryOf openMark start k) (Start start))
+      (ap (λ (v : Verdict). settle v (effects.outOf (free - k) (effects.entryOf openMark start k)
+      (startWithSpace (map-blocks.free (s .map)) (s .shape .blocks) start))
       (effects.refusalOut free e)) h) in (
         back .0,
         ap (λ (v : Verdict). settle v (marked (s .map) start k false) (λ number. s .map)) h,

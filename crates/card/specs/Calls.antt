@@ -34,7 +34,7 @@ outcomeOf shape out = record { shape = record { blocks = shape .blocks; free = o
 
 abbrev pub isDone : Answer → Bool
 isDone Done = true
-isDone (Start s) = false
+isDone (Start s space) = false
 isDone (Reads m s l) = false
 isDone (Counted f r l) = false
 isDone (Blank p) = false

@@ -43,7 +43,7 @@ pub fn is_done(outcome: Outcome) -> bool
     let answer = outcome.answer;
     match answer {
         Answer::Done => true,
-        Answer::Start(_) => false,
+        Answer::Start(_, _) => false,
         Answer::Reads(_, _, _) => false,
         Answer::Counted(_, _, _) => false,
         Answer::Blank(_) => false,

@@ -8,16 +8,17 @@ use Rattle.catalogue_standings.specs.declared.Answer.the-variants.{Done,
 -- 0 for a call that was accepted, or the refusal's number.
 abbrev pub numberOf : Answer → ℕ
 numberOf Done = 0
-numberOf (Start s) = 0
+numberOf (Start s space) = 0
 numberOf (Reads m s l) = 0
 numberOf (Counted f r l) = 0
 numberOf (Blank p) = 9
 numberOf (Refused k) = k
 
--- The values that go with it: a reserve's or a search's start; mark, start and length; a survey's counts; the place with 9.
+-- The values that go with it: a reserve's or a search's start and the space behind it (document 02 (b)); mark, start and
+-- length; a survey's counts; the place with 9.
 abbrev pub valuesOf : Answer → List ℕ
 valuesOf Done = []
-valuesOf (Start s) = s ∷ []
+valuesOf (Start s space) = s ∷ space ∷ []
 valuesOf (Reads m s l) = m ∷ s ∷ l ∷ []
 valuesOf (Counted f r l) = f ∷ r ∷ l ∷ []
 valuesOf (Blank p) = p ∷ []

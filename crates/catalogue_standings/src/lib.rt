@@ -17,11 +17,11 @@ pub enum Opened {
     Stands(Standing),
 }
 
-// What a call answers: that it was done, a start, a standing's mark, start and length, a survey's counts, the lowest blank
-// place, which goes with 9, or another refusal's number.
+// What a call answers: that it was done, a start and the space behind it, a standing's mark, start and length, a survey's
+// counts, the lowest blank place, which goes with 9, or another refusal's number.
 pub enum Answer {
     Done,
-    Start(u32),
+    Start(u32, u32),
     Reads(u32, u32, u32),
     Counted(u32, u32, u32),
     Blank(u32),

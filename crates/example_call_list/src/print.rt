@@ -36,6 +36,12 @@ fn one(x: u32, value: u32) {
     number(value);
 }
 
+fn two(a: u32, b: u32) {
+    code(0);
+    number(a);
+    number(b);
+}
+
 fn three(a: u32, b: u32, c: u32) {
     code(0);
     number(a);
@@ -55,7 +61,7 @@ fn refusal(row: u32) {
 fn answer(a: Answer) {
     match a {
         Answer::Done => code(0),
-        Answer::Start(start) => one(0, start),
+        Answer::Start(start, space) => two(start, space),
         Answer::Reads(mark, start, length) => three(mark, start, length),
         Answer::Counted(free, runs, longest) => three(free, runs, longest),
         Answer::Blank(place) => one(9, place),

@@ -18,19 +18,20 @@ use Rattle.ledger.specs.Ledger.{refusedWith, Told, done}
 use Rattle.ledger.specs.Claim.{Searched}
 
 -- no start from n on passes
-module _ (passes : ℕ → Bool) (n : ℕ) (beyond : (s : ℕ) → n ≤ s → passes s ≡ false) where
+module _ (passes : ℕ → Bool) (beside : ℕ → ℕ) (n : ℕ) (beyond : (s : ℕ) → n ≤ s → passes s ≡ false) where
   -- what is told, by what the search found
   abbrev pub verdictBy : Found → Verdict
   verdictBy o = cond (none o) (refused 10) accepted
 
   abbrev pub tellsBy : Verdict → Found → ℕ → Told
-  tellsBy v o p = settle v (done (startAt o ∷ []) []) (refusedWith [] p)
+  tellsBy v o p = settle v (done (startAt o ∷ beside (startAt o) ∷ []) []) (refusedWith [] p)
 
-  pub searched : (v : Verdict) (p : ℕ) → v ≡ verdictBy (least passes 0 n) → Searched passes (tellsBy v (least passes 0 n) p)
-  searched v p is = subst (λ (w : Verdict). Searched passes (tellsBy w (least passes 0 n) p)) (sym is)
+  pub searched : (v : Verdict) (p : ℕ) → v ≡ verdictBy (least passes 0 n)
+      → Searched passes beside (tellsBy v (least passes 0 n) p)
+  searched v p is = subst (λ (w : Verdict). Searched passes beside (tellsBy w (least passes 0 n) p)) (sym is)
       (go (least passes 0 n) refl)
     where
-      found : (s : ℕ) → least passes 0 n ≡ At s → Searched passes (tellsBy accepted (At s) p)
+      found : (s : ℕ) → least passes 0 n ≡ At s → Searched passes beside (tellsBy accepted (At s) p)
       found s e =
           let fits : passes s ≡ true = least-passes passes 0 n s e .test in
           record {
@@ -42,7 +43,7 @@ module _ (passes : ℕ → Bool) (n : ℕ) (beyond : (s : ℕ) → n ≤ s → p
           at-most m fm (inl h) = absurd (clash (passes m) fm (least-below passes 0 n s e m (omega arith) h))
           at-most m fm (inr h) = h
 
-      nothing : least passes 0 n ≡ Nothing → Searched passes (tellsBy (refused 10) Nothing p)
+      nothing : least passes 0 n ≡ Nothing → Searched passes beside (tellsBy (refused 10) Nothing p)
       nothing e = record {
         exactly = (λ h s. no-fit s (order s n), λ h. refl);
         otherwise = λ h. absurd (h refl);
@@ -52,6 +53,7 @@ module _ (passes : ℕ → Bool) (n : ℕ) (beyond : (s : ℕ) → n ≤ s → p
           no-fit s (inl h) = none-passes passes 0 n e s (omega arith) (omega arith)
           no-fit s (inr h) = beyond s h
 
-      go : (o : Found) → least passes 0 n ≡ o → Searched passes (tellsBy (verdictBy (least passes 0 n)) (least passes 0 n) p)
-      go (At s) e = subst (λ (o : Found). Searched passes (tellsBy (verdictBy o) o p)) (sym e) (found s e)
-      go Nothing e = subst (λ (o : Found). Searched passes (tellsBy (verdictBy o) o p)) (sym e) (nothing e)
+      go : (o : Found) → least passes 0 n ≡ o
+          → Searched passes beside (tellsBy (verdictBy (least passes 0 n)) (least passes 0 n) p)
+      go (At s) e = subst (λ (o : Found). Searched passes beside (tellsBy (verdictBy o) o p)) (sym e) (found s e)
+      go Nothing e = subst (λ (o : Found). Searched passes beside (tellsBy (verdictBy o) o p)) (sym e) (nothing e)

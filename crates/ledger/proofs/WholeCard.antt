@@ -1,7 +1,7 @@
 -- Search and survey, of what their contracts ensure (crates/card/specs/Contracts.antt; that they are the methods' own
 -- contracts, crates/card/proofs/Contracts.antt): with a shape and a map that fit, a search for 1 block or more is answered 10
--- exactly when no fit exists, and otherwise given the least (`search-lowest`); a survey answers the three counts
--- (`survey-counts`).
+-- exactly when no fit exists, and otherwise given the least and the space behind it (`search-lowest`); a survey answers the
+-- three counts (`survey-counts`).
 -- Assumes nothing.
 use Prim.Native.Nat.{ℕ, _≤_, _<_}
 use mathlib.Core.Path.{_≡_, refl, sym, ap, subst, _∙_}
@@ -12,7 +12,7 @@ use lib.Dec.{eqb}
 use lib.ListN.{length}
 use borrow.Author.Tests.{ne-eqb}
 use Rattle.map_blocks.specs.Blocks as map-blocks
-use Rattle.map_blocks.specs.Blocks.{least, fit, leastFit}
+use Rattle.map_blocks.specs.Blocks.{least, fit, leastFit, space}
 use Rattle.map_blocks.specs.declared.Found.{Found}
 use Rattle.map_blocks.specs.declared.Found.the-variants.{At, Nothing}
 use Rattle.laws.proofs.Bools.{not-true}
@@ -20,9 +20,9 @@ use Rattle.survey.specs.Survey.{countsOf}
 use Rattle.catalogue_standings.specs.Answers.{numberOf, valuesOf}
 use Rattle.catalogue_standings.specs.Limits.{shapeFits}
 use Rattle.catalogue_standings.specs.Rows.{row, firstOf, settle}
-use Rattle.catalogue_standings.specs.Searches.{none, startAt}
+use Rattle.catalogue_standings.specs.Searches.{none, startAt, startWithSpace}
 use Rattle.catalogue_standings.specs.declared.Answer.{Answer}
-use Rattle.catalogue_standings.specs.declared.Answer.the-variants.{Start, Counted, Refused}
+use Rattle.catalogue_standings.specs.declared.Answer.the-variants.{Counted, Refused}
 use Rattle.call_search.specs.Answers.{searchAnswer, surveyAnswer}
 use Rattle.map_blocks.proofs.Fits.{fit-is}
 use Rattle.card.specs.Calls.{told}
@@ -37,16 +37,21 @@ use Rattle.ledger.proofs.Search.{verdictBy, tellsBy, searched}
 abbrev pub toldOf : Answer → Told
 toldOf answer = record { number = numberOf answer; values = valuesOf answer; buffer = [] }
 
--- what a search answers, by its rows 1 and 3 and by what it found
-abbrev answerBy : Bool → Bool → Found → Answer
-answerBy misfit empty o = settle (firstOf (row 1 misfit ∷ row 3 empty ∷ row 10 (none o) ∷ [])) (Start (startAt o)) Refused
-
 module _ (shape : Shape) (map : List ℕ) (fits : shapeFits (shape .blocks) (shape .free) (length map) ≡ true) (r : Outcome) where
   abbrev n : ℕ
   n = shape .blocks
 
   abbrev free : ℕ → Bool
   free = map-blocks.free map
+
+  -- the space behind a start
+  abbrev behind : ℕ → ℕ
+  behind s = space free s n
+
+  -- what a search answers, by its rows 1 and 3 and by what it found
+  abbrev answerBy : Bool → Bool → Found → Answer
+  answerBy misfit empty o = settle (firstOf (row 1 misfit ∷ row 3 empty ∷ row 10 (none o) ∷ []))
+      (startWithSpace free n (startAt o)) Refused
 
   module _ (k : ℕ) (some : 1 ≤ k) where
     abbrev fits-at : ℕ → Bool
@@ -55,22 +60,24 @@ module _ (shape : Shape) (map : List ℕ) (fits : shapeFits (shape .blocks) (sha
     beyond : (s : ℕ) → n ≤ s → fits-at s ≡ false
     beyond s le = not-true _ (λ q. omega (arith, fit-is free 0 n 1 k s q .high))
 
-    by-found : (o : Found) → toldOf (answerBy false false o) ≡ tellsBy fits-at n beyond (verdictBy fits-at n beyond o) o 0
+    by-found : (o : Found)
+        → toldOf (answerBy false false o) ≡ tellsBy fits-at behind n beyond (verdictBy fits-at behind n beyond o) o 0
     unfolding firstOf
     by-found (At s) = refl
     by-found Nothing = refl
 
-    pub search-lowest : Searches itself shape map k r → (r .shape ≡ shape) × Searched fits-at (toldOf (r .answer))
+    pub search-lowest : Searches itself shape map k r → (r .shape ≡ shape) × Searched fits-at behind (toldOf (r .answer))
     unfolding searchAnswer leastFit
     search-lowest h = (
       ap (λ (o : Outcome). o .shape) h,
-      subst (Searched fits-at) (sym said) (searched fits-at n beyond (verdictBy fits-at n beyond (least fits-at 0 n)) 0 refl),
+      subst (Searched fits-at behind) (sym said)
+          (searched fits-at behind n beyond (verdictBy fits-at behind n beyond (least fits-at 0 n)) 0 refl),
     )
       where
         found : Found
         found = least fits-at 0 n
 
-        said : toldOf (r .answer) ≡ tellsBy fits-at n beyond (verdictBy fits-at n beyond found) found 0
+        said : toldOf (r .answer) ≡ tellsBy fits-at behind n beyond (verdictBy fits-at behind n beyond found) found 0
         said =
             ap (λ (o : Outcome). toldOf (o .answer)) h
             ∙ ap (λ (t : Bool). toldOf (answerBy (not t) (eqb k 0) found)) fits

@@ -9,7 +9,8 @@ use native.Mathlib.Omega.{arith}
 use lib.Dec.{leb}
 use borrow.Author.Tests.{le-leb, leb-true, eq-eqb, eqb-true}
 use Rattle.map_blocks.specs.Blocks.{all, onStep, fit, run, space}
-use Rattle.laws.proofs.Bools.{and-left, and-right, and-both, not-true, order}
+use Rattle.laws.proofs.Bools.{and-left, and-right, and-both, not-true, both-ways, clash, order}
+use Rattle.map_blocks.proofs.Runs.{all-intro, all-break}
 
 -- what a fit is
 pub record Fits (f : ℕ → Bool) (from before step k s : ℕ) : Type 0 where
@@ -124,3 +125,29 @@ module _ (f : ℕ → Bool) where
 pub spaced : (f : ℕ → Bool) (start n : ℕ) → start ≤ n → Spaced f start n (space f start n)
 unfolding space
 spaced f start n l = ran f start (n - start) n (omega arith)
+
+-- the space behind a start is the longest k for which the start is a fit before n
+pub space-longest : (f : ℕ → Bool) (start n k : ℕ) → start ≤ n → fit f 0 n 1 k start ≡ leb k (space f start n)
+space-longest f start n k l = both-ways (fit f 0 n 1 k start) (leb k (space f start n)) fits within
+  where
+    s : Spaced f start n (space f start n)
+    s = spaced f start n l
+
+    fits : fit f 0 n 1 k start ≡ true → leb k (space f start n) ≡ true
+    fits e =
+        let is = fit-is f 0 n 1 k start e in
+        let high : start + k ≤ n = is .high in
+        ⊎-elim (λ u. absurd (clash (all f start k) (is .free)
+        (all-break f start k (start + space f start n) (omega arith) (omega arith) (s .stop (omega arith)))))
+        (λ u. le-leb k (space f start n) u) (order (space f start n) k)
+
+    within : leb k (space f start n) ≡ true → fit f 0 n 1 k start ≡ true
+    within e =
+        let u : k ≤ space f start n = leb-true k (space f start n) e in
+        let w : start + space f start n ≤ n = s .within in
+        is-fit f 0 n 1 k start (record {
+          low = omega arith;
+          high = omega arith;
+          free = all-intro f start k (λ t a b. s .held t a (omega arith));
+          placed = on-one start;
+        })

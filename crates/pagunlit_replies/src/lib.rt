@@ -23,7 +23,7 @@ fn number_of(answer: Answer) -> u32
 {
     match answer {
         Answer::Done => 0,
-        Answer::Start(_) => 0,
+        Answer::Start(_, _) => 0,
         Answer::Reads(_, _, _) => 0,
         Answer::Counted(_, _, _) => 0,
         Answer::Blank(_) => 9,
@@ -37,7 +37,7 @@ fn first_of(answer: Answer) -> u32
 {
     match answer {
         Answer::Done => 0,
-        Answer::Start(start) => start,
+        Answer::Start(start, _) => start,
         Answer::Reads(mark, _, _) => mark,
         Answer::Counted(free, _, _) => free,
         Answer::Blank(place) => place,
@@ -50,7 +50,7 @@ fn second_of(answer: Answer) -> u32
 {
     match answer {
         Answer::Done => 0,
-        Answer::Start(_) => 0,
+        Answer::Start(_, space) => space,
         Answer::Reads(_, start, _) => start,
         Answer::Counted(_, runs, _) => runs,
         Answer::Blank(_) => 0,
@@ -63,7 +63,7 @@ fn third_of(answer: Answer) -> u32
 {
     match answer {
         Answer::Done => 0,
-        Answer::Start(_) => 0,
+        Answer::Start(_, _) => 0,
         Answer::Reads(_, _, length) => length,
         Answer::Counted(_, _, longest) => longest,
         Answer::Blank(_) => 0,

@@ -9,7 +9,7 @@ use Rattle.catalogue.specs.Entries.{openMark}
 use Rattle.map_blocks.specs.Blocks.{free}
 use Rattle.map_blocks.specs.declared.Found.{Found}
 use Rattle.map_blocks.specs.declared.Found.the-variants.{At, Nothing}
-use Rattle.catalogue_standings.specs.Searches.{startAt, none}
+use Rattle.catalogue_standings.specs.Searches.{startAt, none, startWithSpace}
 use Rattle.refusals.specs.Effects.{reserveVerdict, reserveStart, entryOf, outOf, refusalOut, reserveOut, reserveMap}
 use Rattle.refusals.specs.Effects.{reserveCard, takenOut, takenMap, takenCard}
 use Rattle.refusals.specs.Placement.{Placement, plain, placed, figures, figuresIn, misfigured, leastWithin}
@@ -29,7 +29,6 @@ use Rattle.refusals.proofs.Room.{reserveVerdictOn, reserveStartOn}
 use mathlib.Core.Bool.{true, false}
 use Rattle.map_blocks.specs.Maps.{marked}
 use Rattle.blocks_of_card.specs.Card.{zeroed}
-use Rattle.catalogue_standings.specs.declared.Answer.the-variants.{Start}
 use Rattle.refusals.specs.declared.Out.{Out}
 
 -- ---- the verdict in each case
@@ -90,14 +89,15 @@ module _ (q : Lent) (k : ℕ) (p : Placement) where
       × (map ≡ reserveMap q k p)
       × (card ≡ reserveCard q k p)
 
+  -- what is handed back on acceptance, for the blocks from s on
+  abbrev given : ℕ → Out
+  given s = outOf (q .spare - k) (entryOf openMark s k) (startWithSpace (free (q .map)) (q .n) s)
+
   -- each after its verdict
   pub out : (v : Verdict) → reserveVerdictOn q k p ≡ v
-      → settle v (outOf (q .spare - k) (entryOf openMark (reserveStartOn q k p) k) (Start (reserveStartOn q k p)))
-      (refusalOut (q .spare) (q .entry)) ≡ reserveOut q k p
+      → settle v (given (reserveStartOn q k p)) (refusalOut (q .spare) (q .entry)) ≡ reserveOut q k p
   unfolding reserveOut takenOut
-  out v h =
-      ap (λ (w : Verdict). settle w (outOf (q .spare - k) (entryOf openMark (reserveStartOn q k p) k)
-      (Start (reserveStartOn q k p))) (refusalOut (q .spare) (q .entry))) (sym h)
+  out v h = ap (λ (w : Verdict). settle w (given (reserveStartOn q k p)) (refusalOut (q .spare) (q .entry))) (sym h)
 
   pub map-after : (v : Verdict) → reserveVerdictOn q k p ≡ v
       → settle v (marked (q .map) (reserveStartOn q k p) k false) (λ number. q .map) ≡ reserveMap q k p
@@ -113,11 +113,10 @@ module _ (q : Lent) (k : ℕ) (p : Placement) where
       → Leaves r (q .map) (q .card)
   unchanged number r h made = (made ∙ out (refused number) h, map-after (refused number) h, card-after (refused number) h)
 
-  pub changed : (s : ℕ) (map card : List ℕ) → reserveVerdictOn q k p ≡ accepted → s ≡ (reserveStartOn q k p)
-      → map ≡ marked (q .map) s k false → card ≡ zeroed (q .card) s k
-      → Leaves (outOf (q .spare - k) (entryOf openMark s k) (Start s)) map card
-  changed s map card h same marks zeros = (
-    ap (λ (t : ℕ). outOf (q .spare - k) (entryOf openMark t k) (Start t)) same ∙ out accepted h,
+  pub changed : (s : ℕ) (r : Out) (map card : List ℕ) → reserveVerdictOn q k p ≡ accepted → s ≡ (reserveStartOn q k p)
+      → r ≡ given s → map ≡ marked (q .map) s k false → card ≡ zeroed (q .card) s k → Leaves r map card
+  changed s r map card h same made marks zeros = (
+    made ∙ ap given same ∙ out accepted h,
     marks ∙ ap (λ (t : ℕ). marked (q .map) t k false) same ∙ map-after accepted h,
     zeros ∙ ap (λ (t : ℕ). zeroed (q .card) t k) same ∙ card-after accepted h,
   )

@@ -67,6 +67,18 @@ module _ (q : Lent) (k : ℕ) (p : Placement) where
         enough = ltb-false (q .spare) k (clear 4 rows h .1 .0);
       }
 
+  -- and they lie within its figures
+  pub reserve-within : reserveVerdictOn ≡ accepted
+      → (reserveStartOn + k ≤ figuresIn (q .n) p .before) × (figuresIn (q .n) p .before ≤ q .n)
+  unfolding reserveVerdict reserveStart viewOn tableOf
+  reserve-within h =
+      let rows = tableOf (viewOf q) (on (q .sheet) (reserve k p)) in
+      let g : Figures = figuresIn (q .n) p in
+      let f = free (q .map) in (
+        fit-is f (g .from) (g .before) (g .step) k (startAt (leastWithin f g k)) (found-fit f g k (clear 10 rows h .0)) .high,
+        figured (q .n) g (clear 15 rows h .0) .inside,
+      )
+
 module _ (q : Lent) (k : ℕ) where
   abbrev pub growVerdictOn : Verdict
   growVerdictOn = growVerdict q k

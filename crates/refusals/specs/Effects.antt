@@ -13,14 +13,14 @@ use Rattle.block_seals.specs.Sealed.{sealed, payloadOf}
 use Rattle.catalogue.specs.Entries.{absent, pausedMark, openMark, completeMark}
 use Rattle.catalogue.specs.declared.Entry.{Entry}
 use Rattle.catalogue_standings.specs.Rows.{Verdict, settle}
-use Rattle.catalogue_standings.specs.Searches.{startAt}
+use Rattle.catalogue_standings.specs.Searches.{startAt, startWithSpace}
 use Rattle.refusals.specs.Lent.{Lent}
 use Rattle.refusals.specs.Placement.{Placement, figuresIn, leastWithin}
 use Rattle.refusals.specs.Table.{on, reserve, put, grow, complete, pause, release, show, standing, lowestBlank}
 use Rattle.refusals.specs.Table.{verdictOf}
 use Rattle.refusals.specs.Views.{viewAt, viewOn}
 use Rattle.catalogue_standings.specs.declared.Answer.{Answer}
-use Rattle.catalogue_standings.specs.declared.Answer.the-variants.{Done, Start, Reads, Blank, Refused}
+use Rattle.catalogue_standings.specs.declared.Answer.the-variants.{Done, Reads, Blank, Refused}
 use Rattle.refusals.specs.declared.Out.{Out}
 
 abbrev pub entryOf : ℕ → ℕ → ℕ → Entry
@@ -34,10 +34,12 @@ abbrev pub refusalOut : ℕ → Entry → ℕ → Out
 refusalOut free e number = outOf free e (Refused number)
 
 -- A sheet without blocks takes k from a start on, which are filled with zeros, and becomes Open: what is handed back and left
--- where the verdict is v.
+-- where the verdict is v. The space behind the start is that of the map as it was lent, before the marking.
 module _ (q : Lent) (v : Verdict) (start k : ℕ) where
   unfoldable pub takenOut : Out
-  takenOut = settle v (outOf (q .spare - k) (entryOf openMark start k) (Start start)) (refusalOut (q .spare) (q .entry))
+  takenOut =
+      settle v (outOf (q .spare - k) (entryOf openMark start k) (startWithSpace (map-blocks.free (q .map)) (q .n) start))
+      (refusalOut (q .spare) (q .entry))
 
   unfoldable pub takenMap : List ℕ
   takenMap = settle v (marked (q .map) start k false) (λ number. q .map)

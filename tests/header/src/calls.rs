@@ -39,7 +39,7 @@ fn filled(length: usize, seed: u32) -> Vec<u8> {
 fn numbers(answer: Answer) -> (u32, [usize; 3]) {
     match answer {
         Answer::Done => (0, [0; 3]),
-        Answer::Start(start) => (0, [start, 0, 0]),
+        Answer::Start(start, space) => (0, [start, space, 0]),
         Answer::Stands(e) => (0, [e.mark, e.start, e.length].map(|number| number as usize)),
         Answer::Counted(free, runs, longest) => (0, [free, runs, longest]),
         Answer::Blank(place) => (9, [place, 0, 0]),

@@ -44,7 +44,7 @@ impl Outcome {
     pub fn of(shape: Shape, answer: Answer) -> Outcome {
         let (number, values) = match answer {
             Answer::Done => (0, [0, 0, 0]),
-            Answer::Start(start) => (0, [start as u32, 0, 0]),
+            Answer::Start(start, space) => (0, [start as u32, space as u32, 0]),
             Answer::Stands(e) => (0, [e.mark, e.start, e.length]),
             Answer::Counted(free, runs, longest) => (0, [free as u32, runs as u32, longest as u32]),
             Answer::Blank(place) => (9, [place as u32, 0, 0]),

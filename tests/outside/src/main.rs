@@ -22,6 +22,7 @@ mod library;
 mod lists;
 mod placed;
 mod singles;
+mod spaces;
 mod states;
 mod together;
 
@@ -77,12 +78,15 @@ const GROUPS: &[Group] = &[
         ],
         report: |counts| counts.report(true),
     },
-    // Placed reserves with figures of every kind.
+    // Placed reserves with figures of every kind, and the spaces behind their starts.
     Group {
         parts: &[
             part("placed", placed::placed, 20000, 2000, 500),
             part("placed-full", placed::placed_full, 3, 1, 0),
             part("placed-all", |_, margin, counts| placed::all_figures(margin, counts), 1, 0, 0),
+            part("steps", spaces::steps, 100, 20, 4),
+            part("steps-full", spaces::steps_full, 1, 1, 0),
+            part("whole-cards", |_, margin, counts| spaces::whole_cards(margin, counts), 1, 0, 0),
         ],
         report: Counts::report_placed,
     },

@@ -5,6 +5,7 @@ use crate::counts::Counts;
 use crate::figures::{any_figures, STEPS};
 use crate::lengths::one;
 use crate::lists::small_size;
+use crate::spaces;
 use bitwise::blocks::{figures, least_fit, plain, words_of, FREE, TAKEN};
 use bitwise::call::{call, placed as reserve, Call, Kind};
 use bitwise::card::{entry, Card};
@@ -109,9 +110,9 @@ pub fn expected() -> impl Iterator<Item = String> {
         LARGE_STEP,
         LARGEST,
     ];
-    // A card of full size has room for the last of the steps, which the fewer calls under valgrind do not reach.
-    let steps = STEPS[..9].iter().map(|step| with_step(*step));
-    some.map(str::to_string).into_iter().chain(steps)
+    let some = some.into_iter().chain(spaces::ENDS);
+    let steps = STEPS.iter().map(|step| with_step(*step));
+    some.map(str::to_string).chain(steps)
 }
 
 fn with_step(step: u32) -> String {
@@ -119,7 +120,7 @@ fn with_step(step: u32) -> String {
 }
 
 /// Counts what a reserve of a block or more is an example of.
-fn kinds(card: &Card, call: Call, counts: &mut Counts) {
+pub fn kinds(card: &Card, call: Call, counts: &mut Counts) {
     let (k, step) = (call.number as usize, call.figures.step);
     let [from, before] = [call.figures.from, call.figures.before].map(|figure| figure as usize);
     if k == 0 {
@@ -158,6 +159,7 @@ fn kinds_of_fit(card: &Card, call: Call, counts: &mut Counts) {
             NEITHER
         });
     };
+    spaces::ends(map, start, call, counts);
     let inside_words = from % 64 != 0 && before % 64 != 0;
     let crosses = start / 64 != (start + k - 1) / 64;
     let kinds = [

@@ -162,7 +162,7 @@ fn digest(items: impl Iterator<Item = u32>) -> u32 {
 fn answered(answer: Answer) -> String {
     match answer {
         Answer::Done => "0".to_string(),
-        Answer::Start(start) => format!("0 {start}"),
+        Answer::Start(start, space) => format!("0 {start} {space}"),
         Answer::Stands(Entry {
             mark,
             start,

@@ -1,4 +1,4 @@
-//! Placed reserves of a card (document 02, (a)).
+//! Placed reserves of a card (document 02, (a)), and the space behind their starts (document 02, (b)).
 
 use super::*;
 use crate::call::{call, placed};
@@ -74,7 +74,12 @@ fn starts_of_placed_reserves() {
     for (k, figures, start) in rows {
         let (answer, card) = reserved(k, figures, 90);
         let (end, length) = (start + k as usize, k as usize);
-        assert_eq!(answer, Start(start), "{k} blocks with {figures:?}");
+        // All blocks from 10 on were free, also those from `before` on.
+        assert_eq!(
+            answer,
+            Start(start, 100 - start),
+            "{k} blocks with {figures:?}"
+        );
         assert_eq!(card.sheets[1], entry(OPEN, start as u32, k));
         assert_eq!((card.n, card.free), (100, 90 - length));
         let taken = |b: usize| b < 10 || (start..end).contains(&b);
@@ -98,5 +103,28 @@ fn a_plain_reserve_is_the_one_with_0_n_and_1() {
         let with_figures = cards[1].call(placed(2, k, figures(0, 70, 1)), &mut []);
         assert_eq!(reserve, with_figures);
         assert!(cards[0] == cards[1]);
+    }
+}
+
+/// Document 02, (b): the free blocks from the start to the next taken block or n, measured before the marking. Bits from n on
+/// are never read as free, and the free count is not looked at.
+#[test]
+fn the_space_behind_a_start() {
+    let mut card = fresh_card(100);
+    card.map[100..].fill(FREE);
+    card.free = 40;
+    for (call, answer) in [
+        (call(Kind::Search, 0, 1), Start(0, 100)),
+        (call(Kind::Search, 0, 100), Start(0, 100)),
+        (placed(0, 7, figures(60, 67, 5)), Start(60, 40)),
+        (call(Kind::Search, 0, 1), Start(0, 60)),
+        (call(Kind::Search, 0, 61), Refused(10)),
+        (placed(1, 1, figures(33, 34, 33)), Start(33, 27)),
+        (call(Kind::Reserve, 2, 30), Start(0, 33)),
+        (call(Kind::Search, 0, 1), Start(30, 3)),
+        (call(Kind::Search, 0, 26), Start(34, 26)),
+        (call(Kind::Search, 0, 27), Start(67, 33)),
+    ] {
+        assert_eq!(card.call(call, &mut []), answer, "{call}");
     }
 }

@@ -13,7 +13,7 @@ use lib.ListN.{length}
 use Rattle.map_blocks.specs.Blocks.{free, leastFit}
 use Rattle.map_blocks.specs.declared.Found.{Found}
 use Rattle.map_blocks.specs.declared.Found.the-variants.{At, Nothing}
-use Rattle.catalogue_standings.specs.Searches.{none, startAt}
+use Rattle.catalogue_standings.specs.Searches.{none, startAt, startWithSpace}
 use Rattle.catalogue_standings.specs.Rows.{Verdict, row, accepted, refused, firstOf, settle}
 use Rattle.catalogue_standings.specs.Limits.{shapeFits}
 use Rattle.catalogue_standings.specs.declared.Answer.the-variants.{Start, Refused}
@@ -31,9 +31,10 @@ module _ (n spare : ℕ) (map : List ℕ) (k : ℕ) where
   abbrev verdict : Verdict
   verdict = firstOf (row 1 (not (shapeFits n spare (length map))) ∷ row 3 (eqb k 0) ∷ row 10 (none found) ∷ [])
 
-  out : (v : Verdict) → verdict ≡ v → settle v (Start (startAt found)) Refused ≡ searchAnswer n spare map k
+  out : (v : Verdict) → verdict ≡ v
+      → settle v (startWithSpace (free map) n (startAt found)) Refused ≡ searchAnswer n spare map k
   unfolding searchAnswer
-  out v h = sym (ap (λ (w : Verdict). settle w (Start (startAt found)) Refused) h)
+  out v h = sym (ap (λ (w : Verdict). settle w (startWithSpace (free map) n (startAt found)) Refused) h)
 
   shut : shapeFits n spare (length map) ≡ false → verdict ≡ refused 1
   shut e = stop 1 _ _ (ap not e)
@@ -78,6 +79,12 @@ enum-known-found c = search needs
 enum-told : tie.Need-enum-told
 enum-told c = search needs
 
+space-requires : tie.Need-space-requires
+space-requires c κs =
+    let shape = c .before .before .before .before .before in
+    let f = fits _ _ _ (holds (shape .before .shape-fits .ensures) (shape .if1 .left)) in
+    (omega (arith, f .limit), omega (arith, f .covered))
+
 returns-3 : tie.Need-returns-3
 returns-3 c =
     let some = c .before .before .before in
@@ -90,12 +97,14 @@ returns-3 c =
 
 returns-4 : tie.Need-returns-4
 returns-4 c =
-    let at = c .before .found .given in
-    let some = c .before .before .before .before in
+    let known = c .before .before in
+    let at = known .found .given in
+    let some = known .before .before .before in
     let shape = some .before in
     let a = shape .before .before .before .args in
-    let here = sym (c .before .before .before .search .ensures) ∙ at .1 in
-    ap Start (sym (ap startAt here))
+    let here = sym (known .before .before .search .ensures) ∙ at .1 in
+    ap (Start (at .0 .0)) (c .space .ensures)
+    ∙ ap (startWithSpace (free (now (a .map))) (a .n)) (sym (ap startAt here))
     ∙ out (a .n) (a .free) (now (a .map)) (a .k) accepted
     (passes (a .n) (a .free) (now (a .map)) (a .k) (holds (shape .before .shape-fits .ensures) (shape .if1 .left))
     (ne-eqb _ _ (some .if2 .left)) (at .0 .0) here)
@@ -111,4 +120,5 @@ search-spec =
     enum-known-found
     enum-told
     returns-3
+    space-requires
     returns-4)

@@ -15,10 +15,9 @@ use Rattle.map_blocks.specs.Maps.{marked}
 use Rattle.laws.proofs.Bools.{not-true}
 use Rattle.map_blocks.proofs.Fits.{fit-is}
 use Rattle.blocks_of_card.specs.Card.{zeroed}
-use Rattle.catalogue_standings.specs.Searches.{startAt, none}
+use Rattle.catalogue_standings.specs.Searches.{startAt, none, startWithSpace}
 use Rattle.catalogue_standings.specs.Standings.{isPaused, isOpen, isComplete}
 use Rattle.catalogue_standings.specs.Rows.{Row, Verdict, accepted, firstOf, settle}
-use Rattle.catalogue_standings.specs.declared.Answer.the-variants.{Start}
 use Rattle.refusals.specs.Effects as effects
 use Rattle.refusals.specs.Effects.{entryOf, outOf, refusalOut}
 use Rattle.refusals.specs.Table.{Call, on, reserve, rowsFor, lowestBlank, tableOf}
@@ -27,6 +26,7 @@ use Rattle.refusals.specs.declared.Figures.{Figures}
 use Rattle.refusals.proofs.Placement.{figured, plain-fit, found-fit}
 use Rattle.refusals.proofs.Rows.{clear}
 use Rattle.ledger.specs.Ledger.{Blank, Sheet, Absent, Open, standingIn, lengthIn, sheetAt, freeIn, spareIn, leastIn}
+use Rattle.ledger.specs.Ledger.{spaceIn}
 use Rattle.ledger.specs.Ledger.{viewIn, listed, rowsIn, verdictIn, deedIn, toldIn}
 use Rattle.ledger.specs.Claim.{before, Came, Searched}
 use Rattle.ledger.specs.Steps.{End, endOf}
@@ -80,26 +80,27 @@ module _ (n : ℕ) (l : List Sheet) (card : List ℕ) (k : Matches n l card) (i 
     tt,
   )
 
-  abbrev taken : ℕ → Verdict → End
-  taken at v =
-      outEnd n l card k i (settle v (outOf (spareIn n l - m) (entryOf openMark at m) (Start at))
+  -- what it comes to, where f says which blocks are free
+  abbrev taken : (ℕ → Bool) → ℕ → Verdict → End
+  taken f at v =
+      outEnd n l card k i (settle v (outOf (spareIn n l - m) (entryOf openMark at m) (startWithSpace f n at))
       (refusalOut (spareIn n l) (results.e n l card k i)))
       (settle v (marked (mapIn n l) at m false) (λ number. mapIn n l)) (settle v (zeroed card at m) (λ number. card))
 
-  ends-so : endOf (stateOf n l card) call ≡ taken start (verdictIn n l call)
+  ends-so : endOf (stateOf n l card) call ≡ taken (freeIn n l) start (verdictIn n l call)
   unfolding effects.reserveOut effects.reserveMap effects.reserveCard effects.takenOut effects.takenMap effects.takenCard
       rowsFor
   ends-so =
-      ap (taken (startAt (leastWithin (map-blocks.free (mapIn n l)) g m)))
+      ap (taken (map-blocks.free (mapIn n l)) (startAt (leastWithin (map-blocks.free (mapIn n l)) g m)))
       (verdict-on n l card k i (reserve m placement) (λ x y alike. refl) never)
-      ∙ ap (λ (f : ℕ → Bool). taken (startAt (leastWithin f g m)) (verdictIn n l call)) (free-map n l)
+      ∙ ap (λ (f : ℕ → Bool). taken f (startAt (leastWithin f g m)) (verdictIn n l call)) (free-map n l)
 
-  accepts : verdictIn n l call ≡ accepted → results.Done n l card call (taken start accepted)
+  accepts : verdictIn n l call ≡ accepted → results.Done n l card call (taken (freeIn n l) start accepted)
   unfolding tableOf listed deedIn
   accepts h =
       let s = shown (clear 2 rows h .0) (clear 6 rows h .0) (clear 7 rows h .0) (clear 8 rows h .0) (clear 3 rows h .0)
       (clear 15 rows h .0) (clear 10 rows h .0) in
-      one-sheet n l card k i (reserve m placement) (taken start accepted) (record {
+      one-sheet n l card k i (reserve m placement) (taken (freeIn n l) start accepted) (record {
         inside = s .inside;
         sheet = Open start (replicate m Blank);
         becomes = refl;
@@ -107,7 +108,7 @@ module _ (n : ℕ) (l : List Sheet) (card : List ℕ) (k : Matches n l card) (i 
         marks = marked (mapIn n l) start m false;
         card-left = zeroed card start m;
         entry = entryOf openMark start m;
-        answer = Start start;
+        answer = startWithSpace (freeIn n l) n start;
         changed = keep-reserve n l card k i (s .inside) m start (s .gone) (s .some) (s .fits);
         stored = ap (entryOf openMark start) (sym (length-replicate m Blank));
         ends-so = refl;
@@ -118,15 +119,15 @@ module _ (n : ℕ) (l : List Sheet) (card : List ℕ) (k : Matches n l card) (i 
       })
 
   -- no start from `before` on is a fit, and the verdict is that of the search alone
-  by-search : Came n l call → Searched (fitWithin (freeIn n l) g m) (toldIn n l call)
+  by-search : Came n l call → Searched (fitWithin (freeIn n l) g m) (spaceIn n l) (toldIn n l call)
   unfolding tableOf listed before onwards firstOf deedIn leastFit
   by-search came =
       let some : 0 < m = omega (arith, eqb-false m 0 (clear 3 (before 10 rows) came .0)) in
-      searched (fitWithin (freeIn n l) g m) (g .before)
+      searched (fitWithin (freeIn n l) g m) (spaceIn n l) (g .before)
       (λ s le. not-true _ (λ q. omega (arith, fit-is (freeIn n l) (g .from) (g .before) (g .step) m s q .high)))
       (verdictIn n l call) (lowestBlank (viewIn n l i)) (from-there 10 rows came)
 
   pub reserve-result : Result n l card call (verdictIn n l call)
   unfolding tableOf listed deedIn
-  reserve-result = result-of n l card k call (taken start) ends-so refl accepts
+  reserve-result = result-of n l card k call (taken (freeIn n l) start) ends-so refl accepts
       (plain-back n l card k call _ refl (out-back n l card k i)) by-search

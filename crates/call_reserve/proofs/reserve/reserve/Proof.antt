@@ -6,7 +6,7 @@ use borrow.Author.Needs.{needs}
 use denote.Ref.{now}
 use Rattle.refusals.specs.Lent.{lent}
 use Rattle.refusals.specs.Placement.{placed}
-use Rattle.refusals.proofs.Room.{reserveVerdictOn, reserveStartOn, reserve-room}
+use Rattle.refusals.proofs.Room.{reserveVerdictOn, reserveStartOn, reserve-room, reserve-within}
 use Rattle.refusals_rulings.proofs.Rulings.{accepts, refuses}
 use Rattle.call_reserve.proofs.reserve.reserve.Statement.{statement}
 use Rattle.call_reserve.proofs.reserve.reserve.Tie as tie
@@ -24,43 +24,23 @@ refusal-requires c κs = search needs
 enum-known-start : tie.Need-enum-known-start
 enum-known-start c = search needs
 
-mark-requires : tie.Need-mark-requires
-mark-requires c κs =
-    let place = c .before .before in
+take-requires : tie.Need-take-requires
+take-requires c κs =
+    let place = c .before .before .before in
     let call = place .before .before .reserve-ruling in
     let a = place .before .before .before .before .before .before .before .args in
     let q = lent (a .n) (a .free) (now (a .map)) (now (a .card)) (a .c) (a .entry) (a .sheet) in
-    let ruled = accepts (reserveStartOn q (a .k) (placed (a .figures))) (call .result)
-    (reserveVerdictOn q (a .k) (placed (a .figures))) (place .start .given .0 .0)
+    let p = placed (a .figures) in
+    let ruled = accepts (reserveStartOn q (a .k) p) (call .result) (reserveVerdictOn q (a .k) p) (place .start .given .0 .0)
     (call .ensures) (place .start .given .1) in
-    let room = reserve-room q (a .k) (placed (a .figures)) (ruled .0) in (
-      omega (arith, room .inside, room .sizes .shape .limit, ruled .1),
-      omega (arith, room .inside, room .sizes .shape .covered, ruled .1),
+    let room = reserve-room q (a .k) p (ruled .0) in
+    let within = reserve-within q (a .k) p (ruled .0) in (
+      omega (arith, room .inside, within .0, ruled .1),
+      omega (arith, room .sizes .shape .limit, within .1),
+      omega (arith, room .sizes .shape .covered, within .1),
+      omega (arith, room .sizes .bytes, within .1),
+      room .enough,
     )
-
-zero-blocks-requires : tie.Need-zero-blocks-requires
-zero-blocks-requires c κs =
-    let place = c .before .before .before .before .before .before in
-    let call = place .before .before .reserve-ruling in
-    let a = place .before .before .before .before .before .before .before .args in
-    let q = lent (a .n) (a .free) (now (a .map)) (now (a .card)) (a .c) (a .entry) (a .sheet) in
-    let ruled = accepts (reserveStartOn q (a .k) (placed (a .figures))) (call .result)
-    (reserveVerdictOn q (a .k) (placed (a .figures))) (place .start .given .0 .0)
-    (call .ensures) (place .start .given .1) in
-    let room = reserve-room q (a .k) (placed (a .figures)) (ruled .0) in
-    omega (arith, room .inside, room .sizes .bytes, ruled .1)
-
-sub-t23 : tie.Need-sub-t23
-sub-t23 c =
-    let place = c .before .before .before .before .before .before .before .before .before in
-    let call = place .before .before .reserve-ruling in
-    let a = place .before .before .before .before .before .before .before .args in
-    let q = lent (a .n) (a .free) (now (a .map)) (now (a .card)) (a .c) (a .entry) (a .sheet) in
-    let ruled = accepts (reserveStartOn q (a .k) (placed (a .figures))) (call .result)
-    (reserveVerdictOn q (a .k) (placed (a .figures))) (place .start .given .0 .0)
-    (call .ensures) (place .start .given .1) in
-    let room = reserve-room q (a .k) (placed (a .figures)) (ruled .0) in
-    omega (arith, room .enough)
 
 same-length : tie.Need-same-length
 same-length c = search needs
@@ -74,10 +54,10 @@ returns c =
     let call = place .before .before .reserve-ruling in
     let a = place .before .before .before .before .before .before .before .args in
     let q = lent (a .n) (a .free) (now (a .map)) (now (a .card)) (a .c) (a .entry) (a .sheet) in
+    let p = placed (a .figures) in
     let number = place .row .given .0 .0 in
-    unchanged q (a .k) (placed (a .figures)) number (c .refusal .result)
-    (refuses (reserveStartOn q (a .k) (placed (a .figures))) (call .result)
-    (reserveVerdictOn q (a .k) (placed (a .figures))) number (call .ensures)
+    unchanged q (a .k) p number (c .refusal .result)
+    (refuses (reserveStartOn q (a .k) p) (call .result) (reserveVerdictOn q (a .k) p) number (call .ensures)
     (place .row .given .1)) (c .refusal .ensures)
 
 same-length-3 : tie.Need-same-length-3
@@ -88,18 +68,17 @@ same-length-4 c = search needs
 
 returns-2 : tie.Need-returns-2
 returns-2 c =
-    let place = c .before .before .before .before .before .before .before .before .before in
+    let end = c .before .before .before .before in
+    let place = end .before .before .before .before in
     let call = place .before .before .reserve-ruling in
     let a = place .before .before .before .before .before .before .before .args in
     let q = lent (a .n) (a .free) (now (a .map)) (now (a .card)) (a .c) (a .entry) (a .sheet) in
-    let ruled = accepts (reserveStartOn q (a .k) (placed (a .figures))) (call .result)
-    (reserveVerdictOn q (a .k) (placed (a .figures))) (place .start .given .0 .0)
+    let p = placed (a .figures) in
+    let ruled = accepts (reserveStartOn q (a .k) p) (call .result) (reserveVerdictOn q (a .k) p) (place .start .given .0 .0)
     (call .ensures) (place .start .given .1) in
-    let marks = c .before .before .before .before .before .before .mark in
-    let zeros = c .before .before .zero-blocks in
-    changed q (a .k) (placed (a .figures)) (place .start .given .0 .0) (marks .last .0) (zeros .last .0) (ruled .0) (ruled .1)
-    (marks .ensures)
-    (zeros .ensures)
+    let taken = end .take in
+    changed q (a .k) p (place .start .given .0 .0) (taken .result) _ _ (ruled .0) (ruled .1)
+    (taken .ensures .0) (taken .ensures .1) (taken .ensures .2)
 
 pub reserve-spec : {M : Type 1} → statement M
 reserve-spec =
@@ -109,9 +88,7 @@ reserve-spec =
     enum-known-row
     refusal-requires
     enum-known-start
-    mark-requires
-    zero-blocks-requires
-    sub-t23
+    take-requires
     same-length
     same-length-2
     returns
