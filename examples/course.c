@@ -110,6 +110,27 @@ static void pause_sheet(uint32_t sheet)
     told(call, pagunlit_pause(shape, map, WORDS, catalogue, SHEETS, sheet));
 }
 
+/* Where a sheet would go, to be seen before it is agreed to. */
+static pagunlit_outcome offer(uint32_t sheet, uint32_t places)
+{
+    char call[40];
+    pagunlit_outcome outcome =
+        pagunlit_offer(shape, map, WORDS, catalogue, SHEETS, card, sizeof card, sheet, places);
+
+    snprintf(call, sizeof call, "offer sheet %u, places %u", sheet, places);
+    told(call, outcome);
+    return outcome;
+}
+
+/* What was offered is agreed to, unless its blocks have been taken meanwhile. */
+static void accept_offer(uint32_t sheet, pagunlit_outcome offered)
+{
+    char call[40];
+
+    snprintf(call, sizeof call, "accept sheet %u at block %u", sheet, offered.first);
+    told(call, pagunlit_accept(shape, map, WORDS, catalogue, SHEETS, card, sizeof card, sheet, offered.first, offered.second));
+}
+
 static void release(uint32_t sheet)
 {
     char call[40];
@@ -248,6 +269,23 @@ static void full_card(void)
     survey();
 }
 
+static void offers(void)
+{
+    pagunlit_outcome two, one;
+
+    puts("A pharmacist sees where a sheet would go before agreeing. What another call takes meanwhile is not given twice.");
+    release(3);
+    two = offer(0, 2);
+    one = offer(3, 1);
+    reserve(3, 1);
+    accept_offer(0, two);
+    release(3);
+    accept_offer(0, two);
+    accept_offer(3, one);
+    release(0);
+    accept_offer(3, one);
+}
+
 static void power_cut(void)
 {
     puts("Map and catalogue are saved, and loaded when the power is back. A damaged image is not taken for one.");
@@ -266,6 +304,7 @@ int main(void)
     prescription();
     full_card();
     power_cut();
+    offers();
     puts("Doses are counts with two decimals. None is not 0, and a digit that cannot be is refused.");
     doses();
     return 0;

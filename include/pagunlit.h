@@ -38,8 +38,8 @@ extern "C" {
 #endif
 
 /* The version of this header, 10000 * first + 100 * second + third, and as a text. */
-#define PAGUNLIT_VERSION 10300
-#define PAGUNLIT_VERSION_TEXT "1.3.0"
+#define PAGUNLIT_VERSION 10400
+#define PAGUNLIT_VERSION_TEXT "1.4.0"
 
 enum {
     PAGUNLIT_BLOCK = 512,       /* bytes of a block */
@@ -60,13 +60,14 @@ enum {
     PAGUNLIT_IS_OPEN = 7,        /* it is Open */
     PAGUNLIT_IS_COMPLETE = 8,    /* it is Complete */
     PAGUNLIT_PLACE_BLANK = 9,    /* complete: a place is blank */
-    PAGUNLIT_NO_FIT = 10,        /* search and both reserves: no run of free blocks is long enough (within the figures) */
+    PAGUNLIT_NO_FIT = 10,        /* search, offer and both reserves: no run of free blocks is long enough (within figures) */
     PAGUNLIT_CANNOT_GROW = 11,   /* grow: the next blocks are not all free and on the card */
     PAGUNLIT_IMAGE_LENGTH = 12,  /* save and load: the image's length */
     PAGUNLIT_IMAGE_FRAME = 13,   /* load: a frame's number, total or check */
     PAGUNLIT_IMAGE_CONTENT = 14, /* load: the contents cannot be */
     PAGUNLIT_WRONG_FIGURES = 15, /* placed reserve: step is 0, from is not below before, or before is above the blocks */
-    PAGUNLIT_WRONG_COUNT = 16    /* dose counts: another digit, a number out of range, or no such count */
+    PAGUNLIT_WRONG_COUNT = 16,   /* dose counts: another digit, a number out of range, or no such count */
+    PAGUNLIT_RUN_NOT_FREE = 17   /* accept: the run is not all free and on the card */
 };
 
 /* Marks of an entry. */
@@ -144,6 +145,22 @@ pagunlit_outcome pagunlit_reserve(pagunlit_shape shape, uint64_t *map, size_t ma
 pagunlit_outcome pagunlit_reserve_placed(pagunlit_shape shape, uint64_t *map, size_t maplen, pagunlit_entry *catalogue,
                                          size_t cataloguelen, uint8_t *card, size_t cardlen, uint32_t sheet, uint32_t count,
                                          uint32_t from, uint32_t before, uint32_t step);
+
+/* Where pagunlit_reserve would put a sheet of `count` places now. It changes nothing. first: the start. second: count.
+ *   1, 2, 4, 6, 7, 8, 3, 10, 4   as pagunlit_reserve */
+pagunlit_outcome pagunlit_offer(pagunlit_shape shape, const uint64_t *map, size_t maplen, const pagunlit_entry *catalogue,
+                                size_t cataloguelen, const uint8_t *card, size_t cardlen, uint32_t sheet, uint32_t count);
+
+/* An Absent sheet becomes Open with `count` blank places in the blocks from `start` on, as pagunlit_reserve does at the start
+ * that it finds. It need not be the lowest run, nor one that was offered. first: the start. second: the space behind it.
+ *   1, 2, 4   as above
+ *   6, 7, 8   the sheet is Paused, Open, Complete
+ *   3         count is 0
+ *   17        the blocks from start to start + count - 1 are not all free, or go past the card's last
+ *   4         count is more than the shape's free count, though they are free */
+pagunlit_outcome pagunlit_accept(pagunlit_shape shape, uint64_t *map, size_t maplen, pagunlit_entry *catalogue,
+                                 size_t cataloguelen, uint8_t *card, size_t cardlen, uint32_t sheet, uint32_t start,
+                                 uint32_t count);
 
 /* An Open sheet gets `count` more blank places, in the blocks after its own, which are filled with zeros.
  *   1, 2, 4   as above

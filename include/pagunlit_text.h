@@ -45,6 +45,8 @@ static inline const char *pagunlit_meaning(uint32_t number)
     case PAGUNLIT_WRONG_COUNT:
         return "dose counts: another digit in the four bytes read, a number out of range when writing, "
                "or a count number of 124 or more";
+    case PAGUNLIT_RUN_NOT_FREE:
+        return "accept: the run is not all free and inside n";
     default:
         return "no number of this library";
     }

@@ -75,6 +75,16 @@ static void reserve_placed(const char *call, uint32_t sheet, uint32_t count, uin
     told(call, pagunlit_reserve_placed(shape, map, W, catalogue, C, card, sizeof card, sheet, count, from, before, step));
 }
 
+static void offer(const char *call, uint32_t sheet, uint32_t count)
+{
+    told(call, pagunlit_offer(shape, map, W, catalogue, C, card, sizeof card, sheet, count));
+}
+
+static void take(const char *call, uint32_t sheet, uint32_t start, uint32_t count)
+{
+    told(call, pagunlit_accept(shape, map, W, catalogue, C, card, sizeof card, sheet, start, count));
+}
+
 static void grow(const char *call, uint32_t sheet, uint32_t count)
 {
     told(call, pagunlit_grow(shape, map, W, catalogue, C, card, sizeof card, sheet, count));
@@ -146,6 +156,9 @@ static void course(void)
     search("search 2", 2);
     reserve_placed("reserve-placed 2 4 21 66 7", 2, 4, 21, 66, 7);
     told("release placed 2", pagunlit_release(shape, map, W, catalogue, C, 2));
+    offer("offer 2 4", 2, 4);
+    take("accept 2 15 6", 2, 15, 6);
+    told("release accepted 2", pagunlit_release(shape, map, W, catalogue, C, 2));
     survey("survey again");
     save("save", sizeof image);
     printf("head\t%u %u\n", pagunlit_image_blocks(image, sizeof image), pagunlit_image_sheets(image, sizeof image));
@@ -165,6 +178,12 @@ static void refusals(void)
     reserve_placed("reserve-placed 2 1 9 8 2", 2, 1, 9, 8, 2);
     reserve_placed("reserve-placed 2 1 9 60 0", 2, 1, 9, 60, 0);
     reserve_placed("reserve-placed 2 0 9 60 0", 2, 0, 9, 60, 0);
+    offer("offer 2 61", 2, 61);
+    offer("offer 0 61", 0, 61);
+    take("accept 2 9 3", 2, 9, 3);
+    take("accept 2 68 3", 2, 68, 3);
+    take("accept 2 4294967290 7", 2, 4294967290u, 7);
+    take("accept 2 9 0", 2, 9, 0);
     told("pause 1", pagunlit_pause(shape, map, W, catalogue, C, 1));
     grow("grow 1 61", 1, 61);
     save("save short", sizeof image - 1);

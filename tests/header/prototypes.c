@@ -16,6 +16,8 @@ pagunlit_outcome pagunlit_survey(SHAPE, const MAP);
 pagunlit_outcome pagunlit_reserve(SHAPE, MAP, CATALOGUE, CARD, uint32_t sheet, uint32_t count);
 pagunlit_outcome pagunlit_reserve_placed(SHAPE, MAP, CATALOGUE, CARD, uint32_t sheet, uint32_t count, uint32_t from,
                                          uint32_t before, uint32_t step);
+pagunlit_outcome pagunlit_offer(SHAPE, const MAP, const CATALOGUE, const CARD, uint32_t sheet, uint32_t count);
+pagunlit_outcome pagunlit_accept(SHAPE, MAP, CATALOGUE, CARD, uint32_t sheet, uint32_t start, uint32_t count);
 pagunlit_outcome pagunlit_grow(SHAPE, MAP, CATALOGUE, CARD, uint32_t sheet, uint32_t count);
 pagunlit_outcome pagunlit_put(SHAPE, const MAP, const CATALOGUE, CARD, uint32_t sheet, uint32_t place, const uint8_t *payload,
                               size_t payloadlen);

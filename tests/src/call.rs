@@ -13,6 +13,8 @@ pub enum Kind {
     Survey,
     Reserve,
     ReservePlaced,
+    Offer,
+    Accept,
     Put,
     Grow,
     Complete,
@@ -25,7 +27,7 @@ pub enum Kind {
 /// Every kind of call, with the rows of document 01's table that can refuse it, in the order under the table. A row of
 /// document 02 stands where its request says.
 #[rustfmt::skip]
-pub const CALLS: [(Kind, &str, &[Row]); 12] = [
+pub const CALLS: [(Kind, &str, &[Row]); 14] = [
     (Kind::Fresh, "fresh", &[Blocks, Sheets, MapLength]),
     (Kind::Search, "search", &[Blocks, FreeAboveN, MapLength, NoBlocks, NoFit]),
     (Kind::Survey, "survey", &[Blocks, FreeAboveN, MapLength]),
@@ -33,6 +35,10 @@ pub const CALLS: [(Kind, &str, &[Row]); 12] = [
         Paused, Open, Complete, NoBlocks, NoFit, FreeCount]),
     (Kind::ReservePlaced, "reserve-placed", &[Blocks, Sheets, FreeAboveN, MapLength, CardLength, NoSheet, Damaged,
         Paused, Open, Complete, NoBlocks, NoStep, FromNotBefore, BeforeAboveN, NoFit, FreeCount]),
+    (Kind::Offer, "offer", &[Blocks, Sheets, FreeAboveN, MapLength, CardLength, NoSheet, Damaged,
+        Paused, Open, Complete, NoBlocks, NoFit, FreeCount]),
+    (Kind::Accept, "accept", &[Blocks, Sheets, FreeAboveN, MapLength, CardLength, NoSheet, Damaged,
+        Paused, Open, Complete, NoBlocks, RunNotFree, FreeCount]),
     (Kind::Put, "put", &[Blocks, Sheets, FreeAboveN, MapLength, CardLength, NoSheet, Damaged,
         Absent, Paused, Complete, NoPlace, SliceLength]),
     (Kind::Grow, "grow", &[Blocks, Sheets, FreeAboveN, MapLength, CardLength, NoSheet, Damaged,
@@ -151,6 +157,8 @@ pub struct Call {
     pub number: u32,
     /// Those of a placed reserve, 0 where there are none.
     pub figures: Figures,
+    /// Where the run of an accept starts, 0 where there is none.
+    pub start: u32,
     /// The payload that a put brings, or what a show's buffer has before.
     pub bytes: Bytes,
 }
@@ -162,6 +170,7 @@ pub const fn call(kind: Kind, sheet: u32, number: u32) -> Call {
         sheet,
         number,
         figures: figures(0, 0, 0),
+        start: 0,
         bytes: PAYLOAD,
     }
 }
@@ -171,6 +180,14 @@ pub const fn placed(sheet: u32, count: u32, figures: Figures) -> Call {
     Call {
         figures,
         ..call(Kind::ReservePlaced, sheet, count)
+    }
+}
+
+/// An accept of a run.
+pub const fn accept(sheet: u32, start: u32, count: u32) -> Call {
+    Call {
+        start,
+        ..call(Kind::Accept, sheet, count)
     }
 }
 
@@ -195,6 +212,9 @@ impl fmt::Display for Call {
         write!(f, "{}", kind.name())?;
         if kind.has_sheet() {
             write!(f, " {}", self.sheet)?;
+        }
+        if kind == Kind::Accept {
+            write!(f, " {}", self.start)?;
         }
         if kind.has_number() {
             write!(f, " {}", self.number)?;
@@ -224,14 +244,14 @@ mod tests {
     }
 
     /// Document 01, "Order: 1, 2, 4 for the entry, 5 to 8, 3, then 4 for blocks, 9, 10 or 11, and last 4 for the count", and
-    /// document 02, "it comes after 3", of 15.
+    /// document 02, "it comes after 3", of 15, and "it takes the place of 10 there", of 17.
     #[test]
     fn rows_stand_in_the_documents_order() {
         for (_, name, rows) in CALLS {
             assert!(rows.windows(2).all(|two| two[0] < two[1]), "{name}");
             let mut numbers: Vec<u32> = rows.iter().map(|row| row.number()).collect();
             numbers.dedup();
-            let mut order = [1, 2, 4, 5, 6, 7, 8, 3, 15, 4, 9, 10, 11, 4].into_iter();
+            let mut order = [1, 2, 4, 5, 6, 7, 8, 3, 15, 4, 9, 10, 11, 17, 4].into_iter();
             for number in numbers {
                 // Behind the number before it.
                 assert!(order.any(|next| next == number), "{name}: {number}");

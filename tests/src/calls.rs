@@ -2,6 +2,7 @@
 
 mod filling_calls;
 mod limits;
+mod offer_calls;
 mod other_calls;
 mod placed_calls;
 mod random_calls;
@@ -24,6 +25,10 @@ pub fn examples() -> String {
             placed_calls::BOUNDARIES.to_string(),
         ),
         ("spaces over words", space_calls::WORDS.to_string()),
+        (
+            "word boundaries of accepts",
+            offer_calls::BOUNDARIES.to_string(),
+        ),
         ("numbers of sheets", limits::SHEETS.to_string()),
         ("row 1", limits::row_1()),
     ];
@@ -31,6 +36,7 @@ pub fn examples() -> String {
         filling_calls::LISTS,
         placed_calls::LISTS,
         space_calls::LISTS,
+        offer_calls::LISTS,
         other_calls::LISTS,
     ];
     let lists = lists.iter().flat_map(|lists| lists.iter());

@@ -11,6 +11,8 @@ pub enum Answer {
     Done,
     /// A start, and the space behind it.
     Start(usize, usize),
+    /// Of an offer: the start, and the length.
+    Offered(usize, usize),
     Stands(Entry),
     Counted(usize, usize, usize),
     Blank(usize),
@@ -128,6 +130,7 @@ impl Card {
             Row::FromNotBefore => call.figures.from >= call.figures.before,
             Row::BeforeAboveN => call.figures.before as usize > n,
             Row::NoFit => number > 0 && self.least_fit(call).is_none(),
+            Row::RunNotFree => number > 0 && !self.run_is_free(call.start as usize, number),
             Row::FreeCount if call.kind != Kind::Release => number > self.free,
             _ => match self.entry_of(call) {
                 Some(entry) => self.holds_for_entry(row, call, entry),
@@ -170,7 +173,7 @@ impl Card {
         }
     }
 
-    /// The least fit for a search or a reserve, a plain one being the one with the figures 0, n and 1.
+    /// The least fit for a search, a reserve or an offer: that of a plain reserve is the one with the figures 0, n and 1.
     fn least_fit(&self, call: Call) -> Option<usize> {
         let figures = match call.kind {
             Kind::ReservePlaced => call.figures,
@@ -180,17 +183,20 @@ impl Card {
         least_fit(&self.map[..blocks], figures, call.number as usize)
     }
 
-    /// The start of that fit, and the space behind it: up to the next taken block or n, whatever `before` is.
-    fn found(&self, call: Call) -> Answer {
-        let start = self.least_fit(call).unwrap();
+    /// A start, and the space behind it: up to the next taken block or n, whatever `before` is.
+    fn with_space(&self, start: usize) -> Answer {
         Start(start, space(&self.map[..self.n], start))
+    }
+
+    /// The k blocks from a start on are all free and inside n.
+    fn run_is_free(&self, start: usize, k: usize) -> bool {
+        let run = self.map.get(start..start + k);
+        start + k <= self.n && run.is_some_and(|blocks| !blocks.contains(&TAKEN))
     }
 
     /// The m blocks after the extent are all free and inside n.
     fn next_are_free(&self, e: Entry, m: usize) -> bool {
-        let end = e.start as usize + e.length as usize;
-        let next = self.map.get(end..end + m);
-        end + m <= self.n && next.is_some_and(|blocks| !blocks.contains(&TAKEN))
+        self.run_is_free(e.start as usize + e.length as usize, m)
     }
 
     /// The places of an entry whose blocks the card has.
@@ -233,16 +239,16 @@ impl Card {
         let (sheet, number) = (call.sheet as usize, call.number as usize);
         match call.kind {
             Kind::Fresh => self.fresh(number),
-            Kind::Search => self.found(call),
+            Kind::Search => self.with_space(self.least_fit(call).unwrap()),
             Kind::Survey => {
                 let counts = survey(&self.map, self.n);
                 Counted(counts.free, counts.runs, counts.longest)
             }
             Kind::Reserve | Kind::ReservePlaced => {
-                let (start, answer) = (self.least_fit(call).unwrap(), self.found(call));
-                self.take(sheet, start, start, number);
-                answer
+                self.reserve(sheet, self.least_fit(call).unwrap(), number)
             }
+            Kind::Offer => Offered(self.least_fit(call).unwrap(), number),
+            Kind::Accept => self.reserve(sheet, call.start as usize, number),
             Kind::Grow => {
                 let Entry { start, length, .. } = self.sheets[sheet];
                 self.take(sheet, start as usize, (start + length) as usize, number);
@@ -266,6 +272,13 @@ impl Card {
         self.sheets.fill(ABSENT);
         (self.n, self.free) = (n, n);
         Done
+    }
+
+    /// What a reserve at a start does and answers, the space being measured before the marking.
+    fn reserve(&mut self, sheet: usize, start: usize, k: usize) -> Answer {
+        let answer = self.with_space(start);
+        self.take(sheet, start, start, k);
+        answer
     }
 
     /// A sheet is open from `start` on, and k blocks from `from` on are its last ones: taken, and filled with zeros.

@@ -116,6 +116,8 @@ impl Ledger {
             Kind::Fresh | Kind::Search | Kind::Survey => return None,
             Kind::Reserve => self.reserve(sheet, number as usize, plain(self.n)),
             Kind::ReservePlaced => self.reserve(sheet, number as usize, call.figures),
+            Kind::Offer => self.offer(sheet, number as usize),
+            Kind::Accept => self.accept(sheet, call.start as usize, number as usize),
             Kind::Put => self.put(sheet, number, slice),
             Kind::Grow => self.grow(sheet, number as usize),
             Kind::Complete => self.complete(sheet),
@@ -150,8 +152,8 @@ impl Ledger {
         }
     }
 
-    /// A reserve with figures: the plain one is the one with 0, n and 1.
-    fn reserve(&mut self, sheet: u32, k: usize, figures: Figures) -> Result<Answer, Answer> {
+    /// Where a reserve with figures would put a sheet of k places.
+    fn fit(&mut self, sheet: u32, k: usize, figures: Figures) -> Result<usize, Answer> {
         self.absent(sheet)?;
         if k == 0 {
             return Err(Refused(3));
@@ -160,13 +162,41 @@ impl Ledger {
         if step == 0 || from >= before || before as usize > self.n {
             return Err(Refused(15));
         }
-        let start = least_fit(&self.map()[..self.n], figures, k).ok_or(Refused(10))?;
-        // No sheet covers the start: the space behind it ends where the next sheet begins.
+        least_fit(&self.map()[..self.n], figures, k).ok_or(Refused(10))
+    }
+
+    /// An Absent sheet becomes Open with k blank places from a start on, which no sheet covers. The space behind the start ends
+    /// where the next sheet begins.
+    fn place(&mut self, sheet: u32, start: usize, k: usize) -> Result<Answer, Answer> {
         let space = self.next_covered(start) - start;
         let places = vec![None; k];
         *self.absent(sheet)? = Sheet::Open { start, places };
         self.granted += k;
         Ok(Start(start, space))
+    }
+
+    /// A reserve with figures: the plain one is the one with 0, n and 1.
+    fn reserve(&mut self, sheet: u32, k: usize, figures: Figures) -> Result<Answer, Answer> {
+        let start = self.fit(sheet, k, figures)?;
+        self.place(sheet, start, k)
+    }
+
+    /// What a plain reserve would get, and the length. Nothing changes (document 02, (f)).
+    fn offer(&mut self, sheet: u32, k: usize) -> Result<Answer, Answer> {
+        let start = self.fit(sheet, k, plain(self.n))?;
+        Ok(Offered(start, k))
+    }
+
+    /// A reserve at a start, which need not be the lowest fit (document 02, (f)).
+    fn accept(&mut self, sheet: u32, start: usize, k: usize) -> Result<Answer, Answer> {
+        self.absent(sheet)?;
+        if k == 0 {
+            return Err(Refused(3));
+        }
+        if start + k > self.n || !all(&self.map(), start, start + k, FREE) {
+            return Err(Refused(17));
+        }
+        self.place(sheet, start, k)
     }
 
     fn put(&mut self, sheet: u32, place: u32, payload: &[u8]) -> Result<Answer, Answer> {
@@ -240,116 +270,4 @@ impl Ledger {
 }
 
 #[cfg(test)]
-mod tests {
-    use super::*;
-    use crate::blocks::figures;
-    use crate::call::{call, placed};
-    use crate::card::Card;
-    use crate::random::Random;
-
-    /// A release gives the blocks back, and a new reserve has blank places, whatever was put there before.
-    #[test]
-    fn a_sheet_from_reserve_to_reserve() {
-        let mut ledger = Ledger::fresh(3, 2);
-        let buffer = &mut [0; 496];
-        assert_eq!(ledger.reserve(0, 2, plain(3)), Ok(Start(0, 3)));
-        assert_eq!(ledger.put(0, 1, &[7; 496]), Ok(Done));
-        assert_eq!(ledger.complete(0), Err(Blank(0)));
-        assert_eq!(ledger.put(0, 0, &[8; 496]), Ok(Done));
-        assert_eq!(ledger.complete(0), Ok(Done));
-        assert_eq!(ledger.show(0, 1, buffer), Ok(Done));
-        assert_eq!(buffer[0], 7);
-        assert_eq!(ledger.reserve(1, 2, plain(3)), Err(Refused(10)));
-        assert_eq!(ledger.release(0), Ok(Done));
-        assert_eq!(ledger.reserve(1, 2, plain(3)), Ok(Start(0, 3)));
-        assert_eq!(ledger.complete(1), Err(Blank(0)));
-        assert_eq!(ledger.put(1, 0, &[9; 496]), Ok(Done));
-        assert_eq!(ledger.complete(1), Err(Blank(1)));
-        assert_eq!((ledger.granted, ledger.returned), (4, 2));
-        assert_eq!(ledger.free_count(), 1);
-    }
-
-    /// Of 5 places, those that are filled in this order, and the place with 9 after each.
-    #[test]
-    fn the_lowest_blank_place() {
-        let mut ledger = Ledger::fresh(8, 1);
-        assert_eq!(ledger.reserve(0, 5, plain(8)), Ok(Start(0, 8)));
-        for (filled, lowest) in [(1, 0), (4, 0), (0, 2), (3, 2)] {
-            assert_eq!(ledger.put(0, filled, &[7; 496]), Ok(Done));
-            assert_eq!(ledger.complete(0), Err(Blank(lowest)));
-        }
-    }
-
-    /// Document 02, (a): the ledger's fits are those of the figures, 15 comes after 3 and before 10, and a refused call leaves
-    /// the ledger alone.
-    #[test]
-    fn placed_reserves() {
-        let mut ledger = Ledger::fresh(100, 3);
-        assert_eq!(ledger.reserve(0, 10, plain(100)), Ok(Start(0, 100)));
-        for (k, refused) in [(0, 3), (1, 15), (101, 15)] {
-            for (from, before, step) in [(0, 100, 0), (9, 9, 1), (0, 101, 1)] {
-                let answer = ledger.reserve(1, k, figures(from, before, step));
-                assert_eq!(answer, Err(Refused(refused)));
-            }
-        }
-        assert_eq!(ledger.reserve(0, 0, figures(0, 0, 0)), Err(Refused(7)));
-        assert_eq!(ledger.reserve(3, 0, figures(0, 0, 0)), Err(Refused(2)));
-        assert_eq!(ledger.reserve(1, 5, figures(0, 20, 8)), Err(Refused(10)));
-        assert_eq!(ledger.free_count(), 90);
-        assert_eq!(ledger.reserve(1, 5, figures(0, 21, 8)), Ok(Start(16, 84)));
-        assert_eq!(ledger.reserve(2, 6, plain(100)), Ok(Start(10, 6)));
-        assert_eq!((ledger.granted, ledger.free_count()), (21, 79));
-    }
-
-    /// Document 02, (b): the space behind a start is measured before the marking, ends at the next taken block or n, whatever
-    /// `before` is, and is what could be added to the sheet.
-    #[test]
-    fn the_space_behind_a_start() {
-        let mut ledger = Ledger::fresh(100, 4);
-        assert_eq!(ledger.reserve(0, 10, figures(20, 40, 1)), Ok(Start(20, 80)));
-        assert_eq!(ledger.reserve(1, 5, plain(100)), Ok(Start(0, 20)));
-        assert_eq!(ledger.reserve(2, 5, figures(8, 13, 4)), Ok(Start(8, 12)));
-        assert_eq!(ledger.reserve(3, 3, plain(100)), Ok(Start(5, 3)));
-        assert_eq!(ledger.grow(3, 1), Err(Refused(11)));
-        assert_eq!(ledger.grow(2, 8), Err(Refused(11)));
-        assert_eq!(ledger.grow(2, 7), Ok(Done));
-        assert_eq!(ledger.grow(0, 71), Err(Refused(11)));
-        assert_eq!(ledger.grow(0, 70), Ok(Done));
-    }
-
-    /// A call for one of 3 sheets: a reserve of either kind, or a release.
-    fn random_call(n: usize, random: &mut Random) -> Call {
-        let (sheet, k) = (random.within(0, 3) as u32, random.within(0, n) as u32 / 3);
-        let mut figure = || random.within(0, n + 2) as u32;
-        let placed_at = figures(figure(), figure(), figure() / 4);
-        match random.within(0, 4) {
-            0 => call(Kind::Reserve, sheet, k),
-            1 => call(Kind::Release, sheet, 0),
-            _ => placed(sheet, k, placed_at),
-        }
-    }
-
-    /// Lists of reserves and releases: the card answers as the ledger does, and has its map and its entries.
-    #[test]
-    fn the_card_answers_as_the_ledger() {
-        for n in [1, 2, 9, 64, 70] {
-            let random = &mut Random::of(n as u64);
-            let mut ledger = Ledger::fresh(n, 3);
-            let mut card = Card {
-                n,
-                free: n,
-                map: ledger.map(),
-                sheets: vec![entry(0x41, 0, 0); 3],
-                bytes: vec![0; 512 * n],
-            };
-            for _ in 0..2000 {
-                let call = random_call(n, random);
-                let answer = card.call(call, &mut []);
-                assert_eq!(Some(answer), ledger.call(call, &mut []), "{n}: {call}");
-                assert!(card.map == ledger.map() && card.free == ledger.free_count());
-                assert!((0..3).all(|sheet| card.sheets[sheet] == ledger.entry(sheet)));
-            }
-            assert_eq!(card.free + ledger.granted, n + ledger.returned);
-        }
-    }
-}
+mod tests;

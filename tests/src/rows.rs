@@ -45,6 +45,8 @@ pub enum Row {
     NoFit,
     /// 11: the m next blocks are not all free and inside n.
     NotNext,
+    /// 17, of an accept: the run is not all free and inside n.
+    RunNotFree,
     /// 4: the free count contradicts the call.
     FreeCount,
     /// 4, of a save: the state is not sound. 14, of a load: the image's state is not.
@@ -85,6 +87,7 @@ impl Row {
             FrameNumber | FrameTotal | FrameCheck => 13,
             HeadLimits | HeadTotal | LoadedState | Fill => 14,
             NoStep | FromNotBefore | BeforeAboveN => 15,
+            RunNotFree => 17,
         }
     }
 }
@@ -111,7 +114,7 @@ const APART: &[Apart] = &[
     (&[], STANDINGS, STANDINGS, "an entry has one mark"),
     (&["complete"], &[Absent, Paused], &[Unsound, Blank], "a sheet without places has no blocks"),
     (&["release"], &[Absent], &[FreeCount], "a free count not above n stays so if a length of 0 is added"),
-    (&[], &[NoBlocks], &[NoFit, NotNext], "a fit is for k ≥ 1, and no blocks are free and inside n"),
+    (&[], &[NoBlocks], &[NoFit, NotNext, RunNotFree], "a fit is for k ≥ 1, and no blocks are free and inside n"),
     (&[], &[NoBlocks], &[FreeCount], "0 is not above the free count"),
 ];
 

@@ -1,4 +1,7 @@
-// The calls that take blocks, for an entry by value: reserve and grow. Each does what its ruling says.
+// The calls that take blocks, for an entry by value: reserve, accept and grow, and the offer, which takes none. Each does what
+// its ruling says.
+pub mod accept;
 pub mod grow;
+pub mod offer;
 pub mod reserve;
 pub mod take;

@@ -1,6 +1,6 @@
-// What reserve does at the start that it found: a sheet without blocks takes k from there on and becomes Open. Every block
-// taken is filled with zeros, so that no old seal of the same sheet passes for a new place. The space behind the start is
-// measured before the marking.
+// What reserve does at the start that it found, and accept at the one that is asked for: a sheet without blocks takes k from
+// there on and becomes Open. Every block taken is filled with zeros, so that no old seal of the same sheet passes for a new
+// place. The space behind the start is measured before the marking.
 ghost use mathlib.Core.Path.{_≡_};
 ghost use mathlib.Core.Bool.{false};
 ghost use Prim.Native.Nat.{_+_, _-_, _*_, _≤_};

@@ -17,7 +17,7 @@ use Rattle.block.proofs.Clauses.{Ensures, AsksNothing}
 use Rattle.refusals.specs.Lent.{noCard}
 use Rattle.card.specs.Calls.{kept}
 use Rattle.card.specs.Contracts.{itself, Freshens, Searches, Surveys, Reserves, ReservesPlaced, Grows, Puts, Completes}
-use Rattle.card.specs.Contracts.{Shows}
+use Rattle.card.specs.Contracts.{Offers, Accepts, Shows}
 use Rattle.card.specs.Contracts.{Pauses, Releases, TellsStanding, Saves, Loads}
 use Rattle.card.proofs.Shape.constants_hold as constants-hold-method
 use Rattle.card.proofs.Shape.fresh as fresh-method
@@ -25,6 +25,8 @@ use Rattle.card.proofs.Shape.search as search-method
 use Rattle.card.proofs.Shape.survey as survey-method
 use Rattle.card.proofs.Shape.reserve as reserve-method
 use Rattle.card.proofs.Shape.reserve_placed as reserve-placed-method
+use Rattle.card.proofs.Shape.offer as offer-method
+use Rattle.card.proofs.Shape.accept as accept-method
 use Rattle.card.proofs.Shape.grow as grow-method
 use Rattle.card.proofs.Shape.put as put-method
 use Rattle.card.proofs.Shape.complete as complete-method
@@ -65,6 +67,17 @@ module _ {M : Type 1} (𝓤 : URA M) (H : Heap 𝓤) (A : Atoms 𝓤) (mem : Mem
       (more .0) (more .1 .0) (more .1 .1 .0) (more .1 .1 .1 .0) (more .1 .1 .1 .1 .0)
       r (now (t .1 .0)) (now (t .1 .1 .0)) (now (t .1 .1 .1 .0)))
   reserve-placed-contract κs a r t g = refl
+
+  pub offer-contract : Ensures 𝓤 offer-method.ended (offer-method.clauses 𝓤 H A mem run) (λ κs a r t.
+      Offers itself (kept (a .0) (now (a .1 .0)) (now (a .1 .1 .0)) (now (a .1 .1 .1 .0))) (a .1 .1 .1 .1 .0)
+      (a .1 .1 .1 .1 .1 .0) r)
+  offer-contract κs a r t g = refl
+
+  pub accept-contract : Ensures 𝓤 accept-method.ended (accept-method.clauses 𝓤 H A mem run) (λ κs a r t.
+      Accepts itself (kept (a .0) (now (a .1 .0)) (now (a .1 .1 .0)) (now (a .1 .1 .1 .0))) (a .1 .1 .1 .1 .0)
+      (a .1 .1 .1 .1 .1 .0) (a .1 .1 .1 .1 .1 .1 .0)
+      r (now (t .1 .0)) (now (t .1 .1 .0)) (now (t .1 .1 .1 .0)))
+  accept-contract κs a r t g = refl
 
   pub grow-contract : Ensures 𝓤 grow-method.ended (grow-method.clauses 𝓤 H A mem run) (λ κs a r t.
       Grows itself (kept (a .0) (now (a .1 .0)) (now (a .1 .1 .0)) (now (a .1 .1 .1 .0))) (a .1 .1 .1 .1 .0)
@@ -128,6 +141,12 @@ module _ {M : Type 1} (𝓤 : URA M) (H : Heap 𝓤) (A : Atoms 𝓤) (mem : Mem
   pub reserve-placed-asks-nothing : AsksNothing 𝓤 reserve-placed-method.ended
       (reserve-placed-method.clauses 𝓤 H A mem run)
   reserve-placed-asks-nothing κs a g = refl
+
+  pub offer-asks-nothing : AsksNothing 𝓤 offer-method.ended (offer-method.clauses 𝓤 H A mem run)
+  offer-asks-nothing κs a g = refl
+
+  pub accept-asks-nothing : AsksNothing 𝓤 accept-method.ended (accept-method.clauses 𝓤 H A mem run)
+  accept-asks-nothing κs a g = refl
 
   pub grow-asks-nothing : AsksNothing 𝓤 grow-method.ended (grow-method.clauses 𝓤 H A mem run)
   grow-asks-nothing κs a g = refl

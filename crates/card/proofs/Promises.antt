@@ -25,7 +25,7 @@ use Rattle.refusals.specs.Lent.{Lent, noCard}
 use Rattle.card.specs.Calls.{Kept, lentTo, told, isDone, savedState, saveOutcome, saveImage}
 use Rattle.card.specs.Calls.{loadOutcome, loadMap, loadEntries, loadScratch}
 use Rattle.card.specs.Contracts.{itself, Freshens, Reserves, ReservesPlaced, Grows, Puts, Completes, Shows, Pauses}
-use Rattle.card.specs.Contracts.{Releases}
+use Rattle.card.specs.Contracts.{Accepts, Releases}
 use Rattle.card.specs.Contracts.{Saves, Loads}
 use Rattle.card.proofs.Images as images
 use Rattle.card.proofs.Refusals as refusals
@@ -63,6 +63,14 @@ module _ {R : Type 0} (how : Outcome → R) (s : Kept) (sheet number : ℕ) (r :
       → (r ≡ how (told (s .shape) (Refused number))) × (map′ ≡ s .map) × (entries′ ≡ s .entries) × (card′ ≡ s .card)
   reserve-placed-refused k from before step map′ entries′ card′ h v =
       let same = refusals.reserve-refused s sheet number k (placed (figures from before step)) v in
+      (h .0 ∙ ap how (same .0), h .1 ∙ same .1, h .2 ∙ same .2, h .3 ∙ same .3)
+
+  pub accept-refused : (start k : ℕ) (map′ : List ℕ) (entries′ : List Entry) (card′ : List ℕ)
+      → Accepts how s sheet start k r map′ entries′ card′
+      → effects.acceptVerdict q start k ≡ refused number
+      → (r ≡ how (told (s .shape) (Refused number))) × (map′ ≡ s .map) × (entries′ ≡ s .entries) × (card′ ≡ s .card)
+  accept-refused start k map′ entries′ card′ h v =
+      let same = refusals.accept-refused s sheet number start k v in
       (h .0 ∙ ap how (same .0), h .1 ∙ same .1, h .2 ∙ same .2, h .3 ∙ same .3)
 
   pub grow-refused : (m : ℕ) (map′ : List ℕ) (entries′ : List Entry) (card′ : List ℕ)

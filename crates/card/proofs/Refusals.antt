@@ -26,6 +26,7 @@ use Rattle.catalogue_standings.specs.declared.Answer.the-variants.{Done, Blank,
 use Rattle.refusals.specs.declared.Out.{Out}
 use Rattle.card.specs.declared.Shape.{Shape}
 use Rattle.card.specs.Calls.{Kept, lentTo, told, outcomeOf, isDone, freshOutcome, freshMap, freshEntries, reserveOutcome}
+use Rattle.card.specs.Calls.{acceptOutcome, acceptMap, acceptEntries, acceptCard}
 use Rattle.card.specs.Calls.{reserveMap, reserveEntries, reserveCard, growOutcome, growMap, growEntries, growCard}
 use Rattle.card.specs.Calls.{putOutcome, putCard, completeOutcome, completeEntries, pauseOutcome, pauseEntries}
 use Rattle.card.specs.Calls.{releaseOutcome, releaseMap, releaseEntries, showOutcome, showBuffer}
@@ -59,6 +60,24 @@ module _ (s : Kept) (sheet number : ℕ) where
   unfolding effects.reserveOut effects.reserveMap effects.reserveCard effects.takenOut effects.takenMap effects.takenCard
   reserve-refused k p h =
       let start : ℕ = effects.reserveStart q k p in
+      let back =
+      handed-back (s .shape) (s .entries) sheet (Refused number) _
+      (ap (λ (v : Verdict). settle v (effects.outOf (free - k) (effects.entryOf openMark start k)
+      (startWithSpace (map-blocks.free (s .map)) (s .shape .blocks) start))
+      (effects.refusalOut free e)) h) in (
+        back .0,
+        ap (λ (v : Verdict). settle v (marked (s .map) start k false) (λ number. s .map)) h,
+        back .1,
+        ap (λ (v : Verdict). settle v (zeroed (s .card) start k) (λ number. s .card)) h,
+      )
+
+  pub accept-refused : (start k : ℕ) → effects.acceptVerdict q start k ≡ refused number
+      → (acceptOutcome s sheet start k ≡ told (s .shape) (Refused number))
+      × (acceptMap s sheet start k ≡ s .map)
+      × (acceptEntries s sheet start k ≡ s .entries)
+      × (acceptCard s sheet start k ≡ s .card)
+  unfolding effects.acceptOut effects.acceptMap effects.acceptCard effects.takenOut effects.takenMap effects.takenCard
+  accept-refused start k h =
       let back =
       handed-back (s .shape) (s .entries) sheet (Refused number) _
       (ap (λ (v : Verdict). settle v (effects.outOf (free - k) (effects.entryOf openMark start k)

@@ -114,6 +114,24 @@ module _ (s : Kept) (sheet : ℕ) where
   abbrev pub reserveCard : ℕ → Placement → List ℕ
   reserveCard k placement = effects.reserveCard lends k placement
 
+  abbrev pub offerOutcome : ℕ → Outcome
+  offerOutcome k = told (s .shape) (effects.offerAnswer lends k)
+
+  abbrev acceptOut : ℕ → ℕ → Out
+  acceptOut start k = effects.acceptOut lends start k
+
+  abbrev pub acceptOutcome : ℕ → ℕ → Outcome
+  acceptOutcome start k = outcomeOf (s .shape) (acceptOut start k)
+
+  abbrev pub acceptMap : ℕ → ℕ → List ℕ
+  acceptMap start k = effects.acceptMap lends start k
+
+  abbrev pub acceptEntries : ℕ → ℕ → List Entry
+  acceptEntries start k = set (s .entries) sheet (acceptOut start k .entry)
+
+  abbrev pub acceptCard : ℕ → ℕ → List ℕ
+  acceptCard start k = effects.acceptCard lends start k
+
   abbrev growOut : ℕ → Out
   growOut m = effects.growOut lends m
 

@@ -10,6 +10,7 @@ use Rattle.catalogue.specs.declared.Entry.{Entry}
 use Rattle.card.specs.Calls.{Kept, freshOutcome, freshMap, freshEntries, searchOutcome, surveyOutcome}
 use Rattle.card.specs.Reserves.{plainOutcome, plainMapLeft, plainEntries, plainCardLeft}
 use Rattle.card.specs.Reserves.{placedOutcome, placedMapLeft, placedEntries, placedCardLeft}
+use Rattle.card.specs.Calls.{offerOutcome, acceptOutcome, acceptMap, acceptEntries, acceptCard}
 use Rattle.card.specs.Calls.{growOutcome, growMap, growEntries, growCard}
 use Rattle.card.specs.Calls.{putOutcome, putCard, completeOutcome, completeEntries, showOutcome, showBuffer}
 use Rattle.card.specs.Calls.{pauseOutcome, pauseEntries, releaseOutcome, releaseMap, releaseEntries, standingOutcome}
@@ -53,6 +54,16 @@ module _ {R : Type 0} (how : Outcome → R) (s : Kept) (sheet : ℕ) where
       × (map′ ≡ placedMapLeft s sheet k from before step)
       × (entries′ ≡ placedEntries s sheet k from before step)
       × (card′ ≡ placedCardLeft s sheet k from before step)
+
+  abbrev pub Offers : ℕ → R → Type 0
+  Offers k r = r ≡ how (offerOutcome s sheet k)
+
+  abbrev pub Accepts : ℕ → ℕ → R → List ℕ → List Entry → List ℕ → Type 0
+  Accepts start k r map′ entries′ card′ =
+      (r ≡ how (acceptOutcome s sheet start k))
+      × (map′ ≡ acceptMap s sheet start k)
+      × (entries′ ≡ acceptEntries s sheet start k)
+      × (card′ ≡ acceptCard s sheet start k)
 
   abbrev pub Grows : ℕ → R → List ℕ → List Entry → List ℕ → Type 0
   Grows m r map′ entries′ card′ =

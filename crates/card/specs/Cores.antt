@@ -44,6 +44,9 @@ showOutcomeAt shape map card slot sheet place buffer =
 abbrev pub standingOutcomeAt : Shape → List ℕ → Slot → ℕ → Outcome
 standingOutcomeAt shape map slot sheet = told shape (effects.standingAnswer (lentAt shape map noCard slot sheet))
 
+abbrev pub offerOutcomeAt : Shape → List ℕ → List ℕ → Slot → ℕ → ℕ → Outcome
+offerOutcomeAt shape map card slot sheet k = told shape (effects.offerAnswer (lentAt shape map card slot sheet) k)
+
 -- n and the free count.
 abbrev pub blocksOf : Shape → ℕ
 blocksOf shape = shape .blocks

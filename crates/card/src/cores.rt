@@ -3,10 +3,10 @@
 ghost use mathlib.Core.Path.{_≡_};
 ghost use Rattle.card.specs.Calls.{outcomeOf, freshOutcomeBy, freshMapBy, saveOutcomeBy, loadOutcomeBy};
 ghost use Rattle.card.specs.Cores.{entryLeft, doneBy, lentAt, putOutcomeAt, showOutcomeAt, standingOutcomeAt};
-ghost use Rattle.card.specs.Cores.{blocksOf, spareOf};
+ghost use Rattle.card.specs.Cores.{blocksOf, spareOf, offerOutcomeAt};
 ghost use Rattle.card.specs.Reserves.{plainOut, plainMap, plainCard, placedOut, placedMap, placedCard};
 ghost use Rattle.refusals.specs.Lent.{noCard};
-ghost use Rattle.refusals.specs.Effects.{growOut, growMap, growCard};
+ghost use Rattle.refusals.specs.Effects.{acceptOut, acceptMap, acceptCard, growOut, growMap, growCard};
 ghost use Rattle.refusals.specs.Effects.{putCard, completeOut, pauseOut, releaseOut, releaseMap, showBuffer};
 use crate::Outcome;
 use crate::Shape;
@@ -121,6 +121,54 @@ pub fn reserve_placed_core(
         sheet,
         k,
         figures,
+    )
+}
+
+pub fn offer_core(shape: Shape, map: &[u64], card: &[u8], slot: Slot, sheet: u32, k: u32) -> Outcome
+    ensures { λ r. ⌜ r ≡ offerOutcomeAt shape (now (map .entry)) (now (card .entry)) slot sheet k ⌝ }
+{
+    let entry = slot.entry;
+    let answer = call_reserve::offer::offer(
+        shape.blocks,
+        shape.free,
+        map,
+        card,
+        slot.count,
+        entry,
+        sheet,
+        k,
+    );
+    Outcome {
+        shape: shape,
+        answer: answer,
+    }
+}
+
+pub fn accept_core(
+    shape: Shape,
+    map: &mut [u64],
+    card: &mut [u8],
+    slot: Slot,
+    sheet: u32,
+    start: u32,
+    k: u32,
+) -> Out
+    ensures { λ r. let q = lentAt shape (now (map .entry)) (now (card .entry)) slot sheet in
+        ⌜ (r ≡ acceptOut q start k)
+        × (now (map .exit) ≡ acceptMap q start k)
+        × (now (card .exit) ≡ acceptCard q start k) ⌝ }
+{
+    let entry = slot.entry;
+    call_reserve::accept::accept(
+        shape.blocks,
+        shape.free,
+        map,
+        card,
+        slot.count,
+        entry,
+        sheet,
+        start,
+        k,
     )
 }
 

@@ -8,6 +8,7 @@ ghost use mathlib.Core.Path.{_≡_};
 ghost use Rattle.refusals.specs.Lent.{noCard};
 ghost use Rattle.refusals.specs.Placement.{plain, placed, figures};
 ghost use Rattle.card.specs.Calls.{kept, freshOutcome, freshMap, freshEntries, searchOutcome, surveyOutcome};
+ghost use Rattle.card.specs.Calls.{offerOutcome, acceptOutcome, acceptMap, acceptEntries, acceptCard};
 ghost use Rattle.card.specs.Calls.{reserveOutcome, reserveMap, reserveEntries, reserveCard, growOutcome, growMap};
 ghost use Rattle.card.specs.Calls.{growEntries, growCard, putOutcome, putCard, completeOutcome, completeEntries};
 ghost use Rattle.card.specs.Calls.{pauseOutcome, pauseEntries, releaseOutcome, releaseMap, releaseEntries, showOutcome};
@@ -134,6 +135,38 @@ impl Shape {
     {
         let slot = catalogue::find(&*catalogue, sheet);
         let out = cores::reserve_placed_core(self, map, card, slot, sheet, k, from, before, step);
+        let entry = cores::entry_of(out);
+        catalogue::store(catalogue, sheet, entry);
+        cores::outcome_of(self, out)
+    }
+
+    // Answers where a plain reserve would start now, and the length; it changes nothing (document 02, request f).
+    pub fn offer(self, map: &[u64], catalogue: &[Entry], card: &[u8], sheet: u32, k: u32) -> Outcome
+        ensures { λ r. let s = kept self (now (map .entry)) (now (catalogue .entry)) (now (card .entry)) in
+            ⌜ r ≡ offerOutcome s sheet k ⌝ }
+    {
+        let slot = catalogue::find(catalogue, sheet);
+        cores::offer_core(self, map, card, slot, sheet, k)
+    }
+
+    // Absent becomes Open at the start that is asked for, if the run there is all free (document 02, request f).
+    pub fn accept(
+        self,
+        map: &mut [u64],
+        catalogue: &mut [Entry],
+        card: &mut [u8],
+        sheet: u32,
+        start: u32,
+        k: u32,
+    ) -> Outcome
+        ensures { λ r. let s = kept self (now (map .entry)) (now (catalogue .entry)) (now (card .entry)) in
+            ⌜ (r ≡ acceptOutcome s sheet start k)
+            × (now (map .exit) ≡ acceptMap s sheet start k)
+            × (now (catalogue .exit) ≡ acceptEntries s sheet start k)
+            × (now (card .exit) ≡ acceptCard s sheet start k) ⌝ }
+    {
+        let slot = catalogue::find(&*catalogue, sheet);
+        let out = cores::accept_core(self, map, card, slot, sheet, start, k);
         let entry = cores::entry_of(out);
         catalogue::store(catalogue, sheet, entry);
         cores::outcome_of(self, out)

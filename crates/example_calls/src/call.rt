@@ -20,6 +20,10 @@ const RESERVE: u64 = 0x72_6573_6572_7665;
 // The last eight letters of reserve-placed.
 const RESERVE_PLACED: u64 = 0x652d_706c_6163_6564;
 
+const OFFER: u64 = 0x6f_6666_6572;
+
+const ACCEPT: u64 = 0x6163_6365_7074;
+
 const GROW: u64 = 0x6772_6f77;
 
 const PUT: u64 = 0x70_7574;
@@ -48,6 +52,7 @@ fn look(map: &[u64], card: &[u8], s: Setup) -> Turn
     match kind {
         SEARCH => lend::turn_of(shape.search(map, l.d), entries),
         SURVEY => lend::turn_of(shape.survey(map), entries),
+        OFFER => lend::offer(shape, map, entries, s.sheets, card, l.c, l.d),
         COMPLETE => lend::complete(shape, map, entries, s.sheets, card, l.d),
         PAUSE => lend::pause(shape, map, entries, s.sheets, l.d),
         SHOW => {
@@ -96,6 +101,7 @@ fn on_parts(map: &mut [u64], card: &mut [u8], s: Setup) -> Turn
             l.c,
             l.d,
         ),
+        ACCEPT => lend::accept(shape, map, entries, s.sheets, card, l.b, l.c, l.d),
         GROW => lend::grow(shape, map, entries, s.sheets, card, l.c, l.d),
         PUT => {
             let all = payload::bytes(l);

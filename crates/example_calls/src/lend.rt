@@ -57,6 +57,39 @@ pub fn reserve_placed(
     turn_of(outcome, all)
 }
 
+pub fn offer(
+    shape: Shape,
+    map: &[u64],
+    entries: [Entry; 1025],
+    c: usize,
+    card: &[u8],
+    sheet: u32,
+    k: u32,
+) -> Turn
+    requires { ⌜ c ≤ 1025 ⌝ }
+{
+    let all = entries;
+    let outcome = shape.offer(map, &all[..c], card, sheet, k);
+    turn_of(outcome, all)
+}
+
+pub fn accept(
+    shape: Shape,
+    map: &mut [u64],
+    entries: [Entry; 1025],
+    c: usize,
+    card: &mut [u8],
+    sheet: u32,
+    start: u32,
+    k: u32,
+) -> Turn
+    requires { ⌜ c ≤ 1025 ⌝ }
+{
+    let mut all = entries;
+    let outcome = shape.accept(map, &mut all[..c], card, sheet, start, k);
+    turn_of(outcome, all)
+}
+
 pub fn grow(
     shape: Shape,
     map: &mut [u64],

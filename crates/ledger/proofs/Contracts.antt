@@ -21,11 +21,11 @@ use Rattle.catalogue_standings.specs.Limits.{freshFits, shapeFits, sheetsFit}
 use Rattle.catalogue_standings.specs.declared.Answer.the-variants.{Done, Refused}
 use Rattle.card.specs.Calls.{Kept, kept, told, isDone}
 use Rattle.card.specs.Contracts.{itself, Freshens, Reserves, ReservesPlaced, Grows, Puts, Completes, Shows, Pauses, Releases}
-use Rattle.card.specs.Contracts.{TellsStanding}
+use Rattle.card.specs.Contracts.{Offers, Accepts, TellsStanding}
 use Rattle.card.specs.declared.Shape.{Shape}
 use Rattle.card.specs.declared.Outcome.{Outcome}
 use Rattle.refusals.specs.Placement.{plain, placed, figures}
-use Rattle.refusals.specs.Table.{Call, on, reserve, put, grow, complete, pause, release, show, standing}
+use Rattle.refusals.specs.Table.{Call, on, reserve, put, grow, complete, pause, release, show, standing, offer, accept}
 use Rattle.ledger.specs.Steps.{Response, endOf, Step, freshState}
 
 -- the state after a call, and its reply, by what the call handed back and left
@@ -58,6 +58,16 @@ module _ (s : Kept) (sheet : ℕ) (r : Outcome) where
       → Step s (on sheet (reserve k (placed (figures from before step)))) (replying r []) (leaving r map entries card)
   reserve-placed-step k from before step map entries card h =
       met s (on sheet (reserve k (placed (figures from before step)))) r map entries card [] (h .0) (h .1) (h .2) (h .3) refl
+
+  pub offer-step : (k : ℕ) → Offers itself s sheet k r
+      → Step s (on sheet (offer k)) (replying r []) (leaving r (s .map) (s .entries) (s .card))
+  offer-step k h = met s (on sheet (offer k)) r (s .map) (s .entries) (s .card) [] h refl refl refl refl
+
+  pub accept-step : (start k : ℕ) (map : List ℕ) (entries : List Entry) (card : List ℕ)
+      → Accepts itself s sheet start k r map entries card
+      → Step s (on sheet (accept start k)) (replying r []) (leaving r map entries card)
+  accept-step start k map entries card h =
+      met s (on sheet (accept start k)) r map entries card [] (h .0) (h .1) (h .2) (h .3) refl
 
   pub grow-step : (m : ℕ) (map : List ℕ) (entries : List Entry) (card : List ℕ)
       → Grows itself s sheet m r map entries card

@@ -1,7 +1,8 @@
 -- The laws that the claim is proved by: of the ledger alone (Cover, Rows, Sheets, Listed, Search), of the state that it calls
--- for (Agreement, Marks, Keeping), and of the calls on that state (Results what they share, step each by itself). Demand has
--- the theorem, BlankPlaces which place the ledger answers with 9, Contracts that the steps are the public calls' contracts,
--- WholeCard what search and survey answer by theirs, Savable that every state that a list leaves can be saved.
+-- for (Agreement, Marks, Keeping), and of the calls on that state (Results what they share, Taking what reserve and accept do,
+-- step each by itself). Demand has the theorem, BlankPlaces which place the ledger answers with 9, Contracts that the steps are
+-- the public calls' contracts, WholeCard what search and survey answer by theirs, Savable that every state that a list leaves
+-- can be saved.
 pub mod Agreement
 pub mod BlankPlaces
 pub mod Contracts
@@ -15,5 +16,6 @@ pub mod Rows
 pub mod Search
 pub mod Savable
 pub mod Sheets
+pub mod Taking
 pub mod WholeCard
 pub mod step

@@ -19,7 +19,7 @@ use Rattle.laws.proofs.Bools.{not-true}
 use Rattle.survey.specs.Survey.{countsOf}
 use Rattle.catalogue_standings.specs.Answers.{numberOf, valuesOf}
 use Rattle.catalogue_standings.specs.Limits.{shapeFits}
-use Rattle.catalogue_standings.specs.Rows.{row, firstOf, settle}
+use Rattle.catalogue_standings.specs.Rows.{Verdict, row, firstOf, settle}
 use Rattle.catalogue_standings.specs.Searches.{none, startAt, startWithSpace}
 use Rattle.catalogue_standings.specs.declared.Answer.{Answer}
 use Rattle.catalogue_standings.specs.declared.Answer.the-variants.{Counted, Refused}
@@ -60,24 +60,30 @@ module _ (shape : Shape) (map : List ℕ) (fits : shapeFits (shape .blocks) (sha
     beyond : (s : ℕ) → n ≤ s → fits-at s ≡ false
     beyond s le = not-true _ (λ q. omega (arith, fit-is free 0 n 1 k s q .high))
 
-    by-found : (o : Found)
-        → toldOf (answerBy false false o) ≡ tellsBy fits-at behind n beyond (verdictBy fits-at behind n beyond o) o 0
+    -- what is told, and the verdict, by what was found
+    abbrev telling : Verdict → Found → ℕ → Told
+    telling = tellsBy 10 (omega arith) fits-at behind n beyond
+
+    abbrev ruling : Found → Verdict
+    ruling = verdictBy 10 (omega arith) fits-at behind n beyond
+
+    by-found : (o : Found) → toldOf (answerBy false false o) ≡ telling (ruling o) o 0
     unfolding firstOf
     by-found (At s) = refl
     by-found Nothing = refl
 
-    pub search-lowest : Searches itself shape map k r → (r .shape ≡ shape) × Searched fits-at behind (toldOf (r .answer))
+    pub search-lowest : Searches itself shape map k r → (r .shape ≡ shape) × Searched 10 fits-at behind (toldOf (r .answer))
     unfolding searchAnswer leastFit
     search-lowest h = (
       ap (λ (o : Outcome). o .shape) h,
-      subst (Searched fits-at behind) (sym said)
-          (searched fits-at behind n beyond (verdictBy fits-at behind n beyond (least fits-at 0 n)) 0 refl),
+      subst (Searched 10 fits-at behind) (sym said)
+          (searched 10 (omega arith) fits-at behind n beyond (ruling (least fits-at 0 n)) 0 refl),
     )
       where
         found : Found
         found = least fits-at 0 n
 
-        said : toldOf (r .answer) ≡ tellsBy fits-at behind n beyond (verdictBy fits-at behind n beyond found) found 0
+        said : toldOf (r .answer) ≡ telling (ruling found) found 0
         said =
             ap (λ (o : Outcome). toldOf (o .answer)) h
             ∙ ap (λ (t : Bool). toldOf (answerBy (not t) (eqb k 0) found)) fits

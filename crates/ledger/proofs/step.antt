@@ -1,7 +1,9 @@
 -- The calls, one by one: what each comes to is proved in its own file.
 -- Assumes nothing.
+pub mod Accept
 pub mod Complete
 pub mod Grow
+pub mod Offer
 pub mod Pause
 pub mod Put
 pub mod Release
@@ -10,12 +12,14 @@ pub mod Show
 pub mod Standing
 use Prim.Native.Nat.{ℕ}
 use mathlib.Core.List.{List}
-use Rattle.refusals.specs.Table.{Call, on, reserve, put, grow, complete, pause, release, show, standing}
+use Rattle.refusals.specs.Table.{Call, on, reserve, put, grow, complete, pause, release, show, standing, offer, accept}
 use Rattle.ledger.specs.Ledger.{Sheet, verdictIn}
 use Rattle.ledger.proofs.Agreement.{Matches}
 use Rattle.ledger.proofs.Results.{Result}
+use Accept.{accept-result}
 use Complete.{complete-result}
 use Grow.{grow-result}
+use Offer.{offer-result}
 use Pause.{pause-result}
 use Put.{put-result}
 use Release.{release-result}
@@ -25,6 +29,8 @@ use Standing.{standing-result}
 
 pub result : (n : ℕ) (l : List Sheet) (card : List ℕ) → Matches n l card → (c : Call) → Result n l card c (verdictIn n l c)
 result n l card k (on i (reserve m placement)) = reserve-result n l card k i m placement
+result n l card k (on i (offer m)) = offer-result n l card k i m
+result n l card k (on i (accept start m)) = accept-result n l card k i start m
 result n l card k (on i (put p payload)) = put-result n l card k i p payload
 result n l card k (on i (grow m)) = grow-result n l card k i m
 result n l card k (on i complete) = complete-result n l card k i

@@ -20,12 +20,14 @@ use Rattle.pagunlit_replies.specs.Replies.{replyOf}
 use Rattle.refusals.specs.Lent.{noCard}
 use Rattle.card.specs.Calls.{kept}
 use Rattle.card.specs.Contracts.{Freshens, Searches, Surveys, Reserves, ReservesPlaced, Grows, Puts, Completes, Shows}
-use Rattle.card.specs.Contracts.{Pauses, Releases, TellsStanding, Saves, Loads}
+use Rattle.card.specs.Contracts.{Offers, Accepts, Pauses, Releases, TellsStanding, Saves, Loads}
 use Rattle.pagunlit.proofs.pagunlit_fresh as fresh-function
 use Rattle.pagunlit.proofs.pagunlit_search as search-function
 use Rattle.pagunlit.proofs.pagunlit_survey as survey-function
 use Rattle.pagunlit.proofs.pagunlit_reserve as reserve-function
 use Rattle.pagunlit.proofs.pagunlit_reserve_placed as reserve-placed-function
+use Rattle.pagunlit.proofs.pagunlit_offer as offer-function
+use Rattle.pagunlit.proofs.pagunlit_accept as accept-function
 use Rattle.pagunlit.proofs.pagunlit_grow as grow-function
 use Rattle.pagunlit.proofs.pagunlit_put as put-function
 use Rattle.pagunlit.proofs.pagunlit_complete as complete-function
@@ -67,6 +69,17 @@ module _ {M : Type 1} (𝓤 : URA M) (H : Heap 𝓤) (A : Atoms 𝓤) (mem : Mem
       (more .0) (more .1 .0) (more .1 .1 .0) (more .1 .1 .1 .0) (more .1 .1 .1 .1 .0)
       r (now (t .1 .0)) (now (t .1 .1 .0)) (now (t .1 .1 .1 .0)))
   pagunlit-reserve-placed-contract κs a r t g = refl
+
+  pub pagunlit-offer-contract : Ensures 𝓤 offer-function.ended (offer-function.clauses 𝓤 H A mem run) (λ κs a r t.
+      Offers replyOf (kept (a .0) (now (a .1 .0)) (now (a .1 .1 .0)) (now (a .1 .1 .1 .0)))
+      (a .1 .1 .1 .1 .0) (a .1 .1 .1 .1 .1 .0) r)
+  pagunlit-offer-contract κs a r t g = refl
+
+  pub pagunlit-accept-contract : Ensures 𝓤 accept-function.ended (accept-function.clauses 𝓤 H A mem run) (λ κs a r t.
+      Accepts replyOf (kept (a .0) (now (a .1 .0)) (now (a .1 .1 .0)) (now (a .1 .1 .1 .0)))
+      (a .1 .1 .1 .1 .0) (a .1 .1 .1 .1 .1 .0) (a .1 .1 .1 .1 .1 .1 .0)
+      r (now (t .1 .0)) (now (t .1 .1 .0)) (now (t .1 .1 .1 .0)))
+  pagunlit-accept-contract κs a r t g = refl
 
   pub pagunlit-grow-contract : Ensures 𝓤 grow-function.ended (grow-function.clauses 𝓤 H A mem run) (λ κs a r t.
       Grows replyOf (kept (a .0) (now (a .1 .0)) (now (a .1 .1 .0)) (now (a .1 .1 .1 .0)))
@@ -144,6 +157,12 @@ module _ {M : Type 1} (𝓤 : URA M) (H : Heap 𝓤) (A : Atoms 𝓤) (mem : Mem
   pub pagunlit-reserve-placed-asks-nothing : AsksNothing 𝓤 reserve-placed-function.ended
       (reserve-placed-function.clauses 𝓤 H A mem run)
   pagunlit-reserve-placed-asks-nothing κs a g = refl
+
+  pub pagunlit-offer-asks-nothing : AsksNothing 𝓤 offer-function.ended (offer-function.clauses 𝓤 H A mem run)
+  pagunlit-offer-asks-nothing κs a g = refl
+
+  pub pagunlit-accept-asks-nothing : AsksNothing 𝓤 accept-function.ended (accept-function.clauses 𝓤 H A mem run)
+  pagunlit-accept-asks-nothing κs a g = refl
 
   pub pagunlit-grow-asks-nothing : AsksNothing 𝓤 grow-function.ended (grow-function.clauses 𝓤 H A mem run)
   pagunlit-grow-asks-nothing κs a g = refl

@@ -9,6 +9,7 @@ ghost use Rattle.pagunlit_replies.specs.Replies.{replyOf};
 ghost use Rattle.refusals.specs.Lent.{noCard};
 ghost use Rattle.refusals.specs.Placement.{plain, placed, figures};
 ghost use Rattle.card.specs.Calls.{kept, freshOutcome, freshMap, freshEntries, searchOutcome, surveyOutcome, reserveOutcome};
+ghost use Rattle.card.specs.Calls.{offerOutcome, acceptOutcome, acceptMap, acceptEntries, acceptCard};
 ghost use Rattle.card.specs.Calls.{reserveMap, reserveEntries, reserveCard, growOutcome, growMap, growEntries, growCard};
 ghost use Rattle.card.specs.Calls.{putOutcome, putCard, completeOutcome, completeEntries, pauseOutcome, pauseEntries};
 ghost use Rattle.card.specs.Calls.{releaseOutcome, releaseMap, releaseEntries, showOutcome, showBuffer, standingOutcome};
@@ -89,6 +90,42 @@ pub extern "C" fn pagunlit_reserve_placed(
         × (now (card .exit) ≡ reserveCard s sheet count p) ⌝ }
 {
     let outcome = shape.reserve_placed(map, catalogue, card, sheet, count, from, before, step);
+    reply_of(outcome)
+}
+
+#[no_mangle]
+pub extern "C" fn pagunlit_offer(
+    shape: Shape,
+    map: &[u64],
+    catalogue: &[Entry],
+    card: &[u8],
+    sheet: u32,
+    count: u32,
+) -> Reply
+    ensures { λ r. let s = kept shape (now (map .entry)) (now (catalogue .entry)) (now (card .entry)) in
+        ⌜ r ≡ replyOf (offerOutcome s sheet count) ⌝ }
+{
+    let outcome = shape.offer(map, catalogue, card, sheet, count);
+    reply_of(outcome)
+}
+
+#[no_mangle]
+pub extern "C" fn pagunlit_accept(
+    shape: Shape,
+    map: &mut [u64],
+    catalogue: &mut [Entry],
+    card: &mut [u8],
+    sheet: u32,
+    start: u32,
+    count: u32,
+) -> Reply
+    ensures { λ r. let s = kept shape (now (map .entry)) (now (catalogue .entry)) (now (card .entry)) in
+        ⌜ (r ≡ replyOf (acceptOutcome s sheet start count))
+        × (now (map .exit) ≡ acceptMap s sheet start count)
+        × (now (catalogue .exit) ≡ acceptEntries s sheet start count)
+        × (now (card .exit) ≡ acceptCard s sheet start count) ⌝ }
+{
+    let outcome = shape.accept(map, catalogue, card, sheet, start, count);
     reply_of(outcome)
 }
 

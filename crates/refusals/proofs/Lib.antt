@@ -6,6 +6,8 @@ pub mod Placement
 pub mod Places
 pub mod Room
 pub mod Reserve
+pub mod Offer
+pub mod Accept
 pub mod Put
 pub mod Grow
 pub mod Complete

@@ -42,7 +42,7 @@ only-open (Open s l) d a p c = refl
 only-open (Complete s l) d a p c = absurd (true≢false c)
 only-open Damaged d a p c = absurd (true≢false d)
 
-abbrev viewOf : Lent → View
+abbrev pub viewOf : Lent → View
 viewOf q = viewOn q
 
 module _ (q : Lent) (k : ℕ) (p : Placement) where

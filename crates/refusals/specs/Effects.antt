@@ -15,12 +15,12 @@ use Rattle.catalogue.specs.declared.Entry.{Entry}
 use Rattle.catalogue_standings.specs.Rows.{Verdict, settle}
 use Rattle.catalogue_standings.specs.Searches.{startAt, startWithSpace}
 use Rattle.refusals.specs.Lent.{Lent}
-use Rattle.refusals.specs.Placement.{Placement, figuresIn, leastWithin}
+use Rattle.refusals.specs.Placement.{Placement, plain, figuresIn, leastWithin}
 use Rattle.refusals.specs.Table.{on, reserve, put, grow, complete, pause, release, show, standing, lowestBlank}
-use Rattle.refusals.specs.Table.{verdictOf}
+use Rattle.refusals.specs.Table.{offer, accept, verdictOf}
 use Rattle.refusals.specs.Views.{viewAt, viewOn}
 use Rattle.catalogue_standings.specs.declared.Answer.{Answer}
-use Rattle.catalogue_standings.specs.declared.Answer.the-variants.{Done, Reads, Blank, Refused}
+use Rattle.catalogue_standings.specs.declared.Answer.the-variants.{Done, Start, Reads, Blank, Refused}
 use Rattle.refusals.specs.declared.Out.{Out}
 
 abbrev pub entryOf : ℕ → ℕ → ℕ → Entry
@@ -67,6 +67,29 @@ module _ (q : Lent) (k : ℕ) (placement : Placement) where
   unfoldable pub reserveCard : List ℕ
   unfolding reserveVerdict reserveStart takenCard
   reserveCard = takenCard q reserveVerdict reserveStart k
+
+-- Offer: where a plain reserve would start then, and the length; nothing changes (document 02 (f)).
+unfoldable pub offerAnswer : Lent → ℕ → Answer
+unfolding viewOn reserveStart
+offerAnswer q k = settle (verdictOf (viewOn q) (on (q .sheet) (offer k))) (Start (reserveStart q k plain) k) Refused
+
+-- Accept: what a reserve does, at the start that is asked for (document 02 (f)).
+module _ (q : Lent) (start k : ℕ) where
+  unfoldable pub acceptVerdict : Verdict
+  unfolding viewOn
+  acceptVerdict = verdictOf (viewOn q) (on (q .sheet) (accept start k))
+
+  unfoldable pub acceptOut : Out
+  unfolding acceptVerdict takenOut
+  acceptOut = takenOut q acceptVerdict start k
+
+  unfoldable pub acceptMap : List ℕ
+  unfolding acceptVerdict takenMap
+  acceptMap = takenMap q acceptVerdict start k
+
+  unfoldable pub acceptCard : List ℕ
+  unfolding acceptVerdict takenCard
+  acceptCard = takenCard q acceptVerdict start k
 
 -- Grow: the m blocks after an Open extent are added, taken and filled with zeros.
 module _ (q : Lent) (m : ℕ) where

@@ -1,6 +1,6 @@
 -- The table of refusals (document 01, "What the caller gets instead"): for each call its rows, in the order 1, 2, 4 for the
--- entry, 5 to 8, 3, 15 (document 02, request a), 4 for blocks, 9, 10 or 11, and last 4 for the count. A call is refused
--- with the first row that holds.
+-- entry, 5 to 8, 3, 15 (document 02, request a), 4 for blocks, 9, 10, 11 or 17 (request f), and last 4 for the count. A call is
+-- refused with the first row that holds.
 -- Assumes nothing.
 use Prim.Native.Nat.{ℕ, _+_}
 use mathlib.Core.Bool.{Bool, not, _||_}
@@ -8,7 +8,7 @@ use mathlib.Core.List.{List, [], _∷_}
 use lib.Dec.{eqb, leb, ltb}
 use lib.ListN.{length}
 use Rattle.map_blocks.specs.Blocks.{all, fit, least, leastFit}
-use Rattle.refusals.specs.Placement.{Placement, figuresIn, misfigured, leastWithin}
+use Rattle.refusals.specs.Placement.{Placement, plain, figuresIn, misfigured, leastWithin}
 use Rattle.catalogue_standings.specs.Searches.{none, startAt}
 use Rattle.catalogue_standings.specs.Rows.{Row, row, Verdict, firstOf}
 use Rattle.catalogue_standings.specs.Standings.{isAbsent, isPaused, isOpen, isComplete, isDamaged, startOf, lengthOf}
@@ -24,6 +24,9 @@ pub data Ask : Type 0 where
   release : Ask
   show : ℕ → List ℕ → Ask
   standing : Ask
+  -- of document 02 (f): an offer of k blocks; an accept of k blocks from a start on
+  offer : ℕ → Ask
+  accept : ℕ → ℕ → Ask
 
 -- The calls of a list: something is asked of a sheet.
 pub data Call : Type 0 where
@@ -75,13 +78,18 @@ unfoldable pub lowestBlank : View → ℕ
 unfolding least
 lowestBlank v = startAt (least (v .blank) 0 (lengthOf (v .stands)))
 
--- The rows of each, behind those that all begin with.
-unfoldable pub rowsFor : View → Ask → List Row
-unfolding all fit leastFit
-rowsFor v (reserve k placement) =
+-- The rows of a reserve, plain or placed. An offer has those of the plain one.
+unfoldable pub reserveRows : View → ℕ → Placement → List Row
+unfolding fit leastFit
+reserveRows v k placement =
     let g = figuresIn (v .blocks) placement in
     pausedRow v ∷ openRow v ∷ completeRow v ∷ row 3 (eqb k 0) ∷ row 15 (misfigured (v .blocks) g)
     ∷ row 10 (none (leastWithin (v .free) g k)) ∷ row 4 (ltb (v .spare) k) ∷ []
+
+-- The rows of each, behind those that all begin with.
+unfoldable pub rowsFor : View → Ask → List Row
+unfolding all fit reserveRows
+rowsFor v (reserve k placement) = reserveRows v k placement
 rowsFor v (put place payload) = absentRow v ∷ pausedRow v ∷ completeRow v ∷ row 3 (misplaced v place payload) ∷ []
 rowsFor v (grow m) =
     absentRow v ∷ pausedRow v ∷ completeRow v ∷ row 3 (eqb m 0)
@@ -95,6 +103,10 @@ rowsFor v release = absentRow v ∷ row 4 (ltb (v .blocks) (v .spare + lengthOf 
 rowsFor v (show place buffer) =
     absentRow v ∷ pausedRow v ∷ openRow v ∷ row 3 (misplaced v place buffer) ∷ row 4 (not (v .sound place)) ∷ []
 rowsFor v standing = []
+rowsFor v (offer k) = reserveRows v k plain
+rowsFor v (accept start k) =
+    pausedRow v ∷ openRow v ∷ completeRow v ∷ row 3 (eqb k 0) ∷ row 17 (not (fit (v .free) 0 (v .blocks) 1 k start))
+    ∷ row 4 (ltb (v .spare) k) ∷ []
 
 unfoldable pub tableOf : View → Call → List Row
 unfolding rowsFor

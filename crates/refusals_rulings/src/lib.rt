@@ -1,9 +1,13 @@
-// The rulings on the calls that take blocks, reserve and grow: where the blocks start, or the row that refuses the call.
+// The rulings on the calls that take blocks, reserve, accept and grow: where the blocks start, or the row that refuses the
+// call.
 ghost use mathlib.Core.Path.{_≡_};
-ghost use Prim.Native.Nat.{_+_};
+ghost use Prim.Native.Nat.{_+_, _*_, _≤_};
+ghost use lib.ListN.{length};
+ghost use Rattle.map_blocks.specs.Blocks;
+ghost use Rattle.map_blocks.specs.Blocks.{fit};
 ghost use Rattle.refusals.specs.Lent.{lent};
 ghost use Rattle.refusals.specs.Placement.{placed, misfigured};
-ghost use Rattle.refusals.specs.Effects.{reserveVerdict, reserveStart, growVerdict};
+ghost use Rattle.refusals.specs.Effects.{reserveVerdict, reserveStart, acceptVerdict, growVerdict};
 ghost use Rattle.refusals_rulings.specs.Rulings.{rulingOf};
 use catalogue::Entry;
 use catalogue_standings::Opened;
@@ -72,6 +76,54 @@ pub fn reserve_ruling(
         return Ruling::Refused(4);
     }
     Ruling::At(least)
+}
+
+// The k blocks from start on are all free and inside n. The sum of the two may pass 2^32, and is not made.
+fn run_is_free(n: u32, map: &[u64], start: u32, k: u32) -> bool
+    requires { ⌜ (n ≤ 262144) × (n ≤ 64 * length (now map)) ⌝ }
+    ensures { λ r. ⌜ r ≡ fit (Blocks.free (now (map .entry))) 0 n 1 k start ⌝ }
+{
+    if n < start {
+        return false;
+    }
+    if n - start < k {
+        return false;
+    }
+    all_marked(map, start, k, FREE)
+}
+
+// The start that is asked for, or the row that refuses the call.
+pub fn accept_ruling(
+    n: u32,
+    free: u32,
+    map: &[u64],
+    card: &[u8],
+    c: usize,
+    entry: Entry,
+    sheet: u32,
+    start: u32,
+    k: u32,
+) -> Ruling
+    ensures { λ r. let q = lent n free (now (map .entry)) (now (card .entry)) c entry sheet in
+        ⌜ r ≡ rulingOf (acceptVerdict q start k) start ⌝ }
+{
+    let opened = open_on(n, free, map, card.len(), c, sheet, entry);
+    let Opened::Stands(stands) = opened else {
+        return Ruling::Refused(refused_row(opened));
+    };
+    let Standing::Absent = stands else {
+        return Ruling::Refused(row_of(stands));
+    };
+    if k == 0 {
+        return Ruling::Refused(3);
+    }
+    if !run_is_free(n, map, start, k) {
+        return Ruling::Refused(17);
+    }
+    if free < k {
+        return Ruling::Refused(4);
+    }
+    Ruling::At(start)
 }
 
 // The end of the extent, or the row that refuses the call.

@@ -4,8 +4,10 @@ pub mod CardFromMapEntriesPayload2
 pub mod EntriesFromMap1
 pub mod EntriesFromMapCard1
 pub mod FromMapEntries1
+pub mod FromMapEntriesCard2
 pub mod MapEntries1
 pub mod MapEntries1First
 pub mod MapEntriesCard2
+pub mod MapEntriesCard3
 pub mod MapEntriesCard5
 pub mod MapEntriesScratchTextFromImage

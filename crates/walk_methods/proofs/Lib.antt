@@ -1,12 +1,7 @@
--- The walks of the methods of `Shape`.
-pub mod BufferFromMapCatalogueCard2
-pub mod CardFromMapCataloguePayload2
+-- The walks of the methods of `Shape` that are not lent the card.
 pub mod CatalogueFromMap1
-pub mod CatalogueFromMapCard1
 pub mod FromMapCatalogue1
 pub mod MapCatalogue1
 pub mod MapCatalogue1First
-pub mod MapCatalogueCard2
-pub mod MapCatalogueCard5
 pub mod MapCatalogueScratchFromImage
 pub mod ScratchImageFromMapCatalogue

@@ -2,14 +2,14 @@
 //! names that it prints: the word of the call, and its numbers; other words tell it from another call of that name.
 
 use bitwise::blocks::{figures, from_words, to_words};
-use bitwise::call::{call, placed, Kind, CALLS};
+use bitwise::call::{accept, call, placed, Call, Kind, CALLS};
 use bitwise::card::{entry, sealed, Answer, Card};
 use std::fmt::Write;
 
 const N: usize = 70;
 const C: u32 = 3;
 /// The refusals of calls on a sound card with slices of the right lengths.
-const REFUSALS: [u32; 10] = [2, 3, 5, 6, 7, 8, 9, 10, 11, 15];
+const REFUSALS: [u32; 11] = [2, 3, 5, 6, 7, 8, 9, 10, 11, 15, 17];
 
 /// What calls.c keeps: the card, and the slices that a call may be lent besides.
 struct State {
@@ -40,10 +40,26 @@ fn numbers(answer: Answer) -> (u32, [usize; 3]) {
     match answer {
         Answer::Done => (0, [0; 3]),
         Answer::Start(start, space) => (0, [start, space, 0]),
+        Answer::Offered(start, length) => (0, [start, length, 0]),
         Answer::Stands(e) => (0, [e.mark, e.start, e.length].map(|number| number as usize)),
         Answer::Counted(free, runs, longest) => (0, [free, runs, longest]),
         Answer::Blank(place) => (9, [place, 0, 0]),
         Answer::Refused(number) => (number, [0; 3]),
+    }
+}
+
+/// The call of a kind with the numbers in the name that calls.c prints, in the order of the prototype.
+fn call_of(kind: Kind, name: &str) -> Call {
+    let numbers: Vec<u32> = name
+        .split(' ')
+        .filter_map(|word| word.parse().ok())
+        .collect();
+    let at = |i: usize| numbers.get(i).copied().unwrap_or(0);
+    match kind {
+        Kind::ReservePlaced => placed(at(0), at(1), figures(at(2), at(3), at(4))),
+        Kind::Accept => accept(at(0), at(1), at(2)),
+        kind if kind.has_sheet() => call(kind, at(0), at(1)),
+        kind => call(kind, 0, at(0)),
     }
 }
 
@@ -122,43 +138,26 @@ impl State {
     }
 
     /// A call that changes the card, or asks it. A put brings bytes of its own, and a show a buffer that is filled before.
-    fn call(&mut self, name: &str, kind: Kind, sheet: u32, number: u32) {
-        match kind {
-            Kind::Put => self.slice = filled(496, 16 * sheet + number),
+    fn call(&mut self, name: &str, call: Call) {
+        match call.kind {
+            Kind::Put => self.slice = filled(496, 16 * call.sheet + call.number),
             Kind::Show => self.slice = filled(496, 99),
             _ => {}
         }
-        let answer = self.card.call(call(kind, sheet, number), &mut self.slice);
-        self.made.push((kind, numbers(answer).0));
+        let answer = self.card.call(call, &mut self.slice);
+        self.made.push((call.kind, numbers(answer).0));
         self.told(name, answer);
     }
 
     /// What calls.c does of a sound card, by the name that it prints.
     fn named(&mut self, name: &str) {
         let word = name.split(' ').next().unwrap_or("");
-        let mut numbers = name.split(' ').filter_map(|word| word.parse().ok());
         match (name, Kind::named(word)) {
             ("save", _) => self.save(name, 512),
             ("save short", _) => self.save(name, 511),
             ("head", _) => self.line(name, format!("{N} {C}")),
             (_, None) => self.line(word, "is no call of document 01".to_string()),
-            (_, Some(kind)) => {
-                let sheet = if kind.has_sheet() {
-                    numbers.next()
-                } else {
-                    None
-                };
-                let (sheet, number) = (sheet.unwrap_or(0), numbers.next().unwrap_or(0));
-                if let (Some(from), Some(before), Some(step)) =
-                    (numbers.next(), numbers.next(), numbers.next())
-                {
-                    let placed = placed(sheet, number, figures(from, before, step));
-                    let answer = self.card.call(placed, &mut self.slice);
-                    self.made.push((kind, self::numbers(answer).0));
-                    return self.told(name, answer);
-                }
-                self.call(name, kind, sheet, number);
-            }
+            (_, Some(kind)) => self.call(name, call_of(kind, name)),
         }
     }
 
@@ -177,10 +176,10 @@ impl State {
         self.line("seal sheets", "0".to_string());
         self.load("load");
         self.card.sheets[1].mark = 0;
-        self.call("standing damaged 1", Kind::Standing, 1, 0);
+        self.call("standing damaged 1", call(Kind::Standing, 1, 0));
         self.save("save damaged", 512);
         self.card.free = N + 1;
-        self.call("survey free above n", Kind::Survey, 0, 0);
+        self.call("survey free above n", call(Kind::Survey, 0, 0));
     }
 
     fn blocks(&mut self) {

@@ -25,7 +25,7 @@ const CONSTANTS: [(&str, u64); 15] = [
 
 /// The rows of "What the caller gets instead" and those of document 02, with the name that a C program has for each. Number 0
 /// is "done".
-const NUMBERS: [(u32, &str, &str); 17] = [
+const NUMBERS: [(u32, &str, &str); 18] = [
     (0, "PAGUNLIT_DONE", "done"),
     (
         1,
@@ -49,6 +49,7 @@ const NUMBERS: [(u32, &str, &str); 17] = [
     (15, "PAGUNLIT_WRONG_FIGURES", "placed reserve: step is 0, from >= before or before > n"),
     (16, "PAGUNLIT_WRONG_COUNT", "dose counts: another digit in the four bytes read, a number out of range when writing, or a \
          count number of 124 or more"),
+    (17, "PAGUNLIT_RUN_NOT_FREE", "accept: the run is not all free and inside n"),
 ];
 
 /// What has no figure in document 01: the version, which has to say the same as a number and as a text.

@@ -6,8 +6,8 @@ use bitwise::rows::{pairs, Pair, Row};
 use std::collections::BTreeMap;
 
 /// The columns of the table of answers, in the order of the rows. Row 4 is there three times.
-const COLUMNS: [&str; 15] = [
-    "done", "1", "2", "4 entry", "5", "6", "7", "8", "3", "15", "4 block", "9", "10", "11",
+const COLUMNS: [&str; 16] = [
+    "done", "1", "2", "4 entry", "5", "6", "7", "8", "3", "15", "4 block", "9", "10", "11", "17",
     "4 count",
 ];
 
@@ -31,8 +31,8 @@ pub struct Counts {
     pairs: BTreeMap<(&'static str, Row, Row), u64>,
     /// Saves and loads, by what was tried and the answer.
     images: BTreeMap<(&'static str, String), u64>,
-    /// Placed reserves, by what they are examples of.
-    placed: BTreeMap<String, u64>,
+    /// Placed reserves and accepts, by what they are examples of.
+    kinds: BTreeMap<String, u64>,
 }
 
 impl Counts {
@@ -105,16 +105,16 @@ impl Counts {
         Err(format!("never tried: {}", missing.join(", ")))
     }
 
-    pub fn note_placed(&mut self, kind: &str) {
-        *self.placed.entry(kind.to_string()).or_default() += 1;
+    pub fn note_kind(&mut self, kind: &str) {
+        *self.kinds.entry(kind.to_string()).or_default() += 1;
     }
 
-    /// A line for each kind of placed reserve. One that should have been made and never was is an error.
-    pub fn report_placed(&self) -> Result<(), String> {
-        let expected: Vec<String> = crate::placed::expected().collect();
-        let made = |kind: &String| self.placed.get(kind).copied().unwrap_or(0);
+    /// A line for each kind of call. One that should have been made and never was is an error.
+    pub fn report_kinds(&self, expected: impl Iterator<Item = String>) -> Result<(), String> {
+        let expected: Vec<String> = expected.collect();
+        let made = |kind: &String| self.kinds.get(kind).copied().unwrap_or(0);
         for kind in &expected {
-            println!("  {kind:<52} {:>7}", made(kind));
+            println!("  {kind:<56} {:>7}", made(kind));
         }
         let missing: Vec<String> = expected
             .into_iter()

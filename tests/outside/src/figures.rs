@@ -58,12 +58,17 @@ fn outside(n: u32, random: &mut Random) -> (u32, u32) {
     }
 }
 
-/// Figures that some run of k free blocks of the card has: a window that it lies in, and a step whose multiple is its start.
-pub fn admitting(card: &Card, k: usize, random: &mut Random) -> Figures {
+/// Where some run of k free blocks of the card starts.
+pub fn some_start(card: &Card, k: usize, random: &mut Random) -> usize {
     let starts: Vec<usize> = (0..=card.n - k)
         .filter(|&start| all(&card.map, start, start + k, FREE))
         .collect();
-    let start = random.one(&starts);
+    random.one(&starts)
+}
+
+/// Figures that some run of k free blocks of the card has: a window that it lies in, and a step whose multiple is its start.
+pub fn admitting(card: &Card, k: usize, random: &mut Random) -> Figures {
+    let start = some_start(card, k, random);
     let steps: Vec<usize> = (1..=card.n).filter(|step| start % step == 0).collect();
     let from = random.within(0, start + 1);
     let before = random.within(start + k, card.n + 1);

@@ -1,8 +1,9 @@
 //! Random calls: mostly those that a dispenser makes of the sheet at hand, as its entry stands, and some with any numbers.
 
-use crate::figures::{admitting, any_figures};
-use bitwise::blocks::survey;
-use bitwise::call::{call, placed, Bytes, Call, Kind, CALLS, PAYLOAD};
+use crate::figures::{admitting, any_figures, some_start};
+use crate::offers::accept_of;
+use bitwise::blocks::{survey, FREE};
+use bitwise::call::{accept, call, placed, Bytes, Call, Kind, CALLS, PAYLOAD};
 use bitwise::card::{Card, Entry};
 use bitwise::random::Random;
 use bitwise::rows::Row;
@@ -11,24 +12,39 @@ pub struct Generator {
     pub random: Random,
     /// The sheet that the dispenser is busy with.
     sheet: u32,
+    /// The accepts of the last offers.
+    offers: Vec<Call>,
 }
 
 impl Generator {
     pub fn new(random: Random) -> Generator {
-        Generator { random, sheet: 0 }
+        Generator {
+            random,
+            sheet: 0,
+            offers: Vec::new(),
+        }
     }
 
     pub fn call(&mut self, card: &Card) -> Call {
-        if self.random.chance(1, 5) || card.sheets.is_empty() {
+        let call = if self.random.chance(1, 5) || card.sheets.is_empty() {
             self.any_call(card)
         } else {
             self.likely_call(card)
+        };
+        if let Some(accept) = accept_of(card, call) {
+            self.offers.truncate(3);
+            self.offers.insert(0, accept);
         }
+        call
     }
 
     /// A call that the sheet at hand admits, more often than not.
     fn likely_call(&mut self, card: &Card) -> Call {
         let c = card.sheets.len();
+        if !self.offers.is_empty() && self.random.chance(1, 12) {
+            let at = self.random.within(0, self.offers.len());
+            return self.accept_offer(at);
+        }
         if self.sheet as usize >= c || self.random.chance(1, 6) {
             self.sheet = self.random.within(0, c) as u32;
         }
@@ -45,8 +61,14 @@ impl Generator {
         }
     }
 
-    /// A reserve. If there are not so many blocks, another sheet gives way first, more often than not.
+    /// A reserve, or an accept of what was offered. If there are not so many blocks, another sheet gives way first, more often
+    /// than not.
     fn of_absent(&mut self, card: &Card, sheet: u32) -> Call {
+        let mut offers = self.offers.iter();
+        let offered = offers.position(|accept| accept.sheet == sheet);
+        if let Some(at) = offered.filter(|_| self.random.chance(1, 2)) {
+            return self.accept_offer(at);
+        }
         let count = self.likely_count(card);
         if count as usize > card.free && self.random.chance(7, 8) {
             let from = self.random.within(0, card.sheets.len());
@@ -59,12 +81,26 @@ impl Generator {
         self.reserve(card, sheet, count)
     }
 
-    /// A reserve of either kind.
-    fn reserve(&mut self, card: &Card, sheet: u32, count: u32) -> Call {
-        if self.random.chance(1, 2) {
-            return call(Kind::Reserve, sheet, count);
+    /// The accept of one of the last offers, which is not made again, more often than not.
+    fn accept_offer(&mut self, at: usize) -> Call {
+        let accept = self.offers[at];
+        if self.random.chance(3, 4) {
+            self.offers.remove(at);
         }
-        placed(sheet, count, any_figures(card.n, count, &mut self.random))
+        accept
+    }
+
+    /// A reserve of any kind, or an offer, after which the dispenser may turn to another sheet first.
+    fn reserve(&mut self, card: &Card, sheet: u32, count: u32) -> Call {
+        match self.random.within(0, 8) {
+            0..=2 => call(Kind::Reserve, sheet, count),
+            3..=5 => placed(sheet, count, any_figures(card.n, count, &mut self.random)),
+            6 => accept(sheet, self.free_block(card), count),
+            _ => {
+                self.sheet = self.random.within(0, card.sheets.len()) as u32;
+                call(Kind::Offer, sheet, count)
+            }
+        }
     }
 
     fn of_open(&mut self, card: &Card, sheet: u32, entry: Entry) -> Call {
@@ -98,6 +134,9 @@ impl Generator {
         };
         if kind == Kind::ReservePlaced {
             return placed(sheet, number, any_figures(card.n, number, &mut self.random));
+        }
+        if kind == Kind::Accept {
+            return accept(sheet, self.any_start(card, number), number);
         }
         let bytes = if kind.has_slice() {
             self.bytes()
@@ -134,6 +173,25 @@ impl Generator {
             _ => self
                 .random
                 .one(&[1, 64, 65, 262144, 262145, u32::MAX - 1, u32::MAX]),
+        }
+    }
+
+    /// The first free block from any block on, or any block if none of those is free.
+    fn free_block(&mut self, card: &Card) -> u32 {
+        let n = card.n.clamp(1, 262145);
+        let block = self.random.within(0, n);
+        let mut blocks = block..n.min(card.map.len());
+        blocks.find(|&b| card.map[b] == FREE).unwrap_or(block) as u32
+    }
+
+    /// Where a run of some blocks starts: so that it ends around n or around 2^32, or anywhere.
+    fn any_start(&mut self, card: &Card, count: u32) -> u32 {
+        match self.random.within(0, 8) {
+            0 => self.around(card.n as u32),
+            1 => self.around((card.n as u32).wrapping_sub(count)),
+            2 => self.around(0u32.wrapping_sub(count)),
+            3 => self.random.one(&[0, 1, 1 << 31, u32::MAX - 1, u32::MAX]),
+            _ => self.free_block(card),
         }
     }
 
@@ -220,13 +278,19 @@ pub fn accepted(kind: Kind, card: &Card, random: &mut Random) -> Call {
         .collect();
     let sheet = random.one(&sheets);
     let number = match kind {
-        Kind::Reserve | Kind::ReservePlaced | Kind::Grow => random.within(1, 3),
+        Kind::Reserve | Kind::ReservePlaced | Kind::Offer | Kind::Accept | Kind::Grow => {
+            random.within(1, 3)
+        }
         Kind::Put | Kind::Show => random.within(0, card.sheets[sheet].length as usize),
         _ => 0,
     };
     let call = call(kind, sheet as u32, number as u32);
     match kind {
         Kind::ReservePlaced => placed(call.sheet, call.number, admitting(card, number, random)),
+        Kind::Accept => {
+            let start = some_start(card, number, random);
+            accept(call.sheet, start as u32, call.number)
+        }
         _ => call,
     }
 }

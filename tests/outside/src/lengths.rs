@@ -5,7 +5,7 @@ use crate::counts::Counts;
 use crate::generate::accepted;
 use crate::lists::used_card;
 use bitwise::blocks::{figures, words_of};
-use bitwise::call::{call, placed, Bytes, Call, Kind, CALLS};
+use bitwise::call::{accept, call, placed, Bytes, Call, Kind, CALLS};
 use bitwise::card::{entry, Card};
 use bitwise::random::Random;
 
@@ -122,24 +122,32 @@ fn at_limits(card: Card, margin: usize, counts: &mut Counts) -> Result<(), Strin
     let (n, last) = (card.n as u32, card.sheets.len() as u32 - 1);
     // Standing first, of an Absent sheet; then all calls, of which the last take back what the others did.
     let others = CALLS.iter().map(|(kind, ..)| *kind);
-    let others =
-        others.filter(|kind| !matches!(kind, Kind::Release | Kind::Fresh | Kind::ReservePlaced));
+    let others = others.filter(|kind| {
+        !matches!(
+            kind,
+            Kind::Release | Kind::Fresh | Kind::ReservePlaced | Kind::Accept
+        )
+    });
     let kinds = std::iter::once(Kind::Standing).chain(others);
     let calls = kinds.chain([Kind::Release, Kind::Fresh]).map(|kind| {
         let sheet = if kind.has_sheet() { last } else { 0 };
         match kind {
-            Kind::Fresh | Kind::Search | Kind::Reserve => call(kind, sheet, n),
+            Kind::Fresh | Kind::Search | Kind::Reserve | Kind::Offer => call(kind, sheet, n),
             Kind::Grow => call(kind, sheet, 1),
             _ => call(kind, sheet, 0),
         }
     });
-    // Placed reserves before them: one that finds no fit, and one of all blocks, which is then released.
-    let placed_first = [
+    // Placed reserves and accepts before them: some that find no fit or no run, and those of all blocks, each then released.
+    let first = [
         placed(last, 1, figures(1, n, n)),
         placed(last, n, figures(0, n, n)),
         call(Kind::Release, last, 0),
+        accept(last, 1, n),
+        accept(last, n, 1),
+        accept(last, 0, n),
+        call(Kind::Release, last, 0),
     ];
-    let calls = placed_first.into_iter().chain(calls);
+    let calls = first.into_iter().chain(calls);
     let limits = format!("{n} blocks and {} sheets", card.sheets.len());
     let mut beside = Beside::new(card, margin, Compared::All);
     for call in calls {

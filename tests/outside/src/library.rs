@@ -45,6 +45,7 @@ impl Outcome {
         let (number, values) = match answer {
             Answer::Done => (0, [0, 0, 0]),
             Answer::Start(start, space) => (0, [start as u32, space as u32, 0]),
+            Answer::Offered(start, length) => (0, [start as u32, length as u32, 0]),
             Answer::Stands(e) => (0, [e.mark, e.start, e.length]),
             Answer::Counted(free, runs, longest) => (0, [free as u32, runs as u32, longest as u32]),
             Answer::Blank(place) => (9, [place as u32, 0, 0]),
@@ -73,6 +74,10 @@ mod c {
             card: *mut u8, cardlen: usize, sheet: u32, count: u32) -> Outcome;
         pub fn pagunlit_reserve_placed(shape: Shape, map: *mut u64, maplen: usize, catalogue: *mut Entry, cataloguelen: usize,
             card: *mut u8, cardlen: usize, sheet: u32, count: u32, from: u32, before: u32, step: u32) -> Outcome;
+        pub fn pagunlit_offer(shape: Shape, map: *const u64, maplen: usize, catalogue: *const Entry, cataloguelen: usize,
+            card: *const u8, cardlen: usize, sheet: u32, count: u32) -> Outcome;
+        pub fn pagunlit_accept(shape: Shape, map: *mut u64, maplen: usize, catalogue: *mut Entry, cataloguelen: usize,
+            card: *mut u8, cardlen: usize, sheet: u32, start: u32, count: u32) -> Outcome;
         pub fn pagunlit_grow(shape: Shape, map: *mut u64, maplen: usize, catalogue: *mut Entry, cataloguelen: usize,
             card: *mut u8, cardlen: usize, sheet: u32, count: u32) -> Outcome;
         pub fn pagunlit_put(shape: Shape, map: *const u64, maplen: usize, catalogue: *const Entry, cataloguelen: usize,
@@ -181,6 +186,8 @@ impl Library {
                     let Figures { from, before, step } = call.figures;
                     c::pagunlit_reserve_placed(shape, map, w, sheets, c, card, length, sheet, number, from, before, step)
                 }
+                Kind::Offer => c::pagunlit_offer(shape, map, w, sheets, c, card, length, sheet, number),
+                Kind::Accept => c::pagunlit_accept(shape, map, w, sheets, c, card, length, sheet, call.start, number),
                 Kind::Put => c::pagunlit_put(shape, map, w, sheets, c, card, length, sheet, number, bytes, count),
                 Kind::Grow => c::pagunlit_grow(shape, map, w, sheets, c, card, length, sheet, number),
                 Kind::Complete => c::pagunlit_complete(shape, map, w, sheets, c, card, length, sheet),

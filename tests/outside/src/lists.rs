@@ -3,6 +3,7 @@
 use crate::beside::{Beside, Compared};
 use crate::counts::Counts;
 use crate::generate::Generator;
+use crate::offers::Offers;
 use bitwise::blocks::words_of;
 use bitwise::call::{call, Call, Kind};
 use bitwise::card::{entry, Card};
@@ -67,9 +68,11 @@ fn follow(
 ) -> Result<(), String> {
     beside.call(call(Kind::Fresh, 0, n as u32), counts)?;
     beside.start_ledger();
+    let mut offers = Offers::default();
     for _ in 0..length {
         let call = generator.call(&beside.card);
         calls.push(call);
+        offers.note(&beside.card, call, counts);
         beside.call(call, counts)?;
     }
     beside.finish()

@@ -20,6 +20,7 @@ mod images_together;
 mod lengths;
 mod library;
 mod lists;
+mod offers;
 mod placed;
 mod singles;
 mod spaces;
@@ -65,7 +66,7 @@ const GROUPS: &[Group] = &[
             part("small", lists::small, 2000, 200, 40),
             part("full", lists::full, 2, 1, 0),
         ],
-        report: |counts| counts.report(false),
+        report: |counts| counts.report(false).and_then(|()| counts.report_kinds(offers::expected())),
     },
     // States that no list leads to.
     Group {
@@ -88,7 +89,12 @@ const GROUPS: &[Group] = &[
             part("steps-full", spaces::steps_full, 1, 1, 0),
             part("whole-cards", |_, margin, counts| spaces::whole_cards(margin, counts), 1, 0, 0),
         ],
-        report: Counts::report_placed,
+        report: |counts| counts.report_kinds(placed::expected()),
+    },
+    // Offers and accepts of all runs.
+    Group {
+        parts: &[part("runs", |_, margin, counts| offers::all_runs(margin, counts), 1, 0, 0)],
+        report: |_| Ok(()),
     },
     // Seal and check.
     Group {

@@ -137,11 +137,11 @@ pub fn kinds(card: &Card, call: Call, counts: &mut Counts) {
         .map(|(_, reason)| reason)
         .collect();
     if from + k > u32::MAX as usize {
-        counts.note_placed(LONG_SUM);
+        counts.note_kind(LONG_SUM);
     }
     match held[..] {
         [] => kinds_of_fit(card, call, counts),
-        [reason] => counts.note_placed(reason),
+        [reason] => counts.note_kind(reason),
         _ => {}
     }
 }
@@ -153,7 +153,7 @@ fn kinds_of_fit(card: &Card, call: Call, counts: &mut Counts) {
     let map = &card.map[..n];
     let lowest = least_fit(map, plain(n), k);
     let Some(start) = least_fit(map, call.figures, k) else {
-        return counts.note_placed(if lowest.is_some() {
+        return counts.note_kind(if lowest.is_some() {
             ONLY_PLAIN
         } else {
             NEITHER
@@ -173,7 +173,7 @@ fn kinds_of_fit(card: &Card, call: Call, counts: &mut Counts) {
         (start > 0, &with_step(step)),
     ];
     for (_, kind) in kinds.iter().filter(|(holds, _)| *holds) {
-        counts.note_placed(kind);
+        counts.note_kind(kind);
     }
 }
 
@@ -213,7 +213,7 @@ fn across_words(margin: usize, counts: &mut Counts) -> Result<(), String> {
 }
 
 /// A card of n blocks with an Absent sheet. Those from `first` on are free where a number has a bit, the others are taken.
-fn card_with(n: usize, first: usize, bits: usize) -> Card {
+pub fn card_with(n: usize, first: usize, bits: usize) -> Card {
     let map: Vec<bool> = (0..64 * words_of(n))
         .map(|b| b >= first && bits >> (b - first).min(63) & 1 == 1)
         .collect();

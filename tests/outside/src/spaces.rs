@@ -42,7 +42,7 @@ pub fn ends(map: &[bool], start: usize, call: Call, counts: &mut Counts) {
         (end == start + k, AS_LONG),
     ];
     for (_, kind) in kinds.iter().filter(|(holds, _)| *holds) {
-        counts.note_placed(kind);
+        counts.note_kind(kind);
     }
 }
 

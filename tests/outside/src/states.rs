@@ -4,7 +4,7 @@ use crate::counts::Counts;
 use crate::damage::MARKS;
 use crate::lengths::one;
 use bitwise::blocks::figures;
-use bitwise::call::{call, placed, Kind, CALLS, PAYLOAD};
+use bitwise::call::{accept, call, placed, Call, Kind, CALLS, PAYLOAD};
 use bitwise::card::{entry, sealed, Card};
 
 /// Every map, free count, entry and call of cards of up to `most` blocks and one sheet, and for complete and show every
@@ -35,26 +35,33 @@ pub fn states(most: usize, margin: usize, counts: &mut Counts) -> Result<(), Str
 
 fn calls_on_state(card: Card, margin: usize, counts: &mut Counts) -> Result<(), String> {
     let n = card.n as u32;
-    for (kind, ..) in CALLS {
-        let numbers = match kind {
-            // Of these every choice of blocks is tried below.
-            Kind::Complete | Kind::Show => continue,
-            Kind::Fresh => n..=n,
-            kind if kind.has_number() => 0..=n + 1,
-            _ => 0..=0,
-        };
-        for number in numbers {
-            let call = match kind {
-                Kind::ReservePlaced => placed(0, number, figures(number / 2, n, number)),
-                _ => call(kind, 0, number),
-            };
-            one(&card, call, margin, counts)?;
-        }
+    let kinds = CALLS.iter().map(|(kind, ..)| *kind);
+    for call in kinds.flat_map(|kind| calls_of(kind, n)) {
+        one(&card, call, margin, counts)?;
     }
     for sheet in 1..=n + 1 {
         one(&card, call(Kind::Standing, sheet, 0), margin, counts)?;
     }
     on_all_blocks(card, margin, counts)
+}
+
+/// The calls of a kind on a card of n blocks, with all numbers up to n + 1.
+fn calls_of(kind: Kind, n: u32) -> Vec<Call> {
+    let numbers = 0..=n + 1;
+    match kind {
+        // Of these every choice of blocks is tried below.
+        Kind::Complete | Kind::Show => Vec::new(),
+        Kind::Fresh => vec![call(kind, 0, n)],
+        Kind::ReservePlaced => numbers
+            .map(|number| placed(0, number, figures(number / 2, n, number)))
+            .collect(),
+        Kind::Accept => numbers
+            .clone()
+            .flat_map(|start| numbers.clone().map(move |number| accept(0, start, number)))
+            .collect(),
+        kind if kind.has_number() => numbers.map(|number| call(kind, 0, number)).collect(),
+        _ => vec![call(kind, 0, 0)],
+    }
 }
 
 /// Complete and show, of every choice of blank, sound and unsound blocks.

@@ -92,7 +92,7 @@ fn step(row: Row) -> u32 {
     match row {
         Row::Absent | Row::Paused | Row::Open | Row::Complete => 0,
         Row::NoPlace | Row::NoBlocks | Row::SliceLength | Row::Unsound => 1,
-        Row::Blank | Row::NoFit | Row::NotNext => 2,
+        Row::Blank | Row::NoFit | Row::NotNext | Row::RunNotFree => 2,
         Row::NoStep | Row::BeforeAboveN => 2,
         Row::FreeCount | Row::FromNotBefore => 3,
         Row::Damaged => 4,
@@ -132,6 +132,7 @@ fn make_hold(row: Row, card: &mut Card, call: &mut Call, random: &mut Random) {
         Row::Unsound => spoil_block(card, *call, random),
         Row::Blank => empty_block(card, *call, random),
         Row::NoFit | Row::NotNext => leave_no_room(card, call, random),
+        Row::RunNotFree => spoil_run(card, call, random),
         Row::FreeCount => contradict_count(card, call, random),
         Row::Damaged => damage_entry(card, *call, random),
         Row::Blocks if call.kind == Kind::Fresh => call.number = random.one(&[0, 262145, u32::MAX]),
@@ -233,6 +234,19 @@ fn leave_no_room(card: &mut Card, call: &mut Call, random: &mut Random) {
         3 => card.map.fill(TAKEN),
         4 if call.number > 1 => (call.figures.from, call.figures.before) = (0, call.number - 1),
         _ => (call.figures.from, call.figures.step) = (1, card.n as u32),
+    }
+}
+
+/// A run that ends behind n, also where its end has 33 bits, or that has a taken block.
+fn spoil_run(card: &mut Card, call: &mut Call, random: &mut Random) {
+    let (n, k) = (card.n as u32, call.number.max(1));
+    match random.within(0, 6) {
+        0 => call.start = random.one(&[n, n + 1, u32::MAX]),
+        1 => call.start = n + 1 - k,
+        2 => call.start = 0u32.wrapping_sub(k),
+        3 => call.number = u32::MAX,
+        4 => card.map.fill(TAKEN),
+        _ => card.map[call.start as usize + random.within(0, k as usize)] = TAKEN,
     }
 }
 

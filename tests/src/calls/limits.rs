@@ -96,6 +96,9 @@ const EACH: &str = "
     release 0
     reserve-placed 0 2 5 60 9
     release 0
+    offer 0 2
+    accept 0 5 2
+    release 0
 ";
 
 /// Too few or too many words, entries and bytes lent, and shapes outside their limits, and at them.

@@ -26,6 +26,15 @@ fn random_figures(x: u64) -> String {
     format!("{from} {before} {step}")
 }
 
+/// Where a run starts: on the card, in 1 case of 16 near its end or behind it.
+fn random_start(x: u64) -> u64 {
+    if x % 16 == 0 {
+        x / 16 % 8 + 66
+    } else {
+        x / 16 % 70
+    }
+}
+
 /// One of the calls of a list, for one of the four sheets or, in 1 case of 16, for none. Places are below 3.
 pub(super) fn random_call(x: u64) -> String {
     let sheet = if x % 16 == 0 { 4 } else { x % 4 };
@@ -40,12 +49,17 @@ pub(super) fn random_call(x: u64) -> String {
         10..=11 => format!("grow {sheet} {}", random_size(y)),
         12..=13 => format!("release {sheet}"),
         14 => format!("pause {sheet}"),
-        15..=36 => {
+        15 => format!("offer {sheet} {}", random_size(y)),
+        16..=18 => {
+            let start = random_start(y / 16384);
+            format!("accept {sheet} {start} {}", random_size(y))
+        }
+        19..=37 => {
             let first = z / 8192 % 256;
             format!("put {sheet} {place} {first} {}", random_length(z))
         }
-        37..=46 => format!("complete {sheet}"),
-        47..=61 => format!("show {sheet} {place} {}", random_length(z)),
+        38..=47 => format!("complete {sheet}"),
+        48..=61 => format!("show {sheet} {place} {}", random_length(z)),
         _ => format!("standing {sheet}"),
     }
 }

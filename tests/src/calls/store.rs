@@ -1,7 +1,7 @@
 //! What the calls of the examples work on, and what a line of them prints.
 
 use crate::blocks::{figures, from_words, to_words};
-use crate::call::{call, placed, Bytes, Kind};
+use crate::call::{accept, call, placed, Bytes, Kind};
 use crate::card::{entry, Answer, Card, Entry};
 
 /// What the calls work on, of which they are lent the first words, entries and bytes.
@@ -65,7 +65,7 @@ impl Store {
         format!("{text}: {answer}{}", self.end())
     }
 
-    /// A call, on what is lent. A refused one leaves all as it was.
+    /// A call, on what is lent. A refused one leaves all as it was, and so does an offer.
     fn call(&mut self, word: &str, numbers: &[u32]) -> Answer {
         let card = &mut self.lent();
         let before = card.clone();
@@ -90,14 +90,12 @@ impl Store {
         };
         let call = match kind {
             Kind::ReservePlaced => placed(sheet, number, figures(at(2), at(3), at(4))),
+            Kind::Accept => accept(sheet, at(1), at(2)),
             _ => call(kind, sheet, number).with_bytes(bytes),
         };
         let answer = card.call(call, slice);
-        if matches!(answer, Answer::Refused(_) | Answer::Blank(_)) {
-            assert!(
-                *card == before,
-                "a refusal changed something: {word} {numbers:?}"
-            );
+        if let Answer::Refused(_) | Answer::Blank(_) | Answer::Offered(..) = answer {
+            assert!(*card == before, "it changed something: {word} {numbers:?}");
         }
         self.take_back(card);
         answer
@@ -163,6 +161,7 @@ fn answered(answer: Answer) -> String {
     match answer {
         Answer::Done => "0".to_string(),
         Answer::Start(start, space) => format!("0 {start} {space}"),
+        Answer::Offered(start, length) => format!("0 {start} {length}"),
         Answer::Stands(Entry {
             mark,
             start,

@@ -1,5 +1,5 @@
 -- Written by tools/walks: `card::Shape::reserve_placed` meets its contract, by the walk of `MapCatalogueCard5.antt` of the
--- crate walk_methods, with the calls of `catalogue::find`, `card::cores::reserve_placed_core`, `card::cores::entry_of`,
+-- crate walk_card_methods, with the calls of `catalogue::find`, `card::cores::reserve_placed_core`, `card::cores::entry_of`,
 -- `catalogue::store`, `card::cores::outcome_of`.
 -- Assumes nothing.
 use contract.Running.{givenOf, tables, tablesOf}
@@ -20,8 +20,8 @@ use Rattle.card.proofs.Shape as Shape′
 use Rattle.card.proofs.Shape.Laws as Shape″
 use Rattle.card.proofs.Outcome as Outcome′
 use Rattle.card.proofs.Outcome.Laws as Outcome″
-use Rattle.walk_methods.proofs.MapCatalogueCard5.{find-contract, core-contract, entry-of-contract, store-contract}
-use Rattle.walk_methods.proofs.MapCatalogueCard5.{outcome-of-contract, meets}
+use Rattle.walk_card_methods.proofs.MapCatalogueCard5.{find-contract, core-contract, entry-of-contract, store-contract}
+use Rattle.walk_card_methods.proofs.MapCatalogueCard5.{outcome-of-contract, meets}
 use Rattle.catalogue.proofs.find.Symbol as find-def
 use Rattle.catalogue.proofs.find.Met as find-met
 use Rattle.card.proofs.cores.reserve_placed_core.Symbol as core-def

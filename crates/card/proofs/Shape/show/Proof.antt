@@ -1,5 +1,5 @@
 -- Written by tools/walks: `card::Shape::show` meets its contract, by the walk of `BufferFromMapCatalogueCard2.antt` of the
--- crate walk_methods, with the calls of `catalogue::find`, `card::cores::show_core`.
+-- crate walk_card_methods, with the calls of `catalogue::find`, `card::cores::show_core`.
 -- Assumes nothing.
 use contract.Running.{givenOf, tables, tablesOf}
 use denote.Triple.Spec.{tripleOf}
@@ -14,7 +14,7 @@ use Rattle.card.proofs.Shape as Shape′
 use Rattle.card.proofs.Shape.Laws as Shape″
 use Rattle.card.proofs.Outcome as Outcome′
 use Rattle.card.proofs.Outcome.Laws as Outcome″
-use Rattle.walk_methods.proofs.BufferFromMapCatalogueCard2.{find-contract, core-contract, meets}
+use Rattle.walk_card_methods.proofs.BufferFromMapCatalogueCard2.{find-contract, core-contract, meets}
 use Rattle.catalogue.proofs.find.Symbol as find-def
 use Rattle.catalogue.proofs.find.Met as find-met
 use Rattle.card.proofs.cores.show_core.Symbol as core-def

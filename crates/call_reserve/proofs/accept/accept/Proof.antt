@@ -1,0 +1,91 @@
+-- `call_reserve::accept::accept` meets its contract: a refusal changes nothing, and on acceptance the blocks that it takes lie
+-- inside the card.
+-- Assumes nothing.
+use native.Mathlib.Omega.{arith}
+use borrow.Author.Needs.{needs}
+use denote.Ref.{now}
+use Rattle.refusals.specs.Lent.{lent}
+use Rattle.refusals_rulings.proofs.Rulings.{accepts, refuses}
+use Rattle.call_reserve.proofs.accept.accept.Statement.{statement}
+use Rattle.call_reserve.proofs.accept.accept.Tie as tie
+use Rattle.refusals.proofs.Accept.{acceptVerdictOn, accept-room, unchanged, changed}
+
+accept-ruling-requires : tie.Need-accept-ruling-requires
+accept-ruling-requires c κs = search needs
+
+enum-known-row : tie.Need-enum-known-row
+enum-known-row c = search needs
+
+refusal-requires : tie.Need-refusal-requires
+refusal-requires c κs = search needs
+
+enum-known-at : tie.Need-enum-known-at
+enum-known-at c = search needs
+
+take-requires : tie.Need-take-requires
+take-requires c κs =
+    let place = c .before .before .before in
+    let call = place .before .before .accept-ruling in
+    let a = place .before .before .before .before .before .before .before .args in
+    let q = lent (a .n) (a .free) (now (a .map)) (now (a .card)) (a .c) (a .entry) (a .sheet) in
+    let ruled = accepts (a .start) (call .result) (acceptVerdictOn q (a .start) (a .k)) (place .at .given .0 .0)
+    (call .ensures) (place .at .given .1) in
+    let room = accept-room q (a .start) (a .k) (ruled .0) in (
+      omega (arith, room .inside, ruled .1),
+      omega (arith, room .sizes .shape .limit),
+      omega (arith, room .sizes .shape .covered),
+      omega (arith, room .sizes .bytes),
+      room .enough,
+    )
+
+same-length : tie.Need-same-length
+same-length c = search needs
+
+same-length-2 : tie.Need-same-length-2
+same-length-2 c = search needs
+
+returns : tie.Need-returns
+returns c =
+    let place = c .before .before in
+    let call = place .before .before .accept-ruling in
+    let a = place .before .before .before .before .before .before .before .args in
+    let q = lent (a .n) (a .free) (now (a .map)) (now (a .card)) (a .c) (a .entry) (a .sheet) in
+    let number = place .row .given .0 .0 in
+    unchanged q (a .start) (a .k) number (c .refusal .result)
+    (refuses (a .start) (call .result) (acceptVerdictOn q (a .start) (a .k)) number (call .ensures) (place .row .given .1))
+    (c .refusal .ensures)
+
+same-length-3 : tie.Need-same-length-3
+same-length-3 c = search needs
+
+same-length-4 : tie.Need-same-length-4
+same-length-4 c = search needs
+
+returns-2 : tie.Need-returns-2
+returns-2 c =
+    let end = c .before .before .before .before in
+    let place = end .before .before .before .before in
+    let call = place .before .before .accept-ruling in
+    let a = place .before .before .before .before .before .before .before .args in
+    let q = lent (a .n) (a .free) (now (a .map)) (now (a .card)) (a .c) (a .entry) (a .sheet) in
+    let ruled = accepts (a .start) (call .result) (acceptVerdictOn q (a .start) (a .k)) (place .at .given .0 .0)
+    (call .ensures) (place .at .given .1) in
+    let taken = end .take in
+    changed q (a .start) (a .k) (place .at .given .0 .0) (taken .result) _ _ (ruled .0) (ruled .1)
+    (taken .ensures .0) (taken .ensures .1) (taken .ensures .2)
+
+pub accept-spec : {M : Type 1} → statement M
+accept-spec =
+    tie.close
+    (tie.spec
+    accept-ruling-requires
+    enum-known-row
+    refusal-requires
+    enum-known-at
+    take-requires
+    same-length
+    same-length-2
+    returns
+    same-length-3
+    same-length-4
+    returns-2)

@@ -1,0 +1,32 @@
+// Accept: Absent becomes Open at the start that is asked for, as a reserve does at the start that it finds.
+ghost use mathlib.Core.Path.{_≡_};
+ghost use Rattle.refusals.specs.Lent.{lent};
+ghost use Rattle.refusals.specs.Effects.{acceptOut, acceptMap, acceptCard};
+use crate::take::take;
+use catalogue::Entry;
+use refusals::Out;
+use refusals::refusal;
+use refusals_rulings::Ruling;
+use refusals_rulings::accept_ruling;
+
+pub fn accept(
+    n: u32,
+    free: u32,
+    map: &mut [u64],
+    card: &mut [u8],
+    c: usize,
+    entry: Entry,
+    sheet: u32,
+    start: u32,
+    k: u32,
+) -> Out
+    ensures { λ r. let q = lent n free (now (map .entry)) (now (card .entry)) c entry sheet in
+        ⌜ (r ≡ acceptOut q start k)
+        × (now (map .exit) ≡ acceptMap q start k)
+        × (now (card .exit) ≡ acceptCard q start k) ⌝ }
+{
+    match accept_ruling(n, free, map, card, c, entry, sheet, start, k) {
+        Ruling::Refused(row) => refusal(free, entry, row),
+        Ruling::At(at) => take(n, free, map, card, at, k),
+    }
+}

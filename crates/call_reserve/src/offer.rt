@@ -1,0 +1,33 @@
+// Offer: where a plain reserve would start now, and the length, by the same ruling. It changes nothing.
+ghost use mathlib.Core.Path.{_≡_};
+ghost use Rattle.refusals.specs.Lent.{lent};
+ghost use Rattle.refusals.specs.Effects.{offerAnswer};
+use catalogue::Entry;
+use catalogue_standings::Answer;
+use refusals::Figures;
+use refusals_rulings::Ruling;
+use refusals_rulings::reserve_ruling;
+
+pub fn offer(
+    n: u32,
+    free: u32,
+    map: &[u64],
+    card: &[u8],
+    c: usize,
+    entry: Entry,
+    sheet: u32,
+    k: u32,
+) -> Answer
+    ensures { λ r. let q = lent n free (now (map .entry)) (now (card .entry)) c entry sheet in
+        ⌜ r ≡ offerAnswer q k ⌝ }
+{
+    let figures = Figures {
+        from: 0,
+        before: n,
+        step: 1,
+    };
+    match reserve_ruling(n, free, map, card, c, entry, sheet, k, figures) {
+        Ruling::Refused(row) => Answer::Refused(row),
+        Ruling::At(start) => Answer::Start(start, k),
+    }
+}

@@ -1,0 +1,162 @@
+//! The ledger's answers, and the card beside it.
+
+use super::*;
+use crate::blocks::figures;
+use crate::call::{accept, call, placed};
+use crate::card::Card;
+use crate::random::Random;
+
+/// A release gives the blocks back, and a new reserve has blank places, whatever was put there before.
+#[test]
+fn a_sheet_from_reserve_to_reserve() {
+    let mut ledger = Ledger::fresh(3, 2);
+    let buffer = &mut [0; 496];
+    assert_eq!(ledger.reserve(0, 2, plain(3)), Ok(Start(0, 3)));
+    assert_eq!(ledger.put(0, 1, &[7; 496]), Ok(Done));
+    assert_eq!(ledger.complete(0), Err(Blank(0)));
+    assert_eq!(ledger.put(0, 0, &[8; 496]), Ok(Done));
+    assert_eq!(ledger.complete(0), Ok(Done));
+    assert_eq!(ledger.show(0, 1, buffer), Ok(Done));
+    assert_eq!(buffer[0], 7);
+    assert_eq!(ledger.reserve(1, 2, plain(3)), Err(Refused(10)));
+    assert_eq!(ledger.release(0), Ok(Done));
+    assert_eq!(ledger.reserve(1, 2, plain(3)), Ok(Start(0, 3)));
+    assert_eq!(ledger.complete(1), Err(Blank(0)));
+    assert_eq!(ledger.put(1, 0, &[9; 496]), Ok(Done));
+    assert_eq!(ledger.complete(1), Err(Blank(1)));
+    assert_eq!((ledger.granted, ledger.returned), (4, 2));
+    assert_eq!(ledger.free_count(), 1);
+}
+
+/// Of 5 places, those that are filled in this order, and the place with 9 after each.
+#[test]
+fn the_lowest_blank_place() {
+    let mut ledger = Ledger::fresh(8, 1);
+    assert_eq!(ledger.reserve(0, 5, plain(8)), Ok(Start(0, 8)));
+    for (filled, lowest) in [(1, 0), (4, 0), (0, 2), (3, 2)] {
+        assert_eq!(ledger.put(0, filled, &[7; 496]), Ok(Done));
+        assert_eq!(ledger.complete(0), Err(Blank(lowest)));
+    }
+}
+
+/// Document 02, (a): the ledger's fits are those of the figures, 15 comes after 3 and before 10, and a refused call leaves
+/// the ledger alone.
+#[test]
+fn placed_reserves() {
+    let mut ledger = Ledger::fresh(100, 3);
+    assert_eq!(ledger.reserve(0, 10, plain(100)), Ok(Start(0, 100)));
+    for (k, refused) in [(0, 3), (1, 15), (101, 15)] {
+        for (from, before, step) in [(0, 100, 0), (9, 9, 1), (0, 101, 1)] {
+            let answer = ledger.reserve(1, k, figures(from, before, step));
+            assert_eq!(answer, Err(Refused(refused)));
+        }
+    }
+    assert_eq!(ledger.reserve(0, 0, figures(0, 0, 0)), Err(Refused(7)));
+    assert_eq!(ledger.reserve(3, 0, figures(0, 0, 0)), Err(Refused(2)));
+    assert_eq!(ledger.reserve(1, 5, figures(0, 20, 8)), Err(Refused(10)));
+    assert_eq!(ledger.free_count(), 90);
+    assert_eq!(ledger.reserve(1, 5, figures(0, 21, 8)), Ok(Start(16, 84)));
+    assert_eq!(ledger.reserve(2, 6, plain(100)), Ok(Start(10, 6)));
+    assert_eq!((ledger.granted, ledger.free_count()), (21, 79));
+}
+
+/// Document 02, (b): the space behind a start is measured before the marking, ends at the next taken block or n, whatever
+/// `before` is, and is what could be added to the sheet.
+#[test]
+fn the_space_behind_a_start() {
+    let mut ledger = Ledger::fresh(100, 4);
+    assert_eq!(ledger.reserve(0, 10, figures(20, 40, 1)), Ok(Start(20, 80)));
+    assert_eq!(ledger.reserve(1, 5, plain(100)), Ok(Start(0, 20)));
+    assert_eq!(ledger.reserve(2, 5, figures(8, 13, 4)), Ok(Start(8, 12)));
+    assert_eq!(ledger.reserve(3, 3, plain(100)), Ok(Start(5, 3)));
+    assert_eq!(ledger.grow(3, 1), Err(Refused(11)));
+    assert_eq!(ledger.grow(2, 8), Err(Refused(11)));
+    assert_eq!(ledger.grow(2, 7), Ok(Done));
+    assert_eq!(ledger.grow(0, 71), Err(Refused(11)));
+    assert_eq!(ledger.grow(0, 70), Ok(Done));
+}
+
+/// Document 02, (f): an offer changes nothing, an accept takes the run that was offered if it is still free, whether it is the
+/// lowest fit by then or not, and a plain reserve still gets the lowest.
+#[test]
+fn offers_and_accepts() {
+    let mut ledger = Ledger::fresh(100, 5);
+    assert_eq!(ledger.reserve(0, 10, plain(100)), Ok(Start(0, 100)));
+    assert_eq!(ledger.offer(1, 20), Ok(Offered(10, 20)));
+    assert_eq!(ledger.offer(1, 5), Ok(Offered(10, 5)));
+    assert_eq!(ledger.offer(2, 20), Ok(Offered(10, 20)));
+    assert_eq!((ledger.granted, ledger.free_count()), (10, 90));
+    assert_eq!(ledger.release(0), Ok(Done));
+    assert_eq!(ledger.accept(1, 10, 20), Ok(Start(10, 90)));
+    assert_eq!(ledger.accept(2, 10, 20), Err(Refused(17)));
+    assert_eq!(ledger.accept(2, 9, 1), Ok(Start(9, 1)));
+    assert_eq!(ledger.reserve(3, 9, plain(100)), Ok(Start(0, 9)));
+    assert_eq!(ledger.accept(4, 30, 70), Ok(Start(30, 70)));
+    assert_eq!((ledger.granted, ledger.free_count()), (110, 0));
+}
+
+/// An offer is refused as a reserve is; an accept with 17 for a run that is taken or ends behind n, also where its end has 33
+/// bits, and with 3 for no blocks, wherever they would be.
+#[test]
+fn refused_offers_and_accepts() {
+    const MAX: usize = u32::MAX as usize;
+    let mut ledger = Ledger::fresh(100, 3);
+    assert_eq!(ledger.accept(0, 40, 20), Ok(Start(40, 60)));
+    assert_eq!(ledger.pause(1), Ok(Done));
+    for (sheet, refused) in [(0, 7), (1, 6), (3, 2)] {
+        assert_eq!(ledger.offer(sheet, 0), Err(Refused(refused)));
+        assert_eq!(ledger.accept(sheet, MAX, 0), Err(Refused(refused)));
+        assert_eq!(ledger.accept(sheet, 0, MAX), Err(Refused(refused)));
+    }
+    for (k, refused) in [(0, 3), (41, 10), (MAX, 10)] {
+        assert_eq!(ledger.offer(2, k), Err(Refused(refused)));
+        assert_eq!(ledger.reserve(2, k, plain(100)), Err(Refused(refused)));
+    }
+    let taken = [(40, 1), (39, 2), (59, 1), (0, 41), (59, 41)];
+    let behind = [(100, 1), (99, 2), (60, 41), (0, 101)];
+    let largest = [(MAX, 1), (1, MAX), (MAX, MAX), (MAX - 9, 10)];
+    for (start, k) in taken.into_iter().chain(behind).chain(largest) {
+        assert_eq!(ledger.accept(2, start, k), Err(Refused(17)));
+        assert_eq!(ledger.accept(2, start, 0), Err(Refused(3)));
+    }
+    assert_eq!(ledger.free_count(), 80);
+    assert_eq!(ledger.accept(2, 60, 40), Ok(Start(60, 40)));
+}
+
+/// A call for one of 3 sheets: a reserve of any kind, an offer, or a release.
+fn random_call(n: usize, random: &mut Random) -> Call {
+    let (sheet, k) = (random.within(0, 3) as u32, random.within(0, n) as u32 / 3);
+    let mut figure = || random.within(0, n + 2) as u32;
+    let placed_at = figures(figure(), figure(), figure() / 4);
+    match random.within(0, 6) {
+        0 => call(Kind::Reserve, sheet, k),
+        1 => call(Kind::Release, sheet, 0),
+        2 => call(Kind::Offer, sheet, k),
+        3 => accept(sheet, placed_at.from, k),
+        _ => placed(sheet, k, placed_at),
+    }
+}
+
+/// Lists of reserves, offers and releases: the card answers as the ledger does, and has its map and its entries.
+#[test]
+fn the_card_answers_as_the_ledger() {
+    for n in [1, 2, 9, 64, 70] {
+        let random = &mut Random::of(n as u64);
+        let mut ledger = Ledger::fresh(n, 3);
+        let mut card = Card {
+            n,
+            free: n,
+            map: ledger.map(),
+            sheets: vec![entry(0x41, 0, 0); 3],
+            bytes: vec![0; 512 * n],
+        };
+        for _ in 0..2000 {
+            let call = random_call(n, random);
+            let answer = card.call(call, &mut []);
+            assert_eq!(Some(answer), ledger.call(call, &mut []), "{n}: {call}");
+            assert!(card.map == ledger.map() && card.free == ledger.free_count());
+            assert!((0..3).all(|sheet| card.sheets[sheet] == ledger.entry(sheet)));
+        }
+        assert_eq!(card.free + ledger.granted, n + ledger.returned);
+    }
+}
