@@ -12,7 +12,8 @@ use Rattle.map_blocks.proofs.Fits.{fit-is, is-fit, no-fit, on-one}
 use Rattle.refusals_rulings.proofs.run_is_free.Statement.{statement}
 use Rattle.refusals_rulings.proofs.run_is_free.Tie as tie
 
--- a run inside n
+-- a run inside n:
+-- it is a fit exactly if it is free
 inside : (f : ℕ → Bool) (n k start : ℕ) → start + k ≤ n → all f start k ≡ fit f 0 n 1 k start
 inside f n k start l =
     both-ways (all f start k) (fit f 0 n 1 k start)
