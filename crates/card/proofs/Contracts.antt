@@ -18,7 +18,7 @@ use Rattle.refusals.specs.Lent.{noCard}
 use Rattle.card.specs.Calls.{kept}
 use Rattle.card.specs.Contracts.{itself, Freshens, Searches, Surveys, Reserves, ReservesPlaced, Grows, Puts, Completes}
 use Rattle.card.specs.Contracts.{Offers, Accepts, Shows}
-use Rattle.card.specs.Contracts.{Pauses, Releases, TellsStanding, Saves, Loads}
+use Rattle.card.specs.Contracts.{Pauses, Resumes, Releases, TellsStanding, Saves, Loads}
 use Rattle.card.proofs.Shape.constants_hold as constants-hold-method
 use Rattle.card.proofs.Shape.fresh as fresh-method
 use Rattle.card.proofs.Shape.search as search-method
@@ -31,6 +31,7 @@ use Rattle.card.proofs.Shape.grow as grow-method
 use Rattle.card.proofs.Shape.put as put-method
 use Rattle.card.proofs.Shape.complete as complete-method
 use Rattle.card.proofs.Shape.pause as pause-method
+use Rattle.card.proofs.Shape.resume as resume-method
 use Rattle.card.proofs.Shape.release as release-method
 use Rattle.card.proofs.Shape.show as show-method
 use Rattle.card.proofs.Shape.standing as standing-method
@@ -99,6 +100,10 @@ module _ {M : Type 1} (𝓤 : URA M) (H : Heap 𝓤) (A : Atoms 𝓤) (mem : Mem
       Pauses itself (kept (a .0) (now (a .1 .0)) (now (a .1 .1 .0)) noCard) (a .1 .1 .1 .0) r (now (t .1 .1 .0)))
   pause-contract κs a r t g = refl
 
+  pub resume-contract : Ensures 𝓤 resume-method.ended (resume-method.clauses 𝓤 H A mem run) (λ κs a r t.
+      Resumes itself (kept (a .0) (now (a .1 .0)) (now (a .1 .1 .0)) noCard) (a .1 .1 .1 .0) r (now (t .1 .1 .0)))
+  resume-contract κs a r t g = refl
+
   pub release-contract : Ensures 𝓤 release-method.ended (release-method.clauses 𝓤 H A mem run) (λ κs a r t.
       Releases itself (kept (a .0) (now (a .1 .0)) (now (a .1 .1 .0)) noCard) (a .1 .1 .1 .0) r (now (t .1 .0))
       (now (t .1 .1 .0)))
@@ -159,6 +164,9 @@ module _ {M : Type 1} (𝓤 : URA M) (H : Heap 𝓤) (A : Atoms 𝓤) (mem : Mem
 
   pub pause-asks-nothing : AsksNothing 𝓤 pause-method.ended (pause-method.clauses 𝓤 H A mem run)
   pause-asks-nothing κs a g = refl
+
+  pub resume-asks-nothing : AsksNothing 𝓤 resume-method.ended (resume-method.clauses 𝓤 H A mem run)
+  resume-asks-nothing κs a g = refl
 
   pub release-asks-nothing : AsksNothing 𝓤 release-method.ended (release-method.clauses 𝓤 H A mem run)
   release-asks-nothing κs a g = refl

@@ -25,7 +25,7 @@ use Rattle.refusals.specs.Lent.{Lent, noCard}
 use Rattle.card.specs.Calls.{Kept, lentTo, told, isDone, savedState, saveOutcome, saveImage}
 use Rattle.card.specs.Calls.{loadOutcome, loadMap, loadEntries, loadScratch}
 use Rattle.card.specs.Contracts.{itself, Freshens, Reserves, ReservesPlaced, Grows, Puts, Completes, Shows, Pauses}
-use Rattle.card.specs.Contracts.{Accepts, Releases}
+use Rattle.card.specs.Contracts.{Accepts, Resumes, Releases}
 use Rattle.card.specs.Contracts.{Saves, Loads}
 use Rattle.card.proofs.Images as images
 use Rattle.card.proofs.Refusals as refusals
@@ -105,6 +105,14 @@ module _ {R : Type 0} (how : Outcome → R) (s : Kept) (sheet number : ℕ) (r :
       → (r ≡ how (told (s .shape) (Refused number))) × (entries′ ≡ s .entries)
   pause-refused entries′ h v =
       let same = refusals.pause-refused s sheet number v in
+      (h .0 ∙ ap how (same .0), h .1 ∙ same .1)
+
+  pub resume-refused : (entries′ : List Entry)
+      → Resumes how s sheet r entries′
+      → effects.resumeVerdict bare ≡ refused number
+      → (r ≡ how (told (s .shape) (Refused number))) × (entries′ ≡ s .entries)
+  resume-refused entries′ h v =
+      let same = refusals.resume-refused s sheet number v in
       (h .0 ∙ ap how (same .0), h .1 ∙ same .1)
 
   pub release-refused : (map′ : List ℕ) (entries′ : List Entry)

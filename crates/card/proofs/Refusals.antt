@@ -29,6 +29,7 @@ use Rattle.card.specs.Calls.{Kept, lentTo, told, outcomeOf, isDone, fres
 use Rattle.card.specs.Calls.{acceptOutcome, acceptMap, acceptEntries, acceptCard}
 use Rattle.card.specs.Calls.{reserveMap, reserveEntries, reserveCard, growOutcome, growMap, growEntries, growCard}
 use Rattle.card.specs.Calls.{putOutcome, putCard, completeOutcome, completeEntries, pauseOutcome, pauseEntries}
+use Rattle.card.specs.Calls.{resumeOutcome, resumeEntries}
 use Rattle.card.specs.Calls.{releaseOutcome, releaseMap, releaseEntries, showOutcome, showBuffer}
 
 -- a refused call hands back the free count and the entry that it was given: shape and entries are as they were
@@ -131,7 +132,15 @@ module _ (s : Kept) (sheet number : ℕ) where
   unfolding effects.pauseOut
   pause-refused h =
       handed-back (s .shape) (s .entries) sheet (Refused number) _
-      (ap (λ (v : Verdict). settle v (effects.outOf free (effects.entryOf pausedMark 0 0) Done)
+      (ap (λ (v : Verdict). settle v (effects.outOf free (effects.entryOf pausedMark (e .start) (e .length)) Done)
+      (effects.refusalOut free e)) h)
+
+  pub resume-refused : effects.resumeVerdict bare ≡ refused number
+      → (resumeOutcome s sheet ≡ told (s .shape) (Refused number)) × (resumeEntries s sheet ≡ s .entries)
+  unfolding effects.resumeOut
+  resume-refused h =
+      handed-back (s .shape) (s .entries) sheet (Refused number) _
+      (ap (λ (v : Verdict). settle v (effects.outOf free (effects.entryOf completeMark (e .start) (e .length)) Done)
       (effects.refusalOut free e)) h)
 
   pub release-refused : effects.releaseVerdict bare ≡ refused number

@@ -177,6 +177,15 @@ module _ (s : Kept) (sheet : ℕ) where
   abbrev pub pauseEntries : List Entry
   pauseEntries = set (s .entries) sheet (pauseOut .entry)
 
+  abbrev resumeOut : Out
+  resumeOut = effects.resumeOut lendsNoCard
+
+  abbrev pub resumeOutcome : Outcome
+  resumeOutcome = outcomeOf (s .shape) resumeOut
+
+  abbrev pub resumeEntries : List Entry
+  resumeEntries = set (s .entries) sheet (resumeOut .entry)
+
   abbrev releaseOut : Out
   releaseOut = effects.releaseOut lendsNoCard
 

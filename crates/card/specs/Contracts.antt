@@ -13,7 +13,8 @@ use Rattle.card.specs.Reserves.{placedOutcome, placedMapLeft, placedEntr
 use Rattle.card.specs.Calls.{offerOutcome, acceptOutcome, acceptMap, acceptEntries, acceptCard}
 use Rattle.card.specs.Calls.{growOutcome, growMap, growEntries, growCard}
 use Rattle.card.specs.Calls.{putOutcome, putCard, completeOutcome, completeEntries, showOutcome, showBuffer}
-use Rattle.card.specs.Calls.{pauseOutcome, pauseEntries, releaseOutcome, releaseMap, releaseEntries, standingOutcome}
+use Rattle.card.specs.Calls.{pauseOutcome, pauseEntries, resumeOutcome, resumeEntries}
+use Rattle.card.specs.Calls.{releaseOutcome, releaseMap, releaseEntries, standingOutcome}
 use Rattle.card.specs.Calls.{saveOutcome, saveScratch, saveImage, loadOutcome, loadMap, loadEntries, loadScratch}
 use Rattle.card.specs.declared.Outcome.{Outcome}
 use Rattle.card.specs.declared.Shape.{Shape}
@@ -88,6 +89,9 @@ module _ {R : Type 0} (how : Outcome → R) (s : Kept) (sheet : ℕ) where
 
   abbrev pub Pauses : R → List Entry → Type 0
   Pauses r entries′ = (r ≡ how (pauseOutcome s sheet)) × (entries′ ≡ pauseEntries s sheet)
+
+  abbrev pub Resumes : R → List Entry → Type 0
+  Resumes r entries′ = (r ≡ how (resumeOutcome s sheet)) × (entries′ ≡ resumeEntries s sheet)
 
   abbrev pub Releases : R → List ℕ → List Entry → Type 0
   Releases r map′ entries′ =

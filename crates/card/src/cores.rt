@@ -7,7 +7,7 @@ ghost use Rattle.card.specs.Cores.{blocksOf, spareOf, offerOutcomeAt};
 ghost use Rattle.card.specs.Reserves.{plainOut, plainMap, plainCard, placedOut, placedMap, placedCard};
 ghost use Rattle.refusals.specs.Lent.{noCard};
 ghost use Rattle.refusals.specs.Effects.{acceptOut, acceptMap, acceptCard, growOut, growMap, growCard};
-ghost use Rattle.refusals.specs.Effects.{putCard, completeOut, pauseOut, releaseOut, releaseMap, showBuffer};
+ghost use Rattle.refusals.specs.Effects.{putCard, completeOut, pauseOut, resumeOut, releaseOut, releaseMap, showBuffer};
 use crate::Outcome;
 use crate::Shape;
 use catalogue::Entry;
@@ -251,6 +251,14 @@ pub fn pause_core(shape: Shape, map: &[u64], slot: Slot, sheet: u32) -> Out
 {
     let entry = slot.entry;
     call_release::pause::pause(shape.blocks, shape.free, map, slot.count, entry, sheet)
+}
+
+pub fn resume_core(shape: Shape, map: &[u64], slot: Slot, sheet: u32) -> Out
+    ensures { λ r. let q = lentAt shape (now (map .entry)) noCard slot sheet in
+        ⌜ r ≡ resumeOut q ⌝ }
+{
+    let entry = slot.entry;
+    call_release::resume::resume(shape.blocks, shape.free, map, slot.count, entry, sheet)
 }
 
 pub fn release_core(shape: Shape, map: &mut [u64], slot: Slot, sheet: u32) -> Out

@@ -11,7 +11,8 @@ ghost use Rattle.card.specs.Calls.{kept, freshOutcome, freshMap, freshEn
 ghost use Rattle.card.specs.Calls.{offerOutcome, acceptOutcome, acceptMap, acceptEntries, acceptCard};
 ghost use Rattle.card.specs.Calls.{reserveOutcome, reserveMap, reserveEntries, reserveCard, growOutcome, growMap};
 ghost use Rattle.card.specs.Calls.{growEntries, growCard, putOutcome, putCard, completeOutcome, completeEntries};
-ghost use Rattle.card.specs.Calls.{pauseOutcome, pauseEntries, releaseOutcome, releaseMap, releaseEntries, showOutcome};
+ghost use Rattle.card.specs.Calls.{pauseOutcome, pauseEntries, resumeOutcome, resumeEntries};
+ghost use Rattle.card.specs.Calls.{releaseOutcome, releaseMap, releaseEntries, showOutcome};
 ghost use Rattle.card.specs.Calls.{showBuffer, standingOutcome, saveOutcome, saveScratch, saveImage, loadOutcome};
 ghost use Rattle.card.specs.Calls.{loadMap, loadEntries, loadScratch};
 use catalogue::Entry;
@@ -225,7 +226,7 @@ impl Shape {
         cores::outcome_of(self, out)
     }
 
-    // Absent becomes Paused.
+    // Absent and Complete become Paused; start and length remain (document 02 (g)).
     pub fn pause(self, map: &[u64], catalogue: &mut [Entry], sheet: u32) -> Outcome
         ensures { λ r. let s = kept self (now (map .entry)) (now (catalogue .entry)) noCard in
             ⌜ (r ≡ pauseOutcome s sheet)
@@ -233,6 +234,19 @@ impl Shape {
     {
         let slot = catalogue::find(&*catalogue, sheet);
         let out = cores::pause_core(self, map, slot, sheet);
+        let entry = cores::entry_of(out);
+        catalogue::store(catalogue, sheet, entry);
+        cores::outcome_of(self, out)
+    }
+
+    // Paused with blocks becomes Complete (document 02 (g)).
+    pub fn resume(self, map: &[u64], catalogue: &mut [Entry], sheet: u32) -> Outcome
+        ensures { λ r. let s = kept self (now (map .entry)) (now (catalogue .entry)) noCard in
+            ⌜ (r ≡ resumeOutcome s sheet)
+            × (now (catalogue .exit) ≡ resumeEntries s sheet) ⌝ }
+    {
+        let slot = catalogue::find(&*catalogue, sheet);
+        let out = cores::resume_core(self, map, slot, sheet);
         let entry = cores::entry_of(out);
         catalogue::store(catalogue, sheet, entry);
         cores::outcome_of(self, out)

@@ -12,7 +12,7 @@ use Rattle.laws.proofs.Bools.{and-left, and-right}
 use Rattle.catalogue.specs.declared.Entry.{Entry}
 use Rattle.catalogue_standings.specs.Standings.{extentHolds, standingOf, isDamaged, lengthOf}
 use Rattle.catalogue_standings.specs.declared.Standing.{Standing}
-use Rattle.catalogue_standings.specs.declared.Standing.the-variants.{Absent, Paused, Open, Complete, Damaged}
+use Rattle.catalogue_standings.specs.declared.Standing.the-variants.{Absent, Paused, PausedWith, Open, Complete, Damaged}
 
 pub record Inside (n : ℕ) (e : Entry) (s : Standing) : Type 0 where
   pub lasts : lengthOf s ≡ e .length
@@ -46,18 +46,24 @@ module _ (n : ℕ) (free : ℕ → Bool) (e : Entry) where
       let c : Bool = all (λ t. not (free t)) (e .start) (e .length) in
       record { lasts = z; inside = leb-true (e .start + e .length) n (and-right a b (and-left (a && b) c q)) }
 
+  -- a pause without blocks, or with an extent that holds
+  pausing : (s : Standing) → lengthOf s ≡ e .length → (b : Bool) → zeros ≡ b
+      → isDamaged (cond b Paused (cond holds s Damaged)) ≡ false → Inside n e (cond b Paused (cond holds s Damaged))
+  pausing s z true q d = without Paused refl true q d
+  pausing s z false q d = reaching s z holds refl d
+
   -- the standing, by which marks the entry's is
   abbrev said : Bool → Bool → Bool → Bool → Standing
   said p q o k =
       cond p (cond zeros Absent Damaged)
-      (cond q (cond zeros Paused Damaged)
+      (cond q (cond zeros Paused (cond holds (PausedWith (e .start) (e .length)) Damaged))
       (cond o (cond holds (Open (e .start) (e .length)) Damaged)
       (cond k (cond holds (Complete (e .start) (e .length)) Damaged)
       Damaged)))
 
   by-mark : (p q o k : Bool) → isDamaged (said p q o k) ≡ false → Inside n e (said p q o k)
   by-mark true q o k d = without Absent refl zeros refl d
-  by-mark false true o k d = without Paused refl zeros refl d
+  by-mark false true o k d = pausing (PausedWith (e .start) (e .length)) refl zeros refl d
   by-mark false false true k d = reaching (Open (e .start) (e .length)) refl holds refl d
   by-mark false false false true d = reaching (Complete (e .start) (e .length)) refl holds refl d
   by-mark false false false false d = absurd (true≢false d)

@@ -17,9 +17,9 @@ use Rattle.catalogue_standings.proofs.Standing as StandingType
 use Rattle.catalogue_standings.specs.Openings.{openedOf, unlessDamaged, rowOf}
 use Rattle.catalogue_standings.specs.Rows.{Row, row, Verdict, accepted, refused, firstOf}
 use Rattle.catalogue_standings.specs.Standings.{extentHolds, standingOf, isAbsent, isPaused, isOpen, isComplete}
-use Rattle.catalogue_standings.specs.Standings.{isDamaged}
+use Rattle.catalogue_standings.specs.Standings.{isPausedWithout, isDamaged}
 use Rattle.catalogue_standings.specs.declared.Standing.{Standing}
-use Rattle.catalogue_standings.specs.declared.Standing.the-variants.{Absent, Paused, Open, Complete, Damaged}
+use Rattle.catalogue_standings.specs.declared.Standing.the-variants.{Absent, Paused, PausedWith, Open, Complete, Damaged}
 use Rattle.catalogue_standings.specs.declared.Opened.the-variants.{Refused, Stands}
 
 -- ---- rows one after the other
@@ -49,6 +49,7 @@ closed true c sheet s rows number e = go (leb c sheet) s e
     go true s e = cc
     go false Absent e = cc
     go false Paused e = cc
+    go false (PausedWith a b) e = cc
     go false (Open a b) e = cc
     go false (Complete a b) e = cc
     go false Damaged e = cc
@@ -81,6 +82,7 @@ opened true c sheet s t rows e = go (leb c sheet) refl s e
     go true q s e = absurd (never 2 e)
     go false q Absent e = made false q Absent refl (cc) refl
     go false q Paused e = made false q Paused refl (cc) refl
+    go false q (PausedWith a b) e = made false q (PausedWith a b) refl (cc) refl
     go false q (Open a b) e = made false q (Open a b) refl (cc) refl
     go false q (Complete a b) e = made false q (Complete a b) refl (cc) refl
     go false q Damaged e = absurd (never 4 e)
@@ -111,35 +113,73 @@ held n free e h =
 
 -- ---- a standing that a call does not admit is refused by its own row
 
+-- by the numbers of the variants, from Absent, 0, to Damaged, 5
 abbrev pub Not : List ℕ → Standing → Type 0
 Not tags s = Run.OneOf tags (Declared.tagOf StandingType.the-type s)
 
-pub not-absent : (s : Standing) (rows : List Row) → Not (1 ∷ 2 ∷ 3 ∷ 4 ∷ []) s → isDamaged s ≡ false
+abbrev pub NotAbsent : Standing → Type 0
+NotAbsent = Not (1 ∷ 2 ∷ 3 ∷ 4 ∷ 5 ∷ [])
+
+abbrev pub NotPausedWith : Standing → Type 0
+NotPausedWith = Not (0 ∷ 1 ∷ 3 ∷ 4 ∷ 5 ∷ [])
+
+abbrev pub NotOpen : Standing → Type 0
+NotOpen = Not (0 ∷ 1 ∷ 2 ∷ 4 ∷ 5 ∷ [])
+
+abbrev pub NotComplete : Standing → Type 0
+NotComplete = Not (0 ∷ 1 ∷ 2 ∷ 3 ∷ 5 ∷ [])
+
+pub not-absent : (s : Standing) (rows : List Row) → NotAbsent s → isDamaged s ≡ false
     → firstOf (row 6 (isPaused s) ∷ row 7 (isOpen s) ∷ row 8 (isComplete s) ∷ rows) ≡ refused (rowOf s)
 unfolding firstOf
-not-absent Absent rows t d = absurd (Run.miss (1 ∷ 2 ∷ 3 ∷ 4 ∷ []) 0 tt t)
+not-absent Absent rows t d = absurd (Run.miss (1 ∷ 2 ∷ 3 ∷ 4 ∷ 5 ∷ []) 0 tt t)
 not-absent Paused rows t d = refl
+not-absent (PausedWith a b) rows t d = refl
 not-absent (Open a b) rows t d = refl
 not-absent (Complete a b) rows t d = refl
 not-absent Damaged rows t d = absurd (true≢false d)
 
-pub not-open : (s : Standing) (rows : List Row) → Not (0 ∷ 1 ∷ 3 ∷ 4 ∷ []) s → isDamaged s ≡ false
+pub not-open : (s : Standing) (rows : List Row) → NotOpen s → isDamaged s ≡ false
     → firstOf (row 5 (isAbsent s) ∷ row 6 (isPaused s) ∷ row 8 (isComplete s) ∷ rows) ≡ refused (rowOf s)
 unfolding firstOf
 not-open Absent rows t d = refl
 not-open Paused rows t d = refl
-not-open (Open a b) rows t d = absurd (Run.miss (0 ∷ 1 ∷ 3 ∷ 4 ∷ []) 2 tt t)
+not-open (PausedWith a b) rows t d = refl
+not-open (Open a b) rows t d = absurd (Run.miss (0 ∷ 1 ∷ 2 ∷ 4 ∷ 5 ∷ []) 3 tt t)
 not-open (Complete a b) rows t d = refl
 not-open Damaged rows t d = absurd (true≢false d)
 
-pub not-complete : (s : Standing) (rows : List Row) → Not (0 ∷ 1 ∷ 2 ∷ 4 ∷ []) s → isDamaged s ≡ false
+pub not-complete : (s : Standing) (rows : List Row) → NotComplete s → isDamaged s ≡ false
     → firstOf (row 5 (isAbsent s) ∷ row 6 (isPaused s) ∷ row 7 (isOpen s) ∷ rows) ≡ refused (rowOf s)
 unfolding firstOf
 not-complete Absent rows t d = refl
 not-complete Paused rows t d = refl
+not-complete (PausedWith a b) rows t d = refl
 not-complete (Open a b) rows t d = refl
-not-complete (Complete a b) rows t d = absurd (Run.miss (0 ∷ 1 ∷ 2 ∷ 4 ∷ []) 3 tt t)
+not-complete (Complete a b) rows t d = absurd (Run.miss (0 ∷ 1 ∷ 2 ∷ 3 ∷ 5 ∷ []) 4 tt t)
 not-complete Damaged rows t d = absurd (true≢false d)
+
+-- pause admits two standings
+pub not-absent-or-complete : (s : Standing) (rows : List Row) → NotAbsent s → NotComplete s → isDamaged s ≡ false
+    → firstOf (row 6 (isPaused s) ∷ row 7 (isOpen s) ∷ rows) ≡ refused (rowOf s)
+unfolding firstOf
+not-absent-or-complete Absent rows a c d = absurd (Run.miss (1 ∷ 2 ∷ 3 ∷ 4 ∷ 5 ∷ []) 0 tt a)
+not-absent-or-complete Paused rows a c d = refl
+not-absent-or-complete (PausedWith s l) rows a c d = refl
+not-absent-or-complete (Open s l) rows a c d = refl
+not-absent-or-complete (Complete s l) rows a c d = absurd (Run.miss (0 ∷ 1 ∷ 2 ∷ 3 ∷ 5 ∷ []) 4 tt c)
+not-absent-or-complete Damaged rows a c d = absurd (true≢false d)
+
+pub not-paused-with : (s : Standing) (rows : List Row) → NotPausedWith s → isDamaged s ≡ false
+    → firstOf (row 5 (isAbsent s) ∷ row 6 (isPausedWithout s) ∷ row 7 (isOpen s) ∷ row 8 (isComplete s) ∷ rows)
+    ≡ refused (rowOf s)
+unfolding firstOf
+not-paused-with Absent rows t d = refl
+not-paused-with Paused rows t d = refl
+not-paused-with (PausedWith a b) rows t d = absurd (Run.miss (0 ∷ 1 ∷ 3 ∷ 4 ∷ 5 ∷ []) 2 tt t)
+not-paused-with (Open a b) rows t d = refl
+not-paused-with (Complete a b) rows t d = refl
+not-paused-with Damaged rows t d = absurd (true≢false d)
 
 -- ---- a standing that a call admits passes
 
@@ -160,6 +200,19 @@ unfolding firstOf
 is-complete s start blocks rows e =
     ap (λ (t : Standing). firstOf (row 5 (isAbsent t) ∷ row 6 (isPaused t) ∷ row 7 (isOpen t) ∷ rows)) e
 
+pub is-paused-with : (s : Standing) (start blocks : ℕ) (rows : List Row) → s ≡ PausedWith start blocks
+    → firstOf (row 5 (isAbsent s) ∷ row 6 (isPausedWithout s) ∷ row 7 (isOpen s) ∷ row 8 (isComplete s) ∷ rows) ≡ firstOf rows
+unfolding firstOf
+is-paused-with s start blocks rows e =
+    ap (λ (t : Standing). firstOf (row 5 (isAbsent t) ∷ row 6 (isPausedWithout t) ∷ row 7 (isOpen t) ∷ row 8 (isComplete t)
+    ∷ rows)) e
+
+pub neither-paused-nor-open : (s t : Standing) (rows : List Row) → isPaused t ≡ false → isOpen t ≡ false → s ≡ t
+    → firstOf (row 6 (isPaused s) ∷ row 7 (isOpen s) ∷ rows) ≡ firstOf rows
+unfolding firstOf
+neither-paused-nor-open s t rows p o e =
+    ap (λ (r : Standing). firstOf (row 6 (isPaused r) ∷ row 7 (isOpen r) ∷ rows)) e ∙ simp (p, o)
+
 pub none-left : firstOf [] ≡ accepted
 unfolding firstOf
 none-left = refl
@@ -171,6 +224,12 @@ plain : (t : Standing → Bool) (b : Bool) (s r : Standing) → t s ≡ false �
     → ⊥
 plain t true s r p d q e = true≢false (sym q ∙ ap t (sym e) ∙ p)
 plain t false s r p d q e = true≢false (sym q ∙ ap t (sym e) ∙ d)
+
+-- nor a pause, in either form
+paused : (t : Standing → Bool) (zeros holds : Bool) (s r : Standing) → t Paused ≡ false → t s ≡ false → t Damaged ≡ false
+    → t r ≡ true → cond zeros Paused (cond holds s Damaged) ≡ r → ⊥
+paused t true holds s r z p d q e = true≢false (sym q ∙ ap t (sym e) ∙ z)
+paused t false holds s r z p d q e = plain t holds s r p d q e
 
 holding : (b : Bool) (s r : Standing) (t : Standing → Bool) → t Damaged ≡ false → t r ≡ true → cond b s Damaged ≡ r
     → (b ≡ true) × (s ≡ r)
@@ -197,13 +256,15 @@ module _ (n : ℕ) (free : ℕ → Bool) (e : Entry) where
           (subst (λ (y : ℕ). Extent n free e (e .start) y) b (held n free e (r .0)))
 
       go : (p q o k : Bool)
-          → cond p (cond zeros Absent Damaged) (cond q (cond zeros Paused Damaged)
+          → cond p (cond zeros Absent Damaged)
+          (cond q (cond zeros Paused (cond holds (PausedWith (e .start) (e .length)) Damaged))
           (cond o (cond holds (Open (e .start) (e .length)) Damaged)
           (cond k (cond holds (Complete (e .start) (e .length)) Damaged) Damaged)))
           ≡ Open start blocks
           → Extent n free e start blocks
       go true q o k h = absurd (plain isOpen zeros Absent (Open start blocks) refl refl refl h)
-      go false true o k h = absurd (plain isOpen zeros Paused (Open start blocks) refl refl refl h)
+      go false true o k h =
+          absurd (paused isOpen zeros holds (PausedWith (e .start) (e .length)) (Open start blocks) refl refl refl refl h)
       go false false true k h = made (holding holds (Open (e .start) (e .length)) (Open start blocks) isOpen refl refl h)
       go false false false true h =
           absurd (plain isOpen holds (Complete (e .start) (e .length)) (Open start blocks) refl refl refl h)
@@ -228,13 +289,16 @@ module _ (n : ℕ) (free : ℕ → Bool) (e : Entry) where
           (subst (λ (y : ℕ). Extent n free e (e .start) y) b (held n free e (r .0)))
 
       go : (p q o k : Bool)
-          → cond p (cond zeros Absent Damaged) (cond q (cond zeros Paused Damaged)
+          → cond p (cond zeros Absent Damaged)
+          (cond q (cond zeros Paused (cond holds (PausedWith (e .start) (e .length)) Damaged))
           (cond o (cond holds (Open (e .start) (e .length)) Damaged)
           (cond k (cond holds (Complete (e .start) (e .length)) Damaged) Damaged)))
           ≡ Complete start blocks
           → Extent n free e start blocks
       go true q o k h = absurd (plain isComplete zeros Absent (Complete start blocks) refl refl refl h)
-      go false true o k h = absurd (plain isComplete zeros Paused (Complete start blocks) refl refl refl h)
+      go false true o k h =
+          absurd (paused isComplete zeros holds (PausedWith (e .start) (e .length)) (Complete start blocks) refl refl refl refl
+          h)
       go false false true k h =
           absurd (plain isComplete holds (Open (e .start) (e .length)) (Complete start blocks) refl refl refl h)
       go false false false true h =

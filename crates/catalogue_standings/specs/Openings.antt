@@ -4,7 +4,7 @@ use Prim.Native.Nat.{ℕ}
 use mathlib.Core.Bool.{Bool, cond}
 use lib.Dec.{leb}
 use Rattle.catalogue_standings.specs.declared.Standing.{Standing}
-use Rattle.catalogue_standings.specs.declared.Standing.the-variants.{Absent, Paused, Open, Complete, Damaged}
+use Rattle.catalogue_standings.specs.declared.Standing.the-variants.{Absent, Paused, PausedWith, Open, Complete, Damaged}
 use Rattle.catalogue_standings.specs.declared.Opened.{Opened}
 use Rattle.catalogue_standings.specs.declared.Opened.the-variants.{Refused, Stands}
 
@@ -12,6 +12,7 @@ use Rattle.catalogue_standings.specs.declared.Opened.the-variants.{Refus
 abbrev pub rowOf : Standing → ℕ
 rowOf Absent = 5
 rowOf Paused = 6
+rowOf (PausedWith s l) = 6
 rowOf (Open s l) = 7
 rowOf (Complete s l) = 8
 rowOf Damaged = 4
@@ -19,6 +20,7 @@ rowOf Damaged = 4
 abbrev pub unlessDamaged : Standing → Opened
 unlessDamaged Absent = Stands Absent
 unlessDamaged Paused = Stands Paused
+unlessDamaged (PausedWith s l) = Stands (PausedWith s l)
 unlessDamaged (Open s l) = Stands (Open s l)
 unlessDamaged (Complete s l) = Stands (Complete s l)
 unlessDamaged Damaged = Refused 4

@@ -2,10 +2,12 @@
 // caller gets instead"); and the answers of a call.
 pub mod opening;
 
-// What an entry says. An Open and a Complete sheet have a start and a length.
+// What an entry says. An Open and a Complete sheet have a start and a length. A paused sheet has blocks or none: it was Absent
+// before (`Paused`), or it was Complete and keeps start and length (`PausedWith`; document 02 (g)).
 pub enum Standing {
     Absent,
     Paused,
+    PausedWith(u32, u32),
     Open(u32, u32),
     Complete(u32, u32),
     Damaged,

@@ -81,7 +81,7 @@ pub fn decode(n: u32, map: &[u64], entry: Entry) -> Standing
         return without_extent(start, blocks, Standing::Absent);
     }
     if mark == PAUSED {
-        return without_extent(start, blocks, Standing::Paused);
+        return either_pause(n, map, start, blocks);
     }
     if mark == OPEN {
         return with_extent(n, map, start, blocks, Standing::Open(start, blocks));
@@ -104,6 +104,18 @@ fn without_extent(start: u32, blocks: u32, stands: Standing) -> Standing
     Standing::Damaged
 }
 
+// A pause without blocks has start 0; one with blocks an extent, which must hold.
+fn either_pause(n: u32, map: &[u64], start: u32, blocks: u32) -> Standing
+    requires { ⌜ (n ≤ 262144) × (n ≤ 64 * length (now map)) ⌝ }
+    ensures { λ r. ⌜ r ≡ cond (eqb start 0 && eqb blocks 0) Standing.Paused
+        (cond (extentHolds n (free (now (map .entry))) start blocks) (Standing.PausedWith start blocks) Standing.Damaged) ⌝ }
+{
+    if blocks == 0 {
+        return without_extent(start, blocks, Standing::Paused);
+    }
+    with_extent(n, map, start, blocks, Standing::PausedWith(start, blocks))
+}
+
 // A standing with an extent, which must hold.
 fn with_extent(n: u32, map: &[u64], start: u32, blocks: u32, stands: Standing) -> Standing
     requires { ⌜ (n ≤ 262144) × (n ≤ 64 * length (now map)) ⌝ }
@@ -122,6 +134,7 @@ fn unless_damaged(stands: Standing) -> Opened
     match stands {
         Standing::Absent => Opened::Stands(Standing::Absent),
         Standing::Paused => Opened::Stands(Standing::Paused),
+        Standing::PausedWith(start, blocks) => Opened::Stands(Standing::PausedWith(start, blocks)),
         Standing::Open(start, blocks) => Opened::Stands(Standing::Open(start, blocks)),
         Standing::Complete(start, blocks) => Opened::Stands(Standing::Complete(start, blocks)),
         Standing::Damaged => Opened::Refused(4),
@@ -135,6 +148,7 @@ pub fn row_of(stands: Standing) -> u32
     match stands {
         Standing::Absent => 5,
         Standing::Paused => 6,
+        Standing::PausedWith(_, _) => 6,
         Standing::Open(_, _) => 7,
         Standing::Complete(_, _) => 8,
         Standing::Damaged => 4,

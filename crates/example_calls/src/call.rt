@@ -32,6 +32,8 @@ const COMPLETE: u64 = 0x636f_6d70_6c65_7465;
 
 const PAUSE: u64 = 0x70_6175_7365;
 
+const RESUME: u64 = 0x7265_7375_6d65;
+
 const RELEASE: u64 = 0x72_656c_6561_7365;
 
 const SHOW: u64 = 0x7368_6f77;
@@ -55,6 +57,7 @@ fn look(map: &[u64], card: &[u8], s: Setup) -> Turn
         OFFER => lend::offer(shape, map, entries, s.sheets, card, l.c, l.d),
         COMPLETE => lend::complete(shape, map, entries, s.sheets, card, l.d),
         PAUSE => lend::pause(shape, map, entries, s.sheets, l.d),
+        RESUME => lend::resume(shape, map, entries, s.sheets, l.d),
         SHOW => {
             let mut array = payload::buffer();
             let all: &mut [u8] = &mut array;

@@ -146,6 +146,14 @@ pub fn pause(shape: Shape, map: &[u64], entries: [Entry; 1025], c: usize, sheet:
     turn_of(outcome, all)
 }
 
+pub fn resume(shape: Shape, map: &[u64], entries: [Entry; 1025], c: usize, sheet: u32) -> Turn
+    requires { ⌜ c ≤ 1025 ⌝ }
+{
+    let mut all = entries;
+    let outcome = shape.resume(map, &mut all[..c], sheet);
+    turn_of(outcome, all)
+}
+
 pub fn release(shape: Shape, map: &mut [u64], entries: [Entry; 1025], c: usize, sheet: u32) -> Turn
     requires { ⌜ c ≤ 1025 ⌝ }
 {

@@ -26,7 +26,7 @@ zero-row number true rows n f e = absurd (n e)
 zero-row number false rows n f e = f e
 
 -- a row that does not hold, of an accepted call
-row-passed : (number : ℕ) (test : Bool) (rows : List Row) → firstOf (row number (not test) ∷ rows) ≡ accepted
+pub row-passed : (number : ℕ) (test : Bool) (rows : List Row) → firstOf (row number (not test) ∷ rows) ≡ accepted
     → (test ≡ true) × (firstOf rows ≡ accepted)
 unfolding firstOf
 row-passed number true rows e = (refl, e)

@@ -17,14 +17,17 @@ unfoldable pub saveFits : ℕ → ℕ → ℕ → ℕ → ℕ → Bool
 saveFits n spare c maplen scratchlen = shapeFits n spare maplen && sheetsFit c && eqb scratchlen maplen
 
 -- Save, of a state, with a scratch and a buffer of these lengths: 1, 4, then 12 unless the buffer is exactly the image's
--- length.
-unfoldable pub saveRows : State → ℕ → ℕ → List Row
-unfolding saveFits
-saveRows s scratchlen bufferlen =
+-- length. `whole`: the state is sound.
+abbrev pub saveRowsIf : Bool → State → ℕ → ℕ → List Row
+saveRowsIf whole s scratchlen bufferlen =
     row 1 (not (saveFits (s .blocks) (s .spare) (length (s .entries)) (length (s .map)) scratchlen))
-    ∷ row 4 (not (sound s))
+    ∷ row 4 (not whole)
     ∷ row 12 (not (eqb bufferlen (512 * framesFor (s .blocks) (length (s .entries)))))
     ∷ []
+
+unfoldable pub saveRows : State → ℕ → ℕ → List Row
+unfolding saveFits
+saveRows s scratchlen bufferlen = saveRowsIf (sound s) s scratchlen bufferlen
 
 -- 1 to 91 whole blocks.
 unfoldable pub wholeBlocks : ℕ → Bool
@@ -40,16 +43,19 @@ loadFits n c maplen count scratchlen = eqb maplen (wordsFor n) && eqb count c &&
 
 -- Load, of an image into a map, a catalogue and a scratch of these lengths: 12 unless 1 to 91 whole blocks; 13 if any frame's
 -- number, total or check is wrong; 14 if n, c or the free count is out of limits or the total doesn't fit them; 1 if a lent
--- length is another; 14 if the state isn't sound or the fill not zero.
-unfoldable pub loadRows : List ℕ → ℕ → ℕ → ℕ → List Row
-unfolding wholeBlocks headFits loadFits
-loadRows image maplen count scratchlen =
+-- length is another; 14 if the state isn't sound or the fill not zero. `whole`: the state that stands in the image is sound.
+abbrev pub loadRowsIf : Bool → List ℕ → ℕ → ℕ → ℕ → List Row
+loadRowsIf whole image maplen count scratchlen =
     row 12 (not (wholeBlocks (length image)))
     ∷ row 13 (not (framed image))
     ∷ row 14 (not (headFits (blocksIn image) (freeCountIn image) (sheetsIn image) (totalOf image)))
     ∷ row 1 (not (loadFits (blocksIn image) (sheetsIn image) maplen count scratchlen))
-    ∷ row 14 (not (sound (stateIn image) && filled image (blocksIn image) (sheetsIn image)))
+    ∷ row 14 (not (whole && filled image (blocksIn image) (sheetsIn image)))
     ∷ []
+
+unfoldable pub loadRows : List ℕ → ℕ → ℕ → ℕ → List Row
+unfolding wholeBlocks headFits loadFits
+loadRows image maplen count scratchlen = loadRowsIf (sound (stateIn image)) image maplen count scratchlen
 
 unfoldable pub saveVerdict : State → ℕ → ℕ → Verdict
 unfolding saveRows

@@ -15,14 +15,14 @@ use Rattle.map_blocks.proofs.Runs.{all-intro, all-elim}
 use Rattle.catalogue.specs.declared.Entry.{Entry}
 use Rattle.catalogue_standings.specs.Standings.{extentHolds, standingOf, isDamaged}
 use Rattle.catalogue_standings.specs.declared.Standing.{Standing}
-use Rattle.catalogue_standings.specs.declared.Standing.the-variants.{Absent, Paused, Open, Complete, Damaged}
+use Rattle.catalogue_standings.specs.declared.Standing.the-variants.{Absent, Paused, PausedWith, Open, Complete, Damaged}
 use Rattle.catalogue_standings.proofs.Entries.{inside-of}
 
 -- the standing by the entry's mark, by whether start and length are 0, and by whether its extent holds
 said : Entry → Bool → Bool → Bool → Bool → Bool → Bool → Standing
 said e p q o k zeros holds =
     cond p (cond zeros Absent Damaged)
-    (cond q (cond zeros Paused Damaged)
+    (cond q (cond zeros Paused (cond holds (PausedWith (e .start) (e .length)) Damaged))
     (cond o (cond holds (Open (e .start) (e .length)) Damaged)
     (cond k (cond holds (Complete (e .start) (e .length)) Damaged)
     Damaged)))
@@ -33,7 +33,8 @@ unfolding said
 either e true q o k true holds d = inl refl
 either e true q o k false holds d = absurd (true≢false d)
 either e false true o k true holds d = inl refl
-either e false true o k false holds d = absurd (true≢false d)
+either e false true o k false true d = inr refl
+either e false true o k false false d = absurd (true≢false d)
 either e false false true k zeros true d = inr refl
 either e false false true k zeros false d = absurd (true≢false d)
 either e false false false true zeros true d = inr refl

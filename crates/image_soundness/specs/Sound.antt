@@ -29,12 +29,15 @@ undamaged n f [] = true
 undamaged n f (e ∷ es) = not (isDamaged (standingOf n f e)) && undamaged n f es
 
 -- No entry is damaged; extents are disjoint; a block is free exactly when uncovered; bits from n on are 0; and the free count
--- is the number of free blocks.
-unfoldable pub sound : State → Bool
-unfolding coverings undamaged
-sound s =
-    undamaged (s .blocks) (free (s .map)) (s .entries)
+-- is the number of free blocks. Whether an entry is damaged is by the rule of its mark; the rest is said for any such rule.
+abbrev pub soundIf : Bool → State → Bool
+soundIf whole s =
+    whole
     && all (λ b. leb (coverings (s .entries) b) 1) 0 (s .blocks)
     && all (λ b. inState (s .map) (eqb (coverings (s .entries) b) 0) b) 0 (s .blocks)
     && all (inState (s .map) false) (s .blocks) (64 * length (s .map) - s .blocks)
     && eqb (s .spare) (countsOf (free (s .map)) (s .blocks) .free)
+
+unfoldable pub sound : State → Bool
+unfolding coverings undamaged
+sound s = soundIf (undamaged (s .blocks) (free (s .map)) (s .entries)) s

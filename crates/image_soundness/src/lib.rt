@@ -25,6 +25,7 @@ fn is_damaged(stands: Standing) -> bool
     match stands {
         Standing::Absent => false,
         Standing::Paused => false,
+        Standing::PausedWith(_, _) => false,
         Standing::Open(_, _) => false,
         Standing::Complete(_, _) => false,
         Standing::Damaged => true,

@@ -21,13 +21,15 @@ use Rattle.catalogue.specs.Entries.{entryAt}
 use Rattle.catalogue.specs.declared.Entry.{Entry}
 use Rattle.catalogue_standings.specs.Rows.{row, Verdict, refused, firstOf}
 use Rattle.catalogue_standings.specs.Standings.{extentHolds, standingOf, isDamaged}
+use Rattle.catalogue_standings.specs.declared.Standing.{Standing}
 use Rattle.refusals.specs.Table.{Ask, on, View, rowsFor, tableOf, verdictOf}
 use Rattle.catalogue_standings.specs.Limits.{shapeFits, sheetsFit}
 use Rattle.refusals.specs.Lent.{lent, noCard}
 use Rattle.refusals.specs.Views.{viewAt, viewOn}
 use Rattle.catalogue_standings.proofs.Openings.{skip, stop}
-use Rattle.ledger.specs.Ledger.{Place, Blank, Payload, Sheet, Absent, Paused, Open, Complete, standingIn, startIn}
-use Rattle.ledger.specs.Ledger.{lengthIn, isBlank, sheetAt, placeAt, cover, freeIn, spareIn, viewIn, listed, verdictIn}
+use Rattle.ledger.specs.Ledger.{Place, Blank, Payload, Sheet, Absent, Paused, PausedWith, Open, Complete, standingIn}
+use Rattle.ledger.specs.Ledger.{startIn, lengthIn, isBlank, sheetAt, placeAt, cover, freeIn, spareIn, viewIn, listed}
+use Rattle.ledger.specs.Ledger.{verdictIn}
 use Rattle.ledger.specs.Claim.{entryIn, blockIn}
 use Rattle.card.specs.Calls.{Kept}
 use Rattle.ledger.specs.Steps.{}
@@ -104,12 +106,27 @@ reads n l i places = record {
   sound = places .sound;
 }
 
+-- an entry with a length is no pause without blocks
+some-places : (start length : ℕ) (s t : Standing) → 1 ≤ length → cond (eqb start 0 && eqb length 0) s t ≡ t
+some-places start length s t h = go (eqb start 0) (eqb length 0) (ne-eqb length 0 (λ z. omega arith))
+  where
+    go : (a b : Bool) → b ≡ false → cond (a && b) s t ≡ t
+    go true b e = ap (λ (x : Bool). cond x s t) e
+    go false b e = refl
+
 stands-as : (n : ℕ) (free : ℕ → Bool) (x : Sheet) → Fine n x
     → ((b : ℕ) → startIn x ≤ b → b < startIn x + lengthIn x → free b ≡ false)
     → standingOf n free (entryIn x) ≡ standingIn x
 unfolding standingOf extentHolds
 stands-as n free Absent f h = refl
 stands-as n free Paused f h = refl
+stands-as n free (PausedWith s xs) f h =
+    some-places s (length xs) _ _ (f .needed)
+    ∙ simp (
+      le-leb 1 (length xs) (f .needed),
+      le-leb (s + length xs) n (f .inside),
+      all-intro (λ b. not (free b)) s (length xs) (λ b p q. ap not (h b p q)),
+    )
 stands-as n free (Open s ps) f h =
     simp (
       le-leb 1 (length ps) (f .needed),

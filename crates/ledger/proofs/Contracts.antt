@@ -21,11 +21,11 @@ use Rattle.catalogue_standings.specs.Limits.{freshFits, shapeFits, sheetsFit}
 use Rattle.catalogue_standings.specs.declared.Answer.the-variants.{Done, Refused}
 use Rattle.card.specs.Calls.{Kept, kept, told, isDone}
 use Rattle.card.specs.Contracts.{itself, Freshens, Reserves, ReservesPlaced, Grows, Puts, Completes, Shows, Pauses, Releases}
-use Rattle.card.specs.Contracts.{Offers, Accepts, TellsStanding}
+use Rattle.card.specs.Contracts.{Offers, Accepts, Resumes, TellsStanding}
 use Rattle.card.specs.declared.Shape.{Shape}
 use Rattle.card.specs.declared.Outcome.{Outcome}
 use Rattle.refusals.specs.Placement.{plain, placed, figures}
-use Rattle.refusals.specs.Table.{Call, on, reserve, put, grow, complete, pause, release, show, standing, offer, accept}
+use Rattle.refusals.specs.Table.{Call, on, reserve, put, grow, complete, pause, resume, release, show, standing, offer, accept}
 use Rattle.ledger.specs.Steps.{Response, endOf, Step, freshState}
 
 -- the state after a call, and its reply, by what the call handed back and left
@@ -86,6 +86,10 @@ module _ (s : Kept) (sheet : ℕ) (r : Outcome) where
   pub pause-step : (entries : List Entry) → Pauses itself s sheet r entries
       → Step s (on sheet pause) (replying r []) (leaving r (s .map) entries (s .card))
   pause-step entries h = met s (on sheet pause) r (s .map) entries (s .card) [] (h .0) refl (h .1) refl refl
+
+  pub resume-step : (entries : List Entry) → Resumes itself s sheet r entries
+      → Step s (on sheet resume) (replying r []) (leaving r (s .map) entries (s .card))
+  resume-step entries h = met s (on sheet resume) r (s .map) entries (s .card) [] (h .0) refl (h .1) refl refl
 
   pub release-step : (map : List ℕ) (entries : List Entry)
       → Releases itself s sheet r map entries

@@ -1,8 +1,8 @@
 -- The laws that the claim is proved by: of the ledger alone (Cover, Rows, Sheets, Listed, Search), of the state that it calls
--- for (Agreement, Marks, Keeping), and of the calls on that state (Results what they share, Taking what reserve and accept do,
--- step each by itself). Demand has the theorem, BlankPlaces which place the ledger answers with 9, Contracts that the steps are
--- the public calls' contracts, WholeCard what search and survey answer by theirs, Savable that every state that a list leaves
--- can be saved.
+-- for (Agreement, Marks, Keeping, SameBlocks), and of the calls on that state (Results what they share, Taking what reserve
+-- and accept do, step each by itself). Demand has the theorem, BlankPlaces which place the ledger answers with 9, Contracts
+-- that the steps are the public calls' contracts, WholeCard what search and survey answer by theirs, Savable that every state
+-- that a list leaves can be saved, Pauses that a sheet paused and resumed shows what it showed.
 pub mod Agreement
 pub mod BlankPlaces
 pub mod Contracts
@@ -11,9 +11,11 @@ pub mod Demand
 pub mod Keeping
 pub mod Listed
 pub mod Marks
+pub mod Pauses
 pub mod Results
 pub mod Rows
 pub mod Search
+pub mod SameBlocks
 pub mod Savable
 pub mod Sheets
 pub mod Taking

@@ -13,8 +13,8 @@ use Rattle.map_blocks.proofs.Runs.{all-elim}
 use Rattle.catalogue_standings.specs.Rows.{row, firstOf}
 use Rattle.catalogue_standings.specs.Standings.{isDamaged}
 use Rattle.refusals.specs.Table.{Ask, on, rowsFor, tableOf}
-use Rattle.ledger.specs.Ledger.{Place, Blank, Payload, Sheet, Absent, Paused, Open, Complete, standingIn, lengthIn}
-use Rattle.ledger.specs.Ledger.{placesIn, isBlank, bytesOf, sheetAt, placeAt, spareIn, viewIn, verdictIn}
+use Rattle.ledger.specs.Ledger.{Place, Blank, Payload, Sheet, Absent, Paused, PausedWith, Open, Complete, standingIn}
+use Rattle.ledger.specs.Ledger.{lengthIn, placesIn, isBlank, bytesOf, sheetAt, placeAt, spareIn, viewIn, verdictIn}
 use Rattle.ledger.proofs.Cover.{held, held-set, spare-and-held}
 use Rattle.ledger.proofs.Rows.{Never, never-listed}
 use Rattle.ledger.proofs.Sheets.{Sound, refilled}
@@ -34,6 +34,7 @@ or-not false = refl
 pub sheet-undamaged : (x : Sheet) → isDamaged (standingIn x) ≡ false
 sheet-undamaged Absent = refl
 sheet-undamaged Paused = refl
+sheet-undamaged (PausedWith s xs) = refl
 sheet-undamaged (Open s ps) = refl
 sheet-undamaged (Complete s xs) = refl
 

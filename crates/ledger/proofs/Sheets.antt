@@ -19,8 +19,8 @@ use Rattle.map_blocks.proofs.Fits.{fit-is}
 use Rattle.map_blocks.proofs.Runs.{all-elim}
 use Rattle.catalogue_standings.specs.Standings.{isAbsent, isPaused, isOpen, isComplete}
 use Rattle.refusals.proofs.Room.{fit-inside}
-use Rattle.ledger.specs.Ledger.{Place, Blank, Payload, Sheet, Absent, Paused, Open, Complete, standingIn, startIn}
-use Rattle.ledger.specs.Ledger.{lengthIn, placesIn, isBlank, bytesOf, sheetAt, covers, cover, freeIn}
+use Rattle.ledger.specs.Ledger.{Place, Blank, Payload, Sheet, Absent, Paused, PausedWith, Open, Complete, standingIn}
+use Rattle.ledger.specs.Ledger.{startIn, lengthIn, placesIn, isBlank, bytesOf, sheetAt, covers, cover, freeIn}
 use Rattle.ledger.proofs.Cover.{in-run, covers-in, covers-out, cover-set}
 
 -- ---- what an accepted call has shown of the sheet's standing
@@ -29,6 +29,7 @@ pub was-absent : (x : Sheet) → isPaused (standingIn x) ≡ false → isOpen (s
     → isComplete (standingIn x) ≡ false → x ≡ Absent
 was-absent Absent p o c = refl
 was-absent Paused p o c = absurd (true≢false p)
+was-absent (PausedWith s xs) p o c = absurd (true≢false p)
 was-absent (Open s ps) p o c = absurd (true≢false o)
 was-absent (Complete s xs) p o c = absurd (true≢false c)
 
@@ -37,6 +38,7 @@ pub was-open : (x : Sheet) → isAbsent (standingIn x) ≡ false → isPaused (s
     → (at : ℕ) × (ps : List Place) × (x ≡ Open at ps)
 was-open Absent a p c = absurd (true≢false a)
 was-open Paused a p c = absurd (true≢false p)
+was-open (PausedWith s xs) a p c = absurd (true≢false p)
 was-open (Open s ps) a p c = (s, ps, refl)
 was-open (Complete s xs) a p c = absurd (true≢false c)
 
@@ -45,6 +47,7 @@ pub was-complete : (x : Sheet) → isAbsent (standingIn x) ≡ false → isPause
     → (at : ℕ) × (xs : List (List ℕ)) × (x ≡ Complete at xs)
 was-complete Absent a p o = absurd (true≢false a)
 was-complete Paused a p o = absurd (true≢false p)
+was-complete (PausedWith s xs) a p o = absurd (true≢false p)
 was-complete (Open s ps) a p o = absurd (true≢false o)
 was-complete (Complete s xs) a p o = (s, xs, refl)
 
@@ -61,10 +64,11 @@ abbrev pub Sized : Place → Type 0
 Sized Blank = Unit {0}
 Sized (Payload bytes) = length bytes ≡ 496
 
--- Open and Complete have a place
-abbrev needs : Sheet → ℕ
+-- Open and Complete have a place, and so has a pause with blocks
+abbrev pub needs : Sheet → ℕ
 needs Absent = 0
 needs Paused = 0
+needs (PausedWith s xs) = 1
 needs (Open s ps) = 1
 needs (Complete s xs) = 1
 
@@ -104,10 +108,11 @@ payload-at [] p h = absurd (not-suc-le-zero h)
 payload-at (x ∷ xs) zero h = refl
 payload-at (x ∷ xs) (suc p) h = payload-at xs p (omega arith)
 
--- Open or Complete
+-- it has places
 abbrev pub holding : Sheet → Bool
 holding Absent = false
 holding Paused = false
+holding (PausedWith s xs) = true
 holding (Open s ps) = true
 holding (Complete s xs) = true
 
@@ -153,7 +158,7 @@ module _ (n : ℕ) (l : List Sheet) (ok : Sound n l) (i : ℕ) (lt : i < length 
   sound-none x f e = sound-set x f (λ b. omega (arith, covers-out x b (λ q. omega (arith, q .0, q .1)), ok .once b))
 
   -- a sheet that covers what it did
-  sound-same : (x : Sheet) → Fine n x → ((b : ℕ) → covers x b ≡ covers (sheetAt l i) b) → Sound n (set l i x)
+  pub sound-same : (x : Sheet) → Fine n x → ((b : ℕ) → covers x b ≡ covers (sheetAt l i) b) → Sound n (set l i x)
   sound-same x f e = sound-set x f (λ b. omega (arith, e b, ok .once b))
 
   -- a reserve at a fit

@@ -8,11 +8,12 @@ pub mod Pause
 pub mod Put
 pub mod Release
 pub mod Reserve
+pub mod Resume
 pub mod Show
 pub mod Standing
 use Prim.Native.Nat.{ℕ}
 use mathlib.Core.List.{List}
-use Rattle.refusals.specs.Table.{Call, on, reserve, put, grow, complete, pause, release, show, standing, offer, accept}
+use Rattle.refusals.specs.Table.{Call, on, reserve, put, grow, complete, pause, resume, release, show, standing, offer, accept}
 use Rattle.ledger.specs.Ledger.{Sheet, verdictIn}
 use Rattle.ledger.proofs.Agreement.{Matches}
 use Rattle.ledger.proofs.Results.{Result}
@@ -24,6 +25,7 @@ use Pause.{pause-result}
 use Put.{put-result}
 use Release.{release-result}
 use Reserve.{reserve-result}
+use Resume.{resume-result}
 use Show.{show-result}
 use Standing.{standing-result}
 
@@ -35,6 +37,7 @@ result n l card k (on i (put p payload)) = put-result n l card k i p payload
 result n l card k (on i (grow m)) = grow-result n l card k i m
 result n l card k (on i complete) = complete-result n l card k i
 result n l card k (on i pause) = pause-result n l card k i
+result n l card k (on i resume) = resume-result n l card k i
 result n l card k (on i release) = release-result n l card k i
 result n l card k (on i (show p buffer)) = show-result n l card k i p buffer
 result n l card k (on i standing) = standing-result n l card k i

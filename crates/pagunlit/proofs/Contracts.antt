@@ -20,7 +20,7 @@ use Rattle.pagunlit_replies.specs.Replies.{replyOf}
 use Rattle.refusals.specs.Lent.{noCard}
 use Rattle.card.specs.Calls.{kept}
 use Rattle.card.specs.Contracts.{Freshens, Searches, Surveys, Reserves, ReservesPlaced, Grows, Puts, Completes, Shows}
-use Rattle.card.specs.Contracts.{Offers, Accepts, Pauses, Releases, TellsStanding, Saves, Loads}
+use Rattle.card.specs.Contracts.{Offers, Accepts, Pauses, Resumes, Releases, TellsStanding, Saves, Loads}
 use Rattle.pagunlit.proofs.pagunlit_fresh as fresh-function
 use Rattle.pagunlit.proofs.pagunlit_search as search-function
 use Rattle.pagunlit.proofs.pagunlit_survey as survey-function
@@ -32,6 +32,7 @@ use Rattle.pagunlit.proofs.pagunlit_grow as grow-function
 use Rattle.pagunlit.proofs.pagunlit_put as put-function
 use Rattle.pagunlit.proofs.pagunlit_complete as complete-function
 use Rattle.pagunlit.proofs.pagunlit_pause as pause-function
+use Rattle.pagunlit.proofs.pagunlit_resume as resume-function
 use Rattle.pagunlit.proofs.pagunlit_release as release-function
 use Rattle.pagunlit.proofs.pagunlit_show as show-function
 use Rattle.pagunlit.proofs.pagunlit_standing as standing-function
@@ -99,6 +100,10 @@ module _ {M : Type 1} (𝓤 : URA M) (H : Heap 𝓤) (A : Atoms 𝓤) (mem : Mem
   pub pagunlit-pause-contract : Ensures 𝓤 pause-function.ended (pause-function.clauses 𝓤 H A mem run) (λ κs a r t.
       Pauses replyOf (kept (a .0) (now (a .1 .0)) (now (a .1 .1 .0)) noCard) (a .1 .1 .1 .0) r (now (t .1 .1 .0)))
   pagunlit-pause-contract κs a r t g = refl
+
+  pub pagunlit-resume-contract : Ensures 𝓤 resume-function.ended (resume-function.clauses 𝓤 H A mem run) (λ κs a r t.
+      Resumes replyOf (kept (a .0) (now (a .1 .0)) (now (a .1 .1 .0)) noCard) (a .1 .1 .1 .0) r (now (t .1 .1 .0)))
+  pagunlit-resume-contract κs a r t g = refl
 
   pub pagunlit-release-contract : Ensures 𝓤 release-function.ended (release-function.clauses 𝓤 H A mem run) (λ κs a r t.
       Releases replyOf (kept (a .0) (now (a .1 .0)) (now (a .1 .1 .0)) noCard) (a .1 .1 .1 .0)
@@ -175,6 +180,9 @@ module _ {M : Type 1} (𝓤 : URA M) (H : Heap 𝓤) (A : Atoms 𝓤) (mem : Mem
 
   pub pagunlit-pause-asks-nothing : AsksNothing 𝓤 pause-function.ended (pause-function.clauses 𝓤 H A mem run)
   pagunlit-pause-asks-nothing κs a g = refl
+
+  pub pagunlit-resume-asks-nothing : AsksNothing 𝓤 resume-function.ended (resume-function.clauses 𝓤 H A mem run)
+  pagunlit-resume-asks-nothing κs a g = refl
 
   pub pagunlit-release-asks-nothing : AsksNothing 𝓤 release-function.ended (release-function.clauses 𝓤 H A mem run)
   pagunlit-release-asks-nothing κs a g = refl

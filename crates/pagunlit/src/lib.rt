@@ -12,6 +12,7 @@ ghost use Rattle.card.specs.Calls.{kept, freshOutcome, freshMap, freshEntries, 
 ghost use Rattle.card.specs.Calls.{offerOutcome, acceptOutcome, acceptMap, acceptEntries, acceptCard};
 ghost use Rattle.card.specs.Calls.{reserveMap, reserveEntries, reserveCard, growOutcome, growMap, growEntries, growCard};
 ghost use Rattle.card.specs.Calls.{putOutcome, putCard, completeOutcome, completeEntries, pauseOutcome, pauseEntries};
+ghost use Rattle.card.specs.Calls.{resumeOutcome, resumeEntries};
 ghost use Rattle.card.specs.Calls.{releaseOutcome, releaseMap, releaseEntries, showOutcome, showBuffer, standingOutcome};
 ghost use Rattle.card.specs.Calls.{saveOutcome, saveScratch, saveImage, loadOutcome, loadMap, loadEntries, loadScratch};
 use card::Shape;
@@ -194,6 +195,21 @@ pub extern "C" fn pagunlit_pause(
         × (now (catalogue .exit) ≡ pauseEntries s sheet) ⌝ }
 {
     let outcome = shape.pause(map, catalogue, sheet);
+    reply_of(outcome)
+}
+
+#[no_mangle]
+pub extern "C" fn pagunlit_resume(
+    shape: Shape,
+    map: &[u64],
+    catalogue: &mut [Entry],
+    sheet: u32,
+) -> Reply
+    ensures { λ r. let s = kept shape (now (map .entry)) (now (catalogue .entry)) noCard in
+        ⌜ (r ≡ replyOf (resumeOutcome s sheet))
+        × (now (catalogue .exit) ≡ resumeEntries s sheet) ⌝ }
+{
+    let outcome = shape.resume(map, catalogue, sheet);
     reply_of(outcome)
 }
 

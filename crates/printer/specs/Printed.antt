@@ -40,6 +40,10 @@ pub record Printed : Type 0 where
   -- 7 P 0 0
   pub paused-sheet : sheetLine 7 (record { mark = 0x50; start = 0; length = 0 }) ≡ 0x37 ∷ 0x20 ∷ 0x50 ∷ 0x20 ∷ 0x30 ∷ 0x20
       ∷ 0x30 ∷ 0x0A ∷ []
+  -- 8 P 60 31 (document 02 (g))
+  pub paused-course :
+      sheetLine 8 (record { mark = 0x50; start = 60; length = 31 })
+      ≡ 0x38 ∷ 0x20 ∷ 0x50 ∷ 0x20 ∷ 0x36 ∷ 0x30 ∷ 0x20 ∷ 0x33 ∷ 0x31 ∷ 0x0A ∷ []
   -- 10 O 262143 1
   pub open-sheet :
       sheetLine 10 (record { mark = 0x4F; start = 262143; length = 1 })
@@ -57,6 +61,7 @@ printed = record {
   fresh-card = refl;
   worked-card = refl;
   paused-sheet = refl;
+  paused-course = refl;
   open-sheet = refl;
   complete-sheet = refl;
   refusal = refl;

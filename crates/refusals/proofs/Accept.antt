@@ -16,7 +16,7 @@ use Rattle.catalogue_standings.specs.Searches.{startWithSpace}
 use Rattle.catalogue_standings.specs.declared.Opened.the-variants.{Refused, Stands}
 use Rattle.catalogue_standings.specs.declared.Standing.{Standing}
 use Rattle.catalogue_standings.specs.declared.Standing.the-variants.{Absent}
-use Rattle.catalogue_standings.proofs.Openings.{Not, closed, skip, stop, none-left}
+use Rattle.catalogue_standings.proofs.Openings.{NotAbsent, closed, skip, stop, none-left}
 use Rattle.refusals.specs.Effects.{acceptVerdict, entryOf, outOf, refusalOut, acceptOut, acceptMap, acceptCard}
 use Rattle.refusals.specs.Effects.{takenOut, takenMap, takenCard}
 use Rattle.refusals.specs.Lent.{Lent}
@@ -38,7 +38,7 @@ module _ (q : Lent) (start k : ℕ) where
   unfolding acceptVerdict viewOn tableOf
   shut number h = closed _ _ _ _ _ number h
 
-  pub other : (s : Standing) → first q ≡ Stands s → Not (1 ∷ 2 ∷ 3 ∷ 4 ∷ []) s → acceptVerdictOn ≡ refused (rowOf s)
+  pub other : (s : Standing) → first q ≡ Stands s → NotAbsent s → acceptVerdictOn ≡ refused (rowOf s)
   unfolding acceptVerdict viewOn tableOf
   other s h differs = absent-else _ _ _ _ _ s h differs
 

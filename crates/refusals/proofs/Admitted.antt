@@ -11,17 +11,17 @@ use Rattle.catalogue_standings.specs.Standings.{isAbsent, isPaused, isOpen, isC
 use Rattle.catalogue_standings.specs.declared.Opened.the-variants.{Stands}
 use Rattle.catalogue_standings.specs.declared.Standing.{Standing}
 use Rattle.catalogue_standings.specs.declared.Standing.the-variants.{Absent, Open}
-use Rattle.catalogue_standings.proofs.Openings.{rowsOf, opened, not-absent, not-open, is-absent, is-open, Not}
+use Rattle.catalogue_standings.proofs.Openings.{rowsOf, opened, not-absent, not-open, is-absent, is-open, NotAbsent, NotOpen}
 
 module _ (fits : Bool) (c sheet : ℕ) (s : Standing) (rows : List Row) where
   abbrev absentOnly : List Row
   absentOnly = rowsOf fits c sheet s (row 6 (isPaused s) ∷ row 7 (isOpen s) ∷ row 8 (isComplete s) ∷ rows)
 
-  pub absent-else : (t : Standing) → openedOf fits c sheet s ≡ Stands t → Not (1 ∷ 2 ∷ 3 ∷ 4 ∷ []) t
+  pub absent-else : (t : Standing) → openedOf fits c sheet s ≡ Stands t → NotAbsent t
       → firstOf absentOnly ≡ refused (rowOf t)
   absent-else t h differs =
       let o = opened fits c sheet s t _ h in
-      o .verdict ∙ not-absent s rows (subst (Not (1 ∷ 2 ∷ 3 ∷ 4 ∷ [])) (sym (o .same)) differs) (o .whole)
+      o .verdict ∙ not-absent s rows (subst NotAbsent (sym (o .same)) differs) (o .whole)
       ∙ ap (λ (t : Standing). refused (rowOf t)) (o .same)
 
   pub absent-passes : openedOf fits c sheet s ≡ Stands Absent → firstOf absentOnly ≡ firstOf rows
@@ -32,11 +32,11 @@ module _ (fits : Bool) (c sheet : ℕ) (s : Standing) (rows : List Row) where
   abbrev openOnly : List Row
   openOnly = rowsOf fits c sheet s (row 5 (isAbsent s) ∷ row 6 (isPaused s) ∷ row 8 (isComplete s) ∷ rows)
 
-  pub open-else : (t : Standing) → openedOf fits c sheet s ≡ Stands t → Not (0 ∷ 1 ∷ 3 ∷ 4 ∷ []) t
+  pub open-else : (t : Standing) → openedOf fits c sheet s ≡ Stands t → NotOpen t
       → firstOf openOnly ≡ refused (rowOf t)
   open-else t h differs =
       let o = opened fits c sheet s t _ h in
-      o .verdict ∙ not-open s rows (subst (Not (0 ∷ 1 ∷ 3 ∷ 4 ∷ [])) (sym (o .same)) differs) (o .whole)
+      o .verdict ∙ not-open s rows (subst NotOpen (sym (o .same)) differs) (o .whole)
       ∙ ap (λ (t : Standing). refused (rowOf t)) (o .same)
 
   pub open-passes : (start blocks : ℕ) → openedOf fits c sheet s ≡ Stands (Open start blocks) → firstOf openOnly ≡ firstOf rows

@@ -17,7 +17,7 @@ use Rattle.catalogue_standings.specs.Rows.{refused}
 use Rattle.catalogue_standings.specs.Searches.{startAt}
 use Rattle.catalogue_standings.specs.Standings.{standingOf, isDamaged, lengthOf}
 use Rattle.catalogue_standings.specs.declared.Standing.{Standing}
-use Rattle.catalogue_standings.specs.declared.Standing.the-variants.{Absent, Paused, Open, Complete, Damaged}
+use Rattle.catalogue_standings.specs.declared.Standing.the-variants.{Absent, Paused, PausedWith, Open, Complete, Damaged}
 use Rattle.catalogue_standings.proofs.Entries.{inside-of}
 use Rattle.refusals.specs.Effects.{completeVerdict, blankPlace}
 use Rattle.refusals.specs.Lent.{Lent}
@@ -65,6 +65,7 @@ module _ (q : Lent) where
   whole : (s : Standing) (p : ℕ) → p < lengthOf s → isDamaged s ≡ false
   whole Absent p h = refl
   whole Paused p h = refl
+  whole (PausedWith start blocks) p h = refl
   whole (Open start blocks) p h = refl
   whole (Complete start blocks) p h = refl
   whole Damaged p h = absurd (omega arith)

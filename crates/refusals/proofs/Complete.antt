@@ -21,11 +21,11 @@ use Rattle.catalogue_standings.specs.declared.Answer.the-variants as answer
 use Rattle.catalogue_standings.specs.declared.Opened.the-variants.{Refused, Stands}
 use Rattle.refusals.specs.declared.Out.{Out}
 use Rattle.catalogue_standings.specs.declared.Standing.{Standing}
-use Rattle.catalogue_standings.specs.declared.Standing.the-variants.{Absent, Paused, Open, Complete, Damaged}
+use Rattle.catalogue_standings.specs.declared.Standing.the-variants.{Absent, Paused, PausedWith, Open, Complete, Damaged}
 use Rattle.refusals.proofs.Admitted.{open-else, open-passes}
 use Rattle.refusals.specs.Lent.{Lent}
 use Rattle.refusals.proofs.Lent.{allFits, standing, first, extent}
-use Rattle.catalogue_standings.proofs.Openings.{Not, closed, opened}
+use Rattle.catalogue_standings.proofs.Openings.{NotOpen, closed, opened}
 
 -- ---- no row but the last is 9
 
@@ -46,6 +46,7 @@ opening-row fits c sheet s number e = go fits (leb c sheet) s e
     go true true s e = is 2 refl e
     go true false Absent e = absurd (never Absent e)
     go true false Paused e = absurd (never Paused e)
+    go true false (PausedWith a b) e = absurd (never (PausedWith a b) e)
     go true false (Open a b) e = absurd (never (Open a b) e)
     go true false (Complete a b) e = absurd (never (Complete a b) e)
     go true false Damaged e = is 4 refl e
@@ -53,6 +54,7 @@ opening-row fits c sheet s number e = go fits (leb c sheet) s e
 pub standing-row : (s : Standing) → eqb (rowOf s) 9 ≡ false
 standing-row Absent = refl
 standing-row Paused = refl
+standing-row (PausedWith a b) = refl
 standing-row (Open a b) = refl
 standing-row (Complete a b) = refl
 standing-row Damaged = refl
@@ -85,7 +87,7 @@ module _ (q : Lent) where
   unfolding completeVerdict viewOn tableOf
   shut number h = closed _ _ _ _ _ number h
 
-  pub other : (s : Standing) → first q ≡ Stands s → Not (0 ∷ 1 ∷ 3 ∷ 4 ∷ []) s → verdict ≡ refused (rowOf s)
+  pub other : (s : Standing) → first q ≡ Stands s → NotOpen s → verdict ≡ refused (rowOf s)
   unfolding completeVerdict viewOn tableOf
   other s h differs = open-else _ _ _ _ _ s h differs
 

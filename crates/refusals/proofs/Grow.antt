@@ -23,7 +23,7 @@ use Rattle.catalogue_standings.specs.declared.Standing.the-variants.{Open}
 use Rattle.refusals.proofs.Admitted.{open-else, open-passes}
 use Rattle.refusals.specs.Lent.{Lent}
 use Rattle.refusals.proofs.Lent.{allFits, standing, first}
-use Rattle.catalogue_standings.proofs.Openings.{Not, closed, opened, skip, stop, none-left}
+use Rattle.catalogue_standings.proofs.Openings.{NotOpen, closed, opened, skip, stop, none-left}
 use Rattle.refusals.proofs.Room.{growVerdictOn}
 use Rattle.map_blocks.specs.Maps.{marked}
 use Rattle.blocks_of_card.specs.Card.{zeroed}
@@ -37,7 +37,7 @@ module _ (q : Lent) (m : ℕ) where
   unfolding growVerdict viewOn tableOf
   shut number h = closed _ _ _ _ _ number h
 
-  pub other : (s : Standing) → first q ≡ Stands s → Not (0 ∷ 1 ∷ 3 ∷ 4 ∷ []) s → growVerdictOn q m ≡ refused (rowOf s)
+  pub other : (s : Standing) → first q ≡ Stands s → NotOpen s → growVerdictOn q m ≡ refused (rowOf s)
   unfolding growVerdict viewOn tableOf
   other s h differs = open-else _ _ _ _ _ s h differs
 

@@ -13,6 +13,7 @@ pub mod Grow
 pub mod Complete
 pub mod BlankPlaces
 pub mod Pause
+pub mod Resume
 pub mod Release
 pub mod Show
 pub mod Standing

@@ -25,14 +25,15 @@ use Rattle.catalogue_standings.specs.declared.Opened.{Opened}
 use Rattle.catalogue_standings.specs.declared.Opened.the-variants.{Refused, Stands}
 use Rattle.refusals.specs.declared.Out.{Out}
 use Rattle.catalogue_standings.specs.declared.Standing.{Standing}
-use Rattle.catalogue_standings.specs.declared.Standing.the-variants.{Absent, Paused, Open, Complete, Damaged}
+use Rattle.catalogue_standings.specs.declared.Standing.the-variants.{Absent, Paused, PausedWith, Open, Complete, Damaged}
 use Rattle.catalogue_standings.proofs.Entries.{Inside, inside-of}
 use Rattle.catalogue_standings.proofs.Limits.{Fits, sheet-fits}
-use Rattle.catalogue_standings.proofs.Openings.{skip, stop, closed, opened, none-left, Not}
+use Rattle.catalogue_standings.proofs.Openings.{skip, stop, closed, opened, none-left, NotAbsent}
 
-pub present : (s : Standing) → Not (1 ∷ 2 ∷ 3 ∷ 4 ∷ []) s → isAbsent s ≡ false
-present Absent t = absurd (Run.miss (1 ∷ 2 ∷ 3 ∷ 4 ∷ []) 0 tt t)
+pub present : (s : Standing) → NotAbsent s → isAbsent s ≡ false
+present Absent t = absurd (Run.miss (1 ∷ 2 ∷ 3 ∷ 4 ∷ 5 ∷ []) 0 tt t)
 present Paused t = refl
+present (PausedWith a b) t = refl
 present (Open a b) t = refl
 present (Complete a b) t = refl
 present Damaged t = refl
@@ -89,7 +90,7 @@ module _ (q : Lent) where
         let x = extent in
         (omega (arith, f .limit, x .inside), omega (arith, f .covered, x .inside))
 
-    module _ (differs : Not (1 ∷ 2 ∷ 3 ∷ 4 ∷ []) s) where
+    module _ (differs : NotAbsent s) where
       pub over : q .n - q .spare < q .entry .length → verdict ≡ refused 4
       unfolding releaseVerdict viewAt tableOf
       over above =

@@ -24,7 +24,7 @@ use Rattle.catalogue_standings.specs.declared.Standing.the-variants.{Absent}
 use Rattle.refusals.proofs.Admitted.{absent-else, absent-passes}
 use Rattle.refusals.specs.Lent.{Lent}
 use Rattle.refusals.proofs.Lent.{first}
-use Rattle.catalogue_standings.proofs.Openings.{Not, closed, skip, stop, none-left}
+use Rattle.catalogue_standings.proofs.Openings.{NotAbsent, closed, skip, stop, none-left}
 use Rattle.refusals.proofs.Room.{reserveVerdictOn, reserveStartOn}
 use mathlib.Core.Bool.{true, false}
 use Rattle.map_blocks.specs.Maps.{marked}
@@ -38,7 +38,7 @@ module _ (q : Lent) (k : ℕ) (p : Placement) where
   unfolding reserveVerdict viewOn tableOf
   shut number h = closed _ _ _ _ _ number h
 
-  pub other : (s : Standing) → first q ≡ Stands s → Not (1 ∷ 2 ∷ 3 ∷ 4 ∷ []) s → reserveVerdictOn q k p ≡ refused (rowOf s)
+  pub other : (s : Standing) → first q ≡ Stands s → NotAbsent s → reserveVerdictOn q k p ≡ refused (rowOf s)
   unfolding reserveVerdict viewOn tableOf
   other s h differs = absent-else _ _ _ _ _ s h differs
 

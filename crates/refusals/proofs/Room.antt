@@ -14,7 +14,7 @@ use Rattle.catalogue_standings.specs.Standings.{isAbsent, isPaused, isComplete,
 use Rattle.refusals.specs.Table.{View, on, reserve, grow, tableOf}
 use Rattle.refusals.specs.Views.{viewOn}
 use Rattle.catalogue_standings.specs.declared.Standing.{Standing}
-use Rattle.catalogue_standings.specs.declared.Standing.the-variants.{Absent, Paused, Open, Complete, Damaged}
+use Rattle.catalogue_standings.specs.declared.Standing.the-variants.{Absent, Paused, PausedWith, Open, Complete, Damaged}
 use Rattle.refusals.proofs.Rows.{clear}
 use Rattle.refusals.specs.Lent.{Lent}
 use Rattle.refusals.specs.Placement.{Placement, figuresIn, leastWithin}
@@ -38,6 +38,7 @@ only-open : (s : Standing) → isDamaged s ≡ false → isAbsent s ≡ false �
     → s ≡ Open (startOf s) (lengthOf s)
 only-open Absent d a p c = absurd (true≢false a)
 only-open Paused d a p c = absurd (true≢false p)
+only-open (PausedWith s l) d a p c = absurd (true≢false p)
 only-open (Open s l) d a p c = refl
 only-open (Complete s l) d a p c = absurd (true≢false c)
 only-open Damaged d a p c = absurd (true≢false d)

@@ -25,7 +25,7 @@ use Rattle.catalogue_standings.specs.declared.Standing.{Standing}
 use Rattle.catalogue_standings.specs.declared.Standing.the-variants.{Complete}
 use Rattle.catalogue_standings.proofs.Limits.{CardFits, card-fits}
 use Rattle.catalogue_standings.proofs.Openings.{skip, stop, closed, opened, not-complete, is-complete, none-left, Extent}
-use Rattle.catalogue_standings.proofs.Openings.{complete-extent, Not}
+use Rattle.catalogue_standings.proofs.Openings.{complete-extent, NotComplete}
 use Rattle.refusals.proofs.Places.{Misplaced, beyond, unsized, placed, block-number, block-bytes}
 
 module _ (q : Lent) (place : ℕ) (buffer : List ℕ) where
@@ -57,13 +57,13 @@ module _ (q : Lent) (place : ℕ) (buffer : List ℕ) where
   unfolding showVerdict viewOn tableOf
   shut number given told = closed _ _ _ _ _ number (sym given ∙ told)
 
-  pub other : {o : Opened} (s : Standing) → o ≡ first → o ≡ opening.Stands s → Not (0 ∷ 1 ∷ 2 ∷ 4 ∷ []) s
+  pub other : {o : Opened} (s : Standing) → o ≡ first → o ≡ opening.Stands s → NotComplete s
       → verdict ≡ refused (rowOf s)
   unfolding showVerdict viewOn tableOf
   other s given told differs =
       let x = opened _ _ _ _ s _ (sym given ∙ told) in
       x .verdict
-      ∙ not-complete stands _ (subst (Not (0 ∷ 1 ∷ 2 ∷ 4 ∷ [])) (sym (x .same)) differs) (x .whole)
+      ∙ not-complete stands _ (subst NotComplete (sym (x .same)) differs) (x .whole)
       ∙ ap (λ (t : Standing). refused (rowOf t)) (x .same)
 
   module _ (start blocks : ℕ) {o : Opened} (given : o ≡ first) (told : o ≡ opening.Stands (Complete start blocks)) where

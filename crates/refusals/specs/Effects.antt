@@ -16,7 +16,7 @@ use Rattle.catalogue_standings.specs.Rows.{Verdict, settle}
 use Rattle.catalogue_standings.specs.Searches.{startAt, startWithSpace}
 use Rattle.refusals.specs.Lent.{Lent}
 use Rattle.refusals.specs.Placement.{Placement, plain, figuresIn, leastWithin}
-use Rattle.refusals.specs.Table.{on, reserve, put, grow, complete, pause, release, show, standing, lowestBlank}
+use Rattle.refusals.specs.Table.{on, reserve, put, grow, complete, pause, resume, release, show, standing, lowestBlank}
 use Rattle.refusals.specs.Table.{offer, accept, verdictOf}
 use Rattle.refusals.specs.Views.{viewAt, viewOn}
 use Rattle.catalogue_standings.specs.declared.Answer.{Answer}
@@ -142,14 +142,26 @@ module _ (q : Lent) where
       (λ number. outOf (q .spare) (q .entry) (cond (eqb number 9) (Blank blankPlace) (Refused number)))
 
 module _ (q : Lent) where
-  -- Pause: Absent becomes Paused.
+  -- Pause: the mark becomes Paused; start and length remain, 0 and 0 of an Absent sheet and the extent of a Complete one
+  -- (document 02 (g)).
   unfoldable pub pauseVerdict : Verdict
   unfolding viewAt
   pauseVerdict = verdictOf (viewAt q) (on (q .sheet) pause)
 
   unfoldable pub pauseOut : Out
   unfolding pauseVerdict
-  pauseOut = settle pauseVerdict (outOf (q .spare) (entryOf pausedMark 0 0) Done) (refusalOut (q .spare) (q .entry))
+  pauseOut = settle pauseVerdict (outOf (q .spare) (entryOf pausedMark (q .entry .start) (q .entry .length)) Done)
+      (refusalOut (q .spare) (q .entry))
+
+  -- Resume: a Paused sheet with blocks becomes Complete (document 02 (g)).
+  unfoldable pub resumeVerdict : Verdict
+  unfolding viewAt
+  resumeVerdict = verdictOf (viewAt q) (on (q .sheet) resume)
+
+  unfoldable pub resumeOut : Out
+  unfolding resumeVerdict
+  resumeOut = settle resumeVerdict (outOf (q .spare) (entryOf completeMark (q .entry .start) (q .entry .length)) Done)
+      (refusalOut (q .spare) (q .entry))
 
   -- Release: any standing but Absent becomes Absent, its blocks free; the card's bytes stay.
   unfoldable pub releaseVerdict : Verdict

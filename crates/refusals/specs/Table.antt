@@ -11,7 +11,8 @@ use Rattle.map_blocks.specs.Blocks.{all, fit, least, leastFit}
 use Rattle.refusals.specs.Placement.{Placement, plain, figuresIn, misfigured, leastWithin}
 use Rattle.catalogue_standings.specs.Searches.{none, startAt}
 use Rattle.catalogue_standings.specs.Rows.{Row, row, Verdict, firstOf}
-use Rattle.catalogue_standings.specs.Standings.{isAbsent, isPaused, isOpen, isComplete, isDamaged, startOf, lengthOf}
+use Rattle.catalogue_standings.specs.Standings.{isAbsent, isPaused, isPausedWithout, isOpen, isComplete, isDamaged}
+use Rattle.catalogue_standings.specs.Standings.{startOf, lengthOf}
 use Rattle.catalogue_standings.specs.declared.Standing.{Standing}
 
 -- What is asked of a sheet. A reserve of k blocks is plain or placed.
@@ -21,6 +22,7 @@ pub data Ask : Type 0 where
   grow : ℕ → Ask
   complete : Ask
   pause : Ask
+  resume : Ask
   release : Ask
   show : ℕ → List ℕ → Ask
   standing : Ask
@@ -98,7 +100,8 @@ rowsFor v (grow m) =
 rowsFor v complete =
     absentRow v ∷ pausedRow v ∷ completeRow v ∷ row 4 (not (everyPlace v (λ p. v .blank p || v .sound p)))
     ∷ row 9 (not (everyPlace v (λ p. not (v .blank p)))) ∷ []
-rowsFor v pause = pausedRow v ∷ openRow v ∷ completeRow v ∷ []
+rowsFor v pause = pausedRow v ∷ openRow v ∷ []
+rowsFor v resume = absentRow v ∷ row 6 (isPausedWithout (v .stands)) ∷ openRow v ∷ completeRow v ∷ []
 rowsFor v release = absentRow v ∷ row 4 (ltb (v .blocks) (v .spare + lengthOf (v .stands))) ∷ []
 rowsFor v (show place buffer) =
     absentRow v ∷ pausedRow v ∷ openRow v ∷ row 3 (misplaced v place buffer) ∷ row 4 (not (v .sound place)) ∷ []

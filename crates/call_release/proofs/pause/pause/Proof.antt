@@ -1,19 +1,14 @@
 -- `call_release::pause::pause` meets its contract: each way out by its row.
 -- Assumes nothing.
-use mathlib.Core.Path.{sym, ap, _∙_}
-use mathlib.Core.List.{[]}
+use mathlib.Core.Path.{refl, ap, _∙_}
 use borrow.Author.Needs.{needs}
-use denote.Ref.{now}
-use Rattle.map_blocks.specs.Blocks.{free}
-use Rattle.refusals.specs.Lent.{lent, noCard}
 use Rattle.refusals.specs.Effects.{refusalOut}
 use Rattle.catalogue_standings.specs.Openings.{refusedRow, rowOf}
 use Rattle.catalogue_standings.specs.Rows.{accepted, refused}
 use Rattle.catalogue_standings.specs.declared.Opened.the-variants.{Stands}
-use Rattle.catalogue_standings.proofs.Openings.{opened}
 use Rattle.call_release.proofs.pause.pause.Statement.{statement}
 use Rattle.call_release.proofs.pause.pause.Tie as tie
-use Rattle.refusals.proofs.Pause.{out, shut, other, passes}
+use Rattle.refusals.proofs.Pause.{out, shut, other, passes-absent, passes-complete}
 
 open-sheet-requires : tie.Need-open-sheet-requires
 open-sheet-requires c κs = search needs
@@ -32,15 +27,27 @@ refusal-requires c κs = search needs
 
 returns : tie.Need-returns
 returns c =
-    let a = c .before .before .before .before .before .before .args in
-    let told = c .before .before .enum-told .given in
-    c .refusal .ensures ∙ ap (refusalOut (a .free) (a .entry)) (c .before .refused-row .ensures ∙ ap refusedRow (told .1))
-    ∙ sym (out (lent (a .n) (a .free) (now (a .map)) noCard (a .c) (a .entry) (a .sheet)) (refused (told .0 .0))
-    (shut (lent (a .n) (a .free) (now (a .map)) noCard (a .c) (a .entry) (a .sheet)) (told .0 .0)
-    (sym (c .before .before .before .before .open-sheet .ensures) ∙ told .1)))
+    let here = c .before .before in
+    let told = here .enum-told .given in
+    out _ (refused (told .0 .0)) (shut _ (told .0 .0) (here .before .before .open-sheet .ensures) (told .1)) _
+    (c .refusal .ensures ∙ ap (refusalOut _ _) (c .before .refused-row .ensures ∙ ap refusedRow (told .1)))
 
 enum-told-2 : tie.Need-enum-told-2
 enum-told-2 c = search needs
+
+paused-requires : tie.Need-paused-requires
+paused-requires c κs = search needs
+
+returns-2 : tie.Need-returns-2
+returns-2 c =
+    let here = c .before .before .before .before in
+    out _ accepted
+    (passes-absent _ (here .before .before .open-sheet .ensures)
+    (here .opened .given .1 ∙ ap Stands (c .before .enum-told2 .given .1))) _
+    (c .paused .ensures)
+
+enum-told-3 : tie.Need-enum-told-3
+enum-told-3 c = search needs
 
 row-of-requires : tie.Need-row-of-requires
 row-of-requires c κs = search needs
@@ -48,24 +55,27 @@ row-of-requires c κs = search needs
 refusal-requires-2 : tie.Need-refusal-requires-2
 refusal-requires-2 c κs = search needs
 
-returns-2 : tie.Need-returns-2
-returns-2 c =
-    let here = c .before .before .before in
-    let a = here .before .before .before .before .before .args in
-    let stands = here .before .opened .given in
-    c .refusal2 .ensures ∙ ap (refusalOut (a .free) (a .entry)) (c .before .row-of .ensures)
-    ∙ sym (out (lent (a .n) (a .free) (now (a .map)) noCard (a .c) (a .entry) (a .sheet)) (refused (rowOf (stands .0 .0)))
-    (other (lent (a .n) (a .free) (now (a .map)) noCard (a .c) (a .entry) (a .sheet)) (stands .0 .0)
-    (sym (here .before .before .before .open-sheet .ensures) ∙ stands .1) (c .before .before .match2 .keys2)))
-
 returns-3 : tie.Need-returns-3
 returns-3 c =
-    let here = c .before .before in
-    let a = here .before .before .before .before .before .args in
-    let stands = here .before .opened .given in
-    sym (out (lent (a .n) (a .free) (now (a .map)) noCard (a .c) (a .entry) (a .sheet)) accepted
-    (passes (lent (a .n) (a .free) (now (a .map)) noCard (a .c) (a .entry) (a .sheet))
-    (sym (here .before .before .before .open-sheet .ensures) ∙ stands .1 ∙ ap Stands (c .enum-told2 .given .1))))
+    let match3 = c .before .before in
+    let here = match3 .before .before .before in
+    let stands = here .opened .given in
+    out _ (refused (rowOf (stands .0 .0)))
+    (other _ (stands .0 .0) (here .before .before .open-sheet .ensures) (stands .1) (match3 .before .match2 .keys2)
+    (match3 .match3 .keys2)) _
+    (c .refusal2 .ensures ∙ ap (refusalOut _ _) (c .before .row-of .ensures))
+
+paused-requires-2 : tie.Need-paused-requires-2
+paused-requires-2 c κs = search needs
+
+returns-4 : tie.Need-returns-4
+returns-4 c =
+    let here = c .before .before .before .before .before in
+    let stands = c .before .enum-told3 .given in
+    out _ accepted
+    (passes-complete _ (stands .0 .0) (stands .0 .1 .0) (here .before .before .open-sheet .ensures)
+    (here .opened .given .1 ∙ ap Stands (stands .1))) _
+    (c .paused2 .ensures)
 
 pub pause-spec : {M : Type 1} → statement M
 pause-spec =
@@ -78,7 +88,11 @@ pause-spec =
     refusal-requires
     returns
     enum-told-2
+    paused-requires
+    returns-2
+    enum-told-3
     row-of-requires
     refusal-requires-2
-    returns-2
-    returns-3)
+    returns-3
+    paused-requires-2
+    returns-4)

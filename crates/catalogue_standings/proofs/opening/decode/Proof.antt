@@ -13,12 +13,12 @@ returns : tie.Need-returns
 unfolding standingOf
 returns c = simp (eq-eqb _ _ (c .before .if1 .taken)) (c .without-extent .ensures)
 
-without-extent-requires-2 : tie.Need-without-extent-requires-2
-without-extent-requires-2 c κs = search needs
+either-pause-requires : tie.Need-either-pause-requires
+either-pause-requires c κs = search needs
 
 returns-2 : tie.Need-returns-2
 unfolding standingOf
-returns-2 c = simp (ne-eqb _ _ (c .before .before .if1 .left), eq-eqb _ _ (c .before .if2 .taken)) (c .without-extent2 .ensures)
+returns-2 c = simp (ne-eqb _ _ (c .before .before .if1 .left), eq-eqb _ _ (c .before .if2 .taken)) (c .either-pause .ensures)
 
 with-extent-requires : tie.Need-with-extent-requires
 with-extent-requires c κs = search needs
@@ -58,7 +58,7 @@ decode-spec =
     (tie.spec
     without-extent-requires
     returns
-    without-extent-requires-2
+    either-pause-requires
     returns-2
     with-extent-requires
     returns-3

@@ -18,6 +18,9 @@ enum-known-stands c = search needs
 enum-known-stands-2 : tie.Need-enum-known-stands-2
 enum-known-stands-2 c = search needs
 
+enum-known-stands-3 : tie.Need-enum-known-stands-3
+enum-known-stands-3 c = search needs
+
 enum-told-3 : tie.Need-enum-told-3
 enum-told-3 c = search needs
 
@@ -34,7 +37,10 @@ returns-4 : tie.Need-returns-4
 returns-4 c = ap openings.unlessDamaged (sym (c .before .stands2 .given .1))
 
 returns-5 : tie.Need-returns-5
-returns-5 c = ap openings.unlessDamaged (sym (c .enum-told3 .given .1))
+returns-5 c = ap openings.unlessDamaged (sym (c .before .stands3 .given .1))
+
+returns-6 : tie.Need-returns-6
+returns-6 c = ap openings.unlessDamaged (sym (c .enum-told3 .given .1))
 
 pub unless-damaged-spec : {M : Type 1} → statement M
 unless-damaged-spec =
@@ -44,9 +50,11 @@ unless-damaged-spec =
     enum-told-2
     enum-known-stands
     enum-known-stands-2
+    enum-known-stands-3
     enum-told-3
     returns
     returns-2
     returns-3
     returns-4
-    returns-5)
+    returns-5
+    returns-6)
