@@ -110,6 +110,14 @@ static void pause_sheet(uint32_t sheet)
     told(call, pagunlit_pause(shape, map, WORDS, catalogue, SHEETS, sheet));
 }
 
+static void resume(uint32_t sheet)
+{
+    char call[40];
+
+    snprintf(call, sizeof call, "resume sheet %u", sheet);
+    told(call, pagunlit_resume(shape, map, WORDS, catalogue, SHEETS, sheet));
+}
+
 /* Where a sheet would go, to be seen before it is agreed to. */
 static pagunlit_outcome offer(uint32_t sheet, uint32_t places)
 {
@@ -245,6 +253,19 @@ static void prescription(void)
     standings();
 }
 
+static void stopped_course(void)
+{
+    puts("A finished course is stopped and taken up again. It keeps its blocks, and nothing of it is shown meanwhile.");
+    pause_sheet(0);
+    standings();
+    show(0, 1);
+    resume(0);
+    show(0, 1);
+
+    puts("A pause without blocks has nothing to take up.");
+    resume(1);
+}
+
 static void full_card(void)
 {
     puts("The card fills up, and is called full when it is.");
@@ -302,6 +323,7 @@ static void power_cut(void)
 int main(void)
 {
     prescription();
+    stopped_course();
     full_card();
     power_cut();
     offers();

@@ -38,8 +38,8 @@ extern "C" {
 #endif
 
 /* The version of this header, 10000 * first + 100 * second + third, and as a text. */
-#define PAGUNLIT_VERSION 10400
-#define PAGUNLIT_VERSION_TEXT "1.4.0"
+#define PAGUNLIT_VERSION 10500
+#define PAGUNLIT_VERSION_TEXT "1.5.0"
 
 enum {
     PAGUNLIT_BLOCK = 512,       /* bytes of a block */
@@ -89,8 +89,8 @@ typedef struct {
     uint32_t blocks, free;
 } pagunlit_shape;
 
-/* What stands for a sheet. Absent and Paused have start 0 and length 0; the blocks of the others are start to
- * start + length - 1, and place p of the sheet is block start + p. */
+/* What stands for a sheet. Absent has start 0 and length 0, and so has a pause of a sheet that was Absent; the blocks of the
+ * others, and of a paused course, are start to start + length - 1, and place p of the sheet is block start + p. */
 typedef struct {
     uint32_t mark, start, length;
 } pagunlit_entry;
@@ -111,8 +111,9 @@ pagunlit_outcome pagunlit_fresh(pagunlit_shape shape, uint32_t blocks, uint64_t 
  *       and of a call that is lent them: cataloguelen is not 1 to 1024, cardlen not PAGUNLIT_BLOCK times the blocks,
  *       scratchlen not maplen
  *   2   sheet is not below cataloguelen
- *   4   the sheet's entry is damaged: its mark is none of the four; or it is Absent or Paused and has a start or a length; or
- *       it is Open or Complete and has length 0, goes past the card's last block, or has a block that is free in the map */
+ *   4   the sheet's entry is damaged: its mark is none of the four; or it is Absent and has a start or a length; or it is
+ *       Open, Complete, or Paused with a start or a length, and has length 0, goes past the card's last block, or has a block
+ *       that is free in the map */
 
 /* The lowest run of k free blocks. first: its start. second: the space behind it, the number of free blocks from its start to
  * the next taken block or the card's end, which is k or more.
@@ -188,11 +189,18 @@ pagunlit_outcome pagunlit_put(pagunlit_shape shape, const uint64_t *map, size_t 
 pagunlit_outcome pagunlit_complete(pagunlit_shape shape, const uint64_t *map, size_t maplen, pagunlit_entry *catalogue,
                                    size_t cataloguelen, const uint8_t *card, size_t cardlen, uint32_t sheet);
 
-/* An Absent sheet becomes Paused.
+/* An Absent or a Complete sheet becomes Paused. A Complete one, a finished course, keeps its blocks and what they hold, and
+ * can be resumed.
  *   1, 2, 4   as above
- *   6, 7, 8   the sheet is Paused, Open, Complete */
+ *   6, 7      the sheet is Paused, Open */
 pagunlit_outcome pagunlit_pause(pagunlit_shape shape, const uint64_t *map, size_t maplen, pagunlit_entry *catalogue,
                                 size_t cataloguelen, uint32_t sheet);
+
+/* A Paused sheet with blocks becomes Complete again. It looks at no block, so it is lent no card.
+ *   1, 2, 4      as above
+ *   5, 6, 7, 8   the sheet is Absent, Paused without blocks, Open, Complete */
+pagunlit_outcome pagunlit_resume(pagunlit_shape shape, const uint64_t *map, size_t maplen, pagunlit_entry *catalogue,
+                                 size_t cataloguelen, uint32_t sheet);
 
 /* A sheet that is not Absent becomes Absent, and its blocks free. The card's bytes stay.
  *   1, 2, 4   as above
