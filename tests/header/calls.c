@@ -148,6 +148,10 @@ static void course(void)
     put("put 2 2", 2, 2);
     complete("complete 2 again", 2);
     show("show 2 1", 2, 1);
+    told("pause course 2", pagunlit_pause(shape, map, W, catalogue, C, 2));
+    show("show paused 2 1", 2, 1);
+    told("resume 2", pagunlit_resume(shape, map, W, catalogue, C, 2));
+    show("show again 2 1", 2, 1);
     standing("standing 1", 1);
     standing("standing 2", 2);
     told("pause 0", pagunlit_pause(shape, map, W, catalogue, C, 0));
@@ -184,6 +188,8 @@ static void refusals(void)
     take("accept 2 68 3", 2, 68, 3);
     take("accept 2 4294967290 7", 2, 4294967290u, 7);
     take("accept 2 9 0", 2, 9, 0);
+    told("resume 0", pagunlit_resume(shape, map, W, catalogue, C, 0));
+    told("resume 1", pagunlit_resume(shape, map, W, catalogue, C, 1));
     told("pause 1", pagunlit_pause(shape, map, W, catalogue, C, 1));
     grow("grow 1 61", 1, 61);
     save("save short", sizeof image - 1);

@@ -23,6 +23,7 @@ pagunlit_outcome pagunlit_put(SHAPE, const MAP, const CATALOGUE, CARD, uint32_t 
                               size_t payloadlen);
 pagunlit_outcome pagunlit_complete(SHAPE, const MAP, CATALOGUE, const CARD, uint32_t sheet);
 pagunlit_outcome pagunlit_pause(SHAPE, const MAP, CATALOGUE, uint32_t sheet);
+pagunlit_outcome pagunlit_resume(SHAPE, const MAP, CATALOGUE, uint32_t sheet);
 pagunlit_outcome pagunlit_release(SHAPE, MAP, CATALOGUE, uint32_t sheet);
 pagunlit_outcome pagunlit_standing(SHAPE, const MAP, const CATALOGUE, uint32_t sheet);
 pagunlit_outcome pagunlit_show(SHAPE, const MAP, const CATALOGUE, const CARD, uint32_t sheet, uint32_t place, uint8_t *buffer,

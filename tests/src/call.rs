@@ -19,6 +19,7 @@ pub enum Kind {
     Grow,
     Complete,
     Pause,
+    Resume,
     Release,
     Show,
     Standing,
@@ -27,7 +28,7 @@ pub enum Kind {
 /// Every kind of call, with the rows of document 01's table that can refuse it, in the order under the table. A row of
 /// document 02 stands where its request says.
 #[rustfmt::skip]
-pub const CALLS: [(Kind, &str, &[Row]); 14] = [
+pub const CALLS: [(Kind, &str, &[Row]); 15] = [
     (Kind::Fresh, "fresh", &[Blocks, Sheets, MapLength]),
     (Kind::Search, "search", &[Blocks, FreeAboveN, MapLength, NoBlocks, NoFit]),
     (Kind::Survey, "survey", &[Blocks, FreeAboveN, MapLength]),
@@ -45,7 +46,9 @@ pub const CALLS: [(Kind, &str, &[Row]); 14] = [
         Absent, Paused, Complete, NoBlocks, NotNext, FreeCount]),
     (Kind::Complete, "complete", &[Blocks, Sheets, FreeAboveN, MapLength, CardLength, NoSheet, Damaged,
         Absent, Paused, Complete, Unsound, Blank]),
-    (Kind::Pause, "pause", &[Blocks, Sheets, FreeAboveN, MapLength, NoSheet, Damaged, Paused, Open, Complete]),
+    (Kind::Pause, "pause", &[Blocks, Sheets, FreeAboveN, MapLength, NoSheet, Damaged, Paused, Open]),
+    (Kind::Resume, "resume", &[Blocks, Sheets, FreeAboveN, MapLength, NoSheet, Damaged,
+        Absent, PausedEmpty, Open, Complete]),
     (Kind::Release, "release", &[Blocks, Sheets, FreeAboveN, MapLength, NoSheet, Damaged, Absent, FreeCount]),
     (Kind::Show, "show", &[Blocks, Sheets, FreeAboveN, MapLength, CardLength, NoSheet, Damaged,
         Absent, Paused, Open, NoPlace, SliceLength, Unsound]),

@@ -4,6 +4,7 @@ mod filling_calls;
 mod limits;
 mod offer_calls;
 mod other_calls;
+mod pause_calls;
 mod placed_calls;
 mod random_calls;
 mod space_calls;
@@ -37,6 +38,7 @@ pub fn examples() -> String {
         placed_calls::LISTS,
         space_calls::LISTS,
         offer_calls::LISTS,
+        pause_calls::LISTS,
         other_calls::LISTS,
     ];
     let lists = lists.iter().flat_map(|lists| lists.iter());

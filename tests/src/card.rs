@@ -30,7 +30,7 @@ pub struct Entry {
 }
 
 const ABSENT: Entry = entry(0x41, 0, 0);
-const PAUSED: Entry = entry(0x50, 0, 0);
+const PAUSED: u32 = 0x50;
 const OPEN: u32 = 0x4f;
 const COMPLETE: u32 = 0x43;
 
@@ -144,7 +144,8 @@ impl Card {
         match row {
             Row::Damaged => self.damaged(entry),
             Row::Absent => entry.mark == ABSENT.mark,
-            Row::Paused => entry.mark == PAUSED.mark,
+            Row::Paused => entry.mark == PAUSED,
+            Row::PausedEmpty => entry.mark == PAUSED && length == 0,
             Row::Open => entry.mark == OPEN,
             Row::Complete => entry.mark == COMPLETE,
             Row::NoPlace => number >= length,
@@ -159,13 +160,15 @@ impl Card {
         }
     }
 
-    /// An entry breaks its mark's rule, or a block of its extent is free in the map.
+    /// An entry breaks its mark's rule, or a block of its extent is free in the map. A Paused one is 0 and 0, or has an extent
+    /// under Complete's rule (document 02, (g)).
     pub(crate) fn damaged(&self, e: Entry) -> bool {
         let (start, end) = (e.start as usize, e.start as usize + e.length as usize);
         let last = self.map.len();
         match e.mark {
-            0x41 | 0x50 => end != 0,
-            0x4f | 0x43 => {
+            0x41 => end != 0,
+            0x50 if end == 0 => false,
+            0x50 | 0x4f | 0x43 => {
                 let inside = e.length >= 1 && end <= self.n;
                 !inside || self.map[start.min(last)..end.min(last)].contains(&FREE)
             }
@@ -256,7 +259,8 @@ impl Card {
             }
             Kind::Put => self.put(sheet, number, slice),
             Kind::Complete => self.mark(sheet, COMPLETE),
-            Kind::Pause => self.mark(sheet, PAUSED.mark),
+            Kind::Pause => self.mark(sheet, PAUSED),
+            Kind::Resume => self.mark(sheet, COMPLETE),
             Kind::Release => self.release(sheet),
             Kind::Show => {
                 let block = self.block(self.sheets[sheet].start as usize + number);
@@ -296,6 +300,7 @@ impl Card {
         Done
     }
 
+    /// A sheet gets another mark. Its start and its length stay.
     fn mark(&mut self, sheet: usize, mark: u32) -> Answer {
         self.sheets[sheet].mark = mark;
         Done
@@ -311,6 +316,8 @@ impl Card {
     }
 }
 
+#[cfg(test)]
+mod paused_tests;
 #[cfg(test)]
 mod placed_tests;
 

@@ -8,19 +8,24 @@ use crate::card::{entry, sealed, Answer, Entry};
 
 type Payload = Vec<u8>;
 
-/// A sheet. Place p is block start + p.
+/// A finished course: place p is block start + p.
+#[derive(Clone)]
+pub struct Course {
+    start: usize,
+    payloads: Vec<Payload>,
+}
+
+/// A sheet. Place p of an open one is block start + p. A finished course that is paused keeps its payloads and covers its
+/// blocks (document 02, (g)).
 #[derive(Clone)]
 pub enum Sheet {
     Absent,
-    Paused,
+    Paused(Option<Course>),
     Open {
         start: usize,
         places: Vec<Option<Payload>>,
     },
-    Complete {
-        start: usize,
-        payloads: Vec<Payload>,
-    },
+    Complete(Course),
 }
 
 pub struct Ledger {
@@ -47,9 +52,11 @@ impl Ledger {
     /// The blocks that a sheet covers, as a start and a number of places.
     fn extent(&self, sheet: usize) -> (usize, usize) {
         match &self.sheets[sheet] {
-            Sheet::Absent | Sheet::Paused => (0, 0),
+            Sheet::Absent | Sheet::Paused(None) => (0, 0),
             Sheet::Open { start, places } => (*start, places.len()),
-            Sheet::Complete { start, payloads } => (*start, payloads.len()),
+            Sheet::Complete(course) | Sheet::Paused(Some(course)) => {
+                (course.start, course.payloads.len())
+            }
         }
     }
 
@@ -82,9 +89,9 @@ impl Ledger {
     pub fn entry(&self, sheet: usize) -> Entry {
         let mark = match self.sheets[sheet] {
             Sheet::Absent => 0x41,
-            Sheet::Paused => 0x50,
+            Sheet::Paused(_) => 0x50,
             Sheet::Open { .. } => 0x4f,
-            Sheet::Complete { .. } => 0x43,
+            Sheet::Complete(_) => 0x43,
         };
         let (start, length) = self.extent(sheet);
         entry(mark, start as u32, length as u32)
@@ -93,9 +100,9 @@ impl Ledger {
     /// The payload of a place, unless it is blank.
     fn payload(&self, sheet: usize, place: usize) -> Option<&Payload> {
         match &self.sheets[sheet] {
-            Sheet::Absent | Sheet::Paused => None,
+            Sheet::Absent | Sheet::Paused(None) => None,
             Sheet::Open { places, .. } => places[place].as_ref(),
-            Sheet::Complete { payloads, .. } => Some(&payloads[place]),
+            Sheet::Complete(course) | Sheet::Paused(Some(course)) => Some(&course.payloads[place]),
         }
     }
 
@@ -122,6 +129,7 @@ impl Ledger {
             Kind::Grow => self.grow(sheet, number as usize),
             Kind::Complete => self.complete(sheet),
             Kind::Pause => self.pause(sheet),
+            Kind::Resume => self.resume(sheet),
             Kind::Release => self.release(sheet),
             Kind::Show => self.show(sheet, number, slice),
             Kind::Standing => self.standing(sheet),
@@ -137,18 +145,18 @@ impl Ledger {
         let sheet = self.sheet(sheet)?;
         match sheet {
             Sheet::Absent => Ok(sheet),
-            Sheet::Paused => Err(Refused(6)),
+            Sheet::Paused(_) => Err(Refused(6)),
             Sheet::Open { .. } => Err(Refused(7)),
-            Sheet::Complete { .. } => Err(Refused(8)),
+            Sheet::Complete(_) => Err(Refused(8)),
         }
     }
 
     fn open(&mut self, sheet: u32) -> Result<(usize, &mut Vec<Option<Payload>>), Answer> {
         match self.sheet(sheet)? {
             Sheet::Absent => Err(Refused(5)),
-            Sheet::Paused => Err(Refused(6)),
+            Sheet::Paused(_) => Err(Refused(6)),
             Sheet::Open { start, places } => Ok((*start, places)),
-            Sheet::Complete { .. } => Err(Refused(8)),
+            Sheet::Complete(_) => Err(Refused(8)),
         }
     }
 
@@ -230,12 +238,34 @@ impl Ledger {
             return Err(Blank(place));
         }
         let payloads = places.iter().flatten().cloned().collect();
-        *self.sheet(sheet)? = Sheet::Complete { start, payloads };
+        *self.sheet(sheet)? = Sheet::Complete(Course { start, payloads });
         Ok(Done)
     }
 
+    /// An Absent sheet is paused without blocks, a finished course with its blocks and payloads.
     fn pause(&mut self, sheet: u32) -> Result<Answer, Answer> {
-        *self.absent(sheet)? = Sheet::Paused;
+        let sheet = self.sheet(sheet)?;
+        let course = match sheet {
+            Sheet::Absent => None,
+            Sheet::Complete(course) => Some(course.clone()),
+            Sheet::Paused(_) => return Err(Refused(6)),
+            Sheet::Open { .. } => return Err(Refused(7)),
+        };
+        *sheet = Sheet::Paused(course);
+        Ok(Done)
+    }
+
+    /// A course that was paused is taken up again; a pause without blocks is none.
+    fn resume(&mut self, sheet: u32) -> Result<Answer, Answer> {
+        let sheet = self.sheet(sheet)?;
+        let course = match sheet {
+            Sheet::Paused(Some(course)) => course.clone(),
+            Sheet::Absent => return Err(Refused(5)),
+            Sheet::Paused(None) => return Err(Refused(6)),
+            Sheet::Open { .. } => return Err(Refused(7)),
+            Sheet::Complete(_) => return Err(Refused(8)),
+        };
+        *sheet = Sheet::Complete(course);
         Ok(Done)
     }
 
@@ -251,9 +281,9 @@ impl Ledger {
     fn show(&mut self, sheet: u32, place: u32, buffer: &mut [u8]) -> Result<Answer, Answer> {
         match self.sheet(sheet)? {
             Sheet::Absent => Err(Refused(5)),
-            Sheet::Paused => Err(Refused(6)),
+            Sheet::Paused(_) => Err(Refused(6)),
             Sheet::Open { .. } => Err(Refused(7)),
-            Sheet::Complete { payloads, .. } => {
+            Sheet::Complete(Course { payloads, .. }) => {
                 if place as usize >= payloads.len() || buffer.len() != 496 {
                     return Err(Refused(3));
                 }

@@ -1,6 +1,7 @@
 //! Document 01, with the requests of document 02 that have landed, worked out bit by bit, to hold the proved library against.
 //! Nothing here is shared with the crates.
 
+pub mod before;
 pub mod blocks;
 pub mod call;
 pub mod calls;

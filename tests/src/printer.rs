@@ -1,5 +1,6 @@
 //! What the card printer must print (document 01, "Saved image"), and images to hold it to.
 
+use crate::before;
 use crate::blocks::{from_words, survey, words_of, Counts};
 use crate::card::{entry, Answer, Card};
 use crate::image::{blocks_of, body_of, framed, image_of};
@@ -29,13 +30,14 @@ fn hold(card: &mut Card, sheet: usize, mark: u32, start: usize, length: usize) {
     card.free -= length;
 }
 
-/// The image in crates/card_print/stdin: a card of 200 blocks with a sheet of each standing.
+/// The image in crates/card_print/stdin: a card of 200 blocks with a sheet of each standing, and a course that is paused.
 pub fn example() -> Vec<u8> {
-    let mut card = fresh(200, 6);
+    let mut card = fresh(200, 7);
     hold(&mut card, 1, 0x4f, 0, 3);
     hold(&mut card, 2, 0x43, 60, 70);
     card.sheets[3] = entry(0x50, 0, 0);
     hold(&mut card, 5, 0x43, 199, 1);
+    hold(&mut card, 6, 0x50, 131, 18);
     image_of(&body_of(&card))
 }
 
@@ -67,8 +69,9 @@ pub fn text(image: &[u8]) -> String {
     text
 }
 
-/// Images of cards at the limits and of cards with sheets of each standing, and such that load refuses: every length to 93
-/// blocks and a byte to either side, changed bytes, and contents that cannot be behind correct frames.
+/// Images of cards at the limits and of cards with sheets of each standing, one from before a paused sheet could have blocks,
+/// and such that load refuses: every length to 93 blocks and a byte to either side, changed bytes, and contents that cannot be
+/// behind correct frames.
 fn images() -> Vec<Vec<u8>> {
     let mut random = Random::of(17);
     let sizes = [
@@ -80,7 +83,7 @@ fn images() -> Vec<Vec<u8>> {
         (1, 1024),
         (4096, 1024),
     ];
-    let mut images = vec![example()];
+    let mut images = vec![example(), before::IMAGE.to_vec()];
     images.extend(sizes.map(|(n, c)| image_of(&body_of(&fresh(n, c)))));
     let most = largest();
     images.push(most.clone());
@@ -111,7 +114,7 @@ fn images() -> Vec<Vec<u8>> {
 fn largest() -> Vec<u8> {
     let mut card = fresh(262144, 1024);
     for sheet in 0..1024 {
-        let mark = if sheet % 3 == 0 { 0x4f } else { 0x43 };
+        let mark = [0x4f, 0x43, 0x50][sheet % 3];
         hold(&mut card, sheet, mark, 256 * sheet, 1 + sheet % 200);
     }
     image_of(&body_of(&card))
@@ -121,6 +124,7 @@ fn largest() -> Vec<u8> {
 fn other_contents(random: &mut Random) -> Vec<Vec<u8>> {
     let mut card = fresh(70, 3);
     hold(&mut card, 0, 0x4f, 0, 3);
+    hold(&mut card, 1, 0x50, 30, 5);
     hold(&mut card, 2, 0x43, 60, 10);
     let body = body_of(&card);
     let changed = |at: usize| {

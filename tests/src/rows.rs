@@ -25,6 +25,8 @@ pub enum Row {
     /// 5 to 8: the sheet has this standing, and the call does not admit it.
     Absent,
     Paused,
+    /// 6, of a resume: the sheet is Paused and has no blocks.
+    PausedEmpty,
     Open,
     Complete,
     /// 3: k or m is 0.
@@ -77,7 +79,7 @@ impl Row {
             NoBlocks | NoPlace | SliceLength => 3,
             Damaged | Unsound | FreeCount | SavedState => 4,
             Absent => 5,
-            Paused => 6,
+            Paused | PausedEmpty => 6,
             Open => 7,
             Complete => 8,
             Blank => 9,
@@ -92,7 +94,7 @@ impl Row {
     }
 }
 
-const STANDINGS: &[Row] = &[Absent, Paused, Open, Complete];
+const STANDINGS: &[Row] = &[Absent, Paused, PausedEmpty, Open, Complete];
 
 /// Two rows of a call, of which the first comes first in the call's order.
 pub type Pair = (Row, Row);
@@ -108,11 +110,11 @@ type Apart = (
 
 #[rustfmt::skip]
 const APART: &[Apart] = &[
-    (&[], &[NoSheet], &[Damaged, Absent, Paused, Open, Complete, NoPlace, Unsound, Blank, NotNext],
+    (&[], &[NoSheet], &[Damaged, Absent, Paused, PausedEmpty, Open, Complete, NoPlace, Unsound, Blank, NotNext],
         "a sheet that the catalogue does not have has no entry, no places and no blocks"),
     (&["release"], &[NoSheet], &[FreeCount], "a sheet that the catalogue does not have has no length"),
     (&[], STANDINGS, STANDINGS, "an entry has one mark"),
-    (&["complete"], &[Absent, Paused], &[Unsound, Blank], "a sheet without places has no blocks"),
+    (&["complete"], &[Absent], &[Unsound, Blank], "a sheet without places has no blocks"),
     (&["release"], &[Absent], &[FreeCount], "a free count not above n stays so if a length of 0 is added"),
     (&[], &[NoBlocks], &[NoFit, NotNext, RunNotFree], "a fit is for k ≥ 1, and no blocks are free and inside n"),
     (&[], &[NoBlocks], &[FreeCount], "0 is not above the free count"),

@@ -10,13 +10,13 @@ use std::fmt::Display;
 const N: usize = 70;
 
 /// A sheet with an extent: mark, start and length.
-type Sheet = (u32, usize, usize);
+pub(crate) type Sheet = (u32, usize, usize);
 
 /// Sheet 0 is Open, sheet 1 Complete.
 const SHEETS: [Sheet; 2] = [(0x4f, 9, 4), (0x43, 37, 30)];
 
 /// The card of n blocks that holds sheets: a block is free exactly when no sheet covers it.
-fn card_of(n: usize, sheets: &[Sheet]) -> Card {
+pub(crate) fn card_of(n: usize, sheets: &[Sheet]) -> Card {
     let mut map: Vec<bool> = (0..64 * words_of(n)).map(|b| b < n).collect();
     for &(_, start, length) in sheets {
         map[start..start + length].fill(false);

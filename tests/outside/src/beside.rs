@@ -2,6 +2,7 @@
 
 use crate::counts::Counts;
 use crate::library::{bytes, entries, words, Entry, Lent, Library, Outcome, Shape};
+use crate::pauses::is_paused_course;
 use bitwise::blocks::to_words;
 use bitwise::call::{call, Call, Kind};
 use bitwise::card::{Answer, Card};
@@ -248,13 +249,23 @@ impl Beside {
     }
 
     /// At the end of a list: every byte of the card, every place of every sheet by the ledger, and each place of each
-    /// complete sheet shown.
+    /// complete sheet shown, those that were paused after they are taken up again.
     pub fn finish(&mut self) -> Result<(), String> {
         same_slice("card", &self.library.card, &self.card.bytes)?;
         self.as_in_ledger()?;
         for sheet in 0..self.card.sheets.len() {
             self.places_as_in_ledger(sheet, Compared::All)?;
+            self.take_up(sheet)?;
             self.show_all(sheet)?;
+        }
+        Ok(())
+    }
+
+    /// A course that is paused is not shown, and is taken up again.
+    fn take_up(&mut self, sheet: usize) -> Result<(), String> {
+        if is_paused_course(&self.card.sheets[sheet]) {
+            self.compare(call(Kind::Show, sheet as u32, 0))?;
+            self.compare(call(Kind::Resume, sheet as u32, 0))?;
         }
         Ok(())
     }

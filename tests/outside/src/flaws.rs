@@ -1,7 +1,8 @@
 //! Each way in which an image can be wrong, alone.
 
+use crate::pauses::is_paused_course;
 use bitwise::blocks::{FREE, TAKEN};
-use bitwise::card::{entry, Card};
+use bitwise::card::{entry, Card, Entry};
 use bitwise::image::{body_of, framed, image_of};
 use bitwise::random::Random;
 
@@ -25,17 +26,21 @@ fn renumbered(card: &Card, at: usize, number: u32) -> Option<Vec<u8>> {
     Some(image_of(&body))
 }
 
-/// A sheet whose entry has one of the marks.
-fn sheet_with(card: &Card, marks: &[u32], random: &mut Random) -> Option<usize> {
+/// A sheet whose entry is as it is wanted.
+fn sheet_with(card: &Card, wanted: fn(&Entry) -> bool, random: &mut Random) -> Option<usize> {
     let sheets = 0..card.sheets.len();
-    let some: Vec<usize> = sheets
-        .filter(|&s| marks.contains(&card.sheets[s].mark))
-        .collect();
+    let some: Vec<usize> = sheets.filter(|&s| wanted(&card.sheets[s])).collect();
     (!some.is_empty()).then(|| random.one(&some))
 }
 
+/// A sheet with blocks: Open, Complete or a paused course.
 fn holder(card: &Card, random: &mut Random) -> Option<usize> {
-    sheet_with(card, &[0x4f, 0x43], random)
+    sheet_with(card, |entry| entry.length > 0, random)
+}
+
+/// A sheet without blocks: Absent or Paused.
+fn without_blocks(card: &Card, random: &mut Random) -> Option<usize> {
+    sheet_with(card, |entry| entry.length == 0, random)
 }
 
 /// An image block with another number or total, sealed.
@@ -52,7 +57,7 @@ fn reframed(card: &Card, number: usize, total: usize, random: &mut Random) -> Op
 #[rustfmt::skip]
 pub const FLAWS: &[Flaw] = &[
     ("an entry of three zeros", 14, |card, random| {
-        let sheet = sheet_with(card, &[0x41, 0x50], random)?;
+        let sheet = without_blocks(card, random)?;
         changed(card, |card| card.sheets[sheet] = entry(0, 0, 0))
     }),
     ("a mark that is none", 14, |card, random| {
@@ -60,15 +65,33 @@ pub const FLAWS: &[Flaw] = &[
         changed(card, |card| card.sheets[sheet].mark = mark)
     }),
     ("Absent or Paused with a start", 14, |card, random| {
-        let sheet = sheet_with(card, &[0x41, 0x50], random)?;
+        let sheet = without_blocks(card, random)?;
         changed(card, |card| card.sheets[sheet].start = 1)
     }),
     ("Absent or Paused with a length", 14, |card, random| {
-        let sheet = sheet_with(card, &[0x41, 0x50], random)?;
+        let sheet = without_blocks(card, random)?;
         changed(card, |card| card.sheets[sheet].length = 1)
     }),
+    ("Paused with a start and no length", 14, |card, random| {
+        let (sheet, start) = (without_blocks(card, random)?, random.within(1, card.n + 1) as u32);
+        changed(card, |card| card.sheets[sheet] = entry(0x50, start, 0))
+    }),
+    ("Paused with a free block", 14, |card, random| {
+        let sheet = without_blocks(card, random)?;
+        let block = (0..card.n).find(|&b| card.map[b] == FREE)?;
+        changed(card, |card| card.sheets[sheet] = entry(0x50, block as u32, 1))
+    }),
+    ("Paused with a block that another sheet has", 14, |card, random| {
+        let (sheet, other) = (without_blocks(card, random)?, card.sheets[holder(card, random)?]);
+        changed(card, |card| card.sheets[sheet] = entry(0x50, other.start, other.length))
+    }),
+    ("a paused course with another mark", 14, |card, random| {
+        let sheet = sheet_with(card, is_paused_course, random)?;
+        let mark = random.one(&[0, 0x41, 0x51, 0x5000]);
+        changed(card, |card| card.sheets[sheet].mark = mark)
+    }),
     ("Open or Complete without a block", 14, |card, random| {
-        let sheet = sheet_with(card, &[0x41, 0x50], random)?;
+        let sheet = without_blocks(card, random)?;
         let mark = random.one(&[0x4f, 0x43]);
         changed(card, |card| card.sheets[sheet] = entry(mark, 0, 0))
     }),
@@ -77,9 +100,10 @@ pub const FLAWS: &[Flaw] = &[
         changed(card, |card| card.sheets[sheet].length = n + 1 - card.sheets[sheet].start)
     }),
     ("an extent whose end has 33 bits", 14, |card, random| {
-        let sheet = sheet_with(card, &[0x41, 0x50], random)?;
+        let sheet = without_blocks(card, random)?;
         let start = random.within(1, card.n + 1) as u32;
-        changed(card, |card| card.sheets[sheet] = entry(0x4f, start, u32::MAX - start + 1))
+        let mark = random.one(&[0x4f, 0x43, 0x50]);
+        changed(card, |card| card.sheets[sheet] = entry(mark, start, u32::MAX - start + 1))
     }),
     ("a free block in an extent", 14, |card, random| {
         let held = card.sheets[holder(card, random)?];
@@ -87,11 +111,11 @@ pub const FLAWS: &[Flaw] = &[
         changed(card, |card| { card.map[block] = FREE; card.free += 1 })
     }),
     ("two sheets with the same blocks", 14, |card, random| {
-        let (sheet, other) = (sheet_with(card, &[0x41, 0x50], random)?, holder(card, random)?);
+        let (sheet, other) = (without_blocks(card, random)?, holder(card, random)?);
         changed(card, |card| card.sheets[sheet] = card.sheets[other])
     }),
     ("two sheets with one block in common", 14, |card, random| {
-        let (sheet, other) = (sheet_with(card, &[0x41, 0x50], random)?, card.sheets[holder(card, random)?]);
+        let (sheet, other) = (without_blocks(card, random)?, card.sheets[holder(card, random)?]);
         let block = random.one(&[other.start, other.start + other.length - 1]);
         changed(card, |card| card.sheets[sheet] = entry(0x4f, block, 1))
     }),
@@ -166,6 +190,8 @@ pub fn expected() -> impl Iterator<Item = &'static str> {
         "save, a sound state",
         "load, what was saved",
         "save, a damaged state",
+        "save, a paused course",
+        "load, a paused course",
     ];
     FLAWS.iter().map(|(name, ..)| *name).chain(others)
 }

@@ -53,11 +53,25 @@ impl Generator {
         match entry.mark {
             0x41 if self.random.chance(1, 10) => call(Kind::Pause, sheet, 0),
             0x41 => self.of_absent(card, sheet),
-            0x50 if self.random.chance(1, 2) => call(Kind::Release, sheet, 0),
+            0x50 => self.of_paused(sheet, entry),
             0x4f => self.of_open(card, sheet, entry),
             0x43 if self.random.chance(1, 4) => call(Kind::Release, sheet, 0),
+            0x43 if self.random.chance(1, 5) => call(Kind::Pause, sheet, 0),
             0x43 => call(Kind::Show, sheet, self.likely_place(entry)).with_bytes(self.bytes()),
             _ => call(Kind::Standing, sheet, 0),
+        }
+    }
+
+    /// Mostly a course that is paused is taken up again, and a pause without blocks is released.
+    fn of_paused(&mut self, sheet: u32, entry: Entry) -> Call {
+        let of_course = [Kind::Resume, Kind::Resume, Kind::Resume, Kind::Release];
+        let without_blocks = [Kind::Release, Kind::Release, Kind::Release, Kind::Resume];
+        match self.random.within(0, 8) {
+            0 => call(Kind::Standing, sheet, 0),
+            1 => call(Kind::Show, sheet, self.likely_place(entry)).with_bytes(self.bytes()),
+            2 => call(Kind::Pause, sheet, 0),
+            _ if entry.length > 0 => call(self.random.one(&of_course), sheet, 0),
+            _ => call(self.random.one(&without_blocks), sheet, 0),
         }
     }
 
@@ -256,25 +270,27 @@ fn blank_place(card: &Card, entry: Entry) -> Option<u32> {
     })
 }
 
+/// Whether a call of a kind admits the standing of an entry: whether no row of it refuses that.
+fn admits(kind: Kind, entry: &Entry) -> bool {
+    let refuses = |row: &Row| match row {
+        Row::Absent => entry.mark == 0x41,
+        Row::Paused => entry.mark == 0x50,
+        Row::PausedEmpty => entry.mark == 0x50 && entry.length == 0,
+        Row::Open => entry.mark == 0x4f,
+        Row::Complete => entry.mark == 0x43,
+        _ => false,
+    };
+    !kind.rows().iter().any(refuses)
+}
+
 /// A call of a kind that is accepted on a card with sheets of every standing, all places filled, and two free blocks or more
 /// behind each extent.
 pub fn accepted(kind: Kind, card: &Card, random: &mut Random) -> Call {
     if !kind.has_sheet() {
         return call(kind, 0, whole_number(kind, card, random));
     }
-    // The call admits the standings that no row of it refuses.
-    let standings = [
-        (Row::Absent, 0x41),
-        (Row::Paused, 0x50),
-        (Row::Open, 0x4f),
-        (Row::Complete, 0x43),
-    ];
-    let admits = |entry: &Entry| {
-        let standing = standings.iter().find(|(_, mark)| *mark == entry.mark);
-        standing.is_some_and(|(row, _)| !kind.rows().contains(row))
-    };
     let sheets: Vec<usize> = (0..card.sheets.len())
-        .filter(|sheet| admits(&card.sheets[*sheet]))
+        .filter(|sheet| admits(kind, &card.sheets[*sheet]))
         .collect();
     let sheet = random.one(&sheets);
     let number = match kind {

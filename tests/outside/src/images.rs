@@ -7,6 +7,8 @@ use crate::flaws::FLAWS;
 use crate::generate::Generator;
 use crate::library::{bytes, words};
 use crate::lists::small_size;
+use crate::pauses::is_paused_course;
+use bitwise::before;
 use bitwise::blocks::{survey, words_of, FREE, TAKEN};
 use bitwise::call::{call, Kind, LOAD, SAVE};
 use bitwise::card::{entry, Answer, Card};
@@ -81,11 +83,14 @@ pub fn other_tables(n: usize, c: usize) -> Card {
     }
 }
 
-/// A sound state without the card's bytes, which save and load are not lent.
+/// A sound state without the card's bytes, which save and load are not lent. Some of its finished courses are paused.
 fn sound_state(n: usize, c: usize, random: Random) -> (Card, Random) {
     let generator = &mut Generator::new(random);
     let mut card = state(n, c, generator);
     card.bytes = Vec::new();
+    for entry in card.sheets.iter_mut().filter(|entry| entry.mark == 0x43) {
+        entry.mark = generator.random.one(&[0x43, 0x50]);
+    }
     (card, Random(generator.random.draw()))
 }
 
@@ -96,9 +101,15 @@ fn there_and_back(card: &Card, margin: usize, counts: &mut Counts) -> Result<Vec
     let length = BLOCK * blocks_of(n, c);
     let (answer, image) = save(card, w, length, margin, counts)?;
     counts.note_image("save, a sound state", answer);
+    if card.sheets.iter().any(is_paused_course) {
+        counts.note_image("save, a paused course", answer);
+    }
     let mut loaded = other_tables(n, c);
     let answer = load(&mut loaded, &image, w, margin, counts)?;
     counts.note_image("load, what was saved", answer);
+    if card.sheets.iter().any(is_paused_course) {
+        counts.note_image("load, a paused course", answer);
+    }
     if loaded != *card {
         return Err("what was saved did not load back".to_string());
     }
@@ -199,6 +210,20 @@ fn flaws(
             .resize(64 * random.within(0, words_of(n) + 2), FREE);
         let answer = load(&mut lent, &image, words_of(n), margin, counts).map_err(about)?;
         counts.note_image("load, a flaw and another map", answer);
+    }
+    Ok(())
+}
+
+/// An image from before a paused sheet could have blocks is loaded, and saved again byte for byte.
+pub fn from_before(margin: usize, counts: &mut Counts) -> Result<(), String> {
+    let mut loaded = other_tables(1000, 60);
+    let answer = load(&mut loaded, before::IMAGE, words_of(1000), margin, counts)?;
+    counts.note_image("load, an image from before", answer);
+    if loaded != before::card() {
+        return Err("the image from before loaded as another card".to_string());
+    }
+    if there_and_back(&loaded, margin, counts)? != before::IMAGE {
+        return Err("the image from before is saved as another image".to_string());
     }
     Ok(())
 }

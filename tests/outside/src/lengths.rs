@@ -23,9 +23,9 @@ pub fn one(card: &Card, call: Call, margin: usize, counts: &mut Counts) -> Resul
     })
 }
 
-/// A card of 70 blocks: sheet 0 is complete, sheet 1 open and filled, sheet 2 absent.
-fn three_sheets() -> Card {
-    let mut card = used_card(70, 3, &mut Random::of(0));
+/// A card of 70 blocks: sheet 0 is complete, sheet 1 open and filled, sheet 2 absent, sheet 3 a paused course.
+fn four_sheets() -> Card {
+    let mut card = used_card(70, 4, &mut Random::of(0));
     let calls = [
         call(Kind::Fresh, 0, 70),
         call(Kind::Reserve, 0, 2),
@@ -34,6 +34,11 @@ fn three_sheets() -> Card {
         call(Kind::Complete, 0, 0),
         call(Kind::Reserve, 1, 1),
         call(Kind::Put, 1, 0),
+        accept(3, 10, 2),
+        call(Kind::Put, 3, 0),
+        call(Kind::Put, 3, 1),
+        call(Kind::Complete, 3, 0),
+        call(Kind::Pause, 3, 0),
     ];
     for call in calls {
         card.call(call, &mut call.slice());
@@ -43,7 +48,7 @@ fn three_sheets() -> Card {
 
 /// Each slice of each call in many lengths, the others as they should be.
 pub fn lengths(margin: usize, counts: &mut Counts) -> Result<(), String> {
-    let whole = three_sheets();
+    let whole = four_sheets();
     for (kind, ..) in CALLS {
         let call = accepted(kind, &whole, &mut Random::of(1));
         for card in other_lengths(&whole) {

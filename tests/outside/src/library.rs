@@ -86,6 +86,8 @@ mod c {
             card: *const u8, cardlen: usize, sheet: u32) -> Outcome;
         pub fn pagunlit_pause(shape: Shape, map: *const u64, maplen: usize, catalogue: *mut Entry, cataloguelen: usize,
             sheet: u32) -> Outcome;
+        pub fn pagunlit_resume(shape: Shape, map: *const u64, maplen: usize, catalogue: *mut Entry, cataloguelen: usize,
+            sheet: u32) -> Outcome;
         pub fn pagunlit_release(shape: Shape, map: *mut u64, maplen: usize, catalogue: *mut Entry, cataloguelen: usize,
             sheet: u32) -> Outcome;
         pub fn pagunlit_standing(shape: Shape, map: *const u64, maplen: usize, catalogue: *const Entry, cataloguelen: usize,
@@ -192,6 +194,7 @@ impl Library {
                 Kind::Grow => c::pagunlit_grow(shape, map, w, sheets, c, card, length, sheet, number),
                 Kind::Complete => c::pagunlit_complete(shape, map, w, sheets, c, card, length, sheet),
                 Kind::Pause => c::pagunlit_pause(shape, map, w, sheets, c, sheet),
+                Kind::Resume => c::pagunlit_resume(shape, map, w, sheets, c, sheet),
                 Kind::Release => c::pagunlit_release(shape, map, w, sheets, c, sheet),
                 Kind::Show => c::pagunlit_show(shape, map, w, sheets, c, card, length, sheet, number, bytes, count),
                 Kind::Standing => c::pagunlit_standing(shape, map, w, sheets, c, sheet),

@@ -4,6 +4,7 @@ use crate::beside::{Beside, Compared};
 use crate::counts::Counts;
 use crate::generate::Generator;
 use crate::offers::Offers;
+use crate::pauses;
 use bitwise::blocks::words_of;
 use bitwise::call::{call, Call, Kind};
 use bitwise::card::{entry, Card};
@@ -73,6 +74,7 @@ fn follow(
         let call = generator.call(&beside.card);
         calls.push(call);
         offers.note(&beside.card, call, counts);
+        pauses::note(&beside.card, call, counts);
         beside.call(call, counts)?;
     }
     beside.finish()

@@ -21,6 +21,7 @@ mod lengths;
 mod library;
 mod lists;
 mod offers;
+mod pauses;
 mod placed;
 mod singles;
 mod spaces;
@@ -66,7 +67,10 @@ const GROUPS: &[Group] = &[
             part("small", lists::small, 2000, 200, 40),
             part("full", lists::full, 2, 1, 0),
         ],
-        report: |counts| counts.report(false).and_then(|()| counts.report_kinds(offers::expected())),
+        report: |counts| {
+            counts.report(false)?;
+            counts.report_kinds(offers::expected().chain(pauses::expected()))
+        },
     },
     // States that no list leads to.
     Group {
@@ -132,6 +136,7 @@ const GROUPS: &[Group] = &[
             part("images", images::images, 2000, 200, 60),
             part("bytes", images::image_bytes, 20, 1, 0),
             part("cut", |_, margin, counts| images::image_lengths(margin, counts), 1, 0, 0),
+            part("before", |_, margin, counts| images::from_before(margin, counts), 1, 0, 1),
             part("full-image", images::full_image, 1, 1, 0),
         ],
         report: Counts::report_images,

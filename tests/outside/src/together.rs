@@ -2,12 +2,11 @@
 //! is changed, or the call is, until the rows hold. Which of them the answer names shows their order.
 
 use crate::counts::Counts;
-use crate::damage::MARKS;
 use crate::generate::accepted;
 use crate::lengths::one;
 use bitwise::blocks::{survey, words_of, FREE, TAKEN};
 use bitwise::call::{Bytes, Call, Kind, CALLS};
-use bitwise::card::{entry, sealed, Card};
+use bitwise::card::{entry, sealed, Card, Entry};
 use bitwise::random::Random;
 use bitwise::rows::{pairs, Row};
 
@@ -33,14 +32,23 @@ pub fn together(seed: u64, margin: usize, counts: &mut Counts) -> Result<(), Str
     Ok(())
 }
 
+/// The standings of a sheet: a mark, and whether it has blocks.
+const STANDINGS: [(u32, bool); 5] = [
+    (0x41, false),
+    (0x50, false),
+    (0x50, true),
+    (0x4f, true),
+    (0x43, true),
+];
+
 /// A sound state with sheets of every standing, in any order. All places are filled, and behind each extent two blocks or more
 /// are free, so that each call has arguments with which it is accepted.
 pub fn card(random: &mut Random) -> Card {
-    let mut marks = MARKS.to_vec();
+    let mut standings = STANDINGS.to_vec();
     for _ in 0..random.within(0, 5) {
-        marks.insert(random.within(0, marks.len()), random.one(&MARKS));
+        standings.insert(random.within(0, standings.len()), random.one(&STANDINGS));
     }
-    marks.rotate_left(random.within(0, 4));
+    standings.rotate_left(random.within(0, 5));
     let mut card = Card {
         n: random.within(0, 3),
         free: 0,
@@ -48,9 +56,8 @@ pub fn card(random: &mut Random) -> Card {
         sheets: Vec::new(),
         bytes: Vec::new(),
     };
-    for mark in marks {
+    for (mark, held) in standings {
         let (start, length) = (card.n as u32, random.one(&[1, 2, 2, 3, 3, 4, 20]));
-        let held = mark == 0x4f || mark == 0x43;
         card.sheets.push(if held {
             entry(mark, start, length)
         } else {
@@ -90,7 +97,7 @@ fn fill(card: &mut Card, random: &mut Random) {
 /// limits last, so that one change does not undo another.
 fn step(row: Row) -> u32 {
     match row {
-        Row::Absent | Row::Paused | Row::Open | Row::Complete => 0,
+        Row::Absent | Row::Paused | Row::PausedEmpty | Row::Open | Row::Complete => 0,
         Row::NoPlace | Row::NoBlocks | Row::SliceLength | Row::Unsound => 1,
         Row::Blank | Row::NoFit | Row::NotNext | Row::RunNotFree => 2,
         Row::NoStep | Row::BeforeAboveN => 2,
@@ -107,10 +114,13 @@ fn step(row: Row) -> u32 {
 fn make_hold(row: Row, card: &mut Card, call: &mut Call, random: &mut Random) {
     let c = card.sheets.len() as u32;
     match row {
-        Row::Absent => call.sheet = sheet_of(card, 0x41, call.sheet),
-        Row::Paused => call.sheet = sheet_of(card, 0x50, call.sheet),
-        Row::Open => call.sheet = sheet_of(card, 0x4f, call.sheet),
-        Row::Complete => call.sheet = sheet_of(card, 0x43, call.sheet),
+        Row::Absent => call.sheet = sheet_of(card, random, |e| e.mark == 0x41),
+        Row::Paused => call.sheet = sheet_of(card, random, |e| e.mark == 0x50),
+        Row::PausedEmpty => {
+            call.sheet = sheet_of(card, random, |e| e.mark == 0x50 && e.length == 0)
+        }
+        Row::Open => call.sheet = sheet_of(card, random, |e| e.mark == 0x4f),
+        Row::Complete => call.sheet = sheet_of(card, random, |e| e.mark == 0x43),
         Row::NoSheet => call.sheet = random.one(&[c, c + 1, u32::MAX]),
         Row::NoBlocks => call.number = 0,
         Row::NoPlace => {
@@ -173,10 +183,12 @@ pub fn wrong_limit(row: Row, card: &mut Card, random: &mut Random) {
     }
 }
 
-/// The first sheet with a mark that is not the sheet at hand, which is kept if there is none.
-fn sheet_of(card: &Card, mark: u32, sheet: u32) -> u32 {
-    let found = card.sheets.iter().position(|entry| entry.mark == mark);
-    found.map_or(sheet, |found| found as u32)
+/// A sheet with a standing: the card has one of each.
+fn sheet_of(card: &Card, random: &mut Random, stands: fn(&Entry) -> bool) -> u32 {
+    let sheets: Vec<usize> = (0..card.sheets.len())
+        .filter(|sheet| stands(&card.sheets[*sheet]))
+        .collect();
+    random.one(&sheets) as u32
 }
 
 /// An entry that keeps its mark, more often than not, and breaks its rule; or a free block in its extent.

@@ -99,6 +99,8 @@ const EACH: &str = "
     offer 0 2
     accept 0 5 2
     release 0
+    pause 1
+    resume 1
 ";
 
 /// Too few or too many words, entries and bytes lent, and shapes outside their limits, and at them.

@@ -1,34 +1,7 @@
-//! Lists for pause, release, show and standing. A line is a call, or with + what no call does.
+//! Lists for release, show and standing. A line is a call, or with + what no call does.
 
-pub(super) const LISTS: &[(&str, &str)] = &[
-    ("pause", PAUSE),
-    ("release", RELEASE),
-    ("show", SHOW),
-    ("standing", STANDING),
-];
-
-const PAUSE: &str = "
-    pause 0
-    standing 0
-    pause 0
-    reserve 1 2
-    pause 1
-    put 1 0 1 496
-    put 1 1 1 496
-    complete 1
-    pause 1
-    release 0
-    pause 0
-    pause 4
-
-    +entry 2 0 0 0
-    pause 2
-    +entry 2 80 0 1
-    pause 2
-    +entry 2 65 0 0
-    +shape 70 0
-    pause 2
-";
+pub(super) const LISTS: &[(&str, &str)] =
+    &[("release", RELEASE), ("show", SHOW), ("standing", STANDING)];
 
 const RELEASE: &str = "
     release 0
@@ -153,6 +126,26 @@ const STANDING: &str = "
     +entry 3 80 1 0
     standing 3
     +entry 3 80 0 1
+    standing 3
+    +entry 3 80 2 62
+    standing 3
+    +entry 3 80 63 2
+    standing 3
+    +entry 3 80 0 65
+    standing 3
+    +entry 3 80 65 1
+    standing 3
+    +entry 3 80 64 2
+    standing 3
+    +entry 3 80 70 0
+    standing 3
+    +entry 3 80 0 71
+    standing 3
+    +entry 3 80 1 4294967295
+    standing 3
+    +entry 3 80 4294967295 1
+    standing 3
+    +entry 3 80 4294967295 0
     standing 3
 
     +entry 3 79 0 0

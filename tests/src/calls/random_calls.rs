@@ -59,7 +59,8 @@ pub(super) fn random_call(x: u64) -> String {
             format!("put {sheet} {place} {first} {}", random_length(z))
         }
         38..=47 => format!("complete {sheet}"),
-        48..=61 => format!("show {sheet} {place} {}", random_length(z)),
+        48..=59 => format!("show {sheet} {place} {}", random_length(z)),
+        60..=61 => format!("resume {sheet}"),
         _ => format!("standing {sheet}"),
     }
 }

@@ -123,6 +123,41 @@ fn refused_offers_and_accepts() {
     assert_eq!(ledger.accept(2, 60, 40), Ok(Start(60, 40)));
 }
 
+/// Document 02, (g): a finished course that is paused keeps its payloads and covers its blocks; a pause without blocks is not
+/// resumed.
+#[test]
+fn a_course_is_paused_and_taken_up_again() {
+    let mut ledger = Ledger::fresh(10, 3);
+    let buffer = &mut [0; 496];
+    assert_eq!(ledger.reserve(0, 2, plain(10)), Ok(Start(0, 10)));
+    assert_eq!(ledger.pause(0), Err(Refused(7)));
+    assert_eq!(ledger.resume(0), Err(Refused(7)));
+    assert_eq!(ledger.put(0, 0, &[7; 496]), Ok(Done));
+    assert_eq!(ledger.put(0, 1, &[8; 496]), Ok(Done));
+    assert_eq!(ledger.complete(0), Ok(Done));
+    assert_eq!(ledger.resume(0), Err(Refused(8)));
+    assert_eq!(ledger.pause(0), Ok(Done));
+    assert_eq!(ledger.entry(0), entry(0x50, 0, 2));
+    assert_eq!(ledger.block(0, 1), sealed(0, 1, &[8; 496]));
+    assert_eq!(ledger.pause(0), Err(Refused(6)));
+    assert_eq!(ledger.show(0, 0, buffer), Err(Refused(6)));
+    assert_eq!(ledger.offer(1, 9), Err(Refused(10)));
+    assert_eq!(ledger.resume(0), Ok(Done));
+    assert_eq!(ledger.show(0, 1, buffer), Ok(Done));
+    assert_eq!(buffer[0], 8);
+    assert_eq!(ledger.pause(0), Ok(Done));
+    assert_eq!(ledger.release(0), Ok(Done));
+    assert_eq!((ledger.returned, ledger.free_count()), (2, 10));
+    assert_eq!(ledger.resume(0), Err(Refused(5)));
+    assert_eq!(ledger.pause(0), Ok(Done));
+    assert_eq!(ledger.entry(0), entry(0x50, 0, 0));
+    assert_eq!(ledger.resume(0), Err(Refused(6)));
+    assert_eq!(ledger.show(0, 0, buffer), Err(Refused(6)));
+    assert_eq!(ledger.release(0), Ok(Done));
+    assert_eq!(ledger.resume(3), Err(Refused(2)));
+    assert_eq!((ledger.granted, ledger.returned), (2, 2));
+}
+
 /// A call for one of 3 sheets: a reserve of any kind, an offer, or a release.
 fn random_call(n: usize, random: &mut Random) -> Call {
     let (sheet, k) = (random.within(0, 3) as u32, random.within(0, n) as u32 / 3);
