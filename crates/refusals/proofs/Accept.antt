@@ -1,30 +1,26 @@
 -- What the rows of accept and its effects say: the verdict in each case, and what the call then hands back and leaves.
 -- Assumes nothing.
-use mathlib.Core.Path.{_≡_, sym, ap, _∙_}
+use mathlib.Core.Path.{_≡_, ap}
 use mathlib.Core.Bool.{true, false, not}
 use mathlib.Core.List.{List, [], _∷_}
-use Prim.Native.Nat.{ℕ, _+_, _≤_, _<_, _-_}
+use Prim.Native.Nat.{ℕ, _≤_, _<_, _-_}
 use borrow.Author.Tests.{eq-eqb, ne-eqb, lt-ltb, le-ltb, ltb-false, not-false}
 use lib.Dec.{eqb, ltb}
-use Rattle.catalogue.specs.Entries.{openMark}
 use Rattle.map_blocks.specs.Blocks.{fit, free}
-use Rattle.map_blocks.specs.Maps.{marked}
-use Rattle.blocks_of_card.specs.Card.{zeroed}
 use Rattle.catalogue_standings.specs.Openings.{rowOf}
-use Rattle.catalogue_standings.specs.Rows.{Row, row, Verdict, accepted, refused, firstOf, settle}
-use Rattle.catalogue_standings.specs.Searches.{startWithSpace}
+use Rattle.catalogue_standings.specs.Rows.{Row, row, Verdict, accepted, refused, firstOf}
 use Rattle.catalogue_standings.specs.declared.Opened.the-variants.{Refused, Stands}
 use Rattle.catalogue_standings.specs.declared.Standing.{Standing}
 use Rattle.catalogue_standings.specs.declared.Standing.the-variants.{Absent}
 use Rattle.catalogue_standings.proofs.Openings.{NotAbsent, closed, skip, stop, none-left}
-use Rattle.refusals.specs.Effects.{acceptVerdict, entryOf, outOf, refusalOut, acceptOut, acceptMap, acceptCard}
-use Rattle.refusals.specs.Effects.{takenOut, takenMap, takenCard}
+use Rattle.refusals.specs.Effects.{acceptVerdict, acceptOut, acceptMap, acceptCard}
 use Rattle.refusals.specs.Lent.{Lent}
 use Rattle.refusals.specs.Table.{on, accept, tableOf}
 use Rattle.refusals.specs.Views.{viewOn}
 use Rattle.refusals.specs.declared.Out.{Out}
 use Rattle.refusals.proofs.Admitted.{absent-else, absent-passes}
 use Rattle.refusals.proofs.Lent.{first, sized}
+use Rattle.refusals.proofs.Taken.{Leaves}
 use Rattle.refusals.proofs.Room.{Room, viewOf, fit-inside}
 use Rattle.refusals.proofs.Rows.{clear}
 
@@ -75,43 +71,9 @@ module _ (q : Lent) (start k : ℕ) where
         enough = ltb-false (q .spare) k (clear 4 rows h .1 .0);
       }
 
-  -- ---- what the call then hands back and leaves
+  -- ---- what the call hands back and leaves
 
-  abbrev pub Leaves : Out → List ℕ → List ℕ → Type 0
-  Leaves r map card =
-      (r ≡ acceptOut q start k)
-      × (map ≡ acceptMap q start k)
-      × (card ≡ acceptCard q start k)
-
-  -- what is handed back on acceptance
-  abbrev given : Out
-  given = outOf (q .spare - k) (entryOf openMark start k) (startWithSpace (free (q .map)) (q .n) start)
-
-  -- each after its verdict
-  pub out : (v : Verdict) → acceptVerdictOn ≡ v → settle v given (refusalOut (q .spare) (q .entry)) ≡ acceptOut q start k
-  unfolding acceptOut takenOut
-  out v h = ap (λ (w : Verdict). settle w given (refusalOut (q .spare) (q .entry))) (sym h)
-
-  pub map-after : (v : Verdict) → acceptVerdictOn ≡ v
-      → settle v (marked (q .map) start k false) (λ number. q .map) ≡ acceptMap q start k
-  unfolding acceptMap takenMap
-  map-after v h = ap (λ (w : Verdict). settle w (marked (q .map) start k false) (λ number. q .map)) (sym h)
-
-  pub card-after : (v : Verdict) → acceptVerdictOn ≡ v
-      → settle v (zeroed (q .card) start k) (λ number. q .card) ≡ acceptCard q start k
-  unfolding acceptCard takenCard
-  card-after v h = ap (λ (w : Verdict). settle w (zeroed (q .card) start k) (λ number. q .card)) (sym h)
-
-  pub unchanged : (number : ℕ) (r : Out) → acceptVerdictOn ≡ refused number → r ≡ refusalOut (q .spare) (q .entry) number
-      → Leaves r (q .map) (q .card)
-  unchanged number r h made = (made ∙ out (refused number) h, map-after (refused number) h, card-after (refused number) h)
-
-  pub changed : (s : ℕ) (r : Out) (map card : List ℕ) → acceptVerdictOn ≡ accepted → s ≡ start
-      → r ≡ outOf (q .spare - k) (entryOf openMark s k) (startWithSpace (free (q .map)) (q .n) s)
-      → map ≡ marked (q .map) s k false → card ≡ zeroed (q .card) s k → Leaves r map card
-  changed s r map card h same made marks zeros = (
-    made ∙ ap (λ (t : ℕ). outOf (q .spare - k) (entryOf openMark t k) (startWithSpace (free (q .map)) (q .n) t)) same
-        ∙ out accepted h,
-    marks ∙ ap (λ (t : ℕ). marked (q .map) t k false) same ∙ map-after accepted h,
-    zeros ∙ ap (λ (t : ℕ). zeroed (q .card) t k) same ∙ card-after accepted h,
-  )
+  pub taken : (r : Out) (map card : List ℕ) → Leaves q acceptVerdictOn start k r map card
+      → (r ≡ acceptOut q start k) × (map ≡ acceptMap q start k) × (card ≡ acceptCard q start k)
+  unfolding acceptOut acceptMap acceptCard
+  taken r map card h = h

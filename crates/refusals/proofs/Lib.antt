@@ -5,6 +5,7 @@ pub mod Lent
 pub mod Placement
 pub mod Places
 pub mod Room
+pub mod Taken
 pub mod Reserve
 pub mod Offer
 pub mod Accept

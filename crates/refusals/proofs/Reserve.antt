@@ -1,21 +1,20 @@
 -- What the rows of reserve and its effects say: the verdict in each case, and what the call then hands back and leaves.
 -- Assumes nothing.
-use mathlib.Core.Path.{_≡_, refl, sym, ap, _∙_}
+use mathlib.Core.Path.{_≡_, refl, sym, ap}
 use mathlib.Core.List.{List, [], _∷_}
 use Prim.Native.Nat.{ℕ, _≤_, _<_, _-_}
 use borrow.Author.Tests.{eq-eqb, ne-eqb, lt-ltb, le-ltb}
 use lib.Dec.{eqb, ltb}
-use Rattle.catalogue.specs.Entries.{openMark}
 use Rattle.map_blocks.specs.Blocks.{free}
 use Rattle.map_blocks.specs.declared.Found.{Found}
 use Rattle.map_blocks.specs.declared.Found.the-variants.{At, Nothing}
-use Rattle.catalogue_standings.specs.Searches.{startAt, none, startWithSpace}
-use Rattle.refusals.specs.Effects.{reserveVerdict, reserveStart, entryOf, outOf, refusalOut, reserveOut, reserveMap}
-use Rattle.refusals.specs.Effects.{reserveCard, takenOut, takenMap, takenCard}
+use Rattle.catalogue_standings.specs.Searches.{startAt, none}
+use Rattle.refusals.specs.Effects.{reserveVerdict, reserveStart, reserveOut, reserveMap}
+use Rattle.refusals.specs.Effects.{reserveCard}
 use Rattle.refusals.specs.Placement.{Placement, plain, placed, figures, figuresIn, misfigured, leastWithin}
 use Rattle.refusals.specs.declared.Figures.{Figures}
 use Rattle.catalogue_standings.specs.Openings.{rowOf}
-use Rattle.catalogue_standings.specs.Rows.{Row, row, Verdict, accepted, refused, firstOf, settle}
+use Rattle.catalogue_standings.specs.Rows.{Row, row, accepted, refused, firstOf}
 use Rattle.refusals.specs.Table.{tableOf}
 use Rattle.refusals.specs.Views.{viewOn}
 use Rattle.catalogue_standings.specs.declared.Opened.the-variants.{Refused, Stands}
@@ -25,10 +24,9 @@ use Rattle.refusals.proofs.Admitted.{absent-else, absent-passes}
 use Rattle.refusals.specs.Lent.{Lent}
 use Rattle.refusals.proofs.Lent.{first}
 use Rattle.catalogue_standings.proofs.Openings.{NotAbsent, closed, skip, stop, none-left}
+use Rattle.refusals.proofs.Taken.{Leaves}
 use Rattle.refusals.proofs.Room.{reserveVerdictOn, reserveStartOn}
 use mathlib.Core.Bool.{true, false}
-use Rattle.map_blocks.specs.Maps.{marked}
-use Rattle.blocks_of_card.specs.Card.{zeroed}
 use Rattle.refusals.specs.declared.Out.{Out}
 
 -- ---- the verdict in each case
@@ -79,47 +77,13 @@ module _ (q : Lent) (k : ℕ) (p : Placement) where
   unfolding reserveStart
   starts s f = sym (ap startAt f)
 
--- ---- what the call then hands back and leaves
+-- ---- what the call hands back and leaves
 
-module _ (q : Lent) (k : ℕ) (p : Placement) where
-  -- what the call hands back and leaves
-  abbrev pub Leaves : Out → List ℕ → List ℕ → Type 0
-  Leaves r map card =
-      (r ≡ reserveOut q k p)
-      × (map ≡ reserveMap q k p)
-      × (card ≡ reserveCard q k p)
-
-  -- what is handed back on acceptance, for the blocks from s on
-  abbrev given : ℕ → Out
-  given s = outOf (q .spare - k) (entryOf openMark s k) (startWithSpace (free (q .map)) (q .n) s)
-
-  -- each after its verdict
-  pub out : (v : Verdict) → reserveVerdictOn q k p ≡ v
-      → settle v (given (reserveStartOn q k p)) (refusalOut (q .spare) (q .entry)) ≡ reserveOut q k p
-  unfolding reserveOut takenOut
-  out v h = ap (λ (w : Verdict). settle w (given (reserveStartOn q k p)) (refusalOut (q .spare) (q .entry))) (sym h)
-
-  pub map-after : (v : Verdict) → reserveVerdictOn q k p ≡ v
-      → settle v (marked (q .map) (reserveStartOn q k p) k false) (λ number. q .map) ≡ reserveMap q k p
-  unfolding reserveMap takenMap
-  map-after v h = ap (λ (w : Verdict). settle w (marked (q .map) (reserveStartOn q k p) k false) (λ number. q .map)) (sym h)
-
-  pub card-after : (v : Verdict) → reserveVerdictOn q k p ≡ v
-      → settle v (zeroed (q .card) (reserveStartOn q k p) k) (λ number. q .card) ≡ reserveCard q k p
-  unfolding reserveCard takenCard
-  card-after v h = ap (λ (w : Verdict). settle w (zeroed (q .card) (reserveStartOn q k p) k) (λ number. q .card)) (sym h)
-
-  pub unchanged : (number : ℕ) (r : Out) → reserveVerdictOn q k p ≡ refused number → r ≡ refusalOut (q .spare) (q .entry) number
-      → Leaves r (q .map) (q .card)
-  unchanged number r h made = (made ∙ out (refused number) h, map-after (refused number) h, card-after (refused number) h)
-
-  pub changed : (s : ℕ) (r : Out) (map card : List ℕ) → reserveVerdictOn q k p ≡ accepted → s ≡ (reserveStartOn q k p)
-      → r ≡ given s → map ≡ marked (q .map) s k false → card ≡ zeroed (q .card) s k → Leaves r map card
-  changed s r map card h same made marks zeros = (
-    made ∙ ap given same ∙ out accepted h,
-    marks ∙ ap (λ (t : ℕ). marked (q .map) t k false) same ∙ map-after accepted h,
-    zeros ∙ ap (λ (t : ℕ). zeroed (q .card) t k) same ∙ card-after accepted h,
-  )
+pub taken : (q : Lent) (k : ℕ) (p : Placement) (r : Out) (map card : List ℕ)
+    → Leaves q (reserveVerdictOn q k p) (reserveStartOn q k p) k r map card
+    → (r ≡ reserveOut q k p) × (map ≡ reserveMap q k p) × (card ≡ reserveCard q k p)
+unfolding reserveOut reserveMap reserveCard
+taken q k p r map card h = h
 
 -- ---- the plain reserve is the one with 0, n and 1
 

@@ -8,7 +8,8 @@ use Rattle.refusals.specs.Lent.{lent}
 use Rattle.refusals_rulings.proofs.Rulings.{accepts, refuses}
 use Rattle.call_reserve.proofs.accept.accept.Statement.{statement}
 use Rattle.call_reserve.proofs.accept.accept.Tie as tie
-use Rattle.refusals.proofs.Accept.{acceptVerdictOn, accept-room, unchanged, changed}
+use Rattle.refusals.proofs.Accept.{acceptVerdictOn, accept-room, taken}
+use Rattle.refusals.proofs.Taken.{unchanged, changed}
 
 accept-ruling-requires : tie.Need-accept-ruling-requires
 accept-ruling-requires c κs = search needs
@@ -51,9 +52,10 @@ returns c =
     let a = place .before .before .before .before .before .before .before .args in
     let q = lent (a .n) (a .free) (now (a .map)) (now (a .card)) (a .c) (a .entry) (a .sheet) in
     let number = place .row .given .0 .0 in
-    unchanged q (a .start) (a .k) number (c .refusal .result)
+    taken q (a .start) (a .k) _ _ _
+    (unchanged q (acceptVerdictOn q (a .start) (a .k)) (a .start) (a .k) number (c .refusal .result)
     (refuses (a .start) (call .result) (acceptVerdictOn q (a .start) (a .k)) number (call .ensures) (place .row .given .1))
-    (c .refusal .ensures)
+    (c .refusal .ensures))
 
 same-length-3 : tie.Need-same-length-3
 same-length-3 c = search needs
@@ -70,9 +72,11 @@ returns-2 c =
     let q = lent (a .n) (a .free) (now (a .map)) (now (a .card)) (a .c) (a .entry) (a .sheet) in
     let ruled = accepts (a .start) (call .result) (acceptVerdictOn q (a .start) (a .k)) (place .at .given .0 .0)
     (call .ensures) (place .at .given .1) in
-    let taken = end .take in
-    changed q (a .start) (a .k) (place .at .given .0 .0) (taken .result) _ _ (ruled .0) (ruled .1)
-    (taken .ensures .0) (taken .ensures .1) (taken .ensures .2)
+    let call = end .take in
+    taken q (a .start) (a .k) _ _ _
+    (changed q (acceptVerdictOn q (a .start) (a .k)) (a .start) (a .k)
+    (place .at .given .0 .0) (call .result) _ _ (ruled .0) (ruled .1)
+    (call .ensures .0) (call .ensures .1) (call .ensures .2))
 
 pub accept-spec : {M : Type 1} → statement M
 accept-spec =

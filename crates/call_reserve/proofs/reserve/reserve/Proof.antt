@@ -10,7 +10,8 @@ use Rattle.refusals.proofs.Room.{reserveVerdictOn, reserveStartOn, reserve-room
 use Rattle.refusals_rulings.proofs.Rulings.{accepts, refuses}
 use Rattle.call_reserve.proofs.reserve.reserve.Statement.{statement}
 use Rattle.call_reserve.proofs.reserve.reserve.Tie as tie
-use Rattle.refusals.proofs.Reserve.{unchanged, changed}
+use Rattle.refusals.proofs.Reserve.{taken}
+use Rattle.refusals.proofs.Taken.{unchanged, changed}
 
 reserve-ruling-requires : tie.Need-reserve-ruling-requires
 reserve-ruling-requires c κs = search needs
@@ -56,9 +57,10 @@ returns c =
     let q = lent (a .n) (a .free) (now (a .map)) (now (a .card)) (a .c) (a .entry) (a .sheet) in
     let p = placed (a .figures) in
     let number = place .row .given .0 .0 in
-    unchanged q (a .k) p number (c .refusal .result)
+    taken q (a .k) p _ _ _
+    (unchanged q (reserveVerdictOn q (a .k) p) (reserveStartOn q (a .k) p) (a .k) number (c .refusal .result)
     (refuses (reserveStartOn q (a .k) p) (call .result) (reserveVerdictOn q (a .k) p) number (call .ensures)
-    (place .row .given .1)) (c .refusal .ensures)
+    (place .row .given .1)) (c .refusal .ensures))
 
 same-length-3 : tie.Need-same-length-3
 same-length-3 c = search needs
@@ -76,9 +78,11 @@ returns-2 c =
     let p = placed (a .figures) in
     let ruled = accepts (reserveStartOn q (a .k) p) (call .result) (reserveVerdictOn q (a .k) p) (place .start .given .0 .0)
     (call .ensures) (place .start .given .1) in
-    let taken = end .take in
-    changed q (a .k) p (place .start .given .0 .0) (taken .result) _ _ (ruled .0) (ruled .1)
-    (taken .ensures .0) (taken .ensures .1) (taken .ensures .2)
+    let call = end .take in
+    taken q (a .k) p _ _ _
+    (changed q (reserveVerdictOn q (a .k) p) (reserveStartOn q (a .k) p) (a .k)
+    (place .start .given .0 .0) (call .result) _ _ (ruled .0) (ruled .1)
+    (call .ensures .0) (call .ensures .1) (call .ensures .2))
 
 pub reserve-spec : {M : Type 1} → statement M
 reserve-spec =
