@@ -1,93 +1,30 @@
--- A search within three figures: what it knows at the window's ends and behind words that are all taken, that the run it finds
--- is the least
--- fit, and which starts are passed over.
+-- A search within three figures: that the run it finds is the least fit, and which starts are passed over.
 -- Assumes nothing.
 use mathlib.Core.Path.{_≡_, refl, sym, ap, _∙_, subst}
 use mathlib.Core.Logic.{⊎-elim}
-use mathlib.Core.Bool.{Bool, true, false, cond}
+use mathlib.Core.Bool.{Bool, true, false}
 use mathlib.Core.List.{List}
 use Prim.Native.Nat.{ℕ, _+_, _-_, _*_, _/_, _%_, _≤_, _<_, min}
 use native.Mathlib.Nat.{mod-eq-of-lt}
 use native.Mathlib.Omega.{arith}
 use lib.Dec.{eqb}
 use lib.ListN.{getD}
-use borrow.Author.Tests.{eqb-true}
 use Rattle.map_blocks.specs.Blocks.{free, all, onStep, fit, leastFit}
-use Rattle.map_blocks.specs.Words.{bit, inWindow}
+use Rattle.map_blocks.specs.Words.{bit}
 use Rattle.map_blocks.specs.declared.Found.{Found}
 use Rattle.map_blocks.specs.declared.Found.the-variants.{At, Nothing}
 use Rattle.map_blocks.proofs.Bits.{bit-zero}
 use Rattle.laws.proofs.Bools.{clash, order, both-ways}
-use Rattle.map_blocks.proofs.Fits.{Fits, is-fit, fit-is, no-fit, Spaced}
+use Rattle.map_blocks.proofs.Fits.{Fits, is-fit, fit-is, no-fit, on-mod, mod-on, Spaced}
 use Rattle.map_blocks.proofs.Least.{least-at, least-none, least-same}
 use Rattle.map_blocks.proofs.Maps.{free-bit}
-use Rattle.map_blocks.proofs.Runs.{all-intro, all-break}
-use Rattle.map_search_word.specs.Scan.{Carried}
-use Rattle.map_search.proofs.Window.{run-fit, fit-run, outside-after}
-use Rattle.map_search_starts.specs.Starts.{Held, Says}
+use Rattle.map_blocks.proofs.Runs.{all-intro, all-break, all-part}
+use Rattle.map_search_starts.specs.Starts.{NoRun, FirstRun}
 use Rattle.map_search_starts.proofs.Steps.{on-add}
-
--- ---- the window's ends
-
-pub held-none : (q f : ℕ → Bool) (k base : ℕ) → Carried f k base 0 → Held q f k base 0
-held-none q f k base at = record {
-  room = omega arith;
-  short = at .short;
-  start = λ h. absurd (omega arith);
-  held = λ t a b. absurd (omega arith);
-  none = λ t a x. at .none t a;
-}
-
-pub held-end : (q g : ℕ → Bool) (from before k base s : ℕ) → before ≤ base → Held q (inWindow g from before) k base s → (t : ℕ)
-    → q t ≡ true → all (inWindow g from before) t k ≡ false
-held-end q g from before k base s l at t x =
-    let h : s < k = at .short in
-    ⊎-elim (λ u. at .none t u x)
-    (λ u. all-break (inWindow g from before) t k (t + (k - 1)) (omega arith) (omega arith)
-    (outside-after g from before (t + (k - 1)) (omega arith))) (order (t + s) base)
-
--- behind blocks that are all taken, or with none between
-pub held-past : (q f : ℕ → Bool) (k end i s : ℕ) → end ≤ i → ((t : ℕ) → end * 64 ≤ t → t < i * 64 → f t ≡ false)
-    → Held q f k (end * 64) s → Held q f k (i * 64) (cond (eqb i end) s 0)
-held-past q f k end i s l taken at = by (eqb i end) refl
-  where
-    by : (b : Bool) → eqb i end ≡ b → Held q f k (i * 64) (cond b s 0)
-    by true e = subst (λ (x : ℕ). Held q f k (x * 64) s) (sym (eqb-true i end e)) at
-    by false e = past (⊎-elim (λ (u : end < i). u) (λ (u : i ≤ end). absurd (same e (omega arith))) (order end i))
-      where
-        same : eqb i end ≡ false → i ≡ end → ⊥
-        same e p = clash (eqb i end) (borrow.Author.Tests.eq-eqb i end p) e
-
-        past : end < i → Held q f k (i * 64) 0
-        past u = let h : s < k = at .short in record {
-          room = omega arith;
-          short = omega arith;
-          start = λ p. absurd (omega arith);
-          held = λ t a b. absurd (omega arith);
-          none = λ t a x.
-              ⊎-elim
-              (λ v. ⊎-elim (λ w. at .none t w x) (λ w. all-break f t k (end * 64) (omega arith) (omega arith)
-              (taken (end * 64) (omega arith) (omega arith))) (order (t + s) (end * 64)))
-              (λ v. all-break f t k t (omega arith) (omega arith) (taken t v (omega arith))) (order t (end * 64));
-        }
 
 -- ---- what is found
 
 module _ (g : ℕ → Bool) (from before step k : ℕ) where
-  pub says-least : 0 < k → (r : Found) → Says (onStep step) (inWindow g from before) k r → r ≡ leastFit g from before step k
-  unfolding leastFit
-  says-least h (At s) says =
-      let run = run-fit g from before k s h (says .fits) in
-      let u : s + k ≤ before = run .1 in
-      sym (least-at (fit g from before step k) 0 before s (omega arith) (omega arith)
-      (is-fit g from before step k s (record { low = run .0; high = u; free = run .2; placed = says .start }))
-      (λ t a b. no-fit g from before step k t (λ x. clash (all (inWindow g from before) t k) (fit-run g from before step k t x)
-      (says .none t b (x .placed)))))
-  says-least h Nothing says =
-      sym (least-none (fit g from before step k) 0 before (λ t a b.
-      no-fit g from before step k t (λ x. clash (all (inWindow g from before) t k) (fit-run g from before step k t x)
-      (says t (x .placed)))))
-
   pub found-at : (s : ℕ) → 0 < k → Fits g from before step k s → ((t : ℕ) → t < s → fit g from before step k t ≡ false)
       → At s ≡ leastFit g from before step k
   unfolding leastFit
@@ -122,28 +59,84 @@ module _ (g : ℕ → Bool) (from before step k : ℕ) where
       let e : from + (t - from) ≡ t = omega arith in
       clash (onStep step t) (x .placed) (ap (onStep step) (sym e) ∙ none (t - from) (omega arith)))
 
-  -- those that are taken
-  pub past-starts : (c r : ℕ) → 0 < k → ((t : ℕ) → c ≤ t → t < r → onStep step t ≡ true → g t ≡ false)
-      → ((t : ℕ) → t < c → fit g from before step k t ≡ false) → (t : ℕ) → t < r
-      → fit g from before step k t ≡ false
-  past-starts c r h taken none t l =
-      ⊎-elim (λ u. none t u)
-      (λ u. no-fit g from before step k t (λ x. clash (all g t k) (x .free)
-      (all-break g t k t (omega arith) (omega arith) (taken t u l (x .placed))))) (order t c)
+  -- those before the window
+  pub before-from : (t : ℕ) → t < from → fit g from before step k t ≡ false
+  before-from t l = no-fit g from before step k t (λ x. let a : from ≤ t = x .low in absurd (omega arith))
 
-  -- those whose run holds the taken block behind the space
-  pub past-space : (c r x : ℕ) → c % step ≡ 0 → r < k → Spaced g c (c + k) r
-      → ((t : ℕ) → r < t → t < x → onStep step t ≡ false) → ((t : ℕ) → t < c → fit g from before step k t ≡ false)
-      → (t : ℕ) → t < c + x → fit g from before step k t ≡ false
-  past-space c r x e l spaced gap none t u =
+  -- those before the first free block
+  pub past-free : (b : ℕ) → 0 < k → ((t : ℕ) → from ≤ t → t < b → t < before → g t ≡ false) → (t : ℕ) → t < b
+      → fit g from before step k t ≡ false
+  past-free b h taken t l =
+      no-fit g from before step k t (λ x.
+      let low : from ≤ t = x .low in
+      let high : t + k ≤ before = x .high in
+      clash (all g t k) (x .free) (all-break g t k t (omega arith) (omega arith) (taken t low l (omega arith))))
+
+  -- those from c on without a run
+  pub past-runs : (c r : ℕ) → NoRun (onStep step) g k c r → ((t : ℕ) → t < c → fit g from before step k t ≡ false) → (t : ℕ)
+      → t < r → fit g from before step k t ≡ false
+  past-runs c r runs none t l =
+      ⊎-elim (λ u. none t u)
+      (λ u. no-fit g from before step k t (λ x. clash (all g t k) (x .free) (runs t u l (x .placed)))) (order t c)
+
+  -- those whose run holds the taken block b
+  pub past-block : (c b : ℕ) → c ≤ b → b < c + k → g b ≡ false → ((t : ℕ) → t < c → fit g from before step k t ≡ false)
+      → (t : ℕ) → t < b + 1 → fit g from before step k t ≡ false
+  past-block c b l u taken none t h =
       ⊎-elim (λ v. none t v)
-      (λ v. no-fit g from before step k t (λ fits.
-      let q : c + (t - c) ≡ t = omega arith in
-      let on : onStep step (t - c) ≡ true = sym (on-add step c (t - c) e) ∙ ap (onStep step) q ∙ fits .placed in
-      let near : t - c ≤ r = ⊎-elim (λ (w : r < t - c). absurd (clash (onStep step (t - c)) on (gap (t - c) w (omega arith))))
-      (λ (w : t - c ≤ r). w) (order r (t - c)) in
-      clash (all g t k) (fits .free) (all-break g t k (c + r) (omega arith) (omega arith) (spaced .stop (omega arith)))))
-      (order t c)
+      (λ v. no-fit g from before step k t (λ x. clash (all g t k) (x .free)
+      (all-break g t k b (omega arith) (omega arith) taken))) (order t c)
+
+  -- where none starts before c, the search may begin there
+  pub begun : (c : ℕ) → from ≤ c → ((t : ℕ) → t < c → fit g from before step k t ≡ false)
+      → leastFit g c before step k ≡ leastFit g from before step k
+  unfolding leastFit
+  begun c l none = least-same (fit g c before step k) (fit g from before step k) 0 before (λ t a b.
+      both-ways (fit g c before step k t) (fit g from before step k t)
+      (λ e. let x = fit-is g c before step k t e in
+      let low : c ≤ t = x .low in
+      is-fit g from before step k t (record { low = omega arith; high = x .high; free = x .free; placed = x .placed }))
+      (λ e. let x = fit-is g from before step k t e in
+      is-fit g c before step k t (record {
+        low = ⊎-elim (λ (u : t < c). absurd (clash (fit g from before step k t) e (none t u))) (λ (u : c ≤ t). u) (order t c);
+        high = x .high;
+        free = x .free;
+        placed = x .placed;
+      })))
+
+-- no run of m, and so none of more
+pub no-longer : (q g : ℕ → Bool) (m k a b : ℕ) → m ≤ k → NoRun q g m a b → NoRun q g k a b
+no-longer q g m k a b l none t u v on = all-part g t k t m (omega arith) (omega arith) (none t u v on)
+
+-- no run starts where each start is taken
+pub taken-run : (q g : ℕ → Bool) (k a b : ℕ) → 0 < k → ((t : ℕ) → a ≤ t → t < b → q t ≡ true → g t ≡ false) → NoRun q g k a b
+taken-run q g k a b h taken t u v on = all-break g t k t (omega arith) (omega arith) (taken t u v on)
+
+-- those whose run holds the taken block behind the space of a start
+pub run-past : (g : ℕ → Bool) (step k c r x : ℕ) → c % step ≡ 0 → r < k → Spaced g c (c + k) r
+    → ((t : ℕ) → r < t → t < x → onStep step t ≡ false) → NoRun (onStep step) g k c (c + x)
+run-past g step k c r x e l spaced gap t a b on =
+    let q : c + (t - c) ≡ t = omega arith in
+    let near : onStep step (t - c) ≡ true = sym (on-add step c (t - c) e) ∙ ap (onStep step) q ∙ on in
+    let u : t - c ≤ r = ⊎-elim (λ (w : r < t - c). absurd (clash (onStep step (t - c)) near (gap (t - c) w (omega arith))))
+    (λ (w : t - c ≤ r). w) (order r (t - c)) in
+    all-break g t k (c + r) (omega arith) (omega arith) (spaced .stop (omega arith))
+
+-- from the words passed over on
+pub run-after : (q g : ℕ → Bool) (k a c b end r : ℕ) → a ≤ c → b ≤ end → NoRun q g k a c → FirstRun q g k c b r → r < b
+    → FirstRun q g k a end r
+run-after q g k a c b end r l u none first h =
+    let low : c ≤ r = first .low in
+    record {
+      low = omega arith;
+      high = omega arith;
+      none = λ t x y on. ⊎-elim (λ v. none t x v on) (λ v. first .none t v y on) (order t c);
+      start = λ v. first .start h;
+      fits = λ v. first .fits h;
+    }
+
+pub no-run-after : (q g : ℕ → Bool) (k a b c : ℕ) → NoRun q g k a b → NoRun q g k b c → NoRun q g k a c
+no-run-after q g k a b c p r t u v on = ⊎-elim (λ w. p t u w on) (λ w. r t w v on) (order t b)
 
 -- the whole run is free
 pub space-fits : (g : ℕ → Bool) (c k r : ℕ) → r ≡ k → Spaced g c (c + k) r → all g c k ≡ true
@@ -181,3 +174,7 @@ zero-free map first i zero b l u =
     let e : b / 64 * 64 + b % 64 ≡ b = omega arith in
     ap (free map) (sym e) ∙ free-bit map (b / 64) (b % 64) (omega arith)
     ∙ ap (λ (w : ℕ). bit w (b % 64)) (zero (b / 64) (omega arith) (omega arith)) ∙ bit-zero (b % 64)
+
+-- a multiple behind a multiple is one
+pub sum : (step a b : ℕ) → a % step ≡ 0 → b % step ≡ 0 → (a + b) % step ≡ 0
+sum step a b p q = on-mod step (a + b) (on-add step a b p ∙ mod-on step b q)

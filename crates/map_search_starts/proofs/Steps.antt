@@ -3,8 +3,8 @@
 use mathlib.Core.Path.{_≡_, refl, sym, ap, ap₂, _∙_}
 use mathlib.Core.Logic.{⊎-elim}
 use mathlib.Core.Bool.{Bool, true, false, _&&_, _||_}
-use Prim.Native.Nat.{ℕ, zero, suc, _+_, _-_, _/_, _%_, _^_, _≤_, _<_}
-use native.Mathlib.Nat.{mod-add-mod, mod-self, mod-eq-of-lt, zero-add, mod-lt, zero-mod}
+use Prim.Native.Nat.{ℕ, zero, suc, _+_, _-_, _*_, _/_, _%_, _^_, _≤_, _<_}
+use native.Mathlib.Nat.{mod-add-mod, mod-self, mod-eq-of-lt, zero-add, mod-lt, zero-mod, mul-mod-left, div-add-mod'}
 use native.Mathlib.Omega.{arith}
 use lib.Dec.{eqb, leb, ltb}
 use lib.Bits.{bitOr}
@@ -108,3 +108,42 @@ shifted step base r m b marks h l e j u =
     let q : base + r + (j - r) ≡ base + j = omega arith in
     ap (bit (m / 2 ^ r)) (sym p) ∙ bit-shr m r (j - r) (omega arith) ∙ marks (j - r) (omega arith)
     ∙ ap (onStep step) (zero-add (j - r)) ∙ sym (on-add step (base + r) (j - r) e) ∙ ap (onStep step) q) (order j r)
+
+-- ---- from a word to the next
+
+-- behind as many blocks as are a multiple
+moved : (step base far d : ℕ) → (base + far) % step ≡ 0 → d % step ≡ 0 → (d + (base + far)) % step ≡ 0
+moved step base far d e p = on-mod step (d + (base + far)) (on-add step d (base + far) p ∙ mod-on step (base + far) e)
+
+module _ (step base far rest : ℕ) (is : rest ≡ 64 % step) (e : (base + far) % step ≡ 0) where
+  whole : 64 / step * step + rest ≡ 64
+  whole = ap (λ (x : ℕ). 64 / step * step + x) is ∙ div-add-mod' 64 step
+
+  pub next-back : rest ≤ far → (base + 64 + (far - rest)) % step ≡ 0
+  next-back l = ap (λ (x : ℕ). x % step) (same (64 / step * step) whole)
+      ∙ moved step base far (64 / step * step) e (mul-mod-left (64 / step) step)
+    where
+      same : (d : ℕ) → d + rest ≡ 64 → base + 64 + (far - rest) ≡ d + (base + far)
+      same d p = omega arith
+
+  pub next-on : rest < step → (base + 64 + (far + step - rest)) % step ≡ 0
+  next-on l = ap (λ (x : ℕ). x % step) (same (64 / step * step) whole)
+      ∙ moved step base far (64 / step * step + step) e (on-mod step (64 / step * step + step)
+      (on-add step (64 / step * step) step (mul-mod-left (64 / step) step) ∙ mod-on step step (mod-self step)))
+    where
+      same : (d : ℕ) → d + rest ≡ 64 → base + 64 + (far + step - rest) ≡ (d + step) + (base + far)
+      same d p = omega arith
+
+-- where 64 is a multiple, so is the first block of each word
+words-on : (step a : ℕ) → 64 % step ≡ 0 → (a * 64) % step ≡ 0
+words-on step zero e = zero-mod step
+words-on step (suc a) e =
+    let p : suc a * 64 ≡ 64 + a * 64 = omega arith in
+    ap (λ (x : ℕ). x % step) p
+    ∙ on-mod step (64 + a * 64) (on-add step 64 (a * 64) e ∙ mod-on step (a * 64) (words-on step a e))
+
+pub same-bits : (step m : ℕ) → 64 % step ≡ 0 → Marks (onStep step) 0 m → (t : ℕ) → onStep step t ≡ true → bit m (t % 64) ≡ true
+same-bits step m e marks t on =
+    let p : t / 64 * 64 + t % 64 ≡ t = omega arith in
+    marks (t % 64) (omega arith) ∙ ap (onStep step) (zero-add (t % 64))
+    ∙ sym (on-add step (t / 64 * 64) (t % 64) (words-on step (t / 64) e)) ∙ ap (onStep step) p ∙ on

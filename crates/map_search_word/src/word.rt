@@ -9,7 +9,7 @@ use map_blocks::word::smaller;
 
 // Bit j of the result is 1 where the 16 bits of w from j on are: the first four rounds of 003, section 4.2, without a
 // branch between them. Shifts go left, so that a bit marks a run's start.
-fn sixteens(w: u64) -> u64
+pub fn sixteens(w: u64) -> u64
     ensures { λ r. ⌜ ((j : ℕ) → bit r j ≡ all (bit w) j 16) ⌝ }
 {
     let twos = w & (w << 1);

@@ -1,14 +1,24 @@
 -- `map_search_placed::search_placed` meets its contract: the plain search is the one from 0 on with a step of 1.
 -- Assumes nothing.
-use mathlib.Core.Path.{_≡_, sym, ap, _∙_}
-use Prim.Native.Nat.{ℕ, min}
+use mathlib.Core.Path.{_≡_, refl, sym, ap, _∙_, subst}
 use native.Mathlib.Omega.{arith}
+use mathlib.Core.Bool.{Bool, true, false}
 use denote.Ref.{now}
-use Rattle.map_blocks.specs.Blocks.{free, leastFit}
-use Rattle.map_search_placed.proofs.Figures.{says-least, empty-window, capped}
+use Prim.Native.Nat.{ℕ, _<_, min}
+use Rattle.map_blocks.specs.Blocks.{free, fit, leastFit}
+use Rattle.map_search_placed.proofs.Figures.{found-none, empty-window, past-free, begun, capped}
 use borrow.Author.Needs.{needs}
 use Rattle.map_search_placed.proofs.search_placed.Statement.{statement}
 use Rattle.map_search_placed.proofs.search_placed.Tie as tie
+
+-- no fit starts before the first free block
+none-to : (c : tie.After-reach) (t : ℕ) → t < c .reach .result
+    → fit (free (now (c .before .before .before .before .before .before .args .map))) (c .before .before .before .before .before .before .args .from) (c .before .before .before .before .before .before .args .before) (c .before .before .before .before .before .before .args .step)
+    (c .before .before .before .before .before .before .args .k) t ≡ false
+none-to c =
+    let a = c .before .before .before .before .before .before .args in
+    past-free (free (now (a .map))) (a .from) (a .before) (a .step) (a .k) (c .reach .result) (omega arith)
+    (c .reach .ensures .2)
 
 search-requires : tie.Need-search-requires
 search-requires c κs = search needs
@@ -24,30 +34,55 @@ returns-2 c =
     let a = c .before .before .before .args in
     empty-window (free (now (a .map))) (a .from) (a .before) (a .step) (a .k) (omega arith) (c .if3 .taken)
 
-search-near-requires : tie.Need-search-near-requires
-search-near-requires c κs = search needs
-
 returns-3 : tie.Need-returns-3
 returns-3 c =
-    let a = c .before .before .before .before .before .args in
-    says-least (free (now (a .map))) (a .from) (a .before) (a .step) (a .k) (omega arith) (c .search-near .result)
-    (c .search-near .ensures)
+    let a = c .before .before .before .before .args in
+    found-none (free (now (a .map))) (a .from) (a .before) (a .step) (a .k) 0 (omega arith) (λ t l. absurd (omega arith))
 
 smaller-requires : tie.Need-smaller-requires
 smaller-requires c κs = search needs
 
 search-far-requires : tie.Need-search-far-requires
 search-far-requires c κs =
-    let a = c .before .before .before .before .before .args in
+    let a = c .before .before .before .before .before .before .args in
     let e : c .smaller .result ≡ min (a .step) 262144 = c .smaller .ensures in
-    (omega arith, omega arith, omega arith, omega arith, omega arith, omega arith)
+    (omega arith, omega arith, omega arith, omega arith, omega arith, omega arith, omega arith)
 
 returns-4 : tie.Need-returns-4
 returns-4 c =
-    let a = c .before .before .before .before .before .before .args in
+    let a = c .before .before .before .before .before .before .before .args in
     c .search-far .ensures ∙ ap (λ (x : ℕ). leastFit (free (now (a .map))) (a .from) (a .before) x (a .k))
     (c .before .smaller .ensures)
     ∙ capped (free (now (a .map))) (a .from) (a .before) (a .step) 262144 (a .k) (omega arith)
+
+reach-requires : tie.Need-reach-requires
+reach-requires c κs = search needs
+
+returns-5 : tie.Need-returns-5
+returns-5 c =
+    let a = c .before .before .before .before .before .before .before .args in
+    found-none (free (now (a .map))) (a .from) (a .before) (a .step) (a .k) (c .before .reach .result) (omega arith)
+    (none-to (c .before))
+
+search-close-requires : tie.Need-search-close-requires
+search-close-requires c κs = search needs
+
+returns-6 : tie.Need-returns-6
+returns-6 c =
+    let a = c .before .before .before .before .before .before .before .before .before .args in
+    c .search-close .ensures
+    ∙ begun (free (now (a .map))) (a .from) (a .before) (a .step) (a .k) (c .before .before .before .reach .result) (omega arith)
+    (none-to (c .before .before .before))
+
+search-far-requires-2 : tie.Need-search-far-requires-2
+search-far-requires-2 c κs = search needs
+
+returns-7 : tie.Need-returns-7
+returns-7 c =
+    let a = c .before .before .before .before .before .before .before .before .before .args in
+    c .search-far2 .ensures
+    ∙ begun (free (now (a .map))) (a .from) (a .before) (a .step) (a .k) (c .before .before .before .reach .result) (omega arith)
+    (none-to (c .before .before .before))
 
 pub search-placed-spec : {M : Type 1} → statement M
 search-placed-spec =
@@ -56,8 +91,13 @@ search-placed-spec =
     search-requires
     returns
     returns-2
-    search-near-requires
     returns-3
     smaller-requires
     search-far-requires
-    returns-4)
+    returns-4
+    reach-requires
+    returns-5
+    search-close-requires
+    returns-6
+    search-far-requires-2
+    returns-7)

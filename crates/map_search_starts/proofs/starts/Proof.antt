@@ -5,21 +5,17 @@ use Rattle.map_search_starts.proofs.Steps.{shifted}
 use borrow.Author.Needs.{needs}
 use Rattle.map_search_starts.proofs.starts.Statement.{statement}
 use Rattle.map_search_starts.proofs.starts.Tie as tie
+use Rattle.map_search_starts.proofs.starts.Reads as reads
+use Rattle.map_search_starts.proofs.starts.Lts as lts
 
-ahead-requires : tie.Need-ahead-requires
-ahead-requires c κs = search needs
-
-cast-result : tie.Need-cast-result
-cast-result c = search needs
-
+-- src/lib.rt:79:5
 shr-result : tie.Need-shr-result
 shr-result c = search needs
 
+-- src/lib.rt:75:1
 returns : tie.Need-returns
-returns c =
-    let a = c .before .args in
-    shifted (a .step) (a .base) (c .ahead .result) (a .below) (omega arith) (c .before .pre .2) (omega arith) (omega arith)
-    (c .ahead .ensures .1)
+returns c = λ base e.
+    shifted (c .args .step) base (c .args .far) (c .args .below) (omega arith) (c .pre .2) (omega arith) (omega arith) e
 
 pub starts-spec : {M : Type 1} → statement M
-starts-spec = tie.close (tie.spec ahead-requires cast-result shr-result returns)
+starts-spec = tie.close (tie.spec shr-result returns)
