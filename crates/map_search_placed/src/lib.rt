@@ -4,6 +4,7 @@ ghost use mathlib.Core.Path.{_≡_};
 ghost use Prim.Native.Nat.{_*_, _<_, _≤_};
 ghost use lib.ListN.{length};
 ghost use Rattle.map_blocks.specs.Blocks.{free, leastFit};
+ghost use Rattle.map_blocks.specs.declared.Found.the-variants.{At};
 
 mod far;
 mod near;
@@ -18,21 +19,21 @@ use map_space::space;
 use near::search_near;
 use taken::reach;
 
-// The first start is looked at before anything else is worked out: where free blocks abound the search is mostly over there.
-fn search_close(map: &[u64], from: u32, before: u32, step: u32, k: u32) -> Found
+// The first start, where it is a fit; otherwise `before`. It is looked at before anything else is worked out: where free blocks
+// abound, the search is mostly over there.
+fn first_start(map: &[u64], from: u32, before: u32, step: u32, k: u32) -> u32
     requires { ⌜ (from < before) × (before ≤ 262144) × (before ≤ 64 * length (now map)) × (0 < k) × (k ≤ before)
         × (0 < step) × (step < 64) ⌝ }
-    ensures { λ r. ⌜ r ≡ leastFit (free (now (map .entry))) from before step k ⌝ }
+    ensures { λ r. ⌜ (r < before → At r ≡ leastFit (free (now (map .entry))) from before step k) ⌝ }
 {
     let c = from + ahead(from, step);
     if before - k < c {
-        return Found::Nothing;
+        return before;
     }
-    let r = space(map, c, c + k);
-    if r == k {
-        return Found::At(c);
+    if space(map, c, c + k) == k {
+        return c;
     }
-    search_near(map, c + r + 1, before, step, k)
+    before
 }
 
 // The least fit for k within the three figures. The plain search is handed 0 as a constant, and keeps the speed that it has
@@ -60,8 +61,12 @@ pub fn search_placed(map: &[u64], from: u32, before: u32, step: u32, k: u32) -> 
     if before <= b {
         return Found::Nothing;
     }
-    if step < 64 {
-        return search_close(map, b, before, step, k);
+    if 64 <= step {
+        return search_far(map, b, before, step, k);
     }
-    search_far(map, b, before, step, k)
+    let c = first_start(map, b, before, step, k);
+    if c < before {
+        return Found::At(c);
+    }
+    search_near(map, b, before, step, k)
 }

@@ -39,9 +39,6 @@ fn past(base: u32, step: u32) -> u32
     if step == 2 {
         return base % 2;
     }
-    if step == 4 {
-        return base % 4;
-    }
     if step == 8 {
         return base % 8;
     }

@@ -1,8 +1,8 @@
 -- `map_search_placed::search_placed` meets its contract: the plain search is the one from 0 on with a step of 1.
 -- Assumes nothing.
-use mathlib.Core.Path.{_≡_, refl, sym, ap, _∙_, subst}
+use mathlib.Core.Path.{_≡_, sym, ap, _∙_}
 use native.Mathlib.Omega.{arith}
-use mathlib.Core.Bool.{Bool, true, false}
+use mathlib.Core.Bool.{false}
 use denote.Ref.{now}
 use Prim.Native.Nat.{ℕ, _<_, min}
 use Rattle.map_blocks.specs.Blocks.{free, fit, leastFit}
@@ -19,6 +19,16 @@ none-to c =
     let a = c .before .before .before .before .before .before .args in
     past-free (free (now (a .map))) (a .from) (a .before) (a .step) (a .k) (c .reach .result) (omega arith)
     (c .reach .ensures .2)
+
+-- the search may begin there
+from-there : (c : tie.After-reach)
+    → leastFit (free (now (c .before .before .before .before .before .before .args .map))) (c .reach .result) (c .before .before .before .before .before .before .args .before) (c .before .before .before .before .before .before .args .step)
+    (c .before .before .before .before .before .before .args .k)
+    ≡ leastFit (free (now (c .before .before .before .before .before .before .args .map))) (c .before .before .before .before .before .before .args .from) (c .before .before .before .before .before .before .args .before) (c .before .before .before .before .before .before .args .step)
+    (c .before .before .before .before .before .before .args .k)
+from-there c =
+    let a = c .before .before .before .before .before .before .args in
+    begun (free (now (a .map))) (a .from) (a .before) (a .step) (a .k) (c .reach .result) (omega arith) (none-to c)
 
 search-requires : tie.Need-search-requires
 search-requires c κs = search needs
@@ -64,25 +74,26 @@ returns-5 c =
     found-none (free (now (a .map))) (a .from) (a .before) (a .step) (a .k) (c .before .reach .result) (omega arith)
     (none-to (c .before))
 
-search-close-requires : tie.Need-search-close-requires
-search-close-requires c κs = search needs
-
-returns-6 : tie.Need-returns-6
-returns-6 c =
-    let a = c .before .before .before .before .before .before .before .before .before .args in
-    c .search-close .ensures
-    ∙ begun (free (now (a .map))) (a .from) (a .before) (a .step) (a .k) (c .before .before .before .reach .result) (omega arith)
-    (none-to (c .before .before .before))
-
 search-far-requires-2 : tie.Need-search-far-requires-2
 search-far-requires-2 c κs = search needs
 
+returns-6 : tie.Need-returns-6
+returns-6 c =
+    c .search-far2 .ensures ∙ from-there (c .before .before .before)
+
+first-start-requires : tie.Need-first-start-requires
+first-start-requires c κs = search needs
+
 returns-7 : tie.Need-returns-7
 returns-7 c =
-    let a = c .before .before .before .before .before .before .before .before .before .args in
-    c .search-far2 .ensures
-    ∙ begun (free (now (a .map))) (a .from) (a .before) (a .step) (a .k) (c .before .before .before .reach .result) (omega arith)
-    (none-to (c .before .before .before))
+    c .before .first-start .ensures (c .if8 .taken) ∙ from-there (c .before .before .before .before)
+
+search-near-requires : tie.Need-search-near-requires
+search-near-requires c κs = search needs
+
+returns-8 : tie.Need-returns-8
+returns-8 c =
+    c .search-near .ensures ∙ from-there (c .before .before .before .before .before)
 
 pub search-placed-spec : {M : Type 1} → statement M
 search-placed-spec =
@@ -97,7 +108,9 @@ search-placed-spec =
     returns-4
     reach-requires
     returns-5
-    search-close-requires
-    returns-6
     search-far-requires-2
-    returns-7)
+    returns-6
+    first-start-requires
+    returns-7
+    search-near-requires
+    returns-8)

@@ -1,6 +1,6 @@
 -- `map_search_starts::ahead` meets its contract.
 -- Assumes nothing.
-use mathlib.Core.Path.{_≡_, sym, ap, _∙_, subst}
+use mathlib.Core.Path.{_≡_, sym, ap, _∙_}
 use Prim.Native.Nat.{ℕ, _+_, _-_, _%_, _<_}
 use native.Mathlib.Nat.{add-zero, mod-lt}
 use native.Mathlib.Omega.{arith}
@@ -8,22 +8,16 @@ use Rattle.map_search_starts.proofs.Steps.{to-next}
 use borrow.Author.Needs.{needs}
 use Rattle.map_search_starts.proofs.ahead.Statement.{statement}
 use Rattle.map_search_starts.proofs.ahead.Tie as tie
-use Rattle.map_search_starts.proofs.ahead.Reads as reads
-use Rattle.map_search_starts.proofs.ahead.Lts as lts
-use Rattle.map_search_starts.proofs.past.Reads as past-reads
 
--- src/lib.rt:56:9
 past-requires : tie.Need-past-requires
 past-requires c κs = search needs
 
--- src/lib.rt:58:9
 returns : tie.Need-returns
 returns c =
     let start = c .before .before in
     let a = start .args in
     (start .pre, ap (λ (x : ℕ). x % a .step) (add-zero (a .base)) ∙ sym (c .before .past .ensures) ∙ c .if1 .taken)
 
--- src/lib.rt:60:5
 sub-result : tie.Need-sub-result
 sub-result c =
     let a = c .before .before .args in
@@ -31,7 +25,6 @@ sub-result c =
     let e : c .before .past .result ≡ a .base % a .step = c .before .past .ensures in
     omega arith
 
--- src/lib.rt:52:1
 returns-2 : tie.Need-returns-2
 returns-2 c =
     let a = c .before .before .args in

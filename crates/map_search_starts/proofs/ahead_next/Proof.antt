@@ -1,34 +1,28 @@
 -- `map_search_starts::ahead_next` meets its contract.
 -- Assumes nothing.
-use Prim.Native.Nat.{ℕ, _%_, _<_}
+use Prim.Native.Nat.{_%_, _<_}
 use native.Mathlib.Nat.{mod-lt}
 use native.Mathlib.Omega.{arith}
 use Rattle.map_search_starts.proofs.Steps.{next-back, next-on}
 use borrow.Author.Needs.{needs}
 use Rattle.map_search_starts.proofs.ahead_next.Statement.{statement}
 use Rattle.map_search_starts.proofs.ahead_next.Tie as tie
-use Rattle.map_search_starts.proofs.ahead_next.Reads as reads
-use Rattle.map_search_starts.proofs.ahead_next.Lts as lts
 
--- src/lib.rt:69:16
 add-result : tie.Need-add-result
 add-result c = search needs
 
--- src/lib.rt:69:16
 sub-result : tie.Need-sub-result
 sub-result c =
     let a = c .before .args in
     let l : 64 % a .step < a .step = mod-lt 64 (omega arith) in
     omega arith
 
--- src/lib.rt:69:9
 returns : tie.Need-returns
 returns c =
     let a = c .before .args in
     let l : 64 % a .step < a .step = mod-lt 64 (omega arith) in
     (omega arith, λ base e. next-on (a .step) base (a .far) (a .rest) (c .before .pre .1) e (omega arith))
 
--- src/lib.rt:64:1
 returns-2 : tie.Need-returns-2
 returns-2 c =
     let a = c .before .args in

@@ -2,17 +2,12 @@
 -- Assumes nothing.
 use native.Mathlib.Omega.{arith}
 use Rattle.map_blocks.proofs.Bits.{bit-ones}
-use borrow.Author.Needs.{needs}
 use Rattle.map_search_starts.proofs.alone.Statement.{statement}
 use Rattle.map_search_starts.proofs.alone.Tie as tie
-use Rattle.map_search_starts.proofs.alone.Reads as reads
-use Rattle.map_search_starts.proofs.alone.Lts as lts
 
--- src/lib.rt:91:1
 returns : tie.Need-returns
 returns c = (c .before .pre, λ l j u. bit-ones j u)
 
--- src/lib.rt:91:1
 returns-2 : tie.Need-returns-2
 returns-2 c = (c .before .pre, λ l j u. absurd (c .if1 .left (omega arith)))
 

@@ -1,7 +1,6 @@
 -- `map_search_starts::head` meets its contract: the first zero is the first one of the complement.
 -- Assumes nothing.
 use mathlib.Core.Path.{_≡_, sym, ap, _∙_}
-use mathlib.Core.Bool.{true, false}
 use mathlib.Core.Logic.{⊎-elim}
 use Prim.Native.Nat.{ℕ, _-_, _^_, _≤_, _<_}
 use native.Mathlib.Omega.{arith}
@@ -12,13 +11,9 @@ use Rattle.map_blocks.specs.Words.{bit}
 use Rattle.map_blocks.proofs.Bits.{bit-ones, bit-not}
 use Rattle.map_search_word.proofs.Ends.{First, first-set}
 use Rattle.map_search_starts.specs.Starts.{Head}
-use borrow.Author.Needs.{needs}
 use Rattle.map_search_starts.proofs.head.Statement.{statement}
 use Rattle.map_search_starts.proofs.head.Tie as tie
-use Rattle.map_search_starts.proofs.head.Reads as reads
-use Rattle.map_search_starts.proofs.head.Lts as lts
 
--- src/lib.rt:123:9
 returns : tie.Need-returns
 returns c = record {
   within = omega arith;
@@ -26,7 +21,6 @@ returns c = record {
   stop = λ l. absurd (omega arith);
 }
 
--- src/lib.rt:119:1
 returns-2 : tie.Need-returns-2
 returns-2 c = by (c .before .args .n) (c .before .fits .n .fits) (c .if1 .left)
   where

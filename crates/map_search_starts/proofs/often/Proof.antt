@@ -5,19 +5,14 @@ use Prim.Native.Nat.{_%_}
 use native.Mathlib.Omega.{arith}
 use Rattle.map_blocks.proofs.Bits.{bit-ones}
 use Rattle.map_search_starts.proofs.Steps.{same-bits}
-use borrow.Author.Needs.{needs}
 use Rattle.map_search_starts.proofs.often.Statement.{statement}
 use Rattle.map_search_starts.proofs.often.Tie as tie
-use Rattle.map_search_starts.proofs.often.Reads as reads
-use Rattle.map_search_starts.proofs.often.Lts as lts
 
--- src/lib.rt:83:1
 returns : tie.Need-returns
 returns c =
     let a = c .before .args in
     same-bits (a .step) (a .below) (sym (c .before .pre .1) ∙ c .if1 .taken) (c .before .pre .2)
 
--- src/lib.rt:83:1
 returns-2 : tie.Need-returns-2
 returns-2 c = λ t on. bit-ones (t % 64) (omega arith)
 

@@ -1,13 +1,9 @@
 -- `map_search_starts::pairs` meets its contract.
 -- Assumes nothing.
 use Rattle.map_search_starts.proofs.Spans.{pair}
-use borrow.Author.Needs.{needs}
 use Rattle.map_search_starts.proofs.pairs.Statement.{statement}
 use Rattle.map_search_starts.proofs.pairs.Tie as tie
-use Rattle.map_search_starts.proofs.pairs.Reads as reads
-use Rattle.map_search_starts.proofs.pairs.Lts as lts
 
--- src/lib.rt:99:1
 returns : tie.Need-returns
 returns c = λ f k base here behind alone j l e.
     pair f base (c .args .w) (c .args .n) here behind (c .args .lone) k alone j l e

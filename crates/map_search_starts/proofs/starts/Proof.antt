@@ -5,14 +5,10 @@ use Rattle.map_search_starts.proofs.Steps.{shifted}
 use borrow.Author.Needs.{needs}
 use Rattle.map_search_starts.proofs.starts.Statement.{statement}
 use Rattle.map_search_starts.proofs.starts.Tie as tie
-use Rattle.map_search_starts.proofs.starts.Reads as reads
-use Rattle.map_search_starts.proofs.starts.Lts as lts
 
--- src/lib.rt:79:5
 shr-result : tie.Need-shr-result
 shr-result c = search needs
 
--- src/lib.rt:75:1
 returns : tie.Need-returns
 returns c = λ base e.
     shifted (c .args .step) base (c .args .far) (c .args .below) (omega arith) (c .pre .2) (omega arith) (omega arith) e

@@ -1,8 +1,8 @@
 -- `map_search_placed::far::search_far` meets its contract. The loop's invariant: c is a start, and none before it is a fit.
 -- Assumes nothing.
-use mathlib.Core.Path.{_≡_, refl, sym, ap, _∙_, subst}
+use mathlib.Core.Path.{_≡_}
 use native.Mathlib.Omega.{arith}
-use mathlib.Core.Bool.{Bool, true, false}
+use mathlib.Core.Bool.{Bool, false}
 use denote.Ref.{now}
 use Prim.Native.Nat.{ℕ, _+_, _-_, _*_, _%_, _≤_, _<_, min}
 use Rattle.map_blocks.specs.Blocks.{free, onStep, fit}

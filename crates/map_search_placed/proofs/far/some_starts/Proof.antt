@@ -1,9 +1,9 @@
 -- `map_search_placed::far::some_starts` meets its contract. The loop's invariant: s is a start, and no run starts from c to s.
 -- Assumes nothing.
-use mathlib.Core.Path.{_≡_, refl, sym, ap, _∙_, subst}
+use mathlib.Core.Path.{_≡_, sym, subst}
 use native.Mathlib.Omega.{arith}
 use mathlib.Core.Bool.{Bool}
-use Prim.Native.Nat.{ℕ, _+_, _-_, _%_, _≤_, _<_}
+use Prim.Native.Nat.{ℕ, _+_, _-_, _%_, _≤_}
 use denote.Ref.{now}
 use Rattle.map_blocks.specs.Blocks.{free, onStep}
 use Rattle.map_blocks.proofs.Fits.{Spaced, spaced}

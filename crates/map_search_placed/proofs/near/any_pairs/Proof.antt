@@ -1,11 +1,10 @@
 -- `map_search_placed::near::any_pairs` meets its contract. The loop's invariant: `any` has the pairs of the words passed.
 -- Assumes nothing.
-use mathlib.Core.Path.{_≡_, refl, sym, ap, _∙_, subst}
+use mathlib.Core.Path.{_≡_, refl, _∙_, subst}
 use native.Mathlib.Omega.{arith}
 use mathlib.Core.Logic.{⊎-elim}
 use mathlib.Core.Bool.{true}
 use Prim.Native.Nat.{ℕ, _+_, _-_, _*_, _≤_, _<_}
-use lib.Bits.{bitOr}
 use lib.ListN.{getD}
 use denote.Ref.{now}
 use Rattle.laws.proofs.Bools.{order}

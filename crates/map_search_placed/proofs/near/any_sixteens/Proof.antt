@@ -1,6 +1,6 @@
 -- `map_search_placed::near::any_sixteens` meets its contract. The loop's invariant: where `any` is 0, the words passed have no run of 16.
 -- Assumes nothing.
-use mathlib.Core.Path.{_≡_, refl, sym, ap, _∙_, subst}
+use mathlib.Core.Path.{_≡_, sym, ap, _∙_, subst}
 use native.Mathlib.Omega.{arith}
 use mathlib.Core.Logic.{⊎-elim}
 use mathlib.Core.Bool.{false}

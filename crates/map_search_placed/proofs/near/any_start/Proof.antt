@@ -1,6 +1,5 @@
 -- `map_search_placed::near::any_start` meets its contract.
 -- Assumes nothing.
-use mathlib.Core.Path.{_≡_, refl, sym, ap, _∙_, subst}
 use native.Mathlib.Omega.{arith}
 use denote.Ref.{now}
 use Rattle.map_search_placed.proofs.Rows.{no-pair}

@@ -1,10 +1,10 @@
 -- `map_search_placed::near::near_groups` meets its contract. The loop's invariant: no run starts from c to `at`.
 -- Assumes nothing.
-use mathlib.Core.Path.{_≡_, refl, sym, ap, _∙_, subst}
+use mathlib.Core.Path.{_≡_, refl, subst}
 use native.Mathlib.Omega.{arith}
-use mathlib.Core.Bool.{Bool, true, false}
+use mathlib.Core.Bool.{Bool}
 use denote.Ref.{now}
-use Prim.Native.Nat.{ℕ, _+_, _-_, _*_, _%_, _≤_, _<_}
+use Prim.Native.Nat.{ℕ, _-_, _*_, _≤_}
 use Rattle.map_blocks.specs.Blocks.{free, onStep}
 use Rattle.map_search_starts.specs.Starts.{NoRun, FirstRun}
 use Rattle.map_search_placed.proofs.Figures.{run-after, no-run-after}

@@ -1,11 +1,11 @@
 -- `map_search_placed::near::near_words` meets its contract. The loop's invariant: m has the starts of word i from c on, and no
 -- run starts before that word.
 -- Assumes nothing.
-use mathlib.Core.Path.{_≡_, refl, sym, ap, _∙_, subst}
+use mathlib.Core.Path.{_≡_, refl, subst}
 use native.Mathlib.Omega.{arith}
-use mathlib.Core.Bool.{Bool, _&&_}
+use mathlib.Core.Bool.{_&&_}
 use Prim.Native.Nat.{ℕ, _+_, _-_, _*_, _/_, _%_, _^_, _≤_, _<_}
-use lib.Bits.{bitAnd, and-lt}
+use lib.Bits.{and-lt}
 use lib.Dec.{leb}
 use denote.Ref.{now}
 use Rattle.map_blocks.specs.Blocks.{free, onStep}

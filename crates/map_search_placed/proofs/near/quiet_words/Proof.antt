@@ -1,6 +1,5 @@
 -- `map_search_placed::near::quiet_words` meets its contract. The loop's invariant: no run starts from `first` to i.
 -- Assumes nothing.
-use mathlib.Core.Path.{_≡_, refl, sym, ap, _∙_, subst}
 use native.Mathlib.Omega.{arith}
 use Prim.Native.Nat.{ℕ, _+_, _-_, _*_, _≤_}
 use denote.Ref.{now}

@@ -1,9 +1,8 @@
 -- `map_search_placed::taken::past_words` meets its contract.
 -- Assumes nothing.
-use mathlib.Core.Path.{_≡_, refl, sym, ap, _∙_, subst}
 use native.Mathlib.Omega.{arith}
 use mathlib.Core.Logic.{⊎-elim}
-use Prim.Native.Nat.{ℕ, _<_, _≤_}
+use Prim.Native.Nat.{_<_, _≤_}
 use Rattle.laws.proofs.Bools.{order}
 use borrow.Author.Needs.{needs}
 use Rattle.map_search_placed.proofs.taken.past_words.Statement.{statement}

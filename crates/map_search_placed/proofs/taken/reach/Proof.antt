@@ -1,16 +1,13 @@
 -- `map_search_placed::taken::reach` meets its contract.
 -- Assumes nothing.
-use mathlib.Core.Path.{_≡_, refl, sym, ap, _∙_, subst}
 use native.Mathlib.Omega.{arith}
 use mathlib.Core.Logic.{⊎-elim}
-use mathlib.Core.Bool.{false}
 use Prim.Native.Nat.{ℕ, _+_, _-_, _*_, _/_, _%_, _^_, _<_, _≤_}
 use lib.Bits.{bitAnd, and-le-l}
 use lib.Count.{leadingZeros, leading-le}
 use lib.ListN.{getD}
 use denote.Ref.{now}
 use Rattle.laws.proofs.Bools.{order}
-use Rattle.map_blocks.specs.Blocks.{free}
 use Rattle.map_search_placed.proofs.Figures.{zero-free}
 use Rattle.map_search_placed.proofs.Rows.{first-free, none-free, zeros-taken}
 use borrow.Author.Needs.{needs}
