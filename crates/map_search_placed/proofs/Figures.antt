@@ -2,7 +2,7 @@
 -- Assumes nothing.
 use mathlib.Core.Path.{_≡_, refl, sym, ap, _∙_, subst}
 use mathlib.Core.Logic.{⊎-elim}
-use mathlib.Core.Bool.{Bool, true, false}
+use mathlib.Core.Bool.{Bool, true, false, cond}
 use mathlib.Core.List.{List}
 use Prim.Native.Nat.{ℕ, _+_, _-_, _*_, _/_, _%_, _≤_, _<_, min}
 use native.Mathlib.Nat.{mod-eq-of-lt}
@@ -19,10 +19,19 @@ use Rattle.map_blocks.proofs.Fits.{Fits, is-fit, fit-is, no-fit, on-mod, mod-on
 use Rattle.map_blocks.proofs.Least.{least-at, least-none, least-same}
 use Rattle.map_blocks.proofs.Maps.{free-bit}
 use Rattle.map_blocks.proofs.Runs.{all-intro, all-break, all-part}
+use borrow.Author.Tests.{lt-ltb, le-ltb}
+use Rattle.map_search_placed.specs.Answers.{startOf}
 use Rattle.map_search_starts.specs.Starts.{NoRun, FirstRun}
 use Rattle.map_search_starts.proofs.Steps.{on-add}
 
 -- ---- what is found
+
+-- an answer as a number
+pub is-start : (before s : ℕ) → s < before → startOf before s ≡ At s
+is-start before s l = ap (λ (x : Bool). cond x (At s) Nothing) (lt-ltb s before l)
+
+pub is-nothing : (before : ℕ) → startOf before before ≡ Nothing
+is-nothing before = ap (λ (x : Bool). cond x (At before) Nothing) (le-ltb before before (omega arith))
 
 module _ (g : ℕ → Bool) (from before step k : ℕ) where
   pub found-at : (s : ℕ) → 0 < k → Fits g from before step k s → ((t : ℕ) → t < s → fit g from before step k t ≡ false)

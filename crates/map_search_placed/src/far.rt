@@ -4,15 +4,15 @@ ghost use mathlib.Core.Bool.{true, false};
 ghost use Prim.Native.Nat.{ℕ, _+_, _*_, _%_, _<_, _≤_};
 ghost use lib.ListN.{length};
 ghost use Rattle.map_blocks.specs.Blocks.{free, all, onStep, leastFit};
+ghost use Rattle.map_search_placed.specs.Answers.{startOf};
 ghost use Rattle.map_search_starts.specs.Starts.{NoRun};
 use crate::taken::taken_words;
-use map_blocks::Found;
 use map_blocks::word::smaller;
 use map_search_starts::ahead;
 use map_space::space;
 
-// From the start c on to one that is not in the words, all taken, from that of c on. It is tried only where several of eight words
-// have a start.
+// From the start c on to one that is not in the words, all taken, from that of c on. It is tried only where several
+// of eight words have a start.
 fn past_taken(map: &[u64], c: u32, before: u32, step: u32) -> u32
     requires { ⌜ (c < before) × (before ≤ 262144) × (before ≤ 64 * length (now map)) × (0 < step) × (step ≤ 262144)
         × (c % step ≡ 0) ⌝ }
@@ -81,11 +81,12 @@ fn some_starts(map: &[u64], c: u32, stop: u32, step: u32, k: u32) -> u32
     s
 }
 
-// The search from start to start, eight at a time: after each eight, words that are all taken are passed over.
-pub fn search_far(map: &[u64], from: u32, before: u32, step: u32, k: u32) -> Found
+// The least fit for k, or `before`: from start to start, eight at a time; after each eight, words that are all taken are
+// passed over.
+pub fn search_far(map: &[u64], from: u32, before: u32, step: u32, k: u32) -> u32
     requires { ⌜ (from < before) × (before ≤ 262144) × (before ≤ 64 * length (now map)) × (0 < k) × (k ≤ before)
         × (0 < step) × (step ≤ 262144) ⌝ }
-    ensures { λ r. ⌜ r ≡ leastFit (free (now (map .entry))) from before step k ⌝ }
+    ensures { λ r. ⌜ startOf before r ≡ leastFit (free (now (map .entry))) from before step k ⌝ }
 {
     let last = before - k;
     let mut c = from + ahead(from, step);
@@ -93,12 +94,12 @@ pub fn search_far(map: &[u64], from: u32, before: u32, step: u32, k: u32) -> Fou
         let stop = smaller(last, c + 7 * step);
         let s = some_starts(map, c, stop, step, k);
         if s <= stop {
-            return Found::At(s);
+            return s;
         }
         if last < s {
-            return Found::Nothing;
+            return before;
         }
         c = past_taken(map, s, before, step);
     }
-    Found::Nothing
+    before
 }

@@ -4,7 +4,7 @@ ghost use mathlib.Core.Path.{_≡_};
 ghost use Prim.Native.Nat.{_*_, _<_, _≤_};
 ghost use lib.ListN.{length};
 ghost use Rattle.map_blocks.specs.Blocks.{free, leastFit};
-ghost use Rattle.map_blocks.specs.declared.Found.the-variants.{At};
+ghost use Rattle.map_search_placed.specs.Answers.{startOf};
 
 mod far;
 mod near;
@@ -19,12 +19,22 @@ use map_space::space;
 use near::search_near;
 use taken::reach;
 
+// What a start below `before`, or `before`, says. The functions below answer with a number, which stays in a register.
+fn found(r: u32, before: u32) -> Found
+    ensures { λ x. ⌜ x ≡ startOf before r ⌝ }
+{
+    if r < before {
+        return Found::At(r);
+    }
+    Found::Nothing
+}
+
 // The first start, where it is a fit; otherwise `before`. It is looked at before anything else is worked out: where free blocks
 // abound, the search is mostly over there.
 fn first_start(map: &[u64], from: u32, before: u32, step: u32, k: u32) -> u32
     requires { ⌜ (from < before) × (before ≤ 262144) × (before ≤ 64 * length (now map)) × (0 < k) × (k ≤ before)
         × (0 < step) × (step < 64) ⌝ }
-    ensures { λ r. ⌜ (r < before → At r ≡ leastFit (free (now (map .entry))) from before step k) ⌝ }
+    ensures { λ r. ⌜ (r < before → startOf before r ≡ leastFit (free (now (map .entry))) from before step k) ⌝ }
 {
     let c = from + ahead(from, step);
     if before - k < c {
@@ -55,18 +65,21 @@ pub fn search_placed(map: &[u64], from: u32, before: u32, step: u32, k: u32) -> 
         return Found::Nothing;
     }
     if 512 <= step {
-        return search_far(map, from, before, smaller(step, 262144), k);
+        return found(
+            search_far(map, from, before, smaller(step, 262144), k),
+            before,
+        );
     }
     let b = reach(map, from, before);
     if before <= b {
         return Found::Nothing;
     }
     if 64 <= step {
-        return search_far(map, b, before, step, k);
+        return found(search_far(map, b, before, step, k), before);
     }
     let c = first_start(map, b, before, step, k);
     if c < before {
-        return Found::At(c);
+        return found(c, before);
     }
-    search_near(map, b, before, step, k)
+    found(search_near(map, b, before, step, k), before)
 }

@@ -1,13 +1,13 @@
-// The search by masks of the starts, for starts that are near each other. Each word is looked at with the word behind it, so that
-// nothing is carried from word to word; words in which no run can start are passed over eight at a time.
+// The search by masks of the starts, for starts that are near each other. Each word is looked at with the word behind it, so
+// that nothing is carried from word to word; words in which no run can start are passed over eight at a time.
 ghost use mathlib.Core.Path.{_≡_};
 ghost use mathlib.Core.Bool.{true, false};
 ghost use Prim.Native.Nat.{ℕ, _+_, _-_, _*_, _/_, _%_, _<_, _≤_};
 ghost use lib.ListN.{length, getD};
 ghost use Rattle.map_blocks.specs.Blocks.{free, all, onStep, leastFit};
 ghost use Rattle.map_blocks.specs.Words.{bit};
+ghost use Rattle.map_search_placed.specs.Answers.{startOf};
 ghost use Rattle.map_search_starts.specs.Starts.{Marks, Alone, Often, NoRun, FirstRun};
-use map_blocks::Found;
 use map_blocks::word::part;
 use map_blocks::word::smaller;
 use map_search::group_end;
@@ -175,11 +175,12 @@ fn near_start(map: &[u64], c: u32, before: u32, step: u32, k: u32, below: u64) -
     near_last(map, c, last, step, k, below)
 }
 
-// The least fit for k. A start with 64 free blocks is found by masks; whether more of them are free, the space behind it tells.
-pub fn search_near(map: &[u64], from: u32, before: u32, step: u32, k: u32) -> Found
+// The least fit for k, or `before`. A start with 64 free blocks is found by masks; whether more of them are free, the space
+// behind it tells.
+pub fn search_near(map: &[u64], from: u32, before: u32, step: u32, k: u32) -> u32
     requires { ⌜ (from ≤ before) × (before ≤ 262144) × (before ≤ 64 * length (now map)) × (0 < k) × (k ≤ before)
         × (0 < step) × (step < 64) ⌝ }
-    ensures { λ r. ⌜ r ≡ leastFit (free (now (map .entry))) from before step k ⌝ }
+    ensures { λ r. ⌜ startOf before r ≡ leastFit (free (now (map .entry))) from before step k ⌝ }
 {
     let last = before - k;
     let few = smaller(k, 64);
@@ -188,16 +189,16 @@ pub fn search_near(map: &[u64], from: u32, before: u32, step: u32, k: u32) -> Fo
     while c <= last {
         let s = near_start(map, c, before, step, few, below);
         if last < s {
-            return Found::Nothing;
+            return before;
         }
         if k <= 64 {
-            return Found::At(s);
+            return s;
         }
         let r = space(map, s, s + k);
         if r == k {
-            return Found::At(s);
+            return s;
         }
         c = s + r + 1;
     }
-    Found::Nothing
+    before
 }

@@ -60,7 +60,8 @@ module _ (f : ℕ → Bool) (base w n : ℕ) (here : Marks f base w) (behind : M
       next x y p q free (inr u) =
           let e : base + 64 + 0 ≡ base + j + 1 = omega arith in
           let at : 63 + 0 ≡ j = omega arith in
-          or-right (bit x j) (bit y j) (ap (λ (v : ℕ). bit v j) q ∙ ap (bit (n / 2 ^ 63)) (sym at) ∙ bit-shr n 63 0 (omega arith)
+          or-right (bit x j) (bit y j) (ap (λ (v : ℕ). bit v j) q ∙ ap (bit (n / 2 ^ 63)) (sym at) ∙ bit-shr n 63 0 (omega
+          arith)
           ∙ behind 0 (omega arith) ∙ ap f e ∙ free)
 
   -- a run lies in the first word, or is made of the ones that it ends in and those that the second begins with

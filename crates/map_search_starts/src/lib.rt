@@ -133,8 +133,8 @@ pub fn runs(w: u64, n: u64, k: u32) -> u64
     gaps(w, k) | over
 }
 
-// The first start of m in a word, whose first block is base, from which on k blocks are free; base + 64 where there is none. n is
-// the word behind. Mostly no start of m has even two free blocks, and the rest is not worked out.
+// The first start of m in a word, whose first block is base, from which on k blocks are free; base + 64 where there is none.
+// n is the word behind. Mostly no start of m has even two free blocks, and the rest is not worked out.
 pub fn look(w: u64, n: u64, m: u64, base: u32, k: u32, lone: u64) -> u32
     requires { ⌜ (base ≤ 262144) × (0 < k) × (k ≤ 64) × Alone k lone ⌝ }
     ensures { λ r.

@@ -1,6 +1,6 @@
 -- `map_search_placed::first_start` meets its contract.
 -- Assumes nothing.
-use mathlib.Core.Path.{sym, subst}
+use mathlib.Core.Path.{sym, subst, _∙_}
 use native.Mathlib.Omega.{arith}
 use mathlib.Core.Bool.{Bool}
 use denote.Ref.{now}
@@ -8,7 +8,7 @@ use Prim.Native.Nat.{ℕ, _+_}
 use Rattle.map_blocks.specs.Blocks.{free}
 use Rattle.map_blocks.proofs.Fits.{Spaced, spaced, mod-on}
 use Rattle.map_search_starts.proofs.Steps.{none-ahead}
-use Rattle.map_search_placed.proofs.Figures.{found-at, before-first, space-fits}
+use Rattle.map_search_placed.proofs.Figures.{is-start, found-at, before-first, space-fits}
 use borrow.Author.Needs.{needs}
 use Rattle.map_search_placed.proofs.first_start.Statement.{statement}
 use Rattle.map_search_placed.proofs.first_start.Tie as tie
@@ -39,7 +39,7 @@ returns-2 c =
     let s : ℕ = a .from + far .result in
     let told : Spaced g s (s + a .k) (c .before .space .result) =
     subst (Spaced g s (s + a .k)) (sym (c .before .space .ensures)) (spaced g s (s + a .k) (omega arith)) in
-    λ h. found-at g (a .from) (a .before) (a .step) (a .k) s (omega arith)
+    λ h. is-start (a .before) s (omega arith) ∙ found-at g (a .from) (a .before) (a .step) (a .k) s (omega arith)
     (record {
       low = omega arith;
       high = omega arith;

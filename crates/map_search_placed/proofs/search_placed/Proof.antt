@@ -1,8 +1,8 @@
 -- `map_search_placed::search_placed` meets its contract: the plain search is the one from 0 on with a step of 1.
 -- Assumes nothing.
-use mathlib.Core.Path.{_≡_, sym, ap, _∙_}
+use mathlib.Core.Path.{_≡_, refl, sym, ap, _∙_, subst}
 use native.Mathlib.Omega.{arith}
-use mathlib.Core.Bool.{false}
+use mathlib.Core.Bool.{Bool, true, false}
 use denote.Ref.{now}
 use Prim.Native.Nat.{ℕ, _<_, min}
 use Rattle.map_blocks.specs.Blocks.{free, fit, leastFit}
@@ -13,7 +13,10 @@ use Rattle.map_search_placed.proofs.search_placed.Tie as tie
 
 -- no fit starts before the first free block
 none-to : (c : tie.After-reach) (t : ℕ) → t < c .reach .result
-    → fit (free (now (c .before .before .before .before .before .before .args .map))) (c .before .before .before .before .before .before .args .from) (c .before .before .before .before .before .before .args .before) (c .before .before .before .before .before .before .args .step)
+    → fit (free (now (c .before .before .before .before .before .before .args .map)))
+    (c .before .before .before .before .before .before .args .from)
+    (c .before .before .before .before .before .before .args .before)
+    (c .before .before .before .before .before .before .args .step)
     (c .before .before .before .before .before .before .args .k) t ≡ false
 none-to c =
     let a = c .before .before .before .before .before .before .args in
@@ -22,9 +25,14 @@ none-to c =
 
 -- the search may begin there
 from-there : (c : tie.After-reach)
-    → leastFit (free (now (c .before .before .before .before .before .before .args .map))) (c .reach .result) (c .before .before .before .before .before .before .args .before) (c .before .before .before .before .before .before .args .step)
+    → leastFit (free (now (c .before .before .before .before .before .before .args .map))) (c .reach .result)
+    (c .before .before .before .before .before .before .args .before)
+    (c .before .before .before .before .before .before .args .step)
     (c .before .before .before .before .before .before .args .k)
-    ≡ leastFit (free (now (c .before .before .before .before .before .before .args .map))) (c .before .before .before .before .before .before .args .from) (c .before .before .before .before .before .before .args .before) (c .before .before .before .before .before .before .args .step)
+    ≡ leastFit (free (now (c .before .before .before .before .before .before .args .map)))
+    (c .before .before .before .before .before .before .args .from)
+    (c .before .before .before .before .before .before .args .before)
+    (c .before .before .before .before .before .before .args .step)
     (c .before .before .before .before .before .before .args .k)
 from-there c =
     let a = c .before .before .before .before .before .before .args in
@@ -58,11 +66,15 @@ search-far-requires c κs =
     let e : c .smaller .result ≡ min (a .step) 262144 = c .smaller .ensures in
     (omega arith, omega arith, omega arith, omega arith, omega arith, omega arith, omega arith)
 
+found-requires : tie.Need-found-requires
+found-requires c κs = search needs
+
 returns-4 : tie.Need-returns-4
 returns-4 c =
-    let a = c .before .before .before .before .before .before .before .args in
-    c .search-far .ensures ∙ ap (λ (x : ℕ). leastFit (free (now (a .map))) (a .from) (a .before) x (a .k))
-    (c .before .smaller .ensures)
+    let a = c .before .before .before .before .before .before .before .before .args in
+    c .found .ensures ∙ c .before .search-far .ensures ∙ ap (λ (x : ℕ). leastFit (free (now (a .map))) (a .from) (a .before)
+    x (a .k))
+    (c .before .before .smaller .ensures)
     ∙ capped (free (now (a .map))) (a .from) (a .before) (a .step) 262144 (a .k) (omega arith)
 
 reach-requires : tie.Need-reach-requires
@@ -77,23 +89,33 @@ returns-5 c =
 search-far-requires-2 : tie.Need-search-far-requires-2
 search-far-requires-2 c κs = search needs
 
+found-requires-2 : tie.Need-found-requires-2
+found-requires-2 c κs = search needs
+
 returns-6 : tie.Need-returns-6
 returns-6 c =
-    c .search-far2 .ensures ∙ from-there (c .before .before .before)
+    c .found2 .ensures ∙ c .before .search-far2 .ensures ∙ from-there (c .before .before .before .before)
 
 first-start-requires : tie.Need-first-start-requires
 first-start-requires c κs = search needs
 
+found-requires-3 : tie.Need-found-requires-3
+found-requires-3 c κs = search needs
+
 returns-7 : tie.Need-returns-7
 returns-7 c =
-    c .before .first-start .ensures (c .if8 .taken) ∙ from-there (c .before .before .before .before)
+    c .found3 .ensures ∙ c .before .before .first-start .ensures (c .before .if8 .taken) ∙ from-there
+    (c .before .before .before .before .before)
 
 search-near-requires : tie.Need-search-near-requires
 search-near-requires c κs = search needs
 
+found-requires-4 : tie.Need-found-requires-4
+found-requires-4 c κs = search needs
+
 returns-8 : tie.Need-returns-8
 returns-8 c =
-    c .search-near .ensures ∙ from-there (c .before .before .before .before .before)
+    c .found4 .ensures ∙ c .before .search-near .ensures ∙ from-there (c .before .before .before .before .before .before)
 
 pub search-placed-spec : {M : Type 1} → statement M
 search-placed-spec =
@@ -105,12 +127,16 @@ search-placed-spec =
     returns-3
     smaller-requires
     search-far-requires
+    found-requires
     returns-4
     reach-requires
     returns-5
     search-far-requires-2
+    found-requires-2
     returns-6
     first-start-requires
+    found-requires-3
     returns-7
     search-near-requires
+    found-requires-4
     returns-8)

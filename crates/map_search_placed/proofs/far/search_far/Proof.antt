@@ -1,6 +1,6 @@
 -- `map_search_placed::far::search_far` meets its contract. The loop's invariant: c is a start, and none before it is a fit.
 -- Assumes nothing.
-use mathlib.Core.Path.{_≡_}
+use mathlib.Core.Path.{_≡_, _∙_}
 use native.Mathlib.Omega.{arith}
 use mathlib.Core.Bool.{Bool, false}
 use denote.Ref.{now}
@@ -8,7 +8,8 @@ use Prim.Native.Nat.{ℕ, _+_, _-_, _*_, _%_, _≤_, _<_, min}
 use Rattle.map_blocks.specs.Blocks.{free, onStep, fit}
 use Rattle.map_blocks.proofs.Fits.{mod-on}
 use Rattle.map_search_starts.proofs.Steps.{none-ahead}
-use Rattle.map_search_placed.proofs.Figures.{found-at, found-none, before-first, past-runs, taken-run}
+use Rattle.map_search_placed.proofs.Figures.{is-nothing, is-start, found-at}
+use Rattle.map_search_placed.proofs.Figures.{found-none, before-first, past-runs, taken-run}
 use borrow.Author.Needs.{needs}
 use Rattle.map_search_placed.proofs.far.search_far.Statement.{statement}
 use Rattle.map_search_placed.proofs.far.search_far.Tie as tie
@@ -22,8 +23,11 @@ abbrev μ-loop : tie.MeasureT-loop
 
 -- no fit starts before the start that is found
 none-to : (c : tie.After-some-starts Inv-loop μ-loop) (t : ℕ) → t < c .some-starts .result
-    → fit (free (now (c .before .before .before .before .before .before .args .map))) (c .before .before .before .before .before .before .args .from) (c .before .before .before .before .before .before .args .before)
-    (c .before .before .before .before .before .before .args .step) (c .before .before .before .before .before .before .args .k) t ≡ false
+    → fit (free (now (c .before .before .before .before .before .before .args .map)))
+    (c .before .before .before .before .before .before .args .from)
+    (c .before .before .before .before .before .before .args .before)
+    (c .before .before .before .before .before .before .args .step)
+    (c .before .before .before .before .before .before .args .k) t ≡ false
 none-to c =
     let a = c .before .before .before .before .before .before .args in
     let loop = c .before .before .before .loop in
@@ -70,8 +74,10 @@ returns c =
     let a = c .before .before .before .before .before .before .before .args in
     let loop = c .before .before .before .before .loop in
     let found = c .before .some-starts in
-    let e : c .before .before .smaller .result ≡ min (a .before - a .k) (loop .c + 7 * a .step) = c .before .before .smaller .ensures in
-    found-at (free (now (a .map))) (a .from) (a .before) (a .step) (a .k) (found .result) (omega arith)
+    let e : c .before .before .smaller .result ≡ min (a .before - a .k) (loop .c + 7 * a .step) =
+    c .before .before .smaller .ensures in
+    is-start (a .before) (found .result) (omega arith) ∙ found-at (free (now (a .map))) (a .from) (a .before) (a .step)
+    (a .k) (found .result) (omega arith)
     (record {
       low = omega arith;
       high = omega arith;
@@ -82,7 +88,8 @@ returns c =
 returns-2 : tie.Need-returns-2 Inv-loop μ-loop
 returns-2 c =
     let a = c .before .before .before .before .before .before .before .before .args in
-    found-none (free (now (a .map))) (a .from) (a .before) (a .step) (a .k) (c .before .before .some-starts .result) (omega arith)
+    is-nothing (a .before) ∙ found-none (free (now (a .map))) (a .from) (a .before) (a .step) (a .k)
+    (c .before .before .some-starts .result) (omega arith)
     (none-to (c .before .before))
 
 past-taken-requires : tie.Need-past-taken-requires Inv-loop μ-loop
@@ -93,7 +100,8 @@ loop-less : tie.Need-loop-less Inv-loop μ-loop
 loop-less c =
     let a = c .before .before .before .before .before .before .before .before .before .args in
     let loop = c .before .before .before .before .before .before .loop in
-    let e : c .before .before .before .before .smaller .result ≡ min (a .before - a .k) (loop .c + 7 * a .step) = c .before .before .before .before .smaller .ensures in
+    let e : c .before .before .before .before .smaller .result ≡ min (a .before - a .k) (loop .c + 7 * a .step) =
+    c .before .before .before .before .smaller .ensures in
     omega arith
 
 loop-again : tie.Need-loop-again Inv-loop μ-loop
@@ -115,7 +123,8 @@ returns-3 : tie.Need-returns-3 Inv-loop μ-loop
 returns-3 c =
     let a = c .before .before .before .before .args in
     let loop = c .before .loop in
-    found-none (free (now (a .map))) (a .from) (a .before) (a .step) (a .k) (loop .c) (omega arith) (loop .inv .3)
+    is-nothing (a .before) ∙ found-none (free (now (a .map))) (a .from) (a .before) (a .step) (a .k) (loop .c) (omega arith)
+    (loop .inv .3)
 
 pub search-far-spec : {M : Type 1} → statement M
 search-far-spec =

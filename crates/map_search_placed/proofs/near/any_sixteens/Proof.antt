@@ -1,4 +1,5 @@
--- `map_search_placed::near::any_sixteens` meets its contract. The loop's invariant: where `any` is 0, the words passed have no run of 16.
+-- `map_search_placed::near::any_sixteens` meets its contract. The loop's invariant: where `any` is 0, the words passed have
+-- no run of 16.
 -- Assumes nothing.
 use mathlib.Core.Path.{_≡_, sym, ap, _∙_, subst}
 use native.Mathlib.Omega.{arith}

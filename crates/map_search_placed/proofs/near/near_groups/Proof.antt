@@ -65,7 +65,12 @@ returns c =
     (c .if1 .taken)
 
 quiet-words-requires : tie.Need-quiet-words-requires Inv-loop μ-loop
-quiet-words-requires c κs = (omega arith, omega arith, omega arith, c .before .before .before .before .before .before .alone .ensures)
+quiet-words-requires c κs = (
+  omega arith,
+  omega arith,
+  omega arith,
+  c .before .before .before .before .before .before .alone .ensures,
+)
 
 cast-at : tie.Need-cast-at Inv-loop μ-loop
 cast-at c = search needs

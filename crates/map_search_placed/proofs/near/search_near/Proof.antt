@@ -7,7 +7,8 @@ use denote.Ref.{now}
 use Prim.Native.Nat.{ℕ, _+_, _-_, _≤_, _<_, min}
 use Rattle.map_blocks.specs.Blocks.{free, all, onStep, fit}
 use Rattle.map_blocks.proofs.Fits.{Spaced, spaced}
-use Rattle.map_search_placed.proofs.Figures.{found-at, found-none, past-runs, past-block, before-from, no-longer, space-fits}
+use Rattle.map_search_placed.proofs.Figures.{is-nothing, is-start, found-at, found-none}
+use Rattle.map_search_placed.proofs.Figures.{past-runs, past-block, before-from, no-longer, space-fits}
 use borrow.Author.Needs.{needs}
 use Rattle.map_search_placed.proofs.near.search_near.Statement.{statement}
 use Rattle.map_search_placed.proofs.near.search_near.Tie as tie
@@ -21,8 +22,11 @@ abbrev μ-loop : tie.MeasureT-loop
 
 -- no fit starts before the start that is found
 none-to : (c : tie.After-near-start Inv-loop μ-loop) (t : ℕ) → t < c .near-start .result
-    → fit (free (now (c .before .before .before .before .before .before .args .map))) (c .before .before .before .before .before .before .args .from) (c .before .before .before .before .before .before .args .before)
-    (c .before .before .before .before .before .before .args .step) (c .before .before .before .before .before .before .args .k) t ≡ false
+    → fit (free (now (c .before .before .before .before .before .before .args .map)))
+    (c .before .before .before .before .before .before .args .from)
+    (c .before .before .before .before .before .before .args .before)
+    (c .before .before .before .before .before .before .args .step)
+    (c .before .before .before .before .before .before .args .k) t ≡ false
 none-to c =
     let a = c .before .before .before .before .before .before .args in
     let loop = c .before .before .loop in
@@ -35,8 +39,10 @@ none-to c =
 
 -- what the space says
 space-says : (c : tie.After-space Inv-loop μ-loop)
-    → Spaced (free (now (c .before .before .before .before .before .before .before .before .before .args .map))) (c .before .before .before .near-start .result)
-    (c .before .before .before .near-start .result + c .before .before .before .before .before .before .before .before .before .args .k) (c .space .result)
+    → Spaced (free (now (c .before .before .before .before .before .before .before .before .before .args .map)))
+    (c .before .before .before .near-start .result)
+    (c .before .before .before .near-start .result +
+    c .before .before .before .before .before .before .before .before .before .args .k) (c .space .result)
 space-says c =
     let a = c .before .before .before .before .before .before .before .before .before .args in
     let g : ℕ → Bool = free (now (a .map)) in
@@ -59,7 +65,8 @@ loop-holds c =
 
 near-start-requires : tie.Need-near-start-requires Inv-loop μ-loop
 near-start-requires c κs =
-    let e : c .before .before .before .smaller .result ≡ min (c .before .before .before .before .before .args .k) 64 = c .before .before .before .smaller .ensures in (
+    let e : c .before .before .before .smaller .result ≡ min (c .before .before .before .before .before .args .k) 64 =
+    c .before .before .before .smaller .ensures in (
       (omega arith, omega arith, omega arith, omega arith, omega arith),
       (omega arith, omega arith, c .before .before .multiples .ensures),
     )
@@ -67,7 +74,8 @@ near-start-requires c κs =
 returns : tie.Need-returns Inv-loop μ-loop
 returns c =
     let a = c .before .before .before .before .before .before .before .args in
-    found-none (free (now (a .map))) (a .from) (a .before) (a .step) (a .k) (c .before .near-start .result) (omega arith)
+    is-nothing (a .before) ∙ found-none (free (now (a .map))) (a .from) (a .before) (a .step) (a .k)
+    (c .before .near-start .result) (omega arith)
     (none-to (c .before))
 
 returns-2 : tie.Need-returns-2 Inv-loop μ-loop
@@ -77,9 +85,10 @@ returns-2 c =
     let g : ℕ → Bool = free (now (a .map)) in
     let s : ℕ = here .near-start .result in
     let low : c .before .before .before .before .loop .c ≤ s = here .near-start .ensures .low in
-    let is : c .before .before .before .before .before .before .smaller .result ≡ min (a .k) 64 = c .before .before .before .before .before .before .smaller .ensures in
+    let is : c .before .before .before .before .before .before .smaller .result ≡ min (a .k) 64 =
+    c .before .before .before .before .before .before .smaller .ensures in
     let e : c .before .before .before .before .before .before .smaller .result ≡ a .k = omega arith in
-    found-at g (a .from) (a .before) (a .step) (a .k) s (omega arith)
+    is-start (a .before) s (omega arith) ∙ found-at g (a .from) (a .before) (a .step) (a .k) s (omega arith)
     (record {
       low = omega arith;
       high = omega arith;
@@ -102,7 +111,7 @@ returns-3 c =
     let low : c .before .before .before .before .before .before .loop .c ≤ s = here .near-start .ensures .low in
     let told : Spaced g s (s + a .k) (c .before .space .result) =
     subst (Spaced g s (s + a .k)) (sym (c .before .space .ensures)) (spaced g s (s + a .k) (omega arith)) in
-    found-at g (a .from) (a .before) (a .step) (a .k) s (omega arith)
+    is-start (a .before) s (omega arith) ∙ found-at g (a .from) (a .before) (a .step) (a .k) s (omega arith)
     (record {
       low = omega arith;
       high = omega arith;
@@ -148,7 +157,8 @@ returns-4 : tie.Need-returns-4 Inv-loop μ-loop
 returns-4 c =
     let a = c .before .before .before .before .before .args in
     let loop = c .before .loop in
-    found-none (free (now (a .map))) (a .from) (a .before) (a .step) (a .k) (loop .c) (omega arith) (loop .inv .2)
+    is-nothing (a .before) ∙ found-none (free (now (a .map))) (a .from) (a .before) (a .step) (a .k) (loop .c) (omega arith)
+    (loop .inv .2)
 
 pub search-near-spec : {M : Type 1} → statement M
 search-near-spec =
