@@ -60,9 +60,9 @@ static void sealed_blocks(void) {
     line("complete, 256 places", COMPLETES, 3, PLACES, 1);
 }
 
-static void images(void) {
-    fill_card();
-    heading("a full card of 262,144 blocks and 1,024 sheets", SAVES, 4);
+static void images(const char *what, uint32_t blocks) {
+    fill_card(blocks);
+    heading(what, SAVES, 4);
     line("save", SAVES, 4, 0, 1);
     line("load", LOADS, 4, 0, 1);
 }
@@ -74,6 +74,7 @@ int main(void) {
     aged_cards();
     sizes();
     sealed_blocks();
-    images();
+    images("a full card of 262,144 blocks and 1,024 sheets", BLOCKS);
+    images("a full card of 4,096 blocks and 1,024 sheets", 4096);
     return 0;
 }

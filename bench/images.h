@@ -1,4 +1,5 @@
-// Save and load of a full card, beside copying the image and beside the sums of its frames alone.
+// Save and load of full cards, beside copying the image and beside the sums of its frames alone. The scratch has 64 words: the
+// largest card is tested in 64 windows, one of 4,096 blocks in one.
 #ifndef BENCH_IMAGES_H
 #define BENCH_IMAGES_H
 
@@ -6,41 +7,45 @@
 #include "sealed.h"
 #include "ways.h"
 
-enum { IMAGE = PAGUNLIT_IMAGE_BYTES(BLOCKS, PAGUNLIT_SHEETS) };
+enum { LARGEST_IMAGE = PAGUNLIT_IMAGE_BYTES(BLOCKS, PAGUNLIT_SHEETS) };
 
 static pagunlit_shape full;
-static uint64_t full_map[BLOCKS / 64], scratch[BLOCKS / 64];
+static size_t full_words, scratch_words, image_bytes;
+static uint64_t full_map[BLOCKS / 64], scratch[PAGUNLIT_SCRATCH_WORDS(BLOCKS)];
 static pagunlit_entry full_catalogue[PAGUNLIT_SHEETS];
-static uint8_t image[IMAGE], copy[IMAGE];
+static uint8_t image[LARGEST_IMAGE], copy[LARGEST_IMAGE];
 
-// Every sheet holds 256 blocks, so that no block is free.
-static void fill_card(void) {
-    full = (pagunlit_shape){BLOCKS, 0};
+// Every sheet holds as many blocks, so that no block is free. The sheets lie in no order.
+static void fill_card(uint32_t blocks) {
+    full = (pagunlit_shape){blocks, 0};
+    full_words = PAGUNLIT_MAP_WORDS(blocks);
+    scratch_words = PAGUNLIT_SCRATCH_WORDS(blocks);
+    image_bytes = PAGUNLIT_IMAGE_BYTES(blocks, PAGUNLIT_SHEETS);
     memset(full_map, 0, sizeof full_map);
     for (uint32_t s = 0; s < PAGUNLIT_SHEETS; s++)
-        full_catalogue[s] = (pagunlit_entry){s % 2 == 0 ? PAGUNLIT_OPEN : PAGUNLIT_COMPLETE, BLOCKS / PAGUNLIT_SHEETS * s,
-                                             BLOCKS / PAGUNLIT_SHEETS};
+        full_catalogue[s] = (pagunlit_entry){s % 2 == 0 ? PAGUNLIT_OPEN : PAGUNLIT_COMPLETE,
+                                             blocks / PAGUNLIT_SHEETS * (s * 389 % PAGUNLIT_SHEETS), blocks / PAGUNLIT_SHEETS};
 }
 
 static uint32_t ours_save(uint32_t unused) {
-    return unused + pagunlit_save(full, full_map, BLOCKS / 64, full_catalogue, PAGUNLIT_SHEETS, scratch, BLOCKS / 64, image,
-                                  IMAGE).number;
+    return unused + pagunlit_save(full, full_map, full_words, full_catalogue, PAGUNLIT_SHEETS, scratch, scratch_words, image,
+                                  image_bytes).number;
 }
 
 static uint32_t ours_load(uint32_t unused) {
-    return unused + pagunlit_load(full, image, IMAGE, full_map, BLOCKS / 64, full_catalogue, PAGUNLIT_SHEETS, scratch,
-                                  BLOCKS / 64).number;
+    return unused + pagunlit_load(full, image, image_bytes, full_map, full_words, full_catalogue, PAGUNLIT_SHEETS, scratch,
+                                  scratch_words).number;
 }
 
 static uint32_t copy_image(uint32_t unused) {
-    memcpy(copy, image, IMAGE);
-    sink += copy[sink % IMAGE];
+    memcpy(copy, image, image_bytes);
+    sink += copy[sink % image_bytes];
     return unused;
 }
 
 static inline uint32_t frame_sums(uint32_t (*sums)(const uint8_t *, size_t)) {
     uint32_t wrong = 0;
-    for (size_t frame = 0; frame < IMAGE; frame += PAGUNLIT_BLOCK) wrong += !others_check(image + frame, sums);
+    for (size_t frame = 0; frame < image_bytes; frame += PAGUNLIT_BLOCK) wrong += !others_check(image + frame, sums);
     return wrong;
 }
 
@@ -49,7 +54,7 @@ static uint32_t zlib_frames(uint32_t unused) {
 }
 
 static uint32_t our_frames(uint32_t unused) {
-    for (size_t frame = 0; frame < IMAGE; frame += PAGUNLIT_BLOCK) unused += check(image + frame, PAGUNLIT_BLOCK) != 1;
+    for (size_t frame = 0; frame < image_bytes; frame += PAGUNLIT_BLOCK) unused += check(image + frame, PAGUNLIT_BLOCK) != 1;
     return unused;
 }
 

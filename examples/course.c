@@ -14,7 +14,7 @@
 #include <stdio.h>
 #include <string.h>
 
-enum { BLOCKS = 8, SHEETS = 4, WORDS = PAGUNLIT_MAP_WORDS(BLOCKS) };
+enum { BLOCKS = 8, SHEETS = 4, WORDS = PAGUNLIT_MAP_WORDS(BLOCKS), SCRATCH = PAGUNLIT_SCRATCH_WORDS(BLOCKS) };
 
 /* All that the library works on belongs to the program. The shape is handed from call to call. */
 static pagunlit_shape shape;
@@ -22,9 +22,9 @@ static uint64_t map[WORDS];
 static pagunlit_entry catalogue[SHEETS];
 static uint8_t card[BLOCKS * PAGUNLIT_BLOCK];
 
-/* For save and load: the image of the map and the catalogue, and a scratch as long as the map. */
+/* For save and load: the image of the map and the catalogue, and a scratch of at most 64 words. */
 static uint8_t image[PAGUNLIT_IMAGE_BYTES(BLOCKS, SHEETS)];
-static uint64_t scratch[WORDS];
+static uint64_t scratch[SCRATCH];
 
 /* What stands in the place of block b: '.' if it is free, or the number of its sheet. Two sheets would show as '!'. */
 static char holder(uint32_t b)
@@ -162,7 +162,7 @@ static void show(uint32_t sheet, uint32_t place)
 
 static void save(void)
 {
-    told("save", pagunlit_save(shape, map, WORDS, catalogue, SHEETS, scratch, WORDS, image, sizeof image));
+    told("save", pagunlit_save(shape, map, WORDS, catalogue, SHEETS, scratch, SCRATCH, image, sizeof image));
 }
 
 /* The head of an image says how long a map and a catalogue it needs. This program has room for one card. */
@@ -173,7 +173,7 @@ static void load(void)
     printf("      the image is of %u blocks and %u sheets\n", blocks, sheets);
     if (blocks != BLOCKS || sheets != SHEETS)
         return;
-    told("load", pagunlit_load(shape, image, sizeof image, map, WORDS, catalogue, SHEETS, scratch, WORDS));
+    told("load", pagunlit_load(shape, image, sizeof image, map, WORDS, catalogue, SHEETS, scratch, SCRATCH));
 }
 
 /* The power is off: nothing is left but the card and the image. */

@@ -38,8 +38,8 @@ extern "C" {
 #endif
 
 /* The version of this header, 10000 * first + 100 * second + third, and as a text. */
-#define PAGUNLIT_VERSION 10500
-#define PAGUNLIT_VERSION_TEXT "1.5.0"
+#define PAGUNLIT_VERSION 20000
+#define PAGUNLIT_VERSION_TEXT "2.0.0"
 
 enum {
     PAGUNLIT_BLOCK = 512,       /* bytes of a block */
@@ -81,6 +81,9 @@ enum {
 /* Words of the map of a card of n blocks. Block b is bit 63 - b % 64 of word b / 64; 1 is free. */
 #define PAGUNLIT_MAP_WORDS(n) (((size_t)(n) + 63) / 64)
 
+/* Words of the scratch that save and load take for a card of n blocks: 64, or the map's if they are fewer. */
+#define PAGUNLIT_SCRATCH_WORDS(n) (PAGUNLIT_MAP_WORDS(n) < 64 ? PAGUNLIT_MAP_WORDS(n) : (size_t)64)
+
 /* Bytes of the image of a card of n blocks and c sheets, for n and c within their limits. */
 #define PAGUNLIT_IMAGE_BYTES(n, c) ((12 + 12 * (size_t)(c) + 8 * PAGUNLIT_MAP_WORDS(n) + 495) / 496 * 512)
 
@@ -109,7 +112,7 @@ pagunlit_outcome pagunlit_fresh(pagunlit_shape shape, uint32_t blocks, uint64_t 
 /* What the functions below mean by "as above":
  *   1   the shape's blocks are not 1 to 262144, or its free count is above them; maplen is not PAGUNLIT_MAP_WORDS of them;
  *       and of a call that is lent them: cataloguelen is not 1 to 1024, cardlen not PAGUNLIT_BLOCK times the blocks,
- *       scratchlen not maplen
+ *       scratchlen not PAGUNLIT_SCRATCH_WORDS of them
  *   2   sheet is not below cataloguelen
  *   4   the sheet's entry is damaged: its mark is none of the four; or it is Absent and has a start or a length; or it is
  *       Open, Complete, or Paused with a start or a length, and has length 0, goes past the card's last block, or has a block
@@ -223,8 +226,8 @@ pagunlit_outcome pagunlit_show(pagunlit_shape shape, const uint64_t *map, size_t
                                size_t cataloguelen, const uint8_t *card, size_t cardlen, uint32_t sheet, uint32_t place,
                                uint8_t *buffer, size_t bufferlen);
 
-/* Saves shape, map and catalogue as an image, of exactly PAGUNLIT_IMAGE_BYTES. The scratch has as many words as the map,
- * and is all zeros afterwards, whatever the answer. The card's blocks are no part of the image.
+/* Saves shape, map and catalogue as an image, of exactly PAGUNLIT_IMAGE_BYTES. The scratch has PAGUNLIT_SCRATCH_WORDS
+ * of the blocks, and is all zeros afterwards, whatever the answer. The card's blocks are no part of the image.
  *   1   as above
  *   4   the state is not sound: an entry cannot be, two sheets share a block, a block is free and held or neither, a bit of
  *       the map is 1 behind the last block, or the free count is not the number of free blocks
@@ -239,7 +242,8 @@ pagunlit_outcome pagunlit_save(pagunlit_shape shape, const uint64_t *map, size_t
  *   12  imagelen is not 1 to 91 whole blocks of 512 bytes
  *   13  a frame's number, total or check is wrong
  *   14  the blocks, the sheets or the free count in the image are out of limits, or it is not as long as they ask for
- *   1   maplen or scratchlen is not PAGUNLIT_MAP_WORDS of the image's blocks, or cataloguelen not its sheets
+ *   1   maplen is not PAGUNLIT_MAP_WORDS or scratchlen not PAGUNLIT_SCRATCH_WORDS of the image's blocks, or cataloguelen not
+ *       its sheets
  *   14  the state in the image is not sound, or what fills it up is not all zeros */
 pagunlit_outcome pagunlit_load(pagunlit_shape shape, const uint8_t *image, size_t imagelen, uint64_t *map, size_t maplen,
                                pagunlit_entry *catalogue, size_t cataloguelen, uint64_t *scratch, size_t scratchlen);

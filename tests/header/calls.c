@@ -8,10 +8,12 @@
 #include <stdio.h>
 #include <string.h>
 
-enum { N = 70, C = 3, W = PAGUNLIT_MAP_WORDS(N), CARD = N * PAGUNLIT_BLOCK, IMAGE = PAGUNLIT_IMAGE_BYTES(N, C) };
+enum { N = 70, C = 3, W = PAGUNLIT_MAP_WORDS(N), S = PAGUNLIT_SCRATCH_WORDS(N) };
+
+enum { CARD = N * PAGUNLIT_BLOCK, IMAGE = PAGUNLIT_IMAGE_BYTES(N, C) };
 
 static pagunlit_shape shape;
-static uint64_t map[W], scratch[W];
+static uint64_t map[W], scratch[S];
 static pagunlit_entry catalogue[C];
 static uint8_t card[CARD], image[IMAGE], slice[PAGUNLIT_PAYLOAD];
 
@@ -36,10 +38,10 @@ static void disorder(void)
 {
     shape.blocks = 11;
     shape.free = 12;
-    for (uint32_t i = 0; i < W; i++) {
+    for (uint32_t i = 0; i < W; i++)
         map[i] = 0x0123456789abcdef + i;
+    for (uint32_t i = 0; i < S; i++)
         scratch[i] = 0xfedcba9876543210 + i;
-    }
     for (uint32_t s = 0; s < C; s++) {
         catalogue[s].mark = 3 * s + 1;
         catalogue[s].start = 3 * s + 2;
@@ -58,7 +60,7 @@ static void told(const char *call, pagunlit_outcome outcome)
     for (uint32_t s = 0; s < C; s++)
         printf(" %u/%u/%u", catalogue[s].mark, catalogue[s].start, catalogue[s].length);
     printf(" scratch");
-    for (uint32_t i = 0; i < W; i++)
+    for (uint32_t i = 0; i < S; i++)
         printf(" %016" PRIx64, scratch[i]);
     printf(" card %016" PRIx64 " image %016" PRIx64 " slice %016" PRIx64 "\n", number_of(card, sizeof card),
            number_of(image, sizeof image), number_of(slice, sizeof slice));
@@ -124,12 +126,12 @@ static void survey(const char *call)
 
 static void save(const char *call, size_t length)
 {
-    told(call, pagunlit_save(shape, map, W, catalogue, C, scratch, W, image, length));
+    told(call, pagunlit_save(shape, map, W, catalogue, C, scratch, S, image, length));
 }
 
 static void load(const char *call)
 {
-    told(call, pagunlit_load(shape, image, sizeof image, map, W, catalogue, C, scratch, W));
+    told(call, pagunlit_load(shape, image, sizeof image, map, W, catalogue, C, scratch, S));
 }
 
 /* From a fresh card to a saved one. */

@@ -10,7 +10,8 @@
 enum { SMALL = 5000, WORDS = PAGUNLIT_MAP_WORDS(PAGUNLIT_BLOCKS), ALL_SHEETS = 80 };
 
 /* The macros are constant expressions. */
-_Static_assert(PAGUNLIT_MAP_WORDS(1) > 0 && PAGUNLIT_IMAGE_BYTES(1, 1) > 0, "the macros are no constant expressions");
+_Static_assert(PAGUNLIT_MAP_WORDS(1) > 0 && PAGUNLIT_SCRATCH_WORDS(1) > 0 && PAGUNLIT_IMAGE_BYTES(1, 1) > 0,
+               "the macros are no constant expressions");
 
 #define CONSTANT(name) printf(#name "\t%lld\n", (long long)(name))
 #define TYPE(x) _Generic((x), uint32_t: "uint32_t", size_t: "size_t", pagunlit_shape: "pagunlit_shape", default: "another")
@@ -88,6 +89,7 @@ static void structs(void)
 static void words(uint32_t n)
 {
     printf("PAGUNLIT_MAP_WORDS(%u)\t%zu\n", n, PAGUNLIT_MAP_WORDS(n));
+    printf("PAGUNLIT_SCRATCH_WORDS(%u)\t%zu\n", n, PAGUNLIT_SCRATCH_WORDS(n));
 }
 
 static void bytes(uint32_t n, uint32_t c)
@@ -121,11 +123,14 @@ static void macros(void)
 static void parentheses(void)
 {
     printf("type PAGUNLIT_MAP_WORDS\t%s\n", TYPE(PAGUNLIT_MAP_WORDS(1)));
+    printf("type PAGUNLIT_SCRATCH_WORDS\t%s\n", TYPE(PAGUNLIT_SCRATCH_WORDS(1)));
     printf("type PAGUNLIT_IMAGE_BYTES\t%s\n", TYPE(PAGUNLIT_IMAGE_BYTES(1, 1)));
     printf("inside PAGUNLIT_MAP_WORDS(1|64)\t%zu\n", PAGUNLIT_MAP_WORDS(1 | 64));
+    printf("inside PAGUNLIT_SCRATCH_WORDS(1|64)\t%zu\n", PAGUNLIT_SCRATCH_WORDS(1 | 64));
     printf("inside PAGUNLIT_IMAGE_BYTES(1|4096,1)\t%zu\n", PAGUNLIT_IMAGE_BYTES(1 | 4096, 1));
     printf("inside PAGUNLIT_IMAGE_BYTES(64,1|128)\t%zu\n", PAGUNLIT_IMAGE_BYTES(64, 1 | 128));
     printf("outside 128/PAGUNLIT_MAP_WORDS(65)\t%zu\n", 128 / PAGUNLIT_MAP_WORDS(65));
+    printf("outside 128/PAGUNLIT_SCRATCH_WORDS(8192)\t%zu\n", 128 / PAGUNLIT_SCRATCH_WORDS(8192));
     printf("outside 4096/PAGUNLIT_IMAGE_BYTES(64,100)\t%zu\n", 4096 / PAGUNLIT_IMAGE_BYTES(64, 100));
 }
 

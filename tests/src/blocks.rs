@@ -22,6 +22,12 @@ pub fn words_of(n: usize) -> usize {
     n.div_ceil(64)
 }
 
+/// How many words the scratch of save and load has for a card of n blocks (document 02, (h)): 64, or the map's length if
+/// that is less.
+pub fn scratch_words(n: usize) -> usize {
+    words_of(n).min(64)
+}
+
 /// The map of w words of a fresh card of n blocks.
 pub fn fresh(n: usize, w: usize) -> Vec<bool> {
     (0..64 * w).map(|b| b < n).collect()

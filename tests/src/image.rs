@@ -1,6 +1,6 @@
 //! The saved image (document 01, "Saved image"), written out byte by byte.
 
-use crate::blocks::{from_words, to_words, words_of, FREE};
+use crate::blocks::{from_words, scratch_words, to_words, words_of, FREE};
 use crate::call::{LOAD, SAVE};
 use crate::card::Answer::*;
 use crate::card::{entry, sums, Answer, Card};
@@ -100,7 +100,7 @@ impl Card {
             Row::Sheets => !(1..=1024).contains(&self.sheets.len()),
             Row::FreeAboveN => self.free > self.n,
             Row::MapLength => self.map.len() != 64 * words_of(self.n),
-            Row::ScratchLength => scratch != words_of(self.n),
+            Row::ScratchLength => scratch != scratch_words(self.n),
             Row::SavedState => !self.sound(),
             Row::ImageLength => length != BLOCK * blocks_of(self.n, self.sheets.len()),
             other => unreachable!("{other:?} is no row of save"),
@@ -122,7 +122,7 @@ impl Card {
             Row::HeadTotal => image.total() != blocks_of(image.n(), image.c()),
             Row::MapLength => self.map.len() != 64 * words_of(image.n()),
             Row::CatalogueLength => self.sheets.len() != image.c(),
-            Row::ScratchLength => scratch != words_of(image.n()),
+            Row::ScratchLength => scratch != scratch_words(image.n()),
             Row::LoadedState => image.state().is_some_and(|state| !state.sound()),
             Row::Fill => image.fill().iter().any(|&byte| byte != 0),
             other => unreachable!("{other:?} is no row of load"),

@@ -1,7 +1,7 @@
 //! What the card printer must print (document 01, "Saved image"), and images to hold it to.
 
 use crate::before;
-use crate::blocks::{from_words, survey, words_of, Counts};
+use crate::blocks::{from_words, scratch_words, survey, words_of, Counts};
 use crate::card::{entry, Answer, Card};
 use crate::image::{blocks_of, body_of, framed, image_of};
 use crate::random::Random;
@@ -52,7 +52,7 @@ pub fn text(image: &[u8]) -> String {
     // n and c stand in the first image block, behind its number and the number of image blocks
     let (n, c) = (at(8).clamp(1, 262144), at(16).clamp(1, 1024));
     let mut card = fresh(n, c);
-    let mut scratch = vec![0; words_of(n)];
+    let mut scratch = vec![0; scratch_words(n)];
     match card.load(image, &mut scratch) {
         Answer::Refused(number) => return format!("refused {number}\n"),
         _ => {}

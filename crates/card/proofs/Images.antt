@@ -14,6 +14,7 @@ use borrow.Author.Tests.{eqb-true, ne-eqb}
 use Rattle.catalogue_standings.specs.Rows.{Verdict, accepted, refused, settle}
 use Rattle.catalogue_standings.specs.declared.Answer.the-variants.{Done, Refused}
 use Rattle.catalogue.specs.declared.Entry.{Entry}
+use Rattle.image_soundness.specs.Scratch.{scratchWords}
 use Rattle.image_frames.specs.Frames.{Bytes}
 use Rattle.image.specs.Effects as images
 use Rattle.image.specs.Effects.{rowNumber, loadResult}
@@ -51,7 +52,7 @@ done-load shape given d = by (eqb (given .number) 0) refl d
     by true e h = eqb-true (given .number) 0 e
     by false e h = absurd (never-done h)
 
--- what a save of `map` and `entries` wrote, loaded into other buffers of the same lengths, whatever shape the load takes
+-- what a save of `map` and `entries` wrote, loaded into other buffers of their lengths, whatever shape the load takes
 module _ (shape other : Shape) (map : List ℕ) (entries : List Entry) (scratch buffer map′ : List ℕ) (entries′ : List Entry)
     (scratch′ : List ℕ) where
   abbrev written : List ℕ
@@ -64,7 +65,8 @@ module _ (shape other : Shape) (map : List ℕ) (entries : List Entry) (scratch 
     pub zeros : loadScratch other written map′ entries′ scratch′ ≡ replicate (length scratch′) 0
 
   pub saved-loads : Words map → saveOutcome shape map entries scratch buffer ≡ told shape Done
-      → length map′ ≡ length map → length entries′ ≡ length entries → length scratch′ ≡ length map → LoadsBack
+      → length map′ ≡ length map → length entries′ ≡ length entries → length scratch′ ≡ scratchWords (length map)
+      → LoadsBack
   saved-loads words e lm le ls =
       let z = done-save shape (images.saveNumber (shape .blocks) (shape .free) map entries scratch buffer)
       (ap (λ (o : Outcome). isDone (o .answer)) e) in
@@ -98,8 +100,8 @@ module _ (shape : Shape) (image map : List ℕ) (entries : List Entry) (scratch 
       ∙ journey.loaded-only image map entries scratch bytes z
 
   -- a save of what was loaded is done, and writes the image again
-  pub loaded-saves : isDone (handed .answer) ≡ true → (other buffer : List ℕ) → length other ≡ length map′
-      → length buffer ≡ length image
+  pub loaded-saves : isDone (handed .answer) ≡ true → (other buffer : List ℕ)
+      → length other ≡ scratchWords (length map′) → length buffer ≡ length image
       → (saveOutcome (handed .shape) map′ entries′ other buffer ≡ told (handed .shape) Done)
       × (saveImage (handed .shape) map′ entries′ other buffer ≡ image)
   loaded-saves d other buffer lo lb =

@@ -15,6 +15,7 @@ use Rattle.catalogue_standings.specs.declared.Answer.{Answer}
 use Rattle.catalogue_standings.specs.declared.Answer.the-variants.{Done, Blank, Refused}
 use Rattle.refusals.specs.Placement.{plain, placed, figures}
 use Rattle.refusals.specs.Effects as effects
+use Rattle.image_soundness.specs.Scratch.{scratchWords}
 use Rattle.image_frames.specs.Frames.{Bytes}
 use Rattle.image.specs.Image.{imageOf}
 use Rattle.image.specs.Table.{saveVerdict, loadVerdict}
@@ -158,7 +159,7 @@ module _ (shape : Shape) (map : List ℕ) (entries : List Entry) (scratch image 
   pub saved-loads : Words map → (other : Shape) (words : List ℕ) (sheets : List Entry) (spare : List ℕ)
       (read : Outcome) (words′ : List ℕ) (sheets′ : List Entry) (spare′ : List ℕ)
       → Loads itself other image′ words sheets spare read words′ sheets′ spare′
-      → length words ≡ length map → length sheets ≡ length entries → length spare ≡ length map
+      → length words ≡ length map → length sheets ≡ length entries → length spare ≡ scratchWords (length map)
       → (read ≡ told shape Done) × (words′ ≡ map) × (sheets′ ≡ entries) × (spare′ ≡ replicate (length spare) 0)
   saved-loads fit other words sheets spare read words′ sheets′ spare′ loads lw ls lp =
       let was-done : saveOutcome shape map entries scratch image ≡ told shape Done =
@@ -184,10 +185,11 @@ module _ (shape : Shape) (image map : List ℕ) (entries : List Entry) (scratch 
 
   pub loaded-saves : (spare buffer : List ℕ) (saved : Outcome) (spare′ buffer′ : List ℕ)
       → Saves itself (r .shape) map′ entries′ spare buffer saved spare′ buffer′
-      → length spare ≡ length map′ → length buffer ≡ length image
+      → length spare ≡ scratchWords (length map′) → length buffer ≡ length image
       → (saved ≡ told (r .shape) Done) × (buffer′ ≡ image)
   loaded-saves spare buffer saved spare′ buffer′ saves ls lb =
-      let as-long : length spare ≡ length (loadMap shape image map entries scratch) = ls ∙ ap length (loads .1) in
+      let as-long : length spare ≡ scratchWords (length (loadMap shape image map entries scratch)) =
+      ls ∙ ap (λ (l : List ℕ). scratchWords (length l)) (loads .1) in
       let again = images.loaded-saves shape image map entries scratch bytes was-done spare buffer as-long lb in (
         saves .0 ∙ (λ x. saveOutcome (loads .0 x .shape) (loads .1 x) (loads .2 x) spare buffer) ∙ again .0
             ∙ ap (λ (o : Outcome). told (o .shape) Done) (sym (loads .0)),

@@ -13,6 +13,7 @@ use Rattle.survey_bytes.proofs.Bytes.{runs-length}
 use Rattle.survey.specs.Survey.{blocks, countsOf}
 use Rattle.catalogue.specs.declared.Entry.{Entry}
 use Rattle.catalogue_standings.specs.Rows.{Row, row, Verdict, accepted, refused, firstOf, settle}
+use Rattle.image_soundness.specs.Scratch.{scratchWords}
 use Rattle.image_soundness.specs.Sound.{State, undamaged, sound}
 use Rattle.image_soundness.proofs.Covers.{head-undamaged, tail-undamaged}
 use Rattle.image_soundness.proofs.Damage.{extent-inside}
@@ -136,10 +137,10 @@ prints-whole image map entries scratch text r map′ entries′ scratch′ text�
 -- ---- what is printed of the image of a state that can be saved
 
 module _ (s : State) (words : Words (s .map))
-    (fit : saveFits (s .blocks) (s .spare) (length (s .entries)) (length (s .map)) (length (s .map)) ≡ true)
+    (fit : saveFits (s .blocks) (s .spare) (length (s .entries)) (length (s .map)) (scratchWords (length (s .map))) ≡ true)
     (whole : sound s ≡ true) where
   abbrev printed : List ℕ
-  printed = printedOf (imageOf s) (length (s .map)) (length (s .entries)) (length (s .map))
+  printed = printedOf (imageOf s) (length (s .map)) (length (s .entries)) (scratchWords (length (s .map)))
 
   abbrev text-of : State → List ℕ
   text-of s = stateText (s .blocks) (s .spare) (s .map) (s .entries)
@@ -147,18 +148,18 @@ module _ (s : State) (words : Words (s .map))
   abbrev image-length : ℕ
   image-length = 512 * framesFor (s .blocks) (length (s .entries))
 
-  saves : saveVerdict s (length (s .map)) image-length ≡ accepted
-  saves = to-saved s (length (s .map)) image-length (record { lengths = fit; whole = whole; exact = refl })
+  saves : saveVerdict s (scratchWords (length (s .map))) image-length ≡ accepted
+  saves = to-saved s (scratchWords (length (s .map))) image-length (record { lengths = fit; whole = whole; exact = refl })
 
   pub saved-printed : printed ≡ text-of s
   saved-printed =
       ap (λ (v : Verdict). settle v (text-of (stateIn (imageOf s))) refusalText)
-      (saved-accepted s (length (s .map)) image-length words saves)
-      ∙ ap text-of (saved-state s (length (s .map)) image-length words saves)
+      (saved-accepted s (scratchWords (length (s .map))) image-length words saves)
+      ∙ ap text-of (saved-state s (scratchWords (length (s .map))) image-length words saves)
 
   -- so its text stands there, whole
   pub saved-whole : (text text′ : List ℕ) (r : ℕ) → room ≤ length text → Writes printed text 0 r text′
       → Begins (text-of s) r text′
   saved-whole text text′ r h w =
       subst (λ (bytes : List ℕ). Begins bytes r text′) saved-printed
-      (printed-whole (imageOf s) (length (s .map)) (length (s .entries)) (length (s .map)) text text′ r h w)
+      (printed-whole (imageOf s) (length (s .map)) (length (s .entries)) (scratchWords (length (s .map))) text text′ r h w)

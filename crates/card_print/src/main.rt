@@ -9,6 +9,7 @@ mod print;
 
 use catalogue::Entry;
 use catalogue_standings::opening::SHEETS;
+use image_soundness::SCRATCH;
 use libc::STDIN_FILENO;
 use libc::STDOUT_FILENO;
 
@@ -26,6 +27,13 @@ fn map_space() -> [u64; 4096]
     [0; 4096]
 }
 
+// The words of a scratch.
+fn scratch_space() -> [u64; SCRATCH]
+    ensures { λ r. ⌜ 64 ≡ ListN.length r ⌝ }
+{
+    [0; SCRATCH]
+}
+
 // Room for the text of the card with the most sheets.
 fn text_space() -> [u8; 32768]
     ensures { λ r. ⌜ 32768 ≡ ListN.length r ⌝ }
@@ -39,8 +47,8 @@ fn smaller(a: usize, b: usize) -> usize
     if a < b { a } else { b }
 }
 
-// Prints an image, with as many words and entries as it asks for and there are at most. The text has room for all that is to
-// be printed: in so many bytes nothing is cut (`prints-whole`, proofs/Whole.antt).
+// Prints an image, with as many words, entries and words of scratch as it asks for and there are at most. The text has room
+// for all that is to be printed: in so many bytes nothing is cut (`prints-whole`, proofs/Whole.antt).
 fn print_card(image: &[u8], map: &mut [u64], scratch: &mut [u64], text: &mut [u8])
     requires { ⌜ room ≤ ListN.length (now text) ⌝ }
 {
@@ -50,9 +58,10 @@ fn print_card(image: &[u8], map: &mut [u64], scratch: &mut [u64], text: &mut [u8
         length: 0,
     }; SHEETS];
     let words = (image_frames::number(image, 0) as usize + 63) / 64;
-    let w = smaller(words, smaller(map.len(), scratch.len()));
+    let w = smaller(words, map.len());
+    let s = smaller(w, scratch.len());
     let c = smaller(image_frames::number(image, 2) as usize, SHEETS);
-    let used = print::print_with(image, &mut map[..w], entries, c, &mut scratch[..w], text);
+    let used = print::print_with(image, &mut map[..w], entries, c, &mut scratch[..s], text);
     let end = smaller(used, text.len());
     io::write_all(STDOUT_FILENO, &text[..end]);
 }
@@ -61,7 +70,7 @@ fn main() {
     let mut image = image_space();
     let read = io::read_full(STDIN_FILENO, &mut image);
     let mut map = map_space();
-    let mut scratch = map_space();
+    let mut scratch = scratch_space();
     let mut text = text_space();
     let end = smaller(read, image.len());
     print_card(&image[..end], &mut map, &mut scratch, &mut text);

@@ -41,8 +41,8 @@ fn begin(loaded: Loaded, map: &[u64], count: usize, text: &mut [u8]) -> Writer
     write_head(loaded.blocks, loaded.free, count, counts, text)
 }
 
-// Writes what is to be printed of an image to the text, and gives the number of its bytes. The map and the scratch have a bit
-// for each block of the card, and the catalogue an entry for each sheet; load refuses them if not.
+// Writes what is to be printed of an image to the text, and gives the number of its bytes. The map has a bit for each block of
+// the card, the catalogue an entry for each sheet, and the scratch its length; load refuses them if not.
 pub fn print_image(
     image: &[u8],
     map: &mut [u64],

@@ -10,6 +10,7 @@ use Rattle.map_blocks.specs.Maps.{wordsFor}
 use Rattle.laws.proofs.Bools.{and-left, and-right}
 use Rattle.catalogue_standings.specs.Limits.{shapeFits, sheetsFit}
 use Rattle.catalogue_standings.proofs.Limits.{Fits, fits}
+use Rattle.image_soundness.specs.Scratch.{scratchWords}
 use Rattle.image.specs.Image.{framesFor}
 use Rattle.image.specs.Table.{saveFits, wholeBlocks, headFits, loadFits}
 
@@ -30,40 +31,42 @@ pub record SaveFits (n spare c maplen scratchlen : ℕ) : Type 0 where
   pub limits : Fits n spare maplen
   pub listed : sheetsFit c ≡ true
   pub count : Sheets c
-  pub same : scratchlen ≡ maplen
+  pub scratch : scratchlen ≡ scratchWords maplen
 
 module _ (n spare c maplen scratchlen : ℕ) where
   pub save-unshaped : shapeFits n spare maplen ≡ false → false ≡ saveFits n spare c maplen scratchlen
   unfolding saveFits
-  save-unshaped s = sym (ap (λ (a : Bool). a && sheetsFit c && eqb scratchlen maplen) s)
+  save-unshaped s = sym (ap (λ (a : Bool). a && sheetsFit c && eqb scratchlen (scratchWords maplen)) s)
 
   module _ (s : shapeFits n spare maplen ≡ true) where
     pub save-uncounted : sheetsFit c ≡ false → false ≡ saveFits n spare c maplen scratchlen
     unfolding saveFits
-    save-uncounted t = sym (ap₂ (λ (a b : Bool). a && b && eqb scratchlen maplen) s t)
+    save-uncounted t = sym (ap₂ (λ (a b : Bool). a && b && eqb scratchlen (scratchWords maplen)) s t)
 
-    pub save-by-scratch : sheetsFit c ≡ true → eqb scratchlen maplen ≡ saveFits n spare c maplen scratchlen
+    pub save-by-scratch : sheetsFit c ≡ true → (v : ℕ) → v ≡ scratchWords maplen
+        → eqb scratchlen v ≡ saveFits n spare c maplen scratchlen
     unfolding saveFits
-    save-by-scratch t = sym (ap₂ (λ (a b : Bool). a && b && eqb scratchlen maplen) s t)
+    save-by-scratch t v ev = ap (eqb scratchlen) ev
+        ∙ sym (ap₂ (λ (a b : Bool). a && b && eqb scratchlen (scratchWords maplen)) s t)
 
   pub save-fits-to : saveFits n spare c maplen scratchlen ≡ true → SaveFits n spare c maplen scratchlen
   unfolding saveFits
   save-fits-to e =
       let a : Bool = shapeFits n spare maplen in
       let b : Bool = sheetsFit c in
-      let d : Bool = eqb scratchlen maplen in
+      let d : Bool = eqb scratchlen (scratchWords maplen) in
       let s = and-left a b (and-left (a && b) d e) in
       record {
         shape = s;
         limits = fits n spare maplen s;
         listed = and-right a b (and-left (a && b) d e);
         count = sheets c (and-right a b (and-left (a && b) d e));
-        same = eqb-true scratchlen maplen (and-right (a && b) d e);
+        scratch = eqb-true scratchlen (scratchWords maplen) (and-right (a && b) d e);
       }
 
-  pub to-save-fits : shapeFits n spare maplen ≡ true → sheetsFit c ≡ true → scratchlen ≡ maplen
+  pub to-save-fits : shapeFits n spare maplen ≡ true → sheetsFit c ≡ true → scratchlen ≡ scratchWords maplen
       → saveFits n spare c maplen scratchlen ≡ true
-  to-save-fits s t e = sym (save-by-scratch s t) ∙ eq-eqb scratchlen maplen e
+  to-save-fits s t e = sym (save-by-scratch s t (scratchWords maplen) refl) ∙ eq-eqb scratchlen (scratchWords maplen) e
 
 -- row 12 of load
 pub record Whole (bytes : ℕ) : Type 0 where
@@ -161,26 +164,27 @@ to-head n spare c total s k e = sym (head-by-total n spare c total s k (framesFo
 pub record LoadFits (n c maplen count scratchlen : ℕ) : Type 0 where
   pub words : maplen ≡ wordsFor n
   pub entries : count ≡ c
-  pub scratch : scratchlen ≡ wordsFor n
+  pub scratch : scratchlen ≡ scratchWords (wordsFor n)
 
 module _ (n c maplen count scratchlen w : ℕ) (ew : w ≡ wordsFor n) where
   pub load-words : (maplen ≡ w → ⊥) → false ≡ loadFits n c maplen count scratchlen
   unfolding loadFits
   load-words h =
-      sym (ap (λ (a : Bool). a && eqb count c && eqb scratchlen (wordsFor n))
+      sym (ap (λ (a : Bool). a && eqb count c && eqb scratchlen (scratchWords (wordsFor n)))
       (ne-eqb maplen (wordsFor n) (λ q. h (q ∙ sym ew))))
 
   module _ (e : maplen ≡ w) where
     pub load-entries : (count ≡ c → ⊥) → false ≡ loadFits n c maplen count scratchlen
     unfolding loadFits
     load-entries h =
-        sym (ap₂ (λ (a b : Bool). a && b && eqb scratchlen (wordsFor n)) (eq-eqb maplen (wordsFor n) (e ∙ ew))
+        sym (ap₂ (λ (a b : Bool). a && b && eqb scratchlen (scratchWords (wordsFor n))) (eq-eqb maplen (wordsFor n) (e ∙ ew))
         (ne-eqb count c h))
 
-    pub load-by-scratch : count ≡ c → (v : ℕ) → v ≡ wordsFor n → eqb scratchlen v ≡ loadFits n c maplen count scratchlen
+    pub load-by-scratch : count ≡ c → (v : ℕ) → v ≡ scratchWords (wordsFor n)
+        → eqb scratchlen v ≡ loadFits n c maplen count scratchlen
     unfolding loadFits
     load-by-scratch h v ev = ap (eqb scratchlen) ev
-        ∙ sym (ap₂ (λ (a b : Bool). a && b && eqb scratchlen (wordsFor n)) (eq-eqb maplen (wordsFor n) (e ∙ ew))
+        ∙ sym (ap₂ (λ (a b : Bool). a && b && eqb scratchlen (scratchWords (wordsFor n))) (eq-eqb maplen (wordsFor n) (e ∙ ew))
         (eq-eqb count c h))
 
 pub load-fits-to : (n c maplen count scratchlen : ℕ) → loadFits n c maplen count scratchlen ≡ true
@@ -189,15 +193,15 @@ unfolding loadFits
 load-fits-to n c maplen count scratchlen e =
     let a : Bool = eqb maplen (wordsFor n) in
     let b : Bool = eqb count c in
-    let d : Bool = eqb scratchlen (wordsFor n) in
+    let d : Bool = eqb scratchlen (scratchWords (wordsFor n)) in
     record {
       words = eqb-true maplen (wordsFor n) (and-left a b (and-left (a && b) d e));
       entries = eqb-true count c (and-right a b (and-left (a && b) d e));
-      scratch = eqb-true scratchlen (wordsFor n) (and-right (a && b) d e);
+      scratch = eqb-true scratchlen (scratchWords (wordsFor n)) (and-right (a && b) d e);
     }
 
 pub to-load-fits : (n c maplen count scratchlen : ℕ) → LoadFits n c maplen count scratchlen
     → loadFits n c maplen count scratchlen ≡ true
 to-load-fits n c maplen count scratchlen l =
-    sym (load-by-scratch n c maplen count scratchlen (wordsFor n) refl (l .words) (l .entries) (wordsFor n) refl)
-    ∙ eq-eqb scratchlen (wordsFor n) (l .scratch)
+    sym (load-by-scratch n c maplen count scratchlen (wordsFor n) refl (l .words) (l .entries) (scratchWords (wordsFor n)) refl)
+    ∙ eq-eqb scratchlen (scratchWords (wordsFor n)) (l .scratch)

@@ -23,6 +23,7 @@ use Rattle.image_frames.proofs.Bodies.{body-length}
 use Rattle.image_frames.proofs.Framing.{frames-length, frames-total, frames-body, frames-hold, framed-back, bytes-back}
 use Rattle.image_frames.proofs.Recovered.{body-bytes, words-back, words-stored}
 use Rattle.image_frames.proofs.Stored.{wordBytes-length, wordsAt-length}
+use Rattle.image_soundness.specs.Scratch.{scratchWords}
 use Rattle.image_soundness.specs.Sound.{State, sound, undamaged}
 use Rattle.image_soundness.proofs.Covers.{head-undamaged, tail-undamaged}
 use Rattle.image_soundness.proofs.Damage.{extent-inside, mark-small}
@@ -339,10 +340,10 @@ module _ (s : State) (scratchlen bufferlen : ℕ) (words : Words (s .map))
       ∙ ap (state N (s .spare) (s .entries)) image-map
 
   -- and load accepts it
-  pub saved-accepted : loadVerdict image (length (s .map)) C (length (s .map)) ≡ accepted
+  pub saved-accepted : loadVerdict image (length (s .map)) C (scratchWords (length (s .map))) ≡ accepted
   saved-accepted =
       let w = fit .limits .words in
-      to-accepted image (length (s .map)) C (length (s .map)) (record {
+      to-accepted image (length (s .map)) C (scratchWords (length (s .map))) (record {
         blocks =
             to-whole (length image)
             (record {
@@ -354,8 +355,9 @@ module _ (s : State) (scratchlen bufferlen : ℕ) (words : Words (s .map))
         first = ap₂ (λ (x y : ℕ). headFits x (freeCountIn image) y (totalOf image)) image-blocks image-sheets
             ∙ ap₂ (λ (x t : ℕ). headFits N x C t) image-spare image-total
             ∙ to-head N (s .spare) C T (ap (shapeFits N (s .spare)) (sym w) ∙ fit .shape) (fit .listed) refl;
-        lengths = ap₂ (λ (x y : ℕ). loadFits x y (length (s .map)) C (length (s .map))) image-blocks image-sheets
-            ∙ to-load-fits N C (length (s .map)) C (length (s .map)) (record { words = w; entries = refl; scratch = w });
+        lengths = ap₂ (λ (x y : ℕ). loadFits x y (length (s .map)) C (scratchWords (length (s .map)))) image-blocks image-sheets
+            ∙ to-load-fits N C (length (s .map)) C (scratchWords (length (s .map)))
+            (record { words = w; entries = refl; scratch = ap scratchWords w });
         whole = ap sound saved-state ∙ saved .whole;
         fill = ap₂ (filled image) image-blocks image-sheets ∙ image-filled;
       })

@@ -1,5 +1,5 @@
--- A worked image; laws of limits, verdicts and cursors, for save and load; the theorems of the return journey; and of images
--- written before.
+-- A worked image; laws of limits, verdicts and cursors, for save and load; the theorems of the return journey; of images
+-- written before; and that the answers do not hang on the scratch.
 pub mod ExampleFigures
 pub mod Example
 pub mod Fitting
@@ -8,3 +8,4 @@ pub mod Cursors
 pub mod Journey
 pub mod ReturnJourney
 pub mod Before
+pub mod SameAnswers

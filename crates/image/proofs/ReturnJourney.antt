@@ -10,6 +10,7 @@ use Rattle.map_blocks.specs.Maps.{wordsFor}
 use Rattle.catalogue_standings.specs.Rows.{Verdict, accepted, refused, settle}
 use Rattle.catalogue.specs.declared.Entry.{Entry}
 use Rattle.image_frames.specs.Frames.{Bytes, totalOf}
+use Rattle.image_soundness.specs.Scratch.{scratchWords}
 use Rattle.image_soundness.specs.Sound.{State}
 use Rattle.image.specs.Effects.{rowNumber, saveNumber, saveImage, loadResult, loadMap, loadEntries, loadScratch}
 use Rattle.image.specs.Image.{framesFor, imageOf, blocksIn, freeCountIn, sheetsIn, stateIn}
@@ -61,7 +62,7 @@ module _ (image map : List ℕ) (entries : List Entry) (scratch : List ℕ) wher
 module _ (n spare : ℕ) (map : List ℕ) (entries : List Entry) (scratch buffer map′ : List ℕ) (entries′ : List Entry)
     (scratch′ : List ℕ) where
   pub saved-loads : Words map → saveNumber n spare map entries scratch buffer ≡ 0 → length map′ ≡ length map
-      → length entries′ ≡ length entries → length scratch′ ≡ length map
+      → length entries′ ≡ length entries → length scratch′ ≡ scratchWords (length map)
       → Gives n spare map entries (saveImage n spare map entries scratch buffer) map′ entries′ scratch′
   unfolding saveNumber saveImage
   saved-loads words e lm le ls =
@@ -101,7 +102,8 @@ module _ (image map : List ℕ) (entries : List Entry) (scratch : List ℕ) (byt
       (number-accepts image map entries scratch done)
 
   -- a save of it is accepted, and writes the image again
-  pub loaded-saves : (other buffer : List ℕ) → length other ≡ length (given .map) → length buffer ≡ length image
+  pub loaded-saves : (other buffer : List ℕ) → length other ≡ scratchWords (length (given .map))
+      → length buffer ≡ length image
       → (saveNumber (given .blocks) (given .spare) (given .map) (given .entries) other buffer ≡ 0)
       × (saveImage (given .blocks) (given .spare) (given .map) (given .entries) other buffer ≡ image)
   unfolding saveNumber saveImage
@@ -109,7 +111,7 @@ module _ (image map : List ℕ) (entries : List Entry) (scratch : List ℕ) (byt
       let v = accepts (length other) (length buffer) lo lb in
       (ap rowNumber v, ap (λ (w : Verdict). settle w (imageOf given) (λ number. buffer)) v ∙ loaded-only)
     where
-      accepts : (scratchlen bufferlen : ℕ) → scratchlen ≡ length (given .map) → bufferlen ≡ length image
+      accepts : (scratchlen bufferlen : ℕ) → scratchlen ≡ scratchWords (length (given .map)) → bufferlen ≡ length image
           → saveVerdict given scratchlen bufferlen ≡ accepted
       accepts scratchlen bufferlen ls lb =
           let p = accepted-to image (length map) (length entries) (length scratch)
@@ -122,8 +124,8 @@ module _ (image map : List ℕ) (entries : List Entry) (scratch : List ℕ) (byt
                 (entries-length image (sheetsIn image)) (map-length image (blocksIn image) (sheetsIn image))
                 ∙ to-save-fits (blocksIn image) (freeCountIn image) (sheetsIn image) (wordsFor (blocksIn image)) scratchlen
                 (h .shape) (h .listed)
-                (ls ∙ ap (λ (x : State). length (x .map)) (sym same-given)
-                ∙ map-length image (blocksIn image) (sheetsIn image));
+                (ls ∙ ap (λ (x : State). scratchWords (length (x .map))) (sym same-given)
+                ∙ ap scratchWords (map-length image (blocksIn image) (sheetsIn image)));
             whole = p .whole;
             exact = lb ∙ w .exact ∙ ap (λ (k : ℕ). 512 * k)
                 (h .exact ∙ ap (framesFor (blocksIn image)) (sym (entries-length image (sheetsIn image))));

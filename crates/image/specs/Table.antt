@@ -1,4 +1,5 @@
--- The rows of save and load (document 01, "Saved image"), in its order. A call is refused with the first row that holds.
+-- The rows of save and load (document 01, "Saved image"; of the scratch document 02, (h)), in its order. A call is refused
+-- with the first row that holds.
 -- Assumes nothing.
 use mathlib.Core.Bool.{Bool, not, _&&_}
 use mathlib.Core.List.{List, [], _∷_}
@@ -9,12 +10,13 @@ use Rattle.map_blocks.specs.Maps.{wordsFor}
 use Rattle.catalogue_standings.specs.Rows.{Row, row, Verdict, firstOf}
 use Rattle.catalogue_standings.specs.Limits.{shapeFits, sheetsFit}
 use Rattle.image_frames.specs.Frames.{totalOf, framed}
+use Rattle.image_soundness.specs.Scratch.{scratchWords}
 use Rattle.image_soundness.specs.Sound.{State, sound}
 use Rattle.image.specs.Image.{framesFor, blocksIn, freeCountIn, sheetsIn, stateIn, filled}
 
--- n, c and the free count are within their limits, and the lent map and scratch have w words.
+-- n, c and the free count are within their limits, and the lent map has w words, the scratch 64 or the map's if that is less.
 unfoldable pub saveFits : ℕ → ℕ → ℕ → ℕ → ℕ → Bool
-saveFits n spare c maplen scratchlen = shapeFits n spare maplen && sheetsFit c && eqb scratchlen maplen
+saveFits n spare c maplen scratchlen = shapeFits n spare maplen && sheetsFit c && eqb scratchlen (scratchWords maplen)
 
 -- Save, of a state, with a scratch and a buffer of these lengths: 1, 4, then 12 unless the buffer is exactly the image's
 -- length. `whole`: the state is sound.
@@ -39,7 +41,8 @@ headFits n spare c total = shapeFits n spare (wordsFor n) && sheetsFit c && eqb 
 
 -- The lent map, catalogue and scratch have the lengths that n and c want.
 unfoldable pub loadFits : ℕ → ℕ → ℕ → ℕ → ℕ → Bool
-loadFits n c maplen count scratchlen = eqb maplen (wordsFor n) && eqb count c && eqb scratchlen (wordsFor n)
+loadFits n c maplen count scratchlen =
+    eqb maplen (wordsFor n) && eqb count c && eqb scratchlen (scratchWords (wordsFor n))
 
 -- Load, of an image into a map, a catalogue and a scratch of these lengths: 12 unless 1 to 91 whole blocks; 13 if any frame's
 -- number, total or check is wrong; 14 if n, c or the free count is out of limits or the total doesn't fit them; 1 if a lent

@@ -1,6 +1,5 @@
-// Images (document 01, "Saved image"): what save and load share. They are in the crates image_save and loading.
+// Images (document 01, "Saved image"): what save and load share. They are in the crates image_save and image_load.
 pub mod limits;
-pub mod words;
 
 // Where the next entry stands among the numbers of a body, and whether there is none to go on to.
 pub struct Cursor {

@@ -1,6 +1,7 @@
 // The tests of limits and lengths that the rows of save and load make.
 ghost use mathlib.Core.Path.{_≡_};
 ghost use Prim.Native.Nat.{_≤_};
+ghost use Rattle.image_soundness.specs.Scratch.{scratchWords};
 ghost use Rattle.map_blocks.specs.Maps.{wordsFor};
 ghost use Rattle.image.specs.Image.{framesFor};
 ghost use Rattle.image.specs.Table.{saveFits, wholeBlocks, headFits, loadFits};
@@ -9,6 +10,7 @@ use block::PAYLOAD;
 use catalogue_standings::opening::BLOCKS;
 use catalogue_standings::opening::shape_fits;
 use catalogue_standings::opening::sheets_fit;
+use image_soundness::SCRATCH;
 
 // The most blocks of an image.
 const IMAGE_BLOCKS: usize = 91;
@@ -29,6 +31,13 @@ pub fn frames_for(n: u32, c: usize) -> usize
     (12 + 12 * c + 8 * words_for(n) + PAYLOAD - 1) / PAYLOAD
 }
 
+// The words of the scratch that goes with a map: 64, or the map's if that is less.
+fn scratch_words(maplen: usize) -> usize
+    ensures { λ r. ⌜ r ≡ scratchWords maplen ⌝ }
+{
+    if SCRATCH < maplen { SCRATCH } else { maplen }
+}
+
 // Row 1 of save.
 pub fn save_fits(n: u32, free: u32, c: usize, maplen: usize, scratchlen: usize) -> bool
     ensures { λ r. ⌜ r ≡ saveFits n free c maplen scratchlen ⌝ }
@@ -39,7 +48,7 @@ pub fn save_fits(n: u32, free: u32, c: usize, maplen: usize, scratchlen: usize) 
     if !sheets_fit(c) {
         return false;
     }
-    scratchlen == maplen
+    scratchlen == scratch_words(maplen)
 }
 
 // Row 12 of load: 1 to 91 whole blocks.
@@ -82,5 +91,5 @@ pub fn load_fits(n: u32, c: usize, maplen: usize, count: usize, scratchlen: usiz
     if count != c {
         return false;
     }
-    scratchlen == words_for(n)
+    scratchlen == scratch_words(words_for(n))
 }

@@ -1,18 +1,16 @@
 // Load (document 01, "Saved image"): the verdict, and then the map and the entries one by one. Everything is validated before
 // the first word of the map or the first entry is written, so that a refusal changes nothing but the scratch.
+pub mod content;
+pub mod entries;
+
 ghost use mathlib.Core.Path.{_≡_};
-ghost use mathlib.Core.Bool.{true, _&&_};
-ghost use Prim.Native.Nat.{_+_, _≤_};
 ghost use lib.ListN.{length};
-ghost use Rattle.image_frames.specs.Frames.{totalOf};
-ghost use Rattle.image_soundness.specs.Releases.{tallyOf, scratchOf};
-ghost use Rattle.image_soundness.specs.Sound.{sound};
 ghost use Rattle.image.specs.Effects.{rowNumber, loadResult, loadMap, loadEntries, loadScratch};
-ghost use Rattle.map_blocks.specs.Maps.{wordsFor};
-ghost use Rattle.image.specs.Image.{blocksIn, freeCountIn, sheetsIn, entriesIn, stateIn, filled};
-ghost use Rattle.image_load.specs.Parts.{coreLoaded, coreMap, coreScratch, firstCursor, entryFrom, turnAfter, readCursor};
+ghost use Rattle.image_load.specs.Parts.{coreLoaded, coreMap, coreScratch, firstCursor, turnAfter, readCursor};
 ghost use Rattle.image_load.specs.Parts.{readEntries};
-ghost use Rattle.image.specs.Table.{headFits, loadVerdict};
+ghost use Rattle.image.specs.Table.{loadVerdict};
+use crate::content::content_holds;
+use crate::entries::entry_at;
 use block::BLOCK;
 use catalogue::Entry;
 use image::Cursor;
@@ -20,71 +18,15 @@ use image::Loaded;
 use image::limits::head_fits;
 use image::limits::load_fits;
 use image::limits::whole_blocks;
-use image::limits::words_for;
-use image::words::clear;
 use image_frames::all_framed;
 use image_frames::number;
 use image_frames::read_words;
-use image_frames::zeros_from;
-use image_soundness::Tally;
-use image_soundness::all_released;
-use image_soundness::release_entry;
+use image_soundness::words::clear;
 
 // One entry read: where the next one stands, and the entry.
 pub struct Turn {
     pub state: Cursor,
     pub entry: Entry,
-}
-
-// The entry that stands at number k of the body.
-fn entry_at(image: &[u8], k: usize) -> Entry
-    requires { ⌜ k + 2 ≤ 18446744073709551615 ⌝ }
-    ensures { λ r. ⌜ r ≡ entryFrom (now (image .entry)) k ⌝ }
-{
-    let mark = number(image, k);
-    let start = number(image, k + 1);
-    let blocks = number(image, k + 2);
-    Entry {
-        mark: mark,
-        start: start,
-        length: blocks,
-    }
-}
-
-// Releases the c entries that stand in an image, in the scratch.
-fn release_in(n: u32, first: Tally, scratch: &mut [u64], image: &[u8], c: usize) -> Tally
-    requires { ⌜ c ≤ 1024 ⌝ }
-    ensures { λ r. ⌜ (r ≡ tallyOf (entriesIn (now (image .entry)) c) n first (now (scratch .entry)))
-        × (now (scratch .exit) ≡ scratchOf (entriesIn (now (image .entry)) c) n first (now (scratch .entry))) ⌝ }
-{
-    let mut tally = first;
-    let mut i: usize = 0;
-    while i < c {
-        tally = release_entry(n, tally, scratch, entry_at(image, 3 + 3 * i));
-        i += 1;
-    }
-    tally
-}
-
-// Whether the state that stands in an image is sound and the fill zero.
-fn content_holds(image: &[u8], n: u32, free: u32, c: usize, scratch: &mut [u64]) -> bool
-    requires { ⌜ (n ≡ blocksIn (now image)) × (free ≡ freeCountIn (now image)) × (c ≡ sheetsIn (now image))
-        × (headFits n free c (totalOf (now image)) ≡ true)
-        × (length (now scratch) ≡ wordsFor n) × (length (now image) ≤ 46592) ⌝ }
-    ensures { λ r.
-        ⌜ r ≡ (sound (stateIn (now (image .entry))) && filled (now (image .entry)) (blocksIn (now (image .entry)))
-        (sheetsIn (now (image .entry)))) ⌝ }
-{
-    read_words(scratch, image, 3 + 3 * c);
-    let first = Tally {
-        left: n - free,
-        stop: false,
-    };
-    let tally = release_in(n, first, scratch, image, c);
-    if !all_released(n, tally, scratch) {
-        return false;
-    }
-    zeros_from(image, 3 + 3 * c + 2 * words_for(n))
 }
 
 // The rows of load.

@@ -1,4 +1,4 @@
--- The rows of save, test by test, by the tally and the scratch that the entries left.
+-- The rows of save, test by test, by whether the state is sound.
 -- Assumes nothing.
 use mathlib.Core.Path.{_≡_, sym, ap, _∙_}
 use mathlib.Core.Bool.{Bool, true, false, not}
@@ -8,38 +8,35 @@ use lib.Dec.{eqb}
 use lib.ListN.{length}
 use borrow.Author.Tests.{eq-eqb, ne-eqb}
 use Rattle.catalogue_standings.proofs.Openings.{skip, stop, none-left}
-use Rattle.image_soundness.specs.Releases.{allReleased}
-use Rattle.image_soundness.specs.declared.Tally.{Tally}
 use Rattle.image.specs.Effects.{rowNumber}
 use Rattle.image.specs.Image.{framesFor}
 use Rattle.image_save.specs.Parts.{numberBy}
 use Rattle.image.specs.Table.{saveFits}
 
--- save, by the tally and the scratch that the entries left
-module _ (n spare : ℕ) (map : List ℕ) (count : ℕ) (t : Tally) (scratch image : List ℕ) where
+module _ (n spare : ℕ) (map : List ℕ) (count : ℕ) (whole : Bool) (scratch image : List ℕ) where
   abbrev fit : Bool
   fit = saveFits n spare count (length map) (length scratch)
 
-  pub save-row-1 : fit ≡ false → 1 ≡ numberBy n spare map count t scratch image
+  pub save-row-1 : fit ≡ false → 1 ≡ numberBy n spare map count whole scratch image
   unfolding numberBy
   save-row-1 f = sym (ap rowNumber (stop 1 (not fit) _ (ap not f)))
 
   module _ (f : fit ≡ true) where
-    pub save-row-4 : allReleased n t scratch ≡ false → 4 ≡ numberBy n spare map count t scratch image
+    pub save-row-4 : whole ≡ false → 4 ≡ numberBy n spare map count whole scratch image
     unfolding numberBy
-    save-row-4 r = sym (ap rowNumber (skip 1 (not fit) _ _ (ap not f) (stop 4 (not (allReleased n t scratch)) _ (ap not r))))
+    save-row-4 r = sym (ap rowNumber (skip 1 (not fit) _ _ (ap not f) (stop 4 (not whole) _ (ap not r))))
 
-    module _ (r : allReleased n t scratch ≡ true) (total : ℕ) (e : total ≡ framesFor n count) where
-      pub save-row-12 : (length image ≡ 512 * total → ⊥) → 12 ≡ numberBy n spare map count t scratch image
+    module _ (r : whole ≡ true) (total : ℕ) (e : total ≡ framesFor n count) where
+      pub save-row-12 : (length image ≡ 512 * total → ⊥) → 12 ≡ numberBy n spare map count whole scratch image
       unfolding numberBy
       save-row-12 h =
-          sym (ap rowNumber (skip 1 (not fit) _ _ (ap not f) (skip 4 (not (allReleased n t scratch)) _ _ (ap not r)
+          sym (ap rowNumber (skip 1 (not fit) _ _ (ap not f) (skip 4 (not whole) _ _ (ap not r)
           (stop 12 (not (eqb (length image) (512 * framesFor n count))) []
           (ap not (ne-eqb (length image) (512 * framesFor n count) (λ q. h (q ∙ ap (λ (x : ℕ). 512 * x) (sym e)))))))))
 
-      pub save-row-none : length image ≡ 512 * total → 0 ≡ numberBy n spare map count t scratch image
+      pub save-row-none : length image ≡ 512 * total → 0 ≡ numberBy n spare map count whole scratch image
       unfolding numberBy
       save-row-none h =
-          sym (ap rowNumber (skip 1 (not fit) _ _ (ap not f) (skip 4 (not (allReleased n t scratch)) _ _ (ap not r)
+          sym (ap rowNumber (skip 1 (not fit) _ _ (ap not f) (skip 4 (not whole) _ _ (ap not r)
           (skip 12 (not (eqb (length image) (512 * framesFor n count))) [] _
           (ap not (eq-eqb (length image) (512 * framesFor n count) (h ∙ ap (λ (x : ℕ). 512 * x) e))) none-left))))

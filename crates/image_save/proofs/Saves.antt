@@ -19,16 +19,15 @@ use Rattle.image_frames.specs.Numbers.{withNumber, wordBytes}
 use Rattle.image_frames.proofs.Bodies.{body-length}
 use Rattle.block_bytes.proofs.Replaced.{replaced-all, replaced-more}
 use Rattle.image_frames.proofs.Stored.{Written, written-none, written-number, wordBytes-length}
-use Rattle.image_soundness.specs.Releases.{tally, tallyAfter, scratchAfter, tallyOf, scratchOf, allReleased}
+use Rattle.image_soundness.specs.Windows.{tally, tested, testedScratch}
 use Rattle.image_soundness.specs.Sound.{State, sound}
 use Rattle.image_soundness.specs.declared.Tally.{Tally}
-use Rattle.image_soundness.proofs.Releasing.{scratch-length}
-use Rattle.image_soundness.proofs.WhenSound.{released-sound}
+use Rattle.image_soundness.proofs.Tested.{tested-sound}
 use Rattle.image.specs.Cursors.{cursor}
 use Rattle.image.specs.Effects.{rowNumber, saveNumber, saveScratch, saveImage, Saves}
 use Rattle.image.specs.Image.{contentLength, framesFor, entryBytes, body, imageOf}
-use Rattle.image_save.specs.Parts.{firstTally, firstScratch, numberBy, scratchCleared, headCursor, headImage, imageAfter}
-use Rattle.image_save.specs.Parts.{entriesCursor, entriesImage, restImage}
+use Rattle.image_save.specs.Parts.{firstTally, numberBy, headCursor, headImage, imageAfter, entriesCursor}
+use Rattle.image_save.specs.Parts.{entriesImage, restImage}
 use Rattle.image.specs.Table.{saveFits, saveRows, saveVerdict}
 use Rattle.image.specs.declared.Cursor.{Cursor}
 use Rattle.image.proofs.Journey.{entryBytes-length}
@@ -201,12 +200,6 @@ module _ (s : State) (image : List ℕ) (n-high : s .blocks ≤ 262144) (c-high 
 
 -- ---- the three things that a save gives and leaves
 
-scratchOf-length : (es : List Entry) (n : ℕ) (t : Tally) (scratch : List ℕ) → length (scratchOf es n t scratch) ≡ length scratch
-unfolding scratchOf
-scratchOf-length [] n t scratch = refl
-scratchOf-length (e ∷ es) n t scratch = scratchOf-length es n (tallyAfter n t scratch e) (scratchAfter n t scratch e)
-    ∙ scratch-length n t scratch e
-
 -- a cursor that stopped leaves the image
 stopped-rest : (map image : List ℕ) → restImage map (cursor 3 true) image ≡ image
 unfolding restImage
@@ -230,38 +223,26 @@ module _ (n spare : ℕ) (map : List ℕ) (entries : List Entry) (scratch image 
   abbrev start : Tally
   start = firstTally n spare map (length entries) scratch
 
-  abbrev copied : List ℕ
-  copied = firstScratch n spare map (length entries) scratch
+  abbrev whole : Bool
+  whole = tested map entries scratch n start
 
-  abbrev tallied : Tally
-  tallied = tallyOf entries n start copied
+  abbrev cleared : List ℕ
+  cleared = testedScratch map entries scratch n start
 
-  abbrev used : List ℕ
-  used = scratchOf entries n start copied
-
-  copied-length : length copied ≡ length scratch
-  unfolding firstScratch
-  copied-length = by fit refl
-    where
-      by : (b : Bool) → fit ≡ b → length (cond b map scratch) ≡ length scratch
-      by true f = sym (save-fits-to n spare (length entries) (length map) (length scratch) f .same)
-      by false f = refl
-
-  used-length : length used ≡ length scratch
-  used-length = scratchOf-length entries n start copied ∙ copied-length
+  cleared-length : length cleared ≡ length scratch
+  unfolding testedScratch
+  cleared-length = length-replicate (length scratch) 0
 
   abbrev given : ℕ
-  given = numberBy n spare map (length entries) tallied used image
+  given = numberBy n spare map (length entries) whole cleared image
 
-  -- row 4 by releases, where row 1 does not hold
-  released : fit ≡ true → allReleased n tallied used ≡ sound state
-  unfolding firstTally firstScratch
-  released f =
+  -- row 4, where row 1 does not hold
+  whole-sound : fit ≡ true → whole ≡ sound state
+  unfolding firstTally
+  whole-sound f =
       let l = save-fits-to n spare (length entries) (length map) (length scratch) f in
-      let et : start ≡ tally (n - spare) false = ap (λ (b : Bool). cond b (tally (n - spare) false) (tally 0 true)) f in
-      let es : copied ≡ map = ap (λ (b : Bool). cond b map scratch) f in
-      ap₂ (λ (t : Tally) (l : List ℕ). allReleased n (tallyOf entries n t l) (scratchOf entries n t l)) et es
-      ∙ released-sound state (l .shape)
+      ap (λ (b : Bool). tested map entries scratch n (cond b (tally (n - spare) false) (tally 0 true))) f
+      ∙ tested-sound state scratch (l .shape) (l .scratch)
 
   abbrev rows : Bool → Bool → Verdict
   rows f r = firstOf (row 1 (not f) ∷ row 4 (not r) ∷ row 12 (not (eqb (length image) (512 * framesFor n (length entries))))
@@ -269,16 +250,16 @@ module _ (n spare : ℕ) (map : List ℕ) (entries : List Entry) (scratch image 
 
   number-law : given ≡ saveNumber n spare map entries scratch image
   unfolding numberBy saveNumber saveVerdict saveRows firstOf
-  number-law = ap (λ (k : ℕ). rowNumber (rows (saveFits n spare (length entries) (length map) k) (allReleased n tallied used)))
-      used-length ∙ by fit refl
+  number-law = ap (λ (k : ℕ). rowNumber (rows (saveFits n spare (length entries) (length map) k) whole)) cleared-length
+      ∙ by fit refl
     where
-      by : (b : Bool) → fit ≡ b → rowNumber (rows b (allReleased n tallied used)) ≡ rowNumber (rows b (sound state))
-      by true f = ap (λ (r : Bool). rowNumber (rows true r)) (released f)
+      by : (b : Bool) → fit ≡ b → rowNumber (rows b whole) ≡ rowNumber (rows b (sound state))
+      by true f = ap (λ (r : Bool). rowNumber (rows true r)) (whole-sound f)
       by false f = refl
 
-  scratch-law : scratchCleared n spare map (length entries) tallied used image ≡ saveScratch n spare map entries scratch image
-  unfolding scratchCleared saveScratch
-  scratch-law = ap (λ (k : ℕ). replicate k 0) used-length
+  scratch-law : cleared ≡ saveScratch n spare map entries scratch image
+  unfolding testedScratch saveScratch
+  scratch-law = refl
 
   abbrev first : Cursor
   first = headCursor n spare (length entries) given image
@@ -328,6 +309,5 @@ module _ (n spare : ℕ) (map : List ℕ) (entries : List Entry) (scratch image 
       by true e = saved-image (eqb-true given 0 e)
       by false e = refused-image (eqb-false given 0 e)
 
-  pub saves : Saves n spare map entries scratch image given
-      (scratchCleared n spare map (length entries) tallied used image) final
+  pub saves : Saves n spare map entries scratch image given cleared final
   saves = (number-law, scratch-law, image-law)

@@ -10,34 +10,28 @@ use Rattle.catalogue.specs.declared.Entry.{Entry}
 use Rattle.image_frames.specs.Frames.{totalOf, bodyOf, frames}
 use Rattle.block_bytes.specs.Replaced.{replaced}
 use Rattle.image_frames.specs.Numbers.{withNumber, wordBytes}
-use Rattle.image_soundness.specs.Releases.{tally, allReleased}
+use Rattle.image_soundness.specs.Windows.{tally}
 use Rattle.image_soundness.specs.declared.Tally.{Tally}
 use Rattle.image.specs.Cursors.{cursor, active}
-use Rattle.image.specs.Effects.{rowNumber, zerosFor}
+use Rattle.image.specs.Effects.{rowNumber}
 use Rattle.image.specs.Image.{framesFor}
 use Rattle.image.specs.Table.{saveFits, wholeBlocks}
 use Rattle.image.specs.declared.Cursor.{Cursor}
 
--- Unless row 1 holds, the map is copied to the scratch, and the entries have n less the free count to make.
+-- Unless row 1 holds, the entries have n less the free count to make.
 module _ (n spare : ℕ) (map : List ℕ) (count : ℕ) (scratch : List ℕ) where
   unfoldable pub firstTally : Tally
   firstTally = cond (saveFits n spare count (length map) (length scratch)) (tally (n - spare) false) (tally 0 true)
 
-  unfoldable pub firstScratch : List ℕ
-  firstScratch = cond (saveFits n spare count (length map) (length scratch)) map scratch
-
--- The number by the tally and the scratch that the entries left; then the scratch is cleared.
-module _ (n spare : ℕ) (map : List ℕ) (count : ℕ) (t : Tally) (scratch image : List ℕ) where
+-- The number by whether the state is sound.
+module _ (n spare : ℕ) (map : List ℕ) (count : ℕ) (whole : Bool) (scratch image : List ℕ) where
   unfoldable pub numberBy : ℕ
   numberBy =
       rowNumber (firstOf
       (row 1 (not (saveFits n spare count (length map) (length scratch)))
-      ∷ row 4 (not (allReleased n t scratch))
+      ∷ row 4 (not whole)
       ∷ row 12 (not (eqb (length image) (512 * framesFor n count)))
       ∷ []))
-
-  unfoldable pub scratchCleared : List ℕ
-  scratchCleared = zerosFor scratch
 
 -- n, free count and c are written, if the save was accepted; the entries stand behind them.
 module _ (n spare count number : ℕ) (image : List ℕ) where

@@ -1,30 +1,26 @@
-// Save (document 01, "Saved image"): the tally of the entries, the verdict, and then the image from its head to its fill.
+// Save (document 01, "Saved image"): whether the state is sound, the verdict, and then the image from its head to its fill.
 // Everything is validated before the first byte of the image is written, so that a refusal changes nothing but the scratch.
 ghost use mathlib.Core.Path.{_≡_};
 ghost use Rattle.image.specs.Effects.{saveNumber, saveScratch, saveImage};
-ghost use Rattle.image_save.specs.Parts.{firstTally, firstScratch, numberBy, scratchCleared, headCursor, headImage};
-ghost use Rattle.image_save.specs.Parts.{cursorAfter, imageAfter, entriesCursor, entriesImage, restFits, restImage};
+ghost use Rattle.image_save.specs.Parts.{firstTally, numberBy, headCursor, headImage, cursorAfter, imageAfter};
+ghost use Rattle.image_save.specs.Parts.{entriesCursor, entriesImage, restFits, restImage};
 use block::BLOCK;
 use catalogue::Entry;
 use image::Cursor;
 use image::limits::frames_for;
 use image::limits::save_fits;
 use image::limits::whole_blocks;
-use image::words::clear;
-use image::words::copy;
 use image_frames::NUMBERS;
 use image_frames::put_number;
 use image_frames::put_zeros;
 use image_frames::seal_all;
 use image_frames::write_words;
 use image_soundness::Tally;
-use image_soundness::all_released;
-use image_soundness::release_entries;
+use image_soundness::test_sound;
 
-// Unless row 1 holds, copies the map to the scratch.
-fn begin(n: u32, free: u32, map: &[u64], count: usize, scratch: &mut [u64]) -> Tally
-    ensures { λ r. ⌜ (r ≡ firstTally n free (now (map .entry)) count (now (scratch .entry)))
-        × (now (scratch .exit) ≡ firstScratch n free (now (map .entry)) count (now (scratch .entry))) ⌝ }
+// What the entries must make: n less the free count. If row 1 holds, nothing is to be tested.
+fn begin(n: u32, free: u32, map: &[u64], count: usize, scratch: &[u64]) -> Tally
+    ensures { λ r. ⌜ r ≡ firstTally n free (now (map .entry)) count (now (scratch .entry)) ⌝ }
 {
     if !save_fits(n, free, count, map.len(), scratch.len()) {
         return Tally {
@@ -32,54 +28,34 @@ fn begin(n: u32, free: u32, map: &[u64], count: usize, scratch: &mut [u64]) -> T
             stop: true,
         };
     }
-    copy(scratch, map);
     Tally {
         left: n - free,
         stop: false,
     }
 }
 
-// The rows of save, by the tally and the scratch that the entries left.
+// The rows of save, by whether the state is sound.
 fn verdict(
     n: u32,
     free: u32,
     map: &[u64],
     count: usize,
-    tally: Tally,
+    sound: bool,
     scratch: &[u64],
     image: &[u8],
 ) -> u32
-    ensures { λ r. ⌜ r ≡ numberBy n free (now (map .entry)) count tally (now (scratch .entry)) (now (image .entry)) ⌝ }
+    ensures { λ r. ⌜ r ≡ numberBy n free (now (map .entry)) count sound (now (scratch .entry)) (now (image .entry)) ⌝ }
 {
     if !save_fits(n, free, count, map.len(), scratch.len()) {
         return 1;
     }
-    if !all_released(n, tally, scratch) {
+    if !sound {
         return 4;
     }
     if image.len() != BLOCK * frames_for(n, count) {
         return 12;
     }
     0
-}
-
-// The number of a save; the scratch is cleared.
-fn save_number(
-    n: u32,
-    free: u32,
-    map: &[u64],
-    count: usize,
-    tally: Tally,
-    scratch: &mut [u64],
-    image: &[u8],
-) -> u32
-    ensures { λ r. ⌜ (r ≡ numberBy n free (now (map .entry)) count tally (now (scratch .entry)) (now (image .entry)))
-        × (now (scratch .exit) ≡ scratchCleared n free (now (map .entry)) count tally (now (scratch .entry))
-        (now (image .entry))) ⌝ }
-{
-    let number = verdict(n, free, map, count, tally, scratch, image);
-    clear(scratch);
-    number
 }
 
 // Writes n, free count and c, if the save was accepted. The entries stand behind them.
@@ -194,9 +170,9 @@ pub fn save(
         (now (image .entry))) ⌝ }
 {
     let count = catalogue::count(catalogue);
-    let start = begin(n, free, map, count, scratch);
-    let tally = release_entries(catalogue, n, start, scratch);
-    let number = save_number(n, free, map, count, tally, scratch, &*image);
+    let start = begin(n, free, map, count, &*scratch);
+    let sound = test_sound(map, catalogue, scratch, n, start);
+    let number = verdict(n, free, map, count, sound, &*scratch, &*image);
     let first = write_head(n, free, count, number, image);
     let last = write_entries(catalogue, first, image);
     write_rest(map, last, image);

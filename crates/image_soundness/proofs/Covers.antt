@@ -1,7 +1,7 @@
 -- How often the entries cover a block, and the sum of that over the card.
 -- Assumes nothing.
 use mathlib.Core.Path.{_≡_, refl, ap, ap₂, _∙_}
-use mathlib.Core.Logic.{⊎-elim}
+use mathlib.Core.Logic.{_⊎_, inl, inr, ⊎-elim}
 use mathlib.Core.Bool.{Bool, true, false, not, _&&_, cond}
 use mathlib.Core.List.{List, [], _∷_, _++_}
 use Prim.Native.Nat.{ℕ, zero, suc, _+_, _-_, _≤_, _<_, min}
@@ -21,6 +21,16 @@ use Rattle.image_soundness.proofs.Damage.{extent-inside, extent-taken, 
 -- 1 where a test holds
 abbrev pub one : Bool → ℕ
 one t = cond t 1 0
+
+pub decide : (b : Bool) → (b ≡ true) ⊎ (b ≡ false)
+decide true = inl refl
+decide false = inr refl
+
+pub same-one : (a b : Bool) → one a ≡ one b → a ≡ b
+same-one true true e = refl
+same-one true false e = absurd (omega arith)
+same-one false true e = absurd (omega arith)
+same-one false false e = refl
 
 -- a block of a run
 pub run-in : (s l b : ℕ) → s ≤ b → b < s + l → inRun s l b ≡ true

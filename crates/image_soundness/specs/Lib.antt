@@ -1,3 +1,4 @@
--- What the contracts of `soundness` cite.
-pub mod Releases
+-- What a customer reads: a sound state, and the scratch of save and load. Then how soundness is tested.
 pub mod Sound
+pub mod Scratch
+pub mod Windows

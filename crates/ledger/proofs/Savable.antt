@@ -19,6 +19,7 @@ use Rattle.refusals.specs.Table.{Call}
 use Rattle.catalogue_standings.specs.Limits.{shapeFits, sheetsFit}
 use Rattle.catalogue_standings.specs.Rows.{accepted, firstOf}
 use Rattle.catalogue_standings.proofs.Openings.{skip}
+use Rattle.image_soundness.specs.Scratch.{scratchWords}
 use Rattle.image_soundness.specs.Sound as saved
 use Rattle.image.specs.Image.{framesFor}
 use Rattle.image.specs.Table.{saveFits, saveRows, saveVerdict}
@@ -76,15 +77,16 @@ module _ (n : ℕ) (l : List Sheet) (card : List ℕ) (k : Matches n l card) whe
       (λ b ge lt. ap not (reads b ∙ ap (λ (t : Bool). t && eqb (cover l b) 0) (le-ltb b n ge)))))
       (eq-eqb (spareIn n l) _ (ap (λ (f : ℕ → Bool). freeOf (blocks f 0 n)) (sym (free-map n l))))
 
-  -- with a scratch as long as the map and a buffer of the image's length, save is accepted
-  pub kept-saves : (scratchlen bufferlen : ℕ) → scratchlen ≡ length (mapIn n l)
+  -- with a scratch of its length and a buffer of the image's length, save is accepted
+  pub kept-saves : (scratchlen bufferlen : ℕ) → scratchlen ≡ scratchWords (length (mapIn n l))
       → bufferlen ≡ 512 * framesFor n (length (map entryIn l))
       → saveVerdict (savedOf (stateOf n l card)) scratchlen bufferlen ≡ accepted
   unfolding saveVerdict saveRows saveFits
   kept-saves scratchlen bufferlen es eb =
       let fits : (shapeFits n (spareIn n l) (length (mapIn n l)) && sheetsFit (length (map entryIn l))
-      && eqb scratchlen (length (mapIn n l))) ≡ true =
-      and-both _ _ (and-both _ _ (shape-fits n l card k) (sheets-fit n l card k)) (eq-eqb scratchlen (length (mapIn n l)) es) in
+      && eqb scratchlen (scratchWords (length (mapIn n l)))) ≡ true =
+      and-both _ _ (and-both _ _ (shape-fits n l card k) (sheets-fit n l card k))
+      (eq-eqb scratchlen (scratchWords (length (mapIn n l))) es) in
       skip 1 _ _ _ (ap not fits) (skip 4 _ _ _ (ap not kept-sound)
       (skip 12 _ _ _ (ap not (eq-eqb bufferlen (512 * framesFor n (length (map entryIn l))) eb)) none-left))
 
@@ -103,10 +105,11 @@ module _ (n c : ℕ) (card : List ℕ) (n-low : 1 ≤ n) (n-high : n ≤ 262144)
       ap (λ (s : Kept). saved.sound (savedOf s)) (left .state-left)
       ∙ kept-sound n (after n (begun c) calls) (left .card-left) (left .kept-left)
 
-  pub every-list-saves : (scratchlen bufferlen : ℕ) → scratchlen ≡ length (t .map)
+  pub every-list-saves : (scratchlen bufferlen : ℕ) → scratchlen ≡ scratchWords (length (t .map))
       → bufferlen ≡ 512 * framesFor (t .shape .blocks) (length (t .entries))
       → saveVerdict (savedOf t) scratchlen bufferlen ≡ accepted
   every-list-saves scratchlen bufferlen =
-      subst (λ (s : Kept). scratchlen ≡ length (s .map) → bufferlen ≡ 512 * framesFor (s .shape .blocks) (length (s .entries))
+      subst (λ (s : Kept). scratchlen ≡ scratchWords (length (s .map))
+      → bufferlen ≡ 512 * framesFor (s .shape .blocks) (length (s .entries))
       → saveVerdict (savedOf s) scratchlen bufferlen ≡ accepted)
       (sym (left .state-left)) (kept-saves n (after n (begun c) calls) (left .card-left) (left .kept-left) scratchlen bufferlen)

@@ -70,7 +70,11 @@ const STRUCTS: [(&str, &[&str]); 4] = [
 pub fn names() -> Vec<&'static str> {
     let constants = CONSTANTS.iter().map(|(name, _)| *name);
     let numbers = NUMBERS.iter().map(|(_, name, _)| *name);
-    let macros = ["PAGUNLIT_MAP_WORDS", "PAGUNLIT_IMAGE_BYTES"];
+    let macros = [
+        "PAGUNLIT_MAP_WORDS",
+        "PAGUNLIT_SCRATCH_WORDS",
+        "PAGUNLIT_IMAGE_BYTES",
+    ];
     constants
         .chain(numbers)
         .chain(VERSION)
@@ -85,6 +89,11 @@ fn words(n: u64) -> u64 {
         w += 1;
     }
     w
+}
+
+/// The words of a scratch (document 02, (h)): 64, or the map's length if that is less.
+fn scratch_words(n: u64) -> u64 {
+    words(n).min(64)
 }
 
 /// The image's blocks of 512 bytes, each with 496 of the body: n, free count, c, c entries of 12 bytes, w words of 8.
@@ -150,14 +159,22 @@ fn lines_of_structs() -> Vec<(String, String)> {
 
 fn lines_of_macros() -> Vec<(String, String)> {
     let n_of_words = (0..=5000).chain(262_144 - 5000..=262_145);
-    let word = |n: u64| (format!("PAGUNLIT_MAP_WORDS({n})"), words(n).to_string());
+    let word = |n: u64| {
+        [
+            (format!("PAGUNLIT_MAP_WORDS({n})"), words(n).to_string()),
+            (
+                format!("PAGUNLIT_SCRATCH_WORDS({n})"),
+                scratch_words(n).to_string(),
+            ),
+        ]
+    };
     let image = |n: u64, c: u64| {
         (
             format!("PAGUNLIT_IMAGE_BYTES({n},{c})"),
             image_bytes(n, c).to_string(),
         )
     };
-    let mut lines: Vec<_> = n_of_words.chain([u32::MAX as u64]).map(word).collect();
+    let mut lines: Vec<_> = n_of_words.chain([u32::MAX as u64]).flat_map(word).collect();
     for n in 0..=5000 {
         lines.extend((0..=1024).step_by(32).map(|c| image(n, c)));
     }
@@ -175,8 +192,10 @@ fn lines_of_expressions() -> Vec<(String, String)> {
     let size = |what: &str| (format!("type {what}"), "size_t".to_string());
     vec![
         size("PAGUNLIT_MAP_WORDS"),
+        size("PAGUNLIT_SCRATCH_WORDS"),
         size("PAGUNLIT_IMAGE_BYTES"),
         line("inside PAGUNLIT_MAP_WORDS(1|64)", words(65)),
+        line("inside PAGUNLIT_SCRATCH_WORDS(1|64)", scratch_words(65)),
         line(
             "inside PAGUNLIT_IMAGE_BYTES(1|4096,1)",
             image_bytes(4097, 1),
@@ -186,6 +205,10 @@ fn lines_of_expressions() -> Vec<(String, String)> {
             image_bytes(64, 129),
         ),
         line("outside 128/PAGUNLIT_MAP_WORDS(65)", 128 / words(65)),
+        line(
+            "outside 128/PAGUNLIT_SCRATCH_WORDS(8192)",
+            128 / scratch_words(8192),
+        ),
         line(
             "outside 4096/PAGUNLIT_IMAGE_BYTES(64,100)",
             4096 / image_bytes(64, 100),

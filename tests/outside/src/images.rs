@@ -9,7 +9,7 @@ use crate::library::{bytes, words};
 use crate::lists::small_size;
 use crate::pauses::is_paused_course;
 use bitwise::before;
-use bitwise::blocks::{survey, words_of, FREE, TAKEN};
+use bitwise::blocks::{scratch_words, survey, words_of, FREE, TAKEN};
 use bitwise::call::{call, Kind, LOAD, SAVE};
 use bitwise::card::{entry, Answer, Card};
 use bitwise::image::{blocks_of, body_of, image_of};
@@ -95,9 +95,9 @@ fn sound_state(n: usize, c: usize, random: Random) -> (Card, Random) {
 }
 
 /// Saves a sound state, loads it back, and saves what was loaded. Gives the image.
-fn there_and_back(card: &Card, margin: usize, counts: &mut Counts) -> Result<Vec<u8>, String> {
+pub fn there_and_back(card: &Card, margin: usize, counts: &mut Counts) -> Result<Vec<u8>, String> {
     let (n, c) = (card.n, card.sheets.len());
-    let w = words_of(n);
+    let w = scratch_words(n);
     let length = BLOCK * blocks_of(n, c);
     let (answer, image) = save(card, w, length, margin, counts)?;
     counts.note_image("save, a sound state", answer);
@@ -135,6 +135,16 @@ pub fn images(seed: u64, margin: usize, counts: &mut Counts) -> Result<(), Strin
     damaged_states(card, margin, random, counts)
 }
 
+/// Lengths that the scratch of a card of n blocks does not have, the map's own among them where it is longer.
+pub fn other_scratches(n: usize) -> Vec<usize> {
+    let s = scratch_words(n);
+    let mut lengths = vec![0, 1, s - 1, s + 1, 63, 64, 65, words_of(n)];
+    lengths.sort();
+    lengths.dedup();
+    lengths.retain(|&length| length != s);
+    lengths
+}
+
 /// Wrong lengths of map, catalogue and scratch.
 fn wrong_lengths(
     card: &Card,
@@ -142,8 +152,8 @@ fn wrong_lengths(
     margin: usize,
     counts: &mut Counts,
 ) -> Result<(), String> {
-    let (w, c) = (words_of(card.n), card.sheets.len());
-    for scratch in [0, w - 1, w + 1] {
+    let (w, s, c) = (words_of(card.n), scratch_words(card.n), card.sheets.len());
+    for scratch in other_scratches(card.n) {
         let (answer, _) = save(card, scratch, image.len(), margin, counts)?;
         counts.note_image("save, another scratch", answer);
         let answer = load(&mut other_tables(card.n, c), image, scratch, margin, counts)?;
@@ -151,11 +161,11 @@ fn wrong_lengths(
     }
     for (words, sheets) in [(w + 1, c), (w - 1, c), (w, c + 1), (w, c - 1), (0, 0)] {
         let mut lent = other_tables(64 * words, sheets);
-        let answer = load(&mut lent, image, w, margin, counts)?;
+        let answer = load(&mut lent, image, s, margin, counts)?;
         counts.note_image("load, another map or catalogue", answer);
         lent = card.clone();
         lent.map.resize(64 * words, TAKEN);
-        let (answer, _) = save(&lent, w, image.len(), margin, counts)?;
+        let (answer, _) = save(&lent, s, image.len(), margin, counts)?;
         if words != w {
             counts.note_image("save, another map", answer);
         }
@@ -174,12 +184,12 @@ fn damaged_states(
     let (n, c) = (card.n, card.sheets.len());
     for _ in 0..4 {
         damage(&mut card, generator);
-        let w = card.map.len() / 64;
+        let w = (card.map.len() / 64).min(64);
         let (answer, _) = save(&card, w, BLOCK * blocks_of(n, c), margin, counts)?;
         counts.note_image("save, a damaged state", answer);
         let image = image_of(&body_of(&card));
         let mut lent = other_tables(n, c);
-        let answer = load(&mut lent, &image, words_of(n), margin, counts)?;
+        let answer = load(&mut lent, &image, scratch_words(n), margin, counts)?;
         counts.note_image("load, a damaged state", answer);
     }
     Ok(())
@@ -197,8 +207,14 @@ fn flaws(
             continue;
         };
         let about = |error| format!("{name}: {error}");
-        let answer =
-            load(&mut other_tables(n, c), &image, words_of(n), margin, counts).map_err(about)?;
+        let answer = load(
+            &mut other_tables(n, c),
+            &image,
+            scratch_words(n),
+            margin,
+            counts,
+        )
+        .map_err(about)?;
         if answer != Answer::Refused(*number) {
             return Err(format!(
                 "{name}: {answer:?}, and the flaw was to be refused with {number}"
@@ -208,7 +224,7 @@ fn flaws(
         let mut lent = other_tables(n, c);
         lent.map
             .resize(64 * random.within(0, words_of(n) + 2), FREE);
-        let answer = load(&mut lent, &image, words_of(n), margin, counts).map_err(about)?;
+        let answer = load(&mut lent, &image, scratch_words(n), margin, counts).map_err(about)?;
         counts.note_image("load, a flaw and another map", answer);
     }
     Ok(())
@@ -237,7 +253,13 @@ pub fn image_bytes(seed: u64, margin: usize, counts: &mut Counts) -> Result<(), 
     for at in 0..image.len() {
         for change in [1, 128, 255, random.within(1, 256) as u8] {
             image[at] ^= change;
-            let answer = load(&mut other_tables(n, c), &image, words_of(n), margin, counts);
+            let answer = load(
+                &mut other_tables(n, c),
+                &image,
+                scratch_words(n),
+                margin,
+                counts,
+            );
             let answer =
                 answer.map_err(|error| format!("byte {at} changed by {change}: {error}"))?;
             counts.note_image("load, a changed byte", answer);
@@ -256,11 +278,17 @@ pub fn image_lengths(margin: usize, counts: &mut Counts) -> Result<(), String> {
         for length in
             (0..=93).flat_map(|blocks| [512 * blocks, 512 * blocks + 1, 512 * blocks + 511])
         {
-            let (answer, _) = save(&card, words_of(n), length, margin, counts)?;
+            let (answer, _) = save(&card, scratch_words(n), length, margin, counts)?;
             counts.note_image("save, any length", answer);
             let mut cut = image.clone();
             cut.resize(length, 0);
-            let answer = load(&mut other_tables(n, c), &cut, words_of(n), margin, counts)?;
+            let answer = load(
+                &mut other_tables(n, c),
+                &cut,
+                scratch_words(n),
+                margin,
+                counts,
+            )?;
             counts.note_image("load, any length", answer);
         }
     }
@@ -282,7 +310,7 @@ pub fn full_image(seed: u64, margin: usize, counts: &mut Counts) -> Result<(), S
         let answer = load(
             &mut other_tables(n, 1024),
             &image,
-            words_of(n),
+            scratch_words(n),
             margin,
             counts,
         );

@@ -3,7 +3,7 @@
 use crate::counts::Counts;
 use crate::images::{load, other_tables, save};
 use crate::together::{card, wrong_limit};
-use bitwise::blocks::words_of;
+use bitwise::blocks::scratch_words;
 use bitwise::call::{LOAD, SAVE};
 use bitwise::card::{entry, Card};
 use bitwise::image::{blocks_of, body_of, framed, image_of};
@@ -40,7 +40,7 @@ fn one_save(
     counts: &mut Counts,
 ) -> Result<(), String> {
     let mut card = card(random);
-    let mut scratch = words_of(card.n);
+    let mut scratch = scratch_words(card.n);
     let mut length = BLOCK * blocks_of(card.n, card.sheets.len());
     card.bytes = Vec::new();
     // The state before the limits, so that they are still wrong at the end.
@@ -104,7 +104,7 @@ fn one_load(
         body: body_of(&card),
         image: Vec::new(),
         lent: other_tables(card.n, sheets),
-        scratch: words_of(card.n),
+        scratch: scratch_words(card.n),
     };
     for row in rows.iter() {
         change_body(*row, &mut tried, &card, random);

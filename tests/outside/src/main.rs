@@ -27,6 +27,7 @@ mod singles;
 mod spaces;
 mod states;
 mod together;
+mod windows;
 
 use counts::Counts;
 use std::time::{Duration, Instant};
@@ -138,6 +139,7 @@ const GROUPS: &[Group] = &[
             part("cut", |_, margin, counts| images::image_lengths(margin, counts), 1, 0, 0),
             part("before", |_, margin, counts| images::from_before(margin, counts), 1, 0, 1),
             part("full-image", images::full_image, 1, 1, 0),
+            part("windows", |_, margin, counts| windows::windows(margin, counts), 1, 0, 0),
         ],
         report: Counts::report_images,
     },

@@ -17,8 +17,8 @@ read-full-requires c κs = search needs
 map-space-requires : tie.Need-map-space-requires
 map-space-requires c κs = search needs
 
-map-space-requires-2 : tie.Need-map-space-requires-2
-map-space-requires-2 c κs = search needs
+scratch-space-requires : tie.Need-scratch-space-requires
+scratch-space-requires c κs = search needs
 
 text-space-requires : tie.Need-text-space-requires
 text-space-requires c κs = search needs
@@ -55,7 +55,7 @@ main-spec =
     slice-aggregate-read-full
     read-full-requires
     map-space-requires
-    map-space-requires-2
+    scratch-space-requires
     text-space-requires
     smaller-requires
     array-share-prefix-image

@@ -35,7 +35,7 @@ slice-relend-prefix-print-with c = search needs
 slice-aggregate-print-with : tie.Need-slice-aggregate-print-with
 slice-aggregate-print-with c =
     let w = c .before .before .before in
-    sym (length-take-le _ _ (omega (arith, w .smaller2 .ensures .1, w .before .smaller .ensures .0)))
+    sym (length-take-le _ _ (omega (arith, w .before .smaller .ensures .1)))
 
 slice-relend-prefix-print-with-2 : tie.Need-slice-relend-prefix-print-with-2
 slice-relend-prefix-print-with-2 c = search needs
@@ -43,7 +43,7 @@ slice-relend-prefix-print-with-2 c = search needs
 slice-aggregate-print-with-2 : tie.Need-slice-aggregate-print-with-2
 slice-aggregate-print-with-2 c =
     let w = c .before .before .before .before in
-    sym (length-take-le _ _ (omega (arith, w .smaller2 .ensures .1, w .before .smaller .ensures .1)))
+    sym (length-take-le _ _ (omega (arith, w .smaller2 .ensures .1)))
 
 print-with-requires : tie.Need-print-with-requires
 print-with-requires c κs = search needs

@@ -2,6 +2,7 @@
 -- Assumes nothing.
 use native.Mathlib.Omega.{arith}
 use borrow.Author.Needs.{needs}
+use borrow.Author.Tests.{not-true, not-false}
 use denote.Ref.{now}
 use Rattle.catalogue_standings.proofs.Tested.{fails, holds}
 use Rattle.image_save.proofs.verdict.Statement.{statement}
@@ -15,51 +16,42 @@ save-fits-requires c κs = search needs
 returns : tie.Need-returns
 returns c =
     let a = c .before .before .before .before .before .args in
-    save-row-1 (a .n) (a .free) (now (a .map)) (a .count) (a .tally) (now (a .scratch)) (now (a .image))
+    save-row-1 (a .n) (a .free) (now (a .map)) (a .count) (a .sound) (now (a .scratch)) (now (a .image))
     (fails (c .before .save-fits .ensures) (c .if1 .taken))
-
-all-released-requires : tie.Need-all-released-requires
-all-released-requires c κs =
-    let s = save-fits-to _ _ _ _ _ (holds (c .before .save-fits .ensures) (c .if1 .left)) in
-    let e = s .same in
-    let l = s .limits in
-    omega (arith, l .words, l .limit)
 
 returns-2 : tie.Need-returns-2
 returns-2 c =
-    let at = c .before .before in
+    let at = c .before in
     let a = at .before .before .before .before .before .args in
-    save-row-4 (a .n) (a .free) (now (a .map)) (a .count) (a .tally) (now (a .scratch)) (now (a .image))
-    (holds (at .before .save-fits .ensures) (at .if1 .left)) (fails (c .before .all-released .ensures) (c .if2 .taken))
+    save-row-4 (a .n) (a .free) (now (a .map)) (a .count) (a .sound) (now (a .scratch)) (now (a .image))
+    (holds (at .before .save-fits .ensures) (at .if1 .left)) (not-true (a .sound) (c .if2 .taken))
 
 frames-for-requires : tie.Need-frames-for-requires
 frames-for-requires c κs =
-    let at = c .before .before in
+    let at = c .before in
     let s = save-fits-to _ _ _ _ _ (holds (at .before .save-fits .ensures) (at .if1 .left)) in
     (s .limits .limit, s .count .few)
 
 mul-if3 : tie.Need-mul-if3
 mul-if3 c =
-    let at = c .before .before .before in
+    let at = c .before .before in
     let s = save-fits-to _ _ _ _ _ (holds (at .before .save-fits .ensures) (at .if1 .left)) in
     omega (arith, s .limits .limit, s .count .few)
 
 returns-3 : tie.Need-returns-3
 returns-3 c =
-    let at = c .before .before .before .before in
+    let at = c .before .before .before in
     let a = at .before .before .before .before .before .args in
-    save-row-12 (a .n) (a .free) (now (a .map)) (a .count) (a .tally) (now (a .scratch)) (now (a .image))
-    (holds (at .before .save-fits .ensures) (at .if1 .left))
-    (holds (c .before .before .before .all-released .ensures) (c .before .before .if2 .left))
+    save-row-12 (a .n) (a .free) (now (a .map)) (a .count) (a .sound) (now (a .scratch)) (now (a .image))
+    (holds (at .before .save-fits .ensures) (at .if1 .left)) (not-false (a .sound) (c .before .before .if2 .left))
     _ (c .before .frames-for .ensures) (c .if3 .taken)
 
 returns-4 : tie.Need-returns-4
 returns-4 c =
-    let at = c .before .before .before .before in
+    let at = c .before .before .before in
     let a = at .before .before .before .before .before .args in
-    save-row-none (a .n) (a .free) (now (a .map)) (a .count) (a .tally) (now (a .scratch)) (now (a .image))
-    (holds (at .before .save-fits .ensures) (at .if1 .left))
-    (holds (c .before .before .before .all-released .ensures) (c .before .before .if2 .left))
+    save-row-none (a .n) (a .free) (now (a .map)) (a .count) (a .sound) (now (a .scratch)) (now (a .image))
+    (holds (at .before .save-fits .ensures) (at .if1 .left)) (not-false (a .sound) (c .before .before .if2 .left))
     _ (c .before .frames-for .ensures) (c .if3 .left)
 
 pub verdict-spec : {M : Type 1} → statement M
@@ -68,7 +60,6 @@ verdict-spec =
     (tie.spec
     save-fits-requires
     returns
-    all-released-requires
     returns-2
     frames-for-requires
     mul-if3
