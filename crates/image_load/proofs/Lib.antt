@@ -1,5 +1,7 @@
 -- What is read from an image, and what the parts of a load come to. `EntriesRead` is the walk over the entries.
 pub mod Contents
+pub mod Passing
+pub mod Filling
 pub mod Reading
 pub mod LoadRows
 pub mod Loads

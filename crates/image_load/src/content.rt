@@ -1,7 +1,7 @@
 // Whether the state that stands in an image is sound and the fill zero: each entry alone, and then the map in windows, as of a
 // lent state, with the entries and the words read from the image.
 ghost use mathlib.Core.Path.{_≡_};
-ghost use mathlib.Core.Bool.{true, _&&_};
+ghost use mathlib.Core.Bool.{true, false, _&&_};
 ghost use Prim.Native.Nat.{_+_, _*_, _≤_};
 ghost use lib.ListN.{length};
 ghost use Rattle.map_blocks.specs.Maps.{wordsFor};
@@ -13,8 +13,9 @@ ghost use Rattle.image_soundness.specs.Windows.{windowsScratch, windowCount};
 ghost use Rattle.image.specs.Image.{blocksIn, freeCountIn, sheetsIn, entriesIn, mapIn, stateIn, filled};
 ghost use Rattle.image.specs.Table.{headFits};
 use crate::entries::entry_here;
+use crate::entries::first_spot;
 use crate::entries::next_spot;
-use crate::entries::spot_of;
+use crate::entries::skip_apart;
 use image::limits::words_for;
 use image_frames::read_words;
 use image_frames::zeros_from;
@@ -34,16 +35,13 @@ fn tally_in(n: u32, first: Tally, image: &[u8], c: usize) -> Tally
     ensures { λ r. ⌜ r ≡ tallyOf (entriesIn (now (image .entry)) c) n first ⌝ }
 {
     let mut tally = first;
-    let mut spot = spot_of(3);
-    let mut i: usize = 0;
-    while i < c {
-        let k = 3 + 3 * i;
-        tally = tally_entry(n, tally, entry_here(image, k, spot));
+    let mut spot = first_spot();
+    while spot.sheet < c {
+        tally = tally_entry(n, tally, entry_here(image, spot));
         if tally.stop {
             return tally;
         }
-        spot = next_spot(k, spot);
-        i += 1;
+        spot = next_spot(spot);
     }
     tally
 }
@@ -62,28 +60,27 @@ fn fill_in(image: &[u8], n: u32, c: usize, window: Window, scratch: &mut [u64])
 
 // Releases the parts of the c extents that stand in an image, up to one that is not taken.
 fn release_in(first: Window, scratch: &mut [u64], image: &[u8], c: usize) -> Window
-    requires { ⌜ (c ≤ 1024) × (3 + 3 * c ≤ 124 * totalOf (now image)) ⌝ }
+    requires { ⌜ (first .stop ≡ false) × (c ≤ 1024) × (3 + 3 * c ≤ 124 * totalOf (now image)) ⌝ }
     ensures { λ r. ⌜ (r ≡ windowOver (entriesIn (now (image .entry)) c) first (now (scratch .entry)))
         × (now (scratch .exit) ≡ scratchOver (entriesIn (now (image .entry)) c) first (now (scratch .entry))) ⌝ }
 {
+    let lo = first.lo;
     let mut window = first;
-    let mut spot = spot_of(3);
-    let mut i: usize = 0;
-    while i < c {
-        let k = 3 + 3 * i;
-        window = release_part(window, scratch, entry_here(image, k, spot));
+    let mut spot = skip_apart(image, c, first_spot(), lo);
+    while spot.sheet < c {
+        window = release_part(window, scratch, entry_here(image, spot));
         if window.stop {
             return window;
         }
-        spot = next_spot(k, spot);
-        i += 1;
+        spot = skip_apart(image, c, next_spot(spot), lo);
     }
     window
 }
 
 // One window.
 fn test_window(image: &[u8], n: u32, c: usize, window: Window, scratch: &mut [u64]) -> Window
-    requires { ⌜ (n ≤ 262144) × (c ≤ 1024) × (3 + 3 * c ≤ 124 * totalOf (now image)) × (length (now scratch) ≤ 64) ⌝ }
+    requires { ⌜ (window .stop ≡ false) × (n ≤ 262144) × (c ≤ 1024) × (3 + 3 * c ≤ 124 * totalOf (now image))
+        × (length (now scratch) ≤ 64) ⌝ }
     ensures { λ r. ⌜ (r ≡ oneWindow (mapIn (now (image .entry)) n c) (entriesIn (now (image .entry)) c) (now (scratch .entry)) n
         window)
         × (now (scratch .exit) ≡ oneScratch (mapIn (now (image .entry)) n c) (entriesIn (now (image .entry)) c)
@@ -94,16 +91,19 @@ fn test_window(image: &[u8], n: u32, c: usize, window: Window, scratch: &mut [u6
     end_window(n, last, scratch)
 }
 
-// All windows.
+// All windows, up to one that fails.
 fn test_windows(image: &[u8], n: u32, c: usize, first: Window, scratch: &mut [u64]) -> Window
     requires { ⌜ (n ≤ 262144) × (c ≤ 1024) × (3 + 3 * c ≤ 124 * totalOf (now image)) × (length (now scratch) ≤ 64) ⌝ }
-    ensures { λ r. ⌜ r ≡ windowsOf (mapIn (now (image .entry)) n c) (entriesIn (now (image .entry)) c) (now (scratch .entry)) n
-        (windowCount n first) first ⌝ }
+    ensures { λ r. ⌜ r .stop ≡ windowsOf (mapIn (now (image .entry)) n c) (entriesIn (now (image .entry)) c)
+        (now (scratch .entry)) n (windowCount n first) first .stop ⌝ }
 {
     let count = window_count(n, first);
     let mut window = first;
     let mut i: usize = 0;
     while i < count {
+        if window.stop {
+            return window;
+        }
         window = test_window(image, n, c, window, scratch);
         i += 1;
     }

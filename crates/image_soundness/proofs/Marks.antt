@@ -18,7 +18,8 @@ abbrev rule : Bool → Bool → Bool → Bool → Bool → Bool → Bool
 rule p q o k zeros inside = cond p zeros (cond q (cond zeros true inside) (cond o inside (cond k inside false)))
 
 by-mark : (e : Entry) (p q o k z h : Bool)
-    → not (isDamaged (cond p (cond z Absent Damaged) (cond q (cond z Paused (cond h (PausedWith (e .start) (e .length)) Damaged))
+    → not (isDamaged (cond p (cond z Absent Damaged)
+    (cond q (cond z Paused (cond h (PausedWith (e .start) (e .length)) Damaged))
     (cond o (cond h (Open (e .start) (e .length)) Damaged)
     (cond k (cond h (Complete (e .start) (e .length)) Damaged) Damaged)))))
     ≡ rule p q o k z h

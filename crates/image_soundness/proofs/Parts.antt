@@ -137,7 +137,7 @@ module _ (lo : ℕ) (scratch : List ℕ) (e : Entry) where
 -- ---- all entries
 
 module _ (w : Window) (scratch : List ℕ) (e : Entry) (es : List Entry) where
-  over-on : (next : List ℕ) → w .stop ≡ false → (w ≡ windowAfter w scratch e) × (next ≡ scratchAfter w scratch e)
+  pub over-on : (next : List ℕ) → w .stop ≡ false → (w ≡ windowAfter w scratch e) × (next ≡ scratchAfter w scratch e)
       → (windowOver (e ∷ es) w scratch ≡ windowOver es w next) × (scratchOver (e ∷ es) w scratch ≡ scratchOver es w next)
   unfolding windowOver scratchOver
   over-on next o a =
@@ -165,7 +165,7 @@ after-stopped w scratch e s = by (touches (w .lo) e) (partTaken (w .lo) scratch 
     by true false = refl
     by false b = s
 
-after-lo : (w : Window) (scratch : List ℕ) (e : Entry) → windowAfter w scratch e .lo ≡ w .lo
+pub after-lo : (w : Window) (scratch : List ℕ) (e : Entry) → windowAfter w scratch e .lo ≡ w .lo
 unfolding windowAfter
 after-lo w scratch e = by (touches (w .lo) e) (partTaken (w .lo) scratch e)
   where

@@ -5,14 +5,15 @@ use mathlib.Core.Bool.{Bool, true, false, not, _&&_, cond}
 use mathlib.Core.List.{List}
 use Prim.Native.Nat.{ℕ, _+_, _-_, _*_, _/_, _≤_, _<_, min}
 use native.Mathlib.Omega.{arith}
-use lib.Dec.{eqb, leb}
+use lib.Dec.{eqb, leb, ltb}
 use lib.ListN.{length, replicate}
 use borrow.Author.Tests.{eq-eqb, ne-eqb, le-leb, lt-leb, leb-true}
 use Rattle.map_blocks.specs.Blocks.{all}
 use Rattle.map_blocks.specs.Maps.{inState, isFresh}
 use Rattle.laws.proofs.Bools.{and-left, and-right}
 use Rattle.catalogue.specs.declared.Entry.{Entry}
-use Rattle.image_soundness.specs.Windows.{tally, window, keepsRule, countable, tallyAfter, wordsFrom, copied, taken}
+use Rattle.image_soundness.specs.Windows.{tally, window, keepsRule, countable, tallyAfter, wordsFrom, copied}
+use Rattle.image_soundness.specs.Windows.{partFrom, partTo, touches, taken}
 use Rattle.image_soundness.specs.Windows.{passes, windowEnd, firstWindow, windowCount, passedAll, clearedAll}
 use Rattle.image_soundness.specs.declared.Tally.{Tally}
 use Rattle.image_soundness.specs.declared.Window.{Window}
@@ -66,6 +67,10 @@ module _ (map : List ℕ) (w : Window) (scratch : List ℕ) where
   pub is-copied : length scratch ≤ 64 → wordsFrom map (w .lo / 64) (length scratch) ≡ copied map w scratch
   unfolding copied
   is-copied h = simp (le-leb (length scratch) 64 h)
+
+pub has-part : (lo : ℕ) (e : Entry) (from to : ℕ) → from ≡ partFrom lo e → to ≡ partTo lo e → ltb from to ≡ touches lo e
+unfolding touches
+has-part lo e from to f t = ap₂ ltb f t
 
 module _ (scratch : List ℕ) (s k : ℕ) where
   pub taken-short : length scratch < (s + k + 63) / 64 → false ≡ taken scratch s k

@@ -10,10 +10,10 @@ ghost use mathlib.Core.Bool.{_&&_};
 ghost use Prim.Native.Nat.{_+_, _*_, _≤_, min, max};
 ghost use lib.Dec.{leb};
 ghost use lib.ListN.{length};
-ghost use Rattle.image_soundness.specs.Windows.{countable, tallyAfter, tallyOf, copied, taken, windowAfter, scratchAfter};
-ghost use Rattle.image_soundness.specs.Windows.{windowOver, scratchOver, passes, windowEnd, oneWindow, oneScratch};
-ghost use Rattle.image_soundness.specs.Windows.{windowsOf, windowsScratch, firstWindow, windowCount, passedAll};
-ghost use Rattle.image_soundness.specs.Windows.{clearedAll, tested, testedScratch};
+ghost use Rattle.image_soundness.specs.Windows.{countable, tallyAfter, tallyOf, copied, touches, taken, windowAfter};
+ghost use Rattle.image_soundness.specs.Windows.{scratchAfter, windowOver, scratchOver, passes, windowEnd, oneWindow};
+ghost use Rattle.image_soundness.specs.Windows.{oneScratch, windowsOf, windowsScratch, firstWindow, windowCount};
+ghost use Rattle.image_soundness.specs.Windows.{passedAll, clearedAll, tested, testedScratch};
 use crate::rule::keeps_rule;
 use crate::words::clear;
 use crate::words::copy_from;
@@ -114,6 +114,18 @@ pub fn lesser(a: usize, b: usize) -> usize
     ensures { λ r. ⌜ r ≡ min a b ⌝ }
 {
     if a < b { a } else { b }
+}
+
+// Whether an extent has a part in the window that begins at block lo.
+pub fn has_part(lo: u32, entry: Entry) -> bool
+    ensures { λ r. ⌜ r ≡ touches lo entry ⌝ }
+{
+    let low = lo as usize;
+    let start = entry.start as usize;
+    let blocks = entry.length as usize;
+    let from = larger(start, low);
+    let to = lesser(start + blocks, low + (WINDOW as usize));
+    from < to
 }
 
 // Whether the k blocks from s on lie in the scratch and are taken there.

@@ -44,7 +44,8 @@ fn pause_keeps(n: u32, entry: Entry) -> bool
     extent_inside(n, entry)
 }
 
-// Whether an entry keeps the rule of its mark: Absent has no extent, Open and Complete have one inside n, and Paused may have one.
+// Whether an entry keeps the rule of its mark: Absent has no extent, Open and Complete have one inside n, and Paused may have
+// one.
 pub fn keeps_rule(n: u32, entry: Entry) -> bool
     ensures { λ r. ⌜ r ≡ keepsRule n entry ⌝ }
 {

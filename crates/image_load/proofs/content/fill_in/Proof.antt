@@ -5,7 +5,7 @@ use native.Mathlib.Omega.{arith}
 use lib.ListN.{length, length-take}
 use lib.Seq.{length-take-le}
 use denote.Ref.{now}
-use Rattle.image_load.proofs.Contents.{window-read}
+use Rattle.image_load.proofs.Filling.{window-read}
 use borrow.Author.Needs.{needs}
 use Rattle.image_load.proofs.content.fill_in.Statement.{statement}
 use Rattle.image_load.proofs.content.fill_in.Tie as tie

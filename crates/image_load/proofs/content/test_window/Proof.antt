@@ -1,6 +1,6 @@
 -- `content::test_window` meets its contract.
 -- Assumes nothing.
-use Rattle.image_load.proofs.Contents.{window-tested}
+use Rattle.image_load.proofs.Filling.{window-tested}
 use borrow.Author.Needs.{needs}
 use Rattle.image_load.proofs.content.test_window.Statement.{statement}
 use Rattle.image_load.proofs.content.test_window.Tie as tie
