@@ -9,6 +9,7 @@ use catalogue_standings::Answer;
 use catalogue_standings::opening::shape_fits;
 use catalogue_standings::opening::sheets_fit;
 use map_blocks::Found;
+use map_search::search_card;
 use map_space::space;
 
 // The least fit for k, and the space behind it.
@@ -21,7 +22,7 @@ pub fn search(n: u32, free: u32, map: &[u64], k: u32) -> Answer
     if k == 0 {
         return Answer::Refused(3);
     }
-    let found = map_search::search(map, 0, n, k);
+    let found = search_card(map, n, k);
     let Found::At(start) = found else {
         return Answer::Refused(10);
     };

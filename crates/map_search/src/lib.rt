@@ -193,3 +193,21 @@ pub fn search(map: &[u64], from: u32, before: u32, k: u32) -> Found
     }
     Found::At((reached.word as u32) * 64 + u64::leading_zeros(g))
 }
+
+// The same from block 0 on, for the call that is nothing but a search. `search_on` is then used twice in the library and stays
+// a function of its own, and all that comes before it is compiled into its callers, where a search is mostly over. What it
+// found is taken apart: handed on as it is, a start that was found here would go through memory too.
+pub fn search_card(map: &[u64], n: u32, k: u32) -> Found
+    requires { ⌜ (0 < n) × (n ≤ 262144) × (n ≤ 64 * length (now map)) × (0 < k) ⌝ }
+    ensures { λ r. ⌜ r ≡ leastFit (free (now (map .entry))) 0 n 1 k ⌝ }
+{
+    let reached = reach(map, 0, n);
+    let g = gaps(reached.bits, k);
+    if g == 0 {
+        match search_on(map, 0, n, reached.word + 1, tail(reached.bits), k) {
+            Found::At(start) => return Found::At(start),
+            Found::Nothing => return Found::Nothing,
+        }
+    }
+    Found::At((reached.word as u32) * 64 + u64::leading_zeros(g))
+}

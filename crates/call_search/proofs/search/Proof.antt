@@ -67,11 +67,11 @@ returns-2 c =
     (empty (a .n) (a .free) (now (a .map)) (a .k) (holds (shape .before .shape-fits .ensures) (shape .if1 .left))
     (c .if2 .taken))
 
-search-requires : tie.Need-search-requires
-search-requires c κs =
+search-card-requires : tie.Need-search-card-requires
+search-card-requires c κs =
     let shape = c .before in
     let f = fits _ _ _ (holds (shape .before .shape-fits .ensures) (shape .if1 .left)) in
-    (omega (arith, f .limit), omega (arith, f .covered), omega arith)
+    (omega (arith, f .some), omega (arith, f .limit), omega (arith, f .some, f .covered), omega arith)
 
 enum-known-found : tie.Need-enum-known-found
 enum-known-found c = search needs
@@ -93,7 +93,7 @@ returns-3 c =
     out (a .n) (a .free) (now (a .map)) (a .k) (refused 10)
     (nothing (a .n) (a .free) (now (a .map)) (a .k) (holds (shape .before .shape-fits .ensures) (shape .if1 .left))
     (ne-eqb _ _ (some .if2 .left))
-    (sym (c .before .before .search .ensures) ∙ c .enum-told .given .1))
+    (sym (c .before .before .search-card .ensures) ∙ c .enum-told .given .1))
 
 returns-4 : tie.Need-returns-4
 returns-4 c =
@@ -102,7 +102,7 @@ returns-4 c =
     let some = known .before .before .before in
     let shape = some .before in
     let a = shape .before .before .before .args in
-    let here = sym (known .before .before .search .ensures) ∙ at .1 in
+    let here = sym (known .before .before .search-card .ensures) ∙ at .1 in
     ap (Start (at .0 .0)) (c .space .ensures)
     ∙ ap (startWithSpace (free (now (a .map))) (a .n)) (sym (ap startAt here))
     ∙ out (a .n) (a .free) (now (a .map)) (a .k) accepted
@@ -116,7 +116,7 @@ search-spec =
     shape-fits-requires
     returns
     returns-2
-    search-requires
+    search-card-requires
     enum-known-found
     enum-told
     returns-3

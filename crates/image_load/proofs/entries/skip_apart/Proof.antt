@@ -48,7 +48,8 @@ loop-again c =
       s .1,
       omega (arith, s .0),
       omega (arith, s .0),
-      apart-more (now (a .image)) (a .lo) _ (at .spot .sheet) _ _ _ (at .inv .3) (s .0) (c .before .before .before .entry-here .ensures)
+      apart-more (now (a .image)) (a .lo) _ (at .spot .sheet) _ _ _ (at .inv .3) (s .0)
+          (c .before .before .before .entry-here .ensures)
           (c .before .before .has-part .ensures) (c .before .if2 .left),
     )
 

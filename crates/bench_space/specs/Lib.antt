@@ -1,0 +1,2 @@
+-- What the contracts of `bench_space` cite.
+pub mod Answers
