@@ -61,7 +61,7 @@ static void sealed_blocks(void) {
 }
 
 static void images(const char *what, uint32_t blocks) {
-    fill_card(blocks);
+    fill_card(blocks, IN_NONE);
     heading(what, SAVES, 4);
     line("save", SAVES, 4, 0, 1);
     line("load", LOADS, 4, 0, 1);

@@ -4,28 +4,11 @@
 #define BENCH_IMAGES_H
 
 #include "aged.h"
+#include "full.h"
 #include "sealed.h"
 #include "ways.h"
 
-enum { LARGEST_IMAGE = PAGUNLIT_IMAGE_BYTES(BLOCKS, PAGUNLIT_SHEETS) };
-
-static pagunlit_shape full;
-static size_t full_words, scratch_words, image_bytes;
-static uint64_t full_map[BLOCKS / 64], scratch[PAGUNLIT_SCRATCH_WORDS(BLOCKS)];
-static pagunlit_entry full_catalogue[PAGUNLIT_SHEETS];
-static uint8_t image[LARGEST_IMAGE], copy[LARGEST_IMAGE];
-
-// Every sheet holds as many blocks, so that no block is free. The sheets lie in no order.
-static void fill_card(uint32_t blocks) {
-    full = (pagunlit_shape){blocks, 0};
-    full_words = PAGUNLIT_MAP_WORDS(blocks);
-    scratch_words = PAGUNLIT_SCRATCH_WORDS(blocks);
-    image_bytes = PAGUNLIT_IMAGE_BYTES(blocks, PAGUNLIT_SHEETS);
-    memset(full_map, 0, sizeof full_map);
-    for (uint32_t s = 0; s < PAGUNLIT_SHEETS; s++)
-        full_catalogue[s] = (pagunlit_entry){s % 2 == 0 ? PAGUNLIT_OPEN : PAGUNLIT_COMPLETE,
-                                             blocks / PAGUNLIT_SHEETS * (s * 389 % PAGUNLIT_SHEETS), blocks / PAGUNLIT_SHEETS};
-}
+static uint8_t copy[LARGEST_IMAGE];
 
 static uint32_t ours_save(uint32_t unused) {
     return unused + pagunlit_save(full, full_map, full_words, full_catalogue, PAGUNLIT_SHEETS, scratch, scratch_words, image,
