@@ -40,6 +40,14 @@ module _ (image : List ℕ) (k : ℕ) where
       let e : 512 * ((4 * k + y) / 496) + 8 + (4 * k + y) % 496 ≡ placeOf k + y = omega arith in
       sym (body-at image (4 * k + y) (omega arith) ∙ ap (λ (x : ℕ). getD image x 0) e))
 
+  -- and those behind it in its frame stand behind it in the image
+  pub number-behind : (j : ℕ) → k / 124 < totalOf image → k % 124 + j < 124
+      → numberAt image (placeOf k + 4 * j) ≡ numberAt (bodyOf image) (4 * k + 4 * j)
+  number-behind j h fit =
+      number-moved image (bodyOf image) (placeOf k + 4 * j) (4 * k + 4 * j) (λ y u.
+      let e : 512 * ((4 * k + 4 * j + y) / 496) + 8 + (4 * k + 4 * j + y) % 496 ≡ placeOf k + 4 * j + y = omega arith in
+      sym (body-at image (4 * k + 4 * j + y) (omega arith) ∙ ap (λ (x : ℕ). getD image x 0) e))
+
   -- past the end it is 0
   pub number-out : totalOf image ≤ k / 124 → 0 ≡ numberIn image k
   unfolding numberIn numberAt

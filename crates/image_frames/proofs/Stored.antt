@@ -9,8 +9,9 @@ use native.Mathlib.Nat.{add-zero}
 use native.Mathlib.Numerals.{add-one}
 use native.Mathlib.Omega.{arith}
 use lib.ListN.{length, getD, set, take, drop, replicate, length-append, length-replicate, length-drop, length-set}
-use lib.ListN.{replicate-append-replicate}
-use lib.Seq.{ext-getD, take-suc, take-all, length-take-le, getD-drop, getD-set-same, getD-set-other}
+use lib.ListN.{replicate-append-replicate, List·getD-append}
+use lib.Seq.{ext-getD, take-suc, take-all, length-take-le, getD-take, getD-drop, getD-append-add, getD-set-same, getD-set-other}
+use borrow.Rule.Slice.PartMut.{midOf, putMid, same-len-mid}
 use Rattle.laws.proofs.Bools.{order, not-true}
 use Rattle.block_bytes.specs.Numbers.{bytes4, numberAt}
 use Rattle.block_seals.specs.Sealed.{blank}
@@ -19,9 +20,9 @@ use Rattle.block_bytes.proofs.Numbers.{bytes4-length}
 use Rattle.image_frames.specs.Frames.{bodyOf, totalOf}
 use Rattle.block_bytes.specs.Replaced.{replaced}
 use Rattle.block_bytes.proofs.Replaced.{replaced-none, replaced-more}
-use Rattle.image_frames.specs.Numbers.{numberIn, withNumber, bytes8, wordBytes, wordsAt}
+use Rattle.image_frames.specs.Numbers.{placeOf, numberIn, withNumber, bytes8, wordBytes, wordAt, wordsAt}
 use Rattle.image_frames.proofs.Bodies.{body-length}
-use Rattle.image_frames.proofs.Numbered.{stored-length, stored-body}
+use Rattle.image_frames.proofs.Numbered.{number-behind, stored-length, stored-body}
 
 -- some bytes were written, from number k on, over the body of an image
 pub record Written (first : List ℕ) (k : ℕ) (news image : List ℕ) : Type 0 where
@@ -118,26 +119,64 @@ unfolding wordsAt
 wordsAt-length bytes at zero = refl
 wordsAt-length bytes at (suc w) = ap suc (wordsAt-length bytes (at + 8) w)
 
-pub wordsAt-at : (bytes : List ℕ) (at w i : ℕ) → i < w
-    → getD (wordsAt bytes at w) i 0 ≡ numberAt bytes (at + 8 * i) * 4294967296 + numberAt bytes (at + 8 * i + 4)
+pub wordsAt-at : (bytes : List ℕ) (at w i : ℕ) → i < w → getD (wordsAt bytes at w) i 0 ≡ wordAt bytes (at + 8 * i)
 unfolding wordsAt
 wordsAt-at bytes at zero i h = absurd (omega arith)
-wordsAt-at bytes at (suc w) zero h =
-    let e : at ≡ at + 8 * 0 = omega arith in
-    ap (λ (x : ℕ). numberAt bytes x * 4294967296 + numberAt bytes (x + 4)) e
+wordsAt-at bytes at (suc w) zero h = let e : at ≡ at + 8 * 0 = omega arith in ap (wordAt bytes) e
 wordsAt-at bytes at (suc w) (suc i) h =
     let e : at + 8 + 8 * i ≡ at + 8 * suc i = omega arith in
-    wordsAt-at bytes (at + 8) w i (omega arith) ∙ ap (λ (x : ℕ). numberAt bytes x * 4294967296 + numberAt bytes (x + 4)) e
+    wordsAt-at bytes (at + 8) w i (omega arith) ∙ ap (wordAt bytes) e
 
--- the words passed are those of the image, and there are as many as at first
-pub record Reading (image : List ℕ) (k : ℕ) (first : List ℕ) (i : ℕ) (words : List ℕ) : Type 0 where
+-- words that stand whole in a frame, in the image and in the body
+pub words-together : (image : List ℕ) (k count : ℕ) → k / 124 < totalOf image → k % 124 + 2 * count ≤ 124
+    → wordsAt image (placeOf k) count ≡ wordsAt (bodyOf image) (4 * k) count
+words-together image k count inside fit =
+    ext-getD 0 (wordsAt image (placeOf k) count) (wordsAt (bodyOf image) (4 * k) count)
+    (wordsAt-length image (placeOf k) count ∙ sym (wordsAt-length (bodyOf image) (4 * k) count))
+    (λ i u.
+    let h : i < count = omega (arith, wordsAt-length image (placeOf k) count) in
+    let a : placeOf k + 8 * i ≡ placeOf k + 4 * (2 * i) = omega arith in
+    let a′ : placeOf k + 8 * i + 4 ≡ placeOf k + 4 * (2 * i + 1) = omega arith in
+    let b : 4 * k + 4 * (2 * i) ≡ 4 * k + 8 * i = omega arith in
+    let b′ : 4 * k + 4 * (2 * i + 1) ≡ 4 * k + 8 * i + 4 = omega arith in
+    wordsAt-at image (placeOf k) count i h
+    ∙ ap₂ (λ (x y : ℕ). x * 4294967296 + y)
+    (ap (numberAt image) a ∙ number-behind image k (2 * i) inside (omega arith) ∙ ap (numberAt (bodyOf image)) b)
+    (ap (numberAt image) a′ ∙ number-behind image k (2 * i + 1) inside (omega arith) ∙ ap (numberAt (bodyOf image)) b′)
+    ∙ sym (wordsAt-at (bodyOf image) (4 * k) count i h))
+
+-- words read from a frame, in front of those that are not: none, and some
+pub frame-none : (bytes : List ℕ) (at : ℕ) (words : List ℕ) → words ≡ wordsAt bytes at 0 ++ drop 0 words
+unfolding wordsAt
+frame-none bytes at words = refl
+
+pub frame-some : (image : List ℕ) (k at count : ℕ) (words first : List ℕ) → at ≡ placeOf k
+    → first ≡ wordsAt image at (length (take count words)) → count ≤ length words → k / 124 < totalOf image
+    → k % 124 + 2 * count ≤ 124 → first ++ drop count words ≡ wordsAt (bodyOf image) (4 * k) count ++ drop count words
+frame-some image k at count words first ea e few inside fit =
+    ap (λ (l : List ℕ). l ++ drop count words)
+    (e ∙ ap₂ (wordsAt image) ea (length-take-le count words few) ∙ words-together image k count inside fit)
+
+-- a word of the body, by the numbers that are its halves
+pub word-halves : (image : List ℕ) (k i : ℕ)
+    → numberIn image (k + 2 * i) * 4294967296 + numberIn image (k + 2 * i + 1) ≡ wordAt (bodyOf image) (4 * k + 8 * i)
+unfolding numberIn
+word-halves image k i =
+    let a : 4 * (k + 2 * i) ≡ 4 * k + 8 * i = omega arith in
+    let b : 4 * (k + 2 * i + 1) ≡ 4 * k + 8 * i + 4 = omega arith in
+    ap₂ (λ (x y : ℕ). numberAt (bodyOf image) x * 4294967296 + numberAt (bodyOf image) y) a b
+
+-- the words passed are those that are stored from byte `at` on, and there are as many as at first
+pub record Reading (bytes : List ℕ) (at : ℕ) (first : List ℕ) (i : ℕ) (words : List ℕ) : Type 0 where
   pub long : length words ≡ length first
-  pub read : (j : ℕ) → j < i → getD words j 0 ≡ numberIn image (k + 2 * j) * 4294967296 + numberIn image (k + 2 * j + 1)
+  pub read : (j : ℕ) → j < i → getD words j 0 ≡ wordAt bytes (at + 8 * j)
 
-module _ (image : List ℕ) (k : ℕ) (first : List ℕ) where
-  pub reading-more : (i : ℕ) (words : List ℕ) (x : ℕ) → i < length words
-      → x ≡ numberIn image (k + 2 * i) * 4294967296 + numberIn image (k + 2 * i + 1)
-      → Reading image k first i words → Reading image k first (i + 1) (set words i x)
+module _ (bytes : List ℕ) (at : ℕ) (first : List ℕ) where
+  pub reading-none : Reading bytes at first 0 first
+  reading-none = record { long = refl; read = λ j u. absurd (omega arith) }
+
+  pub reading-more : (i : ℕ) (words : List ℕ) (x : ℕ) → i < length words → x ≡ wordAt bytes (at + 8 * i)
+      → Reading bytes at first i words → Reading bytes at first (i + 1) (set words i x)
   reading-more i words x h e r = record {
     long = length-set words i x ∙ r .long;
     read = λ j u.
@@ -145,21 +184,44 @@ module _ (image : List ℕ) (k : ℕ) (first : List ℕ) where
         (λ (hi : i ≤ j).
         let q : i ≡ j = omega arith in
         ap (λ (y : ℕ). getD (set words i x) y 0) (sym q) ∙ getD-set-same words i x 0 h ∙ e
-        ∙ ap (λ (y : ℕ). numberIn image (k + 2 * y) * 4294967296 + numberIn image (k + 2 * y + 1)) q) (order j i);
+        ∙ ap (λ (y : ℕ). wordAt bytes (at + 8 * y)) q) (order j i);
   }
 
-  pub reading-end : (i : ℕ) (words : List ℕ) → length first ≤ i → Reading image k first i words
-      → words ≡ wordsAt (bodyOf image) (4 * k) (length first)
-  unfolding numberIn
+  -- some words more, read to the part behind those that were passed
+  pub reading-part : (i from k : ℕ) (words part : List ℕ) → i ≤ length words → from ≡ at + 8 * i
+      → k ≤ length (midOf i (length words - i) words)
+      → part ≡ wordsAt bytes from k ++ drop k (midOf i (length words - i) words)
+      → Reading bytes at first i words → Reading bytes at first (i + k) (putMid i (length words - i) words part)
+  reading-part i from k words part h ef fit e r =
+      let mid : List ℕ = midOf i (length words - i) words in
+      let front : List ℕ = take i words in
+      let new : List ℕ = wordsAt bytes from k in
+      let behind : List ℕ = drop (length words - i) (drop i words) in
+      let front-size : length front ≡ i = length-take-le i words h in
+      let new-size : length new ≡ k = wordsAt-length bytes from k in
+      let part-size : length part ≡ length mid =
+      omega (arith, ap length e, length-append new (drop k mid), length-drop k mid) in
+      record {
+        long = same-len-mid i (length words - i) words part part-size ∙ r .long;
+        read = λ j u.
+            ⊎-elim
+            (λ (lo : j < i).
+            List·getD-append front (part ++ behind) 0 j (omega arith) ∙ getD-take i words j 0 lo ∙ r .read j lo)
+            (λ (hi : i ≤ j).
+            let q : j ≡ length front + (j - i) = omega arith in
+            let z : from + 8 * (j - i) ≡ at + 8 * j = omega arith in
+            ap (λ (y : ℕ). getD (front ++ (part ++ behind)) y 0) q ∙ getD-append-add front (part ++ behind) (j - i) 0
+            ∙ List·getD-append part behind 0 (j - i) (omega arith) ∙ ap (λ (l : List ℕ). getD l (j - i) 0) e
+            ∙ List·getD-append new (drop k mid) 0 (j - i) (omega arith)
+            ∙ wordsAt-at bytes from k (j - i) (omega arith) ∙ ap (wordAt bytes) z) (order j i);
+      }
+
+  pub reading-end : (i : ℕ) (words : List ℕ) → length first ≤ i → Reading bytes at first i words
+      → words ≡ wordsAt bytes at (length first)
   reading-end i words h r =
       let long : length words ≡ length first = r .long in
-      ext-getD 0 words (wordsAt (bodyOf image) (4 * k) (length first))
-      (long ∙ sym (wordsAt-length (bodyOf image) (4 * k) (length first)))
-      (λ j u.
-      let a : 4 * (k + 2 * j) ≡ 4 * k + 8 * j = omega arith in
-      let b : 4 * (k + 2 * j + 1) ≡ 4 * k + 8 * j + 4 = omega arith in
-      r .read j (omega arith) ∙ ap₂ (λ (x y : ℕ). numberAt (bodyOf image) x * 4294967296 + numberAt (bodyOf image) y) a b
-      ∙ sym (wordsAt-at (bodyOf image) (4 * k) (length first) j (omega arith)))
+      ext-getD 0 words (wordsAt bytes at (length first)) (long ∙ sym (wordsAt-length bytes at (length first)))
+      (λ j u. r .read j (omega arith) ∙ sym (wordsAt-at bytes at (length first) j (omega arith)))
 
 -- a number is 0 exactly if its four bytes are
 bytes-zero : (bytes : List ℕ) (at y : ℕ) → y < 4 → numberAt bytes at ≡ 0 → getD bytes (at + y) 0 ≡ 0

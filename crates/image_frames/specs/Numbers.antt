@@ -33,8 +33,11 @@ unfolding bytes8
 wordBytes [] = []
 wordBytes (word ∷ words) = bytes8 word ++ wordBytes words
 
--- The w words that are stored from byte `at` on.
+-- The word that is stored from byte `at` on, and the w words.
+abbrev pub wordAt : List ℕ → ℕ → ℕ
+wordAt bytes at = numberAt bytes at * 4294967296 + numberAt bytes (at + 4)
+
 unfoldable pub wordsAt : List ℕ → ℕ → ℕ → List ℕ
 unfolding numberAt
 wordsAt bytes at zero = []
-wordsAt bytes at (suc w) = (numberAt bytes at * 4294967296 + numberAt bytes (at + 4)) ∷ wordsAt bytes (at + 8) w
+wordsAt bytes at (suc w) = wordAt bytes at ∷ wordsAt bytes (at + 8) w

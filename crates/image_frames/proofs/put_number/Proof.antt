@@ -1,7 +1,7 @@
 -- `put_number` meets its contract: the part that is lent comes back with the number in it.
 -- Assumes nothing.
 use mathlib.Core.List.{List}
-use mathlib.Core.Path.{_≡_, sym, ap₂, _∙_}
+use mathlib.Core.Path.{_≡_, sym, ap, ap₂, _∙_}
 use Prim.Native.Nat.{ℕ, _-_, _+_}
 use native.Mathlib.Omega.{arith}
 use borrow.Author.Needs.{needs}
@@ -17,22 +17,15 @@ use Rattle.image_frames.proofs.put_number.Tie as tie
 size : (a : ℕ) → a + 4 - a ≡ 4
 size a = omega arith
 
-put-back : (image : List ℕ) (k number : ℕ) (ys : List ℕ) → ys ≡ bytes4 number
-    → putMid (placeOf k) (placeOf k + 4 - placeOf k) image ys ≡ replaced image (placeOf k) (bytes4 number)
+put-back : (image : List ℕ) (k number start : ℕ) (ys : List ℕ) → start ≡ placeOf k → ys ≡ bytes4 number
+    → putMid start (start + 4 - start) image ys ≡ replaced image (placeOf k) (bytes4 number)
 unfolding replaced bytes4
-put-back image k number ys e = ap₂ (λ (x : ℕ) (y : List ℕ). putMid (placeOf k) x image y) (size (placeOf k)) e
+put-back image k number start ys s e =
+    ap₂ (λ (x : ℕ) (y : List ℕ). putMid start x image y) (size start) e
+    ∙ ap (λ (x : ℕ). putMid x 4 image (bytes4 number)) s
 
-mul-start : tie.Need-mul-start
-mul-start c = search needs
-
-add-start : tie.Need-add-start
-add-start c = search needs
-
-mul-start-2 : tie.Need-mul-start-2
-mul-start-2 c = search needs
-
-add-start-2 : tie.Need-add-start-2
-add-start-2 c = search needs
+place-requires : tie.Need-place-requires
+place-requires c κs = search needs
 
 add-end : tie.Need-add-end
 add-end c = search needs
@@ -54,8 +47,9 @@ same-length c = search needs
 
 returns : tie.Need-returns
 returns c =
-    let a = c .before .before .before .before .before .before .args in
-    put-back (now (a .image)) (a .k) (a .number) _ (c .before .before .put4 .ensures)
+    let a = c .before .before .before .before .before .before .before .args in
+    put-back (now (a .image)) (a .k) (a .number) _ _ (c .before .before .before .before .place .ensures)
+    (c .before .before .put4 .ensures)
     ∙ sym (stored-in (now (a .image)) (a .k) (a .number) (omega arith))
 
 returns-2 : tie.Need-returns-2
@@ -67,10 +61,7 @@ pub put-number-spec : {M : Type 1} → statement M
 put-number-spec =
     tie.close
     (tie.spec
-    mul-start
-    add-start
-    mul-start-2
-    add-start-2
+    place-requires
     add-end
     sub-put4
     part-put4-start
