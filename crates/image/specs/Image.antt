@@ -40,12 +40,13 @@ unfoldable pub imageOf : State → List ℕ
 unfolding body
 imageOf s = frames (framesFor (s .blocks) (length (s .entries))) 0 (framesFor (s .blocks) (length (s .entries))) (body s)
 
--- The c entries that are stored from byte `at` on.
+-- The entry that is stored from byte `at` on, and the c entries.
+abbrev pub entryAt : List ℕ → ℕ → Entry
+entryAt bytes at = record { mark = numberAt bytes at; start = numberAt bytes (at + 4); length = numberAt bytes (at + 8) }
+
 unfoldable pub entriesAt : List ℕ → ℕ → ℕ → List Entry
 entriesAt bytes at zero = []
-entriesAt bytes at (suc c) =
-    record { mark = numberAt bytes at; start = numberAt bytes (at + 4); length = numberAt bytes (at + 8) }
-    ∷ entriesAt bytes (at + 12) c
+entriesAt bytes at (suc c) = entryAt bytes at ∷ entriesAt bytes (at + 12) c
 
 -- n, the free count and c, as an image has them.
 unfoldable pub blocksIn : List ℕ → ℕ

@@ -1,7 +1,5 @@
 -- What is read from an image, and what the parts of a load come to. `EntriesRead` is the walk over the entries.
-pub mod Contents
-pub mod Passing
-pub mod Filling
+pub mod Heads
 pub mod Reading
 pub mod LoadRows
 pub mod Loads

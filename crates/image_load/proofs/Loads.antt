@@ -13,7 +13,7 @@ use Rattle.catalogue.specs.declared.Entry.{Entry}
 use Rattle.image_frames.specs.Frames.{bodyOf, totalOf}
 use Rattle.image.specs.Cursors.{cursor}
 use Rattle.image.specs.Effects.{rowNumber, loadResult, loadMap, loadEntries, loadScratch, Loads}
-use Rattle.image.specs.Image.{blocksIn, freeCountIn, sheetsIn, entriesAt, entriesIn, stateIn}
+use Rattle.image.specs.Image.{blocksIn, freeCountIn, sheetsIn, entryAt, entriesAt, entriesIn, stateIn}
 use Rattle.image_load.specs.Parts.{coreLoaded, coreMap, coreScratch, firstCursor, readEntries}
 use Rattle.image.specs.Table.{loadVerdict}
 use Rattle.image.specs.declared.Loaded.{Loaded}
@@ -21,7 +21,6 @@ use Rattle.image_load.specs.declared.Turn.{Turn}
 use Rattle.image.proofs.Cursors.{going}
 use Rattle.image.proofs.Fitting.{whole-to, head-to, load-fits-to}
 use Rattle.image.proofs.Verdicts.{load-accepted, accepted-to}
-use Rattle.image_load.proofs.Contents.{entry-at}
 use Rattle.image_load.proofs.Reading.{reads, entries-stay}
 
 -- the entries read from number k on
@@ -32,7 +31,7 @@ read-from image k at [] e room = refl
 read-from image k at (x ∷ es) e room =
     ap (λ (t : Turn). t .entry ∷ readEntries es image (t .state))
     (sym (reads (cursor k false) image x (going (cursor k false) image refl (omega arith))))
-    ∙ ap₂ (λ (y : Entry) (l : List Entry). y ∷ l) (entry-at image k at e)
+    ∙ ap₂ (λ (y : Entry) (l : List Entry). y ∷ l) (ap (entryAt (bodyOf image)) (sym e))
     (read-from image (k + 3) (at + 12) es (omega arith) (omega arith))
 
 never : (k : ℕ) → refused k ≡ accepted → ⊥

@@ -3,10 +3,12 @@
 use mathlib.Core.Path.{_≡_, refl, sym, ap, _∙_}
 use mathlib.Core.Bool.{Bool, true, false, cond}
 use mathlib.Core.List.{List, [], _∷_}
-use Prim.Native.Nat.{ℕ, _+_}
+use Prim.Native.Nat.{ℕ, _+_, _*_}
 use Rattle.catalogue.specs.declared.Entry.{Entry}
 use Rattle.image.specs.Cursors.{cursor, active}
-use Rattle.image_load.specs.Parts.{entryFrom, turnAfter, readCursor, readEntries}
+use Rattle.image_frames.specs.Frames.{bodyOf}
+use Rattle.image.specs.Image.{entryAt}
+use Rattle.image_load.specs.Parts.{turnAfter, readCursor, readEntries}
 use Rattle.image.specs.declared.Cursor.{Cursor}
 use Rattle.image_load.specs.declared.Turn.{Turn}
 use Rattle.image.proofs.Cursors.{stopped, same-cursor}
@@ -16,16 +18,17 @@ turn at e = record { state = at; entry = e }
 
 -- one entry read, or none
 module _ (at : Cursor) (image : List ℕ) (e : Entry) where
-  pub reads : active at image ≡ true → turn (cursor (at .next + 3) false) (entryFrom image (at .next)) ≡ turnAfter image at e
+  pub reads : active at image ≡ true
+      → turn (cursor (at .next + 3) false) (entryAt (bodyOf image) (4 * at .next)) ≡ turnAfter image at e
   unfolding turnAfter
   reads a =
-      ap (λ (b : Bool). cond b (turn (cursor (at .next + 3) false) (entryFrom image (at .next)))
+      ap (λ (b : Bool). cond b (turn (cursor (at .next + 3) false) (entryAt (bodyOf image) (4 * at .next)))
       (turn (cursor (at .next) true) e)) (sym a)
 
   pub reads-none : active at image ≡ false → turn (cursor (at .next) true) e ≡ turnAfter image at e
   unfolding turnAfter
   reads-none a =
-      ap (λ (b : Bool). cond b (turn (cursor (at .next + 3) false) (entryFrom image (at .next)))
+      ap (λ (b : Bool). cond b (turn (cursor (at .next + 3) false) (entryAt (bodyOf image) (4 * at .next)))
       (turn (cursor (at .next) true) e)) (sym a)
 
 -- a cursor that stopped

@@ -1,23 +1,20 @@
 -- What the functions that a load consists of give and leave, one after the other.
 -- Assumes nothing.
-use mathlib.Core.Path.{_≡_}
 use mathlib.Core.Bool.{true, false, not, cond}
 use mathlib.Core.List.{List, [], _∷_}
-use Prim.Native.Nat.{ℕ, _+_, _*_, _%_, _≤_, _<_}
+use Prim.Native.Nat.{ℕ, _+_, _*_}
 use lib.Dec.{eqb}
 use lib.ListN.{length}
 use Rattle.catalogue_standings.specs.Rows.{settle}
 use Rattle.catalogue.specs.declared.Entry.{Entry}
-use Rattle.image_frames.specs.Numbers.{placeOf, numberIn}
-use Rattle.image_soundness.specs.Windows.{touches}
+use Rattle.image_frames.specs.Frames.{bodyOf}
 use Rattle.image.specs.Cursors.{cursor, active}
 use Rattle.image.specs.Effects.{zerosFor}
-use Rattle.image.specs.Image.{stateIn}
+use Rattle.image.specs.Image.{entryAt, stateIn}
 use Rattle.image.specs.Table.{loadVerdict}
 use Rattle.image.specs.declared.Cursor.{Cursor}
 use Rattle.image.specs.declared.Loaded.{Loaded}
 use Rattle.image_load.specs.declared.Turn.{Turn}
-use Rattle.image_load.specs.declared.entries.Spot.{Spot}
 
 -- All but the entries, for a catalogue of `count` of them.
 module _ (image map : List ℕ) (count : ℕ) (scratch : List ℕ) where
@@ -37,23 +34,11 @@ module _ (image map : List ℕ) (count : ℕ) (scratch : List ℕ) where
 unfoldable pub firstCursor : Loaded → Cursor
 firstCursor loaded = cursor 3 (not (eqb (loaded .number) 0))
 
--- The entry that stands at number k of the body.
-unfoldable pub entryFrom : List ℕ → ℕ → Entry
-entryFrom image k = record { mark = numberIn image k; start = numberIn image (k + 1); length = numberIn image (k + 2) }
-
--- A spot is where the entry of its sheet stands: the byte of the image, and the number of its frame.
-abbrev pub Stands : Spot → Type 0
-Stands spot = (spot .byte ≡ placeOf (3 + 3 * spot .sheet)) × (spot .within ≡ (3 + 3 * spot .sheet) % 124)
-
--- No entry of the sheets from i on and before k has a part of its extent in the window that begins at block lo.
-abbrev pub Apart : List ℕ → ℕ → ℕ → ℕ → Type 0
-Apart image lo i k = (j : ℕ) → i ≤ j → j < k → touches lo (entryFrom image (3 + 3 * j)) ≡ false
-
 -- An entry is read at the cursor, which goes on behind it.
 unfoldable pub turnAfter : List ℕ → Cursor → Entry → Turn
 turnAfter image at e =
     cond (active at image)
-    (record { state = cursor (at .next + 3) false; entry = entryFrom image (at .next) })
+    (record { state = cursor (at .next + 3) false; entry = entryAt (bodyOf image) (4 * at .next) })
     (record { state = cursor (at .next) true; entry = e })
 
 unfoldable pub readCursor : List Entry → List ℕ → Cursor → Cursor

@@ -1,16 +1,11 @@
 // Load (document 01, "Saved image"): the verdict, and then the map and the entries one by one. Everything is validated before
 // the first word of the map or the first entry is written, so that a refusal changes nothing but the scratch.
-pub mod content;
-pub mod entries;
-
 ghost use mathlib.Core.Path.{_≡_};
 ghost use lib.ListN.{length};
 ghost use Rattle.image.specs.Effects.{rowNumber, loadResult, loadMap, loadEntries, loadScratch};
 ghost use Rattle.image_load.specs.Parts.{coreLoaded, coreMap, coreScratch, firstCursor, turnAfter, readCursor};
 ghost use Rattle.image_load.specs.Parts.{readEntries};
 ghost use Rattle.image.specs.Table.{loadVerdict};
-use crate::content::content_holds;
-use crate::entries::entry_at;
 use block::BLOCK;
 use catalogue::Entry;
 use image::Cursor;
@@ -18,6 +13,8 @@ use image::Loaded;
 use image::limits::head_fits;
 use image::limits::load_fits;
 use image::limits::whole_blocks;
+use image_content::content_holds;
+use image_content::entries::entry_at;
 use image_frames::all_framed;
 use image_frames::number;
 use image_frames::read_words;

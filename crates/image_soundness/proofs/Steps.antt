@@ -3,11 +3,11 @@
 use mathlib.Core.Path.{_≡_, refl, sym, ap, ap₂, _∙_}
 use mathlib.Core.Bool.{Bool, true, false, not, _&&_, cond}
 use mathlib.Core.List.{List}
-use Prim.Native.Nat.{ℕ, _+_, _-_, _*_, _/_, _≤_, _<_, min}
+use Prim.Native.Nat.{ℕ, _+_, _-_, _*_, _/_, _%_, _≤_, _<_, min}
 use native.Mathlib.Omega.{arith}
 use lib.Dec.{eqb, leb, ltb}
 use lib.ListN.{length, replicate}
-use borrow.Author.Tests.{eq-eqb, ne-eqb, le-leb, lt-leb, leb-true}
+use borrow.Author.Tests.{eq-eqb, ne-eqb, le-leb, lt-leb, le-ltb, leb-true}
 use Rattle.map_blocks.specs.Blocks.{all}
 use Rattle.map_blocks.specs.Maps.{inState, isFresh}
 use Rattle.laws.proofs.Bools.{and-left, and-right}
@@ -71,6 +71,12 @@ module _ (map : List ℕ) (w : Window) (scratch : List ℕ) where
 pub has-part : (lo : ℕ) (e : Entry) (from to : ℕ) → from ≡ partFrom lo e → to ≡ partTo lo e → ltb from to ≡ touches lo e
 unfolding touches
 has-part lo e from to f t = ap₂ ltb f t
+
+-- the start counted back from the window's last block, in 64 bits: as far as the extent is long, and 4095 more
+pub lies-apart : (lo : ℕ) (e : Entry) (back : ℕ) → back < 18446744073709551616
+    → (back + e .start) % 18446744073709551616 ≡ lo + 4095 → e .length + 4095 ≤ back → false ≡ touches lo e
+unfolding touches
+lies-apart lo e back small wraps far = sym (le-ltb (partFrom lo e) (partTo lo e) (omega arith))
 
 module _ (scratch : List ℕ) (s k : ℕ) where
   pub taken-short : length scratch < (s + k + 63) / 64 → false ≡ taken scratch s k

@@ -116,13 +116,18 @@ pub fn lesser(a: usize, b: usize) -> usize
     if a < b { a } else { b }
 }
 
-// Whether an extent has a part in the window that begins at block lo.
+// Whether an extent has a part in the window that begins at block lo. Most have none, and one comparison says so of both ends:
+// the start, counted back from the window's last block, is at least the length and 4095 more if the extent ends before the
+// window, and a number near 2^64 if it begins behind it.
 pub fn has_part(lo: u32, entry: Entry) -> bool
     ensures { λ r. ⌜ r ≡ touches lo entry ⌝ }
 {
     let low = lo as usize;
     let start = entry.start as usize;
     let blocks = entry.length as usize;
+    if blocks + 4095 <= std::num::wrapping_sub_usize(low + 4095, start) {
+        return false;
+    }
     let from = larger(start, low);
     let to = lesser(start + blocks, low + (WINDOW as usize));
     from < to

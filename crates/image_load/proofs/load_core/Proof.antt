@@ -19,7 +19,7 @@ use Rattle.image_load.proofs.load_core.Statement.{statement}
 use Rattle.image_load.proofs.load_core.Tie as tie
 use Rattle.image.proofs.Fitting.{head-to, load-fits-to}
 use Rattle.image.proofs.Verdicts.{load-accepted, accepted-to}
-use Rattle.image_load.proofs.Contents.{blocks-in, spare-in, map-read}
+use Rattle.image_load.proofs.Heads.{blocks-in, spare-in, map-read}
 
 abbrev loaded : ℕ → ℕ → ℕ → Loaded
 loaded number n spare = record { number = number; blocks = n; free = spare }

@@ -14,7 +14,7 @@ use Rattle.image.specs.Table.{headFits, loadFits}
 use Rattle.image_load.proofs.verdict.Statement.{statement}
 use Rattle.image_load.proofs.verdict.Tie as tie
 use Rattle.image.proofs.Fitting.{whole-to, head-to, load-fits-to}
-use Rattle.image_load.proofs.Contents.{blocks-in, spare-in, sheets-in}
+use Rattle.image_load.proofs.Heads.{blocks-in, spare-in, sheets-in}
 use Rattle.image_load.proofs.LoadRows.{load-row-12, load-row-13, load-row-14, load-row-1, load-row-content}
 use Rattle.image_load.proofs.LoadRows.{load-row-none}
 

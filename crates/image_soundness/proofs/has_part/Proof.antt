@@ -1,6 +1,7 @@
 -- `has_part` meets its contract.
 -- Assumes nothing.
-use Rattle.image_soundness.proofs.Steps.{has-part}
+use native.Mathlib.Omega.{arith}
+use Rattle.image_soundness.proofs.Steps.{has-part, lies-apart}
 use borrow.Author.Needs.{needs}
 use Rattle.image_soundness.proofs.has_part.Statement.{statement}
 use Rattle.image_soundness.proofs.has_part.Tie as tie
@@ -10,6 +11,20 @@ cast-start c = search needs
 
 cast-blocks : tie.Need-cast-blocks
 cast-blocks c = search needs
+
+add-if1 : tie.Need-add-if1
+add-if1 c = search needs
+
+add-wrapping-sub-usize : tie.Need-add-wrapping-sub-usize
+add-wrapping-sub-usize c = search needs
+
+wrapping-sub-usize-requires : tie.Need-wrapping-sub-usize-requires
+wrapping-sub-usize-requires c κs = search needs
+
+returns : tie.Need-returns
+returns c =
+    let w = c .before .wrapping-sub-usize in
+    lies-apart _ _ (w .result) (omega arith) (w .ensures) (omega arith)
 
 larger-requires : tie.Need-larger-requires
 larger-requires c κs = search needs
@@ -26,8 +41,8 @@ add-lesser-2 c = search needs
 lesser-requires : tie.Need-lesser-requires
 lesser-requires c κs = search needs
 
-returns : tie.Need-returns
-returns c = has-part _ _ _ _ (c .before .larger .ensures) (c .lesser .ensures)
+returns-2 : tie.Need-returns-2
+returns-2 c = has-part _ _ _ _ (c .before .larger .ensures) (c .lesser .ensures)
 
 pub has-part-spec : {M : Type 1} → statement M
 has-part-spec =
@@ -35,9 +50,13 @@ has-part-spec =
     (tie.spec
     cast-start
     cast-blocks
+    add-if1
+    add-wrapping-sub-usize
+    wrapping-sub-usize-requires
+    returns
     larger-requires
     add-lesser
     cast-lesser
     add-lesser-2
     lesser-requires
-    returns)
+    returns-2)
