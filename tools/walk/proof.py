@@ -1,6 +1,7 @@
 """The proof of one function: its code is that of a walk module, and its callees are those that the list names."""
 import re
 
+from walk.layout import WIDTH
 from walk.module import HOME, SIGN, proofs
 from walk.text import paragraphs
 from walk.wrong import Wrong
@@ -74,8 +75,14 @@ class Proof:
             lines += [f'use {at}.Symbol as {label}-def', f'use {at}.Met as {label}-met']
             lines += [f'use {at} as {label}-said'] if walk.over else []
         at = proofs(here, here, self.path.replace('::', '.'))
-        return lines + [f'use {at}.Key.{{name as #{self.name}}}', f'use {at} as {self.name}', f'use {at}.Statement as stated',
+        return lines + [f'use {at}.Key.{{name as {self.key()}}}', f'use {at} as {self.name}', f'use {at}.Statement as stated',
                         f'use {at}.Code as code']
+
+    def key(self):
+        """what the function's symbol is called here: by the function's name, unless the line that brings it were too long"""
+        at = proofs(self.here, self.here, self.path.replace('::', '.'))
+        named = '#' + self.name
+        return named if len(f'use {at}.Key.{{name as {named}}}') <= WIDTH else '#function'
 
     def struct(self, value):
         """the struct that this crate puts for a type by value of the walk: its crate, and where it is there"""
@@ -105,7 +112,7 @@ class Proof:
 unfolding code.routine tablesOf
 {name}-spec 𝓤 H 𝓜 𝓖 𝓡 =
     entered 𝓤 H (tripleOf 𝓤 H (𝓖 .A) {name}.signature ({name}.spec 𝓤 H (𝓖 .A) (𝓜 .mem) (𝓡 .run)))
-    (tables 𝓤 H 𝓜 𝓡 code.env .C) (tables 𝓤 H 𝓜 𝓡 code.env .Λ) #{name} code.function (code.unfolded 𝓤 H 𝓜 𝓡)
+    (tables 𝓤 H 𝓜 𝓡 code.env .C) (tables 𝓤 H 𝓜 𝓡 code.env .Λ) {self.key()} code.function (code.unfolded 𝓤 H 𝓜 𝓡)
     (meets {' '.join(walk.values + keys + self.given)}
     𝓤 H (𝓖 .A) (givenOf 𝓤 H 𝓜 𝓖){over} (tablesOf 𝓤 H 𝓜 (tables 𝓤 H 𝓜 𝓡 code.env))
     {cited})

@@ -14,7 +14,7 @@ use Rattle.block_seals.specs.Sealed as sealed-block
 use Rattle.block_seals.proofs.Blank.{blank-is-zeros}
 use Rattle.blocks_of_card.proofs.Card.{block-length}
 use Rattle.block_seals.proofs.Sealed.{sound-zeros}
-use Rattle.map_blocks.specs.Blocks.{all, least}
+use Rattle.map_blocks.specs.Blocks.{all, least, orElse}
 use Rattle.map_blocks.specs.declared.Found.{Found}
 use Rattle.map_blocks.specs.declared.Found.the-variants.{At, Nothing}
 use Rattle.map_blocks.proofs.Runs.{all-intro, all-elim, all-break}
@@ -25,7 +25,7 @@ use Rattle.catalogue_standings.specs.Searches.{startAt}
 use Rattle.call_put.specs.Fillings.{blankAt, fillingOf, withPlace}
 use Rattle.call_put.specs.declared.Filling.{Filling}
 use Rattle.call_put.specs.declared.Filling.the-variants.{Filled, Blank, Broken}
-use Rattle.map_blocks.proofs.Least.{orElse, least-passes, none-passes, least-more}
+use Rattle.map_blocks.proofs.Least.{least-passes, none-passes, least-more}
 
 -- ---- a blank block is not sound
 

@@ -1,7 +1,7 @@
 // Release: any standing but Absent becomes Absent, and its blocks free. The card's bytes stay.
 ghost use mathlib.Core.Path.{_≡_};
-ghost use Rattle.refusals.specs.Lent.{lent, noCard};
-ghost use Rattle.refusals.specs.Effects.{releaseOut, releaseMap};
+ghost use Rattle.refusals.specs.Lent.{lentBeside, noCard};
+ghost use Rattle.refusals.specs.Effects.{releaseOut, releaseMap, releaseSummary};
 use catalogue::ABSENT;
 use catalogue::Entry;
 use catalogue_standings::Answer;
@@ -12,12 +12,26 @@ use catalogue_standings::opening::refused_row;
 use map_blocks::run::FREE;
 use map_blocks::run::mark;
 use refusals::Out;
+use refusals::follow;
+use refusals::guide_fits;
 use refusals::refusal;
 
-pub fn release(n: u32, free: u32, map: &mut [u64], c: usize, entry: Entry, sheet: u32) -> Out
-    ensures { λ r. let q = lent n free (now (map .entry)) noCard c entry sheet in
-        ⌜ (r ≡ releaseOut q) × (now (map .exit) ≡ releaseMap q) ⌝ }
+pub fn release(
+    n: u32,
+    free: u32,
+    map: &mut [u64],
+    guided: bool,
+    summary: &mut [u32],
+    c: usize,
+    entry: Entry,
+    sheet: u32,
+) -> Out
+    ensures { λ r. let q = lentBeside guided (now (summary .entry)) n free (now (map .entry)) noCard c entry sheet in
+        ⌜ (r ≡ releaseOut q) × (now (map .exit) ≡ releaseMap q) × (now (summary .exit) ≡ releaseSummary q) ⌝ }
 {
+    if !guide_fits(guided, map.len(), summary.len()) {
+        return refusal(free, entry, 1);
+    }
     let opened = open_sheet(n, free, map, c, sheet, entry);
     let Opened::Stands(stands) = opened else {
         return refusal(free, entry, refused_row(opened));
@@ -31,6 +45,7 @@ pub fn release(n: u32, free: u32, map: &mut [u64], c: usize, entry: Entry, sheet
         return refusal(free, entry, 4);
     }
     mark(map, start, blocks, FREE);
+    follow(guided, map, n, summary, start, blocks);
     Out {
         free: free + blocks,
         entry: Entry {

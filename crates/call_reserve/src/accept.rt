@@ -1,7 +1,7 @@
 // Accept: Absent becomes Open at the start that is asked for, as a reserve does at the start that it finds.
 ghost use mathlib.Core.Path.{_≡_};
-ghost use Rattle.refusals.specs.Lent.{lent};
-ghost use Rattle.refusals.specs.Effects.{acceptOut, acceptMap, acceptCard};
+ghost use Rattle.refusals.specs.Lent.{lentBeside};
+ghost use Rattle.refusals.specs.Effects.{acceptOut, acceptMap, acceptSummary, acceptCard};
 use crate::take::take;
 use catalogue::Entry;
 use refusals::Out;
@@ -13,6 +13,8 @@ pub fn accept(
     n: u32,
     free: u32,
     map: &mut [u64],
+    guided: bool,
+    summary: &mut [u32],
     card: &mut [u8],
     c: usize,
     entry: Entry,
@@ -20,13 +22,27 @@ pub fn accept(
     start: u32,
     k: u32,
 ) -> Out
-    ensures { λ r. let q = lent n free (now (map .entry)) (now (card .entry)) c entry sheet in
+    ensures { λ r. let q = lentBeside guided (now (summary .entry)) n free (now (map .entry)) (now (card .entry)) c entry sheet
+        in
         ⌜ (r ≡ acceptOut q start k)
         × (now (map .exit) ≡ acceptMap q start k)
+        × (now (summary .exit) ≡ acceptSummary q start k)
         × (now (card .exit) ≡ acceptCard q start k) ⌝ }
 {
-    match accept_ruling(n, free, map, card, c, entry, sheet, start, k) {
+    match accept_ruling(
+        n,
+        free,
+        map,
+        guided,
+        summary,
+        card,
+        c,
+        entry,
+        sheet,
+        start,
+        k,
+    ) {
         Ruling::Refused(row) => refusal(free, entry, row),
-        Ruling::At(at) => take(n, free, map, card, at, k),
+        Ruling::At(at) => take(n, free, map, guided, summary, card, at, k),
     }
 }

@@ -1,13 +1,11 @@
 // Grow: the m blocks after an Open extent are added, taken and filled with zeros.
 ghost use mathlib.Core.Path.{_≡_};
-ghost use Rattle.refusals.specs.Lent.{lent};
-ghost use Rattle.refusals.specs.Effects.{growOut, growMap, growCard};
-use blocks_of_card::zero_blocks;
+ghost use Rattle.refusals.specs.Lent.{lentBeside};
+ghost use Rattle.refusals.specs.Effects.{growOut, growMap, growSummary, growCard};
+use crate::take::occupy;
 use catalogue::Entry;
 use catalogue::OPEN;
 use catalogue_standings::Answer;
-use map_blocks::run::TAKEN;
-use map_blocks::run::mark;
 use refusals::Out;
 use refusals::refusal;
 use refusals_rulings::Ruling;
@@ -17,22 +15,25 @@ pub fn grow(
     n: u32,
     free: u32,
     map: &mut [u64],
+    guided: bool,
+    summary: &mut [u32],
     card: &mut [u8],
     c: usize,
     entry: Entry,
     sheet: u32,
     m: u32,
 ) -> Out
-    ensures { λ r. let q = lent n free (now (map .entry)) (now (card .entry)) c entry sheet in
+    ensures { λ r. let q = lentBeside guided (now (summary .entry)) n free (now (map .entry)) (now (card .entry)) c entry sheet
+        in
         ⌜ (r ≡ growOut q m)
         × (now (map .exit) ≡ growMap q m)
+        × (now (summary .exit) ≡ growSummary q m)
         × (now (card .exit) ≡ growCard q m) ⌝ }
 {
-    match grow_ruling(n, free, map, card, c, entry, sheet, m) {
+    match grow_ruling(n, free, map, guided, summary, card, c, entry, sheet, m) {
         Ruling::Refused(row) => refusal(free, entry, row),
         Ruling::At(end) => {
-            mark(map, end, m, TAKEN);
-            zero_blocks(card, end, m);
+            occupy(n, map, guided, summary, card, end, m);
             Out {
                 free: free - m,
                 entry: Entry {

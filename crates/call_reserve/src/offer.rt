@@ -26,7 +26,20 @@ pub fn offer(
         before: n,
         step: 1,
     };
-    match reserve_ruling(n, free, map, card, c, entry, sheet, k, figures) {
+    let none = [0u32; 0];
+    match reserve_ruling(
+        n,
+        free,
+        map,
+        false,
+        &none,
+        card,
+        c,
+        entry,
+        sheet,
+        k,
+        figures,
+    ) {
         Ruling::Refused(row) => Answer::Refused(row),
         Ruling::At(start) => Answer::Start(start, k),
     }

@@ -1,8 +1,8 @@
 // Reserve: Absent becomes Open at the least fit within the figures.
 ghost use mathlib.Core.Path.{_≡_};
-ghost use Rattle.refusals.specs.Lent.{lent};
+ghost use Rattle.refusals.specs.Lent.{lentBeside};
 ghost use Rattle.refusals.specs.Placement.{placed};
-ghost use Rattle.refusals.specs.Effects.{reserveOut, reserveMap, reserveCard};
+ghost use Rattle.refusals.specs.Effects.{reserveOut, reserveMap, reserveSummary, reserveCard};
 use crate::take::take;
 use catalogue::Entry;
 use refusals::Figures;
@@ -15,6 +15,8 @@ pub fn reserve(
     n: u32,
     free: u32,
     map: &mut [u64],
+    guided: bool,
+    summary: &mut [u32],
     card: &mut [u8],
     c: usize,
     entry: Entry,
@@ -22,13 +24,27 @@ pub fn reserve(
     k: u32,
     figures: Figures,
 ) -> Out
-    ensures { λ r. let q = lent n free (now (map .entry)) (now (card .entry)) c entry sheet in
+    ensures { λ r. let q = lentBeside guided (now (summary .entry)) n free (now (map .entry)) (now (card .entry)) c entry sheet
+        in
         ⌜ (r ≡ reserveOut q k (placed figures))
         × (now (map .exit) ≡ reserveMap q k (placed figures))
+        × (now (summary .exit) ≡ reserveSummary q k (placed figures))
         × (now (card .exit) ≡ reserveCard q k (placed figures)) ⌝ }
 {
-    match reserve_ruling(n, free, map, card, c, entry, sheet, k, figures) {
+    match reserve_ruling(
+        n,
+        free,
+        map,
+        guided,
+        summary,
+        card,
+        c,
+        entry,
+        sheet,
+        k,
+        figures,
+    ) {
         Ruling::Refused(row) => refusal(free, entry, row),
-        Ruling::At(start) => take(n, free, map, card, start, k),
+        Ruling::At(start) => take(n, free, map, guided, summary, card, start, k),
     }
 }

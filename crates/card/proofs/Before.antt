@@ -9,11 +9,10 @@ use Prim.Native.Nat.{ℕ}
 use lib.Dec.{eqb}
 use lib.ListN.{length, replicate}
 use Rattle.catalogue.specs.declared.Entry.{Entry}
-use Rattle.catalogue_standings.specs.Rows.{Verdict, accepted, refused, settle}
+use Rattle.catalogue_standings.specs.Rows.{Verdict, accepted, refused, settle, rowNumber}
 use Rattle.catalogue_standings.specs.declared.Answer.the-variants.{Done, Refused}
 use Rattle.image.specs.Before.{saveVerdictBefore, loadVerdictBefore, noPausedBlocks}
 use Rattle.image.specs.Effects as images
-use Rattle.image.specs.Effects.{rowNumber}
 use Rattle.image.specs.Image.{imageOf, stateIn}
 use Rattle.image.specs.Table.{saveVerdict, loadVerdict}
 use Rattle.image.proofs.Before.{saves-as-before, loads-as-before, still-saves, still-loads}

@@ -2,6 +2,7 @@
 -- load as they did; and that the contracts are those of the specs.
 pub mod Before
 pub mod Contracts
+pub mod SummaryContracts
 pub mod Images
 pub mod Offers
 pub mod Promises

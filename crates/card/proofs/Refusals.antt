@@ -1,9 +1,9 @@
 -- A refusal hands the shape back as it came and changes nothing that is lent (document 01, "What the caller gets instead"):
 -- for each call that may change something, what its contract says where its verdict is a refusal.
 -- Assumes nothing.
-use mathlib.Core.Path.{_≡_, ap, _∙_}
+use mathlib.Core.Path.{_≡_, refl, ap, _∙_}
 use mathlib.Core.Bool.{Bool, false, true, cond}
-use mathlib.Core.List.{List}
+use mathlib.Core.List.{List, []}
 use Prim.Native.Nat.{ℕ, _+_, _-_}
 use lib.Dec.{eqb}
 use lib.ListN.{length, set}
@@ -25,6 +25,12 @@ use Rattle.catalogue_standings.specs.declared.Answer.{Answer}
 use Rattle.catalogue_standings.specs.declared.Answer.the-variants.{Done, Blank, Refused}
 use Rattle.refusals.specs.declared.Out.{Out}
 use Rattle.card.specs.declared.Shape.{Shape}
+use Rattle.refusals.specs.Guides.{guideAfter}
+use Rattle.card.specs.declared.Outcome.{Outcome}
+use Rattle.card.specs.Calls.{lentBy, reserveOutcomeBy, reserveMapBy, reserveSummaryBy, reserveEntriesBy, reserveCardBy}
+use Rattle.card.specs.Calls.{acceptOutcomeBy, acceptMapBy, acceptSummaryBy, acceptEntriesBy, acceptCardBy}
+use Rattle.card.specs.Calls.{growOutcomeBy, growMapBy, growSummaryBy, growEntriesBy, growCardBy}
+use Rattle.card.specs.Calls.{releaseOutcomeBy, releaseMapBy, releaseSummaryBy, releaseEntriesBy}
 use Rattle.card.specs.Calls.{Kept, lentTo, told, outcomeOf, isDone, freshOutcome, freshMap, freshEntries, reserveOutcome}
 use Rattle.card.specs.Calls.{acceptOutcome, acceptMap, acceptEntries, acceptCard}
 use Rattle.card.specs.Calls.{reserveMap, reserveEntries, reserveCard, growOutcome, growMap, growEntries, growCard}
@@ -39,6 +45,101 @@ handed-back : (shape : Shape) (entries : List Entry) (sheet : ℕ) (answer : Ans
 handed-back shape entries sheet answer out e =
     (ap (outcomeOf shape) e, ap (λ (o : Out). set entries sheet (o .entry)) e ∙ stored-back entries sheet)
 
+-- ---- the calls that have a form with a summary: a refusal changes no summary either
+
+module _ (guided : Bool) (summary : List ℕ) (s : Kept) (sheet number : ℕ) where
+  abbrev spareBy : ℕ
+  spareBy = s .shape .free
+
+  abbrev entryBy : Entry
+  entryBy = entryAt (s .entries) sheet
+
+  abbrev lentOn : Lent
+  lentOn = lentBy guided summary s (s .card) sheet
+
+  abbrev lentBare : Lent
+  lentBare = lentBy guided summary s noCard sheet
+
+  -- what is left of map, summary and card, where k blocks from a start on would become taken, or free
+  kept-back : (v : Verdict) (start k : ℕ) (to : Bool) → v ≡ refused number
+      → (settle v (marked (s .map) start k to) (λ number. s .map) ≡ s .map)
+      × (settle v (guideAfter guided summary (marked (s .map) start k to) (s .shape .blocks) start k) (λ number. summary)
+      ≡ summary)
+      × (settle v (zeroed (s .card) start k) (λ number. s .card) ≡ s .card)
+  kept-back v start k to h = (
+    ap (λ (w : Verdict). settle w (marked (s .map) start k to) (λ number. s .map)) h,
+    ap (λ (w : Verdict). settle w (guideAfter guided summary (marked (s .map) start k to) (s .shape .blocks) start k)
+        (λ number. summary)) h,
+    ap (λ (w : Verdict). settle w (zeroed (s .card) start k) (λ number. s .card)) h,
+  )
+
+  abbrev Refuses : Outcome → List ℕ → List ℕ → List Entry → List ℕ → Type 0
+  Refuses outcome map summary′ entries card =
+      (outcome ≡ told (s .shape) (Refused number))
+      × (map ≡ s .map)
+      × (summary′ ≡ summary)
+      × (entries ≡ s .entries)
+      × (card ≡ s .card)
+
+  -- plain and placed
+  pub reserve-refused-by : (k : ℕ) (p : Placement) → effects.reserveVerdict lentOn k p ≡ refused number
+      → Refuses (reserveOutcomeBy guided summary s sheet k p) (reserveMapBy guided summary s sheet k p)
+      (reserveSummaryBy guided summary s sheet k p) (reserveEntriesBy guided summary s sheet k p)
+      (reserveCardBy guided summary s sheet k p)
+  unfolding effects.reserveOut effects.reserveMap effects.reserveSummary effects.reserveCard effects.takenOut
+      effects.takenMap effects.takenSummary effects.takenCard
+  reserve-refused-by k p h =
+      let start : ℕ = effects.reserveStart lentOn k p in
+      let same = kept-back (effects.reserveVerdict lentOn k p) start k false h in
+      let back =
+      handed-back (s .shape) (s .entries) sheet (Refused number) _
+      (ap (λ (v : Verdict). settle v (effects.outOf (spareBy - k) (effects.entryOf openMark start k)
+      (startWithSpace (map-blocks.free (s .map)) (s .shape .blocks) start))
+      (effects.refusalOut spareBy entryBy)) h) in
+      (back .0, same .0, same .1, back .1, same .2)
+
+  pub accept-refused-by : (start k : ℕ) → effects.acceptVerdict lentOn start k ≡ refused number
+      → Refuses (acceptOutcomeBy guided summary s sheet start k) (acceptMapBy guided summary s sheet start k)
+      (acceptSummaryBy guided summary s sheet start k) (acceptEntriesBy guided summary s sheet start k)
+      (acceptCardBy guided summary s sheet start k)
+  unfolding effects.acceptOut effects.acceptMap effects.acceptSummary effects.acceptCard effects.takenOut effects.takenMap
+      effects.takenSummary effects.takenCard
+  accept-refused-by start k h =
+      let same = kept-back (effects.acceptVerdict lentOn start k) start k false h in
+      let back =
+      handed-back (s .shape) (s .entries) sheet (Refused number) _
+      (ap (λ (v : Verdict). settle v (effects.outOf (spareBy - k) (effects.entryOf openMark start k)
+      (startWithSpace (map-blocks.free (s .map)) (s .shape .blocks) start))
+      (effects.refusalOut spareBy entryBy)) h) in
+      (back .0, same .0, same .1, back .1, same .2)
+
+  pub grow-refused-by : (m : ℕ) → effects.growVerdict lentOn m ≡ refused number
+      → Refuses (growOutcomeBy guided summary s sheet m) (growMapBy guided summary s sheet m)
+      (growSummaryBy guided summary s sheet m) (growEntriesBy guided summary s sheet m) (growCardBy guided summary s sheet m)
+  unfolding effects.growOut effects.growMap effects.growSummary effects.growCard
+  grow-refused-by m h =
+      let same = kept-back (effects.growVerdict lentOn m) (entryBy .start + entryBy .length) m false h in
+      let back =
+      handed-back (s .shape) (s .entries) sheet (Refused number) _
+      (ap (λ (v : Verdict). settle v
+      (effects.outOf (spareBy - m) (effects.entryOf openMark (entryBy .start) (entryBy .length + m)) Done)
+      (effects.refusalOut spareBy entryBy)) h) in
+      (back .0, same .0, same .1, back .1, same .2)
+
+  pub release-refused-by : effects.releaseVerdict lentBare ≡ refused number
+      → Refuses (releaseOutcomeBy guided summary s sheet) (releaseMapBy guided summary s sheet)
+      (releaseSummaryBy guided summary s sheet) (releaseEntriesBy guided summary s sheet) (s .card)
+  unfolding effects.releaseOut effects.releaseMap effects.releaseSummary
+  release-refused-by h =
+      let same = kept-back (effects.releaseVerdict lentBare) (entryBy .start) (entryBy .length) true h in
+      let back =
+      handed-back (s .shape) (s .entries) sheet (Refused number) _
+      (ap (λ (v : Verdict). settle v (effects.outOf (spareBy + entryBy .length) (effects.entryOf absentMark 0 0) Done)
+      (effects.refusalOut spareBy entryBy)) h) in
+      (back .0, same .0, same .1, back .1, refl)
+
+-- ---- by the map alone
+
 module _ (s : Kept) (sheet number : ℕ) where
   abbrev free : ℕ
   free = s .shape .free
@@ -52,60 +153,28 @@ module _ (s : Kept) (sheet number : ℕ) where
   abbrev bare : Lent
   bare = lentTo s noCard sheet
 
-  -- plain and placed
   pub reserve-refused : (k : ℕ) (p : Placement) → effects.reserveVerdict q k p ≡ refused number
       → (reserveOutcome s sheet k p ≡ told (s .shape) (Refused number))
       × (reserveMap s sheet k p ≡ s .map)
       × (reserveEntries s sheet k p ≡ s .entries)
       × (reserveCard s sheet k p ≡ s .card)
-  unfolding effects.reserveOut effects.reserveMap effects.reserveCard effects.takenOut effects.takenMap effects.takenCard
-  reserve-refused k p h =
-      let start : ℕ = effects.reserveStart q k p in
-      let back =
-      handed-back (s .shape) (s .entries) sheet (Refused number) _
-      (ap (λ (v : Verdict). settle v (effects.outOf (free - k) (effects.entryOf openMark start k)
-      (startWithSpace (map-blocks.free (s .map)) (s .shape .blocks) start))
-      (effects.refusalOut free e)) h) in (
-        back .0,
-        ap (λ (v : Verdict). settle v (marked (s .map) start k false) (λ number. s .map)) h,
-        back .1,
-        ap (λ (v : Verdict). settle v (zeroed (s .card) start k) (λ number. s .card)) h,
-      )
+  reserve-refused k p h = let same = reserve-refused-by false [] s sheet number k p h in
+      (same .0, same .1, same .3, same .4)
 
   pub accept-refused : (start k : ℕ) → effects.acceptVerdict q start k ≡ refused number
       → (acceptOutcome s sheet start k ≡ told (s .shape) (Refused number))
       × (acceptMap s sheet start k ≡ s .map)
       × (acceptEntries s sheet start k ≡ s .entries)
       × (acceptCard s sheet start k ≡ s .card)
-  unfolding effects.acceptOut effects.acceptMap effects.acceptCard effects.takenOut effects.takenMap effects.takenCard
-  accept-refused start k h =
-      let back =
-      handed-back (s .shape) (s .entries) sheet (Refused number) _
-      (ap (λ (v : Verdict). settle v (effects.outOf (free - k) (effects.entryOf openMark start k)
-      (startWithSpace (map-blocks.free (s .map)) (s .shape .blocks) start))
-      (effects.refusalOut free e)) h) in (
-        back .0,
-        ap (λ (v : Verdict). settle v (marked (s .map) start k false) (λ number. s .map)) h,
-        back .1,
-        ap (λ (v : Verdict). settle v (zeroed (s .card) start k) (λ number. s .card)) h,
-      )
+  accept-refused start k h = let same = accept-refused-by false [] s sheet number start k h in
+      (same .0, same .1, same .3, same .4)
 
   pub grow-refused : (m : ℕ) → effects.growVerdict q m ≡ refused number
       → (growOutcome s sheet m ≡ told (s .shape) (Refused number))
       × (growMap s sheet m ≡ s .map)
       × (growEntries s sheet m ≡ s .entries)
       × (growCard s sheet m ≡ s .card)
-  unfolding effects.growOut effects.growMap effects.growCard
-  grow-refused m h =
-      let back =
-      handed-back (s .shape) (s .entries) sheet (Refused number) _
-      (ap (λ (v : Verdict). settle v (effects.outOf (free - m) (effects.entryOf openMark (e .start) (e .length + m)) Done)
-      (effects.refusalOut free e)) h) in (
-        back .0,
-        ap (λ (v : Verdict). settle v (marked (s .map) (e .start + e .length) m false) (λ number. s .map)) h,
-        back .1,
-        ap (λ (v : Verdict). settle v (zeroed (s .card) (e .start + e .length) m) (λ number. s .card)) h,
-      )
+  grow-refused m h = let same = grow-refused-by false [] s sheet number m h in (same .0, same .1, same .3, same .4)
 
   pub put-refused : (place : ℕ) (payload : List ℕ) → effects.putVerdict q place payload ≡ refused number
       → (putOutcome s sheet place payload ≡ told (s .shape) (Refused number))
@@ -147,13 +216,7 @@ module _ (s : Kept) (sheet number : ℕ) where
       → (releaseOutcome s sheet ≡ told (s .shape) (Refused number))
       × (releaseMap s sheet ≡ s .map)
       × (releaseEntries s sheet ≡ s .entries)
-  unfolding effects.releaseOut effects.releaseMap
-  release-refused h =
-      let back =
-      handed-back (s .shape) (s .entries) sheet (Refused number) _
-      (ap (λ (v : Verdict). settle v (effects.outOf (free + e .length) (effects.entryOf absentMark 0 0) Done)
-      (effects.refusalOut free e)) h) in
-      (back .0, ap (λ (v : Verdict). settle v (marked (s .map) (e .start) (e .length) true) (λ number. s .map)) h, back .1)
+  release-refused h = let same = release-refused-by false [] s sheet number h in (same .0, same .1, same .3)
 
   pub show-refused : (place : ℕ) (buffer : List ℕ) → effects.showVerdict q place buffer ≡ refused number
       → (showOutcome s sheet place buffer ≡ told (s .shape) (Refused number))

@@ -3,7 +3,7 @@
 -- of it, and stores the entry that it hands back.
 -- Assumes nothing.
 use mathlib.Core.Bool.{Bool, true, false, cond}
-use mathlib.Core.List.{List}
+use mathlib.Core.List.{List, []}
 use Prim.Native.Nat.{ℕ}
 use lib.Dec.{eqb}
 use lib.ListN.{length, set}
@@ -12,9 +12,10 @@ use Rattle.catalogue.specs.Entries.{entryAt, clearedIf}
 use Rattle.catalogue.specs.declared.Entry.{Entry}
 use Rattle.catalogue_standings.specs.Limits.{freshFits}
 use Rattle.catalogue_standings.specs.declared.Answer.{Answer}
-use Rattle.catalogue_standings.specs.declared.Answer.the-variants.{Done, Start, Reads, Counted, Blank, Refused}
+use Rattle.catalogue_standings.specs.declared.Answer.the-variants.{Done, Start, Reads, Counted, Own, Blank, Refused}
 use Rattle.call_search.specs.Answers as whole
-use Rattle.refusals.specs.Lent.{Lent, lent, noCard}
+use Rattle.call_summary.specs.Answers as summaries
+use Rattle.refusals.specs.Lent.{Lent, lentBeside, noCard}
 use Rattle.refusals.specs.Placement.{Placement}
 use Rattle.refusals.specs.Effects as effects
 use Rattle.refusals.specs.declared.Out.{Out}
@@ -37,6 +38,7 @@ isDone Done = true
 isDone (Start s space) = false
 isDone (Reads m s l) = false
 isDone (Counted f r l) = false
+isDone (Own own) = false
 isDone (Blank p) = false
 isDone (Refused k) = false
 
@@ -67,6 +69,17 @@ searchOutcome shape map k = told shape (whole.searchAnswer (shape .blocks) (shap
 abbrev pub surveyOutcome : Shape → List ℕ → Outcome
 surveyOutcome shape map = told shape (whole.surveyAnswer (shape .blocks) (shape .free) map)
 
+-- A summary beside the map (document 02 (j)).
+module _ (shape : Shape) (map summary : List ℕ) where
+  abbrev pub buildOutcome : Outcome
+  buildOutcome = told shape (summaries.buildAnswer (shape .blocks) (shape .free) map summary)
+
+  abbrev pub buildSummary : List ℕ
+  buildSummary = summaries.builtSummary (shape .blocks) (shape .free) map summary
+
+  abbrev pub checkOutcome : Outcome
+  checkOutcome = told shape (summaries.checkAnswer (shape .blocks) (shape .free) map summary)
+
 -- ---- a sheet
 
 -- What the program keeps between two calls.
@@ -86,10 +99,104 @@ withCard says shape map entries card = says (kept shape map entries card)
 abbrev pub withoutCard : {A : Type 0} → (Kept → A) → Shape → List ℕ → List Entry → A
 withoutCard says shape map entries = says (kept shape map entries noCard)
 
--- What a call on a sheet is lent, with the card and without: the catalogue gives c and the sheet's entry.
+-- The same of a call that is lent a summary behind the map.
+abbrev pub bySummary : {A : Type 0} → (Bool → List ℕ → Kept → A) → Shape → List ℕ → List ℕ → List Entry → List ℕ → A
+bySummary says shape map summary entries card = says true summary (kept shape map entries card)
+
+abbrev pub bySummaryAlone : {A : Type 0} → (Bool → List ℕ → Kept → A) → Shape → List ℕ → List ℕ → List Entry → A
+bySummaryAlone says shape map summary entries = says true summary (kept shape map entries noCard)
+
+-- What a call on a sheet is lent, with the card and without: the catalogue gives c and the sheet's entry. It is guided by a
+-- summary, or by the map alone.
+abbrev pub lentBy : Bool → List ℕ → Kept → List ℕ → ℕ → Lent
+lentBy guided summary s card sheet =
+    lentBeside guided summary (s .shape .blocks) (s .shape .free) (s .map) card (length (s .entries))
+    (entryAt (s .entries) sheet)
+    sheet
+
 abbrev pub lentTo : Kept → List ℕ → ℕ → Lent
-lentTo s card sheet =
-    lent (s .shape .blocks) (s .shape .free) (s .map) card (length (s .entries)) (entryAt (s .entries) sheet) sheet
+lentTo s card sheet = lentBy false [] s card sheet
+
+-- ---- the calls that have a form with a summary (document 02 (j))
+
+module _ (guided : Bool) (summary : List ℕ) (s : Kept) (sheet : ℕ) where
+  abbrev lendsBy : Lent
+  lendsBy = lentBy guided summary s (s .card) sheet
+
+  abbrev lendsNoCardBy : Lent
+  lendsNoCardBy = lentBy guided summary s noCard sheet
+
+  -- reserve, plain or placed
+  abbrev reserveOutBy : ℕ → Placement → Out
+  reserveOutBy k placement = effects.reserveOut lendsBy k placement
+
+  abbrev pub reserveOutcomeBy : ℕ → Placement → Outcome
+  reserveOutcomeBy k placement = outcomeOf (s .shape) (reserveOutBy k placement)
+
+  abbrev pub reserveMapBy : ℕ → Placement → List ℕ
+  reserveMapBy k placement = effects.reserveMap lendsBy k placement
+
+  abbrev pub reserveSummaryBy : ℕ → Placement → List ℕ
+  reserveSummaryBy k placement = effects.reserveSummary lendsBy k placement
+
+  abbrev pub reserveEntriesBy : ℕ → Placement → List Entry
+  reserveEntriesBy k placement = set (s .entries) sheet (reserveOutBy k placement .entry)
+
+  abbrev pub reserveCardBy : ℕ → Placement → List ℕ
+  reserveCardBy k placement = effects.reserveCard lendsBy k placement
+
+  abbrev acceptOutBy : ℕ → ℕ → Out
+  acceptOutBy start k = effects.acceptOut lendsBy start k
+
+  abbrev pub acceptOutcomeBy : ℕ → ℕ → Outcome
+  acceptOutcomeBy start k = outcomeOf (s .shape) (acceptOutBy start k)
+
+  abbrev pub acceptMapBy : ℕ → ℕ → List ℕ
+  acceptMapBy start k = effects.acceptMap lendsBy start k
+
+  abbrev pub acceptSummaryBy : ℕ → ℕ → List ℕ
+  acceptSummaryBy start k = effects.acceptSummary lendsBy start k
+
+  abbrev pub acceptEntriesBy : ℕ → ℕ → List Entry
+  acceptEntriesBy start k = set (s .entries) sheet (acceptOutBy start k .entry)
+
+  abbrev pub acceptCardBy : ℕ → ℕ → List ℕ
+  acceptCardBy start k = effects.acceptCard lendsBy start k
+
+  abbrev growOutBy : ℕ → Out
+  growOutBy m = effects.growOut lendsBy m
+
+  abbrev pub growOutcomeBy : ℕ → Outcome
+  growOutcomeBy m = outcomeOf (s .shape) (growOutBy m)
+
+  abbrev pub growMapBy : ℕ → List ℕ
+  growMapBy m = effects.growMap lendsBy m
+
+  abbrev pub growSummaryBy : ℕ → List ℕ
+  growSummaryBy m = effects.growSummary lendsBy m
+
+  abbrev pub growEntriesBy : ℕ → List Entry
+  growEntriesBy m = set (s .entries) sheet (growOutBy m .entry)
+
+  abbrev pub growCardBy : ℕ → List ℕ
+  growCardBy m = effects.growCard lendsBy m
+
+  abbrev releaseOutBy : Out
+  releaseOutBy = effects.releaseOut lendsNoCardBy
+
+  abbrev pub releaseOutcomeBy : Outcome
+  releaseOutcomeBy = outcomeOf (s .shape) releaseOutBy
+
+  abbrev pub releaseMapBy : List ℕ
+  releaseMapBy = effects.releaseMap lendsNoCardBy
+
+  abbrev pub releaseSummaryBy : List ℕ
+  releaseSummaryBy = effects.releaseSummary lendsNoCardBy
+
+  abbrev pub releaseEntriesBy : List Entry
+  releaseEntriesBy = set (s .entries) sheet (releaseOutBy .entry)
+
+-- ---- by the map alone
 
 module _ (s : Kept) (sheet : ℕ) where
   abbrev lends : Lent
@@ -98,54 +205,44 @@ module _ (s : Kept) (sheet : ℕ) where
   abbrev lendsNoCard : Lent
   lendsNoCard = lentTo s noCard sheet
 
-  -- reserve, plain or placed
-  abbrev reserveOut : ℕ → Placement → Out
-  reserveOut k placement = effects.reserveOut lends k placement
-
   abbrev pub reserveOutcome : ℕ → Placement → Outcome
-  reserveOutcome k placement = outcomeOf (s .shape) (reserveOut k placement)
+  reserveOutcome k placement = reserveOutcomeBy false [] s sheet k placement
 
   abbrev pub reserveMap : ℕ → Placement → List ℕ
-  reserveMap k placement = effects.reserveMap lends k placement
+  reserveMap k placement = reserveMapBy false [] s sheet k placement
 
   abbrev pub reserveEntries : ℕ → Placement → List Entry
-  reserveEntries k placement = set (s .entries) sheet (reserveOut k placement .entry)
+  reserveEntries k placement = reserveEntriesBy false [] s sheet k placement
 
   abbrev pub reserveCard : ℕ → Placement → List ℕ
-  reserveCard k placement = effects.reserveCard lends k placement
+  reserveCard k placement = reserveCardBy false [] s sheet k placement
 
   abbrev pub offerOutcome : ℕ → Outcome
   offerOutcome k = told (s .shape) (effects.offerAnswer lends k)
 
-  abbrev acceptOut : ℕ → ℕ → Out
-  acceptOut start k = effects.acceptOut lends start k
-
   abbrev pub acceptOutcome : ℕ → ℕ → Outcome
-  acceptOutcome start k = outcomeOf (s .shape) (acceptOut start k)
+  acceptOutcome start k = acceptOutcomeBy false [] s sheet start k
 
   abbrev pub acceptMap : ℕ → ℕ → List ℕ
-  acceptMap start k = effects.acceptMap lends start k
+  acceptMap start k = acceptMapBy false [] s sheet start k
 
   abbrev pub acceptEntries : ℕ → ℕ → List Entry
-  acceptEntries start k = set (s .entries) sheet (acceptOut start k .entry)
+  acceptEntries start k = acceptEntriesBy false [] s sheet start k
 
   abbrev pub acceptCard : ℕ → ℕ → List ℕ
-  acceptCard start k = effects.acceptCard lends start k
-
-  abbrev growOut : ℕ → Out
-  growOut m = effects.growOut lends m
+  acceptCard start k = acceptCardBy false [] s sheet start k
 
   abbrev pub growOutcome : ℕ → Outcome
-  growOutcome m = outcomeOf (s .shape) (growOut m)
+  growOutcome m = growOutcomeBy false [] s sheet m
 
   abbrev pub growMap : ℕ → List ℕ
-  growMap m = effects.growMap lends m
+  growMap m = growMapBy false [] s sheet m
 
   abbrev pub growEntries : ℕ → List Entry
-  growEntries m = set (s .entries) sheet (growOut m .entry)
+  growEntries m = growEntriesBy false [] s sheet m
 
   abbrev pub growCard : ℕ → List ℕ
-  growCard m = effects.growCard lends m
+  growCard m = growCardBy false [] s sheet m
 
   abbrev pub putOutcome : ℕ → List ℕ → Outcome
   putOutcome place payload = told (s .shape) (effects.putAnswer lends place payload)
@@ -186,17 +283,14 @@ module _ (s : Kept) (sheet : ℕ) where
   abbrev pub resumeEntries : List Entry
   resumeEntries = set (s .entries) sheet (resumeOut .entry)
 
-  abbrev releaseOut : Out
-  releaseOut = effects.releaseOut lendsNoCard
-
   abbrev pub releaseOutcome : Outcome
-  releaseOutcome = outcomeOf (s .shape) releaseOut
+  releaseOutcome = releaseOutcomeBy false [] s sheet
 
   abbrev pub releaseMap : List ℕ
-  releaseMap = effects.releaseMap lendsNoCard
+  releaseMap = releaseMapBy false [] s sheet
 
   abbrev pub releaseEntries : List Entry
-  releaseEntries = set (s .entries) sheet (releaseOut .entry)
+  releaseEntries = releaseEntriesBy false [] s sheet
 
   abbrev pub standingOutcome : Outcome
   standingOutcome = told (s .shape) (effects.standingAnswer lendsNoCard)

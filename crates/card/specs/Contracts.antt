@@ -4,12 +4,19 @@
 -- proofs/Contracts.antt here and of the crate pagunlit; the promises (proofs/Promises.antt) are stated of them.
 -- Assumes nothing.
 use mathlib.Core.Path.{_≡_}
+use mathlib.Core.Bool.{true}
 use mathlib.Core.List.{List}
 use Prim.Native.Nat.{ℕ}
 use Rattle.catalogue.specs.declared.Entry.{Entry}
 use Rattle.card.specs.Calls.{Kept, freshOutcome, freshMap, freshEntries, searchOutcome, surveyOutcome}
 use Rattle.card.specs.Reserves.{plainOutcome, plainMapLeft, plainEntries, plainCardLeft}
 use Rattle.card.specs.Reserves.{placedOutcome, placedMapLeft, placedEntries, placedCardLeft}
+use Rattle.card.specs.Calls.{buildOutcome, buildSummary, checkOutcome}
+use Rattle.card.specs.Reserves.{plainOutcomeBy, plainMapBy, plainSummaryBy, plainEntriesBy, plainCardBy}
+use Rattle.card.specs.Reserves.{placedOutcomeBy, placedMapBy, placedSummaryBy, placedEntriesBy, placedCardBy}
+use Rattle.card.specs.Calls.{acceptOutcomeBy, acceptMapBy, acceptSummaryBy, acceptEntriesBy, acceptCardBy}
+use Rattle.card.specs.Calls.{growOutcomeBy, growMapBy, growSummaryBy, growEntriesBy, growCardBy}
+use Rattle.card.specs.Calls.{releaseOutcomeBy, releaseMapBy, releaseSummaryBy, releaseEntriesBy}
 use Rattle.card.specs.Calls.{offerOutcome, acceptOutcome, acceptMap, acceptEntries, acceptCard}
 use Rattle.card.specs.Calls.{growOutcome, growMap, growEntries, growCard}
 use Rattle.card.specs.Calls.{putOutcome, putCard, completeOutcome, completeEntries, showOutcome, showBuffer}
@@ -101,6 +108,56 @@ module _ {R : Type 0} (how : Outcome → R) (s : Kept) (sheet : ℕ) where
 
   abbrev pub TellsStanding : R → Type 0
   TellsStanding r = r ≡ how (standingOutcome s sheet)
+
+-- ---- a summary beside the map (document 02 (j))
+
+module _ {R : Type 0} (how : Outcome → R) (shape : Shape) (map summary : List ℕ) where
+  abbrev pub Builds : R → List ℕ → Type 0
+  Builds r summary′ = (r ≡ how (buildOutcome shape map summary)) × (summary′ ≡ buildSummary shape map summary)
+
+  abbrev pub Checks : R → Type 0
+  Checks r = r ≡ how (checkOutcome shape map summary)
+
+-- The calls that are lent a summary, which is handed back behind the map.
+module _ {R : Type 0} (how : Outcome → R) (summary : List ℕ) (s : Kept) (sheet : ℕ) where
+  abbrev pub ReservesBy : ℕ → R → List ℕ → List ℕ → List Entry → List ℕ → Type 0
+  ReservesBy k r map′ summary′ entries′ card′ =
+      (r ≡ how (plainOutcomeBy true summary s sheet k))
+      × (map′ ≡ plainMapBy true summary s sheet k)
+      × (summary′ ≡ plainSummaryBy true summary s sheet k)
+      × (entries′ ≡ plainEntriesBy true summary s sheet k)
+      × (card′ ≡ plainCardBy true summary s sheet k)
+
+  abbrev pub ReservesPlacedBy : ℕ → ℕ → ℕ → ℕ → R → List ℕ → List ℕ → List Entry → List ℕ → Type 0
+  ReservesPlacedBy k from before step r map′ summary′ entries′ card′ =
+      (r ≡ how (placedOutcomeBy true summary s sheet k from before step))
+      × (map′ ≡ placedMapBy true summary s sheet k from before step)
+      × (summary′ ≡ placedSummaryBy true summary s sheet k from before step)
+      × (entries′ ≡ placedEntriesBy true summary s sheet k from before step)
+      × (card′ ≡ placedCardBy true summary s sheet k from before step)
+
+  abbrev pub AcceptsBy : ℕ → ℕ → R → List ℕ → List ℕ → List Entry → List ℕ → Type 0
+  AcceptsBy start k r map′ summary′ entries′ card′ =
+      (r ≡ how (acceptOutcomeBy true summary s sheet start k))
+      × (map′ ≡ acceptMapBy true summary s sheet start k)
+      × (summary′ ≡ acceptSummaryBy true summary s sheet start k)
+      × (entries′ ≡ acceptEntriesBy true summary s sheet start k)
+      × (card′ ≡ acceptCardBy true summary s sheet start k)
+
+  abbrev pub GrowsBy : ℕ → R → List ℕ → List ℕ → List Entry → List ℕ → Type 0
+  GrowsBy m r map′ summary′ entries′ card′ =
+      (r ≡ how (growOutcomeBy true summary s sheet m))
+      × (map′ ≡ growMapBy true summary s sheet m)
+      × (summary′ ≡ growSummaryBy true summary s sheet m)
+      × (entries′ ≡ growEntriesBy true summary s sheet m)
+      × (card′ ≡ growCardBy true summary s sheet m)
+
+  abbrev pub ReleasesBy : R → List ℕ → List ℕ → List Entry → Type 0
+  ReleasesBy r map′ summary′ entries′ =
+      (r ≡ how (releaseOutcomeBy true summary s sheet))
+      × (map′ ≡ releaseMapBy true summary s sheet)
+      × (summary′ ≡ releaseSummaryBy true summary s sheet)
+      × (entries′ ≡ releaseEntriesBy true summary s sheet)
 
 -- ---- the saved image
 

@@ -1,12 +1,12 @@
 -- What the cores of the calls on a sheet hand back and leave (src/cores.rt), for a shape and a slot of the catalogue. The
 -- public calls (Calls.antt) are made of the same definitions of the crates below.
 -- Assumes nothing.
-use mathlib.Core.Bool.{Bool}
-use mathlib.Core.List.{List}
+use mathlib.Core.Bool.{Bool, true, false}
+use mathlib.Core.List.{List, []}
 use Prim.Native.Nat.{ℕ}
 use Rattle.catalogue.specs.declared.Entry.{Entry}
 use Rattle.catalogue.specs.declared.Slot.{Slot}
-use Rattle.refusals.specs.Lent.{Lent, lent, noCard}
+use Rattle.refusals.specs.Lent.{Lent, lentBeside, noCard}
 use Rattle.refusals.specs.Effects as effects
 use Rattle.refusals.specs.declared.Out.{Out}
 use Rattle.card.specs.Calls.{told, isDone}
@@ -21,13 +21,24 @@ entryLeft out = out .entry
 abbrev pub doneBy : Outcome → Bool
 doneBy outcome = isDone (outcome .answer)
 
--- What a core is lent.
+-- What a core is lent, guided by a summary or by the map alone.
+abbrev pub lentAtBy : Bool → List ℕ → Shape → List ℕ → List ℕ → Slot → ℕ → Lent
+lentAtBy guided summary shape map card slot sheet =
+    lentBeside guided summary (shape .blocks) (shape .free) map card (slot .count) (slot .entry) sheet
+
 abbrev pub lentAt : Shape → List ℕ → List ℕ → Slot → ℕ → Lent
-lentAt shape map card slot sheet = lent (shape .blocks) (shape .free) map card (slot .count) (slot .entry) sheet
+lentAt shape map card slot sheet = lentAtBy false [] shape map card slot sheet
 
 -- What is said of that, as a function of what a core takes in order: with the card and without.
 abbrev pub withSlot : {A : Type 0} → (Lent → A) → Shape → List ℕ → List ℕ → Slot → ℕ → A
 withSlot says shape map card slot sheet = says (lentAt shape map card slot sheet)
+
+-- The same with a summary behind the map.
+abbrev pub withSummary : {A : Type 0} → (Lent → A) → Shape → List ℕ → List ℕ → List ℕ → Slot → ℕ → A
+withSummary says shape map summary card slot sheet = says (lentAtBy true summary shape map card slot sheet)
+
+abbrev pub withSummaryAlone : {A : Type 0} → (Lent → A) → Shape → List ℕ → List ℕ → Slot → ℕ → A
+withSummaryAlone says shape map summary slot sheet = says (lentAtBy true summary shape map noCard slot sheet)
 
 abbrev pub withSlotAlone : {A : Type 0} → (Lent → A) → Shape → List ℕ → Slot → ℕ → A
 withSlotAlone says shape map slot sheet = says (lentAt shape map noCard slot sheet)

@@ -46,6 +46,7 @@ pub fn is_done(outcome: Outcome) -> bool
         Answer::Start(_, _) => false,
         Answer::Reads(_, _, _) => false,
         Answer::Counted(_, _, _) => false,
+        Answer::Own(_) => false,
         Answer::Blank(_) => false,
         Answer::Refused(_) => false,
     }
@@ -111,10 +112,13 @@ pub fn reserve_placed_core(
         before: before,
         step: step,
     };
+    let mut none = [0u32; 0];
     call_reserve::reserve::reserve(
         shape.blocks,
         shape.free,
         map,
+        false,
+        &mut none,
         card,
         slot.count,
         entry,
@@ -159,10 +163,13 @@ pub fn accept_core(
         × (now (card .exit) ≡ acceptCard q start k) ⌝ }
 {
     let entry = slot.entry;
+    let mut none = [0u32; 0];
     call_reserve::accept::accept(
         shape.blocks,
         shape.free,
         map,
+        false,
+        &mut none,
         card,
         slot.count,
         entry,
@@ -186,10 +193,13 @@ pub fn grow_core(
         × (now (card .exit) ≡ growCard q m) ⌝ }
 {
     let entry = slot.entry;
+    let mut none = [0u32; 0];
     call_reserve::grow::grow(
         shape.blocks,
         shape.free,
         map,
+        false,
+        &mut none,
         card,
         slot.count,
         entry,
@@ -266,7 +276,17 @@ pub fn release_core(shape: Shape, map: &mut [u64], slot: Slot, sheet: u32) -> Ou
         ⌜ (r ≡ releaseOut q) × (now (map .exit) ≡ releaseMap q) ⌝ }
 {
     let entry = slot.entry;
-    call_release::release::release(shape.blocks, shape.free, map, slot.count, entry, sheet)
+    let mut none = [0u32; 0];
+    call_release::release::release(
+        shape.blocks,
+        shape.free,
+        map,
+        false,
+        &mut none,
+        slot.count,
+        entry,
+        sheet,
+    )
 }
 
 pub fn show_core(

@@ -2,6 +2,8 @@
 // that is for a sheet finds the sheet's entry, leaves the rest to a core on that entry by value, and stores what it hands
 // back. A refusal hands the shape back as it came and changes nothing that is lent but a scratch.
 mod cores;
+mod guided;
+pub mod summary;
 
 ghost use mathlib.Core.Bool.{true};
 ghost use mathlib.Core.Path.{_≡_};

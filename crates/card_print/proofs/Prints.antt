@@ -13,8 +13,8 @@ use Rattle.survey.specs.Survey.{countsOf}
 use Rattle.survey.specs.declared.Counts.{Counts}
 use Rattle.catalogue.specs.declared.Entry.{Entry}
 use Rattle.catalogue_standings.specs.Limits.{shapeFits}
-use Rattle.catalogue_standings.specs.Rows.{Verdict, accepted, refused, settle}
-use Rattle.image.specs.Effects.{rowNumber, loadResult, loadMap, loadEntries, loadScratch}
+use Rattle.catalogue_standings.specs.Rows.{Verdict, accepted, refused, settle, rowNumber}
+use Rattle.image.specs.Effects.{loadResult, loadMap, loadEntries, loadScratch}
 use Rattle.image_frames.specs.Frames.{totalOf}
 use Rattle.image.specs.Image.{sheetsIn, stateIn}
 use Rattle.image.specs.Table.{loadVerdict}

@@ -12,14 +12,13 @@ use Rattle.survey_bytes.specs.Runs.{headOf, longestOf}
 use Rattle.survey_bytes.proofs.Bytes.{runs-length}
 use Rattle.survey.specs.Survey.{blocks, countsOf}
 use Rattle.catalogue.specs.declared.Entry.{Entry}
-use Rattle.catalogue_standings.specs.Rows.{Row, row, Verdict, accepted, refused, firstOf, settle}
+use Rattle.catalogue_standings.specs.Rows.{Row, row, Verdict, accepted, refused, firstOf, settle, rowNumber}
 use Rattle.image_soundness.specs.Scratch.{scratchWords}
 use Rattle.image_soundness.specs.Sound.{State, undamaged, sound}
 use Rattle.image_soundness.proofs.Covers.{head-undamaged, tail-undamaged}
 use Rattle.image_soundness.proofs.Damage.{extent-inside}
 use Rattle.image_soundness.proofs.WhenSound.{sound-to}
 use Rattle.image_frames.specs.Frames.{totalOf}
-use Rattle.image.specs.Effects.{rowNumber}
 use Rattle.image.specs.Image.{framesFor, imageOf, blocksIn, freeCountIn, sheetsIn, stateIn}
 use Rattle.image.specs.Table.{saveFits, saveVerdict, loadRows, loadVerdict}
 use Rattle.image.proofs.Fitting.{head-to}

@@ -3,4 +3,5 @@ pub mod Entries
 pub mod Limits
 pub mod Openings
 pub mod Pauses
+pub mod Rows
 pub mod Tested

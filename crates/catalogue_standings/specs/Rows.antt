@@ -25,3 +25,7 @@ module _ {ℓ} {A : Type ℓ} where
   abbrev pub settle : Verdict → A → (ℕ → A) → A
   settle accepted done refusal = done
   settle (refused number) done refusal = refusal number
+
+-- 0 for acceptance, or the refusal's number.
+abbrev pub rowNumber : Verdict → ℕ
+rowNumber v = settle v 0 (λ number. number)

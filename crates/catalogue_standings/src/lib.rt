@@ -20,12 +20,13 @@ pub enum Opened {
 }
 
 // What a call answers: that it was done, a start and the space behind it, a standing's mark, start and length, a survey's
-// counts, the lowest blank place, which goes with 9, or another refusal's number.
+// counts, whether a summary is the map's own (1 or 0), the lowest blank place, which goes with 9, or another refusal's number.
 pub enum Answer {
     Done,
     Start(u32, u32),
     Reads(u32, u32, u32),
     Counted(u32, u32, u32),
+    Own(u32),
     Blank(u32),
     Refused(u32),
 }

@@ -1,4 +1,4 @@
-// What no call does: shapes, lengths, entries, words and bytes set from outside.
+// What no call does: shapes, lengths, entries, words, bytes and numbers of the summary set from outside.
 use crate::line;
 use crate::line::Line;
 use crate::state;
@@ -16,6 +16,23 @@ fn lend(s: Setup, l: Line) -> Setup {
         words: l.b as usize,
         sheets: l.c as usize,
         bytes: l.d as usize,
+        numbers: s.numbers,
+    }
+}
+
+fn lend_summary(s: Setup, l: Line) -> Setup {
+    let begun = s.begun;
+    let entries = s.entries;
+    Setup {
+        begun: begun,
+        line: l,
+        blocks: s.blocks,
+        free: s.free,
+        entries: entries,
+        words: s.words,
+        sheets: s.sheets,
+        bytes: s.bytes,
+        numbers: l.d as usize,
     }
 }
 
@@ -48,11 +65,19 @@ fn byte(card: &mut [u8], l: Line) {
     }
 }
 
-// A change of what lies in the map or on the card.
-pub fn buffers(map: &mut [u64], card: &mut [u8], l: Line) {
+fn number(summary: &mut [u32], l: Line) {
+    let at = l.c as usize;
+    if at < summary.len() {
+        summary[at] = l.d;
+    }
+}
+
+// A change of what lies in the map, in the summary or on the card.
+pub fn buffers(map: &mut [u64], summary: &mut [u32], card: &mut [u8], l: Line) {
     let kind = l.word;
     match kind {
         line::WORD => word(map, l),
+        line::NUMBER => number(summary, l),
         line::BYTE => byte(card, l),
         _ => {}
     }
@@ -63,6 +88,7 @@ pub fn kept(s: Setup, l: Line) -> Setup {
     let kind = l.word;
     match kind {
         line::LEND => lend(s, l),
+        line::SUMMARY => lend_summary(s, l),
         line::SHAPE => shape(s, l),
         line::ENTRY => entry(s, l),
         _ => s,

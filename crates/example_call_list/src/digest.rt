@@ -1,6 +1,6 @@
 // One number made of a buffer: from 1 on, 31 times the number and the next item added, modulo 2^32. The items are the words of
-// the map (each as its high and its low half), mark, start and length of the entries, or bytes. As 31 is odd, the number
-// changes with any single item.
+// the map (each as its high and its low half), mark, start and length of the entries, numbers of the summary, or bytes. As 31
+// is odd, the number changes with any single item.
 use catalogue::Entry;
 
 fn step(h: u64, x: u64) -> u64 {
@@ -8,6 +8,10 @@ fn step(h: u64, x: u64) -> u64 {
 }
 
 fn wide(x: u8) -> u64 {
+    x as u64
+}
+
+fn wide_number(x: u32) -> u64 {
     x as u64
 }
 
@@ -26,6 +30,16 @@ pub fn bytes(s: &[u8]) -> u64 {
     let mut i: usize = 0;
     while i < s.len() {
         sum = step(sum, wide(s[i]));
+        i += 1;
+    }
+    sum
+}
+
+pub fn numbers(summary: &[u32]) -> u64 {
+    let mut sum: u64 = 1;
+    let mut i: usize = 0;
+    while i < summary.len() {
+        sum = step(sum, wide_number(summary[i]));
         i += 1;
     }
     sum

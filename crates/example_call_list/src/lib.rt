@@ -23,21 +23,21 @@ pub fn read(text: &mut [u8]) -> usize
 
 // The list is read on by a byte, and printed but for the ends of lines that are to be done. At such an end, what the line
 // changes where it is no call. No more is lent than there is.
-pub fn next(map: &mut [u64], card: &mut [u8], s: Setup, byte: u8) -> Setup
+pub fn next(map: &mut [u64], summary: &mut [u32], card: &mut [u8], s: Setup, byte: u8) -> Setup
     ensures { λ r. ⌜ (r .words ≤ ListN.length (now (map .exit))) × (r .sheets ≤ 1025)
-        × (r .bytes ≤ ListN.length (now (card .exit))) ⌝ }
+        × (r .bytes ≤ ListN.length (now (card .exit))) × (r .numbers ≤ ListN.length (now (summary .exit))) ⌝ }
 {
     let begun = s.begun;
     print::echo(byte, line::ends(begun, byte));
     let t = state::read_on(s, byte);
     let l = t.line;
-    change::buffers(map, card, l);
-    state::within(change::kept(t, l), map.len(), card.len())
+    change::buffers(map, summary, card, l);
+    state::within(change::kept(t, l), map.len(), summary.len(), card.len())
 }
 
 // What came of the line is printed, and the state is what its call left.
-pub fn done(map: &[u64], card: &[u8], s: Setup, turn: Turn) -> Setup {
+pub fn done(map: &[u64], summary: &[u32], card: &[u8], s: Setup, turn: Turn) -> Setup {
     let l = s.line;
-    print::turn(map, card, turn, l);
+    print::turn(map, summary, card, turn, l);
     state::after(s, turn)
 }

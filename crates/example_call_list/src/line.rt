@@ -1,4 +1,5 @@
-// A line of the list: a word, and the numbers after it. The words of the calls are where they are made (example_calls).
+// A line of the list: a word, and the numbers after it. The words of the calls are where they are made (example_calls), but for
+// the two whose lines tell more.
 
 // A word is the number that its letters make, 256 for each letter, of the last eight of them. The last number of a line is d,
 // the one before it c, then b; the two before that are one number of 64 bits, `front`, since no line has more than five. Where
@@ -21,6 +22,15 @@ pub const ENTRY: u64 = 0x2b65_6e74_7279;
 pub const WORD: u64 = 0x2b_776f_7264;
 
 pub const BYTE: u64 = 0x2b_6279_7465;
+
+pub const SUMMARY: u64 = 0x2b73_756d_6d61_7279;
+
+pub const NUMBER: u64 = 0x2b_6e75_6d62_6572;
+
+// The last eight letters of summary-build and of summary-check, whose lines tell the summary.
+pub const SUMMARY_BUILD: u64 = 0x7279_2d62_7569_6c64;
+
+pub const SUMMARY_CHECK: u64 = 0x7279_2d63_6865_636b;
 
 // A heading, of any text.
 pub const HEADING: u64 = 0x3d;

@@ -1,5 +1,6 @@
 // What the examples print, on standard output.
 use crate::digest;
+use crate::line;
 use crate::line::Line;
 use crate::state::Turn;
 use catalogue_standings::Answer;
@@ -64,6 +65,7 @@ fn answer(a: Answer) {
         Answer::Start(start, space) => two(start, space),
         Answer::Reads(mark, start, length) => three(mark, start, length),
         Answer::Counted(free, runs, longest) => three(free, runs, longest),
+        Answer::Own(own) => one(0, own),
         Answer::Blank(place) => one(9, place),
         Answer::Refused(row) => refusal(row),
     }
@@ -81,8 +83,29 @@ fn shown(x: u64) {
     digest(x);
 }
 
+// The three numbers of group 0, and the digest of all numbers.
+fn summary(numbers: &[u32]) {
+    if numbers.len() < 3 {
+        return;
+    }
+    number(numbers[0]);
+    number(numbers[1]);
+    number(numbers[2]);
+    digest(digest::numbers(numbers));
+}
+
+// What only the lines of a build and of a check tell.
+fn told(numbers: &[u32], l: Line) {
+    let kind = l.word;
+    match kind {
+        line::SUMMARY_BUILD => summary(numbers),
+        line::SUMMARY_CHECK => summary(numbers),
+        _ => {}
+    }
+}
+
 // The end of a line: n, the free count, and the digests.
-fn end(map: &[u64], card: &[u8], turn: Turn) {
+fn end(map: &[u64], numbers: &[u32], card: &[u8], turn: Turn, l: Line) {
     sign(b';');
     number(turn.blocks);
     number(turn.free);
@@ -91,15 +114,16 @@ fn end(map: &[u64], card: &[u8], turn: Turn) {
     digest(digest::entries(entries));
     digest(digest::bytes(card));
     shown(turn.shown);
+    told(numbers, l);
     sign(b'\n');
 }
 
 // What came of a line. The empty line is none.
-pub fn turn(map: &[u64], card: &[u8], turn: Turn, l: Line) {
+pub fn turn(map: &[u64], numbers: &[u32], card: &[u8], turn: Turn, l: Line) {
     if l.word == 0 {
         return;
     }
     let a = turn.answer;
     answer(a);
-    end(map, card, turn);
+    end(map, numbers, card, turn, l);
 }

@@ -8,8 +8,8 @@ use catalogue::Entry;
 use catalogue_standings::Answer;
 
 // The line that is read, the line to be done (empty until its end is read), n and the free count, the entries, and how many
-// words of the map, entries and bytes of the card are lent. There is one entry more than a catalogue can have, so that it can
-// be too long.
+// words of the map, entries, bytes of the card and numbers of the summary are lent. There is one entry more than a catalogue
+// can have, so that it can be too long.
 pub struct Setup {
     pub begun: Line,
     pub line: Line,
@@ -19,6 +19,7 @@ pub struct Setup {
     pub words: usize,
     pub sheets: usize,
     pub bytes: usize,
+    pub numbers: usize,
 }
 
 // What a call handed back, the entries after it, and for show the digest of its buffer.
@@ -42,6 +43,13 @@ pub fn card_space() -> [u8; 36352]
     ensures { λ r. ⌜ 36352 ≡ ListN.length r ⌝ }
 {
     [0xaa; 36352]
+}
+
+// One number more than the summary of three words has.
+pub fn summary_space() -> [u32; 22]
+    ensures { λ r. ⌜ 22 ≡ ListN.length r ⌝ }
+{
+    [7; 22]
 }
 
 // A length, or the limit where it is more.
@@ -70,6 +78,7 @@ pub fn start() -> Setup {
         words: 2,
         sheets: 4,
         bytes: 35840,
+        numbers: 9,
     }
 }
 
@@ -86,6 +95,7 @@ pub fn with(s: Setup, blocks: u32, free: u32, entries: [Entry; 1025]) -> Setup {
         words: s.words,
         sheets: s.sheets,
         bytes: s.bytes,
+        numbers: s.numbers,
     }
 }
 
@@ -108,12 +118,13 @@ pub fn read_on(s: Setup, byte: u8) -> Setup {
         words: s.words,
         sheets: s.sheets,
         bytes: s.bytes,
+        numbers: s.numbers,
     }
 }
 
 // The state that lends no more than there is.
-pub fn within(s: Setup, words: usize, bytes: usize) -> Setup
-    ensures { λ r. ⌜ (r .words ≤ words) × (r .sheets ≤ 1025) × (r .bytes ≤ bytes) ⌝ }
+pub fn within(s: Setup, words: usize, numbers: usize, bytes: usize) -> Setup
+    ensures { λ r. ⌜ (r .words ≤ words) × (r .sheets ≤ 1025) × (r .bytes ≤ bytes) × (r .numbers ≤ numbers) ⌝ }
 {
     let begun = s.begun;
     let l = s.line;
@@ -127,6 +138,7 @@ pub fn within(s: Setup, words: usize, bytes: usize) -> Setup
         words: most(s.words, words),
         sheets: most(s.sheets, 1025),
         bytes: most(s.bytes, bytes),
+        numbers: most(s.numbers, numbers),
     }
 }
 

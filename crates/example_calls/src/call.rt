@@ -1,5 +1,6 @@
 // The call of a line, on what is lent to it.
 ghost use Prim.Native.Nat.{_≤_};
+ghost use lib.ListN;
 use crate::lend;
 use card::Shape;
 use example_call_list::line;
@@ -39,6 +40,17 @@ const RELEASE: u64 = 0x72_656c_6561_7365;
 const SHOW: u64 = 0x7368_6f77;
 
 const STANDING: u64 = 0x7374_616e_6469_6e67;
+
+// The last eight letters of the forms with a summary.
+const SUMMARY_RESERVE: u64 = 0x2d72_6573_6572_7665;
+
+const SUMMARY_PLACED: u64 = 0x792d_706c_6163_6564;
+
+const SUMMARY_ACCEPT: u64 = 0x792d_6163_6365_7074;
+
+const SUMMARY_GROW: u64 = 0x6172_792d_6772_6f77;
+
+const SUMMARY_RELEASE: u64 = 0x2d72_656c_6561_7365;
 
 // The calls that change neither the map nor the card.
 fn look(map: &[u64], card: &[u8], s: Setup) -> Turn
@@ -125,12 +137,73 @@ fn on_parts(map: &mut [u64], card: &mut [u8], s: Setup) -> Turn
     }
 }
 
-// The list is read on by a byte, and the call made of a line that it ends. The first words, entries and bytes are lent, as many
-// as the state says.
-pub fn step(map: &mut [u64], card: &mut [u8], s: Setup, byte: u8) -> Setup {
-    let t = example_call_list::next(map, card, s, byte);
-    let words = t.words;
-    let bytes = t.bytes;
-    let turn = on_parts(&mut map[0..words], &mut card[0..bytes], t);
-    example_call_list::done(map, card, t, turn)
+// The calls that are lent the summary.
+fn guided(map: &mut [u64], summary: &mut [u32], card: &mut [u8], s: Setup) -> Turn
+    requires { ⌜ s .sheets ≤ 1025 ⌝ }
+{
+    let l = s.line;
+    let entries = s.entries;
+    let shape = Shape {
+        blocks: s.blocks,
+        free: s.free,
+    };
+    let c = s.sheets;
+    let kind = l.word;
+    match kind {
+        SUMMARY_RESERVE => {
+            lend::reserve_with_summary(shape, map, summary, entries, c, card, l.c, l.d)
+        }
+        SUMMARY_PLACED => lend::reserve_placed_with_summary(
+            shape,
+            map,
+            summary,
+            entries,
+            c,
+            card,
+            line::fifth(l),
+            line::fourth(l),
+            l.b,
+            l.c,
+            l.d,
+        ),
+        SUMMARY_ACCEPT => {
+            lend::accept_with_summary(shape, map, summary, entries, c, card, l.b, l.c, l.d)
+        }
+        SUMMARY_GROW => lend::grow_with_summary(shape, map, summary, entries, c, card, l.c, l.d),
+        SUMMARY_RELEASE => lend::release_with_summary(shape, map, summary, entries, c, l.d),
+        line::SUMMARY_BUILD => lend::turn_of(shape.summary_build(map, summary), entries),
+        line::SUMMARY_CHECK => lend::turn_of(shape.summary_check(map, summary), entries),
+        _ => on_parts(map, card, s),
+    }
+}
+
+// The first words, numbers, entries and bytes are lent, as many as the state says.
+fn on_lent(map: &mut [u64], summary: &mut [u32], card: &mut [u8], s: Setup) -> Turn
+    requires { ⌜ (s .words ≤ ListN.length (now map)) × (s .sheets ≤ 1025) × (s .bytes ≤ ListN.length (now card))
+        × (s .numbers ≤ ListN.length (now summary)) ⌝ }
+{
+    let words = s.words;
+    let numbers = s.numbers;
+    let bytes = s.bytes;
+    guided(
+        &mut map[0..words],
+        &mut summary[0..numbers],
+        &mut card[0..bytes],
+        s,
+    )
+}
+
+// The call of a line is made, and what came of it printed.
+fn on_line(map: &mut [u64], summary: &mut [u32], card: &mut [u8], s: Setup) -> Setup
+    requires { ⌜ (s .words ≤ ListN.length (now map)) × (s .sheets ≤ 1025) × (s .bytes ≤ ListN.length (now card))
+        × (s .numbers ≤ ListN.length (now summary)) ⌝ }
+{
+    let turn = on_lent(map, summary, card, s);
+    example_call_list::done(map, summary, card, s, turn)
+}
+
+// The list is read on by a byte, and a line that it ends is done.
+pub fn step(map: &mut [u64], summary: &mut [u32], card: &mut [u8], s: Setup, byte: u8) -> Setup {
+    let t = example_call_list::next(map, summary, card, s, byte);
+    on_line(map, summary, card, t)
 }

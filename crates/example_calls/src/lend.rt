@@ -186,3 +186,100 @@ pub fn standing(shape: Shape, map: &[u64], entries: [Entry; 1025], c: usize, she
     let outcome = shape.standing(map, &all[..c], sheet);
     turn_of(outcome, all)
 }
+
+pub fn reserve_with_summary(
+    shape: Shape,
+    map: &mut [u64],
+    summary: &mut [u32],
+    entries: [Entry; 1025],
+    c: usize,
+    card: &mut [u8],
+    sheet: u32,
+    k: u32,
+) -> Turn
+    requires { ⌜ c ≤ 1025 ⌝ }
+{
+    let mut all = entries;
+    let outcome = shape.reserve_with_summary(map, summary, &mut all[..c], card, sheet, k);
+    turn_of(outcome, all)
+}
+
+pub fn reserve_placed_with_summary(
+    shape: Shape,
+    map: &mut [u64],
+    summary: &mut [u32],
+    entries: [Entry; 1025],
+    c: usize,
+    card: &mut [u8],
+    sheet: u32,
+    k: u32,
+    from: u32,
+    before: u32,
+    step: u32,
+) -> Turn
+    requires { ⌜ c ≤ 1025 ⌝ }
+{
+    let mut all = entries;
+    let outcome = shape.reserve_placed_with_summary(
+        map,
+        summary,
+        &mut all[..c],
+        card,
+        sheet,
+        k,
+        from,
+        before,
+        step,
+    );
+    turn_of(outcome, all)
+}
+
+pub fn accept_with_summary(
+    shape: Shape,
+    map: &mut [u64],
+    summary: &mut [u32],
+    entries: [Entry; 1025],
+    c: usize,
+    card: &mut [u8],
+    sheet: u32,
+    start: u32,
+    k: u32,
+) -> Turn
+    requires { ⌜ c ≤ 1025 ⌝ }
+{
+    let mut all = entries;
+    let outcome = shape.accept_with_summary(map, summary, &mut all[..c], card, sheet, start, k);
+    turn_of(outcome, all)
+}
+
+pub fn grow_with_summary(
+    shape: Shape,
+    map: &mut [u64],
+    summary: &mut [u32],
+    entries: [Entry; 1025],
+    c: usize,
+    card: &mut [u8],
+    sheet: u32,
+    m: u32,
+) -> Turn
+    requires { ⌜ c ≤ 1025 ⌝ }
+{
+    let mut all = entries;
+    let outcome = shape.grow_with_summary(map, summary, &mut all[..c], card, sheet, m);
+    turn_of(outcome, all)
+}
+
+pub fn release_with_summary(
+    shape: Shape,
+    map: &mut [u64],
+    summary: &mut [u32],
+    entries: [Entry; 1025],
+    c: usize,
+    sheet: u32,
+) -> Turn
+    requires { ⌜ c ≤ 1025 ⌝ }
+{
+    let mut all = entries;
+    let outcome = shape.release_with_summary(map, summary, &mut all[..c], sheet);
+    turn_of(outcome, all)
+}

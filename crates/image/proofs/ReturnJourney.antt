@@ -7,12 +7,12 @@ use mathlib.Core.List.{List}
 use Prim.Native.Nat.{ℕ, _*_}
 use lib.ListN.{length, replicate}
 use Rattle.map_blocks.specs.Maps.{wordsFor}
-use Rattle.catalogue_standings.specs.Rows.{Verdict, accepted, refused, settle}
+use Rattle.catalogue_standings.specs.Rows.{Verdict, accepted, refused, settle, rowNumber}
 use Rattle.catalogue.specs.declared.Entry.{Entry}
 use Rattle.image_frames.specs.Frames.{Bytes, totalOf}
 use Rattle.image_soundness.specs.Scratch.{scratchWords}
 use Rattle.image_soundness.specs.Sound.{State}
-use Rattle.image.specs.Effects.{rowNumber, saveNumber, saveImage, loadResult, loadMap, loadEntries, loadScratch}
+use Rattle.image.specs.Effects.{saveNumber, saveImage, loadResult, loadMap, loadEntries, loadScratch}
 use Rattle.image.specs.Image.{framesFor, imageOf, blocksIn, freeCountIn, sheetsIn, stateIn}
 use Rattle.image.specs.Table.{saveFits, saveVerdict, loadVerdict}
 use Rattle.image.specs.declared.Loaded.{Loaded}

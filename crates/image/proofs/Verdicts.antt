@@ -9,21 +9,13 @@ use lib.Dec.{eqb}
 use lib.ListN.{length}
 use borrow.Author.Tests.{eq-eqb, eqb-true}
 use Rattle.laws.proofs.Bools.{and-left, and-right}
-use Rattle.catalogue_standings.specs.Rows.{Row, row, Verdict, accepted, firstOf, settle}
+use Rattle.catalogue_standings.specs.Rows.{Row, row, Verdict, accepted, firstOf, settle, rowNumber}
 use Rattle.catalogue_standings.proofs.Openings.{skip, none-left}
+use Rattle.catalogue_standings.proofs.Rows.{zero-row}
 use Rattle.image_frames.specs.Frames.{totalOf, framed}
 use Rattle.image_soundness.specs.Sound.{State, sound}
-use Rattle.image.specs.Effects.{rowNumber}
 use Rattle.image.specs.Image.{framesFor, blocksIn, freeCountIn, sheetsIn, stateIn, filled}
 use Rattle.image.specs.Table.{saveFits, saveRows, saveVerdict, wholeBlocks, headFits, loadFits, loadRows, loadVerdict}
-
--- 0 is the number of an accepted call alone, where no row has it
-zero-row : (number : ℕ) (test : Bool) (rows : List Row) → (number ≡ 0 → ⊥)
-    → (rowNumber (firstOf rows) ≡ 0 → firstOf rows ≡ accepted)
-    → rowNumber (firstOf (row number test ∷ rows)) ≡ 0 → firstOf (row number test ∷ rows) ≡ accepted
-unfolding firstOf
-zero-row number true rows n f e = absurd (n e)
-zero-row number false rows n f e = f e
 
 -- a row that does not hold, of an accepted call
 pub row-passed : (number : ℕ) (test : Bool) (rows : List Row) → firstOf (row number (not test) ∷ rows) ≡ accepted

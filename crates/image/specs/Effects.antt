@@ -5,16 +5,12 @@ use mathlib.Core.Path.{_≡_}
 use mathlib.Core.List.{List}
 use Prim.Native.Nat.{ℕ}
 use lib.ListN.{length, replicate}
-use Rattle.catalogue_standings.specs.Rows.{Verdict, settle}
+use Rattle.catalogue_standings.specs.Rows.{Verdict, settle, rowNumber}
 use Rattle.catalogue.specs.declared.Entry.{Entry}
 use Rattle.image_soundness.specs.Sound.{State}
 use Rattle.image.specs.Image.{imageOf, stateIn}
 use Rattle.image.specs.Table.{saveVerdict, loadVerdict}
 use Rattle.image.specs.declared.Loaded.{Loaded}
-
--- 0 for a call that was accepted, or the refusal's number.
-abbrev pub rowNumber : Verdict → ℕ
-rowNumber v = settle v 0 (λ number. number)
 
 -- zeros, as many as the scratch has words
 abbrev pub zerosFor : List ℕ → List ℕ

@@ -6,9 +6,9 @@ use mathlib.Core.List.{List, []}
 use Prim.Native.Nat.{ℕ}
 use lib.ListN.{length}
 use Rattle.catalogue_standings.proofs.Openings.{skip, stop, none-left}
+use Rattle.catalogue_standings.specs.Rows.{rowNumber}
 use Rattle.image_frames.specs.Frames.{totalOf, framed}
 use Rattle.image_soundness.specs.Sound.{sound}
-use Rattle.image.specs.Effects.{rowNumber}
 use Rattle.image.specs.Image.{blocksIn, freeCountIn, sheetsIn, stateIn, filled}
 use Rattle.image.specs.Table.{wholeBlocks, headFits, loadFits, loadRows, loadVerdict}
 

@@ -8,11 +8,11 @@ use native.Mathlib.Omega.{arith}
 use lib.Dec.{eqb}
 use lib.ListN.{length}
 use borrow.Author.Tests.{ne-eqb}
-use Rattle.catalogue_standings.specs.Rows.{Verdict, accepted, refused, settle}
+use Rattle.catalogue_standings.specs.Rows.{Verdict, accepted, refused, settle, rowNumber}
 use Rattle.catalogue.specs.declared.Entry.{Entry}
 use Rattle.image_frames.specs.Frames.{bodyOf, totalOf}
 use Rattle.image.specs.Cursors.{cursor}
-use Rattle.image.specs.Effects.{rowNumber, loadResult, loadMap, loadEntries, loadScratch, Loads}
+use Rattle.image.specs.Effects.{loadResult, loadMap, loadEntries, loadScratch, Loads}
 use Rattle.image.specs.Image.{blocksIn, freeCountIn, sheetsIn, entryAt, entriesAt, entriesIn, stateIn}
 use Rattle.image_load.specs.Parts.{coreLoaded, coreMap, coreScratch, firstCursor, readEntries}
 use Rattle.image.specs.Table.{loadVerdict}

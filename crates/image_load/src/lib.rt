@@ -2,7 +2,8 @@
 // the first word of the map or the first entry is written, so that a refusal changes nothing but the scratch.
 ghost use mathlib.Core.Path.{_≡_};
 ghost use lib.ListN.{length};
-ghost use Rattle.image.specs.Effects.{rowNumber, loadResult, loadMap, loadEntries, loadScratch};
+ghost use Rattle.catalogue_standings.specs.Rows.{rowNumber};
+ghost use Rattle.image.specs.Effects.{loadResult, loadMap, loadEntries, loadScratch};
 ghost use Rattle.image_load.specs.Parts.{coreLoaded, coreMap, coreScratch, firstCursor, turnAfter, readCursor};
 ghost use Rattle.image_load.specs.Parts.{readEntries};
 ghost use Rattle.image.specs.Table.{loadVerdict};

@@ -8,7 +8,7 @@ use lib.Dec.{eqb}
 use lib.ListN.{length}
 use borrow.Author.Tests.{eq-eqb, ne-eqb}
 use Rattle.catalogue_standings.proofs.Openings.{skip, stop, none-left}
-use Rattle.image.specs.Effects.{rowNumber}
+use Rattle.catalogue_standings.specs.Rows.{rowNumber}
 use Rattle.image.specs.Image.{framesFor}
 use Rattle.image_save.specs.Parts.{numberBy}
 use Rattle.image.specs.Table.{saveFits}

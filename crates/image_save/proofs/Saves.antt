@@ -11,7 +11,7 @@ use borrow.Author.Tests.{eq-eqb, ne-eqb, eqb-true, eqb-false}
 use Rattle.map_blocks.specs.Maps.{wordsFor}
 use Rattle.block_bytes.specs.Numbers.{bytes4}
 use Rattle.block_bytes.proofs.Numbers.{bytes4-length}
-use Rattle.catalogue_standings.specs.Rows.{Verdict, accepted, refused, settle, row, firstOf}
+use Rattle.catalogue_standings.specs.Rows.{Verdict, accepted, refused, settle, row, firstOf, rowNumber}
 use Rattle.catalogue.specs.declared.Entry.{Entry}
 use Rattle.image_frames.specs.Frames.{frames, bodyOf, totalOf}
 use Rattle.block_bytes.specs.Replaced.{replaced}
@@ -24,7 +24,7 @@ use Rattle.image_soundness.specs.Sound.{State, sound}
 use Rattle.image_soundness.specs.declared.Tally.{Tally}
 use Rattle.image_soundness.proofs.Tested.{tested-sound}
 use Rattle.image.specs.Cursors.{cursor}
-use Rattle.image.specs.Effects.{rowNumber, saveNumber, saveScratch, saveImage, Saves}
+use Rattle.image.specs.Effects.{saveNumber, saveScratch, saveImage, Saves}
 use Rattle.image.specs.Image.{contentLength, framesFor, entryBytes, body, imageOf}
 use Rattle.image_save.specs.Parts.{firstTally, numberBy, headCursor, headImage, imageAfter, entriesCursor}
 use Rattle.image_save.specs.Parts.{entriesImage, restImage}

@@ -5,7 +5,7 @@ use mathlib.Core.List.{List, [], _∷_}
 use Prim.Native.Nat.{ℕ, _+_, _-_, _*_, _/_, _%_}
 use lib.Dec.{eqb, leb}
 use lib.ListN.{length, replicate}
-use Rattle.catalogue_standings.specs.Rows.{row, firstOf}
+use Rattle.catalogue_standings.specs.Rows.{row, firstOf, rowNumber}
 use Rattle.catalogue.specs.declared.Entry.{Entry}
 use Rattle.image_frames.specs.Frames.{totalOf, bodyOf, frames}
 use Rattle.block_bytes.specs.Replaced.{replaced}
@@ -13,7 +13,6 @@ use Rattle.image_frames.specs.Numbers.{withNumber, wordBytes}
 use Rattle.image_soundness.specs.Windows.{tally}
 use Rattle.image_soundness.specs.declared.Tally.{Tally}
 use Rattle.image.specs.Cursors.{cursor, active}
-use Rattle.image.specs.Effects.{rowNumber}
 use Rattle.image.specs.Image.{framesFor}
 use Rattle.image.specs.Table.{saveFits, wholeBlocks}
 use Rattle.image.specs.declared.Cursor.{Cursor}

@@ -3,17 +3,17 @@
 -- Assumes nothing.
 use mathlib.Core.Path.{_≡_, refl, sym, ap, ap₂, _∙_}
 use mathlib.Core.Logic.{⊎-elim}
-use mathlib.Core.Bool.{Bool, true, false, not, _&&_, cond}
+use mathlib.Core.Bool.{Bool, true, false, not, cond}
 use mathlib.Core.List.{List, [], _∷_}
-use Prim.Native.Nat.{ℕ, _+_, _-_, _*_, _≤_, _<_, min, max}
+use Prim.Native.Nat.{ℕ, _+_, _-_, _*_, _≤_, _<_, min}
 use native.Mathlib.Omega.{arith}
-use lib.Dec.{leb, ltb}
+use lib.Dec.{leb}
 use lib.ListN.{length}
 use borrow.Author.Tests.{ltb-true, ltb-false, lt-ltb, le-ltb, le-leb, not-true}
 use Rattle.map_blocks.specs.Blocks.{free, all}
 use Rattle.map_blocks.specs.Maps.{marked, inRun, inState}
 use Rattle.laws.proofs.Bools.{and-right, and-both, both-ways, clash}
-use Rattle.map_blocks.proofs.Maps.{map-free}
+use Rattle.map_blocks.proofs.Maps.{marked-length, map-free}
 use Rattle.map_blocks.proofs.Runs.{all-intro, all-elim}
 use Rattle.catalogue.specs.declared.Entry.{Entry}
 use Rattle.image_soundness.specs.Windows.{window, partFrom, partTo, touches, taken, partTaken, windowAfter, scratchAfter}
@@ -22,7 +22,6 @@ use Rattle.image_soundness.specs.Sound.{coverings, undamaged}
 use Rattle.image_soundness.specs.declared.Window.{Window}
 use Rattle.image_soundness.proofs.Covers.{decide, one, same-one, run-in, in-run, head-undamaged, tail-undamaged}
 use Rattle.image_soundness.proofs.Damage.{extent-inside}
-use Rattle.image_soundness.proofs.Rounds.{marked-length, over-length}
 
 -- ---- one entry
 
@@ -207,7 +206,7 @@ module _ (lo : ℕ) where
       (λ (p : partTaken lo scratch e ≡ true).
       let next : List ℕ = marked scratch (partFrom lo e - lo) (partTo lo e - partFrom lo e) true in
       let on = over-on (window lo false) scratch e es next refl (step-releases (window lo false) scratch e t p) in
-      let long : length next ≡ length scratch = marked-length scratch (partFrom lo e - lo) (partTo lo e - partFrom lo e) in
+      let long : length next ≡ length scratch = marked-length scratch (partFrom lo e - lo) (partTo lo e - partFrom lo e) true in
       let rest : coverings es (lo + b) + one (free next b) ≡ one (free (scratchOver es (window lo false) next) b) =
       over-adds es next (ap (λ (x : Window). x .stop) (sym (on .0)) ∙ o) b (omega arith) k in
       let m = moved lo scratch e t p b h k in
@@ -270,7 +269,8 @@ module _ (lo : ℕ) where
         once b h k in omega arith) t in
         let next : List ℕ = marked scratch (partFrom lo e - lo) (partTo lo e - partFrom lo e) true in
         let on = over-on (window lo false) scratch e es next refl (step-releases (window lo false) scratch e t p) in
-        let long : length next ≡ length scratch = marked-length scratch (partFrom lo e - lo) (partTo lo e - partFrom lo e) in
+        let long : length next ≡ length scratch =
+        marked-length scratch (partFrom lo e - lo) (partTo lo e - partFrom lo e) true in
         ap (λ (x : Window). x .stop) (on .0)
         ∙ over-passes es next (tail-undamaged n (λ b. false) e es u) (omega arith) (λ b h k.
         let m = moved lo scratch e t p b (omega arith) k in

@@ -2,7 +2,7 @@
 -- Assumes nothing.
 use mathlib.Core.Path.{_≡_, refl, sym, ap, subst, _∙_}
 use mathlib.Core.Logic.{⊎-elim}
-use mathlib.Core.Bool.{Bool, true, false, not, _&&_, cond}
+use mathlib.Core.Bool.{Bool, true, false, cond}
 use mathlib.Core.List.{List, [], _∷_}
 use Prim.Native.Nat.{ℕ, zero, suc, _+_, _-_, _/_, _≤_, _<_}
 use native.Mathlib.Omega.{arith}
@@ -11,7 +11,7 @@ use lib.ListN.{length, getD, set, replicate}
 use lib.Seq.{ext-getD, getD-set-same, getD-set-other}
 use Rattle.map_blocks.specs.Maps.{marked}
 use Rattle.laws.proofs.Bools.{order}
-use Rattle.map_blocks.proofs.Maps.{map-length}
+use Rattle.map_blocks.proofs.Maps.{marked-length}
 use Rattle.catalogue.specs.declared.Entry.{Entry}
 use Rattle.image_soundness.specs.Windows.{tallyAfter, tallyOf, wordsFrom, copied, partFrom, partTo, touches, partTaken}
 use Rattle.image_soundness.specs.Windows.{windowAfter, scratchAfter, windowOver, scratchOver, oneWindow, oneScratch}
@@ -110,10 +110,6 @@ copied-length map w scratch = by (leb (length scratch) 64)
     by true = words-length map (w .lo / 64) (length scratch)
     by false = refl
 
-pub marked-length : (scratch : List ℕ) (s l : ℕ) → length (marked scratch s l true) ≡ length scratch
-unfolding marked
-marked-length scratch s l = map-length _ (length scratch)
-
 pub after-length : (w : Window) (scratch : List ℕ) (e : Entry) → length (scratchAfter w scratch e) ≡ length scratch
 unfolding scratchAfter
 after-length w scratch e = by (touches (w .lo) e) (partTaken (w .lo) scratch e)
@@ -121,7 +117,7 @@ after-length w scratch e = by (touches (w .lo) e) (partTaken (w .lo) scratch e)
     by : (a b : Bool) → length (cond a (cond b
         (marked scratch (partFrom (w .lo) e - w .lo) (partTo (w .lo) e - partFrom (w .lo) e) true) scratch) scratch)
         ≡ length scratch
-    by true true = marked-length scratch (partFrom (w .lo) e - w .lo) (partTo (w .lo) e - partFrom (w .lo) e)
+    by true true = marked-length scratch (partFrom (w .lo) e - w .lo) (partTo (w .lo) e - partFrom (w .lo) e) true
     by true false = refl
     by false b = refl
 

@@ -24,6 +24,7 @@ use Rattle.catalogue_standings.specs.Standings.{extentHolds, standingOf, isDama
 use Rattle.catalogue_standings.specs.declared.Standing.{Standing}
 use Rattle.refusals.specs.Table.{Ask, on, View, rowsFor, tableOf, verdictOf}
 use Rattle.catalogue_standings.specs.Limits.{shapeFits, sheetsFit}
+use Rattle.refusals.specs.Placement.{leastWithin}
 use Rattle.refusals.specs.Lent.{lent, noCard}
 use Rattle.refusals.specs.Views.{viewAt, viewOn}
 use Rattle.catalogue_standings.proofs.Openings.{skip, stop}
@@ -102,6 +103,7 @@ reads n l i places = record {
   spare = spareIn n l;
   stands = standingIn (sheetAt l i);
   free = freeIn n l;
+  found = leastWithin (freeIn n l);
   blank = places .blank;
   sound = places .sound;
 }
@@ -253,6 +255,7 @@ module _ (n : ℕ) (l : List Sheet) (card : List ℕ) (k : Matches n l card) whe
         spare = spareIn n l;
         stands = stands-same t;
         free = free-map n l t;
+        found = leastWithin (free-map n l t);
         blank = λ p. sealed-block.blank (blockOf card (e .start + p));
         sound = λ p. sealed-block.sound i p (blockOf card (e .start + p));
       }
@@ -266,6 +269,7 @@ module _ (n : ℕ) (l : List Sheet) (card : List ℕ) (k : Matches n l card) whe
         spare = spareIn n l;
         stands = stands-same t;
         free = free-map n l t;
+        found = leastWithin (free-map n l t);
         blank = λ p. false;
         sound = λ p. false;
       }

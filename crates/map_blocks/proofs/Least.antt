@@ -8,14 +8,9 @@ use mathlib.Core.Bool.{Bool, true, false, cond}
 use Prim.Native.Nat.{ℕ, zero, suc, _+_, _≤_, _<_}
 use native.Mathlib.Nat.{add-zero, eq-or-lt-of-le}
 use native.Mathlib.Omega.{arith}
-use Rattle.map_blocks.specs.Blocks.{least}
+use Rattle.map_blocks.specs.Blocks.{least, orElse}
 use Rattle.map_blocks.specs.declared.Found.{Found}
 use Rattle.map_blocks.specs.declared.Found.the-variants.{At, Nothing}
-
--- the first answer, or the second where it has none
-abbrev pub orElse : Found → Found → Found
-orElse (At s) other = At s
-orElse Nothing other = other
 
 pub never-both : (r : ℕ) → At r ≡ Nothing → ⊥
 never-both r e = let z : _≡_ {A = ℕ} 0 1 = cc in omega arith

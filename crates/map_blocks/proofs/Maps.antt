@@ -15,7 +15,7 @@ use lib.Seq.{ext-getD}
 use lib.Pow.{shr-shr}
 use native.Mathlib.Numerals.{one-add}
 use Rattle.map_blocks.specs.Blocks.{free}
-use Rattle.map_blocks.specs.Maps.{pack, words, mapOf, inState}
+use Rattle.map_blocks.specs.Maps.{pack, words, mapOf, marked, inState}
 use Rattle.map_blocks.specs.Words.{bit, inWindow}
 use Rattle.laws.proofs.Bools.{and-swap}
 use Rattle.map_blocks.proofs.Bits.{low, word-ext, bit-and}
@@ -86,6 +86,11 @@ words-at f b (suc w) (suc i) l = let e : b + 64 + i * 64 ≡ b + suc i * 64 = om
 pub map-length : (f : ℕ → Bool) (w : ℕ) → length (mapOf f w) ≡ w
 unfolding mapOf
 map-length f w = words-length f 0 w
+
+-- a map whose blocks were marked has the words it had
+pub marked-length : (map : List ℕ) (start k : ℕ) (to : Bool) → length (marked map start k to) ≡ length map
+unfolding marked
+marked-length map start k to = map-length _ (length map)
 
 pub map-at : (f : ℕ → Bool) (w i : ℕ) → i < w → getD (mapOf f w) i 0 ≡ pack f (i * 64) 64
 unfolding mapOf

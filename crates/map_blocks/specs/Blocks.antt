@@ -38,6 +38,11 @@ unfoldable pub leastFit : (ℕ → Bool) → ℕ → ℕ → ℕ → ℕ → Fou
 unfolding least fit
 leastFit f from before step k = least (fit f from before step k) 0 before
 
+-- The first answer, or the second where it has none.
+abbrev pub orElse : Found → Found → Found
+orElse (At s) other = At s
+orElse Nothing other = other
+
 -- How many of the m numbers from s on pass a test f before the first that does not.
 unfoldable pub run : (ℕ → Bool) → ℕ → ℕ → ℕ
 run f s zero = 0

@@ -113,7 +113,7 @@ fn ending(t: u32) -> u64
 }
 
 // How many ones stand at the beginning of n.
-fn head(n: u64) -> u32
+pub fn head(n: u64) -> u32
     ensures { λ r. ⌜ Head n r ⌝ }
 {
     if n == ONES {

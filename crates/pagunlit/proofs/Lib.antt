@@ -1,2 +1,3 @@
 -- That the contracts of the C library are what they are meant to be.
 pub mod Contracts
+pub mod SummaryContracts

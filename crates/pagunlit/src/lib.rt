@@ -1,6 +1,8 @@
 // The C library: every call of the card for the dispenser's C program (include/pagunlit.h). Each function calls the method
 // of its name on `Shape` and turns the outcome into document 01's numbers. A slice is a pointer and a length to C; the
 // shape, the entries and the reply are structs of 32-bit numbers.
+pub mod summary;
+
 ghost use mathlib.Core.Path.{_≡_};
 ghost use Rattle.block.specs.Calls.{sealAnswer, afterSeal, checkAnswer};
 ghost use Rattle.counts.specs.Counts.{readOf, writeAnswer, afterWrite};

@@ -26,6 +26,7 @@ fn number_of(answer: Answer) -> u32
         Answer::Start(_, _) => 0,
         Answer::Reads(_, _, _) => 0,
         Answer::Counted(_, _, _) => 0,
+        Answer::Own(_) => 0,
         Answer::Blank(_) => 9,
         Answer::Refused(number) => number,
     }
@@ -40,6 +41,7 @@ fn first_of(answer: Answer) -> u32
         Answer::Start(start, _) => start,
         Answer::Reads(mark, _, _) => mark,
         Answer::Counted(free, _, _) => free,
+        Answer::Own(own) => own,
         Answer::Blank(place) => place,
         Answer::Refused(_) => 0,
     }
@@ -53,6 +55,7 @@ fn second_of(answer: Answer) -> u32
         Answer::Start(_, space) => space,
         Answer::Reads(_, start, _) => start,
         Answer::Counted(_, runs, _) => runs,
+        Answer::Own(_) => 0,
         Answer::Blank(_) => 0,
         Answer::Refused(_) => 0,
     }
@@ -66,6 +69,7 @@ fn third_of(answer: Answer) -> u32
         Answer::Start(_, _) => 0,
         Answer::Reads(_, _, length) => length,
         Answer::Counted(_, _, longest) => longest,
+        Answer::Own(_) => 0,
         Answer::Blank(_) => 0,
         Answer::Refused(_) => 0,
     }

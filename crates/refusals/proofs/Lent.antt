@@ -7,6 +7,8 @@ use Prim.Native.Nat.{ℕ, _*_}
 use lib.Dec.{eqb}
 use lib.ListN.{length}
 use Rattle.map_blocks.specs.Blocks.{free}
+use Rattle.laws.proofs.Bools.{and-right}
+use Rattle.refusals.specs.Guides.{guideFits}
 use Rattle.refusals.specs.Lent.{Lent}
 use Rattle.catalogue_standings.specs.Openings.{openedOf}
 use Rattle.catalogue_standings.specs.Standings.{standingOf}
@@ -15,7 +17,7 @@ use Rattle.catalogue_standings.specs.declared.Opened.{Opened}
 use Rattle.catalogue_standings.specs.declared.Opened.the-variants.{Refused, Stands}
 use Rattle.catalogue_standings.specs.declared.Standing.{Standing}
 use Rattle.catalogue_standings.specs.declared.Standing.the-variants.{Open}
-use Rattle.catalogue_standings.proofs.Limits.{CardFits, card-fits}
+use Rattle.catalogue_standings.proofs.Limits.{Fits, sheet-fits, CardFits, card-fits}
 use Rattle.catalogue_standings.proofs.Openings.{Extent, opened, open-extent}
 
 -- row 1 does not hold: the limits of n, and the lengths of map and card
@@ -23,8 +25,13 @@ abbrev pub Sized : Lent → Type 0
 Sized q = CardFits (q .n) (q .spare) (length (q .map)) (length (q .card))
 
 module _ (q : Lent) where
+  -- the limits of n and c, and the lengths of map and card
+  abbrev pub lengthsFit : Bool
+  lengthsFit = shapeFits (q .n) (q .spare) (length (q .map)) && sheetsFit (q .sheets) && eqb (length (q .card)) (512 * q .n)
+
+  -- and that of a summary, if one is lent
   abbrev pub allFits : Bool
-  allFits = shapeFits (q .n) (q .spare) (length (q .map)) && sheetsFit (q .sheets) && eqb (length (q .card)) (512 * q .n)
+  allFits = guideFits (q .guided) (q .summary) (length (q .map)) && lengthsFit
 
   abbrev pub standing : Standing
   standing = standingOf (q .n) (free (q .map)) (q .entry)
@@ -34,7 +41,22 @@ module _ (q : Lent) where
   first = openedOf allFits (q .sheets) (q .sheet) standing
 
   pub sized : allFits ≡ true → Sized q
-  sized e = card-fits (q .n) (q .spare) (length (q .map)) (q .sheets) (length (q .card)) e
+  sized e = card-fits (q .n) (q .spare) (length (q .map)) (q .sheets) (length (q .card))
+      (and-right (guideFits (q .guided) (q .summary) (length (q .map))) lengthsFit e)
+
+  -- a call that is not lent the card
+  abbrev pub allFitsAt : Bool
+  allFitsAt =
+      guideFits (q .guided) (q .summary) (length (q .map))
+      && (shapeFits (q .n) (q .spare) (length (q .map)) && sheetsFit (q .sheets))
+
+  abbrev pub firstAt : Opened
+  firstAt = openedOf allFitsAt (q .sheets) (q .sheet) standing
+
+  pub sized-at : allFitsAt ≡ true → Fits (q .n) (q .spare) (length (q .map))
+  sized-at e =
+      sheet-fits (q .n) (q .spare) (length (q .map)) (q .sheets)
+      (and-right (guideFits (q .guided) (q .summary) (length (q .map))) _ e)
 
   pub refused-first : (r : Opened) (number : ℕ) → r ≡ first → r ≡ Refused number → first ≡ Refused number
   refused-first r number asked told = sym asked ∙ told

@@ -2,9 +2,12 @@
 pub mod Rows
 pub mod Admitted
 pub mod Lent
+pub mod Guides
 pub mod Placement
 pub mod Places
 pub mod Room
+pub mod Beginnings
+pub mod Runs
 pub mod Taken
 pub mod Reserve
 pub mod Offer
@@ -18,3 +21,4 @@ pub mod Resume
 pub mod Release
 pub mod Show
 pub mod Standing
+pub mod Summaries

@@ -1,10 +1,10 @@
 -- What an offer answers: its verdict is that of a plain reserve, and an accept of what it answered is then accepted.
 -- Assumes nothing.
 use mathlib.Core.Path.{_≡_, refl, sym, ap, _∙_}
-use mathlib.Core.Bool.{true, false, not}
-use mathlib.Core.List.{[]}
+use mathlib.Core.Bool.{true, not}
 use Prim.Native.Nat.{ℕ}
 use native.Mathlib.Omega.{arith}
+use borrow.Author.Tests.{eqb-false}
 use Rattle.map_blocks.specs.Blocks.{free, fit}
 use Rattle.catalogue_standings.specs.Answers.{numberOf}
 use Rattle.catalogue_standings.specs.Rows.{Verdict, accepted, refused, settle}
@@ -13,12 +13,13 @@ use Rattle.catalogue_standings.specs.declared.Answer.the-variants.{Start, Refus
 use Rattle.catalogue_standings.proofs.Openings.{skip, none-left}
 use Rattle.refusals.specs.Effects.{reserveVerdict, reserveStart, reserveOut, reserveMap, reserveCard, offerAnswer}
 use Rattle.refusals.specs.Effects.{acceptVerdict, acceptOut, acceptMap, acceptCard, takenOut, takenMap, takenCard}
+use Rattle.refusals.specs.Guides.{foundBy}
 use Rattle.refusals.specs.Lent.{Lent}
-use Rattle.refusals.specs.Placement.{plain, placed, figures, figuresIn, leastWithin}
-use Rattle.refusals.specs.Table.{on, reserve, accept, tableOf}
+use Rattle.refusals.specs.Placement.{plain, placed, figures, figuresIn}
+use Rattle.refusals.specs.Table.{on, reserve, tableOf}
 use Rattle.refusals.specs.Views.{viewOn}
 use Rattle.refusals.specs.declared.Figures.{Figures}
-use Rattle.refusals.proofs.Placement.{plain-fit, found-fit, figured}
+use Rattle.refusals.proofs.Placement.{found-fit}
 use Rattle.refusals.proofs.Room.{viewOf}
 use Rattle.refusals.proofs.Rows.{clear}
 
@@ -53,7 +54,8 @@ module _ (q : Lent) (k : ℕ) where
       let rows = tableOf (viewOf q) (on (q .sheet) (reserve k plain)) in
       let g : Figures = figuresIn (q .n) plain in
       let f = free (q .map) in
-      let fits : fit f 0 (q .n) 1 k (startAt (leastWithin f g k)) ≡ true = found-fit f g k (clear 10 rows h .0) in
+      let fits : fit f 0 (q .n) 1 k (startAt (foundBy (q .guided) (q .summary) (q .map) g k)) ≡ true = found-fit (q .guided)
+      (q .summary) (q .map) g k (omega (arith, eqb-false k 0 (clear 3 rows h .0))) (clear 10 rows h .0) in
       skip 1 _ _ _ (clear 1 rows h .0)
       (skip 2 _ _ _ (clear 2 rows h .0)
       (skip 4 _ _ _ (clear 4 rows h .0)

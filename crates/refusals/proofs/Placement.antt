@@ -2,16 +2,19 @@
 -- Assumes nothing.
 use mathlib.Core.Path.{_≡_, refl}
 use mathlib.Core.Bool.{Bool, true, false, _||_, true≢false}
+use mathlib.Core.List.{List}
 use Prim.Native.Nat.{ℕ, _+_, _≤_, _<_}
 use native.Mathlib.Omega.{arith}
 use lib.Dec.{eqb, leb, ltb}
 use borrow.Author.Tests.{eq-eqb, ne-eqb, eqb-false, le-leb, lt-leb, leb-false, ltb-false}
-use Rattle.map_blocks.specs.Blocks.{fit, leastFit}
+use Rattle.map_blocks.specs.Blocks.{free, fit, leastFit}
 use Rattle.map_blocks.specs.declared.Found.{Found}
 use Rattle.map_blocks.specs.declared.Found.the-variants.{At, Nothing}
 use Rattle.map_blocks.proofs.Fits.{fit-is, is-fit, on-one}
 use Rattle.map_blocks.proofs.Least.{least-passes}
 use Rattle.catalogue_standings.specs.Searches.{none, startAt}
+use Rattle.summary_search.proofs.Searches.{by-fits}
+use Rattle.refusals.specs.Guides.{foundBy}
 use Rattle.refusals.specs.Placement.{misfigured, fitWithin, leastWithin}
 use Rattle.refusals.specs.declared.Figures.{Figures}
 
@@ -62,8 +65,14 @@ is-found (At s) e = refl
 is-found Nothing e = absurd (true≢false e)
 
 -- the least fit is a fit, where one was found
-pub found-fit : (f : ℕ → Bool) (g : Figures) (k : ℕ) → none (leastWithin f g k) ≡ false
+pub least-fits : (f : ℕ → Bool) (g : Figures) (k : ℕ) → none (leastWithin f g k) ≡ false
     → fitWithin f g k (startAt (leastWithin f g k)) ≡ true
 unfolding leastFit
-found-fit f g k h = least-passes (fitWithin f g k) 0 (g .before) (startAt (leastWithin f g k))
-    (is-found (leastWithin f g k) h) .test
+least-fits f g k h = least-passes (fitWithin f g k) 0 (g .before) _ (is-found _ h) .test
+
+-- so is what a search finds, by the map alone and by any summary
+pub found-fit : (guided : Bool) (summary map : List ℕ) (g : Figures) (k : ℕ) → 0 < k → none (foundBy guided summary map g k)
+    ≡ false
+    → fitWithin (free map) g k (startAt (foundBy guided summary map g k)) ≡ true
+found-fit true summary map g k some h = by-fits map summary (g .from) (g .before) (g .step) k some _ (is-found _ h)
+found-fit false summary map g k some h = least-fits (free map) g k h

@@ -1,7 +1,7 @@
 -- What the rows of release and its effects say: the verdict in each case, and what the call then hands back and leaves.
 -- Assumes nothing.
 use mathlib.Core.Path.{_≡_, refl, sym, ap, _∙_}
-use mathlib.Core.Bool.{true, false, _&&_}
+use mathlib.Core.Bool.{true, false}
 use mathlib.Core.List.{List, [], _∷_}
 use Prim.Native.Nat.{ℕ, _+_, _*_, _-_, _<_, _≤_}
 use native.Mathlib.Omega.{arith}
@@ -12,13 +12,15 @@ use types.Run as Run
 use Rattle.catalogue.specs.Entries.{absentMark}
 use Rattle.map_blocks.specs.Blocks.{free}
 use Rattle.map_blocks.specs.Maps.{marked}
+use Rattle.refusals.proofs.Lent as lent-laws
+use Rattle.refusals.specs.Guides.{guideAfter}
 use Rattle.refusals.specs.Lent.{Lent}
-use Rattle.refusals.specs.Effects.{entryOf, outOf, refusalOut, releaseVerdict, releaseOut, releaseMap}
-use Rattle.catalogue_standings.specs.Openings.{openedOf}
+use Rattle.refusals.specs.Effects.{entryOf, outOf, refusalOut, releaseVerdict, releaseOut, releaseMap, releaseSummary}
 use Rattle.catalogue_standings.specs.Rows.{Verdict, accepted, refused, settle}
 use Rattle.catalogue_standings.specs.Standings.{standingOf, isAbsent, lengthOf}
-use Rattle.refusals.specs.Table.{tableOf}
-use Rattle.catalogue_standings.specs.Limits.{shapeFits, sheetsFit}
+use Rattle.refusals.specs.Table.{on, release, tableOf}
+use borrow.Author.Tests.{not-false}
+use Rattle.refusals.proofs.Rows.{clear}
 use Rattle.refusals.specs.Views.{viewAt}
 use Rattle.catalogue_standings.specs.declared.Answer.the-variants.{Done}
 use Rattle.catalogue_standings.specs.declared.Opened.{Opened}
@@ -27,7 +29,7 @@ use Rattle.refusals.specs.declared.Out.{Out}
 use Rattle.catalogue_standings.specs.declared.Standing.{Standing}
 use Rattle.catalogue_standings.specs.declared.Standing.the-variants.{Absent, Paused, PausedWith, Open, Complete, Damaged}
 use Rattle.catalogue_standings.proofs.Entries.{Inside, inside-of}
-use Rattle.catalogue_standings.proofs.Limits.{Fits, sheet-fits}
+use Rattle.catalogue_standings.proofs.Limits.{Fits}
 use Rattle.catalogue_standings.proofs.Openings.{skip, stop, closed, opened, none-left, NotAbsent}
 
 pub present : (s : Standing) → NotAbsent s → isAbsent s ≡ false
@@ -48,22 +50,27 @@ module _ (q : Lent) where
   abbrev pub freed : List ℕ
   freed = marked (q .map) (q .entry .start) (q .entry .length) true
 
-  -- what is answered and what the map becomes, after a verdict
-  pub out : (v : Verdict) → verdict ≡ v → (r : Out) (after : List ℕ) → r ≡ settle v done (refusalOut (q .spare) (q .entry))
+  abbrev pub guideLeft : List ℕ
+  guideLeft = guideAfter (q .guided) (q .summary) freed (q .n) (q .entry .start) (q .entry .length)
+
+  -- what is answered and what the map and a summary become, after a verdict
+  pub out : (v : Verdict) → verdict ≡ v → (r : Out) (after summary : List ℕ)
+      → r ≡ settle v done (refusalOut (q .spare) (q .entry))
       → after ≡ settle v freed (λ number. q .map)
-      → (r ≡ releaseOut q) × (after ≡ releaseMap q)
-  unfolding releaseOut releaseMap
-  out v h r after made left = (
+      → summary ≡ settle v guideLeft (λ number. q .summary)
+      → (r ≡ releaseOut q) × (after ≡ releaseMap q) × (summary ≡ releaseSummary q)
+  unfolding releaseOut releaseMap releaseSummary
+  out v h r after summary made left guides = (
     made ∙ ap (λ (w : Verdict). settle w done (refusalOut (q .spare) (q .entry))) (sym h),
-    left
-        ∙ ap (λ (w : Verdict). settle w freed (λ number. q .map)) (sym h),
+    left ∙ ap (λ (w : Verdict). settle w freed (λ number. q .map)) (sym h),
+    guides ∙ ap (λ (w : Verdict). settle w guideLeft (λ number. q .summary)) (sym h),
   )
 
   abbrev pub stands : Standing
   stands = standingOf (q .n) (free (q .map)) (q .entry)
 
   abbrev pub first : Opened
-  first = openedOf (shapeFits (q .n) (q .spare) (length (q .map)) && sheetsFit (q .sheets)) (q .sheets) (q .sheet) stands
+  first = lent-laws.firstAt q
 
   pub shut : {o : Opened} (number : ℕ) → o ≡ first → o ≡ Refused number → verdict ≡ refused number
   unfolding releaseVerdict viewAt tableOf
@@ -78,7 +85,7 @@ module _ (q : Lent) where
   module _ (s : Standing) {o : Opened} (given : o ≡ first) (told : o ≡ Stands s) where
     -- the limits, and the extent to be freed
     pub limits : Fits (q .n) (q .spare) (length (q .map))
-    limits = sheet-fits (q .n) (q .spare) (length (q .map)) (q .sheets) (opened _ _ _ _ s [] (sym given ∙ told) .all-fits)
+    limits = lent-laws.sized-at q (opened _ _ _ _ s [] (sym given ∙ told) .all-fits)
 
     pub extent : Inside (q .n) (q .entry) stands
     extent = inside-of (q .n) (free (q .map)) (q .entry) (opened _ _ _ _ s [] (sym given ∙ told) .whole)
@@ -111,3 +118,8 @@ module _ (q : Lent) where
           ∙ skip 5 (isAbsent stands) _ accepted (ap isAbsent (x .same) ∙ present s differs)
           (skip 4 (ltb (q .n) (q .spare + lengthOf stands)) [] accepted
           (le-ltb (q .n) (q .spare + lengthOf stands) (omega arith)) none-left)
+
+-- what an accepted release shows of the lengths
+pub release-sized : (q : Lent) → releaseVerdict q ≡ accepted → Fits (q .n) (q .spare) (length (q .map))
+unfolding releaseVerdict viewAt tableOf
+release-sized q h = lent-laws.sized-at q (not-false _ (clear 1 (tableOf (viewAt q) (on (q .sheet) release)) h .0))

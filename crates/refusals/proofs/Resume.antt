@@ -1,19 +1,18 @@
 -- What the rows of resume and its effects say: the verdict in each case, and what the call then hands back and leaves.
 -- Assumes nothing.
 use mathlib.Core.Path.{_≡_, sym, ap, _∙_, subst}
-use mathlib.Core.Bool.{_&&_}
-use mathlib.Core.List.{List, [], _∷_}
+use mathlib.Core.List.{[]}
 use Prim.Native.Nat.{ℕ}
 use lib.ListN.{length}
 use Rattle.catalogue.specs.Entries.{completeMark}
 use Rattle.map_blocks.specs.Blocks.{free}
+use Rattle.refusals.proofs.Lent as lent-laws
 use Rattle.refusals.specs.Lent.{Lent}
 use Rattle.refusals.specs.Effects.{entryOf, outOf, refusalOut, resumeVerdict, resumeOut}
-use Rattle.catalogue_standings.specs.Openings.{openedOf, rowOf}
+use Rattle.catalogue_standings.specs.Openings.{rowOf}
 use Rattle.catalogue_standings.specs.Rows.{Verdict, accepted, refused, settle}
 use Rattle.catalogue_standings.specs.Standings.{standingOf}
 use Rattle.refusals.specs.Table.{tableOf}
-use Rattle.catalogue_standings.specs.Limits.{shapeFits, sheetsFit}
 use Rattle.refusals.specs.Views.{viewAt}
 use Rattle.catalogue_standings.specs.declared.Answer.the-variants.{Done}
 use Rattle.refusals.specs.declared.Out.{Out}
@@ -37,7 +36,7 @@ module _ (q : Lent) where
   stands = standingOf (q .n) (free (q .map)) (q .entry)
 
   abbrev pub first : Opened
-  first = openedOf (shapeFits (q .n) (q .spare) (length (q .map)) && sheetsFit (q .sheets)) (q .sheets) (q .sheet) stands
+  first = lent-laws.firstAt q
 
   pub shut : {o : Opened} (number : ℕ) → o ≡ first → o ≡ Refused number → resumeVerdict q ≡ refused number
   unfolding resumeVerdict viewAt tableOf

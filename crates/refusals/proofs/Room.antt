@@ -4,7 +4,7 @@ use mathlib.Core.Path.{_≡_, refl}
 use mathlib.Core.Bool.{Bool, true, false, true≢false}
 use Prim.Native.Nat.{ℕ, _+_, _≤_}
 use native.Mathlib.Omega.{arith}
-use borrow.Author.Tests.{ltb-false, not-false}
+use borrow.Author.Tests.{eqb-false, ltb-false, not-false}
 use Rattle.map_blocks.specs.Blocks.{free, fit}
 use Rattle.map_blocks.proofs.Fits.{fit-is}
 use Rattle.catalogue_standings.specs.Searches.{startAt}
@@ -16,10 +16,13 @@ use Rattle.refusals.specs.Views.{viewOn}
 use Rattle.catalogue_standings.specs.declared.Standing.{Standing}
 use Rattle.catalogue_standings.specs.declared.Standing.the-variants.{Absent, Paused, PausedWith, Open, Complete, Damaged}
 use Rattle.refusals.proofs.Rows.{clear}
+use lib.ListN.{length}
+use Rattle.laws.proofs.Bools.{and-left}
+use Rattle.refusals.specs.Guides.{guideFits, foundBy}
 use Rattle.refusals.specs.Lent.{Lent}
-use Rattle.refusals.specs.Placement.{Placement, figuresIn, leastWithin}
+use Rattle.refusals.specs.Placement.{Placement, figuresIn}
 use Rattle.refusals.specs.declared.Figures.{Figures}
-use Rattle.refusals.proofs.Lent.{Sized, standing, sized}
+use Rattle.refusals.proofs.Lent.{Sized, standing, lengthsFit, sized}
 use Rattle.refusals.proofs.Placement.{figured, plain-fit, found-fit}
 use Rattle.catalogue_standings.proofs.Openings.{open-extent}
 
@@ -27,6 +30,7 @@ use Rattle.catalogue_standings.proofs.Openings.{open-extent}
 
 pub record Room (q : Lent) (start k : ℕ) : Type 0 where
   pub sizes : Sized q
+  pub guides : guideFits (q .guided) (q .summary) (length (q .map)) ≡ true
   pub inside : start + k ≤ q .n
   pub enough : k ≤ q .spare
 
@@ -34,7 +38,7 @@ pub fit-inside : (f : ℕ → Bool) (n k s : ℕ) → fit f 0 n 1 k s ≡ true �
 fit-inside f n k s e = fit-is f 0 n 1 k s e .high
 
 -- the one standing that grow admits
-only-open : (s : Standing) → isDamaged s ≡ false → isAbsent s ≡ false → isPaused s ≡ false → isComplete s ≡ false
+pub only-open : (s : Standing) → isDamaged s ≡ false → isAbsent s ≡ false → isPaused s ≡ false → isComplete s ≡ false
     → s ≡ Open (startOf s) (lengthOf s)
 only-open Absent d a p c = absurd (true≢false a)
 only-open Paused d a p c = absurd (true≢false p)
@@ -59,11 +63,13 @@ module _ (q : Lent) (k : ℕ) (p : Placement) where
       let rows = tableOf (viewOf q) (on (q .sheet) (reserve k p)) in
       let g : Figures = figuresIn (q .n) p in
       let f = free (q .map) in
-      let least : ℕ = startAt (leastWithin f g k) in
+      let least : ℕ = startAt (foundBy (q .guided) (q .summary) (q .map) g k) in
       let fits = plain-fit f (q .n) g k least (figured (q .n) g (clear 15 rows h .0) .inside)
-      (found-fit f g k (clear 10 rows h .0)) in
+      (found-fit (q .guided) (q .summary) (q .map) g k (omega (arith, eqb-false k 0 (clear 3 rows h .0)))
+      (clear 10 rows h .0)) in
       record {
         sizes = sized q (not-false _ (clear 1 rows h .0));
+        guides = and-left _ (lengthsFit q) (not-false _ (clear 1 rows h .0));
         inside = fit-inside f (q .n) k least fits;
         enough = ltb-false (q .spare) k (clear 4 rows h .1 .0);
       }
@@ -76,7 +82,9 @@ module _ (q : Lent) (k : ℕ) (p : Placement) where
       let rows = tableOf (viewOf q) (on (q .sheet) (reserve k p)) in
       let g : Figures = figuresIn (q .n) p in
       let f = free (q .map) in (
-        fit-is f (g .from) (g .before) (g .step) k (startAt (leastWithin f g k)) (found-fit f g k (clear 10 rows h .0)) .high,
+        fit-is f (g .from) (g .before) (g .step) k (startAt (foundBy (q .guided) (q .summary) (q .map) g k))
+            (found-fit (q .guided) (q .summary) (q .map) g k (omega (arith, eqb-false k 0 (clear 3 rows h .0)))
+            (clear 10 rows h .0)) .high,
         figured (q .n) g (clear 15 rows h .0) .inside,
       )
 
@@ -95,6 +103,7 @@ module _ (q : Lent) (k : ℕ) where
       let inside = fit-inside (free (q .map)) (q .n) k (startOf s + lengthOf s) (not-false _ (clear 11 rows h .0)) in
       record {
         sizes = sized q (not-false _ (clear 1 rows h .0));
+        guides = and-left _ (lengthsFit q) (not-false _ (clear 1 rows h .0));
         inside = omega (arith, x .starts, x .lasts, inside);
         enough = ltb-false (q .spare) k (clear 4 rows h .1 .0);
       }

@@ -1,21 +1,19 @@
 -- What the rows of show and its effects say: the verdict in each case, and what the call then hands back and leaves.
 -- Assumes nothing.
 use mathlib.Core.Path.{_≡_, refl, sym, ap, _∙_, subst}
-use mathlib.Core.Bool.{true, false, not, _&&_}
+use mathlib.Core.Bool.{true, false, not}
 use mathlib.Core.List.{List, [], _∷_}
 use Prim.Native.Nat.{ℕ, _+_, _*_, _<_, _≤_}
-use lib.Dec.{eqb}
 use lib.ListN.{length}
 use Rattle.blocks_of_card.specs.Card.{blockOf}
 use Rattle.block_seals.specs.Sealed.{sound, payloadOf}
 use Rattle.map_blocks.specs.Blocks.{free}
 use Rattle.refusals.specs.Lent.{Lent}
 use Rattle.refusals.specs.Effects.{showVerdict, showAnswer, showBuffer}
-use Rattle.catalogue_standings.specs.Openings.{openedOf, rowOf}
+use Rattle.catalogue_standings.specs.Openings.{rowOf}
 use Rattle.catalogue_standings.specs.Rows.{row, Verdict, accepted, refused, firstOf, settle}
 use Rattle.catalogue_standings.specs.Standings.{standingOf, lengthOf}
 use Rattle.refusals.specs.Table.{tableOf}
-use Rattle.catalogue_standings.specs.Limits.{shapeFits, sheetsFit}
 use Rattle.refusals.specs.Views.{viewOn}
 use Rattle.catalogue_standings.specs.declared.Answer.{Answer}
 use Rattle.catalogue_standings.specs.declared.Answer.the-variants.{Done, Refused}
@@ -23,9 +21,10 @@ use Rattle.catalogue_standings.specs.declared.Opened.{Opened}
 use Rattle.catalogue_standings.specs.declared.Opened.the-variants as opening
 use Rattle.catalogue_standings.specs.declared.Standing.{Standing}
 use Rattle.catalogue_standings.specs.declared.Standing.the-variants.{Complete}
-use Rattle.catalogue_standings.proofs.Limits.{CardFits, card-fits}
+use Rattle.catalogue_standings.proofs.Limits.{CardFits}
 use Rattle.catalogue_standings.proofs.Openings.{skip, stop, closed, opened, not-complete, is-complete, none-left, Extent}
 use Rattle.catalogue_standings.proofs.Openings.{complete-extent, NotComplete}
+use Rattle.refusals.proofs.Lent as lent-laws
 use Rattle.refusals.proofs.Places.{Misplaced, beyond, unsized, placed, block-number, block-bytes}
 
 module _ (q : Lent) (place : ℕ) (buffer : List ℕ) where
@@ -50,8 +49,7 @@ module _ (q : Lent) (place : ℕ) (buffer : List ℕ) where
   stands = standingOf (q .n) (free (q .map)) (q .entry)
 
   abbrev pub first : Opened
-  first = openedOf (shapeFits (q .n) (q .spare) (length (q .map)) && sheetsFit (q .sheets)
-      && eqb (length (q .card)) (512 * q .n)) (q .sheets) (q .sheet) stands
+  first = lent-laws.first q
 
   pub shut : {o : Opened} (number : ℕ) → o ≡ first → o ≡ opening.Refused number → verdict ≡ refused number
   unfolding showVerdict viewOn tableOf
@@ -68,8 +66,7 @@ module _ (q : Lent) (place : ℕ) (buffer : List ℕ) where
 
   module _ (start blocks : ℕ) {o : Opened} (given : o ≡ first) (told : o ≡ opening.Stands (Complete start blocks)) where
     pub limits : CardFits (q .n) (q .spare) (length (q .map)) (length (q .card))
-    limits = card-fits (q .n) (q .spare) (length (q .map)) (q .sheets) (length (q .card))
-        (opened _ _ _ _ (Complete start blocks) [] (sym given ∙ told) .all-fits)
+    limits = lent-laws.sized q (opened _ _ _ _ (Complete start blocks) [] (sym given ∙ told) .all-fits)
 
     pub extent : Extent (q .n) (free (q .map)) (q .entry) start blocks
     extent = complete-extent (q .n) (free (q .map)) (q .entry) start blocks

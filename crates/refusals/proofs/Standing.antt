@@ -1,19 +1,14 @@
 -- What the rows of standing and its effects say: the verdict in each case, and what the call then hands back and leaves.
 -- Assumes nothing.
 use mathlib.Core.Path.{_≡_, sym, ap, _∙_}
-use mathlib.Core.Bool.{_&&_}
-use mathlib.Core.List.{List}
 use Prim.Native.Nat.{ℕ}
 use lib.ListN.{length}
-use Rattle.map_blocks.specs.Blocks.{free}
+use Rattle.refusals.proofs.Lent as lent-laws
 use Rattle.refusals.specs.Lent.{Lent}
 use Rattle.refusals.specs.Effects.{standingAnswer}
-use Rattle.catalogue_standings.specs.Openings.{openedOf}
 use Rattle.catalogue_standings.specs.Rows.{Verdict, accepted, refused, settle}
-use Rattle.catalogue_standings.specs.Standings.{standingOf}
 use Rattle.refusals.specs.Table as table
 use Rattle.refusals.specs.Table.{tableOf, verdictOf}
-use Rattle.catalogue_standings.specs.Limits.{shapeFits, sheetsFit}
 use Rattle.refusals.specs.Views.{viewAt}
 use Rattle.catalogue_standings.specs.declared.Answer.the-variants.{Reads, Refused}
 use Rattle.catalogue_standings.specs.declared.Opened.{Opened}
@@ -31,8 +26,7 @@ module _ (q : Lent) where
   out v h = ap (λ (w : Verdict). settle w (Reads (q .entry .mark) (q .entry .start) (q .entry .length)) Refused) h
 
   abbrev pub first : Opened
-  first = openedOf (shapeFits (q .n) (q .spare) (length (q .map)) && sheetsFit (q .sheets)) (q .sheets) (q .sheet)
-      (standingOf (q .n) (free (q .map)) (q .entry))
+  first = lent-laws.firstAt q
 
   pub shut : {o : Opened} (number : ℕ) → o ≡ first → o ≡ opening.Refused number → verdict ≡ refused number
   unfolding viewAt tableOf

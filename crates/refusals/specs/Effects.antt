@@ -2,22 +2,24 @@
 -- changed.
 -- Assumes nothing.
 use Prim.Native.Nat.{ℕ, _+_, _-_}
-use mathlib.Core.Bool.{true, false, cond}
-use mathlib.Core.List.{List}
-use lib.Dec.{eqb}
+use mathlib.Core.Bool.{Bool, true, false, not, cond}
+use mathlib.Core.List.{List, [], _∷_}
+use lib.Dec.{eqb, ltb}
 use lib.ListN.{length}
 use Rattle.map_blocks.specs.Blocks as map-blocks
+use Rattle.map_blocks.specs.Blocks.{fit}
 use Rattle.map_blocks.specs.Maps.{marked}
 use Rattle.blocks_of_card.specs.Card.{blockOf, withBlock, zeroed}
 use Rattle.block_seals.specs.Sealed.{sealed, payloadOf}
 use Rattle.catalogue.specs.Entries.{absent, pausedMark, openMark, completeMark}
 use Rattle.catalogue.specs.declared.Entry.{Entry}
-use Rattle.catalogue_standings.specs.Rows.{Verdict, settle}
+use Rattle.catalogue_standings.specs.Rows.{row, Verdict, firstOf, settle}
 use Rattle.catalogue_standings.specs.Searches.{startAt, startWithSpace}
+use Rattle.refusals.specs.Guides.{foundBy, guideAfter}
 use Rattle.refusals.specs.Lent.{Lent}
-use Rattle.refusals.specs.Placement.{Placement, plain, figuresIn, leastWithin}
+use Rattle.refusals.specs.Placement.{Placement, plain, figuresIn}
 use Rattle.refusals.specs.Table.{on, reserve, put, grow, complete, pause, resume, release, show, standing, lowestBlank}
-use Rattle.refusals.specs.Table.{offer, accept, verdictOf}
+use Rattle.refusals.specs.Table.{offer, accept, opening, giving, adding, verdictOf}
 use Rattle.refusals.specs.Views.{viewAt, viewOn}
 use Rattle.catalogue_standings.specs.declared.Answer.{Answer}
 use Rattle.catalogue_standings.specs.declared.Answer.the-variants.{Done, Start, Reads, Blank, Refused}
@@ -33,6 +35,21 @@ outOf free e answer = record { free = free; entry = e; answer = answer }
 abbrev pub refusalOut : ℕ → Entry → ℕ → Out
 refusalOut free e number = outOf free e (Refused number)
 
+-- What the first rows say of a call that gives k blocks to an Absent sheet, and of one that adds k blocks to an Open one.
+module _ (q : Lent) (k : ℕ) where
+  unfoldable pub givingVerdict : Verdict
+  unfolding viewOn
+  givingVerdict = firstOf (opening (viewOn q) (q .sheet) (giving (viewOn q) k []))
+
+  unfoldable pub addingVerdict : Verdict
+  unfolding viewOn
+  addingVerdict = firstOf (opening (viewOn q) (q .sheet) (adding (viewOn q) k []))
+
+-- What the rows of a run that is asked for say (`runRows`), f saying which of the n blocks are free.
+unfoldable pub runVerdict : ℕ → (ℕ → Bool) → ℕ → ℕ → ℕ → ℕ → Verdict
+runVerdict number f n spare start k =
+    firstOf (row number (not (fit f 0 n 1 k start)) ∷ row 4 (ltb spare k) ∷ [])
+
 -- A sheet without blocks takes k from a start on, which are filled with zeros, and becomes Open: what is handed back and left
 -- where the verdict is v. The space behind the start is that of the map as it was lent, before the marking.
 module _ (q : Lent) (v : Verdict) (start k : ℕ) where
@@ -47,6 +64,10 @@ module _ (q : Lent) (v : Verdict) (start k : ℕ) where
   unfoldable pub takenCard : List ℕ
   takenCard = settle v (zeroed (q .card) start k) (λ number. q .card)
 
+  unfoldable pub takenSummary : List ℕ
+  takenSummary =
+      settle v (guideAfter (q .guided) (q .summary) (marked (q .map) start k false) (q .n) start k) (λ number. q .summary)
+
 -- Reserve: Absent becomes Open at the least fit within its figures.
 module _ (q : Lent) (k : ℕ) (placement : Placement) where
   unfoldable pub reserveVerdict : Verdict
@@ -54,7 +75,7 @@ module _ (q : Lent) (k : ℕ) (placement : Placement) where
   reserveVerdict = verdictOf (viewOn q) (on (q .sheet) (reserve k placement))
 
   unfoldable pub reserveStart : ℕ
-  reserveStart = startAt (leastWithin (map-blocks.free (q .map)) (figuresIn (q .n) placement) k)
+  reserveStart = startAt (foundBy (q .guided) (q .summary) (q .map) (figuresIn (q .n) placement) k)
 
   unfoldable pub reserveOut : Out
   unfolding reserveVerdict reserveStart takenOut
@@ -67,6 +88,10 @@ module _ (q : Lent) (k : ℕ) (placement : Placement) where
   unfoldable pub reserveCard : List ℕ
   unfolding reserveVerdict reserveStart takenCard
   reserveCard = takenCard q reserveVerdict reserveStart k
+
+  unfoldable pub reserveSummary : List ℕ
+  unfolding reserveVerdict reserveStart takenSummary
+  reserveSummary = takenSummary q reserveVerdict reserveStart k
 
 -- Offer: where a plain reserve would start then, and the length; nothing changes (document 02 (f)).
 unfoldable pub offerAnswer : Lent → ℕ → Answer
@@ -91,6 +116,10 @@ module _ (q : Lent) (start k : ℕ) where
   unfolding acceptVerdict takenCard
   acceptCard = takenCard q acceptVerdict start k
 
+  unfoldable pub acceptSummary : List ℕ
+  unfolding acceptVerdict takenSummary
+  acceptSummary = takenSummary q acceptVerdict start k
+
 -- Grow: the m blocks after an Open extent are added, taken and filled with zeros.
 module _ (q : Lent) (m : ℕ) where
   unfoldable pub growVerdict : Verdict
@@ -109,6 +138,13 @@ module _ (q : Lent) (m : ℕ) where
   unfoldable pub growCard : List ℕ
   unfolding growVerdict
   growCard = settle growVerdict (zeroed (q .card) (q .entry .start + q .entry .length) m) (λ number. q .card)
+
+  unfoldable pub growSummary : List ℕ
+  unfolding growVerdict
+  growSummary =
+      let end = q .entry .start + q .entry .length in
+      settle growVerdict (guideAfter (q .guided) (q .summary) (marked (q .map) end m false) (q .n) end m)
+      (λ number. q .summary)
 
 -- Put: on Open, that place's block becomes the sealed payload.
 module _ (q : Lent) (place : ℕ) (payload : List ℕ) where
@@ -175,6 +211,13 @@ module _ (q : Lent) where
   unfoldable pub releaseMap : List ℕ
   unfolding releaseVerdict
   releaseMap = settle releaseVerdict (marked (q .map) (q .entry .start) (q .entry .length) true) (λ number. q .map)
+
+  unfoldable pub releaseSummary : List ℕ
+  unfolding releaseVerdict
+  releaseSummary =
+      let map = marked (q .map) (q .entry .start) (q .entry .length) true in
+      settle releaseVerdict (guideAfter (q .guided) (q .summary) map (q .n) (q .entry .start) (q .entry .length))
+      (λ number. q .summary)
 
   -- Standing: answers mark, start and length.
   unfoldable pub standingAnswer : Answer

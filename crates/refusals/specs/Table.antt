@@ -8,7 +8,9 @@ use mathlib.Core.List.{List, [], _∷_}
 use lib.Dec.{eqb, leb, ltb}
 use lib.ListN.{length}
 use Rattle.map_blocks.specs.Blocks.{all, fit, least, leastFit}
-use Rattle.refusals.specs.Placement.{Placement, plain, figuresIn, misfigured, leastWithin}
+use Rattle.map_blocks.specs.declared.Found.{Found}
+use Rattle.refusals.specs.Placement.{Placement, plain, figuresIn, misfigured}
+use Rattle.refusals.specs.declared.Figures.{Figures}
 use Rattle.catalogue_standings.specs.Searches.{none, startAt}
 use Rattle.catalogue_standings.specs.Rows.{Row, row, Verdict, firstOf}
 use Rattle.catalogue_standings.specs.Standings.{isAbsent, isPaused, isPausedWithout, isOpen, isComplete, isDamaged}
@@ -46,6 +48,8 @@ pub record View : Type 0 where
   -- the sheet's standing, and which blocks are free
   pub stands : Standing
   pub free : ℕ → Bool
+  -- what the search of a reserve finds, within its figures, for k
+  pub found : Figures → ℕ → Found
   -- a place of the sheet is blank, or its block is sound
   pub blank : ℕ → Bool
   pub sound : ℕ → Bool
@@ -67,6 +71,14 @@ completeRow v = row 8 (isComplete (v .stands))
 abbrev pub opening : View → ℕ → List Row → List Row
 opening v sheet rows = row 1 (v .misfit) ∷ row 2 (leb (v .sheets) sheet) ∷ row 4 (isDamaged (v .stands)) ∷ rows
 
+-- Rows 6 to 8 and 3 of a call that gives k blocks to an Absent sheet, before its own.
+abbrev pub giving : View → ℕ → List Row → List Row
+giving v k rows = pausedRow v ∷ openRow v ∷ completeRow v ∷ row 3 (eqb k 0) ∷ rows
+
+-- Rows 5, 6, 8 and 3 of a call that adds m blocks to an Open sheet, before its own.
+abbrev pub adding : View → ℕ → List Row → List Row
+adding v m rows = absentRow v ∷ pausedRow v ∷ completeRow v ∷ row 3 (eqb m 0) ∷ rows
+
 -- A place that the sheet does not have, or a slice that is not 496 bytes long.
 abbrev pub misplaced : View → ℕ → List ℕ → Bool
 misplaced v place slice = leb (lengthOf (v .stands)) place || not (eqb (length slice) 496)
@@ -80,23 +92,25 @@ unfoldable pub lowestBlank : View → ℕ
 unfolding least
 lowestBlank v = startAt (least (v .blank) 0 (lengthOf (v .stands)))
 
+-- The rows of a run that is asked for, of k blocks from a start on: not all of it is free and inside n, by the call's own
+-- number; and 4 for the count.
+abbrev pub runRows : ℕ → View → ℕ → ℕ → List Row
+runRows number v start k = row number (not (fit (v .free) 0 (v .blocks) 1 k start)) ∷ row 4 (ltb (v .spare) k) ∷ []
+
 -- The rows of a reserve, plain or placed. An offer has those of the plain one.
 unfoldable pub reserveRows : View → ℕ → Placement → List Row
 unfolding fit leastFit
 reserveRows v k placement =
     let g = figuresIn (v .blocks) placement in
-    pausedRow v ∷ openRow v ∷ completeRow v ∷ row 3 (eqb k 0) ∷ row 15 (misfigured (v .blocks) g)
-    ∷ row 10 (none (leastWithin (v .free) g k)) ∷ row 4 (ltb (v .spare) k) ∷ []
+    giving v k
+    (row 15 (misfigured (v .blocks) g) ∷ row 10 (none (v .found g k)) ∷ row 4 (ltb (v .spare) k) ∷ [])
 
 -- The rows of each, behind those that all begin with.
 unfoldable pub rowsFor : View → Ask → List Row
 unfolding all fit reserveRows
 rowsFor v (reserve k placement) = reserveRows v k placement
 rowsFor v (put place payload) = absentRow v ∷ pausedRow v ∷ completeRow v ∷ row 3 (misplaced v place payload) ∷ []
-rowsFor v (grow m) =
-    absentRow v ∷ pausedRow v ∷ completeRow v ∷ row 3 (eqb m 0)
-    ∷ row 11 (not (fit (v .free) 0 (v .blocks) 1 m (startOf (v .stands) + lengthOf (v .stands))))
-    ∷ row 4 (ltb (v .spare) m) ∷ []
+rowsFor v (grow m) = adding v m (runRows 11 v (startOf (v .stands) + lengthOf (v .stands)) m)
 rowsFor v complete =
     absentRow v ∷ pausedRow v ∷ completeRow v ∷ row 4 (not (everyPlace v (λ p. v .blank p || v .sound p)))
     ∷ row 9 (not (everyPlace v (λ p. not (v .blank p)))) ∷ []
@@ -107,9 +121,7 @@ rowsFor v (show place buffer) =
     absentRow v ∷ pausedRow v ∷ openRow v ∷ row 3 (misplaced v place buffer) ∷ row 4 (not (v .sound place)) ∷ []
 rowsFor v standing = []
 rowsFor v (offer k) = reserveRows v k plain
-rowsFor v (accept start k) =
-    pausedRow v ∷ openRow v ∷ completeRow v ∷ row 3 (eqb k 0) ∷ row 17 (not (fit (v .free) 0 (v .blocks) 1 k start))
-    ∷ row 4 (ltb (v .spare) k) ∷ []
+rowsFor v (accept start k) = giving v k (runRows 17 v start k)
 
 unfoldable pub tableOf : View → Call → List Row
 unfolding rowsFor

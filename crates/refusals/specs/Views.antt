@@ -9,6 +9,7 @@ use Rattle.blocks_of_card.specs.Card.{blockOf}
 use Rattle.block_seals.specs.Sealed as sealed-block
 use Rattle.catalogue_standings.specs.Standings.{standingOf}
 use Rattle.catalogue_standings.specs.Limits.{shapeFits, sheetsFit}
+use Rattle.refusals.specs.Guides.{guideFits, foundBy}
 use Rattle.refusals.specs.Lent.{Lent}
 use Rattle.refusals.specs.Table.{View}
 
@@ -16,12 +17,14 @@ use Rattle.refusals.specs.Table.{View}
 unfoldable pub viewAt : Lent → View
 unfolding shapeFits sheetsFit
 viewAt q = record {
-  misfit = not (shapeFits (q .n) (q .spare) (length (q .map)) && sheetsFit (q .sheets));
+  misfit = not (guideFits (q .guided) (q .summary) (length (q .map))
+      && (shapeFits (q .n) (q .spare) (length (q .map)) && sheetsFit (q .sheets)));
   blocks = q .n;
   sheets = q .sheets;
   spare = q .spare;
   stands = standingOf (q .n) (map-blocks.free (q .map)) (q .entry);
   free = map-blocks.free (q .map);
+  found = foundBy (q .guided) (q .summary) (q .map);
   blank = λ p. false;
   sound = λ p. false;
 }
@@ -30,12 +33,14 @@ viewAt q = record {
 unfoldable pub viewOn : Lent → View
 unfolding shapeFits sheetsFit
 viewOn q = record {
-  misfit = not (shapeFits (q .n) (q .spare) (length (q .map)) && sheetsFit (q .sheets) && eqb (length (q .card)) (512 * q .n));
+  misfit = not (guideFits (q .guided) (q .summary) (length (q .map))
+      && (shapeFits (q .n) (q .spare) (length (q .map)) && sheetsFit (q .sheets) && eqb (length (q .card)) (512 * q .n)));
   blocks = q .n;
   sheets = q .sheets;
   spare = q .spare;
   stands = standingOf (q .n) (map-blocks.free (q .map)) (q .entry);
   free = map-blocks.free (q .map);
+  found = foundBy (q .guided) (q .summary) (q .map);
   blank = λ p. sealed-block.blank (blockOf (q .card) (q .entry .start + p));
   sound = λ p. sealed-block.sound (q .sheet) p (blockOf (q .card) (q .entry .start + p));
 }

@@ -1,13 +1,17 @@
 // The rulings on the calls that take blocks, reserve, accept and grow: where the blocks start, or the row that refuses the
 // call.
 ghost use mathlib.Core.Path.{_≡_};
-ghost use Prim.Native.Nat.{_+_, _*_, _≤_};
+ghost use mathlib.Core.Bool.{true};
+ghost use Prim.Native.Nat.{_+_, _*_, _≤_, _<_};
 ghost use lib.ListN.{length};
 ghost use Rattle.map_blocks.specs.Blocks;
 ghost use Rattle.map_blocks.specs.Blocks.{fit};
-ghost use Rattle.refusals.specs.Lent.{lent};
+ghost use Rattle.refusals.specs.Guides.{guideFits, foundBy};
+ghost use Rattle.refusals.specs.Lent.{lentBeside};
 ghost use Rattle.refusals.specs.Placement.{placed, misfigured};
-ghost use Rattle.refusals.specs.Effects.{reserveVerdict, reserveStart, acceptVerdict, growVerdict};
+ghost use Rattle.catalogue_standings.specs.Rows.{rowNumber};
+ghost use Rattle.refusals.specs.Effects.{givingVerdict, addingVerdict, runVerdict, reserveVerdict, reserveStart};
+ghost use Rattle.refusals.specs.Effects.{acceptVerdict, growVerdict};
 ghost use Rattle.refusals_rulings.specs.Rulings.{rulingOf};
 use catalogue::Entry;
 use catalogue_standings::Opened;
@@ -20,6 +24,8 @@ use map_blocks::run::FREE;
 use map_blocks::run::all_marked;
 use map_search_placed::search_placed;
 use refusals::Figures;
+use refusals::guide_fits;
+use summary_search::search_by;
 
 // Where the blocks that a call takes start, or the number of the refusal.
 pub enum Ruling {
@@ -40,11 +46,95 @@ fn figures_wrong(n: u32, figures: Figures) -> bool
     n < figures.before
 }
 
+// The rows that a call which gives k blocks to an Absent sheet begins with: 1, 2, 4 for the entry, 6 to 8 and 3. The first that
+// holds, or 0.
+fn giving_row(
+    n: u32,
+    free: u32,
+    map: &[u64],
+    guided: bool,
+    summary: &[u32],
+    card: &[u8],
+    c: usize,
+    entry: Entry,
+    sheet: u32,
+    k: u32,
+) -> u32
+    ensures { λ r. let q = lentBeside guided (now (summary .entry)) n free (now (map .entry)) (now (card .entry)) c entry sheet
+        in
+        ⌜ r ≡ rowNumber (givingVerdict q k) ⌝ }
+{
+    if !guide_fits(guided, map.len(), summary.len()) {
+        return 1;
+    }
+    let opened = open_on(n, free, map, card.len(), c, sheet, entry);
+    let Opened::Stands(stands) = opened else {
+        return refused_row(opened);
+    };
+    let Standing::Absent = stands else {
+        return row_of(stands);
+    };
+    if k == 0 {
+        return 3;
+    }
+    0
+}
+
+// The same of a call that adds m blocks to an Open sheet: 1, 2, 4 for the entry, 5, 6, 8 and 3.
+fn adding_row(
+    n: u32,
+    free: u32,
+    map: &[u64],
+    guided: bool,
+    summary: &[u32],
+    card: &[u8],
+    c: usize,
+    entry: Entry,
+    sheet: u32,
+    m: u32,
+) -> u32
+    ensures { λ r. let q = lentBeside guided (now (summary .entry)) n free (now (map .entry)) (now (card .entry)) c entry sheet
+        in
+        ⌜ r ≡ rowNumber (addingVerdict q m) ⌝ }
+{
+    if !guide_fits(guided, map.len(), summary.len()) {
+        return 1;
+    }
+    let opened = open_on(n, free, map, card.len(), c, sheet, entry);
+    let Opened::Stands(stands) = opened else {
+        return refused_row(opened);
+    };
+    let Standing::Open(_, _) = stands else {
+        return row_of(stands);
+    };
+    if m == 0 {
+        return 3;
+    }
+    0
+}
+
+// What the search of a reserve finds: by the summary that guides it, or by the map alone.
+fn find_run(guided: bool, map: &[u64], summary: &[u32], figures: Figures, k: u32) -> Found
+    requires { ⌜ (length (now map) ≤ 4096) × (figures .before ≤ 262144) × (figures .before ≤ 64 * length (now map))
+        × (guideFits guided (now summary) (length (now map)) ≡ true) × (0 < k) × (0 < figures .step) ⌝ }
+    ensures { λ r. ⌜ r ≡ foundBy guided (now (summary .entry)) (now (map .entry)) figures k ⌝ }
+{
+    let from = figures.from;
+    let before = figures.before;
+    let step = figures.step;
+    if guided {
+        return search_by(map, summary, from, before, step, k);
+    }
+    search_placed(map, from, before, step, k)
+}
+
 // The least fit within the figures, or the row that refuses the call.
 pub fn reserve_ruling(
     n: u32,
     free: u32,
     map: &[u64],
+    guided: bool,
+    summary: &[u32],
     card: &[u8],
     c: usize,
     entry: Entry,
@@ -52,23 +142,18 @@ pub fn reserve_ruling(
     k: u32,
     figures: Figures,
 ) -> Ruling
-    ensures { λ r. let q = lent n free (now (map .entry)) (now (card .entry)) c entry sheet in
+    ensures { λ r. let q = lentBeside guided (now (summary .entry)) n free (now (map .entry)) (now (card .entry)) c entry sheet
+        in
         ⌜ r ≡ rulingOf (reserveVerdict q k (placed figures)) (reserveStart q k (placed figures)) ⌝ }
 {
-    let opened = open_on(n, free, map, card.len(), c, sheet, entry);
-    let Opened::Stands(stands) = opened else {
-        return Ruling::Refused(refused_row(opened));
-    };
-    let Standing::Absent = stands else {
-        return Ruling::Refused(row_of(stands));
-    };
-    if k == 0 {
-        return Ruling::Refused(3);
+    let row = giving_row(n, free, map, guided, summary, card, c, entry, sheet, k);
+    if row != 0 {
+        return Ruling::Refused(row);
     }
     if figures_wrong(n, figures) {
         return Ruling::Refused(15);
     }
-    let found = search_placed(map, figures.from, figures.before, figures.step, k);
+    let found = find_run(guided, map, summary, figures, k);
     let Found::At(least) = found else {
         return Ruling::Refused(10);
     };
@@ -92,33 +177,14 @@ fn run_is_free(n: u32, map: &[u64], start: u32, k: u32) -> bool
     all_marked(map, start, k, FREE)
 }
 
-// The start that is asked for, or the row that refuses the call.
-pub fn accept_ruling(
-    n: u32,
-    free: u32,
-    map: &[u64],
-    card: &[u8],
-    c: usize,
-    entry: Entry,
-    sheet: u32,
-    start: u32,
-    k: u32,
-) -> Ruling
-    ensures { λ r. let q = lent n free (now (map .entry)) (now (card .entry)) c entry sheet in
-        ⌜ r ≡ rulingOf (acceptVerdict q start k) start ⌝ }
+// The start of a run that is asked for. It is refused with the number given unless all of it is free and inside n, and with 4
+// if the free count has fewer.
+fn run_ruling(n: u32, free: u32, map: &[u64], start: u32, k: u32, number: u32) -> Ruling
+    requires { ⌜ (n ≤ 262144) × (n ≤ 64 * length (now map)) ⌝ }
+    ensures { λ r. ⌜ r ≡ rulingOf (runVerdict number (Blocks.free (now (map .entry))) n free start k) start ⌝ }
 {
-    let opened = open_on(n, free, map, card.len(), c, sheet, entry);
-    let Opened::Stands(stands) = opened else {
-        return Ruling::Refused(refused_row(opened));
-    };
-    let Standing::Absent = stands else {
-        return Ruling::Refused(row_of(stands));
-    };
-    if k == 0 {
-        return Ruling::Refused(3);
-    }
     if !run_is_free(n, map, start, k) {
-        return Ruling::Refused(17);
+        return Ruling::Refused(number);
     }
     if free < k {
         return Ruling::Refused(4);
@@ -126,39 +192,51 @@ pub fn accept_ruling(
     Ruling::At(start)
 }
 
+// The start that is asked for, or the row that refuses the call.
+pub fn accept_ruling(
+    n: u32,
+    free: u32,
+    map: &[u64],
+    guided: bool,
+    summary: &[u32],
+    card: &[u8],
+    c: usize,
+    entry: Entry,
+    sheet: u32,
+    start: u32,
+    k: u32,
+) -> Ruling
+    ensures { λ r. let q = lentBeside guided (now (summary .entry)) n free (now (map .entry)) (now (card .entry)) c entry sheet
+        in
+        ⌜ r ≡ rulingOf (acceptVerdict q start k) start ⌝ }
+{
+    let row = giving_row(n, free, map, guided, summary, card, c, entry, sheet, k);
+    if row != 0 {
+        return Ruling::Refused(row);
+    }
+    run_ruling(n, free, map, start, k, 17)
+}
+
 // The end of the extent, or the row that refuses the call.
 pub fn grow_ruling(
     n: u32,
     free: u32,
     map: &[u64],
+    guided: bool,
+    summary: &[u32],
     card: &[u8],
     c: usize,
     entry: Entry,
     sheet: u32,
     m: u32,
 ) -> Ruling
-    ensures { λ r. let q = lent n free (now (map .entry)) (now (card .entry)) c entry sheet in
+    ensures { λ r. let q = lentBeside guided (now (summary .entry)) n free (now (map .entry)) (now (card .entry)) c entry sheet
+        in
         ⌜ r ≡ rulingOf (growVerdict q m) (entry .start + entry .length) ⌝ }
 {
-    let opened = open_on(n, free, map, card.len(), c, sheet, entry);
-    let Opened::Stands(stands) = opened else {
-        return Ruling::Refused(refused_row(opened));
-    };
-    let Standing::Open(start, blocks) = stands else {
-        return Ruling::Refused(row_of(stands));
-    };
-    if m == 0 {
-        return Ruling::Refused(3);
+    let row = adding_row(n, free, map, guided, summary, card, c, entry, sheet, m);
+    if row != 0 {
+        return Ruling::Refused(row);
     }
-    let end = start + blocks;
-    if n - end < m {
-        return Ruling::Refused(11);
-    }
-    if !all_marked(map, end, m, FREE) {
-        return Ruling::Refused(11);
-    }
-    if free < m {
-        return Ruling::Refused(4);
-    }
-    Ruling::At(end)
+    run_ruling(n, free, map, entry.start + entry.length, m, 11)
 }

@@ -30,7 +30,7 @@ pub struct Passed {
 }
 
 // The larger of two.
-fn larger(a: u32, b: u32) -> u32
+pub fn larger(a: u32, b: u32) -> u32
     ensures { λ r. ⌜ r ≡ max a b ⌝ }
 {
     if a < b { b } else { a }

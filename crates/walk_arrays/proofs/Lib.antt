@@ -11,3 +11,7 @@ pub mod MapEntriesCard2
 pub mod MapEntriesCard3
 pub mod MapEntriesCard5
 pub mod MapEntriesScratchTextFromImage
+pub mod MapSummaryEntries1
+pub mod MapSummaryEntriesCard2
+pub mod MapSummaryEntriesCard3
+pub mod MapSummaryEntriesCard5

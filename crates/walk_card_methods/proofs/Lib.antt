@@ -6,3 +6,6 @@ pub mod FromMapCatalogueCard2
 pub mod MapCatalogueCard2
 pub mod MapCatalogueCard3
 pub mod MapCatalogueCard5
+pub mod MapSummaryCatalogueCard2
+pub mod MapSummaryCatalogueCard3
+pub mod MapSummaryCatalogueCard5

@@ -5,3 +5,4 @@ pub mod MapCatalogue1
 pub mod MapCatalogue1First
 pub mod MapCatalogueScratchFromImage
 pub mod ScratchImageFromMapCatalogue
+pub mod MapSummaryCatalogue1

@@ -12,3 +12,7 @@ pub mod MapCatalogueCard3
 pub mod MapCatalogueCard5
 pub mod MapCatalogueScratchFromImage
 pub mod ScratchImageFromMapCatalogue
+pub mod MapSummaryCatalogueCard2
+pub mod MapSummaryCatalogueCard3
+pub mod MapSummaryCatalogueCard5
+pub mod MapSummaryCatalogue1

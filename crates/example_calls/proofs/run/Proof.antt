@@ -8,10 +8,11 @@ use Rattle.example_calls.proofs.run.Statement.{statement}
 use Rattle.example_calls.proofs.run.Tie as tie
 
 abbrev Inv-loop : tie.InvT-loop
-Inv-loop text end map₀ card₀ s₀ i₀ map card s i = (i ≤ end) × (length map ≡ length map₀) × (length card ≡ length card₀)
+Inv-loop text end map₀ summary₀ card₀ s₀ i₀ map summary card s i =
+    (i ≤ end) × (length map ≡ length map₀) × (length summary ≡ length summary₀) × (length card ≡ length card₀)
 
 abbrev μ-loop : tie.MeasureT-loop
-μ-loop text end map₀ card₀ s₀ i₀ map card s i = end - i
+μ-loop text end map₀ summary₀ card₀ s₀ i₀ map summary card s i = end - i
 
 start-requires : tie.Need-start-requires Inv-loop μ-loop
 start-requires c κs = search needs
@@ -40,6 +41,9 @@ same-length c = search needs
 same-length-2 : tie.Need-same-length-2 Inv-loop μ-loop
 same-length-2 c = search needs
 
+same-length-3 : tie.Need-same-length-3 Inv-loop μ-loop
+same-length-3 c = search needs
+
 returns : tie.Need-returns Inv-loop μ-loop
 returns c = search needs
 
@@ -58,4 +62,5 @@ run-spec =
     loop-again
     same-length
     same-length-2
+    same-length-3
     returns)

@@ -7,10 +7,9 @@ use native.Mathlib.Omega.{arith}
 use lib.ListN.{length, replicate}
 use borrow.Author.Needs.{needs}
 use denote.Ref.{now}
-use Rattle.catalogue_standings.specs.Rows.{Verdict, accepted, refused, settle}
+use Rattle.catalogue_standings.specs.Rows.{Verdict, accepted, refused, settle, rowNumber}
 use Rattle.image_frames.specs.Frames.{bodyOf}
 use Rattle.image_frames.specs.Numbers.{numberIn, wordsAt}
-use Rattle.image.specs.Effects.{rowNumber}
 use Rattle.image.specs.Image.{blocksIn, freeCountIn, sheetsIn, stateIn, mapIn}
 use Rattle.image_load.specs.Parts.{coreLoaded, coreMap, coreScratch}
 use Rattle.image.specs.Table.{loadVerdict}

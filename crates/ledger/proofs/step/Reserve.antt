@@ -19,7 +19,7 @@ use Rattle.refusals.specs.Effects as effects
 use Rattle.refusals.specs.Table.{Call, on, reserve, rowsFor, lowestBlank, tableOf}
 use Rattle.refusals.specs.Placement.{Placement, figuresIn, misfigured, fitWithin, leastWithin}
 use Rattle.refusals.specs.declared.Figures.{Figures}
-use Rattle.refusals.proofs.Placement.{figured, plain-fit, found-fit}
+use Rattle.refusals.proofs.Placement.{figured, plain-fit, least-fits}
 use Rattle.refusals.proofs.Rows.{clear}
 use Rattle.ledger.specs.Ledger.{Sheet, standingIn, sheetAt, freeIn, leastIn, spaceIn, viewIn, listed, rowsIn, verdictIn}
 use Rattle.ledger.specs.Ledger.{deedIn, toldIn}
@@ -50,7 +50,7 @@ module _ (n : ℕ) (l : List Sheet) (card : List ℕ) (k : Matches n l card) (i 
       → eqb m 0 ≡ false → misfigured n g ≡ false → none (leastWithin (freeIn n l) g m) ≡ false → Shown n l card k i m start
   seen h2 h6 h7 h8 h3 h15 h10 =
       shown n l card k i m start h2 h6 h7 h8 h3
-      (plain-fit (freeIn n l) n g m start (figured n g h15 .inside) (found-fit (freeIn n l) g m h10))
+      (plain-fit (freeIn n l) n g m start (figured n g h15 .inside) (least-fits (freeIn n l) g m h10))
 
   pub never : NeverRows n l card k i (reserve m placement)
   unfolding rowsFor

@@ -1,189 +1,135 @@
 -- `refusals_rulings::reserve_ruling` meets its contract: each way out by its row.
 -- Assumes nothing.
-use mathlib.Core.Path.{_≡_, refl, sym, ap, _∙_}
-use mathlib.Core.List.{[]}
+use mathlib.Core.Path.{_≡_, sym, ap, _∙_}
 use Prim.Native.Nat.{ℕ}
 use native.Mathlib.Omega.{arith}
 use borrow.Author.Needs.{needs}
 use denote.Ref.{now}
-use Rattle.map_blocks.specs.Blocks.{free}
-use Rattle.map_blocks.specs.declared.Found.the-variants.{At}
-use Rattle.catalogue_standings.specs.Openings.{refusedRow, rowOf}
-use Rattle.catalogue_standings.specs.Rows.{Verdict, accepted, refused}
-use Rattle.refusals_rulings.specs.Rulings.{rulingOf}
-use Rattle.catalogue_standings.specs.declared.Opened.the-variants.{Refused}
-use Rattle.refusals_rulings.specs.declared.Ruling.the-variants as ruling
-use Rattle.catalogue_standings.specs.declared.Standing.the-variants.{Absent}
-use Rattle.refusals.specs.Lent.{Lent, lent}
+use Rattle.catalogue_standings.specs.Rows.{Verdict, accepted, refused, firstOf}
+use Rattle.refusals.specs.Effects.{givingVerdict}
+use Rattle.refusals.specs.Lent.{Lent, lentBeside}
 use Rattle.refusals.specs.Placement.{Placement, placed}
-use Rattle.refusals.proofs.Lent.{limits, refused-first, stands-first}
+use Rattle.refusals.proofs.Beginnings.{giving-zero, given}
 use Rattle.refusals.proofs.Placement.{figured}
+use Rattle.refusals.proofs.Reserve.{rest, verdict-behind, wrong-figures, no-fit, too-few, passes, starts}
 use Rattle.refusals.proofs.Room.{reserveVerdictOn, reserveStartOn}
+use Rattle.refusals_rulings.specs.Rulings.{rulingOf}
+use Rattle.refusals_rulings.specs.declared.Ruling.the-variants as ruling
+use Rattle.refusals_rulings.proofs.Rulings.{ruled, by-first, by-rest}
 use Rattle.refusals_rulings.proofs.reserve_ruling.Statement.{statement}
 use Rattle.refusals_rulings.proofs.reserve_ruling.Tie as tie
-use Rattle.refusals.proofs.Reserve.{shut, other, admitted, no-blocks, wrong-figures, no-fit, too-few, passes, starts}
 
 module _ (q : Lent) (k : ℕ) (p : Placement) where
-  -- the ruling, once the verdict is known
-  ruled : (v : Verdict) → reserveVerdictOn q k p ≡ v
+  -- the ruling, where none of the first rows holds
+  by-rows : givingVerdict q k ≡ accepted → (v : Verdict) → firstOf (rest q k p) ≡ v
       → rulingOf v (reserveStartOn q k p) ≡ rulingOf (reserveVerdictOn q k p) (reserveStartOn q k p)
-  ruled v h = ap (λ (w : Verdict). rulingOf w (reserveStartOn q k p)) (sym h)
+  by-rows opens v h = ruled (reserveStartOn q k p) v (reserveVerdictOn q k p)
+      (by-rest (givingVerdict q k) (firstOf (rest q k p)) (reserveVerdictOn q k p) v (verdict-behind q k p) opens h)
 
-open-on-requires : tie.Need-open-on-requires
-open-on-requires c κs = search needs
-
-enum-known-opened : tie.Need-enum-known-opened
-enum-known-opened c = search needs
-
-enum-told : tie.Need-enum-told
-enum-told c = search needs
-
-refused-row-requires : tie.Need-refused-row-requires
-refused-row-requires c κs = search needs
+giving-row-requires : tie.Need-giving-row-requires
+giving-row-requires c κs = search needs
 
 returns : tie.Need-returns
 returns c =
-    let a = c .before .before .before .before .before .before .args in
-    let q = lent (a .n) (a .free) (now (a .map)) (now (a .card)) (a .c) (a .entry) (a .sheet) in
-    let told = c .before .enum-told .given in
-    let shuts = refused-first q (c .before .before .before .open-on .result) (told .0 .0)
-    (c .before .before .before .open-on .ensures) (told .1) in
-    ap ruling.Refused (c .refused-row .ensures ∙ ap refusedRow (told .1))
-    ∙ ruled q (a .k) (placed (a .figures)) (refused (told .0 .0)) (shut q (a .k) (placed (a .figures)) (told .0 .0) shuts)
-
-enum-told-2 : tie.Need-enum-told-2
-enum-told-2 c = search needs
-
-row-of-requires : tie.Need-row-of-requires
-row-of-requires c κs = search needs
-
-returns-2 : tie.Need-returns-2
-returns-2 c =
-    let here = c .before .before .before in
-    let a = here .before .before .before .before .before .args in
-    let q = lent (a .n) (a .free) (now (a .map)) (now (a .card)) (a .c) (a .entry) (a .sheet) in
-    let s = here .opened .given .0 .0 in
-    let stands = stands-first q (here .before .before .open-on .result) (here .opened .given .0 .0) s
-    (here .before .before .open-on .ensures) (here .opened .given .1) refl in
-    ap ruling.Refused (c .row-of .ensures) ∙ ruled q (a .k) (placed (a .figures)) (refused (rowOf s))
-    (other q (a .k) (placed (a .figures)) s stands (c .before .match2 .keys2))
-
-returns-3 : tie.Need-returns-3
-returns-3 c =
-    let here = c .before .before .before .before in
-    let a = here .before .before .before .before .before .args in
-    let q = lent (a .n) (a .free) (now (a .map)) (now (a .card)) (a .c) (a .entry) (a .sheet) in
-    let absent = stands-first q (here .before .before .open-on .result) (here .opened .given .0 .0) Absent
-    (here .before .before .open-on .ensures) (here .opened .given .1) (c .before .enum-told2 .given .1) in
-    ruled q (a .k) (placed (a .figures)) (refused 3)
-    (admitted q (a .k) (placed (a .figures)) absent ∙ no-blocks q (a .k) (placed (a .figures)) (c .if1 .taken))
+    let call = c .before .giving-row in
+    let a = c .before .before .before .before .before .args in
+    let q = lentBeside (a .guided) (now (a .summary)) (a .n) (a .free) (now (a .map)) (now (a .card)) (a .c) (a .entry)
+    (a .sheet) in
+    let p = placed (a .figures) in
+    by-first (reserveStartOn q (a .k) p) (givingVerdict q (a .k)) (firstOf (rest q (a .k) p)) (reserveVerdictOn q (a .k) p)
+    (call .result) (verdict-behind q (a .k) p) (call .ensures) (c .if1 .taken)
 
 figures-wrong-requires : tie.Need-figures-wrong-requires
 figures-wrong-requires c κs = search needs
 
-returns-4 : tie.Need-returns-4
-returns-4 c =
-    let test = c .before .before in
-    let here = test .before .before .before .before in
-    let a = here .before .before .before .before .before .args in
-    let q = lent (a .n) (a .free) (now (a .map)) (now (a .card)) (a .c) (a .entry) (a .sheet) in
+returns-2 : tie.Need-returns-2
+returns-2 c =
+    let a = c .before .before .before .before .before .before .before .args in
+    let q = lentBeside (a .guided) (now (a .summary)) (a .n) (a .free) (now (a .map)) (now (a .card)) (a .c) (a .entry)
+    (a .sheet) in
     let p = placed (a .figures) in
-    let absent = stands-first q (here .before .before .open-on .result) (here .opened .given .0 .0) Absent
-    (here .before .before .open-on .ensures) (here .opened .given .1) (test .before .enum-told2 .given .1) in
-    ruled q (a .k) p (refused 15) (admitted q (a .k) p absent ∙ wrong-figures q (a .k) p (test .if1 .left)
-    (sym (c .before .figures-wrong .ensures) ∙ c .if2 .taken))
+    by-rows q (a .k) p
+    (giving-zero q (a .k) (sym (c .before .before .before .giving-row .ensures) ∙ c .before .before .if1 .left))
+    (refused 15)
+    (wrong-figures q (a .k) p (sym (c .before .figures-wrong .ensures) ∙ c .if2 .taken))
 
-search-placed-requires : tie.Need-search-placed-requires
-search-placed-requires c κs =
-    let test = c .before .before in
-    let here = test .before .before .before .before in
-    let a = here .before .before .before .before .before .args in
-    let q = lent (a .n) (a .free) (now (a .map)) (now (a .card)) (a .c) (a .entry) (a .sheet) in
-    let absent = stands-first q (here .before .before .open-on .result) (here .opened .given .0 .0) Absent
-    (here .before .before .open-on .ensures) (here .opened .given .1) (test .before .enum-told2 .given .1) in
-    let l = limits q Absent absent in
+find-run-requires : tie.Need-find-run-requires
+find-run-requires c κs =
+    let a = c .before .before .before .before .before .before .before .args in
+    let q = lentBeside (a .guided) (now (a .summary)) (a .n) (a .free) (now (a .map)) (now (a .card)) (a .c) (a .entry)
+    (a .sheet) in
+    let opens = given q (a .k)
+    (giving-zero q (a .k) (sym (c .before .before .before .giving-row .ensures) ∙ c .before .before .if1 .left)) in
     let g = figured (a .n) (a .figures) (sym (c .before .figures-wrong .ensures) ∙ c .if2 .left) in (
-      omega (arith, l .shape .limit, g .inside),
-      omega (arith, l .shape .covered, g .inside),
-      omega (arith, test .if1 .left),
+      omega (arith, opens .sizes .shape .words, opens .sizes .shape .limit),
+      omega (arith, opens .sizes .shape .limit, g .inside),
+      omega (arith, opens .sizes .shape .covered, g .inside),
+      opens .guides,
+      omega (arith, opens .some),
       omega (arith, g .stepped),
     )
 
 enum-known-found : tie.Need-enum-known-found
 enum-known-found c = search needs
 
-enum-told-3 : tie.Need-enum-told-3
-enum-told-3 c = search needs
+enum-told : tie.Need-enum-told
+enum-told c = search needs
+
+returns-3 : tie.Need-returns-3
+returns-3 c =
+    let a = c .before .before .before .before .before .before .before .before .before .before .args in
+    let q = lentBeside (a .guided) (now (a .summary)) (a .n) (a .free) (now (a .map)) (now (a .card)) (a .c) (a .entry)
+    (a .sheet) in
+    let p = placed (a .figures) in
+    let opens = giving-zero q (a .k) (sym (c .before .before .before .before .before .before .giving-row .ensures) ∙ c
+    .before .before .before .before .before .if1 .left) in
+    let right = sym (c .before .before .before .before .figures-wrong .ensures) ∙ c .before .before .before .if2 .left in
+    by-rows q (a .k) p opens (refused 10)
+    (no-fit q (a .k) p right (sym (c .before .before .find-run .ensures) ∙ c .enum-told .given .1))
+
+returns-4 : tie.Need-returns-4
+returns-4 c =
+    let a = c .before .before .before .before .before .before .before .before .before .before .before .before .args in
+    let q = lentBeside (a .guided) (now (a .summary)) (a .n) (a .free) (now (a .map)) (now (a .card)) (a .c) (a .entry)
+    (a .sheet) in
+    let p = placed (a .figures) in
+    let opens = giving-zero q (a .k)
+    (sym (c .before .before .before .before .before .before .before .before .giving-row .ensures) ∙ c .before .before
+    .before .before .before .before .before .if1 .left) in
+    let right = sym (c .before .before .before .before .before .before .figures-wrong .ensures) ∙ c .before .before .before
+    .before .before .if2 .left in
+    let place = c .before .before .found .given in
+    by-rows q (a .k) p opens (refused 4)
+    (too-few q (a .k) p (place .0 .0) right (sym (c .before .before .before .before .find-run .ensures) ∙ place .1)
+    (c .if3 .taken))
 
 returns-5 : tie.Need-returns-5
 returns-5 c =
-    let right = c .before .before .before in
-    let test = right .before .before in
-    let here = test .before .before .before .before in
-    let a = here .before .before .before .before .before .args in
-    let q = lent (a .n) (a .free) (now (a .map)) (now (a .card)) (a .c) (a .entry) (a .sheet) in
+    let a = c .before .before .before .before .before .before .before .before .before .before .before .before .args in
+    let q = lentBeside (a .guided) (now (a .summary)) (a .n) (a .free) (now (a .map)) (now (a .card)) (a .c) (a .entry)
+    (a .sheet) in
     let p = placed (a .figures) in
-    let absent = stands-first q (here .before .before .open-on .result) (here .opened .given .0 .0) Absent
-    (here .before .before .open-on .ensures) (here .opened .given .1) (test .before .enum-told2 .given .1) in
-    ruled q (a .k) p (refused 10)
-    (admitted q (a .k) p absent
-    ∙ no-fit q (a .k) p (test .if1 .left) (sym (right .before .figures-wrong .ensures) ∙ right .if2 .left)
-    (sym (c .before .before .search-placed .ensures) ∙ c .enum-told3 .given .1))
-
-returns-6 : tie.Need-returns-6
-returns-6 c =
-    let place = c .before .before in
-    let right = place .before .before .before in
-    let test = right .before .before in
-    let here = test .before .before .before .before in
-    let a = here .before .before .before .before .before .args in
-    let q = lent (a .n) (a .free) (now (a .map)) (now (a .card)) (a .c) (a .entry) (a .sheet) in
-    let p = placed (a .figures) in
-    let absent = stands-first q (here .before .before .open-on .result) (here .opened .given .0 .0) Absent
-    (here .before .before .open-on .ensures) (here .opened .given .1) (test .before .enum-told2 .given .1) in
-    let start = place .found .given .0 .0 in
-    let fit = sym (place .before .before .search-placed .ensures) ∙ place .found .given .1 in
-    ruled q (a .k) p (refused 4)
-    (admitted q (a .k) p absent
-    ∙ too-few q (a .k) p start (test .if1 .left) (sym (right .before .figures-wrong .ensures) ∙ right .if2 .left) fit
-    (c .if3 .taken))
-
-returns-7 : tie.Need-returns-7
-returns-7 c =
-    let place = c .before .before in
-    let right = place .before .before .before in
-    let test = right .before .before in
-    let here = test .before .before .before .before in
-    let a = here .before .before .before .before .before .args in
-    let q = lent (a .n) (a .free) (now (a .map)) (now (a .card)) (a .c) (a .entry) (a .sheet) in
-    let p = placed (a .figures) in
-    let absent = stands-first q (here .before .before .open-on .result) (here .opened .given .0 .0) Absent
-    (here .before .before .open-on .ensures) (here .opened .given .1) (test .before .enum-told2 .given .1) in
-    let start = place .found .given .0 .0 in
-    let fit = sym (place .before .before .search-placed .ensures) ∙ place .found .given .1 in
-    ap ruling.At (starts q (a .k) p start fit) ∙ ruled q (a .k) p accepted
-    (admitted q (a .k) p absent
-    ∙ passes q (a .k) p start (test .if1 .left) (sym (right .before .figures-wrong .ensures) ∙ right .if2 .left) fit
-    (c .if3 .left))
+    let opens = giving-zero q (a .k)
+    (sym (c .before .before .before .before .before .before .before .before .giving-row .ensures) ∙ c .before .before
+    .before .before .before .before .before .if1 .left) in
+    let right = sym (c .before .before .before .before .before .before .figures-wrong .ensures) ∙ c .before .before .before
+    .before .before .if2 .left in
+    let place = c .before .before .found .given in
+    let fit = sym (c .before .before .before .before .find-run .ensures) ∙ place .1 in
+    ap ruling.At (starts q (a .k) p (place .0 .0) fit)
+    ∙ by-rows q (a .k) p opens accepted (passes q (a .k) p (place .0 .0) right fit (c .if3 .left))
 
 pub reserve-ruling-spec : {M : Type 1} → statement M
 reserve-ruling-spec =
     tie.close
     (tie.spec
-    open-on-requires
-    enum-known-opened
-    enum-told
-    refused-row-requires
+    giving-row-requires
     returns
-    enum-told-2
-    row-of-requires
-    returns-2
-    returns-3
     figures-wrong-requires
-    returns-4
-    search-placed-requires
+    returns-2
+    find-run-requires
     enum-known-found
-    enum-told-3
-    returns-5
-    returns-6
-    returns-7)
+    enum-told
+    returns-3
+    returns-4
+    returns-5)

@@ -1,7 +1,7 @@
 -- `refusals_rulings::run_is_free` meets its contract: a run that passes n is no fit, and one inside n is a fit if it is free.
 -- Assumes nothing.
 use mathlib.Core.Path.{_≡_, sym, _∙_}
-use mathlib.Core.Bool.{Bool, true}
+use mathlib.Core.Bool.{Bool}
 use Prim.Native.Nat.{ℕ, _+_, _≤_}
 use native.Mathlib.Omega.{arith}
 use borrow.Author.Needs.{needs}

@@ -1,6 +1,6 @@
 -- `call_release::pause::pause` meets its contract: each way out by its row.
 -- Assumes nothing.
-use mathlib.Core.Path.{refl, ap, _∙_}
+use mathlib.Core.Path.{ap, _∙_}
 use borrow.Author.Needs.{needs}
 use Rattle.refusals.specs.Effects.{refusalOut}
 use Rattle.catalogue_standings.specs.Openings.{refusedRow, rowOf}

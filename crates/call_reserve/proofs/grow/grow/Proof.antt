@@ -1,16 +1,15 @@
 -- `call_reserve::grow::grow` meets its contract: a refusal changes nothing, and on acceptance the blocks that it takes lie
 -- inside the card.
 -- Assumes nothing.
-use Prim.Native.Nat.{_+_}
 use native.Mathlib.Omega.{arith}
 use borrow.Author.Needs.{needs}
 use denote.Ref.{now}
-use Rattle.refusals.specs.Lent.{lent}
+use Rattle.refusals.specs.Lent.{lentBeside}
+use Rattle.refusals.proofs.Grow.{end, unchanged, changed}
 use Rattle.refusals.proofs.Room.{growVerdictOn, grow-room}
 use Rattle.refusals_rulings.proofs.Rulings.{accepts, refuses}
 use Rattle.call_reserve.proofs.grow.grow.Statement.{statement}
 use Rattle.call_reserve.proofs.grow.grow.Tie as tie
-use Rattle.refusals.proofs.Grow.{unchanged, changed}
 
 grow-ruling-requires : tie.Need-grow-ruling-requires
 grow-ruling-requires c κs = search needs
@@ -24,49 +23,45 @@ refusal-requires c κs = search needs
 enum-known-end : tie.Need-enum-known-end
 enum-known-end c = search needs
 
-mark-requires : tie.Need-mark-requires
-mark-requires c κs =
-    let place = c .before .before in
-    let call = place .before .before .grow-ruling in
-    let a = place .before .before .before .before .before .before .before .args in
-    let q = lent (a .n) (a .free) (now (a .map)) (now (a .card)) (a .c) (a .entry) (a .sheet) in
-    let ruled = accepts (a .entry .start + a .entry .length) (call .result) (growVerdictOn q (a .m)) (place .end .given .0 .0)
-    (call .ensures) (place .end .given .1) in
+occupy-requires : tie.Need-occupy-requires
+occupy-requires c κs =
+    let place = c .before .before .before .before .end .given in
+    let call = c .before .before .before .before .before .before .grow-ruling in
+    let a = c .before .before .before .before .before .before .before .before .before .before .before .before .before .args in
+    let q = lentBeside (a .guided) (now (a .summary)) (a .n) (a .free) (now (a .map)) (now (a .card)) (a .c) (a .entry)
+    (a .sheet) in
+    let ruled = accepts (end q (a .m)) (call .result) (growVerdictOn q (a .m)) (place .0 .0) (call .ensures) (place .1) in
     let room = grow-room q (a .m) (ruled .0) in (
-      omega (arith, room .inside, room .sizes .shape .limit, ruled .1),
-      omega (arith, room .inside, room .sizes .shape .covered, ruled .1),
+      omega (arith, room .inside, ruled .1),
+      omega (arith, room .sizes .shape .limit),
+      omega (arith, room .sizes .shape .words, room .sizes .shape .limit),
+      omega (arith, room .sizes .shape .covered),
+      room .guides,
+      omega (arith, room .sizes .bytes),
     )
 
-zero-blocks-requires : tie.Need-zero-blocks-requires
-zero-blocks-requires c κs =
-    let place = c .before .before .before .before .before .before in
-    let call = place .before .before .grow-ruling in
-    let a = place .before .before .before .before .before .before .before .args in
-    let q = lent (a .n) (a .free) (now (a .map)) (now (a .card)) (a .c) (a .entry) (a .sheet) in
-    let ruled = accepts (a .entry .start + a .entry .length) (call .result) (growVerdictOn q (a .m)) (place .end .given .0 .0)
-    (call .ensures) (place .end .given .1) in
-    let room = grow-room q (a .m) (ruled .0) in
-    omega (arith, room .inside, room .sizes .bytes, ruled .1)
+sub-t28 : tie.Need-sub-t28
+sub-t28 c =
+    let place = c .before .before .before .before .before .before .before .before .before .before .before .end .given in
+    let call = c .before .before .before .before .before .before .before .before .before .before .before .before .before
+    .grow-ruling in
+    let a = c .before .before .before .before .before .before .before .before .before .before .before .before .before .before
+    .before .before .before .before .before .before .args in
+    let q = lentBeside (a .guided) (now (a .summary)) (a .n) (a .free) (now (a .map)) (now (a .card)) (a .c) (a .entry)
+    (a .sheet) in
+    let ruled = accepts (end q (a .m)) (call .result) (growVerdictOn q (a .m)) (place .0 .0) (call .ensures) (place .1) in
+    omega (arith, grow-room q (a .m) (ruled .0) .enough)
 
-sub-t22 : tie.Need-sub-t22
-sub-t22 c =
-    let place = c .before .before .before .before .before .before .before .before .before in
-    let call = place .before .before .grow-ruling in
-    let a = place .before .before .before .before .before .before .before .args in
-    let q = lent (a .n) (a .free) (now (a .map)) (now (a .card)) (a .c) (a .entry) (a .sheet) in
-    let ruled = accepts (a .entry .start + a .entry .length) (call .result) (growVerdictOn q (a .m)) (place .end .given .0 .0)
-    (call .ensures) (place .end .given .1) in
-    let room = grow-room q (a .m) (ruled .0) in
-    omega (arith, room .enough)
-
-add-t23 : tie.Need-add-t23
-add-t23 c =
-    let place = c .before .before .before .before .before .before .before .before .before .before in
-    let call = place .before .before .grow-ruling in
-    let a = place .before .before .before .before .before .before .before .args in
-    let q = lent (a .n) (a .free) (now (a .map)) (now (a .card)) (a .c) (a .entry) (a .sheet) in
-    let ruled = accepts (a .entry .start + a .entry .length) (call .result) (growVerdictOn q (a .m)) (place .end .given .0 .0)
-    (call .ensures) (place .end .given .1) in
+add-t29 : tie.Need-add-t29
+add-t29 c =
+    let place = c .before .before .before .before .before .before .before .before .before .before .before .before .end .given in
+    let call = c .before .before .before .before .before .before .before .before .before .before .before .before .before
+    .before .grow-ruling in
+    let a = c .before .before .before .before .before .before .before .before .before .before .before .before .before .before
+    .before .before .before .before .before .before .before .args in
+    let q = lentBeside (a .guided) (now (a .summary)) (a .n) (a .free) (now (a .map)) (now (a .card)) (a .c) (a .entry)
+    (a .sheet) in
+    let ruled = accepts (end q (a .m)) (call .result) (growVerdictOn q (a .m)) (place .0 .0) (call .ensures) (place .1) in
     let room = grow-room q (a .m) (ruled .0) in
     omega (arith, room .inside, room .sizes .shape .limit)
 
@@ -76,35 +71,41 @@ same-length c = search needs
 same-length-2 : tie.Need-same-length-2
 same-length-2 c = search needs
 
-returns : tie.Need-returns
-returns c =
-    let place = c .before .before in
-    let call = place .before .before .grow-ruling in
-    let a = place .before .before .before .before .before .before .before .args in
-    let q = lent (a .n) (a .free) (now (a .map)) (now (a .card)) (a .c) (a .entry) (a .sheet) in
-    let number = place .row .given .0 .0 in
-    unchanged q (a .m) number (c .refusal .result)
-    (refuses (a .entry .start + a .entry .length) (call .result) (growVerdictOn q (a .m)) number (call .ensures)
-    (place .row .given .1)) (c .refusal .ensures)
-
 same-length-3 : tie.Need-same-length-3
 same-length-3 c = search needs
+
+returns : tie.Need-returns
+returns c =
+    let place = c .before .before .row .given in
+    let call = c .before .before .before .before .grow-ruling in
+    let a = c .before .before .before .before .before .before .before .before .before .before .before .args in
+    let q = lentBeside (a .guided) (now (a .summary)) (a .n) (a .free) (now (a .map)) (now (a .card)) (a .c) (a .entry)
+    (a .sheet) in
+    unchanged q (a .m) (place .0 .0) (c .refusal .result)
+    (refuses (end q (a .m)) (call .result) (growVerdictOn q (a .m)) (place .0 .0) (call .ensures) (place .1))
+    (c .refusal .ensures)
 
 same-length-4 : tie.Need-same-length-4
 same-length-4 c = search needs
 
+same-length-5 : tie.Need-same-length-5
+same-length-5 c = search needs
+
+same-length-6 : tie.Need-same-length-6
+same-length-6 c = search needs
+
 returns-2 : tie.Need-returns-2
 returns-2 c =
-    let place = c .before .before .before .before .before .before .before .before .before .before in
-    let call = place .before .before .grow-ruling in
-    let a = place .before .before .before .before .before .before .before .args in
-    let q = lent (a .n) (a .free) (now (a .map)) (now (a .card)) (a .c) (a .entry) (a .sheet) in
-    let ruled = accepts (a .entry .start + a .entry .length) (call .result) (growVerdictOn q (a .m)) (place .end .given .0 .0)
-    (call .ensures) (place .end .given .1) in
-    let marks = c .before .before .before .before .before .before .before .mark in
-    let zeros = c .before .before .before .zero-blocks in
-    changed q (a .m) (place .end .given .0 .0) (marks .last .0) (zeros .last .0) (ruled .0) (ruled .1) (marks .ensures)
-    (zeros .ensures)
+    let place = c .before .before .before .before .before .before .before .before .before .before .before .before .end .given in
+    let call = c .before .before .before .before .before .before .before .before .before .before .before .before .before
+    .before .grow-ruling in
+    let a = c .before .before .before .before .before .before .before .before .before .before .before .before .before .before
+    .before .before .before .before .before .before .before .args in
+    let q = lentBeside (a .guided) (now (a .summary)) (a .n) (a .free) (now (a .map)) (now (a .card)) (a .c) (a .entry)
+    (a .sheet) in
+    let ruled = accepts (end q (a .m)) (call .result) (growVerdictOn q (a .m)) (place .0 .0) (call .ensures) (place .1) in
+    let done = c .before .before .before .before .before .before .before .occupy .ensures in
+    changed q (a .m) (place .0 .0) _ _ _ (ruled .0) (ruled .1) (done .0) (done .1) (done .2)
 
 pub grow-spec : {M : Type 1} → statement M
 grow-spec =
@@ -114,13 +115,14 @@ grow-spec =
     enum-known-row
     refusal-requires
     enum-known-end
-    mark-requires
-    zero-blocks-requires
-    sub-t22
-    add-t23
+    occupy-requires
+    sub-t28
+    add-t29
     same-length
     same-length-2
-    returns
     same-length-3
+    returns
     same-length-4
+    same-length-5
+    same-length-6
     returns-2)

@@ -1,4 +1,4 @@
--- `call_reserve::take::take` meets its contract: the space is that of the map before the marking.
+-- `call_reserve::take::take` meets its contract.
 -- Assumes nothing.
 use mathlib.Core.Path.{ap}
 use Prim.Native.Nat.{ℕ, _-_}
@@ -12,14 +12,13 @@ use Rattle.call_reserve.proofs.take.take.Tie as tie
 space-requires : tie.Need-space-requires
 space-requires c κs = search needs
 
-mark-requires : tie.Need-mark-requires
-mark-requires c κs = search needs
+occupy-requires : tie.Need-occupy-requires
+occupy-requires c κs =
+    let h = c .before .before .before .before .before .before .before .before .pre in
+    (h .0, h .1, h .2, h .3, h .4, h .5)
 
-zero-blocks-requires : tie.Need-zero-blocks-requires
-zero-blocks-requires c κs = search needs
-
-sub-t15 : tie.Need-sub-t15
-sub-t15 c = search needs
+sub-t19 : tie.Need-sub-t19
+sub-t19 c = search needs
 
 same-length : tie.Need-same-length
 same-length c = search needs
@@ -27,15 +26,19 @@ same-length c = search needs
 same-length-2 : tie.Need-same-length-2
 same-length-2 c = search needs
 
+same-length-3 : tie.Need-same-length-3
+same-length-3 c = search needs
+
 returns : tie.Need-returns
 returns c =
-    let zeros = c .before .before .zero-blocks in
-    let marks = c .before .before .before .before .before .before .mark in
-    let behind = c .before .before .before .before .before .before .before .before .space in
-    let a = c .before .before .before .before .before .before .before .before .before .before .before .before .args in (
-      ap (λ (x : ℕ). outOf (a .free - a .k) (entryOf openMark (a .start) (a .k)) (Start (a .start) x)) (behind .ensures),
-      marks .ensures,
-      zeros .ensures,
+    let a = c .before .before .before .before .before .before .before .before .before .before .before .before .before .before
+    .before .args in
+    let done = c .before .before .before .before .before .before .occupy .ensures in (
+      ap (λ (x : ℕ). outOf (a .free - a .k) (entryOf openMark (a .start) (a .k)) (Start (a .start) x))
+          (c .before .before .before .before .before .before .before .before .before .before .space .ensures),
+      done .0,
+      done .1,
+      done .2,
     )
 
 pub take-spec : {M : Type 1} → statement M
@@ -43,9 +46,9 @@ take-spec =
     tie.close
     (tie.spec
     space-requires
-    mark-requires
-    zero-blocks-requires
-    sub-t15
+    occupy-requires
+    sub-t19
     same-length
     same-length-2
+    same-length-3
     returns)

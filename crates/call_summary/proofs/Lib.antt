@@ -1,0 +1,2 @@
+-- What row 1 says of the calls on a summary.
+pub mod Fits

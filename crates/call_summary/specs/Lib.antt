@@ -1,0 +1,2 @@
+-- What the contracts of `call_summary` cite.
+pub mod Answers

@@ -1,0 +1,2 @@
+-- What is claimed of the calls with a summary.
+pub mod Summaries

@@ -1,0 +1,119 @@
+-- The calls with a summary beside the map (document 02, request j): what is claimed of them, beside the calls without one.
+-- That it holds is proved in proofs/.
+-- Assumes nothing.
+use Prim.Native.Nat.{ℕ, _<_}
+use mathlib.Core.Path.{_≡_}
+use mathlib.Core.Logic.{_⊎_}
+use mathlib.Core.Bool.{true}
+use mathlib.Core.List.{List, [], _∷_}
+use lib.ListN.{length, getD}
+use Rattle.map_blocks.specs.Blocks.{free}
+use Rattle.summary.specs.Summary.{summaryLength, ownSummary}
+use Rattle.catalogue_standings.specs.Rows.{accepted, refused, firstOf}
+use Rattle.catalogue_standings.specs.declared.Answer.the-variants.{Refused}
+use Rattle.refusals.specs.Placement.{Placement, figuresIn, fitWithin}
+use Rattle.refusals.specs.Table.{Call, Ask, on, reserve, put, grow, complete, pause, resume, release, show, standing, offer}
+use Rattle.refusals.specs.Table.{accept}
+use Rattle.refusals.specs.Table.{tableOf}
+use Rattle.refusals.specs.Views.{viewOn}
+use Rattle.card.specs.Calls.{Kept, lentTo, told, reserveSummaryBy, acceptSummaryBy, growSummaryBy, releaseSummaryBy}
+use Rattle.ledger.specs.Claim.{before}
+use Rattle.ledger.specs.Steps.{End, ending, endIn, endOf, Response, responseOf, stateOn, Step, Runs}
+
+-- ---- steps with a summary
+
+-- The summary that a call leaves: reserve, accept, grow and release have forms that change it; the other calls are not lent it.
+abbrev pub summaryAfter : List ℕ → Kept → Call → List ℕ
+summaryAfter summary s (on sheet (reserve k placement)) = reserveSummaryBy true summary s sheet k placement
+summaryAfter summary s (on sheet (offer k)) = summary
+summaryAfter summary s (on sheet (accept start k)) = acceptSummaryBy true summary s sheet start k
+summaryAfter summary s (on sheet (put p payload)) = summary
+summaryAfter summary s (on sheet (grow m)) = growSummaryBy true summary s sheet m
+summaryAfter summary s (on sheet complete) = summary
+summaryAfter summary s (on sheet pause) = summary
+summaryAfter summary s (on sheet resume) = summary
+summaryAfter summary s (on sheet release) = releaseSummaryBy true summary s sheet
+summaryAfter summary s (on sheet (show p buffer)) = summary
+summaryAfter summary s (on sheet standing) = summary
+
+-- A call from state s that is lent a summary gives a reply and leaves state t and a summary, as the contract of its public
+-- function says.
+abbrev pub StepBy : Kept → List ℕ → Call → Response → Kept → List ℕ → Type 0
+StepBy s summary c reply t summary′ =
+    (reply ≡ responseOf (endIn true summary s c)) × (t ≡ stateOn (endIn true summary s c)) ×
+    (summary′ ≡ summaryAfter summary s c)
+
+-- A list of calls whose map-changing calls are these forms, each lent the summary as the one before left it.
+abbrev pub RunsBy : Kept → List ℕ → List Call → List Response → Kept → List ℕ → Type 0
+RunsBy s summary [] [] t summary′ = (t ≡ s) × (summary′ ≡ summary)
+RunsBy s summary [] (reply ∷ replies) t summary′ = ⊥
+RunsBy s summary (c ∷ calls) [] t summary′ = ⊥
+RunsBy s summary (c ∷ calls) (reply ∷ replies) t summary′ =
+    (m : Kept) × (between : List ℕ) × StepBy s summary c reply m between × RunsBy m between calls replies t summary′
+
+-- The summary of a state that is its map's own.
+abbrev pub ownOf : Kept → List ℕ
+ownOf s = ownSummary (s .map) (s .shape .blocks)
+
+-- ---- with the map's own summary
+
+-- Every call answers and leaves what it does without, and the summary ends as the map's own.
+abbrev pub OwnStep : Kept → Call → Type 0
+OwnStep s c =
+    (reply : Response) (t : Kept) (summary′ : List ℕ) → StepBy s (ownOf s) c reply t summary′
+    → Step s c reply t × (summary′ ≡ ownOf t)
+
+-- So does every list of calls, from any state.
+abbrev pub OwnRuns : Kept → List Call → Type 0
+OwnRuns s calls =
+    (replies : List Response) (t : Kept) (summary′ : List ℕ) → RunsBy s (ownOf s) calls replies t summary′
+    → Runs s calls replies t × (summary′ ≡ ownOf t)
+
+-- ---- with any summary
+
+-- A refusal: the shape as it came, the number, and nothing changed.
+abbrev pub refusing : Kept → ℕ → End
+refusing s number = ending (told (s .shape) (Refused number)) (s .map) (s .entries) (s .card) []
+
+abbrev pub Long : Kept → List ℕ → Type 0
+Long s summary = length summary ≡ summaryLength (length (s .map))
+
+-- A call that is lent a summary of the wrong length is refused with 1; neither that nor anything else is changed.
+abbrev pub Refused1 : Kept → List ℕ → Call → Type 0
+Refused1 s summary c = (endIn true summary s c ≡ refusing s 1) × (summaryAfter summary s c ≡ summary)
+
+pub record WrongLength (s : Kept) (summary : List ℕ) (sheet : ℕ) : Type 0 where
+  pub reserves : (k : ℕ) (p : Placement) → Refused1 s summary (on sheet (reserve k p))
+  pub accepts : (start k : ℕ) → Refused1 s summary (on sheet (accept start k))
+  pub grows : (m : ℕ) → Refused1 s summary (on sheet (grow m))
+  pub releases : Refused1 s summary (on sheet release)
+
+-- A summary of the right length, the map's own or not, changes nothing of accept, grow and release but itself. They are exact.
+pub record AnySummary (s : Kept) (summary : List ℕ) (sheet : ℕ) : Type 0 where
+  pub accepts : (start k : ℕ) → endIn true summary s (on sheet (accept start k)) ≡ endOf s (on sheet (accept start k))
+  pub grows : (m : ℕ) → endIn true summary s (on sheet (grow m)) ≡ endOf s (on sheet (grow m))
+  pub releases : endIn true summary s (on sheet release) ≡ endOf s (on sheet release)
+
+-- A reserve comes to the search if no row before 10 holds. If it does not come there, it is answered as without a summary.
+abbrev pub Comes : Kept → ℕ → ℕ → Placement → Type 0
+Comes s sheet k p = firstOf (before 10 (tableOf (viewOn (lentTo s (s .card) sheet)) (on sheet (reserve k p)))) ≡ accepted
+
+-- If it does, it is refused with 10, or with 4 by the free count, and changes nothing; or it is granted a run that is free,
+-- within its figures, inside n and k long, and then does and answers what an accept of that run does.
+pub data Searched (s : Kept) (summary : List ℕ) (sheet k : ℕ) (p : Placement) : Type 0 where
+  turned-down : (number : ℕ) → (number ≡ 10) ⊎ (number ≡ 4)
+      → endIn true summary s (on sheet (reserve k p)) ≡ refusing s number
+      → summaryAfter summary s (on sheet (reserve k p)) ≡ summary → Searched s summary sheet k p
+  granted : (start : ℕ) → fitWithin (free (s .map)) (figuresIn (s .shape .blocks) p) k start ≡ true
+      → endIn true summary s (on sheet (reserve k p)) ≡ endIn true summary s (on sheet (accept start k))
+      → summaryAfter summary s (on sheet (reserve k p)) ≡ summaryAfter summary s (on sheet (accept start k))
+      → Searched s summary sheet k p
+
+pub record AnyReserve (s : Kept) (summary : List ℕ) (sheet k : ℕ) (p : Placement) : Type 0 where
+  pub refused-before : (number : ℕ)
+      → firstOf (before 10 (tableOf (viewOn (lentTo s (s .card) sheet)) (on sheet (reserve k p)))) ≡ refused number
+      → (endIn true summary s (on sheet (reserve k p)) ≡ endOf s (on sheet (reserve k p)))
+      × (summaryAfter summary s (on sheet (reserve k p)) ≡ summary)
+  pub searched : Comes s sheet k p → Searched s summary sheet k p
+  -- where group 0's longest is below k, the search gives no fit, whatever the map holds
+  pub short : Comes s sheet k p → getD summary 2 0 < k → endIn true summary s (on sheet (reserve k p)) ≡ refusing s 10

@@ -1,0 +1,167 @@
+-- The calls that are lent a summary, beside those that go by the map alone (document 02, request j). A summary of the right
+-- length changes no verdict but that of a reserve's search; with the map's own summary that is the same too, and it is the
+-- changed map's own afterwards.
+-- Assumes nothing.
+use mathlib.Core.Path.{_≡_, refl, sym, ap, _∙_}
+use mathlib.Core.Logic.{_⊎_, inl, inr}
+use mathlib.Core.Bool.{Bool, true, false, not, _&&_}
+use mathlib.Core.List.{List, [], _∷_}
+use Prim.Native.Nat.{ℕ, _+_}
+use native.Mathlib.Omega.{arith}
+use lib.Dec.{ltb}
+use lib.ListN.{length}
+use borrow.Author.Tests.{ne-eqb, eq-eqb}
+use Rattle.map_blocks.specs.Blocks.{free}
+use Rattle.map_blocks.specs.declared.Found.{Found}
+use Rattle.catalogue.specs.declared.Entry.{Entry}
+use Rattle.catalogue_standings.specs.Rows.{Row, row, Verdict, accepted, refused, firstOf, settle}
+use Rattle.catalogue_standings.specs.Searches.{none, startAt}
+use Rattle.catalogue_standings.proofs.Openings.{stop}
+use Rattle.summary.specs.Summary.{summaryLength, ownSummary}
+use Rattle.summary.proofs.Numbers.{own-length}
+use Rattle.summary_search.proofs.Searches.{by-own}
+use Rattle.refusals.specs.Effects.{givingVerdict, addingVerdict, runVerdict, reserveVerdict, reserveStart}
+use Rattle.refusals.specs.Effects.{acceptVerdict, growVerdict, releaseVerdict}
+use Rattle.refusals.specs.Guides.{guideFits, foundBy}
+use Rattle.refusals.specs.Lent.{Lent, lent, lentBeside}
+use Rattle.refusals.specs.Placement.{Placement, figuresIn, misfigured}
+use Rattle.refusals.specs.Table.{tableOf}
+use Rattle.refusals.specs.Views.{viewOn, viewAt}
+use Rattle.refusals.specs.declared.Figures.{Figures}
+use Rattle.refusals.proofs.Accept as accepting
+use Rattle.refusals.proofs.Beginnings.{given}
+use Rattle.refusals.proofs.Grow as growing
+use Rattle.refusals.proofs.Lent.{lengthsFit}
+use Rattle.refusals.proofs.Placement.{figured}
+use Rattle.refusals.proofs.Reserve as reserving
+
+-- row 1 says the same, whatever rows follow
+row-1-same : (t : Bool) (fits : Bool) (rows : List Row) → t ≡ true
+    → firstOf (row 1 (not (t && fits)) ∷ rows) ≡ firstOf (row 1 (not fits) ∷ rows)
+row-1-same t fits rows e = ap (λ (x : Bool). firstOf (row 1 (not (x && fits)) ∷ rows)) e
+
+module _ (summary : List ℕ) (n spare : ℕ) (map card : List ℕ) (c : ℕ) (e : Entry) (sheet : ℕ) where
+  -- with the summary, and without
+  abbrev pub withIt : Lent
+  withIt = lentBeside true summary n spare map card c e sheet
+
+  abbrev pub without : Lent
+  without = lent n spare map card c e sheet
+
+  module _ (long : length summary ≡ summaryLength (length map)) where
+    fits : guideFits true summary (length map) ≡ true
+    fits = eq-eqb (length summary) (summaryLength (length map)) long
+
+    pub giving-same : (k : ℕ) → givingVerdict withIt k ≡ givingVerdict without k
+    unfolding givingVerdict viewOn
+    giving-same k = row-1-same (guideFits true summary (length map)) (lengthsFit without) _ fits
+
+    pub adding-same : (k : ℕ) → addingVerdict withIt k ≡ addingVerdict without k
+    unfolding addingVerdict viewOn
+    adding-same k = row-1-same (guideFits true summary (length map)) (lengthsFit without) _ fits
+
+    pub accept-same : (start k : ℕ) → acceptVerdict withIt start k ≡ acceptVerdict without start k
+    accept-same start k =
+        accepting.verdict-behind withIt start k
+        ∙ ap (λ (v : Verdict). settle v (runVerdict 17 (free map) n spare start k) refused) (giving-same k)
+        ∙ sym (accepting.verdict-behind without start k)
+
+    pub grow-same : (m : ℕ) → growVerdict withIt m ≡ growVerdict without m
+    grow-same m =
+        growing.verdict-behind withIt m
+        ∙ ap (λ (v : Verdict). settle v (runVerdict 11 (free map) n spare (e .start + e .length) m) refused) (adding-same m)
+        ∙ sym (growing.verdict-behind without m)
+
+    pub release-same : releaseVerdict withIt ≡ releaseVerdict without
+    unfolding releaseVerdict viewAt tableOf
+    release-same = row-1-same (guideFits true summary (length map)) _ _ fits
+
+  -- a summary of the wrong length is 1
+  module _ (short : length summary ≡ summaryLength (length map) → ⊥) where
+    misfits : guideFits true summary (length map) ≡ false
+    misfits = ne-eqb (length summary) (summaryLength (length map)) short
+
+    row-1 : (fits : Bool) (rows : List Row) → firstOf (row 1 (not (guideFits true summary (length map) && fits)) ∷ rows) ≡
+        refused 1
+    row-1 fits rows = stop 1 _ rows (ap (λ (x : Bool). not (x && fits)) misfits)
+
+    giving-1 : (k : ℕ) → givingVerdict withIt k ≡ refused 1
+    unfolding givingVerdict viewOn
+    giving-1 k = row-1 (lengthsFit without) _
+
+    pub reserve-1 : (k : ℕ) (p : Placement) → reserveVerdict withIt k p ≡ refused 1
+    reserve-1 k p = reserving.verdict-behind withIt k p
+        ∙ ap (λ (v : Verdict). settle v (firstOf (reserving.rest withIt k p)) refused) (giving-1 k)
+
+    pub accept-1 : (start k : ℕ) → acceptVerdict withIt start k ≡ refused 1
+    accept-1 start k = accepting.verdict-behind withIt start k
+        ∙ ap (λ (v : Verdict). settle v (runVerdict 17 (free map) n spare start k) refused) (giving-1 k)
+
+    pub grow-1 : (m : ℕ) → growVerdict withIt m ≡ refused 1
+    unfolding growVerdict viewOn tableOf
+    grow-1 m = row-1 (lengthsFit without) _
+
+    pub release-1 : releaseVerdict withIt ≡ refused 1
+    unfolding releaseVerdict viewAt tableOf
+    release-1 = row-1 _ _
+
+  -- ---- the map's own summary
+
+  module _ (own : summary ≡ ownSummary map n) where
+    pub own-long : length summary ≡ summaryLength (length map)
+    own-long = ap length own ∙ own-length map n
+
+    module _ (k : ℕ) (p : Placement) where
+      abbrev g : Figures
+      g = figuresIn n p
+
+      -- a reserve that comes to the search finds the same
+      found-same : givingVerdict without k ≡ accepted → misfigured n g ≡ false
+          → foundBy true summary map g k ≡ foundBy false [] map g k
+      found-same opens right =
+          let o = given without k opens in
+          by-own map n summary (g .from) (g .before) (g .step) k (omega (arith, o .sizes .shape .words, o .sizes .shape .limit))
+          (o .sizes .shape .covered) (figured n g right .inside) own (omega (arith, o .some))
+
+      -- it is refused by the same row, or it is given the same start
+      abbrev pub Same : Type 0
+      Same =
+          ((number : ℕ) × (reserveVerdict withIt k p ≡ refused number) × (reserveVerdict without k p ≡ refused number))
+          ⊎ ((reserveVerdict withIt k p ≡ reserveVerdict without k p) × (reserveStart withIt k p ≡ reserveStart without k p))
+
+      behind-same : (v : Verdict) → givingVerdict without k ≡ v → Same
+      unfolding reserveStart
+      behind-same (refused number) h = inl (
+        number,
+        reserving.verdict-behind withIt k p
+            ∙ ap (λ (v : Verdict). settle v (firstOf (reserving.rest withIt k p)) refused) (giving-same own-long k ∙ h),
+        reserving.verdict-behind without k p
+            ∙ ap (λ (v : Verdict). settle v (firstOf (reserving.rest without k p)) refused) h,
+      )
+      behind-same accepted h = go (misfigured n g) refl
+        where
+          by-rest : reserveVerdict withIt k p ≡ firstOf (reserving.rest withIt k p)
+          by-rest = reserving.verdict-behind withIt k p
+              ∙ ap (λ (v : Verdict). settle v (firstOf (reserving.rest withIt k p)) refused) (giving-same own-long k ∙ h)
+
+          by-rest-without : reserveVerdict without k p ≡ firstOf (reserving.rest without k p)
+          by-rest-without = reserving.verdict-behind without k p
+              ∙ ap (λ (v : Verdict). settle v (firstOf (reserving.rest without k p)) refused) h
+
+          go : (t : Bool) → misfigured n g ≡ t → Same
+          go true wrong = inl (
+            15,
+            by-rest ∙ reserving.wrong-figures withIt k p wrong,
+            by-rest-without ∙ reserving.wrong-figures without k p wrong,
+          )
+          go false right =
+              let same = found-same h right in
+              inr (
+                by-rest
+                    ∙ ap (λ (o : Found). firstOf (row 15 (misfigured n g) ∷ row 10 (none o) ∷ row 4 (ltb spare k) ∷ [])) same
+                    ∙ sym by-rest-without,
+                ap startAt same,
+              )
+
+      pub reserve-same : Same
+      reserve-same = behind-same (givingVerdict without k) refl

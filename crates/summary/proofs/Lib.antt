@@ -1,0 +1,8 @@
+-- Laws that the proofs of several functions cite, and those for the crates above.
+mod Checking
+pub mod Numbers
+pub mod Own
+mod Rebuilding
+pub mod Sites
+pub mod Updates
+pub mod Usable

@@ -1,0 +1,4 @@
+-- What the contracts of `summary` cite.
+pub mod Summary
+pub mod Updates
+pub mod Walks

@@ -1,0 +1,34 @@
+-- What an update leaves of a summary, whatever was in it, after some blocks of the map have changed (document 02, request (j)):
+-- only the groups above changed words change.
+-- Assumes nothing.
+use Prim.Native.Nat.{ℕ, zero, suc, _+_, _-_, _*_, _/_}
+use mathlib.Core.Bool.{Bool, _&&_, cond}
+use mathlib.Core.List.{List}
+use lib.Dec.{eqb, ltb}
+use lib.ListN.{length}
+use Rattle.summary_groups.specs.declared.Group.{Group}
+use Rattle.summary_groups.specs.Groups.{Place, place, power, joinedOf}
+use Rattle.summary.specs.Summary.{numbers, groupIn, groupAt, usable}
+
+-- The words at a place have one of the count blocks from start on; with a count of 0 none has.
+abbrev pub changed : ℕ → ℕ → Place → Bool
+changed start count l = ltb 0 count && (ltb start (64 * (l .first + l .size)) && ltb (64 * l .first) (start + count))
+
+-- Group g of p words afterwards: as it was in the summary s, if it has none of the changed words; otherwise that of its word, f
+-- saying which blocks are free, or built from its two halves as they are afterwards. The first argument bounds how often a
+-- group is halved.
+unfoldable pub updatedIn : ℕ → (ℕ → Bool) → ℕ → List ℕ → ℕ → ℕ → ℕ → Group
+unfolding groupAt
+updatedIn zero f p s start count g = groupIn s g
+updatedIn (suc m) f p s start count g =
+    cond (changed start count (place p g))
+    (cond (eqb (place p g .size) 1) (groupAt f p g)
+    (joinedOf (updatedIn m f p s start count (2 * g + 1)) (updatedIn m f p s start count (2 * g + 2))
+    (64 * (place p g .size / 2))))
+    (groupIn s g)
+
+-- The summary afterwards, the count blocks from start on having changed.
+unfoldable pub updatedSummary : List ℕ → ℕ → List ℕ → ℕ → ℕ → List ℕ
+unfolding numbers updatedIn power
+updatedSummary map n s start count =
+    numbers (updatedIn (power (length map)) (usable map n) (power (length map)) s start count) 0 (2 * power (length map) - 1)
