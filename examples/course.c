@@ -26,6 +26,10 @@ static uint8_t card[BLOCKS * PAGUNLIT_BLOCK];
 static uint8_t image[PAGUNLIT_IMAGE_BYTES(BLOCKS, SHEETS)];
 static uint64_t scratch[SCRATCH];
 
+/* Beside the map: a summary of it, of three numbers for each group of words. A map of one word has one group. */
+enum { NUMBERS = PAGUNLIT_SUMMARY_NUMBERS(BLOCKS) };
+static uint32_t summary[NUMBERS];
+
 /* What stands in the place of block b: '.' if it is free, or the number of its sheet. Two sheets would show as '!'. */
 static char holder(uint32_t b)
 {
@@ -145,6 +149,40 @@ static void release(uint32_t sheet)
 
     snprintf(call, sizeof call, "release sheet %u", sheet);
     told(call, pagunlit_release(shape, map, WORDS, catalogue, SHEETS, sheet));
+}
+
+/* The summary is written for the map as it is now. */
+static void build_summary(void)
+{
+    told("build the summary", pagunlit_summary_build(shape, map, WORDS, summary, NUMBERS));
+}
+
+/* What group 0, which is all words, says of the card, and whether that is still so. */
+static void read_summary(void)
+{
+    pagunlit_outcome s = pagunlit_summary_check(shape, map, WORDS, summary, NUMBERS);
+
+    printf("      the summary says: longest run %u; it is %s\n", summary[2], s.first == 1 ? "the map's own" : "an old one");
+}
+
+/* The same calls as above, lent the summary besides. */
+static void reserve_with_summary(uint32_t sheet, uint32_t places)
+{
+    char call[40];
+
+    snprintf(call, sizeof call, "reserve sheet %u, places %u", sheet, places);
+    told(call, pagunlit_reserve_with_summary(shape, map, WORDS, summary, NUMBERS, catalogue, SHEETS, card, sizeof card, sheet,
+                                             places));
+    read_summary();
+}
+
+static void release_with_summary(uint32_t sheet)
+{
+    char call[40];
+
+    snprintf(call, sizeof call, "release sheet %u", sheet);
+    told(call, pagunlit_release_with_summary(shape, map, WORDS, summary, NUMBERS, catalogue, SHEETS, sheet));
+    read_summary();
 }
 
 static void show(uint32_t sheet, uint32_t place)
@@ -320,6 +358,22 @@ static void power_cut(void)
     survey();
 }
 
+static void kept_summary(void)
+{
+    puts("A summary beside the map says at once whether a run is long enough. Calls that are lent it keep it.");
+    build_summary();
+    read_summary();
+    reserve_with_summary(0, 3);
+    release_with_summary(2);
+    reserve_with_summary(0, 7);
+
+    puts("A call that is not lent it leaves it behind. An old summary can miss a run, so it is built again.");
+    release(0);
+    reserve_with_summary(0, 3);
+    build_summary();
+    reserve_with_summary(0, 3);
+}
+
 int main(void)
 {
     prescription();
@@ -327,6 +381,7 @@ int main(void)
     full_card();
     power_cut();
     offers();
+    kept_summary();
     puts("Doses are counts with two decimals. None is not 0, and a digit that cannot be is refused.");
     doses();
     return 0;

@@ -9,16 +9,17 @@
  *
  * compiles a program against it. `tools/install PREFIX` copies this header, pagunlit_text.h and the archive, with a file for
  * pkg-config. The library allocates nothing, opens nothing and keeps nothing. Of the C library it needs memset alone.
- * Stack: a survey takes up to 648 bytes, a reserve 696, any other call 456 at most. docs/C.md has more on all of this.
+ * Stack: a survey takes up to 648 bytes, a reserve 952, a call with a summary 792, any other call 744 at most. docs/C.md has
+ * more on all of this.
  *
  * Global names: all begin with pagunlit_ or PAGUNLIT_, but for the functions `seal` and `check`, which the dispenser's program
  * calls by these names. A program that links the library can have no other global function of these two names.
  *
  * The caller owns all memory. Each call is lent what it needs: a pointer and the number of elements behind it (words of a
- * map, entries of a catalogue, bytes of a card). A length is no more than the memory behind its pointer. A pointer is not
- * NULL and is aligned for its type, even where its length is 0. No two slices of one call may overlap, unless both are
- * const. Nothing is kept from one call to the next: the shape that a call hands back goes into the next call, with the same
- * map, catalogue and card. So calls may be made from any thread, as long as no other writes to what is lent meanwhile.
+ * map, entries of a catalogue, bytes of a card, numbers of a summary). A length is no more than the memory behind its pointer.
+ * A pointer is not NULL and is aligned for its type, even where its length is 0. No two slices of one call may overlap, unless
+ * both are const. Nothing is kept from one call to the next: the shape that a call hands back goes into the next call, with the
+ * same map, catalogue and card. So calls may be made from any thread, as long as no other writes to what is lent meanwhile.
  *
  * Every call may be made with any numbers and any contents. It gives back a pagunlit_outcome. Number 0 is done; first, second
  * and third have then the values that the call answers, 0 where there are none. Any other number is a refusal: the shape
@@ -38,8 +39,8 @@ extern "C" {
 #endif
 
 /* The version of this header, 10000 * first + 100 * second + third, and as a text. */
-#define PAGUNLIT_VERSION 20000
-#define PAGUNLIT_VERSION_TEXT "2.0.0"
+#define PAGUNLIT_VERSION 20100
+#define PAGUNLIT_VERSION_TEXT "2.1.0"
 
 enum {
     PAGUNLIT_BLOCK = 512,       /* bytes of a block */
@@ -51,7 +52,7 @@ enum {
 /* The numbers that a call gives. pagunlit_text.h has their meanings as texts, docs/NUMBERS.md causes and remedies. */
 enum {
     PAGUNLIT_DONE = 0,
-    PAGUNLIT_WRONG_SIZE = 1,     /* blocks, sheets or free count out of limits; a map, card or scratch of the wrong length */
+    PAGUNLIT_WRONG_SIZE = 1,     /* blocks, sheets or free count out of limits; a lent slice of the wrong length */
     PAGUNLIT_NO_SHEET = 2,       /* there is no such sheet in the catalogue */
     PAGUNLIT_WRONG_ARGUMENT = 3, /* a count of 0; a place that the sheet does not have; a payload, block or buffer length */
     PAGUNLIT_DAMAGED = 4,        /* an entry that cannot be, a block that is not sound, a free count that contradicts */
@@ -84,6 +85,13 @@ enum {
 /* Words of the scratch that save and load take for a card of n blocks: 64, or the map's if they are fewer. */
 #define PAGUNLIT_SCRATCH_WORDS(n) (PAGUNLIT_MAP_WORDS(n) < 64 ? PAGUNLIT_MAP_WORDS(n) : (size_t)64)
 
+/* 32-bit numbers of the summary of a card of n blocks, for n within its limits: three for each of 2p - 1 groups, where p is the
+ * least power of two that is not below the words of its map. */
+#define PAGUNLIT_SUMMARY_NUMBERS(n)                                                                                      \
+    (6 * (size_t)((n) <= 64 ? 1u : (n) <= 128 ? 2u : (n) <= 256 ? 4u : (n) <= 512 ? 8u : (n) <= 1024 ? 16u               \
+                : (n) <= 2048 ? 32u : (n) <= 4096 ? 64u : (n) <= 8192 ? 128u : (n) <= 16384 ? 256u                       \
+                : (n) <= 32768 ? 512u : (n) <= 65536 ? 1024u : (n) <= 131072 ? 2048u : 4096u) - 3)
+
 /* Bytes of the image of a card of n blocks and c sheets, for n and c within their limits. */
 #define PAGUNLIT_IMAGE_BYTES(n, c) ((12 + 12 * (size_t)(c) + 8 * PAGUNLIT_MAP_WORDS(n) + 495) / 496 * 512)
 
@@ -112,7 +120,7 @@ pagunlit_outcome pagunlit_fresh(pagunlit_shape shape, uint32_t blocks, uint64_t 
 /* What the functions below mean by "as above":
  *   1   the shape's blocks are not 1 to 262144, or its free count is above them; maplen is not PAGUNLIT_MAP_WORDS of them;
  *       and of a call that is lent them: cataloguelen is not 1 to 1024, cardlen not PAGUNLIT_BLOCK times the blocks,
- *       scratchlen not PAGUNLIT_SCRATCH_WORDS of them
+ *       scratchlen not PAGUNLIT_SCRATCH_WORDS of them, summarylen not PAGUNLIT_SUMMARY_NUMBERS of them
  *   2   sheet is not below cataloguelen
  *   4   the sheet's entry is damaged: its mark is none of the four; or it is Absent and has a start or a length; or it is
  *       Open, Complete, or Paused with a start or a length, and has length 0, goes past the card's last block, or has a block
@@ -225,6 +233,61 @@ pagunlit_outcome pagunlit_standing(pagunlit_shape shape, const uint64_t *map, si
 pagunlit_outcome pagunlit_show(pagunlit_shape shape, const uint64_t *map, size_t maplen, const pagunlit_entry *catalogue,
                                size_t cataloguelen, const uint8_t *card, size_t cardlen, uint32_t sheet, uint32_t place,
                                uint8_t *buffer, size_t bufferlen);
+
+/* A summary beside the map, with which a reserve finds its run, or that there is none, without going through the map. It has
+ * for each group of words three numbers, those of group g from summary[3 * g] on: the free run at the group's head, the one at
+ * its tail, and its longest. Group 0 is all words; groups 2 * g + 1 and 2 * g + 2 are the first and the second half of group g,
+ * down to one word. Missing words at the end count as taken.
+ *
+ * A program builds it once, after fresh or load, and then makes every call that changes the map in its form with the summary,
+ * each lent the summary as the call before left it. All calls then answer as without it, and it stays the map's own. A call
+ * without it leaves it behind, and pagunlit_summary_check tells.
+ *
+ * With a summary that is not the map's own only two things may differ: a reserve may find no run though there is one, or
+ * another run than the lowest; and an accepted call may leave anything in the groups above the words that it changed. Where
+ * group 0's longest is below count, a reserve gives 10 whatever the map holds, unless a number before 10 holds. A run that is
+ * granted is always free, on the card, within its figures and as long as wanted, and the space told is the map's. */
+
+/* Writes the map's own summary, whatever was there before.
+ *   1   as above */
+pagunlit_outcome pagunlit_summary_build(pagunlit_shape shape, const uint64_t *map, size_t maplen, uint32_t *summary,
+                                        size_t summarylen);
+
+/* first: 1 if the summary is the map's own, else 0.
+ *   1   as above */
+pagunlit_outcome pagunlit_summary_check(pagunlit_shape shape, const uint64_t *map, size_t maplen, const uint32_t *summary,
+                                        size_t summarylen);
+
+/* pagunlit_reserve with a summary. It is changed in the groups above the words that are marked, and in no other.
+ *   1, 2, 4, 6, 7, 8, 3, 10, 4   as pagunlit_reserve */
+pagunlit_outcome pagunlit_reserve_with_summary(pagunlit_shape shape, uint64_t *map, size_t maplen, uint32_t *summary,
+                                               size_t summarylen, pagunlit_entry *catalogue, size_t cataloguelen,
+                                               uint8_t *card, size_t cardlen, uint32_t sheet, uint32_t count);
+
+/* pagunlit_reserve_placed with a summary, likewise.
+ *   1, 2, 4, 6, 7, 8, 3, 15, 10, 4   as pagunlit_reserve_placed */
+pagunlit_outcome pagunlit_reserve_placed_with_summary(pagunlit_shape shape, uint64_t *map, size_t maplen, uint32_t *summary,
+                                                      size_t summarylen, pagunlit_entry *catalogue, size_t cataloguelen,
+                                                      uint8_t *card, size_t cardlen, uint32_t sheet, uint32_t count,
+                                                      uint32_t from, uint32_t before, uint32_t step);
+
+/* pagunlit_accept with a summary, likewise. Whatever the summary says, it answers and leaves all else as without it.
+ *   1, 2, 4, 6, 7, 8, 3, 17, 4   as pagunlit_accept */
+pagunlit_outcome pagunlit_accept_with_summary(pagunlit_shape shape, uint64_t *map, size_t maplen, uint32_t *summary,
+                                              size_t summarylen, pagunlit_entry *catalogue, size_t cataloguelen,
+                                              uint8_t *card, size_t cardlen, uint32_t sheet, uint32_t start, uint32_t count);
+
+/* pagunlit_grow with a summary, likewise.
+ *   1, 2, 4, 5, 6, 8, 3, 11, 4   as pagunlit_grow */
+pagunlit_outcome pagunlit_grow_with_summary(pagunlit_shape shape, uint64_t *map, size_t maplen, uint32_t *summary,
+                                            size_t summarylen, pagunlit_entry *catalogue, size_t cataloguelen, uint8_t *card,
+                                            size_t cardlen, uint32_t sheet, uint32_t count);
+
+/* pagunlit_release with a summary, likewise.
+ *   1, 2, 4, 5, 4   as pagunlit_release */
+pagunlit_outcome pagunlit_release_with_summary(pagunlit_shape shape, uint64_t *map, size_t maplen, uint32_t *summary,
+                                               size_t summarylen, pagunlit_entry *catalogue, size_t cataloguelen,
+                                               uint32_t sheet);
 
 /* Saves shape, map and catalogue as an image, of exactly PAGUNLIT_IMAGE_BYTES. The scratch has PAGUNLIT_SCRATCH_WORDS
  * of the blocks, and is all zeros afterwards, whatever the answer. The card's blocks are no part of the image.

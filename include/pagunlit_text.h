@@ -13,7 +13,7 @@ static inline const char *pagunlit_meaning(uint32_t number)
         return "done";
     case PAGUNLIT_WRONG_SIZE:
         return "n or c is outside its limits; free count above n; "
-               "a lent map, card or scratch (on load also the catalogue) has the wrong length";
+               "a lent map, summary, card or scratch (on load also the catalogue) has the wrong length";
     case PAGUNLIT_NO_SHEET:
         return "sheet number >= c";
     case PAGUNLIT_WRONG_ARGUMENT:

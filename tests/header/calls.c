@@ -1,6 +1,6 @@
 /* Calls every function through the headers, with arguments that all differ, and prints what came back and what was changed.
  * tests/header/src/calls.rs works the same calls out by the card of tests/src, bit by bit, and compares line by line; which
- * calls the first two parts make, it is told by the names: the call, its sheet and its number. */
+ * calls the first three parts make, it is told by the names: the call, its sheet and its number. */
 #include "pagunlit.h"
 #include "pagunlit_text.h"
 
@@ -10,12 +10,13 @@
 
 enum { N = 70, C = 3, W = PAGUNLIT_MAP_WORDS(N), S = PAGUNLIT_SCRATCH_WORDS(N) };
 
-enum { CARD = N * PAGUNLIT_BLOCK, IMAGE = PAGUNLIT_IMAGE_BYTES(N, C) };
+enum { CARD = N * PAGUNLIT_BLOCK, IMAGE = PAGUNLIT_IMAGE_BYTES(N, C), NUMBERS = PAGUNLIT_SUMMARY_NUMBERS(N) };
 
 static pagunlit_shape shape;
 static uint64_t map[W], scratch[S];
 static pagunlit_entry catalogue[C];
 static uint8_t card[CARD], image[IMAGE], slice[PAGUNLIT_PAYLOAD];
+static uint32_t summary[NUMBERS];
 
 /* A number for a run of bytes (FNV-1a), so that a line stays short. */
 static uint64_t number_of(const void *bytes, size_t length)
@@ -47,6 +48,8 @@ static void disorder(void)
         catalogue[s].start = 3 * s + 2;
         catalogue[s].length = 3 * s + 3;
     }
+    for (uint32_t i = 0; i < NUMBERS; i++)
+        summary[i] = 40 + i;
     fill(slice, sizeof slice, 99);
 }
 
@@ -62,6 +65,9 @@ static void told(const char *call, pagunlit_outcome outcome)
     printf(" scratch");
     for (uint32_t i = 0; i < S; i++)
         printf(" %016" PRIx64, scratch[i]);
+    printf(" summary");
+    for (uint32_t i = 0; i < NUMBERS; i++)
+        printf(" %u", summary[i]);
     printf(" card %016" PRIx64 " image %016" PRIx64 " slice %016" PRIx64 "\n", number_of(card, sizeof card),
            number_of(image, sizeof image), number_of(slice, sizeof slice));
     shape = outcome.shape;
@@ -90,6 +96,44 @@ static void take(const char *call, uint32_t sheet, uint32_t start, uint32_t coun
 static void grow(const char *call, uint32_t sheet, uint32_t count)
 {
     told(call, pagunlit_grow(shape, map, W, catalogue, C, card, sizeof card, sheet, count));
+}
+
+static void reserve_with_summary(const char *call, uint32_t sheet, uint32_t count)
+{
+    told(call, pagunlit_reserve_with_summary(shape, map, W, summary, NUMBERS, catalogue, C, card, sizeof card, sheet, count));
+}
+
+static void reserve_placed_with_summary(const char *call, uint32_t sheet, uint32_t count, uint32_t from, uint32_t before,
+                                        uint32_t step)
+{
+    told(call, pagunlit_reserve_placed_with_summary(shape, map, W, summary, NUMBERS, catalogue, C, card, sizeof card, sheet,
+                                                    count, from, before, step));
+}
+
+static void take_with_summary(const char *call, uint32_t sheet, uint32_t start, uint32_t count)
+{
+    told(call, pagunlit_accept_with_summary(shape, map, W, summary, NUMBERS, catalogue, C, card, sizeof card, sheet, start,
+                                            count));
+}
+
+static void grow_with_summary(const char *call, uint32_t sheet, uint32_t count)
+{
+    told(call, pagunlit_grow_with_summary(shape, map, W, summary, NUMBERS, catalogue, C, card, sizeof card, sheet, count));
+}
+
+static void release_with_summary(const char *call, uint32_t sheet)
+{
+    told(call, pagunlit_release_with_summary(shape, map, W, summary, NUMBERS, catalogue, C, sheet));
+}
+
+static void build(const char *call, size_t length)
+{
+    told(call, pagunlit_summary_build(shape, map, W, summary, length));
+}
+
+static void check_summary(const char *call)
+{
+    told(call, pagunlit_summary_check(shape, map, W, summary, NUMBERS));
 }
 
 static void put(const char *call, uint32_t sheet, uint32_t place)
@@ -168,6 +212,32 @@ static void course(void)
     survey("survey again");
     save("save", sizeof image);
     printf("head\t%u %u\n", pagunlit_image_blocks(image, sizeof image), pagunlit_image_sheets(image, sizeof image));
+}
+
+/* A summary beside the map, built and kept; then one that another call has left behind, whose group 0 says that the card is
+ * full. */
+static void with_summary(void)
+{
+    check_summary("summary-check");
+    build("summary-build short", NUMBERS - 1);
+    build("summary-build", NUMBERS);
+    reserve_with_summary("summary-reserve 2 4", 2, 4);
+    check_summary("summary-check again");
+    grow_with_summary("summary-grow 2 1", 2, 1);
+    release_with_summary("summary-release 2", 2);
+    reserve_placed_with_summary("summary-placed 2 4 21 66 7", 2, 4, 21, 66, 7);
+    release_with_summary("summary-release placed 2", 2);
+    take_with_summary("summary-accept 2 60 9", 2, 60, 9);
+    check_summary("summary-check accepted");
+    reserve_with_summary("summary-reserve 0 5", 0, 5);
+    take_with_summary("summary-accept 1 1 2", 1, 1, 2);
+    grow_with_summary("summary-grow 2 7", 2, 7);
+    reserve_placed_with_summary("summary-placed 3 4 21 66 7", 3, 4, 21, 66, 7);
+    release_with_summary("summary-release accepted 2", 2);
+    take_with_summary("summary-accept full 2 10 60", 2, 10, 60);
+    told("release full 2", pagunlit_release(shape, map, W, catalogue, C, 2));
+    reserve_with_summary("summary-reserve full 2 10", 2, 10);
+    check_summary("summary-check full");
 }
 
 /* The other refusals, by a state that is sound. */
@@ -262,6 +332,7 @@ int main(void)
     fill(image, sizeof image, 6);
     disorder();
     course();
+    with_summary();
     refusals();
     images();
     blocks();

@@ -10,7 +10,8 @@
 enum { SMALL = 5000, WORDS = PAGUNLIT_MAP_WORDS(PAGUNLIT_BLOCKS), ALL_SHEETS = 80 };
 
 /* The macros are constant expressions. */
-_Static_assert(PAGUNLIT_MAP_WORDS(1) > 0 && PAGUNLIT_SCRATCH_WORDS(1) > 0 && PAGUNLIT_IMAGE_BYTES(1, 1) > 0,
+_Static_assert(PAGUNLIT_MAP_WORDS(1) > 0 && PAGUNLIT_SCRATCH_WORDS(1) > 0 && PAGUNLIT_SUMMARY_NUMBERS(1) > 0 &&
+                   PAGUNLIT_IMAGE_BYTES(1, 1) > 0,
                "the macros are no constant expressions");
 
 #define CONSTANT(name) printf(#name "\t%lld\n", (long long)(name))
@@ -97,7 +98,8 @@ static void bytes(uint32_t n, uint32_t c)
     printf("PAGUNLIT_IMAGE_BYTES(%u,%u)\t%zu\n", n, c, PAGUNLIT_IMAGE_BYTES(n, c));
 }
 
-/* All n from 0 on, the limits, and the largest 32-bit number; for images all c with the first words and with the most. */
+/* All n from 0 on, the limits, and the largest 32-bit number; for summaries all n within their limits; for images all c with
+ * the first words and with the most. */
 static void macros(void)
 {
     for (uint32_t n = 0; n <= SMALL; n++)
@@ -105,6 +107,8 @@ static void macros(void)
     for (uint32_t n = PAGUNLIT_BLOCKS - SMALL; n <= PAGUNLIT_BLOCKS + 1; n++)
         words(n);
     words(UINT32_MAX);
+    for (uint32_t n = 1; n <= PAGUNLIT_BLOCKS; n++)
+        printf("PAGUNLIT_SUMMARY_NUMBERS(%u)\t%zu\n", n, PAGUNLIT_SUMMARY_NUMBERS(n));
     for (uint32_t n = 0; n <= SMALL; n++)
         for (uint32_t c = 0; c <= PAGUNLIT_SHEETS; c += 32)
             bytes(n, c);
@@ -124,13 +128,16 @@ static void parentheses(void)
 {
     printf("type PAGUNLIT_MAP_WORDS\t%s\n", TYPE(PAGUNLIT_MAP_WORDS(1)));
     printf("type PAGUNLIT_SCRATCH_WORDS\t%s\n", TYPE(PAGUNLIT_SCRATCH_WORDS(1)));
+    printf("type PAGUNLIT_SUMMARY_NUMBERS\t%s\n", TYPE(PAGUNLIT_SUMMARY_NUMBERS(1)));
     printf("type PAGUNLIT_IMAGE_BYTES\t%s\n", TYPE(PAGUNLIT_IMAGE_BYTES(1, 1)));
     printf("inside PAGUNLIT_MAP_WORDS(1|64)\t%zu\n", PAGUNLIT_MAP_WORDS(1 | 64));
     printf("inside PAGUNLIT_SCRATCH_WORDS(1|64)\t%zu\n", PAGUNLIT_SCRATCH_WORDS(1 | 64));
+    printf("inside PAGUNLIT_SUMMARY_NUMBERS(1|64)\t%zu\n", PAGUNLIT_SUMMARY_NUMBERS(1 | 64));
     printf("inside PAGUNLIT_IMAGE_BYTES(1|4096,1)\t%zu\n", PAGUNLIT_IMAGE_BYTES(1 | 4096, 1));
     printf("inside PAGUNLIT_IMAGE_BYTES(64,1|128)\t%zu\n", PAGUNLIT_IMAGE_BYTES(64, 1 | 128));
     printf("outside 128/PAGUNLIT_MAP_WORDS(65)\t%zu\n", 128 / PAGUNLIT_MAP_WORDS(65));
     printf("outside 128/PAGUNLIT_SCRATCH_WORDS(8192)\t%zu\n", 128 / PAGUNLIT_SCRATCH_WORDS(8192));
+    printf("outside 63/PAGUNLIT_SUMMARY_NUMBERS(65)\t%zu\n", 63 / PAGUNLIT_SUMMARY_NUMBERS(65));
     printf("outside 4096/PAGUNLIT_IMAGE_BYTES(64,100)\t%zu\n", 4096 / PAGUNLIT_IMAGE_BYTES(64, 100));
 }
 

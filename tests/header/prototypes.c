@@ -4,6 +4,7 @@
  * compares the names of the functions and of their parameters. */
 #define SHAPE pagunlit_shape shape
 #define MAP uint64_t *map, size_t maplen
+#define SUMMARY uint32_t *summary, size_t summarylen
 #define CATALOGUE pagunlit_entry *catalogue, size_t cataloguelen
 #define CARD uint8_t *card, size_t cardlen
 #define SCRATCH uint64_t *scratch, size_t scratchlen
@@ -28,6 +29,15 @@ pagunlit_outcome pagunlit_release(SHAPE, MAP, CATALOGUE, uint32_t sheet);
 pagunlit_outcome pagunlit_standing(SHAPE, const MAP, const CATALOGUE, uint32_t sheet);
 pagunlit_outcome pagunlit_show(SHAPE, const MAP, const CATALOGUE, const CARD, uint32_t sheet, uint32_t place, uint8_t *buffer,
                                size_t bufferlen);
+pagunlit_outcome pagunlit_summary_build(SHAPE, const MAP, SUMMARY);
+pagunlit_outcome pagunlit_summary_check(SHAPE, const MAP, const SUMMARY);
+pagunlit_outcome pagunlit_reserve_with_summary(SHAPE, MAP, SUMMARY, CATALOGUE, CARD, uint32_t sheet, uint32_t count);
+pagunlit_outcome pagunlit_reserve_placed_with_summary(SHAPE, MAP, SUMMARY, CATALOGUE, CARD, uint32_t sheet, uint32_t count,
+                                                      uint32_t from, uint32_t before, uint32_t step);
+pagunlit_outcome pagunlit_accept_with_summary(SHAPE, MAP, SUMMARY, CATALOGUE, CARD, uint32_t sheet, uint32_t start,
+                                              uint32_t count);
+pagunlit_outcome pagunlit_grow_with_summary(SHAPE, MAP, SUMMARY, CATALOGUE, CARD, uint32_t sheet, uint32_t count);
+pagunlit_outcome pagunlit_release_with_summary(SHAPE, MAP, SUMMARY, CATALOGUE, uint32_t sheet);
 pagunlit_outcome pagunlit_save(SHAPE, const MAP, const CATALOGUE, SCRATCH, IMAGE);
 pagunlit_outcome pagunlit_load(SHAPE, const IMAGE, MAP, CATALOGUE, SCRATCH);
 pagunlit_count pagunlit_read_count(const uint8_t *payload, size_t payloadlen, uint32_t which);

@@ -34,6 +34,7 @@ mod tests {
             map: vec![true; 1024],
             sheets: vec![entry(0x43, 5, 6); 60],
             bytes: Vec::new(),
+            summary: Vec::new(),
         };
         assert_eq!(loaded.load(IMAGE, &mut [5; 16]), Answer::Done);
         assert!(loaded == card());

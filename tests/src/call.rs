@@ -23,12 +23,19 @@ pub enum Kind {
     Release,
     Show,
     Standing,
+    ReserveWithSummary,
+    ReservePlacedWithSummary,
+    AcceptWithSummary,
+    GrowWithSummary,
+    ReleaseWithSummary,
+    SummaryBuild,
+    SummaryCheck,
 }
 
 /// Every kind of call, with the rows of document 01's table that can refuse it, in the order under the table. A row of
 /// document 02 stands where its request says.
 #[rustfmt::skip]
-pub const CALLS: [(Kind, &str, &[Row]); 15] = [
+pub const CALLS: [(Kind, &str, &[Row]); 22] = [
     (Kind::Fresh, "fresh", &[Blocks, Sheets, MapLength]),
     (Kind::Search, "search", &[Blocks, FreeAboveN, MapLength, NoBlocks, NoFit]),
     (Kind::Survey, "survey", &[Blocks, FreeAboveN, MapLength]),
@@ -53,6 +60,27 @@ pub const CALLS: [(Kind, &str, &[Row]); 15] = [
     (Kind::Show, "show", &[Blocks, Sheets, FreeAboveN, MapLength, CardLength, NoSheet, Damaged,
         Absent, Paused, Open, NoPlace, SliceLength, Unsound]),
     (Kind::Standing, "standing", &[Blocks, Sheets, FreeAboveN, MapLength, NoSheet, Damaged]),
+    (Kind::ReserveWithSummary, "summary-reserve", &[Blocks, Sheets, FreeAboveN, MapLength, SummaryLength, CardLength,
+        NoSheet, Damaged, Paused, Open, Complete, NoBlocks, NoFit, FreeCount]),
+    (Kind::ReservePlacedWithSummary, "summary-placed", &[Blocks, Sheets, FreeAboveN, MapLength, SummaryLength, CardLength,
+        NoSheet, Damaged, Paused, Open, Complete, NoBlocks, NoStep, FromNotBefore, BeforeAboveN, NoFit, FreeCount]),
+    (Kind::AcceptWithSummary, "summary-accept", &[Blocks, Sheets, FreeAboveN, MapLength, SummaryLength, CardLength,
+        NoSheet, Damaged, Paused, Open, Complete, NoBlocks, RunNotFree, FreeCount]),
+    (Kind::GrowWithSummary, "summary-grow", &[Blocks, Sheets, FreeAboveN, MapLength, SummaryLength, CardLength,
+        NoSheet, Damaged, Absent, Paused, Complete, NoBlocks, NotNext, FreeCount]),
+    (Kind::ReleaseWithSummary, "summary-release", &[Blocks, Sheets, FreeAboveN, MapLength, SummaryLength,
+        NoSheet, Damaged, Absent, FreeCount]),
+    (Kind::SummaryBuild, "summary-build", &[Blocks, FreeAboveN, MapLength, SummaryLength]),
+    (Kind::SummaryCheck, "summary-check", &[Blocks, FreeAboveN, MapLength, SummaryLength]),
+];
+
+/// The calls that change the map, each with its form that is lent a summary (document 02, (j)).
+const FORMS: [(Kind, Kind); 5] = [
+    (Kind::Reserve, Kind::ReserveWithSummary),
+    (Kind::ReservePlaced, Kind::ReservePlacedWithSummary),
+    (Kind::Accept, Kind::AcceptWithSummary),
+    (Kind::Grow, Kind::GrowWithSummary),
+    (Kind::Release, Kind::ReleaseWithSummary),
 ];
 
 /// The rows of save and load, which have an image and a scratch and no other arguments.
@@ -122,6 +150,23 @@ impl Kind {
     pub fn has_slice(self) -> bool {
         self.rows().contains(&SliceLength)
     }
+
+    /// Whether the call is lent the summary.
+    pub fn has_summary(self) -> bool {
+        self.rows().contains(&SummaryLength)
+    }
+
+    /// The form of a call that is lent the summary; a call that has none is itself.
+    pub fn with_summary(self) -> Kind {
+        let form = FORMS.iter().find(|(without, _)| *without == self);
+        form.map_or(self, |(_, form)| *form)
+    }
+
+    /// The call that this is a form of: what it does besides using the summary. A call that is no form is itself.
+    pub fn without_summary(self) -> Kind {
+        let form = FORMS.iter().find(|(_, form)| *form == self);
+        form.map_or(self, |(without, _)| *without)
+    }
 }
 
 /// Bytes that a number stands for, so that a call can be printed: 0 for zeros, 1 for 255s, any other for random bytes.
@@ -164,6 +209,16 @@ pub struct Call {
     pub start: u32,
     /// The payload that a put brings, or what a show's buffer has before.
     pub bytes: Bytes,
+    pub search: Search,
+}
+
+/// How the search of a reserve ends. Document 02, (j), leaves that open where it is lent a false summary.
+#[derive(Clone, Copy, PartialEq)]
+pub enum Search {
+    /// As the map and group 0 say.
+    Exact,
+    /// With this start, or with none.
+    Ended(Option<usize>),
 }
 
 /// A call with a payload or a buffer of the right length.
@@ -175,6 +230,7 @@ pub const fn call(kind: Kind, sheet: u32, number: u32) -> Call {
         figures: figures(0, 0, 0),
         start: 0,
         bytes: PAYLOAD,
+        search: Search::Exact,
     }
 }
 
@@ -199,6 +255,17 @@ impl Call {
         Call { bytes, ..self }
     }
 
+    /// The form of the call that is lent the summary; a call that has none is itself.
+    pub fn with_summary(self) -> Call {
+        let kind = self.kind.with_summary();
+        Call { kind, ..self }
+    }
+
+    /// The call with a search that ends in some way.
+    pub const fn with_search(self, search: Search) -> Call {
+        Call { search, ..self }
+    }
+
     /// The payload or the buffer, empty for a call that has none.
     pub fn slice(self) -> Vec<u8> {
         if self.kind.has_slice() {
@@ -216,13 +283,13 @@ impl fmt::Display for Call {
         if kind.has_sheet() {
             write!(f, " {}", self.sheet)?;
         }
-        if kind == Kind::Accept {
+        if kind.without_summary() == Kind::Accept {
             write!(f, " {}", self.start)?;
         }
         if kind.has_number() {
             write!(f, " {}", self.number)?;
         }
-        if kind == Kind::ReservePlaced {
+        if kind.without_summary() == Kind::ReservePlaced {
             let Figures { from, before, step } = self.figures;
             write!(f, " {from} {before} {step}")?;
         }
@@ -243,6 +310,26 @@ mod tests {
         for (at, (kind, name, _)) in CALLS.iter().enumerate() {
             assert_eq!(*kind as usize, at);
             assert_eq!(Kind::named(name), Some(*kind));
+        }
+    }
+
+    /// Document 02, (j): "Both reserves, accept, grow and release have forms that use it", "A summary of the wrong length is
+    /// 1"; the other rows are those of the call without it, in their order.
+    #[test]
+    fn forms_have_the_rows_of_the_call_and_the_summarys_length() {
+        let forms = CALLS
+            .iter()
+            .filter(|(kind, ..)| kind.with_summary() != *kind);
+        assert_eq!(forms.clone().count(), 5);
+        for (kind, name, rows) in forms {
+            let form = kind.with_summary();
+            assert!(
+                form.has_summary() && form.without_summary() == *kind,
+                "{name}"
+            );
+            let mut others = form.rows().to_vec();
+            others.retain(|row| *row != SummaryLength);
+            assert_eq!(others, *rows, "{name}");
         }
     }
 

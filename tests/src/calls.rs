@@ -1,5 +1,6 @@
 //! The examples of the calls: a line for each call, and for each change that no call makes.
 
+mod false_summary_calls;
 mod filling_calls;
 mod limits;
 mod offer_calls;
@@ -9,17 +10,52 @@ mod placed_calls;
 mod random_calls;
 mod space_calls;
 mod store;
+mod summary_calls;
 
+use crate::call::Kind;
 use crate::random::Random;
 use store::Store;
 
 pub fn examples() -> String {
     let store = &mut Store::new();
-    let first = [
+    let mut text = sections(store, first().into_iter().chain(lists()).chain(last()));
+    text += &random(store);
+    text += &sections(store, with_summary());
+    text + &random_with_summary(store)
+}
+
+/// A heading, and the lines below it.
+type Section = (&'static str, String);
+
+fn sections(store: &mut Store, sections: impl Iterator<Item = Section>) -> String {
+    sections
+        .map(|(name, list)| format!("== {name}\n{}", store.lines(&list)))
+        .collect()
+}
+
+fn first() -> [Section; 2] {
+    [
         ("fresh", limits::fresh()),
         ("search and survey", limits::searches()),
+    ]
+}
+
+/// Lists of calls, each on a fresh card of its own.
+fn lists() -> impl Iterator<Item = Section> {
+    let lists = [
+        filling_calls::LISTS,
+        placed_calls::LISTS,
+        space_calls::LISTS,
+        offer_calls::LISTS,
+        pause_calls::LISTS,
+        other_calls::LISTS,
     ];
-    let last = [
+    let lists = lists.into_iter().flatten();
+    lists.map(|(name, list)| (*name, on_70(list)))
+}
+
+fn last() -> [Section; 6] {
+    [
         ("word boundaries", limits::BOUNDARIES.to_string()),
         (
             "word boundaries of placed reserves",
@@ -32,28 +68,49 @@ pub fn examples() -> String {
         ),
         ("numbers of sheets", limits::SHEETS.to_string()),
         ("row 1", limits::row_1()),
-    ];
-    let lists = [
-        filling_calls::LISTS,
-        placed_calls::LISTS,
-        space_calls::LISTS,
-        offer_calls::LISTS,
-        pause_calls::LISTS,
-        other_calls::LISTS,
-    ];
-    let lists = lists.iter().flat_map(|lists| lists.iter());
+    ]
+}
+
+/// The calls that are lent a summary.
+fn with_summary() -> impl Iterator<Item = Section> {
+    let lists = [summary_calls::LISTS, false_summary_calls::LISTS];
+    let lists = lists.into_iter().flatten();
     let lists = lists.map(|(name, list)| (*name, on_70(list)));
-    let sections = first.into_iter().chain(lists).chain(last);
-    let mut text = String::new();
-    for (name, list) in sections {
-        text += &format!("== {name}\n");
-        text += &store.lines(&list);
-    }
-    text += &format!("== random\n{}", store.lines(&on_70("")));
+    let words = summary_calls::WORDS.to_string();
+    lists.chain([
+        ("summaries of one word and of three", words),
+        ("row 1 with a summary", limits::row_1_with_summary()),
+    ])
+}
+
+fn random(store: &mut Store) -> String {
     let random = &mut Random(0x9e3779b97f4a7c15);
+    let text = format!("== random\n{}", store.lines(&on_70("")));
     (0..random_calls::CALLS).fold(text, |text, _| {
         text + &store.line(&random_calls::random_call(random.draw()))
     })
+}
+
+/// Random calls that are lent a summary if they change the map; the summary is checked after each of these.
+fn random_with_summary(store: &mut Store) -> String {
+    let random = &mut Random(0xd1b54a32d192ed03);
+    let mut text = "== random, with a summary\n".to_string();
+    text += &store.lines(&on_70("summary-build"));
+    for _ in 0..random_calls::WITH_SUMMARY {
+        let call = lent_summary(&random_calls::random_call(random.draw()));
+        text += &store.line(&call);
+        if call.starts_with("summary-") {
+            text += &store.line("summary-check");
+        }
+    }
+    text
+}
+
+/// The line of a call that changes the map becomes that of its form with a summary.
+fn lent_summary(line: &str) -> String {
+    let word = line.split(' ').next().unwrap_or("");
+    let form = Kind::named(word).expect("a call").with_summary();
+    line.replacen(word, form.name(), 1)
 }
 
 /// A fresh card of 70 blocks and 4 sheets, and the lines of a list.

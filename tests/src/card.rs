@@ -4,6 +4,9 @@
 use crate::blocks::*;
 use crate::call::{Call, Kind};
 use crate::rows::Row;
+use crate::summary::summary_numbers;
+
+mod with_summary;
 
 /// What a call answers.
 #[derive(Clone, Copy, Debug, PartialEq)]
@@ -15,6 +18,8 @@ pub enum Answer {
     Offered(usize, usize),
     Stands(Entry),
     Counted(usize, usize, usize),
+    /// Whether the summary is the map's own.
+    Own(bool),
     Blank(usize),
     Refused(u32),
 }
@@ -52,6 +57,8 @@ pub struct Card {
     /// One entry for each sheet.
     pub sheets: Vec<Entry>,
     pub bytes: Vec<u8>,
+    /// The numbers of the summary, three for each group.
+    pub summary: Vec<u32>,
 }
 
 const BLOCK: usize = 512;
@@ -122,6 +129,7 @@ impl Card {
             Row::Sheets => !(1..=1024).contains(&self.sheets.len()),
             Row::FreeAboveN => self.free > self.n,
             Row::MapLength => self.map.len() != 64 * words_of(n),
+            Row::SummaryLength => self.summary.len() != summary_numbers(n),
             Row::CardLength => self.bytes.len() != BLOCK * self.n,
             Row::NoSheet => self.entry_of(call).is_none(),
             Row::NoBlocks => number == 0,
@@ -129,9 +137,9 @@ impl Card {
             Row::NoStep => call.figures.step == 0,
             Row::FromNotBefore => call.figures.from >= call.figures.before,
             Row::BeforeAboveN => call.figures.before as usize > n,
-            Row::NoFit => number > 0 && self.least_fit(call).is_none(),
+            Row::NoFit => number > 0 && self.found(call).is_none(),
             Row::RunNotFree => number > 0 && !self.run_is_free(call.start as usize, number),
-            Row::FreeCount if call.kind != Kind::Release => number > self.free,
+            Row::FreeCount if call.kind.without_summary() != Kind::Release => number > self.free,
             _ => match self.entry_of(call) {
                 Some(entry) => self.holds_for_entry(row, call, entry),
                 None => false,
@@ -178,12 +186,16 @@ impl Card {
 
     /// The least fit for a search, a reserve or an offer: that of a plain reserve is the one with the figures 0, n and 1.
     fn least_fit(&self, call: Call) -> Option<usize> {
-        let figures = match call.kind {
+        let blocks = self.n.min(self.map.len());
+        let figures = self.figures_of(call);
+        least_fit(&self.map[..blocks], figures, call.number as usize)
+    }
+
+    fn figures_of(&self, call: Call) -> Figures {
+        match call.kind.without_summary() {
             Kind::ReservePlaced => call.figures,
             _ => plain(self.n),
-        };
-        let blocks = self.n.min(self.map.len());
-        least_fit(&self.map[..blocks], figures, call.number as usize)
+        }
     }
 
     /// A start, and the space behind it: up to the next taken block or n, whatever `before` is.
@@ -228,6 +240,7 @@ impl Card {
     /// holds, and then changes nothing. With 9 goes the lowest blank place (document 02 (d)).
     pub fn call(&mut self, call: Call, slice: &mut [u8]) -> Answer {
         match self.first(call) {
+            None if call.kind.has_summary() => self.accepted_with_summary(call, slice),
             None => self.accepted(call, slice),
             Some(Row::Blank) => {
                 let entry = self.sheets[call.sheet as usize];
@@ -237,20 +250,20 @@ impl Card {
         }
     }
 
-    /// A call for which no row holds.
+    /// A call for which no row holds. What it does to a summary is with_summary.rs.
     fn accepted(&mut self, call: Call, slice: &mut [u8]) -> Answer {
         let (sheet, number) = (call.sheet as usize, call.number as usize);
-        match call.kind {
+        match call.kind.without_summary() {
             Kind::Fresh => self.fresh(number),
-            Kind::Search => self.with_space(self.least_fit(call).unwrap()),
+            Kind::Search => self.with_space(self.found(call).unwrap()),
             Kind::Survey => {
                 let counts = survey(&self.map, self.n);
                 Counted(counts.free, counts.runs, counts.longest)
             }
             Kind::Reserve | Kind::ReservePlaced => {
-                self.reserve(sheet, self.least_fit(call).unwrap(), number)
+                self.reserve(sheet, self.found(call).unwrap(), number)
             }
-            Kind::Offer => Offered(self.least_fit(call).unwrap(), number),
+            Kind::Offer => Offered(self.found(call).unwrap(), number),
             Kind::Accept => self.reserve(sheet, call.start as usize, number),
             Kind::Grow => {
                 let Entry { start, length, .. } = self.sheets[sheet];
@@ -268,6 +281,9 @@ impl Card {
                 Done
             }
             Kind::Standing => Stands(self.sheets[sheet]),
+            Kind::SummaryBuild => Done,
+            Kind::SummaryCheck => Own(self.has_own_summary()),
+            form => unreachable!("{form:?} is done as the call without the summary"),
         }
     }
 
@@ -320,6 +336,8 @@ impl Card {
 mod paused_tests;
 #[cfg(test)]
 mod placed_tests;
+#[cfg(test)]
+mod summary_tests;
 
 #[cfg(test)]
 mod tests {
@@ -348,6 +366,7 @@ mod tests {
             map: (0..64).map(|b| b == 0 || b == 1 || b == 7).collect(),
             sheets: vec![entry(OPEN, 2, 5)],
             bytes: vec![0; 8 * BLOCK],
+            summary: Vec::new(),
         };
         let complete = call(Kind::Complete, 0, 0);
         for (filled, lowest) in [(1, 0), (4, 0), (0, 2), (3, 2)] {

@@ -247,6 +247,7 @@ impl Image<'_> {
             map: from_words(&(0..words_of(self.n())).map(words).collect::<Vec<u64>>()),
             sheets: (0..self.c()).map(sheet).collect(),
             bytes: Vec::new(),
+            summary: Vec::new(),
         })
     }
 }
@@ -263,6 +264,7 @@ mod tests {
             map: vec![false; 64 * words_of(n)],
             sheets: vec![entry(0, 0, 0); c],
             bytes: vec![],
+            summary: vec![],
         };
         assert_eq!(card.call(call(Kind::Fresh, 0, n as u32), &mut []), Done);
         card

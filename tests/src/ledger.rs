@@ -116,11 +116,13 @@ impl Ledger {
 
     // The calls: the rows that hold for them in their order, then the change.
 
-    /// What the ledger answers to a call of a list, and leaves in its payload or buffer. Fresh, search and survey are none.
+    /// What the ledger answers to a call of a list, and leaves in its payload or buffer. Fresh, search and survey are none, nor
+    /// are the build and the check of a summary. With a true summary a form is answered as the call without it.
     pub fn call(&mut self, call: Call, slice: &mut [u8]) -> Option<Answer> {
         let (sheet, number) = (call.sheet, call.number);
-        let answer = match call.kind {
+        let answer = match call.kind.without_summary() {
             Kind::Fresh | Kind::Search | Kind::Survey => return None,
+            Kind::SummaryBuild | Kind::SummaryCheck => return None,
             Kind::Reserve => self.reserve(sheet, number as usize, plain(self.n)),
             Kind::ReservePlaced => self.reserve(sheet, number as usize, call.figures),
             Kind::Offer => self.offer(sheet, number as usize),
@@ -133,6 +135,7 @@ impl Ledger {
             Kind::Release => self.release(sheet),
             Kind::Show => self.show(sheet, number, slice),
             Kind::Standing => self.standing(sheet),
+            form => unreachable!("{form:?} is answered as the call without the summary"),
         };
         Some(answer.unwrap_or_else(|refusal| refusal))
     }

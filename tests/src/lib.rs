@@ -13,4 +13,5 @@ pub mod map;
 pub mod printer;
 pub mod random;
 pub mod rows;
+pub mod summary;
 pub mod worked;

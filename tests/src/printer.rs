@@ -18,6 +18,7 @@ fn fresh(n: usize, c: usize) -> Card {
         map: from_words(&vec![0; words_of(n)]),
         sheets: vec![entry(0x41, 0, 0); c],
         bytes: vec![0; 512 * n],
+        summary: Vec::new(),
     };
     card.map.iter_mut().take(n).for_each(|block| *block = true);
     card

@@ -13,8 +13,9 @@ pub enum Row {
     Sheets,
     /// 1: the free count is above n.
     FreeAboveN,
-    /// 1: the lent map, card, catalogue (on load) or scratch has the wrong length.
+    /// 1: the lent map, summary, card, catalogue (on load) or scratch has the wrong length.
     MapLength,
+    SummaryLength,
     CardLength,
     CatalogueLength,
     ScratchLength,
@@ -74,7 +75,7 @@ impl Row {
     pub fn number(self) -> u32 {
         match self {
             Blocks | Sheets | FreeAboveN => 1,
-            MapLength | CardLength | CatalogueLength | ScratchLength => 1,
+            MapLength | SummaryLength | CardLength | CatalogueLength | ScratchLength => 1,
             NoSheet => 2,
             NoBlocks | NoPlace | SliceLength => 3,
             Damaged | Unsound | FreeCount | SavedState => 4,
@@ -112,10 +113,11 @@ type Apart = (
 const APART: &[Apart] = &[
     (&[], &[NoSheet], &[Damaged, Absent, Paused, PausedEmpty, Open, Complete, NoPlace, Unsound, Blank, NotNext],
         "a sheet that the catalogue does not have has no entry, no places and no blocks"),
-    (&["release"], &[NoSheet], &[FreeCount], "a sheet that the catalogue does not have has no length"),
+    (&["release", "summary-release"], &[NoSheet], &[FreeCount], "a sheet that the catalogue does not have has no length"),
     (&[], STANDINGS, STANDINGS, "an entry has one mark"),
     (&["complete"], &[Absent], &[Unsound, Blank], "a sheet without places has no blocks"),
-    (&["release"], &[Absent], &[FreeCount], "a free count not above n stays so if a length of 0 is added"),
+    (&["release", "summary-release"], &[Absent], &[FreeCount],
+        "a free count not above n stays so if a length of 0 is added"),
     (&[], &[NoBlocks], &[NoFit, NotNext, RunNotFree], "a fit is for k ≥ 1, and no blocks are free and inside n"),
     (&[], &[NoBlocks], &[FreeCount], "0 is not above the free count"),
 ];

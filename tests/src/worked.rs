@@ -30,6 +30,7 @@ pub(crate) fn card_of(n: usize, sheets: &[Sheet]) -> Card {
             .map(|&(mark, start, length)| entry(mark, start as u32, length as u32))
             .collect(),
         bytes: Vec::new(),
+        summary: Vec::new(),
     }
 }
 

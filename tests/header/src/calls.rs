@@ -4,6 +4,7 @@
 use bitwise::blocks::{figures, from_words, to_words};
 use bitwise::call::{accept, call, placed, Call, Kind, CALLS};
 use bitwise::card::{entry, sealed, Answer, Card};
+use bitwise::summary::summary_numbers;
 use std::fmt::Write;
 
 const N: usize = 70;
@@ -43,6 +44,7 @@ fn numbers(answer: Answer) -> (u32, [usize; 3]) {
         Answer::Offered(start, length) => (0, [start, length, 0]),
         Answer::Stands(e) => (0, [e.mark, e.start, e.length].map(|number| number as usize)),
         Answer::Counted(free, runs, longest) => (0, [free, runs, longest]),
+        Answer::Own(own) => (0, [own as usize, 0, 0]),
         Answer::Blank(place) => (9, [place, 0, 0]),
         Answer::Refused(number) => (number, [0; 3]),
     }
@@ -55,12 +57,13 @@ fn call_of(kind: Kind, name: &str) -> Call {
         .filter_map(|word| word.parse().ok())
         .collect();
     let at = |i: usize| numbers.get(i).copied().unwrap_or(0);
-    match kind {
+    let call = match kind.without_summary() {
         Kind::ReservePlaced => placed(at(0), at(1), figures(at(2), at(3), at(4))),
         Kind::Accept => accept(at(0), at(1), at(2)),
-        kind if kind.has_sheet() => call(kind, at(0), at(1)),
-        kind => call(kind, 0, at(0)),
-    }
+        _ if kind.has_sheet() => call(kind, at(0), at(1)),
+        _ => call(kind, 0, at(0)),
+    };
+    Call { kind, ..call }
 }
 
 impl State {
@@ -71,6 +74,7 @@ impl State {
             map: vec![],
             sheets: vec![],
             bytes: filled(512 * N, 5),
+            summary: vec![],
         };
         let mut state = State {
             card,
@@ -91,6 +95,7 @@ impl State {
         self.card.sheets = (0..C)
             .map(|s| entry(3 * s + 1, 3 * s + 2, 3 * s + 3))
             .collect();
+        self.card.summary = (40..).take(summary_numbers(N)).collect();
         self.slice = filled(496, 99);
     }
 
@@ -116,6 +121,10 @@ impl State {
         }
         line += " scratch";
         line += &words(&self.scratch);
+        line += " summary";
+        for number in &card.summary {
+            write!(line, " {number}").unwrap();
+        }
         let slices = [&card.bytes, &self.image, &self.slice].map(|slice| number_of(slice));
         write!(
             line,
@@ -149,12 +158,21 @@ impl State {
         self.told(name, answer);
     }
 
+    /// A build that is lent a summary without its last number.
+    fn build_short(&mut self, name: &str) {
+        let last = self.card.summary.pop();
+        let answer = self.card.call(call(Kind::SummaryBuild, 0, 0), &mut []);
+        self.card.summary.extend(last);
+        self.told(name, answer);
+    }
+
     /// What calls.c does of a sound card, by the name that it prints.
     fn named(&mut self, name: &str) {
         let word = name.split(' ').next().unwrap_or("");
         match (name, Kind::named(word)) {
             ("save", _) => self.save(name, 512),
             ("save short", _) => self.save(name, 511),
+            ("summary-build short", _) => self.build_short(name),
             ("head", _) => self.line(name, format!("{N} {C}")),
             (_, None) => self.line(word, "is no call of document 01".to_string()),
             (_, Some(kind)) => self.call(name, call_of(kind, name)),
@@ -229,7 +247,7 @@ fn missing(state: &State) -> Vec<String> {
             ));
         }
     }
-    for name in ["save", "save short", "head"] {
+    for name in ["save", "save short", "summary-build short", "head"] {
         if !state.lines.iter().any(|(line, _)| line == name) {
             wrong.push(format!("calls.c has no line `{name}`"));
         }

@@ -30,8 +30,8 @@ const NUMBERS: [(u32, &str, &str); 18] = [
     (
         1,
         "PAGUNLIT_WRONG_SIZE",
-        "n or c is outside its limits; free count above n; a lent map, card or scratch (on load also the catalogue) has the \
-         wrong length",
+        "n or c is outside its limits; free count above n; a lent map, summary, card or scratch (on load also the catalogue) \
+         has the wrong length",
     ),
     (2, "PAGUNLIT_NO_SHEET", "sheet number >= c"),
     (3, "PAGUNLIT_WRONG_ARGUMENT", "k or m is 0; place >= length; a payload, block or show buffer has the wrong length"),
@@ -73,6 +73,7 @@ pub fn names() -> Vec<&'static str> {
     let macros = [
         "PAGUNLIT_MAP_WORDS",
         "PAGUNLIT_SCRATCH_WORDS",
+        "PAGUNLIT_SUMMARY_NUMBERS",
         "PAGUNLIT_IMAGE_BYTES",
     ];
     constants
@@ -94,6 +95,21 @@ fn words(n: u64) -> u64 {
 /// The words of a scratch (document 02, (h)): 64, or the map's length if that is less.
 fn scratch_words(n: u64) -> u64 {
     words(n).min(64)
+}
+
+/// The numbers of a summary (document 02, (j)): p is the least power of two not below the words, and 2p - 1 groups have three
+/// numbers each, which are counted here level by level, from p groups of one word up to the one of all.
+fn summary_numbers(n: u64) -> u64 {
+    let mut p = 1;
+    while p < words(n) {
+        p *= 2;
+    }
+    let mut groups = p;
+    while p > 1 {
+        p /= 2;
+        groups += p;
+    }
+    3 * groups
 }
 
 /// The image's blocks of 512 bytes, each with 496 of the body: n, free count, c, c entries of 12 bytes, w words of 8.
@@ -168,6 +184,12 @@ fn lines_of_macros() -> Vec<(String, String)> {
             ),
         ]
     };
+    let summary = |n: u64| {
+        (
+            format!("PAGUNLIT_SUMMARY_NUMBERS({n})"),
+            summary_numbers(n).to_string(),
+        )
+    };
     let image = |n: u64, c: u64| {
         (
             format!("PAGUNLIT_IMAGE_BYTES({n},{c})"),
@@ -175,6 +197,7 @@ fn lines_of_macros() -> Vec<(String, String)> {
         )
     };
     let mut lines: Vec<_> = n_of_words.chain([u32::MAX as u64]).flat_map(word).collect();
+    lines.extend((1..=262_144).map(summary));
     for n in 0..=5000 {
         lines.extend((0..=1024).step_by(32).map(|c| image(n, c)));
     }
@@ -193,9 +216,11 @@ fn lines_of_expressions() -> Vec<(String, String)> {
     vec![
         size("PAGUNLIT_MAP_WORDS"),
         size("PAGUNLIT_SCRATCH_WORDS"),
+        size("PAGUNLIT_SUMMARY_NUMBERS"),
         size("PAGUNLIT_IMAGE_BYTES"),
         line("inside PAGUNLIT_MAP_WORDS(1|64)", words(65)),
         line("inside PAGUNLIT_SCRATCH_WORDS(1|64)", scratch_words(65)),
+        line("inside PAGUNLIT_SUMMARY_NUMBERS(1|64)", summary_numbers(65)),
         line(
             "inside PAGUNLIT_IMAGE_BYTES(1|4096,1)",
             image_bytes(4097, 1),
@@ -208,6 +233,10 @@ fn lines_of_expressions() -> Vec<(String, String)> {
         line(
             "outside 128/PAGUNLIT_SCRATCH_WORDS(8192)",
             128 / scratch_words(8192),
+        ),
+        line(
+            "outside 63/PAGUNLIT_SUMMARY_NUMBERS(65)",
+            63 / summary_numbers(65),
         ),
         line(
             "outside 4096/PAGUNLIT_IMAGE_BYTES(64,100)",

@@ -44,9 +44,11 @@ fn last_name(text: &str) -> &str {
     &text[text.rfind(|c| !is_name(c)).map_or(0, |at| at + 1)..]
 }
 
-/// The functions that a header declares or defines, outside of all braces, with the names of their parameters.
+/// The functions that a header declares or defines, outside of all braces, with the names of their parameters. A line of the
+/// preprocessor may go on behind a backslash.
 fn functions(code: &str) -> Functions {
     let code: String = code
+        .replace("\\\n", " ")
         .lines()
         .filter(|line| !line.trim_start().starts_with('#'))
         .map(|line| format!("{line}\n"))

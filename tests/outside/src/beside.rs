@@ -1,12 +1,14 @@
 //! The library beside the card and the ledger: every call is made of all three, and answers and buffers are compared.
 
 use crate::counts::Counts;
-use crate::library::{bytes, entries, words, Entry, Lent, Library, Outcome, Shape};
+use crate::library::{bytes, entries, numbers, words, Entry, Lent, Library, Outcome, Shape};
 use crate::pauses::is_paused_course;
+use crate::summaries::settled;
 use bitwise::blocks::to_words;
 use bitwise::call::{call, Call, Kind};
 use bitwise::card::{Answer, Card};
 use bitwise::ledger::Ledger;
+use bitwise::summary::build;
 
 /// How much of the card's bytes is compared after a call.
 #[derive(Clone, Copy, PartialEq)]
@@ -39,6 +41,7 @@ pub fn library_of(card: &Card, margin: usize) -> Library {
         map: words(&to_words(&card.map), margin),
         catalogue: entries(&card.sheets, margin),
         card: bytes(&card.bytes, margin),
+        summary: numbers(&card.summary, margin),
     }
 }
 
@@ -115,29 +118,55 @@ impl Beside {
 
     /// Makes a call, compares, and counts the rows that held for it. On a card of full size only the first row is looked for.
     pub fn call(&mut self, call: Call, counts: &mut Counts) -> Result<(), String> {
+        let mut lent = bytes(&call.slice(), self.margin);
+        let outcome = self.library.call(call, &mut lent);
+        let call = settled(&self.card, call, outcome)?;
         let held = match self.compared {
             Compared::All => self.card.held(call),
             Compared::Part => self.card.first(call).into_iter().collect(),
         };
-        self.compare(call)?;
+        self.compare(call, outcome, &lent)?;
         counts.note(call.kind.name(), &held);
         Ok(())
     }
 
-    fn compare(&mut self, call: Call) -> Result<(), String> {
+    /// A call that has been made of the library is made of card and ledger: with what it gave, and left of its slice.
+    fn compare(&mut self, call: Call, outcome: Outcome, lent: &Lent<u8>) -> Result<(), String> {
         let before = call.slice();
         let mut after = before.clone();
-        let mut lent = bytes(&before, self.margin);
-        let outcome = self.library.call(call, &mut lent);
-        let answer = self.card.call(call, &mut after);
+        let answer = self.card_call(call, &mut after);
         same_outcome(outcome, &self.card, answer)?;
         self.library.shape = outcome.shape;
-        same_slice("payload or buffer", &lent, &after)?;
+        same_slice("payload or buffer", lent, &after)?;
         same_tables(&self.library, &self.card)?;
+        same_slice("summary", &self.library.summary, &self.card.summary)?;
         self.same_bytes(call)?;
         self.by_ledger(call, answer, before, &after)?;
         self.calls += 1;
         Ok(())
+    }
+
+    /// From here on another summary is lent.
+    pub fn lend_summary(&mut self, summary: Vec<u32>) {
+        self.library.summary = numbers(&summary, self.margin);
+        self.card.summary = summary;
+    }
+
+    /// The summary is one built anew.
+    pub fn summary_is_own(&self) -> Result<(), String> {
+        let own = build(&self.card.map, self.card.n);
+        same_slice("summary, built anew,", &self.library.summary, &own)
+    }
+
+    /// The call of the card. What a false summary leaves open in the summary is taken over from the library.
+    fn card_call(&mut self, call: Call, slice: &mut [u8]) -> Answer {
+        if !call.kind.has_summary() || self.card.has_own_summary() {
+            return self.card.call(call, slice);
+        }
+        let map = self.card.map.clone();
+        let answer = self.card.call(call, slice);
+        self.card.take_open_groups(&map, self.library.summary.now());
+        answer
     }
 
     fn same_bytes(&self, call: Call) -> Result<(), String> {
@@ -264,8 +293,9 @@ impl Beside {
     /// A course that is paused is not shown, and is taken up again.
     fn take_up(&mut self, sheet: usize) -> Result<(), String> {
         if is_paused_course(&self.card.sheets[sheet]) {
-            self.compare(call(Kind::Show, sheet as u32, 0))?;
-            self.compare(call(Kind::Resume, sheet as u32, 0))?;
+            let counts = &mut Counts::default();
+            self.call(call(Kind::Show, sheet as u32, 0), counts)?;
+            self.call(call(Kind::Resume, sheet as u32, 0), counts)?;
         }
         Ok(())
     }

@@ -31,7 +31,7 @@ pub struct Counts {
     pairs: BTreeMap<(&'static str, Row, Row), u64>,
     /// Saves and loads, by what was tried and the answer.
     images: BTreeMap<(&'static str, String), u64>,
-    /// Placed reserves and accepts, by what they are examples of.
+    /// Placed reserves, accepts and calls with a summary, by what they are examples of.
     kinds: BTreeMap<String, u64>,
 }
 
@@ -58,12 +58,12 @@ impl Counts {
     /// A line for each call. A row that could have been the answer and never was is an error, for then the calls have not
     /// tested it. Rows 1 and 4 hold in damaged states only.
     pub fn report(&self, damaged: bool) -> Result<(), String> {
-        print!("  {:<14}", "");
+        print!("  {:<15}", "");
         COLUMNS.iter().for_each(|column| print!(" {column:>7}"));
         println!();
         let mut missing = Vec::new();
         for (_, name, rows) in CALLS {
-            print!("  {name:<14}");
+            print!("  {name:<15}");
             for in_column in COLUMNS {
                 let only_damaged = in_column == "1" || in_column.starts_with('4');
                 let possible = rows.iter().any(|row| column(Some(*row)) == in_column);
@@ -109,12 +109,18 @@ impl Counts {
         *self.kinds.entry(kind.to_string()).or_default() += 1;
     }
 
+    /// The line of a kind of call.
+    pub fn print_kind(&self, kind: &str) {
+        let made = self.kinds.get(kind).copied().unwrap_or(0);
+        println!("  {kind:<64} {made:>7}");
+    }
+
     /// A line for each kind of call. One that should have been made and never was is an error.
     pub fn report_kinds(&self, expected: impl Iterator<Item = String>) -> Result<(), String> {
         let expected: Vec<String> = expected.collect();
         let made = |kind: &String| self.kinds.get(kind).copied().unwrap_or(0);
         for kind in &expected {
-            println!("  {kind:<56} {:>7}", made(kind));
+            self.print_kind(kind);
         }
         let missing: Vec<String> = expected
             .into_iter()

@@ -5,10 +5,12 @@ use crate::beside::{Beside, Compared};
 use crate::counts::Counts;
 use crate::generate::Generator;
 use crate::lists::{small_size, used_card};
+use crate::spoiled::spoil;
 use bitwise::blocks::words_of;
 use bitwise::call::{call, Kind};
 use bitwise::card::{entry, sealed, Card};
 use bitwise::random::Random;
+use bitwise::summary::summary_numbers;
 
 pub const MARKS: [u32; 4] = [0x41, 0x50, 0x4f, 0x43];
 const OTHER_MARKS: [u32; 6] = [0, 1, 0x42, 0x6f, 0x4f4f, 0x4300_0000];
@@ -68,11 +70,15 @@ fn calls_on(
 ) -> Result<(), String> {
     let mut beside = Beside::new(card.clone(), margin, Compared::All);
     for _ in 0..generator.random.within(4, 16) {
-        let call = if generator.random.chance(1, 60) {
-            let n = card.n as u32;
-            call(Kind::Fresh, 0, generator.around(n))
-        } else {
-            generator.call(&beside.card)
+        let call = match generator.random.within(0, 60) {
+            0 => {
+                let n = card.n as u32;
+                call(Kind::Fresh, 0, generator.around(n))
+            }
+            1..=5 => call(Kind::SummaryBuild, 0, 0),
+            6..=8 => call(Kind::SummaryCheck, 0, 0),
+            9..=34 => generator.call(&beside.card).with_summary(),
+            _ => generator.call(&beside.card),
         };
         *log += &format!("    {call}\n");
         beside.call(call, counts)?;
@@ -88,6 +94,7 @@ fn fit(card: &mut Card, (n, c): (usize, usize)) -> String {
     card.map.resize(64 * words_of(n), true);
     card.sheets.resize(c, entry(0x41, 0, 0));
     card.bytes.resize(512 * n, 0xee);
+    card.summary.resize(summary_numbers(n), 1);
     format!(
         "lengths and limits are as they should be, the free count is {}",
         card.free
@@ -96,7 +103,8 @@ fn fit(card: &mut Card, (n, c): (usize, usize)) -> String {
 
 /// Changes something, and says what.
 pub fn damage(card: &mut Card, generator: &mut Generator) -> String {
-    match generator.random.within(0, 20) {
+    match generator.random.within(0, 23) {
+        20..=22 => damage_summary(card, generator),
         0..=3 => damage_map(card, generator),
         4..=8 => damage_entry(card, generator),
         9..=13 => damage_block(card, generator),
@@ -117,6 +125,21 @@ fn damage_map(card: &mut Card, generator: &mut Generator) -> String {
     card.map[start..end].fill(free);
     let state = if free { "free" } else { "taken" };
     format!("blocks {start} to {} of the map become {state}", end - 1)
+}
+
+/// The summary is another one, or gets another length.
+fn damage_summary(card: &mut Card, generator: &mut Generator) -> String {
+    let (numbers, random) = (card.summary.len(), &mut generator.random);
+    if numbers > 0 && random.chance(3, 4) {
+        let (kind, summary) = spoil(card, random);
+        card.summary = summary;
+        return format!("the summary becomes {kind}");
+    }
+    let right = summary_numbers(card.n.min(400));
+    let length = random.one(&[0, right, right - 1, right + 1, 2 * right + 3, right / 2]);
+    card.summary
+        .resize(length, random.one(&[0, 1, 70, u32::MAX]));
+    format!("lent are {length} numbers of the summary")
 }
 
 fn damage_entry(card: &mut Card, generator: &mut Generator) -> String {

@@ -131,9 +131,11 @@ impl Generator {
         }
     }
 
-    /// Any of the calls but fresh, with any numbers.
+    /// Any of the calls that are lent no summary, but for fresh, with any numbers.
     fn any_call(&mut self, card: &Card) -> Call {
-        let kind = self.random.one(&CALLS[1..]).0;
+        let kinds = CALLS[1..].iter().map(|(kind, ..)| *kind);
+        let kinds: Vec<Kind> = kinds.filter(|kind| !kind.has_summary()).collect();
+        let kind = self.random.one(&kinds);
         let sheet = if kind.has_sheet() {
             self.any_sheet(card)
         } else {
@@ -293,7 +295,7 @@ pub fn accepted(kind: Kind, card: &Card, random: &mut Random) -> Call {
         .filter(|sheet| admits(kind, &card.sheets[*sheet]))
         .collect();
     let sheet = random.one(&sheets);
-    let number = match kind {
+    let number = match kind.without_summary() {
         Kind::Reserve | Kind::ReservePlaced | Kind::Offer | Kind::Accept | Kind::Grow => {
             random.within(1, 3)
         }
@@ -301,14 +303,15 @@ pub fn accepted(kind: Kind, card: &Card, random: &mut Random) -> Call {
         _ => 0,
     };
     let call = call(kind, sheet as u32, number as u32);
-    match kind {
+    let call = match kind.without_summary() {
         Kind::ReservePlaced => placed(call.sheet, call.number, admitting(card, number, random)),
         Kind::Accept => {
             let start = some_start(card, number, random);
             accept(call.sheet, start as u32, call.number)
         }
         _ => call,
-    }
+    };
+    Call { kind, ..call }
 }
 
 /// n of a fresh, or k of a search.

@@ -80,6 +80,7 @@ pub fn other_tables(n: usize, c: usize) -> Card {
         map: (0..64 * words_of(n)).map(|b| b % 3 == 0).collect(),
         sheets: vec![entry(0x43, 5, 6); c],
         bytes: Vec::new(),
+        summary: Vec::new(),
     }
 }
 
@@ -87,7 +88,7 @@ pub fn other_tables(n: usize, c: usize) -> Card {
 fn sound_state(n: usize, c: usize, random: Random) -> (Card, Random) {
     let generator = &mut Generator::new(random);
     let mut card = state(n, c, generator);
-    card.bytes = Vec::new();
+    (card.bytes, card.summary) = (Vec::new(), Vec::new());
     for entry in card.sheets.iter_mut().filter(|entry| entry.mark == 0x43) {
         entry.mark = generator.random.one(&[0x43, 0x50]);
     }

@@ -8,6 +8,7 @@ use bitwise::blocks::{figures, words_of};
 use bitwise::call::{accept, call, placed, Bytes, Call, Kind, CALLS};
 use bitwise::card::{entry, Card};
 use bitwise::random::Random;
+use bitwise::summary::build;
 
 /// One call on a card.
 pub fn one(card: &Card, call: Call, margin: usize, counts: &mut Counts) -> Result<(), String> {
@@ -15,15 +16,17 @@ pub fn one(card: &Card, call: Call, margin: usize, counts: &mut Counts) -> Resul
     beside.call(call, counts).map_err(|error| {
         let (words, sheets, bytes) = (card.map.len() / 64, card.sheets.len(), card.bytes.len());
         let (blocks, first) = (card.map.get(..4), card.sheets.first());
+        let (numbers, group) = (card.summary.len(), card.summary.get(..3));
         format!(
             "n {}, free {}, {words} words (blocks 0 to 3: {blocks:?}), {sheets} entries (the first: {first:?}), \
-            {bytes} bytes\n    {call}\n{error}",
+            {bytes} bytes, a summary of {numbers} numbers (group 0: {group:?})\n    {call}\n{error}",
             card.n, card.free
         )
     })
 }
 
-/// A card of 70 blocks: sheet 0 is complete, sheet 1 open and filled, sheet 2 absent, sheet 3 a paused course.
+/// A card of 70 blocks with its own summary: sheet 0 is complete, sheet 1 open and filled, sheet 2 absent, sheet 3 a paused
+/// course.
 fn four_sheets() -> Card {
     let mut card = used_card(70, 4, &mut Random::of(0));
     let calls = [
@@ -43,6 +46,7 @@ fn four_sheets() -> Card {
     for call in calls {
         card.call(call, &mut call.slice());
     }
+    card.summary = build(&card.map, card.n);
     card
 }
 
@@ -64,7 +68,8 @@ pub fn lengths(margin: usize, counts: &mut Counts) -> Result<(), String> {
     Ok(())
 }
 
-/// A card, and the same with another length of the map, the catalogue or the card, or with another n or free count.
+/// A card, and the same with another length of the map, the summary, the catalogue or the card, or with another n or free
+/// count.
 fn other_lengths(whole: &Card) -> Vec<Card> {
     let mut cards = vec![whole.clone()];
     let mut add = |change: &dyn Fn(&mut Card)| {
@@ -74,6 +79,9 @@ fn other_lengths(whole: &Card) -> Vec<Card> {
     };
     for words in 0..=4 {
         add(&|card| card.map.resize(64 * words, true));
+    }
+    for numbers in 0..=46 {
+        add(&|card| card.summary.resize(numbers, 70));
     }
     for sheets in (0..=6).chain(1022..=1027) {
         add(&|card| card.sheets.resize(sheets, entry(0x41, 0, 0)));
@@ -101,10 +109,12 @@ fn other_lengths(whole: &Card) -> Vec<Card> {
 pub fn limits(margin: usize, counts: &mut Counts) -> Result<(), String> {
     for n in [262143, 262144, 262145, 262208] {
         for c in [1, 1023, 1024, 1025] {
+            let map: Vec<bool> = (0..64 * words_of(n)).map(|b| b < n).collect();
             let card = Card {
                 n,
                 free: n,
-                map: (0..64 * words_of(n)).map(|b| b < n).collect(),
+                summary: build(&map, n),
+                map,
                 sheets: vec![entry(0x41, 0, 0); c],
                 // Calls that are not lent the card need none.
                 bytes: Vec::new(),
@@ -119,8 +129,25 @@ pub fn limits(margin: usize, counts: &mut Counts) -> Result<(), String> {
         map: vec![true; 64 * words_of(n)],
         sheets: vec![entry(0x41, 0, 0)],
         bytes: vec![0; 512 * n],
+        summary: build(&vec![true; n], n),
     };
     at_limits(card, margin, counts)
+}
+
+/// Placed reserves and accepts of a sheet: some that find no fit or no run, and those of all blocks, each then released. First
+/// with a summary, which is built and checked, and then without it.
+fn runs_of_all(n: u32, sheet: u32) -> Vec<Call> {
+    let calls = [
+        placed(sheet, 1, figures(1, n, n)),
+        placed(sheet, n, figures(0, n, n)),
+        call(Kind::Release, sheet, 0),
+        accept(sheet, 1, n),
+        accept(sheet, n, 1),
+        accept(sheet, 0, n),
+        call(Kind::Release, sheet, 0),
+    ];
+    let build = [Kind::SummaryBuild, Kind::SummaryCheck].map(|kind| call(kind, 0, 0));
+    [&build, &calls.map(Call::with_summary)[..], &build, &calls].concat()
 }
 
 fn at_limits(card: Card, margin: usize, counts: &mut Counts) -> Result<(), String> {
@@ -128,10 +155,11 @@ fn at_limits(card: Card, margin: usize, counts: &mut Counts) -> Result<(), Strin
     // Standing first, of an Absent sheet; then all calls, of which the last take back what the others did.
     let others = CALLS.iter().map(|(kind, ..)| *kind);
     let others = others.filter(|kind| {
-        !matches!(
+        let apart = matches!(
             kind,
             Kind::Release | Kind::Fresh | Kind::ReservePlaced | Kind::Accept
-        )
+        );
+        !apart && !kind.has_summary()
     });
     let kinds = std::iter::once(Kind::Standing).chain(others);
     let calls = kinds.chain([Kind::Release, Kind::Fresh]).map(|kind| {
@@ -142,17 +170,7 @@ fn at_limits(card: Card, margin: usize, counts: &mut Counts) -> Result<(), Strin
             _ => call(kind, sheet, 0),
         }
     });
-    // Placed reserves and accepts before them: some that find no fit or no run, and those of all blocks, each then released.
-    let first = [
-        placed(last, 1, figures(1, n, n)),
-        placed(last, n, figures(0, n, n)),
-        call(Kind::Release, last, 0),
-        accept(last, 1, n),
-        accept(last, n, 1),
-        accept(last, 0, n),
-        call(Kind::Release, last, 0),
-    ];
-    let calls = first.into_iter().chain(calls);
+    let calls = runs_of_all(n, last).into_iter().chain(calls);
     let limits = format!("{n} blocks and {} sheets", card.sheets.len());
     let mut beside = Beside::new(card, margin, Compared::All);
     for call in calls {

@@ -48,6 +48,7 @@ impl Outcome {
             Answer::Offered(start, length) => (0, [start as u32, length as u32, 0]),
             Answer::Stands(e) => (0, [e.mark, e.start, e.length]),
             Answer::Counted(free, runs, longest) => (0, [free as u32, runs as u32, longest as u32]),
+            Answer::Own(own) => (0, [own as u32, 0, 0]),
             Answer::Blank(place) => (9, [place as u32, 0, 0]),
             Answer::Refused(number) => (number, [0, 0, 0]),
         };
@@ -94,6 +95,22 @@ mod c {
             sheet: u32) -> Outcome;
         pub fn pagunlit_show(shape: Shape, map: *const u64, maplen: usize, catalogue: *const Entry, cataloguelen: usize,
             card: *const u8, cardlen: usize, sheet: u32, place: u32, buffer: *mut u8, bufferlen: usize) -> Outcome;
+        pub fn pagunlit_summary_build(shape: Shape, map: *const u64, maplen: usize, summary: *mut u32, summarylen: usize)
+            -> Outcome;
+        pub fn pagunlit_summary_check(shape: Shape, map: *const u64, maplen: usize, summary: *const u32, summarylen: usize)
+            -> Outcome;
+        pub fn pagunlit_reserve_with_summary(shape: Shape, map: *mut u64, maplen: usize, summary: *mut u32, summarylen: usize,
+            catalogue: *mut Entry, cataloguelen: usize, card: *mut u8, cardlen: usize, sheet: u32, count: u32) -> Outcome;
+        pub fn pagunlit_reserve_placed_with_summary(shape: Shape, map: *mut u64, maplen: usize, summary: *mut u32,
+            summarylen: usize, catalogue: *mut Entry, cataloguelen: usize, card: *mut u8, cardlen: usize, sheet: u32,
+            count: u32, from: u32, before: u32, step: u32) -> Outcome;
+        pub fn pagunlit_accept_with_summary(shape: Shape, map: *mut u64, maplen: usize, summary: *mut u32, summarylen: usize,
+            catalogue: *mut Entry, cataloguelen: usize, card: *mut u8, cardlen: usize, sheet: u32, start: u32, count: u32)
+            -> Outcome;
+        pub fn pagunlit_grow_with_summary(shape: Shape, map: *mut u64, maplen: usize, summary: *mut u32, summarylen: usize,
+            catalogue: *mut Entry, cataloguelen: usize, card: *mut u8, cardlen: usize, sheet: u32, count: u32) -> Outcome;
+        pub fn pagunlit_release_with_summary(shape: Shape, map: *mut u64, maplen: usize, summary: *mut u32, summarylen: usize,
+            catalogue: *mut Entry, cataloguelen: usize, sheet: u32) -> Outcome;
         pub fn pagunlit_save(shape: Shape, map: *const u64, maplen: usize, catalogue: *const Entry, cataloguelen: usize,
             scratch: *mut u64, scratchlen: usize, image: *mut u8, imagelen: usize) -> Outcome;
         pub fn pagunlit_load(shape: Shape, image: *const u8, imagelen: usize, map: *mut u64, maplen: usize,
@@ -152,6 +169,10 @@ pub fn words(contents: &[u64], margin: usize) -> Lent<u64> {
     Lent::new(contents.iter().copied(), margin, 0xa5a5_5a5a_1234_ffff)
 }
 
+pub fn numbers(contents: &[u32], margin: usize) -> Lent<u32> {
+    Lent::new(contents.iter().copied(), margin, 0x1234_a5a5)
+}
+
 pub fn entries(contents: &[card::Entry], margin: usize) -> Lent<Entry> {
     let guard = Entry {
         mark: 0x41,
@@ -167,6 +188,7 @@ pub struct Library {
     pub map: Lent<u64>,
     pub catalogue: Lent<Entry>,
     pub card: Lent<u8>,
+    pub summary: Lent<u32>,
 }
 
 /// The calls. Each lends whole slices that overlap no other, for the time of the call: this is what the C functions ask for.
@@ -178,6 +200,9 @@ impl Library {
         let (sheets, c) = (self.catalogue.at(), self.catalogue.len());
         let (card, length) = (self.card.at(), self.card.len());
         let (bytes, count) = (slice.at(), slice.len());
+        if call.kind.has_summary() {
+            return self.call_with_summary(call);
+        }
         unsafe {
             match call.kind {
                 Kind::Fresh => c::pagunlit_fresh(shape, number, map, w, sheets, c),
@@ -198,6 +223,35 @@ impl Library {
                 Kind::Release => c::pagunlit_release(shape, map, w, sheets, c, sheet),
                 Kind::Show => c::pagunlit_show(shape, map, w, sheets, c, card, length, sheet, number, bytes, count),
                 Kind::Standing => c::pagunlit_standing(shape, map, w, sheets, c, sheet),
+                form => unreachable!("{form:?} is lent the summary"),
+            }
+        }
+    }
+
+    fn call_with_summary(&mut self, call: Call) -> Outcome {
+        let (shape, sheet, number) = (self.shape, call.sheet, call.number);
+        let (map, w) = (self.map.at(), self.map.len());
+        let (sums, m) = (self.summary.at(), self.summary.len());
+        let (sheets, c) = (self.catalogue.at(), self.catalogue.len());
+        let (card, l) = (self.card.at(), self.card.len());
+        let Figures { from, before, step } = call.figures;
+        unsafe {
+            match call.kind {
+                Kind::ReserveWithSummary => {
+                    c::pagunlit_reserve_with_summary(shape, map, w, sums, m, sheets, c, card, l, sheet, number)
+                }
+                Kind::ReservePlacedWithSummary => c::pagunlit_reserve_placed_with_summary(
+                    shape, map, w, sums, m, sheets, c, card, l, sheet, number, from, before, step),
+                Kind::AcceptWithSummary => {
+                    c::pagunlit_accept_with_summary(shape, map, w, sums, m, sheets, c, card, l, sheet, call.start, number)
+                }
+                Kind::GrowWithSummary => {
+                    c::pagunlit_grow_with_summary(shape, map, w, sums, m, sheets, c, card, l, sheet, number)
+                }
+                Kind::ReleaseWithSummary => c::pagunlit_release_with_summary(shape, map, w, sums, m, sheets, c, sheet),
+                Kind::SummaryBuild => c::pagunlit_summary_build(shape, map, w, sums, m),
+                Kind::SummaryCheck => c::pagunlit_summary_check(shape, map, w, sums, m),
+                other => unreachable!("{other:?} is lent no summary"),
             }
         }
     }

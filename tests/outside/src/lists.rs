@@ -9,8 +9,9 @@ use bitwise::blocks::words_of;
 use bitwise::call::{call, Call, Kind};
 use bitwise::card::{entry, Card};
 use bitwise::random::Random;
+use bitwise::summary::summary_numbers;
 
-/// A card whose map, catalogue and bytes held something before, and whose shape is anything.
+/// A card whose map, catalogue, bytes and summary held something before, and whose shape is anything.
 pub fn used_card(n: usize, c: usize, random: &mut Random) -> Card {
     let sheet = |x: u64| entry(x as u32, (x >> 20) as u32, (x >> 40) as u32);
     Card {
@@ -20,6 +21,9 @@ pub fn used_card(n: usize, c: usize, random: &mut Random) -> Card {
         sheets: (0..c).map(|_| sheet(random.draw())).collect(),
         bytes: (0..64 * n)
             .flat_map(|_| random.draw().to_be_bytes())
+            .collect(),
+        summary: (0..summary_numbers(n))
+            .map(|_| random.draw() as u32)
             .collect(),
     }
 }
@@ -43,12 +47,19 @@ pub fn in_list(n: usize, c: usize, calls: &[Call], error: String) -> String {
     text + &format!("the last of these {} calls: {error}", calls.len())
 }
 
+/// Whether the calls of a list that change the map are lent a summary (document 02, (j)).
+#[derive(Clone, Copy, PartialEq)]
+enum Summary {
+    Without,
+    Kept,
+}
+
 /// A list of calls. All that the calls answer and leave is compared after every one.
 fn list(
     (n, c): (usize, usize),
     length: usize,
-    margin: usize,
-    compared: Compared,
+    summary: Summary,
+    (margin, compared): (usize, Compared),
     mut random: Random,
     counts: &mut Counts,
 ) -> Result<(), String> {
@@ -56,7 +67,10 @@ fn list(
     let beside = &mut Beside::new(card, margin, compared);
     let generator = &mut Generator::new(random);
     let calls = &mut Vec::new();
-    let result = follow(beside, (n, length), generator, calls, counts);
+    let result = match summary {
+        Summary::Without => follow(beside, (n, length), generator, calls, counts),
+        Summary::Kept => follow_with_summary(beside, (n, length), generator, calls, counts),
+    };
     result.map_err(|error| in_list(n, c, calls, error))
 }
 
@@ -80,25 +94,70 @@ fn follow(
     beside.finish()
 }
 
+/// A list "from a summary built from the map [..] whose map-changing calls are these forms, each lent that summary as the one
+/// before left it": after every call it is one built anew. The other calls of the list stand between them as they are.
+fn follow_with_summary(
+    beside: &mut Beside,
+    (n, length): (usize, usize),
+    generator: &mut Generator,
+    calls: &mut Vec<Call>,
+    counts: &mut Counts,
+) -> Result<(), String> {
+    beside.call(call(Kind::Fresh, 0, n as u32), counts)?;
+    beside.start_ledger();
+    beside.call(call(Kind::SummaryBuild, 0, 0), counts)?;
+    for _ in 0..length {
+        let call = match generator.random.within(0, 60) {
+            0 => call(Kind::SummaryBuild, 0, 0),
+            1..=4 => call(Kind::SummaryCheck, 0, 0),
+            _ => generator.call(&beside.card).with_summary(),
+        };
+        calls.push(call);
+        beside.call(call, counts)?;
+        beside.summary_is_own()?;
+    }
+    beside.finish()
+}
+
 pub fn small(seed: u64, margin: usize, counts: &mut Counts) -> Result<(), String> {
     let mut random = Random::of(seed);
     let size = small_size(&mut random);
     let length = random.within(100, 400);
-    list(size, length, margin, Compared::All, random, counts)
+    let compared = (margin, Compared::All);
+    list(size, length, Summary::Without, compared, random, counts)
+}
+
+/// The same with a summary. Cards of one word have one group, so that some are larger.
+pub fn small_with_summary(seed: u64, margin: usize, counts: &mut Counts) -> Result<(), String> {
+    let mut random = Random::of(seed);
+    let (mut n, c) = small_size(&mut random);
+    if random.chance(1, 4) {
+        n = random.within(200, 1100);
+    }
+    let length = random.within(100, 400);
+    let compared = (margin, Compared::All);
+    list((n, c), length, Summary::Kept, compared, random, counts)
 }
 
 /// A card of full size, or a few blocks less, with all its sheets.
 pub fn full(seed: u64, margin: usize, counts: &mut Counts) -> Result<(), String> {
-    let mut random = Random::of(seed);
-    let n = random.one(&[262144, 262144, 262143, 262081, 262080]);
-    list(
-        (n, 1024),
-        FULL_LENGTH,
-        margin,
-        Compared::Part,
-        random,
-        counts,
-    )
+    full_list(4000, Summary::Without, margin, seed, counts)
 }
 
-const FULL_LENGTH: usize = 4000;
+/// The same with a summary.
+pub fn full_with_summary(seed: u64, margin: usize, counts: &mut Counts) -> Result<(), String> {
+    full_list(2000, Summary::Kept, margin, seed, counts)
+}
+
+fn full_list(
+    length: usize,
+    summary: Summary,
+    margin: usize,
+    seed: u64,
+    counts: &mut Counts,
+) -> Result<(), String> {
+    let mut random = Random::of(seed);
+    let size = (random.one(&[262144, 262144, 262143, 262081, 262080]), 1024);
+    let compared = (margin, Compared::Part);
+    list(size, length, summary, compared, random, counts)
+}

@@ -25,7 +25,9 @@ mod pauses;
 mod placed;
 mod singles;
 mod spaces;
+mod spoiled;
 mod states;
+mod summaries;
 mod together;
 mod windows;
 
@@ -67,6 +69,8 @@ const GROUPS: &[Group] = &[
         parts: &[
             part("small", lists::small, 2000, 200, 40),
             part("full", lists::full, 2, 1, 0),
+            part("summary", lists::small_with_summary, 1000, 100, 20),
+            part("summary-full", lists::full_with_summary, 1, 1, 0),
         ],
         report: |counts| {
             counts.report(false)?;
@@ -100,6 +104,21 @@ const GROUPS: &[Group] = &[
     Group {
         parts: &[part("runs", |_, margin, counts| offers::all_runs(margin, counts), 1, 0, 0)],
         report: |_| Ok(()),
+    },
+    // Calls with a true or a false summary, and the build and the check of summaries.
+    Group {
+        parts: &[
+            part("spoiled", spoiled::spoiled, 10000, 1000, 300),
+            part("spoiled-full", spoiled::spoiled_full, 6, 1, 0),
+            part("spoiled-all", |_, margin, counts| spoiled::all_summaries(margin, counts), 1, 0, 0),
+            part("sizes", summaries::every_size, 2, 1, 0),
+            part("largest", summaries::largest, 2, 1, 0),
+            part("each-number", summaries::each_number, 2, 1, 0),
+        ],
+        report: |counts| {
+            spoiled::LEFT_OPEN.iter().for_each(|kind| counts.print_kind(kind));
+            counts.report_kinds(spoiled::expected())
+        },
     },
     // Seal and check.
     Group {

@@ -38,7 +38,7 @@ impl Offers {
     /// Keeps an offer, and counts what an accept is an example of. The call is the next one of the card.
     pub fn note(&mut self, card: &Card, call: Call, counts: &mut Counts) {
         self.0.extend(accept_of(card, call));
-        if call.kind == Kind::Accept {
+        if call.kind.without_summary() == Kind::Accept {
             self.note_accept(card, call, counts);
         }
     }

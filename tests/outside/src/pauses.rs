@@ -46,7 +46,7 @@ pub fn note(card: &Card, call: Call, counts: &mut Counts) {
     let Some(entry) = card.sheets.get(call.sheet as usize) else {
         return;
     };
-    let tried = (call.kind, entry.mark, entry.length > 0);
+    let tried = (call.kind.without_summary(), entry.mark, entry.length > 0);
     let mut kinds = KINDS.iter();
     if let Some((name, ..)) = kinds.find(|(_, kind, mark, held)| (*kind, *mark, *held) == tried) {
         counts.note_kind(name);

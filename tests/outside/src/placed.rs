@@ -27,7 +27,7 @@ pub fn placed_full(seed: u64, margin: usize, counts: &mut Counts) -> Result<(), 
 
 /// A card of n blocks with a map of some kind and one sheet, which is Absent. The other taken blocks are nobody's: what the
 /// figures admit hangs on the map alone.
-fn card(n: usize, random: &mut Random) -> Card {
+pub fn card(n: usize, random: &mut Random) -> Card {
     let (kind, seed) = (random.within(0, 10), random.within(0, 100000) as u64);
     let mut map = match kind {
         0..=5 => words(words_of(n), kind, seed),
@@ -45,6 +45,7 @@ fn card(n: usize, random: &mut Random) -> Card {
         map,
         sheets: vec![entry(0x41, 0, 0)],
         bytes: vec![0x5a; 512 * n],
+        summary: Vec::new(),
     }
 }
 
@@ -223,5 +224,6 @@ pub fn card_with(n: usize, first: usize, bits: usize) -> Card {
         map,
         sheets: vec![entry(0x41, 0, 0)],
         bytes: vec![0x5a; 512 * n],
+        summary: Vec::new(),
     }
 }

@@ -89,6 +89,7 @@ fn search(
         sheets: Vec::new(),
         // A search is lent no card.
         bytes: Vec::new(),
+        summary: Vec::new(),
     };
     let mut beside = Beside::new(card, margin, Compared::All);
     for k in [1, end - start, end - start + 1] {
@@ -163,6 +164,7 @@ fn card(n: usize, random: &mut Random) -> Card {
         map,
         sheets: vec![entry(0x41, 0, 0)],
         bytes: vec![0x5a; 512 * n],
+        summary: Vec::new(),
     }
 }
 

@@ -6,9 +6,10 @@ use crate::lengths::one;
 use bitwise::blocks::figures;
 use bitwise::call::{accept, call, placed, Call, Kind, CALLS, PAYLOAD};
 use bitwise::card::{entry, sealed, Card};
+use bitwise::summary::build;
 
-/// Every map, free count, entry and call of cards of up to `most` blocks and one sheet, and for complete and show every
-/// choice of blank, sound and unsound blocks.
+/// Every map, free count, entry and call of cards of up to `most` blocks and one sheet, with the map's own summary, and for
+/// complete and show every choice of blank, sound and unsound blocks.
 pub fn states(most: usize, margin: usize, counts: &mut Counts) -> Result<(), String> {
     for n in 1..=most {
         for map in 0..2 << n {
@@ -16,11 +17,13 @@ pub fn states(most: usize, margin: usize, counts: &mut Counts) -> Result<(), Str
                 for mark in MARKS.into_iter().chain([0, 0x42]) {
                     for extent in 0..(n + 2) * (n + 2) {
                         let (start, length) = (extent / (n + 2), extent % (n + 2));
+                        // Those from n on are all free or all taken.
+                        let map: Vec<bool> = (0..64).map(|b| map >> n.min(b) & 1 == 1).collect();
                         let card = Card {
                             n,
                             free,
-                            // Those from n on are all free or all taken.
-                            map: (0..64).map(|b| map >> n.min(b) & 1 == 1).collect(),
+                            summary: build(&map, n),
+                            map,
                             sheets: vec![entry(mark, start as u32, length as u32)],
                             bytes: vec![0; 512 * n],
                         };
@@ -35,9 +38,10 @@ pub fn states(most: usize, margin: usize, counts: &mut Counts) -> Result<(), Str
 
 fn calls_on_state(card: Card, margin: usize, counts: &mut Counts) -> Result<(), String> {
     let n = card.n as u32;
-    let kinds = CALLS.iter().map(|(kind, ..)| *kind);
-    for call in kinds.flat_map(|kind| calls_of(kind, n)) {
-        one(&card, call, margin, counts)?;
+    for (kind, ..) in CALLS {
+        for call in calls_of(kind.without_summary(), n) {
+            one(&card, Call { kind, ..call }, margin, counts)?;
+        }
     }
     for sheet in 1..=n + 1 {
         one(&card, call(Kind::Standing, sheet, 0), margin, counts)?;

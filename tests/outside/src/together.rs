@@ -9,6 +9,7 @@ use bitwise::call::{Bytes, Call, Kind, CALLS};
 use bitwise::card::{entry, sealed, Card, Entry};
 use bitwise::random::Random;
 use bitwise::rows::{pairs, Row};
+use bitwise::summary::{build, summary_numbers};
 
 /// Each pair of rows of each call once, in 1 case of 3 with a third row.
 pub fn together(seed: u64, margin: usize, counts: &mut Counts) -> Result<(), String> {
@@ -26,6 +27,9 @@ pub fn together(seed: u64, margin: usize, counts: &mut Counts) -> Result<(), Str
             for row in &rows {
                 make_hold(*row, card, call, random);
             }
+            if kind.has_summary() && random.chance(1, 2) {
+                build_again(card);
+            }
             one(card, *call, margin, counts).map_err(|error| format!("{rows:?}: {error}"))?;
         }
     }
@@ -41,8 +45,8 @@ const STANDINGS: [(u32, bool); 5] = [
     (0x43, true),
 ];
 
-/// A sound state with sheets of every standing, in any order. All places are filled, and behind each extent two blocks or more
-/// are free, so that each call has arguments with which it is accepted.
+/// A sound state with sheets of every standing, in any order, and its own summary. All places are filled, and behind each
+/// extent two blocks or more are free, so that each call has arguments with which it is accepted.
 pub fn card(random: &mut Random) -> Card {
     let mut standings = STANDINGS.to_vec();
     for _ in 0..random.within(0, 5) {
@@ -55,6 +59,7 @@ pub fn card(random: &mut Random) -> Card {
         map: Vec::new(),
         sheets: Vec::new(),
         bytes: Vec::new(),
+        summary: Vec::new(),
     };
     for (mark, held) in standings {
         let (start, length) = (card.n as u32, random.one(&[1, 2, 2, 3, 3, 4, 20]));
@@ -91,6 +96,14 @@ fn fill(card: &mut Card, random: &mut Random) {
         }
     }
     card.free = card.map.iter().filter(|&&block| block == FREE).count();
+    card.summary = build(&card.map, card.n);
+}
+
+/// The summary is that of the map as it is now, if it has the length for it.
+fn build_again(card: &mut Card) {
+    if card.summary.len() == summary_numbers(card.n) {
+        card.summary = build(&card.map, card.n);
+    }
 }
 
 /// The turn in which rows are made to hold: first the sheet, then its entry, then what is asked of them, and the lengths and
@@ -160,6 +173,7 @@ pub fn wrong_limit(row: Row, card: &mut Card, random: &mut Random) {
             // In half the cases it is the only reason for row 1.
             if card.n == 0 && random.chance(1, 2) {
                 (card.free, card.map, card.bytes) = (0, Vec::new(), Vec::new());
+                card.summary.resize(summary_numbers(0), 0);
             }
         }
         Row::FreeAboveN => {
@@ -173,6 +187,12 @@ pub fn wrong_limit(row: Row, card: &mut Card, random: &mut Random) {
         Row::MapLength => {
             let words = random.one(&[w + 1, w + 1, w.saturating_sub(1), 0]);
             card.map.resize(64 * words, random.chance(1, 2));
+        }
+        Row::SummaryLength => {
+            let right = card.summary.len();
+            let less = right.saturating_sub(random.one(&[1, 3]));
+            let numbers = random.one(&[right + 1, right + 3, 2 * right + 3, less, right / 2, 0]);
+            card.summary.resize(numbers, random.one(&[0, 1, u32::MAX]));
         }
         Row::CardLength => {
             let less = length.saturating_sub(random.one(&[1, 512]));
@@ -231,10 +251,15 @@ fn empty_block(card: &mut Card, call: Call, random: &mut Random) {
     card.bytes[at..at + 512].fill(0);
 }
 
-/// More blocks than there are in a row, no free block, or figures that no start has.
+/// More blocks than there are in a row, no free block, a group 0 that says so, or figures that no start has.
 fn leave_no_room(card: &mut Card, call: &mut Call, random: &mut Random) {
     let longest = survey(&card.map, card.n).longest as u32;
-    let ways = if call.kind == Kind::ReservePlaced {
+    let by_summary = call.kind.has_summary() && call.number > 0 && random.chance(1, 3);
+    if by_summary && call.kind.rows().contains(&Row::NoFit) {
+        card.summary[2] = call.number - 1;
+        return;
+    }
+    let ways = if call.kind.without_summary() == Kind::ReservePlaced {
         6
     } else {
         4
@@ -264,7 +289,7 @@ fn spoil_run(card: &mut Card, call: &mut Call, random: &mut Random) {
 
 /// A free count below what is wanted, or so high that a release would lift it above n.
 fn contradict_count(card: &mut Card, call: &mut Call, random: &mut Random) {
-    if call.kind == Kind::Release {
+    if call.kind.without_summary() == Kind::Release {
         card.free =
             card.n - random.within(0, card.sheets[call.sheet as usize].length.max(1) as usize);
     } else if call.number > 0 && random.chance(2, 3) {

@@ -33,6 +33,7 @@ fn held(n: usize, extents: &[Extent]) -> Card {
         map,
         sheets,
         bytes: Vec::new(),
+        summary: Vec::new(),
     };
     card.free = free_blocks(&card);
     card

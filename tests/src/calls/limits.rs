@@ -103,8 +103,22 @@ const EACH: &str = "
     resume 1
 ";
 
+/// Each call that is lent a summary. The sheets stand as for the others.
+const EACH_WITH_SUMMARY: &str = "
+    summary-build
+    summary-check
+    summary-reserve 0 2
+    summary-grow 0 1
+    summary-release 0
+    summary-placed 0 2 5 60 9
+    summary-release 0
+    summary-accept 0 5 2
+    summary-release 0
+    summary-check
+";
+
 /// Too few or too many words, entries and bytes lent, and shapes outside their limits, and at them.
-pub(super) fn row_1() -> String {
+fn lent_and_shapes(each: &str) -> String {
     let start = "
         reserve 1 1
         put 1 0 1 496
@@ -135,10 +149,23 @@ pub(super) fn row_1() -> String {
     ];
     let mut text = on_70(start);
     for lent in lent {
-        text += &format!("+lend {lent}\n{EACH}");
+        text += &format!("+lend {lent}\n{each}");
     }
     for shape in shapes {
-        text += &format!("+shape {shape}\n{EACH}");
+        text += &format!("+shape {shape}\n{each}");
+    }
+    text
+}
+
+pub(super) fn row_1() -> String {
+    lent_and_shapes(EACH)
+}
+
+/// Besides, too few or too many numbers of a summary lent: none, one less and one more, and those of one word and of three.
+pub(super) fn row_1_with_summary() -> String {
+    let mut text = lent_and_shapes(EACH_WITH_SUMMARY);
+    for numbers in [0, 1, 3, 8, 10, 12, 21, 22, 9] {
+        text += &format!("+summary {numbers}\n{EACH_WITH_SUMMARY}");
     }
     text
 }

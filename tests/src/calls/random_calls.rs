@@ -2,6 +2,9 @@
 
 pub(super) const CALLS: usize = 600;
 
+/// How many more there are whose map-changing calls are lent a summary.
+pub(super) const WITH_SUMMARY: usize = 200;
+
 /// A number of blocks: mostly 0, 1 or 2, in 1 case of 16 one below 72.
 fn random_size(x: u64) -> u64 {
     if x % 16 == 0 {

@@ -1,21 +1,26 @@
 //! What the calls of the examples work on, and what a line of them prints.
 
 use crate::blocks::{figures, from_words, to_words};
-use crate::call::{accept, call, placed, Bytes, Kind};
+use crate::call::{accept, call, placed, Bytes, Call, Kind};
 use crate::card::{entry, Answer, Card, Entry};
+use crate::rows::Row;
 
-/// What the calls work on, of which they are lent the first words, entries and bytes.
+/// What the calls work on, of which they are lent the first words, entries, bytes and numbers of the summary.
 pub(super) struct Store {
     n: usize,
     free: usize,
     map: Vec<bool>,
     sheets: Vec<Entry>,
     bytes: Vec<u8>,
+    summary: Vec<u32>,
+    /// How many numbers of the summary, from the first on, are open: a call changed the map with a false one.
+    open: usize,
     /// What the last call left in its buffer, if it was a show.
     buffer: Option<Vec<u8>>,
     words_lent: usize,
     sheets_lent: usize,
     bytes_lent: usize,
+    numbers_lent: usize,
 }
 
 /// Bytes of a payload: each is 7 more than the one before it, modulo 256.
@@ -24,8 +29,30 @@ fn payload(first: u32, length: usize) -> Vec<u8> {
     (0..length).map(byte).collect()
 }
 
+/// The call of a kind with the numbers of its line. A payload's contents go by its first byte (`payload`).
+fn call_of(kind: Kind, numbers: &[u32]) -> Call {
+    let at = |i: usize| numbers.get(i).copied().unwrap_or(0);
+    let length = match kind {
+        Kind::Put => at(3),
+        Kind::Show => at(2),
+        _ => 0,
+    };
+    let bytes = Bytes {
+        seed: 0,
+        length: length as usize,
+    };
+    let call = match kind.without_summary() {
+        Kind::ReservePlaced => placed(at(0), at(1), figures(at(2), at(3), at(4))),
+        Kind::Accept => accept(at(0), at(1), at(2)),
+        _ if kind.has_sheet() => call(kind, at(0), at(1)),
+        _ => call(kind, 0, at(0)),
+    };
+    Call { kind, ..call }.with_bytes(bytes)
+}
+
 impl Store {
-    /// A shape of 9 blocks, damaged entries, and words and bytes that held something before.
+    /// A shape of 9 blocks, damaged entries, and words, bytes and a summary that held something before. There is one number
+    /// more than the summary of three words has.
     pub(super) fn new() -> Store {
         Store {
             n: 9,
@@ -33,10 +60,13 @@ impl Store {
             map: from_words(&[0x0123456789abcdef; 3]),
             sheets: vec![entry(0, 0, 0); 1025],
             bytes: vec![0xaa; 71 * 512],
+            summary: vec![7; 22],
+            open: 0,
             buffer: None,
             words_lent: 2,
             sheets_lent: 4,
             bytes_lent: 70 * 512,
+            numbers_lent: 9,
         }
     }
 
@@ -59,43 +89,35 @@ impl Store {
         self.buffer = (word == "show").then(|| vec![0xbb; 500]);
         if let Some(change) = word.strip_prefix('+') {
             self.change(change, &numbers);
-            return format!("{text}{}", self.end());
+            return format!("{text}{}\n", self.end());
         }
         let answer = answered(self.call(word, &numbers));
-        format!("{text}: {answer}{}", self.end())
+        let summary = match word {
+            "summary-build" | "summary-check" => self.summary_told(),
+            _ => String::new(),
+        };
+        format!("{text}: {answer}{}{summary}\n", self.end())
     }
 
     /// A call, on what is lent. A refused one leaves all as it was, and so does an offer.
     fn call(&mut self, word: &str, numbers: &[u32]) -> Answer {
+        let call = call_of(Kind::named(word).expect("a call"), numbers);
         let card = &mut self.lent();
         let before = card.clone();
-        let kind = Kind::named(word).expect("a call");
-        let at = |i: usize| numbers.get(i).copied().unwrap_or(0);
-        let (sheet, number) = if kind.has_sheet() {
-            (at(0), at(1))
-        } else {
-            (0, at(0))
-        };
-        let mut brought = match kind {
-            Kind::Put => payload(at(2), at(3) as usize),
+        self.must_be_settled(card, call);
+        let mut brought = match call.kind {
+            Kind::Put => payload(numbers[2], call.bytes.length),
             _ => Vec::new(),
         };
         let slice = match &mut self.buffer {
-            Some(buffer) => &mut buffer[..at(2) as usize],
+            Some(buffer) => &mut buffer[..call.bytes.length],
             None => &mut brought[..],
-        };
-        let bytes = Bytes {
-            seed: 0,
-            length: slice.len(),
-        };
-        let call = match kind {
-            Kind::ReservePlaced => placed(sheet, number, figures(at(2), at(3), at(4))),
-            Kind::Accept => accept(sheet, at(1), at(2)),
-            _ => call(kind, sheet, number).with_bytes(bytes),
         };
         let answer = card.call(call, slice);
         if let Answer::Refused(_) | Answer::Blank(_) | Answer::Offered(..) = answer {
             assert!(*card == before, "it changed something: {word} {numbers:?}");
+        } else {
+            self.note_open(call.kind, &before, card);
         }
         self.take_back(card);
         answer
@@ -108,6 +130,7 @@ impl Store {
             map: self.map[..64 * self.words_lent].to_vec(),
             sheets: self.sheets[..self.sheets_lent].to_vec(),
             bytes: self.bytes[..self.bytes_lent].to_vec(),
+            summary: self.summary[..self.numbers_lent].to_vec(),
         }
     }
 
@@ -116,6 +139,7 @@ impl Store {
         self.map[..64 * self.words_lent].copy_from_slice(&card.map);
         self.sheets[..self.sheets_lent].copy_from_slice(&card.sheets);
         self.bytes[..self.bytes_lent].copy_from_slice(&card.bytes);
+        self.summary[..self.numbers_lent].copy_from_slice(&card.summary);
     }
 
     fn change(&mut self, word: &str, numbers: &[u32]) {
@@ -129,6 +153,8 @@ impl Store {
                 self.map[64 * at(0)..64 * at(0) + 64].copy_from_slice(&blocks);
             }
             "byte" => self.bytes[at(0)] ^= numbers[1] as u8,
+            "summary" => self.numbers_lent = at(0),
+            "number" => self.summary[at(0)] = numbers[1],
             other => panic!("no change {other}"),
         }
     }
@@ -147,7 +173,35 @@ impl Store {
             .iter()
             .map(|digest| format!(" {digest:08x}"))
             .collect();
-        format!("; {} {}{digests}\n", self.n, self.free)
+        format!("; {} {}{digests}", self.n, self.free)
+    }
+
+    /// Behind the end of the line of a build or a check: the three numbers of group 0, and the digest of all numbers.
+    fn summary_told(&self) -> String {
+        assert!(self.open == 0, "what the summary holds is open");
+        let [head, tail, longest] = [0, 1, 2].map(|at| self.summary[at]);
+        let all = digest(self.summary.iter().copied());
+        format!(" {head} {tail} {longest} {all:08x}")
+    }
+
+    /// An example cannot hang on what document 02, (j), leaves open.
+    fn must_be_settled(&self, card: &Card, call: Call) {
+        let searches = call.kind.has_summary() && call.kind.rows().contains(&Row::NoFit);
+        let comes_to_it = card.first(call).is_none_or(|row| row >= Row::NoFit);
+        let open = searches && comes_to_it && (self.open > 0 || card.leaves_search_open(call));
+        assert!(!open, "what {call} finds is open");
+    }
+
+    /// With a false summary it is open which numbers an accepted call leaves that changes the map. A build settles those that
+    /// it is lent.
+    fn note_open(&mut self, kind: Kind, before: &Card, after: &Card) {
+        let lent = self.numbers_lent;
+        let was_open = self.open > 0 || !before.has_own_summary();
+        if kind == Kind::SummaryBuild && lent >= self.open {
+            self.open = 0;
+        } else if kind.has_summary() && was_open && before.map != after.map {
+            self.open = self.open.max(lent);
+        }
     }
 }
 
@@ -168,6 +222,7 @@ fn answered(answer: Answer) -> String {
             length,
         }) => format!("0 {mark} {start} {length}"),
         Answer::Counted(free, runs, longest) => format!("0 {free} {runs} {longest}"),
+        Answer::Own(own) => format!("0 {}", own as u32),
         Answer::Blank(place) => format!("9 {place}"),
         Answer::Refused(row) => format!("{row}"),
     }

@@ -11,6 +11,7 @@ fn card_with(n: usize, free: usize, sheet: Entry) -> Card {
         map: (0..64).map(|b| b < n && free >> b & 1 == 1).collect(),
         sheets: vec![sheet],
         bytes: vec![0; BLOCK * n],
+        summary: Vec::new(),
     }
 }
 

@@ -11,6 +11,7 @@ fn fresh_card(n: usize) -> Card {
         map: vec![TAKEN; 64 * words_of(n)],
         sheets: vec![ABSENT; 3],
         bytes: vec![7; BLOCK * n],
+        summary: Vec::new(),
     };
     assert_eq!(card.fresh(n), Done);
     card

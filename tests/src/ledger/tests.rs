@@ -5,6 +5,7 @@ use crate::blocks::figures;
 use crate::call::{accept, call, placed};
 use crate::card::Card;
 use crate::random::Random;
+use crate::summary::build;
 
 /// A release gives the blocks back, and a new reserve has blank places, whatever was put there before.
 #[test]
@@ -158,40 +159,54 @@ fn a_course_is_paused_and_taken_up_again() {
     assert_eq!((ledger.granted, ledger.returned), (2, 2));
 }
 
-/// A call for one of 3 sheets: a reserve of any kind, an offer, or a release.
+/// A call for one of 3 sheets: a reserve of any kind, an offer, a grow or a release.
 fn random_call(n: usize, random: &mut Random) -> Call {
     let (sheet, k) = (random.within(0, 3) as u32, random.within(0, n) as u32 / 3);
     let mut figure = || random.within(0, n + 2) as u32;
     let placed_at = figures(figure(), figure(), figure() / 4);
-    match random.within(0, 6) {
+    match random.within(0, 7) {
         0 => call(Kind::Reserve, sheet, k),
         1 => call(Kind::Release, sheet, 0),
         2 => call(Kind::Offer, sheet, k),
-        3 => accept(sheet, placed_at.from, k),
+        3 => call(Kind::Grow, sheet, k / 4),
+        4 => accept(sheet, placed_at.from, k),
         _ => placed(sheet, k, placed_at),
     }
 }
 
-/// Lists of reserves, offers and releases: the card answers as the ledger does, and has its map and its entries.
+/// Makes a list of calls, each in a form of it: the card answers as the ledger does, and has its map and its entries.
+fn follow(card: &mut Card, form: fn(Call) -> Call, random: &mut Random) {
+    let n = card.n;
+    let mut ledger = Ledger::fresh(n, 3);
+    for _ in 0..2000 {
+        let call = form(random_call(n, random));
+        let answer = card.call(call, &mut []);
+        assert_eq!(Some(answer), ledger.call(call, &mut []), "{n}: {call}");
+        assert!(card.map == ledger.map() && card.free == ledger.free_count());
+        assert!((0..3).all(|sheet| card.sheets[sheet] == ledger.entry(sheet)));
+    }
+    assert_eq!(card.free + ledger.granted, n + ledger.returned);
+}
+
+/// Lists of reserves, offers, grows and releases, also with a summary kept beside the map (document 02, (j)): it is the map's
+/// own in the end.
 #[test]
 fn the_card_answers_as_the_ledger() {
-    for n in [1, 2, 9, 64, 70] {
-        let random = &mut Random::of(n as u64);
-        let mut ledger = Ledger::fresh(n, 3);
+    for n in [1, 2, 9, 64, 70, 140] {
+        let map = Ledger::fresh(n, 3).map();
         let mut card = Card {
             n,
             free: n,
-            map: ledger.map(),
+            summary: build(&map, n),
+            map,
             sheets: vec![entry(0x41, 0, 0); 3],
             bytes: vec![0; 512 * n],
         };
-        for _ in 0..2000 {
-            let call = random_call(n, random);
-            let answer = card.call(call, &mut []);
-            assert_eq!(Some(answer), ledger.call(call, &mut []), "{n}: {call}");
-            assert!(card.map == ledger.map() && card.free == ledger.free_count());
-            assert!((0..3).all(|sheet| card.sheets[sheet] == ledger.entry(sheet)));
-        }
-        assert_eq!(card.free + ledger.granted, n + ledger.returned);
+        let with_summary = &mut card.clone();
+        follow(with_summary, Call::with_summary, &mut Random::of(n as u64));
+        assert!(with_summary.has_own_summary());
+        follow(&mut card, |call| call, &mut Random::of(n as u64));
+        card.summary = with_summary.summary.clone();
+        assert!(card == *with_summary);
     }
 }
