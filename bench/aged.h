@@ -1,8 +1,7 @@
-// The card under test: aged cards, each with the same map as a bitmap of libext2fs.
+// The card under test: aged cards.
 #ifndef BENCH_AGED_H
 #define BENCH_AGED_H
 
-#include <ext2fs/ext2fs.h>
 #include <stdio.h>
 #include <stdlib.h>
 
@@ -19,20 +18,16 @@ static pagunlit_shape shape;
 static pagunlit_entry catalogue[SHEETS];
 static uint8_t *card;
 
-// The same map as a bitmap of libext2fs, where 1 is taken.
-static ext2_filsys filesystem;
-static ext2fs_block_bitmap bitmap;
-
 static size_t words(void) {
     return PAGUNLIT_MAP_WORDS(n);
 }
 
-static uint8_t *block(uint32_t b) {
+static inline uint8_t *block(uint32_t b) {
     return card + (size_t)PAGUNLIT_BLOCK * b;
 }
 
 static void give_up(const char *what) {
-    fprintf(stderr, "bench/card.c: %s\n", what);
+    fprintf(stderr, "bench/run: FAILED: %s\n", what);
     exit(1);
 }
 
@@ -53,23 +48,8 @@ enum { KIND_COUNT = sizeof KINDS / sizeof *KINDS };
 // Lengths as the traces have them, for the reserves that are timed.
 static uint32_t lengths[LENGTHS];
 
-static void make_bitmap(void) {
-    struct ext2_super_block parameters = {0};
-    ext2fs_blocks_count_set(&parameters, n);
-    parameters.s_log_block_size = 2;
-    parameters.s_log_cluster_size = 2;
-    parameters.s_rev_level = 1;
-    if (filesystem != NULL) {
-        ext2fs_free_block_bitmap(bitmap);
-        ext2fs_free(filesystem);
-    }
-    if (ext2fs_initialize("target/bench/filesystem", EXT2_FLAG_64BITS | EXT2_FLAG_RW, &parameters, unix_io_manager,
-                          &filesystem) != 0)
-        give_up("libext2fs makes no file system");
-    filesystem->default_bitmap_type = EXT2FS_BMAP64_BITARRAY;
-    if (ext2fs_allocate_block_bitmap(filesystem, "map", &bitmap) != 0) give_up("libext2fs makes no bitmap");
-    for (uint32_t b = 0; b < n; b++)
-        if (!is_free(map, b)) ext2fs_mark_block_bitmap2(bitmap, b);
+static void draw_lengths(double mean) {
+    for (int i = 0; i < LENGTHS; i++) lengths[i] = random_length(mean);
 }
 
 // Fills the card with runs of random lengths, and frees runs at random until the share is free.
@@ -88,8 +68,7 @@ static void age(uint32_t blocks, struct kind kind) {
     }
     shape = (pagunlit_shape){n, free};
     for (int s = 0; s < SHEETS; s++) catalogue[s] = (pagunlit_entry){PAGUNLIT_ABSENT, 0, 0};
-    for (int i = 0; i < LENGTHS; i++) lengths[i] = random_length(kind.mean);
-    make_bitmap();
+    draw_lengths(kind.mean);
 }
 
 #endif

@@ -5,6 +5,7 @@
 #include <stdlib.h>
 
 #include "aged.h"
+#include "bitmap.h"
 #include "images.h"
 #include "searches.h"
 #include "sealed.h"
@@ -14,7 +15,7 @@ static void aged_cards(void) {
     static const uint32_t ks[] = {1, 2, 4, 8, 16, 32, 64};
     for (int kind = 0; kind < KIND_COUNT; kind++) {
         char what[40];
-        age(BLOCKS, KINDS[kind]);
+        age_both(BLOCKS, KINDS[kind]);
         snprintf(what, sizeof what, "%s", KINDS[kind].name);
         heading(what, SEARCHES, 5);
         for (size_t i = 0; i < sizeof ks / sizeof *ks; i++) {
@@ -36,7 +37,7 @@ static void sizes(void) {
         snprintf(what, sizeof what, "%s, from 4,096 to 262,144 blocks", KINDS[kind].name);
         heading(what, SEARCHES, 5);
         for (uint32_t blocks = 4096; blocks <= BLOCKS; blocks *= 4) {
-            age(blocks, KINDS[kind]);
+            age_both(blocks, KINDS[kind]);
             snprintf(what, sizeof what, "%6u: search, no fit", blocks);
             line(what, SEARCHES, 5, survey_bits(map, n).longest + 1, 1);
             snprintf(what, sizeof what, "%6u: reserve, release", blocks);

@@ -3,6 +3,7 @@
 #define BENCH_SEARCHES_H
 
 #include "aged.h"
+#include "bitmap.h"
 #include "ways.h"
 
 // Search for k blocks.
