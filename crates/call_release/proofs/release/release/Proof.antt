@@ -54,14 +54,15 @@ same-length c = search needs
 
 returns-2 : tie.Need-returns-2
 returns-2 c =
-    let a = c .before .before .before .before .before .before .before .before .before .before .args in
+    let opening = c .before .before .before .before in
+    let a = opening .before .before .before .before .before .before .args in
     let q = lentBeside (a .guided) (now (a .summary)) (a .n) (a .free) (now (a .map)) noCard (a .c) (a .entry) (a .sheet) in
     let told = c .before .before .enum-told .given in
     out q (refused (told .0 .0))
-    (shut q (told .0 .0) (guide-open-at q (c .before .before .before .before .open-sheet .result)
-    (holds (c .before .before .before .before .before .before .before .guide-fits .ensures)
-    (c .before .before .before .before .before .before .if1 .left))
-    (c .before .before .before .before .open-sheet .ensures)) (told .1)) _ _ _
+    (shut q (told .0 .0) (guide-open-at q (opening .open-sheet .result)
+    (holds (opening .before .before .before .guide-fits .ensures)
+    (opening .before .before .if1 .left))
+    (opening .open-sheet .ensures)) (told .1)) _ _ _
     (c .refusal2 .ensures ∙ ap (refusalOut _ _) (c .before .refused-row .ensures ∙ ap refusedRow (told .1))) refl refl
 
 enum-told-2 : tie.Need-enum-told-2
@@ -75,28 +76,30 @@ same-length-2 c = search needs
 
 returns-3 : tie.Need-returns-3
 returns-3 c =
-    let a = c .before .before .before .before .before .before .before .before .before .before .before .before .args in
+    let opening = c .before .before .before .before .before .before in
+    let a = opening .before .before .before .before .before .before .args in
     let q = lentBeside (a .guided) (now (a .summary)) (a .n) (a .free) (now (a .map)) noCard (a .c) (a .entry) (a .sheet) in
     out q (refused 5)
-    (absent q (guide-open-at q (c .before .before .before .before .before .before .open-sheet .result)
-    (holds (c .before .before .before .before .before .before .before .before .before .guide-fits .ensures)
-    (c .before .before .before .before .before .before .before .before .if1 .left))
-    (c .before .before .before .before .before .before .open-sheet .ensures))
+    (absent q (guide-open-at q (opening .open-sheet .result)
+    (holds (opening .before .before .before .guide-fits .ensures)
+    (opening .before .before .if1 .left))
+    (opening .open-sheet .ensures))
     (c .before .before .before .before .opened .given .1 ∙ ap Stands (c .before .enum-told2 .given .1)))
     _ _ _ (c .refusal3 .ensures)
     refl refl
 
 sub-if2 : tie.Need-sub-if2
 sub-if2 c =
-    let a = c .before .before .before .before .before .before .before .before .before .before .args in
+    let opening = c .before .before .before .before in
+    let a = opening .before .before .before .before .before .before .args in
     let q = lentBeside (a .guided) (now (a .summary)) (a .n) (a .free) (now (a .map)) noCard (a .c) (a .entry) (a .sheet) in
     omega (
       arith,
       limits q (c .before .before .opened .given .0 .0)
-          (guide-open-at q (c .before .before .before .before .open-sheet .result)
-          (holds (c .before .before .before .before .before .before .before .guide-fits .ensures)
-          (c .before .before .before .before .before .before .if1 .left))
-          (c .before .before .before .before .open-sheet .ensures)) (c .before .before .opened .given .1) .spare,
+          (guide-open-at q (opening .open-sheet .result)
+          (holds (opening .before .before .before .guide-fits .ensures)
+          (opening .before .before .if1 .left))
+          (opening .open-sheet .ensures)) (c .before .before .opened .given .1) .spare,
     )
 
 refusal-requires-4 : tie.Need-refusal-requires-4
@@ -107,45 +110,41 @@ same-length-3 c = search needs
 
 returns-4 : tie.Need-returns-4
 returns-4 c =
-    let a = c .before .before .before .before .before .before .before .before .before .before .before .before .args in
+    let opening = c .before .before .before .before .before .before in
+    let a = opening .before .before .before .before .before .before .args in
     let q = lentBeside (a .guided) (now (a .summary)) (a .n) (a .free) (now (a .map)) noCard (a .c) (a .entry) (a .sheet) in
     out q (refused 4)
     (over q (c .before .before .before .before .opened .given .0 .0)
-    (guide-open-at q (c .before .before .before .before .before .before .open-sheet .result)
-    (holds (c .before .before .before .before .before .before .before .before .before .guide-fits .ensures)
-    (c .before .before .before .before .before .before .before .before .if1 .left))
-    (c .before .before .before .before .before .before .open-sheet .ensures))
+    (guide-open-at q (opening .open-sheet .result)
+    (holds (opening .before .before .before .guide-fits .ensures)
+    (opening .before .before .if1 .left))
+    (opening .open-sheet .ensures))
     (c .before .before .before .before .opened .given .1) (c .before .before .match2 .keys2)
     (c .before .if2 .taken)) _ _ _ (c .refusal4 .ensures)
     refl refl
 
 mark-requires : tie.Need-mark-requires
 mark-requires c κs =
-    let a = c .before .before .before .before .before .before .before .before .before .before .before .before .args in
+    let opening = c .before .before .before .before .before .before in
+    let a = opening .before .before .before .before .before .before .args in
     let q = lentBeside (a .guided) (now (a .summary)) (a .n) (a .free) (now (a .map)) noCard (a .c) (a .entry) (a .sheet) in
     in-map q (c .before .before .before .before .opened .given .0 .0)
-    (guide-open-at q (c .before .before .before .before .before .before .open-sheet .result)
-    (holds (c .before .before .before .before .before .before .before .before .before .guide-fits .ensures)
-    (c .before .before .before .before .before .before .before .before .if1 .left))
-    (c .before .before .before .before .before .before .open-sheet .ensures))
+    (guide-open-at q (opening .open-sheet .result)
+    (holds (opening .before .before .before .guide-fits .ensures)
+    (opening .before .before .if1 .left))
+    (opening .open-sheet .ensures))
     (c .before .before .before .before .opened .given .1)
 
 follow-requires : tie.Need-follow-requires
 follow-requires c κs =
-    let a = c .before .before .before .before .before .before .before .before .before .before .before .before .before .before
-    .before .before .before .args in
+    let opening = c .before .before .before .before .before .before .before .before .before .before .before in
+    let a = opening .before .before .before .before .before .before .args in
     let q = lentBeside (a .guided) (now (a .summary)) (a .n) (a .free) (now (a .map)) noCard (a .c) (a .entry) (a .sheet) in
     let test =
-    (holds (c .before .before .before .before .before .before .before .before .before .before .before .before .before
-    .before .guide-fits .ensures) (c .before .before .before .before .before .before .before .before .before .before
-    .before .before .before .if1 .left)) in
-    let opens = guide-open-at q (c .before .before .before .before .before .before .before .before .before .before .before
-    .open-sheet .result)
-    (holds (c .before .before .before .before .before .before .before .before .before .before .before .before .before
-    .before .guide-fits .ensures) (c .before .before .before .before .before .before .before .before .before
-    .before .before .before .before .if1 .left))
-    (c .before .before .before .before .before .before .before .before .before .before .before
-    .open-sheet .ensures) in
+    (holds (opening .before .before .before .guide-fits .ensures) (opening .before .before .if1 .left)) in
+    let opens = guide-open-at q (opening .open-sheet .result)
+    (holds (opening .before .before .before .guide-fits .ensures) (opening .before .before .if1 .left))
+    (opening .open-sheet .ensures) in
     let f = limits q (c .before .before .before .before .before .before .before .before .before .opened .given .0 .0) opens
     (c .before .before .before .before .before .before .before .before .before .opened .given .1) in
     let inside = in-map q (c .before .before .before .before .before .before .before .before .before .opened .given .0 .0)
@@ -161,21 +160,17 @@ follow-requires c κs =
 
 add-t20 : tie.Need-add-t20
 add-t20 c =
-    let a = c .before .before .before .before .before .before .before .before .before .before .before .before .before .before
-    .before .before .before .before .before .before .args in
+    let opening =
+    c .before .before .before .before .before .before .before .before .before .before .before .before .before .before in
+    let a = opening .before .before .before .before .before .before .args in
     let q = lentBeside (a .guided) (now (a .summary)) (a .n) (a .free) (now (a .map)) noCard (a .c) (a .entry) (a .sheet) in
     let f = limits q (c .before .before .before .before .before .before .before .before .before .before .before .before
     .opened .given .0 .0)
-    (guide-open-at q (c .before .before .before .before .before .before .before .before .before .before .before
-    .before .before .before .open-sheet .result)
-    (holds (c .before .before .before .before .before .before .before .before .before .before .before .before
-    .before .before .before .before .before .guide-fits .ensures)
-    (c .before .before .before .before .before .before .before .before .before .before .before
-    .before .before .before .before .before .if1 .left))
-    (c .before .before .before .before .before .before .before .before .before .before
-    .before .before .before .before .open-sheet .ensures))
-    (c .before .before .before .before .before .before .before .before .before
-    .before .before .before .opened .given .1) in
+    (guide-open-at q (opening .open-sheet .result)
+    (holds (opening .before .before .before .guide-fits .ensures)
+    (opening .before .before .if1 .left))
+    (opening .open-sheet .ensures))
+    (c .before .before .before .before .before .before .before .before .before .before .before .before .opened .given .1) in
     omega (arith, f .limit, f .spare, c .before .before .before .before .before .before .before .before .before .if2 .left)
 
 same-length-4 : tie.Need-same-length-4
@@ -186,26 +181,20 @@ same-length-5 c = search needs
 
 returns-5 : tie.Need-returns-5
 returns-5 c =
-    let a = c .before .before .before .before .before .before .before .before .before .before .before .before .before .before
-    .before .before .before .before .before .before .args in
+    let opening =
+    c .before .before .before .before .before .before .before .before .before .before .before .before .before .before in
+    let a = opening .before .before .before .before .before .before .args in
     let q = lentBeside (a .guided) (now (a .summary)) (a .n) (a .free) (now (a .map)) noCard (a .c) (a .entry) (a .sheet) in
     out q accepted
     (passes q (c .before .before .before .before .before .before .before .before .before .before .before .before .opened
     .given .0 .0)
-    (guide-open-at q (c .before .before .before .before .before .before .before .before .before .before .before
-    .before .before .before .open-sheet .result)
-    (holds (c .before .before .before .before .before .before .before .before .before .before .before .before
-    .before .before .before .before .before .guide-fits .ensures)
-    (c .before .before .before .before .before .before .before .before .before .before .before
-    .before .before .before .before .before .if1 .left))
-    (c .before .before .before .before .before .before .before .before .before .before
-    .before .before .before .before .open-sheet .ensures))
-    (c .before .before .before .before .before .before .before .before .before
-    .before .before .before .opened .given .1)
-    (c .before .before .before .before .before .before .before .before
-    .before .before .match2 .keys2)
-    (c .before .before .before .before .before .before .before
-    .before .before .if2 .left)) _ _ _ refl
+    (guide-open-at q (opening .open-sheet .result)
+    (holds (opening .before .before .before .guide-fits .ensures)
+    (opening .before .before .if1 .left))
+    (opening .open-sheet .ensures))
+    (c .before .before .before .before .before .before .before .before .before .before .before .before .opened .given .1)
+    (c .before .before .before .before .before .before .before .before .before .before .match2 .keys2)
+    (c .before .before .before .before .before .before .before .before .before .if2 .left)) _ _ _ refl
     (c .before .before .before .before .before .before .before .mark .ensures)
     (c .before .before .follow .ensures
     ∙ ap (λ (m : List ℕ). guideAfter (a .guided) (now (a .summary)) m (a .n) (a .entry .start) (a .entry .length))
