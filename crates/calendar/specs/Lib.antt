@@ -1,0 +1,3 @@
+-- What the contracts of `calendar`, and of crates above it, cite.
+pub mod Calendar
+pub mod Term
