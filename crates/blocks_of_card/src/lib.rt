@@ -9,7 +9,7 @@ use block::BLOCK;
 use block::PAYLOAD;
 
 // Where the payload starts in its block.
-const PAYLOAD_START: usize = 8;
+pub const PAYLOAD_START: usize = 8;
 
 // Seals a payload into block b.
 pub fn write_block(card: &mut [u8], b: u32, sheet: u32, place: u32, payload: &[u8])

@@ -1,12 +1,13 @@
 -- The formulas by which the code finds a month's length, the days before it, and those before a year.
 -- Assumes nothing.
-use mathlib.Core.Path.{_≡_, refl, sym, ap}
+use mathlib.Core.Path.{_≡_, refl, sym, ap, _∙_}
 use mathlib.Core.Bool.{Bool, true, false, cond}
 use Prim.Native.Nat.{ℕ, zero, suc, _+_, _*_, _-_, _/_, _%_, _≤_, _<_}
 use native.Mathlib.Omega.{arith}
 use lib.Dec.{eqb}
 use borrow.Author.Tests.{eqb-true, eqb-false}
 use Rattle.calendar.specs.Calendar.{leapDay, monthLength, sumOf, beforeMonth, beforeYear, isDate, dayOf, datedOf}
+use Rattle.calendar.specs.declared.Dated.{Dated}
 use Rattle.calendar.specs.declared.Dated.the-variants.{Day, NoSuchDate}
 use Rattle.calendar.proofs.Dates.{twelve}
 
@@ -62,3 +63,22 @@ day-told y m d b e eb = rw (e, eb, year-days y)
 pub no-date : (y m d : ℕ) → isDate y m d ≡ false → NoSuchDate ≡ datedOf y m d
 unfolding datedOf
 no-date y m d e = rw e
+
+-- and what its answer says of the date
+module _ (y m d : ℕ) (r : Dated) (e : r ≡ datedOf y m d) where
+  pub dated : (number : ℕ) → r ≡ Day number → (isDate y m d ≡ true) × (number ≡ dayOf y m d)
+  unfolding datedOf
+  dated number h = by (isDate y m d) refl (sym h ∙ e)
+    where
+      by : (t : Bool) → isDate y m d ≡ t → Day number ≡ cond t (Day (dayOf y m d)) NoSuchDate
+          → (isDate y m d ≡ true) × (number ≡ dayOf y m d)
+      by true p k = (p, (cc))
+      by false p k = absurd (let z : _≡_ {A = ℕ} 0 1 = cc in omega arith)
+
+  pub undated : r ≡ NoSuchDate → isDate y m d ≡ false
+  unfolding datedOf
+  undated h = by (isDate y m d) refl (sym h ∙ e)
+    where
+      by : (t : Bool) → isDate y m d ≡ t → NoSuchDate ≡ cond t (Day (dayOf y m d)) NoSuchDate → isDate y m d ≡ false
+      by true p k = absurd (let z : _≡_ {A = ℕ} 0 1 = cc in omega arith)
+      by false p k = p

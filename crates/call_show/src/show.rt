@@ -2,16 +2,10 @@
 ghost use mathlib.Core.Path.{_≡_};
 ghost use Rattle.refusals.specs.Lent.{lent};
 ghost use Rattle.refusals.specs.Effects.{showAnswer, showBuffer};
-use block::PAYLOAD;
-use blocks_of_card::copy_payload;
-use blocks_of_card::sound_block;
+use crate::place::show_block;
+use crate::place::showing_row;
 use catalogue::Entry;
 use catalogue_standings::Answer;
-use catalogue_standings::Opened;
-use catalogue_standings::Standing;
-use catalogue_standings::opening::open_on;
-use catalogue_standings::opening::refused_row;
-use catalogue_standings::opening::row_of;
 
 pub fn show(
     n: u32,
@@ -28,22 +22,9 @@ pub fn show(
         ⌜ (r ≡ showAnswer q place (now (buffer .entry)))
         × (now (buffer .exit) ≡ showBuffer q place (now (buffer .entry))) ⌝ }
 {
-    let opened = open_on(n, free, map, card.len(), c, sheet, entry);
-    let Opened::Stands(stands) = opened else {
-        return Answer::Refused(refused_row(opened));
-    };
-    let Standing::Complete(start, blocks) = stands else {
-        return Answer::Refused(row_of(stands));
-    };
-    if blocks <= place {
-        return Answer::Refused(3);
+    let row = showing_row(n, free, map, card, c, entry, sheet, place, &*buffer);
+    if row != 0 {
+        return Answer::Refused(row);
     }
-    if buffer.len() != PAYLOAD {
-        return Answer::Refused(3);
-    }
-    if !sound_block(card, start + place, sheet, place) {
-        return Answer::Refused(4);
-    }
-    copy_payload(card, start + place, buffer);
-    Answer::Done
+    show_block(card, entry.start + place, sheet, place, buffer)
 }

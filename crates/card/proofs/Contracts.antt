@@ -17,7 +17,7 @@ use Rattle.block.proofs.Clauses.{Ensures, AsksNothing}
 use Rattle.refusals.specs.Lent.{noCard}
 use Rattle.card.specs.Calls.{kept}
 use Rattle.card.specs.Contracts.{itself, Freshens, Searches, Surveys, Reserves, ReservesPlaced, Grows, Puts, Completes}
-use Rattle.card.specs.Contracts.{Offers, Accepts, Shows}
+use Rattle.card.specs.Contracts.{Offers, Accepts, Shows, ShowsDated}
 use Rattle.card.specs.Contracts.{Pauses, Resumes, Releases, TellsStanding, Saves, Loads}
 use Rattle.card.proofs.Shape.constants_hold as constants-hold-method
 use Rattle.card.proofs.Shape.fresh as fresh-method
@@ -34,6 +34,7 @@ use Rattle.card.proofs.Shape.pause as pause-method
 use Rattle.card.proofs.Shape.resume as resume-method
 use Rattle.card.proofs.Shape.release as release-method
 use Rattle.card.proofs.Shape.show as show-method
+use Rattle.card.proofs.Shape.show_dated as show-dated-method
 use Rattle.card.proofs.Shape.standing as standing-method
 use Rattle.card.proofs.Shape.save as save-method
 use Rattle.card.proofs.Shape.load as load-method
@@ -114,6 +115,13 @@ module _ {M : Type 1} (𝓤 : URA M) (H : Heap 𝓤) (A : Atoms 𝓤) (mem : Mem
       (a .1 .1 .1 .1 .1 .0) (now (a .1 .1 .1 .1 .1 .1 .0)) r (now (t .1 .1 .1 .1 .1 .1 .0)))
   show-contract κs a r t g = refl
 
+  pub show-dated-contract : Ensures 𝓤 show-dated-method.ended (show-dated-method.clauses 𝓤 H A mem run)
+      (λ κs a r t. let more = a .1 .1 .1 .1 in
+      ShowsDated itself (kept (a .0) (now (a .1 .0)) (now (a .1 .1 .0)) (now (a .1 .1 .1 .0)))
+      (more .0) (more .1 .0) (more .1 .1 .0) (more .1 .1 .1 .0) (more .1 .1 .1 .1 .0) (now (more .1 .1 .1 .1 .1 .0))
+      r (now (t .1 .1 .1 .1 .1 .1 .1 .1 .1 .0)))
+  show-dated-contract κs a r t g = refl
+
   pub standing-contract : Ensures 𝓤 standing-method.ended (standing-method.clauses 𝓤 H A mem run) (λ κs a r t.
       TellsStanding itself (kept (a .0) (now (a .1 .0)) (now (a .1 .1 .0)) noCard) (a .1 .1 .1 .0) r)
   standing-contract κs a r t g = refl
@@ -173,6 +181,9 @@ module _ {M : Type 1} (𝓤 : URA M) (H : Heap 𝓤) (A : Atoms 𝓤) (mem : Mem
 
   pub show-asks-nothing : AsksNothing 𝓤 show-method.ended (show-method.clauses 𝓤 H A mem run)
   show-asks-nothing κs a g = refl
+
+  pub show-dated-asks-nothing : AsksNothing 𝓤 show-dated-method.ended (show-dated-method.clauses 𝓤 H A mem run)
+  show-dated-asks-nothing κs a g = refl
 
   pub standing-asks-nothing : AsksNothing 𝓤 standing-method.ended (standing-method.clauses 𝓤 H A mem run)
   standing-asks-nothing κs a g = refl

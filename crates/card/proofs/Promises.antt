@@ -25,6 +25,8 @@ use Rattle.card.specs.declared.Shape.{Shape}
 use Rattle.refusals.specs.Lent.{Lent, noCard}
 use Rattle.card.specs.Calls.{Kept, lentTo, told, isDone, savedState, saveOutcome, saveImage}
 use Rattle.card.specs.Calls.{loadOutcome, loadMap, loadEntries, loadScratch}
+use Rattle.calendar.specs.Calendar.{dateOf}
+use Rattle.card.specs.Contracts.{ShowsDated}
 use Rattle.card.specs.Contracts.{itself, Freshens, Reserves, ReservesPlaced, Grows, Puts, Completes, Shows, Pauses}
 use Rattle.card.specs.Contracts.{Accepts, Resumes, Releases}
 use Rattle.card.specs.Contracts.{Saves, Loads}
@@ -130,6 +132,14 @@ module _ {R : Type 0} (how : Outcome → R) (s : Kept) (sheet number : ℕ) (r :
       → (r ≡ how (told (s .shape) (Refused number))) × (buffer′ ≡ buffer)
   show-refused place buffer buffer′ h v =
       let same = refusals.show-refused s sheet number place buffer v in
+      (h .0 ∙ ap how (same .0), h .1 ∙ same .1)
+
+  pub show-dated-refused : (place year month day : ℕ) (buffer buffer′ : List ℕ)
+      → ShowsDated how s sheet place year month day buffer r buffer′
+      → effects.showDatedVerdict q place (dateOf year month day) buffer ≡ refused number
+      → (r ≡ how (told (s .shape) (Refused number))) × (buffer′ ≡ buffer)
+  show-dated-refused place year month day buffer buffer′ h v =
+      let same = refusals.show-dated-refused s sheet number place (dateOf year month day) buffer v in
       (h .0 ∙ ap how (same .0), h .1 ∙ same .1)
 
 -- a refused save or load changes nothing but the scratch, which is all zeros

@@ -36,7 +36,9 @@ use Rattle.card.specs.Calls.{acceptOutcome, acceptMap, acceptEntries, ac
 use Rattle.card.specs.Calls.{reserveMap, reserveEntries, reserveCard, growOutcome, growMap, growEntries, growCard}
 use Rattle.card.specs.Calls.{putOutcome, putCard, completeOutcome, completeEntries, pauseOutcome, pauseEntries}
 use Rattle.card.specs.Calls.{resumeOutcome, resumeEntries}
+use Rattle.calendar.specs.Calendar.{Date}
 use Rattle.card.specs.Calls.{releaseOutcome, releaseMap, releaseEntries, showOutcome, showBuffer}
+use Rattle.card.specs.Calls.{showDatedOutcome, showDatedBuffer}
 
 -- a refused call hands back the free count and the entry that it was given: shape and entries are as they were
 handed-back : (shape : Shape) (entries : List Entry) (sheet : ℕ) (answer : Answer) (out : Out)
@@ -223,6 +225,16 @@ module _ (s : Kept) (sheet number : ℕ) where
       × (showBuffer s sheet place buffer ≡ buffer)
   unfolding effects.showAnswer effects.showBuffer
   show-refused place buffer h = (
+    ap (λ (v : Verdict). told (s .shape) (settle v Done Refused)) h,
+    ap (λ (v : Verdict). settle v (payloadOf (blockOf (s .card) (e .start + place))) (λ number. buffer)) h,
+  )
+
+  pub show-dated-refused : (place : ℕ) (date : Date) (buffer : List ℕ)
+      → effects.showDatedVerdict q place date buffer ≡ refused number
+      → (showDatedOutcome s sheet place date buffer ≡ told (s .shape) (Refused number))
+      × (showDatedBuffer s sheet place date buffer ≡ buffer)
+  unfolding effects.showDatedAnswer effects.showDatedBuffer
+  show-dated-refused place date buffer h = (
     ap (λ (v : Verdict). told (s .shape) (settle v Done Refused)) h,
     ap (λ (v : Verdict). settle v (payloadOf (blockOf (s .card) (e .start + place))) (λ number. buffer)) h,
   )

@@ -7,6 +7,7 @@ use mathlib.Core.List.{List, []}
 use Prim.Native.Nat.{ℕ}
 use lib.Dec.{eqb}
 use lib.ListN.{length, set}
+use Rattle.calendar.specs.Calendar.{Date}
 use Rattle.map_blocks.specs.Maps as maps
 use Rattle.catalogue.specs.Entries.{entryAt, clearedIf}
 use Rattle.catalogue.specs.declared.Entry.{Entry}
@@ -264,6 +265,13 @@ module _ (s : Kept) (sheet : ℕ) where
 
   abbrev pub showBuffer : ℕ → List ℕ → List ℕ
   showBuffer place buffer = effects.showBuffer lends place buffer
+
+  -- (document 02 (m))
+  abbrev pub showDatedOutcome : ℕ → Date → List ℕ → Outcome
+  showDatedOutcome place date buffer = told (s .shape) (effects.showDatedAnswer lends place date buffer)
+
+  abbrev pub showDatedBuffer : ℕ → Date → List ℕ → List ℕ
+  showDatedBuffer place date buffer = effects.showDatedBuffer lends place date buffer
 
   abbrev pauseOut : Out
   pauseOut = effects.pauseOut lendsNoCard

@@ -9,6 +9,7 @@ use mathlib.Core.List.{List}
 use Prim.Native.Nat.{ℕ}
 use Rattle.catalogue.specs.declared.Entry.{Entry}
 use Rattle.card.specs.Calls.{Kept, freshOutcome, freshMap, freshEntries, searchOutcome, surveyOutcome}
+use Rattle.card.specs.DatedShows.{datedOutcome, datedBuffer}
 use Rattle.card.specs.Reserves.{plainOutcome, plainMapLeft, plainEntries, plainCardLeft}
 use Rattle.card.specs.Reserves.{placedOutcome, placedMapLeft, placedEntries, placedCardLeft}
 use Rattle.card.specs.Calls.{buildOutcome, buildSummary, checkOutcome}
@@ -93,6 +94,11 @@ module _ {R : Type 0} (how : Outcome → R) (s : Kept) (sheet : ℕ) where
   Shows place buffer r buffer′ =
       (r ≡ how (showOutcome s sheet place buffer))
       × (buffer′ ≡ showBuffer s sheet place buffer)
+
+  abbrev pub ShowsDated : ℕ → ℕ → ℕ → ℕ → List ℕ → R → List ℕ → Type 0
+  ShowsDated place year month day buffer r buffer′ =
+      (r ≡ how (datedOutcome s sheet place year month day buffer))
+      × (buffer′ ≡ datedBuffer s sheet place year month day buffer)
 
   abbrev pub Pauses : R → List Entry → Type 0
   Pauses r entries′ = (r ≡ how (pauseOutcome s sheet)) × (entries′ ≡ pauseEntries s sheet)

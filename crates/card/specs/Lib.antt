@@ -3,3 +3,4 @@ pub mod Calls
 pub mod Contracts
 pub mod Cores
 pub mod Reserves
+pub mod DatedShows

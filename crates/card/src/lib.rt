@@ -7,6 +7,7 @@ pub mod summary;
 
 ghost use mathlib.Core.Bool.{true};
 ghost use mathlib.Core.Path.{_≡_};
+ghost use Rattle.calendar.specs.Calendar.{dateOf};
 ghost use Rattle.refusals.specs.Lent.{noCard};
 ghost use Rattle.refusals.specs.Placement.{plain, placed, figures};
 ghost use Rattle.card.specs.Calls.{kept, freshOutcome, freshMap, freshEntries, searchOutcome, surveyOutcome};
@@ -16,7 +17,7 @@ ghost use Rattle.card.specs.Calls.{growEntries, growCard, putOutcome, pu
 ghost use Rattle.card.specs.Calls.{pauseOutcome, pauseEntries, resumeOutcome, resumeEntries};
 ghost use Rattle.card.specs.Calls.{releaseOutcome, releaseMap, releaseEntries, showOutcome};
 ghost use Rattle.card.specs.Calls.{showBuffer, standingOutcome, saveOutcome, saveScratch, saveImage, loadOutcome};
-ghost use Rattle.card.specs.Calls.{loadMap, loadEntries, loadScratch};
+ghost use Rattle.card.specs.Calls.{loadMap, loadEntries, loadScratch, showDatedOutcome, showDatedBuffer};
 use catalogue::Entry;
 use catalogue_standings::Answer;
 
@@ -284,6 +285,28 @@ impl Shape {
     {
         let slot = catalogue::find(catalogue, sheet);
         cores::show_core(self, map, card, slot, sheet, place, buffer)
+    }
+
+    // Copies a payload of a Complete sheet, on a day of its term (document 02 (m)).
+    pub fn show_dated(
+        self,
+        map: &[u64],
+        catalogue: &[Entry],
+        card: &[u8],
+        sheet: u32,
+        place: u32,
+        year: u32,
+        month: u32,
+        day: u32,
+        buffer: &mut [u8],
+    ) -> Outcome
+        ensures { λ r. let s = kept self (now (map .entry)) (now (catalogue .entry)) (now (card .entry)) in
+            let date = dateOf year month day in
+            ⌜ (r ≡ showDatedOutcome s sheet place date (now (buffer .entry)))
+            × (now (buffer .exit) ≡ showDatedBuffer s sheet place date (now (buffer .entry))) ⌝ }
+    {
+        let slot = catalogue::find(catalogue, sheet);
+        cores::show_dated_core(self, map, card, slot, sheet, place, year, month, day, buffer)
     }
 
     // Answers mark, start and length.

@@ -2,13 +2,13 @@
 -- Assumes nothing.
 use Prim.Native.Nat.{ℕ, zero, suc, _+_, _-_, _*_, _/_, _%_, _^_, _≤_, _<_}
 use mathlib.Core.Path.{_≡_, refl, sym, ap, _∙_, fun-ext}
-use mathlib.Core.Bool.{Bool, true, false, cond, not, _&&_}
+use mathlib.Core.Bool.{Bool, true, false, cond, not, _&&_, true≢false}
 use mathlib.Core.List.{List, [], _∷_, map}
-use native.Mathlib.Nat.{zero-div, not-suc-le-zero, le-of-suc-le-suc}
+use native.Mathlib.Nat.{zero-div, not-suc-le-zero, le-of-suc-le-suc, add-zero}
 use native.Mathlib.Omega.{arith}
 use lib.Dec.{eqb, leb, ltb}
 use lib.ListN.{length, length-map, List·getD-eq-default}
-use borrow.Author.Tests.{le-leb, lt-ltb, le-ltb, eq-eqb, ne-eqb, leb-false, ltb-true, ltb-false}
+use borrow.Author.Tests.{le-leb, lt-ltb, le-ltb, eq-eqb, ne-eqb, leb-false, ltb-true, ltb-false, not-true}
 use Rattle.map_blocks.specs.Blocks as map-blocks
 use Rattle.map_blocks.specs.Maps.{mapOf, wordsFor}
 use Rattle.map_blocks.proofs.Maps.{map-length, map-free}
@@ -16,7 +16,8 @@ use Rattle.map_blocks.proofs.Runs.{all-intro}
 use Rattle.blocks_of_card.specs.Card.{blockOf}
 use Rattle.block_seals.specs.Sealed as sealed-block
 use Rattle.block_seals.proofs.Blank.{blank-zeros}
-use Rattle.block_seals.proofs.Sealed.{sound-own, sound-zeros, blank-sealed}
+use Rattle.block_seals.proofs.Sealed.{sound-own, sound-zeros, blank-sealed, payload-sealed}
+use Rattle.calendar.specs.Term.{Term, termOf}
 use Rattle.catalogue.specs.Entries.{entryAt}
 use Rattle.catalogue.specs.declared.Entry.{Entry}
 use Rattle.catalogue_standings.specs.Rows.{row, Verdict, refused, firstOf}
@@ -29,7 +30,7 @@ use Rattle.refusals.specs.Lent.{lent, noCard}
 use Rattle.refusals.specs.Views.{viewAt, viewOn}
 use Rattle.catalogue_standings.proofs.Openings.{skip, stop}
 use Rattle.ledger.specs.Ledger.{Place, Blank, Payload, Sheet, Absent, Paused, PausedWith, Open, Complete, standingIn}
-use Rattle.ledger.specs.Ledger.{startIn, lengthIn, isBlank, sheetAt, placeAt, cover, freeIn, spareIn, viewIn, listed}
+use Rattle.ledger.specs.Ledger.{startIn, lengthIn, isBlank, bytesOf, sheetAt, placeAt, cover, freeIn, spareIn, viewIn, listed}
 use Rattle.ledger.specs.Ledger.{verdictIn}
 use Rattle.ledger.specs.Claim.{entryIn, blockIn}
 use Rattle.card.specs.Calls.{Kept}
@@ -89,10 +90,12 @@ free-map n l = fun-ext (λ b. go b (ltb b (wordsFor n * 64)) refl)
 pub record Places : Type 0 where
   pub blank : ℕ → Bool
   pub sound : ℕ → Bool
+  pub term : Term
 
 pub record Alike (k : ℕ) (x y : Places) : Type 0 where
   pub blank : (p : ℕ) → p < k → x .blank p ≡ y .blank p
   pub sound : (p : ℕ) → p < k → x .sound p ≡ y .sound p
+  pub term : 0 < k → y .sound 0 ≡ true → x .term ≡ y .term
 
 -- a view of the ledger with other places
 abbrev pub reads : ℕ → List Sheet → ℕ → Places → View
@@ -106,6 +109,7 @@ reads n l i places = record {
   found = leastWithin (freeIn n l);
   blank = places .blank;
   sound = places .sound;
+  term = places .term;
 }
 
 -- an entry with a length is no pause without blocks
@@ -162,7 +166,11 @@ opened n l i a x y h =
 
 -- the places as the ledger has them
 abbrev placesOf : List Sheet → ℕ → Places
-placesOf l i = record { blank = λ p. isBlank (placeAt l i p); sound = λ p. not (isBlank (placeAt l i p)) }
+placesOf l i = record {
+  blank = λ p. isBlank (placeAt l i p);
+  sound = λ p. not (isBlank (placeAt l i p));
+  term = termOf (bytesOf (placeAt l i 0));
+}
 
 -- a sheet that the catalogue does not have
 beyond : (v : View) (i : ℕ) (a : Ask) → v .misfit ≡ false → leb (v .sheets) i ≡ true → verdictOf v (on i a) ≡ refused 2
@@ -181,6 +189,10 @@ sound-block : (i p : ℕ) (x : Place) → Sized x → i < 4294967296 → p < 429
     → sealed-block.sound i p (blockIn i p x) ≡ not (isBlank x)
 sound-block i p Blank h hi hp = sound-zeros i p
 sound-block i p (Payload bytes) h hi hp = sound-own i p bytes h hi hp
+
+pub payload-block : (i p : ℕ) (x : Place) → isBlank x ≡ false → Sized x → sealed-block.payloadOf (blockIn i p x) ≡ bytesOf x
+payload-block i p Blank h z = absurd (true≢false h)
+payload-block i p (Payload bytes) h z = payload-sealed i p bytes z
 
 module _ (n : ℕ) (l : List Sheet) (card : List ℕ) (k : Matches n l card) where
   map-fits : length (mapIn n l) ≡ wordsFor n
@@ -246,7 +258,7 @@ module _ (n : ℕ) (l : List Sheet) (card : List ℕ) (k : Matches n l card) whe
           ap (standingOf n (map-blocks.free (mapIn n l))) (entry-at l i lt)
           ∙ stands-as n (map-blocks.free (mapIn n l)) (sheetAt l i) (k .sound .fine i) covered
 
-      on-reads : on-card ≡ reads n l i (record { blank = on-card .blank; sound = on-card .sound })
+      on-reads : on-card ≡ reads n l i (record { blank = on-card .blank; sound = on-card .sound; term = on-card .term })
       unfolding viewOn
       on-reads = λ t. record {
         misfit = fits-on t;
@@ -258,9 +270,10 @@ module _ (n : ℕ) (l : List Sheet) (card : List ℕ) (k : Matches n l card) whe
         found = leastWithin (free-map n l t);
         blank = λ p. sealed-block.blank (blockOf card (e .start + p));
         sound = λ p. sealed-block.sound i p (blockOf card (e .start + p));
+        term = termOf (sealed-block.payloadOf (blockOf card (e .start)));
       }
 
-      at-reads : at ≡ reads n l i (record { blank = λ p. false; sound = λ p. false })
+      at-reads : at ≡ reads n l i (record { blank = λ p. false; sound = λ p. false; term = record { first = 0; last = 0 } })
       unfolding viewAt
       at-reads = λ t. record {
         misfit = fits-at t;
@@ -272,6 +285,7 @@ module _ (n : ℕ) (l : List Sheet) (card : List ℕ) (k : Matches n l card) whe
         found = leastWithin (free-map n l t);
         blank = λ p. false;
         sound = λ p. false;
+        term = record { first = 0; last = 0 };
       }
 
       here : (p : ℕ) → p < lengthIn (sheetAt l i) → blockOf card (e .start + p) ≡ blockIn i p (placeAt l i p)
@@ -287,6 +301,15 @@ module _ (n : ℕ) (l : List Sheet) (card : List ℕ) (k : Matches n l card) whe
           ap (sealed-block.sound i p) (here p h)
           ∙ sound-block i p (placeAt l i p) (k .sound .fine i .sized p) (omega (arith, k .few-sheets))
           (omega (arith, k .high, k .sound .fine i .inside))
+
+      -- the term is read once place 0 has been found sound
+      pub term-same : 0 < lengthIn (sheetAt l i) → not (isBlank (placeAt l i 0)) ≡ true
+          → on-card .term ≡ termOf (bytesOf (placeAt l i 0))
+      unfolding viewOn
+      term-same some sealed =
+          ap termOf (ap (λ (b : ℕ). sealed-block.payloadOf (blockOf card b)) (sym (add-zero (e .start)))
+          ∙ ap sealed-block.payloadOf (here 0 some)
+          ∙ payload-block i 0 (placeAt l i 0) (not-true _ sealed) (k .sound .fine i .sized 0))
 
   -- ---- the verdicts
 
@@ -310,7 +333,7 @@ module _ (n : ℕ) (l : List Sheet) (card : List ℕ) (k : Matches n l card) whe
         by-sheet (on-card i) (fits-of i) (sheets-of i)
         (λ lt. ap (λ (v : View). verdictOf v (on i a)) (on-reads i lt)
         ∙ opened n l i a _ (placesOf l i) (own _ (placesOf l i)
-        (record { blank = blank-same i lt; sound = sound-same i lt }))) never
+        (record { blank = blank-same i lt; sound = sound-same i lt; term = term-same i lt }))) never
 
     -- a call that is not
     pub verdict-at : Plain n l i a → NeverRows i a → verdictOf (at i) (on i a) ≡ verdictIn n l (on i a)

@@ -26,6 +26,9 @@ use Rattle.card.specs.declared.Shape.{Shape}
 use Rattle.card.specs.declared.Outcome.{Outcome}
 use Rattle.refusals.specs.Placement.{plain, placed, figures}
 use Rattle.refusals.specs.Table.{Call, on, reserve, put, grow, complete, pause, resume, release, show, standing, offer, accept}
+use Rattle.refusals.specs.Table.{showDated}
+use Rattle.calendar.specs.Calendar.{dateOf}
+use Rattle.card.specs.Contracts.{ShowsDated}
 use Rattle.ledger.specs.Steps.{Response, endOf, Step, freshState}
 
 -- the state after a call, and its reply, by what the call handed back and left
@@ -101,6 +104,14 @@ module _ (s : Kept) (sheet : ℕ) (r : Outcome) where
       → Step s (on sheet (show p buffer)) (replying r buffer′) (leaving r (s .map) (s .entries) (s .card))
   show-step p buffer buffer′ h =
       met s (on sheet (show p buffer)) r (s .map) (s .entries) (s .card) buffer′ (h .0) refl refl refl (h .1)
+
+  pub show-dated-step : (p year month day : ℕ) (buffer : List ℕ) (buffer′ : List ℕ)
+      → ShowsDated itself s sheet p year month day buffer r buffer′
+      → Step s (on sheet (showDated p (dateOf year month day) buffer)) (replying r buffer′)
+      (leaving r (s .map) (s .entries) (s .card))
+  show-dated-step p year month day buffer buffer′ h =
+      met s (on sheet (showDated p (dateOf year month day) buffer)) r (s .map) (s .entries) (s .card) buffer′
+      (h .0) refl refl refl (h .1)
 
   pub standing-step : TellsStanding itself s sheet r
       → Step s (on sheet standing) (replying r []) (leaving r (s .map) (s .entries) (s .card))

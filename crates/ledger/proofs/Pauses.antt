@@ -12,6 +12,7 @@ use lib.Seq.{getD-set-same, getD-set-other}
 use borrow.Author.Tests.{lt-leb}
 use Rattle.catalogue_standings.specs.Rows.{Verdict, accepted, refused, firstOf, settle}
 use Rattle.refusals.specs.Table.{Call, on, reserve, put, grow, complete, pause, resume, release, show, standing, lowestBlank}
+use Rattle.refusals.specs.Table.{showDated}
 use Rattle.refusals.specs.Table.{offer, accept, tableOf}
 use Rattle.card.specs.Calls.{Kept}
 use Rattle.ledger.specs.Ledger.{Place, Blank, Payload, Sheet, Absent, PausedWith, Complete, standingIn, placesIn, bytesOf}
@@ -35,6 +36,7 @@ deed-elsewhere n l (on j pause) i ne = getD-set-other l j i _ Absent ne
 deed-elsewhere n l (on j resume) i ne = getD-set-other l j i _ Absent ne
 deed-elsewhere n l (on j release) i ne = getD-set-other l j i _ Absent ne
 deed-elsewhere n l (on j (show p buffer)) i ne = refl
+deed-elsewhere n l (on j (showDated p date buffer)) i ne = refl
 deed-elsewhere n l (on j standing) i ne = refl
 deed-elsewhere n l (on j (offer k)) i ne = refl
 deed-elsewhere n l (on j (accept start k)) i ne = getD-set-other l j i _ Absent ne

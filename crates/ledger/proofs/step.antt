@@ -10,10 +10,12 @@ pub mod Release
 pub mod Reserve
 pub mod Resume
 pub mod Show
+pub mod ShowDated
 pub mod Standing
 use Prim.Native.Nat.{ℕ}
 use mathlib.Core.List.{List}
 use Rattle.refusals.specs.Table.{Call, on, reserve, put, grow, complete, pause, resume, release, show, standing, offer, accept}
+use Rattle.refusals.specs.Table.{showDated}
 use Rattle.ledger.specs.Ledger.{Sheet, verdictIn}
 use Rattle.ledger.proofs.Agreement.{Matches}
 use Rattle.ledger.proofs.Results.{Result}
@@ -27,6 +29,7 @@ use Release.{release-result}
 use Reserve.{reserve-result}
 use Resume.{resume-result}
 use Show.{show-result}
+use ShowDated.{show-dated-result}
 use Standing.{standing-result}
 
 pub result : (n : ℕ) (l : List Sheet) (card : List ℕ) → Matches n l card → (c : Call) → Result n l card c (verdictIn n l c)
@@ -40,4 +43,5 @@ result n l card k (on i pause) = pause-result n l card k i
 result n l card k (on i resume) = resume-result n l card k i
 result n l card k (on i release) = release-result n l card k i
 result n l card k (on i (show p buffer)) = show-result n l card k i p buffer
+result n l card k (on i (showDated p date buffer)) = show-dated-result n l card k i p date buffer
 result n l card k (on i standing) = standing-result n l card k i

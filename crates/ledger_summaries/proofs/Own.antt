@@ -19,6 +19,7 @@ use Rattle.refusals.specs.Effects as effects
 use Rattle.refusals.specs.Lent.{Lent, noCard}
 use Rattle.refusals.specs.Placement.{Placement}
 use Rattle.refusals.specs.Table.{Call, on, reserve, put, grow, complete, pause, resume, release, show, standing, offer, accept}
+use Rattle.refusals.specs.Table.{showDated}
 use Rattle.refusals.proofs.Accept.{accept-room}
 use Rattle.refusals.proofs.Room.{Room, reserve-room, grow-room}
 use Rattle.refusals.proofs.Release.{release-sized}
@@ -111,6 +112,7 @@ same-end s (on sheet pause) = refl
 same-end s (on sheet resume) = refl
 same-end s (on sheet release) = any-summary s (ownOf s) sheet (own-fits s) .releases
 same-end s (on sheet (show p buffer)) = refl
+same-end s (on sheet (showDated p date buffer)) = refl
 same-end s (on sheet standing) = refl
 
 -- and the summary is the map's own afterwards
@@ -125,6 +127,7 @@ own-after s (on sheet pause) = refl
 own-after s (on sheet resume) = refl
 own-after s (on sheet release) = release-own-after s sheet
 own-after s (on sheet (show p buffer)) = refl
+own-after s (on sheet (showDated p date buffer)) = refl
 own-after s (on sheet standing) = refl
 
 pub own-step : (s : Kept) (c : Call) → OwnStep s c

@@ -1,5 +1,5 @@
--- The calls with a summary beside the map (document 02, request j): what is claimed of them, beside the calls without one.
--- That it holds is proved in proofs/.
+-- The calls with a summary beside the map (document 02, request j): what is claimed of them, beside the calls without one. That it
+-- holds is proved in proofs/.
 -- Assumes nothing.
 use Prim.Native.Nat.{ℕ, _<_}
 use mathlib.Core.Path.{_≡_}
@@ -12,8 +12,8 @@ use Rattle.summary.specs.Summary.{summaryLength, ownSummary}
 use Rattle.catalogue_standings.specs.Rows.{accepted, refused, firstOf}
 use Rattle.catalogue_standings.specs.declared.Answer.the-variants.{Refused}
 use Rattle.refusals.specs.Placement.{Placement, figuresIn, fitWithin}
-use Rattle.refusals.specs.Table.{Call, Ask, on, reserve, put, grow, complete, pause, resume, release, show, standing, offer}
-use Rattle.refusals.specs.Table.{accept}
+use Rattle.refusals.specs.Table.{Call, Ask, on, reserve, put, grow, complete, pause, resume, release, show, standing, offer, accept}
+use Rattle.refusals.specs.Table.{showDated}
 use Rattle.refusals.specs.Table.{tableOf}
 use Rattle.refusals.specs.Views.{viewOn}
 use Rattle.card.specs.Calls.{Kept, lentTo, told, reserveSummaryBy, acceptSummaryBy, growSummaryBy, releaseSummaryBy}
@@ -34,14 +34,14 @@ summaryAfter summary s (on sheet pause) = summary
 summaryAfter summary s (on sheet resume) = summary
 summaryAfter summary s (on sheet release) = releaseSummaryBy true summary s sheet
 summaryAfter summary s (on sheet (show p buffer)) = summary
+summaryAfter summary s (on sheet (showDated p date buffer)) = summary
 summaryAfter summary s (on sheet standing) = summary
 
 -- A call from state s that is lent a summary gives a reply and leaves state t and a summary, as the contract of its public
 -- function says.
 abbrev pub StepBy : Kept → List ℕ → Call → Response → Kept → List ℕ → Type 0
 StepBy s summary c reply t summary′ =
-    (reply ≡ responseOf (endIn true summary s c)) × (t ≡ stateOn (endIn true summary s c)) ×
-    (summary′ ≡ summaryAfter summary s c)
+    (reply ≡ responseOf (endIn true summary s c)) × (t ≡ stateOn (endIn true summary s c)) × (summary′ ≡ summaryAfter summary s c)
 
 -- A list of calls whose map-changing calls are these forms, each lent the summary as the one before left it.
 abbrev pub RunsBy : Kept → List ℕ → List Call → List Response → Kept → List ℕ → Type 0
@@ -98,8 +98,8 @@ pub record AnySummary (s : Kept) (summary : List ℕ) (sheet : ℕ) : Type 0 whe
 abbrev pub Comes : Kept → ℕ → ℕ → Placement → Type 0
 Comes s sheet k p = firstOf (before 10 (tableOf (viewOn (lentTo s (s .card) sheet)) (on sheet (reserve k p)))) ≡ accepted
 
--- If it does, it is refused with 10, or with 4 by the free count, and changes nothing; or it is granted a run that is free,
--- within its figures, inside n and k long, and then does and answers what an accept of that run does.
+-- If it does, it is refused with 10, or with 4 by the free count, and changes nothing; or it is granted a run that is free, within
+-- its figures, inside n and k long, and then does and answers what an accept of that run does.
 pub data Searched (s : Kept) (summary : List ℕ) (sheet k : ℕ) (p : Placement) : Type 0 where
   turned-down : (number : ℕ) → (number ≡ 10) ⊎ (number ≡ 4)
       → endIn true summary s (on sheet (reserve k p)) ≡ refusing s number

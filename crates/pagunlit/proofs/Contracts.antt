@@ -13,6 +13,7 @@ use prog.Memory.{Memory}
 use prog.Routine.{Routine}
 use prog.Wp.{Heap}
 use Rattle.block.specs.Calls.{sealAnswer, afterSeal, checkAnswer}
+use Rattle.calendar.specs.Term.{termAnswer, withTerm}
 use Rattle.counts.specs.Counts.{readOf, writeAnswer, afterWrite}
 use Rattle.counts.specs.Replies.{countReply, countFrom}
 use Rattle.block.proofs.Clauses.{Ensures, AsksNothing}
@@ -20,6 +21,7 @@ use Rattle.pagunlit_replies.specs.Replies.{replyOf}
 use Rattle.refusals.specs.Lent.{noCard}
 use Rattle.card.specs.Calls.{kept}
 use Rattle.card.specs.Contracts.{Freshens, Searches, Surveys, Reserves, ReservesPlaced, Grows, Puts, Completes, Shows}
+use Rattle.card.specs.Contracts.{ShowsDated}
 use Rattle.card.specs.Contracts.{Offers, Accepts, Pauses, Resumes, Releases, TellsStanding, Saves, Loads}
 use Rattle.pagunlit.proofs.pagunlit_fresh as fresh-function
 use Rattle.pagunlit.proofs.pagunlit_search as search-function
@@ -35,11 +37,13 @@ use Rattle.pagunlit.proofs.pagunlit_pause as pause-function
 use Rattle.pagunlit.proofs.pagunlit_resume as resume-function
 use Rattle.pagunlit.proofs.pagunlit_release as release-function
 use Rattle.pagunlit.proofs.pagunlit_show as show-function
+use Rattle.pagunlit.proofs.pagunlit_show_dated as show-dated-function
 use Rattle.pagunlit.proofs.pagunlit_standing as standing-function
 use Rattle.pagunlit.proofs.pagunlit_save as save-function
 use Rattle.pagunlit.proofs.pagunlit_load as load-function
 use Rattle.pagunlit.proofs.pagunlit_read_count as read-count-function
 use Rattle.pagunlit.proofs.pagunlit_write_count as write-count-function
+use Rattle.pagunlit.proofs.pagunlit_write_term as write-term-function
 use Rattle.pagunlit.proofs.seal as seal-function
 use Rattle.pagunlit.proofs.check as check-function
 
@@ -115,6 +119,13 @@ module _ {M : Type 1} (𝓤 : URA M) (H : Heap 𝓤) (A : Atoms 𝓤) (mem : Mem
       (a .1 .1 .1 .1 .1 .0) (now (a .1 .1 .1 .1 .1 .1 .0)) r (now (t .1 .1 .1 .1 .1 .1 .0)))
   pagunlit-show-contract κs a r t g = refl
 
+  pub pagunlit-show-dated-contract : Ensures 𝓤 show-dated-function.ended (show-dated-function.clauses 𝓤 H A mem run)
+      (λ κs a r t. let more = a .1 .1 .1 .1 in
+      ShowsDated replyOf (kept (a .0) (now (a .1 .0)) (now (a .1 .1 .0)) (now (a .1 .1 .1 .0)))
+      (more .0) (more .1 .0) (more .1 .1 .0) (more .1 .1 .1 .0) (more .1 .1 .1 .1 .0) (now (more .1 .1 .1 .1 .1 .0))
+      r (now (t .1 .1 .1 .1 .1 .1 .1 .1 .1 .0)))
+  pagunlit-show-dated-contract κs a r t g = refl
+
   pub pagunlit-standing-contract : Ensures 𝓤 standing-function.ended (standing-function.clauses 𝓤 H A mem run) (λ κs a r t.
       TellsStanding replyOf (kept (a .0) (now (a .1 .0)) (now (a .1 .1 .0)) noCard) (a .1 .1 .1 .0) r)
   pagunlit-standing-contract κs a r t g = refl
@@ -189,6 +200,10 @@ module _ {M : Type 1} (𝓤 : URA M) (H : Heap 𝓤) (A : Atoms 𝓤) (mem : Mem
 
   pub pagunlit-show-asks-nothing : AsksNothing 𝓤 show-function.ended (show-function.clauses 𝓤 H A mem run)
   pagunlit-show-asks-nothing κs a g = refl
+
+  pub pagunlit-show-dated-asks-nothing : AsksNothing 𝓤 show-dated-function.ended
+      (show-dated-function.clauses 𝓤 H A mem run)
+  pagunlit-show-dated-asks-nothing κs a g = refl
 
   pub pagunlit-standing-asks-nothing : AsksNothing 𝓤 standing-function.ended (standing-function.clauses 𝓤 H A mem run)
   pagunlit-standing-asks-nothing κs a g = refl

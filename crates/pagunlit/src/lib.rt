@@ -5,6 +5,8 @@ pub mod summary;
 
 ghost use mathlib.Core.Path.{_≡_};
 ghost use Rattle.block.specs.Calls.{sealAnswer, afterSeal, checkAnswer};
+ghost use Rattle.calendar.specs.Calendar.{dateOf};
+ghost use Rattle.calendar.specs.Term.{termAnswer, withTerm};
 ghost use Rattle.counts.specs.Counts.{readOf, writeAnswer, afterWrite};
 ghost use Rattle.counts.specs.Replies.{countReply, countFrom};
 ghost use Rattle.pagunlit_replies.specs.Replies.{replyOf};
@@ -16,6 +18,7 @@ ghost use Rattle.card.specs.Calls.{reserveMap, reserveEntries, reserveCard, gro
 ghost use Rattle.card.specs.Calls.{putOutcome, putCard, completeOutcome, completeEntries, pauseOutcome, pauseEntries};
 ghost use Rattle.card.specs.Calls.{resumeOutcome, resumeEntries};
 ghost use Rattle.card.specs.Calls.{releaseOutcome, releaseMap, releaseEntries, showOutcome, showBuffer, standingOutcome};
+ghost use Rattle.card.specs.Calls.{showDatedOutcome, showDatedBuffer};
 ghost use Rattle.card.specs.Calls.{saveOutcome, saveScratch, saveImage, loadOutcome, loadMap, loadEntries, loadScratch};
 use card::Shape;
 use catalogue::Entry;
@@ -250,6 +253,28 @@ pub extern "C" fn pagunlit_show(
 }
 
 #[no_mangle]
+pub extern "C" fn pagunlit_show_dated(
+    shape: Shape,
+    map: &[u64],
+    catalogue: &[Entry],
+    card: &[u8],
+    sheet: u32,
+    place: u32,
+    year: u32,
+    month: u32,
+    day: u32,
+    buffer: &mut [u8],
+) -> Reply
+    ensures { λ r. let s = kept shape (now (map .entry)) (now (catalogue .entry)) (now (card .entry)) in
+        let date = dateOf year month day in
+        ⌜ (r ≡ replyOf (showDatedOutcome s sheet place date (now (buffer .entry))))
+        × (now (buffer .exit) ≡ showDatedBuffer s sheet place date (now (buffer .entry))) ⌝ }
+{
+    let outcome = shape.show_dated(map, catalogue, card, sheet, place, year, month, day, buffer);
+    reply_of(outcome)
+}
+
+#[no_mangle]
 pub extern "C" fn pagunlit_standing(
     shape: Shape,
     map: &[u64],
@@ -337,4 +362,14 @@ pub extern "C" fn pagunlit_write_count(payload: &mut [u8], which: u32, hundredth
         × (now (payload .exit) ≡ afterWrite (now (payload .entry)) which (countFrom hundredths)) ⌝ }
 {
     counts::write_count(payload, which, counts::count_from(hundredths))
+}
+
+// The two days of a term, as the crate calendar has them.
+
+#[no_mangle]
+pub extern "C" fn pagunlit_write_term(payload: &mut [u8], first: u32, last: u32) -> u32
+    ensures { λ r. ⌜ (r ≡ termAnswer (now (payload .entry)))
+        × (now (payload .exit) ≡ withTerm (now (payload .entry)) first last) ⌝ }
+{
+    calendar::write_term(payload, first, last)
 }

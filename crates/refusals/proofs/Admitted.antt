@@ -10,8 +10,9 @@ use Rattle.catalogue_standings.specs.Rows.{Row, row, refused, firstOf}
 use Rattle.catalogue_standings.specs.Standings.{isAbsent, isPaused, isOpen, isComplete}
 use Rattle.catalogue_standings.specs.declared.Opened.the-variants.{Stands}
 use Rattle.catalogue_standings.specs.declared.Standing.{Standing}
-use Rattle.catalogue_standings.specs.declared.Standing.the-variants.{Absent, Open}
+use Rattle.catalogue_standings.specs.declared.Standing.the-variants.{Absent, Open, Complete}
 use Rattle.catalogue_standings.proofs.Openings.{rowsOf, opened, not-absent, not-open, is-absent, is-open, NotAbsent, NotOpen}
+use Rattle.catalogue_standings.proofs.Openings.{not-complete, is-complete, NotComplete}
 
 module _ (fits : Bool) (c sheet : ℕ) (s : Standing) (rows : List Row) where
   abbrev absentOnly : List Row
@@ -43,3 +44,19 @@ module _ (fits : Bool) (c sheet : ℕ) (s : Standing) (rows : List Row) where
   open-passes start blocks h =
       let o = opened fits c sheet s (Open start blocks) _ h in
       o .verdict ∙ is-open s start blocks rows (o .same)
+
+  abbrev completeOnly : List Row
+  completeOnly = rowsOf fits c sheet s (row 5 (isAbsent s) ∷ row 6 (isPaused s) ∷ row 7 (isOpen s) ∷ rows)
+
+  pub complete-else : (t : Standing) → openedOf fits c sheet s ≡ Stands t → NotComplete t
+      → firstOf completeOnly ≡ refused (rowOf t)
+  complete-else t h differs =
+      let o = opened fits c sheet s t _ h in
+      o .verdict ∙ not-complete s rows (subst NotComplete (sym (o .same)) differs) (o .whole)
+      ∙ ap (λ (t : Standing). refused (rowOf t)) (o .same)
+
+  pub complete-passes : (start blocks : ℕ) → openedOf fits c sheet s ≡ Stands (Complete start blocks)
+      → firstOf completeOnly ≡ firstOf rows
+  complete-passes start blocks h =
+      let o = opened fits c sheet s (Complete start blocks) _ h in
+      o .verdict ∙ is-complete s start blocks rows (o .same)

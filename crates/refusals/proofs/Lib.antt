@@ -19,6 +19,8 @@ pub mod BlankPlaces
 pub mod Pause
 pub mod Resume
 pub mod Release
+pub mod Showing
 pub mod Show
+pub mod ShowDated
 pub mod Standing
 pub mod Summaries

@@ -6,6 +6,8 @@ use mathlib.Core.Bool.{Bool, true, false, not, cond}
 use mathlib.Core.List.{List, [], _∷_}
 use lib.Dec.{eqb, ltb}
 use lib.ListN.{length}
+use Rattle.calendar.specs.Calendar.{Date}
+use Rattle.calendar.specs.Term.{Term}
 use Rattle.map_blocks.specs.Blocks as map-blocks
 use Rattle.map_blocks.specs.Blocks.{fit}
 use Rattle.map_blocks.specs.Maps.{marked}
@@ -19,7 +21,7 @@ use Rattle.refusals.specs.Guides.{foundBy, guideAfter}
 use Rattle.refusals.specs.Lent.{Lent}
 use Rattle.refusals.specs.Placement.{Placement, plain, figuresIn}
 use Rattle.refusals.specs.Table.{on, reserve, put, grow, complete, pause, resume, release, show, standing, lowestBlank}
-use Rattle.refusals.specs.Table.{offer, accept, opening, giving, adding, verdictOf}
+use Rattle.refusals.specs.Table.{offer, accept, showDated, opening, giving, adding, showing, termRows, verdictOf}
 use Rattle.refusals.specs.Views.{viewAt, viewOn}
 use Rattle.catalogue_standings.specs.declared.Answer.{Answer}
 use Rattle.catalogue_standings.specs.declared.Answer.the-variants.{Done, Start, Reads, Blank, Refused}
@@ -225,7 +227,26 @@ module _ (q : Lent) where
   standingAnswer = settle (verdictOf (viewAt q) (on (q .sheet) standing))
       (Reads (q .entry .mark) (q .entry .start) (q .entry .length)) Refused
 
--- Show: copies a Complete sheet's payload out.
+-- What the first rows say of a call that shows a place of a Complete sheet.
+unfoldable pub showingVerdict : Lent → ℕ → List ℕ → Verdict
+unfolding viewOn
+showingVerdict q place buffer = firstOf (opening (viewOn q) (q .sheet) (showing (viewOn q) place buffer []))
+
+-- What the rows of a date say, by whether place 0 is sound and by the term that its payload starts with (document 02 (m)).
+unfoldable pub termVerdict : Bool → Term → Date → Verdict
+termVerdict sound term date = firstOf (termRows sound term date [])
+
+-- What the last row says: the block of the place is sound.
+unfoldable pub blockVerdict : Bool → Verdict
+blockVerdict sound = firstOf (row 4 (not sound) ∷ [])
+
+-- What a show answers, and what its buffer holds then: a Complete sheet's payload is copied out of its block.
+abbrev pub shownAnswer : Verdict → Answer
+shownAnswer v = settle v Done Refused
+
+abbrev pub shownBuffer : Verdict → List ℕ → List ℕ → List ℕ
+shownBuffer v block buffer = settle v (payloadOf block) (λ number. buffer)
+
 module _ (q : Lent) (place : ℕ) (buffer : List ℕ) where
   unfoldable pub showVerdict : Verdict
   unfolding viewOn
@@ -233,8 +254,22 @@ module _ (q : Lent) (place : ℕ) (buffer : List ℕ) where
 
   unfoldable pub showAnswer : Answer
   unfolding showVerdict
-  showAnswer = settle showVerdict Done Refused
+  showAnswer = shownAnswer showVerdict
 
   unfoldable pub showBuffer : List ℕ
   unfolding showVerdict
-  showBuffer = settle showVerdict (payloadOf (blockOf (q .card) (q .entry .start + place))) (λ number. buffer)
+  showBuffer = shownBuffer showVerdict (blockOf (q .card) (q .entry .start + place)) buffer
+
+-- A dated show "otherwise does and answers what show does" (document 02 (m)).
+module _ (q : Lent) (place : ℕ) (date : Date) (buffer : List ℕ) where
+  unfoldable pub showDatedVerdict : Verdict
+  unfolding viewOn
+  showDatedVerdict = verdictOf (viewOn q) (on (q .sheet) (showDated place date buffer))
+
+  unfoldable pub showDatedAnswer : Answer
+  unfolding showDatedVerdict
+  showDatedAnswer = shownAnswer showDatedVerdict
+
+  unfoldable pub showDatedBuffer : List ℕ
+  unfolding showDatedVerdict
+  showDatedBuffer = shownBuffer showDatedVerdict (blockOf (q .card) (q .entry .start + place)) buffer

@@ -1,12 +1,14 @@
 -- The table of refusals (document 01, "What the caller gets instead"): for each call its rows, in the order 1, 2, 4 for the
--- entry, 5 to 8, 3, 15 (document 02, request a), 4 for blocks, 9, 10, 11 or 17 (request f), and last 4 for the count. A call is
--- refused with the first row that holds.
+-- entry, 5 to 8, 3, 15 (document 02, request a), 19 (request m), 4 for blocks, 20 between two of these (request m), 9, 10, 11 or
+-- 17 (request f), and last 4 for the count. A call is refused with the first row that holds.
 -- Assumes nothing.
 use Prim.Native.Nat.{ℕ, _+_}
 use mathlib.Core.Bool.{Bool, not, _||_}
 use mathlib.Core.List.{List, [], _∷_}
 use lib.Dec.{eqb, leb, ltb}
 use lib.ListN.{length}
+use Rattle.calendar.specs.Calendar.{Date, dateExists, dayNumber}
+use Rattle.calendar.specs.Term.{Term, inTerm}
 use Rattle.map_blocks.specs.Blocks.{all, fit, least, leastFit}
 use Rattle.map_blocks.specs.declared.Found.{Found}
 use Rattle.refusals.specs.Placement.{Placement, plain, figuresIn, misfigured}
@@ -31,6 +33,8 @@ pub data Ask : Type 0 where
   -- of document 02 (f): an offer of k blocks; an accept of k blocks from a start on
   offer : ℕ → Ask
   accept : ℕ → ℕ → Ask
+  -- of document 02 (m): a show of a place on a date
+  showDated : ℕ → Date → List ℕ → Ask
 
 -- The calls of a list: something is asked of a sheet.
 pub data Call : Type 0 where
@@ -53,6 +57,8 @@ pub record View : Type 0 where
   -- a place of the sheet is blank, or its block is sound
   pub blank : ℕ → Bool
   pub sound : ℕ → Bool
+  -- the two days that the payload of place 0 starts with
+  pub term : Term
 
 -- Rows 5 to 8, for a standing that a call does not admit.
 abbrev pub absentRow : View → Row
@@ -82,6 +88,16 @@ adding v m rows = absentRow v ∷ pausedRow v ∷ completeRow v ∷ row 3 (eqb m
 -- A place that the sheet does not have, or a slice that is not 496 bytes long.
 abbrev pub misplaced : View → ℕ → List ℕ → Bool
 misplaced v place slice = leb (lengthOf (v .stands)) place || not (eqb (length slice) 496)
+
+-- Rows 5 to 7 and 3 of a call that shows a place of a Complete sheet, before its own.
+abbrev pub showing : View → ℕ → List ℕ → List Row → List Row
+showing v place buffer rows = absentRow v ∷ pausedRow v ∷ openRow v ∷ row 3 (misplaced v place buffer) ∷ rows
+
+-- The rows of a date (document 02 (m)), before those behind them: 19 "for a date that doesn't exist or lies outside the span"; 4
+-- where place 0 is not sound; "20 for a day outside the term".
+abbrev pub termRows : Bool → Term → Date → List Row → List Row
+termRows sound term date rows =
+    row 19 (not (dateExists date)) ∷ row 4 (not sound) ∷ row 20 (not (inTerm term (dayNumber date))) ∷ rows
 
 -- Every place of the sheet passes the test.
 abbrev pub everyPlace : View → (ℕ → Bool) → Bool
@@ -117,8 +133,9 @@ rowsFor v complete =
 rowsFor v pause = pausedRow v ∷ openRow v ∷ []
 rowsFor v resume = absentRow v ∷ row 6 (isPausedWithout (v .stands)) ∷ openRow v ∷ completeRow v ∷ []
 rowsFor v release = absentRow v ∷ row 4 (ltb (v .blocks) (v .spare + lengthOf (v .stands))) ∷ []
-rowsFor v (show place buffer) =
-    absentRow v ∷ pausedRow v ∷ openRow v ∷ row 3 (misplaced v place buffer) ∷ row 4 (not (v .sound place)) ∷ []
+rowsFor v (show place buffer) = showing v place buffer (row 4 (not (v .sound place)) ∷ [])
+rowsFor v (showDated place date buffer) =
+    showing v place buffer (termRows (v .sound 0) (v .term) date (row 4 (not (v .sound place)) ∷ []))
 rowsFor v standing = []
 rowsFor v (offer k) = reserveRows v k plain
 rowsFor v (accept start k) = giving v k (runRows 17 v start k)

@@ -4,6 +4,7 @@ use Prim.Native.Nat.{_+_, _*_}
 use mathlib.Core.Bool.{false, not, _&&_}
 use lib.Dec.{eqb}
 use lib.ListN.{length}
+use Rattle.calendar.specs.Term.{termOf}
 use Rattle.map_blocks.specs.Blocks as map-blocks
 use Rattle.blocks_of_card.specs.Card.{blockOf}
 use Rattle.block_seals.specs.Sealed as sealed-block
@@ -27,6 +28,7 @@ viewAt q = record {
   found = foundBy (q .guided) (q .summary) (q .map);
   blank = λ p. false;
   sound = λ p. false;
+  term = record { first = 0; last = 0 };
 }
 
 -- A call that is lent the card, of 512·n bytes.
@@ -43,4 +45,5 @@ viewOn q = record {
   found = foundBy (q .guided) (q .summary) (q .map);
   blank = λ p. sealed-block.blank (blockOf (q .card) (q .entry .start + p));
   sound = λ p. sealed-block.sound (q .sheet) p (blockOf (q .card) (q .entry .start + p));
+  term = termOf (sealed-block.payloadOf (blockOf (q .card) (q .entry .start)));
 }

@@ -1,5 +1,6 @@
 -- The walks of the methods of `Shape` that are lent the card.
 pub mod BufferFromMapCatalogueCard2
+pub mod BufferFromMapCatalogueCard5
 pub mod CardFromMapCataloguePayload2
 pub mod CatalogueFromMapCard1
 pub mod FromMapCatalogueCard2

@@ -1,5 +1,6 @@
 -- The walks of the C functions.
 pub mod BufferFromMapCatalogueCard2
+pub mod BufferFromMapCatalogueCard5
 pub mod CardFromMapCataloguePayload2
 pub mod CatalogueFromMap1
 pub mod CatalogueFromMapCard1

@@ -2,13 +2,12 @@
 -- Assumes nothing.
 use Prim.Native.Nat.{ℕ, _+_, _<_}
 use mathlib.Core.Path.{_≡_, refl, ap, subst, _∙_}
-use mathlib.Core.Bool.{Bool, true, false, not, true≢false}
+use mathlib.Core.Bool.{Bool, true, false, not}
 use mathlib.Core.List.{List, map}
 use lib.ListN.{length, getD}
 use borrow.Author.Tests.{leb-false}
 use Rattle.blocks_of_card.specs.Card.{blockOf}
 use Rattle.block_seals.specs.Sealed.{payloadOf}
-use Rattle.block_seals.proofs.Sealed.{payload-sealed}
 use Rattle.catalogue.specs.declared.Entry.{Entry}
 use Rattle.catalogue_standings.specs.Standings.{isAbsent, isPaused, isOpen}
 use Rattle.catalogue_standings.specs.Rows.{Row, Verdict, accepted, firstOf, settle}
@@ -17,15 +16,25 @@ use Rattle.refusals.specs.Effects as effects
 use Rattle.refusals.specs.Table.{Call, on, show, misplaced, rowsFor, tableOf}
 use Rattle.refusals.proofs.Rows.{clear}
 use Rattle.card.specs.Calls.{told}
-use Rattle.ledger.specs.Ledger.{Place, Blank, Payload, Sheet, standingIn, lengthIn, placesIn, isBlank, bytesOf, sheetAt}
+use Rattle.ledger.specs.Ledger.{Blank, Sheet, standingIn, lengthIn, placesIn, isBlank, sheetAt}
 use Rattle.ledger.specs.Ledger.{placeAt, spareIn, viewIn, listed, rowsIn, verdictIn, deedIn}
-use Rattle.ledger.specs.Claim.{entryIn, blockIn}
+use Rattle.ledger.specs.Claim.{entryIn}
 use Rattle.ledger.specs.Steps.{End, ending, endOf}
 use Rattle.ledger.proofs.Agreement.{mapIn, stateOf, reads, Matches, NeverRows, OwnPlaces, entry-at, verdict-on}
+use Rattle.ledger.proofs.Agreement.{payload-block}
 use Rattle.ledger.proofs.Listed.{or-left}
 use Rattle.ledger.proofs.Results as results
 use Rattle.ledger.proofs.Results.{Result, plain-back, no-change, result-of}
-use Rattle.ledger.proofs.Sheets.{was-complete, Sized, payload-at}
+use Rattle.ledger.proofs.Sheets.{was-complete, payload-at}
+
+-- every place of a complete sheet is filled
+pub all-filled : (l : List Sheet) (i : ℕ) → isAbsent (standingIn (sheetAt l i)) ≡ false
+    → isPaused (standingIn (sheetAt l i)) ≡ false → isOpen (standingIn (sheetAt l i)) ≡ false
+    → (p : ℕ) → p < lengthIn (sheetAt l i) → isBlank (placeAt l i p) ≡ false
+all-filled l i h5 h6 h7 p lp =
+    let o = was-complete (sheetAt l i) h5 h6 h7 in
+    ap (λ (y : Sheet). isBlank (getD (placesIn y) p Blank)) (o .2)
+    ∙ payload-at (o .1) p (subst (λ (y : Sheet). p < lengthIn y) (o .2) lp)
 
 module _ (n : ℕ) (l : List Sheet) (card : List ℕ) (k : Matches n l card) (i p : ℕ) (buffer : List ℕ) where
   abbrev call : Call
@@ -51,12 +60,8 @@ module _ (n : ℕ) (l : List Sheet) (card : List ℕ) (k : Matches n l card) (i 
       → isOpen (standingIn (sheetAt l i)) ≡ false → misses ≡ false
       → (p < lengthIn (sheetAt l i)) × (isBlank (placeAt l i p) ≡ false)
   filled h5 h6 h7 h3 =
-      let o = was-complete (sheetAt l i) h5 h6 h7 in
-      let lp : p < lengthIn (sheetAt l i) = leb-false (lengthIn (sheetAt l i)) p (or-left _ _ h3) in (
-        lp,
-        ap (λ (y : Sheet). isBlank (getD (placesIn y) p Blank)) (o .2)
-            ∙ payload-at (o .1) p (subst (λ (y : Sheet). p < lengthIn y) (o .2) lp),
-      )
+      let lp : p < lengthIn (sheetAt l i) = leb-false (lengthIn (sheetAt l i)) p (or-left _ _ h3) in
+      (lp, all-filled l i h5 h6 h7 p lp)
 
   never : NeverRows n l card k i (show p buffer)
   unfolding rowsFor
@@ -78,10 +83,6 @@ module _ (n : ℕ) (l : List Sheet) (card : List ℕ) (k : Matches n l card) (i 
   unfolding effects.showAnswer effects.showBuffer rowsFor
   ends-so = ap ends (verdict-on n l card k i (show p buffer) own never)
 
-  payload-in : (x : Place) → isBlank x ≡ false → Sized x → payloadOf (blockIn i p x) ≡ bytesOf x
-  payload-in Blank h z = absurd (true≢false h)
-  payload-in (Payload bytes) h z = payload-sealed i p bytes z
-
   accepts : verdictIn n l call ≡ accepted → results.Done n l card call (ends accepted)
   unfolding tableOf listed deedIn
   accepts h =
@@ -91,7 +92,7 @@ module _ (n : ℕ) (l : List Sheet) (card : List ℕ) (k : Matches n l card) (i 
       (ap (λ (x : Entry). tellsOf (blockOf card (x .start + p)) accepted) (entry-at l i lt)
       ∙ ap (λ (bytes : List ℕ). tellsOf bytes accepted) (k .blocks i p (f .0))
       ∙ ap (λ (bytes : List ℕ). ending (told (record { blocks = n; free = spareIn n l }) Done) (mapIn n l)
-      (map entryIn l) card bytes) (payload-in (placeAt l i p) (f .1) (k .sound .fine i .sized p)))
+      (map entryIn l) card bytes) (payload-block i p (placeAt l i p) (f .1) (k .sound .fine i .sized p)))
       (refl, refl)
 
   pub show-result : Result n l card call (verdictIn n l call)
