@@ -68,7 +68,9 @@ enum {
     PAGUNLIT_IMAGE_CONTENT = 14, /* load: the contents cannot be */
     PAGUNLIT_WRONG_FIGURES = 15, /* placed reserve: step is 0, from is not below before, or before is above the blocks */
     PAGUNLIT_WRONG_COUNT = 16,   /* dose counts: another digit, a number out of range, or no such count */
-    PAGUNLIT_RUN_NOT_FREE = 17   /* accept: the run is not all free and on the card */
+    PAGUNLIT_RUN_NOT_FREE = 17,  /* accept: the run is not all free and on the card */
+    PAGUNLIT_NO_DATE = 19,       /* dated show: there is no such date, or it is not in the years 2000 to 2099 */
+    PAGUNLIT_OUTSIDE_TERM = 20   /* dated show: the day is before the sheet's first day or after its last */
 };
 
 /* Marks of an entry. */
@@ -234,6 +236,22 @@ pagunlit_outcome pagunlit_show(pagunlit_shape shape, const uint64_t *map, size_t
                                size_t cataloguelen, const uint8_t *card, size_t cardlen, uint32_t sheet, uint32_t place,
                                uint8_t *buffer, size_t bufferlen);
 
+/* pagunlit_show on a date, given as its year (2000 to 2099), month (1 to 12) and day: the sheet shows only from its first day to
+ * its last, both included. These two days are the first eight bytes of the payload of place 0, four bytes each, the high byte
+ * first, as days since 1 January 2000, which is day 0; 31 December 2099 is day 36524. A sheet whose first day is after its last
+ * never shows. pagunlit_write_term writes the two days. pagunlit_show remains, for the pharmacy, and does not look at them.
+ *   1, 2, 4   as above
+ *   5, 6, 7   the sheet is Absent, Paused, Open
+ *   3         place is not below the sheet's length, or bufferlen is not 496
+ *   19        there is no such date, or it lies outside the years 2000 to 2099
+ *   4         the block of place 0 is not sound
+ *   20        the day is before the first or after the last
+ *   4         the block of this place is not sound */
+pagunlit_outcome pagunlit_show_dated(pagunlit_shape shape, const uint64_t *map, size_t maplen,
+                                     const pagunlit_entry *catalogue, size_t cataloguelen, const uint8_t *card,
+                                     size_t cardlen, uint32_t sheet, uint32_t place, uint32_t year, uint32_t month,
+                                     uint32_t day, uint8_t *buffer, size_t bufferlen);
+
 /* A summary beside the map, with which a reserve finds its run, or that there is none, without going through the map. It has
  * for each group of words three numbers, those of group g from summary[3 * g] on: the free run at the group's head, the one at
  * its tail, and its longest. Group 0 is all words; groups 2 * g + 1 and 2 * g + 2 are the first and the second half of group g,
@@ -313,7 +331,9 @@ pagunlit_outcome pagunlit_load(pagunlit_shape shape, const uint8_t *image, size_
 
 /* Dose counts in packed decimal. A payload holds 124 counts of four bytes, count number `which` at byte 4 * which: two
  * digits a byte, the high digit first, six whole digits and two of hundredths. Four bytes of 0xFF mean absent; in any other
- * count every digit is 0 to 9. A count is handed over as its hundredths, 0 to 99999999, or as PAGUNLIT_COUNT_ABSENT. */
+ * count every digit is 0 to 9. A count is handed over as its hundredths, 0 to 99999999, or as PAGUNLIT_COUNT_ABSENT. The payload
+ * of place 0 of a sheet that is shown by date starts with two days in place of its counts 0 and 1: to read or write these as
+ * counts is the caller's mistake, which the calls cannot see. */
 #define PAGUNLIT_COUNT_ABSENT 0xFFFFFFFFu
 
 /* What a read of a count hands back. hundredths is PAGUNLIT_COUNT_ABSENT with a refusal too, so that it is never taken for
@@ -333,6 +353,11 @@ pagunlit_count pagunlit_read_count(const uint8_t *payload, size_t payloadlen, ui
  *   3    payloadlen is not 496
  *   16   there is no such count, or hundredths is neither 0 to 99999999 nor PAGUNLIT_COUNT_ABSENT */
 uint32_t pagunlit_write_count(uint8_t *payload, size_t payloadlen, uint32_t which, uint32_t hundredths);
+
+/* Writes the first and the last day of a sheet's term to the payload that is put to its place 0: its first eight bytes and no
+ * others, any two numbers. The days are counted from 1 January 2000, day 0. Gives 0 or a refusal's number.
+ *   3    payloadlen is not 496 */
+uint32_t pagunlit_write_term(uint8_t *payload, size_t payloadlen, uint32_t first, uint32_t last);
 
 /* Writes the sealed block of a sheet, a place and a payload, whatever the two numbers are. Gives PAGUNLIT_DONE, or
  * PAGUNLIT_WRONG_ARGUMENT (3) unless payload has 496 bytes and block 512; then nothing is changed. */

@@ -10,14 +10,14 @@ use lib.Dec.{eqb, leb}
 use lib.ListN.{length, take, drop}
 use borrow.Rule.Slice.PartMut.{putMid}
 use borrow.Author.Tests.{eq-eqb, ne-eqb, lt-leb}
-use Rattle.laws.proofs.Bools.{not-true, clash}
+use Rattle.laws.proofs.Bools.{not-true}
 use Rattle.block_bytes.specs.Numbers.{bytes4, numberAt}
 use Rattle.block_bytes.specs.Replaced.{replaced}
 use Rattle.block_bytes.proofs.Numbers.{bytes4-length, number-at}
 use Rattle.block_bytes.proofs.Replaced.{replaced-more}
 use Rattle.calendar.specs.Calendar.{inSpan}
-use Rattle.calendar.specs.Term.{termOf, inTerm, termAnswer, withTerm}
-use Rattle.calendar.proofs.Dates.{span-low, span-high}
+use Rattle.calendar.specs.Term.{Term, termOf, inTerm, termAnswer, withTerm}
+use Rattle.calendar.proofs.Dates.{span-low, span-high, in-span}
 
 pub in-term-by : (payload : List ℕ) (day first last : ℕ) (r : Bool) → first ≡ numberAt payload 0 → last ≡ numberAt payload 4
     → r ≡ inSpan first last day → r ≡ inTerm (termOf payload) day
@@ -68,15 +68,21 @@ module _ (payload : List ℕ) (first last : ℕ) where
         rw (eq-eqb (length payload) 496 whole)
         (ap termOf (append-assoc (bytes4 first) (bytes4 last) rest) ∙ term-read first last rest hf hl)
 
--- ---- no day lies in a term whose first day is after its last
+-- ---- a day in the term
 
-pub turned-term : (payload : List ℕ) (day : ℕ) → numberAt payload 4 < numberAt payload 0 → inTerm (termOf payload) day ≡ false
-unfolding termOf inTerm
-turned-term payload day h =
-    not-true (inSpan (numberAt payload 0) (numberAt payload 4) day)
-    (λ e.
-    omega (
-      arith,
-      span-low (numberAt payload 0) (numberAt payload 4) day e,
-      span-high (numberAt payload 0) (numberAt payload 4) day e,
-    ))
+module _ (t : Term) (day : ℕ) where
+  pub term-first : inTerm t day ≡ true → t .first ≤ day
+  unfolding inTerm
+  term-first e = span-low (t .first) (t .last) day e
+
+  pub term-last : inTerm t day ≡ true → day ≤ t .last
+  unfolding inTerm
+  term-last e = span-high (t .first) (t .last) day e
+
+  pub term-holds : t .first ≤ day → day ≤ t .last → inTerm t day ≡ true
+  unfolding inTerm
+  term-holds f l = in-span (t .first) (t .last) day f l
+
+  -- "First after last never shows"
+  pub turned-term : t .last < t .first → inTerm t day ≡ false
+  turned-term h = not-true (inTerm t day) (λ e. omega (arith, term-first e, term-last e))

@@ -4,6 +4,7 @@
 use mathlib.Core.Bool.{Bool, true, false}
 use mathlib.Core.List.{List, []}
 use Prim.Native.Nat.{ℕ}
+use Rattle.calendar.specs.Calendar.{dateOf}
 use Rattle.catalogue.specs.declared.Entry.{Entry}
 use Rattle.catalogue.specs.declared.Slot.{Slot}
 use Rattle.refusals.specs.Lent.{Lent, lentBeside, noCard}
@@ -51,6 +52,14 @@ putOutcomeAt shape map card slot sheet place payload =
 abbrev pub showOutcomeAt : Shape → List ℕ → List ℕ → Slot → ℕ → ℕ → List ℕ → Outcome
 showOutcomeAt shape map card slot sheet place buffer =
     told shape (effects.showAnswer (lentAt shape map card slot sheet) place buffer)
+
+-- its date is three numbers (document 02 (m))
+abbrev pub datedOutcomeAt : Shape → List ℕ → List ℕ → Slot → ℕ → ℕ → ℕ → ℕ → ℕ → List ℕ → Outcome
+datedOutcomeAt shape map card slot sheet place year month day buffer =
+    told shape (effects.showDatedAnswer (lentAt shape map card slot sheet) place (dateOf year month day) buffer)
+
+abbrev pub datedBufferAt : Lent → ℕ → ℕ → ℕ → ℕ → List ℕ → List ℕ
+datedBufferAt q place year month day buffer = effects.showDatedBuffer q place (dateOf year month day) buffer
 
 abbrev pub standingOutcomeAt : Shape → List ℕ → Slot → ℕ → Outcome
 standingOutcomeAt shape map slot sheet = told shape (effects.standingAnswer (lentAt shape map noCard slot sheet))

@@ -4,7 +4,6 @@ ghost use mathlib.Core.Path.{_≡_};
 ghost use Rattle.card.specs.Calls.{outcomeOf, freshOutcomeBy, freshMapBy, saveOutcomeBy, loadOutcomeBy};
 ghost use Rattle.card.specs.Cores.{entryLeft, doneBy, lentAt, putOutcomeAt, showOutcomeAt, standingOutcomeAt};
 ghost use Rattle.card.specs.Cores.{blocksOf, spareOf, offerOutcomeAt};
-ghost use Rattle.card.specs.DatedShows.{datedOutcomeAt, datedBufferAt};
 ghost use Rattle.card.specs.Reserves.{plainOut, plainMap, plainCard, placedOut, placedMap, placedCard};
 ghost use Rattle.refusals.specs.Lent.{noCard};
 ghost use Rattle.refusals.specs.Effects.{acceptOut, acceptMap, acceptCard, growOut, growMap, growCard};
@@ -313,44 +312,6 @@ pub fn show_core(
         entry,
         sheet,
         place,
-        buffer,
-    );
-    Outcome {
-        shape: shape,
-        answer: answer,
-    }
-}
-
-pub fn show_dated_core(
-    shape: Shape,
-    map: &[u64],
-    card: &[u8],
-    slot: Slot,
-    sheet: u32,
-    place: u32,
-    year: u32,
-    month: u32,
-    day: u32,
-    buffer: &mut [u8],
-) -> Outcome
-    ensures { λ r. let q = lentAt shape (now (map .entry)) (now (card .entry)) slot sheet in
-        ⌜ (r ≡ datedOutcomeAt shape (now (map .entry)) (now (card .entry)) slot sheet place year month day
-        (now (buffer .entry)))
-        × (now (buffer .exit) ≡ datedBufferAt q place year month day (now (buffer .entry))) ⌝ }
-{
-    let entry = slot.entry;
-    let answer = call_show::dated::show_dated(
-        shape.blocks,
-        shape.free,
-        map,
-        card,
-        slot.count,
-        entry,
-        sheet,
-        place,
-        year,
-        month,
-        day,
         buffer,
     );
     Outcome {

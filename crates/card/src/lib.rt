@@ -2,6 +2,7 @@
 // that is for a sheet finds the sheet's entry, leaves the rest to a core on that entry by value, and stores what it hands
 // back. A refusal hands the shape back as it came and changes nothing that is lent but a scratch.
 mod cores;
+mod dated;
 mod guided;
 pub mod summary;
 
@@ -306,7 +307,18 @@ impl Shape {
             × (now (buffer .exit) ≡ showDatedBuffer s sheet place date (now (buffer .entry))) ⌝ }
     {
         let slot = catalogue::find(catalogue, sheet);
-        cores::show_dated_core(self, map, card, slot, sheet, place, year, month, day, buffer)
+        dated::show_dated_core(
+            self,
+            map,
+            card,
+            slot,
+            sheet,
+            place,
+            year,
+            month,
+            day,
+            buffer,
+        )
     }
 
     // Answers mark, start and length.

@@ -6,6 +6,7 @@ use crate::digest;
 use crate::line::Line;
 use crate::state;
 use crate::state::Turn;
+use calendar::write_term;
 
 // What a show finds. What is ensured here and below is the length, which lending a part of the array needs.
 pub fn buffer() -> [u8; 500]
@@ -38,6 +39,16 @@ pub fn bytes(l: Line) -> [u8; 500]
 {
     let mut all = buffer();
     fill(&mut all, l.c);
+    all
+}
+
+// A payload that begins with the two days of the line, and goes on as one whose first byte is 0.
+pub fn term(l: Line) -> [u8; 500]
+    ensures { λ r. ⌜ 500 ≡ ListN.length r ⌝ }
+{
+    let mut all = buffer();
+    fill(&mut all, 0);
+    write_term(&mut all[0..496], l.c, l.d);
     all
 }
 

@@ -39,6 +39,12 @@ const RELEASE: u64 = 0x72_656c_6561_7365;
 
 const SHOW: u64 = 0x7368_6f77;
 
+// The last eight letters of show-dated.
+const SHOW_DATED: u64 = 0x6f77_2d64_6174_6564;
+
+// A put whose payload starts with the two days of a term.
+const PUT_TERM: u64 = 0x7075_742d_7465_726d;
+
 const STANDING: u64 = 0x7374_616e_6469_6e67;
 
 // The last eight letters of the forms with a summary.
@@ -86,6 +92,24 @@ fn look(map: &[u64], card: &[u8], s: Setup) -> Turn
             );
             payload::shown(turn, all)
         }
+        SHOW_DATED => {
+            let mut array = payload::buffer();
+            let all: &mut [u8] = &mut array;
+            let turn = lend::show_dated(
+                shape,
+                map,
+                entries,
+                s.sheets,
+                card,
+                line::fifth(l),
+                line::fourth(l),
+                l.b,
+                l.c,
+                l.d,
+                &mut all[0..496],
+            );
+            payload::shown(turn, all)
+        }
         STANDING => lend::standing(shape, map, entries, s.sheets, l.d),
         _ => state::none(s),
     }
@@ -130,6 +154,19 @@ fn on_parts(map: &mut [u64], card: &mut [u8], s: Setup) -> Turn
                 line::fourth(l),
                 l.b,
                 &all[0..k],
+            )
+        }
+        PUT_TERM => {
+            let all = payload::term(l);
+            lend::put(
+                shape,
+                map,
+                entries,
+                s.sheets,
+                card,
+                line::fourth(l),
+                l.b,
+                &all[0..496],
             )
         }
         RELEASE => lend::release(shape, map, entries, s.sheets, l.d),

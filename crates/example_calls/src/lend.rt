@@ -179,6 +179,26 @@ pub fn show(
     turn_of(outcome, all)
 }
 
+pub fn show_dated(
+    shape: Shape,
+    map: &[u64],
+    entries: [Entry; 1025],
+    c: usize,
+    card: &[u8],
+    sheet: u32,
+    place: u32,
+    year: u32,
+    month: u32,
+    day: u32,
+    buffer: &mut [u8],
+) -> Turn
+    requires { ⌜ c ≤ 1025 ⌝ }
+{
+    let all = entries;
+    let outcome = shape.show_dated(map, &all[..c], card, sheet, place, year, month, day, buffer);
+    turn_of(outcome, all)
+}
+
 pub fn standing(shape: Shape, map: &[u64], entries: [Entry; 1025], c: usize, sheet: u32) -> Turn
     requires { ⌜ c ≤ 1025 ⌝ }
 {

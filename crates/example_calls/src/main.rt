@@ -1,7 +1,9 @@
 // Worked examples of the calls on a card, as its standard input lists them, a call to a line (the file stdin). What it must
 // print comes from a program that goes block by block and byte by byte (tests/), and stands in the file stdout. In a line:
 //     reserve 0 5       the call: sheet, then k, m or the place, then for a payload its first byte and its length, and for a
-//                       show buffer its length; for fresh n; for reserve-placed sheet, k, from, before and step
+//                       show buffer its length; for fresh n; for reserve-placed sheet, k, from, before and step;
+//                       for show-dated sheet, place, year, month and day; for put-term, a put whose payload starts with the two
+//                       days of a term, sheet, place, first and last day
 //     : 0 12            document 01's number of the answer and its values; 0 is a call that was not refused
 //     ; 70 65 ..        n, the free count, and the digests of map, catalogue and card, and for show of its buffer; for
 //                       summary-build and summary-check then the numbers of group 0, and the digest of all numbers

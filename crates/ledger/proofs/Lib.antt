@@ -2,7 +2,7 @@
 -- for (Agreement, Marks, Keeping, SameBlocks), and of the calls on that state (Results what they share, Taking what reserve
 -- and accept do, step each by itself). Demand has the theorem, BlankPlaces which place the ledger answers with 9, Contracts
 -- that the steps are the public calls' contracts, WholeCard what search and survey answer by theirs, Savable that every state
--- that a list leaves can be saved, Pauses that a sheet paused and resumed shows what it showed.
+-- that a list leaves can be saved, Pauses that a sheet paused and resumed shows what it showed, Terms when a dated show shows.
 pub mod Agreement
 pub mod BlankPlaces
 pub mod Contracts
@@ -12,6 +12,7 @@ pub mod Keeping
 pub mod Listed
 pub mod Marks
 pub mod Pauses
+pub mod Terms
 pub mod Results
 pub mod Rows
 pub mod Search

@@ -54,7 +54,7 @@ after-elsewhere n (c ∷ calls) l i none =
     ∙ settled (verdictIn n l c) (deedIn n l c .ledger) l i (deed-elsewhere n l c i (λ e. none .0 (sym e)))
 
 -- a sheet with places is one of the ledger's
-held-listed : (l : List Sheet) (i : ℕ) → holding (sheetAt l i) ≡ true → i < length l
+pub held-listed : (l : List Sheet) (i : ℕ) → holding (sheetAt l i) ≡ true → i < length l
 held-listed [] i h = absurd (false≢true h)
 held-listed (x ∷ l) zero h = omega arith
 held-listed (x ∷ l) (suc i) h = let later = held-listed l i h in omega arith

@@ -3,3 +3,4 @@ pub mod Ledger
 pub mod Steps
 pub mod Claim
 pub mod Pauses
+pub mod Terms

@@ -158,6 +158,10 @@ module _ {M : Type 1} (𝓤 : URA M) (H : Heap 𝓤) (A : Atoms 𝓤) (mem : Mem
       × (now (t .0) ≡ afterWrite (now (a .0)) (a .1 .0) (countFrom (a .1 .1 .0))))
   pagunlit-write-count-contract κs a r t g = refl
 
+  pub pagunlit-write-term-contract : Ensures 𝓤 write-term-function.ended (write-term-function.clauses 𝓤 H A mem run)
+      (λ κs a r t. (r ≡ termAnswer (now (a .0))) × (now (t .0) ≡ withTerm (now (a .0)) (a .1 .0) (a .1 .1 .0)))
+  pagunlit-write-term-contract κs a r t g = refl
+
   pub pagunlit-fresh-asks-nothing : AsksNothing 𝓤 fresh-function.ended (fresh-function.clauses 𝓤 H A mem run)
   pagunlit-fresh-asks-nothing κs a g = refl
 
@@ -226,3 +230,7 @@ module _ {M : Type 1} (𝓤 : URA M) (H : Heap 𝓤) (A : Atoms 𝓤) (mem : Mem
   pub pagunlit-write-count-asks-nothing : AsksNothing 𝓤 write-count-function.ended
       (write-count-function.clauses 𝓤 H A mem run)
   pagunlit-write-count-asks-nothing κs a g = refl
+
+  pub pagunlit-write-term-asks-nothing : AsksNothing 𝓤 write-term-function.ended
+      (write-term-function.clauses 𝓤 H A mem run)
+  pagunlit-write-term-asks-nothing κs a g = refl

@@ -61,7 +61,8 @@ module _ (q : Lent) (place : ℕ) (buffer : List ℕ) where
       (blockAt q place) buffer (Refused number) buffer refl refl
 
   -- none of them does
-  pub by-block : showingVerdict q place buffer ≡ accepted → (r : Answer) (after : List ℕ) → r ≡ shownAnswer (blockVerdict (soundAt q place))
+  pub by-block : showingVerdict q place buffer ≡ accepted → (r : Answer) (after : List ℕ)
+      → r ≡ shownAnswer (blockVerdict (soundAt q place))
       → after ≡ shownBuffer (blockVerdict (soundAt q place)) (blockAt q place) buffer
       → (r ≡ showAnswer q place buffer) × (after ≡ showBuffer q place buffer)
   unfolding showAnswer showBuffer blockVerdict

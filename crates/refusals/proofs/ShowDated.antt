@@ -17,11 +17,13 @@ use Rattle.catalogue_standings.specs.declared.Answer.the-variants.{Done, Refuse
 use Rattle.catalogue_standings.proofs.Openings.{skip, stop, none-left}
 use Rattle.catalogue_standings.proofs.Rows.{first-then, zero-row, other-row}
 use Rattle.refusals.specs.Effects.{showingVerdict, termVerdict, blockVerdict, shownAnswer, shownBuffer}
-use Rattle.refusals.specs.Effects.{showDatedVerdict, showDatedAnswer, showDatedBuffer}
+use Rattle.refusals.specs.Effects.{showVerdict, showDatedVerdict, showDatedAnswer, showDatedBuffer}
 use Rattle.refusals.specs.Lent.{Lent}
-use Rattle.refusals.specs.Table.{termRows, tableOf}
+use Rattle.refusals.specs.Table.{on, showDated, termRows, tableOf}
 use Rattle.refusals.specs.Views.{viewOn}
 use Rattle.refusals.proofs.Beginnings.{behind}
+use Rattle.refusals.proofs.Room.{viewOf}
+use Rattle.refusals.proofs.Rows.{clear}
 use Rattle.refusals.proofs.Show.{told, blockAt, soundAt}
 use Rattle.refusals.proofs.Showing.{showing-then}
 
@@ -87,7 +89,8 @@ module _ (q : Lent) (place : ℕ) (date : Date) (buffer : List ℕ) where
   unfolding showDatedVerdict viewOn tableOf
   verdict-behind =
       showing-then q place buffer (termRows (sound (q .sheet) 0 (blockOf (q .card) (q .entry .start + 0))) term date last)
-      ∙ ap (λ (b : ℕ). behind (showingVerdict q place buffer) (termRows (sound (q .sheet) 0 (blockOf (q .card) b)) term date last))
+      ∙ ap (λ (b : ℕ). behind (showingVerdict q place buffer)
+      (termRows (sound (q .sheet) 0 (blockOf (q .card) b)) term date last))
       (add-zero (q .entry .start))
 
   abbrev Answered : Answer → List ℕ → Type 0
@@ -128,3 +131,17 @@ module _ (q : Lent) (place : ℕ) (date : Date) (buffer : List ℕ) where
     unfolding blockVerdict
     by-block holds r after made left =
         answered (blockVerdict (soundAt q place)) (past-first ∙ ap (λ (x : Verdict). behind x last) holds) r after made left
+
+  -- ---- where it is accepted, so is a show of the place
+
+  pub accepted-too : showDatedVerdict q place date buffer ≡ accepted → showVerdict q place buffer ≡ accepted
+  unfolding showDatedVerdict showVerdict viewOn tableOf
+  accepted-too h =
+      let rows = tableOf (viewOf q) (on (q .sheet) (showDated place date buffer)) in
+      skip 1 _ _ _ (clear 1 rows h .0)
+      (skip 2 _ _ _ (clear 2 rows h .0)
+      (skip 4 _ _ _ (clear 4 rows h .0)
+      (skip 5 _ _ _ (clear 5 rows h .0)
+      (skip 6 _ _ _ (clear 6 rows h .0)
+      (skip 7 _ _ _ (clear 7 rows h .0)
+      (skip 3 _ _ _ (clear 3 rows h .0) (skip 4 _ _ _ (clear 4 rows h .1 .1 .0) none-left)))))))

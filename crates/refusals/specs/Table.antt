@@ -1,6 +1,6 @@
 -- The table of refusals (document 01, "What the caller gets instead"): for each call its rows, in the order 1, 2, 4 for the
--- entry, 5 to 8, 3, 15 (document 02, request a), 19 (request m), 4 for blocks, 20 between two of these (request m), 9, 10, 11 or
--- 17 (request f), and last 4 for the count. A call is refused with the first row that holds.
+-- entry, 5 to 8, 3, 15 (document 02, request a), 19 (request m), 4 for blocks, with 20 between place 0 and the place wanted
+-- (request m), 9, 10, 11 or 17 (request f), and last 4 for the count. A call is refused with the first row that holds.
 -- Assumes nothing.
 use Prim.Native.Nat.{ℕ, _+_}
 use mathlib.Core.Bool.{Bool, not, _||_}
@@ -93,8 +93,8 @@ misplaced v place slice = leb (lengthOf (v .stands)) place || not (eqb (length s
 abbrev pub showing : View → ℕ → List ℕ → List Row → List Row
 showing v place buffer rows = absentRow v ∷ pausedRow v ∷ openRow v ∷ row 3 (misplaced v place buffer) ∷ rows
 
--- The rows of a date (document 02 (m)), before those behind them: 19 "for a date that doesn't exist or lies outside the span"; 4
--- where place 0 is not sound; "20 for a day outside the term".
+-- The rows of a date (document 02 (m)), before those behind them: 19 "for a date that doesn't exist or lies outside the span";
+-- 4 where place 0 is not sound; "20 for a day outside the term".
 abbrev pub termRows : Bool → Term → Date → List Row → List Row
 termRows sound term date rows =
     row 19 (not (dateExists date)) ∷ row 4 (not sound) ∷ row 20 (not (inTerm term (dayNumber date))) ∷ rows

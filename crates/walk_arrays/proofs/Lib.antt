@@ -1,5 +1,6 @@
 -- The walks of calls on the first entries of a local array.
 pub mod BufferFromMapEntriesCard2
+pub mod BufferFromMapEntriesCard5
 pub mod CardFromMapEntriesPayload2
 pub mod EntriesFromMap1
 pub mod EntriesFromMapCard1

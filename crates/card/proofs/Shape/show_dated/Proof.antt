@@ -1,12 +1,12 @@
 -- Written by tools/walks: `card::Shape::show_dated` meets its contract, by the walk of `BufferFromMapCatalogueCard5.antt` of
--- the crate walk_card_methods, with the calls of `catalogue::find`, `card::cores::show_dated_core`.
+-- the crate walk_card_methods, with the calls of `catalogue::find`, `card::dated::show_dated_core`.
 -- Assumes nothing.
 use contract.Running.{givenOf, tables, tablesOf}
 use denote.Triple.Spec.{tripleOf}
 use denote.Triple.Table.{entered, cited}
 use Rattle.catalogue.specs.Entries.{slotAt}
 use Rattle.card.specs.Cores.{withSlot}
-use Rattle.card.specs.DatedShows.{datedOutcomeAt, datedBufferAt}
+use Rattle.card.specs.Cores.{datedOutcomeAt, datedBufferAt}
 use Rattle.catalogue.proofs.Values.{Value, valueOf}
 use Rattle.catalogue.proofs.Slot as Slot′
 use Rattle.catalogue.proofs.Slot.Laws as Slot″
@@ -17,8 +17,8 @@ use Rattle.card.proofs.Outcome.Laws as Outcome″
 use Rattle.walk_card_methods.proofs.BufferFromMapCatalogueCard5.{find-contract, core-contract, meets}
 use Rattle.catalogue.proofs.find.Symbol as find-def
 use Rattle.catalogue.proofs.find.Met as find-met
-use Rattle.card.proofs.cores.show_dated_core.Symbol as core-def
-use Rattle.card.proofs.cores.show_dated_core.Met as core-met
+use Rattle.card.proofs.dated.show_dated_core.Symbol as core-def
+use Rattle.card.proofs.dated.show_dated_core.Met as core-met
 use Rattle.card.proofs.Shape.show_dated.Key.{name as #show-dated}
 use Rattle.card.proofs.Shape.show_dated as show-dated
 use Rattle.card.proofs.Shape.show_dated.Statement as stated
@@ -43,4 +43,4 @@ show-dated-spec 𝓤 H 𝓜 𝓖 𝓡 =
     (cited 𝓤 H (find-contract Slot Shape Outcome slotAt 𝓤 H (𝓖 .A)) 𝓜 𝓡 code.env find-def.name find-def.routine
     code.calls-catalogue·find (find-met.met 𝓤 H 𝓜 𝓖 𝓡))
     (cited 𝓤 H (core-contract Slot Shape Outcome datedOutcomeAt (withSlot datedBufferAt) 𝓤 H (𝓖 .A)) 𝓜 𝓡 code.env core-def.name
-    core-def.routine code.calls-card·cores·show-dated-core (core-met.met 𝓤 H 𝓜 𝓖 𝓡)))
+    core-def.routine code.calls-card·dated·show-dated-core (core-met.met 𝓤 H 𝓜 𝓖 𝓡)))

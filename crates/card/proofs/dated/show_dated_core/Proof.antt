@@ -1,10 +1,10 @@
--- `card::cores::show_dated_core` meets its contract: the answer and the buffer of the crate refusals.
+-- `card::dated::show_dated_core` meets its contract: the answer and the buffer of the crate refusals.
 -- Assumes nothing.
 use mathlib.Core.Path.{ap}
 use borrow.Author.Needs.{needs}
 use Rattle.card.specs.Calls.{told}
-use Rattle.card.proofs.cores.show_dated_core.Statement.{statement}
-use Rattle.card.proofs.cores.show_dated_core.Tie as tie
+use Rattle.card.proofs.dated.show_dated_core.Statement.{statement}
+use Rattle.card.proofs.dated.show_dated_core.Tie as tie
 
 show-dated-requires : tie.Need-show-dated-requires
 show-dated-requires c κs = search needs
