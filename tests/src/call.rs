@@ -2,6 +2,7 @@
 //! and the rows that refuse it.
 
 use crate::blocks::{figures, Figures};
+use crate::calendar::{date, Date};
 use crate::random::Random;
 use crate::rows::Row::{self, *};
 use std::fmt;
@@ -22,6 +23,7 @@ pub enum Kind {
     Resume,
     Release,
     Show,
+    ShowDated,
     Standing,
     ReserveWithSummary,
     ReservePlacedWithSummary,
@@ -35,7 +37,7 @@ pub enum Kind {
 /// Every kind of call, with the rows of document 01's table that can refuse it, in the order under the table. A row of
 /// document 02 stands where its request says.
 #[rustfmt::skip]
-pub const CALLS: [(Kind, &str, &[Row]); 22] = [
+pub const CALLS: [(Kind, &str, &[Row]); 23] = [
     (Kind::Fresh, "fresh", &[Blocks, Sheets, MapLength]),
     (Kind::Search, "search", &[Blocks, FreeAboveN, MapLength, NoBlocks, NoFit]),
     (Kind::Survey, "survey", &[Blocks, FreeAboveN, MapLength]),
@@ -59,6 +61,8 @@ pub const CALLS: [(Kind, &str, &[Row]); 22] = [
     (Kind::Release, "release", &[Blocks, Sheets, FreeAboveN, MapLength, NoSheet, Damaged, Absent, FreeCount]),
     (Kind::Show, "show", &[Blocks, Sheets, FreeAboveN, MapLength, CardLength, NoSheet, Damaged,
         Absent, Paused, Open, NoPlace, SliceLength, Unsound]),
+    (Kind::ShowDated, "show-dated", &[Blocks, Sheets, FreeAboveN, MapLength, CardLength, NoSheet, Damaged,
+        Absent, Paused, Open, NoPlace, SliceLength, NoYear, NoMonth, NoDay, UnsoundFirst, OutsideTerm, Unsound]),
     (Kind::Standing, "standing", &[Blocks, Sheets, FreeAboveN, MapLength, NoSheet, Damaged]),
     (Kind::ReserveWithSummary, "summary-reserve", &[Blocks, Sheets, FreeAboveN, MapLength, SummaryLength, CardLength,
         NoSheet, Damaged, Paused, Open, Complete, NoBlocks, NoFit, FreeCount]),
@@ -169,20 +173,36 @@ impl Kind {
     }
 }
 
-/// Bytes that a number stands for, so that a call can be printed: 0 for zeros, 1 for 255s, any other for random bytes.
+/// Bytes that a number stands for, so that a call can be printed: 0 for zeros, 1 for 255s, any other for random bytes. Those of
+/// a place 0 may start with a first and a last day (document 02, (m)).
 #[derive(Clone, Copy)]
 pub struct Bytes {
     pub seed: u32,
     pub length: usize,
+    pub term: Option<(u32, u32)>,
 }
 
 pub const PAYLOAD: Bytes = Bytes {
     seed: 9,
     length: 496,
+    term: None,
 };
 
 impl Bytes {
     pub fn contents(self) -> Vec<u8> {
+        let mut bytes = self.of_seed();
+        let Some((first, last)) = self.term else {
+            return bytes;
+        };
+        let days = [first.to_be_bytes(), last.to_be_bytes()].concat();
+        bytes
+            .iter_mut()
+            .zip(days)
+            .for_each(|(byte, day)| *byte = day);
+        bytes
+    }
+
+    fn of_seed(self) -> Vec<u8> {
         match self.seed {
             0 => vec![0; self.length],
             1 => vec![255; self.length],
@@ -207,6 +227,8 @@ pub struct Call {
     pub figures: Figures,
     /// Where the run of an accept starts, 0 where there is none.
     pub start: u32,
+    /// That of a dated show, 1 January 2000 where there is none.
+    pub date: Date,
     /// The payload that a put brings, or what a show's buffer has before.
     pub bytes: Bytes,
     pub search: Search,
@@ -229,6 +251,7 @@ pub const fn call(kind: Kind, sheet: u32, number: u32) -> Call {
         number,
         figures: figures(0, 0, 0),
         start: 0,
+        date: date(2000, 1, 1),
         bytes: PAYLOAD,
         search: Search::Exact,
     }
@@ -247,6 +270,14 @@ pub const fn accept(sheet: u32, start: u32, count: u32) -> Call {
     Call {
         start,
         ..call(Kind::Accept, sheet, count)
+    }
+}
+
+/// A dated show.
+pub const fn dated(sheet: u32, place: u32, date: Date) -> Call {
+    Call {
+        date,
+        ..call(Kind::ShowDated, sheet, place)
     }
 }
 
@@ -293,59 +324,19 @@ impl fmt::Display for Call {
             let Figures { from, before, step } = self.figures;
             write!(f, " {from} {before} {step}")?;
         }
-        let Bytes { seed, length } = self.bytes;
+        if kind == Kind::ShowDated {
+            write!(f, " {}", self.date)?;
+        }
+        let Bytes { seed, length, term } = self.bytes;
         if kind.has_slice() {
             write!(f, ", {length} bytes from {seed}")?;
         }
-        Ok(())
+        match term {
+            Some((first, last)) => write!(f, " with days {first} and {last}"),
+            None => Ok(()),
+        }
     }
 }
 
 #[cfg(test)]
-mod tests {
-    use super::*;
-
-    #[test]
-    fn each_kind_is_in_its_place() {
-        for (at, (kind, name, _)) in CALLS.iter().enumerate() {
-            assert_eq!(*kind as usize, at);
-            assert_eq!(Kind::named(name), Some(*kind));
-        }
-    }
-
-    /// Document 02, (j): "Both reserves, accept, grow and release have forms that use it", "A summary of the wrong length is
-    /// 1"; the other rows are those of the call without it, in their order.
-    #[test]
-    fn forms_have_the_rows_of_the_call_and_the_summarys_length() {
-        let forms = CALLS
-            .iter()
-            .filter(|(kind, ..)| kind.with_summary() != *kind);
-        assert_eq!(forms.clone().count(), 5);
-        for (kind, name, rows) in forms {
-            let form = kind.with_summary();
-            assert!(
-                form.has_summary() && form.without_summary() == *kind,
-                "{name}"
-            );
-            let mut others = form.rows().to_vec();
-            others.retain(|row| *row != SummaryLength);
-            assert_eq!(others, *rows, "{name}");
-        }
-    }
-
-    /// Document 01, "Order: 1, 2, 4 for the entry, 5 to 8, 3, then 4 for blocks, 9, 10 or 11, and last 4 for the count", and
-    /// document 02, "it comes after 3", of 15, and "it takes the place of 10 there", of 17.
-    #[test]
-    fn rows_stand_in_the_documents_order() {
-        for (_, name, rows) in CALLS {
-            assert!(rows.windows(2).all(|two| two[0] < two[1]), "{name}");
-            let mut numbers: Vec<u32> = rows.iter().map(|row| row.number()).collect();
-            numbers.dedup();
-            let mut order = [1, 2, 4, 5, 6, 7, 8, 3, 15, 4, 9, 10, 11, 17, 4].into_iter();
-            for number in numbers {
-                // Behind the number before it.
-                assert!(order.any(|next| next == number), "{name}: {number}");
-            }
-        }
-    }
-}
+mod tests;

@@ -1,5 +1,6 @@
 //! The examples of the calls: a line for each call, and for each change that no call makes.
 
+mod dated_calls;
 mod false_summary_calls;
 mod filling_calls;
 mod limits;
@@ -49,6 +50,7 @@ fn lists() -> impl Iterator<Item = Section> {
         offer_calls::LISTS,
         pause_calls::LISTS,
         other_calls::LISTS,
+        dated_calls::LISTS,
     ];
     let lists = lists.into_iter().flatten();
     lists.map(|(name, list)| (*name, on_70(list)))
@@ -109,8 +111,10 @@ fn random_with_summary(store: &mut Store) -> String {
 /// The line of a call that changes the map becomes that of its form with a summary.
 fn lent_summary(line: &str) -> String {
     let word = line.split(' ').next().unwrap_or("");
-    let form = Kind::named(word).expect("a call").with_summary();
-    line.replacen(word, form.name(), 1)
+    match Kind::named(word) {
+        Some(kind) => line.replacen(word, kind.with_summary().name(), 1),
+        None => line.to_string(),
+    }
 }
 
 /// A fresh card of 70 blocks and 4 sheets, and the lines of a list.

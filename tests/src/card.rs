@@ -2,6 +2,7 @@
 //! the rows that hold for it, then the change.
 
 use crate::blocks::*;
+use crate::calendar::{day_of, days_of, term_of, within, FIRST_YEAR, LAST_YEAR};
 use crate::call::{Call, Kind};
 use crate::rows::Row;
 use crate::summary::summary_numbers;
@@ -137,6 +138,12 @@ impl Card {
             Row::NoStep => call.figures.step == 0,
             Row::FromNotBefore => call.figures.from >= call.figures.before,
             Row::BeforeAboveN => call.figures.before as usize > n,
+            Row::NoYear => !(FIRST_YEAR..=LAST_YEAR).contains(&call.date.year),
+            Row::NoMonth => days_of(call.date.year, call.date.month).is_none(),
+            Row::NoDay => {
+                let days = days_of(call.date.year, call.date.month);
+                !(1..=days.unwrap_or(31)).contains(&call.date.day)
+            }
             Row::NoFit => number > 0 && self.found(call).is_none(),
             Row::RunNotFree => number > 0 && !self.run_is_free(call.start as usize, number),
             Row::FreeCount if call.kind.without_summary() != Kind::Release => number > self.free,
@@ -157,7 +164,9 @@ impl Card {
             Row::Open => entry.mark == OPEN,
             Row::Complete => entry.mark == COMPLETE,
             Row::NoPlace => number >= length,
-            Row::Unsound if call.kind == Kind::Show => self.unsound_at(call, entry, number),
+            Row::UnsoundFirst => self.unsound_at(call, entry, 0),
+            Row::OutsideTerm => self.outside_term(call, entry),
+            Row::Unsound if call.kind != Kind::Complete => self.unsound_at(call, entry, number),
             Row::Unsound => self
                 .places(entry)
                 .any(|place| !self.blank_at(entry, place) && self.unsound_at(call, entry, place)),
@@ -229,6 +238,20 @@ impl Card {
         block.is_some_and(|block| !sound(block, call.sheet, place as u32))
     }
 
+    /// The first and the last day that place 0 of an entry starts with, if the card has its block.
+    pub fn term(&self, e: Entry) -> Option<(u32, u32)> {
+        let block = self.block(e.start as usize)?;
+        Some(term_of(&block[8..8 + PAYLOAD]))
+    }
+
+    /// The call's date exists, and lies outside the term.
+    fn outside_term(&self, call: Call, e: Entry) -> bool {
+        match (self.term(e), day_of(call.date)) {
+            (Some(term), Some(day)) => !within(term, day),
+            _ => false,
+        }
+    }
+
     pub fn lowest_blank(&self, e: Entry) -> Option<usize> {
         self.places(e).find(|place| self.blank_at(e, *place))
     }
@@ -275,7 +298,7 @@ impl Card {
             Kind::Pause => self.mark(sheet, PAUSED),
             Kind::Resume => self.mark(sheet, COMPLETE),
             Kind::Release => self.release(sheet),
-            Kind::Show => {
+            Kind::Show | Kind::ShowDated => {
                 let block = self.block(self.sheets[sheet].start as usize + number);
                 slice.copy_from_slice(&block.unwrap()[8..8 + PAYLOAD]);
                 Done
@@ -333,6 +356,8 @@ impl Card {
 }
 
 #[cfg(test)]
+mod dated_tests;
+#[cfg(test)]
 mod paused_tests;
 #[cfg(test)]
 mod placed_tests;
@@ -340,38 +365,4 @@ mod placed_tests;
 mod summary_tests;
 
 #[cfg(test)]
-mod tests {
-    use super::*;
-    use crate::call::call;
-
-    /// Document 01, "Table to be proved".
-    #[test]
-    fn sums_of_zero_payloads() {
-        let tail = |sheet| sealed(sheet, 0, &[0; PAYLOAD])[504..].to_vec();
-        assert_eq!(tail(0), [0, 0, 0, 1, 0, 0, 1, 248]);
-        assert_eq!(tail(1), [0, 0, 0, 2, 0, 0, 3, 237]);
-    }
-
-    #[test]
-    fn a_blank_block_is_never_sound() {
-        assert!(!sound(&[0; BLOCK], 0, 0));
-    }
-
-    /// Of 5 places from block 2 on, those that are filled in this order, and the place with 9 after each.
-    #[test]
-    fn the_lowest_blank_place() {
-        let mut card = Card {
-            n: 8,
-            free: 3,
-            map: (0..64).map(|b| b == 0 || b == 1 || b == 7).collect(),
-            sheets: vec![entry(OPEN, 2, 5)],
-            bytes: vec![0; 8 * BLOCK],
-            summary: Vec::new(),
-        };
-        let complete = call(Kind::Complete, 0, 0);
-        for (filled, lowest) in [(1, 0), (4, 0), (0, 2), (3, 2)] {
-            assert_eq!(card.put(0, filled, &[7; PAYLOAD]), Done);
-            assert_eq!(card.call(complete, &mut []), Blank(lowest));
-        }
-    }
-}
+mod tests;

@@ -2,6 +2,7 @@
 //! the program keeps or answers. Rows 1 and 4 hold for no call of a list, so they are not here.
 
 use crate::blocks::{all, least_fit, plain, words_of, Figures, FREE, TAKEN};
+use crate::calendar::{day_of, term_of, within, Date};
 use crate::call::{Call, Kind};
 use crate::card::Answer::*;
 use crate::card::{entry, sealed, Answer, Entry};
@@ -133,7 +134,8 @@ impl Ledger {
             Kind::Pause => self.pause(sheet),
             Kind::Resume => self.resume(sheet),
             Kind::Release => self.release(sheet),
-            Kind::Show => self.show(sheet, number, slice),
+            Kind::Show => self.show(sheet, number, None, slice),
+            Kind::ShowDated => self.show(sheet, number, Some(call.date), slice),
             Kind::Standing => self.standing(sheet),
             form => unreachable!("{form:?} is answered as the call without the summary"),
         };
@@ -281,7 +283,14 @@ impl Ledger {
         Ok(Done)
     }
 
-    fn show(&mut self, sheet: u32, place: u32, buffer: &mut [u8]) -> Result<Answer, Answer> {
+    /// A dated show reads the term from its own payload of place 0 (document 02, (m)).
+    fn show(
+        &mut self,
+        sheet: u32,
+        place: u32,
+        date: Option<Date>,
+        buffer: &mut [u8],
+    ) -> Result<Answer, Answer> {
         match self.sheet(sheet)? {
             Sheet::Absent => Err(Refused(5)),
             Sheet::Paused(_) => Err(Refused(6)),
@@ -289,6 +298,12 @@ impl Ledger {
             Sheet::Complete(Course { payloads, .. }) => {
                 if place as usize >= payloads.len() || buffer.len() != 496 {
                     return Err(Refused(3));
+                }
+                if let Some(date) = date {
+                    let day = day_of(date).ok_or(Refused(19))?;
+                    if !within(term_of(&payloads[0]), day) {
+                        return Err(Refused(20));
+                    }
                 }
                 buffer.copy_from_slice(&payloads[place as usize]);
                 Ok(Done)

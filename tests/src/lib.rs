@@ -3,6 +3,7 @@
 
 pub mod before;
 pub mod blocks;
+pub mod calendar;
 pub mod call;
 pub mod calls;
 pub mod card;

@@ -40,6 +40,14 @@ pub enum Row {
     NoStep,
     FromNotBefore,
     BeforeAboveN,
+    /// 19, of a dated show: the year is outside the span, or there is no such month or no such day of it.
+    NoYear,
+    NoMonth,
+    NoDay,
+    /// 4, of a dated show: the block of place 0 is not sound.
+    UnsoundFirst,
+    /// 20, of a dated show: the day lies outside the term that place 0 starts with.
+    OutsideTerm,
     /// 4: a block is not sound; for complete also not blank.
     Unsound,
     /// 9: some place is blank.
@@ -78,7 +86,7 @@ impl Row {
             MapLength | SummaryLength | CardLength | CatalogueLength | ScratchLength => 1,
             NoSheet => 2,
             NoBlocks | NoPlace | SliceLength => 3,
-            Damaged | Unsound | FreeCount | SavedState => 4,
+            Damaged | UnsoundFirst | Unsound | FreeCount | SavedState => 4,
             Absent => 5,
             Paused | PausedEmpty => 6,
             Open => 7,
@@ -91,6 +99,8 @@ impl Row {
             HeadLimits | HeadTotal | LoadedState | Fill => 14,
             NoStep | FromNotBefore | BeforeAboveN => 15,
             RunNotFree => 17,
+            NoYear | NoMonth | NoDay => 19,
+            OutsideTerm => 20,
         }
     }
 }
@@ -111,7 +121,8 @@ type Apart = (
 
 #[rustfmt::skip]
 const APART: &[Apart] = &[
-    (&[], &[NoSheet], &[Damaged, Absent, Paused, PausedEmpty, Open, Complete, NoPlace, Unsound, Blank, NotNext],
+    (&[], &[NoSheet], &[Damaged, Absent, Paused, PausedEmpty, Open, Complete, NoPlace, UnsoundFirst, OutsideTerm, Unsound,
+        Blank, NotNext],
         "a sheet that the catalogue does not have has no entry, no places and no blocks"),
     (&["release", "summary-release"], &[NoSheet], &[FreeCount], "a sheet that the catalogue does not have has no length"),
     (&[], STANDINGS, STANDINGS, "an entry has one mark"),
@@ -120,6 +131,7 @@ const APART: &[Apart] = &[
         "a free count not above n stays so if a length of 0 is added"),
     (&[], &[NoBlocks], &[NoFit, NotNext, RunNotFree], "a fit is for k ≥ 1, and no blocks are free and inside n"),
     (&[], &[NoBlocks], &[FreeCount], "0 is not above the free count"),
+    (&[], &[NoYear, NoMonth, NoDay], &[OutsideTerm], "a date that does not exist has no number that could lie outside"),
 ];
 
 /// All pairs of a call but those apart.

@@ -1,6 +1,6 @@
 //! Random calls.
 
-pub(super) const CALLS: usize = 600;
+pub(super) const CALLS: usize = 700;
 
 /// How many more there are whose map-changing calls are lent a summary.
 pub(super) const WITH_SUMMARY: usize = 200;
@@ -38,6 +38,31 @@ fn random_start(x: u64) -> u64 {
     }
 }
 
+/// A day of the first ten of 2024, of which the first has number 8,766.
+fn random_day(x: u64) -> u64 {
+    x % 10 + 1
+}
+
+/// A date of the first days of 2024, in 1 case of 16 another one, of which some do not exist.
+fn random_date(x: u64) -> String {
+    if x % 16 == 0 {
+        let (year, month, day) = (x / 16 % 103 + 1999, x / 2048 % 14, x / 32768 % 33);
+        return format!("{year} {month} {day}");
+    }
+    format!("2024 1 {}", random_day(x / 16))
+}
+
+/// A first day and a last one among the first days of 2024; in 1 case of 4 the last one is any.
+fn random_term(x: u64) -> String {
+    let first = 8765 + random_day(x);
+    let last = if x / 16 % 4 == 0 {
+        x / 64 % 36600
+    } else {
+        first + x / 64 % 6
+    };
+    format!("{first} {last}")
+}
+
 /// One of the calls of a list, for one of the four sheets or, in 1 case of 16, for none. Places are below 3.
 pub(super) fn random_call(x: u64) -> String {
     let sheet = if x % 16 == 0 { 4 } else { x % 4 };
@@ -57,12 +82,14 @@ pub(super) fn random_call(x: u64) -> String {
             let start = random_start(y / 16384);
             format!("accept {sheet} {start} {}", random_size(y))
         }
+        19..=29 if place == 0 => format!("put-term {sheet} 0 {}", random_term(z)),
         19..=37 => {
             let first = z / 8192 % 256;
             format!("put {sheet} {place} {first} {}", random_length(z))
         }
         38..=47 => format!("complete {sheet}"),
-        48..=59 => format!("show {sheet} {place} {}", random_length(z)),
+        48..=52 => format!("show {sheet} {place} {}", random_length(z)),
+        53..=59 => format!("show-dated {sheet} {place} {}", random_date(z)),
         60..=61 => format!("resume {sheet}"),
         _ => format!("standing {sheet}"),
     }

@@ -1,7 +1,8 @@
 //! What the calls of the examples work on, and what a line of them prints.
 
 use crate::blocks::{figures, from_words, to_words};
-use crate::call::{accept, call, placed, Bytes, Call, Kind};
+use crate::calendar::date;
+use crate::call::{accept, call, dated, placed, Bytes, Call, Kind};
 use crate::card::{entry, Answer, Card, Entry};
 use crate::rows::Row;
 
@@ -15,7 +16,7 @@ pub(super) struct Store {
     summary: Vec<u32>,
     /// How many numbers of the summary, from the first on, are open: a call changed the map with a false one.
     open: usize,
-    /// What the last call left in its buffer, if it was a show.
+    /// What the last call left in its buffer, if it was a show or a dated one.
     buffer: Option<Vec<u8>>,
     words_lent: usize,
     sheets_lent: usize,
@@ -29,21 +30,52 @@ fn payload(first: u32, length: usize) -> Vec<u8> {
     (0..length).map(byte).collect()
 }
 
-/// The call of a kind with the numbers of its line. A payload's contents go by its first byte (`payload`).
-fn call_of(kind: Kind, numbers: &[u32]) -> Call {
+/// A put whose payload starts with two days (document 02, (m)): sheet, place, the first day and the last.
+const PUT_TERM: &str = "put-term";
+
+/// The payload that a line's put brings. A put has its first byte and its length behind sheet and place; a put of a term has the
+/// two days there, 4 bytes each, and the other bytes are those of a payload whose first is 0.
+fn brought(word: &str, numbers: &[u32]) -> Vec<u8> {
+    match (word, numbers) {
+        ("put", [_, _, first, length]) => payload(*first, *length as usize),
+        (PUT_TERM, [_, _, first, last]) => {
+            let mut payload = payload(0, 496);
+            payload[..4].copy_from_slice(&first.to_be_bytes());
+            payload[4..8].copy_from_slice(&last.to_be_bytes());
+            payload
+        }
+        _ => Vec::new(),
+    }
+}
+
+/// The kind of call that a line's word names.
+fn kind_of(word: &str) -> Kind {
+    match word {
+        PUT_TERM => Kind::Put,
+        _ => Kind::named(word).expect("a call"),
+    }
+}
+
+/// The call of a kind with the numbers of its line, which are at most five: a dated show has no length, for its buffer is as
+/// long as it should be. A payload's contents are not here (`brought`).
+fn call_of(word: &str, numbers: &[u32]) -> Call {
+    let kind = kind_of(word);
     let at = |i: usize| numbers.get(i).copied().unwrap_or(0);
-    let length = match kind {
-        Kind::Put => at(3),
-        Kind::Show => at(2),
+    let length = match word {
+        "put" => at(3),
+        "show" => at(2),
+        PUT_TERM | "show-dated" => 496,
         _ => 0,
     };
     let bytes = Bytes {
         seed: 0,
         length: length as usize,
+        term: None,
     };
     let call = match kind.without_summary() {
         Kind::ReservePlaced => placed(at(0), at(1), figures(at(2), at(3), at(4))),
         Kind::Accept => accept(at(0), at(1), at(2)),
+        Kind::ShowDated => dated(at(0), at(1), date(at(2), at(3), at(4))),
         _ if kind.has_sheet() => call(kind, at(0), at(1)),
         _ => call(kind, 0, at(0)),
     };
@@ -86,7 +118,7 @@ impl Store {
             .split_terminator(' ')
             .map(|n| n.parse().unwrap())
             .collect();
-        self.buffer = (word == "show").then(|| vec![0xbb; 500]);
+        self.buffer = word.starts_with("show").then(|| vec![0xbb; 500]);
         if let Some(change) = word.strip_prefix('+') {
             self.change(change, &numbers);
             return format!("{text}{}\n", self.end());
@@ -101,14 +133,11 @@ impl Store {
 
     /// A call, on what is lent. A refused one leaves all as it was, and so does an offer.
     fn call(&mut self, word: &str, numbers: &[u32]) -> Answer {
-        let call = call_of(Kind::named(word).expect("a call"), numbers);
+        let call = call_of(word, numbers);
         let card = &mut self.lent();
         let before = card.clone();
         self.must_be_settled(card, call);
-        let mut brought = match call.kind {
-            Kind::Put => payload(numbers[2], call.bytes.length),
-            _ => Vec::new(),
-        };
+        let mut brought = brought(word, numbers);
         let slice = match &mut self.buffer {
             Some(buffer) => &mut buffer[..call.bytes.length],
             None => &mut brought[..],

@@ -2,6 +2,7 @@
 
 use super::*;
 use crate::blocks::figures;
+use crate::calendar::date;
 use crate::call::{accept, call, placed};
 use crate::card::Card;
 use crate::random::Random;
@@ -17,7 +18,7 @@ fn a_sheet_from_reserve_to_reserve() {
     assert_eq!(ledger.complete(0), Err(Blank(0)));
     assert_eq!(ledger.put(0, 0, &[8; 496]), Ok(Done));
     assert_eq!(ledger.complete(0), Ok(Done));
-    assert_eq!(ledger.show(0, 1, buffer), Ok(Done));
+    assert_eq!(ledger.show(0, 1, None, buffer), Ok(Done));
     assert_eq!(buffer[0], 7);
     assert_eq!(ledger.reserve(1, 2, plain(3)), Err(Refused(10)));
     assert_eq!(ledger.release(0), Ok(Done));
@@ -141,10 +142,10 @@ fn a_course_is_paused_and_taken_up_again() {
     assert_eq!(ledger.entry(0), entry(0x50, 0, 2));
     assert_eq!(ledger.block(0, 1), sealed(0, 1, &[8; 496]));
     assert_eq!(ledger.pause(0), Err(Refused(6)));
-    assert_eq!(ledger.show(0, 0, buffer), Err(Refused(6)));
+    assert_eq!(ledger.show(0, 0, None, buffer), Err(Refused(6)));
     assert_eq!(ledger.offer(1, 9), Err(Refused(10)));
     assert_eq!(ledger.resume(0), Ok(Done));
-    assert_eq!(ledger.show(0, 1, buffer), Ok(Done));
+    assert_eq!(ledger.show(0, 1, None, buffer), Ok(Done));
     assert_eq!(buffer[0], 8);
     assert_eq!(ledger.pause(0), Ok(Done));
     assert_eq!(ledger.release(0), Ok(Done));
@@ -153,7 +154,7 @@ fn a_course_is_paused_and_taken_up_again() {
     assert_eq!(ledger.pause(0), Ok(Done));
     assert_eq!(ledger.entry(0), entry(0x50, 0, 0));
     assert_eq!(ledger.resume(0), Err(Refused(6)));
-    assert_eq!(ledger.show(0, 0, buffer), Err(Refused(6)));
+    assert_eq!(ledger.show(0, 0, None, buffer), Err(Refused(6)));
     assert_eq!(ledger.release(0), Ok(Done));
     assert_eq!(ledger.resume(3), Err(Refused(2)));
     assert_eq!((ledger.granted, ledger.returned), (2, 2));
@@ -209,4 +210,38 @@ fn the_card_answers_as_the_ledger() {
         card.summary = with_summary.summary.clone();
         assert!(card == *with_summary);
     }
+}
+
+/// Document 02, (m): the ledger reads the days from its own payload of place 0, 19 comes after 3 and before 20, and no date
+/// shows what is not Complete.
+#[test]
+fn a_course_has_its_term() {
+    let mut ledger = Ledger::fresh(10, 2);
+    let buffer = &mut [0; 496];
+    let (first, last) = (Some(date(2024, 2, 29)), Some(date(2024, 3, 6)));
+    let (before, after) = (Some(date(2024, 2, 28)), Some(date(2024, 3, 7)));
+    let none = Some(date(2024, 2, 30));
+    let mut days = [7; 496];
+    days[..8].copy_from_slice(&[0, 0, 0x22, 0x79, 0, 0, 0x22, 0x7f]);
+    assert_eq!(ledger.show(0, 0, none, buffer), Err(Refused(5)));
+    assert_eq!(ledger.reserve(0, 2, plain(10)), Ok(Start(0, 10)));
+    assert_eq!(ledger.put(0, 0, &days), Ok(Done));
+    assert_eq!(ledger.put(0, 1, &[8; 496]), Ok(Done));
+    assert_eq!(ledger.show(0, 0, first, buffer), Err(Refused(7)));
+    assert_eq!(ledger.complete(0), Ok(Done));
+    assert_eq!(ledger.show(0, 2, none, buffer), Err(Refused(3)));
+    for (place, shown) in [(0, 7), (1, 8)] {
+        for date in [first, last, None] {
+            *buffer = [0; 496];
+            assert_eq!(ledger.show(0, place, date, buffer), Ok(Done));
+            assert_eq!(buffer[8..], [shown; 488]);
+        }
+        for (date, refused) in [(before, 20), (after, 20), (none, 19)] {
+            *buffer = [5; 496];
+            assert_eq!(ledger.show(0, place, date, buffer), Err(Refused(refused)));
+            assert_eq!(*buffer, [5; 496]);
+        }
+    }
+    assert_eq!(ledger.pause(0), Ok(Done));
+    assert_eq!(ledger.show(0, 0, first, buffer), Err(Refused(6)));
 }
