@@ -142,6 +142,17 @@ static void put(const char *call, uint32_t sheet, uint32_t place)
     told(call, pagunlit_put(shape, map, W, catalogue, C, card, sizeof card, sheet, place, slice, sizeof slice));
 }
 
+/* A payload that starts with the first and the last day of a term, the high byte first. */
+static void put_term(const char *call, uint32_t sheet, uint32_t place, uint32_t first, uint32_t last)
+{
+    fill(slice, sizeof slice, 16 * sheet + place);
+    for (uint32_t i = 0; i < 4; i++) {
+        slice[i] = (uint8_t)(first >> (24 - 8 * i));
+        slice[4 + i] = (uint8_t)(last >> (24 - 8 * i));
+    }
+    told(call, pagunlit_put(shape, map, W, catalogue, C, card, sizeof card, sheet, place, slice, sizeof slice));
+}
+
 static void complete(const char *call, uint32_t sheet)
 {
     told(call, pagunlit_complete(shape, map, W, catalogue, C, card, sizeof card, sheet));
@@ -151,6 +162,13 @@ static void show(const char *call, uint32_t sheet, uint32_t place)
 {
     fill(slice, sizeof slice, 99);
     told(call, pagunlit_show(shape, map, W, catalogue, C, card, sizeof card, sheet, place, slice, sizeof slice));
+}
+
+static void show_dated(const char *call, uint32_t sheet, uint32_t place, uint32_t year, uint32_t month, uint32_t day)
+{
+    fill(slice, sizeof slice, 99);
+    told(call, pagunlit_show_dated(shape, map, W, catalogue, C, card, sizeof card, sheet, place, year, month, day, slice,
+                                   sizeof slice));
 }
 
 static void standing(const char *call, uint32_t sheet)
@@ -188,12 +206,18 @@ static void course(void)
     search("search 9", 9);
     survey("survey");
     put("put 1 6", 1, 6);
-    put("put 2 0", 2, 0);
+    put_term("put-term 2 0 8825 8831", 2, 0, 8825, 8831);
     put("put 2 1", 2, 1);
     complete("complete 2", 2);
     put("put 2 2", 2, 2);
     complete("complete 2 again", 2);
     show("show 2 1", 2, 1);
+    show_dated("show-dated 2 1 2024 3 6", 2, 1, 2024, 3, 6);
+    show_dated("show-dated 2 0 2024 2 29", 2, 0, 2024, 2, 29);
+    show_dated("show-dated 2 1 2024 3 7", 2, 1, 2024, 3, 7);
+    show_dated("show-dated 2 1 2024 2 28", 2, 1, 2024, 2, 28);
+    show_dated("show-dated 2 1 2023 2 29", 2, 1, 2023, 2, 29);
+    show_dated("show-dated 2 3 2023 2 29", 2, 3, 2023, 2, 29);
     told("pause course 2", pagunlit_pause(shape, map, W, catalogue, C, 2));
     show("show paused 2 1", 2, 1);
     told("resume 2", pagunlit_resume(shape, map, W, catalogue, C, 2));

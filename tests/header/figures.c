@@ -62,6 +62,8 @@ static void numbers(void)
     CONSTANT(PAGUNLIT_WRONG_FIGURES);
     CONSTANT(PAGUNLIT_WRONG_COUNT);
     CONSTANT(PAGUNLIT_RUN_NOT_FREE);
+    CONSTANT(PAGUNLIT_NO_DATE);
+    CONSTANT(PAGUNLIT_OUTSIDE_TERM);
     for (uint32_t number = 0; number < 40; number++)
         printf("meaning %u\t%s\n", number, pagunlit_meaning(number));
     printf("meaning %u\t%s\n", UINT32_MAX, pagunlit_meaning(UINT32_MAX));

@@ -29,6 +29,8 @@ pagunlit_outcome pagunlit_release(SHAPE, MAP, CATALOGUE, uint32_t sheet);
 pagunlit_outcome pagunlit_standing(SHAPE, const MAP, const CATALOGUE, uint32_t sheet);
 pagunlit_outcome pagunlit_show(SHAPE, const MAP, const CATALOGUE, const CARD, uint32_t sheet, uint32_t place, uint8_t *buffer,
                                size_t bufferlen);
+pagunlit_outcome pagunlit_show_dated(SHAPE, const MAP, const CATALOGUE, const CARD, uint32_t sheet, uint32_t place,
+                                     uint32_t year, uint32_t month, uint32_t day, uint8_t *buffer, size_t bufferlen);
 pagunlit_outcome pagunlit_summary_build(SHAPE, const MAP, SUMMARY);
 pagunlit_outcome pagunlit_summary_check(SHAPE, const MAP, const SUMMARY);
 pagunlit_outcome pagunlit_reserve_with_summary(SHAPE, MAP, SUMMARY, CATALOGUE, CARD, uint32_t sheet, uint32_t count);

@@ -22,7 +22,9 @@ pub fn examples() -> String {
     let mut text = sections(store, first().into_iter().chain(lists()).chain(last()));
     text += &random(store);
     text += &sections(store, with_summary());
-    text + &random_with_summary(store)
+    text += &random_with_summary(store);
+    text += &sections(store, dated());
+    text + &random_dated(store)
 }
 
 /// A heading, and the lines below it.
@@ -50,7 +52,6 @@ fn lists() -> impl Iterator<Item = Section> {
         offer_calls::LISTS,
         pause_calls::LISTS,
         other_calls::LISTS,
-        dated_calls::LISTS,
     ];
     let lists = lists.into_iter().flatten();
     lists.map(|(name, list)| (*name, on_70(list)))
@@ -85,6 +86,13 @@ fn with_summary() -> impl Iterator<Item = Section> {
     ])
 }
 
+/// Dated shows (document 02, (m)).
+fn dated() -> impl Iterator<Item = Section> {
+    let lists = dated_calls::LISTS.iter();
+    let lists = lists.map(|(name, list)| (*name, on_70(list)));
+    lists.chain([("row 1 of a dated show", limits::row_1_dated())])
+}
+
 fn random(store: &mut Store) -> String {
     let random = &mut Random(0x9e3779b97f4a7c15);
     let text = format!("== random\n{}", store.lines(&on_70("")));
@@ -108,13 +116,20 @@ fn random_with_summary(store: &mut Store) -> String {
     text
 }
 
+/// Random calls that lead to dated shows.
+fn random_dated(store: &mut Store) -> String {
+    let random = &mut Random(0xa0761d6478bd642f);
+    let text = format!("== random, dated\n{}", store.lines(&on_70("")));
+    (0..random_calls::DATED).fold(text, |text, _| {
+        text + &store.line(&random_calls::random_dated_call(random.draw()))
+    })
+}
+
 /// The line of a call that changes the map becomes that of its form with a summary.
 fn lent_summary(line: &str) -> String {
     let word = line.split(' ').next().unwrap_or("");
-    match Kind::named(word) {
-        Some(kind) => line.replacen(word, kind.with_summary().name(), 1),
-        None => line.to_string(),
-    }
+    let form = Kind::named(word).expect("a call").with_summary();
+    line.replacen(word, form.name(), 1)
 }
 
 /// A fresh card of 70 blocks and 4 sheets, and the lines of a list.

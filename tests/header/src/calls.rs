@@ -2,7 +2,8 @@
 //! names that it prints: the word of the call, and its numbers; other words tell it from another call of that name.
 
 use bitwise::blocks::{figures, from_words, to_words};
-use bitwise::call::{accept, call, placed, Call, Kind, CALLS};
+use bitwise::calendar::date;
+use bitwise::call::{accept, call, dated, placed, Call, Kind, CALLS};
 use bitwise::card::{entry, sealed, Answer, Card};
 use bitwise::summary::summary_numbers;
 use std::fmt::Write;
@@ -10,7 +11,7 @@ use std::fmt::Write;
 const N: usize = 70;
 const C: u32 = 3;
 /// The refusals of calls on a sound card with slices of the right lengths.
-const REFUSALS: [u32; 11] = [2, 3, 5, 6, 7, 8, 9, 10, 11, 15, 17];
+const REFUSALS: [u32; 13] = [2, 3, 5, 6, 7, 8, 9, 10, 11, 15, 17, 19, 20];
 
 /// What calls.c keeps: the card, and the slices that a call may be lent besides.
 struct State {
@@ -50,16 +51,20 @@ fn numbers(answer: Answer) -> (u32, [usize; 3]) {
     }
 }
 
+/// The numbers in a name that calls.c prints.
+fn numbers_in(name: &str) -> Vec<u32> {
+    let words = name.split(' ');
+    words.filter_map(|word| word.parse().ok()).collect()
+}
+
 /// The call of a kind with the numbers in the name that calls.c prints, in the order of the prototype.
 fn call_of(kind: Kind, name: &str) -> Call {
-    let numbers: Vec<u32> = name
-        .split(' ')
-        .filter_map(|word| word.parse().ok())
-        .collect();
+    let numbers = numbers_in(name);
     let at = |i: usize| numbers.get(i).copied().unwrap_or(0);
     let call = match kind.without_summary() {
         Kind::ReservePlaced => placed(at(0), at(1), figures(at(2), at(3), at(4))),
         Kind::Accept => accept(at(0), at(1), at(2)),
+        Kind::ShowDated => dated(at(0), at(1), date(at(2), at(3), at(4))),
         _ if kind.has_sheet() => call(kind, at(0), at(1)),
         _ => call(kind, 0, at(0)),
     };
@@ -150,11 +155,25 @@ impl State {
     fn call(&mut self, name: &str, call: Call) {
         match call.kind {
             Kind::Put => self.slice = filled(496, 16 * call.sheet + call.number),
-            Kind::Show => self.slice = filled(496, 99),
+            Kind::Show | Kind::ShowDated => self.slice = filled(496, 99),
             _ => {}
         }
         let answer = self.card.call(call, &mut self.slice);
         self.made.push((call.kind, numbers(answer).0));
+        self.told(name, answer);
+    }
+
+    /// A put whose payload starts with two days (document 02, (m)), 4 bytes each, the high byte first.
+    fn put_term(&mut self, name: &str) {
+        let [sheet, place, first, last] = numbers_in(name)[..] else {
+            return self.line(name, "has a sheet, a place and two days".to_string());
+        };
+        self.slice = filled(496, 16 * sheet + place);
+        let days = [first.to_be_bytes(), last.to_be_bytes()].concat();
+        self.slice[..8].copy_from_slice(&days);
+        let answer = self
+            .card
+            .call(call(Kind::Put, sheet, place), &mut self.slice);
         self.told(name, answer);
     }
 
@@ -174,6 +193,7 @@ impl State {
             ("save short", _) => self.save(name, 511),
             ("summary-build short", _) => self.build_short(name),
             ("head", _) => self.line(name, format!("{N} {C}")),
+            _ if word == "put-term" => self.put_term(name),
             (_, None) => self.line(word, "is no call of document 01".to_string()),
             (_, Some(kind)) => self.call(name, call_of(kind, name)),
         }

@@ -25,7 +25,7 @@ const CONSTANTS: [(&str, u64); 15] = [
 
 /// The rows of "What the caller gets instead" and those of document 02, with the name that a C program has for each. Number 0
 /// is "done".
-const NUMBERS: [(u32, &str, &str); 18] = [
+const NUMBERS: [(u32, &str, &str); 20] = [
     (0, "PAGUNLIT_DONE", "done"),
     (
         1,
@@ -50,6 +50,8 @@ const NUMBERS: [(u32, &str, &str); 18] = [
     (16, "PAGUNLIT_WRONG_COUNT", "dose counts: another digit in the four bytes read, a number out of range when writing, or a \
          count number of 124 or more"),
     (17, "PAGUNLIT_RUN_NOT_FREE", "accept: the run is not all free and inside n"),
+    (19, "PAGUNLIT_NO_DATE", "dated show: the date doesn't exist or lies outside the span"),
+    (20, "PAGUNLIT_OUTSIDE_TERM", "dated show: the day lies outside the term"),
 ];
 
 /// What has no figure in document 01: the version, which has to say the same as a number and as a text.

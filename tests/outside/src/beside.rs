@@ -1,6 +1,7 @@
 //! The library beside the card and the ledger: every call is made of all three, and answers and buffers are compared.
 
 use crate::counts::Counts;
+use crate::dated::at_edges;
 use crate::library::{bytes, entries, numbers, words, Entry, Lent, Library, Outcome, Shape};
 use crate::pauses::is_paused_course;
 use crate::summaries::settled;
@@ -278,7 +279,7 @@ impl Beside {
     }
 
     /// At the end of a list: every byte of the card, every place of every sheet by the ledger, and each place of each
-    /// complete sheet shown, those that were paused after they are taken up again.
+    /// complete sheet shown, those that were paused after they are taken up again, some also at the edges of its term.
     pub fn finish(&mut self) -> Result<(), String> {
         same_slice("card", &self.library.card, &self.card.bytes)?;
         self.as_in_ledger()?;
@@ -286,6 +287,7 @@ impl Beside {
             self.places_as_in_ledger(sheet, Compared::All)?;
             self.take_up(sheet)?;
             self.show_all(sheet)?;
+            at_edges(self, sheet, &mut Counts::default())?;
         }
         Ok(())
     }

@@ -13,6 +13,7 @@ fn block(random: &mut Random) -> Vec<u8> {
     let payload = Bytes {
         seed: random.within(0, 1000) as u32 / 4,
         length: 496,
+        term: None,
     };
     sealed(number(random), number(random), &payload.contents())
 }

@@ -5,10 +5,10 @@ use bitwise::card::Answer;
 use bitwise::rows::{pairs, Pair, Row};
 use std::collections::BTreeMap;
 
-/// The columns of the table of answers, in the order of the rows. Row 4 is there three times.
-const COLUMNS: [&str; 16] = [
-    "done", "1", "2", "4 entry", "5", "6", "7", "8", "3", "15", "4 block", "9", "10", "11", "17",
-    "4 count",
+/// The columns of the table of answers, in the order of the rows. Row 4 is there four times.
+const COLUMNS: [&str; 19] = [
+    "done", "1", "2", "4 entry", "5", "6", "7", "8", "3", "15", "19", "4 first", "20", "4 block",
+    "9", "10", "11", "17", "4 count",
 ];
 
 /// The column that a row is counted in.
@@ -16,6 +16,7 @@ fn column(row: Option<Row>) -> String {
     match row {
         None => "done".to_string(),
         Some(Row::Damaged) => "4 entry".to_string(),
+        Some(Row::UnsoundFirst) => "4 first".to_string(),
         Some(Row::Unsound) => "4 block".to_string(),
         Some(Row::FreeCount) => "4 count".to_string(),
         Some(row) => row.number().to_string(),

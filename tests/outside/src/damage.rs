@@ -3,11 +3,12 @@
 
 use crate::beside::{Beside, Compared};
 use crate::counts::Counts;
+use crate::dates::some_term;
 use crate::generate::Generator;
 use crate::lists::{small_size, used_card};
 use crate::spoiled::spoil;
 use bitwise::blocks::words_of;
-use bitwise::call::{call, Kind};
+use bitwise::call::{call, Bytes, Kind, PAYLOAD};
 use bitwise::card::{entry, sealed, Card};
 use bitwise::random::Random;
 use bitwise::summary::summary_numbers;
@@ -209,12 +210,17 @@ fn damage_block(card: &mut Card, generator: &mut Generator) -> String {
         return "nothing".to_string();
     };
     let bytes = &mut card.bytes[512 * block..512 * block + 512];
-    match random.within(0, 6) {
+    match random.within(0, 7) {
         0 => bytes.fill(0),
         1 => bytes[random.one(&[0, 3, 7, 8, 503, 504, 507, 508, 511])] ^= 1 << random.within(0, 8),
         2 => bytes[random.within(0, 512)] ^= 1 << random.within(0, 8),
         3 => bytes.copy_from_slice(&sealed(sheet, place.wrapping_add(1), &[9; 496])),
         4 => bytes.copy_from_slice(&sealed(sheet.wrapping_add(1), place, &[9; 496])),
+        5 => {
+            let term = Some(some_term(random));
+            let payload = Bytes { term, ..PAYLOAD };
+            bytes.copy_from_slice(&sealed(sheet, place, &payload.contents()));
+        }
         // The same sums modulo 65,521, and not the same numbers.
         _ => {
             bytes.copy_from_slice(&sealed(sheet, place, &[9; 496]));

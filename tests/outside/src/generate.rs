@@ -1,9 +1,10 @@
 //! Random calls: mostly those that a dispenser makes of the sheet at hand, as its entry stands, and some with any numbers.
 
+use crate::dates::{any_date, date_within, some_date, some_term};
 use crate::figures::{admitting, any_figures, some_start};
 use crate::offers::accept_of;
 use bitwise::blocks::{survey, FREE};
-use bitwise::call::{accept, call, placed, Bytes, Call, Kind, CALLS, PAYLOAD};
+use bitwise::call::{accept, call, dated, placed, Bytes, Call, Kind, CALLS, PAYLOAD};
 use bitwise::card::{Card, Entry};
 use bitwise::random::Random;
 use bitwise::rows::Row;
@@ -53,22 +54,32 @@ impl Generator {
         match entry.mark {
             0x41 if self.random.chance(1, 10) => call(Kind::Pause, sheet, 0),
             0x41 => self.of_absent(card, sheet),
-            0x50 => self.of_paused(sheet, entry),
+            0x50 => self.of_paused(card, sheet, entry),
             0x4f => self.of_open(card, sheet, entry),
             0x43 if self.random.chance(1, 4) => call(Kind::Release, sheet, 0),
             0x43 if self.random.chance(1, 5) => call(Kind::Pause, sheet, 0),
-            0x43 => call(Kind::Show, sheet, self.likely_place(entry)).with_bytes(self.bytes()),
+            0x43 => self.show(card, sheet, entry),
             _ => call(Kind::Standing, sheet, 0),
         }
     }
 
+    /// A show, with a date or without, of one of the places.
+    fn show(&mut self, card: &Card, sheet: u32, entry: Entry) -> Call {
+        let place = self.likely_place(entry);
+        let show = match self.random.within(0, 2) {
+            0 => call(Kind::Show, sheet, place),
+            _ => dated(sheet, place, some_date(card.term(entry), &mut self.random)),
+        };
+        show.with_bytes(self.bytes())
+    }
+
     /// Mostly a course that is paused is taken up again, and a pause without blocks is released.
-    fn of_paused(&mut self, sheet: u32, entry: Entry) -> Call {
+    fn of_paused(&mut self, card: &Card, sheet: u32, entry: Entry) -> Call {
         let of_course = [Kind::Resume, Kind::Resume, Kind::Resume, Kind::Release];
         let without_blocks = [Kind::Release, Kind::Release, Kind::Release, Kind::Resume];
         match self.random.within(0, 8) {
             0 => call(Kind::Standing, sheet, 0),
-            1 => call(Kind::Show, sheet, self.likely_place(entry)).with_bytes(self.bytes()),
+            1 => self.show(card, sheet, entry),
             2 => call(Kind::Pause, sheet, 0),
             _ if entry.length > 0 => call(self.random.one(&of_course), sheet, 0),
             _ => call(self.random.one(&without_blocks), sheet, 0),
@@ -123,12 +134,24 @@ impl Generator {
             0..=1 => call(Kind::Grow, sheet, self.likely_count(card)),
             2 => call(Kind::Release, sheet, 0),
             3 => call(Kind::Complete, sheet, 0),
-            4 => call(Kind::Put, sheet, self.likely_place(entry)).with_bytes(self.bytes()),
+            4 => {
+                let place = self.likely_place(entry);
+                self.put(sheet, place)
+            }
             _ => match blank {
-                Some(place) => call(Kind::Put, sheet, place).with_bytes(self.bytes()),
+                Some(place) => self.put(sheet, place),
                 None => call(Kind::Complete, sheet, 0),
             },
         }
+    }
+
+    /// A put. The payload of place 0 starts with the days of a term, more often than not.
+    fn put(&mut self, sheet: u32, place: u32) -> Call {
+        let mut bytes = self.bytes();
+        if place == 0 && self.random.chance(7, 8) {
+            bytes.term = Some(some_term(&mut self.random));
+        }
+        call(Kind::Put, sheet, place).with_bytes(bytes)
     }
 
     /// Any of the calls that are lent no summary, but for fresh, with any numbers.
@@ -159,7 +182,11 @@ impl Generator {
         } else {
             PAYLOAD
         };
-        call(kind, sheet, number).with_bytes(bytes)
+        let call = match kind {
+            Kind::ShowDated => dated(sheet, number, any_date(&mut self.random)),
+            _ => call(kind, sheet, number),
+        };
+        call.with_bytes(bytes)
     }
 
     // Numbers.
@@ -258,7 +285,11 @@ impl Generator {
         } else {
             496
         };
-        Bytes { seed, length }
+        Bytes {
+            seed,
+            length,
+            term: None,
+        }
     }
 }
 
@@ -285,8 +316,8 @@ fn admits(kind: Kind, entry: &Entry) -> bool {
     !kind.rows().iter().any(refuses)
 }
 
-/// A call of a kind that is accepted on a card with sheets of every standing, all places filled, and two free blocks or more
-/// behind each extent.
+/// A call of a kind that is accepted on a card with sheets of every standing, all places filled, place 0 with a term, and two
+/// free blocks or more behind each extent.
 pub fn accepted(kind: Kind, card: &Card, random: &mut Random) -> Call {
     if !kind.has_sheet() {
         return call(kind, 0, whole_number(kind, card, random));
@@ -299,7 +330,9 @@ pub fn accepted(kind: Kind, card: &Card, random: &mut Random) -> Call {
         Kind::Reserve | Kind::ReservePlaced | Kind::Offer | Kind::Accept | Kind::Grow => {
             random.within(1, 3)
         }
-        Kind::Put | Kind::Show => random.within(0, card.sheets[sheet].length as usize),
+        Kind::Put | Kind::Show | Kind::ShowDated => {
+            random.within(0, card.sheets[sheet].length as usize)
+        }
         _ => 0,
     };
     let call = call(kind, sheet as u32, number as u32);
@@ -308,6 +341,10 @@ pub fn accepted(kind: Kind, card: &Card, random: &mut Random) -> Call {
         Kind::Accept => {
             let start = some_start(card, number, random);
             accept(call.sheet, start as u32, call.number)
+        }
+        Kind::ShowDated => {
+            let term = card.term(card.sheets[sheet]);
+            dated(call.sheet, call.number, date_within(term, random))
         }
         _ => call,
     };

@@ -5,7 +5,8 @@ use crate::counts::Counts;
 use crate::generate::accepted;
 use crate::lists::used_card;
 use bitwise::blocks::{figures, words_of};
-use bitwise::call::{accept, call, placed, Bytes, Call, Kind, CALLS};
+use bitwise::calendar::date;
+use bitwise::call::{accept, call, dated, placed, Bytes, Call, Kind, CALLS, PAYLOAD};
 use bitwise::card::{entry, Card};
 use bitwise::random::Random;
 use bitwise::summary::build;
@@ -25,6 +26,12 @@ pub fn one(card: &Card, call: Call, margin: usize, counts: &mut Counts) -> Resul
     })
 }
 
+/// A payload that starts with a term: day 8,825 is 29 February 2024.
+const TERM: Bytes = Bytes {
+    term: Some((8825, 8831)),
+    ..PAYLOAD
+};
+
 /// A card of 70 blocks with its own summary: sheet 0 is complete, sheet 1 open and filled, sheet 2 absent, sheet 3 a paused
 /// course.
 fn four_sheets() -> Card {
@@ -32,7 +39,7 @@ fn four_sheets() -> Card {
     let calls = [
         call(Kind::Fresh, 0, 70),
         call(Kind::Reserve, 0, 2),
-        call(Kind::Put, 0, 0),
+        call(Kind::Put, 0, 0).with_bytes(TERM),
         call(Kind::Put, 0, 1),
         call(Kind::Complete, 0, 0),
         call(Kind::Reserve, 1, 1),
@@ -60,8 +67,17 @@ pub fn lengths(margin: usize, counts: &mut Counts) -> Result<(), String> {
         }
     }
     for length in 0..=1100 {
-        let bytes = Bytes { seed: 5, length };
-        for call in [call(Kind::Put, 1, 0), call(Kind::Show, 0, 1)] {
+        let bytes = Bytes {
+            seed: 5,
+            length,
+            term: None,
+        };
+        let date = date(2024, 2, 29 + (length % 2) as u32);
+        for call in [
+            call(Kind::Put, 1, 0),
+            call(Kind::Show, 0, 1),
+            dated(0, 1, date),
+        ] {
             one(&whole, call.with_bytes(bytes), margin, counts)?;
         }
     }

@@ -1,6 +1,7 @@
 //! The C functions (include/pagunlit.h), and the slices that they are lent.
 
 use bitwise::blocks::Figures;
+use bitwise::calendar::Date;
 use bitwise::call::{Call, Kind};
 use bitwise::card::{self, Answer};
 
@@ -95,6 +96,9 @@ mod c {
             sheet: u32) -> Outcome;
         pub fn pagunlit_show(shape: Shape, map: *const u64, maplen: usize, catalogue: *const Entry, cataloguelen: usize,
             card: *const u8, cardlen: usize, sheet: u32, place: u32, buffer: *mut u8, bufferlen: usize) -> Outcome;
+        pub fn pagunlit_show_dated(shape: Shape, map: *const u64, maplen: usize, catalogue: *const Entry, cataloguelen: usize,
+            card: *const u8, cardlen: usize, sheet: u32, place: u32, year: u32, month: u32, day: u32, buffer: *mut u8,
+            bufferlen: usize) -> Outcome;
         pub fn pagunlit_summary_build(shape: Shape, map: *const u64, maplen: usize, summary: *mut u32, summarylen: usize)
             -> Outcome;
         pub fn pagunlit_summary_check(shape: Shape, map: *const u64, maplen: usize, summary: *const u32, summarylen: usize)
@@ -222,6 +226,11 @@ impl Library {
                 Kind::Resume => c::pagunlit_resume(shape, map, w, sheets, c, sheet),
                 Kind::Release => c::pagunlit_release(shape, map, w, sheets, c, sheet),
                 Kind::Show => c::pagunlit_show(shape, map, w, sheets, c, card, length, sheet, number, bytes, count),
+                Kind::ShowDated => {
+                    let Date { year, month, day } = call.date;
+                    c::pagunlit_show_dated(
+                        shape, map, w, sheets, c, card, length, sheet, number, year, month, day, bytes, count)
+                }
                 Kind::Standing => c::pagunlit_standing(shape, map, w, sheets, c, sheet),
                 form => unreachable!("{form:?} is lent the summary"),
             }

@@ -11,6 +11,8 @@ mod beside;
 mod caught;
 mod counts;
 mod damage;
+mod dated;
+mod dates;
 mod doses;
 mod figures;
 mod flaws;
@@ -99,6 +101,17 @@ const GROUPS: &[Group] = &[
             part("whole-cards", |_, margin, counts| spaces::whole_cards(margin, counts), 1, 0, 0),
         ],
         report: |counts| counts.report_kinds(placed::expected()),
+    },
+    // Dated shows of every day, date and term.
+    Group {
+        parts: &[
+            part("dated", dated::dated, 5000, 500, 300),
+            part("every-day", |_, margin, counts| dated::every_day(margin, counts), 1, 0, 0),
+            part("edges", |_, margin, counts| dated::edges(margin, counts), 1, 0, 0),
+            part("dates", |_, margin, counts| dated::dates(margin, counts), 1, 0, 0),
+            part("all-dates", |_, margin, counts| dated::all_numbers(margin, counts), 0, 0, 0),
+        ],
+        report: |counts| counts.report_kinds(dated::expected()),
     },
     // Offers and accepts of all runs.
     Group {

@@ -41,6 +41,7 @@ fn slice(random: &mut Random, length: usize) -> Bytes {
     Bytes {
         seed: random.within(0, 1000) as u32 / 4,
         length: if random.chance(1, 8) { other } else { length },
+        term: None,
     }
 }
 

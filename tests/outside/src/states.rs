@@ -4,12 +4,13 @@ use crate::counts::Counts;
 use crate::damage::MARKS;
 use crate::lengths::one;
 use bitwise::blocks::figures;
-use bitwise::call::{accept, call, placed, Call, Kind, CALLS, PAYLOAD};
+use bitwise::calendar::date;
+use bitwise::call::{accept, call, dated, placed, Bytes, Call, Kind, CALLS, PAYLOAD};
 use bitwise::card::{entry, sealed, Card};
 use bitwise::summary::build;
 
 /// Every map, free count, entry and call of cards of up to `most` blocks and one sheet, with the map's own summary, and for
-/// complete and show every choice of blank, sound and unsound blocks.
+/// complete and the shows every choice of blank, sound and unsound blocks.
 pub fn states(most: usize, margin: usize, counts: &mut Counts) -> Result<(), String> {
     for n in 1..=most {
         for map in 0..2 << n {
@@ -54,7 +55,7 @@ fn calls_of(kind: Kind, n: u32) -> Vec<Call> {
     let numbers = 0..=n + 1;
     match kind {
         // Of these every choice of blocks is tried below.
-        Kind::Complete | Kind::Show => Vec::new(),
+        Kind::Complete | Kind::Show | Kind::ShowDated => Vec::new(),
         Kind::Fresh => vec![call(kind, 0, n)],
         Kind::ReservePlaced => numbers
             .map(|number| placed(0, number, figures(number / 2, n, number)))
@@ -68,18 +69,22 @@ fn calls_of(kind: Kind, n: u32) -> Vec<Call> {
     }
 }
 
-/// Complete and show, of every choice of blank, sound and unsound blocks.
+/// Complete and the shows, of every choice of blank, sound and unsound blocks.
 fn on_all_blocks(mut card: Card, margin: usize, counts: &mut Counts) -> Result<(), String> {
     let n = card.n as u32;
     let start = card.sheets[0].start;
     let held = matches!(card.sheets[0].mark, 0x4f | 0x43) && card.sheets[0].length > 0;
     let contents = if held { 3usize.pow(n) } else { 1 };
+    // Days 1 and 2 are 2 and 3 January 2000.
+    let term = Some((1, 2));
+    let payload = Bytes { term, ..PAYLOAD }.contents();
+    let dates = [date(2000, 1, 3), date(2000, 1, 1), date(2000, 1, 32)];
     for content in 0..contents {
         for b in 0..n {
             let place = b.wrapping_sub(start);
             let mut block = match content / 3usize.pow(b) % 3 {
                 0 => vec![0; 512],
-                _ => sealed(0, place, &PAYLOAD.contents()),
+                _ => sealed(0, place, &payload),
             };
             if content / 3usize.pow(b) % 3 == 2 {
                 block[7 + 124 * b as usize] ^= 1;
@@ -89,6 +94,10 @@ fn on_all_blocks(mut card: Card, margin: usize, counts: &mut Counts) -> Result<(
         one(&card, call(Kind::Complete, 0, 0), margin, counts)?;
         for place in 0..=n {
             one(&card, call(Kind::Show, 0, place), margin, counts)?;
+            let dates = if place == 0 { &dates[..] } else { &dates[..1] };
+            for date in dates {
+                one(&card, dated(0, place, *date), margin, counts)?;
+            }
         }
     }
     Ok(())

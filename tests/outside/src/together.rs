@@ -2,10 +2,12 @@
 //! is changed, or the call is, until the rows hold. Which of them the answer names shows their order.
 
 use crate::counts::Counts;
+use crate::dates::{date_outside, no_day, no_month, no_year};
 use crate::generate::accepted;
 use crate::lengths::one;
 use bitwise::blocks::{survey, words_of, FREE, TAKEN};
-use bitwise::call::{Bytes, Call, Kind, CALLS};
+use bitwise::calendar::LAST_DAY;
+use bitwise::call::{Bytes, Call, Kind, CALLS, PAYLOAD};
 use bitwise::card::{entry, sealed, Card, Entry};
 use bitwise::random::Random;
 use bitwise::rows::{pairs, Row};
@@ -87,7 +89,7 @@ fn fill(card: &mut Card, random: &mut Random) {
         for place in 0..held.length {
             let b = (held.start + place) as usize;
             card.map[b] = TAKEN;
-            let payload = [random.draw() as u8; 496];
+            let payload = payload(place, random);
             card.bytes[512 * b..512 * b + 512].copy_from_slice(&sealed(
                 sheet as u32,
                 place,
@@ -97,6 +99,18 @@ fn fill(card: &mut Card, random: &mut Random) {
     }
     card.free = card.map.iter().filter(|&&block| block == FREE).count();
     card.summary = build(&card.map, card.n);
+}
+
+/// A payload of a place. That of place 0 starts with a term of some days.
+fn payload(place: u32, random: &mut Random) -> Vec<u8> {
+    let first = random.within(1, LAST_DAY as usize - 9) as u32;
+    let term = (first, first + random.within(0, 9) as u32);
+    let bytes = Bytes {
+        seed: random.within(2, 1000) as u32,
+        term: (place == 0).then_some(term),
+        ..PAYLOAD
+    };
+    bytes.contents()
 }
 
 /// The summary is that of the map as it is now, if it has the length for it.
@@ -111,10 +125,11 @@ fn build_again(card: &mut Card) {
 fn step(row: Row) -> u32 {
     match row {
         Row::Absent | Row::Paused | Row::PausedEmpty | Row::Open | Row::Complete => 0,
-        Row::NoPlace | Row::NoBlocks | Row::SliceLength | Row::Unsound => 1,
+        Row::NoPlace | Row::NoBlocks | Row::SliceLength => 1,
+        Row::Unsound | Row::UnsoundFirst => 1,
         Row::Blank | Row::NoFit | Row::NotNext | Row::RunNotFree => 2,
-        Row::NoStep | Row::BeforeAboveN => 2,
-        Row::FreeCount | Row::FromNotBefore => 3,
+        Row::NoStep | Row::BeforeAboveN | Row::NoYear | Row::NoMonth => 2,
+        Row::FreeCount | Row::FromNotBefore | Row::NoDay | Row::OutsideTerm => 3,
         Row::Damaged => 4,
         Row::Blocks => 5,
         Row::FreeAboveN => 6,
@@ -152,7 +167,19 @@ fn make_hold(row: Row, card: &mut Card, call: &mut Call, random: &mut Random) {
         Row::BeforeAboveN => {
             call.figures.before = random.one(&[card.n as u32 + 1, 262146, u32::MAX])
         }
-        Row::Unsound => spoil_block(card, *call, random),
+        Row::NoYear => call.date = no_year(call.date, random),
+        Row::NoMonth => call.date = no_month(call.date, random),
+        Row::NoDay => call.date = no_day(call.date, random),
+        Row::OutsideTerm => leave_term(card, call, random),
+        Row::UnsoundFirst => spoil_block(card, *call, 0, random),
+        Row::Unsound => {
+            let length = card.sheets[call.sheet as usize].length.max(1);
+            let place = match call.kind {
+                Kind::Complete => random.within(0, length as usize),
+                _ => call.number as usize,
+            };
+            spoil_block(card, *call, place, random)
+        }
         Row::Blank => empty_block(card, *call, random),
         Row::NoFit | Row::NotNext => leave_no_room(card, call, random),
         Row::RunNotFree => spoil_run(card, call, random),
@@ -230,13 +257,17 @@ fn damage_entry(card: &mut Card, call: Call, random: &mut Random) {
     }
 }
 
-/// A block of the call's sheet that is not sound: of show the block of the place wanted.
-fn spoil_block(card: &mut Card, call: Call, random: &mut Random) {
+/// A date outside the term of the call's sheet.
+fn leave_term(card: &Card, call: &mut Call, random: &mut Random) {
+    let term = card.term(card.sheets[call.sheet as usize]);
+    if let Some(date) = term.and_then(|term| date_outside(term, random)) {
+        call.date = date;
+    }
+}
+
+/// A block of the call's sheet that is not sound.
+fn spoil_block(card: &mut Card, call: Call, place: usize, random: &mut Random) {
     let e = card.sheets[call.sheet as usize];
-    let place = match call.kind {
-        Kind::Show => call.number as usize,
-        _ => random.within(0, e.length.max(1) as usize),
-    };
     let at = 512 * (e.start as usize + place);
     if let Some(block) = card.bytes.get_mut(at..at + 512) {
         block[random.one(&[3, 7, 8, 503, 507, 511])] ^= 1 << random.within(0, 8);

@@ -1,5 +1,5 @@
-//! Lists for the dated show (document 02, (m)): sheet, place, year, month and day. `put-term` is a put whose payload starts with
-//! two days. A line is a call, or with + what no call does.
+//! Lists for the dated show (document 02, (m)): sheet, place, year, month and day. `put-term` is a put whose payload starts
+//! with two days. A line is a call, or with + what no call does.
 
 pub(super) const LISTS: &[(&str, &str)] = &[
     ("dated show", DATED),

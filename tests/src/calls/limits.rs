@@ -117,13 +117,22 @@ const EACH_WITH_SUMMARY: &str = "
     summary-check
 ";
 
+/// A dated show of a Complete sheet, and of none.
+const EACH_DATED: &str = "
+    show-dated 1 0 2024 2 29
+    show-dated 1 0 2024 2 28
+    show-dated 4 0 2024 2 29
+";
+
 /// Too few or too many words, entries and bytes lent, and shapes outside their limits, and at them.
-fn lent_and_shapes(each: &str) -> String {
-    let start = "
+fn lent_and_shapes(put: &str, each: &str) -> String {
+    let start = format!(
+        "
         reserve 1 1
-        put 1 0 1 496
+        {put}
         complete 1
-    ";
+    "
+    );
     let lent = [
         "1 4 35840",
         "3 4 35840",
@@ -147,7 +156,7 @@ fn lent_and_shapes(each: &str) -> String {
         "128 60",
         "70 69",
     ];
-    let mut text = on_70(start);
+    let mut text = on_70(&start);
     for lent in lent {
         text += &format!("+lend {lent}\n{each}");
     }
@@ -158,12 +167,16 @@ fn lent_and_shapes(each: &str) -> String {
 }
 
 pub(super) fn row_1() -> String {
-    lent_and_shapes(EACH)
+    lent_and_shapes("put 1 0 1 496", EACH)
+}
+
+pub(super) fn row_1_dated() -> String {
+    lent_and_shapes("put-term 1 0 8825 8831", EACH_DATED)
 }
 
 /// Besides, too few or too many numbers of a summary lent: none, one less and one more, and those of one word and of three.
 pub(super) fn row_1_with_summary() -> String {
-    let mut text = lent_and_shapes(EACH_WITH_SUMMARY);
+    let mut text = lent_and_shapes("put 1 0 1 496", EACH_WITH_SUMMARY);
     for numbers in [0, 1, 3, 8, 10, 12, 21, 22, 9] {
         text += &format!("+summary {numbers}\n{EACH_WITH_SUMMARY}");
     }

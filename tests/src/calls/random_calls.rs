@@ -1,9 +1,12 @@
 //! Random calls.
 
-pub(super) const CALLS: usize = 700;
+pub(super) const CALLS: usize = 600;
 
 /// How many more there are whose map-changing calls are lent a summary.
 pub(super) const WITH_SUMMARY: usize = 200;
+
+/// How many more there are for dated shows.
+pub(super) const DATED: usize = 300;
 
 /// A number of blocks: mostly 0, 1 or 2, in 1 case of 16 one below 72.
 fn random_size(x: u64) -> u64 {
@@ -38,31 +41,6 @@ fn random_start(x: u64) -> u64 {
     }
 }
 
-/// A day of the first ten of 2024, of which the first has number 8,766.
-fn random_day(x: u64) -> u64 {
-    x % 10 + 1
-}
-
-/// A date of the first days of 2024, in 1 case of 16 another one, of which some do not exist.
-fn random_date(x: u64) -> String {
-    if x % 16 == 0 {
-        let (year, month, day) = (x / 16 % 103 + 1999, x / 2048 % 14, x / 32768 % 33);
-        return format!("{year} {month} {day}");
-    }
-    format!("2024 1 {}", random_day(x / 16))
-}
-
-/// A first day and a last one among the first days of 2024; in 1 case of 4 the last one is any.
-fn random_term(x: u64) -> String {
-    let first = 8765 + random_day(x);
-    let last = if x / 16 % 4 == 0 {
-        x / 64 % 36600
-    } else {
-        first + x / 64 % 6
-    };
-    format!("{first} {last}")
-}
-
 /// One of the calls of a list, for one of the four sheets or, in 1 case of 16, for none. Places are below 3.
 pub(super) fn random_call(x: u64) -> String {
     let sheet = if x % 16 == 0 { 4 } else { x % 4 };
@@ -82,15 +60,49 @@ pub(super) fn random_call(x: u64) -> String {
             let start = random_start(y / 16384);
             format!("accept {sheet} {start} {}", random_size(y))
         }
-        19..=29 if place == 0 => format!("put-term {sheet} 0 {}", random_term(z)),
         19..=37 => {
             let first = z / 8192 % 256;
             format!("put {sheet} {place} {first} {}", random_length(z))
         }
         38..=47 => format!("complete {sheet}"),
-        48..=52 => format!("show {sheet} {place} {}", random_length(z)),
-        53..=59 => format!("show-dated {sheet} {place} {}", random_date(z)),
+        48..=59 => format!("show {sheet} {place} {}", random_length(z)),
         60..=61 => format!("resume {sheet}"),
         _ => format!("standing {sheet}"),
+    }
+}
+
+/// A date of the first days of 2024, in 1 case of 8 another one, of which some do not exist.
+fn random_date(x: u64) -> String {
+    if x % 8 == 0 {
+        let (year, month, day) = (x / 16 % 103 + 1999, x / 2048 % 14, x / 32768 % 33);
+        return format!("{year} {month} {day}");
+    }
+    format!("2024 1 {}", x / 16 % 10 + 1)
+}
+
+/// A first day and a last one among the first days of 2024, of which the first has number 8,766; in 1 case of 4 the last one
+/// is any.
+fn random_term(x: u64) -> String {
+    let first = 8766 + x % 4;
+    let last = if x / 16 % 4 == 0 {
+        x / 64 % 36600
+    } else {
+        first + x / 64 % 8
+    };
+    format!("{first} {last}")
+}
+
+/// A call of a list that leads to dated shows, for one of the four sheets, which have one place or two.
+pub(super) fn random_dated_call(x: u64) -> String {
+    let sheet = x % 4;
+    let y = x / 1024;
+    match x / 16 % 32 {
+        0..=3 => format!("reserve {sheet} {}", y % 4 / 3 + 1),
+        4 => format!("release {sheet}"),
+        5..=12 => format!("put-term {sheet} 0 {}", random_term(y)),
+        13..=15 => format!("put {sheet} 1 {} 496", y % 256),
+        16..=19 => format!("complete {sheet}"),
+        20 => format!("show {sheet} {} 496", y % 2),
+        _ => format!("show-dated {sheet} {} {}", y % 5 / 3, random_date(y / 8)),
     }
 }

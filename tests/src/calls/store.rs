@@ -33,8 +33,8 @@ fn payload(first: u32, length: usize) -> Vec<u8> {
 /// A put whose payload starts with two days (document 02, (m)): sheet, place, the first day and the last.
 const PUT_TERM: &str = "put-term";
 
-/// The payload that a line's put brings. A put has its first byte and its length behind sheet and place; a put of a term has the
-/// two days there, 4 bytes each, and the other bytes are those of a payload whose first is 0.
+/// The payload that a line's put brings. A put has its first byte and its length behind sheet and place; a put of a term has
+/// the two days there, 4 bytes each, and the other bytes are those of a payload whose first is 0.
 fn brought(word: &str, numbers: &[u32]) -> Vec<u8> {
     match (word, numbers) {
         ("put", [_, _, first, length]) => payload(*first, *length as usize),
