@@ -53,20 +53,20 @@ LIBRARY = {
                     ' bool-lawful uint-makes uint-vals uint-tells uint-lawful',
     'denote.Builtin': 'u8 u16 u32 u64 usize',
     'denote.Array': 'Array array-vals array-tells array-makes array-lawful',
-    'denote.Ref': 'RefT now',
+    'denote.Ref': 'RefT now ShrRef ptr-vals shr-tells shr-copy',
     'denote.Slice': 'sliceTy sliceVal MutSlice ShrSlice Room finally heres codedHoleys at-slice slice-vals mut-slice-tells'
                     ' shr-slice-tells shr-slice-copy',
     'denote.Lend': 'Held',
     'denote.Index': 'row place-is elem-out elem-back elem-put opens-slice closes-slice looks-slice shuts-slice',
-    'denote.Signature': 'Signature plain mutSlice shrSlice',
+    'denote.Signature': 'Signature plain mutSlice shrSlice shrRef',
     'denote.Steps': 'only owned peeks heard nothing',
     'denote.Triple.Entry': 'onEntry Args Res',
     'denote.Triple.Spec': 'Meets tripleOf',
     'denote.Triple.Statement': 'Contract Triple',
     'denote.Triple.Call': 'calls-at',
     'denote.Triple.Clauses': 'Clauses Ended AtExit atExit ensured lasts closing',
-    'denote.Triple.Walked': 'says needs Stays stay-slice stay-none-slice stay-none walkOf goes-slice goes-none-slice goes-none'
-                            ' Walks ends-at walked walk-meets',
+    'denote.Triple.Walked': 'says needs Stays stay-slice stay-none-slice stay-none-ref stay-none walkOf goes-slice goes-none-slice'
+                            ' goes-none-ref goes-none Walks ends-at walked walk-meets',
     'denote.Exit': 'yes',
 }
 
@@ -205,27 +205,9 @@ function {self.keys} = record {{
         lifetimes = lifetimes if self.slices else ''
         text = f'''  module _ {{M : Type 1}} (𝓤 : URA M) (H : Heap 𝓤) (A : Atoms 𝓤) (W : Given 𝓤 H A){self.over}{lifetimes}
       {' '.join(f'({p.var} : {p.denotes})' for p in self.params)}
-      {' '.join([p.known for p in self.params] + self.required())} where
+      {' '.join([p.known for p in self.params if p.known] + self.required())} where
 '''
-        for p in self.params:
-            v = p.var
-            if p.slice:
-                text += f'''    abbrev s-{v} : Val
-    s-{v} = sliceVal ({v} .ptr) (length (now {v}))
-
-    abbrev at-{v} : GName → {p.speaks} → RefT ({p.speaks})
-    at-{v} δ l = record {{ ptr = {v} .ptr; name = δ; now = l }}
-
-'''
-            else:
-                text += f'''    abbrev m-{v} : Val
-    m-{v} = only ({p.type.vals} {v})
-
-    typed-{v} : Holds (hasTy {p.type.mir} m-{v}) × WT m-{v}
-    typed-{v} = {p.type.typed} {v} _ is-{v} .0
-
-'''
-        return text + f'''    abbrev args : {product([p.denotes for p in self.params])}
+        return text + ''.join(p.in_hand() for p in self.params) + f'''    abbrev args : {product([p.denotes for p in self.params])}
     args = {nest([p.var for p in self.params])}
 
     abbrev vals : {product(['List Val'] * len(self.params))}
@@ -295,7 +277,7 @@ function {self.keys} = record {{
         ps, run = self.params, f'(WpFn 𝓤 H (𝓣 .C) (𝓣 .Λ) (function {self.keys}))'
         known = ' '.join('known-' + c.label for c in self.callees)
         picked = ' '.join([f'({component(x, p.lifetime)})' for x in ('κs', 'qs') for p in self.slices]
-                          + [f'({component("a", i)})' for i in range(len(ps))] + [p.learned(i) for i, p in enumerate(ps)])
+                          + [f'({component("a", i)})' for i in range(len(ps))] + [x for x in (p.learned(i) for i, p in enumerate(ps)) if x])
         begins = 'via 𝓤 _ (fst∗ 𝓤 _ (emp 𝓤)) ('
         if self.requires:
             asked = self.requires([f'({component("a", i)})' for i in range(len(ps))])

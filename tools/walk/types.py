@@ -2,6 +2,8 @@
 
 The words are the logic's. A type has a row (its meaning), a denotation (what a contract speaks of), its MIR, and laws
 about the machine value of a denotation."""
+import re
+
 from walk.text import component, subscript
 from walk.wrong import Wrong
 
@@ -11,7 +13,7 @@ WIDTHS = {'u8': 8, 'u16': 16, 'u32': 32, 'u64': 64, 'usize': 64}
 class Type:
     """A type by value: a number, a bool, nothing, a declared struct, an array of such, or any type (structs[name] is None)."""
 
-    def __init__(self, name, structs):
+    def __init__(self, name, structs, behind=False):
         self.name = name
         if name in WIDTHS:
             width = f'w{WIDTHS[name]}'
@@ -29,7 +31,7 @@ class Type:
             self.vals, self.tells = 'nothing-vals', 'nothing-tells'
             self.makes, self.typed = '(nothing-makes 𝓤 H A W)', '(nothing-lawful 𝓤 H A W .typed)'
         elif name.startswith('['):
-            self.array(structs)
+            self.array(structs, behind)
         elif name in structs and structs[name] is None:
             self.row, self.denotes, self.mir = f'(rowOf {name})', f'(denotes {name})', f'(mirOf {name})'
             self.vals, self.tells = f'(valsOf {name})', f'({name} .tells)'
@@ -46,17 +48,20 @@ class Type:
         else:
             raise Wrong(f'no type {name}: it is no number, no bool, and no `struct` or `value` of the crate')
 
-    def array(self, structs):
+    def array(self, structs, behind):
+        """by value, or behind a reference, where no law of its machine value is wanted"""
         self.of, _, self.count = self.name[1:-1].partition('; ')
         e = Type(self.of, structs)
-        if not self.count.isdigit() or not hasattr(e, 'lawful'):
+        if not self.count.isdigit() or not (behind or hasattr(e, 'lawful')):
             raise Wrong(f'no type {self.name}: an array by value is `[STRUCT; NUMBER]`, and a slice is `&[..]` or `&mut [..]`')
         self.row, self.denotes = f'(Array {e.row} {self.count})', f'(List {e.denotes})'
         self.mir = f'(tyArray {e.mir} {self.count})'
+        self.element = f'(tyArray {e.element} {self.count})'
+        if behind:
+            return
         self.vals, self.tells = f'(array-vals {e.vals})', f'(array-tells {e.row} {e.vals} {e.tells} {self.count})'
         self.makes = f'(array-makes 𝓤 H A W {e.row} {e.makes} {self.count})'
         self.typed = f'(array-lawful 𝓤 H A W {e.row} {e.lawful} {self.count} .typed)'
-        self.element = f'(tyArray {e.element} {self.count})'
 
     def owns(self, x, known):
         """the step that makes what the value x owns, from what is known of its machine value"""
@@ -101,6 +106,25 @@ class Param:
             self.now, self.machine = v, f'm-{v}'
             self.known = f'(is-{v} : Is {self.row} {v} ({self.type.vals} {v}))'
             self.fits = f'typed-{v}'
+
+    def in_hand(self):
+        """what a walk names of it at the entry"""
+        v = self.var
+        if self.slice:
+            return f'''    abbrev s-{v} : Val
+    s-{v} = sliceVal ({v} .ptr) (length (now {v}))
+
+    abbrev at-{v} : GName → {self.speaks} → RefT ({self.speaks})
+    at-{v} δ l = record {{ ptr = {v} .ptr; name = δ; now = l }}
+
+'''
+        return f'''    abbrev m-{v} : Val
+    m-{v} = only ({self.type.vals} {v})
+
+    typed-{v} : Holds (hasTy {self.type.mir} m-{v}) × WT m-{v}
+    typed-{v} = {self.type.typed} {v} _ is-{v} .0
+
+'''
 
     # ---- in a signature, and in what a walk says of a parameter from the entry to the exit
 
@@ -177,6 +201,57 @@ class Param:
         return f'use1 W ({two}) ({law} .twice {self.var} ({self.machine} ∷ []))'
 
 
+class ArrayRef(Param):
+    """A parameter `&[T; N]`: it is read as a slice is, and its machine value is a pointer alone."""
+
+    def __init__(self, name, text, structs, lifetime):
+        self.name, self.text, self.var, self.slice = name, f'{name}: {text}', 'x-' + name.replace('_', '-'), 'shr'
+        self.type = Type(text[1:], structs, behind=True)
+        self.row, self.speaks, v = self.type.row, self.type.denotes, self.var
+        self.lifetime, self.κ, self.q = lifetime, 'κ' + subscript(lifetime), 'q' + subscript(lifetime)
+        self.denotes, self.now, self.machine = f'RefT {self.speaks}', f'(now {v})', f's-{v}'
+        self.known, self.fits, self.token = '', '(tt, tt)', f'‵ (flft {self.κ} {self.q})'
+
+    def in_hand(self):
+        return f'''    abbrev s-{self.var} : Val
+    s-{self.var} = vptr ({self.var} .ptr .0) ({self.var} .ptr .1)
+
+'''
+
+    def slot(self, lifetime=None, slice=None):
+        return f'shrRef {self.lifetime if lifetime is None else lifetime} tt (λ _. {self.row})'
+
+    def stays(self):
+        return f'stay-none-ref ({self.lifetime} ∷ []) tt (plain (λ _. {self.row})) yes'
+
+    def goes(self, lifetimes):
+        return f'goes-none-ref 𝓤 H A W {lifetimes} ({self.lifetime} ∷ []) tt (plain (λ _. {self.row})) yes'
+
+    def spelled(self):
+        return 'ptr-vals'
+
+    def told(self):
+        return f'shr-tells (named {self.lifetime}) ({component("κs", self.lifetime)}) {self.row}'
+
+    def learned(self, i):
+        return ''
+
+    def mir(self):
+        return f'(tyRef (named {self.lifetime}) imm {self.type.element})'
+
+    def row_type(self):
+        return f'ShrRef (named {self.lifetime}) {self.κ} {self.row}'
+
+    def shared(self, lifetime=None):
+        number = self.lifetime if lifetime is None else lifetime
+        return f'ShrRef (named {number}) {self.κ} {self.row} .own {self.var} ({self.machine} ∷ [])'
+
+    def copied(self):
+        two = f'‵ ({self.shared()}) ⊛ ‵ ({self.shared()})'
+        law = f'shr-copy 𝓤 H A W (named {self.lifetime}) {self.κ} {self.row}'
+        return f'use1 W ({two}) ({law} .twice {self.var} ({self.machine} ∷ []))'
+
+
 def parameters(text, structs):
     """the parameters of a list, as the source writes it"""
     found, lifetime = [], 0
@@ -184,6 +259,7 @@ def parameters(text, structs):
         name, _, type = piece.strip().partition(':')
         if not type:
             raise Wrong(f'the parameter `{piece.strip()}` has no type')
-        found.append(Param(name.strip(), type.strip(), structs, lifetime))
+        kind = ArrayRef if re.fullmatch(r'&\[.*;.*\]', type.strip()) else Param
+        found.append(kind(name.strip(), type.strip(), structs, lifetime))
         lifetime += bool(found[-1].slice)
     return found

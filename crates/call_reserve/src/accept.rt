@@ -1,6 +1,6 @@
 // Accept: Absent becomes Open at the start that is asked for, as a reserve does at the start that it finds.
 ghost use mathlib.Core.Path.{_≡_};
-ghost use Rattle.refusals.specs.Lent.{lentBeside};
+ghost use Rattle.refusals.specs.Lent.{lentWithin};
 ghost use Rattle.refusals.specs.Effects.{acceptOut, acceptMap, acceptSummary, acceptCard};
 use crate::take::take;
 use catalogue::Entry;
@@ -19,11 +19,13 @@ pub fn accept(
     c: usize,
     entry: Entry,
     sheet: u32,
+    held: u64,
+    limits: &[u32; 8],
     start: u32,
     k: u32,
 ) -> Out
-    ensures { λ r. let q = lentBeside guided (now (summary .entry)) n free (now (map .entry)) (now (card .entry)) c entry sheet
-        in
+    ensures { λ r. let q = lentWithin held (now (limits .entry)) guided (now (summary .entry)) n free (now (map .entry))
+        (now (card .entry)) c entry sheet in
         ⌜ (r ≡ acceptOut q start k)
         × (now (map .exit) ≡ acceptMap q start k)
         × (now (summary .exit) ≡ acceptSummary q start k)
@@ -39,6 +41,8 @@ pub fn accept(
         c,
         entry,
         sheet,
+        held,
+        limits,
         start,
         k,
     ) {

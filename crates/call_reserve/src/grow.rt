@@ -1,6 +1,6 @@
 // Grow: the m blocks after an Open extent are added, taken and filled with zeros.
 ghost use mathlib.Core.Path.{_≡_};
-ghost use Rattle.refusals.specs.Lent.{lentBeside};
+ghost use Rattle.refusals.specs.Lent.{lentWithin};
 ghost use Rattle.refusals.specs.Effects.{growOut, growMap, growSummary, growCard};
 use crate::take::occupy;
 use catalogue::Entry;
@@ -21,16 +21,31 @@ pub fn grow(
     c: usize,
     entry: Entry,
     sheet: u32,
+    held: u64,
+    limits: &[u32; 8],
     m: u32,
 ) -> Out
-    ensures { λ r. let q = lentBeside guided (now (summary .entry)) n free (now (map .entry)) (now (card .entry)) c entry sheet
-        in
+    ensures { λ r. let q = lentWithin held (now (limits .entry)) guided (now (summary .entry)) n free (now (map .entry))
+        (now (card .entry)) c entry sheet in
         ⌜ (r ≡ growOut q m)
         × (now (map .exit) ≡ growMap q m)
         × (now (summary .exit) ≡ growSummary q m)
         × (now (card .exit) ≡ growCard q m) ⌝ }
 {
-    match grow_ruling(n, free, map, guided, summary, card, c, entry, sheet, m) {
+    match grow_ruling(
+        n,
+        free,
+        map,
+        guided,
+        summary,
+        card,
+        c,
+        entry,
+        sheet,
+        held,
+        limits,
+        m,
+    ) {
         Ruling::Refused(row) => refusal(free, entry, row),
         Ruling::At(end) => {
             occupy(n, map, guided, summary, card, end, m);

@@ -1,6 +1,8 @@
 // Offer: where a plain reserve would start now, and the length, by the same ruling. It changes nothing.
 ghost use mathlib.Core.Path.{_≡_};
-ghost use Rattle.refusals.specs.Lent.{lent};
+ghost use mathlib.Core.Bool.{false};
+ghost use mathlib.Core.List.{[]};
+ghost use Rattle.refusals.specs.Lent.{lentWithin};
 ghost use Rattle.refusals.specs.Effects.{offerAnswer};
 use catalogue::Entry;
 use catalogue_standings::Answer;
@@ -16,9 +18,12 @@ pub fn offer(
     c: usize,
     entry: Entry,
     sheet: u32,
+    held: u64,
+    limits: &[u32; 8],
     k: u32,
 ) -> Answer
-    ensures { λ r. let q = lent n free (now (map .entry)) (now (card .entry)) c entry sheet in
+    ensures { λ r. let q = lentWithin held (now (limits .entry)) false [] n free (now (map .entry)) (now (card .entry)) c entry
+        sheet in
         ⌜ r ≡ offerAnswer q k ⌝ }
 {
     let figures = Figures {
@@ -37,6 +42,8 @@ pub fn offer(
         c,
         entry,
         sheet,
+        held,
+        limits,
         k,
         figures,
     ) {

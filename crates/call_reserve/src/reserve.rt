@@ -1,6 +1,6 @@
 // Reserve: Absent becomes Open at the least fit within the figures.
 ghost use mathlib.Core.Path.{_≡_};
-ghost use Rattle.refusals.specs.Lent.{lentBeside};
+ghost use Rattle.refusals.specs.Lent.{lentWithin};
 ghost use Rattle.refusals.specs.Placement.{placed};
 ghost use Rattle.refusals.specs.Effects.{reserveOut, reserveMap, reserveSummary, reserveCard};
 use crate::take::take;
@@ -21,11 +21,13 @@ pub fn reserve(
     c: usize,
     entry: Entry,
     sheet: u32,
+    held: u64,
+    limits: &[u32; 8],
     k: u32,
     figures: Figures,
 ) -> Out
-    ensures { λ r. let q = lentBeside guided (now (summary .entry)) n free (now (map .entry)) (now (card .entry)) c entry sheet
-        in
+    ensures { λ r. let q = lentWithin held (now (limits .entry)) guided (now (summary .entry)) n free (now (map .entry))
+        (now (card .entry)) c entry sheet in
         ⌜ (r ≡ reserveOut q k (placed figures))
         × (now (map .exit) ≡ reserveMap q k (placed figures))
         × (now (summary .exit) ≡ reserveSummary q k (placed figures))
@@ -41,6 +43,8 @@ pub fn reserve(
         c,
         entry,
         sheet,
+        held,
+        limits,
         k,
         figures,
     ) {

@@ -1,15 +1,18 @@
 -- What the rows of accept and its effects say: the verdict in each case, and what the call then hands back and leaves.
 -- Assumes nothing.
 use mathlib.Core.Path.{_≡_}
-use mathlib.Core.List.{List}
+use mathlib.Core.Bool.{Bool}
+use mathlib.Core.List.{List, _∷_}
 use Prim.Native.Nat.{ℕ, _-_}
 use borrow.Author.Tests.{ltb-false, not-false}
 use Rattle.map_blocks.specs.Blocks.{free}
+use Rattle.catalogue_wings.specs.Wings.{wingOf}
 use Rattle.catalogue_standings.specs.Rows.{Verdict, accepted, refused, settle}
 use Rattle.refusals.specs.Effects.{givingVerdict, runVerdict, acceptVerdict, acceptOut, acceptMap, acceptCard}
 use Rattle.refusals.specs.Effects.{acceptSummary}
 use Rattle.refusals.specs.Lent.{Lent}
-use Rattle.refusals.specs.Table.{on, accept, runRows, tableOf}
+use Rattle.refusals.specs.Shares.{overLimit}
+use Rattle.refusals.specs.Table.{on, accept, limitRow, runRows, tableOf}
 use Rattle.refusals.specs.Views.{viewOn}
 use Rattle.refusals.specs.declared.Out.{Out}
 use Rattle.refusals.proofs.Beginnings.{giving-then}
@@ -23,17 +26,23 @@ module _ (q : Lent) (start k : ℕ) where
   abbrev pub acceptVerdictOn : Verdict
   acceptVerdictOn = acceptVerdict q start k
 
-  pub verdict-behind : acceptVerdictOn ≡ settle (givingVerdict q k) (runVerdict 17 (free (q .map)) (q .n) (q .spare) start k)
-      refused
+  -- the limit of the sheet's wing is passed
+  abbrev pub over : Bool
+  over = overLimit (q .limits) (wingOf (q .sheet)) (q .held) k
+
+  abbrev pub run : Verdict
+  run = runVerdict 17 over (free (q .map)) (q .n) (q .spare) start k
+
+  pub verdict-behind : acceptVerdictOn ≡ settle (givingVerdict q k) run refused
   unfolding acceptVerdict runVerdict viewOn tableOf
-  verdict-behind = giving-then q k (runRows 17 (viewOf q) start k)
+  verdict-behind = giving-then q k (limitRow (viewOf q) (q .limits) k ∷ runRows 17 (viewOf q) start k)
 
   -- ---- where the blocks of an accepted call lie
 
   pub accept-room : acceptVerdictOn ≡ accepted → Room q start k
   unfolding acceptVerdict viewOn tableOf
   accept-room h =
-      let rows = tableOf (viewOf q) (on (q .sheet) (accept start k)) in
+      let rows = tableOf (viewOf q) (on (q .sheet) (accept (q .limits) start k)) in
       record {
         sizes = sized q (not-false _ (clear 1 rows h .0));
         guides = and-left _ (lengthsFit q) (not-false _ (clear 1 rows h .0));

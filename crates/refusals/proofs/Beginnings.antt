@@ -1,10 +1,10 @@
 -- What the first rows say of a call that gives blocks to an Absent sheet, and of one that adds blocks to an Open one: the
 -- verdict in each case, and what comes of the rows behind them.
 -- Assumes nothing.
-use mathlib.Core.Path.{_≡_, _∙_}
+use mathlib.Core.Path.{_≡_, refl, _∙_}
 use mathlib.Core.List.{List, []}
 use mathlib.Core.Bool.{true}
-use Prim.Native.Nat.{ℕ}
+use Prim.Native.Nat.{ℕ, _<_}
 use native.Mathlib.Omega.{arith}
 use borrow.Author.Tests.{eq-eqb, ne-eqb, eqb-false, not-false}
 use Rattle.map_blocks.specs.Blocks.{free}
@@ -21,13 +21,23 @@ use Rattle.refusals.specs.Effects.{givingVerdict, addingVerdict}
 use lib.ListN.{length}
 use Rattle.laws.proofs.Bools.{and-left}
 use Rattle.refusals.specs.Guides.{guideFits}
-use Rattle.refusals.specs.Lent.{Lent}
+use Rattle.refusals.specs.Lent.{Lent, within}
 use Rattle.refusals.specs.Table.{opening, giving, adding}
 use Rattle.refusals.specs.Views.{viewOn}
 use Rattle.refusals.proofs.Admitted.{absent-else, absent-passes, open-else, open-passes}
-use Rattle.refusals.proofs.Lent.{Sized, standing, first, lengthsFit, sized}
+use Rattle.refusals.proofs.Lent.{Sized, standing, first, lengthsFit, sized, below-last}
 use Rattle.refusals.proofs.Room.{viewOf, only-open}
 use Rattle.refusals.proofs.Rows.{clear}
+
+-- these rows read nothing of wings and limits
+module _ (held : ℕ) (limits : List ℕ) (q : Lent) (k : ℕ) where
+  pub giving-within : givingVerdict q k ≡ givingVerdict (within held limits q) k
+  unfolding givingVerdict viewOn
+  giving-within = refl
+
+  pub adding-within : addingVerdict q k ≡ addingVerdict (within held limits q) k
+  unfolding addingVerdict viewOn
+  adding-within = refl
 
 -- the verdict of any rows behind those that came first
 abbrev pub behind : Verdict → List Row → Verdict
@@ -77,6 +87,7 @@ module _ (q : Lent) (k : ℕ) where
     pub sizes : Sized q
     pub guides : guideFits (q .guided) (q .summary) (length (q .map)) ≡ true
     pub some : k ≡ 0 → ⊥
+    pub below : q .sheet < 1024
 
   pub given : givingVerdict q k ≡ accepted → Given
   unfolding givingVerdict viewOn
@@ -84,6 +95,7 @@ module _ (q : Lent) (k : ℕ) where
     sizes = sized q (not-false _ (clear 1 (givingRows []) h .0));
     guides = and-left _ (lengthsFit q) (not-false _ (clear 1 (givingRows []) h .0));
     some = eqb-false k 0 (clear 3 (givingRows []) h .0);
+    below = below-last q (not-false _ (clear 1 (givingRows []) h .0)) (clear 2 (givingRows []) h .0);
   }
 
   -- ---- an Open sheet
@@ -123,6 +135,7 @@ module _ (q : Lent) (k : ℕ) where
     pub sizes : Sized q
     pub guides : guideFits (q .guided) (q .summary) (length (q .map)) ≡ true
     pub some : k ≡ 0 → ⊥
+    pub below : q .sheet < 1024
     pub extent : Extent (q .n) (free (q .map)) (q .entry) (startOf (standing q)) (lengthOf (standing q))
 
   pub added : addingVerdict q k ≡ accepted → Added
@@ -133,6 +146,7 @@ module _ (q : Lent) (k : ℕ) where
         sizes = sized q (not-false _ (clear 1 rows h .0));
         guides = and-left _ (lengthsFit q) (not-false _ (clear 1 rows h .0));
         some = eqb-false k 0 (clear 3 rows h .0);
+        below = below-last q (not-false _ (clear 1 rows h .0)) (clear 2 rows h .0);
         extent = open-extent (q .n) (free (q .map)) (q .entry) (startOf (standing q)) (lengthOf (standing q))
             (only-open (standing q) (clear 4 rows h .0) (clear 5 rows h .0) (clear 6 rows h .0) (clear 8 rows h .0));
       }

@@ -1,19 +1,20 @@
 -- What the rows of grow and its effects say: the verdict in each case, and what the call then hands back and leaves.
 -- Assumes nothing.
 use mathlib.Core.Path.{_≡_, refl, sym, ap, _∙_}
-use mathlib.Core.Bool.{false}
-use mathlib.Core.List.{List}
+use mathlib.Core.Bool.{Bool, false}
+use mathlib.Core.List.{List, _∷_}
 use Prim.Native.Nat.{ℕ, _+_, _-_}
 use native.Mathlib.Omega.{arith}
 use Rattle.catalogue.specs.Entries.{openMark}
 use Rattle.map_blocks.specs.Blocks.{free}
-use Rattle.refusals.specs.Effects.{addingVerdict, runVerdict, growVerdict, entryOf, outOf, refusalOut, growOut, growMap}
-use Rattle.refusals.specs.Effects.{growCard}
+use Rattle.catalogue_wings.specs.Wings.{wingOf}
+use Rattle.refusals.specs.Effects.{addingVerdict, runVerdict, growVerdict, entryOf, outOf, refusalOut, growOut, growMap, growCard}
 use Rattle.refusals.specs.Effects.{growSummary}
 use Rattle.refusals.specs.Guides.{guideAfter}
 use Rattle.catalogue_standings.specs.Rows.{Verdict, accepted, refused, settle}
 use Rattle.catalogue_standings.specs.Standings.{startOf, lengthOf}
-use Rattle.refusals.specs.Table.{runRows, tableOf}
+use Rattle.refusals.specs.Shares.{overLimit}
+use Rattle.refusals.specs.Table.{limitRow, runRows, tableOf}
 use Rattle.refusals.specs.Views.{viewOn}
 use Rattle.refusals.proofs.Beginnings.{adding-then, added}
 use Rattle.refusals.specs.Lent.{Lent}
@@ -29,22 +30,25 @@ module _ (q : Lent) (m : ℕ) where
   abbrev pub end : ℕ
   end = q .entry .start + q .entry .length
 
-  at-end : (a b : ℕ) → a ≡ b → runVerdict 11 (free (q .map)) (q .n) (q .spare) a m ≡ runVerdict 11 (free (q .map)) (q .n)
-      (q .spare) b m
-  at-end a b e = ap (λ (t : ℕ). runVerdict 11 (free (q .map)) (q .n) (q .spare) t m) e
+  -- the limit of the sheet's wing is passed
+  abbrev pub over : Bool
+  over = overLimit (q .limits) (wingOf (q .sheet)) (q .held) m
 
-  pub verdict-behind : growVerdictOn q m ≡ settle (addingVerdict q m) (runVerdict 11 (free (q .map)) (q .n) (q .spare) end m)
-      refused
+  -- what the rows of the blocks from a start on say
+  abbrev pub run : ℕ → Verdict
+  run start = runVerdict 11 over (free (q .map)) (q .n) (q .spare) start m
+
+  pub verdict-behind : growVerdictOn q m ≡ settle (addingVerdict q m) (run end) refused
   unfolding growVerdict runVerdict viewOn tableOf
   verdict-behind =
-      adding-then q m (runRows 11 (viewOf q) (startOf (standing q) + lengthOf (standing q)) m) ∙ go (addingVerdict q m) refl
+      adding-then q m
+      (limitRow (viewOf q) (q .limits) m ∷ runRows 11 (viewOf q) (startOf (standing q) + lengthOf (standing q)) m) ∙ go (addingVerdict q m) refl
     where
       go : (v : Verdict) → addingVerdict q m ≡ v
-          → settle v (runVerdict 11 (free (q .map)) (q .n) (q .spare) (startOf (standing q) + lengthOf (standing q)) m) refused
-          ≡ settle v (runVerdict 11 (free (q .map)) (q .n) (q .spare) end m) refused
+          → settle v (run (startOf (standing q) + lengthOf (standing q))) refused ≡ settle v (run end) refused
       go accepted h =
           let x = added q m h .extent in
-          at-end (startOf (standing q) + lengthOf (standing q)) end (omega (arith, x .starts, x .lasts))
+          let same : startOf (standing q) + lengthOf (standing q) ≡ end = omega (arith, x .starts, x .lasts) in ap run same
       go (refused number) h = refl
 
 -- ---- what the call then hands back and leaves

@@ -1,13 +1,15 @@
 -- What the rows that a call begins with say of what it is lent, with the card.
 -- Assumes nothing.
 use mathlib.Core.Path.{_≡_, sym, ap, _∙_}
-use mathlib.Core.Bool.{Bool, true, _&&_}
+use mathlib.Core.Bool.{Bool, true, false, _&&_}
 use mathlib.Core.List.{[]}
-use Prim.Native.Nat.{ℕ, _*_}
-use lib.Dec.{eqb}
+use Prim.Native.Nat.{ℕ, _*_, _<_}
+use native.Mathlib.Omega.{arith}
+use borrow.Author.Tests.{leb-true, leb-false}
+use lib.Dec.{eqb, leb}
 use lib.ListN.{length}
 use Rattle.map_blocks.specs.Blocks.{free}
-use Rattle.laws.proofs.Bools.{and-right}
+use Rattle.laws.proofs.Bools.{and-left, and-right}
 use Rattle.refusals.specs.Guides.{guideFits}
 use Rattle.refusals.specs.Lent.{Lent}
 use Rattle.catalogue_standings.specs.Openings.{openedOf}
@@ -43,6 +45,16 @@ module _ (q : Lent) where
   pub sized : allFits ≡ true → Sized q
   sized e = card-fits (q .n) (q .spare) (length (q .map)) (q .sheets) (length (q .card))
       (and-right (guideFits (q .guided) (q .summary) (length (q .map))) lengthsFit e)
+
+  -- a sheet that has an entry is one of 1,024
+  pub below-last : allFits ≡ true → leb (q .sheets) (q .sheet) ≡ false → q .sheet < 1024
+  unfolding sheetsFit
+  below-last e h =
+      let shapes : Bool = shapeFits (q .n) (q .spare) (length (q .map)) in
+      let whole = and-right (guideFits (q .guided) (q .summary) (length (q .map))) lengthsFit e in
+      let sheets = and-right shapes (sheetsFit (q .sheets)) (and-left (shapes && sheetsFit (q .sheets)) _ whole) in
+      let most = leb-true (q .sheets) 1024 (and-right (leb 1 (q .sheets)) (leb (q .sheets) 1024) sheets) in
+      omega (arith, most, leb-false (q .sheets) (q .sheet) h)
 
   -- a call that is not lent the card
   abbrev pub allFitsAt : Bool

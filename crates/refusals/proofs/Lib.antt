@@ -20,6 +20,7 @@ pub mod Pause
 pub mod Resume
 pub mod Release
 pub mod Showing
+pub mod Shares
 pub mod Show
 pub mod ShowDated
 pub mod Standing

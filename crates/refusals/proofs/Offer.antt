@@ -51,7 +51,7 @@ module _ (q : Lent) (k : ℕ) where
   pub accepted-there : reserveVerdict q k plain ≡ accepted → acceptVerdict q (reserveStart q k plain) k ≡ accepted
   unfolding reserveVerdict acceptVerdict reserveStart viewOn tableOf
   accepted-there h =
-      let rows = tableOf (viewOf q) (on (q .sheet) (reserve k plain)) in
+      let rows = tableOf (viewOf q) (on (q .sheet) (reserve (q .limits) k plain)) in
       let g : Figures = figuresIn (q .n) plain in
       let f = free (q .map) in
       let fits : fit f 0 (q .n) 1 k (startAt (foundBy (q .guided) (q .summary) (q .map) g k)) ≡ true = found-fit (q .guided)
@@ -63,8 +63,9 @@ module _ (q : Lent) (k : ℕ) where
       (skip 7 _ _ _ (clear 7 rows h .0)
       (skip 8 _ _ _ (clear 8 rows h .0)
       (skip 3 _ _ _ (clear 3 rows h .0)
+      (skip 18 _ _ _ (clear 18 rows h .0)
       (skip 17 _ _ _ (ap not fits)
-      (skip 4 _ _ _ (clear 4 rows h .1 .0) none-left))))))))
+      (skip 4 _ _ _ (clear 4 rows h .1 .0) none-left)))))))))
 
   -- what the accept then hands back and leaves is what the reserve would have
   module _ (h : reserveVerdict q k plain ≡ accepted) where

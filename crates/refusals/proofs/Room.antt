@@ -60,7 +60,7 @@ module _ (q : Lent) (k : ℕ) (p : Placement) where
   pub reserve-room : reserveVerdictOn ≡ accepted → Room q reserveStartOn k
   unfolding reserveVerdict reserveStart viewOn tableOf
   reserve-room h =
-      let rows = tableOf (viewOf q) (on (q .sheet) (reserve k p)) in
+      let rows = tableOf (viewOf q) (on (q .sheet) (reserve (q .limits) k p)) in
       let g : Figures = figuresIn (q .n) p in
       let f = free (q .map) in
       let least : ℕ = startAt (foundBy (q .guided) (q .summary) (q .map) g k) in
@@ -79,7 +79,7 @@ module _ (q : Lent) (k : ℕ) (p : Placement) where
       → (reserveStartOn + k ≤ figuresIn (q .n) p .before) × (figuresIn (q .n) p .before ≤ q .n)
   unfolding reserveVerdict reserveStart viewOn tableOf
   reserve-within h =
-      let rows = tableOf (viewOf q) (on (q .sheet) (reserve k p)) in
+      let rows = tableOf (viewOf q) (on (q .sheet) (reserve (q .limits) k p)) in
       let g : Figures = figuresIn (q .n) p in
       let f = free (q .map) in (
         fit-is f (g .from) (g .before) (g .step) k (startAt (foundBy (q .guided) (q .summary) (q .map) g k))
@@ -95,7 +95,7 @@ module _ (q : Lent) (k : ℕ) where
   pub grow-room : growVerdictOn ≡ accepted → Room q (q .entry .start + q .entry .length) k
   unfolding growVerdict viewOn tableOf
   grow-room h =
-      let rows = tableOf (viewOf q) (on (q .sheet) (grow k)) in
+      let rows = tableOf (viewOf q) (on (q .sheet) (grow (q .limits) k)) in
       let s : Standing = standing q in
       let x =
       open-extent (q .n) (free (q .map)) (q .entry) (startOf s) (lengthOf s)

@@ -11,7 +11,6 @@ use native.Mathlib.Omega.{arith}
 use lib.Dec.{ltb}
 use lib.ListN.{length}
 use borrow.Author.Tests.{ne-eqb, eq-eqb}
-use Rattle.map_blocks.specs.Blocks.{free}
 use Rattle.map_blocks.specs.declared.Found.{Found}
 use Rattle.catalogue.specs.declared.Entry.{Entry}
 use Rattle.catalogue_standings.specs.Rows.{Row, row, Verdict, accepted, refused, firstOf, settle}
@@ -20,10 +19,10 @@ use Rattle.catalogue_standings.proofs.Openings.{stop}
 use Rattle.summary.specs.Summary.{summaryLength, ownSummary}
 use Rattle.summary.proofs.Numbers.{own-length}
 use Rattle.summary_search.proofs.Searches.{by-own}
-use Rattle.refusals.specs.Effects.{givingVerdict, addingVerdict, runVerdict, reserveVerdict, reserveStart}
+use Rattle.refusals.specs.Effects.{givingVerdict, addingVerdict, reserveVerdict, reserveStart}
 use Rattle.refusals.specs.Effects.{acceptVerdict, growVerdict, releaseVerdict}
 use Rattle.refusals.specs.Guides.{guideFits, foundBy}
-use Rattle.refusals.specs.Lent.{Lent, lent, lentBeside}
+use Rattle.refusals.specs.Lent.{Lent, lentWithin}
 use Rattle.refusals.specs.Placement.{Placement, figuresIn, misfigured}
 use Rattle.refusals.specs.Table.{tableOf}
 use Rattle.refusals.specs.Views.{viewOn, viewAt}
@@ -40,13 +39,13 @@ row-1-same : (t : Bool) (fits : Bool) (rows : List Row) → t ≡ true
     → firstOf (row 1 (not (t && fits)) ∷ rows) ≡ firstOf (row 1 (not fits) ∷ rows)
 row-1-same t fits rows e = ap (λ (x : Bool). firstOf (row 1 (not (x && fits)) ∷ rows)) e
 
-module _ (summary : List ℕ) (n spare : ℕ) (map card : List ℕ) (c : ℕ) (e : Entry) (sheet : ℕ) where
+module _ (held : ℕ) (limits summary : List ℕ) (n spare : ℕ) (map card : List ℕ) (c : ℕ) (e : Entry) (sheet : ℕ) where
   -- with the summary, and without
   abbrev pub withIt : Lent
-  withIt = lentBeside true summary n spare map card c e sheet
+  withIt = lentWithin held limits true summary n spare map card c e sheet
 
   abbrev pub without : Lent
-  without = lent n spare map card c e sheet
+  without = lentWithin held limits false [] n spare map card c e sheet
 
   module _ (long : length summary ≡ summaryLength (length map)) where
     fits : guideFits true summary (length map) ≡ true
@@ -63,13 +62,13 @@ module _ (summary : List ℕ) (n spare : ℕ) (map card : List ℕ) (c : ℕ) (e
     pub accept-same : (start k : ℕ) → acceptVerdict withIt start k ≡ acceptVerdict without start k
     accept-same start k =
         accepting.verdict-behind withIt start k
-        ∙ ap (λ (v : Verdict). settle v (runVerdict 17 (free map) n spare start k) refused) (giving-same k)
+        ∙ ap (λ (v : Verdict). settle v (accepting.run without start k) refused) (giving-same k)
         ∙ sym (accepting.verdict-behind without start k)
 
     pub grow-same : (m : ℕ) → growVerdict withIt m ≡ growVerdict without m
     grow-same m =
         growing.verdict-behind withIt m
-        ∙ ap (λ (v : Verdict). settle v (runVerdict 11 (free map) n spare (e .start + e .length) m) refused) (adding-same m)
+        ∙ ap (λ (v : Verdict). settle v (growing.run without m (e .start + e .length)) refused) (adding-same m)
         ∙ sym (growing.verdict-behind without m)
 
     pub release-same : releaseVerdict withIt ≡ releaseVerdict without
@@ -95,7 +94,7 @@ module _ (summary : List ℕ) (n spare : ℕ) (map card : List ℕ) (c : ℕ) (e
 
     pub accept-1 : (start k : ℕ) → acceptVerdict withIt start k ≡ refused 1
     accept-1 start k = accepting.verdict-behind withIt start k
-        ∙ ap (λ (v : Verdict). settle v (runVerdict 17 (free map) n spare start k) refused) (giving-1 k)
+        ∙ ap (λ (v : Verdict). settle v (accepting.run withIt start k) refused) (giving-1 k)
 
     pub grow-1 : (m : ℕ) → growVerdict withIt m ≡ refused 1
     unfolding growVerdict viewOn tableOf
@@ -158,7 +157,8 @@ module _ (summary : List ℕ) (n spare : ℕ) (map card : List ℕ) (c : ℕ) (e
               let same = found-same h right in
               inr (
                 by-rest
-                    ∙ ap (λ (o : Found). firstOf (row 15 (misfigured n g) ∷ row 10 (none o) ∷ row 4 (ltb spare k) ∷ [])) same
+                    ∙ ap (λ (o : Found). firstOf
+                    (row 15 (misfigured n g) ∷ row 18 (reserving.over without k p) ∷ row 10 (none o) ∷ row 4 (ltb spare k) ∷ [])) same
                     ∙ sym by-rest-without,
                 ap startAt same,
               )

@@ -47,10 +47,11 @@ module _ (q : Lent) (k : ℕ) where
   unfolding viewOn
   addingVerdict = firstOf (opening (viewOn q) (q .sheet) (adding (viewOn q) k []))
 
--- What the rows of a run that is asked for say (`runRows`), f saying which of the n blocks are free.
-unfoldable pub runVerdict : ℕ → (ℕ → Bool) → ℕ → ℕ → ℕ → ℕ → Verdict
-runVerdict number f n spare start k =
-    firstOf (row number (not (fit f 0 n 1 k start)) ∷ row 4 (ltb spare k) ∷ [])
+-- What row 18 and the rows of a run that is asked for say (`runRows`), `over` saying that the limit is passed, and f which of the n
+-- blocks are free.
+unfoldable pub runVerdict : ℕ → Bool → (ℕ → Bool) → ℕ → ℕ → ℕ → ℕ → Verdict
+runVerdict number over f n spare start k =
+    firstOf (row 18 over ∷ row number (not (fit f 0 n 1 k start)) ∷ row 4 (ltb spare k) ∷ [])
 
 -- A sheet without blocks takes k from a start on, which are filled with zeros, and becomes Open: what is handed back and left
 -- where the verdict is v. The space behind the start is that of the map as it was lent, before the marking.
@@ -74,7 +75,7 @@ module _ (q : Lent) (v : Verdict) (start k : ℕ) where
 module _ (q : Lent) (k : ℕ) (placement : Placement) where
   unfoldable pub reserveVerdict : Verdict
   unfolding viewOn
-  reserveVerdict = verdictOf (viewOn q) (on (q .sheet) (reserve k placement))
+  reserveVerdict = verdictOf (viewOn q) (on (q .sheet) (reserve (q .limits) k placement))
 
   unfoldable pub reserveStart : ℕ
   reserveStart = startAt (foundBy (q .guided) (q .summary) (q .map) (figuresIn (q .n) placement) k)
@@ -98,13 +99,13 @@ module _ (q : Lent) (k : ℕ) (placement : Placement) where
 -- Offer: where a plain reserve would start then, and the length; nothing changes (document 02 (f)).
 unfoldable pub offerAnswer : Lent → ℕ → Answer
 unfolding viewOn reserveStart
-offerAnswer q k = settle (verdictOf (viewOn q) (on (q .sheet) (offer k))) (Start (reserveStart q k plain) k) Refused
+offerAnswer q k = settle (verdictOf (viewOn q) (on (q .sheet) (offer (q .limits) k))) (Start (reserveStart q k plain) k) Refused
 
 -- Accept: what a reserve does, at the start that is asked for (document 02 (f)).
 module _ (q : Lent) (start k : ℕ) where
   unfoldable pub acceptVerdict : Verdict
   unfolding viewOn
-  acceptVerdict = verdictOf (viewOn q) (on (q .sheet) (accept start k))
+  acceptVerdict = verdictOf (viewOn q) (on (q .sheet) (accept (q .limits) start k))
 
   unfoldable pub acceptOut : Out
   unfolding acceptVerdict takenOut
@@ -126,7 +127,7 @@ module _ (q : Lent) (start k : ℕ) where
 module _ (q : Lent) (m : ℕ) where
   unfoldable pub growVerdict : Verdict
   unfolding viewOn
-  growVerdict = verdictOf (viewOn q) (on (q .sheet) (grow m))
+  growVerdict = verdictOf (viewOn q) (on (q .sheet) (grow (q .limits) m))
 
   unfoldable pub growOut : Out
   unfolding growVerdict

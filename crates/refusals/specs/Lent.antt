@@ -5,8 +5,9 @@ use mathlib.Core.Bool.{Bool, false}
 use mathlib.Core.List.{List, []}
 use Rattle.catalogue.specs.declared.Entry.{Entry}
 
--- n and the free count of the shape; the map and the card; c, the sheet's entry in the catalogue, and the sheet's number; and
--- whether a summary is lent beside the map, with its numbers.
+-- n and the free count of the shape; the map and the card; c, the sheet's entry in the catalogue, and the sheet's number;
+-- whether a summary is lent beside the map, with its numbers; and for a call that takes blocks how many the sheet's wing holds,
+-- and the limits of the wings (document 02 (k)).
 pub record Lent : Type 0 where
   pub n : ℕ
   pub spare : ℕ
@@ -17,7 +18,10 @@ pub record Lent : Type 0 where
   pub sheet : ℕ
   pub guided : Bool
   pub summary : List ℕ
+  pub held : ℕ
+  pub limits : List ℕ
 
+-- For a call that takes no blocks.
 abbrev pub lentBeside : Bool → List ℕ → ℕ → ℕ → List ℕ → List ℕ → ℕ → Entry → ℕ → Lent
 lentBeside guided summary n spare map card c e sheet = record {
   n = n;
@@ -29,9 +33,31 @@ lentBeside guided summary n spare map card c e sheet = record {
   sheet = sheet;
   guided = guided;
   summary = summary;
+  held = 0;
+  limits = [];
 }
 
--- For a call that is lent no summary.
+-- The same, within limits.
+abbrev pub within : ℕ → List ℕ → Lent → Lent
+within held limits q = record {
+  n = q .n;
+  spare = q .spare;
+  map = q .map;
+  card = q .card;
+  sheets = q .sheets;
+  entry = q .entry;
+  sheet = q .sheet;
+  guided = q .guided;
+  summary = q .summary;
+  held = held;
+  limits = limits;
+}
+
+abbrev pub lentWithin : ℕ → List ℕ → Bool → List ℕ → ℕ → ℕ → List ℕ → List ℕ → ℕ → Entry → ℕ → Lent
+lentWithin held limits guided summary n spare map card c e sheet =
+    within held limits (lentBeside guided summary n spare map card c e sheet)
+
+-- For one that is lent no summary.
 abbrev pub lent : ℕ → ℕ → List ℕ → List ℕ → ℕ → Entry → ℕ → Lent
 lent n spare map card c e sheet = lentBeside false [] n spare map card c e sheet
 

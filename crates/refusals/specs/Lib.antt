@@ -1,5 +1,6 @@
 -- What the contracts of `calls` cite: the table of refusals, and what each call leaves.
 pub mod Placement
+pub mod Shares
 pub mod Guides
 pub mod Table
 pub mod Lent

@@ -1,6 +1,7 @@
 -- The table of refusals (document 01, "What the caller gets instead"): for each call its rows, in the order 1, 2, 4 for the
--- entry, 5 to 8, 3, 15 (document 02, request a), 19 (request m), 4 for blocks, with 20 between place 0 and the place wanted
--- (request m), 9, 10, 11 or 17 (request f), and last 4 for the count. A call is refused with the first row that holds.
+-- entry, 5 to 8, 3, 15 (document 02, request a), 18 (request k), 19 (request m), 4 for blocks, with 20 between place 0 and the
+-- place wanted (request m), 9, 10, 11 or 17 (request f), and last 4 for the count. A call is refused with the first row that
+-- holds.
 -- Assumes nothing.
 use Prim.Native.Nat.{ℕ, _+_}
 use mathlib.Core.Bool.{Bool, not, _||_}
@@ -12,6 +13,7 @@ use Rattle.calendar.specs.Term.{Term, inTerm}
 use Rattle.map_blocks.specs.Blocks.{all, fit, least, leastFit}
 use Rattle.map_blocks.specs.declared.Found.{Found}
 use Rattle.refusals.specs.Placement.{Placement, plain, figuresIn, misfigured}
+use Rattle.refusals.specs.Shares.{overLimit}
 use Rattle.refusals.specs.declared.Figures.{Figures}
 use Rattle.catalogue_standings.specs.Searches.{none, startAt}
 use Rattle.catalogue_standings.specs.Rows.{Row, row, Verdict, firstOf}
@@ -19,11 +21,12 @@ use Rattle.catalogue_standings.specs.Standings.{isAbsent, isPaused, isPausedWit
 use Rattle.catalogue_standings.specs.Standings.{startOf, lengthOf}
 use Rattle.catalogue_standings.specs.declared.Standing.{Standing}
 
--- What is asked of a sheet. A reserve of k blocks is plain or placed.
+-- What is asked of a sheet. A reserve of k blocks is plain or placed. With each call that takes blocks, or would, go the limits
+-- of the eight wings (document 02 (k)).
 pub data Ask : Type 0 where
-  reserve : ℕ → Placement → Ask
+  reserve : List ℕ → ℕ → Placement → Ask
   put : ℕ → List ℕ → Ask
-  grow : ℕ → Ask
+  grow : List ℕ → ℕ → Ask
   complete : Ask
   pause : Ask
   resume : Ask
@@ -31,8 +34,8 @@ pub data Ask : Type 0 where
   show : ℕ → List ℕ → Ask
   standing : Ask
   -- of document 02 (f): an offer of k blocks; an accept of k blocks from a start on
-  offer : ℕ → Ask
-  accept : ℕ → ℕ → Ask
+  offer : List ℕ → ℕ → Ask
+  accept : List ℕ → ℕ → ℕ → Ask
   -- of document 02 (m): a show of a place on a date
   showDated : ℕ → Date → List ℕ → Ask
 
@@ -59,6 +62,9 @@ pub record View : Type 0 where
   pub sound : ℕ → Bool
   -- the two days that the payload of place 0 starts with
   pub term : Term
+  -- the sheet's wing, and how many blocks it holds
+  pub wing : ℕ
+  pub held : ℕ
 
 -- Rows 5 to 8, for a standing that a call does not admit.
 abbrev pub absentRow : View → Row
@@ -108,25 +114,30 @@ unfoldable pub lowestBlank : View → ℕ
 unfolding least
 lowestBlank v = startAt (least (v .blank) 0 (lengthOf (v .stands)))
 
+-- Row 18 of a call that wants k blocks.
+abbrev pub limitRow : View → List ℕ → ℕ → Row
+limitRow v limits k = row 18 (overLimit limits (v .wing) (v .held) k)
+
 -- The rows of a run that is asked for, of k blocks from a start on: not all of it is free and inside n, by the call's own
 -- number; and 4 for the count.
 abbrev pub runRows : ℕ → View → ℕ → ℕ → List Row
 runRows number v start k = row number (not (fit (v .free) 0 (v .blocks) 1 k start)) ∷ row 4 (ltb (v .spare) k) ∷ []
 
 -- The rows of a reserve, plain or placed. An offer has those of the plain one.
-unfoldable pub reserveRows : View → ℕ → Placement → List Row
+unfoldable pub reserveRows : View → List ℕ → ℕ → Placement → List Row
 unfolding fit leastFit
-reserveRows v k placement =
+reserveRows v limits k placement =
     let g = figuresIn (v .blocks) placement in
     giving v k
-    (row 15 (misfigured (v .blocks) g) ∷ row 10 (none (v .found g k)) ∷ row 4 (ltb (v .spare) k) ∷ [])
+    (row 15 (misfigured (v .blocks) g) ∷ limitRow v limits k ∷ row 10 (none (v .found g k)) ∷ row 4 (ltb (v .spare) k) ∷ [])
 
 -- The rows of each, behind those that all begin with.
 unfoldable pub rowsFor : View → Ask → List Row
 unfolding all fit reserveRows
-rowsFor v (reserve k placement) = reserveRows v k placement
+rowsFor v (reserve limits k placement) = reserveRows v limits k placement
 rowsFor v (put place payload) = absentRow v ∷ pausedRow v ∷ completeRow v ∷ row 3 (misplaced v place payload) ∷ []
-rowsFor v (grow m) = adding v m (runRows 11 v (startOf (v .stands) + lengthOf (v .stands)) m)
+rowsFor v (grow limits m) =
+    adding v m (limitRow v limits m ∷ runRows 11 v (startOf (v .stands) + lengthOf (v .stands)) m)
 rowsFor v complete =
     absentRow v ∷ pausedRow v ∷ completeRow v ∷ row 4 (not (everyPlace v (λ p. v .blank p || v .sound p)))
     ∷ row 9 (not (everyPlace v (λ p. not (v .blank p)))) ∷ []
@@ -137,8 +148,8 @@ rowsFor v (show place buffer) = showing v place buffer (row 4 (not (v .sound pla
 rowsFor v (showDated place date buffer) =
     showing v place buffer (termRows (v .sound 0) (v .term) date (row 4 (not (v .sound place)) ∷ []))
 rowsFor v standing = []
-rowsFor v (offer k) = reserveRows v k plain
-rowsFor v (accept start k) = giving v k (runRows 17 v start k)
+rowsFor v (offer limits k) = reserveRows v limits k plain
+rowsFor v (accept limits start k) = giving v k (limitRow v limits k ∷ runRows 17 v start k)
 
 unfoldable pub tableOf : View → Call → List Row
 unfolding rowsFor

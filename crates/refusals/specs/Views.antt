@@ -8,6 +8,7 @@ use Rattle.calendar.specs.Term.{termOf}
 use Rattle.map_blocks.specs.Blocks as map-blocks
 use Rattle.blocks_of_card.specs.Card.{blockOf}
 use Rattle.block_seals.specs.Sealed as sealed-block
+use Rattle.catalogue_wings.specs.Wings.{wingOf}
 use Rattle.catalogue_standings.specs.Standings.{standingOf}
 use Rattle.catalogue_standings.specs.Limits.{shapeFits, sheetsFit}
 use Rattle.refusals.specs.Guides.{guideFits, foundBy}
@@ -29,6 +30,8 @@ viewAt q = record {
   blank = λ p. false;
   sound = λ p. false;
   term = record { first = 0; last = 0 };
+  wing = wingOf (q .sheet);
+  held = q .held;
 }
 
 -- A call that is lent the card, of 512·n bytes.
@@ -46,4 +49,6 @@ viewOn q = record {
   blank = λ p. sealed-block.blank (blockOf (q .card) (q .entry .start + p));
   sound = λ p. sealed-block.sound (q .sheet) p (blockOf (q .card) (q .entry .start + p));
   term = termOf (sealed-block.payloadOf (blockOf (q .card) (q .entry .start)));
+  wing = wingOf (q .sheet);
+  held = q .held;
 }

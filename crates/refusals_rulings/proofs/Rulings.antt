@@ -18,6 +18,10 @@ module _ (start : ℕ) (r : Ruling) where
   refuses accepted number e h = absurd (let z : _≡_ {A = ℕ} 0 1 = cc in omega arith)
   refuses (refused other) number e h = let same : other ≡ number = cc in ap refused same
 
+-- what a row's number says of a verdict, it says of the same one
+pub first-row : {row : ℕ} {v w : Verdict} → v ≡ w → row ≡ rowNumber v → row ≡ rowNumber w
+first-row same e = e ∙ ap rowNumber same
+
 -- ---- the ruling, once the verdict is known
 
 module _ (start : ℕ) where

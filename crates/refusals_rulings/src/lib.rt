@@ -7,8 +7,10 @@ ghost use lib.ListN.{length};
 ghost use Rattle.map_blocks.specs.Blocks;
 ghost use Rattle.map_blocks.specs.Blocks.{fit};
 ghost use Rattle.refusals.specs.Guides.{guideFits, foundBy};
-ghost use Rattle.refusals.specs.Lent.{lentBeside};
+ghost use Rattle.refusals.specs.Lent.{lentBeside, lentWithin};
 ghost use Rattle.refusals.specs.Placement.{placed, misfigured};
+ghost use Rattle.refusals.specs.Shares.{overLimit};
+ghost use Rattle.catalogue_wings.specs.Wings.{wingOf};
 ghost use Rattle.catalogue_standings.specs.Rows.{rowNumber};
 ghost use Rattle.refusals.specs.Effects.{givingVerdict, addingVerdict, runVerdict, reserveVerdict, reserveStart};
 ghost use Rattle.refusals.specs.Effects.{acceptVerdict, growVerdict};
@@ -128,6 +130,27 @@ fn find_run(guided: bool, map: &[u64], summary: &[u32], figures: Figures, k: u32
     search_placed(map, from, before, step, k)
 }
 
+fn wide(number: u32) -> u64
+    ensures { λ r. ⌜ r ≡ number ⌝ }
+{
+    number as u64
+}
+
+// Row 18: what the sheet's wing holds and the k blocks wanted together pass the wing's limit. The sum of the two may pass 2^64,
+// and is not made.
+fn over_limit(limits: &[u32; 8], held: u64, sheet: u32, k: u32) -> bool
+    requires { ⌜ sheet < 1024 ⌝ }
+    ensures { λ r. ⌜ r ≡ overLimit (now (limits .entry)) (wingOf sheet) held k ⌝ }
+{
+    let wing = (sheet / 128) as usize;
+    let limit = wide(limits[wing]);
+    let wanted = wide(k);
+    if limit < wanted {
+        return true;
+    }
+    limit - wanted < held
+}
+
 // The least fit within the figures, or the row that refuses the call.
 pub fn reserve_ruling(
     n: u32,
@@ -139,11 +162,13 @@ pub fn reserve_ruling(
     c: usize,
     entry: Entry,
     sheet: u32,
+    held: u64,
+    limits: &[u32; 8],
     k: u32,
     figures: Figures,
 ) -> Ruling
-    ensures { λ r. let q = lentBeside guided (now (summary .entry)) n free (now (map .entry)) (now (card .entry)) c entry sheet
-        in
+    ensures { λ r. let q = lentWithin held (now (limits .entry)) guided (now (summary .entry)) n free (now (map .entry))
+        (now (card .entry)) c entry sheet in
         ⌜ r ≡ rulingOf (reserveVerdict q k (placed figures)) (reserveStart q k (placed figures)) ⌝ }
 {
     let row = giving_row(n, free, map, guided, summary, card, c, entry, sheet, k);
@@ -152,6 +177,9 @@ pub fn reserve_ruling(
     }
     if figures_wrong(n, figures) {
         return Ruling::Refused(15);
+    }
+    if over_limit(limits, held, sheet, k) {
+        return Ruling::Refused(18);
     }
     let found = find_run(guided, map, summary, figures, k);
     let Found::At(least) = found else {
@@ -177,12 +205,15 @@ fn run_is_free(n: u32, map: &[u64], start: u32, k: u32) -> bool
     all_marked(map, start, k, FREE)
 }
 
-// The start of a run that is asked for. It is refused with the number given unless all of it is free and inside n, and with 4
-// if the free count has fewer.
-fn run_ruling(n: u32, free: u32, map: &[u64], start: u32, k: u32, number: u32) -> Ruling
+// The start of a run that is asked for. It is refused with 18 if the limit is passed, with the number given unless all of it is
+// free and inside n, and with 4 if the free count has fewer.
+fn run_ruling(n: u32, free: u32, map: &[u64], start: u32, k: u32, over: bool, number: u32) -> Ruling
     requires { ⌜ (n ≤ 262144) × (n ≤ 64 * length (now map)) ⌝ }
-    ensures { λ r. ⌜ r ≡ rulingOf (runVerdict number (Blocks.free (now (map .entry))) n free start k) start ⌝ }
+    ensures { λ r. ⌜ r ≡ rulingOf (runVerdict number over (Blocks.free (now (map .entry))) n free start k) start ⌝ }
 {
+    if over {
+        return Ruling::Refused(18);
+    }
     if !run_is_free(n, map, start, k) {
         return Ruling::Refused(number);
     }
@@ -203,18 +234,21 @@ pub fn accept_ruling(
     c: usize,
     entry: Entry,
     sheet: u32,
+    held: u64,
+    limits: &[u32; 8],
     start: u32,
     k: u32,
 ) -> Ruling
-    ensures { λ r. let q = lentBeside guided (now (summary .entry)) n free (now (map .entry)) (now (card .entry)) c entry sheet
-        in
+    ensures { λ r. let q = lentWithin held (now (limits .entry)) guided (now (summary .entry)) n free (now (map .entry))
+        (now (card .entry)) c entry sheet in
         ⌜ r ≡ rulingOf (acceptVerdict q start k) start ⌝ }
 {
     let row = giving_row(n, free, map, guided, summary, card, c, entry, sheet, k);
     if row != 0 {
         return Ruling::Refused(row);
     }
-    run_ruling(n, free, map, start, k, 17)
+    let over = over_limit(limits, held, sheet, k);
+    run_ruling(n, free, map, start, k, over, 17)
 }
 
 // The end of the extent, or the row that refuses the call.
@@ -228,15 +262,18 @@ pub fn grow_ruling(
     c: usize,
     entry: Entry,
     sheet: u32,
+    held: u64,
+    limits: &[u32; 8],
     m: u32,
 ) -> Ruling
-    ensures { λ r. let q = lentBeside guided (now (summary .entry)) n free (now (map .entry)) (now (card .entry)) c entry sheet
-        in
+    ensures { λ r. let q = lentWithin held (now (limits .entry)) guided (now (summary .entry)) n free (now (map .entry))
+        (now (card .entry)) c entry sheet in
         ⌜ r ≡ rulingOf (growVerdict q m) (entry .start + entry .length) ⌝ }
 {
     let row = adding_row(n, free, map, guided, summary, card, c, entry, sheet, m);
     if row != 0 {
         return Ruling::Refused(row);
     }
-    run_ruling(n, free, map, entry.start + entry.length, m, 11)
+    let over = over_limit(limits, held, sheet, m);
+    run_ruling(n, free, map, entry.start + entry.length, m, over, 11)
 }

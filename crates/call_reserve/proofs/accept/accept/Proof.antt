@@ -4,7 +4,7 @@
 use native.Mathlib.Omega.{arith}
 use borrow.Author.Needs.{needs}
 use denote.Ref.{now}
-use Rattle.refusals.specs.Lent.{lentBeside}
+use Rattle.refusals.specs.Lent.{lentWithin}
 use Rattle.refusals.proofs.Accept.{taken, acceptVerdictOn, accept-room}
 use Rattle.refusals.proofs.Taken.{unchanged, changed}
 use Rattle.refusals_rulings.proofs.Rulings.{accepts, refuses}
@@ -28,8 +28,8 @@ take-requires c κs =
     let place = c .before .before .before .before .at .given in
     let call = c .before .before .before .before .before .before .accept-ruling in
     let a = c .before .before .before .before .before .before .before .before .before .before .before .before .before .args in
-    let q = lentBeside (a .guided) (now (a .summary)) (a .n) (a .free) (now (a .map)) (now (a .card)) (a .c) (a .entry)
-    (a .sheet) in
+    let q = lentWithin (a .held) (now (a .limits)) (a .guided) (now (a .summary)) (a .n) (a .free) (now (a .map)) (now (a .card))
+    (a .c) (a .entry) (a .sheet) in
     let ruled = accepts (a .start) (call .result) (acceptVerdictOn q (a .start) (a .k)) (place .0 .0) (call .ensures)
     (place .1) in
     let room = accept-room q (a .start) (a .k) (ruled .0) in (
@@ -56,8 +56,8 @@ returns c =
     let place = c .before .before .row .given in
     let call = c .before .before .before .before .accept-ruling in
     let a = c .before .before .before .before .before .before .before .before .before .before .before .args in
-    let q = lentBeside (a .guided) (now (a .summary)) (a .n) (a .free) (now (a .map)) (now (a .card)) (a .c) (a .entry)
-    (a .sheet) in
+    let q = lentWithin (a .held) (now (a .limits)) (a .guided) (now (a .summary)) (a .n) (a .free) (now (a .map)) (now (a .card))
+    (a .c) (a .entry) (a .sheet) in
     taken q (a .start) (a .k) _ _ _ _
     (unchanged q (acceptVerdictOn q (a .start) (a .k)) (a .start) (a .k) (place .0 .0) (c .refusal .result)
     (refuses (a .start) (call .result) (acceptVerdictOn q (a .start) (a .k)) (place .0 .0) (call .ensures)
@@ -75,12 +75,10 @@ same-length-6 c = search needs
 returns-2 : tie.Need-returns-2
 returns-2 c =
     let place = c .before .before .before .before .before .before .before .before .before .before .before .at .given in
-    let call = c .before .before .before .before .before .before .before .before .before .before .before .before .before
-    .accept-ruling in
-    let a = c .before .before .before .before .before .before .before .before .before .before .before .before .before .before
-    .before .before .before .before .before .before .args in
-    let q = lentBeside (a .guided) (now (a .summary)) (a .n) (a .free) (now (a .map)) (now (a .card)) (a .c) (a .entry)
-    (a .sheet) in
+    let call = c .before .before .before .before .before .before .before .before .before .before .before .before .before .accept-ruling in
+    let a = c .before .before .before .before .before .before .before .before .before .before .before .before .before .before .before .before .before .before .before .before .args in
+    let q = lentWithin (a .held) (now (a .limits)) (a .guided) (now (a .summary)) (a .n) (a .free) (now (a .map)) (now (a .card))
+    (a .c) (a .entry) (a .sheet) in
     let ruled = accepts (a .start) (call .result) (acceptVerdictOn q (a .start) (a .k)) (place .0 .0) (call .ensures)
     (place .1) in
     let done = c .before .before .before .before .before .before .take in

@@ -1,9 +1,11 @@
 -- `call_reserve::offer::offer` meets its contract: its ruling is that of the reserve with 0, n and 1.
 -- Assumes nothing.
 use mathlib.Core.Path.{refl}
+use mathlib.Core.Bool.{false}
+use mathlib.Core.List.{[]}
 use borrow.Author.Needs.{needs}
 use denote.Ref.{now}
-use Rattle.refusals.specs.Lent.{lent}
+use Rattle.refusals.specs.Lent.{lentWithin}
 use Rattle.refusals.specs.Placement.{placed, figures}
 use Rattle.refusals.proofs.Offer.{answers}
 use Rattle.refusals.proofs.Room.{reserveVerdictOn, reserveStartOn}
@@ -29,7 +31,7 @@ returns c =
     let place = c .before .row in
     let call = c .before .before .before .reserve-ruling in
     let a = c .before .before .before .before .before .before .before .args in
-    let q = lent (a .n) (a .free) (now (a .map)) (now (a .card)) (a .c) (a .entry) (a .sheet) in
+    let q = lentWithin (a .held) (now (a .limits)) false [] (a .n) (a .free) (now (a .map)) (now (a .card)) (a .c) (a .entry) (a .sheet) in
     let p = placed (figures 0 (a .n) 1) in
     let number = place .given .0 .0 in
     answers q (a .k) (refused number) _
@@ -41,7 +43,7 @@ returns-2 c =
     let place = c .before .start in
     let call = c .before .before .before .reserve-ruling in
     let a = c .before .before .before .before .before .before .before .args in
-    let q = lent (a .n) (a .free) (now (a .map)) (now (a .card)) (a .c) (a .entry) (a .sheet) in
+    let q = lentWithin (a .held) (now (a .limits)) false [] (a .n) (a .free) (now (a .map)) (now (a .card)) (a .c) (a .entry) (a .sheet) in
     let p = placed (figures 0 (a .n) 1) in
     let ruled = accepts (reserveStartOn q (a .k) p) (call .result) (reserveVerdictOn q (a .k) p) (place .given .0 .0)
     (call .ensures) (place .given .1) in

@@ -4,7 +4,7 @@
 use native.Mathlib.Omega.{arith}
 use borrow.Author.Needs.{needs}
 use denote.Ref.{now}
-use Rattle.refusals.specs.Lent.{lentBeside}
+use Rattle.refusals.specs.Lent.{lentWithin}
 use Rattle.refusals.specs.Placement.{placed}
 use Rattle.refusals.proofs.Reserve.{taken}
 use Rattle.refusals.proofs.Room.{reserveVerdictOn, reserveStartOn, reserve-room}
@@ -30,8 +30,8 @@ take-requires c κs =
     let place = c .before .before .before .before .start .given in
     let call = c .before .before .before .before .before .before .reserve-ruling in
     let a = c .before .before .before .before .before .before .before .before .before .before .before .before .before .args in
-    let q = lentBeside (a .guided) (now (a .summary)) (a .n) (a .free) (now (a .map)) (now (a .card)) (a .c) (a .entry)
-    (a .sheet) in
+    let q = lentWithin (a .held) (now (a .limits)) (a .guided) (now (a .summary)) (a .n) (a .free) (now (a .map)) (now (a .card))
+    (a .c) (a .entry) (a .sheet) in
     let p = placed (a .figures) in
     let ruled = accepts (reserveStartOn q (a .k) p) (call .result) (reserveVerdictOn q (a .k) p) (place .0 .0) (call .ensures)
     (place .1) in
@@ -59,8 +59,8 @@ returns c =
     let place = c .before .before .row .given in
     let call = c .before .before .before .before .reserve-ruling in
     let a = c .before .before .before .before .before .before .before .before .before .before .before .args in
-    let q = lentBeside (a .guided) (now (a .summary)) (a .n) (a .free) (now (a .map)) (now (a .card)) (a .c) (a .entry)
-    (a .sheet) in
+    let q = lentWithin (a .held) (now (a .limits)) (a .guided) (now (a .summary)) (a .n) (a .free) (now (a .map)) (now (a .card))
+    (a .c) (a .entry) (a .sheet) in
     let p = placed (a .figures) in
     taken q (a .k) p _ _ _ _
     (unchanged q (reserveVerdictOn q (a .k) p) (reserveStartOn q (a .k) p) (a .k) (place .0 .0) (c .refusal .result)
@@ -79,12 +79,10 @@ same-length-6 c = search needs
 returns-2 : tie.Need-returns-2
 returns-2 c =
     let place = c .before .before .before .before .before .before .before .before .before .before .before .start .given in
-    let call = c .before .before .before .before .before .before .before .before .before .before .before .before .before
-    .reserve-ruling in
-    let a = c .before .before .before .before .before .before .before .before .before .before .before .before .before .before
-    .before .before .before .before .before .before .args in
-    let q = lentBeside (a .guided) (now (a .summary)) (a .n) (a .free) (now (a .map)) (now (a .card)) (a .c) (a .entry)
-    (a .sheet) in
+    let call = c .before .before .before .before .before .before .before .before .before .before .before .before .before .reserve-ruling in
+    let a = c .before .before .before .before .before .before .before .before .before .before .before .before .before .before .before .before .before .before .before .before .args in
+    let q = lentWithin (a .held) (now (a .limits)) (a .guided) (now (a .summary)) (a .n) (a .free) (now (a .map)) (now (a .card))
+    (a .c) (a .entry) (a .sheet) in
     let p = placed (a .figures) in
     let ruled = accepts (reserveStartOn q (a .k) p) (call .result) (reserveVerdictOn q (a .k) p) (place .0 .0) (call .ensures)
     (place .1) in
