@@ -58,32 +58,32 @@ module _ {M : Type 1} (𝓤 : URA M) (H : Heap 𝓤) (A : Atoms 𝓤) (mem : Mem
   survey-contract κs a r t g = refl
 
   pub reserve-contract : Ensures 𝓤 reserve-method.ended (reserve-method.clauses 𝓤 H A mem run) (λ κs a r t.
-      Reserves itself (kept (a .0) (now (a .1 .0)) (now (a .1 .1 .0)) (now (a .1 .1 .1 .0))) (a .1 .1 .1 .1 .0)
-      (a .1 .1 .1 .1 .1 .0)
+      Reserves itself (kept (a .0) (now (a .1 .0)) (now (a .1 .1 .0)) (now (a .1 .1 .1 .0))) (now (a .1 .1 .1 .1 .0))
+      (a .1 .1 .1 .1 .1 .0) (a .1 .1 .1 .1 .1 .1 .0)
       r (now (t .1 .0)) (now (t .1 .1 .0)) (now (t .1 .1 .1 .0)))
   reserve-contract κs a r t g = refl
 
   pub reserve-placed-contract : Ensures 𝓤 reserve-placed-method.ended (reserve-placed-method.clauses 𝓤 H A mem run)
-      (λ κs a r t. let more = a .1 .1 .1 .1 in
-      ReservesPlaced itself (kept (a .0) (now (a .1 .0)) (now (a .1 .1 .0)) (now (a .1 .1 .1 .0)))
+      (λ κs a r t. let more = a .1 .1 .1 .1 .1 in
+      ReservesPlaced itself (kept (a .0) (now (a .1 .0)) (now (a .1 .1 .0)) (now (a .1 .1 .1 .0))) (now (a .1 .1 .1 .1 .0))
       (more .0) (more .1 .0) (more .1 .1 .0) (more .1 .1 .1 .0) (more .1 .1 .1 .1 .0)
       r (now (t .1 .0)) (now (t .1 .1 .0)) (now (t .1 .1 .1 .0)))
   reserve-placed-contract κs a r t g = refl
 
   pub offer-contract : Ensures 𝓤 offer-method.ended (offer-method.clauses 𝓤 H A mem run) (λ κs a r t.
-      Offers itself (kept (a .0) (now (a .1 .0)) (now (a .1 .1 .0)) (now (a .1 .1 .1 .0))) (a .1 .1 .1 .1 .0)
-      (a .1 .1 .1 .1 .1 .0) r)
+      Offers itself (kept (a .0) (now (a .1 .0)) (now (a .1 .1 .0)) (now (a .1 .1 .1 .0))) (now (a .1 .1 .1 .1 .0))
+      (a .1 .1 .1 .1 .1 .0) (a .1 .1 .1 .1 .1 .1 .0) r)
   offer-contract κs a r t g = refl
 
   pub accept-contract : Ensures 𝓤 accept-method.ended (accept-method.clauses 𝓤 H A mem run) (λ κs a r t.
-      Accepts itself (kept (a .0) (now (a .1 .0)) (now (a .1 .1 .0)) (now (a .1 .1 .1 .0))) (a .1 .1 .1 .1 .0)
-      (a .1 .1 .1 .1 .1 .0) (a .1 .1 .1 .1 .1 .1 .0)
+      Accepts itself (kept (a .0) (now (a .1 .0)) (now (a .1 .1 .0)) (now (a .1 .1 .1 .0))) (now (a .1 .1 .1 .1 .0))
+      (a .1 .1 .1 .1 .1 .0) (a .1 .1 .1 .1 .1 .1 .0) (a .1 .1 .1 .1 .1 .1 .1 .0)
       r (now (t .1 .0)) (now (t .1 .1 .0)) (now (t .1 .1 .1 .0)))
   accept-contract κs a r t g = refl
 
   pub grow-contract : Ensures 𝓤 grow-method.ended (grow-method.clauses 𝓤 H A mem run) (λ κs a r t.
-      Grows itself (kept (a .0) (now (a .1 .0)) (now (a .1 .1 .0)) (now (a .1 .1 .1 .0))) (a .1 .1 .1 .1 .0)
-      (a .1 .1 .1 .1 .1 .0)
+      Grows itself (kept (a .0) (now (a .1 .0)) (now (a .1 .1 .0)) (now (a .1 .1 .1 .0))) (now (a .1 .1 .1 .1 .0))
+      (a .1 .1 .1 .1 .1 .0) (a .1 .1 .1 .1 .1 .1 .0)
       r (now (t .1 .0)) (now (t .1 .1 .0)) (now (t .1 .1 .1 .0)))
   grow-contract κs a r t g = refl
 

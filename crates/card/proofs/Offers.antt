@@ -14,19 +14,19 @@ use Rattle.refusals.specs.Lent.{Lent}
 use Rattle.refusals.specs.Placement.{plain}
 use Rattle.refusals.specs.declared.Out.{Out}
 use Rattle.refusals.proofs.Offer.{Offered, offered, same-out, same-map, same-card, number-zero}
-use Rattle.card.specs.Calls.{Kept, lentTo, outcomeOf}
+use Rattle.card.specs.Calls.{Kept, lentToWithin, outcomeOf}
 use Rattle.card.specs.Contracts.{itself, Offers, Accepts, Reserves}
 use Rattle.card.specs.declared.Outcome.{Outcome}
 
-module _ (s : Kept) (sheet k : ℕ) where
+module _ (s : Kept) (limits : List ℕ) (sheet k : ℕ) where
   abbrev q : Lent
-  q = lentTo s (s .card) sheet
+  q = lentToWithin s (s .card) limits sheet
 
-  pub offer-then-accept : (offer : Outcome) → Offers itself s sheet k offer
+  pub offer-then-accept : (offer : Outcome) → Offers itself s limits sheet k offer
       → (start length : ℕ) → offer .answer ≡ Start start length
       → (r : Outcome) (map : List ℕ) (entries : List Entry) (card : List ℕ)
-      → Accepts itself s sheet start length r map entries card
-      → (numberOf (r .answer) ≡ 0) × Reserves itself s sheet k r map entries card
+      → Accepts itself s limits sheet start length r map entries card
+      → (numberOf (r .answer) ≡ 0) × Reserves itself s limits sheet k r map entries card
   offer-then-accept offer made start length told r map entries card h = (
     ap (λ (o : Outcome). numberOf (o .answer)) (h .0 ∙ out) ∙ number-zero q k (o .verdict),
     (

@@ -23,7 +23,7 @@ use Rattle.image.proofs.Journey.{Words}
 use Rattle.card.specs.declared.Outcome.{Outcome}
 use Rattle.card.specs.declared.Shape.{Shape}
 use Rattle.refusals.specs.Lent.{Lent, noCard}
-use Rattle.card.specs.Calls.{Kept, lentTo, told, isDone, savedState, saveOutcome, saveImage}
+use Rattle.card.specs.Calls.{Kept, lentTo, lentToWithin, told, isDone, savedState, saveOutcome, saveImage}
 use Rattle.card.specs.Calls.{loadOutcome, loadMap, loadEntries, loadScratch}
 use Rattle.calendar.specs.Calendar.{dateOf}
 use Rattle.card.specs.Contracts.{ShowsDated}
@@ -52,36 +52,40 @@ module _ {R : Type 0} (how : Outcome → R) (s : Kept) (sheet number : ℕ) (r :
   abbrev bare : Lent
   bare = lentTo s noCard sheet
 
-  pub reserve-refused : (k : ℕ) (map′ : List ℕ) (entries′ : List Entry) (card′ : List ℕ)
-      → Reserves how s sheet k r map′ entries′ card′
-      → effects.reserveVerdict q k plain ≡ refused number
+  -- within limits
+  abbrev shared : List ℕ → Lent
+  shared limits = lentToWithin s (s .card) limits sheet
+
+  pub reserve-refused : (limits : List ℕ) (k : ℕ) (map′ : List ℕ) (entries′ : List Entry) (card′ : List ℕ)
+      → Reserves how s limits sheet k r map′ entries′ card′
+      → effects.reserveVerdict (shared limits) k plain ≡ refused number
       → (r ≡ how (told (s .shape) (Refused number))) × (map′ ≡ s .map) × (entries′ ≡ s .entries) × (card′ ≡ s .card)
-  reserve-refused k map′ entries′ card′ h v =
-      let same = refusals.reserve-refused s sheet number k plain v in
+  reserve-refused limits k map′ entries′ card′ h v =
+      let same = refusals.reserve-refused s sheet number limits k plain v in
       (h .0 ∙ ap how (same .0), h .1 ∙ same .1, h .2 ∙ same .2, h .3 ∙ same .3)
 
-  pub reserve-placed-refused : (k from before step : ℕ) (map′ : List ℕ) (entries′ : List Entry) (card′ : List ℕ)
-      → ReservesPlaced how s sheet k from before step r map′ entries′ card′
-      → effects.reserveVerdict q k (placed (figures from before step)) ≡ refused number
+  pub reserve-placed-refused : (limits : List ℕ) (k from before step : ℕ) (map′ : List ℕ) (entries′ : List Entry) (card′ : List ℕ)
+      → ReservesPlaced how s limits sheet k from before step r map′ entries′ card′
+      → effects.reserveVerdict (shared limits) k (placed (figures from before step)) ≡ refused number
       → (r ≡ how (told (s .shape) (Refused number))) × (map′ ≡ s .map) × (entries′ ≡ s .entries) × (card′ ≡ s .card)
-  reserve-placed-refused k from before step map′ entries′ card′ h v =
-      let same = refusals.reserve-refused s sheet number k (placed (figures from before step)) v in
+  reserve-placed-refused limits k from before step map′ entries′ card′ h v =
+      let same = refusals.reserve-refused s sheet number limits k (placed (figures from before step)) v in
       (h .0 ∙ ap how (same .0), h .1 ∙ same .1, h .2 ∙ same .2, h .3 ∙ same .3)
 
-  pub accept-refused : (start k : ℕ) (map′ : List ℕ) (entries′ : List Entry) (card′ : List ℕ)
-      → Accepts how s sheet start k r map′ entries′ card′
-      → effects.acceptVerdict q start k ≡ refused number
+  pub accept-refused : (limits : List ℕ) (start k : ℕ) (map′ : List ℕ) (entries′ : List Entry) (card′ : List ℕ)
+      → Accepts how s limits sheet start k r map′ entries′ card′
+      → effects.acceptVerdict (shared limits) start k ≡ refused number
       → (r ≡ how (told (s .shape) (Refused number))) × (map′ ≡ s .map) × (entries′ ≡ s .entries) × (card′ ≡ s .card)
-  accept-refused start k map′ entries′ card′ h v =
-      let same = refusals.accept-refused s sheet number start k v in
+  accept-refused limits start k map′ entries′ card′ h v =
+      let same = refusals.accept-refused s sheet number limits start k v in
       (h .0 ∙ ap how (same .0), h .1 ∙ same .1, h .2 ∙ same .2, h .3 ∙ same .3)
 
-  pub grow-refused : (m : ℕ) (map′ : List ℕ) (entries′ : List Entry) (card′ : List ℕ)
-      → Grows how s sheet m r map′ entries′ card′
-      → effects.growVerdict q m ≡ refused number
+  pub grow-refused : (limits : List ℕ) (m : ℕ) (map′ : List ℕ) (entries′ : List Entry) (card′ : List ℕ)
+      → Grows how s limits sheet m r map′ entries′ card′
+      → effects.growVerdict (shared limits) m ≡ refused number
       → (r ≡ how (told (s .shape) (Refused number))) × (map′ ≡ s .map) × (entries′ ≡ s .entries) × (card′ ≡ s .card)
-  grow-refused m map′ entries′ card′ h v =
-      let same = refusals.grow-refused s sheet number m v in
+  grow-refused limits m map′ entries′ card′ h v =
+      let same = refusals.grow-refused s sheet number limits m v in
       (h .0 ∙ ap how (same .0), h .1 ∙ same .1, h .2 ∙ same .2, h .3 ∙ same .3)
 
   pub put-refused : (place : ℕ) (payload card′ : List ℕ)

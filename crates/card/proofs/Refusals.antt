@@ -27,7 +27,8 @@ use Rattle.refusals.specs.declared.Out.{Out}
 use Rattle.card.specs.declared.Shape.{Shape}
 use Rattle.refusals.specs.Guides.{guideAfter}
 use Rattle.card.specs.declared.Outcome.{Outcome}
-use Rattle.card.specs.Calls.{lentBy, reserveOutcomeBy, reserveMapBy, reserveSummaryBy, reserveEntriesBy, reserveCardBy}
+use Rattle.card.specs.Calls.{lentBy, lentByWithin, lentToWithin}
+use Rattle.card.specs.Calls.{reserveOutcomeBy, reserveMapBy, reserveSummaryBy, reserveEntriesBy, reserveCardBy}
 use Rattle.card.specs.Calls.{acceptOutcomeBy, acceptMapBy, acceptSummaryBy, acceptEntriesBy, acceptCardBy}
 use Rattle.card.specs.Calls.{growOutcomeBy, growMapBy, growSummaryBy, growEntriesBy, growCardBy}
 use Rattle.card.specs.Calls.{releaseOutcomeBy, releaseMapBy, releaseSummaryBy, releaseEntriesBy}
@@ -56,8 +57,9 @@ module _ (guided : Bool) (summary : List ℕ) (s : Kept) (sheet number : ℕ) wh
   abbrev entryBy : Entry
   entryBy = entryAt (s .entries) sheet
 
-  abbrev lentOn : Lent
-  lentOn = lentBy guided summary s (s .card) sheet
+  -- within limits
+  abbrev lentOn : List ℕ → Lent
+  lentOn limits = lentByWithin guided summary s (s .card) limits sheet
 
   abbrev lentBare : Lent
   lentBare = lentBy guided summary s noCard sheet
@@ -84,15 +86,14 @@ module _ (guided : Bool) (summary : List ℕ) (s : Kept) (sheet number : ℕ) wh
       × (card ≡ s .card)
 
   -- plain and placed
-  pub reserve-refused-by : (k : ℕ) (p : Placement) → effects.reserveVerdict lentOn k p ≡ refused number
-      → Refuses (reserveOutcomeBy guided summary s sheet k p) (reserveMapBy guided summary s sheet k p)
-      (reserveSummaryBy guided summary s sheet k p) (reserveEntriesBy guided summary s sheet k p)
-      (reserveCardBy guided summary s sheet k p)
-  unfolding effects.reserveOut effects.reserveMap effects.reserveSummary effects.reserveCard effects.takenOut
-      effects.takenMap effects.takenSummary effects.takenCard
-  reserve-refused-by k p h =
-      let start : ℕ = effects.reserveStart lentOn k p in
-      let same = kept-back (effects.reserveVerdict lentOn k p) start k false h in
+  pub reserve-refused-by : (limits : List ℕ) (k : ℕ) (p : Placement) → effects.reserveVerdict (lentOn limits) k p ≡ refused number
+      → Refuses (reserveOutcomeBy guided summary s limits sheet k p) (reserveMapBy guided summary s limits sheet k p)
+      (reserveSummaryBy guided summary s limits sheet k p) (reserveEntriesBy guided summary s limits sheet k p)
+      (reserveCardBy guided summary s limits sheet k p)
+  unfolding effects.reserveOut effects.reserveMap effects.reserveSummary effects.reserveCard effects.takenOut effects.takenMap effects.takenSummary effects.takenCard
+  reserve-refused-by limits k p h =
+      let start : ℕ = effects.reserveStart (lentOn limits) k p in
+      let same = kept-back (effects.reserveVerdict (lentOn limits) k p) start k false h in
       let back =
       handed-back (s .shape) (s .entries) sheet (Refused number) _
       (ap (λ (v : Verdict). settle v (effects.outOf (spareBy - k) (effects.entryOf openMark start k)
@@ -100,14 +101,13 @@ module _ (guided : Bool) (summary : List ℕ) (s : Kept) (sheet number : ℕ) wh
       (effects.refusalOut spareBy entryBy)) h) in
       (back .0, same .0, same .1, back .1, same .2)
 
-  pub accept-refused-by : (start k : ℕ) → effects.acceptVerdict lentOn start k ≡ refused number
-      → Refuses (acceptOutcomeBy guided summary s sheet start k) (acceptMapBy guided summary s sheet start k)
-      (acceptSummaryBy guided summary s sheet start k) (acceptEntriesBy guided summary s sheet start k)
-      (acceptCardBy guided summary s sheet start k)
-  unfolding effects.acceptOut effects.acceptMap effects.acceptSummary effects.acceptCard effects.takenOut effects.takenMap
-      effects.takenSummary effects.takenCard
-  accept-refused-by start k h =
-      let same = kept-back (effects.acceptVerdict lentOn start k) start k false h in
+  pub accept-refused-by : (limits : List ℕ) (start k : ℕ) → effects.acceptVerdict (lentOn limits) start k ≡ refused number
+      → Refuses (acceptOutcomeBy guided summary s limits sheet start k) (acceptMapBy guided summary s limits sheet start k)
+      (acceptSummaryBy guided summary s limits sheet start k) (acceptEntriesBy guided summary s limits sheet start k)
+      (acceptCardBy guided summary s limits sheet start k)
+  unfolding effects.acceptOut effects.acceptMap effects.acceptSummary effects.acceptCard effects.takenOut effects.takenMap effects.takenSummary effects.takenCard
+  accept-refused-by limits start k h =
+      let same = kept-back (effects.acceptVerdict (lentOn limits) start k) start k false h in
       let back =
       handed-back (s .shape) (s .entries) sheet (Refused number) _
       (ap (λ (v : Verdict). settle v (effects.outOf (spareBy - k) (effects.entryOf openMark start k)
@@ -115,12 +115,12 @@ module _ (guided : Bool) (summary : List ℕ) (s : Kept) (sheet number : ℕ) wh
       (effects.refusalOut spareBy entryBy)) h) in
       (back .0, same .0, same .1, back .1, same .2)
 
-  pub grow-refused-by : (m : ℕ) → effects.growVerdict lentOn m ≡ refused number
-      → Refuses (growOutcomeBy guided summary s sheet m) (growMapBy guided summary s sheet m)
-      (growSummaryBy guided summary s sheet m) (growEntriesBy guided summary s sheet m) (growCardBy guided summary s sheet m)
+  pub grow-refused-by : (limits : List ℕ) (m : ℕ) → effects.growVerdict (lentOn limits) m ≡ refused number
+      → Refuses (growOutcomeBy guided summary s limits sheet m) (growMapBy guided summary s limits sheet m)
+      (growSummaryBy guided summary s limits sheet m) (growEntriesBy guided summary s limits sheet m) (growCardBy guided summary s limits sheet m)
   unfolding effects.growOut effects.growMap effects.growSummary effects.growCard
-  grow-refused-by m h =
-      let same = kept-back (effects.growVerdict lentOn m) (entryBy .start + entryBy .length) m false h in
+  grow-refused-by limits m h =
+      let same = kept-back (effects.growVerdict (lentOn limits) m) (entryBy .start + entryBy .length) m false h in
       let back =
       handed-back (s .shape) (s .entries) sheet (Refused number) _
       (ap (λ (v : Verdict). settle v
@@ -155,28 +155,33 @@ module _ (s : Kept) (sheet number : ℕ) where
   abbrev bare : Lent
   bare = lentTo s noCard sheet
 
-  pub reserve-refused : (k : ℕ) (p : Placement) → effects.reserveVerdict q k p ≡ refused number
-      → (reserveOutcome s sheet k p ≡ told (s .shape) (Refused number))
-      × (reserveMap s sheet k p ≡ s .map)
-      × (reserveEntries s sheet k p ≡ s .entries)
-      × (reserveCard s sheet k p ≡ s .card)
-  reserve-refused k p h = let same = reserve-refused-by false [] s sheet number k p h in
+  -- within limits
+  abbrev shared : List ℕ → Lent
+  shared limits = lentToWithin s (s .card) limits sheet
+
+  pub reserve-refused : (limits : List ℕ) (k : ℕ) (p : Placement) → effects.reserveVerdict (shared limits) k p ≡ refused number
+      → (reserveOutcome s limits sheet k p ≡ told (s .shape) (Refused number))
+      × (reserveMap s limits sheet k p ≡ s .map)
+      × (reserveEntries s limits sheet k p ≡ s .entries)
+      × (reserveCard s limits sheet k p ≡ s .card)
+  reserve-refused limits k p h = let same = reserve-refused-by false [] s sheet number limits k p h in
       (same .0, same .1, same .3, same .4)
 
-  pub accept-refused : (start k : ℕ) → effects.acceptVerdict q start k ≡ refused number
-      → (acceptOutcome s sheet start k ≡ told (s .shape) (Refused number))
-      × (acceptMap s sheet start k ≡ s .map)
-      × (acceptEntries s sheet start k ≡ s .entries)
-      × (acceptCard s sheet start k ≡ s .card)
-  accept-refused start k h = let same = accept-refused-by false [] s sheet number start k h in
+  pub accept-refused : (limits : List ℕ) (start k : ℕ) → effects.acceptVerdict (shared limits) start k ≡ refused number
+      → (acceptOutcome s limits sheet start k ≡ told (s .shape) (Refused number))
+      × (acceptMap s limits sheet start k ≡ s .map)
+      × (acceptEntries s limits sheet start k ≡ s .entries)
+      × (acceptCard s limits sheet start k ≡ s .card)
+  accept-refused limits start k h = let same = accept-refused-by false [] s sheet number limits start k h in
       (same .0, same .1, same .3, same .4)
 
-  pub grow-refused : (m : ℕ) → effects.growVerdict q m ≡ refused number
-      → (growOutcome s sheet m ≡ told (s .shape) (Refused number))
-      × (growMap s sheet m ≡ s .map)
-      × (growEntries s sheet m ≡ s .entries)
-      × (growCard s sheet m ≡ s .card)
-  grow-refused m h = let same = grow-refused-by false [] s sheet number m h in (same .0, same .1, same .3, same .4)
+  pub grow-refused : (limits : List ℕ) (m : ℕ) → effects.growVerdict (shared limits) m ≡ refused number
+      → (growOutcome s limits sheet m ≡ told (s .shape) (Refused number))
+      × (growMap s limits sheet m ≡ s .map)
+      × (growEntries s limits sheet m ≡ s .entries)
+      × (growCard s limits sheet m ≡ s .card)
+  grow-refused limits m h =
+      let same = grow-refused-by false [] s sheet number limits m h in (same .0, same .1, same .3, same .4)
 
   pub put-refused : (place : ℕ) (payload : List ℕ) → effects.putVerdict q place payload ≡ refused number
       → (putOutcome s sheet place payload ≡ told (s .shape) (Refused number))

@@ -16,7 +16,8 @@ use Rattle.catalogue_standings.specs.declared.Answer.{Answer}
 use Rattle.catalogue_standings.specs.declared.Answer.the-variants.{Done, Start, Reads, Counted, Own, Blank, Refused}
 use Rattle.call_search.specs.Answers as whole
 use Rattle.call_summary.specs.Answers as summaries
-use Rattle.refusals.specs.Lent.{Lent, lentBeside, noCard}
+use Rattle.catalogue_wings.specs.Wings.{heldBy}
+use Rattle.refusals.specs.Lent.{Lent, lentBeside, within, noCard}
 use Rattle.refusals.specs.Placement.{Placement}
 use Rattle.refusals.specs.Effects as effects
 use Rattle.refusals.specs.declared.Out.{Out}
@@ -118,14 +119,19 @@ lentBy guided summary s card sheet =
 abbrev pub lentTo : Kept → List ℕ → ℕ → Lent
 lentTo s card sheet = lentBy false [] s card sheet
 
+-- The same within limits (document 02 (k)): the catalogue gives what the sheet's wing holds as well.
+abbrev pub lentByWithin : Bool → List ℕ → Kept → List ℕ → List ℕ → ℕ → Lent
+lentByWithin guided summary s card limits sheet =
+    within (heldBy (s .entries) sheet) limits (lentBy guided summary s card sheet)
+
+abbrev pub lentToWithin : Kept → List ℕ → List ℕ → ℕ → Lent
+lentToWithin s card limits sheet = lentByWithin false [] s card limits sheet
+
 -- ---- the calls that have a form with a summary (document 02 (j))
 
-module _ (guided : Bool) (summary : List ℕ) (s : Kept) (sheet : ℕ) where
+module _ (guided : Bool) (summary : List ℕ) (s : Kept) (limits : List ℕ) (sheet : ℕ) where
   abbrev lendsBy : Lent
-  lendsBy = lentBy guided summary s (s .card) sheet
-
-  abbrev lendsNoCardBy : Lent
-  lendsNoCardBy = lentBy guided summary s noCard sheet
+  lendsBy = lentByWithin guided summary s (s .card) limits sheet
 
   -- reserve, plain or placed
   abbrev reserveOutBy : ℕ → Placement → Out
@@ -182,6 +188,10 @@ module _ (guided : Bool) (summary : List ℕ) (s : Kept) (sheet : ℕ) where
   abbrev pub growCardBy : ℕ → List ℕ
   growCardBy m = effects.growCard lendsBy m
 
+module _ (guided : Bool) (summary : List ℕ) (s : Kept) (sheet : ℕ) where
+  abbrev lendsNoCardBy : Lent
+  lendsNoCardBy = lentBy guided summary s noCard sheet
+
   abbrev releaseOutBy : Out
   releaseOutBy = effects.releaseOut lendsNoCardBy
 
@@ -199,51 +209,52 @@ module _ (guided : Bool) (summary : List ℕ) (s : Kept) (sheet : ℕ) where
 
 -- ---- by the map alone
 
+module _ (s : Kept) (limits : List ℕ) (sheet : ℕ) where
+  abbrev pub reserveOutcome : ℕ → Placement → Outcome
+  reserveOutcome k placement = reserveOutcomeBy false [] s limits sheet k placement
+
+  abbrev pub reserveMap : ℕ → Placement → List ℕ
+  reserveMap k placement = reserveMapBy false [] s limits sheet k placement
+
+  abbrev pub reserveEntries : ℕ → Placement → List Entry
+  reserveEntries k placement = reserveEntriesBy false [] s limits sheet k placement
+
+  abbrev pub reserveCard : ℕ → Placement → List ℕ
+  reserveCard k placement = reserveCardBy false [] s limits sheet k placement
+
+  abbrev pub offerOutcome : ℕ → Outcome
+  offerOutcome k = told (s .shape) (effects.offerAnswer (lentToWithin s (s .card) limits sheet) k)
+
+  abbrev pub acceptOutcome : ℕ → ℕ → Outcome
+  acceptOutcome start k = acceptOutcomeBy false [] s limits sheet start k
+
+  abbrev pub acceptMap : ℕ → ℕ → List ℕ
+  acceptMap start k = acceptMapBy false [] s limits sheet start k
+
+  abbrev pub acceptEntries : ℕ → ℕ → List Entry
+  acceptEntries start k = acceptEntriesBy false [] s limits sheet start k
+
+  abbrev pub acceptCard : ℕ → ℕ → List ℕ
+  acceptCard start k = acceptCardBy false [] s limits sheet start k
+
+  abbrev pub growOutcome : ℕ → Outcome
+  growOutcome m = growOutcomeBy false [] s limits sheet m
+
+  abbrev pub growMap : ℕ → List ℕ
+  growMap m = growMapBy false [] s limits sheet m
+
+  abbrev pub growEntries : ℕ → List Entry
+  growEntries m = growEntriesBy false [] s limits sheet m
+
+  abbrev pub growCard : ℕ → List ℕ
+  growCard m = growCardBy false [] s limits sheet m
+
 module _ (s : Kept) (sheet : ℕ) where
   abbrev lends : Lent
   lends = lentTo s (s .card) sheet
 
   abbrev lendsNoCard : Lent
   lendsNoCard = lentTo s noCard sheet
-
-  abbrev pub reserveOutcome : ℕ → Placement → Outcome
-  reserveOutcome k placement = reserveOutcomeBy false [] s sheet k placement
-
-  abbrev pub reserveMap : ℕ → Placement → List ℕ
-  reserveMap k placement = reserveMapBy false [] s sheet k placement
-
-  abbrev pub reserveEntries : ℕ → Placement → List Entry
-  reserveEntries k placement = reserveEntriesBy false [] s sheet k placement
-
-  abbrev pub reserveCard : ℕ → Placement → List ℕ
-  reserveCard k placement = reserveCardBy false [] s sheet k placement
-
-  abbrev pub offerOutcome : ℕ → Outcome
-  offerOutcome k = told (s .shape) (effects.offerAnswer lends k)
-
-  abbrev pub acceptOutcome : ℕ → ℕ → Outcome
-  acceptOutcome start k = acceptOutcomeBy false [] s sheet start k
-
-  abbrev pub acceptMap : ℕ → ℕ → List ℕ
-  acceptMap start k = acceptMapBy false [] s sheet start k
-
-  abbrev pub acceptEntries : ℕ → ℕ → List Entry
-  acceptEntries start k = acceptEntriesBy false [] s sheet start k
-
-  abbrev pub acceptCard : ℕ → ℕ → List ℕ
-  acceptCard start k = acceptCardBy false [] s sheet start k
-
-  abbrev pub growOutcome : ℕ → Outcome
-  growOutcome m = growOutcomeBy false [] s sheet m
-
-  abbrev pub growMap : ℕ → List ℕ
-  growMap m = growMapBy false [] s sheet m
-
-  abbrev pub growEntries : ℕ → List Entry
-  growEntries m = growEntriesBy false [] s sheet m
-
-  abbrev pub growCard : ℕ → List ℕ
-  growCard m = growCardBy false [] s sheet m
 
   abbrev pub putOutcome : ℕ → List ℕ → Outcome
   putOutcome place payload = told (s .shape) (effects.putAnswer lends place payload)

@@ -49,38 +49,40 @@ module _ {R : Type 0} (how : Outcome → R) (shape : Shape) (map : List ℕ) whe
 
 -- ---- a sheet
 
-module _ {R : Type 0} (how : Outcome → R) (s : Kept) (sheet : ℕ) where
+-- The calls that go with limits (document 02 (k)).
+module _ {R : Type 0} (how : Outcome → R) (s : Kept) (limits : List ℕ) (sheet : ℕ) where
   abbrev pub Reserves : ℕ → R → List ℕ → List Entry → List ℕ → Type 0
   Reserves k r map′ entries′ card′ =
-      (r ≡ how (plainOutcome s sheet k))
-      × (map′ ≡ plainMapLeft s sheet k)
-      × (entries′ ≡ plainEntries s sheet k)
-      × (card′ ≡ plainCardLeft s sheet k)
+      (r ≡ how (plainOutcome s limits sheet k))
+      × (map′ ≡ plainMapLeft s limits sheet k)
+      × (entries′ ≡ plainEntries s limits sheet k)
+      × (card′ ≡ plainCardLeft s limits sheet k)
 
   abbrev pub ReservesPlaced : ℕ → ℕ → ℕ → ℕ → R → List ℕ → List Entry → List ℕ → Type 0
   ReservesPlaced k from before step r map′ entries′ card′ =
-      (r ≡ how (placedOutcome s sheet k from before step))
-      × (map′ ≡ placedMapLeft s sheet k from before step)
-      × (entries′ ≡ placedEntries s sheet k from before step)
-      × (card′ ≡ placedCardLeft s sheet k from before step)
+      (r ≡ how (placedOutcome s limits sheet k from before step))
+      × (map′ ≡ placedMapLeft s limits sheet k from before step)
+      × (entries′ ≡ placedEntries s limits sheet k from before step)
+      × (card′ ≡ placedCardLeft s limits sheet k from before step)
 
   abbrev pub Offers : ℕ → R → Type 0
-  Offers k r = r ≡ how (offerOutcome s sheet k)
+  Offers k r = r ≡ how (offerOutcome s limits sheet k)
 
   abbrev pub Accepts : ℕ → ℕ → R → List ℕ → List Entry → List ℕ → Type 0
   Accepts start k r map′ entries′ card′ =
-      (r ≡ how (acceptOutcome s sheet start k))
-      × (map′ ≡ acceptMap s sheet start k)
-      × (entries′ ≡ acceptEntries s sheet start k)
-      × (card′ ≡ acceptCard s sheet start k)
+      (r ≡ how (acceptOutcome s limits sheet start k))
+      × (map′ ≡ acceptMap s limits sheet start k)
+      × (entries′ ≡ acceptEntries s limits sheet start k)
+      × (card′ ≡ acceptCard s limits sheet start k)
 
   abbrev pub Grows : ℕ → R → List ℕ → List Entry → List ℕ → Type 0
   Grows m r map′ entries′ card′ =
-      (r ≡ how (growOutcome s sheet m))
-      × (map′ ≡ growMap s sheet m)
-      × (entries′ ≡ growEntries s sheet m)
-      × (card′ ≡ growCard s sheet m)
+      (r ≡ how (growOutcome s limits sheet m))
+      × (map′ ≡ growMap s limits sheet m)
+      × (entries′ ≡ growEntries s limits sheet m)
+      × (card′ ≡ growCard s limits sheet m)
 
+module _ {R : Type 0} (how : Outcome → R) (s : Kept) (sheet : ℕ) where
   abbrev pub Puts : ℕ → List ℕ → R → List ℕ → Type 0
   Puts place payload r card′ =
       (r ≡ how (putOutcome s sheet place payload))
@@ -125,39 +127,40 @@ module _ {R : Type 0} (how : Outcome → R) (shape : Shape) (map summary : List 
   Checks r = r ≡ how (checkOutcome shape map summary)
 
 -- The calls that are lent a summary, which is handed back behind the map.
-module _ {R : Type 0} (how : Outcome → R) (summary : List ℕ) (s : Kept) (sheet : ℕ) where
+module _ {R : Type 0} (how : Outcome → R) (summary : List ℕ) (s : Kept) (limits : List ℕ) (sheet : ℕ) where
   abbrev pub ReservesBy : ℕ → R → List ℕ → List ℕ → List Entry → List ℕ → Type 0
   ReservesBy k r map′ summary′ entries′ card′ =
-      (r ≡ how (plainOutcomeBy true summary s sheet k))
-      × (map′ ≡ plainMapBy true summary s sheet k)
-      × (summary′ ≡ plainSummaryBy true summary s sheet k)
-      × (entries′ ≡ plainEntriesBy true summary s sheet k)
-      × (card′ ≡ plainCardBy true summary s sheet k)
+      (r ≡ how (plainOutcomeBy true summary s limits sheet k))
+      × (map′ ≡ plainMapBy true summary s limits sheet k)
+      × (summary′ ≡ plainSummaryBy true summary s limits sheet k)
+      × (entries′ ≡ plainEntriesBy true summary s limits sheet k)
+      × (card′ ≡ plainCardBy true summary s limits sheet k)
 
   abbrev pub ReservesPlacedBy : ℕ → ℕ → ℕ → ℕ → R → List ℕ → List ℕ → List Entry → List ℕ → Type 0
   ReservesPlacedBy k from before step r map′ summary′ entries′ card′ =
-      (r ≡ how (placedOutcomeBy true summary s sheet k from before step))
-      × (map′ ≡ placedMapBy true summary s sheet k from before step)
-      × (summary′ ≡ placedSummaryBy true summary s sheet k from before step)
-      × (entries′ ≡ placedEntriesBy true summary s sheet k from before step)
-      × (card′ ≡ placedCardBy true summary s sheet k from before step)
+      (r ≡ how (placedOutcomeBy true summary s limits sheet k from before step))
+      × (map′ ≡ placedMapBy true summary s limits sheet k from before step)
+      × (summary′ ≡ placedSummaryBy true summary s limits sheet k from before step)
+      × (entries′ ≡ placedEntriesBy true summary s limits sheet k from before step)
+      × (card′ ≡ placedCardBy true summary s limits sheet k from before step)
 
   abbrev pub AcceptsBy : ℕ → ℕ → R → List ℕ → List ℕ → List Entry → List ℕ → Type 0
   AcceptsBy start k r map′ summary′ entries′ card′ =
-      (r ≡ how (acceptOutcomeBy true summary s sheet start k))
-      × (map′ ≡ acceptMapBy true summary s sheet start k)
-      × (summary′ ≡ acceptSummaryBy true summary s sheet start k)
-      × (entries′ ≡ acceptEntriesBy true summary s sheet start k)
-      × (card′ ≡ acceptCardBy true summary s sheet start k)
+      (r ≡ how (acceptOutcomeBy true summary s limits sheet start k))
+      × (map′ ≡ acceptMapBy true summary s limits sheet start k)
+      × (summary′ ≡ acceptSummaryBy true summary s limits sheet start k)
+      × (entries′ ≡ acceptEntriesBy true summary s limits sheet start k)
+      × (card′ ≡ acceptCardBy true summary s limits sheet start k)
 
   abbrev pub GrowsBy : ℕ → R → List ℕ → List ℕ → List Entry → List ℕ → Type 0
   GrowsBy m r map′ summary′ entries′ card′ =
-      (r ≡ how (growOutcomeBy true summary s sheet m))
-      × (map′ ≡ growMapBy true summary s sheet m)
-      × (summary′ ≡ growSummaryBy true summary s sheet m)
-      × (entries′ ≡ growEntriesBy true summary s sheet m)
-      × (card′ ≡ growCardBy true summary s sheet m)
+      (r ≡ how (growOutcomeBy true summary s limits sheet m))
+      × (map′ ≡ growMapBy true summary s limits sheet m)
+      × (summary′ ≡ growSummaryBy true summary s limits sheet m)
+      × (entries′ ≡ growEntriesBy true summary s limits sheet m)
+      × (card′ ≡ growCardBy true summary s limits sheet m)
 
+module _ {R : Type 0} (how : Outcome → R) (summary : List ℕ) (s : Kept) (sheet : ℕ) where
   abbrev pub ReleasesBy : R → List ℕ → List ℕ → List Entry → Type 0
   ReleasesBy r map′ summary′ entries′ =
       (r ≡ how (releaseOutcomeBy true summary s sheet))

@@ -7,7 +7,7 @@ use Prim.Native.Nat.{ℕ}
 use Rattle.calendar.specs.Calendar.{dateOf}
 use Rattle.catalogue.specs.declared.Entry.{Entry}
 use Rattle.catalogue.specs.declared.Slot.{Slot}
-use Rattle.refusals.specs.Lent.{Lent, lentBeside, noCard}
+use Rattle.refusals.specs.Lent.{Lent, lentBeside, within, noCard}
 use Rattle.refusals.specs.Effects as effects
 use Rattle.refusals.specs.declared.Out.{Out}
 use Rattle.card.specs.Calls.{told, isDone}
@@ -34,9 +34,14 @@ lentAt shape map card slot sheet = lentAtBy false [] shape map card slot sheet
 abbrev pub withSlot : {A : Type 0} → (Lent → A) → Shape → List ℕ → List ℕ → Slot → ℕ → A
 withSlot says shape map card slot sheet = says (lentAt shape map card slot sheet)
 
+-- The same within limits, which go behind the card, and what the wing holds behind the slot (document 02 (k)).
+abbrev pub withLimits : {A : Type 0} → (Lent → A) → Shape → List ℕ → List ℕ → List ℕ → Slot → ℕ → ℕ → A
+withLimits says shape map card limits slot held sheet = says (within held limits (lentAt shape map card slot sheet))
+
 -- The same with a summary behind the map.
-abbrev pub withSummary : {A : Type 0} → (Lent → A) → Shape → List ℕ → List ℕ → List ℕ → Slot → ℕ → A
-withSummary says shape map summary card slot sheet = says (lentAtBy true summary shape map card slot sheet)
+abbrev pub withSummary : {A : Type 0} → (Lent → A) → Shape → List ℕ → List ℕ → List ℕ → List ℕ → Slot → ℕ → ℕ → A
+withSummary says shape map summary card limits slot held sheet =
+    says (within held limits (lentAtBy true summary shape map card slot sheet))
 
 abbrev pub withSummaryAlone : {A : Type 0} → (Lent → A) → Shape → List ℕ → List ℕ → Slot → ℕ → A
 withSummaryAlone says shape map summary slot sheet = says (lentAtBy true summary shape map noCard slot sheet)
@@ -64,8 +69,9 @@ datedBufferAt q place year month day buffer = effects.showDatedBuffer q place (d
 abbrev pub standingOutcomeAt : Shape → List ℕ → Slot → ℕ → Outcome
 standingOutcomeAt shape map slot sheet = told shape (effects.standingAnswer (lentAt shape map noCard slot sheet))
 
-abbrev pub offerOutcomeAt : Shape → List ℕ → List ℕ → Slot → ℕ → ℕ → Outcome
-offerOutcomeAt shape map card slot sheet k = told shape (effects.offerAnswer (lentAt shape map card slot sheet) k)
+abbrev pub offerOutcomeAt : Shape → List ℕ → List ℕ → List ℕ → Slot → ℕ → ℕ → ℕ → Outcome
+offerOutcomeAt shape map card limits slot held sheet k =
+    told shape (effects.offerAnswer (within held limits (lentAt shape map card slot sheet)) k)
 
 -- n and the free count.
 abbrev pub blocksOf : Shape → ℕ

@@ -42,60 +42,60 @@ module _ (q : Lent) (k from before step : ℕ) where
 
 -- ---- the public calls, by the map alone or guided by a summary
 
-module _ (guided : Bool) (summary : List ℕ) (s : Kept) (sheet k : ℕ) where
+module _ (guided : Bool) (summary : List ℕ) (s : Kept) (limits : List ℕ) (sheet k : ℕ) where
   abbrev pub plainOutcomeBy : Outcome
-  plainOutcomeBy = reserveOutcomeBy guided summary s sheet k plain
+  plainOutcomeBy = reserveOutcomeBy guided summary s limits sheet k plain
 
   abbrev pub plainMapBy : List ℕ
-  plainMapBy = reserveMapBy guided summary s sheet k plain
+  plainMapBy = reserveMapBy guided summary s limits sheet k plain
 
   abbrev pub plainSummaryBy : List ℕ
-  plainSummaryBy = reserveSummaryBy guided summary s sheet k plain
+  plainSummaryBy = reserveSummaryBy guided summary s limits sheet k plain
 
   abbrev pub plainEntriesBy : List Entry
-  plainEntriesBy = reserveEntriesBy guided summary s sheet k plain
+  plainEntriesBy = reserveEntriesBy guided summary s limits sheet k plain
 
   abbrev pub plainCardBy : List ℕ
-  plainCardBy = reserveCardBy guided summary s sheet k plain
+  plainCardBy = reserveCardBy guided summary s limits sheet k plain
 
-module _ (guided : Bool) (summary : List ℕ) (s : Kept) (sheet k from before step : ℕ) where
+module _ (guided : Bool) (summary : List ℕ) (s : Kept) (limits : List ℕ) (sheet k from before step : ℕ) where
   abbrev pub placedOutcomeBy : Outcome
-  placedOutcomeBy = reserveOutcomeBy guided summary s sheet k (placed (figures from before step))
+  placedOutcomeBy = reserveOutcomeBy guided summary s limits sheet k (placed (figures from before step))
 
   abbrev pub placedMapBy : List ℕ
-  placedMapBy = reserveMapBy guided summary s sheet k (placed (figures from before step))
+  placedMapBy = reserveMapBy guided summary s limits sheet k (placed (figures from before step))
 
   abbrev pub placedSummaryBy : List ℕ
-  placedSummaryBy = reserveSummaryBy guided summary s sheet k (placed (figures from before step))
+  placedSummaryBy = reserveSummaryBy guided summary s limits sheet k (placed (figures from before step))
 
   abbrev pub placedEntriesBy : List Entry
-  placedEntriesBy = reserveEntriesBy guided summary s sheet k (placed (figures from before step))
+  placedEntriesBy = reserveEntriesBy guided summary s limits sheet k (placed (figures from before step))
 
   abbrev pub placedCardBy : List ℕ
-  placedCardBy = reserveCardBy guided summary s sheet k (placed (figures from before step))
+  placedCardBy = reserveCardBy guided summary s limits sheet k (placed (figures from before step))
 
-module _ (s : Kept) (sheet k : ℕ) where
+module _ (s : Kept) (limits : List ℕ) (sheet k : ℕ) where
   abbrev pub plainOutcome : Outcome
-  plainOutcome = plainOutcomeBy false [] s sheet k
+  plainOutcome = plainOutcomeBy false [] s limits sheet k
 
   abbrev pub plainMapLeft : List ℕ
-  plainMapLeft = plainMapBy false [] s sheet k
+  plainMapLeft = plainMapBy false [] s limits sheet k
 
   abbrev pub plainEntries : List Entry
-  plainEntries = plainEntriesBy false [] s sheet k
+  plainEntries = plainEntriesBy false [] s limits sheet k
 
   abbrev pub plainCardLeft : List ℕ
-  plainCardLeft = plainCardBy false [] s sheet k
+  plainCardLeft = plainCardBy false [] s limits sheet k
 
-module _ (s : Kept) (sheet k from before step : ℕ) where
+module _ (s : Kept) (limits : List ℕ) (sheet k from before step : ℕ) where
   abbrev pub placedOutcome : Outcome
-  placedOutcome = placedOutcomeBy false [] s sheet k from before step
+  placedOutcome = placedOutcomeBy false [] s limits sheet k from before step
 
   abbrev pub placedMapLeft : List ℕ
-  placedMapLeft = placedMapBy false [] s sheet k from before step
+  placedMapLeft = placedMapBy false [] s limits sheet k from before step
 
   abbrev pub placedEntries : List Entry
-  placedEntries = placedEntriesBy false [] s sheet k from before step
+  placedEntries = placedEntriesBy false [] s limits sheet k from before step
 
   abbrev pub placedCardLeft : List ℕ
-  placedCardLeft = placedCardBy false [] s sheet k from before step
+  placedCardLeft = placedCardBy false [] s limits sheet k from before step

@@ -5,7 +5,7 @@ ghost use Rattle.card.specs.Calls.{outcomeOf, freshOutcomeBy, freshMapBy
 ghost use Rattle.card.specs.Cores.{entryLeft, doneBy, lentAt, putOutcomeAt, showOutcomeAt, standingOutcomeAt};
 ghost use Rattle.card.specs.Cores.{blocksOf, spareOf, offerOutcomeAt};
 ghost use Rattle.card.specs.Reserves.{plainOut, plainMap, plainCard, placedOut, placedMap, placedCard};
-ghost use Rattle.refusals.specs.Lent.{noCard};
+ghost use Rattle.refusals.specs.Lent.{within, noCard};
 ghost use Rattle.refusals.specs.Effects.{acceptOut, acceptMap, acceptCard, growOut, growMap, growCard};
 ghost use Rattle.refusals.specs.Effects.{putCard, completeOut, pauseOut, resumeOut, releaseOut, releaseMap, showBuffer};
 use crate::Outcome;
@@ -78,30 +78,48 @@ pub fn reserve_core(
     shape: Shape,
     map: &mut [u64],
     card: &mut [u8],
+    limits: &[u32; 8],
     slot: Slot,
+    held: u64,
     sheet: u32,
     k: u32,
 ) -> Out
-    ensures { λ r. let q = lentAt shape (now (map .entry)) (now (card .entry)) slot sheet in
+    ensures { λ r. let q = within held (now (limits .entry)) (lentAt shape (now (map .entry)) (now (card .entry)) slot
+        sheet) in
         ⌜ (r ≡ plainOut q k)
         × (now (map .exit) ≡ plainMap q k)
         × (now (card .exit) ≡ plainCard q k) ⌝ }
 {
-    reserve_placed_core(shape, map, card, slot, sheet, k, 0, shape.blocks, 1)
+    reserve_placed_core(
+        shape,
+        map,
+        card,
+        limits,
+        slot,
+        held,
+        sheet,
+        k,
+        0,
+        shape.blocks,
+        1,
+    )
 }
 
 pub fn reserve_placed_core(
     shape: Shape,
     map: &mut [u64],
     card: &mut [u8],
+    limits: &[u32; 8],
     slot: Slot,
+    held: u64,
     sheet: u32,
     k: u32,
     from: u32,
     before: u32,
     step: u32,
 ) -> Out
-    ensures { λ r. let q = lentAt shape (now (map .entry)) (now (card .entry)) slot sheet in
+    ensures { λ r. let q = within held (now (limits .entry)) (lentAt shape (now (map .entry)) (now (card .entry)) slot
+        sheet) in
         ⌜ (r ≡ placedOut q k from before step)
         × (now (map .exit) ≡ placedMap q k from before step)
         × (now (card .exit) ≡ placedCard q k from before step) ⌝ }
@@ -123,13 +141,25 @@ pub fn reserve_placed_core(
         slot.count,
         entry,
         sheet,
+        held,
+        limits,
         k,
         figures,
     )
 }
 
-pub fn offer_core(shape: Shape, map: &[u64], card: &[u8], slot: Slot, sheet: u32, k: u32) -> Outcome
-    ensures { λ r. ⌜ r ≡ offerOutcomeAt shape (now (map .entry)) (now (card .entry)) slot sheet k ⌝ }
+pub fn offer_core(
+    shape: Shape,
+    map: &[u64],
+    card: &[u8],
+    limits: &[u32; 8],
+    slot: Slot,
+    held: u64,
+    sheet: u32,
+    k: u32,
+) -> Outcome
+    ensures { λ r. ⌜ r ≡ offerOutcomeAt shape (now (map .entry)) (now (card .entry)) (now (limits .entry)) slot held
+        sheet k ⌝ }
 {
     let entry = slot.entry;
     let answer = call_reserve::offer::offer(
@@ -140,6 +170,8 @@ pub fn offer_core(shape: Shape, map: &[u64], card: &[u8], slot: Slot, sheet: u32
         slot.count,
         entry,
         sheet,
+        held,
+        limits,
         k,
     );
     Outcome {
@@ -152,12 +184,15 @@ pub fn accept_core(
     shape: Shape,
     map: &mut [u64],
     card: &mut [u8],
+    limits: &[u32; 8],
     slot: Slot,
+    held: u64,
     sheet: u32,
     start: u32,
     k: u32,
 ) -> Out
-    ensures { λ r. let q = lentAt shape (now (map .entry)) (now (card .entry)) slot sheet in
+    ensures { λ r. let q = within held (now (limits .entry)) (lentAt shape (now (map .entry)) (now (card .entry)) slot
+        sheet) in
         ⌜ (r ≡ acceptOut q start k)
         × (now (map .exit) ≡ acceptMap q start k)
         × (now (card .exit) ≡ acceptCard q start k) ⌝ }
@@ -174,6 +209,8 @@ pub fn accept_core(
         slot.count,
         entry,
         sheet,
+        held,
+        limits,
         start,
         k,
     )
@@ -183,11 +220,14 @@ pub fn grow_core(
     shape: Shape,
     map: &mut [u64],
     card: &mut [u8],
+    limits: &[u32; 8],
     slot: Slot,
+    held: u64,
     sheet: u32,
     m: u32,
 ) -> Out
-    ensures { λ r. let q = lentAt shape (now (map .entry)) (now (card .entry)) slot sheet in
+    ensures { λ r. let q = within held (now (limits .entry)) (lentAt shape (now (map .entry)) (now (card .entry)) slot
+        sheet) in
         ⌜ (r ≡ growOut q m)
         × (now (map .exit) ≡ growMap q m)
         × (now (card .exit) ≡ growCard q m) ⌝ }
@@ -204,6 +244,8 @@ pub fn grow_core(
         slot.count,
         entry,
         sheet,
+        held,
+        limits,
         m,
     )
 }

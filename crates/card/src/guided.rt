@@ -4,7 +4,7 @@ ghost use mathlib.Core.Path.{_≡_};
 ghost use Rattle.card.specs.Cores.{lentAtBy};
 ghost use Rattle.card.specs.Reserves.{plainOut, plainMap, plainSummary, plainCard};
 ghost use Rattle.card.specs.Reserves.{placedOut, placedMap, placedSummary, placedCard};
-ghost use Rattle.refusals.specs.Lent.{noCard};
+ghost use Rattle.refusals.specs.Lent.{within, noCard};
 ghost use Rattle.refusals.specs.Effects.{acceptOut, acceptMap, acceptSummary, acceptCard};
 ghost use Rattle.refusals.specs.Effects.{growOut, growMap, growSummary, growCard};
 ghost use Rattle.refusals.specs.Effects.{releaseOut, releaseMap, releaseSummary};
@@ -19,12 +19,15 @@ pub fn reserve_guided(
     map: &mut [u64],
     summary: &mut [u32],
     card: &mut [u8],
+    limits: &[u32; 8],
     slot: Slot,
+    held: u64,
     sheet: u32,
     k: u32,
 ) -> Out
     ensures { λ r.
-        let q = lentAtBy true (now (summary .entry)) shape (now (map .entry)) (now (card .entry)) slot sheet in
+        let q = within held (now (limits .entry))
+        (lentAtBy true (now (summary .entry)) shape (now (map .entry)) (now (card .entry)) slot sheet) in
         ⌜ (r ≡ plainOut q k)
         × (now (map .exit) ≡ plainMap q k)
         × (now (summary .exit) ≡ plainSummary q k)
@@ -35,7 +38,9 @@ pub fn reserve_guided(
         map,
         summary,
         card,
+        limits,
         slot,
+        held,
         sheet,
         k,
         0,
@@ -49,7 +54,9 @@ pub fn reserve_placed_guided(
     map: &mut [u64],
     summary: &mut [u32],
     card: &mut [u8],
+    limits: &[u32; 8],
     slot: Slot,
+    held: u64,
     sheet: u32,
     k: u32,
     from: u32,
@@ -57,7 +64,8 @@ pub fn reserve_placed_guided(
     step: u32,
 ) -> Out
     ensures { λ r.
-        let q = lentAtBy true (now (summary .entry)) shape (now (map .entry)) (now (card .entry)) slot sheet in
+        let q = within held (now (limits .entry))
+        (lentAtBy true (now (summary .entry)) shape (now (map .entry)) (now (card .entry)) slot sheet) in
         ⌜ (r ≡ placedOut q k from before step)
         × (now (map .exit) ≡ placedMap q k from before step)
         × (now (summary .exit) ≡ placedSummary q k from before step)
@@ -79,6 +87,8 @@ pub fn reserve_placed_guided(
         slot.count,
         entry,
         sheet,
+        held,
+        limits,
         k,
         figures,
     )
@@ -89,13 +99,16 @@ pub fn accept_guided(
     map: &mut [u64],
     summary: &mut [u32],
     card: &mut [u8],
+    limits: &[u32; 8],
     slot: Slot,
+    held: u64,
     sheet: u32,
     start: u32,
     k: u32,
 ) -> Out
     ensures { λ r.
-        let q = lentAtBy true (now (summary .entry)) shape (now (map .entry)) (now (card .entry)) slot sheet in
+        let q = within held (now (limits .entry))
+        (lentAtBy true (now (summary .entry)) shape (now (map .entry)) (now (card .entry)) slot sheet) in
         ⌜ (r ≡ acceptOut q start k)
         × (now (map .exit) ≡ acceptMap q start k)
         × (now (summary .exit) ≡ acceptSummary q start k)
@@ -112,6 +125,8 @@ pub fn accept_guided(
         slot.count,
         entry,
         sheet,
+        held,
+        limits,
         start,
         k,
     )
@@ -122,12 +137,15 @@ pub fn grow_guided(
     map: &mut [u64],
     summary: &mut [u32],
     card: &mut [u8],
+    limits: &[u32; 8],
     slot: Slot,
+    held: u64,
     sheet: u32,
     m: u32,
 ) -> Out
     ensures { λ r.
-        let q = lentAtBy true (now (summary .entry)) shape (now (map .entry)) (now (card .entry)) slot sheet in
+        let q = within held (now (limits .entry))
+        (lentAtBy true (now (summary .entry)) shape (now (map .entry)) (now (card .entry)) slot sheet) in
         ⌜ (r ≡ growOut q m)
         × (now (map .exit) ≡ growMap q m)
         × (now (summary .exit) ≡ growSummary q m)
@@ -144,6 +162,8 @@ pub fn grow_guided(
         slot.count,
         entry,
         sheet,
+        held,
+        limits,
         m,
     )
 }

@@ -102,17 +102,20 @@ impl Shape {
         map: &mut [u64],
         catalogue: &mut [Entry],
         card: &mut [u8],
+        limits: &[u32; 8],
         sheet: u32,
         k: u32,
     ) -> Outcome
         ensures { λ r. let s = kept self (now (map .entry)) (now (catalogue .entry)) (now (card .entry)) in
-            ⌜ (r ≡ reserveOutcome s sheet k plain)
-            × (now (map .exit) ≡ reserveMap s sheet k plain)
-            × (now (catalogue .exit) ≡ reserveEntries s sheet k plain)
-            × (now (card .exit) ≡ reserveCard s sheet k plain) ⌝ }
+            let shares = now (limits .entry) in
+            ⌜ (r ≡ reserveOutcome s shares sheet k plain)
+            × (now (map .exit) ≡ reserveMap s shares sheet k plain)
+            × (now (catalogue .exit) ≡ reserveEntries s shares sheet k plain)
+            × (now (card .exit) ≡ reserveCard s shares sheet k plain) ⌝ }
     {
         let slot = catalogue::find(&*catalogue, sheet);
-        let out = cores::reserve_core(self, map, card, slot, sheet, k);
+        let held = catalogue_wings::held_by(&*catalogue, sheet);
+        let out = cores::reserve_core(self, map, card, limits, slot, held, sheet, k);
         let entry = cores::entry_of(out);
         catalogue::store(catalogue, sheet, entry);
         cores::outcome_of(self, out)
@@ -125,6 +128,7 @@ impl Shape {
         map: &mut [u64],
         catalogue: &mut [Entry],
         card: &mut [u8],
+        limits: &[u32; 8],
         sheet: u32,
         k: u32,
         from: u32,
@@ -132,26 +136,50 @@ impl Shape {
         step: u32,
     ) -> Outcome
         ensures { λ r. let s = kept self (now (map .entry)) (now (catalogue .entry)) (now (card .entry)) in
+            let shares = now (limits .entry) in
             let p = placed (figures from before step) in
-            ⌜ (r ≡ reserveOutcome s sheet k p)
-            × (now (map .exit) ≡ reserveMap s sheet k p)
-            × (now (catalogue .exit) ≡ reserveEntries s sheet k p)
-            × (now (card .exit) ≡ reserveCard s sheet k p) ⌝ }
+            ⌜ (r ≡ reserveOutcome s shares sheet k p)
+            × (now (map .exit) ≡ reserveMap s shares sheet k p)
+            × (now (catalogue .exit) ≡ reserveEntries s shares sheet k p)
+            × (now (card .exit) ≡ reserveCard s shares sheet k p) ⌝ }
     {
         let slot = catalogue::find(&*catalogue, sheet);
-        let out = cores::reserve_placed_core(self, map, card, slot, sheet, k, from, before, step);
+        let held = catalogue_wings::held_by(&*catalogue, sheet);
+        let out = cores::reserve_placed_core(
+            self,
+            map,
+            card,
+            limits,
+            slot,
+            held,
+            sheet,
+            k,
+            from,
+            before,
+            step,
+        );
         let entry = cores::entry_of(out);
         catalogue::store(catalogue, sheet, entry);
         cores::outcome_of(self, out)
     }
 
     // Answers where a plain reserve would start now, and the length; it changes nothing (document 02, request f).
-    pub fn offer(self, map: &[u64], catalogue: &[Entry], card: &[u8], sheet: u32, k: u32) -> Outcome
+    pub fn offer(
+        self,
+        map: &[u64],
+        catalogue: &[Entry],
+        card: &[u8],
+        limits: &[u32; 8],
+        sheet: u32,
+        k: u32,
+    ) -> Outcome
         ensures { λ r. let s = kept self (now (map .entry)) (now (catalogue .entry)) (now (card .entry)) in
-            ⌜ r ≡ offerOutcome s sheet k ⌝ }
+            let shares = now (limits .entry) in
+            ⌜ r ≡ offerOutcome s shares sheet k ⌝ }
     {
         let slot = catalogue::find(catalogue, sheet);
-        cores::offer_core(self, map, card, slot, sheet, k)
+        let held = catalogue_wings::held_by(catalogue, sheet);
+        cores::offer_core(self, map, card, limits, slot, held, sheet, k)
     }
 
     // Absent becomes Open at the start that is asked for, if the run there is all free (document 02, request f).
@@ -160,18 +188,21 @@ impl Shape {
         map: &mut [u64],
         catalogue: &mut [Entry],
         card: &mut [u8],
+        limits: &[u32; 8],
         sheet: u32,
         start: u32,
         k: u32,
     ) -> Outcome
         ensures { λ r. let s = kept self (now (map .entry)) (now (catalogue .entry)) (now (card .entry)) in
-            ⌜ (r ≡ acceptOutcome s sheet start k)
-            × (now (map .exit) ≡ acceptMap s sheet start k)
-            × (now (catalogue .exit) ≡ acceptEntries s sheet start k)
-            × (now (card .exit) ≡ acceptCard s sheet start k) ⌝ }
+            let shares = now (limits .entry) in
+            ⌜ (r ≡ acceptOutcome s shares sheet start k)
+            × (now (map .exit) ≡ acceptMap s shares sheet start k)
+            × (now (catalogue .exit) ≡ acceptEntries s shares sheet start k)
+            × (now (card .exit) ≡ acceptCard s shares sheet start k) ⌝ }
     {
         let slot = catalogue::find(&*catalogue, sheet);
-        let out = cores::accept_core(self, map, card, slot, sheet, start, k);
+        let held = catalogue_wings::held_by(&*catalogue, sheet);
+        let out = cores::accept_core(self, map, card, limits, slot, held, sheet, start, k);
         let entry = cores::entry_of(out);
         catalogue::store(catalogue, sheet, entry);
         cores::outcome_of(self, out)
@@ -183,17 +214,20 @@ impl Shape {
         map: &mut [u64],
         catalogue: &mut [Entry],
         card: &mut [u8],
+        limits: &[u32; 8],
         sheet: u32,
         m: u32,
     ) -> Outcome
         ensures { λ r. let s = kept self (now (map .entry)) (now (catalogue .entry)) (now (card .entry)) in
-            ⌜ (r ≡ growOutcome s sheet m)
-            × (now (map .exit) ≡ growMap s sheet m)
-            × (now (catalogue .exit) ≡ growEntries s sheet m)
-            × (now (card .exit) ≡ growCard s sheet m) ⌝ }
+            let shares = now (limits .entry) in
+            ⌜ (r ≡ growOutcome s shares sheet m)
+            × (now (map .exit) ≡ growMap s shares sheet m)
+            × (now (catalogue .exit) ≡ growEntries s shares sheet m)
+            × (now (card .exit) ≡ growCard s shares sheet m) ⌝ }
     {
         let slot = catalogue::find(&*catalogue, sheet);
-        let out = cores::grow_core(self, map, card, slot, sheet, m);
+        let held = catalogue_wings::held_by(&*catalogue, sheet);
+        let out = cores::grow_core(self, map, card, limits, slot, held, sheet, m);
         let entry = cores::entry_of(out);
         catalogue::store(catalogue, sheet, entry);
         cores::outcome_of(self, out)

@@ -46,18 +46,21 @@ impl Shape {
         summary: &mut [u32],
         catalogue: &mut [Entry],
         card: &mut [u8],
+        limits: &[u32; 8],
         sheet: u32,
         k: u32,
     ) -> Outcome
         ensures { λ r. let s = kept self (now (map .entry)) (now (catalogue .entry)) (now (card .entry)) in
-            ⌜ (r ≡ reserveOutcomeBy true (now (summary .entry)) s sheet k plain)
-            × (now (map .exit) ≡ reserveMapBy true (now (summary .entry)) s sheet k plain)
-            × (now (summary .exit) ≡ reserveSummaryBy true (now (summary .entry)) s sheet k plain)
-            × (now (catalogue .exit) ≡ reserveEntriesBy true (now (summary .entry)) s sheet k plain)
-            × (now (card .exit) ≡ reserveCardBy true (now (summary .entry)) s sheet k plain) ⌝ }
+            let shares = now (limits .entry) in
+            ⌜ (r ≡ reserveOutcomeBy true (now (summary .entry)) s shares sheet k plain)
+            × (now (map .exit) ≡ reserveMapBy true (now (summary .entry)) s shares sheet k plain)
+            × (now (summary .exit) ≡ reserveSummaryBy true (now (summary .entry)) s shares sheet k plain)
+            × (now (catalogue .exit) ≡ reserveEntriesBy true (now (summary .entry)) s shares sheet k plain)
+            × (now (card .exit) ≡ reserveCardBy true (now (summary .entry)) s shares sheet k plain) ⌝ }
     {
         let slot = catalogue::find(&*catalogue, sheet);
-        let out = guided::reserve_guided(self, map, summary, card, slot, sheet, k);
+        let held = catalogue_wings::held_by(&*catalogue, sheet);
+        let out = guided::reserve_guided(self, map, summary, card, limits, slot, held, sheet, k);
         let entry = cores::entry_of(out);
         catalogue::store(catalogue, sheet, entry);
         cores::outcome_of(self, out)
@@ -70,6 +73,7 @@ impl Shape {
         summary: &mut [u32],
         catalogue: &mut [Entry],
         card: &mut [u8],
+        limits: &[u32; 8],
         sheet: u32,
         k: u32,
         from: u32,
@@ -77,20 +81,24 @@ impl Shape {
         step: u32,
     ) -> Outcome
         ensures { λ r. let s = kept self (now (map .entry)) (now (catalogue .entry)) (now (card .entry)) in
-            ⌜ (r ≡ reserveOutcomeBy true (now (summary .entry)) s sheet k (placed (figures from before step)))
-            × (now (map .exit) ≡ reserveMapBy true (now (summary .entry)) s sheet k (placed (figures from before step)))
-            × (now (summary .exit) ≡ reserveSummaryBy true (now (summary .entry)) s sheet k (placed (figures from before step)))
-            × (now (catalogue .exit) ≡ reserveEntriesBy true (now (summary .entry)) s sheet k
-            (placed (figures from before step)))
-            × (now (card .exit) ≡ reserveCardBy true (now (summary .entry)) s sheet k (placed (figures from before step))) ⌝ }
+            let shares = now (limits .entry) in
+            let p = placed (figures from before step) in
+            ⌜ (r ≡ reserveOutcomeBy true (now (summary .entry)) s shares sheet k p)
+            × (now (map .exit) ≡ reserveMapBy true (now (summary .entry)) s shares sheet k p)
+            × (now (summary .exit) ≡ reserveSummaryBy true (now (summary .entry)) s shares sheet k p)
+            × (now (catalogue .exit) ≡ reserveEntriesBy true (now (summary .entry)) s shares sheet k p)
+            × (now (card .exit) ≡ reserveCardBy true (now (summary .entry)) s shares sheet k p) ⌝ }
     {
         let slot = catalogue::find(&*catalogue, sheet);
+        let held = catalogue_wings::held_by(&*catalogue, sheet);
         let out = guided::reserve_placed_guided(
             self,
             map,
             summary,
             card,
+            limits,
             slot,
+            held,
             sheet,
             k,
             from,
@@ -109,19 +117,33 @@ impl Shape {
         summary: &mut [u32],
         catalogue: &mut [Entry],
         card: &mut [u8],
+        limits: &[u32; 8],
         sheet: u32,
         start: u32,
         k: u32,
     ) -> Outcome
         ensures { λ r. let s = kept self (now (map .entry)) (now (catalogue .entry)) (now (card .entry)) in
-            ⌜ (r ≡ acceptOutcomeBy true (now (summary .entry)) s sheet start k)
-            × (now (map .exit) ≡ acceptMapBy true (now (summary .entry)) s sheet start k)
-            × (now (summary .exit) ≡ acceptSummaryBy true (now (summary .entry)) s sheet start k)
-            × (now (catalogue .exit) ≡ acceptEntriesBy true (now (summary .entry)) s sheet start k)
-            × (now (card .exit) ≡ acceptCardBy true (now (summary .entry)) s sheet start k) ⌝ }
+            let shares = now (limits .entry) in
+            ⌜ (r ≡ acceptOutcomeBy true (now (summary .entry)) s shares sheet start k)
+            × (now (map .exit) ≡ acceptMapBy true (now (summary .entry)) s shares sheet start k)
+            × (now (summary .exit) ≡ acceptSummaryBy true (now (summary .entry)) s shares sheet start k)
+            × (now (catalogue .exit) ≡ acceptEntriesBy true (now (summary .entry)) s shares sheet start k)
+            × (now (card .exit) ≡ acceptCardBy true (now (summary .entry)) s shares sheet start k) ⌝ }
     {
         let slot = catalogue::find(&*catalogue, sheet);
-        let out = guided::accept_guided(self, map, summary, card, slot, sheet, start, k);
+        let held = catalogue_wings::held_by(&*catalogue, sheet);
+        let out = guided::accept_guided(
+            self,
+            map,
+            summary,
+            card,
+            limits,
+            slot,
+            held,
+            sheet,
+            start,
+            k,
+        );
         let entry = cores::entry_of(out);
         catalogue::store(catalogue, sheet, entry);
         cores::outcome_of(self, out)
@@ -134,18 +156,21 @@ impl Shape {
         summary: &mut [u32],
         catalogue: &mut [Entry],
         card: &mut [u8],
+        limits: &[u32; 8],
         sheet: u32,
         m: u32,
     ) -> Outcome
         ensures { λ r. let s = kept self (now (map .entry)) (now (catalogue .entry)) (now (card .entry)) in
-            ⌜ (r ≡ growOutcomeBy true (now (summary .entry)) s sheet m)
-            × (now (map .exit) ≡ growMapBy true (now (summary .entry)) s sheet m)
-            × (now (summary .exit) ≡ growSummaryBy true (now (summary .entry)) s sheet m)
-            × (now (catalogue .exit) ≡ growEntriesBy true (now (summary .entry)) s sheet m)
-            × (now (card .exit) ≡ growCardBy true (now (summary .entry)) s sheet m) ⌝ }
+            let shares = now (limits .entry) in
+            ⌜ (r ≡ growOutcomeBy true (now (summary .entry)) s shares sheet m)
+            × (now (map .exit) ≡ growMapBy true (now (summary .entry)) s shares sheet m)
+            × (now (summary .exit) ≡ growSummaryBy true (now (summary .entry)) s shares sheet m)
+            × (now (catalogue .exit) ≡ growEntriesBy true (now (summary .entry)) s shares sheet m)
+            × (now (card .exit) ≡ growCardBy true (now (summary .entry)) s shares sheet m) ⌝ }
     {
         let slot = catalogue::find(&*catalogue, sheet);
-        let out = guided::grow_guided(self, map, summary, card, slot, sheet, m);
+        let held = catalogue_wings::held_by(&*catalogue, sheet);
+        let out = guided::grow_guided(self, map, summary, card, limits, slot, held, sheet, m);
         let entry = cores::entry_of(out);
         catalogue::store(catalogue, sheet, entry);
         cores::outcome_of(self, out)

@@ -3,10 +3,10 @@ pub mod BufferFromMapCatalogueCard2
 pub mod BufferFromMapCatalogueCard5
 pub mod CardFromMapCataloguePayload2
 pub mod CatalogueFromMapCard1
-pub mod FromMapCatalogueCard2
-pub mod MapCatalogueCard2
-pub mod MapCatalogueCard3
-pub mod MapCatalogueCard5
-pub mod MapSummaryCatalogueCard2
-pub mod MapSummaryCatalogueCard3
-pub mod MapSummaryCatalogueCard5
+pub mod FromMapCatalogueCardLimits2
+pub mod MapCatalogueCardFromLimits2
+pub mod MapCatalogueCardFromLimits3
+pub mod MapCatalogueCardFromLimits5
+pub mod MapSummaryCatalogueCardFromLimits2
+pub mod MapSummaryCatalogueCardFromLimits3
+pub mod MapSummaryCatalogueCardFromLimits5

@@ -1,12 +1,14 @@
--- Written by tools/walks: `card::Shape::accept_with_summary` meets its contract, by the walk of `MapSummaryCatalogueCard3.antt`
--- of the crate walk_card_methods, with the calls of `catalogue::find`, `card::guided::accept_guided`, `card::cores::entry_of`,
--- `catalogue::store`, `card::cores::outcome_of`.
+-- Written by tools/walks: `card::Shape::accept_with_summary` meets its contract, by the walk of
+-- `MapSummaryCatalogueCardFromLimits3.antt` of the crate walk_card_methods, with the calls of `catalogue::find`,
+-- `catalogue_wings::held_by`, `card::guided::accept_guided`, `card::cores::entry_of`, `catalogue::store`,
+-- `card::cores::outcome_of`.
 -- Assumes nothing.
 use contract.Running.{givenOf, tables, tablesOf}
 use denote.Triple.Spec.{tripleOf}
 use denote.Triple.Table.{entered, cited}
 use lib.ListN.{set}
 use Rattle.catalogue.specs.Entries.{slotAt}
+use Rattle.catalogue_wings.specs.Wings.{heldBy}
 use Rattle.card.specs.Calls.{outcomeOf}
 use Rattle.card.specs.Cores.{entryLeft}
 use Rattle.card.specs.Cores.{withSummary}
@@ -21,10 +23,13 @@ use Rattle.card.proofs.Shape as Shape′
 use Rattle.card.proofs.Shape.Laws as Shape″
 use Rattle.card.proofs.Outcome as Outcome′
 use Rattle.card.proofs.Outcome.Laws as Outcome″
-use Rattle.walk_card_methods.proofs.MapSummaryCatalogueCard3.{find-contract, core-contract, entry-of-contract, store-contract}
-use Rattle.walk_card_methods.proofs.MapSummaryCatalogueCard3.{outcome-of-contract, meets}
+use Rattle.walk_card_methods.proofs.MapSummaryCatalogueCardFromLimits3.{find-contract, held-by-contract, core-contract}
+use Rattle.walk_card_methods.proofs.MapSummaryCatalogueCardFromLimits3.{entry-of-contract, store-contract, outcome-of-contract}
+use Rattle.walk_card_methods.proofs.MapSummaryCatalogueCardFromLimits3.{meets}
 use Rattle.catalogue.proofs.find.Symbol as find-def
 use Rattle.catalogue.proofs.find.Met as find-met
+use Rattle.catalogue_wings.proofs.held_by.Symbol as held-by-def
+use Rattle.catalogue_wings.proofs.held_by.Met as held-by-met
 use Rattle.card.proofs.guided.accept_guided.Symbol as core-def
 use Rattle.card.proofs.guided.accept_guided.Met as core-met
 use Rattle.card.proofs.cores.entry_of.Symbol as entry-of-def
@@ -55,11 +60,14 @@ unfolding code.routine tablesOf
 accept-with-summary-spec 𝓤 H 𝓜 𝓖 𝓡 =
     entered 𝓤 H (tripleOf 𝓤 H (𝓖 .A) accept-with-summary.signature (accept-with-summary.spec 𝓤 H (𝓖 .A) (𝓜 .mem) (𝓡 .run)))
     (tables 𝓤 H 𝓜 𝓡 code.env .C) (tables 𝓤 H 𝓜 𝓡 code.env .Λ) #accept-with-summary code.function (code.unfolded 𝓤 H 𝓜 𝓡)
-    (meets Slot Out Shape Outcome find-def.name core-def.name entry-of-def.name store-def.name outcome-of-def.name slotAt
-    (withSummary acceptOut) (withSummary acceptMap) (withSummary acceptSummary) (withSummary acceptCard) entryLeft set outcomeOf
+    (meets Slot Out Shape Outcome find-def.name held-by-def.name core-def.name entry-of-def.name store-def.name
+    outcome-of-def.name slotAt heldBy (withSummary acceptOut) (withSummary acceptMap) (withSummary acceptSummary)
+    (withSummary acceptCard) entryLeft set outcomeOf
     𝓤 H (𝓖 .A) (givenOf 𝓤 H 𝓜 𝓖) (tablesOf 𝓤 H 𝓜 (tables 𝓤 H 𝓜 𝓡 code.env))
     (cited 𝓤 H (find-contract Slot Out Shape Outcome slotAt 𝓤 H (𝓖 .A)) 𝓜 𝓡 code.env find-def.name find-def.routine
     code.calls-catalogue·find (find-met.met 𝓤 H 𝓜 𝓖 𝓡))
+    (cited 𝓤 H (held-by-contract Slot Out Shape Outcome heldBy 𝓤 H (𝓖 .A)) 𝓜 𝓡 code.env held-by-def.name held-by-def.routine
+    code.calls-catalogue-wings·held-by (held-by-met.met 𝓤 H 𝓜 𝓖 𝓡))
     (cited 𝓤 H (core-contract Slot Out Shape Outcome (withSummary acceptOut) (withSummary acceptMap) (withSummary acceptSummary)
     (withSummary acceptCard) 𝓤 H (𝓖 .A)) 𝓜 𝓡 code.env core-def.name core-def.routine code.calls-card·guided·accept-guided
     (core-met.met 𝓤 H 𝓜 𝓖 𝓡))

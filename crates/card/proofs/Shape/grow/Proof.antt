@@ -1,15 +1,16 @@
--- Written by tools/walks: `card::Shape::grow` meets its contract, by the walk of `MapCatalogueCard2.antt` of the crate
--- walk_card_methods, with the calls of `catalogue::find`, `card::cores::grow_core`, `card::cores::entry_of`,
--- `catalogue::store`, `card::cores::outcome_of`.
+-- Written by tools/walks: `card::Shape::grow` meets its contract, by the walk of `MapCatalogueCardFromLimits2.antt` of the
+-- crate walk_card_methods, with the calls of `catalogue::find`, `catalogue_wings::held_by`, `card::cores::grow_core`,
+-- `card::cores::entry_of`, `catalogue::store`, `card::cores::outcome_of`.
 -- Assumes nothing.
 use contract.Running.{givenOf, tables, tablesOf}
 use denote.Triple.Spec.{tripleOf}
 use denote.Triple.Table.{entered, cited}
 use lib.ListN.{set}
 use Rattle.catalogue.specs.Entries.{slotAt}
+use Rattle.catalogue_wings.specs.Wings.{heldBy}
 use Rattle.card.specs.Calls.{outcomeOf}
 use Rattle.card.specs.Cores.{entryLeft}
-use Rattle.card.specs.Cores.{withSlot}
+use Rattle.card.specs.Cores.{withLimits}
 use Rattle.refusals.specs.Effects.{growOut, growMap, growCard}
 use Rattle.catalogue.proofs.Values.{Value, valueOf}
 use Rattle.catalogue.proofs.Slot as Slot′
@@ -20,10 +21,12 @@ use Rattle.card.proofs.Shape as Shape′
 use Rattle.card.proofs.Shape.Laws as Shape″
 use Rattle.card.proofs.Outcome as Outcome′
 use Rattle.card.proofs.Outcome.Laws as Outcome″
-use Rattle.walk_card_methods.proofs.MapCatalogueCard2.{find-contract, core-contract, entry-of-contract, store-contract}
-use Rattle.walk_card_methods.proofs.MapCatalogueCard2.{outcome-of-contract, meets}
+use Rattle.walk_card_methods.proofs.MapCatalogueCardFromLimits2.{find-contract, held-by-contract, core-contract}
+use Rattle.walk_card_methods.proofs.MapCatalogueCardFromLimits2.{entry-of-contract, store-contract, outcome-of-contract, meets}
 use Rattle.catalogue.proofs.find.Symbol as find-def
 use Rattle.catalogue.proofs.find.Met as find-met
+use Rattle.catalogue_wings.proofs.held_by.Symbol as held-by-def
+use Rattle.catalogue_wings.proofs.held_by.Met as held-by-met
 use Rattle.card.proofs.cores.grow_core.Symbol as core-def
 use Rattle.card.proofs.cores.grow_core.Met as core-met
 use Rattle.card.proofs.cores.entry_of.Symbol as entry-of-def
@@ -54,13 +57,15 @@ unfolding code.routine tablesOf
 grow-spec 𝓤 H 𝓜 𝓖 𝓡 =
     entered 𝓤 H (tripleOf 𝓤 H (𝓖 .A) grow.signature (grow.spec 𝓤 H (𝓖 .A) (𝓜 .mem) (𝓡 .run)))
     (tables 𝓤 H 𝓜 𝓡 code.env .C) (tables 𝓤 H 𝓜 𝓡 code.env .Λ) #grow code.function (code.unfolded 𝓤 H 𝓜 𝓡)
-    (meets Slot Out Shape Outcome find-def.name core-def.name entry-of-def.name store-def.name outcome-of-def.name slotAt
-    (withSlot growOut) (withSlot growMap) (withSlot growCard) entryLeft set outcomeOf
+    (meets Slot Out Shape Outcome find-def.name held-by-def.name core-def.name entry-of-def.name store-def.name
+    outcome-of-def.name slotAt heldBy (withLimits growOut) (withLimits growMap) (withLimits growCard) entryLeft set outcomeOf
     𝓤 H (𝓖 .A) (givenOf 𝓤 H 𝓜 𝓖) (tablesOf 𝓤 H 𝓜 (tables 𝓤 H 𝓜 𝓡 code.env))
     (cited 𝓤 H (find-contract Slot Out Shape Outcome slotAt 𝓤 H (𝓖 .A)) 𝓜 𝓡 code.env find-def.name find-def.routine
     code.calls-catalogue·find (find-met.met 𝓤 H 𝓜 𝓖 𝓡))
-    (cited 𝓤 H (core-contract Slot Out Shape Outcome (withSlot growOut) (withSlot growMap) (withSlot growCard) 𝓤 H (𝓖 .A)) 𝓜 𝓡
-    code.env core-def.name core-def.routine code.calls-card·cores·grow-core (core-met.met 𝓤 H 𝓜 𝓖 𝓡))
+    (cited 𝓤 H (held-by-contract Slot Out Shape Outcome heldBy 𝓤 H (𝓖 .A)) 𝓜 𝓡 code.env held-by-def.name held-by-def.routine
+    code.calls-catalogue-wings·held-by (held-by-met.met 𝓤 H 𝓜 𝓖 𝓡))
+    (cited 𝓤 H (core-contract Slot Out Shape Outcome (withLimits growOut) (withLimits growMap) (withLimits growCard) 𝓤 H (𝓖 .A))
+    𝓜 𝓡 code.env core-def.name core-def.routine code.calls-card·cores·grow-core (core-met.met 𝓤 H 𝓜 𝓖 𝓡))
     (cited 𝓤 H (entry-of-contract Slot Out Shape Outcome entryLeft 𝓤 H (𝓖 .A)) 𝓜 𝓡 code.env entry-of-def.name
     entry-of-def.routine code.calls-card·cores·entry-of (entry-of-met.met 𝓤 H 𝓜 𝓖 𝓡))
     (cited 𝓤 H (store-contract Slot Out Shape Outcome set 𝓤 H (𝓖 .A)) 𝓜 𝓡 code.env store-def.name store-def.routine

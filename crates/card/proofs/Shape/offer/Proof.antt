@@ -1,10 +1,11 @@
--- Written by tools/walks: `card::Shape::offer` meets its contract, by the walk of `FromMapCatalogueCard2.antt` of the crate
--- walk_card_methods, with the calls of `catalogue::find`, `card::cores::offer_core`.
+-- Written by tools/walks: `card::Shape::offer` meets its contract, by the walk of `FromMapCatalogueCardLimits2.antt` of the
+-- crate walk_card_methods, with the calls of `catalogue::find`, `catalogue_wings::held_by`, `card::cores::offer_core`.
 -- Assumes nothing.
 use contract.Running.{givenOf, tables, tablesOf}
 use denote.Triple.Spec.{tripleOf}
 use denote.Triple.Table.{entered, cited}
 use Rattle.catalogue.specs.Entries.{slotAt}
+use Rattle.catalogue_wings.specs.Wings.{heldBy}
 use Rattle.card.specs.Cores.{offerOutcomeAt}
 use Rattle.catalogue.proofs.Values.{Value, valueOf}
 use Rattle.catalogue.proofs.Slot as Slot′
@@ -13,9 +14,11 @@ use Rattle.card.proofs.Shape as Shape′
 use Rattle.card.proofs.Shape.Laws as Shape″
 use Rattle.card.proofs.Outcome as Outcome′
 use Rattle.card.proofs.Outcome.Laws as Outcome″
-use Rattle.walk_card_methods.proofs.FromMapCatalogueCard2.{find-contract, core-contract, meets}
+use Rattle.walk_card_methods.proofs.FromMapCatalogueCardLimits2.{find-contract, held-by-contract, core-contract, meets}
 use Rattle.catalogue.proofs.find.Symbol as find-def
 use Rattle.catalogue.proofs.find.Met as find-met
+use Rattle.catalogue_wings.proofs.held_by.Symbol as held-by-def
+use Rattle.catalogue_wings.proofs.held_by.Met as held-by-met
 use Rattle.card.proofs.cores.offer_core.Symbol as core-def
 use Rattle.card.proofs.cores.offer_core.Met as core-met
 use Rattle.card.proofs.Shape.offer.Key.{name as #offer}
@@ -37,9 +40,11 @@ unfolding code.routine tablesOf
 offer-spec 𝓤 H 𝓜 𝓖 𝓡 =
     entered 𝓤 H (tripleOf 𝓤 H (𝓖 .A) offer.signature (offer.spec 𝓤 H (𝓖 .A) (𝓜 .mem) (𝓡 .run)))
     (tables 𝓤 H 𝓜 𝓡 code.env .C) (tables 𝓤 H 𝓜 𝓡 code.env .Λ) #offer code.function (code.unfolded 𝓤 H 𝓜 𝓡)
-    (meets Slot Shape Outcome find-def.name core-def.name slotAt offerOutcomeAt
+    (meets Slot Shape Outcome find-def.name held-by-def.name core-def.name slotAt heldBy offerOutcomeAt
     𝓤 H (𝓖 .A) (givenOf 𝓤 H 𝓜 𝓖) (tablesOf 𝓤 H 𝓜 (tables 𝓤 H 𝓜 𝓡 code.env))
     (cited 𝓤 H (find-contract Slot Shape Outcome slotAt 𝓤 H (𝓖 .A)) 𝓜 𝓡 code.env find-def.name find-def.routine
     code.calls-catalogue·find (find-met.met 𝓤 H 𝓜 𝓖 𝓡))
+    (cited 𝓤 H (held-by-contract Slot Shape Outcome heldBy 𝓤 H (𝓖 .A)) 𝓜 𝓡 code.env held-by-def.name held-by-def.routine
+    code.calls-catalogue-wings·held-by (held-by-met.met 𝓤 H 𝓜 𝓖 𝓡))
     (cited 𝓤 H (core-contract Slot Shape Outcome offerOutcomeAt 𝓤 H (𝓖 .A)) 𝓜 𝓡 code.env core-def.name core-def.routine
     code.calls-card·cores·offer-core (core-met.met 𝓤 H 𝓜 𝓖 𝓡)))

@@ -1,15 +1,16 @@
--- Written by tools/walks: `card::Shape::reserve_placed` meets its contract, by the walk of `MapCatalogueCard5.antt` of the
--- crate walk_card_methods, with the calls of `catalogue::find`, `card::cores::reserve_placed_core`, `card::cores::entry_of`,
--- `catalogue::store`, `card::cores::outcome_of`.
+-- Written by tools/walks: `card::Shape::reserve_placed` meets its contract, by the walk of `MapCatalogueCardFromLimits5.antt`
+-- of the crate walk_card_methods, with the calls of `catalogue::find`, `catalogue_wings::held_by`,
+-- `card::cores::reserve_placed_core`, `card::cores::entry_of`, `catalogue::store`, `card::cores::outcome_of`.
 -- Assumes nothing.
 use contract.Running.{givenOf, tables, tablesOf}
 use denote.Triple.Spec.{tripleOf}
 use denote.Triple.Table.{entered, cited}
 use lib.ListN.{set}
 use Rattle.catalogue.specs.Entries.{slotAt}
+use Rattle.catalogue_wings.specs.Wings.{heldBy}
 use Rattle.card.specs.Calls.{outcomeOf}
 use Rattle.card.specs.Cores.{entryLeft}
-use Rattle.card.specs.Cores.{withSlot}
+use Rattle.card.specs.Cores.{withLimits}
 use Rattle.card.specs.Reserves.{placedOut, placedMap, placedCard}
 use Rattle.catalogue.proofs.Values.{Value, valueOf}
 use Rattle.catalogue.proofs.Slot as Slot′
@@ -20,10 +21,12 @@ use Rattle.card.proofs.Shape as Shape′
 use Rattle.card.proofs.Shape.Laws as Shape″
 use Rattle.card.proofs.Outcome as Outcome′
 use Rattle.card.proofs.Outcome.Laws as Outcome″
-use Rattle.walk_card_methods.proofs.MapCatalogueCard5.{find-contract, core-contract, entry-of-contract, store-contract}
-use Rattle.walk_card_methods.proofs.MapCatalogueCard5.{outcome-of-contract, meets}
+use Rattle.walk_card_methods.proofs.MapCatalogueCardFromLimits5.{find-contract, held-by-contract, core-contract}
+use Rattle.walk_card_methods.proofs.MapCatalogueCardFromLimits5.{entry-of-contract, store-contract, outcome-of-contract, meets}
 use Rattle.catalogue.proofs.find.Symbol as find-def
 use Rattle.catalogue.proofs.find.Met as find-met
+use Rattle.catalogue_wings.proofs.held_by.Symbol as held-by-def
+use Rattle.catalogue_wings.proofs.held_by.Met as held-by-met
 use Rattle.card.proofs.cores.reserve_placed_core.Symbol as core-def
 use Rattle.card.proofs.cores.reserve_placed_core.Met as core-met
 use Rattle.card.proofs.cores.entry_of.Symbol as entry-of-def
@@ -54,13 +57,16 @@ unfolding code.routine tablesOf
 reserve-placed-spec 𝓤 H 𝓜 𝓖 𝓡 =
     entered 𝓤 H (tripleOf 𝓤 H (𝓖 .A) reserve-placed.signature (reserve-placed.spec 𝓤 H (𝓖 .A) (𝓜 .mem) (𝓡 .run)))
     (tables 𝓤 H 𝓜 𝓡 code.env .C) (tables 𝓤 H 𝓜 𝓡 code.env .Λ) #reserve-placed code.function (code.unfolded 𝓤 H 𝓜 𝓡)
-    (meets Slot Out Shape Outcome find-def.name core-def.name entry-of-def.name store-def.name outcome-of-def.name slotAt
-    (withSlot placedOut) (withSlot placedMap) (withSlot placedCard) entryLeft set outcomeOf
+    (meets Slot Out Shape Outcome find-def.name held-by-def.name core-def.name entry-of-def.name store-def.name
+    outcome-of-def.name slotAt heldBy (withLimits placedOut) (withLimits placedMap) (withLimits placedCard) entryLeft set
+    outcomeOf
     𝓤 H (𝓖 .A) (givenOf 𝓤 H 𝓜 𝓖) (tablesOf 𝓤 H 𝓜 (tables 𝓤 H 𝓜 𝓡 code.env))
     (cited 𝓤 H (find-contract Slot Out Shape Outcome slotAt 𝓤 H (𝓖 .A)) 𝓜 𝓡 code.env find-def.name find-def.routine
     code.calls-catalogue·find (find-met.met 𝓤 H 𝓜 𝓖 𝓡))
-    (cited 𝓤 H (core-contract Slot Out Shape Outcome (withSlot placedOut) (withSlot placedMap) (withSlot placedCard) 𝓤 H (𝓖 .A))
-    𝓜 𝓡 code.env core-def.name core-def.routine code.calls-card·cores·reserve-placed-core (core-met.met 𝓤 H 𝓜 𝓖 𝓡))
+    (cited 𝓤 H (held-by-contract Slot Out Shape Outcome heldBy 𝓤 H (𝓖 .A)) 𝓜 𝓡 code.env held-by-def.name held-by-def.routine
+    code.calls-catalogue-wings·held-by (held-by-met.met 𝓤 H 𝓜 𝓖 𝓡))
+    (cited 𝓤 H (core-contract Slot Out Shape Outcome (withLimits placedOut) (withLimits placedMap) (withLimits placedCard) 𝓤 H
+    (𝓖 .A)) 𝓜 𝓡 code.env core-def.name core-def.routine code.calls-card·cores·reserve-placed-core (core-met.met 𝓤 H 𝓜 𝓖 𝓡))
     (cited 𝓤 H (entry-of-contract Slot Out Shape Outcome entryLeft 𝓤 H (𝓖 .A)) 𝓜 𝓡 code.env entry-of-def.name
     entry-of-def.routine code.calls-card·cores·entry-of (entry-of-met.met 𝓤 H 𝓜 𝓖 𝓡))
     (cited 𝓤 H (store-contract Slot Out Shape Outcome set 𝓤 H (𝓖 .A)) 𝓜 𝓡 code.env store-def.name store-def.routine

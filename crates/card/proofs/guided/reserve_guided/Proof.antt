@@ -5,6 +5,7 @@ use mathlib.Core.Path.{_∙_}
 use borrow.Author.Needs.{needs}
 use denote.Ref.{now}
 use Rattle.refusals.proofs.Reserve.{plain-out, plain-map, plain-summary, plain-card}
+use Rattle.refusals.specs.Lent.{within}
 use Rattle.card.specs.Cores.{lentAtBy}
 use Rattle.card.proofs.guided.reserve_guided.Statement.{statement}
 use Rattle.card.proofs.guided.reserve_guided.Tie as tie
@@ -24,7 +25,8 @@ same-length-3 c = search needs
 returns : tie.Need-returns
 returns c =
     let a = c .before .before .before .before .before .before .before .before .before .before .before .before .before .args in
-    let q = lentAtBy true (now (a .summary)) (a .shape) (now (a .map)) (now (a .card)) (a .slot) (a .sheet) in
+    let q = within (a .held) (now (a .limits))
+    (lentAtBy true (now (a .summary)) (a .shape) (now (a .map)) (now (a .card)) (a .slot) (a .sheet)) in
     let left = c .before .before .before .before .before .before .reserve-placed-guided .ensures in (
       left .0 ∙ plain-out q (a .k),
       left .1 ∙ plain-map q (a .k),
