@@ -64,31 +64,33 @@ module _ {M : Type 1} (𝓤 : URA M) (H : Heap 𝓤) (A : Atoms 𝓤) (mem : Mem
 
   pub pagunlit-reserve-contract : Ensures 𝓤 reserve-function.ended (reserve-function.clauses 𝓤 H A mem run) (λ κs a r t.
       Reserves replyOf (kept (a .0) (now (a .1 .0)) (now (a .1 .1 .0)) (now (a .1 .1 .1 .0)))
-      (a .1 .1 .1 .1 .0) (a .1 .1 .1 .1 .1 .0) r (now (t .1 .0)) (now (t .1 .1 .0)) (now (t .1 .1 .1 .0)))
+      (now (a .1 .1 .1 .1 .0)) (a .1 .1 .1 .1 .1 .0) (a .1 .1 .1 .1 .1 .1 .0)
+      r (now (t .1 .0)) (now (t .1 .1 .0)) (now (t .1 .1 .1 .0)))
   pagunlit-reserve-contract κs a r t g = refl
 
   pub pagunlit-reserve-placed-contract : Ensures 𝓤 reserve-placed-function.ended
       (reserve-placed-function.clauses 𝓤 H A mem run)
-      (λ κs a r t. let more = a .1 .1 .1 .1 in
-      ReservesPlaced replyOf (kept (a .0) (now (a .1 .0)) (now (a .1 .1 .0)) (now (a .1 .1 .1 .0)))
+      (λ κs a r t. let more = a .1 .1 .1 .1 .1 in
+      ReservesPlaced replyOf (kept (a .0) (now (a .1 .0)) (now (a .1 .1 .0)) (now (a .1 .1 .1 .0))) (now (a .1 .1 .1 .1 .0))
       (more .0) (more .1 .0) (more .1 .1 .0) (more .1 .1 .1 .0) (more .1 .1 .1 .1 .0)
       r (now (t .1 .0)) (now (t .1 .1 .0)) (now (t .1 .1 .1 .0)))
   pagunlit-reserve-placed-contract κs a r t g = refl
 
   pub pagunlit-offer-contract : Ensures 𝓤 offer-function.ended (offer-function.clauses 𝓤 H A mem run) (λ κs a r t.
       Offers replyOf (kept (a .0) (now (a .1 .0)) (now (a .1 .1 .0)) (now (a .1 .1 .1 .0)))
-      (a .1 .1 .1 .1 .0) (a .1 .1 .1 .1 .1 .0) r)
+      (now (a .1 .1 .1 .1 .0)) (a .1 .1 .1 .1 .1 .0) (a .1 .1 .1 .1 .1 .1 .0) r)
   pagunlit-offer-contract κs a r t g = refl
 
   pub pagunlit-accept-contract : Ensures 𝓤 accept-function.ended (accept-function.clauses 𝓤 H A mem run) (λ κs a r t.
       Accepts replyOf (kept (a .0) (now (a .1 .0)) (now (a .1 .1 .0)) (now (a .1 .1 .1 .0)))
-      (a .1 .1 .1 .1 .0) (a .1 .1 .1 .1 .1 .0) (a .1 .1 .1 .1 .1 .1 .0)
+      (now (a .1 .1 .1 .1 .0)) (a .1 .1 .1 .1 .1 .0) (a .1 .1 .1 .1 .1 .1 .0) (a .1 .1 .1 .1 .1 .1 .1 .0)
       r (now (t .1 .0)) (now (t .1 .1 .0)) (now (t .1 .1 .1 .0)))
   pagunlit-accept-contract κs a r t g = refl
 
   pub pagunlit-grow-contract : Ensures 𝓤 grow-function.ended (grow-function.clauses 𝓤 H A mem run) (λ κs a r t.
       Grows replyOf (kept (a .0) (now (a .1 .0)) (now (a .1 .1 .0)) (now (a .1 .1 .1 .0)))
-      (a .1 .1 .1 .1 .0) (a .1 .1 .1 .1 .1 .0) r (now (t .1 .0)) (now (t .1 .1 .0)) (now (t .1 .1 .1 .0)))
+      (now (a .1 .1 .1 .1 .0)) (a .1 .1 .1 .1 .1 .0) (a .1 .1 .1 .1 .1 .1 .0)
+      r (now (t .1 .0)) (now (t .1 .1 .0)) (now (t .1 .1 .1 .0)))
   pagunlit-grow-contract κs a r t g = refl
 
   pub pagunlit-put-contract : Ensures 𝓤 put-function.ended (put-function.clauses 𝓤 H A mem run) (λ κs a r t.

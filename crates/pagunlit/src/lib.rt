@@ -63,16 +63,18 @@ pub extern "C" fn pagunlit_reserve(
     map: &mut [u64],
     catalogue: &mut [Entry],
     card: &mut [u8],
+    limits: &[u32; 8],
     sheet: u32,
     count: u32,
 ) -> Reply
     ensures { λ r. let s = kept shape (now (map .entry)) (now (catalogue .entry)) (now (card .entry)) in
-        ⌜ (r ≡ replyOf (reserveOutcome s sheet count plain))
-        × (now (map .exit) ≡ reserveMap s sheet count plain)
-        × (now (catalogue .exit) ≡ reserveEntries s sheet count plain)
-        × (now (card .exit) ≡ reserveCard s sheet count plain) ⌝ }
+        let shares = now (limits .entry) in
+        ⌜ (r ≡ replyOf (reserveOutcome s shares sheet count plain))
+        × (now (map .exit) ≡ reserveMap s shares sheet count plain)
+        × (now (catalogue .exit) ≡ reserveEntries s shares sheet count plain)
+        × (now (card .exit) ≡ reserveCard s shares sheet count plain) ⌝ }
 {
-    let outcome = shape.reserve(map, catalogue, card, sheet, count);
+    let outcome = shape.reserve(map, catalogue, card, limits, sheet, count);
     reply_of(outcome)
 }
 
@@ -82,6 +84,7 @@ pub extern "C" fn pagunlit_reserve_placed(
     map: &mut [u64],
     catalogue: &mut [Entry],
     card: &mut [u8],
+    limits: &[u32; 8],
     sheet: u32,
     count: u32,
     from: u32,
@@ -89,13 +92,24 @@ pub extern "C" fn pagunlit_reserve_placed(
     step: u32,
 ) -> Reply
     ensures { λ r. let s = kept shape (now (map .entry)) (now (catalogue .entry)) (now (card .entry)) in
+        let shares = now (limits .entry) in
         let p = placed (figures from before step) in
-        ⌜ (r ≡ replyOf (reserveOutcome s sheet count p))
-        × (now (map .exit) ≡ reserveMap s sheet count p)
-        × (now (catalogue .exit) ≡ reserveEntries s sheet count p)
-        × (now (card .exit) ≡ reserveCard s sheet count p) ⌝ }
+        ⌜ (r ≡ replyOf (reserveOutcome s shares sheet count p))
+        × (now (map .exit) ≡ reserveMap s shares sheet count p)
+        × (now (catalogue .exit) ≡ reserveEntries s shares sheet count p)
+        × (now (card .exit) ≡ reserveCard s shares sheet count p) ⌝ }
 {
-    let outcome = shape.reserve_placed(map, catalogue, card, sheet, count, from, before, step);
+    let outcome = shape.reserve_placed(
+        map,
+        catalogue,
+        card,
+        limits,
+        sheet,
+        count,
+        from,
+        before,
+        step,
+    );
     reply_of(outcome)
 }
 
@@ -105,13 +119,15 @@ pub extern "C" fn pagunlit_offer(
     map: &[u64],
     catalogue: &[Entry],
     card: &[u8],
+    limits: &[u32; 8],
     sheet: u32,
     count: u32,
 ) -> Reply
     ensures { λ r. let s = kept shape (now (map .entry)) (now (catalogue .entry)) (now (card .entry)) in
-        ⌜ r ≡ replyOf (offerOutcome s sheet count) ⌝ }
+        let shares = now (limits .entry) in
+        ⌜ r ≡ replyOf (offerOutcome s shares sheet count) ⌝ }
 {
-    let outcome = shape.offer(map, catalogue, card, sheet, count);
+    let outcome = shape.offer(map, catalogue, card, limits, sheet, count);
     reply_of(outcome)
 }
 
@@ -121,17 +137,19 @@ pub extern "C" fn pagunlit_accept(
     map: &mut [u64],
     catalogue: &mut [Entry],
     card: &mut [u8],
+    limits: &[u32; 8],
     sheet: u32,
     start: u32,
     count: u32,
 ) -> Reply
     ensures { λ r. let s = kept shape (now (map .entry)) (now (catalogue .entry)) (now (card .entry)) in
-        ⌜ (r ≡ replyOf (acceptOutcome s sheet start count))
-        × (now (map .exit) ≡ acceptMap s sheet start count)
-        × (now (catalogue .exit) ≡ acceptEntries s sheet start count)
-        × (now (card .exit) ≡ acceptCard s sheet start count) ⌝ }
+        let shares = now (limits .entry) in
+        ⌜ (r ≡ replyOf (acceptOutcome s shares sheet start count))
+        × (now (map .exit) ≡ acceptMap s shares sheet start count)
+        × (now (catalogue .exit) ≡ acceptEntries s shares sheet start count)
+        × (now (card .exit) ≡ acceptCard s shares sheet start count) ⌝ }
 {
-    let outcome = shape.accept(map, catalogue, card, sheet, start, count);
+    let outcome = shape.accept(map, catalogue, card, limits, sheet, start, count);
     reply_of(outcome)
 }
 
@@ -141,16 +159,18 @@ pub extern "C" fn pagunlit_grow(
     map: &mut [u64],
     catalogue: &mut [Entry],
     card: &mut [u8],
+    limits: &[u32; 8],
     sheet: u32,
     count: u32,
 ) -> Reply
     ensures { λ r. let s = kept shape (now (map .entry)) (now (catalogue .entry)) (now (card .entry)) in
-        ⌜ (r ≡ replyOf (growOutcome s sheet count))
-        × (now (map .exit) ≡ growMap s sheet count)
-        × (now (catalogue .exit) ≡ growEntries s sheet count)
-        × (now (card .exit) ≡ growCard s sheet count) ⌝ }
+        let shares = now (limits .entry) in
+        ⌜ (r ≡ replyOf (growOutcome s shares sheet count))
+        × (now (map .exit) ≡ growMap s shares sheet count)
+        × (now (catalogue .exit) ≡ growEntries s shares sheet count)
+        × (now (card .exit) ≡ growCard s shares sheet count) ⌝ }
 {
-    let outcome = shape.grow(map, catalogue, card, sheet, count);
+    let outcome = shape.grow(map, catalogue, card, limits, sheet, count);
     reply_of(outcome)
 }
 

@@ -39,17 +39,19 @@ pub extern "C" fn pagunlit_reserve_with_summary(
     summary: &mut [u32],
     catalogue: &mut [Entry],
     card: &mut [u8],
+    limits: &[u32; 8],
     sheet: u32,
     count: u32,
 ) -> Reply
     ensures { λ r. let s = kept shape (now (map .entry)) (now (catalogue .entry)) (now (card .entry)) in
-        ⌜ (r ≡ replyOf (reserveOutcomeBy true (now (summary .entry)) s sheet count plain))
-        × (now (map .exit) ≡ reserveMapBy true (now (summary .entry)) s sheet count plain)
-        × (now (summary .exit) ≡ reserveSummaryBy true (now (summary .entry)) s sheet count plain)
-        × (now (catalogue .exit) ≡ reserveEntriesBy true (now (summary .entry)) s sheet count plain)
-        × (now (card .exit) ≡ reserveCardBy true (now (summary .entry)) s sheet count plain) ⌝ }
+        let shares = now (limits .entry) in
+        ⌜ (r ≡ replyOf (reserveOutcomeBy true (now (summary .entry)) s shares sheet count plain))
+        × (now (map .exit) ≡ reserveMapBy true (now (summary .entry)) s shares sheet count plain)
+        × (now (summary .exit) ≡ reserveSummaryBy true (now (summary .entry)) s shares sheet count plain)
+        × (now (catalogue .exit) ≡ reserveEntriesBy true (now (summary .entry)) s shares sheet count plain)
+        × (now (card .exit) ≡ reserveCardBy true (now (summary .entry)) s shares sheet count plain) ⌝ }
 {
-    let outcome = shape.reserve_with_summary(map, summary, catalogue, card, sheet, count);
+    let outcome = shape.reserve_with_summary(map, summary, catalogue, card, limits, sheet, count);
     reply_of(outcome)
 }
 
@@ -60,6 +62,7 @@ pub extern "C" fn pagunlit_reserve_placed_with_summary(
     summary: &mut [u32],
     catalogue: &mut [Entry],
     card: &mut [u8],
+    limits: &[u32; 8],
     sheet: u32,
     count: u32,
     from: u32,
@@ -67,18 +70,20 @@ pub extern "C" fn pagunlit_reserve_placed_with_summary(
     step: u32,
 ) -> Reply
     ensures { λ r. let s = kept shape (now (map .entry)) (now (catalogue .entry)) (now (card .entry)) in
-        ⌜ (r ≡ replyOf (reserveOutcomeBy true (now (summary .entry)) s sheet count (placed (figures from before step))))
-        × (now (map .exit) ≡ reserveMapBy true (now (summary .entry)) s sheet count (placed (figures from before step)))
-        × (now (summary .exit) ≡ reserveSummaryBy true (now (summary .entry)) s sheet count (placed (figures from before step)))
-        × (now (catalogue .exit) ≡ reserveEntriesBy true (now (summary .entry)) s sheet count
-        (placed (figures from before step)))
-        × (now (card .exit) ≡ reserveCardBy true (now (summary .entry)) s sheet count (placed (figures from before step))) ⌝ }
+        let shares = now (limits .entry) in
+        let p = placed (figures from before step) in
+        ⌜ (r ≡ replyOf (reserveOutcomeBy true (now (summary .entry)) s shares sheet count p))
+        × (now (map .exit) ≡ reserveMapBy true (now (summary .entry)) s shares sheet count p)
+        × (now (summary .exit) ≡ reserveSummaryBy true (now (summary .entry)) s shares sheet count p)
+        × (now (catalogue .exit) ≡ reserveEntriesBy true (now (summary .entry)) s shares sheet count p)
+        × (now (card .exit) ≡ reserveCardBy true (now (summary .entry)) s shares sheet count p) ⌝ }
 {
     let outcome = shape.reserve_placed_with_summary(
         map,
         summary,
         catalogue,
         card,
+        limits,
         sheet,
         count,
         from,
@@ -95,18 +100,29 @@ pub extern "C" fn pagunlit_accept_with_summary(
     summary: &mut [u32],
     catalogue: &mut [Entry],
     card: &mut [u8],
+    limits: &[u32; 8],
     sheet: u32,
     start: u32,
     count: u32,
 ) -> Reply
     ensures { λ r. let s = kept shape (now (map .entry)) (now (catalogue .entry)) (now (card .entry)) in
-        ⌜ (r ≡ replyOf (acceptOutcomeBy true (now (summary .entry)) s sheet start count))
-        × (now (map .exit) ≡ acceptMapBy true (now (summary .entry)) s sheet start count)
-        × (now (summary .exit) ≡ acceptSummaryBy true (now (summary .entry)) s sheet start count)
-        × (now (catalogue .exit) ≡ acceptEntriesBy true (now (summary .entry)) s sheet start count)
-        × (now (card .exit) ≡ acceptCardBy true (now (summary .entry)) s sheet start count) ⌝ }
+        let shares = now (limits .entry) in
+        ⌜ (r ≡ replyOf (acceptOutcomeBy true (now (summary .entry)) s shares sheet start count))
+        × (now (map .exit) ≡ acceptMapBy true (now (summary .entry)) s shares sheet start count)
+        × (now (summary .exit) ≡ acceptSummaryBy true (now (summary .entry)) s shares sheet start count)
+        × (now (catalogue .exit) ≡ acceptEntriesBy true (now (summary .entry)) s shares sheet start count)
+        × (now (card .exit) ≡ acceptCardBy true (now (summary .entry)) s shares sheet start count) ⌝ }
 {
-    let outcome = shape.accept_with_summary(map, summary, catalogue, card, sheet, start, count);
+    let outcome = shape.accept_with_summary(
+        map,
+        summary,
+        catalogue,
+        card,
+        limits,
+        sheet,
+        start,
+        count,
+    );
     reply_of(outcome)
 }
 
@@ -117,17 +133,19 @@ pub extern "C" fn pagunlit_grow_with_summary(
     summary: &mut [u32],
     catalogue: &mut [Entry],
     card: &mut [u8],
+    limits: &[u32; 8],
     sheet: u32,
     count: u32,
 ) -> Reply
     ensures { λ r. let s = kept shape (now (map .entry)) (now (catalogue .entry)) (now (card .entry)) in
-        ⌜ (r ≡ replyOf (growOutcomeBy true (now (summary .entry)) s sheet count))
-        × (now (map .exit) ≡ growMapBy true (now (summary .entry)) s sheet count)
-        × (now (summary .exit) ≡ growSummaryBy true (now (summary .entry)) s sheet count)
-        × (now (catalogue .exit) ≡ growEntriesBy true (now (summary .entry)) s sheet count)
-        × (now (card .exit) ≡ growCardBy true (now (summary .entry)) s sheet count) ⌝ }
+        let shares = now (limits .entry) in
+        ⌜ (r ≡ replyOf (growOutcomeBy true (now (summary .entry)) s shares sheet count))
+        × (now (map .exit) ≡ growMapBy true (now (summary .entry)) s shares sheet count)
+        × (now (summary .exit) ≡ growSummaryBy true (now (summary .entry)) s shares sheet count)
+        × (now (catalogue .exit) ≡ growEntriesBy true (now (summary .entry)) s shares sheet count)
+        × (now (card .exit) ≡ growCardBy true (now (summary .entry)) s shares sheet count) ⌝ }
 {
-    let outcome = shape.grow_with_summary(map, summary, catalogue, card, sheet, count);
+    let outcome = shape.grow_with_summary(map, summary, catalogue, card, limits, sheet, count);
     reply_of(outcome)
 }
 

@@ -1,5 +1,5 @@
--- Written by tools/walks: `pagunlit::pagunlit_grow` meets its contract, by the walk of `MapCatalogueCard2.antt` of the crate
--- walk_replies, with the calls of `card::Shape::grow`, `pagunlit_replies::reply_of`.
+-- Written by tools/walks: `pagunlit::pagunlit_grow` meets its contract, by the walk of `MapCatalogueCardFromLimits2.antt` of
+-- the crate walk_replies, with the calls of `card::Shape::grow`, `pagunlit_replies::reply_of`.
 -- Assumes nothing.
 use contract.Running.{givenOf, tables, tablesOf}
 use denote.Triple.Spec.{tripleOf}
@@ -14,7 +14,7 @@ use Rattle.card.proofs.Outcome as Outcome′
 use Rattle.card.proofs.Outcome.Laws as Outcome″
 use Rattle.pagunlit_replies.proofs.Reply as Reply′
 use Rattle.pagunlit_replies.proofs.Reply.Laws as Reply″
-use Rattle.walk_replies.proofs.MapCatalogueCard2.{call-contract, reply-of-contract, meets}
+use Rattle.walk_replies.proofs.MapCatalogueCardFromLimits2.{call-contract, reply-of-contract, meets}
 use Rattle.card.proofs.Shape.grow.Symbol as call-def
 use Rattle.card.proofs.Shape.grow.Met as call-met
 use Rattle.pagunlit_replies.proofs.reply_of.Symbol as reply-of-def

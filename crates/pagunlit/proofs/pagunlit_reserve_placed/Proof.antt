@@ -1,5 +1,6 @@
--- Written by tools/walks: `pagunlit::pagunlit_reserve_placed` meets its contract, by the walk of `MapCatalogueCard5.antt` of
--- the crate walk_replies, with the calls of `card::Shape::reserve_placed`, `pagunlit_replies::reply_of`.
+-- Written by tools/walks: `pagunlit::pagunlit_reserve_placed` meets its contract, by the walk of
+-- `MapCatalogueCardFromLimits5.antt` of the crate walk_replies, with the calls of `card::Shape::reserve_placed`,
+-- `pagunlit_replies::reply_of`.
 -- Assumes nothing.
 use contract.Running.{givenOf, tables, tablesOf}
 use denote.Triple.Spec.{tripleOf}
@@ -14,7 +15,7 @@ use Rattle.card.proofs.Outcome as Outcome′
 use Rattle.card.proofs.Outcome.Laws as Outcome″
 use Rattle.pagunlit_replies.proofs.Reply as Reply′
 use Rattle.pagunlit_replies.proofs.Reply.Laws as Reply″
-use Rattle.walk_replies.proofs.MapCatalogueCard5.{call-contract, reply-of-contract, meets}
+use Rattle.walk_replies.proofs.MapCatalogueCardFromLimits5.{call-contract, reply-of-contract, meets}
 use Rattle.card.proofs.Shape.reserve_placed.Symbol as call-def
 use Rattle.card.proofs.Shape.reserve_placed.Met as call-met
 use Rattle.pagunlit_replies.proofs.reply_of.Symbol as reply-of-def

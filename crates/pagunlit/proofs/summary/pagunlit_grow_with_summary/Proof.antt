@@ -1,5 +1,5 @@
 -- Written by tools/walks: `pagunlit::summary::pagunlit_grow_with_summary` meets its contract, by the walk of
--- `MapSummaryCatalogueCard2.antt` of the crate walk_replies, with the calls of `card::Shape::grow_with_summary`,
+-- `MapSummaryCatalogueCardFromLimits2.antt` of the crate walk_replies, with the calls of `card::Shape::grow_with_summary`,
 -- `pagunlit_replies::reply_of`.
 -- Assumes nothing.
 use contract.Running.{givenOf, tables, tablesOf}
@@ -15,7 +15,7 @@ use Rattle.card.proofs.Outcome as Outcome′
 use Rattle.card.proofs.Outcome.Laws as Outcome″
 use Rattle.pagunlit_replies.proofs.Reply as Reply′
 use Rattle.pagunlit_replies.proofs.Reply.Laws as Reply″
-use Rattle.walk_replies.proofs.MapSummaryCatalogueCard2.{call-contract, reply-of-contract, meets}
+use Rattle.walk_replies.proofs.MapSummaryCatalogueCardFromLimits2.{call-contract, reply-of-contract, meets}
 use Rattle.card.proofs.Shape.grow_with_summary.Symbol as call-def
 use Rattle.card.proofs.Shape.grow_with_summary.Met as call-met
 use Rattle.pagunlit_replies.proofs.reply_of.Symbol as reply-of-def
