@@ -20,18 +20,19 @@ use Rattle.block_seals.proofs.Sealed.{sound-own, sound-zeros, blank-sealed, pay
 use Rattle.calendar.specs.Term.{Term, termOf}
 use Rattle.catalogue.specs.Entries.{entryAt}
 use Rattle.catalogue.specs.declared.Entry.{Entry}
+use Rattle.catalogue_wings.specs.Wings.{wingOf, heldBy}
 use Rattle.catalogue_standings.specs.Rows.{row, Verdict, refused, firstOf}
 use Rattle.catalogue_standings.specs.Standings.{extentHolds, standingOf, isDamaged}
 use Rattle.catalogue_standings.specs.declared.Standing.{Standing}
 use Rattle.refusals.specs.Table.{Ask, on, View, rowsFor, tableOf, verdictOf}
 use Rattle.catalogue_standings.specs.Limits.{shapeFits, sheetsFit}
 use Rattle.refusals.specs.Placement.{leastWithin}
-use Rattle.refusals.specs.Lent.{lent, noCard}
+use Rattle.refusals.specs.Lent.{lent, within, noCard}
 use Rattle.refusals.specs.Views.{viewAt, viewOn}
 use Rattle.catalogue_standings.proofs.Openings.{skip, stop}
 use Rattle.ledger.specs.Ledger.{Place, Blank, Payload, Sheet, Absent, Paused, PausedWith, Open, Complete, standingIn}
 use Rattle.ledger.specs.Ledger.{startIn, lengthIn, isBlank, bytesOf, sheetAt, placeAt, cover, freeIn, spareIn}
-use Rattle.ledger.specs.Ledger.{viewIn, listed, verdictIn}
+use Rattle.ledger.specs.Ledger.{viewIn, listed, heldIn, verdictIn}
 use Rattle.ledger.specs.Claim.{entryIn, blockIn}
 use Rattle.card.specs.Calls.{Kept}
 use Rattle.ledger.specs.Steps.{}
@@ -39,6 +40,7 @@ use Rattle.ledger.proofs.Cover.{covers-in, cover-at}
 use Rattle.ledger.proofs.Listed.{listed-same, spare-is}
 use Rattle.ledger.proofs.Rows.{Never}
 use Rattle.ledger.proofs.Sheets.{Sized, Fine, Sound}
+use Rattle.ledger.proofs.Wings.{entry-at, wing-same}
 
 -- ---- the state that a ledger calls for
 
@@ -65,11 +67,6 @@ pub record Matches (n : ℕ) (l : List Sheet) (card : List ℕ) : Type 0 where
 
 -- ---- what the rows read of it
 
-pub entry-at : (l : List Sheet) (i : ℕ) → i < length l → entryAt (map entryIn l) i ≡ entryIn (sheetAt l i)
-entry-at [] i h = absurd (not-suc-le-zero h)
-entry-at (x ∷ l) zero h = refl
-entry-at (x ∷ l) (suc i) h = entry-at l i (le-of-suc-le-suc h)
-
 past-words : (f : ℕ → Bool) (w b : ℕ) → w * 64 ≤ b → map-blocks.free (mapOf f w) b ≡ false
 unfolding map-blocks.free
 past-words f w b h =
@@ -86,18 +83,19 @@ free-map n l = fun-ext (λ b. go b (ltb b (wordsFor n * 64)) refl)
         let past : wordsFor n * 64 ≤ b = ltb-false b (wordsFor n * 64) e in
         past-words (freeIn n l) (wordsFor n) b past ∙ sym (ap (λ (t : Bool). t && eqb (cover l b) 0) (le-ltb b n (omega arith)))
 
--- what a view shows of the sheet's places
+-- what a view shows of the sheet's places, and of its wing
 pub record Places : Type 0 where
   pub blank : ℕ → Bool
   pub sound : ℕ → Bool
   pub term : Term
+  pub held : ℕ
 
 pub record Alike (k : ℕ) (x y : Places) : Type 0 where
   pub blank : (p : ℕ) → p < k → x .blank p ≡ y .blank p
   pub sound : (p : ℕ) → p < k → x .sound p ≡ y .sound p
   pub term : 0 < k → y .sound 0 ≡ true → x .term ≡ y .term
 
--- a view of the ledger with other places
+-- a view of the ledger with other places, and other blocks in the wing
 abbrev pub reads : ℕ → List Sheet → ℕ → Places → View
 reads n l i places = record {
   misfit = false;
@@ -110,6 +108,8 @@ reads n l i places = record {
   blank = places .blank;
   sound = places .sound;
   term = places .term;
+  wing = wingOf i;
+  held = places .held;
 }
 
 -- an entry with a length is no pause without blocks
@@ -157,6 +157,10 @@ Plain n l i a = (x y : Places) → saysOn n l i a x ≡ saysOn n l i a y
 abbrev pub OwnPlaces : ℕ → List Sheet → ℕ → Ask → Type 0
 OwnPlaces n l i a = (x y : Places) → Alike (lengthIn (sheetAt l i)) x y → saysOn n l i a x ≡ saysOn n l i a y
 
+-- they look at no place, but at what the wing holds
+abbrev pub Sharing : ℕ → List Sheet → ℕ → Ask → Type 0
+Sharing n l i a = (x y : Places) → x .held ≡ y .held → saysOn n l i a x ≡ saysOn n l i a y
+
 -- the rows that all begin with look at none
 opened : (n : ℕ) (l : List Sheet) (i : ℕ) (a : Ask) (x y : Places) → saysOn n l i a x ≡ saysOn n l i a y
     → verdictOf (reads n l i x) (on i a) ≡ verdictOf (reads n l i y) (on i a)
@@ -170,6 +174,7 @@ placesOf l i = record {
   blank = λ p. isBlank (placeAt l i p);
   sound = λ p. not (isBlank (placeAt l i p));
   term = termOf (bytesOf (placeAt l i 0));
+  held = heldIn l i;
 }
 
 -- a sheet that the catalogue does not have
@@ -223,19 +228,23 @@ module _ (n : ℕ) (l : List Sheet) (card : List ℕ) (k : Matches n l card) whe
     abbrev e : Entry
     e = entryAt (map entryIn l) i
 
+    -- of a call that goes with limits, and of one that takes no blocks
+    abbrev pub holding : ℕ → List ℕ → View
+    holding blocks limits = viewOn (within blocks limits (lent n (spareIn n l) (mapIn n l) card (length (map entryIn l)) e i))
+
     abbrev pub on-card : View
-    on-card = viewOn (lent n (spareIn n l) (mapIn n l) card (length (map entryIn l)) e i)
+    on-card = holding 0 []
 
     abbrev pub at : View
     at = viewAt (lent n (spareIn n l) (mapIn n l) noCard (length (map entryIn l)) e i)
 
-    fits-of : on-card .misfit ≡ false
+    fits-of : (blocks : ℕ) (limits : List ℕ) → holding blocks limits .misfit ≡ false
     unfolding viewOn
-    fits-of = fits-on
+    fits-of blocks limits = fits-on
 
-    sheets-of : leb (on-card .sheets) i ≡ leb (length l) i
+    sheets-of : (blocks : ℕ) (limits : List ℕ) → leb (holding blocks limits .sheets) i ≡ leb (length l) i
     unfolding viewOn
-    sheets-of = ap (λ (c : ℕ). leb c i) (length-map l entryIn)
+    sheets-of blocks limits = ap (λ (c : ℕ). leb c i) (length-map l entryIn)
 
     fits-of-at : at .misfit ≡ false
     unfolding viewAt
@@ -258,9 +267,10 @@ module _ (n : ℕ) (l : List Sheet) (card : List ℕ) (k : Matches n l card) whe
           ap (standingOf n (map-blocks.free (mapIn n l))) (entry-at l i lt)
           ∙ stands-as n (map-blocks.free (mapIn n l)) (sheetAt l i) (k .sound .fine i) covered
 
-      on-reads : on-card ≡ reads n l i (record { blank = on-card .blank; sound = on-card .sound; term = on-card .term })
+      on-reads : (blocks : ℕ) (limits : List ℕ) → holding blocks limits
+          ≡ reads n l i (record { blank = on-card .blank; sound = on-card .sound; term = on-card .term; held = blocks })
       unfolding viewOn
-      on-reads = λ t. record {
+      on-reads blocks limits = λ t. record {
         misfit = fits-on t;
         blocks = n;
         sheets = length-map l entryIn t;
@@ -271,9 +281,13 @@ module _ (n : ℕ) (l : List Sheet) (card : List ℕ) (k : Matches n l card) whe
         blank = λ p. sealed-block.blank (blockOf card (e .start + p));
         sound = λ p. sealed-block.sound i p (blockOf card (e .start + p));
         term = termOf (sealed-block.payloadOf (blockOf card (e .start)));
+        wing = wingOf i;
+        held = blocks;
       }
 
-      at-reads : at ≡ reads n l i (record { blank = λ p. false; sound = λ p. false; term = record { first = 0; last = 0 } })
+      at-reads : at ≡ reads n l i (record {
+            blank = λ p. false; sound = λ p. false; term = record { first = 0; last = 0 }; held = 0;
+          })
       unfolding viewAt
       at-reads = λ t. record {
         misfit = fits-at t;
@@ -286,6 +300,8 @@ module _ (n : ℕ) (l : List Sheet) (card : List ℕ) (k : Matches n l card) whe
         blank = λ p. false;
         sound = λ p. false;
         term = record { first = 0; last = 0 };
+        wing = wingOf i;
+        held = 0;
       }
 
       here : (p : ℕ) → p < lengthIn (sheetAt l i) → blockOf card (e .start + p) ≡ blockIn i p (placeAt l i p)
@@ -311,6 +327,9 @@ module _ (n : ℕ) (l : List Sheet) (card : List ℕ) (k : Matches n l card) whe
           ∙ ap sealed-block.payloadOf (here 0 some)
           ∙ payload-block i 0 (placeAt l i 0) (not-true _ sealed) (k .sound .fine i .sized 0))
 
+  inside-card : (i : ℕ) → lengthIn (sheetAt l i) ≤ n
+  inside-card i = omega (arith, k .sound .fine i .inside)
+
   -- ---- the verdicts
 
   -- no row 1 or 4 holds in the ledger behind those that all begin with
@@ -330,10 +349,19 @@ module _ (n : ℕ) (l : List Sheet) (card : List ℕ) (k : Matches n l card) whe
     -- a call that is lent the card
     pub verdict-on : OwnPlaces n l i a → NeverRows i a → verdictOf (on-card i) (on i a) ≡ verdictIn n l (on i a)
     verdict-on own never =
-        by-sheet (on-card i) (fits-of i) (sheets-of i)
-        (λ lt. ap (λ (v : View). verdictOf v (on i a)) (on-reads i lt)
+        by-sheet (on-card i) (fits-of i 0 []) (sheets-of i 0 [])
+        (λ lt. ap (λ (v : View). verdictOf v (on i a)) (on-reads i lt 0 [])
         ∙ opened n l i a _ (placesOf l i) (own _ (placesOf l i)
         (record { blank = blank-same i lt; sound = sound-same i lt; term = term-same i lt }))) never
+
+    -- one that goes with limits: what the wing holds is the ledger's
+    pub verdict-within : (limits : List ℕ) → Sharing n l i a → NeverRows i a
+        → verdictOf (holding i (heldBy (map entryIn l) i) limits) (on i a) ≡ verdictIn n l (on i a)
+    verdict-within limits sharing never =
+        let blocks : ℕ = heldBy (map entryIn l) i in
+        by-sheet (holding i blocks limits) (fits-of i blocks limits) (sheets-of i blocks limits)
+        (λ lt. ap (λ (v : View). verdictOf v (on i a)) (on-reads i lt blocks limits)
+        ∙ opened n l i a _ (placesOf l i) (sharing _ (placesOf l i) (wing-same n l (k .high) (λ j. inside-card j) i))) never
 
     -- a call that is not
     pub verdict-at : Plain n l i a → NeverRows i a → verdictOf (at i) (on i a) ≡ verdictIn n l (on i a)

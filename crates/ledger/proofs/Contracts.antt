@@ -50,32 +50,32 @@ met s c r map entries card buffer o m e d b = (
 
 -- what the contract says is a step: what a call is not lent by `&mut` is as it was
 module _ (s : Kept) (sheet : ℕ) (r : Outcome) where
-  pub reserve-step : (k : ℕ) (map : List ℕ) (entries : List Entry) (card : List ℕ)
-      → Reserves itself s sheet k r map entries card
-      → Step s (on sheet (reserve k plain)) (replying r []) (leaving r map entries card)
-  reserve-step k map entries card h =
-      met s (on sheet (reserve k plain)) r map entries card [] (h .0) (h .1) (h .2) (h .3) refl
+  pub reserve-step : (limits : List ℕ) (k : ℕ) (map : List ℕ) (entries : List Entry) (card : List ℕ)
+      → Reserves itself s limits sheet k r map entries card
+      → Step s (on sheet (reserve limits k plain)) (replying r []) (leaving r map entries card)
+  reserve-step limits k map entries card h =
+      met s (on sheet (reserve limits k plain)) r map entries card [] (h .0) (h .1) (h .2) (h .3) refl
 
-  pub reserve-placed-step : (k from before step : ℕ) (map : List ℕ) (entries : List Entry) (card : List ℕ)
-      → ReservesPlaced itself s sheet k from before step r map entries card
-      → Step s (on sheet (reserve k (placed (figures from before step)))) (replying r []) (leaving r map entries card)
-  reserve-placed-step k from before step map entries card h =
-      met s (on sheet (reserve k (placed (figures from before step)))) r map entries card [] (h .0) (h .1) (h .2) (h .3) refl
+  pub reserve-placed-step : (limits : List ℕ) (k from before step : ℕ) (map : List ℕ) (entries : List Entry) (card : List ℕ)
+      → ReservesPlaced itself s limits sheet k from before step r map entries card
+      → Step s (on sheet (reserve limits k (placed (figures from before step)))) (replying r []) (leaving r map entries card)
+  reserve-placed-step limits k from before step map entries card h =
+      met s (on sheet (reserve limits k (placed (figures from before step)))) r map entries card [] (h .0) (h .1) (h .2) (h .3) refl
 
-  pub offer-step : (k : ℕ) → Offers itself s sheet k r
-      → Step s (on sheet (offer k)) (replying r []) (leaving r (s .map) (s .entries) (s .card))
-  offer-step k h = met s (on sheet (offer k)) r (s .map) (s .entries) (s .card) [] h refl refl refl refl
+  pub offer-step : (limits : List ℕ) (k : ℕ) → Offers itself s limits sheet k r
+      → Step s (on sheet (offer limits k)) (replying r []) (leaving r (s .map) (s .entries) (s .card))
+  offer-step limits k h = met s (on sheet (offer limits k)) r (s .map) (s .entries) (s .card) [] h refl refl refl refl
 
-  pub accept-step : (start k : ℕ) (map : List ℕ) (entries : List Entry) (card : List ℕ)
-      → Accepts itself s sheet start k r map entries card
-      → Step s (on sheet (accept start k)) (replying r []) (leaving r map entries card)
-  accept-step start k map entries card h =
-      met s (on sheet (accept start k)) r map entries card [] (h .0) (h .1) (h .2) (h .3) refl
+  pub accept-step : (limits : List ℕ) (start k : ℕ) (map : List ℕ) (entries : List Entry) (card : List ℕ)
+      → Accepts itself s limits sheet start k r map entries card
+      → Step s (on sheet (accept limits start k)) (replying r []) (leaving r map entries card)
+  accept-step limits start k map entries card h =
+      met s (on sheet (accept limits start k)) r map entries card [] (h .0) (h .1) (h .2) (h .3) refl
 
-  pub grow-step : (m : ℕ) (map : List ℕ) (entries : List Entry) (card : List ℕ)
-      → Grows itself s sheet m r map entries card
-      → Step s (on sheet (grow m)) (replying r []) (leaving r map entries card)
-  grow-step m map entries card h = met s (on sheet (grow m)) r map entries card [] (h .0) (h .1) (h .2) (h .3) refl
+  pub grow-step : (limits : List ℕ) (m : ℕ) (map : List ℕ) (entries : List Entry) (card : List ℕ)
+      → Grows itself s limits sheet m r map entries card
+      → Step s (on sheet (grow limits m)) (replying r []) (leaving r map entries card)
+  grow-step limits m map entries card h = met s (on sheet (grow limits m)) r map entries card [] (h .0) (h .1) (h .2) (h .3) refl
 
   pub put-step : (p : ℕ) (payload : List ℕ) (card : List ℕ)
       → Puts itself s sheet p payload r card

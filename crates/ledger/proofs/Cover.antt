@@ -13,7 +13,7 @@ use borrow.Author.Tests.{ltb-true, ltb-false, leb-true, le-leb, lt-ltb, eqb-true
 use Rattle.map_blocks.specs.Maps.{inRun}
 use Rattle.laws.proofs.Bools.{and-left, and-right, and-both, not-true, clash}
 use Rattle.survey.specs.Survey.{blocks, freeOf}
-use Rattle.ledger.specs.Ledger.{Sheet, Absent, startIn, lengthIn, sheetAt, covers, cover, freeIn, spareIn}
+use Rattle.ledger.specs.Ledger.{Sheet, Absent, startIn, lengthIn, sheetAt, covers, cover, freeIn, spareIn, held}
 
 -- ---- a run
 
@@ -56,10 +56,6 @@ cover-two (y ∷ l) (suc i) zero b h = omega (arith, cover-at l i b)
 cover-two (y ∷ l) (suc i) (suc j) b h = omega (arith, cover-two l i j b (λ e. h (ap suc e)))
 
 -- ---- the blocks that sheets hold
-
-abbrev pub held : List Sheet → ℕ
-held [] = 0
-held (x ∷ l) = lengthIn x + held l
 
 pub held-set : (l : List Sheet) (i : ℕ) (x : Sheet) → i < length l
     → held (set l i x) + lengthIn (sheetAt l i) ≡ held l + lengthIn x

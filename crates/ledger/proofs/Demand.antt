@@ -20,7 +20,7 @@ use Rattle.catalogue_standings.specs.Rows.{Verdict, accepted, firstOf, settle}
 use Rattle.refusals.specs.Table.{Call, on, show, lowestBlank, tableOf}
 use Rattle.ledger.specs.Ledger.{Place, Blank, Payload, Sheet, Absent, Complete, standingIn, startIn, lengthIn, placesIn}
 use Rattle.ledger.specs.Ledger.{bytesOf, sheetAt, placeAt, cover, freeIn, spareIn, listed, verdictIn, deedIn, stepIn}
-use Rattle.ledger.specs.Ledger.{viewIn, after, begun, Told, done, refusedWith, toldIn, allToldIn}
+use Rattle.ledger.specs.Ledger.{held, viewIn, after, begun, Told, done, refusedWith, toldIn, allToldIn}
 use Rattle.ledger.specs.Claim.{SearchedBy, AllSearched, granted, returned, lastPut, entryIn}
 use Rattle.ledger.specs.Claim.{Agrees, Gives, Claim}
 use Rattle.card.specs.declared.Shape.{Shape}
@@ -30,7 +30,7 @@ use Rattle.card.specs.Contracts.{itself, Freshens}
 use Rattle.ledger.specs.Steps.{Response, toldBy, endOf, responseOf, stateOn, Step, Runs, freshState}
 use Rattle.ledger.proofs.Agreement.{mapIn, stateOf, Matches, free-map}
 use Rattle.ledger.proofs.Contracts.{leaving, Limits, fresh-left}
-use Rattle.ledger.proofs.Cover.{covers-absent, held}
+use Rattle.ledger.proofs.Cover.{covers-absent}
 use Rattle.ledger.proofs.Listed.{spare-is}
 use Rattle.ledger.proofs.Marks.{map-same}
 use Rattle.ledger.proofs.Results.{Result}

@@ -22,3 +22,4 @@ pub mod Sheets
 pub mod Taking
 pub mod WholeCard
 pub mod step
+pub mod Wings

@@ -14,8 +14,8 @@ use Rattle.catalogue_standings.specs.Rows.{row, firstOf}
 use Rattle.catalogue_standings.specs.Standings.{isDamaged}
 use Rattle.refusals.specs.Table.{Ask, on, rowsFor, tableOf}
 use Rattle.ledger.specs.Ledger.{Place, Blank, Payload, Sheet, Absent, Paused, PausedWith, Open, Complete, standingIn}
-use Rattle.ledger.specs.Ledger.{lengthIn, placesIn, isBlank, bytesOf, sheetAt, placeAt, spareIn, viewIn, verdictIn}
-use Rattle.ledger.proofs.Cover.{held, held-set, spare-and-held}
+use Rattle.ledger.specs.Ledger.{held, lengthIn, placesIn, isBlank, bytesOf, sheetAt, placeAt, spareIn, viewIn, verdictIn}
+use Rattle.ledger.proofs.Cover.{held-set, spare-and-held}
 use Rattle.ledger.proofs.Rows.{Never, never-listed}
 use Rattle.ledger.proofs.Sheets.{Sound, refilled}
 

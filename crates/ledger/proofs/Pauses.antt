@@ -28,9 +28,9 @@ use Rattle.ledger.proofs.Sheets.{holding}
 
 deed-elsewhere : (n : ℕ) (l : List Sheet) (c : Call) (i : ℕ) → i ≢ sheetOf c → sheetAt (deedIn n l c .ledger) i ≡ sheetAt l i
 unfolding deedIn
-deed-elsewhere n l (on j (reserve k placement)) i ne = getD-set-other l j i _ Absent ne
+deed-elsewhere n l (on j (reserve limits k placement)) i ne = getD-set-other l j i _ Absent ne
 deed-elsewhere n l (on j (put p payload)) i ne = getD-set-other l j i _ Absent ne
-deed-elsewhere n l (on j (grow m)) i ne = getD-set-other l j i _ Absent ne
+deed-elsewhere n l (on j (grow limits m)) i ne = getD-set-other l j i _ Absent ne
 deed-elsewhere n l (on j complete) i ne = getD-set-other l j i _ Absent ne
 deed-elsewhere n l (on j pause) i ne = getD-set-other l j i _ Absent ne
 deed-elsewhere n l (on j resume) i ne = getD-set-other l j i _ Absent ne
@@ -38,8 +38,8 @@ deed-elsewhere n l (on j release) i ne = getD-set-other l j i _ Absent ne
 deed-elsewhere n l (on j (show p buffer)) i ne = refl
 deed-elsewhere n l (on j (showDated p date buffer)) i ne = refl
 deed-elsewhere n l (on j standing) i ne = refl
-deed-elsewhere n l (on j (offer k)) i ne = refl
-deed-elsewhere n l (on j (accept start k)) i ne = getD-set-other l j i _ Absent ne
+deed-elsewhere n l (on j (offer limits k)) i ne = refl
+deed-elsewhere n l (on j (accept limits start k)) i ne = getD-set-other l j i _ Absent ne
 
 settled : (v : Verdict) (x l : List Sheet) (i : ℕ) → sheetAt x i ≡ sheetAt l i
     → sheetAt (settle v x (λ number. l)) i ≡ sheetAt l i

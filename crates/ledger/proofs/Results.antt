@@ -24,11 +24,11 @@ use Rattle.refusals.specs.Table.{Ask, Call, on, lowestBlank}
 use Rattle.refusals.specs.declared.Out.{Out}
 use Rattle.card.specs.Calls.{told, outcomeOf}
 use Rattle.ledger.specs.Ledger.{Place, Sheet, Absent, lengthIn, sheetAt, spareIn, sheetOf, viewIn, rowsIn}
-use Rattle.ledger.specs.Ledger.{verdictIn, deedIn, Told, done, refusedWith}
+use Rattle.ledger.specs.Ledger.{held, verdictIn, deedIn, Told, done, refusedWith}
 use Rattle.ledger.specs.Claim.{entryIn, noted, noteOf, SearchedBy}
 use Rattle.ledger.specs.Steps.{End, ending, endOf, responseOf, stateOn, toldBy}
 use Rattle.ledger.proofs.Agreement.{mapIn, stateOf, Matches}
-use Rattle.ledger.proofs.Cover.{held, held-set}
+use Rattle.ledger.proofs.Cover.{held-set}
 use Rattle.ledger.proofs.Keeping.{entries-set, Changed}
 use Rattle.ledger.proofs.Rows.{says, never-says}
 use Rattle.ledger.proofs.Sheets.{Has}

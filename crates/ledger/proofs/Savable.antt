@@ -27,7 +27,8 @@ use Rattle.ledger.specs.Ledger.{Sheet, sheetAt, covers, cover, freeIn, s
 use Rattle.ledger.specs.Claim.{entryIn}
 use Rattle.card.specs.Calls.{Kept}
 use Rattle.ledger.specs.Steps.{Response, Runs, freshState, savedOf}
-use Rattle.ledger.proofs.Agreement.{mapIn, stateOf, Matches, entry-at, free-map, shape-fits, sheets-fit, stands-same}
+use Rattle.ledger.proofs.Agreement.{mapIn, stateOf, Matches, free-map, shape-fits, sheets-fit, stands-same}
+use Rattle.ledger.proofs.Wings.{entry-at}
 use Rattle.ledger.proofs.Demand.{Left, lists, kept-begun, state-begun}
 use Rattle.ledger.proofs.Listed.{sheet-undamaged}
 

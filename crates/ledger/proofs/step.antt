@@ -33,11 +33,11 @@ use ShowDated.{show-dated-result}
 use Standing.{standing-result}
 
 pub result : (n : ℕ) (l : List Sheet) (card : List ℕ) → Matches n l card → (c : Call) → Result n l card c (verdictIn n l c)
-result n l card k (on i (reserve m placement)) = reserve-result n l card k i m placement
-result n l card k (on i (offer m)) = offer-result n l card k i m
-result n l card k (on i (accept start m)) = accept-result n l card k i start m
+result n l card k (on i (reserve limits m placement)) = reserve-result n l card k i limits m placement
+result n l card k (on i (offer limits m)) = offer-result n l card k i limits m
+result n l card k (on i (accept limits start m)) = accept-result n l card k i limits start m
 result n l card k (on i (put p payload)) = put-result n l card k i p payload
-result n l card k (on i (grow m)) = grow-result n l card k i m
+result n l card k (on i (grow limits m)) = grow-result n l card k i limits m
 result n l card k (on i complete) = complete-result n l card k i
 result n l card k (on i pause) = pause-result n l card k i
 result n l card k (on i resume) = resume-result n l card k i

@@ -14,6 +14,7 @@ use Rattle.map_blocks.specs.declared.Found.the-variants.{At, Nothing}
 use Rattle.map_blocks.specs.Blocks as map-blocks
 use Rattle.map_blocks.specs.Maps.{marked}
 use Rattle.blocks_of_card.specs.Card.{zeroed}
+use Rattle.catalogue_wings.specs.Wings.{heldBy}
 use Rattle.catalogue.specs.Entries.{entryAt, absent, openMark}
 use Rattle.catalogue_standings.specs.Searches.{none, startAt}
 use Rattle.catalogue_standings.specs.Rows.{Verdict, accepted, refused, settle, firstOf, row}
@@ -24,7 +25,7 @@ use Rattle.refusals.specs.Lent.{Lent, noCard}
 use Rattle.refusals.specs.Placement.{Placement}
 use Rattle.refusals.specs.Table.{on, reserve, grow, release, accept}
 use Rattle.refusals.proofs.Summaries as summaries
-use Rattle.card.specs.Calls.{Kept, lentBy, outcomeOf}
+use Rattle.card.specs.Calls.{Kept, lentByWithin, outcomeOf}
 use Rattle.refusals.specs.Effects.{givingVerdict, runVerdict, reserveVerdict, reserveStart, acceptVerdict}
 use Rattle.refusals.specs.Guides.{foundBy}
 use Rattle.refusals.specs.Placement.{misfigured, fitWithin, figuresIn}
@@ -51,16 +52,13 @@ use Rattle.ledger_summaries.specs.Summaries.{Long, AnySummary}
 -- ---- any summary of the right length
 
 module _ (s : Kept) (summary : List ℕ) (sheet : ℕ) (long : Long s summary) where
-  abbrev y : Lent
-  y = lentBy false [] s (s .card) sheet
-
-  accept-any : (start k : ℕ) → endIn true summary s (on sheet (accept start k)) ≡ endOf s (on sheet (accept start k))
-  accept-any start k =
-      accept-takes s sheet k true summary start
-      ∙ ap (λ (v : Verdict). takes s sheet k v start)
-      (summaries.accept-same summary (s .shape .blocks) (s .shape .free) (s .map) (s .card) (length (s .entries))
-      (entryAt (s .entries) sheet) sheet long start k)
-      ∙ sym (accept-takes s sheet k false [] start)
+  accept-any : (limits : List ℕ) (start k : ℕ) → endIn true summary s (on sheet (accept limits start k)) ≡ endOf s (on sheet (accept limits start k))
+  accept-any limits start k =
+      accept-takes s limits sheet k true summary start
+      ∙ ap (λ (v : Verdict). takes s limits sheet k v start)
+      (summaries.accept-same (heldBy (s .entries) sheet) limits summary (s .shape .blocks) (s .shape .free) (s .map) (s .card)
+      (length (s .entries)) (entryAt (s .entries) sheet) sheet long start k)
+      ∙ sym (accept-takes s limits sheet k false [] start)
 
   -- what grow and release come to, by their verdicts
   abbrev grows : ℕ → Verdict → End
@@ -71,11 +69,11 @@ module _ (s : Kept) (summary : List ℕ) (sheet : ℕ) (long : Long s summary) w
       ending (outcomeOf (s .shape) out) (settle v (marked (s .map) (e .start + e .length) m false) (λ number. s .map))
       (set (s .entries) sheet (out .entry)) (settle v (zeroed (s .card) (e .start + e .length) m) (λ number. s .card)) []
 
-  grow-any : (m : ℕ) → endIn true summary s (on sheet (grow m)) ≡ endOf s (on sheet (grow m))
+  grow-any : (limits : List ℕ) (m : ℕ) → endIn true summary s (on sheet (grow limits m)) ≡ endOf s (on sheet (grow limits m))
   unfolding effects.growOut effects.growMap effects.growCard
-  grow-any m = ap (grows m)
-      (summaries.grow-same summary (s .shape .blocks) (s .shape .free) (s .map) (s .card) (length (s .entries))
-      (entryAt (s .entries) sheet) sheet long m)
+  grow-any limits m = ap (grows m)
+      (summaries.grow-same (heldBy (s .entries) sheet) limits summary (s .shape .blocks) (s .shape .free) (s .map) (s .card)
+      (length (s .entries)) (entryAt (s .entries) sheet) sheet long m)
 
   abbrev releases : Verdict → End
   releases v =
@@ -87,7 +85,7 @@ module _ (s : Kept) (summary : List ℕ) (sheet : ℕ) (long : Long s summary) w
   release-any : endIn true summary s (on sheet release) ≡ endOf s (on sheet release)
   unfolding effects.releaseOut effects.releaseMap
   release-any = ap releases
-      (summaries.release-same summary (s .shape .blocks) (s .shape .free) (s .map) noCard (length (s .entries))
+      (summaries.release-same 0 [] summary (s .shape .blocks) (s .shape .free) (s .map) noCard (length (s .entries))
       (entryAt (s .entries) sheet) sheet long)
 
   pub any-summary : AnySummary s summary sheet
@@ -98,23 +96,23 @@ module _ (s : Kept) (summary : List ℕ) (sheet : ℕ) (long : Long s summary) w
 module _ (s : Kept) (summary : List ℕ) (sheet : ℕ) (short : Long s summary → ⊥) where
   pub wrong-length : WrongLength s summary sheet
   wrong-length = record {
-    reserves = λ k p. reserve-refuses true summary s sheet 1 k p
-        (summaries.reserve-1 summary (s .shape .blocks) (s .shape .free) (s .map) (s .card) (length (s .entries))
-        (entryAt (s .entries) sheet) sheet short k p);
-    accepts = λ start k. accept-refuses true summary s sheet 1 start k
-        (summaries.accept-1 summary (s .shape .blocks) (s .shape .free) (s .map) (s .card) (length (s .entries))
-        (entryAt (s .entries) sheet) sheet short start k);
-    grows = λ m. grow-refuses true summary s sheet 1 m
-        (summaries.grow-1 summary (s .shape .blocks) (s .shape .free) (s .map) (s .card) (length (s .entries))
-        (entryAt (s .entries) sheet) sheet short m);
+    reserves = λ limits k p. reserve-refuses true summary s sheet 1 limits k p
+        (summaries.reserve-1 (heldBy (s .entries) sheet) limits summary (s .shape .blocks) (s .shape .free) (s .map) (s .card)
+        (length (s .entries)) (entryAt (s .entries) sheet) sheet short k p);
+    accepts = λ limits start k. accept-refuses true summary s sheet 1 limits start k
+        (summaries.accept-1 (heldBy (s .entries) sheet) limits summary (s .shape .blocks) (s .shape .free) (s .map) (s .card)
+        (length (s .entries)) (entryAt (s .entries) sheet) sheet short start k);
+    grows = λ limits m. grow-refuses true summary s sheet 1 limits m
+        (summaries.grow-1 (heldBy (s .entries) sheet) limits summary (s .shape .blocks) (s .shape .free) (s .map) (s .card)
+        (length (s .entries)) (entryAt (s .entries) sheet) sheet short m);
     releases = release-refuses true summary s sheet 1
-        (summaries.release-1 summary (s .shape .blocks) (s .shape .free) (s .map) noCard (length (s .entries))
+        (summaries.release-1 0 [] summary (s .shape .blocks) (s .shape .free) (s .map) noCard (length (s .entries))
         (entryAt (s .entries) sheet) sheet short);
   }
 
 -- ---- a reserve
 
-module _ (s : Kept) (summary : List ℕ) (sheet : ℕ) (long : Long s summary) (k : ℕ) (p : Placement) where
+module _ (s : Kept) (summary : List ℕ) (limits : List ℕ) (sheet : ℕ) (long : Long s summary) (k : ℕ) (p : Placement) where
   abbrev n : ℕ
   n = s .shape .blocks
 
@@ -122,28 +120,32 @@ module _ (s : Kept) (summary : List ℕ) (sheet : ℕ) (long : Long s summary) (
   g = figuresIn n p
 
   abbrev x : Lent
-  x = lentBy true summary s (s .card) sheet
+  x = lentByWithin true summary s (s .card) limits sheet
 
   abbrev plainly : Lent
-  plainly = lentBy false [] s (s .card) sheet
+  plainly = lentByWithin false [] s (s .card) limits sheet
 
   giving-x : givingVerdict x k ≡ givingVerdict plainly k
-  giving-x = summaries.giving-same summary n (s .shape .free) (s .map) (s .card) (length (s .entries))
+  giving-x = summaries.giving-same (heldBy (s .entries) sheet) limits summary n (s .shape .free) (s .map) (s .card) (length (s .entries))
       (entryAt (s .entries) sheet) sheet long k
 
+  -- the limit of the sheet's wing is passed
+  abbrev over : Bool
+  over = reserving.over plainly k p
+
   -- the rows before 10
-  first-rows : firstOf (before 10 (tableOf (viewOn plainly) (on sheet (reserve k p))))
-      ≡ behind (givingVerdict plainly k) (row 15 (misfigured n g) ∷ [])
+  first-rows : firstOf (before 10 (tableOf (viewOn plainly) (on sheet (reserve limits k p))))
+      ≡ behind (givingVerdict plainly k) (row 15 (misfigured n g) ∷ row 18 over ∷ [])
   unfolding before tableOf viewOn
-  first-rows = giving-then plainly k (row 15 (misfigured n g) ∷ [])
+  first-rows = giving-then plainly k (row 15 (misfigured n g) ∷ row 18 over ∷ [])
 
   -- both are refused by the same row
   both-refused : (number : ℕ) → reserveVerdict x k p ≡ refused number → reserveVerdict plainly k p ≡ refused number
-      → (endIn true summary s (on sheet (reserve k p)) ≡ endOf s (on sheet (reserve k p)))
-      × (reserveSummaryBy true summary s sheet k p ≡ summary)
+      → (endIn true summary s (on sheet (reserve limits k p)) ≡ endOf s (on sheet (reserve limits k p)))
+      × (reserveSummaryBy true summary s limits sheet k p ≡ summary)
   both-refused number a b =
-      let u = reserve-refuses true summary s sheet number k p a in
-      let v = reserve-refuses false [] s sheet number k p b in
+      let u = reserve-refuses true summary s sheet number limits k p a in
+      let v = reserve-refuses false [] s sheet number limits k p b in
       (u .0 ∙ sym (v .0), u .1)
 
   by-giving : (q : Lent) (number : ℕ) → givingVerdict q k ≡ refused number → reserveVerdict q k p ≡ refused number
@@ -155,21 +157,31 @@ module _ (s : Kept) (summary : List ℕ) (sheet : ℕ) (long : Long s summary) (
   by-rest q v h r =
       reserving.verdict-behind q k p ∙ ap (λ (w : Verdict). settle w (firstOf (reserving.rest q k p)) refused) h ∙ r
 
-  refused-before : (number : ℕ) → firstOf (before 10 (tableOf (viewOn plainly) (on sheet (reserve k p)))) ≡ refused number
-      → (endIn true summary s (on sheet (reserve k p)) ≡ endOf s (on sheet (reserve k p)))
-      × (reserveSummaryBy true summary s sheet k p ≡ summary)
+  refused-before : (number : ℕ) → firstOf (before 10 (tableOf (viewOn plainly) (on sheet (reserve limits k p)))) ≡ refused number
+      → (endIn true summary s (on sheet (reserve limits k p)) ≡ endOf s (on sheet (reserve limits k p)))
+      × (reserveSummaryBy true summary s limits sheet k p ≡ summary)
   refused-before number h = go (givingVerdict plainly k) refl (sym first-rows ∙ h)
     where
-      by-15 : givingVerdict plainly k ≡ accepted → (t : Bool) → misfigured n g ≡ t → firstOf (row 15 t ∷ []) ≡ refused number
-          → (endIn true summary s (on sheet (reserve k p)) ≡ endOf s (on sheet (reserve k p)))
-          × (reserveSummaryBy true summary s sheet k p ≡ summary)
+      by-18 : givingVerdict plainly k ≡ accepted → misfigured n g ≡ false → (t : Bool) → over ≡ t
+          → firstOf (row 15 false ∷ row 18 t ∷ []) ≡ refused number
+          → (endIn true summary s (on sheet (reserve limits k p)) ≡ endOf s (on sheet (reserve limits k p)))
+          × (reserveSummaryBy true summary s limits sheet k p ≡ summary)
+      by-18 o w true q e = both-refused 18 (by-rest x (refused 18) (giving-x ∙ o) (reserving.past-limit x k p w q))
+          (by-rest plainly (refused 18) o (reserving.past-limit plainly k p w q))
+      by-18 o w false q e =
+          absurd (not-refused number (sym e ∙ skip 15 false _ accepted refl (skip 18 false [] accepted refl none-left)))
+
+      by-15 : givingVerdict plainly k ≡ accepted → (t : Bool) → misfigured n g ≡ t
+          → firstOf (row 15 t ∷ row 18 over ∷ []) ≡ refused number
+          → (endIn true summary s (on sheet (reserve limits k p)) ≡ endOf s (on sheet (reserve limits k p)))
+          × (reserveSummaryBy true summary s limits sheet k p ≡ summary)
       by-15 o true w e = both-refused 15 (by-rest x (refused 15) (giving-x ∙ o) (reserving.wrong-figures x k p w))
           (by-rest plainly (refused 15) o (reserving.wrong-figures plainly k p w))
-      by-15 o false w e = absurd (not-refused number (sym e ∙ skip 15 false [] accepted refl none-left))
+      by-15 o false w e = by-18 o w over refl e
 
-      go : (v : Verdict) → givingVerdict plainly k ≡ v → behind v (row 15 (misfigured n g) ∷ []) ≡ refused number
-          → (endIn true summary s (on sheet (reserve k p)) ≡ endOf s (on sheet (reserve k p)))
-          × (reserveSummaryBy true summary s sheet k p ≡ summary)
+      go : (v : Verdict) → givingVerdict plainly k ≡ v → behind v (row 15 (misfigured n g) ∷ row 18 over ∷ []) ≡ refused number
+          → (endIn true summary s (on sheet (reserve limits k p)) ≡ endOf s (on sheet (reserve limits k p)))
+          × (reserveSummaryBy true summary s limits sheet k p ≡ summary)
       go (refused m) o e = both-refused m (by-giving x m (giving-x ∙ o)) (by-giving plainly m o)
       go accepted o e = by-15 o (misfigured n g) refl e
 
@@ -177,21 +189,28 @@ module _ (s : Kept) (summary : List ℕ) (sheet : ℕ) (long : Long s summary) (
   pub record Passed : Type 0 where
     pub opens : givingVerdict plainly k ≡ accepted
     pub right : misfigured n g ≡ false
+    pub under : over ≡ false
 
-  passed : Comes s sheet k p → Passed
+  passed : Comes s limits sheet k p → Passed
   passed h = go (givingVerdict plainly k) refl (sym first-rows ∙ h)
     where
-      by-15 : givingVerdict plainly k ≡ accepted → (t : Bool) → misfigured n g ≡ t → firstOf (row 15 t ∷ []) ≡ accepted → Passed
-      by-15 o true w e = absurd (not-refused 15 (sym (stop 15 true [] refl) ∙ e))
-      by-15 o false w e = record { opens = o; right = w }
+      by-18 : givingVerdict plainly k ≡ accepted → misfigured n g ≡ false → (t : Bool) → over ≡ t
+          → firstOf (row 15 false ∷ row 18 t ∷ []) ≡ accepted → Passed
+      by-18 o w true q e = absurd (not-refused 18 (sym (skip 15 false _ (refused 18) refl (stop 18 true [] refl)) ∙ e))
+      by-18 o w false q e = record { opens = o; right = w; under = q }
 
-      go : (v : Verdict) → givingVerdict plainly k ≡ v → behind v (row 15 (misfigured n g) ∷ []) ≡ accepted → Passed
+      by-15 : givingVerdict plainly k ≡ accepted → (t : Bool) → misfigured n g ≡ t
+          → firstOf (row 15 t ∷ row 18 over ∷ []) ≡ accepted → Passed
+      by-15 o true w e = absurd (not-refused 15 (sym (stop 15 true _ refl) ∙ e))
+      by-15 o false w e = by-18 o w over refl e
+
+      go : (v : Verdict) → givingVerdict plainly k ≡ v → behind v (row 15 (misfigured n g) ∷ row 18 over ∷ []) ≡ accepted → Passed
       go (refused m) o e = absurd (not-refused m e)
       go accepted o e = by-15 o (misfigured n g) refl e
 
-  turned : (number : ℕ) → (number ≡ 10) ⊎ (number ≡ 4) → reserveVerdict x k p ≡ refused number → Searched s summary sheet k p
+  turned : (number : ℕ) → (number ≡ 10) ⊎ (number ≡ 4) → reserveVerdict x k p ≡ refused number → Searched s summary limits sheet k p
   turned number which h =
-      let u = reserve-refuses true summary s sheet number k p h in
+      let u = reserve-refuses true summary s sheet number limits k p h in
       turned-down number which (u .0) (u .1)
 
   abbrev found : Found
@@ -204,7 +223,7 @@ module _ (s : Kept) (summary : List ℕ) (sheet : ℕ) (long : Long s summary) (
         (found-fit true summary (s .map) g k (omega (arith, given plainly k (w .opens) .some)) (ap none f))
 
     reserved : reserveVerdict x k p ≡ accepted
-    reserved = by-rest x accepted (giving-x ∙ w .opens) (reserving.passes x k p t (w .right) f few)
+    reserved = by-rest x accepted (giving-x ∙ w .opens) (reserving.passes x k p t (w .right) (w .under) f few)
 
     starts : reserveStart x k p ≡ t
     starts = sym (reserving.starts x k p t f)
@@ -212,41 +231,42 @@ module _ (s : Kept) (summary : List ℕ) (sheet : ℕ) (long : Long s summary) (
     accepts-there : acceptVerdict x t k ≡ accepted
     accepts-there =
         accepting.verdict-behind x t k
-        ∙ ap (λ (v : Verdict). settle v (runVerdict 17 (map-blocks.free (s .map)) n (s .shape .free) t k) refused)
+        ∙ ap (λ (v : Verdict). settle v (accepting.run x t k) refused)
         (giving-x ∙ w .opens)
+        ∙ ap (λ (o : Bool). runVerdict 17 o (map-blocks.free (s .map)) n (s .shape .free) t k) (w .under)
         ∙ runs.passes 17 (map-blocks.free (s .map)) n (s .shape .free) t k
         (plain-fit (map-blocks.free (s .map)) n g k t (figured n g (w .right) .inside) fits) few
 
-    same-summary : reserveSummaryBy true summary s sheet k p ≡ acceptSummaryBy true summary s sheet t k
+    same-summary : reserveSummaryBy true summary s limits sheet k p ≡ acceptSummaryBy true summary s limits sheet t k
     unfolding effects.reserveSummary effects.acceptSummary
     same-summary =
         ap (λ (v : Verdict). effects.takenSummary x v (reserveStart x k p) k) (reserved ∙ sym accepts-there)
         ∙ ap (λ (start : ℕ). effects.takenSummary x (acceptVerdict x t k) start k) starts
 
-    grants : Searched s summary sheet k p
+    grants : Searched s summary limits sheet k p
     grants = granted t fits
-        (reserve-takes s sheet k true summary p
-        ∙ ap (λ (v : Verdict). takes s sheet k v (reserveStart x k p)) (reserved ∙ sym accepts-there)
-        ∙ ap (takes s sheet k (acceptVerdict x t k)) starts ∙ sym (accept-takes s sheet k true summary t)) same-summary
+        (reserve-takes s limits sheet k true summary p
+        ∙ ap (λ (v : Verdict). takes s limits sheet k v (reserveStart x k p)) (reserved ∙ sym accepts-there)
+        ∙ ap (takes s limits sheet k (acceptVerdict x t k)) starts ∙ sym (accept-takes s limits sheet k true summary t)) same-summary
 
-  searched : Comes s sheet k p → Searched s summary sheet k p
+  searched : Comes s limits sheet k p → Searched s summary limits sheet k p
   searched comes = go found refl (passed comes)
     where
-      by-count : (t : ℕ) → found ≡ At t → (w : Passed) → (b : Bool) → ltb (s .shape .free) k ≡ b → Searched s summary sheet k p
+      by-count : (t : ℕ) → found ≡ At t → (w : Passed) → (b : Bool) → ltb (s .shape .free) k ≡ b → Searched s summary limits sheet k p
       by-count t f w true b = turned 4 (inr refl)
-          (by-rest x (refused 4) (giving-x ∙ w .opens) (reserving.too-few x k p t (w .right) f (ltb-true _ _ b)))
+          (by-rest x (refused 4) (giving-x ∙ w .opens) (reserving.too-few x k p t (w .right) (w .under) f (ltb-true _ _ b)))
       by-count t f w false b = grants t f w (ltb-false _ _ b)
 
-      go : (o : Found) → found ≡ o → Passed → Searched s summary sheet k p
-      go Nothing f w = turned 10 (inl refl) (by-rest x (refused 10) (giving-x ∙ w .opens) (reserving.no-fit x k p (w .right) f))
+      go : (o : Found) → found ≡ o → Passed → Searched s summary limits sheet k p
+      go Nothing f w = turned 10 (inl refl) (by-rest x (refused 10) (giving-x ∙ w .opens) (reserving.no-fit x k p (w .right) (w .under) f))
       go (At t) f w = by-count t f w (ltb (s .shape .free) k) refl
 
-  short : Comes s sheet k p → getD summary 2 0 < k → endIn true summary s (on sheet (reserve k p)) ≡ refusing s 10
+  short : Comes s limits sheet k p → getD summary 2 0 < k → endIn true summary s (on sheet (reserve limits k p)) ≡ refusing s 10
   short comes l =
       let w = passed comes in
-      reserve-refuses true summary s sheet 10 k p
+      reserve-refuses true summary s sheet 10 limits k p
       (by-rest x (refused 10) (giving-x ∙ w .opens)
-      (reserving.no-fit x k p (w .right) (by-none (s .map) summary (g .from) (g .before) (g .step) k l))) .0
+      (reserving.no-fit x k p (w .right) (w .under) (by-none (s .map) summary (g .from) (g .before) (g .step) k l))) .0
 
-  pub any-reserve : AnyReserve s summary sheet k p
+  pub any-reserve : AnyReserve s summary limits sheet k p
   any-reserve = record { refused-before = refused-before; searched = searched; short = short }

@@ -18,7 +18,7 @@ use Rattle.refusals.specs.Lent.{Lent, noCard}
 use Rattle.refusals.specs.Placement.{Placement}
 use Rattle.refusals.specs.Table.{on, reserve, grow, release, accept}
 use Rattle.refusals.specs.declared.Out.{Out}
-use Rattle.card.specs.Calls.{Kept, lentBy, outcomeOf}
+use Rattle.card.specs.Calls.{Kept, lentBy, lentByWithin, outcomeOf}
 use Rattle.card.specs.declared.Outcome.{Outcome}
 use Rattle.card.specs.Calls.{reserveSummaryBy, acceptSummaryBy, growSummaryBy, releaseSummaryBy}
 use Rattle.card.proofs.Refusals.{reserve-refused-by, accept-refused-by, grow-refused-by, release-refused-by}
@@ -27,7 +27,7 @@ use Rattle.ledger.specs.Steps.{End, ending, endIn}
 
 -- ---- what a call that takes blocks comes to, by its verdict and its start
 
-module _ (s : Kept) (sheet k : ℕ) where
+module _ (s : Kept) (limits : List ℕ) (sheet k : ℕ) where
   abbrev e : Entry
   e = entryAt (s .entries) sheet
 
@@ -44,15 +44,14 @@ module _ (s : Kept) (sheet k : ℕ) where
 
   module _ (guided : Bool) (summary : List ℕ) where
     abbrev q : Lent
-    q = lentBy guided summary s (s .card) sheet
+    q = lentByWithin guided summary s (s .card) limits sheet
 
     pub reserve-takes : (p : Placement)
-        → endIn guided summary s (on sheet (reserve k p)) ≡ takes (effects.reserveVerdict q k p) (effects.reserveStart q k p)
+        → endIn guided summary s (on sheet (reserve limits k p)) ≡ takes (effects.reserveVerdict q k p) (effects.reserveStart q k p)
     unfolding effects.reserveOut effects.reserveMap effects.reserveCard effects.takenOut effects.takenMap effects.takenCard
     reserve-takes p = refl
 
-    pub accept-takes : (start : ℕ) → endIn guided summary s (on sheet (accept start k)) ≡ takes
-        (effects.acceptVerdict q start k) start
+    pub accept-takes : (start : ℕ) → endIn guided summary s (on sheet (accept limits start k)) ≡ takes (effects.acceptVerdict q start k) start
     unfolding effects.acceptOut effects.acceptMap effects.acceptCard effects.takenOut effects.takenMap effects.takenCard
     accept-takes start = refl
 
@@ -65,26 +64,26 @@ pub ends : (o o′ : Outcome) (m m′ : List ℕ) (entries entries′ : List Ent
 ends o o′ m m′ entries entries′ card card′ a b c d = λ t. ending (a t) (b t) (c t) (d t) []
 
 module _ (guided : Bool) (summary : List ℕ) (s : Kept) (sheet number : ℕ) where
-  pub reserve-refuses : (k : ℕ) (p : Placement)
-      → effects.reserveVerdict (lentBy guided summary s (s .card) sheet) k p ≡ refused number
-      → (endIn guided summary s (on sheet (reserve k p)) ≡ refusing s number)
-      × (reserveSummaryBy guided summary s sheet k p ≡ summary)
-  reserve-refuses k p h =
-      let r = reserve-refused-by guided summary s sheet number k p h in
+  pub reserve-refuses : (limits : List ℕ) (k : ℕ) (p : Placement)
+      → effects.reserveVerdict (lentByWithin guided summary s (s .card) limits sheet) k p ≡ refused number
+      → (endIn guided summary s (on sheet (reserve limits k p)) ≡ refusing s number)
+      × (reserveSummaryBy guided summary s limits sheet k p ≡ summary)
+  reserve-refuses limits k p h =
+      let r = reserve-refused-by guided summary s sheet number limits k p h in
       (ends _ _ _ _ _ _ _ _ (r .0) (r .1) (r .3) (r .4), r .2)
 
-  pub accept-refuses : (start k : ℕ)
-      → effects.acceptVerdict (lentBy guided summary s (s .card) sheet) start k ≡ refused number
-      → (endIn guided summary s (on sheet (accept start k)) ≡ refusing s number)
-      × (acceptSummaryBy guided summary s sheet start k ≡ summary)
-  accept-refuses start k h =
-      let r = accept-refused-by guided summary s sheet number start k h in
+  pub accept-refuses : (limits : List ℕ) (start k : ℕ)
+      → effects.acceptVerdict (lentByWithin guided summary s (s .card) limits sheet) start k ≡ refused number
+      → (endIn guided summary s (on sheet (accept limits start k)) ≡ refusing s number)
+      × (acceptSummaryBy guided summary s limits sheet start k ≡ summary)
+  accept-refuses limits start k h =
+      let r = accept-refused-by guided summary s sheet number limits start k h in
       (ends _ _ _ _ _ _ _ _ (r .0) (r .1) (r .3) (r .4), r .2)
 
-  pub grow-refuses : (m : ℕ) → effects.growVerdict (lentBy guided summary s (s .card) sheet) m ≡ refused number
-      → (endIn guided summary s (on sheet (grow m)) ≡ refusing s number) × (growSummaryBy guided summary s sheet m ≡ summary)
-  grow-refuses m h =
-      let r = grow-refused-by guided summary s sheet number m h in
+  pub grow-refuses : (limits : List ℕ) (m : ℕ) → effects.growVerdict (lentByWithin guided summary s (s .card) limits sheet) m ≡ refused number
+      → (endIn guided summary s (on sheet (grow limits m)) ≡ refusing s number) × (growSummaryBy guided summary s limits sheet m ≡ summary)
+  grow-refuses limits m h =
+      let r = grow-refused-by guided summary s sheet number limits m h in
       (ends _ _ _ _ _ _ _ _ (r .0) (r .1) (r .3) (r .4), r .2)
 
   pub release-refuses : effects.releaseVerdict (lentBy guided summary s noCard sheet) ≡ refused number

@@ -9,6 +9,7 @@ use mathlib.Core.List.{List, [], _∷_}
 use native.Mathlib.Omega.{arith}
 use lib.ListN.{length}
 use Rattle.map_blocks.specs.Maps.{marked}
+use Rattle.catalogue_wings.specs.Wings.{heldBy}
 use Rattle.catalogue.specs.Entries.{entryAt}
 use Rattle.summary.specs.Summary.{ownSummary}
 use Rattle.summary.specs.Updates.{updatedSummary}
@@ -24,7 +25,7 @@ use Rattle.refusals.proofs.Accept.{accept-room}
 use Rattle.refusals.proofs.Room.{Room, reserve-room, grow-room}
 use Rattle.refusals.proofs.Release.{release-sized}
 use Rattle.refusals.proofs.Summaries as summaries
-use Rattle.card.specs.Calls.{Kept, lentBy}
+use Rattle.card.specs.Calls.{Kept, lentBy, lentByWithin}
 use Rattle.ledger.specs.Steps.{endIn, endOf, responseOf, stateOn}
 use Rattle.ledger_summaries.proofs.Any.{any-summary}
 use Rattle.ledger_summaries.proofs.Ends.{takes, reserve-takes}
@@ -46,67 +47,69 @@ module _ (s : Kept) (sheet : ℕ) where
   abbrev own : List ℕ
   own = ownOf s
 
+  -- within limits, and without the card
   abbrev withOwn : List ℕ → Lent
-  withOwn card = lentBy true own s card sheet
+  withOwn limits = lentByWithin true own s (s .card) limits sheet
 
-  roomy : (start k : ℕ) → Room (withOwn (s .card)) start k → (length (s .map) ≤ 4096) ×
-      (s .shape .blocks ≤ 64 * length (s .map))
-  roomy start k r = (omega (arith, r .sizes .shape .words, r .sizes .shape .limit), r .sizes .shape .covered)
+  abbrev withOwnBare : Lent
+  withOwnBare = lentBy true own s noCard sheet
 
-  module _ (k : ℕ) (p : Placement) where
+  roomy : (limits : List ℕ) (start k : ℕ) → Room (withOwn limits) start k → (length (s .map) ≤ 4096) × (s .shape .blocks ≤ 64 * length (s .map))
+  roomy limits start k r = (omega (arith, r .sizes .shape .words, r .sizes .shape .limit), r .sizes .shape .covered)
+
+  module _ (limits : List ℕ) (k : ℕ) (p : Placement) where
     -- by the same row, or at the same start
-    reserve-own : endIn true own s (on sheet (reserve k p)) ≡ endOf s (on sheet (reserve k p))
+    reserve-own : endIn true own s (on sheet (reserve limits k p)) ≡ endOf s (on sheet (reserve limits k p))
     reserve-own =
-        let x = withOwn (s .card) in
-        let y = lentBy false [] s (s .card) sheet in
-        reserve-takes s sheet k true own p
+        let x = withOwn limits in
+        let y = lentByWithin false [] s (s .card) limits sheet in
+        reserve-takes s limits sheet k true own p
         ∙ ⊎-elim
-        (λ h. ap (λ (v : Verdict). takes s sheet k v (effects.reserveStart x k p)) (h .1)
-        ∙ ap (λ (v : Verdict). takes s sheet k v (effects.reserveStart y k p)) (sym (h .2)))
-        (λ h. ap (λ (v : Verdict). takes s sheet k v (effects.reserveStart x k p)) (h .0)
-        ∙ ap (takes s sheet k (effects.reserveVerdict y k p)) (h .1))
-        (summaries.reserve-same own (s .shape .blocks) (s .shape .free) (s .map) (s .card) (length (s .entries))
-        (entryAt (s .entries) sheet) sheet refl k p)
-        ∙ sym (reserve-takes s sheet k false [] p)
+        (λ h. ap (λ (v : Verdict). takes s limits sheet k v (effects.reserveStart x k p)) (h .1)
+        ∙ ap (λ (v : Verdict). takes s limits sheet k v (effects.reserveStart y k p)) (sym (h .2)))
+        (λ h. ap (λ (v : Verdict). takes s limits sheet k v (effects.reserveStart x k p)) (h .0)
+        ∙ ap (takes s limits sheet k (effects.reserveVerdict y k p)) (h .1))
+        (summaries.reserve-same (heldBy (s .entries) sheet) limits own (s .shape .blocks) (s .shape .free) (s .map) (s .card)
+        (length (s .entries)) (entryAt (s .entries) sheet) sheet refl k p)
+        ∙ sym (reserve-takes s limits sheet k false [] p)
 
-    reserve-own-after : summaryAfter own s (on sheet (reserve k p)) ≡ ownOf
-        (stateOn (endIn true own s (on sheet (reserve k p))))
+    reserve-own-after : summaryAfter own s (on sheet (reserve limits k p)) ≡ ownOf (stateOn (endIn true own s (on sheet (reserve limits k p))))
     unfolding effects.reserveSummary effects.reserveMap effects.takenSummary effects.takenMap
     reserve-own-after =
-        followed s (effects.reserveVerdict (withOwn (s .card)) k p) (effects.reserveStart (withOwn (s .card)) k p) k false
-        (λ h. roomy (effects.reserveStart (withOwn (s .card)) k p) k (reserve-room (withOwn (s .card)) k p h))
+        followed s (effects.reserveVerdict (withOwn limits) k p) (effects.reserveStart (withOwn limits) k p) k false
+        (λ h. roomy limits (effects.reserveStart (withOwn limits) k p) k (reserve-room (withOwn limits) k p h))
 
-  accept-own-after : (start k : ℕ)
-      → summaryAfter own s (on sheet (accept start k)) ≡ ownOf (stateOn (endIn true own s (on sheet (accept start k))))
+  accept-own-after : (limits : List ℕ) (start k : ℕ)
+      → summaryAfter own s (on sheet (accept limits start k)) ≡ ownOf (stateOn (endIn true own s (on sheet (accept limits start k))))
   unfolding effects.acceptSummary effects.acceptMap effects.takenSummary effects.takenMap
-  accept-own-after start k =
-      followed s (effects.acceptVerdict (withOwn (s .card)) start k) start k false
-      (λ h. roomy start k (accept-room (withOwn (s .card)) start k h))
+  accept-own-after limits start k =
+      followed s (effects.acceptVerdict (withOwn limits) start k) start k false
+      (λ h. roomy limits start k (accept-room (withOwn limits) start k h))
 
-  grow-own-after : (m : ℕ)
-      → summaryAfter own s (on sheet (grow m)) ≡ ownOf (stateOn (endIn true own s (on sheet (grow m))))
+  grow-own-after : (limits : List ℕ) (m : ℕ)
+      → summaryAfter own s (on sheet (grow limits m)) ≡ ownOf (stateOn (endIn true own s (on sheet (grow limits m))))
   unfolding effects.growSummary effects.growMap
-  grow-own-after m =
-      followed s (effects.growVerdict (withOwn (s .card)) m)
+  grow-own-after limits m =
+      followed s (effects.growVerdict (withOwn limits) m)
       (entryAt (s .entries) sheet .start + entryAt (s .entries) sheet .length) m false
-      (λ h. roomy _ m (grow-room (withOwn (s .card)) m h))
+      (λ h. roomy limits _ m (grow-room (withOwn limits) m h))
 
   release-own-after : summaryAfter own s (on sheet release) ≡ ownOf (stateOn (endIn true own s (on sheet release)))
   unfolding effects.releaseSummary effects.releaseMap
   release-own-after =
-      followed s (effects.releaseVerdict (withOwn noCard)) (entryAt (s .entries) sheet .start)
+      followed s (effects.releaseVerdict withOwnBare) (entryAt (s .entries) sheet .start)
       (entryAt (s .entries) sheet .length) true
-      (λ h. let f = release-sized (withOwn noCard) h in (omega (arith, f .words, f .limit), f .covered))
+      (λ h. let f = release-sized withOwnBare h in (omega (arith, f .words, f .limit), f .covered))
 
 -- ---- every call, and every list
 
 -- what it answers and leaves is what it does without
 same-end : (s : Kept) (c : Call) → endIn true (ownOf s) s c ≡ endOf s c
-same-end s (on sheet (reserve k p)) = reserve-own s sheet k p
-same-end s (on sheet (offer k)) = refl
-same-end s (on sheet (accept start k)) = any-summary s (ownOf s) sheet (own-fits s) .accepts start k
+same-end s (on sheet (reserve limits k p)) = reserve-own s sheet limits k p
+same-end s (on sheet (offer limits k)) = refl
+same-end s (on sheet (accept limits start k)) = any-summary s (ownOf s) sheet (own-fits s) .accepts limits start k
 same-end s (on sheet (put p payload)) = refl
-same-end s (on sheet (grow m)) = any-summary s (ownOf s) sheet (own-fits s) .grows m
+same-end s (on sheet (grow limits m)) = any-summary s (ownOf s) sheet (own-fits s) .grows limits m
 same-end s (on sheet complete) = refl
 same-end s (on sheet pause) = refl
 same-end s (on sheet resume) = refl
@@ -117,11 +120,11 @@ same-end s (on sheet standing) = refl
 
 -- and the summary is the map's own afterwards
 own-after : (s : Kept) (c : Call) → summaryAfter (ownOf s) s c ≡ ownOf (stateOn (endIn true (ownOf s) s c))
-own-after s (on sheet (reserve k p)) = reserve-own-after s sheet k p
-own-after s (on sheet (offer k)) = refl
-own-after s (on sheet (accept start k)) = accept-own-after s sheet start k
+own-after s (on sheet (reserve limits k p)) = reserve-own-after s sheet limits k p
+own-after s (on sheet (offer limits k)) = refl
+own-after s (on sheet (accept limits start k)) = accept-own-after s sheet limits start k
 own-after s (on sheet (put p payload)) = refl
-own-after s (on sheet (grow m)) = grow-own-after s sheet m
+own-after s (on sheet (grow limits m)) = grow-own-after s sheet limits m
 own-after s (on sheet complete) = refl
 own-after s (on sheet pause) = refl
 own-after s (on sheet resume) = refl

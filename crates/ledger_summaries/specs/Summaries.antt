@@ -16,7 +16,7 @@ use Rattle.refusals.specs.Table.{Call, Ask, on, reserve, put, grow, complete, p
 use Rattle.refusals.specs.Table.{showDated}
 use Rattle.refusals.specs.Table.{tableOf}
 use Rattle.refusals.specs.Views.{viewOn}
-use Rattle.card.specs.Calls.{Kept, lentTo, told, reserveSummaryBy, acceptSummaryBy, growSummaryBy, releaseSummaryBy}
+use Rattle.card.specs.Calls.{Kept, lentToWithin, told, reserveSummaryBy, acceptSummaryBy, growSummaryBy, releaseSummaryBy}
 use Rattle.ledger.specs.Claim.{before}
 use Rattle.ledger.specs.Steps.{End, ending, endIn, endOf, Response, responseOf, stateOn, Step, Runs}
 
@@ -24,11 +24,11 @@ use Rattle.ledger.specs.Steps.{End, ending, endIn, endOf, Response, responseOf,
 
 -- The summary that a call leaves: reserve, accept, grow and release have forms that change it; the other calls are not lent it.
 abbrev pub summaryAfter : List ℕ → Kept → Call → List ℕ
-summaryAfter summary s (on sheet (reserve k placement)) = reserveSummaryBy true summary s sheet k placement
-summaryAfter summary s (on sheet (offer k)) = summary
-summaryAfter summary s (on sheet (accept start k)) = acceptSummaryBy true summary s sheet start k
+summaryAfter summary s (on sheet (reserve limits k placement)) = reserveSummaryBy true summary s limits sheet k placement
+summaryAfter summary s (on sheet (offer limits k)) = summary
+summaryAfter summary s (on sheet (accept limits start k)) = acceptSummaryBy true summary s limits sheet start k
 summaryAfter summary s (on sheet (put p payload)) = summary
-summaryAfter summary s (on sheet (grow m)) = growSummaryBy true summary s sheet m
+summaryAfter summary s (on sheet (grow limits m)) = growSummaryBy true summary s limits sheet m
 summaryAfter summary s (on sheet complete) = summary
 summaryAfter summary s (on sheet pause) = summary
 summaryAfter summary s (on sheet resume) = summary
@@ -83,37 +83,38 @@ abbrev pub Refused1 : Kept → List ℕ → Call → Type 0
 Refused1 s summary c = (endIn true summary s c ≡ refusing s 1) × (summaryAfter summary s c ≡ summary)
 
 pub record WrongLength (s : Kept) (summary : List ℕ) (sheet : ℕ) : Type 0 where
-  pub reserves : (k : ℕ) (p : Placement) → Refused1 s summary (on sheet (reserve k p))
-  pub accepts : (start k : ℕ) → Refused1 s summary (on sheet (accept start k))
-  pub grows : (m : ℕ) → Refused1 s summary (on sheet (grow m))
+  pub reserves : (limits : List ℕ) (k : ℕ) (p : Placement) → Refused1 s summary (on sheet (reserve limits k p))
+  pub accepts : (limits : List ℕ) (start k : ℕ) → Refused1 s summary (on sheet (accept limits start k))
+  pub grows : (limits : List ℕ) (m : ℕ) → Refused1 s summary (on sheet (grow limits m))
   pub releases : Refused1 s summary (on sheet release)
 
 -- A summary of the right length, the map's own or not, changes nothing of accept, grow and release but itself. They are exact.
 pub record AnySummary (s : Kept) (summary : List ℕ) (sheet : ℕ) : Type 0 where
-  pub accepts : (start k : ℕ) → endIn true summary s (on sheet (accept start k)) ≡ endOf s (on sheet (accept start k))
-  pub grows : (m : ℕ) → endIn true summary s (on sheet (grow m)) ≡ endOf s (on sheet (grow m))
+  pub accepts : (limits : List ℕ) (start k : ℕ) → endIn true summary s (on sheet (accept limits start k)) ≡ endOf s (on sheet (accept limits start k))
+  pub grows : (limits : List ℕ) (m : ℕ) → endIn true summary s (on sheet (grow limits m)) ≡ endOf s (on sheet (grow limits m))
   pub releases : endIn true summary s (on sheet release) ≡ endOf s (on sheet release)
 
 -- A reserve comes to the search if no row before 10 holds. If it does not come there, it is answered as without a summary.
-abbrev pub Comes : Kept → ℕ → ℕ → Placement → Type 0
-Comes s sheet k p = firstOf (before 10 (tableOf (viewOn (lentTo s (s .card) sheet)) (on sheet (reserve k p)))) ≡ accepted
+abbrev pub Comes : Kept → List ℕ → ℕ → ℕ → Placement → Type 0
+Comes s limits sheet k p =
+    firstOf (before 10 (tableOf (viewOn (lentToWithin s (s .card) limits sheet)) (on sheet (reserve limits k p)))) ≡ accepted
 
 -- If it does, it is refused with 10, or with 4 by the free count, and changes nothing; or it is granted a run that is free, within
 -- its figures, inside n and k long, and then does and answers what an accept of that run does.
-pub data Searched (s : Kept) (summary : List ℕ) (sheet k : ℕ) (p : Placement) : Type 0 where
+pub data Searched (s : Kept) (summary limits : List ℕ) (sheet k : ℕ) (p : Placement) : Type 0 where
   turned-down : (number : ℕ) → (number ≡ 10) ⊎ (number ≡ 4)
-      → endIn true summary s (on sheet (reserve k p)) ≡ refusing s number
-      → summaryAfter summary s (on sheet (reserve k p)) ≡ summary → Searched s summary sheet k p
+      → endIn true summary s (on sheet (reserve limits k p)) ≡ refusing s number
+      → summaryAfter summary s (on sheet (reserve limits k p)) ≡ summary → Searched s summary limits sheet k p
   granted : (start : ℕ) → fitWithin (free (s .map)) (figuresIn (s .shape .blocks) p) k start ≡ true
-      → endIn true summary s (on sheet (reserve k p)) ≡ endIn true summary s (on sheet (accept start k))
-      → summaryAfter summary s (on sheet (reserve k p)) ≡ summaryAfter summary s (on sheet (accept start k))
-      → Searched s summary sheet k p
+      → endIn true summary s (on sheet (reserve limits k p)) ≡ endIn true summary s (on sheet (accept limits start k))
+      → summaryAfter summary s (on sheet (reserve limits k p)) ≡ summaryAfter summary s (on sheet (accept limits start k))
+      → Searched s summary limits sheet k p
 
-pub record AnyReserve (s : Kept) (summary : List ℕ) (sheet k : ℕ) (p : Placement) : Type 0 where
+pub record AnyReserve (s : Kept) (summary limits : List ℕ) (sheet k : ℕ) (p : Placement) : Type 0 where
   pub refused-before : (number : ℕ)
-      → firstOf (before 10 (tableOf (viewOn (lentTo s (s .card) sheet)) (on sheet (reserve k p)))) ≡ refused number
-      → (endIn true summary s (on sheet (reserve k p)) ≡ endOf s (on sheet (reserve k p)))
-      × (summaryAfter summary s (on sheet (reserve k p)) ≡ summary)
-  pub searched : Comes s sheet k p → Searched s summary sheet k p
+      → firstOf (before 10 (tableOf (viewOn (lentToWithin s (s .card) limits sheet)) (on sheet (reserve limits k p)))) ≡ refused number
+      → (endIn true summary s (on sheet (reserve limits k p)) ≡ endOf s (on sheet (reserve limits k p)))
+      × (summaryAfter summary s (on sheet (reserve limits k p)) ≡ summary)
+  pub searched : Comes s limits sheet k p → Searched s summary limits sheet k p
   -- where group 0's longest is below k, the search gives no fit, whatever the map holds
-  pub short : Comes s sheet k p → getD summary 2 0 < k → endIn true summary s (on sheet (reserve k p)) ≡ refusing s 10
+  pub short : Comes s limits sheet k p → getD summary 2 0 < k → endIn true summary s (on sheet (reserve limits k p)) ≡ refusing s 10

@@ -12,26 +12,29 @@ use Rattle.map_blocks.specs.Blocks as map-blocks
 use Rattle.map_blocks.specs.Blocks.{fit}
 use Rattle.catalogue_standings.specs.Rows.{Row, accepted, firstOf}
 use Rattle.refusals.specs.Effects as effects
-use Rattle.refusals.specs.Table.{Call, on, accept, rowsFor, lowestBlank, tableOf}
+use Rattle.refusals.specs.Table.{Ask, Call, on, accept, rowsFor, lowestBlank, tableOf}
 use Rattle.refusals.proofs.Rows.{clear}
 use Rattle.ledger.specs.Ledger.{Sheet, freeIn, spaceIn, viewIn, listed, rowsIn, verdictIn, deedIn, toldIn}
 use Rattle.ledger.specs.Claim.{before, Came, Searched}
 use Rattle.ledger.specs.Steps.{endOf}
-use Rattle.ledger.proofs.Agreement.{mapIn, stateOf, Matches, NeverRows, free-map, verdict-on}
+use Rattle.ledger.proofs.Agreement.{mapIn, stateOf, Matches, NeverRows, Sharing, saysOn, free-map, verdict-within}
 use Rattle.ledger.proofs.Results as results
 use Rattle.ledger.proofs.Results.{Result, out-back, plain-back, result-of}
 use Rattle.ledger.proofs.Rows.{onwards, from-there}
 use Rattle.ledger.proofs.Search.{only, asked}
 use Rattle.ledger.proofs.Taking.{shown, enough, taken, takes}
 
-module _ (n : ℕ) (l : List Sheet) (card : List ℕ) (k : Matches n l card) (i start m : ℕ) where
+module _ (n : ℕ) (l : List Sheet) (card : List ℕ) (k : Matches n l card) (i : ℕ) (limits : List ℕ) (start m : ℕ) where
   abbrev call : Call
-  call = on i (accept start m)
+  call = on i (accept limits start m)
+
+  abbrev ask : Ask
+  ask = accept limits start m
 
   abbrev rows : List Row
   rows = rowsIn n l call
 
-  never : NeverRows n l card k i (accept start m)
+  never : NeverRows n l card k i (accept limits start m)
   unfolding rowsFor
   never = (
     (λ h. enough n l card k i m start (shown n l card k i m start (clear 2 _ h .0) (clear 6 _ h .0) (clear 7 _ h .0)
@@ -39,17 +42,21 @@ module _ (n : ℕ) (l : List Sheet) (card : List ℕ) (k : Matches n l card) (i 
     tt,
   )
 
+  sharing : Sharing n l i ask
+  unfolding rowsFor
+  sharing x y same = ap (λ (h : ℕ). saysOn n l i ask (record { blank = y .blank; sound = y .sound; held = h })) same
+
   ends-so : endOf (stateOf n l card) call ≡ taken n l card k i m start (freeIn n l) (verdictIn n l call)
   unfolding effects.acceptOut effects.acceptMap effects.acceptCard effects.takenOut effects.takenMap effects.takenCard rowsFor
   ends-so =
       ap (taken n l card k i m start (map-blocks.free (mapIn n l)))
-      (verdict-on n l card k i (accept start m) (λ x y alike. refl) never)
+      (verdict-within n l card k i ask limits sharing never)
       ∙ ap (λ (f : ℕ → Bool). taken n l card k i m start f (verdictIn n l call)) (free-map n l)
 
   accepts : verdictIn n l call ≡ accepted → results.Done n l card call (taken n l card k i m start (freeIn n l) accepted)
   unfolding tableOf listed deedIn
   accepts h =
-      takes n l card k i m start (accept start m) (record {
+      takes n l card k i m start (accept limits start m) (record {
         ledger-is = refl;
         values-are = refl;
         grants-are = refl;

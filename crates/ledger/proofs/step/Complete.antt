@@ -31,7 +31,8 @@ use Rattle.ledger.specs.Ledger.{Place, Blank, Sheet, Complete, lengthIn,
 use Rattle.ledger.specs.Ledger.{spareIn, viewIn, completeIn, listed, rowsIn, verdictIn, deedIn}
 use Rattle.ledger.specs.Claim.{entryIn}
 use Rattle.ledger.specs.Steps.{End, endOf}
-use Rattle.ledger.proofs.Agreement.{mapIn, stateOf, Matches, NeverRows, OwnPlaces, entry-at, on-card, blank-same}
+use Rattle.ledger.proofs.Agreement.{mapIn, stateOf, Matches, NeverRows, OwnPlaces, on-card, blank-same}
+use Rattle.ledger.proofs.Wings.{entry-at}
 use Rattle.ledger.proofs.Agreement.{beyond-in, stands-same, verdict-on}
 use Rattle.ledger.proofs.Keeping.{keep-complete}
 use Rattle.ledger.proofs.Listed.{full, or-not}

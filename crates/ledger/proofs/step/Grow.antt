@@ -18,22 +18,26 @@ use Rattle.catalogue_standings.specs.Rows.{Row, Verdict, accepted, settle}
 use Rattle.catalogue_standings.specs.declared.Answer.the-variants.{Done}
 use Rattle.refusals.specs.Effects as effects
 use Rattle.refusals.specs.Effects.{entryOf, outOf, refusalOut}
-use Rattle.refusals.specs.Table.{Call, on, grow, rowsFor, tableOf}
+use Rattle.refusals.specs.Table.{Ask, Call, on, grow, rowsFor, tableOf}
 use Rattle.refusals.proofs.Rows.{clear}
 use Rattle.ledger.specs.Ledger.{Place, Blank, Sheet, Open, standingIn, startIn, lengthIn, sheetAt, freeIn, spareIn}
 use Rattle.ledger.specs.Ledger.{growIn, listed, rowsIn, verdictIn, deedIn}
 use Rattle.ledger.specs.Claim.{entryIn}
 use Rattle.ledger.specs.Steps.{End, endOf}
-use Rattle.ledger.proofs.Agreement.{mapIn, stateOf, Matches, NeverRows, entry-at, verdict-on}
+use Rattle.ledger.proofs.Agreement.{mapIn, stateOf, Matches, NeverRows, Sharing, saysOn, verdict-within}
+use Rattle.ledger.proofs.Wings.{entry-at}
 use Rattle.ledger.proofs.Keeping.{keep-grow}
 use Rattle.ledger.proofs.Listed.{spared}
 use Rattle.ledger.proofs.Results as results
 use Rattle.ledger.proofs.Results.{Result, outEnd, out-back, plain-back, one-sheet, result-of}
 use Rattle.ledger.proofs.Sheets.{was-open, grown, Has, more-at}
 
-module _ (n : ℕ) (l : List Sheet) (card : List ℕ) (k : Matches n l card) (i m : ℕ) where
+module _ (n : ℕ) (l : List Sheet) (card : List ℕ) (k : Matches n l card) (i : ℕ) (limits : List ℕ) (m : ℕ) where
   abbrev call : Call
-  call = on i (grow m)
+  call = on i (grow limits m)
+
+  abbrev ask : Ask
+  ask = grow limits m
 
   abbrev rows : List Row
   rows = rowsIn n l call
@@ -63,7 +67,7 @@ module _ (n : ℕ) (l : List Sheet) (card : List ℕ) (k : Matches n l card) (i 
         wide = length-append (o .1) (replicate m Blank) ∙ ap (λ (j : ℕ). length (o .1) + j) (length-replicate m Blank);
       }
 
-  never : NeverRows n l card k i (grow m)
+  never : NeverRows n l card k i (grow limits m)
   unfolding rowsFor
   never = (
     (λ h. let s = shown (clear 2 _ h .0) (clear 5 _ h .0) (clear 6 _ h .0) (clear 8 _ h .0) (clear 3 _ h .0)
@@ -85,9 +89,13 @@ module _ (n : ℕ) (l : List Sheet) (card : List ℕ) (k : Matches n l card) (i 
   abbrev ends : Verdict → End
   ends = taken (results.e n l card k i)
 
+  sharing : Sharing n l i ask
+  unfolding rowsFor
+  sharing x y same = ap (λ (h : ℕ). saysOn n l i ask (record { blank = y .blank; sound = y .sound; held = h })) same
+
   ends-so : endOf (stateOf n l card) call ≡ ends (verdictIn n l call)
   unfolding effects.growOut effects.growMap effects.growCard rowsFor
-  ends-so = ap ends (verdict-on n l card k i (grow m) (λ x y alike. refl) never)
+  ends-so = ap ends (verdict-within n l card k i ask limits sharing never)
 
   accepts : verdictIn n l call ≡ accepted → results.Done n l card call (ends accepted)
   unfolding tableOf listed deedIn
@@ -95,7 +103,7 @@ module _ (n : ℕ) (l : List Sheet) (card : List ℕ) (k : Matches n l card) (i 
       let s = shown (clear 2 rows h .0) (clear 5 rows h .0) (clear 6 rows h .0) (clear 8 rows h .0) (clear 3 rows h .0)
       (clear 11 rows h .0) in
       let b : ℕ = s .start + length (s .places) in
-      one-sheet n l card k i (grow m) (ends accepted) (record {
+      one-sheet n l card k i (grow limits m) (ends accepted) (record {
         inside = s .inside;
         sheet = Open (s .start) (s .places ++ replicate m Blank);
         becomes = ap (λ (y : Sheet). set l i (growIn m y)) (s .was);

@@ -16,23 +16,26 @@ use Rattle.catalogue_standings.specs.Rows.{Row, Verdict, accepted, firstOf, set
 use Rattle.catalogue_standings.specs.declared.Answer.the-variants.{Start, Refused}
 use Rattle.card.specs.Calls.{told}
 use Rattle.refusals.specs.Effects as effects
-use Rattle.refusals.specs.Table.{Call, on, offer, reserve, rowsFor, lowestBlank, tableOf}
+use Rattle.refusals.specs.Table.{Ask, Call, on, offer, reserve, rowsFor, lowestBlank, tableOf}
 use Rattle.refusals.specs.Placement.{plain, figuresIn, fitWithin, leastWithin}
 use Rattle.refusals.specs.declared.Figures.{Figures}
 use Rattle.refusals.proofs.Rows.{clear}
 use Rattle.ledger.specs.Ledger.{Sheet, freeIn, spareIn, leastIn, viewIn, listed, rowsIn, verdictIn, deedIn, toldIn}
 use Rattle.ledger.specs.Claim.{entryIn, before, Came, Searched}
 use Rattle.ledger.specs.Steps.{End, ending, endOf}
-use Rattle.ledger.proofs.Agreement.{mapIn, stateOf, Matches, NeverRows, free-map, verdict-on}
+use Rattle.ledger.proofs.Agreement.{mapIn, stateOf, Matches, NeverRows, Sharing, saysOn, free-map, verdict-within}
 use Rattle.ledger.proofs.Results as results
 use Rattle.ledger.proofs.Results.{Result, plain-back, no-change, result-of}
 use Rattle.ledger.proofs.Rows.{onwards, from-there}
 use Rattle.ledger.proofs.Search.{searched}
 use Rattle.ledger.proofs.step.Reserve as reserving
 
-module _ (n : ℕ) (l : List Sheet) (card : List ℕ) (k : Matches n l card) (i m : ℕ) where
+module _ (n : ℕ) (l : List Sheet) (card : List ℕ) (k : Matches n l card) (i : ℕ) (limits : List ℕ) (m : ℕ) where
   abbrev call : Call
-  call = on i (offer m)
+  call = on i (offer limits m)
+
+  abbrev ask : Ask
+  ask = offer limits m
 
   abbrev g : Figures
   g = figuresIn n plain
@@ -50,15 +53,19 @@ module _ (n : ℕ) (l : List Sheet) (card : List ℕ) (k : Matches n l card) (i 
   ends = tellsAt (leastIn n l m plain)
 
   -- its rows are those of the plain reserve
-  never : NeverRows n l card k i (offer m)
+  never : NeverRows n l card k i (offer limits m)
   unfolding rowsFor
-  never = reserving.never n l card k i m plain
+  never = reserving.never n l card k i limits m plain
+
+  sharing : Sharing n l i ask
+  unfolding rowsFor
+  sharing x y same = ap (λ (h : ℕ). saysOn n l i ask (record { blank = y .blank; sound = y .sound; held = h })) same
 
   ends-so : endOf (stateOf n l card) call ≡ ends (verdictIn n l call)
   unfolding effects.offerAnswer rowsFor
   ends-so =
       ap (tellsAt (startAt (leastWithin (map-blocks.free (mapIn n l)) g m)))
-      (verdict-on n l card k i (offer m) (λ x y alike. refl) never)
+      (verdict-within n l card k i ask limits sharing never)
       ∙ ap (λ (f : ℕ → Bool). tellsAt (startAt (leastWithin f g m)) (verdictIn n l call)) (free-map n l)
 
   accepts : verdictIn n l call ≡ accepted → results.Done n l card call (ends accepted)

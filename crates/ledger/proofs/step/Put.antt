@@ -25,7 +25,8 @@ use Rattle.ledger.specs.Ledger.{Place, Blank, Payload, Sheet, Open, leng
 use Rattle.ledger.specs.Ledger.{verdictIn, deedIn}
 use Rattle.ledger.specs.Claim.{entryIn}
 use Rattle.ledger.specs.Steps.{End, ending, endOf}
-use Rattle.ledger.proofs.Agreement.{mapIn, stateOf, Matches, entry-at, verdict-on}
+use Rattle.ledger.proofs.Agreement.{mapIn, stateOf, Matches, verdict-on}
+use Rattle.ledger.proofs.Wings.{entry-at}
 use Rattle.ledger.proofs.Keeping.{keep-put}
 use Rattle.ledger.proofs.Listed.{or-left, or-right}
 use Rattle.ledger.proofs.Results as results

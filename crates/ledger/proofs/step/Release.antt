@@ -18,7 +18,8 @@ use Rattle.refusals.specs.Table.{Call, on, release, rowsFor, tableOf}
 use Rattle.refusals.proofs.Rows.{clear}
 use Rattle.ledger.specs.Ledger.{Sheet, Absent, startIn, lengthIn, sheetAt, spareIn, listed, rowsIn, verdictIn, deedIn}
 use Rattle.ledger.specs.Steps.{End, endOf}
-use Rattle.ledger.proofs.Agreement.{mapIn, stateOf, Matches, entry-at, verdict-at}
+use Rattle.ledger.proofs.Agreement.{mapIn, stateOf, Matches, verdict-at}
+use Rattle.ledger.proofs.Wings.{entry-at}
 use Rattle.ledger.proofs.Cover.{length-held}
 use Rattle.ledger.proofs.Keeping.{keep-release}
 use Rattle.ledger.proofs.Listed.{spare-is}

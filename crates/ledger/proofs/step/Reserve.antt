@@ -16,7 +16,7 @@ use Rattle.catalogue_standings.specs.Searches.{startAt, none}
 use Rattle.catalogue_standings.specs.Standings.{isPaused, isOpen, isComplete}
 use Rattle.catalogue_standings.specs.Rows.{Row, accepted, firstOf}
 use Rattle.refusals.specs.Effects as effects
-use Rattle.refusals.specs.Table.{Call, on, reserve, rowsFor, lowestBlank, tableOf}
+use Rattle.refusals.specs.Table.{Ask, Call, on, reserve, rowsFor, lowestBlank, tableOf}
 use Rattle.refusals.specs.Placement.{Placement, figuresIn, misfigured, fitWithin, leastWithin}
 use Rattle.refusals.specs.declared.Figures.{Figures}
 use Rattle.refusals.proofs.Placement.{figured, plain-fit, least-fits}
@@ -25,16 +25,19 @@ use Rattle.ledger.specs.Ledger.{Sheet, standingIn, sheetAt, freeIn, leas
 use Rattle.ledger.specs.Ledger.{deedIn, toldIn}
 use Rattle.ledger.specs.Claim.{before, Came, Searched}
 use Rattle.ledger.specs.Steps.{endOf}
-use Rattle.ledger.proofs.Agreement.{mapIn, stateOf, Matches, NeverRows, free-map, verdict-on}
+use Rattle.ledger.proofs.Agreement.{mapIn, stateOf, Matches, NeverRows, Sharing, saysOn, free-map, verdict-within}
 use Rattle.ledger.proofs.Results as results
 use Rattle.ledger.proofs.Results.{Result, out-back, plain-back, result-of}
 use Rattle.ledger.proofs.Rows.{onwards, from-there}
 use Rattle.ledger.proofs.Search.{searched}
 use Rattle.ledger.proofs.Taking.{Shown, shown, enough, taken, takes}
 
-module _ (n : ℕ) (l : List Sheet) (card : List ℕ) (k : Matches n l card) (i m : ℕ) (placement : Placement) where
+module _ (n : ℕ) (l : List Sheet) (card : List ℕ) (k : Matches n l card) (i : ℕ) (limits : List ℕ) (m : ℕ) (placement : Placement) where
   abbrev call : Call
-  call = on i (reserve m placement)
+  call = on i (reserve limits m placement)
+
+  abbrev ask : Ask
+  ask = reserve limits m placement
 
   abbrev g : Figures
   g = figuresIn n placement
@@ -52,7 +55,7 @@ module _ (n : ℕ) (l : List Sheet) (card : List ℕ) (k : Matches n l card) (i 
       shown n l card k i m start h2 h6 h7 h8 h3
       (plain-fit (freeIn n l) n g m start (figured n g h15 .inside) (least-fits (freeIn n l) g m h10))
 
-  pub never : NeverRows n l card k i (reserve m placement)
+  pub never : NeverRows n l card k i (reserve limits m placement)
   unfolding rowsFor
   never = (
     (λ h. enough n l card k i m start (seen (clear 2 _ h .0) (clear 6 _ h .0) (clear 7 _ h .0) (clear 8 _ h .0)
@@ -60,18 +63,22 @@ module _ (n : ℕ) (l : List Sheet) (card : List ℕ) (k : Matches n l card) (i 
     tt,
   )
 
+  sharing : Sharing n l i ask
+  unfolding rowsFor
+  sharing x y same = ap (λ (h : ℕ). saysOn n l i ask (record { blank = y .blank; sound = y .sound; held = h })) same
+
   ends-so : endOf (stateOf n l card) call ≡ taken n l card k i m start (freeIn n l) (verdictIn n l call)
   unfolding effects.reserveOut effects.reserveMap effects.reserveCard effects.takenOut effects.takenMap effects.takenCard
       rowsFor
   ends-so =
       ap (taken n l card k i m (startAt (leastWithin (map-blocks.free (mapIn n l)) g m)) (map-blocks.free (mapIn n l)))
-      (verdict-on n l card k i (reserve m placement) (λ x y alike. refl) never)
+      (verdict-within n l card k i ask limits sharing never)
       ∙ ap (λ (f : ℕ → Bool). taken n l card k i m (startAt (leastWithin f g m)) f (verdictIn n l call)) (free-map n l)
 
   accepts : verdictIn n l call ≡ accepted → results.Done n l card call (taken n l card k i m start (freeIn n l) accepted)
   unfolding tableOf listed deedIn
   accepts h =
-      takes n l card k i m start (reserve m placement) (record {
+      takes n l card k i m start (reserve limits m placement) (record {
         ledger-is = refl;
         values-are = refl;
         grants-are = refl;

@@ -16,7 +16,8 @@ use Rattle.refusals.specs.Table.{Call, on, resume, rowsFor, tableOf}
 use Rattle.refusals.proofs.Rows.{clear}
 use Rattle.ledger.specs.Ledger.{Sheet, startIn, lengthIn, sheetAt, spareIn, resumeIn, listed, rowsIn, verdictIn, deedIn}
 use Rattle.ledger.specs.Steps.{End, endOf}
-use Rattle.ledger.proofs.Agreement.{mapIn, stateOf, Matches, entry-at, verdict-at}
+use Rattle.ledger.proofs.Agreement.{mapIn, stateOf, Matches, verdict-at}
+use Rattle.ledger.proofs.Wings.{entry-at}
 use Rattle.ledger.proofs.Results as results
 use Rattle.ledger.proofs.Results.{Result, outEnd, out-back, plain-back, one-sheet, result-of}
 use Rattle.ledger.proofs.SameBlocks.{SameBlocks, resumed, has-same, keep-blocks}

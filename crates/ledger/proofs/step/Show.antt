@@ -20,7 +20,8 @@ use Rattle.ledger.specs.Ledger.{Blank, Sheet, standingIn, lengthIn, plac
 use Rattle.ledger.specs.Ledger.{placeAt, spareIn, viewIn, listed, rowsIn, verdictIn, deedIn}
 use Rattle.ledger.specs.Claim.{entryIn}
 use Rattle.ledger.specs.Steps.{End, ending, endOf}
-use Rattle.ledger.proofs.Agreement.{mapIn, stateOf, reads, Matches, NeverRows, OwnPlaces, entry-at, verdict-on}
+use Rattle.ledger.proofs.Agreement.{mapIn, stateOf, reads, Matches, NeverRows, OwnPlaces, verdict-on}
+use Rattle.ledger.proofs.Wings.{entry-at}
 use Rattle.ledger.proofs.Agreement.{payload-block}
 use Rattle.ledger.proofs.Listed.{or-left}
 use Rattle.ledger.proofs.Results as results

@@ -15,7 +15,8 @@ use Rattle.card.specs.Calls.{told}
 use Rattle.ledger.specs.Ledger.{Sheet, sheetAt, spareIn, listed, rowsIn, verdictIn, deedIn}
 use Rattle.ledger.specs.Claim.{entryIn}
 use Rattle.ledger.specs.Steps.{End, ending, endOf}
-use Rattle.ledger.proofs.Agreement.{mapIn, stateOf, Matches, entry-at, verdict-at}
+use Rattle.ledger.proofs.Agreement.{mapIn, stateOf, Matches, verdict-at}
+use Rattle.ledger.proofs.Wings.{entry-at}
 use Rattle.ledger.proofs.Results as results
 use Rattle.ledger.proofs.Results.{Result, plain-back, no-change, result-of}
 
