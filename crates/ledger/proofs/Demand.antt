@@ -111,7 +111,7 @@ cover-begun : (c b : ℕ) → cover (begun c) b ≡ 0
 cover-begun zero b = refl
 cover-begun (suc c) b = omega (arith, cover-begun c b, covers-absent b)
 
-held-begun : (c : ℕ) → held (begun c) ≡ 0
+pub held-begun : (c : ℕ) → held (begun c) ≡ 0
 held-begun zero = refl
 held-begun (suc c) = omega (arith, held-begun c)
 

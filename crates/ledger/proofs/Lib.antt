@@ -18,8 +18,10 @@ pub mod Rows
 pub mod Search
 pub mod SameBlocks
 pub mod Savable
+pub mod Shares
 pub mod Sheets
 pub mod Taking
 pub mod WholeCard
-pub mod step
+pub mod WideLimits
 pub mod Wings
+pub mod step

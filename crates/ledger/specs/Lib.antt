@@ -4,3 +4,4 @@ pub mod Steps
 pub mod Claim
 pub mod Pauses
 pub mod Terms
+pub mod Shares

@@ -5,7 +5,7 @@ use mathlib.Core.Path.{_≡_, refl, sym, ap, subst, _∙_}
 use mathlib.Core.Bool.{true, false, not}
 use mathlib.Core.List.{List, _++_}
 use native.Mathlib.Omega.{arith}
-use lib.Dec.{eqb, leb}
+use lib.Dec.{eqb, leb, ltb}
 use lib.ListN.{length, set, replicate, length-append, length-replicate}
 use borrow.Author.Tests.{leb-false, eqb-false, not-false}
 use Rattle.catalogue.specs.Entries.{openMark}
@@ -43,7 +43,7 @@ module _ (n : ℕ) (l : List Sheet) (card : List ℕ) (k : Matches n l card) (i 
   rows = rowsIn n l call
 
   -- what its rows have shown
-  record Shown : Type 0 where
+  pub record Shown : Type 0 where
     inside : i < length l
     start : ℕ
     places : List Place
@@ -52,7 +52,7 @@ module _ (n : ℕ) (l : List Sheet) (card : List ℕ) (k : Matches n l card) (i 
     fits : fit (freeIn n l) 0 n 1 m (start + length places) ≡ true
     wide : length (places ++ replicate m Blank) ≡ length places + m
 
-  shown : leb (length l) i ≡ false → isAbsent (standingIn (sheetAt l i)) ≡ false → isPaused (standingIn (sheetAt l i)) ≡ false
+  pub shown : leb (length l) i ≡ false → isAbsent (standingIn (sheetAt l i)) ≡ false → isPaused (standingIn (sheetAt l i)) ≡ false
       → isComplete (standingIn (sheetAt l i)) ≡ false
       → eqb m 0 ≡ false → not (fit (freeIn n l) 0 n 1 m (startIn (sheetAt l i) + lengthIn (sheetAt l i))) ≡ false → Shown
   shown h2 h5 h6 h8 h3 h11 =
@@ -67,14 +67,19 @@ module _ (n : ℕ) (l : List Sheet) (card : List ℕ) (k : Matches n l card) (i 
         wide = length-append (o .1) (replicate m Blank) ∙ ap (λ (j : ℕ). length (o .1) + j) (length-replicate m Blank);
       }
 
+  -- the free count has as many: row 4 holds for none
+  pub enough : Shown → ltb (spareIn n l) m ≡ false
+  enough s =
+      spared n l (k .sound) i m (Open (s .start) (s .places ++ replicate m Blank)) (s .inside)
+      (omega (arith, s .wide, ap lengthIn (s .was)))
+      (grown n l (k .sound) i (s .inside) (s .start) (s .places) (s .was) m (s .some) (s .fits))
+
   never : NeverRows n l card k i (grow limits m)
   unfolding rowsFor
   never = (
     (λ h. let s = shown (clear 2 _ h .0) (clear 5 _ h .0) (clear 6 _ h .0) (clear 8 _ h .0) (clear 3 _ h .0)
         (clear 11 _ h .0) in
-        spared n l (k .sound) i m (Open (s .start) (s .places ++ replicate m Blank)) (s .inside)
-        (omega (arith, s .wide, ap lengthIn (s .was)))
-        (grown n l (k .sound) i (s .inside) (s .start) (s .places) (s .was) m (s .some) (s .fits))),
+        enough s),
     tt,
   )
 

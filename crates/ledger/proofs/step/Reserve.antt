@@ -48,7 +48,7 @@ module _ (n : ℕ) (l : List Sheet) (card : List ℕ) (k : Matches n l card) (i 
   abbrev start : ℕ
   start = leastIn n l m placement
 
-  seen : leb (length l) i ≡ false → isPaused (standingIn (sheetAt l i)) ≡ false → isOpen (standingIn (sheetAt l i)) ≡ false
+  pub seen : leb (length l) i ≡ false → isPaused (standingIn (sheetAt l i)) ≡ false → isOpen (standingIn (sheetAt l i)) ≡ false
       → isComplete (standingIn (sheetAt l i)) ≡ false
       → eqb m 0 ≡ false → misfigured n g ≡ false → none (leastWithin (freeIn n l) g m) ≡ false → Shown n l card k i m start
   seen h2 h6 h7 h8 h3 h15 h10 =
