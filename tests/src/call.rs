@@ -42,17 +42,17 @@ pub const CALLS: [(Kind, &str, &[Row]); 23] = [
     (Kind::Search, "search", &[Blocks, FreeAboveN, MapLength, NoBlocks, NoFit]),
     (Kind::Survey, "survey", &[Blocks, FreeAboveN, MapLength]),
     (Kind::Reserve, "reserve", &[Blocks, Sheets, FreeAboveN, MapLength, CardLength, NoSheet, Damaged,
-        Paused, Open, Complete, NoBlocks, NoFit, FreeCount]),
+        Paused, Open, Complete, NoBlocks, OverLimit, NoFit, FreeCount]),
     (Kind::ReservePlaced, "reserve-placed", &[Blocks, Sheets, FreeAboveN, MapLength, CardLength, NoSheet, Damaged,
-        Paused, Open, Complete, NoBlocks, NoStep, FromNotBefore, BeforeAboveN, NoFit, FreeCount]),
+        Paused, Open, Complete, NoBlocks, NoStep, FromNotBefore, BeforeAboveN, OverLimit, NoFit, FreeCount]),
     (Kind::Offer, "offer", &[Blocks, Sheets, FreeAboveN, MapLength, CardLength, NoSheet, Damaged,
-        Paused, Open, Complete, NoBlocks, NoFit, FreeCount]),
+        Paused, Open, Complete, NoBlocks, OverLimit, NoFit, FreeCount]),
     (Kind::Accept, "accept", &[Blocks, Sheets, FreeAboveN, MapLength, CardLength, NoSheet, Damaged,
-        Paused, Open, Complete, NoBlocks, RunNotFree, FreeCount]),
+        Paused, Open, Complete, NoBlocks, OverLimit, RunNotFree, FreeCount]),
     (Kind::Put, "put", &[Blocks, Sheets, FreeAboveN, MapLength, CardLength, NoSheet, Damaged,
         Absent, Paused, Complete, NoPlace, SliceLength]),
     (Kind::Grow, "grow", &[Blocks, Sheets, FreeAboveN, MapLength, CardLength, NoSheet, Damaged,
-        Absent, Paused, Complete, NoBlocks, NotNext, FreeCount]),
+        Absent, Paused, Complete, NoBlocks, OverLimit, NotNext, FreeCount]),
     (Kind::Complete, "complete", &[Blocks, Sheets, FreeAboveN, MapLength, CardLength, NoSheet, Damaged,
         Absent, Paused, Complete, Unsound, Blank]),
     (Kind::Pause, "pause", &[Blocks, Sheets, FreeAboveN, MapLength, NoSheet, Damaged, Paused, Open]),
@@ -65,13 +65,13 @@ pub const CALLS: [(Kind, &str, &[Row]); 23] = [
         Absent, Paused, Open, NoPlace, SliceLength, NoYear, NoMonth, NoDay, UnsoundFirst, OutsideTerm, Unsound]),
     (Kind::Standing, "standing", &[Blocks, Sheets, FreeAboveN, MapLength, NoSheet, Damaged]),
     (Kind::ReserveWithSummary, "summary-reserve", &[Blocks, Sheets, FreeAboveN, MapLength, SummaryLength, CardLength,
-        NoSheet, Damaged, Paused, Open, Complete, NoBlocks, NoFit, FreeCount]),
+        NoSheet, Damaged, Paused, Open, Complete, NoBlocks, OverLimit, NoFit, FreeCount]),
     (Kind::ReservePlacedWithSummary, "summary-placed", &[Blocks, Sheets, FreeAboveN, MapLength, SummaryLength, CardLength,
-        NoSheet, Damaged, Paused, Open, Complete, NoBlocks, NoStep, FromNotBefore, BeforeAboveN, NoFit, FreeCount]),
+        NoSheet, Damaged, Paused, Open, Complete, NoBlocks, NoStep, FromNotBefore, BeforeAboveN, OverLimit, NoFit, FreeCount]),
     (Kind::AcceptWithSummary, "summary-accept", &[Blocks, Sheets, FreeAboveN, MapLength, SummaryLength, CardLength,
-        NoSheet, Damaged, Paused, Open, Complete, NoBlocks, RunNotFree, FreeCount]),
+        NoSheet, Damaged, Paused, Open, Complete, NoBlocks, OverLimit, RunNotFree, FreeCount]),
     (Kind::GrowWithSummary, "summary-grow", &[Blocks, Sheets, FreeAboveN, MapLength, SummaryLength, CardLength,
-        NoSheet, Damaged, Absent, Paused, Complete, NoBlocks, NotNext, FreeCount]),
+        NoSheet, Damaged, Absent, Paused, Complete, NoBlocks, OverLimit, NotNext, FreeCount]),
     (Kind::ReleaseWithSummary, "summary-release", &[Blocks, Sheets, FreeAboveN, MapLength, SummaryLength,
         NoSheet, Damaged, Absent, FreeCount]),
     (Kind::SummaryBuild, "summary-build", &[Blocks, FreeAboveN, MapLength, SummaryLength]),
@@ -155,6 +155,11 @@ impl Kind {
         self.rows().contains(&SliceLength)
     }
 
+    /// Whether limits go with the call.
+    pub fn has_limits(self) -> bool {
+        self.rows().contains(&OverLimit)
+    }
+
     /// Whether the call is lent the summary.
     pub fn has_summary(self) -> bool {
         self.rows().contains(&SummaryLength)
@@ -216,6 +221,12 @@ impl Bytes {
     }
 }
 
+/// The limits of the eight wings (document 02, (k)).
+pub type Limits = [u32; 8];
+
+/// The largest limits. They are passed only where the blocks held and wanted make a number of 33 bits.
+pub const LARGEST: Limits = [u32::MAX; 8];
+
 #[derive(Clone, Copy)]
 pub struct Call {
     pub kind: Kind,
@@ -227,6 +238,8 @@ pub struct Call {
     pub figures: Figures,
     /// Where the run of an accept starts, 0 where there is none.
     pub start: u32,
+    /// Those of a reserve, an offer, an accept or a grow.
+    pub limits: Limits,
     /// That of a dated show, 1 January 2000 where there is none.
     pub date: Date,
     /// The payload that a put brings, or what a show's buffer has before.
@@ -251,6 +264,7 @@ pub const fn call(kind: Kind, sheet: u32, number: u32) -> Call {
         number,
         figures: figures(0, 0, 0),
         start: 0,
+        limits: LARGEST,
         date: date(2000, 1, 1),
         bytes: PAYLOAD,
         search: Search::Exact,
@@ -284,6 +298,11 @@ pub const fn dated(sheet: u32, place: u32, date: Date) -> Call {
 impl Call {
     pub const fn with_bytes(self, bytes: Bytes) -> Call {
         Call { bytes, ..self }
+    }
+
+    /// The call with these limits.
+    pub const fn with_limits(self, limits: Limits) -> Call {
+        Call { limits, ..self }
     }
 
     /// The form of the call that is lent the summary; a call that has none is itself.
@@ -323,6 +342,9 @@ impl fmt::Display for Call {
         if kind.without_summary() == Kind::ReservePlaced {
             let Figures { from, before, step } = self.figures;
             write!(f, " {from} {before} {step}")?;
+        }
+        if kind.has_limits() && self.limits != LARGEST {
+            write!(f, ", limits {:?}", self.limits)?;
         }
         if kind == Kind::ShowDated {
             write!(f, " {}", self.date)?;

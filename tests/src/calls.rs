@@ -12,6 +12,7 @@ mod random_calls;
 mod space_calls;
 mod store;
 mod summary_calls;
+mod wing_calls;
 
 use crate::call::Kind;
 use crate::random::Random;
@@ -24,7 +25,9 @@ pub fn examples() -> String {
     text += &sections(store, with_summary());
     text += &random_with_summary(store);
     text += &sections(store, dated());
-    text + &random_dated(store)
+    text += &random_dated(store);
+    text += &sections(store, with_limits());
+    text + &random_with_limits(store)
 }
 
 /// A heading, and the lines below it.
@@ -93,6 +96,13 @@ fn dated() -> impl Iterator<Item = Section> {
     lists.chain([("row 1 of a dated show", limits::row_1_dated())])
 }
 
+/// Wings that share a card (document 02, (k)).
+fn with_limits() -> impl Iterator<Item = Section> {
+    wing_calls::LISTS
+        .iter()
+        .map(|(name, list)| (*name, wing_calls::on_70(list)))
+}
+
 fn random(store: &mut Store) -> String {
     let random = &mut Random(0x9e3779b97f4a7c15);
     let text = format!("== random\n{}", store.lines(&on_70("")));
@@ -123,6 +133,17 @@ fn random_dated(store: &mut Store) -> String {
     (0..random_calls::DATED).fold(text, |text, _| {
         text + &store.line(&random_calls::random_dated_call(random.draw()))
     })
+}
+
+/// Random calls with limits, of the sheets of two wings; the limits change now and then.
+fn random_with_limits(store: &mut Store) -> String {
+    let random = &mut Random(0xe7037ed1a0b428db);
+    let list = wing_calls::on_70("summary-build");
+    let text = format!("== random, with limits\n{}", store.lines(&list));
+    let text = (0..random_calls::WITH_LIMITS).fold(text, |text, _| {
+        text + &store.line(&random_calls::random_call_with_limits(random.draw()))
+    });
+    text + &store.lines(wing_calls::END)
 }
 
 /// The line of a call that changes the map becomes that of its form with a summary.

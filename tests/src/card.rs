@@ -62,6 +62,11 @@ pub struct Card {
     pub summary: Vec<u32>,
 }
 
+/// "A sheet's wing is its number divided by 128, rounded down" (document 02, (k)).
+pub const fn wing_of(sheet: u32) -> u32 {
+    sheet / 128
+}
+
 const BLOCK: usize = 512;
 const PAYLOAD: usize = 496;
 
@@ -138,6 +143,7 @@ impl Card {
             Row::NoStep => call.figures.step == 0,
             Row::FromNotBefore => call.figures.from >= call.figures.before,
             Row::BeforeAboveN => call.figures.before as usize > n,
+            Row::OverLimit => self.entry_of(call).is_some() && self.over_limit(call),
             Row::NoYear => !(FIRST_YEAR..=LAST_YEAR).contains(&call.date.year),
             Row::NoMonth => days_of(call.date.year, call.date.month).is_none(),
             Row::NoDay => {
@@ -191,6 +197,23 @@ impl Card {
             }
             _ => true,
         }
+    }
+
+    /// The blocks that a wing holds: the lengths of its sheets as their entries have them, damaged ones too (document 02, (k)).
+    /// Its sheets are those whose numbers are the wing's when they are divided by 128.
+    pub fn held_by_wing(&self, wing: u32) -> u64 {
+        let sheets = (0..).zip(&self.sheets);
+        let of_wing = sheets.filter(|(sheet, _)| wing_of(*sheet) == wing);
+        of_wing.map(|(_, entry)| entry.length as u64).sum()
+    }
+
+    /// Whether what the wing of the call's sheet holds and what is wanted are together more than its limit. A sheet behind the
+    /// last that a catalogue can have has no wing.
+    fn over_limit(&self, call: Call) -> bool {
+        let wing = wing_of(call.sheet);
+        let limit = call.limits.get(wing as usize);
+        let together = self.held_by_wing(wing) + call.number as u64;
+        limit.is_some_and(|limit| together > *limit as u64)
     }
 
     /// The least fit for a search, a reserve or an offer: that of a plain reserve is the one with the figures 0, n and 1.
@@ -363,6 +386,8 @@ mod paused_tests;
 mod placed_tests;
 #[cfg(test)]
 mod summary_tests;
+#[cfg(test)]
+mod wing_tests;
 
 #[cfg(test)]
 mod tests;

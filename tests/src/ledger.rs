@@ -3,9 +3,9 @@
 
 use crate::blocks::{all, least_fit, plain, words_of, Figures, FREE, TAKEN};
 use crate::calendar::{day_of, term_of, within, Date};
-use crate::call::{Call, Kind};
+use crate::call::{Call, Kind, Limits, LARGEST};
 use crate::card::Answer::*;
-use crate::card::{entry, sealed, Answer, Entry};
+use crate::card::{entry, sealed, wing_of, Answer, Entry};
 
 type Payload = Vec<u8>;
 
@@ -32,6 +32,8 @@ pub enum Sheet {
 pub struct Ledger {
     n: usize,
     sheets: Vec<Sheet>,
+    /// Those that go with the call at hand.
+    limits: Limits,
     /// Blocks granted and returned by the accepted calls.
     pub granted: usize,
     pub returned: usize,
@@ -43,6 +45,7 @@ impl Ledger {
         Ledger {
             n,
             sheets: vec![Sheet::Absent; c],
+            limits: LARGEST,
             granted: 0,
             returned: 0,
         }
@@ -121,6 +124,7 @@ impl Ledger {
     /// are the build and the check of a summary. With a true summary a form is answered as the call without it.
     pub fn call(&mut self, call: Call, slice: &mut [u8]) -> Option<Answer> {
         let (sheet, number) = (call.sheet, call.number);
+        self.limits = call.limits;
         let answer = match call.kind.without_summary() {
             Kind::Fresh | Kind::Search | Kind::Survey => return None,
             Kind::SummaryBuild | Kind::SummaryCheck => return None,
@@ -165,6 +169,21 @@ impl Ledger {
         }
     }
 
+    /// The places of all sheets of a wing.
+    pub fn held_by_wing(&self, wing: u32) -> usize {
+        let sheets = (0..self.sheets.len()).filter(|sheet| wing_of(*sheet as u32) == wing);
+        sheets.map(|sheet| self.extent(sheet).1).sum()
+    }
+
+    /// The wing of a sheet may hold k places more (document 02, (k)).
+    fn within_limit(&self, sheet: u32, k: usize) -> Result<(), Answer> {
+        let wing = wing_of(sheet);
+        if self.held_by_wing(wing) + k > self.limits[wing as usize] as usize {
+            return Err(Refused(18));
+        }
+        Ok(())
+    }
+
     /// Where a reserve with figures would put a sheet of k places.
     fn fit(&mut self, sheet: u32, k: usize, figures: Figures) -> Result<usize, Answer> {
         self.absent(sheet)?;
@@ -175,6 +194,7 @@ impl Ledger {
         if step == 0 || from >= before || before as usize > self.n {
             return Err(Refused(15));
         }
+        self.within_limit(sheet, k)?;
         least_fit(&self.map()[..self.n], figures, k).ok_or(Refused(10))
     }
 
@@ -206,6 +226,7 @@ impl Ledger {
         if k == 0 {
             return Err(Refused(3));
         }
+        self.within_limit(sheet, k)?;
         if start + k > self.n || !all(&self.map(), start, start + k, FREE) {
             return Err(Refused(17));
         }
@@ -223,10 +244,11 @@ impl Ledger {
 
     fn grow(&mut self, sheet: u32, m: usize) -> Result<Answer, Answer> {
         let (start, places) = self.open(sheet)?;
+        let end = start + places.len();
         if m == 0 {
             return Err(Refused(3));
         }
-        let end = start + places.len();
+        self.within_limit(sheet, m)?;
         if end + m > self.n || !all(&self.map(), end, end + m, FREE) {
             return Err(Refused(11));
         }

@@ -40,6 +40,8 @@ pub enum Row {
     NoStep,
     FromNotBefore,
     BeforeAboveN,
+    /// 18: what the sheet's wing holds and the blocks wanted are together more than the wing's limit.
+    OverLimit,
     /// 19, of a dated show: the year is outside the span, or there is no such month or no such day of it.
     NoYear,
     NoMonth,
@@ -99,6 +101,7 @@ impl Row {
             HeadLimits | HeadTotal | LoadedState | Fill => 14,
             NoStep | FromNotBefore | BeforeAboveN => 15,
             RunNotFree => 17,
+            OverLimit => 18,
             NoYear | NoMonth | NoDay => 19,
             OutsideTerm => 20,
         }
@@ -122,7 +125,7 @@ type Apart = (
 #[rustfmt::skip]
 const APART: &[Apart] = &[
     (&[], &[NoSheet], &[Damaged, Absent, Paused, PausedEmpty, Open, Complete, NoPlace, UnsoundFirst, OutsideTerm, Unsound,
-        Blank, NotNext],
+        Blank, NotNext, OverLimit],
         "a sheet that the catalogue does not have has no entry, no places and no blocks"),
     (&["release", "summary-release"], &[NoSheet], &[FreeCount], "a sheet that the catalogue does not have has no length"),
     (&[], STANDINGS, STANDINGS, "an entry has one mark"),

@@ -41,18 +41,35 @@ fn a_dated_show_has_the_rows_of_show_and_its_own() {
 
 /// Document 01, "Order: 1, 2, 4 for the entry, 5 to 8, 3, then 4 for blocks, 9, 10 or 11, and last 4 for the count", and
 /// document 02, "it comes after 3", of 15, and "it takes the place of 10 there", of 17; "after 3", of 19, and "after place 0
-/// has been found sound and before the place wanted is checked", of 20.
+/// has been found sound and before the place wanted is checked", of 20; "after 3 and 15, before 10, 11 and 17", of 18.
 #[test]
 fn rows_stand_in_the_documents_order() {
     for (_, name, rows) in CALLS {
         assert!(rows.windows(2).all(|two| two[0] < two[1]), "{name}");
         let mut numbers: Vec<u32> = rows.iter().map(|row| row.number()).collect();
         numbers.dedup();
-        let order = [1, 2, 4, 5, 6, 7, 8, 3, 15, 19, 4, 20, 4, 9, 10, 11, 17, 4];
+        let order = [
+            1, 2, 4, 5, 6, 7, 8, 3, 15, 18, 19, 4, 20, 4, 9, 10, 11, 17, 4,
+        ];
         let mut order = order.into_iter();
         for number in numbers {
             // Behind the number before it.
             assert!(order.any(|next| next == number), "{name}: {number}");
         }
     }
+}
+
+/// Document 02, (k): "Eight limits go with each reserve, placed reserve, offer, accept and grow", with or without a summary.
+#[test]
+fn calls_with_limits() {
+    let with = CALLS.iter().filter(|(kind, ..)| kind.has_limits());
+    let names: Vec<&str> = with.map(|(_, name, _)| *name).collect();
+    let without_summary = ["reserve", "reserve-placed", "offer", "accept", "grow"];
+    let with_summary = [
+        "summary-reserve",
+        "summary-placed",
+        "summary-accept",
+        "summary-grow",
+    ];
+    assert_eq!(names, [&without_summary[..], &with_summary].concat());
 }

@@ -5,6 +5,9 @@ pub(super) const CALLS: usize = 600;
 /// How many more there are whose map-changing calls are lent a summary.
 pub(super) const WITH_SUMMARY: usize = 200;
 
+/// How many more there are with limits.
+pub(super) const WITH_LIMITS: usize = 300;
+
 /// How many more there are for dated shows.
 pub(super) const DATED: usize = 300;
 
@@ -104,5 +107,27 @@ pub(super) fn random_dated_call(x: u64) -> String {
         16..=19 => format!("complete {sheet}"),
         20 => format!("show {sheet} {} 496", y % 2),
         _ => format!("show-dated {sheet} {} {}", y % 5 / 3, random_date(y / 8)),
+    }
+}
+
+/// A call that limits go with, or a release, for one of two sheets on either side of the first wing's end, or for sheet 0 or
+/// 255; in 1 case of 8 another limit for one of the two wings.
+pub(super) fn random_call_with_limits(x: u64) -> String {
+    let sheet = [0, 127, 128, 255][x as usize % 4];
+    let y = x / 1024;
+    match x / 16 % 32 {
+        0..=3 => format!("+limit {} {}", y % 2, y / 2 % 40),
+        4..=7 => format!("reserve {sheet} {}", y % 20),
+        8..=10 => format!(
+            "reserve-placed {sheet} {} {}",
+            y % 20,
+            random_figures(y / 32)
+        ),
+        11..=13 => format!("offer {sheet} {}", y % 20),
+        14..=16 => format!("accept {sheet} {} {}", random_start(y / 32), y % 20),
+        17..=20 => format!("grow {sheet} {}", y % 6),
+        21..=22 => format!("pause {sheet}"),
+        23..=27 => format!("release {sheet}"),
+        _ => format!("standing {sheet}"),
     }
 }

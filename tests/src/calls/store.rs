@@ -2,7 +2,7 @@
 
 use crate::blocks::{figures, from_words, to_words};
 use crate::calendar::date;
-use crate::call::{accept, call, dated, placed, Bytes, Call, Kind};
+use crate::call::{accept, call, dated, placed, Bytes, Call, Kind, Limits, LARGEST};
 use crate::card::{entry, Answer, Card, Entry};
 use crate::rows::Row;
 
@@ -16,6 +16,9 @@ pub(super) struct Store {
     summary: Vec<u32>,
     /// How many numbers of the summary, from the first on, are open: a call changed the map with a false one.
     open: usize,
+    /// The limits of the eight wings that go with the calls. They are the largest numbers until a line names others: `+limit`
+    /// has a wing and its limit, `+limits` one for all wings.
+    limits: Limits,
     /// What the last call left in its buffer, if it was a show or a dated one.
     buffer: Option<Vec<u8>>,
     words_lent: usize,
@@ -94,6 +97,7 @@ impl Store {
             bytes: vec![0xaa; 71 * 512],
             summary: vec![7; 22],
             open: 0,
+            limits: LARGEST,
             buffer: None,
             words_lent: 2,
             sheets_lent: 4,
@@ -133,7 +137,7 @@ impl Store {
 
     /// A call, on what is lent. A refused one leaves all as it was, and so does an offer.
     fn call(&mut self, word: &str, numbers: &[u32]) -> Answer {
-        let call = call_of(word, numbers);
+        let call = call_of(word, numbers).with_limits(self.limits);
         let card = &mut self.lent();
         let before = card.clone();
         self.must_be_settled(card, call);
@@ -184,6 +188,8 @@ impl Store {
             "byte" => self.bytes[at(0)] ^= numbers[1] as u8,
             "summary" => self.numbers_lent = at(0),
             "number" => self.summary[at(0)] = numbers[1],
+            "limit" => self.limits[at(0)] = numbers[1],
+            "limits" => self.limits = [numbers[0]; 8],
             other => panic!("no change {other}"),
         }
     }

@@ -27,7 +27,8 @@ fn reserved(k: u32, (from, before, step): (u32, u32, u32), free: usize) -> (Answ
     (answer, card)
 }
 
-/// Document 02, (a): "15 if step is 0, from ≥ before or before > n; it comes after 3".
+/// Document 02, (a): "15 if step is 0, from ≥ before or before > n; it comes after 3". The limit is 2^32 - 1 (document 02,
+/// (k)), of which the wing holds 10.
 #[test]
 fn answers_of_placed_reserves() {
     const MAX: u32 = u32::MAX;
@@ -45,7 +46,8 @@ fn answers_of_placed_reserves() {
         (91, (0, 101, 1), 0, Refused(15)),
         (91, (0, 100, 1), 90, Refused(10)),
         (91, (0, 100, 1), 0, Refused(10)),
-        (MAX, (1, 100, MAX), 90, Refused(10)),
+        (MAX - 10, (1, 100, MAX), 90, Refused(10)),
+        (MAX - 9, (1, 100, MAX), 90, Refused(18)),
         (1, (0, 100, 100), 90, Refused(10)),
         (1, (0, 100, MAX), 90, Refused(10)),
         (1, (0, 10, 1), 90, Refused(10)),

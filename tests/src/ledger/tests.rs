@@ -110,13 +110,15 @@ fn refused_offers_and_accepts() {
         assert_eq!(ledger.accept(sheet, MAX, 0), Err(Refused(refused)));
         assert_eq!(ledger.accept(sheet, 0, MAX), Err(Refused(refused)));
     }
-    for (k, refused) in [(0, 3), (41, 10), (MAX, 10)] {
+    // Of the limit, 2^32 - 1, the wing holds 20.
+    for (k, refused) in [(0, 3), (41, 10), (MAX - 20, 10), (MAX - 19, 18)] {
         assert_eq!(ledger.offer(2, k), Err(Refused(refused)));
         assert_eq!(ledger.reserve(2, k, plain(100)), Err(Refused(refused)));
     }
     let taken = [(40, 1), (39, 2), (59, 1), (0, 41), (59, 41)];
     let behind = [(100, 1), (99, 2), (60, 41), (0, 101)];
-    let largest = [(MAX, 1), (1, MAX), (MAX, MAX), (MAX - 9, 10)];
+    let most = MAX - 20;
+    let largest = [(MAX, 1), (1, most), (MAX, most), (MAX - 9, 10)];
     for (start, k) in taken.into_iter().chain(behind).chain(largest) {
         assert_eq!(ledger.accept(2, start, k), Err(Refused(17)));
         assert_eq!(ledger.accept(2, start, 0), Err(Refused(3)));
@@ -244,4 +246,72 @@ fn a_course_has_its_term() {
     }
     assert_eq!(ledger.pause(0), Ok(Done));
     assert_eq!(ledger.show(0, 0, first, buffer), Err(Refused(6)));
+}
+
+/// Document 02, (k): "Over a list with unchanging limits from a fresh card no wing ever holds more", whatever else is called.
+#[test]
+fn no_wing_holds_more_than_its_limit() {
+    for seed in 0..20 {
+        let random = &mut Random::of(seed);
+        let mut limits = [0; 8];
+        limits.fill_with(|| random.one(&[0, 1, 5, 20, 70, u32::MAX]));
+        let mut ledger = Ledger::fresh(200, 1024);
+        let mut refused = 0;
+        for _ in 0..2000 {
+            let call = random_call(70, random);
+            let sheet = 128 * random.within(0, 8) as u32 + call.sheet * 61;
+            let call = Call { sheet, ..call };
+            let answer = ledger.call(call.with_limits(limits), &mut []);
+            refused += (answer == Some(Refused(18))) as usize;
+            for (wing, limit) in (0..).zip(limits) {
+                assert!(ledger.held_by_wing(wing) <= limit as usize, "{call}");
+            }
+        }
+        assert!(refused > 0);
+    }
+}
+
+/// The sheet's own places count when it grows, and those of a paused course; limits may change from call to call.
+#[test]
+fn limits_of_a_wing() {
+    let mut ledger = Ledger::fresh(100, 300);
+    let mut answer = |call: Call, limit| {
+        ledger.call(
+            call.with_limits([9, limit, 9, 9, 9, 9, 9, 9]),
+            &mut [7; 496],
+        )
+    };
+    let reserve = |k| call(Kind::Reserve, 128, k);
+    let grow = |k| call(Kind::Grow, 128, k);
+    assert_eq!(answer(reserve(5), 4), Some(Refused(18)));
+    assert_eq!(answer(reserve(5), 5), Some(Start(0, 100)));
+    assert_eq!(answer(grow(2), 6), Some(Refused(18)));
+    assert_eq!(answer(grow(0), 0), Some(Refused(3)));
+    assert_eq!(answer(grow(2), 7), Some(Done));
+    assert_eq!(answer(call(Kind::Offer, 255, 1), 7), Some(Refused(18)));
+    assert_eq!(answer(call(Kind::Offer, 255, 1), 8), Some(Offered(7, 1)));
+    assert_eq!(answer(call(Kind::Offer, 256, 9), 0), Some(Offered(7, 9)));
+    assert_eq!(answer(accept(127, 7, 9), 0), Some(Start(7, 93)));
+    assert_eq!(answer(accept(126, 7, 1), 0), Some(Refused(18)));
+    assert_eq!(answer(accept(129, 7, 1), 8), Some(Refused(17)));
+    for place in 0..7 {
+        assert_eq!(answer(call(Kind::Put, 128, place), 0), Some(Done));
+    }
+    assert_eq!(answer(call(Kind::Complete, 128, 0), 0), Some(Done));
+    assert_eq!(answer(call(Kind::Pause, 128, 0), 0), Some(Done));
+    assert_eq!(
+        answer(placed(129, 1, figures(9, 100, 1)), 7),
+        Some(Refused(18))
+    );
+    assert_eq!(
+        answer(placed(129, 1, figures(9, 101, 1)), 7),
+        Some(Refused(15))
+    );
+    assert_eq!(
+        answer(placed(129, 1, figures(9, 100, 1)), 8),
+        Some(Start(16, 84))
+    );
+    assert_eq!(answer(call(Kind::Release, 128, 0), 0), Some(Done));
+    assert_eq!(answer(call(Kind::Grow, 129, 1), 1), Some(Refused(18)));
+    assert_eq!(answer(call(Kind::Grow, 129, 1), 2), Some(Done));
 }
