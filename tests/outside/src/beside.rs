@@ -6,8 +6,8 @@ use crate::library::{bytes, entries, numbers, words, Entry, Lent, Library, Outco
 use crate::pauses::is_paused_course;
 use crate::summaries::settled;
 use bitwise::blocks::to_words;
-use bitwise::call::{call, Call, Kind};
-use bitwise::card::{Answer, Card};
+use bitwise::call::{call, Call, Kind, Limits, LARGEST};
+use bitwise::card::{wing_of, Answer, Card};
 use bitwise::ledger::Ledger;
 use bitwise::summary::build;
 
@@ -43,6 +43,7 @@ pub fn library_of(card: &Card, margin: usize) -> Library {
         catalogue: entries(&card.sheets, margin),
         card: bytes(&card.bytes, margin),
         summary: numbers(&card.summary, margin),
+        limits: numbers(&LARGEST, margin),
     }
 }
 
@@ -141,6 +142,7 @@ impl Beside {
         same_slice("payload or buffer", lent, &after)?;
         same_tables(&self.library, &self.card)?;
         same_slice("summary", &self.library.summary, &self.card.summary)?;
+        same_slice("limits", &self.library.limits, &call.limits)?;
         self.same_bytes(call)?;
         self.by_ledger(call, answer, before, &after)?;
         self.calls += 1;
@@ -157,6 +159,22 @@ impl Beside {
     pub fn summary_is_own(&self) -> Result<(), String> {
         let own = build(&self.card.map, self.card.n);
         same_slice("summary, built anew,", &self.library.summary, &own)
+    }
+
+    /// No wing holds more than its limit, by the lengths in the library's catalogue (document 02, (k)).
+    pub fn wings_within(&self, limits: Limits) -> Result<(), String> {
+        let mut held = [0; 8];
+        for (sheet, entry) in (0..).zip(self.library.catalogue.now()) {
+            held[wing_of(sheet) as usize] += entry.length as u64;
+        }
+        for (wing, (held, limit)) in held.into_iter().zip(limits).enumerate() {
+            if held > limit as u64 {
+                return Err(format!(
+                    "wing {wing} holds {held} blocks, and its limit is {limit}"
+                ));
+            }
+        }
+        Ok(())
     }
 
     /// The call of the card. What a false summary leaves open in the summary is taken over from the library.

@@ -6,9 +6,9 @@ use bitwise::rows::{pairs, Pair, Row};
 use std::collections::BTreeMap;
 
 /// The columns of the table of answers, in the order of the rows. Row 4 is there four times.
-const COLUMNS: [&str; 19] = [
-    "done", "1", "2", "4 entry", "5", "6", "7", "8", "3", "15", "19", "4 first", "20", "4 block",
-    "9", "10", "11", "17", "4 count",
+const COLUMNS: [&str; 20] = [
+    "done", "1", "2", "4 entry", "5", "6", "7", "8", "3", "15", "18", "19", "4 first", "20",
+    "4 block", "9", "10", "11", "17", "4 count",
 ];
 
 /// The column that a row is counted in.

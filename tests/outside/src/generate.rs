@@ -3,8 +3,9 @@
 use crate::dates::{any_date, date_within, some_date, some_term};
 use crate::figures::{admitting, any_figures, some_start};
 use crate::offers::accept_of;
+use crate::shares::{some_limits, some_sheet};
 use bitwise::blocks::{survey, FREE};
-use bitwise::call::{accept, call, dated, placed, Bytes, Call, Kind, CALLS, PAYLOAD};
+use bitwise::call::{accept, call, dated, placed, Bytes, Call, Kind, Limits, CALLS, PAYLOAD};
 use bitwise::card::{Card, Entry};
 use bitwise::random::Random;
 use bitwise::rows::Row;
@@ -15,6 +16,8 @@ pub struct Generator {
     sheet: u32,
     /// The accepts of the last offers.
     offers: Vec<Call>,
+    /// Those of every call, if they do not change.
+    pub limits: Option<Limits>,
 }
 
 impl Generator {
@@ -23,6 +26,7 @@ impl Generator {
             random,
             sheet: 0,
             offers: Vec::new(),
+            limits: None,
         }
     }
 
@@ -32,6 +36,10 @@ impl Generator {
         } else {
             self.likely_call(card)
         };
+        let call = call.with_limits(match self.limits {
+            Some(limits) => limits,
+            None => some_limits(card, call, &mut self.random),
+        });
         if let Some(accept) = accept_of(card, call) {
             self.offers.truncate(3);
             self.offers.insert(0, accept);
@@ -47,7 +55,7 @@ impl Generator {
             return self.accept_offer(at);
         }
         if self.sheet as usize >= c || self.random.chance(1, 6) {
-            self.sheet = self.random.within(0, c) as u32;
+            self.sheet = some_sheet(c, &mut self.random);
         }
         let sheet = self.sheet;
         let entry = card.sheets[sheet as usize];
@@ -122,7 +130,7 @@ impl Generator {
             3..=5 => placed(sheet, count, any_figures(card.n, count, &mut self.random)),
             6 => accept(sheet, self.free_block(card), count),
             _ => {
-                self.sheet = self.random.within(0, card.sheets.len()) as u32;
+                self.sheet = some_sheet(card.sheets.len(), &mut self.random);
                 call(Kind::Offer, sheet, count)
             }
         }
@@ -249,7 +257,7 @@ impl Generator {
             self.random
                 .one(&[c as u32, c as u32 + 1, 1023, 1024, u32::MAX])
         } else {
-            self.random.within(0, c) as u32
+            some_sheet(c, &mut self.random)
         }
     }
 

@@ -73,15 +73,16 @@ mod c {
         pub fn pagunlit_search(shape: Shape, map: *const u64, maplen: usize, k: u32) -> Outcome;
         pub fn pagunlit_survey(shape: Shape, map: *const u64, maplen: usize) -> Outcome;
         pub fn pagunlit_reserve(shape: Shape, map: *mut u64, maplen: usize, catalogue: *mut Entry, cataloguelen: usize,
-            card: *mut u8, cardlen: usize, sheet: u32, count: u32) -> Outcome;
+            card: *mut u8, cardlen: usize, limits: *const u32, sheet: u32, count: u32) -> Outcome;
         pub fn pagunlit_reserve_placed(shape: Shape, map: *mut u64, maplen: usize, catalogue: *mut Entry, cataloguelen: usize,
-            card: *mut u8, cardlen: usize, sheet: u32, count: u32, from: u32, before: u32, step: u32) -> Outcome;
+            card: *mut u8, cardlen: usize, limits: *const u32, sheet: u32, count: u32, from: u32, before: u32, step: u32)
+            -> Outcome;
         pub fn pagunlit_offer(shape: Shape, map: *const u64, maplen: usize, catalogue: *const Entry, cataloguelen: usize,
-            card: *const u8, cardlen: usize, sheet: u32, count: u32) -> Outcome;
+            card: *const u8, cardlen: usize, limits: *const u32, sheet: u32, count: u32) -> Outcome;
         pub fn pagunlit_accept(shape: Shape, map: *mut u64, maplen: usize, catalogue: *mut Entry, cataloguelen: usize,
-            card: *mut u8, cardlen: usize, sheet: u32, start: u32, count: u32) -> Outcome;
+            card: *mut u8, cardlen: usize, limits: *const u32, sheet: u32, start: u32, count: u32) -> Outcome;
         pub fn pagunlit_grow(shape: Shape, map: *mut u64, maplen: usize, catalogue: *mut Entry, cataloguelen: usize,
-            card: *mut u8, cardlen: usize, sheet: u32, count: u32) -> Outcome;
+            card: *mut u8, cardlen: usize, limits: *const u32, sheet: u32, count: u32) -> Outcome;
         pub fn pagunlit_put(shape: Shape, map: *const u64, maplen: usize, catalogue: *const Entry, cataloguelen: usize,
             card: *mut u8, cardlen: usize, sheet: u32, place: u32, payload: *const u8, payloadlen: usize) -> Outcome;
         pub fn pagunlit_complete(shape: Shape, map: *const u64, maplen: usize, catalogue: *mut Entry, cataloguelen: usize,
@@ -104,15 +105,17 @@ mod c {
         pub fn pagunlit_summary_check(shape: Shape, map: *const u64, maplen: usize, summary: *const u32, summarylen: usize)
             -> Outcome;
         pub fn pagunlit_reserve_with_summary(shape: Shape, map: *mut u64, maplen: usize, summary: *mut u32, summarylen: usize,
-            catalogue: *mut Entry, cataloguelen: usize, card: *mut u8, cardlen: usize, sheet: u32, count: u32) -> Outcome;
+            catalogue: *mut Entry, cataloguelen: usize, card: *mut u8, cardlen: usize, limits: *const u32, sheet: u32,
+            count: u32) -> Outcome;
         pub fn pagunlit_reserve_placed_with_summary(shape: Shape, map: *mut u64, maplen: usize, summary: *mut u32,
-            summarylen: usize, catalogue: *mut Entry, cataloguelen: usize, card: *mut u8, cardlen: usize, sheet: u32,
-            count: u32, from: u32, before: u32, step: u32) -> Outcome;
+            summarylen: usize, catalogue: *mut Entry, cataloguelen: usize, card: *mut u8, cardlen: usize, limits: *const u32,
+            sheet: u32, count: u32, from: u32, before: u32, step: u32) -> Outcome;
         pub fn pagunlit_accept_with_summary(shape: Shape, map: *mut u64, maplen: usize, summary: *mut u32, summarylen: usize,
-            catalogue: *mut Entry, cataloguelen: usize, card: *mut u8, cardlen: usize, sheet: u32, start: u32, count: u32)
-            -> Outcome;
+            catalogue: *mut Entry, cataloguelen: usize, card: *mut u8, cardlen: usize, limits: *const u32, sheet: u32,
+            start: u32, count: u32) -> Outcome;
         pub fn pagunlit_grow_with_summary(shape: Shape, map: *mut u64, maplen: usize, summary: *mut u32, summarylen: usize,
-            catalogue: *mut Entry, cataloguelen: usize, card: *mut u8, cardlen: usize, sheet: u32, count: u32) -> Outcome;
+            catalogue: *mut Entry, cataloguelen: usize, card: *mut u8, cardlen: usize, limits: *const u32, sheet: u32,
+            count: u32) -> Outcome;
         pub fn pagunlit_release_with_summary(shape: Shape, map: *mut u64, maplen: usize, summary: *mut u32, summarylen: usize,
             catalogue: *mut Entry, cataloguelen: usize, sheet: u32) -> Outcome;
         pub fn pagunlit_save(shape: Shape, map: *const u64, maplen: usize, catalogue: *const Entry, cataloguelen: usize,
@@ -151,6 +154,12 @@ impl<T: Copy + PartialEq> Lent<T> {
 
     pub fn now(&self) -> &[T] {
         &self.cells[self.margin..self.margin + self.len()]
+    }
+
+    /// The slice gets other contents.
+    pub fn set(&mut self, contents: &[T]) {
+        let length = self.len();
+        self.cells[self.margin..self.margin + length].copy_from_slice(contents);
     }
 
     /// No element beside the slice has changed.
@@ -193,6 +202,8 @@ pub struct Library {
     pub catalogue: Lent<Entry>,
     pub card: Lent<u8>,
     pub summary: Lent<u32>,
+    /// Eight numbers, those of the call at hand.
+    pub limits: Lent<u32>,
 }
 
 /// The calls. Each lends whole slices that overlap no other, for the time of the call: this is what the C functions ask for.
@@ -204,6 +215,8 @@ impl Library {
         let (sheets, c) = (self.catalogue.at(), self.catalogue.len());
         let (card, length) = (self.card.at(), self.card.len());
         let (bytes, count) = (slice.at(), slice.len());
+        self.limits.set(&call.limits);
+        let limits = self.limits.at();
         if call.kind.has_summary() {
             return self.call_with_summary(call);
         }
@@ -212,15 +225,18 @@ impl Library {
                 Kind::Fresh => c::pagunlit_fresh(shape, number, map, w, sheets, c),
                 Kind::Search => c::pagunlit_search(shape, map, w, number),
                 Kind::Survey => c::pagunlit_survey(shape, map, w),
-                Kind::Reserve => c::pagunlit_reserve(shape, map, w, sheets, c, card, length, sheet, number),
+                Kind::Reserve => c::pagunlit_reserve(shape, map, w, sheets, c, card, length, limits, sheet, number),
                 Kind::ReservePlaced => {
                     let Figures { from, before, step } = call.figures;
-                    c::pagunlit_reserve_placed(shape, map, w, sheets, c, card, length, sheet, number, from, before, step)
+                    c::pagunlit_reserve_placed(
+                        shape, map, w, sheets, c, card, length, limits, sheet, number, from, before, step)
                 }
-                Kind::Offer => c::pagunlit_offer(shape, map, w, sheets, c, card, length, sheet, number),
-                Kind::Accept => c::pagunlit_accept(shape, map, w, sheets, c, card, length, sheet, call.start, number),
+                Kind::Offer => c::pagunlit_offer(shape, map, w, sheets, c, card, length, limits, sheet, number),
+                Kind::Accept => {
+                    c::pagunlit_accept(shape, map, w, sheets, c, card, length, limits, sheet, call.start, number)
+                }
                 Kind::Put => c::pagunlit_put(shape, map, w, sheets, c, card, length, sheet, number, bytes, count),
-                Kind::Grow => c::pagunlit_grow(shape, map, w, sheets, c, card, length, sheet, number),
+                Kind::Grow => c::pagunlit_grow(shape, map, w, sheets, c, card, length, limits, sheet, number),
                 Kind::Complete => c::pagunlit_complete(shape, map, w, sheets, c, card, length, sheet),
                 Kind::Pause => c::pagunlit_pause(shape, map, w, sheets, c, sheet),
                 Kind::Resume => c::pagunlit_resume(shape, map, w, sheets, c, sheet),
@@ -243,19 +259,19 @@ impl Library {
         let (sums, m) = (self.summary.at(), self.summary.len());
         let (sheets, c) = (self.catalogue.at(), self.catalogue.len());
         let (card, l) = (self.card.at(), self.card.len());
+        let limits = self.limits.at();
         let Figures { from, before, step } = call.figures;
         unsafe {
             match call.kind {
                 Kind::ReserveWithSummary => {
-                    c::pagunlit_reserve_with_summary(shape, map, w, sums, m, sheets, c, card, l, sheet, number)
+                    c::pagunlit_reserve_with_summary(shape, map, w, sums, m, sheets, c, card, l, limits, sheet, number)
                 }
                 Kind::ReservePlacedWithSummary => c::pagunlit_reserve_placed_with_summary(
-                    shape, map, w, sums, m, sheets, c, card, l, sheet, number, from, before, step),
-                Kind::AcceptWithSummary => {
-                    c::pagunlit_accept_with_summary(shape, map, w, sums, m, sheets, c, card, l, sheet, call.start, number)
-                }
+                    shape, map, w, sums, m, sheets, c, card, l, limits, sheet, number, from, before, step),
+                Kind::AcceptWithSummary => c::pagunlit_accept_with_summary(
+                    shape, map, w, sums, m, sheets, c, card, l, limits, sheet, call.start, number),
                 Kind::GrowWithSummary => {
-                    c::pagunlit_grow_with_summary(shape, map, w, sums, m, sheets, c, card, l, sheet, number)
+                    c::pagunlit_grow_with_summary(shape, map, w, sums, m, sheets, c, card, l, limits, sheet, number)
                 }
                 Kind::ReleaseWithSummary => c::pagunlit_release_with_summary(shape, map, w, sums, m, sheets, c, sheet),
                 Kind::SummaryBuild => c::pagunlit_summary_build(shape, map, w, sums, m),

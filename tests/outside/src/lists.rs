@@ -5,6 +5,7 @@ use crate::counts::Counts;
 use crate::generate::Generator;
 use crate::offers::Offers;
 use crate::pauses;
+use crate::shares;
 use bitwise::blocks::words_of;
 use bitwise::call::{call, Call, Kind};
 use bitwise::card::{entry, Card};
@@ -66,6 +67,9 @@ fn list(
     let card = used_card(n, c, &mut random);
     let beside = &mut Beside::new(card, margin, compared);
     let generator = &mut Generator::new(random);
+    if generator.random.chance(1, 2) {
+        generator.limits = Some(shares::unchanging(n, &mut generator.random));
+    }
     let calls = &mut Vec::new();
     let result = match summary {
         Summary::Without => follow(beside, (n, length), generator, calls, counts),
@@ -87,11 +91,21 @@ fn follow(
     for _ in 0..length {
         let call = generator.call(&beside.card);
         calls.push(call);
+        shares::note(&beside.card, call, offers.has(call), counts);
         offers.note(&beside.card, call, counts);
         pauses::note(&beside.card, call, counts);
         beside.call(call, counts)?;
+        within_limits(beside, generator)?;
     }
     beside.finish()
+}
+
+/// "Over a list with unchanging limits from a fresh card no wing ever holds more."
+fn within_limits(beside: &Beside, generator: &Generator) -> Result<(), String> {
+    match generator.limits {
+        Some(limits) => beside.wings_within(limits),
+        None => Ok(()),
+    }
 }
 
 /// A list "from a summary built from the map [..] whose map-changing calls are these forms, each lent that summary as the one
@@ -113,7 +127,9 @@ fn follow_with_summary(
             _ => generator.call(&beside.card).with_summary(),
         };
         calls.push(call);
+        shares::note(&beside.card, call, false, counts);
         beside.call(call, counts)?;
+        within_limits(beside, generator)?;
         beside.summary_is_own()?;
     }
     beside.finish()
@@ -137,6 +153,23 @@ pub fn small_with_summary(seed: u64, margin: usize, counts: &mut Counts) -> Resu
     let length = random.within(100, 400);
     let compared = (margin, Compared::All);
     list((n, c), length, Summary::Kept, compared, random, counts)
+}
+
+/// Sheets of more than one wing, or of one that is just full, on a small card.
+pub fn wings(seed: u64, margin: usize, counts: &mut Counts) -> Result<(), String> {
+    let mut random = Random::of(seed);
+    let sheets = [127, 128, 129, 130, 256, 257, 300, 640, 1023, 1024];
+    let size = (random.within(20, 400), random.one(&sheets));
+    let summary = random.one(&[Summary::Without, Summary::Kept]);
+    let length = random.within(100, 300);
+    list(
+        size,
+        length,
+        summary,
+        (margin, Compared::All),
+        random,
+        counts,
+    )
 }
 
 /// A card of full size, or a few blocks less, with all its sheets.

@@ -25,6 +25,7 @@ mod lists;
 mod offers;
 mod pauses;
 mod placed;
+mod shares;
 mod singles;
 mod spaces;
 mod spoiled;
@@ -73,10 +74,13 @@ const GROUPS: &[Group] = &[
             part("full", lists::full, 2, 1, 0),
             part("summary", lists::small_with_summary, 1000, 100, 20),
             part("summary-full", lists::full_with_summary, 1, 1, 0),
+            part("wings", lists::wings, 400, 40, 4),
+            part("each-wing", |_, margin, counts| shares::each_wing(margin, counts), 1, 0, 0),
         ],
         report: |counts| {
             counts.report(false)?;
-            counts.report_kinds(offers::expected().chain(pauses::expected()))
+            let kinds = offers::expected().chain(pauses::expected());
+            counts.report_kinds(kinds.chain(shares::expected()))
         },
     },
     // States that no list leads to.

@@ -43,11 +43,16 @@ impl Offers {
         }
     }
 
-    fn note_accept(&self, card: &Card, call: Call, counts: &mut Counts) {
+    /// Whether a call is the accept of one of them.
+    pub fn has(&self, call: Call) -> bool {
         let same = |offer: &Call| {
             (offer.sheet, offer.start, offer.number) == (call.sheet, call.start, call.number)
         };
-        let offered = self.0.iter().any(same);
+        call.kind.without_summary() == Kind::Accept && self.0.iter().any(same)
+    }
+
+    fn note_accept(&self, card: &Card, call: Call, counts: &mut Counts) {
+        let offered = self.has(call);
         let lowest = least_fit(&card.map[..card.n], plain(card.n), call.number as usize);
         let lowest = lowest == Some(call.start as usize);
         let kind = match card.first(call) {

@@ -5,7 +5,9 @@ use crate::damage::MARKS;
 use crate::lengths::one;
 use bitwise::blocks::figures;
 use bitwise::calendar::date;
-use bitwise::call::{accept, call, dated, placed, Bytes, Call, Kind, CALLS, PAYLOAD};
+use bitwise::call::{
+    accept, call, dated, placed, Bytes, Call, Kind, Limits, CALLS, LARGEST, PAYLOAD,
+};
 use bitwise::card::{entry, sealed, Card};
 use bitwise::summary::build;
 
@@ -41,13 +43,26 @@ fn calls_on_state(card: Card, margin: usize, counts: &mut Counts) -> Result<(), 
     let n = card.n as u32;
     for (kind, ..) in CALLS {
         for call in calls_of(kind.without_summary(), n) {
-            one(&card, Call { kind, ..call }, margin, counts)?;
+            let call = Call { kind, ..call };
+            let limits = limits_of(&card, call);
+            one(&card, call.with_limits(limits), margin, counts)?;
         }
     }
     for sheet in 1..=n + 1 {
         one(&card, call(Kind::Standing, sheet, 0), margin, counts)?;
     }
     on_all_blocks(card, margin, counts)
+}
+
+/// By turns the largest limits, the one that the sheet's wing comes to, and one less.
+fn limits_of(card: &Card, call: Call) -> Limits {
+    let sheet = card.sheets[0];
+    let together = sheet.length + call.number;
+    match (card.free as u32 + sheet.start + together + call.start) % 3 {
+        0 => LARGEST,
+        1 => [together; 8],
+        _ => [together.saturating_sub(1); 8],
+    }
 }
 
 /// The calls of a kind on a card of n blocks, with all numbers up to n + 1.

@@ -8,7 +8,7 @@ use crate::lengths::one;
 use bitwise::blocks::{survey, words_of, FREE, TAKEN};
 use bitwise::calendar::LAST_DAY;
 use bitwise::call::{Bytes, Call, Kind, CALLS, PAYLOAD};
-use bitwise::card::{entry, sealed, Card, Entry};
+use bitwise::card::{entry, sealed, wing_of, Card, Entry};
 use bitwise::random::Random;
 use bitwise::rows::{pairs, Row};
 use bitwise::summary::{build, summary_numbers};
@@ -131,7 +131,7 @@ fn step(row: Row) -> u32 {
         Row::NoStep | Row::BeforeAboveN | Row::NoYear | Row::NoMonth => 2,
         Row::FreeCount | Row::FromNotBefore | Row::NoDay | Row::OutsideTerm => 3,
         Row::Damaged => 4,
-        Row::Blocks => 5,
+        Row::Blocks | Row::OverLimit => 5,
         Row::FreeAboveN => 6,
         Row::Sheets => 7,
         Row::NoSheet => 8,
@@ -167,6 +167,7 @@ fn make_hold(row: Row, card: &mut Card, call: &mut Call, random: &mut Random) {
         Row::BeforeAboveN => {
             call.figures.before = random.one(&[card.n as u32 + 1, 262146, u32::MAX])
         }
+        Row::OverLimit => lower_limit(card, call, random),
         Row::NoYear => call.date = no_year(call.date, random),
         Row::NoMonth => call.date = no_month(call.date, random),
         Row::NoDay => call.date = no_day(call.date, random),
@@ -255,6 +256,16 @@ fn damage_entry(card: &mut Card, call: Call, random: &mut Random) {
         }
         _ => (e.start, e.length) = (random.within(0, 3) as u32, random.within(1, 3) as u32),
     }
+}
+
+/// A limit of the wing that is below what it would hold, if it would hold a block or more.
+fn lower_limit(card: &Card, call: &mut Call, random: &mut Random) {
+    let wing = wing_of(call.sheet);
+    let together = card.held_by_wing(wing) + call.number as u64;
+    let most = together.saturating_sub(1).min(u32::MAX as u64);
+    let limit = random.one(&[most, most, most / 2, 0]);
+    call.limits = [random.one(&[0, u32::MAX]); 8];
+    call.limits[wing as usize] = limit as u32;
 }
 
 /// A date outside the term of the call's sheet.
