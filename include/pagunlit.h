@@ -236,10 +236,11 @@ pagunlit_outcome pagunlit_show(pagunlit_shape shape, const uint64_t *map, size_t
                                size_t cataloguelen, const uint8_t *card, size_t cardlen, uint32_t sheet, uint32_t place,
                                uint8_t *buffer, size_t bufferlen);
 
-/* pagunlit_show on a date, given as its year (2000 to 2099), month (1 to 12) and day: the sheet shows only from its first day to
- * its last, both included. These two days are the first eight bytes of the payload of place 0, four bytes each, the high byte
- * first, as days since 1 January 2000, which is day 0; 31 December 2099 is day 36524. A sheet whose first day is after its last
- * never shows. pagunlit_write_term writes the two days. pagunlit_show remains, for the pharmacy, and does not look at them.
+/* pagunlit_show on a date, given as its year (2000 to 2099), month (1 to 12) and day: the sheet shows only from its first
+ * day to its last, both included. These two days are the first eight bytes of the payload of place 0, four bytes each, the
+ * high byte first, as days since 1 January 2000, which is day 0; 31 December 2099 is day 36524. A sheet whose first day is
+ * after its last never shows. pagunlit_write_term writes the two days. pagunlit_show remains, for the pharmacy, and does not
+ * look at them.
  *   1, 2, 4   as above
  *   5, 6, 7   the sheet is Absent, Paused, Open
  *   3         place is not below the sheet's length, or bufferlen is not 496
@@ -331,9 +332,9 @@ pagunlit_outcome pagunlit_load(pagunlit_shape shape, const uint8_t *image, size_
 
 /* Dose counts in packed decimal. A payload holds 124 counts of four bytes, count number `which` at byte 4 * which: two
  * digits a byte, the high digit first, six whole digits and two of hundredths. Four bytes of 0xFF mean absent; in any other
- * count every digit is 0 to 9. A count is handed over as its hundredths, 0 to 99999999, or as PAGUNLIT_COUNT_ABSENT. The payload
- * of place 0 of a sheet that is shown by date starts with two days in place of its counts 0 and 1: to read or write these as
- * counts is the caller's mistake, which the calls cannot see. */
+ * count every digit is 0 to 9. A count is handed over as its hundredths, 0 to 99999999, or as PAGUNLIT_COUNT_ABSENT. The
+ * payload of place 0 of a sheet that is shown by date starts with two days in place of its counts 0 and 1: to read or write
+ * these as counts is the caller's mistake, which the calls cannot see. */
 #define PAGUNLIT_COUNT_ABSENT 0xFFFFFFFFu
 
 /* What a read of a count hands back. hundredths is PAGUNLIT_COUNT_ABSENT with a refusal too, so that it is never taken for

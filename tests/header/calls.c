@@ -18,6 +18,9 @@ static pagunlit_entry catalogue[C];
 static uint8_t card[CARD], image[IMAGE], slice[PAGUNLIT_PAYLOAD];
 static uint32_t summary[NUMBERS];
 
+/* The limits of the eight wings. All sheets are in the first; the others differ from it and from each other. */
+static uint32_t limits[8] = {N, 1, 2, 3, 4, 5, 6, 7};
+
 /* A number for a run of bytes (FNV-1a), so that a line stays short. */
 static uint64_t number_of(const void *bytes, size_t length)
 {
@@ -73,52 +76,62 @@ static void told(const char *call, pagunlit_outcome outcome)
     shape = outcome.shape;
 }
 
+/* Another limit for the first wing. */
+static void limit(const char *name, uint32_t blocks)
+{
+    limits[0] = blocks;
+    printf("%s\t\n", name);
+}
+
 static void reserve(const char *call, uint32_t sheet, uint32_t count)
 {
-    told(call, pagunlit_reserve(shape, map, W, catalogue, C, card, sizeof card, sheet, count));
+    told(call, pagunlit_reserve(shape, map, W, catalogue, C, card, sizeof card, limits, sheet, count));
 }
 
 static void reserve_placed(const char *call, uint32_t sheet, uint32_t count, uint32_t from, uint32_t before, uint32_t step)
 {
-    told(call, pagunlit_reserve_placed(shape, map, W, catalogue, C, card, sizeof card, sheet, count, from, before, step));
+    told(call, pagunlit_reserve_placed(shape, map, W, catalogue, C, card, sizeof card, limits, sheet, count, from, before,
+                                       step));
 }
 
 static void offer(const char *call, uint32_t sheet, uint32_t count)
 {
-    told(call, pagunlit_offer(shape, map, W, catalogue, C, card, sizeof card, sheet, count));
+    told(call, pagunlit_offer(shape, map, W, catalogue, C, card, sizeof card, limits, sheet, count));
 }
 
 static void take(const char *call, uint32_t sheet, uint32_t start, uint32_t count)
 {
-    told(call, pagunlit_accept(shape, map, W, catalogue, C, card, sizeof card, sheet, start, count));
+    told(call, pagunlit_accept(shape, map, W, catalogue, C, card, sizeof card, limits, sheet, start, count));
 }
 
 static void grow(const char *call, uint32_t sheet, uint32_t count)
 {
-    told(call, pagunlit_grow(shape, map, W, catalogue, C, card, sizeof card, sheet, count));
+    told(call, pagunlit_grow(shape, map, W, catalogue, C, card, sizeof card, limits, sheet, count));
 }
 
 static void reserve_with_summary(const char *call, uint32_t sheet, uint32_t count)
 {
-    told(call, pagunlit_reserve_with_summary(shape, map, W, summary, NUMBERS, catalogue, C, card, sizeof card, sheet, count));
+    told(call, pagunlit_reserve_with_summary(shape, map, W, summary, NUMBERS, catalogue, C, card, sizeof card, limits, sheet,
+                                             count));
 }
 
 static void reserve_placed_with_summary(const char *call, uint32_t sheet, uint32_t count, uint32_t from, uint32_t before,
                                         uint32_t step)
 {
-    told(call, pagunlit_reserve_placed_with_summary(shape, map, W, summary, NUMBERS, catalogue, C, card, sizeof card, sheet,
-                                                    count, from, before, step));
+    told(call, pagunlit_reserve_placed_with_summary(shape, map, W, summary, NUMBERS, catalogue, C, card, sizeof card, limits,
+                                                    sheet, count, from, before, step));
 }
 
 static void take_with_summary(const char *call, uint32_t sheet, uint32_t start, uint32_t count)
 {
-    told(call, pagunlit_accept_with_summary(shape, map, W, summary, NUMBERS, catalogue, C, card, sizeof card, sheet, start,
-                                            count));
+    told(call, pagunlit_accept_with_summary(shape, map, W, summary, NUMBERS, catalogue, C, card, sizeof card, limits, sheet,
+                                            start, count));
 }
 
 static void grow_with_summary(const char *call, uint32_t sheet, uint32_t count)
 {
-    told(call, pagunlit_grow_with_summary(shape, map, W, summary, NUMBERS, catalogue, C, card, sizeof card, sheet, count));
+    told(call, pagunlit_grow_with_summary(shape, map, W, summary, NUMBERS, catalogue, C, card, sizeof card, limits, sheet,
+                                          count));
 }
 
 static void release_with_summary(const char *call, uint32_t sheet)
@@ -288,6 +301,14 @@ static void refusals(void)
     told("resume 1", pagunlit_resume(shape, map, W, catalogue, C, 1));
     told("pause 1", pagunlit_pause(shape, map, W, catalogue, C, 1));
     grow("grow 1 61", 1, 61);
+    limit("limit 10", 10);
+    reserve("reserve limit 2 4", 2, 4);
+    reserve_placed("reserve-placed limit 2 4 21 66 7", 2, 4, 21, 66, 7);
+    offer("offer limit 2 4", 2, 4);
+    offer("offer limit 2 3", 2, 3);
+    take("accept limit 2 15 6", 2, 15, 6);
+    grow("grow limit 1 4", 1, 4);
+    limit("limit 70", 70);
     save("save short", sizeof image - 1);
 }
 

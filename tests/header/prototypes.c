@@ -7,6 +7,7 @@
 #define SUMMARY uint32_t *summary, size_t summarylen
 #define CATALOGUE pagunlit_entry *catalogue, size_t cataloguelen
 #define CARD uint8_t *card, size_t cardlen
+#define LIMITS const uint32_t *limits
 #define SCRATCH uint64_t *scratch, size_t scratchlen
 #define IMAGE uint8_t *image, size_t imagelen
 
@@ -14,12 +15,12 @@
 pagunlit_outcome pagunlit_fresh(SHAPE, uint32_t blocks, MAP, CATALOGUE);
 pagunlit_outcome pagunlit_search(SHAPE, const MAP, uint32_t k);
 pagunlit_outcome pagunlit_survey(SHAPE, const MAP);
-pagunlit_outcome pagunlit_reserve(SHAPE, MAP, CATALOGUE, CARD, uint32_t sheet, uint32_t count);
-pagunlit_outcome pagunlit_reserve_placed(SHAPE, MAP, CATALOGUE, CARD, uint32_t sheet, uint32_t count, uint32_t from,
+pagunlit_outcome pagunlit_reserve(SHAPE, MAP, CATALOGUE, CARD, LIMITS, uint32_t sheet, uint32_t count);
+pagunlit_outcome pagunlit_reserve_placed(SHAPE, MAP, CATALOGUE, CARD, LIMITS, uint32_t sheet, uint32_t count, uint32_t from,
                                          uint32_t before, uint32_t step);
-pagunlit_outcome pagunlit_offer(SHAPE, const MAP, const CATALOGUE, const CARD, uint32_t sheet, uint32_t count);
-pagunlit_outcome pagunlit_accept(SHAPE, MAP, CATALOGUE, CARD, uint32_t sheet, uint32_t start, uint32_t count);
-pagunlit_outcome pagunlit_grow(SHAPE, MAP, CATALOGUE, CARD, uint32_t sheet, uint32_t count);
+pagunlit_outcome pagunlit_offer(SHAPE, const MAP, const CATALOGUE, const CARD, LIMITS, uint32_t sheet, uint32_t count);
+pagunlit_outcome pagunlit_accept(SHAPE, MAP, CATALOGUE, CARD, LIMITS, uint32_t sheet, uint32_t start, uint32_t count);
+pagunlit_outcome pagunlit_grow(SHAPE, MAP, CATALOGUE, CARD, LIMITS, uint32_t sheet, uint32_t count);
 pagunlit_outcome pagunlit_put(SHAPE, const MAP, const CATALOGUE, CARD, uint32_t sheet, uint32_t place, const uint8_t *payload,
                               size_t payloadlen);
 pagunlit_outcome pagunlit_complete(SHAPE, const MAP, CATALOGUE, const CARD, uint32_t sheet);
@@ -33,12 +34,12 @@ pagunlit_outcome pagunlit_show_dated(SHAPE, const MAP, const CATALOGUE, const CA
                                      uint32_t year, uint32_t month, uint32_t day, uint8_t *buffer, size_t bufferlen);
 pagunlit_outcome pagunlit_summary_build(SHAPE, const MAP, SUMMARY);
 pagunlit_outcome pagunlit_summary_check(SHAPE, const MAP, const SUMMARY);
-pagunlit_outcome pagunlit_reserve_with_summary(SHAPE, MAP, SUMMARY, CATALOGUE, CARD, uint32_t sheet, uint32_t count);
-pagunlit_outcome pagunlit_reserve_placed_with_summary(SHAPE, MAP, SUMMARY, CATALOGUE, CARD, uint32_t sheet, uint32_t count,
-                                                      uint32_t from, uint32_t before, uint32_t step);
-pagunlit_outcome pagunlit_accept_with_summary(SHAPE, MAP, SUMMARY, CATALOGUE, CARD, uint32_t sheet, uint32_t start,
+pagunlit_outcome pagunlit_reserve_with_summary(SHAPE, MAP, SUMMARY, CATALOGUE, CARD, LIMITS, uint32_t sheet, uint32_t count);
+pagunlit_outcome pagunlit_reserve_placed_with_summary(SHAPE, MAP, SUMMARY, CATALOGUE, CARD, LIMITS, uint32_t sheet,
+                                                      uint32_t count, uint32_t from, uint32_t before, uint32_t step);
+pagunlit_outcome pagunlit_accept_with_summary(SHAPE, MAP, SUMMARY, CATALOGUE, CARD, LIMITS, uint32_t sheet, uint32_t start,
                                               uint32_t count);
-pagunlit_outcome pagunlit_grow_with_summary(SHAPE, MAP, SUMMARY, CATALOGUE, CARD, uint32_t sheet, uint32_t count);
+pagunlit_outcome pagunlit_grow_with_summary(SHAPE, MAP, SUMMARY, CATALOGUE, CARD, LIMITS, uint32_t sheet, uint32_t count);
 pagunlit_outcome pagunlit_release_with_summary(SHAPE, MAP, SUMMARY, CATALOGUE, uint32_t sheet);
 pagunlit_outcome pagunlit_save(SHAPE, const MAP, const CATALOGUE, SCRATCH, IMAGE);
 pagunlit_outcome pagunlit_load(SHAPE, const IMAGE, MAP, CATALOGUE, SCRATCH);

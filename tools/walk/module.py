@@ -65,8 +65,8 @@ LIBRARY = {
     'denote.Triple.Statement': 'Contract Triple',
     'denote.Triple.Call': 'calls-at',
     'denote.Triple.Clauses': 'Clauses Ended AtExit atExit ensured lasts closing',
-    'denote.Triple.Walked': 'says needs Stays stay-slice stay-none-slice stay-none-ref stay-none walkOf goes-slice goes-none-slice'
-                            ' goes-none-ref goes-none Walks ends-at walked walk-meets',
+    'denote.Triple.Walked': 'says needs Stays stay-slice stay-none-slice stay-none-ref stay-none walkOf goes-slice'
+                            ' goes-none-slice goes-none-ref goes-none Walks ends-at walked walk-meets',
     'denote.Exit': 'yes',
 }
 
@@ -207,7 +207,8 @@ function {self.keys} = record {{
       {' '.join(f'({p.var} : {p.denotes})' for p in self.params)}
       {' '.join([p.known for p in self.params if p.known] + self.required())} where
 '''
-        return text + ''.join(p.in_hand() for p in self.params) + f'''    abbrev args : {product([p.denotes for p in self.params])}
+        text += ''.join(p.in_hand() for p in self.params)
+        return text + f'''    abbrev args : {product([p.denotes for p in self.params])}
     args = {nest([p.var for p in self.params])}
 
     abbrev vals : {product(['List Val'] * len(self.params))}
@@ -277,7 +278,8 @@ function {self.keys} = record {{
         ps, run = self.params, f'(WpFn 𝓤 H (𝓣 .C) (𝓣 .Λ) (function {self.keys}))'
         known = ' '.join('known-' + c.label for c in self.callees)
         picked = ' '.join([f'({component(x, p.lifetime)})' for x in ('κs', 'qs') for p in self.slices]
-                          + [f'({component("a", i)})' for i in range(len(ps))] + [x for x in (p.learned(i) for i, p in enumerate(ps)) if x])
+                          + [f'({component("a", i)})' for i in range(len(ps))]
+                          + [x for x in (p.learned(i) for i, p in enumerate(ps)) if x])
         begins = 'via 𝓤 _ (fst∗ 𝓤 _ (emp 𝓤)) ('
         if self.requires:
             asked = self.requires([f'({component("a", i)})' for i in range(len(ps))])

@@ -64,7 +64,8 @@ module _ {R : Type 0} (how : Outcome → R) (s : Kept) (sheet number : ℕ) (r :
       let same = refusals.reserve-refused s sheet number limits k plain v in
       (h .0 ∙ ap how (same .0), h .1 ∙ same .1, h .2 ∙ same .2, h .3 ∙ same .3)
 
-  pub reserve-placed-refused : (limits : List ℕ) (k from before step : ℕ) (map′ : List ℕ) (entries′ : List Entry) (card′ : List ℕ)
+  pub reserve-placed-refused : (limits : List ℕ) (k from before step : ℕ) (map′ : List ℕ) (entries′ : List Entry)
+      (card′ : List ℕ)
       → ReservesPlaced how s limits sheet k from before step r map′ entries′ card′
       → effects.reserveVerdict (shared limits) k (placed (figures from before step)) ≡ refused number
       → (r ≡ how (told (s .shape) (Refused number))) × (map′ ≡ s .map) × (entries′ ≡ s .entries) × (card′ ≡ s .card)

@@ -86,11 +86,13 @@ module _ (guided : Bool) (summary : List ℕ) (s : Kept) (sheet number : ℕ) wh
       × (card ≡ s .card)
 
   -- plain and placed
-  pub reserve-refused-by : (limits : List ℕ) (k : ℕ) (p : Placement) → effects.reserveVerdict (lentOn limits) k p ≡ refused number
+  pub reserve-refused-by : (limits : List ℕ) (k : ℕ) (p : Placement) → effects.reserveVerdict (lentOn limits) k p ≡ refused
+      number
       → Refuses (reserveOutcomeBy guided summary s limits sheet k p) (reserveMapBy guided summary s limits sheet k p)
       (reserveSummaryBy guided summary s limits sheet k p) (reserveEntriesBy guided summary s limits sheet k p)
       (reserveCardBy guided summary s limits sheet k p)
-  unfolding effects.reserveOut effects.reserveMap effects.reserveSummary effects.reserveCard effects.takenOut effects.takenMap effects.takenSummary effects.takenCard
+  unfolding effects.reserveOut effects.reserveMap effects.reserveSummary effects.reserveCard effects.takenOut
+      effects.takenMap effects.takenSummary effects.takenCard
   reserve-refused-by limits k p h =
       let start : ℕ = effects.reserveStart (lentOn limits) k p in
       let same = kept-back (effects.reserveVerdict (lentOn limits) k p) start k false h in
@@ -105,7 +107,8 @@ module _ (guided : Bool) (summary : List ℕ) (s : Kept) (sheet number : ℕ) wh
       → Refuses (acceptOutcomeBy guided summary s limits sheet start k) (acceptMapBy guided summary s limits sheet start k)
       (acceptSummaryBy guided summary s limits sheet start k) (acceptEntriesBy guided summary s limits sheet start k)
       (acceptCardBy guided summary s limits sheet start k)
-  unfolding effects.acceptOut effects.acceptMap effects.acceptSummary effects.acceptCard effects.takenOut effects.takenMap effects.takenSummary effects.takenCard
+  unfolding effects.acceptOut effects.acceptMap effects.acceptSummary effects.acceptCard effects.takenOut effects.takenMap
+      effects.takenSummary effects.takenCard
   accept-refused-by limits start k h =
       let same = kept-back (effects.acceptVerdict (lentOn limits) start k) start k false h in
       let back =
@@ -117,7 +120,8 @@ module _ (guided : Bool) (summary : List ℕ) (s : Kept) (sheet number : ℕ) wh
 
   pub grow-refused-by : (limits : List ℕ) (m : ℕ) → effects.growVerdict (lentOn limits) m ≡ refused number
       → Refuses (growOutcomeBy guided summary s limits sheet m) (growMapBy guided summary s limits sheet m)
-      (growSummaryBy guided summary s limits sheet m) (growEntriesBy guided summary s limits sheet m) (growCardBy guided summary s limits sheet m)
+      (growSummaryBy guided summary s limits sheet m) (growEntriesBy guided summary s limits sheet m)
+      (growCardBy guided summary s limits sheet m)
   unfolding effects.growOut effects.growMap effects.growSummary effects.growCard
   grow-refused-by limits m h =
       let same = kept-back (effects.growVerdict (lentOn limits) m) (entryBy .start + entryBy .length) m false h in

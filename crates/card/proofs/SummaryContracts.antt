@@ -31,28 +31,32 @@ module _ {M : Type 1} (𝓤 : URA M) (H : Heap 𝓤) (A : Atoms 𝓤) (mem : Mem
       (λ κs a r t. Checks itself (a .0) (now (a .1 .0)) (now (a .1 .1 .0)) r)
   summary-check-contract κs a r t g = refl
 
-  pub reserve-with-summary-contract : Ensures 𝓤 reserve-with-summary-method.ended (reserve-with-summary-method.clauses 𝓤 H A mem run) (λ κs a r t.
+  pub reserve-with-summary-contract : Ensures 𝓤 reserve-with-summary-method.ended
+      (reserve-with-summary-method.clauses 𝓤 H A mem run) (λ κs a r t.
       let more = a .1 .1 .1 .1 .1 .1 in
       ReservesBy itself (now (a .1 .1 .0)) (kept (a .0) (now (a .1 .0)) (now (a .1 .1 .1 .0)) (now (a .1 .1 .1 .1 .0)))
       (now (a .1 .1 .1 .1 .1 .0)) (more .0) (more .1 .0)
       r (now (t .1 .0)) (now (t .1 .1 .0)) (now (t .1 .1 .1 .0)) (now (t .1 .1 .1 .1 .0)))
   reserve-with-summary-contract κs a r t g = refl
 
-  pub reserve-placed-with-summary-contract : Ensures 𝓤 reserve-placed-with-summary-method.ended (reserve-placed-with-summary-method.clauses 𝓤 H A mem run) (λ κs a r t.
+  pub reserve-placed-with-summary-contract : Ensures 𝓤 reserve-placed-with-summary-method.ended
+      (reserve-placed-with-summary-method.clauses 𝓤 H A mem run) (λ κs a r t.
       let more = a .1 .1 .1 .1 .1 .1 in
       ReservesPlacedBy itself (now (a .1 .1 .0)) (kept (a .0) (now (a .1 .0)) (now (a .1 .1 .1 .0)) (now (a .1 .1 .1 .1 .0)))
       (now (a .1 .1 .1 .1 .1 .0)) (more .0) (more .1 .0) (more .1 .1 .0) (more .1 .1 .1 .0) (more .1 .1 .1 .1 .0)
       r (now (t .1 .0)) (now (t .1 .1 .0)) (now (t .1 .1 .1 .0)) (now (t .1 .1 .1 .1 .0)))
   reserve-placed-with-summary-contract κs a r t g = refl
 
-  pub accept-with-summary-contract : Ensures 𝓤 accept-with-summary-method.ended (accept-with-summary-method.clauses 𝓤 H A mem run) (λ κs a r t.
+  pub accept-with-summary-contract : Ensures 𝓤 accept-with-summary-method.ended
+      (accept-with-summary-method.clauses 𝓤 H A mem run) (λ κs a r t.
       let more = a .1 .1 .1 .1 .1 .1 in
       AcceptsBy itself (now (a .1 .1 .0)) (kept (a .0) (now (a .1 .0)) (now (a .1 .1 .1 .0)) (now (a .1 .1 .1 .1 .0)))
       (now (a .1 .1 .1 .1 .1 .0)) (more .0) (more .1 .0) (more .1 .1 .0)
       r (now (t .1 .0)) (now (t .1 .1 .0)) (now (t .1 .1 .1 .0)) (now (t .1 .1 .1 .1 .0)))
   accept-with-summary-contract κs a r t g = refl
 
-  pub grow-with-summary-contract : Ensures 𝓤 grow-with-summary-method.ended (grow-with-summary-method.clauses 𝓤 H A mem run) (λ κs a r t.
+  pub grow-with-summary-contract : Ensures 𝓤 grow-with-summary-method.ended (grow-with-summary-method.clauses 𝓤 H A mem run)
+      (λ κs a r t.
       let more = a .1 .1 .1 .1 .1 .1 in
       GrowsBy itself (now (a .1 .1 .0)) (kept (a .0) (now (a .1 .0)) (now (a .1 .1 .1 .0)) (now (a .1 .1 .1 .1 .0)))
       (now (a .1 .1 .1 .1 .1 .0)) (more .0) (more .1 .0)

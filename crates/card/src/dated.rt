@@ -1,9 +1,47 @@
-// The core of the dated show (document 02 (m)).
+// The dated show (document 02 (m)): the method, and its core.
 ghost use mathlib.Core.Path.{_≡_};
+ghost use Rattle.calendar.specs.Calendar.{dateOf};
+ghost use Rattle.card.specs.Calls.{kept, showDatedOutcome, showDatedBuffer};
 ghost use Rattle.card.specs.Cores.{lentAt, datedOutcomeAt, datedBufferAt};
 use crate::Outcome;
 use crate::Shape;
+use catalogue::Entry;
 use catalogue::Slot;
+
+impl Shape {
+    // Copies a payload of a Complete sheet, on a day of its term (document 02 (m)).
+    pub fn show_dated(
+        self,
+        map: &[u64],
+        catalogue: &[Entry],
+        card: &[u8],
+        sheet: u32,
+        place: u32,
+        year: u32,
+        month: u32,
+        day: u32,
+        buffer: &mut [u8],
+    ) -> Outcome
+        ensures { λ r. let s = kept self (now (map .entry)) (now (catalogue .entry)) (now (card .entry)) in
+            let date = dateOf year month day in
+            ⌜ (r ≡ showDatedOutcome s sheet place date (now (buffer .entry)))
+            × (now (buffer .exit) ≡ showDatedBuffer s sheet place date (now (buffer .entry))) ⌝ }
+    {
+        let slot = catalogue::find(catalogue, sheet);
+        show_dated_core(
+            self,
+            map,
+            card,
+            slot,
+            sheet,
+            place,
+            year,
+            month,
+            day,
+            buffer,
+        )
+    }
+}
 
 pub fn show_dated_core(
     shape: Shape,

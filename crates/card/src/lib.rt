@@ -4,11 +4,11 @@
 mod cores;
 mod dated;
 mod guided;
+mod reserves;
 pub mod summary;
 
 ghost use mathlib.Core.Bool.{true};
 ghost use mathlib.Core.Path.{_≡_};
-ghost use Rattle.calendar.specs.Calendar.{dateOf};
 ghost use Rattle.refusals.specs.Lent.{noCard};
 ghost use Rattle.refusals.specs.Placement.{plain, placed, figures};
 ghost use Rattle.card.specs.Calls.{kept, freshOutcome, freshMap, freshEntries, searchOutcome, surveyOutcome};
@@ -18,7 +18,7 @@ ghost use Rattle.card.specs.Calls.{growEntries, growCard, putOutcome, pu
 ghost use Rattle.card.specs.Calls.{pauseOutcome, pauseEntries, resumeOutcome, resumeEntries};
 ghost use Rattle.card.specs.Calls.{releaseOutcome, releaseMap, releaseEntries, showOutcome};
 ghost use Rattle.card.specs.Calls.{showBuffer, standingOutcome, saveOutcome, saveScratch, saveImage, loadOutcome};
-ghost use Rattle.card.specs.Calls.{loadMap, loadEntries, loadScratch, showDatedOutcome, showDatedBuffer};
+ghost use Rattle.card.specs.Calls.{loadMap, loadEntries, loadScratch};
 use catalogue::Entry;
 use catalogue_standings::Answer;
 
@@ -115,7 +115,7 @@ impl Shape {
     {
         let slot = catalogue::find(&*catalogue, sheet);
         let held = catalogue_wings::held_by(&*catalogue, sheet);
-        let out = cores::reserve_core(self, map, card, limits, slot, held, sheet, k);
+        let out = reserves::reserve_core(self, map, card, limits, slot, held, sheet, k);
         let entry = cores::entry_of(out);
         catalogue::store(catalogue, sheet, entry);
         cores::outcome_of(self, out)
@@ -145,7 +145,7 @@ impl Shape {
     {
         let slot = catalogue::find(&*catalogue, sheet);
         let held = catalogue_wings::held_by(&*catalogue, sheet);
-        let out = cores::reserve_placed_core(
+        let out = reserves::reserve_placed_core(
             self,
             map,
             card,
@@ -179,7 +179,7 @@ impl Shape {
     {
         let slot = catalogue::find(catalogue, sheet);
         let held = catalogue_wings::held_by(catalogue, sheet);
-        cores::offer_core(self, map, card, limits, slot, held, sheet, k)
+        reserves::offer_core(self, map, card, limits, slot, held, sheet, k)
     }
 
     // Absent becomes Open at the start that is asked for, if the run there is all free (document 02, request f).
@@ -202,7 +202,7 @@ impl Shape {
     {
         let slot = catalogue::find(&*catalogue, sheet);
         let held = catalogue_wings::held_by(&*catalogue, sheet);
-        let out = cores::accept_core(self, map, card, limits, slot, held, sheet, start, k);
+        let out = reserves::accept_core(self, map, card, limits, slot, held, sheet, start, k);
         let entry = cores::entry_of(out);
         catalogue::store(catalogue, sheet, entry);
         cores::outcome_of(self, out)
@@ -227,7 +227,7 @@ impl Shape {
     {
         let slot = catalogue::find(&*catalogue, sheet);
         let held = catalogue_wings::held_by(&*catalogue, sheet);
-        let out = cores::grow_core(self, map, card, limits, slot, held, sheet, m);
+        let out = reserves::grow_core(self, map, card, limits, slot, held, sheet, m);
         let entry = cores::entry_of(out);
         catalogue::store(catalogue, sheet, entry);
         cores::outcome_of(self, out)
@@ -320,39 +320,6 @@ impl Shape {
     {
         let slot = catalogue::find(catalogue, sheet);
         cores::show_core(self, map, card, slot, sheet, place, buffer)
-    }
-
-    // Copies a payload of a Complete sheet, on a day of its term (document 02 (m)).
-    pub fn show_dated(
-        self,
-        map: &[u64],
-        catalogue: &[Entry],
-        card: &[u8],
-        sheet: u32,
-        place: u32,
-        year: u32,
-        month: u32,
-        day: u32,
-        buffer: &mut [u8],
-    ) -> Outcome
-        ensures { λ r. let s = kept self (now (map .entry)) (now (catalogue .entry)) (now (card .entry)) in
-            let date = dateOf year month day in
-            ⌜ (r ≡ showDatedOutcome s sheet place date (now (buffer .entry)))
-            × (now (buffer .exit) ≡ showDatedBuffer s sheet place date (now (buffer .entry))) ⌝ }
-    {
-        let slot = catalogue::find(catalogue, sheet);
-        dated::show_dated_core(
-            self,
-            map,
-            card,
-            slot,
-            sheet,
-            place,
-            year,
-            month,
-            day,
-            buffer,
-        )
     }
 
     // Answers mark, start and length.

@@ -84,7 +84,8 @@ module _ (es : List Entry) (sheet : ℕ) where
 abbrev pub Holds : List Entry → ℕ → ℕ → Type 0
 Holds es sheet r = r ≡ heldBy es sheet
 
-pub holds : (es : List Entry) (sheet : ℕ) → Holds es sheet (addedEntries es sheet (memberCount (length es) sheet) (nothingYet sheet))
+pub holds : (es : List Entry) (sheet : ℕ) → Holds es sheet
+    (addedEntries es sheet (memberCount (length es) sheet) (nothingYet sheet))
 unfolding heldBy
 holds es sheet = all-of-it es sheet (ltb (left es sheet) 128) refl
 
@@ -100,7 +101,8 @@ lengths-below b l h (suc j) =
     let all : suc j * b ≡ j * b + b = suc-mul j b in omega arith
 
 -- a wing has 128 entries at the most
-pub lengths-fit : (b : ℕ) (es : List Entry) (wing : ℕ) → ((i : ℕ) → entryAt es i .length ≤ b) → lengths (inWing wing es) ≤ 128 * b
+pub lengths-fit : (b : ℕ) (es : List Entry) (wing : ℕ) → ((i : ℕ) → entryAt es i .length ≤ b) → lengths (inWing wing es) ≤
+    128 * b
 lengths-fit b es wing h =
     lengths-below b (drop (128 * wing) es)
     (λ i. subst (λ (e : Entry). e .length ≤ b) (sym (getD-drop (128 * wing) es i zeros)) (h (128 * wing + i))) 128

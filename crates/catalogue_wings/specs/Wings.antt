@@ -18,8 +18,8 @@ unfoldable pub lengths : List Entry → ℕ
 lengths [] = 0
 lengths (e ∷ es) = e .length + lengths es
 
--- The blocks held by the wing of a sheet: the lengths in its sheets' entries together, in 64 bits. (128 lengths of 32 bits do not
--- come to 2 ^ 64: `lengths-fit` in proofs/Sums.antt.)
+-- The blocks held by the wing of a sheet: the lengths in its sheets' entries together, in 64 bits. (128 lengths of 32 bits do
+-- not come to 2 ^ 64: `lengths-fit` in proofs/Sums.antt.)
 unfoldable pub heldBy : List Entry → ℕ → ℕ
 unfolding lengths
 heldBy entries sheet = lengths (inWing (wingOf sheet) entries) % 2 ^ 64

@@ -286,8 +286,11 @@ module _ (n : ℕ) (l : List Sheet) (card : List ℕ) (k : Matches n l card) whe
       }
 
       at-reads : at ≡ reads n l i (record {
-            blank = λ p. false; sound = λ p. false; term = record { first = 0; last = 0 }; held = 0;
-          })
+        blank = λ p. false;
+        sound = λ p. false;
+        term = record { first = 0; last = 0 };
+        held = 0;
+      })
       unfolding viewAt
       at-reads = λ t. record {
         misfit = fits-at t;

@@ -60,7 +60,8 @@ module _ (s : Kept) (sheet : ℕ) (r : Outcome) where
       → ReservesPlaced itself s limits sheet k from before step r map entries card
       → Step s (on sheet (reserve limits k (placed (figures from before step)))) (replying r []) (leaving r map entries card)
   reserve-placed-step limits k from before step map entries card h =
-      met s (on sheet (reserve limits k (placed (figures from before step)))) r map entries card [] (h .0) (h .1) (h .2) (h .3) refl
+      met s (on sheet (reserve limits k (placed (figures from before step)))) r map entries card [] (h .0) (h .1) (h .2)
+      (h .3) refl
 
   pub offer-step : (limits : List ℕ) (k : ℕ) → Offers itself s limits sheet k r
       → Step s (on sheet (offer limits k)) (replying r []) (leaving r (s .map) (s .entries) (s .card))
@@ -75,7 +76,8 @@ module _ (s : Kept) (sheet : ℕ) (r : Outcome) where
   pub grow-step : (limits : List ℕ) (m : ℕ) (map : List ℕ) (entries : List Entry) (card : List ℕ)
       → Grows itself s limits sheet m r map entries card
       → Step s (on sheet (grow limits m)) (replying r []) (leaving r map entries card)
-  grow-step limits m map entries card h = met s (on sheet (grow limits m)) r map entries card [] (h .0) (h .1) (h .2) (h .3) refl
+  grow-step limits m map entries card h = met s (on sheet (grow limits m)) r map entries card [] (h .0) (h .1) (h .2) (h .3)
+      refl
 
   pub put-step : (p : ℕ) (payload : List ℕ) (card : List ℕ)
       → Puts itself s sheet p payload r card

@@ -1,6 +1,6 @@
--- The calls that go with limits, beside the same calls before there were limits (document 02 (k)): where the limit of the wing is
--- not passed the verdict is that without row 18 (`under-limit`), and with limits of n or more a call is accepted exactly if it was
--- (`wide-limits`).
+-- The calls that go with limits, beside the same calls before there were limits (document 02 (k)): where the limit of the wing
+-- is not passed the verdict is that without row 18 (`under-limit`), and with limits of n or more a call is accepted exactly if
+-- it was (`wide-limits`).
 -- Assumes nothing.
 use Prim.Native.Nat.{ℕ, _+_, _*_, _/_, _≤_, _<_}
 use mathlib.Core.Path.{_≡_, refl, sym, ap, subst, _∙_}

@@ -80,7 +80,8 @@ pub wing-part : (l : List Sheet) (i : ℕ) → heldIn l i ≤ held l
 wing-part l i = omega (arith, held-take 128 (drop (128 * wingOf i) l), held-drop (128 * wingOf i) l)
 
 -- where a sheet has g blocks more at the most, all sheets have
-held-more : (l : List Sheet) (i : ℕ) (x : Sheet) (g : ℕ) → lengthIn x ≤ lengthIn (sheetAt l i) + g → held (set l i x) ≤ held l + g
+held-more : (l : List Sheet) (i : ℕ) (x : Sheet) (g : ℕ) → lengthIn x ≤ lengthIn (sheetAt l i) + g → held (set l i x) ≤ held
+    l + g
 held-more l i x g h = go (ltb i (length l)) refl
   where
     go : (t : Bool) → ltb i (length l) ≡ t → held (set l i x) ≤ held l + g

@@ -1,5 +1,5 @@
--- What is claimed of the wings' shares of a card (document 02 (k)): over a list with unchanging limits from a fresh card no wing
--- ever holds more than its limit; and where the limits leave room for the whole card, accepted calls are those that were
+-- What is claimed of the wings' shares of a card (document 02 (k)): over a list with unchanging limits from a fresh card no
+-- wing ever holds more than its limit; and where the limits leave room for the whole card, accepted calls are those that were
 -- accepted before there were limits. That it holds is `no-wing-over` in proofs/Shares.antt, `under-limit` and
 -- `wide-limits` in proofs/WideLimits.antt.
 -- Assumes nothing.
@@ -69,8 +69,8 @@ Under ledger (on sheet standing) = Unit {0}
 abbrev pub Wide : ℕ → List ℕ → Type 0
 Wide n limits = (wing : ℕ) → wing < 8 → n ≤ limitOf limits wing
 
--- A call under such limits is accepted exactly if it was before. A refusal is the one that it was; or it is 18, and was one that
--- found no room: 10, 11 or 17.
+-- A call under such limits is accepted exactly if it was before. A refusal is the one that it was; or it is 18, and was one
+-- that found no room: 10, 11 or 17.
 pub record AsBefore (n : ℕ) (ledger : List Sheet) (c : Call) : Type 0 where
   pub accepted-still : verdictBefore n ledger c ≡ accepted → verdictIn n ledger c ≡ accepted
   pub accepted-then : verdictIn n ledger c ≡ accepted → verdictBefore n ledger c ≡ accepted

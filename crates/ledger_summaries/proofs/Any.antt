@@ -52,7 +52,8 @@ use Rattle.ledger_summaries.specs.Summaries.{Long, AnySummary}
 -- ---- any summary of the right length
 
 module _ (s : Kept) (summary : List ℕ) (sheet : ℕ) (long : Long s summary) where
-  accept-any : (limits : List ℕ) (start k : ℕ) → endIn true summary s (on sheet (accept limits start k)) ≡ endOf s (on sheet (accept limits start k))
+  accept-any : (limits : List ℕ) (start k : ℕ) → endIn true summary s (on sheet (accept limits start k)) ≡ endOf s
+      (on sheet (accept limits start k))
   accept-any limits start k =
       accept-takes s limits sheet k true summary start
       ∙ ap (λ (v : Verdict). takes s limits sheet k v start)
@@ -126,7 +127,8 @@ module _ (s : Kept) (summary : List ℕ) (limits : List ℕ) (sheet : ℕ) (long
   plainly = lentByWithin false [] s (s .card) limits sheet
 
   giving-x : givingVerdict x k ≡ givingVerdict plainly k
-  giving-x = summaries.giving-same (heldBy (s .entries) sheet) limits summary n (s .shape .free) (s .map) (s .card) (length (s .entries))
+  giving-x = summaries.giving-same (heldBy (s .entries) sheet) limits summary n (s .shape .free) (s .map) (s .card)
+      (length (s .entries))
       (entryAt (s .entries) sheet) sheet long k
 
   -- the limit of the sheet's wing is passed
@@ -157,7 +159,8 @@ module _ (s : Kept) (summary : List ℕ) (limits : List ℕ) (sheet : ℕ) (long
   by-rest q v h r =
       reserving.verdict-behind q k p ∙ ap (λ (w : Verdict). settle w (firstOf (reserving.rest q k p)) refused) h ∙ r
 
-  refused-before : (number : ℕ) → firstOf (before 10 (tableOf (viewOn plainly) (on sheet (reserve limits k p)))) ≡ refused number
+  refused-before : (number : ℕ) → firstOf (before 10 (tableOf (viewOn plainly) (on sheet (reserve limits k p)))) ≡ refused
+      number
       → (endIn true summary s (on sheet (reserve limits k p)) ≡ endOf s (on sheet (reserve limits k p)))
       × (reserveSummaryBy true summary s limits sheet k p ≡ summary)
   refused-before number h = go (givingVerdict plainly k) refl (sym first-rows ∙ h)
@@ -204,11 +207,13 @@ module _ (s : Kept) (summary : List ℕ) (limits : List ℕ) (sheet : ℕ) (long
       by-15 o true w e = absurd (not-refused 15 (sym (stop 15 true _ refl) ∙ e))
       by-15 o false w e = by-18 o w over refl e
 
-      go : (v : Verdict) → givingVerdict plainly k ≡ v → behind v (row 15 (misfigured n g) ∷ row 18 over ∷ []) ≡ accepted → Passed
+      go : (v : Verdict) → givingVerdict plainly k ≡ v → behind v (row 15 (misfigured n g) ∷ row 18 over ∷ []) ≡ accepted →
+          Passed
       go (refused m) o e = absurd (not-refused m e)
       go accepted o e = by-15 o (misfigured n g) refl e
 
-  turned : (number : ℕ) → (number ≡ 10) ⊎ (number ≡ 4) → reserveVerdict x k p ≡ refused number → Searched s summary limits sheet k p
+  turned : (number : ℕ) → (number ≡ 10) ⊎ (number ≡ 4) → reserveVerdict x k p ≡ refused number → Searched s summary limits
+      sheet k p
   turned number which h =
       let u = reserve-refuses true summary s sheet number limits k p h in
       turned-down number which (u .0) (u .1)
@@ -247,18 +252,21 @@ module _ (s : Kept) (summary : List ℕ) (limits : List ℕ) (sheet : ℕ) (long
     grants = granted t fits
         (reserve-takes s limits sheet k true summary p
         ∙ ap (λ (v : Verdict). takes s limits sheet k v (reserveStart x k p)) (reserved ∙ sym accepts-there)
-        ∙ ap (takes s limits sheet k (acceptVerdict x t k)) starts ∙ sym (accept-takes s limits sheet k true summary t)) same-summary
+        ∙ ap (takes s limits sheet k (acceptVerdict x t k)) starts ∙ sym (accept-takes s limits sheet k true summary t))
+        same-summary
 
   searched : Comes s limits sheet k p → Searched s summary limits sheet k p
   searched comes = go found refl (passed comes)
     where
-      by-count : (t : ℕ) → found ≡ At t → (w : Passed) → (b : Bool) → ltb (s .shape .free) k ≡ b → Searched s summary limits sheet k p
+      by-count : (t : ℕ) → found ≡ At t → (w : Passed) → (b : Bool) → ltb (s .shape .free) k ≡ b → Searched s summary limits
+          sheet k p
       by-count t f w true b = turned 4 (inr refl)
           (by-rest x (refused 4) (giving-x ∙ w .opens) (reserving.too-few x k p t (w .right) (w .under) f (ltb-true _ _ b)))
       by-count t f w false b = grants t f w (ltb-false _ _ b)
 
       go : (o : Found) → found ≡ o → Passed → Searched s summary limits sheet k p
-      go Nothing f w = turned 10 (inl refl) (by-rest x (refused 10) (giving-x ∙ w .opens) (reserving.no-fit x k p (w .right) (w .under) f))
+      go Nothing f w = turned 10 (inl refl) (by-rest x (refused 10) (giving-x ∙ w .opens)
+          (reserving.no-fit x k p (w .right) (w .under) f))
       go (At t) f w = by-count t f w (ltb (s .shape .free) k) refl
 
   short : Comes s limits sheet k p → getD summary 2 0 < k → endIn true summary s (on sheet (reserve limits k p)) ≡ refusing s 10

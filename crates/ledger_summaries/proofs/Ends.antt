@@ -47,11 +47,13 @@ module _ (s : Kept) (limits : List ℕ) (sheet k : ℕ) where
     q = lentByWithin guided summary s (s .card) limits sheet
 
     pub reserve-takes : (p : Placement)
-        → endIn guided summary s (on sheet (reserve limits k p)) ≡ takes (effects.reserveVerdict q k p) (effects.reserveStart q k p)
+        → endIn guided summary s (on sheet (reserve limits k p)) ≡ takes (effects.reserveVerdict q k p)
+        (effects.reserveStart q k p)
     unfolding effects.reserveOut effects.reserveMap effects.reserveCard effects.takenOut effects.takenMap effects.takenCard
     reserve-takes p = refl
 
-    pub accept-takes : (start : ℕ) → endIn guided summary s (on sheet (accept limits start k)) ≡ takes (effects.acceptVerdict q start k) start
+    pub accept-takes : (start : ℕ) → endIn guided summary s (on sheet (accept limits start k)) ≡ takes
+        (effects.acceptVerdict q start k) start
     unfolding effects.acceptOut effects.acceptMap effects.acceptCard effects.takenOut effects.takenMap effects.takenCard
     accept-takes start = refl
 
@@ -80,8 +82,10 @@ module _ (guided : Bool) (summary : List ℕ) (s : Kept) (sheet number : ℕ) wh
       let r = accept-refused-by guided summary s sheet number limits start k h in
       (ends _ _ _ _ _ _ _ _ (r .0) (r .1) (r .3) (r .4), r .2)
 
-  pub grow-refuses : (limits : List ℕ) (m : ℕ) → effects.growVerdict (lentByWithin guided summary s (s .card) limits sheet) m ≡ refused number
-      → (endIn guided summary s (on sheet (grow limits m)) ≡ refusing s number) × (growSummaryBy guided summary s limits sheet m ≡ summary)
+  pub grow-refuses : (limits : List ℕ) (m : ℕ) → effects.growVerdict (lentByWithin guided summary s (s .card) limits sheet) m
+      ≡ refused number
+      → (endIn guided summary s (on sheet (grow limits m)) ≡ refusing s number) ×
+      (growSummaryBy guided summary s limits sheet m ≡ summary)
   grow-refuses limits m h =
       let r = grow-refused-by guided summary s sheet number limits m h in
       (ends _ _ _ _ _ _ _ _ (r .0) (r .1) (r .3) (r .4), r .2)

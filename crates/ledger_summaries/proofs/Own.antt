@@ -54,7 +54,8 @@ module _ (s : Kept) (sheet : ℕ) where
   abbrev withOwnBare : Lent
   withOwnBare = lentBy true own s noCard sheet
 
-  roomy : (limits : List ℕ) (start k : ℕ) → Room (withOwn limits) start k → (length (s .map) ≤ 4096) × (s .shape .blocks ≤ 64 * length (s .map))
+  roomy : (limits : List ℕ) (start k : ℕ) → Room (withOwn limits) start k → (length (s .map) ≤ 4096) ×
+      (s .shape .blocks ≤ 64 * length (s .map))
   roomy limits start k r = (omega (arith, r .sizes .shape .words, r .sizes .shape .limit), r .sizes .shape .covered)
 
   module _ (limits : List ℕ) (k : ℕ) (p : Placement) where
@@ -73,14 +74,16 @@ module _ (s : Kept) (sheet : ℕ) where
         (length (s .entries)) (entryAt (s .entries) sheet) sheet refl k p)
         ∙ sym (reserve-takes s limits sheet k false [] p)
 
-    reserve-own-after : summaryAfter own s (on sheet (reserve limits k p)) ≡ ownOf (stateOn (endIn true own s (on sheet (reserve limits k p))))
+    reserve-own-after : summaryAfter own s (on sheet (reserve limits k p)) ≡ ownOf
+        (stateOn (endIn true own s (on sheet (reserve limits k p))))
     unfolding effects.reserveSummary effects.reserveMap effects.takenSummary effects.takenMap
     reserve-own-after =
         followed s (effects.reserveVerdict (withOwn limits) k p) (effects.reserveStart (withOwn limits) k p) k false
         (λ h. roomy limits (effects.reserveStart (withOwn limits) k p) k (reserve-room (withOwn limits) k p h))
 
   accept-own-after : (limits : List ℕ) (start k : ℕ)
-      → summaryAfter own s (on sheet (accept limits start k)) ≡ ownOf (stateOn (endIn true own s (on sheet (accept limits start k))))
+      → summaryAfter own s (on sheet (accept limits start k)) ≡ ownOf
+      (stateOn (endIn true own s (on sheet (accept limits start k))))
   unfolding effects.acceptSummary effects.acceptMap effects.takenSummary effects.takenMap
   accept-own-after limits start k =
       followed s (effects.acceptVerdict (withOwn limits) start k) start k false

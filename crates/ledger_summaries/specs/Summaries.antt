@@ -1,5 +1,5 @@
--- The calls with a summary beside the map (document 02, request j): what is claimed of them, beside the calls without one. That it
--- holds is proved in proofs/.
+-- The calls with a summary beside the map (document 02, request j): what is claimed of them, beside the calls without one.
+-- That it holds is proved in proofs/.
 -- Assumes nothing.
 use Prim.Native.Nat.{ℕ, _<_}
 use mathlib.Core.Path.{_≡_}
@@ -12,7 +12,8 @@ use Rattle.summary.specs.Summary.{summaryLength, ownSummary}
 use Rattle.catalogue_standings.specs.Rows.{accepted, refused, firstOf}
 use Rattle.catalogue_standings.specs.declared.Answer.the-variants.{Refused}
 use Rattle.refusals.specs.Placement.{Placement, figuresIn, fitWithin}
-use Rattle.refusals.specs.Table.{Call, Ask, on, reserve, put, grow, complete, pause, resume, release, show, standing, offer, accept}
+use Rattle.refusals.specs.Table.{Call, Ask, on, reserve, put, grow, complete, pause, resume, release, show, standing, offer}
+use Rattle.refusals.specs.Table.{accept}
 use Rattle.refusals.specs.Table.{showDated}
 use Rattle.refusals.specs.Table.{tableOf}
 use Rattle.refusals.specs.Views.{viewOn}
@@ -41,7 +42,8 @@ summaryAfter summary s (on sheet standing) = summary
 -- function says.
 abbrev pub StepBy : Kept → List ℕ → Call → Response → Kept → List ℕ → Type 0
 StepBy s summary c reply t summary′ =
-    (reply ≡ responseOf (endIn true summary s c)) × (t ≡ stateOn (endIn true summary s c)) × (summary′ ≡ summaryAfter summary s c)
+    (reply ≡ responseOf (endIn true summary s c)) × (t ≡ stateOn (endIn true summary s c)) ×
+    (summary′ ≡ summaryAfter summary s c)
 
 -- A list of calls whose map-changing calls are these forms, each lent the summary as the one before left it.
 abbrev pub RunsBy : Kept → List ℕ → List Call → List Response → Kept → List ℕ → Type 0
@@ -90,7 +92,8 @@ pub record WrongLength (s : Kept) (summary : List ℕ) (sheet : ℕ) : Type 0 wh
 
 -- A summary of the right length, the map's own or not, changes nothing of accept, grow and release but itself. They are exact.
 pub record AnySummary (s : Kept) (summary : List ℕ) (sheet : ℕ) : Type 0 where
-  pub accepts : (limits : List ℕ) (start k : ℕ) → endIn true summary s (on sheet (accept limits start k)) ≡ endOf s (on sheet (accept limits start k))
+  pub accepts : (limits : List ℕ) (start k : ℕ) → endIn true summary s (on sheet (accept limits start k)) ≡ endOf s
+      (on sheet (accept limits start k))
   pub grows : (limits : List ℕ) (m : ℕ) → endIn true summary s (on sheet (grow limits m)) ≡ endOf s (on sheet (grow limits m))
   pub releases : endIn true summary s (on sheet release) ≡ endOf s (on sheet release)
 
@@ -99,8 +102,8 @@ abbrev pub Comes : Kept → List ℕ → ℕ → ℕ → Placement → Type 0
 Comes s limits sheet k p =
     firstOf (before 10 (tableOf (viewOn (lentToWithin s (s .card) limits sheet)) (on sheet (reserve limits k p)))) ≡ accepted
 
--- If it does, it is refused with 10, or with 4 by the free count, and changes nothing; or it is granted a run that is free, within
--- its figures, inside n and k long, and then does and answers what an accept of that run does.
+-- If it does, it is refused with 10, or with 4 by the free count, and changes nothing; or it is granted a run that is free,
+-- within its figures, inside n and k long, and then does and answers what an accept of that run does.
 pub data Searched (s : Kept) (summary limits : List ℕ) (sheet k : ℕ) (p : Placement) : Type 0 where
   turned-down : (number : ℕ) → (number ≡ 10) ⊎ (number ≡ 4)
       → endIn true summary s (on sheet (reserve limits k p)) ≡ refusing s number
@@ -112,9 +115,11 @@ pub data Searched (s : Kept) (summary limits : List ℕ) (sheet k : ℕ) (p : Pl
 
 pub record AnyReserve (s : Kept) (summary limits : List ℕ) (sheet k : ℕ) (p : Placement) : Type 0 where
   pub refused-before : (number : ℕ)
-      → firstOf (before 10 (tableOf (viewOn (lentToWithin s (s .card) limits sheet)) (on sheet (reserve limits k p)))) ≡ refused number
+      → firstOf (before 10 (tableOf (viewOn (lentToWithin s (s .card) limits sheet)) (on sheet (reserve limits k p)))) ≡
+      refused number
       → (endIn true summary s (on sheet (reserve limits k p)) ≡ endOf s (on sheet (reserve limits k p)))
       × (summaryAfter summary s (on sheet (reserve limits k p)) ≡ summary)
   pub searched : Comes s limits sheet k p → Searched s summary limits sheet k p
   -- where group 0's longest is below k, the search gives no fit, whatever the map holds
-  pub short : Comes s limits sheet k p → getD summary 2 0 < k → endIn true summary s (on sheet (reserve limits k p)) ≡ refusing s 10
+  pub short : Comes s limits sheet k p → getD summary 2 0 < k → endIn true summary s (on sheet (reserve limits k p)) ≡
+      refusing s 10

@@ -32,28 +32,32 @@ module _ {M : Type 1} (𝓤 : URA M) (H : Heap 𝓤) (A : Atoms 𝓤) (mem : Mem
       (λ κs a r t. Checks replyOf (a .0) (now (a .1 .0)) (now (a .1 .1 .0)) r)
   pagunlit-summary-check-contract κs a r t g = refl
 
-  pub pagunlit-reserve-with-summary-contract : Ensures 𝓤 reserve-with-summary-function.ended (reserve-with-summary-function.clauses 𝓤 H A mem run) (λ κs a r t.
+  pub pagunlit-reserve-with-summary-contract : Ensures 𝓤 reserve-with-summary-function.ended
+      (reserve-with-summary-function.clauses 𝓤 H A mem run) (λ κs a r t.
       let more = a .1 .1 .1 .1 .1 .1 in
       ReservesBy replyOf (now (a .1 .1 .0)) (kept (a .0) (now (a .1 .0)) (now (a .1 .1 .1 .0)) (now (a .1 .1 .1 .1 .0)))
       (now (a .1 .1 .1 .1 .1 .0)) (more .0) (more .1 .0)
       r (now (t .1 .0)) (now (t .1 .1 .0)) (now (t .1 .1 .1 .0)) (now (t .1 .1 .1 .1 .0)))
   pagunlit-reserve-with-summary-contract κs a r t g = refl
 
-  pub pagunlit-reserve-placed-with-summary-contract : Ensures 𝓤 reserve-placed-with-summary-function.ended (reserve-placed-with-summary-function.clauses 𝓤 H A mem run) (λ κs a r t.
+  pub pagunlit-reserve-placed-with-summary-contract : Ensures 𝓤 reserve-placed-with-summary-function.ended
+      (reserve-placed-with-summary-function.clauses 𝓤 H A mem run) (λ κs a r t.
       let more = a .1 .1 .1 .1 .1 .1 in
       ReservesPlacedBy replyOf (now (a .1 .1 .0)) (kept (a .0) (now (a .1 .0)) (now (a .1 .1 .1 .0)) (now (a .1 .1 .1 .1 .0)))
       (now (a .1 .1 .1 .1 .1 .0)) (more .0) (more .1 .0) (more .1 .1 .0) (more .1 .1 .1 .0) (more .1 .1 .1 .1 .0)
       r (now (t .1 .0)) (now (t .1 .1 .0)) (now (t .1 .1 .1 .0)) (now (t .1 .1 .1 .1 .0)))
   pagunlit-reserve-placed-with-summary-contract κs a r t g = refl
 
-  pub pagunlit-accept-with-summary-contract : Ensures 𝓤 accept-with-summary-function.ended (accept-with-summary-function.clauses 𝓤 H A mem run) (λ κs a r t.
+  pub pagunlit-accept-with-summary-contract : Ensures 𝓤 accept-with-summary-function.ended
+      (accept-with-summary-function.clauses 𝓤 H A mem run) (λ κs a r t.
       let more = a .1 .1 .1 .1 .1 .1 in
       AcceptsBy replyOf (now (a .1 .1 .0)) (kept (a .0) (now (a .1 .0)) (now (a .1 .1 .1 .0)) (now (a .1 .1 .1 .1 .0)))
       (now (a .1 .1 .1 .1 .1 .0)) (more .0) (more .1 .0) (more .1 .1 .0)
       r (now (t .1 .0)) (now (t .1 .1 .0)) (now (t .1 .1 .1 .0)) (now (t .1 .1 .1 .1 .0)))
   pagunlit-accept-with-summary-contract κs a r t g = refl
 
-  pub pagunlit-grow-with-summary-contract : Ensures 𝓤 grow-with-summary-function.ended (grow-with-summary-function.clauses 𝓤 H A mem run) (λ κs a r t.
+  pub pagunlit-grow-with-summary-contract : Ensures 𝓤 grow-with-summary-function.ended
+      (grow-with-summary-function.clauses 𝓤 H A mem run) (λ κs a r t.
       let more = a .1 .1 .1 .1 .1 .1 in
       GrowsBy replyOf (now (a .1 .1 .0)) (kept (a .0) (now (a .1 .0)) (now (a .1 .1 .1 .0)) (now (a .1 .1 .1 .1 .0)))
       (now (a .1 .1 .1 .1 .1 .0)) (more .0) (more .1 .0)

@@ -8,7 +8,8 @@ use native.Mathlib.Omega.{arith}
 use Rattle.catalogue.specs.Entries.{openMark}
 use Rattle.map_blocks.specs.Blocks.{free}
 use Rattle.catalogue_wings.specs.Wings.{wingOf}
-use Rattle.refusals.specs.Effects.{addingVerdict, runVerdict, growVerdict, entryOf, outOf, refusalOut, growOut, growMap, growCard}
+use Rattle.refusals.specs.Effects.{addingVerdict, runVerdict, growVerdict, entryOf, outOf, refusalOut, growOut, growMap}
+use Rattle.refusals.specs.Effects.{growCard}
 use Rattle.refusals.specs.Effects.{growSummary}
 use Rattle.refusals.specs.Guides.{guideAfter}
 use Rattle.catalogue_standings.specs.Rows.{Verdict, accepted, refused, settle}
@@ -42,7 +43,8 @@ module _ (q : Lent) (m : ℕ) where
   unfolding growVerdict runVerdict viewOn tableOf
   verdict-behind =
       adding-then q m
-      (limitRow (viewOf q) (q .limits) m ∷ runRows 11 (viewOf q) (startOf (standing q) + lengthOf (standing q)) m) ∙ go (addingVerdict q m) refl
+      (limitRow (viewOf q) (q .limits) m ∷ runRows 11 (viewOf q) (startOf (standing q) + lengthOf (standing q)) m) ∙ go
+      (addingVerdict q m) refl
     where
       go : (v : Verdict) → addingVerdict q m ≡ v
           → settle v (run (startOf (standing q) + lengthOf (standing q))) refused ≡ settle v (run end) refused

@@ -56,11 +56,13 @@ module _ (q : Lent) (k : ℕ) (p : Placement) where
   pub no-fit : misfigured (q .n) figured ≡ false → over ≡ false → found ≡ Nothing → firstOf rest ≡ refused 10
   no-fit w o f = skip 15 _ _ _ w (skip 18 _ _ _ o (stop 10 _ _ (ap none f)))
 
-  pub too-few : (s : ℕ) → misfigured (q .n) figured ≡ false → over ≡ false → found ≡ At s → q .spare < k → firstOf rest ≡ refused 4
+  pub too-few : (s : ℕ) → misfigured (q .n) figured ≡ false → over ≡ false → found ≡ At s → q .spare < k → firstOf rest ≡
+      refused 4
   too-few s w o f l =
       skip 15 _ _ _ w (skip 18 _ _ _ o (skip 10 _ _ _ (ap none f) (stop 4 _ _ (lt-ltb (q .spare) k l))))
 
-  pub passes : (s : ℕ) → misfigured (q .n) figured ≡ false → over ≡ false → found ≡ At s → k ≤ q .spare → firstOf rest ≡ accepted
+  pub passes : (s : ℕ) → misfigured (q .n) figured ≡ false → over ≡ false → found ≡ At s → k ≤ q .spare → firstOf rest ≡
+      accepted
   passes s w o f l =
       skip 15 _ _ _ w
       (skip 18 _ _ _ o (skip 10 _ _ _ (ap none f) (skip 4 _ _ _ (le-ltb (q .spare) k l) none-left)))

@@ -158,7 +158,8 @@ module _ (held : ℕ) (limits summary : List ℕ) (n spare : ℕ) (map card : Li
               inr (
                 by-rest
                     ∙ ap (λ (o : Found). firstOf
-                    (row 15 (misfigured n g) ∷ row 18 (reserving.over without k p) ∷ row 10 (none o) ∷ row 4 (ltb spare k) ∷ [])) same
+                    (row 15 (misfigured n g) ∷ row 18 (reserving.over without k p) ∷ row 10 (none o) ∷ row 4 (ltb spare k) ∷
+                    [])) same
                     ∙ sym by-rest-without,
                 ap startAt same,
               )

@@ -47,8 +47,8 @@ module _ (q : Lent) (k : ℕ) where
   unfolding viewOn
   addingVerdict = firstOf (opening (viewOn q) (q .sheet) (adding (viewOn q) k []))
 
--- What row 18 and the rows of a run that is asked for say (`runRows`), `over` saying that the limit is passed, and f which of the n
--- blocks are free.
+-- What row 18 and the rows of a run that is asked for say (`runRows`), `over` saying that the limit is passed, and f which of
+-- the n blocks are free.
 unfoldable pub runVerdict : ℕ → Bool → (ℕ → Bool) → ℕ → ℕ → ℕ → ℕ → Verdict
 runVerdict number over f n spare start k =
     firstOf (row 18 over ∷ row number (not (fit f 0 n 1 k start)) ∷ row 4 (ltb spare k) ∷ [])

@@ -3,7 +3,7 @@
 
 use bitwise::blocks::{figures, from_words, to_words};
 use bitwise::calendar::date;
-use bitwise::call::{accept, call, dated, placed, Call, Kind, CALLS};
+use bitwise::call::{accept, call, dated, placed, Call, Kind, Limits, CALLS};
 use bitwise::card::{entry, sealed, Answer, Card};
 use bitwise::summary::summary_numbers;
 use std::fmt::Write;
@@ -11,10 +11,11 @@ use std::fmt::Write;
 const N: usize = 70;
 const C: u32 = 3;
 /// The refusals of calls on a sound card with slices of the right lengths.
-const REFUSALS: [u32; 13] = [2, 3, 5, 6, 7, 8, 9, 10, 11, 15, 17, 19, 20];
+const REFUSALS: [u32; 14] = [2, 3, 5, 6, 7, 8, 9, 10, 11, 15, 17, 18, 19, 20];
 
-/// What calls.c keeps: the card, and the slices that a call may be lent besides.
+/// What calls.c keeps: the limits, the card, and the slices that a call may be lent besides.
 struct State {
+    limits: Limits,
     card: Card,
     scratch: Vec<u64>,
     image: Vec<u8>,
@@ -82,6 +83,7 @@ impl State {
             summary: vec![],
         };
         let mut state = State {
+            limits: [N as u32, 1, 2, 3, 4, 5, 6, 7],
             card,
             scratch: vec![],
             image: filled(512, 6),
@@ -158,9 +160,19 @@ impl State {
             Kind::Show | Kind::ShowDated => self.slice = filled(496, 99),
             _ => {}
         }
-        let answer = self.card.call(call, &mut self.slice);
+        let answer = self
+            .card
+            .call(call.with_limits(self.limits), &mut self.slice);
         self.made.push((call.kind, numbers(answer).0));
         self.told(name, answer);
+    }
+
+    /// Another limit for the first wing (document 02, (k)), in which all sheets are.
+    fn limit(&mut self, name: &str) {
+        if let [blocks] = numbers_in(name)[..] {
+            self.limits[0] = blocks;
+        }
+        self.line(name, String::new());
     }
 
     /// A put whose payload starts with two days (document 02, (m)), 4 bytes each, the high byte first.
@@ -194,6 +206,7 @@ impl State {
             ("summary-build short", _) => self.build_short(name),
             ("head", _) => self.line(name, format!("{N} {C}")),
             _ if word == "put-term" => self.put_term(name),
+            _ if word == "limit" => self.limit(name),
             (_, None) => self.line(word, "is no call of document 01".to_string()),
             (_, Some(kind)) => self.call(name, call_of(kind, name)),
         }

@@ -25,7 +25,7 @@ const CONSTANTS: [(&str, u64); 15] = [
 
 /// The rows of "What the caller gets instead" and those of document 02, with the name that a C program has for each. Number 0
 /// is "done".
-const NUMBERS: [(u32, &str, &str); 20] = [
+const NUMBERS: [(u32, &str, &str); 21] = [
     (0, "PAGUNLIT_DONE", "done"),
     (
         1,
@@ -50,6 +50,7 @@ const NUMBERS: [(u32, &str, &str); 20] = [
     (16, "PAGUNLIT_WRONG_COUNT", "dose counts: another digit in the four bytes read, a number out of range when writing, or a \
          count number of 124 or more"),
     (17, "PAGUNLIT_RUN_NOT_FREE", "accept: the run is not all free and inside n"),
+    (18, "PAGUNLIT_OVER_LIMIT", "reserve, offer, accept or grow: the wing's limit would be passed"),
     (19, "PAGUNLIT_NO_DATE", "dated show: the date doesn't exist or lies outside the span"),
     (20, "PAGUNLIT_OUTSIDE_TERM", "dated show: the day lies outside the term"),
 ];

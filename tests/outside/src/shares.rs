@@ -133,8 +133,8 @@ pub fn note(card: &Card, call: Call, offered: bool, counts: &mut Counts) {
     }
 }
 
-/// A card of 100 blocks and 1,024 sheets: of each wing the first sheet is Open and the last a paused course or Complete, with one
-/// block to three, and a block or more between them. All other sheets are Absent.
+/// A card of 100 blocks and 1,024 sheets: of each wing the first sheet is Open and the last a paused course or Complete, with
+/// one block to three, and a block or more between them. All other sheets are Absent.
 fn eight_wings() -> Card {
     let n = 100;
     let mut card = Card {
@@ -173,8 +173,8 @@ fn calls_of(wing: u32, sheet: u32, k: u32) -> Vec<Call> {
     calls.into_iter().chain(forms).collect()
 }
 
-/// Each call of each wing at its limit, beside it, and with the largest and the least; the other wings' limits being the largest,
-/// the least or what this wing would hold.
+/// Each call of each wing at its limit, beside it, and with the largest and the least; the other wings' limits being the
+/// largest, the least or what this wing would hold.
 pub fn each_wing(margin: usize, counts: &mut Counts) -> Result<(), String> {
     let card = eight_wings();
     for wing in 0..8 {

@@ -1,5 +1,5 @@
-//! Lists for wings that share a card (document 02, (k)), with 300 sheets, so that there are three wings. A line is a call, or with
-//! + what no call does: `+limit` has a wing and its limit, `+limits` one for all eight.
+//! Lists for wings that share a card (document 02, (k)), with 300 sheets, so that there are three wings. A line is a call, or
+//! with + what no call does: `+limit` has a wing and its limit, `+limits` one for all eight.
 
 pub(super) const LISTS: &[(&str, &str)] = &[
     ("limits", LIMITS),

@@ -52,7 +52,8 @@ module _ (n : ℕ) (l : List Sheet) (card : List ℕ) (k : Matches n l card) (i 
     fits : fit (freeIn n l) 0 n 1 m (start + length places) ≡ true
     wide : length (places ++ replicate m Blank) ≡ length places + m
 
-  pub shown : leb (length l) i ≡ false → isAbsent (standingIn (sheetAt l i)) ≡ false → isPaused (standingIn (sheetAt l i)) ≡ false
+  pub shown : leb (length l) i ≡ false → isAbsent (standingIn (sheetAt l i)) ≡ false → isPaused (standingIn (sheetAt l i)) ≡
+      false
       → isComplete (standingIn (sheetAt l i)) ≡ false
       → eqb m 0 ≡ false → not (fit (freeIn n l) 0 n 1 m (startIn (sheetAt l i) + lengthIn (sheetAt l i))) ≡ false → Shown
   shown h2 h5 h6 h8 h3 h11 =

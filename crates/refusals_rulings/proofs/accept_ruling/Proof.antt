@@ -24,7 +24,8 @@ returns c =
     let a = c .before .before .before .before .before .args in
     let q₀ = lentBeside (a .guided) (now (a .summary)) (a .n) (a .free) (now (a .map)) (now (a .card)) (a .c) (a .entry)
     (a .sheet) in
-    let q = lentWithin (a .held) (now (a .limits)) (a .guided) (now (a .summary)) (a .n) (a .free) (now (a .map)) (now (a .card))
+    let q = lentWithin (a .held) (now (a .limits)) (a .guided) (now (a .summary)) (a .n) (a .free) (now (a .map))
+    (now (a .card))
     (a .c) (a .entry) (a .sheet) in
     by-first (a .start) (givingVerdict q (a .k)) (run q (a .start) (a .k)) (acceptVerdict q (a .start) (a .k)) (call .result)
     (verdict-behind q (a .start) (a .k)) (first-row (giving-within (a .held) (now (a .limits)) q₀ (a .k)) (call .ensures))
@@ -53,7 +54,8 @@ returns-2 c =
     let a = c .before .before .before .before .before .before .before .args in
     let q₀ = lentBeside (a .guided) (now (a .summary)) (a .n) (a .free) (now (a .map)) (now (a .card)) (a .c) (a .entry)
     (a .sheet) in
-    let q = lentWithin (a .held) (now (a .limits)) (a .guided) (now (a .summary)) (a .n) (a .free) (now (a .map)) (now (a .card))
+    let q = lentWithin (a .held) (now (a .limits)) (a .guided) (now (a .summary)) (a .n) (a .free) (now (a .map))
+    (now (a .card))
     (a .c) (a .entry) (a .sheet) in
     let opens = first-row (giving-within (a .held) (now (a .limits)) q₀ (a .k)) (call .ensures) in
     c .run-ruling .ensures

@@ -24,7 +24,8 @@ returns c =
     let a = c .before .before .before .before .before .args in
     let q₀ = lentBeside (a .guided) (now (a .summary)) (a .n) (a .free) (now (a .map)) (now (a .card)) (a .c) (a .entry)
     (a .sheet) in
-    let q = lentWithin (a .held) (now (a .limits)) (a .guided) (now (a .summary)) (a .n) (a .free) (now (a .map)) (now (a .card))
+    let q = lentWithin (a .held) (now (a .limits)) (a .guided) (now (a .summary)) (a .n) (a .free) (now (a .map))
+    (now (a .card))
     (a .c) (a .entry) (a .sheet) in
     by-first (end q (a .m)) (addingVerdict q (a .m)) (run q (a .m) (end q (a .m))) (growVerdict q (a .m)) (call .result)
     (verdict-behind q (a .m)) (first-row (adding-within (a .held) (now (a .limits)) q₀ (a .m)) (call .ensures)) (c .if1 .taken)
@@ -61,7 +62,8 @@ returns-2 c =
     let a = c .before .before .before .before .before .before .before .before .args in
     let q₀ = lentBeside (a .guided) (now (a .summary)) (a .n) (a .free) (now (a .map)) (now (a .card)) (a .c) (a .entry)
     (a .sheet) in
-    let q = lentWithin (a .held) (now (a .limits)) (a .guided) (now (a .summary)) (a .n) (a .free) (now (a .map)) (now (a .card))
+    let q = lentWithin (a .held) (now (a .limits)) (a .guided) (now (a .summary)) (a .n) (a .free) (now (a .map))
+    (now (a .card))
     (a .c) (a .entry) (a .sheet) in
     let opens = first-row (adding-within (a .held) (now (a .limits)) q₀ (a .m)) (call .ensures) in
     c .run-ruling .ensures

@@ -35,7 +35,8 @@ returns c =
     let a = c .before .before .before .before .before .args in
     let q₀ = lentBeside (a .guided) (now (a .summary)) (a .n) (a .free) (now (a .map)) (now (a .card)) (a .c) (a .entry)
     (a .sheet) in
-    let q = lentWithin (a .held) (now (a .limits)) (a .guided) (now (a .summary)) (a .n) (a .free) (now (a .map)) (now (a .card))
+    let q = lentWithin (a .held) (now (a .limits)) (a .guided) (now (a .summary)) (a .n) (a .free) (now (a .map))
+    (now (a .card))
     (a .c) (a .entry) (a .sheet) in
     let p = placed (a .figures) in
     by-first (reserveStartOn q (a .k) p) (givingVerdict q (a .k)) (firstOf (rest q (a .k) p)) (reserveVerdictOn q (a .k) p)
@@ -50,10 +51,12 @@ returns-2 c =
     let a = c .before .before .before .before .before .before .before .args in
     let q₀ = lentBeside (a .guided) (now (a .summary)) (a .n) (a .free) (now (a .map)) (now (a .card)) (a .c) (a .entry)
     (a .sheet) in
-    let q = lentWithin (a .held) (now (a .limits)) (a .guided) (now (a .summary)) (a .n) (a .free) (now (a .map)) (now (a .card))
+    let q = lentWithin (a .held) (now (a .limits)) (a .guided) (now (a .summary)) (a .n) (a .free) (now (a .map))
+    (now (a .card))
     (a .c) (a .entry) (a .sheet) in
     let p = placed (a .figures) in
-    let first = first-row (giving-within (a .held) (now (a .limits)) q₀ (a .k)) (c .before .before .before .giving-row .ensures) in
+    let first =
+    first-row (giving-within (a .held) (now (a .limits)) q₀ (a .k)) (c .before .before .before .giving-row .ensures) in
     let opens = giving-zero q (a .k) (sym first ∙ c .before .before .if1 .left) in
     by-rows q (a .k) p opens (refused 15) (wrong-figures q (a .k) p (sym (c .before .figures-wrong .ensures) ∙ c .if2 .taken))
 
@@ -62,17 +65,20 @@ over-limit-requires c κs =
     let a = c .before .before .before .before .before .before .before .args in
     let q₀ = lentBeside (a .guided) (now (a .summary)) (a .n) (a .free) (now (a .map)) (now (a .card)) (a .c) (a .entry)
     (a .sheet) in
-    given q₀ (a .k) (giving-zero q₀ (a .k) (sym (c .before .before .before .giving-row .ensures) ∙ c .before .before .if1 .left)) .below
+    given q₀ (a .k)
+    (giving-zero q₀ (a .k) (sym (c .before .before .before .giving-row .ensures) ∙ c .before .before .if1 .left)) .below
 
 returns-3 : tie.Need-returns-3
 returns-3 c =
     let a = c .before .before .before .before .before .before .before .before .before .args in
     let q₀ = lentBeside (a .guided) (now (a .summary)) (a .n) (a .free) (now (a .map)) (now (a .card)) (a .c) (a .entry)
     (a .sheet) in
-    let q = lentWithin (a .held) (now (a .limits)) (a .guided) (now (a .summary)) (a .n) (a .free) (now (a .map)) (now (a .card))
+    let q = lentWithin (a .held) (now (a .limits)) (a .guided) (now (a .summary)) (a .n) (a .free) (now (a .map))
+    (now (a .card))
     (a .c) (a .entry) (a .sheet) in
     let p = placed (a .figures) in
-    let first = first-row (giving-within (a .held) (now (a .limits)) q₀ (a .k)) (c .before .before .before .before .before .giving-row .ensures) in
+    let first = first-row (giving-within (a .held) (now (a .limits)) q₀ (a .k))
+    (c .before .before .before .before .before .giving-row .ensures) in
     let opens = giving-zero q (a .k) (sym first ∙ c .before .before .before .before .if1 .left) in
     let right = sym (c .before .before .before .figures-wrong .ensures) ∙ c .before .before .if2 .left in
     by-rows q (a .k) p opens (refused 18)
@@ -83,8 +89,11 @@ find-run-requires c κs =
     let a = c .before .before .before .before .before .before .before .before .before .args in
     let q₀ = lentBeside (a .guided) (now (a .summary)) (a .n) (a .free) (now (a .map)) (now (a .card)) (a .c) (a .entry)
     (a .sheet) in
-    let opens = given q₀ (a .k) (giving-zero q₀ (a .k) (sym (c .before .before .before .before .before .giving-row .ensures) ∙ c .before .before .before .before .if1 .left)) in
-    let g = figured (a .n) (a .figures) (sym (c .before .before .before .figures-wrong .ensures) ∙ c .before .before .if2 .left) in (
+    let opens = given q₀ (a .k)
+    (giving-zero q₀ (a .k) (sym (c .before .before .before .before .before .giving-row .ensures) ∙ c .before .before
+    .before .before .if1 .left)) in
+    let g = figured (a .n) (a .figures) (sym (c .before .before .before .figures-wrong .ensures) ∙ c .before .before .if2
+    .left) in (
       omega (arith, opens .sizes .shape .words, opens .sizes .shape .limit),
       omega (arith, opens .sizes .shape .limit, g .inside),
       omega (arith, opens .sizes .shape .covered, g .inside),
@@ -104,28 +113,37 @@ returns-4 c =
     let a = c .before .before .before .before .before .before .before .before .before .before .before .before .args in
     let q₀ = lentBeside (a .guided) (now (a .summary)) (a .n) (a .free) (now (a .map)) (now (a .card)) (a .c) (a .entry)
     (a .sheet) in
-    let q = lentWithin (a .held) (now (a .limits)) (a .guided) (now (a .summary)) (a .n) (a .free) (now (a .map)) (now (a .card))
+    let q = lentWithin (a .held) (now (a .limits)) (a .guided) (now (a .summary)) (a .n) (a .free) (now (a .map))
+    (now (a .card))
     (a .c) (a .entry) (a .sheet) in
     let p = placed (a .figures) in
-    let first = first-row (giving-within (a .held) (now (a .limits)) q₀ (a .k)) (c .before .before .before .before .before .before .before .before .giving-row .ensures) in
+    let first = first-row (giving-within (a .held) (now (a .limits)) q₀ (a .k))
+    (c .before .before .before .before .before .before .before .before .giving-row .ensures) in
     let opens = giving-zero q (a .k) (sym first ∙ c .before .before .before .before .before .before .before .if1 .left) in
-    let right = sym (c .before .before .before .before .before .before .figures-wrong .ensures) ∙ c .before .before .before .before .before .if2 .left in
+    let right = sym (c .before .before .before .before .before .before .figures-wrong .ensures) ∙ c .before .before .before
+    .before .before .if2 .left in
     let under = sym (c .before .before .before .before .over-limit .ensures) ∙ c .before .before .before .if3 .left in
     by-rows q (a .k) p opens (refused 10)
     (no-fit q (a .k) p right under (sym (c .before .before .find-run .ensures) ∙ c .enum-told .given .1))
 
 returns-5 : tie.Need-returns-5
 returns-5 c =
-    let a = c .before .before .before .before .before .before .before .before .before .before .before .before .before .before .args in
+    let a = c .before .before .before .before .before .before .before .before .before .before .before .before .before .before
+    .args in
     let q₀ = lentBeside (a .guided) (now (a .summary)) (a .n) (a .free) (now (a .map)) (now (a .card)) (a .c) (a .entry)
     (a .sheet) in
-    let q = lentWithin (a .held) (now (a .limits)) (a .guided) (now (a .summary)) (a .n) (a .free) (now (a .map)) (now (a .card))
+    let q = lentWithin (a .held) (now (a .limits)) (a .guided) (now (a .summary)) (a .n) (a .free) (now (a .map))
+    (now (a .card))
     (a .c) (a .entry) (a .sheet) in
     let p = placed (a .figures) in
-    let first = first-row (giving-within (a .held) (now (a .limits)) q₀ (a .k)) (c .before .before .before .before .before .before .before .before .before .before .giving-row .ensures) in
-    let opens = giving-zero q (a .k) (sym first ∙ c .before .before .before .before .before .before .before .before .before .if1 .left) in
-    let right = sym (c .before .before .before .before .before .before .before .before .figures-wrong .ensures) ∙ c .before .before .before .before .before .before .before .if2 .left in
-    let under = sym (c .before .before .before .before .before .before .over-limit .ensures) ∙ c .before .before .before .before .before .if3 .left in
+    let first = first-row (giving-within (a .held) (now (a .limits)) q₀ (a .k))
+    (c .before .before .before .before .before .before .before .before .before .before .giving-row .ensures) in
+    let opens = giving-zero q (a .k) (sym first ∙ c .before .before .before .before .before .before .before .before .before
+    .if1 .left) in
+    let right = sym (c .before .before .before .before .before .before .before .before .figures-wrong .ensures) ∙ c .before
+    .before .before .before .before .before .before .if2 .left in
+    let under = sym (c .before .before .before .before .before .before .over-limit .ensures) ∙ c .before .before .before
+    .before .before .if3 .left in
     let place = c .before .before .found .given in
     by-rows q (a .k) p opens (refused 4)
     (too-few q (a .k) p (place .0 .0) right under (sym (c .before .before .before .before .find-run .ensures) ∙ place .1)
@@ -133,16 +151,22 @@ returns-5 c =
 
 returns-6 : tie.Need-returns-6
 returns-6 c =
-    let a = c .before .before .before .before .before .before .before .before .before .before .before .before .before .before .args in
+    let a = c .before .before .before .before .before .before .before .before .before .before .before .before .before .before
+    .args in
     let q₀ = lentBeside (a .guided) (now (a .summary)) (a .n) (a .free) (now (a .map)) (now (a .card)) (a .c) (a .entry)
     (a .sheet) in
-    let q = lentWithin (a .held) (now (a .limits)) (a .guided) (now (a .summary)) (a .n) (a .free) (now (a .map)) (now (a .card))
+    let q = lentWithin (a .held) (now (a .limits)) (a .guided) (now (a .summary)) (a .n) (a .free) (now (a .map))
+    (now (a .card))
     (a .c) (a .entry) (a .sheet) in
     let p = placed (a .figures) in
-    let first = first-row (giving-within (a .held) (now (a .limits)) q₀ (a .k)) (c .before .before .before .before .before .before .before .before .before .before .giving-row .ensures) in
-    let opens = giving-zero q (a .k) (sym first ∙ c .before .before .before .before .before .before .before .before .before .if1 .left) in
-    let right = sym (c .before .before .before .before .before .before .before .before .figures-wrong .ensures) ∙ c .before .before .before .before .before .before .before .if2 .left in
-    let under = sym (c .before .before .before .before .before .before .over-limit .ensures) ∙ c .before .before .before .before .before .if3 .left in
+    let first = first-row (giving-within (a .held) (now (a .limits)) q₀ (a .k))
+    (c .before .before .before .before .before .before .before .before .before .before .giving-row .ensures) in
+    let opens = giving-zero q (a .k) (sym first ∙ c .before .before .before .before .before .before .before .before .before
+    .if1 .left) in
+    let right = sym (c .before .before .before .before .before .before .before .before .figures-wrong .ensures) ∙ c .before
+    .before .before .before .before .before .before .if2 .left in
+    let under = sym (c .before .before .before .before .before .before .over-limit .ensures) ∙ c .before .before .before
+    .before .before .if3 .left in
     let place = c .before .before .found .given in
     let fit = sym (c .before .before .before .before .find-run .ensures) ∙ place .1 in
     ap ruling.At (starts q (a .k) p (place .0 .0) fit)

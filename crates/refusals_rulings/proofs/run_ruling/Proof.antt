@@ -36,7 +36,8 @@ returns-2 c =
     let a = c .before .before .before .before .args in
     let f = free (now (a .map)) in
     ruled (a .start) (refused (a .number)) (runVerdict (a .number) (a .over) f (a .n) (a .free) (a .start) (a .k))
-    (tested (a .over) false (a .number) f (a .n) (a .free) (a .start) (a .k) (refused (a .number)) (c .before .before .if1 .left)
+    (tested (a .over) false (a .number) f (a .n) (a .free) (a .start) (a .k) (refused (a .number))
+    (c .before .before .if1 .left)
     (not-free (a .number) f (a .n) (a .free) (a .start) (a .k) (fails (call .ensures) (c .if2 .taken))))
 
 returns-3 : tie.Need-returns-3

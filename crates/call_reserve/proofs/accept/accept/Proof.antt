@@ -28,7 +28,8 @@ take-requires c κs =
     let place = c .before .before .before .before .at .given in
     let call = c .before .before .before .before .before .before .accept-ruling in
     let a = c .before .before .before .before .before .before .before .before .before .before .before .before .before .args in
-    let q = lentWithin (a .held) (now (a .limits)) (a .guided) (now (a .summary)) (a .n) (a .free) (now (a .map)) (now (a .card))
+    let q = lentWithin (a .held) (now (a .limits)) (a .guided) (now (a .summary)) (a .n) (a .free) (now (a .map))
+    (now (a .card))
     (a .c) (a .entry) (a .sheet) in
     let ruled = accepts (a .start) (call .result) (acceptVerdictOn q (a .start) (a .k)) (place .0 .0) (call .ensures)
     (place .1) in
@@ -56,7 +57,8 @@ returns c =
     let place = c .before .before .row .given in
     let call = c .before .before .before .before .accept-ruling in
     let a = c .before .before .before .before .before .before .before .before .before .before .before .args in
-    let q = lentWithin (a .held) (now (a .limits)) (a .guided) (now (a .summary)) (a .n) (a .free) (now (a .map)) (now (a .card))
+    let q = lentWithin (a .held) (now (a .limits)) (a .guided) (now (a .summary)) (a .n) (a .free) (now (a .map))
+    (now (a .card))
     (a .c) (a .entry) (a .sheet) in
     taken q (a .start) (a .k) _ _ _ _
     (unchanged q (acceptVerdictOn q (a .start) (a .k)) (a .start) (a .k) (place .0 .0) (c .refusal .result)
@@ -75,9 +77,12 @@ same-length-6 c = search needs
 returns-2 : tie.Need-returns-2
 returns-2 c =
     let place = c .before .before .before .before .before .before .before .before .before .before .before .at .given in
-    let call = c .before .before .before .before .before .before .before .before .before .before .before .before .before .accept-ruling in
-    let a = c .before .before .before .before .before .before .before .before .before .before .before .before .before .before .before .before .before .before .before .before .args in
-    let q = lentWithin (a .held) (now (a .limits)) (a .guided) (now (a .summary)) (a .n) (a .free) (now (a .map)) (now (a .card))
+    let call = c .before .before .before .before .before .before .before .before .before .before .before .before .before
+    .accept-ruling in
+    let a = c .before .before .before .before .before .before .before .before .before .before .before .before .before .before
+    .before .before .before .before .before .before .args in
+    let q = lentWithin (a .held) (now (a .limits)) (a .guided) (now (a .summary)) (a .n) (a .free) (now (a .map))
+    (now (a .card))
     (a .c) (a .entry) (a .sheet) in
     let ruled = accepts (a .start) (call .result) (acceptVerdictOn q (a .start) (a .k)) (place .0 .0) (call .ensures)
     (place .1) in

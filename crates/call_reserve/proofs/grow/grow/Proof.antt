@@ -28,7 +28,8 @@ occupy-requires c κs =
     let place = c .before .before .before .before .end .given in
     let call = c .before .before .before .before .before .before .grow-ruling in
     let a = c .before .before .before .before .before .before .before .before .before .before .before .before .before .args in
-    let q = lentWithin (a .held) (now (a .limits)) (a .guided) (now (a .summary)) (a .n) (a .free) (now (a .map)) (now (a .card))
+    let q = lentWithin (a .held) (now (a .limits)) (a .guided) (now (a .summary)) (a .n) (a .free) (now (a .map))
+    (now (a .card))
     (a .c) (a .entry) (a .sheet) in
     let ruled = accepts (end q (a .m)) (call .result) (growVerdictOn q (a .m)) (place .0 .0) (call .ensures) (place .1) in
     let room = grow-room q (a .m) (ruled .0) in (
@@ -43,9 +44,12 @@ occupy-requires c κs =
 sub-t30 : tie.Need-sub-t30
 sub-t30 c =
     let place = c .before .before .before .before .before .before .before .before .before .before .before .end .given in
-    let call = c .before .before .before .before .before .before .before .before .before .before .before .before .before .grow-ruling in
-    let a = c .before .before .before .before .before .before .before .before .before .before .before .before .before .before .before .before .before .before .before .before .args in
-    let q = lentWithin (a .held) (now (a .limits)) (a .guided) (now (a .summary)) (a .n) (a .free) (now (a .map)) (now (a .card))
+    let call = c .before .before .before .before .before .before .before .before .before .before .before .before .before
+    .grow-ruling in
+    let a = c .before .before .before .before .before .before .before .before .before .before .before .before .before .before
+    .before .before .before .before .before .before .args in
+    let q = lentWithin (a .held) (now (a .limits)) (a .guided) (now (a .summary)) (a .n) (a .free) (now (a .map))
+    (now (a .card))
     (a .c) (a .entry) (a .sheet) in
     let ruled = accepts (end q (a .m)) (call .result) (growVerdictOn q (a .m)) (place .0 .0) (call .ensures) (place .1) in
     omega (arith, grow-room q (a .m) (ruled .0) .enough)
@@ -53,9 +57,12 @@ sub-t30 c =
 add-t31 : tie.Need-add-t31
 add-t31 c =
     let place = c .before .before .before .before .before .before .before .before .before .before .before .before .end .given in
-    let call = c .before .before .before .before .before .before .before .before .before .before .before .before .before .before .grow-ruling in
-    let a = c .before .before .before .before .before .before .before .before .before .before .before .before .before .before .before .before .before .before .before .before .before .args in
-    let q = lentWithin (a .held) (now (a .limits)) (a .guided) (now (a .summary)) (a .n) (a .free) (now (a .map)) (now (a .card))
+    let call = c .before .before .before .before .before .before .before .before .before .before .before .before .before
+    .before .grow-ruling in
+    let a = c .before .before .before .before .before .before .before .before .before .before .before .before .before .before
+    .before .before .before .before .before .before .before .args in
+    let q = lentWithin (a .held) (now (a .limits)) (a .guided) (now (a .summary)) (a .n) (a .free) (now (a .map))
+    (now (a .card))
     (a .c) (a .entry) (a .sheet) in
     let ruled = accepts (end q (a .m)) (call .result) (growVerdictOn q (a .m)) (place .0 .0) (call .ensures) (place .1) in
     let room = grow-room q (a .m) (ruled .0) in
@@ -75,7 +82,8 @@ returns c =
     let place = c .before .before .row .given in
     let call = c .before .before .before .before .grow-ruling in
     let a = c .before .before .before .before .before .before .before .before .before .before .before .args in
-    let q = lentWithin (a .held) (now (a .limits)) (a .guided) (now (a .summary)) (a .n) (a .free) (now (a .map)) (now (a .card))
+    let q = lentWithin (a .held) (now (a .limits)) (a .guided) (now (a .summary)) (a .n) (a .free) (now (a .map))
+    (now (a .card))
     (a .c) (a .entry) (a .sheet) in
     unchanged q (a .m) (place .0 .0) (c .refusal .result)
     (refuses (end q (a .m)) (call .result) (growVerdictOn q (a .m)) (place .0 .0) (call .ensures) (place .1))
@@ -93,9 +101,12 @@ same-length-6 c = search needs
 returns-2 : tie.Need-returns-2
 returns-2 c =
     let place = c .before .before .before .before .before .before .before .before .before .before .before .before .end .given in
-    let call = c .before .before .before .before .before .before .before .before .before .before .before .before .before .before .grow-ruling in
-    let a = c .before .before .before .before .before .before .before .before .before .before .before .before .before .before .before .before .before .before .before .before .before .args in
-    let q = lentWithin (a .held) (now (a .limits)) (a .guided) (now (a .summary)) (a .n) (a .free) (now (a .map)) (now (a .card))
+    let call = c .before .before .before .before .before .before .before .before .before .before .before .before .before
+    .before .grow-ruling in
+    let a = c .before .before .before .before .before .before .before .before .before .before .before .before .before .before
+    .before .before .before .before .before .before .before .args in
+    let q = lentWithin (a .held) (now (a .limits)) (a .guided) (now (a .summary)) (a .n) (a .free) (now (a .map))
+    (now (a .card))
     (a .c) (a .entry) (a .sheet) in
     let ruled = accepts (end q (a .m)) (call .result) (growVerdictOn q (a .m)) (place .0 .0) (call .ensures) (place .1) in
     let done = c .before .before .before .before .before .before .before .occupy .ensures in

@@ -30,7 +30,8 @@ take-requires c κs =
     let place = c .before .before .before .before .start .given in
     let call = c .before .before .before .before .before .before .reserve-ruling in
     let a = c .before .before .before .before .before .before .before .before .before .before .before .before .before .args in
-    let q = lentWithin (a .held) (now (a .limits)) (a .guided) (now (a .summary)) (a .n) (a .free) (now (a .map)) (now (a .card))
+    let q = lentWithin (a .held) (now (a .limits)) (a .guided) (now (a .summary)) (a .n) (a .free) (now (a .map))
+    (now (a .card))
     (a .c) (a .entry) (a .sheet) in
     let p = placed (a .figures) in
     let ruled = accepts (reserveStartOn q (a .k) p) (call .result) (reserveVerdictOn q (a .k) p) (place .0 .0) (call .ensures)
@@ -59,7 +60,8 @@ returns c =
     let place = c .before .before .row .given in
     let call = c .before .before .before .before .reserve-ruling in
     let a = c .before .before .before .before .before .before .before .before .before .before .before .args in
-    let q = lentWithin (a .held) (now (a .limits)) (a .guided) (now (a .summary)) (a .n) (a .free) (now (a .map)) (now (a .card))
+    let q = lentWithin (a .held) (now (a .limits)) (a .guided) (now (a .summary)) (a .n) (a .free) (now (a .map))
+    (now (a .card))
     (a .c) (a .entry) (a .sheet) in
     let p = placed (a .figures) in
     taken q (a .k) p _ _ _ _
@@ -79,9 +81,12 @@ same-length-6 c = search needs
 returns-2 : tie.Need-returns-2
 returns-2 c =
     let place = c .before .before .before .before .before .before .before .before .before .before .before .start .given in
-    let call = c .before .before .before .before .before .before .before .before .before .before .before .before .before .reserve-ruling in
-    let a = c .before .before .before .before .before .before .before .before .before .before .before .before .before .before .before .before .before .before .before .before .args in
-    let q = lentWithin (a .held) (now (a .limits)) (a .guided) (now (a .summary)) (a .n) (a .free) (now (a .map)) (now (a .card))
+    let call = c .before .before .before .before .before .before .before .before .before .before .before .before .before
+    .reserve-ruling in
+    let a = c .before .before .before .before .before .before .before .before .before .before .before .before .before .before
+    .before .before .before .before .before .before .args in
+    let q = lentWithin (a .held) (now (a .limits)) (a .guided) (now (a .summary)) (a .n) (a .free) (now (a .map))
+    (now (a .card))
     (a .c) (a .entry) (a .sheet) in
     let p = placed (a .figures) in
     let ruled = accepts (reserveStartOn q (a .k) p) (call .result) (reserveVerdictOn q (a .k) p) (place .0 .0) (call .ensures)

@@ -1,5 +1,5 @@
 -- Written by tools/walks: `card::Shape::grow` meets its contract, by the walk of `MapCatalogueCardFromLimits2.antt` of the
--- crate walk_card_methods, with the calls of `catalogue::find`, `catalogue_wings::held_by`, `card::cores::grow_core`,
+-- crate walk_card_methods, with the calls of `catalogue::find`, `catalogue_wings::held_by`, `card::reserves::grow_core`,
 -- `card::cores::entry_of`, `catalogue::store`, `card::cores::outcome_of`.
 -- Assumes nothing.
 use contract.Running.{givenOf, tables, tablesOf}
@@ -27,8 +27,8 @@ use Rattle.catalogue.proofs.find.Symbol as find-def
 use Rattle.catalogue.proofs.find.Met as find-met
 use Rattle.catalogue_wings.proofs.held_by.Symbol as held-by-def
 use Rattle.catalogue_wings.proofs.held_by.Met as held-by-met
-use Rattle.card.proofs.cores.grow_core.Symbol as core-def
-use Rattle.card.proofs.cores.grow_core.Met as core-met
+use Rattle.card.proofs.reserves.grow_core.Symbol as core-def
+use Rattle.card.proofs.reserves.grow_core.Met as core-met
 use Rattle.card.proofs.cores.entry_of.Symbol as entry-of-def
 use Rattle.card.proofs.cores.entry_of.Met as entry-of-met
 use Rattle.catalogue.proofs.store.Symbol as store-def
@@ -65,7 +65,7 @@ grow-spec 𝓤 H 𝓜 𝓖 𝓡 =
     (cited 𝓤 H (held-by-contract Slot Out Shape Outcome heldBy 𝓤 H (𝓖 .A)) 𝓜 𝓡 code.env held-by-def.name held-by-def.routine
     code.calls-catalogue-wings·held-by (held-by-met.met 𝓤 H 𝓜 𝓖 𝓡))
     (cited 𝓤 H (core-contract Slot Out Shape Outcome (withLimits growOut) (withLimits growMap) (withLimits growCard) 𝓤 H (𝓖 .A))
-    𝓜 𝓡 code.env core-def.name core-def.routine code.calls-card·cores·grow-core (core-met.met 𝓤 H 𝓜 𝓖 𝓡))
+    𝓜 𝓡 code.env core-def.name core-def.routine code.calls-card·reserves·grow-core (core-met.met 𝓤 H 𝓜 𝓖 𝓡))
     (cited 𝓤 H (entry-of-contract Slot Out Shape Outcome entryLeft 𝓤 H (𝓖 .A)) 𝓜 𝓡 code.env entry-of-def.name
     entry-of-def.routine code.calls-card·cores·entry-of (entry-of-met.met 𝓤 H 𝓜 𝓖 𝓡))
     (cited 𝓤 H (store-contract Slot Out Shape Outcome set 𝓤 H (𝓖 .A)) 𝓜 𝓡 code.env store-def.name store-def.routine

@@ -1,5 +1,5 @@
 -- Written by tools/walks: `card::Shape::offer` meets its contract, by the walk of `FromMapCatalogueCardLimits2.antt` of the
--- crate walk_card_methods, with the calls of `catalogue::find`, `catalogue_wings::held_by`, `card::cores::offer_core`.
+-- crate walk_card_methods, with the calls of `catalogue::find`, `catalogue_wings::held_by`, `card::reserves::offer_core`.
 -- Assumes nothing.
 use contract.Running.{givenOf, tables, tablesOf}
 use denote.Triple.Spec.{tripleOf}
@@ -19,8 +19,8 @@ use Rattle.catalogue.proofs.find.Symbol as find-def
 use Rattle.catalogue.proofs.find.Met as find-met
 use Rattle.catalogue_wings.proofs.held_by.Symbol as held-by-def
 use Rattle.catalogue_wings.proofs.held_by.Met as held-by-met
-use Rattle.card.proofs.cores.offer_core.Symbol as core-def
-use Rattle.card.proofs.cores.offer_core.Met as core-met
+use Rattle.card.proofs.reserves.offer_core.Symbol as core-def
+use Rattle.card.proofs.reserves.offer_core.Met as core-met
 use Rattle.card.proofs.Shape.offer.Key.{name as #offer}
 use Rattle.card.proofs.Shape.offer as offer
 use Rattle.card.proofs.Shape.offer.Statement as stated
@@ -47,4 +47,4 @@ offer-spec 𝓤 H 𝓜 𝓖 𝓡 =
     (cited 𝓤 H (held-by-contract Slot Shape Outcome heldBy 𝓤 H (𝓖 .A)) 𝓜 𝓡 code.env held-by-def.name held-by-def.routine
     code.calls-catalogue-wings·held-by (held-by-met.met 𝓤 H 𝓜 𝓖 𝓡))
     (cited 𝓤 H (core-contract Slot Shape Outcome offerOutcomeAt 𝓤 H (𝓖 .A)) 𝓜 𝓡 code.env core-def.name core-def.routine
-    code.calls-card·cores·offer-core (core-met.met 𝓤 H 𝓜 𝓖 𝓡)))
+    code.calls-card·reserves·offer-core (core-met.met 𝓤 H 𝓜 𝓖 𝓡)))

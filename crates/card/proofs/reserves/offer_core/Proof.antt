@@ -1,10 +1,10 @@
--- `card::cores::offer_core` meets its contract: the answer of the crate refusals.
+-- `card::reserves::offer_core` meets its contract: the answer of the crate refusals.
 -- Assumes nothing.
 use mathlib.Core.Path.{ap}
 use borrow.Author.Needs.{needs}
 use Rattle.card.specs.Calls.{told}
-use Rattle.card.proofs.cores.offer_core.Statement.{statement}
-use Rattle.card.proofs.cores.offer_core.Tie as tie
+use Rattle.card.proofs.reserves.offer_core.Statement.{statement}
+use Rattle.card.proofs.reserves.offer_core.Tie as tie
 
 offer-requires : tie.Need-offer-requires
 offer-requires c κs = search needs

@@ -1,4 +1,4 @@
--- `card::cores::reserve_core` meets its contract: the plain reserve is the placed one with 0, n and 1.
+-- `card::reserves::reserve_core` meets its contract: the plain reserve is the placed one with 0, n and 1.
 -- Assumes nothing.
 use mathlib.Core.Path.{_∙_}
 use borrow.Author.Needs.{needs}
@@ -6,8 +6,8 @@ use denote.Ref.{now}
 use Rattle.refusals.proofs.Reserve.{plain-out, plain-map, plain-card}
 use Rattle.refusals.specs.Lent.{within}
 use Rattle.card.specs.Cores.{lentAt}
-use Rattle.card.proofs.cores.reserve_core.Statement.{statement}
-use Rattle.card.proofs.cores.reserve_core.Tie as tie
+use Rattle.card.proofs.reserves.reserve_core.Statement.{statement}
+use Rattle.card.proofs.reserves.reserve_core.Tie as tie
 
 reserve-placed-core-requires : tie.Need-reserve-placed-core-requires
 reserve-placed-core-requires c κs = search needs
