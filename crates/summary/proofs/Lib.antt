@@ -2,6 +2,7 @@
 mod Checking
 pub mod Numbers
 pub mod Own
+mod Levels
 mod Rebuilding
 pub mod Sites
 pub mod Updates

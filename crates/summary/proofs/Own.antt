@@ -4,15 +4,15 @@ use mathlib.Core.Path.{_≡_, sym, _∙_, subst}
 use mathlib.Core.Bool.{Bool, true, false}
 use mathlib.Core.List.{List}
 use Prim.Native.Nat.{ℕ, _+_, _*_, _<_}
+use native.Mathlib.Omega.{arith}
 use lib.ListN.{length}
 use Rattle.laws.proofs.Bools.{not-true}
 use Rattle.summary_groups.specs.Groups.{power}
 use Rattle.summary_groups.specs.Places.{Sited}
-use Rattle.summary_groups.proofs.Places.{power-power, power-small, below-zero, never-apart, sited-zero}
+use Rattle.summary_groups.proofs.Places.{power-power, power-small, below-zero, sited-zero}
 use Rattle.summary.specs.Summary.{groupIn, groupAt, usable, ownSummary, isOwn, Beside}
-use Rattle.summary.specs.Walks.{Target, RightBelow, Decides, Rebuilds}
+use Rattle.summary.specs.Walks.{RightFrom, RightBelow, Decides}
 use Rattle.summary.proofs.Numbers.{summary-at, summary-only, is-own, own-is}
-use Rattle.summary.proofs.Sites.{group-at, at-halves}
 
 pub own-right : (map : List ℕ) (n : ℕ) (s : List ℕ) → s ≡ ownSummary map n → (h : ℕ) → h + 1 < 2 * power (length map)
     → groupIn s h ≡ groupAt (usable map n) (power (length map)) h
@@ -32,22 +32,11 @@ module _ (map : List ℕ) (n : ℕ) (s : List ℕ) (lent : Beside map n s) where
   decided false d =
       sym (not-true (isOwn map n s) (λ e. d .1 mathlib.Core.Path.refl (λ h l b. own-right map n s (is-own map n s e) h l)))
 
--- groups that are right are those of their words, and built from their halves
-pub right-target : (f : ℕ → Bool) (p lo hi : ℕ) → Target f p lo hi (groupAt f p)
-right-target f p lo hi = record {
-  word = λ g first sited m. sym (group-at f p g first 1 sited);
-  halves = λ g first size sited ne m. at-halves f p g first size sited ne;
-}
-
--- every group was built anew
-pub built : (map : List ℕ) (n : ℕ) (s s′ : List ℕ) → Beside map n s → length s′ ≡ length s
-    → Rebuilds (usable map n) (power (length map)) 0 (power (length map)) 0 s s′ → s′ ≡ ownSummary map n
-built map n s s′ lent e r =
-    right-own map n s′ (record { few = lent .few; fits = lent .fits; long = e ∙ lent .long })
-    (r .done (groupAt (usable map n) (power (length map))) (right-target (usable map n) (power (length map)) 0
-    (power (length map)))
-    (λ h l a. absurd (never-apart (power (length map)) h (power-power (length map)) (power-small (length map) (lent .few)) l
-    a)))
+-- every group from 0 on is right
+pub all-own : (map : List ℕ) (n : ℕ) (s s′ : List ℕ) → Beside map n s → length s′ ≡ length s
+    → RightFrom (usable map n) (power (length map)) s′ 0 → s′ ≡ ownSummary map n
+all-own map n s s′ lent e r =
+    right-own map n s′ (record { few = lent .few; fits = lent .fits; long = e ∙ lent .long }) (λ h l b. r h (omega arith) l)
 
 -- group 0 is all words
 pub sited-whole : (map : List ℕ) (n : ℕ) (s : List ℕ) (p : ℕ) → Beside map n s → p ≡ power (length map)

@@ -1,7 +1,7 @@
 -- What the functions do that go through the groups of a summary. Names for their contracts; those of build, check and update
 -- need none of them.
 -- Assumes nothing.
-use Prim.Native.Nat.{ℕ, _+_, _*_, _/_, _<_}
+use Prim.Native.Nat.{ℕ, _+_, _-_, _*_, _/_, _≤_, _<_}
 use mathlib.Core.Path.{_≡_}
 use mathlib.Core.Bool.{Bool, true, false}
 use mathlib.Core.List.{List}
@@ -18,6 +18,15 @@ withGroup s g x = set (set (set s (3 * g) (x .head)) (3 * g + 1) (x .tail)) (3 *
 -- Group g as its two halves in a summary tell, of half words each.
 unfoldable pub halvesOf : List ℕ → ℕ → ℕ → Group
 halvesOf s g half = joinedOf (groupIn s (2 * g + 1)) (groupIn s (2 * g + 2)) (64 * half)
+
+-- The groups of size words are count many: groups count - 1 to 2 count - 2, one behind the other.
+pub record Level (p count size : ℕ) : Type 0 where
+  pub some : 0 < count
+  pub sited : (i : ℕ) → i < count → Sited p (count - 1 + i) (i * size) size
+
+-- Every group of a summary from g on is right.
+abbrev pub RightFrom : (ℕ → Bool) → ℕ → List ℕ → ℕ → Type 0
+RightFrom f p s g = (h : ℕ) → g ≤ h → h + 1 < 2 * p → groupIn s h ≡ groupAt f p h
 
 -- Groups that a walk over the words lo to hi - 1 aims at: each that has one of them is that of its word, f saying which blocks
 -- are free, or built from its two halves.

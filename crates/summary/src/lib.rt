@@ -1,13 +1,15 @@
 // The summary beside a map (document 02, request (j)): for each group of words the free run at its head, at its tail and its
 // longest, three numbers to a group. Built, checked, and brought up to date where the map has changed.
 ghost use mathlib.Core.Path.{_≡_};
-ghost use Prim.Native.Nat.{ℕ, _+_, _*_, _<_, _≤_};
+ghost use mathlib.Core.Bool.{Bool};
+ghost use Prim.Native.Nat.{ℕ, _+_, _-_, _*_, _<_, _≤_};
 ghost use lib.ListN.{length};
+ghost use Rattle.map_blocks.specs.Words.{bit};
 ghost use Rattle.summary_groups.specs.Groups.{power, groupOf};
 ghost use Rattle.summary_groups.specs.Places.{Sited};
 ghost use Rattle.summary.specs.Summary.{usable, groupIn, ownSummary, isOwn, summaryLength, Beside};
 ghost use Rattle.summary.specs.Updates.{updatedSummary};
-ghost use Rattle.summary.specs.Walks.{withGroup, halvesOf, Rebuilds, RightBelow, Decides};
+ghost use Rattle.summary.specs.Walks.{withGroup, halvesOf, Level, RightFrom, Rebuilds, RightBelow, Decides};
 use map_blocks::word::part;
 use summary_groups::Group;
 use summary_groups::joined;
@@ -64,20 +66,37 @@ fn store(summary: &mut [u32], g: usize, group: Group)
     summary[i + 2] = group.longest;
 }
 
-// What word i of a map tells: blocks from n on are never free, and where words are missing none is.
-fn group_of_word(map: &[u64], n: u32, i: usize) -> Group
+// The free blocks of word i of a map: those from n on are never free, and where words are missing none is.
+fn free_word(map: &[u64], n: u32, i: usize) -> u64
     requires { ⌜ (i ≤ 4096) × (n ≤ 64 * length (now map)) ⌝ }
-    ensures { λ r. ⌜ r ≡ groupOf (usable (now (map .entry)) n) (64 * i) 64 ⌝ }
+    ensures { λ r. ⌜ groupOf (bit r) 0 64 ≡ groupOf (usable (now (map .entry)) n) (64 * i) 64 ⌝ }
 {
     let base = (i as u32) * 64;
     if n <= base {
-        return Group {
-            head: 0,
-            tail: 0,
-            longest: 0,
-        };
+        return 0;
     }
-    word_group(map[i] & part(0, n, base))
+    map[i] & part(0, n, base)
+}
+
+// Stores group g of a summary as its word tells, of which w are the free blocks. The words of a full card have none, and need
+// no call.
+fn store_word(summary: &mut [u32], g: usize, w: u64)
+    requires { ⌜ (g ≤ 16384) × (3 * g + 2 < length (now summary)) ⌝ }
+    ensures { λ r. ⌜ now (summary .exit) ≡ withGroup (now (summary .entry)) g (groupOf (bit w) 0 64) ⌝ }
+{
+    if w == 0 {
+        store(
+            summary,
+            g,
+            Group {
+                head: 0,
+                tail: 0,
+                longest: 0,
+            },
+        );
+        return;
+    }
+    store(summary, g, word_group(w));
 }
 
 // Stores group g as its two halves tell, of half words each.
@@ -115,7 +134,7 @@ fn rebuild(
         return;
     }
     if size == 1 {
-        store(summary, g, group_of_word(map, n, first));
+        store_word(summary, g, free_word(map, n, first));
         return;
     }
     let half = size / 2;
@@ -124,13 +143,55 @@ fn rebuild(
     store_joined(summary, g, half);
 }
 
+// Stores the groups of one word, of which there are count: each as its word tells.
+fn store_words(map: &[u64], n: u32, summary: &mut [u32], count: usize)
+    requires { ⌜ Beside (now map) n (now summary) × Level (power (length (now map))) count 1 ⌝ }
+    ensures { λ r.
+        ⌜ RightFrom (usable (now (map .entry)) n) (power (length (now (map .entry)))) (now (summary .exit)) (count - 1) ⌝ }
+{
+    let mut i = count;
+    while 0 < i {
+        i = i - 1;
+        store_word(summary, count - 1 + i, free_word(map, n, i));
+    }
+}
+
+// Stores the groups of two times half words, of which there are count: each as its two halves tell.
+fn store_level(summary: &mut [u32], count: usize, half: usize)
+    requires { ⌜ (0 < count) × (count ≤ 2048) × (half ≤ 4096) × (12 * count < length (now summary) + 4) ⌝ }
+    ensures { λ r.
+        ⌜ ((f : ℕ → Bool) (p : ℕ) → Level p count (2 * half) → RightFrom f p (now (summary .entry)) (2 * count - 1)
+        → RightFrom f p (now (summary .exit)) (count - 1)) ⌝ }
+{
+    let mut i = count;
+    while 0 < i {
+        i = i - 1;
+        store_joined(summary, count - 1 + i, half);
+    }
+}
+
+// Builds the groups of size words, of which there are count, and the groups below them: each from its two halves, down to one
+// word. A loop stores all groups of a size: on a full card a call for each group took three times as long.
+fn build_level(map: &[u64], n: u32, summary: &mut [u32], count: usize, size: usize)
+    requires { ⌜ Beside (now map) n (now summary) × Level (power (length (now map))) count size ⌝ }
+    ensures { λ r.
+        ⌜ RightFrom (usable (now (map .entry)) n) (power (length (now (map .entry)))) (now (summary .exit)) (count - 1) ⌝ }
+{
+    if size == 1 {
+        store_words(map, n, summary, count);
+        return;
+    }
+    let half = size / 2;
+    build_level(map, n, summary, 2 * count, half);
+    store_level(summary, count, half);
+}
+
 // The summary of a map of n blocks, built anew.
 pub fn build(map: &[u64], n: u32, summary: &mut [u32])
     requires { ⌜ Beside (now map) n (now summary) ⌝ }
     ensures { λ r. ⌜ now (summary .exit) ≡ ownSummary (now (map .entry)) n ⌝ }
 {
-    let p = words_of(summary);
-    rebuild(map, n, summary, 0, 0, p, 0, p);
+    build_level(map, n, summary, 1, words_of(summary));
 }
 
 // The summary after the blocks start to start + count - 1 of the map have changed: only the groups above the words that hold
@@ -176,7 +237,7 @@ fn word_agrees(map: &[u64], n: u32, summary: &[u32], g: usize, i: usize) -> bool
     ensures { λ r.
         ⌜ Decides r (groupIn (now (summary .entry)) g ≡ groupOf (usable (now (map .entry)) n) (64 * i) 64) ⌝ }
 {
-    agree(read(summary, g), group_of_word(map, n, i))
+    agree(read(summary, g), word_group(free_word(map, n, i)))
 }
 
 // Whether group g is as its two halves tell, of half words each.

@@ -17,8 +17,8 @@ use borrow.Fn.PlainCycle.{Measures, is, falls, and}
 use Rattle.summary.proofs.rebuild.Reads as rebuild
 use Rattle.summary.proofs.rebuild.Kinds as rebuild-kinds
 use Rattle.summary.proofs.+rebuild.Lts-rebuild as rebuild-lts
-use Rattle.summary.proofs.group_of_word.Reads as group-of-word-reads
-use Rattle.summary.proofs.store.Reads as store-reads
+use Rattle.summary.proofs.free_word.Reads as free-word-reads
+use Rattle.summary.proofs.store_word.Reads as store-word-reads
 use Rattle.summary.proofs.store_joined.Reads as store-joined-reads
 use Rattle.summary.proofs.+rebuild.{statement}
 use Rattle.summary.proofs.+rebuild.Tie.{close}
@@ -33,10 +33,10 @@ abbrev rebuild-below : ℕ → In 2 rebuild-kinds.ps
 rebuild-below t = and 2 rebuild-kinds.ps (falls 2 rebuild-kinds.ps _<_ μ-rebuild t) rebuild.Pre
 
 rebuild-returns : (t : ℕ) → rebuild-lts.Need-returns (
-  group-of-word-reads.Asked,
-  group-of-word-reads.Learnt,
-  store-reads.Asked,
-  store-reads.Learnt,
+  free-word-reads.Asked,
+  free-word-reads.Learnt,
+  store-word-reads.Asked,
+  store-word-reads.Learnt,
   rebuild-below t,
   rebuild.Post,
   store-joined-reads.Asked,
@@ -48,10 +48,10 @@ rebuild-returns t c =
     passed-over _ _ _ _ _ _ (apart _ _ _ _ _ _ (start .pre .1 .1) (inl behind))
 
 rebuild-add-if2 : (t : ℕ) → rebuild-lts.Need-add-if2 (
-  group-of-word-reads.Asked,
-  group-of-word-reads.Learnt,
-  store-reads.Asked,
-  store-reads.Learnt,
+  free-word-reads.Asked,
+  free-word-reads.Learnt,
+  store-word-reads.Asked,
+  store-word-reads.Learnt,
   rebuild-below t,
   rebuild.Post,
   store-joined-reads.Asked,
@@ -60,10 +60,10 @@ rebuild-add-if2 : (t : ℕ) → rebuild-lts.Need-add-if2 (
 rebuild-add-if2 t c = omega arith
 
 rebuild-returns-2 : (t : ℕ) → rebuild-lts.Need-returns-2 (
-  group-of-word-reads.Asked,
-  group-of-word-reads.Learnt,
-  store-reads.Asked,
-  store-reads.Learnt,
+  free-word-reads.Asked,
+  free-word-reads.Learnt,
+  store-word-reads.Asked,
+  store-word-reads.Learnt,
   rebuild-below t,
   rebuild.Post,
   store-joined-reads.Asked,
@@ -74,39 +74,39 @@ rebuild-returns-2 t c =
     let ahead : start .args .first + start .args .size ≤ start .args .lo = omega (arith, c .if2 .taken) in
     passed-over _ _ _ _ _ _ (apart _ _ _ _ _ _ (start .pre .1 .1) (inr ahead))
 
-rebuild-group-of-word-requires : (t : ℕ) → rebuild-lts.Need-group-of-word-requires (
-  group-of-word-reads.Asked,
-  group-of-word-reads.Learnt,
-  store-reads.Asked,
-  store-reads.Learnt,
+rebuild-free-word-requires : (t : ℕ) → rebuild-lts.Need-free-word-requires (
+  free-word-reads.Asked,
+  free-word-reads.Learnt,
+  store-word-reads.Asked,
+  store-word-reads.Learnt,
   rebuild-below t,
   rebuild.Post,
   store-joined-reads.Asked,
   store-joined-reads.Learnt,
 ) (rebuild-at t) rebuild.Post
-rebuild-group-of-word-requires t c κs = (omega arith, omega arith)
+rebuild-free-word-requires t c κs = (omega arith, omega arith)
 
-rebuild-store-requires : (t : ℕ) → rebuild-lts.Need-store-requires (
-  group-of-word-reads.Asked,
-  group-of-word-reads.Learnt,
-  store-reads.Asked,
-  store-reads.Learnt,
+rebuild-store-word-requires : (t : ℕ) → rebuild-lts.Need-store-word-requires (
+  free-word-reads.Asked,
+  free-word-reads.Learnt,
+  store-word-reads.Asked,
+  store-word-reads.Learnt,
   rebuild-below t,
   rebuild.Post,
   store-joined-reads.Asked,
   store-joined-reads.Learnt,
 ) (rebuild-at t) rebuild.Post
-rebuild-store-requires t c κs =
+rebuild-store-word-requires t c κs =
     let start = c .before .before .before .before .before .before .before in
     let a = start .args in
     let i : a .g + 1 < 2 * power (length (now (a .map))) = sited-index _ _ _ _ (start .pre .1 .1) in
     (omega arith, omega arith)
 
 rebuild-same-length : (t : ℕ) → rebuild-lts.Need-same-length (
-  group-of-word-reads.Asked,
-  group-of-word-reads.Learnt,
-  store-reads.Asked,
-  store-reads.Learnt,
+  free-word-reads.Asked,
+  free-word-reads.Learnt,
+  store-word-reads.Asked,
+  store-word-reads.Learnt,
   rebuild-below t,
   rebuild.Post,
   store-joined-reads.Asked,
@@ -115,10 +115,10 @@ rebuild-same-length : (t : ℕ) → rebuild-lts.Need-same-length (
 rebuild-same-length t c = search needs
 
 rebuild-returns-3 : (t : ℕ) → rebuild-lts.Need-returns-3 (
-  group-of-word-reads.Asked,
-  group-of-word-reads.Learnt,
-  store-reads.Asked,
-  store-reads.Learnt,
+  free-word-reads.Asked,
+  free-word-reads.Learnt,
+  store-word-reads.Asked,
+  store-word-reads.Learnt,
   rebuild-below t,
   rebuild.Post,
   store-joined-reads.Asked,
@@ -136,14 +136,14 @@ rebuild-returns-3 t c =
     let s : Sited (power (length (now (a .map)))) (a .g) (a .first) 1 = subst (Sited _ _ _) (tests .if3 .taken)
     (start .pre .1 .1) in
     subst (Rebuilds _ _ _ _ _ _)
-    (sym (stored .store .ensures ∙ ap (withGroup (now (a .summary)) (a .g)) (word .group-of-word .ensures)))
+    (sym (stored .store-word .ensures ∙ ap (withGroup (now (a .summary)) (a .g)) (word .free-word .ensures)))
     (at-word _ _ _ _ _ _ _ s (meets _ _ _ _ _ _ (start .pre .1 .1) u v) (omega arith))
 
 rebuild-mul-rebuild : (t : ℕ) → rebuild-lts.Need-mul-rebuild (
-  group-of-word-reads.Asked,
-  group-of-word-reads.Learnt,
-  store-reads.Asked,
-  store-reads.Learnt,
+  free-word-reads.Asked,
+  free-word-reads.Learnt,
+  store-word-reads.Asked,
+  store-word-reads.Learnt,
   rebuild-below t,
   rebuild.Post,
   store-joined-reads.Asked,
@@ -156,10 +156,10 @@ rebuild-mul-rebuild t c =
     omega arith
 
 rebuild-add-rebuild : (t : ℕ) → rebuild-lts.Need-add-rebuild (
-  group-of-word-reads.Asked,
-  group-of-word-reads.Learnt,
-  store-reads.Asked,
-  store-reads.Learnt,
+  free-word-reads.Asked,
+  free-word-reads.Learnt,
+  store-word-reads.Asked,
+  store-word-reads.Learnt,
   rebuild-below t,
   rebuild.Post,
   store-joined-reads.Asked,
@@ -172,10 +172,10 @@ rebuild-add-rebuild t c =
     omega arith
 
 rebuild-rebuild-requires : (t : ℕ) → rebuild-lts.Need-rebuild-requires (
-  group-of-word-reads.Asked,
-  group-of-word-reads.Learnt,
-  store-reads.Asked,
-  store-reads.Learnt,
+  free-word-reads.Asked,
+  free-word-reads.Learnt,
+  store-word-reads.Asked,
+  store-word-reads.Learnt,
   rebuild-below t,
   rebuild.Post,
   store-joined-reads.Asked,
@@ -190,10 +190,10 @@ rebuild-rebuild-requires t c κs =
     )
 
 rebuild-mul-rebuild-2 : (t : ℕ) → rebuild-lts.Need-mul-rebuild-2 (
-  group-of-word-reads.Asked,
-  group-of-word-reads.Learnt,
-  store-reads.Asked,
-  store-reads.Learnt,
+  free-word-reads.Asked,
+  free-word-reads.Learnt,
+  store-word-reads.Asked,
+  store-word-reads.Learnt,
   rebuild-below t,
   rebuild.Post,
   store-joined-reads.Asked,
@@ -206,10 +206,10 @@ rebuild-mul-rebuild-2 t c =
     omega arith
 
 rebuild-add-rebuild-2 : (t : ℕ) → rebuild-lts.Need-add-rebuild-2 (
-  group-of-word-reads.Asked,
-  group-of-word-reads.Learnt,
-  store-reads.Asked,
-  store-reads.Learnt,
+  free-word-reads.Asked,
+  free-word-reads.Learnt,
+  store-word-reads.Asked,
+  store-word-reads.Learnt,
   rebuild-below t,
   rebuild.Post,
   store-joined-reads.Asked,
@@ -222,10 +222,10 @@ rebuild-add-rebuild-2 t c =
     omega arith
 
 rebuild-add-rebuild-3 : (t : ℕ) → rebuild-lts.Need-add-rebuild-3 (
-  group-of-word-reads.Asked,
-  group-of-word-reads.Learnt,
-  store-reads.Asked,
-  store-reads.Learnt,
+  free-word-reads.Asked,
+  free-word-reads.Learnt,
+  store-word-reads.Asked,
+  store-word-reads.Learnt,
   rebuild-below t,
   rebuild.Post,
   store-joined-reads.Asked,
@@ -234,10 +234,10 @@ rebuild-add-rebuild-3 : (t : ℕ) → rebuild-lts.Need-add-rebuild-3 (
 rebuild-add-rebuild-3 t c = omega arith
 
 rebuild-rebuild-requires-2 : (t : ℕ) → rebuild-lts.Need-rebuild-requires-2 (
-  group-of-word-reads.Asked,
-  group-of-word-reads.Learnt,
-  store-reads.Asked,
-  store-reads.Learnt,
+  free-word-reads.Asked,
+  free-word-reads.Learnt,
+  store-word-reads.Asked,
+  store-word-reads.Learnt,
   rebuild-below t,
   rebuild.Post,
   store-joined-reads.Asked,
@@ -256,10 +256,10 @@ rebuild-rebuild-requires-2 t c κs =
     )
 
 rebuild-store-joined-requires : (t : ℕ) → rebuild-lts.Need-store-joined-requires (
-  group-of-word-reads.Asked,
-  group-of-word-reads.Learnt,
-  store-reads.Asked,
-  store-reads.Learnt,
+  free-word-reads.Asked,
+  free-word-reads.Learnt,
+  store-word-reads.Asked,
+  store-word-reads.Learnt,
   rebuild-below t,
   rebuild.Post,
   store-joined-reads.Asked,
@@ -279,10 +279,10 @@ rebuild-store-joined-requires t c κs =
     (omega arith, omega arith, omega arith)
 
 rebuild-same-length-2 : (t : ℕ) → rebuild-lts.Need-same-length-2 (
-  group-of-word-reads.Asked,
-  group-of-word-reads.Learnt,
-  store-reads.Asked,
-  store-reads.Learnt,
+  free-word-reads.Asked,
+  free-word-reads.Learnt,
+  store-word-reads.Asked,
+  store-word-reads.Learnt,
   rebuild-below t,
   rebuild.Post,
   store-joined-reads.Asked,
@@ -291,10 +291,10 @@ rebuild-same-length-2 : (t : ℕ) → rebuild-lts.Need-same-length-2 (
 rebuild-same-length-2 t c = search needs
 
 rebuild-returns-4 : (t : ℕ) → rebuild-lts.Need-returns-4 (
-  group-of-word-reads.Asked,
-  group-of-word-reads.Learnt,
-  store-reads.Asked,
-  store-reads.Learnt,
+  free-word-reads.Asked,
+  free-word-reads.Learnt,
+  store-word-reads.Asked,
+  store-word-reads.Learnt,
   rebuild-below t,
   rebuild.Post,
   store-joined-reads.Asked,
@@ -319,10 +319,10 @@ rebuild-returns-4 t c =
 
 pub +rebuild-spec : {M : Type 1} → statement M
 +rebuild-spec = close μ-rebuild λ t. rebuild-lts.spec (
-  group-of-word-reads.Asked,
-  group-of-word-reads.Learnt,
-  store-reads.Asked,
-  store-reads.Learnt,
+  free-word-reads.Asked,
+  free-word-reads.Learnt,
+  store-word-reads.Asked,
+  store-word-reads.Learnt,
   rebuild-below t,
   rebuild.Post,
   store-joined-reads.Asked,
@@ -333,8 +333,8 @@ pub +rebuild-spec : {M : Type 1} → statement M
     (rebuild-returns t)
     (rebuild-add-if2 t)
     (rebuild-returns-2 t)
-    (rebuild-group-of-word-requires t)
-    (rebuild-store-requires t)
+    (rebuild-free-word-requires t)
+    (rebuild-store-word-requires t)
     (rebuild-same-length t)
     (rebuild-returns-3 t)
     (rebuild-mul-rebuild t)
