@@ -42,13 +42,20 @@ pub fn bytes(l: Line) -> [u8; 500]
     all
 }
 
+// The two days of a term, in the first 496 bytes.
+fn days(payload: &mut [u8], first: u32, last: u32)
+    requires { ⌜ 496 ≤ ListN.length (now payload) ⌝ }
+{
+    write_term(&mut payload[0..496], first, last);
+}
+
 // A payload that begins with the two days of the line, and goes on as one whose first byte is 0.
 pub fn term(l: Line) -> [u8; 500]
     ensures { λ r. ⌜ 500 ≡ ListN.length r ⌝ }
 {
     let mut all = buffer();
     fill(&mut all, 0);
-    write_term(&mut all[0..496], l.c, l.d);
+    days(&mut all, l.c, l.d);
     all
 }
 

@@ -12,7 +12,7 @@ use Rattle.catalogue_wings.specs.Wings.{wingOf, inWing}
 use Rattle.catalogue_standings.specs.Rows.{Verdict, accepted, refused, settle}
 use Rattle.refusals.specs.Shares.{limitOf, overLimit}
 use Rattle.refusals.specs.Table.{Call, on, reserve, put, grow, complete, pause, resume, release, show, standing, offer, accept}
-use Rattle.refusals.specs.Table.{rowsFor, tableOf}
+use Rattle.refusals.specs.Table.{showDated, rowsFor, tableOf}
 use Rattle.refusals.proofs.Rows.{clear}
 use Rattle.card.specs.Calls.{Kept}
 use Rattle.ledger.specs.Ledger.{Place, Blank, Sheet, Absent, Paused, PausedWith, Open, Complete, lengthIn, sheetAt, held}
@@ -123,6 +123,7 @@ bounded n limits l w (on i resume) same h =
     stays n limits l w i (resumeIn (sheetAt l i)) (omega (arith, resume-length (sheetAt l i)))
 bounded n limits l w (on i release) same h = stays n limits l w i Absent (omega arith)
 bounded n limits l w (on i (show p buffer)) same h = w
+bounded n limits l w (on i (showDated p date buffer)) same h = w
 bounded n limits l w (on i standing) same h = w
 
 -- any call, accepted or refused

@@ -17,7 +17,7 @@ use Rattle.catalogue_standings.proofs.Rows.{first-then}
 use Rattle.refusals.specs.Placement.{Placement, plain}
 use Rattle.refusals.specs.Shares.{limitOf, overLimit, withoutLimits}
 use Rattle.refusals.specs.Table.{Call, on, reserve, put, grow, complete, pause, resume, release, show, standing, offer, accept}
-use Rattle.refusals.specs.Table.{tableOf}
+use Rattle.refusals.specs.Table.{showDated, tableOf}
 use Rattle.refusals.proofs.Rows.{clear, not-refused, same-number}
 use Rattle.refusals.proofs.Shares.{none-passed}
 use Rattle.ledger.specs.Ledger.{Sheet, heldIn, spareIn, listed, rowsIn, verdictIn, after, begun}
@@ -47,6 +47,7 @@ under-limit n l (on i pause) h = none-passed (rowsIn n l (on i pause)) tt
 under-limit n l (on i resume) h = none-passed (rowsIn n l (on i resume)) tt
 under-limit n l (on i release) h = none-passed (rowsIn n l (on i release)) tt
 under-limit n l (on i (show p buffer)) h = none-passed (rowsIn n l (on i (show p buffer))) tt
+under-limit n l (on i (showDated p date buffer)) h = none-passed (rowsIn n l (on i (showDated p date buffer))) tt
 under-limit n l (on i standing) h = none-passed (rowsIn n l (on i standing)) tt
 
 -- ---- two verdicts, with row 18 and without
@@ -160,6 +161,8 @@ wide-call n l card k limits wide (on i resume) same = as-before n l _ (alike _ _
 wide-call n l card k limits wide (on i release) same = as-before n l _ (alike _ _ (under-limit n l (on i release) tt))
 wide-call n l card k limits wide (on i (show p buffer)) same =
     as-before n l _ (alike _ _ (under-limit n l (on i (show p buffer)) tt))
+wide-call n l card k limits wide (on i (showDated p date buffer)) same =
+    as-before n l _ (alike _ _ (under-limit n l (on i (showDated p date buffer)) tt))
 wide-call n l card k limits wide (on i standing) same = as-before n l _ (alike _ _ (under-limit n l (on i standing) tt))
 
 -- after any list from a fresh card, with n and c within their bounds

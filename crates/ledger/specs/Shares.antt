@@ -12,6 +12,7 @@ use Rattle.catalogue_wings.specs.Wings.{wingOf, heldBy}
 use Rattle.catalogue_standings.specs.Rows.{Verdict, accepted, refused, firstOf}
 use Rattle.refusals.specs.Shares.{limitOf, overLimit, withoutLimits}
 use Rattle.refusals.specs.Table.{Call, on, reserve, put, grow, complete, pause, resume, release, show, standing, offer, accept}
+use Rattle.refusals.specs.Table.{showDated}
 use Rattle.card.specs.Calls.{Kept}
 use Rattle.ledger.specs.Ledger.{Sheet, heldIn, rowsIn, verdictIn}
 use Rattle.ledger.specs.Steps.{endOf, stateOn}
@@ -30,6 +31,7 @@ GoesWith limits (on sheet pause) = Unit {0}
 GoesWith limits (on sheet resume) = Unit {0}
 GoesWith limits (on sheet release) = Unit {0}
 GoesWith limits (on sheet (show p buffer)) = Unit {0}
+GoesWith limits (on sheet (showDated p date buffer)) = Unit {0}
 GoesWith limits (on sheet standing) = Unit {0}
 
 abbrev pub Unchanging : List ℕ → List Call → Type 0
@@ -63,6 +65,7 @@ Under ledger (on sheet pause) = Unit {0}
 Under ledger (on sheet resume) = Unit {0}
 Under ledger (on sheet release) = Unit {0}
 Under ledger (on sheet (show p buffer)) = Unit {0}
+Under ledger (on sheet (showDated p date buffer)) = Unit {0}
 Under ledger (on sheet standing) = Unit {0}
 
 -- Each of the eight limits is n or more.
