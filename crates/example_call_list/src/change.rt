@@ -1,4 +1,4 @@
-// What no call does: shapes, lengths, entries, words, bytes and numbers of the summary set from outside.
+// What no call does: shapes, lengths, entries, words, bytes, numbers of the summary and limits set from outside.
 use crate::line;
 use crate::line::Line;
 use crate::state;
@@ -7,6 +7,7 @@ use crate::state::Setup;
 fn lend(s: Setup, l: Line) -> Setup {
     let begun = s.begun;
     let entries = s.entries;
+    let limits = s.limits;
     Setup {
         begun: begun,
         line: l,
@@ -17,10 +18,31 @@ fn lend(s: Setup, l: Line) -> Setup {
         sheets: l.c as usize,
         bytes: l.d as usize,
         numbers: s.numbers,
+        named: s.named,
+        limits: limits,
     }
 }
 
 fn lend_summary(s: Setup, l: Line) -> Setup {
+    let begun = s.begun;
+    let entries = s.entries;
+    let limits = s.limits;
+    Setup {
+        begun: begun,
+        line: l,
+        blocks: s.blocks,
+        free: s.free,
+        entries: entries,
+        words: s.words,
+        sheets: s.sheets,
+        bytes: s.bytes,
+        numbers: l.d as usize,
+        named: s.named,
+        limits: limits,
+    }
+}
+
+fn limits(s: Setup, l: Line) -> Setup {
     let begun = s.begun;
     let entries = s.entries;
     Setup {
@@ -32,7 +54,9 @@ fn lend_summary(s: Setup, l: Line) -> Setup {
         words: s.words,
         sheets: s.sheets,
         bytes: s.bytes,
-        numbers: l.d as usize,
+        numbers: s.numbers,
+        named: true,
+        limits: line::eight(l),
     }
 }
 
@@ -90,6 +114,7 @@ pub fn kept(s: Setup, l: Line) -> Setup {
         line::LEND => lend(s, l),
         line::SUMMARY => lend_summary(s, l),
         line::SHAPE => shape(s, l),
+        line::LIMITS => limits(s, l),
         line::ENTRY => entry(s, l),
         _ => s,
     }

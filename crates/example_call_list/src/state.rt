@@ -9,7 +9,7 @@ use catalogue_standings::Answer;
 
 // The line that is read, the line to be done (empty until its end is read), n and the free count, the entries, and how many
 // words of the map, entries, bytes of the card and numbers of the summary are lent. There is one entry more than a catalogue
-// can have, so that it can be too long.
+// can have, so that it can be too long. Last the limits of the wings, once a line has named them.
 pub struct Setup {
     pub begun: Line,
     pub line: Line,
@@ -20,6 +20,8 @@ pub struct Setup {
     pub sheets: usize,
     pub bytes: usize,
     pub numbers: usize,
+    pub named: bool,
+    pub limits: [u32; 8],
 }
 
 // What a call handed back, the entries after it, and for show the digest of its buffer.
@@ -79,6 +81,8 @@ pub fn start() -> Setup {
         sheets: 4,
         bytes: 35840,
         numbers: 9,
+        named: false,
+        limits: [0; 8],
     }
 }
 
@@ -86,6 +90,7 @@ pub fn start() -> Setup {
 pub fn with(s: Setup, blocks: u32, free: u32, entries: [Entry; 1025]) -> Setup {
     let begun = s.begun;
     let l = s.line;
+    let limits = s.limits;
     Setup {
         begun: begun,
         line: l,
@@ -96,7 +101,18 @@ pub fn with(s: Setup, blocks: u32, free: u32, entries: [Entry; 1025]) -> Setup {
         sheets: s.sheets,
         bytes: s.bytes,
         numbers: s.numbers,
+        named: s.named,
+        limits: limits,
     }
+}
+
+// The limits that go with a call: those that a line has named; before that each is n, which is room for the whole card.
+pub fn limits(s: Setup) -> [u32; 8] {
+    if s.named {
+        let limits = s.limits;
+        return limits;
+    }
+    [s.blocks; 8]
 }
 
 // The state after a call.
@@ -109,6 +125,7 @@ pub fn after(s: Setup, turn: Turn) -> Setup {
 pub fn read_on(s: Setup, byte: u8) -> Setup {
     let begun = s.begun;
     let entries = s.entries;
+    let limits = s.limits;
     Setup {
         begun: line::with(begun, byte),
         line: line::ended(begun, byte),
@@ -119,6 +136,8 @@ pub fn read_on(s: Setup, byte: u8) -> Setup {
         sheets: s.sheets,
         bytes: s.bytes,
         numbers: s.numbers,
+        named: s.named,
+        limits: limits,
     }
 }
 
@@ -129,6 +148,7 @@ pub fn within(s: Setup, words: usize, numbers: usize, bytes: usize) -> Setup
     let begun = s.begun;
     let l = s.line;
     let entries = s.entries;
+    let limits = s.limits;
     Setup {
         begun: begun,
         line: l,
@@ -139,6 +159,8 @@ pub fn within(s: Setup, words: usize, numbers: usize, bytes: usize) -> Setup
         sheets: most(s.sheets, 1025),
         bytes: most(s.bytes, bytes),
         numbers: most(s.numbers, numbers),
+        named: s.named,
+        limits: limits,
     }
 }
 

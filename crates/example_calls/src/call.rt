@@ -64,6 +64,7 @@ fn look(map: &[u64], card: &[u8], s: Setup) -> Turn
 {
     let l = s.line;
     let entries = s.entries;
+    let limits = state::limits(s);
     let shape = Shape {
         blocks: s.blocks,
         free: s.free,
@@ -72,7 +73,7 @@ fn look(map: &[u64], card: &[u8], s: Setup) -> Turn
     match kind {
         SEARCH => lend::turn_of(shape.search(map, l.d), entries),
         SURVEY => lend::turn_of(shape.survey(map), entries),
-        OFFER => lend::offer(shape, map, entries, s.sheets, card, l.c, l.d),
+        OFFER => lend::offer(shape, map, entries, s.sheets, card, &limits, l.c, l.d),
         COMPLETE => lend::complete(shape, map, entries, s.sheets, card, l.d),
         PAUSE => lend::pause(shape, map, entries, s.sheets, l.d),
         RESUME => lend::resume(shape, map, entries, s.sheets, l.d),
@@ -120,6 +121,7 @@ fn on_parts(map: &mut [u64], card: &mut [u8], s: Setup) -> Turn
 {
     let l = s.line;
     let entries = s.entries;
+    let limits = state::limits(s);
     let shape = Shape {
         blocks: s.blocks,
         free: s.free,
@@ -127,21 +129,22 @@ fn on_parts(map: &mut [u64], card: &mut [u8], s: Setup) -> Turn
     let kind = l.word;
     match kind {
         FRESH => lend::fresh(shape, l.d, map, entries, s.sheets),
-        RESERVE => lend::reserve(shape, map, entries, s.sheets, card, l.c, l.d),
+        RESERVE => lend::reserve(shape, map, entries, s.sheets, card, &limits, l.c, l.d),
         RESERVE_PLACED => lend::reserve_placed(
             shape,
             map,
             entries,
             s.sheets,
             card,
+            &limits,
             line::fifth(l),
             line::fourth(l),
             l.b,
             l.c,
             l.d,
         ),
-        ACCEPT => lend::accept(shape, map, entries, s.sheets, card, l.b, l.c, l.d),
-        GROW => lend::grow(shape, map, entries, s.sheets, card, l.c, l.d),
+        ACCEPT => lend::accept(shape, map, entries, s.sheets, card, &limits, l.b, l.c, l.d),
+        GROW => lend::grow(shape, map, entries, s.sheets, card, &limits, l.c, l.d),
         PUT => {
             let all = payload::bytes(l);
             let k = payload::length(l);
@@ -180,6 +183,7 @@ fn guided(map: &mut [u64], summary: &mut [u32], card: &mut [u8], s: Setup) -> Tu
 {
     let l = s.line;
     let entries = s.entries;
+    let limits = state::limits(s);
     let shape = Shape {
         blocks: s.blocks,
         free: s.free,
@@ -188,7 +192,7 @@ fn guided(map: &mut [u64], summary: &mut [u32], card: &mut [u8], s: Setup) -> Tu
     let kind = l.word;
     match kind {
         SUMMARY_RESERVE => {
-            lend::reserve_with_summary(shape, map, summary, entries, c, card, l.c, l.d)
+            lend::reserve_with_summary(shape, map, summary, entries, c, card, &limits, l.c, l.d)
         }
         SUMMARY_PLACED => lend::reserve_placed_with_summary(
             shape,
@@ -197,6 +201,7 @@ fn guided(map: &mut [u64], summary: &mut [u32], card: &mut [u8], s: Setup) -> Tu
             entries,
             c,
             card,
+            &limits,
             line::fifth(l),
             line::fourth(l),
             l.b,
@@ -204,9 +209,30 @@ fn guided(map: &mut [u64], summary: &mut [u32], card: &mut [u8], s: Setup) -> Tu
             l.d,
         ),
         SUMMARY_ACCEPT => {
-            lend::accept_with_summary(shape, map, summary, entries, c, card, l.b, l.c, l.d)
+            lend::accept_with_summary(
+                shape,
+                map,
+                summary,
+                entries,
+                c,
+                card,
+                &limits,
+                l.b,
+                l.c,
+                l.d,
+            )
         }
-        SUMMARY_GROW => lend::grow_with_summary(shape, map, summary, entries, c, card, l.c, l.d),
+        SUMMARY_GROW => lend::grow_with_summary(
+            shape,
+            map,
+            summary,
+            entries,
+            c,
+            card,
+            &limits,
+            l.c,
+            l.d,
+        ),
         SUMMARY_RELEASE => lend::release_with_summary(shape, map, summary, entries, c, l.d),
         line::SUMMARY_BUILD => lend::turn_of(shape.summary_build(map, summary), entries),
         line::SUMMARY_CHECK => lend::turn_of(shape.summary_check(map, summary), entries),

@@ -28,13 +28,14 @@ pub fn reserve(
     entries: [Entry; 1025],
     c: usize,
     card: &mut [u8],
+    limits: &[u32; 8],
     sheet: u32,
     k: u32,
 ) -> Turn
     requires { ⌜ c ≤ 1025 ⌝ }
 {
     let mut all = entries;
-    let outcome = shape.reserve(map, &mut all[..c], card, sheet, k);
+    let outcome = shape.reserve(map, &mut all[..c], card, limits, sheet, k);
     turn_of(outcome, all)
 }
 
@@ -44,6 +45,7 @@ pub fn reserve_placed(
     entries: [Entry; 1025],
     c: usize,
     card: &mut [u8],
+    limits: &[u32; 8],
     sheet: u32,
     k: u32,
     from: u32,
@@ -53,7 +55,17 @@ pub fn reserve_placed(
     requires { ⌜ c ≤ 1025 ⌝ }
 {
     let mut all = entries;
-    let outcome = shape.reserve_placed(map, &mut all[..c], card, sheet, k, from, before, step);
+    let outcome = shape.reserve_placed(
+        map,
+        &mut all[..c],
+        card,
+        limits,
+        sheet,
+        k,
+        from,
+        before,
+        step,
+    );
     turn_of(outcome, all)
 }
 
@@ -63,13 +75,14 @@ pub fn offer(
     entries: [Entry; 1025],
     c: usize,
     card: &[u8],
+    limits: &[u32; 8],
     sheet: u32,
     k: u32,
 ) -> Turn
     requires { ⌜ c ≤ 1025 ⌝ }
 {
     let all = entries;
-    let outcome = shape.offer(map, &all[..c], card, sheet, k);
+    let outcome = shape.offer(map, &all[..c], card, limits, sheet, k);
     turn_of(outcome, all)
 }
 
@@ -79,6 +92,7 @@ pub fn accept(
     entries: [Entry; 1025],
     c: usize,
     card: &mut [u8],
+    limits: &[u32; 8],
     sheet: u32,
     start: u32,
     k: u32,
@@ -86,7 +100,7 @@ pub fn accept(
     requires { ⌜ c ≤ 1025 ⌝ }
 {
     let mut all = entries;
-    let outcome = shape.accept(map, &mut all[..c], card, sheet, start, k);
+    let outcome = shape.accept(map, &mut all[..c], card, limits, sheet, start, k);
     turn_of(outcome, all)
 }
 
@@ -96,13 +110,14 @@ pub fn grow(
     entries: [Entry; 1025],
     c: usize,
     card: &mut [u8],
+    limits: &[u32; 8],
     sheet: u32,
     m: u32,
 ) -> Turn
     requires { ⌜ c ≤ 1025 ⌝ }
 {
     let mut all = entries;
-    let outcome = shape.grow(map, &mut all[..c], card, sheet, m);
+    let outcome = shape.grow(map, &mut all[..c], card, limits, sheet, m);
     turn_of(outcome, all)
 }
 
@@ -214,13 +229,14 @@ pub fn reserve_with_summary(
     entries: [Entry; 1025],
     c: usize,
     card: &mut [u8],
+    limits: &[u32; 8],
     sheet: u32,
     k: u32,
 ) -> Turn
     requires { ⌜ c ≤ 1025 ⌝ }
 {
     let mut all = entries;
-    let outcome = shape.reserve_with_summary(map, summary, &mut all[..c], card, sheet, k);
+    let outcome = shape.reserve_with_summary(map, summary, &mut all[..c], card, limits, sheet, k);
     turn_of(outcome, all)
 }
 
@@ -231,6 +247,7 @@ pub fn reserve_placed_with_summary(
     entries: [Entry; 1025],
     c: usize,
     card: &mut [u8],
+    limits: &[u32; 8],
     sheet: u32,
     k: u32,
     from: u32,
@@ -245,6 +262,7 @@ pub fn reserve_placed_with_summary(
         summary,
         &mut all[..c],
         card,
+        limits,
         sheet,
         k,
         from,
@@ -261,6 +279,7 @@ pub fn accept_with_summary(
     entries: [Entry; 1025],
     c: usize,
     card: &mut [u8],
+    limits: &[u32; 8],
     sheet: u32,
     start: u32,
     k: u32,
@@ -268,7 +287,16 @@ pub fn accept_with_summary(
     requires { ⌜ c ≤ 1025 ⌝ }
 {
     let mut all = entries;
-    let outcome = shape.accept_with_summary(map, summary, &mut all[..c], card, sheet, start, k);
+    let outcome = shape.accept_with_summary(
+        map,
+        summary,
+        &mut all[..c],
+        card,
+        limits,
+        sheet,
+        start,
+        k,
+    );
     turn_of(outcome, all)
 }
 
@@ -279,13 +307,14 @@ pub fn grow_with_summary(
     entries: [Entry; 1025],
     c: usize,
     card: &mut [u8],
+    limits: &[u32; 8],
     sheet: u32,
     m: u32,
 ) -> Turn
     requires { ⌜ c ≤ 1025 ⌝ }
 {
     let mut all = entries;
-    let outcome = shape.grow_with_summary(map, summary, &mut all[..c], card, sheet, m);
+    let outcome = shape.grow_with_summary(map, summary, &mut all[..c], card, limits, sheet, m);
     turn_of(outcome, all)
 }
 

@@ -9,8 +9,9 @@
 //                       summary-build and summary-check then the numbers of group 0, and the digest of all numbers
 // A call whose word begins with summary- is lent the summary; summary-placed is reserve-placed. A line with + is no call: it
 // sets how many words, entries and bytes are lent (+lend), how many numbers of the summary (+summary), n and the free count
-// (+shape), an entry (+entry), the two halves of a word of the map (+word), a number of the summary (+number), or other bits of
-// a byte of the card (+byte). A line with = is a heading. Here are the calls; all else is in the crate example_call_list.
+// (+shape), an entry (+entry), the two halves of a word of the map (+word), a number of the summary (+number), other bits of a
+// byte of the card (+byte), or the eight limits of the wings for the calls that follow (+limits), which are n before that. A
+// line with = is a heading. Here are the calls; all else is in the crate example_call_list.
 mod call;
 mod lend;
 

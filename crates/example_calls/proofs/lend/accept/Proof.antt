@@ -1,5 +1,5 @@
--- Written by tools/walks: `example_calls::lend::accept` meets its contract, by the walk of `MapEntriesCard3.antt` of the crate
--- walk_arrays, with the calls of `card::Shape::accept`, `example_calls::lend::turn_of`.
+-- Written by tools/walks: `example_calls::lend::accept` meets its contract, by the walk of `MapEntriesCardFromLimits3.antt` of
+-- the crate walk_arrays, with the calls of `card::Shape::accept`, `example_calls::lend::turn_of`.
 -- Assumes nothing.
 use contract.Running.{givenOf, tables, tablesOf}
 use denote.Triple.Spec.{tripleOf}
@@ -11,7 +11,7 @@ use Rattle.card.proofs.Outcome as Outcome′
 use Rattle.card.proofs.Outcome.Laws as Outcome″
 use Rattle.example_call_list.proofs.state.Turn as Turn′
 use Rattle.example_call_list.proofs.state.Turn.Laws as Turn″
-use Rattle.walk_arrays.proofs.MapEntriesCard3.{call-contract, turn-of-contract, meets}
+use Rattle.walk_arrays.proofs.MapEntriesCardFromLimits3.{call-contract, turn-of-contract, meets}
 use Rattle.card.proofs.Shape.accept.Symbol as call-def
 use Rattle.card.proofs.Shape.accept.Met as call-met
 use Rattle.card.proofs.Shape.accept as call-said

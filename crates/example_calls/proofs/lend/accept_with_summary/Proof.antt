@@ -1,5 +1,5 @@
 -- Written by tools/walks: `example_calls::lend::accept_with_summary` meets its contract, by the walk of
--- `MapSummaryEntriesCard3.antt` of the crate walk_arrays, with the calls of `card::Shape::accept_with_summary`,
+-- `MapSummaryEntriesCardFromLimits3.antt` of the crate walk_arrays, with the calls of `card::Shape::accept_with_summary`,
 -- `example_calls::lend::turn_of`.
 -- Assumes nothing.
 use contract.Running.{givenOf, tables, tablesOf}
@@ -12,7 +12,7 @@ use Rattle.card.proofs.Outcome as Outcome′
 use Rattle.card.proofs.Outcome.Laws as Outcome″
 use Rattle.example_call_list.proofs.state.Turn as Turn′
 use Rattle.example_call_list.proofs.state.Turn.Laws as Turn″
-use Rattle.walk_arrays.proofs.MapSummaryEntriesCard3.{call-contract, turn-of-contract, meets}
+use Rattle.walk_arrays.proofs.MapSummaryEntriesCardFromLimits3.{call-contract, turn-of-contract, meets}
 use Rattle.card.proofs.Shape.accept_with_summary.Symbol as call-def
 use Rattle.card.proofs.Shape.accept_with_summary.Met as call-met
 use Rattle.card.proofs.Shape.accept_with_summary as call-said
