@@ -39,14 +39,16 @@ extern "C" {
 #endif
 
 /* The version of this header, 10000 * first + 100 * second + third, and as a text. */
-#define PAGUNLIT_VERSION 20100
-#define PAGUNLIT_VERSION_TEXT "2.1.0"
+#define PAGUNLIT_VERSION 30000
+#define PAGUNLIT_VERSION_TEXT "3.0.0"
 
 enum {
     PAGUNLIT_BLOCK = 512,       /* bytes of a block */
     PAGUNLIT_PAYLOAD = 496,     /* bytes of a payload */
     PAGUNLIT_BLOCKS = 262144,   /* most blocks of a card */
-    PAGUNLIT_SHEETS = 1024      /* most sheets of a catalogue */
+    PAGUNLIT_SHEETS = 1024,     /* most sheets of a catalogue */
+    PAGUNLIT_WINGS = 8,         /* wings of a card */
+    PAGUNLIT_WING_SHEETS = 128  /* sheets of a wing: the wing of a sheet is its number divided by this, rounded down */
 };
 
 /* The numbers that a call gives. pagunlit_text.h has their meanings as texts, docs/NUMBERS.md causes and remedies. */
@@ -71,6 +73,7 @@ enum {
     PAGUNLIT_RUN_NOT_FREE = 17,  /* accept: the run is not all free and on the card */
     PAGUNLIT_NO_DATE = 19,       /* dated show: there is no such date, or it is not in the years 2000 to 2099 */
     PAGUNLIT_OUTSIDE_TERM = 20   /* dated show: the day is before the sheet's first day or after its last */
+    PAGUNLIT_OVER_LIMIT = 18     /* offer, reserves, accept and grow: the limit of the sheet's wing would be passed */
 };
 
 /* Marks of an entry. */
@@ -137,15 +140,23 @@ pagunlit_outcome pagunlit_search(pagunlit_shape shape, const uint64_t *map, size
  *   1   as above */
 pagunlit_outcome pagunlit_survey(pagunlit_shape shape, const uint64_t *map, size_t maplen);
 
+/* Wings share a card. Sheets 0 to 127 are wing 0, the next 128 wing 1, and so on to wing 7. The calls that take blocks, and
+ * the offer, are lent `limits`, eight numbers: limits[w] is the most blocks that wing w may hold. What a wing holds is the
+ * lengths in the entries of its sheets together, as they stand, in 64 bits. Where no wing has a limit of its own, each of the
+ * eight is the card's blocks or more. "As above" then also means:
+ *   18   what the wing of the sheet holds, and count, are together more than its limit */
+
 /* An Absent sheet becomes Open with `count` blank places, at the lowest run that is long enough. Its blocks are filled with
  * zeros. first: its start. second: the space behind it as it was before, count and what grow could add to it.
  *   1, 2, 4   as above
  *   6, 7, 8   the sheet is Paused, Open, Complete
  *   3         count is 0
+ *   18        as above
  *   10        no run of free blocks is long enough
  *   4         count is more than the shape's free count, though there is a run */
 pagunlit_outcome pagunlit_reserve(pagunlit_shape shape, uint64_t *map, size_t maplen, pagunlit_entry *catalogue,
-                                  size_t cataloguelen, uint8_t *card, size_t cardlen, uint32_t sheet, uint32_t count);
+                                  size_t cataloguelen, uint8_t *card, size_t cardlen, const uint32_t *limits, uint32_t sheet,
+                                  uint32_t count);
 
 /* The same with three figures: the lowest run that is long enough, starts at or after `from`, starts on a multiple of `step`,
  * and whose last block is below `before`. pagunlit_reserve is the one with 0, the card's blocks and 1. first: its start.
@@ -154,36 +165,41 @@ pagunlit_outcome pagunlit_reserve(pagunlit_shape shape, uint64_t *map, size_t ma
  *   6, 7, 8   the sheet is Paused, Open, Complete
  *   3         count is 0
  *   15        step is 0, from is not below before, or before is above the card's blocks
+ *   18        as above
  *   10        no run of free blocks within the figures is long enough
  *   4         count is more than the shape's free count, though there is a run */
 pagunlit_outcome pagunlit_reserve_placed(pagunlit_shape shape, uint64_t *map, size_t maplen, pagunlit_entry *catalogue,
-                                         size_t cataloguelen, uint8_t *card, size_t cardlen, uint32_t sheet, uint32_t count,
-                                         uint32_t from, uint32_t before, uint32_t step);
+                                         size_t cataloguelen, uint8_t *card, size_t cardlen, const uint32_t *limits,
+                                         uint32_t sheet, uint32_t count, uint32_t from, uint32_t before, uint32_t step);
 
 /* Where pagunlit_reserve would put a sheet of `count` places now. It changes nothing. first: the start. second: count.
- *   1, 2, 4, 6, 7, 8, 3, 10, 4   as pagunlit_reserve */
+ *   1, 2, 4, 6, 7, 8, 3, 18, 10, 4   as pagunlit_reserve */
 pagunlit_outcome pagunlit_offer(pagunlit_shape shape, const uint64_t *map, size_t maplen, const pagunlit_entry *catalogue,
-                                size_t cataloguelen, const uint8_t *card, size_t cardlen, uint32_t sheet, uint32_t count);
+                                size_t cataloguelen, const uint8_t *card, size_t cardlen, const uint32_t *limits,
+                                uint32_t sheet, uint32_t count);
 
 /* An Absent sheet becomes Open with `count` blank places in the blocks from `start` on, as pagunlit_reserve does at the start
  * that it finds. It need not be the lowest run, nor one that was offered. first: the start. second: the space behind it.
  *   1, 2, 4   as above
  *   6, 7, 8   the sheet is Paused, Open, Complete
  *   3         count is 0
+ *   18        as above
  *   17        the blocks from start to start + count - 1 are not all free, or go past the card's last
  *   4         count is more than the shape's free count, though they are free */
 pagunlit_outcome pagunlit_accept(pagunlit_shape shape, uint64_t *map, size_t maplen, pagunlit_entry *catalogue,
-                                 size_t cataloguelen, uint8_t *card, size_t cardlen, uint32_t sheet, uint32_t start,
-                                 uint32_t count);
+                                 size_t cataloguelen, uint8_t *card, size_t cardlen, const uint32_t *limits, uint32_t sheet,
+                                 uint32_t start, uint32_t count);
 
 /* An Open sheet gets `count` more blank places, in the blocks after its own, which are filled with zeros.
  *   1, 2, 4   as above
  *   5, 6, 8   the sheet is Absent, Paused, Complete
  *   3         count is 0
+ *   18        as above
  *   11        the next blocks are not all free, or go past the card's last
  *   4         count is more than the shape's free count, though they are free */
 pagunlit_outcome pagunlit_grow(pagunlit_shape shape, uint64_t *map, size_t maplen, pagunlit_entry *catalogue,
-                               size_t cataloguelen, uint8_t *card, size_t cardlen, uint32_t sheet, uint32_t count);
+                               size_t cataloguelen, uint8_t *card, size_t cardlen, const uint32_t *limits, uint32_t sheet,
+                               uint32_t count);
 
 /* Puts a payload of 496 bytes to a place of an Open sheet, whether it is blank or not.
  *   1, 2, 4   as above
@@ -278,29 +294,31 @@ pagunlit_outcome pagunlit_summary_check(pagunlit_shape shape, const uint64_t *ma
                                         size_t summarylen);
 
 /* pagunlit_reserve with a summary. It is changed in the groups above the words that are marked, and in no other.
- *   1, 2, 4, 6, 7, 8, 3, 10, 4   as pagunlit_reserve */
+ *   1, 2, 4, 6, 7, 8, 3, 18, 10, 4   as pagunlit_reserve */
 pagunlit_outcome pagunlit_reserve_with_summary(pagunlit_shape shape, uint64_t *map, size_t maplen, uint32_t *summary,
                                                size_t summarylen, pagunlit_entry *catalogue, size_t cataloguelen,
-                                               uint8_t *card, size_t cardlen, uint32_t sheet, uint32_t count);
+                                               uint8_t *card, size_t cardlen, const uint32_t *limits, uint32_t sheet,
+                                               uint32_t count);
 
 /* pagunlit_reserve_placed with a summary, likewise.
- *   1, 2, 4, 6, 7, 8, 3, 15, 10, 4   as pagunlit_reserve_placed */
+ *   1, 2, 4, 6, 7, 8, 3, 15, 18, 10, 4   as pagunlit_reserve_placed */
 pagunlit_outcome pagunlit_reserve_placed_with_summary(pagunlit_shape shape, uint64_t *map, size_t maplen, uint32_t *summary,
                                                       size_t summarylen, pagunlit_entry *catalogue, size_t cataloguelen,
-                                                      uint8_t *card, size_t cardlen, uint32_t sheet, uint32_t count,
-                                                      uint32_t from, uint32_t before, uint32_t step);
+                                                      uint8_t *card, size_t cardlen, const uint32_t *limits, uint32_t sheet,
+                                                      uint32_t count, uint32_t from, uint32_t before, uint32_t step);
 
 /* pagunlit_accept with a summary, likewise. Whatever the summary says, it answers and leaves all else as without it.
- *   1, 2, 4, 6, 7, 8, 3, 17, 4   as pagunlit_accept */
+ *   1, 2, 4, 6, 7, 8, 3, 18, 17, 4   as pagunlit_accept */
 pagunlit_outcome pagunlit_accept_with_summary(pagunlit_shape shape, uint64_t *map, size_t maplen, uint32_t *summary,
-                                              size_t summarylen, pagunlit_entry *catalogue, size_t cataloguelen,
-                                              uint8_t *card, size_t cardlen, uint32_t sheet, uint32_t start, uint32_t count);
+                                              size_t summarylen, pagunlit_entry *catalogue, size_t cataloguelen, uint8_t *card,
+                                              size_t cardlen, const uint32_t *limits, uint32_t sheet, uint32_t start,
+                                              uint32_t count);
 
 /* pagunlit_grow with a summary, likewise.
- *   1, 2, 4, 5, 6, 8, 3, 11, 4   as pagunlit_grow */
+ *   1, 2, 4, 5, 6, 8, 3, 18, 11, 4   as pagunlit_grow */
 pagunlit_outcome pagunlit_grow_with_summary(pagunlit_shape shape, uint64_t *map, size_t maplen, uint32_t *summary,
                                             size_t summarylen, pagunlit_entry *catalogue, size_t cataloguelen, uint8_t *card,
-                                            size_t cardlen, uint32_t sheet, uint32_t count);
+                                            size_t cardlen, const uint32_t *limits, uint32_t sheet, uint32_t count);
 
 /* pagunlit_release with a summary, likewise.
  *   1, 2, 4, 5, 4   as pagunlit_release */

@@ -51,6 +51,8 @@ static inline const char *pagunlit_meaning(uint32_t number)
         return "dated show: the date doesn't exist or lies outside the span";
     case PAGUNLIT_OUTSIDE_TERM:
         return "dated show: the day lies outside the term";
+    case PAGUNLIT_OVER_LIMIT:
+        return "the limit of the sheet's wing would be passed";
     default:
         return "no number of this library";
     }
