@@ -18,6 +18,10 @@ static pagunlit_shape shape;
 static pagunlit_entry catalogue[SHEETS];
 static uint8_t *card;
 
+// No wing has a limit of its own.
+static const uint32_t limits[PAGUNLIT_WINGS] = {UINT32_MAX, UINT32_MAX, UINT32_MAX, UINT32_MAX,
+                                                UINT32_MAX, UINT32_MAX, UINT32_MAX, UINT32_MAX};
+
 static size_t words(void) {
     return PAGUNLIT_MAP_WORDS(n);
 }

@@ -27,7 +27,7 @@ static void build(void) {
 static uint32_t without_reserve(uint32_t argument) {
     uint32_t sum = argument;
     for (uint32_t i = 0; i < LENGTHS; i++) {
-        pagunlit_outcome o = pagunlit_reserve(shape, map, words(), catalogue, SHEETS, card, bytes(), i, lengths[i]);
+        pagunlit_outcome o = pagunlit_reserve(shape, map, words(), catalogue, SHEETS, card, bytes(), limits, i, lengths[i]);
         sum += o.number + o.first;
         shape = o.shape;
     }
@@ -39,7 +39,7 @@ static uint32_t guided_reserve(uint32_t argument) {
     uint32_t sum = argument;
     for (uint32_t i = 0; i < LENGTHS; i++) {
         pagunlit_outcome o = pagunlit_reserve_with_summary(shape, map, words(), summary, numbers(), catalogue, SHEETS, card,
-                                                           bytes(), i, lengths[i]);
+                                                           bytes(), limits, i, lengths[i]);
         sum += o.number + o.first;
         shape = o.shape;
     }
@@ -53,11 +53,11 @@ static const struct way RESERVES[] = {{"by summary", guided_reserve}, {"without"
 // A single reserve of k blocks that is refused.
 
 static uint32_t without_refused(uint32_t k) {
-    return pagunlit_reserve(shape, map, words(), catalogue, SHEETS, card, bytes(), 0, k).number;
+    return pagunlit_reserve(shape, map, words(), catalogue, SHEETS, card, bytes(), limits, 0, k).number;
 }
 
 static uint32_t guided_refused(uint32_t k) {
-    return pagunlit_reserve_with_summary(shape, map, words(), summary, numbers(), catalogue, SHEETS, card, bytes(), 0,
+    return pagunlit_reserve_with_summary(shape, map, words(), summary, numbers(), catalogue, SHEETS, card, bytes(), limits, 0,
                                          k).number;
 }
 
@@ -68,12 +68,12 @@ static uint64_t small_map[1];
 static uint32_t small_summary[PAGUNLIT_SUMMARY_NUMBERS(64)];
 
 static uint32_t without_small(uint32_t k) {
-    return pagunlit_reserve(SMALL, small_map, 1, catalogue, SHEETS, card, 64 * PAGUNLIT_BLOCK, 0, k).number;
+    return pagunlit_reserve(SMALL, small_map, 1, catalogue, SHEETS, card, 64 * PAGUNLIT_BLOCK, limits, 0, k).number;
 }
 
 static uint32_t guided_small(uint32_t k) {
-    return pagunlit_reserve_with_summary(SMALL, small_map, 1, small_summary, 3, catalogue, SHEETS, card, 64 * PAGUNLIT_BLOCK, 0,
-                                         k).number;
+    return pagunlit_reserve_with_summary(SMALL, small_map, 1, small_summary, 3, catalogue, SHEETS, card, 64 * PAGUNLIT_BLOCK,
+                                         limits, 0, k).number;
 }
 
 static const struct way REFUSED[] = {{"by summary", guided_refused}, {"without", without_refused}};
@@ -88,15 +88,15 @@ static const struct way REFUSED_FULL[] = {
 // A placed reserve on the whole card, and the release of what it was granted. The argument is k and the step, 2^16 to a k.
 
 static uint32_t without_placed(uint32_t both) {
-    pagunlit_outcome o = pagunlit_reserve_placed(shape, map, words(), catalogue, SHEETS, card, bytes(), 0, both >> 16, 0, n,
-                                                 both & 0xffff);
+    pagunlit_outcome o = pagunlit_reserve_placed(shape, map, words(), catalogue, SHEETS, card, bytes(), limits, 0,
+                                                 both >> 16, 0, n, both & 0xffff);
     if (o.number == 0) pagunlit_release(o.shape, map, words(), catalogue, SHEETS, 0);
     return o.number == 0 ? o.first : NO_FIT;
 }
 
 static uint32_t guided_placed(uint32_t both) {
     pagunlit_outcome o = pagunlit_reserve_placed_with_summary(shape, map, words(), summary, numbers(), catalogue, SHEETS, card,
-                                                              bytes(), 0, both >> 16, 0, n, both & 0xffff);
+                                                              bytes(), limits, 0, both >> 16, 0, n, both & 0xffff);
     if (o.number == 0) pagunlit_release_with_summary(o.shape, map, words(), summary, numbers(), catalogue, SHEETS, 0);
     return o.number == 0 ? o.first : NO_FIT;
 }

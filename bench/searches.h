@@ -49,16 +49,12 @@ static const struct way SEARCHES[] = {
 // Reserve and release, of lengths as the traces have them: LENGTHS of each in one turn. The others do what a reserve does,
 // without its tests: search, mark, zero the blocks, store an entry.
 
-// No wing is kept from anything.
-static const uint32_t LIMITS[8] = {UINT32_MAX, UINT32_MAX, UINT32_MAX, UINT32_MAX,
-                                   UINT32_MAX, UINT32_MAX, UINT32_MAX, UINT32_MAX};
-
 static uint32_t ours_reserve(uint32_t argument) {
     uint32_t sum = 0;
     (void)argument;
     for (uint32_t i = 0; i < LENGTHS; i++) {
-        pagunlit_outcome outcome = pagunlit_reserve(shape, map, words(), catalogue, SHEETS, card,
-                                                    (size_t)PAGUNLIT_BLOCK * n, LIMITS, i, lengths[i]);
+        pagunlit_outcome outcome =
+            pagunlit_reserve(shape, map, words(), catalogue, SHEETS, card, (size_t)PAGUNLIT_BLOCK * n, limits, i, lengths[i]);
         if (outcome.number == 0) sum += outcome.first;
         shape = outcome.shape;
     }

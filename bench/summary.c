@@ -44,7 +44,8 @@ static void refused(void) {
 static uint32_t granted(void) {
     uint32_t count = 0;
     for (int i = 0; i < LENGTHS; i++) {
-        pagunlit_outcome o = pagunlit_reserve(shape, map, words(), catalogue, SHEETS, card, bytes(), (uint32_t)i, lengths[i]);
+        pagunlit_outcome o =
+            pagunlit_reserve(shape, map, words(), catalogue, SHEETS, card, bytes(), limits, (uint32_t)i, lengths[i]);
         count += o.number == 0;
         shape = o.shape;
     }

@@ -6,21 +6,36 @@
 #include "aged.h"
 #include "ways.h"
 
-// pagunlit_search, pagunlit_reserve and pagunlit_release of the other library.
+// pagunlit_search, pagunlit_reserve and pagunlit_release of the other library. A library from before document 02 (k) takes no
+// limits: WITHOUT_LIMITS=1 says so to bench/run.
+#ifdef WITHOUT_LIMITS
+#define OTHER_LIMITS
+#define OTHERS_LIMITS
+#else
+#define OTHER_LIMITS const uint32_t *limits,
+#define OTHERS_LIMITS limits,
+#endif
 pagunlit_outcome other_search(pagunlit_shape shape, const uint64_t *map, size_t maplen, uint32_t k);
 pagunlit_outcome other_reserve(pagunlit_shape shape, uint64_t *map, size_t maplen, pagunlit_entry *catalogue,
-                               size_t cataloguelen, uint8_t *card, size_t cardlen, uint32_t sheet, uint32_t count);
+                               size_t cataloguelen, uint8_t *card, size_t cardlen, OTHER_LIMITS uint32_t sheet,
+                               uint32_t count);
 pagunlit_outcome other_release(pagunlit_shape shape, uint64_t *map, size_t maplen, pagunlit_entry *catalogue,
                                size_t cataloguelen, uint32_t sheet);
 
-static inline uint32_t reserves(pagunlit_outcome (*reserve)(pagunlit_shape, uint64_t *, size_t, pagunlit_entry *, size_t,
-                                                            uint8_t *, size_t, uint32_t, uint32_t),
+static inline pagunlit_outcome others(uint32_t sheet, uint32_t count) {
+    return other_reserve(shape, map, words(), catalogue, SHEETS, card, (size_t)PAGUNLIT_BLOCK * n, OTHERS_LIMITS sheet, count);
+}
+
+static inline pagunlit_outcome ours(uint32_t sheet, uint32_t count) {
+    return pagunlit_reserve(shape, map, words(), catalogue, SHEETS, card, (size_t)PAGUNLIT_BLOCK * n, limits, sheet, count);
+}
+
+static inline uint32_t reserves(pagunlit_outcome (*reserve)(uint32_t, uint32_t),
                                 pagunlit_outcome (*release)(pagunlit_shape, uint64_t *, size_t, pagunlit_entry *, size_t,
                                                             uint32_t)) {
     uint32_t sum = 0;
     for (uint32_t i = 0; i < LENGTHS; i++) {
-        pagunlit_outcome o =
-            reserve(shape, map, words(), catalogue, SHEETS, card, (size_t)PAGUNLIT_BLOCK * n, i, lengths[i]);
+        pagunlit_outcome o = reserve(i, lengths[i]);
         sum += o.number + o.first;
         shape = o.shape;
     }
@@ -29,19 +44,19 @@ static inline uint32_t reserves(pagunlit_outcome (*reserve)(pagunlit_shape, uint
 }
 
 static uint32_t their_reserves(uint32_t argument) {
-    return argument + reserves(other_reserve, other_release);
+    return argument + reserves(others, other_release);
 }
 
 static uint32_t our_reserves(uint32_t argument) {
-    return argument + reserves(pagunlit_reserve, pagunlit_release);
+    return argument + reserves(ours, pagunlit_release);
 }
 
 static uint32_t their_refused(uint32_t k) {
-    return other_reserve(shape, map, words(), catalogue, SHEETS, card, (size_t)PAGUNLIT_BLOCK * n, 0, k).number;
+    return others(0, k).number;
 }
 
 static uint32_t our_refused(uint32_t k) {
-    return pagunlit_reserve(shape, map, words(), catalogue, SHEETS, card, (size_t)PAGUNLIT_BLOCK * n, 0, k).number;
+    return ours(0, k).number;
 }
 
 static uint32_t their_search(uint32_t k) {

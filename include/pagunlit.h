@@ -71,9 +71,9 @@ enum {
     PAGUNLIT_WRONG_FIGURES = 15, /* placed reserve: step is 0, from is not below before, or before is above the blocks */
     PAGUNLIT_WRONG_COUNT = 16,   /* dose counts: another digit, a number out of range, or no such count */
     PAGUNLIT_RUN_NOT_FREE = 17,  /* accept: the run is not all free and on the card */
+    PAGUNLIT_OVER_LIMIT = 18,    /* offer, reserves, accept and grow: the limit of the sheet's wing would be passed */
     PAGUNLIT_NO_DATE = 19,       /* dated show: there is no such date, or it is not in the years 2000 to 2099 */
     PAGUNLIT_OUTSIDE_TERM = 20   /* dated show: the day is before the sheet's first day or after its last */
-    PAGUNLIT_OVER_LIMIT = 18     /* offer, reserves, accept and grow: the limit of the sheet's wing would be passed */
 };
 
 /* Marks of an entry. */
