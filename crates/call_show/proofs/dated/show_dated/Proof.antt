@@ -60,7 +60,8 @@ show-block-requires c κs =
     let a = row .before .before .before .before .before .before .args in
     let q = lent (a .n) (a .free) (now (a .map)) (now (a .card)) (a .c) (a .entry) (a .sheet) in
     let opens = showing-zero q (a .place) (now (a .buffer)) _ (row .before .showing-row .ensures) (row .if1 .left) in
-    (in-card q (a .place) (now (a .buffer)) opens, sized-buffer q (a .place) (now (a .buffer)) opens)
+    let inside = in-card q (a .place) (now (a .buffer)) opens in
+    (omega (arith, inside), sized-buffer q (a .place) (now (a .buffer)) opens)
 
 same-length-3 : tie.Need-same-length-3
 same-length-3 c = search needs
