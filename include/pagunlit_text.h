@@ -47,12 +47,12 @@ static inline const char *pagunlit_meaning(uint32_t number)
                "or a count number of 124 or more";
     case PAGUNLIT_RUN_NOT_FREE:
         return "accept: the run is not all free and inside n";
+    case PAGUNLIT_OVER_LIMIT:
+        return "the limit of the sheet's wing would be passed";
     case PAGUNLIT_NO_DATE:
         return "dated show: the date doesn't exist or lies outside the span";
     case PAGUNLIT_OUTSIDE_TERM:
         return "dated show: the day lies outside the term";
-    case PAGUNLIT_OVER_LIMIT:
-        return "the limit of the sheet's wing would be passed";
     default:
         return "no number of this library";
     }

@@ -59,7 +59,8 @@ module _ (n : ℕ) (l : List Sheet) (card : List ℕ) (k : Matches n l card) (i 
 
   sharing : Sharing n l i ask
   unfolding rowsFor
-  sharing x y same = ap (λ (h : ℕ). saysOn n l i ask (record { blank = y .blank; sound = y .sound; term = y .term; held = h })) same
+  sharing x y same = ap
+      (λ (h : ℕ). saysOn n l i ask (record { blank = y .blank; sound = y .sound; term = y .term; held = h })) same
 
   ends-so : endOf (stateOf n l card) call ≡ ends (verdictIn n l call)
   unfolding effects.offerAnswer rowsFor
