@@ -1,9 +1,9 @@
--- The entries of a catalogue, as a list: what is found for a sheet, and what fresh leaves (document 01, "Shape, catalogue,
--- blocks").
+-- The entries of a catalogue, as a list: what is found for a sheet, how many blocks they hold, and what fresh leaves (document
+-- 01, "Shape, catalogue, blocks").
 -- Assumes nothing.
 use mathlib.Core.Bool.{Bool, cond}
-use mathlib.Core.List.{List}
-use Prim.Native.Nat.{ℕ}
+use mathlib.Core.List.{List, [], _∷_}
+use Prim.Native.Nat.{ℕ, _+_}
 use lib.ListN.{length, getD, replicate}
 use Rattle.catalogue.specs.declared.Entry.{Entry}
 use Rattle.catalogue.specs.declared.Slot.{Slot}
@@ -36,6 +36,11 @@ entryAt entries sheet = getD entries sheet zeros
 -- how many entries there are, and the entry of a sheet
 abbrev pub slotAt : List Entry → ℕ → Slot
 slotAt entries sheet = record { count = length entries; entry = entryAt entries sheet }
+
+-- how many blocks the entries hold, all together
+unfoldable pub held : List Entry → ℕ
+held [] = 0
+held (e ∷ es) = e .length + held es
 
 -- an entry after fresh: Absent if fresh was accepted, else as it was
 abbrev pub cleared : Bool → Entry → Entry

@@ -9,12 +9,13 @@ use native.Mathlib.Omega.{arith}
 use lib.Dec.{leb}
 use borrow.Author.Tests.{leb-true, le-leb, not-true}
 use Rattle.laws.proofs.Bools.{and-left, and-right, and-both, clash}
+use Rattle.catalogue.specs.Entries.{held}
 use Rattle.catalogue.specs.declared.Entry.{Entry}
 use Rattle.catalogue_standings.specs.Standings.{standingOf, isDamaged}
 use Rattle.image_soundness.specs.Windows.{tally, keepsRule, countable, tallyAfter, tallyOf}
 use Rattle.image_soundness.specs.Sound.{undamaged}
 use Rattle.image_soundness.specs.declared.Tally.{Tally}
-use Rattle.image_soundness.proofs.Covers.{decide, lengths, head-undamaged, tail-undamaged, both-undamaged}
+use Rattle.image_soundness.proofs.Covers.{decide, head-undamaged, tail-undamaged, both-undamaged}
 use Rattle.image_soundness.proofs.Covers.{none-undamaged}
 
 module _ (n : ℕ) where
@@ -47,12 +48,12 @@ module _ (n : ℕ) where
   -- every entry keeps the rule of its mark, and their lengths are taken from what was left
   pub record Counted (left : ℕ) (es : List Entry) (t : Tally) : Type 0 where
     pub alone : Alone es
-    pub enough : lengths es ≤ left
-    pub rest : t .left ≡ left - lengths es
+    pub enough : held es ≤ left
+    pub rest : t .left ≡ left - held es
 
   pub tally-counted : (left : ℕ) (es : List Entry) → tallyOf es n (tally left false) .stop ≡ false
       → Counted left es (tallyOf es n (tally left false))
-  unfolding lengths tallyOf
+  unfolding held tallyOf
   tally-counted left [] o = record { alone = none-undamaged n (λ b. false); enough = omega arith; rest = omega arith }
   tally-counted left (e ∷ es) o =
       ⊎-elim
@@ -60,7 +61,7 @@ module _ (n : ℕ) where
       let on = tally-on left e es h in
       let c = counts-to left e h in
       let r = tally-counted (left - e .length) es (ap (λ (t : Tally). t .stop) (sym on) ∙ o) in
-      let rest : tallyOf es n (tally (left - e .length) false) .left ≡ left - e .length - lengths es = r .rest in
+      let rest : tallyOf es n (tally (left - e .length) false) .left ≡ left - e .length - held es = r .rest in
       let same : tallyOf (e ∷ es) n (tally left false) .left ≡ tallyOf es n (tally (left - e .length) false) .left =
       ap (λ (t : Tally). t .left) on in
       record {
@@ -72,12 +73,12 @@ module _ (n : ℕ) where
       absurd (clash (tallyOf (e ∷ es) n (tally left false) .stop) (tally-off left e es h) o))
       (decide (countable n (tally left false) e))
 
-  pub counted-tally : (left : ℕ) (es : List Entry) → Alone es → lengths es ≤ left
-      → tallyOf es n (tally left false) ≡ tally (left - lengths es) false
-  unfolding lengths tallyOf
+  pub counted-tally : (left : ℕ) (es : List Entry) → Alone es → held es ≤ left
+      → tallyOf es n (tally left false) ≡ tally (left - held es) false
+  unfolding held tallyOf
   counted-tally left [] u h = let z : left ≡ left - 0 = omega arith in ap (λ (x : ℕ). tally x false) z
   counted-tally left (e ∷ es) u h =
       let c = to-counts left e (head-undamaged n (λ b. false) e es u) (omega arith) in
-      let z : left - e .length - lengths es ≡ left - (e .length + lengths es) = omega arith in
+      let z : left - e .length - held es ≡ left - (e .length + held es) = omega arith in
       tally-on left e es c ∙ counted-tally (left - e .length) es (tail-undamaged n (λ b. false) e es u) (omega arith)
       ∙ ap (λ (x : ℕ). tally x false) z

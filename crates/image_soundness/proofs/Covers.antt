@@ -13,6 +13,7 @@ use Rattle.map_blocks.specs.Maps.{inRun}
 use Rattle.laws.proofs.Bools.{and-left, and-right, and-both, order}
 use Rattle.survey.specs.Survey.{blocks, freeOf, countsOf}
 use Rattle.survey.proofs.Blocks.{blocks-join}
+use Rattle.catalogue.specs.Entries.{held}
 use Rattle.catalogue.specs.declared.Entry.{Entry}
 use Rattle.catalogue_standings.specs.Standings.{standingOf, isDamaged}
 use Rattle.image_soundness.specs.Sound.{coverings, undamaged}
@@ -112,11 +113,6 @@ unfolding countsOf total blocks freeOf
 free-total f zero = refl
 free-total f (suc m) = free-more f m ∙ ap (λ (x : ℕ). x + one (f m)) (free-total f m)
 
--- the lengths of entries
-unfoldable pub lengths : List Entry → ℕ
-lengths [] = 0
-lengths (e ∷ es) = e .length + lengths es
-
 not-damaged : (a b : Bool) → (not a && b) ≡ true → a ≡ false
 not-damaged a b e = not-true a (and-left (not a) b e)
 
@@ -142,9 +138,9 @@ module _ (n : ℕ) (f : ℕ → Bool) where
       let i : e .start + e .length ≤ n = extent-inside n e f (head-undamaged e es u) in
       ap₂ _+_ (ap one (run-out (e .start) (e .length) b (omega arith))) (cover-outside es (tail-undamaged e es u) b h)
 
-  -- the covers make the lengths
-  pub cover-total : (es : List Entry) → undamaged n f es ≡ true → total (coverings es) n ≡ lengths es
-  unfolding coverings lengths
+  -- the covers make what the entries hold
+  pub cover-total : (es : List Entry) → undamaged n f es ≡ true → total (coverings es) n ≡ held es
+  unfolding coverings held
   cover-total [] u = total-same (coverings []) (λ b. 0) n (λ b l. refl) ∙ total-none n
   cover-total (e ∷ es) u =
       let i : e .start + e .length ≤ n = extent-inside n e f (head-undamaged e es u) in

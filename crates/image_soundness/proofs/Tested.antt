@@ -12,6 +12,7 @@ use lib.ListN.{length, getD, List·getD-eq-default}
 use borrow.Author.Tests.{eqb-true, eq-eqb, lt-ltb, le-ltb, not-true}
 use Rattle.map_blocks.specs.Blocks.{free}
 use Rattle.laws.proofs.Bools.{and-left, and-right, and-both, both-ways, order, clash}
+use Rattle.catalogue.specs.Entries.{held}
 use Rattle.catalogue.specs.declared.Entry.{Entry}
 use Rattle.catalogue_standings.specs.Limits.{shapeFits}
 use Rattle.catalogue_standings.proofs.Limits.{Fits, fits}
@@ -21,7 +22,7 @@ use Rattle.image_soundness.specs.Windows.{tally, window, tallyOf, oneWin
 use Rattle.image_soundness.specs.Windows.{windowCount, tested}
 use Rattle.image_soundness.specs.declared.Tally.{Tally}
 use Rattle.image_soundness.specs.declared.Window.{Window}
-use Rattle.image_soundness.proofs.Covers.{decide, one, same-one, lengths, cover-outside, still-all}
+use Rattle.image_soundness.proofs.Covers.{decide, one, same-one, cover-outside, still-all}
 use Rattle.image_soundness.proofs.Counted.{tally-counted, counted-tally}
 use Rattle.image_soundness.proofs.Rounds.{windows-none, windows-more, windows-length}
 use Rattle.image_soundness.proofs.WhenSound.{Tidy, sound-to, to-sound, tidy-sound, sound-tidy}
@@ -195,8 +196,8 @@ module _ (s : State) (scratch : List ℕ) (fit : shapeFits (s .blocks) (s .spare
   tidy-tested : Tidy n (n - s .spare) map es → tested map es scratch n (tally (n - s .spare) false) ≡ true
   tidy-tested p =
       let u : undamaged n (λ b. false) es ≡ true = still-all n (free map) (λ b. false) es (p .whole) (λ b l c z. refl) in
-      let e : t ≡ tally (n - s .spare - lengths es) false = counted-tally n (n - s .spare) es u (omega (arith, p .sum)) in
-      let z : n - s .spare - lengths es ≡ 0 = omega (arith, p .sum) in
+      let e : t ≡ tally (n - s .spare - held es) false = counted-tally n (n - s .spare) es u (omega (arith, p .sum)) in
+      let z : n - s .spare - held es ≡ 0 = omega (arith, p .sum) in
       let first = first-on t (ap (λ (x : Tally). x .stop) e) (ap (λ (x : Tally). x .left) e ∙ z) in
       test-is first ∙ ap not (never-fails u (once-fine u (p .once)) count (omega arith))
 

@@ -16,15 +16,16 @@ use Rattle.laws.proofs.Bools.{and-left, and-right, and-both, order}
 use Rattle.map_blocks.proofs.Maps.{in-state, state-of}
 use Rattle.map_blocks.proofs.Runs.{all-intro, all-elim}
 use Rattle.survey.specs.Survey.{countsOf}
+use Rattle.catalogue.specs.Entries.{held}
 use Rattle.catalogue.specs.declared.Entry.{Entry}
 use Rattle.image_soundness.specs.Sound.{State, coverings, undamaged, sound}
-use Rattle.image_soundness.proofs.Covers.{one, same-one, total-add, total-same, total-all, free-total, lengths}
+use Rattle.image_soundness.proofs.Covers.{one, same-one, total-add, total-same, total-all, free-total}
 use Rattle.image_soundness.proofs.Covers.{cover-outside, cover-total}
 
 pub record Tidy (n left : ℕ) (map : List ℕ) (es : List Entry) : Type 0 where
   pub whole : undamaged n (free map) es ≡ true
   pub once : (b : ℕ) → b < 64 * length map → coverings es b + one (free map b) ≡ one (ltb b n)
-  pub sum : left ≡ lengths es
+  pub sum : left ≡ held es
 
 -- soundness, in parts
 pub record Sound (s : State) : Type 0 where
@@ -93,13 +94,13 @@ balanced : (k : ℕ) (f : Bool) → k + one f ≡ 1 → (k ≤ 1) × (f ≡ eqb 
 balanced k true e = let z : k ≡ 0 = omega arith in (omega arith, sym (eq-eqb k 0 z))
 balanced k false e = let z : k ≡ 1 = omega arith in (omega arith, sym (ne-eqb k 0 (λ q. omega arith)))
 
-balance : (k : ℕ) (f : Bool) → k ≤ 1 → f ≡ eqb k 0 → k + one f ≡ 1
+pub balance : (k : ℕ) (f : Bool) → k ≤ 1 → f ≡ eqb k 0 → k + one f ≡ 1
 balance k true l e = let z = eqb-true k 0 (sym e) in omega arith
 balance k false l e = let z = eqb-false k 0 (sym e) in omega (arith, z)
 
 -- the covers and the free blocks make n
-count-law : (n : ℕ) (f : ℕ → Bool) (es : List Entry) → undamaged n f es ≡ true
-    → ((b : ℕ) → b < n → coverings es b + one (f b) ≡ 1) → lengths es + countsOf f n .free ≡ n
+pub count-law : (n : ℕ) (f : ℕ → Bool) (es : List Entry) → undamaged n f es ≡ true
+    → ((b : ℕ) → b < n → coverings es b + one (f b) ≡ 1) → held es + countsOf f n .free ≡ n
 count-law n f es u o =
     ap₂ _+_ (sym (cover-total n f es u)) (free-total f n) ∙ sym (total-add (coverings es) (λ b. one (f b)) n)
     ∙ total-same (λ b. coverings es b + one (f b)) (λ b. 1) n o ∙ total-all n
@@ -111,7 +112,7 @@ module _ (s : State) (room : s .blocks ≤ 64 * length (s .map)) (few : s .spare
       let below : (b : ℕ) → b < n → coverings (s .entries) b + one (free (s .map) b) ≡ 1 = λ b h. t .once b (omega arith)
       ∙ ap one (lt-ltb b n h) in
       let c = count-law n (free (s .map)) (s .entries) (t .whole) below in
-      let l : n - s .spare ≡ lengths (s .entries) = t .sum in
+      let l : n - s .spare ≡ held (s .entries) = t .sum in
       record {
         whole = t .whole;
         disjoint = λ b h. balanced (coverings (s .entries) b) (free (s .map) b) (below b h) .0;
