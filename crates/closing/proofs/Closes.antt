@@ -1,0 +1,199 @@
+-- `closes`: what the functions that a close consists of come to is what it answers and leaves.
+-- Assumes nothing.
+use mathlib.Core.Path.{_≡_, refl, sym, ap, ap₂, _∙_}
+use mathlib.Core.Bool.{Bool, true, false, not, _&&_, cond}
+use mathlib.Core.List.{List, [], _∷_}
+use Prim.Native.Nat.{ℕ, suc, _-_, _*_, _≤_}
+use native.Mathlib.Omega.{arith}
+use lib.Dec.{eqb, leb}
+use lib.ListN.{length}
+use borrow.Author.Tests.{le-leb, eqb-true, ne-eqb}
+use Rattle.laws.proofs.Bools.{and-left, and-right, and-both}
+use Rattle.catalogue.specs.Entries.{held}
+use Rattle.catalogue.specs.declared.Entry.{Entry}
+use Rattle.catalogue_standings.specs.Rows.{Verdict, accepted, refused, row, firstOf, settle, rowNumber}
+use Rattle.image_soundness.specs.Sound.{State, sound}
+use Rattle.image_soundness.specs.Windows.{tally, tested, testedScratch}
+use Rattle.image_soundness.specs.declared.Tally.{Tally}
+use Rattle.image_soundness.proofs.Tested.{tested-sound}
+use Rattle.image_soundness.proofs.WhenSound.{Sound, sound-to}
+use Rattle.image.specs.Table.{saveFits}
+use Rattle.image.proofs.Fitting.{SaveFits, save-fits-to}
+use Rattle.closing.specs.Closed.{firstTaken, closedEntries, closedCard, closedMap}
+use Rattle.closing.specs.Table.{closeFits, closeRows, closeVerdict}
+use Rattle.closing.specs.Effects.{closeNumber, closeMap, closeEntries, closeCard, closeScratch, Closes}
+use Rattle.closing.specs.Rounds.{firstTally, numberBy, roundsFor, roundsAt, roundsEntries, roundsCard}
+use Rattle.closing.specs.Rounds.{mapFits, mapAfter}
+use Rattle.closing.proofs.Closing.{Made, rounds-close}
+use Rattle.closing.proofs.Kept.{held-fits}
+use Rattle.closing.proofs.Rounded.{at-none, entries-none, card-none}
+
+-- what row 1 leaves
+pub record Lengths (n spare c maplen cardlen scratchlen : ℕ) : Type 0 where
+  pub saved : SaveFits n spare c maplen scratchlen
+  pub bytes : cardlen ≡ 512 * n
+
+pub close-fits-to : (n spare : ℕ) (fits : Bool) (c maplen cardlen scratchlen : ℕ)
+    → closeFits n spare fits c maplen cardlen scratchlen ≡ true → Lengths n spare c maplen cardlen scratchlen
+unfolding closeFits
+close-fits-to n spare fits c maplen cardlen scratchlen e =
+    let a : Bool = saveFits n spare c maplen scratchlen in
+    let b : Bool = eqb cardlen (512 * n) in
+    let ab = and-left (a && b) fits e in
+    record {
+      saved = save-fits-to n spare c maplen scratchlen (and-left a b ab);
+      bytes = eqb-true cardlen (512 * n) (and-right a b ab);
+    }
+
+-- the verdict, by row 1 and row 4
+module _ (s : State) (fits : Bool) (cardlen scratchlen : ℕ) where
+  abbrev fit : Bool
+  fit = closeFits (s .blocks) (s .spare) fits (length (s .entries)) (length (s .map)) cardlen scratchlen
+
+  abbrev rows : Bool → Bool → Verdict
+  rows f w = cond (not f) (refused 1) (cond (not w) (refused 4) accepted)
+
+  verdict-is : closeVerdict s fits cardlen scratchlen ≡ rows fit (sound s)
+  unfolding closeVerdict closeRows firstOf
+  verdict-is = refl
+
+  pub verdict-1 : fit ≡ false → closeVerdict s fits cardlen scratchlen ≡ refused 1
+  verdict-1 e = verdict-is ∙ ap (λ (f : Bool). rows f (sound s)) e
+
+  pub verdict-4 : fit ≡ true → sound s ≡ false → closeVerdict s fits cardlen scratchlen ≡ refused 4
+  verdict-4 e w = verdict-is ∙ ap₂ rows e w
+
+  pub verdict-0 : fit ≡ true → sound s ≡ true → closeVerdict s fits cardlen scratchlen ≡ accepted
+  verdict-0 e w = verdict-is ∙ ap₂ rows e w
+
+module _ (n spare : ℕ) (fits : Bool) (map : List ℕ) (entries : List Entry) (card scratch : List ℕ) where
+  abbrev state : State
+  state = record { blocks = n; spare = spare; entries = entries; map = map }
+
+  abbrev row-1 : Bool
+  row-1 = closeFits n spare fits (length entries) (length map) (length card) (length scratch)
+
+  abbrev start : Tally
+  start = firstTally n spare fits map (length entries) card scratch
+
+  abbrev whole : Bool
+  whole = tested map entries scratch n start
+
+  abbrev number : ℕ
+  number = numberBy start whole
+
+  abbrev times : ℕ
+  times = roundsFor (length entries) number
+
+  abbrev last : ℕ
+  last = roundsAt entries card times number
+
+  abbrev Result : Type 0
+  Result = Closes n spare fits map entries card scratch number (mapAfter map n last number)
+      (roundsEntries entries card times number) (roundsCard entries card times number)
+      (testedScratch map entries scratch n start)
+
+  -- what is said, for a verdict
+  said : (v : Verdict) → closeVerdict state fits (length card) (length scratch) ≡ v
+      → number ≡ rowNumber v
+      → mapAfter map n last number ≡ settle v (closedMap entries n map) (λ number. map)
+      → roundsEntries entries card times number ≡ settle v (closedEntries entries) (λ number. entries)
+      → roundsCard entries card times number ≡ settle v (closedCard entries card) (λ number. card)
+      → Result
+  unfolding closeNumber closeMap closeEntries closeCard closeScratch testedScratch
+  said v e p q r t = (
+    p ∙ ap rowNumber (sym e),
+    q ∙ ap (λ (w : Verdict). settle w (closedMap entries n map) (λ number. map)) (sym e),
+    r ∙ ap (λ (w : Verdict). settle w (closedEntries entries) (λ number. entries)) (sym e),
+    t ∙ ap (λ (w : Verdict). settle w (closedCard entries card) (λ number. card)) (sym e),
+    refl,
+  )
+
+  -- a refusal: no rounds, and the map as it was
+  module _ (k : ℕ) (is : number ≡ suc k) where
+    not-0 : eqb number 0 ≡ false
+    not-0 = ne-eqb number 0 (λ e. omega (arith, is, e))
+
+    no-rounds : times ≡ 0
+    unfolding roundsFor
+    no-rounds = ap (λ (b : Bool). cond b (length entries) 0) not-0
+
+    same-map : mapAfter map n last number ≡ map
+    unfolding mapAfter
+    same-map = ap (λ (b : Bool). cond (b && mapFits (length map) n last) (firstTaken last n (length map)) map) not-0
+
+    refusal : closeVerdict state fits (length card) (length scratch) ≡ refused (suc k) → Result
+    refusal e = said (refused (suc k)) e is same-map
+        (ap (λ (m : ℕ). roundsEntries entries card m number) no-rounds ∙ entries-none entries card number)
+        (ap (λ (m : ℕ). roundsCard entries card m number) no-rounds ∙ card-none entries card number)
+
+  -- the number by both rows
+  number-1 : row-1 ≡ false → number ≡ 1
+  unfolding firstTally numberBy
+  number-1 f =
+      ap (λ (b : Bool). cond (cond b (tally (n - spare) false) (tally 0 true) .stop) 1 (cond whole 0 4)) f
+
+  start-is : row-1 ≡ true → start ≡ tally (n - spare) false
+  unfolding firstTally
+  start-is f = ap (λ (b : Bool). cond b (tally (n - spare) false) (tally 0 true)) f
+
+  module _ (f : row-1 ≡ true) where
+    long : Lengths n spare (length entries) (length map) (length card) (length scratch)
+    long = close-fits-to n spare fits (length entries) (length map) (length card) (length scratch) f
+
+    whole-sound : whole ≡ sound state
+    whole-sound =
+        ap (tested map entries scratch n) (start-is f)
+        ∙ tested-sound state scratch (long .saved .shape) (long .saved .scratch)
+
+    number-is : number ≡ cond (sound state) 0 4
+    unfolding numberBy
+    number-is =
+        ap₂ (λ (t : Tally) (w : Bool). cond (t .stop) 1 (cond w 0 4)) (start-is f) whole-sound
+
+    module _ (w : sound state ≡ true) where
+      number-0 : number ≡ 0
+      number-0 = number-is ∙ ap (λ (b : Bool). cond b 0 4) w
+
+      all-rounds : times ≡ length entries
+      unfolding roundsFor
+      all-rounds = ap (λ (x : ℕ). cond (eqb x 0) (length entries) 0) number-0
+
+      made : Made entries card
+      made = rounds-close state card (sound-to state w) (long .saved .limits .limit) (long .saved .count .few)
+          (omega (arith, long .bytes))
+
+      last-is : last ≡ held entries
+      last-is = ap₂ (roundsAt entries card) all-rounds number-0 ∙ made .ends
+
+      map-fits : mapFits (length map) n (held entries) ≡ true
+      unfolding mapFits
+      map-fits =
+          let l = long .saved .limits in
+          let h : held entries ≤ n = held-fits state (sound-to state w) in
+          and-both _ (leb (held entries) n)
+          (and-both _ (leb n (64 * length map))
+          (and-both (leb (length map) 4096) (leb n 262144) (le-leb (length map) 4096 (omega (arith, l .words, l .limit)))
+          (le-leb n 262144 (l .limit)))
+          (le-leb n (64 * length map) (l .covered)))
+          (le-leb (held entries) n h)
+
+      map-is : mapAfter map n last number ≡ closedMap entries n map
+      unfolding mapAfter closedMap
+      map-is =
+          ap₂ (λ (h x : ℕ). cond (eqb x 0 && mapFits (length map) n h) (firstTaken h n (length map)) map) last-is number-0
+          ∙ ap (λ (b : Bool). cond b (firstTaken (held entries) n (length map)) map) map-fits
+
+      acceptance : Result
+      acceptance = said accepted (verdict-0 state fits (length card) (length scratch) f w) number-0 map-is
+          (ap₂ (roundsEntries entries card) all-rounds number-0 ∙ made .entries)
+          (ap₂ (roundsCard entries card) all-rounds number-0 ∙ made .cards)
+
+  pub closes : Result
+  closes = by row-1 (sound state) refl refl
+    where
+      by : (f w : Bool) → row-1 ≡ f → sound state ≡ w → Result
+      by false w e d = refusal 0 (number-1 e) (verdict-1 state fits (length card) (length scratch) e)
+      by true false e d =
+          refusal 3 (number-is e ∙ ap (λ (b : Bool). cond b 0 4) d) (verdict-4 state fits (length card) (length scratch) e d)
+      by true true e d = acceptance e d

@@ -1,0 +1,2 @@
+-- What the contracts of `closing_moves` cite.
+pub mod Moved
