@@ -16,4 +16,5 @@ pub mod Fitting
 pub mod Taken
 pub mod Twice
 pub mod Closes
+pub mod Claimed
 pub mod NearestFound

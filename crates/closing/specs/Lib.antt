@@ -1,5 +1,7 @@
--- What a customer reads: a card with its gaps closed, the rows of closing, and what it answers and leaves. Then how closing goes.
+-- What a customer reads: a card with its gaps closed, the rows of closing, what it answers and leaves, and what is claimed of
+-- that. Then how closing goes.
 pub mod Closed
 pub mod Table
 pub mod Effects
+pub mod Claim
 pub mod Rounds
