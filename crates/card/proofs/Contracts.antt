@@ -18,7 +18,7 @@ use Rattle.refusals.specs.Lent.{noCard}
 use Rattle.card.specs.Calls.{kept}
 use Rattle.card.specs.Contracts.{itself, Freshens, Searches, Surveys, Reserves, ReservesPlaced, Grows, Puts, Completes}
 use Rattle.card.specs.Contracts.{Offers, Accepts, Shows, ShowsDated}
-use Rattle.card.specs.Contracts.{Pauses, Resumes, Releases, TellsStanding, Saves, Loads}
+use Rattle.card.specs.Contracts.{Pauses, Resumes, Releases, TellsStanding, Saves, Loads, Closes}
 use Rattle.card.proofs.Shape.constants_hold as constants-hold-method
 use Rattle.card.proofs.Shape.fresh as fresh-method
 use Rattle.card.proofs.Shape.search as search-method
@@ -37,6 +37,7 @@ use Rattle.card.proofs.Shape.show as show-method
 use Rattle.card.proofs.Shape.show_dated as show-dated-method
 use Rattle.card.proofs.Shape.standing as standing-method
 use Rattle.card.proofs.Shape.save as save-method
+use Rattle.card.proofs.Shape.close as close-method
 use Rattle.card.proofs.Shape.load as load-method
 
 -- what is passed is a .0, a .1 .0 and so on, in the order of the parameters, and what is left of it t .0, t .1 .0 and so on
@@ -131,6 +132,11 @@ module _ {M : Type 1} (𝓤 : URA M) (H : Heap 𝓤) (A : Atoms 𝓤) (mem : Mem
       r (now (t .1 .1 .1 .0)) (now (t .1 .1 .1 .1 .0)))
   save-contract κs a r t g = refl
 
+  pub close-contract : Ensures 𝓤 close-method.ended (close-method.clauses 𝓤 H A mem run) (λ κs a r t.
+      Closes itself (kept (a .0) (now (a .1 .0)) (now (a .1 .1 .0)) (now (a .1 .1 .1 .0))) (now (a .1 .1 .1 .1 .0))
+      r (now (t .1 .0)) (now (t .1 .1 .0)) (now (t .1 .1 .1 .0)) (now (t .1 .1 .1 .1 .0)))
+  close-contract κs a r t g = refl
+
   pub load-contract : Ensures 𝓤 load-method.ended (load-method.clauses 𝓤 H A mem run) (λ κs a r t.
       Loads itself (a .0) (now (a .1 .0)) (now (a .1 .1 .0)) (now (a .1 .1 .1 .0)) (now (a .1 .1 .1 .1 .0))
       r (now (t .1 .1 .0)) (now (t .1 .1 .1 .0)) (now (t .1 .1 .1 .1 .0)))
@@ -190,6 +196,9 @@ module _ {M : Type 1} (𝓤 : URA M) (H : Heap 𝓤) (A : Atoms 𝓤) (mem : Mem
 
   pub save-asks-nothing : AsksNothing 𝓤 save-method.ended (save-method.clauses 𝓤 H A mem run)
   save-asks-nothing κs a g = refl
+
+  pub close-asks-nothing : AsksNothing 𝓤 close-method.ended (close-method.clauses 𝓤 H A mem run)
+  close-asks-nothing κs a g = refl
 
   pub load-asks-nothing : AsksNothing 𝓤 load-method.ended (load-method.clauses 𝓤 H A mem run)
   load-asks-nothing κs a g = refl

@@ -4,7 +4,7 @@
 -- Assumes nothing.
 use mathlib.Core.Path.{_≡_, sym, ap, _∙_}
 use mathlib.Core.Bool.{Bool, true, false, cond}
-use mathlib.Core.List.{List}
+use mathlib.Core.List.{List, []}
 use Prim.Native.Nat.{ℕ}
 use lib.Dec.{eqb}
 use lib.ListN.{length, replicate}
@@ -19,6 +19,7 @@ use Rattle.image_soundness.specs.Scratch.{scratchWords}
 use Rattle.image_frames.specs.Frames.{Bytes}
 use Rattle.image.specs.Image.{imageOf}
 use Rattle.image.specs.Table.{saveVerdict, loadVerdict}
+use Rattle.closing.specs.Table.{closeVerdict}
 use Rattle.image.proofs.Journey.{Words}
 use Rattle.card.specs.declared.Outcome.{Outcome}
 use Rattle.card.specs.declared.Shape.{Shape}
@@ -29,7 +30,8 @@ use Rattle.calendar.specs.Calendar.{dateOf}
 use Rattle.card.specs.Contracts.{ShowsDated}
 use Rattle.card.specs.Contracts.{itself, Freshens, Reserves, ReservesPlaced, Grows, Puts, Completes, Shows, Pauses}
 use Rattle.card.specs.Contracts.{Accepts, Resumes, Releases}
-use Rattle.card.specs.Contracts.{Saves, Loads}
+use Rattle.card.specs.Contracts.{Saves, Loads, Closes}
+use Rattle.card.proofs.Closings as closings
 use Rattle.card.proofs.Images as images
 use Rattle.card.proofs.Refusals as refusals
 
@@ -147,7 +149,7 @@ module _ {R : Type 0} (how : Outcome → R) (s : Kept) (sheet number : ℕ) (r :
       let same = refusals.show-dated-refused s sheet number place (dateOf year month day) buffer v in
       (h .0 ∙ ap how (same .0), h .1 ∙ same .1)
 
--- a refused save or load changes nothing but the scratch, which is all zeros
+-- a refused save, closing or load changes nothing but the scratch, which is all zeros
 pub save-refused : {R : Type 0} (how : Outcome → R) (shape : Shape) (map : List ℕ) (entries : List Entry)
     (scratch image : List ℕ) (number : ℕ) (r : R) (scratch′ image′ : List ℕ)
     → Saves how shape map entries scratch image r scratch′ image′
@@ -156,6 +158,16 @@ pub save-refused : {R : Type 0} (how : Outcome → R) (shape : Shape) (map : Lis
 save-refused how shape map entries scratch image number r scratch′ image′ h v =
     let same = images.save-refused shape map entries scratch image number v in
     (h .0 ∙ ap how (same .0), h .2 ∙ same .1, h .1 ∙ same .2)
+
+pub close-refused : {R : Type 0} (how : Outcome → R) (s : Kept) (scratch : List ℕ) (number : ℕ) (r : R) (map′ : List ℕ)
+    (entries′ : List Entry) (card′ scratch′ : List ℕ)
+    → Closes how s scratch r map′ entries′ card′ scratch′
+    → closeVerdict (savedState (s .shape) (s .map) (s .entries)) true (length (s .card)) (length scratch) ≡ refused number
+    → (r ≡ how (told (s .shape) (Refused number))) × (map′ ≡ s .map) × (entries′ ≡ s .entries) × (card′ ≡ s .card)
+    × (scratch′ ≡ replicate (length scratch) 0)
+close-refused how s scratch number r map′ entries′ card′ scratch′ h v =
+    let same = closings.close-refused false [] s scratch number v in
+    (h .0 ∙ ap how (same .outcome), h .1 ∙ same .words, h .2 ∙ same .sheets, h .3 ∙ same .bytes, h .4 ∙ same .zeros)
 
 pub load-refused : {R : Type 0} (how : Outcome → R) (shape : Shape) (image map : List ℕ) (entries : List Entry)
     (scratch : List ℕ) (number : ℕ) (r : R) (map′ : List ℕ) (entries′ : List Entry) (scratch′ : List ℕ)

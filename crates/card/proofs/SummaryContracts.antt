@@ -14,6 +14,7 @@ use Rattle.block.proofs.Clauses.{Ensures, AsksNothing}
 use Rattle.refusals.specs.Lent.{noCard}
 use Rattle.card.specs.Calls.{kept}
 use Rattle.card.specs.Contracts.{itself, Builds, Checks, ReservesBy, ReservesPlacedBy, AcceptsBy, GrowsBy, ReleasesBy}
+use Rattle.card.specs.Contracts.{ClosesBy}
 use Rattle.card.proofs.Shape.summary_build as summary-build-method
 use Rattle.card.proofs.Shape.summary_check as summary-check-method
 use Rattle.card.proofs.Shape.reserve_with_summary as reserve-with-summary-method
@@ -21,6 +22,7 @@ use Rattle.card.proofs.Shape.reserve_placed_with_summary as reserve-pla
 use Rattle.card.proofs.Shape.accept_with_summary as accept-with-summary-method
 use Rattle.card.proofs.Shape.grow_with_summary as grow-with-summary-method
 use Rattle.card.proofs.Shape.release_with_summary as release-with-summary-method
+use Rattle.card.proofs.Shape.close_with_summary as close-with-summary-method
 
 module _ {M : Type 1} (𝓤 : URA M) (H : Heap 𝓤) (A : Atoms 𝓤) (mem : Memory → SProp 𝓤) (run : Routine → Fun 𝓤) where
   pub summary-build-contract : Ensures 𝓤 summary-build-method.ended (summary-build-method.clauses 𝓤 H A mem run)
@@ -94,3 +96,14 @@ module _ {M : Type 1} (𝓤 : URA M) (H : Heap 𝓤) (A : Atoms 𝓤) (mem : Mem
   pub release-with-summary-asks-nothing : AsksNothing 𝓤 release-with-summary-method.ended
       (release-with-summary-method.clauses 𝓤 H A mem run)
   release-with-summary-asks-nothing κs a g = refl
+
+  pub close-with-summary-contract : Ensures 𝓤 close-with-summary-method.ended
+      (close-with-summary-method.clauses 𝓤 H A mem run) (λ κs a r t.
+      ClosesBy itself (kept (a .0) (now (a .1 .0)) (now (a .1 .1 .1 .0)) (now (a .1 .1 .1 .1 .0)))
+      (now (a .1 .1 .1 .1 .1 .0)) (now (a .1 .1 .0))
+      r (now (t .1 .0)) (now (t .1 .1 .0)) (now (t .1 .1 .1 .0)) (now (t .1 .1 .1 .1 .0)) (now (t .1 .1 .1 .1 .1 .0)))
+  close-with-summary-contract κs a r t g = refl
+
+  pub close-with-summary-asks-nothing : AsksNothing 𝓤 close-with-summary-method.ended
+      (close-with-summary-method.clauses 𝓤 H A mem run)
+  close-with-summary-asks-nothing κs a g = refl

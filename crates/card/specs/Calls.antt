@@ -19,10 +19,12 @@ use Rattle.call_summary.specs.Answers as summaries
 use Rattle.catalogue_wings.specs.Wings.{heldBy}
 use Rattle.refusals.specs.Lent.{Lent, lentBeside, within, noCard}
 use Rattle.refusals.specs.Placement.{Placement}
+use Rattle.refusals.specs.Guides.{guideTested}
 use Rattle.refusals.specs.Effects as effects
 use Rattle.refusals.specs.declared.Out.{Out}
 use Rattle.image_soundness.specs.Sound.{State}
 use Rattle.image.specs.Effects as images
+use Rattle.closing.specs.Effects as closings
 use Rattle.image.specs.declared.Loaded.{Loaded}
 use Rattle.card.specs.declared.Outcome.{Outcome}
 use Rattle.card.specs.declared.Shape.{Shape}
@@ -320,7 +322,7 @@ module _ (s : Kept) (sheet : ℕ) where
 abbrev pub savedState : Shape → List ℕ → List Entry → State
 savedState shape map entries = record { blocks = shape .blocks; spare = shape .free; entries = entries; map = map }
 
--- Save hands the shape back as it came: the number 0 says that it was done.
+-- Save, and closing, hand the shape back as it came: the number 0 says that it was done.
 abbrev pub saveOutcomeBy : Shape → ℕ → Outcome
 saveOutcomeBy shape number = told shape (cond (eqb number 0) Done (Refused number))
 
@@ -333,6 +335,58 @@ module _ (shape : Shape) (map : List ℕ) (entries : List Entry) (scratch image 
 
   abbrev pub saveImage : List ℕ
   saveImage = images.saveImage (shape .blocks) (shape .free) map entries scratch image
+
+-- ---- closing the gaps (document 02 (l))
+
+-- The summary that is lent is built anew of the map, if the call was accepted.
+abbrev pub rebuilt : Shape → List ℕ → List ℕ → ℕ → List ℕ
+rebuilt shape map summary number =
+    cond (eqb number 0) (summaries.builtSummary (shape .blocks) (shape .free) map summary) summary
+
+-- Lent a summary or not, whose length row 1 asks for then. The shape is handed back as it came.
+module _ (guided : Bool) (summary : List ℕ) (s : Kept) (scratch : List ℕ) where
+  abbrev fitsBy : Bool
+  fitsBy = guideTested guided (length (s .map)) (length summary)
+
+  abbrev closeNumberBy : ℕ
+  closeNumberBy = closings.closeNumber (s .shape .blocks) (s .shape .free) fitsBy (s .map) (s .entries) (s .card) scratch
+
+  abbrev pub closeOutcomeBy : Outcome
+  closeOutcomeBy = saveOutcomeBy (s .shape) closeNumberBy
+
+  abbrev pub closeMapBy : List ℕ
+  closeMapBy = closings.closeMap (s .shape .blocks) (s .shape .free) fitsBy (s .map) (s .entries) (s .card) scratch
+
+  abbrev pub closeSummaryBy : List ℕ
+  closeSummaryBy = rebuilt (s .shape) closeMapBy summary closeNumberBy
+
+  abbrev pub closeEntriesBy : List Entry
+  closeEntriesBy = closings.closeEntries (s .shape .blocks) (s .shape .free) fitsBy (s .map) (s .entries) (s .card) scratch
+
+  abbrev pub closeCardBy : List ℕ
+  closeCardBy = closings.closeCard (s .shape .blocks) (s .shape .free) fitsBy (s .map) (s .entries) (s .card) scratch
+
+  abbrev pub closeScratchBy : List ℕ
+  closeScratchBy = closings.closeScratch (s .shape .blocks) (s .shape .free) fitsBy (s .map) (s .entries) (s .card) scratch
+
+-- By the map alone.
+module _ (s : Kept) (scratch : List ℕ) where
+  abbrev pub closeOutcome : Outcome
+  closeOutcome = closeOutcomeBy false [] s scratch
+
+  abbrev pub closeMap : List ℕ
+  closeMap = closeMapBy false [] s scratch
+
+  abbrev pub closeEntries : List Entry
+  closeEntries = closeEntriesBy false [] s scratch
+
+  abbrev pub closeCard : List ℕ
+  closeCard = closeCardBy false [] s scratch
+
+  abbrev pub closeScratch : List ℕ
+  closeScratch = closeScratchBy false [] s scratch
+
+-- ---- load
 
 -- Load reads nothing of the shape it takes: it hands back the image's n and free count, or, refused, the shape as it came.
 abbrev pub loadOutcomeBy : Shape → Loaded → Outcome

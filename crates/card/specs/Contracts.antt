@@ -23,6 +23,8 @@ use Rattle.card.specs.Calls.{growOutcome, growMap, growEntries, growCard
 use Rattle.card.specs.Calls.{putOutcome, putCard, completeOutcome, completeEntries, showOutcome, showBuffer}
 use Rattle.card.specs.Calls.{pauseOutcome, pauseEntries, resumeOutcome, resumeEntries}
 use Rattle.card.specs.Calls.{releaseOutcome, releaseMap, releaseEntries, standingOutcome}
+use Rattle.card.specs.Calls.{closeOutcome, closeMap, closeEntries, closeCard, closeScratch}
+use Rattle.card.specs.Calls.{closeOutcomeBy, closeMapBy, closeSummaryBy, closeEntriesBy, closeCardBy, closeScratchBy}
 use Rattle.card.specs.Calls.{saveOutcome, saveScratch, saveImage, loadOutcome, loadMap, loadEntries, loadScratch}
 use Rattle.card.specs.declared.Outcome.{Outcome}
 use Rattle.card.specs.declared.Shape.{Shape}
@@ -167,6 +169,26 @@ module _ {R : Type 0} (how : Outcome → R) (summary : List ℕ) (s : Kept) (she
       × (map′ ≡ releaseMapBy true summary s sheet)
       × (summary′ ≡ releaseSummaryBy true summary s sheet)
       × (entries′ ≡ releaseEntriesBy true summary s sheet)
+
+-- ---- closing the gaps (document 02 (l))
+
+module _ {R : Type 0} (how : Outcome → R) (s : Kept) (scratch : List ℕ) where
+  abbrev pub Closes : R → List ℕ → List Entry → List ℕ → List ℕ → Type 0
+  Closes r map′ entries′ card′ scratch′ =
+      (r ≡ how (closeOutcome s scratch))
+      × (map′ ≡ closeMap s scratch)
+      × (entries′ ≡ closeEntries s scratch)
+      × (card′ ≡ closeCard s scratch)
+      × (scratch′ ≡ closeScratch s scratch)
+
+  abbrev pub ClosesBy : List ℕ → R → List ℕ → List ℕ → List Entry → List ℕ → List ℕ → Type 0
+  ClosesBy summary r map′ summary′ entries′ card′ scratch′ =
+      (r ≡ how (closeOutcomeBy true summary s scratch))
+      × (map′ ≡ closeMapBy true summary s scratch)
+      × (summary′ ≡ closeSummaryBy true summary s scratch)
+      × (entries′ ≡ closeEntriesBy true summary s scratch)
+      × (card′ ≡ closeCardBy true summary s scratch)
+      × (scratch′ ≡ closeScratchBy true summary s scratch)
 
 -- ---- the saved image
 

@@ -5,9 +5,11 @@ use mathlib.Core.Bool.{Bool, true, false}
 use mathlib.Core.List.{List, []}
 use Prim.Native.Nat.{ℕ}
 use Rattle.calendar.specs.Calendar.{dateOf}
+use lib.ListN.{length}
 use Rattle.catalogue.specs.declared.Entry.{Entry}
 use Rattle.catalogue.specs.declared.Slot.{Slot}
 use Rattle.refusals.specs.Lent.{Lent, lentBeside, within, noCard}
+use Rattle.refusals.specs.Guides.{guideTested}
 use Rattle.refusals.specs.Effects as effects
 use Rattle.refusals.specs.declared.Out.{Out}
 use Rattle.card.specs.Calls.{told, isDone}
@@ -72,6 +74,14 @@ standingOutcomeAt shape map slot sheet = told shape (effects.standingAnswer (len
 abbrev pub offerOutcomeAt : Shape → List ℕ → List ℕ → List ℕ → Slot → ℕ → ℕ → ℕ → Outcome
 offerOutcomeAt shape map card limits slot held sheet k =
     told shape (effects.offerAnswer (within held limits (lentAt shape map card slot sheet)) k)
+
+-- Nothing else is lent, whose length row 1 would ask for.
+abbrev pub nothingElse : Shape → Bool
+nothingElse shape = true
+
+-- A summary is lent, and row 1 asks for its length.
+abbrev pub besideFits : List ℕ → List ℕ → Bool
+besideFits map summary = guideTested true (length map) (length summary)
 
 -- n and the free count.
 abbrev pub blocksOf : Shape → ℕ

@@ -3,7 +3,7 @@
 ghost use mathlib.Core.Path.{_≡_};
 ghost use Rattle.card.specs.Calls.{outcomeOf, freshOutcomeBy, freshMapBy, saveOutcomeBy, loadOutcomeBy};
 ghost use Rattle.card.specs.Cores.{entryLeft, doneBy, lentAt, putOutcomeAt, showOutcomeAt, standingOutcomeAt};
-ghost use Rattle.card.specs.Cores.{blocksOf, spareOf};
+ghost use Rattle.card.specs.Cores.{blocksOf, spareOf, nothingElse};
 ghost use Rattle.refusals.specs.Lent.{noCard};
 ghost use Rattle.refusals.specs.Effects.{putCard, completeOut, pauseOut, resumeOut, releaseOut, releaseMap, showBuffer};
 use crate::Outcome;
@@ -214,6 +214,14 @@ pub fn free_of(shape: Shape) -> u32
     shape.free
 }
 
+// A call that is lent no summary.
+pub fn nothing_else(shape: Shape) -> bool
+    ensures { λ r. ⌜ r ≡ nothingElse shape ⌝ }
+{
+    true
+}
+
+// The outcome of a save and of a closing, by the number.
 pub fn save_outcome(shape: Shape, number: u32) -> Outcome
     ensures { λ r. ⌜ r ≡ saveOutcomeBy shape number ⌝ }
 {

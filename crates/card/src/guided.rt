@@ -1,7 +1,8 @@
 // The cores of the calls that are lent a summary (document 02, request j): the same calls, guided by it.
 ghost use mathlib.Core.Bool.{true};
 ghost use mathlib.Core.Path.{_≡_};
-ghost use Rattle.card.specs.Cores.{lentAtBy};
+ghost use Rattle.card.specs.Calls.{rebuilt};
+ghost use Rattle.card.specs.Cores.{lentAtBy, besideFits};
 ghost use Rattle.card.specs.Reserves.{plainOut, plainMap, plainSummary, plainCard};
 ghost use Rattle.card.specs.Reserves.{placedOut, placedMap, placedSummary, placedCard};
 ghost use Rattle.refusals.specs.Lent.{within, noCard};
@@ -191,4 +192,21 @@ pub fn release_guided(
         entry,
         sheet,
     )
+}
+
+// Row 1 for the summary's length, of a call that is lent one beside the map.
+pub fn beside_fits(map: &[u64], summary: &[u32]) -> bool
+    ensures { λ r. ⌜ r ≡ besideFits (now (map .entry)) (now (summary .entry)) ⌝ }
+{
+    refusals::guide_fits(true, map.len(), summary.len())
+}
+
+// Builds the summary anew, if the call was accepted (document 02 (l)).
+pub fn rebuild(shape: Shape, map: &[u64], summary: &mut [u32], number: u32)
+    ensures { λ _. ⌜ now (summary .exit) ≡ rebuilt shape (now (map .entry)) (now (summary .entry)) number ⌝ }
+{
+    if number != 0 {
+        return;
+    }
+    call_summary::build_summary(shape.blocks, shape.free, map, summary);
 }

@@ -19,6 +19,7 @@ ghost use Rattle.card.specs.Calls.{pauseOutcome, pauseEntries, resumeOut
 ghost use Rattle.card.specs.Calls.{releaseOutcome, releaseMap, releaseEntries, showOutcome};
 ghost use Rattle.card.specs.Calls.{showBuffer, standingOutcome, saveOutcome, saveScratch, saveImage, loadOutcome};
 ghost use Rattle.card.specs.Calls.{loadMap, loadEntries, loadScratch};
+ghost use Rattle.card.specs.Calls.{closeOutcome, closeMap, closeEntries, closeCard, closeScratch};
 use catalogue::Entry;
 use catalogue_standings::Answer;
 
@@ -350,6 +351,29 @@ impl Shape {
         let n = cores::blocks_of(self);
         let free = cores::free_of(self);
         let number = image_save::save(n, free, map, catalogue, scratch, image);
+        cores::save_outcome(self, number)
+    }
+
+    // Moves all extents towards block 0, in order of their starts and with no block free before or between them, and the bytes
+    // of their blocks along, if the state is sound (document 02 (l)). The scratch is all zeros after every closing.
+    pub fn close(
+        self,
+        map: &mut [u64],
+        catalogue: &mut [Entry],
+        card: &mut [u8],
+        scratch: &mut [u64],
+    ) -> Outcome
+        ensures { λ r. let s = kept self (now (map .entry)) (now (catalogue .entry)) (now (card .entry)) in
+            ⌜ (r ≡ closeOutcome s (now (scratch .entry)))
+            × (now (map .exit) ≡ closeMap s (now (scratch .entry)))
+            × (now (catalogue .exit) ≡ closeEntries s (now (scratch .entry)))
+            × (now (card .exit) ≡ closeCard s (now (scratch .entry)))
+            × (now (scratch .exit) ≡ closeScratch s (now (scratch .entry))) ⌝ }
+    {
+        let n = cores::blocks_of(self);
+        let free = cores::free_of(self);
+        let fits = cores::nothing_else(self);
+        let number = closing::close(n, free, fits, map, catalogue, card, scratch);
         cores::save_outcome(self, number)
     }
 

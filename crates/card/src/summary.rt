@@ -8,6 +8,8 @@ ghost use Rattle.card.specs.Calls.{reserveOutcomeBy, reserveMapBy, reser
 ghost use Rattle.card.specs.Calls.{acceptOutcomeBy, acceptMapBy, acceptSummaryBy, acceptEntriesBy, acceptCardBy};
 ghost use Rattle.card.specs.Calls.{growOutcomeBy, growMapBy, growSummaryBy, growEntriesBy, growCardBy};
 ghost use Rattle.card.specs.Calls.{releaseOutcomeBy, releaseMapBy, releaseSummaryBy, releaseEntriesBy};
+ghost use Rattle.card.specs.Calls.{closeOutcomeBy, closeMapBy, closeSummaryBy, closeEntriesBy, closeCardBy};
+ghost use Rattle.card.specs.Calls.{closeScratchBy};
 use crate::Outcome;
 use crate::Shape;
 use crate::cores;
@@ -195,5 +197,30 @@ impl Shape {
         let entry = cores::entry_of(out);
         catalogue::store(catalogue, sheet, entry);
         cores::outcome_of(self, out)
+    }
+
+    // Closing, after which the summary is built anew (document 02 (l)).
+    pub fn close_with_summary(
+        self,
+        map: &mut [u64],
+        summary: &mut [u32],
+        catalogue: &mut [Entry],
+        card: &mut [u8],
+        scratch: &mut [u64],
+    ) -> Outcome
+        ensures { λ r. let s = kept self (now (map .entry)) (now (catalogue .entry)) (now (card .entry)) in
+            ⌜ (r ≡ closeOutcomeBy true (now (summary .entry)) s (now (scratch .entry)))
+            × (now (map .exit) ≡ closeMapBy true (now (summary .entry)) s (now (scratch .entry)))
+            × (now (summary .exit) ≡ closeSummaryBy true (now (summary .entry)) s (now (scratch .entry)))
+            × (now (catalogue .exit) ≡ closeEntriesBy true (now (summary .entry)) s (now (scratch .entry)))
+            × (now (card .exit) ≡ closeCardBy true (now (summary .entry)) s (now (scratch .entry)))
+            × (now (scratch .exit) ≡ closeScratchBy true (now (summary .entry)) s (now (scratch .entry))) ⌝ }
+    {
+        let n = cores::blocks_of(self);
+        let free = cores::free_of(self);
+        let fits = guided::beside_fits(&*map, &*summary);
+        let number = closing::close(n, free, fits, map, catalogue, card, scratch);
+        guided::rebuild(self, &*map, summary, number);
+        cores::save_outcome(self, number)
     }
 }

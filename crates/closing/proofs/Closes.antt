@@ -45,6 +45,13 @@ close-fits-to n spare fits c maplen cardlen scratchlen e =
       bytes = eqb-true cardlen (512 * n) (and-right a b ab);
     }
 
+-- and of what else is lent
+pub fits-beside : (n spare : ℕ) (fits : Bool) (c maplen cardlen scratchlen : ℕ)
+    → closeFits n spare fits c maplen cardlen scratchlen ≡ true → fits ≡ true
+unfolding closeFits
+fits-beside n spare fits c maplen cardlen scratchlen e =
+    and-right (saveFits n spare c maplen scratchlen && eqb cardlen (512 * n)) fits e
+
 -- the verdict, by row 1 and row 4
 module _ (s : State) (fits : Bool) (cardlen scratchlen : ℕ) where
   abbrev fit : Bool
@@ -65,6 +72,20 @@ module _ (s : State) (fits : Bool) (cardlen scratchlen : ℕ) where
 
   pub verdict-0 : fit ≡ true → sound s ≡ true → closeVerdict s fits cardlen scratchlen ≡ accepted
   verdict-0 e w = verdict-is ∙ ap₂ rows e w
+
+-- a refusal has a number
+pub refused-number : (s : State) (fits : Bool) (cardlen scratchlen number : ℕ)
+    → closeVerdict s fits cardlen scratchlen ≡ refused number → number ≡ 0 → ⊥
+refused-number s fits cardlen scratchlen number v z = by (fit s fits cardlen scratchlen) (sound s) refl refl
+  where
+    by : (f w : Bool) → fit s fits cardlen scratchlen ≡ f → sound s ≡ w → ⊥
+    by false w e d =
+        let n : _≡_ {A = ℕ} 1 number = ap rowNumber (sym (verdict-1 s fits cardlen scratchlen e) ∙ v) in omega arith
+    by true false e d =
+        let n : _≡_ {A = ℕ} 4 number = ap rowNumber (sym (verdict-4 s fits cardlen scratchlen e d) ∙ v) in omega arith
+    by true true e d =
+        let n : _≡_ {A = ℕ} 0 1 =
+        ap (λ (w : Verdict). settle w 0 (λ k. 1)) (sym (verdict-0 s fits cardlen scratchlen e d) ∙ v) in omega arith
 
 module _ (n spare : ℕ) (fits : Bool) (map : List ℕ) (entries : List Entry) (card scratch : List ℕ) where
   abbrev state : State

@@ -1,5 +1,6 @@
--- A card with its gaps closed (document 02 (l)): all extents moved towards block 0, in order of their starts, with no block free
--- before or between them, and the bytes of their blocks moved along. Blocks that are free afterwards keep the bytes they had.
+-- A card with its gaps closed (document 02 (l)): all extents moved towards block 0, in order of their starts, with no block
+-- free before or between them, and the bytes of their blocks moved along. Blocks that are free afterwards keep the bytes they
+-- had.
 -- Assumes nothing.
 use mathlib.Core.Bool.{Bool, _&&_, cond}
 use mathlib.Core.List.{List, [], _∷_, map}

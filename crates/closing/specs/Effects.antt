@@ -1,5 +1,5 @@
--- What closing answers and leaves (document 02 (l)). A refusal changes nothing but the scratch, which is all zeros afterwards on
--- every path. Of the shape nothing changes.
+-- What closing answers and leaves (document 02 (l)). A refusal changes nothing but the scratch, which is all zeros afterwards
+-- on every path. Of the shape nothing changes.
 -- Assumes nothing.
 use mathlib.Core.Path.{_≡_}
 use mathlib.Core.Bool.{Bool}

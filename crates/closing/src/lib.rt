@@ -1,6 +1,7 @@
-// Closing the gaps (document 02 (l)): whether the state is sound, as save tests it, and the verdict. Then round by round: of the
-// extents that start at or after the end of those that have moved, the one with the least start moves down to that end. There
-// are as many rounds as entries, and each is one pass over them. Last the map: as many blocks as all extents have are taken.
+// Closing the gaps (document 02 (l)): whether the state is sound, as save tests it, and the verdict. Then round by round: of
+// the extents that start at or after the end of those that have moved, the one with the least start moves down to that end.
+// There are as many rounds as entries, and each is one pass over them. Last the map: as many blocks as all extents have are
+// taken.
 mod extent;
 
 ghost use mathlib.Core.Path.{_≡_};
@@ -178,8 +179,8 @@ fn close_map(map: &mut [u64], n: u32, h: u32, number: u32)
     mark(map, 0, h, TAKEN);
 }
 
-// Closes the gaps of a card, and gives 0 or the refusal's number. `fits`: what else is lent, a summary, has its length. If there
-// are rounds, the number is 0, and that is the block where they begin.
+// Closes the gaps of a card, and gives 0 or the refusal's number. `fits`: what else is lent, a summary, has its length. If
+// there are rounds, the number is 0, and that is the block where they begin.
 pub fn close(
     n: u32,
     free: u32,

@@ -22,7 +22,7 @@ use Rattle.refusals.specs.Lent.{noCard}
 use Rattle.card.specs.Calls.{kept}
 use Rattle.card.specs.Contracts.{Freshens, Searches, Surveys, Reserves, ReservesPlaced, Grows, Puts, Completes, Shows}
 use Rattle.card.specs.Contracts.{ShowsDated}
-use Rattle.card.specs.Contracts.{Offers, Accepts, Pauses, Resumes, Releases, TellsStanding, Saves, Loads}
+use Rattle.card.specs.Contracts.{Offers, Accepts, Pauses, Resumes, Releases, TellsStanding, Saves, Loads, Closes}
 use Rattle.pagunlit.proofs.pagunlit_fresh as fresh-function
 use Rattle.pagunlit.proofs.pagunlit_search as search-function
 use Rattle.pagunlit.proofs.pagunlit_survey as survey-function
@@ -40,6 +40,7 @@ use Rattle.pagunlit.proofs.pagunlit_show as show-function
 use Rattle.pagunlit.proofs.pagunlit_show_dated as show-dated-function
 use Rattle.pagunlit.proofs.pagunlit_standing as standing-function
 use Rattle.pagunlit.proofs.pagunlit_save as save-function
+use Rattle.pagunlit.proofs.pagunlit_close as close-function
 use Rattle.pagunlit.proofs.pagunlit_load as load-function
 use Rattle.pagunlit.proofs.pagunlit_read_count as read-count-function
 use Rattle.pagunlit.proofs.pagunlit_write_count as write-count-function
@@ -137,6 +138,11 @@ module _ {M : Type 1} (𝓤 : URA M) (H : Heap 𝓤) (A : Atoms 𝓤) (mem : Mem
       r (now (t .1 .1 .1 .0)) (now (t .1 .1 .1 .1 .0)))
   pagunlit-save-contract κs a r t g = refl
 
+  pub pagunlit-close-contract : Ensures 𝓤 close-function.ended (close-function.clauses 𝓤 H A mem run) (λ κs a r t.
+      Closes replyOf (kept (a .0) (now (a .1 .0)) (now (a .1 .1 .0)) (now (a .1 .1 .1 .0))) (now (a .1 .1 .1 .1 .0))
+      r (now (t .1 .0)) (now (t .1 .1 .0)) (now (t .1 .1 .1 .0)) (now (t .1 .1 .1 .1 .0)))
+  pagunlit-close-contract κs a r t g = refl
+
   pub pagunlit-load-contract : Ensures 𝓤 load-function.ended (load-function.clauses 𝓤 H A mem run) (λ κs a r t.
       Loads replyOf (a .0) (now (a .1 .0)) (now (a .1 .1 .0)) (now (a .1 .1 .1 .0)) (now (a .1 .1 .1 .1 .0))
       r (now (t .1 .1 .0)) (now (t .1 .1 .1 .0)) (now (t .1 .1 .1 .1 .0)))
@@ -213,6 +219,9 @@ module _ {M : Type 1} (𝓤 : URA M) (H : Heap 𝓤) (A : Atoms 𝓤) (mem : Mem
 
   pub pagunlit-standing-asks-nothing : AsksNothing 𝓤 standing-function.ended (standing-function.clauses 𝓤 H A mem run)
   pagunlit-standing-asks-nothing κs a g = refl
+
+  pub pagunlit-close-asks-nothing : AsksNothing 𝓤 close-function.ended (close-function.clauses 𝓤 H A mem run)
+  pagunlit-close-asks-nothing κs a g = refl
 
   pub pagunlit-save-asks-nothing : AsksNothing 𝓤 save-function.ended (save-function.clauses 𝓤 H A mem run)
   pagunlit-save-asks-nothing κs a g = refl

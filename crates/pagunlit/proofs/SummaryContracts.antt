@@ -15,6 +15,7 @@ use Rattle.refusals.specs.Lent.{noCard}
 use Rattle.card.specs.Calls.{kept}
 use Rattle.pagunlit_replies.specs.Replies.{replyOf}
 use Rattle.card.specs.Contracts.{Builds, Checks, ReservesBy, ReservesPlacedBy, AcceptsBy, GrowsBy, ReleasesBy}
+use Rattle.card.specs.Contracts.{ClosesBy}
 use Rattle.pagunlit.proofs.summary.pagunlit_summary_build as summary-build-function
 use Rattle.pagunlit.proofs.summary.pagunlit_summary_check as summary-check-function
 use Rattle.pagunlit.proofs.summary.pagunlit_reserve_with_summary as reserve-with-summary-function
@@ -22,6 +23,7 @@ use Rattle.pagunlit.proofs.summary.pagunlit_reserve_placed_with_summary
 use Rattle.pagunlit.proofs.summary.pagunlit_accept_with_summary as accept-with-summary-function
 use Rattle.pagunlit.proofs.summary.pagunlit_grow_with_summary as grow-with-summary-function
 use Rattle.pagunlit.proofs.summary.pagunlit_release_with_summary as release-with-summary-function
+use Rattle.pagunlit.proofs.summary.pagunlit_close_with_summary as close-with-summary-function
 
 module _ {M : Type 1} (𝓤 : URA M) (H : Heap 𝓤) (A : Atoms 𝓤) (mem : Memory → SProp 𝓤) (run : Routine → Fun 𝓤) where
   pub pagunlit-summary-build-contract : Ensures 𝓤 summary-build-function.ended (summary-build-function.clauses 𝓤 H A mem run)
@@ -97,3 +99,14 @@ module _ {M : Type 1} (𝓤 : URA M) (H : Heap 𝓤) (A : Atoms 𝓤) (mem : Mem
   pub pagunlit-release-with-summary-asks-nothing : AsksNothing 𝓤 release-with-summary-function.ended
       (release-with-summary-function.clauses 𝓤 H A mem run)
   pagunlit-release-with-summary-asks-nothing κs a g = refl
+
+  pub pagunlit-close-with-summary-contract : Ensures 𝓤 close-with-summary-function.ended
+      (close-with-summary-function.clauses 𝓤 H A mem run) (λ κs a r t.
+      ClosesBy replyOf (kept (a .0) (now (a .1 .0)) (now (a .1 .1 .1 .0)) (now (a .1 .1 .1 .1 .0)))
+      (now (a .1 .1 .1 .1 .1 .0)) (now (a .1 .1 .0))
+      r (now (t .1 .0)) (now (t .1 .1 .0)) (now (t .1 .1 .1 .0)) (now (t .1 .1 .1 .1 .0)) (now (t .1 .1 .1 .1 .1 .0)))
+  pagunlit-close-with-summary-contract κs a r t g = refl
+
+  pub pagunlit-close-with-summary-asks-nothing : AsksNothing 𝓤 close-with-summary-function.ended
+      (close-with-summary-function.clauses 𝓤 H A mem run)
+  pagunlit-close-with-summary-asks-nothing κs a g = refl

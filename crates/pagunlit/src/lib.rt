@@ -19,6 +19,7 @@ ghost use Rattle.card.specs.Calls.{putOutcome, putCard, completeOutcome, comple
 ghost use Rattle.card.specs.Calls.{resumeOutcome, resumeEntries};
 ghost use Rattle.card.specs.Calls.{releaseOutcome, releaseMap, releaseEntries, showOutcome, showBuffer, standingOutcome};
 ghost use Rattle.card.specs.Calls.{showDatedOutcome, showDatedBuffer};
+ghost use Rattle.card.specs.Calls.{closeOutcome, closeMap, closeEntries, closeCard, closeScratch};
 ghost use Rattle.card.specs.Calls.{saveOutcome, saveScratch, saveImage, loadOutcome, loadMap, loadEntries, loadScratch};
 use card::Shape;
 use catalogue::Entry;
@@ -325,6 +326,25 @@ pub extern "C" fn pagunlit_save(
         (now (image .entry))) ⌝ }
 {
     let outcome = shape.save(map, catalogue, scratch, image);
+    reply_of(outcome)
+}
+
+#[no_mangle]
+pub extern "C" fn pagunlit_close(
+    shape: Shape,
+    map: &mut [u64],
+    catalogue: &mut [Entry],
+    card: &mut [u8],
+    scratch: &mut [u64],
+) -> Reply
+    ensures { λ r. let s = kept shape (now (map .entry)) (now (catalogue .entry)) (now (card .entry)) in
+        ⌜ (r ≡ replyOf (closeOutcome s (now (scratch .entry))))
+        × (now (map .exit) ≡ closeMap s (now (scratch .entry)))
+        × (now (catalogue .exit) ≡ closeEntries s (now (scratch .entry)))
+        × (now (card .exit) ≡ closeCard s (now (scratch .entry)))
+        × (now (scratch .exit) ≡ closeScratch s (now (scratch .entry))) ⌝ }
+{
+    let outcome = shape.close(map, catalogue, card, scratch);
     reply_of(outcome)
 }
 

@@ -9,6 +9,8 @@ ghost use Rattle.card.specs.Calls.{reserveOutcomeBy, reserveMapBy, reserveSumma
 ghost use Rattle.card.specs.Calls.{acceptOutcomeBy, acceptMapBy, acceptSummaryBy, acceptEntriesBy, acceptCardBy};
 ghost use Rattle.card.specs.Calls.{growOutcomeBy, growMapBy, growSummaryBy, growEntriesBy, growCardBy};
 ghost use Rattle.card.specs.Calls.{releaseOutcomeBy, releaseMapBy, releaseSummaryBy, releaseEntriesBy};
+ghost use Rattle.card.specs.Calls.{closeOutcomeBy, closeMapBy, closeSummaryBy, closeEntriesBy, closeCardBy};
+ghost use Rattle.card.specs.Calls.{closeScratchBy};
 use card::Shape;
 use catalogue::Entry;
 use pagunlit_replies::Reply;
@@ -164,5 +166,26 @@ pub extern "C" fn pagunlit_release_with_summary(
         × (now (catalogue .exit) ≡ releaseEntriesBy true (now (summary .entry)) s sheet) ⌝ }
 {
     let outcome = shape.release_with_summary(map, summary, catalogue, sheet);
+    reply_of(outcome)
+}
+
+#[no_mangle]
+pub extern "C" fn pagunlit_close_with_summary(
+    shape: Shape,
+    map: &mut [u64],
+    summary: &mut [u32],
+    catalogue: &mut [Entry],
+    card: &mut [u8],
+    scratch: &mut [u64],
+) -> Reply
+    ensures { λ r. let s = kept shape (now (map .entry)) (now (catalogue .entry)) (now (card .entry)) in
+        ⌜ (r ≡ replyOf (closeOutcomeBy true (now (summary .entry)) s (now (scratch .entry))))
+        × (now (map .exit) ≡ closeMapBy true (now (summary .entry)) s (now (scratch .entry)))
+        × (now (summary .exit) ≡ closeSummaryBy true (now (summary .entry)) s (now (scratch .entry)))
+        × (now (catalogue .exit) ≡ closeEntriesBy true (now (summary .entry)) s (now (scratch .entry)))
+        × (now (card .exit) ≡ closeCardBy true (now (summary .entry)) s (now (scratch .entry)))
+        × (now (scratch .exit) ≡ closeScratchBy true (now (summary .entry)) s (now (scratch .entry))) ⌝ }
+{
+    let outcome = shape.close_with_summary(map, summary, catalogue, card, scratch);
     reply_of(outcome)
 }

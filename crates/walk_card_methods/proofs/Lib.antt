@@ -7,6 +7,8 @@ pub mod FromMapCatalogueCardLimits2
 pub mod MapCatalogueCardFromLimits2
 pub mod MapCatalogueCardFromLimits3
 pub mod MapCatalogueCardFromLimits5
+pub mod MapCatalogueCardScratch
 pub mod MapSummaryCatalogueCardFromLimits2
 pub mod MapSummaryCatalogueCardFromLimits3
 pub mod MapSummaryCatalogueCardFromLimits5
+pub mod MapSummaryCatalogueCardScratch

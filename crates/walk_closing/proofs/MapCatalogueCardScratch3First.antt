@@ -2,7 +2,7 @@
 -- [u8], scratch: &mut [u64]) whose code is
 --     let count: usize = count(&*catalogue);
 --     let start: Tally = begin(n, free, fits, &*map, count, &*card, &*scratch);
---     let sound: bool = test_sound(&*map, &*catalogue, scratch, n, start);
+--     let sound: bool = test(&*map, &*catalogue, scratch, n, start);
 --     let number: u32 = verdict(start, sound);
 --     let rounds: usize = rounds_for(count, number);
 --     let last: u32 = close_rounds(catalogue, card, rounds, number);
@@ -92,7 +92,7 @@ module _ (Tally : Value) where
 
   -- ---- the code
   abbrev function : Name → Name → Name → Name → Name → Name → Name → Fn
-  function #count #begin #test-sound #verdict #rounds-for #close-rounds #close-map = record {
+  function #count #begin #test #verdict #rounds-for #close-rounds #close-map = record {
     lifetimes = 4;
     outlives = [];
     params = 7;
@@ -131,8 +131,8 @@ module _ (Tally : Value) where
         (seq (assign (place 25 []) (aggregate (copy (place 24 []) ∷ copy (place 5 (field 1 ∷ [])) ∷ [])))
         (seq (assign (place 26 []) (addrOf (place 7 (field 0 ∷ deref (tyInt w64) ∷ []))))
         (seq (assign (place 27 []) (aggregate (copy (place 26 []) ∷ copy (place 7 (field 1 ∷ [])) ∷ [])))
-        (seq (call #test-sound (copy (place 23 []) ∷ copy (place 25 []) ∷ copy (place 27 []) ∷ copy (place 1 [])
-        ∷ copy (place 9 []) ∷ []) (place 10 []))
+        (seq (call #test (copy (place 23 []) ∷ copy (place 25 []) ∷ copy (place 27 []) ∷ copy (place 1 []) ∷ copy (place 9 [])
+        ∷ []) (place 10 []))
         (seq (call #verdict (copy (place 9 []) ∷ copy (place 10 []) ∷ []) (place 11 []))
         (seq (call #rounds-for (copy (place 8 []) ∷ copy (place 11 []) ∷ []) (place 12 []))
         (seq (assign (place 28 []) (addrOf (place 5 (field 0 ∷ deref Entry″.mir ∷ []))))
@@ -212,9 +212,9 @@ module _ (Tally : Value) where
         abbrev pub begin-contract : Contract 𝓤
         begin-contract = tripleOf 𝓤 H A begin-signature (closing 𝓤 H A begin-ended begin-clauses)
 
-  -- ---- what `test-sound` is, and what it ensures
-  abbrev test-sound-signature : Signature
-  test-sound-signature = record {
+  -- ---- what `test` is, and what it ensures
+  abbrev test-signature : Signature
+  test-signature = record {
     lifetimes = 3;
     outlives = [];
     params = shrSlice 0 tt (λ _. u64) ∷ shrSlice 1 tt (λ _. Entry′.the-row) ∷ mutSlice 2 tt (λ _. u64) ∷ plain (λ _. u32)
@@ -222,28 +222,28 @@ module _ (Tally : Value) where
     result = plain (λ _. Boolean);
   }
 
-  abbrev test-sound-ended : Ended
-  test-sound-ended = record { signature = test-sound-signature; kept = (yes, (yes, (yes, (yes, (yes, tt))))) }
+  abbrev test-ended : Ended
+  test-ended = record { signature = test-signature; kept = (yes, (yes, (yes, (yes, (yes, tt))))) }
 
-  abbrev test-sound-Model : Type 0 → Type 0
-  test-sound-Model X = List ℕ → List Entry → List ℕ → ℕ → (denotes Tally) → X
+  abbrev test-Model : Type 0 → Type 0
+  test-Model X = List ℕ → List Entry → List ℕ → ℕ → (denotes Tally) → X
 
-  module _ (test-sound-out : test-sound-Model Bool) (test-sound-x-scratch : test-sound-Model (List ℕ)) where
-    abbrev test-sound-says : List ℕ → List Entry → List ℕ → ℕ → (denotes Tally) → Bool → List ℕ → Type 0
-    test-sound-says a0 a1 a2 a3 a4 r b2 = (r ≡ test-sound-out a0 a1 a2 a3 a4) × (b2 ≡ test-sound-x-scratch a0 a1 a2 a3 a4)
+  module _ (test-out : test-Model Bool) (test-x-scratch : test-Model (List ℕ)) where
+    abbrev test-says : List ℕ → List Entry → List ℕ → ℕ → (denotes Tally) → Bool → List ℕ → Type 0
+    test-says a0 a1 a2 a3 a4 r b2 = (r ≡ test-out a0 a1 a2 a3 a4) × (b2 ≡ test-x-scratch a0 a1 a2 a3 a4)
 
     module _ {M : Type 1} (𝓤 : URA M) where
-      abbrev test-sound-clauses : Clauses 𝓤 test-sound-ended
-      test-sound-clauses κs a = record {
+      abbrev test-clauses : Clauses 𝓤 test-ended
+      test-clauses κs a = record {
         ghost = Unit {0};
         requires = λ _. emp 𝓤;
-        ensures = λ _ r e. fact 𝓤 (test-sound-says (now (a .0)) (now (a .1 .0)) (now (a .1 .1 .0)) (a .1 .1 .1 .0)
-            (a .1 .1 .1 .1 .0) r (now (e .1 .1 .0)));
+        ensures = λ _ r e. fact 𝓤 (test-says (now (a .0)) (now (a .1 .0)) (now (a .1 .1 .0)) (a .1 .1 .1 .0) (a .1 .1 .1 .1 .0)
+            r (now (e .1 .1 .0)));
       }
 
       module _ (H : Heap 𝓤) (A : Atoms 𝓤) where
-        abbrev pub test-sound-contract : Contract 𝓤
-        test-sound-contract = tripleOf 𝓤 H A test-sound-signature (closing 𝓤 H A test-sound-ended test-sound-clauses)
+        abbrev pub test-contract : Contract 𝓤
+        test-contract = tripleOf 𝓤 H A test-signature (closing 𝓤 H A test-ended test-clauses)
 
   -- ---- what `verdict` is, and what it ensures
   abbrev verdict-signature : Signature
@@ -372,11 +372,11 @@ module _ (Tally : Value) where
         abbrev pub close-map-contract : Contract 𝓤
         close-map-contract = tripleOf 𝓤 H A close-map-signature (closing 𝓤 H A close-map-ended close-map-clauses)
 
-  module _ (#count #begin #test-sound #verdict #rounds-for #close-rounds #close-map : Name) (count-out : count-Model ℕ)
-      (begin-out : begin-Model (denotes Tally)) (test-sound-out : test-sound-Model Bool)
-      (test-sound-x-scratch : test-sound-Model (List ℕ)) (verdict-out : verdict-Model ℕ) (rounds-for-out : rounds-for-Model ℕ)
-      (close-rounds-out : close-rounds-Model ℕ) (close-rounds-x-catalogue : close-rounds-Model (List Entry))
-      (close-rounds-x-card : close-rounds-Model (List ℕ)) (close-map-x-map : close-map-Model (List ℕ)) where
+  module _ (#count #begin #test #verdict #rounds-for #close-rounds #close-map : Name) (count-out : count-Model ℕ)
+      (begin-out : begin-Model (denotes Tally)) (test-out : test-Model Bool) (test-x-scratch : test-Model (List ℕ))
+      (verdict-out : verdict-Model ℕ) (rounds-for-out : rounds-for-Model ℕ) (close-rounds-out : close-rounds-Model ℕ)
+      (close-rounds-x-catalogue : close-rounds-Model (List Entry)) (close-rounds-x-card : close-rounds-Model (List ℕ))
+      (close-map-x-map : close-map-Model (List ℕ)) where
     -- ---- what the chain gives, call by call
     module _ (x-n : ℕ) (x-free : ℕ) (x-fits : Bool) (x-map : List ℕ) (x-catalogue : List Entry) (x-card : List ℕ)
         (x-scratch : List ℕ) where
@@ -387,10 +387,10 @@ module _ (Tally : Value) where
       v-start-of = begin-out x-n x-free x-fits x-map v-count-of x-card x-scratch
 
       abbrev v-sound-of : Bool
-      v-sound-of = test-sound-out x-map x-catalogue x-scratch x-n v-start-of
+      v-sound-of = test-out x-map x-catalogue x-scratch x-n v-start-of
 
-      abbrev z-test-sound-x-scratch-of : List ℕ
-      z-test-sound-x-scratch-of = test-sound-x-scratch x-map x-catalogue x-scratch x-n v-start-of
+      abbrev z-test-x-scratch-of : List ℕ
+      z-test-x-scratch-of = test-x-scratch x-map x-catalogue x-scratch x-n v-start-of
 
       abbrev v-number-of : ℕ
       v-number-of = verdict-out v-start-of v-sound-of
@@ -417,7 +417,7 @@ module _ (Tally : Value) where
         (v-number-of x-n x-free x-fits x-map x-catalogue x-card x-scratch) (z-close-map-x-map-of x-n x-free x-fits x-map
         x-catalogue x-card x-scratch) (z-close-rounds-x-catalogue-of x-n x-free x-fits x-map x-catalogue x-card x-scratch)
         (z-close-rounds-x-card-of x-n x-free x-fits x-map x-catalogue x-card x-scratch)
-        (z-test-sound-x-scratch-of x-n x-free x-fits x-map x-catalogue x-card x-scratch)) where
+        (z-test-x-scratch-of x-n x-free x-fits x-map x-catalogue x-card x-scratch)) where
       module _ {M : Type 1} (𝓤 : URA M) where
         abbrev clauses : Clauses 𝓤 ended
         clauses κs a = record {
@@ -501,9 +501,8 @@ module _ (Tally : Value) where
         abbrev v-sound : Bool
         v-sound = v-sound-of x-n x-free x-fits (now x-map) (now x-catalogue) (now x-card) (now x-scratch)
 
-        abbrev z-test-sound-x-scratch : List ℕ
-        z-test-sound-x-scratch = z-test-sound-x-scratch-of x-n x-free x-fits (now x-map) (now x-catalogue) (now x-card)
-            (now x-scratch)
+        abbrev z-test-x-scratch : List ℕ
+        z-test-x-scratch = z-test-x-scratch-of x-n x-free x-fits (now x-map) (now x-catalogue) (now x-card) (now x-scratch)
 
         abbrev v-number : ℕ
         v-number = v-number-of x-n x-free x-fits (now x-map) (now x-catalogue) (now x-card) (now x-scratch)
@@ -640,43 +639,39 @@ module _ (Tally : Value) where
             owned ! u32 (Is u32) (uint-makes 𝓤 H A W w32) x-n _ is-x-n $ fjoin ! $ move ! (1 ∷ 0 ∷ []) $ join ! $
             frame ! $ done !
 
-        -- ---- the caller has what `test-sound` asks
-        abbrev test-sound-args : (δ₀-test-sound δ₁-test-sound δ₂-test-sound : GName) → RefT (List ℕ)
-            × (RefT (List Entry) × (RefT (List ℕ) × (ℕ × ((denotes Tally) × Unit {0}))))
-        test-sound-args δ₀-test-sound δ₁-test-sound δ₂-test-sound = (
-          at-x-map δ₀-test-sound (now x-map),
-          (at-x-catalogue δ₁-test-sound (now x-catalogue), (at-x-scratch δ₂-test-sound (now x-scratch), (x-n, (v-start, tt)))),
+        -- ---- the caller has what `test` asks
+        abbrev test-args : (δ₀-test δ₁-test δ₂-test : GName) → RefT (List ℕ) × (RefT (List Entry)
+            × (RefT (List ℕ) × (ℕ × ((denotes Tally) × Unit {0}))))
+        test-args δ₀-test δ₁-test δ₂-test = (
+          at-x-map δ₀-test (now x-map),
+          (at-x-catalogue δ₁-test (now x-catalogue), (at-x-scratch δ₂-test (now x-scratch), (x-n, (v-start, tt)))),
         )
 
-        abbrev to-test-sound : (ν₀-test-sound ν₁-test-sound ν₂-test-sound : ℕ) (δ₀-test-sound δ₁-test-sound δ₂-test-sound :
-            GName) → (test-sound-contract test-sound-out test-sound-x-scratch 𝓤 H A) .Ghost
-        to-test-sound ν₀-test-sound ν₁-test-sound ν₂-test-sound δ₀-test-sound δ₁-test-sound δ₂-test-sound
-            = (
-              (
-                (ν₀-test-sound ∷ [], (ν₁-test-sound ∷ [], (ν₂-test-sound ∷ [], tt))),
-                (fullShare, (fullShare, (fullShare, tt))),
-                tt,
-                test-sound-args δ₀-test-sound δ₁-test-sound δ₂-test-sound,
-                (s-x-map ∷ [], (s-x-catalogue ∷ [], (s-x-scratch ∷ [], (m-x-n ∷ [], (m-v-start ∷ [], tt))))),
-              ),
-              tt,
-            )
+        abbrev to-test : (ν₀-test ν₁-test ν₂-test : ℕ) (δ₀-test δ₁-test δ₂-test : GName)
+            → (test-contract test-out test-x-scratch 𝓤 H A) .Ghost
+        to-test ν₀-test ν₁-test ν₂-test δ₀-test δ₁-test δ₂-test = (
+          (
+            (ν₀-test ∷ [], (ν₁-test ∷ [], (ν₂-test ∷ [], tt))),
+            (fullShare, (fullShare, (fullShare, tt))),
+            tt,
+            test-args δ₀-test δ₁-test δ₂-test,
+            (s-x-map ∷ [], (s-x-catalogue ∷ [], (s-x-scratch ∷ [], (m-x-n ∷ [], (m-v-start ∷ [], tt))))),
+          ),
+          tt,
+        )
 
-        goes-test-sound : (ν₀-test-sound ν₁-test-sound ν₂-test-sound : ℕ) (δ₀-test-sound δ₁-test-sound δ₂-test-sound : GName)
-            → Is (rowOf Tally) v-start (m-v-start ∷ []) → ent 𝓤 (⋆ 𝓤 H A (‵ (flft (ν₀-test-sound ∷ []) fullShare)
-            ∷ ‵ (flft (ν₁-test-sound ∷ []) fullShare) ∷ ‵ (flft (ν₂-test-sound ∷ []) fullShare)
-            ∷ ‵ (ShrSlice (named 0) (ν₀-test-sound ∷ []) u64 .own (at-x-map δ₀-test-sound (now x-map)) (s-x-map ∷ []))
-            ∷ ‵ (ShrSlice (named 1) (ν₁-test-sound ∷ []) Entry′.the-row .own (at-x-catalogue δ₁-test-sound (now x-catalogue))
-            (s-x-catalogue ∷ [])) ∷ ‵ (MutSlice (named 2) (ν₂-test-sound ∷ []) u64 .own
-            (at-x-scratch δ₂-test-sound (now x-scratch)) (s-x-scratch ∷ [])) ∷ [])) ((test-sound-contract test-sound-out
-            test-sound-x-scratch 𝓤 H A) .pre (to-test-sound ν₀-test-sound ν₁-test-sound ν₂-test-sound δ₀-test-sound
-            δ₁-test-sound δ₂-test-sound))
-        goes-test-sound ν₀-test-sound ν₁-test-sound ν₂-test-sound δ₀-test-sound δ₁-test-sound δ₂-test-sound is-v-start =
-            qed W (‵ (flft (ν₀-test-sound ∷ []) fullShare) ∷ ‵ (flft (ν₁-test-sound ∷ []) fullShare)
-            ∷ ‵ (flft (ν₂-test-sound ∷ []) fullShare) ∷ ‵ (ShrSlice (named 0) (ν₀-test-sound ∷ []) u64 .own
-            (at-x-map δ₀-test-sound (now x-map)) (s-x-map ∷ [])) ∷ ‵ (ShrSlice (named 1) (ν₁-test-sound ∷ [])
-            Entry′.the-row .own (at-x-catalogue δ₁-test-sound (now x-catalogue)) (s-x-catalogue ∷ []))
-            ∷ ‵ (MutSlice (named 2) (ν₂-test-sound ∷ []) u64 .own (at-x-scratch δ₂-test-sound (now x-scratch))
+        goes-test : (ν₀-test ν₁-test ν₂-test : ℕ) (δ₀-test δ₁-test δ₂-test : GName) → Is (rowOf Tally) v-start (m-v-start ∷ [])
+            → ent 𝓤 (⋆ 𝓤 H A (‵ (flft (ν₀-test ∷ []) fullShare) ∷ ‵ (flft (ν₁-test ∷ []) fullShare)
+            ∷ ‵ (flft (ν₂-test ∷ []) fullShare) ∷ ‵ (ShrSlice (named 0) (ν₀-test ∷ []) u64 .own (at-x-map δ₀-test (now x-map))
+            (s-x-map ∷ [])) ∷ ‵ (ShrSlice (named 1) (ν₁-test ∷ []) Entry′.the-row .own
+            (at-x-catalogue δ₁-test (now x-catalogue)) (s-x-catalogue ∷ [])) ∷ ‵ (MutSlice (named 2) (ν₂-test ∷ []) u64 .own
+            (at-x-scratch δ₂-test (now x-scratch)) (s-x-scratch ∷ [])) ∷ [])) ((test-contract test-out test-x-scratch 𝓤 H
+            A) .pre (to-test ν₀-test ν₁-test ν₂-test δ₀-test δ₁-test δ₂-test))
+        goes-test ν₀-test ν₁-test ν₂-test δ₀-test δ₁-test δ₂-test is-v-start =
+            qed W (‵ (flft (ν₀-test ∷ []) fullShare) ∷ ‵ (flft (ν₁-test ∷ []) fullShare) ∷ ‵ (flft (ν₂-test ∷ []) fullShare)
+            ∷ ‵ (ShrSlice (named 0) (ν₀-test ∷ []) u64 .own (at-x-map δ₀-test (now x-map)) (s-x-map ∷ []))
+            ∷ ‵ (ShrSlice (named 1) (ν₁-test ∷ []) Entry′.the-row .own (at-x-catalogue δ₁-test (now x-catalogue))
+            (s-x-catalogue ∷ [])) ∷ ‵ (MutSlice (named 2) (ν₂-test ∷ []) u64 .own (at-x-scratch δ₂-test (now x-scratch))
             (s-x-scratch ∷ [])) ∷ []) ∵
             nothing ! $ move ! (3 ∷ 0 ∷ []) $ join ! $ move ! (2 ∷ 0 ∷ []) $ join ! $ move ! (1 ∷ 0 ∷ []) $ join ! $
             nothing ! $ owned ! (rowOf Tally) (Is (rowOf Tally)) (Tally .makes 𝓤 H A) v-start _ is-v-start $ fjoin ! $
@@ -786,25 +781,21 @@ module _ (Tally : Value) where
         -- ---- the exit
         exits : Is u32 v-number (m-v-number ∷ []) → length z-close-map-x-map ≡ length (now x-map)
             → length z-close-rounds-x-catalogue ≡ length (now x-catalogue) → length z-close-rounds-x-card ≡ length (now x-card)
-            → length z-test-sound-x-scratch ≡ length (now x-scratch) → ent 𝓤 (⋆ 𝓤 H A (‵
-            (MutSlice (named 0) κ₀ u64 .own (at-x-map (x-map .name) z-close-map-x-map) (s-x-map ∷ [])) ∷ ‵ (flft κ₀ q₀)
+            → length z-test-x-scratch ≡ length (now x-scratch) → ent 𝓤 (⋆ 𝓤 H A (‵ (MutSlice (named 0) κ₀ u64 .own
+            (at-x-map (x-map .name) z-close-map-x-map) (s-x-map ∷ [])) ∷ ‵ (flft κ₀ q₀)
             ∷ ‵ (MutSlice (named 1) κ₁ Entry′.the-row .own (at-x-catalogue (x-catalogue .name) z-close-rounds-x-catalogue)
             (s-x-catalogue ∷ [])) ∷ ‵ (flft κ₁ q₁) ∷ ‵ (MutSlice (named 2) κ₂ u8 .own (at-x-card (x-card .name)
             z-close-rounds-x-card) (s-x-card ∷ [])) ∷ ‵ (flft κ₂ q₂) ∷ ‵ (MutSlice (named 3) κ₃ u64 .own
-            (at-x-scratch (x-scratch .name) z-test-sound-x-scratch) (s-x-scratch ∷ [])) ∷ ‵ (flft κ₃ q₃) ∷ []))
-            (Post m-v-number)
+            (at-x-scratch (x-scratch .name) z-test-x-scratch) (s-x-scratch ∷ [])) ∷ ‵ (flft κ₃ q₃) ∷ [])) (Post m-v-number)
         exits is l-x-map l-x-catalogue l-x-card l-x-scratch =
             qed W (‵ (MutSlice (named 0) κ₀ u64 .own (at-x-map (x-map .name) z-close-map-x-map) (s-x-map ∷ [])) ∷ ‵ (flft κ₀ q₀)
             ∷ ‵ (MutSlice (named 1) κ₁ Entry′.the-row .own (at-x-catalogue (x-catalogue .name) z-close-rounds-x-catalogue)
             (s-x-catalogue ∷ [])) ∷ ‵ (flft κ₁ q₁) ∷ ‵ (MutSlice (named 2) κ₂ u8 .own (at-x-card (x-card .name)
             z-close-rounds-x-card) (s-x-card ∷ [])) ∷ ‵ (flft κ₂ q₂) ∷ ‵ (MutSlice (named 3) κ₃ u64 .own
-            (at-x-scratch (x-scratch .name) z-test-sound-x-scratch) (s-x-scratch ∷ [])) ∷ ‵ (flft κ₃ q₃) ∷ []) ∵
+            (at-x-scratch (x-scratch .name) z-test-x-scratch) (s-x-scratch ∷ [])) ∷ ‵ (flft κ₃ q₃) ∷ []) ∵
             suffices ! _ (ends-at 𝓤 H A ended stayed (clauses 𝓤) W bound m-v-number v-number (
               tt,
-              (
-                tt,
-                (tt, (z-close-map-x-map, (z-close-rounds-x-catalogue, (z-close-rounds-x-card, (z-test-sound-x-scratch, tt))))),
-              ),
+              (tt, (tt, (z-close-map-x-map, (z-close-rounds-x-catalogue, (z-close-rounds-x-card, (z-test-x-scratch, tt)))))),
             ) (tt, (tt, (tt, (l-x-map, (l-x-catalogue, (l-x-card, (l-x-scratch, tt)))))))) $
             says ! (law x-n x-free x-fits (now x-map) (now x-catalogue) (now x-card) (now x-scratch)) $ nothing ! $
             move ! (8 ∷ 0 ∷ []) $ join ! $ move ! (6 ∷ 0 ∷ []) $ join ! $ move ! (4 ∷ 0 ∷ []) $ join ! $
@@ -817,19 +808,19 @@ module _ (Tally : Value) where
 
         -- ---- the walk
         walk : (𝓣 : Tables 𝓤 H) → Triple 𝓤 (𝓣 .C #count) (count-contract count-out 𝓤 H A)
-            → Triple 𝓤 (𝓣 .C #begin) (begin-contract begin-out 𝓤 H A) → Triple 𝓤 (𝓣 .C #test-sound)
-            (test-sound-contract test-sound-out test-sound-x-scratch 𝓤 H A) → Triple 𝓤 (𝓣 .C #verdict)
-            (verdict-contract verdict-out 𝓤 H A) → Triple 𝓤 (𝓣 .C #rounds-for) (rounds-for-contract rounds-for-out 𝓤 H A)
-            → Triple 𝓤 (𝓣 .C #close-rounds) (close-rounds-contract close-rounds-out close-rounds-x-catalogue close-rounds-x-card
-            𝓤 H A) → Triple 𝓤 (𝓣 .C #close-map) (close-map-contract close-map-x-map 𝓤 H A)
-            → ent 𝓤 (onEntry 𝓤 H A signature (κ₀, (κ₁, (κ₂, (κ₃, tt)))) (q₀, (q₁, (q₂, (q₃, tt)))) args vals)
-            (WpFn 𝓤 H (𝓣 .C) (𝓣 .Λ) (function #count #begin #test-sound #verdict #rounds-for #close-rounds #close-map)
+            → Triple 𝓤 (𝓣 .C #begin) (begin-contract begin-out 𝓤 H A) → Triple 𝓤 (𝓣 .C #test)
+            (test-contract test-out test-x-scratch 𝓤 H A) → Triple 𝓤 (𝓣 .C #verdict) (verdict-contract verdict-out 𝓤 H A)
+            → Triple 𝓤 (𝓣 .C #rounds-for) (rounds-for-contract rounds-for-out 𝓤 H A) → Triple 𝓤 (𝓣 .C #close-rounds)
+            (close-rounds-contract close-rounds-out close-rounds-x-catalogue close-rounds-x-card 𝓤 H A)
+            → Triple 𝓤 (𝓣 .C #close-map) (close-map-contract close-map-x-map 𝓤 H A) → ent 𝓤
+            (onEntry 𝓤 H A signature (κ₀, (κ₁, (κ₂, (κ₃, tt)))) (q₀, (q₁, (q₂, (q₃, tt)))) args vals)
+            (WpFn 𝓤 H (𝓣 .C) (𝓣 .Λ) (function #count #begin #test #verdict #rounds-for #close-rounds #close-map)
             (m-x-n ∷ m-x-free ∷ m-x-fits ∷ s-x-map ∷ s-x-catalogue ∷ s-x-card ∷ s-x-scratch ∷ []) Post)
-        walk 𝓣 known-count known-begin known-test-sound known-verdict known-rounds-for known-close-rounds known-close-map =
+        walk 𝓣 known-count known-begin known-test known-verdict known-rounds-for known-close-rounds known-close-map =
             qed W ((‵ (flft κ₀ q₀) ⊛ ‵ (flft κ₁ q₁) ⊛ ‵ (flft κ₂ q₂) ⊛ ‵ (flft κ₃ q₃) ⊛ ‵ ftrue)
             ∷ ‵ (owns (u32 ∷ u32 ∷ Boolean ∷ MutSlice (named 0) κ₀ u64 ∷ MutSlice (named 1) κ₁ Entry′.the-row
             ∷ MutSlice (named 2) κ₂ u8 ∷ MutSlice (named 3) κ₃ u64 ∷ []) args vals) ∷ []) ∵
-            enter ! (𝓣 .C) (𝓣 .Λ) (function #count #begin #test-sound #verdict #rounds-for #close-rounds #close-map)
+            enter ! (𝓣 .C) (𝓣 .Λ) (function #count #begin #test #verdict #rounds-for #close-rounds #close-map)
             (m-x-n ∷ m-x-free ∷ m-x-fits ∷ s-x-map ∷ s-x-catalogue ∷ s-x-card ∷ s-x-scratch ∷ []) _ $
             alloc1 ! (λ l₀. alloc1 ! (λ l₁. alloc1 ! (λ l₂. alloc1 ! (λ l₃. alloc1 ! (λ l₄. alloc1 ! (λ l₅.
             alloc1 ! (λ l₆. alloc1 ! (λ l₇. alloc1 ! (λ l₈. alloc1 ! (λ l₉. alloc1 ! (λ l₁₀. alloc1 ! (λ l₁₁.
@@ -963,7 +954,7 @@ module _ (Tally : Value) where
             (s-x-scratch ∷ [])) ⊛ ‵ (flft κ₃ q₃))) (comes-home u64 κ₃ (ν₂-begin ∷ []) q₃ (x-scratch .name) (x-scratch .ptr .0)
             (x-scratch .ptr .1) 𝓤 H A W (named 3) (named 2) (now x-scratch) (length (now x-scratch)) refl room-x-scratch) $
             await ! tt $ split ! $
-            -- test-sound
+            -- test
             assigns ! (addr ! (from ! (fld ! refl (hop ! (look-in ! 68 (sub ! 0 refl (whole !))) (stop !))))) (from ! (stop !))
             (init ! 32 refl (tt, tt)) $
             assigns ! (agg ! (and-then ! (load ! (from ! (stop !)) (look ! 32 refl)) (and-then !
@@ -979,79 +970,72 @@ module _ (Tally : Value) where
             assigns ! (agg ! (and-then ! (load ! (from ! (stop !)) (look ! 24 refl)) (and-then !
             (load ! (from ! (fld ! refl (stop !))) (look-in ! 62 (sub ! 1 refl (whole !)))) (no-more !)))) (from ! (stop !))
             (init ! 22 refl (tt, (tt, (record { fits = room-x-scratch .0 }, tt)))) $
-            lft-new ! tt (λ ν₀-test-sound. move ! (5 ∷ 6 ∷ []) $
-            use2 W (later (some (λ (δ : GName). ‵ (ShrSlice (named 0) (ν₀-test-sound ∷ []) u64 .own (at-x-map δ (now x-map))
-            (s-x-map ∷ [])) ⊛ ‵ (LentOut u64 κ₀ (ν₀-test-sound ∷ []) q₀ (x-map .name) (x-map .ptr .0) (x-map .ptr .1)
-            (now x-map))))) (lends-out u64 κ₀ (ν₀-test-sound ∷ []) q₀ (x-map .name) (x-map .ptr .0) (x-map .ptr .1) 𝓤 H A W
-            (named 0) (named 0) (now x-map) (length (now x-map)) refl) $
-            await ! tt $ pick ! (λ δ₀-test-sound. split ! $ lft-new ! tt (λ ν₁-test-sound. move ! (8 ∷ 9 ∷ []) $
-            use2 W (later (some (λ (δ : GName). ‵ (ShrSlice (named 1) (ν₁-test-sound ∷ []) Entry′.the-row .own
-            (at-x-catalogue δ (now x-catalogue)) (s-x-catalogue ∷ [])) ⊛ ‵ (LentOut Entry′.the-row κ₁ (ν₁-test-sound ∷ []) q₁
+            lft-new ! tt (λ ν₀-test. move ! (5 ∷ 6 ∷ []) $
+            use2 W (later (some (λ (δ : GName). ‵ (ShrSlice (named 0) (ν₀-test ∷ []) u64 .own (at-x-map δ (now x-map))
+            (s-x-map ∷ [])) ⊛ ‵ (LentOut u64 κ₀ (ν₀-test ∷ []) q₀ (x-map .name) (x-map .ptr .0) (x-map .ptr .1) (now x-map)))))
+            (lends-out u64 κ₀ (ν₀-test ∷ []) q₀ (x-map .name) (x-map .ptr .0) (x-map .ptr .1) 𝓤 H A W (named 0) (named 0)
+            (now x-map) (length (now x-map)) refl) $
+            await ! tt $ pick ! (λ δ₀-test. split ! $ lft-new ! tt (λ ν₁-test. move ! (8 ∷ 9 ∷ []) $
+            use2 W (later (some (λ (δ : GName). ‵ (ShrSlice (named 1) (ν₁-test ∷ []) Entry′.the-row .own
+            (at-x-catalogue δ (now x-catalogue)) (s-x-catalogue ∷ [])) ⊛ ‵ (LentOut Entry′.the-row κ₁ (ν₁-test ∷ []) q₁
             (x-catalogue .name) (x-catalogue .ptr .0) (x-catalogue .ptr .1) (now x-catalogue)))))
-            (lends-out Entry′.the-row κ₁ (ν₁-test-sound ∷ []) q₁ (x-catalogue .name) (x-catalogue .ptr .0) (x-catalogue .ptr .1)
-            𝓤 H A W (named 1) (named 1) (now x-catalogue) (length (now x-catalogue)) refl) $
-            await ! tt $ pick ! (λ δ₁-test-sound. split ! $ lft-new ! tt (λ ν₂-test-sound. move ! (7 ∷ 8 ∷ []) $
-            use2 W (later (some (λ (δ : GName). ‵ (MutSlice (named 2) (ν₂-test-sound ∷ []) u64 .own
-            (at-x-scratch δ (now x-scratch)) (s-x-scratch ∷ [])) ⊛ ‵ (LentAgain u64 κ₃ (ν₂-test-sound ∷ []) q₃ (x-scratch .name)
-            (x-scratch .ptr .0) (x-scratch .ptr .1) δ (now x-scratch))))) (lends-again u64 κ₃ (ν₂-test-sound ∷ []) q₃
-            (x-scratch .name) (x-scratch .ptr .0) (x-scratch .ptr .1) 𝓤 H A W (named 3) (named 2) (now x-scratch)
-            (length (now x-scratch)) refl) $
-            await ! tt $ pick ! (λ δ₂-test-sound. split ! $ move ! (8 ∷ 5 ∷ 2 ∷ 6 ∷ 3 ∷ 0 ∷ []) $ move ! (4 ∷ 5 ∷ []) $
+            (lends-out Entry′.the-row κ₁ (ν₁-test ∷ []) q₁ (x-catalogue .name) (x-catalogue .ptr .0) (x-catalogue .ptr .1) 𝓤 H A
+            W (named 1) (named 1) (now x-catalogue) (length (now x-catalogue)) refl) $
+            await ! tt $ pick ! (λ δ₁-test. split ! $ lft-new ! tt (λ ν₂-test. move ! (7 ∷ 8 ∷ []) $
+            use2 W (later (some (λ (δ : GName). ‵ (MutSlice (named 2) (ν₂-test ∷ []) u64 .own (at-x-scratch δ (now x-scratch))
+            (s-x-scratch ∷ [])) ⊛ ‵ (LentAgain u64 κ₃ (ν₂-test ∷ []) q₃ (x-scratch .name) (x-scratch .ptr .0)
+            (x-scratch .ptr .1) δ (now x-scratch))))) (lends-again u64 κ₃ (ν₂-test ∷ []) q₃ (x-scratch .name)
+            (x-scratch .ptr .0) (x-scratch .ptr .1) 𝓤 H A W (named 3) (named 2) (now x-scratch) (length (now x-scratch)) refl) $
+            await ! tt $ pick ! (λ δ₂-test. split ! $ move ! (8 ∷ 5 ∷ 2 ∷ 6 ∷ 3 ∷ 0 ∷ []) $ move ! (4 ∷ 5 ∷ []) $
             join ! $ move ! (4 ∷ 0 ∷ []) $ join ! $ move ! (3 ∷ 0 ∷ []) $ join ! $ move ! (2 ∷ 0 ∷ []) $ join ! $
             move ! (1 ∷ 0 ∷ []) $ join ! $
-            use1 W (raw ((test-sound-contract test-sound-out test-sound-x-scratch 𝓤 H A) .pre
-            (to-test-sound ν₀-test-sound ν₁-test-sound ν₂-test-sound δ₀-test-sound δ₁-test-sound δ₂-test-sound)))
-            (goes-test-sound ν₀-test-sound ν₁-test-sound ν₂-test-sound δ₀-test-sound δ₁-test-sound δ₂-test-sound
-            (spelled-v-start w-begin is-w-begin)) $
-            calls-at ! (fmOf 𝓤 H (W .laws) 𝓣) (test-sound-contract test-sound-out test-sound-x-scratch 𝓤 H A) known-test-sound
-            (to-test-sound ν₀-test-sound ν₁-test-sound ν₂-test-sound δ₀-test-sound δ₁-test-sound δ₂-test-sound)
-            (and-then ! (load ! (from ! (stop !)) (look ! 28 refl)) (and-then ! (load ! (from ! (stop !)) (look ! 24 refl))
-            (and-then ! (load ! (from ! (stop !)) (look ! 20 refl)) (and-then ! (load ! (from ! (stop !)) (look ! 72 refl))
-            (and-then ! (load ! (from ! (stop !)) (look ! 56 refl)) (no-more !)))))) (λ w-test-sound.
-            use1 W (later (some (λ (r : Bool). ((‵ (flft (ν₀-test-sound ∷ []) fullShare)
-            ⊛ ‵ (flft (ν₁-test-sound ∷ []) fullShare) ⊛ ‵ (flft (ν₂-test-sound ∷ []) fullShare) ⊛ ‵ ftrue)
-            ⊛ ‵ (Boolean .own r (w-test-sound ∷ []))) ⊛ raw (ensured 𝓤 H A test-sound-ended
-            (test-sound-clauses test-sound-out test-sound-x-scratch 𝓤)
-            (ν₀-test-sound ∷ [], (ν₁-test-sound ∷ [], (ν₂-test-sound ∷ [], tt))) (test-sound-args δ₀-test-sound δ₁-test-sound
-            δ₂-test-sound) tt r)))) (id⊢ 𝓤 _) $
-            await ! tt $ pick ! (λ r-test-sound. split ! $ move ! (1 ∷ []) $
-            use1 W (some (λ (zs-test-sound : Unit {0} × (Unit {0} × (List ℕ × (Unit {0} × (Unit {0} × Unit {0}))))). ‵
-            (lasts test-sound-ended (ν₀-test-sound ∷ [], (ν₁-test-sound ∷ [], (ν₂-test-sound ∷ [], tt)))
-            (test-sound-args δ₀-test-sound δ₁-test-sound δ₂-test-sound) zs-test-sound)
-            ⊛ raw (fact 𝓤 (test-sound-says test-sound-out test-sound-x-scratch (now x-map) (now x-catalogue) (now x-scratch) x-n
-            v-start r-test-sound (zs-test-sound .1 .1 .0))))) (id⊢ 𝓤 _) $
-            pick ! (λ zs-test-sound. split ! $ move ! (1 ∷ []) $
-            heard ! (test-sound-says test-sound-out test-sound-x-scratch (now x-map) (now x-catalogue) (now x-scratch) x-n
-            v-start r-test-sound (zs-test-sound .1 .1 .0)) (λ e-test-sound.
+            use1 W (raw ((test-contract test-out test-x-scratch 𝓤 H A) .pre (to-test ν₀-test ν₁-test ν₂-test δ₀-test δ₁-test
+            δ₂-test))) (goes-test ν₀-test ν₁-test ν₂-test δ₀-test δ₁-test δ₂-test (spelled-v-start w-begin is-w-begin)) $
+            calls-at ! (fmOf 𝓤 H (W .laws) 𝓣) (test-contract test-out test-x-scratch 𝓤 H A) known-test
+            (to-test ν₀-test ν₁-test ν₂-test δ₀-test δ₁-test δ₂-test) (and-then ! (load ! (from ! (stop !)) (look ! 28 refl))
+            (and-then ! (load ! (from ! (stop !)) (look ! 24 refl)) (and-then ! (load ! (from ! (stop !)) (look ! 20 refl))
+            (and-then ! (load ! (from ! (stop !)) (look ! 72 refl)) (and-then ! (load ! (from ! (stop !)) (look ! 56 refl))
+            (no-more !)))))) (λ w-test.
+            use1 W (later (some (λ (r : Bool). ((‵ (flft (ν₀-test ∷ []) fullShare) ⊛ ‵ (flft (ν₁-test ∷ []) fullShare)
+            ⊛ ‵ (flft (ν₂-test ∷ []) fullShare) ⊛ ‵ ftrue) ⊛ ‵ (Boolean .own r (w-test ∷ [])))
+            ⊛ raw (ensured 𝓤 H A test-ended (test-clauses test-out test-x-scratch 𝓤)
+            (ν₀-test ∷ [], (ν₁-test ∷ [], (ν₂-test ∷ [], tt))) (test-args δ₀-test δ₁-test δ₂-test) tt r)))) (id⊢ 𝓤 _) $
+            await ! tt $ pick ! (λ r-test. split ! $ move ! (1 ∷ []) $
+            use1 W (some (λ (zs-test : Unit {0} × (Unit {0} × (List ℕ × (Unit {0} × (Unit {0} × Unit {0}))))). ‵
+            (lasts test-ended (ν₀-test ∷ [], (ν₁-test ∷ [], (ν₂-test ∷ [], tt))) (test-args δ₀-test δ₁-test δ₂-test) zs-test)
+            ⊛ raw (fact 𝓤 (test-says test-out test-x-scratch (now x-map) (now x-catalogue) (now x-scratch) x-n v-start r-test
+            (zs-test .1 .1 .0))))) (id⊢ 𝓤 _) $
+            pick ! (λ zs-test. split ! $ move ! (1 ∷ []) $
+            heard ! (test-says test-out test-x-scratch (now x-map) (now x-catalogue) (now x-scratch) x-n v-start r-test
+            (zs-test .1 .1 .0)) (λ e-test.
             fsplit ! $ move ! (1 ∷ []) $ fsplit ! $ move ! (1 ∷ []) $ fsplit ! $ move ! (1 ∷ []) $ fsplit ! $
             move ! (1 ∷ []) $ fsplit ! $ move ! (1 ∷ []) $ drop ! $ move ! (4 ∷ []) $ drop ! $ move ! (3 ∷ []) $ drop ! $
-            move ! (2 ∷ []) $ fsplit ! $ move ! (1 ∷ []) $ feqL ! (λ h-test-sound-x-scratch. move ! (2 ∷ []) $ drop ! $
+            move ! (2 ∷ []) $ fsplit ! $ move ! (1 ∷ []) $ feqL ! (λ h-test-x-scratch. move ! (2 ∷ []) $ drop ! $
             move ! (1 ∷ []) $ drop ! $ move ! (1 ∷ []) $ split ! $ move ! (1 ∷ []) $
-            rewrite ! 0 (λ (r : Bool). ‵ (Boolean .own r (w-test-sound ∷ []))) (e-test-sound .0) refl $
-            rewrite ! 2 (λ (l : List ℕ). ‵ (finally u64 δ₂-test-sound l)) (e-test-sound .1) refl $
-            peeks ! Boolean (Is Boolean) (shows 𝓤 H A Boolean) v-sound (w-test-sound ∷ []) (λ is-w-test-sound.
-            land ! (from ! (stop !)) (init ! 56 refl ((bool-lawful 𝓤 H A W .typed) v-sound _ is-w-test-sound .0)) $
-            rewrite ! 56 (λ (u : Val). ‵ (fat fullShare tyBool l₁₀ 0 u)) (ap only (bool-tells v-sound _ is-w-test-sound)) refl $
+            rewrite ! 0 (λ (r : Bool). ‵ (Boolean .own r (w-test ∷ []))) (e-test .0) refl $
+            rewrite ! 2 (λ (l : List ℕ). ‵ (finally u64 δ₂-test l)) (e-test .1) refl $
+            peeks ! Boolean (Is Boolean) (shows 𝓤 H A Boolean) v-sound (w-test ∷ []) (λ is-w-test.
+            land ! (from ! (stop !)) (init ! 56 refl ((bool-lawful 𝓤 H A W .typed) v-sound _ is-w-test .0)) $
+            rewrite ! 56 (λ (u : Val). ‵ (fat fullShare tyBool l₁₀ 0 u)) (ap only (bool-tells v-sound _ is-w-test)) refl $
             drop ! $ split ! $ move ! (1 ∷ []) $ split ! $ move ! (1 ∷ []) $ split ! $ move ! (1 ∷ []) $ drop ! $
             move ! (2 ∷ []) $ lft-end ! tt $ move ! (0 ∷ 6 ∷ []) $
             use2 W (later (‵ (MutSlice (named 0) κ₀ u64 .own (at-x-map (x-map .name) (now x-map)) (s-x-map ∷ []))
-            ⊛ ‵ (flft κ₀ q₀))) (comes-home u64 κ₀ (ν₀-test-sound ∷ []) q₀ (x-map .name) (x-map .ptr .0) (x-map .ptr .1) 𝓤 H A W
+            ⊛ ‵ (flft κ₀ q₀))) (comes-home u64 κ₀ (ν₀-test ∷ []) q₀ (x-map .name) (x-map .ptr .0) (x-map .ptr .1) 𝓤 H A W
             (named 0) (named 0) (now x-map) (length (now x-map)) refl room-x-map) $
             await ! tt $ split ! $ move ! (3 ∷ []) $ lft-end ! tt $ move ! (0 ∷ 6 ∷ []) $
             use2 W (later (‵ (MutSlice (named 1) κ₁ Entry′.the-row .own (at-x-catalogue (x-catalogue .name) (now x-catalogue))
-            (s-x-catalogue ∷ [])) ⊛ ‵ (flft κ₁ q₁))) (comes-home Entry′.the-row κ₁ (ν₁-test-sound ∷ []) q₁ (x-catalogue .name)
+            (s-x-catalogue ∷ [])) ⊛ ‵ (flft κ₁ q₁))) (comes-home Entry′.the-row κ₁ (ν₁-test ∷ []) q₁ (x-catalogue .name)
             (x-catalogue .ptr .0) (x-catalogue .ptr .1) 𝓤 H A W (named 1) (named 1) (now x-catalogue) (length (now x-catalogue))
             refl room-x-catalogue) $
             await ! tt $ split ! $ move ! (4 ∷ []) $ lft-end ! tt $ move ! (0 ∷ 6 ∷ 5 ∷ []) $
-            use3 W (later (‵ (MutSlice (named 3) κ₃ u64 .own (at-x-scratch (x-scratch .name) z-test-sound-x-scratch)
-            (s-x-scratch ∷ [])) ⊛ ‵ (flft κ₃ q₃))) (comes-back u64 κ₃ (ν₂-test-sound ∷ []) q₃ (x-scratch .name)
-            (x-scratch .ptr .0) (x-scratch .ptr .1) 𝓤 H A W (named 3) (named 2) (now x-scratch) (length (now x-scratch)) refl
-            room-x-scratch δ₂-test-sound z-test-sound-x-scratch (ap {B = ℕ} length (sym (e-test-sound .1))
-            ∙ h-test-sound-x-scratch)) $
+            use3 W (later (‵ (MutSlice (named 3) κ₃ u64 .own (at-x-scratch (x-scratch .name) z-test-x-scratch)
+            (s-x-scratch ∷ [])) ⊛ ‵ (flft κ₃ q₃))) (comes-back u64 κ₃ (ν₂-test ∷ []) q₃ (x-scratch .name) (x-scratch .ptr .0)
+            (x-scratch .ptr .1) 𝓤 H A W (named 3) (named 2) (now x-scratch) (length (now x-scratch)) refl room-x-scratch δ₂-test
+            z-test-x-scratch (ap {B = ℕ} length (sym (e-test .1)) ∙ h-test-x-scratch)) $
             await ! tt $ split ! $
             -- verdict
             use0 W (raw ((verdict-contract verdict-out 𝓤 H A) .pre (to-verdict))) (goes-verdict
-            (spelled-v-start w-begin is-w-begin) (spelled-v-sound w-test-sound is-w-test-sound)) $
+            (spelled-v-start w-begin is-w-begin) (spelled-v-sound w-test is-w-test)) $
             calls-at ! (fmOf 𝓤 H (W .laws) 𝓣) (verdict-contract verdict-out 𝓤 H A) known-verdict (to-verdict)
             (and-then ! (load ! (from ! (stop !)) (look ! 59 refl)) (and-then ! (load ! (from ! (stop !)) (look ! 57 refl))
             (no-more !))) (λ w-verdict.
@@ -1221,22 +1205,20 @@ module _ (Tally : Value) where
             move ! (0 ∷ 1 ∷ 4 ∷ 5 ∷ 2 ∷ 3 ∷ 6 ∷ 7 ∷ []) $
             by ! (exits (spelled-v-number w-verdict is-w-verdict) (ap {B = ℕ} length (sym (e-close-map)) ∙ h-close-map-x-map)
             (ap {B = ℕ} length (sym (e-close-rounds .1)) ∙ h-close-rounds-x-catalogue)
-            (ap {B = ℕ} length (sym (e-close-rounds .2)) ∙ h-close-rounds-x-card) (ap {B = ℕ} length (sym (e-test-sound .1))
-            ∙
-            h-test-sound-x-scratch))))))))))))))))))))))))))))))))))))))))))))))))))))))))))))))))))))))))))))))))))))))))))))))))
+            (ap {B = ℕ} length (sym (e-close-rounds .2)) ∙ h-close-rounds-x-card) (ap {B = ℕ} length (sym (e-test .1))
+            ∙ h-test-x-scratch))))))))))))))))))))))))))))))))))))))))))))))))))))))))))))))))))))))))))))))))))))))))))))))))
 
       module _ {M : Type 1} (𝓤 : URA M) (H : Heap 𝓤) (A : Atoms 𝓤) (W : Given 𝓤 H A) where
         walks : (𝓣 : Tables 𝓤 H) → Triple 𝓤 (𝓣 .C #count) (count-contract count-out 𝓤 H A)
-            → Triple 𝓤 (𝓣 .C #begin) (begin-contract begin-out 𝓤 H A) → Triple 𝓤 (𝓣 .C #test-sound)
-            (test-sound-contract test-sound-out test-sound-x-scratch 𝓤 H A) → Triple 𝓤 (𝓣 .C #verdict)
-            (verdict-contract verdict-out 𝓤 H A) → Triple 𝓤 (𝓣 .C #rounds-for) (rounds-for-contract rounds-for-out 𝓤 H A)
-            → Triple 𝓤 (𝓣 .C #close-rounds) (close-rounds-contract close-rounds-out close-rounds-x-catalogue close-rounds-x-card
-            𝓤 H A) → Triple 𝓤 (𝓣 .C #close-map) (close-map-contract close-map-x-map 𝓤 H A)
-            → Walks 𝓤 H A ended stayed (WpFn 𝓤 H (𝓣 .C) (𝓣 .Λ) (function #count #begin #test-sound #verdict #rounds-for
-            #close-rounds #close-map)) (clauses 𝓤)
-        walks 𝓣 known-count known-begin known-test-sound known-verdict known-rounds-for known-close-rounds known-close-map =
-            walked 𝓤 H A ended stayed (clauses 𝓤) (WpFn 𝓤 H (𝓣 .C) (𝓣 .Λ) (function #count #begin #test-sound #verdict
-            #rounds-for #close-rounds #close-map)) (λ κs.
+            → Triple 𝓤 (𝓣 .C #begin) (begin-contract begin-out 𝓤 H A) → Triple 𝓤 (𝓣 .C #test)
+            (test-contract test-out test-x-scratch 𝓤 H A) → Triple 𝓤 (𝓣 .C #verdict) (verdict-contract verdict-out 𝓤 H A)
+            → Triple 𝓤 (𝓣 .C #rounds-for) (rounds-for-contract rounds-for-out 𝓤 H A) → Triple 𝓤 (𝓣 .C #close-rounds)
+            (close-rounds-contract close-rounds-out close-rounds-x-catalogue close-rounds-x-card 𝓤 H A)
+            → Triple 𝓤 (𝓣 .C #close-map) (close-map-contract close-map-x-map 𝓤 H A) → Walks 𝓤 H A ended stayed
+            (WpFn 𝓤 H (𝓣 .C) (𝓣 .Λ) (function #count #begin #test #verdict #rounds-for #close-rounds #close-map)) (clauses 𝓤)
+        walks 𝓣 known-count known-begin known-test known-verdict known-rounds-for known-close-rounds known-close-map =
+            walked 𝓤 H A ended stayed (clauses 𝓤) (WpFn 𝓤 H (𝓣 .C) (𝓣 .Λ) (function #count #begin #test #verdict #rounds-for
+            #close-rounds #close-map)) (λ κs.
             ((uint-vals w32), ((uint-vals w32), (bool-vals, (slice-vals, (slice-vals, (slice-vals, (slice-vals, tt))))))))
             (λ κs. (
               (uint-tells w32),
@@ -1258,17 +1240,17 @@ module _ (Tally : Value) where
             (qs .0) (qs .1 .0) (qs .1 .1 .0) (qs .1 .1 .1 .0) (a .0) (a .1 .0) (a .1 .1 .0) (a .1 .1 .1 .0) (a .1 .1 .1 .1 .0)
             (a .1 .1 .1 .1 .1 .0) (a .1 .1 .1 .1 .1 .1 .0) (are .0) (are .1 .0) (are .1 .1 .0) (are .1 .1 .1 .0 .0 .1)
             (are .1 .1 .1 .1 .0 .0 .1) (are .1 .1 .1 .1 .1 .0 .0 .1) (are .1 .1 .1 .1 .1 .1 .0 .0 .1) 𝓣 known-count known-begin
-            known-test-sound known-verdict known-rounds-for known-close-rounds known-close-map))
+            known-test known-verdict known-rounds-for known-close-rounds known-close-map))
 
         pub meets : (𝓣 : Tables 𝓤 H) → Triple 𝓤 (𝓣 .C #count) (count-contract count-out 𝓤 H A)
-            → Triple 𝓤 (𝓣 .C #begin) (begin-contract begin-out 𝓤 H A) → Triple 𝓤 (𝓣 .C #test-sound)
-            (test-sound-contract test-sound-out test-sound-x-scratch 𝓤 H A) → Triple 𝓤 (𝓣 .C #verdict)
-            (verdict-contract verdict-out 𝓤 H A) → Triple 𝓤 (𝓣 .C #rounds-for) (rounds-for-contract rounds-for-out 𝓤 H A)
-            → Triple 𝓤 (𝓣 .C #close-rounds) (close-rounds-contract close-rounds-out close-rounds-x-catalogue close-rounds-x-card
-            𝓤 H A) → Triple 𝓤 (𝓣 .C #close-map) (close-map-contract close-map-x-map 𝓤 H A)
-            → Meets 𝓤 H A signature (WpFn 𝓤 H (𝓣 .C) (𝓣 .Λ) (function #count #begin #test-sound #verdict #rounds-for
-            #close-rounds #close-map)) (closing 𝓤 H A ended (clauses 𝓤))
-        meets 𝓣 known-count known-begin known-test-sound known-verdict known-rounds-for known-close-rounds known-close-map =
+            → Triple 𝓤 (𝓣 .C #begin) (begin-contract begin-out 𝓤 H A) → Triple 𝓤 (𝓣 .C #test)
+            (test-contract test-out test-x-scratch 𝓤 H A) → Triple 𝓤 (𝓣 .C #verdict) (verdict-contract verdict-out 𝓤 H A)
+            → Triple 𝓤 (𝓣 .C #rounds-for) (rounds-for-contract rounds-for-out 𝓤 H A) → Triple 𝓤 (𝓣 .C #close-rounds)
+            (close-rounds-contract close-rounds-out close-rounds-x-catalogue close-rounds-x-card 𝓤 H A)
+            → Triple 𝓤 (𝓣 .C #close-map) (close-map-contract close-map-x-map 𝓤 H A) → Meets 𝓤 H A signature
+            (WpFn 𝓤 H (𝓣 .C) (𝓣 .Λ) (function #count #begin #test #verdict #rounds-for #close-rounds #close-map))
+            (closing 𝓤 H A ended (clauses 𝓤))
+        meets 𝓣 known-count known-begin known-test known-verdict known-rounds-for known-close-rounds known-close-map =
             walk-meets 𝓤 H A ended stayed W (
               goes-none 𝓤 H A W 4 (λ _. u32) yes (λ κs x f. refl),
               (
@@ -1285,7 +1267,6 @@ module _ (Tally : Value) where
                 ),
               ),
             )
-            (clauses 𝓤) (WpFn 𝓤 H (𝓣 .C) (𝓣 .Λ) (function #count #begin #test-sound #verdict #rounds-for #close-rounds
-            #close-map)) (WpFn-mono 𝓤 H (W .laws) 𝓣 (function #count #begin #test-sound #verdict #rounds-for #close-rounds
-            #close-map)) (walks 𝓣 known-count known-begin known-test-sound known-verdict known-rounds-for known-close-rounds
-            known-close-map)
+            (clauses 𝓤) (WpFn 𝓤 H (𝓣 .C) (𝓣 .Λ) (function #count #begin #test #verdict #rounds-for #close-rounds #close-map))
+            (WpFn-mono 𝓤 H (W .laws) 𝓣 (function #count #begin #test #verdict #rounds-for #close-rounds #close-map))
+            (walks 𝓣 known-count known-begin known-test known-verdict known-rounds-for known-close-rounds known-close-map)

@@ -17,3 +17,5 @@ pub mod MapSummaryCatalogueCardFromLimits2
 pub mod MapSummaryCatalogueCardFromLimits3
 pub mod MapSummaryCatalogueCardFromLimits5
 pub mod MapSummaryCatalogue1
+pub mod MapCatalogueCardScratch
+pub mod MapSummaryCatalogueCardScratch

@@ -14,15 +14,15 @@ use Rattle.closing.proofs.Closes.{closes}
 use Rattle.catalogue.proofs.Values.{Value, valueOf}
 use Rattle.image_soundness.proofs.Tally as Tally′
 use Rattle.image_soundness.proofs.Tally.Laws as Tally″
-use Rattle.walk_closing.proofs.MapCatalogueCardScratch3First.{count-contract, begin-contract, test-sound-contract}
-use Rattle.walk_closing.proofs.MapCatalogueCardScratch3First.{verdict-contract, rounds-for-contract, close-rounds-contract}
-use Rattle.walk_closing.proofs.MapCatalogueCardScratch3First.{close-map-contract, meets}
+use Rattle.walk_closing.proofs.MapCatalogueCardScratch3First.{count-contract, begin-contract, test-contract, verdict-contract}
+use Rattle.walk_closing.proofs.MapCatalogueCardScratch3First.{rounds-for-contract, close-rounds-contract, close-map-contract}
+use Rattle.walk_closing.proofs.MapCatalogueCardScratch3First.{meets}
 use Rattle.catalogue.proofs.count.Symbol as count-def
 use Rattle.catalogue.proofs.count.Met as count-met
 use Rattle.closing.proofs.begin.Symbol as begin-def
 use Rattle.closing.proofs.begin.Met as begin-met
-use Rattle.image_soundness.proofs.test_sound.Symbol as test-sound-def
-use Rattle.image_soundness.proofs.test_sound.Met as test-sound-met
+use Rattle.image_soundness.proofs.test_sound.Symbol as test-def
+use Rattle.image_soundness.proofs.test_sound.Met as test-met
 use Rattle.closing.proofs.verdict.Symbol as verdict-def
 use Rattle.closing.proofs.verdict.Met as verdict-met
 use Rattle.closing.proofs.rounds_for.Symbol as rounds-for-def
@@ -44,7 +44,7 @@ unfolding code.routine tablesOf
 close-spec 𝓤 H 𝓜 𝓖 𝓡 =
     entered 𝓤 H (tripleOf 𝓤 H (𝓖 .A) close.signature (close.spec 𝓤 H (𝓖 .A) (𝓜 .mem) (𝓡 .run)))
     (tables 𝓤 H 𝓜 𝓡 code.env .C) (tables 𝓤 H 𝓜 𝓡 code.env .Λ) #close code.function (code.unfolded 𝓤 H 𝓜 𝓡)
-    (meets Tally count-def.name begin-def.name test-sound-def.name verdict-def.name rounds-for-def.name close-rounds-def.name
+    (meets Tally count-def.name begin-def.name test-def.name verdict-def.name rounds-for-def.name close-rounds-def.name
     close-map-def.name length firstTally tested testedScratch numberBy roundsFor roundsAt roundsEntries roundsCard mapAfter
     Closes closes
     𝓤 H (𝓖 .A) (givenOf 𝓤 H 𝓜 𝓖) (tablesOf 𝓤 H 𝓜 (tables 𝓤 H 𝓜 𝓡 code.env))
@@ -52,8 +52,8 @@ close-spec 𝓤 H 𝓜 𝓖 𝓡 =
     (count-met.met 𝓤 H 𝓜 𝓖 𝓡))
     (cited 𝓤 H (begin-contract Tally firstTally 𝓤 H (𝓖 .A)) 𝓜 𝓡 code.env begin-def.name begin-def.routine
     code.calls-closing·begin (begin-met.met 𝓤 H 𝓜 𝓖 𝓡))
-    (cited 𝓤 H (test-sound-contract Tally tested testedScratch 𝓤 H (𝓖 .A)) 𝓜 𝓡 code.env test-sound-def.name
-    test-sound-def.routine code.calls-image-soundness·test-sound (test-sound-met.met 𝓤 H 𝓜 𝓖 𝓡))
+    (cited 𝓤 H (test-contract Tally tested testedScratch 𝓤 H (𝓖 .A)) 𝓜 𝓡 code.env test-def.name test-def.routine
+    code.calls-image-soundness·test-sound (test-met.met 𝓤 H 𝓜 𝓖 𝓡))
     (cited 𝓤 H (verdict-contract Tally numberBy 𝓤 H (𝓖 .A)) 𝓜 𝓡 code.env verdict-def.name verdict-def.routine
     code.calls-closing·verdict (verdict-met.met 𝓤 H 𝓜 𝓖 𝓡))
     (cited 𝓤 H (rounds-for-contract Tally roundsFor 𝓤 H (𝓖 .A)) 𝓜 𝓡 code.env rounds-for-def.name rounds-for-def.routine
