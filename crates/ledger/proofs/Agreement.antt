@@ -30,6 +30,7 @@ use Rattle.refusals.specs.Placement.{leastWithin}
 use Rattle.refusals.specs.Lent.{lent, within, noCard}
 use Rattle.refusals.specs.Views.{viewAt, viewOn}
 use Rattle.catalogue_standings.proofs.Openings.{skip, stop}
+use Rattle.ledger.specs.Ledger as book
 use Rattle.ledger.specs.Ledger.{Place, Blank, Payload, Sheet, Absent, Paused, PausedWith, Open, Complete, standingIn}
 use Rattle.ledger.specs.Ledger.{startIn, lengthIn, isBlank, bytesOf, sheetAt, placeAt, cover, freeIn, spareIn}
 use Rattle.ledger.specs.Ledger.{viewIn, listed, heldIn, verdictIn}
@@ -182,7 +183,7 @@ beyond : (v : View) (i : ℕ) (a : Ask) → v .misfit ≡ false → leb (v .shee
 unfolding tableOf
 beyond v i a f e = skip 1 _ _ _ f (stop 2 _ _ e)
 
-pub beyond-in : (n : ℕ) (l : List Sheet) (i : ℕ) (a : Ask) → leb (length l) i ≡ true → verdictIn n l (on i a) ≡ refused 2
+pub beyond-in : (n : ℕ) (l : List Sheet) (i : ℕ) (a : Ask) → leb (length l) i ≡ true → verdictIn n l (book.on i a) ≡ refused 2
 unfolding tableOf listed
 beyond-in n l i a e = stop 2 _ _ e
 
@@ -342,7 +343,7 @@ module _ (n : ℕ) (l : List Sheet) (card : List ℕ) (k : Matches n l card) whe
   module _ (i : ℕ) (a : Ask) where
     by-sheet : (v : View) → v .misfit ≡ false → leb (v .sheets) i ≡ leb (length l) i
         → (i < length l → verdictOf v (on i a) ≡ verdictOf (viewIn n l i) (on i a)) → NeverRows i a
-        → verdictOf v (on i a) ≡ verdictIn n l (on i a)
+        → verdictOf v (on i a) ≡ verdictIn n l (book.on i a)
     by-sheet v fits sheets same never = go (leb (length l) i) refl ∙ listed-same n l (k .sound) i a never
       where
         go : (t : Bool) → leb (length l) i ≡ t → verdictOf v (on i a) ≡ verdictOf (viewIn n l i) (on i a)
@@ -350,7 +351,7 @@ module _ (n : ℕ) (l : List Sheet) (card : List ℕ) (k : Matches n l card) whe
         go false inside = same (leb-false (length l) i inside)
 
     -- a call that is lent the card
-    pub verdict-on : OwnPlaces n l i a → NeverRows i a → verdictOf (on-card i) (on i a) ≡ verdictIn n l (on i a)
+    pub verdict-on : OwnPlaces n l i a → NeverRows i a → verdictOf (on-card i) (on i a) ≡ verdictIn n l (book.on i a)
     verdict-on own never =
         by-sheet (on-card i) (fits-of i 0 []) (sheets-of i 0 [])
         (λ lt. ap (λ (v : View). verdictOf v (on i a)) (on-reads i lt 0 [])
@@ -367,7 +368,7 @@ module _ (n : ℕ) (l : List Sheet) (card : List ℕ) (k : Matches n l card) whe
         ∙ opened n l i a _ (placesOf l i) (sharing _ (placesOf l i) (wing-same n l (k .high) (λ j. inside-card j) i))) never
 
     -- a call that is not
-    pub verdict-at : Plain n l i a → NeverRows i a → verdictOf (at i) (on i a) ≡ verdictIn n l (on i a)
+    pub verdict-at : Plain n l i a → NeverRows i a → verdictOf (at i) (on i a) ≡ verdictIn n l (book.on i a)
     verdict-at plain never =
         by-sheet (at i) (fits-of-at i) (sheets-of-at i)
         (λ lt. ap (λ (v : View). verdictOf v (on i a)) (at-reads i lt)

@@ -7,9 +7,10 @@ use mathlib.Core.Bool.{not, true}
 use mathlib.Core.List.{List, [], _∷_}
 use Rattle.map_blocks.specs.Blocks.{all}
 use Rattle.catalogue_standings.specs.Rows.{Verdict, refused, settle}
-use Rattle.refusals.specs.Table.{Call, on, complete, lowestBlank, tableOf}
+use Rattle.refusals.specs.Table.{complete, lowestBlank, tableOf}
 use Rattle.refusals.proofs.BlankPlaces.{Lowest, lowest-of}
 use Rattle.refusals.proofs.Rows.{holds}
+use Rattle.ledger.specs.Ledger.{Call, on}
 use Rattle.ledger.specs.Ledger.{Sheet, lengthIn, isBlank, sheetAt, placeAt, viewIn, listed, rowsIn, verdictIn, deedIn}
 use Rattle.ledger.specs.Ledger.{done, refusedWith, toldIn}
 

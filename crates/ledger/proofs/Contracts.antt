@@ -4,12 +4,12 @@
 -- check of the crate card shows.
 -- Assumes nothing.
 use Prim.Native.Nat.{ℕ, _+_, _/_, _≤_}
-use mathlib.Core.Path.{_≡_, refl, ap, _∙_}
+use mathlib.Core.Path.{_≡_, refl, sym, ap, _∙_}
 use mathlib.Core.Bool.{Bool, true, false, cond, _&&_}
 use mathlib.Core.List.{List, []}
 use native.Mathlib.Omega.{arith}
 use lib.Dec.{eqb, leb}
-use lib.ListN.{length, replicate}
+use lib.ListN.{length, replicate, length-replicate}
 use borrow.Author.Tests.{leb-true, eqb-true, le-leb, eq-eqb}
 use Rattle.map_blocks.specs.Maps as maps
 use Rattle.map_blocks.specs.Maps.{wordsFor}
@@ -18,18 +18,24 @@ use Rattle.catalogue.specs.Entries.{absent, clearedIf}
 use Rattle.catalogue.specs.declared.Entry.{Entry}
 use Rattle.catalogue_standings.specs.Answers.{numberOf}
 use Rattle.catalogue_standings.specs.Limits.{freshFits, shapeFits, sheetsFit}
+use Rattle.catalogue_standings.specs.Rows.{Verdict, settle, rowNumber}
 use Rattle.catalogue_standings.specs.declared.Answer.the-variants.{Done, Refused}
-use Rattle.card.specs.Calls.{Kept, kept, told, isDone}
+use Rattle.image_soundness.specs.Scratch.{scratchWords}
+use Rattle.closing.specs.Closed.{closedMap, closedEntries, closedCard}
+use Rattle.closing.specs.Effects as closings
+use Rattle.closing.specs.Table.{closeVerdict}
+use Rattle.card.specs.Calls.{Kept, kept, told, isDone, saveOutcomeBy, closeOutcome, closeMap, closeEntries, closeCard}
 use Rattle.card.specs.Contracts.{itself, Freshens, Reserves, ReservesPlaced, Grows, Puts, Completes, Shows, Pauses, Releases}
-use Rattle.card.specs.Contracts.{Offers, Accepts, Resumes, TellsStanding}
+use Rattle.card.specs.Contracts.{Offers, Accepts, Resumes, TellsStanding, Closes}
 use Rattle.card.specs.declared.Shape.{Shape}
 use Rattle.card.specs.declared.Outcome.{Outcome}
 use Rattle.refusals.specs.Placement.{plain, placed, figures}
-use Rattle.refusals.specs.Table.{Call, on, reserve, put, grow, complete, pause, resume, release, show, standing, offer, accept}
+use Rattle.refusals.specs.Table.{reserve, put, grow, complete, pause, resume, release, show, standing, offer, accept}
 use Rattle.refusals.specs.Table.{showDated}
 use Rattle.calendar.specs.Calendar.{dateOf}
 use Rattle.card.specs.Contracts.{ShowsDated}
-use Rattle.ledger.specs.Steps.{Response, endOf, Step, freshState}
+use Rattle.ledger.specs.Ledger.{Call, on, close}
+use Rattle.ledger.specs.Steps.{Response, endOf, Step, freshState, scratchOf, savedOf}
 
 -- the state after a call, and its reply, by what the call handed back and left
 abbrev pub leaving : Outcome → List ℕ → List Entry → List ℕ → Kept
@@ -118,6 +124,38 @@ module _ (s : Kept) (sheet : ℕ) (r : Outcome) where
   pub standing-step : TellsStanding itself s sheet r
       → Step s (on sheet standing) (replying r []) (leaving r (s .map) (s .entries) (s .card))
   standing-step h = met s (on sheet standing) r (s .map) (s .entries) (s .card) [] h refl refl refl refl
+
+-- a closing goes by the length of its scratch, whatever that holds
+module _ (s : Kept) (a b : List ℕ) (same : length a ≡ length b) where
+  abbrev verdictFor : ℕ → Verdict
+  verdictFor = closeVerdict (savedOf s) true (length (s .card))
+
+  same-outcome : closeOutcome s a ≡ closeOutcome s b
+  unfolding closings.closeNumber
+  same-outcome = ap (λ (k : ℕ). saveOutcomeBy (s .shape) (rowNumber (verdictFor k))) same
+
+  same-map : closeMap s a ≡ closeMap s b
+  unfolding closings.closeMap
+  same-map = ap (λ (k : ℕ). settle (verdictFor k) (closedMap (s .entries) (s .shape .blocks) (s .map)) (λ number. s .map)) same
+
+  same-entries : closeEntries s a ≡ closeEntries s b
+  unfolding closings.closeEntries
+  same-entries = ap (λ (k : ℕ). settle (verdictFor k) (closedEntries (s .entries)) (λ number. s .entries)) same
+
+  same-card : closeCard s a ≡ closeCard s b
+  unfolding closings.closeCard
+  same-card = ap (λ (k : ℕ). settle (verdictFor k) (closedCard (s .entries) (s .card)) (λ number. s .card)) same
+
+-- with a scratch of the length that row 1 asks for
+pub close-step : (s : Kept) (scratch : List ℕ) (r : Outcome) (map : List ℕ) (entries : List Entry) (card scratch′ : List ℕ)
+    → length scratch ≡ scratchWords (length (s .map))
+    → Closes itself s scratch r map entries card scratch′
+    → Step s close (replying r []) (leaving r map entries card)
+close-step s scratch r map entries card scratch′ long h =
+    let same : length scratch ≡ length (scratchOf s) = long ∙ sym (length-replicate (scratchWords (length (s .map))) 0) in
+    met s close r map entries card []
+    (h .0 ∙ same-outcome s scratch (scratchOf s) same) (h .1 ∙ same-map s scratch (scratchOf s) same)
+    (h .2 ∙ same-entries s scratch (scratchOf s) same) (h .3 ∙ same-card s scratch (scratchOf s) same) refl
 
 -- ---- what an accepted fresh left
 

@@ -17,7 +17,8 @@ use Rattle.catalogue.specs.Entries.{absent}
 use Rattle.catalogue.specs.declared.Entry.{Entry}
 use Rattle.catalogue_standings.specs.Answers.{numberOf}
 use Rattle.catalogue_standings.specs.Rows.{Verdict, accepted, firstOf, settle}
-use Rattle.refusals.specs.Table.{Call, on, show, lowestBlank, tableOf}
+use Rattle.refusals.specs.Table.{show, lowestBlank, tableOf}
+use Rattle.ledger.specs.Ledger.{Call, on}
 use Rattle.ledger.specs.Ledger.{Place, Blank, Payload, Sheet, Absent, Complete, standingIn, startIn, lengthIn, placesIn}
 use Rattle.ledger.specs.Ledger.{bytesOf, sheetAt, placeAt, cover, freeIn, spareIn, listed, verdictIn, deedIn, stepIn}
 use Rattle.ledger.specs.Ledger.{held, viewIn, after, begun, Told, done, refusedWith, toldIn, allToldIn}

@@ -13,6 +13,7 @@ use Rattle.map_blocks.proofs.Runs.{all-elim}
 use Rattle.catalogue_standings.specs.Rows.{row, firstOf}
 use Rattle.catalogue_standings.specs.Standings.{isDamaged}
 use Rattle.refusals.specs.Table.{Ask, on, rowsFor, tableOf}
+use Rattle.ledger.specs.Ledger as book
 use Rattle.ledger.specs.Ledger.{Place, Blank, Payload, Sheet, Absent, Paused, PausedWith, Open, Complete, standingIn}
 use Rattle.ledger.specs.Ledger.{held, lengthIn, placesIn, isBlank, bytesOf, sheetAt, placeAt, spareIn, viewIn, verdictIn}
 use Rattle.ledger.proofs.Cover.{held-set, spare-and-held}
@@ -65,7 +66,7 @@ module _ (n : ℕ) (l : List Sheet) (ok : Sound n l) where
 
   -- no dropped row holds, if none of those behind the opening does
   pub listed-same : (i : ℕ) (a : Ask) → Never (row 2 (leb (length l) i) ∷ []) (rowsFor (viewIn n l i) a)
-      → firstOf (tableOf (viewIn n l i) (on i a)) ≡ verdictIn n l (on i a)
+      → firstOf (tableOf (viewIn n l i) (on i a)) ≡ verdictIn n l (book.on i a)
   unfolding tableOf firstOf
   listed-same i a h = never-listed [] (tableOf (viewIn n l i) (on i a)) refl
       (λ p. refl, (λ p. sheet-undamaged (sheetAt l i), h))

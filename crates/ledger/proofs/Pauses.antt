@@ -11,47 +11,82 @@ use lib.ListN.{length, getD, set}
 use lib.Seq.{getD-set-same, getD-set-other}
 use borrow.Author.Tests.{lt-leb}
 use Rattle.catalogue_standings.specs.Rows.{Verdict, accepted, refused, firstOf, settle}
-use Rattle.refusals.specs.Table.{Call, on, reserve, put, grow, complete, pause, resume, release, show, standing, lowestBlank}
+use Rattle.refusals.specs.Table.{Ask}
+use Rattle.refusals.specs.Table.{reserve, put, grow, complete, pause, resume, release, show, standing, lowestBlank}
 use Rattle.refusals.specs.Table.{showDated}
 use Rattle.refusals.specs.Table.{offer, accept, tableOf}
 use Rattle.card.specs.Calls.{Kept}
-use Rattle.ledger.specs.Ledger.{Place, Blank, Payload, Sheet, Absent, PausedWith, Complete, standingIn, placesIn, bytesOf}
-use Rattle.ledger.specs.Ledger.{sheetOf, sheetAt, placeAt, viewIn, listed, verdictIn, pauseIn, resumeIn, deedIn, stepIn}
+use Rattle.ledger.specs.Ledger.{Call, on, close, belowIn, restartIn, startIn}
+use Rattle.ledger.specs.Ledger.{Place, Blank, Payload, Sheet, Absent, Paused, PausedWith, Open, Complete, standingIn}
+use Rattle.ledger.specs.Ledger.{placesIn, bytesOf}
+use Rattle.ledger.specs.Ledger.{sheetAt, placeAt, viewIn, listed, verdictIn, pauseIn, resumeIn, deedIn, stepIn}
 use Rattle.ledger.specs.Ledger.{after, begun, Told, done, refusedWith, toldIn}
-use Rattle.ledger.specs.Pauses.{NoneFor, StoppedAndTakenUp, TakenUp, PausedAndResumed}
+use Rattle.ledger.specs.Pauses.{NotFor, NoneFor, StoppedAndTakenUp, TakenUp, PausedAndResumed}
 use Rattle.ledger.specs.Steps.{Response, toldBy, Step, Runs, freshState}
 use Rattle.ledger.proofs.Agreement.{stateOf, Matches}
+use Rattle.ledger.proofs.Closed.{closed-at}
 use Rattle.ledger.proofs.Demand.{Left, answered, lists, kept-begun, state-begun}
 use Rattle.ledger.proofs.Sheets.{holding}
 
 -- ---- calls on other sheets leave a sheet as it is
 
-deed-elsewhere : (n : ℕ) (l : List Sheet) (c : Call) (i : ℕ) → i ≢ sheetOf c → sheetAt (deedIn n l c .ledger) i ≡ sheetAt l i
-unfolding deedIn
-deed-elsewhere n l (on j (reserve limits k placement)) i ne = getD-set-other l j i _ Absent ne
-deed-elsewhere n l (on j (put p payload)) i ne = getD-set-other l j i _ Absent ne
-deed-elsewhere n l (on j (grow limits m)) i ne = getD-set-other l j i _ Absent ne
-deed-elsewhere n l (on j complete) i ne = getD-set-other l j i _ Absent ne
-deed-elsewhere n l (on j pause) i ne = getD-set-other l j i _ Absent ne
-deed-elsewhere n l (on j resume) i ne = getD-set-other l j i _ Absent ne
-deed-elsewhere n l (on j release) i ne = getD-set-other l j i _ Absent ne
-deed-elsewhere n l (on j (show p buffer)) i ne = refl
-deed-elsewhere n l (on j (showDated p date buffer)) i ne = refl
-deed-elsewhere n l (on j standing) i ne = refl
-deed-elsewhere n l (on j (offer limits k)) i ne = refl
-deed-elsewhere n l (on j (accept limits start k)) i ne = getD-set-other l j i _ Absent ne
+-- it is as it was, but for its start
+abbrev Restarted : Sheet → Sheet → Type 0
+Restarted x y = (s : ℕ) × (x ≡ restartIn s y)
 
-settled : (v : Verdict) (x l : List Sheet) (i : ℕ) → sheetAt x i ≡ sheetAt l i
-    → sheetAt (settle v x (λ number. l)) i ≡ sheetAt l i
+same-start : (y : Sheet) → y ≡ restartIn (startIn y) y
+same-start Absent = refl
+same-start Paused = refl
+same-start (PausedWith s xs) = refl
+same-start (Open s ps) = refl
+same-start (Complete s xs) = refl
+
+same-sheet : (x y : Sheet) → x ≡ y → Restarted x y
+same-sheet x y e = (startIn y, e ∙ same-start y)
+
+twice : (s t : ℕ) (y : Sheet) → restartIn s (restartIn t y) ≡ restartIn s y
+twice s t Absent = refl
+twice s t Paused = refl
+twice s t (PausedWith u xs) = refl
+twice s t (Open u ps) = refl
+twice s t (Complete u xs) = refl
+
+again : (x y z : Sheet) → Restarted x y → Restarted y z → Restarted x z
+again x y z p q = (p .0, p .1 ∙ ap (restartIn (p .0)) (q .1) ∙ twice (p .0) (q .0) z)
+
+ask-elsewhere : (n : ℕ) (l : List Sheet) (j : ℕ) (a : Ask) (i : ℕ) → i ≢ j
+    → sheetAt (deedIn n l (on j a) .ledger) i ≡ sheetAt l i
+unfolding deedIn
+ask-elsewhere n l j (reserve k placement) i ne = getD-set-other l j i _ Absent ne
+ask-elsewhere n l j (put p payload) i ne = getD-set-other l j i _ Absent ne
+ask-elsewhere n l j (grow m) i ne = getD-set-other l j i _ Absent ne
+ask-elsewhere n l j complete i ne = getD-set-other l j i _ Absent ne
+ask-elsewhere n l j pause i ne = getD-set-other l j i _ Absent ne
+ask-elsewhere n l j resume i ne = getD-set-other l j i _ Absent ne
+ask-elsewhere n l j release i ne = getD-set-other l j i _ Absent ne
+ask-elsewhere n l j (show p buffer) i ne = refl
+ask-elsewhere n l j standing i ne = refl
+ask-elsewhere n l j (offer k) i ne = refl
+ask-elsewhere n l j (accept start k) i ne = getD-set-other l j i _ Absent ne
+
+deed-elsewhere : (n : ℕ) (l : List Sheet) (c : Call) (i : ℕ) → NotFor i c
+    → Restarted (sheetAt (deedIn n l c .ledger) i) (sheetAt l i)
+unfolding deedIn
+deed-elsewhere n l (on j a) i ne = same-sheet _ _ (ask-elsewhere n l j a i (λ e. ne (sym e)))
+deed-elsewhere n l close i ne = (belowIn l (startIn (sheetAt l i)), closed-at l i)
+
+settled : (v : Verdict) (x l : List Sheet) (i : ℕ) → Restarted (sheetAt x i) (sheetAt l i)
+    → Restarted (sheetAt (settle v x (λ number. l)) i) (sheetAt l i)
 settled accepted x l i e = e
-settled (refused number) x l i e = refl
+settled (refused number) x l i e = same-sheet _ _ refl
 
 after-elsewhere : (n : ℕ) (calls : List Call) (l : List Sheet) (i : ℕ) → NoneFor i calls
-    → sheetAt (after n l calls) i ≡ sheetAt l i
-after-elsewhere n [] l i none = refl
+    → Restarted (sheetAt (after n l calls) i) (sheetAt l i)
+after-elsewhere n [] l i none = same-sheet _ _ refl
 after-elsewhere n (c ∷ calls) l i none =
-    after-elsewhere n calls (stepIn n l c) i (none .1)
-    ∙ settled (verdictIn n l c) (deedIn n l c .ledger) l i (deed-elsewhere n l c i (λ e. none .0 (sym e)))
+    again (sheetAt (after n (stepIn n l c) calls) i) (sheetAt (stepIn n l c) i) (sheetAt l i)
+    (after-elsewhere n calls (stepIn n l c) i (none .1))
+    (settled (verdictIn n l c) (deedIn n l c .ledger) l i (deed-elsewhere n l c i (none .0)))
 
 -- a sheet with places is one of the ledger's
 pub held-listed : (l : List Sheet) (i : ℕ) → holding (sheetAt l i) ≡ true → i < length l
@@ -140,8 +175,10 @@ module _ (n c : ℕ) (card : List ℕ) (n-low : 1 ≤ n) (n-high : n ≤ 262144)
       lists n (course .between) (course .answers) l′ (stopped .card-left) (course .stopped) (course .waiting)
       (stopped .kept-left) (stopped .state-left) (course .goes-on) in
       let l″ : List Sheet = after n l′ (course .between) in
-      let still : sheetAt l″ i ≡ PausedWith s xs = after-elsewhere n (course .between) l′ i (course .elsewhere) ∙ p .1 in
-      let r = resumes n l″ i s xs still in
+      let there = after-elsewhere n (course .between) l′ i (course .elsewhere) in
+      let s′ : ℕ = there .0 in
+      let still : sheetAt l″ i ≡ PausedWith (there .0) xs = there .1 ∙ ap (restartIn (there .0)) (p .1) in
+      let r = resumes n l″ i s′ xs still in
       let taken-up = then waits (on i resume) (course .resumed) u (course .resumes) in
       record {
         pause-done = told-after w (on i pause) (course .paused) (course .stopped) (course .pauses) ∙ p .0;
@@ -149,5 +186,5 @@ module _ (n c : ℕ) (card : List ℕ) (n-low : 1 ≤ n) (n-high : n ≤ 262144)
         shows-the-same = λ q buffer reply reply′ t′ u′ st st′.
             told-after w (on i (show q buffer)) reply t′ st ∙ shows n l i s xs e q buffer
             ∙ sym (told-after taken-up (on i (show q buffer)) reply′ u′ st′
-            ∙ shows n (stepIn n l″ (on i resume)) i s xs (r .1) q buffer);
+            ∙ shows n (stepIn n l″ (on i resume)) i s′ xs (r .1) q buffer);
       }

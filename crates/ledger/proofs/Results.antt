@@ -20,9 +20,10 @@ use Rattle.catalogue_standings.specs.Rows.{Verdict, accepted, refused, settle}
 use Rattle.catalogue_standings.specs.declared.Answer.{Answer}
 use Rattle.catalogue_standings.specs.declared.Answer.the-variants.{Refused}
 use Rattle.refusals.specs.Effects.{outOf, refusalOut}
-use Rattle.refusals.specs.Table.{Ask, Call, on, lowestBlank}
+use Rattle.refusals.specs.Table.{Ask, lowestBlank}
 use Rattle.refusals.specs.declared.Out.{Out}
 use Rattle.card.specs.Calls.{told, outcomeOf}
+use Rattle.ledger.specs.Ledger.{Call, on}
 use Rattle.ledger.specs.Ledger.{Place, Sheet, Absent, lengthIn, sheetAt, spareIn, sheetOf, viewIn, rowsIn}
 use Rattle.ledger.specs.Ledger.{held, verdictIn, deedIn, Told, done, refusedWith}
 use Rattle.ledger.specs.Claim.{entryIn, noted, noteOf, SearchedBy}

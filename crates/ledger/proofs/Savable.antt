@@ -15,7 +15,6 @@ use Rattle.laws.proofs.Bools.{and-both}
 use Rattle.map_blocks.proofs.Runs.{all-intro}
 use Rattle.survey.specs.Survey.{countsOf, freeOf, blocks}
 use Rattle.catalogue_standings.specs.Standings.{standingOf, isDamaged}
-use Rattle.refusals.specs.Table.{Call}
 use Rattle.catalogue_standings.specs.Limits.{shapeFits, sheetsFit}
 use Rattle.catalogue_standings.specs.Rows.{accepted, firstOf}
 use Rattle.catalogue_standings.proofs.Openings.{skip}
@@ -23,6 +22,7 @@ use Rattle.image_soundness.specs.Scratch.{scratchWords}
 use Rattle.image_soundness.specs.Sound as saved
 use Rattle.image.specs.Image.{framesFor}
 use Rattle.image.specs.Table.{saveFits, saveRows, saveVerdict}
+use Rattle.ledger.specs.Ledger.{Call}
 use Rattle.ledger.specs.Ledger.{Sheet, sheetAt, covers, cover, freeIn, spareIn, after, begun}
 use Rattle.ledger.specs.Claim.{entryIn}
 use Rattle.card.specs.Calls.{Kept}
@@ -30,54 +30,13 @@ use Rattle.ledger.specs.Steps.{Response, Runs, freshState, savedOf}
 use Rattle.ledger.proofs.Agreement.{mapIn, stateOf, Matches, free-map, shape-fits, sheets-fit, stands-same}
 use Rattle.ledger.proofs.Wings.{entry-at}
 use Rattle.ledger.proofs.Demand.{Left, lists, kept-begun, state-begun}
-use Rattle.ledger.proofs.Listed.{sheet-undamaged}
-
-all-undamaged : (n : ℕ) (f : ℕ → Bool) (l : List Sheet)
-    → ((i : ℕ) → i < length l → isDamaged (standingOf n f (entryIn (sheetAt l i))) ≡ false)
-    → saved.undamaged n f (map entryIn l) ≡ true
-unfolding saved.undamaged
-all-undamaged n f [] h = refl
-all-undamaged n f (x ∷ l) h = and-both _ _ (ap not (h 0 (omega arith))) (all-undamaged n f l (λ i lt. h (suc i) (omega arith)))
-
-same-cover : (l : List Sheet) (b : ℕ) → saved.coverings (map entryIn l) b ≡ cover l b
-unfolding saved.coverings
-same-cover [] b = refl
-same-cover (x ∷ l) b = ap (λ (c : ℕ). covers x b + c) (same-cover l b)
-
-as-it-is : (t : Bool) → cond t t (not t) ≡ true
-as-it-is true = refl
-as-it-is false = refl
+use Rattle.ledger.proofs.Soundness.{kept-sound}
 
 none-left : firstOf [] ≡ accepted
 unfolding firstOf
 none-left = refl
 
 module _ (n : ℕ) (l : List Sheet) (card : List ℕ) (k : Matches n l card) where
-  reads : (b : ℕ) → free (mapIn n l) b ≡ freeIn n l b
-  reads b = ap (λ (f : ℕ → Bool). f b) (free-map n l)
-
-  below : (b : ℕ) → b < n → inState (mapIn n l) (eqb (saved.coverings (map entryIn l) b) 0) b ≡ true
-  below b lt =
-      let here : free (mapIn n l) b ≡ eqb (cover l b) 0 = reads b ∙ ap (λ (t : Bool). t && eqb (cover l b) 0) (lt-ltb b n lt) in
-      ap (λ (c : ℕ). inState (mapIn n l) (eqb c 0) b) (same-cover l b)
-      ∙ ap (λ (t : Bool). cond (eqb (cover l b) 0) t (not t)) here ∙ as-it-is (eqb (cover l b) 0)
-
-  pub kept-sound : saved.sound (savedOf (stateOf n l card)) ≡ true
-  unfolding saved.sound countsOf
-  kept-sound =
-      and-both _ _
-      (and-both _ _
-      (and-both _ _
-      (and-both _ _
-      (all-undamaged n (free (mapIn n l)) l
-      (λ i lt. ap (λ e. isDamaged (standingOf n (free (mapIn n l)) e)) (sym (entry-at l i lt))
-      ∙ ap isDamaged (stands-same n l card k i lt) ∙ sheet-undamaged (sheetAt l i)))
-      (all-intro _ 0 n (λ b a lt. ap (λ (c : ℕ). leb c 1) (same-cover l b) ∙ le-leb (cover l b) 1 (k .sound .once b))))
-      (all-intro _ 0 n (λ b a lt. below b (omega arith))))
-      (all-intro _ n (64 * length (mapIn n l) - n)
-      (λ b ge lt. ap not (reads b ∙ ap (λ (t : Bool). t && eqb (cover l b) 0) (le-ltb b n ge)))))
-      (eq-eqb (spareIn n l) _ (ap (λ (f : ℕ → Bool). freeOf (blocks f 0 n)) (sym (free-map n l))))
-
   -- with a scratch of its length and a buffer of the image's length, save is accepted
   pub kept-saves : (scratchlen bufferlen : ℕ) → scratchlen ≡ scratchWords (length (mapIn n l))
       → bufferlen ≡ 512 * framesFor n (length (map entryIn l))
@@ -88,7 +47,7 @@ module _ (n : ℕ) (l : List Sheet) (card : List ℕ) (k : Matches n l card) whe
       && eqb scratchlen (scratchWords (length (mapIn n l)))) ≡ true =
       and-both _ _ (and-both _ _ (shape-fits n l card k) (sheets-fit n l card k))
       (eq-eqb scratchlen (scratchWords (length (mapIn n l))) es) in
-      skip 1 _ _ _ (ap not fits) (skip 4 _ _ _ (ap not kept-sound)
+      skip 1 _ _ _ (ap not fits) (skip 4 _ _ _ (ap not (kept-sound n l card k))
       (skip 12 _ _ _ (ap not (eq-eqb bufferlen (512 * framesFor n (length (map entryIn l))) eb)) none-left))
 
 -- ---- after a list

@@ -1,6 +1,7 @@
 -- The calls, one by one: what each comes to is proved in its own file.
 -- Assumes nothing.
 pub mod Accept
+pub mod Close
 pub mod Complete
 pub mod Grow
 pub mod Offer
@@ -14,12 +15,14 @@ pub mod ShowDated
 pub mod Standing
 use Prim.Native.Nat.{ℕ}
 use mathlib.Core.List.{List}
-use Rattle.refusals.specs.Table.{Call, on, reserve, put, grow, complete, pause, resume, release, show, standing, offer, accept}
+use Rattle.refusals.specs.Table.{reserve, put, grow, complete, pause, resume, release, show, standing, offer, accept}
+use Rattle.ledger.specs.Ledger.{Call, on, close}
 use Rattle.refusals.specs.Table.{showDated}
 use Rattle.ledger.specs.Ledger.{Sheet, verdictIn}
 use Rattle.ledger.proofs.Agreement.{Matches}
 use Rattle.ledger.proofs.Results.{Result}
 use Accept.{accept-result}
+use Close.{close-result}
 use Complete.{complete-result}
 use Grow.{grow-result}
 use Offer.{offer-result}
@@ -45,3 +48,4 @@ result n l card k (on i release) = release-result n l card k i
 result n l card k (on i (show p buffer)) = show-result n l card k i p buffer
 result n l card k (on i (showDated p date buffer)) = show-dated-result n l card k i p date buffer
 result n l card k (on i standing) = standing-result n l card k i
+result n l card k close = close-result n l card k

@@ -6,15 +6,21 @@ use Prim.Native.Nat.{ℕ}
 use mathlib.Core.Path.{_≡_}
 use mathlib.Core.Logic.{_≢_}
 use mathlib.Core.List.{List, [], _∷_}
-use Rattle.refusals.specs.Table.{Call, on, pause, resume, show}
+use Rattle.refusals.specs.Table.{pause, resume, show}
 use Rattle.card.specs.Calls.{Kept}
-use Rattle.ledger.specs.Ledger.{Sheet, Complete, sheetOf, sheetAt, after, begun, done}
+use Rattle.ledger.specs.Ledger.{Call, on, close}
+use Rattle.ledger.specs.Ledger.{Sheet, Complete, sheetAt, after, begun, done}
 use Rattle.ledger.specs.Steps.{Response, toldBy, Step, Runs, freshState}
+
+-- A call is for another sheet, or a closing of the gaps.
+abbrev pub NotFor : ℕ → Call → Type 0
+NotFor sheet (on other ask) = other ≢ sheet
+NotFor sheet close = Unit {0}
 
 -- None of the calls is for the sheet.
 abbrev pub NoneFor : ℕ → List Call → Type 0
 NoneFor sheet [] = Unit {0}
-NoneFor sheet (c ∷ calls) = (sheetOf c ≢ sheet) × NoneFor sheet calls
+NoneFor sheet (c ∷ calls) = NotFor sheet c × NoneFor sheet calls
 
 -- A show of any place of the sheet, with any buffer, answers and leaves in its buffer the same from state t and from state u.
 abbrev pub ShowsTheSame : ℕ → Kept → Kept → Type 0

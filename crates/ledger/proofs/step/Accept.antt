@@ -12,8 +12,9 @@ use Rattle.map_blocks.specs.Blocks as map-blocks
 use Rattle.map_blocks.specs.Blocks.{fit}
 use Rattle.catalogue_standings.specs.Rows.{Row, accepted, firstOf}
 use Rattle.refusals.specs.Effects as effects
-use Rattle.refusals.specs.Table.{Ask, Call, on, accept, rowsFor, lowestBlank, tableOf}
+use Rattle.refusals.specs.Table.{Ask, accept, rowsFor, lowestBlank, tableOf}
 use Rattle.refusals.proofs.Rows.{clear}
+use Rattle.ledger.specs.Ledger.{Call, on}
 use Rattle.ledger.specs.Ledger.{Sheet, freeIn, spaceIn, viewIn, listed, rowsIn, verdictIn, deedIn, toldIn}
 use Rattle.ledger.specs.Claim.{before, Came, Searched}
 use Rattle.ledger.specs.Steps.{endOf}

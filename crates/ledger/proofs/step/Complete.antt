@@ -24,9 +24,10 @@ use Rattle.catalogue_standings.specs.declared.Answer.the-variants.{Done, Refuse
 use Rattle.refusals.specs.Lent.{lent}
 use Rattle.refusals.specs.Effects as effects
 use Rattle.refusals.specs.Effects.{entryOf, outOf}
-use Rattle.refusals.specs.Table.{Call, on, complete, rowsFor, lowestBlank, tableOf}
+use Rattle.refusals.specs.Table.{complete, rowsFor, lowestBlank, tableOf}
 use Rattle.refusals.specs.Views.{viewOn}
 use Rattle.refusals.proofs.Rows.{clear, same-number}
+use Rattle.ledger.specs.Ledger.{Call, on}
 use Rattle.ledger.specs.Ledger.{Place, Blank, Sheet, Complete, lengthIn, isBlank, bytesOf, sheetAt, placeAt}
 use Rattle.ledger.specs.Ledger.{spareIn, viewIn, completeIn, listed, rowsIn, verdictIn, deedIn}
 use Rattle.ledger.specs.Claim.{entryIn}

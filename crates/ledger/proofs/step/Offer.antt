@@ -16,10 +16,11 @@ use Rattle.catalogue_standings.specs.Rows.{Row, Verdict, accepted, firstOf, set
 use Rattle.catalogue_standings.specs.declared.Answer.the-variants.{Start, Refused}
 use Rattle.card.specs.Calls.{told}
 use Rattle.refusals.specs.Effects as effects
-use Rattle.refusals.specs.Table.{Ask, Call, on, offer, reserve, rowsFor, lowestBlank, tableOf}
+use Rattle.refusals.specs.Table.{Ask, offer, reserve, rowsFor, lowestBlank, tableOf}
 use Rattle.refusals.specs.Placement.{plain, figuresIn, fitWithin, leastWithin}
 use Rattle.refusals.specs.declared.Figures.{Figures}
 use Rattle.refusals.proofs.Rows.{clear}
+use Rattle.ledger.specs.Ledger.{Call, on}
 use Rattle.ledger.specs.Ledger.{Sheet, freeIn, spareIn, leastIn, viewIn, listed, rowsIn, verdictIn, deedIn, toldIn}
 use Rattle.ledger.specs.Claim.{entryIn, before, Came, Searched}
 use Rattle.ledger.specs.Steps.{End, ending, endOf}

@@ -18,9 +18,10 @@ use Rattle.catalogue_standings.specs.Rows.{Row, Verdict, accepted, settle}
 use Rattle.catalogue_standings.specs.declared.Answer.the-variants.{Done, Refused}
 use Rattle.refusals.specs.Effects as effects
 use Rattle.refusals.specs.Effects.{entryOf}
-use Rattle.refusals.specs.Table.{Call, on, put, rowsFor, tableOf}
+use Rattle.refusals.specs.Table.{put, rowsFor, tableOf}
 use Rattle.refusals.proofs.Rows.{clear}
 use Rattle.card.specs.Calls.{told}
+use Rattle.ledger.specs.Ledger.{Call, on}
 use Rattle.ledger.specs.Ledger.{Place, Blank, Payload, Sheet, Open, lengthIn, sheetAt, spareIn, putIn, listed, rowsIn}
 use Rattle.ledger.specs.Ledger.{verdictIn, deedIn}
 use Rattle.ledger.specs.Claim.{entryIn}

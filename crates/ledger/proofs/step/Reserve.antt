@@ -16,11 +16,12 @@ use Rattle.catalogue_standings.specs.Searches.{startAt, none}
 use Rattle.catalogue_standings.specs.Standings.{isPaused, isOpen, isComplete}
 use Rattle.catalogue_standings.specs.Rows.{Row, accepted, firstOf}
 use Rattle.refusals.specs.Effects as effects
-use Rattle.refusals.specs.Table.{Ask, Call, on, reserve, rowsFor, lowestBlank, tableOf}
+use Rattle.refusals.specs.Table.{Ask, reserve, rowsFor, lowestBlank, tableOf}
 use Rattle.refusals.specs.Placement.{Placement, figuresIn, misfigured, fitWithin, leastWithin}
 use Rattle.refusals.specs.declared.Figures.{Figures}
 use Rattle.refusals.proofs.Placement.{figured, plain-fit, least-fits}
 use Rattle.refusals.proofs.Rows.{clear}
+use Rattle.ledger.specs.Ledger.{Call, on}
 use Rattle.ledger.specs.Ledger.{Sheet, standingIn, sheetAt, freeIn, leastIn, spaceIn, viewIn, listed, rowsIn, verdictIn}
 use Rattle.ledger.specs.Ledger.{deedIn, toldIn}
 use Rattle.ledger.specs.Claim.{before, Came, Searched}

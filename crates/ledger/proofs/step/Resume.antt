@@ -12,8 +12,9 @@ use Rattle.catalogue_standings.specs.Rows.{Row, Verdict, accepted, settle}
 use Rattle.catalogue_standings.specs.declared.Answer.the-variants.{Done}
 use Rattle.refusals.specs.Effects as effects
 use Rattle.refusals.specs.Effects.{entryOf, outOf, refusalOut}
-use Rattle.refusals.specs.Table.{Call, on, resume, rowsFor, tableOf}
+use Rattle.refusals.specs.Table.{resume, rowsFor, tableOf}
 use Rattle.refusals.proofs.Rows.{clear}
+use Rattle.ledger.specs.Ledger.{Call, on}
 use Rattle.ledger.specs.Ledger.{Sheet, startIn, lengthIn, sheetAt, spareIn, resumeIn, listed, rowsIn, verdictIn, deedIn}
 use Rattle.ledger.specs.Steps.{End, endOf}
 use Rattle.ledger.proofs.Agreement.{mapIn, stateOf, Matches, verdict-at}

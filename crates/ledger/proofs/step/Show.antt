@@ -13,9 +13,10 @@ use Rattle.catalogue_standings.specs.Standings.{isAbsent, isPaused, isOpen}
 use Rattle.catalogue_standings.specs.Rows.{Row, Verdict, accepted, firstOf, settle}
 use Rattle.catalogue_standings.specs.declared.Answer.the-variants.{Done, Refused}
 use Rattle.refusals.specs.Effects as effects
-use Rattle.refusals.specs.Table.{Call, on, show, misplaced, rowsFor, tableOf}
+use Rattle.refusals.specs.Table.{show, misplaced, rowsFor, tableOf}
 use Rattle.refusals.proofs.Rows.{clear}
 use Rattle.card.specs.Calls.{told}
+use Rattle.ledger.specs.Ledger.{Call, on}
 use Rattle.ledger.specs.Ledger.{Blank, Sheet, standingIn, lengthIn, placesIn, isBlank, sheetAt}
 use Rattle.ledger.specs.Ledger.{placeAt, spareIn, viewIn, listed, rowsIn, verdictIn, deedIn}
 use Rattle.ledger.specs.Claim.{entryIn}
