@@ -30,7 +30,7 @@ use Rattle.refusals.specs.Placement.{leastWithin}
 use Rattle.refusals.specs.Lent.{lent, within, noCard}
 use Rattle.refusals.specs.Views.{viewAt, viewOn}
 use Rattle.catalogue_standings.proofs.Openings.{skip, stop}
-use Rattle.ledger.specs.Ledger as book
+use Rattle.ledger.specs.Calls as book
 use Rattle.ledger.specs.Ledger.{Place, Blank, Payload, Sheet, Absent, Paused, PausedWith, Open, Complete, standingIn}
 use Rattle.ledger.specs.Ledger.{startIn, lengthIn, isBlank, bytesOf, sheetAt, placeAt, cover, freeIn, spareIn}
 use Rattle.ledger.specs.Ledger.{viewIn, listed, heldIn, verdictIn}

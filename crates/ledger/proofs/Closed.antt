@@ -104,6 +104,10 @@ unfolding catalogue.held
 same-held [] = refl
 same-held (x ∷ l) = ap (λ (k : ℕ). lengthIn x + k) (same-held l)
 
+-- how many blocks they hold
+abbrev pub heldBy : List Sheet → ℕ
+heldBy l = catalogue.held (map entryIn l)
+
 -- the entry of a sheet that gets its new start is the closed one
 module _ (l : List Sheet) where
   abbrev es : List Entry
@@ -184,7 +188,7 @@ module _ (n : ℕ) (l : List Sheet) (card : List ℕ) (k : Matches n l card) whe
       sym (same-cover (closedIn l) b) ∙ ap (λ (e : List Entry). saved.coverings e b) (sym (entries-closed l))
       ∙ closed-covers (savedOf (stateOf n l card)) sound-before b
 
-  free-closed : (b : ℕ) → freeIn n (closedIn l) b ≡ (leb (catalogue.held all) b && ltb b n)
+  pub free-closed : (b : ℕ) → freeIn n (closedIn l) b ≡ (leb (catalogue.held all) b && ltb b n)
   free-closed b =
       ap (λ (c : ℕ). ltb b n && eqb c 0) (cover-closed b) ∙ ap (λ (t : Bool). ltb b n && t) (one-or-more b (catalogue.held all))
       ∙ swapped (ltb b n) (leb (catalogue.held all) b)
@@ -195,7 +199,7 @@ module _ (n : ℕ) (l : List Sheet) (card : List ℕ) (k : Matches n l card) whe
       ap (firstTaken (catalogue.held all) n) (map-length (freeIn n l) (wordsFor n))
       ∙ map-same (λ b. leb (catalogue.held all) b && ltb b n) (freeIn n (closedIn l)) (wordsFor n) (λ b h. sym (free-closed b))
 
-  few-held : catalogue.held all ≤ n
+  pub few-held : catalogue.held all ≤ n
   few-held = held-fits (savedOf (stateOf n l card)) sound-before
 
   -- a sheet of the ledger, where it goes
@@ -254,6 +258,9 @@ module _ (n : ℕ) (l : List Sheet) (card : List ℕ) (k : Matches n l card) whe
     once = λ b. omega (arith, cover-closed b, at-most-one (ltb b (catalogue.held all)));
     fine = λ i. rw (closed-at l i) (fine-then i);
   }
+
+  pub spare-held : spareIn n (closedIn l) + heldBy l ≡ n
+  spare-held = omega (arith, spare-is n (closedIn l) sound-then, held-closed l, same-held l)
 
   pub spare-closed : spareIn n (closedIn l) ≡ spareIn n l
   spare-closed = omega (arith, spare-is n l (k .sound), spare-is n (closedIn l) sound-then, held-closed l)

@@ -34,7 +34,7 @@ use Rattle.refusals.specs.Table.{reserve, put, grow, complete, pause, resume, r
 use Rattle.refusals.specs.Table.{showDated}
 use Rattle.calendar.specs.Calendar.{dateOf}
 use Rattle.card.specs.Contracts.{ShowsDated}
-use Rattle.ledger.specs.Ledger.{Call, on, close}
+use Rattle.ledger.specs.Calls.{Call, on, close}
 use Rattle.ledger.specs.Steps.{Response, endOf, Step, freshState, scratchOf, savedOf}
 
 -- the state after a call, and its reply, by what the call handed back and left

@@ -1,11 +1,13 @@
 -- The laws that the claim is proved by: of the ledger alone (Cover, Rows, Sheets, Listed, Search), of the state that it calls
--- for (Agreement, Marks, Keeping, SameBlocks, Soundness, Closed), and of the calls on that state (Results what they share, Taking what reserve
--- and accept do, step each by itself). Demand has the theorem, BlankPlaces which place the ledger answers with 9, Contracts
--- that the steps are the public calls' contracts, WholeCard what search and survey answer by theirs, Savable that every state
--- that a list leaves can be saved, Pauses that a sheet paused and resumed shows what it showed, Terms when a dated show shows.
+-- for (Agreement, Marks, Keeping, SameBlocks, Soundness, Closed), and of the calls on that state (Results what they share,
+-- Taking what reserve and accept do, step each by itself). Demand has the theorem, BlankPlaces which place the ledger answers
+-- with 9, Contracts that the steps are the public calls' contracts, WholeCard what search and survey answer by theirs, Savable
+-- that every state that a list leaves can be saved, Pauses that a sheet paused and resumed shows what it showed, Terms
+-- when a dated show shows, Shares that no wing holds more than its limit, Closings what a reserve is answered after a closing.
 pub mod Agreement
 pub mod BlankPlaces
 pub mod Closed
+pub mod Closings
 pub mod Contracts
 pub mod Cover
 pub mod Demand

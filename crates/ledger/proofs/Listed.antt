@@ -13,7 +13,7 @@ use Rattle.map_blocks.proofs.Runs.{all-elim}
 use Rattle.catalogue_standings.specs.Rows.{row, firstOf}
 use Rattle.catalogue_standings.specs.Standings.{isDamaged}
 use Rattle.refusals.specs.Table.{Ask, on, rowsFor, tableOf}
-use Rattle.ledger.specs.Ledger as book
+use Rattle.ledger.specs.Calls as book
 use Rattle.ledger.specs.Ledger.{Place, Blank, Payload, Sheet, Absent, Paused, PausedWith, Open, Complete, standingIn}
 use Rattle.ledger.specs.Ledger.{held, lengthIn, placesIn, isBlank, bytesOf, sheetAt, placeAt, spareIn, viewIn, verdictIn}
 use Rattle.ledger.proofs.Cover.{held-set, spare-and-held}

@@ -16,7 +16,8 @@ use Rattle.refusals.specs.Table.{reserve, put, grow, complete, pause, resume, r
 use Rattle.refusals.specs.Table.{showDated}
 use Rattle.refusals.specs.Table.{offer, accept, tableOf}
 use Rattle.card.specs.Calls.{Kept}
-use Rattle.ledger.specs.Ledger.{Call, on, close, belowIn, restartIn, startIn}
+use Rattle.ledger.specs.Calls.{Call, on, close}
+use Rattle.ledger.specs.Ledger.{belowIn, restartIn, startIn}
 use Rattle.ledger.specs.Ledger.{Place, Blank, Payload, Sheet, Absent, Paused, PausedWith, Open, Complete, standingIn}
 use Rattle.ledger.specs.Ledger.{placesIn, bytesOf}
 use Rattle.ledger.specs.Ledger.{sheetAt, placeAt, viewIn, listed, verdictIn, pauseIn, resumeIn, deedIn, stepIn}

@@ -23,8 +23,8 @@ use Rattle.refusals.specs.Effects.{outOf, refusalOut}
 use Rattle.refusals.specs.Table.{Ask, lowestBlank}
 use Rattle.refusals.specs.declared.Out.{Out}
 use Rattle.card.specs.Calls.{told, outcomeOf}
-use Rattle.ledger.specs.Ledger.{Call, on}
-use Rattle.ledger.specs.Ledger.{Place, Sheet, Absent, lengthIn, sheetAt, spareIn, sheetOf, viewIn, rowsIn}
+use Rattle.ledger.specs.Calls.{Call, on, sheetOf}
+use Rattle.ledger.specs.Ledger.{Place, Sheet, Absent, lengthIn, sheetAt, spareIn, viewIn, rowsIn}
 use Rattle.ledger.specs.Ledger.{held, verdictIn, deedIn, Told, done, refusedWith}
 use Rattle.ledger.specs.Claim.{entryIn, noted, noteOf, SearchedBy}
 use Rattle.ledger.specs.Steps.{End, ending, endOf, responseOf, stateOn, toldBy}

@@ -22,7 +22,7 @@ use Rattle.image_soundness.specs.Scratch.{scratchWords}
 use Rattle.image_soundness.specs.Sound as saved
 use Rattle.image.specs.Image.{framesFor}
 use Rattle.image.specs.Table.{saveFits, saveRows, saveVerdict}
-use Rattle.ledger.specs.Ledger.{Call}
+use Rattle.ledger.specs.Calls.{Call}
 use Rattle.ledger.specs.Ledger.{Sheet, sheetAt, covers, cover, freeIn, spareIn, after, begun}
 use Rattle.ledger.specs.Claim.{entryIn}
 use Rattle.card.specs.Calls.{Kept}

@@ -18,7 +18,7 @@ use Rattle.catalogue_standings.specs.Standings.{isPaused, isOpen, isComplete}
 use Rattle.catalogue_standings.specs.Rows.{Verdict, accepted, settle}
 use Rattle.refusals.specs.Effects.{entryOf, outOf, refusalOut}
 use Rattle.refusals.specs.Table.{Ask}
-use Rattle.ledger.specs.Ledger.{on}
+use Rattle.ledger.specs.Calls.{on}
 use Rattle.ledger.specs.Ledger.{Blank, Sheet, Absent, Open, standingIn, lengthIn, sheetAt, freeIn, spareIn, spaceIn}
 use Rattle.ledger.specs.Ledger.{Begun, deedIn}
 use Rattle.ledger.specs.Claim.{noteOf}

@@ -16,7 +16,7 @@ pub mod Standing
 use Prim.Native.Nat.{ℕ}
 use mathlib.Core.List.{List}
 use Rattle.refusals.specs.Table.{reserve, put, grow, complete, pause, resume, release, show, standing, offer, accept}
-use Rattle.ledger.specs.Ledger.{Call, on, close}
+use Rattle.ledger.specs.Calls.{Call, on, close}
 use Rattle.refusals.specs.Table.{showDated}
 use Rattle.ledger.specs.Ledger.{Sheet, verdictIn}
 use Rattle.ledger.proofs.Agreement.{Matches}

@@ -8,7 +8,7 @@ use mathlib.Core.Logic.{_≢_}
 use mathlib.Core.List.{List, [], _∷_}
 use Rattle.refusals.specs.Table.{pause, resume, show}
 use Rattle.card.specs.Calls.{Kept}
-use Rattle.ledger.specs.Ledger.{Call, on, close}
+use Rattle.ledger.specs.Calls.{Call, on, close}
 use Rattle.ledger.specs.Ledger.{Sheet, Complete, sheetAt, after, begun, done}
 use Rattle.ledger.specs.Steps.{Response, toldBy, Step, Runs, freshState}
 

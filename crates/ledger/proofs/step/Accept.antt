@@ -14,7 +14,7 @@ use Rattle.catalogue_standings.specs.Rows.{Row, accepted, firstOf}
 use Rattle.refusals.specs.Effects as effects
 use Rattle.refusals.specs.Table.{Ask, accept, rowsFor, lowestBlank, tableOf}
 use Rattle.refusals.proofs.Rows.{clear}
-use Rattle.ledger.specs.Ledger.{Call, on}
+use Rattle.ledger.specs.Calls.{Call, on}
 use Rattle.ledger.specs.Ledger.{Sheet, freeIn, spaceIn, viewIn, listed, rowsIn, verdictIn, deedIn, toldIn}
 use Rattle.ledger.specs.Claim.{before, Came, Searched}
 use Rattle.ledger.specs.Steps.{endOf}

@@ -19,7 +19,8 @@ use Rattle.closing.specs.Table.{closeFits}
 use Rattle.closing.proofs.Closes.{verdict-0}
 use Rattle.card.specs.Calls.{told}
 use Rattle.card.proofs.Closings.{verdictBy, close-accepted}
-use Rattle.ledger.specs.Ledger.{Sheet, close, closedIn, spareIn, verdictIn, deedIn}
+use Rattle.ledger.specs.Calls.{close}
+use Rattle.ledger.specs.Ledger.{Sheet, closedIn, spareIn, verdictIn, deedIn}
 use Rattle.ledger.specs.Claim.{entryIn}
 use Rattle.ledger.specs.Steps.{End, ending, endOf, scratchOf, savedOf}
 use Rattle.ledger.proofs.Agreement.{mapIn, stateOf, Matches, shape-fits, sheets-fit}

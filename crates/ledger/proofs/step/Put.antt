@@ -21,7 +21,7 @@ use Rattle.refusals.specs.Effects.{entryOf}
 use Rattle.refusals.specs.Table.{put, rowsFor, tableOf}
 use Rattle.refusals.proofs.Rows.{clear}
 use Rattle.card.specs.Calls.{told}
-use Rattle.ledger.specs.Ledger.{Call, on}
+use Rattle.ledger.specs.Calls.{Call, on}
 use Rattle.ledger.specs.Ledger.{Place, Blank, Payload, Sheet, Open, lengthIn, sheetAt, spareIn, putIn, listed, rowsIn}
 use Rattle.ledger.specs.Ledger.{verdictIn, deedIn}
 use Rattle.ledger.specs.Claim.{entryIn}

@@ -21,7 +21,7 @@ use Rattle.refusals.specs.Placement.{Placement, figuresIn, misfigured, fitWithi
 use Rattle.refusals.specs.declared.Figures.{Figures}
 use Rattle.refusals.proofs.Placement.{figured, plain-fit, least-fits}
 use Rattle.refusals.proofs.Rows.{clear}
-use Rattle.ledger.specs.Ledger.{Call, on}
+use Rattle.ledger.specs.Calls.{Call, on}
 use Rattle.ledger.specs.Ledger.{Sheet, standingIn, sheetAt, freeIn, leastIn, spaceIn, viewIn, listed, rowsIn, verdictIn}
 use Rattle.ledger.specs.Ledger.{deedIn, toldIn}
 use Rattle.ledger.specs.Claim.{before, Came, Searched}
