@@ -1,5 +1,5 @@
--- The ledger with its gaps closed (document 02 (l)), and the state that it calls for: the closed entries, map and card, with what
--- holds after every list.
+-- The ledger with its gaps closed (document 02 (l)), and the state that it calls for: the closed entries, map and card, with
+-- what holds after every list.
 -- Assumes nothing.
 use Prim.Native.Nat.{ℕ, zero, suc, _+_, _*_, _/_, _≤_, _<_}
 use mathlib.Core.Path.{_≡_, refl, sym, ap, ap₂, subst, _∙_}

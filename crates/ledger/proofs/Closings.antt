@@ -68,7 +68,8 @@ module _ (n : ℕ) (l : List Sheet) (card : List ℕ) (k : Matches n l card) (ca
   pub full-exactly : Came 10 n (closedIn l) call → (toldIn n (closedIn l) call .number ≡ 10) ↔ (spareIn n (closedIn l) < m)
   unfolding deedIn
   full-exactly came =
-      let sought : SearchedBy n (closedIn l) call (toldIn n (closedIn l) call) = result n (closedIn l) card′ k′ call .searched in
+      let sought : SearchedBy n (closedIn l) call (toldIn n (closedIn l) call) =
+      result n (closedIn l) card′ k′ call .searched in
       both (sought came .exactly)
       (none-exactly (freeIn n (closedIn l)) (heldBy l) n m (spareIn n (closedIn l)) (free-closed n l card k)
       (spare-held n l card k))

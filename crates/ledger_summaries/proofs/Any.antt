@@ -23,7 +23,8 @@ use Rattle.refusals.specs.Effects as effects
 use Rattle.refusals.specs.Effects.{entryOf, outOf, refusalOut}
 use Rattle.refusals.specs.Lent.{Lent, noCard}
 use Rattle.refusals.specs.Placement.{Placement}
-use Rattle.refusals.specs.Table.{on, reserve, grow, release, accept}
+use Rattle.refusals.specs.Table as table
+use Rattle.refusals.specs.Table.{reserve, grow, release, accept}
 use Rattle.refusals.proofs.Summaries as summaries
 use Rattle.card.specs.Calls.{Kept, lentByWithin, outcomeOf}
 use Rattle.refusals.specs.Effects.{givingVerdict, runVerdict, reserveVerdict, reserveStart, acceptVerdict}
@@ -42,8 +43,10 @@ use Rattle.catalogue_standings.proofs.Openings.{skip, stop, none-left}
 use borrow.Author.Tests.{ltb-true, ltb-false}
 use Rattle.summary_search.proofs.Searches.{by-none}
 use Rattle.card.specs.Calls.{reserveSummaryBy, acceptSummaryBy}
+use Rattle.ledger.specs.Calls.{on}
 use Rattle.ledger.specs.Claim.{before}
 use Rattle.ledger_summaries.specs.Summaries.{refusing, WrongLength, Comes, Searched, turned-down, granted, AnyReserve}
+use Rattle.ledger_summaries.proofs.Closed.{same-close, close-anew, close-refuses}
 use Rattle.ledger_summaries.proofs.Ends.{takes, reserve-takes, accept-takes, reserve-refuses, accept-refuses}
 use Rattle.ledger_summaries.proofs.Ends.{grow-refuses, release-refuses}
 use Rattle.ledger.specs.Steps.{End, ending, endIn, endOf}
@@ -90,7 +93,13 @@ module _ (s : Kept) (summary : List ℕ) (sheet : ℕ) (long : Long s summary) w
       (entryAt (s .entries) sheet) sheet long)
 
   pub any-summary : AnySummary s summary sheet
-  any-summary = record { accepts = accept-any; grows = grow-any; releases = release-any }
+  any-summary = record {
+    accepts = accept-any;
+    grows = grow-any;
+    releases = release-any;
+    closes = same-close s summary long;
+    anew = close-anew s summary;
+  }
 
 -- ---- a summary of the wrong length
 
@@ -109,6 +118,7 @@ module _ (s : Kept) (summary : List ℕ) (sheet : ℕ) (short : Long s summary �
     releases = release-refuses true summary s sheet 1
         (summaries.release-1 0 [] summary (s .shape .blocks) (s .shape .free) (s .map) noCard (length (s .entries))
         (entryAt (s .entries) sheet) sheet short);
+    closes = close-refuses s summary short;
   }
 
 -- ---- a reserve
@@ -136,7 +146,7 @@ module _ (s : Kept) (summary : List ℕ) (limits : List ℕ) (sheet : ℕ) (long
   over = reserving.over plainly k p
 
   -- the rows before 10
-  first-rows : firstOf (before 10 (tableOf (viewOn plainly) (on sheet (reserve limits k p))))
+  first-rows : firstOf (before 10 (tableOf (viewOn plainly) (table.on sheet (reserve limits k p))))
       ≡ behind (givingVerdict plainly k) (row 15 (misfigured n g) ∷ row 18 over ∷ [])
   unfolding before tableOf viewOn
   first-rows = giving-then plainly k (row 15 (misfigured n g) ∷ row 18 over ∷ [])
@@ -159,7 +169,7 @@ module _ (s : Kept) (summary : List ℕ) (limits : List ℕ) (sheet : ℕ) (long
   by-rest q v h r =
       reserving.verdict-behind q k p ∙ ap (λ (w : Verdict). settle w (firstOf (reserving.rest q k p)) refused) h ∙ r
 
-  refused-before : (number : ℕ) → firstOf (before 10 (tableOf (viewOn plainly) (on sheet (reserve limits k p)))) ≡ refused
+  refused-before : (number : ℕ) → firstOf (before 10 (tableOf (viewOn plainly) (table.on sheet (reserve limits k p)))) ≡ refused
       number
       → (endIn true summary s (on sheet (reserve limits k p)) ≡ endOf s (on sheet (reserve limits k p)))
       × (reserveSummaryBy true summary s limits sheet k p ≡ summary)

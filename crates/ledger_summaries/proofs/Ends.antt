@@ -16,13 +16,14 @@ use Rattle.refusals.specs.Effects as effects
 use Rattle.refusals.specs.Effects.{entryOf, outOf, refusalOut}
 use Rattle.refusals.specs.Lent.{Lent, noCard}
 use Rattle.refusals.specs.Placement.{Placement}
-use Rattle.refusals.specs.Table.{on, reserve, grow, release, accept}
+use Rattle.refusals.specs.Table.{reserve, grow, release, accept}
 use Rattle.refusals.specs.declared.Out.{Out}
 use Rattle.card.specs.Calls.{Kept, lentBy, lentByWithin, outcomeOf}
 use Rattle.card.specs.declared.Outcome.{Outcome}
 use Rattle.card.specs.Calls.{reserveSummaryBy, acceptSummaryBy, growSummaryBy, releaseSummaryBy}
 use Rattle.card.proofs.Refusals.{reserve-refused-by, accept-refused-by, grow-refused-by, release-refused-by}
 use Rattle.ledger_summaries.specs.Summaries.{refusing}
+use Rattle.ledger.specs.Calls.{on}
 use Rattle.ledger.specs.Steps.{End, ending, endIn}
 
 -- ---- what a call that takes blocks comes to, by its verdict and its start

@@ -17,7 +17,7 @@ use Rattle.call_summary.proofs.Fits.{build-left, build-refused}
 use Rattle.card.specs.Calls.{Kept, told}
 use Rattle.card.specs.Contracts.{itself, Builds}
 use Rattle.card.specs.declared.Outcome.{Outcome}
-use Rattle.refusals.specs.Table.{Call}
+use Rattle.ledger.specs.Calls.{Call}
 use Rattle.ledger.specs.Claim.{Claim}
 use Rattle.ledger.specs.Steps.{Response, freshState}
 use Rattle.ledger.proofs.Demand.{every-list}

@@ -13,26 +13,24 @@ use Rattle.catalogue_wings.specs.Wings.{heldBy}
 use Rattle.catalogue.specs.Entries.{entryAt}
 use Rattle.summary.specs.Summary.{ownSummary}
 use Rattle.summary.specs.Updates.{updatedSummary}
-use Rattle.summary.proofs.Numbers.{own-length}
 use Rattle.summary.proofs.Updates.{own-marked}
 use Rattle.catalogue_standings.specs.Rows.{Verdict, accepted, refused, settle}
 use Rattle.refusals.specs.Effects as effects
 use Rattle.refusals.specs.Lent.{Lent, noCard}
 use Rattle.refusals.specs.Placement.{Placement}
-use Rattle.refusals.specs.Table.{Call, on, reserve, put, grow, complete, pause, resume, release, show, standing, offer, accept}
+use Rattle.refusals.specs.Table.{reserve, put, grow, complete, pause, resume, release, show, standing, offer, accept}
 use Rattle.refusals.specs.Table.{showDated}
 use Rattle.refusals.proofs.Accept.{accept-room}
 use Rattle.refusals.proofs.Room.{Room, reserve-room, grow-room}
 use Rattle.refusals.proofs.Release.{release-sized}
 use Rattle.refusals.proofs.Summaries as summaries
 use Rattle.card.specs.Calls.{Kept, lentBy, lentByWithin}
+use Rattle.ledger.specs.Calls.{Call, on, close}
 use Rattle.ledger.specs.Steps.{endIn, endOf, responseOf, stateOn}
 use Rattle.ledger_summaries.proofs.Any.{any-summary}
+use Rattle.ledger_summaries.proofs.Closed.{own-fits, same-close, own-close}
 use Rattle.ledger_summaries.proofs.Ends.{takes, reserve-takes}
 use Rattle.ledger_summaries.specs.Summaries.{summaryAfter, RunsBy, ownOf, OwnStep, OwnRuns, Long}
-
-own-fits : (s : Kept) → Long s (ownOf s)
-own-fits s = own-length (s .map) (s .shape .blocks)
 
 -- after the k blocks from a start on became taken or free, or nothing changed, it is the map's own still
 followed : (s : Kept) (v : Verdict) (start k : ℕ) (to : Bool)
@@ -120,6 +118,7 @@ same-end s (on sheet release) = any-summary s (ownOf s) sheet (own-fits s) .rele
 same-end s (on sheet (show p buffer)) = refl
 same-end s (on sheet (showDated p date buffer)) = refl
 same-end s (on sheet standing) = refl
+same-end s close = same-close s (ownOf s) (own-fits s)
 
 -- and the summary is the map's own afterwards
 own-after : (s : Kept) (c : Call) → summaryAfter (ownOf s) s c ≡ ownOf (stateOn (endIn true (ownOf s) s c))
@@ -135,6 +134,7 @@ own-after s (on sheet release) = release-own-after s sheet
 own-after s (on sheet (show p buffer)) = refl
 own-after s (on sheet (showDated p date buffer)) = refl
 own-after s (on sheet standing) = refl
+own-after s close = own-close s
 
 pub own-step : (s : Kept) (c : Call) → OwnStep s c
 own-step s c reply t summary′ h = (

@@ -10,20 +10,24 @@ use lib.ListN.{length, getD}
 use Rattle.map_blocks.specs.Blocks.{free}
 use Rattle.summary.specs.Summary.{summaryLength, ownSummary}
 use Rattle.catalogue_standings.specs.Rows.{accepted, refused, firstOf}
-use Rattle.catalogue_standings.specs.declared.Answer.the-variants.{Refused}
+use Rattle.catalogue_standings.specs.declared.Answer.the-variants.{Done, Refused}
 use Rattle.refusals.specs.Placement.{Placement, figuresIn, fitWithin}
-use Rattle.refusals.specs.Table.{Call, Ask, on, reserve, put, grow, complete, pause, resume, release, show, standing, offer}
+use Rattle.refusals.specs.Table as table
+use Rattle.refusals.specs.Table.{Ask, reserve, put, grow, complete, pause, resume, release, show, standing, offer}
 use Rattle.refusals.specs.Table.{accept}
 use Rattle.refusals.specs.Table.{showDated}
 use Rattle.refusals.specs.Table.{tableOf}
 use Rattle.refusals.specs.Views.{viewOn}
 use Rattle.card.specs.Calls.{Kept, lentToWithin, told, reserveSummaryBy, acceptSummaryBy, growSummaryBy, releaseSummaryBy}
+use Rattle.card.specs.Calls.{closeSummaryBy}
+use Rattle.ledger.specs.Calls.{Call, on, close}
 use Rattle.ledger.specs.Claim.{before}
-use Rattle.ledger.specs.Steps.{End, ending, endIn, endOf, Response, responseOf, stateOn, Step, Runs}
+use Rattle.ledger.specs.Steps.{End, ending, endIn, endOf, Response, responseOf, stateOn, Step, Runs, scratchOf}
 
 -- ---- steps with a summary
 
--- The summary that a call leaves: reserve, accept, grow and release have forms that change it; the other calls are not lent it.
+-- The summary that a call leaves: reserve, accept, grow, release and closing (document 02 (l)) have forms that change it; the
+-- other calls are not lent it.
 abbrev pub summaryAfter : List ℕ → Kept → Call → List ℕ
 summaryAfter summary s (on sheet (reserve limits k placement)) = reserveSummaryBy true summary s limits sheet k placement
 summaryAfter summary s (on sheet (offer limits k)) = summary
@@ -37,6 +41,7 @@ summaryAfter summary s (on sheet release) = releaseSummaryBy true summary s shee
 summaryAfter summary s (on sheet (show p buffer)) = summary
 summaryAfter summary s (on sheet (showDated p date buffer)) = summary
 summaryAfter summary s (on sheet standing) = summary
+summaryAfter summary s close = closeSummaryBy true summary s (scratchOf s)
 
 -- A call from state s that is lent a summary gives a reply and leaves state t and a summary, as the contract of its public
 -- function says.
@@ -89,18 +94,24 @@ pub record WrongLength (s : Kept) (summary : List ℕ) (sheet : ℕ) : Type 0 wh
   pub accepts : (limits : List ℕ) (start k : ℕ) → Refused1 s summary (on sheet (accept limits start k))
   pub grows : (limits : List ℕ) (m : ℕ) → Refused1 s summary (on sheet (grow limits m))
   pub releases : Refused1 s summary (on sheet release)
+  pub closes : Refused1 s summary close
 
--- A summary of the right length, the map's own or not, changes nothing of accept, grow and release but itself. They are exact.
+-- A summary of the right length, the map's own or not, changes nothing of accept, grow, release and closing but itself. They
+-- are exact. After a closing that was done it is the map's own, whatever it was before.
 pub record AnySummary (s : Kept) (summary : List ℕ) (sheet : ℕ) : Type 0 where
   pub accepts : (limits : List ℕ) (start k : ℕ) → endIn true summary s (on sheet (accept limits start k)) ≡ endOf s
       (on sheet (accept limits start k))
   pub grows : (limits : List ℕ) (m : ℕ) → endIn true summary s (on sheet (grow limits m)) ≡ endOf s (on sheet (grow limits m))
   pub releases : endIn true summary s (on sheet release) ≡ endOf s (on sheet release)
+  pub closes : endIn true summary s close ≡ endOf s close
+  pub anew : endIn true summary s close .outcome .answer ≡ Done
+      → summaryAfter summary s close ≡ ownOf (stateOn (endIn true summary s close))
 
 -- A reserve comes to the search if no row before 10 holds. If it does not come there, it is answered as without a summary.
 abbrev pub Comes : Kept → List ℕ → ℕ → ℕ → Placement → Type 0
 Comes s limits sheet k p =
-    firstOf (before 10 (tableOf (viewOn (lentToWithin s (s .card) limits sheet)) (on sheet (reserve limits k p)))) ≡ accepted
+    firstOf (before 10 (tableOf (viewOn (lentToWithin s (s .card) limits sheet)) (table.on sheet (reserve limits k p)))) ≡
+    accepted
 
 -- If it does, it is refused with 10, or with 4 by the free count, and changes nothing; or it is granted a run that is free,
 -- within its figures, inside n and k long, and then does and answers what an accept of that run does.
@@ -115,7 +126,7 @@ pub data Searched (s : Kept) (summary limits : List ℕ) (sheet k : ℕ) (p : Pl
 
 pub record AnyReserve (s : Kept) (summary limits : List ℕ) (sheet k : ℕ) (p : Placement) : Type 0 where
   pub refused-before : (number : ℕ)
-      → firstOf (before 10 (tableOf (viewOn (lentToWithin s (s .card) limits sheet)) (on sheet (reserve limits k p)))) ≡
+      → firstOf (before 10 (tableOf (viewOn (lentToWithin s (s .card) limits sheet)) (table.on sheet (reserve limits k p)))) ≡
       refused number
       → (endIn true summary s (on sheet (reserve limits k p)) ≡ endOf s (on sheet (reserve limits k p)))
       × (summaryAfter summary s (on sheet (reserve limits k p)) ≡ summary)
