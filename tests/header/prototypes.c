@@ -45,6 +45,7 @@ pagunlit_outcome pagunlit_save(SHAPE, const MAP, const CATALOGUE, SCRATCH, IMAGE
 pagunlit_outcome pagunlit_load(SHAPE, const IMAGE, MAP, CATALOGUE, SCRATCH);
 pagunlit_count pagunlit_read_count(const uint8_t *payload, size_t payloadlen, uint32_t which);
 uint32_t pagunlit_write_count(uint8_t *payload, size_t payloadlen, uint32_t which, uint32_t hundredths);
+uint32_t pagunlit_write_term(uint8_t *payload, size_t payloadlen, uint32_t first, uint32_t last);
 uint32_t seal(uint32_t sheet, uint32_t place, const uint8_t *payload, size_t payloadlen, uint8_t *block, size_t blocklen);
 uint32_t check(const uint8_t *block, size_t blocklen);
 

@@ -20,8 +20,9 @@ use Rattle.closing.specs.Closed.{closedMap, closedEntries, closedCard}
 use Rattle.closing.specs.Effects as closings
 use Rattle.closing.specs.Table.{closeVerdict}
 use Rattle.closing.proofs.Closes.{refused-number}
-use Rattle.card.specs.Calls.{Kept, told, savedState, closeOutcomeBy, closeMapBy, closeSummaryBy, closeEntriesBy}
-use Rattle.card.specs.Calls.{closeCardBy, closeScratchBy}
+use Rattle.card.specs.Calls.{Kept, told, savedState}
+use Rattle.card.specs.Closings.{closeOutcomeBy, closeMapBy, closeSummaryBy, closeEntriesBy}
+use Rattle.card.specs.Closings.{closeCardBy, closeScratchBy}
 use Rattle.card.specs.declared.Outcome.{Outcome}
 
 module _ (guided : Bool) (summary : List ℕ) (s : Kept) (scratch : List ℕ) where

@@ -23,8 +23,8 @@ use Rattle.card.specs.Calls.{growOutcome, growMap, growEntries, growCard
 use Rattle.card.specs.Calls.{putOutcome, putCard, completeOutcome, completeEntries, showOutcome, showBuffer}
 use Rattle.card.specs.Calls.{pauseOutcome, pauseEntries, resumeOutcome, resumeEntries}
 use Rattle.card.specs.Calls.{releaseOutcome, releaseMap, releaseEntries, standingOutcome}
-use Rattle.card.specs.Calls.{closeOutcome, closeMap, closeEntries, closeCard, closeScratch}
-use Rattle.card.specs.Calls.{closeOutcomeBy, closeMapBy, closeSummaryBy, closeEntriesBy, closeCardBy, closeScratchBy}
+use Rattle.card.specs.Closings.{closeOutcome, closeMap, closeEntries, closeCard, closeScratch}
+use Rattle.card.specs.Closings.{closeOutcomeBy, closeMapBy, closeSummaryBy, closeEntriesBy, closeCardBy, closeScratchBy}
 use Rattle.card.specs.Calls.{saveOutcome, saveScratch, saveImage, loadOutcome, loadMap, loadEntries, loadScratch}
 use Rattle.card.specs.declared.Outcome.{Outcome}
 use Rattle.card.specs.declared.Shape.{Shape}

@@ -43,7 +43,7 @@ impl Shape {
     }
 }
 
-pub fn show_dated_core(
+fn show_dated_core(
     shape: Shape,
     map: &[u64],
     card: &[u8],

@@ -1,7 +1,7 @@
 // The cores of the calls that are lent a summary (document 02, request j): the same calls, guided by it.
 ghost use mathlib.Core.Bool.{true};
 ghost use mathlib.Core.Path.{_≡_};
-ghost use Rattle.card.specs.Calls.{rebuilt};
+ghost use Rattle.card.specs.Closings.{rebuilt};
 ghost use Rattle.card.specs.Cores.{lentAtBy, besideFits};
 ghost use Rattle.card.specs.Reserves.{plainOut, plainMap, plainSummary, plainCard};
 ghost use Rattle.card.specs.Reserves.{placedOut, placedMap, placedSummary, placedCard};

@@ -2,7 +2,7 @@
 // that is for a sheet finds the sheet's entry, leaves the rest to a core on that entry by value, and stores what it hands
 // back. A refusal hands the shape back as it came and changes nothing that is lent but a scratch.
 mod cores;
-mod dated;
+pub mod dated;
 mod guided;
 mod reserves;
 pub mod summary;
@@ -12,14 +12,13 @@ ghost use mathlib.Core.Path.{_≡_};
 ghost use Rattle.refusals.specs.Lent.{noCard};
 ghost use Rattle.refusals.specs.Placement.{plain, placed, figures};
 ghost use Rattle.card.specs.Calls.{kept, freshOutcome, freshMap, freshEntries, searchOutcome, surveyOutcome};
-ghost use Rattle.card.specs.Calls.{offerOutcome, acceptOutcome, acceptMap, acceptEntries, acceptCard};
-ghost use Rattle.card.specs.Calls.{reserveOutcome, reserveMap, reserveEntries, reserveCard, growOutcome, growMap};
-ghost use Rattle.card.specs.Calls.{growEntries, growCard, putOutcome, putCard, completeOutcome, completeEntries};
-ghost use Rattle.card.specs.Calls.{pauseOutcome, pauseEntries, resumeOutcome, resumeEntries};
-ghost use Rattle.card.specs.Calls.{releaseOutcome, releaseMap, releaseEntries, showOutcome};
+ghost use Rattle.card.specs.Calls.{offerOutcome, acceptOutcome, acceptMap, acceptEntries, acceptCard, reserveOutcome};
+ghost use Rattle.card.specs.Calls.{reserveMap, reserveEntries, reserveCard, growOutcome, growMap, growEntries, growCard};
+ghost use Rattle.card.specs.Calls.{putOutcome, putCard, completeOutcome, completeEntries, pauseOutcome, pauseEntries};
+ghost use Rattle.card.specs.Calls.{resumeOutcome, resumeEntries, releaseOutcome, releaseMap, releaseEntries, showOutcome};
 ghost use Rattle.card.specs.Calls.{showBuffer, standingOutcome, saveOutcome, saveScratch, saveImage, loadOutcome};
 ghost use Rattle.card.specs.Calls.{loadMap, loadEntries, loadScratch};
-ghost use Rattle.card.specs.Calls.{closeOutcome, closeMap, closeEntries, closeCard, closeScratch};
+ghost use Rattle.card.specs.Closings.{closeOutcome, closeMap, closeEntries, closeCard, closeScratch};
 use catalogue::Entry;
 use catalogue_standings::Answer;
 

@@ -8,8 +8,8 @@ ghost use Rattle.card.specs.Calls.{reserveOutcomeBy, reserveMapBy, reser
 ghost use Rattle.card.specs.Calls.{acceptOutcomeBy, acceptMapBy, acceptSummaryBy, acceptEntriesBy, acceptCardBy};
 ghost use Rattle.card.specs.Calls.{growOutcomeBy, growMapBy, growSummaryBy, growEntriesBy, growCardBy};
 ghost use Rattle.card.specs.Calls.{releaseOutcomeBy, releaseMapBy, releaseSummaryBy, releaseEntriesBy};
-ghost use Rattle.card.specs.Calls.{closeOutcomeBy, closeMapBy, closeSummaryBy, closeEntriesBy, closeCardBy};
-ghost use Rattle.card.specs.Calls.{closeScratchBy};
+ghost use Rattle.card.specs.Closings.{closeOutcomeBy, closeMapBy, closeSummaryBy, closeEntriesBy, closeCardBy};
+ghost use Rattle.card.specs.Closings.{closeScratchBy};
 use crate::Outcome;
 use crate::Shape;
 use crate::cores;

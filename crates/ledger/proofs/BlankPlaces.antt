@@ -12,7 +12,7 @@ use Rattle.refusals.proofs.BlankPlaces.{Lowest, lowest-of}
 use Rattle.refusals.proofs.Rows.{holds}
 use Rattle.ledger.specs.Calls.{Call, on}
 use Rattle.ledger.specs.Ledger.{Sheet, lengthIn, isBlank, sheetAt, placeAt, viewIn, listed, rowsIn, verdictIn, deedIn}
-use Rattle.ledger.specs.Ledger.{done, refusedWith, toldIn}
+use Rattle.ledger.specs.Answers.{done, refusedWith, toldIn}
 
 module _ (n : ℕ) (l : List Sheet) (i : ℕ) (nine : verdictIn n l (on i complete) ≡ refused 9) where
   abbrev call : Call

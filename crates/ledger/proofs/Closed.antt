@@ -31,8 +31,9 @@ use Rattle.ledger.specs.Ledger.{Place, Blank, Sheet, Absent, Paused, Pau
 use Rattle.ledger.specs.Ledger.{placesIn, sheetAt, placeAt, covers, cover, freeIn, spareIn, belowIn, restartIn, closedIn}
 use Rattle.ledger.specs.Claim.{entryIn, blockIn}
 use Rattle.ledger.specs.Steps.{savedOf}
-use Rattle.ledger.proofs.Agreement.{mapIn, stateOf, Matches, entry-at}
-use Rattle.ledger.proofs.Cover.{held}
+use Rattle.ledger.proofs.Agreement.{mapIn, stateOf, Matches}
+use Rattle.ledger.proofs.Wings.{entry-at}
+use Rattle.ledger.specs.Ledger.{held}
 use Rattle.ledger.proofs.Listed.{spare-is}
 use Rattle.ledger.proofs.Marks.{map-same}
 use Rattle.ledger.proofs.Sheets.{needs, Fine, Sound, holding, Has}
@@ -47,7 +48,7 @@ start-of s (PausedWith t xs) h = refl
 start-of s (Open t ps) h = refl
 start-of s (Complete t xs) h = refl
 
-same-length : (s : ℕ) (x : Sheet) → lengthIn (restartIn s x) ≡ lengthIn x
+pub same-length : (s : ℕ) (x : Sheet) → lengthIn (restartIn s x) ≡ lengthIn x
 same-length s Absent = refl
 same-length s Paused = refl
 same-length s (PausedWith t xs) = refl

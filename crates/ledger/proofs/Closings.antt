@@ -19,7 +19,8 @@ use Rattle.refusals.specs.Table.{reserve}
 use Rattle.card.specs.Calls.{Kept}
 use Rattle.catalogue_standings.specs.Rows.{firstOf}
 use Rattle.ledger.specs.Calls.{Call, on, close}
-use Rattle.ledger.specs.Ledger.{Sheet, freeIn, spareIn, closedIn, deedIn, stepIn, after, begun, Told, toldIn}
+use Rattle.ledger.specs.Ledger.{Sheet, freeIn, spareIn, closedIn, deedIn, stepIn, after, begun}
+use Rattle.ledger.specs.Answers.{Told, toldIn}
 use Rattle.ledger.specs.Claim.{entryIn, Came, Searched, SearchedBy}
 use Rattle.ledger.specs.Closings.{ClosedThenReserved, FullWhenMoreWanted}
 use Rattle.ledger.specs.Steps.{Response, toldBy, Step, Runs, freshState}

@@ -24,7 +24,8 @@ use Rattle.image_soundness.specs.Scratch.{scratchWords}
 use Rattle.closing.specs.Closed.{closedMap, closedEntries, closedCard}
 use Rattle.closing.specs.Effects as closings
 use Rattle.closing.specs.Table.{closeVerdict}
-use Rattle.card.specs.Calls.{Kept, kept, told, isDone, saveOutcomeBy, closeOutcome, closeMap, closeEntries, closeCard}
+use Rattle.card.specs.Calls.{Kept, kept, told, isDone, saveOutcomeBy}
+use Rattle.card.specs.Closings.{closeOutcome, closeMap, closeEntries, closeCard}
 use Rattle.card.specs.Contracts.{itself, Freshens, Reserves, ReservesPlaced, Grows, Puts, Completes, Shows, Pauses, Releases}
 use Rattle.card.specs.Contracts.{Offers, Accepts, Resumes, TellsStanding, Closes}
 use Rattle.card.specs.declared.Shape.{Shape}

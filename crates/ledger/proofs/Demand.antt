@@ -21,7 +21,8 @@ use Rattle.refusals.specs.Table.{show, lowestBlank, tableOf}
 use Rattle.ledger.specs.Calls.{Call, on}
 use Rattle.ledger.specs.Ledger.{Place, Blank, Payload, Sheet, Absent, Complete, standingIn, startIn, lengthIn, placesIn}
 use Rattle.ledger.specs.Ledger.{bytesOf, sheetAt, placeAt, cover, freeIn, spareIn, listed, verdictIn, deedIn, stepIn}
-use Rattle.ledger.specs.Ledger.{held, viewIn, after, begun, Told, done, refusedWith, toldIn, allToldIn}
+use Rattle.ledger.specs.Ledger.{held, viewIn, after, begun}
+use Rattle.ledger.specs.Answers.{Told, done, refusedWith, toldIn, allToldIn}
 use Rattle.ledger.specs.Claim.{SearchedBy, AllSearched, granted, returned, lastPut, entryIn}
 use Rattle.ledger.specs.Claim.{Agrees, Gives, Claim}
 use Rattle.card.specs.declared.Shape.{Shape}

@@ -21,7 +21,8 @@ use Rattle.ledger.specs.Ledger.{belowIn, restartIn, startIn}
 use Rattle.ledger.specs.Ledger.{Place, Blank, Payload, Sheet, Absent, Paused, PausedWith, Open, Complete, standingIn}
 use Rattle.ledger.specs.Ledger.{placesIn, bytesOf}
 use Rattle.ledger.specs.Ledger.{sheetAt, placeAt, viewIn, listed, verdictIn, pauseIn, resumeIn, deedIn, stepIn}
-use Rattle.ledger.specs.Ledger.{after, begun, Told, done, refusedWith, toldIn}
+use Rattle.ledger.specs.Ledger.{after, begun}
+use Rattle.ledger.specs.Answers.{Told, done, refusedWith, toldIn}
 use Rattle.ledger.specs.Pauses.{NotFor, NoneFor, StoppedAndTakenUp, TakenUp, PausedAndResumed}
 use Rattle.ledger.specs.Steps.{Response, toldBy, Step, Runs, freshState}
 use Rattle.ledger.proofs.Agreement.{stateOf, Matches}
@@ -58,17 +59,18 @@ again x y z p q = (p .0, p .1 ∙ ap (restartIn (p .0)) (q .1) ∙ twice (p .0) 
 ask-elsewhere : (n : ℕ) (l : List Sheet) (j : ℕ) (a : Ask) (i : ℕ) → i ≢ j
     → sheetAt (deedIn n l (on j a) .ledger) i ≡ sheetAt l i
 unfolding deedIn
-ask-elsewhere n l j (reserve k placement) i ne = getD-set-other l j i _ Absent ne
+ask-elsewhere n l j (reserve limits k placement) i ne = getD-set-other l j i _ Absent ne
 ask-elsewhere n l j (put p payload) i ne = getD-set-other l j i _ Absent ne
-ask-elsewhere n l j (grow m) i ne = getD-set-other l j i _ Absent ne
+ask-elsewhere n l j (grow limits m) i ne = getD-set-other l j i _ Absent ne
 ask-elsewhere n l j complete i ne = getD-set-other l j i _ Absent ne
 ask-elsewhere n l j pause i ne = getD-set-other l j i _ Absent ne
 ask-elsewhere n l j resume i ne = getD-set-other l j i _ Absent ne
 ask-elsewhere n l j release i ne = getD-set-other l j i _ Absent ne
 ask-elsewhere n l j (show p buffer) i ne = refl
+ask-elsewhere n l j (showDated p date buffer) i ne = refl
 ask-elsewhere n l j standing i ne = refl
-ask-elsewhere n l j (offer k) i ne = refl
-ask-elsewhere n l j (accept start k) i ne = getD-set-other l j i _ Absent ne
+ask-elsewhere n l j (offer limits k) i ne = refl
+ask-elsewhere n l j (accept limits start k) i ne = getD-set-other l j i _ Absent ne
 
 deed-elsewhere : (n : ℕ) (l : List Sheet) (c : Call) (i : ℕ) → NotFor i c
     → Restarted (sheetAt (deedIn n l c .ledger) i) (sheetAt l i)

@@ -16,7 +16,7 @@ use Rattle.laws.proofs.Bools.{and-left, and-right, and-both, not-true, order, c
 use Rattle.map_blocks.proofs.Least.{least-passes, least-below, none-passes}
 use Rattle.catalogue_standings.specs.Searches.{startAt, none}
 use Rattle.catalogue_standings.specs.Rows.{Verdict, accepted, refused, settle}
-use Rattle.ledger.specs.Ledger.{refusedWith, Told, done}
+use Rattle.ledger.specs.Answers.{refusedWith, Told, done}
 use Rattle.ledger.specs.Claim.{Searched}
 
 -- no start from n on passes

@@ -11,20 +11,22 @@ use borrow.Author.Tests.{ltb-false, eqb-true, eqb-false}
 use Rattle.catalogue_wings.specs.Wings.{wingOf, inWing}
 use Rattle.catalogue_standings.specs.Rows.{Verdict, accepted, refused, settle}
 use Rattle.refusals.specs.Shares.{limitOf, overLimit}
-use Rattle.refusals.specs.Table.{Call, on, reserve, put, grow, complete, pause, resume, release, show, standing, offer, accept}
+use Rattle.refusals.specs.Table.{reserve, put, grow, complete, pause, resume, release, show, standing, offer, accept}
 use Rattle.refusals.specs.Table.{showDated, rowsFor, tableOf}
 use Rattle.refusals.proofs.Rows.{clear}
 use Rattle.card.specs.Calls.{Kept}
+use Rattle.ledger.specs.Calls.{Call, on, close}
 use Rattle.ledger.specs.Ledger.{Place, Blank, Sheet, Absent, Paused, PausedWith, Open, Complete, lengthIn, sheetAt, held}
 use Rattle.ledger.specs.Ledger.{heldIn, putIn, growIn, completeIn, pauseIn, resumeIn, bytesOf, listed, rowsIn, verdictIn}
-use Rattle.ledger.specs.Ledger.{deedIn, stepIn, begun}
+use Rattle.ledger.specs.Ledger.{deedIn, stepIn, begun, closedIn}
 use Rattle.ledger.specs.Steps.{endOf, stateOn, freshState}
 use Rattle.ledger.specs.Shares.{GoesWith, Unchanging, WithinLimits, Throughout}
 use Rattle.ledger.proofs.Agreement.{stateOf, Matches}
 use Rattle.ledger.proofs.Contracts.{Limits}
 use Rattle.ledger.proofs.Demand.{kept-begun, state-begun, held-begun}
 use Rattle.ledger.proofs.Results.{Result}
-use Rattle.ledger.proofs.Wings.{wing-same, wing-part, wing-more, wing-other}
+use Rattle.ledger.proofs.Wings.{wing-same, wing-part, wing-more, wing-other, wing-map}
+use Rattle.ledger.proofs.Closed.{same-length}
 use Rattle.ledger.proofs.step.{result}
 
 -- ---- the length of a sheet after a call
@@ -104,7 +106,7 @@ module _ (n : ℕ) (limits : List ℕ) (l : List Sheet) (within : InLedger limit
 
 bounded : (n : ℕ) (limits : List ℕ) (l : List Sheet) → InLedger limits l → (c : Call) → GoesWith limits c
     → verdictIn n l c ≡ accepted → InLedger limits (deedIn n l c .ledger)
-unfolding deedIn tableOf listed
+unfolding deedIn tableOf listed closedIn
 bounded n limits l w (on i (reserve given k p)) same h =
     taken n limits l w i given _ k same (clear 18 (rowsIn n l (on i (reserve given k p))) h .0)
 bounded n limits l w (on i (offer given k)) same h = w
@@ -125,6 +127,7 @@ bounded n limits l w (on i release) same h = stays n limits l w i Absent (omega 
 bounded n limits l w (on i (show p buffer)) same h = w
 bounded n limits l w (on i (showDated p date buffer)) same h = w
 bounded n limits l w (on i standing) same h = w
+bounded n limits l w close same h = λ j. omega (arith, wing-map _ (λ x. same-length _ x) l j, w j)
 
 -- any call, accepted or refused
 stepped : (n : ℕ) (limits : List ℕ) (l : List Sheet) → InLedger limits l → (c : Call) → GoesWith limits c

@@ -19,12 +19,14 @@ use Rattle.catalogue_standings.specs.Rows.{Verdict, accepted, refused, firstOf,
 use Rattle.catalogue_standings.specs.declared.Answer.the-variants.{Done, Refused}
 use Rattle.refusals.specs.Effects as effects
 use Rattle.refusals.specs.Lent.{Lent}
-use Rattle.refusals.specs.Table.{Call, on, show, showDated, lowestBlank, tableOf}
+use Rattle.refusals.specs.Table.{show, showDated, lowestBlank, tableOf}
 use Rattle.refusals.specs.Views.{viewOn}
 use Rattle.refusals.proofs.ShowDated.{accepted-too}
 use Rattle.card.specs.Calls.{Kept, lentTo, told}
+use Rattle.ledger.specs.Calls.{Call, on}
 use Rattle.ledger.specs.Ledger.{Place, Sheet, Complete, standingIn, bytesOf, sheetAt, placeAt, viewIn, listed, verdictIn}
-use Rattle.ledger.specs.Ledger.{deedIn, after, begun, Told, done, refusedWith, toldIn}
+use Rattle.ledger.specs.Ledger.{deedIn, after, begun}
+use Rattle.ledger.specs.Answers.{Told, done, refusedWith, toldIn}
 use Rattle.ledger.specs.Steps.{End, ending, endOf, Response, responseOf, stateOn, toldBy, Runs, freshState}
 use Rattle.ledger.specs.Terms.{termIn, Within, ShowsInTerm, ShowsExactlyInItsTerm, DoesWhatShowDoes}
 use Rattle.ledger.proofs.Agreement.{Matches}

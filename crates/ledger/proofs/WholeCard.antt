@@ -29,7 +29,7 @@ use Rattle.card.specs.Calls.{told}
 use Rattle.card.specs.Contracts.{itself, Searches, Surveys}
 use Rattle.card.specs.declared.Outcome.{Outcome}
 use Rattle.card.specs.declared.Shape.{Shape}
-use Rattle.ledger.specs.Ledger.{Told}
+use Rattle.ledger.specs.Answers.{Told}
 use Rattle.ledger.specs.Claim.{Searched}
 use Rattle.ledger.proofs.Search.{verdictBy, tellsBy, searched}
 

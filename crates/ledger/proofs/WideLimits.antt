@@ -16,10 +16,11 @@ use Rattle.catalogue_standings.specs.Rows.{Row, row, Verdict, accepted, refused
 use Rattle.catalogue_standings.proofs.Rows.{first-then}
 use Rattle.refusals.specs.Placement.{Placement, plain}
 use Rattle.refusals.specs.Shares.{limitOf, overLimit, withoutLimits}
-use Rattle.refusals.specs.Table.{Call, on, reserve, put, grow, complete, pause, resume, release, show, standing, offer, accept}
+use Rattle.refusals.specs.Table.{reserve, put, grow, complete, pause, resume, release, show, standing, offer, accept}
 use Rattle.refusals.specs.Table.{showDated, tableOf}
 use Rattle.refusals.proofs.Rows.{clear, not-refused, same-number}
 use Rattle.refusals.proofs.Shares.{none-passed}
+use Rattle.ledger.specs.Calls.{Call, on, close}
 use Rattle.ledger.specs.Ledger.{Sheet, heldIn, spareIn, listed, rowsIn, verdictIn, after, begun}
 use Rattle.ledger.specs.Claim.{before}
 use Rattle.ledger.specs.Steps.{freshState}
@@ -49,6 +50,7 @@ under-limit n l (on i release) h = none-passed (rowsIn n l (on i release)) tt
 under-limit n l (on i (show p buffer)) h = none-passed (rowsIn n l (on i (show p buffer))) tt
 under-limit n l (on i (showDated p date buffer)) h = none-passed (rowsIn n l (on i (showDated p date buffer))) tt
 under-limit n l (on i standing) h = none-passed (rowsIn n l (on i standing)) tt
+under-limit n l close h = none-passed (rowsIn n l close) tt
 
 -- ---- two verdicts, with row 18 and without
 
@@ -164,6 +166,7 @@ wide-call n l card k limits wide (on i (show p buffer)) same =
 wide-call n l card k limits wide (on i (showDated p date buffer)) same =
     as-before n l _ (alike _ _ (under-limit n l (on i (showDated p date buffer)) tt))
 wide-call n l card k limits wide (on i standing) same = as-before n l _ (alike _ _ (under-limit n l (on i standing) tt))
+wide-call n l card k limits wide close same = as-before n l _ (alike _ _ (under-limit n l close tt))
 
 -- after any list from a fresh card, with n and c within their bounds
 pub wide-limits : (n c : ℕ) (card : List ℕ) → Limits n c → length card ≡ 512 * n → (calls : List Call) (limits : List ℕ)

@@ -10,9 +10,10 @@ use lib.Dec.{ltb}
 use lib.ListN.{length, set, take, drop, length-map, List·getD-eq-default}
 use lib.Seq.{getD-take, getD-drop, set-out, drop-set-add, drop-set-lt, take-set-lt, take-set-le}
 use borrow.Author.Tests.{ltb-true, ltb-false}
+use Rattle.catalogue.specs.Entries as catalogue
 use Rattle.catalogue.specs.Entries.{zeros, entryAt}
 use Rattle.catalogue.specs.declared.Entry.{Entry}
-use Rattle.catalogue_wings.specs.Wings.{wingOf, inWing, lengths, heldBy}
+use Rattle.catalogue_wings.specs.Wings.{wingOf, inWing, heldBy}
 use Rattle.catalogue_wings.proofs.Sums.{held-is}
 use Rattle.ledger.specs.Ledger.{Sheet, Absent, lengthIn, sheetAt, held, heldIn}
 use Rattle.ledger.specs.Claim.{entryIn}
@@ -25,25 +26,37 @@ entry-at (x ∷ l) (suc i) h = entry-at l i (le-of-suc-le-suc h)
 
 -- ---- the lengths in a wing's entries are those of its sheets
 
-drop-entries : (j : ℕ) (l : List Sheet) → drop j (map entryIn l) ≡ map entryIn (drop j l)
-drop-entries zero l = refl
-drop-entries (suc j) [] = refl
-drop-entries (suc j) (x ∷ l) = drop-entries j l
+-- what is made of every sheet is made of those of a wing
+drop-map : {B : Type 0} (f : Sheet → B) (j : ℕ) (l : List Sheet) → drop j (map f l) ≡ map f (drop j l)
+drop-map f zero l = refl
+drop-map f (suc j) [] = refl
+drop-map f (suc j) (x ∷ l) = drop-map f j l
 
-take-entries : (j : ℕ) (l : List Sheet) → take j (map entryIn l) ≡ map entryIn (take j l)
-take-entries zero l = refl
-take-entries (suc j) [] = refl
-take-entries (suc j) (x ∷ l) = ap (λ (r : List Entry). entryIn x ∷ r) (take-entries j l)
+take-map : {B : Type 0} (f : Sheet → B) (j : ℕ) (l : List Sheet) → take j (map f l) ≡ map f (take j l)
+take-map f zero l = refl
+take-map f (suc j) [] = refl
+take-map {B} f (suc j) (x ∷ l) = ap (λ (r : List B). f x ∷ r) (take-map f j l)
 
-lengths-held : (l : List Sheet) → lengths (map entryIn l) ≡ held l
-unfolding lengths
-lengths-held [] = refl
-lengths-held (x ∷ l) = omega (arith, lengths-held l)
+entries-hold : (l : List Sheet) → catalogue.held (map entryIn l) ≡ held l
+unfolding catalogue.held
+entries-hold [] = refl
+entries-hold (x ∷ l) = omega (arith, entries-hold l)
 
-wing-lengths : (l : List Sheet) (w : ℕ) → lengths (inWing w (map entryIn l)) ≡ held (inWing w l)
+wing-lengths : (l : List Sheet) (w : ℕ) → catalogue.held (inWing w (map entryIn l)) ≡ held (inWing w l)
 wing-lengths l w =
-    ap (λ (es : List Entry). lengths (take 128 es)) (drop-entries (128 * w) l)
-    ∙ ap lengths (take-entries 128 (drop (128 * w) l)) ∙ lengths-held (inWing w l)
+    ap (λ (es : List Entry). catalogue.held (take 128 es)) (drop-map entryIn (128 * w) l)
+    ∙ ap catalogue.held (take-map entryIn 128 (drop (128 * w) l)) ∙ entries-hold (inWing w l)
+
+-- a change of every sheet that leaves the lengths leaves what a wing holds
+held-map : (f : Sheet → Sheet) → ((x : Sheet) → lengthIn (f x) ≡ lengthIn x) → (l : List Sheet) → held (map f l) ≡ held l
+held-map f same [] = refl
+held-map f same (x ∷ l) = omega (arith, same x, held-map f same l)
+
+pub wing-map : (f : Sheet → Sheet) → ((x : Sheet) → lengthIn (f x) ≡ lengthIn x) → (l : List Sheet) (i : ℕ)
+    → heldIn (map f l) i ≡ heldIn l i
+wing-map f same l i =
+    ap (λ (xs : List Sheet). held (take 128 xs)) (drop-map f (128 * wingOf i) l)
+    ∙ ap held (take-map f 128 (drop (128 * wingOf i) l)) ∙ held-map f same (inWing (wingOf i) l)
 
 -- ---- what a wing holds is the same in both
 

@@ -11,9 +11,10 @@ use mathlib.Core.List.{List, [], _∷_}
 use Rattle.catalogue_wings.specs.Wings.{wingOf, heldBy}
 use Rattle.catalogue_standings.specs.Rows.{Verdict, accepted, refused, firstOf}
 use Rattle.refusals.specs.Shares.{limitOf, overLimit, withoutLimits}
-use Rattle.refusals.specs.Table.{Call, on, reserve, put, grow, complete, pause, resume, release, show, standing, offer, accept}
+use Rattle.refusals.specs.Table.{reserve, put, grow, complete, pause, resume, release, show, standing, offer, accept}
 use Rattle.refusals.specs.Table.{showDated}
 use Rattle.card.specs.Calls.{Kept}
+use Rattle.ledger.specs.Calls.{Call, on, close}
 use Rattle.ledger.specs.Ledger.{Sheet, heldIn, rowsIn, verdictIn}
 use Rattle.ledger.specs.Steps.{endOf, stateOn}
 
@@ -33,6 +34,7 @@ GoesWith limits (on sheet release) = Unit {0}
 GoesWith limits (on sheet (show p buffer)) = Unit {0}
 GoesWith limits (on sheet (showDated p date buffer)) = Unit {0}
 GoesWith limits (on sheet standing) = Unit {0}
+GoesWith limits close = Unit {0}
 
 abbrev pub Unchanging : List ℕ → List Call → Type 0
 Unchanging limits [] = Unit {0}
@@ -67,6 +69,7 @@ Under ledger (on sheet release) = Unit {0}
 Under ledger (on sheet (show p buffer)) = Unit {0}
 Under ledger (on sheet (showDated p date buffer)) = Unit {0}
 Under ledger (on sheet standing) = Unit {0}
+Under ledger close = Unit {0}
 
 -- Each of the eight limits is n or more.
 abbrev pub Wide : ℕ → List ℕ → Type 0

@@ -10,9 +10,11 @@ use mathlib.Core.List.{List, []}
 use lib.ListN.{length, getD}
 use Rattle.calendar.specs.Calendar.{Date, dateExists, dayNumber}
 use Rattle.calendar.specs.Term.{Term, termOf}
-use Rattle.refusals.specs.Table.{Call, on, show, showDated}
+use Rattle.refusals.specs.Table.{show, showDated}
 use Rattle.card.specs.Calls.{Kept}
-use Rattle.ledger.specs.Ledger.{Complete, sheetAt, after, begun, Told, done}
+use Rattle.ledger.specs.Calls.{Call, on}
+use Rattle.ledger.specs.Ledger.{Complete, sheetAt, after, begun}
+use Rattle.ledger.specs.Answers.{Told, done}
 use Rattle.ledger.specs.Steps.{Response, toldBy, Step, Runs, freshState}
 
 -- The term of a complete sheet: the two days that its payload of place 0 starts with.

@@ -24,7 +24,8 @@ use Rattle.closing.specs.Closed.{closedMap}
 use Rattle.closing.specs.Table.{closeFits, closeVerdict}
 use Rattle.closing.proofs.Claimed.{accepted-fits}
 use Rattle.closing.proofs.Closes.{close-fits-to, fits-beside, verdict-1}
-use Rattle.card.specs.Calls.{Kept, savedState, isDone, closeMapBy, closeSummaryBy}
+use Rattle.card.specs.Calls.{Kept, savedState, isDone}
+use Rattle.card.specs.Closings.{closeMapBy, closeSummaryBy}
 use Rattle.card.proofs.Closings.{verdictBy, summary-for, close-refused, close-accepted}
 use Rattle.ledger.specs.Calls.{close}
 use Rattle.ledger.specs.Steps.{endIn, endOf, stateOn, scratchOf}

@@ -19,7 +19,7 @@ use Rattle.refusals.specs.Table.{showDated}
 use Rattle.refusals.specs.Table.{tableOf}
 use Rattle.refusals.specs.Views.{viewOn}
 use Rattle.card.specs.Calls.{Kept, lentToWithin, told, reserveSummaryBy, acceptSummaryBy, growSummaryBy, releaseSummaryBy}
-use Rattle.card.specs.Calls.{closeSummaryBy}
+use Rattle.card.specs.Closings.{closeSummaryBy}
 use Rattle.ledger.specs.Calls.{Call, on, close}
 use Rattle.ledger.specs.Claim.{before}
 use Rattle.ledger.specs.Steps.{End, ending, endIn, endOf, Response, responseOf, stateOn, Step, Runs, scratchOf}

@@ -37,7 +37,7 @@ use Rattle.pagunlit.proofs.pagunlit_pause as pause-function
 use Rattle.pagunlit.proofs.pagunlit_resume as resume-function
 use Rattle.pagunlit.proofs.pagunlit_release as release-function
 use Rattle.pagunlit.proofs.pagunlit_show as show-function
-use Rattle.pagunlit.proofs.pagunlit_show_dated as show-dated-function
+use Rattle.pagunlit.proofs.dated.pagunlit_show_dated as show-dated-function
 use Rattle.pagunlit.proofs.pagunlit_standing as standing-function
 use Rattle.pagunlit.proofs.pagunlit_save as save-function
 use Rattle.pagunlit.proofs.pagunlit_close as close-function

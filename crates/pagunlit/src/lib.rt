@@ -1,11 +1,11 @@
 // The C library: every call of the card for the dispenser's C program (include/pagunlit.h). Each function calls the method
 // of its name on `Shape` and turns the outcome into document 01's numbers. A slice is a pointer and a length to C; the
 // shape, the entries and the reply are structs of 32-bit numbers.
+pub mod dated;
 pub mod summary;
 
 ghost use mathlib.Core.Path.{_≡_};
 ghost use Rattle.block.specs.Calls.{sealAnswer, afterSeal, checkAnswer};
-ghost use Rattle.calendar.specs.Calendar.{dateOf};
 ghost use Rattle.calendar.specs.Term.{termAnswer, withTerm};
 ghost use Rattle.counts.specs.Counts.{readOf, writeAnswer, afterWrite};
 ghost use Rattle.counts.specs.Replies.{countReply, countFrom};
@@ -13,14 +13,15 @@ ghost use Rattle.pagunlit_replies.specs.Replies.{replyOf};
 ghost use Rattle.refusals.specs.Lent.{noCard};
 ghost use Rattle.refusals.specs.Placement.{plain, placed, figures};
 ghost use Rattle.card.specs.Calls.{kept, freshOutcome, freshMap, freshEntries, searchOutcome, surveyOutcome, reserveOutcome};
-ghost use Rattle.card.specs.Calls.{offerOutcome, acceptOutcome, acceptMap, acceptEntries, acceptCard};
-ghost use Rattle.card.specs.Calls.{reserveMap, reserveEntries, reserveCard, growOutcome, growMap, growEntries, growCard};
-ghost use Rattle.card.specs.Calls.{putOutcome, putCard, completeOutcome, completeEntries, pauseOutcome, pauseEntries};
-ghost use Rattle.card.specs.Calls.{resumeOutcome, resumeEntries};
-ghost use Rattle.card.specs.Calls.{releaseOutcome, releaseMap, releaseEntries, showOutcome, showBuffer, standingOutcome};
-ghost use Rattle.card.specs.Calls.{showDatedOutcome, showDatedBuffer};
-ghost use Rattle.card.specs.Calls.{closeOutcome, closeMap, closeEntries, closeCard, closeScratch};
-ghost use Rattle.card.specs.Calls.{saveOutcome, saveScratch, saveImage, loadOutcome, loadMap, loadEntries, loadScratch};
+ghost use Rattle.card.specs.Calls.{offerOutcome, acceptOutcome, acceptMap, acceptEntries, acceptCard, reserveMap};
+ghost use Rattle.card.specs.Calls.{reserveEntries, reserveCard, growOutcome, growMap, growEntries, growCard, putOutcome};
+ghost use Rattle.card.specs.Calls.{putCard, completeOutcome, completeEntries, pauseOutcome, pauseEntries, resumeOutcome};
+ghost use Rattle.card.specs.Calls.{resumeEntries, releaseOutcome, releaseMap, releaseEntries, showOutcome, showBuffer};
+ghost use Rattle.card.specs.Calls.{standingOutcome};
+ghost use Rattle.card.specs.Closings.{closeOutcome, closeMap, closeEntries};
+ghost use Rattle.card.specs.Calls.{saveOutcome, saveScratch, saveImage, loadOutcome, loadMap};
+ghost use Rattle.card.specs.Closings.{closeCard, closeScratch};
+ghost use Rattle.card.specs.Calls.{loadEntries, loadScratch};
 use card::Shape;
 use catalogue::Entry;
 use counts::CountReply;
@@ -270,28 +271,6 @@ pub extern "C" fn pagunlit_show(
         × (now (buffer .exit) ≡ showBuffer s sheet place (now (buffer .entry))) ⌝ }
 {
     let outcome = shape.show(map, catalogue, card, sheet, place, buffer);
-    reply_of(outcome)
-}
-
-#[no_mangle]
-pub extern "C" fn pagunlit_show_dated(
-    shape: Shape,
-    map: &[u64],
-    catalogue: &[Entry],
-    card: &[u8],
-    sheet: u32,
-    place: u32,
-    year: u32,
-    month: u32,
-    day: u32,
-    buffer: &mut [u8],
-) -> Reply
-    ensures { λ r. let s = kept shape (now (map .entry)) (now (catalogue .entry)) (now (card .entry)) in
-        let date = dateOf year month day in
-        ⌜ (r ≡ replyOf (showDatedOutcome s sheet place date (now (buffer .entry))))
-        × (now (buffer .exit) ≡ showDatedBuffer s sheet place date (now (buffer .entry))) ⌝ }
-{
-    let outcome = shape.show_dated(map, catalogue, card, sheet, place, year, month, day, buffer);
     reply_of(outcome)
 }
 

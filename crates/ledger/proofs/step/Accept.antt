@@ -15,7 +15,8 @@ use Rattle.refusals.specs.Effects as effects
 use Rattle.refusals.specs.Table.{Ask, accept, rowsFor, lowestBlank, tableOf}
 use Rattle.refusals.proofs.Rows.{clear}
 use Rattle.ledger.specs.Calls.{Call, on}
-use Rattle.ledger.specs.Ledger.{Sheet, freeIn, spaceIn, viewIn, listed, rowsIn, verdictIn, deedIn, toldIn}
+use Rattle.ledger.specs.Ledger.{Sheet, freeIn, spaceIn, viewIn, listed, rowsIn, verdictIn, deedIn}
+use Rattle.ledger.specs.Answers.{toldIn}
 use Rattle.ledger.specs.Claim.{before, Came, Searched}
 use Rattle.ledger.specs.Steps.{endOf}
 use Rattle.ledger.proofs.Agreement.{mapIn, stateOf, Matches, NeverRows, Sharing, saysOn, free-map, verdict-within}

@@ -21,7 +21,8 @@ use Rattle.refusals.specs.Placement.{plain, figuresIn, fitWithin, leastWithin}
 use Rattle.refusals.specs.declared.Figures.{Figures}
 use Rattle.refusals.proofs.Rows.{clear}
 use Rattle.ledger.specs.Calls.{Call, on}
-use Rattle.ledger.specs.Ledger.{Sheet, freeIn, spareIn, leastIn, viewIn, listed, rowsIn, verdictIn, deedIn, toldIn}
+use Rattle.ledger.specs.Ledger.{Sheet, freeIn, spareIn, leastIn, viewIn, listed, rowsIn, verdictIn, deedIn}
+use Rattle.ledger.specs.Answers.{toldIn}
 use Rattle.ledger.specs.Claim.{entryIn, before, Came, Searched}
 use Rattle.ledger.specs.Steps.{End, ending, endOf}
 use Rattle.ledger.proofs.Agreement.{mapIn, stateOf, Matches, NeverRows, Sharing, saysOn, free-map, verdict-within}

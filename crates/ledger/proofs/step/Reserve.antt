@@ -23,7 +23,8 @@ use Rattle.refusals.proofs.Placement.{figured, plain-fit, least-fits}
 use Rattle.refusals.proofs.Rows.{clear}
 use Rattle.ledger.specs.Calls.{Call, on}
 use Rattle.ledger.specs.Ledger.{Sheet, standingIn, sheetAt, freeIn, leastIn, spaceIn, viewIn, listed, rowsIn, verdictIn}
-use Rattle.ledger.specs.Ledger.{deedIn, toldIn}
+use Rattle.ledger.specs.Ledger.{deedIn}
+use Rattle.ledger.specs.Answers.{toldIn}
 use Rattle.ledger.specs.Claim.{before, Came, Searched}
 use Rattle.ledger.specs.Steps.{endOf}
 use Rattle.ledger.proofs.Agreement.{mapIn, stateOf, Matches, NeverRows, Sharing, saysOn, free-map, verdict-within}

@@ -15,9 +15,10 @@ use Rattle.catalogue.specs.declared.Entry.{Entry}
 use Rattle.catalogue_standings.specs.Rows.{Row, Verdict, accepted, firstOf, settle}
 use Rattle.catalogue_standings.specs.declared.Answer.the-variants.{Done, Refused}
 use Rattle.refusals.specs.Effects as effects
-use Rattle.refusals.specs.Table.{Call, on, showDated, misplaced, rowsFor, tableOf}
+use Rattle.refusals.specs.Table.{showDated, misplaced, rowsFor, tableOf}
 use Rattle.refusals.proofs.Rows.{clear}
 use Rattle.card.specs.Calls.{told}
+use Rattle.ledger.specs.Calls.{Call, on}
 use Rattle.ledger.specs.Ledger.{Sheet, lengthIn, sheetAt, placeAt, spareIn, viewIn, listed, rowsIn, verdictIn, deedIn}
 use Rattle.ledger.specs.Claim.{entryIn}
 use Rattle.ledger.specs.Steps.{End, ending, endOf}

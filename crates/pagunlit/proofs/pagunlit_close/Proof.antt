@@ -6,7 +6,7 @@ use denote.Triple.Spec.{tripleOf}
 use denote.Triple.Table.{entered, cited}
 use Rattle.pagunlit_replies.specs.Replies.{replyOf}
 use Rattle.card.specs.Calls.{withCard}
-use Rattle.card.specs.Calls.{closeOutcome, closeMap, closeEntries, closeCard, closeScratch}
+use Rattle.card.specs.Closings.{closeOutcome, closeMap, closeEntries, closeCard, closeScratch}
 use Rattle.catalogue.proofs.Values.{Value, valueOf}
 use Rattle.card.proofs.Shape as Shape′
 use Rattle.card.proofs.Shape.Laws as Shape″

@@ -6,7 +6,8 @@ use contract.Running.{givenOf, tables, tablesOf}
 use denote.Triple.Spec.{tripleOf}
 use denote.Triple.Table.{entered, cited}
 use Rattle.closing.specs.Effects.{closeNumber, closeMap, closeEntries, closeCard, closeScratch}
-use Rattle.card.specs.Calls.{saveOutcomeBy, rebuilt}
+use Rattle.card.specs.Calls.{saveOutcomeBy}
+use Rattle.card.specs.Closings.{rebuilt}
 use Rattle.card.specs.Cores.{blocksOf, spareOf, besideFits}
 use Rattle.catalogue.proofs.Values.{Value, valueOf}
 use Rattle.card.proofs.Shape as Shape′

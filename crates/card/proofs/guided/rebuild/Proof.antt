@@ -9,7 +9,7 @@ use denote.Ref.{now}
 use borrow.Author.Needs.{needs}
 use borrow.Author.Tests.{eq-eqb, ne-eqb}
 use Rattle.call_summary.specs.Answers.{builtSummary}
-use Rattle.card.specs.Calls.{rebuilt}
+use Rattle.card.specs.Closings.{rebuilt}
 use Rattle.card.specs.declared.Shape.{Shape}
 use Rattle.card.proofs.guided.rebuild.Statement.{statement}
 use Rattle.card.proofs.guided.rebuild.Tie as tie

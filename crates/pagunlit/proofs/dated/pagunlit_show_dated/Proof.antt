@@ -1,5 +1,6 @@
--- Written by tools/walks: `pagunlit::pagunlit_show_dated` meets its contract, by the walk of `BufferFromMapCatalogueCard5.antt`
--- of the crate walk_replies, with the calls of `card::Shape::show_dated`, `pagunlit_replies::reply_of`.
+-- Written by tools/walks: `pagunlit::dated::pagunlit_show_dated` meets its contract, by the walk of
+-- `BufferFromMapCatalogueCard5.antt` of the crate walk_replies, with the calls of `card::Shape::show_dated`,
+-- `pagunlit_replies::reply_of`.
 -- Assumes nothing.
 use contract.Running.{givenOf, tables, tablesOf}
 use denote.Triple.Spec.{tripleOf}
@@ -19,10 +20,10 @@ use Rattle.card.proofs.Shape.show_dated.Symbol as call-def
 use Rattle.card.proofs.Shape.show_dated.Met as call-met
 use Rattle.pagunlit_replies.proofs.reply_of.Symbol as reply-of-def
 use Rattle.pagunlit_replies.proofs.reply_of.Met as reply-of-met
-use Rattle.pagunlit.proofs.pagunlit_show_dated.Key.{name as #pagunlit-show-dated}
-use Rattle.pagunlit.proofs.pagunlit_show_dated as pagunlit-show-dated
-use Rattle.pagunlit.proofs.pagunlit_show_dated.Statement as stated
-use Rattle.pagunlit.proofs.pagunlit_show_dated.Code as code
+use Rattle.pagunlit.proofs.dated.pagunlit_show_dated.Key.{name as #pagunlit-show-dated}
+use Rattle.pagunlit.proofs.dated.pagunlit_show_dated as pagunlit-show-dated
+use Rattle.pagunlit.proofs.dated.pagunlit_show_dated.Statement as stated
+use Rattle.pagunlit.proofs.dated.pagunlit_show_dated.Code as code
 
 abbrev Shape : Value
 Shape = valueOf Shape′.the-type Shape″.the-laws Shape″.the-plain
