@@ -16,11 +16,10 @@ static uint64_t map[WORDS];
 static pagunlit_entry catalogue[SHEETS];
 static uint8_t card[BLOCKS * PAGUNLIT_BLOCK];
 
-/* How many blocks each of the eight wings may hold; sheets 0 to 127 are in the first. This limit keeps none from anything. */
-#define NO_LIMIT UINT32_MAX
-static uint32_t limits[8] = {NO_LIMIT, NO_LIMIT, NO_LIMIT, NO_LIMIT, NO_LIMIT, NO_LIMIT, NO_LIMIT, NO_LIMIT};
+/* The most blocks that each wing may hold. All sheets here are of wing 0, and it may hold any number, but where it is told. */
+static uint32_t limits[PAGUNLIT_WINGS] = {UINT32_MAX};
 
-/* For save and load: the image of the map and the catalogue, and a scratch of at most 64 words. */
+/* For save and load: the image of the map and the catalogue; and, also for closing, a scratch of at most 64 words. */
 static uint8_t image[PAGUNLIT_IMAGE_BYTES(BLOCKS, SHEETS)];
 static uint64_t scratch[SCRATCH];
 
@@ -193,6 +192,12 @@ static void show(uint32_t sheet, uint32_t place)
     told(call, outcome);
     if (outcome.number == PAGUNLIT_DONE)
         printf("      \"%s\"\n", (const char *)buffer);
+}
+
+/* All sheets move together towards block 0, and what their blocks hold moves along. */
+static void close_gaps(void)
+{
+    told("close the gaps", pagunlit_close(shape, map, WORDS, catalogue, SHEETS, card, sizeof card, scratch, SCRATCH));
 }
 
 static void save(void)

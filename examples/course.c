@@ -151,7 +151,25 @@ static void shared_card(void)
     reserve(2, 2);
     reserve(2, 1);
     release(2);
-    limits[0] = NO_LIMIT;
+    limits[0] = UINT32_MAX;
+}
+
+static void closed_gaps(void)
+{
+    puts("Half the card is free, and a long sheet does not fit. Closing the gaps makes one run of what is free.");
+    release(1);
+    reserve(1, 2);
+    reserve(2, 1);
+    put(2, 0, "days 1 to 3: one tablet at 20");
+    complete(2);
+    release(0);
+    survey();
+    reserve(0, 4);
+    close_gaps();
+    survey();
+    reserve(0, 4);
+    show(2, 0);
+    standings();
 }
 
 int main(void)
@@ -163,6 +181,7 @@ int main(void)
     offers();
     kept_summary();
     shared_card();
+    closed_gaps();
     puts("Doses are counts with two decimals. None is not 0, and a digit that cannot be is refused.");
     doses();
     return 0;

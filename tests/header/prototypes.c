@@ -41,6 +41,8 @@ pagunlit_outcome pagunlit_accept_with_summary(SHAPE, MAP, SUMMARY, CATALOGUE, CA
                                               uint32_t count);
 pagunlit_outcome pagunlit_grow_with_summary(SHAPE, MAP, SUMMARY, CATALOGUE, CARD, LIMITS, uint32_t sheet, uint32_t count);
 pagunlit_outcome pagunlit_release_with_summary(SHAPE, MAP, SUMMARY, CATALOGUE, uint32_t sheet);
+pagunlit_outcome pagunlit_close(SHAPE, MAP, CATALOGUE, CARD, SCRATCH);
+pagunlit_outcome pagunlit_close_with_summary(SHAPE, MAP, SUMMARY, CATALOGUE, CARD, SCRATCH);
 pagunlit_outcome pagunlit_save(SHAPE, const MAP, const CATALOGUE, SCRATCH, IMAGE);
 pagunlit_outcome pagunlit_load(SHAPE, const IMAGE, MAP, CATALOGUE, SCRATCH);
 pagunlit_count pagunlit_read_count(const uint8_t *payload, size_t payloadlen, uint32_t which);

@@ -103,6 +103,17 @@ pub fn term_of(payload: &[u8]) -> (u32, u32) {
     (number(0), number(4))
 }
 
+/// Writes the two days of a term, any two numbers, to the payload of a place 0: its first eight bytes and no others. 3 unless
+/// the payload has 496 bytes, and then nothing is changed.
+pub fn write_term(payload: &mut [u8], first: u32, last: u32) -> Result<(), u32> {
+    if payload.len() != 496 {
+        return Err(3);
+    }
+    payload[..4].copy_from_slice(&first.to_be_bytes());
+    payload[4..8].copy_from_slice(&last.to_be_bytes());
+    Ok(())
+}
+
 /// Whether a day lies in a term, the first and the last day included.
 pub fn within((first, last): (u32, u32), day: u32) -> bool {
     first <= day && day <= last
@@ -173,6 +184,25 @@ mod tests {
         ] {
             assert_eq!(day_of(date), None, "{date}");
         }
+    }
+
+    /// What is written is read again, and the other bytes stay.
+    #[test]
+    fn terms_that_are_written() {
+        for (first, last) in [
+            (0, 0),
+            (258, 260),
+            (0x0102_0304, 0x0506_0708),
+            (u32::MAX, 1),
+        ] {
+            let mut payload = [0x77; 496];
+            assert_eq!(write_term(&mut payload, first, last), Ok(()));
+            assert_eq!(term_of(&payload), (first, last));
+            assert_eq!(payload[8..], [0x77; 488]);
+        }
+        let mut short = [0x77; 495];
+        assert_eq!(write_term(&mut short, 1, 2), Err(3));
+        assert_eq!(short, [0x77; 495]);
     }
 
     /// Both days included; first after last never; the high byte first.

@@ -22,6 +22,7 @@ pub enum Kind {
     Pause,
     Resume,
     Release,
+    Close,
     Show,
     ShowDated,
     Standing,
@@ -30,6 +31,7 @@ pub enum Kind {
     AcceptWithSummary,
     GrowWithSummary,
     ReleaseWithSummary,
+    CloseWithSummary,
     SummaryBuild,
     SummaryCheck,
 }
@@ -37,7 +39,7 @@ pub enum Kind {
 /// Every kind of call, with the rows of document 01's table that can refuse it, in the order under the table. A row of
 /// document 02 stands where its request says.
 #[rustfmt::skip]
-pub const CALLS: [(Kind, &str, &[Row]); 23] = [
+pub const CALLS: [(Kind, &str, &[Row]); 25] = [
     (Kind::Fresh, "fresh", &[Blocks, Sheets, MapLength]),
     (Kind::Search, "search", &[Blocks, FreeAboveN, MapLength, NoBlocks, NoFit]),
     (Kind::Survey, "survey", &[Blocks, FreeAboveN, MapLength]),
@@ -59,6 +61,7 @@ pub const CALLS: [(Kind, &str, &[Row]); 23] = [
     (Kind::Resume, "resume", &[Blocks, Sheets, FreeAboveN, MapLength, NoSheet, Damaged,
         Absent, PausedEmpty, Open, Complete]),
     (Kind::Release, "release", &[Blocks, Sheets, FreeAboveN, MapLength, NoSheet, Damaged, Absent, FreeCount]),
+    (Kind::Close, "close", &[Blocks, Sheets, FreeAboveN, MapLength, CardLength, ScratchLength, SavedState]),
     (Kind::Show, "show", &[Blocks, Sheets, FreeAboveN, MapLength, CardLength, NoSheet, Damaged,
         Absent, Paused, Open, NoPlace, SliceLength, Unsound]),
     (Kind::ShowDated, "show-dated", &[Blocks, Sheets, FreeAboveN, MapLength, CardLength, NoSheet, Damaged,
@@ -74,17 +77,20 @@ pub const CALLS: [(Kind, &str, &[Row]); 23] = [
         NoSheet, Damaged, Absent, Paused, Complete, NoBlocks, OverLimit, NotNext, FreeCount]),
     (Kind::ReleaseWithSummary, "summary-release", &[Blocks, Sheets, FreeAboveN, MapLength, SummaryLength,
         NoSheet, Damaged, Absent, FreeCount]),
+    (Kind::CloseWithSummary, "summary-close", &[Blocks, Sheets, FreeAboveN, MapLength, SummaryLength, CardLength,
+        ScratchLength, SavedState]),
     (Kind::SummaryBuild, "summary-build", &[Blocks, FreeAboveN, MapLength, SummaryLength]),
     (Kind::SummaryCheck, "summary-check", &[Blocks, FreeAboveN, MapLength, SummaryLength]),
 ];
 
 /// The calls that change the map, each with its form that is lent a summary (document 02, (j)).
-const FORMS: [(Kind, Kind); 5] = [
+const FORMS: [(Kind, Kind); 6] = [
     (Kind::Reserve, Kind::ReserveWithSummary),
     (Kind::ReservePlaced, Kind::ReservePlacedWithSummary),
     (Kind::Accept, Kind::AcceptWithSummary),
     (Kind::Grow, Kind::GrowWithSummary),
     (Kind::Release, Kind::ReleaseWithSummary),
+    (Kind::Close, Kind::CloseWithSummary),
 ];
 
 /// The rows of save and load, which have an image and a scratch and no other arguments.
@@ -145,9 +151,15 @@ impl Kind {
         self.rows().contains(&NoSheet)
     }
 
-    /// Whether the call has n, k, m or a place.
+    /// Whether the call has n, k, m, a place or a scratch.
     pub fn has_number(self) -> bool {
-        self == Kind::Fresh || self.rows().contains(&NoBlocks) || self.rows().contains(&NoPlace)
+        let rows = [NoBlocks, NoPlace, ScratchLength];
+        self == Kind::Fresh || rows.iter().any(|row| self.rows().contains(row))
+    }
+
+    /// Whether the call is lent a scratch.
+    pub fn has_scratch(self) -> bool {
+        self.rows().contains(&ScratchLength)
     }
 
     /// Whether the call brings a payload or a buffer.
@@ -163,6 +175,11 @@ impl Kind {
     /// Whether the call is lent the summary.
     pub fn has_summary(self) -> bool {
         self.rows().contains(&SummaryLength)
+    }
+
+    /// Whether the call builds the lent summary anew, whatever it was.
+    pub fn builds_anew(self) -> bool {
+        matches!(self, Kind::SummaryBuild | Kind::CloseWithSummary)
     }
 
     /// The form of a call that is lent the summary; a call that has none is itself.
@@ -232,7 +249,7 @@ pub struct Call {
     pub kind: Kind,
     /// The sheet that the call is for, 0 where it is for none.
     pub sheet: u32,
-    /// n, k, m or the place, 0 where there is none.
+    /// n, k, m, the place or the number of words of the scratch, 0 where there is none.
     pub number: u32,
     /// Those of a placed reserve, 0 where there are none.
     pub figures: Figures,

@@ -1,5 +1,6 @@
 //! The examples of the calls: a line for each call, and for each change that no call makes.
 
+mod closing_calls;
 mod dated_calls;
 mod false_summary_calls;
 mod filling_calls;
@@ -27,7 +28,9 @@ pub fn examples() -> String {
     text += &sections(store, dated());
     text += &random_dated(store);
     text += &sections(store, with_limits());
-    text + &random_with_limits(store)
+    text += &random_with_limits(store);
+    text += &sections(store, closings());
+    text + &random_with_closings(store)
 }
 
 /// A heading, and the lines below it.
@@ -103,6 +106,16 @@ fn with_limits() -> impl Iterator<Item = Section> {
         .map(|(name, list)| (*name, wing_calls::on_70(list)))
 }
 
+/// Closing the gaps (document 02, (l)).
+fn closings() -> impl Iterator<Item = Section> {
+    let lists = closing_calls::LISTS.iter();
+    let lists = lists.map(|(name, list)| (*name, on_70(list)));
+    lists.chain([
+        ("closing, ends of words", closing_calls::WORDS.to_string()),
+        ("row 1 of a closing", limits::row_1_of_closing()),
+    ])
+}
+
 fn random(store: &mut Store) -> String {
     let random = &mut Random(0x9e3779b97f4a7c15);
     let text = format!("== random\n{}", store.lines(&on_70("")));
@@ -144,6 +157,18 @@ fn random_with_limits(store: &mut Store) -> String {
         text + &store.line(&random_calls::random_call_with_limits(random.draw()))
     });
     text + &store.lines(wing_calls::END)
+}
+
+/// Random calls among which are closings, lent a summary if they change the map.
+fn random_with_closings(store: &mut Store) -> String {
+    let random = &mut Random(0x8ebc6af09c88c6e3);
+    let mut text = "== random, with closings\n".to_string();
+    text += &store.lines(&on_70("summary-build"));
+    for _ in 0..random_calls::WITH_CLOSINGS {
+        let call = random_calls::random_call_or_closing(random.draw());
+        text += &store.line(&lent_summary(&call));
+    }
+    text + &store.line("summary-check")
 }
 
 /// The line of a call that changes the map becomes that of its form with a summary.

@@ -7,6 +7,7 @@ use crate::call::{Call, Kind};
 use crate::rows::Row;
 use crate::summary::summary_numbers;
 
+mod closing;
 mod with_summary;
 
 /// What a call answers.
@@ -137,6 +138,8 @@ impl Card {
             Row::MapLength => self.map.len() != 64 * words_of(n),
             Row::SummaryLength => self.summary.len() != summary_numbers(n),
             Row::CardLength => self.bytes.len() != BLOCK * self.n,
+            Row::ScratchLength => number != scratch_words(self.n),
+            Row::SavedState => !self.sound(),
             Row::NoSheet => self.entry_of(call).is_none(),
             Row::NoBlocks => number == 0,
             Row::SliceLength => call.bytes.length != PAYLOAD,
@@ -321,6 +324,7 @@ impl Card {
             Kind::Pause => self.mark(sheet, PAUSED),
             Kind::Resume => self.mark(sheet, COMPLETE),
             Kind::Release => self.release(sheet),
+            Kind::Close => self.close(),
             Kind::Show | Kind::ShowDated => {
                 let block = self.block(self.sheets[sheet].start as usize + number);
                 slice.copy_from_slice(&block.unwrap()[8..8 + PAYLOAD]);
@@ -378,6 +382,8 @@ impl Card {
     }
 }
 
+#[cfg(test)]
+mod closing_tests;
 #[cfg(test)]
 mod dated_tests;
 #[cfg(test)]

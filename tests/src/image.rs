@@ -75,7 +75,7 @@ fn word_at(bytes: &[u8], at: usize) -> u64 {
 impl Card {
     /// No entry is damaged, extents are disjoint, a block is free exactly when uncovered, bits from n on are 0, and the
     /// free count is the number of free blocks.
-    fn sound(&self) -> bool {
+    pub(crate) fn sound(&self) -> bool {
         if self.sheets.iter().any(|entry| self.damaged(*entry)) {
             return false;
         }

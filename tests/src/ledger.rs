@@ -138,6 +138,7 @@ impl Ledger {
             Kind::Pause => self.pause(sheet),
             Kind::Resume => self.resume(sheet),
             Kind::Release => self.release(sheet),
+            Kind::Close => self.close(),
             Kind::Show => self.show(sheet, number, None, slice),
             Kind::ShowDated => self.show(sheet, number, Some(call.date), slice),
             Kind::Standing => self.standing(sheet),
@@ -302,6 +303,25 @@ impl Ledger {
         }
         self.returned += self.extent(sheet as usize).1;
         *self.sheet(sheet)? = Sheet::Absent;
+        Ok(Done)
+    }
+
+    /// Every sheet with places, Open, Complete and Paused alike, starts where the one before it ends, in order of their
+    /// starts, and the first at block 0 (document 02, (l)).
+    fn close(&mut self) -> Result<Answer, Answer> {
+        let mut sheets: Vec<usize> = (0..self.sheets.len()).collect();
+        sheets.retain(|sheet| self.extent(*sheet).1 > 0);
+        sheets.sort_by_key(|sheet| self.extent(*sheet).0);
+        let mut next = 0;
+        for sheet in sheets {
+            let (_, places) = self.extent(sheet);
+            match &mut self.sheets[sheet] {
+                Sheet::Open { start, .. } => *start = next,
+                Sheet::Complete(course) | Sheet::Paused(Some(course)) => course.start = next,
+                Sheet::Absent | Sheet::Paused(None) => {}
+            }
+            next += places;
+        }
         Ok(Done)
     }
 

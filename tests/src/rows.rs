@@ -62,7 +62,7 @@ pub enum Row {
     RunNotFree,
     /// 4: the free count contradicts the call.
     FreeCount,
-    /// 4, of a save: the state is not sound. 14, of a load: the image's state is not.
+    /// 4, of a save or a closing: the state is not sound. 14, of a load: the image's state is not.
     SavedState,
     LoadedState,
     /// 12: the image's length.

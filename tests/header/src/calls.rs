@@ -13,6 +13,9 @@ const C: u32 = 3;
 /// The refusals of calls on a sound card with slices of the right lengths.
 const REFUSALS: [u32; 14] = [2, 3, 5, 6, 7, 8, 9, 10, 11, 15, 17, 18, 19, 20];
 
+/// What the scratch has before.
+const HELD: [u64; 2] = [0xfedcba9876543210, 0xfedcba9876543211];
+
 /// What calls.c keeps: the limits, the card, and the slices that a call may be lent besides.
 struct State {
     limits: Limits,
@@ -98,7 +101,7 @@ impl State {
     fn disorder(&mut self) {
         (self.card.n, self.card.free) = (11, 12);
         self.card.map = from_words(&[0x0123456789abcdef, 0x0123456789abcdf0]);
-        self.scratch = vec![0xfedcba9876543210, 0xfedcba9876543211];
+        self.scratch = HELD.to_vec();
         self.card.sheets = (0..C)
             .map(|s| entry(3 * s + 1, 3 * s + 2, 3 * s + 3))
             .collect();
@@ -153,11 +156,16 @@ impl State {
         self.told(call, answer);
     }
 
-    /// A call that changes the card, or asks it. A put brings bytes of its own, and a show a buffer that is filled before.
+    /// A call that changes the card, or asks it. A put brings bytes of its own, a show a buffer that is filled before, and a
+    /// closing a scratch that is, of which it is lent some words.
     fn call(&mut self, name: &str, call: Call) {
         match call.kind {
             Kind::Put => self.slice = filled(496, 16 * call.sheet + call.number),
             Kind::Show | Kind::ShowDated => self.slice = filled(496, 99),
+            kind if kind.has_scratch() => {
+                self.scratch = HELD.to_vec();
+                self.scratch[..call.number as usize].fill(0);
+            }
             _ => {}
         }
         let answer = self
@@ -249,9 +257,13 @@ impl State {
 }
 
 /// Dose counts (document 02, request (e)): 1,234.56 is the digits 00123456, two a byte, at byte 4 · 123.
+/// Then a term (document 02, (m)): days 8,825 and 36,524 are 2279 and 8EAC in hex.
 fn doses() -> Vec<(&'static str, String)> {
     let mut payload = vec![0x11; 496];
     payload[492..].copy_from_slice(&[0x00, 0x12, 0x34, 0x56]);
+    let mut with_term = payload.clone();
+    with_term[..8].copy_from_slice(&[0, 0, 0x22, 0x79, 0, 0, 0x8e, 0xac]);
+    with_term[8] = 0x1a;
     vec![
         (
             "write count",
@@ -262,6 +274,11 @@ fn doses() -> Vec<(&'static str, String)> {
         ("read absent", format!("0 {}", u32::MAX)),
         ("read digit", format!("16 {}", u32::MAX)),
         ("write short", "3".to_string()),
+        (
+            "write term",
+            format!("0 slice {:016x}", number_of(&with_term)),
+        ),
+        ("write short term", "3".to_string()),
     ]
 }
 

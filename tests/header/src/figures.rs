@@ -3,13 +3,15 @@
 
 use std::collections::HashMap;
 
-/// Blocks, payloads and limits ("Shape, catalogue, blocks"), marks in hex, the number of four bytes of FF, and what seal and
-/// check give.
-const CONSTANTS: [(&str, u64); 15] = [
+/// Blocks, payloads and limits ("Shape, catalogue, blocks"), wings and their sheets (document 02, (k)), marks in hex, the
+/// number of four bytes of FF, and what seal and check give.
+const CONSTANTS: [(&str, u64); 17] = [
     ("PAGUNLIT_BLOCK", 512),
     ("PAGUNLIT_PAYLOAD", 496),
     ("PAGUNLIT_BLOCKS", 262_144),
     ("PAGUNLIT_SHEETS", 1_024),
+    ("PAGUNLIT_WINGS", 8),
+    ("PAGUNLIT_WING_SHEETS", 128),
     ("PAGUNLIT_ABSENT", 0x41),
     ("PAGUNLIT_PAUSED", 0x50),
     ("PAGUNLIT_OPEN", 0x4f),
@@ -50,7 +52,7 @@ const NUMBERS: [(u32, &str, &str); 21] = [
     (16, "PAGUNLIT_WRONG_COUNT", "dose counts: another digit in the four bytes read, a number out of range when writing, or a \
          count number of 124 or more"),
     (17, "PAGUNLIT_RUN_NOT_FREE", "accept: the run is not all free and inside n"),
-    (18, "PAGUNLIT_OVER_LIMIT", "reserve, offer, accept or grow: the wing's limit would be passed"),
+    (18, "PAGUNLIT_OVER_LIMIT", "the limit of the sheet's wing would be passed"),
     (19, "PAGUNLIT_NO_DATE", "dated show: the date doesn't exist or lies outside the span"),
     (20, "PAGUNLIT_OUTSIDE_TERM", "dated show: the day lies outside the term"),
 ];

@@ -20,6 +20,9 @@ pub enum Compared {
     Part,
 }
 
+/// What each word of a scratch has before.
+const HELD: u64 = 0x5555_aaaa_0123_4567;
+
 pub struct Beside {
     pub card: Card,
     ledger: Option<Ledger>,
@@ -44,6 +47,7 @@ pub fn library_of(card: &Card, margin: usize) -> Library {
         card: bytes(&card.bytes, margin),
         summary: numbers(&card.summary, margin),
         limits: numbers(&LARGEST, margin),
+        scratch: words(&[], margin),
     }
 }
 
@@ -121,6 +125,12 @@ impl Beside {
     /// Makes a call, compares, and counts the rows that held for it. On a card of full size only the first row is looked for.
     pub fn call(&mut self, call: Call, counts: &mut Counts) -> Result<(), String> {
         let mut lent = bytes(&call.slice(), self.margin);
+        let scratch = if call.kind.has_scratch() {
+            call.number
+        } else {
+            0
+        };
+        self.library.scratch = words(&vec![HELD; scratch as usize], self.margin);
         let outcome = self.library.call(call, &mut lent);
         let call = settled(&self.card, call, outcome)?;
         let held = match self.compared {
@@ -143,6 +153,8 @@ impl Beside {
         same_tables(&self.library, &self.card)?;
         same_slice("summary", &self.library.summary, &self.card.summary)?;
         same_slice("limits", &self.library.limits, &call.limits)?;
+        let zeros = vec![0; self.library.scratch.len()];
+        same_slice("scratch", &self.library.scratch, &zeros)?;
         self.same_bytes(call)?;
         self.by_ledger(call, answer, before, &after)?;
         self.calls += 1;
@@ -179,7 +191,8 @@ impl Beside {
 
     /// The call of the card. What a false summary leaves open in the summary is taken over from the library.
     fn card_call(&mut self, call: Call, slice: &mut [u8]) -> Answer {
-        if !call.kind.has_summary() || self.card.has_own_summary() {
+        let exact = !call.kind.has_summary() || call.kind.builds_anew();
+        if exact || self.card.has_own_summary() {
             return self.card.call(call, slice);
         }
         let map = self.card.map.clone();
@@ -189,7 +202,8 @@ impl Beside {
     }
 
     fn same_bytes(&self, call: Call) -> Result<(), String> {
-        if self.compared == Compared::All {
+        // A closing can change every block.
+        if self.compared == Compared::All || call.kind.has_scratch() {
             return same_slice("card", &self.library.card, &self.card.bytes);
         }
         margins("card", &self.library.card)?;
@@ -239,6 +253,10 @@ impl Beside {
             ));
         }
         self.as_in_ledger()?;
+        if call.kind.has_scratch() {
+            let mut sheets = 0..self.card.sheets.len();
+            return sheets.try_for_each(|sheet| self.places_as_in_ledger(sheet, self.compared));
+        }
         if (call.sheet as usize) < self.card.sheets.len() {
             self.places_as_in_ledger(call.sheet as usize, self.compared)?;
         }

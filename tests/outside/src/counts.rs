@@ -5,10 +5,10 @@ use bitwise::card::Answer;
 use bitwise::rows::{pairs, Pair, Row};
 use std::collections::BTreeMap;
 
-/// The columns of the table of answers, in the order of the rows. Row 4 is there four times.
-const COLUMNS: [&str; 20] = [
+/// The columns of the table of answers, in the order of the rows. Row 4 is there five times.
+const COLUMNS: [&str; 21] = [
     "done", "1", "2", "4 entry", "5", "6", "7", "8", "3", "15", "18", "19", "4 first", "20",
-    "4 block", "9", "10", "11", "17", "4 count",
+    "4 block", "9", "10", "11", "17", "4 count", "4 state",
 ];
 
 /// The column that a row is counted in.
@@ -19,6 +19,7 @@ fn column(row: Option<Row>) -> String {
         Some(Row::UnsoundFirst) => "4 first".to_string(),
         Some(Row::Unsound) => "4 block".to_string(),
         Some(Row::FreeCount) => "4 count".to_string(),
+        Some(Row::SavedState) => "4 state".to_string(),
         Some(row) => row.number().to_string(),
     }
 }

@@ -2,13 +2,14 @@
 //! too.
 
 use crate::beside::{Beside, Compared};
+use crate::closing::close_of;
 use crate::counts::Counts;
 use crate::dates::some_term;
 use crate::generate::Generator;
 use crate::lists::{small_size, used_card};
 use crate::spoiled::spoil;
 use bitwise::blocks::words_of;
-use bitwise::call::{call, Bytes, Kind, PAYLOAD};
+use bitwise::call::{call, Bytes, Call, Kind, PAYLOAD};
 use bitwise::card::{entry, sealed, Card};
 use bitwise::random::Random;
 use bitwise::summary::summary_numbers;
@@ -79,13 +80,25 @@ fn calls_on(
             1..=5 => call(Kind::SummaryBuild, 0, 0),
             6..=8 => call(Kind::SummaryCheck, 0, 0),
             9..=34 => generator.call(&beside.card).with_summary(),
+            35..=38 => close_of(&beside.card),
+            39..=40 => close_of(&beside.card).with_summary(),
             _ => generator.call(&beside.card),
         };
+        let call = other_scratch(call, &mut generator.random);
         *log += &format!("    {call}\n");
         beside.call(call, counts)?;
     }
     *card = beside.card;
     Ok(())
+}
+
+/// In 1 case of 4 a closing is lent another scratch.
+fn other_scratch(call: Call, random: &mut Random) -> Call {
+    if !call.kind.has_scratch() || random.chance(3, 4) {
+        return call;
+    }
+    let number = random.one(&[0, 1, call.number + 1, call.number.saturating_sub(1), 64, 65]);
+    Call { number, ..call }
 }
 
 /// Makes all lengths and limits as they should be, so that not row 1 alone is the answer.

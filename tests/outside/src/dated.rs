@@ -1,12 +1,13 @@
 //! Dated shows (document 02, (m)): every day of the century, every date about it, terms at every edge, and blocks that are not
 //! sound.
 
-use crate::beside::{Beside, Compared};
+use crate::beside::{same_slice, Beside, Compared};
 use crate::counts::Counts;
 use crate::dates::{any_date, some_date, some_term};
 use crate::lengths::one;
+use crate::library;
 use bitwise::blocks::words_of;
-use bitwise::calendar::{century, date, date_of, day_of, Date, LAST_DAY};
+use bitwise::calendar::{century, date, date_of, day_of, write_term, Date, LAST_DAY};
 use bitwise::call::{call, dated as show_dated, Bytes, Call, Kind, PAYLOAD};
 use bitwise::card::{entry, sealed, Card};
 use bitwise::random::Random;
@@ -282,6 +283,42 @@ fn kind_of_outside(card: &Card, call: Call) -> Option<&'static str> {
         _ if number == last + 1 => Some(AFTER),
         _ => None,
     }
+}
+
+mod c {
+    extern "C" {
+        pub fn pagunlit_write_term(
+            payload: *mut u8,
+            payloadlen: usize,
+            first: u32,
+            last: u32,
+        ) -> u32;
+    }
+}
+
+/// Terms written to payloads of every length, and of the right one with any days: only the first eight bytes change.
+pub fn written(seed: u64, margin: usize, counts: &mut Counts) -> Result<(), String> {
+    let random = &mut Random::of(seed);
+    for length in (0..=600).chain([1024].into_iter().chain([496; 400])) {
+        counts.calls += 1;
+        let bytes = Bytes {
+            seed: random.draw() as u32,
+            length,
+            term: None,
+        };
+        let mut payload = bytes.contents();
+        let (first, last) = some_term(random);
+        let mut lent = library::bytes(&payload, margin);
+        let answer = unsafe { c::pagunlit_write_term(lent.at(), lent.len(), first, last) };
+        let expected = write_term(&mut payload, first, last).err().unwrap_or(0);
+        if answer != expected {
+            return Err(format!(
+                "a term written to {length} bytes gave {answer}, and by document 02 {expected}"
+            ));
+        }
+        same_slice("payload", &lent, &payload)?;
+    }
+    Ok(())
 }
 
 /// What a list left: each Complete sheet at the edges of its term, its first place and its last.

@@ -1,10 +1,11 @@
 //! Random calls: mostly those that a dispenser makes of the sheet at hand, as its entry stands, and some with any numbers.
 
+use crate::closing::close_of;
 use crate::dates::{any_date, date_within, some_date, some_term};
 use crate::figures::{admitting, any_figures, some_start};
 use crate::offers::accept_of;
 use crate::shares::{some_limits, some_sheet};
-use bitwise::blocks::{survey, FREE};
+use bitwise::blocks::{scratch_words, survey, FREE};
 use bitwise::call::{accept, call, dated, placed, Bytes, Call, Kind, Limits, CALLS, PAYLOAD};
 use bitwise::card::{Card, Entry};
 use bitwise::random::Random;
@@ -53,6 +54,9 @@ impl Generator {
         if !self.offers.is_empty() && self.random.chance(1, 12) {
             let at = self.random.within(0, self.offers.len());
             return self.accept_offer(at);
+        }
+        if self.random.chance(1, if is_large(card) { 400 } else { 60 }) {
+            return close_of(card);
         }
         if self.sheet as usize >= c || self.random.chance(1, 6) {
             self.sheet = some_sheet(c, &mut self.random);
@@ -165,7 +169,10 @@ impl Generator {
     /// Any of the calls that are lent no summary, but for fresh, with any numbers.
     fn any_call(&mut self, card: &Card) -> Call {
         let kinds = CALLS[1..].iter().map(|(kind, ..)| *kind);
-        let kinds: Vec<Kind> = kinds.filter(|kind| !kind.has_summary()).collect();
+        let kinds = kinds.filter(|kind| !kind.has_summary());
+        let kinds: Vec<Kind> = kinds
+            .filter(|kind| !kind.has_scratch() || !is_large(card))
+            .collect();
         let kind = self.random.one(&kinds);
         let sheet = if kind.has_sheet() {
             self.any_sheet(card)
@@ -174,6 +181,8 @@ impl Generator {
         };
         let number = if kind.rows().contains(&Row::NoPlace) {
             self.any_place(card, sheet)
+        } else if kind.has_scratch() {
+            scratch_words(card.n) as u32
         } else if kind.has_number() {
             self.any_count(card)
         } else {
@@ -301,6 +310,11 @@ impl Generator {
     }
 }
 
+/// Whether a closing takes its time.
+fn is_large(card: &Card) -> bool {
+    card.n > 10000
+}
+
 /// The lowest blank place of an entry's extent, if it lies on the card.
 fn blank_place(card: &Card, entry: Entry) -> Option<u32> {
     (0..entry.length).find(|place| {
@@ -359,11 +373,12 @@ pub fn accepted(kind: Kind, card: &Card, random: &mut Random) -> Call {
     Call { kind, ..call }
 }
 
-/// n of a fresh, or k of a search.
+/// n of a fresh, k of a search, or the words of a closing's scratch.
 fn whole_number(kind: Kind, card: &Card, random: &mut Random) -> u32 {
     match kind {
         Kind::Fresh => card.n as u32,
         Kind::Search => random.within(1, 3) as u32,
+        kind if kind.has_scratch() => scratch_words(card.n) as u32,
         _ => 0,
     }
 }

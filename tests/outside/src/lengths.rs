@@ -4,7 +4,7 @@ use crate::beside::{Beside, Compared};
 use crate::counts::Counts;
 use crate::generate::accepted;
 use crate::lists::used_card;
-use bitwise::blocks::{figures, words_of};
+use bitwise::blocks::{figures, scratch_words, words_of};
 use bitwise::calendar::date;
 use bitwise::call::{accept, call, dated, placed, Bytes, Call, Kind, CALLS, PAYLOAD};
 use bitwise::card::{entry, Card};
@@ -183,6 +183,7 @@ fn at_limits(card: Card, margin: usize, counts: &mut Counts) -> Result<(), Strin
         match kind {
             Kind::Fresh | Kind::Search | Kind::Reserve | Kind::Offer => call(kind, sheet, n),
             Kind::Grow => call(kind, sheet, 1),
+            Kind::Close => call(kind, 0, scratch_words(n as usize) as u32),
             _ => call(kind, sheet, 0),
         }
     });

@@ -118,6 +118,11 @@ mod c {
             count: u32) -> Outcome;
         pub fn pagunlit_release_with_summary(shape: Shape, map: *mut u64, maplen: usize, summary: *mut u32, summarylen: usize,
             catalogue: *mut Entry, cataloguelen: usize, sheet: u32) -> Outcome;
+        pub fn pagunlit_close(shape: Shape, map: *mut u64, maplen: usize, catalogue: *mut Entry, cataloguelen: usize,
+            card: *mut u8, cardlen: usize, scratch: *mut u64, scratchlen: usize) -> Outcome;
+        pub fn pagunlit_close_with_summary(shape: Shape, map: *mut u64, maplen: usize, summary: *mut u32, summarylen: usize,
+            catalogue: *mut Entry, cataloguelen: usize, card: *mut u8, cardlen: usize, scratch: *mut u64, scratchlen: usize)
+            -> Outcome;
         pub fn pagunlit_save(shape: Shape, map: *const u64, maplen: usize, catalogue: *const Entry, cataloguelen: usize,
             scratch: *mut u64, scratchlen: usize, image: *mut u8, imagelen: usize) -> Outcome;
         pub fn pagunlit_load(shape: Shape, image: *const u8, imagelen: usize, map: *mut u64, maplen: usize,
@@ -204,6 +209,8 @@ pub struct Library {
     pub summary: Lent<u32>,
     /// Eight numbers, those of the call at hand.
     pub limits: Lent<u32>,
+    /// That of the call at hand, if it is a closing.
+    pub scratch: Lent<u64>,
 }
 
 /// The calls. Each lends whole slices that overlap no other, for the time of the call: this is what the C functions ask for.
@@ -217,6 +224,7 @@ impl Library {
         let (bytes, count) = (slice.at(), slice.len());
         self.limits.set(&call.limits);
         let limits = self.limits.at();
+        let (zeros, words) = (self.scratch.at(), self.scratch.len());
         if call.kind.has_summary() {
             return self.call_with_summary(call);
         }
@@ -241,6 +249,7 @@ impl Library {
                 Kind::Pause => c::pagunlit_pause(shape, map, w, sheets, c, sheet),
                 Kind::Resume => c::pagunlit_resume(shape, map, w, sheets, c, sheet),
                 Kind::Release => c::pagunlit_release(shape, map, w, sheets, c, sheet),
+                Kind::Close => c::pagunlit_close(shape, map, w, sheets, c, card, length, zeros, words),
                 Kind::Show => c::pagunlit_show(shape, map, w, sheets, c, card, length, sheet, number, bytes, count),
                 Kind::ShowDated => {
                     let Date { year, month, day } = call.date;
@@ -260,6 +269,7 @@ impl Library {
         let (sheets, c) = (self.catalogue.at(), self.catalogue.len());
         let (card, l) = (self.card.at(), self.card.len());
         let limits = self.limits.at();
+        let (zeros, words) = (self.scratch.at(), self.scratch.len());
         let Figures { from, before, step } = call.figures;
         unsafe {
             match call.kind {
@@ -274,6 +284,9 @@ impl Library {
                     c::pagunlit_grow_with_summary(shape, map, w, sums, m, sheets, c, card, l, limits, sheet, number)
                 }
                 Kind::ReleaseWithSummary => c::pagunlit_release_with_summary(shape, map, w, sums, m, sheets, c, sheet),
+                Kind::CloseWithSummary => {
+                    c::pagunlit_close_with_summary(shape, map, w, sums, m, sheets, c, card, l, zeros, words)
+                }
                 Kind::SummaryBuild => c::pagunlit_summary_build(shape, map, w, sums, m),
                 Kind::SummaryCheck => c::pagunlit_summary_check(shape, map, w, sums, m),
                 other => unreachable!("{other:?} is lent no summary"),

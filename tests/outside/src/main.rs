@@ -1,7 +1,7 @@
 //! Runs calls through the C library (target/staticlib/libpagunlit.a) beside the ledger and the card of document 01, worked
 //! out bit by bit (the package bitwise), and compares after every call its answer and every byte that it was lent.
 //!
-//!     outside check [SEED]          the same calls in every run, in less than a minute
+//!     outside check [SEED]          the same calls in every run, in a minute or two
 //!     outside for SECONDS [SEED]    as many lists as the time allows
 //!     outside valgrind [SEED]       few lists, on small cards, with nothing around what is lent
 //!     outside again PART SEED       one list again, as a failure names it
@@ -9,6 +9,7 @@
 
 mod beside;
 mod caught;
+mod closing;
 mod counts;
 mod damage;
 mod dated;
@@ -72,9 +73,10 @@ const GROUPS: &[Group] = &[
         parts: &[
             part("small", lists::small, 2000, 200, 40),
             part("full", lists::full, 2, 1, 0),
-            part("summary", lists::small_with_summary, 1000, 100, 20),
+            part("summary", lists::small_with_summary, 1000, 100, 60),
             part("summary-full", lists::full_with_summary, 1, 1, 0),
-            part("wings", lists::wings, 400, 40, 4),
+            part("wings", lists::wings, 400, 40, 8),
+            part("some-wings", shares::some_of_each_wing, 20, 2, 4),
             part("each-wing", |_, margin, counts| shares::each_wing(margin, counts), 1, 0, 0),
         ],
         report: |counts| {
@@ -113,9 +115,22 @@ const GROUPS: &[Group] = &[
             part("every-day", |_, margin, counts| dated::every_day(margin, counts), 1, 0, 0),
             part("edges", |_, margin, counts| dated::edges(margin, counts), 1, 0, 0),
             part("dates", |_, margin, counts| dated::dates(margin, counts), 1, 0, 0),
+            part("written", dated::written, 20, 10, 1),
             part("all-dates", |_, margin, counts| dated::all_numbers(margin, counts), 0, 0, 0),
         ],
         report: |counts| counts.report_kinds(dated::expected()),
+    },
+    // Closings of every kind of state.
+    Group {
+        parts: &[
+            part("closings", closing::closings, 5000, 500, 100),
+            part("close-full", closing::full, 2, 1, 0),
+            part("close-states", |_, margin, counts| closing::all_states(margin, counts), 1, 0, 0),
+            part("close-places", |_, margin, counts| closing::all_places(margin, counts), 1, 0, 0),
+            part("close-windows", |_, margin, counts| closing::at_windows(margin, counts), 1, 0, 0),
+            part("close-scratch", |_, margin, counts| closing::scratches(margin, counts), 1, 0, 0),
+        ],
+        report: |counts| counts.report_kinds(closing::expected()),
     },
     // Offers and accepts of all runs.
     Group {

@@ -13,11 +13,22 @@ const NOT_LOWEST: &str = "an accept of an offer that is the lowest fit no more";
 const TAKEN: &str = "an accept of an offer whose run is not free any more";
 const NOT_ABSENT: &str = "an accept of an offer whose sheet is not Absent any more";
 const OF_ITS_OWN: &str = "an accept of a run that was not offered";
+const TAKEN_BY_CLOSING: &str = "an accept of an offer from before a closing, not free any more";
+const AFTER_CLOSING: &str = "an accept of an offer from before a closing, with another answer";
 const LONG_SUM: &str = "an accept of a run whose end has 33 bits";
 
 /// What lists must have had.
 pub fn expected() -> impl Iterator<Item = String> {
-    let kinds = [LOWEST, NOT_LOWEST, TAKEN, NOT_ABSENT, OF_ITS_OWN, LONG_SUM];
+    let kinds = [
+        LOWEST,
+        NOT_LOWEST,
+        TAKEN,
+        NOT_ABSENT,
+        TAKEN_BY_CLOSING,
+        AFTER_CLOSING,
+        OF_ITS_OWN,
+        LONG_SUM,
+    ];
     kinds.map(str::to_string).into_iter()
 }
 
@@ -30,14 +41,17 @@ pub fn accept_of(card: &Card, offer: Call) -> Option<Call> {
     Some(accept(offer.sheet, start as u32, offer.number))
 }
 
-/// The offers of a list that were answered, as the accepts of them.
+/// The offers of a list that were answered, as the accepts of them; and how many of them a closing came after.
 #[derive(Default)]
-pub struct Offers(Vec<Call>);
+pub struct Offers(Vec<Call>, usize);
 
 impl Offers {
     /// Keeps an offer, and counts what an accept is an example of. The call is the next one of the card.
     pub fn note(&mut self, card: &Card, call: Call, counts: &mut Counts) {
         self.0.extend(accept_of(card, call));
+        if call.kind.without_summary() == Kind::Close {
+            self.1 = self.0.len();
+        }
         if call.kind.without_summary() == Kind::Accept {
             self.note_accept(card, call, counts);
         }
@@ -45,10 +59,7 @@ impl Offers {
 
     /// Whether a call is the accept of one of them.
     pub fn has(&self, call: Call) -> bool {
-        let same = |offer: &Call| {
-            (offer.sheet, offer.start, offer.number) == (call.sheet, call.start, call.number)
-        };
-        call.kind.without_summary() == Kind::Accept && self.0.iter().any(same)
+        call.kind.without_summary() == Kind::Accept && has(&self.0, call)
     }
 
     fn note_accept(&self, card: &Card, call: Call, counts: &mut Counts) {
@@ -65,7 +76,19 @@ impl Offers {
             Some(_) => return,
         };
         counts.note_kind(kind);
+        if has(&self.0[..self.1], call) && !has(&self.0[self.1..], call) {
+            counts.note_kind(if kind == TAKEN {
+                TAKEN_BY_CLOSING
+            } else {
+                AFTER_CLOSING
+            });
+        }
     }
+}
+
+fn has(offers: &[Call], call: Call) -> bool {
+    let of = |call: &Call| (call.sheet, call.start, call.number);
+    offers.iter().any(|offer| of(offer) == of(&call))
 }
 
 /// All maps of up to 5 blocks, with all starts and lengths up to n + 1, the largest, and those whose end is 2^32 or a block

@@ -173,6 +173,28 @@ fn calls_of(wing: u32, sheet: u32, k: u32) -> Vec<Call> {
     calls.into_iter().chain(forms).collect()
 }
 
+/// Each call of each wing at its limit and one block above, of some sheet and some number of blocks.
+pub fn some_of_each_wing(seed: u64, margin: usize, counts: &mut Counts) -> Result<(), String> {
+    let random = &mut Random::of(seed);
+    let card = eight_wings();
+    for wing in 0..8 {
+        let sheet = 128 * wing + random.within(1, 127) as u32;
+        let k = random.within(1, 4) as u32;
+        let together = card.held_by_wing(wing) as u32 + k;
+        for call in calls_of(wing, sheet, k) {
+            let others = random.one(&[0, together, u32::MAX]);
+            for limit in [together - 1, together] {
+                let mut limits = [others; 8];
+                limits[wing as usize] = limit;
+                let call = call.with_limits(limits);
+                note(&card, call, false, counts);
+                one(&card, call, margin, counts)?;
+            }
+        }
+    }
+    Ok(())
+}
+
 /// Each call of each wing at its limit, beside it, and with the largest and the least; the other wings' limits being the
 /// largest, the least or what this wing would hold.
 pub fn each_wing(margin: usize, counts: &mut Counts) -> Result<(), String> {

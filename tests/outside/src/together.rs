@@ -1,6 +1,7 @@
 //! Calls for which two or more rows of document 01's table hold at once, made so: a card on which the call would be accepted
 //! is changed, or the call is, until the rows hold. Which of them the answer names shows their order.
 
+use crate::closing::unsound;
 use crate::counts::Counts;
 use crate::dates::{date_outside, no_day, no_month, no_year};
 use crate::generate::accepted;
@@ -130,7 +131,7 @@ fn step(row: Row) -> u32 {
         Row::Blank | Row::NoFit | Row::NotNext | Row::RunNotFree => 2,
         Row::NoStep | Row::BeforeAboveN | Row::NoYear | Row::NoMonth => 2,
         Row::FreeCount | Row::FromNotBefore | Row::NoDay | Row::OutsideTerm => 3,
-        Row::Damaged => 4,
+        Row::Damaged | Row::SavedState => 4,
         Row::Blocks | Row::OverLimit => 5,
         Row::FreeAboveN => 6,
         Row::Sheets => 7,
@@ -168,6 +169,10 @@ fn make_hold(row: Row, card: &mut Card, call: &mut Call, random: &mut Random) {
             call.figures.before = random.one(&[card.n as u32 + 1, 262146, u32::MAX])
         }
         Row::OverLimit => lower_limit(card, call, random),
+        Row::SavedState => unsound(card, random),
+        Row::ScratchLength => {
+            call.number = random.one(&[0, call.number + 1, call.number + 63, 65, 66])
+        }
         Row::NoYear => call.date = no_year(call.date, random),
         Row::NoMonth => call.date = no_month(call.date, random),
         Row::NoDay => call.date = no_day(call.date, random),

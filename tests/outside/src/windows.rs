@@ -16,10 +16,10 @@ const WINDOW: usize = 4096;
 const SIZES: [usize; 6] = [4032, 4095, 4096, 4097, 8192, 262144];
 
 /// An extent from its first block to the one before its end.
-type Extent = (usize, usize);
+pub type Extent = (usize, usize);
 
 /// A card whose sheets hold some extents, with an absent and a paused sheet.
-fn held(n: usize, extents: &[Extent]) -> Card {
+pub fn held(n: usize, extents: &[Extent]) -> Card {
     let mut map = fresh(n, words_of(n));
     let mut sheets = vec![entry(0x41, 0, 0), entry(0x50, 0, 0)];
     for (i, &(start, end)) in extents.iter().enumerate() {
@@ -68,6 +68,17 @@ fn extents_at(x: usize, n: usize) -> Vec<Vec<Extent>> {
         ]);
     }
     lists
+}
+
+/// The extents about every edge of all sizes but the largest.
+pub fn small_lists() -> impl Iterator<Item = (usize, Vec<Extent>)> {
+    let sizes = SIZES.into_iter().filter(|n| *n <= 2 * WINDOW);
+    let edges = sizes.flat_map(|n| edges(n).into_iter().map(move |x| (n, x)));
+    edges.flat_map(|(n, x)| {
+        extents_at(x, n)
+            .into_iter()
+            .map(move |extents| (n, extents))
+    })
 }
 
 /// Where windows begin, and the end of the card. Of the largest card some of them, the first and the last among these.

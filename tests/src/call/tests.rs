@@ -11,13 +11,14 @@ fn each_kind_is_in_its_place() {
 }
 
 /// Document 02, (j): "Both reserves, accept, grow and release have forms that use it", "A summary of the wrong length is
-/// 1"; the other rows are those of the call without it, in their order.
+/// 1", and (l): "a lent summary is built anew, so closing joins the lists of (j)"; the other rows are those of the call without
+/// it, in their order.
 #[test]
 fn forms_have_the_rows_of_the_call_and_the_summarys_length() {
     let forms = CALLS
         .iter()
         .filter(|(kind, ..)| kind.with_summary() != *kind);
-    assert_eq!(forms.clone().count(), 5);
+    assert_eq!(forms.clone().count(), 6);
     for (kind, name, rows) in forms {
         let form = kind.with_summary();
         assert!(

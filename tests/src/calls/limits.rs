@@ -124,6 +124,17 @@ const EACH_DATED: &str = "
     show-dated 4 0 2024 2 29
 ";
 
+/// A closing, without a summary and with one.
+const EACH_CLOSING: &str = "
+    close 2
+    summary-close 2
+    close 1
+    summary-close 1
+    accept 0 9 2
+    close 2
+    summary-release 0
+";
+
 /// Too few or too many words, entries and bytes lent, and shapes outside their limits, and at them.
 fn lent_and_shapes(put: &str, each: &str) -> String {
     let start = format!(
@@ -172,6 +183,14 @@ pub(super) fn row_1() -> String {
 
 pub(super) fn row_1_dated() -> String {
     lent_and_shapes("put-term 1 0 8825 8831", EACH_DATED)
+}
+
+pub(super) fn row_1_of_closing() -> String {
+    let mut text = lent_and_shapes("put 1 0 1 496", EACH_CLOSING);
+    for numbers in [0, 1, 3, 8, 10, 12, 21, 22, 9] {
+        text += &format!("+summary {numbers}\n{EACH_CLOSING}");
+    }
+    text
 }
 
 /// Besides, too few or too many numbers of a summary lent: none, one less and one more, and those of one word and of three.

@@ -8,6 +8,9 @@ pub(super) const WITH_SUMMARY: usize = 200;
 /// How many more there are with limits.
 pub(super) const WITH_LIMITS: usize = 300;
 
+/// How many more there are with closings.
+pub(super) const WITH_CLOSINGS: usize = 300;
+
 /// How many more there are for dated shows.
 pub(super) const DATED: usize = 300;
 
@@ -111,12 +114,12 @@ pub(super) fn random_dated_call(x: u64) -> String {
 }
 
 /// A call that limits go with, or a release, for one of two sheets on either side of the first wing's end, or for sheet 0 or
-/// 255; in 1 case of 8 another limit for one of the two wings.
+/// 255; in 1 case of 8 other limits for the two wings.
 pub(super) fn random_call_with_limits(x: u64) -> String {
     let sheet = [0, 127, 128, 255][x as usize % 4];
     let y = x / 1024;
     match x / 16 % 32 {
-        0..=3 => format!("+limit {} {}", y % 2, y / 2 % 40),
+        0..=3 => format!("+limits {} {} 0 0 0 0 0 0", y % 40, y / 64 % 40),
         4..=7 => format!("reserve {sheet} {}", y % 20),
         8..=10 => format!(
             "reserve-placed {sheet} {} {}",
@@ -129,5 +132,13 @@ pub(super) fn random_call_with_limits(x: u64) -> String {
         21..=22 => format!("pause {sheet}"),
         23..=27 => format!("release {sheet}"),
         _ => format!("standing {sheet}"),
+    }
+}
+
+/// A call of a list, or a closing.
+pub(super) fn random_call_or_closing(x: u64) -> String {
+    match x / 64 % 8 {
+        0 => "close 2".to_string(),
+        _ => random_call(x / 512),
     }
 }

@@ -2,7 +2,7 @@
 
 use crate::blocks::{figures, from_words, to_words};
 use crate::calendar::date;
-use crate::call::{accept, call, dated, placed, Bytes, Call, Kind, Limits, LARGEST};
+use crate::call::{accept, call, dated, placed, Bytes, Call, Kind, Limits};
 use crate::card::{entry, Answer, Card, Entry};
 use crate::rows::Row;
 
@@ -16,11 +16,12 @@ pub(super) struct Store {
     summary: Vec<u32>,
     /// How many numbers of the summary, from the first on, are open: a call changed the map with a false one.
     open: usize,
-    /// The limits of the eight wings that go with the calls. They are the largest numbers until a line names others: `+limit`
-    /// has a wing and its limit, `+limits` one for all wings.
-    limits: Limits,
+    /// The limits of the eight wings that go with the calls, once a line has named them (`+limits`); before that each is n.
+    limits: Option<Limits>,
     /// What the last call left in its buffer, if it was a show or a dated one.
     buffer: Option<Vec<u8>>,
+    /// What it left in the scratch, if it was a closing: four words that held something, of which it is lent the first.
+    scratch: Option<[u64; 4]>,
     words_lent: usize,
     sheets_lent: usize,
     bytes_lent: usize,
@@ -97,8 +98,9 @@ impl Store {
             bytes: vec![0xaa; 71 * 512],
             summary: vec![7; 22],
             open: 0,
-            limits: LARGEST,
+            limits: None,
             buffer: None,
+            scratch: None,
             words_lent: 2,
             sheets_lent: 4,
             bytes_lent: 70 * 512,
@@ -123,6 +125,9 @@ impl Store {
             .map(|n| n.parse().unwrap())
             .collect();
         self.buffer = word.starts_with("show").then(|| vec![0xbb; 500]);
+        self.scratch = word
+            .ends_with("close")
+            .then_some([0xcccc_cccc_cccc_cccc; 4]);
         if let Some(change) = word.strip_prefix('+') {
             self.change(change, &numbers);
             return format!("{text}{}\n", self.end());
@@ -137,7 +142,8 @@ impl Store {
 
     /// A call, on what is lent. A refused one leaves all as it was, and so does an offer.
     fn call(&mut self, word: &str, numbers: &[u32]) -> Answer {
-        let call = call_of(word, numbers).with_limits(self.limits);
+        let limits = self.limits.unwrap_or([self.n as u32; 8]);
+        let call = call_of(word, numbers).with_limits(limits);
         let card = &mut self.lent();
         let before = card.clone();
         self.must_be_settled(card, call);
@@ -147,6 +153,9 @@ impl Store {
             None => &mut brought[..],
         };
         let answer = card.call(call, slice);
+        if let Some(scratch) = &mut self.scratch {
+            scratch[..call.number as usize].fill(0);
+        }
         if let Answer::Refused(_) | Answer::Blank(_) | Answer::Offered(..) = answer {
             assert!(*card == before, "it changed something: {word} {numbers:?}");
         } else {
@@ -188,22 +197,26 @@ impl Store {
             "byte" => self.bytes[at(0)] ^= numbers[1] as u8,
             "summary" => self.numbers_lent = at(0),
             "number" => self.summary[at(0)] = numbers[1],
-            "limit" => self.limits[at(0)] = numbers[1],
-            "limits" => self.limits = [numbers[0]; 8],
+            "limits" => self.limits = Some(numbers.try_into().expect("eight limits")),
             other => panic!("no change {other}"),
         }
     }
 
-    /// The end of a line: n, the free count, and the digests of map, catalogue and card, and for show of its buffer.
+    /// The end of a line: n, the free count, and the digests of map, catalogue and card, for show of its buffer and for a
+    /// closing of its scratch.
     fn end(&self) -> String {
-        let words = to_words(&self.map);
-        let halves = words
-            .iter()
-            .flat_map(|word| [(word >> 32) as u32, *word as u32]);
+        let halves = |words: &[u64]| {
+            let halves = words
+                .iter()
+                .flat_map(|word| [(word >> 32) as u32, *word as u32]);
+            digest(halves)
+        };
         let fields = self.sheets.iter().flat_map(|e| [e.mark, e.start, e.length]);
         let bytes = |bytes: &[u8]| digest(bytes.iter().map(|&byte| byte as u32));
-        let mut digests = vec![digest(halves), digest(fields), bytes(&self.bytes)];
+        let map = halves(&to_words(&self.map));
+        let mut digests = vec![map, digest(fields), bytes(&self.bytes)];
         digests.extend(self.buffer.iter().map(|buffer| bytes(buffer)));
+        digests.extend(self.scratch.iter().map(|scratch| halves(scratch)));
         let digests: String = digests
             .iter()
             .map(|digest| format!(" {digest:08x}"))
@@ -228,11 +241,11 @@ impl Store {
     }
 
     /// With a false summary it is open which numbers an accepted call leaves that changes the map. A build settles those that
-    /// it is lent.
+    /// it is lent, and so does a closing.
     fn note_open(&mut self, kind: Kind, before: &Card, after: &Card) {
         let lent = self.numbers_lent;
         let was_open = self.open > 0 || !before.has_own_summary();
-        if kind == Kind::SummaryBuild && lent >= self.open {
+        if kind.builds_anew() && lent >= self.open {
             self.open = 0;
         } else if kind.has_summary() && was_open && before.map != after.map {
             self.open = self.open.max(lent);

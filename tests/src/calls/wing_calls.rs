@@ -1,5 +1,5 @@
 //! Lists for wings that share a card (document 02, (k)), with 300 sheets, so that there are three wings. A line is a call, or
-//! with + what no call does: `+limit` has a wing and its limit, `+limits` one for all eight.
+//! with + what no call does: `+limits` has the limits of the eight wings for the calls that follow, which are n before that.
 
 pub(super) const LISTS: &[(&str, &str)] = &[
     ("limits", LIMITS),
@@ -8,8 +8,10 @@ pub(super) const LISTS: &[(&str, &str)] = &[
     ("limits with a summary", WITH_SUMMARY),
 ];
 
-/// Back to the limits of the lists that name none.
-pub(super) const END: &str = "+limits 4294967295\n";
+/// The largest limits, for what follows.
+pub(super) const END: &str = "
+    +limits 4294967295 4294967295 4294967295 4294967295 4294967295 4294967295 4294967295 4294967295
+";
 
 /// A fresh card of 70 blocks and 300 sheets, the lines of a list, and the end.
 pub(super) fn on_70(list: &str) -> String {
@@ -18,10 +20,10 @@ pub(super) fn on_70(list: &str) -> String {
 
 /// Each call at its wing's limit and one block above; the limits of the other wings do not matter.
 const LIMITS: &str = "
-    +limits 0
+    +limits 0 0 0 0 0 0 0 0
     reserve 0 1
     offer 0 1
-    +limit 0 10
+    +limits 10 0 0 0 0 0 0 0
     reserve 128 1
     offer 0 11
     offer 0 10
@@ -32,16 +34,16 @@ const LIMITS: &str = "
     accept 1 20 1
     reserve-placed 1 1 0 70 1
     grow 0 1
-    +limit 0 12
+    +limits 12 0 0 0 0 0 0 0
     grow 0 3
     grow 0 2
     grow 0 1
-    +limit 1 5
+    +limits 12 5 0 0 0 0 0 0
     accept 128 20 6
     accept 128 20 5
     reserve 255 1
     reserve 256 1
-    +limit 2 7
+    +limits 12 5 7 0 0 0 0 0
     reserve-placed 256 8 30 70 1
     reserve-placed 256 7 30 70 1
     reserve 299 1
@@ -49,12 +51,12 @@ const LIMITS: &str = "
     release 128
     reserve 129 5
     reserve 128 1
-    +limit 0 4294967295
+    +limits 4294967295 5 7 0 0 0 0 0
     reserve 127 50
     reserve 127 20
     standing 127
 
-    +limits 70
+    +limits 70 70 70 70 70 70 70 70
     release 0
     release 127
     release 129
@@ -64,10 +66,10 @@ const LIMITS: &str = "
     release 0
     reserve 0 71
     offer 0 71
-    +limits 71
+    +limits 71 71 71 71 71 71 71 71
     reserve 0 71
     offer 0 4294967295
-    +limits 4294967295
+    +limits 4294967295 4294967295 4294967295 4294967295 4294967295 4294967295 4294967295 4294967295
     offer 0 4294967295
     reserve 0 1
     offer 1 4294967295
@@ -77,7 +79,7 @@ const LIMITS: &str = "
 
 /// 18 comes after 3 and 15, and before 10, 11, 17 and 4 for the count.
 const ORDER: &str = "
-    +limits 0
+    +limits 0 0 0 0 0 0 0 0
     reserve 300 1
     reserve 4294967295 0
     +entry 0 0 0 0
@@ -101,33 +103,33 @@ const ORDER: &str = "
     reserve-placed 0 1 0 70 0
     reserve-placed 0 1 9 9 1
     reserve-placed 0 71 0 70 1
-    +limit 0 5
+    +limits 5 0 0 0 0 0 0 0
     reserve 0 5
     grow 0 0
     grow 0 66
     grow 0 1
-    +limit 0 4
+    +limits 4 0 0 0 0 0 0 0
     reserve 1 0
     grow 0 1
     +shape 70 2
-    +limit 0 70
+    +limits 70 0 0 0 0 0 0 0
     reserve 1 3
     grow 0 3
     accept 1 10 3
-    +limit 0 7
+    +limits 7 0 0 0 0 0 0 0
     reserve 1 3
     grow 0 3
     accept 1 10 3
     accept 1 4 3
     accept 1 4 2
-    +limit 0 6
+    +limits 6 0 0 0 0 0 0 0
     accept 1 4 2
 ";
 
 /// The lengths of Open, Complete and Paused sheets as their entries have them, also of damaged ones, and of none behind the
 /// last entry lent.
 const HELD: &str = "
-    +limits 10
+    +limits 10 10 10 10 10 10 10 10
     reserve 0 3
     reserve 127 4
     put 127 0 1 496
@@ -148,7 +150,7 @@ const HELD: &str = "
     +entry 7 79 0 4294967295
     offer 5 1
     grow 0 1
-    +limit 0 4294967295
+    +limits 4294967295 10 10 10 10 10 10 10
     offer 5 1
     grow 0 1
     +entry 8 0 0 4294967295
@@ -158,7 +160,7 @@ const HELD: &str = "
     offer 5 4294967287
     offer 5 4294967288
     +entry 7 65 0 0
-    +limit 0 10
+    +limits 10 10 10 10 10 10 10 10
 
     +entry 128 79 0 9
     offer 5 3
@@ -183,8 +185,8 @@ const HELD: &str = "
     offer 5 10
     offer 5 11
     +lend 2 1024 35840
-    +limits 0
-    +limit 7 3
+    +limits 0 0 0 0 0 0 0 0
+    +limits 0 0 0 0 0 0 0 3
     reserve 1023 4
     reserve 1023 3
     reserve 896 1
@@ -198,7 +200,7 @@ const HELD: &str = "
 /// The forms with a summary; where group 0 refuses, 18 still comes first.
 const WITH_SUMMARY: &str = "
     summary-build
-    +limits 9
+    +limits 9 9 9 9 9 9 9 9
     summary-reserve 0 10
     summary-reserve 0 9
     summary-reserve 1 1

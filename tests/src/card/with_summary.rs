@@ -49,10 +49,10 @@ impl Card {
         inside && least_fit(&self.map[..end], only, end - start) == Some(start)
     }
 
-    /// A call for which no row holds, and which is lent the summary. A true summary is the changed map's own afterwards. A
-    /// false one stays here; that is one of the ways that are open.
+    /// A call for which no row holds, and which is lent the summary. A true summary is the changed map's own afterwards, and
+    /// so is any that is built anew. A false one stays here; that is one of the ways that are open.
     pub(super) fn accepted_with_summary(&mut self, call: Call, slice: &mut [u8]) -> Answer {
-        let anew = call.kind == Kind::SummaryBuild || self.has_own_summary();
+        let anew = call.kind.builds_anew() || self.has_own_summary();
         let answer = self.accepted(call, slice);
         if anew {
             self.summary = build(&self.map, self.n);

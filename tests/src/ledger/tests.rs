@@ -1,7 +1,7 @@
 //! The ledger's answers, and the card beside it.
 
 use super::*;
-use crate::blocks::figures;
+use crate::blocks::{figures, scratch_words};
 use crate::calendar::date;
 use crate::call::{accept, call, placed};
 use crate::card::Card;
@@ -162,17 +162,18 @@ fn a_course_is_paused_and_taken_up_again() {
     assert_eq!((ledger.granted, ledger.returned), (2, 2));
 }
 
-/// A call for one of 3 sheets: a reserve of any kind, an offer, a grow or a release.
+/// A call for one of 3 sheets, a reserve of any kind, an offer, a grow or a release; or a closing.
 fn random_call(n: usize, random: &mut Random) -> Call {
     let (sheet, k) = (random.within(0, 3) as u32, random.within(0, n) as u32 / 3);
     let mut figure = || random.within(0, n + 2) as u32;
     let placed_at = figures(figure(), figure(), figure() / 4);
-    match random.within(0, 7) {
+    match random.within(0, 8) {
         0 => call(Kind::Reserve, sheet, k),
         1 => call(Kind::Release, sheet, 0),
         2 => call(Kind::Offer, sheet, k),
         3 => call(Kind::Grow, sheet, k / 4),
         4 => accept(sheet, placed_at.from, k),
+        5 => call(Kind::Close, 0, scratch_words(n) as u32),
         _ => placed(sheet, k, placed_at),
     }
 }
@@ -191,8 +192,8 @@ fn follow(card: &mut Card, form: fn(Call) -> Call, random: &mut Random) {
     assert_eq!(card.free + ledger.granted, n + ledger.returned);
 }
 
-/// Lists of reserves, offers, grows and releases, also with a summary kept beside the map (document 02, (j)): it is the map's
-/// own in the end.
+/// Lists of reserves, offers, grows, releases and closings, also with a summary kept beside the map (document 02, (j)): it is
+/// the map's own in the end.
 #[test]
 fn the_card_answers_as_the_ledger() {
     for n in [1, 2, 9, 64, 70, 140] {
@@ -314,4 +315,51 @@ fn limits_of_a_wing() {
     assert_eq!(answer(call(Kind::Release, 128, 0), 0), Some(Done));
     assert_eq!(answer(call(Kind::Grow, 129, 1), 1), Some(Refused(18)));
     assert_eq!(answer(call(Kind::Grow, 129, 1), 2), Some(Done));
+}
+
+/// Document 02, (l): sheets of every standing are moved in order of their starts, and keep what they hold.
+#[test]
+fn closing() {
+    let mut ledger = Ledger::fresh(20, 6);
+    let buffer = &mut [0; 496];
+    assert_eq!(ledger.accept(4, 2, 2), Ok(Start(2, 18)));
+    assert_eq!(ledger.accept(1, 6, 3), Ok(Start(6, 14)));
+    assert_eq!(ledger.accept(0, 12, 1), Ok(Start(12, 8)));
+    assert_eq!(ledger.put(4, 1, &[7; 496]), Ok(Done));
+    assert_eq!(ledger.put(0, 0, &[8; 496]), Ok(Done));
+    assert_eq!(ledger.complete(0), Ok(Done));
+    for place in 0..3 {
+        assert_eq!(ledger.put(1, place, &[9 + place as u8; 496]), Ok(Done));
+    }
+    assert_eq!(ledger.complete(1), Ok(Done));
+    assert_eq!(ledger.pause(1), Ok(Done));
+    assert_eq!(ledger.pause(5), Ok(Done));
+    assert_eq!(ledger.offer(2, 8), Err(Refused(10)));
+    assert_eq!(ledger.offer(2, 1), Ok(Offered(0, 1)));
+    let entries = [
+        entry(0x43, 5, 1),
+        entry(0x50, 2, 3),
+        entry(0x41, 0, 0),
+        entry(0x41, 0, 0),
+        entry(0x4f, 0, 2),
+        entry(0x50, 0, 0),
+    ];
+    for _ in 0..2 {
+        assert_eq!(ledger.close(), Ok(Done));
+        assert!((0..6).all(|sheet| ledger.entry(sheet) == entries[sheet]));
+        assert_eq!(
+            (ledger.granted, ledger.returned, ledger.free_count()),
+            (6, 0, 14)
+        );
+    }
+    assert_eq!(ledger.complete(4), Err(Blank(0)));
+    assert_eq!(ledger.block(4, 1), sealed(4, 1, &[7; 496]));
+    assert_eq!(ledger.show(0, 0, None, buffer), Ok(Done));
+    assert_eq!(buffer[0], 8);
+    assert_eq!(ledger.resume(1), Ok(Done));
+    assert_eq!(ledger.show(1, 2, None, buffer), Ok(Done));
+    assert_eq!(buffer[0], 11);
+    assert_eq!(ledger.accept(2, 0, 1), Err(Refused(17)));
+    assert_eq!(ledger.offer(2, 15), Err(Refused(10)));
+    assert_eq!(ledger.offer(2, 14), Ok(Offered(6, 14)));
 }
