@@ -87,7 +87,7 @@ enum {
 /* Words of the map of a card of n blocks. Block b is bit 63 - b % 64 of word b / 64; 1 is free. */
 #define PAGUNLIT_MAP_WORDS(n) (((size_t)(n) + 63) / 64)
 
-/* Words of the scratch that save and load take for a card of n blocks: 64, or the map's if they are fewer. */
+/* Words of the scratch that save, load and close take for a card of n blocks: 64, or the map's if they are fewer. */
 #define PAGUNLIT_SCRATCH_WORDS(n) (PAGUNLIT_MAP_WORDS(n) < 64 ? PAGUNLIT_MAP_WORDS(n) : (size_t)64)
 
 /* 32-bit numbers of the summary of a card of n blocks, for n within its limits: three for each of 2p - 1 groups, where p is the
@@ -347,6 +347,22 @@ pagunlit_outcome pagunlit_save(pagunlit_shape shape, const uint64_t *map, size_t
  *   14  the state in the image is not sound, or what fills it up is not all zeros */
 pagunlit_outcome pagunlit_load(pagunlit_shape shape, const uint8_t *image, size_t imagelen, uint64_t *map, size_t maplen,
                                pagunlit_entry *catalogue, size_t cataloguelen, uint64_t *scratch, size_t scratchlen);
+
+/* Closes the gaps: moves the blocks of all sheets towards block 0, in order of their starts, with no block free before or
+ * between them, and their bytes along. Every sheet keeps its mark, its length and what its places hold; the free count stays,
+ * and all free blocks are one run at the card's end, with the bytes that they had. A run that was offered before may be taken
+ * now. The scratch has PAGUNLIT_SCRATCH_WORDS of the blocks, and is all zeros afterwards, whatever the answer.
+ *   1   as above
+ *   4   the state is not sound: an entry is damaged, two sheets hold the same block, a block is taken that no sheet holds, or
+ *       the free count is not the map's */
+pagunlit_outcome pagunlit_close(pagunlit_shape shape, uint64_t *map, size_t maplen, pagunlit_entry *catalogue,
+                                size_t cataloguelen, uint8_t *card, size_t cardlen, uint64_t *scratch, size_t scratchlen);
+
+/* pagunlit_close with a summary, which is built anew, whatever it was before. A refusal leaves it as it was.
+ *   1, 4   as pagunlit_close */
+pagunlit_outcome pagunlit_close_with_summary(pagunlit_shape shape, uint64_t *map, size_t maplen, uint32_t *summary,
+                                             size_t summarylen, pagunlit_entry *catalogue, size_t cataloguelen,
+                                             uint8_t *card, size_t cardlen, uint64_t *scratch, size_t scratchlen);
 
 /* Dose counts in packed decimal. A payload holds 124 counts of four bytes, count number `which` at byte 4 * which: two
  * digits a byte, the high digit first, six whole digits and two of hundredths. Four bytes of 0xFF mean absent; in any other

@@ -35,6 +35,10 @@ def functions(archive):
         elif instruction and not relocation:
             last = instruction[1]
             code.append(last)
+            # A call of a function by itself needs no relocation: objdump names the function, at no distance.
+            own = re.match(r'call\s+[0-9a-f]+ <([^+>]+)>', last)
+            if own:
+                calls.add(own[1])
     return found
 
 

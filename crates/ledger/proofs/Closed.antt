@@ -106,8 +106,8 @@ same-held [] = refl
 same-held (x ∷ l) = ap (λ (k : ℕ). lengthIn x + k) (same-held l)
 
 -- how many blocks they hold
-abbrev pub heldBy : List Sheet → ℕ
-heldBy l = catalogue.held (map entryIn l)
+abbrev pub heldInEntries : List Sheet → ℕ
+heldInEntries l = catalogue.held (map entryIn l)
 
 -- the entry of a sheet that gets its new start is the closed one
 module _ (l : List Sheet) where
@@ -260,7 +260,7 @@ module _ (n : ℕ) (l : List Sheet) (card : List ℕ) (k : Matches n l card) whe
     fine = λ i. rw (closed-at l i) (fine-then i);
   }
 
-  pub spare-held : spareIn n (closedIn l) + heldBy l ≡ n
+  pub spare-held : spareIn n (closedIn l) + heldInEntries l ≡ n
   spare-held = omega (arith, spare-is n (closedIn l) sound-then, held-closed l, same-held l)
 
   pub spare-closed : spareIn n (closedIn l) ≡ spareIn n l

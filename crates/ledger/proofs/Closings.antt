@@ -25,7 +25,7 @@ use Rattle.ledger.specs.Claim.{entryIn, Came, Searched, SearchedBy}
 use Rattle.ledger.specs.Closings.{ClosedThenReserved, FullWhenMoreWanted}
 use Rattle.ledger.specs.Steps.{Response, toldBy, Step, Runs, freshState}
 use Rattle.ledger.proofs.Agreement.{stateOf, Matches}
-use Rattle.ledger.proofs.Closed.{free-closed, spare-held, kept-closed, few-held, heldBy}
+use Rattle.ledger.proofs.Closed.{free-closed, spare-held, kept-closed, few-held, heldInEntries}
 use Rattle.ledger.proofs.Demand.{Left, answered, lists, kept-begun, state-begun}
 use Rattle.ledger.proofs.Pauses.{told-after, then}
 use Rattle.ledger.proofs.Results.{Result}
@@ -62,9 +62,9 @@ both p q = (λ a. q .0 (p .0 a), λ c. p .1 (q .1 c))
 
 -- of the ledger
 module _ (n : ℕ) (l : List Sheet) (card : List ℕ) (k : Matches n l card) (card′ : List ℕ) (k′ : Matches n (closedIn l) card′)
-    (sheet m : ℕ) where
+    (limits : List ℕ) (sheet m : ℕ) where
   abbrev call : Call
-  call = on sheet (reserve m plain)
+  call = on sheet (reserve limits m plain)
 
   pub full-exactly : Came 10 n (closedIn l) call → (toldIn n (closedIn l) call .number ≡ 10) ↔ (spareIn n (closedIn l) < m)
   unfolding deedIn
@@ -72,7 +72,7 @@ module _ (n : ℕ) (l : List Sheet) (card : List ℕ) (k : Matches n l card) (ca
       let sought : SearchedBy n (closedIn l) call (toldIn n (closedIn l) call) =
       result n (closedIn l) card′ k′ call .searched in
       both (sought came .exactly)
-      (none-exactly (freeIn n (closedIn l)) (heldBy l) n m (spareIn n (closedIn l)) (free-closed n l card k)
+      (none-exactly (freeIn n (closedIn l)) (heldInEntries l) n m (spareIn n (closedIn l)) (free-closed n l card k)
       (spare-held n l card k))
 
 -- of a run
@@ -83,7 +83,7 @@ module _ (n c : ℕ) (card : List ℕ) (n-low : 1 ≤ n) (n-high : n ≤ 262144)
   stepped l = refl
 
   pub closed-full : FullWhenMoreWanted n c card
-  closed-full calls sheet k t told course came =
+  closed-full calls limits sheet k t told course came =
       let w : Left n (begun c) calls (course .replies) (course .before) =
       lists n calls (course .replies) (begun c) card (freshState n c card) (course .before)
       (kept-begun n c card n-low n-high c-low c-high room)
@@ -93,11 +93,11 @@ module _ (n c : ℕ) (card : List ℕ) (n-low : 1 ≤ n) (n-high : n ≤ 262144)
       then w close (course .closed) t (course .closes) in
       let here : Matches n (closedIn (after n (begun c) calls)) (x .card-left) =
       subst (λ (y : List Sheet). Matches n y (x .card-left)) (stepped (after n (begun c) calls)) (x .kept-left) in
-      let e = full-exactly n (after n (begun c) calls) (w .card-left) (w .kept-left) (x .card-left) here sheet k
-      (subst (λ (y : List Sheet). Came 10 n y (on sheet (reserve k plain))) (stepped (after n (begun c) calls)) came) in
-      let told-so : toldBy told ≡ toldIn n (closedIn (after n (begun c) calls)) (on sheet (reserve k plain)) =
-      told-after x (on sheet (reserve k plain)) told (course .left) (course .reserves)
-      ∙ ap (λ (y : List Sheet). toldIn n y (on sheet (reserve k plain))) (stepped (after n (begun c) calls)) in
+      let e = full-exactly n (after n (begun c) calls) (w .card-left) (w .kept-left) (x .card-left) here limits sheet k
+      (subst (λ (y : List Sheet). Came 10 n y (on sheet (reserve limits k plain))) (stepped (after n (begun c) calls)) came) in
+      let told-so : toldBy told ≡ toldIn n (closedIn (after n (begun c) calls)) (on sheet (reserve limits k plain)) =
+      told-after x (on sheet (reserve limits k plain)) told (course .left) (course .reserves)
+      ∙ ap (λ (y : List Sheet). toldIn n y (on sheet (reserve limits k plain))) (stepped (after n (begun c) calls)) in
       let spare-so : t .shape .free ≡ spareIn n (closedIn (after n (begun c) calls)) =
       ap (λ (y : Kept). y .shape .free) (x .state-left) ∙ ap (spareIn n) (stepped (after n (begun c) calls)) in (
         λ ten. subst (λ (s : ℕ). s < k) (sym spare-so) (e .0 (ap (λ (y : Told). y .number) (sym told-so) ∙ ten)),

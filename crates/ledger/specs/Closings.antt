@@ -14,19 +14,20 @@ use Rattle.ledger.specs.Claim.{Came}
 use Rattle.ledger.specs.Steps.{Response, toldBy, Step, Runs, freshState}
 
 -- A list of calls from a fresh card, a closing, which leaves state t, and a plain reserve from there.
-pub record ClosedThenReserved (n c : ℕ) (card : List ℕ) (calls : List Call) (sheet k : ℕ) (t : Kept) (told : Response)
-    : Type 0 where
+pub record ClosedThenReserved (n c : ℕ) (card : List ℕ) (calls : List Call) (limits : List ℕ) (sheet k : ℕ) (t : Kept)
+    (told : Response) : Type 0 where
   pub replies : List Response
   pub before : Kept
   pub runs : Runs (freshState n c card) calls replies before
   pub closed : Response
   pub closes : Step before close closed t
   pub left : Kept
-  pub reserves : Step t (on sheet (reserve k plain)) told left
+  pub reserves : Step t (on sheet (reserve limits k plain)) told left
 
 -- The free count is the one that the closing handed back.
 abbrev pub FullWhenMoreWanted : ℕ → ℕ → List ℕ → Type 0
 FullWhenMoreWanted n c card =
-    (calls : List Call) (sheet k : ℕ) (t : Kept) (told : Response) → ClosedThenReserved n c card calls sheet k t told
-    → Came 10 n (stepIn n (after n (begun c) calls) close) (on sheet (reserve k plain))
+    (calls : List Call) (limits : List ℕ) (sheet k : ℕ) (t : Kept) (told : Response)
+    → ClosedThenReserved n c card calls limits sheet k t told
+    → Came 10 n (stepIn n (after n (begun c) calls) close) (on sheet (reserve limits k plain))
     → (toldBy told .number ≡ 10) ↔ (t .shape .free < k)
