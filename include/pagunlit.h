@@ -77,12 +77,7 @@ enum {
 };
 
 /* Marks of an entry. */
-enum {
-    PAGUNLIT_ABSENT = 0x41,
-    PAGUNLIT_PAUSED = 0x50,
-    PAGUNLIT_OPEN = 0x4F,
-    PAGUNLIT_COMPLETE = 0x43
-};
+enum { PAGUNLIT_ABSENT = 0x41, PAGUNLIT_PAUSED = 0x50, PAGUNLIT_OPEN = 0x4F, PAGUNLIT_COMPLETE = 0x43 };
 
 /* Words of the map of a card of n blocks. Block b is bit 63 - b % 64 of word b / 64; 1 is free. */
 #define PAGUNLIT_MAP_WORDS(n) (((size_t)(n) + 63) / 64)
@@ -101,15 +96,11 @@ enum {
 #define PAGUNLIT_IMAGE_BYTES(n, c) ((12 + 12 * (size_t)(c) + 8 * PAGUNLIT_MAP_WORDS(n) + 495) / 496 * 512)
 
 /* The shape of a card: how many blocks it has, and how many of them are free. */
-typedef struct {
-    uint32_t blocks, free;
-} pagunlit_shape;
+typedef struct { uint32_t blocks, free; } pagunlit_shape;
 
 /* What stands for a sheet. Absent has start 0 and length 0, and so has a pause of a sheet that was Absent; the blocks of the
  * others, and of a paused course, are start to start + length - 1, and place p of the sheet is block start + p. */
-typedef struct {
-    uint32_t mark, start, length;
-} pagunlit_entry;
+typedef struct { uint32_t mark, start, length; } pagunlit_entry;
 
 /* What a call hands back: the shape for the next call, 0 or the refusal's number, and the answer's values. */
 typedef struct {
@@ -373,9 +364,7 @@ pagunlit_outcome pagunlit_close_with_summary(pagunlit_shape shape, uint64_t *map
 
 /* What a read of a count hands back. hundredths is PAGUNLIT_COUNT_ABSENT with a refusal too, so that it is never taken for
  * a dose of 0. */
-typedef struct {
-    uint32_t number, hundredths;
-} pagunlit_count;
+typedef struct { uint32_t number, hundredths; } pagunlit_count;
 
 /* Reads a count.
  *   3    payloadlen is not 496
