@@ -94,10 +94,11 @@ fn digit(l: Line, digit: u8) -> Line {
 
 // The numbers move on by one, and the last is begun.
 fn space(l: Line) -> Line {
+    let fifth = fifth(l);
     Line {
         word: l.word,
         first: (l.early / 4294967296) as u32,
-        early: l.early % 4294967296 * 4294967296 + l.front / 4294967296,
+        early: l.early % 4294967296 * 4294967296 + fifth as u64,
         front: l.front % 4294967296 * 4294967296 + l.b as u64,
         b: l.c,
         c: l.d,
