@@ -360,7 +360,7 @@ module _ (n : ℕ) (l : List Sheet) (card : List ℕ) (k : Matches n l card) whe
 
     -- one that goes with limits: what the wing holds is the ledger's
     pub verdict-within : (limits : List ℕ) → Sharing n l i a → NeverRows i a
-        → verdictOf (holding i (heldBy (map entryIn l) i) limits) (on i a) ≡ verdictIn n l (on i a)
+        → verdictOf (holding i (heldBy (map entryIn l) i) limits) (on i a) ≡ verdictIn n l (book.on i a)
     verdict-within limits sharing never =
         let blocks : ℕ = heldBy (map entryIn l) i in
         by-sheet (holding i blocks limits) (fits-of i blocks limits) (sheets-of i blocks limits)

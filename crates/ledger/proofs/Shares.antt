@@ -18,7 +18,7 @@ use Rattle.card.specs.Calls.{Kept}
 use Rattle.ledger.specs.Calls.{Call, on, close}
 use Rattle.ledger.specs.Ledger.{Place, Blank, Sheet, Absent, Paused, PausedWith, Open, Complete, lengthIn, sheetAt, held}
 use Rattle.ledger.specs.Ledger.{heldIn, putIn, growIn, completeIn, pauseIn, resumeIn, bytesOf, listed, rowsIn, verdictIn}
-use Rattle.ledger.specs.Ledger.{deedIn, stepIn, begun, closedIn}
+use Rattle.ledger.specs.Ledger.{startIn, belowIn, restartIn, deedIn, stepIn, begun, closedIn}
 use Rattle.ledger.specs.Steps.{endOf, stateOn, freshState}
 use Rattle.ledger.specs.Shares.{GoesWith, Unchanging, WithinLimits, Throughout}
 use Rattle.ledger.proofs.Agreement.{stateOf, Matches}
@@ -127,7 +127,10 @@ bounded n limits l w (on i release) same h = stays n limits l w i Absent (omega 
 bounded n limits l w (on i (show p buffer)) same h = w
 bounded n limits l w (on i (showDated p date buffer)) same h = w
 bounded n limits l w (on i standing) same h = w
-bounded n limits l w close same h = λ j. omega (arith, wing-map _ (λ x. same-length _ x) l j, w j)
+bounded n limits l w close same h = λ j.
+    let moved : heldIn (closedIn l) j ≡ heldIn l j =
+    wing-map (λ x. restartIn (belowIn l (startIn x)) x) (λ x. same-length (belowIn l (startIn x)) x) l j in
+    omega (arith, moved, w j)
 
 -- any call, accepted or refused
 stepped : (n : ℕ) (limits : List ℕ) (l : List Sheet) → InLedger limits l → (c : Call) → GoesWith limits c

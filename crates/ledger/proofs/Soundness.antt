@@ -18,7 +18,8 @@ use Rattle.image_soundness.specs.Sound as saved
 use Rattle.ledger.specs.Ledger.{Sheet, sheetAt, covers, cover, freeIn, spareIn}
 use Rattle.ledger.specs.Claim.{entryIn}
 use Rattle.ledger.specs.Steps.{savedOf}
-use Rattle.ledger.proofs.Agreement.{mapIn, stateOf, Matches, entry-at, free-map, stands-same}
+use Rattle.ledger.proofs.Agreement.{mapIn, stateOf, Matches, free-map, stands-same}
+use Rattle.ledger.proofs.Wings.{entry-at}
 use Rattle.ledger.proofs.Listed.{sheet-undamaged}
 
 all-undamaged : (n : ℕ) (f : ℕ → Bool) (l : List Sheet)

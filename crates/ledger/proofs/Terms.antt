@@ -19,6 +19,7 @@ use Rattle.catalogue_standings.specs.Rows.{Verdict, accepted, refused, firstOf,
 use Rattle.catalogue_standings.specs.declared.Answer.the-variants.{Done, Refused}
 use Rattle.refusals.specs.Effects as effects
 use Rattle.refusals.specs.Lent.{Lent}
+use Rattle.refusals.specs.Table as table
 use Rattle.refusals.specs.Table.{show, showDated, lowestBlank, tableOf}
 use Rattle.refusals.specs.Views.{viewOn}
 use Rattle.refusals.proofs.ShowDated.{accepted-too}
@@ -123,7 +124,7 @@ module _ (s : Kept) (sheet p : ℕ) (date : Date) (buffer : List ℕ) where
           → effects.showDatedVerdict q p date buffer ≡ accepted
       go accepted e h = e
       go (refused number) e h =
-          absurd (never-says 0 (tableOf (viewOn q) (on sheet (showDated p date buffer))) refl (e ∙ ap refused h))
+          absurd (never-says 0 (tableOf (viewOn q) (table.on sheet (showDated p date buffer))) refl (e ∙ ap refused h))
 
   same-end : effects.showDatedVerdict q p date buffer ≡ accepted
       → endOf s (on sheet (showDated p date buffer)) ≡ endOf s (on sheet (show p buffer))

@@ -22,7 +22,8 @@ use Rattle.ledger.specs.Calls.{Call, on}
 use Rattle.ledger.specs.Ledger.{Sheet, lengthIn, sheetAt, placeAt, spareIn, viewIn, listed, rowsIn, verdictIn, deedIn}
 use Rattle.ledger.specs.Claim.{entryIn}
 use Rattle.ledger.specs.Steps.{End, ending, endOf}
-use Rattle.ledger.proofs.Agreement.{Places, mapIn, stateOf, reads, Matches, NeverRows, OwnPlaces, entry-at, verdict-on}
+use Rattle.ledger.proofs.Agreement.{Places, mapIn, stateOf, reads, Matches, NeverRows, OwnPlaces, verdict-on}
+use Rattle.ledger.proofs.Wings.{entry-at}
 use Rattle.ledger.proofs.Agreement.{Alike, payload-block}
 use Rattle.ledger.proofs.Listed.{or-left}
 use Rattle.ledger.proofs.Results as results
