@@ -9,8 +9,8 @@
  *
  * compiles a program against it. `tools/install PREFIX` copies this header, pagunlit_text.h and the archive, with a file for
  * pkg-config. The library allocates nothing, opens nothing and keeps nothing. Of the C library it needs memset alone.
- * Stack: a survey takes up to 648 bytes, a reserve 952, a call with a summary 792, any other call 744 at most. docs/C.md has
- * more on all of this.
+ * Stack: a survey takes up to 648 bytes, a reserve 1,696, a call with a summary 2,480, any other call 2,480 at most.
+ * docs/C.md has more on all of this.
  *
  * Global names: all begin with pagunlit_ or PAGUNLIT_, but for the functions `seal` and `check`, which the dispenser's program
  * calls by these names. A program that links the library can have no other global function of these two names.
