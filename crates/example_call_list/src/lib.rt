@@ -5,6 +5,7 @@ mod digest;
 pub mod line;
 pub mod payload;
 mod print;
+pub mod scratch;
 pub mod state;
 
 ghost use Prim.Native.Nat.{_≤_};

@@ -61,13 +61,5 @@ pub fn term(l: Line) -> [u8; 500]
 
 // A show, with the digest of its buffer.
 pub fn shown(turn: Turn, buffer: &[u8]) -> Turn {
-    let answer = turn.answer;
-    let entries = turn.entries;
-    state::handed_back(
-        turn.blocks,
-        turn.free,
-        answer,
-        entries,
-        digest::bytes(buffer),
-    )
+    state::telling(turn, digest::bytes(buffer))
 }

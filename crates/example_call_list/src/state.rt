@@ -24,7 +24,7 @@ pub struct Setup {
     pub limits: [u32; 8],
 }
 
-// What a call handed back, the entries after it, and for show the digest of its buffer.
+// What a call handed back, the entries after it, and for show the digest of its buffer, for a closing of its scratch.
 pub struct Turn {
     pub blocks: u32,
     pub free: u32,
@@ -33,7 +33,14 @@ pub struct Turn {
     pub shown: u64,
 }
 
-// One word more than 70 blocks take. What is ensured here and below is the length, which lending the array as a slice needs.
+// Room for the list. What is ensured here and below is the length, which lending the array as a slice needs.
+pub fn text_space() -> [u8; 131072]
+    ensures { λ r. ⌜ 131072 ≡ ListN.length r ⌝ }
+{
+    [0; 131072]
+}
+
+// One word more than 70 blocks take.
 pub fn map_space() -> [u64; 3]
     ensures { λ r. ⌜ 3 ≡ ListN.length r ⌝ }
 {
@@ -178,6 +185,13 @@ pub fn handed_back(
         entries: entries,
         shown: shown,
     }
+}
+
+// A turn with the digest of what its call left in a buffer of its own.
+pub fn telling(turn: Turn, shown: u64) -> Turn {
+    let answer = turn.answer;
+    let entries = turn.entries;
+    handed_back(turn.blocks, turn.free, answer, entries, shown)
 }
 
 // No call was made, as at a line that is no call.

@@ -5,6 +5,7 @@ use crate::lend;
 use card::Shape;
 use example_call_list::line;
 use example_call_list::payload;
+use example_call_list::scratch;
 use example_call_list::state;
 use example_call_list::state::Setup;
 use example_call_list::state::Turn;
@@ -47,6 +48,8 @@ const PUT_TERM: u64 = 0x7075_742d_7465_726d;
 
 const STANDING: u64 = 0x7374_616e_6469_6e67;
 
+const CLOSE: u64 = 0x63_6c6f_7365;
+
 // The last eight letters of the forms with a summary.
 const SUMMARY_RESERVE: u64 = 0x2d72_6573_6572_7665;
 
@@ -57,6 +60,8 @@ const SUMMARY_ACCEPT: u64 = 0x792d_6163_6365_7074;
 const SUMMARY_GROW: u64 = 0x6172_792d_6772_6f77;
 
 const SUMMARY_RELEASE: u64 = 0x2d72_656c_6561_7365;
+
+const SUMMARY_CLOSE: u64 = 0x7279_2d63_6c6f_7365;
 
 // The calls that change neither the map nor the card.
 fn look(map: &[u64], card: &[u8], s: Setup) -> Turn
@@ -116,6 +121,38 @@ fn look(map: &[u64], card: &[u8], s: Setup) -> Turn
     }
 }
 
+// A closing, which is lent as many words of the scratch as its line says.
+fn close(map: &mut [u64], card: &mut [u8], s: Setup) -> Turn
+    requires { ⌜ s .sheets ≤ 1025 ⌝ }
+{
+    let entries = s.entries;
+    let shape = Shape {
+        blocks: s.blocks,
+        free: s.free,
+    };
+    let mut array = scratch::space();
+    let all: &mut [u64] = &mut array;
+    let k = scratch::length(s.line);
+    let turn = lend::close(shape, map, entries, s.sheets, card, &mut all[0..k]);
+    scratch::left(turn, all)
+}
+
+fn close_with_summary(map: &mut [u64], summary: &mut [u32], card: &mut [u8], s: Setup) -> Turn
+    requires { ⌜ s .sheets ≤ 1025 ⌝ }
+{
+    let entries = s.entries;
+    let shape = Shape {
+        blocks: s.blocks,
+        free: s.free,
+    };
+    let mut array = scratch::space();
+    let all: &mut [u64] = &mut array;
+    let k = scratch::length(s.line);
+    let c = s.sheets;
+    let turn = lend::close_with_summary(shape, map, summary, entries, c, card, &mut all[0..k]);
+    scratch::left(turn, all)
+}
+
 fn on_parts(map: &mut [u64], card: &mut [u8], s: Setup) -> Turn
     requires { ⌜ s .sheets ≤ 1025 ⌝ }
 {
@@ -173,6 +210,7 @@ fn on_parts(map: &mut [u64], card: &mut [u8], s: Setup) -> Turn
             )
         }
         RELEASE => lend::release(shape, map, entries, s.sheets, l.d),
+        CLOSE => close(map, card, s),
         _ => look(map, card, s),
     }
 }
@@ -234,6 +272,7 @@ fn guided(map: &mut [u64], summary: &mut [u32], card: &mut [u8], s: Setup) -> Tu
             l.d,
         ),
         SUMMARY_RELEASE => lend::release_with_summary(shape, map, summary, entries, c, l.d),
+        SUMMARY_CLOSE => close_with_summary(map, summary, card, s),
         line::SUMMARY_BUILD => lend::turn_of(shape.summary_build(map, summary), entries),
         line::SUMMARY_CHECK => lend::turn_of(shape.summary_check(map, summary), entries),
         _ => on_parts(map, card, s),

@@ -332,3 +332,34 @@ pub fn release_with_summary(
     let outcome = shape.release_with_summary(map, summary, &mut all[..c], sheet);
     turn_of(outcome, all)
 }
+
+pub fn close(
+    shape: Shape,
+    map: &mut [u64],
+    entries: [Entry; 1025],
+    c: usize,
+    card: &mut [u8],
+    scratch: &mut [u64],
+) -> Turn
+    requires { ⌜ c ≤ 1025 ⌝ }
+{
+    let mut all = entries;
+    let outcome = shape.close(map, &mut all[..c], card, scratch);
+    turn_of(outcome, all)
+}
+
+pub fn close_with_summary(
+    shape: Shape,
+    map: &mut [u64],
+    summary: &mut [u32],
+    entries: [Entry; 1025],
+    c: usize,
+    card: &mut [u8],
+    scratch: &mut [u64],
+) -> Turn
+    requires { ⌜ c ≤ 1025 ⌝ }
+{
+    let mut all = entries;
+    let outcome = shape.close_with_summary(map, summary, &mut all[..c], card, scratch);
+    turn_of(outcome, all)
+}

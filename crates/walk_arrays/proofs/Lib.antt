@@ -11,8 +11,10 @@ pub mod MapEntries1First
 pub mod MapEntriesCardFromLimits2
 pub mod MapEntriesCardFromLimits3
 pub mod MapEntriesCardFromLimits5
+pub mod MapEntriesCardScratch
 pub mod MapEntriesScratchTextFromImage
 pub mod MapSummaryEntries1
 pub mod MapSummaryEntriesCardFromLimits2
 pub mod MapSummaryEntriesCardFromLimits3
 pub mod MapSummaryEntriesCardFromLimits5
+pub mod MapSummaryEntriesCardScratch
