@@ -249,14 +249,6 @@ sited-all p h k l u (right i b) =
     more : (i : ℕ) → Sited p i (place p i .first) (place p i .size) → 2 * i + 2 + 1 < 2 * p → place p i .size ≡ 1 → ⊥
     more i s u e = let sum : place p i .first + p ≡ (i + 1) * 1 = s .sum ∙ ap (λ (x : ℕ). (i + 1) * x) e in omega arith
 
--- none of them is apart from all words
-pub never-apart : (p h : ℕ) → Power p → p ≤ 4096 → h + 1 < 2 * p → Apart p 0 p h → ⊥
-never-apart p h k l u a =
-    let s = sited-all p h k l u (below-zero h) in
-    let i : place p h .first + place p h .size ≤ p = s .inside in
-    let z : 0 < place p h .size = sited-pos p h (place p h .first) (place p h .size) s in
-    ⊎-elim (λ q. omega arith) (λ q. omega arith) a
-
 -- what is below a half is below the group
 pub below-left : (g h : ℕ) → Below (2 * g + 1) h → Below g h
 below-left g h same = left g same
