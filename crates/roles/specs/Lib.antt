@@ -1,0 +1,2 @@
+-- What the contracts of `roles`, and of crates above it, cite.
+pub mod Roles
