@@ -1,0 +1,166 @@
+-- One call of a carer: what specs/Learning.antt claims of it.
+-- Assumes nothing.
+use Prim.Native.Nat.{ℕ, _+_, _*_, _<_}
+use mathlib.Core.Path.{_≡_, refl, sym, ap, subst, _∙_}
+use mathlib.Core.Bool.{Bool, false, not, _&&_}
+use mathlib.Core.List.{List, []}
+use native.Mathlib.Nat.{add-zero}
+use native.Mathlib.Omega.{arith}
+use lib.Dec.{leb, eqb}
+use lib.ListN.{length}
+use borrow.Author.Tests.{leb-false}
+use Rattle.calendar.specs.Calendar.{Date, dateOf}
+use Rattle.calendar.specs.Term.{termOf}
+use Rattle.map_blocks.specs.Blocks.{free}
+use Rattle.blocks_of_card.specs.Card.{blockOf}
+use Rattle.blocks_of_card.proofs.Card.{other-block, length-withBlock}
+use Rattle.block_seals.specs.Sealed.{sound, payloadOf}
+use Rattle.catalogue.specs.Entries.{entryAt}
+use Rattle.catalogue.specs.declared.Entry.{Entry}
+use Rattle.catalogue_standings.specs.Limits.{shapeFits, sheetsFit}
+use Rattle.catalogue_standings.specs.declared.Answer.{Answer}
+use Rattle.catalogue_standings.specs.declared.Answer.the-variants.{Done, Refused}
+use Rattle.catalogue_standings.specs.declared.Standing.the-variants.{Complete}
+use Rattle.catalogue_standings.proofs.Openings.{complete-extent}
+use Rattle.refusals.specs.Effects as effects
+use Rattle.refusals.specs.Guides.{guideFits}
+use Rattle.refusals.specs.Table.{tableOf, rowsFor}
+use Rattle.refusals.specs.Views.{viewOn}
+use Rattle.card.specs.Calls.{Kept, kept, lentTo, told}
+use Rattle.card.specs.DatedShows.{datedBuffer}
+use Rattle.card.specs.declared.Outcome.{Outcome}
+use Rattle.card.specs.declared.Shape.{Shape}
+use Rattle.carers.specs.Readings.{Reading, survey, standing, showDated, Gives}
+use Rattle.carers.specs.Learning.{stands, AgreeInBlocks, LearnsTheSame, OtherBlocksMayDiffer}
+use Rattle.carers.proofs.Verdicts.{Seen, comes, only-complete}
+
+-- ---- what a dated show reads of the card
+
+module _ (s : Kept) (sheet place : ℕ) (date : Date) where
+  -- row 1
+  misfitWith : ℕ → Bool
+  misfitWith cardlen =
+      not (guideFits false [] (length (s .map)) && (shapeFits (s .shape .blocks) (s .shape .free) (length (s .map))
+      && sheetsFit (length (s .entries)) && eqb cardlen (512 * s .shape .blocks)))
+
+  abbrev start : ℕ
+  start = entryAt (s .entries) sheet .start
+
+  -- what its blocks tell, the call being done with what `done` makes of the block of the place; place 0 lies at the start
+  abbrev seenIn : {A : Type 0} → (List ℕ → A) → List ℕ → List ℕ → List ℕ → Seen A
+  seenIn done zeroth first wanted = record {
+    first = sound sheet 0 zeroth;
+    term = termOf (payloadOf first);
+    wanted = sound sheet place wanted;
+    done = done wanted;
+  }
+
+  abbrev seenOn : {A : Type 0} → (List ℕ → A) → List ℕ → Seen A
+  seenOn done card = seenIn done (blockOf card (start + 0)) (blockOf card start) (blockOf card (start + place))
+
+  module _ (card : List ℕ) (buffer : List ℕ) where
+    answer-comes : effects.showDatedAnswer (lentTo s card sheet) place date buffer
+        ≡ comes Refused date place (length buffer) (misfitWith (length card)) (leb (length (s .entries)) sheet) (stands s sheet)
+        (seenOn (λ block. Done) card)
+    unfolding effects.showDatedAnswer effects.showDatedVerdict tableOf rowsFor viewOn comes misfitWith
+    answer-comes = refl
+
+    buffer-comes : effects.showDatedBuffer (lentTo s card sheet) place date buffer
+        ≡ comes (λ number. buffer) date place (length buffer) (misfitWith (length card)) (leb (length (s .entries)) sheet)
+        (stands s sheet) (seenOn payloadOf card)
+    unfolding effects.showDatedBuffer effects.showDatedVerdict tableOf rowsFor viewOn comes misfitWith
+    buffer-comes = refl
+
+  -- ---- two cards that agree
+
+  module _ (card other : List ℕ) (lengths : length card ≡ length other) (blocks : AgreeInBlocks s card other) where
+    -- the blocks of a Complete sheet are those from its entry's start on
+    at-place : (from count : ℕ) → sheet < length (s .entries) → stands s sheet ≡ Complete from count → (p : ℕ) → p < count
+        → blockOf card (start + p) ≡ blockOf other (start + p)
+    at-place from count listed h p inside =
+        subst (λ (x : ℕ). blockOf card (x + p) ≡ blockOf other (x + p))
+        (sym (complete-extent (s .shape .blocks) (free (s .map)) (entryAt (s .entries) sheet) from count h .starts))
+        (blocks sheet from count listed h p inside)
+
+    module _ {A : Type 0} (done : List ℕ → A) where
+      same-seen : (from count : ℕ) → leb (length (s .entries)) sheet ≡ false → stands s sheet ≡ Complete from count
+          → place < count → seenOn done card ≡ seenOn done other
+      same-seen from count below h inside =
+          let listed : sheet < length (s .entries) = leb-false (length (s .entries)) sheet below in
+          let zeroth : blockOf card (start + 0) ≡ blockOf other (start + 0) =
+          at-place from count listed h 0 (omega arith) in
+          let first : blockOf card start ≡ blockOf other start =
+          subst (λ (x : ℕ). blockOf card x ≡ blockOf other x) (add-zero start) zeroth in
+          let wanted : blockOf card (start + place) ≡ blockOf other (start + place) =
+          at-place from count listed h place inside in
+          ap (λ (x : List ℕ). seenIn done x (blockOf card start) (blockOf card (start + place))) zeroth
+          ∙ ap (λ (x : List ℕ). seenIn done (blockOf other (start + 0)) x (blockOf card (start + place))) first
+          ∙ ap (seenIn done (blockOf other (start + 0)) (blockOf other start)) wanted
+
+      module _ (refusal : ℕ → A) where
+        abbrev comesIn : ℕ → ℕ → Seen A → A
+        comesIn bytes cardlen seen =
+            comes refusal date place bytes (misfitWith cardlen) (leb (length (s .entries)) sheet) (stands s sheet) seen
+
+        comes-same : (m n : ℕ) → m ≡ n
+            → comesIn m (length card) (seenOn done card) ≡ comesIn n (length other) (seenOn done other)
+        comes-same m n e =
+            ap (λ (x : ℕ). comesIn x (length card) (seenOn done card)) e
+            ∙ ap (λ (x : ℕ). comesIn n x (seenOn done card)) lengths
+            ∙ only-complete refusal date place n (seenOn done card) (seenOn done other) (misfitWith (length other))
+            (leb (length (s .entries)) sheet) (stands s sheet) same-seen
+
+    pub same-answer : (a b : List ℕ) → length a ≡ length b
+        → effects.showDatedAnswer (lentTo s card sheet) place date a
+        ≡ effects.showDatedAnswer (lentTo s other sheet) place date b
+    same-answer a b e =
+        answer-comes card a ∙ comes-same (λ block. Done) Refused (length a) (length b) e ∙ sym (answer-comes other b)
+
+    pub same-buffer : (a : List ℕ)
+        → effects.showDatedBuffer (lentTo s card sheet) place date a
+        ≡ effects.showDatedBuffer (lentTo s other sheet) place date a
+    same-buffer a =
+        buffer-comes card a ∙ comes-same payloadOf (λ number. a) (length a) (length a) refl ∙ sym (buffer-comes other a)
+
+-- ---- every call
+
+module _ {R : Type 0} (how : Outcome → R) (s : Kept) (other : List ℕ) (lengths : length (s .card) ≡ length other)
+    (blocks : AgreeInBlocks s (s .card) other) (a b : List ℕ) (e : length a ≡ length b) (r q : R) (a′ b′ : List ℕ)
+  where
+    -- what is kept beside the other card
+    abbrev beside : Kept
+    beside = kept (s .shape) (s .map) (s .entries) other
+
+    beside-another : (c : Reading) → Gives how s c a r a′ → Gives how beside c b q b′ → (r ≡ q) × (a ≡ b → a′ ≡ b′)
+    beside-another survey g h = (g .0 ∙ sym (h .0), λ same. g .1 ∙ same ∙ sym (h .1))
+    beside-another (standing sheet) g h = (g .0 ∙ sym (h .0), λ same. g .1 ∙ same ∙ sym (h .1))
+    beside-another (showDated sheet place year month day) g h =
+        let date = dateOf year month day in (
+          g .0 ∙ ap (λ (x : Answer). how (told (s .shape) x))
+              (same-answer s sheet place date (s .card) other lengths blocks a b e)
+              ∙ sym (h .0),
+          λ same. g .1 ∙ same-buffer s sheet place date (s .card) other lengths blocks a
+              ∙ ap (datedBuffer beside sheet place year month day) same ∙ sym (h .1),
+        )
+
+pub learns-the-same : {R : Type 0} (how : Outcome → R) → LearnsTheSame how
+learns-the-same how s t agree c a b e r q a′ b′ g h =
+    beside-another how s (t .card) (agree .lengths) (agree .blocks) a b e r q a′ b′ c g
+    (subst (λ (u : Kept). Gives how u c b q b′)
+    (ap (λ (x : Shape). kept x (t .map) (t .entries) (t .card)) (sym (agree .shapes))
+    ∙ ap (λ (x : List ℕ). kept (s .shape) x (t .entries) (t .card)) (sym (agree .maps))
+    ∙ ap (λ (x : List Entry). kept (s .shape) (s .map) x (t .card)) (sym (agree .catalogues)))
+    h)
+
+-- ---- and any other block may differ
+
+pub other-blocks-may-differ : OtherBlocksMayDiffer
+other-blocks-may-differ s b bytes whole inside unheld = record {
+  lengths = sym (length-withBlock (s .card) bytes b inside whole);
+  shapes = refl;
+  maps = refl;
+  catalogues = refl;
+  blocks = λ sheet start count listed h place below.
+      sym (other-block (s .card) bytes b inside whole (start + place)
+      (λ e. unheld sheet start count listed h (omega (arith, e)) (omega (arith, e, below))));
+}

@@ -1,0 +1,3 @@
+-- What the theorems about a carer's calls cite.
+pub mod Readings
+pub mod Learning
