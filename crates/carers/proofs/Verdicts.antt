@@ -1,5 +1,5 @@
--- A dated show reads a block only of a Complete sheet, and only at one of its places: where another row refuses, what the blocks
--- would tell is open.
+-- A dated show reads a block only of a Complete sheet, and only if it has the place: where another row refuses, what the
+-- blocks would tell is open.
 -- Assumes nothing.
 use Prim.Native.Nat.{ℕ, _<_}
 use mathlib.Core.Path.{_≡_, refl, ap}
@@ -15,8 +15,8 @@ use Rattle.catalogue_standings.specs.declared.Standing.{Standing}
 use Rattle.catalogue_standings.specs.declared.Standing.the-variants.{Absent, Paused, PausedWith, Open, Complete, Damaged}
 use Rattle.refusals.specs.Table.{termRows}
 
--- What a dated show reads of blocks: whether place 0 is sound, the term that it starts with, whether the place wanted is sound; and
--- what comes of it if it is done.
+-- What a dated show reads of blocks: whether place 0 is sound, the term that it starts with, whether the place wanted is sound;
+-- and what comes of it if it is done.
 pub record Seen (A : Type 0) : Type 0 where
   pub first : Bool
   pub term : Term
@@ -34,8 +34,8 @@ module _ {A : Type 0} (refusal : ℕ → A) (date : Date) (place bytes : ℕ) wh
   -- and of all the rows
   unfoldable pub comes : Bool → Bool → Standing → Seen A → A
   comes misfit beyond stands seen =
-      settle (firstOf (row 1 misfit ∷ row 2 beyond ∷ row 4 (isDamaged stands) ∷ row 5 (isAbsent stands) ∷ row 6 (isPaused stands)
-      ∷ row 7 (isOpen stands) ∷ row 3 (leb (lengthOf stands) place || not (eqb bytes 496))
+      settle (firstOf (row 1 misfit ∷ row 2 beyond ∷ row 4 (isDamaged stands) ∷ row 5 (isAbsent stands)
+      ∷ row 6 (isPaused stands) ∷ row 7 (isOpen stands) ∷ row 3 (leb (lengthOf stands) place || not (eqb bytes 496))
       ∷ termRows (seen .first) (seen .term) date (row 4 (not (seen .wanted)) ∷ [])))
       (seen .done) refusal
 

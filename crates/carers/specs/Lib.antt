@@ -1,3 +1,4 @@
 -- What the theorems about a carer's calls cite.
 pub mod Readings
 pub mod Learning
+pub mod Listed

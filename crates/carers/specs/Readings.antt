@@ -16,9 +16,9 @@ pub data Reading : Type 0 where
   standing : ℕ → Reading
   showDated : ℕ → ℕ → ℕ → ℕ → ℕ → Reading
 
--- What the contract of the public function ensures of such a call, from a state and with a buffer: what it hands back, r, and what
--- the buffer holds then. Survey and standing are lent no buffer, so one that lies beside them stays as it is. The outcome is
--- handed back as `how` says, by the method of `Shape` and by the C function alike.
+-- What the contract of the public function ensures of such a call, from a state and with a buffer: what it hands back, r, and
+-- what the buffer holds then. Survey and standing are lent no buffer, so one that lies beside them stays as it is. The outcome
+-- is handed back as `how` says, by the method of `Shape` and by the C function alike.
 abbrev pub Gives : {R : Type 0} → (Outcome → R) → Kept → Reading → List ℕ → R → List ℕ → Type 0
 Gives how s survey buffer r buffer′ = Surveys how (s .shape) (s .map) r × (buffer′ ≡ buffer)
 Gives how s (standing sheet) buffer r buffer′ =
