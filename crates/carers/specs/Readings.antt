@@ -3,7 +3,10 @@
 -- Assumes nothing.
 use Prim.Native.Nat.{ℕ}
 use mathlib.Core.Path.{_≡_}
+use mathlib.Core.Bool.{true}
 use mathlib.Core.List.{List, [], _∷_}
+use Rattle.roles.specs.Roles as roles
+use Rattle.roles.specs.Roles.{may, carer}
 use Rattle.refusals.specs.Lent.{noCard}
 use Rattle.card.specs.Calls.{Kept, kept}
 use Rattle.card.specs.Contracts.{itself, Surveys, TellsStanding, ShowsDated}
@@ -15,6 +18,17 @@ pub data Reading : Type 0 where
   survey : Reading
   standing : ℕ → Reading
   showDated : ℕ → ℕ → ℕ → ℕ → ℕ → Reading
+
+-- Its name in the table of roles.
+abbrev pub readingName : Reading → ℕ
+readingName survey = roles.survey
+readingName (standing sheet) = roles.standing
+readingName (showDated sheet place year month day) = roles.showDated
+
+-- These are all that is in a carer's row (proved in proofs/Row.antt).
+pub record WholeRow : Type 0 where
+  pub allowed : (c : Reading) → may carer (readingName c) ≡ true
+  pub no-other : (name : ℕ) → may carer name ≡ true → (c : Reading) × (readingName c ≡ name)
 
 -- What the contract of the public function ensures of such a call, from a state and with a buffer: what it hands back, r, and
 -- what the buffer holds then. Survey and standing are lent no buffer, so one that lies beside them stays as it is. The outcome
