@@ -10,9 +10,9 @@ use Rattle.catalogue_standings.specs.Rows.{Verdict, accepted, refused, settle}
 use Rattle.refusals.specs.Table.{Call, on, reserve, put, grow, complete, pause, resume, release, show, standing, offer, accept}
 use Rattle.refusals.specs.Table.{showDated}
 use Rattle.card.specs.Calls.{Kept}
-use Rattle.ledger.specs.Ledger.{Sheet, verdictIn, deedIn, stepIn, after}
-use Rattle.ledger.specs.Steps.{Response, endOf, stateOn, Runs}
-use Rattle.carers.specs.Listed.{nameOf, AllIn, LeavesTheState, LeavesTheLedger}
+use Rattle.ledger.specs.Ledger.{Sheet, verdictIn, deedIn, stepIn}
+use Rattle.ledger.specs.Steps.{endOf, stateOn}
+use Rattle.carers.specs.Listed.{nameOf, LeavesTheState, LeavesTheLedger}
 
 -- what holds of the calls in a carer's row holds of a dated show and of a standing
 in-row : (P : Call → Type 0) → ((sheet place : ℕ) (date : Date) (buffer : List ℕ) → P (on sheet (showDated place date buffer)))

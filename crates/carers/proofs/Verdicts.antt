@@ -4,12 +4,12 @@
 use Prim.Native.Nat.{ℕ, _<_}
 use mathlib.Core.Path.{_≡_, refl, ap}
 use mathlib.Core.Bool.{Bool, true, false, not, _||_}
-use mathlib.Core.List.{List, [], _∷_}
+use mathlib.Core.List.{[], _∷_}
 use lib.Dec.{leb, eqb}
 use borrow.Author.Tests.{leb-false}
 use Rattle.calendar.specs.Calendar.{Date}
 use Rattle.calendar.specs.Term.{Term}
-use Rattle.catalogue_standings.specs.Rows.{Row, row, Verdict, firstOf, settle}
+use Rattle.catalogue_standings.specs.Rows.{row, firstOf, settle}
 use Rattle.catalogue_standings.specs.Standings.{isAbsent, isPaused, isOpen, isDamaged, lengthOf}
 use Rattle.catalogue_standings.specs.declared.Standing.{Standing}
 use Rattle.catalogue_standings.specs.declared.Standing.the-variants.{Absent, Paused, PausedWith, Open, Complete, Damaged}
