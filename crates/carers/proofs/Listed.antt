@@ -7,8 +7,9 @@ use mathlib.Core.List.{List, [], _∷_}
 use Rattle.calendar.specs.Calendar.{Date}
 use Rattle.roles.specs.Roles.{may, carerMay, carer}
 use Rattle.catalogue_standings.specs.Rows.{Verdict, accepted, refused, settle}
-use Rattle.refusals.specs.Table.{Call, on, reserve, put, grow, complete, pause, resume, release, show, standing, offer, accept}
+use Rattle.refusals.specs.Table.{reserve, put, grow, complete, pause, resume, release, show, standing, offer, accept}
 use Rattle.refusals.specs.Table.{showDated}
+use Rattle.ledger.specs.Calls.{Call, on, close}
 use Rattle.card.specs.Calls.{Kept}
 use Rattle.ledger.specs.Ledger.{Sheet, verdictIn, deedIn, stepIn}
 use Rattle.ledger.specs.Steps.{endOf, stateOn}
@@ -18,11 +19,11 @@ use Rattle.carers.specs.Listed.{nameOf, LeavesTheState, LeavesTheLedger}
 in-row : (P : Call → Type 0) → ((sheet place : ℕ) (date : Date) (buffer : List ℕ) → P (on sheet (showDated place date buffer)))
     → ((sheet : ℕ) → P (on sheet standing)) → (c : Call) → may carer (nameOf c) ≡ true → P c
 unfolding may carerMay
-in-row P shows stands (on sheet (reserve k placement)) e = absurd (false≢true e)
-in-row P shows stands (on sheet (offer k)) e = absurd (false≢true e)
-in-row P shows stands (on sheet (accept start k)) e = absurd (false≢true e)
+in-row P shows stands (on sheet (reserve limits k placement)) e = absurd (false≢true e)
+in-row P shows stands (on sheet (offer limits k)) e = absurd (false≢true e)
+in-row P shows stands (on sheet (accept limits start k)) e = absurd (false≢true e)
 in-row P shows stands (on sheet (put place payload)) e = absurd (false≢true e)
-in-row P shows stands (on sheet (grow m)) e = absurd (false≢true e)
+in-row P shows stands (on sheet (grow limits m)) e = absurd (false≢true e)
 in-row P shows stands (on sheet complete) e = absurd (false≢true e)
 in-row P shows stands (on sheet pause) e = absurd (false≢true e)
 in-row P shows stands (on sheet resume) e = absurd (false≢true e)
@@ -30,6 +31,7 @@ in-row P shows stands (on sheet release) e = absurd (false≢true e)
 in-row P shows stands (on sheet (show place buffer)) e = absurd (false≢true e)
 in-row P shows stands (on sheet (showDated place date buffer)) e = shows sheet place date buffer
 in-row P shows stands (on sheet standing) e = stands sheet
+in-row P shows stands close e = absurd (false≢true e)
 
 -- ---- what is kept
 

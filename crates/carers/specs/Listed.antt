@@ -8,19 +8,20 @@ use mathlib.Core.Bool.{true}
 use mathlib.Core.List.{List, [], _∷_}
 use Rattle.roles.specs.Roles as roles
 use Rattle.roles.specs.Roles.{may, carer}
-use Rattle.refusals.specs.Table.{Call, on, reserve, put, grow, complete, pause, resume, release, show, standing, offer, accept}
+use Rattle.refusals.specs.Table.{reserve, put, grow, complete, pause, resume, release, show, standing, offer, accept}
 use Rattle.refusals.specs.Table.{showDated}
+use Rattle.ledger.specs.Calls.{Call, on, close}
 use Rattle.card.specs.Calls.{Kept}
 use Rattle.ledger.specs.Ledger.{Sheet, after}
 use Rattle.ledger.specs.Steps.{Response, Runs}
 
 -- The name of a call.
 abbrev pub nameOf : Call → ℕ
-nameOf (on sheet (reserve k placement)) = roles.reserve
-nameOf (on sheet (offer k)) = roles.offer
-nameOf (on sheet (accept start k)) = roles.accept
+nameOf (on sheet (reserve limits k placement)) = roles.reserve
+nameOf (on sheet (offer limits k)) = roles.offer
+nameOf (on sheet (accept limits start k)) = roles.accept
 nameOf (on sheet (put place payload)) = roles.put
-nameOf (on sheet (grow m)) = roles.grow
+nameOf (on sheet (grow limits m)) = roles.grow
 nameOf (on sheet complete) = roles.complete
 nameOf (on sheet pause) = roles.pause
 nameOf (on sheet resume) = roles.resume
@@ -28,6 +29,7 @@ nameOf (on sheet release) = roles.release
 nameOf (on sheet (show place buffer)) = roles.show
 nameOf (on sheet (showDated place date buffer)) = roles.showDated
 nameOf (on sheet standing) = roles.standing
+nameOf close = roles.close
 
 -- Every call of the list is in the row of the role.
 abbrev pub AllIn : ℕ → List Call → Type 0
