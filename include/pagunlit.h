@@ -8,7 +8,7 @@
  *     gcc -std=c99 -Iinclude examples/course.c target/staticlib/libpagunlit.a -o course
  *
  * compiles a program against it. `tools/install PREFIX` copies this header, pagunlit_text.h and the archive, with a file for
- * pkg-config. The library allocates nothing, opens nothing and keeps nothing. Of the C library it needs memset alone.
+ * pkg-config. The library allocates nothing, opens nothing and keeps nothing. Of the C library it needs memset and memmove.
  * Stack: a survey takes up to 648 bytes, a reserve 1,696, a call with a summary 2,480, any other call 2,480 at most.
  * docs/C.md has more on all of this.
  *
