@@ -1,0 +1,234 @@
+/* What the library answered, in words and number. The words say what the number says, of the sheet and the blocks asked for. */
+#include "desk.h"
+#include "draw.h"
+#include "pagunlit_text.h"
+
+#include <stdio.h>
+#include <string.h>
+
+void answer_dose(uint32_t hundredths)
+{
+    if (hundredths == PAGUNLIT_COUNT_ABSENT)
+        printf("absent");
+    else
+        printf("%u.%02u", hundredths / 100, hundredths % 100);
+}
+
+void answer_text(const uint8_t *payload, size_t length, char text[DESK_TEXT])
+{
+    size_t at = 0;
+
+    while (length > 0 && payload[length - 1] == 0)
+        length--;
+    for (size_t i = 0; i < length; i++) {
+        if (payload[i] >= 0x20 && payload[i] < 0x7F)
+            text[at++] = (char)payload[i];
+        else
+            at += (size_t)sprintf(text + at, "\\x%02X", payload[i]);
+    }
+    text[at] = '\0';
+}
+
+static void print_day(uint32_t day)
+{
+    if (day > 36524) {
+        printf("day %u", day);
+        return;
+    }
+    desk_date date = date_of(day);
+    printf("%u-%02u-%02u", date.year, date.month, date.day);
+}
+
+static uint32_t number_at(const uint8_t *bytes)
+{
+    return (uint32_t)bytes[0] << 24 | (uint32_t)bytes[1] << 16 | (uint32_t)bytes[2] << 8 | bytes[3];
+}
+
+void answer_payload(const uint8_t payload[PAGUNLIT_PAYLOAD], int dated)
+{
+    char text[DESK_TEXT];
+    size_t from = dated ? 8 : 0;
+
+    if (dated) {
+        printf("    from ");
+        print_day(number_at(payload));
+        printf(" to ");
+        print_day(number_at(payload + 4));
+        putchar('\n');
+    }
+    answer_text(payload + from, PAGUNLIT_PAYLOAD - from, text);
+    if (strlen(text) > 80)
+        strcpy(text + 76, " ...");
+    printf("    \"%s\"\n", text);
+}
+
+/* Where a number has more to say of this call than document 01's table has: 0 if it has not. */
+static int refused_sheet(const desk_said *said)
+{
+    uint32_t sheet = said->sheet;
+
+    switch (said->row) {
+    case ROW_SHEET:
+        return printf("there is no sheet %u", sheet);
+    case ROW_ENTRY:
+        return printf("the entry of sheet %u is damaged", sheet);
+    case ROW_ABSENT:
+        return printf("sheet %u is Absent", sheet);
+    case ROW_PAUSED:
+        return printf("sheet %u is Paused%s", sheet, said->call == CALL_RESUME ? " without blocks" : "");
+    case ROW_OPEN:
+        return printf("sheet %u is Open", sheet);
+    case ROW_COMPLETE:
+        return printf("sheet %u is Complete", sheet);
+    case ROW_PLACE:
+        return printf("sheet %u has no place %u", sheet, said->count);
+    case ROW_BLANK:
+        return printf("place %u is blank", said->outcome.first);
+    case ROW_FIRST:
+        return printf("the block of place 0 is not sound");
+    case ROW_BLOCK:
+        return said->call == CALL_COMPLETE ? printf("a block of sheet %u is neither blank nor sound", sheet)
+                                           : printf("the block of place %u is not sound", said->count);
+    default:
+        return 0;
+    }
+}
+
+static int refused_blocks(const desk *d)
+{
+    const desk_said *said = &d->said;
+
+    switch (said->row) {
+    case ROW_NONE:
+        return printf("no block was asked for");
+    case ROW_FIT:
+        return printf("no run of %u free blocks%s", said->count, said->call == CALL_PLACED ? " within these figures" : "");
+    case ROW_NEXT:
+        return printf("the next %u blocks after sheet %u are not all free and on the card", said->count, said->sheet);
+    case ROW_RUN:
+        return printf("the %u blocks from %u on are not all free and on the card", said->count, said->start);
+    case ROW_LIMIT: {
+        uint32_t wing = said->sheet / PAGUNLIT_WING_SHEETS;
+
+        return printf("wing %u would hold more than its limit of %u blocks", wing, d->card.limits[wing % PAGUNLIT_WINGS]);
+    }
+    case ROW_DATE:
+        return printf("there is no such date from 2000 to 2099");
+    case ROW_TERM:
+        return printf("the day is outside the term of sheet %u", said->sheet);
+    case ROW_FREE:
+        return printf("the free count contradicts the call");
+    case ROW_STATE:
+        return printf("the state is not sound");
+    default:
+        return 0;
+    }
+}
+
+static void refused(const desk *d)
+{
+    printf("refused, %u: ", d->said.outcome.number);
+    if (!refused_sheet(&d->said) && !refused_blocks(d))
+        printf("%s", pagunlit_meaning(d->said.outcome.number));
+    putchar('\n');
+}
+
+static int done_blocks(const desk_said *said)
+{
+    const pagunlit_outcome *o = &said->outcome;
+
+    switch (said->call) {
+    case CALL_SEARCH:
+        return printf("%u blocks would start at block %u, with space for %u", said->count, o->first, o->second);
+    case CALL_SURVEY:
+        return printf("free blocks %u, runs of them %u, longest run %u", o->first, o->second, o->third);
+    case CALL_RESERVE:
+    case CALL_PLACED:
+    case CALL_ACCEPT:
+        return printf("sheet %u is Open from block %u on, with space for %u", said->sheet, o->first, o->second);
+    case CALL_OFFER:
+        return printf("sheet %u would start at block %u, with %u places", said->sheet, o->first, o->second);
+    case CALL_GROW:
+        return printf("sheet %u has %u more blank places", said->sheet, said->count);
+    case CALL_CHECK:
+        return printf("%s", o->first ? "the summary is the map's own" : "the summary is not the map's own");
+    default:
+        return 0;
+    }
+}
+
+static int done_sheet(const desk_said *said)
+{
+    const pagunlit_outcome *o = &said->outcome;
+
+    switch (said->call) {
+    case CALL_COMPLETE:
+    case CALL_RESUME:
+        return printf("sheet %u is Complete", said->sheet);
+    case CALL_PAUSE:
+        return printf("sheet %u is Paused", said->sheet);
+    case CALL_RELEASE:
+        return printf("sheet %u is Absent", said->sheet);
+    case CALL_STANDING:
+        return printf("sheet %u: %s, start %u, length %u", said->sheet, draw_standing(o->first), o->second, o->third);
+    case CALL_PUT:
+        return printf("place %u of sheet %u is filled", said->count, said->sheet);
+    default:
+        return 0;
+    }
+}
+
+/* The calls that are for no sheet, or answer with more than a sentence. */
+static int done_other(const desk_said *said)
+{
+    switch (said->call) {
+    case CALL_FRESH:
+        return printf("all blocks are free, all sheets Absent");
+    case CALL_SHOW:
+    case CALL_DATED:
+        return printf("place %u of sheet %u", said->count, said->sheet);
+    case CALL_BUILD:
+        return printf("the summary is built from the map");
+    case CALL_SAVE:
+        return printf("an image of %u bytes", said->count);
+    case CALL_LOAD:
+        return printf("the map and the catalogue are those of the image");
+    case CALL_CLOSE:
+        return printf("the gaps are closed");
+    default:
+        return 0;
+    }
+}
+
+static void done(const desk_said *said)
+{
+    printf("done, 0: ");
+    if (said->call == CALL_READ_COUNT) {
+        printf("count %u of place %u is ", said->start, said->count);
+        answer_dose(said->hundredths);
+    } else if (!done_blocks(said) && !done_sheet(said)) {
+        done_other(said);
+    }
+    putchar('\n');
+    if (said->shown)
+        answer_payload(said->payload, said->call == CALL_DATED && said->count == 0);
+}
+
+void answer(desk *d)
+{
+    char line[65];
+
+    d->said.made = 1;
+    d->said.row = rows_held(&d->card, &d->said, d->image, d->imagelen);
+    if (d->said.outcome.number == PAGUNLIT_DONE)
+        done(&d->said);
+    else
+        refused(d);
+    draw_line(&d->card, line, 64);
+    if (line[0])
+        printf("    [%s]\n", line);
+    else
+        puts("    (there is no card yet: `fresh 8 4` makes one of 8 blocks and 4 sheets)");
+    if (d->card.broken && d->said.outcome.number == PAGUNLIT_DONE)
+        puts("    (damaged on purpose: this card is not what a list of calls left)");
+}

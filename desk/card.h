@@ -1,0 +1,49 @@
+/* The memory of one card: all that the library is lent. The console owns it, as the dispenser's program does. */
+#ifndef DESK_CARD_H
+#define DESK_CARD_H
+
+#include "pagunlit.h"
+
+enum { DESK_PHARMACIST = 1, DESK_CARER = 2, DESK_SERVICE = 3 };
+
+typedef struct {
+    pagunlit_shape shape;
+    uint64_t *map;
+    size_t maplen;
+    pagunlit_entry *catalogue;
+    size_t cataloguelen;
+    uint8_t *card;
+    size_t cardlen;
+    uint8_t *seen;      /* the card's bytes as the last command left them, so that undo knows what they were */
+    uint32_t *summary;
+    size_t summarylen;
+    uint64_t *scratch;
+    size_t scratchlen;
+    uint32_t limits[PAGUNLIT_WINGS];
+    uint32_t role;
+    int with_summary;   /* the calls that have a form with a summary are made in that form */
+    int broken;         /* something was damaged on purpose */
+} desk_card;
+
+/* A card of `blocks` blocks and `sheets` sheets whose memory is all zeros. 0 if there is not enough memory. Where a number is
+ * above the library's limit, the memory is cut: the library has to refuse such a card, and it has to be asked. */
+int card_make(desk_card *card, uint32_t blocks, uint32_t sheets);
+
+/* A copy of all but the card's bytes: those may be long, and are kept block by block. 0 if there is not enough memory. */
+int card_copy(desk_card *copy, const desk_card *card);
+
+void card_free(desk_card *card);
+
+/* The limits, the role and what else was set by a command goes with the next card. */
+void card_settings(desk_card *card, const desk_card *from);
+
+/* How many blocks the memory is for. Drawing goes by this, and not by the shape, which may be damaged. */
+uint32_t card_blocks(const desk_card *card);
+
+int card_is_free(const desk_card *card, uint32_t block);
+int card_is_blank(const desk_card *card, uint32_t block);
+
+/* The bytes of the block of a place, or NULL where the entry has no such block on the card. */
+const uint8_t *card_place(const desk_card *card, uint32_t sheet, uint32_t place);
+
+#endif

@@ -1,0 +1,196 @@
+/* The commands that are about the console itself. */
+#include "desk.h"
+#include "draw.h"
+
+#include <stdio.h>
+#include <string.h>
+
+static void list_limits(const desk *d)
+{
+    for (uint32_t wing = 0; wing < PAGUNLIT_WINGS; wing++) {
+        uint32_t first = wing * PAGUNLIT_WING_SHEETS;
+
+        printf("    wing %u (sheets %u to %u): ", wing, first, first + PAGUNLIT_WING_SHEETS - 1);
+        if (d->card.limits[wing] == UINT32_MAX)
+            puts("no limit");
+        else
+            printf("%u blocks\n", d->card.limits[wing]);
+    }
+}
+
+COMMAND(limit)
+{
+    uint32_t wing, limit = UINT32_MAX;
+
+    if (words->count == 1) {
+        list_limits(d);
+        return;
+    }
+    if (words->count != 3) {
+        command_usage(d, words);
+        return;
+    }
+    if (!command_number(d, words, 1, "the wing", &wing) ||
+        (strcmp(words->word[2], "none") != 0 && !command_number(d, words, 2, "the limit", &limit)))
+        return;
+    if (wing >= PAGUNLIT_WINGS) {
+        desk_wrong(d, "There are %d wings, 0 to %d. The wing of a sheet is its number divided by %d, rounded down.",
+                   PAGUNLIT_WINGS, PAGUNLIT_WINGS - 1, PAGUNLIT_WING_SHEETS);
+        return;
+    }
+    d->card.limits[wing] = limit;
+    if (limit == UINT32_MAX)
+        printf("Wing %u has no limit.\n", wing);
+    else
+        printf("Wing %u may hold %u blocks.\n", wing, limit);
+}
+
+COMMAND(role)
+{
+    static const char *const names[] = {"", "pharmacist", "carer", "service"};
+
+    if (words->count > 2) {
+        command_usage(d, words);
+        return;
+    }
+    for (uint32_t role = DESK_PHARMACIST; role <= DESK_SERVICE; role++)
+        if (strcmp(words_at(words, 1), names[role]) == 0) {
+            d->card.role = role;
+            printf("The role is %u, %s. The library does not ask for it yet: any role may make every call.\n", role,
+                   names[role]);
+            return;
+        }
+    if (words->count == 1)
+        printf("The role is %u, %s.\n", d->card.role, names[d->card.role]);
+    else
+        desk_wrong(d, "`%s` is no role: there are pharmacist, carer and service.", words->word[1]);
+}
+
+COMMAND(card)
+{
+    if (words->count != 1) {
+        command_usage(d, words);
+        return;
+    }
+    printf("A card of %u blocks and %zu sheets, %u of its blocks free.\n", d->card.shape.blocks, d->card.cataloguelen,
+           d->card.shape.free);
+    if (card_blocks(&d->card) > 0)
+        draw_grid(&d->card);
+}
+
+COMMAND(picture)
+{
+    if (words->count != 2)
+        command_usage(d, words);
+    else if (card_blocks(&d->card) == 0)
+        desk_wrong(d, "There is no card to draw yet: `fresh 8 4` makes one.");
+    else if (picture_write(d, words->word[1]))
+        printf("The picture is in %s.\n", words->word[1]);
+    else
+        desk_wrong(d, "The picture could not be written to %s.", words->word[1]);
+}
+
+COMMAND(why)
+{
+    if (words->count != 1)
+        command_usage(d, words);
+    else
+        rows_why(&d->said);
+}
+
+static void unmet(desk *d, const char *wanted, const char *was)
+{
+    printf("NOT AS EXPECTED (line %zu): expected %s, and it was %s\n", d->number, wanted, was);
+    d->failed = 1;
+}
+
+/* `expect 9 1`: the number, and as many of the values as are named. */
+static void expect_numbers(desk *d, const desk_words *words)
+{
+    const pagunlit_outcome *o = &d->said.outcome;
+    uint32_t was[4] = {o->number, o->first, o->second, o->third}, wanted;
+    char text[64];
+
+    for (int i = 1; i < words->count; i++) {
+        if (i > 4 || !read_number(words->word[i], &wanted)) {
+            command_usage(d, words);
+            return;
+        }
+        if (wanted != was[i - 1]) {
+            snprintf(text, sizeof text, "%u %u %u %u", was[0], was[1], was[2], was[3]);
+            unmet(d, words_rest(words, 1), text);
+            return;
+        }
+    }
+}
+
+static void expect_text(desk *d, const char *wanted, const char *was)
+{
+    if (strcmp(wanted, was) != 0)
+        unmet(d, wanted, was);
+}
+
+/* What a show has shown, or a count that was read. */
+static void expect_shown(desk *d, const desk_words *words)
+{
+    char text[DESK_TEXT];
+    int dated = d->said.call == CALL_DATED && d->said.count == 0;
+    size_t from = dated ? 8 : 0;
+
+    if (d->said.call == CALL_READ_COUNT && d->said.outcome.number == PAGUNLIT_DONE) {
+        uint32_t dose = 0;
+
+        if (!read_dose(words_at(words, 2), &dose) || dose != d->said.hundredths)
+            unmet(d, words_rest(words, 2), "another count");
+    } else if (!d->said.shown) {
+        unmet(d, words_rest(words, 2), "not shown");
+    } else {
+        answer_text(d->said.payload + from, PAGUNLIT_PAYLOAD - from, text);
+        expect_text(d, words_rest(words, 2), text);
+    }
+}
+
+COMMAND(expect)
+{
+    char line[65];
+
+    if (words->count < 2) {
+        command_usage(d, words);
+    } else if (strcmp(words->word[1], "card") == 0) {
+        draw_line(&d->card, line, 64);
+        expect_text(d, words_rest(words, 2), line);
+    } else if (strcmp(words->word[1], "shown") == 0) {
+        expect_shown(d, words);
+    } else if (!d->said.made) {
+        unmet(d, words_rest(words, 1), "no call yet");
+    } else {
+        expect_numbers(d, words);
+    }
+}
+
+COMMAND(history)
+{
+    (void)words;
+    for (size_t i = 0; i < d->linecount; i++)
+        printf("%5zu  %s\n", i + 1, d->lines[i]);
+}
+
+COMMAND(undo)
+{
+    char line[65];
+
+    if (words->count != 1) {
+        command_usage(d, words);
+        return;
+    }
+    steps_undo(d);
+    draw_line(&d->card, line, 64);
+    if (line[0])
+        printf("    [%s]\n", line);
+}
+
+COMMAND(quit)
+{
+    (void)words;
+    d->over = 1;
+}
