@@ -111,7 +111,7 @@ void command_help(desk *d, const desk_words *words)
         help_one(d, words->word[1]);
         return;
     }
-    puts("A card is blocks in a row; a sheet is a prescription that holds a run of them. Sheets, places and blocks count from 0.");
+    puts("A card is blocks in a row; a sheet is a prescription that holds a run of them. All are counted from 0.");
     for (const desk_command *command = commands; command->name; command++)
         printf("  %-9s %s\n", command->name, command->text);
     puts("`help reserve` has its arguments, and what can refuse it. What follows a # is a comment.");

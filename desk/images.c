@@ -196,8 +196,7 @@ static void break_bit(desk *d, uint32_t block)
 static void break_image(desk *d, uint32_t byte)
 {
     if (byte >= d->imagelen) {
-        desk_wrong(d, d->image ? "The image has %zu bytes, counted from 0." : "No image was saved yet (%zu bytes): `save` first.",
-                   d->imagelen);
+        desk_wrong(d, "The saved image has %zu bytes, counted from 0; `save` makes one.", d->imagelen);
         return;
     }
     d->image[byte] ^= 1;

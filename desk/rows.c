@@ -32,7 +32,8 @@ static const struct { uint32_t number; const char *sentence; } table[ROWS] = {
     [ROW_LENT] = {1, "01: lent map, catalogue or scratch has another length"},
     [ROW_CONTENT] = {14, "01: image content: the state isn't sound or the fill not zero"},
     [ROW_PAYLOAD] = {3, "01: a payload has the wrong length"},
-    [ROW_DIGIT] = {16, "02 (e): another digit in the four bytes read, a number out of range when writing, a count of 124 or more"},
+    [ROW_DIGIT] = {16, "02 (e): another digit in the four bytes read, a number out of range when writing, a count number of 124"
+                       " or more"},
 };
 
 #define TO_SHEET ROW_SIZE, ROW_SHEET, ROW_ENTRY

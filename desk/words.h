@@ -29,7 +29,8 @@ const char *words_rest(const desk_words *words, int i);
 int read_number(const char *word, uint32_t *number);
 int read_date(const char *word, desk_date *date);
 
-/* 2.50 or 3 as hundredths, `absent` as PAGUNLIT_COUNT_ABSENT. More than a count can hold is read too: the library refuses it. */
+/* 2.50 or 3 as hundredths, `absent` as PAGUNLIT_COUNT_ABSENT. More than a count can hold is read too, for the library to
+ * refuse. */
 int read_dose(const char *word, uint32_t *hundredths);
 
 /* A date as its day since 1 January 2000, for the two days of a term. 0 where there is no such day in the years 2000 to 2099:

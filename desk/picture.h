@@ -1,0 +1,38 @@
+/* The parts of a picture of the card: how large it is, and where a block stands in it. */
+#ifndef DESK_PICTURE_H
+#define DESK_PICTURE_H
+
+#include "desk.h"
+#include "draw.h"
+
+#include <stdio.h>
+
+/* The blocks stand in rows of `columns`. Lengths are in pixels. */
+typedef struct {
+    FILE *file;
+    uint32_t blocks, columns, rows;
+    double unit, height; /* of a block and of a row */
+    double left, top;
+    double width, depth; /* of the whole picture */
+} desk_picture;
+
+/* What marks a run in the picture. */
+typedef struct {
+    const char *fill, *ink; /* the colour, and that of letters on it */
+    const char *over;       /* a pattern above the colour, or NULL */
+    int dashed;
+} desk_look;
+
+enum { PICTURE_LEGEND = 210, PICTURE_GAP = 8 };
+
+desk_look picture_look(const desk_card *card, int32_t sheet);
+double picture_x(const desk_picture *p, uint32_t block);
+double picture_y(const desk_picture *p, uint32_t block);
+
+/* A rectangle that looks like a run. */
+void picture_box(const desk_picture *p, double x, double y, double width, double height, desk_look look);
+
+/* legend.c: what the looks mean, and the sheets of the card. */
+void picture_legend(const desk_picture *p, desk_card *card);
+
+#endif
