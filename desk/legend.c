@@ -15,9 +15,10 @@ static void line_of(const desk_picture *p, double x, double y, desk_look look, i
 /* How sheets stand, and what else a block may be. */
 static void meanings(const desk_picture *p, double y)
 {
-    static const desk_look complete = {"#BBBBBB", "#000000", NULL, 0}, open = {"#BBBBBB", "#000000", NULL, 1},
-                           paused = {"#777777", "#000000", "url(#paused)", 0}, nobody = {"#FFFFFF", "#000000", NULL, 0},
-                           wrong = {"#000000", "#FFFFFF", "url(#wrong)", 0};
+    static const desk_look complete = {"#BBBBBB", "#000000", NULL, 0, 0}, open = {"#BBBBBB", "#000000", NULL, 1, 0},
+                           paused = {"#777777", "#000000", "url(#paused)", 0, 0},
+                           nobody = {"#FFFFFF", "#000000", NULL, 0, 0},
+                           wrong = {"#000000", "#FFFFFF", "url(#wrong)", 0, 0};
 
     line_of(p, 20, y, complete, 0, "Complete");
     line_of(p, 20, y + LINE, open, 1, "Open (hollow: blank place)");
@@ -52,8 +53,8 @@ void picture_legend(const desk_picture *p, desk_card *card)
     uint32_t listed = 0, sheet = 0;
 
     fprintf(p->file, "<text x=\"20\" y=\"%.2f\" font-size=\"14\" font-weight=\"bold\">Marks</text>\n", top - 12);
-    fprintf(p->file, "<text x=\"%d\" y=\"%.2f\" font-size=\"14\" font-weight=\"bold\">Sheets, by number</text>\n", 20 + COLUMN + 10,
-            top - 12);
+    fprintf(p->file, "<text x=\"%d\" y=\"%.2f\" font-size=\"14\" font-weight=\"bold\">Sheets, by number</text>\n",
+            20 + COLUMN + 10, top - 12);
     meanings(p, top);
     for (; sheet < card->cataloguelen && listed < LISTED; sheet++)
         listed += (uint32_t)sheet_at(p, card, sheet, 20 + COLUMN * (1 + listed / LINES) + 10, top + LINE * (listed % LINES));

@@ -5,15 +5,16 @@
 #include "picture.h"
 
 #include <stdlib.h>
+#include <string.h>
 
 /* From dark to bright, in an order in which neighbours differ most. */
 static const desk_look colours[] = {
-    {"#0072B2", "#FFFFFF", NULL, 0}, {"#F5EB6B", "#000000", NULL, 0}, {"#332288", "#FFFFFF", NULL, 0},
-    {"#F0AE1A", "#000000", NULL, 0}, {"#009E73", "#FFFFFF", NULL, 0}, {"#8CCBF0", "#000000", NULL, 0},
-    {"#A34A00", "#FFFFFF", NULL, 0}, {"#E3A6C6", "#000000", NULL, 0},
+    {"#0072B2", "#FFFFFF", NULL, 0, 0}, {"#F5EB6B", "#000000", NULL, 0, 0}, {"#332288", "#FFFFFF", NULL, 0, 0},
+    {"#F0AE1A", "#000000", NULL, 0, 0}, {"#009E73", "#FFFFFF", NULL, 0, 0}, {"#8CCBF0", "#000000", NULL, 0, 0},
+    {"#A34A00", "#FFFFFF", NULL, 0, 0}, {"#E3A6C6", "#000000", NULL, 0, 0},
 };
-static const desk_look nobody = {"#FFFFFF", "#444444", NULL, 0};
-static const desk_look wrong = {"#000000", "#FFFFFF", "url(#wrong)", 0};
+static const desk_look nobody = {"#FFFFFF", "#444444", NULL, 0, 1};
+static const desk_look wrong = {"#000000", "#FFFFFF", "url(#wrong)", 0, 0};
 
 desk_look picture_look(const desk_card *card, int32_t sheet)
 {
@@ -59,14 +60,17 @@ void picture_box(const desk_picture *p, double x, double y, double width, double
     rectangle(p, x, y, width, height, how);
 }
 
-/* Letters on a part of a run, with something under them where there is a pattern. */
-static void letters(const desk_picture *p, double x, double y, double width, desk_look look, const char *text, int is_free)
+/* Letters on a part of a run. On a pattern they get a plain ground. */
+static void letters(const desk_picture *p, double x, double y, double width, desk_look look, const char *text)
 {
-    double size = p->height < 26 ? 11 : 13, middle = x + width / 2, base = y + p->height / 2 + size * 0.36;
+    double size = p->height < 26 ? 11 : 13, middle = x + width / 2, wide = 8.0 * (double)strlen(text) + 6;
+    char how[64];
 
-    fprintf(p->file, "<text x=\"%.2f\" y=\"%.2f\" font-size=\"%.0f\" text-anchor=\"middle\" fill=\"%s\" stroke=\"%s\""
-            " stroke-width=\"%d\" paint-order=\"stroke\"%s>%s</text>\n",
-            middle, base, size, look.ink, look.fill, look.over ? 5 : 0, is_free ? " font-style=\"italic\"" : "", text);
+    snprintf(how, sizeof how, "fill=\"%s\"", look.fill);
+    if (look.over)
+        rectangle(p, middle - wide / 2, y + p->height / 2 - size * 0.75, wide, size * 1.5, how);
+    fprintf(p->file, "<text x=\"%.2f\" y=\"%.2f\" font-size=\"%.0f\" text-anchor=\"middle\" fill=\"%s\"%s>%s</text>\n",
+            middle, y + p->height / 2 + size * 0.36, size, look.ink, look.slanted ? " font-style=\"italic\"" : "", text);
 }
 
 /* A run's text where it is wide enough: the number of the sheet, or how many blocks are free. */
@@ -82,7 +86,7 @@ static void name_part(const desk_picture *p, double x, double y, double width, c
     else
         length = snprintf(text, sizeof text, "%c", draw_letter(run->sheet));
     if (width >= 7.5 * length + 2)
-        letters(p, x, y, width, look, text, run->sheet == RUN_FREE);
+        letters(p, x, y, width, look, text);
 }
 
 /* The places of an Open sheet that are blank, and the frames of blocks, where a block is wide enough to be seen. */
@@ -177,8 +181,8 @@ static void draw_title(const desk_picture *p, desk_card *card)
 {
     pagunlit_outcome survey = library_survey(card);
 
-    fprintf(p->file, "<text x=\"20\" y=\"32\" font-size=\"20\" font-weight=\"bold\">A card of %u blocks and %zu sheets</text>\n",
-            p->blocks, card->cataloguelen);
+    fprintf(p->file, "<text x=\"20\" y=\"32\" font-size=\"20\" font-weight=\"bold\">A card of %u blocks and %zu sheets"
+            "</text>\n", p->blocks, card->cataloguelen);
     fprintf(p->file, "<text x=\"20\" y=\"56\" font-size=\"14\">");
     if (survey.number == PAGUNLIT_DONE)
         fprintf(p->file, "%u blocks are free, in %u %s; the longest has %u.", survey.first, survey.second,

@@ -20,7 +20,7 @@ typedef struct {
 typedef struct {
     const char *fill, *ink; /* the colour, and that of letters on it */
     const char *over;       /* a pattern above the colour, or NULL */
-    int dashed;
+    int dashed, slanted;
 } desk_look;
 
 enum { PICTURE_LEGEND = 210, PICTURE_GAP = 8 };
