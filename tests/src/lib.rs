@@ -8,6 +8,7 @@ pub mod call;
 pub mod calls;
 pub mod card;
 pub mod counts;
+pub mod desk;
 pub mod image;
 pub mod ledger;
 pub mod map;

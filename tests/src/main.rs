@@ -7,9 +7,10 @@
 //!
 //! `image` writes the card printer's example image, `print` prints what the printer must print of the image on standard
 //! input, and `printer PROGRAM` runs a card printer on many images and compares. `worked-image` and `worked-text` write the
-//! image and the text of a card whose values all differ, as definitions for the theorems that hold them.
+//! image and the text of a card whose values all differ, as definitions for the theorems that hold them. `desk SEED` writes a
+//! random script for the console in desk/, with what it must answer.
 
-use bitwise::{calls, map, printer, worked};
+use bitwise::{calls, desk, map, printer, worked};
 use std::io::{Read, Write};
 
 fn main() {
@@ -29,12 +30,17 @@ fn main() {
         }
         Some("worked-image") => print!("{}", worked::image()),
         Some("worked-text") => print!("{}", worked::text()),
+        Some("desk") => {
+            let seed = std::env::args().nth(2).expect("the seed of the script");
+            print!("{}", desk::script(seed.parse().expect("a number")));
+        }
         Some("printer") => {
             let program = std::env::args().nth(2).expect("the program to run");
             std::process::exit(!printer::holds(&program) as i32);
         }
         _ => {
             eprintln!("usage: bitwise map-list | map | calls | image | print | worked-image | worked-text | printer PROGRAM");
+            eprintln!("       bitwise desk SEED");
             std::process::exit(2);
         }
     }
