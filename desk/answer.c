@@ -14,19 +14,48 @@ void answer_dose(uint32_t hundredths)
         printf("%u.%02u", hundredths / 100, hundredths % 100);
 }
 
+/* How many bytes the letter at hand has, in UTF-8; 0 where they are none, or would steer a terminal. */
+static size_t letter_at(const uint8_t *bytes, size_t left)
+{
+    uint8_t head = bytes[0];
+    size_t length = head >= 0xC2 && head < 0xE0 ? 2 : head >= 0xE0 && head < 0xF0 ? 3 : head >= 0xF0 && head < 0xF5 ? 4 : 0;
+
+    if (head >= 0x20 && head < 0x7F)
+        return 1;
+    if (length > left || (head == 0xC2 && bytes[1] < 0xA0))
+        return 0;
+    for (size_t i = 1; i < length; i++)
+        if ((bytes[i] & 0xC0) != 0x80)
+            return 0;
+    return length;
+}
+
 void answer_text(const uint8_t *payload, size_t length, char text[DESK_TEXT])
 {
-    size_t at = 0;
+    size_t at = 0, letter;
 
     while (length > 0 && payload[length - 1] == 0)
         length--;
-    for (size_t i = 0; i < length; i++) {
-        if (payload[i] >= 0x20 && payload[i] < 0x7F)
-            text[at++] = (char)payload[i];
-        else
+    for (size_t i = 0; i < length; i += letter > 0 ? letter : 1) {
+        letter = letter_at(payload + i, length - i);
+        if (letter == 0)
             at += (size_t)sprintf(text + at, "\\x%02X", payload[i]);
+        memcpy(text + at, payload + i, letter);
+        at += letter;
     }
     text[at] = '\0';
+}
+
+/* Cuts a text that is too long for a line, and not in the middle of a letter. */
+static void shorten(char *text)
+{
+    size_t at = 76;
+
+    if (strlen(text) <= 80)
+        return;
+    while (((unsigned char)text[at] & 0xC0) == 0x80)
+        at--;
+    strcpy(text + at, " ...");
 }
 
 static void print_day(uint32_t day)
@@ -57,8 +86,7 @@ void answer_payload(const uint8_t payload[PAGUNLIT_PAYLOAD], int dated)
         putchar('\n');
     }
     answer_text(payload + from, PAGUNLIT_PAYLOAD - from, text);
-    if (strlen(text) > 80)
-        strcpy(text + 76, " ...");
+    shorten(text);
     printf("    \"%s\"\n", text);
 }
 

@@ -46,19 +46,43 @@ static void run_line(desk *d, char *line)
     fflush(stdout);
 }
 
+/* What somebody who types sees before each line: who makes the calls. */
+static const char *prompt(const desk *d)
+{
+    switch (d->card.role) {
+    case DESK_CARER:
+        return "carer> ";
+    case DESK_SERVICE:
+        return "service> ";
+    default:
+        return "pharmacist> ";
+    }
+}
+
+/* The next line without its end, or 0. One with a zero byte in it is no text, and is made one that is refused as such. */
+static int next_line(const desk *d, char **line, size_t *size, FILE *input)
+{
+    if (d->terminal) {
+        fputs(prompt(d), stdout);
+        fflush(stdout);
+    }
+    ssize_t length = getline(line, size, input);
+    if (length < 0)
+        return 0;
+    if (length > 0 && (*line)[length - 1] == '\n')
+        (*line)[--length] = '\0';
+    if (strlen(*line) != (size_t)length)
+        strcpy(*line, "\x01");
+    return 1;
+}
+
 static void run_stream(desk *d, FILE *input)
 {
     char *line = NULL;
     size_t size = 0;
-    ssize_t length;
 
-    while (!d->over && (length = getline(&line, &size, input)) >= 0) {
-        if (length > 0 && line[length - 1] == '\n')
-            line[--length] = '\0';
-        if (strlen(line) != (size_t)length)
-            strcpy(line, "\x01"); /* a line with a zero byte in it is no text */
+    while (!d->over && next_line(d, &line, &size, input))
         run_line(d, line);
-    }
     free(line);
 }
 
@@ -68,7 +92,7 @@ static void run_terminal(desk *d)
 #ifdef DESK_EDITLINE
     char *line;
 
-    while (!d->over && (line = readline("card> "))) {
+    while (!d->over && (line = readline(prompt(d)))) {
         if (line[0])
             add_history(line);
         run_line(d, line);

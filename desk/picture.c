@@ -49,14 +49,12 @@ void picture_box(const desk_picture *p, double x, double y, double width, double
 {
     char how[128];
 
-    snprintf(how, sizeof how, "fill=\"%s\"", look.fill);
-    rectangle(p, x, y, width, height, how);
     if (look.over) {
-        snprintf(how, sizeof how, "fill=\"%s\"", look.over);
+        snprintf(how, sizeof how, "fill=\"%s\"", look.fill);
         rectangle(p, x, y, width, height, how);
     }
-    snprintf(how, sizeof how, "fill=\"none\" stroke=\"#000000\" stroke-width=\"%s\"%s", width < 6 ? "0.3" : "1.5",
-             look.dashed && width >= 6 ? " stroke-dasharray=\"4 3\"" : "");
+    snprintf(how, sizeof how, "fill=\"%s\" stroke=\"#000000\" stroke-width=\"%s\"%s", look.over ? look.over : look.fill,
+             width < 6 ? "0.3" : "1.5", look.dashed && width >= 6 ? " stroke-dasharray=\"4 3\"" : "");
     rectangle(p, x, y, width, height, how);
 }
 

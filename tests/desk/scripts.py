@@ -1,0 +1,116 @@
+#!/usr/bin/env python3
+"""Scripts for the console, made from others or at random.
+
+    tests/desk/scripts.py undone < SCRIPT    every call that was done is taken back and made again
+    tests/desk/scripts.py wrong < SCRIPT     the last expected number is another
+    tests/desk/scripts.py bytes SEED         lines of any bytes, some of them nearly commands
+    tests/desk/scripts.py large              a card of full size, filled and with gaps
+    tests/desk/scripts.py terminal PROGRAM   runs the console on a terminal, and looks at what it prints
+"""
+import os
+import pty
+import random
+import sys
+
+CHANGING = ('reserve', 'accept', 'grow', 'put', 'term', 'complete', 'pause', 'resume', 'release')
+NAMES = ('fresh reserve put term count complete show grow pause resume release offer accept standing search survey close save '
+         'load limit summary role break card why expect history undo help').split()
+WORDS = ('0 1 2 3 7 8 63 64 128 1024 4096 4294967295 4294967296 -1 x on off check from before step block byte entry bit image '
+         'free mark start length none absent 2.50 99999999.99 1e9 2026-11-15 2026-13-45 0-0-0 shown card carer').split()
+
+
+def undone(lines):
+    """A line that was given before may change nothing, and then undo would take back another: it is made once."""
+    seen = set()
+    for line, after in zip(lines, lines[1:] + ['']):
+        yield line
+        if line.split()[0] in CHANGING and after.startswith('expect 0 ') and line not in seen:
+            yield 'undo'
+            yield line
+        seen.add(line)
+
+
+def wrong(lines):
+    last = max(i for i, line in enumerate(lines) if line.startswith('expect ') and line.split()[1].isdigit())
+    return lines[:last] + ['expect 99'] + lines[last + 1:]
+
+
+def nearly(r):
+    """A line that begins like a command, and goes on anyhow. No card is so large that a list of them takes long."""
+    if r.random() < 0.1:
+        return f'fresh {r.choice([0, 1, 8, 64, 65, 300, 262144, 262145])} {r.choice([0, 1, 4, 1024, 1025])}'.encode()
+    words = [r.choice(NAMES)] + [r.choice(WORDS) for _ in range(r.randrange(7))]
+    return ' '.join(words).encode()
+
+
+def any_bytes(r):
+    return bytes(r.randrange(256) for _ in range(r.choice([0, 1, 5, 40, 3000]))).replace(b'\n', b'')
+
+
+def spoiled(r):
+    line = bytearray(nearly(r))
+    for _ in range(r.randrange(3)):
+        line[r.randrange(len(line))] = r.randrange(256)
+    return bytes(line).replace(b'\n', b'')
+
+
+def random_bytes(seed):
+    r = random.Random(seed)
+    lines = [r.choice([nearly, nearly, nearly, any_bytes, spoiled])(r) for _ in range(400)]
+    # No file is written or read by a name that came about by chance.
+    lines = [b'#' + line if line.split()[:1] in ([b'save'], [b'load'], [b'picture']) and len(line.split()) > 1 else line
+             for line in lines]
+    return b'\n'.join(lines) + r.choice([b'', b'\n', b'\0'])
+
+
+def large():
+    """Sheets of very different lengths. Some of the short ones are filled and completed, and a few of these paused."""
+    r = random.Random(1)
+    yield 'fresh 262144 1024'
+    counts = [r.choice([20, 60, 150, 300, 700]) for _ in range(1024)]
+    yield from (f'reserve {sheet} {count}' for sheet, count in enumerate(counts))
+    yield from (f'release {sheet}' for sheet in range(0, 1024, 3))
+    short = [sheet for sheet in range(1, 1024, 3) if counts[sheet] == 60][:20]
+    for sheet in short:
+        yield from (f'put {sheet} {place} one tablet at 8' for place in range(60))
+        yield f'complete {sheet}'
+    yield from (f'pause {sheet}' for sheet in short[::3])
+    yield 'card'
+
+
+def terminal(program):
+    """What the console prints on a terminal: a prompt, the answer, and no failure for a line that it did not understand."""
+    child, end = pty.fork()
+    if child == 0:
+        os.execv(program, [program])
+    os.write(end, b'fresh 8 4\nreserv 0 3\nreserve 0 3\nquit\n')
+    printed = b''
+    try:
+        while part := os.read(end, 4096):
+            printed += part
+    except OSError:
+        pass
+    status = os.waitstatus_to_exitcode(os.waitpid(child, 0)[1])
+    for wanted in (b'A card at a desk', b'Is it `reserve`?', b'[000.....]'):
+        if wanted not in printed:
+            sys.exit(f'on a terminal the console did not print {wanted!r}, but {printed!r}')
+    if status != 0:
+        sys.exit(f'on a terminal the console ended with {status}')
+
+
+def main(words):
+    if words[:1] == ['undone']:
+        print('\n'.join(undone(sys.stdin.read().splitlines())))
+    elif words[:1] == ['wrong']:
+        print('\n'.join(wrong(sys.stdin.read().splitlines())))
+    elif words[:1] == ['bytes'] and len(words) == 2:
+        sys.stdout.buffer.write(random_bytes(int(words[1])))
+    elif words[:1] == ['large']:
+        print('\n'.join(large()))
+    elif words[:1] == ['terminal'] and len(words) == 2:
+        terminal(words[1])
+    else:
+        sys.exit(__doc__)
+
+
+main(sys.argv[1:])
