@@ -7,11 +7,11 @@
 #include <stdlib.h>
 #include <string.h>
 
-/* From dark to bright, in an order in which neighbours differ most. */
+/* Eight steps of brightness, from #2A1A6E to #F5EB6B, in an order in which neighbours differ most. */
 static const desk_look colours[] = {
-    {"#0072B2", "#FFFFFF", NULL, 0, 0}, {"#F5EB6B", "#000000", NULL, 0, 0}, {"#332288", "#FFFFFF", NULL, 0, 0},
-    {"#F0AE1A", "#000000", NULL, 0, 0}, {"#009E73", "#FFFFFF", NULL, 0, 0}, {"#8CCBF0", "#000000", NULL, 0, 0},
-    {"#A34A00", "#FFFFFF", NULL, 0, 0}, {"#E3A6C6", "#000000", NULL, 0, 0},
+    {"#00659E", "#FFFFFF", NULL, 0, 0}, {"#F5EB6B", "#000000", NULL, 0, 0}, {"#2A1A6E", "#FFFFFF", NULL, 0, 0},
+    {"#F0AE1A", "#000000", NULL, 0, 0}, {"#00946B", "#FFFFFF", NULL, 0, 0}, {"#A5D8F3", "#000000", NULL, 0, 0},
+    {"#D5651F", "#000000", NULL, 0, 0}, {"#CC79A7", "#000000", NULL, 0, 0},
 };
 static const desk_look nobody = {"#FFFFFF", "#444444", NULL, 0, 1};
 static const desk_look wrong = {"#000000", "#FFFFFF", "url(#wrong)", 0, 0};

@@ -1,7 +1,7 @@
 #!/usr/bin/env python3
 """Scripts for the console, made from others or at random.
 
-    tests/desk/scripts.py undone < SCRIPT    every call that was done is taken back and made again
+    tests/desk/scripts.py undone < SCRIPT    every call that was done is taken back and made again, and others are in between
     tests/desk/scripts.py wrong < SCRIPT     the last expected number is another
     tests/desk/scripts.py bytes SEED         lines of any bytes, some of them nearly commands
     tests/desk/scripts.py large              a card of full size, filled and with gaps
@@ -19,15 +19,27 @@ WORDS = ('0 1 2 3 7 8 63 64 128 1024 4096 4294967295 4294967296 -1 x on off chec
          'free mark start length none absent 2.50 99999999.99 1e9 2026-11-15 2026-13-45 0-0-0 shown card carer').split()
 
 
+def detour(line, card):
+    """Calls that are done here, and are taken back: another text before a sheet is completed, closing where there is a gap."""
+    if line.startswith('complete '):
+        return [f'put {line.split()[1]} 0 another text', 'undo']
+    return ['close', 'undo'] if '.' in card.rstrip('.') else []
+
+
 def undone(lines):
     """A line that was given before may change nothing, and then undo would take back another: it is made once."""
-    seen = set()
+    seen, card = set(), ''
     for line, after in zip(lines, lines[1:] + ['']):
+        is_done = line.split()[0] in CHANGING and after.startswith('expect 0 ')
+        if is_done:
+            yield from detour(line, card)
         yield line
-        if line.split()[0] in CHANGING and after.startswith('expect 0 ') and line not in seen:
+        if is_done and line not in seen:
             yield 'undo'
             yield line
         seen.add(line)
+        if line.startswith('expect card '):
+            card = line.split()[2]
 
 
 def wrong(lines):
