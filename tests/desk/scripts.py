@@ -3,7 +3,7 @@
 
     tests/desk/scripts.py undone < SCRIPT    every call that was done is taken back and made again, and others are in between
     tests/desk/scripts.py wrong < SCRIPT     the last expected number is another
-    tests/desk/scripts.py bytes SEED         lines of any bytes, some of them nearly commands
+    tests/desk/scripts.py bytes SEED         commands that damage the card too, and lines of any bytes
     tests/desk/scripts.py large              a card of full size, filled and with gaps
     tests/desk/scripts.py terminal PROGRAM   runs the console on a terminal, and looks at what it prints
 """
@@ -17,6 +17,14 @@ NAMES = ('fresh reserve put term count complete show grow pause resume release o
          'load limit summary role break card why expect history undo help').split()
 WORDS = ('0 1 2 3 7 8 63 64 128 1024 4096 4294967295 4294967296 -1 x on off check from before step block byte entry bit image '
          'free mark start length none absent 2.50 99999999.99 1e9 2026-11-15 2026-13-45 0-0-0 shown card carer').split()
+
+
+# Commands with numbers in the places of the signs: a small one for %, any for ?.
+PLAUSIBLE = ('fresh 8 4|fresh 70 9|reserve % %|reserve % % from % before ? step %|put % % one tablet|term % % ? a course|'
+             'count % % % 2.50|count % % %|complete %|show % %|show % % on 2026-11-15|grow % %|pause %|resume %|release %|'
+             'offer % %|accept % % %|accept|standing %|search %|survey|close|save|load|limit 0 ?|limit 0 none|summary on|'
+             'summary off|summary check|break block % byte ?|break entry %|break entry % mark ?|break entry % start ?|'
+             'break entry % length ?|break bit ?|break free ?|break image ?|card|picture /dev/null|why|undo|undo|undo')
 
 
 def detour(line, card):
@@ -55,6 +63,14 @@ def nearly(r):
     return ' '.join(words).encode()
 
 
+def plausible(r):
+    """A command that is understood. Damage comes about by it, and what damage is drawn, saved and taken back."""
+    anything = [0, 1, 5, 7, 8, 17, 63, 64, 79, 80, 503, 511, 65536, 4294967295]
+    words = r.choice(PLAUSIBLE.split('|')).split()
+    return ' '.join(str(r.randrange(5)) if word == '%' else str(r.choice(anything)) if word == '?' else word
+                    for word in words).encode()
+
+
 def any_bytes(r):
     return bytes(r.randrange(256) for _ in range(r.choice([0, 1, 5, 40, 3000]))).replace(b'\n', b'')
 
@@ -68,10 +84,9 @@ def spoiled(r):
 
 def random_bytes(seed):
     r = random.Random(seed)
-    lines = [r.choice([nearly, nearly, nearly, any_bytes, spoiled])(r) for _ in range(400)]
+    lines = [b'fresh 8 4'] + [r.choice([plausible] * 12 + [nearly, any_bytes, spoiled])(r) for _ in range(600)]
     # No file is written or read by a name that came about by chance.
-    lines = [b'#' + line if line.split()[:1] in ([b'save'], [b'load'], [b'picture']) and len(line.split()) > 1 else line
-             for line in lines]
+    lines = [b'#' + line if line.split()[:1] in ([b'save'], [b'load']) and len(line.split()) > 1 else line for line in lines]
     return b'\n'.join(lines) + r.choice([b'', b'\n', b'\0'])
 
 
