@@ -12,7 +12,7 @@
     prove FUNCTION ROLE=FN .. LAW ..  a function that has this code: which fn a callee of the walk is, where it is not
                                       the one of its name; for a loop also what it gives and leaves, with the laws of that;
                                       for a chain whose contract follows from what its calls come to, the definition of
-                                      what it says and the law
+                                      what it says, which may be an F(D), and the law
 
 A line that ends with a comma goes on in the next; what follows a `#` is a remark. The lists are read in the order of
 crates.txt, so that a walk is declared before a `by` names it."""
@@ -27,6 +27,11 @@ from walk.types import Type, parameters
 from walk.wrong import Line, Wrong, at
 
 WORDS = 'crate', 'struct', 'value', 'use', 'fn', 'walk', 'by', 'prove'
+
+
+def applied(word):
+    """F(D) as antt has it"""
+    return re.sub(r'(\w+)\((\w+)\)', r'(\1 \2)', word)
 
 
 class Section:
@@ -50,8 +55,7 @@ class Section:
         elif word == 'fn':
             path, *definitions = rest.split()
             path = path if '::' in path else f'{self.crate}::{path}'
-            definitions = [re.sub(r'(\w+)\((\w+)\)', r'(\1 \2)', d) for d in definitions]
-            self.functions[path.split('::')[-1]] = (path, definitions)
+            self.functions[path.split('::')[-1]] = (path, [applied(d) for d in definitions])
         elif word in ('walk', 'by'):
             self.walks.append((line, [], []))
         elif not self.walks:
@@ -59,7 +63,7 @@ class Section:
         elif word == 'prove':
             path, *words = rest.split()
             chosen = dict(x.split('=', 1) for x in words if '=' in x)
-            self.walks[-1][2].append((line, path, chosen, [x for x in words if '=' not in x]))
+            self.walks[-1][2].append((line, path, chosen, [applied(x) for x in words if '=' not in x]))
 
     def code(self, line):
         """a line of a walk's code"""

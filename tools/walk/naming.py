@@ -5,7 +5,7 @@ import re
 from walk.wrong import Wrong
 
 # what every call takes in front is not in the name
-FRONT = ('self', 'shape')
+FRONT = ('role', 'self', 'shape')
 
 
 def word(name):

@@ -1,0 +1,22 @@
+-- The walks of the public calls.
+pub mod MapCatalogue1First
+pub mod MapCatalogueCardFromLimits2
+pub mod MapCatalogueCardFromLimits5
+pub mod FromMapCatalogueCardLimits2
+pub mod MapCatalogueCardFromLimits3
+pub mod CardFromMapCataloguePayload2
+pub mod CatalogueFromMapCard1
+pub mod CatalogueFromMap1
+pub mod MapCatalogue1
+pub mod BufferFromMapCatalogueCard2
+pub mod BufferFromMapCatalogueCard5
+pub mod FromMapCatalogue1
+pub mod ScratchImageFromMapCatalogue
+pub mod MapCatalogueCardScratch
+pub mod MapCatalogueScratchFromImage
+pub mod MapSummaryCatalogueCardFromLimits2
+pub mod MapSummaryCatalogueCardFromLimits5
+pub mod MapSummaryCatalogueCardFromLimits3
+pub mod MapSummaryCatalogue1
+pub mod MapSummaryCatalogueCardScratch
+pub mod MapCatalogueScratchFromImage2FirstRounds
