@@ -1,6 +1,6 @@
 -- What each public call ensures, as a proposition of what it is given, what it hands back (r) and what it leaves in what it is
--- lent by `&mut` (the names with a prime). The outcome is handed back `itself`; by the C function of that name it is handed back
--- as a reply, and all else is the same.
+-- lent by `&mut` (the names with a prime). The outcome is handed back `itself`; by the C function of that name it is handed
+-- back as a reply, and all else is the same.
 -- Assumes nothing.
 use mathlib.Core.Path.{_≡_}
 use mathlib.Core.List.{List}

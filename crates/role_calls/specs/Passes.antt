@@ -1,5 +1,5 @@
--- What the parts of a public call come to: whether its role may make it; the shape, the number of blocks and the count of rounds
--- that the inner call is handed; and the outcome that is told.
+-- What the parts of a public call come to: whether its role may make it; the shape, the number of blocks and the count of
+-- rounds that the inner call is handed; and the outcome that is told.
 -- Assumes nothing.
 use mathlib.Core.Bool.{Bool, cond}
 use Prim.Native.Nat.{ℕ}

@@ -1,10 +1,27 @@
-// What a public call does beside its inner call: it asks whether its role may make it, hands the inner call something that row 1
-// refuses if not, and tells the outcome.
+// What a public call does beside its inner call: it asks whether its role may make it, hands the inner call something that row
+// 1 refuses if not, and tells the outcome.
 ghost use mathlib.Core.Path.{_≡_};
 ghost use Rattle.role_calls.specs.Turned.{turnedAway};
 ghost use Rattle.role_calls.specs.Passes.{admittedBy, blocksBy, roundsBy, answeredBy};
-ghost use Rattle.role_calls.specs.Passes.{mayFresh, maySearch, maySurvey, mayReserve, mayOffer, mayAccept, mayGrow, mayPut};
-ghost use Rattle.role_calls.specs.Passes.{mayComplete, mayPause, mayResume, mayRelease, mayShow, mayShowDated, mayStanding};
+ghost use Rattle.role_calls.specs.Passes.{
+  mayFresh,
+  maySearch,
+  maySurvey,
+  mayReserve,
+  mayOffer,
+  mayAccept,
+  mayGrow,
+  mayPut,
+};
+ghost use Rattle.role_calls.specs.Passes.{
+  mayComplete,
+  mayPause,
+  mayResume,
+  mayRelease,
+  mayShow,
+  mayShowDated,
+  mayStanding,
+};
 ghost use Rattle.role_calls.specs.Passes.{maySave, mayClose, mayLoad, mayBuildSummary, mayCheckSummary};
 use card::Outcome;
 use card::Shape;

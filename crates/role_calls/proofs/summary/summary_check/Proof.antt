@@ -21,4 +21,5 @@ returns-2 : tie.Need-returns-2
 returns-2 c = turned _ _ _ _ _ (c .before .before .may-check-summary .ensures) (c .before .if1 .left) (c .turned-away .ensures)
 
 pub summary-check-spec : {M : Type 1} → statement M
-summary-check-spec = tie.close (tie.spec may-check-summary-requires summary-check-requires returns turned-away-requires returns-2)
+summary-check-spec = tie.close (tie.spec may-check-summary-requires summary-check-requires returns turned-away-requires
+    returns-2)
