@@ -36,8 +36,11 @@ static void wrote(desk *d, uint32_t from, uint32_t count)
 
 void build_where_kept(desk *d)
 {
-    if (d->card.with_summary && library_summary_build(&d->card).number == PAGUNLIT_DONE)
-        puts("    (the summary is built anew)");
+    if (!d->card.with_summary)
+        return;
+    d->card.with_summary = library_summary_build(&d->card).number == PAGUNLIT_DONE;
+    puts(d->card.with_summary ? "    (the summary is built anew)"
+                              : "    (the summary could not be built: from now on the calls are lent none)");
 }
 
 /* Makes another card. Fresh leaves the card's bytes alone, so that those of a card with as many blocks stay. */
