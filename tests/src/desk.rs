@@ -3,11 +3,12 @@
 
 use crate::blocks::{figures, FREE};
 use crate::calendar::date;
-use crate::call::{accept, call, dated, placed, Call, Kind, Limits, LARGEST};
+use crate::call::{accept, call, dated, orders, placed, Call, Kind, Limits, LARGEST};
 use crate::card::Answer::{self, *};
 use crate::card::{wing_of, Entry};
 use crate::ledger::Ledger;
 use crate::random::Random;
+use crate::rows::Row;
 use std::fmt::Write;
 
 const PAYLOAD: usize = 496;
@@ -223,3 +224,20 @@ fn expect(answer: &Answer) -> String {
     let [number, first, second, third] = values;
     format!("expect {number} {first} {second} {third}")
 }
+
+/// The numbers that can refuse each of the console's calls, in their order, as its `help` has to list them. Rows with the same
+/// number that follow each other are one there.
+pub fn rows() -> String {
+    let listed = orders().filter(|(name, _)| !name.starts_with("summary") && !PLAIN.contains(name));
+    let line = |(name, rows): (&str, &[Row])| {
+        let mut numbers: Vec<u32> = rows.iter().map(|row| row.number()).collect();
+        numbers.dedup();
+        let name = name.split('-').next().unwrap();
+        let numbers: Vec<String> = numbers.iter().map(u32::to_string).collect();
+        format!("{name} {}\n", numbers.join(" "))
+    };
+    listed.map(line).collect()
+}
+
+/// The calls whose rows are among those of a form with more arguments, which stands for both in the console's help.
+const PLAIN: [&str; 2] = ["reserve", "show"];

@@ -8,7 +8,7 @@
 //! `image` writes the card printer's example image, `print` prints what the printer must print of the image on standard
 //! input, and `printer PROGRAM` runs a card printer on many images and compares. `worked-image` and `worked-text` write the
 //! image and the text of a card whose values all differ, as definitions for the theorems that hold them. `desk SEED` writes a
-//! random script for the console in desk/, with what it must answer.
+//! random script for the console in desk/, with what it must answer, and `desk-rows` what can refuse each of its calls.
 
 use bitwise::{calls, desk, map, printer, worked};
 use std::io::{Read, Write};
@@ -34,13 +34,14 @@ fn main() {
             let seed = std::env::args().nth(2).expect("the seed of the script");
             print!("{}", desk::script(seed.parse().expect("a number")));
         }
+        Some("desk-rows") => print!("{}", desk::rows()),
         Some("printer") => {
             let program = std::env::args().nth(2).expect("the program to run");
             std::process::exit(!printer::holds(&program) as i32);
         }
         _ => {
             eprintln!("usage: bitwise map-list | map | calls | image | print | worked-image | worked-text | printer PROGRAM");
-            eprintln!("       bitwise desk SEED");
+            eprintln!("       bitwise desk SEED | desk-rows");
             std::process::exit(2);
         }
     }
