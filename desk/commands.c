@@ -13,7 +13,7 @@ const desk_command commands[] = {
     {"put", "SHEET PLACE TEXT", "put a text to a place of an Open sheet", command_put, CALL_PUT},
     {"term", "SHEET FIRST LAST [TEXT]", "put the first and the last day of a course, and a text, to place 0", command_term,
      CALL_PUT},
-    {"count", "SHEET PLACE [WHICH [DOSE]]", "write a dose count (2.50, absent) to a place; or read one, or all", command_count,
+    {"count", "SHEET PLACE [WHICH [DOSE]]", "put a dose count (2.50, absent) to a place; or show one, or all, of a Complete sheet", command_count,
      CALL_WRITE_COUNT},
     {"complete", "SHEET", "an Open sheet becomes Complete, if none of its places is blank", command_complete, CALL_COMPLETE},
     {"show", "SHEET PLACE [on YYYY-MM-DD]", "show a place of a Complete sheet (on a day of its term)", command_show,
@@ -114,7 +114,7 @@ void command_help(desk *d, const desk_words *words)
     puts("A card is blocks in a row; a sheet is a prescription that holds a run of them. All are counted from 0.");
     for (const desk_command *command = commands; command->name; command++)
         printf("  %-9s %s\n", command->name, command->text);
-    puts("`help reserve` has its arguments, and what can refuse it. What follows a # is a comment.");
+    puts("`help reserve` has its arguments, and what can refuse it. A line that begins with # is a comment.");
 }
 
 static size_t least(size_t a, size_t b, size_t c)
