@@ -1,5 +1,6 @@
--- What the parts of a public call on a sheet come to: what the inner call hands back and leaves, or 21 and nothing changed. A
--- call that is turned away hands its inner call something that row 1 refuses, and a refusal changes nothing.
+-- What the parts of a public call on a sheet that takes no blocks come to: what the inner call hands
+-- back and leaves, or 21 and nothing changed. A call that is turned away hands its inner call something that row 1 refuses, and
+-- a refusal changes nothing.
 -- Assumes nothing.
 use mathlib.Core.Path.{_≡_, refl}
 use mathlib.Core.Bool.{Bool, true, false, cond}

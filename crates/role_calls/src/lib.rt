@@ -6,26 +6,10 @@ pub mod summary;
 
 ghost use mathlib.Core.Path.{_≡_};
 ghost use Rattle.card.specs.Contracts.{itself};
-ghost use Rattle.role_calls.specs.Contracts.{
-  Freshens,
-  Searches,
-  Surveys,
-  Reserves,
-  ReservesPlaced,
-  Offers,
-  Accepts,
-  Grows,
-};
-ghost use Rattle.role_calls.specs.Contracts.{
-  Puts,
-  Completes,
-  Pauses,
-  Resumes,
-  Releases,
-  Shows,
-  ShowsDated,
-  TellsStanding,
-};
+ghost use Rattle.role_calls.specs.Contracts.{Freshens, Searches, Surveys, Reserves, ReservesPlaced};
+ghost use Rattle.role_calls.specs.Contracts.{Offers, Accepts, Grows};
+ghost use Rattle.role_calls.specs.Contracts.{Puts, Completes, Pauses, Resumes, Releases};
+ghost use Rattle.role_calls.specs.Contracts.{Shows, ShowsDated, TellsStanding};
 ghost use Rattle.role_calls.specs.Contracts.{Saves, Closes, Loads};
 ghost use Rattle.role_calls.specs.Rounds.{roundsOutcome, roundsMap, roundsEntries, roundsScratch};
 use card::Outcome;
@@ -339,8 +323,8 @@ pub fn close(
     passes::answered(pass, shape, outcome)
 }
 
-// So many loads: one, or none where the role may not load. The load itself reads neither the shape nor a number that it is
-// given, so that it cannot be handed one that it refuses.
+// So many loads: one, or none where the role may not load. The load itself reads no shape and takes no number, so that it
+// cannot be handed one that it refuses.
 fn load_rounds(
     count: u32,
     start: Outcome,

@@ -3,25 +3,10 @@
 ghost use mathlib.Core.Path.{_≡_};
 ghost use Rattle.role_calls.specs.Turned.{turnedAway};
 ghost use Rattle.role_calls.specs.Passes.{admittedBy, blocksBy, roundsBy, answeredBy};
-ghost use Rattle.role_calls.specs.Passes.{
-  mayFresh,
-  maySearch,
-  maySurvey,
-  mayReserve,
-  mayOffer,
-  mayAccept,
-  mayGrow,
-  mayPut,
-};
-ghost use Rattle.role_calls.specs.Passes.{
-  mayComplete,
-  mayPause,
-  mayResume,
-  mayRelease,
-  mayShow,
-  mayShowDated,
-  mayStanding,
-};
+ghost use Rattle.role_calls.specs.Passes.{mayFresh, maySearch, maySurvey, mayReserve, mayOffer};
+ghost use Rattle.role_calls.specs.Passes.{mayAccept, mayGrow, mayPut};
+ghost use Rattle.role_calls.specs.Passes.{mayComplete, mayPause, mayResume, mayRelease};
+ghost use Rattle.role_calls.specs.Passes.{mayShow, mayShowDated, mayStanding};
 ghost use Rattle.role_calls.specs.Passes.{maySave, mayClose, mayLoad, mayBuildSummary, mayCheckSummary};
 use card::Outcome;
 use card::Shape;

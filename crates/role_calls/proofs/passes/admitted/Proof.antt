@@ -1,5 +1,5 @@
--- `role_calls::passes::admitted` meets its contract, by whether the role may make the call: the shape is handed on as it came,
--- or one of no blocks.
+-- `role_calls::passes::admitted` meets its contract, by whether the role may make the call: the shape as it came, or one of no
+-- blocks.
 -- Assumes nothing.
 use Rattle.role_calls.proofs.passes.admitted.Statement.{statement}
 use Rattle.role_calls.proofs.passes.admitted.Tie as tie

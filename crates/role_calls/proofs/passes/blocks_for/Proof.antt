@@ -1,5 +1,4 @@
--- `role_calls::passes::blocks_for` meets its contract, by whether the role may make the call: as many blocks as were asked
--- for, or none.
+-- `role_calls::passes::blocks_for` meets its contract, by whether the role may make the call: the blocks asked for, or none.
 -- Assumes nothing.
 use Rattle.role_calls.proofs.passes.blocks_for.Statement.{statement}
 use Rattle.role_calls.proofs.passes.blocks_for.Tie as tie

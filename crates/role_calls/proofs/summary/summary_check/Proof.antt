@@ -12,14 +12,18 @@ summary-check-requires : tie.Need-summary-check-requires
 summary-check-requires c κs = search needs
 
 returns : tie.Need-returns
-returns c = passed _ _ _ _ _ (c .before .before .may-check-summary .ensures) (c .before .if1 .taken) (c .summary-check .ensures)
+returns c =
+    let asked = c .before .before in
+    passed _ _ _ _ _ (asked .may-check-summary .ensures) (c .before .if1 .taken) (c .summary-check .ensures)
 
 turned-away-requires : tie.Need-turned-away-requires
 turned-away-requires c κs = search needs
 
 returns-2 : tie.Need-returns-2
-returns-2 c = turned _ _ _ _ _ (c .before .before .may-check-summary .ensures) (c .before .if1 .left) (c .turned-away .ensures)
+returns-2 c =
+    let asked = c .before .before in
+    turned _ _ _ _ _ (asked .may-check-summary .ensures) (c .before .if1 .left) (c .turned-away .ensures)
 
 pub summary-check-spec : {M : Type 1} → statement M
-summary-check-spec = tie.close (tie.spec may-check-summary-requires summary-check-requires returns turned-away-requires
-    returns-2)
+summary-check-spec =
+    tie.close (tie.spec may-check-summary-requires summary-check-requires returns turned-away-requires returns-2)

@@ -1,0 +1,3 @@
+-- What is proved of lists of calls with roles.
+pub mod Lists
+pub mod Service

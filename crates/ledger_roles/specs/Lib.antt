@@ -1,0 +1,4 @@
+-- What is claimed of lists of calls with roles.
+pub mod Made
+pub mod Claims
+pub mod Service
