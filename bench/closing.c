@@ -7,6 +7,7 @@
 #include <string.h>
 
 #include "pagunlit.h"
+#include "role.h"
 #include "time.h"
 
 enum { BLOCKS = 262144, SHEETS = 1024, LENGTH = BLOCKS / SHEETS / 2, BYTES = LENGTH * PAGUNLIT_BLOCK };
@@ -34,7 +35,7 @@ static double closing(int gaps) {
     fill(gaps);
     pagunlit_shape shape = {BLOCKS, BLOCKS / 2};
     double start = seconds();
-    pagunlit_outcome o = pagunlit_close(shape, map, BLOCKS / 64, catalogue, SHEETS, card, (size_t)BLOCKS * PAGUNLIT_BLOCK,
+    pagunlit_outcome o = pagunlit_close(ROLE, shape, map, BLOCKS / 64, catalogue, SHEETS, card, (size_t)BLOCKS * PAGUNLIT_BLOCK,
                                         scratch, 64);
     double time = seconds() - start;
     if (o.number != 0) {

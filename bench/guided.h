@@ -4,6 +4,7 @@
 
 #include "aged.h"
 #include "levels.h"
+#include "role.h"
 #include "ways.h"
 
 // The summary of the card under test. What changes the map without it changes it back, so that it is the map's own at the
@@ -19,7 +20,7 @@ static size_t bytes(void) {
 }
 
 static void build(void) {
-    if (pagunlit_summary_build(shape, map, words(), summary, numbers()).number != 0) give_up("a build is refused");
+    if (pagunlit_summary_build(ROLE, shape, map, words(), summary, numbers()).number != 0) give_up("a build is refused");
 }
 
 // Reserve and release: LENGTHS of each in one turn. A refused reserve is followed by a refused release.
@@ -27,24 +28,25 @@ static void build(void) {
 static uint32_t without_reserve(uint32_t argument) {
     uint32_t sum = argument;
     for (uint32_t i = 0; i < LENGTHS; i++) {
-        pagunlit_outcome o = pagunlit_reserve(shape, map, words(), catalogue, SHEETS, card, bytes(), limits, i, lengths[i]);
+        pagunlit_outcome o = pagunlit_reserve(ROLE, shape, map, words(), catalogue, SHEETS, card, bytes(), limits, i,
+                                              lengths[i]);
         sum += o.number + o.first;
         shape = o.shape;
     }
-    for (uint32_t i = 0; i < LENGTHS; i++) shape = pagunlit_release(shape, map, words(), catalogue, SHEETS, i).shape;
+    for (uint32_t i = 0; i < LENGTHS; i++) shape = pagunlit_release(ROLE, shape, map, words(), catalogue, SHEETS, i).shape;
     return sum;
 }
 
 static uint32_t guided_reserve(uint32_t argument) {
     uint32_t sum = argument;
     for (uint32_t i = 0; i < LENGTHS; i++) {
-        pagunlit_outcome o = pagunlit_reserve_with_summary(shape, map, words(), summary, numbers(), catalogue, SHEETS, card,
-                                                           bytes(), limits, i, lengths[i]);
+        pagunlit_outcome o = pagunlit_reserve_with_summary(ROLE, shape, map, words(), summary, numbers(), catalogue, SHEETS,
+                                                           card, bytes(), limits, i, lengths[i]);
         sum += o.number + o.first;
         shape = o.shape;
     }
     for (uint32_t i = 0; i < LENGTHS; i++)
-        shape = pagunlit_release_with_summary(shape, map, words(), summary, numbers(), catalogue, SHEETS, i).shape;
+        shape = pagunlit_release_with_summary(ROLE, shape, map, words(), summary, numbers(), catalogue, SHEETS, i).shape;
     return sum;
 }
 
@@ -53,12 +55,12 @@ static const struct way RESERVES[] = {{"by summary", guided_reserve}, {"without"
 // A single reserve of k blocks that is refused.
 
 static uint32_t without_refused(uint32_t k) {
-    return pagunlit_reserve(shape, map, words(), catalogue, SHEETS, card, bytes(), limits, 0, k).number;
+    return pagunlit_reserve(ROLE, shape, map, words(), catalogue, SHEETS, card, bytes(), limits, 0, k).number;
 }
 
 static uint32_t guided_refused(uint32_t k) {
-    return pagunlit_reserve_with_summary(shape, map, words(), summary, numbers(), catalogue, SHEETS, card, bytes(), limits, 0,
-                                         k).number;
+    return pagunlit_reserve_with_summary(ROLE, shape, map, words(), summary, numbers(), catalogue, SHEETS, card, bytes(),
+                                         limits, 0, k).number;
 }
 
 // The same on a card of 64 blocks, all of them taken.
@@ -68,12 +70,12 @@ static uint64_t small_map[1];
 static uint32_t small_summary[PAGUNLIT_SUMMARY_NUMBERS(64)];
 
 static uint32_t without_small(uint32_t k) {
-    return pagunlit_reserve(SMALL, small_map, 1, catalogue, SHEETS, card, 64 * PAGUNLIT_BLOCK, limits, 0, k).number;
+    return pagunlit_reserve(ROLE, SMALL, small_map, 1, catalogue, SHEETS, card, 64 * PAGUNLIT_BLOCK, limits, 0, k).number;
 }
 
 static uint32_t guided_small(uint32_t k) {
-    return pagunlit_reserve_with_summary(SMALL, small_map, 1, small_summary, 3, catalogue, SHEETS, card, 64 * PAGUNLIT_BLOCK,
-                                         limits, 0, k).number;
+    return pagunlit_reserve_with_summary(ROLE, SMALL, small_map, 1, small_summary, 3, catalogue, SHEETS, card,
+                                         64 * PAGUNLIT_BLOCK, limits, 0, k).number;
 }
 
 static const struct way REFUSED[] = {{"by summary", guided_refused}, {"without", without_refused}};
@@ -88,16 +90,16 @@ static const struct way REFUSED_FULL[] = {
 // A placed reserve on the whole card, and the release of what it was granted. The argument is k and the step, 2^16 to a k.
 
 static uint32_t without_placed(uint32_t both) {
-    pagunlit_outcome o = pagunlit_reserve_placed(shape, map, words(), catalogue, SHEETS, card, bytes(), limits, 0,
+    pagunlit_outcome o = pagunlit_reserve_placed(ROLE, shape, map, words(), catalogue, SHEETS, card, bytes(), limits, 0,
                                                  both >> 16, 0, n, both & 0xffff);
-    if (o.number == 0) pagunlit_release(o.shape, map, words(), catalogue, SHEETS, 0);
+    if (o.number == 0) pagunlit_release(ROLE, o.shape, map, words(), catalogue, SHEETS, 0);
     return o.number == 0 ? o.first : NO_FIT;
 }
 
 static uint32_t guided_placed(uint32_t both) {
-    pagunlit_outcome o = pagunlit_reserve_placed_with_summary(shape, map, words(), summary, numbers(), catalogue, SHEETS, card,
-                                                              bytes(), limits, 0, both >> 16, 0, n, both & 0xffff);
-    if (o.number == 0) pagunlit_release_with_summary(o.shape, map, words(), summary, numbers(), catalogue, SHEETS, 0);
+    pagunlit_outcome o = pagunlit_reserve_placed_with_summary(ROLE, shape, map, words(), summary, numbers(), catalogue, SHEETS,
+                                                              card, bytes(), limits, 0, both >> 16, 0, n, both & 0xffff);
+    if (o.number == 0) pagunlit_release_with_summary(ROLE, o.shape, map, words(), summary, numbers(), catalogue, SHEETS, 0);
     return o.number == 0 ? o.first : NO_FIT;
 }
 
@@ -106,7 +108,7 @@ static const struct way PLACED[] = {{"by summary", guided_placed}, {"without", w
 // A survey, a build and a check of the summary, and a build in C, each with the longest run.
 
 static uint32_t survey_map(uint32_t argument) {
-    return argument + pagunlit_survey(shape, map, words()).third;
+    return argument + pagunlit_survey(ROLE, shape, map, words()).third;
 }
 
 static uint32_t build_summary(uint32_t argument) {
@@ -122,7 +124,8 @@ static uint32_t build_in_c(uint32_t argument) {
 }
 
 static uint32_t check_summary(uint32_t argument) {
-    if (pagunlit_summary_check(shape, map, words(), summary, numbers()).first != 1) give_up("a summary is not the map's own");
+    if (pagunlit_summary_check(ROLE, shape, map, words(), summary, numbers()).first != 1)
+        give_up("a summary is not the map's own");
     return argument + summary[2];
 }
 

@@ -7,13 +7,16 @@
 #include <string.h>
 
 #include "full.h"
+#include "role.h"
 #include "time.h"
 
 // pagunlit_save and pagunlit_load of the other library.
-pagunlit_outcome other_save(pagunlit_shape shape, const uint64_t *map, size_t maplen, const pagunlit_entry *catalogue,
-                            size_t cataloguelen, uint64_t *scratch, size_t scratchlen, uint8_t *image, size_t imagelen);
-pagunlit_outcome other_load(pagunlit_shape shape, const uint8_t *image, size_t imagelen, uint64_t *map, size_t maplen,
-                            pagunlit_entry *catalogue, size_t cataloguelen, uint64_t *scratch, size_t scratchlen);
+pagunlit_outcome other_save(OTHER_ROLE pagunlit_shape shape, const uint64_t *map, size_t maplen,
+                            const pagunlit_entry *catalogue, size_t cataloguelen, uint64_t *scratch, size_t scratchlen,
+                            uint8_t *image, size_t imagelen);
+pagunlit_outcome other_load(OTHER_ROLE pagunlit_shape shape, const uint8_t *image, size_t imagelen, uint64_t *map,
+                            size_t maplen, pagunlit_entry *catalogue, size_t cataloguelen, uint64_t *scratch,
+                            size_t scratchlen);
 
 enum { BATCHES = 8 };
 
@@ -34,23 +37,23 @@ static void give_up(const char *why) {
 }
 
 static uint32_t save_ours(void) {
-    return pagunlit_save(full, full_map, full_words, full_catalogue, PAGUNLIT_SHEETS, scratch, scratch_words, written,
+    return pagunlit_save(ROLE, full, full_map, full_words, full_catalogue, PAGUNLIT_SHEETS, scratch, scratch_words, written,
                          image_bytes).number;
 }
 
 static uint32_t save_other(void) {
-    return other_save(full, full_map, full_words, full_catalogue, PAGUNLIT_SHEETS, other_scratch, other_words, written,
-                      image_bytes).number;
+    return other_save(OTHERS_ROLE full, full_map, full_words, full_catalogue, PAGUNLIT_SHEETS, other_scratch, other_words,
+                      written, image_bytes).number;
 }
 
 static uint32_t load_ours(void) {
-    return pagunlit_load(full, image, image_bytes, read_map, full_words, read_catalogue, PAGUNLIT_SHEETS, scratch,
+    return pagunlit_load(ROLE, full, image, image_bytes, read_map, full_words, read_catalogue, PAGUNLIT_SHEETS, scratch,
                          scratch_words).number;
 }
 
 static uint32_t load_other(void) {
-    return other_load(full, image, image_bytes, read_map, full_words, read_catalogue, PAGUNLIT_SHEETS, other_scratch,
-                      other_words).number;
+    return other_load(OTHERS_ROLE full, image, image_bytes, read_map, full_words, read_catalogue, PAGUNLIT_SHEETS,
+                      other_scratch, other_words).number;
 }
 
 // A save must write the image, and a load must read map and catalogue from it.

@@ -5,19 +5,20 @@
 
 #include "aged.h"
 #include "full.h"
+#include "role.h"
 #include "sealed.h"
 #include "ways.h"
 
 static uint8_t copy[LARGEST_IMAGE];
 
 static uint32_t ours_save(uint32_t unused) {
-    return unused + pagunlit_save(full, full_map, full_words, full_catalogue, PAGUNLIT_SHEETS, scratch, scratch_words, image,
-                                  image_bytes).number;
+    return unused + pagunlit_save(ROLE, full, full_map, full_words, full_catalogue, PAGUNLIT_SHEETS, scratch, scratch_words,
+                                  image, image_bytes).number;
 }
 
 static uint32_t ours_load(uint32_t unused) {
-    return unused + pagunlit_load(full, image, image_bytes, full_map, full_words, full_catalogue, PAGUNLIT_SHEETS, scratch,
-                                  scratch_words).number;
+    return unused + pagunlit_load(ROLE, full, image, image_bytes, full_map, full_words, full_catalogue, PAGUNLIT_SHEETS,
+                                  scratch, scratch_words).number;
 }
 
 static uint32_t copy_image(uint32_t unused) {

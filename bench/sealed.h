@@ -5,6 +5,7 @@
 #include <zlib.h>
 
 #include "aged.h"
+#include "role.h"
 #include "ways.h"
 
 // Blocks: place p of sheet 0 is block p, and it is sealed.
@@ -72,7 +73,7 @@ static uint32_t zlib_check(uint32_t place) {
 
 static uint32_t ours_complete(uint32_t places) {
     catalogue[0] = (pagunlit_entry){PAGUNLIT_OPEN, 0, places};
-    return pagunlit_complete(shape, map, words(), catalogue, SHEETS, card, (size_t)PAGUNLIT_BLOCK * n, 0).number;
+    return pagunlit_complete(ROLE, shape, map, words(), catalogue, SHEETS, card, (size_t)PAGUNLIT_BLOCK * n, 0).number;
 }
 
 static inline uint32_t others_complete(uint32_t places, uint32_t (*sums)(const uint8_t *, size_t)) {

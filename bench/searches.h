@@ -4,12 +4,13 @@
 
 #include "aged.h"
 #include "bitmap.h"
+#include "role.h"
 #include "ways.h"
 
 // Search for k blocks.
 
 static uint32_t ours_search(uint32_t k) {
-    pagunlit_outcome outcome = pagunlit_search(shape, map, words(), k);
+    pagunlit_outcome outcome = pagunlit_search(ROLE, shape, map, words(), k);
     return outcome.number == 0 ? outcome.first : NO_FIT;
 }
 
@@ -54,11 +55,12 @@ static uint32_t ours_reserve(uint32_t argument) {
     (void)argument;
     for (uint32_t i = 0; i < LENGTHS; i++) {
         pagunlit_outcome outcome =
-            pagunlit_reserve(shape, map, words(), catalogue, SHEETS, card, (size_t)PAGUNLIT_BLOCK * n, limits, i, lengths[i]);
+            pagunlit_reserve(ROLE, shape, map, words(), catalogue, SHEETS, card, (size_t)PAGUNLIT_BLOCK * n, limits, i,
+                             lengths[i]);
         if (outcome.number == 0) sum += outcome.first;
         shape = outcome.shape;
     }
-    for (uint32_t i = 0; i < LENGTHS; i++) shape = pagunlit_release(shape, map, words(), catalogue, SHEETS, i).shape;
+    for (uint32_t i = 0; i < LENGTHS; i++) shape = pagunlit_release(ROLE, shape, map, words(), catalogue, SHEETS, i).shape;
     return sum;
 }
 
@@ -133,7 +135,7 @@ static uint32_t one_number(uint32_t free, uint32_t runs, uint32_t longest) {
 }
 
 static uint32_t ours_survey(uint32_t argument) {
-    pagunlit_outcome o = pagunlit_survey(shape, map, words());
+    pagunlit_outcome o = pagunlit_survey(ROLE, shape, map, words());
     (void)argument;
     return one_number(o.first, o.second, o.third);
 }

@@ -9,13 +9,14 @@
 #include "maps.h"
 #include "pagunlit.h"
 #include "plain.h"
+#include "role.h"
 #include "time.h"
 
 // The crate bench_space.
 uint32_t map_bench_space(const uint64_t *map, size_t words, uint32_t n, uint32_t start);
 
 // pagunlit_search of the other library.
-pagunlit_outcome other_search(pagunlit_shape shape, const uint64_t *map, size_t maplen, uint32_t k);
+pagunlit_outcome other_search(OTHER_ROLE pagunlit_shape shape, const uint64_t *map, size_t maplen, uint32_t k);
 
 static void give_up(const char *why) {
     fprintf(stderr, "bench/space: FAILED: %s\n", why);
@@ -72,22 +73,30 @@ static void check_spaces(void) {
 // The library's search.
 
 struct search_job {
-    pagunlit_outcome (*search)(pagunlit_shape, const uint64_t *, size_t, uint32_t);
+    pagunlit_outcome (*search)(const uint64_t *, uint32_t);
     uint32_t k, sum;
 };
 
 static const pagunlit_shape SHAPE = {BLOCKS, BLOCKS};
 
+static pagunlit_outcome our_search(const uint64_t *map, uint32_t k) {
+    return pagunlit_search(ROLE, SHAPE, map, WORDS, k);
+}
+
+static pagunlit_outcome their_search(const uint64_t *map, uint32_t k) {
+    return other_search(OTHERS_ROLE SHAPE, map, WORDS, k);
+}
+
 static void run_search(void *job) {
     struct search_job *s = job;
-    for (int m = 0; m < MAPS; m++) s->sum += s->search(SHAPE, maps[m], WORDS, s->k).first;
+    for (int m = 0; m < MAPS; m++) s->sum += s->search(maps[m], s->k).first;
 }
 
 // The mean space of the fits for k; 0 if there are none.
 static double compared(uint32_t k) {
     uint32_t fits = 0, blocks = 0;
     for (int m = 0; m < MAPS; m++) {
-        pagunlit_outcome ours = pagunlit_search(SHAPE, maps[m], WORDS, k), other = other_search(SHAPE, maps[m], WORDS, k);
+        pagunlit_outcome ours = our_search(maps[m], k), other = their_search(maps[m], k);
         if (ours.number != other.number || ours.first != other.first) give_up("the two libraries find different starts");
         if (ours.number != PAGUNLIT_DONE) continue;
         if (ours.second != plain_space(maps[m], WORDS, BLOCKS, ours.first)) give_up("a search answers another space");
@@ -101,7 +110,7 @@ static double most, most_found;
 
 static void time_search(uint32_t k) {
     double space = compared(k);
-    struct search_job other = {other_search, k, 0}, ours = {pagunlit_search, k, 0};
+    struct search_job other = {their_search, k, 0}, ours = {our_search, k, 0};
     void *jobs[] = {&other, &ours};
     double ratios[2];
     double ns = median_times(2, run_search, jobs, ratios);

@@ -8,6 +8,7 @@
 
 #include "aged.h"
 #include "guided.h"
+#include "role.h"
 #include "ways.h"
 
 static const double MEANS[] = {2, 5, 10, 20, 50, 100, 200};
@@ -45,11 +46,11 @@ static uint32_t granted(void) {
     uint32_t count = 0;
     for (int i = 0; i < LENGTHS; i++) {
         pagunlit_outcome o =
-            pagunlit_reserve(shape, map, words(), catalogue, SHEETS, card, bytes(), limits, (uint32_t)i, lengths[i]);
+            pagunlit_reserve(ROLE, shape, map, words(), catalogue, SHEETS, card, bytes(), limits, (uint32_t)i, lengths[i]);
         count += o.number == 0;
         shape = o.shape;
     }
-    for (uint32_t i = 0; i < LENGTHS; i++) shape = pagunlit_release(shape, map, words(), catalogue, SHEETS, i).shape;
+    for (uint32_t i = 0; i < LENGTHS; i++) shape = pagunlit_release(ROLE, shape, map, words(), catalogue, SHEETS, i).shape;
     return count;
 }
 

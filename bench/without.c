@@ -4,6 +4,7 @@
 #include <stdlib.h>
 
 #include "aged.h"
+#include "role.h"
 #include "ways.h"
 
 // pagunlit_search, pagunlit_reserve and pagunlit_release of the other library. A library from before document 02 (k) takes no
@@ -15,40 +16,48 @@
 #define OTHER_LIMITS const uint32_t *limits,
 #define OTHERS_LIMITS limits,
 #endif
-pagunlit_outcome other_search(pagunlit_shape shape, const uint64_t *map, size_t maplen, uint32_t k);
-pagunlit_outcome other_reserve(pagunlit_shape shape, uint64_t *map, size_t maplen, pagunlit_entry *catalogue,
+pagunlit_outcome other_search(OTHER_ROLE pagunlit_shape shape, const uint64_t *map, size_t maplen, uint32_t k);
+pagunlit_outcome other_reserve(OTHER_ROLE pagunlit_shape shape, uint64_t *map, size_t maplen, pagunlit_entry *catalogue,
                                size_t cataloguelen, uint8_t *card, size_t cardlen, OTHER_LIMITS uint32_t sheet,
                                uint32_t count);
-pagunlit_outcome other_release(pagunlit_shape shape, uint64_t *map, size_t maplen, pagunlit_entry *catalogue,
+pagunlit_outcome other_release(OTHER_ROLE pagunlit_shape shape, uint64_t *map, size_t maplen, pagunlit_entry *catalogue,
                                size_t cataloguelen, uint32_t sheet);
 
 static inline pagunlit_outcome others(uint32_t sheet, uint32_t count) {
-    return other_reserve(shape, map, words(), catalogue, SHEETS, card, (size_t)PAGUNLIT_BLOCK * n, OTHERS_LIMITS sheet, count);
+    return other_reserve(OTHERS_ROLE shape, map, words(), catalogue, SHEETS, card, (size_t)PAGUNLIT_BLOCK * n,
+                         OTHERS_LIMITS sheet, count);
 }
 
 static inline pagunlit_outcome ours(uint32_t sheet, uint32_t count) {
-    return pagunlit_reserve(shape, map, words(), catalogue, SHEETS, card, (size_t)PAGUNLIT_BLOCK * n, limits, sheet, count);
+    return pagunlit_reserve(ROLE, shape, map, words(), catalogue, SHEETS, card, (size_t)PAGUNLIT_BLOCK * n, limits, sheet,
+                            count);
 }
 
-static inline uint32_t reserves(pagunlit_outcome (*reserve)(uint32_t, uint32_t),
-                                pagunlit_outcome (*release)(pagunlit_shape, uint64_t *, size_t, pagunlit_entry *, size_t,
-                                                            uint32_t)) {
+static inline pagunlit_outcome others_release(uint32_t sheet) {
+    return other_release(OTHERS_ROLE shape, map, words(), catalogue, SHEETS, sheet);
+}
+
+static inline pagunlit_outcome our_release(uint32_t sheet) {
+    return pagunlit_release(ROLE, shape, map, words(), catalogue, SHEETS, sheet);
+}
+
+static inline uint32_t reserves(pagunlit_outcome (*reserve)(uint32_t, uint32_t), pagunlit_outcome (*release)(uint32_t)) {
     uint32_t sum = 0;
     for (uint32_t i = 0; i < LENGTHS; i++) {
         pagunlit_outcome o = reserve(i, lengths[i]);
         sum += o.number + o.first;
         shape = o.shape;
     }
-    for (uint32_t i = 0; i < LENGTHS; i++) shape = release(shape, map, words(), catalogue, SHEETS, i).shape;
+    for (uint32_t i = 0; i < LENGTHS; i++) shape = release(i).shape;
     return sum;
 }
 
 static uint32_t their_reserves(uint32_t argument) {
-    return argument + reserves(others, other_release);
+    return argument + reserves(others, others_release);
 }
 
 static uint32_t our_reserves(uint32_t argument) {
-    return argument + reserves(ours, pagunlit_release);
+    return argument + reserves(ours, our_release);
 }
 
 static uint32_t their_refused(uint32_t k) {
@@ -60,12 +69,12 @@ static uint32_t our_refused(uint32_t k) {
 }
 
 static uint32_t their_search(uint32_t k) {
-    pagunlit_outcome o = other_search(shape, map, words(), k);
+    pagunlit_outcome o = other_search(OTHERS_ROLE shape, map, words(), k);
     return 31 * o.number + o.first;
 }
 
 static uint32_t our_search(uint32_t k) {
-    pagunlit_outcome o = pagunlit_search(shape, map, words(), k);
+    pagunlit_outcome o = pagunlit_search(ROLE, shape, map, words(), k);
     return 31 * o.number + o.first;
 }
 

@@ -96,6 +96,8 @@ static int refused_sheet(const desk_said *said)
     uint32_t sheet = said->sheet;
 
     switch (said->row) {
+    case ROW_ROLE:
+        return printf("this role may not make this call");
     case ROW_SHEET:
         return printf("there is no sheet %u", sheet);
     case ROW_ENTRY:

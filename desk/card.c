@@ -34,7 +34,7 @@ int card_make(desk_card *card, uint32_t blocks, uint32_t sheets)
 {
     memset(card, 0, sizeof *card);
     lengths(card, blocks, sheets);
-    card->role = DESK_PHARMACIST;
+    card->role = PAGUNLIT_PHARMACIST;
     for (int wing = 0; wing < PAGUNLIT_WINGS; wing++)
         card->limits[wing] = UINT32_MAX;
     int made = tables(card);

@@ -4,8 +4,6 @@
 
 #include "pagunlit.h"
 
-enum { DESK_PHARMACIST = 1, DESK_CARER = 2, DESK_SERVICE = 3 };
-
 typedef struct {
     pagunlit_shape shape;
     uint64_t *map;

@@ -35,7 +35,7 @@ const desk_command commands[] = {
      CALLS},
     {"summary", "on|off|check", "keep a summary beside the map; check whether it is the map's own", command_summary,
      CALL_CHECK},
-    {"role", "[pharmacist|carer|service]", "who makes the calls", command_role, CALLS},
+    {"role", "[pharmacist|carer|service|NUMBER]", "who makes the calls", command_role, CALLS},
     {"break", "block BLOCK byte BYTE | entry SHEET [mark|start|length NUMBER] | bit BLOCK | free COUNT | image BYTE",
      "damage something on purpose", command_break, CALLS},
     {"card", "", "the card as a grid, and its sheets", command_card, CALLS},

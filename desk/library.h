@@ -1,7 +1,5 @@
-/* The library's calls, each in one place: lent what the card has, and the shape kept for the next call.
- *
- * Document 02's request (n) gives every call but those on a payload a role, which comes first: card->role. It is kept and
- * shown already, and is handed over here when the library takes it. */
+/* The library's calls, each in one place: made in the role that was set, lent what the card has, and the shape kept for the
+ * next call. */
 #ifndef DESK_LIBRARY_H
 #define DESK_LIBRARY_H
 

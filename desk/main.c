@@ -50,12 +50,14 @@ static void run_line(desk *d, char *line)
 static const char *prompt(const desk *d)
 {
     switch (d->card.role) {
-    case DESK_CARER:
+    case PAGUNLIT_CARER:
         return "carer> ";
-    case DESK_SERVICE:
+    case PAGUNLIT_SERVICE:
         return "service> ";
-    default:
+    case PAGUNLIT_PHARMACIST:
         return "pharmacist> ";
+    default:
+        return "nobody> ";
     }
 }
 

@@ -45,25 +45,32 @@ COMMAND(limit)
         printf("Wing %u may hold %u blocks.\n", wing, limit);
 }
 
-COMMAND(role)
+/* A role by its name or its number. Any number is one that can be asked for: the library turns away those that are none. */
+static int role_named(const char *word, uint32_t *role)
 {
     static const char *const names[] = {"", "pharmacist", "carer", "service"};
+
+    for (*role = PAGUNLIT_PHARMACIST; *role <= PAGUNLIT_SERVICE; ++*role)
+        if (strcmp(word, names[*role]) == 0)
+            return 1;
+    return read_number(word, role);
+}
+
+COMMAND(role)
+{
+    uint32_t role = d->card.role;
 
     if (words->count > 2) {
         command_usage(d, words);
         return;
     }
-    for (uint32_t role = DESK_PHARMACIST; role <= DESK_SERVICE; role++)
-        if (strcmp(words_at(words, 1), names[role]) == 0) {
-            d->card.role = role;
-            printf("The role is %u, %s. The library does not ask for it yet: any role may make every call.\n", role,
-                   names[role]);
-            return;
-        }
-    if (words->count == 1)
-        printf("The role is %u, %s.\n", d->card.role, names[d->card.role]);
-    else
-        desk_wrong(d, "`%s` is no role: there are pharmacist, carer and service.", words->word[1]);
+    if (words->count == 2 && !role_named(words->word[1], &role)) {
+        desk_wrong(d, "`%.40s` is no role: there are pharmacist, carer and service.", words->word[1]);
+        return;
+    }
+    d->card.role = role;
+    printf("The calls are made in role %u. A pharmacist (1) may make all of them; a carer (2) the dated show, standing and"
+           " survey; service (3) fresh, save, load, close, standing and survey.\n", role);
 }
 
 COMMAND(card)

@@ -5,6 +5,7 @@
 /* What document 01's table says of a number, or document 02 where the row came with a request. Where a number has several
  * reasons, each is a row of its own here, as the order under the table has them. */
 static const struct { uint32_t number; const char *sentence; } table[ROWS] = {
+    [ROW_ROLE] = {21, "02 (n): an unknown role or a call not in its row"},
     [ROW_SIZE] = {1, "01: n or c is outside its limits; free count above n; a lent map, card or scratch has the wrong length"},
     [ROW_SHEET] = {2, "01: sheet number >= c"},
     [ROW_ENTRY] = {4, "01: entry damaged"},
@@ -36,15 +37,15 @@ static const struct { uint32_t number; const char *sentence; } table[ROWS] = {
                        " or more"},
 };
 
-#define TO_SHEET ROW_SIZE, ROW_SHEET, ROW_ENTRY
+#define TO_SHEET ROW_ROLE, ROW_SIZE, ROW_SHEET, ROW_ENTRY
 #define NOT_ABSENT ROW_PAUSED, ROW_OPEN, ROW_COMPLETE, ROW_NONE
 #define NOT_OPEN ROW_ABSENT, ROW_PAUSED, ROW_COMPLETE
 #define NOT_COMPLETE ROW_ABSENT, ROW_PAUSED, ROW_OPEN
 
 static const struct { const char *name; desk_row rows[ROWS]; } calls[CALLS] = {
-    [CALL_FRESH] = {"fresh", {ROW_SIZE}},
-    [CALL_SEARCH] = {"search", {ROW_SIZE, ROW_NONE, ROW_FIT}},
-    [CALL_SURVEY] = {"survey", {ROW_SIZE}},
+    [CALL_FRESH] = {"fresh", {ROW_ROLE, ROW_SIZE}},
+    [CALL_SEARCH] = {"search", {ROW_ROLE, ROW_SIZE, ROW_NONE, ROW_FIT}},
+    [CALL_SURVEY] = {"survey", {ROW_ROLE, ROW_SIZE}},
     [CALL_RESERVE] = {"reserve", {TO_SHEET, NOT_ABSENT, ROW_LIMIT, ROW_FIT, ROW_FREE}},
     [CALL_PLACED] = {"placed reserve", {TO_SHEET, NOT_ABSENT, ROW_FIGURES, ROW_LIMIT, ROW_FIT, ROW_FREE}},
     [CALL_OFFER] = {"offer", {TO_SHEET, NOT_ABSENT, ROW_LIMIT, ROW_FIT, ROW_FREE}},
@@ -58,11 +59,11 @@ static const struct { const char *name; desk_row rows[ROWS]; } calls[CALLS] = {
     [CALL_STANDING] = {"standing", {TO_SHEET}},
     [CALL_SHOW] = {"show", {TO_SHEET, NOT_COMPLETE, ROW_PLACE, ROW_BLOCK}},
     [CALL_DATED] = {"dated show", {TO_SHEET, NOT_COMPLETE, ROW_PLACE, ROW_DATE, ROW_FIRST, ROW_TERM, ROW_BLOCK}},
-    [CALL_BUILD] = {"summary build", {ROW_SIZE}},
-    [CALL_CHECK] = {"summary check", {ROW_SIZE}},
-    [CALL_SAVE] = {"save", {ROW_SIZE, ROW_STATE, ROW_LENGTH}},
-    [CALL_LOAD] = {"load", {ROW_LENGTH, ROW_FRAME, ROW_HEAD, ROW_LENT, ROW_CONTENT}},
-    [CALL_CLOSE] = {"close", {ROW_SIZE, ROW_STATE}},
+    [CALL_BUILD] = {"summary build", {ROW_ROLE, ROW_SIZE}},
+    [CALL_CHECK] = {"summary check", {ROW_ROLE, ROW_SIZE}},
+    [CALL_SAVE] = {"save", {ROW_ROLE, ROW_SIZE, ROW_STATE, ROW_LENGTH}},
+    [CALL_LOAD] = {"load", {ROW_ROLE, ROW_LENGTH, ROW_FRAME, ROW_HEAD, ROW_LENT, ROW_CONTENT}},
+    [CALL_CLOSE] = {"close", {ROW_ROLE, ROW_SIZE, ROW_STATE}},
     [CALL_READ_COUNT] = {"count", {ROW_PAYLOAD, ROW_DIGIT}},
     [CALL_WRITE_COUNT] = {"count", {ROW_PAYLOAD, ROW_DIGIT}},
 };

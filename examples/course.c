@@ -4,7 +4,8 @@
  * The program keeps a card of 8 blocks and 4 sheets. After every call it prints which sheet holds each block of the
  * card ('.' is free), and what the call answered. Three things are to be seen in that column and in the answers,
  * whatever is called: a sheet with a blank place is neither completed, shown nor taken for a pause; each block has one
- * sheet at most; and a reserve is told that the card is full only when no run of free blocks is long enough.
+ * sheet at most; and a reserve is told that the card is full only when no run of free blocks is long enough. The calls are
+ * the pharmacist's, but for some near the end.
  *
  *     examples/run        builds it, prints what it prints, and compares that with course.txt
  */
@@ -172,6 +173,37 @@ static void closed_gaps(void)
     standings();
 }
 
+static void others(void)
+{
+    puts("The pharmacist prescribes a course from 29 February 2024, day 8825, to 6 March, day 8831.");
+    release(0);
+    reserve(0, 2);
+    put_term(0, 8825, 8831);
+    put(0, 1, "one tablet at 8");
+    complete(0);
+    release(3);
+
+    puts("A carer reads: what holds on the day, and nothing before or after it. All else is turned away.");
+    role = PAGUNLIT_CARER;
+    show(0, 1);
+    show_dated(0, 1, 2024, 2, 28);
+    show_dated(0, 1, 2024, 2, 29);
+    pause_sheet(0);
+
+    puts("Service looks after the card, and reads no prescription.");
+    role = PAGUNLIT_SERVICE;
+    show_dated(0, 1, 2024, 2, 29);
+    close_gaps();
+    save();
+    release(0);
+    standings();
+
+    puts("The carer finds the course where it is now.");
+    role = PAGUNLIT_CARER;
+    show_dated(0, 1, 2024, 3, 6);
+    role = PAGUNLIT_PHARMACIST;
+}
+
 int main(void)
 {
     prescription();
@@ -182,6 +214,7 @@ int main(void)
     kept_summary();
     shared_card();
     closed_gaps();
+    others();
     puts("Doses are counts with two decimals. None is not 0, and a digit that cannot be is refused.");
     doses();
     return 0;

@@ -25,8 +25,8 @@
  * and third have then the values that the call answers, 0 where there are none. Any other number is a refusal: the shape
  * comes back as it was, nothing that was lent is changed but a scratch, and the values are 0, but for the place with 9.
  *
- * Each function below lists its numbers in their order: if several hold, the answer is the first of them. A number that is
- * not listed is never given.
+ * Each function below lists its numbers in their order: if several hold, the answer is the first of them. In every function
+ * that takes a role 21 comes before all of them, and is not listed again. Another number that is not listed is never given.
  */
 #ifndef PAGUNLIT_H
 #define PAGUNLIT_H
@@ -39,8 +39,8 @@ extern "C" {
 #endif
 
 /* The version of this header, 10000 * first + 100 * second + third, and as a text. */
-#define PAGUNLIT_VERSION 30000
-#define PAGUNLIT_VERSION_TEXT "3.0.0"
+#define PAGUNLIT_VERSION 40000
+#define PAGUNLIT_VERSION_TEXT "4.0.0"
 
 enum {
     PAGUNLIT_BLOCK = 512,       /* bytes of a block */
@@ -73,8 +73,14 @@ enum {
     PAGUNLIT_RUN_NOT_FREE = 17,  /* accept: the run is not all free and on the card */
     PAGUNLIT_OVER_LIMIT = 18,    /* offer, reserves, accept and grow: the limit of the sheet's wing would be passed */
     PAGUNLIT_NO_DATE = 19,       /* dated show: there is no such date, or it is not in the years 2000 to 2099 */
-    PAGUNLIT_OUTSIDE_TERM = 20   /* dated show: the day is before the sheet's first day or after its last */
+    PAGUNLIT_OUTSIDE_TERM = 20,  /* dated show: the day is before the sheet's first day or after its last */
+    PAGUNLIT_TURNED_AWAY = 21    /* there is no such role, or it may not make this call */
 };
+
+/* Who makes a call. The pharmacist may make every call; a carer pagunlit_show_dated, pagunlit_standing and pagunlit_survey; the
+ * service pagunlit_fresh, pagunlit_save, pagunlit_load, pagunlit_close, pagunlit_close_with_summary, pagunlit_standing and
+ * pagunlit_survey. Any other call of a role is 21, and so is every call of any other number. */
+enum { PAGUNLIT_PHARMACIST = 1, PAGUNLIT_CARER = 2, PAGUNLIT_SERVICE = 3 };
 
 /* Marks of an entry. */
 enum { PAGUNLIT_ABSENT = 0x41, PAGUNLIT_PAUSED = 0x50, PAGUNLIT_OPEN = 0x4F, PAGUNLIT_COMPLETE = 0x43 };
@@ -110,8 +116,8 @@ typedef struct {
 
 /* Makes a card of `blocks` blocks: all free, all sheets Absent. It reads nothing of the shape, and needs no card.
  *   1   blocks is not 1 to 262144, cataloguelen not 1 to 1024, or maplen not PAGUNLIT_MAP_WORDS(blocks) */
-pagunlit_outcome pagunlit_fresh(pagunlit_shape shape, uint32_t blocks, uint64_t *map, size_t maplen,
-                                pagunlit_entry *catalogue, size_t cataloguelen);
+pagunlit_outcome pagunlit_fresh(uint32_t role, pagunlit_shape shape, uint32_t blocks, uint64_t *map, size_t maplen,
+    pagunlit_entry *catalogue, size_t cataloguelen);
 
 /* What the functions below mean by "as above":
  *   1   the shape's blocks are not 1 to 262144, or its free count is above them; maplen is not PAGUNLIT_MAP_WORDS of them;
@@ -125,11 +131,11 @@ pagunlit_outcome pagunlit_fresh(pagunlit_shape shape, uint32_t blocks, uint64_t 
 /* The lowest run of k free blocks. first: its start. second: the space behind it, the number of free blocks from its start to
  * the next taken block or the card's end, which is k or more.
  *   1   as above     3   k is 0     10   no run of free blocks is long enough */
-pagunlit_outcome pagunlit_search(pagunlit_shape shape, const uint64_t *map, size_t maplen, uint32_t k);
+pagunlit_outcome pagunlit_search(uint32_t role, pagunlit_shape shape, const uint64_t *map, size_t maplen, uint32_t k);
 
 /* first, second, third: the free blocks, the separate runs of them, and the longest run, as the map has them.
  *   1   as above */
-pagunlit_outcome pagunlit_survey(pagunlit_shape shape, const uint64_t *map, size_t maplen);
+pagunlit_outcome pagunlit_survey(uint32_t role, pagunlit_shape shape, const uint64_t *map, size_t maplen);
 
 /* Wings share a card. Sheets 0 to 127 are wing 0, the next 128 wing 1, and so on to wing 7. The calls that take blocks, and
  * the offer, are lent `limits`, eight numbers: limits[w] is the most blocks that wing w may hold. What a wing holds is the
@@ -145,9 +151,9 @@ pagunlit_outcome pagunlit_survey(pagunlit_shape shape, const uint64_t *map, size
  *   18        as above
  *   10        no run of free blocks is long enough
  *   4         count is more than the shape's free count, though there is a run */
-pagunlit_outcome pagunlit_reserve(pagunlit_shape shape, uint64_t *map, size_t maplen, pagunlit_entry *catalogue,
-                                  size_t cataloguelen, uint8_t *card, size_t cardlen, const uint32_t *limits, uint32_t sheet,
-                                  uint32_t count);
+pagunlit_outcome pagunlit_reserve(uint32_t role, pagunlit_shape shape, uint64_t *map, size_t maplen,
+    pagunlit_entry *catalogue, size_t cataloguelen, uint8_t *card, size_t cardlen, const uint32_t *limits, uint32_t sheet,
+    uint32_t count);
 
 /* The same with three figures: the lowest run that is long enough, starts at or after `from`, starts on a multiple of `step`,
  * and whose last block is below `before`. pagunlit_reserve is the one with 0, the card's blocks and 1. first: its start.
@@ -159,15 +165,15 @@ pagunlit_outcome pagunlit_reserve(pagunlit_shape shape, uint64_t *map, size_t ma
  *   18        as above
  *   10        no run of free blocks within the figures is long enough
  *   4         count is more than the shape's free count, though there is a run */
-pagunlit_outcome pagunlit_reserve_placed(pagunlit_shape shape, uint64_t *map, size_t maplen, pagunlit_entry *catalogue,
-                                         size_t cataloguelen, uint8_t *card, size_t cardlen, const uint32_t *limits,
-                                         uint32_t sheet, uint32_t count, uint32_t from, uint32_t before, uint32_t step);
+pagunlit_outcome pagunlit_reserve_placed(uint32_t role, pagunlit_shape shape, uint64_t *map, size_t maplen,
+    pagunlit_entry *catalogue, size_t cataloguelen, uint8_t *card, size_t cardlen, const uint32_t *limits, uint32_t sheet,
+    uint32_t count, uint32_t from, uint32_t before, uint32_t step);
 
 /* Where pagunlit_reserve would put a sheet of `count` places now. It changes nothing. first: the start. second: count.
  *   1, 2, 4, 6, 7, 8, 3, 18, 10, 4   as pagunlit_reserve */
-pagunlit_outcome pagunlit_offer(pagunlit_shape shape, const uint64_t *map, size_t maplen, const pagunlit_entry *catalogue,
-                                size_t cataloguelen, const uint8_t *card, size_t cardlen, const uint32_t *limits,
-                                uint32_t sheet, uint32_t count);
+pagunlit_outcome pagunlit_offer(uint32_t role, pagunlit_shape shape, const uint64_t *map, size_t maplen,
+    const pagunlit_entry *catalogue, size_t cataloguelen, const uint8_t *card, size_t cardlen, const uint32_t *limits,
+    uint32_t sheet, uint32_t count);
 
 /* An Absent sheet becomes Open with `count` blank places in the blocks from `start` on, as pagunlit_reserve does at the start
  * that it finds. It need not be the lowest run, nor one that was offered. first: the start. second: the space behind it.
@@ -177,9 +183,9 @@ pagunlit_outcome pagunlit_offer(pagunlit_shape shape, const uint64_t *map, size_
  *   18        as above
  *   17        the blocks from start to start + count - 1 are not all free, or go past the card's last
  *   4         count is more than the shape's free count, though they are free */
-pagunlit_outcome pagunlit_accept(pagunlit_shape shape, uint64_t *map, size_t maplen, pagunlit_entry *catalogue,
-                                 size_t cataloguelen, uint8_t *card, size_t cardlen, const uint32_t *limits, uint32_t sheet,
-                                 uint32_t start, uint32_t count);
+pagunlit_outcome pagunlit_accept(uint32_t role, pagunlit_shape shape, uint64_t *map, size_t maplen, pagunlit_entry *catalogue,
+    size_t cataloguelen, uint8_t *card, size_t cardlen, const uint32_t *limits, uint32_t sheet, uint32_t start,
+    uint32_t count);
 
 /* An Open sheet gets `count` more blank places, in the blocks after its own, which are filled with zeros.
  *   1, 2, 4   as above
@@ -188,17 +194,16 @@ pagunlit_outcome pagunlit_accept(pagunlit_shape shape, uint64_t *map, size_t map
  *   18        as above
  *   11        the next blocks are not all free, or go past the card's last
  *   4         count is more than the shape's free count, though they are free */
-pagunlit_outcome pagunlit_grow(pagunlit_shape shape, uint64_t *map, size_t maplen, pagunlit_entry *catalogue,
-                               size_t cataloguelen, uint8_t *card, size_t cardlen, const uint32_t *limits, uint32_t sheet,
-                               uint32_t count);
+pagunlit_outcome pagunlit_grow(uint32_t role, pagunlit_shape shape, uint64_t *map, size_t maplen, pagunlit_entry *catalogue,
+    size_t cataloguelen, uint8_t *card, size_t cardlen, const uint32_t *limits, uint32_t sheet, uint32_t count);
 
 /* Puts a payload of 496 bytes to a place of an Open sheet, whether it is blank or not.
  *   1, 2, 4   as above
  *   5, 6, 8   the sheet is Absent, Paused, Complete
  *   3         place is not below the sheet's length, or payloadlen is not 496 */
-pagunlit_outcome pagunlit_put(pagunlit_shape shape, const uint64_t *map, size_t maplen, const pagunlit_entry *catalogue,
-                              size_t cataloguelen, uint8_t *card, size_t cardlen, uint32_t sheet, uint32_t place,
-                              const uint8_t *payload, size_t payloadlen);
+pagunlit_outcome pagunlit_put(uint32_t role, pagunlit_shape shape, const uint64_t *map, size_t maplen,
+    const pagunlit_entry *catalogue, size_t cataloguelen, uint8_t *card, size_t cardlen, uint32_t sheet, uint32_t place,
+    const uint8_t *payload, size_t payloadlen);
 
 /* An Open sheet becomes Complete, if none of its places is blank.
  *   1, 2, 4   as above
@@ -206,42 +211,42 @@ pagunlit_outcome pagunlit_put(pagunlit_shape shape, const uint64_t *map, size_t 
  *   4         a block of the sheet is neither blank (all zeros) nor sound: it carries another sheet or place, or its check
  *             does not hold
  *   9         a place is blank, and first is the lowest blank place */
-pagunlit_outcome pagunlit_complete(pagunlit_shape shape, const uint64_t *map, size_t maplen, pagunlit_entry *catalogue,
-                                   size_t cataloguelen, const uint8_t *card, size_t cardlen, uint32_t sheet);
+pagunlit_outcome pagunlit_complete(uint32_t role, pagunlit_shape shape, const uint64_t *map, size_t maplen,
+    pagunlit_entry *catalogue, size_t cataloguelen, const uint8_t *card, size_t cardlen, uint32_t sheet);
 
 /* An Absent or a Complete sheet becomes Paused. A Complete one, a finished course, keeps its blocks and what they hold, and
  * can be resumed.
  *   1, 2, 4   as above
  *   6, 7      the sheet is Paused, Open */
-pagunlit_outcome pagunlit_pause(pagunlit_shape shape, const uint64_t *map, size_t maplen, pagunlit_entry *catalogue,
-                                size_t cataloguelen, uint32_t sheet);
+pagunlit_outcome pagunlit_pause(uint32_t role, pagunlit_shape shape, const uint64_t *map, size_t maplen,
+    pagunlit_entry *catalogue, size_t cataloguelen, uint32_t sheet);
 
 /* A Paused sheet with blocks becomes Complete again. It looks at no block, so it is lent no card.
  *   1, 2, 4      as above
  *   5, 6, 7, 8   the sheet is Absent, Paused without blocks, Open, Complete */
-pagunlit_outcome pagunlit_resume(pagunlit_shape shape, const uint64_t *map, size_t maplen, pagunlit_entry *catalogue,
-                                 size_t cataloguelen, uint32_t sheet);
+pagunlit_outcome pagunlit_resume(uint32_t role, pagunlit_shape shape, const uint64_t *map, size_t maplen,
+    pagunlit_entry *catalogue, size_t cataloguelen, uint32_t sheet);
 
 /* A sheet that is not Absent becomes Absent, and its blocks free. The card's bytes stay.
  *   1, 2, 4   as above
  *   5         the sheet is Absent
  *   4         the free count with the sheet's blocks would be above the shape's blocks */
-pagunlit_outcome pagunlit_release(pagunlit_shape shape, uint64_t *map, size_t maplen, pagunlit_entry *catalogue,
-                                  size_t cataloguelen, uint32_t sheet);
+pagunlit_outcome pagunlit_release(uint32_t role, pagunlit_shape shape, uint64_t *map, size_t maplen,
+    pagunlit_entry *catalogue, size_t cataloguelen, uint32_t sheet);
 
 /* first, second, third: the sheet's mark, start and length.
  *   1, 2, 4   as above */
-pagunlit_outcome pagunlit_standing(pagunlit_shape shape, const uint64_t *map, size_t maplen,
-                                   const pagunlit_entry *catalogue, size_t cataloguelen, uint32_t sheet);
+pagunlit_outcome pagunlit_standing(uint32_t role, pagunlit_shape shape, const uint64_t *map, size_t maplen,
+    const pagunlit_entry *catalogue, size_t cataloguelen, uint32_t sheet);
 
 /* Copies the payload of a place of a Complete sheet to the buffer, of 496 bytes.
  *   1, 2, 4   as above
  *   5, 6, 7   the sheet is Absent, Paused, Open
  *   3         place is not below the sheet's length, or bufferlen is not 496
  *   4         the block of this place is not sound: it carries another sheet or place, or its check does not hold */
-pagunlit_outcome pagunlit_show(pagunlit_shape shape, const uint64_t *map, size_t maplen, const pagunlit_entry *catalogue,
-                               size_t cataloguelen, const uint8_t *card, size_t cardlen, uint32_t sheet, uint32_t place,
-                               uint8_t *buffer, size_t bufferlen);
+pagunlit_outcome pagunlit_show(uint32_t role, pagunlit_shape shape, const uint64_t *map, size_t maplen,
+    const pagunlit_entry *catalogue, size_t cataloguelen, const uint8_t *card, size_t cardlen, uint32_t sheet, uint32_t place,
+    uint8_t *buffer, size_t bufferlen);
 
 /* pagunlit_show on a date, given as its year (2000 to 2099), month (1 to 12) and day: the sheet shows only from its first
  * day to its last, both included. These two days are the first eight bytes of the payload of place 0, four bytes each, the
@@ -255,10 +260,9 @@ pagunlit_outcome pagunlit_show(pagunlit_shape shape, const uint64_t *map, size_t
  *   4         the block of place 0 is not sound
  *   20        the day is before the first or after the last
  *   4         the block of this place is not sound */
-pagunlit_outcome pagunlit_show_dated(pagunlit_shape shape, const uint64_t *map, size_t maplen,
-                                     const pagunlit_entry *catalogue, size_t cataloguelen, const uint8_t *card,
-                                     size_t cardlen, uint32_t sheet, uint32_t place, uint32_t year, uint32_t month,
-                                     uint32_t day, uint8_t *buffer, size_t bufferlen);
+pagunlit_outcome pagunlit_show_dated(uint32_t role, pagunlit_shape shape, const uint64_t *map, size_t maplen,
+    const pagunlit_entry *catalogue, size_t cataloguelen, const uint8_t *card, size_t cardlen, uint32_t sheet, uint32_t place,
+    uint32_t year, uint32_t month, uint32_t day, uint8_t *buffer, size_t bufferlen);
 
 /* A summary beside the map, with which a reserve finds its run, or that there is none, without going through the map. It has
  * for each group of words three numbers, those of group g from summary[3 * g] on: the free run at the group's head, the one at
@@ -276,46 +280,42 @@ pagunlit_outcome pagunlit_show_dated(pagunlit_shape shape, const uint64_t *map, 
 
 /* Writes the map's own summary, whatever was there before.
  *   1   as above */
-pagunlit_outcome pagunlit_summary_build(pagunlit_shape shape, const uint64_t *map, size_t maplen, uint32_t *summary,
-                                        size_t summarylen);
+pagunlit_outcome pagunlit_summary_build(uint32_t role, pagunlit_shape shape, const uint64_t *map, size_t maplen,
+    uint32_t *summary, size_t summarylen);
 
 /* first: 1 if the summary is the map's own, else 0.
  *   1   as above */
-pagunlit_outcome pagunlit_summary_check(pagunlit_shape shape, const uint64_t *map, size_t maplen, const uint32_t *summary,
-                                        size_t summarylen);
+pagunlit_outcome pagunlit_summary_check(uint32_t role, pagunlit_shape shape, const uint64_t *map, size_t maplen,
+    const uint32_t *summary, size_t summarylen);
 
 /* pagunlit_reserve with a summary. It is changed in the groups above the words that are marked, and in no other.
  *   1, 2, 4, 6, 7, 8, 3, 18, 10, 4   as pagunlit_reserve */
-pagunlit_outcome pagunlit_reserve_with_summary(pagunlit_shape shape, uint64_t *map, size_t maplen, uint32_t *summary,
-                                               size_t summarylen, pagunlit_entry *catalogue, size_t cataloguelen,
-                                               uint8_t *card, size_t cardlen, const uint32_t *limits, uint32_t sheet,
-                                               uint32_t count);
+pagunlit_outcome pagunlit_reserve_with_summary(uint32_t role, pagunlit_shape shape, uint64_t *map, size_t maplen,
+    uint32_t *summary, size_t summarylen, pagunlit_entry *catalogue, size_t cataloguelen, uint8_t *card, size_t cardlen,
+    const uint32_t *limits, uint32_t sheet, uint32_t count);
 
 /* pagunlit_reserve_placed with a summary, likewise.
  *   1, 2, 4, 6, 7, 8, 3, 15, 18, 10, 4   as pagunlit_reserve_placed */
-pagunlit_outcome pagunlit_reserve_placed_with_summary(pagunlit_shape shape, uint64_t *map, size_t maplen, uint32_t *summary,
-                                                      size_t summarylen, pagunlit_entry *catalogue, size_t cataloguelen,
-                                                      uint8_t *card, size_t cardlen, const uint32_t *limits, uint32_t sheet,
-                                                      uint32_t count, uint32_t from, uint32_t before, uint32_t step);
+pagunlit_outcome pagunlit_reserve_placed_with_summary(uint32_t role, pagunlit_shape shape, uint64_t *map, size_t maplen,
+    uint32_t *summary, size_t summarylen, pagunlit_entry *catalogue, size_t cataloguelen, uint8_t *card, size_t cardlen,
+    const uint32_t *limits, uint32_t sheet, uint32_t count, uint32_t from, uint32_t before, uint32_t step);
 
 /* pagunlit_accept with a summary, likewise. Whatever the summary says, it answers and leaves all else as without it.
  *   1, 2, 4, 6, 7, 8, 3, 18, 17, 4   as pagunlit_accept */
-pagunlit_outcome pagunlit_accept_with_summary(pagunlit_shape shape, uint64_t *map, size_t maplen, uint32_t *summary,
-                                              size_t summarylen, pagunlit_entry *catalogue, size_t cataloguelen, uint8_t *card,
-                                              size_t cardlen, const uint32_t *limits, uint32_t sheet, uint32_t start,
-                                              uint32_t count);
+pagunlit_outcome pagunlit_accept_with_summary(uint32_t role, pagunlit_shape shape, uint64_t *map, size_t maplen,
+    uint32_t *summary, size_t summarylen, pagunlit_entry *catalogue, size_t cataloguelen, uint8_t *card, size_t cardlen,
+    const uint32_t *limits, uint32_t sheet, uint32_t start, uint32_t count);
 
 /* pagunlit_grow with a summary, likewise.
  *   1, 2, 4, 5, 6, 8, 3, 18, 11, 4   as pagunlit_grow */
-pagunlit_outcome pagunlit_grow_with_summary(pagunlit_shape shape, uint64_t *map, size_t maplen, uint32_t *summary,
-                                            size_t summarylen, pagunlit_entry *catalogue, size_t cataloguelen, uint8_t *card,
-                                            size_t cardlen, const uint32_t *limits, uint32_t sheet, uint32_t count);
+pagunlit_outcome pagunlit_grow_with_summary(uint32_t role, pagunlit_shape shape, uint64_t *map, size_t maplen,
+    uint32_t *summary, size_t summarylen, pagunlit_entry *catalogue, size_t cataloguelen, uint8_t *card, size_t cardlen,
+    const uint32_t *limits, uint32_t sheet, uint32_t count);
 
 /* pagunlit_release with a summary, likewise.
  *   1, 2, 4, 5, 4   as pagunlit_release */
-pagunlit_outcome pagunlit_release_with_summary(pagunlit_shape shape, uint64_t *map, size_t maplen, uint32_t *summary,
-                                               size_t summarylen, pagunlit_entry *catalogue, size_t cataloguelen,
-                                               uint32_t sheet);
+pagunlit_outcome pagunlit_release_with_summary(uint32_t role, pagunlit_shape shape, uint64_t *map, size_t maplen,
+    uint32_t *summary, size_t summarylen, pagunlit_entry *catalogue, size_t cataloguelen, uint32_t sheet);
 
 /* Saves shape, map and catalogue as an image, of exactly PAGUNLIT_IMAGE_BYTES. The scratch has PAGUNLIT_SCRATCH_WORDS
  * of the blocks, and is all zeros afterwards, whatever the answer. The card's blocks are no part of the image.
@@ -323,9 +323,9 @@ pagunlit_outcome pagunlit_release_with_summary(pagunlit_shape shape, uint64_t *m
  *   4   the state is not sound: an entry cannot be, two sheets share a block, a block is free and held or neither, a bit of
  *       the map is 1 behind the last block, or the free count is not the number of free blocks
  *   12  imagelen is not PAGUNLIT_IMAGE_BYTES(blocks, cataloguelen) */
-pagunlit_outcome pagunlit_save(pagunlit_shape shape, const uint64_t *map, size_t maplen, const pagunlit_entry *catalogue,
-                               size_t cataloguelen, uint64_t *scratch, size_t scratchlen, uint8_t *image,
-                               size_t imagelen);
+pagunlit_outcome pagunlit_save(uint32_t role, pagunlit_shape shape, const uint64_t *map, size_t maplen,
+    const pagunlit_entry *catalogue, size_t cataloguelen, uint64_t *scratch, size_t scratchlen, uint8_t *image,
+    size_t imagelen);
 
 /* Reads an image into a map and a catalogue of the lengths that it asks for (pagunlit_image_blocks and pagunlit_image_sheets
  * of pagunlit_text.h read them), and hands back its shape. It reads nothing of the shape it takes. Nothing is written but the
@@ -336,8 +336,8 @@ pagunlit_outcome pagunlit_save(pagunlit_shape shape, const uint64_t *map, size_t
  *   1   maplen is not PAGUNLIT_MAP_WORDS or scratchlen not PAGUNLIT_SCRATCH_WORDS of the image's blocks, or cataloguelen not
  *       its sheets
  *   14  the state in the image is not sound, or what fills it up is not all zeros */
-pagunlit_outcome pagunlit_load(pagunlit_shape shape, const uint8_t *image, size_t imagelen, uint64_t *map, size_t maplen,
-                               pagunlit_entry *catalogue, size_t cataloguelen, uint64_t *scratch, size_t scratchlen);
+pagunlit_outcome pagunlit_load(uint32_t role, pagunlit_shape shape, const uint8_t *image, size_t imagelen, uint64_t *map,
+    size_t maplen, pagunlit_entry *catalogue, size_t cataloguelen, uint64_t *scratch, size_t scratchlen);
 
 /* Closes the gaps: moves the blocks of all sheets towards block 0, in order of their starts, with no block free before or
  * between them, and their bytes along. Every sheet keeps its mark, its length and what its places hold; the free count stays,
@@ -346,14 +346,14 @@ pagunlit_outcome pagunlit_load(pagunlit_shape shape, const uint8_t *image, size_
  *   1   as above
  *   4   the state is not sound: an entry is damaged, two sheets hold the same block, a block is taken that no sheet holds, or
  *       the free count is not the map's */
-pagunlit_outcome pagunlit_close(pagunlit_shape shape, uint64_t *map, size_t maplen, pagunlit_entry *catalogue,
-                                size_t cataloguelen, uint8_t *card, size_t cardlen, uint64_t *scratch, size_t scratchlen);
+pagunlit_outcome pagunlit_close(uint32_t role, pagunlit_shape shape, uint64_t *map, size_t maplen, pagunlit_entry *catalogue,
+    size_t cataloguelen, uint8_t *card, size_t cardlen, uint64_t *scratch, size_t scratchlen);
 
 /* pagunlit_close with a summary, which is built anew, whatever it was before. A refusal leaves it as it was.
  *   1, 4   as pagunlit_close */
-pagunlit_outcome pagunlit_close_with_summary(pagunlit_shape shape, uint64_t *map, size_t maplen, uint32_t *summary,
-                                             size_t summarylen, pagunlit_entry *catalogue, size_t cataloguelen,
-                                             uint8_t *card, size_t cardlen, uint64_t *scratch, size_t scratchlen);
+pagunlit_outcome pagunlit_close_with_summary(uint32_t role, pagunlit_shape shape, uint64_t *map, size_t maplen,
+    uint32_t *summary, size_t summarylen, pagunlit_entry *catalogue, size_t cataloguelen, uint8_t *card, size_t cardlen,
+    uint64_t *scratch, size_t scratchlen);
 
 /* Dose counts in packed decimal. A payload holds 124 counts of four bytes, count number `which` at byte 4 * which: two
  * digits a byte, the high digit first, six whole digits and two of hundredths. Four bytes of 0xFF mean absent; in any other

@@ -53,6 +53,8 @@ static inline const char *pagunlit_meaning(uint32_t number)
         return "dated show: the date doesn't exist or lies outside the span";
     case PAGUNLIT_OUTSIDE_TERM:
         return "dated show: the day lies outside the term";
+    case PAGUNLIT_TURNED_AWAY:
+        return "an unknown role or a call not in its row";
     default:
         return "no number of this library";
     }

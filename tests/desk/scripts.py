@@ -23,7 +23,8 @@ WORDS = ('0 1 2 3 7 8 63 64 128 1024 4096 4294967295 4294967296 -1 x on off chec
 PLAUSIBLE = ('fresh 8 4|fresh 70 9|reserve % %|reserve % % from % before ? step %|put % % one tablet|term % % ? a course|'
              'count % % % 2.50|count % % %|complete %|show % %|show % % on 2026-11-15|grow % %|pause %|resume %|release %|'
              'offer % %|accept % % %|accept|standing %|search %|survey|close|save|load|limit 0 ?|limit 0 none|summary on|'
-             'summary off|summary check|break block % byte ?|break entry %|break entry % mark ?|break entry % start ?|'
+             'summary off|summary check|role 1|role 1|role %|'
+             'break block % byte ?|break entry %|break entry % mark ?|break entry % start ?|'
              'break entry % length ?|break bit ?|break free ?|break image ?|card|picture /dev/null|why|undo|undo|undo')
 
 

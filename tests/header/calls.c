@@ -1,12 +1,13 @@
 /* Calls every function through the headers, with arguments that all differ, and prints what came back and what was changed.
  * tests/header/src/calls.rs works the same calls out by the card of tests/src, bit by bit, and compares line by line; which
- * calls the first four parts make, it is told by the names: the call, its sheet and its number. */
+ * calls the first five parts make, it is told by the names: the call, its sheet and its number, or the role of those that
+ * follow. */
 #include "lent.h"
 
 /* From a fresh card to a saved one. */
 static void course(void)
 {
-    told("fresh 70", pagunlit_fresh(shape, N, map, W, catalogue, C));
+    told("fresh 70", pagunlit_fresh(role, shape, N, map, W, catalogue, C));
     reserve("reserve 2 3", 2, 3);
     reserve("reserve 1 5", 1, 5);
     grow("grow 1 2", 1, 2);
@@ -25,21 +26,21 @@ static void course(void)
     show_dated("show-dated 2 1 2024 2 28", 2, 1, 2024, 2, 28);
     show_dated("show-dated 2 1 2023 2 29", 2, 1, 2023, 2, 29);
     show_dated("show-dated 2 3 2023 2 29", 2, 3, 2023, 2, 29);
-    told("pause course 2", pagunlit_pause(shape, map, W, catalogue, C, 2));
+    told("pause course 2", pagunlit_pause(role, shape, map, W, catalogue, C, 2));
     show("show paused 2 1", 2, 1);
-    told("resume 2", pagunlit_resume(shape, map, W, catalogue, C, 2));
+    told("resume 2", pagunlit_resume(role, shape, map, W, catalogue, C, 2));
     show("show again 2 1", 2, 1);
     standing("standing 1", 1);
     standing("standing 2", 2);
-    told("pause 0", pagunlit_pause(shape, map, W, catalogue, C, 0));
+    told("pause 0", pagunlit_pause(role, shape, map, W, catalogue, C, 0));
     grow("grow 2 1", 2, 1);
-    told("release 2", pagunlit_release(shape, map, W, catalogue, C, 2));
+    told("release 2", pagunlit_release(role, shape, map, W, catalogue, C, 2));
     search("search 2", 2);
     reserve_placed("reserve-placed 2 4 21 66 7", 2, 4, 21, 66, 7);
-    told("release placed 2", pagunlit_release(shape, map, W, catalogue, C, 2));
+    told("release placed 2", pagunlit_release(role, shape, map, W, catalogue, C, 2));
     offer("offer 2 4", 2, 4);
     take("accept 2 15 6", 2, 15, 6);
-    told("release accepted 2", pagunlit_release(shape, map, W, catalogue, C, 2));
+    told("release accepted 2", pagunlit_release(role, shape, map, W, catalogue, C, 2));
     survey("survey again");
     save("save", sizeof image);
     printf("head\t%u %u\n", pagunlit_image_blocks(image, sizeof image), pagunlit_image_sheets(image, sizeof image));
@@ -66,7 +67,7 @@ static void with_summary(void)
     reserve_placed_with_summary("summary-placed 3 4 21 66 7", 3, 4, 21, 66, 7);
     release_with_summary("summary-release accepted 2", 2);
     take_with_summary("summary-accept full 2 10 60", 2, 10, 60);
-    told("release full 2", pagunlit_release(shape, map, W, catalogue, C, 2));
+    told("release full 2", pagunlit_release(role, shape, map, W, catalogue, C, 2));
     reserve_with_summary("summary-reserve full 2 10", 2, 10);
     check_summary("summary-check full");
 }
@@ -91,9 +92,9 @@ static void refusals(void)
     take("accept 2 68 3", 2, 68, 3);
     take("accept 2 4294967290 7", 2, 4294967290u, 7);
     take("accept 2 9 0", 2, 9, 0);
-    told("resume 0", pagunlit_resume(shape, map, W, catalogue, C, 0));
-    told("resume 1", pagunlit_resume(shape, map, W, catalogue, C, 1));
-    told("pause 1", pagunlit_pause(shape, map, W, catalogue, C, 1));
+    told("resume 0", pagunlit_resume(role, shape, map, W, catalogue, C, 0));
+    told("resume 1", pagunlit_resume(role, shape, map, W, catalogue, C, 1));
+    told("pause 1", pagunlit_pause(role, shape, map, W, catalogue, C, 1));
     grow("grow 1 61", 1, 61);
     limit("limit 10", 10);
     reserve("reserve limit 2 4", 2, 4);
@@ -112,11 +113,71 @@ static void closings(void)
     take("accept gap 2 60 9", 2, 60, 9);
     close_gaps("close 1", S - 1);
     close_gaps("close 2", S);
-    told("release 1", pagunlit_release(shape, map, W, catalogue, C, 1));
+    told("release 1", pagunlit_release(role, shape, map, W, catalogue, C, 1));
     close_gaps_with_summary("summary-close 1", S - 1);
     close_gaps_with_summary("summary-close 2", S);
     check_summary("summary-check closed");
     reserve("reserve closed 1 61", 1, 61);
+}
+
+/* All calls that a carer may not make; sheet 1 is Open, sheet 2 Complete. */
+static void turned_away(void)
+{
+    told("fresh turned 70", pagunlit_fresh(role, shape, N, map, W, catalogue, C));
+    search("search turned 1", 1);
+    reserve("reserve turned 0 1", 0, 1);
+    reserve_placed("reserve-placed turned 0 1 2 68 3", 0, 1, 2, 68, 3);
+    offer("offer turned 0 1", 0, 1);
+    take("accept turned 0 69 1", 0, 69, 1);
+    grow("grow turned 1 1", 1, 1);
+    put("put turned 1 0", 1, 0);
+    complete("complete turned 1", 1);
+    told("pause turned 2", pagunlit_pause(role, shape, map, W, catalogue, C, 2));
+    told("resume turned 2", pagunlit_resume(role, shape, map, W, catalogue, C, 2));
+    told("release turned 2", pagunlit_release(role, shape, map, W, catalogue, C, 2));
+    show("show turned 2 0", 2, 0);
+    build("summary-build turned", NUMBERS);
+    check_summary("summary-check turned");
+    reserve_with_summary("summary-reserve turned 0 1", 0, 1);
+    reserve_placed_with_summary("summary-placed turned 0 1 2 68 3", 0, 1, 2, 68, 3);
+    take_with_summary("summary-accept turned 0 69 1", 0, 69, 1);
+    grow_with_summary("summary-grow turned 1 1", 1, 1);
+    release_with_summary("summary-release turned 2", 2);
+    close_gaps("close turned 2", S);
+    close_gaps_with_summary("summary-close turned 2", S);
+    save("save turned", sizeof image);
+    load("load turned");
+}
+
+/* What each role may do, and may not; what follows is done by the service. */
+static void roles(void)
+{
+    release_with_summary("summary-release for roles 2", 2);
+    reserve("reserve for roles 2 1", 2, 1);
+    put_term("put-term 2 0 8825 8831", 2, 0, 8825, 8831);
+    complete("complete for roles 2", 2);
+    by_role("role 2", PAGUNLIT_CARER);
+    turned_away();
+    show_dated("show-dated carer 2 0 2024 2 29", 2, 0, 2024, 2, 29);
+    show_dated("show-dated carer 2 0 2024 2 28", 2, 0, 2024, 2, 28);
+    standing("standing carer 2", 2);
+    survey("survey carer");
+    by_role("role 3", PAGUNLIT_SERVICE);
+    show_dated("show-dated service 2 0 2024 2 29", 2, 0, 2024, 2, 29);
+    put("put service 1 0", 1, 0);
+    close_gaps("close service 2", S);
+    close_gaps_with_summary("summary-close service 2", S);
+    standing("standing service 2", 2);
+    survey("survey service");
+    by_role("role 0", 0);
+    standing("standing unknown 2", 2);
+    survey("survey unknown");
+    by_role("role 4", 4);
+    show_dated("show-dated unknown 2 0 2024 2 29", 2, 0, 2024, 2, 29);
+    by_role("role 4294967295", UINT32_MAX);
+    turned_away();
+    by_role("role 3 again", PAGUNLIT_SERVICE);
+    told("fresh service 70", pagunlit_fresh(role, shape, N, map, W, catalogue, C));
 }
 
 /* A damaged image, one that asks for no sheets, and the saved one; then an entry that cannot be. */
@@ -191,6 +252,7 @@ int main(void)
     with_summary();
     refusals();
     closings();
+    roles();
     images();
     blocks();
     doses();

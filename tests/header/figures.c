@@ -29,6 +29,9 @@ static void constants(void)
     CONSTANT(PAGUNLIT_SHEETS);
     CONSTANT(PAGUNLIT_WINGS);
     CONSTANT(PAGUNLIT_WING_SHEETS);
+    CONSTANT(PAGUNLIT_PHARMACIST);
+    CONSTANT(PAGUNLIT_CARER);
+    CONSTANT(PAGUNLIT_SERVICE);
     CONSTANT(PAGUNLIT_ABSENT);
     CONSTANT(PAGUNLIT_PAUSED);
     CONSTANT(PAGUNLIT_OPEN);
@@ -67,6 +70,7 @@ static void numbers(void)
     CONSTANT(PAGUNLIT_OVER_LIMIT);
     CONSTANT(PAGUNLIT_NO_DATE);
     CONSTANT(PAGUNLIT_OUTSIDE_TERM);
+    CONSTANT(PAGUNLIT_TURNED_AWAY);
     for (uint32_t number = 0; number < 40; number++)
         printf("meaning %u\t%s\n", number, pagunlit_meaning(number));
     printf("meaning %u\t%s\n", UINT32_MAX, pagunlit_meaning(UINT32_MAX));

@@ -13,6 +13,9 @@ enum { N = 70, C = 3, W = PAGUNLIT_MAP_WORDS(N), S = PAGUNLIT_SCRATCH_WORDS(N) }
 
 enum { CARD = N * PAGUNLIT_BLOCK, IMAGE = PAGUNLIT_IMAGE_BYTES(N, C), NUMBERS = PAGUNLIT_SUMMARY_NUMBERS(N) };
 
+/* Who makes the calls. */
+static uint32_t role = PAGUNLIT_PHARMACIST;
+
 static pagunlit_shape shape;
 static uint64_t map[W], scratch[S];
 static pagunlit_entry catalogue[C];
@@ -83,6 +86,13 @@ static void told(const char *call, pagunlit_outcome outcome)
     shape = outcome.shape;
 }
 
+/* Another role for the calls that follow. */
+static void by_role(const char *name, uint32_t other)
+{
+    role = other;
+    printf("%s\t\n", name);
+}
+
 /* Another limit for the first wing. */
 static void limit(const char *name, uint32_t blocks)
 {
@@ -92,74 +102,74 @@ static void limit(const char *name, uint32_t blocks)
 
 static void reserve(const char *call, uint32_t sheet, uint32_t count)
 {
-    told(call, pagunlit_reserve(shape, map, W, catalogue, C, card, sizeof card, limits, sheet, count));
+    told(call, pagunlit_reserve(role, shape, map, W, catalogue, C, card, sizeof card, limits, sheet, count));
 }
 
 static void reserve_placed(const char *call, uint32_t sheet, uint32_t count, uint32_t from, uint32_t before, uint32_t step)
 {
-    told(call, pagunlit_reserve_placed(shape, map, W, catalogue, C, card, sizeof card, limits, sheet, count, from, before,
-                                       step));
+    told(call, pagunlit_reserve_placed(role, shape, map, W, catalogue, C, card, sizeof card, limits, sheet, count, from,
+                                       before, step));
 }
 
 static void offer(const char *call, uint32_t sheet, uint32_t count)
 {
-    told(call, pagunlit_offer(shape, map, W, catalogue, C, card, sizeof card, limits, sheet, count));
+    told(call, pagunlit_offer(role, shape, map, W, catalogue, C, card, sizeof card, limits, sheet, count));
 }
 
 static void take(const char *call, uint32_t sheet, uint32_t start, uint32_t count)
 {
-    told(call, pagunlit_accept(shape, map, W, catalogue, C, card, sizeof card, limits, sheet, start, count));
+    told(call, pagunlit_accept(role, shape, map, W, catalogue, C, card, sizeof card, limits, sheet, start, count));
 }
 
 static void grow(const char *call, uint32_t sheet, uint32_t count)
 {
-    told(call, pagunlit_grow(shape, map, W, catalogue, C, card, sizeof card, limits, sheet, count));
+    told(call, pagunlit_grow(role, shape, map, W, catalogue, C, card, sizeof card, limits, sheet, count));
 }
 
 static void reserve_with_summary(const char *call, uint32_t sheet, uint32_t count)
 {
-    told(call, pagunlit_reserve_with_summary(shape, map, W, summary, NUMBERS, catalogue, C, card, sizeof card, limits, sheet,
-                                             count));
+    told(call, pagunlit_reserve_with_summary(role, shape, map, W, summary, NUMBERS, catalogue, C, card, sizeof card, limits,
+                                             sheet, count));
 }
 
 static void reserve_placed_with_summary(const char *call, uint32_t sheet, uint32_t count, uint32_t from, uint32_t before,
                                         uint32_t step)
 {
-    told(call, pagunlit_reserve_placed_with_summary(shape, map, W, summary, NUMBERS, catalogue, C, card, sizeof card, limits,
-                                                    sheet, count, from, before, step));
+    told(call, pagunlit_reserve_placed_with_summary(role, shape, map, W, summary, NUMBERS, catalogue, C, card, sizeof card,
+                                                    limits, sheet, count, from, before, step));
 }
 
 static void take_with_summary(const char *call, uint32_t sheet, uint32_t start, uint32_t count)
 {
-    told(call, pagunlit_accept_with_summary(shape, map, W, summary, NUMBERS, catalogue, C, card, sizeof card, limits, sheet,
-                                            start, count));
+    told(call, pagunlit_accept_with_summary(role, shape, map, W, summary, NUMBERS, catalogue, C, card, sizeof card, limits,
+                                            sheet, start, count));
 }
 
 static void grow_with_summary(const char *call, uint32_t sheet, uint32_t count)
 {
-    told(call, pagunlit_grow_with_summary(shape, map, W, summary, NUMBERS, catalogue, C, card, sizeof card, limits, sheet,
-                                          count));
+    told(call, pagunlit_grow_with_summary(role, shape, map, W, summary, NUMBERS, catalogue, C, card, sizeof card, limits,
+                                          sheet, count));
 }
 
 static void release_with_summary(const char *call, uint32_t sheet)
 {
-    told(call, pagunlit_release_with_summary(shape, map, W, summary, NUMBERS, catalogue, C, sheet));
+    told(call, pagunlit_release_with_summary(role, shape, map, W, summary, NUMBERS, catalogue, C, sheet));
 }
 
 static void build(const char *call, size_t length)
 {
-    told(call, pagunlit_summary_build(shape, map, W, summary, length));
+    told(call, pagunlit_summary_build(role, shape, map, W, summary, length));
 }
 
 static void check_summary(const char *call)
 {
-    told(call, pagunlit_summary_check(shape, map, W, summary, NUMBERS));
+    told(call, pagunlit_summary_check(role, shape, map, W, summary, NUMBERS));
 }
 
 static void put(const char *call, uint32_t sheet, uint32_t place)
 {
     fill(slice, sizeof slice, 16 * sheet + place);
-    told(call, pagunlit_put(shape, map, W, catalogue, C, card, sizeof card, sheet, place, slice, sizeof slice));
+    told(call, pagunlit_put(role, shape, map, W, catalogue, C, card, sizeof card, sheet, place, slice, sizeof slice));
 }
 
 /* A payload that starts with the first and the last day of a term, the high byte first. */
@@ -170,62 +180,65 @@ static void put_term(const char *call, uint32_t sheet, uint32_t place, uint32_t 
         slice[i] = (uint8_t)(first >> (24 - 8 * i));
         slice[4 + i] = (uint8_t)(last >> (24 - 8 * i));
     }
-    told(call, pagunlit_put(shape, map, W, catalogue, C, card, sizeof card, sheet, place, slice, sizeof slice));
+    told(call, pagunlit_put(role, shape, map, W, catalogue, C, card, sizeof card, sheet, place, slice, sizeof slice));
 }
 
 static void complete(const char *call, uint32_t sheet)
 {
-    told(call, pagunlit_complete(shape, map, W, catalogue, C, card, sizeof card, sheet));
+    told(call, pagunlit_complete(role, shape, map, W, catalogue, C, card, sizeof card, sheet));
 }
 
 static void show(const char *call, uint32_t sheet, uint32_t place)
 {
     fill(slice, sizeof slice, 99);
-    told(call, pagunlit_show(shape, map, W, catalogue, C, card, sizeof card, sheet, place, slice, sizeof slice));
+    told(call, pagunlit_show(role, shape, map, W, catalogue, C, card, sizeof card, sheet, place, slice, sizeof slice));
 }
 
 static void show_dated(const char *call, uint32_t sheet, uint32_t place, uint32_t year, uint32_t month, uint32_t day)
 {
     fill(slice, sizeof slice, 99);
-    told(call, pagunlit_show_dated(shape, map, W, catalogue, C, card, sizeof card, sheet, place, year, month, day, slice,
-                                   sizeof slice));
+    told(call, pagunlit_show_dated(role, shape, map, W, catalogue, C, card, sizeof card, sheet, place, year, month, day,
+                                   slice, sizeof slice));
 }
 
 static void standing(const char *call, uint32_t sheet)
 {
-    told(call, pagunlit_standing(shape, map, W, catalogue, C, sheet));
+    told(call, pagunlit_standing(role, shape, map, W, catalogue, C, sheet));
 }
 
 static void search(const char *call, uint32_t k)
 {
-    told(call, pagunlit_search(shape, map, W, k));
+    told(call, pagunlit_search(role, shape, map, W, k));
 }
 
 static void survey(const char *call)
 {
-    told(call, pagunlit_survey(shape, map, W));
+    told(call, pagunlit_survey(role, shape, map, W));
 }
 
 static void close_gaps(const char *call, size_t words)
 {
     hold_scratch();
-    told(call, pagunlit_close(shape, map, W, catalogue, C, card, sizeof card, scratch, words));
+    told(call, pagunlit_close(role, shape, map, W, catalogue, C, card, sizeof card, scratch, words));
 }
 
 static void close_gaps_with_summary(const char *call, size_t words)
 {
     hold_scratch();
-    told(call, pagunlit_close_with_summary(shape, map, W, summary, NUMBERS, catalogue, C, card, sizeof card, scratch, words));
+    told(call, pagunlit_close_with_summary(role, shape, map, W, summary, NUMBERS, catalogue, C, card, sizeof card, scratch,
+                                           words));
 }
 
 static void save(const char *call, size_t length)
 {
-    told(call, pagunlit_save(shape, map, W, catalogue, C, scratch, S, image, length));
+    hold_scratch();
+    told(call, pagunlit_save(role, shape, map, W, catalogue, C, scratch, S, image, length));
 }
 
 static void load(const char *call)
 {
-    told(call, pagunlit_load(shape, image, sizeof image, map, W, catalogue, C, scratch, S));
+    hold_scratch();
+    told(call, pagunlit_load(role, shape, image, sizeof image, map, W, catalogue, C, scratch, S));
 }
 
 #endif

@@ -2,6 +2,7 @@
  * them: a slice is a pointer and a length, const where the call only reads it. Behind each header are its functions. This is
  * compiled, so that a prototype with other types in a header is a conflict; and tests/header/src/names.rs reads it, and
  * compares the names of the functions and of their parameters. */
+#define ROLE uint32_t role
 #define SHAPE pagunlit_shape shape
 #define MAP uint64_t *map, size_t maplen
 #define SUMMARY uint32_t *summary, size_t summarylen
@@ -12,39 +13,41 @@
 #define IMAGE uint8_t *image, size_t imagelen
 
 #include "pagunlit.h"
-pagunlit_outcome pagunlit_fresh(SHAPE, uint32_t blocks, MAP, CATALOGUE);
-pagunlit_outcome pagunlit_search(SHAPE, const MAP, uint32_t k);
-pagunlit_outcome pagunlit_survey(SHAPE, const MAP);
-pagunlit_outcome pagunlit_reserve(SHAPE, MAP, CATALOGUE, CARD, LIMITS, uint32_t sheet, uint32_t count);
-pagunlit_outcome pagunlit_reserve_placed(SHAPE, MAP, CATALOGUE, CARD, LIMITS, uint32_t sheet, uint32_t count, uint32_t from,
-                                         uint32_t before, uint32_t step);
-pagunlit_outcome pagunlit_offer(SHAPE, const MAP, const CATALOGUE, const CARD, LIMITS, uint32_t sheet, uint32_t count);
-pagunlit_outcome pagunlit_accept(SHAPE, MAP, CATALOGUE, CARD, LIMITS, uint32_t sheet, uint32_t start, uint32_t count);
-pagunlit_outcome pagunlit_grow(SHAPE, MAP, CATALOGUE, CARD, LIMITS, uint32_t sheet, uint32_t count);
-pagunlit_outcome pagunlit_put(SHAPE, const MAP, const CATALOGUE, CARD, uint32_t sheet, uint32_t place, const uint8_t *payload,
-                              size_t payloadlen);
-pagunlit_outcome pagunlit_complete(SHAPE, const MAP, CATALOGUE, const CARD, uint32_t sheet);
-pagunlit_outcome pagunlit_pause(SHAPE, const MAP, CATALOGUE, uint32_t sheet);
-pagunlit_outcome pagunlit_resume(SHAPE, const MAP, CATALOGUE, uint32_t sheet);
-pagunlit_outcome pagunlit_release(SHAPE, MAP, CATALOGUE, uint32_t sheet);
-pagunlit_outcome pagunlit_standing(SHAPE, const MAP, const CATALOGUE, uint32_t sheet);
-pagunlit_outcome pagunlit_show(SHAPE, const MAP, const CATALOGUE, const CARD, uint32_t sheet, uint32_t place, uint8_t *buffer,
-                               size_t bufferlen);
-pagunlit_outcome pagunlit_show_dated(SHAPE, const MAP, const CATALOGUE, const CARD, uint32_t sheet, uint32_t place,
+pagunlit_outcome pagunlit_fresh(ROLE, SHAPE, uint32_t blocks, MAP, CATALOGUE);
+pagunlit_outcome pagunlit_search(ROLE, SHAPE, const MAP, uint32_t k);
+pagunlit_outcome pagunlit_survey(ROLE, SHAPE, const MAP);
+pagunlit_outcome pagunlit_reserve(ROLE, SHAPE, MAP, CATALOGUE, CARD, LIMITS, uint32_t sheet, uint32_t count);
+pagunlit_outcome pagunlit_reserve_placed(ROLE, SHAPE, MAP, CATALOGUE, CARD, LIMITS, uint32_t sheet, uint32_t count,
+                                         uint32_t from, uint32_t before, uint32_t step);
+pagunlit_outcome pagunlit_offer(ROLE, SHAPE, const MAP, const CATALOGUE, const CARD, LIMITS, uint32_t sheet, uint32_t count);
+pagunlit_outcome pagunlit_accept(ROLE, SHAPE, MAP, CATALOGUE, CARD, LIMITS, uint32_t sheet, uint32_t start, uint32_t count);
+pagunlit_outcome pagunlit_grow(ROLE, SHAPE, MAP, CATALOGUE, CARD, LIMITS, uint32_t sheet, uint32_t count);
+pagunlit_outcome pagunlit_put(ROLE, SHAPE, const MAP, const CATALOGUE, CARD, uint32_t sheet, uint32_t place,
+                              const uint8_t *payload, size_t payloadlen);
+pagunlit_outcome pagunlit_complete(ROLE, SHAPE, const MAP, CATALOGUE, const CARD, uint32_t sheet);
+pagunlit_outcome pagunlit_pause(ROLE, SHAPE, const MAP, CATALOGUE, uint32_t sheet);
+pagunlit_outcome pagunlit_resume(ROLE, SHAPE, const MAP, CATALOGUE, uint32_t sheet);
+pagunlit_outcome pagunlit_release(ROLE, SHAPE, MAP, CATALOGUE, uint32_t sheet);
+pagunlit_outcome pagunlit_standing(ROLE, SHAPE, const MAP, const CATALOGUE, uint32_t sheet);
+pagunlit_outcome pagunlit_show(ROLE, SHAPE, const MAP, const CATALOGUE, const CARD, uint32_t sheet, uint32_t place,
+                               uint8_t *buffer, size_t bufferlen);
+pagunlit_outcome pagunlit_show_dated(ROLE, SHAPE, const MAP, const CATALOGUE, const CARD, uint32_t sheet, uint32_t place,
                                      uint32_t year, uint32_t month, uint32_t day, uint8_t *buffer, size_t bufferlen);
-pagunlit_outcome pagunlit_summary_build(SHAPE, const MAP, SUMMARY);
-pagunlit_outcome pagunlit_summary_check(SHAPE, const MAP, const SUMMARY);
-pagunlit_outcome pagunlit_reserve_with_summary(SHAPE, MAP, SUMMARY, CATALOGUE, CARD, LIMITS, uint32_t sheet, uint32_t count);
-pagunlit_outcome pagunlit_reserve_placed_with_summary(SHAPE, MAP, SUMMARY, CATALOGUE, CARD, LIMITS, uint32_t sheet,
+pagunlit_outcome pagunlit_summary_build(ROLE, SHAPE, const MAP, SUMMARY);
+pagunlit_outcome pagunlit_summary_check(ROLE, SHAPE, const MAP, const SUMMARY);
+pagunlit_outcome pagunlit_reserve_with_summary(ROLE, SHAPE, MAP, SUMMARY, CATALOGUE, CARD, LIMITS, uint32_t sheet,
+                                               uint32_t count);
+pagunlit_outcome pagunlit_reserve_placed_with_summary(ROLE, SHAPE, MAP, SUMMARY, CATALOGUE, CARD, LIMITS, uint32_t sheet,
                                                       uint32_t count, uint32_t from, uint32_t before, uint32_t step);
-pagunlit_outcome pagunlit_accept_with_summary(SHAPE, MAP, SUMMARY, CATALOGUE, CARD, LIMITS, uint32_t sheet, uint32_t start,
-                                              uint32_t count);
-pagunlit_outcome pagunlit_grow_with_summary(SHAPE, MAP, SUMMARY, CATALOGUE, CARD, LIMITS, uint32_t sheet, uint32_t count);
-pagunlit_outcome pagunlit_release_with_summary(SHAPE, MAP, SUMMARY, CATALOGUE, uint32_t sheet);
-pagunlit_outcome pagunlit_close(SHAPE, MAP, CATALOGUE, CARD, SCRATCH);
-pagunlit_outcome pagunlit_close_with_summary(SHAPE, MAP, SUMMARY, CATALOGUE, CARD, SCRATCH);
-pagunlit_outcome pagunlit_save(SHAPE, const MAP, const CATALOGUE, SCRATCH, IMAGE);
-pagunlit_outcome pagunlit_load(SHAPE, const IMAGE, MAP, CATALOGUE, SCRATCH);
+pagunlit_outcome pagunlit_accept_with_summary(ROLE, SHAPE, MAP, SUMMARY, CATALOGUE, CARD, LIMITS, uint32_t sheet,
+                                              uint32_t start, uint32_t count);
+pagunlit_outcome pagunlit_grow_with_summary(ROLE, SHAPE, MAP, SUMMARY, CATALOGUE, CARD, LIMITS, uint32_t sheet,
+                                            uint32_t count);
+pagunlit_outcome pagunlit_release_with_summary(ROLE, SHAPE, MAP, SUMMARY, CATALOGUE, uint32_t sheet);
+pagunlit_outcome pagunlit_close(ROLE, SHAPE, MAP, CATALOGUE, CARD, SCRATCH);
+pagunlit_outcome pagunlit_close_with_summary(ROLE, SHAPE, MAP, SUMMARY, CATALOGUE, CARD, SCRATCH);
+pagunlit_outcome pagunlit_save(ROLE, SHAPE, const MAP, const CATALOGUE, SCRATCH, IMAGE);
+pagunlit_outcome pagunlit_load(ROLE, SHAPE, const IMAGE, MAP, CATALOGUE, SCRATCH);
 pagunlit_count pagunlit_read_count(const uint8_t *payload, size_t payloadlen, uint32_t which);
 uint32_t pagunlit_write_count(uint8_t *payload, size_t payloadlen, uint32_t which, uint32_t hundredths);
 uint32_t pagunlit_write_term(uint8_t *payload, size_t payloadlen, uint32_t first, uint32_t last);

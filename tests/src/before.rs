@@ -25,6 +25,7 @@ mod tests {
     use crate::card::{entry, Answer};
     use crate::image::{body_of, image_of};
     use crate::printer;
+    use crate::roles::SERVICE;
 
     #[test]
     fn it_loads_as_it_did() {
@@ -36,10 +37,10 @@ mod tests {
             bytes: Vec::new(),
             summary: Vec::new(),
         };
-        assert_eq!(loaded.load(IMAGE, &mut [5; 16]), Answer::Done);
+        assert_eq!(loaded.load(SERVICE, IMAGE, &mut [5; 16]), Answer::Done);
         assert!(loaded == card());
         let mut image = vec![0x7e; IMAGE.len()];
-        assert_eq!(loaded.save(&mut [5; 16], &mut image), Answer::Done);
+        assert_eq!(loaded.save(SERVICE, &mut [5; 16], &mut image), Answer::Done);
         assert!(image == IMAGE && image == image_of(&body_of(&card())));
     }
 

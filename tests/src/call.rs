@@ -4,6 +4,7 @@
 use crate::blocks::{figures, Figures};
 use crate::calendar::{date, Date};
 use crate::random::Random;
+use crate::roles::PHARMACIST;
 use crate::rows::Row::{self, *};
 use std::fmt;
 
@@ -40,47 +41,47 @@ pub enum Kind {
 /// document 02 stands where its request says.
 #[rustfmt::skip]
 pub const CALLS: [(Kind, &str, &[Row]); 25] = [
-    (Kind::Fresh, "fresh", &[Blocks, Sheets, MapLength]),
-    (Kind::Search, "search", &[Blocks, FreeAboveN, MapLength, NoBlocks, NoFit]),
-    (Kind::Survey, "survey", &[Blocks, FreeAboveN, MapLength]),
-    (Kind::Reserve, "reserve", &[Blocks, Sheets, FreeAboveN, MapLength, CardLength, NoSheet, Damaged,
+    (Kind::Fresh, "fresh", &[Role, Blocks, Sheets, MapLength]),
+    (Kind::Search, "search", &[Role, Blocks, FreeAboveN, MapLength, NoBlocks, NoFit]),
+    (Kind::Survey, "survey", &[Role, Blocks, FreeAboveN, MapLength]),
+    (Kind::Reserve, "reserve", &[Role, Blocks, Sheets, FreeAboveN, MapLength, CardLength, NoSheet, Damaged,
         Paused, Open, Complete, NoBlocks, OverLimit, NoFit, FreeCount]),
-    (Kind::ReservePlaced, "reserve-placed", &[Blocks, Sheets, FreeAboveN, MapLength, CardLength, NoSheet, Damaged,
+    (Kind::ReservePlaced, "reserve-placed", &[Role, Blocks, Sheets, FreeAboveN, MapLength, CardLength, NoSheet, Damaged,
         Paused, Open, Complete, NoBlocks, NoStep, FromNotBefore, BeforeAboveN, OverLimit, NoFit, FreeCount]),
-    (Kind::Offer, "offer", &[Blocks, Sheets, FreeAboveN, MapLength, CardLength, NoSheet, Damaged,
+    (Kind::Offer, "offer", &[Role, Blocks, Sheets, FreeAboveN, MapLength, CardLength, NoSheet, Damaged,
         Paused, Open, Complete, NoBlocks, OverLimit, NoFit, FreeCount]),
-    (Kind::Accept, "accept", &[Blocks, Sheets, FreeAboveN, MapLength, CardLength, NoSheet, Damaged,
+    (Kind::Accept, "accept", &[Role, Blocks, Sheets, FreeAboveN, MapLength, CardLength, NoSheet, Damaged,
         Paused, Open, Complete, NoBlocks, OverLimit, RunNotFree, FreeCount]),
-    (Kind::Put, "put", &[Blocks, Sheets, FreeAboveN, MapLength, CardLength, NoSheet, Damaged,
+    (Kind::Put, "put", &[Role, Blocks, Sheets, FreeAboveN, MapLength, CardLength, NoSheet, Damaged,
         Absent, Paused, Complete, NoPlace, SliceLength]),
-    (Kind::Grow, "grow", &[Blocks, Sheets, FreeAboveN, MapLength, CardLength, NoSheet, Damaged,
+    (Kind::Grow, "grow", &[Role, Blocks, Sheets, FreeAboveN, MapLength, CardLength, NoSheet, Damaged,
         Absent, Paused, Complete, NoBlocks, OverLimit, NotNext, FreeCount]),
-    (Kind::Complete, "complete", &[Blocks, Sheets, FreeAboveN, MapLength, CardLength, NoSheet, Damaged,
+    (Kind::Complete, "complete", &[Role, Blocks, Sheets, FreeAboveN, MapLength, CardLength, NoSheet, Damaged,
         Absent, Paused, Complete, Unsound, Blank]),
-    (Kind::Pause, "pause", &[Blocks, Sheets, FreeAboveN, MapLength, NoSheet, Damaged, Paused, Open]),
-    (Kind::Resume, "resume", &[Blocks, Sheets, FreeAboveN, MapLength, NoSheet, Damaged,
+    (Kind::Pause, "pause", &[Role, Blocks, Sheets, FreeAboveN, MapLength, NoSheet, Damaged, Paused, Open]),
+    (Kind::Resume, "resume", &[Role, Blocks, Sheets, FreeAboveN, MapLength, NoSheet, Damaged,
         Absent, PausedEmpty, Open, Complete]),
-    (Kind::Release, "release", &[Blocks, Sheets, FreeAboveN, MapLength, NoSheet, Damaged, Absent, FreeCount]),
-    (Kind::Close, "close", &[Blocks, Sheets, FreeAboveN, MapLength, CardLength, ScratchLength, SavedState]),
-    (Kind::Show, "show", &[Blocks, Sheets, FreeAboveN, MapLength, CardLength, NoSheet, Damaged,
+    (Kind::Release, "release", &[Role, Blocks, Sheets, FreeAboveN, MapLength, NoSheet, Damaged, Absent, FreeCount]),
+    (Kind::Close, "close", &[Role, Blocks, Sheets, FreeAboveN, MapLength, CardLength, ScratchLength, SavedState]),
+    (Kind::Show, "show", &[Role, Blocks, Sheets, FreeAboveN, MapLength, CardLength, NoSheet, Damaged,
         Absent, Paused, Open, NoPlace, SliceLength, Unsound]),
-    (Kind::ShowDated, "show-dated", &[Blocks, Sheets, FreeAboveN, MapLength, CardLength, NoSheet, Damaged,
+    (Kind::ShowDated, "show-dated", &[Role, Blocks, Sheets, FreeAboveN, MapLength, CardLength, NoSheet, Damaged,
         Absent, Paused, Open, NoPlace, SliceLength, NoYear, NoMonth, NoDay, UnsoundFirst, OutsideTerm, Unsound]),
-    (Kind::Standing, "standing", &[Blocks, Sheets, FreeAboveN, MapLength, NoSheet, Damaged]),
-    (Kind::ReserveWithSummary, "summary-reserve", &[Blocks, Sheets, FreeAboveN, MapLength, SummaryLength, CardLength,
+    (Kind::Standing, "standing", &[Role, Blocks, Sheets, FreeAboveN, MapLength, NoSheet, Damaged]),
+    (Kind::ReserveWithSummary, "summary-reserve", &[Role, Blocks, Sheets, FreeAboveN, MapLength, SummaryLength, CardLength,
         NoSheet, Damaged, Paused, Open, Complete, NoBlocks, OverLimit, NoFit, FreeCount]),
-    (Kind::ReservePlacedWithSummary, "summary-placed", &[Blocks, Sheets, FreeAboveN, MapLength, SummaryLength, CardLength,
+    (Kind::ReservePlacedWithSummary, "summary-placed", &[Role, Blocks, Sheets, FreeAboveN, MapLength, SummaryLength, CardLength,
         NoSheet, Damaged, Paused, Open, Complete, NoBlocks, NoStep, FromNotBefore, BeforeAboveN, OverLimit, NoFit, FreeCount]),
-    (Kind::AcceptWithSummary, "summary-accept", &[Blocks, Sheets, FreeAboveN, MapLength, SummaryLength, CardLength,
+    (Kind::AcceptWithSummary, "summary-accept", &[Role, Blocks, Sheets, FreeAboveN, MapLength, SummaryLength, CardLength,
         NoSheet, Damaged, Paused, Open, Complete, NoBlocks, OverLimit, RunNotFree, FreeCount]),
-    (Kind::GrowWithSummary, "summary-grow", &[Blocks, Sheets, FreeAboveN, MapLength, SummaryLength, CardLength,
+    (Kind::GrowWithSummary, "summary-grow", &[Role, Blocks, Sheets, FreeAboveN, MapLength, SummaryLength, CardLength,
         NoSheet, Damaged, Absent, Paused, Complete, NoBlocks, OverLimit, NotNext, FreeCount]),
-    (Kind::ReleaseWithSummary, "summary-release", &[Blocks, Sheets, FreeAboveN, MapLength, SummaryLength,
+    (Kind::ReleaseWithSummary, "summary-release", &[Role, Blocks, Sheets, FreeAboveN, MapLength, SummaryLength,
         NoSheet, Damaged, Absent, FreeCount]),
-    (Kind::CloseWithSummary, "summary-close", &[Blocks, Sheets, FreeAboveN, MapLength, SummaryLength, CardLength,
+    (Kind::CloseWithSummary, "summary-close", &[Role, Blocks, Sheets, FreeAboveN, MapLength, SummaryLength, CardLength,
         ScratchLength, SavedState]),
-    (Kind::SummaryBuild, "summary-build", &[Blocks, FreeAboveN, MapLength, SummaryLength]),
-    (Kind::SummaryCheck, "summary-check", &[Blocks, FreeAboveN, MapLength, SummaryLength]),
+    (Kind::SummaryBuild, "summary-build", &[Role, Blocks, FreeAboveN, MapLength, SummaryLength]),
+    (Kind::SummaryCheck, "summary-check", &[Role, Blocks, FreeAboveN, MapLength, SummaryLength]),
 ];
 
 /// The calls that change the map, each with its form that is lent a summary (document 02, (j)).
@@ -97,6 +98,7 @@ const FORMS: [(Kind, Kind); 6] = [
 pub const SAVE: (&str, &[Row]) = (
     "save",
     &[
+        Role,
         Blocks,
         Sheets,
         FreeAboveN,
@@ -109,6 +111,7 @@ pub const SAVE: (&str, &[Row]) = (
 pub const LOAD: (&str, &[Row]) = (
     "load",
     &[
+        Role,
         ImageLength,
         FrameNumber,
         FrameTotal,
@@ -246,6 +249,8 @@ pub const LARGEST: Limits = [u32::MAX; 8];
 
 #[derive(Clone, Copy)]
 pub struct Call {
+    /// Who makes the call (document 02, (n)).
+    pub role: u32,
     pub kind: Kind,
     /// The sheet that the call is for, 0 where it is for none.
     pub sheet: u32,
@@ -273,9 +278,10 @@ pub enum Search {
     Ended(Option<usize>),
 }
 
-/// A call with a payload or a buffer of the right length.
+/// A pharmacist's call with a payload or a buffer of the right length.
 pub const fn call(kind: Kind, sheet: u32, number: u32) -> Call {
     Call {
+        role: PHARMACIST,
         kind,
         sheet,
         number,
@@ -315,6 +321,11 @@ pub const fn dated(sheet: u32, place: u32, date: Date) -> Call {
 impl Call {
     pub const fn with_bytes(self, bytes: Bytes) -> Call {
         Call { bytes, ..self }
+    }
+
+    /// The call by another role.
+    pub const fn by(self, role: u32) -> Call {
+        Call { role, ..self }
     }
 
     /// The call with these limits.
@@ -370,9 +381,12 @@ impl fmt::Display for Call {
         if kind.has_slice() {
             write!(f, ", {length} bytes from {seed}")?;
         }
-        match term {
-            Some((first, last)) => write!(f, " with days {first} and {last}"),
-            None => Ok(()),
+        if let Some((first, last)) = term {
+            write!(f, " with days {first} and {last}")?;
+        }
+        match self.role {
+            PHARMACIST => Ok(()),
+            role => write!(f, ", by role {role}"),
         }
     }
 }

@@ -10,6 +10,7 @@ mod other_calls;
 mod pause_calls;
 mod placed_calls;
 mod random_calls;
+mod role_calls;
 mod space_calls;
 mod store;
 mod summary_calls;
@@ -30,7 +31,9 @@ pub fn examples() -> String {
     text += &sections(store, with_limits());
     text += &random_with_limits(store);
     text += &sections(store, closings());
-    text + &random_with_closings(store)
+    text += &random_with_closings(store);
+    text += &sections(store, with_roles());
+    text + &random_with_roles(store)
 }
 
 /// A heading, and the lines below it.
@@ -116,6 +119,16 @@ fn closings() -> impl Iterator<Item = Section> {
     ])
 }
 
+/// Who may do what (document 02, (n)).
+fn with_roles() -> impl Iterator<Item = Section> {
+    let lists = role_calls::LISTS.iter();
+    let lists = lists.map(|(name, list)| (*name, on_70(list)));
+    lists.chain([
+        ("every call of every role", role_calls::every_call()),
+        ("row 21 before row 1", limits::row_1_of_roles()),
+    ])
+}
+
 fn random(store: &mut Store) -> String {
     let random = &mut Random(0x9e3779b97f4a7c15);
     let text = format!("== random\n{}", store.lines(&on_70("")));
@@ -169,6 +182,23 @@ fn random_with_closings(store: &mut Store) -> String {
         text += &store.line(&lent_summary(&call));
     }
     text + &store.line("summary-check")
+}
+
+/// Random calls that lead to dated shows, with some others among them; the role changes now and then, and is the pharmacist's
+/// more often than not.
+fn random_with_roles(store: &mut Store) -> String {
+    let random = &mut Random(0xc2b2ae3d27d4eb4f);
+    let mut text = format!("== random, with roles\n{}", store.lines(&on_70("")));
+    let mut role_before = 1;
+    for _ in 0..random_calls::WITH_ROLES {
+        let (role, call) = random_calls::random_call_by_roles(random.draw());
+        if role != role_before {
+            text += &store.line(&format!("+role {role}"));
+        }
+        text += &store.line(&call);
+        role_before = role;
+    }
+    text
 }
 
 /// The line of a call that changes the map becomes that of its form with a summary.

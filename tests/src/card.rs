@@ -4,11 +4,15 @@
 use crate::blocks::*;
 use crate::calendar::{day_of, days_of, term_of, within, FIRST_YEAR, LAST_YEAR};
 use crate::call::{Call, Kind};
+use crate::roles::may;
 use crate::rows::Row;
 use crate::summary::summary_numbers;
 
 mod closing;
+mod wings;
 mod with_summary;
+
+pub use wings::wing_of;
 
 /// What a call answers.
 #[derive(Clone, Copy, Debug, PartialEq)]
@@ -61,11 +65,6 @@ pub struct Card {
     pub bytes: Vec<u8>,
     /// The numbers of the summary, three for each group.
     pub summary: Vec<u32>,
-}
-
-/// "A sheet's wing is its number divided by 128, rounded down" (document 02, (k)).
-pub const fn wing_of(sheet: u32) -> u32 {
-    sheet / 128
 }
 
 const BLOCK: usize = 512;
@@ -132,6 +131,7 @@ impl Card {
             self.n
         };
         match row {
+            Row::Role => !may(call.role, call.kind.name()),
             Row::Blocks => !(1..=262144).contains(&n),
             Row::Sheets => !(1..=1024).contains(&self.sheets.len()),
             Row::FreeAboveN => self.free > self.n,
@@ -200,23 +200,6 @@ impl Card {
             }
             _ => true,
         }
-    }
-
-    /// The blocks that a wing holds: the lengths of its sheets as their entries have them, damaged ones too (document 02, (k)).
-    /// Its sheets are those whose numbers are the wing's when they are divided by 128.
-    pub fn held_by_wing(&self, wing: u32) -> u64 {
-        let sheets = (0..).zip(&self.sheets);
-        let of_wing = sheets.filter(|(sheet, _)| wing_of(*sheet) == wing);
-        of_wing.map(|(_, entry)| entry.length as u64).sum()
-    }
-
-    /// Whether what the wing of the call's sheet holds and what is wanted are together more than its limit. A sheet behind the
-    /// last that a catalogue can have has no wing.
-    fn over_limit(&self, call: Call) -> bool {
-        let wing = wing_of(call.sheet);
-        let limit = call.limits.get(wing as usize);
-        let together = self.held_by_wing(wing) + call.number as u64;
-        limit.is_some_and(|limit| together > *limit as u64)
     }
 
     /// The least fit for a search, a reserve or an offer: that of a plain reserve is the one with the figures 0, n and 1.
@@ -390,6 +373,8 @@ mod dated_tests;
 mod paused_tests;
 #[cfg(test)]
 mod placed_tests;
+#[cfg(test)]
+mod role_tests;
 #[cfg(test)]
 mod summary_tests;
 #[cfg(test)]

@@ -4,6 +4,7 @@ use crate::blocks::{from_words, scratch_words, to_words, words_of, FREE};
 use crate::call::{LOAD, SAVE};
 use crate::card::Answer::*;
 use crate::card::{entry, sums, Answer, Card};
+use crate::roles::may;
 use crate::rows::Row;
 
 const BLOCK: usize = 512;
@@ -94,8 +95,9 @@ impl Card {
         disjoint && free_if_uncovered && none_from_n_on && count == self.free
     }
 
-    fn save_holds(&self, row: Row, scratch: usize, length: usize) -> bool {
+    fn save_holds(&self, role: u32, row: Row, scratch: usize, length: usize) -> bool {
         match row {
+            Row::Role => !may(role, SAVE.0),
             Row::Blocks => !(1..=262144).contains(&self.n),
             Row::Sheets => !(1..=1024).contains(&self.sheets.len()),
             Row::FreeAboveN => self.free > self.n,
@@ -107,9 +109,10 @@ impl Card {
         }
     }
 
-    fn load_holds(&self, row: Row, image: &Image, scratch: usize) -> bool {
+    fn load_holds(&self, role: u32, row: Row, image: &Image, scratch: usize) -> bool {
         let frames = |wrong: fn(&Image, usize) -> bool| (0..image.total()).any(|b| wrong(image, b));
         match row {
+            Row::Role => !may(role, LOAD.0),
             Row::ImageLength => {
                 !image.bytes.len().is_multiple_of(BLOCK) || !(1..=MOST).contains(&image.total())
             }
@@ -130,24 +133,25 @@ impl Card {
     }
 
     /// All rows that hold for a save to an image of a length, in their order.
-    pub fn held_by_save(&self, scratch: usize, length: usize) -> Vec<Row> {
+    pub fn held_by_save(&self, role: u32, scratch: usize, length: usize) -> Vec<Row> {
         let rows = SAVE.1.iter().copied();
-        rows.filter(|row| self.save_holds(*row, scratch, length))
+        rows.filter(|row| self.save_holds(role, *row, scratch, length))
             .collect()
     }
 
     /// The same for a load.
-    pub fn held_by_load(&self, image: &[u8], scratch: usize) -> Vec<Row> {
+    pub fn held_by_load(&self, role: u32, image: &[u8], scratch: usize) -> Vec<Row> {
         let (image, rows) = (&Image::of(image), LOAD.1.iter().copied());
-        rows.filter(|row| self.load_holds(*row, image, scratch))
+        rows.filter(|row| self.load_holds(role, *row, image, scratch))
             .collect()
     }
 
-    /// Save. The scratch is all zeros afterwards, whatever the answer.
-    pub fn save(&self, scratch: &mut [u64], image: &mut [u8]) -> Answer {
+    /// Save. The scratch is all zeros afterwards, whatever the answer, 21 too.
+    pub fn save(&self, role: u32, scratch: &mut [u64], image: &mut [u8]) -> Answer {
         scratch.fill(0);
         let mut rows = SAVE.1.iter();
-        if let Some(row) = rows.find(|row| self.save_holds(**row, scratch.len(), image.len())) {
+        let holds = |row: &&Row| self.save_holds(role, **row, scratch.len(), image.len());
+        if let Some(row) = rows.find(holds) {
             return Refused(row.number());
         }
         image.copy_from_slice(&image_of(&body_of(self)));
@@ -155,11 +159,12 @@ impl Card {
     }
 
     /// Load: the shape, the map and the catalogue become the image's. The scratch is all zeros afterwards, whatever the
-    /// answer.
-    pub fn load(&mut self, image: &[u8], scratch: &mut [u64]) -> Answer {
+    /// answer, 21 too.
+    pub fn load(&mut self, role: u32, image: &[u8], scratch: &mut [u64]) -> Answer {
         scratch.fill(0);
         let (image, mut rows) = (&Image::of(image), LOAD.1.iter());
-        if let Some(row) = rows.find(|row| self.load_holds(**row, image, scratch.len())) {
+        let holds = |row: &&Row| self.load_holds(role, **row, image, scratch.len());
+        if let Some(row) = rows.find(holds) {
             return Refused(row.number());
         }
         let state = image.state().unwrap();
@@ -256,6 +261,7 @@ impl Image<'_> {
 mod tests {
     use super::*;
     use crate::call::{call, Kind};
+    use crate::roles::{CARER, PHARMACIST, SERVICE, UNKNOWN};
 
     fn fresh(n: usize, c: usize) -> Card {
         let mut card = Card {
@@ -274,7 +280,7 @@ mod tests {
     #[test]
     fn sums_of_the_fresh_image() {
         let mut image = vec![0; 512];
-        assert_eq!(fresh(64, 1).save(&mut [0], &mut image), Done);
+        assert_eq!(fresh(64, 1).save(SERVICE, &mut [0], &mut image), Done);
         assert_eq!(number_at(&image, 504), 2236);
         assert_eq!(number_at(&image, 508), 3003);
     }
@@ -292,13 +298,41 @@ mod tests {
         assert_eq!(card.call(call(Kind::Reserve, 1, 66), &mut []), Start(0, 70));
         let scratch = &mut [5, 5];
         let mut image = vec![0; 512];
-        assert_eq!(card.save(scratch, &mut image), Done);
+        assert_eq!(card.save(PHARMACIST, scratch, &mut image), Done);
         assert_eq!(*scratch, [0, 0]);
         let mut other = fresh(100, 3);
-        assert_eq!(other.load(&image, scratch), Done);
+        assert_eq!(other.load(PHARMACIST, &image, scratch), Done);
         other.bytes = card.bytes.clone();
         assert!(other == card);
         image[300] ^= 1;
-        assert_eq!(other.load(&image, scratch), Refused(13));
+        assert_eq!(other.load(PHARMACIST, &image, scratch), Refused(13));
+    }
+    /// A role that may not save or load is told 21, whatever else is wrong; nothing changes but the scratch, which is zeros.
+    #[test]
+    fn roles_of_save_and_load() {
+        let card = fresh(70, 3);
+        let mut image = vec![0; 512];
+        assert_eq!(card.save(PHARMACIST, &mut [5, 5], &mut image), Done);
+        for words in [2, 3] {
+            let mut scratch = vec![5; words];
+            for role in UNKNOWN.iter().chain([&CARER]) {
+                let mut saved = [9; 512];
+                assert_eq!(card.save(*role, &mut scratch, &mut saved), Refused(21));
+                assert!(saved == [9; 512] && scratch == vec![0; words]);
+                scratch.fill(5);
+                let mut loaded = fresh(100, 3);
+                let given = &image[words - 2..];
+                assert_eq!(loaded.load(*role, given, &mut scratch), Refused(21));
+                assert!(loaded == fresh(100, 3) && scratch == vec![0; words]);
+            }
+        }
+        let mut saved = [9; 512];
+        assert_eq!(card.save(SERVICE, &mut [5, 5], &mut saved), Done);
+        assert!(saved == image[..]);
+        let mut loaded = fresh(100, 3);
+        assert_eq!(loaded.load(SERVICE, &image, &mut [5, 5]), Done);
+        assert!(loaded == card);
+        assert_eq!(card.save(SERVICE, &mut [5], &mut saved), Refused(1));
+        assert_eq!(loaded.load(SERVICE, &image[1..], &mut []), Refused(12));
     }
 }

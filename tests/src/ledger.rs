@@ -6,6 +6,7 @@ use crate::calendar::{day_of, term_of, within, Date};
 use crate::call::{Call, Kind, Limits, LARGEST};
 use crate::card::Answer::*;
 use crate::card::{entry, sealed, wing_of, Answer, Entry};
+use crate::roles::may;
 
 type Payload = Vec<u8>;
 
@@ -121,8 +122,12 @@ impl Ledger {
     // The calls: the rows that hold for them in their order, then the change.
 
     /// What the ledger answers to a call of a list, and leaves in its payload or buffer. Fresh, search and survey are none, nor
-    /// are the build and the check of a summary. With a true summary a form is answered as the call without it.
+    /// are the build and the check of a summary. With a true summary a form is answered as the call without it. "A call turned
+    /// away by role counts among the refused ones" (document 02, (n)), whichever it is, and changes nothing.
     pub fn call(&mut self, call: Call, slice: &mut [u8]) -> Option<Answer> {
+        if !may(call.role, call.kind.name()) {
+            return Some(Refused(21));
+        }
         let (sheet, number) = (call.sheet, call.number);
         self.limits = call.limits;
         let answer = match call.kind.without_summary() {
@@ -359,5 +364,7 @@ impl Ledger {
     }
 }
 
+#[cfg(test)]
+mod role_tests;
 #[cfg(test)]
 mod tests;

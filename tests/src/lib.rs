@@ -14,6 +14,7 @@ pub mod ledger;
 pub mod map;
 pub mod printer;
 pub mod random;
+pub mod roles;
 pub mod rows;
 pub mod summary;
 pub mod worked;

@@ -5,6 +5,7 @@ use crate::blocks::{from_words, scratch_words, survey, words_of, Counts};
 use crate::card::{entry, Answer, Card};
 use crate::image::{blocks_of, body_of, framed, image_of};
 use crate::random::Random;
+use crate::roles::PHARMACIST;
 use crate::worked;
 use std::fmt::Write as _;
 use std::io::Write as _;
@@ -54,7 +55,7 @@ pub fn text(image: &[u8]) -> String {
     let (n, c) = (at(8).clamp(1, 262144), at(16).clamp(1, 1024));
     let mut card = fresh(n, c);
     let mut scratch = vec![0; scratch_words(n)];
-    match card.load(image, &mut scratch) {
+    match card.load(PHARMACIST, image, &mut scratch) {
         Answer::Refused(number) => return format!("refused {number}\n"),
         _ => {}
     }

@@ -7,6 +7,8 @@
 /// A reason for a refusal.
 #[derive(Clone, Copy, Debug, PartialEq, Eq, PartialOrd, Ord)]
 pub enum Row {
+    /// 21: the role is unknown, or the call is not in its row.
+    Role,
     /// 1: n is outside its limits.
     Blocks,
     /// 1: c is outside its limits.
@@ -84,6 +86,7 @@ use Row::*;
 impl Row {
     pub fn number(self) -> u32 {
         match self {
+            Role => 21,
             Blocks | Sheets | FreeAboveN => 1,
             MapLength | SummaryLength | CardLength | CatalogueLength | ScratchLength => 1,
             NoSheet => 2,

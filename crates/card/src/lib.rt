@@ -1,6 +1,6 @@
-// The card: its shape, and every call as a method of it (document 01, "Shape, catalogue, blocks"). Each method is thin: one
-// that is for a sheet finds the sheet's entry, leaves the rest to a core on that entry by value, and stores what it hands
-// back. A refusal hands the shape back as it came and changes nothing that is lent but a scratch.
+// The card: its shape, and every call as a method (document 01, "Shape, catalogue, blocks"): one for a sheet finds its entry,
+// leaves the rest to a core on that entry by value, and stores what it hands back. A refusal changes nothing lent but a
+// scratch. The methods are inner, they ask nobody's role: a program calls the functions of the crate role_calls (02 (n)).
 mod cores;
 pub mod dated;
 mod guided;

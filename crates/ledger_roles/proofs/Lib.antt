@@ -1,3 +1,5 @@
 -- What is proved of lists of calls with roles.
 pub mod Lists
 pub mod Service
+pub mod Contracts
+pub mod Carers

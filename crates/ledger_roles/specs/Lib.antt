@@ -2,3 +2,4 @@
 pub mod Made
 pub mod Claims
 pub mod Service
+pub mod Carers

@@ -11,11 +11,9 @@ use prog.Memory.{Memory}
 use prog.Routine.{Routine}
 use prog.Wp.{Heap}
 use Rattle.block.proofs.Clauses.{Ensures, AsksNothing}
-use Rattle.refusals.specs.Lent.{noCard}
-use Rattle.card.specs.Calls.{kept}
 use Rattle.pagunlit_replies.specs.Replies.{replyOf}
-use Rattle.card.specs.Contracts.{Builds, Checks, ReservesBy, ReservesPlacedBy, AcceptsBy, GrowsBy, ReleasesBy}
-use Rattle.card.specs.Contracts.{ClosesBy}
+use Rattle.role_calls.specs.SummaryContracts.{Builds, Checks, ReservesBy, ReservesPlacedBy, AcceptsBy, GrowsBy, ReleasesBy}
+use Rattle.role_calls.specs.SummaryContracts.{ClosesBy}
 use Rattle.pagunlit.proofs.summary.pagunlit_summary_build as summary-build-function
 use Rattle.pagunlit.proofs.summary.pagunlit_summary_check as summary-check-function
 use Rattle.pagunlit.proofs.summary.pagunlit_reserve_with_summary as reserve-with-summary-function
@@ -25,59 +23,71 @@ use Rattle.pagunlit.proofs.summary.pagunlit_grow_with_summary as grow-w
 use Rattle.pagunlit.proofs.summary.pagunlit_release_with_summary as release-with-summary-function
 use Rattle.pagunlit.proofs.summary.pagunlit_close_with_summary as close-with-summary-function
 
+-- what is passed is a .0, a .1 .0 and so on, in the order of the parameters, and what is left of it t .0, t .1 .0 and so on
 module _ {M : Type 1} (𝓤 : URA M) (H : Heap 𝓤) (A : Atoms 𝓤) (mem : Memory → SProp 𝓤) (run : Routine → Fun 𝓤) where
   pub pagunlit-summary-build-contract : Ensures 𝓤 summary-build-function.ended (summary-build-function.clauses 𝓤 H A mem run)
-      (λ κs a r t. Builds replyOf (a .0) (now (a .1 .0)) (now (a .1 .1 .0)) r (now (t .1 .1 .0)))
+      (λ κs a r t.
+      Builds replyOf (a .0) (a .1 .0) (now (a .1 .1 .0)) (now (a .1 .1 .1 .0))
+      r (now (t .1 .1 .1 .0)))
   pagunlit-summary-build-contract κs a r t g = refl
 
   pub pagunlit-summary-check-contract : Ensures 𝓤 summary-check-function.ended (summary-check-function.clauses 𝓤 H A mem run)
-      (λ κs a r t. Checks replyOf (a .0) (now (a .1 .0)) (now (a .1 .1 .0)) r)
+      (λ κs a r t.
+      Checks replyOf (a .0) (a .1 .0) (now (a .1 .1 .0)) (now (a .1 .1 .1 .0))
+      r)
   pagunlit-summary-check-contract κs a r t g = refl
 
   pub pagunlit-reserve-with-summary-contract : Ensures 𝓤 reserve-with-summary-function.ended
       (reserve-with-summary-function.clauses 𝓤 H A mem run) (λ κs a r t.
-      let more = a .1 .1 .1 .1 .1 .1 in
-      ReservesBy replyOf (now (a .1 .1 .0)) (kept (a .0) (now (a .1 .0)) (now (a .1 .1 .1 .0)) (now (a .1 .1 .1 .1 .0)))
-      (now (a .1 .1 .1 .1 .1 .0)) (more .0) (more .1 .0)
-      r (now (t .1 .0)) (now (t .1 .1 .0)) (now (t .1 .1 .1 .0)) (now (t .1 .1 .1 .1 .0)))
+      ReservesBy replyOf (a .0) (a .1 .0) (now (a .1 .1 .0)) (now (a .1 .1 .1 .0)) (now (a .1 .1 .1 .1 .0))
+      (now (a .1 .1 .1 .1 .1 .0)) (now (a .1 .1 .1 .1 .1 .1 .0)) (a .1 .1 .1 .1 .1 .1 .1 .0) (a .1 .1 .1 .1 .1 .1 .1 .1 .0)
+      r (now (t .1 .1 .0)) (now (t .1 .1 .1 .0)) (now (t .1 .1 .1 .1 .0)) (now (t .1 .1 .1 .1 .1 .0)))
   pagunlit-reserve-with-summary-contract κs a r t g = refl
 
   pub pagunlit-reserve-placed-with-summary-contract : Ensures 𝓤 reserve-placed-with-summary-function.ended
       (reserve-placed-with-summary-function.clauses 𝓤 H A mem run) (λ κs a r t.
-      let more = a .1 .1 .1 .1 .1 .1 in
-      ReservesPlacedBy replyOf (now (a .1 .1 .0)) (kept (a .0) (now (a .1 .0)) (now (a .1 .1 .1 .0)) (now (a .1 .1 .1 .1 .0)))
-      (now (a .1 .1 .1 .1 .1 .0)) (more .0) (more .1 .0) (more .1 .1 .0) (more .1 .1 .1 .0) (more .1 .1 .1 .1 .0)
-      r (now (t .1 .0)) (now (t .1 .1 .0)) (now (t .1 .1 .1 .0)) (now (t .1 .1 .1 .1 .0)))
+      ReservesPlacedBy replyOf (a .0) (a .1 .0) (now (a .1 .1 .0)) (now (a .1 .1 .1 .0)) (now (a .1 .1 .1 .1 .0))
+      (now (a .1 .1 .1 .1 .1 .0)) (now (a .1 .1 .1 .1 .1 .1 .0)) (a .1 .1 .1 .1 .1 .1 .1 .0) (a .1 .1 .1 .1 .1 .1 .1 .1 .0)
+      (a .1 .1 .1 .1 .1 .1 .1 .1 .1 .0) (a .1 .1 .1 .1 .1 .1 .1 .1 .1 .1 .0) (a .1 .1 .1 .1 .1 .1 .1 .1 .1 .1 .1 .0)
+      r (now (t .1 .1 .0)) (now (t .1 .1 .1 .0)) (now (t .1 .1 .1 .1 .0)) (now (t .1 .1 .1 .1 .1 .0)))
   pagunlit-reserve-placed-with-summary-contract κs a r t g = refl
 
   pub pagunlit-accept-with-summary-contract : Ensures 𝓤 accept-with-summary-function.ended
       (accept-with-summary-function.clauses 𝓤 H A mem run) (λ κs a r t.
-      let more = a .1 .1 .1 .1 .1 .1 in
-      AcceptsBy replyOf (now (a .1 .1 .0)) (kept (a .0) (now (a .1 .0)) (now (a .1 .1 .1 .0)) (now (a .1 .1 .1 .1 .0)))
-      (now (a .1 .1 .1 .1 .1 .0)) (more .0) (more .1 .0) (more .1 .1 .0)
-      r (now (t .1 .0)) (now (t .1 .1 .0)) (now (t .1 .1 .1 .0)) (now (t .1 .1 .1 .1 .0)))
+      AcceptsBy replyOf (a .0) (a .1 .0) (now (a .1 .1 .0)) (now (a .1 .1 .1 .0)) (now (a .1 .1 .1 .1 .0))
+      (now (a .1 .1 .1 .1 .1 .0)) (now (a .1 .1 .1 .1 .1 .1 .0)) (a .1 .1 .1 .1 .1 .1 .1 .0) (a .1 .1 .1 .1 .1 .1 .1 .1 .0)
+      (a .1 .1 .1 .1 .1 .1 .1 .1 .1 .0)
+      r (now (t .1 .1 .0)) (now (t .1 .1 .1 .0)) (now (t .1 .1 .1 .1 .0)) (now (t .1 .1 .1 .1 .1 .0)))
   pagunlit-accept-with-summary-contract κs a r t g = refl
 
-  pub pagunlit-grow-with-summary-contract : Ensures 𝓤 grow-with-summary-function.ended
-      (grow-with-summary-function.clauses 𝓤 H A mem run) (λ κs a r t.
-      let more = a .1 .1 .1 .1 .1 .1 in
-      GrowsBy replyOf (now (a .1 .1 .0)) (kept (a .0) (now (a .1 .0)) (now (a .1 .1 .1 .0)) (now (a .1 .1 .1 .1 .0)))
-      (now (a .1 .1 .1 .1 .1 .0)) (more .0) (more .1 .0)
-      r (now (t .1 .0)) (now (t .1 .1 .0)) (now (t .1 .1 .1 .0)) (now (t .1 .1 .1 .1 .0)))
+  pub pagunlit-grow-with-summary-contract : Ensures 𝓤 grow-with-summary-function.ended (grow-with-summary-function.clauses 𝓤 H
+      A mem run) (λ κs a r t.
+      GrowsBy replyOf (a .0) (a .1 .0) (now (a .1 .1 .0)) (now (a .1 .1 .1 .0)) (now (a .1 .1 .1 .1 .0))
+      (now (a .1 .1 .1 .1 .1 .0)) (now (a .1 .1 .1 .1 .1 .1 .0)) (a .1 .1 .1 .1 .1 .1 .1 .0) (a .1 .1 .1 .1 .1 .1 .1 .1 .0)
+      r (now (t .1 .1 .0)) (now (t .1 .1 .1 .0)) (now (t .1 .1 .1 .1 .0)) (now (t .1 .1 .1 .1 .1 .0)))
   pagunlit-grow-with-summary-contract κs a r t g = refl
 
   pub pagunlit-release-with-summary-contract : Ensures 𝓤 release-with-summary-function.ended
       (release-with-summary-function.clauses 𝓤 H A mem run) (λ κs a r t.
-      ReleasesBy replyOf (now (a .1 .1 .0)) (kept (a .0) (now (a .1 .0)) (now (a .1 .1 .1 .0)) noCard)
-      (a .1 .1 .1 .1 .0) r (now (t .1 .0)) (now (t .1 .1 .0)) (now (t .1 .1 .1 .0)))
+      ReleasesBy replyOf (a .0) (a .1 .0) (now (a .1 .1 .0)) (now (a .1 .1 .1 .0)) (now (a .1 .1 .1 .1 .0))
+      (a .1 .1 .1 .1 .1 .0)
+      r (now (t .1 .1 .0)) (now (t .1 .1 .1 .0)) (now (t .1 .1 .1 .1 .0)))
   pagunlit-release-with-summary-contract κs a r t g = refl
 
-  pub pagunlit-summary-build-asks-nothing : AsksNothing 𝓤 summary-build-function.ended
-      (summary-build-function.clauses 𝓤 H A mem run)
+  pub pagunlit-close-with-summary-contract : Ensures 𝓤 close-with-summary-function.ended (close-with-summary-function.clauses
+      𝓤 H A mem run) (λ κs a r t.
+      ClosesBy replyOf (a .0) (a .1 .0) (now (a .1 .1 .0)) (now (a .1 .1 .1 .0)) (now (a .1 .1 .1 .1 .0))
+      (now (a .1 .1 .1 .1 .1 .0)) (now (a .1 .1 .1 .1 .1 .1 .0))
+      r (now (t .1 .1 .0)) (now (t .1 .1 .1 .0)) (now (t .1 .1 .1 .1 .0)) (now (t .1 .1 .1 .1 .1 .0))
+      (now (t .1 .1 .1 .1 .1 .1 .0)))
+  pagunlit-close-with-summary-contract κs a r t g = refl
+
+  pub pagunlit-summary-build-asks-nothing : AsksNothing 𝓤 summary-build-function.ended (summary-build-function.clauses 𝓤 H A
+      mem run)
   pagunlit-summary-build-asks-nothing κs a g = refl
 
-  pub pagunlit-summary-check-asks-nothing : AsksNothing 𝓤 summary-check-function.ended
-      (summary-check-function.clauses 𝓤 H A mem run)
+  pub pagunlit-summary-check-asks-nothing : AsksNothing 𝓤 summary-check-function.ended (summary-check-function.clauses 𝓤 H A
+      mem run)
   pagunlit-summary-check-asks-nothing κs a g = refl
 
   pub pagunlit-reserve-with-summary-asks-nothing : AsksNothing 𝓤 reserve-with-summary-function.ended
@@ -99,13 +109,6 @@ module _ {M : Type 1} (𝓤 : URA M) (H : Heap 𝓤) (A : Atoms 𝓤) (mem : Mem
   pub pagunlit-release-with-summary-asks-nothing : AsksNothing 𝓤 release-with-summary-function.ended
       (release-with-summary-function.clauses 𝓤 H A mem run)
   pagunlit-release-with-summary-asks-nothing κs a g = refl
-
-  pub pagunlit-close-with-summary-contract : Ensures 𝓤 close-with-summary-function.ended
-      (close-with-summary-function.clauses 𝓤 H A mem run) (λ κs a r t.
-      ClosesBy replyOf (kept (a .0) (now (a .1 .0)) (now (a .1 .1 .1 .0)) (now (a .1 .1 .1 .1 .0)))
-      (now (a .1 .1 .1 .1 .1 .0)) (now (a .1 .1 .0))
-      r (now (t .1 .0)) (now (t .1 .1 .0)) (now (t .1 .1 .1 .0)) (now (t .1 .1 .1 .1 .0)) (now (t .1 .1 .1 .1 .1 .0)))
-  pagunlit-close-with-summary-contract κs a r t g = refl
 
   pub pagunlit-close-with-summary-asks-nothing : AsksNothing 𝓤 close-with-summary-function.ended
       (close-with-summary-function.clauses 𝓤 H A mem run)

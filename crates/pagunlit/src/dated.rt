@@ -1,8 +1,6 @@
 // The C function of the dated show (document 02 (m)).
-ghost use mathlib.Core.Path.{_≡_};
-ghost use Rattle.calendar.specs.Calendar.{dateOf};
 ghost use Rattle.pagunlit_replies.specs.Replies.{replyOf};
-ghost use Rattle.card.specs.Calls.{kept, showDatedOutcome, showDatedBuffer};
+ghost use Rattle.role_calls.specs.Contracts.{ShowsDated};
 use card::Shape;
 use catalogue::Entry;
 use pagunlit_replies::Reply;
@@ -10,6 +8,7 @@ use pagunlit_replies::reply_of;
 
 #[no_mangle]
 pub extern "C" fn pagunlit_show_dated(
+    role: u32,
     shape: Shape,
     map: &[u64],
     catalogue: &[Entry],
@@ -21,11 +20,21 @@ pub extern "C" fn pagunlit_show_dated(
     day: u32,
     buffer: &mut [u8],
 ) -> Reply
-    ensures { λ r. let s = kept shape (now (map .entry)) (now (catalogue .entry)) (now (card .entry)) in
-        let date = dateOf year month day in
-        ⌜ (r ≡ replyOf (showDatedOutcome s sheet place date (now (buffer .entry))))
-        × (now (buffer .exit) ≡ showDatedBuffer s sheet place date (now (buffer .entry))) ⌝ }
+    ensures { λ r. ⌜ ShowsDated replyOf role shape (now (map .entry)) (now (catalogue .entry)) (now (card .entry)) sheet place
+        year month day (now (buffer .entry)) r (now (buffer .exit)) ⌝ }
 {
-    let outcome = shape.show_dated(map, catalogue, card, sheet, place, year, month, day, buffer);
+    let outcome = role_calls::show_dated(
+        role,
+        shape,
+        map,
+        catalogue,
+        card,
+        sheet,
+        place,
+        year,
+        month,
+        day,
+        buffer,
+    );
     reply_of(outcome)
 }

@@ -1,6 +1,6 @@
-// The C library: every call of the card for the dispenser's C program (include/pagunlit.h). Each function calls the method
-// of its name on `Shape` and turns the outcome into document 01's numbers. A slice is a pointer and a length to C; the
-// shape, the entries and the reply are structs of 32-bit numbers.
+// The C library: every call of the card for the dispenser's C program (include/pagunlit.h). Each function makes the public
+// call of its name (crate role_calls), with the role of who makes it, and turns the outcome into document 01's numbers. A slice
+// is a pointer and a length to C; the shape, the entries and the reply are structs of 32-bit numbers.
 pub mod dated;
 pub mod summary;
 
@@ -10,18 +10,9 @@ ghost use Rattle.calendar.specs.Term.{termAnswer, withTerm};
 ghost use Rattle.counts.specs.Counts.{readOf, writeAnswer, afterWrite};
 ghost use Rattle.counts.specs.Replies.{countReply, countFrom};
 ghost use Rattle.pagunlit_replies.specs.Replies.{replyOf};
-ghost use Rattle.refusals.specs.Lent.{noCard};
-ghost use Rattle.refusals.specs.Placement.{plain, placed, figures};
-ghost use Rattle.card.specs.Calls.{kept, freshOutcome, freshMap, freshEntries, searchOutcome, surveyOutcome, reserveOutcome};
-ghost use Rattle.card.specs.Calls.{offerOutcome, acceptOutcome, acceptMap, acceptEntries, acceptCard, reserveMap};
-ghost use Rattle.card.specs.Calls.{reserveEntries, reserveCard, growOutcome, growMap, growEntries, growCard, putOutcome};
-ghost use Rattle.card.specs.Calls.{putCard, completeOutcome, completeEntries, pauseOutcome, pauseEntries, resumeOutcome};
-ghost use Rattle.card.specs.Calls.{resumeEntries, releaseOutcome, releaseMap, releaseEntries, showOutcome, showBuffer};
-ghost use Rattle.card.specs.Calls.{standingOutcome};
-ghost use Rattle.card.specs.Closings.{closeOutcome, closeMap, closeEntries};
-ghost use Rattle.card.specs.Calls.{saveOutcome, saveScratch, saveImage, loadOutcome, loadMap};
-ghost use Rattle.card.specs.Closings.{closeCard, closeScratch};
-ghost use Rattle.card.specs.Calls.{loadEntries, loadScratch};
+ghost use Rattle.role_calls.specs.Contracts.{Freshens, Searches, Surveys, Reserves, ReservesPlaced};
+ghost use Rattle.role_calls.specs.Contracts.{Offers, Accepts, Grows, Puts};
+ghost use Rattle.role_calls.specs.Contracts.{Completes, Pauses, Resumes, Releases, Shows, TellsStanding, Saves, Closes, Loads};
 use card::Shape;
 use catalogue::Entry;
 use counts::CountReply;
@@ -30,37 +21,38 @@ use pagunlit_replies::reply_of;
 
 #[no_mangle]
 pub extern "C" fn pagunlit_fresh(
+    role: u32,
     shape: Shape,
     blocks: u32,
     map: &mut [u64],
     catalogue: &mut [Entry],
 ) -> Reply
-    ensures { λ r. ⌜ (r ≡ replyOf (freshOutcome shape blocks (now (map .entry)) (now (catalogue .entry))))
-        × (now (map .exit) ≡ freshMap shape blocks (now (map .entry)) (now (catalogue .entry)))
-        × (now (catalogue .exit) ≡ freshEntries shape blocks (now (map .entry)) (now (catalogue .entry))) ⌝ }
+    ensures { λ r. ⌜ Freshens replyOf role shape blocks (now (map .entry)) (now (catalogue .entry)) r (now (map .exit))
+        (now (catalogue .exit)) ⌝ }
 {
-    let outcome = shape.fresh(blocks, map, catalogue);
+    let outcome = role_calls::fresh(role, shape, blocks, map, catalogue);
     reply_of(outcome)
 }
 
 #[no_mangle]
-pub extern "C" fn pagunlit_search(shape: Shape, map: &[u64], k: u32) -> Reply
-    ensures { λ r. ⌜ r ≡ replyOf (searchOutcome shape (now (map .entry)) k) ⌝ }
+pub extern "C" fn pagunlit_search(role: u32, shape: Shape, map: &[u64], k: u32) -> Reply
+    ensures { λ r. ⌜ Searches replyOf role shape (now (map .entry)) k r ⌝ }
 {
-    let outcome = shape.search(map, k);
+    let outcome = role_calls::search(role, shape, map, k);
     reply_of(outcome)
 }
 
 #[no_mangle]
-pub extern "C" fn pagunlit_survey(shape: Shape, map: &[u64]) -> Reply
-    ensures { λ r. ⌜ r ≡ replyOf (surveyOutcome shape (now (map .entry))) ⌝ }
+pub extern "C" fn pagunlit_survey(role: u32, shape: Shape, map: &[u64]) -> Reply
+    ensures { λ r. ⌜ Surveys replyOf role shape (now (map .entry)) r ⌝ }
 {
-    let outcome = shape.survey(map);
+    let outcome = role_calls::survey(role, shape, map);
     reply_of(outcome)
 }
 
 #[no_mangle]
 pub extern "C" fn pagunlit_reserve(
+    role: u32,
     shape: Shape,
     map: &mut [u64],
     catalogue: &mut [Entry],
@@ -69,19 +61,16 @@ pub extern "C" fn pagunlit_reserve(
     sheet: u32,
     count: u32,
 ) -> Reply
-    ensures { λ r. let s = kept shape (now (map .entry)) (now (catalogue .entry)) (now (card .entry)) in
-        let shares = now (limits .entry) in
-        ⌜ (r ≡ replyOf (reserveOutcome s shares sheet count plain))
-        × (now (map .exit) ≡ reserveMap s shares sheet count plain)
-        × (now (catalogue .exit) ≡ reserveEntries s shares sheet count plain)
-        × (now (card .exit) ≡ reserveCard s shares sheet count plain) ⌝ }
+    ensures { λ r. ⌜ Reserves replyOf role shape (now (map .entry)) (now (catalogue .entry)) (now (card .entry))
+        (now (limits .entry)) sheet count r (now (map .exit)) (now (catalogue .exit)) (now (card .exit)) ⌝ }
 {
-    let outcome = shape.reserve(map, catalogue, card, limits, sheet, count);
+    let outcome = role_calls::reserve(role, shape, map, catalogue, card, limits, sheet, count);
     reply_of(outcome)
 }
 
 #[no_mangle]
 pub extern "C" fn pagunlit_reserve_placed(
+    role: u32,
     shape: Shape,
     map: &mut [u64],
     catalogue: &mut [Entry],
@@ -93,15 +82,12 @@ pub extern "C" fn pagunlit_reserve_placed(
     before: u32,
     step: u32,
 ) -> Reply
-    ensures { λ r. let s = kept shape (now (map .entry)) (now (catalogue .entry)) (now (card .entry)) in
-        let shares = now (limits .entry) in
-        let p = placed (figures from before step) in
-        ⌜ (r ≡ replyOf (reserveOutcome s shares sheet count p))
-        × (now (map .exit) ≡ reserveMap s shares sheet count p)
-        × (now (catalogue .exit) ≡ reserveEntries s shares sheet count p)
-        × (now (card .exit) ≡ reserveCard s shares sheet count p) ⌝ }
+    ensures { λ r. ⌜ ReservesPlaced replyOf role shape (now (map .entry)) (now (catalogue .entry)) (now (card .entry))
+        (now (limits .entry)) sheet count from before step r (now (map .exit)) (now (catalogue .exit)) (now (card .exit)) ⌝ }
 {
-    let outcome = shape.reserve_placed(
+    let outcome = role_calls::reserve_placed(
+        role,
+        shape,
         map,
         catalogue,
         card,
@@ -117,6 +103,7 @@ pub extern "C" fn pagunlit_reserve_placed(
 
 #[no_mangle]
 pub extern "C" fn pagunlit_offer(
+    role: u32,
     shape: Shape,
     map: &[u64],
     catalogue: &[Entry],
@@ -125,16 +112,16 @@ pub extern "C" fn pagunlit_offer(
     sheet: u32,
     count: u32,
 ) -> Reply
-    ensures { λ r. let s = kept shape (now (map .entry)) (now (catalogue .entry)) (now (card .entry)) in
-        let shares = now (limits .entry) in
-        ⌜ r ≡ replyOf (offerOutcome s shares sheet count) ⌝ }
+    ensures { λ r. ⌜ Offers replyOf role shape (now (map .entry)) (now (catalogue .entry)) (now (card .entry))
+        (now (limits .entry)) sheet count r ⌝ }
 {
-    let outcome = shape.offer(map, catalogue, card, limits, sheet, count);
+    let outcome = role_calls::offer(role, shape, map, catalogue, card, limits, sheet, count);
     reply_of(outcome)
 }
 
 #[no_mangle]
 pub extern "C" fn pagunlit_accept(
+    role: u32,
     shape: Shape,
     map: &mut [u64],
     catalogue: &mut [Entry],
@@ -144,19 +131,26 @@ pub extern "C" fn pagunlit_accept(
     start: u32,
     count: u32,
 ) -> Reply
-    ensures { λ r. let s = kept shape (now (map .entry)) (now (catalogue .entry)) (now (card .entry)) in
-        let shares = now (limits .entry) in
-        ⌜ (r ≡ replyOf (acceptOutcome s shares sheet start count))
-        × (now (map .exit) ≡ acceptMap s shares sheet start count)
-        × (now (catalogue .exit) ≡ acceptEntries s shares sheet start count)
-        × (now (card .exit) ≡ acceptCard s shares sheet start count) ⌝ }
+    ensures { λ r. ⌜ Accepts replyOf role shape (now (map .entry)) (now (catalogue .entry)) (now (card .entry))
+        (now (limits .entry)) sheet start count r (now (map .exit)) (now (catalogue .exit)) (now (card .exit)) ⌝ }
 {
-    let outcome = shape.accept(map, catalogue, card, limits, sheet, start, count);
+    let outcome = role_calls::accept(
+        role,
+        shape,
+        map,
+        catalogue,
+        card,
+        limits,
+        sheet,
+        start,
+        count,
+    );
     reply_of(outcome)
 }
 
 #[no_mangle]
 pub extern "C" fn pagunlit_grow(
+    role: u32,
     shape: Shape,
     map: &mut [u64],
     catalogue: &mut [Entry],
@@ -165,19 +159,16 @@ pub extern "C" fn pagunlit_grow(
     sheet: u32,
     count: u32,
 ) -> Reply
-    ensures { λ r. let s = kept shape (now (map .entry)) (now (catalogue .entry)) (now (card .entry)) in
-        let shares = now (limits .entry) in
-        ⌜ (r ≡ replyOf (growOutcome s shares sheet count))
-        × (now (map .exit) ≡ growMap s shares sheet count)
-        × (now (catalogue .exit) ≡ growEntries s shares sheet count)
-        × (now (card .exit) ≡ growCard s shares sheet count) ⌝ }
+    ensures { λ r. ⌜ Grows replyOf role shape (now (map .entry)) (now (catalogue .entry)) (now (card .entry))
+        (now (limits .entry)) sheet count r (now (map .exit)) (now (catalogue .exit)) (now (card .exit)) ⌝ }
 {
-    let outcome = shape.grow(map, catalogue, card, limits, sheet, count);
+    let outcome = role_calls::grow(role, shape, map, catalogue, card, limits, sheet, count);
     reply_of(outcome)
 }
 
 #[no_mangle]
 pub extern "C" fn pagunlit_put(
+    role: u32,
     shape: Shape,
     map: &[u64],
     catalogue: &[Entry],
@@ -186,78 +177,75 @@ pub extern "C" fn pagunlit_put(
     place: u32,
     payload: &[u8],
 ) -> Reply
-    ensures { λ r. let s = kept shape (now (map .entry)) (now (catalogue .entry)) (now (card .entry)) in
-        ⌜ (r ≡ replyOf (putOutcome s sheet place (now (payload .entry))))
-        × (now (card .exit) ≡ putCard s sheet place (now (payload .entry))) ⌝ }
+    ensures { λ r. ⌜ Puts replyOf role shape (now (map .entry)) (now (catalogue .entry)) (now (card .entry)) sheet place
+        (now (payload .entry)) r (now (card .exit)) ⌝ }
 {
-    let outcome = shape.put(map, catalogue, card, sheet, place, payload);
+    let outcome = role_calls::put(role, shape, map, catalogue, card, sheet, place, payload);
     reply_of(outcome)
 }
 
 #[no_mangle]
 pub extern "C" fn pagunlit_complete(
+    role: u32,
     shape: Shape,
     map: &[u64],
     catalogue: &mut [Entry],
     card: &[u8],
     sheet: u32,
 ) -> Reply
-    ensures { λ r. let s = kept shape (now (map .entry)) (now (catalogue .entry)) (now (card .entry)) in
-        ⌜ (r ≡ replyOf (completeOutcome s sheet))
-        × (now (catalogue .exit) ≡ completeEntries s sheet) ⌝ }
+    ensures { λ r. ⌜ Completes replyOf role shape (now (map .entry)) (now (catalogue .entry)) (now (card .entry)) sheet r
+        (now (catalogue .exit)) ⌝ }
 {
-    let outcome = shape.complete(map, catalogue, card, sheet);
+    let outcome = role_calls::complete(role, shape, map, catalogue, card, sheet);
     reply_of(outcome)
 }
 
 #[no_mangle]
 pub extern "C" fn pagunlit_pause(
+    role: u32,
     shape: Shape,
     map: &[u64],
     catalogue: &mut [Entry],
     sheet: u32,
 ) -> Reply
-    ensures { λ r. let s = kept shape (now (map .entry)) (now (catalogue .entry)) noCard in
-        ⌜ (r ≡ replyOf (pauseOutcome s sheet))
-        × (now (catalogue .exit) ≡ pauseEntries s sheet) ⌝ }
+    ensures { λ r. ⌜ Pauses replyOf role shape (now (map .entry)) (now (catalogue .entry)) sheet r (now (catalogue .exit)) ⌝ }
 {
-    let outcome = shape.pause(map, catalogue, sheet);
+    let outcome = role_calls::pause(role, shape, map, catalogue, sheet);
     reply_of(outcome)
 }
 
 #[no_mangle]
 pub extern "C" fn pagunlit_resume(
+    role: u32,
     shape: Shape,
     map: &[u64],
     catalogue: &mut [Entry],
     sheet: u32,
 ) -> Reply
-    ensures { λ r. let s = kept shape (now (map .entry)) (now (catalogue .entry)) noCard in
-        ⌜ (r ≡ replyOf (resumeOutcome s sheet))
-        × (now (catalogue .exit) ≡ resumeEntries s sheet) ⌝ }
+    ensures { λ r. ⌜ Resumes replyOf role shape (now (map .entry)) (now (catalogue .entry)) sheet r (now (catalogue .exit)) ⌝ }
 {
-    let outcome = shape.resume(map, catalogue, sheet);
+    let outcome = role_calls::resume(role, shape, map, catalogue, sheet);
     reply_of(outcome)
 }
 
 #[no_mangle]
 pub extern "C" fn pagunlit_release(
+    role: u32,
     shape: Shape,
     map: &mut [u64],
     catalogue: &mut [Entry],
     sheet: u32,
 ) -> Reply
-    ensures { λ r. let s = kept shape (now (map .entry)) (now (catalogue .entry)) noCard in
-        ⌜ (r ≡ replyOf (releaseOutcome s sheet))
-        × (now (map .exit) ≡ releaseMap s sheet)
-        × (now (catalogue .exit) ≡ releaseEntries s sheet) ⌝ }
+    ensures { λ r. ⌜ Releases replyOf role shape (now (map .entry)) (now (catalogue .entry)) sheet r (now (map .exit))
+        (now (catalogue .exit)) ⌝ }
 {
-    let outcome = shape.release(map, catalogue, sheet);
+    let outcome = role_calls::release(role, shape, map, catalogue, sheet);
     reply_of(outcome)
 }
 
 #[no_mangle]
 pub extern "C" fn pagunlit_show(
+    role: u32,
     shape: Shape,
     map: &[u64],
     catalogue: &[Entry],
@@ -266,90 +254,74 @@ pub extern "C" fn pagunlit_show(
     place: u32,
     buffer: &mut [u8],
 ) -> Reply
-    ensures { λ r. let s = kept shape (now (map .entry)) (now (catalogue .entry)) (now (card .entry)) in
-        ⌜ (r ≡ replyOf (showOutcome s sheet place (now (buffer .entry))))
-        × (now (buffer .exit) ≡ showBuffer s sheet place (now (buffer .entry))) ⌝ }
+    ensures { λ r. ⌜ Shows replyOf role shape (now (map .entry)) (now (catalogue .entry)) (now (card .entry)) sheet place
+        (now (buffer .entry)) r (now (buffer .exit)) ⌝ }
 {
-    let outcome = shape.show(map, catalogue, card, sheet, place, buffer);
+    let outcome = role_calls::show(role, shape, map, catalogue, card, sheet, place, buffer);
     reply_of(outcome)
 }
 
 #[no_mangle]
 pub extern "C" fn pagunlit_standing(
+    role: u32,
     shape: Shape,
     map: &[u64],
     catalogue: &[Entry],
     sheet: u32,
 ) -> Reply
-    ensures { λ r. let s = kept shape (now (map .entry)) (now (catalogue .entry)) noCard in
-        ⌜ r ≡ replyOf (standingOutcome s sheet) ⌝ }
+    ensures { λ r. ⌜ TellsStanding replyOf role shape (now (map .entry)) (now (catalogue .entry)) sheet r ⌝ }
 {
-    let outcome = shape.standing(map, catalogue, sheet);
+    let outcome = role_calls::standing(role, shape, map, catalogue, sheet);
     reply_of(outcome)
 }
 
 #[no_mangle]
 pub extern "C" fn pagunlit_save(
+    role: u32,
     shape: Shape,
     map: &[u64],
     catalogue: &[Entry],
     scratch: &mut [u64],
     image: &mut [u8],
 ) -> Reply
-    ensures { λ r.
-        ⌜ (r ≡ replyOf (saveOutcome shape (now (map .entry)) (now (catalogue .entry)) (now (scratch .entry))
-        (now (image .entry))))
-        × (now (scratch .exit) ≡ saveScratch shape (now (map .entry)) (now (catalogue .entry)) (now (scratch .entry))
-        (now (image .entry)))
-        × (now (image .exit) ≡ saveImage shape (now (map .entry)) (now (catalogue .entry)) (now (scratch .entry))
-        (now (image .entry))) ⌝ }
+    ensures { λ r. ⌜ Saves replyOf role shape (now (map .entry)) (now (catalogue .entry)) (now (scratch .entry))
+        (now (image .entry)) r (now (scratch .exit)) (now (image .exit)) ⌝ }
 {
-    let outcome = shape.save(map, catalogue, scratch, image);
+    let outcome = role_calls::save(role, shape, map, catalogue, scratch, image);
     reply_of(outcome)
 }
 
 #[no_mangle]
 pub extern "C" fn pagunlit_close(
+    role: u32,
     shape: Shape,
     map: &mut [u64],
     catalogue: &mut [Entry],
     card: &mut [u8],
     scratch: &mut [u64],
 ) -> Reply
-    ensures { λ r. let s = kept shape (now (map .entry)) (now (catalogue .entry)) (now (card .entry)) in
-        ⌜ (r ≡ replyOf (closeOutcome s (now (scratch .entry))))
-        × (now (map .exit) ≡ closeMap s (now (scratch .entry)))
-        × (now (catalogue .exit) ≡ closeEntries s (now (scratch .entry)))
-        × (now (card .exit) ≡ closeCard s (now (scratch .entry)))
-        × (now (scratch .exit) ≡ closeScratch s (now (scratch .entry))) ⌝ }
+    ensures { λ r. ⌜ Closes replyOf role shape (now (map .entry)) (now (catalogue .entry)) (now (card .entry))
+        (now (scratch .entry)) r (now (map .exit)) (now (catalogue .exit)) (now (card .exit)) (now (scratch .exit)) ⌝ }
 {
-    let outcome = shape.close(map, catalogue, card, scratch);
+    let outcome = role_calls::close(role, shape, map, catalogue, card, scratch);
     reply_of(outcome)
 }
 
 #[no_mangle]
 pub extern "C" fn pagunlit_load(
+    role: u32,
     shape: Shape,
     image: &[u8],
     map: &mut [u64],
     catalogue: &mut [Entry],
     scratch: &mut [u64],
 ) -> Reply
-    ensures { λ r.
-        ⌜ (r ≡ replyOf (loadOutcome shape (now (image .entry)) (now (map .entry)) (now (catalogue .entry))
-        (now (scratch .entry))))
-        × (now (map .exit) ≡ loadMap shape (now (image .entry)) (now (map .entry)) (now (catalogue .entry))
-        (now (scratch .entry)))
-        × (now (catalogue .exit) ≡ loadEntries shape (now (image .entry)) (now (map .entry)) (now (catalogue .entry))
-        (now (scratch .entry)))
-        × (now (scratch .exit) ≡ loadScratch shape (now (image .entry)) (now (map .entry)) (now (catalogue .entry))
-        (now (scratch .entry))) ⌝ }
+    ensures { λ r. ⌜ Loads replyOf role shape (now (image .entry)) (now (map .entry)) (now (catalogue .entry))
+        (now (scratch .entry)) r (now (map .exit)) (now (catalogue .exit)) (now (scratch .exit)) ⌝ }
 {
-    let outcome = shape.load(image, map, catalogue, scratch);
+    let outcome = role_calls::load(role, shape, image, map, catalogue, scratch);
     reply_of(outcome)
 }
-
-// Single blocks, as the crate block has them.
 
 #[no_mangle]
 pub extern "C" fn seal(sheet: u32, place: u32, payload: &[u8], bytes: &mut [u8]) -> u32

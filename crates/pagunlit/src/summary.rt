@@ -1,41 +1,42 @@
 // The C functions on a summary beside the map, and of the calls that are lent one (document 02, request j).
-ghost use mathlib.Core.Bool.{true};
-ghost use mathlib.Core.Path.{_≡_};
 ghost use Rattle.pagunlit_replies.specs.Replies.{replyOf};
-ghost use Rattle.refusals.specs.Lent.{noCard};
-ghost use Rattle.refusals.specs.Placement.{plain, placed, figures};
-ghost use Rattle.card.specs.Calls.{kept, buildOutcome, buildSummary, checkOutcome};
-ghost use Rattle.card.specs.Calls.{reserveOutcomeBy, reserveMapBy, reserveSummaryBy, reserveEntriesBy, reserveCardBy};
-ghost use Rattle.card.specs.Calls.{acceptOutcomeBy, acceptMapBy, acceptSummaryBy, acceptEntriesBy, acceptCardBy};
-ghost use Rattle.card.specs.Calls.{growOutcomeBy, growMapBy, growSummaryBy, growEntriesBy, growCardBy};
-ghost use Rattle.card.specs.Calls.{releaseOutcomeBy, releaseMapBy, releaseSummaryBy, releaseEntriesBy};
-ghost use Rattle.card.specs.Closings.{closeOutcomeBy, closeMapBy, closeSummaryBy, closeEntriesBy, closeCardBy};
-ghost use Rattle.card.specs.Closings.{closeScratchBy};
+ghost use Rattle.role_calls.specs.SummaryContracts.{Builds, Checks, ReservesBy, ReservesPlacedBy};
+ghost use Rattle.role_calls.specs.SummaryContracts.{AcceptsBy, GrowsBy, ReleasesBy};
+ghost use Rattle.role_calls.specs.SummaryContracts.{ClosesBy};
 use card::Shape;
 use catalogue::Entry;
 use pagunlit_replies::Reply;
 use pagunlit_replies::reply_of;
 
 #[no_mangle]
-pub extern "C" fn pagunlit_summary_build(shape: Shape, map: &[u64], summary: &mut [u32]) -> Reply
-    ensures { λ r.
-        ⌜ (r ≡ replyOf (buildOutcome shape (now (map .entry)) (now (summary .entry))))
-        × (now (summary .exit) ≡ buildSummary shape (now (map .entry)) (now (summary .entry))) ⌝ }
+pub extern "C" fn pagunlit_summary_build(
+    role: u32,
+    shape: Shape,
+    map: &[u64],
+    summary: &mut [u32],
+) -> Reply
+    ensures { λ r. ⌜ Builds replyOf role shape (now (map .entry)) (now (summary .entry)) r (now (summary .exit)) ⌝ }
 {
-    let outcome = shape.summary_build(map, summary);
+    let outcome = role_calls::summary::summary_build(role, shape, map, summary);
     reply_of(outcome)
 }
 
 #[no_mangle]
-pub extern "C" fn pagunlit_summary_check(shape: Shape, map: &[u64], summary: &[u32]) -> Reply
-    ensures { λ r. ⌜ r ≡ replyOf (checkOutcome shape (now (map .entry)) (now (summary .entry))) ⌝ }
+pub extern "C" fn pagunlit_summary_check(
+    role: u32,
+    shape: Shape,
+    map: &[u64],
+    summary: &[u32],
+) -> Reply
+    ensures { λ r. ⌜ Checks replyOf role shape (now (map .entry)) (now (summary .entry)) r ⌝ }
 {
-    let outcome = shape.summary_check(map, summary);
+    let outcome = role_calls::summary::summary_check(role, shape, map, summary);
     reply_of(outcome)
 }
 
 #[no_mangle]
 pub extern "C" fn pagunlit_reserve_with_summary(
+    role: u32,
     shape: Shape,
     map: &mut [u64],
     summary: &mut [u32],
@@ -45,20 +46,27 @@ pub extern "C" fn pagunlit_reserve_with_summary(
     sheet: u32,
     count: u32,
 ) -> Reply
-    ensures { λ r. let s = kept shape (now (map .entry)) (now (catalogue .entry)) (now (card .entry)) in
-        let shares = now (limits .entry) in
-        ⌜ (r ≡ replyOf (reserveOutcomeBy true (now (summary .entry)) s shares sheet count plain))
-        × (now (map .exit) ≡ reserveMapBy true (now (summary .entry)) s shares sheet count plain)
-        × (now (summary .exit) ≡ reserveSummaryBy true (now (summary .entry)) s shares sheet count plain)
-        × (now (catalogue .exit) ≡ reserveEntriesBy true (now (summary .entry)) s shares sheet count plain)
-        × (now (card .exit) ≡ reserveCardBy true (now (summary .entry)) s shares sheet count plain) ⌝ }
+    ensures { λ r. ⌜ ReservesBy replyOf role shape (now (map .entry)) (now (summary .entry)) (now (catalogue .entry))
+        (now (card .entry)) (now (limits .entry)) sheet count r (now (map .exit)) (now (summary .exit))
+        (now (catalogue .exit)) (now (card .exit)) ⌝ }
 {
-    let outcome = shape.reserve_with_summary(map, summary, catalogue, card, limits, sheet, count);
+    let outcome = role_calls::summary::reserve_with_summary(
+        role,
+        shape,
+        map,
+        summary,
+        catalogue,
+        card,
+        limits,
+        sheet,
+        count,
+    );
     reply_of(outcome)
 }
 
 #[no_mangle]
 pub extern "C" fn pagunlit_reserve_placed_with_summary(
+    role: u32,
     shape: Shape,
     map: &mut [u64],
     summary: &mut [u32],
@@ -71,16 +79,13 @@ pub extern "C" fn pagunlit_reserve_placed_with_summary(
     before: u32,
     step: u32,
 ) -> Reply
-    ensures { λ r. let s = kept shape (now (map .entry)) (now (catalogue .entry)) (now (card .entry)) in
-        let shares = now (limits .entry) in
-        let p = placed (figures from before step) in
-        ⌜ (r ≡ replyOf (reserveOutcomeBy true (now (summary .entry)) s shares sheet count p))
-        × (now (map .exit) ≡ reserveMapBy true (now (summary .entry)) s shares sheet count p)
-        × (now (summary .exit) ≡ reserveSummaryBy true (now (summary .entry)) s shares sheet count p)
-        × (now (catalogue .exit) ≡ reserveEntriesBy true (now (summary .entry)) s shares sheet count p)
-        × (now (card .exit) ≡ reserveCardBy true (now (summary .entry)) s shares sheet count p) ⌝ }
+    ensures { λ r. ⌜ ReservesPlacedBy replyOf role shape (now (map .entry)) (now (summary .entry)) (now (catalogue .entry))
+        (now (card .entry)) (now (limits .entry)) sheet count from before step r (now (map .exit)) (now (summary .exit))
+        (now (catalogue .exit)) (now (card .exit)) ⌝ }
 {
-    let outcome = shape.reserve_placed_with_summary(
+    let outcome = role_calls::summary::reserve_placed_with_summary(
+        role,
+        shape,
         map,
         summary,
         catalogue,
@@ -97,6 +102,7 @@ pub extern "C" fn pagunlit_reserve_placed_with_summary(
 
 #[no_mangle]
 pub extern "C" fn pagunlit_accept_with_summary(
+    role: u32,
     shape: Shape,
     map: &mut [u64],
     summary: &mut [u32],
@@ -107,15 +113,13 @@ pub extern "C" fn pagunlit_accept_with_summary(
     start: u32,
     count: u32,
 ) -> Reply
-    ensures { λ r. let s = kept shape (now (map .entry)) (now (catalogue .entry)) (now (card .entry)) in
-        let shares = now (limits .entry) in
-        ⌜ (r ≡ replyOf (acceptOutcomeBy true (now (summary .entry)) s shares sheet start count))
-        × (now (map .exit) ≡ acceptMapBy true (now (summary .entry)) s shares sheet start count)
-        × (now (summary .exit) ≡ acceptSummaryBy true (now (summary .entry)) s shares sheet start count)
-        × (now (catalogue .exit) ≡ acceptEntriesBy true (now (summary .entry)) s shares sheet start count)
-        × (now (card .exit) ≡ acceptCardBy true (now (summary .entry)) s shares sheet start count) ⌝ }
+    ensures { λ r. ⌜ AcceptsBy replyOf role shape (now (map .entry)) (now (summary .entry)) (now (catalogue .entry))
+        (now (card .entry)) (now (limits .entry)) sheet start count r (now (map .exit)) (now (summary .exit))
+        (now (catalogue .exit)) (now (card .exit)) ⌝ }
 {
-    let outcome = shape.accept_with_summary(
+    let outcome = role_calls::summary::accept_with_summary(
+        role,
+        shape,
         map,
         summary,
         catalogue,
@@ -130,6 +134,7 @@ pub extern "C" fn pagunlit_accept_with_summary(
 
 #[no_mangle]
 pub extern "C" fn pagunlit_grow_with_summary(
+    role: u32,
     shape: Shape,
     map: &mut [u64],
     summary: &mut [u32],
@@ -139,38 +144,50 @@ pub extern "C" fn pagunlit_grow_with_summary(
     sheet: u32,
     count: u32,
 ) -> Reply
-    ensures { λ r. let s = kept shape (now (map .entry)) (now (catalogue .entry)) (now (card .entry)) in
-        let shares = now (limits .entry) in
-        ⌜ (r ≡ replyOf (growOutcomeBy true (now (summary .entry)) s shares sheet count))
-        × (now (map .exit) ≡ growMapBy true (now (summary .entry)) s shares sheet count)
-        × (now (summary .exit) ≡ growSummaryBy true (now (summary .entry)) s shares sheet count)
-        × (now (catalogue .exit) ≡ growEntriesBy true (now (summary .entry)) s shares sheet count)
-        × (now (card .exit) ≡ growCardBy true (now (summary .entry)) s shares sheet count) ⌝ }
+    ensures { λ r. ⌜ GrowsBy replyOf role shape (now (map .entry)) (now (summary .entry)) (now (catalogue .entry))
+        (now (card .entry)) (now (limits .entry)) sheet count r (now (map .exit)) (now (summary .exit))
+        (now (catalogue .exit)) (now (card .exit)) ⌝ }
 {
-    let outcome = shape.grow_with_summary(map, summary, catalogue, card, limits, sheet, count);
+    let outcome = role_calls::summary::grow_with_summary(
+        role,
+        shape,
+        map,
+        summary,
+        catalogue,
+        card,
+        limits,
+        sheet,
+        count,
+    );
     reply_of(outcome)
 }
 
 #[no_mangle]
 pub extern "C" fn pagunlit_release_with_summary(
+    role: u32,
     shape: Shape,
     map: &mut [u64],
     summary: &mut [u32],
     catalogue: &mut [Entry],
     sheet: u32,
 ) -> Reply
-    ensures { λ r. let s = kept shape (now (map .entry)) (now (catalogue .entry)) noCard in
-        ⌜ (r ≡ replyOf (releaseOutcomeBy true (now (summary .entry)) s sheet))
-        × (now (map .exit) ≡ releaseMapBy true (now (summary .entry)) s sheet)
-        × (now (summary .exit) ≡ releaseSummaryBy true (now (summary .entry)) s sheet)
-        × (now (catalogue .exit) ≡ releaseEntriesBy true (now (summary .entry)) s sheet) ⌝ }
+    ensures { λ r. ⌜ ReleasesBy replyOf role shape (now (map .entry)) (now (summary .entry)) (now (catalogue .entry)) sheet r
+        (now (map .exit)) (now (summary .exit)) (now (catalogue .exit)) ⌝ }
 {
-    let outcome = shape.release_with_summary(map, summary, catalogue, sheet);
+    let outcome = role_calls::summary::release_with_summary(
+        role,
+        shape,
+        map,
+        summary,
+        catalogue,
+        sheet,
+    );
     reply_of(outcome)
 }
 
 #[no_mangle]
 pub extern "C" fn pagunlit_close_with_summary(
+    role: u32,
     shape: Shape,
     map: &mut [u64],
     summary: &mut [u32],
@@ -178,14 +195,18 @@ pub extern "C" fn pagunlit_close_with_summary(
     card: &mut [u8],
     scratch: &mut [u64],
 ) -> Reply
-    ensures { λ r. let s = kept shape (now (map .entry)) (now (catalogue .entry)) (now (card .entry)) in
-        ⌜ (r ≡ replyOf (closeOutcomeBy true (now (summary .entry)) s (now (scratch .entry))))
-        × (now (map .exit) ≡ closeMapBy true (now (summary .entry)) s (now (scratch .entry)))
-        × (now (summary .exit) ≡ closeSummaryBy true (now (summary .entry)) s (now (scratch .entry)))
-        × (now (catalogue .exit) ≡ closeEntriesBy true (now (summary .entry)) s (now (scratch .entry)))
-        × (now (card .exit) ≡ closeCardBy true (now (summary .entry)) s (now (scratch .entry)))
-        × (now (scratch .exit) ≡ closeScratchBy true (now (summary .entry)) s (now (scratch .entry))) ⌝ }
+    ensures { λ r. ⌜ ClosesBy replyOf role shape (now (map .entry)) (now (summary .entry)) (now (catalogue .entry))
+        (now (card .entry)) (now (scratch .entry)) r (now (map .exit)) (now (summary .exit)) (now (catalogue .exit))
+        (now (card .exit)) (now (scratch .exit)) ⌝ }
 {
-    let outcome = shape.close_with_summary(map, summary, catalogue, card, scratch);
+    let outcome = role_calls::summary::close_with_summary(
+        role,
+        shape,
+        map,
+        summary,
+        catalogue,
+        card,
+        scratch,
+    );
     reply_of(outcome)
 }

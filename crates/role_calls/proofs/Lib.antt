@@ -8,3 +8,5 @@ pub mod Summaries
 pub mod Rounds
 pub mod Contracts
 pub mod SummaryContracts
+pub mod Promises
+pub mod SummaryPromises

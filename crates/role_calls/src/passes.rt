@@ -48,7 +48,7 @@ pub fn turned_away(shape: Shape) -> Outcome
 {
     Outcome {
         shape: shape,
-        answer: Answer::Refused(roles::NOT_IN_ROLE),
+        answer: Answer::Refused(roles::TURNED_AWAY),
     }
 }
 

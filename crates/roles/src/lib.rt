@@ -10,7 +10,7 @@ pub const CARER: u32 = 2;
 pub const SERVICE: u32 = 3;
 
 // The refusal of an unknown role, or of a call that is not in its row.
-pub const NOT_IN_ROLE: u32 = 21;
+pub const TURNED_AWAY: u32 = 21;
 
 // The names of the calls that take a role. A reserve is plain or placed, and a call that is lent a summary has the name of the
 // call without it.

@@ -1,6 +1,6 @@
--- Written by tools/walks: every function (shape: Shape, map: &[u64], catalogue: &[Entry], card: &[u8], sheet: u32, place: u32,
--- year: u32, month: u32, day: u32, buffer: &mut [u8]) whose code is
---     let outcome: Outcome = call(shape, map, catalogue, card, sheet, place, year, month, day, buffer);
+-- Written by tools/walks: every function (role: u32, shape: Shape, map: &[u64], catalogue: &[Entry], card: &[u8], sheet: u32,
+-- place: u32, year: u32, month: u32, day: u32, buffer: &mut [u8]) whose code is
+--     let outcome: Outcome = call(role, shape, map, catalogue, card, sheet, place, year, month, day, buffer);
 --     reply_of(outcome)
 -- One walk serves every choice of the callees: it takes their names and what their contracts say. The types by value are any,
 -- too.
@@ -57,31 +57,37 @@ module _ (Shape Outcome Reply : Value) where
   signature = record {
     lifetimes = 4;
     outlives = [];
-    params = plain (λ _. (rowOf Shape)) ∷ shrSlice 0 tt (λ _. u64) ∷ shrSlice 1 tt (λ _. Entry′.the-row)
+    params = plain (λ _. u32) ∷ plain (λ _. (rowOf Shape)) ∷ shrSlice 0 tt (λ _. u64) ∷ shrSlice 1 tt (λ _. Entry′.the-row)
         ∷ shrSlice 2 tt (λ _. u8) ∷ plain (λ _. u32) ∷ plain (λ _. u32) ∷ plain (λ _. u32) ∷ plain (λ _. u32) ∷ plain (λ _. u32)
         ∷ mutSlice 3 tt (λ _. u8) ∷ [];
     result = plain (λ _. (rowOf Reply));
   }
 
   abbrev ended : Ended
-  ended = record { signature = signature; kept = (yes, (yes, (yes, (yes, (yes, (yes, (yes, (yes, (yes, (yes, tt)))))))))) }
+  ended = record {
+    signature = signature;
+    kept = (yes, (yes, (yes, (yes, (yes, (yes, (yes, (yes, (yes, (yes, (yes, tt)))))))))));
+  }
 
   abbrev stayed : Stays (ended .signature .params) (ended .kept)
   stayed = (
-    stay-none (λ _. (rowOf Shape)) yes,
+    stay-none (λ _. u32) yes,
     (
-      stay-none-slice (0 ∷ []) tt (plain (λ _. u64)) yes,
+      stay-none (λ _. (rowOf Shape)) yes,
       (
-        stay-none-slice (1 ∷ []) tt (plain (λ _. Entry′.the-row)) yes,
+        stay-none-slice (0 ∷ []) tt (plain (λ _. u64)) yes,
         (
-          stay-none-slice (2 ∷ []) tt (plain (λ _. u8)) yes,
+          stay-none-slice (1 ∷ []) tt (plain (λ _. Entry′.the-row)) yes,
           (
-            stay-none (λ _. u32) yes,
+            stay-none-slice (2 ∷ []) tt (plain (λ _. u8)) yes,
             (
               stay-none (λ _. u32) yes,
               (
                 stay-none (λ _. u32) yes,
-                (stay-none (λ _. u32) yes, (stay-none (λ _. u32) yes, (stay-slice (3 ∷ []) tt (plain (λ _. u8)), tt))),
+                (
+                  stay-none (λ _. u32) yes,
+                  (stay-none (λ _. u32) yes, (stay-none (λ _. u32) yes, (stay-slice (3 ∷ []) tt (plain (λ _. u8)), tt))),
+                ),
               ),
             ),
           ),
@@ -95,20 +101,20 @@ module _ (Shape Outcome Reply : Value) where
   function #call #reply-of = record {
     lifetimes = 4;
     outlives = [];
-    params = 10;
-    locals = local (mirOf Reply) valueLocal ∷ local (mirOf Shape) valueLocal ∷ local (sliceTy (tyRef (named 0) imm (tyInt w64)))
-        valueLocal ∷ local (sliceTy (tyRef (named 1) imm (pointee (Entry′.the-row .written)))) valueLocal
-        ∷ local (sliceTy (tyRef (named 2) imm (tyInt w8))) valueLocal ∷ local (tyInt w32) valueLocal
-        ∷ local (tyInt w32) valueLocal ∷ local (tyInt w32) valueLocal ∷ local (tyInt w32) valueLocal
-        ∷ local (tyInt w32) valueLocal ∷ local (sliceTy (tyRef (named 3) mut (tyInt w8))) valueLocal
-        ∷ local (mirOf Outcome) valueLocal ∷ local (tyRef erased mut (tyInt w8)) valueLocal
+    params = 11;
+    locals = local (mirOf Reply) valueLocal ∷ local (tyInt w32) valueLocal ∷ local (mirOf Shape) valueLocal
+        ∷ local (sliceTy (tyRef (named 0) imm (tyInt w64))) valueLocal ∷ local (sliceTy
+        (tyRef (named 1) imm (pointee (Entry′.the-row .written)))) valueLocal ∷ local (sliceTy (tyRef (named 2) imm (tyInt w8)))
+        valueLocal ∷ local (tyInt w32) valueLocal ∷ local (tyInt w32) valueLocal ∷ local (tyInt w32) valueLocal
+        ∷ local (tyInt w32) valueLocal ∷ local (tyInt w32) valueLocal ∷ local (sliceTy (tyRef (named 3) mut (tyInt w8)))
+        valueLocal ∷ local (mirOf Outcome) valueLocal ∷ local (tyRef erased mut (tyInt w8)) valueLocal
         ∷ local (sliceTy (tyRef erased mut (tyInt w8))) valueLocal ∷ [];
-    body = seq (assign (place 12 []) (addrOf (place 10 (field 0 ∷ deref (tyInt w8) ∷ []))))
-        (seq (assign (place 13 []) (aggregate (copy (place 12 []) ∷ copy (place 10 (field 1 ∷ [])) ∷ [])))
+    body = seq (assign (place 13 []) (addrOf (place 11 (field 0 ∷ deref (tyInt w8) ∷ []))))
+        (seq (assign (place 14 []) (aggregate (copy (place 13 []) ∷ copy (place 11 (field 1 ∷ [])) ∷ [])))
         (seq (call #call (copy (place 1 []) ∷ copy (place 2 []) ∷ copy (place 3 []) ∷ copy (place 4 []) ∷ copy (place 5 [])
-        ∷ copy (place 6 []) ∷ copy (place 7 []) ∷ copy (place 8 []) ∷ copy (place 9 []) ∷ copy (place 13 []) ∷ [])
-        (place 11 []))
-        (seq (call #reply-of (copy (place 11 []) ∷ []) (place 0 [])) return)));
+        ∷ copy (place 6 []) ∷ copy (place 7 []) ∷ copy (place 8 []) ∷ copy (place 9 []) ∷ copy (place 10 [])
+        ∷ copy (place 14 []) ∷ []) (place 12 []))
+        (seq (call #reply-of (copy (place 12 []) ∷ []) (place 0 [])) return)));
   }
 
   -- ---- what `call` is, and what it ensures
@@ -116,7 +122,7 @@ module _ (Shape Outcome Reply : Value) where
   call-signature = record {
     lifetimes = 4;
     outlives = [];
-    params = plain (λ _. (rowOf Shape)) ∷ shrSlice 0 tt (λ _. u64) ∷ shrSlice 1 tt (λ _. Entry′.the-row)
+    params = plain (λ _. u32) ∷ plain (λ _. (rowOf Shape)) ∷ shrSlice 0 tt (λ _. u64) ∷ shrSlice 1 tt (λ _. Entry′.the-row)
         ∷ shrSlice 2 tt (λ _. u8) ∷ plain (λ _. u32) ∷ plain (λ _. u32) ∷ plain (λ _. u32) ∷ plain (λ _. u32) ∷ plain (λ _. u32)
         ∷ mutSlice 3 tt (λ _. u8) ∷ [];
     result = plain (λ _. (rowOf Outcome));
@@ -125,26 +131,27 @@ module _ (Shape Outcome Reply : Value) where
   abbrev call-ended : Ended
   call-ended = record {
     signature = call-signature;
-    kept = (yes, (yes, (yes, (yes, (yes, (yes, (yes, (yes, (yes, (yes, tt))))))))));
+    kept = (yes, (yes, (yes, (yes, (yes, (yes, (yes, (yes, (yes, (yes, (yes, tt)))))))))));
   }
 
   abbrev call-Model : Type 0 → Type 0
-  call-Model X = (denotes Shape) → List ℕ → List Entry → List ℕ → ℕ → ℕ → ℕ → ℕ → ℕ → List ℕ → X
+  call-Model X = ℕ → (denotes Shape) → List ℕ → List Entry → List ℕ → ℕ → ℕ → ℕ → ℕ → ℕ → List ℕ → X
 
   module _ (call-out : call-Model (denotes Outcome)) (call-x-buffer : call-Model (List ℕ)) where
-    abbrev call-says : (denotes Shape) → List ℕ → List Entry → List ℕ → ℕ → ℕ → ℕ → ℕ → ℕ → List ℕ → (denotes Outcome) → List ℕ
-        → Type 0
-    call-says a0 a1 a2 a3 a4 a5 a6 a7 a8 a9 r b9 = (r ≡ call-out a0 a1 a2 a3 a4 a5 a6 a7 a8 a9)
-        × (b9 ≡ call-x-buffer a0 a1 a2 a3 a4 a5 a6 a7 a8 a9)
+    abbrev call-says : ℕ → (denotes Shape) → List ℕ → List Entry → List ℕ → ℕ → ℕ → ℕ → ℕ → ℕ → List ℕ → (denotes Outcome)
+        → List ℕ → Type 0
+    call-says a0 a1 a2 a3 a4 a5 a6 a7 a8 a9 a10 r b10 = (r ≡ call-out a0 a1 a2 a3 a4 a5 a6 a7 a8 a9 a10)
+        × (b10 ≡ call-x-buffer a0 a1 a2 a3 a4 a5 a6 a7 a8 a9 a10)
 
     module _ {M : Type 1} (𝓤 : URA M) where
       abbrev call-clauses : Clauses 𝓤 call-ended
       call-clauses κs a = record {
         ghost = Unit {0};
         requires = λ _. emp 𝓤;
-        ensures = λ _ r e. fact 𝓤 (call-says (a .0) (now (a .1 .0)) (now (a .1 .1 .0)) (now (a .1 .1 .1 .0)) (a .1 .1 .1 .1 .0)
+        ensures = λ _ r e. fact 𝓤 (call-says (a .0) (a .1 .0) (now (a .1 .1 .0)) (now (a .1 .1 .1 .0)) (now (a .1 .1 .1 .1 .0))
             (a .1 .1 .1 .1 .1 .0) (a .1 .1 .1 .1 .1 .1 .0) (a .1 .1 .1 .1 .1 .1 .1 .0) (a .1 .1 .1 .1 .1 .1 .1 .1 .0)
-            (now (a .1 .1 .1 .1 .1 .1 .1 .1 .1 .0)) r (now (e .1 .1 .1 .1 .1 .1 .1 .1 .1 .0)));
+            (a .1 .1 .1 .1 .1 .1 .1 .1 .1 .0) (now (a .1 .1 .1 .1 .1 .1 .1 .1 .1 .1 .0)) r
+            (now (e .1 .1 .1 .1 .1 .1 .1 .1 .1 .1 .0)));
       }
 
       module _ (H : Heap 𝓤) (A : Atoms 𝓤) where
@@ -185,13 +192,13 @@ module _ (Shape Outcome Reply : Value) where
   module _ (#call #reply-of : Name) (call-out : call-Model (denotes Outcome)) (call-x-buffer : call-Model (List ℕ))
       (reply-of-out : reply-of-Model (denotes Reply)) where
     -- ---- what the chain gives, call by call
-    module _ (x-shape : (denotes Shape)) (x-map : List ℕ) (x-catalogue : List Entry) (x-card : List ℕ) (x-sheet : ℕ)
-        (x-place : ℕ) (x-year : ℕ) (x-month : ℕ) (x-day : ℕ) (x-buffer : List ℕ) where
+    module _ (x-role : ℕ) (x-shape : (denotes Shape)) (x-map : List ℕ) (x-catalogue : List Entry) (x-card : List ℕ)
+        (x-sheet : ℕ) (x-place : ℕ) (x-year : ℕ) (x-month : ℕ) (x-day : ℕ) (x-buffer : List ℕ) where
       abbrev v-outcome-of : (denotes Outcome)
-      v-outcome-of = call-out x-shape x-map x-catalogue x-card x-sheet x-place x-year x-month x-day x-buffer
+      v-outcome-of = call-out x-role x-shape x-map x-catalogue x-card x-sheet x-place x-year x-month x-day x-buffer
 
       abbrev z-call-x-buffer-of : List ℕ
-      z-call-x-buffer-of = call-x-buffer x-shape x-map x-catalogue x-card x-sheet x-place x-year x-month x-day x-buffer
+      z-call-x-buffer-of = call-x-buffer x-role x-shape x-map x-catalogue x-card x-sheet x-place x-year x-month x-day x-buffer
 
       abbrev v-result-of : (denotes Reply)
       v-result-of = reply-of-out v-outcome-of
@@ -204,19 +211,27 @@ module _ (Shape Outcome Reply : Value) where
       clauses κs a = record {
         ghost = Unit {0};
         requires = λ _. emp 𝓤;
-        ensures = λ _ r e. fact 𝓤 (Says (a .0) (now (a .1 .0)) (now (a .1 .1 .0)) (now (a .1 .1 .1 .0)) (a .1 .1 .1 .1 .0)
+        ensures = λ _ r e. fact 𝓤 (Says (a .0) (a .1 .0) (now (a .1 .1 .0)) (now (a .1 .1 .1 .0)) (now (a .1 .1 .1 .1 .0))
             (a .1 .1 .1 .1 .1 .0) (a .1 .1 .1 .1 .1 .1 .0) (a .1 .1 .1 .1 .1 .1 .1 .0) (a .1 .1 .1 .1 .1 .1 .1 .1 .0)
-            (now (a .1 .1 .1 .1 .1 .1 .1 .1 .1 .0)) r (now (e .1 .1 .1 .1 .1 .1 .1 .1 .1 .0)));
+            (a .1 .1 .1 .1 .1 .1 .1 .1 .1 .0) (now (a .1 .1 .1 .1 .1 .1 .1 .1 .1 .1 .0)) r
+            (now (e .1 .1 .1 .1 .1 .1 .1 .1 .1 .1 .0)));
       }
 
     module _ {M : Type 1} (𝓤 : URA M) (H : Heap 𝓤) (A : Atoms 𝓤) (W : Given 𝓤 H A) (κ₀ κ₁ κ₂ κ₃ : Lft) (q₀ q₁ q₂ q₃ : Share)
-        (x-shape : (denotes Shape)) (x-map : RefT (List ℕ)) (x-catalogue : RefT (List Entry)) (x-card : RefT (List ℕ))
-        (x-sheet : ℕ) (x-place : ℕ) (x-year : ℕ) (x-month : ℕ) (x-day : ℕ) (x-buffer : RefT (List ℕ))
-        (is-x-shape : Is (rowOf Shape) x-shape ((valsOf Shape) x-shape)) (room-x-map : Room u64 (length (now x-map)))
-        (room-x-catalogue : Room Entry′.the-row (length (now x-catalogue))) (room-x-card : Room u8 (length (now x-card)))
-        (is-x-sheet : Is u32 x-sheet ((uint-vals w32) x-sheet)) (is-x-place : Is u32 x-place ((uint-vals w32) x-place))
-        (is-x-year : Is u32 x-year ((uint-vals w32) x-year)) (is-x-month : Is u32 x-month ((uint-vals w32) x-month))
-        (is-x-day : Is u32 x-day ((uint-vals w32) x-day)) (room-x-buffer : Room u8 (length (now x-buffer))) where
+        (x-role : ℕ) (x-shape : (denotes Shape)) (x-map : RefT (List ℕ)) (x-catalogue : RefT (List Entry))
+        (x-card : RefT (List ℕ)) (x-sheet : ℕ) (x-place : ℕ) (x-year : ℕ) (x-month : ℕ) (x-day : ℕ) (x-buffer : RefT (List ℕ))
+        (is-x-role : Is u32 x-role ((uint-vals w32) x-role)) (is-x-shape : Is (rowOf Shape) x-shape ((valsOf Shape) x-shape))
+        (room-x-map : Room u64 (length (now x-map))) (room-x-catalogue : Room Entry′.the-row (length (now x-catalogue)))
+        (room-x-card : Room u8 (length (now x-card))) (is-x-sheet : Is u32 x-sheet ((uint-vals w32) x-sheet))
+        (is-x-place : Is u32 x-place ((uint-vals w32) x-place)) (is-x-year : Is u32 x-year ((uint-vals w32) x-year))
+        (is-x-month : Is u32 x-month ((uint-vals w32) x-month)) (is-x-day : Is u32 x-day ((uint-vals w32) x-day))
+        (room-x-buffer : Room u8 (length (now x-buffer))) where
+      abbrev m-x-role : Val
+      m-x-role = only ((uint-vals w32) x-role)
+
+      typed-x-role : Holds (hasTy (tyInt w32) m-x-role) × WT m-x-role
+      typed-x-role = (uint-lawful 𝓤 H A W w32 .typed) x-role _ is-x-role .0
+
       abbrev m-x-shape : Val
       m-x-shape = only ((valsOf Shape) x-shape)
 
@@ -277,21 +292,27 @@ module _ (Shape Outcome Reply : Value) where
       abbrev at-x-buffer : GName → List ℕ → RefT (List ℕ)
       at-x-buffer δ l = record { ptr = x-buffer .ptr; name = δ; now = l }
 
-      abbrev args : (denotes Shape) × (RefT (List ℕ) × (RefT (List Entry) × (RefT (List ℕ)
-          × (ℕ × (ℕ × (ℕ × (ℕ × (ℕ × (RefT (List ℕ) × Unit {0})))))))))
-      args = (x-shape, (x-map, (x-catalogue, (x-card, (x-sheet, (x-place, (x-year, (x-month, (x-day, (x-buffer, tt))))))))))
+      abbrev args : ℕ × ((denotes Shape) × (RefT (List ℕ) × (RefT (List Entry) × (RefT (List ℕ)
+          × (ℕ × (ℕ × (ℕ × (ℕ × (ℕ × (RefT (List ℕ) × Unit {0}))))))))))
+      args = (
+        x-role,
+        (x-shape, (x-map, (x-catalogue, (x-card, (x-sheet, (x-place, (x-year, (x-month, (x-day, (x-buffer, tt)))))))))),
+      )
 
       abbrev vals : List Val × (List Val × (List Val × (List Val × (List Val × (List Val
-          × (List Val × (List Val × (List Val × (List Val × Unit {0})))))))))
+          × (List Val × (List Val × (List Val × (List Val × (List Val × Unit {0}))))))))))
       vals = (
-        m-x-shape ∷ [],
+        m-x-role ∷ [],
         (
-          s-x-map ∷ [],
+          m-x-shape ∷ [],
           (
-            s-x-catalogue ∷ [],
+            s-x-map ∷ [],
             (
-              s-x-card ∷ [],
-              (m-x-sheet ∷ [], (m-x-place ∷ [], (m-x-year ∷ [], (m-x-month ∷ [], (m-x-day ∷ [], (s-x-buffer ∷ [], tt)))))),
+              s-x-catalogue ∷ [],
+              (
+                s-x-card ∷ [],
+                (m-x-sheet ∷ [], (m-x-place ∷ [], (m-x-year ∷ [], (m-x-month ∷ [], (m-x-day ∷ [], (s-x-buffer ∷ [], tt)))))),
+              ),
             ),
           ),
         ),
@@ -304,15 +325,15 @@ module _ (Shape Outcome Reply : Value) where
       Post = walkOf 𝓤 H A ended stayed (clauses 𝓤) .post bound
 
       abbrev v-outcome : (denotes Outcome)
-      v-outcome = v-outcome-of x-shape (now x-map) (now x-catalogue) (now x-card) x-sheet x-place x-year x-month x-day
+      v-outcome = v-outcome-of x-role x-shape (now x-map) (now x-catalogue) (now x-card) x-sheet x-place x-year x-month x-day
           (now x-buffer)
 
       abbrev z-call-x-buffer : List ℕ
-      z-call-x-buffer = z-call-x-buffer-of x-shape (now x-map) (now x-catalogue) (now x-card) x-sheet x-place x-year x-month
-          x-day (now x-buffer)
+      z-call-x-buffer = z-call-x-buffer-of x-role x-shape (now x-map) (now x-catalogue) (now x-card) x-sheet x-place x-year
+          x-month x-day (now x-buffer)
 
       abbrev v-result : (denotes Reply)
-      v-result = v-result-of x-shape (now x-map) (now x-catalogue) (now x-card) x-sheet x-place x-year x-month x-day
+      v-result = v-result-of x-role x-shape (now x-map) (now x-catalogue) (now x-card) x-sheet x-place x-year x-month x-day
           (now x-buffer)
 
       abbrev m-v-outcome : Val
@@ -328,13 +349,19 @@ module _ (Shape Outcome Reply : Value) where
       spelled-v-result w is = subst (λ (vs : List Val). Is (rowOf Reply) v-result vs) ((Reply .tells) v-result _ is) is
 
       -- ---- the caller has what `call` asks
-      abbrev call-args : (δ₀-call : GName) → (denotes Shape) × (RefT (List ℕ) × (RefT (List Entry)
-          × (RefT (List ℕ) × (ℕ × (ℕ × (ℕ × (ℕ × (ℕ × (RefT (List ℕ) × Unit {0})))))))))
+      abbrev call-args : (δ₀-call : GName) → ℕ × ((denotes Shape) × (RefT (List ℕ) × (RefT (List Entry)
+          × (RefT (List ℕ) × (ℕ × (ℕ × (ℕ × (ℕ × (ℕ × (RefT (List ℕ) × Unit {0}))))))))))
       call-args δ₀-call = (
-        x-shape,
+        x-role,
         (
-          x-map,
-          (x-catalogue, (x-card, (x-sheet, (x-place, (x-year, (x-month, (x-day, (at-x-buffer δ₀-call (now x-buffer), tt)))))))),
+          x-shape,
+          (
+            x-map,
+            (
+              x-catalogue,
+              (x-card, (x-sheet, (x-place, (x-year, (x-month, (x-day, (at-x-buffer δ₀-call (now x-buffer), tt))))))),
+            ),
+          ),
         ),
       )
 
@@ -346,14 +373,20 @@ module _ (Shape Outcome Reply : Value) where
           tt,
           call-args δ₀-call,
           (
-            m-x-shape ∷ [],
+            m-x-role ∷ [],
             (
-              s-x-map ∷ [],
+              m-x-shape ∷ [],
               (
-                s-x-catalogue ∷ [],
+                s-x-map ∷ [],
                 (
-                  s-x-card ∷ [],
-                  (m-x-sheet ∷ [], (m-x-place ∷ [], (m-x-year ∷ [], (m-x-month ∷ [], (m-x-day ∷ [], (s-x-buffer ∷ [], tt)))))),
+                  s-x-catalogue ∷ [],
+                  (
+                    s-x-card ∷ [],
+                    (
+                      m-x-sheet ∷ [],
+                      (m-x-place ∷ [], (m-x-year ∷ [], (m-x-month ∷ [], (m-x-day ∷ [], (s-x-buffer ∷ [], tt))))),
+                    ),
+                  ),
                 ),
               ),
             ),
@@ -382,7 +415,8 @@ module _ (Shape Outcome Reply : Value) where
           owned ! u32 (Is u32) (uint-makes 𝓤 H A W w32) x-sheet _ is-x-sheet $ fjoin ! $ move ! (4 ∷ 0 ∷ []) $
           fjoin ! $ move ! (3 ∷ 0 ∷ []) $ fjoin ! $ move ! (2 ∷ 0 ∷ []) $ fjoin ! $
           owned ! (rowOf Shape) (Is (rowOf Shape)) (Shape .makes 𝓤 H A) x-shape _ is-x-shape $ fjoin ! $
-          move ! (1 ∷ 0 ∷ []) $ join ! $ frame ! $ done !
+          owned ! u32 (Is u32) (uint-makes 𝓤 H A W w32) x-role _ is-x-role $ fjoin ! $ move ! (1 ∷ 0 ∷ []) $ join ! $
+          frame ! $ done !
 
       -- ---- the caller has what `reply-of` asks
       abbrev reply-of-args : (denotes Outcome) × Unit {0}
@@ -413,8 +447,8 @@ module _ (Shape Outcome Reply : Value) where
           (MutSlice (named 3) κ₃ u8 .own (at-x-buffer (x-buffer .name) z-call-x-buffer) (s-x-buffer ∷ [])) ∷ ‵ (flft κ₃ q₃)
           ∷ []) ∵
           suffices ! _ (ends-at 𝓤 H A ended stayed (clauses 𝓤) W bound m-v-result v-result
-          (tt, (tt, (tt, (tt, (tt, (tt, (tt, (tt, (tt, (z-call-x-buffer, tt))))))))))
-          (tt, (tt, (tt, (tt, (tt, (tt, (tt, (tt, (tt, (l-x-buffer, tt))))))))))) $
+          (tt, (tt, (tt, (tt, (tt, (tt, (tt, (tt, (tt, (tt, (z-call-x-buffer, tt)))))))))))
+          (tt, (tt, (tt, (tt, (tt, (tt, (tt, (tt, (tt, (tt, (l-x-buffer, tt)))))))))))) $
           says ! (refl, refl) $ nothing ! $ move ! (8 ∷ 0 ∷ []) $ join ! $ move ! (6 ∷ 0 ∷ []) $ join ! $
           move ! (4 ∷ 0 ∷ []) $ join ! $ move ! (2 ∷ 0 ∷ []) $ join ! $ frame ! $ nothing ! $ move ! (4 ∷ 0 ∷ []) $
           fjoin ! $ owned ! u32 (Is u32) (uint-makes 𝓤 H A W w32) x-day _ is-x-day $ fjoin ! $
@@ -424,36 +458,39 @@ module _ (Shape Outcome Reply : Value) where
           owned ! u32 (Is u32) (uint-makes 𝓤 H A W w32) x-sheet _ is-x-sheet $ fjoin ! $ move ! (3 ∷ 0 ∷ []) $
           fjoin ! $ move ! (2 ∷ 0 ∷ []) $ fjoin ! $ move ! (1 ∷ 0 ∷ []) $ fjoin ! $
           owned ! (rowOf Shape) (Is (rowOf Shape)) (Shape .makes 𝓤 H A) x-shape _ is-x-shape $ fjoin ! $
+          owned ! u32 (Is u32) (uint-makes 𝓤 H A W w32) x-role _ is-x-role $ fjoin ! $
           owned ! (rowOf Reply) (Is (rowOf Reply)) (Reply .makes 𝓤 H A) v-result _ is $ move ! (1 ∷ 0 ∷ []) $ done !
 
       -- ---- the walk
       walk : (𝓣 : Tables 𝓤 H) → Triple 𝓤 (𝓣 .C #call) (call-contract call-out call-x-buffer 𝓤 H A)
           → Triple 𝓤 (𝓣 .C #reply-of) (reply-of-contract reply-of-out 𝓤 H A) → ent 𝓤 (onEntry 𝓤 H A signature
           (κ₀, (κ₁, (κ₂, (κ₃, tt)))) (q₀, (q₁, (q₂, (q₃, tt)))) args vals)
-          (WpFn 𝓤 H (𝓣 .C) (𝓣 .Λ) (function #call #reply-of) (m-x-shape ∷ s-x-map ∷ s-x-catalogue ∷ s-x-card ∷ m-x-sheet
-          ∷ m-x-place ∷ m-x-year ∷ m-x-month ∷ m-x-day ∷ s-x-buffer ∷ []) Post)
+          (WpFn 𝓤 H (𝓣 .C) (𝓣 .Λ) (function #call #reply-of) (m-x-role ∷ m-x-shape ∷ s-x-map ∷ s-x-catalogue ∷ s-x-card
+          ∷ m-x-sheet ∷ m-x-place ∷ m-x-year ∷ m-x-month ∷ m-x-day ∷ s-x-buffer ∷ []) Post)
       walk 𝓣 known-call known-reply-of =
           qed W ((‵ (flft κ₀ q₀) ⊛ ‵ (flft κ₁ q₁) ⊛ ‵ (flft κ₂ q₂) ⊛ ‵ (flft κ₃ q₃) ⊛ ‵ ftrue)
-          ∷ ‵ (owns ((rowOf Shape) ∷ ShrSlice (named 0) κ₀ u64 ∷ ShrSlice (named 1) κ₁ Entry′.the-row ∷ ShrSlice (named 2) κ₂ u8
-          ∷ u32 ∷ u32 ∷ u32 ∷ u32 ∷ u32 ∷ MutSlice (named 3) κ₃ u8 ∷ []) args vals) ∷ []) ∵
-          enter ! (𝓣 .C) (𝓣 .Λ) (function #call #reply-of) (m-x-shape ∷ s-x-map ∷ s-x-catalogue ∷ s-x-card ∷ m-x-sheet
-          ∷ m-x-place ∷ m-x-year ∷ m-x-month ∷ m-x-day ∷ s-x-buffer ∷ []) _ $
+          ∷ ‵ (owns (u32 ∷ (rowOf Shape) ∷ ShrSlice (named 0) κ₀ u64 ∷ ShrSlice (named 1) κ₁ Entry′.the-row
+          ∷ ShrSlice (named 2) κ₂ u8 ∷ u32 ∷ u32 ∷ u32 ∷ u32 ∷ u32 ∷ MutSlice (named 3) κ₃ u8 ∷ []) args vals) ∷ []) ∵
+          enter ! (𝓣 .C) (𝓣 .Λ) (function #call #reply-of) (m-x-role ∷ m-x-shape ∷ s-x-map ∷ s-x-catalogue ∷ s-x-card
+          ∷ m-x-sheet ∷ m-x-place ∷ m-x-year ∷ m-x-month ∷ m-x-day ∷ s-x-buffer ∷ []) _ $
           alloc1 ! (λ l₀. alloc1 ! (λ l₁. alloc1 ! (λ l₂. alloc1 ! (λ l₃. alloc1 ! (λ l₄. alloc1 ! (λ l₅.
           alloc1 ! (λ l₆. alloc1 ! (λ l₇. alloc1 ! (λ l₈. alloc1 ! (λ l₉. alloc1 ! (λ l₁₀. alloc1 ! (λ l₁₁.
-          alloc1 ! (λ l₁₂. alloc1 ! (λ l₁₃. alloc0 ! $ params1 ! $ pass1 ! (init ! 24 refl typed-x-shape) $
+          alloc1 ! (λ l₁₂. alloc1 ! (λ l₁₃. alloc1 ! (λ l₁₄. alloc0 ! $ params1 ! $
+          pass1 ! (init ! 26 refl typed-x-role) $ pass1 ! (init ! 24 refl typed-x-shape) $
           pass1 ! (init ! 22 refl (tt, (tt, (record { fits = room-x-map .0 }, tt)))) $
           pass1 ! (init ! 20 refl (tt, (tt, (record { fits = room-x-catalogue .0 }, tt)))) $
           pass1 ! (init ! 18 refl (tt, (tt, (record { fits = room-x-card .0 }, tt)))) $
           pass1 ! (init ! 16 refl typed-x-sheet) $ pass1 ! (init ! 14 refl typed-x-place) $
           pass1 ! (init ! 12 refl typed-x-year) $ pass1 ! (init ! 10 refl typed-x-month) $
           pass1 ! (init ! 8 refl typed-x-day) $
-          pass1 ! (init ! 6 refl (tt, (tt, (record { fits = room-x-buffer .0 }, tt)))) $ pass0 ! $ move ! (28 ∷ []) $
+          pass1 ! (init ! 6 refl (tt, (tt, (record { fits = room-x-buffer .0 }, tt)))) $ pass0 ! $ move ! (30 ∷ []) $
           split ! $ move ! (1 ∷ []) $ split ! $ move ! (1 ∷ []) $ split ! $ move ! (1 ∷ []) $ split ! $
-          move ! (1 ∷ []) $ drop ! $ move ! (32 ∷ []) $ fsplit ! $ move ! (1 ∷ []) $ fsplit ! $ move ! (1 ∷ []) $
+          move ! (1 ∷ []) $ drop ! $ move ! (34 ∷ []) $ fsplit ! $ move ! (1 ∷ []) $ fsplit ! $ move ! (1 ∷ []) $
           fsplit ! $ move ! (1 ∷ []) $ fsplit ! $ move ! (1 ∷ []) $ fsplit ! $ move ! (1 ∷ []) $ fsplit ! $
           move ! (1 ∷ []) $ fsplit ! $ move ! (1 ∷ []) $ fsplit ! $ move ! (1 ∷ []) $ fsplit ! $ move ! (1 ∷ []) $
-          fsplit ! $ move ! (1 ∷ []) $ drop ! $ move ! (9 ∷ []) $ drop ! $ move ! (5 ∷ []) $ drop ! $ move ! (4 ∷ []) $
-          drop ! $ move ! (3 ∷ []) $ drop ! $ move ! (2 ∷ []) $ drop ! $ move ! (1 ∷ []) $ drop ! $
+          fsplit ! $ move ! (1 ∷ []) $ fsplit ! $ move ! (1 ∷ []) $ drop ! $ move ! (10 ∷ []) $ drop ! $
+          move ! (9 ∷ []) $ drop ! $ move ! (5 ∷ []) $ drop ! $ move ! (4 ∷ []) $ drop ! $ move ! (3 ∷ []) $ drop ! $
+          move ! (2 ∷ []) $ drop ! $ move ! (1 ∷ []) $ drop ! $
           -- call
           assigns ! (addr ! (from ! (fld ! refl (hop ! (look-in ! 14 (sub ! 0 refl (whole !))) (stop !))))) (from ! (stop !))
           (init ! 10 refl (tt, tt)) $
@@ -482,37 +519,37 @@ module _ (Shape Outcome Reply : Value) where
           use1 W (raw ((call-contract call-out call-x-buffer 𝓤 H A) .pre (to-call ν₀-call δ₀-call))) (goes-call ν₀-call δ₀-call)
           $
           calls-at ! (fmOf 𝓤 H (W .laws) 𝓣) (call-contract call-out call-x-buffer 𝓤 H A) known-call (to-call ν₀-call δ₀-call)
-          (and-then ! (load ! (from ! (stop !)) (look ! 29 refl)) (and-then ! (load ! (from ! (stop !)) (look ! 27 refl))
-          (and-then ! (load ! (from ! (stop !)) (look ! 25 refl)) (and-then ! (load ! (from ! (stop !)) (look ! 23 refl))
-          (and-then ! (load ! (from ! (stop !)) (look ! 21 refl)) (and-then ! (load ! (from ! (stop !)) (look ! 19 refl))
-          (and-then ! (load ! (from ! (stop !)) (look ! 17 refl)) (and-then ! (load ! (from ! (stop !)) (look ! 15 refl))
-          (and-then ! (load ! (from ! (stop !)) (look ! 13 refl)) (and-then ! (load ! (from ! (stop !)) (look ! 5 refl))
-          (no-more !))))))))))) (λ w-call.
+          (and-then ! (load ! (from ! (stop !)) (look ! 31 refl)) (and-then ! (load ! (from ! (stop !)) (look ! 29 refl))
+          (and-then ! (load ! (from ! (stop !)) (look ! 27 refl)) (and-then ! (load ! (from ! (stop !)) (look ! 25 refl))
+          (and-then ! (load ! (from ! (stop !)) (look ! 23 refl)) (and-then ! (load ! (from ! (stop !)) (look ! 21 refl))
+          (and-then ! (load ! (from ! (stop !)) (look ! 19 refl)) (and-then ! (load ! (from ! (stop !)) (look ! 17 refl))
+          (and-then ! (load ! (from ! (stop !)) (look ! 15 refl)) (and-then ! (load ! (from ! (stop !)) (look ! 13 refl))
+          (and-then ! (load ! (from ! (stop !)) (look ! 5 refl)) (no-more !)))))))))))) (λ w-call.
           use1 W (later (some (λ (r : (denotes Outcome)). ((‵ (flft κ₀ q₀) ⊛ ‵ (flft κ₁ q₁) ⊛ ‵ (flft κ₂ q₂)
           ⊛ ‵ (flft (ν₀-call ∷ []) fullShare) ⊛ ‵ ftrue) ⊛ ‵ ((rowOf Outcome) .own r (w-call ∷ [])))
           ⊛ raw (ensured 𝓤 H A call-ended (call-clauses call-out call-x-buffer 𝓤) (κ₀, (κ₁, (κ₂, (ν₀-call ∷ [], tt))))
           (call-args δ₀-call) tt r)))) (id⊢ 𝓤 _) $
           await ! tt $ pick ! (λ r-call. split ! $ move ! (1 ∷ []) $
           use1 W (some (λ (zs-call : Unit {0} × (Unit {0} × (Unit {0} × (Unit {0} × (Unit {0}
-          × (Unit {0} × (Unit {0} × (Unit {0} × (Unit {0} × (List ℕ × Unit {0})))))))))). ‵
+          × (Unit {0} × (Unit {0} × (Unit {0} × (Unit {0} × (Unit {0} × (List ℕ × Unit {0}))))))))))). ‵
           (lasts call-ended (κ₀, (κ₁, (κ₂, (ν₀-call ∷ [], tt)))) (call-args δ₀-call) zs-call)
-          ⊛ raw (fact 𝓤 (call-says call-out call-x-buffer x-shape (now x-map) (now x-catalogue) (now x-card) x-sheet x-place
-          x-year x-month x-day (now x-buffer) r-call (zs-call .1 .1 .1 .1 .1 .1 .1 .1 .1 .0))))) (id⊢ 𝓤 _) $
+          ⊛ raw (fact 𝓤 (call-says call-out call-x-buffer x-role x-shape (now x-map) (now x-catalogue) (now x-card) x-sheet
+          x-place x-year x-month x-day (now x-buffer) r-call (zs-call .1 .1 .1 .1 .1 .1 .1 .1 .1 .1 .0))))) (id⊢ 𝓤 _) $
           pick ! (λ zs-call. split ! $ move ! (1 ∷ []) $
-          heard ! (call-says call-out call-x-buffer x-shape (now x-map) (now x-catalogue) (now x-card) x-sheet x-place x-year
-          x-month x-day (now x-buffer) r-call (zs-call .1 .1 .1 .1 .1 .1 .1 .1 .1 .0)) (λ e-call.
+          heard ! (call-says call-out call-x-buffer x-role x-shape (now x-map) (now x-catalogue) (now x-card) x-sheet x-place
+          x-year x-month x-day (now x-buffer) r-call (zs-call .1 .1 .1 .1 .1 .1 .1 .1 .1 .1 .0)) (λ e-call.
           fsplit ! $ move ! (1 ∷ []) $ fsplit ! $ move ! (1 ∷ []) $ fsplit ! $ move ! (1 ∷ []) $ fsplit ! $
           move ! (1 ∷ []) $ fsplit ! $ move ! (1 ∷ []) $ fsplit ! $ move ! (1 ∷ []) $ fsplit ! $ move ! (1 ∷ []) $
-          fsplit ! $ move ! (1 ∷ []) $ fsplit ! $ move ! (1 ∷ []) $ fsplit ! $ move ! (1 ∷ []) $ drop ! $
-          move ! (9 ∷ []) $ drop ! $ move ! (8 ∷ []) $ drop ! $ move ! (7 ∷ []) $ drop ! $ move ! (6 ∷ []) $ drop ! $
-          move ! (5 ∷ []) $ drop ! $ move ! (4 ∷ []) $ drop ! $ move ! (3 ∷ []) $ drop ! $ move ! (2 ∷ []) $ drop ! $
-          move ! (1 ∷ []) $ drop ! $ fsplit ! $ move ! (1 ∷ []) $ feqL ! (λ h-call-x-buffer. move ! (1 ∷ []) $
-          split ! $ move ! (1 ∷ []) $
+          fsplit ! $ move ! (1 ∷ []) $ fsplit ! $ move ! (1 ∷ []) $ fsplit ! $ move ! (1 ∷ []) $ fsplit ! $
+          move ! (1 ∷ []) $ drop ! $ move ! (10 ∷ []) $ drop ! $ move ! (9 ∷ []) $ drop ! $ move ! (8 ∷ []) $ drop ! $
+          move ! (7 ∷ []) $ drop ! $ move ! (6 ∷ []) $ drop ! $ move ! (5 ∷ []) $ drop ! $ move ! (4 ∷ []) $ drop ! $
+          move ! (3 ∷ []) $ drop ! $ move ! (2 ∷ []) $ drop ! $ move ! (1 ∷ []) $ drop ! $ fsplit ! $ move ! (1 ∷ []) $
+          feqL ! (λ h-call-x-buffer. move ! (1 ∷ []) $ split ! $ move ! (1 ∷ []) $
           rewrite ! 0 (λ (r : (denotes Outcome)). ‵ ((rowOf Outcome) .own r (w-call ∷ []))) (e-call .0) refl $
           rewrite ! 2 (λ (l : List ℕ). ‵ (finally u8 δ₀-call l)) (e-call .1) refl $
           peeks ! (rowOf Outcome) (Is (rowOf Outcome)) (shows 𝓤 H A (rowOf Outcome)) v-outcome (w-call ∷ []) (λ is-w-call.
           land ! (from ! (stop !)) (init ! 11 refl ((Outcome .typed 𝓤 H A W) v-outcome _ is-w-call .0)) $
-          rewrite ! 11 (λ (u : Val). ‵ (fat fullShare (mirOf Outcome) l₁₁ 0 u)) (ap only
+          rewrite ! 11 (λ (u : Val). ‵ (fat fullShare (mirOf Outcome) l₁₂ 0 u)) (ap only
           ((Outcome .tells) v-outcome _ is-w-call)) refl $
           drop ! $ split ! $ move ! (1 ∷ []) $ split ! $ move ! (1 ∷ []) $ split ! $ move ! (1 ∷ []) $ split ! $
           move ! (1 ∷ []) $ drop ! $ lft-end ! tt $ move ! (0 ∷ 5 ∷ 4 ∷ []) $
@@ -536,16 +573,16 @@ module _ (Shape Outcome Reply : Value) where
           drop ! $ drop ! $ split ! $ move ! (1 ∷ []) $
           rewrite ! 0 (λ (r : (denotes Reply)). ‵ ((rowOf Reply) .own r (w-reply-of ∷ []))) (e-reply-of) refl $
           peeks ! (rowOf Reply) (Is (rowOf Reply)) (shows 𝓤 H A (rowOf Reply)) v-result (w-reply-of ∷ []) (λ is-w-reply-of.
-          land ! (from ! (stop !)) (init ! 36 refl ((Reply .typed 𝓤 H A W) v-result _ is-w-reply-of .0)) $
-          rewrite ! 36 (λ (u : Val). ‵ (fat fullShare (mirOf Reply) l₀ 0 u)) (ap only ((Reply .tells) v-result _ is-w-reply-of))
+          land ! (from ! (stop !)) (init ! 38 refl ((Reply .typed 𝓤 H A W) v-result _ is-w-reply-of .0)) $
+          rewrite ! 38 (λ (u : Val). ‵ (fat fullShare (mirOf Reply) l₀ 0 u)) (ap only ((Reply .tells) v-result _ is-w-reply-of))
           refl $
-          drop ! $ drop ! $ returns ! (look ! 34 refl) $ leave ! 34 refl refl $ leave ! 32 refl refl $
-          leave ! 30 refl refl $ leave ! 28 refl refl $ leave ! 26 refl refl $ leave ! 24 refl refl $
-          leave ! 22 refl refl $ leave ! 20 refl refl $ leave ! 18 refl refl $ leave ! 16 refl refl $
-          leave ! 14 refl refl $ leave ! 12 refl refl $ leave ! 10 refl refl $ leave ! 8 refl refl $ free0 ! $
-          move ! (7 ∷ 4 ∷ 6 ∷ 3 ∷ 5 ∷ 2 ∷ 0 ∷ 1 ∷ []) $
+          drop ! $ drop ! $ returns ! (look ! 36 refl) $ leave ! 36 refl refl $ leave ! 34 refl refl $
+          leave ! 32 refl refl $ leave ! 30 refl refl $ leave ! 28 refl refl $ leave ! 26 refl refl $
+          leave ! 24 refl refl $ leave ! 22 refl refl $ leave ! 20 refl refl $ leave ! 18 refl refl $
+          leave ! 16 refl refl $ leave ! 14 refl refl $ leave ! 12 refl refl $ leave ! 10 refl refl $
+          leave ! 8 refl refl $ free0 ! $ move ! (7 ∷ 4 ∷ 6 ∷ 3 ∷ 5 ∷ 2 ∷ 0 ∷ 1 ∷ []) $
           by ! (exits (spelled-v-result w-reply-of is-w-reply-of) (ap {B = ℕ} length (sym (e-call .1))
-          ∙ h-call-x-buffer)))))))))))))))))))))))))))))
+          ∙ h-call-x-buffer))))))))))))))))))))))))))))))
 
     module _ {M : Type 1} (𝓤 : URA M) (H : Heap 𝓤) (A : Atoms 𝓤) (W : Given 𝓤 H A) where
       walks : (𝓣 : Tables 𝓤 H) → Triple 𝓤 (𝓣 .C #call) (call-contract call-out call-x-buffer 𝓤 H A)
@@ -554,36 +591,42 @@ module _ (Shape Outcome Reply : Value) where
       walks 𝓣 known-call known-reply-of =
           walked 𝓤 H A ended stayed (clauses 𝓤) (WpFn 𝓤 H (𝓣 .C) (𝓣 .Λ) (function #call #reply-of))
           (λ κs. (
-            (valsOf Shape),
+            (uint-vals w32),
             (
-              slice-vals,
+              (valsOf Shape),
               (
                 slice-vals,
                 (
                   slice-vals,
                   (
-                    (uint-vals w32),
-                    ((uint-vals w32), ((uint-vals w32), ((uint-vals w32), ((uint-vals w32), (slice-vals, tt))))),
+                    slice-vals,
+                    (
+                      (uint-vals w32),
+                      ((uint-vals w32), ((uint-vals w32), ((uint-vals w32), ((uint-vals w32), (slice-vals, tt))))),
+                    ),
                   ),
                 ),
               ),
             ),
           ))
           (λ κs. (
-            (Shape .tells),
+            (uint-tells w32),
             (
-              shr-slice-tells (named 0) (κs .0) u64,
+              (Shape .tells),
               (
-                shr-slice-tells (named 1) (κs .1 .0) Entry′.the-row,
+                shr-slice-tells (named 0) (κs .0) u64,
                 (
-                  shr-slice-tells (named 2) (κs .1 .1 .0) u8,
+                  shr-slice-tells (named 1) (κs .1 .0) Entry′.the-row,
                   (
-                    (uint-tells w32),
+                    shr-slice-tells (named 2) (κs .1 .1 .0) u8,
                     (
                       (uint-tells w32),
                       (
                         (uint-tells w32),
-                        ((uint-tells w32), ((uint-tells w32), (mut-slice-tells (named 3) (κs .1 .1 .1 .0) u8, tt))),
+                        (
+                          (uint-tells w32),
+                          ((uint-tells w32), ((uint-tells w32), (mut-slice-tells (named 3) (κs .1 .1 .1 .0) u8, tt))),
+                        ),
                       ),
                     ),
                   ),
@@ -594,24 +637,25 @@ module _ (Shape Outcome Reply : Value) where
           (λ κs qs bounds a g are. via 𝓤 _ (fst∗ 𝓤 _ (emp 𝓤)) (walk 𝓤 H A W (κs .0) (κs .1 .0) (κs .1 .1 .0) (κs .1 .1 .1 .0)
           (qs .0) (qs .1 .0) (qs .1 .1 .0) (qs .1 .1 .1 .0) (a .0) (a .1 .0) (a .1 .1 .0) (a .1 .1 .1 .0) (a .1 .1 .1 .1 .0)
           (a .1 .1 .1 .1 .1 .0) (a .1 .1 .1 .1 .1 .1 .0) (a .1 .1 .1 .1 .1 .1 .1 .0) (a .1 .1 .1 .1 .1 .1 .1 .1 .0)
-          (a .1 .1 .1 .1 .1 .1 .1 .1 .1 .0) (are .0) (are .1 .0 .0 .1) (are .1 .1 .0 .0 .1) (are .1 .1 .1 .0 .0 .1)
-          (are .1 .1 .1 .1 .0) (are .1 .1 .1 .1 .1 .0) (are .1 .1 .1 .1 .1 .1 .0) (are .1 .1 .1 .1 .1 .1 .1 .0)
-          (are .1 .1 .1 .1 .1 .1 .1 .1 .0) (are .1 .1 .1 .1 .1 .1 .1 .1 .1 .0 .0 .1) 𝓣 known-call known-reply-of))
+          (a .1 .1 .1 .1 .1 .1 .1 .1 .1 .0) (a .1 .1 .1 .1 .1 .1 .1 .1 .1 .1 .0) (are .0) (are .1 .0) (are .1 .1 .0 .0 .1)
+          (are .1 .1 .1 .0 .0 .1) (are .1 .1 .1 .1 .0 .0 .1) (are .1 .1 .1 .1 .1 .0) (are .1 .1 .1 .1 .1 .1 .0)
+          (are .1 .1 .1 .1 .1 .1 .1 .0) (are .1 .1 .1 .1 .1 .1 .1 .1 .0) (are .1 .1 .1 .1 .1 .1 .1 .1 .1 .0)
+          (are .1 .1 .1 .1 .1 .1 .1 .1 .1 .1 .0 .0 .1) 𝓣 known-call known-reply-of))
 
       pub meets : (𝓣 : Tables 𝓤 H) → Triple 𝓤 (𝓣 .C #call) (call-contract call-out call-x-buffer 𝓤 H A)
           → Triple 𝓤 (𝓣 .C #reply-of) (reply-of-contract reply-of-out 𝓤 H A) → Meets 𝓤 H A signature
           (WpFn 𝓤 H (𝓣 .C) (𝓣 .Λ) (function #call #reply-of)) (closing 𝓤 H A ended (clauses 𝓤))
       meets 𝓣 known-call known-reply-of =
           walk-meets 𝓤 H A ended stayed W (
-            goes-none 𝓤 H A W 4 (λ _. (rowOf Shape)) yes (λ κs x f. refl),
+            goes-none 𝓤 H A W 4 (λ _. u32) yes (λ κs x f. refl),
             (
-              goes-none-slice 𝓤 H A W 4 (0 ∷ []) tt (plain (λ _. u64)) yes,
+              goes-none 𝓤 H A W 4 (λ _. (rowOf Shape)) yes (λ κs x f. refl),
               (
-                goes-none-slice 𝓤 H A W 4 (1 ∷ []) tt (plain (λ _. Entry′.the-row)) yes,
+                goes-none-slice 𝓤 H A W 4 (0 ∷ []) tt (plain (λ _. u64)) yes,
                 (
-                  goes-none-slice 𝓤 H A W 4 (2 ∷ []) tt (plain (λ _. u8)) yes,
+                  goes-none-slice 𝓤 H A W 4 (1 ∷ []) tt (plain (λ _. Entry′.the-row)) yes,
                   (
-                    goes-none 𝓤 H A W 4 (λ _. u32) yes (λ κs x f. refl),
+                    goes-none-slice 𝓤 H A W 4 (2 ∷ []) tt (plain (λ _. u8)) yes,
                     (
                       goes-none 𝓤 H A W 4 (λ _. u32) yes (λ κs x f. refl),
                       (
@@ -620,7 +664,10 @@ module _ (Shape Outcome Reply : Value) where
                           goes-none 𝓤 H A W 4 (λ _. u32) yes (λ κs x f. refl),
                           (
                             goes-none 𝓤 H A W 4 (λ _. u32) yes (λ κs x f. refl),
-                            (goes-slice 𝓤 H A W 4 3 tt (plain (λ _. u8)), tt),
+                            (
+                              goes-none 𝓤 H A W 4 (λ _. u32) yes (λ κs x f. refl),
+                              (goes-slice 𝓤 H A W 4 3 tt (plain (λ _. u8)), tt),
+                            ),
                           ),
                         ),
                       ),

@@ -1,6 +1,6 @@
--- Written by tools/walks: every function (shape: Shape, map: &[u64], catalogue: &[Entry], card: &mut [u8], sheet: u32, place:
--- u32, payload: &[u8]) whose code is
---     let outcome: Outcome = call(shape, map, catalogue, card, sheet, place, payload);
+-- Written by tools/walks: every function (role: u32, shape: Shape, map: &[u64], catalogue: &[Entry], card: &mut [u8], sheet:
+-- u32, place: u32, payload: &[u8]) whose code is
+--     let outcome: Outcome = call(role, shape, map, catalogue, card, sheet, place, payload);
 --     reply_of(outcome)
 -- One walk serves every choice of the callees: it takes their names and what their contracts say. The types by value are any,
 -- too.
@@ -57,24 +57,27 @@ module _ (Shape Outcome Reply : Value) where
   signature = record {
     lifetimes = 4;
     outlives = [];
-    params = plain (λ _. (rowOf Shape)) ∷ shrSlice 0 tt (λ _. u64) ∷ shrSlice 1 tt (λ _. Entry′.the-row)
+    params = plain (λ _. u32) ∷ plain (λ _. (rowOf Shape)) ∷ shrSlice 0 tt (λ _. u64) ∷ shrSlice 1 tt (λ _. Entry′.the-row)
         ∷ mutSlice 2 tt (λ _. u8) ∷ plain (λ _. u32) ∷ plain (λ _. u32) ∷ shrSlice 3 tt (λ _. u8) ∷ [];
     result = plain (λ _. (rowOf Reply));
   }
 
   abbrev ended : Ended
-  ended = record { signature = signature; kept = (yes, (yes, (yes, (yes, (yes, (yes, (yes, tt))))))) }
+  ended = record { signature = signature; kept = (yes, (yes, (yes, (yes, (yes, (yes, (yes, (yes, tt)))))))) }
 
   abbrev stayed : Stays (ended .signature .params) (ended .kept)
   stayed = (
-    stay-none (λ _. (rowOf Shape)) yes,
+    stay-none (λ _. u32) yes,
     (
-      stay-none-slice (0 ∷ []) tt (plain (λ _. u64)) yes,
+      stay-none (λ _. (rowOf Shape)) yes,
       (
-        stay-none-slice (1 ∷ []) tt (plain (λ _. Entry′.the-row)) yes,
+        stay-none-slice (0 ∷ []) tt (plain (λ _. u64)) yes,
         (
-          stay-slice (2 ∷ []) tt (plain (λ _. u8)),
-          (stay-none (λ _. u32) yes, (stay-none (λ _. u32) yes, (stay-none-slice (3 ∷ []) tt (plain (λ _. u8)) yes, tt))),
+          stay-none-slice (1 ∷ []) tt (plain (λ _. Entry′.the-row)) yes,
+          (
+            stay-slice (2 ∷ []) tt (plain (λ _. u8)),
+            (stay-none (λ _. u32) yes, (stay-none (λ _. u32) yes, (stay-none-slice (3 ∷ []) tt (plain (λ _. u8)) yes, tt))),
+          ),
         ),
       ),
     ),
@@ -85,18 +88,18 @@ module _ (Shape Outcome Reply : Value) where
   function #call #reply-of = record {
     lifetimes = 4;
     outlives = [];
-    params = 7;
-    locals = local (mirOf Reply) valueLocal ∷ local (mirOf Shape) valueLocal ∷ local (sliceTy (tyRef (named 0) imm (tyInt w64)))
-        valueLocal ∷ local (sliceTy (tyRef (named 1) imm (pointee (Entry′.the-row .written)))) valueLocal
-        ∷ local (sliceTy (tyRef (named 2) mut (tyInt w8))) valueLocal ∷ local (tyInt w32) valueLocal
-        ∷ local (tyInt w32) valueLocal ∷ local (sliceTy (tyRef (named 3) imm (tyInt w8))) valueLocal
-        ∷ local (mirOf Outcome) valueLocal ∷ local (tyRef erased mut (tyInt w8)) valueLocal
-        ∷ local (sliceTy (tyRef erased mut (tyInt w8))) valueLocal ∷ [];
-    body = seq (assign (place 9 []) (addrOf (place 4 (field 0 ∷ deref (tyInt w8) ∷ []))))
-        (seq (assign (place 10 []) (aggregate (copy (place 9 []) ∷ copy (place 4 (field 1 ∷ [])) ∷ [])))
-        (seq (call #call (copy (place 1 []) ∷ copy (place 2 []) ∷ copy (place 3 []) ∷ copy (place 10 []) ∷ copy (place 5 [])
-        ∷ copy (place 6 []) ∷ copy (place 7 []) ∷ []) (place 8 []))
-        (seq (call #reply-of (copy (place 8 []) ∷ []) (place 0 [])) return)));
+    params = 8;
+    locals = local (mirOf Reply) valueLocal ∷ local (tyInt w32) valueLocal ∷ local (mirOf Shape) valueLocal
+        ∷ local (sliceTy (tyRef (named 0) imm (tyInt w64))) valueLocal ∷ local (sliceTy
+        (tyRef (named 1) imm (pointee (Entry′.the-row .written)))) valueLocal ∷ local (sliceTy (tyRef (named 2) mut (tyInt w8)))
+        valueLocal ∷ local (tyInt w32) valueLocal ∷ local (tyInt w32) valueLocal ∷ local
+        (sliceTy (tyRef (named 3) imm (tyInt w8))) valueLocal ∷ local (mirOf Outcome) valueLocal
+        ∷ local (tyRef erased mut (tyInt w8)) valueLocal ∷ local (sliceTy (tyRef erased mut (tyInt w8))) valueLocal ∷ [];
+    body = seq (assign (place 10 []) (addrOf (place 5 (field 0 ∷ deref (tyInt w8) ∷ []))))
+        (seq (assign (place 11 []) (aggregate (copy (place 10 []) ∷ copy (place 5 (field 1 ∷ [])) ∷ [])))
+        (seq (call #call (copy (place 1 []) ∷ copy (place 2 []) ∷ copy (place 3 []) ∷ copy (place 4 []) ∷ copy (place 11 [])
+        ∷ copy (place 6 []) ∷ copy (place 7 []) ∷ copy (place 8 []) ∷ []) (place 9 []))
+        (seq (call #reply-of (copy (place 9 []) ∷ []) (place 0 [])) return)));
   }
 
   -- ---- what `call` is, and what it ensures
@@ -104,28 +107,28 @@ module _ (Shape Outcome Reply : Value) where
   call-signature = record {
     lifetimes = 4;
     outlives = [];
-    params = plain (λ _. (rowOf Shape)) ∷ shrSlice 0 tt (λ _. u64) ∷ shrSlice 1 tt (λ _. Entry′.the-row)
+    params = plain (λ _. u32) ∷ plain (λ _. (rowOf Shape)) ∷ shrSlice 0 tt (λ _. u64) ∷ shrSlice 1 tt (λ _. Entry′.the-row)
         ∷ mutSlice 2 tt (λ _. u8) ∷ plain (λ _. u32) ∷ plain (λ _. u32) ∷ shrSlice 3 tt (λ _. u8) ∷ [];
     result = plain (λ _. (rowOf Outcome));
   }
 
   abbrev call-ended : Ended
-  call-ended = record { signature = call-signature; kept = (yes, (yes, (yes, (yes, (yes, (yes, (yes, tt))))))) }
+  call-ended = record { signature = call-signature; kept = (yes, (yes, (yes, (yes, (yes, (yes, (yes, (yes, tt)))))))) }
 
   abbrev call-Model : Type 0 → Type 0
-  call-Model X = (denotes Shape) → List ℕ → List Entry → List ℕ → ℕ → ℕ → List ℕ → X
+  call-Model X = ℕ → (denotes Shape) → List ℕ → List Entry → List ℕ → ℕ → ℕ → List ℕ → X
 
   module _ (call-out : call-Model (denotes Outcome)) (call-x-card : call-Model (List ℕ)) where
-    abbrev call-says : (denotes Shape) → List ℕ → List Entry → List ℕ → ℕ → ℕ → List ℕ → (denotes Outcome) → List ℕ → Type 0
-    call-says a0 a1 a2 a3 a4 a5 a6 r b3 = (r ≡ call-out a0 a1 a2 a3 a4 a5 a6) × (b3 ≡ call-x-card a0 a1 a2 a3 a4 a5 a6)
+    abbrev call-says : ℕ → (denotes Shape) → List ℕ → List Entry → List ℕ → ℕ → ℕ → List ℕ → (denotes Outcome) → List ℕ → Type 0
+    call-says a0 a1 a2 a3 a4 a5 a6 a7 r b4 = (r ≡ call-out a0 a1 a2 a3 a4 a5 a6 a7) × (b4 ≡ call-x-card a0 a1 a2 a3 a4 a5 a6 a7)
 
     module _ {M : Type 1} (𝓤 : URA M) where
       abbrev call-clauses : Clauses 𝓤 call-ended
       call-clauses κs a = record {
         ghost = Unit {0};
         requires = λ _. emp 𝓤;
-        ensures = λ _ r e. fact 𝓤 (call-says (a .0) (now (a .1 .0)) (now (a .1 .1 .0)) (now (a .1 .1 .1 .0)) (a .1 .1 .1 .1 .0)
-            (a .1 .1 .1 .1 .1 .0) (now (a .1 .1 .1 .1 .1 .1 .0)) r (now (e .1 .1 .1 .0)));
+        ensures = λ _ r e. fact 𝓤 (call-says (a .0) (a .1 .0) (now (a .1 .1 .0)) (now (a .1 .1 .1 .0)) (now (a .1 .1 .1 .1 .0))
+            (a .1 .1 .1 .1 .1 .0) (a .1 .1 .1 .1 .1 .1 .0) (now (a .1 .1 .1 .1 .1 .1 .1 .0)) r (now (e .1 .1 .1 .1 .0)));
       }
 
       module _ (H : Heap 𝓤) (A : Atoms 𝓤) where
@@ -166,13 +169,13 @@ module _ (Shape Outcome Reply : Value) where
   module _ (#call #reply-of : Name) (call-out : call-Model (denotes Outcome)) (call-x-card : call-Model (List ℕ))
       (reply-of-out : reply-of-Model (denotes Reply)) where
     -- ---- what the chain gives, call by call
-    module _ (x-shape : (denotes Shape)) (x-map : List ℕ) (x-catalogue : List Entry) (x-card : List ℕ) (x-sheet : ℕ)
-        (x-place : ℕ) (x-payload : List ℕ) where
+    module _ (x-role : ℕ) (x-shape : (denotes Shape)) (x-map : List ℕ) (x-catalogue : List Entry) (x-card : List ℕ)
+        (x-sheet : ℕ) (x-place : ℕ) (x-payload : List ℕ) where
       abbrev v-outcome-of : (denotes Outcome)
-      v-outcome-of = call-out x-shape x-map x-catalogue x-card x-sheet x-place x-payload
+      v-outcome-of = call-out x-role x-shape x-map x-catalogue x-card x-sheet x-place x-payload
 
       abbrev z-call-x-card-of : List ℕ
-      z-call-x-card-of = call-x-card x-shape x-map x-catalogue x-card x-sheet x-place x-payload
+      z-call-x-card-of = call-x-card x-role x-shape x-map x-catalogue x-card x-sheet x-place x-payload
 
       abbrev v-result-of : (denotes Reply)
       v-result-of = reply-of-out v-outcome-of
@@ -185,17 +188,23 @@ module _ (Shape Outcome Reply : Value) where
       clauses κs a = record {
         ghost = Unit {0};
         requires = λ _. emp 𝓤;
-        ensures = λ _ r e. fact 𝓤 (Says (a .0) (now (a .1 .0)) (now (a .1 .1 .0)) (now (a .1 .1 .1 .0)) (a .1 .1 .1 .1 .0)
-            (a .1 .1 .1 .1 .1 .0) (now (a .1 .1 .1 .1 .1 .1 .0)) r (now (e .1 .1 .1 .0)));
+        ensures = λ _ r e. fact 𝓤 (Says (a .0) (a .1 .0) (now (a .1 .1 .0)) (now (a .1 .1 .1 .0)) (now (a .1 .1 .1 .1 .0))
+            (a .1 .1 .1 .1 .1 .0) (a .1 .1 .1 .1 .1 .1 .0) (now (a .1 .1 .1 .1 .1 .1 .1 .0)) r (now (e .1 .1 .1 .1 .0)));
       }
 
     module _ {M : Type 1} (𝓤 : URA M) (H : Heap 𝓤) (A : Atoms 𝓤) (W : Given 𝓤 H A) (κ₀ κ₁ κ₂ κ₃ : Lft) (q₀ q₁ q₂ q₃ : Share)
-        (x-shape : (denotes Shape)) (x-map : RefT (List ℕ)) (x-catalogue : RefT (List Entry)) (x-card : RefT (List ℕ))
-        (x-sheet : ℕ) (x-place : ℕ) (x-payload : RefT (List ℕ))
-        (is-x-shape : Is (rowOf Shape) x-shape ((valsOf Shape) x-shape)) (room-x-map : Room u64 (length (now x-map)))
-        (room-x-catalogue : Room Entry′.the-row (length (now x-catalogue))) (room-x-card : Room u8 (length (now x-card)))
-        (is-x-sheet : Is u32 x-sheet ((uint-vals w32) x-sheet)) (is-x-place : Is u32 x-place ((uint-vals w32) x-place))
-        (room-x-payload : Room u8 (length (now x-payload))) where
+        (x-role : ℕ) (x-shape : (denotes Shape)) (x-map : RefT (List ℕ)) (x-catalogue : RefT (List Entry))
+        (x-card : RefT (List ℕ)) (x-sheet : ℕ) (x-place : ℕ) (x-payload : RefT (List ℕ))
+        (is-x-role : Is u32 x-role ((uint-vals w32) x-role)) (is-x-shape : Is (rowOf Shape) x-shape ((valsOf Shape) x-shape))
+        (room-x-map : Room u64 (length (now x-map))) (room-x-catalogue : Room Entry′.the-row (length (now x-catalogue)))
+        (room-x-card : Room u8 (length (now x-card))) (is-x-sheet : Is u32 x-sheet ((uint-vals w32) x-sheet))
+        (is-x-place : Is u32 x-place ((uint-vals w32) x-place)) (room-x-payload : Room u8 (length (now x-payload))) where
+      abbrev m-x-role : Val
+      m-x-role = only ((uint-vals w32) x-role)
+
+      typed-x-role : Holds (hasTy (tyInt w32) m-x-role) × WT m-x-role
+      typed-x-role = (uint-lawful 𝓤 H A W w32 .typed) x-role _ is-x-role .0
+
       abbrev m-x-shape : Val
       m-x-shape = only ((valsOf Shape) x-shape)
 
@@ -238,14 +247,18 @@ module _ (Shape Outcome Reply : Value) where
       abbrev at-x-payload : GName → List ℕ → RefT (List ℕ)
       at-x-payload δ l = record { ptr = x-payload .ptr; name = δ; now = l }
 
-      abbrev args : (denotes Shape) × (RefT (List ℕ) × (RefT (List Entry) × (RefT (List ℕ)
-          × (ℕ × (ℕ × (RefT (List ℕ) × Unit {0}))))))
-      args = (x-shape, (x-map, (x-catalogue, (x-card, (x-sheet, (x-place, (x-payload, tt)))))))
+      abbrev args : ℕ × ((denotes Shape) × (RefT (List ℕ) × (RefT (List Entry) × (RefT (List ℕ)
+          × (ℕ × (ℕ × (RefT (List ℕ) × Unit {0})))))))
+      args = (x-role, (x-shape, (x-map, (x-catalogue, (x-card, (x-sheet, (x-place, (x-payload, tt))))))))
 
-      abbrev vals : List Val × (List Val × (List Val × (List Val × (List Val × (List Val × (List Val × Unit {0}))))))
+      abbrev vals : List Val × (List Val × (List Val × (List Val × (List Val × (List Val
+          × (List Val × (List Val × Unit {0})))))))
       vals = (
-        m-x-shape ∷ [],
-        (s-x-map ∷ [], (s-x-catalogue ∷ [], (s-x-card ∷ [], (m-x-sheet ∷ [], (m-x-place ∷ [], (s-x-payload ∷ [], tt)))))),
+        m-x-role ∷ [],
+        (
+          m-x-shape ∷ [],
+          (s-x-map ∷ [], (s-x-catalogue ∷ [], (s-x-card ∷ [], (m-x-sheet ∷ [], (m-x-place ∷ [], (s-x-payload ∷ [], tt)))))),
+        ),
       )
 
       abbrev bound : walkOf 𝓤 H A ended stayed (clauses 𝓤) .Ghost
@@ -255,13 +268,13 @@ module _ (Shape Outcome Reply : Value) where
       Post = walkOf 𝓤 H A ended stayed (clauses 𝓤) .post bound
 
       abbrev v-outcome : (denotes Outcome)
-      v-outcome = v-outcome-of x-shape (now x-map) (now x-catalogue) (now x-card) x-sheet x-place (now x-payload)
+      v-outcome = v-outcome-of x-role x-shape (now x-map) (now x-catalogue) (now x-card) x-sheet x-place (now x-payload)
 
       abbrev z-call-x-card : List ℕ
-      z-call-x-card = z-call-x-card-of x-shape (now x-map) (now x-catalogue) (now x-card) x-sheet x-place (now x-payload)
+      z-call-x-card = z-call-x-card-of x-role x-shape (now x-map) (now x-catalogue) (now x-card) x-sheet x-place (now x-payload)
 
       abbrev v-result : (denotes Reply)
-      v-result = v-result-of x-shape (now x-map) (now x-catalogue) (now x-card) x-sheet x-place (now x-payload)
+      v-result = v-result-of x-role x-shape (now x-map) (now x-catalogue) (now x-card) x-sheet x-place (now x-payload)
 
       abbrev m-v-outcome : Val
       m-v-outcome = only ((valsOf Outcome) v-outcome)
@@ -276,10 +289,12 @@ module _ (Shape Outcome Reply : Value) where
       spelled-v-result w is = subst (λ (vs : List Val). Is (rowOf Reply) v-result vs) ((Reply .tells) v-result _ is) is
 
       -- ---- the caller has what `call` asks
-      abbrev call-args : (δ₀-call : GName) → (denotes Shape) × (RefT (List ℕ) × (RefT (List Entry)
-          × (RefT (List ℕ) × (ℕ × (ℕ × (RefT (List ℕ) × Unit {0}))))))
-      call-args δ₀-call =
-          (x-shape, (x-map, (x-catalogue, (at-x-card δ₀-call (now x-card), (x-sheet, (x-place, (x-payload, tt)))))))
+      abbrev call-args : (δ₀-call : GName) → ℕ × ((denotes Shape) × (RefT (List ℕ) × (RefT (List Entry)
+          × (RefT (List ℕ) × (ℕ × (ℕ × (RefT (List ℕ) × Unit {0})))))))
+      call-args δ₀-call = (
+        x-role,
+        (x-shape, (x-map, (x-catalogue, (at-x-card δ₀-call (now x-card), (x-sheet, (x-place, (x-payload, tt))))))),
+      )
 
       abbrev to-call : (ν₀-call : ℕ) (δ₀-call : GName) → (call-contract call-out call-x-card 𝓤 H A) .Ghost
       to-call ν₀-call δ₀-call = (
@@ -289,8 +304,11 @@ module _ (Shape Outcome Reply : Value) where
           tt,
           call-args δ₀-call,
           (
-            m-x-shape ∷ [],
-            (s-x-map ∷ [], (s-x-catalogue ∷ [], (s-x-card ∷ [], (m-x-sheet ∷ [], (m-x-place ∷ [], (s-x-payload ∷ [], tt)))))),
+            m-x-role ∷ [],
+            (
+              m-x-shape ∷ [],
+              (s-x-map ∷ [], (s-x-catalogue ∷ [], (s-x-card ∷ [], (m-x-sheet ∷ [], (m-x-place ∷ [], (s-x-payload ∷ [], tt)))))),
+            ),
           ),
         ),
         tt,
@@ -313,7 +331,8 @@ module _ (Shape Outcome Reply : Value) where
           owned ! u32 (Is u32) (uint-makes 𝓤 H A W w32) x-sheet _ is-x-sheet $ fjoin ! $ move ! (4 ∷ 0 ∷ []) $
           fjoin ! $ move ! (3 ∷ 0 ∷ []) $ fjoin ! $ move ! (2 ∷ 0 ∷ []) $ fjoin ! $
           owned ! (rowOf Shape) (Is (rowOf Shape)) (Shape .makes 𝓤 H A) x-shape _ is-x-shape $ fjoin ! $
-          move ! (1 ∷ 0 ∷ []) $ join ! $ frame ! $ done !
+          owned ! u32 (Is u32) (uint-makes 𝓤 H A W w32) x-role _ is-x-role $ fjoin ! $ move ! (1 ∷ 0 ∷ []) $ join ! $
+          frame ! $ done !
 
       -- ---- the caller has what `reply-of` asks
       abbrev reply-of-args : (denotes Outcome) × Unit {0}
@@ -342,40 +361,42 @@ module _ (Shape Outcome Reply : Value) where
           ∷ ‵ (MutSlice (named 2) κ₂ u8 .own (at-x-card (x-card .name) z-call-x-card) (s-x-card ∷ [])) ∷ ‵ (flft κ₂ q₂)
           ∷ ‵ (ShrSlice (named 3) κ₃ u8 .own x-payload (s-x-payload ∷ [])) ∷ ‵ (flft κ₃ q₃) ∷ []) ∵
           suffices ! _ (ends-at 𝓤 H A ended stayed (clauses 𝓤) W bound m-v-result v-result
-          (tt, (tt, (tt, (z-call-x-card, (tt, (tt, (tt, tt))))))) (tt, (tt, (tt, (l-x-card, (tt, (tt, (tt, tt)))))))) $
+          (tt, (tt, (tt, (tt, (z-call-x-card, (tt, (tt, (tt, tt))))))))
+          (tt, (tt, (tt, (tt, (l-x-card, (tt, (tt, (tt, tt))))))))) $
           says ! (refl, refl) $ nothing ! $ move ! (8 ∷ 0 ∷ []) $ join ! $ move ! (6 ∷ 0 ∷ []) $ join ! $
           move ! (4 ∷ 0 ∷ []) $ join ! $ move ! (2 ∷ 0 ∷ []) $ join ! $ frame ! $ nothing ! $ move ! (4 ∷ 0 ∷ []) $
           fjoin ! $ owned ! u32 (Is u32) (uint-makes 𝓤 H A W w32) x-place _ is-x-place $ fjoin ! $
           owned ! u32 (Is u32) (uint-makes 𝓤 H A W w32) x-sheet _ is-x-sheet $ fjoin ! $ move ! (3 ∷ 0 ∷ []) $
           fjoin ! $ move ! (2 ∷ 0 ∷ []) $ fjoin ! $ move ! (1 ∷ 0 ∷ []) $ fjoin ! $
           owned ! (rowOf Shape) (Is (rowOf Shape)) (Shape .makes 𝓤 H A) x-shape _ is-x-shape $ fjoin ! $
+          owned ! u32 (Is u32) (uint-makes 𝓤 H A W w32) x-role _ is-x-role $ fjoin ! $
           owned ! (rowOf Reply) (Is (rowOf Reply)) (Reply .makes 𝓤 H A) v-result _ is $ move ! (1 ∷ 0 ∷ []) $ done !
 
       -- ---- the walk
       walk : (𝓣 : Tables 𝓤 H) → Triple 𝓤 (𝓣 .C #call) (call-contract call-out call-x-card 𝓤 H A)
           → Triple 𝓤 (𝓣 .C #reply-of) (reply-of-contract reply-of-out 𝓤 H A) → ent 𝓤 (onEntry 𝓤 H A signature
           (κ₀, (κ₁, (κ₂, (κ₃, tt)))) (q₀, (q₁, (q₂, (q₃, tt)))) args vals)
-          (WpFn 𝓤 H (𝓣 .C) (𝓣 .Λ) (function #call #reply-of) (m-x-shape ∷ s-x-map ∷ s-x-catalogue ∷ s-x-card ∷ m-x-sheet
-          ∷ m-x-place ∷ s-x-payload ∷ []) Post)
+          (WpFn 𝓤 H (𝓣 .C) (𝓣 .Λ) (function #call #reply-of) (m-x-role ∷ m-x-shape ∷ s-x-map ∷ s-x-catalogue ∷ s-x-card
+          ∷ m-x-sheet ∷ m-x-place ∷ s-x-payload ∷ []) Post)
       walk 𝓣 known-call known-reply-of =
           qed W ((‵ (flft κ₀ q₀) ⊛ ‵ (flft κ₁ q₁) ⊛ ‵ (flft κ₂ q₂) ⊛ ‵ (flft κ₃ q₃) ⊛ ‵ ftrue)
-          ∷ ‵ (owns ((rowOf Shape) ∷ ShrSlice (named 0) κ₀ u64 ∷ ShrSlice (named 1) κ₁ Entry′.the-row ∷ MutSlice (named 2) κ₂ u8
-          ∷ u32 ∷ u32 ∷ ShrSlice (named 3) κ₃ u8 ∷ []) args vals) ∷ []) ∵
-          enter ! (𝓣 .C) (𝓣 .Λ) (function #call #reply-of) (m-x-shape ∷ s-x-map ∷ s-x-catalogue ∷ s-x-card ∷ m-x-sheet
-          ∷ m-x-place ∷ s-x-payload ∷ []) _ $
+          ∷ ‵ (owns (u32 ∷ (rowOf Shape) ∷ ShrSlice (named 0) κ₀ u64 ∷ ShrSlice (named 1) κ₁ Entry′.the-row
+          ∷ MutSlice (named 2) κ₂ u8 ∷ u32 ∷ u32 ∷ ShrSlice (named 3) κ₃ u8 ∷ []) args vals) ∷ []) ∵
+          enter ! (𝓣 .C) (𝓣 .Λ) (function #call #reply-of) (m-x-role ∷ m-x-shape ∷ s-x-map ∷ s-x-catalogue ∷ s-x-card
+          ∷ m-x-sheet ∷ m-x-place ∷ s-x-payload ∷ []) _ $
           alloc1 ! (λ l₀. alloc1 ! (λ l₁. alloc1 ! (λ l₂. alloc1 ! (λ l₃. alloc1 ! (λ l₄. alloc1 ! (λ l₅.
-          alloc1 ! (λ l₆. alloc1 ! (λ l₇. alloc1 ! (λ l₈. alloc1 ! (λ l₉. alloc1 ! (λ l₁₀. alloc0 ! $ params1 ! $
-          pass1 ! (init ! 18 refl typed-x-shape) $
+          alloc1 ! (λ l₆. alloc1 ! (λ l₇. alloc1 ! (λ l₈. alloc1 ! (λ l₉. alloc1 ! (λ l₁₀. alloc1 ! (λ l₁₁. alloc0 ! $
+          params1 ! $ pass1 ! (init ! 20 refl typed-x-role) $ pass1 ! (init ! 18 refl typed-x-shape) $
           pass1 ! (init ! 16 refl (tt, (tt, (record { fits = room-x-map .0 }, tt)))) $
           pass1 ! (init ! 14 refl (tt, (tt, (record { fits = room-x-catalogue .0 }, tt)))) $
           pass1 ! (init ! 12 refl (tt, (tt, (record { fits = room-x-card .0 }, tt)))) $
           pass1 ! (init ! 10 refl typed-x-sheet) $ pass1 ! (init ! 8 refl typed-x-place) $
-          pass1 ! (init ! 6 refl (tt, (tt, (record { fits = room-x-payload .0 }, tt)))) $ pass0 ! $ move ! (22 ∷ []) $
+          pass1 ! (init ! 6 refl (tt, (tt, (record { fits = room-x-payload .0 }, tt)))) $ pass0 ! $ move ! (24 ∷ []) $
           split ! $ move ! (1 ∷ []) $ split ! $ move ! (1 ∷ []) $ split ! $ move ! (1 ∷ []) $ split ! $
-          move ! (1 ∷ []) $ drop ! $ move ! (26 ∷ []) $ fsplit ! $ move ! (1 ∷ []) $ fsplit ! $ move ! (1 ∷ []) $
+          move ! (1 ∷ []) $ drop ! $ move ! (28 ∷ []) $ fsplit ! $ move ! (1 ∷ []) $ fsplit ! $ move ! (1 ∷ []) $
           fsplit ! $ move ! (1 ∷ []) $ fsplit ! $ move ! (1 ∷ []) $ fsplit ! $ move ! (1 ∷ []) $ fsplit ! $
-          move ! (1 ∷ []) $ fsplit ! $ move ! (1 ∷ []) $ drop ! $ move ! (6 ∷ []) $ drop ! $ move ! (2 ∷ []) $ drop ! $
-          move ! (1 ∷ []) $ drop ! $
+          move ! (1 ∷ []) $ fsplit ! $ move ! (1 ∷ []) $ fsplit ! $ move ! (1 ∷ []) $ drop ! $ move ! (7 ∷ []) $
+          drop ! $ move ! (6 ∷ []) $ drop ! $ move ! (2 ∷ []) $ drop ! $ move ! (1 ∷ []) $ drop ! $
           -- call
           assigns ! (addr ! (from ! (fld ! refl (hop ! (look-in ! 20 (sub ! 0 refl (whole !))) (stop !))))) (from ! (stop !))
           (init ! 10 refl (tt, tt)) $
@@ -402,32 +423,34 @@ module _ (Shape Outcome Reply : Value) where
           move ! (3 ∷ 0 ∷ []) $ join ! $ move ! (2 ∷ 0 ∷ []) $ join ! $ move ! (1 ∷ 0 ∷ []) $ join ! $
           use1 W (raw ((call-contract call-out call-x-card 𝓤 H A) .pre (to-call ν₀-call δ₀-call))) (goes-call ν₀-call δ₀-call) $
           calls-at ! (fmOf 𝓤 H (W .laws) 𝓣) (call-contract call-out call-x-card 𝓤 H A) known-call (to-call ν₀-call δ₀-call)
-          (and-then ! (load ! (from ! (stop !)) (look ! 23 refl)) (and-then ! (load ! (from ! (stop !)) (look ! 21 refl))
-          (and-then ! (load ! (from ! (stop !)) (look ! 19 refl)) (and-then ! (load ! (from ! (stop !)) (look ! 5 refl))
-          (and-then ! (load ! (from ! (stop !)) (look ! 15 refl)) (and-then ! (load ! (from ! (stop !)) (look ! 13 refl))
-          (and-then ! (load ! (from ! (stop !)) (look ! 11 refl)) (no-more !)))))))) (λ w-call.
+          (and-then ! (load ! (from ! (stop !)) (look ! 25 refl)) (and-then ! (load ! (from ! (stop !)) (look ! 23 refl))
+          (and-then ! (load ! (from ! (stop !)) (look ! 21 refl)) (and-then ! (load ! (from ! (stop !)) (look ! 19 refl))
+          (and-then ! (load ! (from ! (stop !)) (look ! 5 refl)) (and-then ! (load ! (from ! (stop !)) (look ! 15 refl))
+          (and-then ! (load ! (from ! (stop !)) (look ! 13 refl)) (and-then ! (load ! (from ! (stop !)) (look ! 11 refl))
+          (no-more !))))))))) (λ w-call.
           use1 W (later (some (λ (r : (denotes Outcome)). ((‵ (flft κ₀ q₀) ⊛ ‵ (flft κ₁ q₁) ⊛ ‵ (flft (ν₀-call ∷ []) fullShare)
           ⊛ ‵ (flft κ₃ q₃) ⊛ ‵ ftrue) ⊛ ‵ ((rowOf Outcome) .own r (w-call ∷ []))) ⊛ raw
           (ensured 𝓤 H A call-ended (call-clauses call-out call-x-card 𝓤) (κ₀, (κ₁, (ν₀-call ∷ [], (κ₃, tt))))
           (call-args δ₀-call) tt r)))) (id⊢ 𝓤 _) $
           await ! tt $ pick ! (λ r-call. split ! $ move ! (1 ∷ []) $
-          use1 W (some (λ (zs-call : Unit {0} × (Unit {0} × (Unit {0} × (List ℕ × (Unit {0}
-          × (Unit {0} × (Unit {0} × Unit {0}))))))). ‵ (lasts call-ended (κ₀, (κ₁, (ν₀-call ∷ [], (κ₃, tt))))
-          (call-args δ₀-call) zs-call) ⊛ raw (fact 𝓤 (call-says call-out call-x-card x-shape (now x-map) (now x-catalogue)
-          (now x-card) x-sheet x-place (now x-payload) r-call (zs-call .1 .1 .1 .0))))) (id⊢ 𝓤 _) $
+          use1 W (some (λ (zs-call : Unit {0} × (Unit {0} × (Unit {0} × (Unit {0} × (List ℕ
+          × (Unit {0} × (Unit {0} × (Unit {0} × Unit {0})))))))). ‵ (lasts call-ended (κ₀, (κ₁, (ν₀-call ∷ [], (κ₃, tt))))
+          (call-args δ₀-call) zs-call) ⊛ raw (fact 𝓤 (call-says call-out call-x-card x-role x-shape (now x-map)
+          (now x-catalogue) (now x-card) x-sheet x-place (now x-payload) r-call (zs-call .1 .1 .1 .1 .0))))) (id⊢ 𝓤 _) $
           pick ! (λ zs-call. split ! $ move ! (1 ∷ []) $
-          heard ! (call-says call-out call-x-card x-shape (now x-map) (now x-catalogue) (now x-card) x-sheet x-place
-          (now x-payload) r-call (zs-call .1 .1 .1 .0)) (λ e-call.
+          heard ! (call-says call-out call-x-card x-role x-shape (now x-map) (now x-catalogue) (now x-card) x-sheet x-place
+          (now x-payload) r-call (zs-call .1 .1 .1 .1 .0)) (λ e-call.
           fsplit ! $ move ! (1 ∷ []) $ fsplit ! $ move ! (1 ∷ []) $ fsplit ! $ move ! (1 ∷ []) $ fsplit ! $
           move ! (1 ∷ []) $ fsplit ! $ move ! (1 ∷ []) $ fsplit ! $ move ! (1 ∷ []) $ fsplit ! $ move ! (1 ∷ []) $
-          drop ! $ move ! (6 ∷ []) $ drop ! $ move ! (5 ∷ []) $ drop ! $ move ! (4 ∷ []) $ drop ! $ move ! (3 ∷ []) $
-          fsplit ! $ move ! (1 ∷ []) $ feqL ! (λ h-call-x-card. move ! (3 ∷ []) $ drop ! $ move ! (2 ∷ []) $ drop ! $
-          move ! (1 ∷ []) $ drop ! $ move ! (1 ∷ []) $ split ! $ move ! (1 ∷ []) $
+          fsplit ! $ move ! (1 ∷ []) $ drop ! $ move ! (7 ∷ []) $ drop ! $ move ! (6 ∷ []) $ drop ! $ move ! (5 ∷ []) $
+          drop ! $ move ! (4 ∷ []) $ drop ! $ move ! (3 ∷ []) $ fsplit ! $ move ! (1 ∷ []) $ feqL ! (λ h-call-x-card.
+          move ! (3 ∷ []) $ drop ! $ move ! (2 ∷ []) $ drop ! $ move ! (1 ∷ []) $ drop ! $ move ! (1 ∷ []) $ split ! $
+          move ! (1 ∷ []) $
           rewrite ! 0 (λ (r : (denotes Outcome)). ‵ ((rowOf Outcome) .own r (w-call ∷ []))) (e-call .0) refl $
           rewrite ! 2 (λ (l : List ℕ). ‵ (finally u8 δ₀-call l)) (e-call .1) refl $
           peeks ! (rowOf Outcome) (Is (rowOf Outcome)) (shows 𝓤 H A (rowOf Outcome)) v-outcome (w-call ∷ []) (λ is-w-call.
           land ! (from ! (stop !)) (init ! 11 refl ((Outcome .typed 𝓤 H A W) v-outcome _ is-w-call .0)) $
-          rewrite ! 11 (λ (u : Val). ‵ (fat fullShare (mirOf Outcome) l₈ 0 u)) (ap only
+          rewrite ! 11 (λ (u : Val). ‵ (fat fullShare (mirOf Outcome) l₉ 0 u)) (ap only
           ((Outcome .tells) v-outcome _ is-w-call)) refl $
           drop ! $ split ! $ move ! (1 ∷ []) $ split ! $ move ! (1 ∷ []) $ split ! $ move ! (1 ∷ []) $ split ! $
           move ! (1 ∷ []) $ drop ! $ move ! (1 ∷ []) $ lft-end ! tt $ move ! (0 ∷ 6 ∷ 4 ∷ []) $
@@ -451,15 +474,15 @@ module _ (Shape Outcome Reply : Value) where
           drop ! $ drop ! $ split ! $ move ! (1 ∷ []) $
           rewrite ! 0 (λ (r : (denotes Reply)). ‵ ((rowOf Reply) .own r (w-reply-of ∷ []))) (e-reply-of) refl $
           peeks ! (rowOf Reply) (Is (rowOf Reply)) (shows 𝓤 H A (rowOf Reply)) v-result (w-reply-of ∷ []) (λ is-w-reply-of.
-          land ! (from ! (stop !)) (init ! 30 refl ((Reply .typed 𝓤 H A W) v-result _ is-w-reply-of .0)) $
-          rewrite ! 30 (λ (u : Val). ‵ (fat fullShare (mirOf Reply) l₀ 0 u)) (ap only ((Reply .tells) v-result _ is-w-reply-of))
+          land ! (from ! (stop !)) (init ! 32 refl ((Reply .typed 𝓤 H A W) v-result _ is-w-reply-of .0)) $
+          rewrite ! 32 (λ (u : Val). ‵ (fat fullShare (mirOf Reply) l₀ 0 u)) (ap only ((Reply .tells) v-result _ is-w-reply-of))
           refl $
-          drop ! $ drop ! $ returns ! (look ! 28 refl) $ leave ! 28 refl refl $ leave ! 26 refl refl $
-          leave ! 24 refl refl $ leave ! 22 refl refl $ leave ! 20 refl refl $ leave ! 18 refl refl $
-          leave ! 16 refl refl $ leave ! 14 refl refl $ leave ! 12 refl refl $ leave ! 10 refl refl $
-          leave ! 8 refl refl $ free0 ! $ move ! (7 ∷ 4 ∷ 6 ∷ 3 ∷ 0 ∷ 1 ∷ 5 ∷ 2 ∷ []) $
+          drop ! $ drop ! $ returns ! (look ! 30 refl) $ leave ! 30 refl refl $ leave ! 28 refl refl $
+          leave ! 26 refl refl $ leave ! 24 refl refl $ leave ! 22 refl refl $ leave ! 20 refl refl $
+          leave ! 18 refl refl $ leave ! 16 refl refl $ leave ! 14 refl refl $ leave ! 12 refl refl $
+          leave ! 10 refl refl $ leave ! 8 refl refl $ free0 ! $ move ! (7 ∷ 4 ∷ 6 ∷ 3 ∷ 0 ∷ 1 ∷ 5 ∷ 2 ∷ []) $
           by ! (exits (spelled-v-result w-reply-of is-w-reply-of) (ap {B = ℕ} length (sym (e-call .1))
-          ∙ h-call-x-card))))))))))))))))))))))))))
+          ∙ h-call-x-card)))))))))))))))))))))))))))
 
     module _ {M : Type 1} (𝓤 : URA M) (H : Heap 𝓤) (A : Atoms 𝓤) (W : Given 𝓤 H A) where
       walks : (𝓣 : Tables 𝓤 H) → Triple 𝓤 (𝓣 .C #call) (call-contract call-out call-x-card 𝓤 H A)
@@ -468,44 +491,51 @@ module _ (Shape Outcome Reply : Value) where
       walks 𝓣 known-call known-reply-of =
           walked 𝓤 H A ended stayed (clauses 𝓤) (WpFn 𝓤 H (𝓣 .C) (𝓣 .Λ) (function #call #reply-of))
           (λ κs. (
-            (valsOf Shape),
-            (slice-vals, (slice-vals, (slice-vals, ((uint-vals w32), ((uint-vals w32), (slice-vals, tt)))))),
+            (uint-vals w32),
+            ((valsOf Shape), (slice-vals, (slice-vals, (slice-vals, ((uint-vals w32), ((uint-vals w32), (slice-vals, tt))))))),
           ))
           (λ κs. (
-            (Shape .tells),
+            (uint-tells w32),
             (
-              shr-slice-tells (named 0) (κs .0) u64,
+              (Shape .tells),
               (
-                shr-slice-tells (named 1) (κs .1 .0) Entry′.the-row,
+                shr-slice-tells (named 0) (κs .0) u64,
                 (
-                  mut-slice-tells (named 2) (κs .1 .1 .0) u8,
-                  ((uint-tells w32), ((uint-tells w32), (shr-slice-tells (named 3) (κs .1 .1 .1 .0) u8, tt))),
+                  shr-slice-tells (named 1) (κs .1 .0) Entry′.the-row,
+                  (
+                    mut-slice-tells (named 2) (κs .1 .1 .0) u8,
+                    ((uint-tells w32), ((uint-tells w32), (shr-slice-tells (named 3) (κs .1 .1 .1 .0) u8, tt))),
+                  ),
                 ),
               ),
             ),
           ))
           (λ κs qs bounds a g are. via 𝓤 _ (fst∗ 𝓤 _ (emp 𝓤)) (walk 𝓤 H A W (κs .0) (κs .1 .0) (κs .1 .1 .0) (κs .1 .1 .1 .0)
           (qs .0) (qs .1 .0) (qs .1 .1 .0) (qs .1 .1 .1 .0) (a .0) (a .1 .0) (a .1 .1 .0) (a .1 .1 .1 .0) (a .1 .1 .1 .1 .0)
-          (a .1 .1 .1 .1 .1 .0) (a .1 .1 .1 .1 .1 .1 .0) (are .0) (are .1 .0 .0 .1) (are .1 .1 .0 .0 .1) (are .1 .1 .1 .0 .0 .1)
-          (are .1 .1 .1 .1 .0) (are .1 .1 .1 .1 .1 .0) (are .1 .1 .1 .1 .1 .1 .0 .0 .1) 𝓣 known-call known-reply-of))
+          (a .1 .1 .1 .1 .1 .0) (a .1 .1 .1 .1 .1 .1 .0) (a .1 .1 .1 .1 .1 .1 .1 .0) (are .0) (are .1 .0) (are .1 .1 .0 .0 .1)
+          (are .1 .1 .1 .0 .0 .1) (are .1 .1 .1 .1 .0 .0 .1) (are .1 .1 .1 .1 .1 .0) (are .1 .1 .1 .1 .1 .1 .0)
+          (are .1 .1 .1 .1 .1 .1 .1 .0 .0 .1) 𝓣 known-call known-reply-of))
 
       pub meets : (𝓣 : Tables 𝓤 H) → Triple 𝓤 (𝓣 .C #call) (call-contract call-out call-x-card 𝓤 H A)
           → Triple 𝓤 (𝓣 .C #reply-of) (reply-of-contract reply-of-out 𝓤 H A) → Meets 𝓤 H A signature
           (WpFn 𝓤 H (𝓣 .C) (𝓣 .Λ) (function #call #reply-of)) (closing 𝓤 H A ended (clauses 𝓤))
       meets 𝓣 known-call known-reply-of =
           walk-meets 𝓤 H A ended stayed W (
-            goes-none 𝓤 H A W 4 (λ _. (rowOf Shape)) yes (λ κs x f. refl),
+            goes-none 𝓤 H A W 4 (λ _. u32) yes (λ κs x f. refl),
             (
-              goes-none-slice 𝓤 H A W 4 (0 ∷ []) tt (plain (λ _. u64)) yes,
+              goes-none 𝓤 H A W 4 (λ _. (rowOf Shape)) yes (λ κs x f. refl),
               (
-                goes-none-slice 𝓤 H A W 4 (1 ∷ []) tt (plain (λ _. Entry′.the-row)) yes,
+                goes-none-slice 𝓤 H A W 4 (0 ∷ []) tt (plain (λ _. u64)) yes,
                 (
-                  goes-slice 𝓤 H A W 4 2 tt (plain (λ _. u8)),
+                  goes-none-slice 𝓤 H A W 4 (1 ∷ []) tt (plain (λ _. Entry′.the-row)) yes,
                   (
-                    goes-none 𝓤 H A W 4 (λ _. u32) yes (λ κs x f. refl),
+                    goes-slice 𝓤 H A W 4 2 tt (plain (λ _. u8)),
                     (
                       goes-none 𝓤 H A W 4 (λ _. u32) yes (λ κs x f. refl),
-                      (goes-none-slice 𝓤 H A W 4 (3 ∷ []) tt (plain (λ _. u8)) yes, tt),
+                      (
+                        goes-none 𝓤 H A W 4 (λ _. u32) yes (λ κs x f. refl),
+                        (goes-none-slice 𝓤 H A W 4 (3 ∷ []) tt (plain (λ _. u8)) yes, tt),
+                      ),
                     ),
                   ),
                 ),

@@ -1,5 +1,6 @@
--- Written by tools/walks: every function (shape: Shape, map: &[u64], catalogue: &mut [Entry], sheet: u32) whose code is
---     let outcome: Outcome = call(shape, map, catalogue, sheet);
+-- Written by tools/walks: every function (role: u32, shape: Shape, map: &[u64], catalogue: &mut [Entry], sheet: u32) whose code
+-- is
+--     let outcome: Outcome = call(role, shape, map, catalogue, sheet);
 --     reply_of(outcome)
 -- One walk serves every choice of the callees: it takes their names and what their contracts say. The types by value are any,
 -- too.
@@ -57,20 +58,23 @@ module _ (Shape Outcome Reply : Value) where
   signature = record {
     lifetimes = 2;
     outlives = [];
-    params = plain (λ _. (rowOf Shape)) ∷ shrSlice 0 tt (λ _. u64) ∷ mutSlice 1 tt (λ _. Entry′.the-row) ∷ plain (λ _. u32)
-        ∷ [];
+    params = plain (λ _. u32) ∷ plain (λ _. (rowOf Shape)) ∷ shrSlice 0 tt (λ _. u64) ∷ mutSlice 1 tt (λ _. Entry′.the-row)
+        ∷ plain (λ _. u32) ∷ [];
     result = plain (λ _. (rowOf Reply));
   }
 
   abbrev ended : Ended
-  ended = record { signature = signature; kept = (yes, (yes, (yes, (yes, tt)))) }
+  ended = record { signature = signature; kept = (yes, (yes, (yes, (yes, (yes, tt))))) }
 
   abbrev stayed : Stays (ended .signature .params) (ended .kept)
   stayed = (
-    stay-none (λ _. (rowOf Shape)) yes,
+    stay-none (λ _. u32) yes,
     (
-      stay-none-slice (0 ∷ []) tt (plain (λ _. u64)) yes,
-      (stay-slice (1 ∷ []) tt (plain (λ _. Entry′.the-row)), (stay-none (λ _. u32) yes, tt)),
+      stay-none (λ _. (rowOf Shape)) yes,
+      (
+        stay-none-slice (0 ∷ []) tt (plain (λ _. u64)) yes,
+        (stay-slice (1 ∷ []) tt (plain (λ _. Entry′.the-row)), (stay-none (λ _. u32) yes, tt)),
+      ),
     ),
   )
 
@@ -79,16 +83,17 @@ module _ (Shape Outcome Reply : Value) where
   function #call #reply-of = record {
     lifetimes = 2;
     outlives = [];
-    params = 4;
-    locals = local (mirOf Reply) valueLocal ∷ local (mirOf Shape) valueLocal ∷ local (sliceTy (tyRef (named 0) imm (tyInt w64)))
-        valueLocal ∷ local (sliceTy (tyRef (named 1) mut (pointee (Entry′.the-row .written)))) valueLocal
-        ∷ local (tyInt w32) valueLocal ∷ local (mirOf Outcome) valueLocal ∷ local (tyRef erased mut
-        (pointee (Entry′.the-row .written))) valueLocal ∷ local (sliceTy (tyRef erased mut (pointee (Entry′.the-row .written))))
-        valueLocal ∷ [];
-    body = seq (assign (place 6 []) (addrOf (place 3 (field 0 ∷ deref Entry″.mir ∷ []))))
-        (seq (assign (place 7 []) (aggregate (copy (place 6 []) ∷ copy (place 3 (field 1 ∷ [])) ∷ [])))
-        (seq (call #call (copy (place 1 []) ∷ copy (place 2 []) ∷ copy (place 7 []) ∷ copy (place 4 []) ∷ []) (place 5 []))
-        (seq (call #reply-of (copy (place 5 []) ∷ []) (place 0 [])) return)));
+    params = 5;
+    locals = local (mirOf Reply) valueLocal ∷ local (tyInt w32) valueLocal ∷ local (mirOf Shape) valueLocal
+        ∷ local (sliceTy (tyRef (named 0) imm (tyInt w64))) valueLocal ∷ local (sliceTy
+        (tyRef (named 1) mut (pointee (Entry′.the-row .written)))) valueLocal ∷ local (tyInt w32) valueLocal
+        ∷ local (mirOf Outcome) valueLocal ∷ local (tyRef erased mut (pointee (Entry′.the-row .written))) valueLocal
+        ∷ local (sliceTy (tyRef erased mut (pointee (Entry′.the-row .written)))) valueLocal ∷ [];
+    body = seq (assign (place 7 []) (addrOf (place 4 (field 0 ∷ deref Entry″.mir ∷ []))))
+        (seq (assign (place 8 []) (aggregate (copy (place 7 []) ∷ copy (place 4 (field 1 ∷ [])) ∷ [])))
+        (seq (call #call (copy (place 1 []) ∷ copy (place 2 []) ∷ copy (place 3 []) ∷ copy (place 8 []) ∷ copy (place 5 [])
+        ∷ []) (place 6 []))
+        (seq (call #reply-of (copy (place 6 []) ∷ []) (place 0 [])) return)));
   }
 
   -- ---- what `call` is, and what it ensures
@@ -96,27 +101,28 @@ module _ (Shape Outcome Reply : Value) where
   call-signature = record {
     lifetimes = 2;
     outlives = [];
-    params = plain (λ _. (rowOf Shape)) ∷ shrSlice 0 tt (λ _. u64) ∷ mutSlice 1 tt (λ _. Entry′.the-row) ∷ plain (λ _. u32)
-        ∷ [];
+    params = plain (λ _. u32) ∷ plain (λ _. (rowOf Shape)) ∷ shrSlice 0 tt (λ _. u64) ∷ mutSlice 1 tt (λ _. Entry′.the-row)
+        ∷ plain (λ _. u32) ∷ [];
     result = plain (λ _. (rowOf Outcome));
   }
 
   abbrev call-ended : Ended
-  call-ended = record { signature = call-signature; kept = (yes, (yes, (yes, (yes, tt)))) }
+  call-ended = record { signature = call-signature; kept = (yes, (yes, (yes, (yes, (yes, tt))))) }
 
   abbrev call-Model : Type 0 → Type 0
-  call-Model X = (denotes Shape) → List ℕ → List Entry → ℕ → X
+  call-Model X = ℕ → (denotes Shape) → List ℕ → List Entry → ℕ → X
 
   module _ (call-out : call-Model (denotes Outcome)) (call-x-catalogue : call-Model (List Entry)) where
-    abbrev call-says : (denotes Shape) → List ℕ → List Entry → ℕ → (denotes Outcome) → List Entry → Type 0
-    call-says a0 a1 a2 a3 r b2 = (r ≡ call-out a0 a1 a2 a3) × (b2 ≡ call-x-catalogue a0 a1 a2 a3)
+    abbrev call-says : ℕ → (denotes Shape) → List ℕ → List Entry → ℕ → (denotes Outcome) → List Entry → Type 0
+    call-says a0 a1 a2 a3 a4 r b3 = (r ≡ call-out a0 a1 a2 a3 a4) × (b3 ≡ call-x-catalogue a0 a1 a2 a3 a4)
 
     module _ {M : Type 1} (𝓤 : URA M) where
       abbrev call-clauses : Clauses 𝓤 call-ended
       call-clauses κs a = record {
         ghost = Unit {0};
         requires = λ _. emp 𝓤;
-        ensures = λ _ r e. fact 𝓤 (call-says (a .0) (now (a .1 .0)) (now (a .1 .1 .0)) (a .1 .1 .1 .0) r (now (e .1 .1 .0)));
+        ensures = λ _ r e. fact 𝓤 (call-says (a .0) (a .1 .0) (now (a .1 .1 .0)) (now (a .1 .1 .1 .0)) (a .1 .1 .1 .1 .0) r
+            (now (e .1 .1 .1 .0)));
       }
 
       module _ (H : Heap 𝓤) (A : Atoms 𝓤) where
@@ -157,12 +163,12 @@ module _ (Shape Outcome Reply : Value) where
   module _ (#call #reply-of : Name) (call-out : call-Model (denotes Outcome)) (call-x-catalogue : call-Model (List Entry))
       (reply-of-out : reply-of-Model (denotes Reply)) where
     -- ---- what the chain gives, call by call
-    module _ (x-shape : (denotes Shape)) (x-map : List ℕ) (x-catalogue : List Entry) (x-sheet : ℕ) where
+    module _ (x-role : ℕ) (x-shape : (denotes Shape)) (x-map : List ℕ) (x-catalogue : List Entry) (x-sheet : ℕ) where
       abbrev v-outcome-of : (denotes Outcome)
-      v-outcome-of = call-out x-shape x-map x-catalogue x-sheet
+      v-outcome-of = call-out x-role x-shape x-map x-catalogue x-sheet
 
       abbrev z-call-x-catalogue-of : List Entry
-      z-call-x-catalogue-of = call-x-catalogue x-shape x-map x-catalogue x-sheet
+      z-call-x-catalogue-of = call-x-catalogue x-role x-shape x-map x-catalogue x-sheet
 
       abbrev v-result-of : (denotes Reply)
       v-result-of = reply-of-out v-outcome-of
@@ -175,14 +181,21 @@ module _ (Shape Outcome Reply : Value) where
       clauses κs a = record {
         ghost = Unit {0};
         requires = λ _. emp 𝓤;
-        ensures = λ _ r e. fact 𝓤 (Says (a .0) (now (a .1 .0)) (now (a .1 .1 .0)) (a .1 .1 .1 .0) r (now (e .1 .1 .0)));
+        ensures = λ _ r e. fact 𝓤 (Says (a .0) (a .1 .0) (now (a .1 .1 .0)) (now (a .1 .1 .1 .0)) (a .1 .1 .1 .1 .0) r
+            (now (e .1 .1 .1 .0)));
       }
 
     module _ {M : Type 1} (𝓤 : URA M) (H : Heap 𝓤) (A : Atoms 𝓤) (W : Given 𝓤 H A) (κ₀ κ₁ : Lft) (q₀ q₁ : Share)
-        (x-shape : (denotes Shape)) (x-map : RefT (List ℕ)) (x-catalogue : RefT (List Entry)) (x-sheet : ℕ)
-        (is-x-shape : Is (rowOf Shape) x-shape ((valsOf Shape) x-shape)) (room-x-map : Room u64 (length (now x-map)))
-        (room-x-catalogue : Room Entry′.the-row (length (now x-catalogue))) (is-x-sheet : Is u32 x-sheet
-        ((uint-vals w32) x-sheet)) where
+        (x-role : ℕ) (x-shape : (denotes Shape)) (x-map : RefT (List ℕ)) (x-catalogue : RefT (List Entry)) (x-sheet : ℕ)
+        (is-x-role : Is u32 x-role ((uint-vals w32) x-role)) (is-x-shape : Is (rowOf Shape) x-shape ((valsOf Shape) x-shape))
+        (room-x-map : Room u64 (length (now x-map))) (room-x-catalogue : Room Entry′.the-row (length (now x-catalogue)))
+        (is-x-sheet : Is u32 x-sheet ((uint-vals w32) x-sheet)) where
+      abbrev m-x-role : Val
+      m-x-role = only ((uint-vals w32) x-role)
+
+      typed-x-role : Holds (hasTy (tyInt w32) m-x-role) × WT m-x-role
+      typed-x-role = (uint-lawful 𝓤 H A W w32 .typed) x-role _ is-x-role .0
+
       abbrev m-x-shape : Val
       m-x-shape = only ((valsOf Shape) x-shape)
 
@@ -207,11 +220,11 @@ module _ (Shape Outcome Reply : Value) where
       typed-x-sheet : Holds (hasTy (tyInt w32) m-x-sheet) × WT m-x-sheet
       typed-x-sheet = (uint-lawful 𝓤 H A W w32 .typed) x-sheet _ is-x-sheet .0
 
-      abbrev args : (denotes Shape) × (RefT (List ℕ) × (RefT (List Entry) × (ℕ × Unit {0})))
-      args = (x-shape, (x-map, (x-catalogue, (x-sheet, tt))))
+      abbrev args : ℕ × ((denotes Shape) × (RefT (List ℕ) × (RefT (List Entry) × (ℕ × Unit {0}))))
+      args = (x-role, (x-shape, (x-map, (x-catalogue, (x-sheet, tt)))))
 
-      abbrev vals : List Val × (List Val × (List Val × (List Val × Unit {0})))
-      vals = (m-x-shape ∷ [], (s-x-map ∷ [], (s-x-catalogue ∷ [], (m-x-sheet ∷ [], tt))))
+      abbrev vals : List Val × (List Val × (List Val × (List Val × (List Val × Unit {0}))))
+      vals = (m-x-role ∷ [], (m-x-shape ∷ [], (s-x-map ∷ [], (s-x-catalogue ∷ [], (m-x-sheet ∷ [], tt)))))
 
       abbrev bound : walkOf 𝓤 H A ended stayed (clauses 𝓤) .Ghost
       bound = (((κ₀, (κ₁, tt)), (q₀, (q₁, tt)), tt, args, vals), tt)
@@ -220,13 +233,13 @@ module _ (Shape Outcome Reply : Value) where
       Post = walkOf 𝓤 H A ended stayed (clauses 𝓤) .post bound
 
       abbrev v-outcome : (denotes Outcome)
-      v-outcome = v-outcome-of x-shape (now x-map) (now x-catalogue) x-sheet
+      v-outcome = v-outcome-of x-role x-shape (now x-map) (now x-catalogue) x-sheet
 
       abbrev z-call-x-catalogue : List Entry
-      z-call-x-catalogue = z-call-x-catalogue-of x-shape (now x-map) (now x-catalogue) x-sheet
+      z-call-x-catalogue = z-call-x-catalogue-of x-role x-shape (now x-map) (now x-catalogue) x-sheet
 
       abbrev v-result : (denotes Reply)
-      v-result = v-result-of x-shape (now x-map) (now x-catalogue) x-sheet
+      v-result = v-result-of x-role x-shape (now x-map) (now x-catalogue) x-sheet
 
       abbrev m-v-outcome : Val
       m-v-outcome = only ((valsOf Outcome) v-outcome)
@@ -241,8 +254,8 @@ module _ (Shape Outcome Reply : Value) where
       spelled-v-result w is = subst (λ (vs : List Val). Is (rowOf Reply) v-result vs) ((Reply .tells) v-result _ is) is
 
       -- ---- the caller has what `call` asks
-      abbrev call-args : (δ₀-call : GName) → (denotes Shape) × (RefT (List ℕ) × (RefT (List Entry) × (ℕ × Unit {0})))
-      call-args δ₀-call = (x-shape, (x-map, (at-x-catalogue δ₀-call (now x-catalogue), (x-sheet, tt))))
+      abbrev call-args : (δ₀-call : GName) → ℕ × ((denotes Shape) × (RefT (List ℕ) × (RefT (List Entry) × (ℕ × Unit {0}))))
+      call-args δ₀-call = (x-role, (x-shape, (x-map, (at-x-catalogue δ₀-call (now x-catalogue), (x-sheet, tt)))))
 
       abbrev to-call : (ν₀-call : ℕ) (δ₀-call : GName) → (call-contract call-out call-x-catalogue 𝓤 H A) .Ghost
       to-call ν₀-call δ₀-call = (
@@ -251,7 +264,7 @@ module _ (Shape Outcome Reply : Value) where
           (q₀, (fullShare, tt)),
           tt,
           call-args δ₀-call,
-          (m-x-shape ∷ [], (s-x-map ∷ [], (s-x-catalogue ∷ [], (m-x-sheet ∷ [], tt)))),
+          (m-x-role ∷ [], (m-x-shape ∷ [], (s-x-map ∷ [], (s-x-catalogue ∷ [], (m-x-sheet ∷ [], tt))))),
         ),
         tt,
       )
@@ -268,7 +281,8 @@ module _ (Shape Outcome Reply : Value) where
           owned ! u32 (Is u32) (uint-makes 𝓤 H A W w32) x-sheet _ is-x-sheet $ fjoin ! $ move ! (3 ∷ 0 ∷ []) $
           fjoin ! $ move ! (2 ∷ 0 ∷ []) $ fjoin ! $
           owned ! (rowOf Shape) (Is (rowOf Shape)) (Shape .makes 𝓤 H A) x-shape _ is-x-shape $ fjoin ! $
-          move ! (1 ∷ 0 ∷ []) $ join ! $ frame ! $ done !
+          owned ! u32 (Is u32) (uint-makes 𝓤 H A W w32) x-role _ is-x-role $ fjoin ! $ move ! (1 ∷ 0 ∷ []) $ join ! $
+          frame ! $ done !
 
       -- ---- the caller has what `reply-of` asks
       abbrev reply-of-args : (denotes Outcome) × Unit {0}
@@ -295,29 +309,33 @@ module _ (Shape Outcome Reply : Value) where
           ∷ ‵ (MutSlice (named 1) κ₁ Entry′.the-row .own (at-x-catalogue (x-catalogue .name) z-call-x-catalogue)
           (s-x-catalogue ∷ [])) ∷ ‵ (flft κ₁ q₁) ∷ []) ∵
           suffices ! _ (ends-at 𝓤 H A ended stayed (clauses 𝓤) W bound m-v-result v-result
-          (tt, (tt, (z-call-x-catalogue, (tt, tt)))) (tt, (tt, (l-x-catalogue, (tt, tt))))) $
+          (tt, (tt, (tt, (z-call-x-catalogue, (tt, tt))))) (tt, (tt, (tt, (l-x-catalogue, (tt, tt)))))) $
           says ! (refl, refl) $ nothing ! $ move ! (4 ∷ 0 ∷ []) $ join ! $ move ! (2 ∷ 0 ∷ []) $ join ! $ frame ! $
           nothing ! $ owned ! u32 (Is u32) (uint-makes 𝓤 H A W w32) x-sheet _ is-x-sheet $ fjoin ! $
           move ! (2 ∷ 0 ∷ []) $ fjoin ! $ move ! (1 ∷ 0 ∷ []) $ fjoin ! $
           owned ! (rowOf Shape) (Is (rowOf Shape)) (Shape .makes 𝓤 H A) x-shape _ is-x-shape $ fjoin ! $
+          owned ! u32 (Is u32) (uint-makes 𝓤 H A W w32) x-role _ is-x-role $ fjoin ! $
           owned ! (rowOf Reply) (Is (rowOf Reply)) (Reply .makes 𝓤 H A) v-result _ is $ move ! (1 ∷ 0 ∷ []) $ done !
 
       -- ---- the walk
       walk : (𝓣 : Tables 𝓤 H) → Triple 𝓤 (𝓣 .C #call) (call-contract call-out call-x-catalogue 𝓤 H A)
           → Triple 𝓤 (𝓣 .C #reply-of) (reply-of-contract reply-of-out 𝓤 H A) → ent 𝓤 (onEntry 𝓤 H A signature (κ₀, (κ₁, tt))
           (q₀, (q₁, tt)) args vals)
-          (WpFn 𝓤 H (𝓣 .C) (𝓣 .Λ) (function #call #reply-of) (m-x-shape ∷ s-x-map ∷ s-x-catalogue ∷ m-x-sheet ∷ []) Post)
+          (WpFn 𝓤 H (𝓣 .C) (𝓣 .Λ) (function #call #reply-of) (m-x-role ∷ m-x-shape ∷ s-x-map ∷ s-x-catalogue ∷ m-x-sheet ∷ [])
+          Post)
       walk 𝓣 known-call known-reply-of =
-          qed W ((‵ (flft κ₀ q₀) ⊛ ‵ (flft κ₁ q₁) ⊛ ‵ ftrue) ∷ ‵ (owns ((rowOf Shape) ∷ ShrSlice (named 0) κ₀ u64
+          qed W ((‵ (flft κ₀ q₀) ⊛ ‵ (flft κ₁ q₁) ⊛ ‵ ftrue) ∷ ‵ (owns (u32 ∷ (rowOf Shape) ∷ ShrSlice (named 0) κ₀ u64
           ∷ MutSlice (named 1) κ₁ Entry′.the-row ∷ u32 ∷ []) args vals) ∷ []) ∵
-          enter ! (𝓣 .C) (𝓣 .Λ) (function #call #reply-of) (m-x-shape ∷ s-x-map ∷ s-x-catalogue ∷ m-x-sheet ∷ []) _ $
+          enter ! (𝓣 .C) (𝓣 .Λ) (function #call #reply-of) (m-x-role ∷ m-x-shape ∷ s-x-map ∷ s-x-catalogue ∷ m-x-sheet ∷ []) _ $
           alloc1 ! (λ l₀. alloc1 ! (λ l₁. alloc1 ! (λ l₂. alloc1 ! (λ l₃. alloc1 ! (λ l₄. alloc1 ! (λ l₅.
-          alloc1 ! (λ l₆. alloc1 ! (λ l₇. alloc0 ! $ params1 ! $ pass1 ! (init ! 12 refl typed-x-shape) $
+          alloc1 ! (λ l₆. alloc1 ! (λ l₇. alloc1 ! (λ l₈. alloc0 ! $ params1 ! $
+          pass1 ! (init ! 14 refl typed-x-role) $ pass1 ! (init ! 12 refl typed-x-shape) $
           pass1 ! (init ! 10 refl (tt, (tt, (record { fits = room-x-map .0 }, tt)))) $
           pass1 ! (init ! 8 refl (tt, (tt, (record { fits = room-x-catalogue .0 }, tt)))) $
-          pass1 ! (init ! 6 refl typed-x-sheet) $ pass0 ! $ move ! (16 ∷ []) $ split ! $ move ! (1 ∷ []) $ split ! $
-          move ! (1 ∷ []) $ drop ! $ move ! (18 ∷ []) $ fsplit ! $ move ! (1 ∷ []) $ fsplit ! $ move ! (1 ∷ []) $
-          fsplit ! $ move ! (1 ∷ []) $ fsplit ! $ move ! (1 ∷ []) $ drop ! $ move ! (3 ∷ []) $ drop ! $ drop ! $
+          pass1 ! (init ! 6 refl typed-x-sheet) $ pass0 ! $ move ! (18 ∷ []) $ split ! $ move ! (1 ∷ []) $ split ! $
+          move ! (1 ∷ []) $ drop ! $ move ! (20 ∷ []) $ fsplit ! $ move ! (1 ∷ []) $ fsplit ! $ move ! (1 ∷ []) $
+          fsplit ! $ move ! (1 ∷ []) $ fsplit ! $ move ! (1 ∷ []) $ fsplit ! $ move ! (1 ∷ []) $ drop ! $
+          move ! (4 ∷ []) $ drop ! $ move ! (3 ∷ []) $ drop ! $ drop ! $
           -- call
           assigns ! (addr ! (from ! (fld ! refl (hop ! (look-in ! 12 (sub ! 0 refl (whole !))) (stop !))))) (from ! (stop !))
           (init ! 6 refl (tt, tt)) $
@@ -338,29 +356,29 @@ module _ (Shape Outcome Reply : Value) where
           use1 W (raw ((call-contract call-out call-x-catalogue 𝓤 H A) .pre (to-call ν₀-call δ₀-call)))
           (goes-call ν₀-call δ₀-call) $
           calls-at ! (fmOf 𝓤 H (W .laws) 𝓣) (call-contract call-out call-x-catalogue 𝓤 H A) known-call (to-call ν₀-call δ₀-call)
-          (and-then ! (load ! (from ! (stop !)) (look ! 15 refl)) (and-then ! (load ! (from ! (stop !)) (look ! 13 refl))
-          (and-then ! (load ! (from ! (stop !)) (look ! 3 refl)) (and-then ! (load ! (from ! (stop !)) (look ! 9 refl))
-          (no-more !))))) (λ w-call.
+          (and-then ! (load ! (from ! (stop !)) (look ! 17 refl)) (and-then ! (load ! (from ! (stop !)) (look ! 15 refl))
+          (and-then ! (load ! (from ! (stop !)) (look ! 13 refl)) (and-then ! (load ! (from ! (stop !)) (look ! 3 refl))
+          (and-then ! (load ! (from ! (stop !)) (look ! 9 refl)) (no-more !)))))) (λ w-call.
           use1 W (later (some (λ (r : (denotes Outcome)). ((‵ (flft κ₀ q₀) ⊛ ‵ (flft (ν₀-call ∷ []) fullShare) ⊛ ‵ ftrue)
           ⊛ ‵ ((rowOf Outcome) .own r (w-call ∷ []))) ⊛ raw (ensured 𝓤 H A call-ended (call-clauses call-out call-x-catalogue 𝓤)
           (κ₀, (ν₀-call ∷ [], tt)) (call-args δ₀-call) tt r)))) (id⊢ 𝓤 _) $
           await ! tt $ pick ! (λ r-call. split ! $ move ! (1 ∷ []) $
-          use1 W (some (λ (zs-call : Unit {0} × (Unit {0} × (List Entry × (Unit {0} × Unit {0})))). ‵
+          use1 W (some (λ (zs-call : Unit {0} × (Unit {0} × (Unit {0} × (List Entry × (Unit {0} × Unit {0}))))). ‵
           (lasts call-ended (κ₀, (ν₀-call ∷ [], tt)) (call-args δ₀-call) zs-call) ⊛ raw
-          (fact 𝓤 (call-says call-out call-x-catalogue x-shape (now x-map) (now x-catalogue) x-sheet r-call
-          (zs-call .1 .1 .0))))) (id⊢ 𝓤 _) $
+          (fact 𝓤 (call-says call-out call-x-catalogue x-role x-shape (now x-map) (now x-catalogue) x-sheet r-call
+          (zs-call .1 .1 .1 .0))))) (id⊢ 𝓤 _) $
           pick ! (λ zs-call. split ! $ move ! (1 ∷ []) $
-          heard ! (call-says call-out call-x-catalogue x-shape (now x-map) (now x-catalogue) x-sheet r-call (zs-call .1 .1 .0))
-          (λ e-call.
+          heard ! (call-says call-out call-x-catalogue x-role x-shape (now x-map) (now x-catalogue) x-sheet r-call
+          (zs-call .1 .1 .1 .0)) (λ e-call.
           fsplit ! $ move ! (1 ∷ []) $ fsplit ! $ move ! (1 ∷ []) $ fsplit ! $ move ! (1 ∷ []) $ fsplit ! $
-          move ! (1 ∷ []) $ drop ! $ move ! (3 ∷ []) $ drop ! $ move ! (2 ∷ []) $ drop ! $ move ! (1 ∷ []) $ fsplit ! $
-          move ! (1 ∷ []) $ feqL ! (λ h-call-x-catalogue. move ! (1 ∷ []) $ drop ! $ move ! (1 ∷ []) $ split ! $
-          move ! (1 ∷ []) $
+          move ! (1 ∷ []) $ fsplit ! $ move ! (1 ∷ []) $ drop ! $ move ! (4 ∷ []) $ drop ! $ move ! (3 ∷ []) $ drop ! $
+          move ! (2 ∷ []) $ drop ! $ move ! (1 ∷ []) $ fsplit ! $ move ! (1 ∷ []) $ feqL ! (λ h-call-x-catalogue.
+          move ! (1 ∷ []) $ drop ! $ move ! (1 ∷ []) $ split ! $ move ! (1 ∷ []) $
           rewrite ! 0 (λ (r : (denotes Outcome)). ‵ ((rowOf Outcome) .own r (w-call ∷ []))) (e-call .0) refl $
           rewrite ! 2 (λ (l : List Entry). ‵ (finally Entry′.the-row δ₀-call l)) (e-call .1) refl $
           peeks ! (rowOf Outcome) (Is (rowOf Outcome)) (shows 𝓤 H A (rowOf Outcome)) v-outcome (w-call ∷ []) (λ is-w-call.
           land ! (from ! (stop !)) (init ! 9 refl ((Outcome .typed 𝓤 H A W) v-outcome _ is-w-call .0)) $
-          rewrite ! 9 (λ (u : Val). ‵ (fat fullShare (mirOf Outcome) l₅ 0 u)) (ap only ((Outcome .tells) v-outcome _ is-w-call))
+          rewrite ! 9 (λ (u : Val). ‵ (fat fullShare (mirOf Outcome) l₆ 0 u)) (ap only ((Outcome .tells) v-outcome _ is-w-call))
           refl $
           drop ! $ split ! $ move ! (1 ∷ []) $ split ! $ move ! (1 ∷ []) $ drop ! $ lft-end ! tt $
           move ! (0 ∷ 3 ∷ 2 ∷ []) $
@@ -384,14 +402,14 @@ module _ (Shape Outcome Reply : Value) where
           drop ! $ drop ! $ split ! $ move ! (1 ∷ []) $
           rewrite ! 0 (λ (r : (denotes Reply)). ‵ ((rowOf Reply) .own r (w-reply-of ∷ []))) (e-reply-of) refl $
           peeks ! (rowOf Reply) (Is (rowOf Reply)) (shows 𝓤 H A (rowOf Reply)) v-result (w-reply-of ∷ []) (λ is-w-reply-of.
-          land ! (from ! (stop !)) (init ! 20 refl ((Reply .typed 𝓤 H A W) v-result _ is-w-reply-of .0)) $
-          rewrite ! 20 (λ (u : Val). ‵ (fat fullShare (mirOf Reply) l₀ 0 u)) (ap only ((Reply .tells) v-result _ is-w-reply-of))
+          land ! (from ! (stop !)) (init ! 22 refl ((Reply .typed 𝓤 H A W) v-result _ is-w-reply-of .0)) $
+          rewrite ! 22 (λ (u : Val). ‵ (fat fullShare (mirOf Reply) l₀ 0 u)) (ap only ((Reply .tells) v-result _ is-w-reply-of))
           refl $
-          drop ! $ drop ! $ returns ! (look ! 18 refl) $ leave ! 18 refl refl $ leave ! 16 refl refl $
-          leave ! 14 refl refl $ leave ! 12 refl refl $ leave ! 10 refl refl $ leave ! 8 refl refl $
-          leave ! 6 refl refl $ leave ! 4 refl refl $ free0 ! $ move ! (3 ∷ 2 ∷ 0 ∷ 1 ∷ []) $
+          drop ! $ drop ! $ returns ! (look ! 20 refl) $ leave ! 20 refl refl $ leave ! 18 refl refl $
+          leave ! 16 refl refl $ leave ! 14 refl refl $ leave ! 12 refl refl $ leave ! 10 refl refl $
+          leave ! 8 refl refl $ leave ! 6 refl refl $ leave ! 4 refl refl $ free0 ! $ move ! (3 ∷ 2 ∷ 0 ∷ 1 ∷ []) $
           by ! (exits (spelled-v-result w-reply-of is-w-reply-of) (ap {B = ℕ} length (sym (e-call .1))
-          ∙ h-call-x-catalogue)))))))))))))))))))))))
+          ∙ h-call-x-catalogue))))))))))))))))))))))))
 
     module _ {M : Type 1} (𝓤 : URA M) (H : Heap 𝓤) (A : Atoms 𝓤) (W : Given 𝓤 H A) where
       walks : (𝓣 : Tables 𝓤 H) → Triple 𝓤 (𝓣 .C #call) (call-contract call-out call-x-catalogue 𝓤 H A)
@@ -399,29 +417,35 @@ module _ (Shape Outcome Reply : Value) where
           (WpFn 𝓤 H (𝓣 .C) (𝓣 .Λ) (function #call #reply-of)) (clauses 𝓤)
       walks 𝓣 known-call known-reply-of =
           walked 𝓤 H A ended stayed (clauses 𝓤) (WpFn 𝓤 H (𝓣 .C) (𝓣 .Λ) (function #call #reply-of))
-          (λ κs. ((valsOf Shape), (slice-vals, (slice-vals, ((uint-vals w32), tt)))))
+          (λ κs. ((uint-vals w32), ((valsOf Shape), (slice-vals, (slice-vals, ((uint-vals w32), tt))))))
           (λ κs. (
-            (Shape .tells),
+            (uint-tells w32),
             (
-              shr-slice-tells (named 0) (κs .0) u64,
-              (mut-slice-tells (named 1) (κs .1 .0) Entry′.the-row, ((uint-tells w32), tt)),
+              (Shape .tells),
+              (
+                shr-slice-tells (named 0) (κs .0) u64,
+                (mut-slice-tells (named 1) (κs .1 .0) Entry′.the-row, ((uint-tells w32), tt)),
+              ),
             ),
           ))
           (λ κs qs bounds a g are. via 𝓤 _ (fst∗ 𝓤 _ (emp 𝓤)) (walk 𝓤 H A W (κs .0) (κs .1 .0) (qs .0) (qs .1 .0) (a .0)
-          (a .1 .0) (a .1 .1 .0) (a .1 .1 .1 .0) (are .0) (are .1 .0 .0 .1) (are .1 .1 .0 .0 .1) (are .1 .1 .1 .0) 𝓣 known-call
-          known-reply-of))
+          (a .1 .0) (a .1 .1 .0) (a .1 .1 .1 .0) (a .1 .1 .1 .1 .0) (are .0) (are .1 .0) (are .1 .1 .0 .0 .1)
+          (are .1 .1 .1 .0 .0 .1) (are .1 .1 .1 .1 .0) 𝓣 known-call known-reply-of))
 
       pub meets : (𝓣 : Tables 𝓤 H) → Triple 𝓤 (𝓣 .C #call) (call-contract call-out call-x-catalogue 𝓤 H A)
           → Triple 𝓤 (𝓣 .C #reply-of) (reply-of-contract reply-of-out 𝓤 H A) → Meets 𝓤 H A signature
           (WpFn 𝓤 H (𝓣 .C) (𝓣 .Λ) (function #call #reply-of)) (closing 𝓤 H A ended (clauses 𝓤))
       meets 𝓣 known-call known-reply-of =
           walk-meets 𝓤 H A ended stayed W (
-            goes-none 𝓤 H A W 2 (λ _. (rowOf Shape)) yes (λ κs x f. refl),
+            goes-none 𝓤 H A W 2 (λ _. u32) yes (λ κs x f. refl),
             (
-              goes-none-slice 𝓤 H A W 2 (0 ∷ []) tt (plain (λ _. u64)) yes,
+              goes-none 𝓤 H A W 2 (λ _. (rowOf Shape)) yes (λ κs x f. refl),
               (
-                goes-slice 𝓤 H A W 2 1 tt (plain (λ _. Entry′.the-row)),
-                (goes-none 𝓤 H A W 2 (λ _. u32) yes (λ κs x f. refl), tt),
+                goes-none-slice 𝓤 H A W 2 (0 ∷ []) tt (plain (λ _. u64)) yes,
+                (
+                  goes-slice 𝓤 H A W 2 1 tt (plain (λ _. Entry′.the-row)),
+                  (goes-none 𝓤 H A W 2 (λ _. u32) yes (λ κs x f. refl), tt),
+                ),
               ),
             ),
           )

@@ -1,6 +1,6 @@
--- Written by tools/walks: every function (shape: Shape, map: &[u64], catalogue: &[Entry], card: &[u8], limits: &[u32; 8],
--- sheet: u32, count: u32) whose code is
---     let outcome: Outcome = call(shape, map, catalogue, card, limits, sheet, count);
+-- Written by tools/walks: every function (role: u32, shape: Shape, map: &[u64], catalogue: &[Entry], card: &[u8], limits:
+-- &[u32; 8], sheet: u32, count: u32) whose code is
+--     let outcome: Outcome = call(role, shape, map, catalogue, card, limits, sheet, count);
 --     reply_of(outcome)
 -- One walk serves every choice of the callees: it takes their names and what their contracts say. The types by value are any,
 -- too.
@@ -53,26 +53,29 @@ module _ (Shape Outcome Reply : Value) where
   signature = record {
     lifetimes = 4;
     outlives = [];
-    params = plain (λ _. (rowOf Shape)) ∷ shrSlice 0 tt (λ _. u64) ∷ shrSlice 1 tt (λ _. Entry′.the-row)
+    params = plain (λ _. u32) ∷ plain (λ _. (rowOf Shape)) ∷ shrSlice 0 tt (λ _. u64) ∷ shrSlice 1 tt (λ _. Entry′.the-row)
         ∷ shrSlice 2 tt (λ _. u8) ∷ shrRef 3 tt (λ _. (Array u32 8)) ∷ plain (λ _. u32) ∷ plain (λ _. u32) ∷ [];
     result = plain (λ _. (rowOf Reply));
   }
 
   abbrev ended : Ended
-  ended = record { signature = signature; kept = (yes, (yes, (yes, (yes, (yes, (yes, (yes, tt))))))) }
+  ended = record { signature = signature; kept = (yes, (yes, (yes, (yes, (yes, (yes, (yes, (yes, tt)))))))) }
 
   abbrev stayed : Stays (ended .signature .params) (ended .kept)
   stayed = (
-    stay-none (λ _. (rowOf Shape)) yes,
+    stay-none (λ _. u32) yes,
     (
-      stay-none-slice (0 ∷ []) tt (plain (λ _. u64)) yes,
+      stay-none (λ _. (rowOf Shape)) yes,
       (
-        stay-none-slice (1 ∷ []) tt (plain (λ _. Entry′.the-row)) yes,
+        stay-none-slice (0 ∷ []) tt (plain (λ _. u64)) yes,
         (
-          stay-none-slice (2 ∷ []) tt (plain (λ _. u8)) yes,
+          stay-none-slice (1 ∷ []) tt (plain (λ _. Entry′.the-row)) yes,
           (
-            stay-none-ref (3 ∷ []) tt (plain (λ _. (Array u32 8))) yes,
-            (stay-none (λ _. u32) yes, (stay-none (λ _. u32) yes, tt)),
+            stay-none-slice (2 ∷ []) tt (plain (λ _. u8)) yes,
+            (
+              stay-none-ref (3 ∷ []) tt (plain (λ _. (Array u32 8))) yes,
+              (stay-none (λ _. u32) yes, (stay-none (λ _. u32) yes, tt)),
+            ),
           ),
         ),
       ),
@@ -84,14 +87,15 @@ module _ (Shape Outcome Reply : Value) where
   function #call #reply-of = record {
     lifetimes = 4;
     outlives = [];
-    params = 7;
-    locals = local (mirOf Reply) valueLocal ∷ local (mirOf Shape) valueLocal ∷ local (sliceTy (tyRef (named 0) imm (tyInt w64)))
-        valueLocal ∷ local (sliceTy (tyRef (named 1) imm (pointee (Entry′.the-row .written)))) valueLocal
-        ∷ local (sliceTy (tyRef (named 2) imm (tyInt w8))) valueLocal ∷ local (tyRef (named 3) imm (tyArray (tyInt w32) 8))
-        valueLocal ∷ local (tyInt w32) valueLocal ∷ local (tyInt w32) valueLocal ∷ local (mirOf Outcome) valueLocal ∷ [];
+    params = 8;
+    locals = local (mirOf Reply) valueLocal ∷ local (tyInt w32) valueLocal ∷ local (mirOf Shape) valueLocal
+        ∷ local (sliceTy (tyRef (named 0) imm (tyInt w64))) valueLocal ∷ local (sliceTy
+        (tyRef (named 1) imm (pointee (Entry′.the-row .written)))) valueLocal ∷ local (sliceTy (tyRef (named 2) imm (tyInt w8)))
+        valueLocal ∷ local (tyRef (named 3) imm (tyArray (tyInt w32) 8)) valueLocal ∷ local (tyInt w32) valueLocal
+        ∷ local (tyInt w32) valueLocal ∷ local (mirOf Outcome) valueLocal ∷ [];
     body = seq (call #call (copy (place 1 []) ∷ copy (place 2 []) ∷ copy (place 3 []) ∷ copy (place 4 []) ∷ copy (place 5 [])
-        ∷ copy (place 6 []) ∷ copy (place 7 []) ∷ []) (place 8 []))
-        (seq (call #reply-of (copy (place 8 []) ∷ []) (place 0 [])) return);
+        ∷ copy (place 6 []) ∷ copy (place 7 []) ∷ copy (place 8 []) ∷ []) (place 9 []))
+        (seq (call #reply-of (copy (place 9 []) ∷ []) (place 0 [])) return);
   }
 
   -- ---- what `call` is, and what it ensures
@@ -99,28 +103,28 @@ module _ (Shape Outcome Reply : Value) where
   call-signature = record {
     lifetimes = 4;
     outlives = [];
-    params = plain (λ _. (rowOf Shape)) ∷ shrSlice 0 tt (λ _. u64) ∷ shrSlice 1 tt (λ _. Entry′.the-row)
+    params = plain (λ _. u32) ∷ plain (λ _. (rowOf Shape)) ∷ shrSlice 0 tt (λ _. u64) ∷ shrSlice 1 tt (λ _. Entry′.the-row)
         ∷ shrSlice 2 tt (λ _. u8) ∷ shrRef 3 tt (λ _. (Array u32 8)) ∷ plain (λ _. u32) ∷ plain (λ _. u32) ∷ [];
     result = plain (λ _. (rowOf Outcome));
   }
 
   abbrev call-ended : Ended
-  call-ended = record { signature = call-signature; kept = (yes, (yes, (yes, (yes, (yes, (yes, (yes, tt))))))) }
+  call-ended = record { signature = call-signature; kept = (yes, (yes, (yes, (yes, (yes, (yes, (yes, (yes, tt)))))))) }
 
   abbrev call-Model : Type 0 → Type 0
-  call-Model X = (denotes Shape) → List ℕ → List Entry → List ℕ → (List ℕ) → ℕ → ℕ → X
+  call-Model X = ℕ → (denotes Shape) → List ℕ → List Entry → List ℕ → (List ℕ) → ℕ → ℕ → X
 
   module _ (call-out : call-Model (denotes Outcome)) where
-    abbrev call-says : (denotes Shape) → List ℕ → List Entry → List ℕ → (List ℕ) → ℕ → ℕ → (denotes Outcome) → Type 0
-    call-says a0 a1 a2 a3 a4 a5 a6 r = r ≡ call-out a0 a1 a2 a3 a4 a5 a6
+    abbrev call-says : ℕ → (denotes Shape) → List ℕ → List Entry → List ℕ → (List ℕ) → ℕ → ℕ → (denotes Outcome) → Type 0
+    call-says a0 a1 a2 a3 a4 a5 a6 a7 r = r ≡ call-out a0 a1 a2 a3 a4 a5 a6 a7
 
     module _ {M : Type 1} (𝓤 : URA M) where
       abbrev call-clauses : Clauses 𝓤 call-ended
       call-clauses κs a = record {
         ghost = Unit {0};
         requires = λ _. emp 𝓤;
-        ensures = λ _ r e. fact 𝓤 (call-says (a .0) (now (a .1 .0)) (now (a .1 .1 .0)) (now (a .1 .1 .1 .0))
-            (now (a .1 .1 .1 .1 .0)) (a .1 .1 .1 .1 .1 .0) (a .1 .1 .1 .1 .1 .1 .0) r);
+        ensures = λ _ r e. fact 𝓤 (call-says (a .0) (a .1 .0) (now (a .1 .1 .0)) (now (a .1 .1 .1 .0)) (now (a .1 .1 .1 .1 .0))
+            (now (a .1 .1 .1 .1 .1 .0)) (a .1 .1 .1 .1 .1 .1 .0) (a .1 .1 .1 .1 .1 .1 .1 .0) r);
       }
 
       module _ (H : Heap 𝓤) (A : Atoms 𝓤) where
@@ -161,10 +165,10 @@ module _ (Shape Outcome Reply : Value) where
   module _ (#call #reply-of : Name) (call-out : call-Model (denotes Outcome)) (reply-of-out : reply-of-Model
       (denotes Reply)) where
     -- ---- what the chain gives, call by call
-    module _ (x-shape : (denotes Shape)) (x-map : List ℕ) (x-catalogue : List Entry) (x-card : List ℕ) (x-limits : (List ℕ))
-        (x-sheet : ℕ) (x-count : ℕ) where
+    module _ (x-role : ℕ) (x-shape : (denotes Shape)) (x-map : List ℕ) (x-catalogue : List Entry) (x-card : List ℕ)
+        (x-limits : (List ℕ)) (x-sheet : ℕ) (x-count : ℕ) where
       abbrev v-outcome-of : (denotes Outcome)
-      v-outcome-of = call-out x-shape x-map x-catalogue x-card x-limits x-sheet x-count
+      v-outcome-of = call-out x-role x-shape x-map x-catalogue x-card x-limits x-sheet x-count
 
       abbrev v-result-of : (denotes Reply)
       v-result-of = reply-of-out v-outcome-of
@@ -177,16 +181,23 @@ module _ (Shape Outcome Reply : Value) where
       clauses κs a = record {
         ghost = Unit {0};
         requires = λ _. emp 𝓤;
-        ensures = λ _ r e. fact 𝓤 (Says (a .0) (now (a .1 .0)) (now (a .1 .1 .0)) (now (a .1 .1 .1 .0)) (now (a .1 .1 .1 .1 .0))
-            (a .1 .1 .1 .1 .1 .0) (a .1 .1 .1 .1 .1 .1 .0) r);
+        ensures = λ _ r e. fact 𝓤 (Says (a .0) (a .1 .0) (now (a .1 .1 .0)) (now (a .1 .1 .1 .0)) (now (a .1 .1 .1 .1 .0))
+            (now (a .1 .1 .1 .1 .1 .0)) (a .1 .1 .1 .1 .1 .1 .0) (a .1 .1 .1 .1 .1 .1 .1 .0) r);
       }
 
     module _ {M : Type 1} (𝓤 : URA M) (H : Heap 𝓤) (A : Atoms 𝓤) (W : Given 𝓤 H A) (κ₀ κ₁ κ₂ κ₃ : Lft) (q₀ q₁ q₂ q₃ : Share)
-        (x-shape : (denotes Shape)) (x-map : RefT (List ℕ)) (x-catalogue : RefT (List Entry)) (x-card : RefT (List ℕ))
-        (x-limits : RefT (List ℕ)) (x-sheet : ℕ) (x-count : ℕ)
-        (is-x-shape : Is (rowOf Shape) x-shape ((valsOf Shape) x-shape)) (room-x-map : Room u64 (length (now x-map)))
-        (room-x-catalogue : Room Entry′.the-row (length (now x-catalogue))) (room-x-card : Room u8 (length (now x-card)))
-        (is-x-sheet : Is u32 x-sheet ((uint-vals w32) x-sheet)) (is-x-count : Is u32 x-count ((uint-vals w32) x-count)) where
+        (x-role : ℕ) (x-shape : (denotes Shape)) (x-map : RefT (List ℕ)) (x-catalogue : RefT (List Entry))
+        (x-card : RefT (List ℕ)) (x-limits : RefT (List ℕ)) (x-sheet : ℕ) (x-count : ℕ)
+        (is-x-role : Is u32 x-role ((uint-vals w32) x-role)) (is-x-shape : Is (rowOf Shape) x-shape ((valsOf Shape) x-shape))
+        (room-x-map : Room u64 (length (now x-map))) (room-x-catalogue : Room Entry′.the-row (length (now x-catalogue)))
+        (room-x-card : Room u8 (length (now x-card))) (is-x-sheet : Is u32 x-sheet ((uint-vals w32) x-sheet))
+        (is-x-count : Is u32 x-count ((uint-vals w32) x-count)) where
+      abbrev m-x-role : Val
+      m-x-role = only ((uint-vals w32) x-role)
+
+      typed-x-role : Holds (hasTy (tyInt w32) m-x-role) × WT m-x-role
+      typed-x-role = (uint-lawful 𝓤 H A W w32 .typed) x-role _ is-x-role .0
+
       abbrev m-x-shape : Val
       m-x-shape = only ((valsOf Shape) x-shape)
 
@@ -226,14 +237,18 @@ module _ (Shape Outcome Reply : Value) where
       typed-x-count : Holds (hasTy (tyInt w32) m-x-count) × WT m-x-count
       typed-x-count = (uint-lawful 𝓤 H A W w32 .typed) x-count _ is-x-count .0
 
-      abbrev args : (denotes Shape) × (RefT (List ℕ) × (RefT (List Entry) × (RefT (List ℕ)
-          × (RefT (List ℕ) × (ℕ × (ℕ × Unit {0}))))))
-      args = (x-shape, (x-map, (x-catalogue, (x-card, (x-limits, (x-sheet, (x-count, tt)))))))
+      abbrev args : ℕ × ((denotes Shape) × (RefT (List ℕ) × (RefT (List Entry) × (RefT (List ℕ)
+          × (RefT (List ℕ) × (ℕ × (ℕ × Unit {0})))))))
+      args = (x-role, (x-shape, (x-map, (x-catalogue, (x-card, (x-limits, (x-sheet, (x-count, tt))))))))
 
-      abbrev vals : List Val × (List Val × (List Val × (List Val × (List Val × (List Val × (List Val × Unit {0}))))))
+      abbrev vals : List Val × (List Val × (List Val × (List Val × (List Val × (List Val
+          × (List Val × (List Val × Unit {0})))))))
       vals = (
-        m-x-shape ∷ [],
-        (s-x-map ∷ [], (s-x-catalogue ∷ [], (s-x-card ∷ [], (s-x-limits ∷ [], (m-x-sheet ∷ [], (m-x-count ∷ [], tt)))))),
+        m-x-role ∷ [],
+        (
+          m-x-shape ∷ [],
+          (s-x-map ∷ [], (s-x-catalogue ∷ [], (s-x-card ∷ [], (s-x-limits ∷ [], (m-x-sheet ∷ [], (m-x-count ∷ [], tt)))))),
+        ),
       )
 
       abbrev bound : walkOf 𝓤 H A ended stayed (clauses 𝓤) .Ghost
@@ -243,10 +258,10 @@ module _ (Shape Outcome Reply : Value) where
       Post = walkOf 𝓤 H A ended stayed (clauses 𝓤) .post bound
 
       abbrev v-outcome : (denotes Outcome)
-      v-outcome = v-outcome-of x-shape (now x-map) (now x-catalogue) (now x-card) (now x-limits) x-sheet x-count
+      v-outcome = v-outcome-of x-role x-shape (now x-map) (now x-catalogue) (now x-card) (now x-limits) x-sheet x-count
 
       abbrev v-result : (denotes Reply)
-      v-result = v-result-of x-shape (now x-map) (now x-catalogue) (now x-card) (now x-limits) x-sheet x-count
+      v-result = v-result-of x-role x-shape (now x-map) (now x-catalogue) (now x-card) (now x-limits) x-sheet x-count
 
       abbrev m-v-outcome : Val
       m-v-outcome = only ((valsOf Outcome) v-outcome)
@@ -261,9 +276,9 @@ module _ (Shape Outcome Reply : Value) where
       spelled-v-result w is = subst (λ (vs : List Val). Is (rowOf Reply) v-result vs) ((Reply .tells) v-result _ is) is
 
       -- ---- the caller has what `call` asks
-      abbrev call-args : (denotes Shape) × (RefT (List ℕ) × (RefT (List Entry) × (RefT (List ℕ)
-          × (RefT (List ℕ) × (ℕ × (ℕ × Unit {0}))))))
-      call-args = (x-shape, (x-map, (x-catalogue, (x-card, (x-limits, (x-sheet, (x-count, tt)))))))
+      abbrev call-args : ℕ × ((denotes Shape) × (RefT (List ℕ) × (RefT (List Entry) × (RefT (List ℕ)
+          × (RefT (List ℕ) × (ℕ × (ℕ × Unit {0})))))))
+      call-args = (x-role, (x-shape, (x-map, (x-catalogue, (x-card, (x-limits, (x-sheet, (x-count, tt))))))))
 
       abbrev to-call : (call-contract call-out 𝓤 H A) .Ghost
       to-call = (
@@ -273,8 +288,11 @@ module _ (Shape Outcome Reply : Value) where
           tt,
           call-args,
           (
-            m-x-shape ∷ [],
-            (s-x-map ∷ [], (s-x-catalogue ∷ [], (s-x-card ∷ [], (s-x-limits ∷ [], (m-x-sheet ∷ [], (m-x-count ∷ [], tt)))))),
+            m-x-role ∷ [],
+            (
+              m-x-shape ∷ [],
+              (s-x-map ∷ [], (s-x-catalogue ∷ [], (s-x-card ∷ [], (s-x-limits ∷ [], (m-x-sheet ∷ [], (m-x-count ∷ [], tt)))))),
+            ),
           ),
         ),
         tt,
@@ -296,7 +314,8 @@ module _ (Shape Outcome Reply : Value) where
           owned ! u32 (Is u32) (uint-makes 𝓤 H A W w32) x-sheet _ is-x-sheet $ fjoin ! $ move ! (5 ∷ 0 ∷ []) $
           fjoin ! $ move ! (4 ∷ 0 ∷ []) $ fjoin ! $ move ! (3 ∷ 0 ∷ []) $ fjoin ! $ move ! (2 ∷ 0 ∷ []) $ fjoin ! $
           owned ! (rowOf Shape) (Is (rowOf Shape)) (Shape .makes 𝓤 H A) x-shape _ is-x-shape $ fjoin ! $
-          move ! (1 ∷ 0 ∷ []) $ join ! $ frame ! $ done !
+          owned ! u32 (Is u32) (uint-makes 𝓤 H A W w32) x-role _ is-x-role $ fjoin ! $ move ! (1 ∷ 0 ∷ []) $ join ! $
+          frame ! $ done !
 
       -- ---- the caller has what `reply-of` asks
       abbrev reply-of-args : (denotes Outcome) × Unit {0}
@@ -324,39 +343,41 @@ module _ (Shape Outcome Reply : Value) where
           ∷ ‵ (ShrSlice (named 2) κ₂ u8 .own x-card (s-x-card ∷ [])) ∷ ‵ (flft κ₂ q₂) ∷ ‵
           (ShrRef (named 3) κ₃ (Array u32 8) .own x-limits (s-x-limits ∷ [])) ∷ ‵ (flft κ₃ q₃) ∷ []) ∵
           suffices ! _ (ends-at 𝓤 H A ended stayed (clauses 𝓤) W bound m-v-result v-result
-          (tt, (tt, (tt, (tt, (tt, (tt, (tt, tt))))))) (tt, (tt, (tt, (tt, (tt, (tt, (tt, tt)))))))) $
+          (tt, (tt, (tt, (tt, (tt, (tt, (tt, (tt, tt)))))))) (tt, (tt, (tt, (tt, (tt, (tt, (tt, (tt, tt))))))))) $
           says ! refl $ nothing ! $ move ! (8 ∷ 0 ∷ []) $ join ! $ move ! (6 ∷ 0 ∷ []) $ join ! $ move ! (4 ∷ 0 ∷ []) $
           join ! $ move ! (2 ∷ 0 ∷ []) $ join ! $ frame ! $ nothing ! $
           owned ! u32 (Is u32) (uint-makes 𝓤 H A W w32) x-count _ is-x-count $ fjoin ! $
           owned ! u32 (Is u32) (uint-makes 𝓤 H A W w32) x-sheet _ is-x-sheet $ fjoin ! $ move ! (4 ∷ 0 ∷ []) $
           fjoin ! $ move ! (3 ∷ 0 ∷ []) $ fjoin ! $ move ! (2 ∷ 0 ∷ []) $ fjoin ! $ move ! (1 ∷ 0 ∷ []) $ fjoin ! $
           owned ! (rowOf Shape) (Is (rowOf Shape)) (Shape .makes 𝓤 H A) x-shape _ is-x-shape $ fjoin ! $
+          owned ! u32 (Is u32) (uint-makes 𝓤 H A W w32) x-role _ is-x-role $ fjoin ! $
           owned ! (rowOf Reply) (Is (rowOf Reply)) (Reply .makes 𝓤 H A) v-result _ is $ move ! (1 ∷ 0 ∷ []) $ done !
 
       -- ---- the walk
       walk : (𝓣 : Tables 𝓤 H) → Triple 𝓤 (𝓣 .C #call) (call-contract call-out 𝓤 H A) → Triple 𝓤 (𝓣 .C #reply-of)
           (reply-of-contract reply-of-out 𝓤 H A) → ent 𝓤 (onEntry 𝓤 H A signature (κ₀, (κ₁, (κ₂, (κ₃, tt))))
           (q₀, (q₁, (q₂, (q₃, tt)))) args vals)
-          (WpFn 𝓤 H (𝓣 .C) (𝓣 .Λ) (function #call #reply-of) (m-x-shape ∷ s-x-map ∷ s-x-catalogue ∷ s-x-card ∷ s-x-limits
-          ∷ m-x-sheet ∷ m-x-count ∷ []) Post)
+          (WpFn 𝓤 H (𝓣 .C) (𝓣 .Λ) (function #call #reply-of) (m-x-role ∷ m-x-shape ∷ s-x-map ∷ s-x-catalogue ∷ s-x-card
+          ∷ s-x-limits ∷ m-x-sheet ∷ m-x-count ∷ []) Post)
       walk 𝓣 known-call known-reply-of =
           qed W ((‵ (flft κ₀ q₀) ⊛ ‵ (flft κ₁ q₁) ⊛ ‵ (flft κ₂ q₂) ⊛ ‵ (flft κ₃ q₃) ⊛ ‵ ftrue)
-          ∷ ‵ (owns ((rowOf Shape) ∷ ShrSlice (named 0) κ₀ u64 ∷ ShrSlice (named 1) κ₁ Entry′.the-row ∷ ShrSlice (named 2) κ₂ u8
-          ∷ ShrRef (named 3) κ₃ (Array u32 8) ∷ u32 ∷ u32 ∷ []) args vals) ∷ []) ∵
-          enter ! (𝓣 .C) (𝓣 .Λ) (function #call #reply-of) (m-x-shape ∷ s-x-map ∷ s-x-catalogue ∷ s-x-card ∷ s-x-limits
-          ∷ m-x-sheet ∷ m-x-count ∷ []) _ $
+          ∷ ‵ (owns (u32 ∷ (rowOf Shape) ∷ ShrSlice (named 0) κ₀ u64 ∷ ShrSlice (named 1) κ₁ Entry′.the-row
+          ∷ ShrSlice (named 2) κ₂ u8 ∷ ShrRef (named 3) κ₃ (Array u32 8) ∷ u32 ∷ u32 ∷ []) args vals) ∷ []) ∵
+          enter ! (𝓣 .C) (𝓣 .Λ) (function #call #reply-of) (m-x-role ∷ m-x-shape ∷ s-x-map ∷ s-x-catalogue ∷ s-x-card
+          ∷ s-x-limits ∷ m-x-sheet ∷ m-x-count ∷ []) _ $
           alloc1 ! (λ l₀. alloc1 ! (λ l₁. alloc1 ! (λ l₂. alloc1 ! (λ l₃. alloc1 ! (λ l₄. alloc1 ! (λ l₅.
-          alloc1 ! (λ l₆. alloc1 ! (λ l₇. alloc1 ! (λ l₈. alloc0 ! $ params1 ! $
-          pass1 ! (init ! 14 refl typed-x-shape) $
+          alloc1 ! (λ l₆. alloc1 ! (λ l₇. alloc1 ! (λ l₈. alloc1 ! (λ l₉. alloc0 ! $ params1 ! $
+          pass1 ! (init ! 16 refl typed-x-role) $ pass1 ! (init ! 14 refl typed-x-shape) $
           pass1 ! (init ! 12 refl (tt, (tt, (record { fits = room-x-map .0 }, tt)))) $
           pass1 ! (init ! 10 refl (tt, (tt, (record { fits = room-x-catalogue .0 }, tt)))) $
           pass1 ! (init ! 8 refl (tt, (tt, (record { fits = room-x-card .0 }, tt)))) $
           pass1 ! (init ! 6 refl (tt, tt)) $ pass1 ! (init ! 4 refl typed-x-sheet) $
-          pass1 ! (init ! 2 refl typed-x-count) $ pass0 ! $ move ! (18 ∷ []) $ split ! $ move ! (1 ∷ []) $ split ! $
-          move ! (1 ∷ []) $ split ! $ move ! (1 ∷ []) $ split ! $ move ! (1 ∷ []) $ drop ! $ move ! (22 ∷ []) $
+          pass1 ! (init ! 2 refl typed-x-count) $ pass0 ! $ move ! (20 ∷ []) $ split ! $ move ! (1 ∷ []) $ split ! $
+          move ! (1 ∷ []) $ split ! $ move ! (1 ∷ []) $ split ! $ move ! (1 ∷ []) $ drop ! $ move ! (24 ∷ []) $
           fsplit ! $ move ! (1 ∷ []) $ fsplit ! $ move ! (1 ∷ []) $ fsplit ! $ move ! (1 ∷ []) $ fsplit ! $
           move ! (1 ∷ []) $ fsplit ! $ move ! (1 ∷ []) $ fsplit ! $ move ! (1 ∷ []) $ fsplit ! $ move ! (1 ∷ []) $
-          drop ! $ move ! (6 ∷ []) $ drop ! $ move ! (1 ∷ []) $ drop ! $ drop ! $
+          fsplit ! $ move ! (1 ∷ []) $ drop ! $ move ! (7 ∷ []) $ drop ! $ move ! (6 ∷ []) $ drop ! $ move ! (1 ∷ []) $
+          drop ! $ drop ! $
           -- call
           move ! (3 ∷ []) $
           use1 W (‵ (ShrSlice (named 0) κ₀ u64 .own x-map (s-x-map ∷ [])) ⊛ ‵ (ShrSlice (named 0) κ₀ u64 .own x-map
@@ -377,29 +398,31 @@ module _ (Shape Outcome Reply : Value) where
           move ! (3 ∷ 0 ∷ []) $ join ! $ move ! (2 ∷ 0 ∷ []) $ join ! $ move ! (1 ∷ 0 ∷ []) $ join ! $
           use1 W (raw ((call-contract call-out 𝓤 H A) .pre (to-call))) (goes-call) $
           calls-at ! (fmOf 𝓤 H (W .laws) 𝓣) (call-contract call-out 𝓤 H A) known-call (to-call)
-          (and-then ! (load ! (from ! (stop !)) (look ! 19 refl)) (and-then ! (load ! (from ! (stop !)) (look ! 17 refl))
-          (and-then ! (load ! (from ! (stop !)) (look ! 15 refl)) (and-then ! (load ! (from ! (stop !)) (look ! 13 refl))
-          (and-then ! (load ! (from ! (stop !)) (look ! 11 refl)) (and-then ! (load ! (from ! (stop !)) (look ! 9 refl))
-          (and-then ! (load ! (from ! (stop !)) (look ! 7 refl)) (no-more !)))))))) (λ w-call.
+          (and-then ! (load ! (from ! (stop !)) (look ! 21 refl)) (and-then ! (load ! (from ! (stop !)) (look ! 19 refl))
+          (and-then ! (load ! (from ! (stop !)) (look ! 17 refl)) (and-then ! (load ! (from ! (stop !)) (look ! 15 refl))
+          (and-then ! (load ! (from ! (stop !)) (look ! 13 refl)) (and-then ! (load ! (from ! (stop !)) (look ! 11 refl))
+          (and-then ! (load ! (from ! (stop !)) (look ! 9 refl)) (and-then ! (load ! (from ! (stop !)) (look ! 7 refl))
+          (no-more !))))))))) (λ w-call.
           use1 W (later (some (λ (r : (denotes Outcome)). ((‵ (flft κ₀ q₀) ⊛ ‵ (flft κ₁ q₁) ⊛ ‵ (flft κ₂ q₂) ⊛ ‵ (flft κ₃ q₃)
           ⊛ ‵ ftrue) ⊛ ‵ ((rowOf Outcome) .own r (w-call ∷ []))) ⊛ raw (ensured 𝓤 H A call-ended (call-clauses call-out 𝓤)
           (κ₀, (κ₁, (κ₂, (κ₃, tt)))) (call-args) tt r)))) (id⊢ 𝓤 _) $
           await ! tt $ pick ! (λ r-call. split ! $ move ! (1 ∷ []) $
           use1 W (some (λ (zs-call : Unit {0} × (Unit {0} × (Unit {0} × (Unit {0} × (Unit {0}
-          × (Unit {0} × (Unit {0} × Unit {0}))))))). ‵ (lasts call-ended (κ₀, (κ₁, (κ₂, (κ₃, tt)))) (call-args) zs-call)
-          ⊛ raw (fact 𝓤 (call-says call-out x-shape (now x-map) (now x-catalogue) (now x-card) (now x-limits) x-sheet x-count
-          r-call)))) (id⊢ 𝓤 _) $
+          × (Unit {0} × (Unit {0} × (Unit {0} × Unit {0})))))))). ‵ (lasts call-ended (κ₀, (κ₁, (κ₂, (κ₃, tt)))) (call-args)
+          zs-call) ⊛ raw (fact 𝓤 (call-says call-out x-role x-shape (now x-map) (now x-catalogue) (now x-card) (now x-limits)
+          x-sheet x-count r-call)))) (id⊢ 𝓤 _) $
           pick ! (λ zs-call. split ! $ move ! (1 ∷ []) $
-          heard ! (call-says call-out x-shape (now x-map) (now x-catalogue) (now x-card) (now x-limits) x-sheet x-count r-call)
-          (λ e-call.
+          heard ! (call-says call-out x-role x-shape (now x-map) (now x-catalogue) (now x-card) (now x-limits) x-sheet x-count
+          r-call) (λ e-call.
           fsplit ! $ move ! (1 ∷ []) $ fsplit ! $ move ! (1 ∷ []) $ fsplit ! $ move ! (1 ∷ []) $ fsplit ! $
           move ! (1 ∷ []) $ fsplit ! $ move ! (1 ∷ []) $ fsplit ! $ move ! (1 ∷ []) $ fsplit ! $ move ! (1 ∷ []) $
-          drop ! $ move ! (6 ∷ []) $ drop ! $ move ! (5 ∷ []) $ drop ! $ move ! (4 ∷ []) $ drop ! $ move ! (3 ∷ []) $
-          drop ! $ move ! (2 ∷ []) $ drop ! $ move ! (1 ∷ []) $ drop ! $ drop ! $ split ! $ move ! (1 ∷ []) $
+          fsplit ! $ move ! (1 ∷ []) $ drop ! $ move ! (7 ∷ []) $ drop ! $ move ! (6 ∷ []) $ drop ! $ move ! (5 ∷ []) $
+          drop ! $ move ! (4 ∷ []) $ drop ! $ move ! (3 ∷ []) $ drop ! $ move ! (2 ∷ []) $ drop ! $ move ! (1 ∷ []) $
+          drop ! $ drop ! $ split ! $ move ! (1 ∷ []) $
           rewrite ! 0 (λ (r : (denotes Outcome)). ‵ ((rowOf Outcome) .own r (w-call ∷ []))) (e-call) refl $
           peeks ! (rowOf Outcome) (Is (rowOf Outcome)) (shows 𝓤 H A (rowOf Outcome)) v-outcome (w-call ∷ []) (λ is-w-call.
           land ! (from ! (stop !)) (init ! 6 refl ((Outcome .typed 𝓤 H A W) v-outcome _ is-w-call .0)) $
-          rewrite ! 6 (λ (u : Val). ‵ (fat fullShare (mirOf Outcome) l₈ 0 u)) (ap only ((Outcome .tells) v-outcome _ is-w-call))
+          rewrite ! 6 (λ (u : Val). ‵ (fat fullShare (mirOf Outcome) l₉ 0 u)) (ap only ((Outcome .tells) v-outcome _ is-w-call))
           refl $
           drop ! $ split ! $ move ! (1 ∷ []) $ split ! $ move ! (1 ∷ []) $ split ! $ move ! (1 ∷ []) $ split ! $
           move ! (1 ∷ []) $ drop ! $
@@ -418,14 +441,14 @@ module _ (Shape Outcome Reply : Value) where
           drop ! $ drop ! $ split ! $ move ! (1 ∷ []) $
           rewrite ! 0 (λ (r : (denotes Reply)). ‵ ((rowOf Reply) .own r (w-reply-of ∷ []))) (e-reply-of) refl $
           peeks ! (rowOf Reply) (Is (rowOf Reply)) (shows 𝓤 H A (rowOf Reply)) v-result (w-reply-of ∷ []) (λ is-w-reply-of.
-          land ! (from ! (stop !)) (init ! 26 refl ((Reply .typed 𝓤 H A W) v-result _ is-w-reply-of .0)) $
-          rewrite ! 26 (λ (u : Val). ‵ (fat fullShare (mirOf Reply) l₀ 0 u)) (ap only ((Reply .tells) v-result _ is-w-reply-of))
+          land ! (from ! (stop !)) (init ! 28 refl ((Reply .typed 𝓤 H A W) v-result _ is-w-reply-of .0)) $
+          rewrite ! 28 (λ (u : Val). ‵ (fat fullShare (mirOf Reply) l₀ 0 u)) (ap only ((Reply .tells) v-result _ is-w-reply-of))
           refl $
-          drop ! $ drop ! $ returns ! (look ! 24 refl) $ leave ! 24 refl refl $ leave ! 22 refl refl $
-          leave ! 20 refl refl $ leave ! 18 refl refl $ leave ! 16 refl refl $ leave ! 14 refl refl $
-          leave ! 12 refl refl $ leave ! 10 refl refl $ leave ! 8 refl refl $ free0 ! $
+          drop ! $ drop ! $ returns ! (look ! 26 refl) $ leave ! 26 refl refl $ leave ! 24 refl refl $
+          leave ! 22 refl refl $ leave ! 20 refl refl $ leave ! 18 refl refl $ leave ! 16 refl refl $
+          leave ! 14 refl refl $ leave ! 12 refl refl $ leave ! 10 refl refl $ leave ! 8 refl refl $ free0 ! $
           move ! (7 ∷ 3 ∷ 6 ∷ 2 ∷ 5 ∷ 1 ∷ 4 ∷ 0 ∷ []) $
-          by ! (exits (spelled-v-result w-reply-of is-w-reply-of)))))))))))))))))))))
+          by ! (exits (spelled-v-result w-reply-of is-w-reply-of))))))))))))))))))))))
 
     module _ {M : Type 1} (𝓤 : URA M) (H : Heap 𝓤) (A : Atoms 𝓤) (W : Given 𝓤 H A) where
       walks : (𝓣 : Tables 𝓤 H) → Triple 𝓤 (𝓣 .C #call) (call-contract call-out 𝓤 H A) → Triple 𝓤 (𝓣 .C #reply-of)
@@ -434,44 +457,51 @@ module _ (Shape Outcome Reply : Value) where
       walks 𝓣 known-call known-reply-of =
           walked 𝓤 H A ended stayed (clauses 𝓤) (WpFn 𝓤 H (𝓣 .C) (𝓣 .Λ) (function #call #reply-of))
           (λ κs. (
-            (valsOf Shape),
-            (slice-vals, (slice-vals, (slice-vals, (ptr-vals, ((uint-vals w32), ((uint-vals w32), tt)))))),
+            (uint-vals w32),
+            ((valsOf Shape), (slice-vals, (slice-vals, (slice-vals, (ptr-vals, ((uint-vals w32), ((uint-vals w32), tt))))))),
           ))
           (λ κs. (
-            (Shape .tells),
+            (uint-tells w32),
             (
-              shr-slice-tells (named 0) (κs .0) u64,
+              (Shape .tells),
               (
-                shr-slice-tells (named 1) (κs .1 .0) Entry′.the-row,
+                shr-slice-tells (named 0) (κs .0) u64,
                 (
-                  shr-slice-tells (named 2) (κs .1 .1 .0) u8,
-                  (shr-tells (named 3) (κs .1 .1 .1 .0) (Array u32 8), ((uint-tells w32), ((uint-tells w32), tt))),
+                  shr-slice-tells (named 1) (κs .1 .0) Entry′.the-row,
+                  (
+                    shr-slice-tells (named 2) (κs .1 .1 .0) u8,
+                    (shr-tells (named 3) (κs .1 .1 .1 .0) (Array u32 8), ((uint-tells w32), ((uint-tells w32), tt))),
+                  ),
                 ),
               ),
             ),
           ))
           (λ κs qs bounds a g are. via 𝓤 _ (fst∗ 𝓤 _ (emp 𝓤)) (walk 𝓤 H A W (κs .0) (κs .1 .0) (κs .1 .1 .0) (κs .1 .1 .1 .0)
           (qs .0) (qs .1 .0) (qs .1 .1 .0) (qs .1 .1 .1 .0) (a .0) (a .1 .0) (a .1 .1 .0) (a .1 .1 .1 .0) (a .1 .1 .1 .1 .0)
-          (a .1 .1 .1 .1 .1 .0) (a .1 .1 .1 .1 .1 .1 .0) (are .0) (are .1 .0 .0 .1) (are .1 .1 .0 .0 .1) (are .1 .1 .1 .0 .0 .1)
-          (are .1 .1 .1 .1 .1 .0) (are .1 .1 .1 .1 .1 .1 .0) 𝓣 known-call known-reply-of))
+          (a .1 .1 .1 .1 .1 .0) (a .1 .1 .1 .1 .1 .1 .0) (a .1 .1 .1 .1 .1 .1 .1 .0) (are .0) (are .1 .0) (are .1 .1 .0 .0 .1)
+          (are .1 .1 .1 .0 .0 .1) (are .1 .1 .1 .1 .0 .0 .1) (are .1 .1 .1 .1 .1 .1 .0) (are .1 .1 .1 .1 .1 .1 .1 .0) 𝓣
+          known-call known-reply-of))
 
       pub meets : (𝓣 : Tables 𝓤 H) → Triple 𝓤 (𝓣 .C #call) (call-contract call-out 𝓤 H A)
           → Triple 𝓤 (𝓣 .C #reply-of) (reply-of-contract reply-of-out 𝓤 H A) → Meets 𝓤 H A signature
           (WpFn 𝓤 H (𝓣 .C) (𝓣 .Λ) (function #call #reply-of)) (closing 𝓤 H A ended (clauses 𝓤))
       meets 𝓣 known-call known-reply-of =
           walk-meets 𝓤 H A ended stayed W (
-            goes-none 𝓤 H A W 4 (λ _. (rowOf Shape)) yes (λ κs x f. refl),
+            goes-none 𝓤 H A W 4 (λ _. u32) yes (λ κs x f. refl),
             (
-              goes-none-slice 𝓤 H A W 4 (0 ∷ []) tt (plain (λ _. u64)) yes,
+              goes-none 𝓤 H A W 4 (λ _. (rowOf Shape)) yes (λ κs x f. refl),
               (
-                goes-none-slice 𝓤 H A W 4 (1 ∷ []) tt (plain (λ _. Entry′.the-row)) yes,
+                goes-none-slice 𝓤 H A W 4 (0 ∷ []) tt (plain (λ _. u64)) yes,
                 (
-                  goes-none-slice 𝓤 H A W 4 (2 ∷ []) tt (plain (λ _. u8)) yes,
+                  goes-none-slice 𝓤 H A W 4 (1 ∷ []) tt (plain (λ _. Entry′.the-row)) yes,
                   (
-                    goes-none-ref 𝓤 H A W 4 (3 ∷ []) tt (plain (λ _. (Array u32 8))) yes,
+                    goes-none-slice 𝓤 H A W 4 (2 ∷ []) tt (plain (λ _. u8)) yes,
                     (
-                      goes-none 𝓤 H A W 4 (λ _. u32) yes (λ κs x f. refl),
-                      (goes-none 𝓤 H A W 4 (λ _. u32) yes (λ κs x f. refl), tt),
+                      goes-none-ref 𝓤 H A W 4 (3 ∷ []) tt (plain (λ _. (Array u32 8))) yes,
+                      (
+                        goes-none 𝓤 H A W 4 (λ _. u32) yes (λ κs x f. refl),
+                        (goes-none 𝓤 H A W 4 (λ _. u32) yes (λ κs x f. refl), tt),
+                      ),
                     ),
                   ),
                 ),

@@ -1,5 +1,6 @@
--- Written by tools/walks: every function (shape: Shape, blocks: u32, map: &mut [u64], catalogue: &mut [Entry]) whose code is
---     let outcome: Outcome = call(shape, blocks, map, catalogue);
+-- Written by tools/walks: every function (role: u32, shape: Shape, blocks: u32, map: &mut [u64], catalogue: &mut [Entry]) whose
+-- code is
+--     let outcome: Outcome = call(role, shape, blocks, map, catalogue);
 --     reply_of(outcome)
 -- One walk serves every choice of the callees: it takes their names and what their contracts say. The types by value are any,
 -- too.
@@ -55,20 +56,23 @@ module _ (Shape Outcome Reply : Value) where
   signature = record {
     lifetimes = 2;
     outlives = [];
-    params = plain (λ _. (rowOf Shape)) ∷ plain (λ _. u32) ∷ mutSlice 0 tt (λ _. u64) ∷ mutSlice 1 tt (λ _. Entry′.the-row)
-        ∷ [];
+    params = plain (λ _. u32) ∷ plain (λ _. (rowOf Shape)) ∷ plain (λ _. u32) ∷ mutSlice 0 tt (λ _. u64)
+        ∷ mutSlice 1 tt (λ _. Entry′.the-row) ∷ [];
     result = plain (λ _. (rowOf Reply));
   }
 
   abbrev ended : Ended
-  ended = record { signature = signature; kept = (yes, (yes, (yes, (yes, tt)))) }
+  ended = record { signature = signature; kept = (yes, (yes, (yes, (yes, (yes, tt))))) }
 
   abbrev stayed : Stays (ended .signature .params) (ended .kept)
   stayed = (
-    stay-none (λ _. (rowOf Shape)) yes,
+    stay-none (λ _. u32) yes,
     (
-      stay-none (λ _. u32) yes,
-      (stay-slice (0 ∷ []) tt (plain (λ _. u64)), (stay-slice (1 ∷ []) tt (plain (λ _. Entry′.the-row)), tt)),
+      stay-none (λ _. (rowOf Shape)) yes,
+      (
+        stay-none (λ _. u32) yes,
+        (stay-slice (0 ∷ []) tt (plain (λ _. u64)), (stay-slice (1 ∷ []) tt (plain (λ _. Entry′.the-row)), tt)),
+      ),
     ),
   )
 
@@ -77,19 +81,21 @@ module _ (Shape Outcome Reply : Value) where
   function #call #reply-of = record {
     lifetimes = 2;
     outlives = [];
-    params = 4;
-    locals = local (mirOf Reply) valueLocal ∷ local (mirOf Shape) valueLocal ∷ local (tyInt w32) valueLocal
-        ∷ local (sliceTy (tyRef (named 0) mut (tyInt w64))) valueLocal ∷ local (sliceTy
-        (tyRef (named 1) mut (pointee (Entry′.the-row .written)))) valueLocal ∷ local (mirOf Outcome) valueLocal
-        ∷ local (tyRef erased mut (tyInt w64)) valueLocal ∷ local (sliceTy (tyRef erased mut (tyInt w64))) valueLocal
-        ∷ local (tyRef erased mut (pointee (Entry′.the-row .written))) valueLocal ∷ local
-        (sliceTy (tyRef erased mut (pointee (Entry′.the-row .written)))) valueLocal ∷ [];
-    body = seq (assign (place 6 []) (addrOf (place 3 (field 0 ∷ deref (tyInt w64) ∷ []))))
-        (seq (assign (place 7 []) (aggregate (copy (place 6 []) ∷ copy (place 3 (field 1 ∷ [])) ∷ [])))
-        (seq (assign (place 8 []) (addrOf (place 4 (field 0 ∷ deref Entry″.mir ∷ []))))
-        (seq (assign (place 9 []) (aggregate (copy (place 8 []) ∷ copy (place 4 (field 1 ∷ [])) ∷ [])))
-        (seq (call #call (copy (place 1 []) ∷ copy (place 2 []) ∷ copy (place 7 []) ∷ copy (place 9 []) ∷ []) (place 5 []))
-        (seq (call #reply-of (copy (place 5 []) ∷ []) (place 0 [])) return)))));
+    params = 5;
+    locals = local (mirOf Reply) valueLocal ∷ local (tyInt w32) valueLocal ∷ local (mirOf Shape) valueLocal
+        ∷ local (tyInt w32) valueLocal ∷ local (sliceTy (tyRef (named 0) mut (tyInt w64))) valueLocal
+        ∷ local (sliceTy (tyRef (named 1) mut (pointee (Entry′.the-row .written)))) valueLocal
+        ∷ local (mirOf Outcome) valueLocal ∷ local (tyRef erased mut (tyInt w64)) valueLocal
+        ∷ local (sliceTy (tyRef erased mut (tyInt w64))) valueLocal ∷ local (tyRef erased mut
+        (pointee (Entry′.the-row .written))) valueLocal ∷ local (sliceTy (tyRef erased mut (pointee (Entry′.the-row .written))))
+        valueLocal ∷ [];
+    body = seq (assign (place 7 []) (addrOf (place 4 (field 0 ∷ deref (tyInt w64) ∷ []))))
+        (seq (assign (place 8 []) (aggregate (copy (place 7 []) ∷ copy (place 4 (field 1 ∷ [])) ∷ [])))
+        (seq (assign (place 9 []) (addrOf (place 5 (field 0 ∷ deref Entry″.mir ∷ []))))
+        (seq (assign (place 10 []) (aggregate (copy (place 9 []) ∷ copy (place 5 (field 1 ∷ [])) ∷ [])))
+        (seq (call #call (copy (place 1 []) ∷ copy (place 2 []) ∷ copy (place 3 []) ∷ copy (place 8 []) ∷ copy (place 10 [])
+        ∷ []) (place 6 []))
+        (seq (call #reply-of (copy (place 6 []) ∷ []) (place 0 [])) return)))));
   }
 
   -- ---- what `call` is, and what it ensures
@@ -97,30 +103,30 @@ module _ (Shape Outcome Reply : Value) where
   call-signature = record {
     lifetimes = 2;
     outlives = [];
-    params = plain (λ _. (rowOf Shape)) ∷ plain (λ _. u32) ∷ mutSlice 0 tt (λ _. u64) ∷ mutSlice 1 tt (λ _. Entry′.the-row)
-        ∷ [];
+    params = plain (λ _. u32) ∷ plain (λ _. (rowOf Shape)) ∷ plain (λ _. u32) ∷ mutSlice 0 tt (λ _. u64)
+        ∷ mutSlice 1 tt (λ _. Entry′.the-row) ∷ [];
     result = plain (λ _. (rowOf Outcome));
   }
 
   abbrev call-ended : Ended
-  call-ended = record { signature = call-signature; kept = (yes, (yes, (yes, (yes, tt)))) }
+  call-ended = record { signature = call-signature; kept = (yes, (yes, (yes, (yes, (yes, tt))))) }
 
   abbrev call-Model : Type 0 → Type 0
-  call-Model X = (denotes Shape) → ℕ → List ℕ → List Entry → X
+  call-Model X = ℕ → (denotes Shape) → ℕ → List ℕ → List Entry → X
 
   module _ (call-out : call-Model (denotes Outcome)) (call-x-map : call-Model (List ℕ))
       (call-x-catalogue : call-Model (List Entry)) where
-    abbrev call-says : (denotes Shape) → ℕ → List ℕ → List Entry → (denotes Outcome) → List ℕ → List Entry → Type 0
-    call-says a0 a1 a2 a3 r b2 b3 = (r ≡ call-out a0 a1 a2 a3) × (b2 ≡ call-x-map a0 a1 a2 a3)
-        × (b3 ≡ call-x-catalogue a0 a1 a2 a3)
+    abbrev call-says : ℕ → (denotes Shape) → ℕ → List ℕ → List Entry → (denotes Outcome) → List ℕ → List Entry → Type 0
+    call-says a0 a1 a2 a3 a4 r b3 b4 = (r ≡ call-out a0 a1 a2 a3 a4) × (b3 ≡ call-x-map a0 a1 a2 a3 a4)
+        × (b4 ≡ call-x-catalogue a0 a1 a2 a3 a4)
 
     module _ {M : Type 1} (𝓤 : URA M) where
       abbrev call-clauses : Clauses 𝓤 call-ended
       call-clauses κs a = record {
         ghost = Unit {0};
         requires = λ _. emp 𝓤;
-        ensures = λ _ r e. fact 𝓤 (call-says (a .0) (a .1 .0) (now (a .1 .1 .0)) (now (a .1 .1 .1 .0)) r (now (e .1 .1 .0))
-            (now (e .1 .1 .1 .0)));
+        ensures = λ _ r e. fact 𝓤 (call-says (a .0) (a .1 .0) (a .1 .1 .0) (now (a .1 .1 .1 .0)) (now (a .1 .1 .1 .1 .0)) r
+            (now (e .1 .1 .1 .0)) (now (e .1 .1 .1 .1 .0)));
       }
 
       module _ (H : Heap 𝓤) (A : Atoms 𝓤) where
@@ -161,15 +167,15 @@ module _ (Shape Outcome Reply : Value) where
   module _ (#call #reply-of : Name) (call-out : call-Model (denotes Outcome)) (call-x-map : call-Model (List ℕ))
       (call-x-catalogue : call-Model (List Entry)) (reply-of-out : reply-of-Model (denotes Reply)) where
     -- ---- what the chain gives, call by call
-    module _ (x-shape : (denotes Shape)) (x-blocks : ℕ) (x-map : List ℕ) (x-catalogue : List Entry) where
+    module _ (x-role : ℕ) (x-shape : (denotes Shape)) (x-blocks : ℕ) (x-map : List ℕ) (x-catalogue : List Entry) where
       abbrev v-outcome-of : (denotes Outcome)
-      v-outcome-of = call-out x-shape x-blocks x-map x-catalogue
+      v-outcome-of = call-out x-role x-shape x-blocks x-map x-catalogue
 
       abbrev z-call-x-map-of : List ℕ
-      z-call-x-map-of = call-x-map x-shape x-blocks x-map x-catalogue
+      z-call-x-map-of = call-x-map x-role x-shape x-blocks x-map x-catalogue
 
       abbrev z-call-x-catalogue-of : List Entry
-      z-call-x-catalogue-of = call-x-catalogue x-shape x-blocks x-map x-catalogue
+      z-call-x-catalogue-of = call-x-catalogue x-role x-shape x-blocks x-map x-catalogue
 
       abbrev v-result-of : (denotes Reply)
       v-result-of = reply-of-out v-outcome-of
@@ -182,15 +188,21 @@ module _ (Shape Outcome Reply : Value) where
       clauses κs a = record {
         ghost = Unit {0};
         requires = λ _. emp 𝓤;
-        ensures = λ _ r e. fact 𝓤 (Says (a .0) (a .1 .0) (now (a .1 .1 .0)) (now (a .1 .1 .1 .0)) r (now (e .1 .1 .0))
-            (now (e .1 .1 .1 .0)));
+        ensures = λ _ r e. fact 𝓤 (Says (a .0) (a .1 .0) (a .1 .1 .0) (now (a .1 .1 .1 .0)) (now (a .1 .1 .1 .1 .0)) r
+            (now (e .1 .1 .1 .0)) (now (e .1 .1 .1 .1 .0)));
       }
 
     module _ {M : Type 1} (𝓤 : URA M) (H : Heap 𝓤) (A : Atoms 𝓤) (W : Given 𝓤 H A) (κ₀ κ₁ : Lft) (q₀ q₁ : Share)
-        (x-shape : (denotes Shape)) (x-blocks : ℕ) (x-map : RefT (List ℕ)) (x-catalogue : RefT (List Entry))
-        (is-x-shape : Is (rowOf Shape) x-shape ((valsOf Shape) x-shape)) (is-x-blocks : Is u32 x-blocks
-        ((uint-vals w32) x-blocks)) (room-x-map : Room u64 (length (now x-map))) (room-x-catalogue : Room Entry′.the-row
-        (length (now x-catalogue))) where
+        (x-role : ℕ) (x-shape : (denotes Shape)) (x-blocks : ℕ) (x-map : RefT (List ℕ)) (x-catalogue : RefT (List Entry))
+        (is-x-role : Is u32 x-role ((uint-vals w32) x-role)) (is-x-shape : Is (rowOf Shape) x-shape ((valsOf Shape) x-shape))
+        (is-x-blocks : Is u32 x-blocks ((uint-vals w32) x-blocks)) (room-x-map : Room u64 (length (now x-map)))
+        (room-x-catalogue : Room Entry′.the-row (length (now x-catalogue))) where
+      abbrev m-x-role : Val
+      m-x-role = only ((uint-vals w32) x-role)
+
+      typed-x-role : Holds (hasTy (tyInt w32) m-x-role) × WT m-x-role
+      typed-x-role = (uint-lawful 𝓤 H A W w32 .typed) x-role _ is-x-role .0
+
       abbrev m-x-shape : Val
       m-x-shape = only ((valsOf Shape) x-shape)
 
@@ -215,11 +227,11 @@ module _ (Shape Outcome Reply : Value) where
       abbrev at-x-catalogue : GName → List Entry → RefT (List Entry)
       at-x-catalogue δ l = record { ptr = x-catalogue .ptr; name = δ; now = l }
 
-      abbrev args : (denotes Shape) × (ℕ × (RefT (List ℕ) × (RefT (List Entry) × Unit {0})))
-      args = (x-shape, (x-blocks, (x-map, (x-catalogue, tt))))
+      abbrev args : ℕ × ((denotes Shape) × (ℕ × (RefT (List ℕ) × (RefT (List Entry) × Unit {0}))))
+      args = (x-role, (x-shape, (x-blocks, (x-map, (x-catalogue, tt)))))
 
-      abbrev vals : List Val × (List Val × (List Val × (List Val × Unit {0})))
-      vals = (m-x-shape ∷ [], (m-x-blocks ∷ [], (s-x-map ∷ [], (s-x-catalogue ∷ [], tt))))
+      abbrev vals : List Val × (List Val × (List Val × (List Val × (List Val × Unit {0}))))
+      vals = (m-x-role ∷ [], (m-x-shape ∷ [], (m-x-blocks ∷ [], (s-x-map ∷ [], (s-x-catalogue ∷ [], tt)))))
 
       abbrev bound : walkOf 𝓤 H A ended stayed (clauses 𝓤) .Ghost
       bound = (((κ₀, (κ₁, tt)), (q₀, (q₁, tt)), tt, args, vals), tt)
@@ -228,16 +240,16 @@ module _ (Shape Outcome Reply : Value) where
       Post = walkOf 𝓤 H A ended stayed (clauses 𝓤) .post bound
 
       abbrev v-outcome : (denotes Outcome)
-      v-outcome = v-outcome-of x-shape x-blocks (now x-map) (now x-catalogue)
+      v-outcome = v-outcome-of x-role x-shape x-blocks (now x-map) (now x-catalogue)
 
       abbrev z-call-x-map : List ℕ
-      z-call-x-map = z-call-x-map-of x-shape x-blocks (now x-map) (now x-catalogue)
+      z-call-x-map = z-call-x-map-of x-role x-shape x-blocks (now x-map) (now x-catalogue)
 
       abbrev z-call-x-catalogue : List Entry
-      z-call-x-catalogue = z-call-x-catalogue-of x-shape x-blocks (now x-map) (now x-catalogue)
+      z-call-x-catalogue = z-call-x-catalogue-of x-role x-shape x-blocks (now x-map) (now x-catalogue)
 
       abbrev v-result : (denotes Reply)
-      v-result = v-result-of x-shape x-blocks (now x-map) (now x-catalogue)
+      v-result = v-result-of x-role x-shape x-blocks (now x-map) (now x-catalogue)
 
       abbrev m-v-outcome : Val
       m-v-outcome = only ((valsOf Outcome) v-outcome)
@@ -252,9 +264,10 @@ module _ (Shape Outcome Reply : Value) where
       spelled-v-result w is = subst (λ (vs : List Val). Is (rowOf Reply) v-result vs) ((Reply .tells) v-result _ is) is
 
       -- ---- the caller has what `call` asks
-      abbrev call-args : (δ₀-call δ₁-call : GName) → (denotes Shape) × (ℕ × (RefT (List ℕ) × (RefT (List Entry) × Unit {0})))
+      abbrev call-args : (δ₀-call δ₁-call : GName) → ℕ × ((denotes Shape) × (ℕ × (RefT (List ℕ)
+          × (RefT (List Entry) × Unit {0}))))
       call-args δ₀-call δ₁-call =
-          (x-shape, (x-blocks, (at-x-map δ₀-call (now x-map), (at-x-catalogue δ₁-call (now x-catalogue), tt))))
+          (x-role, (x-shape, (x-blocks, (at-x-map δ₀-call (now x-map), (at-x-catalogue δ₁-call (now x-catalogue), tt)))))
 
       abbrev to-call : (ν₀-call ν₁-call : ℕ) (δ₀-call δ₁-call : GName) → (call-contract call-out call-x-map call-x-catalogue 𝓤 H
           A) .Ghost
@@ -264,7 +277,7 @@ module _ (Shape Outcome Reply : Value) where
           (fullShare, (fullShare, tt)),
           tt,
           call-args δ₀-call δ₁-call,
-          (m-x-shape ∷ [], (m-x-blocks ∷ [], (s-x-map ∷ [], (s-x-catalogue ∷ [], tt)))),
+          (m-x-role ∷ [], (m-x-shape ∷ [], (m-x-blocks ∷ [], (s-x-map ∷ [], (s-x-catalogue ∷ [], tt))))),
         ),
         tt,
       )
@@ -283,7 +296,8 @@ module _ (Shape Outcome Reply : Value) where
           fjoin ! $ move ! (2 ∷ 0 ∷ []) $ fjoin ! $
           owned ! u32 (Is u32) (uint-makes 𝓤 H A W w32) x-blocks _ is-x-blocks $ fjoin ! $
           owned ! (rowOf Shape) (Is (rowOf Shape)) (Shape .makes 𝓤 H A) x-shape _ is-x-shape $ fjoin ! $
-          move ! (1 ∷ 0 ∷ []) $ join ! $ frame ! $ done !
+          owned ! u32 (Is u32) (uint-makes 𝓤 H A W w32) x-role _ is-x-role $ fjoin ! $ move ! (1 ∷ 0 ∷ []) $ join ! $
+          frame ! $ done !
 
       -- ---- the caller has what `reply-of` asks
       abbrev reply-of-args : (denotes Outcome) × Unit {0}
@@ -311,30 +325,35 @@ module _ (Shape Outcome Reply : Value) where
           ∷ ‵ (MutSlice (named 1) κ₁ Entry′.the-row .own (at-x-catalogue (x-catalogue .name) z-call-x-catalogue)
           (s-x-catalogue ∷ [])) ∷ ‵ (flft κ₁ q₁) ∷ []) ∵
           suffices ! _ (ends-at 𝓤 H A ended stayed (clauses 𝓤) W bound m-v-result v-result
-          (tt, (tt, (z-call-x-map, (z-call-x-catalogue, tt)))) (tt, (tt, (l-x-map, (l-x-catalogue, tt))))) $
+          (tt, (tt, (tt, (z-call-x-map, (z-call-x-catalogue, tt))))) (tt, (tt, (tt, (l-x-map, (l-x-catalogue, tt)))))) $
           says ! (refl, refl, refl) $ nothing ! $ move ! (4 ∷ 0 ∷ []) $ join ! $ move ! (2 ∷ 0 ∷ []) $ join ! $
           frame ! $ nothing ! $ move ! (2 ∷ 0 ∷ []) $ fjoin ! $ move ! (1 ∷ 0 ∷ []) $ fjoin ! $
           owned ! u32 (Is u32) (uint-makes 𝓤 H A W w32) x-blocks _ is-x-blocks $ fjoin ! $
           owned ! (rowOf Shape) (Is (rowOf Shape)) (Shape .makes 𝓤 H A) x-shape _ is-x-shape $ fjoin ! $
+          owned ! u32 (Is u32) (uint-makes 𝓤 H A W w32) x-role _ is-x-role $ fjoin ! $
           owned ! (rowOf Reply) (Is (rowOf Reply)) (Reply .makes 𝓤 H A) v-result _ is $ move ! (1 ∷ 0 ∷ []) $ done !
 
       -- ---- the walk
       walk : (𝓣 : Tables 𝓤 H) → Triple 𝓤 (𝓣 .C #call) (call-contract call-out call-x-map call-x-catalogue 𝓤 H A)
           → Triple 𝓤 (𝓣 .C #reply-of) (reply-of-contract reply-of-out 𝓤 H A) → ent 𝓤 (onEntry 𝓤 H A signature (κ₀, (κ₁, tt))
           (q₀, (q₁, tt)) args vals)
-          (WpFn 𝓤 H (𝓣 .C) (𝓣 .Λ) (function #call #reply-of) (m-x-shape ∷ m-x-blocks ∷ s-x-map ∷ s-x-catalogue ∷ []) Post)
+          (WpFn 𝓤 H (𝓣 .C) (𝓣 .Λ) (function #call #reply-of) (m-x-role ∷ m-x-shape ∷ m-x-blocks ∷ s-x-map ∷ s-x-catalogue ∷ [])
+          Post)
       walk 𝓣 known-call known-reply-of =
-          qed W ((‵ (flft κ₀ q₀) ⊛ ‵ (flft κ₁ q₁) ⊛ ‵ ftrue) ∷ ‵ (owns ((rowOf Shape) ∷ u32 ∷ MutSlice (named 0) κ₀ u64
+          qed W ((‵ (flft κ₀ q₀) ⊛ ‵ (flft κ₁ q₁) ⊛ ‵ ftrue) ∷ ‵ (owns (u32 ∷ (rowOf Shape) ∷ u32 ∷ MutSlice (named 0) κ₀ u64
           ∷ MutSlice (named 1) κ₁ Entry′.the-row ∷ []) args vals) ∷ []) ∵
-          enter ! (𝓣 .C) (𝓣 .Λ) (function #call #reply-of) (m-x-shape ∷ m-x-blocks ∷ s-x-map ∷ s-x-catalogue ∷ []) _ $
+          enter ! (𝓣 .C) (𝓣 .Λ) (function #call #reply-of) (m-x-role ∷ m-x-shape ∷ m-x-blocks ∷ s-x-map ∷ s-x-catalogue ∷ []) _
+          $
           alloc1 ! (λ l₀. alloc1 ! (λ l₁. alloc1 ! (λ l₂. alloc1 ! (λ l₃. alloc1 ! (λ l₄. alloc1 ! (λ l₅.
-          alloc1 ! (λ l₆. alloc1 ! (λ l₇. alloc1 ! (λ l₈. alloc1 ! (λ l₉. alloc0 ! $ params1 ! $
-          pass1 ! (init ! 16 refl typed-x-shape) $ pass1 ! (init ! 14 refl typed-x-blocks) $
+          alloc1 ! (λ l₆. alloc1 ! (λ l₇. alloc1 ! (λ l₈. alloc1 ! (λ l₉. alloc1 ! (λ l₁₀. alloc0 ! $ params1 ! $
+          pass1 ! (init ! 18 refl typed-x-role) $ pass1 ! (init ! 16 refl typed-x-shape) $
+          pass1 ! (init ! 14 refl typed-x-blocks) $
           pass1 ! (init ! 12 refl (tt, (tt, (record { fits = room-x-map .0 }, tt)))) $
           pass1 ! (init ! 10 refl (tt, (tt, (record { fits = room-x-catalogue .0 }, tt)))) $ pass0 ! $
-          move ! (20 ∷ []) $ split ! $ move ! (1 ∷ []) $ split ! $ move ! (1 ∷ []) $ drop ! $ move ! (22 ∷ []) $
+          move ! (22 ∷ []) $ split ! $ move ! (1 ∷ []) $ split ! $ move ! (1 ∷ []) $ drop ! $ move ! (24 ∷ []) $
           fsplit ! $ move ! (1 ∷ []) $ fsplit ! $ move ! (1 ∷ []) $ fsplit ! $ move ! (1 ∷ []) $ fsplit ! $
-          move ! (1 ∷ []) $ drop ! $ move ! (3 ∷ []) $ drop ! $ move ! (2 ∷ []) $ drop ! $
+          move ! (1 ∷ []) $ fsplit ! $ move ! (1 ∷ []) $ drop ! $ move ! (4 ∷ []) $ drop ! $ move ! (3 ∷ []) $ drop ! $
+          move ! (2 ∷ []) $ drop ! $
           -- call
           assigns ! (addr ! (from ! (fld ! refl (hop ! (look-in ! 16 (sub ! 0 refl (whole !))) (stop !))))) (from ! (stop !))
           (init ! 10 refl (tt, tt)) $
@@ -362,31 +381,33 @@ module _ (Shape Outcome Reply : Value) where
           use1 W (raw ((call-contract call-out call-x-map call-x-catalogue 𝓤 H A) .pre
           (to-call ν₀-call ν₁-call δ₀-call δ₁-call))) (goes-call ν₀-call ν₁-call δ₀-call δ₁-call) $
           calls-at ! (fmOf 𝓤 H (W .laws) 𝓣) (call-contract call-out call-x-map call-x-catalogue 𝓤 H A) known-call
-          (to-call ν₀-call ν₁-call δ₀-call δ₁-call) (and-then ! (load ! (from ! (stop !)) (look ! 19 refl))
-          (and-then ! (load ! (from ! (stop !)) (look ! 17 refl)) (and-then ! (load ! (from ! (stop !)) (look ! 7 refl))
-          (and-then ! (load ! (from ! (stop !)) (look ! 3 refl)) (no-more !))))) (λ w-call.
+          (to-call ν₀-call ν₁-call δ₀-call δ₁-call) (and-then ! (load ! (from ! (stop !)) (look ! 21 refl))
+          (and-then ! (load ! (from ! (stop !)) (look ! 19 refl)) (and-then ! (load ! (from ! (stop !)) (look ! 17 refl))
+          (and-then ! (load ! (from ! (stop !)) (look ! 7 refl)) (and-then ! (load ! (from ! (stop !)) (look ! 3 refl))
+          (no-more !)))))) (λ w-call.
           use1 W (later (some (λ (r : (denotes Outcome)). ((‵ (flft (ν₀-call ∷ []) fullShare)
           ⊛ ‵ (flft (ν₁-call ∷ []) fullShare) ⊛ ‵ ftrue) ⊛ ‵ ((rowOf Outcome) .own r (w-call ∷ [])))
           ⊛ raw (ensured 𝓤 H A call-ended (call-clauses call-out call-x-map call-x-catalogue 𝓤)
           (ν₀-call ∷ [], (ν₁-call ∷ [], tt)) (call-args δ₀-call δ₁-call) tt r)))) (id⊢ 𝓤 _) $
           await ! tt $ pick ! (λ r-call. split ! $ move ! (1 ∷ []) $
-          use1 W (some (λ (zs-call : Unit {0} × (Unit {0} × (List ℕ × (List Entry × Unit {0})))). ‵
+          use1 W (some (λ (zs-call : Unit {0} × (Unit {0} × (Unit {0} × (List ℕ × (List Entry × Unit {0}))))). ‵
           (lasts call-ended (ν₀-call ∷ [], (ν₁-call ∷ [], tt)) (call-args δ₀-call δ₁-call) zs-call)
-          ⊛ raw (fact 𝓤 (call-says call-out call-x-map call-x-catalogue x-shape x-blocks (now x-map) (now x-catalogue) r-call
-          (zs-call .1 .1 .0) (zs-call .1 .1 .1 .0))))) (id⊢ 𝓤 _) $
+          ⊛ raw (fact 𝓤 (call-says call-out call-x-map call-x-catalogue x-role x-shape x-blocks (now x-map) (now x-catalogue)
+          r-call (zs-call .1 .1 .1 .0) (zs-call .1 .1 .1 .1 .0))))) (id⊢ 𝓤 _) $
           pick ! (λ zs-call. split ! $ move ! (1 ∷ []) $
-          heard ! (call-says call-out call-x-map call-x-catalogue x-shape x-blocks (now x-map) (now x-catalogue) r-call
-          (zs-call .1 .1 .0) (zs-call .1 .1 .1 .0)) (λ e-call.
+          heard ! (call-says call-out call-x-map call-x-catalogue x-role x-shape x-blocks (now x-map) (now x-catalogue) r-call
+          (zs-call .1 .1 .1 .0) (zs-call .1 .1 .1 .1 .0)) (λ e-call.
           fsplit ! $ move ! (1 ∷ []) $ fsplit ! $ move ! (1 ∷ []) $ fsplit ! $ move ! (1 ∷ []) $ fsplit ! $
-          move ! (1 ∷ []) $ drop ! $ move ! (3 ∷ []) $ drop ! $ move ! (2 ∷ []) $ drop ! $ move ! (1 ∷ []) $ fsplit ! $
-          move ! (1 ∷ []) $ feqL ! (λ h-call-x-map. move ! (1 ∷ []) $ fsplit ! $ move ! (1 ∷ []) $
-          feqL ! (λ h-call-x-catalogue. move ! (2 ∷ []) $ split ! $ move ! (1 ∷ []) $
+          move ! (1 ∷ []) $ fsplit ! $ move ! (1 ∷ []) $ drop ! $ move ! (4 ∷ []) $ drop ! $ move ! (3 ∷ []) $ drop ! $
+          move ! (2 ∷ []) $ drop ! $ move ! (1 ∷ []) $ fsplit ! $ move ! (1 ∷ []) $ feqL ! (λ h-call-x-map.
+          move ! (1 ∷ []) $ fsplit ! $ move ! (1 ∷ []) $ feqL ! (λ h-call-x-catalogue. move ! (2 ∷ []) $ split ! $
+          move ! (1 ∷ []) $
           rewrite ! 0 (λ (r : (denotes Outcome)). ‵ ((rowOf Outcome) .own r (w-call ∷ []))) (e-call .0) refl $
           rewrite ! 3 (λ (l : List ℕ). ‵ (finally u64 δ₀-call l)) (e-call .1) refl $
           rewrite ! 2 (λ (l : List Entry). ‵ (finally Entry′.the-row δ₁-call l)) (e-call .2) refl $
           peeks ! (rowOf Outcome) (Is (rowOf Outcome)) (shows 𝓤 H A (rowOf Outcome)) v-outcome (w-call ∷ []) (λ is-w-call.
           land ! (from ! (stop !)) (init ! 14 refl ((Outcome .typed 𝓤 H A W) v-outcome _ is-w-call .0)) $
-          rewrite ! 14 (λ (u : Val). ‵ (fat fullShare (mirOf Outcome) l₅ 0 u)) (ap only
+          rewrite ! 14 (λ (u : Val). ‵ (fat fullShare (mirOf Outcome) l₆ 0 u)) (ap only
           ((Outcome .tells) v-outcome _ is-w-call)) refl $
           drop ! $ split ! $ move ! (1 ∷ []) $ split ! $ move ! (1 ∷ []) $ drop ! $ move ! (1 ∷ []) $ lft-end ! tt $
           move ! (0 ∷ 5 ∷ 3 ∷ []) $
@@ -415,15 +436,15 @@ module _ (Shape Outcome Reply : Value) where
           drop ! $ drop ! $ split ! $ move ! (1 ∷ []) $
           rewrite ! 0 (λ (r : (denotes Reply)). ‵ ((rowOf Reply) .own r (w-reply-of ∷ []))) (e-reply-of) refl $
           peeks ! (rowOf Reply) (Is (rowOf Reply)) (shows 𝓤 H A (rowOf Reply)) v-result (w-reply-of ∷ []) (λ is-w-reply-of.
-          land ! (from ! (stop !)) (init ! 24 refl ((Reply .typed 𝓤 H A W) v-result _ is-w-reply-of .0)) $
-          rewrite ! 24 (λ (u : Val). ‵ (fat fullShare (mirOf Reply) l₀ 0 u)) (ap only ((Reply .tells) v-result _ is-w-reply-of))
+          land ! (from ! (stop !)) (init ! 26 refl ((Reply .typed 𝓤 H A W) v-result _ is-w-reply-of .0)) $
+          rewrite ! 26 (λ (u : Val). ‵ (fat fullShare (mirOf Reply) l₀ 0 u)) (ap only ((Reply .tells) v-result _ is-w-reply-of))
           refl $
-          drop ! $ drop ! $ returns ! (look ! 22 refl) $ leave ! 22 refl refl $ leave ! 20 refl refl $
-          leave ! 18 refl refl $ leave ! 16 refl refl $ leave ! 14 refl refl $ leave ! 12 refl refl $
-          leave ! 10 refl refl $ leave ! 8 refl refl $ leave ! 6 refl refl $ leave ! 4 refl refl $ free0 ! $
-          move ! (2 ∷ 3 ∷ 0 ∷ 1 ∷ []) $
+          drop ! $ drop ! $ returns ! (look ! 24 refl) $ leave ! 24 refl refl $ leave ! 22 refl refl $
+          leave ! 20 refl refl $ leave ! 18 refl refl $ leave ! 16 refl refl $ leave ! 14 refl refl $
+          leave ! 12 refl refl $ leave ! 10 refl refl $ leave ! 8 refl refl $ leave ! 6 refl refl $
+          leave ! 4 refl refl $ free0 ! $ move ! (2 ∷ 3 ∷ 0 ∷ 1 ∷ []) $
           by ! (exits (spelled-v-result w-reply-of is-w-reply-of) (ap {B = ℕ} length (sym (e-call .1)) ∙ h-call-x-map)
-          (ap {B = ℕ} length (sym (e-call .2)) ∙ h-call-x-catalogue))))))))))))))))))))))))))))
+          (ap {B = ℕ} length (sym (e-call .2)) ∙ h-call-x-catalogue)))))))))))))))))))))))))))))
 
     module _ {M : Type 1} (𝓤 : URA M) (H : Heap 𝓤) (A : Atoms 𝓤) (W : Given 𝓤 H A) where
       walks : (𝓣 : Tables 𝓤 H) → Triple 𝓤 (𝓣 .C #call) (call-contract call-out call-x-map call-x-catalogue 𝓤 H A)
@@ -431,27 +452,33 @@ module _ (Shape Outcome Reply : Value) where
           (WpFn 𝓤 H (𝓣 .C) (𝓣 .Λ) (function #call #reply-of)) (clauses 𝓤)
       walks 𝓣 known-call known-reply-of =
           walked 𝓤 H A ended stayed (clauses 𝓤) (WpFn 𝓤 H (𝓣 .C) (𝓣 .Λ) (function #call #reply-of))
-          (λ κs. ((valsOf Shape), ((uint-vals w32), (slice-vals, (slice-vals, tt)))))
+          (λ κs. ((uint-vals w32), ((valsOf Shape), ((uint-vals w32), (slice-vals, (slice-vals, tt))))))
           (λ κs. (
-            (Shape .tells),
+            (uint-tells w32),
             (
-              (uint-tells w32),
-              (mut-slice-tells (named 0) (κs .0) u64, (mut-slice-tells (named 1) (κs .1 .0) Entry′.the-row, tt)),
+              (Shape .tells),
+              (
+                (uint-tells w32),
+                (mut-slice-tells (named 0) (κs .0) u64, (mut-slice-tells (named 1) (κs .1 .0) Entry′.the-row, tt)),
+              ),
             ),
           ))
           (λ κs qs bounds a g are. via 𝓤 _ (fst∗ 𝓤 _ (emp 𝓤)) (walk 𝓤 H A W (κs .0) (κs .1 .0) (qs .0) (qs .1 .0) (a .0)
-          (a .1 .0) (a .1 .1 .0) (a .1 .1 .1 .0) (are .0) (are .1 .0) (are .1 .1 .0 .0 .1) (are .1 .1 .1 .0 .0 .1) 𝓣 known-call
-          known-reply-of))
+          (a .1 .0) (a .1 .1 .0) (a .1 .1 .1 .0) (a .1 .1 .1 .1 .0) (are .0) (are .1 .0) (are .1 .1 .0) (are .1 .1 .1 .0 .0 .1)
+          (are .1 .1 .1 .1 .0 .0 .1) 𝓣 known-call known-reply-of))
 
       pub meets : (𝓣 : Tables 𝓤 H) → Triple 𝓤 (𝓣 .C #call) (call-contract call-out call-x-map call-x-catalogue 𝓤 H A)
           → Triple 𝓤 (𝓣 .C #reply-of) (reply-of-contract reply-of-out 𝓤 H A) → Meets 𝓤 H A signature
           (WpFn 𝓤 H (𝓣 .C) (𝓣 .Λ) (function #call #reply-of)) (closing 𝓤 H A ended (clauses 𝓤))
       meets 𝓣 known-call known-reply-of =
           walk-meets 𝓤 H A ended stayed W (
-            goes-none 𝓤 H A W 2 (λ _. (rowOf Shape)) yes (λ κs x f. refl),
+            goes-none 𝓤 H A W 2 (λ _. u32) yes (λ κs x f. refl),
             (
-              goes-none 𝓤 H A W 2 (λ _. u32) yes (λ κs x f. refl),
-              (goes-slice 𝓤 H A W 2 0 tt (plain (λ _. u64)), (goes-slice 𝓤 H A W 2 1 tt (plain (λ _. Entry′.the-row)), tt)),
+              goes-none 𝓤 H A W 2 (λ _. (rowOf Shape)) yes (λ κs x f. refl),
+              (
+                goes-none 𝓤 H A W 2 (λ _. u32) yes (λ κs x f. refl),
+                (goes-slice 𝓤 H A W 2 0 tt (plain (λ _. u64)), (goes-slice 𝓤 H A W 2 1 tt (plain (λ _. Entry′.the-row)), tt)),
+              ),
             ),
           )
           (clauses 𝓤) (WpFn 𝓤 H (𝓣 .C) (𝓣 .Λ) (function #call #reply-of)) (WpFn-mono 𝓤 H (W .laws) 𝓣 (function #call #reply-of))

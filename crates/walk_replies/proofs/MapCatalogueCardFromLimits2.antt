@@ -1,6 +1,6 @@
--- Written by tools/walks: every function (shape: Shape, map: &mut [u64], catalogue: &mut [Entry], card: &mut [u8], limits:
--- &[u32; 8], sheet: u32, count: u32) whose code is
---     let outcome: Outcome = call(shape, map, catalogue, card, limits, sheet, count);
+-- Written by tools/walks: every function (role: u32, shape: Shape, map: &mut [u64], catalogue: &mut [Entry], card: &mut [u8],
+-- limits: &[u32; 8], sheet: u32, count: u32) whose code is
+--     let outcome: Outcome = call(role, shape, map, catalogue, card, limits, sheet, count);
 --     reply_of(outcome)
 -- One walk serves every choice of the callees: it takes their names and what their contracts say. The types by value are any,
 -- too.
@@ -58,26 +58,29 @@ module _ (Shape Outcome Reply : Value) where
   signature = record {
     lifetimes = 4;
     outlives = [];
-    params = plain (λ _. (rowOf Shape)) ∷ mutSlice 0 tt (λ _. u64) ∷ mutSlice 1 tt (λ _. Entry′.the-row)
+    params = plain (λ _. u32) ∷ plain (λ _. (rowOf Shape)) ∷ mutSlice 0 tt (λ _. u64) ∷ mutSlice 1 tt (λ _. Entry′.the-row)
         ∷ mutSlice 2 tt (λ _. u8) ∷ shrRef 3 tt (λ _. (Array u32 8)) ∷ plain (λ _. u32) ∷ plain (λ _. u32) ∷ [];
     result = plain (λ _. (rowOf Reply));
   }
 
   abbrev ended : Ended
-  ended = record { signature = signature; kept = (yes, (yes, (yes, (yes, (yes, (yes, (yes, tt))))))) }
+  ended = record { signature = signature; kept = (yes, (yes, (yes, (yes, (yes, (yes, (yes, (yes, tt)))))))) }
 
   abbrev stayed : Stays (ended .signature .params) (ended .kept)
   stayed = (
-    stay-none (λ _. (rowOf Shape)) yes,
+    stay-none (λ _. u32) yes,
     (
-      stay-slice (0 ∷ []) tt (plain (λ _. u64)),
+      stay-none (λ _. (rowOf Shape)) yes,
       (
-        stay-slice (1 ∷ []) tt (plain (λ _. Entry′.the-row)),
+        stay-slice (0 ∷ []) tt (plain (λ _. u64)),
         (
-          stay-slice (2 ∷ []) tt (plain (λ _. u8)),
+          stay-slice (1 ∷ []) tt (plain (λ _. Entry′.the-row)),
           (
-            stay-none-ref (3 ∷ []) tt (plain (λ _. (Array u32 8))) yes,
-            (stay-none (λ _. u32) yes, (stay-none (λ _. u32) yes, tt)),
+            stay-slice (2 ∷ []) tt (plain (λ _. u8)),
+            (
+              stay-none-ref (3 ∷ []) tt (plain (λ _. (Array u32 8))) yes,
+              (stay-none (λ _. u32) yes, (stay-none (λ _. u32) yes, tt)),
+            ),
           ),
         ),
       ),
@@ -89,24 +92,25 @@ module _ (Shape Outcome Reply : Value) where
   function #call #reply-of = record {
     lifetimes = 4;
     outlives = [];
-    params = 7;
-    locals = local (mirOf Reply) valueLocal ∷ local (mirOf Shape) valueLocal ∷ local (sliceTy (tyRef (named 0) mut (tyInt w64)))
-        valueLocal ∷ local (sliceTy (tyRef (named 1) mut (pointee (Entry′.the-row .written)))) valueLocal
-        ∷ local (sliceTy (tyRef (named 2) mut (tyInt w8))) valueLocal ∷ local (tyRef (named 3) imm (tyArray (tyInt w32) 8))
-        valueLocal ∷ local (tyInt w32) valueLocal ∷ local (tyInt w32) valueLocal ∷ local (mirOf Outcome) valueLocal
-        ∷ local (tyRef erased mut (tyInt w64)) valueLocal ∷ local (sliceTy (tyRef erased mut (tyInt w64))) valueLocal
-        ∷ local (tyRef erased mut (pointee (Entry′.the-row .written))) valueLocal ∷ local
-        (sliceTy (tyRef erased mut (pointee (Entry′.the-row .written)))) valueLocal ∷ local (tyRef erased mut (tyInt w8))
-        valueLocal ∷ local (sliceTy (tyRef erased mut (tyInt w8))) valueLocal ∷ [];
-    body = seq (assign (place 9 []) (addrOf (place 2 (field 0 ∷ deref (tyInt w64) ∷ []))))
-        (seq (assign (place 10 []) (aggregate (copy (place 9 []) ∷ copy (place 2 (field 1 ∷ [])) ∷ [])))
-        (seq (assign (place 11 []) (addrOf (place 3 (field 0 ∷ deref Entry″.mir ∷ []))))
-        (seq (assign (place 12 []) (aggregate (copy (place 11 []) ∷ copy (place 3 (field 1 ∷ [])) ∷ [])))
-        (seq (assign (place 13 []) (addrOf (place 4 (field 0 ∷ deref (tyInt w8) ∷ []))))
-        (seq (assign (place 14 []) (aggregate (copy (place 13 []) ∷ copy (place 4 (field 1 ∷ [])) ∷ [])))
-        (seq (call #call (copy (place 1 []) ∷ copy (place 10 []) ∷ copy (place 12 []) ∷ copy (place 14 []) ∷ copy (place 5 [])
-        ∷ copy (place 6 []) ∷ copy (place 7 []) ∷ []) (place 8 []))
-        (seq (call #reply-of (copy (place 8 []) ∷ []) (place 0 [])) return)))))));
+    params = 8;
+    locals = local (mirOf Reply) valueLocal ∷ local (tyInt w32) valueLocal ∷ local (mirOf Shape) valueLocal
+        ∷ local (sliceTy (tyRef (named 0) mut (tyInt w64))) valueLocal ∷ local (sliceTy
+        (tyRef (named 1) mut (pointee (Entry′.the-row .written)))) valueLocal ∷ local (sliceTy (tyRef (named 2) mut (tyInt w8)))
+        valueLocal ∷ local (tyRef (named 3) imm (tyArray (tyInt w32) 8)) valueLocal ∷ local (tyInt w32) valueLocal
+        ∷ local (tyInt w32) valueLocal ∷ local (mirOf Outcome) valueLocal ∷ local (tyRef erased mut (tyInt w64)) valueLocal
+        ∷ local (sliceTy (tyRef erased mut (tyInt w64))) valueLocal ∷ local (tyRef erased mut
+        (pointee (Entry′.the-row .written))) valueLocal ∷ local (sliceTy (tyRef erased mut (pointee (Entry′.the-row .written))))
+        valueLocal ∷ local (tyRef erased mut (tyInt w8)) valueLocal ∷ local (sliceTy (tyRef erased mut (tyInt w8))) valueLocal
+        ∷ [];
+    body = seq (assign (place 10 []) (addrOf (place 3 (field 0 ∷ deref (tyInt w64) ∷ []))))
+        (seq (assign (place 11 []) (aggregate (copy (place 10 []) ∷ copy (place 3 (field 1 ∷ [])) ∷ [])))
+        (seq (assign (place 12 []) (addrOf (place 4 (field 0 ∷ deref Entry″.mir ∷ []))))
+        (seq (assign (place 13 []) (aggregate (copy (place 12 []) ∷ copy (place 4 (field 1 ∷ [])) ∷ [])))
+        (seq (assign (place 14 []) (addrOf (place 5 (field 0 ∷ deref (tyInt w8) ∷ []))))
+        (seq (assign (place 15 []) (aggregate (copy (place 14 []) ∷ copy (place 5 (field 1 ∷ [])) ∷ [])))
+        (seq (call #call (copy (place 1 []) ∷ copy (place 2 []) ∷ copy (place 11 []) ∷ copy (place 13 []) ∷ copy (place 15 [])
+        ∷ copy (place 6 []) ∷ copy (place 7 []) ∷ copy (place 8 []) ∷ []) (place 9 []))
+        (seq (call #reply-of (copy (place 9 []) ∷ []) (place 0 [])) return)))))));
   }
 
   -- ---- what `call` is, and what it ensures
@@ -114,32 +118,33 @@ module _ (Shape Outcome Reply : Value) where
   call-signature = record {
     lifetimes = 4;
     outlives = [];
-    params = plain (λ _. (rowOf Shape)) ∷ mutSlice 0 tt (λ _. u64) ∷ mutSlice 1 tt (λ _. Entry′.the-row)
+    params = plain (λ _. u32) ∷ plain (λ _. (rowOf Shape)) ∷ mutSlice 0 tt (λ _. u64) ∷ mutSlice 1 tt (λ _. Entry′.the-row)
         ∷ mutSlice 2 tt (λ _. u8) ∷ shrRef 3 tt (λ _. (Array u32 8)) ∷ plain (λ _. u32) ∷ plain (λ _. u32) ∷ [];
     result = plain (λ _. (rowOf Outcome));
   }
 
   abbrev call-ended : Ended
-  call-ended = record { signature = call-signature; kept = (yes, (yes, (yes, (yes, (yes, (yes, (yes, tt))))))) }
+  call-ended = record { signature = call-signature; kept = (yes, (yes, (yes, (yes, (yes, (yes, (yes, (yes, tt)))))))) }
 
   abbrev call-Model : Type 0 → Type 0
-  call-Model X = (denotes Shape) → List ℕ → List Entry → List ℕ → (List ℕ) → ℕ → ℕ → X
+  call-Model X = ℕ → (denotes Shape) → List ℕ → List Entry → List ℕ → (List ℕ) → ℕ → ℕ → X
 
   module _ (call-out : call-Model (denotes Outcome)) (call-x-map : call-Model (List ℕ))
       (call-x-catalogue : call-Model (List Entry)) (call-x-card : call-Model (List ℕ)) where
-    abbrev call-says : (denotes Shape) → List ℕ → List Entry → List ℕ → (List ℕ) → ℕ → ℕ → (denotes Outcome) → List ℕ
+    abbrev call-says : ℕ → (denotes Shape) → List ℕ → List Entry → List ℕ → (List ℕ) → ℕ → ℕ → (denotes Outcome) → List ℕ
         → List Entry → List ℕ → Type 0
-    call-says a0 a1 a2 a3 a4 a5 a6 r b1 b2 b3 = (r ≡ call-out a0 a1 a2 a3 a4 a5 a6) × (b1 ≡ call-x-map a0 a1 a2 a3 a4 a5 a6)
-        × (b2 ≡ call-x-catalogue a0 a1 a2 a3 a4 a5 a6) × (b3 ≡ call-x-card a0 a1 a2 a3 a4 a5 a6)
+    call-says a0 a1 a2 a3 a4 a5 a6 a7 r b2 b3 b4 = (r ≡ call-out a0 a1 a2 a3 a4 a5 a6 a7)
+        × (b2 ≡ call-x-map a0 a1 a2 a3 a4 a5 a6 a7) × (b3 ≡ call-x-catalogue a0 a1 a2 a3 a4 a5 a6 a7)
+        × (b4 ≡ call-x-card a0 a1 a2 a3 a4 a5 a6 a7)
 
     module _ {M : Type 1} (𝓤 : URA M) where
       abbrev call-clauses : Clauses 𝓤 call-ended
       call-clauses κs a = record {
         ghost = Unit {0};
         requires = λ _. emp 𝓤;
-        ensures = λ _ r e. fact 𝓤 (call-says (a .0) (now (a .1 .0)) (now (a .1 .1 .0)) (now (a .1 .1 .1 .0))
-            (now (a .1 .1 .1 .1 .0)) (a .1 .1 .1 .1 .1 .0) (a .1 .1 .1 .1 .1 .1 .0) r (now (e .1 .0)) (now (e .1 .1 .0))
-            (now (e .1 .1 .1 .0)));
+        ensures = λ _ r e. fact 𝓤 (call-says (a .0) (a .1 .0) (now (a .1 .1 .0)) (now (a .1 .1 .1 .0)) (now (a .1 .1 .1 .1 .0))
+            (now (a .1 .1 .1 .1 .1 .0)) (a .1 .1 .1 .1 .1 .1 .0) (a .1 .1 .1 .1 .1 .1 .1 .0) r (now (e .1 .1 .0))
+            (now (e .1 .1 .1 .0)) (now (e .1 .1 .1 .1 .0)));
       }
 
       module _ (H : Heap 𝓤) (A : Atoms 𝓤) where
@@ -181,19 +186,19 @@ module _ (Shape Outcome Reply : Value) where
       (call-x-catalogue : call-Model (List Entry)) (call-x-card : call-Model (List ℕ))
       (reply-of-out : reply-of-Model (denotes Reply)) where
     -- ---- what the chain gives, call by call
-    module _ (x-shape : (denotes Shape)) (x-map : List ℕ) (x-catalogue : List Entry) (x-card : List ℕ) (x-limits : (List ℕ))
-        (x-sheet : ℕ) (x-count : ℕ) where
+    module _ (x-role : ℕ) (x-shape : (denotes Shape)) (x-map : List ℕ) (x-catalogue : List Entry) (x-card : List ℕ)
+        (x-limits : (List ℕ)) (x-sheet : ℕ) (x-count : ℕ) where
       abbrev v-outcome-of : (denotes Outcome)
-      v-outcome-of = call-out x-shape x-map x-catalogue x-card x-limits x-sheet x-count
+      v-outcome-of = call-out x-role x-shape x-map x-catalogue x-card x-limits x-sheet x-count
 
       abbrev z-call-x-map-of : List ℕ
-      z-call-x-map-of = call-x-map x-shape x-map x-catalogue x-card x-limits x-sheet x-count
+      z-call-x-map-of = call-x-map x-role x-shape x-map x-catalogue x-card x-limits x-sheet x-count
 
       abbrev z-call-x-catalogue-of : List Entry
-      z-call-x-catalogue-of = call-x-catalogue x-shape x-map x-catalogue x-card x-limits x-sheet x-count
+      z-call-x-catalogue-of = call-x-catalogue x-role x-shape x-map x-catalogue x-card x-limits x-sheet x-count
 
       abbrev z-call-x-card-of : List ℕ
-      z-call-x-card-of = call-x-card x-shape x-map x-catalogue x-card x-limits x-sheet x-count
+      z-call-x-card-of = call-x-card x-role x-shape x-map x-catalogue x-card x-limits x-sheet x-count
 
       abbrev v-result-of : (denotes Reply)
       v-result-of = reply-of-out v-outcome-of
@@ -207,16 +212,24 @@ module _ (Shape Outcome Reply : Value) where
       clauses κs a = record {
         ghost = Unit {0};
         requires = λ _. emp 𝓤;
-        ensures = λ _ r e. fact 𝓤 (Says (a .0) (now (a .1 .0)) (now (a .1 .1 .0)) (now (a .1 .1 .1 .0)) (now (a .1 .1 .1 .1 .0))
-            (a .1 .1 .1 .1 .1 .0) (a .1 .1 .1 .1 .1 .1 .0) r (now (e .1 .0)) (now (e .1 .1 .0)) (now (e .1 .1 .1 .0)));
+        ensures = λ _ r e. fact 𝓤 (Says (a .0) (a .1 .0) (now (a .1 .1 .0)) (now (a .1 .1 .1 .0)) (now (a .1 .1 .1 .1 .0))
+            (now (a .1 .1 .1 .1 .1 .0)) (a .1 .1 .1 .1 .1 .1 .0) (a .1 .1 .1 .1 .1 .1 .1 .0) r (now (e .1 .1 .0))
+            (now (e .1 .1 .1 .0)) (now (e .1 .1 .1 .1 .0)));
       }
 
     module _ {M : Type 1} (𝓤 : URA M) (H : Heap 𝓤) (A : Atoms 𝓤) (W : Given 𝓤 H A) (κ₀ κ₁ κ₂ κ₃ : Lft) (q₀ q₁ q₂ q₃ : Share)
-        (x-shape : (denotes Shape)) (x-map : RefT (List ℕ)) (x-catalogue : RefT (List Entry)) (x-card : RefT (List ℕ))
-        (x-limits : RefT (List ℕ)) (x-sheet : ℕ) (x-count : ℕ)
-        (is-x-shape : Is (rowOf Shape) x-shape ((valsOf Shape) x-shape)) (room-x-map : Room u64 (length (now x-map)))
-        (room-x-catalogue : Room Entry′.the-row (length (now x-catalogue))) (room-x-card : Room u8 (length (now x-card)))
-        (is-x-sheet : Is u32 x-sheet ((uint-vals w32) x-sheet)) (is-x-count : Is u32 x-count ((uint-vals w32) x-count)) where
+        (x-role : ℕ) (x-shape : (denotes Shape)) (x-map : RefT (List ℕ)) (x-catalogue : RefT (List Entry))
+        (x-card : RefT (List ℕ)) (x-limits : RefT (List ℕ)) (x-sheet : ℕ) (x-count : ℕ)
+        (is-x-role : Is u32 x-role ((uint-vals w32) x-role)) (is-x-shape : Is (rowOf Shape) x-shape ((valsOf Shape) x-shape))
+        (room-x-map : Room u64 (length (now x-map))) (room-x-catalogue : Room Entry′.the-row (length (now x-catalogue)))
+        (room-x-card : Room u8 (length (now x-card))) (is-x-sheet : Is u32 x-sheet ((uint-vals w32) x-sheet))
+        (is-x-count : Is u32 x-count ((uint-vals w32) x-count)) where
+      abbrev m-x-role : Val
+      m-x-role = only ((uint-vals w32) x-role)
+
+      typed-x-role : Holds (hasTy (tyInt w32) m-x-role) × WT m-x-role
+      typed-x-role = (uint-lawful 𝓤 H A W w32 .typed) x-role _ is-x-role .0
+
       abbrev m-x-shape : Val
       m-x-shape = only ((valsOf Shape) x-shape)
 
@@ -256,14 +269,18 @@ module _ (Shape Outcome Reply : Value) where
       typed-x-count : Holds (hasTy (tyInt w32) m-x-count) × WT m-x-count
       typed-x-count = (uint-lawful 𝓤 H A W w32 .typed) x-count _ is-x-count .0
 
-      abbrev args : (denotes Shape) × (RefT (List ℕ) × (RefT (List Entry) × (RefT (List ℕ)
-          × (RefT (List ℕ) × (ℕ × (ℕ × Unit {0}))))))
-      args = (x-shape, (x-map, (x-catalogue, (x-card, (x-limits, (x-sheet, (x-count, tt)))))))
+      abbrev args : ℕ × ((denotes Shape) × (RefT (List ℕ) × (RefT (List Entry) × (RefT (List ℕ)
+          × (RefT (List ℕ) × (ℕ × (ℕ × Unit {0})))))))
+      args = (x-role, (x-shape, (x-map, (x-catalogue, (x-card, (x-limits, (x-sheet, (x-count, tt))))))))
 
-      abbrev vals : List Val × (List Val × (List Val × (List Val × (List Val × (List Val × (List Val × Unit {0}))))))
+      abbrev vals : List Val × (List Val × (List Val × (List Val × (List Val × (List Val
+          × (List Val × (List Val × Unit {0})))))))
       vals = (
-        m-x-shape ∷ [],
-        (s-x-map ∷ [], (s-x-catalogue ∷ [], (s-x-card ∷ [], (s-x-limits ∷ [], (m-x-sheet ∷ [], (m-x-count ∷ [], tt)))))),
+        m-x-role ∷ [],
+        (
+          m-x-shape ∷ [],
+          (s-x-map ∷ [], (s-x-catalogue ∷ [], (s-x-card ∷ [], (s-x-limits ∷ [], (m-x-sheet ∷ [], (m-x-count ∷ [], tt)))))),
+        ),
       )
 
       abbrev bound : walkOf 𝓤 H A ended stayed (clauses 𝓤) .Ghost
@@ -273,20 +290,20 @@ module _ (Shape Outcome Reply : Value) where
       Post = walkOf 𝓤 H A ended stayed (clauses 𝓤) .post bound
 
       abbrev v-outcome : (denotes Outcome)
-      v-outcome = v-outcome-of x-shape (now x-map) (now x-catalogue) (now x-card) (now x-limits) x-sheet x-count
+      v-outcome = v-outcome-of x-role x-shape (now x-map) (now x-catalogue) (now x-card) (now x-limits) x-sheet x-count
 
       abbrev z-call-x-map : List ℕ
-      z-call-x-map = z-call-x-map-of x-shape (now x-map) (now x-catalogue) (now x-card) (now x-limits) x-sheet x-count
+      z-call-x-map = z-call-x-map-of x-role x-shape (now x-map) (now x-catalogue) (now x-card) (now x-limits) x-sheet x-count
 
       abbrev z-call-x-catalogue : List Entry
-      z-call-x-catalogue = z-call-x-catalogue-of x-shape (now x-map) (now x-catalogue) (now x-card) (now x-limits) x-sheet
-          x-count
+      z-call-x-catalogue = z-call-x-catalogue-of x-role x-shape (now x-map) (now x-catalogue) (now x-card) (now x-limits)
+          x-sheet x-count
 
       abbrev z-call-x-card : List ℕ
-      z-call-x-card = z-call-x-card-of x-shape (now x-map) (now x-catalogue) (now x-card) (now x-limits) x-sheet x-count
+      z-call-x-card = z-call-x-card-of x-role x-shape (now x-map) (now x-catalogue) (now x-card) (now x-limits) x-sheet x-count
 
       abbrev v-result : (denotes Reply)
-      v-result = v-result-of x-shape (now x-map) (now x-catalogue) (now x-card) (now x-limits) x-sheet x-count
+      v-result = v-result-of x-role x-shape (now x-map) (now x-catalogue) (now x-card) (now x-limits) x-sheet x-count
 
       abbrev m-v-outcome : Val
       m-v-outcome = only ((valsOf Outcome) v-outcome)
@@ -301,13 +318,16 @@ module _ (Shape Outcome Reply : Value) where
       spelled-v-result w is = subst (λ (vs : List Val). Is (rowOf Reply) v-result vs) ((Reply .tells) v-result _ is) is
 
       -- ---- the caller has what `call` asks
-      abbrev call-args : (δ₀-call δ₁-call δ₂-call : GName) → (denotes Shape) × (RefT (List ℕ)
-          × (RefT (List Entry) × (RefT (List ℕ) × (RefT (List ℕ) × (ℕ × (ℕ × Unit {0}))))))
+      abbrev call-args : (δ₀-call δ₁-call δ₂-call : GName) → ℕ × ((denotes Shape) × (RefT (List ℕ)
+          × (RefT (List Entry) × (RefT (List ℕ) × (RefT (List ℕ) × (ℕ × (ℕ × Unit {0})))))))
       call-args δ₀-call δ₁-call δ₂-call = (
-        x-shape,
+        x-role,
         (
-          at-x-map δ₀-call (now x-map),
-          (at-x-catalogue δ₁-call (now x-catalogue), (at-x-card δ₂-call (now x-card), (x-limits, (x-sheet, (x-count, tt))))),
+          x-shape,
+          (
+            at-x-map δ₀-call (now x-map),
+            (at-x-catalogue δ₁-call (now x-catalogue), (at-x-card δ₂-call (now x-card), (x-limits, (x-sheet, (x-count, tt))))),
+          ),
         ),
       )
 
@@ -320,8 +340,11 @@ module _ (Shape Outcome Reply : Value) where
           tt,
           call-args δ₀-call δ₁-call δ₂-call,
           (
-            m-x-shape ∷ [],
-            (s-x-map ∷ [], (s-x-catalogue ∷ [], (s-x-card ∷ [], (s-x-limits ∷ [], (m-x-sheet ∷ [], (m-x-count ∷ [], tt)))))),
+            m-x-role ∷ [],
+            (
+              m-x-shape ∷ [],
+              (s-x-map ∷ [], (s-x-catalogue ∷ [], (s-x-card ∷ [], (s-x-limits ∷ [], (m-x-sheet ∷ [], (m-x-count ∷ [], tt)))))),
+            ),
           ),
         ),
         tt,
@@ -347,7 +370,8 @@ module _ (Shape Outcome Reply : Value) where
           owned ! u32 (Is u32) (uint-makes 𝓤 H A W w32) x-sheet _ is-x-sheet $ fjoin ! $ move ! (5 ∷ 0 ∷ []) $
           fjoin ! $ move ! (4 ∷ 0 ∷ []) $ fjoin ! $ move ! (3 ∷ 0 ∷ []) $ fjoin ! $ move ! (2 ∷ 0 ∷ []) $ fjoin ! $
           owned ! (rowOf Shape) (Is (rowOf Shape)) (Shape .makes 𝓤 H A) x-shape _ is-x-shape $ fjoin ! $
-          move ! (1 ∷ 0 ∷ []) $ join ! $ frame ! $ done !
+          owned ! u32 (Is u32) (uint-makes 𝓤 H A W w32) x-role _ is-x-role $ fjoin ! $ move ! (1 ∷ 0 ∷ []) $ join ! $
+          frame ! $ done !
 
       -- ---- the caller has what `reply-of` asks
       abbrev reply-of-args : (denotes Outcome) × Unit {0}
@@ -379,41 +403,43 @@ module _ (Shape Outcome Reply : Value) where
           (s-x-card ∷ [])) ∷ ‵ (flft κ₂ q₂) ∷ ‵ (ShrRef (named 3) κ₃ (Array u32 8) .own x-limits (s-x-limits ∷ []))
           ∷ ‵ (flft κ₃ q₃) ∷ []) ∵
           suffices ! _ (ends-at 𝓤 H A ended stayed (clauses 𝓤) W bound m-v-result v-result
-          (tt, (z-call-x-map, (z-call-x-catalogue, (z-call-x-card, (tt, (tt, (tt, tt)))))))
-          (tt, (l-x-map, (l-x-catalogue, (l-x-card, (tt, (tt, (tt, tt)))))))) $
+          (tt, (tt, (z-call-x-map, (z-call-x-catalogue, (z-call-x-card, (tt, (tt, (tt, tt))))))))
+          (tt, (tt, (l-x-map, (l-x-catalogue, (l-x-card, (tt, (tt, (tt, tt))))))))) $
           says ! (refl, refl, refl, refl) $ nothing ! $ move ! (8 ∷ 0 ∷ []) $ join ! $ move ! (6 ∷ 0 ∷ []) $ join ! $
           move ! (4 ∷ 0 ∷ []) $ join ! $ move ! (2 ∷ 0 ∷ []) $ join ! $ frame ! $ nothing ! $
           owned ! u32 (Is u32) (uint-makes 𝓤 H A W w32) x-count _ is-x-count $ fjoin ! $
           owned ! u32 (Is u32) (uint-makes 𝓤 H A W w32) x-sheet _ is-x-sheet $ fjoin ! $ move ! (4 ∷ 0 ∷ []) $
           fjoin ! $ move ! (3 ∷ 0 ∷ []) $ fjoin ! $ move ! (2 ∷ 0 ∷ []) $ fjoin ! $ move ! (1 ∷ 0 ∷ []) $ fjoin ! $
           owned ! (rowOf Shape) (Is (rowOf Shape)) (Shape .makes 𝓤 H A) x-shape _ is-x-shape $ fjoin ! $
+          owned ! u32 (Is u32) (uint-makes 𝓤 H A W w32) x-role _ is-x-role $ fjoin ! $
           owned ! (rowOf Reply) (Is (rowOf Reply)) (Reply .makes 𝓤 H A) v-result _ is $ move ! (1 ∷ 0 ∷ []) $ done !
 
       -- ---- the walk
       walk : (𝓣 : Tables 𝓤 H) → Triple 𝓤 (𝓣 .C #call) (call-contract call-out call-x-map call-x-catalogue call-x-card 𝓤 H A)
           → Triple 𝓤 (𝓣 .C #reply-of) (reply-of-contract reply-of-out 𝓤 H A) → ent 𝓤 (onEntry 𝓤 H A signature
           (κ₀, (κ₁, (κ₂, (κ₃, tt)))) (q₀, (q₁, (q₂, (q₃, tt)))) args vals)
-          (WpFn 𝓤 H (𝓣 .C) (𝓣 .Λ) (function #call #reply-of) (m-x-shape ∷ s-x-map ∷ s-x-catalogue ∷ s-x-card ∷ s-x-limits
-          ∷ m-x-sheet ∷ m-x-count ∷ []) Post)
+          (WpFn 𝓤 H (𝓣 .C) (𝓣 .Λ) (function #call #reply-of) (m-x-role ∷ m-x-shape ∷ s-x-map ∷ s-x-catalogue ∷ s-x-card
+          ∷ s-x-limits ∷ m-x-sheet ∷ m-x-count ∷ []) Post)
       walk 𝓣 known-call known-reply-of =
           qed W ((‵ (flft κ₀ q₀) ⊛ ‵ (flft κ₁ q₁) ⊛ ‵ (flft κ₂ q₂) ⊛ ‵ (flft κ₃ q₃) ⊛ ‵ ftrue)
-          ∷ ‵ (owns ((rowOf Shape) ∷ MutSlice (named 0) κ₀ u64 ∷ MutSlice (named 1) κ₁ Entry′.the-row ∷ MutSlice (named 2) κ₂ u8
-          ∷ ShrRef (named 3) κ₃ (Array u32 8) ∷ u32 ∷ u32 ∷ []) args vals) ∷ []) ∵
-          enter ! (𝓣 .C) (𝓣 .Λ) (function #call #reply-of) (m-x-shape ∷ s-x-map ∷ s-x-catalogue ∷ s-x-card ∷ s-x-limits
-          ∷ m-x-sheet ∷ m-x-count ∷ []) _ $
+          ∷ ‵ (owns (u32 ∷ (rowOf Shape) ∷ MutSlice (named 0) κ₀ u64 ∷ MutSlice (named 1) κ₁ Entry′.the-row
+          ∷ MutSlice (named 2) κ₂ u8 ∷ ShrRef (named 3) κ₃ (Array u32 8) ∷ u32 ∷ u32 ∷ []) args vals) ∷ []) ∵
+          enter ! (𝓣 .C) (𝓣 .Λ) (function #call #reply-of) (m-x-role ∷ m-x-shape ∷ s-x-map ∷ s-x-catalogue ∷ s-x-card
+          ∷ s-x-limits ∷ m-x-sheet ∷ m-x-count ∷ []) _ $
           alloc1 ! (λ l₀. alloc1 ! (λ l₁. alloc1 ! (λ l₂. alloc1 ! (λ l₃. alloc1 ! (λ l₄. alloc1 ! (λ l₅.
           alloc1 ! (λ l₆. alloc1 ! (λ l₇. alloc1 ! (λ l₈. alloc1 ! (λ l₉. alloc1 ! (λ l₁₀. alloc1 ! (λ l₁₁.
-          alloc1 ! (λ l₁₂. alloc1 ! (λ l₁₃. alloc1 ! (λ l₁₄. alloc0 ! $ params1 ! $
-          pass1 ! (init ! 26 refl typed-x-shape) $
+          alloc1 ! (λ l₁₂. alloc1 ! (λ l₁₃. alloc1 ! (λ l₁₄. alloc1 ! (λ l₁₅. alloc0 ! $ params1 ! $
+          pass1 ! (init ! 28 refl typed-x-role) $ pass1 ! (init ! 26 refl typed-x-shape) $
           pass1 ! (init ! 24 refl (tt, (tt, (record { fits = room-x-map .0 }, tt)))) $
           pass1 ! (init ! 22 refl (tt, (tt, (record { fits = room-x-catalogue .0 }, tt)))) $
           pass1 ! (init ! 20 refl (tt, (tt, (record { fits = room-x-card .0 }, tt)))) $
           pass1 ! (init ! 18 refl (tt, tt)) $ pass1 ! (init ! 16 refl typed-x-sheet) $
-          pass1 ! (init ! 14 refl typed-x-count) $ pass0 ! $ move ! (30 ∷ []) $ split ! $ move ! (1 ∷ []) $ split ! $
-          move ! (1 ∷ []) $ split ! $ move ! (1 ∷ []) $ split ! $ move ! (1 ∷ []) $ drop ! $ move ! (34 ∷ []) $
+          pass1 ! (init ! 14 refl typed-x-count) $ pass0 ! $ move ! (32 ∷ []) $ split ! $ move ! (1 ∷ []) $ split ! $
+          move ! (1 ∷ []) $ split ! $ move ! (1 ∷ []) $ split ! $ move ! (1 ∷ []) $ drop ! $ move ! (36 ∷ []) $
           fsplit ! $ move ! (1 ∷ []) $ fsplit ! $ move ! (1 ∷ []) $ fsplit ! $ move ! (1 ∷ []) $ fsplit ! $
           move ! (1 ∷ []) $ fsplit ! $ move ! (1 ∷ []) $ fsplit ! $ move ! (1 ∷ []) $ fsplit ! $ move ! (1 ∷ []) $
-          drop ! $ move ! (6 ∷ []) $ drop ! $ move ! (1 ∷ []) $ drop ! $ drop ! $
+          fsplit ! $ move ! (1 ∷ []) $ drop ! $ move ! (7 ∷ []) $ drop ! $ move ! (6 ∷ []) $ drop ! $ move ! (1 ∷ []) $
+          drop ! $ drop ! $
           -- call
           assigns ! (addr ! (from ! (fld ! refl (hop ! (look-in ! 32 (sub ! 0 refl (whole !))) (stop !))))) (from ! (stop !))
           (init ! 18 refl (tt, tt)) $
@@ -457,39 +483,41 @@ module _ (Shape Outcome Reply : Value) where
           (to-call ν₀-call ν₁-call ν₂-call δ₀-call δ₁-call δ₂-call))) (goes-call ν₀-call ν₁-call ν₂-call δ₀-call δ₁-call
           δ₂-call) $
           calls-at ! (fmOf 𝓤 H (W .laws) 𝓣) (call-contract call-out call-x-map call-x-catalogue call-x-card 𝓤 H A) known-call
-          (to-call ν₀-call ν₁-call ν₂-call δ₀-call δ₁-call δ₂-call) (and-then ! (load ! (from ! (stop !)) (look ! 31 refl))
-          (and-then ! (load ! (from ! (stop !)) (look ! 13 refl)) (and-then ! (load ! (from ! (stop !)) (look ! 9 refl))
-          (and-then ! (load ! (from ! (stop !)) (look ! 5 refl)) (and-then ! (load ! (from ! (stop !)) (look ! 23 refl))
-          (and-then ! (load ! (from ! (stop !)) (look ! 21 refl)) (and-then ! (load ! (from ! (stop !)) (look ! 19 refl))
-          (no-more !)))))))) (λ w-call.
+          (to-call ν₀-call ν₁-call ν₂-call δ₀-call δ₁-call δ₂-call) (and-then ! (load ! (from ! (stop !)) (look ! 33 refl))
+          (and-then ! (load ! (from ! (stop !)) (look ! 31 refl)) (and-then ! (load ! (from ! (stop !)) (look ! 13 refl))
+          (and-then ! (load ! (from ! (stop !)) (look ! 9 refl)) (and-then ! (load ! (from ! (stop !)) (look ! 5 refl))
+          (and-then ! (load ! (from ! (stop !)) (look ! 23 refl)) (and-then ! (load ! (from ! (stop !)) (look ! 21 refl))
+          (and-then ! (load ! (from ! (stop !)) (look ! 19 refl)) (no-more !))))))))) (λ w-call.
           use1 W (later (some (λ (r : (denotes Outcome)). ((‵ (flft (ν₀-call ∷ []) fullShare)
           ⊛ ‵ (flft (ν₁-call ∷ []) fullShare) ⊛ ‵ (flft (ν₂-call ∷ []) fullShare) ⊛ ‵ (flft κ₃ q₃) ⊛ ‵ ftrue)
           ⊛ ‵ ((rowOf Outcome) .own r (w-call ∷ []))) ⊛ raw (ensured 𝓤 H A call-ended (call-clauses call-out call-x-map
           call-x-catalogue call-x-card 𝓤) (ν₀-call ∷ [], (ν₁-call ∷ [], (ν₂-call ∷ [], (κ₃, tt))))
           (call-args δ₀-call δ₁-call δ₂-call) tt r)))) (id⊢ 𝓤 _) $
           await ! tt $ pick ! (λ r-call. split ! $ move ! (1 ∷ []) $
-          use1 W (some (λ (zs-call : Unit {0} × (List ℕ × (List Entry × (List ℕ × (Unit {0}
-          × (Unit {0} × (Unit {0} × Unit {0}))))))). ‵ (lasts call-ended
+          use1 W (some (λ (zs-call : Unit {0} × (Unit {0} × (List ℕ × (List Entry × (List ℕ
+          × (Unit {0} × (Unit {0} × (Unit {0} × Unit {0})))))))). ‵ (lasts call-ended
           (ν₀-call ∷ [], (ν₁-call ∷ [], (ν₂-call ∷ [], (κ₃, tt)))) (call-args δ₀-call δ₁-call δ₂-call) zs-call)
-          ⊛ raw (fact 𝓤 (call-says call-out call-x-map call-x-catalogue call-x-card x-shape (now x-map) (now x-catalogue)
-          (now x-card) (now x-limits) x-sheet x-count r-call (zs-call .1 .0) (zs-call .1 .1 .0) (zs-call .1 .1 .1 .0)))))
-          (id⊢ 𝓤 _) $
+          ⊛ raw (fact 𝓤 (call-says call-out call-x-map call-x-catalogue call-x-card x-role x-shape (now x-map) (now x-catalogue)
+          (now x-card) (now x-limits) x-sheet x-count r-call (zs-call .1 .1 .0) (zs-call .1 .1 .1 .0)
+          (zs-call .1 .1 .1 .1 .0))))) (id⊢ 𝓤 _) $
           pick ! (λ zs-call. split ! $ move ! (1 ∷ []) $
-          heard ! (call-says call-out call-x-map call-x-catalogue call-x-card x-shape (now x-map) (now x-catalogue) (now x-card)
-          (now x-limits) x-sheet x-count r-call (zs-call .1 .0) (zs-call .1 .1 .0) (zs-call .1 .1 .1 .0)) (λ e-call.
+          heard ! (call-says call-out call-x-map call-x-catalogue call-x-card x-role x-shape (now x-map) (now x-catalogue)
+          (now x-card) (now x-limits) x-sheet x-count r-call (zs-call .1 .1 .0) (zs-call .1 .1 .1 .0) (zs-call .1 .1 .1 .1 .0))
+          (λ e-call.
           fsplit ! $ move ! (1 ∷ []) $ fsplit ! $ move ! (1 ∷ []) $ fsplit ! $ move ! (1 ∷ []) $ fsplit ! $
           move ! (1 ∷ []) $ fsplit ! $ move ! (1 ∷ []) $ fsplit ! $ move ! (1 ∷ []) $ fsplit ! $ move ! (1 ∷ []) $
-          drop ! $ move ! (6 ∷ []) $ drop ! $ move ! (5 ∷ []) $ fsplit ! $ move ! (1 ∷ []) $ feqL ! (λ h-call-x-map.
-          move ! (5 ∷ []) $ fsplit ! $ move ! (1 ∷ []) $ feqL ! (λ h-call-x-catalogue. move ! (5 ∷ []) $ fsplit ! $
-          move ! (1 ∷ []) $ feqL ! (λ h-call-x-card. move ! (5 ∷ []) $ drop ! $ move ! (4 ∷ []) $ drop ! $
-          move ! (3 ∷ []) $ drop ! $ move ! (3 ∷ []) $ split ! $ move ! (1 ∷ []) $
+          fsplit ! $ move ! (1 ∷ []) $ drop ! $ move ! (7 ∷ []) $ drop ! $ move ! (6 ∷ []) $ drop ! $ move ! (5 ∷ []) $
+          fsplit ! $ move ! (1 ∷ []) $ feqL ! (λ h-call-x-map. move ! (5 ∷ []) $ fsplit ! $ move ! (1 ∷ []) $
+          feqL ! (λ h-call-x-catalogue. move ! (5 ∷ []) $ fsplit ! $ move ! (1 ∷ []) $ feqL ! (λ h-call-x-card.
+          move ! (5 ∷ []) $ drop ! $ move ! (4 ∷ []) $ drop ! $ move ! (3 ∷ []) $ drop ! $ move ! (3 ∷ []) $ split ! $
+          move ! (1 ∷ []) $
           rewrite ! 0 (λ (r : (denotes Outcome)). ‵ ((rowOf Outcome) .own r (w-call ∷ []))) (e-call .0) refl $
           rewrite ! 4 (λ (l : List ℕ). ‵ (finally u64 δ₀-call l)) (e-call .1) refl $
           rewrite ! 3 (λ (l : List Entry). ‵ (finally Entry′.the-row δ₁-call l)) (e-call .2) refl $
           rewrite ! 2 (λ (l : List ℕ). ‵ (finally u8 δ₂-call l)) (e-call .3) refl $
           peeks ! (rowOf Outcome) (Is (rowOf Outcome)) (shows 𝓤 H A (rowOf Outcome)) v-outcome (w-call ∷ []) (λ is-w-call.
           land ! (from ! (stop !)) (init ! 21 refl ((Outcome .typed 𝓤 H A W) v-outcome _ is-w-call .0)) $
-          rewrite ! 21 (λ (u : Val). ‵ (fat fullShare (mirOf Outcome) l₈ 0 u)) (ap only
+          rewrite ! 21 (λ (u : Val). ‵ (fat fullShare (mirOf Outcome) l₉ 0 u)) (ap only
           ((Outcome .tells) v-outcome _ is-w-call)) refl $
           drop ! $ split ! $ move ! (1 ∷ []) $ split ! $ move ! (1 ∷ []) $ split ! $ move ! (1 ∷ []) $ split ! $
           move ! (1 ∷ []) $ drop ! $ move ! (3 ∷ []) $ lft-end ! tt $ move ! (0 ∷ 10 ∷ 6 ∷ []) $
@@ -523,17 +551,17 @@ module _ (Shape Outcome Reply : Value) where
           drop ! $ drop ! $ split ! $ move ! (1 ∷ []) $
           rewrite ! 0 (λ (r : (denotes Reply)). ‵ ((rowOf Reply) .own r (w-reply-of ∷ []))) (e-reply-of) refl $
           peeks ! (rowOf Reply) (Is (rowOf Reply)) (shows 𝓤 H A (rowOf Reply)) v-result (w-reply-of ∷ []) (λ is-w-reply-of.
-          land ! (from ! (stop !)) (init ! 38 refl ((Reply .typed 𝓤 H A W) v-result _ is-w-reply-of .0)) $
-          rewrite ! 38 (λ (u : Val). ‵ (fat fullShare (mirOf Reply) l₀ 0 u)) (ap only ((Reply .tells) v-result _ is-w-reply-of))
+          land ! (from ! (stop !)) (init ! 40 refl ((Reply .typed 𝓤 H A W) v-result _ is-w-reply-of .0)) $
+          rewrite ! 40 (λ (u : Val). ‵ (fat fullShare (mirOf Reply) l₀ 0 u)) (ap only ((Reply .tells) v-result _ is-w-reply-of))
           refl $
-          drop ! $ drop ! $ returns ! (look ! 36 refl) $ leave ! 36 refl refl $ leave ! 34 refl refl $
-          leave ! 32 refl refl $ leave ! 30 refl refl $ leave ! 28 refl refl $ leave ! 26 refl refl $
-          leave ! 24 refl refl $ leave ! 22 refl refl $ leave ! 20 refl refl $ leave ! 18 refl refl $
-          leave ! 16 refl refl $ leave ! 14 refl refl $ leave ! 12 refl refl $ leave ! 10 refl refl $
-          leave ! 8 refl refl $ free0 ! $ move ! (4 ∷ 5 ∷ 2 ∷ 3 ∷ 0 ∷ 1 ∷ 7 ∷ 6 ∷ []) $
+          drop ! $ drop ! $ returns ! (look ! 38 refl) $ leave ! 38 refl refl $ leave ! 36 refl refl $
+          leave ! 34 refl refl $ leave ! 32 refl refl $ leave ! 30 refl refl $ leave ! 28 refl refl $
+          leave ! 26 refl refl $ leave ! 24 refl refl $ leave ! 22 refl refl $ leave ! 20 refl refl $
+          leave ! 18 refl refl $ leave ! 16 refl refl $ leave ! 14 refl refl $ leave ! 12 refl refl $
+          leave ! 10 refl refl $ leave ! 8 refl refl $ free0 ! $ move ! (4 ∷ 5 ∷ 2 ∷ 3 ∷ 0 ∷ 1 ∷ 7 ∷ 6 ∷ []) $
           by ! (exits (spelled-v-result w-reply-of is-w-reply-of) (ap {B = ℕ} length (sym (e-call .1)) ∙ h-call-x-map)
           (ap {B = ℕ} length (sym (e-call .2)) ∙ h-call-x-catalogue) (ap {B = ℕ} length (sym (e-call .3))
-          ∙ h-call-x-card))))))))))))))))))))))))))))))))))))
+          ∙ h-call-x-card)))))))))))))))))))))))))))))))))))))
 
     module _ {M : Type 1} (𝓤 : URA M) (H : Heap 𝓤) (A : Atoms 𝓤) (W : Given 𝓤 H A) where
       walks : (𝓣 : Tables 𝓤 H) → Triple 𝓤 (𝓣 .C #call) (call-contract call-out call-x-map call-x-catalogue call-x-card 𝓤 H A)
@@ -542,44 +570,51 @@ module _ (Shape Outcome Reply : Value) where
       walks 𝓣 known-call known-reply-of =
           walked 𝓤 H A ended stayed (clauses 𝓤) (WpFn 𝓤 H (𝓣 .C) (𝓣 .Λ) (function #call #reply-of))
           (λ κs. (
-            (valsOf Shape),
-            (slice-vals, (slice-vals, (slice-vals, (ptr-vals, ((uint-vals w32), ((uint-vals w32), tt)))))),
+            (uint-vals w32),
+            ((valsOf Shape), (slice-vals, (slice-vals, (slice-vals, (ptr-vals, ((uint-vals w32), ((uint-vals w32), tt))))))),
           ))
           (λ κs. (
-            (Shape .tells),
+            (uint-tells w32),
             (
-              mut-slice-tells (named 0) (κs .0) u64,
+              (Shape .tells),
               (
-                mut-slice-tells (named 1) (κs .1 .0) Entry′.the-row,
+                mut-slice-tells (named 0) (κs .0) u64,
                 (
-                  mut-slice-tells (named 2) (κs .1 .1 .0) u8,
-                  (shr-tells (named 3) (κs .1 .1 .1 .0) (Array u32 8), ((uint-tells w32), ((uint-tells w32), tt))),
+                  mut-slice-tells (named 1) (κs .1 .0) Entry′.the-row,
+                  (
+                    mut-slice-tells (named 2) (κs .1 .1 .0) u8,
+                    (shr-tells (named 3) (κs .1 .1 .1 .0) (Array u32 8), ((uint-tells w32), ((uint-tells w32), tt))),
+                  ),
                 ),
               ),
             ),
           ))
           (λ κs qs bounds a g are. via 𝓤 _ (fst∗ 𝓤 _ (emp 𝓤)) (walk 𝓤 H A W (κs .0) (κs .1 .0) (κs .1 .1 .0) (κs .1 .1 .1 .0)
           (qs .0) (qs .1 .0) (qs .1 .1 .0) (qs .1 .1 .1 .0) (a .0) (a .1 .0) (a .1 .1 .0) (a .1 .1 .1 .0) (a .1 .1 .1 .1 .0)
-          (a .1 .1 .1 .1 .1 .0) (a .1 .1 .1 .1 .1 .1 .0) (are .0) (are .1 .0 .0 .1) (are .1 .1 .0 .0 .1) (are .1 .1 .1 .0 .0 .1)
-          (are .1 .1 .1 .1 .1 .0) (are .1 .1 .1 .1 .1 .1 .0) 𝓣 known-call known-reply-of))
+          (a .1 .1 .1 .1 .1 .0) (a .1 .1 .1 .1 .1 .1 .0) (a .1 .1 .1 .1 .1 .1 .1 .0) (are .0) (are .1 .0) (are .1 .1 .0 .0 .1)
+          (are .1 .1 .1 .0 .0 .1) (are .1 .1 .1 .1 .0 .0 .1) (are .1 .1 .1 .1 .1 .1 .0) (are .1 .1 .1 .1 .1 .1 .1 .0) 𝓣
+          known-call known-reply-of))
 
       pub meets : (𝓣 : Tables 𝓤 H) → Triple 𝓤 (𝓣 .C #call) (call-contract call-out call-x-map call-x-catalogue call-x-card 𝓤 H
           A) → Triple 𝓤 (𝓣 .C #reply-of) (reply-of-contract reply-of-out 𝓤 H A) → Meets 𝓤 H A signature
           (WpFn 𝓤 H (𝓣 .C) (𝓣 .Λ) (function #call #reply-of)) (closing 𝓤 H A ended (clauses 𝓤))
       meets 𝓣 known-call known-reply-of =
           walk-meets 𝓤 H A ended stayed W (
-            goes-none 𝓤 H A W 4 (λ _. (rowOf Shape)) yes (λ κs x f. refl),
+            goes-none 𝓤 H A W 4 (λ _. u32) yes (λ κs x f. refl),
             (
-              goes-slice 𝓤 H A W 4 0 tt (plain (λ _. u64)),
+              goes-none 𝓤 H A W 4 (λ _. (rowOf Shape)) yes (λ κs x f. refl),
               (
-                goes-slice 𝓤 H A W 4 1 tt (plain (λ _. Entry′.the-row)),
+                goes-slice 𝓤 H A W 4 0 tt (plain (λ _. u64)),
                 (
-                  goes-slice 𝓤 H A W 4 2 tt (plain (λ _. u8)),
+                  goes-slice 𝓤 H A W 4 1 tt (plain (λ _. Entry′.the-row)),
                   (
-                    goes-none-ref 𝓤 H A W 4 (3 ∷ []) tt (plain (λ _. (Array u32 8))) yes,
+                    goes-slice 𝓤 H A W 4 2 tt (plain (λ _. u8)),
                     (
-                      goes-none 𝓤 H A W 4 (λ _. u32) yes (λ κs x f. refl),
-                      (goes-none 𝓤 H A W 4 (λ _. u32) yes (λ κs x f. refl), tt),
+                      goes-none-ref 𝓤 H A W 4 (3 ∷ []) tt (plain (λ _. (Array u32 8))) yes,
+                      (
+                        goes-none 𝓤 H A W 4 (λ _. u32) yes (λ κs x f. refl),
+                        (goes-none 𝓤 H A W 4 (λ _. u32) yes (λ κs x f. refl), tt),
+                      ),
                     ),
                   ),
                 ),

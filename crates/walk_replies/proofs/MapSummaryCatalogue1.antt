@@ -1,6 +1,6 @@
--- Written by tools/walks: every function (shape: Shape, map: &mut [u64], summary: &mut [u32], catalogue: &mut [Entry], sheet:
--- u32) whose code is
---     let outcome: Outcome = call(shape, map, summary, catalogue, sheet);
+-- Written by tools/walks: every function (role: u32, shape: Shape, map: &mut [u64], summary: &mut [u32], catalogue: &mut
+-- [Entry], sheet: u32) whose code is
+--     let outcome: Outcome = call(role, shape, map, summary, catalogue, sheet);
 --     reply_of(outcome)
 -- One walk serves every choice of the callees: it takes their names and what their contracts say. The types by value are any,
 -- too.
@@ -56,22 +56,25 @@ module _ (Shape Outcome Reply : Value) where
   signature = record {
     lifetimes = 3;
     outlives = [];
-    params = plain (λ _. (rowOf Shape)) ∷ mutSlice 0 tt (λ _. u64) ∷ mutSlice 1 tt (λ _. u32)
+    params = plain (λ _. u32) ∷ plain (λ _. (rowOf Shape)) ∷ mutSlice 0 tt (λ _. u64) ∷ mutSlice 1 tt (λ _. u32)
         ∷ mutSlice 2 tt (λ _. Entry′.the-row) ∷ plain (λ _. u32) ∷ [];
     result = plain (λ _. (rowOf Reply));
   }
 
   abbrev ended : Ended
-  ended = record { signature = signature; kept = (yes, (yes, (yes, (yes, (yes, tt))))) }
+  ended = record { signature = signature; kept = (yes, (yes, (yes, (yes, (yes, (yes, tt)))))) }
 
   abbrev stayed : Stays (ended .signature .params) (ended .kept)
   stayed = (
-    stay-none (λ _. (rowOf Shape)) yes,
+    stay-none (λ _. u32) yes,
     (
-      stay-slice (0 ∷ []) tt (plain (λ _. u64)),
+      stay-none (λ _. (rowOf Shape)) yes,
       (
-        stay-slice (1 ∷ []) tt (plain (λ _. u32)),
-        (stay-slice (2 ∷ []) tt (plain (λ _. Entry′.the-row)), (stay-none (λ _. u32) yes, tt)),
+        stay-slice (0 ∷ []) tt (plain (λ _. u64)),
+        (
+          stay-slice (1 ∷ []) tt (plain (λ _. u32)),
+          (stay-slice (2 ∷ []) tt (plain (λ _. Entry′.the-row)), (stay-none (λ _. u32) yes, tt)),
+        ),
       ),
     ),
   )
@@ -81,24 +84,24 @@ module _ (Shape Outcome Reply : Value) where
   function #call #reply-of = record {
     lifetimes = 3;
     outlives = [];
-    params = 5;
-    locals = local (mirOf Reply) valueLocal ∷ local (mirOf Shape) valueLocal ∷ local (sliceTy (tyRef (named 0) mut (tyInt w64)))
-        valueLocal ∷ local (sliceTy (tyRef (named 1) mut (tyInt w32))) valueLocal ∷ local
-        (sliceTy (tyRef (named 2) mut (pointee (Entry′.the-row .written)))) valueLocal ∷ local (tyInt w32) valueLocal
-        ∷ local (mirOf Outcome) valueLocal ∷ local (tyRef erased mut (tyInt w64)) valueLocal
+    params = 6;
+    locals = local (mirOf Reply) valueLocal ∷ local (tyInt w32) valueLocal ∷ local (mirOf Shape) valueLocal
+        ∷ local (sliceTy (tyRef (named 0) mut (tyInt w64))) valueLocal ∷ local (sliceTy (tyRef (named 1) mut (tyInt w32)))
+        valueLocal ∷ local (sliceTy (tyRef (named 2) mut (pointee (Entry′.the-row .written)))) valueLocal
+        ∷ local (tyInt w32) valueLocal ∷ local (mirOf Outcome) valueLocal ∷ local (tyRef erased mut (tyInt w64)) valueLocal
         ∷ local (sliceTy (tyRef erased mut (tyInt w64))) valueLocal ∷ local (tyRef erased mut (tyInt w32)) valueLocal
         ∷ local (sliceTy (tyRef erased mut (tyInt w32))) valueLocal ∷ local (tyRef erased mut
         (pointee (Entry′.the-row .written))) valueLocal ∷ local (sliceTy (tyRef erased mut (pointee (Entry′.the-row .written))))
         valueLocal ∷ [];
-    body = seq (assign (place 7 []) (addrOf (place 2 (field 0 ∷ deref (tyInt w64) ∷ []))))
-        (seq (assign (place 8 []) (aggregate (copy (place 7 []) ∷ copy (place 2 (field 1 ∷ [])) ∷ [])))
-        (seq (assign (place 9 []) (addrOf (place 3 (field 0 ∷ deref (tyInt w32) ∷ []))))
-        (seq (assign (place 10 []) (aggregate (copy (place 9 []) ∷ copy (place 3 (field 1 ∷ [])) ∷ [])))
-        (seq (assign (place 11 []) (addrOf (place 4 (field 0 ∷ deref Entry″.mir ∷ []))))
-        (seq (assign (place 12 []) (aggregate (copy (place 11 []) ∷ copy (place 4 (field 1 ∷ [])) ∷ [])))
-        (seq (call #call (copy (place 1 []) ∷ copy (place 8 []) ∷ copy (place 10 []) ∷ copy (place 12 []) ∷ copy (place 5 [])
-        ∷ []) (place 6 []))
-        (seq (call #reply-of (copy (place 6 []) ∷ []) (place 0 [])) return)))))));
+    body = seq (assign (place 8 []) (addrOf (place 3 (field 0 ∷ deref (tyInt w64) ∷ []))))
+        (seq (assign (place 9 []) (aggregate (copy (place 8 []) ∷ copy (place 3 (field 1 ∷ [])) ∷ [])))
+        (seq (assign (place 10 []) (addrOf (place 4 (field 0 ∷ deref (tyInt w32) ∷ []))))
+        (seq (assign (place 11 []) (aggregate (copy (place 10 []) ∷ copy (place 4 (field 1 ∷ [])) ∷ [])))
+        (seq (assign (place 12 []) (addrOf (place 5 (field 0 ∷ deref Entry″.mir ∷ []))))
+        (seq (assign (place 13 []) (aggregate (copy (place 12 []) ∷ copy (place 5 (field 1 ∷ [])) ∷ [])))
+        (seq (call #call (copy (place 1 []) ∷ copy (place 2 []) ∷ copy (place 9 []) ∷ copy (place 11 []) ∷ copy (place 13 [])
+        ∷ copy (place 6 []) ∷ []) (place 7 []))
+        (seq (call #reply-of (copy (place 7 []) ∷ []) (place 0 [])) return)))))));
   }
 
   -- ---- what `call` is, and what it ensures
@@ -106,31 +109,31 @@ module _ (Shape Outcome Reply : Value) where
   call-signature = record {
     lifetimes = 3;
     outlives = [];
-    params = plain (λ _. (rowOf Shape)) ∷ mutSlice 0 tt (λ _. u64) ∷ mutSlice 1 tt (λ _. u32)
+    params = plain (λ _. u32) ∷ plain (λ _. (rowOf Shape)) ∷ mutSlice 0 tt (λ _. u64) ∷ mutSlice 1 tt (λ _. u32)
         ∷ mutSlice 2 tt (λ _. Entry′.the-row) ∷ plain (λ _. u32) ∷ [];
     result = plain (λ _. (rowOf Outcome));
   }
 
   abbrev call-ended : Ended
-  call-ended = record { signature = call-signature; kept = (yes, (yes, (yes, (yes, (yes, tt))))) }
+  call-ended = record { signature = call-signature; kept = (yes, (yes, (yes, (yes, (yes, (yes, tt)))))) }
 
   abbrev call-Model : Type 0 → Type 0
-  call-Model X = (denotes Shape) → List ℕ → List ℕ → List Entry → ℕ → X
+  call-Model X = ℕ → (denotes Shape) → List ℕ → List ℕ → List Entry → ℕ → X
 
   module _ (call-out : call-Model (denotes Outcome)) (call-x-map : call-Model (List ℕ)) (call-x-summary : call-Model (List ℕ))
       (call-x-catalogue : call-Model (List Entry)) where
-    abbrev call-says : (denotes Shape) → List ℕ → List ℕ → List Entry → ℕ → (denotes Outcome) → List ℕ → List ℕ → List Entry
+    abbrev call-says : ℕ → (denotes Shape) → List ℕ → List ℕ → List Entry → ℕ → (denotes Outcome) → List ℕ → List ℕ → List Entry
         → Type 0
-    call-says a0 a1 a2 a3 a4 r b1 b2 b3 = (r ≡ call-out a0 a1 a2 a3 a4) × (b1 ≡ call-x-map a0 a1 a2 a3 a4)
-        × (b2 ≡ call-x-summary a0 a1 a2 a3 a4) × (b3 ≡ call-x-catalogue a0 a1 a2 a3 a4)
+    call-says a0 a1 a2 a3 a4 a5 r b2 b3 b4 = (r ≡ call-out a0 a1 a2 a3 a4 a5) × (b2 ≡ call-x-map a0 a1 a2 a3 a4 a5)
+        × (b3 ≡ call-x-summary a0 a1 a2 a3 a4 a5) × (b4 ≡ call-x-catalogue a0 a1 a2 a3 a4 a5)
 
     module _ {M : Type 1} (𝓤 : URA M) where
       abbrev call-clauses : Clauses 𝓤 call-ended
       call-clauses κs a = record {
         ghost = Unit {0};
         requires = λ _. emp 𝓤;
-        ensures = λ _ r e. fact 𝓤 (call-says (a .0) (now (a .1 .0)) (now (a .1 .1 .0)) (now (a .1 .1 .1 .0)) (a .1 .1 .1 .1 .0)
-            r (now (e .1 .0)) (now (e .1 .1 .0)) (now (e .1 .1 .1 .0)));
+        ensures = λ _ r e. fact 𝓤 (call-says (a .0) (a .1 .0) (now (a .1 .1 .0)) (now (a .1 .1 .1 .0)) (now (a .1 .1 .1 .1 .0))
+            (a .1 .1 .1 .1 .1 .0) r (now (e .1 .1 .0)) (now (e .1 .1 .1 .0)) (now (e .1 .1 .1 .1 .0)));
       }
 
       module _ (H : Heap 𝓤) (A : Atoms 𝓤) where
@@ -172,18 +175,19 @@ module _ (Shape Outcome Reply : Value) where
       (call-x-summary : call-Model (List ℕ)) (call-x-catalogue : call-Model (List Entry))
       (reply-of-out : reply-of-Model (denotes Reply)) where
     -- ---- what the chain gives, call by call
-    module _ (x-shape : (denotes Shape)) (x-map : List ℕ) (x-summary : List ℕ) (x-catalogue : List Entry) (x-sheet : ℕ) where
+    module _ (x-role : ℕ) (x-shape : (denotes Shape)) (x-map : List ℕ) (x-summary : List ℕ) (x-catalogue : List Entry)
+        (x-sheet : ℕ) where
       abbrev v-outcome-of : (denotes Outcome)
-      v-outcome-of = call-out x-shape x-map x-summary x-catalogue x-sheet
+      v-outcome-of = call-out x-role x-shape x-map x-summary x-catalogue x-sheet
 
       abbrev z-call-x-map-of : List ℕ
-      z-call-x-map-of = call-x-map x-shape x-map x-summary x-catalogue x-sheet
+      z-call-x-map-of = call-x-map x-role x-shape x-map x-summary x-catalogue x-sheet
 
       abbrev z-call-x-summary-of : List ℕ
-      z-call-x-summary-of = call-x-summary x-shape x-map x-summary x-catalogue x-sheet
+      z-call-x-summary-of = call-x-summary x-role x-shape x-map x-summary x-catalogue x-sheet
 
       abbrev z-call-x-catalogue-of : List Entry
-      z-call-x-catalogue-of = call-x-catalogue x-shape x-map x-summary x-catalogue x-sheet
+      z-call-x-catalogue-of = call-x-catalogue x-role x-shape x-map x-summary x-catalogue x-sheet
 
       abbrev v-result-of : (denotes Reply)
       v-result-of = reply-of-out v-outcome-of
@@ -197,16 +201,23 @@ module _ (Shape Outcome Reply : Value) where
       clauses κs a = record {
         ghost = Unit {0};
         requires = λ _. emp 𝓤;
-        ensures = λ _ r e. fact 𝓤 (Says (a .0) (now (a .1 .0)) (now (a .1 .1 .0)) (now (a .1 .1 .1 .0)) (a .1 .1 .1 .1 .0) r
-            (now (e .1 .0)) (now (e .1 .1 .0)) (now (e .1 .1 .1 .0)));
+        ensures = λ _ r e. fact 𝓤 (Says (a .0) (a .1 .0) (now (a .1 .1 .0)) (now (a .1 .1 .1 .0)) (now (a .1 .1 .1 .1 .0))
+            (a .1 .1 .1 .1 .1 .0) r (now (e .1 .1 .0)) (now (e .1 .1 .1 .0)) (now (e .1 .1 .1 .1 .0)));
       }
 
     module _ {M : Type 1} (𝓤 : URA M) (H : Heap 𝓤) (A : Atoms 𝓤) (W : Given 𝓤 H A) (κ₀ κ₁ κ₂ : Lft) (q₀ q₁ q₂ : Share)
-        (x-shape : (denotes Shape)) (x-map : RefT (List ℕ)) (x-summary : RefT (List ℕ)) (x-catalogue : RefT (List Entry))
-        (x-sheet : ℕ)
-        (is-x-shape : Is (rowOf Shape) x-shape ((valsOf Shape) x-shape)) (room-x-map : Room u64 (length (now x-map)))
-        (room-x-summary : Room u32 (length (now x-summary))) (room-x-catalogue : Room Entry′.the-row (length (now x-catalogue)))
-        (is-x-sheet : Is u32 x-sheet ((uint-vals w32) x-sheet)) where
+        (x-role : ℕ) (x-shape : (denotes Shape)) (x-map : RefT (List ℕ)) (x-summary : RefT (List ℕ))
+        (x-catalogue : RefT (List Entry)) (x-sheet : ℕ)
+        (is-x-role : Is u32 x-role ((uint-vals w32) x-role)) (is-x-shape : Is (rowOf Shape) x-shape ((valsOf Shape) x-shape))
+        (room-x-map : Room u64 (length (now x-map))) (room-x-summary : Room u32 (length (now x-summary)))
+        (room-x-catalogue : Room Entry′.the-row (length (now x-catalogue))) (is-x-sheet : Is u32 x-sheet
+        ((uint-vals w32) x-sheet)) where
+      abbrev m-x-role : Val
+      m-x-role = only ((uint-vals w32) x-role)
+
+      typed-x-role : Holds (hasTy (tyInt w32) m-x-role) × WT m-x-role
+      typed-x-role = (uint-lawful 𝓤 H A W w32 .typed) x-role _ is-x-role .0
+
       abbrev m-x-shape : Val
       m-x-shape = only ((valsOf Shape) x-shape)
 
@@ -237,11 +248,11 @@ module _ (Shape Outcome Reply : Value) where
       typed-x-sheet : Holds (hasTy (tyInt w32) m-x-sheet) × WT m-x-sheet
       typed-x-sheet = (uint-lawful 𝓤 H A W w32 .typed) x-sheet _ is-x-sheet .0
 
-      abbrev args : (denotes Shape) × (RefT (List ℕ) × (RefT (List ℕ) × (RefT (List Entry) × (ℕ × Unit {0}))))
-      args = (x-shape, (x-map, (x-summary, (x-catalogue, (x-sheet, tt)))))
+      abbrev args : ℕ × ((denotes Shape) × (RefT (List ℕ) × (RefT (List ℕ) × (RefT (List Entry) × (ℕ × Unit {0})))))
+      args = (x-role, (x-shape, (x-map, (x-summary, (x-catalogue, (x-sheet, tt))))))
 
-      abbrev vals : List Val × (List Val × (List Val × (List Val × (List Val × Unit {0}))))
-      vals = (m-x-shape ∷ [], (s-x-map ∷ [], (s-x-summary ∷ [], (s-x-catalogue ∷ [], (m-x-sheet ∷ [], tt)))))
+      abbrev vals : List Val × (List Val × (List Val × (List Val × (List Val × (List Val × Unit {0})))))
+      vals = (m-x-role ∷ [], (m-x-shape ∷ [], (s-x-map ∷ [], (s-x-summary ∷ [], (s-x-catalogue ∷ [], (m-x-sheet ∷ [], tt))))))
 
       abbrev bound : walkOf 𝓤 H A ended stayed (clauses 𝓤) .Ghost
       bound = (((κ₀, (κ₁, (κ₂, tt))), (q₀, (q₁, (q₂, tt))), tt, args, vals), tt)
@@ -250,19 +261,19 @@ module _ (Shape Outcome Reply : Value) where
       Post = walkOf 𝓤 H A ended stayed (clauses 𝓤) .post bound
 
       abbrev v-outcome : (denotes Outcome)
-      v-outcome = v-outcome-of x-shape (now x-map) (now x-summary) (now x-catalogue) x-sheet
+      v-outcome = v-outcome-of x-role x-shape (now x-map) (now x-summary) (now x-catalogue) x-sheet
 
       abbrev z-call-x-map : List ℕ
-      z-call-x-map = z-call-x-map-of x-shape (now x-map) (now x-summary) (now x-catalogue) x-sheet
+      z-call-x-map = z-call-x-map-of x-role x-shape (now x-map) (now x-summary) (now x-catalogue) x-sheet
 
       abbrev z-call-x-summary : List ℕ
-      z-call-x-summary = z-call-x-summary-of x-shape (now x-map) (now x-summary) (now x-catalogue) x-sheet
+      z-call-x-summary = z-call-x-summary-of x-role x-shape (now x-map) (now x-summary) (now x-catalogue) x-sheet
 
       abbrev z-call-x-catalogue : List Entry
-      z-call-x-catalogue = z-call-x-catalogue-of x-shape (now x-map) (now x-summary) (now x-catalogue) x-sheet
+      z-call-x-catalogue = z-call-x-catalogue-of x-role x-shape (now x-map) (now x-summary) (now x-catalogue) x-sheet
 
       abbrev v-result : (denotes Reply)
-      v-result = v-result-of x-shape (now x-map) (now x-summary) (now x-catalogue) x-sheet
+      v-result = v-result-of x-role x-shape (now x-map) (now x-summary) (now x-catalogue) x-sheet
 
       abbrev m-v-outcome : Val
       m-v-outcome = only ((valsOf Outcome) v-outcome)
@@ -277,13 +288,16 @@ module _ (Shape Outcome Reply : Value) where
       spelled-v-result w is = subst (λ (vs : List Val). Is (rowOf Reply) v-result vs) ((Reply .tells) v-result _ is) is
 
       -- ---- the caller has what `call` asks
-      abbrev call-args : (δ₀-call δ₁-call δ₂-call : GName) → (denotes Shape) × (RefT (List ℕ)
-          × (RefT (List ℕ) × (RefT (List Entry) × (ℕ × Unit {0}))))
+      abbrev call-args : (δ₀-call δ₁-call δ₂-call : GName) → ℕ × ((denotes Shape) × (RefT (List ℕ)
+          × (RefT (List ℕ) × (RefT (List Entry) × (ℕ × Unit {0})))))
       call-args δ₀-call δ₁-call δ₂-call = (
-        x-shape,
+        x-role,
         (
-          at-x-map δ₀-call (now x-map),
-          (at-x-summary δ₁-call (now x-summary), (at-x-catalogue δ₂-call (now x-catalogue), (x-sheet, tt))),
+          x-shape,
+          (
+            at-x-map δ₀-call (now x-map),
+            (at-x-summary δ₁-call (now x-summary), (at-x-catalogue δ₂-call (now x-catalogue), (x-sheet, tt))),
+          ),
         ),
       )
 
@@ -295,7 +309,7 @@ module _ (Shape Outcome Reply : Value) where
           (fullShare, (fullShare, (fullShare, tt))),
           tt,
           call-args δ₀-call δ₁-call δ₂-call,
-          (m-x-shape ∷ [], (s-x-map ∷ [], (s-x-summary ∷ [], (s-x-catalogue ∷ [], (m-x-sheet ∷ [], tt))))),
+          (m-x-role ∷ [], (m-x-shape ∷ [], (s-x-map ∷ [], (s-x-summary ∷ [], (s-x-catalogue ∷ [], (m-x-sheet ∷ [], tt)))))),
         ),
         tt,
       )
@@ -317,7 +331,8 @@ module _ (Shape Outcome Reply : Value) where
           nothing ! $ owned ! u32 (Is u32) (uint-makes 𝓤 H A W w32) x-sheet _ is-x-sheet $ fjoin ! $
           move ! (4 ∷ 0 ∷ []) $ fjoin ! $ move ! (3 ∷ 0 ∷ []) $ fjoin ! $ move ! (2 ∷ 0 ∷ []) $ fjoin ! $
           owned ! (rowOf Shape) (Is (rowOf Shape)) (Shape .makes 𝓤 H A) x-shape _ is-x-shape $ fjoin ! $
-          move ! (1 ∷ 0 ∷ []) $ join ! $ frame ! $ done !
+          owned ! u32 (Is u32) (uint-makes 𝓤 H A W w32) x-role _ is-x-role $ fjoin ! $ move ! (1 ∷ 0 ∷ []) $ join ! $
+          frame ! $ done !
 
       -- ---- the caller has what `reply-of` asks
       abbrev reply-of-args : (denotes Outcome) × Unit {0}
@@ -348,37 +363,40 @@ module _ (Shape Outcome Reply : Value) where
           ∷ ‵ (flft κ₁ q₁) ∷ ‵ (MutSlice (named 2) κ₂ Entry′.the-row .own (at-x-catalogue (x-catalogue .name)
           z-call-x-catalogue) (s-x-catalogue ∷ [])) ∷ ‵ (flft κ₂ q₂) ∷ []) ∵
           suffices ! _ (ends-at 𝓤 H A ended stayed (clauses 𝓤) W bound m-v-result v-result
-          (tt, (z-call-x-map, (z-call-x-summary, (z-call-x-catalogue, (tt, tt)))))
-          (tt, (l-x-map, (l-x-summary, (l-x-catalogue, (tt, tt)))))) $
+          (tt, (tt, (z-call-x-map, (z-call-x-summary, (z-call-x-catalogue, (tt, tt))))))
+          (tt, (tt, (l-x-map, (l-x-summary, (l-x-catalogue, (tt, tt))))))) $
           says ! (refl, refl, refl, refl) $ nothing ! $ move ! (6 ∷ 0 ∷ []) $ join ! $ move ! (4 ∷ 0 ∷ []) $ join ! $
           move ! (2 ∷ 0 ∷ []) $ join ! $ frame ! $ nothing ! $
           owned ! u32 (Is u32) (uint-makes 𝓤 H A W w32) x-sheet _ is-x-sheet $ fjoin ! $ move ! (3 ∷ 0 ∷ []) $
           fjoin ! $ move ! (2 ∷ 0 ∷ []) $ fjoin ! $ move ! (1 ∷ 0 ∷ []) $ fjoin ! $
           owned ! (rowOf Shape) (Is (rowOf Shape)) (Shape .makes 𝓤 H A) x-shape _ is-x-shape $ fjoin ! $
+          owned ! u32 (Is u32) (uint-makes 𝓤 H A W w32) x-role _ is-x-role $ fjoin ! $
           owned ! (rowOf Reply) (Is (rowOf Reply)) (Reply .makes 𝓤 H A) v-result _ is $ move ! (1 ∷ 0 ∷ []) $ done !
 
       -- ---- the walk
       walk : (𝓣 : Tables 𝓤 H) → Triple 𝓤 (𝓣 .C #call) (call-contract call-out call-x-map call-x-summary call-x-catalogue 𝓤 H A)
           → Triple 𝓤 (𝓣 .C #reply-of) (reply-of-contract reply-of-out 𝓤 H A) → ent 𝓤 (onEntry 𝓤 H A signature
           (κ₀, (κ₁, (κ₂, tt))) (q₀, (q₁, (q₂, tt))) args vals)
-          (WpFn 𝓤 H (𝓣 .C) (𝓣 .Λ) (function #call #reply-of) (m-x-shape ∷ s-x-map ∷ s-x-summary ∷ s-x-catalogue ∷ m-x-sheet
-          ∷ []) Post)
+          (WpFn 𝓤 H (𝓣 .C) (𝓣 .Λ) (function #call #reply-of) (m-x-role ∷ m-x-shape ∷ s-x-map ∷ s-x-summary ∷ s-x-catalogue
+          ∷ m-x-sheet ∷ []) Post)
       walk 𝓣 known-call known-reply-of =
           qed W ((‵ (flft κ₀ q₀) ⊛ ‵ (flft κ₁ q₁) ⊛ ‵ (flft κ₂ q₂) ⊛ ‵ ftrue) ∷ ‵ (owns
-          ((rowOf Shape) ∷ MutSlice (named 0) κ₀ u64 ∷ MutSlice (named 1) κ₁ u32 ∷ MutSlice (named 2) κ₂ Entry′.the-row ∷ u32
-          ∷ []) args vals) ∷ []) ∵
-          enter ! (𝓣 .C) (𝓣 .Λ) (function #call #reply-of) (m-x-shape ∷ s-x-map ∷ s-x-summary ∷ s-x-catalogue ∷ m-x-sheet ∷ [])
-          _ $
+          (u32 ∷ (rowOf Shape) ∷ MutSlice (named 0) κ₀ u64 ∷ MutSlice (named 1) κ₁ u32 ∷ MutSlice (named 2) κ₂ Entry′.the-row
+          ∷ u32 ∷ []) args vals) ∷ []) ∵
+          enter ! (𝓣 .C) (𝓣 .Λ) (function #call #reply-of) (m-x-role ∷ m-x-shape ∷ s-x-map ∷ s-x-summary ∷ s-x-catalogue
+          ∷ m-x-sheet ∷ []) _ $
           alloc1 ! (λ l₀. alloc1 ! (λ l₁. alloc1 ! (λ l₂. alloc1 ! (λ l₃. alloc1 ! (λ l₄. alloc1 ! (λ l₅.
           alloc1 ! (λ l₆. alloc1 ! (λ l₇. alloc1 ! (λ l₈. alloc1 ! (λ l₉. alloc1 ! (λ l₁₀. alloc1 ! (λ l₁₁.
-          alloc1 ! (λ l₁₂. alloc0 ! $ params1 ! $ pass1 ! (init ! 22 refl typed-x-shape) $
+          alloc1 ! (λ l₁₂. alloc1 ! (λ l₁₃. alloc0 ! $ params1 ! $ pass1 ! (init ! 24 refl typed-x-role) $
+          pass1 ! (init ! 22 refl typed-x-shape) $
           pass1 ! (init ! 20 refl (tt, (tt, (record { fits = room-x-map .0 }, tt)))) $
           pass1 ! (init ! 18 refl (tt, (tt, (record { fits = room-x-summary .0 }, tt)))) $
           pass1 ! (init ! 16 refl (tt, (tt, (record { fits = room-x-catalogue .0 }, tt)))) $
-          pass1 ! (init ! 14 refl typed-x-sheet) $ pass0 ! $ move ! (26 ∷ []) $ split ! $ move ! (1 ∷ []) $ split ! $
-          move ! (1 ∷ []) $ split ! $ move ! (1 ∷ []) $ drop ! $ move ! (29 ∷ []) $ fsplit ! $ move ! (1 ∷ []) $
+          pass1 ! (init ! 14 refl typed-x-sheet) $ pass0 ! $ move ! (28 ∷ []) $ split ! $ move ! (1 ∷ []) $ split ! $
+          move ! (1 ∷ []) $ split ! $ move ! (1 ∷ []) $ drop ! $ move ! (31 ∷ []) $ fsplit ! $ move ! (1 ∷ []) $
           fsplit ! $ move ! (1 ∷ []) $ fsplit ! $ move ! (1 ∷ []) $ fsplit ! $ move ! (1 ∷ []) $ fsplit ! $
-          move ! (1 ∷ []) $ drop ! $ move ! (4 ∷ []) $ drop ! $ drop ! $
+          move ! (1 ∷ []) $ fsplit ! $ move ! (1 ∷ []) $ drop ! $ move ! (5 ∷ []) $ drop ! $ move ! (4 ∷ []) $ drop ! $
+          drop ! $
           -- call
           assigns ! (addr ! (from ! (fld ! refl (hop ! (look-in ! 26 (sub ! 0 refl (whole !))) (stop !))))) (from ! (stop !))
           (init ! 16 refl (tt, tt)) $
@@ -418,35 +436,37 @@ module _ (Shape Outcome Reply : Value) where
           (to-call ν₀-call ν₁-call ν₂-call δ₀-call δ₁-call δ₂-call))) (goes-call ν₀-call ν₁-call ν₂-call δ₀-call δ₁-call
           δ₂-call) $
           calls-at ! (fmOf 𝓤 H (W .laws) 𝓣) (call-contract call-out call-x-map call-x-summary call-x-catalogue 𝓤 H A) known-call
-          (to-call ν₀-call ν₁-call ν₂-call δ₀-call δ₁-call δ₂-call) (and-then ! (load ! (from ! (stop !)) (look ! 26 refl))
-          (and-then ! (load ! (from ! (stop !)) (look ! 12 refl)) (and-then ! (load ! (from ! (stop !)) (look ! 8 refl))
-          (and-then ! (load ! (from ! (stop !)) (look ! 4 refl)) (and-then ! (load ! (from ! (stop !)) (look ! 18 refl))
-          (no-more !)))))) (λ w-call.
+          (to-call ν₀-call ν₁-call ν₂-call δ₀-call δ₁-call δ₂-call) (and-then ! (load ! (from ! (stop !)) (look ! 28 refl))
+          (and-then ! (load ! (from ! (stop !)) (look ! 26 refl)) (and-then ! (load ! (from ! (stop !)) (look ! 12 refl))
+          (and-then ! (load ! (from ! (stop !)) (look ! 8 refl)) (and-then ! (load ! (from ! (stop !)) (look ! 4 refl))
+          (and-then ! (load ! (from ! (stop !)) (look ! 18 refl)) (no-more !))))))) (λ w-call.
           use1 W (later (some (λ (r : (denotes Outcome)). ((‵ (flft (ν₀-call ∷ []) fullShare)
           ⊛ ‵ (flft (ν₁-call ∷ []) fullShare) ⊛ ‵ (flft (ν₂-call ∷ []) fullShare) ⊛ ‵ ftrue)
           ⊛ ‵ ((rowOf Outcome) .own r (w-call ∷ []))) ⊛ raw (ensured 𝓤 H A call-ended (call-clauses call-out call-x-map
           call-x-summary call-x-catalogue 𝓤) (ν₀-call ∷ [], (ν₁-call ∷ [], (ν₂-call ∷ [], tt)))
           (call-args δ₀-call δ₁-call δ₂-call) tt r)))) (id⊢ 𝓤 _) $
           await ! tt $ pick ! (λ r-call. split ! $ move ! (1 ∷ []) $
-          use1 W (some (λ (zs-call : Unit {0} × (List ℕ × (List ℕ × (List Entry × (Unit {0} × Unit {0}))))). ‵
+          use1 W (some (λ (zs-call : Unit {0} × (Unit {0} × (List ℕ × (List ℕ × (List Entry × (Unit {0} × Unit {0})))))). ‵
           (lasts call-ended (ν₀-call ∷ [], (ν₁-call ∷ [], (ν₂-call ∷ [], tt))) (call-args δ₀-call δ₁-call δ₂-call) zs-call)
-          ⊛ raw (fact 𝓤 (call-says call-out call-x-map call-x-summary call-x-catalogue x-shape (now x-map) (now x-summary)
-          (now x-catalogue) x-sheet r-call (zs-call .1 .0) (zs-call .1 .1 .0) (zs-call .1 .1 .1 .0))))) (id⊢ 𝓤 _) $
+          ⊛ raw (fact 𝓤 (call-says call-out call-x-map call-x-summary call-x-catalogue x-role x-shape (now x-map)
+          (now x-summary) (now x-catalogue) x-sheet r-call (zs-call .1 .1 .0) (zs-call .1 .1 .1 .0) (zs-call .1 .1 .1 .1 .0)))))
+          (id⊢ 𝓤 _) $
           pick ! (λ zs-call. split ! $ move ! (1 ∷ []) $
-          heard ! (call-says call-out call-x-map call-x-summary call-x-catalogue x-shape (now x-map) (now x-summary)
-          (now x-catalogue) x-sheet r-call (zs-call .1 .0) (zs-call .1 .1 .0) (zs-call .1 .1 .1 .0)) (λ e-call.
+          heard ! (call-says call-out call-x-map call-x-summary call-x-catalogue x-role x-shape (now x-map) (now x-summary)
+          (now x-catalogue) x-sheet r-call (zs-call .1 .1 .0) (zs-call .1 .1 .1 .0) (zs-call .1 .1 .1 .1 .0)) (λ e-call.
           fsplit ! $ move ! (1 ∷ []) $ fsplit ! $ move ! (1 ∷ []) $ fsplit ! $ move ! (1 ∷ []) $ fsplit ! $
-          move ! (1 ∷ []) $ fsplit ! $ move ! (1 ∷ []) $ drop ! $ move ! (4 ∷ []) $ drop ! $ move ! (3 ∷ []) $
-          fsplit ! $ move ! (1 ∷ []) $ feqL ! (λ h-call-x-map. move ! (3 ∷ []) $ fsplit ! $ move ! (1 ∷ []) $
-          feqL ! (λ h-call-x-summary. move ! (3 ∷ []) $ fsplit ! $ move ! (1 ∷ []) $ feqL ! (λ h-call-x-catalogue.
-          move ! (3 ∷ []) $ drop ! $ move ! (3 ∷ []) $ split ! $ move ! (1 ∷ []) $
+          move ! (1 ∷ []) $ fsplit ! $ move ! (1 ∷ []) $ fsplit ! $ move ! (1 ∷ []) $ drop ! $ move ! (5 ∷ []) $
+          drop ! $ move ! (4 ∷ []) $ drop ! $ move ! (3 ∷ []) $ fsplit ! $ move ! (1 ∷ []) $ feqL ! (λ h-call-x-map.
+          move ! (3 ∷ []) $ fsplit ! $ move ! (1 ∷ []) $ feqL ! (λ h-call-x-summary. move ! (3 ∷ []) $ fsplit ! $
+          move ! (1 ∷ []) $ feqL ! (λ h-call-x-catalogue. move ! (3 ∷ []) $ drop ! $ move ! (3 ∷ []) $ split ! $
+          move ! (1 ∷ []) $
           rewrite ! 0 (λ (r : (denotes Outcome)). ‵ ((rowOf Outcome) .own r (w-call ∷ []))) (e-call .0) refl $
           rewrite ! 4 (λ (l : List ℕ). ‵ (finally u64 δ₀-call l)) (e-call .1) refl $
           rewrite ! 3 (λ (l : List ℕ). ‵ (finally u32 δ₁-call l)) (e-call .2) refl $
           rewrite ! 2 (λ (l : List Entry). ‵ (finally Entry′.the-row δ₂-call l)) (e-call .3) refl $
           peeks ! (rowOf Outcome) (Is (rowOf Outcome)) (shows 𝓤 H A (rowOf Outcome)) v-outcome (w-call ∷ []) (λ is-w-call.
           land ! (from ! (stop !)) (init ! 20 refl ((Outcome .typed 𝓤 H A W) v-outcome _ is-w-call .0)) $
-          rewrite ! 20 (λ (u : Val). ‵ (fat fullShare (mirOf Outcome) l₆ 0 u)) (ap only
+          rewrite ! 20 (λ (u : Val). ‵ (fat fullShare (mirOf Outcome) l₇ 0 u)) (ap only
           ((Outcome .tells) v-outcome _ is-w-call)) refl $
           drop ! $ split ! $ move ! (1 ∷ []) $ split ! $ move ! (1 ∷ []) $ split ! $ move ! (1 ∷ []) $ drop ! $
           move ! (2 ∷ []) $ lft-end ! tt $ move ! (0 ∷ 8 ∷ 5 ∷ []) $
@@ -480,17 +500,17 @@ module _ (Shape Outcome Reply : Value) where
           drop ! $ drop ! $ split ! $ move ! (1 ∷ []) $
           rewrite ! 0 (λ (r : (denotes Reply)). ‵ ((rowOf Reply) .own r (w-reply-of ∷ []))) (e-reply-of) refl $
           peeks ! (rowOf Reply) (Is (rowOf Reply)) (shows 𝓤 H A (rowOf Reply)) v-result (w-reply-of ∷ []) (λ is-w-reply-of.
-          land ! (from ! (stop !)) (init ! 32 refl ((Reply .typed 𝓤 H A W) v-result _ is-w-reply-of .0)) $
-          rewrite ! 32 (λ (u : Val). ‵ (fat fullShare (mirOf Reply) l₀ 0 u)) (ap only ((Reply .tells) v-result _ is-w-reply-of))
+          land ! (from ! (stop !)) (init ! 34 refl ((Reply .typed 𝓤 H A W) v-result _ is-w-reply-of .0)) $
+          rewrite ! 34 (λ (u : Val). ‵ (fat fullShare (mirOf Reply) l₀ 0 u)) (ap only ((Reply .tells) v-result _ is-w-reply-of))
           refl $
-          drop ! $ drop ! $ returns ! (look ! 30 refl) $ leave ! 30 refl refl $ leave ! 28 refl refl $
-          leave ! 26 refl refl $ leave ! 24 refl refl $ leave ! 22 refl refl $ leave ! 20 refl refl $
-          leave ! 18 refl refl $ leave ! 16 refl refl $ leave ! 14 refl refl $ leave ! 12 refl refl $
-          leave ! 10 refl refl $ leave ! 8 refl refl $ leave ! 6 refl refl $ free0 ! $
+          drop ! $ drop ! $ returns ! (look ! 32 refl) $ leave ! 32 refl refl $ leave ! 30 refl refl $
+          leave ! 28 refl refl $ leave ! 26 refl refl $ leave ! 24 refl refl $ leave ! 22 refl refl $
+          leave ! 20 refl refl $ leave ! 18 refl refl $ leave ! 16 refl refl $ leave ! 14 refl refl $
+          leave ! 12 refl refl $ leave ! 10 refl refl $ leave ! 8 refl refl $ leave ! 6 refl refl $ free0 ! $
           move ! (4 ∷ 5 ∷ 2 ∷ 3 ∷ 0 ∷ 1 ∷ []) $
           by ! (exits (spelled-v-result w-reply-of is-w-reply-of) (ap {B = ℕ} length (sym (e-call .1)) ∙ h-call-x-map)
           (ap {B = ℕ} length (sym (e-call .2)) ∙ h-call-x-summary) (ap {B = ℕ} length (sym (e-call .3))
-          ∙ h-call-x-catalogue))))))))))))))))))))))))))))))))))
+          ∙ h-call-x-catalogue)))))))))))))))))))))))))))))))))))
 
     module _ {M : Type 1} (𝓤 : URA M) (H : Heap 𝓤) (A : Atoms 𝓤) (W : Given 𝓤 H A) where
       walks : (𝓣 : Tables 𝓤 H) → Triple 𝓤 (𝓣 .C #call) (call-contract call-out call-x-map call-x-summary call-x-catalogue 𝓤 H A)
@@ -498,34 +518,41 @@ module _ (Shape Outcome Reply : Value) where
           (WpFn 𝓤 H (𝓣 .C) (𝓣 .Λ) (function #call #reply-of)) (clauses 𝓤)
       walks 𝓣 known-call known-reply-of =
           walked 𝓤 H A ended stayed (clauses 𝓤) (WpFn 𝓤 H (𝓣 .C) (𝓣 .Λ) (function #call #reply-of))
-          (λ κs. ((valsOf Shape), (slice-vals, (slice-vals, (slice-vals, ((uint-vals w32), tt))))))
+          (λ κs. ((uint-vals w32), ((valsOf Shape), (slice-vals, (slice-vals, (slice-vals, ((uint-vals w32), tt)))))))
           (λ κs. (
-            (Shape .tells),
+            (uint-tells w32),
             (
-              mut-slice-tells (named 0) (κs .0) u64,
+              (Shape .tells),
               (
-                mut-slice-tells (named 1) (κs .1 .0) u32,
-                (mut-slice-tells (named 2) (κs .1 .1 .0) Entry′.the-row, ((uint-tells w32), tt)),
+                mut-slice-tells (named 0) (κs .0) u64,
+                (
+                  mut-slice-tells (named 1) (κs .1 .0) u32,
+                  (mut-slice-tells (named 2) (κs .1 .1 .0) Entry′.the-row, ((uint-tells w32), tt)),
+                ),
               ),
             ),
           ))
           (λ κs qs bounds a g are. via 𝓤 _ (fst∗ 𝓤 _ (emp 𝓤)) (walk 𝓤 H A W (κs .0) (κs .1 .0) (κs .1 .1 .0) (qs .0) (qs .1 .0)
-          (qs .1 .1 .0) (a .0) (a .1 .0) (a .1 .1 .0) (a .1 .1 .1 .0) (a .1 .1 .1 .1 .0) (are .0) (are .1 .0 .0 .1)
-          (are .1 .1 .0 .0 .1) (are .1 .1 .1 .0 .0 .1) (are .1 .1 .1 .1 .0) 𝓣 known-call known-reply-of))
+          (qs .1 .1 .0) (a .0) (a .1 .0) (a .1 .1 .0) (a .1 .1 .1 .0) (a .1 .1 .1 .1 .0) (a .1 .1 .1 .1 .1 .0) (are .0)
+          (are .1 .0) (are .1 .1 .0 .0 .1) (are .1 .1 .1 .0 .0 .1) (are .1 .1 .1 .1 .0 .0 .1) (are .1 .1 .1 .1 .1 .0) 𝓣
+          known-call known-reply-of))
 
       pub meets : (𝓣 : Tables 𝓤 H) → Triple 𝓤 (𝓣 .C #call) (call-contract call-out call-x-map call-x-summary call-x-catalogue 𝓤
           H A) → Triple 𝓤 (𝓣 .C #reply-of) (reply-of-contract reply-of-out 𝓤 H A) → Meets 𝓤 H A signature
           (WpFn 𝓤 H (𝓣 .C) (𝓣 .Λ) (function #call #reply-of)) (closing 𝓤 H A ended (clauses 𝓤))
       meets 𝓣 known-call known-reply-of =
           walk-meets 𝓤 H A ended stayed W (
-            goes-none 𝓤 H A W 3 (λ _. (rowOf Shape)) yes (λ κs x f. refl),
+            goes-none 𝓤 H A W 3 (λ _. u32) yes (λ κs x f. refl),
             (
-              goes-slice 𝓤 H A W 3 0 tt (plain (λ _. u64)),
+              goes-none 𝓤 H A W 3 (λ _. (rowOf Shape)) yes (λ κs x f. refl),
               (
-                goes-slice 𝓤 H A W 3 1 tt (plain (λ _. u32)),
+                goes-slice 𝓤 H A W 3 0 tt (plain (λ _. u64)),
                 (
-                  goes-slice 𝓤 H A W 3 2 tt (plain (λ _. Entry′.the-row)),
-                  (goes-none 𝓤 H A W 3 (λ _. u32) yes (λ κs x f. refl), tt),
+                  goes-slice 𝓤 H A W 3 1 tt (plain (λ _. u32)),
+                  (
+                    goes-slice 𝓤 H A W 3 2 tt (plain (λ _. Entry′.the-row)),
+                    (goes-none 𝓤 H A W 3 (λ _. u32) yes (λ κs x f. refl), tt),
+                  ),
                 ),
               ),
             ),

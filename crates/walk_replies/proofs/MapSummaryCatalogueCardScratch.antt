@@ -1,6 +1,6 @@
--- Written by tools/walks: every function (shape: Shape, map: &mut [u64], summary: &mut [u32], catalogue: &mut [Entry], card:
--- &mut [u8], scratch: &mut [u64]) whose code is
---     let outcome: Outcome = call(shape, map, summary, catalogue, card, scratch);
+-- Written by tools/walks: every function (role: u32, shape: Shape, map: &mut [u64], summary: &mut [u32], catalogue: &mut
+-- [Entry], card: &mut [u8], scratch: &mut [u64]) whose code is
+--     let outcome: Outcome = call(role, shape, map, summary, catalogue, card, scratch);
 --     reply_of(outcome)
 -- One walk serves every choice of the callees: it takes their names and what their contracts say. The types by value are any,
 -- too.
@@ -30,6 +30,7 @@ use sound.WpLaws.{fmOf, WpFn-mono}
 use denote.RattleType.{owns}
 use denote.Laws.{Is, shows}
 use denote.Memory.{pointee}
+use denote.Plain.{uint-makes, uint-vals, uint-tells, uint-lawful}
 use denote.Builtin.{u8, u32, u64}
 use denote.Ref.{RefT, now}
 use denote.Slice.{sliceTy, sliceVal, MutSlice, Room, finally, slice-vals, mut-slice-tells}
@@ -55,24 +56,27 @@ module _ (Shape Outcome Reply : Value) where
   signature = record {
     lifetimes = 5;
     outlives = [];
-    params = plain (λ _. (rowOf Shape)) ∷ mutSlice 0 tt (λ _. u64) ∷ mutSlice 1 tt (λ _. u32)
+    params = plain (λ _. u32) ∷ plain (λ _. (rowOf Shape)) ∷ mutSlice 0 tt (λ _. u64) ∷ mutSlice 1 tt (λ _. u32)
         ∷ mutSlice 2 tt (λ _. Entry′.the-row) ∷ mutSlice 3 tt (λ _. u8) ∷ mutSlice 4 tt (λ _. u64) ∷ [];
     result = plain (λ _. (rowOf Reply));
   }
 
   abbrev ended : Ended
-  ended = record { signature = signature; kept = (yes, (yes, (yes, (yes, (yes, (yes, tt)))))) }
+  ended = record { signature = signature; kept = (yes, (yes, (yes, (yes, (yes, (yes, (yes, tt))))))) }
 
   abbrev stayed : Stays (ended .signature .params) (ended .kept)
   stayed = (
-    stay-none (λ _. (rowOf Shape)) yes,
+    stay-none (λ _. u32) yes,
     (
-      stay-slice (0 ∷ []) tt (plain (λ _. u64)),
+      stay-none (λ _. (rowOf Shape)) yes,
       (
-        stay-slice (1 ∷ []) tt (plain (λ _. u32)),
+        stay-slice (0 ∷ []) tt (plain (λ _. u64)),
         (
-          stay-slice (2 ∷ []) tt (plain (λ _. Entry′.the-row)),
-          (stay-slice (3 ∷ []) tt (plain (λ _. u8)), (stay-slice (4 ∷ []) tt (plain (λ _. u64)), tt)),
+          stay-slice (1 ∷ []) tt (plain (λ _. u32)),
+          (
+            stay-slice (2 ∷ []) tt (plain (λ _. Entry′.the-row)),
+            (stay-slice (3 ∷ []) tt (plain (λ _. u8)), (stay-slice (4 ∷ []) tt (plain (λ _. u64)), tt)),
+          ),
         ),
       ),
     ),
@@ -83,10 +87,10 @@ module _ (Shape Outcome Reply : Value) where
   function #call #reply-of = record {
     lifetimes = 5;
     outlives = [];
-    params = 6;
-    locals = local (mirOf Reply) valueLocal ∷ local (mirOf Shape) valueLocal ∷ local (sliceTy (tyRef (named 0) mut (tyInt w64)))
-        valueLocal ∷ local (sliceTy (tyRef (named 1) mut (tyInt w32))) valueLocal ∷ local
-        (sliceTy (tyRef (named 2) mut (pointee (Entry′.the-row .written)))) valueLocal
+    params = 7;
+    locals = local (mirOf Reply) valueLocal ∷ local (tyInt w32) valueLocal ∷ local (mirOf Shape) valueLocal
+        ∷ local (sliceTy (tyRef (named 0) mut (tyInt w64))) valueLocal ∷ local (sliceTy (tyRef (named 1) mut (tyInt w32)))
+        valueLocal ∷ local (sliceTy (tyRef (named 2) mut (pointee (Entry′.the-row .written)))) valueLocal
         ∷ local (sliceTy (tyRef (named 3) mut (tyInt w8))) valueLocal ∷ local (sliceTy (tyRef (named 4) mut (tyInt w64)))
         valueLocal ∷ local (mirOf Outcome) valueLocal ∷ local (tyRef erased mut (tyInt w64)) valueLocal
         ∷ local (sliceTy (tyRef erased mut (tyInt w64))) valueLocal ∷ local (tyRef erased mut (tyInt w32)) valueLocal
@@ -94,19 +98,19 @@ module _ (Shape Outcome Reply : Value) where
         (pointee (Entry′.the-row .written))) valueLocal ∷ local (sliceTy (tyRef erased mut (pointee (Entry′.the-row .written))))
         valueLocal ∷ local (tyRef erased mut (tyInt w8)) valueLocal ∷ local (sliceTy (tyRef erased mut (tyInt w8))) valueLocal
         ∷ local (tyRef erased mut (tyInt w64)) valueLocal ∷ local (sliceTy (tyRef erased mut (tyInt w64))) valueLocal ∷ [];
-    body = seq (assign (place 8 []) (addrOf (place 2 (field 0 ∷ deref (tyInt w64) ∷ []))))
-        (seq (assign (place 9 []) (aggregate (copy (place 8 []) ∷ copy (place 2 (field 1 ∷ [])) ∷ [])))
-        (seq (assign (place 10 []) (addrOf (place 3 (field 0 ∷ deref (tyInt w32) ∷ []))))
-        (seq (assign (place 11 []) (aggregate (copy (place 10 []) ∷ copy (place 3 (field 1 ∷ [])) ∷ [])))
-        (seq (assign (place 12 []) (addrOf (place 4 (field 0 ∷ deref Entry″.mir ∷ []))))
-        (seq (assign (place 13 []) (aggregate (copy (place 12 []) ∷ copy (place 4 (field 1 ∷ [])) ∷ [])))
-        (seq (assign (place 14 []) (addrOf (place 5 (field 0 ∷ deref (tyInt w8) ∷ []))))
-        (seq (assign (place 15 []) (aggregate (copy (place 14 []) ∷ copy (place 5 (field 1 ∷ [])) ∷ [])))
-        (seq (assign (place 16 []) (addrOf (place 6 (field 0 ∷ deref (tyInt w64) ∷ []))))
-        (seq (assign (place 17 []) (aggregate (copy (place 16 []) ∷ copy (place 6 (field 1 ∷ [])) ∷ [])))
-        (seq (call #call (copy (place 1 []) ∷ copy (place 9 []) ∷ copy (place 11 []) ∷ copy (place 13 []) ∷ copy (place 15 [])
-        ∷ copy (place 17 []) ∷ []) (place 7 []))
-        (seq (call #reply-of (copy (place 7 []) ∷ []) (place 0 [])) return)))))))))));
+    body = seq (assign (place 9 []) (addrOf (place 3 (field 0 ∷ deref (tyInt w64) ∷ []))))
+        (seq (assign (place 10 []) (aggregate (copy (place 9 []) ∷ copy (place 3 (field 1 ∷ [])) ∷ [])))
+        (seq (assign (place 11 []) (addrOf (place 4 (field 0 ∷ deref (tyInt w32) ∷ []))))
+        (seq (assign (place 12 []) (aggregate (copy (place 11 []) ∷ copy (place 4 (field 1 ∷ [])) ∷ [])))
+        (seq (assign (place 13 []) (addrOf (place 5 (field 0 ∷ deref Entry″.mir ∷ []))))
+        (seq (assign (place 14 []) (aggregate (copy (place 13 []) ∷ copy (place 5 (field 1 ∷ [])) ∷ [])))
+        (seq (assign (place 15 []) (addrOf (place 6 (field 0 ∷ deref (tyInt w8) ∷ []))))
+        (seq (assign (place 16 []) (aggregate (copy (place 15 []) ∷ copy (place 6 (field 1 ∷ [])) ∷ [])))
+        (seq (assign (place 17 []) (addrOf (place 7 (field 0 ∷ deref (tyInt w64) ∷ []))))
+        (seq (assign (place 18 []) (aggregate (copy (place 17 []) ∷ copy (place 7 (field 1 ∷ [])) ∷ [])))
+        (seq (call #call (copy (place 1 []) ∷ copy (place 2 []) ∷ copy (place 10 []) ∷ copy (place 12 []) ∷ copy (place 14 [])
+        ∷ copy (place 16 []) ∷ copy (place 18 []) ∷ []) (place 8 []))
+        (seq (call #reply-of (copy (place 8 []) ∷ []) (place 0 [])) return)))))))))));
   }
 
   -- ---- what `call` is, and what it ensures
@@ -114,34 +118,35 @@ module _ (Shape Outcome Reply : Value) where
   call-signature = record {
     lifetimes = 5;
     outlives = [];
-    params = plain (λ _. (rowOf Shape)) ∷ mutSlice 0 tt (λ _. u64) ∷ mutSlice 1 tt (λ _. u32)
+    params = plain (λ _. u32) ∷ plain (λ _. (rowOf Shape)) ∷ mutSlice 0 tt (λ _. u64) ∷ mutSlice 1 tt (λ _. u32)
         ∷ mutSlice 2 tt (λ _. Entry′.the-row) ∷ mutSlice 3 tt (λ _. u8) ∷ mutSlice 4 tt (λ _. u64) ∷ [];
     result = plain (λ _. (rowOf Outcome));
   }
 
   abbrev call-ended : Ended
-  call-ended = record { signature = call-signature; kept = (yes, (yes, (yes, (yes, (yes, (yes, tt)))))) }
+  call-ended = record { signature = call-signature; kept = (yes, (yes, (yes, (yes, (yes, (yes, (yes, tt))))))) }
 
   abbrev call-Model : Type 0 → Type 0
-  call-Model X = (denotes Shape) → List ℕ → List ℕ → List Entry → List ℕ → List ℕ → X
+  call-Model X = ℕ → (denotes Shape) → List ℕ → List ℕ → List Entry → List ℕ → List ℕ → X
 
   module _ (call-out : call-Model (denotes Outcome)) (call-x-map : call-Model (List ℕ)) (call-x-summary : call-Model (List ℕ))
       (call-x-catalogue : call-Model (List Entry)) (call-x-card : call-Model (List ℕ))
       (call-x-scratch : call-Model (List ℕ)) where
-    abbrev call-says : (denotes Shape) → List ℕ → List ℕ → List Entry → List ℕ → List ℕ → (denotes Outcome) → List ℕ → List ℕ
-        → List Entry → List ℕ → List ℕ → Type 0
-    call-says a0 a1 a2 a3 a4 a5 r b1 b2 b3 b4 b5 = (r ≡ call-out a0 a1 a2 a3 a4 a5) × (b1 ≡ call-x-map a0 a1 a2 a3 a4 a5)
-        × (b2 ≡ call-x-summary a0 a1 a2 a3 a4 a5) × (b3 ≡ call-x-catalogue a0 a1 a2 a3 a4 a5)
-        × (b4 ≡ call-x-card a0 a1 a2 a3 a4 a5) × (b5 ≡ call-x-scratch a0 a1 a2 a3 a4 a5)
+    abbrev call-says : ℕ → (denotes Shape) → List ℕ → List ℕ → List Entry → List ℕ → List ℕ → (denotes Outcome) → List ℕ
+        → List ℕ → List Entry → List ℕ → List ℕ → Type 0
+    call-says a0 a1 a2 a3 a4 a5 a6 r b2 b3 b4 b5 b6 = (r ≡ call-out a0 a1 a2 a3 a4 a5 a6)
+        × (b2 ≡ call-x-map a0 a1 a2 a3 a4 a5 a6) × (b3 ≡ call-x-summary a0 a1 a2 a3 a4 a5 a6)
+        × (b4 ≡ call-x-catalogue a0 a1 a2 a3 a4 a5 a6) × (b5 ≡ call-x-card a0 a1 a2 a3 a4 a5 a6)
+        × (b6 ≡ call-x-scratch a0 a1 a2 a3 a4 a5 a6)
 
     module _ {M : Type 1} (𝓤 : URA M) where
       abbrev call-clauses : Clauses 𝓤 call-ended
       call-clauses κs a = record {
         ghost = Unit {0};
         requires = λ _. emp 𝓤;
-        ensures = λ _ r e. fact 𝓤 (call-says (a .0) (now (a .1 .0)) (now (a .1 .1 .0)) (now (a .1 .1 .1 .0))
-            (now (a .1 .1 .1 .1 .0)) (now (a .1 .1 .1 .1 .1 .0)) r (now (e .1 .0)) (now (e .1 .1 .0)) (now (e .1 .1 .1 .0))
-            (now (e .1 .1 .1 .1 .0)) (now (e .1 .1 .1 .1 .1 .0)));
+        ensures = λ _ r e. fact 𝓤 (call-says (a .0) (a .1 .0) (now (a .1 .1 .0)) (now (a .1 .1 .1 .0)) (now (a .1 .1 .1 .1 .0))
+            (now (a .1 .1 .1 .1 .1 .0)) (now (a .1 .1 .1 .1 .1 .1 .0)) r (now (e .1 .1 .0)) (now (e .1 .1 .1 .0))
+            (now (e .1 .1 .1 .1 .0)) (now (e .1 .1 .1 .1 .1 .0)) (now (e .1 .1 .1 .1 .1 .1 .0)));
       }
 
       module _ (H : Heap 𝓤) (A : Atoms 𝓤) where
@@ -183,25 +188,25 @@ module _ (Shape Outcome Reply : Value) where
       (call-x-summary : call-Model (List ℕ)) (call-x-catalogue : call-Model (List Entry)) (call-x-card : call-Model (List ℕ))
       (call-x-scratch : call-Model (List ℕ)) (reply-of-out : reply-of-Model (denotes Reply)) where
     -- ---- what the chain gives, call by call
-    module _ (x-shape : (denotes Shape)) (x-map : List ℕ) (x-summary : List ℕ) (x-catalogue : List Entry) (x-card : List ℕ)
-        (x-scratch : List ℕ) where
+    module _ (x-role : ℕ) (x-shape : (denotes Shape)) (x-map : List ℕ) (x-summary : List ℕ) (x-catalogue : List Entry)
+        (x-card : List ℕ) (x-scratch : List ℕ) where
       abbrev v-outcome-of : (denotes Outcome)
-      v-outcome-of = call-out x-shape x-map x-summary x-catalogue x-card x-scratch
+      v-outcome-of = call-out x-role x-shape x-map x-summary x-catalogue x-card x-scratch
 
       abbrev z-call-x-map-of : List ℕ
-      z-call-x-map-of = call-x-map x-shape x-map x-summary x-catalogue x-card x-scratch
+      z-call-x-map-of = call-x-map x-role x-shape x-map x-summary x-catalogue x-card x-scratch
 
       abbrev z-call-x-summary-of : List ℕ
-      z-call-x-summary-of = call-x-summary x-shape x-map x-summary x-catalogue x-card x-scratch
+      z-call-x-summary-of = call-x-summary x-role x-shape x-map x-summary x-catalogue x-card x-scratch
 
       abbrev z-call-x-catalogue-of : List Entry
-      z-call-x-catalogue-of = call-x-catalogue x-shape x-map x-summary x-catalogue x-card x-scratch
+      z-call-x-catalogue-of = call-x-catalogue x-role x-shape x-map x-summary x-catalogue x-card x-scratch
 
       abbrev z-call-x-card-of : List ℕ
-      z-call-x-card-of = call-x-card x-shape x-map x-summary x-catalogue x-card x-scratch
+      z-call-x-card-of = call-x-card x-role x-shape x-map x-summary x-catalogue x-card x-scratch
 
       abbrev z-call-x-scratch-of : List ℕ
-      z-call-x-scratch-of = call-x-scratch x-shape x-map x-summary x-catalogue x-card x-scratch
+      z-call-x-scratch-of = call-x-scratch x-role x-shape x-map x-summary x-catalogue x-card x-scratch
 
       abbrev v-result-of : (denotes Reply)
       v-result-of = reply-of-out v-outcome-of
@@ -216,18 +221,25 @@ module _ (Shape Outcome Reply : Value) where
       clauses κs a = record {
         ghost = Unit {0};
         requires = λ _. emp 𝓤;
-        ensures = λ _ r e. fact 𝓤 (Says (a .0) (now (a .1 .0)) (now (a .1 .1 .0)) (now (a .1 .1 .1 .0)) (now (a .1 .1 .1 .1 .0))
-            (now (a .1 .1 .1 .1 .1 .0)) r (now (e .1 .0)) (now (e .1 .1 .0)) (now (e .1 .1 .1 .0)) (now (e .1 .1 .1 .1 .0))
-            (now (e .1 .1 .1 .1 .1 .0)));
+        ensures = λ _ r e. fact 𝓤 (Says (a .0) (a .1 .0) (now (a .1 .1 .0)) (now (a .1 .1 .1 .0)) (now (a .1 .1 .1 .1 .0))
+            (now (a .1 .1 .1 .1 .1 .0)) (now (a .1 .1 .1 .1 .1 .1 .0)) r (now (e .1 .1 .0)) (now (e .1 .1 .1 .0))
+            (now (e .1 .1 .1 .1 .0)) (now (e .1 .1 .1 .1 .1 .0)) (now (e .1 .1 .1 .1 .1 .1 .0)));
       }
 
     module _ {M : Type 1} (𝓤 : URA M) (H : Heap 𝓤) (A : Atoms 𝓤) (W : Given 𝓤 H A) (κ₀ κ₁ κ₂ κ₃ κ₄ : Lft)
         (q₀ q₁ q₂ q₃ q₄ : Share)
-        (x-shape : (denotes Shape)) (x-map : RefT (List ℕ)) (x-summary : RefT (List ℕ)) (x-catalogue : RefT (List Entry))
-        (x-card : RefT (List ℕ)) (x-scratch : RefT (List ℕ))
-        (is-x-shape : Is (rowOf Shape) x-shape ((valsOf Shape) x-shape)) (room-x-map : Room u64 (length (now x-map)))
-        (room-x-summary : Room u32 (length (now x-summary))) (room-x-catalogue : Room Entry′.the-row (length (now x-catalogue)))
-        (room-x-card : Room u8 (length (now x-card))) (room-x-scratch : Room u64 (length (now x-scratch))) where
+        (x-role : ℕ) (x-shape : (denotes Shape)) (x-map : RefT (List ℕ)) (x-summary : RefT (List ℕ))
+        (x-catalogue : RefT (List Entry)) (x-card : RefT (List ℕ)) (x-scratch : RefT (List ℕ))
+        (is-x-role : Is u32 x-role ((uint-vals w32) x-role)) (is-x-shape : Is (rowOf Shape) x-shape ((valsOf Shape) x-shape))
+        (room-x-map : Room u64 (length (now x-map))) (room-x-summary : Room u32 (length (now x-summary)))
+        (room-x-catalogue : Room Entry′.the-row (length (now x-catalogue))) (room-x-card : Room u8 (length (now x-card)))
+        (room-x-scratch : Room u64 (length (now x-scratch))) where
+      abbrev m-x-role : Val
+      m-x-role = only ((uint-vals w32) x-role)
+
+      typed-x-role : Holds (hasTy (tyInt w32) m-x-role) × WT m-x-role
+      typed-x-role = (uint-lawful 𝓤 H A W w32 .typed) x-role _ is-x-role .0
+
       abbrev m-x-shape : Val
       m-x-shape = only ((valsOf Shape) x-shape)
 
@@ -264,12 +276,15 @@ module _ (Shape Outcome Reply : Value) where
       abbrev at-x-scratch : GName → List ℕ → RefT (List ℕ)
       at-x-scratch δ l = record { ptr = x-scratch .ptr; name = δ; now = l }
 
-      abbrev args : (denotes Shape) × (RefT (List ℕ) × (RefT (List ℕ) × (RefT (List Entry)
-          × (RefT (List ℕ) × (RefT (List ℕ) × Unit {0})))))
-      args = (x-shape, (x-map, (x-summary, (x-catalogue, (x-card, (x-scratch, tt))))))
+      abbrev args : ℕ × ((denotes Shape) × (RefT (List ℕ) × (RefT (List ℕ) × (RefT (List Entry)
+          × (RefT (List ℕ) × (RefT (List ℕ) × Unit {0}))))))
+      args = (x-role, (x-shape, (x-map, (x-summary, (x-catalogue, (x-card, (x-scratch, tt)))))))
 
-      abbrev vals : List Val × (List Val × (List Val × (List Val × (List Val × (List Val × Unit {0})))))
-      vals = (m-x-shape ∷ [], (s-x-map ∷ [], (s-x-summary ∷ [], (s-x-catalogue ∷ [], (s-x-card ∷ [], (s-x-scratch ∷ [], tt))))))
+      abbrev vals : List Val × (List Val × (List Val × (List Val × (List Val × (List Val × (List Val × Unit {0}))))))
+      vals = (
+        m-x-role ∷ [],
+        (m-x-shape ∷ [], (s-x-map ∷ [], (s-x-summary ∷ [], (s-x-catalogue ∷ [], (s-x-card ∷ [], (s-x-scratch ∷ [], tt)))))),
+      )
 
       abbrev bound : walkOf 𝓤 H A ended stayed (clauses 𝓤) .Ghost
       bound = (((κ₀, (κ₁, (κ₂, (κ₃, (κ₄, tt))))), (q₀, (q₁, (q₂, (q₃, (q₄, tt))))), tt, args, vals), tt)
@@ -278,26 +293,28 @@ module _ (Shape Outcome Reply : Value) where
       Post = walkOf 𝓤 H A ended stayed (clauses 𝓤) .post bound
 
       abbrev v-outcome : (denotes Outcome)
-      v-outcome = v-outcome-of x-shape (now x-map) (now x-summary) (now x-catalogue) (now x-card) (now x-scratch)
+      v-outcome = v-outcome-of x-role x-shape (now x-map) (now x-summary) (now x-catalogue) (now x-card) (now x-scratch)
 
       abbrev z-call-x-map : List ℕ
-      z-call-x-map = z-call-x-map-of x-shape (now x-map) (now x-summary) (now x-catalogue) (now x-card) (now x-scratch)
+      z-call-x-map = z-call-x-map-of x-role x-shape (now x-map) (now x-summary) (now x-catalogue) (now x-card) (now x-scratch)
 
       abbrev z-call-x-summary : List ℕ
-      z-call-x-summary = z-call-x-summary-of x-shape (now x-map) (now x-summary) (now x-catalogue) (now x-card) (now x-scratch)
+      z-call-x-summary = z-call-x-summary-of x-role x-shape (now x-map) (now x-summary) (now x-catalogue) (now x-card)
+          (now x-scratch)
 
       abbrev z-call-x-catalogue : List Entry
-      z-call-x-catalogue = z-call-x-catalogue-of x-shape (now x-map) (now x-summary) (now x-catalogue) (now x-card)
+      z-call-x-catalogue = z-call-x-catalogue-of x-role x-shape (now x-map) (now x-summary) (now x-catalogue) (now x-card)
           (now x-scratch)
 
       abbrev z-call-x-card : List ℕ
-      z-call-x-card = z-call-x-card-of x-shape (now x-map) (now x-summary) (now x-catalogue) (now x-card) (now x-scratch)
+      z-call-x-card = z-call-x-card-of x-role x-shape (now x-map) (now x-summary) (now x-catalogue) (now x-card) (now x-scratch)
 
       abbrev z-call-x-scratch : List ℕ
-      z-call-x-scratch = z-call-x-scratch-of x-shape (now x-map) (now x-summary) (now x-catalogue) (now x-card) (now x-scratch)
+      z-call-x-scratch = z-call-x-scratch-of x-role x-shape (now x-map) (now x-summary) (now x-catalogue) (now x-card)
+          (now x-scratch)
 
       abbrev v-result : (denotes Reply)
-      v-result = v-result-of x-shape (now x-map) (now x-summary) (now x-catalogue) (now x-card) (now x-scratch)
+      v-result = v-result-of x-role x-shape (now x-map) (now x-summary) (now x-catalogue) (now x-card) (now x-scratch)
 
       abbrev m-v-outcome : Val
       m-v-outcome = only ((valsOf Outcome) v-outcome)
@@ -312,17 +329,20 @@ module _ (Shape Outcome Reply : Value) where
       spelled-v-result w is = subst (λ (vs : List Val). Is (rowOf Reply) v-result vs) ((Reply .tells) v-result _ is) is
 
       -- ---- the caller has what `call` asks
-      abbrev call-args : (δ₀-call δ₁-call δ₂-call δ₃-call δ₄-call : GName) → (denotes Shape)
-          × (RefT (List ℕ) × (RefT (List ℕ) × (RefT (List Entry) × (RefT (List ℕ) × (RefT (List ℕ) × Unit {0})))))
+      abbrev call-args : (δ₀-call δ₁-call δ₂-call δ₃-call δ₄-call : GName) → ℕ × ((denotes Shape)
+          × (RefT (List ℕ) × (RefT (List ℕ) × (RefT (List Entry) × (RefT (List ℕ) × (RefT (List ℕ) × Unit {0}))))))
       call-args δ₀-call δ₁-call δ₂-call δ₃-call δ₄-call = (
-        x-shape,
+        x-role,
         (
-          at-x-map δ₀-call (now x-map),
+          x-shape,
           (
-            at-x-summary δ₁-call (now x-summary),
+            at-x-map δ₀-call (now x-map),
             (
-              at-x-catalogue δ₂-call (now x-catalogue),
-              (at-x-card δ₃-call (now x-card), (at-x-scratch δ₄-call (now x-scratch), tt)),
+              at-x-summary δ₁-call (now x-summary),
+              (
+                at-x-catalogue δ₂-call (now x-catalogue),
+                (at-x-card δ₃-call (now x-card), (at-x-scratch δ₄-call (now x-scratch), tt)),
+              ),
             ),
           ),
         ),
@@ -338,8 +358,11 @@ module _ (Shape Outcome Reply : Value) where
               tt,
               call-args δ₀-call δ₁-call δ₂-call δ₃-call δ₄-call,
               (
-                m-x-shape ∷ [],
-                (s-x-map ∷ [], (s-x-summary ∷ [], (s-x-catalogue ∷ [], (s-x-card ∷ [], (s-x-scratch ∷ [], tt))))),
+                m-x-role ∷ [],
+                (
+                  m-x-shape ∷ [],
+                  (s-x-map ∷ [], (s-x-summary ∷ [], (s-x-catalogue ∷ [], (s-x-card ∷ [], (s-x-scratch ∷ [], tt))))),
+                ),
               ),
             ),
             tt,
@@ -368,7 +391,8 @@ module _ (Shape Outcome Reply : Value) where
           move ! (5 ∷ 0 ∷ []) $ fjoin ! $ move ! (4 ∷ 0 ∷ []) $ fjoin ! $ move ! (3 ∷ 0 ∷ []) $ fjoin ! $
           move ! (2 ∷ 0 ∷ []) $ fjoin ! $
           owned ! (rowOf Shape) (Is (rowOf Shape)) (Shape .makes 𝓤 H A) x-shape _ is-x-shape $ fjoin ! $
-          move ! (1 ∷ 0 ∷ []) $ join ! $ frame ! $ done !
+          owned ! u32 (Is u32) (uint-makes 𝓤 H A W w32) x-role _ is-x-role $ fjoin ! $ move ! (1 ∷ 0 ∷ []) $ join ! $
+          frame ! $ done !
 
       -- ---- the caller has what `reply-of` asks
       abbrev reply-of-args : (denotes Outcome) × Unit {0}
@@ -405,40 +429,43 @@ module _ (Shape Outcome Reply : Value) where
           (MutSlice (named 4) κ₄ u64 .own (at-x-scratch (x-scratch .name) z-call-x-scratch) (s-x-scratch ∷ [])) ∷ ‵ (flft κ₄ q₄)
           ∷ []) ∵
           suffices ! _ (ends-at 𝓤 H A ended stayed (clauses 𝓤) W bound m-v-result v-result
-          (tt, (z-call-x-map, (z-call-x-summary, (z-call-x-catalogue, (z-call-x-card, (z-call-x-scratch, tt))))))
-          (tt, (l-x-map, (l-x-summary, (l-x-catalogue, (l-x-card, (l-x-scratch, tt))))))) $
+          (tt, (tt, (z-call-x-map, (z-call-x-summary, (z-call-x-catalogue, (z-call-x-card, (z-call-x-scratch, tt)))))))
+          (tt, (tt, (l-x-map, (l-x-summary, (l-x-catalogue, (l-x-card, (l-x-scratch, tt)))))))) $
           says ! (refl, refl, refl, refl, refl, refl) $ nothing ! $ move ! (10 ∷ 0 ∷ []) $ join ! $
           move ! (8 ∷ 0 ∷ []) $ join ! $ move ! (6 ∷ 0 ∷ []) $ join ! $ move ! (4 ∷ 0 ∷ []) $ join ! $
           move ! (2 ∷ 0 ∷ []) $ join ! $ frame ! $ nothing ! $ move ! (5 ∷ 0 ∷ []) $ fjoin ! $ move ! (4 ∷ 0 ∷ []) $
           fjoin ! $ move ! (3 ∷ 0 ∷ []) $ fjoin ! $ move ! (2 ∷ 0 ∷ []) $ fjoin ! $ move ! (1 ∷ 0 ∷ []) $ fjoin ! $
           owned ! (rowOf Shape) (Is (rowOf Shape)) (Shape .makes 𝓤 H A) x-shape _ is-x-shape $ fjoin ! $
+          owned ! u32 (Is u32) (uint-makes 𝓤 H A W w32) x-role _ is-x-role $ fjoin ! $
           owned ! (rowOf Reply) (Is (rowOf Reply)) (Reply .makes 𝓤 H A) v-result _ is $ move ! (1 ∷ 0 ∷ []) $ done !
 
       -- ---- the walk
       walk : (𝓣 : Tables 𝓤 H) → Triple 𝓤 (𝓣 .C #call) (call-contract call-out call-x-map call-x-summary call-x-catalogue
           call-x-card call-x-scratch 𝓤 H A) → Triple 𝓤 (𝓣 .C #reply-of) (reply-of-contract reply-of-out 𝓤 H A)
           → ent 𝓤 (onEntry 𝓤 H A signature (κ₀, (κ₁, (κ₂, (κ₃, (κ₄, tt))))) (q₀, (q₁, (q₂, (q₃, (q₄, tt))))) args vals)
-          (WpFn 𝓤 H (𝓣 .C) (𝓣 .Λ) (function #call #reply-of) (m-x-shape ∷ s-x-map ∷ s-x-summary ∷ s-x-catalogue ∷ s-x-card
-          ∷ s-x-scratch ∷ []) Post)
+          (WpFn 𝓤 H (𝓣 .C) (𝓣 .Λ) (function #call #reply-of) (m-x-role ∷ m-x-shape ∷ s-x-map ∷ s-x-summary ∷ s-x-catalogue
+          ∷ s-x-card ∷ s-x-scratch ∷ []) Post)
       walk 𝓣 known-call known-reply-of =
           qed W ((‵ (flft κ₀ q₀) ⊛ ‵ (flft κ₁ q₁) ⊛ ‵ (flft κ₂ q₂) ⊛ ‵ (flft κ₃ q₃) ⊛ ‵ (flft κ₄ q₄) ⊛ ‵ ftrue)
-          ∷ ‵ (owns ((rowOf Shape) ∷ MutSlice (named 0) κ₀ u64 ∷ MutSlice (named 1) κ₁ u32
+          ∷ ‵ (owns (u32 ∷ (rowOf Shape) ∷ MutSlice (named 0) κ₀ u64 ∷ MutSlice (named 1) κ₁ u32
           ∷ MutSlice (named 2) κ₂ Entry′.the-row ∷ MutSlice (named 3) κ₃ u8 ∷ MutSlice (named 4) κ₄ u64 ∷ []) args vals) ∷ []) ∵
-          enter ! (𝓣 .C) (𝓣 .Λ) (function #call #reply-of) (m-x-shape ∷ s-x-map ∷ s-x-summary ∷ s-x-catalogue ∷ s-x-card
-          ∷ s-x-scratch ∷ []) _ $
+          enter ! (𝓣 .C) (𝓣 .Λ) (function #call #reply-of) (m-x-role ∷ m-x-shape ∷ s-x-map ∷ s-x-summary ∷ s-x-catalogue
+          ∷ s-x-card ∷ s-x-scratch ∷ []) _ $
           alloc1 ! (λ l₀. alloc1 ! (λ l₁. alloc1 ! (λ l₂. alloc1 ! (λ l₃. alloc1 ! (λ l₄. alloc1 ! (λ l₅.
           alloc1 ! (λ l₆. alloc1 ! (λ l₇. alloc1 ! (λ l₈. alloc1 ! (λ l₉. alloc1 ! (λ l₁₀. alloc1 ! (λ l₁₁.
           alloc1 ! (λ l₁₂. alloc1 ! (λ l₁₃. alloc1 ! (λ l₁₄. alloc1 ! (λ l₁₅. alloc1 ! (λ l₁₆. alloc1 ! (λ l₁₇.
-          alloc0 ! $ params1 ! $ pass1 ! (init ! 32 refl typed-x-shape) $
+          alloc1 ! (λ l₁₈. alloc0 ! $ params1 ! $ pass1 ! (init ! 34 refl typed-x-role) $
+          pass1 ! (init ! 32 refl typed-x-shape) $
           pass1 ! (init ! 30 refl (tt, (tt, (record { fits = room-x-map .0 }, tt)))) $
           pass1 ! (init ! 28 refl (tt, (tt, (record { fits = room-x-summary .0 }, tt)))) $
           pass1 ! (init ! 26 refl (tt, (tt, (record { fits = room-x-catalogue .0 }, tt)))) $
           pass1 ! (init ! 24 refl (tt, (tt, (record { fits = room-x-card .0 }, tt)))) $
-          pass1 ! (init ! 22 refl (tt, (tt, (record { fits = room-x-scratch .0 }, tt)))) $ pass0 ! $ move ! (36 ∷ []) $
+          pass1 ! (init ! 22 refl (tt, (tt, (record { fits = room-x-scratch .0 }, tt)))) $ pass0 ! $ move ! (38 ∷ []) $
           split ! $ move ! (1 ∷ []) $ split ! $ move ! (1 ∷ []) $ split ! $ move ! (1 ∷ []) $ split ! $
-          move ! (1 ∷ []) $ split ! $ move ! (1 ∷ []) $ drop ! $ move ! (41 ∷ []) $ fsplit ! $ move ! (1 ∷ []) $
+          move ! (1 ∷ []) $ split ! $ move ! (1 ∷ []) $ drop ! $ move ! (43 ∷ []) $ fsplit ! $ move ! (1 ∷ []) $
           fsplit ! $ move ! (1 ∷ []) $ fsplit ! $ move ! (1 ∷ []) $ fsplit ! $ move ! (1 ∷ []) $ fsplit ! $
-          move ! (1 ∷ []) $ fsplit ! $ move ! (1 ∷ []) $ drop ! $ move ! (5 ∷ []) $ drop ! $
+          move ! (1 ∷ []) $ fsplit ! $ move ! (1 ∷ []) $ fsplit ! $ move ! (1 ∷ []) $ drop ! $ move ! (6 ∷ []) $
+          drop ! $ move ! (5 ∷ []) $ drop ! $
           -- call
           assigns ! (addr ! (from ! (fld ! refl (hop ! (look-in ! 40 (sub ! 0 refl (whole !))) (stop !))))) (from ! (stop !))
           (init ! 28 refl (tt, tt)) $
@@ -500,10 +527,11 @@ module _ (Shape Outcome Reply : Value) where
           (goes-call ν₀-call ν₁-call ν₂-call ν₃-call ν₄-call δ₀-call δ₁-call δ₂-call δ₃-call δ₄-call) $
           calls-at ! (fmOf 𝓤 H (W .laws) 𝓣) (call-contract call-out call-x-map call-x-summary call-x-catalogue call-x-card
           call-x-scratch 𝓤 H A) known-call (to-call ν₀-call ν₁-call ν₂-call ν₃-call ν₄-call δ₀-call δ₁-call δ₂-call δ₃-call
-          δ₄-call) (and-then ! (load ! (from ! (stop !)) (look ! 38 refl)) (and-then !
-          (load ! (from ! (stop !)) (look ! 22 refl)) (and-then ! (load ! (from ! (stop !)) (look ! 18 refl))
-          (and-then ! (load ! (from ! (stop !)) (look ! 14 refl)) (and-then ! (load ! (from ! (stop !)) (look ! 10 refl))
-          (and-then ! (load ! (from ! (stop !)) (look ! 6 refl)) (no-more !))))))) (λ w-call.
+          δ₄-call) (and-then ! (load ! (from ! (stop !)) (look ! 40 refl)) (and-then !
+          (load ! (from ! (stop !)) (look ! 38 refl)) (and-then ! (load ! (from ! (stop !)) (look ! 22 refl))
+          (and-then ! (load ! (from ! (stop !)) (look ! 18 refl)) (and-then ! (load ! (from ! (stop !)) (look ! 14 refl))
+          (and-then ! (load ! (from ! (stop !)) (look ! 10 refl)) (and-then ! (load ! (from ! (stop !)) (look ! 6 refl))
+          (no-more !)))))))) (λ w-call.
           use1 W (later (some (λ (r : (denotes Outcome)). ((‵ (flft (ν₀-call ∷ []) fullShare)
           ⊛ ‵ (flft (ν₁-call ∷ []) fullShare) ⊛ ‵ (flft (ν₂-call ∷ []) fullShare) ⊛ ‵ (flft (ν₃-call ∷ []) fullShare)
           ⊛ ‵ (flft (ν₄-call ∷ []) fullShare) ⊛ ‵ ftrue) ⊛ ‵ ((rowOf Outcome) .own r (w-call ∷ [])))
@@ -511,23 +539,24 @@ module _ (Shape Outcome Reply : Value) where
           call-x-scratch 𝓤) (ν₀-call ∷ [], (ν₁-call ∷ [], (ν₂-call ∷ [], (ν₃-call ∷ [], (ν₄-call ∷ [], tt)))))
           (call-args δ₀-call δ₁-call δ₂-call δ₃-call δ₄-call) tt r)))) (id⊢ 𝓤 _) $
           await ! tt $ pick ! (λ r-call. split ! $ move ! (1 ∷ []) $
-          use1 W (some (λ (zs-call : Unit {0} × (List ℕ × (List ℕ × (List Entry × (List ℕ × (List ℕ × Unit {0})))))). ‵
-          (lasts call-ended (ν₀-call ∷ [], (ν₁-call ∷ [], (ν₂-call ∷ [], (ν₃-call ∷ [], (ν₄-call ∷ [], tt)))))
+          use1 W (some (λ (zs-call : Unit {0} × (Unit {0} × (List ℕ × (List ℕ × (List Entry
+          × (List ℕ × (List ℕ × Unit {0}))))))). ‵ (lasts call-ended
+          (ν₀-call ∷ [], (ν₁-call ∷ [], (ν₂-call ∷ [], (ν₃-call ∷ [], (ν₄-call ∷ [], tt)))))
           (call-args δ₀-call δ₁-call δ₂-call δ₃-call δ₄-call) zs-call) ⊛ raw (fact 𝓤 (call-says call-out call-x-map
-          call-x-summary call-x-catalogue call-x-card call-x-scratch x-shape (now x-map) (now x-summary) (now x-catalogue)
-          (now x-card) (now x-scratch) r-call (zs-call .1 .0) (zs-call .1 .1 .0) (zs-call .1 .1 .1 .0) (zs-call .1 .1 .1 .1 .0)
-          (zs-call .1 .1 .1 .1 .1 .0))))) (id⊢ 𝓤 _) $
+          call-x-summary call-x-catalogue call-x-card call-x-scratch x-role x-shape (now x-map) (now x-summary)
+          (now x-catalogue) (now x-card) (now x-scratch) r-call (zs-call .1 .1 .0) (zs-call .1 .1 .1 .0)
+          (zs-call .1 .1 .1 .1 .0) (zs-call .1 .1 .1 .1 .1 .0) (zs-call .1 .1 .1 .1 .1 .1 .0))))) (id⊢ 𝓤 _) $
           pick ! (λ zs-call. split ! $ move ! (1 ∷ []) $
-          heard ! (call-says call-out call-x-map call-x-summary call-x-catalogue call-x-card call-x-scratch x-shape (now x-map)
-          (now x-summary) (now x-catalogue) (now x-card) (now x-scratch) r-call (zs-call .1 .0) (zs-call .1 .1 .0)
-          (zs-call .1 .1 .1 .0) (zs-call .1 .1 .1 .1 .0) (zs-call .1 .1 .1 .1 .1 .0)) (λ e-call.
+          heard ! (call-says call-out call-x-map call-x-summary call-x-catalogue call-x-card call-x-scratch x-role x-shape
+          (now x-map) (now x-summary) (now x-catalogue) (now x-card) (now x-scratch) r-call (zs-call .1 .1 .0)
+          (zs-call .1 .1 .1 .0) (zs-call .1 .1 .1 .1 .0) (zs-call .1 .1 .1 .1 .1 .0) (zs-call .1 .1 .1 .1 .1 .1 .0)) (λ e-call.
           fsplit ! $ move ! (1 ∷ []) $ fsplit ! $ move ! (1 ∷ []) $ fsplit ! $ move ! (1 ∷ []) $ fsplit ! $
-          move ! (1 ∷ []) $ fsplit ! $ move ! (1 ∷ []) $ fsplit ! $ move ! (1 ∷ []) $ drop ! $ move ! (5 ∷ []) $
-          drop ! $ move ! (4 ∷ []) $ fsplit ! $ move ! (1 ∷ []) $ feqL ! (λ h-call-x-map. move ! (4 ∷ []) $ fsplit ! $
-          move ! (1 ∷ []) $ feqL ! (λ h-call-x-summary. move ! (4 ∷ []) $ fsplit ! $ move ! (1 ∷ []) $
-          feqL ! (λ h-call-x-catalogue. move ! (4 ∷ []) $ fsplit ! $ move ! (1 ∷ []) $ feqL ! (λ h-call-x-card.
-          move ! (4 ∷ []) $ fsplit ! $ move ! (1 ∷ []) $ feqL ! (λ h-call-x-scratch. move ! (5 ∷ []) $ split ! $
-          move ! (1 ∷ []) $
+          move ! (1 ∷ []) $ fsplit ! $ move ! (1 ∷ []) $ fsplit ! $ move ! (1 ∷ []) $ fsplit ! $ move ! (1 ∷ []) $
+          drop ! $ move ! (6 ∷ []) $ drop ! $ move ! (5 ∷ []) $ drop ! $ move ! (4 ∷ []) $ fsplit ! $ move ! (1 ∷ []) $
+          feqL ! (λ h-call-x-map. move ! (4 ∷ []) $ fsplit ! $ move ! (1 ∷ []) $ feqL ! (λ h-call-x-summary.
+          move ! (4 ∷ []) $ fsplit ! $ move ! (1 ∷ []) $ feqL ! (λ h-call-x-catalogue. move ! (4 ∷ []) $ fsplit ! $
+          move ! (1 ∷ []) $ feqL ! (λ h-call-x-card. move ! (4 ∷ []) $ fsplit ! $ move ! (1 ∷ []) $
+          feqL ! (λ h-call-x-scratch. move ! (5 ∷ []) $ split ! $ move ! (1 ∷ []) $
           rewrite ! 0 (λ (r : (denotes Outcome)). ‵ ((rowOf Outcome) .own r (w-call ∷ []))) (e-call .0) refl $
           rewrite ! 6 (λ (l : List ℕ). ‵ (finally u64 δ₀-call l)) (e-call .1) refl $
           rewrite ! 5 (λ (l : List ℕ). ‵ (finally u32 δ₁-call l)) (e-call .2) refl $
@@ -536,7 +565,7 @@ module _ (Shape Outcome Reply : Value) where
           rewrite ! 2 (λ (l : List ℕ). ‵ (finally u64 δ₄-call l)) (e-call .5) refl $
           peeks ! (rowOf Outcome) (Is (rowOf Outcome)) (shows 𝓤 H A (rowOf Outcome)) v-outcome (w-call ∷ []) (λ is-w-call.
           land ! (from ! (stop !)) (init ! 32 refl ((Outcome .typed 𝓤 H A W) v-outcome _ is-w-call .0)) $
-          rewrite ! 32 (λ (u : Val). ‵ (fat fullShare (mirOf Outcome) l₇ 0 u)) (ap only
+          rewrite ! 32 (λ (u : Val). ‵ (fat fullShare (mirOf Outcome) l₈ 0 u)) (ap only
           ((Outcome .tells) v-outcome _ is-w-call)) refl $
           drop ! $ split ! $ move ! (1 ∷ []) $ split ! $ move ! (1 ∷ []) $ split ! $ move ! (1 ∷ []) $ split ! $
           move ! (1 ∷ []) $ split ! $ move ! (1 ∷ []) $ drop ! $ move ! (4 ∷ []) $ lft-end ! tt $
@@ -581,19 +610,19 @@ module _ (Shape Outcome Reply : Value) where
           drop ! $ drop ! $ split ! $ move ! (1 ∷ []) $
           rewrite ! 0 (λ (r : (denotes Reply)). ‵ ((rowOf Reply) .own r (w-reply-of ∷ []))) (e-reply-of) refl $
           peeks ! (rowOf Reply) (Is (rowOf Reply)) (shows 𝓤 H A (rowOf Reply)) v-result (w-reply-of ∷ []) (λ is-w-reply-of.
-          land ! (from ! (stop !)) (init ! 46 refl ((Reply .typed 𝓤 H A W) v-result _ is-w-reply-of .0)) $
-          rewrite ! 46 (λ (u : Val). ‵ (fat fullShare (mirOf Reply) l₀ 0 u)) (ap only ((Reply .tells) v-result _ is-w-reply-of))
+          land ! (from ! (stop !)) (init ! 48 refl ((Reply .typed 𝓤 H A W) v-result _ is-w-reply-of .0)) $
+          rewrite ! 48 (λ (u : Val). ‵ (fat fullShare (mirOf Reply) l₀ 0 u)) (ap only ((Reply .tells) v-result _ is-w-reply-of))
           refl $
-          drop ! $ drop ! $ returns ! (look ! 44 refl) $ leave ! 44 refl refl $ leave ! 42 refl refl $
-          leave ! 40 refl refl $ leave ! 38 refl refl $ leave ! 36 refl refl $ leave ! 34 refl refl $
-          leave ! 32 refl refl $ leave ! 30 refl refl $ leave ! 28 refl refl $ leave ! 26 refl refl $
-          leave ! 24 refl refl $ leave ! 22 refl refl $ leave ! 20 refl refl $ leave ! 18 refl refl $
-          leave ! 16 refl refl $ leave ! 14 refl refl $ leave ! 12 refl refl $ leave ! 10 refl refl $ free0 ! $
-          move ! (8 ∷ 9 ∷ 6 ∷ 7 ∷ 4 ∷ 5 ∷ 2 ∷ 3 ∷ 0 ∷ 1 ∷ []) $
+          drop ! $ drop ! $ returns ! (look ! 46 refl) $ leave ! 46 refl refl $ leave ! 44 refl refl $
+          leave ! 42 refl refl $ leave ! 40 refl refl $ leave ! 38 refl refl $ leave ! 36 refl refl $
+          leave ! 34 refl refl $ leave ! 32 refl refl $ leave ! 30 refl refl $ leave ! 28 refl refl $
+          leave ! 26 refl refl $ leave ! 24 refl refl $ leave ! 22 refl refl $ leave ! 20 refl refl $
+          leave ! 18 refl refl $ leave ! 16 refl refl $ leave ! 14 refl refl $ leave ! 12 refl refl $
+          leave ! 10 refl refl $ free0 ! $ move ! (8 ∷ 9 ∷ 6 ∷ 7 ∷ 4 ∷ 5 ∷ 2 ∷ 3 ∷ 0 ∷ 1 ∷ []) $
           by ! (exits (spelled-v-result w-reply-of is-w-reply-of) (ap {B = ℕ} length (sym (e-call .1)) ∙ h-call-x-map)
           (ap {B = ℕ} length (sym (e-call .2)) ∙ h-call-x-summary) (ap {B = ℕ} length (sym (e-call .3)) ∙ h-call-x-catalogue)
           (ap {B = ℕ} length (sym (e-call .4)) ∙ h-call-x-card) (ap {B = ℕ} length (sym (e-call .5))
-          ∙ h-call-x-scratch)))))))))))))))))))))))))))))))))))))))))))))
+          ∙ h-call-x-scratch))))))))))))))))))))))))))))))))))))))))))))))
 
     module _ {M : Type 1} (𝓤 : URA M) (H : Heap 𝓤) (A : Atoms 𝓤) (W : Given 𝓤 H A) where
       walks : (𝓣 : Tables 𝓤 H) → Triple 𝓤 (𝓣 .C #call) (call-contract call-out call-x-map call-x-summary call-x-catalogue
@@ -601,38 +630,45 @@ module _ (Shape Outcome Reply : Value) where
           → Walks 𝓤 H A ended stayed (WpFn 𝓤 H (𝓣 .C) (𝓣 .Λ) (function #call #reply-of)) (clauses 𝓤)
       walks 𝓣 known-call known-reply-of =
           walked 𝓤 H A ended stayed (clauses 𝓤) (WpFn 𝓤 H (𝓣 .C) (𝓣 .Λ) (function #call #reply-of))
-          (λ κs. ((valsOf Shape), (slice-vals, (slice-vals, (slice-vals, (slice-vals, (slice-vals, tt)))))))
+          (λ κs. ((uint-vals w32), ((valsOf Shape), (slice-vals, (slice-vals, (slice-vals, (slice-vals, (slice-vals, tt))))))))
           (λ κs. (
-            (Shape .tells),
+            (uint-tells w32),
             (
-              mut-slice-tells (named 0) (κs .0) u64,
+              (Shape .tells),
               (
-                mut-slice-tells (named 1) (κs .1 .0) u32,
+                mut-slice-tells (named 0) (κs .0) u64,
                 (
-                  mut-slice-tells (named 2) (κs .1 .1 .0) Entry′.the-row,
-                  (mut-slice-tells (named 3) (κs .1 .1 .1 .0) u8, (mut-slice-tells (named 4) (κs .1 .1 .1 .1 .0) u64, tt)),
+                  mut-slice-tells (named 1) (κs .1 .0) u32,
+                  (
+                    mut-slice-tells (named 2) (κs .1 .1 .0) Entry′.the-row,
+                    (mut-slice-tells (named 3) (κs .1 .1 .1 .0) u8, (mut-slice-tells (named 4) (κs .1 .1 .1 .1 .0) u64, tt)),
+                  ),
                 ),
               ),
             ),
           ))
           (λ κs qs bounds a g are. via 𝓤 _ (fst∗ 𝓤 _ (emp 𝓤)) (walk 𝓤 H A W (κs .0) (κs .1 .0) (κs .1 .1 .0) (κs .1 .1 .1 .0)
           (κs .1 .1 .1 .1 .0) (qs .0) (qs .1 .0) (qs .1 .1 .0) (qs .1 .1 .1 .0) (qs .1 .1 .1 .1 .0) (a .0) (a .1 .0)
-          (a .1 .1 .0) (a .1 .1 .1 .0) (a .1 .1 .1 .1 .0) (a .1 .1 .1 .1 .1 .0) (are .0) (are .1 .0 .0 .1) (are .1 .1 .0 .0 .1)
-          (are .1 .1 .1 .0 .0 .1) (are .1 .1 .1 .1 .0 .0 .1) (are .1 .1 .1 .1 .1 .0 .0 .1) 𝓣 known-call known-reply-of))
+          (a .1 .1 .0) (a .1 .1 .1 .0) (a .1 .1 .1 .1 .0) (a .1 .1 .1 .1 .1 .0) (a .1 .1 .1 .1 .1 .1 .0) (are .0) (are .1 .0)
+          (are .1 .1 .0 .0 .1) (are .1 .1 .1 .0 .0 .1) (are .1 .1 .1 .1 .0 .0 .1) (are .1 .1 .1 .1 .1 .0 .0 .1)
+          (are .1 .1 .1 .1 .1 .1 .0 .0 .1) 𝓣 known-call known-reply-of))
 
       pub meets : (𝓣 : Tables 𝓤 H) → Triple 𝓤 (𝓣 .C #call) (call-contract call-out call-x-map call-x-summary call-x-catalogue
           call-x-card call-x-scratch 𝓤 H A) → Triple 𝓤 (𝓣 .C #reply-of) (reply-of-contract reply-of-out 𝓤 H A)
           → Meets 𝓤 H A signature (WpFn 𝓤 H (𝓣 .C) (𝓣 .Λ) (function #call #reply-of)) (closing 𝓤 H A ended (clauses 𝓤))
       meets 𝓣 known-call known-reply-of =
           walk-meets 𝓤 H A ended stayed W (
-            goes-none 𝓤 H A W 5 (λ _. (rowOf Shape)) yes (λ κs x f. refl),
+            goes-none 𝓤 H A W 5 (λ _. u32) yes (λ κs x f. refl),
             (
-              goes-slice 𝓤 H A W 5 0 tt (plain (λ _. u64)),
+              goes-none 𝓤 H A W 5 (λ _. (rowOf Shape)) yes (λ κs x f. refl),
               (
-                goes-slice 𝓤 H A W 5 1 tt (plain (λ _. u32)),
+                goes-slice 𝓤 H A W 5 0 tt (plain (λ _. u64)),
                 (
-                  goes-slice 𝓤 H A W 5 2 tt (plain (λ _. Entry′.the-row)),
-                  (goes-slice 𝓤 H A W 5 3 tt (plain (λ _. u8)), (goes-slice 𝓤 H A W 5 4 tt (plain (λ _. u64)), tt)),
+                  goes-slice 𝓤 H A W 5 1 tt (plain (λ _. u32)),
+                  (
+                    goes-slice 𝓤 H A W 5 2 tt (plain (λ _. Entry′.the-row)),
+                    (goes-slice 𝓤 H A W 5 3 tt (plain (λ _. u8)), (goes-slice 𝓤 H A W 5 4 tt (plain (λ _. u64)), tt)),
+                  ),
                 ),
               ),
             ),

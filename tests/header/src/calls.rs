@@ -5,27 +5,29 @@ use bitwise::blocks::{figures, from_words, to_words};
 use bitwise::calendar::date;
 use bitwise::call::{accept, call, dated, placed, Call, Kind, Limits, CALLS};
 use bitwise::card::{entry, sealed, Answer, Card};
+use bitwise::roles::{admitted, PHARMACIST};
 use bitwise::summary::summary_numbers;
 use std::fmt::Write;
 
 const N: usize = 70;
 const C: u32 = 3;
 /// The refusals of calls on a sound card with slices of the right lengths.
-const REFUSALS: [u32; 14] = [2, 3, 5, 6, 7, 8, 9, 10, 11, 15, 17, 18, 19, 20];
+const REFUSALS: [u32; 15] = [2, 3, 5, 6, 7, 8, 9, 10, 11, 15, 17, 18, 19, 20, 21];
 
 /// What the scratch has before.
 const HELD: [u64; 2] = [0xfedcba9876543210, 0xfedcba9876543211];
 
-/// What calls.c keeps: the limits, the card, and the slices that a call may be lent besides.
+/// What calls.c keeps: the role, the limits, the card, and the slices that a call may be lent besides.
 struct State {
+    role: u32,
     limits: Limits,
     card: Card,
     scratch: Vec<u64>,
     image: Vec<u8>,
     slice: Vec<u8>,
     lines: Vec<(String, String)>,
-    /// The calls of a sound card, with their numbers: 0 for a call that is done, else the refusal's.
-    made: Vec<(Kind, u32)>,
+    /// The calls of a sound card, with their roles and their numbers: 0 for a call that is done, else the refusal's.
+    made: Vec<(u32, Kind, u32)>,
 }
 
 /// A number for a run of bytes (FNV-1a).
@@ -86,6 +88,7 @@ impl State {
             summary: vec![],
         };
         let mut state = State {
+            role: PHARMACIST,
             limits: [N as u32, 1, 2, 3, 4, 5, 6, 7],
             card,
             scratch: vec![],
@@ -147,12 +150,15 @@ impl State {
 
     /// The first `length` bytes of the image are lent.
     fn save(&mut self, call: &str, length: usize) {
-        let answer = self.card.save(&mut self.scratch, &mut self.image[..length]);
+        self.scratch = HELD.to_vec();
+        let image = &mut self.image[..length];
+        let answer = self.card.save(self.role, &mut self.scratch, image);
         self.told(call, answer);
     }
 
     fn load(&mut self, call: &str) {
-        let answer = self.card.load(&self.image, &mut self.scratch);
+        self.scratch = HELD.to_vec();
+        let answer = self.card.load(self.role, &self.image, &mut self.scratch);
         self.told(call, answer);
     }
 
@@ -168,11 +174,18 @@ impl State {
             }
             _ => {}
         }
-        let answer = self
-            .card
-            .call(call.with_limits(self.limits), &mut self.slice);
-        self.made.push((call.kind, numbers(answer).0));
+        let call = call.with_limits(self.limits).by(self.role);
+        let answer = self.card.call(call, &mut self.slice);
+        self.made.push((call.role, call.kind, numbers(answer).0));
         self.told(name, answer);
+    }
+
+    /// Another role for the calls that follow (document 02, (n)).
+    fn by_role(&mut self, name: &str) {
+        if let [role] = numbers_in(name)[..] {
+            self.role = role;
+        }
+        self.line(name, String::new());
     }
 
     /// Another limit for the first wing (document 02, (k)), in which all sheets are.
@@ -191,16 +204,16 @@ impl State {
         self.slice = filled(496, 16 * sheet + place);
         let days = [first.to_be_bytes(), last.to_be_bytes()].concat();
         self.slice[..8].copy_from_slice(&days);
-        let answer = self
-            .card
-            .call(call(Kind::Put, sheet, place), &mut self.slice);
+        let put = call(Kind::Put, sheet, place).by(self.role);
+        let answer = self.card.call(put, &mut self.slice);
         self.told(name, answer);
     }
 
     /// A build that is lent a summary without its last number.
     fn build_short(&mut self, name: &str) {
         let last = self.card.summary.pop();
-        let answer = self.card.call(call(Kind::SummaryBuild, 0, 0), &mut []);
+        let build = call(Kind::SummaryBuild, 0, 0).by(self.role);
+        let answer = self.card.call(build, &mut []);
         self.card.summary.extend(last);
         self.told(name, answer);
     }
@@ -209,12 +222,14 @@ impl State {
     fn named(&mut self, name: &str) {
         let word = name.split(' ').next().unwrap_or("");
         match (name, Kind::named(word)) {
-            ("save", _) => self.save(name, 512),
+            ("save" | "save turned", _) => self.save(name, 512),
             ("save short", _) => self.save(name, 511),
+            ("load turned", _) => self.load(name),
             ("summary-build short", _) => self.build_short(name),
             ("head", _) => self.line(name, format!("{N} {C}")),
             _ if word == "put-term" => self.put_term(name),
             _ if word == "limit" => self.limit(name),
+            _ if word == "role" => self.by_role(name),
             (_, None) => self.line(word, "is no call of document 01".to_string()),
             (_, Some(kind)) => self.call(name, call_of(kind, name)),
         }
@@ -286,18 +301,35 @@ fn doses() -> Vec<(&'static str, String)> {
 fn missing(state: &State) -> Vec<String> {
     let mut wrong = Vec::new();
     for (kind, name, _) in CALLS {
-        if !state.made.contains(&(kind, 0)) {
-            wrong.push(format!("calls.c makes no call of {name} that is done"));
+        for role in admitted(name) {
+            if !state.made.contains(&(role, kind, 0)) {
+                wrong.push(format!(
+                    "calls.c makes no call of {name} by role {role} that is done"
+                ));
+            }
+        }
+        let mut made = state.made.iter();
+        if !made.any(|(_, other, number)| (*other, *number) == (kind, 21)) {
+            wrong.push(format!(
+                "calls.c makes no call of {name} that is turned away"
+            ));
         }
     }
     for number in REFUSALS {
-        if !state.made.iter().any(|(_, made)| *made == number) {
+        if !state.made.iter().any(|(.., made)| *made == number) {
             wrong.push(format!(
                 "calls.c makes no call that is refused with {number}"
             ));
         }
     }
-    for name in ["save", "save short", "summary-build short", "head"] {
+    for name in [
+        "save",
+        "save short",
+        "save turned",
+        "load turned",
+        "summary-build short",
+        "head",
+    ] {
         if !state.lines.iter().any(|(line, _)| line == name) {
             wrong.push(format!("calls.c has no line `{name}`"));
         }

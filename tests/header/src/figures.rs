@@ -3,15 +3,18 @@
 
 use std::collections::HashMap;
 
-/// Blocks, payloads and limits ("Shape, catalogue, blocks"), wings and their sheets (document 02, (k)), marks in hex, the
-/// number of four bytes of FF, and what seal and check give.
-const CONSTANTS: [(&str, u64); 17] = [
+/// Blocks, payloads and limits ("Shape, catalogue, blocks"), wings and their sheets (document 02, (k)), roles (document 02,
+/// (n)), marks in hex, the number of four bytes of FF, and what seal and check give.
+const CONSTANTS: [(&str, u64); 20] = [
     ("PAGUNLIT_BLOCK", 512),
     ("PAGUNLIT_PAYLOAD", 496),
     ("PAGUNLIT_BLOCKS", 262_144),
     ("PAGUNLIT_SHEETS", 1_024),
     ("PAGUNLIT_WINGS", 8),
     ("PAGUNLIT_WING_SHEETS", 128),
+    ("PAGUNLIT_PHARMACIST", 1),
+    ("PAGUNLIT_CARER", 2),
+    ("PAGUNLIT_SERVICE", 3),
     ("PAGUNLIT_ABSENT", 0x41),
     ("PAGUNLIT_PAUSED", 0x50),
     ("PAGUNLIT_OPEN", 0x4f),
@@ -27,7 +30,7 @@ const CONSTANTS: [(&str, u64); 17] = [
 
 /// The rows of "What the caller gets instead" and those of document 02, with the name that a C program has for each. Number 0
 /// is "done".
-const NUMBERS: [(u32, &str, &str); 21] = [
+const NUMBERS: [(u32, &str, &str); 22] = [
     (0, "PAGUNLIT_DONE", "done"),
     (
         1,
@@ -55,6 +58,7 @@ const NUMBERS: [(u32, &str, &str); 21] = [
     (18, "PAGUNLIT_OVER_LIMIT", "the limit of the sheet's wing would be passed"),
     (19, "PAGUNLIT_NO_DATE", "dated show: the date doesn't exist or lies outside the span"),
     (20, "PAGUNLIT_OUTSIDE_TERM", "dated show: the day lies outside the term"),
+    (21, "PAGUNLIT_TURNED_AWAY", "an unknown role or a call not in its row"),
 ];
 
 /// What has no figure in document 01: the version, which has to say the same as a number and as a text.

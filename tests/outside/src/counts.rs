@@ -6,8 +6,8 @@ use bitwise::rows::{pairs, Pair, Row};
 use std::collections::BTreeMap;
 
 /// The columns of the table of answers, in the order of the rows. Row 4 is there five times.
-const COLUMNS: [&str; 21] = [
-    "done", "1", "2", "4 entry", "5", "6", "7", "8", "3", "15", "18", "19", "4 first", "20",
+const COLUMNS: [&str; 22] = [
+    "done", "21", "1", "2", "4 entry", "5", "6", "7", "8", "3", "15", "18", "19", "4 first", "20",
     "4 block", "9", "10", "11", "17", "4 count", "4 state",
 ];
 

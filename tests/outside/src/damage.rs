@@ -85,6 +85,7 @@ fn calls_on(
             _ => generator.call(&beside.card),
         };
         let call = other_scratch(call, &mut generator.random);
+        let call = call.by(generator.role(call.kind));
         *log += &format!("    {call}\n");
         beside.call(call, counts)?;
     }

@@ -11,6 +11,7 @@ use bitwise::calendar::{century, date, date_of, day_of, write_term, Date, LAST_D
 use bitwise::call::{call, dated as show_dated, Bytes, Call, Kind, PAYLOAD};
 use bitwise::card::{entry, sealed, Card};
 use bitwise::random::Random;
+use bitwise::roles::CARER;
 use bitwise::rows::Row;
 
 /// A card on which sheet 0 is Complete with some places from block 1 on, and a term.
@@ -321,7 +322,7 @@ pub fn written(seed: u64, margin: usize, counts: &mut Counts) -> Result<(), Stri
     Ok(())
 }
 
-/// What a list left: each Complete sheet at the edges of its term, its first place and its last.
+/// What a list left: each Complete sheet at the edges of its term, its first place and its last, for a carer.
 pub fn at_edges(beside: &mut Beside, sheet: usize, counts: &mut Counts) -> Result<(), String> {
     let entry = beside.card.sheets[sheet];
     let Some((first, last)) = beside.card.term(entry).filter(|_| entry.mark == 0x43) else {
@@ -330,7 +331,8 @@ pub fn at_edges(beside: &mut Beside, sheet: usize, counts: &mut Counts) -> Resul
     let days = [first.wrapping_sub(1), first, last, last.wrapping_add(1)];
     for day in days.into_iter().filter(|day| *day <= LAST_DAY) {
         for place in [0, entry.length - 1] {
-            beside.call(show_dated(sheet as u32, place, date_of(day)), counts)?;
+            let show = show_dated(sheet as u32, place, date_of(day));
+            beside.call(show.by(CARER), counts)?;
         }
     }
     Ok(())

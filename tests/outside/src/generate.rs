@@ -4,11 +4,13 @@ use crate::closing::close_of;
 use crate::dates::{any_date, date_within, some_date, some_term};
 use crate::figures::{admitting, any_figures, some_start};
 use crate::offers::accept_of;
+use crate::roles::some_role;
 use crate::shares::{some_limits, some_sheet};
 use bitwise::blocks::{scratch_words, survey, FREE};
 use bitwise::call::{accept, call, dated, placed, Bytes, Call, Kind, Limits, CALLS, PAYLOAD};
 use bitwise::card::{Card, Entry};
 use bitwise::random::Random;
+use bitwise::roles::admitted;
 use bitwise::rows::Row;
 
 pub struct Generator {
@@ -41,11 +43,17 @@ impl Generator {
             Some(limits) => limits,
             None => some_limits(card, call, &mut self.random),
         });
+        let call = call.by(self.role(call.kind));
         if let Some(accept) = accept_of(card, call) {
             self.offers.truncate(3);
             self.offers.insert(0, accept);
         }
         call
+    }
+
+    /// Who makes a call.
+    pub fn role(&mut self, kind: Kind) -> u32 {
+        some_role(kind, &mut self.random)
     }
 
     /// A call that the sheet at hand admits, more often than not.
@@ -339,10 +347,11 @@ fn admits(kind: Kind, entry: &Entry) -> bool {
 }
 
 /// A call of a kind that is accepted on a card with sheets of every standing, all places filled, place 0 with a term, and two
-/// free blocks or more behind each extent.
+/// free blocks or more behind each extent. It is made by any role that may make it.
 pub fn accepted(kind: Kind, card: &Card, random: &mut Random) -> Call {
+    let role = random.one(&admitted(kind.name()));
     if !kind.has_sheet() {
-        return call(kind, 0, whole_number(kind, card, random));
+        return call(kind, 0, whole_number(kind, card, random)).by(role);
     }
     let sheets: Vec<usize> = (0..card.sheets.len())
         .filter(|sheet| admits(kind, &card.sheets[*sheet]))
@@ -370,7 +379,7 @@ pub fn accepted(kind: Kind, card: &Card, random: &mut Random) -> Call {
         }
         _ => call,
     };
-    Call { kind, ..call }
+    Call { kind, ..call }.by(role)
 }
 
 /// n of a fresh, k of a search, or the words of a closing's scratch.

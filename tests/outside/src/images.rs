@@ -14,10 +14,17 @@ use bitwise::call::{call, Kind, LOAD, SAVE};
 use bitwise::card::{entry, Answer, Card};
 use bitwise::image::{blocks_of, body_of, image_of};
 use bitwise::random::Random;
+use bitwise::roles::{PHARMACIST, SERVICE};
 
 const BLOCK: usize = 512;
 
-/// A save into a buffer that held something, beside the model. Gives the answer, and what the buffer has afterwards.
+/// Who saves or loads: the pharmacist and the service by turns, as some number says.
+fn by_turns(number: usize) -> u32 {
+    [PHARMACIST, SERVICE][number % 2]
+}
+
+/// A save by one who may, into a buffer that held something, beside the model. Gives the answer, and what the buffer has
+/// afterwards.
 pub fn save(
     card: &Card,
     scratch: usize,
@@ -25,23 +32,38 @@ pub fn save(
     margin: usize,
     counts: &mut Counts,
 ) -> Result<(Answer, Vec<u8>), String> {
-    let held = card.held_by_save(scratch, length);
+    let role = by_turns(card.free + scratch + length);
+    save_by(role, card, scratch, length, margin, counts)
+}
+
+/// A save by any role.
+pub fn save_by(
+    role: u32,
+    card: &Card,
+    scratch: usize,
+    length: usize,
+    margin: usize,
+    counts: &mut Counts,
+) -> Result<(Answer, Vec<u8>), String> {
+    let held = card.held_by_save(role, scratch, length);
     let library = &mut library_of(card, margin);
     let (mut image, mut zeros) = (vec![0x7e; length], vec![0x55; scratch]);
     let (mut lent, mut lent_scratch) = (bytes(&image, margin), words(&zeros, margin));
-    let outcome = library.save(&mut lent_scratch, &mut lent);
-    let answer = card.save(&mut zeros, &mut image);
+    let outcome = library.save(role, &mut lent_scratch, &mut lent);
+    let answer = card.save(role, &mut zeros, &mut image);
     let result = same_outcome(outcome, card, answer)
         .and_then(|()| same_tables(library, card))
         .and_then(|()| same_slice("image", &lent, &image))
         .and_then(|()| same_slice("scratch", &lent_scratch, &zeros));
-    let about = |error| format!("save to {length} bytes with {scratch} words of scratch: {error}");
+    let about = |error| {
+        format!("save by {role} to {length} bytes with {scratch} words of scratch: {error}")
+    };
     result.map_err(about)?;
     counts.note(SAVE.0, &held);
     Ok((answer, image))
 }
 
-/// A load beside the model, into the card's map and catalogue.
+/// A load by one who may, beside the model, into the card's map and catalogue.
 pub fn load(
     card: &mut Card,
     image: &[u8],
@@ -49,19 +71,33 @@ pub fn load(
     margin: usize,
     counts: &mut Counts,
 ) -> Result<Answer, String> {
-    let held = card.held_by_load(image, scratch);
+    let last = image.last().copied().unwrap_or(0) as usize;
+    let role = by_turns(image.len() / BLOCK + scratch + last);
+    load_by(role, card, image, scratch, margin, counts)
+}
+
+/// A load by any role.
+pub fn load_by(
+    role: u32,
+    card: &mut Card,
+    image: &[u8],
+    scratch: usize,
+    margin: usize,
+    counts: &mut Counts,
+) -> Result<Answer, String> {
+    let held = card.held_by_load(role, image, scratch);
     let library = &mut library_of(card, margin);
     let mut zeros = vec![0x55; scratch];
     let (mut lent, mut lent_scratch) = (bytes(image, margin), words(&zeros, margin));
-    let outcome = library.load(&mut lent, &mut lent_scratch);
-    let answer = card.load(image, &mut zeros);
+    let outcome = library.load(role, &mut lent, &mut lent_scratch);
+    let answer = card.load(role, image, &mut zeros);
     let result = same_outcome(outcome, card, answer)
         .and_then(|()| same_tables(library, card))
         .and_then(|()| same_slice("image", &lent, image))
         .and_then(|()| same_slice("scratch", &lent_scratch, &zeros));
     let about = |error| {
         format!(
-            "load of {} bytes into {} words and {} entries with {scratch} words of scratch: {error}",
+            "load by {role} of {} bytes into {} words and {} entries with {scratch} words of scratch: {error}",
             image.len(),
             card.map.len() / 64,
             card.sheets.len()

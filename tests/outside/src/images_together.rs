@@ -1,13 +1,14 @@
 //! Saves and loads for which two or more rows hold at once, made so: what is lent and the image are changed until they do.
 
 use crate::counts::Counts;
-use crate::images::{load, other_tables, save};
+use crate::images::{load_by, other_tables, save_by};
 use crate::together::{card, wrong_limit};
 use bitwise::blocks::scratch_words;
 use bitwise::call::{LOAD, SAVE};
 use bitwise::card::{entry, Card};
 use bitwise::image::{blocks_of, body_of, framed, image_of};
 use bitwise::random::Random;
+use bitwise::roles::{admitted, turned_away};
 use bitwise::rows::{pairs, Row};
 
 const BLOCK: usize = 512;
@@ -42,18 +43,29 @@ fn one_save(
     let mut card = card(random);
     let mut scratch = scratch_words(card.n);
     let mut length = BLOCK * blocks_of(card.n, card.sheets.len());
+    let role = role_of(SAVE.0, rows, random);
     card.bytes = Vec::new();
     // The state before the limits, so that they are still wrong at the end.
     rows.sort_by_key(|row| *row != Row::SavedState);
     for row in rows.iter() {
         match row {
             Row::SavedState => unsound(&mut card, random),
+            Row::Role => {}
             Row::ScratchLength => scratch = another(scratch, 1, random),
             Row::ImageLength => length = another(length, BLOCK, random),
             _ => wrong_limit(*row, &mut card, random),
         }
     }
-    save(&card, scratch, length, margin, counts).map(|_| ())
+    save_by(role, &card, scratch, length, margin, counts).map(|_| ())
+}
+
+/// A role that may make the call, unless row 21 is to hold.
+fn role_of(call: &str, rows: &[Row], random: &mut Random) -> u32 {
+    if rows.contains(&Row::Role) {
+        random.one(&turned_away(call))
+    } else {
+        random.one(&admitted(call))
+    }
 }
 
 /// A length that is not the one given.
@@ -120,7 +132,8 @@ fn one_load(
         change_frames(*row, &mut tried.image, random);
         change_lent(*row, &mut tried, random);
     }
-    load(&mut tried.lent, &tried.image, tried.scratch, margin, counts).map(|_| ())
+    let (role, lent) = (role_of(LOAD.0, rows, random), &mut tried.lent);
+    load_by(role, lent, &tried.image, tried.scratch, margin, counts).map(|_| ())
 }
 
 fn renumber(body: &mut [u8], at: usize, number: u32) {

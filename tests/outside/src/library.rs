@@ -68,64 +68,67 @@ mod c {
     use super::{Entry, Outcome, Shape};
 
     extern "C" {
-        pub fn pagunlit_fresh(shape: Shape, blocks: u32, map: *mut u64, maplen: usize,
-            catalogue: *mut Entry, cataloguelen: usize) -> Outcome;
-        pub fn pagunlit_search(shape: Shape, map: *const u64, maplen: usize, k: u32) -> Outcome;
-        pub fn pagunlit_survey(shape: Shape, map: *const u64, maplen: usize) -> Outcome;
-        pub fn pagunlit_reserve(shape: Shape, map: *mut u64, maplen: usize, catalogue: *mut Entry, cataloguelen: usize,
-            card: *mut u8, cardlen: usize, limits: *const u32, sheet: u32, count: u32) -> Outcome;
-        pub fn pagunlit_reserve_placed(shape: Shape, map: *mut u64, maplen: usize, catalogue: *mut Entry, cataloguelen: usize,
-            card: *mut u8, cardlen: usize, limits: *const u32, sheet: u32, count: u32, from: u32, before: u32, step: u32)
+        pub fn pagunlit_fresh(role: u32, shape: Shape, blocks: u32, map: *mut u64, maplen: usize, catalogue: *mut Entry,
+            cataloguelen: usize) -> Outcome;
+        pub fn pagunlit_search(role: u32, shape: Shape, map: *const u64, maplen: usize, k: u32) -> Outcome;
+        pub fn pagunlit_survey(role: u32, shape: Shape, map: *const u64, maplen: usize) -> Outcome;
+        pub fn pagunlit_reserve(role: u32, shape: Shape, map: *mut u64, maplen: usize, catalogue: *mut Entry,
+            cataloguelen: usize, card: *mut u8, cardlen: usize, limits: *const u32, sheet: u32, count: u32) -> Outcome;
+        pub fn pagunlit_reserve_placed(role: u32, shape: Shape, map: *mut u64, maplen: usize, catalogue: *mut Entry,
+            cataloguelen: usize, card: *mut u8, cardlen: usize, limits: *const u32, sheet: u32, count: u32, from: u32,
+            before: u32, step: u32) -> Outcome;
+        pub fn pagunlit_offer(role: u32, shape: Shape, map: *const u64, maplen: usize, catalogue: *const Entry,
+            cataloguelen: usize, card: *const u8, cardlen: usize, limits: *const u32, sheet: u32, count: u32) -> Outcome;
+        pub fn pagunlit_accept(role: u32, shape: Shape, map: *mut u64, maplen: usize, catalogue: *mut Entry,
+            cataloguelen: usize, card: *mut u8, cardlen: usize, limits: *const u32, sheet: u32, start: u32, count: u32)
             -> Outcome;
-        pub fn pagunlit_offer(shape: Shape, map: *const u64, maplen: usize, catalogue: *const Entry, cataloguelen: usize,
-            card: *const u8, cardlen: usize, limits: *const u32, sheet: u32, count: u32) -> Outcome;
-        pub fn pagunlit_accept(shape: Shape, map: *mut u64, maplen: usize, catalogue: *mut Entry, cataloguelen: usize,
-            card: *mut u8, cardlen: usize, limits: *const u32, sheet: u32, start: u32, count: u32) -> Outcome;
-        pub fn pagunlit_grow(shape: Shape, map: *mut u64, maplen: usize, catalogue: *mut Entry, cataloguelen: usize,
-            card: *mut u8, cardlen: usize, limits: *const u32, sheet: u32, count: u32) -> Outcome;
-        pub fn pagunlit_put(shape: Shape, map: *const u64, maplen: usize, catalogue: *const Entry, cataloguelen: usize,
-            card: *mut u8, cardlen: usize, sheet: u32, place: u32, payload: *const u8, payloadlen: usize) -> Outcome;
-        pub fn pagunlit_complete(shape: Shape, map: *const u64, maplen: usize, catalogue: *mut Entry, cataloguelen: usize,
-            card: *const u8, cardlen: usize, sheet: u32) -> Outcome;
-        pub fn pagunlit_pause(shape: Shape, map: *const u64, maplen: usize, catalogue: *mut Entry, cataloguelen: usize,
-            sheet: u32) -> Outcome;
-        pub fn pagunlit_resume(shape: Shape, map: *const u64, maplen: usize, catalogue: *mut Entry, cataloguelen: usize,
-            sheet: u32) -> Outcome;
-        pub fn pagunlit_release(shape: Shape, map: *mut u64, maplen: usize, catalogue: *mut Entry, cataloguelen: usize,
-            sheet: u32) -> Outcome;
-        pub fn pagunlit_standing(shape: Shape, map: *const u64, maplen: usize, catalogue: *const Entry, cataloguelen: usize,
-            sheet: u32) -> Outcome;
-        pub fn pagunlit_show(shape: Shape, map: *const u64, maplen: usize, catalogue: *const Entry, cataloguelen: usize,
-            card: *const u8, cardlen: usize, sheet: u32, place: u32, buffer: *mut u8, bufferlen: usize) -> Outcome;
-        pub fn pagunlit_show_dated(shape: Shape, map: *const u64, maplen: usize, catalogue: *const Entry, cataloguelen: usize,
-            card: *const u8, cardlen: usize, sheet: u32, place: u32, year: u32, month: u32, day: u32, buffer: *mut u8,
-            bufferlen: usize) -> Outcome;
-        pub fn pagunlit_summary_build(shape: Shape, map: *const u64, maplen: usize, summary: *mut u32, summarylen: usize)
+        pub fn pagunlit_grow(role: u32, shape: Shape, map: *mut u64, maplen: usize, catalogue: *mut Entry,
+            cataloguelen: usize, card: *mut u8, cardlen: usize, limits: *const u32, sheet: u32, count: u32) -> Outcome;
+        pub fn pagunlit_put(role: u32, shape: Shape, map: *const u64, maplen: usize, catalogue: *const Entry,
+            cataloguelen: usize, card: *mut u8, cardlen: usize, sheet: u32, place: u32, payload: *const u8,
+            payloadlen: usize) -> Outcome;
+        pub fn pagunlit_complete(role: u32, shape: Shape, map: *const u64, maplen: usize, catalogue: *mut Entry,
+            cataloguelen: usize, card: *const u8, cardlen: usize, sheet: u32) -> Outcome;
+        pub fn pagunlit_pause(role: u32, shape: Shape, map: *const u64, maplen: usize, catalogue: *mut Entry,
+            cataloguelen: usize, sheet: u32) -> Outcome;
+        pub fn pagunlit_resume(role: u32, shape: Shape, map: *const u64, maplen: usize, catalogue: *mut Entry,
+            cataloguelen: usize, sheet: u32) -> Outcome;
+        pub fn pagunlit_release(role: u32, shape: Shape, map: *mut u64, maplen: usize, catalogue: *mut Entry,
+            cataloguelen: usize, sheet: u32) -> Outcome;
+        pub fn pagunlit_standing(role: u32, shape: Shape, map: *const u64, maplen: usize, catalogue: *const Entry,
+            cataloguelen: usize, sheet: u32) -> Outcome;
+        pub fn pagunlit_show(role: u32, shape: Shape, map: *const u64, maplen: usize, catalogue: *const Entry,
+            cataloguelen: usize, card: *const u8, cardlen: usize, sheet: u32, place: u32, buffer: *mut u8, bufferlen: usize)
             -> Outcome;
-        pub fn pagunlit_summary_check(shape: Shape, map: *const u64, maplen: usize, summary: *const u32, summarylen: usize)
-            -> Outcome;
-        pub fn pagunlit_reserve_with_summary(shape: Shape, map: *mut u64, maplen: usize, summary: *mut u32, summarylen: usize,
-            catalogue: *mut Entry, cataloguelen: usize, card: *mut u8, cardlen: usize, limits: *const u32, sheet: u32,
-            count: u32) -> Outcome;
-        pub fn pagunlit_reserve_placed_with_summary(shape: Shape, map: *mut u64, maplen: usize, summary: *mut u32,
-            summarylen: usize, catalogue: *mut Entry, cataloguelen: usize, card: *mut u8, cardlen: usize, limits: *const u32,
-            sheet: u32, count: u32, from: u32, before: u32, step: u32) -> Outcome;
-        pub fn pagunlit_accept_with_summary(shape: Shape, map: *mut u64, maplen: usize, summary: *mut u32, summarylen: usize,
-            catalogue: *mut Entry, cataloguelen: usize, card: *mut u8, cardlen: usize, limits: *const u32, sheet: u32,
-            start: u32, count: u32) -> Outcome;
-        pub fn pagunlit_grow_with_summary(shape: Shape, map: *mut u64, maplen: usize, summary: *mut u32, summarylen: usize,
-            catalogue: *mut Entry, cataloguelen: usize, card: *mut u8, cardlen: usize, limits: *const u32, sheet: u32,
-            count: u32) -> Outcome;
-        pub fn pagunlit_release_with_summary(shape: Shape, map: *mut u64, maplen: usize, summary: *mut u32, summarylen: usize,
-            catalogue: *mut Entry, cataloguelen: usize, sheet: u32) -> Outcome;
-        pub fn pagunlit_close(shape: Shape, map: *mut u64, maplen: usize, catalogue: *mut Entry, cataloguelen: usize,
-            card: *mut u8, cardlen: usize, scratch: *mut u64, scratchlen: usize) -> Outcome;
-        pub fn pagunlit_close_with_summary(shape: Shape, map: *mut u64, maplen: usize, summary: *mut u32, summarylen: usize,
-            catalogue: *mut Entry, cataloguelen: usize, card: *mut u8, cardlen: usize, scratch: *mut u64, scratchlen: usize)
-            -> Outcome;
-        pub fn pagunlit_save(shape: Shape, map: *const u64, maplen: usize, catalogue: *const Entry, cataloguelen: usize,
-            scratch: *mut u64, scratchlen: usize, image: *mut u8, imagelen: usize) -> Outcome;
-        pub fn pagunlit_load(shape: Shape, image: *const u8, imagelen: usize, map: *mut u64, maplen: usize,
+        pub fn pagunlit_show_dated(role: u32, shape: Shape, map: *const u64, maplen: usize, catalogue: *const Entry,
+            cataloguelen: usize, card: *const u8, cardlen: usize, sheet: u32, place: u32, year: u32, month: u32, day: u32,
+            buffer: *mut u8, bufferlen: usize) -> Outcome;
+        pub fn pagunlit_summary_build(role: u32, shape: Shape, map: *const u64, maplen: usize, summary: *mut u32,
+            summarylen: usize) -> Outcome;
+        pub fn pagunlit_summary_check(role: u32, shape: Shape, map: *const u64, maplen: usize, summary: *const u32,
+            summarylen: usize) -> Outcome;
+        pub fn pagunlit_reserve_with_summary(role: u32, shape: Shape, map: *mut u64, maplen: usize, summary: *mut u32,
+            summarylen: usize, catalogue: *mut Entry, cataloguelen: usize, card: *mut u8, cardlen: usize,
+            limits: *const u32, sheet: u32, count: u32) -> Outcome;
+        pub fn pagunlit_reserve_placed_with_summary(role: u32, shape: Shape, map: *mut u64, maplen: usize,
+            summary: *mut u32, summarylen: usize, catalogue: *mut Entry, cataloguelen: usize, card: *mut u8, cardlen: usize,
+            limits: *const u32, sheet: u32, count: u32, from: u32, before: u32, step: u32) -> Outcome;
+        pub fn pagunlit_accept_with_summary(role: u32, shape: Shape, map: *mut u64, maplen: usize, summary: *mut u32,
+            summarylen: usize, catalogue: *mut Entry, cataloguelen: usize, card: *mut u8, cardlen: usize,
+            limits: *const u32, sheet: u32, start: u32, count: u32) -> Outcome;
+        pub fn pagunlit_grow_with_summary(role: u32, shape: Shape, map: *mut u64, maplen: usize, summary: *mut u32,
+            summarylen: usize, catalogue: *mut Entry, cataloguelen: usize, card: *mut u8, cardlen: usize,
+            limits: *const u32, sheet: u32, count: u32) -> Outcome;
+        pub fn pagunlit_release_with_summary(role: u32, shape: Shape, map: *mut u64, maplen: usize, summary: *mut u32,
+            summarylen: usize, catalogue: *mut Entry, cataloguelen: usize, sheet: u32) -> Outcome;
+        pub fn pagunlit_close(role: u32, shape: Shape, map: *mut u64, maplen: usize, catalogue: *mut Entry,
+            cataloguelen: usize, card: *mut u8, cardlen: usize, scratch: *mut u64, scratchlen: usize) -> Outcome;
+        pub fn pagunlit_close_with_summary(role: u32, shape: Shape, map: *mut u64, maplen: usize, summary: *mut u32,
+            summarylen: usize, catalogue: *mut Entry, cataloguelen: usize, card: *mut u8, cardlen: usize, scratch: *mut u64,
+            scratchlen: usize) -> Outcome;
+        pub fn pagunlit_save(role: u32, shape: Shape, map: *const u64, maplen: usize, catalogue: *const Entry,
+            cataloguelen: usize, scratch: *mut u64, scratchlen: usize, image: *mut u8, imagelen: usize) -> Outcome;
+        pub fn pagunlit_load(role: u32, shape: Shape, image: *const u8, imagelen: usize, map: *mut u64, maplen: usize,
             catalogue: *mut Entry, cataloguelen: usize, scratch: *mut u64, scratchlen: usize) -> Outcome;
         pub fn seal(sheet: u32, place: u32, payload: *const u8, payloadlen: usize, block: *mut u8, blocklen: usize) -> u32;
         pub fn check(block: *const u8, blocklen: usize) -> u32;
@@ -217,7 +220,7 @@ pub struct Library {
 #[rustfmt::skip]
 impl Library {
     pub fn call(&mut self, call: Call, slice: &mut Lent<u8>) -> Outcome {
-        let (shape, sheet, number) = (self.shape, call.sheet, call.number);
+        let (role, shape, sheet, number) = (call.role, self.shape, call.sheet, call.number);
         let (map, w) = (self.map.at(), self.map.len());
         let (sheets, c) = (self.catalogue.at(), self.catalogue.len());
         let (card, length) = (self.card.at(), self.card.len());
@@ -230,40 +233,40 @@ impl Library {
         }
         unsafe {
             match call.kind {
-                Kind::Fresh => c::pagunlit_fresh(shape, number, map, w, sheets, c),
-                Kind::Search => c::pagunlit_search(shape, map, w, number),
-                Kind::Survey => c::pagunlit_survey(shape, map, w),
-                Kind::Reserve => c::pagunlit_reserve(shape, map, w, sheets, c, card, length, limits, sheet, number),
+                Kind::Fresh => c::pagunlit_fresh(role, shape, number, map, w, sheets, c),
+                Kind::Search => c::pagunlit_search(role, shape, map, w, number),
+                Kind::Survey => c::pagunlit_survey(role, shape, map, w),
+                Kind::Reserve => c::pagunlit_reserve(role, shape, map, w, sheets, c, card, length, limits, sheet, number),
                 Kind::ReservePlaced => {
                     let Figures { from, before, step } = call.figures;
                     c::pagunlit_reserve_placed(
-                        shape, map, w, sheets, c, card, length, limits, sheet, number, from, before, step)
+                        role, shape, map, w, sheets, c, card, length, limits, sheet, number, from, before, step)
                 }
-                Kind::Offer => c::pagunlit_offer(shape, map, w, sheets, c, card, length, limits, sheet, number),
+                Kind::Offer => c::pagunlit_offer(role, shape, map, w, sheets, c, card, length, limits, sheet, number),
                 Kind::Accept => {
-                    c::pagunlit_accept(shape, map, w, sheets, c, card, length, limits, sheet, call.start, number)
+                    c::pagunlit_accept(role, shape, map, w, sheets, c, card, length, limits, sheet, call.start, number)
                 }
-                Kind::Put => c::pagunlit_put(shape, map, w, sheets, c, card, length, sheet, number, bytes, count),
-                Kind::Grow => c::pagunlit_grow(shape, map, w, sheets, c, card, length, limits, sheet, number),
-                Kind::Complete => c::pagunlit_complete(shape, map, w, sheets, c, card, length, sheet),
-                Kind::Pause => c::pagunlit_pause(shape, map, w, sheets, c, sheet),
-                Kind::Resume => c::pagunlit_resume(shape, map, w, sheets, c, sheet),
-                Kind::Release => c::pagunlit_release(shape, map, w, sheets, c, sheet),
-                Kind::Close => c::pagunlit_close(shape, map, w, sheets, c, card, length, zeros, words),
-                Kind::Show => c::pagunlit_show(shape, map, w, sheets, c, card, length, sheet, number, bytes, count),
+                Kind::Put => c::pagunlit_put(role, shape, map, w, sheets, c, card, length, sheet, number, bytes, count),
+                Kind::Grow => c::pagunlit_grow(role, shape, map, w, sheets, c, card, length, limits, sheet, number),
+                Kind::Complete => c::pagunlit_complete(role, shape, map, w, sheets, c, card, length, sheet),
+                Kind::Pause => c::pagunlit_pause(role, shape, map, w, sheets, c, sheet),
+                Kind::Resume => c::pagunlit_resume(role, shape, map, w, sheets, c, sheet),
+                Kind::Release => c::pagunlit_release(role, shape, map, w, sheets, c, sheet),
+                Kind::Close => c::pagunlit_close(role, shape, map, w, sheets, c, card, length, zeros, words),
+                Kind::Show => c::pagunlit_show(role, shape, map, w, sheets, c, card, length, sheet, number, bytes, count),
                 Kind::ShowDated => {
                     let Date { year, month, day } = call.date;
                     c::pagunlit_show_dated(
-                        shape, map, w, sheets, c, card, length, sheet, number, year, month, day, bytes, count)
+                        role, shape, map, w, sheets, c, card, length, sheet, number, year, month, day, bytes, count)
                 }
-                Kind::Standing => c::pagunlit_standing(shape, map, w, sheets, c, sheet),
+                Kind::Standing => c::pagunlit_standing(role, shape, map, w, sheets, c, sheet),
                 form => unreachable!("{form:?} is lent the summary"),
             }
         }
     }
 
     fn call_with_summary(&mut self, call: Call) -> Outcome {
-        let (shape, sheet, number) = (self.shape, call.sheet, call.number);
+        let (role, shape, sheet, number) = (call.role, self.shape, call.sheet, call.number);
         let (map, w) = (self.map.at(), self.map.len());
         let (sums, m) = (self.summary.at(), self.summary.len());
         let (sheets, c) = (self.catalogue.at(), self.catalogue.len());
@@ -274,38 +277,38 @@ impl Library {
         unsafe {
             match call.kind {
                 Kind::ReserveWithSummary => {
-                    c::pagunlit_reserve_with_summary(shape, map, w, sums, m, sheets, c, card, l, limits, sheet, number)
+                    c::pagunlit_reserve_with_summary(role, shape, map, w, sums, m, sheets, c, card, l, limits, sheet, number)
                 }
                 Kind::ReservePlacedWithSummary => c::pagunlit_reserve_placed_with_summary(
-                    shape, map, w, sums, m, sheets, c, card, l, limits, sheet, number, from, before, step),
+                    role, shape, map, w, sums, m, sheets, c, card, l, limits, sheet, number, from, before, step),
                 Kind::AcceptWithSummary => c::pagunlit_accept_with_summary(
-                    shape, map, w, sums, m, sheets, c, card, l, limits, sheet, call.start, number),
+                    role, shape, map, w, sums, m, sheets, c, card, l, limits, sheet, call.start, number),
                 Kind::GrowWithSummary => {
-                    c::pagunlit_grow_with_summary(shape, map, w, sums, m, sheets, c, card, l, limits, sheet, number)
+                    c::pagunlit_grow_with_summary(role, shape, map, w, sums, m, sheets, c, card, l, limits, sheet, number)
                 }
-                Kind::ReleaseWithSummary => c::pagunlit_release_with_summary(shape, map, w, sums, m, sheets, c, sheet),
+                Kind::ReleaseWithSummary => c::pagunlit_release_with_summary(role, shape, map, w, sums, m, sheets, c, sheet),
                 Kind::CloseWithSummary => {
-                    c::pagunlit_close_with_summary(shape, map, w, sums, m, sheets, c, card, l, zeros, words)
+                    c::pagunlit_close_with_summary(role, shape, map, w, sums, m, sheets, c, card, l, zeros, words)
                 }
-                Kind::SummaryBuild => c::pagunlit_summary_build(shape, map, w, sums, m),
-                Kind::SummaryCheck => c::pagunlit_summary_check(shape, map, w, sums, m),
+                Kind::SummaryBuild => c::pagunlit_summary_build(role, shape, map, w, sums, m),
+                Kind::SummaryCheck => c::pagunlit_summary_check(role, shape, map, w, sums, m),
                 other => unreachable!("{other:?} is lent no summary"),
             }
         }
     }
 
-    pub fn save(&mut self, scratch: &mut Lent<u64>, image: &mut Lent<u8>) -> Outcome {
+    pub fn save(&mut self, role: u32, scratch: &mut Lent<u64>, image: &mut Lent<u8>) -> Outcome {
         let (map, w) = (self.map.at(), self.map.len());
         let (sheets, c) = (self.catalogue.at(), self.catalogue.len());
         let (zeros, words) = (scratch.at(), scratch.len());
-        unsafe { c::pagunlit_save(self.shape, map, w, sheets, c, zeros, words, image.at(), image.len()) }
+        unsafe { c::pagunlit_save(role, self.shape, map, w, sheets, c, zeros, words, image.at(), image.len()) }
     }
 
-    pub fn load(&mut self, image: &mut Lent<u8>, scratch: &mut Lent<u64>) -> Outcome {
+    pub fn load(&mut self, role: u32, image: &mut Lent<u8>, scratch: &mut Lent<u64>) -> Outcome {
         let (map, w) = (self.map.at(), self.map.len());
         let (sheets, c) = (self.catalogue.at(), self.catalogue.len());
         let (zeros, words) = (scratch.at(), scratch.len());
-        unsafe { c::pagunlit_load(self.shape, image.at(), image.len(), map, w, sheets, c, zeros, words) }
+        unsafe { c::pagunlit_load(role, self.shape, image.at(), image.len(), map, w, sheets, c, zeros, words) }
     }
 }
 

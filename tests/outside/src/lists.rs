@@ -5,11 +5,13 @@ use crate::counts::Counts;
 use crate::generate::Generator;
 use crate::offers::Offers;
 use crate::pauses;
+use crate::roles;
 use crate::shares;
 use bitwise::blocks::words_of;
 use bitwise::call::{call, Call, Kind};
 use bitwise::card::{entry, Card};
 use bitwise::random::Random;
+use bitwise::roles::{admitted, turned_away};
 use bitwise::summary::summary_numbers;
 
 /// A card whose map, catalogue, bytes and summary held something before, and whose shape is anything.
@@ -78,6 +80,22 @@ fn list(
     result.map_err(|error| in_list(n, c, calls, error))
 }
 
+/// The list's fresh, by one who may make it; and another, by one who may not.
+fn start(
+    beside: &mut Beside,
+    n: usize,
+    random: &mut Random,
+    counts: &mut Counts,
+) -> Result<(), String> {
+    let fresh = call(Kind::Fresh, 0, n as u32);
+    let done = fresh.by(random.one(&admitted(fresh.kind.name())));
+    roles::note(&beside.card, done, counts);
+    beside.call(done, counts)?;
+    beside.start_ledger();
+    let other = fresh.by(random.one(&turned_away(fresh.kind.name())));
+    beside.call(other, counts)
+}
+
 fn follow(
     beside: &mut Beside,
     (n, length): (usize, usize),
@@ -85,8 +103,7 @@ fn follow(
     calls: &mut Vec<Call>,
     counts: &mut Counts,
 ) -> Result<(), String> {
-    beside.call(call(Kind::Fresh, 0, n as u32), counts)?;
-    beside.start_ledger();
+    start(beside, n, &mut generator.random, counts)?;
     let mut offers = Offers::default();
     for _ in 0..length {
         let call = generator.call(&beside.card);
@@ -94,6 +111,7 @@ fn follow(
         shares::note(&beside.card, call, offers.has(call), counts);
         offers.note(&beside.card, call, counts);
         pauses::note(&beside.card, call, counts);
+        roles::note(&beside.card, call, counts);
         beside.call(call, counts)?;
         within_limits(beside, generator)?;
     }
@@ -117,17 +135,17 @@ fn follow_with_summary(
     calls: &mut Vec<Call>,
     counts: &mut Counts,
 ) -> Result<(), String> {
-    beside.call(call(Kind::Fresh, 0, n as u32), counts)?;
-    beside.start_ledger();
+    start(beside, n, &mut generator.random, counts)?;
     beside.call(call(Kind::SummaryBuild, 0, 0), counts)?;
     for _ in 0..length {
         let call = match generator.random.within(0, 60) {
-            0 => call(Kind::SummaryBuild, 0, 0),
-            1..=4 => call(Kind::SummaryCheck, 0, 0),
+            0 => call(Kind::SummaryBuild, 0, 0).by(generator.role(Kind::SummaryBuild)),
+            1..=4 => call(Kind::SummaryCheck, 0, 0).by(generator.role(Kind::SummaryCheck)),
             _ => generator.call(&beside.card).with_summary(),
         };
         calls.push(call);
         shares::note(&beside.card, call, false, counts);
+        roles::note(&beside.card, call, counts);
         beside.call(call, counts)?;
         within_limits(beside, generator)?;
         beside.summary_is_own()?;

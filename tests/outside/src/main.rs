@@ -8,6 +8,7 @@
 //!     outside library               the sha256 checksum of the archive that it is linked with
 
 mod beside;
+mod carer;
 mod caught;
 mod closing;
 mod counts;
@@ -26,6 +27,7 @@ mod lists;
 mod offers;
 mod pauses;
 mod placed;
+mod roles;
 mod shares;
 mod singles;
 mod spaces;
@@ -82,6 +84,7 @@ const GROUPS: &[Group] = &[
         report: |counts| {
             counts.report(false)?;
             let kinds = offers::expected().chain(pauses::expected());
+            let kinds = kinds.chain(roles::expected_in_lists());
             counts.report_kinds(kinds.chain(shares::expected()))
         },
     },
@@ -131,6 +134,15 @@ const GROUPS: &[Group] = &[
             part("close-scratch", |_, margin, counts| closing::scratches(margin, counts), 1, 0, 0),
         ],
         report: |counts| counts.report_kinds(closing::expected()),
+    },
+    // Who may do what, and what a carer can learn.
+    Group {
+        parts: &[
+            part("roles", roles::every_call, 20, 5, 1),
+            part("service", roles::service, 1000, 100, 20),
+            part("carer", carer::learns, 5000, 500, 100),
+        ],
+        report: |counts| counts.report_kinds(roles::expected().chain(carer::expected())),
     },
     // Offers and accepts of all runs.
     Group {

@@ -6,6 +6,7 @@ use crate::placed::card_with;
 use bitwise::blocks::{least_fit, plain};
 use bitwise::call::{accept, call, Call, Kind};
 use bitwise::card::Card;
+use bitwise::roles::may;
 use bitwise::rows::Row;
 
 const LOWEST: &str = "an accept of an offer that is the lowest fit";
@@ -49,7 +50,7 @@ impl Offers {
     /// Keeps an offer, and counts what an accept is an example of. The call is the next one of the card.
     pub fn note(&mut self, card: &Card, call: Call, counts: &mut Counts) {
         self.0.extend(accept_of(card, call));
-        if call.kind.without_summary() == Kind::Close {
+        if call.kind.without_summary() == Kind::Close && may(call.role, call.kind.name()) {
             self.1 = self.0.len();
         }
         if call.kind.without_summary() == Kind::Accept {

@@ -3,6 +3,7 @@
 use crate::counts::Counts;
 use bitwise::call::{Call, Kind};
 use bitwise::card::{Card, Entry};
+use bitwise::roles::may;
 
 const KINDS: [(&str, Kind, u32, bool); 9] = [
     ("a pause of an Absent sheet", Kind::Pause, 0x41, false),
@@ -46,6 +47,9 @@ pub fn note(card: &Card, call: Call, counts: &mut Counts) {
     let Some(entry) = card.sheets.get(call.sheet as usize) else {
         return;
     };
+    if !may(call.role, call.kind.name()) {
+        return;
+    }
     let tried = (call.kind.without_summary(), entry.mark, entry.length > 0);
     let mut kinds = KINDS.iter();
     if let Some((name, ..)) = kinds.find(|(_, kind, mark, held)| (*kind, *mark, *held) == tried) {

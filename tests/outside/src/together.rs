@@ -11,6 +11,7 @@ use bitwise::calendar::LAST_DAY;
 use bitwise::call::{Bytes, Call, Kind, CALLS, PAYLOAD};
 use bitwise::card::{entry, sealed, wing_of, Card, Entry};
 use bitwise::random::Random;
+use bitwise::roles::turned_away;
 use bitwise::rows::{pairs, Row};
 use bitwise::summary::{build, summary_numbers};
 
@@ -143,6 +144,7 @@ fn step(row: Row) -> u32 {
 fn make_hold(row: Row, card: &mut Card, call: &mut Call, random: &mut Random) {
     let c = card.sheets.len() as u32;
     match row {
+        Row::Role => call.role = random.one(&turned_away(call.kind.name())),
         Row::Absent => call.sheet = sheet_of(card, random, |e| e.mark == 0x41),
         Row::Paused => call.sheet = sheet_of(card, random, |e| e.mark == 0x50),
         Row::PausedEmpty => {

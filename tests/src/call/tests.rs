@@ -42,7 +42,8 @@ fn a_dated_show_has_the_rows_of_show_and_its_own() {
 
 /// Document 01, "Order: 1, 2, 4 for the entry, 5 to 8, 3, then 4 for blocks, 9, 10 or 11, and last 4 for the count", and
 /// document 02, "it comes after 3", of 15, and "it takes the place of 10 there", of 17; "after 3", of 19, and "after place 0
-/// has been found sound and before the place wanted is checked", of 20; "after 3 and 15, before 10, 11 and 17", of 18.
+/// has been found sound and before the place wanted is checked", of 20; "after 3 and 15, before 10, 11 and 17", of 18; "before
+/// all other numbers", of 21.
 #[test]
 fn rows_stand_in_the_documents_order() {
     for (_, name, rows) in CALLS {
@@ -50,7 +51,7 @@ fn rows_stand_in_the_documents_order() {
         let mut numbers: Vec<u32> = rows.iter().map(|row| row.number()).collect();
         numbers.dedup();
         let order = [
-            1, 2, 4, 5, 6, 7, 8, 3, 15, 18, 19, 4, 20, 4, 9, 10, 11, 17, 4,
+            21, 1, 2, 4, 5, 6, 7, 8, 3, 15, 18, 19, 4, 20, 4, 9, 10, 11, 17, 4,
         ];
         let mut order = order.into_iter();
         for number in numbers {

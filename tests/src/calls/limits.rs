@@ -193,6 +193,30 @@ pub(super) fn row_1_of_closing() -> String {
     text
 }
 
+/// Each call by a role that may make it and by one that may not: 21 comes before row 1.
+const EACH_BY_ROLES: &str = "
+    +role 2
+    survey
+    standing 1
+    show-dated 1 0 2024 2 29
+    show 1 0 496
+    close 2
+    +role 3
+    survey
+    standing 1
+    close 1
+    show-dated 1 0 2024 2 29
+    release 1
+    +role 0
+    survey
+    close 2
+    +role 1
+";
+
+pub(super) fn row_1_of_roles() -> String {
+    lent_and_shapes("put-term 1 0 8825 8831", EACH_BY_ROLES)
+}
+
 /// Besides, too few or too many numbers of a summary lent: none, one less and one more, and those of one word and of three.
 pub(super) fn row_1_with_summary() -> String {
     let mut text = lent_and_shapes("put 1 0 1 496", EACH_WITH_SUMMARY);

@@ -11,6 +11,9 @@ pub(super) const WITH_LIMITS: usize = 300;
 /// How many more there are with closings.
 pub(super) const WITH_CLOSINGS: usize = 300;
 
+/// How many more there are with roles.
+pub(super) const WITH_ROLES: usize = 300;
+
 /// How many more there are for dated shows.
 pub(super) const DATED: usize = 300;
 
@@ -140,5 +143,29 @@ pub(super) fn random_call_or_closing(x: u64) -> String {
     match x / 64 % 8 {
         0 => "close 2".to_string(),
         _ => random_call(x / 512),
+    }
+}
+
+/// Who makes a call: mostly the pharmacist, else a carer, the service or an unknown role.
+fn random_role(x: u64) -> u64 {
+    match x % 32 {
+        0..=1 => 2,
+        2..=3 => 3,
+        4 => [0, 4, 4294967295][x as usize / 32 % 3],
+        _ => 1,
+    }
+}
+
+/// A role, and a call of a list. A dated show is a carer's more often than not.
+pub(super) fn random_call_by_roles(x: u64) -> (u64, String) {
+    let (role, y) = (random_role(x), x / 1024);
+    match x / 128 % 8 {
+        0 => (1 + y % 3, "survey".to_string()),
+        1 => (role, random_call_or_closing(y)),
+        2..=3 => {
+            let call = format!("show-dated {} 0 2024 1 {}", y % 4, y / 4 % 6 + 3);
+            (if y / 64 % 4 == 0 { role } else { 2 }, call)
+        }
+        _ => (role, random_dated_call(y)),
     }
 }

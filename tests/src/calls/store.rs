@@ -4,6 +4,7 @@ use crate::blocks::{figures, from_words, to_words};
 use crate::calendar::date;
 use crate::call::{accept, call, dated, placed, Bytes, Call, Kind, Limits};
 use crate::card::{entry, Answer, Card, Entry};
+use crate::roles::PHARMACIST;
 use crate::rows::Row;
 
 /// What the calls work on, of which they are lent the first words, entries, bytes and numbers of the summary.
@@ -18,6 +19,8 @@ pub(super) struct Store {
     open: usize,
     /// The limits of the eight wings that go with the calls, once a line has named them (`+limits`); before that each is n.
     limits: Option<Limits>,
+    /// Who makes the calls: a line names another role (`+role`), before one does it is the pharmacist's.
+    role: u32,
     /// What the last call left in its buffer, if it was a show or a dated one.
     buffer: Option<Vec<u8>>,
     /// What it left in the scratch, if it was a closing: four words that held something, of which it is lent the first.
@@ -99,6 +102,7 @@ impl Store {
             summary: vec![7; 22],
             open: 0,
             limits: None,
+            role: PHARMACIST,
             buffer: None,
             scratch: None,
             words_lent: 2,
@@ -143,7 +147,7 @@ impl Store {
     /// A call, on what is lent. A refused one leaves all as it was, and so does an offer.
     fn call(&mut self, word: &str, numbers: &[u32]) -> Answer {
         let limits = self.limits.unwrap_or([self.n as u32; 8]);
-        let call = call_of(word, numbers).with_limits(limits);
+        let call = call_of(word, numbers).with_limits(limits).by(self.role);
         let card = &mut self.lent();
         let before = card.clone();
         self.must_be_settled(card, call);
@@ -197,6 +201,7 @@ impl Store {
             "byte" => self.bytes[at(0)] ^= numbers[1] as u8,
             "summary" => self.numbers_lent = at(0),
             "number" => self.summary[at(0)] = numbers[1],
+            "role" => self.role = numbers[0],
             "limits" => self.limits = Some(numbers.try_into().expect("eight limits")),
             other => panic!("no change {other}"),
         }

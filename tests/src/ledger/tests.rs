@@ -162,12 +162,14 @@ fn a_course_is_paused_and_taken_up_again() {
     assert_eq!((ledger.granted, ledger.returned), (2, 2));
 }
 
-/// A call for one of 3 sheets, a reserve of any kind, an offer, a grow or a release; or a closing.
+/// A call for one of 3 sheets, a reserve of any kind, an offer, a grow or a release; or a closing. Mostly it is the
+/// pharmacist's.
 fn random_call(n: usize, random: &mut Random) -> Call {
     let (sheet, k) = (random.within(0, 3) as u32, random.within(0, n) as u32 / 3);
     let mut figure = || random.within(0, n + 2) as u32;
     let placed_at = figures(figure(), figure(), figure() / 4);
-    match random.within(0, 8) {
+    let role = random.one(&[1, 1, 1, 1, 1, 1, 1, 2, 3, 0]);
+    let call = match random.within(0, 8) {
         0 => call(Kind::Reserve, sheet, k),
         1 => call(Kind::Release, sheet, 0),
         2 => call(Kind::Offer, sheet, k),
@@ -175,7 +177,8 @@ fn random_call(n: usize, random: &mut Random) -> Call {
         4 => accept(sheet, placed_at.from, k),
         5 => call(Kind::Close, 0, scratch_words(n) as u32),
         _ => placed(sheet, k, placed_at),
-    }
+    };
+    call.by(role)
 }
 
 /// Makes a list of calls, each in a form of it: the card answers as the ledger does, and has its map and its entries.
