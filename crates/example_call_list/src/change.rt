@@ -1,4 +1,4 @@
-// What no call does: shapes, lengths, entries, words, bytes, numbers of the summary and limits set from outside.
+// What no call does: shapes, lengths, entries, words, bytes, numbers of the summary, limits and roles set from outside.
 use crate::line;
 use crate::line::Line;
 use crate::state;
@@ -20,6 +20,7 @@ fn lend(s: Setup, l: Line) -> Setup {
         numbers: s.numbers,
         named: s.named,
         limits: limits,
+        role: s.role,
     }
 }
 
@@ -39,6 +40,7 @@ fn lend_summary(s: Setup, l: Line) -> Setup {
         numbers: l.d as usize,
         named: s.named,
         limits: limits,
+        role: s.role,
     }
 }
 
@@ -57,6 +59,27 @@ fn limits(s: Setup, l: Line) -> Setup {
         numbers: s.numbers,
         named: true,
         limits: line::eight(l),
+        role: s.role,
+    }
+}
+
+fn role(s: Setup, l: Line) -> Setup {
+    let begun = s.begun;
+    let entries = s.entries;
+    let limits = s.limits;
+    Setup {
+        begun: begun,
+        line: l,
+        blocks: s.blocks,
+        free: s.free,
+        entries: entries,
+        words: s.words,
+        sheets: s.sheets,
+        bytes: s.bytes,
+        numbers: s.numbers,
+        named: s.named,
+        limits: limits,
+        role: l.d,
     }
 }
 
@@ -107,7 +130,7 @@ pub fn buffers(map: &mut [u64], summary: &mut [u32], card: &mut [u8], l: Line) {
     }
 }
 
-// A change of the shape, the entries, or what is lent.
+// A change of the shape, the entries, what is lent, or who makes the calls.
 pub fn kept(s: Setup, l: Line) -> Setup {
     let kind = l.word;
     match kind {
@@ -115,6 +138,7 @@ pub fn kept(s: Setup, l: Line) -> Setup {
         line::SUMMARY => lend_summary(s, l),
         line::SHAPE => shape(s, l),
         line::LIMITS => limits(s, l),
+        line::ROLE => role(s, l),
         line::ENTRY => entry(s, l),
         _ => s,
     }

@@ -31,6 +31,8 @@ pub const NUMBER: u64 = 0x2b_6e75_6d62_6572;
 
 pub const LIMITS: u64 = 0x2b_6c69_6d69_7473;
 
+pub const ROLE: u64 = 0x2b_726f_6c65;
+
 // The last eight letters of summary-build and of summary-check, whose lines tell the summary.
 pub const SUMMARY_BUILD: u64 = 0x7279_2d62_7569_6c64;
 

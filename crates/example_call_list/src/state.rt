@@ -9,7 +9,8 @@ use catalogue_standings::Answer;
 
 // The line that is read, the line to be done (empty until its end is read), n and the free count, the entries, and how many
 // words of the map, entries, bytes of the card and numbers of the summary are lent. There is one entry more than a catalogue
-// can have, so that it can be too long. Last the limits of the wings, once a line has named them.
+// can have, so that it can be too long. Last the limits of the wings, once a line has named them, and the role of who makes the
+// calls.
 pub struct Setup {
     pub begun: Line,
     pub line: Line,
@@ -22,6 +23,7 @@ pub struct Setup {
     pub numbers: usize,
     pub named: bool,
     pub limits: [u32; 8],
+    pub role: u32,
 }
 
 // What a call handed back, the entries after it, and for show the digest of its buffer, for a closing of its scratch.
@@ -76,7 +78,8 @@ pub fn entry(mark: u32, start: u32, length: u32) -> Entry {
     }
 }
 
-// A shape of 9 blocks and damaged entries: what fresh takes, and reads nothing of.
+// A shape of 9 blocks and damaged entries: what fresh takes, and reads nothing of. The role is the pharmacist's, who may make
+// every call (document 02, (n)).
 pub fn start() -> Setup {
     Setup {
         begun: line::empty(),
@@ -90,6 +93,7 @@ pub fn start() -> Setup {
         numbers: 9,
         named: false,
         limits: [0; 8],
+        role: 1,
     }
 }
 
@@ -110,6 +114,7 @@ pub fn with(s: Setup, blocks: u32, free: u32, entries: [Entry; 1025]) -> Setup {
         numbers: s.numbers,
         named: s.named,
         limits: limits,
+        role: s.role,
     }
 }
 
@@ -145,6 +150,7 @@ pub fn read_on(s: Setup, byte: u8) -> Setup {
         numbers: s.numbers,
         named: s.named,
         limits: limits,
+        role: s.role,
     }
 }
 
@@ -168,6 +174,7 @@ pub fn within(s: Setup, words: usize, numbers: usize, bytes: usize) -> Setup
         numbers: most(s.numbers, numbers),
         named: s.named,
         limits: limits,
+        role: s.role,
     }
 }
 

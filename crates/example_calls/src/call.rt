@@ -2,6 +2,7 @@
 ghost use Prim.Native.Nat.{_≤_};
 ghost use lib.ListN;
 use crate::lend;
+use crate::lend_with_summary;
 use card::Shape;
 use example_call_list::line;
 use example_call_list::payload;
@@ -69,6 +70,7 @@ fn look(map: &[u64], card: &[u8], s: Setup) -> Turn
 {
     let l = s.line;
     let entries = s.entries;
+    let role = s.role;
     let limits = state::limits(s);
     let shape = Shape {
         blocks: s.blocks,
@@ -76,17 +78,18 @@ fn look(map: &[u64], card: &[u8], s: Setup) -> Turn
     };
     let kind = l.word;
     match kind {
-        SEARCH => lend::turn_of(shape.search(map, l.d), entries),
-        SURVEY => lend::turn_of(shape.survey(map), entries),
-        OFFER => lend::offer(shape, map, entries, s.sheets, card, &limits, l.c, l.d),
-        COMPLETE => lend::complete(shape, map, entries, s.sheets, card, l.d),
-        PAUSE => lend::pause(shape, map, entries, s.sheets, l.d),
-        RESUME => lend::resume(shape, map, entries, s.sheets, l.d),
+        SEARCH => lend::turn_of(role_calls::search(role, shape, map, l.d), entries),
+        SURVEY => lend::turn_of(role_calls::survey(role, shape, map), entries),
+        OFFER => lend::offer(role, shape, map, entries, s.sheets, card, &limits, l.c, l.d),
+        COMPLETE => lend::complete(role, shape, map, entries, s.sheets, card, l.d),
+        PAUSE => lend::pause(role, shape, map, entries, s.sheets, l.d),
+        RESUME => lend::resume(role, shape, map, entries, s.sheets, l.d),
         SHOW => {
             let mut array = payload::buffer();
             let all: &mut [u8] = &mut array;
             let k = payload::length(l);
             let turn = lend::show(
+                role,
                 shape,
                 map,
                 entries,
@@ -102,6 +105,7 @@ fn look(map: &[u64], card: &[u8], s: Setup) -> Turn
             let mut array = payload::buffer();
             let all: &mut [u8] = &mut array;
             let turn = lend::show_dated(
+                role,
                 shape,
                 map,
                 entries,
@@ -116,7 +120,7 @@ fn look(map: &[u64], card: &[u8], s: Setup) -> Turn
             );
             payload::shown(turn, all)
         }
-        STANDING => lend::standing(shape, map, entries, s.sheets, l.d),
+        STANDING => lend::standing(role, shape, map, entries, s.sheets, l.d),
         _ => state::none(s),
     }
 }
@@ -126,6 +130,7 @@ fn close(map: &mut [u64], card: &mut [u8], s: Setup) -> Turn
     requires { ⌜ s .sheets ≤ 1025 ⌝ }
 {
     let entries = s.entries;
+    let role = s.role;
     let shape = Shape {
         blocks: s.blocks,
         free: s.free,
@@ -133,7 +138,7 @@ fn close(map: &mut [u64], card: &mut [u8], s: Setup) -> Turn
     let mut array = scratch::space();
     let all: &mut [u64] = &mut array;
     let k = scratch::length(s.line);
-    let turn = lend::close(shape, map, entries, s.sheets, card, &mut all[0..k]);
+    let turn = lend::close(role, shape, map, entries, s.sheets, card, &mut all[0..k]);
     scratch::left(turn, all)
 }
 
@@ -141,6 +146,7 @@ fn close_with_summary(map: &mut [u64], summary: &mut [u32], card: &mut [u8], s: 
     requires { ⌜ s .sheets ≤ 1025 ⌝ }
 {
     let entries = s.entries;
+    let role = s.role;
     let shape = Shape {
         blocks: s.blocks,
         free: s.free,
@@ -149,7 +155,16 @@ fn close_with_summary(map: &mut [u64], summary: &mut [u32], card: &mut [u8], s: 
     let all: &mut [u64] = &mut array;
     let k = scratch::length(s.line);
     let c = s.sheets;
-    let turn = lend::close_with_summary(shape, map, summary, entries, c, card, &mut all[0..k]);
+    let turn = lend_with_summary::close(
+        role,
+        shape,
+        map,
+        summary,
+        entries,
+        c,
+        card,
+        &mut all[0..k],
+    );
     scratch::left(turn, all)
 }
 
@@ -158,6 +173,7 @@ fn on_parts(map: &mut [u64], card: &mut [u8], s: Setup) -> Turn
 {
     let l = s.line;
     let entries = s.entries;
+    let role = s.role;
     let limits = state::limits(s);
     let shape = Shape {
         blocks: s.blocks,
@@ -165,9 +181,10 @@ fn on_parts(map: &mut [u64], card: &mut [u8], s: Setup) -> Turn
     };
     let kind = l.word;
     match kind {
-        FRESH => lend::fresh(shape, l.d, map, entries, s.sheets),
-        RESERVE => lend::reserve(shape, map, entries, s.sheets, card, &limits, l.c, l.d),
+        FRESH => lend::fresh(role, shape, l.d, map, entries, s.sheets),
+        RESERVE => lend::reserve(role, shape, map, entries, s.sheets, card, &limits, l.c, l.d),
         RESERVE_PLACED => lend::reserve_placed(
+            role,
             shape,
             map,
             entries,
@@ -180,12 +197,24 @@ fn on_parts(map: &mut [u64], card: &mut [u8], s: Setup) -> Turn
             l.c,
             l.d,
         ),
-        ACCEPT => lend::accept(shape, map, entries, s.sheets, card, &limits, l.b, l.c, l.d),
-        GROW => lend::grow(shape, map, entries, s.sheets, card, &limits, l.c, l.d),
+        ACCEPT => lend::accept(
+            role,
+            shape,
+            map,
+            entries,
+            s.sheets,
+            card,
+            &limits,
+            l.b,
+            l.c,
+            l.d,
+        ),
+        GROW => lend::grow(role, shape, map, entries, s.sheets, card, &limits, l.c, l.d),
         PUT => {
             let all = payload::bytes(l);
             let k = payload::length(l);
             lend::put(
+                role,
                 shape,
                 map,
                 entries,
@@ -199,6 +228,7 @@ fn on_parts(map: &mut [u64], card: &mut [u8], s: Setup) -> Turn
         PUT_TERM => {
             let all = payload::term(l);
             lend::put(
+                role,
                 shape,
                 map,
                 entries,
@@ -209,7 +239,7 @@ fn on_parts(map: &mut [u64], card: &mut [u8], s: Setup) -> Turn
                 &all[0..496],
             )
         }
-        RELEASE => lend::release(shape, map, entries, s.sheets, l.d),
+        RELEASE => lend::release(role, shape, map, entries, s.sheets, l.d),
         CLOSE => close(map, card, s),
         _ => look(map, card, s),
     }
@@ -221,6 +251,7 @@ fn guided(map: &mut [u64], summary: &mut [u32], card: &mut [u8], s: Setup) -> Tu
 {
     let l = s.line;
     let entries = s.entries;
+    let role = s.role;
     let limits = state::limits(s);
     let shape = Shape {
         blocks: s.blocks,
@@ -229,10 +260,20 @@ fn guided(map: &mut [u64], summary: &mut [u32], card: &mut [u8], s: Setup) -> Tu
     let c = s.sheets;
     let kind = l.word;
     match kind {
-        SUMMARY_RESERVE => {
-            lend::reserve_with_summary(shape, map, summary, entries, c, card, &limits, l.c, l.d)
-        }
-        SUMMARY_PLACED => lend::reserve_placed_with_summary(
+        SUMMARY_RESERVE => lend_with_summary::reserve(
+            role,
+            shape,
+            map,
+            summary,
+            entries,
+            c,
+            card,
+            &limits,
+            l.c,
+            l.d,
+        ),
+        SUMMARY_PLACED => lend_with_summary::reserve_placed(
+            role,
             shape,
             map,
             summary,
@@ -246,21 +287,21 @@ fn guided(map: &mut [u64], summary: &mut [u32], card: &mut [u8], s: Setup) -> Tu
             l.c,
             l.d,
         ),
-        SUMMARY_ACCEPT => {
-            lend::accept_with_summary(
-                shape,
-                map,
-                summary,
-                entries,
-                c,
-                card,
-                &limits,
-                l.b,
-                l.c,
-                l.d,
-            )
-        }
-        SUMMARY_GROW => lend::grow_with_summary(
+        SUMMARY_ACCEPT => lend_with_summary::accept(
+            role,
+            shape,
+            map,
+            summary,
+            entries,
+            c,
+            card,
+            &limits,
+            l.b,
+            l.c,
+            l.d,
+        ),
+        SUMMARY_GROW => lend_with_summary::grow(
+            role,
             shape,
             map,
             summary,
@@ -271,10 +312,16 @@ fn guided(map: &mut [u64], summary: &mut [u32], card: &mut [u8], s: Setup) -> Tu
             l.c,
             l.d,
         ),
-        SUMMARY_RELEASE => lend::release_with_summary(shape, map, summary, entries, c, l.d),
+        SUMMARY_RELEASE => lend_with_summary::release(role, shape, map, summary, entries, c, l.d),
         SUMMARY_CLOSE => close_with_summary(map, summary, card, s),
-        line::SUMMARY_BUILD => lend::turn_of(shape.summary_build(map, summary), entries),
-        line::SUMMARY_CHECK => lend::turn_of(shape.summary_check(map, summary), entries),
+        line::SUMMARY_BUILD => lend::turn_of(
+            role_calls::summary::summary_build(role, shape, map, summary),
+            entries,
+        ),
+        line::SUMMARY_CHECK => lend::turn_of(
+            role_calls::summary::summary_check(role, shape, map, summary),
+            entries,
+        ),
         _ => on_parts(map, card, s),
     }
 }

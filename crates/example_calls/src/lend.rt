@@ -1,4 +1,4 @@
-// The calls of `Shape`, on the first c of the entries that a state of the examples has by value. Each function lends them
+// The public calls, on the first c of the entries that a state of the examples has by value. Each function lends them
 // to one call, and gives back what the call answered and what it left of them. The proofs are written by tools/walks.
 ghost use Prim.Native.Nat.{_≤_};
 use card::Outcome;
@@ -14,15 +14,23 @@ pub fn turn_of(outcome: Outcome, entries: [Entry; 1025]) -> Turn {
     state::handed_back(shape.blocks, shape.free, answer, entries, 0)
 }
 
-pub fn fresh(shape: Shape, blocks: u32, map: &mut [u64], entries: [Entry; 1025], c: usize) -> Turn
+pub fn fresh(
+    role: u32,
+    shape: Shape,
+    blocks: u32,
+    map: &mut [u64],
+    entries: [Entry; 1025],
+    c: usize,
+) -> Turn
     requires { ⌜ c ≤ 1025 ⌝ }
 {
     let mut all = entries;
-    let outcome = shape.fresh(blocks, map, &mut all[..c]);
+    let outcome = role_calls::fresh(role, shape, blocks, map, &mut all[..c]);
     turn_of(outcome, all)
 }
 
 pub fn reserve(
+    role: u32,
     shape: Shape,
     map: &mut [u64],
     entries: [Entry; 1025],
@@ -35,11 +43,12 @@ pub fn reserve(
     requires { ⌜ c ≤ 1025 ⌝ }
 {
     let mut all = entries;
-    let outcome = shape.reserve(map, &mut all[..c], card, limits, sheet, k);
+    let outcome = role_calls::reserve(role, shape, map, &mut all[..c], card, limits, sheet, k);
     turn_of(outcome, all)
 }
 
 pub fn reserve_placed(
+    role: u32,
     shape: Shape,
     map: &mut [u64],
     entries: [Entry; 1025],
@@ -55,7 +64,9 @@ pub fn reserve_placed(
     requires { ⌜ c ≤ 1025 ⌝ }
 {
     let mut all = entries;
-    let outcome = shape.reserve_placed(
+    let outcome = role_calls::reserve_placed(
+        role,
+        shape,
         map,
         &mut all[..c],
         card,
@@ -70,6 +81,7 @@ pub fn reserve_placed(
 }
 
 pub fn offer(
+    role: u32,
     shape: Shape,
     map: &[u64],
     entries: [Entry; 1025],
@@ -82,11 +94,12 @@ pub fn offer(
     requires { ⌜ c ≤ 1025 ⌝ }
 {
     let all = entries;
-    let outcome = shape.offer(map, &all[..c], card, limits, sheet, k);
+    let outcome = role_calls::offer(role, shape, map, &all[..c], card, limits, sheet, k);
     turn_of(outcome, all)
 }
 
 pub fn accept(
+    role: u32,
     shape: Shape,
     map: &mut [u64],
     entries: [Entry; 1025],
@@ -100,11 +113,22 @@ pub fn accept(
     requires { ⌜ c ≤ 1025 ⌝ }
 {
     let mut all = entries;
-    let outcome = shape.accept(map, &mut all[..c], card, limits, sheet, start, k);
+    let outcome = role_calls::accept(
+        role,
+        shape,
+        map,
+        &mut all[..c],
+        card,
+        limits,
+        sheet,
+        start,
+        k,
+    );
     turn_of(outcome, all)
 }
 
 pub fn grow(
+    role: u32,
     shape: Shape,
     map: &mut [u64],
     entries: [Entry; 1025],
@@ -117,11 +141,12 @@ pub fn grow(
     requires { ⌜ c ≤ 1025 ⌝ }
 {
     let mut all = entries;
-    let outcome = shape.grow(map, &mut all[..c], card, limits, sheet, m);
+    let outcome = role_calls::grow(role, shape, map, &mut all[..c], card, limits, sheet, m);
     turn_of(outcome, all)
 }
 
 pub fn put(
+    role: u32,
     shape: Shape,
     map: &[u64],
     entries: [Entry; 1025],
@@ -134,11 +159,12 @@ pub fn put(
     requires { ⌜ c ≤ 1025 ⌝ }
 {
     let all = entries;
-    let outcome = shape.put(map, &all[..c], card, sheet, place, payload);
+    let outcome = role_calls::put(role, shape, map, &all[..c], card, sheet, place, payload);
     turn_of(outcome, all)
 }
 
 pub fn complete(
+    role: u32,
     shape: Shape,
     map: &[u64],
     entries: [Entry; 1025],
@@ -149,35 +175,57 @@ pub fn complete(
     requires { ⌜ c ≤ 1025 ⌝ }
 {
     let mut all = entries;
-    let outcome = shape.complete(map, &mut all[..c], card, sheet);
+    let outcome = role_calls::complete(role, shape, map, &mut all[..c], card, sheet);
     turn_of(outcome, all)
 }
 
-pub fn pause(shape: Shape, map: &[u64], entries: [Entry; 1025], c: usize, sheet: u32) -> Turn
+pub fn pause(
+    role: u32,
+    shape: Shape,
+    map: &[u64],
+    entries: [Entry; 1025],
+    c: usize,
+    sheet: u32,
+) -> Turn
     requires { ⌜ c ≤ 1025 ⌝ }
 {
     let mut all = entries;
-    let outcome = shape.pause(map, &mut all[..c], sheet);
+    let outcome = role_calls::pause(role, shape, map, &mut all[..c], sheet);
     turn_of(outcome, all)
 }
 
-pub fn resume(shape: Shape, map: &[u64], entries: [Entry; 1025], c: usize, sheet: u32) -> Turn
+pub fn resume(
+    role: u32,
+    shape: Shape,
+    map: &[u64],
+    entries: [Entry; 1025],
+    c: usize,
+    sheet: u32,
+) -> Turn
     requires { ⌜ c ≤ 1025 ⌝ }
 {
     let mut all = entries;
-    let outcome = shape.resume(map, &mut all[..c], sheet);
+    let outcome = role_calls::resume(role, shape, map, &mut all[..c], sheet);
     turn_of(outcome, all)
 }
 
-pub fn release(shape: Shape, map: &mut [u64], entries: [Entry; 1025], c: usize, sheet: u32) -> Turn
+pub fn release(
+    role: u32,
+    shape: Shape,
+    map: &mut [u64],
+    entries: [Entry; 1025],
+    c: usize,
+    sheet: u32,
+) -> Turn
     requires { ⌜ c ≤ 1025 ⌝ }
 {
     let mut all = entries;
-    let outcome = shape.release(map, &mut all[..c], sheet);
+    let outcome = role_calls::release(role, shape, map, &mut all[..c], sheet);
     turn_of(outcome, all)
 }
 
 pub fn show(
+    role: u32,
     shape: Shape,
     map: &[u64],
     entries: [Entry; 1025],
@@ -190,11 +238,12 @@ pub fn show(
     requires { ⌜ c ≤ 1025 ⌝ }
 {
     let all = entries;
-    let outcome = shape.show(map, &all[..c], card, sheet, place, buffer);
+    let outcome = role_calls::show(role, shape, map, &all[..c], card, sheet, place, buffer);
     turn_of(outcome, all)
 }
 
 pub fn show_dated(
+    role: u32,
     shape: Shape,
     map: &[u64],
     entries: [Entry; 1025],
@@ -210,130 +259,39 @@ pub fn show_dated(
     requires { ⌜ c ≤ 1025 ⌝ }
 {
     let all = entries;
-    let outcome = shape.show_dated(map, &all[..c], card, sheet, place, year, month, day, buffer);
+    let outcome = role_calls::show_dated(
+        role,
+        shape,
+        map,
+        &all[..c],
+        card,
+        sheet,
+        place,
+        year,
+        month,
+        day,
+        buffer,
+    );
     turn_of(outcome, all)
 }
 
-pub fn standing(shape: Shape, map: &[u64], entries: [Entry; 1025], c: usize, sheet: u32) -> Turn
+pub fn standing(
+    role: u32,
+    shape: Shape,
+    map: &[u64],
+    entries: [Entry; 1025],
+    c: usize,
+    sheet: u32,
+) -> Turn
     requires { ⌜ c ≤ 1025 ⌝ }
 {
     let all = entries;
-    let outcome = shape.standing(map, &all[..c], sheet);
-    turn_of(outcome, all)
-}
-
-pub fn reserve_with_summary(
-    shape: Shape,
-    map: &mut [u64],
-    summary: &mut [u32],
-    entries: [Entry; 1025],
-    c: usize,
-    card: &mut [u8],
-    limits: &[u32; 8],
-    sheet: u32,
-    k: u32,
-) -> Turn
-    requires { ⌜ c ≤ 1025 ⌝ }
-{
-    let mut all = entries;
-    let outcome = shape.reserve_with_summary(map, summary, &mut all[..c], card, limits, sheet, k);
-    turn_of(outcome, all)
-}
-
-pub fn reserve_placed_with_summary(
-    shape: Shape,
-    map: &mut [u64],
-    summary: &mut [u32],
-    entries: [Entry; 1025],
-    c: usize,
-    card: &mut [u8],
-    limits: &[u32; 8],
-    sheet: u32,
-    k: u32,
-    from: u32,
-    before: u32,
-    step: u32,
-) -> Turn
-    requires { ⌜ c ≤ 1025 ⌝ }
-{
-    let mut all = entries;
-    let outcome = shape.reserve_placed_with_summary(
-        map,
-        summary,
-        &mut all[..c],
-        card,
-        limits,
-        sheet,
-        k,
-        from,
-        before,
-        step,
-    );
-    turn_of(outcome, all)
-}
-
-pub fn accept_with_summary(
-    shape: Shape,
-    map: &mut [u64],
-    summary: &mut [u32],
-    entries: [Entry; 1025],
-    c: usize,
-    card: &mut [u8],
-    limits: &[u32; 8],
-    sheet: u32,
-    start: u32,
-    k: u32,
-) -> Turn
-    requires { ⌜ c ≤ 1025 ⌝ }
-{
-    let mut all = entries;
-    let outcome = shape.accept_with_summary(
-        map,
-        summary,
-        &mut all[..c],
-        card,
-        limits,
-        sheet,
-        start,
-        k,
-    );
-    turn_of(outcome, all)
-}
-
-pub fn grow_with_summary(
-    shape: Shape,
-    map: &mut [u64],
-    summary: &mut [u32],
-    entries: [Entry; 1025],
-    c: usize,
-    card: &mut [u8],
-    limits: &[u32; 8],
-    sheet: u32,
-    m: u32,
-) -> Turn
-    requires { ⌜ c ≤ 1025 ⌝ }
-{
-    let mut all = entries;
-    let outcome = shape.grow_with_summary(map, summary, &mut all[..c], card, limits, sheet, m);
-    turn_of(outcome, all)
-}
-
-pub fn release_with_summary(
-    shape: Shape,
-    map: &mut [u64],
-    summary: &mut [u32],
-    entries: [Entry; 1025],
-    c: usize,
-    sheet: u32,
-) -> Turn
-    requires { ⌜ c ≤ 1025 ⌝ }
-{
-    let mut all = entries;
-    let outcome = shape.release_with_summary(map, summary, &mut all[..c], sheet);
+    let outcome = role_calls::standing(role, shape, map, &all[..c], sheet);
     turn_of(outcome, all)
 }
 
 pub fn close(
+    role: u32,
     shape: Shape,
     map: &mut [u64],
     entries: [Entry; 1025],
@@ -344,22 +302,6 @@ pub fn close(
     requires { ⌜ c ≤ 1025 ⌝ }
 {
     let mut all = entries;
-    let outcome = shape.close(map, &mut all[..c], card, scratch);
-    turn_of(outcome, all)
-}
-
-pub fn close_with_summary(
-    shape: Shape,
-    map: &mut [u64],
-    summary: &mut [u32],
-    entries: [Entry; 1025],
-    c: usize,
-    card: &mut [u8],
-    scratch: &mut [u64],
-) -> Turn
-    requires { ⌜ c ≤ 1025 ⌝ }
-{
-    let mut all = entries;
-    let outcome = shape.close_with_summary(map, summary, &mut all[..c], card, scratch);
+    let outcome = role_calls::close(role, shape, map, &mut all[..c], card, scratch);
     turn_of(outcome, all)
 }

@@ -11,10 +11,12 @@
 // A call whose word begins with summary- is lent the summary; summary-placed is reserve-placed. A line with + is no call: it
 // sets how many words, entries and bytes are lent (+lend), how many numbers of the summary (+summary), n and the free count
 // (+shape), an entry (+entry), the two halves of a word of the map (+word), a number of the summary (+number), other bits of a
-// byte of the card (+byte), or the eight limits of the wings for the calls that follow (+limits), which are n before that. A
-// line with = is a heading. Here are the calls; all else is in the crate example_call_list.
+// byte of the card (+byte), or for the calls that follow the eight limits of the wings (+limits), which are n before that, or
+// the role of who makes them (+role), which is 1 before that. A line with = is a heading. Here are the calls; all else is in
+// the crate example_call_list.
 mod call;
 mod lend;
+mod lend_with_summary;
 
 ghost use Prim.Native.Nat.{_≤_};
 ghost use lib.ListN;

@@ -1,7 +1,7 @@
--- Written by tools/walks: every function (shape: Shape, map: &[u64], entries: [Entry; 1025], c: usize, card: &[u8], sheet: u32,
--- place: u32, buffer: &mut [u8]) whose code is
+-- Written by tools/walks: every function (role: u32, shape: Shape, map: &[u64], entries: [Entry; 1025], c: usize, card: &[u8],
+-- sheet: u32, place: u32, buffer: &mut [u8]) whose code is
 --     let all = entries;
---     let outcome: Outcome = call(shape, map, &all[..c], card, sheet, place, buffer);
+--     let outcome: Outcome = call(role, shape, map, &all[..c], card, sheet, place, buffer);
 --     turn_of(outcome, all)
 -- One walk serves every choice of the callees: it takes their names and what they ensure, and uses nothing of that. The types
 -- by value are any, too.
@@ -62,26 +62,29 @@ module _ (Shape Outcome Turn : Value) where
   signature = record {
     lifetimes = 3;
     outlives = [];
-    params = plain (λ _. (rowOf Shape)) ∷ shrSlice 0 tt (λ _. u64) ∷ plain (λ _. (Array Entry′.the-row 1025))
+    params = plain (λ _. u32) ∷ plain (λ _. (rowOf Shape)) ∷ shrSlice 0 tt (λ _. u64) ∷ plain (λ _. (Array Entry′.the-row 1025))
         ∷ plain (λ _. usize) ∷ shrSlice 1 tt (λ _. u8) ∷ plain (λ _. u32) ∷ plain (λ _. u32) ∷ mutSlice 2 tt (λ _. u8) ∷ [];
     result = plain (λ _. (rowOf Turn));
   }
 
   abbrev ended : Ended
-  ended = record { signature = signature; kept = (yes, (yes, (yes, (yes, (yes, (yes, (yes, (yes, tt)))))))) }
+  ended = record { signature = signature; kept = (yes, (yes, (yes, (yes, (yes, (yes, (yes, (yes, (yes, tt))))))))) }
 
   abbrev stayed : Stays (ended .signature .params) (ended .kept)
   stayed = (
-    stay-none (λ _. (rowOf Shape)) yes,
+    stay-none (λ _. u32) yes,
     (
-      stay-none-slice (0 ∷ []) tt (plain (λ _. u64)) yes,
+      stay-none (λ _. (rowOf Shape)) yes,
       (
-        stay-none (λ _. (Array Entry′.the-row 1025)) yes,
+        stay-none-slice (0 ∷ []) tt (plain (λ _. u64)) yes,
         (
-          stay-none (λ _. usize) yes,
+          stay-none (λ _. (Array Entry′.the-row 1025)) yes,
           (
-            stay-none-slice (1 ∷ []) tt (plain (λ _. u8)) yes,
-            (stay-none (λ _. u32) yes, (stay-none (λ _. u32) yes, (stay-slice (2 ∷ []) tt (plain (λ _. u8)), tt))),
+            stay-none (λ _. usize) yes,
+            (
+              stay-none-slice (1 ∷ []) tt (plain (λ _. u8)) yes,
+              (stay-none (λ _. u32) yes, (stay-none (λ _. u32) yes, (stay-slice (2 ∷ []) tt (plain (λ _. u8)), tt))),
+            ),
           ),
         ),
       ),
@@ -93,25 +96,25 @@ module _ (Shape Outcome Turn : Value) where
   function #call #turn-of = record {
     lifetimes = 3;
     outlives = [];
-    params = 8;
-    locals = local (mirOf Turn) valueLocal ∷ local (mirOf Shape) valueLocal ∷ local (sliceTy (tyRef (named 0) imm (tyInt w64)))
-        valueLocal ∷ local (tyArray Entry″.mir 1025) valueLocal ∷ local (tyInt w64) valueLocal
-        ∷ local (sliceTy (tyRef (named 1) imm (tyInt w8))) valueLocal ∷ local (tyInt w32) valueLocal
-        ∷ local (tyInt w32) valueLocal ∷ local (sliceTy (tyRef (named 2) mut (tyInt w8))) valueLocal
-        ∷ local (tyArray Entry″.mir 1025) memorySlot ∷ local (mirOf Outcome) valueLocal
+    params = 9;
+    locals = local (mirOf Turn) valueLocal ∷ local (tyInt w32) valueLocal ∷ local (mirOf Shape) valueLocal
+        ∷ local (sliceTy (tyRef (named 0) imm (tyInt w64))) valueLocal ∷ local (tyArray Entry″.mir 1025) valueLocal
+        ∷ local (tyInt w64) valueLocal ∷ local (sliceTy (tyRef (named 1) imm (tyInt w8))) valueLocal
+        ∷ local (tyInt w32) valueLocal ∷ local (tyInt w32) valueLocal ∷ local (sliceTy (tyRef (named 2) mut (tyInt w8)))
+        valueLocal ∷ local (tyArray Entry″.mir 1025) memorySlot ∷ local (mirOf Outcome) valueLocal
         ∷ local (tyRef erased imm (tyArray (pointee (Entry′.the-row .written)) 1025)) valueLocal
         ∷ local (sliceTy (tyRef erased imm (pointee (Entry′.the-row .written)))) valueLocal
         ∷ local (tyRef erased mut (tyInt w8)) valueLocal ∷ local (sliceTy (tyRef erased mut (tyInt w8))) valueLocal
         ∷ local (tyArray Entry″.mir 1025) valueLocal ∷ [];
-    body = seq (assign (place 9 []) (rvOpd (copy (place 3 []))))
-        (seq (assign (place 11 []) (addrOf (place 9 [])))
-        (seq (assign (place 12 []) (aggregate (copy (place 11 []) ∷ copy (place 4 []) ∷ [])))
-        (seq (assign (place 13 []) (addrOf (place 8 (field 0 ∷ deref (tyInt w8) ∷ []))))
-        (seq (assign (place 14 []) (aggregate (copy (place 13 []) ∷ copy (place 8 (field 1 ∷ [])) ∷ [])))
-        (seq (call #call (copy (place 1 []) ∷ copy (place 2 []) ∷ copy (place 12 []) ∷ copy (place 5 []) ∷ copy (place 6 [])
-        ∷ copy (place 7 []) ∷ copy (place 14 []) ∷ []) (place 10 []))
-        (seq (assign (place 15 []) (rvOpd (copy (place 9 []))))
-        (seq (call #turn-of (copy (place 10 []) ∷ copy (place 15 []) ∷ []) (place 0 [])) return)))))));
+    body = seq (assign (place 10 []) (rvOpd (copy (place 4 []))))
+        (seq (assign (place 12 []) (addrOf (place 10 [])))
+        (seq (assign (place 13 []) (aggregate (copy (place 12 []) ∷ copy (place 5 []) ∷ [])))
+        (seq (assign (place 14 []) (addrOf (place 9 (field 0 ∷ deref (tyInt w8) ∷ []))))
+        (seq (assign (place 15 []) (aggregate (copy (place 14 []) ∷ copy (place 9 (field 1 ∷ [])) ∷ [])))
+        (seq (call #call (copy (place 1 []) ∷ copy (place 2 []) ∷ copy (place 3 []) ∷ copy (place 13 []) ∷ copy (place 6 [])
+        ∷ copy (place 7 []) ∷ copy (place 8 []) ∷ copy (place 15 []) ∷ []) (place 11 []))
+        (seq (assign (place 16 []) (rvOpd (copy (place 10 []))))
+        (seq (call #turn-of (copy (place 11 []) ∷ copy (place 16 []) ∷ []) (place 0 [])) return)))))));
   }
 
   -- ---- what `call` is
@@ -119,13 +122,13 @@ module _ (Shape Outcome Turn : Value) where
   call-signature = record {
     lifetimes = 4;
     outlives = [];
-    params = plain (λ _. (rowOf Shape)) ∷ shrSlice 0 tt (λ _. u64) ∷ shrSlice 1 tt (λ _. Entry′.the-row)
+    params = plain (λ _. u32) ∷ plain (λ _. (rowOf Shape)) ∷ shrSlice 0 tt (λ _. u64) ∷ shrSlice 1 tt (λ _. Entry′.the-row)
         ∷ shrSlice 2 tt (λ _. u8) ∷ plain (λ _. u32) ∷ plain (λ _. u32) ∷ mutSlice 3 tt (λ _. u8) ∷ [];
     result = plain (λ _. (rowOf Outcome));
   }
 
   abbrev call-ended : Ended
-  call-ended = record { signature = call-signature; kept = (yes, (yes, (yes, (yes, (yes, (yes, (yes, tt))))))) }
+  call-ended = record { signature = call-signature; kept = (yes, (yes, (yes, (yes, (yes, (yes, (yes, (yes, tt)))))))) }
 
   module _ {M : Type 1} (𝓤 : URA M) where
     abbrev call-Ensures : Type 2
@@ -164,17 +167,24 @@ module _ (Shape Outcome Turn : Value) where
   module _ (#call #turn-of : Name) where
     module _ {M : Type 1} (𝓤 : URA M) where
       abbrev clauses : Clauses 𝓤 ended
-      clauses κs a = record { ghost = Unit {0}; requires = λ _. fact 𝓤 ((a .1 .1 .1 .0) ≤ 1025); ensures = λ _ r e. emp 𝓤 }
+      clauses κs a = record { ghost = Unit {0}; requires = λ _. fact 𝓤 ((a .1 .1 .1 .1 .0) ≤ 1025); ensures = λ _ r e. emp 𝓤 }
 
     module _ {M : Type 1} (𝓤 : URA M) (H : Heap 𝓤) (A : Atoms 𝓤) (W : Given 𝓤 H A) (call-ensures : call-Ensures 𝓤)
         (turn-of-ensures : turn-of-Ensures 𝓤) (κ₀ κ₁ κ₂ : Lft) (q₀ q₁ q₂ : Share)
-        (x-shape : (denotes Shape)) (x-map : RefT (List ℕ)) (x-entries : (List Entry)) (x-c : ℕ) (x-card : RefT (List ℕ))
-        (x-sheet : ℕ) (x-place : ℕ) (x-buffer : RefT (List ℕ))
-        (is-x-shape : Is (rowOf Shape) x-shape ((valsOf Shape) x-shape)) (room-x-map : Room u64 (length (now x-map)))
-        (is-x-entries : Is (Array Entry′.the-row 1025) x-entries ((array-vals (struct.vals Entry′.the-type Entry″.the-laws))
-        x-entries)) (is-x-c : Is usize x-c ((uint-vals w64) x-c)) (room-x-card : Room u8 (length (now x-card)))
-        (is-x-sheet : Is u32 x-sheet ((uint-vals w32) x-sheet)) (is-x-place : Is u32 x-place ((uint-vals w32) x-place))
-        (room-x-buffer : Room u8 (length (now x-buffer))) (asked : x-c ≤ 1025) where
+        (x-role : ℕ) (x-shape : (denotes Shape)) (x-map : RefT (List ℕ)) (x-entries : (List Entry)) (x-c : ℕ)
+        (x-card : RefT (List ℕ)) (x-sheet : ℕ) (x-place : ℕ) (x-buffer : RefT (List ℕ))
+        (is-x-role : Is u32 x-role ((uint-vals w32) x-role)) (is-x-shape : Is (rowOf Shape) x-shape ((valsOf Shape) x-shape))
+        (room-x-map : Room u64 (length (now x-map))) (is-x-entries : Is (Array Entry′.the-row 1025) x-entries
+        ((array-vals (struct.vals Entry′.the-type Entry″.the-laws)) x-entries)) (is-x-c : Is usize x-c ((uint-vals w64) x-c))
+        (room-x-card : Room u8 (length (now x-card))) (is-x-sheet : Is u32 x-sheet ((uint-vals w32) x-sheet))
+        (is-x-place : Is u32 x-place ((uint-vals w32) x-place)) (room-x-buffer : Room u8 (length (now x-buffer)))
+        (asked : x-c ≤ 1025) where
+      abbrev m-x-role : Val
+      m-x-role = only ((uint-vals w32) x-role)
+
+      typed-x-role : Holds (hasTy (tyInt w32) m-x-role) × WT m-x-role
+      typed-x-role = (uint-lawful 𝓤 H A W w32 .typed) x-role _ is-x-role .0
+
       abbrev m-x-shape : Val
       m-x-shape = only ((valsOf Shape) x-shape)
 
@@ -224,17 +234,20 @@ module _ (Shape Outcome Turn : Value) where
       abbrev at-x-buffer : GName → List ℕ → RefT (List ℕ)
       at-x-buffer δ l = record { ptr = x-buffer .ptr; name = δ; now = l }
 
-      abbrev args : (denotes Shape) × (RefT (List ℕ) × ((List Entry) × (ℕ × (RefT (List ℕ)
-          × (ℕ × (ℕ × (RefT (List ℕ) × Unit {0})))))))
-      args = (x-shape, (x-map, (x-entries, (x-c, (x-card, (x-sheet, (x-place, (x-buffer, tt))))))))
+      abbrev args : ℕ × ((denotes Shape) × (RefT (List ℕ) × ((List Entry) × (ℕ × (RefT (List ℕ)
+          × (ℕ × (ℕ × (RefT (List ℕ) × Unit {0}))))))))
+      args = (x-role, (x-shape, (x-map, (x-entries, (x-c, (x-card, (x-sheet, (x-place, (x-buffer, tt)))))))))
 
       abbrev vals : List Val × (List Val × (List Val × (List Val × (List Val × (List Val
-          × (List Val × (List Val × Unit {0})))))))
+          × (List Val × (List Val × (List Val × Unit {0}))))))))
       vals = (
-        m-x-shape ∷ [],
+        m-x-role ∷ [],
         (
-          s-x-map ∷ [],
-          (m-x-entries ∷ [], (m-x-c ∷ [], (s-x-card ∷ [], (m-x-sheet ∷ [], (m-x-place ∷ [], (s-x-buffer ∷ [], tt)))))),
+          m-x-shape ∷ [],
+          (
+            s-x-map ∷ [],
+            (m-x-entries ∷ [], (m-x-c ∷ [], (s-x-card ∷ [], (m-x-sheet ∷ [], (m-x-place ∷ [], (s-x-buffer ∷ [], tt)))))),
+          ),
         ),
       )
 
@@ -255,15 +268,18 @@ module _ (Shape Outcome Turn : Value) where
       x-all-room = (lit< tt, lit< tt)
 
       -- ---- the caller has what `call` asks
-      abbrev call-args : (δ₀-call δ₁-call : GName) (b-x-all : ℕ) → (denotes Shape) × (RefT (List ℕ)
-          × (RefT (List Entry) × (RefT (List ℕ) × (ℕ × (ℕ × (RefT (List ℕ) × Unit {0}))))))
+      abbrev call-args : (δ₀-call δ₁-call : GName) (b-x-all : ℕ) → ℕ × ((denotes Shape)
+          × (RefT (List ℕ) × (RefT (List Entry) × (RefT (List ℕ) × (ℕ × (ℕ × (RefT (List ℕ) × Unit {0})))))))
       call-args δ₀-call δ₁-call b-x-all = (
-        x-shape,
+        x-role,
         (
-          x-map,
+          x-shape,
           (
-            at-x-all b-x-all δ₀-call (take x-c x-entries),
-            (x-card, (x-sheet, (x-place, (at-x-buffer δ₁-call (now x-buffer), tt)))),
+            x-map,
+            (
+              at-x-all b-x-all δ₀-call (take x-c x-entries),
+              (x-card, (x-sheet, (x-place, (at-x-buffer δ₁-call (now x-buffer), tt)))),
+            ),
           ),
         ),
       )
@@ -276,8 +292,14 @@ module _ (Shape Outcome Turn : Value) where
           tt,
           call-args δ₀-call δ₁-call b-x-all,
           (
-            m-x-shape ∷ [],
-            (s-x-map ∷ [], (s-x-all b-x-all ∷ [], (s-x-card ∷ [], (m-x-sheet ∷ [], (m-x-place ∷ [], (s-x-buffer ∷ [], tt)))))),
+            m-x-role ∷ [],
+            (
+              m-x-shape ∷ [],
+              (
+                s-x-map ∷ [],
+                (s-x-all b-x-all ∷ [], (s-x-card ∷ [], (m-x-sheet ∷ [], (m-x-place ∷ [], (s-x-buffer ∷ [], tt))))),
+              ),
+            ),
           ),
         ),
         tt,
@@ -301,7 +323,8 @@ module _ (Shape Outcome Turn : Value) where
           owned ! u32 (Is u32) (uint-makes 𝓤 H A W w32) x-sheet _ is-x-sheet $ fjoin ! $ move ! (4 ∷ 0 ∷ []) $
           fjoin ! $ move ! (3 ∷ 0 ∷ []) $ fjoin ! $ move ! (2 ∷ 0 ∷ []) $ fjoin ! $
           owned ! (rowOf Shape) (Is (rowOf Shape)) (Shape .makes 𝓤 H A) x-shape _ is-x-shape $ fjoin ! $
-          move ! (1 ∷ 0 ∷ []) $ join ! $ frame ! $ done !
+          owned ! u32 (Is u32) (uint-makes 𝓤 H A W w32) x-role _ is-x-role $ fjoin ! $ move ! (1 ∷ 0 ∷ []) $ join ! $
+          frame ! $ done !
 
       -- ---- the caller has what `turn-of` asks
       abbrev turn-of-args : (v-outcome : (denotes Outcome)) (m-v-outcome : Val) (v-all : (List Entry)) → (denotes Outcome)
@@ -344,8 +367,8 @@ module _ (Shape Outcome Turn : Value) where
           ∷ ‵ (ShrSlice (named 1) κ₁ u8 .own x-card (s-x-card ∷ [])) ∷ ‵ (flft κ₁ q₁) ∷ ‵
           (MutSlice (named 2) κ₂ u8 .own (at-x-buffer (x-buffer .name) z-x-buffer) (s-x-buffer ∷ [])) ∷ ‵ (flft κ₂ q₂) ∷ []) ∵
           suffices ! _ (ends-at 𝓤 H A ended stayed (clauses 𝓤) W bound w r
-          (tt, (tt, (tt, (tt, (tt, (tt, (tt, (z-x-buffer, tt)))))))) (tt, (tt, (tt, (tt, (tt, (tt, (tt, (l-x-buffer, tt)))))))))
-          $
+          (tt, (tt, (tt, (tt, (tt, (tt, (tt, (tt, (z-x-buffer, tt)))))))))
+          (tt, (tt, (tt, (tt, (tt, (tt, (tt, (tt, (l-x-buffer, tt)))))))))) $
           says-nothing ! $ nothing ! $ move ! (6 ∷ 0 ∷ []) $ join ! $ move ! (4 ∷ 0 ∷ []) $ join ! $
           move ! (2 ∷ 0 ∷ []) $ join ! $ frame ! $ nothing ! $ move ! (3 ∷ 0 ∷ []) $ fjoin ! $
           owned ! u32 (Is u32) (uint-makes 𝓤 H A W w32) x-place _ is-x-place $ fjoin ! $
@@ -355,34 +378,36 @@ module _ (Shape Outcome Turn : Value) where
           (struct.makes Entry′.the-type Entry″.the-plain 𝓤 H A) 1025) x-entries _ is-x-entries $
           fjoin ! $ move ! (1 ∷ 0 ∷ []) $ fjoin ! $
           owned ! (rowOf Shape) (Is (rowOf Shape)) (Shape .makes 𝓤 H A) x-shape _ is-x-shape $ fjoin ! $
+          owned ! u32 (Is u32) (uint-makes 𝓤 H A W w32) x-role _ is-x-role $ fjoin ! $
           owned ! (rowOf Turn) (Is (rowOf Turn)) (Turn .makes 𝓤 H A) r _ is $ move ! (1 ∷ 0 ∷ []) $ done !
 
       -- ---- the walk
       walk : (𝓣 : Tables 𝓤 H) → Triple 𝓤 (𝓣 .C #call) (call-contract 𝓤 H A call-ensures)
           → Triple 𝓤 (𝓣 .C #turn-of) (turn-of-contract 𝓤 H A turn-of-ensures) → ent 𝓤 (onEntry 𝓤 H A signature
           (κ₀, (κ₁, (κ₂, tt))) (q₀, (q₁, (q₂, tt))) args vals)
-          (WpFn 𝓤 H (𝓣 .C) (𝓣 .Λ) (function #call #turn-of) (m-x-shape ∷ s-x-map ∷ m-x-entries ∷ m-x-c ∷ s-x-card ∷ m-x-sheet
-          ∷ m-x-place ∷ s-x-buffer ∷ []) Post)
+          (WpFn 𝓤 H (𝓣 .C) (𝓣 .Λ) (function #call #turn-of) (m-x-role ∷ m-x-shape ∷ s-x-map ∷ m-x-entries ∷ m-x-c ∷ s-x-card
+          ∷ m-x-sheet ∷ m-x-place ∷ s-x-buffer ∷ []) Post)
       walk 𝓣 known-call known-turn-of =
           qed W ((‵ (flft κ₀ q₀) ⊛ ‵ (flft κ₁ q₁) ⊛ ‵ (flft κ₂ q₂) ⊛ ‵ ftrue) ∷ ‵ (owns
-          ((rowOf Shape) ∷ ShrSlice (named 0) κ₀ u64 ∷ (Array Entry′.the-row 1025) ∷ usize ∷ ShrSlice (named 1) κ₁ u8 ∷ u32
-          ∷ u32 ∷ MutSlice (named 2) κ₂ u8 ∷ []) args vals) ∷ []) ∵
-          enter ! (𝓣 .C) (𝓣 .Λ) (function #call #turn-of) (m-x-shape ∷ s-x-map ∷ m-x-entries ∷ m-x-c ∷ s-x-card ∷ m-x-sheet
-          ∷ m-x-place ∷ s-x-buffer ∷ []) _ $
+          (u32 ∷ (rowOf Shape) ∷ ShrSlice (named 0) κ₀ u64 ∷ (Array Entry′.the-row 1025) ∷ usize ∷ ShrSlice (named 1) κ₁ u8
+          ∷ u32 ∷ u32 ∷ MutSlice (named 2) κ₂ u8 ∷ []) args vals) ∷ []) ∵
+          enter ! (𝓣 .C) (𝓣 .Λ) (function #call #turn-of) (m-x-role ∷ m-x-shape ∷ s-x-map ∷ m-x-entries ∷ m-x-c ∷ s-x-card
+          ∷ m-x-sheet ∷ m-x-place ∷ s-x-buffer ∷ []) _ $
           alloc1 ! (λ l₀. alloc1 ! (λ l₁. alloc1 ! (λ l₂. alloc1 ! (λ l₃. alloc1 ! (λ l₄. alloc1 ! (λ l₅.
           alloc1 ! (λ l₆. alloc1 ! (λ l₇. alloc1 ! (λ l₈. alloc1 ! (λ l₉. alloc1 ! (λ l₁₀. alloc1 ! (λ l₁₁.
-          alloc1 ! (λ l₁₂. alloc1 ! (λ l₁₃. alloc1 ! (λ l₁₄. alloc1 ! (λ l₁₅. alloc0 ! $ params1 ! $
-          pass1 ! (init ! 28 refl typed-x-shape) $
+          alloc1 ! (λ l₁₂. alloc1 ! (λ l₁₃. alloc1 ! (λ l₁₄. alloc1 ! (λ l₁₅. alloc1 ! (λ l₁₆. alloc0 ! $ params1 ! $
+          pass1 ! (init ! 30 refl typed-x-role) $ pass1 ! (init ! 28 refl typed-x-shape) $
           pass1 ! (init ! 26 refl (tt, (tt, (record { fits = room-x-map .0 }, tt)))) $
           pass1 ! (init ! 24 refl typed-x-entries) $ pass1 ! (init ! 22 refl typed-x-c) $
           pass1 ! (init ! 20 refl (tt, (tt, (record { fits = room-x-card .0 }, tt)))) $
           pass1 ! (init ! 18 refl typed-x-sheet) $ pass1 ! (init ! 16 refl typed-x-place) $
-          pass1 ! (init ! 14 refl (tt, (tt, (record { fits = room-x-buffer .0 }, tt)))) $ pass0 ! $ move ! (32 ∷ []) $
+          pass1 ! (init ! 14 refl (tt, (tt, (record { fits = room-x-buffer .0 }, tt)))) $ pass0 ! $ move ! (34 ∷ []) $
           split ! $ move ! (1 ∷ []) $ split ! $ move ! (1 ∷ []) $ split ! $ move ! (1 ∷ []) $ drop ! $
-          move ! (35 ∷ []) $ fsplit ! $ move ! (1 ∷ []) $ fsplit ! $ move ! (1 ∷ []) $ fsplit ! $ move ! (1 ∷ []) $
+          move ! (37 ∷ []) $ fsplit ! $ move ! (1 ∷ []) $ fsplit ! $ move ! (1 ∷ []) $ fsplit ! $ move ! (1 ∷ []) $
           fsplit ! $ move ! (1 ∷ []) $ fsplit ! $ move ! (1 ∷ []) $ fsplit ! $ move ! (1 ∷ []) $ fsplit ! $
-          move ! (1 ∷ []) $ fsplit ! $ move ! (1 ∷ []) $ drop ! $ move ! (7 ∷ []) $ drop ! $ move ! (5 ∷ []) $ drop ! $
-          move ! (4 ∷ []) $ drop ! $ move ! (2 ∷ []) $ drop ! $ move ! (1 ∷ []) $ drop ! $
+          move ! (1 ∷ []) $ fsplit ! $ move ! (1 ∷ []) $ fsplit ! $ move ! (1 ∷ []) $ drop ! $ move ! (8 ∷ []) $
+          drop ! $ move ! (7 ∷ []) $ drop ! $ move ! (5 ∷ []) $ drop ! $ move ! (4 ∷ []) $ drop ! $ move ! (2 ∷ []) $
+          drop ! $ move ! (1 ∷ []) $ drop ! $
           assigns ! (of-opd ! (load ! (from ! (stop !)) (look ! 30 refl))) (from ! (stop !)) (init ! 18 refl typed-x-entries) $
           -- call
           assigns ! (addr ! (from ! (stop !))) (from ! (stop !)) (init ! 14 refl (tt, tt)) $
@@ -399,8 +424,8 @@ module _ (Shape Outcome Turn : Value) where
           (s-x-map ∷ []))) (shr-slice-copy 𝓤 H A W (named 0) κ₀ u64 .twice x-map (s-x-map ∷ [])) $
           split ! $ lft-new ! tt (λ ν₀-call. move ! (20 ∷ []) $
           use1 W (later (some (λ (δ : GName). ‵ (ShrSlice (named 1) (ν₀-call ∷ []) Entry′.the-row .own
-          (at-x-all l₉ δ (take x-c x-entries)) (s-x-all l₉ ∷ [])) ⊛ ‵ (PartShown Entry′.the-row 1025 (ν₀-call ∷ []) x-c
-          x-entries l₉)))) (shows-part Entry′.the-row 1025 (ν₀-call ∷ []) x-c x-entries l₉
+          (at-x-all l₁₀ δ (take x-c x-entries)) (s-x-all l₁₀ ∷ [])) ⊛ ‵ (PartShown Entry′.the-row 1025 (ν₀-call ∷ []) x-c
+          x-entries l₁₀)))) (shows-part Entry′.the-row 1025 (ν₀-call ∷ []) x-c x-entries l₁₀
           (struct.vals Entry′.the-type Entry″.the-laws) (struct.tells Entry′.the-type Entry″.the-laws) tt 𝓤 H A W
           (struct.makes Entry′.the-type Entry″.the-plain 𝓤 H A) is-x-entries (x-all-room) asked (named 1)) $
           await ! tt $ pick ! (λ δ₀-call. split ! $ move ! (6 ∷ []) $
@@ -415,43 +440,44 @@ module _ (Shape Outcome Turn : Value) where
           move ! (6 ∷ 7 ∷ []) $ join ! $ move ! (6 ∷ 0 ∷ []) $ join ! $ move ! (5 ∷ 0 ∷ []) $ join ! $
           move ! (4 ∷ 0 ∷ []) $ join ! $ move ! (3 ∷ 0 ∷ []) $ join ! $ move ! (2 ∷ 0 ∷ []) $ join ! $
           move ! (1 ∷ 0 ∷ []) $ join ! $
-          use1 W (raw ((call-contract 𝓤 H A call-ensures) .pre (to-call ν₀-call ν₁-call δ₀-call δ₁-call l₉)))
-          (goes-call ν₀-call ν₁-call δ₀-call δ₁-call l₉) $
+          use1 W (raw ((call-contract 𝓤 H A call-ensures) .pre (to-call ν₀-call ν₁-call δ₀-call δ₁-call l₁₀)))
+          (goes-call ν₀-call ν₁-call δ₀-call δ₁-call l₁₀) $
           calls-at ! (fmOf 𝓤 H (W .laws) 𝓣) (call-contract 𝓤 H A call-ensures) known-call
-          (to-call ν₀-call ν₁-call δ₀-call δ₁-call l₉) (and-then ! (load ! (from ! (stop !)) (look ! 32 refl))
-          (and-then ! (load ! (from ! (stop !)) (look ! 30 refl)) (and-then ! (load ! (from ! (stop !)) (look ! 11 refl))
-          (and-then ! (load ! (from ! (stop !)) (look ! 24 refl)) (and-then ! (load ! (from ! (stop !)) (look ! 22 refl))
-          (and-then ! (load ! (from ! (stop !)) (look ! 20 refl)) (and-then ! (load ! (from ! (stop !)) (look ! 7 refl))
-          (no-more !)))))))) (λ w-call.
+          (to-call ν₀-call ν₁-call δ₀-call δ₁-call l₁₀) (and-then ! (load ! (from ! (stop !)) (look ! 34 refl))
+          (and-then ! (load ! (from ! (stop !)) (look ! 32 refl)) (and-then ! (load ! (from ! (stop !)) (look ! 30 refl))
+          (and-then ! (load ! (from ! (stop !)) (look ! 11 refl)) (and-then ! (load ! (from ! (stop !)) (look ! 24 refl))
+          (and-then ! (load ! (from ! (stop !)) (look ! 22 refl)) (and-then ! (load ! (from ! (stop !)) (look ! 20 refl))
+          (and-then ! (load ! (from ! (stop !)) (look ! 7 refl)) (no-more !))))))))) (λ w-call.
           use1 W (later (some (λ (r : (denotes Outcome)). ((‵ (flft κ₀ q₀) ⊛ ‵ (flft (ν₀-call ∷ []) fullShare) ⊛ ‵ (flft κ₁ q₁)
           ⊛ ‵ (flft (ν₁-call ∷ []) fullShare) ⊛ ‵ ftrue) ⊛ ‵ ((rowOf Outcome) .own r (w-call ∷ [])))
           ⊛ raw (ensured 𝓤 H A call-ended (call-clauses 𝓤 call-ensures) (κ₀, (ν₀-call ∷ [], (κ₁, (ν₁-call ∷ [], tt))))
-          (call-args δ₀-call δ₁-call l₉) tt r)))) (id⊢ 𝓤 _) $
+          (call-args δ₀-call δ₁-call l₁₀) tt r)))) (id⊢ 𝓤 _) $
           await ! tt $ pick ! (λ r-call. split ! $ move ! (1 ∷ []) $
           use1 W (some (λ (zs-call : Unit {0} × (Unit {0} × (Unit {0} × (Unit {0} × (Unit {0}
-          × (Unit {0} × (List ℕ × Unit {0}))))))). ‵ (lasts call-ended (κ₀, (ν₀-call ∷ [], (κ₁, (ν₁-call ∷ [], tt))))
-          (call-args δ₀-call δ₁-call l₉) zs-call) ⊛ raw (call-ensures (κ₀, (ν₀-call ∷ [], (κ₁, (ν₁-call ∷ [], tt))))
-          (call-args δ₀-call δ₁-call l₉) r-call (atExit call-ended (κ₀, (ν₀-call ∷ [], (κ₁, (ν₁-call ∷ [], tt))))
-          (call-args δ₀-call δ₁-call l₉) zs-call)))) (id⊢ 𝓤 _) $
+          × (Unit {0} × (Unit {0} × (List ℕ × Unit {0})))))))). ‵ (lasts call-ended
+          (κ₀, (ν₀-call ∷ [], (κ₁, (ν₁-call ∷ [], tt)))) (call-args δ₀-call δ₁-call l₁₀) zs-call)
+          ⊛ raw (call-ensures (κ₀, (ν₀-call ∷ [], (κ₁, (ν₁-call ∷ [], tt)))) (call-args δ₀-call δ₁-call l₁₀) r-call
+          (atExit call-ended (κ₀, (ν₀-call ∷ [], (κ₁, (ν₁-call ∷ [], tt)))) (call-args δ₀-call δ₁-call l₁₀) zs-call))))
+          (id⊢ 𝓤 _) $
           pick ! (λ zs-call. split ! $ move ! (1 ∷ []) $ drop ! $ fsplit ! $ move ! (1 ∷ []) $ fsplit ! $
           move ! (1 ∷ []) $ fsplit ! $ move ! (1 ∷ []) $ fsplit ! $ move ! (1 ∷ []) $ fsplit ! $ move ! (1 ∷ []) $
-          fsplit ! $ move ! (1 ∷ []) $ fsplit ! $ move ! (1 ∷ []) $ drop ! $ move ! (6 ∷ []) $ drop ! $
-          move ! (5 ∷ []) $ drop ! $ move ! (4 ∷ []) $ drop ! $ move ! (3 ∷ []) $ drop ! $ move ! (2 ∷ []) $ drop ! $
-          move ! (1 ∷ []) $ drop ! $ fsplit ! $ move ! (1 ∷ []) $ feqL ! (λ h-call-x-buffer. move ! (1 ∷ []) $
-          split ! $ move ! (1 ∷ []) $
+          fsplit ! $ move ! (1 ∷ []) $ fsplit ! $ move ! (1 ∷ []) $ fsplit ! $ move ! (1 ∷ []) $ drop ! $
+          move ! (7 ∷ []) $ drop ! $ move ! (6 ∷ []) $ drop ! $ move ! (5 ∷ []) $ drop ! $ move ! (4 ∷ []) $ drop ! $
+          move ! (3 ∷ []) $ drop ! $ move ! (2 ∷ []) $ drop ! $ move ! (1 ∷ []) $ drop ! $ fsplit ! $ move ! (1 ∷ []) $
+          feqL ! (λ h-call-x-buffer. move ! (1 ∷ []) $ split ! $ move ! (1 ∷ []) $
           peeks ! (rowOf Outcome) (Is (rowOf Outcome)) (shows 𝓤 H A (rowOf Outcome)) r-call (w-call ∷ []) (λ is-w-call.
           land ! (from ! (stop !)) (init ! 17 refl ((Outcome .typed 𝓤 H A W) r-call _ is-w-call .0)) $ drop ! $
           split ! $ move ! (1 ∷ []) $ split ! $ move ! (1 ∷ []) $ split ! $ move ! (1 ∷ []) $ split ! $
           move ! (1 ∷ []) $ drop ! $ move ! (2 ∷ []) $ lft-end ! tt $ move ! (0 ∷ 7 ∷ []) $
-          use2 W (later (‵ (fat fullShare (tyArray Entry″.mir 1025) l₉ 0 (only ((array-vals
+          use2 W (later (‵ (fat fullShare (tyArray Entry″.mir 1025) l₁₀ 0 (only ((array-vals
           (struct.vals Entry′.the-type Entry″.the-laws)) x-entries))))) (part-home Entry′.the-row 1025 (ν₀-call ∷ []) x-c
-          x-entries l₉ (struct.vals Entry′.the-type Entry″.the-laws) (struct.tells Entry′.the-type Entry″.the-laws) tt 𝓤 H A W
+          x-entries l₁₀ (struct.vals Entry′.the-type Entry″.the-laws) (struct.tells Entry′.the-type Entry″.the-laws) tt 𝓤 H A W
           (struct.makes Entry′.the-type Entry″.the-plain 𝓤 H A) is-x-entries (x-all-room) asked) $
           await ! tt $ move ! (1 ∷ []) $ lft-end ! tt $ move ! (0 ∷ 5 ∷ 4 ∷ []) $
-          use3 W (later (‵ (MutSlice (named 2) κ₂ u8 .own (at-x-buffer (x-buffer .name) (zs-call .1 .1 .1 .1 .1 .1 .0))
+          use3 W (later (‵ (MutSlice (named 2) κ₂ u8 .own (at-x-buffer (x-buffer .name) (zs-call .1 .1 .1 .1 .1 .1 .1 .0))
           (s-x-buffer ∷ [])) ⊛ ‵ (flft κ₂ q₂))) (comes-back u8 κ₂ (ν₁-call ∷ []) q₂ (x-buffer .name) (x-buffer .ptr .0)
           (x-buffer .ptr .1) 𝓤 H A W (named 2) (named 3) (now x-buffer) (length (now x-buffer)) refl room-x-buffer δ₁-call
-          (zs-call .1 .1 .1 .1 .1 .1 .0) h-call-x-buffer) $
+          (zs-call .1 .1 .1 .1 .1 .1 .1 .0) h-call-x-buffer) $
           await ! tt $ split ! $
           -- turn-of
           assigns ! (of-opd ! (load ! (from ! (stop !)) (look ! 2 refl))) (from ! (stop !))
@@ -472,14 +498,15 @@ module _ (Shape Outcome Turn : Value) where
           pick ! (λ zs-turn-of. split ! $ move ! (1 ∷ []) $ drop ! $ fsplit ! $ move ! (1 ∷ []) $ fsplit ! $
           move ! (1 ∷ []) $ drop ! $ move ! (1 ∷ []) $ drop ! $ drop ! $ split ! $ move ! (1 ∷ []) $
           peeks ! (rowOf Turn) (Is (rowOf Turn)) (shows 𝓤 H A (rowOf Turn)) r-turn-of (w-turn-of ∷ []) (λ is-w-turn-of.
-          land ! (from ! (stop !)) (init ! 38 refl ((Turn .typed 𝓤 H A W) r-turn-of _ is-w-turn-of .0)) $ drop ! $
-          drop ! $ returns ! (look ! 36 refl) $ move ! (2 ∷ 19 ∷ []) $ leave ! 36 refl refl $ leave ! 34 refl refl $
-          leave ! 32 refl refl $ leave ! 30 refl refl $ leave ! 28 refl refl $ leave ! 26 refl refl $
-          leave ! 24 refl refl $ leave ! 22 refl refl $ leave ! 20 refl refl $ leave ! 0 refl refl $
-          leave ! 16 refl refl $ leave ! 14 refl refl $ leave ! 12 refl refl $ leave ! 10 refl refl $
-          leave ! 8 refl refl $ leave ! 6 refl refl $ free0 ! $ move ! (5 ∷ 3 ∷ 4 ∷ 2 ∷ 0 ∷ 1 ∷ []) $
-          by ! (exits r-turn-of w-turn-of (zs-call .1 .1 .1 .1 .1 .1 .0) is-w-turn-of
-          h-call-x-buffer))))))))))))))))))))))))))))))
+          land ! (from ! (stop !)) (init ! 40 refl ((Turn .typed 𝓤 H A W) r-turn-of _ is-w-turn-of .0)) $ drop ! $
+          drop ! $ returns ! (look ! 38 refl) $ move ! (2 ∷ 19 ∷ []) $ leave ! 38 refl refl $ leave ! 36 refl refl $
+          leave ! 34 refl refl $ leave ! 32 refl refl $ leave ! 30 refl refl $ leave ! 28 refl refl $
+          leave ! 26 refl refl $ leave ! 24 refl refl $ leave ! 22 refl refl $ leave ! 20 refl refl $
+          leave ! 0 refl refl $ leave ! 16 refl refl $ leave ! 14 refl refl $ leave ! 12 refl refl $
+          leave ! 10 refl refl $ leave ! 8 refl refl $ leave ! 6 refl refl $ free0 ! $
+          move ! (5 ∷ 3 ∷ 4 ∷ 2 ∷ 0 ∷ 1 ∷ []) $
+          by ! (exits r-turn-of w-turn-of (zs-call .1 .1 .1 .1 .1 .1 .1 .0) is-w-turn-of
+          h-call-x-buffer)))))))))))))))))))))))))))))))
 
     module _ {M : Type 1} (𝓤 : URA M) (H : Heap 𝓤) (A : Atoms 𝓤) (W : Given 𝓤 H A) (call-ensures : call-Ensures 𝓤)
         (turn-of-ensures : turn-of-Ensures 𝓤) where
@@ -489,55 +516,68 @@ module _ (Shape Outcome Turn : Value) where
       walks 𝓣 known-call known-turn-of =
           walked 𝓤 H A ended stayed (clauses 𝓤) (WpFn 𝓤 H (𝓣 .C) (𝓣 .Λ) (function #call #turn-of))
           (λ κs. (
-            (valsOf Shape),
+            (uint-vals w32),
             (
-              slice-vals,
+              (valsOf Shape),
               (
-                (array-vals (struct.vals Entry′.the-type Entry″.the-laws)),
-                ((uint-vals w64), (slice-vals, ((uint-vals w32), ((uint-vals w32), (slice-vals, tt))))),
+                slice-vals,
+                (
+                  (array-vals (struct.vals Entry′.the-type Entry″.the-laws)),
+                  ((uint-vals w64), (slice-vals, ((uint-vals w32), ((uint-vals w32), (slice-vals, tt))))),
+                ),
               ),
             ),
           ))
           (λ κs. (
-            (Shape .tells),
+            (uint-tells w32),
             (
-              shr-slice-tells (named 0) (κs .0) u64,
+              (Shape .tells),
               (
-                (array-tells Entry′.the-row (struct.vals Entry′.the-type Entry″.the-laws)
-                    (struct.tells Entry′.the-type Entry″.the-laws) 1025),
+                shr-slice-tells (named 0) (κs .0) u64,
                 (
-                  (uint-tells w64),
+                  (array-tells Entry′.the-row (struct.vals Entry′.the-type Entry″.the-laws)
+                      (struct.tells Entry′.the-type Entry″.the-laws) 1025),
                   (
-                    shr-slice-tells (named 1) (κs .1 .0) u8,
-                    ((uint-tells w32), ((uint-tells w32), (mut-slice-tells (named 2) (κs .1 .1 .0) u8, tt))),
+                    (uint-tells w64),
+                    (
+                      shr-slice-tells (named 1) (κs .1 .0) u8,
+                      ((uint-tells w32), ((uint-tells w32), (mut-slice-tells (named 2) (κs .1 .1 .0) u8, tt))),
+                    ),
                   ),
                 ),
               ),
             ),
           ))
-          (λ κs qs bounds a g are. needs 𝓤 ((a .1 .1 .1 .0) ≤ 1025) _ (λ asked. walk 𝓤 H A W call-ensures turn-of-ensures
+          (λ κs qs bounds a g are. needs 𝓤 ((a .1 .1 .1 .1 .0) ≤ 1025) _ (λ asked. walk 𝓤 H A W call-ensures turn-of-ensures
           (κs .0) (κs .1 .0) (κs .1 .1 .0) (qs .0) (qs .1 .0) (qs .1 .1 .0) (a .0) (a .1 .0) (a .1 .1 .0) (a .1 .1 .1 .0)
-          (a .1 .1 .1 .1 .0) (a .1 .1 .1 .1 .1 .0) (a .1 .1 .1 .1 .1 .1 .0) (a .1 .1 .1 .1 .1 .1 .1 .0) (are .0)
-          (are .1 .0 .0 .1) (are .1 .1 .0) (are .1 .1 .1 .0) (are .1 .1 .1 .1 .0 .0 .1) (are .1 .1 .1 .1 .1 .0)
-          (are .1 .1 .1 .1 .1 .1 .0) (are .1 .1 .1 .1 .1 .1 .1 .0 .0 .1) asked 𝓣 known-call known-turn-of))
+          (a .1 .1 .1 .1 .0) (a .1 .1 .1 .1 .1 .0) (a .1 .1 .1 .1 .1 .1 .0) (a .1 .1 .1 .1 .1 .1 .1 .0)
+          (a .1 .1 .1 .1 .1 .1 .1 .1 .0) (are .0) (are .1 .0) (are .1 .1 .0 .0 .1) (are .1 .1 .1 .0) (are .1 .1 .1 .1 .0)
+          (are .1 .1 .1 .1 .1 .0 .0 .1) (are .1 .1 .1 .1 .1 .1 .0) (are .1 .1 .1 .1 .1 .1 .1 .0)
+          (are .1 .1 .1 .1 .1 .1 .1 .1 .0 .0 .1) asked 𝓣 known-call known-turn-of))
 
       pub meets : (𝓣 : Tables 𝓤 H) → Triple 𝓤 (𝓣 .C #call) (call-contract 𝓤 H A call-ensures)
           → Triple 𝓤 (𝓣 .C #turn-of) (turn-of-contract 𝓤 H A turn-of-ensures) → Meets 𝓤 H A signature
           (WpFn 𝓤 H (𝓣 .C) (𝓣 .Λ) (function #call #turn-of)) (closing 𝓤 H A ended (clauses 𝓤))
       meets 𝓣 known-call known-turn-of =
           walk-meets 𝓤 H A ended stayed W (
-            goes-none 𝓤 H A W 3 (λ _. (rowOf Shape)) yes (λ κs x f. refl),
+            goes-none 𝓤 H A W 3 (λ _. u32) yes (λ κs x f. refl),
             (
-              goes-none-slice 𝓤 H A W 3 (0 ∷ []) tt (plain (λ _. u64)) yes,
+              goes-none 𝓤 H A W 3 (λ _. (rowOf Shape)) yes (λ κs x f. refl),
               (
-                goes-none 𝓤 H A W 3 (λ _. (Array Entry′.the-row 1025)) yes (λ κs x f. refl),
+                goes-none-slice 𝓤 H A W 3 (0 ∷ []) tt (plain (λ _. u64)) yes,
                 (
-                  goes-none 𝓤 H A W 3 (λ _. usize) yes (λ κs x f. refl),
+                  goes-none 𝓤 H A W 3 (λ _. (Array Entry′.the-row 1025)) yes (λ κs x f. refl),
                   (
-                    goes-none-slice 𝓤 H A W 3 (1 ∷ []) tt (plain (λ _. u8)) yes,
+                    goes-none 𝓤 H A W 3 (λ _. usize) yes (λ κs x f. refl),
                     (
-                      goes-none 𝓤 H A W 3 (λ _. u32) yes (λ κs x f. refl),
-                      (goes-none 𝓤 H A W 3 (λ _. u32) yes (λ κs x f. refl), (goes-slice 𝓤 H A W 3 2 tt (plain (λ _. u8)), tt)),
+                      goes-none-slice 𝓤 H A W 3 (1 ∷ []) tt (plain (λ _. u8)) yes,
+                      (
+                        goes-none 𝓤 H A W 3 (λ _. u32) yes (λ κs x f. refl),
+                        (
+                          goes-none 𝓤 H A W 3 (λ _. u32) yes (λ κs x f. refl),
+                          (goes-slice 𝓤 H A W 3 2 tt (plain (λ _. u8)), tt),
+                        ),
+                      ),
                     ),
                   ),
                 ),

@@ -1,7 +1,7 @@
--- Written by tools/walks: every function (shape: Shape, map: &[u64], entries: [Entry; 1025], c: usize, sheet: u32) whose code
--- is
+-- Written by tools/walks: every function (role: u32, shape: Shape, map: &[u64], entries: [Entry; 1025], c: usize, sheet: u32)
+-- whose code is
 --     let mut all = entries;
---     let outcome: Outcome = call(shape, map, &mut all[..c], sheet);
+--     let outcome: Outcome = call(role, shape, map, &mut all[..c], sheet);
 --     turn_of(outcome, all)
 -- One walk serves every choice of the callees: it takes their names and what they ensure, and uses nothing of that. The types
 -- by value are any, too.
@@ -61,20 +61,23 @@ module _ (Shape Outcome Turn : Value) where
   signature = record {
     lifetimes = 1;
     outlives = [];
-    params = plain (λ _. (rowOf Shape)) ∷ shrSlice 0 tt (λ _. u64) ∷ plain (λ _. (Array Entry′.the-row 1025))
+    params = plain (λ _. u32) ∷ plain (λ _. (rowOf Shape)) ∷ shrSlice 0 tt (λ _. u64) ∷ plain (λ _. (Array Entry′.the-row 1025))
         ∷ plain (λ _. usize) ∷ plain (λ _. u32) ∷ [];
     result = plain (λ _. (rowOf Turn));
   }
 
   abbrev ended : Ended
-  ended = record { signature = signature; kept = (yes, (yes, (yes, (yes, (yes, tt))))) }
+  ended = record { signature = signature; kept = (yes, (yes, (yes, (yes, (yes, (yes, tt)))))) }
 
   abbrev stayed : Stays (ended .signature .params) (ended .kept)
   stayed = (
-    stay-none (λ _. (rowOf Shape)) yes,
+    stay-none (λ _. u32) yes,
     (
-      stay-none-slice (0 ∷ []) tt (plain (λ _. u64)) yes,
-      (stay-none (λ _. (Array Entry′.the-row 1025)) yes, (stay-none (λ _. usize) yes, (stay-none (λ _. u32) yes, tt))),
+      stay-none (λ _. (rowOf Shape)) yes,
+      (
+        stay-none-slice (0 ∷ []) tt (plain (λ _. u64)) yes,
+        (stay-none (λ _. (Array Entry′.the-row 1025)) yes, (stay-none (λ _. usize) yes, (stay-none (λ _. u32) yes, tt))),
+      ),
     ),
   )
 
@@ -83,19 +86,20 @@ module _ (Shape Outcome Turn : Value) where
   function #call #turn-of = record {
     lifetimes = 1;
     outlives = [];
-    params = 5;
-    locals = local (mirOf Turn) valueLocal ∷ local (mirOf Shape) valueLocal ∷ local (sliceTy (tyRef (named 0) imm (tyInt w64)))
-        valueLocal ∷ local (tyArray Entry″.mir 1025) valueLocal ∷ local (tyInt w64) valueLocal ∷ local (tyInt w32) valueLocal
-        ∷ local (tyArray Entry″.mir 1025) memorySlot ∷ local (mirOf Outcome) valueLocal
-        ∷ local (tyRef erased mut (tyArray (pointee (Entry′.the-row .written)) 1025)) valueLocal
-        ∷ local (sliceTy (tyRef erased mut (pointee (Entry′.the-row .written)))) valueLocal
+    params = 6;
+    locals = local (mirOf Turn) valueLocal ∷ local (tyInt w32) valueLocal ∷ local (mirOf Shape) valueLocal
+        ∷ local (sliceTy (tyRef (named 0) imm (tyInt w64))) valueLocal ∷ local (tyArray Entry″.mir 1025) valueLocal
+        ∷ local (tyInt w64) valueLocal ∷ local (tyInt w32) valueLocal ∷ local (tyArray Entry″.mir 1025) memorySlot
+        ∷ local (mirOf Outcome) valueLocal ∷ local (tyRef erased mut (tyArray (pointee (Entry′.the-row .written)) 1025))
+        valueLocal ∷ local (sliceTy (tyRef erased mut (pointee (Entry′.the-row .written)))) valueLocal
         ∷ local (tyArray Entry″.mir 1025) valueLocal ∷ [];
-    body = seq (assign (place 6 []) (rvOpd (copy (place 3 []))))
-        (seq (assign (place 8 []) (addrOf (place 6 [])))
-        (seq (assign (place 9 []) (aggregate (copy (place 8 []) ∷ copy (place 4 []) ∷ [])))
-        (seq (call #call (copy (place 1 []) ∷ copy (place 2 []) ∷ copy (place 9 []) ∷ copy (place 5 []) ∷ []) (place 7 []))
-        (seq (assign (place 10 []) (rvOpd (copy (place 6 []))))
-        (seq (call #turn-of (copy (place 7 []) ∷ copy (place 10 []) ∷ []) (place 0 [])) return)))));
+    body = seq (assign (place 7 []) (rvOpd (copy (place 4 []))))
+        (seq (assign (place 9 []) (addrOf (place 7 [])))
+        (seq (assign (place 10 []) (aggregate (copy (place 9 []) ∷ copy (place 5 []) ∷ [])))
+        (seq (call #call (copy (place 1 []) ∷ copy (place 2 []) ∷ copy (place 3 []) ∷ copy (place 10 []) ∷ copy (place 6 [])
+        ∷ []) (place 8 []))
+        (seq (assign (place 11 []) (rvOpd (copy (place 7 []))))
+        (seq (call #turn-of (copy (place 8 []) ∷ copy (place 11 []) ∷ []) (place 0 [])) return)))));
   }
 
   -- ---- what `call` is
@@ -103,13 +107,13 @@ module _ (Shape Outcome Turn : Value) where
   call-signature = record {
     lifetimes = 2;
     outlives = [];
-    params = plain (λ _. (rowOf Shape)) ∷ shrSlice 0 tt (λ _. u64) ∷ mutSlice 1 tt (λ _. Entry′.the-row) ∷ plain (λ _. u32)
-        ∷ [];
+    params = plain (λ _. u32) ∷ plain (λ _. (rowOf Shape)) ∷ shrSlice 0 tt (λ _. u64) ∷ mutSlice 1 tt (λ _. Entry′.the-row)
+        ∷ plain (λ _. u32) ∷ [];
     result = plain (λ _. (rowOf Outcome));
   }
 
   abbrev call-ended : Ended
-  call-ended = record { signature = call-signature; kept = (yes, (yes, (yes, (yes, tt)))) }
+  call-ended = record { signature = call-signature; kept = (yes, (yes, (yes, (yes, (yes, tt))))) }
 
   module _ {M : Type 1} (𝓤 : URA M) where
     abbrev call-Ensures : Type 2
@@ -148,15 +152,21 @@ module _ (Shape Outcome Turn : Value) where
   module _ (#call #turn-of : Name) where
     module _ {M : Type 1} (𝓤 : URA M) where
       abbrev clauses : Clauses 𝓤 ended
-      clauses κs a = record { ghost = Unit {0}; requires = λ _. fact 𝓤 ((a .1 .1 .1 .0) ≤ 1025); ensures = λ _ r e. emp 𝓤 }
+      clauses κs a = record { ghost = Unit {0}; requires = λ _. fact 𝓤 ((a .1 .1 .1 .1 .0) ≤ 1025); ensures = λ _ r e. emp 𝓤 }
 
     module _ {M : Type 1} (𝓤 : URA M) (H : Heap 𝓤) (A : Atoms 𝓤) (W : Given 𝓤 H A) (call-ensures : call-Ensures 𝓤)
         (turn-of-ensures : turn-of-Ensures 𝓤) (κ₀ : Lft) (q₀ : Share)
-        (x-shape : (denotes Shape)) (x-map : RefT (List ℕ)) (x-entries : (List Entry)) (x-c : ℕ) (x-sheet : ℕ)
-        (is-x-shape : Is (rowOf Shape) x-shape ((valsOf Shape) x-shape)) (room-x-map : Room u64 (length (now x-map)))
-        (is-x-entries : Is (Array Entry′.the-row 1025) x-entries ((array-vals (struct.vals Entry′.the-type Entry″.the-laws))
-        x-entries)) (is-x-c : Is usize x-c ((uint-vals w64) x-c)) (is-x-sheet : Is u32 x-sheet ((uint-vals w32) x-sheet))
-        (asked : x-c ≤ 1025) where
+        (x-role : ℕ) (x-shape : (denotes Shape)) (x-map : RefT (List ℕ)) (x-entries : (List Entry)) (x-c : ℕ) (x-sheet : ℕ)
+        (is-x-role : Is u32 x-role ((uint-vals w32) x-role)) (is-x-shape : Is (rowOf Shape) x-shape ((valsOf Shape) x-shape))
+        (room-x-map : Room u64 (length (now x-map))) (is-x-entries : Is (Array Entry′.the-row 1025) x-entries
+        ((array-vals (struct.vals Entry′.the-type Entry″.the-laws)) x-entries)) (is-x-c : Is usize x-c ((uint-vals w64) x-c))
+        (is-x-sheet : Is u32 x-sheet ((uint-vals w32) x-sheet)) (asked : x-c ≤ 1025) where
+      abbrev m-x-role : Val
+      m-x-role = only ((uint-vals w32) x-role)
+
+      typed-x-role : Holds (hasTy (tyInt w32) m-x-role) × WT m-x-role
+      typed-x-role = (uint-lawful 𝓤 H A W w32 .typed) x-role _ is-x-role .0
+
       abbrev m-x-shape : Val
       m-x-shape = only ((valsOf Shape) x-shape)
 
@@ -188,11 +198,11 @@ module _ (Shape Outcome Turn : Value) where
       typed-x-sheet : Holds (hasTy (tyInt w32) m-x-sheet) × WT m-x-sheet
       typed-x-sheet = (uint-lawful 𝓤 H A W w32 .typed) x-sheet _ is-x-sheet .0
 
-      abbrev args : (denotes Shape) × (RefT (List ℕ) × ((List Entry) × (ℕ × (ℕ × Unit {0}))))
-      args = (x-shape, (x-map, (x-entries, (x-c, (x-sheet, tt)))))
+      abbrev args : ℕ × ((denotes Shape) × (RefT (List ℕ) × ((List Entry) × (ℕ × (ℕ × Unit {0})))))
+      args = (x-role, (x-shape, (x-map, (x-entries, (x-c, (x-sheet, tt))))))
 
-      abbrev vals : List Val × (List Val × (List Val × (List Val × (List Val × Unit {0}))))
-      vals = (m-x-shape ∷ [], (s-x-map ∷ [], (m-x-entries ∷ [], (m-x-c ∷ [], (m-x-sheet ∷ [], tt)))))
+      abbrev vals : List Val × (List Val × (List Val × (List Val × (List Val × (List Val × Unit {0})))))
+      vals = (m-x-role ∷ [], (m-x-shape ∷ [], (s-x-map ∷ [], (m-x-entries ∷ [], (m-x-c ∷ [], (m-x-sheet ∷ [], tt))))))
 
       abbrev bound : walkOf 𝓤 H A ended stayed (clauses 𝓤) .Ghost
       bound = (((κ₀, tt), (q₀, tt), tt, args, vals), tt)
@@ -211,9 +221,9 @@ module _ (Shape Outcome Turn : Value) where
       x-all-room = (lit< tt, lit< tt)
 
       -- ---- the caller has what `call` asks
-      abbrev call-args : (δ₀-call : GName) (b-x-all : ℕ) → (denotes Shape) × (RefT (List ℕ)
-          × (RefT (List Entry) × (ℕ × Unit {0})))
-      call-args δ₀-call b-x-all = (x-shape, (x-map, (at-x-all b-x-all δ₀-call (take x-c x-entries), (x-sheet, tt))))
+      abbrev call-args : (δ₀-call : GName) (b-x-all : ℕ) → ℕ × ((denotes Shape) × (RefT (List ℕ)
+          × (RefT (List Entry) × (ℕ × Unit {0}))))
+      call-args δ₀-call b-x-all = (x-role, (x-shape, (x-map, (at-x-all b-x-all δ₀-call (take x-c x-entries), (x-sheet, tt)))))
 
       abbrev to-call : (ν₀-call : ℕ) (δ₀-call : GName) (b-x-all : ℕ) → (call-contract 𝓤 H A call-ensures) .Ghost
       to-call ν₀-call δ₀-call b-x-all = (
@@ -222,7 +232,7 @@ module _ (Shape Outcome Turn : Value) where
           (q₀, (fullShare, tt)),
           tt,
           call-args δ₀-call b-x-all,
-          (m-x-shape ∷ [], (s-x-map ∷ [], (s-x-all b-x-all ∷ [], (m-x-sheet ∷ [], tt)))),
+          (m-x-role ∷ [], (m-x-shape ∷ [], (s-x-map ∷ [], (s-x-all b-x-all ∷ [], (m-x-sheet ∷ [], tt))))),
         ),
         tt,
       )
@@ -239,7 +249,8 @@ module _ (Shape Outcome Turn : Value) where
           owned ! u32 (Is u32) (uint-makes 𝓤 H A W w32) x-sheet _ is-x-sheet $ fjoin ! $ move ! (3 ∷ 0 ∷ []) $
           fjoin ! $ move ! (2 ∷ 0 ∷ []) $ fjoin ! $
           owned ! (rowOf Shape) (Is (rowOf Shape)) (Shape .makes 𝓤 H A) x-shape _ is-x-shape $ fjoin ! $
-          move ! (1 ∷ 0 ∷ []) $ join ! $ frame ! $ done !
+          owned ! u32 (Is u32) (uint-makes 𝓤 H A W w32) x-role _ is-x-role $ fjoin ! $ move ! (1 ∷ 0 ∷ []) $ join ! $
+          frame ! $ done !
 
       -- ---- the caller has what `turn-of` asks
       abbrev turn-of-args : (v-outcome : (denotes Outcome)) (m-v-outcome : Val) (v-all : (List Entry)) → (denotes Outcome)
@@ -276,8 +287,8 @@ module _ (Shape Outcome Turn : Value) where
           (‵ (ShrSlice (named 0) κ₀ u64 .own x-map (s-x-map ∷ [])) ∷ ‵ (flft κ₀ q₀) ∷ [])) (Post w)
       exits r w is =
           qed W (‵ (ShrSlice (named 0) κ₀ u64 .own x-map (s-x-map ∷ [])) ∷ ‵ (flft κ₀ q₀) ∷ []) ∵
-          suffices ! _ (ends-at 𝓤 H A ended stayed (clauses 𝓤) W bound w r (tt, (tt, (tt, (tt, (tt, tt)))))
-          (tt, (tt, (tt, (tt, (tt, tt)))))) $
+          suffices ! _ (ends-at 𝓤 H A ended stayed (clauses 𝓤) W bound w r (tt, (tt, (tt, (tt, (tt, (tt, tt))))))
+          (tt, (tt, (tt, (tt, (tt, (tt, tt))))))) $
           says-nothing ! $ nothing ! $ move ! (2 ∷ 0 ∷ []) $ join ! $ frame ! $ nothing ! $
           owned ! u32 (Is u32) (uint-makes 𝓤 H A W w32) x-sheet _ is-x-sheet $ fjoin ! $
           owned ! usize (Is usize) (uint-makes 𝓤 H A W w64) x-c _ is-x-c $ fjoin ! $
@@ -285,26 +296,30 @@ module _ (Shape Outcome Turn : Value) where
           (struct.makes Entry′.the-type Entry″.the-plain 𝓤 H A) 1025) x-entries _ is-x-entries $
           fjoin ! $ move ! (1 ∷ 0 ∷ []) $ fjoin ! $
           owned ! (rowOf Shape) (Is (rowOf Shape)) (Shape .makes 𝓤 H A) x-shape _ is-x-shape $ fjoin ! $
+          owned ! u32 (Is u32) (uint-makes 𝓤 H A W w32) x-role _ is-x-role $ fjoin ! $
           owned ! (rowOf Turn) (Is (rowOf Turn)) (Turn .makes 𝓤 H A) r _ is $ move ! (1 ∷ 0 ∷ []) $ done !
 
       -- ---- the walk
       walk : (𝓣 : Tables 𝓤 H) → Triple 𝓤 (𝓣 .C #call) (call-contract 𝓤 H A call-ensures)
           → Triple 𝓤 (𝓣 .C #turn-of) (turn-of-contract 𝓤 H A turn-of-ensures) → ent 𝓤 (onEntry 𝓤 H A signature (κ₀, tt) (q₀, tt)
           args vals)
-          (WpFn 𝓤 H (𝓣 .C) (𝓣 .Λ) (function #call #turn-of) (m-x-shape ∷ s-x-map ∷ m-x-entries ∷ m-x-c ∷ m-x-sheet ∷ []) Post)
+          (WpFn 𝓤 H (𝓣 .C) (𝓣 .Λ) (function #call #turn-of) (m-x-role ∷ m-x-shape ∷ s-x-map ∷ m-x-entries ∷ m-x-c ∷ m-x-sheet
+          ∷ []) Post)
       walk 𝓣 known-call known-turn-of =
-          qed W ((‵ (flft κ₀ q₀) ⊛ ‵ ftrue) ∷ ‵ (owns ((rowOf Shape) ∷ ShrSlice (named 0) κ₀ u64 ∷ (Array Entry′.the-row 1025)
-          ∷ usize ∷ u32 ∷ []) args vals) ∷ []) ∵
-          enter ! (𝓣 .C) (𝓣 .Λ) (function #call #turn-of) (m-x-shape ∷ s-x-map ∷ m-x-entries ∷ m-x-c ∷ m-x-sheet ∷ []) _ $
+          qed W ((‵ (flft κ₀ q₀) ⊛ ‵ ftrue) ∷ ‵ (owns (u32 ∷ (rowOf Shape) ∷ ShrSlice (named 0) κ₀ u64
+          ∷ (Array Entry′.the-row 1025) ∷ usize ∷ u32 ∷ []) args vals) ∷ []) ∵
+          enter ! (𝓣 .C) (𝓣 .Λ) (function #call #turn-of) (m-x-role ∷ m-x-shape ∷ s-x-map ∷ m-x-entries ∷ m-x-c ∷ m-x-sheet
+          ∷ []) _ $
           alloc1 ! (λ l₀. alloc1 ! (λ l₁. alloc1 ! (λ l₂. alloc1 ! (λ l₃. alloc1 ! (λ l₄. alloc1 ! (λ l₅.
-          alloc1 ! (λ l₆. alloc1 ! (λ l₇. alloc1 ! (λ l₈. alloc1 ! (λ l₉. alloc1 ! (λ l₁₀. alloc0 ! $ params1 ! $
-          pass1 ! (init ! 18 refl typed-x-shape) $
+          alloc1 ! (λ l₆. alloc1 ! (λ l₇. alloc1 ! (λ l₈. alloc1 ! (λ l₉. alloc1 ! (λ l₁₀. alloc1 ! (λ l₁₁. alloc0 ! $
+          params1 ! $ pass1 ! (init ! 20 refl typed-x-role) $ pass1 ! (init ! 18 refl typed-x-shape) $
           pass1 ! (init ! 16 refl (tt, (tt, (record { fits = room-x-map .0 }, tt)))) $
           pass1 ! (init ! 14 refl typed-x-entries) $ pass1 ! (init ! 12 refl typed-x-c) $
-          pass1 ! (init ! 10 refl typed-x-sheet) $ pass0 ! $ move ! (22 ∷ []) $ split ! $ move ! (1 ∷ []) $ drop ! $
-          move ! (23 ∷ []) $ fsplit ! $ move ! (1 ∷ []) $ fsplit ! $ move ! (1 ∷ []) $ fsplit ! $ move ! (1 ∷ []) $
-          fsplit ! $ move ! (1 ∷ []) $ fsplit ! $ move ! (1 ∷ []) $ drop ! $ move ! (4 ∷ []) $ drop ! $
-          move ! (2 ∷ []) $ drop ! $ move ! (1 ∷ []) $ drop ! $ drop ! $
+          pass1 ! (init ! 10 refl typed-x-sheet) $ pass0 ! $ move ! (24 ∷ []) $ split ! $ move ! (1 ∷ []) $ drop ! $
+          move ! (25 ∷ []) $ fsplit ! $ move ! (1 ∷ []) $ fsplit ! $ move ! (1 ∷ []) $ fsplit ! $ move ! (1 ∷ []) $
+          fsplit ! $ move ! (1 ∷ []) $ fsplit ! $ move ! (1 ∷ []) $ fsplit ! $ move ! (1 ∷ []) $ drop ! $
+          move ! (5 ∷ []) $ drop ! $ move ! (4 ∷ []) $ drop ! $ move ! (2 ∷ []) $ drop ! $ move ! (1 ∷ []) $ drop ! $
+          drop ! $
           assigns ! (of-opd ! (load ! (from ! (stop !)) (look ! 16 refl))) (from ! (stop !)) (init ! 10 refl typed-x-entries) $
           -- call
           assigns ! (addr ! (from ! (stop !))) (from ! (stop !)) (init ! 6 refl (tt, tt)) $
@@ -315,69 +330,71 @@ module _ (Shape Outcome Turn : Value) where
           (s-x-map ∷ []))) (shr-slice-copy 𝓤 H A W (named 0) κ₀ u64 .twice x-map (s-x-map ∷ [])) $
           split ! $ lft-new ! tt (λ ν₀-call. move ! (12 ∷ []) $
           use1 W (later (some (λ (δ : GName). ‵ (MutSlice (named 1) (ν₀-call ∷ []) Entry′.the-row .own
-          (at-x-all l₆ δ (take x-c x-entries)) (s-x-all l₆ ∷ [])) ⊛ ‵ (PartLent Entry′.the-row 1025 (ν₀-call ∷ []) x-c x-entries
-          l₆ δ)))) (lends-part Entry′.the-row 1025 (ν₀-call ∷ []) x-c x-entries l₆ (struct.vals Entry′.the-type Entry″.the-laws)
+          (at-x-all l₇ δ (take x-c x-entries)) (s-x-all l₇ ∷ [])) ⊛ ‵ (PartLent Entry′.the-row 1025 (ν₀-call ∷ []) x-c x-entries
+          l₇ δ)))) (lends-part Entry′.the-row 1025 (ν₀-call ∷ []) x-c x-entries l₇ (struct.vals Entry′.the-type Entry″.the-laws)
           (struct.tells Entry′.the-type Entry″.the-laws) tt 𝓤 H A W (struct.makes Entry′.the-type Entry″.the-plain 𝓤 H A)
           is-x-entries (x-all-room) asked (named 1)) $
           await ! tt $ pick ! (λ δ₀-call. split ! $ move ! (5 ∷ 2 ∷ 3 ∷ 0 ∷ []) $ move ! (2 ∷ 3 ∷ []) $ join ! $
           move ! (2 ∷ 0 ∷ []) $ join ! $ move ! (1 ∷ 0 ∷ []) $ join ! $
-          use1 W (raw ((call-contract 𝓤 H A call-ensures) .pre (to-call ν₀-call δ₀-call l₆))) (goes-call ν₀-call δ₀-call l₆) $
-          calls-at ! (fmOf 𝓤 H (W .laws) 𝓣) (call-contract 𝓤 H A call-ensures) known-call (to-call ν₀-call δ₀-call l₆)
-          (and-then ! (load ! (from ! (stop !)) (look ! 20 refl)) (and-then ! (load ! (from ! (stop !)) (look ! 18 refl))
-          (and-then ! (load ! (from ! (stop !)) (look ! 5 refl)) (and-then ! (load ! (from ! (stop !)) (look ! 12 refl))
-          (no-more !))))) (λ w-call.
+          use1 W (raw ((call-contract 𝓤 H A call-ensures) .pre (to-call ν₀-call δ₀-call l₇))) (goes-call ν₀-call δ₀-call l₇) $
+          calls-at ! (fmOf 𝓤 H (W .laws) 𝓣) (call-contract 𝓤 H A call-ensures) known-call (to-call ν₀-call δ₀-call l₇)
+          (and-then ! (load ! (from ! (stop !)) (look ! 22 refl)) (and-then ! (load ! (from ! (stop !)) (look ! 20 refl))
+          (and-then ! (load ! (from ! (stop !)) (look ! 18 refl)) (and-then ! (load ! (from ! (stop !)) (look ! 5 refl))
+          (and-then ! (load ! (from ! (stop !)) (look ! 12 refl)) (no-more !)))))) (λ w-call.
           use1 W (later (some (λ (r : (denotes Outcome)). ((‵ (flft κ₀ q₀) ⊛ ‵ (flft (ν₀-call ∷ []) fullShare) ⊛ ‵ ftrue)
           ⊛ ‵ ((rowOf Outcome) .own r (w-call ∷ []))) ⊛ raw (ensured 𝓤 H A call-ended (call-clauses 𝓤 call-ensures)
-          (κ₀, (ν₀-call ∷ [], tt)) (call-args δ₀-call l₆) tt r)))) (id⊢ 𝓤 _) $
+          (κ₀, (ν₀-call ∷ [], tt)) (call-args δ₀-call l₇) tt r)))) (id⊢ 𝓤 _) $
           await ! tt $ pick ! (λ r-call. split ! $ move ! (1 ∷ []) $
-          use1 W (some (λ (zs-call : Unit {0} × (Unit {0} × (List Entry × (Unit {0} × Unit {0})))). ‵
-          (lasts call-ended (κ₀, (ν₀-call ∷ [], tt)) (call-args δ₀-call l₆) zs-call) ⊛ raw
+          use1 W (some (λ (zs-call : Unit {0} × (Unit {0} × (Unit {0} × (List Entry × (Unit {0} × Unit {0}))))). ‵
+          (lasts call-ended (κ₀, (ν₀-call ∷ [], tt)) (call-args δ₀-call l₇) zs-call) ⊛ raw
           (call-ensures
-          (κ₀, (ν₀-call ∷ [], tt)) (call-args δ₀-call l₆) r-call (atExit call-ended (κ₀, (ν₀-call ∷ [], tt))
-          (call-args δ₀-call l₆) zs-call)))) (id⊢ 𝓤 _) $
+          (κ₀, (ν₀-call ∷ [], tt)) (call-args δ₀-call l₇) r-call (atExit call-ended (κ₀, (ν₀-call ∷ [], tt))
+          (call-args δ₀-call l₇) zs-call)))) (id⊢ 𝓤 _) $
           pick ! (λ zs-call. split ! $ move ! (1 ∷ []) $ drop ! $ fsplit ! $ move ! (1 ∷ []) $ fsplit ! $
-          move ! (1 ∷ []) $ fsplit ! $ move ! (1 ∷ []) $ fsplit ! $ move ! (1 ∷ []) $ drop ! $ move ! (3 ∷ []) $
-          drop ! $ move ! (2 ∷ []) $ drop ! $ move ! (1 ∷ []) $ fsplit ! $ move ! (1 ∷ []) $ feqL ! (λ h-call-x-all.
-          move ! (1 ∷ []) $ drop ! $ move ! (1 ∷ []) $ split ! $ move ! (1 ∷ []) $
+          move ! (1 ∷ []) $ fsplit ! $ move ! (1 ∷ []) $ fsplit ! $ move ! (1 ∷ []) $ fsplit ! $ move ! (1 ∷ []) $
+          drop ! $ move ! (4 ∷ []) $ drop ! $ move ! (3 ∷ []) $ drop ! $ move ! (2 ∷ []) $ drop ! $ move ! (1 ∷ []) $
+          fsplit ! $ move ! (1 ∷ []) $ feqL ! (λ h-call-x-all. move ! (1 ∷ []) $ drop ! $ move ! (1 ∷ []) $ split ! $
+          move ! (1 ∷ []) $
           peeks ! (rowOf Outcome) (Is (rowOf Outcome)) (shows 𝓤 H A (rowOf Outcome)) r-call (w-call ∷ []) (λ is-w-call.
           land ! (from ! (stop !)) (init ! 11 refl ((Outcome .typed 𝓤 H A W) r-call _ is-w-call .0)) $ drop ! $
           split ! $ move ! (1 ∷ []) $ split ! $ move ! (1 ∷ []) $ drop ! $ lft-end ! tt $ move ! (0 ∷ 3 ∷ 2 ∷ []) $
-          use3 W (later (given (Is (Array Entry′.the-row 1025) ((zs-call .1 .1 .0) ++ drop-list x-c x-entries)
-          ((array-vals (struct.vals Entry′.the-type Entry″.the-laws)) ((zs-call .1 .1 .0) ++ drop-list x-c x-entries)))
-          (‵ (fat fullShare (tyArray Entry″.mir 1025) l₆ 0 (only ((array-vals (struct.vals Entry′.the-type Entry″.the-laws))
-          ((zs-call .1 .1 .0) ++ drop-list x-c x-entries))))))) (part-back Entry′.the-row 1025 (ν₀-call ∷ []) x-c x-entries l₆
-          (struct.vals Entry′.the-type Entry″.the-laws) (struct.tells Entry′.the-type Entry″.the-laws) tt 𝓤 H A W
-          (struct.makes Entry′.the-type Entry″.the-plain 𝓤 H A) is-x-entries (x-all-room) asked δ₀-call (zs-call .1 .1 .0)
+          use3 W (later (given (Is (Array Entry′.the-row 1025) ((zs-call .1 .1 .1 .0) ++ drop-list x-c x-entries)
+          ((array-vals (struct.vals Entry′.the-type Entry″.the-laws)) ((zs-call .1 .1 .1 .0) ++ drop-list x-c x-entries)))
+          (‵ (fat fullShare (tyArray Entry″.mir 1025) l₇ 0 (only ((array-vals (struct.vals Entry′.the-type Entry″.the-laws))
+          ((zs-call .1 .1 .1 .0) ++ drop-list x-c x-entries))))))) (part-back Entry′.the-row 1025 (ν₀-call ∷ []) x-c x-entries
+          l₇ (struct.vals Entry′.the-type Entry″.the-laws) (struct.tells Entry′.the-type Entry″.the-laws) tt 𝓤 H A W
+          (struct.makes Entry′.the-type Entry″.the-plain 𝓤 H A) is-x-entries (x-all-room) asked δ₀-call (zs-call .1 .1 .1 .0)
           h-call-x-all) $
           await ! tt $ learn ! (λ is-now-x-all.
           -- turn-of
           assigns ! (of-opd ! (load ! (from ! (stop !)) (look ! 0 refl))) (from ! (stop !))
           (init ! 3 refl ((array-lawful 𝓤 H A W Entry′.the-row (struct.lawful Entry′.the-type Entry″.the-laws 𝓤 H A W)
-          1025 .typed) ((zs-call .1 .1 .0) ++ drop-list x-c x-entries) _ is-now-x-all .0)) $
+          1025 .typed) ((zs-call .1 .1 .1 .0) ++ drop-list x-c x-entries) _ is-now-x-all .0)) $
           use0 W (raw ((turn-of-contract 𝓤 H A turn-of-ensures) .pre (to-turn-of r-call w-call
-          ((zs-call .1 .1 .0) ++ drop-list x-c x-entries)))) (goes-turn-of r-call w-call
-          ((zs-call .1 .1 .0) ++ drop-list x-c x-entries) is-w-call is-now-x-all) $
+          ((zs-call .1 .1 .1 .0) ++ drop-list x-c x-entries)))) (goes-turn-of r-call w-call
+          ((zs-call .1 .1 .1 .0) ++ drop-list x-c x-entries) is-w-call is-now-x-all) $
           calls-at ! (fmOf 𝓤 H (W .laws) 𝓣) (turn-of-contract 𝓤 H A turn-of-ensures) known-turn-of
-          (to-turn-of r-call w-call ((zs-call .1 .1 .0) ++ drop-list x-c x-entries)) (and-then !
-          (load ! (from ! (stop !)) (look ! 10 refl)) (and-then ! (load ! (from ! (stop !)) (look ! 4 refl)) (no-more !)))
-          (λ w-turn-of.
+          (to-turn-of r-call w-call ((zs-call .1 .1 .1 .0) ++ drop-list x-c x-entries))
+          (and-then ! (load ! (from ! (stop !)) (look ! 10 refl)) (and-then ! (load ! (from ! (stop !)) (look ! 4 refl))
+          (no-more !))) (λ w-turn-of.
           use1 W (later (some (λ (r : (denotes Turn)). ((‵ ftrue) ⊛ ‵ ((rowOf Turn) .own r (w-turn-of ∷ [])))
           ⊛ raw (ensured 𝓤 H A turn-of-ended (turn-of-clauses 𝓤 turn-of-ensures) tt (turn-of-args r-call w-call
-          ((zs-call .1 .1 .0) ++ drop-list x-c x-entries)) tt r)))) (id⊢ 𝓤 _) $
+          ((zs-call .1 .1 .1 .0) ++ drop-list x-c x-entries)) tt r)))) (id⊢ 𝓤 _) $
           await ! tt $ pick ! (λ r-turn-of. split ! $ move ! (1 ∷ []) $
           use1 W (some (λ (zs-turn-of : Unit {0} × (Unit {0} × Unit {0})). ‵ (lasts turn-of-ended tt
-          (turn-of-args r-call w-call ((zs-call .1 .1 .0) ++ drop-list x-c x-entries)) zs-turn-of)
-          ⊛ raw (turn-of-ensures tt (turn-of-args r-call w-call ((zs-call .1 .1 .0) ++ drop-list x-c x-entries)) r-turn-of
-          (atExit turn-of-ended tt (turn-of-args r-call w-call ((zs-call .1 .1 .0) ++ drop-list x-c x-entries)) zs-turn-of))))
-          (id⊢ 𝓤 _) $
+          (turn-of-args r-call w-call ((zs-call .1 .1 .1 .0) ++ drop-list x-c x-entries)) zs-turn-of)
+          ⊛ raw (turn-of-ensures tt (turn-of-args r-call w-call ((zs-call .1 .1 .1 .0) ++ drop-list x-c x-entries)) r-turn-of
+          (atExit turn-of-ended tt (turn-of-args r-call w-call ((zs-call .1 .1 .1 .0) ++ drop-list x-c x-entries))
+          zs-turn-of)))) (id⊢ 𝓤 _) $
           pick ! (λ zs-turn-of. split ! $ move ! (1 ∷ []) $ drop ! $ fsplit ! $ move ! (1 ∷ []) $ fsplit ! $
           move ! (1 ∷ []) $ drop ! $ move ! (1 ∷ []) $ drop ! $ drop ! $ split ! $ move ! (1 ∷ []) $
           peeks ! (rowOf Turn) (Is (rowOf Turn)) (shows 𝓤 H A (rowOf Turn)) r-turn-of (w-turn-of ∷ []) (λ is-w-turn-of.
-          land ! (from ! (stop !)) (init ! 24 refl ((Turn .typed 𝓤 H A W) r-turn-of _ is-w-turn-of .0)) $ drop ! $
-          drop ! $ returns ! (look ! 22 refl) $ move ! (0 ∷ 11 ∷ []) $ leave ! 22 refl refl $ leave ! 20 refl refl $
-          leave ! 18 refl refl $ leave ! 16 refl refl $ leave ! 14 refl refl $ leave ! 12 refl refl $
-          leave ! 0 refl refl $ leave ! 8 refl refl $ leave ! 6 refl refl $ leave ! 4 refl refl $ leave ! 2 refl refl $
-          free0 ! $ move ! (1 ∷ 0 ∷ []) $ by ! (exits r-turn-of w-turn-of is-w-turn-of))))))))))))))))))))))))
+          land ! (from ! (stop !)) (init ! 26 refl ((Turn .typed 𝓤 H A W) r-turn-of _ is-w-turn-of .0)) $ drop ! $
+          drop ! $ returns ! (look ! 24 refl) $ move ! (0 ∷ 11 ∷ []) $ leave ! 24 refl refl $ leave ! 22 refl refl $
+          leave ! 20 refl refl $ leave ! 18 refl refl $ leave ! 16 refl refl $ leave ! 14 refl refl $
+          leave ! 12 refl refl $ leave ! 0 refl refl $ leave ! 8 refl refl $ leave ! 6 refl refl $
+          leave ! 4 refl refl $ leave ! 2 refl refl $ free0 ! $ move ! (1 ∷ 0 ∷ []) $
+          by ! (exits r-turn-of w-turn-of is-w-turn-of)))))))))))))))))))))))))
 
     module _ {M : Type 1} (𝓤 : URA M) (H : Heap 𝓤) (A : Atoms 𝓤) (W : Given 𝓤 H A) (call-ensures : call-Ensures 𝓤)
         (turn-of-ensures : turn-of-Ensures 𝓤) where
@@ -387,40 +404,50 @@ module _ (Shape Outcome Turn : Value) where
       walks 𝓣 known-call known-turn-of =
           walked 𝓤 H A ended stayed (clauses 𝓤) (WpFn 𝓤 H (𝓣 .C) (𝓣 .Λ) (function #call #turn-of))
           (λ κs. (
-            (valsOf Shape),
+            (uint-vals w32),
             (
-              slice-vals,
-              ((array-vals (struct.vals Entry′.the-type Entry″.the-laws)), ((uint-vals w64), ((uint-vals w32), tt))),
-            ),
-          ))
-          (λ κs. (
-            (Shape .tells),
-            (
-              shr-slice-tells (named 0) (κs .0) u64,
+              (valsOf Shape),
               (
-                (array-tells Entry′.the-row (struct.vals Entry′.the-type Entry″.the-laws)
-                    (struct.tells Entry′.the-type Entry″.the-laws) 1025),
-                ((uint-tells w64), ((uint-tells w32), tt)),
+                slice-vals,
+                ((array-vals (struct.vals Entry′.the-type Entry″.the-laws)), ((uint-vals w64), ((uint-vals w32), tt))),
               ),
             ),
           ))
-          (λ κs qs bounds a g are. needs 𝓤 ((a .1 .1 .1 .0) ≤ 1025) _ (λ asked. walk 𝓤 H A W call-ensures turn-of-ensures
-          (κs .0) (qs .0) (a .0) (a .1 .0) (a .1 .1 .0) (a .1 .1 .1 .0) (a .1 .1 .1 .1 .0) (are .0) (are .1 .0 .0 .1)
-          (are .1 .1 .0) (are .1 .1 .1 .0) (are .1 .1 .1 .1 .0) asked 𝓣 known-call known-turn-of))
+          (λ κs. (
+            (uint-tells w32),
+            (
+              (Shape .tells),
+              (
+                shr-slice-tells (named 0) (κs .0) u64,
+                (
+                  (array-tells Entry′.the-row (struct.vals Entry′.the-type Entry″.the-laws)
+                      (struct.tells Entry′.the-type Entry″.the-laws) 1025),
+                  ((uint-tells w64), ((uint-tells w32), tt)),
+                ),
+              ),
+            ),
+          ))
+          (λ κs qs bounds a g are. needs 𝓤 ((a .1 .1 .1 .1 .0) ≤ 1025) _ (λ asked. walk 𝓤 H A W call-ensures turn-of-ensures
+          (κs .0) (qs .0) (a .0) (a .1 .0) (a .1 .1 .0) (a .1 .1 .1 .0) (a .1 .1 .1 .1 .0) (a .1 .1 .1 .1 .1 .0) (are .0)
+          (are .1 .0) (are .1 .1 .0 .0 .1) (are .1 .1 .1 .0) (are .1 .1 .1 .1 .0) (are .1 .1 .1 .1 .1 .0) asked 𝓣 known-call
+          known-turn-of))
 
       pub meets : (𝓣 : Tables 𝓤 H) → Triple 𝓤 (𝓣 .C #call) (call-contract 𝓤 H A call-ensures)
           → Triple 𝓤 (𝓣 .C #turn-of) (turn-of-contract 𝓤 H A turn-of-ensures) → Meets 𝓤 H A signature
           (WpFn 𝓤 H (𝓣 .C) (𝓣 .Λ) (function #call #turn-of)) (closing 𝓤 H A ended (clauses 𝓤))
       meets 𝓣 known-call known-turn-of =
           walk-meets 𝓤 H A ended stayed W (
-            goes-none 𝓤 H A W 1 (λ _. (rowOf Shape)) yes (λ κs x f. refl),
+            goes-none 𝓤 H A W 1 (λ _. u32) yes (λ κs x f. refl),
             (
-              goes-none-slice 𝓤 H A W 1 (0 ∷ []) tt (plain (λ _. u64)) yes,
+              goes-none 𝓤 H A W 1 (λ _. (rowOf Shape)) yes (λ κs x f. refl),
               (
-                goes-none 𝓤 H A W 1 (λ _. (Array Entry′.the-row 1025)) yes (λ κs x f. refl),
+                goes-none-slice 𝓤 H A W 1 (0 ∷ []) tt (plain (λ _. u64)) yes,
                 (
-                  goes-none 𝓤 H A W 1 (λ _. usize) yes (λ κs x f. refl),
-                  (goes-none 𝓤 H A W 1 (λ _. u32) yes (λ κs x f. refl), tt),
+                  goes-none 𝓤 H A W 1 (λ _. (Array Entry′.the-row 1025)) yes (λ κs x f. refl),
+                  (
+                    goes-none 𝓤 H A W 1 (λ _. usize) yes (λ κs x f. refl),
+                    (goes-none 𝓤 H A W 1 (λ _. u32) yes (λ κs x f. refl), tt),
+                  ),
                 ),
               ),
             ),

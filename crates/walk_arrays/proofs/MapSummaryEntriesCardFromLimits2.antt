@@ -1,7 +1,7 @@
--- Written by tools/walks: every function (shape: Shape, map: &mut [u64], summary: &mut [u32], entries: [Entry; 1025], c: usize,
--- card: &mut [u8], limits: &[u32; 8], sheet: u32, k: u32) whose code is
+-- Written by tools/walks: every function (role: u32, shape: Shape, map: &mut [u64], summary: &mut [u32], entries: [Entry;
+-- 1025], c: usize, card: &mut [u8], limits: &[u32; 8], sheet: u32, k: u32) whose code is
 --     let mut all = entries;
---     let outcome: Outcome = call(shape, map, summary, &mut all[..c], card, limits, sheet, k);
+--     let outcome: Outcome = call(role, shape, map, summary, &mut all[..c], card, limits, sheet, k);
 --     turn_of(outcome, all)
 -- One walk serves every choice of the callees: it takes their names and what they ensure, and uses nothing of that. The types
 -- by value are any, too.
@@ -62,31 +62,34 @@ module _ (Shape Outcome Turn : Value) where
   signature = record {
     lifetimes = 4;
     outlives = [];
-    params = plain (λ _. (rowOf Shape)) ∷ mutSlice 0 tt (λ _. u64) ∷ mutSlice 1 tt (λ _. u32)
+    params = plain (λ _. u32) ∷ plain (λ _. (rowOf Shape)) ∷ mutSlice 0 tt (λ _. u64) ∷ mutSlice 1 tt (λ _. u32)
         ∷ plain (λ _. (Array Entry′.the-row 1025)) ∷ plain (λ _. usize) ∷ mutSlice 2 tt (λ _. u8)
         ∷ shrRef 3 tt (λ _. (Array u32 8)) ∷ plain (λ _. u32) ∷ plain (λ _. u32) ∷ [];
     result = plain (λ _. (rowOf Turn));
   }
 
   abbrev ended : Ended
-  ended = record { signature = signature; kept = (yes, (yes, (yes, (yes, (yes, (yes, (yes, (yes, (yes, tt))))))))) }
+  ended = record { signature = signature; kept = (yes, (yes, (yes, (yes, (yes, (yes, (yes, (yes, (yes, (yes, tt)))))))))) }
 
   abbrev stayed : Stays (ended .signature .params) (ended .kept)
   stayed = (
-    stay-none (λ _. (rowOf Shape)) yes,
+    stay-none (λ _. u32) yes,
     (
-      stay-slice (0 ∷ []) tt (plain (λ _. u64)),
+      stay-none (λ _. (rowOf Shape)) yes,
       (
-        stay-slice (1 ∷ []) tt (plain (λ _. u32)),
+        stay-slice (0 ∷ []) tt (plain (λ _. u64)),
         (
-          stay-none (λ _. (Array Entry′.the-row 1025)) yes,
+          stay-slice (1 ∷ []) tt (plain (λ _. u32)),
           (
-            stay-none (λ _. usize) yes,
+            stay-none (λ _. (Array Entry′.the-row 1025)) yes,
             (
-              stay-slice (2 ∷ []) tt (plain (λ _. u8)),
+              stay-none (λ _. usize) yes,
               (
-                stay-none-ref (3 ∷ []) tt (plain (λ _. (Array u32 8))) yes,
-                (stay-none (λ _. u32) yes, (stay-none (λ _. u32) yes, tt)),
+                stay-slice (2 ∷ []) tt (plain (λ _. u8)),
+                (
+                  stay-none-ref (3 ∷ []) tt (plain (λ _. (Array u32 8))) yes,
+                  (stay-none (λ _. u32) yes, (stay-none (λ _. u32) yes, tt)),
+                ),
               ),
             ),
           ),
@@ -100,31 +103,31 @@ module _ (Shape Outcome Turn : Value) where
   function #call #turn-of = record {
     lifetimes = 4;
     outlives = [];
-    params = 9;
-    locals = local (mirOf Turn) valueLocal ∷ local (mirOf Shape) valueLocal ∷ local (sliceTy (tyRef (named 0) mut (tyInt w64)))
-        valueLocal ∷ local (sliceTy (tyRef (named 1) mut (tyInt w32))) valueLocal ∷ local (tyArray Entry″.mir 1025) valueLocal
-        ∷ local (tyInt w64) valueLocal ∷ local (sliceTy (tyRef (named 2) mut (tyInt w8))) valueLocal
-        ∷ local (tyRef (named 3) imm (tyArray (tyInt w32) 8)) valueLocal ∷ local (tyInt w32) valueLocal
-        ∷ local (tyInt w32) valueLocal ∷ local (tyArray Entry″.mir 1025) memorySlot ∷ local (mirOf Outcome) valueLocal
-        ∷ local (tyRef erased mut (tyInt w64)) valueLocal ∷ local (sliceTy (tyRef erased mut (tyInt w64))) valueLocal
-        ∷ local (tyRef erased mut (tyInt w32)) valueLocal ∷ local (sliceTy (tyRef erased mut (tyInt w32))) valueLocal
-        ∷ local (tyRef erased mut (tyArray (pointee (Entry′.the-row .written)) 1025)) valueLocal
-        ∷ local (sliceTy (tyRef erased mut (pointee (Entry′.the-row .written)))) valueLocal
-        ∷ local (tyRef erased mut (tyInt w8)) valueLocal ∷ local (sliceTy (tyRef erased mut (tyInt w8))) valueLocal
-        ∷ local (tyArray Entry″.mir 1025) valueLocal ∷ [];
-    body = seq (assign (place 10 []) (rvOpd (copy (place 4 []))))
-        (seq (assign (place 12 []) (addrOf (place 2 (field 0 ∷ deref (tyInt w64) ∷ []))))
-        (seq (assign (place 13 []) (aggregate (copy (place 12 []) ∷ copy (place 2 (field 1 ∷ [])) ∷ [])))
-        (seq (assign (place 14 []) (addrOf (place 3 (field 0 ∷ deref (tyInt w32) ∷ []))))
-        (seq (assign (place 15 []) (aggregate (copy (place 14 []) ∷ copy (place 3 (field 1 ∷ [])) ∷ [])))
-        (seq (assign (place 16 []) (addrOf (place 10 [])))
-        (seq (assign (place 17 []) (aggregate (copy (place 16 []) ∷ copy (place 5 []) ∷ [])))
-        (seq (assign (place 18 []) (addrOf (place 6 (field 0 ∷ deref (tyInt w8) ∷ []))))
-        (seq (assign (place 19 []) (aggregate (copy (place 18 []) ∷ copy (place 6 (field 1 ∷ [])) ∷ [])))
-        (seq (call #call (copy (place 1 []) ∷ copy (place 13 []) ∷ copy (place 15 []) ∷ copy (place 17 []) ∷ copy (place 19 [])
-        ∷ copy (place 7 []) ∷ copy (place 8 []) ∷ copy (place 9 []) ∷ []) (place 11 []))
-        (seq (assign (place 20 []) (rvOpd (copy (place 10 []))))
-        (seq (call #turn-of (copy (place 11 []) ∷ copy (place 20 []) ∷ []) (place 0 [])) return)))))))))));
+    params = 10;
+    locals = local (mirOf Turn) valueLocal ∷ local (tyInt w32) valueLocal ∷ local (mirOf Shape) valueLocal
+        ∷ local (sliceTy (tyRef (named 0) mut (tyInt w64))) valueLocal ∷ local (sliceTy (tyRef (named 1) mut (tyInt w32)))
+        valueLocal ∷ local (tyArray Entry″.mir 1025) valueLocal ∷ local (tyInt w64) valueLocal
+        ∷ local (sliceTy (tyRef (named 2) mut (tyInt w8))) valueLocal ∷ local (tyRef (named 3) imm (tyArray (tyInt w32) 8))
+        valueLocal ∷ local (tyInt w32) valueLocal ∷ local (tyInt w32) valueLocal ∷ local (tyArray Entry″.mir 1025) memorySlot
+        ∷ local (mirOf Outcome) valueLocal ∷ local (tyRef erased mut (tyInt w64)) valueLocal
+        ∷ local (sliceTy (tyRef erased mut (tyInt w64))) valueLocal ∷ local (tyRef erased mut (tyInt w32)) valueLocal
+        ∷ local (sliceTy (tyRef erased mut (tyInt w32))) valueLocal ∷ local (tyRef erased mut
+        (tyArray (pointee (Entry′.the-row .written)) 1025)) valueLocal ∷ local (sliceTy
+        (tyRef erased mut (pointee (Entry′.the-row .written)))) valueLocal ∷ local (tyRef erased mut (tyInt w8)) valueLocal
+        ∷ local (sliceTy (tyRef erased mut (tyInt w8))) valueLocal ∷ local (tyArray Entry″.mir 1025) valueLocal ∷ [];
+    body = seq (assign (place 11 []) (rvOpd (copy (place 5 []))))
+        (seq (assign (place 13 []) (addrOf (place 3 (field 0 ∷ deref (tyInt w64) ∷ []))))
+        (seq (assign (place 14 []) (aggregate (copy (place 13 []) ∷ copy (place 3 (field 1 ∷ [])) ∷ [])))
+        (seq (assign (place 15 []) (addrOf (place 4 (field 0 ∷ deref (tyInt w32) ∷ []))))
+        (seq (assign (place 16 []) (aggregate (copy (place 15 []) ∷ copy (place 4 (field 1 ∷ [])) ∷ [])))
+        (seq (assign (place 17 []) (addrOf (place 11 [])))
+        (seq (assign (place 18 []) (aggregate (copy (place 17 []) ∷ copy (place 6 []) ∷ [])))
+        (seq (assign (place 19 []) (addrOf (place 7 (field 0 ∷ deref (tyInt w8) ∷ []))))
+        (seq (assign (place 20 []) (aggregate (copy (place 19 []) ∷ copy (place 7 (field 1 ∷ [])) ∷ [])))
+        (seq (call #call (copy (place 1 []) ∷ copy (place 2 []) ∷ copy (place 14 []) ∷ copy (place 16 []) ∷ copy (place 18 [])
+        ∷ copy (place 20 []) ∷ copy (place 8 []) ∷ copy (place 9 []) ∷ copy (place 10 []) ∷ []) (place 12 []))
+        (seq (assign (place 21 []) (rvOpd (copy (place 11 []))))
+        (seq (call #turn-of (copy (place 12 []) ∷ copy (place 21 []) ∷ []) (place 0 [])) return)))))))))));
   }
 
   -- ---- what `call` is
@@ -132,14 +135,14 @@ module _ (Shape Outcome Turn : Value) where
   call-signature = record {
     lifetimes = 5;
     outlives = [];
-    params = plain (λ _. (rowOf Shape)) ∷ mutSlice 0 tt (λ _. u64) ∷ mutSlice 1 tt (λ _. u32)
+    params = plain (λ _. u32) ∷ plain (λ _. (rowOf Shape)) ∷ mutSlice 0 tt (λ _. u64) ∷ mutSlice 1 tt (λ _. u32)
         ∷ mutSlice 2 tt (λ _. Entry′.the-row) ∷ mutSlice 3 tt (λ _. u8) ∷ shrRef 4 tt (λ _. (Array u32 8)) ∷ plain (λ _. u32)
         ∷ plain (λ _. u32) ∷ [];
     result = plain (λ _. (rowOf Outcome));
   }
 
   abbrev call-ended : Ended
-  call-ended = record { signature = call-signature; kept = (yes, (yes, (yes, (yes, (yes, (yes, (yes, (yes, tt)))))))) }
+  call-ended = record { signature = call-signature; kept = (yes, (yes, (yes, (yes, (yes, (yes, (yes, (yes, (yes, tt))))))))) }
 
   module _ {M : Type 1} (𝓤 : URA M) where
     abbrev call-Ensures : Type 2
@@ -178,17 +181,28 @@ module _ (Shape Outcome Turn : Value) where
   module _ (#call #turn-of : Name) where
     module _ {M : Type 1} (𝓤 : URA M) where
       abbrev clauses : Clauses 𝓤 ended
-      clauses κs a = record { ghost = Unit {0}; requires = λ _. fact 𝓤 ((a .1 .1 .1 .1 .0) ≤ 1025); ensures = λ _ r e. emp 𝓤 }
+      clauses κs a = record {
+        ghost = Unit {0};
+        requires = λ _. fact 𝓤 ((a .1 .1 .1 .1 .1 .0) ≤ 1025);
+        ensures = λ _ r e. emp 𝓤;
+      }
 
     module _ {M : Type 1} (𝓤 : URA M) (H : Heap 𝓤) (A : Atoms 𝓤) (W : Given 𝓤 H A) (call-ensures : call-Ensures 𝓤)
         (turn-of-ensures : turn-of-Ensures 𝓤) (κ₀ κ₁ κ₂ κ₃ : Lft) (q₀ q₁ q₂ q₃ : Share)
-        (x-shape : (denotes Shape)) (x-map : RefT (List ℕ)) (x-summary : RefT (List ℕ)) (x-entries : (List Entry)) (x-c : ℕ)
-        (x-card : RefT (List ℕ)) (x-limits : RefT (List ℕ)) (x-sheet : ℕ) (x-k : ℕ)
-        (is-x-shape : Is (rowOf Shape) x-shape ((valsOf Shape) x-shape)) (room-x-map : Room u64 (length (now x-map)))
-        (room-x-summary : Room u32 (length (now x-summary))) (is-x-entries : Is (Array Entry′.the-row 1025) x-entries
-        ((array-vals (struct.vals Entry′.the-type Entry″.the-laws)) x-entries)) (is-x-c : Is usize x-c ((uint-vals w64) x-c))
-        (room-x-card : Room u8 (length (now x-card))) (is-x-sheet : Is u32 x-sheet ((uint-vals w32) x-sheet))
-        (is-x-k : Is u32 x-k ((uint-vals w32) x-k)) (asked : x-c ≤ 1025) where
+        (x-role : ℕ) (x-shape : (denotes Shape)) (x-map : RefT (List ℕ)) (x-summary : RefT (List ℕ)) (x-entries : (List Entry))
+        (x-c : ℕ) (x-card : RefT (List ℕ)) (x-limits : RefT (List ℕ)) (x-sheet : ℕ) (x-k : ℕ)
+        (is-x-role : Is u32 x-role ((uint-vals w32) x-role)) (is-x-shape : Is (rowOf Shape) x-shape ((valsOf Shape) x-shape))
+        (room-x-map : Room u64 (length (now x-map))) (room-x-summary : Room u32 (length (now x-summary)))
+        (is-x-entries : Is (Array Entry′.the-row 1025) x-entries ((array-vals (struct.vals Entry′.the-type Entry″.the-laws))
+        x-entries)) (is-x-c : Is usize x-c ((uint-vals w64) x-c)) (room-x-card : Room u8 (length (now x-card)))
+        (is-x-sheet : Is u32 x-sheet ((uint-vals w32) x-sheet)) (is-x-k : Is u32 x-k ((uint-vals w32) x-k))
+        (asked : x-c ≤ 1025) where
+      abbrev m-x-role : Val
+      m-x-role = only ((uint-vals w32) x-role)
+
+      typed-x-role : Holds (hasTy (tyInt w32) m-x-role) × WT m-x-role
+      typed-x-role = (uint-lawful 𝓤 H A W w32 .typed) x-role _ is-x-role .0
+
       abbrev m-x-shape : Val
       m-x-shape = only ((valsOf Shape) x-shape)
 
@@ -241,19 +255,22 @@ module _ (Shape Outcome Turn : Value) where
       typed-x-k : Holds (hasTy (tyInt w32) m-x-k) × WT m-x-k
       typed-x-k = (uint-lawful 𝓤 H A W w32 .typed) x-k _ is-x-k .0
 
-      abbrev args : (denotes Shape) × (RefT (List ℕ) × (RefT (List ℕ) × ((List Entry) ×
-          (ℕ × (RefT (List ℕ) × (RefT (List ℕ) × (ℕ × (ℕ × Unit {0}))))))))
-      args = (x-shape, (x-map, (x-summary, (x-entries, (x-c, (x-card, (x-limits, (x-sheet, (x-k, tt)))))))))
+      abbrev args : ℕ × ((denotes Shape) × (RefT (List ℕ) × (RefT (List ℕ) × ((List Entry)
+          × (ℕ × (RefT (List ℕ) × (RefT (List ℕ) × (ℕ × (ℕ × Unit {0})))))))))
+      args = (x-role, (x-shape, (x-map, (x-summary, (x-entries, (x-c, (x-card, (x-limits, (x-sheet, (x-k, tt))))))))))
 
       abbrev vals : List Val × (List Val × (List Val × (List Val × (List Val × (List Val
-          × (List Val × (List Val × (List Val × Unit {0}))))))))
+          × (List Val × (List Val × (List Val × (List Val × Unit {0})))))))))
       vals = (
-        m-x-shape ∷ [],
+        m-x-role ∷ [],
         (
-          s-x-map ∷ [],
+          m-x-shape ∷ [],
           (
-            s-x-summary ∷ [],
-            (m-x-entries ∷ [], (m-x-c ∷ [], (s-x-card ∷ [], (s-x-limits ∷ [], (m-x-sheet ∷ [], (m-x-k ∷ [], tt)))))),
+            s-x-map ∷ [],
+            (
+              s-x-summary ∷ [],
+              (m-x-entries ∷ [], (m-x-c ∷ [], (s-x-card ∷ [], (s-x-limits ∷ [], (m-x-sheet ∷ [], (m-x-k ∷ [], tt)))))),
+            ),
           ),
         ),
       )
@@ -275,15 +292,22 @@ module _ (Shape Outcome Turn : Value) where
       x-all-room = (lit< tt, lit< tt)
 
       -- ---- the caller has what `call` asks
-      abbrev call-args : (δ₀-call δ₁-call δ₂-call δ₃-call : GName) (b-x-all : ℕ) → (denotes Shape)
-          × (RefT (List ℕ) × (RefT (List ℕ) × (RefT (List Entry) × (RefT (List ℕ) × (RefT (List ℕ) × (ℕ × (ℕ × Unit {0})))))))
+      abbrev call-args : (δ₀-call δ₁-call δ₂-call δ₃-call : GName) (b-x-all : ℕ) → ℕ ×
+          ((denotes Shape) × (RefT (List ℕ) × (RefT (List ℕ) × (RefT (List Entry) × (RefT (List ℕ)
+          × (RefT (List ℕ) × (ℕ × (ℕ × Unit {0}))))))))
       call-args δ₀-call δ₁-call δ₂-call δ₃-call b-x-all = (
-        x-shape,
+        x-role,
         (
-          at-x-map δ₀-call (now x-map),
+          x-shape,
           (
-            at-x-summary δ₁-call (now x-summary),
-            (at-x-all b-x-all δ₂-call (take x-c x-entries), (at-x-card δ₃-call (now x-card), (x-limits, (x-sheet, (x-k, tt))))),
+            at-x-map δ₀-call (now x-map),
+            (
+              at-x-summary δ₁-call (now x-summary),
+              (
+                at-x-all b-x-all δ₂-call (take x-c x-entries),
+                (at-x-card δ₃-call (now x-card), (x-limits, (x-sheet, (x-k, tt)))),
+              ),
+            ),
           ),
         ),
       )
@@ -297,12 +321,15 @@ module _ (Shape Outcome Turn : Value) where
           tt,
           call-args δ₀-call δ₁-call δ₂-call δ₃-call b-x-all,
           (
-            m-x-shape ∷ [],
+            m-x-role ∷ [],
             (
-              s-x-map ∷ [],
+              m-x-shape ∷ [],
               (
-                s-x-summary ∷ [],
-                (s-x-all b-x-all ∷ [], (s-x-card ∷ [], (s-x-limits ∷ [], (m-x-sheet ∷ [], (m-x-k ∷ [], tt))))),
+                s-x-map ∷ [],
+                (
+                  s-x-summary ∷ [],
+                  (s-x-all b-x-all ∷ [], (s-x-card ∷ [], (s-x-limits ∷ [], (m-x-sheet ∷ [], (m-x-k ∷ [], tt))))),
+                ),
               ),
             ),
           ),
@@ -335,7 +362,8 @@ module _ (Shape Outcome Turn : Value) where
           fjoin ! $ move ! (5 ∷ 0 ∷ []) $ fjoin ! $ move ! (4 ∷ 0 ∷ []) $ fjoin ! $ move ! (3 ∷ 0 ∷ []) $ fjoin ! $
           move ! (2 ∷ 0 ∷ []) $ fjoin ! $
           owned ! (rowOf Shape) (Is (rowOf Shape)) (Shape .makes 𝓤 H A) x-shape _ is-x-shape $ fjoin ! $
-          move ! (1 ∷ 0 ∷ []) $ join ! $ frame ! $ done !
+          owned ! u32 (Is u32) (uint-makes 𝓤 H A W w32) x-role _ is-x-role $ fjoin ! $ move ! (1 ∷ 0 ∷ []) $ join ! $
+          frame ! $ done !
 
       -- ---- the caller has what `turn-of` asks
       abbrev turn-of-args : (v-outcome : (denotes Outcome)) (m-v-outcome : Val) (v-all : (List Entry)) → (denotes Outcome)
@@ -381,8 +409,8 @@ module _ (Shape Outcome Turn : Value) where
           ∷ ‵ (MutSlice (named 2) κ₂ u8 .own (at-x-card (x-card .name) z-x-card) (s-x-card ∷ [])) ∷ ‵ (flft κ₂ q₂)
           ∷ ‵ (ShrRef (named 3) κ₃ (Array u32 8) .own x-limits (s-x-limits ∷ [])) ∷ ‵ (flft κ₃ q₃) ∷ []) ∵
           suffices ! _ (ends-at 𝓤 H A ended stayed (clauses 𝓤) W bound w r
-          (tt, (z-x-map, (z-x-summary, (tt, (tt, (z-x-card, (tt, (tt, (tt, tt)))))))))
-          (tt, (l-x-map, (l-x-summary, (tt, (tt, (l-x-card, (tt, (tt, (tt, tt)))))))))) $
+          (tt, (tt, (z-x-map, (z-x-summary, (tt, (tt, (z-x-card, (tt, (tt, (tt, tt))))))))))
+          (tt, (tt, (l-x-map, (l-x-summary, (tt, (tt, (l-x-card, (tt, (tt, (tt, tt))))))))))) $
           says-nothing ! $ nothing ! $ move ! (8 ∷ 0 ∷ []) $ join ! $ move ! (6 ∷ 0 ∷ []) $ join ! $
           move ! (4 ∷ 0 ∷ []) $ join ! $ move ! (2 ∷ 0 ∷ []) $ join ! $ frame ! $ nothing ! $
           owned ! u32 (Is u32) (uint-makes 𝓤 H A W w32) x-k _ is-x-k $ fjoin ! $
@@ -393,36 +421,38 @@ module _ (Shape Outcome Turn : Value) where
           (struct.makes Entry′.the-type Entry″.the-plain 𝓤 H A) 1025) x-entries _ is-x-entries $
           fjoin ! $ move ! (2 ∷ 0 ∷ []) $ fjoin ! $ move ! (1 ∷ 0 ∷ []) $ fjoin ! $
           owned ! (rowOf Shape) (Is (rowOf Shape)) (Shape .makes 𝓤 H A) x-shape _ is-x-shape $ fjoin ! $
+          owned ! u32 (Is u32) (uint-makes 𝓤 H A W w32) x-role _ is-x-role $ fjoin ! $
           owned ! (rowOf Turn) (Is (rowOf Turn)) (Turn .makes 𝓤 H A) r _ is $ move ! (1 ∷ 0 ∷ []) $ done !
 
       -- ---- the walk
       walk : (𝓣 : Tables 𝓤 H) → Triple 𝓤 (𝓣 .C #call) (call-contract 𝓤 H A call-ensures)
           → Triple 𝓤 (𝓣 .C #turn-of) (turn-of-contract 𝓤 H A turn-of-ensures) → ent 𝓤 (onEntry 𝓤 H A signature
           (κ₀, (κ₁, (κ₂, (κ₃, tt)))) (q₀, (q₁, (q₂, (q₃, tt)))) args vals)
-          (WpFn 𝓤 H (𝓣 .C) (𝓣 .Λ) (function #call #turn-of) (m-x-shape ∷ s-x-map ∷ s-x-summary ∷ m-x-entries ∷ m-x-c ∷ s-x-card
-          ∷ s-x-limits ∷ m-x-sheet ∷ m-x-k ∷ []) Post)
+          (WpFn 𝓤 H (𝓣 .C) (𝓣 .Λ) (function #call #turn-of) (m-x-role ∷ m-x-shape ∷ s-x-map ∷ s-x-summary ∷ m-x-entries ∷ m-x-c
+          ∷ s-x-card ∷ s-x-limits ∷ m-x-sheet ∷ m-x-k ∷ []) Post)
       walk 𝓣 known-call known-turn-of =
           qed W ((‵ (flft κ₀ q₀) ⊛ ‵ (flft κ₁ q₁) ⊛ ‵ (flft κ₂ q₂) ⊛ ‵ (flft κ₃ q₃) ⊛ ‵ ftrue)
-          ∷ ‵ (owns ((rowOf Shape) ∷ MutSlice (named 0) κ₀ u64 ∷ MutSlice (named 1) κ₁ u32 ∷ (Array Entry′.the-row 1025) ∷ usize
-          ∷ MutSlice (named 2) κ₂ u8 ∷ ShrRef (named 3) κ₃ (Array u32 8) ∷ u32 ∷ u32 ∷ []) args vals) ∷ []) ∵
-          enter ! (𝓣 .C) (𝓣 .Λ) (function #call #turn-of) (m-x-shape ∷ s-x-map ∷ s-x-summary ∷ m-x-entries ∷ m-x-c ∷ s-x-card
-          ∷ s-x-limits ∷ m-x-sheet ∷ m-x-k ∷ []) _ $
+          ∷ ‵ (owns (u32 ∷ (rowOf Shape) ∷ MutSlice (named 0) κ₀ u64 ∷ MutSlice (named 1) κ₁ u32 ∷ (Array Entry′.the-row 1025)
+          ∷ usize ∷ MutSlice (named 2) κ₂ u8 ∷ ShrRef (named 3) κ₃ (Array u32 8) ∷ u32 ∷ u32 ∷ []) args vals) ∷ []) ∵
+          enter ! (𝓣 .C) (𝓣 .Λ) (function #call #turn-of) (m-x-role ∷ m-x-shape ∷ s-x-map ∷ s-x-summary ∷ m-x-entries ∷ m-x-c
+          ∷ s-x-card ∷ s-x-limits ∷ m-x-sheet ∷ m-x-k ∷ []) _ $
           alloc1 ! (λ l₀. alloc1 ! (λ l₁. alloc1 ! (λ l₂. alloc1 ! (λ l₃. alloc1 ! (λ l₄. alloc1 ! (λ l₅.
           alloc1 ! (λ l₆. alloc1 ! (λ l₇. alloc1 ! (λ l₈. alloc1 ! (λ l₉. alloc1 ! (λ l₁₀. alloc1 ! (λ l₁₁.
           alloc1 ! (λ l₁₂. alloc1 ! (λ l₁₃. alloc1 ! (λ l₁₄. alloc1 ! (λ l₁₅. alloc1 ! (λ l₁₆. alloc1 ! (λ l₁₇.
-          alloc1 ! (λ l₁₈. alloc1 ! (λ l₁₉. alloc1 ! (λ l₂₀. alloc0 ! $ params1 ! $
-          pass1 ! (init ! 38 refl typed-x-shape) $
+          alloc1 ! (λ l₁₈. alloc1 ! (λ l₁₉. alloc1 ! (λ l₂₀. alloc1 ! (λ l₂₁. alloc0 ! $ params1 ! $
+          pass1 ! (init ! 40 refl typed-x-role) $ pass1 ! (init ! 38 refl typed-x-shape) $
           pass1 ! (init ! 36 refl (tt, (tt, (record { fits = room-x-map .0 }, tt)))) $
           pass1 ! (init ! 34 refl (tt, (tt, (record { fits = room-x-summary .0 }, tt)))) $
           pass1 ! (init ! 32 refl typed-x-entries) $ pass1 ! (init ! 30 refl typed-x-c) $
           pass1 ! (init ! 28 refl (tt, (tt, (record { fits = room-x-card .0 }, tt)))) $
           pass1 ! (init ! 26 refl (tt, tt)) $ pass1 ! (init ! 24 refl typed-x-sheet) $
-          pass1 ! (init ! 22 refl typed-x-k) $ pass0 ! $ move ! (42 ∷ []) $ split ! $ move ! (1 ∷ []) $ split ! $
-          move ! (1 ∷ []) $ split ! $ move ! (1 ∷ []) $ split ! $ move ! (1 ∷ []) $ drop ! $ move ! (46 ∷ []) $
+          pass1 ! (init ! 22 refl typed-x-k) $ pass0 ! $ move ! (44 ∷ []) $ split ! $ move ! (1 ∷ []) $ split ! $
+          move ! (1 ∷ []) $ split ! $ move ! (1 ∷ []) $ split ! $ move ! (1 ∷ []) $ drop ! $ move ! (48 ∷ []) $
           fsplit ! $ move ! (1 ∷ []) $ fsplit ! $ move ! (1 ∷ []) $ fsplit ! $ move ! (1 ∷ []) $ fsplit ! $
           move ! (1 ∷ []) $ fsplit ! $ move ! (1 ∷ []) $ fsplit ! $ move ! (1 ∷ []) $ fsplit ! $ move ! (1 ∷ []) $
-          fsplit ! $ move ! (1 ∷ []) $ fsplit ! $ move ! (1 ∷ []) $ drop ! $ move ! (8 ∷ []) $ drop ! $
-          move ! (5 ∷ []) $ drop ! $ move ! (4 ∷ []) $ drop ! $ move ! (1 ∷ []) $ drop ! $ drop ! $
+          fsplit ! $ move ! (1 ∷ []) $ fsplit ! $ move ! (1 ∷ []) $ fsplit ! $ move ! (1 ∷ []) $ drop ! $
+          move ! (9 ∷ []) $ drop ! $ move ! (8 ∷ []) $ drop ! $ move ! (5 ∷ []) $ drop ! $ move ! (4 ∷ []) $ drop ! $
+          move ! (1 ∷ []) $ drop ! $ drop ! $
           assigns ! (of-opd ! (load ! (from ! (stop !)) (look ! 40 refl))) (from ! (stop !)) (init ! 28 refl typed-x-entries) $
           -- call
           assigns ! (addr ! (from ! (fld ! refl (hop ! (look-in ! 44 (sub ! 0 refl (whole !))) (stop !))))) (from ! (stop !))
@@ -456,8 +486,8 @@ module _ (Shape Outcome Turn : Value) where
           𝓤 H A W (named 1) (named 1) (now x-summary) (length (now x-summary)) refl) $
           await ! tt $ pick ! (λ δ₁-call. split ! $ lft-new ! tt (λ ν₂-call. move ! (31 ∷ []) $
           use1 W (later (some (λ (δ : GName). ‵ (MutSlice (named 2) (ν₂-call ∷ []) Entry′.the-row .own
-          (at-x-all l₁₀ δ (take x-c x-entries)) (s-x-all l₁₀ ∷ [])) ⊛ ‵ (PartLent Entry′.the-row 1025 (ν₂-call ∷ []) x-c
-          x-entries l₁₀ δ)))) (lends-part Entry′.the-row 1025 (ν₂-call ∷ []) x-c x-entries l₁₀
+          (at-x-all l₁₁ δ (take x-c x-entries)) (s-x-all l₁₁ ∷ [])) ⊛ ‵ (PartLent Entry′.the-row 1025 (ν₂-call ∷ []) x-c
+          x-entries l₁₁ δ)))) (lends-part Entry′.the-row 1025 (ν₂-call ∷ []) x-c x-entries l₁₁
           (struct.vals Entry′.the-type Entry″.the-laws) (struct.tells Entry′.the-type Entry″.the-laws) tt 𝓤 H A W
           (struct.makes Entry′.the-type Entry″.the-plain 𝓤 H A) is-x-entries (x-all-room) asked (named 2)) $
           await ! tt $ pick ! (λ δ₂-call. split ! $ lft-new ! tt (λ ν₃-call. move ! (11 ∷ 13 ∷ []) $
@@ -474,96 +504,96 @@ module _ (Shape Outcome Turn : Value) where
           move ! (5 ∷ 0 ∷ []) $ join ! $ move ! (4 ∷ 0 ∷ []) $ join ! $ move ! (3 ∷ 0 ∷ []) $ join ! $
           move ! (2 ∷ 0 ∷ []) $ join ! $ move ! (1 ∷ 0 ∷ []) $ join ! $
           use1 W (raw ((call-contract 𝓤 H A call-ensures) .pre (to-call ν₀-call ν₁-call ν₂-call ν₃-call δ₀-call δ₁-call δ₂-call
-          δ₃-call l₁₀))) (goes-call ν₀-call ν₁-call ν₂-call ν₃-call δ₀-call δ₁-call δ₂-call δ₃-call l₁₀) $
+          δ₃-call l₁₁))) (goes-call ν₀-call ν₁-call ν₂-call ν₃-call δ₀-call δ₁-call δ₂-call δ₃-call l₁₁) $
           calls-at ! (fmOf 𝓤 H (W .laws) 𝓣) (call-contract 𝓤 H A call-ensures) known-call
-          (to-call ν₀-call ν₁-call ν₂-call ν₃-call δ₀-call δ₁-call δ₂-call δ₃-call l₁₀)
-          (and-then ! (load ! (from ! (stop !)) (look ! 43 refl)) (and-then ! (load ! (from ! (stop !)) (look ! 20 refl))
-          (and-then ! (load ! (from ! (stop !)) (look ! 16 refl)) (and-then ! (load ! (from ! (stop !)) (look ! 12 refl))
-          (and-then ! (load ! (from ! (stop !)) (look ! 8 refl)) (and-then ! (load ! (from ! (stop !)) (look ! 31 refl))
-          (and-then ! (load ! (from ! (stop !)) (look ! 29 refl)) (and-then ! (load ! (from ! (stop !)) (look ! 27 refl))
-          (no-more !))))))))) (λ w-call.
+          (to-call ν₀-call ν₁-call ν₂-call ν₃-call δ₀-call δ₁-call δ₂-call δ₃-call l₁₁)
+          (and-then ! (load ! (from ! (stop !)) (look ! 45 refl)) (and-then ! (load ! (from ! (stop !)) (look ! 43 refl))
+          (and-then ! (load ! (from ! (stop !)) (look ! 20 refl)) (and-then ! (load ! (from ! (stop !)) (look ! 16 refl))
+          (and-then ! (load ! (from ! (stop !)) (look ! 12 refl)) (and-then ! (load ! (from ! (stop !)) (look ! 8 refl))
+          (and-then ! (load ! (from ! (stop !)) (look ! 31 refl)) (and-then ! (load ! (from ! (stop !)) (look ! 29 refl))
+          (and-then ! (load ! (from ! (stop !)) (look ! 27 refl)) (no-more !)))))))))) (λ w-call.
           use1 W (later (some (λ (r : (denotes Outcome)). ((‵ (flft (ν₀-call ∷ []) fullShare)
           ⊛ ‵ (flft (ν₁-call ∷ []) fullShare) ⊛ ‵ (flft (ν₂-call ∷ []) fullShare) ⊛ ‵ (flft (ν₃-call ∷ []) fullShare)
           ⊛ ‵ (flft κ₃ q₃) ⊛ ‵ ftrue) ⊛ ‵ ((rowOf Outcome) .own r (w-call ∷ []))) ⊛ raw
           (ensured 𝓤 H A call-ended (call-clauses 𝓤 call-ensures)
           (ν₀-call ∷ [], (ν₁-call ∷ [], (ν₂-call ∷ [], (ν₃-call ∷ [], (κ₃, tt))))) (call-args δ₀-call δ₁-call δ₂-call δ₃-call
-          l₁₀) tt r)))) (id⊢ 𝓤 _) $
+          l₁₁) tt r)))) (id⊢ 𝓤 _) $
           await ! tt $ pick ! (λ r-call. split ! $ move ! (1 ∷ []) $
-          use1 W (some (λ (zs-call : Unit {0} × (List ℕ × (List ℕ × (List Entry × (List ℕ
-          × (Unit {0} × (Unit {0} × (Unit {0} × Unit {0})))))))). ‵ (lasts call-ended
+          use1 W (some (λ (zs-call : Unit {0} × (Unit {0} × (List ℕ × (List ℕ × (List Entry
+          × (List ℕ × (Unit {0} × (Unit {0} × (Unit {0} × Unit {0}))))))))). ‵ (lasts call-ended
           (ν₀-call ∷ [], (ν₁-call ∷ [], (ν₂-call ∷ [], (ν₃-call ∷ [], (κ₃, tt))))) (call-args δ₀-call δ₁-call δ₂-call δ₃-call
-          l₁₀) zs-call) ⊛ raw (call-ensures (ν₀-call ∷ [], (ν₁-call ∷ [], (ν₂-call ∷ [], (ν₃-call ∷ [], (κ₃, tt)))))
-          (call-args δ₀-call δ₁-call δ₂-call δ₃-call l₁₀) r-call (atExit call-ended
+          l₁₁) zs-call) ⊛ raw (call-ensures (ν₀-call ∷ [], (ν₁-call ∷ [], (ν₂-call ∷ [], (ν₃-call ∷ [], (κ₃, tt)))))
+          (call-args δ₀-call δ₁-call δ₂-call δ₃-call l₁₁) r-call (atExit call-ended
           (ν₀-call ∷ [], (ν₁-call ∷ [], (ν₂-call ∷ [], (ν₃-call ∷ [], (κ₃, tt))))) (call-args δ₀-call δ₁-call δ₂-call δ₃-call
-          l₁₀) zs-call)))) (id⊢ 𝓤 _) $
+          l₁₁) zs-call)))) (id⊢ 𝓤 _) $
           pick ! (λ zs-call. split ! $ move ! (1 ∷ []) $ drop ! $ fsplit ! $ move ! (1 ∷ []) $ fsplit ! $
           move ! (1 ∷ []) $ fsplit ! $ move ! (1 ∷ []) $ fsplit ! $ move ! (1 ∷ []) $ fsplit ! $ move ! (1 ∷ []) $
-          fsplit ! $ move ! (1 ∷ []) $ fsplit ! $ move ! (1 ∷ []) $ fsplit ! $ move ! (1 ∷ []) $ drop ! $
-          move ! (7 ∷ []) $ drop ! $ move ! (6 ∷ []) $ fsplit ! $ move ! (1 ∷ []) $ feqL ! (λ h-call-x-map.
-          move ! (6 ∷ []) $ fsplit ! $ move ! (1 ∷ []) $ feqL ! (λ h-call-x-summary. move ! (6 ∷ []) $ fsplit ! $
-          move ! (1 ∷ []) $ feqL ! (λ h-call-x-all. move ! (6 ∷ []) $ fsplit ! $ move ! (1 ∷ []) $
-          feqL ! (λ h-call-x-card. move ! (6 ∷ []) $ drop ! $ move ! (5 ∷ []) $ drop ! $ move ! (4 ∷ []) $ drop ! $
-          move ! (4 ∷ []) $ split ! $ move ! (1 ∷ []) $
+          fsplit ! $ move ! (1 ∷ []) $ fsplit ! $ move ! (1 ∷ []) $ fsplit ! $ move ! (1 ∷ []) $ fsplit ! $
+          move ! (1 ∷ []) $ drop ! $ move ! (8 ∷ []) $ drop ! $ move ! (7 ∷ []) $ drop ! $ move ! (6 ∷ []) $ fsplit ! $
+          move ! (1 ∷ []) $ feqL ! (λ h-call-x-map. move ! (6 ∷ []) $ fsplit ! $ move ! (1 ∷ []) $
+          feqL ! (λ h-call-x-summary. move ! (6 ∷ []) $ fsplit ! $ move ! (1 ∷ []) $ feqL ! (λ h-call-x-all.
+          move ! (6 ∷ []) $ fsplit ! $ move ! (1 ∷ []) $ feqL ! (λ h-call-x-card. move ! (6 ∷ []) $ drop ! $
+          move ! (5 ∷ []) $ drop ! $ move ! (4 ∷ []) $ drop ! $ move ! (4 ∷ []) $ split ! $ move ! (1 ∷ []) $
           peeks ! (rowOf Outcome) (Is (rowOf Outcome)) (shows 𝓤 H A (rowOf Outcome)) r-call (w-call ∷ []) (λ is-w-call.
           land ! (from ! (stop !)) (init ! 29 refl ((Outcome .typed 𝓤 H A W) r-call _ is-w-call .0)) $ drop ! $
           split ! $ move ! (1 ∷ []) $ split ! $ move ! (1 ∷ []) $ split ! $ move ! (1 ∷ []) $ split ! $
           move ! (1 ∷ []) $ split ! $ move ! (1 ∷ []) $ drop ! $ move ! (4 ∷ []) $ lft-end ! tt $
           move ! (0 ∷ 13 ∷ 8 ∷ []) $
-          use3 W (later (‵ (MutSlice (named 0) κ₀ u64 .own (at-x-map (x-map .name) (zs-call .1 .0)) (s-x-map ∷ []))
+          use3 W (later (‵ (MutSlice (named 0) κ₀ u64 .own (at-x-map (x-map .name) (zs-call .1 .1 .0)) (s-x-map ∷ []))
           ⊛ ‵ (flft κ₀ q₀))) (comes-back u64 κ₀ (ν₀-call ∷ []) q₀ (x-map .name) (x-map .ptr .0) (x-map .ptr .1) 𝓤 H A W
-          (named 0) (named 0) (now x-map) (length (now x-map)) refl room-x-map δ₀-call (zs-call .1 .0) h-call-x-map) $
+          (named 0) (named 0) (now x-map) (length (now x-map)) refl room-x-map δ₀-call (zs-call .1 .1 .0) h-call-x-map) $
           await ! tt $ split ! $ move ! (5 ∷ []) $ lft-end ! tt $ move ! (0 ∷ 12 ∷ 8 ∷ []) $
-          use3 W (later (‵ (MutSlice (named 1) κ₁ u32 .own (at-x-summary (x-summary .name) (zs-call .1 .1 .0))
+          use3 W (later (‵ (MutSlice (named 1) κ₁ u32 .own (at-x-summary (x-summary .name) (zs-call .1 .1 .1 .0))
           (s-x-summary ∷ [])) ⊛ ‵ (flft κ₁ q₁))) (comes-back u32 κ₁ (ν₁-call ∷ []) q₁ (x-summary .name) (x-summary .ptr .0)
           (x-summary .ptr .1) 𝓤 H A W (named 1) (named 1) (now x-summary) (length (now x-summary)) refl room-x-summary δ₁-call
-          (zs-call .1 .1 .0) h-call-x-summary) $
+          (zs-call .1 .1 .1 .0) h-call-x-summary) $
           await ! tt $ split ! $ move ! (6 ∷ []) $ lft-end ! tt $ move ! (0 ∷ 11 ∷ 8 ∷ []) $
-          use3 W (later (given (Is (Array Entry′.the-row 1025) ((zs-call .1 .1 .1 .0) ++ drop-list x-c x-entries)
-          ((array-vals (struct.vals Entry′.the-type Entry″.the-laws)) ((zs-call .1 .1 .1 .0) ++ drop-list x-c x-entries)))
-          (‵ (fat fullShare (tyArray Entry″.mir 1025) l₁₀ 0 (only ((array-vals (struct.vals Entry′.the-type Entry″.the-laws))
-          ((zs-call .1 .1 .1 .0) ++ drop-list x-c x-entries))))))) (part-back Entry′.the-row 1025 (ν₂-call ∷ []) x-c x-entries
-          l₁₀ (struct.vals Entry′.the-type Entry″.the-laws) (struct.tells Entry′.the-type Entry″.the-laws) tt 𝓤 H A W
-          (struct.makes Entry′.the-type Entry″.the-plain 𝓤 H A) is-x-entries (x-all-room) asked δ₂-call (zs-call .1 .1 .1 .0)
+          use3 W (later (given (Is (Array Entry′.the-row 1025) ((zs-call .1 .1 .1 .1 .0) ++ drop-list x-c x-entries)
+          ((array-vals (struct.vals Entry′.the-type Entry″.the-laws)) ((zs-call .1 .1 .1 .1 .0) ++ drop-list x-c x-entries)))
+          (‵ (fat fullShare (tyArray Entry″.mir 1025) l₁₁ 0 (only ((array-vals (struct.vals Entry′.the-type Entry″.the-laws))
+          ((zs-call .1 .1 .1 .1 .0) ++ drop-list x-c x-entries))))))) (part-back Entry′.the-row 1025 (ν₂-call ∷ []) x-c
+          x-entries l₁₁ (struct.vals Entry′.the-type Entry″.the-laws) (struct.tells Entry′.the-type Entry″.the-laws) tt 𝓤 H A W
+          (struct.makes Entry′.the-type Entry″.the-plain 𝓤 H A) is-x-entries (x-all-room) asked δ₂-call (zs-call .1 .1 .1 .1 .0)
           h-call-x-all) $
           await ! tt $ learn ! (λ is-now-x-all. move ! (6 ∷ []) $ lft-end ! tt $ move ! (0 ∷ 9 ∷ 7 ∷ []) $
-          use3 W (later (‵ (MutSlice (named 2) κ₂ u8 .own (at-x-card (x-card .name) (zs-call .1 .1 .1 .1 .0)) (s-x-card ∷ []))
-          ⊛ ‵ (flft κ₂ q₂))) (comes-back u8 κ₂ (ν₃-call ∷ []) q₂ (x-card .name) (x-card .ptr .0) (x-card .ptr .1) 𝓤 H A W
-          (named 2) (named 3) (now x-card) (length (now x-card)) refl room-x-card δ₃-call (zs-call .1 .1 .1 .1 .0)
-          h-call-x-card) $
+          use3 W (later (‵ (MutSlice (named 2) κ₂ u8 .own (at-x-card (x-card .name) (zs-call .1 .1 .1 .1 .1 .0))
+          (s-x-card ∷ [])) ⊛ ‵ (flft κ₂ q₂))) (comes-back u8 κ₂ (ν₃-call ∷ []) q₂ (x-card .name) (x-card .ptr .0)
+          (x-card .ptr .1) 𝓤 H A W (named 2) (named 3) (now x-card) (length (now x-card)) refl room-x-card δ₃-call
+          (zs-call .1 .1 .1 .1 .1 .0) h-call-x-card) $
           await ! tt $ split ! $
           -- turn-of
           assigns ! (of-opd ! (load ! (from ! (stop !)) (look ! 2 refl))) (from ! (stop !))
           (init ! 9 refl ((array-lawful 𝓤 H A W Entry′.the-row (struct.lawful Entry′.the-type Entry″.the-laws 𝓤 H A W)
-          1025 .typed) ((zs-call .1 .1 .1 .0) ++ drop-list x-c x-entries) _ is-now-x-all .0)) $
+          1025 .typed) ((zs-call .1 .1 .1 .1 .0) ++ drop-list x-c x-entries) _ is-now-x-all .0)) $
           use0 W (raw ((turn-of-contract 𝓤 H A turn-of-ensures) .pre (to-turn-of r-call w-call
-          ((zs-call .1 .1 .1 .0) ++ drop-list x-c x-entries)))) (goes-turn-of r-call w-call
-          ((zs-call .1 .1 .1 .0) ++ drop-list x-c x-entries) is-w-call is-now-x-all) $
+          ((zs-call .1 .1 .1 .1 .0) ++ drop-list x-c x-entries)))) (goes-turn-of r-call w-call
+          ((zs-call .1 .1 .1 .1 .0) ++ drop-list x-c x-entries) is-w-call is-now-x-all) $
           calls-at ! (fmOf 𝓤 H (W .laws) 𝓣) (turn-of-contract 𝓤 H A turn-of-ensures) known-turn-of
-          (to-turn-of r-call w-call ((zs-call .1 .1 .1 .0) ++ drop-list x-c x-entries))
+          (to-turn-of r-call w-call ((zs-call .1 .1 .1 .1 .0) ++ drop-list x-c x-entries))
           (and-then ! (load ! (from ! (stop !)) (look ! 28 refl)) (and-then ! (load ! (from ! (stop !)) (look ! 10 refl))
           (no-more !))) (λ w-turn-of.
           use1 W (later (some (λ (r : (denotes Turn)). ((‵ ftrue) ⊛ ‵ ((rowOf Turn) .own r (w-turn-of ∷ [])))
           ⊛ raw (ensured 𝓤 H A turn-of-ended (turn-of-clauses 𝓤 turn-of-ensures) tt (turn-of-args r-call w-call
-          ((zs-call .1 .1 .1 .0) ++ drop-list x-c x-entries)) tt r)))) (id⊢ 𝓤 _) $
+          ((zs-call .1 .1 .1 .1 .0) ++ drop-list x-c x-entries)) tt r)))) (id⊢ 𝓤 _) $
           await ! tt $ pick ! (λ r-turn-of. split ! $ move ! (1 ∷ []) $
           use1 W (some (λ (zs-turn-of : Unit {0} × (Unit {0} × Unit {0})). ‵ (lasts turn-of-ended tt
-          (turn-of-args r-call w-call ((zs-call .1 .1 .1 .0) ++ drop-list x-c x-entries)) zs-turn-of)
-          ⊛ raw (turn-of-ensures tt (turn-of-args r-call w-call ((zs-call .1 .1 .1 .0) ++ drop-list x-c x-entries)) r-turn-of
-          (atExit turn-of-ended tt (turn-of-args r-call w-call ((zs-call .1 .1 .1 .0) ++ drop-list x-c x-entries))
+          (turn-of-args r-call w-call ((zs-call .1 .1 .1 .1 .0) ++ drop-list x-c x-entries)) zs-turn-of)
+          ⊛ raw (turn-of-ensures tt (turn-of-args r-call w-call ((zs-call .1 .1 .1 .1 .0) ++ drop-list x-c x-entries)) r-turn-of
+          (atExit turn-of-ended tt (turn-of-args r-call w-call ((zs-call .1 .1 .1 .1 .0) ++ drop-list x-c x-entries))
           zs-turn-of)))) (id⊢ 𝓤 _) $
           pick ! (λ zs-turn-of. split ! $ move ! (1 ∷ []) $ drop ! $ fsplit ! $ move ! (1 ∷ []) $ fsplit ! $
           move ! (1 ∷ []) $ drop ! $ move ! (1 ∷ []) $ drop ! $ drop ! $ split ! $ move ! (1 ∷ []) $
           peeks ! (rowOf Turn) (Is (rowOf Turn)) (shows 𝓤 H A (rowOf Turn)) r-turn-of (w-turn-of ∷ []) (λ is-w-turn-of.
-          land ! (from ! (stop !)) (init ! 50 refl ((Turn .typed 𝓤 H A W) r-turn-of _ is-w-turn-of .0)) $ drop ! $
-          drop ! $ returns ! (look ! 48 refl) $ move ! (2 ∷ 29 ∷ []) $ leave ! 48 refl refl $ leave ! 46 refl refl $
-          leave ! 44 refl refl $ leave ! 42 refl refl $ leave ! 40 refl refl $ leave ! 38 refl refl $
-          leave ! 36 refl refl $ leave ! 34 refl refl $ leave ! 32 refl refl $ leave ! 30 refl refl $
-          leave ! 0 refl refl $ leave ! 26 refl refl $ leave ! 24 refl refl $ leave ! 22 refl refl $
-          leave ! 20 refl refl $ leave ! 18 refl refl $ leave ! 16 refl refl $ leave ! 14 refl refl $
-          leave ! 12 refl refl $ leave ! 10 refl refl $ leave ! 8 refl refl $ free0 ! $
+          land ! (from ! (stop !)) (init ! 52 refl ((Turn .typed 𝓤 H A W) r-turn-of _ is-w-turn-of .0)) $ drop ! $
+          drop ! $ returns ! (look ! 50 refl) $ move ! (2 ∷ 29 ∷ []) $ leave ! 50 refl refl $ leave ! 48 refl refl $
+          leave ! 46 refl refl $ leave ! 44 refl refl $ leave ! 42 refl refl $ leave ! 40 refl refl $
+          leave ! 38 refl refl $ leave ! 36 refl refl $ leave ! 34 refl refl $ leave ! 32 refl refl $
+          leave ! 30 refl refl $ leave ! 0 refl refl $ leave ! 26 refl refl $ leave ! 24 refl refl $
+          leave ! 22 refl refl $ leave ! 20 refl refl $ leave ! 18 refl refl $ leave ! 16 refl refl $
+          leave ! 14 refl refl $ leave ! 12 refl refl $ leave ! 10 refl refl $ leave ! 8 refl refl $ free0 ! $
           move ! (4 ∷ 5 ∷ 2 ∷ 3 ∷ 0 ∷ 1 ∷ 7 ∷ 6 ∷ []) $
-          by ! (exits r-turn-of w-turn-of (zs-call .1 .0) (zs-call .1 .1 .0) (zs-call .1 .1 .1 .1 .0) is-w-turn-of h-call-x-map
-          h-call-x-summary h-call-x-card)))))))))))))))))))))))))))))))))))))))))))
+          by ! (exits r-turn-of w-turn-of (zs-call .1 .1 .0) (zs-call .1 .1 .1 .0) (zs-call .1 .1 .1 .1 .1 .0) is-w-turn-of
+          h-call-x-map h-call-x-summary h-call-x-card))))))))))))))))))))))))))))))))))))))))))))
 
     module _ {M : Type 1} (𝓤 : URA M) (H : Heap 𝓤) (A : Atoms 𝓤) (W : Given 𝓤 H A) (call-ensures : call-Ensures 𝓤)
         (turn-of-ensures : turn-of-Ensures 𝓤) where
@@ -573,66 +603,76 @@ module _ (Shape Outcome Turn : Value) where
       walks 𝓣 known-call known-turn-of =
           walked 𝓤 H A ended stayed (clauses 𝓤) (WpFn 𝓤 H (𝓣 .C) (𝓣 .Λ) (function #call #turn-of))
           (λ κs. (
-            (valsOf Shape),
+            (uint-vals w32),
             (
-              slice-vals,
+              (valsOf Shape),
               (
                 slice-vals,
                 (
-                  (array-vals (struct.vals Entry′.the-type Entry″.the-laws)),
-                  ((uint-vals w64), (slice-vals, (ptr-vals, ((uint-vals w32), ((uint-vals w32), tt))))),
+                  slice-vals,
+                  (
+                    (array-vals (struct.vals Entry′.the-type Entry″.the-laws)),
+                    ((uint-vals w64), (slice-vals, (ptr-vals, ((uint-vals w32), ((uint-vals w32), tt))))),
+                  ),
                 ),
               ),
             ),
           ))
           (λ κs. (
-            (Shape .tells),
+            (uint-tells w32),
             (
-              mut-slice-tells (named 0) (κs .0) u64,
+              (Shape .tells),
               (
-                mut-slice-tells (named 1) (κs .1 .0) u32,
+                mut-slice-tells (named 0) (κs .0) u64,
                 (
-                  (array-tells Entry′.the-row (struct.vals Entry′.the-type Entry″.the-laws)
-                      (struct.tells Entry′.the-type Entry″.the-laws) 1025),
+                  mut-slice-tells (named 1) (κs .1 .0) u32,
                   (
-                    (uint-tells w64),
+                    (array-tells Entry′.the-row (struct.vals Entry′.the-type Entry″.the-laws)
+                        (struct.tells Entry′.the-type Entry″.the-laws) 1025),
                     (
-                      mut-slice-tells (named 2) (κs .1 .1 .0) u8,
-                      (shr-tells (named 3) (κs .1 .1 .1 .0) (Array u32 8), ((uint-tells w32), ((uint-tells w32), tt))),
+                      (uint-tells w64),
+                      (
+                        mut-slice-tells (named 2) (κs .1 .1 .0) u8,
+                        (shr-tells (named 3) (κs .1 .1 .1 .0) (Array u32 8), ((uint-tells w32), ((uint-tells w32), tt))),
+                      ),
                     ),
                   ),
                 ),
               ),
             ),
           ))
-          (λ κs qs bounds a g are. needs 𝓤 ((a .1 .1 .1 .1 .0) ≤ 1025) _ (λ asked. walk 𝓤 H A W call-ensures turn-of-ensures
+          (λ κs qs bounds a g are. needs 𝓤 ((a .1 .1 .1 .1 .1 .0) ≤ 1025) _ (λ asked. walk 𝓤 H A W call-ensures turn-of-ensures
           (κs .0) (κs .1 .0) (κs .1 .1 .0) (κs .1 .1 .1 .0) (qs .0) (qs .1 .0) (qs .1 .1 .0) (qs .1 .1 .1 .0) (a .0) (a .1 .0)
           (a .1 .1 .0) (a .1 .1 .1 .0) (a .1 .1 .1 .1 .0) (a .1 .1 .1 .1 .1 .0) (a .1 .1 .1 .1 .1 .1 .0)
-          (a .1 .1 .1 .1 .1 .1 .1 .0) (a .1 .1 .1 .1 .1 .1 .1 .1 .0) (are .0) (are .1 .0 .0 .1) (are .1 .1 .0 .0 .1)
-          (are .1 .1 .1 .0) (are .1 .1 .1 .1 .0) (are .1 .1 .1 .1 .1 .0 .0 .1) (are .1 .1 .1 .1 .1 .1 .1 .0)
-          (are .1 .1 .1 .1 .1 .1 .1 .1 .0) asked 𝓣 known-call known-turn-of))
+          (a .1 .1 .1 .1 .1 .1 .1 .0) (a .1 .1 .1 .1 .1 .1 .1 .1 .0) (a .1 .1 .1 .1 .1 .1 .1 .1 .1 .0) (are .0) (are .1 .0)
+          (are .1 .1 .0 .0 .1) (are .1 .1 .1 .0 .0 .1) (are .1 .1 .1 .1 .0) (are .1 .1 .1 .1 .1 .0)
+          (are .1 .1 .1 .1 .1 .1 .0 .0 .1) (are .1 .1 .1 .1 .1 .1 .1 .1 .0) (are .1 .1 .1 .1 .1 .1 .1 .1 .1 .0) asked 𝓣
+          known-call known-turn-of))
 
       pub meets : (𝓣 : Tables 𝓤 H) → Triple 𝓤 (𝓣 .C #call) (call-contract 𝓤 H A call-ensures)
           → Triple 𝓤 (𝓣 .C #turn-of) (turn-of-contract 𝓤 H A turn-of-ensures) → Meets 𝓤 H A signature
           (WpFn 𝓤 H (𝓣 .C) (𝓣 .Λ) (function #call #turn-of)) (closing 𝓤 H A ended (clauses 𝓤))
       meets 𝓣 known-call known-turn-of =
           walk-meets 𝓤 H A ended stayed W (
-            goes-none 𝓤 H A W 4 (λ _. (rowOf Shape)) yes (λ κs x f. refl),
+            goes-none 𝓤 H A W 4 (λ _. u32) yes (λ κs x f. refl),
             (
-              goes-slice 𝓤 H A W 4 0 tt (plain (λ _. u64)),
+              goes-none 𝓤 H A W 4 (λ _. (rowOf Shape)) yes (λ κs x f. refl),
               (
-                goes-slice 𝓤 H A W 4 1 tt (plain (λ _. u32)),
+                goes-slice 𝓤 H A W 4 0 tt (plain (λ _. u64)),
                 (
-                  goes-none 𝓤 H A W 4 (λ _. (Array Entry′.the-row 1025)) yes (λ κs x f. refl),
+                  goes-slice 𝓤 H A W 4 1 tt (plain (λ _. u32)),
                   (
-                    goes-none 𝓤 H A W 4 (λ _. usize) yes (λ κs x f. refl),
+                    goes-none 𝓤 H A W 4 (λ _. (Array Entry′.the-row 1025)) yes (λ κs x f. refl),
                     (
-                      goes-slice 𝓤 H A W 4 2 tt (plain (λ _. u8)),
+                      goes-none 𝓤 H A W 4 (λ _. usize) yes (λ κs x f. refl),
                       (
-                        goes-none-ref 𝓤 H A W 4 (3 ∷ []) tt (plain (λ _. (Array u32 8))) yes,
+                        goes-slice 𝓤 H A W 4 2 tt (plain (λ _. u8)),
                         (
-                          goes-none 𝓤 H A W 4 (λ _. u32) yes (λ κs x f. refl),
-                          (goes-none 𝓤 H A W 4 (λ _. u32) yes (λ κs x f. refl), tt),
+                          goes-none-ref 𝓤 H A W 4 (3 ∷ []) tt (plain (λ _. (Array u32 8))) yes,
+                          (
+                            goes-none 𝓤 H A W 4 (λ _. u32) yes (λ κs x f. refl),
+                            (goes-none 𝓤 H A W 4 (λ _. u32) yes (λ κs x f. refl), tt),
+                          ),
                         ),
                       ),
                     ),

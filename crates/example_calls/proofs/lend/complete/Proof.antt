@@ -1,5 +1,5 @@
 -- Written by tools/walks: `example_calls::lend::complete` meets its contract, by the walk of `EntriesFromMapCard1.antt` of the
--- crate walk_arrays, with the calls of `card::Shape::complete`, `example_calls::lend::turn_of`.
+-- crate walk_arrays, with the calls of `role_calls::complete`, `example_calls::lend::turn_of`.
 -- Assumes nothing.
 use contract.Running.{givenOf, tables, tablesOf}
 use denote.Triple.Spec.{tripleOf}
@@ -12,9 +12,9 @@ use Rattle.card.proofs.Outcome.Laws as Outcome″
 use Rattle.example_call_list.proofs.state.Turn as Turn′
 use Rattle.example_call_list.proofs.state.Turn.Laws as Turn″
 use Rattle.walk_arrays.proofs.EntriesFromMapCard1.{call-contract, turn-of-contract, meets}
-use Rattle.card.proofs.Shape.complete.Symbol as call-def
-use Rattle.card.proofs.Shape.complete.Met as call-met
-use Rattle.card.proofs.Shape.complete as call-said
+use Rattle.role_calls.proofs.complete.Symbol as call-def
+use Rattle.role_calls.proofs.complete.Met as call-met
+use Rattle.role_calls.proofs.complete as call-said
 use Rattle.example_calls.proofs.lend.turn_of.Symbol as turn-of-def
 use Rattle.example_calls.proofs.lend.turn_of.Met as turn-of-met
 use Rattle.example_calls.proofs.lend.turn_of as turn-of-said
@@ -43,7 +43,7 @@ complete-spec 𝓤 H 𝓜 𝓖 𝓡 =
     (λ κs a r e. turn-of-said.clauses 𝓤 H (𝓖 .A) (𝓜 .mem) (𝓡 .run) κs a .ensures tt r e)
     (tablesOf 𝓤 H 𝓜 (tables 𝓤 H 𝓜 𝓡 code.env))
     (cited 𝓤 H (call-contract Shape Outcome Turn 𝓤 H (𝓖 .A) (λ κs a r e. call-said.clauses 𝓤 H (𝓖 .A) (𝓜 .mem) (𝓡 .run) κs
-    a .ensures tt r e)) 𝓜 𝓡 code.env call-def.name call-def.routine code.calls-card·Shape·complete (call-met.met 𝓤 H 𝓜 𝓖 𝓡))
+    a .ensures tt r e)) 𝓜 𝓡 code.env call-def.name call-def.routine code.calls-role-calls·complete (call-met.met 𝓤 H 𝓜 𝓖 𝓡))
     (cited 𝓤 H (turn-of-contract Shape Outcome Turn 𝓤 H (𝓖 .A) (λ κs a r e. turn-of-said.clauses 𝓤 H (𝓖 .A) (𝓜 .mem) (𝓡 .run) κs
     a .ensures tt r e)) 𝓜 𝓡 code.env turn-of-def.name turn-of-def.routine code.calls-example-calls·lend·turn-of
     (turn-of-met.met 𝓤 H 𝓜 𝓖 𝓡)))

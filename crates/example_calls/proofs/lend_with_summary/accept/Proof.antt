@@ -1,6 +1,6 @@
--- Written by tools/walks: `example_calls::lend::accept_with_summary` meets its contract, by the walk of
--- `MapSummaryEntriesCardFromLimits3.antt` of the crate walk_arrays, with the calls of `card::Shape::accept_with_summary`,
--- `example_calls::lend::turn_of`.
+-- Written by tools/walks: `example_calls::lend_with_summary::accept` meets its contract, by the walk of
+-- `MapSummaryEntriesCardFromLimits3.antt` of the crate walk_arrays, with the calls of
+-- `role_calls::summary::accept_with_summary`, `example_calls::lend::turn_of`.
 -- Assumes nothing.
 use contract.Running.{givenOf, tables, tablesOf}
 use denote.Triple.Spec.{tripleOf}
@@ -13,16 +13,16 @@ use Rattle.card.proofs.Outcome.Laws as Outcome″
 use Rattle.example_call_list.proofs.state.Turn as Turn′
 use Rattle.example_call_list.proofs.state.Turn.Laws as Turn″
 use Rattle.walk_arrays.proofs.MapSummaryEntriesCardFromLimits3.{call-contract, turn-of-contract, meets}
-use Rattle.card.proofs.Shape.accept_with_summary.Symbol as call-def
-use Rattle.card.proofs.Shape.accept_with_summary.Met as call-met
-use Rattle.card.proofs.Shape.accept_with_summary as call-said
+use Rattle.role_calls.proofs.summary.accept_with_summary.Symbol as call-def
+use Rattle.role_calls.proofs.summary.accept_with_summary.Met as call-met
+use Rattle.role_calls.proofs.summary.accept_with_summary as call-said
 use Rattle.example_calls.proofs.lend.turn_of.Symbol as turn-of-def
 use Rattle.example_calls.proofs.lend.turn_of.Met as turn-of-met
 use Rattle.example_calls.proofs.lend.turn_of as turn-of-said
-use Rattle.example_calls.proofs.lend.accept_with_summary.Key.{name as #accept-with-summary}
-use Rattle.example_calls.proofs.lend.accept_with_summary as accept-with-summary
-use Rattle.example_calls.proofs.lend.accept_with_summary.Statement as stated
-use Rattle.example_calls.proofs.lend.accept_with_summary.Code as code
+use Rattle.example_calls.proofs.lend_with_summary.accept.Key.{name as #accept}
+use Rattle.example_calls.proofs.lend_with_summary.accept as accept
+use Rattle.example_calls.proofs.lend_with_summary.accept.Statement as stated
+use Rattle.example_calls.proofs.lend_with_summary.accept.Code as code
 
 abbrev Shape : Value
 Shape = valueOf Shape′.the-type Shape″.the-laws Shape″.the-plain
@@ -33,18 +33,18 @@ Outcome = valueOf Outcome′.the-type Outcome″.the-laws Outcome″.the-plain
 abbrev Turn : Value
 Turn = valueOf Turn′.the-type Turn″.the-laws Turn″.the-plain
 
-pub accept-with-summary-spec : {M : Type 1} → stated.statement M
+pub accept-spec : {M : Type 1} → stated.statement M
 unfolding code.routine tablesOf
-accept-with-summary-spec 𝓤 H 𝓜 𝓖 𝓡 =
-    entered 𝓤 H (tripleOf 𝓤 H (𝓖 .A) accept-with-summary.signature (accept-with-summary.spec 𝓤 H (𝓖 .A) (𝓜 .mem) (𝓡 .run)))
-    (tables 𝓤 H 𝓜 𝓡 code.env .C) (tables 𝓤 H 𝓜 𝓡 code.env .Λ) #accept-with-summary code.function (code.unfolded 𝓤 H 𝓜 𝓡)
+accept-spec 𝓤 H 𝓜 𝓖 𝓡 =
+    entered 𝓤 H (tripleOf 𝓤 H (𝓖 .A) accept.signature (accept.spec 𝓤 H (𝓖 .A) (𝓜 .mem) (𝓡 .run)))
+    (tables 𝓤 H 𝓜 𝓡 code.env .C) (tables 𝓤 H 𝓜 𝓡 code.env .Λ) #accept code.function (code.unfolded 𝓤 H 𝓜 𝓡)
     (meets Shape Outcome Turn call-def.name turn-of-def.name
     𝓤 H (𝓖 .A) (givenOf 𝓤 H 𝓜 𝓖)
     (λ κs a r e. call-said.clauses 𝓤 H (𝓖 .A) (𝓜 .mem) (𝓡 .run) κs a .ensures tt r e)
     (λ κs a r e. turn-of-said.clauses 𝓤 H (𝓖 .A) (𝓜 .mem) (𝓡 .run) κs a .ensures tt r e)
     (tablesOf 𝓤 H 𝓜 (tables 𝓤 H 𝓜 𝓡 code.env))
     (cited 𝓤 H (call-contract Shape Outcome Turn 𝓤 H (𝓖 .A) (λ κs a r e. call-said.clauses 𝓤 H (𝓖 .A) (𝓜 .mem) (𝓡 .run) κs
-    a .ensures tt r e)) 𝓜 𝓡 code.env call-def.name call-def.routine code.calls-card·Shape·accept-with-summary
+    a .ensures tt r e)) 𝓜 𝓡 code.env call-def.name call-def.routine code.calls-role-calls·summary·accept-with-summary
     (call-met.met 𝓤 H 𝓜 𝓖 𝓡))
     (cited 𝓤 H (turn-of-contract Shape Outcome Turn 𝓤 H (𝓖 .A) (λ κs a r e. turn-of-said.clauses 𝓤 H (𝓖 .A) (𝓜 .mem) (𝓡 .run) κs
     a .ensures tt r e)) 𝓜 𝓡 code.env turn-of-def.name turn-of-def.routine code.calls-example-calls·lend·turn-of
