@@ -152,6 +152,7 @@ static void turned_away(void)
 /* What each role may do, and may not; what follows is done by the service. */
 static void roles(void)
 {
+    build("summary-build for roles", NUMBERS);
     release_with_summary("summary-release for roles 2", 2);
     reserve("reserve for roles 2 1", 2, 1);
     put_term("put-term 2 0 8825 8831", 2, 0, 8825, 8831);
