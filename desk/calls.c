@@ -57,10 +57,6 @@ static void fresh_other(desk *d, uint32_t blocks, uint32_t sheets)
     if (d->said.outcome.number != PAGUNLIT_DONE) {
         card_free(&next);
     } else {
-        if (next.cardlen == d->card.cardlen) {
-            memcpy(next.card, d->card.card, next.cardlen);
-            memcpy(next.seen, d->card.card, next.cardlen);
-        }
         steps_replace(d, &next);
     }
     answer(d);

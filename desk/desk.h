@@ -15,7 +15,7 @@ typedef struct {
 /* What a command changed: the card before it, but for its bytes, and those of the blocks that it wrote. */
 typedef struct {
     desk_card was;
-    int whole; /* `was` has its bytes too: the command began another card */
+    int whole; /* `was` has its bytes too: another card was put in */
     desk_block *blocks;
     size_t count;
     char *line;
@@ -51,8 +51,9 @@ void steps_end(desk *d);
 void steps_undo(desk *d);
 void steps_free(desk *d);
 
-/* The next card takes the place of the one at hand, which the step keeps. */
-void steps_replace(desk *d, const desk_card *next);
+/* The next card takes the place of the one at hand, which the step keeps. If it has as many blocks it is the same card in its
+ * slot, with its bytes, and only map and catalogue are others. */
+void steps_replace(desk *d, desk_card *next);
 
 /* answer.c: prints what the call that is in d->said answered, and the card. */
 void answer(desk *d);
@@ -89,7 +90,10 @@ int command_usage(desk *d, const desk_words *words);
 /* Builds the summary, where the calls are lent one: it is built once, after fresh or load, and kept by the calls. */
 void build_where_kept(desk *d);
 
-/* calls.c, payloads.c, images.c, others.c: one function to a command. */
+/* roles.c: who makes the calls, as "carer" or "role 7". The next call of it may change the text. */
+const char *role_name(uint32_t role);
+
+/* calls.c, payloads.c, images.c, roles.c, others.c: one function to a command. */
 #define COMMAND(name) void command_##name(desk *d, const desk_words *words)
 COMMAND(fresh);
 COMMAND(search);

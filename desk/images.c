@@ -95,10 +95,6 @@ static void load_image(desk *d)
         card_free(&next);
     } else {
         next.broken = d->card.broken && next.cardlen == d->card.cardlen;
-        if (next.cardlen == d->card.cardlen) {
-            memcpy(next.card, d->card.card, next.cardlen);
-            memcpy(next.seen, d->card.card, next.cardlen);
-        }
         steps_replace(d, &next);
     }
     answer(d);

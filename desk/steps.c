@@ -25,11 +25,20 @@ int steps_begin(desk *d, const char *line)
     return 0;
 }
 
-void steps_replace(desk *d, const desk_card *next)
+void steps_replace(desk *d, desk_card *next)
 {
-    card_free(&d->step.was);
-    d->step.was = d->card;
-    d->step.whole = 1;
+    if (next->cardlen == d->card.cardlen) {
+        free(next->card);
+        free(next->seen);
+        next->card = d->card.card;
+        next->seen = d->card.seen;
+        d->card.card = d->card.seen = NULL;
+        card_free(&d->card);
+    } else {
+        card_free(&d->step.was);
+        d->step.was = d->card;
+        d->step.whole = 1;
+    }
     d->card = *next;
 }
 
@@ -64,7 +73,8 @@ static int nothing_changed(const desk *d)
 {
     const desk_card *now = &d->card, *was = &d->step.was;
 
-    return !d->step.whole && d->step.count == 0 && now->shape.blocks == was->shape.blocks &&
+    return !d->step.whole && d->step.count == 0 && now->cataloguelen == was->cataloguelen &&
+           now->shape.blocks == was->shape.blocks &&
            now->shape.free == was->shape.free && now->role == was->role && now->with_summary == was->with_summary &&
            now->broken == was->broken && same(now->limits, was->limits, PAGUNLIT_WINGS, sizeof *now->limits) &&
            same(now->map, was->map, now->maplen, sizeof *now->map) &&
