@@ -90,14 +90,18 @@ void answer_payload(const uint8_t payload[PAGUNLIT_PAYLOAD], int dated)
     printf("    \"%s\"\n", text);
 }
 
+/* The end of a word for one of something, or for several. */
+static const char *s(uint32_t count)
+{
+    return count == 1 ? "" : "s";
+}
+
 /* Where a number has more to say of this call than document 01's table has: 0 if it has not. */
 static int refused_sheet(const desk_said *said)
 {
     uint32_t sheet = said->sheet;
 
     switch (said->row) {
-    case ROW_ROLE:
-        return printf("this role may not make this call");
     case ROW_SHEET:
         return printf("there is no sheet %u", sheet);
     case ROW_ENTRY:
@@ -124,23 +128,29 @@ static int refused_sheet(const desk_said *said)
     }
 }
 
-static int refused_blocks(const desk *d)
+static int refused_other(const desk *d)
 {
     const desk_said *said = &d->said;
 
     switch (said->row) {
+    case ROW_ROLE:
+        return printf("%s%s may not make this call", d->card.role == PAGUNLIT_CARER ? "a " : "", role_name(d->card.role));
     case ROW_NONE:
         return printf("no block was asked for");
     case ROW_FIT:
-        return printf("no run of %u free blocks%s", said->count, said->call == CALL_PLACED ? " within these figures" : "");
+        return printf("no run of %u free block%s%s", said->count, s(said->count),
+                      said->call == CALL_PLACED ? " within these figures" : "");
     case ROW_NEXT:
-        return printf("the next %u blocks after sheet %u are not all free and on the card", said->count, said->sheet);
+        return printf("%u block%s behind sheet %u: not all free and on the card", said->count, s(said->count), said->sheet);
     case ROW_RUN:
-        return printf("the %u blocks from %u on are not all free and on the card", said->count, said->start);
+        return printf("%u block%s from %u on: not all free and on the card", said->count, s(said->count), said->start);
+    case ROW_FIGURES:
+        return printf("from %u, before %u, step %u cannot be", said->figures.from, said->figures.before, said->figures.step);
     case ROW_LIMIT: {
         uint32_t wing = said->sheet / PAGUNLIT_WING_SHEETS;
+        uint32_t limit = d->card.limits[wing % PAGUNLIT_WINGS];
 
-        return printf("wing %u would hold more than its limit of %u blocks", wing, d->card.limits[wing % PAGUNLIT_WINGS]);
+        return printf("wing %u would hold more than its limit of %u block%s", wing, limit, s(limit));
     }
     case ROW_DATE:
         return printf("there is no such date from 2000 to 2099");
@@ -155,10 +165,30 @@ static int refused_blocks(const desk *d)
     }
 }
 
+/* An image, or a count of a payload. */
+static int refused_bytes(const desk_said *said)
+{
+    switch (said->row) {
+    case ROW_LENGTH:
+        return printf("the length of the image is wrong");
+    case ROW_FRAME:
+        return printf("a frame of the image has a wrong number, total or check");
+    case ROW_HEAD:
+        return printf("the image's blocks, sheets or free count are out of limits, or its length does not fit them");
+    case ROW_CONTENT:
+        return printf("the state in the image is not sound, or what fills it up is not zero");
+    case ROW_DIGIT:
+        return printf(said->call == CALL_READ_COUNT ? "there is no count %u, or its four bytes are no digits"
+                                                    : "there is no count %u, or the dose is out of range", said->start);
+    default:
+        return 0;
+    }
+}
+
 static void refused(const desk *d)
 {
     printf("refused, %u: ", d->said.outcome.number);
-    if (!refused_sheet(&d->said) && !refused_blocks(d))
+    if (!refused_sheet(&d->said) && !refused_other(d) && !refused_bytes(&d->said))
         printf("%s", pagunlit_meaning(d->said.outcome.number));
     putchar('\n');
 }
@@ -169,7 +199,8 @@ static int done_blocks(const desk_said *said)
 
     switch (said->call) {
     case CALL_SEARCH:
-        return printf("%u blocks would start at block %u, with space for %u", said->count, o->first, o->second);
+        return printf("%u block%s would start at block %u, with space for %u", said->count, s(said->count), o->first,
+                      o->second);
     case CALL_SURVEY:
         return printf("free blocks %u, runs of them %u, longest run %u", o->first, o->second, o->third);
     case CALL_RESERVE:
@@ -177,9 +208,9 @@ static int done_blocks(const desk_said *said)
     case CALL_ACCEPT:
         return printf("sheet %u is Open from block %u on, with space for %u", said->sheet, o->first, o->second);
     case CALL_OFFER:
-        return printf("sheet %u would start at block %u, with %u places", said->sheet, o->first, o->second);
+        return printf("sheet %u would start at block %u, with %u place%s", said->sheet, o->first, o->second, s(o->second));
     case CALL_GROW:
-        return printf("sheet %u has %u more blank places", said->sheet, said->count);
+        return printf("sheet %u has %u more blank place%s", said->sheet, said->count, s(said->count));
     case CALL_CHECK:
         return printf("%s", o->first ? "the summary is the map's own" : "the summary is not the map's own");
     default:

@@ -138,15 +138,21 @@ static int list_sheet(desk_card *card, uint32_t sheet)
 
 static void list_sheets(desk_card *card)
 {
-    int listed = 0;
+    int listed = 0, others = 0;
 
-    for (uint32_t sheet = 0; sheet < card->cataloguelen && listed < DESK_LISTED; sheet++) {
-        listed += list_sheet(card, sheet);
-        if (listed == DESK_LISTED)
-            puts("  (more sheets: `standing SHEET` tells of each)");
+    if (library_standing(card, 0).number == PAGUNLIT_TURNED_AWAY) {
+        puts("  how its sheets stand is refused, 21: this role may not ask");
+        return;
     }
+    for (uint32_t sheet = 0; sheet < card->cataloguelen; sheet++)
+        if (listed < DESK_LISTED)
+            listed += list_sheet(card, sheet);
+        else
+            others += library_standing(card, sheet).first != PAGUNLIT_ABSENT;
     if (listed == 0)
         puts("  no sheet: all are Absent");
+    if (others > 0)
+        printf("  and %d more: `standing SHEET` tells of each\n", others);
 }
 
 void draw_grid(desk_card *card)

@@ -24,13 +24,22 @@ static void remember(desk *d, const char *line)
         d->linecount++;
 }
 
+/* What stands before each line: who makes the calls, where it is not the pharmacist. */
+static const char *prompt(const desk *d)
+{
+    static char text[24];
+
+    snprintf(text, sizeof text, "%s> ", d->card.role == PAGUNLIT_PHARMACIST ? "" : role_name(d->card.role));
+    return text;
+}
+
 /* A comment that is read aloud, or a command, as a script has it. */
-static void echo(const char *line)
+static void echo(const desk *d, const char *line)
 {
     if (line[0] == '#')
         printf("%s\n", line[1] == ' ' ? line + 2 : line + 1);
     else if (line[0])
-        printf("> %s\n", line);
+        printf("%s%s\n", prompt(d), line);
     else
         putchar('\n');
 }
@@ -39,26 +48,11 @@ static void run_line(desk *d, char *line)
 {
     d->number++;
     if (d->echo)
-        echo(line);
+        echo(d, line);
     command_run(d, line);
     if (line[strspn(line, " \t")] && line[0] != '#')
         remember(d, line);
     fflush(stdout);
-}
-
-/* What somebody who types sees before each line: who makes the calls. */
-static const char *prompt(const desk *d)
-{
-    switch (d->card.role) {
-    case PAGUNLIT_CARER:
-        return "carer> ";
-    case PAGUNLIT_SERVICE:
-        return "service> ";
-    case PAGUNLIT_PHARMACIST:
-        return "pharmacist> ";
-    default:
-        return "nobody> ";
-    }
 }
 
 /* The next line without its end, or 0. One with a zero byte in it is no text, and is made one that is refused as such. */

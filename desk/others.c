@@ -45,34 +45,6 @@ COMMAND(limit)
         printf("Wing %u may hold %u blocks.\n", wing, limit);
 }
 
-/* A role by its name or its number. Any number is one that can be asked for: the library turns away those that are none. */
-static int role_named(const char *word, uint32_t *role)
-{
-    static const char *const names[] = {"", "pharmacist", "carer", "service"};
-
-    for (*role = PAGUNLIT_PHARMACIST; *role <= PAGUNLIT_SERVICE; ++*role)
-        if (strcmp(word, names[*role]) == 0)
-            return 1;
-    return read_number(word, role);
-}
-
-COMMAND(role)
-{
-    uint32_t role = d->card.role;
-
-    if (words->count > 2) {
-        command_usage(d, words);
-        return;
-    }
-    if (words->count == 2 && !role_named(words->word[1], &role)) {
-        desk_wrong(d, "`%.40s` is no role: there are pharmacist, carer and service.", words->word[1]);
-        return;
-    }
-    d->card.role = role;
-    printf("The calls are made in role %u. A pharmacist (1) may make all of them; a carer (2) the dated show, standing and"
-           " survey; service (3) fresh, save, load, close, standing and survey.\n", role);
-}
-
 COMMAND(card)
 {
     if (words->count != 1) {

@@ -105,7 +105,9 @@ static void write_count(desk *d, uint32_t sheet, uint32_t place, uint32_t which,
         put(d, sheet, place, payload);
         return;
     }
-    begin(d, CALL_WRITE_COUNT, sheet, place)->outcome.number = number;
+    desk_said *said = begin(d, CALL_WRITE_COUNT, sheet, place);
+    said->start = which;
+    said->outcome.number = number;
     answer(d);
 }
 
