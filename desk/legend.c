@@ -39,7 +39,7 @@ static int sheet_at(const desk_picture *p, desk_card *card, uint32_t sheet, doub
     if (said.number != PAGUNLIT_DONE)
         snprintf(text, sizeof text, "%u: refused, %u", sheet, said.number);
     else if (said.third == 0)
-        snprintf(text, sizeof text, "%u %s", sheet, draw_standing(said.first));
+        snprintf(text, sizeof text, "%u %s, no blocks", sheet, draw_standing(said.first));
     else
         snprintf(text, sizeof text, "%u %s, %u to %u", sheet, draw_standing(said.first), said.second,
                  said.second + said.third - 1);
@@ -47,18 +47,39 @@ static int sheet_at(const desk_picture *p, desk_card *card, uint32_t sheet, doub
     return 1;
 }
 
+static void remark(const desk_picture *p, double x, double y, const char *text)
+{
+    fprintf(p->file, "<text x=\"%.2f\" y=\"%.2f\" font-size=\"13\">%s</text>\n", x, y + 13, text);
+}
+
+/* The first sheets that are not Absent, in columns, and how many more there are. A role that may not ask how they stand gets
+ * the refusal. */
+static void sheets_of(const desk_picture *p, desk_card *card, double x, double y)
+{
+    uint32_t listed = 0, others = 0;
+    char text[80];
+
+    if (library_standing(card, 0).number == PAGUNLIT_TURNED_AWAY) {
+        remark(p, x, y, "refused, 21: this role may not ask how they stand");
+        return;
+    }
+    for (uint32_t sheet = 0; sheet < card->cataloguelen; sheet++)
+        if (listed < LISTED)
+            listed += (uint32_t)sheet_at(p, card, sheet, x + COLUMN * (listed / LINES), y + LINE * (listed % LINES));
+        else
+            others += library_standing(card, sheet).first != PAGUNLIT_ABSENT;
+    snprintf(text, sizeof text, "and %u more: the number of each stands on it where there is room", others);
+    if (others > 0)
+        remark(p, x, y + LINE * LINES, text);
+}
+
 void picture_legend(const desk_picture *p, desk_card *card)
 {
     double top = p->depth - PICTURE_LEGEND + 40;
-    uint32_t listed = 0, sheet = 0;
 
     fprintf(p->file, "<text x=\"20\" y=\"%.2f\" font-size=\"14\" font-weight=\"bold\">Marks</text>\n", top - 12);
     fprintf(p->file, "<text x=\"%d\" y=\"%.2f\" font-size=\"14\" font-weight=\"bold\">Sheets, by number</text>\n",
             20 + COLUMN + 10, top - 12);
     meanings(p, top);
-    for (; sheet < card->cataloguelen && listed < LISTED; sheet++)
-        listed += (uint32_t)sheet_at(p, card, sheet, 20 + COLUMN * (1 + listed / LINES) + 10, top + LINE * (listed % LINES));
-    if (listed == LISTED && sheet < card->cataloguelen)
-        fprintf(p->file, "<text x=\"%d\" y=\"%.2f\" font-size=\"13\">and others: the number of each stands on it where there is"
-                " room</text>\n", 20 + COLUMN + 10, top + LINE * LINES + 14);
+    sheets_of(p, card, 20 + COLUMN + 10, top);
 }

@@ -7,11 +7,11 @@
 #include <stdlib.h>
 #include <string.h>
 
-/* Eight steps of brightness, from #2A1A6E to #F5EB6B, in an order in which neighbours differ most. */
+/* Eight equal steps of brightness, from #2C0C76 to #EEF26A, in an order in which neighbours are three steps apart or more. */
 static const desk_look colours[] = {
-    {"#00659E", "#FFFFFF", NULL, 0, 0}, {"#F5EB6B", "#000000", NULL, 0, 0}, {"#2A1A6E", "#FFFFFF", NULL, 0, 0},
-    {"#F0AE1A", "#000000", NULL, 0, 0}, {"#00946B", "#FFFFFF", NULL, 0, 0}, {"#A5D8F3", "#000000", NULL, 0, 0},
-    {"#D5651F", "#000000", NULL, 0, 0}, {"#CC79A7", "#000000", NULL, 0, 0},
+    {"#2C0C76", "#FFFFFF", NULL, 0, 0}, {"#E07728", "#000000", NULL, 0, 0}, {"#7A2410", "#FFFFFF", NULL, 0, 0},
+    {"#D69AF0", "#000000", NULL, 0, 0}, {"#5D4FA6", "#FFFFFF", NULL, 0, 0}, {"#7ADCC4", "#000000", NULL, 0, 0},
+    {"#128762", "#FFFFFF", NULL, 0, 0}, {"#EEF26A", "#000000", NULL, 0, 0},
 };
 static const desk_look nobody = {"#FFFFFF", "#444444", NULL, 0, 1};
 static const desk_look wrong = {"#000000", "#FFFFFF", "url(#wrong)", 0, 0};
@@ -53,9 +53,11 @@ void picture_box(const desk_picture *p, double x, double y, double width, double
         snprintf(how, sizeof how, "fill=\"%s\"", look.fill);
         rectangle(p, x, y, width, height, how);
     }
-    snprintf(how, sizeof how, "fill=\"%s\" stroke=\"#000000\" stroke-width=\"%s\"%s", look.over ? look.over : look.fill,
-             width < 6 ? "0.3" : "1.5", look.dashed && width >= 6 ? " stroke-dasharray=\"4 3\"" : "");
+    snprintf(how, sizeof how, "fill=\"%s\" stroke=\"#000000\" stroke-width=\"%s\"", look.over ? look.over : look.fill,
+             width < 6 ? "0.3" : "1.5");
     rectangle(p, x, y, width, height, how);
+    if (look.dashed && width >= 6) /* white on black, so that dashes are seen on a dark colour too */
+        rectangle(p, x, y, width, height, "fill=\"none\" stroke=\"#FFFFFF\" stroke-width=\"1.5\" stroke-dasharray=\"4 4\"");
 }
 
 /* Letters on a part of a run. On a pattern they get a plain ground. */
