@@ -1,13 +1,14 @@
 //! A random script for the console (desk/), with an `expect` line behind every call: what the ledger answers to it, what is
 //! shown, and who holds each block then.
 
-use crate::blocks::{figures, FREE};
+use crate::blocks::{figures, survey, FREE};
 use crate::calendar::date;
 use crate::call::{accept, call, dated, orders, placed, Call, Kind, Limits, LARGEST};
 use crate::card::Answer::{self, *};
 use crate::card::{wing_of, Entry};
 use crate::ledger::Ledger;
 use crate::random::Random;
+use crate::roles::{may, CARER, PHARMACIST, SERVICE, UNKNOWN};
 use crate::rows::Row;
 use std::fmt::Write;
 
@@ -19,6 +20,7 @@ struct Script {
     n: usize,
     c: usize,
     limits: Limits,
+    role: u32,
     text: String,
 }
 
@@ -31,6 +33,7 @@ pub fn script(seed: u64) -> String {
         n,
         c,
         limits: LARGEST,
+        role: PHARMACIST,
         text: format!("fresh {n} {c}\nexpect 0 0 0 0\n"),
         random,
     };
@@ -44,18 +47,71 @@ pub fn script(seed: u64) -> String {
 }
 
 impl Script {
-    /// A call, and what has to come of it.
+    /// A call, and what has to come of it. Now and then a limit or who makes the calls is changed before it.
     fn step(&mut self) {
         if self.random.chance(1, 20) {
             self.limit();
         }
+        let of = if self.role == PHARMACIST { 16 } else { 4 };
+        if self.random.chance(1, of) {
+            self.change_role();
+        }
+        match self.random.within(0, 24) {
+            0 => self.survey(),
+            1 => self.save_and_load(),
+            _ => self.list_call(),
+        }
+        let letters = self.letters();
+        writeln!(self.text, "expect card {letters}").unwrap();
+    }
+
+    /// Somebody else makes the calls from here on.
+    fn change_role(&mut self) {
+        let unknown = self.random.one(UNKNOWN);
+        let roles = [PHARMACIST, PHARMACIST, CARER, CARER, SERVICE, unknown];
+        self.role = self.random.one(&roles);
+        let name = match self.role {
+            PHARMACIST => "pharmacist".to_string(),
+            CARER => "carer".to_string(),
+            SERVICE => "service".to_string(),
+            number => number.to_string(),
+        };
+        writeln!(self.text, "role {name}").unwrap();
+    }
+
+    /// The answer of a call that is no member of a list, if the role may make it.
+    fn answered(&self, call: &str, answer: Answer) -> Answer {
+        match may(self.role, call) {
+            true => answer,
+            false => Refused(21),
+        }
+    }
+
+    fn survey(&mut self) {
+        let counts = survey(&self.ledger.map(), self.n);
+        let answer = Counted(counts.free, counts.runs, counts.longest);
+        let expected = expect(&self.answered("survey", answer));
+        writeln!(self.text, "survey\n{expected}").unwrap();
+    }
+
+    /// What was just saved is loaded, and leaves all as it was.
+    fn save_and_load(&mut self) {
+        let saved = self.answered("save", Done);
+        writeln!(self.text, "save\n{}", expect(&saved)).unwrap();
+        if saved == Done {
+            writeln!(self.text, "load\n{}", expect(&Done)).unwrap();
+        }
+    }
+
+    /// A call of a list.
+    fn list_call(&mut self) {
         let text = format!("line {}", self.random.within(0, 1000));
         let call = self.call();
         let kind = call.kind;
         let mut slice = payload_of(if kind == Kind::Put { &text } else { "" }, 0);
         let line = if self.is_term(call) {
             slice = payload_of(&text, 8);
-            let [first, last] = [0, 8].map(|_| self.random.within(9700, 9800) as u32);
+            let (first, last) = self.term();
             slice[..4].copy_from_slice(&first.to_be_bytes());
             slice[4..8].copy_from_slice(&last.to_be_bytes());
             format!("term {} {first} {last} {text}", call.sheet)
@@ -64,16 +120,29 @@ impl Script {
         };
         let answer = self.ledger.call(call, &mut slice).unwrap();
         self.text += &format!("{line}\n{}\n", expect(&answer));
-        if kind == Kind::Show && answer == Done {
-            self.text += &format!("expect shown {}\n", shown(&slice));
+        let from = match kind {
+            Kind::Show => Some(0),
+            Kind::ShowDated if call.number == 0 => Some(8),
+            Kind::ShowDated => Some(0),
+            _ => None,
+        };
+        if let (Some(from), Done) = (from, answer) {
+            self.text += &format!("expect shown {}\n", shown(&slice[from..]));
         }
-        let letters = self.letters();
-        writeln!(self.text, "expect card {letters}").unwrap();
     }
 
     /// Some puts to place 0 bring a term.
     fn is_term(&mut self, call: Call) -> bool {
         call.kind == Kind::Put && call.number == 0 && self.random.chance(1, 2)
+    }
+
+    /// Two days in July to October 2026, now and then the first after the last.
+    fn term(&mut self) -> (u32, u32) {
+        let [one, other] = [0, 8].map(|_| self.random.within(9700, 9800) as u32);
+        match self.random.chance(1, 8) {
+            true => (one.max(other), one.min(other)),
+            false => (one.min(other), one.max(other)),
+        }
     }
 
     /// The limit of wing 0 changes: all sheets of so short a catalogue are of this wing.
@@ -85,15 +154,18 @@ impl Script {
 
     /// Any call with any numbers, or one that the sheet admits as the ledger has it.
     fn call(&mut self) -> Call {
-        let sheet = self.random.within(0, self.c) as u32;
+        let sheet = match self.role {
+            CARER => self.shown_sheet(),
+            _ => self.random.within(0, self.c) as u32,
+        };
         let call = match self.random.chance(1, 3) {
             true => self.any_call(),
             false => self.likely_call(sheet),
         };
-        call.with_limits(self.limits)
+        call.with_limits(self.limits).by(self.role)
     }
 
-    /// Mostly a sheet is filled and completed, so that there is something to show.
+    /// Mostly a sheet is filled and completed, so that there is something to show. A carer asks for what can be shown.
     fn likely_call(&mut self, sheet: u32) -> Call {
         use Kind::*;
         let entry = self.ledger.entry(sheet as usize);
@@ -110,9 +182,20 @@ impl Script {
         }
     }
 
+    /// A Complete sheet if there is one, else any.
+    fn shown_sheet(&mut self) -> u32 {
+        let sheets = 0..self.c as u32;
+        let complete = sheets.filter(|sheet| self.ledger.entry(*sheet as usize).mark == 0x43);
+        let complete: Vec<u32> = complete.collect();
+        match complete.is_empty() {
+            true => self.random.within(0, self.c) as u32,
+            false => self.random.one(&complete),
+        }
+    }
+
     /// The days of the terms are in July to October 2026.
     fn dated_show(&mut self, sheet: u32, place: u32) -> Call {
-        let month = self.random.one(&[0, 2, 7, 8, 9, 10, 13]);
+        let month = self.random.one(&[0, 2, 7, 8, 8, 8, 9, 9, 9, 10, 13]);
         let day = self.random.within(0, 32) as u32;
         dated(sheet, place, date(2026, month, day))
     }
