@@ -5,11 +5,15 @@
     tests/desk/scripts.py wrong < SCRIPT     the last expected number is another
     tests/desk/scripts.py bytes SEED         commands that damage the card too, and lines of any bytes
     tests/desk/scripts.py large              a card of full size, filled and with gaps
-    tests/desk/scripts.py terminal PROGRAM   runs the console on a terminal, and looks at what it prints
+    tests/desk/scripts.py shown < PAGE       the run of the console that a page of the documents shows
+    tests/desk/scripts.py terminal PROGRAM   runs the console on a terminal, on the lines of a run from standard input, and
+                                             looks whether it prints that run
+    tests/desk/scripts.py edited PROGRAM     edits a line on a terminal, and calls one back
 """
 import os
 import pty
 import random
+import re
 import sys
 
 CHANGING = ('reserve', 'accept', 'grow', 'put', 'term', 'complete', 'pause', 'resume', 'release')
@@ -106,24 +110,60 @@ def large():
     yield 'card'
 
 
-def terminal(program):
-    """What the console prints on a terminal: a prompt, the answer, and no failure for a line that it did not understand."""
+def shown(lines):
+    """The indented lines of the first run on a page, without the line that starts the console."""
+    first = next(i for i, line in enumerate(lines) if line.startswith('    > '))
+    while lines[first - 1].startswith('    '):
+        first -= 1
+    last = next(i for i in range(first, len(lines)) if not lines[i].startswith('    '))
+    return [line[4:] for line in lines[first:last] if not line.startswith('    $ ')]
+
+
+def until_prompt(end, printed):
+    """What the console prints, without what moves a cursor, until it waits for a line or has ended."""
+    while not printed.endswith('> '):
+        try:
+            part = os.read(end, 4096)
+        except OSError:
+            part = b''
+        if not part:
+            break
+        printed = re.sub(r'\x1b\[[0-9;?]*[A-Za-z]|\x1b[=>]|\r', '', printed + part.decode())
+    return printed
+
+
+def on_terminal(program, lines):
+    """All that the console prints on a terminal where these lines are typed, each after its prompt, and its exit status."""
     child, end = pty.fork()
     if child == 0:
+        os.environ['TERM'] = 'dumb'
         os.execv(program, [program])
-    os.write(end, b'fresh 8 4\nreserv 0 3\nreserve 0 3\nquit\n')
-    printed = b''
-    try:
-        while part := os.read(end, 4096):
-            printed += part
-    except OSError:
-        pass
-    status = os.waitstatus_to_exitcode(os.waitpid(child, 0)[1])
-    for wanted in (b'A card at a desk', b'Is it `reserve`?', b'[000.....]'):
-        if wanted not in printed:
-            sys.exit(f'on a terminal the console did not print {wanted!r}, but {printed!r}')
-    if status != 0:
-        sys.exit(f'on a terminal the console ended with {status}')
+    printed = until_prompt(end, '')
+    for line in [*lines, 'quit']:
+        os.write(end, line.encode() + b'\n')
+        printed += until_prompt(end, '')
+    os.close(end)
+    return printed, os.waitstatus_to_exitcode(os.waitpid(child, 0)[1])
+
+
+def terminal(program, run):
+    """A wrong line is answered with a hint and is no failure there."""
+    typed = [line[2:] for line in run if line.startswith('> ')]
+    printed, status = on_terminal(program, typed + ['reserv 0 3'])
+    wanted = '\n'.join(run) + '\n'
+    if not printed.startswith(wanted):
+        sys.exit(f'on a terminal the console printed\n{printed}\nand not first\n{wanted}')
+    if 'Is it `reserve`?' not in printed or status != 0:
+        sys.exit(f'on a terminal the console printed {printed!r} and ended with {status}')
+
+
+def edited(program):
+    """A letter is deleted in the middle of a line, and the line before is called back, with another number at its end."""
+    back, left, delete = '\x1b[A', '\x1b[D', '\x7f'
+    printed, status = on_terminal(program, ['fresh 8 4', 'reserrve 0 3' + left * 6 + delete, back + delete + '4', 'role carer'])
+    for wanted in ('[000.....]', 'refused, 7: sheet 0 is Open', 'carer> '):
+        if wanted not in printed or status != 0:
+            sys.exit(f'on a terminal the console did not print {wanted!r}, but {printed!r}, and ended with {status}')
 
 
 def main(words):
@@ -135,8 +175,12 @@ def main(words):
         sys.stdout.buffer.write(random_bytes(int(words[1])))
     elif words[:1] == ['large']:
         print('\n'.join(large()))
+    elif words[:1] == ['shown']:
+        print('\n'.join(shown(sys.stdin.read().splitlines())))
     elif words[:1] == ['terminal'] and len(words) == 2:
-        terminal(words[1])
+        terminal(words[1], sys.stdin.read().splitlines())
+    elif words[:1] == ['edited'] and len(words) == 2:
+        edited(words[1])
     else:
         sys.exit(__doc__)
 
