@@ -24,14 +24,14 @@ use Rattle.ledger.specs.Steps.{endOf, Response, responseOf, stateOn}
 use Rattle.ledger.proofs.Contracts.{leaving, close-step}
 use Rattle.ledger_roles.specs.Made.{Made, passes, broughtBy, turnedEnd, StepFor}
 
-abbrev made : ℕ → Call → Made
+abbrev pub made : ℕ → Call → Made
 made role c = record { role = role; call = c }
 
-abbrev replying : Outcome → List ℕ → Response
+abbrev pub replying : Outcome → List ℕ → Response
 replying r buffer = record { answer = r .answer; buffer = buffer }
 
 -- what is not changed is the same, whether the call passes or not
-either-way : {A : Type 0} (b : Bool) (x : A) → x ≡ cond b x x
+pub either-way : {A : Type 0} (b : Bool) (x : A) → x ≡ cond b x x
 either-way true x = refl
 either-way false x = refl
 

@@ -2,4 +2,5 @@
 pub mod Lists
 pub mod Service
 pub mod Contracts
+pub mod SummarySteps
 pub mod Carers

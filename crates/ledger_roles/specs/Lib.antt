@@ -1,5 +1,6 @@
 -- What is claimed of lists of calls with roles.
 pub mod Made
+pub mod SummarySteps
 pub mod Claims
 pub mod Service
 pub mod Carers
