@@ -1,6 +1,7 @@
 /* The commands by their names, help, and what is said of a line that is none of them. */
 #include "desk.h"
 
+#include <ctype.h>
 #include <stdarg.h>
 #include <stdio.h>
 #include <string.h>
@@ -71,11 +72,16 @@ void desk_wrong(desk *d, const char *format, ...)
     d->failed |= !d->terminal;
 }
 
+static const char *space_before(const char *arguments)
+{
+    return arguments[0] ? " " : "";
+}
+
 int command_usage(desk *d, const desk_words *words)
 {
     const desk_command *command = command_named(words->word[0]);
 
-    desk_wrong(d, "It is used as: %s %s", command->name, command->arguments);
+    desk_wrong(d, "It is used as: %s%s%s", command->name, space_before(command->arguments), command->arguments);
     return 0;
 }
 
@@ -97,7 +103,7 @@ static void help_one(desk *d, const char *name)
         desk_wrong(d, "There is no command `%.40s`. `help` lists them.", name);
         return;
     }
-    printf("%s %s\n  %s\n", command->name, command->arguments, command->text);
+    printf("%s%s%s\n  %s\n", command->name, space_before(command->arguments), command->arguments, command->text);
     if (command->call == CALLS)
         return;
     puts("  What can refuse it; the first that holds is the answer:");
@@ -124,7 +130,8 @@ static size_t least(size_t a, size_t b, size_t c)
     return ab < c ? ab : c;
 }
 
-/* How many letters have to be added, left out or changed to make one word of another. Long words are nothing alike. */
+/* How many letters have to be added, left out or changed to make a command's name of a word. Capitals are no difference, and
+ * long words are nothing alike. */
 static size_t unlike(const char *a, const char *b)
 {
     enum { LONGEST = 24 };
@@ -141,7 +148,7 @@ static size_t unlike(const char *a, const char *b)
         for (size_t j = 1; j <= n; j++) {
             size_t above = row[j];
 
-            row[j] = least(above + 1, row[j - 1] + 1, before + (a[i - 1] != b[j - 1]));
+            row[j] = least(above + 1, row[j - 1] + 1, before + (tolower((unsigned char)a[i - 1]) != b[j - 1]));
             before = above;
         }
     }

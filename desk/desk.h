@@ -18,6 +18,8 @@ typedef struct {
     int whole; /* `was` has its bytes too: another card was put in */
     desk_block *blocks;
     size_t count;
+    size_t image; /* which image was damaged, by its number, at which byte; or 0 */
+    uint32_t byte;
     char *line;
 } desk_step;
 
@@ -29,6 +31,7 @@ typedef struct {
     desk_said offer;             /* the last offer that was made, for an accept without arguments */
     uint8_t *image;              /* the image that save wrote or load read last */
     size_t imagelen;
+    size_t images;               /* how many there were, and so the number of the last */
     desk_step steps[DESK_STEPS]; /* the oldest first */
     size_t taken;
     desk_step step;              /* of the command at hand */

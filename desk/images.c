@@ -22,6 +22,7 @@ static void keep_image(desk *d, uint8_t *image, size_t imagelen)
     free(d->image);
     d->image = image;
     d->imagelen = imagelen;
+    d->images++;
 }
 
 static void write_file(desk *d, const char *name)
@@ -196,6 +197,8 @@ static void break_image(desk *d, uint32_t byte)
         return;
     }
     d->image[byte] ^= 1;
+    d->step.image = d->images;
+    d->step.byte = byte;
     printf("Byte %u of the saved image has changed. The card is as it was.\n", byte);
 }
 

@@ -51,10 +51,13 @@ COMMAND(card)
         command_usage(d, words);
         return;
     }
+    if (card_blocks(&d->card) == 0) {
+        puts("There is no card yet: `fresh 8 4` makes one.");
+        return;
+    }
     printf("A card of %u blocks and %zu sheets, %u of its blocks free.\n", d->card.shape.blocks, d->card.cataloguelen,
            d->card.shape.free);
-    if (card_blocks(&d->card) > 0)
-        draw_grid(&d->card);
+    draw_grid(&d->card);
 }
 
 COMMAND(picture)

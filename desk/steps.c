@@ -73,7 +73,7 @@ static int nothing_changed(const desk *d)
 {
     const desk_card *now = &d->card, *was = &d->step.was;
 
-    return !d->step.whole && d->step.count == 0 && now->cataloguelen == was->cataloguelen &&
+    return !d->step.whole && d->step.count == 0 && d->step.image == 0 && now->cataloguelen == was->cataloguelen &&
            now->shape.blocks == was->shape.blocks &&
            now->shape.free == was->shape.free && now->role == was->role && now->with_summary == was->with_summary &&
            now->broken == was->broken && same(now->limits, was->limits, PAGUNLIT_WINGS, sizeof *now->limits) &&
@@ -112,6 +112,13 @@ void steps_end(desk *d)
         forget_oldest(d);
 }
 
+/* The damage to an image taken back, unless another was saved or loaded since. */
+static void restore_image(desk *d, const desk_step *step)
+{
+    if (step->image > 0 && step->image == d->images)
+        d->image[step->byte] ^= 1;
+}
+
 /* The blocks of a step as they were, on the card at hand. */
 static void restore_blocks(desk *d, const desk_step *step)
 {
@@ -140,6 +147,7 @@ void steps_undo(desk *d)
     card_free(&d->card);
     d->card = step->was;
     memset(&step->was, 0, sizeof step->was);
+    restore_image(d, step);
     printf("undone: %s\n", step->line);
     step_free(step);
 }
