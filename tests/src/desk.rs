@@ -1,7 +1,7 @@
 //! A random script for the console (desk/), with an `expect` line behind every call: what the ledger answers to it, what is
 //! shown, and who holds each block then.
 
-use crate::blocks::{figures, survey, FREE};
+use crate::blocks::{figures, least_fit, plain, space, survey, FREE};
 use crate::calendar::date;
 use crate::call::{accept, call, dated, orders, placed, Call, Kind, Limits, LARGEST};
 use crate::card::Answer::{self, *};
@@ -56,9 +56,12 @@ impl Script {
         if self.random.chance(1, of) {
             self.change_role();
         }
-        match self.random.within(0, 24) {
+        match self.random.within(0, 30) {
             0 => self.survey(),
-            1 => self.save_and_load(),
+            1 => self.search(),
+            2 => self.save_and_load(),
+            3 => self.summary(),
+            4 => self.fresh(),
             _ => self.list_call(),
         }
         let letters = self.letters();
@@ -92,6 +95,37 @@ impl Script {
         let answer = Counted(counts.free, counts.runs, counts.longest);
         let expected = expect(&self.answered("survey", answer));
         writeln!(self.text, "survey\n{expected}").unwrap();
+    }
+
+    fn search(&mut self) {
+        let (map, k) = (self.ledger.map(), self.random.within(0, self.n + 2));
+        let answer = match least_fit(&map, plain(self.n), k) {
+            _ if k == 0 => Refused(3),
+            Some(start) => Start(start, space(&map, start)),
+            None => Refused(10),
+        };
+        let expected = expect(&self.answered("search", answer));
+        writeln!(self.text, "search {k}\n{expected}").unwrap();
+    }
+
+    /// A summary that was just built is the map's own.
+    fn summary(&mut self) {
+        let built = expect(&self.answered("summary-build", Done));
+        let checked = expect(&self.answered("summary-check", Own(true)));
+        writeln!(self.text, "summary on\n{built}\nsummary check\n{checked}").unwrap();
+    }
+
+    /// The card is made anew, seldom by who may.
+    fn fresh(&mut self) {
+        let answer = self.answered("fresh", Done);
+        if answer == Done && !self.random.chance(1, 4) {
+            return;
+        }
+        if answer == Done {
+            self.ledger = Ledger::fresh(self.n, self.c);
+        }
+        let expected = expect(&answer);
+        writeln!(self.text, "fresh {} {}\n{expected}", self.n, self.c).unwrap();
     }
 
     /// What was just saved is loaded, and leaves all as it was.
