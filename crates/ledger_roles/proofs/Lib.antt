@@ -4,3 +4,4 @@ pub mod Service
 pub mod Contracts
 pub mod SummarySteps
 pub mod Carers
+pub mod EveryCarersCall

@@ -1,4 +1,5 @@
 -- What is claimed of lists of calls with roles.
+pub mod PublicCalls
 pub mod Made
 pub mod SummarySteps
 pub mod Claims
