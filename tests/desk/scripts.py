@@ -15,6 +15,8 @@ import pty
 import random
 import re
 import sys
+import termios
+import time
 
 CHANGING = ('reserve', 'accept', 'grow', 'put', 'term', 'complete', 'pause', 'resume', 'release')
 NAMES = ('fresh reserve put term count complete show grow pause resume release offer accept standing search survey close save '
@@ -119,29 +121,39 @@ def shown(lines):
     return [line[4:] for line in lines[first:last] if not line.startswith('    $ ')]
 
 
-def until_prompt(end, printed):
-    """What the console prints, without what moves a cursor, until it waits for a line or has ended."""
-    while not printed.endswith('> '):
+def has_libedit(program):
+    with open(program, 'rb') as f:
+        return b'libedit' in f.read()
+
+
+def until_prompt(end, edits):
+    """What the console prints, without what moves a cursor, until it waits for a line or has ended. libedit prints its prompt
+    before it takes the echo over from the terminal: what is typed in between would be seen twice."""
+    printed = ''
+    while not re.search(r'\n([a-z]+( [0-9]+)?)?> $', printed):
         try:
             part = os.read(end, 4096)
         except OSError:
             part = b''
         if not part:
-            break
+            return printed
         printed = re.sub(r'\x1b\[[0-9;?]*[A-Za-z]|\x1b[=>]|\r', '', printed + part.decode())
+    while edits and termios.tcgetattr(end)[3] & termios.ECHO:
+        time.sleep(0.01)
     return printed
 
 
 def on_terminal(program, lines):
     """All that the console prints on a terminal where these lines are typed, each after its prompt, and its exit status."""
+    edits = has_libedit(program)
     child, end = pty.fork()
     if child == 0:
         os.environ['TERM'] = 'dumb'
         os.execv(program, [program])
-    printed = until_prompt(end, '')
+    printed = until_prompt(end, edits)
     for line in [*lines, 'quit']:
         os.write(end, line.encode() + b'\n')
-        printed += until_prompt(end, '')
+        printed += until_prompt(end, edits)
     os.close(end)
     return printed, os.waitstatus_to_exitcode(os.waitpid(child, 0)[1])
 
