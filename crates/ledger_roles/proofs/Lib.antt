@@ -1,6 +1,7 @@
 -- What is proved of lists of calls with roles.
 pub mod Lists
 pub mod Service
+pub mod Pharmacists
 pub mod Contracts
 pub mod SummarySteps
 pub mod Carers

@@ -4,4 +4,5 @@ pub mod Made
 pub mod SummarySteps
 pub mod Claims
 pub mod Service
+pub mod Pharmacists
 pub mod Carers

@@ -1,6 +1,6 @@
 -- The public calls that are lent a summary are steps of a list with roles and a summary (document 02, requests (j) and (n)):
--- what the contract of such a call says, whoever makes it, is the step that the list takes (`StepByFor`, Made.antt). A call that
--- has no form with a summary takes the step of a list without one, and leaves the summary as it was. That it holds is
+-- what the contract of such a call says, whoever makes it, is the step that the list takes (`StepByFor`, Made.antt). A call
+-- that has no form with a summary takes the step of a list without one, and leaves the summary as it was. That it holds is
 -- `steps-with-summary` in proofs/SummarySteps.antt.
 -- Assumes nothing.
 use Prim.Native.Nat.{ℕ}
