@@ -48,7 +48,8 @@ module _ {R : Type 0} (how : Outcome → R) (s t : Kept) (agree : Agree s t) (a 
       learns-the-same-by-role how s t agree readings.survey (a .buffer) (b .buffer) long r q (bufferOf l) (bufferOf m)
       (g .0, ap bufferOf (g .1)) (h .0, ap bufferOf (h .1))
   by-call (reserve limits sheet k) g h = away (g .0 .0) (h .0 .0) (ap bufferOf (g .1)) (ap bufferOf (h .1))
-  by-call (reservePlaced limits sheet k from before step) g h = away (g .0 .0) (h .0 .0) (ap bufferOf (g .1)) (ap bufferOf (h .1))
+  by-call (reservePlaced limits sheet k from before step) g h =
+      away (g .0 .0) (h .0 .0) (ap bufferOf (g .1)) (ap bufferOf (h .1))
   by-call (offer limits sheet k) g h = away (g .0) (h .0) (ap bufferOf (g .1)) (ap bufferOf (h .1))
   by-call (accept limits sheet start k) g h = away (g .0 .0) (h .0 .0) (ap bufferOf (g .1)) (ap bufferOf (h .1))
   by-call (grow limits sheet k) g h = away (g .0 .0) (h .0 .0) (ap bufferOf (g .1)) (ap bufferOf (h .1))
@@ -70,7 +71,8 @@ module _ {R : Type 0} (how : Outcome → R) (s t : Kept) (agree : Agree s t) (a 
   by-call buildSummary g h = away (g .0 .0) (h .0 .0) (ap bufferOf (g .1)) (ap bufferOf (h .1))
   by-call checkSummary g h = away (g .0) (h .0) (ap bufferOf (g .1)) (ap bufferOf (h .1))
   by-call (reserveBy limits sheet k) g h = away (g .0 .0) (h .0 .0) (ap bufferOf (g .1)) (ap bufferOf (h .1))
-  by-call (reservePlacedBy limits sheet k from before step) g h = away (g .0 .0) (h .0 .0) (ap bufferOf (g .1)) (ap bufferOf (h .1))
+  by-call (reservePlacedBy limits sheet k from before step) g h =
+      away (g .0 .0) (h .0 .0) (ap bufferOf (g .1)) (ap bufferOf (h .1))
   by-call (acceptBy limits sheet start k) g h = away (g .0 .0) (h .0 .0) (ap bufferOf (g .1)) (ap bufferOf (h .1))
   by-call (growBy limits sheet k) g h = away (g .0 .0) (h .0 .0) (ap bufferOf (g .1)) (ap bufferOf (h .1))
   by-call (releaseBy sheet) g h = away (g .0 .0) (h .0 .0) (ap bufferOf (g .1)) (ap bufferOf (h .1))
@@ -81,16 +83,16 @@ every-call-learns-the-same how s t agree c a b long r q l m g h = by-call how s 
 
 -- ---- nothing is changed
 
-abbrev shapeOf : Outcome → Shape
+abbrev pub shapeOf : Outcome → Shape
 shapeOf r = r .shape
 
-abbrev mapIn : Left → List ℕ
+abbrev pub mapIn : Left → List ℕ
 mapIn l = l .map
 
-abbrev entriesIn : Left → List Entry
+abbrev pub entriesIn : Left → List Entry
 entriesIn l = l .entries
 
-abbrev cardIn : Left → List ℕ
+abbrev pub cardIn : Left → List ℕ
 cardIn l = l .card
 
 abbrev imageIn : Left → List ℕ

@@ -1,5 +1,5 @@
--- What is the same for a pharmacist as before there were roles (document 02, request (n): "Role 1, pharmacist: every call"): the
--- lists of calls, their answers and the ledger; and where a list starts. That it holds is `same-lists` and `starts` in
+-- What is the same for a pharmacist as before there were roles (document 02, request (n): "Role 1, pharmacist: every call"):
+-- the lists of calls, their answers and the ledger; and where a list starts. That it holds is `same-lists` and `starts` in
 -- proofs/Pharmacists.antt.
 -- Assumes nothing.
 use Prim.Native.Nat.{ℕ}
