@@ -7,5 +7,6 @@ pub mod Pharmacists
 pub mod Contracts
 pub mod SummarySteps
 pub mod Carers
+pub mod TurnedAway
 pub mod EveryCarersCall
 pub mod ServiceLists

@@ -1,5 +1,5 @@
--- Every list of public calls that service makes, but fresh and load: every sheet that stands Complete shows what it showed, from
--- any state. What specs/Service.antt claims of it.
+-- Every list of public calls that service makes, but fresh and load: every sheet that stands Complete shows what it showed,
+-- from any state. What specs/Service.antt claims of it.
 -- Assumes nothing.
 use Prim.Native.Nat.{ℕ, _<_}
 use mathlib.Core.Path.{_≡_, refl, sym, ap, subst, _∙_}
@@ -9,14 +9,12 @@ use lib.ListN.{length}
 use Rattle.calendar.specs.Calendar.{dateOf}
 use Rattle.roles.specs.Roles as roles
 use Rattle.roles.specs.Roles.{may, serviceMay, service}
-use Rattle.catalogue.specs.declared.Entry.{Entry}
 use Rattle.catalogue_standings.specs.Rows.{Verdict, accepted, refused}
 use Rattle.catalogue_standings.specs.declared.Standing.the-variants.{Complete}
 use Rattle.card.specs.Calls.{Kept, kept, showOutcome, showBuffer, showDatedOutcome, showDatedBuffer}
 use Rattle.card.specs.Closings.{closeOutcomeBy, closeMapBy, closeEntriesBy, closeCardBy}
 use Rattle.card.specs.Contracts.{itself}
 use Rattle.card.specs.declared.Outcome.{Outcome}
-use Rattle.card.specs.declared.Shape.{Shape}
 use Rattle.card.proofs.Closings.{verdictBy, close-refused, close-accepted}
 use Rattle.role_calls.specs.Turned.{turnedAway}
 use Rattle.carers.specs.Learning.{stands}
@@ -24,11 +22,12 @@ use Rattle.ledger_roles.specs.PublicCalls.{Public, fresh, search, survey
 use Rattle.ledger_roles.specs.PublicCalls.{put, complete, pause, resume, release, show, showDated, standing, save, load}
 use Rattle.ledger_roles.specs.PublicCalls.{close, buildSummary, checkSummary, reserveBy, reservePlacedBy, acceptBy}
 use Rattle.ledger_roles.specs.PublicCalls.{growBy, releaseBy, closeBy, Beside, Left, Ensures, Called, Came, keptThen}
-use Rattle.ledger_roles.specs.PublicCalls.{nameIn, Makes}
+use Rattle.ledger_roles.specs.PublicCalls.{left, nameIn, Makes}
 use Rattle.ledger_roles.specs.Service.{ShowsAsBefore, NeitherFreshNorLoad, ServiceShowsAsBefore}
 use Rattle.ledger_roles.proofs.ClosedSheets.{closedKept, closed-moved}
-use Rattle.ledger_roles.proofs.EveryCarersCall.{shapeOf, mapIn, entriesIn, cardIn}
+use Rattle.ledger_roles.proofs.EveryCarersCall.{shapeOf}
 use Rattle.ledger_roles.proofs.Shown.{Moved, show-same, show-buffer-same, dated-same, dated-buffer-same}
+use Rattle.ledger_roles.proofs.TurnedAway.{mapIn, entriesIn, cardIn, every-call-turned-away}
 
 -- ---- a sheet that stands Complete and shows the same
 
@@ -136,46 +135,47 @@ module _ (s : Kept) (b : Beside) (r : Outcome) (l : Left) where
   same-kept : r .shape ≡ s .shape → l .map ≡ s .map → l .entries ≡ s .entries → l .card ≡ s .card → AllStill s then
   same-kept o m e d = as-it-was s then (λ x. record { shape = o x; map = m x; entries = e x; card = d x })
 
+  -- what was lent by `&` alone
+  read-only : r .shape ≡ s .shape → (beside : Beside) → l ≡ left (s .map) (s .entries) (s .card) beside → AllStill s then
+  read-only o beside e = same-kept o (ap mapIn e) (ap entriesIn e) (ap cardIn e)
+
+  away : (c : Public) → may service (nameIn c) ≡ false → Ensures itself service s b r l c → AllStill s then
+  away c e g =
+      let x = every-call-turned-away itself service s b r l c e g in
+      same-kept (ap shapeOf (x .told)) (x .words) (x .sheets) (x .bytes)
+
   by-call : (c : Public) → (nameIn c ≡ roles.fresh → ⊥) → (nameIn c ≡ roles.load → ⊥) → Ensures itself service s b r l c
       → AllStill s then
   unfolding may serviceMay
   by-call (fresh n) no-fresh no-load g = absurd (no-fresh refl)
-  by-call (search k) no-fresh no-load g =
-      same-kept (ap shapeOf (g .0)) (ap mapIn (g .1)) (ap entriesIn (g .1)) (ap cardIn (g .1))
-  by-call survey no-fresh no-load g = same-kept (ap shapeOf (g .0)) (ap mapIn (g .1)) (ap entriesIn (g .1)) (ap cardIn (g .1))
-  by-call (reserve limits sheet k) no-fresh no-load g = same-kept (ap shapeOf (g .0 .0)) (g .0 .1) (g .0 .2) (g .0 .3)
+  by-call (search k) no-fresh no-load g = away (search k) refl g
+  by-call survey no-fresh no-load g = read-only (ap shapeOf (g .0)) b (g .1)
+  by-call (reserve limits sheet k) no-fresh no-load g = away (reserve limits sheet k) refl g
   by-call (reservePlaced limits sheet k from before step) no-fresh no-load g =
-      same-kept (ap shapeOf (g .0 .0)) (g .0 .1) (g .0 .2) (g .0 .3)
-  by-call (offer limits sheet k) no-fresh no-load g =
-      same-kept (ap shapeOf (g .0)) (ap mapIn (g .1)) (ap entriesIn (g .1)) (ap cardIn (g .1))
-  by-call (accept limits sheet start k) no-fresh no-load g = same-kept (ap shapeOf (g .0 .0)) (g .0 .1) (g .0 .2) (g .0 .3)
-  by-call (grow limits sheet k) no-fresh no-load g = same-kept (ap shapeOf (g .0 .0)) (g .0 .1) (g .0 .2) (g .0 .3)
-  by-call (put sheet place payload) no-fresh no-load g =
-      same-kept (ap shapeOf (g .0 .0)) (ap mapIn (g .1)) (ap entriesIn (g .1)) (g .0 .1)
-  by-call (complete sheet) no-fresh no-load g = same-kept (ap shapeOf (g .0 .0)) (ap mapIn (g .1)) (g .0 .1) (ap cardIn (g .1))
-  by-call (pause sheet) no-fresh no-load g = same-kept (ap shapeOf (g .0 .0)) (ap mapIn (g .1)) (g .0 .1) (ap cardIn (g .1))
-  by-call (resume sheet) no-fresh no-load g = same-kept (ap shapeOf (g .0 .0)) (ap mapIn (g .1)) (g .0 .1) (ap cardIn (g .1))
-  by-call (release sheet) no-fresh no-load g = same-kept (ap shapeOf (g .0 .0)) (g .0 .1) (g .0 .2) (ap cardIn (g .1))
-  by-call (show sheet place) no-fresh no-load g =
-      same-kept (ap shapeOf (g .0 .0)) (ap mapIn (g .1)) (ap entriesIn (g .1)) (ap cardIn (g .1))
-  by-call (showDated sheet place year month day) no-fresh no-load g =
-      same-kept (ap shapeOf (g .0 .0)) (ap mapIn (g .1)) (ap entriesIn (g .1)) (ap cardIn (g .1))
-  by-call (standing sheet) no-fresh no-load g =
-      same-kept (ap shapeOf (g .0)) (ap mapIn (g .1)) (ap entriesIn (g .1)) (ap cardIn (g .1))
-  by-call save no-fresh no-load g = same-kept (ap shapeOf (g .0 .0)) (ap mapIn (g .1)) (ap entriesIn (g .1)) (ap cardIn (g .1))
+      away (reservePlaced limits sheet k from before step) refl g
+  by-call (offer limits sheet k) no-fresh no-load g = away (offer limits sheet k) refl g
+  by-call (accept limits sheet start k) no-fresh no-load g = away (accept limits sheet start k) refl g
+  by-call (grow limits sheet k) no-fresh no-load g = away (grow limits sheet k) refl g
+  by-call (put sheet place payload) no-fresh no-load g = away (put sheet place payload) refl g
+  by-call (complete sheet) no-fresh no-load g = away (complete sheet) refl g
+  by-call (pause sheet) no-fresh no-load g = away (pause sheet) refl g
+  by-call (resume sheet) no-fresh no-load g = away (resume sheet) refl g
+  by-call (release sheet) no-fresh no-load g = away (release sheet) refl g
+  by-call (show sheet place) no-fresh no-load g = away (show sheet place) refl g
+  by-call (showDated sheet place year month day) no-fresh no-load g = away (showDated sheet place year month day) refl g
+  by-call (standing sheet) no-fresh no-load g = read-only (ap shapeOf (g .0)) b (g .1)
+  by-call save no-fresh no-load g = read-only (ap shapeOf (g .0 .0)) _ (g .1)
   by-call (load image) no-fresh no-load g = absurd (no-load refl)
   by-call close no-fresh no-load g =
       closing-stays false [] s (b .scratch) then (ap shapeOf (g .0 .0)) (g .0 .1) (g .0 .2) (g .0 .3)
-  by-call buildSummary no-fresh no-load g =
-      same-kept (ap shapeOf (g .0 .0)) (ap mapIn (g .1)) (ap entriesIn (g .1)) (ap cardIn (g .1))
-  by-call checkSummary no-fresh no-load g =
-      same-kept (ap shapeOf (g .0)) (ap mapIn (g .1)) (ap entriesIn (g .1)) (ap cardIn (g .1))
-  by-call (reserveBy limits sheet k) no-fresh no-load g = same-kept (ap shapeOf (g .0 .0)) (g .0 .1) (g .0 .3) (g .0 .4)
+  by-call buildSummary no-fresh no-load g = away buildSummary refl g
+  by-call checkSummary no-fresh no-load g = away checkSummary refl g
+  by-call (reserveBy limits sheet k) no-fresh no-load g = away (reserveBy limits sheet k) refl g
   by-call (reservePlacedBy limits sheet k from before step) no-fresh no-load g =
-      same-kept (ap shapeOf (g .0 .0)) (g .0 .1) (g .0 .3) (g .0 .4)
-  by-call (acceptBy limits sheet start k) no-fresh no-load g = same-kept (ap shapeOf (g .0 .0)) (g .0 .1) (g .0 .3) (g .0 .4)
-  by-call (growBy limits sheet k) no-fresh no-load g = same-kept (ap shapeOf (g .0 .0)) (g .0 .1) (g .0 .3) (g .0 .4)
-  by-call (releaseBy sheet) no-fresh no-load g = same-kept (ap shapeOf (g .0 .0)) (g .0 .1) (g .0 .3) (ap cardIn (g .1))
+      away (reservePlacedBy limits sheet k from before step) refl g
+  by-call (acceptBy limits sheet start k) no-fresh no-load g = away (acceptBy limits sheet start k) refl g
+  by-call (growBy limits sheet k) no-fresh no-load g = away (growBy limits sheet k) refl g
+  by-call (releaseBy sheet) no-fresh no-load g = away (releaseBy sheet) refl g
   by-call closeBy no-fresh no-load g =
       closing-stays true (b .summary) s (b .scratch) then (ap shapeOf (g .0 .0)) (g .0 .1) (g .0 .3) (g .0 .4)
 
