@@ -8,5 +8,6 @@ pub mod Contracts
 pub mod SummarySteps
 pub mod Carers
 pub mod TurnedAway
+pub mod PublicRuns
 pub mod EveryCarersCall
 pub mod ServiceLists

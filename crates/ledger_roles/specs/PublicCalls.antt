@@ -218,3 +218,8 @@ Makes role s [] (came ∷ more) t = ⊥
 Makes role s (called ∷ calls) [] t = ⊥
 Makes role s (called ∷ calls) (came ∷ more) t =
     Ensures itself role s (called .beside) (came .outcome) (came .left) (called .call) × Makes role (keptThen came) calls more t
+
+-- Every such list has a run: from any state, whatever is beside and whoever calls. So no claim about lists is about none. That
+-- it holds is `every-list-runs` in proofs/PublicRuns.antt.
+abbrev pub EveryListRuns : Type 0
+EveryListRuns = (role : ℕ) (s : Kept) (xs : List Called) → (gs : List Came) × (t : Kept) × Makes role s xs gs t
