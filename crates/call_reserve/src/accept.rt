@@ -2,7 +2,7 @@
 ghost use mathlib.Core.Path.{_≡_};
 ghost use Rattle.refusals.specs.Lent.{lentWithin};
 ghost use Rattle.refusals.specs.Effects.{acceptOut, acceptMap, acceptSummary, acceptCard};
-use crate::take::take;
+use call_take::take;
 use catalogue::Entry;
 use refusals::Out;
 use refusals::refusal;

@@ -2,7 +2,7 @@
 ghost use mathlib.Core.Path.{_≡_};
 ghost use Rattle.refusals.specs.Lent.{lentWithin};
 ghost use Rattle.refusals.specs.Effects.{growOut, growMap, growSummary, growCard};
-use crate::take::occupy;
+use call_take::occupy;
 use catalogue::Entry;
 use catalogue::OPEN;
 use catalogue_standings::Answer;

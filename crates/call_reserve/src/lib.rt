@@ -4,4 +4,3 @@ pub mod accept;
 pub mod grow;
 pub mod offer;
 pub mod reserve;
-pub mod take;

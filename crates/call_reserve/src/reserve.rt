@@ -3,7 +3,7 @@ ghost use mathlib.Core.Path.{_≡_};
 ghost use Rattle.refusals.specs.Lent.{lentWithin};
 ghost use Rattle.refusals.specs.Placement.{placed};
 ghost use Rattle.refusals.specs.Effects.{reserveOut, reserveMap, reserveSummary, reserveCard};
-use crate::take::take;
+use call_take::take;
 use catalogue::Entry;
 use refusals::Figures;
 use refusals::Out;

@@ -1,4 +1,4 @@
--- `call_reserve::take::occupy` meets its contract.
+-- `call_take::occupy` meets its contract.
 -- Assumes nothing.
 use mathlib.Core.Path.{_≡_, sym, ap, subst, _∙_}
 use mathlib.Core.Bool.{true, false}
@@ -10,8 +10,8 @@ use borrow.Author.Needs.{needs}
 use denote.Ref.{now}
 use Rattle.map_blocks.proofs.Maps.{marked-length}
 use Rattle.refusals.specs.Guides.{guideFits, guideAfter}
-use Rattle.call_reserve.proofs.take.occupy.Statement.{statement}
-use Rattle.call_reserve.proofs.take.occupy.Tie as tie
+use Rattle.call_take.proofs.occupy.Statement.{statement}
+use Rattle.call_take.proofs.occupy.Tie as tie
 
 mark-requires : tie.Need-mark-requires
 mark-requires c κs = search needs

@@ -1,4 +1,4 @@
--- `call_reserve::take::take` meets its contract.
+-- `call_take::take` meets its contract.
 -- Assumes nothing.
 use mathlib.Core.Path.{ap}
 use Prim.Native.Nat.{ℕ, _-_}
@@ -6,8 +6,8 @@ use borrow.Author.Needs.{needs}
 use Rattle.catalogue.specs.Entries.{openMark}
 use Rattle.catalogue_standings.specs.declared.Answer.the-variants.{Start}
 use Rattle.refusals.specs.Effects.{entryOf, outOf}
-use Rattle.call_reserve.proofs.take.take.Statement.{statement}
-use Rattle.call_reserve.proofs.take.take.Tie as tie
+use Rattle.call_take.proofs.take.Statement.{statement}
+use Rattle.call_take.proofs.take.Tie as tie
 
 space-requires : tie.Need-space-requires
 space-requires c κs = search needs
