@@ -1,16 +1,11 @@
 // The rulings on the calls that take blocks, reserve, accept and grow: where the blocks start, or the row that refuses the
 // call.
 ghost use mathlib.Core.Path.{_≡_};
-ghost use mathlib.Core.Bool.{true};
-ghost use Prim.Native.Nat.{_+_, _*_, _≤_, _<_};
+ghost use Prim.Native.Nat.{_+_, _*_, _≤_};
 ghost use lib.ListN.{length};
 ghost use Rattle.map_blocks.specs.Blocks;
-ghost use Rattle.map_blocks.specs.Blocks.{fit};
-ghost use Rattle.refusals.specs.Guides.{guideFits, foundBy};
 ghost use Rattle.refusals.specs.Lent.{lentBeside, lentWithin};
-ghost use Rattle.refusals.specs.Placement.{placed, misfigured};
-ghost use Rattle.refusals.specs.Shares.{overLimit};
-ghost use Rattle.catalogue_wings.specs.Wings.{wingOf};
+ghost use Rattle.refusals.specs.Placement.{placed};
 ghost use Rattle.catalogue_standings.specs.Rows.{rowNumber};
 ghost use Rattle.refusals.specs.Effects.{givingVerdict, addingVerdict, runVerdict, reserveVerdict, reserveStart};
 ghost use Rattle.refusals.specs.Effects.{acceptVerdict, growVerdict};
@@ -22,30 +17,17 @@ use catalogue_standings::opening::open_on;
 use catalogue_standings::opening::refused_row;
 use catalogue_standings::opening::row_of;
 use map_blocks::Found;
-use map_blocks::run::FREE;
-use map_blocks::run::all_marked;
-use map_search_placed::search_placed;
 use refusals::Figures;
 use refusals::guide_fits;
-use summary_search::search_by;
+use refusals_runs::figures_wrong;
+use refusals_runs::find_run;
+use refusals_runs::over_limit;
+use refusals_runs::run_is_free;
 
 // Where the blocks that a call takes start, or the number of the refusal.
 pub enum Ruling {
     At(u32),
     Refused(u32),
-}
-
-// Row 15: the figures are not within a card of n blocks.
-fn figures_wrong(n: u32, figures: Figures) -> bool
-    ensures { λ r. ⌜ r ≡ misfigured n figures ⌝ }
-{
-    if figures.step == 0 {
-        return true;
-    }
-    if figures.before <= figures.from {
-        return true;
-    }
-    n < figures.before
 }
 
 // The rows that a call which gives k blocks to an Absent sheet begins with: 1, 2, 4 for the entry, 6 to 8 and 3. The first that
@@ -115,42 +97,6 @@ fn adding_row(
     0
 }
 
-// What the search of a reserve finds: by the summary that guides it, or by the map alone.
-fn find_run(guided: bool, map: &[u64], summary: &[u32], figures: Figures, k: u32) -> Found
-    requires { ⌜ (length (now map) ≤ 4096) × (figures .before ≤ 262144) × (figures .before ≤ 64 * length (now map))
-        × (guideFits guided (now summary) (length (now map)) ≡ true) × (0 < k) × (0 < figures .step) ⌝ }
-    ensures { λ r. ⌜ r ≡ foundBy guided (now (summary .entry)) (now (map .entry)) figures k ⌝ }
-{
-    let from = figures.from;
-    let before = figures.before;
-    let step = figures.step;
-    if guided {
-        return search_by(map, summary, from, before, step, k);
-    }
-    search_placed(map, from, before, step, k)
-}
-
-fn wide(number: u32) -> u64
-    ensures { λ r. ⌜ r ≡ number ⌝ }
-{
-    number as u64
-}
-
-// Row 18: what the sheet's wing holds and the k blocks wanted together pass the wing's limit. The sum of the two may pass 2^64,
-// and is not made.
-fn over_limit(limits: &[u32; 8], held: u64, sheet: u32, k: u32) -> bool
-    requires { ⌜ sheet < 1024 ⌝ }
-    ensures { λ r. ⌜ r ≡ overLimit (now (limits .entry)) (wingOf sheet) held k ⌝ }
-{
-    let wing = (sheet / 128) as usize;
-    let limit = wide(limits[wing]);
-    let wanted = wide(k);
-    if limit < wanted {
-        return true;
-    }
-    limit - wanted < held
-}
-
 // The least fit within the figures, or the row that refuses the call.
 pub fn reserve_ruling(
     n: u32,
@@ -189,20 +135,6 @@ pub fn reserve_ruling(
         return Ruling::Refused(4);
     }
     Ruling::At(least)
-}
-
-// The k blocks from start on are all free and inside n. The sum of the two may pass 2^32, and is not made.
-fn run_is_free(n: u32, map: &[u64], start: u32, k: u32) -> bool
-    requires { ⌜ (n ≤ 262144) × (n ≤ 64 * length (now map)) ⌝ }
-    ensures { λ r. ⌜ r ≡ fit (Blocks.free (now (map .entry))) 0 n 1 k start ⌝ }
-{
-    if n < start {
-        return false;
-    }
-    if n - start < k {
-        return false;
-    }
-    all_marked(map, start, k, FREE)
 }
 
 // The start of a run that is asked for. It is refused with 18 if the limit is passed, with the number given unless all of it is

@@ -1,9 +1,9 @@
--- `refusals_rulings::figures_wrong` meets its contract: row 15, test by test.
+-- `refusals_runs::figures_wrong` meets its contract: row 15, test by test.
 -- Assumes nothing.
 use mathlib.Core.Path.{sym}
 use Rattle.refusals.proofs.Placement.{no-step, no-window, by-end}
-use Rattle.refusals_rulings.proofs.figures_wrong.Statement.{statement}
-use Rattle.refusals_rulings.proofs.figures_wrong.Tie as tie
+use Rattle.refusals_runs.proofs.figures_wrong.Statement.{statement}
+use Rattle.refusals_runs.proofs.figures_wrong.Tie as tie
 
 returns : tie.Need-returns
 returns c = let a = c .before .before .args in sym (no-step (a .n) (a .figures) (c .if1 .taken))

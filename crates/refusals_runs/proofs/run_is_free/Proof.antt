@@ -1,4 +1,4 @@
--- `refusals_rulings::run_is_free` meets its contract: a run that passes n is no fit, and one inside n is a fit if it is free.
+-- `refusals_runs::run_is_free` meets its contract: a run that passes n is no fit, and one inside n is a fit if it is free.
 -- Assumes nothing.
 use mathlib.Core.Path.{_≡_, sym, _∙_}
 use mathlib.Core.Bool.{Bool}
@@ -9,8 +9,8 @@ use denote.Ref.{now}
 use Rattle.map_blocks.specs.Blocks.{all, fit, free}
 use Rattle.laws.proofs.Bools.{both-ways}
 use Rattle.map_blocks.proofs.Fits.{fit-is, is-fit, no-fit, on-one}
-use Rattle.refusals_rulings.proofs.run_is_free.Statement.{statement}
-use Rattle.refusals_rulings.proofs.run_is_free.Tie as tie
+use Rattle.refusals_runs.proofs.run_is_free.Statement.{statement}
+use Rattle.refusals_runs.proofs.run_is_free.Tie as tie
 
 -- a run inside n:
 -- it is a fit exactly if it is free

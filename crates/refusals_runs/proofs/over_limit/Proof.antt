@@ -1,9 +1,9 @@
--- `refusals_rulings::over_limit` meets its contract: where the limit is not less than k, the limit less k is compared.
+-- `refusals_runs::over_limit` meets its contract: where the limit is not less than k, the limit less k is compared.
 -- Assumes nothing.
 use borrow.Author.Needs.{needs}
 use Rattle.refusals.proofs.Shares.{past-alone, past-together}
-use Rattle.refusals_rulings.proofs.over_limit.Statement.{statement}
-use Rattle.refusals_rulings.proofs.over_limit.Tie as tie
+use Rattle.refusals_runs.proofs.over_limit.Statement.{statement}
+use Rattle.refusals_runs.proofs.over_limit.Tie as tie
 
 cast-wing : tie.Need-cast-wing
 cast-wing c = search needs

@@ -1,4 +1,4 @@
--- `refusals_rulings::find_run` meets its contract: by the summary, or by the map alone.
+-- `refusals_runs::find_run` meets its contract: by the summary, or by the map alone.
 -- Assumes nothing.
 use mathlib.Core.Path.{_≡_, sym, ap, subst, _∙_}
 use mathlib.Core.Bool.{Bool, true}
@@ -7,8 +7,8 @@ use borrow.Author.Tests.{eqb-true}
 use denote.Ref.{now}
 use Rattle.summary.specs.Summary.{summaryLength}
 use Rattle.refusals.specs.Guides.{guideFits, foundBy}
-use Rattle.refusals_rulings.proofs.find_run.Statement.{statement}
-use Rattle.refusals_rulings.proofs.find_run.Tie as tie
+use Rattle.refusals_runs.proofs.find_run.Statement.{statement}
+use Rattle.refusals_runs.proofs.find_run.Tie as tie
 
 search-by-requires : tie.Need-search-by-requires
 search-by-requires c κs =
