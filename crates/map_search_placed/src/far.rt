@@ -4,7 +4,7 @@ ghost use mathlib.Core.Bool.{true, false};
 ghost use Prim.Native.Nat.{ℕ, _+_, _*_, _%_, _<_, _≤_};
 ghost use lib.ListN.{length};
 ghost use Rattle.map_blocks.specs.Blocks.{free, all, onStep, leastFit};
-ghost use Rattle.map_search_placed.specs.Answers.{startOf};
+ghost use Rattle.map_search_near.specs.Answers.{startOf};
 ghost use Rattle.map_search_starts.specs.Starts.{NoRun};
 use crate::taken::taken_words;
 use map_blocks::word::smaller;

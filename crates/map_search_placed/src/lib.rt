@@ -4,19 +4,18 @@ ghost use mathlib.Core.Path.{_≡_};
 ghost use Prim.Native.Nat.{_*_, _<_, _≤_};
 ghost use lib.ListN.{length};
 ghost use Rattle.map_blocks.specs.Blocks.{free, leastFit};
-ghost use Rattle.map_search_placed.specs.Answers.{startOf};
+ghost use Rattle.map_search_near.specs.Answers.{startOf};
 
 mod far;
-mod near;
 mod taken;
 
 use far::search_far;
 use map_blocks::Found;
 use map_blocks::word::smaller;
 use map_search::search;
+use map_search_near::search_near;
 use map_search_starts::ahead;
 use map_space::space;
-use near::search_near;
 use taken::reach;
 
 // What a start below `before`, or `before`, says. The functions below answer with a number, which stays in a register.

@@ -8,7 +8,7 @@ use Prim.Native.Nat.{ℕ, _+_}
 use Rattle.map_blocks.specs.Blocks.{free}
 use Rattle.map_blocks.proofs.Fits.{Spaced, spaced, mod-on}
 use Rattle.map_search_starts.proofs.Steps.{none-ahead}
-use Rattle.map_search_placed.proofs.Figures.{is-start, found-at, before-first, space-fits}
+use Rattle.map_search_near.proofs.Figures.{is-start, found-at, before-first, space-fits}
 use borrow.Author.Needs.{needs}
 use Rattle.map_search_placed.proofs.first_start.Statement.{statement}
 use Rattle.map_search_placed.proofs.first_start.Tie as tie

@@ -6,7 +6,7 @@ use mathlib.Core.Bool.{Bool, true, false}
 use denote.Ref.{now}
 use Prim.Native.Nat.{ℕ, _<_, min}
 use Rattle.map_blocks.specs.Blocks.{free, fit, leastFit}
-use Rattle.map_search_placed.proofs.Figures.{found-none, empty-window, past-free, begun, capped}
+use Rattle.map_search_near.proofs.Figures.{found-none, empty-window, past-free, begun, capped}
 use borrow.Author.Needs.{needs}
 use Rattle.map_search_placed.proofs.search_placed.Statement.{statement}
 use Rattle.map_search_placed.proofs.search_placed.Tie as tie

@@ -13,7 +13,7 @@ use denote.Ref.{now}
 use Rattle.laws.proofs.Bools.{clash, order}
 use Rattle.map_blocks.specs.Blocks.{free, onStep}
 use Rattle.map_search_starts.proofs.Steps.{between}
-use Rattle.map_search_placed.proofs.Figures.{sum}
+use Rattle.map_search_near.proofs.Figures.{sum}
 use borrow.Author.Needs.{needs}
 use Rattle.map_search_placed.proofs.far.open_start.Statement.{statement}
 use Rattle.map_search_placed.proofs.far.open_start.Tie as tie

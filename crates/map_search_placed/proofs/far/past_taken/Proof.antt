@@ -8,7 +8,7 @@ use denote.Ref.{now}
 use Rattle.map_blocks.specs.Blocks.{onStep}
 use Rattle.laws.proofs.Bools.{clash, order}
 use Rattle.map_search_starts.proofs.Steps.{none-ahead}
-use Rattle.map_search_placed.proofs.Figures.{zero-free}
+use Rattle.map_search_near.proofs.Figures.{zero-free}
 use borrow.Author.Needs.{needs}
 use Rattle.map_search_placed.proofs.far.past_taken.Statement.{statement}
 use Rattle.map_search_placed.proofs.far.past_taken.Tie as tie

@@ -8,8 +8,8 @@ use Prim.Native.Nat.{ℕ, _+_, _-_, _*_, _%_, _≤_, _<_, min}
 use Rattle.map_blocks.specs.Blocks.{free, onStep, fit}
 use Rattle.map_blocks.proofs.Fits.{mod-on}
 use Rattle.map_search_starts.proofs.Steps.{none-ahead}
-use Rattle.map_search_placed.proofs.Figures.{is-nothing, is-start, found-at}
-use Rattle.map_search_placed.proofs.Figures.{found-none, before-first, past-runs, taken-run}
+use Rattle.map_search_near.proofs.Figures.{is-nothing, is-start, found-at}
+use Rattle.map_search_near.proofs.Figures.{found-none, before-first, past-runs, taken-run}
 use borrow.Author.Needs.{needs}
 use Rattle.map_search_placed.proofs.far.search_far.Statement.{statement}
 use Rattle.map_search_placed.proofs.far.search_far.Tie as tie

@@ -8,7 +8,7 @@ use denote.Ref.{now}
 use Rattle.map_blocks.specs.Blocks.{free, onStep}
 use Rattle.map_blocks.proofs.Fits.{Spaced, spaced}
 use Rattle.map_search_starts.specs.Starts.{NoRun}
-use Rattle.map_search_placed.proofs.Figures.{sum, no-run-after, taken-run, run-past, space-fits}
+use Rattle.map_search_near.proofs.Figures.{sum, no-run-after, taken-run, run-past, space-fits}
 use borrow.Author.Needs.{needs}
 use Rattle.map_search_placed.proofs.far.some_starts.Statement.{statement}
 use Rattle.map_search_placed.proofs.far.some_starts.Tie as tie

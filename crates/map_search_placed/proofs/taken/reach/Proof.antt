@@ -8,8 +8,8 @@ use lib.Count.{leadingZeros, leading-le}
 use lib.ListN.{getD}
 use denote.Ref.{now}
 use Rattle.laws.proofs.Bools.{order}
-use Rattle.map_search_placed.proofs.Figures.{zero-free}
-use Rattle.map_search_placed.proofs.Rows.{first-free, none-free, zeros-taken}
+use Rattle.map_search_near.proofs.Figures.{zero-free}
+use Rattle.map_search_near.proofs.Rows.{first-free, none-free, zeros-taken}
 use borrow.Author.Needs.{needs}
 use Rattle.map_search_placed.proofs.taken.reach.Statement.{statement}
 use Rattle.map_search_placed.proofs.taken.reach.Tie as tie

@@ -6,7 +6,7 @@ ghost use Prim.Native.Nat.{ℕ, _+_, _-_, _*_, _/_, _%_, _<_, _≤_};
 ghost use lib.ListN.{length, getD};
 ghost use Rattle.map_blocks.specs.Blocks.{free, all, onStep, leastFit};
 ghost use Rattle.map_blocks.specs.Words.{bit};
-ghost use Rattle.map_search_placed.specs.Answers.{startOf};
+ghost use Rattle.map_search_near.specs.Answers.{startOf};
 ghost use Rattle.map_search_starts.specs.Starts.{Marks, Alone, Often, NoRun, FirstRun};
 use map_blocks::word::part;
 use map_blocks::word::smaller;

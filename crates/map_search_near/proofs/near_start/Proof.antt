@@ -1,13 +1,13 @@
--- `map_search_placed::near::near_start` meets its contract.
+-- `map_search_near::near_start` meets its contract.
 -- Assumes nothing.
 use native.Mathlib.Omega.{arith}
 use denote.Ref.{now}
 use Prim.Native.Nat.{ℕ, _+_, _-_, _*_, _/_}
 use Rattle.map_blocks.specs.Blocks.{free, onStep}
-use Rattle.map_search_placed.proofs.Figures.{run-after}
+use Rattle.map_search_near.proofs.Figures.{run-after}
 use borrow.Author.Needs.{needs}
-use Rattle.map_search_placed.proofs.near.near_start.Statement.{statement}
-use Rattle.map_search_placed.proofs.near.near_start.Tie as tie
+use Rattle.map_search_near.proofs.near_start.Statement.{statement}
+use Rattle.map_search_near.proofs.near_start.Tie as tie
 
 sub-last : tie.Need-sub-last
 sub-last c = search needs

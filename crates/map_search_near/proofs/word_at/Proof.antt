@@ -1,12 +1,12 @@
--- `map_search_placed::near::word_at` meets its contract.
+-- `map_search_near::word_at` meets its contract.
 -- Assumes nothing.
 use mathlib.Core.Path.{sym}
 use native.Mathlib.Omega.{arith}
 use lib.ListN.{List·getD-eq-default}
 use denote.Ref.{now}
 use borrow.Author.Needs.{needs}
-use Rattle.map_search_placed.proofs.near.word_at.Statement.{statement}
-use Rattle.map_search_placed.proofs.near.word_at.Tie as tie
+use Rattle.map_search_near.proofs.word_at.Statement.{statement}
+use Rattle.map_search_near.proofs.word_at.Tie as tie
 
 mul-result : tie.Need-mul-result
 mul-result c = search needs

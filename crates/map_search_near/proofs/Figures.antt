@@ -20,7 +20,7 @@ use Rattle.map_blocks.proofs.Least.{least-at, least-none, least-same}
 use Rattle.map_blocks.proofs.Maps.{free-bit}
 use Rattle.map_blocks.proofs.Runs.{all-intro, all-break, all-part}
 use borrow.Author.Tests.{lt-ltb, le-ltb}
-use Rattle.map_search_placed.specs.Answers.{startOf}
+use Rattle.map_search_near.specs.Answers.{startOf}
 use Rattle.map_search_starts.specs.Starts.{NoRun, FirstRun}
 use Rattle.map_search_starts.proofs.Steps.{on-add}
 

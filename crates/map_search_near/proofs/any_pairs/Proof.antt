@@ -1,4 +1,4 @@
--- `map_search_placed::near::any_pairs` meets its contract. The loop's invariant: `any` has the pairs of the words passed.
+-- `map_search_near::any_pairs` meets its contract. The loop's invariant: `any` has the pairs of the words passed.
 -- Assumes nothing.
 use mathlib.Core.Path.{_≡_, refl, _∙_, subst}
 use native.Mathlib.Omega.{arith}
@@ -13,10 +13,10 @@ use Rattle.map_blocks.specs.Words.{bit}
 use Rattle.map_blocks.proofs.Bits.{bit-or}
 use Rattle.map_search_starts.specs.Starts.{Alone}
 use Rattle.map_search_starts.proofs.Spans.{or-left, or-right}
-use Rattle.map_search_placed.proofs.Rows.{word-marks}
+use Rattle.map_search_near.proofs.Rows.{word-marks}
 use borrow.Author.Needs.{needs}
-use Rattle.map_search_placed.proofs.near.any_pairs.Statement.{statement}
-use Rattle.map_search_placed.proofs.near.any_pairs.Tie as tie
+use Rattle.map_search_near.proofs.any_pairs.Statement.{statement}
+use Rattle.map_search_near.proofs.any_pairs.Tie as tie
 
 abbrev Inv-loop : tie.InvT-loop
 Inv-loop map i lone stop any₀ t₀ any t =

@@ -1,4 +1,4 @@
--- `map_search_placed::near::near_groups` meets its contract. The loop's invariant: no run starts from c to `at`.
+-- `map_search_near::near_groups` meets its contract. The loop's invariant: no run starts from c to `at`.
 -- Assumes nothing.
 use mathlib.Core.Path.{_≡_, refl, subst}
 use native.Mathlib.Omega.{arith}
@@ -7,11 +7,11 @@ use denote.Ref.{now}
 use Prim.Native.Nat.{ℕ, _-_, _*_, _≤_}
 use Rattle.map_blocks.specs.Blocks.{free, onStep}
 use Rattle.map_search_starts.specs.Starts.{NoRun, FirstRun}
-use Rattle.map_search_placed.proofs.Figures.{run-after, no-run-after}
-use Rattle.map_search_placed.proofs.Rows.{no-first}
+use Rattle.map_search_near.proofs.Figures.{run-after, no-run-after}
+use Rattle.map_search_near.proofs.Rows.{no-first}
 use borrow.Author.Needs.{needs}
-use Rattle.map_search_placed.proofs.near.near_groups.Statement.{statement}
-use Rattle.map_search_placed.proofs.near.near_groups.Tie as tie
+use Rattle.map_search_near.proofs.near_groups.Statement.{statement}
+use Rattle.map_search_near.proofs.near_groups.Tie as tie
 
 abbrev Inv-loop : tie.InvT-loop
 Inv-loop map c stop step k below lone rest mostly at₀ at = (c ≤ at) × (at ≤ stop * 64) × NoRun (onStep step) (free map) k c at

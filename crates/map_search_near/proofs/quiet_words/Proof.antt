@@ -1,14 +1,14 @@
--- `map_search_placed::near::quiet_words` meets its contract. The loop's invariant: no run starts from `first` to i.
+-- `map_search_near::quiet_words` meets its contract. The loop's invariant: no run starts from `first` to i.
 -- Assumes nothing.
 use native.Mathlib.Omega.{arith}
 use Prim.Native.Nat.{ℕ, _+_, _-_, _*_, _≤_}
 use denote.Ref.{now}
 use Rattle.map_blocks.specs.Blocks.{free, onStep}
 use Rattle.map_search_starts.specs.Starts.{Often, NoRun}
-use Rattle.map_search_placed.proofs.Figures.{no-run-after}
+use Rattle.map_search_near.proofs.Figures.{no-run-after}
 use borrow.Author.Needs.{needs}
-use Rattle.map_search_placed.proofs.near.quiet_words.Statement.{statement}
-use Rattle.map_search_placed.proofs.near.quiet_words.Tie as tie
+use Rattle.map_search_near.proofs.quiet_words.Statement.{statement}
+use Rattle.map_search_near.proofs.quiet_words.Tie as tie
 
 abbrev Inv-loop : tie.InvT-loop
 Inv-loop map first stop k lone mostly i₀ i =

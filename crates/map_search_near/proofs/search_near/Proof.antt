@@ -1,4 +1,4 @@
--- `map_search_placed::near::search_near` meets its contract. The loop's invariant: no fit starts before c.
+-- `map_search_near::search_near` meets its contract. The loop's invariant: no fit starts before c.
 -- Assumes nothing.
 use mathlib.Core.Path.{_≡_, sym, ap, _∙_, subst}
 use native.Mathlib.Omega.{arith}
@@ -7,11 +7,11 @@ use denote.Ref.{now}
 use Prim.Native.Nat.{ℕ, _+_, _-_, _≤_, _<_, min}
 use Rattle.map_blocks.specs.Blocks.{free, all, onStep, fit}
 use Rattle.map_blocks.proofs.Fits.{Spaced, spaced}
-use Rattle.map_search_placed.proofs.Figures.{is-nothing, is-start, found-at, found-none}
-use Rattle.map_search_placed.proofs.Figures.{past-runs, past-block, before-from, no-longer, space-fits}
+use Rattle.map_search_near.proofs.Figures.{is-nothing, is-start, found-at, found-none}
+use Rattle.map_search_near.proofs.Figures.{past-runs, past-block, before-from, no-longer, space-fits}
 use borrow.Author.Needs.{needs}
-use Rattle.map_search_placed.proofs.near.search_near.Statement.{statement}
-use Rattle.map_search_placed.proofs.near.search_near.Tie as tie
+use Rattle.map_search_near.proofs.search_near.Statement.{statement}
+use Rattle.map_search_near.proofs.search_near.Tie as tie
 
 abbrev Inv-loop : tie.InvT-loop
 Inv-loop map from before step k last few below c₀ c =

@@ -1,14 +1,14 @@
--- `map_search_placed::near::near_last` meets its contract.
+-- `map_search_near::near_last` meets its contract.
 -- Assumes nothing.
 use mathlib.Core.Path.{refl}
 use native.Mathlib.Omega.{arith}
 use Prim.Native.Nat.{ℕ, _+_, _*_}
 use denote.Ref.{now}
 use Rattle.map_blocks.specs.Blocks.{free, onStep}
-use Rattle.map_search_placed.proofs.Rows.{word-marks, from-marks}
+use Rattle.map_search_near.proofs.Rows.{word-marks, from-marks}
 use borrow.Author.Needs.{needs}
-use Rattle.map_search_placed.proofs.near.near_last.Statement.{statement}
-use Rattle.map_search_placed.proofs.near.near_last.Tie as tie
+use Rattle.map_search_near.proofs.near_last.Statement.{statement}
+use Rattle.map_search_near.proofs.near_last.Tie as tie
 
 cast-base : tie.Need-cast-base
 cast-base c = search needs

@@ -1,4 +1,4 @@
--- `map_search_placed::near::near_words` meets its contract. The loop's invariant: m has the starts of word i from c on, and no
+-- `map_search_near::near_words` meets its contract. The loop's invariant: m has the starts of word i from c on, and no
 -- run starts before that word.
 -- Assumes nothing.
 use mathlib.Core.Path.{_≡_, refl, subst}
@@ -10,11 +10,11 @@ use lib.Dec.{leb}
 use denote.Ref.{now}
 use Rattle.map_blocks.specs.Blocks.{free, onStep}
 use Rattle.map_search_starts.specs.Starts.{Marks, NoRun, FirstRun}
-use Rattle.map_search_placed.proofs.Figures.{run-after}
-use Rattle.map_search_placed.proofs.Rows.{word-marks, from-marks, all-marks, no-first}
+use Rattle.map_search_near.proofs.Figures.{run-after}
+use Rattle.map_search_near.proofs.Rows.{word-marks, from-marks, all-marks, no-first}
 use borrow.Author.Needs.{needs}
-use Rattle.map_search_placed.proofs.near.near_words.Statement.{statement}
-use Rattle.map_search_placed.proofs.near.near_words.Tie as tie
+use Rattle.map_search_near.proofs.near_words.Statement.{statement}
+use Rattle.map_search_near.proofs.near_words.Tie as tie
 
 abbrev Inv-loop : tie.InvT-loop
 Inv-loop map c stop step k below lone rest i₀ base₀ far₀ m₀ i base far m =

@@ -1,11 +1,11 @@
--- `map_search_placed::near::any_start` meets its contract.
+-- `map_search_near::any_start` meets its contract.
 -- Assumes nothing.
 use native.Mathlib.Omega.{arith}
 use denote.Ref.{now}
-use Rattle.map_search_placed.proofs.Rows.{no-pair}
+use Rattle.map_search_near.proofs.Rows.{no-pair}
 use borrow.Author.Needs.{needs}
-use Rattle.map_search_placed.proofs.near.any_start.Statement.{statement}
-use Rattle.map_search_placed.proofs.near.any_start.Tie as tie
+use Rattle.map_search_near.proofs.any_start.Statement.{statement}
+use Rattle.map_search_near.proofs.any_start.Tie as tie
 
 any-pairs-requires : tie.Need-any-pairs-requires
 any-pairs-requires c κs = search needs

@@ -1,4 +1,4 @@
--- `map_search_placed::near::any_sixteens` meets its contract. The loop's invariant: where `any` is 0, the words passed have
+-- `map_search_near::any_sixteens` meets its contract. The loop's invariant: where `any` is 0, the words passed have
 -- no run of 16.
 -- Assumes nothing.
 use mathlib.Core.Path.{_≡_, sym, ap, _∙_, subst}
@@ -12,10 +12,10 @@ use Rattle.laws.proofs.Bools.{order}
 use Rattle.map_blocks.specs.Blocks.{all}
 use Rattle.map_blocks.specs.Words.{bit}
 use Rattle.map_blocks.proofs.Bits.{bit-zero}
-use Rattle.map_search_placed.proofs.Rows.{or-zero, no-sixteen}
+use Rattle.map_search_near.proofs.Rows.{or-zero, no-sixteen}
 use borrow.Author.Needs.{needs}
-use Rattle.map_search_placed.proofs.near.any_sixteens.Statement.{statement}
-use Rattle.map_search_placed.proofs.near.any_sixteens.Tie as tie
+use Rattle.map_search_near.proofs.any_sixteens.Statement.{statement}
+use Rattle.map_search_near.proofs.any_sixteens.Tie as tie
 
 abbrev Inv-loop : tie.InvT-loop
 Inv-loop map i stop any₀ t₀ any t =
