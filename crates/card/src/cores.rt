@@ -122,7 +122,7 @@ pub fn pause_core(shape: Shape, map: &[u64], slot: Slot, sheet: u32) -> Out
         ⌜ r ≡ pauseOut q ⌝ }
 {
     let entry = slot.entry;
-    call_release::pause::pause(shape.blocks, shape.free, map, slot.count, entry, sheet)
+    call_pause::pause::pause(shape.blocks, shape.free, map, slot.count, entry, sheet)
 }
 
 pub fn resume_core(shape: Shape, map: &[u64], slot: Slot, sheet: u32) -> Out
@@ -130,7 +130,7 @@ pub fn resume_core(shape: Shape, map: &[u64], slot: Slot, sheet: u32) -> Out
         ⌜ r ≡ resumeOut q ⌝ }
 {
     let entry = slot.entry;
-    call_release::resume::resume(shape.blocks, shape.free, map, slot.count, entry, sheet)
+    call_pause::resume::resume(shape.blocks, shape.free, map, slot.count, entry, sheet)
 }
 
 pub fn release_core(shape: Shape, map: &mut [u64], slot: Slot, sheet: u32) -> Out
@@ -139,7 +139,7 @@ pub fn release_core(shape: Shape, map: &mut [u64], slot: Slot, sheet: u32) -> Ou
 {
     let entry = slot.entry;
     let mut none = [0u32; 0];
-    call_release::release::release(
+    call_release::release(
         shape.blocks,
         shape.free,
         map,

@@ -182,7 +182,7 @@ pub fn release_guided(
         × (now (summary .exit) ≡ releaseSummary q) ⌝ }
 {
     let entry = slot.entry;
-    call_release::release::release(
+    call_release::release(
         shape.blocks,
         shape.free,
         map,

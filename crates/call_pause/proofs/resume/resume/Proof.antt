@@ -1,4 +1,4 @@
--- `call_release::resume::resume` meets its contract: each way out by its row.
+-- `call_pause::resume::resume` meets its contract: each way out by its row.
 -- Assumes nothing.
 use mathlib.Core.Path.{refl, ap, _∙_}
 use borrow.Author.Needs.{needs}
@@ -6,8 +6,8 @@ use Rattle.refusals.specs.Effects.{refusalOut}
 use Rattle.catalogue_standings.specs.Openings.{refusedRow, rowOf}
 use Rattle.catalogue_standings.specs.Rows.{accepted, refused}
 use Rattle.catalogue_standings.specs.declared.Opened.the-variants.{Stands}
-use Rattle.call_release.proofs.resume.resume.Statement.{statement}
-use Rattle.call_release.proofs.resume.resume.Tie as tie
+use Rattle.call_pause.proofs.resume.resume.Statement.{statement}
+use Rattle.call_pause.proofs.resume.resume.Tie as tie
 use Rattle.refusals.proofs.Resume.{out, shut, other, passes}
 
 open-sheet-requires : tie.Need-open-sheet-requires

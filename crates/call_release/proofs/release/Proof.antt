@@ -1,4 +1,4 @@
--- `call_release::release::release` meets its contract: each way out by its row, and the map by what `mark` leaves.
+-- `call_release::release` meets its contract: each way out by its row, and the map by what `mark` leaves.
 -- Assumes nothing.
 use mathlib.Core.Path.{_≡_, refl, sym, ap, subst, _∙_}
 use mathlib.Core.Bool.{true}
@@ -18,8 +18,8 @@ use Rattle.catalogue_standings.specs.Rows.{accepted, refused}
 use Rattle.catalogue_standings.specs.declared.Opened.the-variants.{Stands}
 use Rattle.refusals.proofs.Guides.{guide-shut-at, guide-open-at, guided-so}
 use Rattle.refusals.proofs.Release.{out, shut, absent, limits, in-map, over, passes}
-use Rattle.call_release.proofs.release.release.Statement.{statement}
-use Rattle.call_release.proofs.release.release.Tie as tie
+use Rattle.call_release.proofs.release.Statement.{statement}
+use Rattle.call_release.proofs.release.Tie as tie
 
 guide-fits-requires : tie.Need-guide-fits-requires
 guide-fits-requires c κs = search needs

@@ -1,4 +1,4 @@
--- `call_release::pause::pause` meets its contract: each way out by its row.
+-- `call_pause::pause::pause` meets its contract: each way out by its row.
 -- Assumes nothing.
 use mathlib.Core.Path.{ap, _∙_}
 use borrow.Author.Needs.{needs}
@@ -6,8 +6,8 @@ use Rattle.refusals.specs.Effects.{refusalOut}
 use Rattle.catalogue_standings.specs.Openings.{refusedRow, rowOf}
 use Rattle.catalogue_standings.specs.Rows.{accepted, refused}
 use Rattle.catalogue_standings.specs.declared.Opened.the-variants.{Stands}
-use Rattle.call_release.proofs.pause.pause.Statement.{statement}
-use Rattle.call_release.proofs.pause.pause.Tie as tie
+use Rattle.call_pause.proofs.pause.pause.Statement.{statement}
+use Rattle.call_pause.proofs.pause.pause.Tie as tie
 use Rattle.refusals.proofs.Pause.{out, shut, other, passes-absent, passes-complete}
 
 open-sheet-requires : tie.Need-open-sheet-requires

@@ -1,0 +1,2 @@
+-- Laws that the proofs of `look` and of complete cite.
+pub mod Fillings

@@ -1,2 +1,0 @@
--- Laws that the proofs of complete cite.
-pub mod Fillings

@@ -1,2 +1,0 @@
--- What the contracts of `filling` cite.
-pub mod Fillings
