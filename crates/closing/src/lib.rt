@@ -22,7 +22,7 @@ use catalogue::store;
 use catalogue_standings::opening::BLOCKS;
 use image::limits::save_fits;
 use image_soundness::Tally;
-use image_soundness::test_sound;
+use image_windows::test_sound;
 use map_blocks::run::TAKEN;
 use map_blocks::run::fresh;
 use map_blocks::run::mark;

@@ -24,14 +24,14 @@ use image_frames::read_words;
 use image_frames::zeros_from;
 use image_soundness::Tally;
 use image_soundness::Window;
-use image_soundness::end_window;
-use image_soundness::first_window;
-use image_soundness::has_part;
 use image_soundness::lesser;
-use image_soundness::release_part;
 use image_soundness::tally_entry;
-use image_soundness::window_count;
 use image_soundness::words::clear;
+use image_windows::end_window;
+use image_windows::first_window;
+use image_windows::has_part;
+use image_windows::release_part;
+use image_windows::window_count;
 
 // Counts entries that stand one behind the other in a frame, from byte `at` of the image on, up to one that does not count.
 fn tally_together(n: u32, first: Tally, image: &[u8], at: usize, count: usize) -> Tally

@@ -16,7 +16,7 @@ use image_frames::put_zeros;
 use image_frames::seal_all;
 use image_frames::write_words;
 use image_soundness::Tally;
-use image_soundness::test_sound;
+use image_windows::test_sound;
 
 // What the entries must make: n less the free count. If row 1 holds, nothing is to be tested.
 fn begin(n: u32, free: u32, map: &[u64], count: usize, scratch: &[u64]) -> Tally

@@ -1,6 +1,6 @@
 -- Laws that the functions here and the crates above cite: the rule of a mark, damage, covers and sums, a sound state block by
--- block, the entries counted, windows one after the other, and that the test is soundness. `EntriesCounted` and `PartsReleased`
--- are walks over the entries.
+-- block, the entries counted, windows one after the other, and that the test is soundness. `EntriesCounted`
+-- is a walk over the entries.
 pub mod Marks
 pub mod Damage
 pub mod Covers
@@ -12,4 +12,3 @@ pub mod Parts
 pub mod Windowed
 pub mod Tested
 pub mod EntriesCounted
-pub mod PartsReleased

@@ -1,36 +1,17 @@
-// Whether a state is sound (document 01, "Saved image"), with a scratch of 64 words (document 02, (h)). First each entry alone:
-// it must keep the rule of its mark, and the lengths must make what the free count leaves of n. Then the map, window by
-// window: the words of a window are copied to the scratch, and of each extent the part that lies there is released, which must
-// be taken; at the end all blocks of the window below n, and no others, must be free.
+// What a sound state is (document 01, "Saved image"), and what each entry alone says of it: it must keep the rule of its mark,
+// and the lengths must make what the free count leaves of n. The map is tested in windows (crate image_windows), with a scratch
+// of 64 words (document 02, (h)), whose words are copied and cleared here.
 pub mod rule;
 pub mod words;
 
 ghost use mathlib.Core.Path.{_≡_};
-ghost use mathlib.Core.Bool.{_&&_};
-ghost use Prim.Native.Nat.{_+_, _*_, _≤_, min, max};
-ghost use lib.Dec.{leb};
-ghost use lib.ListN.{length};
-ghost use Rattle.image_soundness.specs.Windows.{countable, tallyAfter, tallyOf, copied, touches, taken, windowAfter};
-ghost use Rattle.image_soundness.specs.Windows.{scratchAfter, windowOver, scratchOver, passes, windowEnd, oneWindow};
-ghost use Rattle.image_soundness.specs.Windows.{oneScratch, windowsOf, windowsScratch, firstWindow, windowCount};
-ghost use Rattle.image_soundness.specs.Windows.{passedAll, clearedAll, tested, testedScratch};
+ghost use Prim.Native.Nat.{min};
+ghost use Rattle.image_soundness.specs.Windows.{countable, tallyAfter, tallyOf};
 use crate::rule::keeps_rule;
-use crate::words::clear;
-use crate::words::copy_from;
 use catalogue::Entry;
-use catalogue_standings::opening::BLOCKS;
-use map_blocks::run::FREE;
-use map_blocks::run::TAKEN;
-use map_blocks::run::all_marked;
-use map_blocks::run::is_fresh;
-use map_blocks::run::mark;
-use map_blocks::word::beyond;
-use map_blocks::word::smaller;
 
-// The most words of a scratch, and the blocks of a window.
+// The most words of a scratch.
 pub const SCRATCH: usize = 64;
-
-const WINDOW: u32 = 4096;
 
 // How many blocks the entries that are left must make, and whether one did not count.
 pub struct Tally {
@@ -76,7 +57,7 @@ pub fn tally_entry(n: u32, tally: Tally, entry: Entry) -> Tally
 }
 
 // Counts every entry, up to one that does not count.
-fn tally_entries(catalogue: &[Entry], n: u32, start: Tally) -> Tally
+pub fn tally_entries(catalogue: &[Entry], n: u32, start: Tally) -> Tally
     ensures { λ r. ⌜ r ≡ tallyOf (now (catalogue .entry)) n start ⌝ }
 {
     let mut state = start;
@@ -91,211 +72,9 @@ fn tally_entries(catalogue: &[Entry], n: u32, start: Tally) -> Tally
     state
 }
 
-// Copies the words of a window to the scratch.
-fn fill_window(map: &[u64], window: Window, scratch: &mut [u64])
-    ensures { λ _. ⌜ now (scratch .exit) ≡ copied (now (map .entry)) window (now (scratch .entry)) ⌝ }
-{
-    if SCRATCH < scratch.len() {
-        return;
-    }
-    let a = (window.lo / 64) as usize;
-    copy_from(scratch, map, a);
-}
-
-// The larger of two.
-fn larger(a: usize, b: usize) -> usize
-    ensures { λ r. ⌜ r ≡ max a b ⌝ }
-{
-    if a < b { b } else { a }
-}
-
 // The lesser of two.
 pub fn lesser(a: usize, b: usize) -> usize
     ensures { λ r. ⌜ r ≡ min a b ⌝ }
 {
     if a < b { a } else { b }
-}
-
-// Whether an extent has a part in the window that begins at block lo. Most have none, and one comparison says so of both ends:
-// the start, counted back from the window's last block, is at least the length and 4095 more if the extent ends before the
-// window, and a number near 2^64 if it begins behind it.
-pub fn has_part(lo: u32, entry: Entry) -> bool
-    ensures { λ r. ⌜ r ≡ touches lo entry ⌝ }
-{
-    let low = lo as usize;
-    let start = entry.start as usize;
-    let blocks = entry.length as usize;
-    if blocks + 4095 <= std::num::wrapping_sub_usize(low + 4095, start) {
-        return false;
-    }
-    let from = larger(start, low);
-    let to = lesser(start + blocks, low + (WINDOW as usize));
-    from < to
-}
-
-// Whether the k blocks from s on lie in the scratch and are taken there.
-fn is_taken(scratch: &[u64], s: u32, k: u32) -> bool
-    requires { ⌜ s + k ≤ 4096 ⌝ }
-    ensures { λ r. ⌜ r ≡ taken (now (scratch .entry)) s k ⌝ }
-{
-    if scratch.len() < ((s + k + 63) / 64) as usize {
-        return false;
-    }
-    all_marked(scratch, s, k, TAKEN)
-}
-
-// Releases the part of an extent that lies in a window, if it is taken. Most extents have none there: that is one test.
-pub fn release_part(window: Window, scratch: &mut [u64], entry: Entry) -> Window
-    ensures { λ r. ⌜ (r ≡ windowAfter window (now (scratch .entry)) entry)
-        × (now (scratch .exit) ≡ scratchAfter window (now (scratch .entry)) entry) ⌝ }
-{
-    let lo = window.lo as usize;
-    let start = entry.start as usize;
-    let blocks = entry.length as usize;
-    let from = larger(start, lo);
-    let to = lesser(start + blocks, lo + (WINDOW as usize));
-    if to <= from {
-        return window;
-    }
-    let s = (from - lo) as u32;
-    let k = (to - from) as u32;
-    if !is_taken(scratch, s, k) {
-        return Window {
-            lo: window.lo,
-            stop: true,
-        };
-    }
-    mark(scratch, s, k, FREE);
-    window
-}
-
-// Releases the parts of all extents, up to one that is not taken.
-fn release_parts(catalogue: &[Entry], start: Window, scratch: &mut [u64]) -> Window
-    ensures { λ r. ⌜ (r ≡ windowOver (now (catalogue .entry)) start (now (scratch .entry)))
-        × (now (scratch .exit) ≡ scratchOver (now (catalogue .entry)) start (now (scratch .entry))) ⌝ }
-{
-    let mut state = start;
-    let mut i: usize = 0;
-    while i < catalogue.len() {
-        state = release_part(state, scratch, catalogue[i]);
-        if state.stop {
-            break;
-        }
-        i += 1;
-    }
-    state
-}
-
-// Whether nothing has failed, and all blocks of a window below n, and no others, are free.
-fn window_passes(n: u32, window: Window, scratch: &[u64]) -> bool
-    ensures { λ r. ⌜ r ≡ passes n window (now (scratch .entry)) ⌝ }
-{
-    if window.stop {
-        return false;
-    }
-    if SCRATCH < scratch.len() {
-        return false;
-    }
-    is_fresh(scratch, beyond(n, window.lo))
-}
-
-// The window after this one.
-pub fn end_window(n: u32, window: Window, scratch: &[u64]) -> Window
-    ensures { λ r. ⌜ r ≡ windowEnd n window (now (scratch .entry)) ⌝ }
-{
-    let lo = window.lo;
-    let fine = window_passes(n, window, scratch);
-    Window {
-        lo: smaller(lo, BLOCKS) + WINDOW,
-        stop: !fine,
-    }
-}
-
-// One window.
-fn test_window(
-    map: &[u64],
-    catalogue: &[Entry],
-    scratch: &mut [u64],
-    n: u32,
-    window: Window,
-) -> Window
-    ensures { λ r. ⌜ (r ≡ oneWindow (now (map .entry)) (now (catalogue .entry)) (now (scratch .entry)) n window)
-        × (now (scratch .exit) ≡ oneScratch (now (map .entry)) (now (catalogue .entry)) (now (scratch .entry)) n window) ⌝ }
-{
-    fill_window(map, window, scratch);
-    let last = release_parts(catalogue, window, scratch);
-    end_window(n, last, &*scratch)
-}
-
-// All windows.
-fn test_windows(
-    map: &[u64],
-    catalogue: &[Entry],
-    scratch: &mut [u64],
-    n: u32,
-    count: usize,
-    start: Window,
-) -> Window
-    ensures { λ r. ⌜ (r ≡ windowsOf (now (map .entry)) (now (catalogue .entry)) (now (scratch .entry)) n count start)
-        × (now (scratch .exit) ≡ windowsScratch (now (map .entry)) (now (catalogue .entry)) (now (scratch .entry)) n count
-        start) ⌝ }
-{
-    let mut state = start;
-    let mut i: usize = 0;
-    while i < count {
-        state = test_window(map, catalogue, scratch, n, state);
-        i += 1;
-    }
-    state
-}
-
-// The first window. It has failed if an entry did not count, or if the lengths do not make what is left.
-pub fn first_window(tally: Tally) -> Window
-    ensures { λ r. ⌜ r ≡ firstWindow tally ⌝ }
-{
-    if tally.stop {
-        return Window { lo: 0, stop: true };
-    }
-    Window {
-        lo: 0,
-        stop: tally.left != 0,
-    }
-}
-
-// How many windows there are, and none after a failure.
-pub fn window_count(n: u32, window: Window) -> usize
-    ensures { λ r. ⌜ r ≡ windowCount n window ⌝ }
-{
-    if window.stop {
-        return 0;
-    }
-    ((n as usize) + 4095) / 4096
-}
-
-// Whether every window passed. The scratch is cleared.
-fn all_passed(window: Window, scratch: &mut [u64]) -> bool
-    ensures { λ r. ⌜ (r ≡ passedAll window (now (scratch .entry)))
-        × (now (scratch .exit) ≡ clearedAll window (now (scratch .entry))) ⌝ }
-{
-    clear(scratch);
-    !window.stop
-}
-
-// Whether a map and its entries are sound, of a tally that begins with what the free count leaves of n. With one that has
-// stopped they are not. The scratch is all zeros afterwards.
-pub fn test_sound(
-    map: &[u64],
-    catalogue: &[Entry],
-    scratch: &mut [u64],
-    n: u32,
-    start: Tally,
-) -> bool
-    ensures { λ r. ⌜ (r ≡ tested (now (map .entry)) (now (catalogue .entry)) (now (scratch .entry)) n start)
-        × (now (scratch .exit) ≡ testedScratch (now (map .entry)) (now (catalogue .entry)) (now (scratch .entry)) n start) ⌝ }
-{
-    let tally = tally_entries(catalogue, n, start);
-    let first = first_window(tally);
-    let count = window_count(n, first);
-    let last = test_windows(map, catalogue, scratch, n, count, first);
-    all_passed(last, scratch)
 }

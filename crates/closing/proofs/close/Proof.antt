@@ -1,5 +1,5 @@
 -- Written by tools/walks: `closing::close` meets its contract, by the walk of `MapCatalogueCardScratch3First.antt` of the crate
--- walk_closing, with the calls of `catalogue::count`, `closing::begin`, `image_soundness::test_sound`, `closing::verdict`,
+-- walk_closing, with the calls of `catalogue::count`, `closing::begin`, `image_windows::test_sound`, `closing::verdict`,
 -- `closing::rounds_for`, `closing::close_rounds`, `closing::close_map`.
 -- Assumes nothing.
 use contract.Running.{givenOf, tables, tablesOf}
@@ -21,8 +21,8 @@ use Rattle.catalogue.proofs.count.Symbol as count-def
 use Rattle.catalogue.proofs.count.Met as count-met
 use Rattle.closing.proofs.begin.Symbol as begin-def
 use Rattle.closing.proofs.begin.Met as begin-met
-use Rattle.image_soundness.proofs.test_sound.Symbol as test-def
-use Rattle.image_soundness.proofs.test_sound.Met as test-met
+use Rattle.image_windows.proofs.test_sound.Symbol as test-def
+use Rattle.image_windows.proofs.test_sound.Met as test-met
 use Rattle.closing.proofs.verdict.Symbol as verdict-def
 use Rattle.closing.proofs.verdict.Met as verdict-met
 use Rattle.closing.proofs.rounds_for.Symbol as rounds-for-def
@@ -53,7 +53,7 @@ close-spec 𝓤 H 𝓜 𝓖 𝓡 =
     (cited 𝓤 H (begin-contract Tally firstTally 𝓤 H (𝓖 .A)) 𝓜 𝓡 code.env begin-def.name begin-def.routine
     code.calls-closing·begin (begin-met.met 𝓤 H 𝓜 𝓖 𝓡))
     (cited 𝓤 H (test-contract Tally tested testedScratch 𝓤 H (𝓖 .A)) 𝓜 𝓡 code.env test-def.name test-def.routine
-    code.calls-image-soundness·test-sound (test-met.met 𝓤 H 𝓜 𝓖 𝓡))
+    code.calls-image-windows·test-sound (test-met.met 𝓤 H 𝓜 𝓖 𝓡))
     (cited 𝓤 H (verdict-contract Tally numberBy 𝓤 H (𝓖 .A)) 𝓜 𝓡 code.env verdict-def.name verdict-def.routine
     code.calls-closing·verdict (verdict-met.met 𝓤 H 𝓜 𝓖 𝓡))
     (cited 𝓤 H (rounds-for-contract Tally roundsFor 𝓤 H (𝓖 .A)) 𝓜 𝓡 code.env rounds-for-def.name rounds-for-def.routine

@@ -1,5 +1,5 @@
 -- Written by tools/walks: `image_save::save` meets its contract, by the walk of `ScratchImageFromMapCatalogue2First.antt` of
--- the crate walk_images, with the calls of `catalogue::count`, `image_save::begin`, `image_soundness::test_sound`,
+-- the crate walk_images, with the calls of `catalogue::count`, `image_save::begin`, `image_windows::test_sound`,
 -- `image_save::verdict`, `image_save::write_head`, `image_save::write_entries`, `image_save::write_rest`.
 -- Assumes nothing.
 use contract.Running.{givenOf, tables, tablesOf}
@@ -23,8 +23,8 @@ use Rattle.catalogue.proofs.count.Symbol as count-def
 use Rattle.catalogue.proofs.count.Met as count-met
 use Rattle.image_save.proofs.begin.Symbol as begin-def
 use Rattle.image_save.proofs.begin.Met as begin-met
-use Rattle.image_soundness.proofs.test_sound.Symbol as test-sound-def
-use Rattle.image_soundness.proofs.test_sound.Met as test-sound-met
+use Rattle.image_windows.proofs.test_sound.Symbol as test-sound-def
+use Rattle.image_windows.proofs.test_sound.Met as test-sound-met
 use Rattle.image_save.proofs.verdict.Symbol as verdict-def
 use Rattle.image_save.proofs.verdict.Met as verdict-met
 use Rattle.image_save.proofs.write_head.Symbol as write-head-def
@@ -58,7 +58,7 @@ save-spec 𝓤 H 𝓜 𝓖 𝓡 =
     (cited 𝓤 H (begin-contract Tally Cursor firstTally 𝓤 H (𝓖 .A)) 𝓜 𝓡 code.env begin-def.name begin-def.routine
     code.calls-image-save·begin (begin-met.met 𝓤 H 𝓜 𝓖 𝓡))
     (cited 𝓤 H (test-sound-contract Tally Cursor tested testedScratch 𝓤 H (𝓖 .A)) 𝓜 𝓡 code.env test-sound-def.name
-    test-sound-def.routine code.calls-image-soundness·test-sound (test-sound-met.met 𝓤 H 𝓜 𝓖 𝓡))
+    test-sound-def.routine code.calls-image-windows·test-sound (test-sound-met.met 𝓤 H 𝓜 𝓖 𝓡))
     (cited 𝓤 H (verdict-contract Tally Cursor numberBy 𝓤 H (𝓖 .A)) 𝓜 𝓡 code.env verdict-def.name verdict-def.routine
     code.calls-image-save·verdict (verdict-met.met 𝓤 H 𝓜 𝓖 𝓡))
     (cited 𝓤 H (write-head-contract Tally Cursor headCursor headImage 𝓤 H (𝓖 .A)) 𝓜 𝓡 code.env write-head-def.name

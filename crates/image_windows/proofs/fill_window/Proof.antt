@@ -2,10 +2,10 @@
 -- Assumes nothing.
 use mathlib.Core.Path.{_∙_}
 use native.Mathlib.Omega.{arith}
 use Rattle.image_soundness.proofs.Steps.{not-copied, is-copied}
 use borrow.Author.Needs.{needs}
-use Rattle.image_soundness.proofs.fill_window.Statement.{statement}
-use Rattle.image_soundness.proofs.fill_window.Tie as tie
+use Rattle.image_windows.proofs.fill_window.Statement.{statement}
+use Rattle.image_windows.proofs.fill_window.Tie as tie
 
 returns : tie.Need-returns
 returns c = not-copied _ _ _ (c .if1 .taken)

@@ -1,10 +1,10 @@
 -- `all_passed` meets its contract.
 -- Assumes nothing.
 use mathlib.Core.Path.{_∙_}
 use Rattle.image_soundness.proofs.Steps.{all-passed, all-cleared}
 use borrow.Author.Needs.{needs}
-use Rattle.image_soundness.proofs.all_passed.Statement.{statement}
-use Rattle.image_soundness.proofs.all_passed.Tie as tie
+use Rattle.image_windows.proofs.all_passed.Statement.{statement}
+use Rattle.image_windows.proofs.all_passed.Tie as tie
 
 clear-requires : tie.Need-clear-requires
 clear-requires c κs = search needs

@@ -1,9 +1,9 @@
 -- `end_window` meets its contract.
 -- Assumes nothing.
 use Rattle.image_soundness.proofs.Steps.{window-ends}
 use borrow.Author.Needs.{needs}
-use Rattle.image_soundness.proofs.end_window.Statement.{statement}
-use Rattle.image_soundness.proofs.end_window.Tie as tie
+use Rattle.image_windows.proofs.end_window.Statement.{statement}
+use Rattle.image_windows.proofs.end_window.Tie as tie
 
 window-passes-requires : tie.Need-window-passes-requires
 window-passes-requires c κs = search needs

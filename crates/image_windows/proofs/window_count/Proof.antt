@@ -1,9 +1,9 @@
 -- `window_count` meets its contract.
 -- Assumes nothing.
 use Rattle.image_soundness.proofs.Steps.{count-none, count-all}
 use borrow.Author.Needs.{needs}
-use Rattle.image_soundness.proofs.window_count.Statement.{statement}
-use Rattle.image_soundness.proofs.window_count.Tie as tie
+use Rattle.image_windows.proofs.window_count.Statement.{statement}
+use Rattle.image_windows.proofs.window_count.Tie as tie
 
 returns : tie.Need-returns
 returns c = count-none _ _ (c .if1 .taken)

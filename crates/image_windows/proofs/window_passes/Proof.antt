@@ -1,10 +1,10 @@
 -- `window_passes` meets its contract, test by test.
 -- Assumes nothing.
 use mathlib.Core.Path.{_∙_}
 use Rattle.image_soundness.proofs.Steps.{passes-stopped, passes-long, passes-fresh}
 use borrow.Author.Needs.{needs}
-use Rattle.image_soundness.proofs.window_passes.Statement.{statement}
-use Rattle.image_soundness.proofs.window_passes.Tie as tie
+use Rattle.image_windows.proofs.window_passes.Statement.{statement}
+use Rattle.image_windows.proofs.window_passes.Tie as tie
 
 returns : tie.Need-returns
 returns c = passes-stopped _ _ _ (c .if1 .taken)

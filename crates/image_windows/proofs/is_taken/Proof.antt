@@ -2,10 +2,10 @@
 -- Assumes nothing.
 use mathlib.Core.Path.{_∙_}
 use native.Mathlib.Omega.{arith}
 use Rattle.image_soundness.proofs.Steps.{taken-short, taken-all}
 use borrow.Author.Needs.{needs}
-use Rattle.image_soundness.proofs.is_taken.Statement.{statement}
-use Rattle.image_soundness.proofs.is_taken.Tie as tie
+use Rattle.image_windows.proofs.is_taken.Statement.{statement}
+use Rattle.image_windows.proofs.is_taken.Tie as tie
 
 add-if1 : tie.Need-add-if1
 add-if1 c = search needs

@@ -1,9 +1,9 @@
 -- `first_window` meets its contract.
 -- Assumes nothing.
 use Rattle.image_soundness.proofs.Steps.{first-stopped, first-left}
 use borrow.Author.Needs.{needs}
-use Rattle.image_soundness.proofs.first_window.Statement.{statement}
-use Rattle.image_soundness.proofs.first_window.Tie as tie
+use Rattle.image_windows.proofs.first_window.Statement.{statement}
+use Rattle.image_windows.proofs.first_window.Tie as tie
 
 returns : tie.Need-returns
 returns c = first-stopped _ (c .if1 .taken)

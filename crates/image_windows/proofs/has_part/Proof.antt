@@ -1,10 +1,10 @@
 -- `has_part` meets its contract.
 -- Assumes nothing.
 use native.Mathlib.Omega.{arith}
 use Rattle.image_soundness.proofs.Steps.{has-part, lies-apart}
 use borrow.Author.Needs.{needs}
-use Rattle.image_soundness.proofs.has_part.Statement.{statement}
-use Rattle.image_soundness.proofs.has_part.Tie as tie
+use Rattle.image_windows.proofs.has_part.Statement.{statement}
+use Rattle.image_windows.proofs.has_part.Tie as tie
 
 cast-start : tie.Need-cast-start
 cast-start c = search needs

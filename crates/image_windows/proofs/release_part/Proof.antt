@@ -3,11 +3,11 @@
 use mathlib.Core.Path.{_∙_}
 use native.Mathlib.Omega.{arith}
 use Rattle.catalogue_standings.proofs.Tested.{fails, holds}
 use Rattle.image_soundness.proofs.Parts.{part-past, part-fails, part-releases}
 use Rattle.image_soundness.proofs.Steps.{taken-fits}
 use borrow.Author.Needs.{needs}
-use Rattle.image_soundness.proofs.release_part.Statement.{statement}
-use Rattle.image_soundness.proofs.release_part.Tie as tie
+use Rattle.image_windows.proofs.release_part.Statement.{statement}
+use Rattle.image_windows.proofs.release_part.Tie as tie
 
 cast-lo : tie.Need-cast-lo
 cast-lo c = search needs

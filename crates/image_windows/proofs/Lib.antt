@@ -1,0 +1,2 @@
+-- `PartsReleased` is a walk over the entries.
+pub mod PartsReleased
