@@ -1,24 +1,22 @@
--- What is promised of a public call, of any result and of anything left that meets its contract (document 02 (n)). If its role
--- may make it, what it hands back and leaves meets the inner call's contract (`..-passes`): so all that is promised of that
--- (crates/card/proofs/Promises.antt) holds of it. If not, it is turned away: 21, the shape as it came, nothing changed, and a
--- scratch all zeros (`..-turned`).
+-- What is promised of a public call that its role may make, of any result and of anything left that meets its contract
+-- (document 02 (n)): it meets the inner call's contract (`..-passes`), so all that is promised of that
+-- (crates/card/proofs/Promises.antt) holds of it. What is promised of a call that is turned away stands in
+-- crates/ledger_roles/specs/TurnedAway.antt.
 -- Assumes nothing.
 use mathlib.Core.Path.{_≡_, ap, _∙_}
-use mathlib.Core.Bool.{Bool, true, false, cond}
+use mathlib.Core.Bool.{Bool, true, cond}
 use mathlib.Core.List.{List}
 use Prim.Native.Nat.{ℕ}
 use Rattle.roles.specs.Roles as roles
 use Rattle.catalogue.specs.declared.Entry.{Entry}
 use Rattle.refusals.specs.Lent.{noCard}
 use Rattle.image.specs.Effects as images
-use Rattle.image.specs.Effects.{zerosFor}
 use Rattle.closing.specs.Effects as closings
 use Rattle.card.specs.Calls.{kept}
 use Rattle.card.specs.Contracts as inner
 use Rattle.card.specs.declared.Outcome.{Outcome}
 use Rattle.card.specs.declared.Shape.{Shape}
 use Rattle.role_calls.specs.Contracts as outer
-use Rattle.role_calls.specs.Turned.{turnedAway}
 
 -- ---- what is handed back or left, by the test whether the role may make the call
 
@@ -26,95 +24,60 @@ module _ {A : Type 0} (b : Bool) (x y : A) {r : A} where
   pub left : b ≡ true → r ≡ cond b x y → r ≡ x
   left e h = h ∙ ap (λ (c : Bool). cond c x y) e
 
-  pub kept-so : b ≡ false → r ≡ cond b x y → r ≡ y
-  kept-so e h = h ∙ ap (λ (c : Bool). cond c x y) e
-
 module _ {R : Type 0} (how : Outcome → R) (b : Bool) (x y : Outcome) {r : R} where
   pub told : b ≡ true → r ≡ how (cond b x y) → r ≡ how x
   told e h = h ∙ ap (λ (c : Bool). how (cond c x y)) e
 
-  pub away : b ≡ false → r ≡ how (cond b x y) → r ≡ how y
-  away e h = h ∙ ap (λ (c : Bool). how (cond c x y)) e
-
 -- ---- the calls
 
-module _ {R : Type 0} (how : Outcome → R) (role : ℕ) (shape : Shape) (blocks : ℕ) (map : List ℕ) (entries : List Entry) (r :
-    R) (map′ : List ℕ) (entries′ : List Entry)
-    (h : outer.Freshens how role shape blocks map entries r map′ entries′) where
-  pub fresh-passes : roles.may role roles.fresh ≡ true → inner.Freshens how shape blocks map entries r map′ entries′
-  fresh-passes e = (told how _ _ _ e (h .0), left _ _ _ e (h .1), left _ _ _ e (h .2))
-
-  pub fresh-turned : roles.may role roles.fresh ≡ false → (r ≡ how (turnedAway shape)) × (map′ ≡ map) × (entries′ ≡ entries)
-  fresh-turned e = (away how _ _ _ e (h .0), kept-so _ _ _ e (h .1), kept-so _ _ _ e (h .2))
+module _ {R : Type 0} (how : Outcome → R) (role : ℕ) (shape : Shape) (blocks : ℕ) (map : List ℕ) (entries : List Entry)
+    (r : R) (map′ : List ℕ) (entries′ : List Entry) (h : outer.Freshens how role shape blocks map entries r map′ entries′)
+  where
+    pub fresh-passes : roles.may role roles.fresh ≡ true → inner.Freshens how shape blocks map entries r map′ entries′
+    fresh-passes e = (told how _ _ _ e (h .0), left _ _ _ e (h .1), left _ _ _ e (h .2))
 
 module _ {R : Type 0} (how : Outcome → R) (role : ℕ) (shape : Shape) (map : List ℕ) (k : ℕ) (r : R)
     (h : outer.Searches how role shape map k r) where
   pub search-passes : roles.may role roles.search ≡ true → inner.Searches how shape map k r
   search-passes e = told how _ _ _ e h
 
-  pub search-turned : roles.may role roles.search ≡ false → r ≡ how (turnedAway shape)
-  search-turned e = away how _ _ _ e h
-
 module _ {R : Type 0} (how : Outcome → R) (role : ℕ) (shape : Shape) (map : List ℕ) (r : R)
     (h : outer.Surveys how role shape map r) where
   pub survey-passes : roles.may role roles.survey ≡ true → inner.Surveys how shape map r
   survey-passes e = told how _ _ _ e h
 
-  pub survey-turned : roles.may role roles.survey ≡ false → r ≡ how (turnedAway shape)
-  survey-turned e = away how _ _ _ e h
-
-module _ {R : Type 0} (how : Outcome → R) (role : ℕ) (shape : Shape) (map : List ℕ) (entries : List Entry) (card : List ℕ)
-    (limits : List ℕ) (sheet k : ℕ) (r : R) (map′ : List ℕ) (entries′ : List Entry) (card′ : List ℕ)
+module _ {R : Type 0} (how : Outcome → R) (role : ℕ) (shape : Shape) (map : List ℕ) (entries : List Entry)
+    (card limits : List ℕ) (sheet k : ℕ) (r : R) (map′ : List ℕ) (entries′ : List Entry) (card′ : List ℕ)
     (h : outer.Reserves how role shape map entries card limits sheet k r map′ entries′ card′) where
   pub reserve-passes : roles.may role roles.reserve ≡ true
       → inner.Reserves how (kept shape map entries card) limits sheet k r map′ entries′ card′
   reserve-passes e = (told how _ _ _ e (h .0), left _ _ _ e (h .1), left _ _ _ e (h .2), left _ _ _ e (h .3))
 
-  pub reserve-turned : roles.may role roles.reserve ≡ false
-      → (r ≡ how (turnedAway shape)) × (map′ ≡ map) × (entries′ ≡ entries) × (card′ ≡ card)
-  reserve-turned e = (away how _ _ _ e (h .0), kept-so _ _ _ e (h .1), kept-so _ _ _ e (h .2), kept-so _ _ _ e (h .3))
-
-module _ {R : Type 0} (how : Outcome → R) (role : ℕ) (shape : Shape) (map : List ℕ) (entries : List Entry) (card : List ℕ)
-    (limits : List ℕ) (sheet k from before step : ℕ) (r : R) (map′ : List ℕ) (entries′ : List Entry) (card′ : List ℕ)
+module _ {R : Type 0} (how : Outcome → R) (role : ℕ) (shape : Shape) (map : List ℕ) (entries : List Entry)
+    (card limits : List ℕ) (sheet k from before step : ℕ) (r : R) (map′ : List ℕ) (entries′ : List Entry) (card′ : List ℕ)
     (h : outer.ReservesPlaced how role shape map entries card limits sheet k from before step r map′ entries′ card′) where
   pub reserve-placed-passes : roles.may role roles.reserve ≡ true
       → inner.ReservesPlaced how (kept shape map entries card) limits sheet k from before step r map′ entries′ card′
   reserve-placed-passes e = (told how _ _ _ e (h .0), left _ _ _ e (h .1), left _ _ _ e (h .2), left _ _ _ e (h .3))
 
-  pub reserve-placed-turned : roles.may role roles.reserve ≡ false
-      → (r ≡ how (turnedAway shape)) × (map′ ≡ map) × (entries′ ≡ entries) × (card′ ≡ card)
-  reserve-placed-turned e = (away how _ _ _ e (h .0), kept-so _ _ _ e (h .1), kept-so _ _ _ e (h .2), kept-so _ _ _ e (h .3))
-
-module _ {R : Type 0} (how : Outcome → R) (role : ℕ) (shape : Shape) (map : List ℕ) (entries : List Entry) (card : List ℕ)
-    (limits : List ℕ) (sheet k : ℕ) (r : R)
-    (h : outer.Offers how role shape map entries card limits sheet k r) where
+module _ {R : Type 0} (how : Outcome → R) (role : ℕ) (shape : Shape) (map : List ℕ) (entries : List Entry)
+    (card limits : List ℕ) (sheet k : ℕ) (r : R) (h : outer.Offers how role shape map entries card limits sheet k r) where
   pub offer-passes : roles.may role roles.offer ≡ true → inner.Offers how (kept shape map entries card) limits sheet k r
   offer-passes e = told how _ _ _ e h
 
-  pub offer-turned : roles.may role roles.offer ≡ false → r ≡ how (turnedAway shape)
-  offer-turned e = away how _ _ _ e h
-
-module _ {R : Type 0} (how : Outcome → R) (role : ℕ) (shape : Shape) (map : List ℕ) (entries : List Entry) (card : List ℕ)
-    (limits : List ℕ) (sheet start k : ℕ) (r : R) (map′ : List ℕ) (entries′ : List Entry) (card′ : List ℕ)
+module _ {R : Type 0} (how : Outcome → R) (role : ℕ) (shape : Shape) (map : List ℕ) (entries : List Entry)
+    (card limits : List ℕ) (sheet start k : ℕ) (r : R) (map′ : List ℕ) (entries′ : List Entry) (card′ : List ℕ)
     (h : outer.Accepts how role shape map entries card limits sheet start k r map′ entries′ card′) where
   pub accept-passes : roles.may role roles.accept ≡ true
       → inner.Accepts how (kept shape map entries card) limits sheet start k r map′ entries′ card′
   accept-passes e = (told how _ _ _ e (h .0), left _ _ _ e (h .1), left _ _ _ e (h .2), left _ _ _ e (h .3))
 
-  pub accept-turned : roles.may role roles.accept ≡ false
-      → (r ≡ how (turnedAway shape)) × (map′ ≡ map) × (entries′ ≡ entries) × (card′ ≡ card)
-  accept-turned e = (away how _ _ _ e (h .0), kept-so _ _ _ e (h .1), kept-so _ _ _ e (h .2), kept-so _ _ _ e (h .3))
-
-module _ {R : Type 0} (how : Outcome → R) (role : ℕ) (shape : Shape) (map : List ℕ) (entries : List Entry) (card : List ℕ)
-    (limits : List ℕ) (sheet k : ℕ) (r : R) (map′ : List ℕ) (entries′ : List Entry) (card′ : List ℕ)
+module _ {R : Type 0} (how : Outcome → R) (role : ℕ) (shape : Shape) (map : List ℕ) (entries : List Entry)
+    (card limits : List ℕ) (sheet k : ℕ) (r : R) (map′ : List ℕ) (entries′ : List Entry) (card′ : List ℕ)
     (h : outer.Grows how role shape map entries card limits sheet k r map′ entries′ card′) where
   pub grow-passes : roles.may role roles.grow ≡ true
       → inner.Grows how (kept shape map entries card) limits sheet k r map′ entries′ card′
   grow-passes e = (told how _ _ _ e (h .0), left _ _ _ e (h .1), left _ _ _ e (h .2), left _ _ _ e (h .3))
-
-  pub grow-turned : roles.may role roles.grow ≡ false
-      → (r ≡ how (turnedAway shape)) × (map′ ≡ map) × (entries′ ≡ entries) × (card′ ≡ card)
-  grow-turned e = (away how _ _ _ e (h .0), kept-so _ _ _ e (h .1), kept-so _ _ _ e (h .2), kept-so _ _ _ e (h .3))
 
 module _ {R : Type 0} (how : Outcome → R) (role : ℕ) (shape : Shape) (map : List ℕ) (entries : List Entry) (card : List ℕ)
     (sheet place : ℕ) (payload : List ℕ) (r : R) (card′ : List ℕ)
@@ -122,47 +85,28 @@ module _ {R : Type 0} (how : Outcome → R) (role : ℕ) (shape : Shape) (map : 
   pub put-passes : roles.may role roles.put ≡ true → inner.Puts how (kept shape map entries card) sheet place payload r card′
   put-passes e = (told how _ _ _ e (h .0), left _ _ _ e (h .1))
 
-  pub put-turned : roles.may role roles.put ≡ false → (r ≡ how (turnedAway shape)) × (card′ ≡ card)
-  put-turned e = (away how _ _ _ e (h .0), kept-so _ _ _ e (h .1))
-
 module _ {R : Type 0} (how : Outcome → R) (role : ℕ) (shape : Shape) (map : List ℕ) (entries : List Entry) (card : List ℕ)
-    (sheet : ℕ) (r : R) (entries′ : List Entry)
-    (h : outer.Completes how role shape map entries card sheet r entries′) where
+    (sheet : ℕ) (r : R) (entries′ : List Entry) (h : outer.Completes how role shape map entries card sheet r entries′) where
   pub complete-passes : roles.may role roles.complete ≡ true
       → inner.Completes how (kept shape map entries card) sheet r entries′
   complete-passes e = (told how _ _ _ e (h .0), left _ _ _ e (h .1))
 
-  pub complete-turned : roles.may role roles.complete ≡ false → (r ≡ how (turnedAway shape)) × (entries′ ≡ entries)
-  complete-turned e = (away how _ _ _ e (h .0), kept-so _ _ _ e (h .1))
-
-module _ {R : Type 0} (how : Outcome → R) (role : ℕ) (shape : Shape) (map : List ℕ) (entries : List Entry) (sheet : ℕ) (r :
-    R) (entries′ : List Entry)
-    (h : outer.Pauses how role shape map entries sheet r entries′) where
+module _ {R : Type 0} (how : Outcome → R) (role : ℕ) (shape : Shape) (map : List ℕ) (entries : List Entry) (sheet : ℕ)
+    (r : R) (entries′ : List Entry) (h : outer.Pauses how role shape map entries sheet r entries′) where
   pub pause-passes : roles.may role roles.pause ≡ true → inner.Pauses how (kept shape map entries noCard) sheet r entries′
   pause-passes e = (told how _ _ _ e (h .0), left _ _ _ e (h .1))
 
-  pub pause-turned : roles.may role roles.pause ≡ false → (r ≡ how (turnedAway shape)) × (entries′ ≡ entries)
-  pause-turned e = (away how _ _ _ e (h .0), kept-so _ _ _ e (h .1))
-
-module _ {R : Type 0} (how : Outcome → R) (role : ℕ) (shape : Shape) (map : List ℕ) (entries : List Entry) (sheet : ℕ) (r :
-    R) (entries′ : List Entry)
-    (h : outer.Resumes how role shape map entries sheet r entries′) where
+module _ {R : Type 0} (how : Outcome → R) (role : ℕ) (shape : Shape) (map : List ℕ) (entries : List Entry) (sheet : ℕ)
+    (r : R) (entries′ : List Entry) (h : outer.Resumes how role shape map entries sheet r entries′) where
   pub resume-passes : roles.may role roles.resume ≡ true → inner.Resumes how (kept shape map entries noCard) sheet r entries′
   resume-passes e = (told how _ _ _ e (h .0), left _ _ _ e (h .1))
 
-  pub resume-turned : roles.may role roles.resume ≡ false → (r ≡ how (turnedAway shape)) × (entries′ ≡ entries)
-  resume-turned e = (away how _ _ _ e (h .0), kept-so _ _ _ e (h .1))
-
-module _ {R : Type 0} (how : Outcome → R) (role : ℕ) (shape : Shape) (map : List ℕ) (entries : List Entry) (sheet : ℕ) (r :
-    R) (map′ : List ℕ) (entries′ : List Entry)
-    (h : outer.Releases how role shape map entries sheet r map′ entries′) where
-  pub release-passes : roles.may role roles.release ≡ true
-      → inner.Releases how (kept shape map entries noCard) sheet r map′ entries′
-  release-passes e = (told how _ _ _ e (h .0), left _ _ _ e (h .1), left _ _ _ e (h .2))
-
-  pub release-turned : roles.may role roles.release ≡ false
-      → (r ≡ how (turnedAway shape)) × (map′ ≡ map) × (entries′ ≡ entries)
-  release-turned e = (away how _ _ _ e (h .0), kept-so _ _ _ e (h .1), kept-so _ _ _ e (h .2))
+module _ {R : Type 0} (how : Outcome → R) (role : ℕ) (shape : Shape) (map : List ℕ) (entries : List Entry) (sheet : ℕ)
+    (r : R) (map′ : List ℕ) (entries′ : List Entry) (h : outer.Releases how role shape map entries sheet r map′ entries′)
+  where
+    pub release-passes : roles.may role roles.release ≡ true
+        → inner.Releases how (kept shape map entries noCard) sheet r map′ entries′
+    release-passes e = (told how _ _ _ e (h .0), left _ _ _ e (h .1), left _ _ _ e (h .2))
 
 module _ {R : Type 0} (how : Outcome → R) (role : ℕ) (shape : Shape) (map : List ℕ) (entries : List Entry) (card : List ℕ)
     (sheet place : ℕ) (buffer : List ℕ) (r : R) (buffer′ : List ℕ)
@@ -171,9 +115,6 @@ module _ {R : Type 0} (how : Outcome → R) (role : ℕ) (shape : Shape) (map : 
       → inner.Shows how (kept shape map entries card) sheet place buffer r buffer′
   show-passes e = (told how _ _ _ e (h .0), left _ _ _ e (h .1))
 
-  pub show-turned : roles.may role roles.show ≡ false → (r ≡ how (turnedAway shape)) × (buffer′ ≡ buffer)
-  show-turned e = (away how _ _ _ e (h .0), kept-so _ _ _ e (h .1))
-
 module _ {R : Type 0} (how : Outcome → R) (role : ℕ) (shape : Shape) (map : List ℕ) (entries : List Entry) (card : List ℕ)
     (sheet place year month day : ℕ) (buffer : List ℕ) (r : R) (buffer′ : List ℕ)
     (h : outer.ShowsDated how role shape map entries card sheet place year month day buffer r buffer′) where
@@ -181,48 +122,30 @@ module _ {R : Type 0} (how : Outcome → R) (role : ℕ) (shape : Shape) (map : 
       → inner.ShowsDated how (kept shape map entries card) sheet place year month day buffer r buffer′
   show-dated-passes e = (told how _ _ _ e (h .0), left _ _ _ e (h .1))
 
-  pub show-dated-turned : roles.may role roles.showDated ≡ false → (r ≡ how (turnedAway shape)) × (buffer′ ≡ buffer)
-  show-dated-turned e = (away how _ _ _ e (h .0), kept-so _ _ _ e (h .1))
-
-module _ {R : Type 0} (how : Outcome → R) (role : ℕ) (shape : Shape) (map : List ℕ) (entries : List Entry) (sheet : ℕ) (r : R)
-    (h : outer.TellsStanding how role shape map entries sheet r) where
+module _ {R : Type 0} (how : Outcome → R) (role : ℕ) (shape : Shape) (map : List ℕ) (entries : List Entry) (sheet : ℕ)
+    (r : R) (h : outer.TellsStanding how role shape map entries sheet r) where
   pub standing-passes : roles.may role roles.standing ≡ true → inner.TellsStanding how (kept shape map entries noCard) sheet r
   standing-passes e = told how _ _ _ e h
 
-  pub standing-turned : roles.may role roles.standing ≡ false → r ≡ how (turnedAway shape)
-  standing-turned e = away how _ _ _ e h
-
-module _ {R : Type 0} (how : Outcome → R) (role : ℕ) (shape : Shape) (map : List ℕ) (entries : List Entry) (scratch image :
-    List ℕ) (r : R) (scratch′ : List ℕ) (image′ : List ℕ)
+module _ {R : Type 0} (how : Outcome → R) (role : ℕ) (shape : Shape) (map : List ℕ) (entries : List Entry)
+    (scratch image : List ℕ) (r : R) (scratch′ image′ : List ℕ)
     (h : outer.Saves how role shape map entries scratch image r scratch′ image′) where
   pub save-passes : roles.may role roles.save ≡ true → inner.Saves how shape map entries scratch image r scratch′ image′
   unfolding images.saveScratch
   save-passes e = (told how _ _ _ e (h .0), h .1, left _ _ _ e (h .2))
 
-  pub save-turned : roles.may role roles.save ≡ false
-      → (r ≡ how (turnedAway shape)) × (scratch′ ≡ zerosFor scratch) × (image′ ≡ image)
-  save-turned e = (away how _ _ _ e (h .0), h .1, kept-so _ _ _ e (h .2))
-
-module _ {R : Type 0} (how : Outcome → R) (role : ℕ) (shape : Shape) (image map : List ℕ) (entries : List Entry) (scratch :
-    List ℕ) (r : R) (map′ : List ℕ) (entries′ : List Entry) (scratch′ : List ℕ)
+module _ {R : Type 0} (how : Outcome → R) (role : ℕ) (shape : Shape) (image map : List ℕ) (entries : List Entry)
+    (scratch : List ℕ) (r : R) (map′ : List ℕ) (entries′ : List Entry) (scratch′ : List ℕ)
     (h : outer.Loads how role shape image map entries scratch r map′ entries′ scratch′) where
   pub load-passes : roles.may role roles.load ≡ true
       → inner.Loads how shape image map entries scratch r map′ entries′ scratch′
   unfolding images.loadScratch
   load-passes e = (told how _ _ _ e (h .0), left _ _ _ e (h .1), left _ _ _ e (h .2), h .3)
 
-  pub load-turned : roles.may role roles.load ≡ false
-      → (r ≡ how (turnedAway shape)) × (map′ ≡ map) × (entries′ ≡ entries) × (scratch′ ≡ zerosFor scratch)
-  load-turned e = (away how _ _ _ e (h .0), kept-so _ _ _ e (h .1), kept-so _ _ _ e (h .2), h .3)
-
-module _ {R : Type 0} (how : Outcome → R) (role : ℕ) (shape : Shape) (map : List ℕ) (entries : List Entry) (card : List ℕ)
-    (scratch : List ℕ) (r : R) (map′ : List ℕ) (entries′ : List Entry) (card′ : List ℕ) (scratch′ : List ℕ)
+module _ {R : Type 0} (how : Outcome → R) (role : ℕ) (shape : Shape) (map : List ℕ) (entries : List Entry)
+    (card scratch : List ℕ) (r : R) (map′ : List ℕ) (entries′ : List Entry) (card′ scratch′ : List ℕ)
     (h : outer.Closes how role shape map entries card scratch r map′ entries′ card′ scratch′) where
   pub close-passes : roles.may role roles.close ≡ true
       → inner.Closes how (kept shape map entries card) scratch r map′ entries′ card′ scratch′
   unfolding closings.closeScratch
   close-passes e = (told how _ _ _ e (h .0), left _ _ _ e (h .1), left _ _ _ e (h .2), left _ _ _ e (h .3), h .4)
-
-  pub close-turned : roles.may role roles.close ≡ false
-      → (r ≡ how (turnedAway shape)) × (map′ ≡ map) × (entries′ ≡ entries) × (card′ ≡ card) × (scratch′ ≡ zerosFor scratch)
-  close-turned e = (away how _ _ _ e (h .0), kept-so _ _ _ e (h .1), kept-so _ _ _ e (h .2), kept-so _ _ _ e (h .3), h .4)
