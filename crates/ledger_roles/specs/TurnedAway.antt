@@ -1,6 +1,6 @@
--- A call that is turned away, whatever it is and whoever makes it (document 02, request (n): "21 for an unknown role or a call not
--- in its row; before all other numbers"): it is told 21, the shape as it came, and nothing is changed; a scratch that it is lent
--- is all zeros, as after every refusal. That it holds is `every-call-turned-away` in proofs/TurnedAway.antt.
+-- A call that is turned away, whatever it is and whoever makes it (document 02, request (n): "21 for an unknown role or a call
+-- not in its row; before all other numbers"): it is told 21, the shape as it came, and nothing is changed; a scratch that it is
+-- lent is all zeros, as after every refusal. That it holds is `every-call-turned-away` in proofs/TurnedAway.antt.
 -- Assumes nothing.
 use Prim.Native.Nat.{ℕ}
 use mathlib.Core.Path.{_≡_}
