@@ -19,7 +19,7 @@ use Rattle.ledger_roles.specs.PublicCalls.{close, buildSummary, checkSum
 use Rattle.ledger_roles.specs.PublicCalls.{growBy, releaseBy, closeBy, nameIn, Beside, Left, left, withBuffer}
 use Rattle.ledger_roles.specs.PublicCalls.{Ensures, Called, Came, keptThen, Makes}
 use Rattle.ledger_roles.specs.Carers.{EveryCallLearnsTheSame, ChangesNothingAtAll, SameCalls, SameCame}
-use Rattle.ledger_roles.specs.Carers.{ListsLearnTheSame, ListsChangeNothing}
+use Rattle.ledger_roles.specs.Carers.{ListsLearnTheSameByRole, ListsChangeNothing}
 use Rattle.ledger_roles.proofs.Carers.{learns-the-same-by-role}
 use Rattle.ledger_roles.proofs.TurnedAway.{bufferIn, imageIn, summaryIn, every-call-turned-away}
 
@@ -175,5 +175,5 @@ module _ (s t : Kept) (agree : Agree s t) where
             (stays t (y .beside) (k .outcome) (k .left) (y .call) (h .0) .0) (h .1)),
       )
 
-pub lists-learn-the-same : ListsLearnTheSame
-lists-learn-the-same s t agree xs ys same gs hs s′ t′ g h = all-the-way s t agree xs ys same gs hs s′ t′ g h
+pub lists-learn-the-same-by-role : ListsLearnTheSameByRole
+lists-learn-the-same-by-role s t agree xs ys same gs hs s′ t′ g h = all-the-way s t agree xs ys same gs hs s′ t′ g h

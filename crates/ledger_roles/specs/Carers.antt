@@ -1,7 +1,7 @@
 -- A carer's calls as the public calls make them, with the carer's role (document 02, request (n)): what is claimed of them in
 -- crates/carers/specs/Learning.antt is claimed here of their contracts. That it holds is `learns-the-same-by-role` in
 -- proofs/Carers.antt; and of every public call that a carer makes, turned away or not, alone and in lists,
--- `every-call-learns-the-same`, `changes-nothing-at-all`, `lists-learn-the-same` and `lists-change-nothing` in
+-- `every-call-learns-the-same`, `changes-nothing-at-all`, `lists-learn-the-same-by-role` and `lists-change-nothing` in
 -- proofs/EveryCarersCall.antt.
 -- Assumes nothing.
 use Prim.Native.Nat.{ℕ}
@@ -65,8 +65,8 @@ SameCame (x ∷ xs) (y ∷ ys) (g ∷ gs) (h ∷ hs) =
     (g .outcome ≡ h .outcome)
     × (x .beside .buffer ≡ y .beside .buffer → g .left .beside .buffer ≡ h .left .beside .buffer) × SameCame xs ys gs hs
 
-abbrev pub ListsLearnTheSame : Type 0
-ListsLearnTheSame =
+abbrev pub ListsLearnTheSameByRole : Type 0
+ListsLearnTheSameByRole =
     (s t : Kept) → Agree s t → (xs ys : List Called) → SameCalls xs ys
     → (gs hs : List Came) (s′ t′ : Kept) → Makes carer s xs gs s′ → Makes carer t ys hs t′ → SameCame xs ys gs hs
 
