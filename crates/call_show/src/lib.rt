@@ -1,5 +1,4 @@
-// The calls that change nothing of a card's state, for an entry by value: show, the dated show and standing.
-pub mod dated;
+// The calls that change nothing of a card's state, for an entry by value: show and standing.
 pub mod place;
 pub mod show;
 pub mod standing;
