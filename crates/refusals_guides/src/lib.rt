@@ -5,7 +5,7 @@ ghost use Prim.Native.Nat.{_+_, _*_, _≤_};
 ghost use lib.ListN.{length};
 ghost use Rattle.refusals.specs.Guides.{guideFits, guideTested, guideAfter};
 use summary::summary_len;
-use summary::update;
+use summary_write::update;
 
 // Row 1 for a summary, if one guides the call. A map of more words than a card can have is refused by the same row.
 pub fn guide_fits(guided: bool, maplen: usize, summarylen: usize) -> bool

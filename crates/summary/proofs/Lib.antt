@@ -1,9 +1,7 @@
 -- Laws that the proofs of several functions cite, and those for the crates above.
-mod Checking
 pub mod Numbers
 pub mod Own
-mod Levels
-mod Rebuilding
+pub mod Rebuilding
 pub mod Sites
 pub mod Updates
 pub mod Usable

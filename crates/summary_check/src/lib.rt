@@ -1,0 +1,73 @@
+// Whether a lent summary is the map's own (document 02, request (j)): each group by its word or its two halves.
+ghost use mathlib.Core.Path.{_≡_};
+ghost use Prim.Native.Nat.{_+_, _*_, _<_, _≤_};
+ghost use lib.ListN.{length};
+ghost use Rattle.summary_groups.specs.Groups.{power, groupOf};
+ghost use Rattle.summary_groups.specs.Places.{Sited};
+ghost use Rattle.summary.specs.Summary.{usable, groupIn, isOwn, Beside};
+ghost use Rattle.summary.specs.Walks.{halvesOf, RightBelow, Decides};
+use summary::free_word;
+use summary::read;
+use summary::words_of;
+use summary_groups::Group;
+use summary_groups::joined;
+use summary_groups::word_group;
+
+// Whether two groups are the same. The tail is compared first: the last two would otherwise be read from memory as one number,
+// right after they have been stored as two.
+fn agree(a: Group, b: Group) -> bool
+    ensures { λ r. ⌜ Decides r (a ≡ b) ⌝ }
+{
+    if a.tail != b.tail {
+        return false;
+    }
+    if a.head != b.head {
+        return false;
+    }
+    a.longest == b.longest
+}
+
+// Whether group g, of word i alone, is right.
+fn word_agrees(map: &[u64], n: u32, summary: &[u32], g: usize, i: usize) -> bool
+    requires { ⌜ (i ≤ 4096) × (n ≤ 64 * length (now map)) × (g ≤ 16384) × (3 * g + 2 < length (now summary)) ⌝ }
+    ensures { λ r.
+        ⌜ Decides r (groupIn (now (summary .entry)) g ≡ groupOf (usable (now (map .entry)) n) (64 * i) 64) ⌝ }
+{
+    agree(read(summary, g), word_group(free_word(map, n, i)))
+}
+
+// Whether group g is as its two halves tell, of half words each.
+fn halves_agree(summary: &[u32], g: usize, half: usize) -> bool
+    requires { ⌜ (g ≤ 4096) × (half ≤ 4096) × (3 * (2 * g + 2) + 2 < length (now summary)) ⌝ }
+    ensures { λ r. ⌜ Decides r (groupIn (now (summary .entry)) g ≡ halvesOf (now (summary .entry)) g half) ⌝ }
+{
+    let a = read(summary, 2 * g + 1);
+    let b = read(summary, 2 * g + 2);
+    agree(read(summary, g), joined(a, b, 64 * (half as u32)))
+}
+
+// Whether group g, of the words first to first + size - 1, and the groups below it are right.
+fn right_below(map: &[u64], n: u32, summary: &[u32], g: usize, first: usize, size: usize) -> bool
+    requires { ⌜ Beside (now map) n (now summary) × Sited (power (length (now map))) g first size ⌝ }
+    ensures { λ r.
+        ⌜ Decides r (RightBelow (usable (now (map .entry)) n) (power (length (now (map .entry)))) (now (summary .entry)) g) ⌝ }
+{
+    if size == 1 {
+        return word_agrees(map, n, summary, g, first);
+    }
+    let half = size / 2;
+    if right_below(map, n, summary, 2 * g + 1, first, half) {
+        if right_below(map, n, summary, 2 * g + 2, first + half, half) {
+            return halves_agree(summary, g, half);
+        }
+    }
+    false
+}
+
+// Whether a summary is the map's own.
+pub fn check(map: &[u64], n: u32, summary: &[u32]) -> bool
+    requires { ⌜ Beside (now map) n (now summary) ⌝ }
+    ensures { λ r. ⌜ r ≡ isOwn (now (map .entry)) n (now (summary .entry)) ⌝ }
+{
+    right_below(map, n, summary, 0, 0, words_of(summary))
+}
