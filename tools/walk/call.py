@@ -242,12 +242,12 @@ module _{self.model_params()} where
 
     def learns_lengths(self, steps):
         """that each `&mut` slice has as many elements as before"""
-        steps.part('fsplit !', 'lasts', *[f'z{i}' for i in range(len(self.args))])
+        steps.part('fparts', 'lasts', *[f'z{i}' for i in range(len(self.args))])
+        steps.drop(*[f'z{i}' for i, a in enumerate(self.args) if a.slice != 'mut'])
         for i, a in enumerate(self.args):
-            steps.front(f'z{i}')
             if a.slice != 'mut':
-                steps.take('drop !', 1)
                 continue
+            steps.front(f'z{i}')
             steps.take('fsplit !', 1, 'f' + a.of.var, 'length')
             steps.front('length')
             steps.under('feqL !', f'h-{self.label}-{a.of.var}')
@@ -278,7 +278,7 @@ module _{self.model_params()} where
 
     def come_back(self, steps, elements, lengths, left, longer):
         """left: what each `&mut` slice has now; longer: that it has as many elements as before the call"""
-        steps.part('split !', 'tokens', *[('ν' if a.lent else 't') + a.of.var for a in self.slices])
+        steps.part('parts', 'tokens', *[('ν' if a.lent else 't') + a.of.var for a in self.slices])
         for a in self.lends:
             self.come_back_one(a, steps, elements, lengths, left, longer)
 

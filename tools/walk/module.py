@@ -36,8 +36,8 @@ LIBRARY = {
     'ghost.Atoms': 'Atoms sem',
     'contract.Monad': 'fact',
     'contract.Lifetimes': 'Lfts',
-    'types.Kit': 'Given Item Sq ‵ raw some given later _⊛_ ⋆ anyQ atRet runs _$_ _∵_ ! qed by move drop use0 use1 use2 use3'
-                 ' split join pick rewrite fsplit fjoin feqI feqL suffices frame await learn done',
+    'types.Kit': 'Given Item Sq ‵ raw some given later _⊛_ ⋆ anyQ atRet runs _$_ _∵_ ! qed by use0 use1 use2 use3'
+                 ' group split join pick rewrite fsplit fjoin feqI feqL suffices frame await learn done',
     'types.Run': 'look look-raw init store store-raw forget stop hop fld from load lit unit-lit addr and-then no-more of-opd'
                  ' bin assigns assigns-last stays leaves-loop first blocks exec loops again Below land returns enter alloc1'
                  ' alloc0 params1 pass1 pass0 free0',
@@ -72,7 +72,7 @@ LIBRARY = {
 
 # the same of the crate HOME
 LAWS = {
-    'Steps': 'leave leave-room says-nothing breaks-if is-true is-false is-not Less by-size',
+    'Steps': 'bring discard parts fparts leave leave-room says-nothing breaks-if is-true is-false is-not Less by-size',
     'Lending': 'LentAgain lends-again comes-back LentOut lends-out comes-home',
     'Arrays': 'PartLent PartShown lends-part shows-part part-back part-home',
 }
@@ -243,8 +243,8 @@ function {self.keys} = record {{
         for p in self.params:
             steps.say(f'pass1 ! (init ! {steps.place(places[p.var])} refl {p.fits})')
         steps.say('pass0 !')
-        steps.part('split !', 'tokens', *['t' + p.var for p in self.slices])
-        steps.part('fsplit !', 'owns', *['o' + p.var for p in self.params])
+        steps.part('parts', 'tokens', *['t' + p.var for p in self.slices])
+        steps.part('fparts', 'owns', *['o' + p.var for p in self.params])
         steps.drop(*['o' + p.var for p in self.params if not p.slice])
 
     def ends(self, steps, machine, result, made, lasts, lengths, said):

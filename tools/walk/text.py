@@ -118,33 +118,36 @@ class Steps:
     def at(self, label):
         return self.items.index(label)
 
-    def front(self, *labels):
-        places = [self.at(x) for x in labels]
-        if places != list(range(len(labels))):
-            self.say(f'move ! ({cons(places)})')
+    def out(self, labels):
+        """takes items out: the place of each, counted in what the ones before it leave"""
+        places = []
         for x in labels:
+            places.append(self.at(x))
             self.items.remove(x)
+        return places
+
+    def front(self, *labels):
+        places = self.out(labels)
+        if any(places):
+            self.say(f'bring ! ({cons(places)})')
         self.items[:0] = labels
 
     def drop(self, *labels):
-        for x in labels:
-            self.front(x)
-            self.take('drop !', 1)
+        if labels:
+            self.say(f'discard ! ({cons(self.out(labels))})')
 
     def part(self, step, label, *labels):
         """takes an item that is a chain of products apart, and drops its end"""
-        for x in labels:
-            self.front(label)
-            self.take(step, 1, x, label)
-        self.drop(label)
+        self.front(label)
+        self.take(f"{step} W ({cons('_' for _ in labels)}) _", 1, *labels)
 
     def together(self, labels, last):
         """joins items to one, the last of them at its end"""
-        for x in reversed(labels):
-            self.front(x, last)
-            self.take('join !', 2, x + '+')
-            last = x + '+'
-        return last
+        if not labels:
+            return last
+        self.front(*labels, last)
+        self.take(f'group ! {len(labels) + 1}', len(labels) + 1, 'joined')
+        return 'joined'
 
     def owned(self, xs):
         """joins what parameters own to one formula; each of xs is the label of an item, or a step that makes it"""

@@ -28,8 +28,8 @@ use base.Fml.{Lft, Share, GName, ftrue, flft, fat, froom, fdies, fobs, fauth, fb
 use prog.Wp.{Heap, Out as Outs, Env, Calls, Loops, Wp, WpFn, Tables, afterSeq, afterBlock, afterTurn, atReturn}
 use ghost.Atoms.{Atoms}
 use contract.Monad.{fact}
-use types.Kit.{Given, Item, Sq, ‵, raw, some, later, _⊛_, ⋆, anyQ, atRet, runs, _$_, _∵_, !, qed, by, move, drop, use0, use1}
-use types.Kit.{split, join, pick, rewrite, fsplit, fjoin, feqI, suffices, frame, await, done}
+use types.Kit.{Given, Item, Sq, ‵, raw, some, later, _⊛_, ⋆, anyQ, atRet, runs, _$_, _∵_, !, qed, by, use0, use1, group, split}
+use types.Kit.{join, pick, rewrite, fsplit, fjoin, feqI, suffices, frame, await, done}
 use types.Run.{look, look-raw, init, store, store-raw, forget, stop, hop, fld, from, load, lit, unit-lit, and-then, no-more}
 use types.Run.{of-opd, bin, assigns, assigns-last, stays, leaves-loop, first, blocks, exec, loops, again, Below, land, returns}
 use types.Run.{enter, alloc1, alloc0, params1, pass1, pass0, free0}
@@ -58,7 +58,7 @@ use Rattle.catalogue.specs.declared.Entry.{Entry}
 use Rattle.catalogue.proofs.Entry as Entry′
 use Rattle.catalogue.proofs.Entry.Laws as Entry″
 use Rattle.catalogue.specs.Entries.{zeros}
-use Rattle.catalogue.proofs.Steps.{leave, leave-room, is-true, is-false, Less, by-size}
+use Rattle.catalogue.proofs.Steps.{bring, discard, parts, fparts, leave, leave-room, is-true, is-false, Less, by-size}
 
 -- ---- the signature
 abbrev signature : Signature
@@ -232,7 +232,7 @@ module _ (#step : Name) (step-out : step-Model Entry)
         nothing ! $ nothing ! $
         owned ! Entry′.the-row (Is Entry′.the-row) (struct.makes Entry′.the-type Entry″.the-plain 𝓤 H A) v-entry _ is-v-entry $
         fjoin ! $ owned ! Boolean (Is Boolean) (bool-makes 𝓤 H A W) x-accepted _ is-x-accepted $ fjoin ! $
-        move ! (1 ∷ 0 ∷ []) $ join ! $ frame ! $ done !
+        bring ! (1 ∷ 0 ∷ []) $ join ! $ frame ! $ done !
 
     -- ---- the exit
     exits : (z-x-catalogue : List Entry) → Says (now x-catalogue) x-accepted tt z-x-catalogue → length z-x-catalogue
@@ -252,9 +252,9 @@ module _ (#step : Name) (step-out : step-Model Entry)
         fjoin ! $
         suffices ! _ (ends-at 𝓤 H A ended stayed (clauses 𝓤) W bound vunit tt (z-x-catalogue, (tt, tt))
         (l-x-catalogue, (tt, tt))) $
-        says ! said $ nothing ! $ move ! (2 ∷ 0 ∷ []) $ join ! $ frame ! $ nothing ! $
+        says ! said $ nothing ! $ bring ! (2 ∷ 0 ∷ []) $ group ! 2 $ frame ! $ nothing ! $
         owned ! Boolean (Is Boolean) (bool-makes 𝓤 H A W) x-accepted _ is-x-accepted $ fjoin ! $
-        move ! (1 ∷ 0 ∷ []) $ fjoin ! $ feqI ! (List Val) (vunit ∷ []) (vunit ∷ []) refl $ move ! (1 ∷ 0 ∷ []) $
+        bring ! (1 ∷ 0 ∷ []) $ fjoin ! $ feqI ! (List Val) (vunit ∷ []) (vunit ∷ []) refl $ bring ! (1 ∷ 0 ∷ []) $
         done !
 
     module _ (𝓣 : Tables 𝓤 H) (known-step : Triple 𝓤 (𝓣 .C #step) (step-contract step-out 𝓤 H A))
@@ -422,18 +422,17 @@ module _ (#step : Name) (step-out : step-Model Entry)
             (no-more !))) (λ w-step.
             use1 W (later (some (λ (r : Entry). ((‵ ftrue) ⊛ ‵ (Entry′.the-row .own r (w-step ∷ [])))
             ⊛ raw (ensured 𝓤 H A step-ended (step-clauses step-out 𝓤) tt (step-args el) tt r)))) (id⊢ 𝓤 _) $
-            await ! tt $ pick ! (λ r-step. split ! $ move ! (1 ∷ []) $
+            await ! tt $ pick ! (λ r-step. split ! $ bring ! (1 ∷ []) $
             use1 W (some (λ (zs-step : Unit {0} × (Unit {0} × Unit {0})). ‵ (lasts step-ended tt (step-args el) zs-step)
             ⊛ raw (fact 𝓤 (step-says step-out x-accepted el r-step)))) (id⊢ 𝓤 _) $
-            pick ! (λ zs-step. split ! $ move ! (1 ∷ []) $ heard ! (step-says step-out x-accepted el r-step) (λ e-step.
-            fsplit ! $ move ! (1 ∷ []) $ fsplit ! $ move ! (1 ∷ []) $ drop ! $ move ! (1 ∷ []) $ drop ! $ drop ! $
-            split ! $ move ! (1 ∷ []) $
+            pick ! (λ zs-step. split ! $ bring ! (1 ∷ []) $ heard ! (step-says step-out x-accepted el r-step) (λ e-step.
+            fparts W (_ ∷ _ ∷ []) _ $ discard ! (0 ∷ 0 ∷ []) $ split ! $ bring ! (1 ∷ []) $
             peeks ! Entry′.the-row (Is Entry′.the-row) (shows 𝓤 H A Entry′.the-row) r-step (w-step ∷ []) (λ is-w-step.
             land ! (from ! (stop !)) (init ! 18 refl ((struct.lawful Entry′.the-type Entry″.the-laws 𝓤 H A W .typed) r-step _
             is-w-step .0)) $
             rewrite ! 18 (λ (u : Val). ‵ (fat fullShare Entry″.mir l₄ 0 u)) (ap only ((struct.tells Entry′.the-type
             Entry″.the-laws) r-step _ is-w-step)) refl $
-            drop ! $ drop ! $
+            discard ! (0 ∷ []) $ parts W ([]) _ $
             -- the turn is over
             assigns ! (bin ! (load ! (from ! (stop !)) (look ! 18 refl)) (lit ! tt) (record { fits = far })) (from ! (stop !))
             (store ! 14 refl (tt, record { fits = far })) $
@@ -443,10 +442,10 @@ module _ (#step : Name) (step-out : step-Model Entry)
             (sym (place-is 12 (x-catalogue .ptr .1) i)) refl $
             assigns ! (of-opd ! (load ! (from ! (stop !)) (look ! 16 refl))) (from ! (hop ! (look ! 6 refl) (stop !)))
             (store-raw ! 0 refl (typed-entry r-step (spelled r-step w-step is-w-step))) $
-            move ! (1 ∷ []) $ drop ! $
+            discard ! (1 ∷ []) $
             owned ! Entry′.the-row (Is Entry′.the-row) (struct.makes Entry′.the-type Entry″.the-plain 𝓤 H A) r-step _
             (spelled r-step w-step is-w-step) $
-            move ! (1 ∷ 0 ∷ 2 ∷ []) $
+            bring ! (1 ∷ 0 ∷ 0 ∷ []) $
             elem-put ! Entry′.the-row fullShare c i r-step (machine-entry r-step ∷ []) (x-catalogue .ptr .0)
             (x-catalogue .ptr .1) within $
             rewrite ! 0 (λ (l : List Entry). ‵ (row Entry′.the-row fullShare l (x-catalogue .ptr .0) (x-catalogue .ptr .1)))
@@ -479,10 +478,10 @@ module _ (#step : Name) (step-out : step-Model Entry)
         alloc1 ! (λ l₀. alloc1 ! (λ l₁. alloc1 ! (λ l₂. alloc1 ! (λ l₃. alloc1 ! (λ l₄. alloc1 ! (λ l₅.
         alloc1 ! (λ l₆. alloc1 ! (λ l₇. alloc1 ! (λ l₈. alloc1 ! (λ l₉. alloc0 ! $ params1 ! $
         pass1 ! (init ! 16 refl (tt, (tt, (record { fits = room-x-catalogue .0 }, tt)))) $
-        pass1 ! (init ! 14 refl typed-x-accepted) $ pass0 ! $ move ! (20 ∷ []) $ split ! $ move ! (1 ∷ []) $ drop ! $
-        move ! (21 ∷ []) $ fsplit ! $ move ! (1 ∷ []) $ fsplit ! $ move ! (1 ∷ []) $ drop ! $ drop ! $
+        pass1 ! (init ! 14 refl typed-x-accepted) $ pass0 ! $ bring ! (20 ∷ []) $ parts W (_ ∷ []) _ $
+        bring ! (21 ∷ []) $ fparts W (_ ∷ _ ∷ []) _ $ discard ! (1 ∷ []) $
         assigns ! (of-opd ! (lit ! tt)) (from ! (stop !)) (init ! 14 refl (tt, record { fits = lit< tt })) $
-        fsplit ! $ drop ! $ fsplit ! $
+        fsplit ! $ discard ! (0 ∷ []) $ fsplit ! $
         opens-slice ! tt Entry′.the-row ys (x-catalogue .ptr .0) (x-catalogue .ptr .1) $
         first ! $ blocks ! $ loops ! 𝓣 (Less size) (by-size size) (I 𝓣 known-step l₀ l₁ l₂ l₃ l₄ l₅ l₆ l₇ l₈ l₉)
         (turn-at 𝓣 known-step l₀ l₁ l₂ l₃ l₄ l₅ l₆ l₇ l₈ l₉) at-first))))))))))

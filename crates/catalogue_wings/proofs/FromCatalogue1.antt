@@ -19,8 +19,8 @@ use base.Fml.{Lft, Share, GName, ftrue, flft, fat}
 use prog.Wp.{Heap, WpFn, Tables}
 use ghost.Atoms.{Atoms}
 use contract.Monad.{fact}
-use types.Kit.{Given, ‵, raw, some, later, _⊛_, ⋆, _$_, _∵_, !, qed, by, move, drop, use0, use1, split, join, pick, rewrite}
-use types.Kit.{fsplit, fjoin, suffices, frame, await, done}
+use types.Kit.{Given, ‵, raw, some, later, _⊛_, ⋆, _$_, _∵_, !, qed, by, use0, use1, group, split, join, pick, rewrite, fjoin}
+use types.Kit.{suffices, frame, await, done}
 use types.Run.{look, init, stop, from, load, and-then, no-more, land, returns, enter, alloc1, alloc0, params1, pass1, pass0}
 use types.Run.{free0}
 use sound.WpLaws.{fmOf, WpFn-mono}
@@ -43,7 +43,7 @@ use denote.Triple.Walked.{walk-meets}
 use denote.Exit.{yes}
 use Rattle.catalogue.specs.declared.Entry.{Entry}
 use Rattle.catalogue.proofs.Entry as Entry′
-use Rattle.catalogue.proofs.Steps.{leave}
+use Rattle.catalogue.proofs.Steps.{bring, discard, parts, fparts, leave}
 
 -- ---- the signature
 abbrev signature : Signature
@@ -298,8 +298,8 @@ module _ (#count #member-count #nothing-yet #add-entries : Name) (count-out : co
           (s-x-catalogue ∷ [])) ∷ [])) ((count-contract count-out 𝓤 H A) .pre (to-count))
       goes-count =
           qed W (‵ (flft κ₀ q₀) ∷ ‵ (ShrSlice (named 0) κ₀ Entry′.the-row .own x-catalogue (s-x-catalogue ∷ [])) ∷ []) ∵
-          nothing ! $ move ! (1 ∷ 0 ∷ []) $ join ! $ nothing ! $ move ! (2 ∷ 0 ∷ []) $ fjoin ! $ move ! (1 ∷ 0 ∷ []) $
-          join ! $ frame ! $ done !
+          nothing ! $ bring ! (1 ∷ 0 ∷ []) $ group ! 2 $ nothing ! $ bring ! (2 ∷ 0 ∷ []) $ fjoin ! $
+          bring ! (1 ∷ 0 ∷ []) $ join ! $ frame ! $ done !
 
       -- ---- the caller has what `member-count` asks
       abbrev member-count-args : ℕ × (ℕ × Unit {0})
@@ -313,8 +313,8 @@ module _ (#count #member-count #nothing-yet #add-entries : Name) (count-out : co
       goes-member-count is-v-all =
           qed W ([]) ∵
           nothing ! $ nothing ! $ owned ! u32 (Is u32) (uint-makes 𝓤 H A W w32) x-sheet _ is-x-sheet $ fjoin ! $
-          owned ! usize (Is usize) (uint-makes 𝓤 H A W w64) v-all _ is-v-all $ fjoin ! $ move ! (1 ∷ 0 ∷ []) $ join ! $
-          frame ! $ done !
+          owned ! usize (Is usize) (uint-makes 𝓤 H A W w64) v-all _ is-v-all $ fjoin ! $ bring ! (1 ∷ 0 ∷ []) $
+          join ! $ frame ! $ done !
 
       -- ---- the caller has what `nothing-yet` asks
       abbrev nothing-yet-args : ℕ × Unit {0}
@@ -327,7 +327,7 @@ module _ (#count #member-count #nothing-yet #add-entries : Name) (count-out : co
       goes-nothing-yet =
           qed W ([]) ∵
           nothing ! $ nothing ! $ owned ! u32 (Is u32) (uint-makes 𝓤 H A W w32) x-sheet _ is-x-sheet $ fjoin ! $
-          move ! (1 ∷ 0 ∷ []) $ join ! $ frame ! $ done !
+          bring ! (1 ∷ 0 ∷ []) $ join ! $ frame ! $ done !
 
       -- ---- the caller has what `add-entries` asks
       abbrev add-entries-args : RefT (List Entry) × (ℕ × (ℕ × (ℕ × Unit {0})))
@@ -350,11 +350,11 @@ module _ (#count #member-count #nothing-yet #add-entries : Name) (count-out : co
           ∷ [])) ((add-entries-contract add-entries-out 𝓤 H A) .pre (to-add-entries))
       goes-add-entries is-v-many is-v-none =
           qed W (‵ (flft κ₀ q₀) ∷ ‵ (ShrSlice (named 0) κ₀ Entry′.the-row .own x-catalogue (s-x-catalogue ∷ [])) ∷ []) ∵
-          nothing ! $ move ! (1 ∷ 0 ∷ []) $ join ! $ nothing ! $
+          nothing ! $ bring ! (1 ∷ 0 ∷ []) $ group ! 2 $ nothing ! $
           owned ! u64 (Is u64) (uint-makes 𝓤 H A W w64) v-none _ is-v-none $ fjoin ! $
           owned ! u32 (Is u32) (uint-makes 𝓤 H A W w32) v-many _ is-v-many $ fjoin ! $
-          owned ! u32 (Is u32) (uint-makes 𝓤 H A W w32) x-sheet _ is-x-sheet $ fjoin ! $ move ! (2 ∷ 0 ∷ []) $
-          fjoin ! $ move ! (1 ∷ 0 ∷ []) $ join ! $ frame ! $ done !
+          owned ! u32 (Is u32) (uint-makes 𝓤 H A W w32) x-sheet _ is-x-sheet $ fjoin ! $ bring ! (2 ∷ 0 ∷ []) $
+          fjoin ! $ bring ! (1 ∷ 0 ∷ []) $ join ! $ frame ! $ done !
 
       -- ---- the exit
       exits : Is u64 v-result (m-v-result ∷ []) → ent 𝓤 (⋆ 𝓤 H A (‵ (ShrSlice (named 0) κ₀ Entry′.the-row .own x-catalogue
@@ -362,9 +362,9 @@ module _ (#count #member-count #nothing-yet #add-entries : Name) (count-out : co
       exits is =
           qed W (‵ (ShrSlice (named 0) κ₀ Entry′.the-row .own x-catalogue (s-x-catalogue ∷ [])) ∷ ‵ (flft κ₀ q₀) ∷ []) ∵
           suffices ! _ (ends-at 𝓤 H A ended stayed (clauses 𝓤) W bound m-v-result v-result (tt, (tt, tt)) (tt, (tt, tt))) $
-          says ! (law (now x-catalogue) x-sheet) $ nothing ! $ move ! (2 ∷ 0 ∷ []) $ join ! $ frame ! $ nothing ! $
-          owned ! u32 (Is u32) (uint-makes 𝓤 H A W w32) x-sheet _ is-x-sheet $ fjoin ! $ move ! (1 ∷ 0 ∷ []) $
-          fjoin ! $ owned ! u64 (Is u64) (uint-makes 𝓤 H A W w64) v-result _ is $ move ! (1 ∷ 0 ∷ []) $ done !
+          says ! (law (now x-catalogue) x-sheet) $ nothing ! $ bring ! (2 ∷ 0 ∷ []) $ group ! 2 $ frame ! $ nothing ! $
+          owned ! u32 (Is u32) (uint-makes 𝓤 H A W w32) x-sheet _ is-x-sheet $ fjoin ! $ bring ! (1 ∷ 0 ∷ []) $
+          fjoin ! $ owned ! u64 (Is u64) (uint-makes 𝓤 H A W w64) v-result _ is $ bring ! (1 ∷ 0 ∷ []) $ done !
 
       -- ---- the walk
       walk : (𝓣 : Tables 𝓤 H) → Triple 𝓤 (𝓣 .C #count) (count-contract count-out 𝓤 H A)
@@ -378,29 +378,29 @@ module _ (#count #member-count #nothing-yet #add-entries : Name) (count-out : co
           enter ! (𝓣 .C) (𝓣 .Λ) (function #count #member-count #nothing-yet #add-entries) (s-x-catalogue ∷ m-x-sheet ∷ []) _ $
           alloc1 ! (λ l₀. alloc1 ! (λ l₁. alloc1 ! (λ l₂. alloc1 ! (λ l₃. alloc1 ! (λ l₄. alloc1 ! (λ l₅. alloc0 ! $
           params1 ! $ pass1 ! (init ! 8 refl (tt, (tt, (record { fits = room-x-catalogue .0 }, tt)))) $
-          pass1 ! (init ! 6 refl typed-x-sheet) $ pass0 ! $ move ! (12 ∷ []) $ split ! $ move ! (1 ∷ []) $ drop ! $
-          move ! (13 ∷ []) $ fsplit ! $ move ! (1 ∷ []) $ fsplit ! $ move ! (1 ∷ []) $ drop ! $ drop ! $
+          pass1 ! (init ! 6 refl typed-x-sheet) $ pass0 ! $ bring ! (12 ∷ []) $ parts W (_ ∷ []) _ $
+          bring ! (13 ∷ []) $ fparts W (_ ∷ _ ∷ []) _ $ discard ! (1 ∷ []) $
           -- count
           use1 W (‵ (ShrSlice (named 0) κ₀ Entry′.the-row .own x-catalogue (s-x-catalogue ∷ []))
           ⊛ ‵ (ShrSlice (named 0) κ₀ Entry′.the-row .own x-catalogue (s-x-catalogue ∷ [])))
           (shr-slice-copy 𝓤 H A W (named 0) κ₀ Entry′.the-row .twice x-catalogue (s-x-catalogue ∷ [])) $
-          split ! $ move ! (2 ∷ 0 ∷ []) $ join ! $
+          split ! $ bring ! (2 ∷ 0 ∷ []) $ group ! 2 $
           use1 W (raw ((count-contract count-out 𝓤 H A) .pre (to-count))) (goes-count) $
           calls-at ! (fmOf 𝓤 H (W .laws) 𝓣) (count-contract count-out 𝓤 H A) known-count (to-count)
           (and-then ! (load ! (from ! (stop !)) (look ! 10 refl)) (no-more !)) (λ w-count.
           use1 W (later (some (λ (r : ℕ). ((‵ (flft κ₀ q₀) ⊛ ‵ ftrue) ⊛ ‵ (usize .own r (w-count ∷ [])))
           ⊛ raw (ensured 𝓤 H A count-ended (count-clauses count-out 𝓤) (κ₀, tt) (count-args) tt r)))) (id⊢ 𝓤 _) $
-          await ! tt $ pick ! (λ r-count. split ! $ move ! (1 ∷ []) $
+          await ! tt $ pick ! (λ r-count. split ! $ bring ! (1 ∷ []) $
           use1 W (some (λ (zs-count : Unit {0} × Unit {0}). ‵ (lasts count-ended (κ₀, tt) (count-args) zs-count)
           ⊛ raw (fact 𝓤 (count-says count-out (now x-catalogue) r-count)))) (id⊢ 𝓤 _) $
-          pick ! (λ zs-count. split ! $ move ! (1 ∷ []) $
-          heard ! (count-says count-out (now x-catalogue) r-count) (λ e-count. fsplit ! $ move ! (1 ∷ []) $ drop ! $
-          drop ! $ split ! $ move ! (1 ∷ []) $
+          pick ! (λ zs-count. split ! $ bring ! (1 ∷ []) $
+          heard ! (count-says count-out (now x-catalogue) r-count) (λ e-count. fparts W (_ ∷ []) _ $
+          discard ! (0 ∷ []) $ split ! $ bring ! (1 ∷ []) $
           rewrite ! 0 (λ (r : ℕ). ‵ (usize .own r (w-count ∷ []))) (e-count) refl $
           peeks ! usize (Is usize) (shows 𝓤 H A usize) v-all (w-count ∷ []) (λ is-w-count.
           land ! (from ! (stop !)) (init ! 7 refl ((uint-lawful 𝓤 H A W w64 .typed) v-all _ is-w-count .0)) $
           rewrite ! 7 (λ (u : Val). ‵ (fat fullShare (tyInt w64) l₃ 0 u)) (ap only ((uint-tells w64) v-all _ is-w-count)) refl $
-          drop ! $ split ! $ move ! (1 ∷ []) $ drop ! $
+          discard ! (0 ∷ []) $ parts W (_ ∷ []) _ $
           -- member-count
           use0 W (raw ((member-count-contract member-count-out 𝓤 H A) .pre (to-member-count)))
           (goes-member-count (spelled-v-all w-count is-w-count)) $
@@ -410,19 +410,19 @@ module _ (#count #member-count #nothing-yet #add-entries : Name) (count-out : co
           use1 W (later (some (λ (r : ℕ). ((‵ ftrue) ⊛ ‵ (u32 .own r (w-member-count ∷ [])))
           ⊛ raw (ensured 𝓤 H A member-count-ended (member-count-clauses member-count-out 𝓤) tt (member-count-args) tt r))))
           (id⊢ 𝓤 _) $
-          await ! tt $ pick ! (λ r-member-count. split ! $ move ! (1 ∷ []) $
+          await ! tt $ pick ! (λ r-member-count. split ! $ bring ! (1 ∷ []) $
           use1 W (some (λ (zs-member-count : Unit {0} × (Unit {0} × Unit {0})). ‵ (lasts member-count-ended tt
           (member-count-args) zs-member-count) ⊛ raw (fact 𝓤 (member-count-says member-count-out v-all x-sheet
           r-member-count)))) (id⊢ 𝓤 _) $
-          pick ! (λ zs-member-count. split ! $ move ! (1 ∷ []) $
-          heard ! (member-count-says member-count-out v-all x-sheet r-member-count) (λ e-member-count. fsplit ! $
-          move ! (1 ∷ []) $ fsplit ! $ move ! (1 ∷ []) $ drop ! $ move ! (1 ∷ []) $ drop ! $ drop ! $ split ! $
-          move ! (1 ∷ []) $ rewrite ! 0 (λ (r : ℕ). ‵ (u32 .own r (w-member-count ∷ []))) (e-member-count) refl $
+          pick ! (λ zs-member-count. split ! $ bring ! (1 ∷ []) $
+          heard ! (member-count-says member-count-out v-all x-sheet r-member-count) (λ e-member-count.
+          fparts W (_ ∷ _ ∷ []) _ $ discard ! (0 ∷ 0 ∷ []) $ split ! $ bring ! (1 ∷ []) $
+          rewrite ! 0 (λ (r : ℕ). ‵ (u32 .own r (w-member-count ∷ []))) (e-member-count) refl $
           peeks ! u32 (Is u32) (shows 𝓤 H A u32) v-many (w-member-count ∷ []) (λ is-w-member-count.
           land ! (from ! (stop !)) (init ! 6 refl ((uint-lawful 𝓤 H A W w32 .typed) v-many _ is-w-member-count .0)) $
           rewrite ! 6 (λ (u : Val). ‵ (fat fullShare (tyInt w32) l₄ 0 u)) (ap only ((uint-tells w32) v-many _
           is-w-member-count)) refl $
-          drop ! $ drop ! $
+          discard ! (0 ∷ []) $ parts W ([]) _ $
           -- nothing-yet
           use0 W (raw ((nothing-yet-contract nothing-yet-out 𝓤 H A) .pre (to-nothing-yet))) (goes-nothing-yet) $
           calls-at ! (fmOf 𝓤 H (W .laws) 𝓣) (nothing-yet-contract nothing-yet-out 𝓤 H A) known-nothing-yet (to-nothing-yet)
@@ -430,24 +430,24 @@ module _ (#count #member-count #nothing-yet #add-entries : Name) (count-out : co
           use1 W (later (some (λ (r : ℕ). ((‵ ftrue) ⊛ ‵ (u64 .own r (w-nothing-yet ∷ [])))
           ⊛ raw (ensured 𝓤 H A nothing-yet-ended (nothing-yet-clauses nothing-yet-out 𝓤) tt (nothing-yet-args) tt r))))
           (id⊢ 𝓤 _) $
-          await ! tt $ pick ! (λ r-nothing-yet. split ! $ move ! (1 ∷ []) $
+          await ! tt $ pick ! (λ r-nothing-yet. split ! $ bring ! (1 ∷ []) $
           use1 W (some (λ (zs-nothing-yet : Unit {0} × Unit {0}). ‵ (lasts nothing-yet-ended tt (nothing-yet-args)
           zs-nothing-yet) ⊛ raw (fact 𝓤 (nothing-yet-says nothing-yet-out x-sheet r-nothing-yet)))) (id⊢ 𝓤 _) $
-          pick ! (λ zs-nothing-yet. split ! $ move ! (1 ∷ []) $
-          heard ! (nothing-yet-says nothing-yet-out x-sheet r-nothing-yet) (λ e-nothing-yet. fsplit ! $
-          move ! (1 ∷ []) $ drop ! $ drop ! $ split ! $ move ! (1 ∷ []) $
+          pick ! (λ zs-nothing-yet. split ! $ bring ! (1 ∷ []) $
+          heard ! (nothing-yet-says nothing-yet-out x-sheet r-nothing-yet) (λ e-nothing-yet. fparts W (_ ∷ []) _ $
+          discard ! (0 ∷ []) $ split ! $ bring ! (1 ∷ []) $
           rewrite ! 0 (λ (r : ℕ). ‵ (u64 .own r (w-nothing-yet ∷ []))) (e-nothing-yet) refl $
           peeks ! u64 (Is u64) (shows 𝓤 H A u64) v-none (w-nothing-yet ∷ []) (λ is-w-nothing-yet.
           land ! (from ! (stop !)) (init ! 4 refl ((uint-lawful 𝓤 H A W w64 .typed) v-none _ is-w-nothing-yet .0)) $
           rewrite ! 4 (λ (u : Val). ‵ (fat fullShare (tyInt w64) l₅ 0 u)) (ap only ((uint-tells w64) v-none _ is-w-nothing-yet))
           refl $
-          drop ! $ drop ! $
+          discard ! (0 ∷ []) $ parts W ([]) _ $
           -- add-entries
-          move ! (1 ∷ []) $
+          bring ! (1 ∷ []) $
           use1 W (‵ (ShrSlice (named 0) κ₀ Entry′.the-row .own x-catalogue (s-x-catalogue ∷ []))
           ⊛ ‵ (ShrSlice (named 0) κ₀ Entry′.the-row .own x-catalogue (s-x-catalogue ∷ [])))
           (shr-slice-copy 𝓤 H A W (named 0) κ₀ Entry′.the-row .twice x-catalogue (s-x-catalogue ∷ [])) $
-          split ! $ move ! (2 ∷ 0 ∷ []) $ join ! $
+          split ! $ bring ! (2 ∷ 0 ∷ []) $ group ! 2 $
           use1 W (raw ((add-entries-contract add-entries-out 𝓤 H A) .pre (to-add-entries)))
           (goes-add-entries (spelled-v-many w-member-count is-w-member-count) (spelled-v-none w-nothing-yet is-w-nothing-yet)) $
           calls-at ! (fmOf 𝓤 H (W .laws) 𝓣) (add-entries-contract add-entries-out 𝓤 H A) known-add-entries (to-add-entries)
@@ -457,23 +457,21 @@ module _ (#count #member-count #nothing-yet #add-entries : Name) (count-out : co
           use1 W (later (some (λ (r : ℕ). ((‵ (flft κ₀ q₀) ⊛ ‵ ftrue) ⊛ ‵ (u64 .own r (w-add-entries ∷ [])))
           ⊛ raw (ensured 𝓤 H A add-entries-ended (add-entries-clauses add-entries-out 𝓤) (κ₀, tt) (add-entries-args) tt r))))
           (id⊢ 𝓤 _) $
-          await ! tt $ pick ! (λ r-add-entries. split ! $ move ! (1 ∷ []) $
+          await ! tt $ pick ! (λ r-add-entries. split ! $ bring ! (1 ∷ []) $
           use1 W (some (λ (zs-add-entries : Unit {0} × (Unit {0} × (Unit {0} × (Unit {0} × Unit {0})))). ‵
           (lasts add-entries-ended (κ₀, tt) (add-entries-args) zs-add-entries) ⊛ raw (fact 𝓤
           (add-entries-says add-entries-out (now x-catalogue) x-sheet v-many v-none r-add-entries)))) (id⊢ 𝓤 _) $
-          pick ! (λ zs-add-entries. split ! $ move ! (1 ∷ []) $
+          pick ! (λ zs-add-entries. split ! $ bring ! (1 ∷ []) $
           heard ! (add-entries-says add-entries-out (now x-catalogue) x-sheet v-many v-none r-add-entries) (λ e-add-entries.
-          fsplit ! $ move ! (1 ∷ []) $ fsplit ! $ move ! (1 ∷ []) $ fsplit ! $ move ! (1 ∷ []) $ fsplit ! $
-          move ! (1 ∷ []) $ drop ! $ move ! (3 ∷ []) $ drop ! $ move ! (2 ∷ []) $ drop ! $ move ! (1 ∷ []) $ drop ! $
-          drop ! $ split ! $ move ! (1 ∷ []) $
+          fparts W (_ ∷ _ ∷ _ ∷ _ ∷ []) _ $ discard ! (0 ∷ 0 ∷ 0 ∷ 0 ∷ []) $ split ! $ bring ! (1 ∷ []) $
           rewrite ! 0 (λ (r : ℕ). ‵ (u64 .own r (w-add-entries ∷ []))) (e-add-entries) refl $
           peeks ! u64 (Is u64) (shows 𝓤 H A u64) v-result (w-add-entries ∷ []) (λ is-w-add-entries.
           land ! (from ! (stop !)) (init ! 13 refl ((uint-lawful 𝓤 H A W w64 .typed) v-result _ is-w-add-entries .0)) $
           rewrite ! 13 (λ (u : Val). ‵ (fat fullShare (tyInt w64) l₀ 0 u)) (ap only ((uint-tells w64) v-result _
           is-w-add-entries)) refl $
-          drop ! $ split ! $ move ! (1 ∷ []) $ drop ! $ returns ! (look ! 12 refl) $ leave ! 12 refl refl $
+          discard ! (0 ∷ []) $ parts W (_ ∷ []) _ $ returns ! (look ! 12 refl) $ leave ! 12 refl refl $
           leave ! 10 refl refl $ leave ! 8 refl refl $ leave ! 6 refl refl $ leave ! 4 refl refl $
-          leave ! 2 refl refl $ free0 ! $ move ! (1 ∷ 0 ∷ []) $
+          leave ! 2 refl refl $ free0 ! $ bring ! (1 ∷ 0 ∷ []) $
           by ! (exits (spelled-v-result w-add-entries is-w-add-entries))))))))))))))))))))))))))))
 
     module _ {M : Type 1} (𝓤 : URA M) (H : Heap 𝓤) (A : Atoms 𝓤) (W : Given 𝓤 H A) where

@@ -18,8 +18,8 @@ use base.Fml.{Lft, Share, GName, ftrue, flft, fat}
 use prog.Wp.{Heap, WpFn, Tables}
 use ghost.Atoms.{Atoms}
 use contract.Monad.{fact}
-use types.Kit.{Given, ‵, raw, some, later, _⊛_, ⋆, _$_, _∵_, !, qed, by, move, drop, use0, use1, split, join, pick, rewrite}
-use types.Kit.{fsplit, fjoin, suffices, frame, await, done}
+use types.Kit.{Given, ‵, raw, some, later, _⊛_, ⋆, _$_, _∵_, !, qed, by, use0, use1, group, split, join, pick, rewrite, fjoin}
+use types.Kit.{suffices, frame, await, done}
 use types.Run.{look, init, stop, from, load, and-then, no-more, land, returns, enter, alloc1, alloc0, params1, pass1, pass0}
 use types.Run.{free0}
 use sound.WpLaws.{fmOf, WpFn-mono}
@@ -46,7 +46,7 @@ use Rattle.catalogue.proofs.Entry as Entry′
 use Rattle.catalogue.specs.declared.Slot.{Slot}
 use Rattle.catalogue.proofs.Slot as Slot′
 use Rattle.catalogue.proofs.Slot.Laws as Slot″
-use Rattle.catalogue.proofs.Steps.{leave}
+use Rattle.catalogue.proofs.Steps.{bring, discard, parts, fparts, leave}
 
 -- ---- the signature
 abbrev signature : Signature
@@ -276,8 +276,8 @@ module _ (#member #find #add : Name) (member-out : member-Model ℕ) (find-out :
     goes-member =
         qed W ([]) ∵
         nothing ! $ nothing ! $ owned ! u32 (Is u32) (uint-makes 𝓤 H A W w32) x-i _ is-x-i $ fjoin ! $
-        owned ! u32 (Is u32) (uint-makes 𝓤 H A W w32) x-sheet _ is-x-sheet $ fjoin ! $ move ! (1 ∷ 0 ∷ []) $ join ! $
-        frame ! $ done !
+        owned ! u32 (Is u32) (uint-makes 𝓤 H A W w32) x-sheet _ is-x-sheet $ fjoin ! $ bring ! (1 ∷ 0 ∷ []) $
+        join ! $ frame ! $ done !
 
     -- ---- the caller has what `find` asks
     abbrev find-args : RefT (List Entry) × (ℕ × Unit {0})
@@ -290,9 +290,9 @@ module _ (#member #find #add : Name) (member-out : member-Model ℕ) (find-out :
         x-catalogue (s-x-catalogue ∷ [])) ∷ [])) ((find-contract find-out 𝓤 H A) .pre (to-find))
     goes-find is-v-other =
         qed W (‵ (flft κ₀ q₀) ∷ ‵ (ShrSlice (named 0) κ₀ Entry′.the-row .own x-catalogue (s-x-catalogue ∷ [])) ∷ []) ∵
-        nothing ! $ move ! (1 ∷ 0 ∷ []) $ join ! $ nothing ! $
-        owned ! u32 (Is u32) (uint-makes 𝓤 H A W w32) v-other _ is-v-other $ fjoin ! $ move ! (2 ∷ 0 ∷ []) $
-        fjoin ! $ move ! (1 ∷ 0 ∷ []) $ join ! $ frame ! $ done !
+        nothing ! $ bring ! (1 ∷ 0 ∷ []) $ group ! 2 $ nothing ! $
+        owned ! u32 (Is u32) (uint-makes 𝓤 H A W w32) v-other _ is-v-other $ fjoin ! $ bring ! (2 ∷ 0 ∷ []) $
+        fjoin ! $ bring ! (1 ∷ 0 ∷ []) $ join ! $ frame ! $ done !
 
     -- ---- the caller has what `add` asks
     abbrev add-args : ℕ × (Slot × Unit {0})
@@ -306,7 +306,7 @@ module _ (#member #find #add : Name) (member-out : member-Model ℕ) (find-out :
         qed W ([]) ∵
         nothing ! $ nothing ! $
         owned ! Slot′.the-row (Is Slot′.the-row) (struct.makes Slot′.the-type Slot″.the-plain 𝓤 H A) v-slot _ is-v-slot $
-        fjoin ! $ owned ! u64 (Is u64) (uint-makes 𝓤 H A W w64) x-sum _ is-x-sum $ fjoin ! $ move ! (1 ∷ 0 ∷ []) $
+        fjoin ! $ owned ! u64 (Is u64) (uint-makes 𝓤 H A W w64) x-sum _ is-x-sum $ fjoin ! $ bring ! (1 ∷ 0 ∷ []) $
         join ! $ frame ! $ done !
 
     -- ---- the exit
@@ -316,11 +316,11 @@ module _ (#member #find #add : Name) (member-out : member-Model ℕ) (find-out :
         qed W (‵ (ShrSlice (named 0) κ₀ Entry′.the-row .own x-catalogue (s-x-catalogue ∷ [])) ∷ ‵ (flft κ₀ q₀) ∷ []) ∵
         suffices ! _ (ends-at 𝓤 H A ended stayed (clauses 𝓤) W bound m-v-result v-result (tt, (tt, (tt, (tt, tt))))
         (tt, (tt, (tt, (tt, tt))))) $
-        says ! refl $ nothing ! $ move ! (2 ∷ 0 ∷ []) $ join ! $ frame ! $ nothing ! $
+        says ! refl $ nothing ! $ bring ! (2 ∷ 0 ∷ []) $ group ! 2 $ frame ! $ nothing ! $
         owned ! u32 (Is u32) (uint-makes 𝓤 H A W w32) x-i _ is-x-i $ fjoin ! $
         owned ! u64 (Is u64) (uint-makes 𝓤 H A W w64) x-sum _ is-x-sum $ fjoin ! $
-        owned ! u32 (Is u32) (uint-makes 𝓤 H A W w32) x-sheet _ is-x-sheet $ fjoin ! $ move ! (1 ∷ 0 ∷ []) $
-        fjoin ! $ owned ! u64 (Is u64) (uint-makes 𝓤 H A W w64) v-result _ is $ move ! (1 ∷ 0 ∷ []) $ done !
+        owned ! u32 (Is u32) (uint-makes 𝓤 H A W w32) x-sheet _ is-x-sheet $ fjoin ! $ bring ! (1 ∷ 0 ∷ []) $
+        fjoin ! $ owned ! u64 (Is u64) (uint-makes 𝓤 H A W w64) v-result _ is $ bring ! (1 ∷ 0 ∷ []) $ done !
 
     -- ---- the walk
     walk : (𝓣 : Tables 𝓤 H) → Triple 𝓤 (𝓣 .C #member) (member-contract member-out 𝓤 H A)
@@ -335,9 +335,8 @@ module _ (#member #find #add : Name) (member-out : member-Model ℕ) (find-out :
         alloc1 ! (λ l₆. alloc0 ! $ params1 ! $
         pass1 ! (init ! 10 refl (tt, (tt, (record { fits = room-x-catalogue .0 }, tt)))) $
         pass1 ! (init ! 8 refl typed-x-sheet) $ pass1 ! (init ! 6 refl typed-x-sum) $
-        pass1 ! (init ! 4 refl typed-x-i) $ pass0 ! $ move ! (14 ∷ []) $ split ! $ move ! (1 ∷ []) $ drop ! $
-        move ! (15 ∷ []) $ fsplit ! $ move ! (1 ∷ []) $ fsplit ! $ move ! (1 ∷ []) $ fsplit ! $ move ! (1 ∷ []) $
-        fsplit ! $ move ! (1 ∷ []) $ drop ! $ move ! (2 ∷ []) $ drop ! $ move ! (1 ∷ []) $ drop ! $ drop ! $
+        pass1 ! (init ! 4 refl typed-x-i) $ pass0 ! $ bring ! (14 ∷ []) $ parts W (_ ∷ []) _ $ bring ! (15 ∷ []) $
+        fparts W (_ ∷ _ ∷ _ ∷ _ ∷ []) _ $ discard ! (1 ∷ 1 ∷ 1 ∷ []) $
         -- member
         use0 W (raw ((member-contract member-out 𝓤 H A) .pre (to-member))) (goes-member) $
         calls-at ! (fmOf 𝓤 H (W .laws) 𝓣) (member-contract member-out 𝓤 H A) known-member (to-member)
@@ -345,42 +344,42 @@ module _ (#member #find #add : Name) (member-out : member-Model ℕ) (find-out :
         (no-more !))) (λ w-member.
         use1 W (later (some (λ (r : ℕ). ((‵ ftrue) ⊛ ‵ (u32 .own r (w-member ∷ []))) ⊛ raw
         (ensured 𝓤 H A member-ended (member-clauses member-out 𝓤) tt (member-args) tt r)))) (id⊢ 𝓤 _) $
-        await ! tt $ pick ! (λ r-member. split ! $ move ! (1 ∷ []) $
+        await ! tt $ pick ! (λ r-member. split ! $ bring ! (1 ∷ []) $
         use1 W (some (λ (zs-member : Unit {0} × (Unit {0} × Unit {0})). ‵ (lasts member-ended tt (member-args) zs-member)
         ⊛ raw (fact 𝓤 (member-says member-out x-sheet x-i r-member)))) (id⊢ 𝓤 _) $
-        pick ! (λ zs-member. split ! $ move ! (1 ∷ []) $
-        heard ! (member-says member-out x-sheet x-i r-member) (λ e-member. fsplit ! $ move ! (1 ∷ []) $ fsplit ! $
-        move ! (1 ∷ []) $ drop ! $ move ! (1 ∷ []) $ drop ! $ drop ! $ split ! $ move ! (1 ∷ []) $
+        pick ! (λ zs-member. split ! $ bring ! (1 ∷ []) $
+        heard ! (member-says member-out x-sheet x-i r-member) (λ e-member. fparts W (_ ∷ _ ∷ []) _ $
+        discard ! (0 ∷ 0 ∷ []) $ split ! $ bring ! (1 ∷ []) $
         rewrite ! 0 (λ (r : ℕ). ‵ (u32 .own r (w-member ∷ []))) (e-member) refl $
         peeks ! u32 (Is u32) (shows 𝓤 H A u32) v-other (w-member ∷ []) (λ is-w-member.
         land ! (from ! (stop !)) (init ! 6 refl ((uint-lawful 𝓤 H A W w32 .typed) v-other _ is-w-member .0)) $
         rewrite ! 6 (λ (u : Val). ‵ (fat fullShare (tyInt w32) l₅ 0 u)) (ap only ((uint-tells w32) v-other _ is-w-member)) refl
         $
-        drop ! $ drop ! $
+        discard ! (0 ∷ []) $ parts W ([]) _ $
         -- find
         use1 W (‵ (ShrSlice (named 0) κ₀ Entry′.the-row .own x-catalogue (s-x-catalogue ∷ []))
         ⊛ ‵ (ShrSlice (named 0) κ₀ Entry′.the-row .own x-catalogue (s-x-catalogue ∷ [])))
         (shr-slice-copy 𝓤 H A W (named 0) κ₀ Entry′.the-row .twice x-catalogue (s-x-catalogue ∷ [])) $
-        split ! $ move ! (2 ∷ 0 ∷ []) $ join ! $
+        split ! $ bring ! (2 ∷ 0 ∷ []) $ group ! 2 $
         use1 W (raw ((find-contract find-out 𝓤 H A) .pre (to-find))) (goes-find (spelled-v-other w-member is-w-member)) $
         calls-at ! (fmOf 𝓤 H (W .laws) 𝓣) (find-contract find-out 𝓤 H A) known-find (to-find)
         (and-then ! (load ! (from ! (stop !)) (look ! 12 refl)) (and-then ! (load ! (from ! (stop !)) (look ! 4 refl))
         (no-more !))) (λ w-find.
         use1 W (later (some (λ (r : Slot). ((‵ (flft κ₀ q₀) ⊛ ‵ ftrue) ⊛ ‵ (Slot′.the-row .own r (w-find ∷ [])))
         ⊛ raw (ensured 𝓤 H A find-ended (find-clauses find-out 𝓤) (κ₀, tt) (find-args) tt r)))) (id⊢ 𝓤 _) $
-        await ! tt $ pick ! (λ r-find. split ! $ move ! (1 ∷ []) $
+        await ! tt $ pick ! (λ r-find. split ! $ bring ! (1 ∷ []) $
         use1 W (some (λ (zs-find : Unit {0} × (Unit {0} × Unit {0})). ‵ (lasts find-ended (κ₀, tt) (find-args) zs-find)
         ⊛ raw (fact 𝓤 (find-says find-out (now x-catalogue) v-other r-find)))) (id⊢ 𝓤 _) $
-        pick ! (λ zs-find. split ! $ move ! (1 ∷ []) $
-        heard ! (find-says find-out (now x-catalogue) v-other r-find) (λ e-find. fsplit ! $ move ! (1 ∷ []) $
-        fsplit ! $ move ! (1 ∷ []) $ drop ! $ move ! (1 ∷ []) $ drop ! $ drop ! $ split ! $ move ! (1 ∷ []) $
+        pick ! (λ zs-find. split ! $ bring ! (1 ∷ []) $
+        heard ! (find-says find-out (now x-catalogue) v-other r-find) (λ e-find. fparts W (_ ∷ _ ∷ []) _ $
+        discard ! (0 ∷ 0 ∷ []) $ split ! $ bring ! (1 ∷ []) $
         rewrite ! 0 (λ (r : Slot). ‵ (Slot′.the-row .own r (w-find ∷ []))) (e-find) refl $
         peeks ! Slot′.the-row (Is Slot′.the-row) (shows 𝓤 H A Slot′.the-row) v-slot (w-find ∷ []) (λ is-w-find.
         land ! (from ! (stop !)) (init ! 3 refl ((struct.lawful Slot′.the-type Slot″.the-laws 𝓤 H A W .typed) v-slot _
         is-w-find .0)) $
         rewrite ! 3 (λ (u : Val). ‵ (fat fullShare Slot″.mir l₆ 0 u)) (ap only ((struct.tells Slot′.the-type Slot″.the-laws)
         v-slot _ is-w-find)) refl $
-        drop ! $ split ! $ move ! (1 ∷ []) $ drop ! $
+        discard ! (0 ∷ []) $ parts W (_ ∷ []) _ $
         -- add
         use0 W (raw ((add-contract add-out 𝓤 H A) .pre (to-add))) (goes-add (spelled-v-slot w-find is-w-find)) $
         calls-at ! (fmOf 𝓤 H (W .laws) 𝓣) (add-contract add-out 𝓤 H A) known-add (to-add)
@@ -388,18 +387,18 @@ module _ (#member #find #add : Name) (member-out : member-Model ℕ) (find-out :
         (no-more !))) (λ w-add.
         use1 W (later (some (λ (r : ℕ). ((‵ ftrue) ⊛ ‵ (u64 .own r (w-add ∷ []))) ⊛ raw
         (ensured 𝓤 H A add-ended (add-clauses add-out 𝓤) tt (add-args) tt r)))) (id⊢ 𝓤 _) $
-        await ! tt $ pick ! (λ r-add. split ! $ move ! (1 ∷ []) $
+        await ! tt $ pick ! (λ r-add. split ! $ bring ! (1 ∷ []) $
         use1 W (some (λ (zs-add : Unit {0} × (Unit {0} × Unit {0})). ‵ (lasts add-ended tt (add-args) zs-add)
         ⊛ raw (fact 𝓤 (add-says add-out x-sum v-slot r-add)))) (id⊢ 𝓤 _) $
-        pick ! (λ zs-add. split ! $ move ! (1 ∷ []) $ heard ! (add-says add-out x-sum v-slot r-add) (λ e-add.
-        fsplit ! $ move ! (1 ∷ []) $ fsplit ! $ move ! (1 ∷ []) $ drop ! $ move ! (1 ∷ []) $ drop ! $ drop ! $
-        split ! $ move ! (1 ∷ []) $ rewrite ! 0 (λ (r : ℕ). ‵ (u64 .own r (w-add ∷ []))) (e-add) refl $
+        pick ! (λ zs-add. split ! $ bring ! (1 ∷ []) $ heard ! (add-says add-out x-sum v-slot r-add) (λ e-add.
+        fparts W (_ ∷ _ ∷ []) _ $ discard ! (0 ∷ 0 ∷ []) $ split ! $ bring ! (1 ∷ []) $
+        rewrite ! 0 (λ (r : ℕ). ‵ (u64 .own r (w-add ∷ []))) (e-add) refl $
         peeks ! u64 (Is u64) (shows 𝓤 H A u64) v-result (w-add ∷ []) (λ is-w-add.
         land ! (from ! (stop !)) (init ! 16 refl ((uint-lawful 𝓤 H A W w64 .typed) v-result _ is-w-add .0)) $
         rewrite ! 16 (λ (u : Val). ‵ (fat fullShare (tyInt w64) l₀ 0 u)) (ap only ((uint-tells w64) v-result _ is-w-add)) refl $
-        drop ! $ drop ! $ returns ! (look ! 14 refl) $ leave ! 14 refl refl $ leave ! 12 refl refl $
-        leave ! 10 refl refl $ leave ! 8 refl refl $ leave ! 6 refl refl $ leave ! 4 refl refl $
-        leave ! 2 refl refl $ free0 ! $ move ! (1 ∷ 0 ∷ []) $
+        discard ! (0 ∷ []) $ parts W ([]) _ $ returns ! (look ! 14 refl) $ leave ! 14 refl refl $
+        leave ! 12 refl refl $ leave ! 10 refl refl $ leave ! 8 refl refl $ leave ! 6 refl refl $
+        leave ! 4 refl refl $ leave ! 2 refl refl $ free0 ! $ bring ! (1 ∷ 0 ∷ []) $
         by ! (exits (spelled-v-result w-add is-w-add))))))))))))))))))))))))
 
   module _ {M : Type 1} (𝓤 : URA M) (H : Heap 𝓤) (A : Atoms 𝓤) (W : Given 𝓤 H A) where

@@ -21,8 +21,8 @@ use base.Fml.{Lft, Share, GName, ftrue, flft, fat, froom, fdies}
 use prog.Wp.{Heap, Out as Outs, Env, Calls, Loops, Wp, WpFn, Tables, afterSeq, afterBlock, afterTurn, atReturn}
 use ghost.Atoms.{Atoms}
 use contract.Monad.{fact}
-use types.Kit.{Given, Item, Sq, ‵, raw, some, later, _⊛_, ⋆, anyQ, atRet, runs, _$_, _∵_, !, qed, by, move, drop, use1, split}
-use types.Kit.{join, pick, rewrite, fsplit, fjoin, suffices, frame, await, done}
+use types.Kit.{Given, Item, Sq, ‵, raw, some, later, _⊛_, ⋆, anyQ, atRet, runs, _$_, _∵_, !, qed, by, use1, group, split, join}
+use types.Kit.{pick, rewrite, fjoin, suffices, frame, await, done}
 use types.Run.{look, init, store, forget, stop, from, load, lit, and-then, no-more, of-opd, bin, assigns, assigns-last, stays}
 use types.Run.{leaves-loop, first, blocks, exec, loops, again, Below, land, returns, enter, alloc1, alloc0, params1, pass1}
 use types.Run.{pass0, free0}
@@ -46,7 +46,7 @@ use denote.Triple.Walked.{walk-meets}
 use denote.Exit.{yes}
 use Rattle.catalogue.specs.declared.Entry.{Entry}
 use Rattle.catalogue.proofs.Entry as Entry′
-use Rattle.catalogue.proofs.Steps.{leave, leave-room, is-true, is-false, Less, by-size}
+use Rattle.catalogue.proofs.Steps.{bring, discard, parts, fparts, leave, leave-room, is-true, is-false, Less, by-size}
 
 -- ---- the signature
 abbrev signature : Signature
@@ -237,11 +237,11 @@ module _ (#add-entry : Name) (add-entry-out : add-entry-Model ℕ)
         ((add-entry-contract add-entry-out 𝓤 H A) .pre (to-add-entry v-i v-state))
     goes-add-entry v-i v-state is-v-state is-v-i =
         qed W (‵ (flft κ₀ q₀) ∷ ‵ (ShrSlice (named 0) κ₀ Entry′.the-row .own x-catalogue (s-x-catalogue ∷ [])) ∷ []) ∵
-        nothing ! $ move ! (1 ∷ 0 ∷ []) $ join ! $ nothing ! $
+        nothing ! $ bring ! (1 ∷ 0 ∷ []) $ group ! 2 $ nothing ! $
         owned ! u32 (Is u32) (uint-makes 𝓤 H A W w32) v-i _ is-v-i $ fjoin ! $
         owned ! u64 (Is u64) (uint-makes 𝓤 H A W w64) v-state _ is-v-state $ fjoin ! $
-        owned ! u32 (Is u32) (uint-makes 𝓤 H A W w32) x-sheet _ is-x-sheet $ fjoin ! $ move ! (2 ∷ 0 ∷ []) $
-        fjoin ! $ move ! (1 ∷ 0 ∷ []) $ join ! $ frame ! $ done !
+        owned ! u32 (Is u32) (uint-makes 𝓤 H A W w32) x-sheet _ is-x-sheet $ fjoin ! $ bring ! (2 ∷ 0 ∷ []) $
+        fjoin ! $ bring ! (1 ∷ 0 ∷ []) $ join ! $ frame ! $ done !
 
     -- ---- the exit
     exits : (r : ℕ) → Is u64 r (machine-state r ∷ []) → Says (now x-catalogue) x-sheet x-count x-start r
@@ -251,11 +251,11 @@ module _ (#add-entry : Name) (add-entry-out : add-entry-Model ℕ)
         qed W (‵ (ShrSlice (named 0) κ₀ Entry′.the-row .own x-catalogue (s-x-catalogue ∷ [])) ∷ ‵ (flft κ₀ q₀) ∷ []) ∵
         suffices ! _ (ends-at 𝓤 H A ended stayed (clauses 𝓤) W bound (machine-state r) r (tt, (tt, (tt, (tt, tt))))
         (tt, (tt, (tt, (tt, tt))))) $
-        says ! said $ nothing ! $ move ! (2 ∷ 0 ∷ []) $ join ! $ frame ! $ nothing ! $
+        says ! said $ nothing ! $ bring ! (2 ∷ 0 ∷ []) $ group ! 2 $ frame ! $ nothing ! $
         owned ! u64 (Is u64) (uint-makes 𝓤 H A W w64) x-start _ is-x-start $ fjoin ! $
         owned ! u32 (Is u32) (uint-makes 𝓤 H A W w32) x-count _ is-x-count $ fjoin ! $
-        owned ! u32 (Is u32) (uint-makes 𝓤 H A W w32) x-sheet _ is-x-sheet $ fjoin ! $ move ! (1 ∷ 0 ∷ []) $
-        fjoin ! $ owned ! u64 (Is u64) (uint-makes 𝓤 H A W w64) r _ is $ move ! (1 ∷ 0 ∷ []) $ done !
+        owned ! u32 (Is u32) (uint-makes 𝓤 H A W w32) x-sheet _ is-x-sheet $ fjoin ! $ bring ! (1 ∷ 0 ∷ []) $
+        fjoin ! $ owned ! u64 (Is u64) (uint-makes 𝓤 H A W w64) r _ is $ bring ! (1 ∷ 0 ∷ []) $ done !
 
     module _ (𝓣 : Tables 𝓤 H) (known-add-entry : Triple 𝓤 (𝓣 .C #add-entry) (add-entry-contract add-entry-out 𝓤 H A))
         (l₀ l₁ l₂ l₃ l₄ l₅ l₆ l₇ : ℕ) where
@@ -373,7 +373,7 @@ module _ (#add-entry : Name) (add-entry-out : add-entry-Model ℕ)
             use1 W (‵ (ShrSlice (named 0) κ₀ Entry′.the-row .own x-catalogue (s-x-catalogue ∷ []))
             ⊛ ‵ (ShrSlice (named 0) κ₀ Entry′.the-row .own x-catalogue (s-x-catalogue ∷ [])))
             (shr-slice-copy 𝓤 H A W (named 0) κ₀ Entry′.the-row .twice x-catalogue (s-x-catalogue ∷ [])) $
-            split ! $ move ! (2 ∷ 0 ∷ []) $ join ! $
+            split ! $ bring ! (2 ∷ 0 ∷ []) $ group ! 2 $
             use1 W (raw ((add-entry-contract add-entry-out 𝓤 H A) .pre (to-add-entry (x .done) (x .state))))
             (goes-add-entry (x .done) (x .state) (x .is-state) is-i) $
             calls-at ! (fmOf 𝓤 H (W .laws) 𝓣) (add-entry-contract add-entry-out 𝓤 H A) known-add-entry
@@ -383,23 +383,21 @@ module _ (#add-entry : Name) (add-entry-out : add-entry-Model ℕ)
             use1 W (later (some (λ (r : ℕ). ((‵ (flft κ₀ q₀) ⊛ ‵ ftrue) ⊛ ‵ (u64 .own r (w-add-entry ∷ [])))
             ⊛ raw (ensured 𝓤 H A add-entry-ended (add-entry-clauses add-entry-out 𝓤) (κ₀, tt)
             (add-entry-args (x .done) (x .state)) tt r)))) (id⊢ 𝓤 _) $
-            await ! tt $ pick ! (λ r-add-entry. split ! $ move ! (1 ∷ []) $
+            await ! tt $ pick ! (λ r-add-entry. split ! $ bring ! (1 ∷ []) $
             use1 W (some (λ (zs-add-entry : Unit {0} × (Unit {0} × (Unit {0} × (Unit {0} × Unit {0})))). ‵
             (lasts add-entry-ended (κ₀, tt) (add-entry-args (x .done) (x .state)) zs-add-entry)
             ⊛ raw (fact 𝓤 (add-entry-says add-entry-out (now x-catalogue) x-sheet (x .state) (x .done) r-add-entry)))) (id⊢ 𝓤 _)
             $
-            pick ! (λ zs-add-entry. split ! $ move ! (1 ∷ []) $
+            pick ! (λ zs-add-entry. split ! $ bring ! (1 ∷ []) $
             heard ! (add-entry-says add-entry-out (now x-catalogue) x-sheet (x .state) (x .done) r-add-entry) (λ e-add-entry.
-            fsplit ! $ move ! (1 ∷ []) $ fsplit ! $ move ! (1 ∷ []) $ fsplit ! $ move ! (1 ∷ []) $ fsplit ! $
-            move ! (1 ∷ []) $ drop ! $ move ! (3 ∷ []) $ drop ! $ move ! (2 ∷ []) $ drop ! $ move ! (1 ∷ []) $ drop ! $
-            drop ! $ split ! $ move ! (1 ∷ []) $
+            fparts W (_ ∷ _ ∷ _ ∷ _ ∷ []) _ $ discard ! (0 ∷ 0 ∷ 0 ∷ 0 ∷ []) $ split ! $ bring ! (1 ∷ []) $
             peeks ! u64 (Is u64) (shows 𝓤 H A u64) r-add-entry (w-add-entry ∷ []) (λ is-w-add-entry.
             land ! (from ! (stop !)) (store ! 7 refl ((uint-lawful 𝓤 H A W w64 .typed) r-add-entry _ is-w-add-entry .0)) $
             rewrite ! 7 (λ (u : Val). ‵ (fat fullShare (tyInt w64) l₅ 0 u)) (ap only ((uint-tells w64) r-add-entry _
             is-w-add-entry)) refl $
-            drop ! $ split ! $ move ! (1 ∷ []) $ drop ! $
+            discard ! (0 ∷ []) $ parts W (_ ∷ []) _ $
             -- the turn is over
-            move ! (1 ∷ 0 ∷ []) $
+            bring ! (1 ∷ 0 ∷ []) $
             assigns-last ! (bin ! (load ! (from ! (stop !)) (look ! 4 refl)) (lit ! tt) (record { fits = next-fits }))
             (from ! (stop !)) (store ! 4 refl (tt, record { fits = next-fits })) $
             forget ! 2 refl $
@@ -424,9 +422,8 @@ module _ (#add-entry : Name) (add-entry-out : add-entry-Model ℕ)
         alloc1 ! (λ l₆. alloc1 ! (λ l₇. alloc0 ! $ params1 ! $
         pass1 ! (init ! 12 refl (tt, (tt, (record { fits = room-x-catalogue .0 }, tt)))) $
         pass1 ! (init ! 10 refl typed-x-sheet) $ pass1 ! (init ! 8 refl typed-x-count) $
-        pass1 ! (init ! 6 refl typed-x-start) $ pass0 ! $ move ! (16 ∷ []) $ split ! $ move ! (1 ∷ []) $ drop ! $
-        move ! (17 ∷ []) $ fsplit ! $ move ! (1 ∷ []) $ fsplit ! $ move ! (1 ∷ []) $ fsplit ! $ move ! (1 ∷ []) $
-        fsplit ! $ move ! (1 ∷ []) $ drop ! $ move ! (2 ∷ []) $ drop ! $ move ! (1 ∷ []) $ drop ! $ drop ! $
+        pass1 ! (init ! 6 refl typed-x-start) $ pass0 ! $ bring ! (16 ∷ []) $ parts W (_ ∷ []) _ $
+        bring ! (17 ∷ []) $ fparts W (_ ∷ _ ∷ _ ∷ _ ∷ []) _ $ discard ! (1 ∷ 1 ∷ 1 ∷ []) $
         assigns ! (of-opd ! (load ! (from ! (stop !)) (look ! 8 refl))) (from ! (stop !)) (init ! 6 refl typed-x-start) $
         assigns ! (of-opd ! (lit ! tt)) (from ! (stop !)) (init ! 4 refl (tt, record { fits = lit< tt })) $
         first ! $ blocks ! $ loops ! 𝓣 (Less size) (by-size size) (I 𝓣 known-add-entry l₀ l₁ l₂ l₃ l₄ l₅ l₆ l₇)

@@ -30,8 +30,8 @@ use base.Fml.{Lft, Share, GName, ftrue, flft, fat, froom, fdies, fobs, fauth, fb
 use prog.Wp.{Heap, Out as Outs, Env, Calls, Loops, Wp, WpFn, Tables, afterSeq, afterBlock, afterTurn, atReturn}
 use ghost.Atoms.{Atoms}
 use contract.Monad.{fact}
-use types.Kit.{Given, Item, Sq, ‵, raw, some, later, _⊛_, ⋆, anyQ, atRet, runs, _$_, _∵_, !, qed, by, move, drop, use1, split}
-use types.Kit.{join, pick, rewrite, fsplit, fjoin, suffices, frame, await, done}
+use types.Kit.{Given, Item, Sq, ‵, raw, some, later, _⊛_, ⋆, anyQ, atRet, runs, _$_, _∵_, !, qed, by, use1, group, split, join}
+use types.Kit.{pick, rewrite, fsplit, fjoin, suffices, frame, await, done}
 use types.Run.{look, look-raw, init, store, store-raw, forget, stop, hop, fld, from, load, lit, and-then, no-more, of-opd, bin}
 use types.Run.{assigns, assigns-last, stays, leaves-loop, first, blocks, exec, loops, again, Below, land, returns, enter}
 use types.Run.{alloc1, alloc0, params1, pass1, pass0, free0}
@@ -68,7 +68,8 @@ use Rattle.image_load.specs.declared.Turn.{Turn}
 use Rattle.image_load.proofs.Turn as Turn′
 use Rattle.image_load.proofs.Turn.Laws as Turn″
 use Rattle.catalogue.specs.Entries.{zeros}
-use Rattle.catalogue.proofs.Steps.{leave, leave-room, breaks-if, is-true, is-false, is-not, Less, by-size}
+use Rattle.catalogue.proofs.Steps.{bring, discard, parts, fparts, leave, leave-room, breaks-if, is-true, is-false, is-not, Less}
+use Rattle.catalogue.proofs.Steps.{by-size}
 
 -- ---- the signature
 abbrev signature : Signature
@@ -286,12 +287,12 @@ module _ (#step : Name) (step-out : step-Model Turn)
         (to-step v-state v-entry))
     goes-step v-state v-entry is-v-state is-v-entry =
         qed W (‵ (flft κ₁ q₁) ∷ ‵ (ShrSlice (named 0) κ₁ u8 .own x-image (s-x-image ∷ [])) ∷ []) ∵
-        nothing ! $ move ! (1 ∷ 0 ∷ []) $ join ! $ nothing ! $
+        nothing ! $ bring ! (1 ∷ 0 ∷ []) $ group ! 2 $ nothing ! $
         owned ! Entry′.the-row (Is Entry′.the-row) (struct.makes Entry′.the-type Entry″.the-plain 𝓤 H A) v-entry _ is-v-entry $
         fjoin ! $
         owned ! Cursor′.the-row (Is Cursor′.the-row) (struct.makes Cursor′.the-type Cursor″.the-plain 𝓤 H A) v-state _
         is-v-state $
-        fjoin ! $ move ! (2 ∷ 0 ∷ []) $ fjoin ! $ move ! (1 ∷ 0 ∷ []) $ join ! $ frame ! $ done !
+        fjoin ! $ bring ! (2 ∷ 0 ∷ []) $ fjoin ! $ bring ! (1 ∷ 0 ∷ []) $ join ! $ frame ! $ done !
 
     -- ---- the exit
     exits : (r : Cursor) (z-x-catalogue : List Entry) → Is Cursor′.the-row r (machine-state r ∷ [])
@@ -314,12 +315,12 @@ module _ (#step : Name) (step-out : step-Model Turn)
         fjoin ! $
         suffices ! _ (ends-at 𝓤 H A ended stayed (clauses 𝓤) W bound (machine-state r) r (z-x-catalogue, (tt, (tt, tt)))
         (l-x-catalogue, (tt, (tt, tt)))) $
-        says ! said $ nothing ! $ move ! (4 ∷ 0 ∷ []) $ join ! $ move ! (2 ∷ 0 ∷ []) $ join ! $ frame ! $ nothing ! $
+        says ! said $ nothing ! $ bring ! (2 ∷ 3 ∷ 0 ∷ []) $ group ! 3 $ frame ! $ nothing ! $
         owned ! Cursor′.the-row (Is Cursor′.the-row) (struct.makes Cursor′.the-type Cursor″.the-plain 𝓤 H A) x-start _
         is-x-start $
-        fjoin ! $ move ! (2 ∷ 0 ∷ []) $ fjoin ! $ move ! (1 ∷ 0 ∷ []) $ fjoin ! $
+        fjoin ! $ bring ! (2 ∷ 0 ∷ []) $ fjoin ! $ bring ! (1 ∷ 0 ∷ []) $ fjoin ! $
         owned ! Cursor′.the-row (Is Cursor′.the-row) (struct.makes Cursor′.the-type Cursor″.the-plain 𝓤 H A) r _ is $
-        move ! (1 ∷ 0 ∷ []) $ done !
+        bring ! (1 ∷ 0 ∷ []) $ done !
 
     module _ (𝓣 : Tables 𝓤 H) (known-step : Triple 𝓤 (𝓣 .C #step) (step-contract step-out 𝓤 H A))
         (l₀ l₁ l₂ l₃ l₄ l₅ l₆ l₇ l₈ l₉ l₁₀ l₁₁ : ℕ) where
@@ -532,10 +533,10 @@ module _ (#step : Name) (step-out : step-Model Turn)
             assigns ! (of-opd ! (load ! (from ! (hop ! (look ! 12 refl) (stop !))) (look-raw ! 0 refl))) (from ! (stop !))
             (init ! 10 refl (typed-entry el g)) $
             -- step
-            move ! (6 ∷ []) $
+            bring ! (6 ∷ []) $
             use1 W (‵ (ShrSlice (named 1) κ₁ u8 .own x-image (s-x-image ∷ [])) ⊛ ‵ (ShrSlice (named 1) κ₁ u8 .own x-image
             (s-x-image ∷ []))) (shr-slice-copy 𝓤 H A W (named 1) κ₁ u8 .twice x-image (s-x-image ∷ [])) $
-            split ! $ move ! (8 ∷ 0 ∷ []) $ join ! $
+            split ! $ bring ! (8 ∷ 0 ∷ []) $ group ! 2 $
             use1 W (raw ((step-contract step-out 𝓤 H A) .pre (to-step (x .at .state) el)))
             (goes-step (x .at .state) el (x .at .is-state) g) $
             calls-at ! (fmOf 𝓤 H (W .laws) 𝓣) (step-contract step-out 𝓤 H A) known-step (to-step (x .at .state) el)
@@ -544,20 +545,19 @@ module _ (#step : Name) (step-out : step-Model Turn)
             use1 W (later (some (λ (r : Turn). ((‵ (flft κ₁ q₁) ⊛ ‵ ftrue) ⊛ ‵ (Turn′.the-row .own r (w-step ∷ [])))
             ⊛ raw (ensured 𝓤 H A step-ended (step-clauses step-out 𝓤) (κ₁, tt) (step-args (x .at .state) el) tt r)))) (id⊢ 𝓤 _)
             $
-            await ! tt $ pick ! (λ r-step. split ! $ move ! (1 ∷ []) $
+            await ! tt $ pick ! (λ r-step. split ! $ bring ! (1 ∷ []) $
             use1 W (some (λ (zs-step : Unit {0} × (Unit {0} × (Unit {0} × Unit {0}))). ‵
             (lasts step-ended (κ₁, tt) (step-args (x .at .state) el) zs-step) ⊛ raw (fact 𝓤
             (step-says step-out (now x-image) (x .at .state) el r-step)))) (id⊢ 𝓤 _) $
-            pick ! (λ zs-step. split ! $ move ! (1 ∷ []) $
-            heard ! (step-says step-out (now x-image) (x .at .state) el r-step) (λ e-step. fsplit ! $ move ! (1 ∷ []) $
-            fsplit ! $ move ! (1 ∷ []) $ fsplit ! $ move ! (1 ∷ []) $ drop ! $ move ! (2 ∷ []) $ drop ! $
-            move ! (1 ∷ []) $ drop ! $ drop ! $ split ! $ move ! (1 ∷ []) $
+            pick ! (λ zs-step. split ! $ bring ! (1 ∷ []) $
+            heard ! (step-says step-out (now x-image) (x .at .state) el r-step) (λ e-step. fparts W (_ ∷ _ ∷ _ ∷ []) _ $
+            discard ! (0 ∷ 0 ∷ 0 ∷ []) $ split ! $ bring ! (1 ∷ []) $
             peeks ! Turn′.the-row (Is Turn′.the-row) (shows 𝓤 H A Turn′.the-row) r-step (w-step ∷ []) (λ is-w-step.
             land ! (from ! (stop !)) (init ! 19 refl ((struct.lawful Turn′.the-type Turn″.the-laws 𝓤 H A W .typed) r-step _
             is-w-step .0)) $
             rewrite ! 19 (λ (u : Val). ‵ (fat fullShare Turn″.mir l₆ 0 u)) (ap only ((struct.tells Turn′.the-type
             Turn″.the-laws) r-step _ is-w-step)) refl $
-            drop ! $ split ! $ move ! (1 ∷ []) $ drop ! $
+            discard ! (0 ∷ []) $ parts W (_ ∷ []) _ $
             -- the turn is over
             assigns ! (bin ! (load ! (from ! (stop !)) (look ! 20 refl)) (lit ! tt) (record { fits = far })) (from ! (stop !))
             (store ! 16 refl (tt, record { fits = far })) $
@@ -568,17 +568,17 @@ module _ (#step : Name) (step-out : step-Model Turn)
             assigns ! (of-opd ! (load ! (from ! (fld ! refl (stop !))) (look-in ! 18 (sub ! 1 refl (whole !)))))
             (from ! (hop ! (look ! 8 refl) (stop !))) (store-raw ! 2 refl (typed-entry (r-step .entry)
             ((spelled r-step w-step is-w-step) .1 .0))) $
-            move ! (3 ∷ []) $ drop ! $
+            discard ! (3 ∷ []) $
             owned ! Entry′.the-row (Is Entry′.the-row) (struct.makes Entry′.the-type Entry″.the-plain 𝓤 H A) (r-step .entry) _
             ((spelled r-step w-step is-w-step) .1 .0) $
-            move ! (3 ∷ 0 ∷ 4 ∷ []) $
+            bring ! (3 ∷ 0 ∷ 2 ∷ []) $
             elem-put ! Entry′.the-row fullShare c i (r-step .entry) (machine-entry (r-step .entry) ∷ []) (x-catalogue .ptr .0)
             (x-catalogue .ptr .1) within $
             rewrite ! 0 (λ (l : List Entry). ‵ (row Entry′.the-row fullShare l (x-catalogue .ptr .0) (x-catalogue .ptr .1)))
             (put-is (r-step .entry)) refl $
             assigns ! (of-opd ! (load ! (from ! (fld ! refl (stop !))) (look-in ! 16 (sub ! 0 refl (whole !)))))
             (from ! (stop !)) (store ! 20 refl (typed-state (r-step .state) ((spelled r-step w-step is-w-step) .0))) $
-            move ! (0 ∷ 3 ∷ 4 ∷ 5 ∷ 2 ∷ 1 ∷ []) $
+            bring ! (0 ∷ 2 ∷ 2 ∷ 2 ∷ 1 ∷ 0 ∷ []) $
             assigns ! (of-opd ! (load ! (from ! (fld ! refl (stop !))) (look-in ! 20 (sub ! 1 refl (whole !)))))
             (from ! (stop !)) (store ! 12 refl (tt, tt)) $
             breaks-if ! (load ! (from ! (stop !)) (look ! 12 refl))
@@ -617,12 +617,11 @@ module _ (#step : Name) (step-out : step-Model Turn)
         alloc1 ! (λ l₆. alloc1 ! (λ l₇. alloc1 ! (λ l₈. alloc1 ! (λ l₉. alloc1 ! (λ l₁₀. alloc1 ! (λ l₁₁. alloc0 ! $
         params1 ! $ pass1 ! (init ! 20 refl (tt, (tt, (record { fits = room-x-catalogue .0 }, tt)))) $
         pass1 ! (init ! 18 refl (tt, (tt, (record { fits = room-x-image .0 }, tt)))) $
-        pass1 ! (init ! 16 refl typed-x-start) $ pass0 ! $ move ! (24 ∷ []) $ split ! $ move ! (1 ∷ []) $ split ! $
-        move ! (1 ∷ []) $ drop ! $ move ! (26 ∷ []) $ fsplit ! $ move ! (1 ∷ []) $ fsplit ! $ move ! (1 ∷ []) $
-        fsplit ! $ move ! (1 ∷ []) $ drop ! $ drop ! $
+        pass1 ! (init ! 16 refl typed-x-start) $ pass0 ! $ bring ! (24 ∷ []) $ parts W (_ ∷ _ ∷ []) _ $
+        bring ! (26 ∷ []) $ fparts W (_ ∷ _ ∷ _ ∷ []) _ $ discard ! (2 ∷ []) $
         assigns ! (of-opd ! (load ! (from ! (stop !)) (look ! 20 refl))) (from ! (stop !)) (init ! 18 refl typed-x-start) $
         assigns ! (of-opd ! (lit ! tt)) (from ! (stop !)) (init ! 16 refl (tt, record { fits = lit< tt })) $
-        move ! (1 ∷ []) $ fsplit ! $ drop ! $ fsplit ! $ move ! (0 ∷ 1 ∷ 4 ∷ []) $
+        fsplit ! $ discard ! (0 ∷ []) $ fsplit ! $ bring ! (0 ∷ 0 ∷ 1 ∷ []) $
         opens-slice ! tt Entry′.the-row ys (x-catalogue .ptr .0) (x-catalogue .ptr .1) $
         first ! $ blocks ! $ loops ! 𝓣 (Less size) (by-size size) (I 𝓣 known-step l₀ l₁ l₂ l₃ l₄ l₅ l₆ l₇ l₈ l₉ l₁₀ l₁₁)
         (turn-at 𝓣 known-step l₀ l₁ l₂ l₃ l₄ l₅ l₆ l₇ l₈ l₉ l₁₀ l₁₁) at-first))))))))))))

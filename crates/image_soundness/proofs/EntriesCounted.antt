@@ -26,8 +26,8 @@ use base.Fml.{Lft, Share, GName, ftrue, flft, fat, froom, fdies, fobor}
 use prog.Wp.{Heap, Out as Outs, Env, Calls, Loops, Wp, WpFn, Tables, afterSeq, afterBlock, afterTurn, atReturn}
 use ghost.Atoms.{Atoms}
 use contract.Monad.{fact}
-use types.Kit.{Given, Item, Sq, ‵, raw, some, later, _⊛_, ⋆, anyQ, atRet, runs, _$_, _∵_, !, qed, by, move, drop, use0, use1}
-use types.Kit.{split, join, pick, rewrite, fsplit, fjoin, suffices, frame, await, done}
+use types.Kit.{Given, Item, Sq, ‵, raw, some, later, _⊛_, ⋆, anyQ, atRet, runs, _$_, _∵_, !, qed, by, use0, use1, group, split}
+use types.Kit.{join, pick, rewrite, fsplit, fjoin, suffices, frame, await, done}
 use types.Run.{look, look-raw, init, store, forget, stop, hop, fld, from, load, lit, and-then, no-more, of-opd, bin, assigns}
 use types.Run.{assigns-last, stays, leaves-loop, first, blocks, exec, loops, again, Below, land, returns, enter, alloc1, alloc0}
 use types.Run.{params1, pass1, pass0, free0}
@@ -60,7 +60,8 @@ use Rattle.image_soundness.specs.declared.Tally.{Tally}
 use Rattle.image_soundness.proofs.Tally as Tally′
 use Rattle.image_soundness.proofs.Tally.Laws as Tally″
 use Rattle.catalogue.specs.Entries.{zeros}
-use Rattle.catalogue.proofs.Steps.{leave, leave-room, breaks-if, is-true, is-false, is-not, Less, by-size}
+use Rattle.catalogue.proofs.Steps.{bring, discard, parts, fparts, leave, leave-room, breaks-if, is-true, is-false, is-not, Less}
+use Rattle.catalogue.proofs.Steps.{by-size}
 
 -- ---- the signature
 abbrev signature : Signature
@@ -260,7 +261,7 @@ module _ (#step : Name) (step-out : step-Model Tally)
         owned ! Entry′.the-row (Is Entry′.the-row) (struct.makes Entry′.the-type Entry″.the-plain 𝓤 H A) v-entry _ is-v-entry $
         fjoin ! $
         owned ! Tally′.the-row (Is Tally′.the-row) (struct.makes Tally′.the-type Tally″.the-plain 𝓤 H A) v-state _ is-v-state $
-        fjoin ! $ owned ! u32 (Is u32) (uint-makes 𝓤 H A W w32) x-n _ is-x-n $ fjoin ! $ move ! (1 ∷ 0 ∷ []) $
+        fjoin ! $ owned ! u32 (Is u32) (uint-makes 𝓤 H A W w32) x-n _ is-x-n $ fjoin ! $ bring ! (1 ∷ 0 ∷ []) $
         join ! $ frame ! $ done !
 
     -- ---- the exit
@@ -271,12 +272,12 @@ module _ (#step : Name) (step-out : step-Model Tally)
         qed W (‵ (ShrSlice (named 0) κ₀ Entry′.the-row .own x-catalogue (s-x-catalogue ∷ [])) ∷ ‵ (flft κ₀ q₀) ∷ []) ∵
         suffices ! _ (ends-at 𝓤 H A ended stayed (clauses 𝓤) W bound (machine-state r) r (tt, (tt, (tt, tt)))
         (tt, (tt, (tt, tt)))) $
-        says ! said $ nothing ! $ move ! (2 ∷ 0 ∷ []) $ join ! $ frame ! $ nothing ! $
+        says ! said $ nothing ! $ bring ! (2 ∷ 0 ∷ []) $ group ! 2 $ frame ! $ nothing ! $
         owned ! Tally′.the-row (Is Tally′.the-row) (struct.makes Tally′.the-type Tally″.the-plain 𝓤 H A) x-start _ is-x-start $
-        fjoin ! $ owned ! u32 (Is u32) (uint-makes 𝓤 H A W w32) x-n _ is-x-n $ fjoin ! $ move ! (1 ∷ 0 ∷ []) $
+        fjoin ! $ owned ! u32 (Is u32) (uint-makes 𝓤 H A W w32) x-n _ is-x-n $ fjoin ! $ bring ! (1 ∷ 0 ∷ []) $
         fjoin ! $
         owned ! Tally′.the-row (Is Tally′.the-row) (struct.makes Tally′.the-type Tally″.the-plain 𝓤 H A) r _ is $
-        move ! (1 ∷ 0 ∷ []) $ done !
+        bring ! (1 ∷ 0 ∷ []) $ done !
 
     module _ (𝓣 : Tables 𝓤 H) (known-step : Triple 𝓤 (𝓣 .C #step) (step-contract step-out 𝓤 H A)) (q′ : Share)
         (l₀ l₁ l₂ l₃ l₄ l₅ l₆ l₇ l₈ l₉ : ℕ) where
@@ -336,7 +337,7 @@ module _ (#step : Name) (step-out : step-Model Tally)
           returns ! (look ! 20 refl) $ leave ! 20 refl refl $ leave ! 18 refl refl $ leave ! 16 refl refl $
           leave ! 14 refl refl $ leave ! 12 refl refl $ leave ! 10 refl refl $ leave-room ! 8 refl refl $
           leave-room ! 6 refl refl $ leave-room ! 4 refl refl $ leave-room ! 2 refl refl $ free0 ! $
-          move ! (1 ∷ 0 ∷ []) $ by ! (exits (x .state) (x .is-state) fin)
+          bring ! (1 ∷ 0 ∷ []) $ by ! (exits (x .state) (x .is-state) fin)
 
       -- ---- the turn that finds no entry
       ends : (x : At) → x .at .left ≡ [] → Sq W (I x) (runs C Λ En (turn #step) (anyQ (afterTurn 𝓤 H (Next x) Left)))
@@ -457,20 +458,19 @@ module _ (#step : Name) (step-out : step-Model Tally)
             (and-then ! (load ! (from ! (stop !)) (look ! 4 refl)) (no-more !)))) (λ w-step.
             use1 W (later (some (λ (r : Tally). ((‵ ftrue) ⊛ ‵ (Tally′.the-row .own r (w-step ∷ [])))
             ⊛ raw (ensured 𝓤 H A step-ended (step-clauses step-out 𝓤) tt (step-args (x .at .state) el) tt r)))) (id⊢ 𝓤 _) $
-            await ! tt $ pick ! (λ r-step. split ! $ move ! (1 ∷ []) $
+            await ! tt $ pick ! (λ r-step. split ! $ bring ! (1 ∷ []) $
             use1 W (some (λ (zs-step : Unit {0} × (Unit {0} × (Unit {0} × Unit {0}))). ‵
             (lasts step-ended tt (step-args (x .at .state) el) zs-step) ⊛ raw (fact 𝓤 (step-says step-out x-n (x .at .state) el
             r-step)))) (id⊢ 𝓤 _) $
-            pick ! (λ zs-step. split ! $ move ! (1 ∷ []) $
-            heard ! (step-says step-out x-n (x .at .state) el r-step) (λ e-step. fsplit ! $ move ! (1 ∷ []) $ fsplit ! $
-            move ! (1 ∷ []) $ fsplit ! $ move ! (1 ∷ []) $ drop ! $ move ! (2 ∷ []) $ drop ! $ move ! (1 ∷ []) $ drop ! $
-            drop ! $ split ! $ move ! (1 ∷ []) $
+            pick ! (λ zs-step. split ! $ bring ! (1 ∷ []) $
+            heard ! (step-says step-out x-n (x .at .state) el r-step) (λ e-step. fparts W (_ ∷ _ ∷ _ ∷ []) _ $
+            discard ! (0 ∷ 0 ∷ 0 ∷ []) $ split ! $ bring ! (1 ∷ []) $
             peeks ! Tally′.the-row (Is Tally′.the-row) (shows 𝓤 H A Tally′.the-row) r-step (w-step ∷ []) (λ is-w-step.
             land ! (from ! (stop !)) (store ! 15 refl ((struct.lawful Tally′.the-type Tally″.the-laws 𝓤 H A W .typed) r-step _
             is-w-step .0)) $
             rewrite ! 15 (λ (u : Val). ‵ (fat fullShare Tally″.mir l₄ 0 u)) (ap only ((struct.tells Tally′.the-type
             Tally″.the-laws) r-step _ is-w-step)) refl $
-            drop ! $ drop ! $
+            discard ! (0 ∷ []) $ parts W ([]) _ $
             -- the turn is over
             assigns ! (of-opd ! (load ! (from ! (fld ! refl (stop !))) (look-in ! 13 (sub ! 1 refl (whole !)))))
             (from ! (stop !)) (store ! 7 refl (tt, tt)) $
@@ -505,19 +505,18 @@ module _ (#step : Name) (step-out : step-Model Tally)
         alloc1 ! (λ l₀. alloc1 ! (λ l₁. alloc1 ! (λ l₂. alloc1 ! (λ l₃. alloc1 ! (λ l₄. alloc1 ! (λ l₅.
         alloc1 ! (λ l₆. alloc1 ! (λ l₇. alloc1 ! (λ l₈. alloc1 ! (λ l₉. alloc0 ! $ params1 ! $
         pass1 ! (init ! 16 refl (tt, (tt, (record { fits = room-x-catalogue .0 }, tt)))) $
-        pass1 ! (init ! 14 refl typed-x-n) $ pass1 ! (init ! 12 refl typed-x-start) $ pass0 ! $ move ! (20 ∷ []) $
-        split ! $ move ! (1 ∷ []) $ drop ! $ move ! (21 ∷ []) $ fsplit ! $ move ! (1 ∷ []) $ fsplit ! $
-        move ! (1 ∷ []) $ fsplit ! $ move ! (1 ∷ []) $ drop ! $ move ! (1 ∷ []) $ drop ! $ drop ! $
+        pass1 ! (init ! 14 refl typed-x-n) $ pass1 ! (init ! 12 refl typed-x-start) $ pass0 ! $ bring ! (20 ∷ []) $
+        parts W (_ ∷ []) _ $ bring ! (21 ∷ []) $ fparts W (_ ∷ _ ∷ _ ∷ []) _ $ discard ! (1 ∷ 1 ∷ []) $
         assigns ! (of-opd ! (load ! (from ! (stop !)) (look ! 14 refl))) (from ! (stop !)) (init ! 12 refl typed-x-start) $
         assigns ! (of-opd ! (lit ! tt)) (from ! (stop !)) (init ! 10 refl (tt, record { fits = lit< tt })) $
         use1 W (‵ (ShrSlice (named 0) κ₀ Entry′.the-row .own x-catalogue (s-x-catalogue ∷ []))
         ⊛ ‵ (ShrSlice (named 0) κ₀ Entry′.the-row .own x-catalogue (s-x-catalogue ∷ [])))
         (shr-slice-copy 𝓤 H A W (named 0) κ₀ Entry′.the-row .twice x-catalogue (s-x-catalogue ∷ [])) $
-        split ! $ fsplit ! $ drop ! $ fsplit ! $ drop ! $ move ! (0 ∷ 2 ∷ []) $
+        split ! $ fsplit ! $ discard ! (0 ∷ []) $ fsplit ! $ discard ! (0 ∷ []) $ bring ! (0 ∷ 1 ∷ []) $
         looks-slice ! tt Entry′.the-row (Is Entry′.the-row) (shows 𝓤 H A Entry′.the-row)
         (struct.vals Entry′.the-type Entry″.the-laws) (struct.tells Entry′.the-type Entry″.the-laws)
         (struct.copy Entry′.the-type Entry″.the-copy 𝓤 H A W) ys (x-catalogue .ptr .0) (x-catalogue .ptr .1) (λ q′.
-        move ! (2 ∷ []) $ drop ! $
+        discard ! (2 ∷ []) $
         first ! $ blocks ! $ loops ! 𝓣 (Less size) (by-size size) (I 𝓣 known-step q′ l₀ l₁ l₂ l₃ l₄ l₅ l₆ l₇ l₈ l₉)
         (turn-at 𝓣 known-step q′ l₀ l₁ l₂ l₃ l₄ l₅ l₆ l₇ l₈ l₉) at-first)))))))))))
 

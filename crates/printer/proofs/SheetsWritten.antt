@@ -28,8 +28,8 @@ use base.Fml.{Lft, Share, GName, ftrue, flft, fat, froom, fdies, fobor}
 use prog.Wp.{Heap, Out as Outs, Env, Calls, Loops, Wp, WpFn, Tables, afterSeq, afterBlock, afterTurn, atReturn}
 use ghost.Atoms.{Atoms}
 use contract.Monad.{fact}
-use types.Kit.{Given, Item, Sq, ‵, raw, some, later, _⊛_, ⋆, anyQ, atRet, runs, _$_, _∵_, !, qed, by, move, drop, use1, use2}
-use types.Kit.{use3, split, join, pick, rewrite, fsplit, fjoin, feqL, suffices, frame, await, done}
+use types.Kit.{Given, Item, Sq, ‵, raw, some, later, _⊛_, ⋆, anyQ, atRet, runs, _$_, _∵_, !, qed, by, use1, use2, use3, group}
+use types.Kit.{split, join, pick, rewrite, fsplit, fjoin, feqL, suffices, frame, await, done}
 use types.Run.{look, look-raw, init, store, forget, stop, hop, fld, from, load, lit, addr, and-then, no-more, of-opd, bin}
 use types.Run.{assigns, assigns-last, stays, leaves-loop, first, blocks, exec, loops, again, Below, land, returns, enter}
 use types.Run.{alloc1, alloc0, params1, pass1, pass0, free0}
@@ -62,7 +62,8 @@ use Rattle.printer.specs.declared.Writer.{Writer}
 use Rattle.printer.proofs.Writer as Writer′
 use Rattle.printer.proofs.Writer.Laws as Writer″
 use Rattle.catalogue.specs.Entries.{zeros}
-use Rattle.catalogue.proofs.Steps.{leave, leave-room, breaks-if, is-true, is-false, is-not, Less, by-size}
+use Rattle.catalogue.proofs.Steps.{bring, discard, parts, fparts, leave, leave-room, breaks-if, is-true, is-false, is-not, Less}
+use Rattle.catalogue.proofs.Steps.{by-size}
 use Rattle.catalogue.proofs.Lending.{LentAgain, lends-again, comes-back}
 
 -- ---- the signature
@@ -293,12 +294,12 @@ module _ (#step : Name) (step-out : step-Model Writer) (step-x-text : step-Model
     goes-step ν₀-step δ₀-step v-state l-x-text v-entry is-v-state is-v-entry =
         qed W (‵ (flft (ν₀-step ∷ []) fullShare) ∷ ‵ (MutSlice (named 0) (ν₀-step ∷ []) u8 .own (at-x-text δ₀-step l-x-text)
         (s-x-text ∷ [])) ∷ []) ∵
-        nothing ! $ move ! (1 ∷ 0 ∷ []) $ join ! $ nothing ! $
+        nothing ! $ bring ! (1 ∷ 0 ∷ []) $ group ! 2 $ nothing ! $
         owned ! Entry′.the-row (Is Entry′.the-row) (struct.makes Entry′.the-type Entry″.the-plain 𝓤 H A) v-entry _ is-v-entry $
-        fjoin ! $ move ! (2 ∷ 0 ∷ []) $ fjoin ! $
+        fjoin ! $ bring ! (2 ∷ 0 ∷ []) $ fjoin ! $
         owned ! Writer′.the-row (Is Writer′.the-row) (struct.makes Writer′.the-type Writer″.the-plain 𝓤 H A) v-state _
         is-v-state $
-        fjoin ! $ move ! (1 ∷ 0 ∷ []) $ join ! $ frame ! $ done !
+        fjoin ! $ bring ! (1 ∷ 0 ∷ []) $ join ! $ frame ! $ done !
 
     -- ---- the exit
     exits : (r : Writer) (z-x-text : List ℕ) → Is Writer′.the-row r (machine-state r ∷ [])
@@ -311,13 +312,13 @@ module _ (#step : Name) (step-out : step-Model Writer) (step-x-text : step-Model
         ∷ ‵ (MutSlice (named 1) κ₁ u8 .own (at-x-text (x-text .name) z-x-text) (s-x-text ∷ [])) ∷ ‵ (flft κ₁ q₁) ∷ []) ∵
         suffices ! _ (ends-at 𝓤 H A ended stayed (clauses 𝓤) W bound (machine-state r) r (tt, (tt, (z-x-text, tt)))
         (tt, (tt, (l-x-text, tt)))) $
-        says ! said $ nothing ! $ move ! (4 ∷ 0 ∷ []) $ join ! $ move ! (2 ∷ 0 ∷ []) $ join ! $ frame ! $ nothing ! $
-        move ! (2 ∷ 0 ∷ []) $ fjoin ! $
+        says ! said $ nothing ! $ bring ! (2 ∷ 3 ∷ 0 ∷ []) $ group ! 3 $ frame ! $ nothing ! $ bring ! (2 ∷ 0 ∷ []) $
+        fjoin ! $
         owned ! Writer′.the-row (Is Writer′.the-row) (struct.makes Writer′.the-type Writer″.the-plain 𝓤 H A) x-start _
         is-x-start $
-        fjoin ! $ move ! (1 ∷ 0 ∷ []) $ fjoin ! $
+        fjoin ! $ bring ! (1 ∷ 0 ∷ []) $ fjoin ! $
         owned ! Writer′.the-row (Is Writer′.the-row) (struct.makes Writer′.the-type Writer″.the-plain 𝓤 H A) r _ is $
-        move ! (1 ∷ 0 ∷ []) $ done !
+        bring ! (1 ∷ 0 ∷ []) $ done !
 
     module _ (𝓣 : Tables 𝓤 H) (known-step : Triple 𝓤 (𝓣 .C #step) (step-contract step-out step-x-text 𝓤 H A)) (q′ : Share)
         (l₀ l₁ l₂ l₃ l₄ l₅ l₆ l₇ l₈ l₉ l₁₀ l₁₁ : ℕ) where
@@ -384,7 +385,7 @@ module _ (#step : Name) (step-out : step-Model Writer) (step-x-text : step-Model
           returns ! (look ! 26 refl) $ leave ! 26 refl refl $ leave ! 24 refl refl $ leave ! 22 refl refl $
           leave ! 20 refl refl $ leave ! 18 refl refl $ leave ! 16 refl refl $ leave-room ! 14 refl refl $
           leave-room ! 12 refl refl $ leave-room ! 10 refl refl $ leave-room ! 8 refl refl $ leave-room ! 6 refl refl $
-          leave-room ! 4 refl refl $ free0 ! $ move ! (1 ∷ 0 ∷ 2 ∷ 3 ∷ []) $
+          leave-room ! 4 refl refl $ free0 ! $ bring ! (1 ∷ 0 ∷ 0 ∷ 0 ∷ []) $
           by ! (exits (x .state) (x .z-x-text) (x .is-state) (fin .0, fin .1) (x .l-x-text))
 
       -- ---- the turn that finds no entry
@@ -534,12 +535,12 @@ module _ (#step : Name) (step-out : step-Model Writer) (step-x-text : step-Model
             (init ! 7 refl (typed-entry el g)) $
             elem-back ! Entry′.the-row q′ ys i zeros (machine-entry el ∷ []) (x-catalogue .ptr .0) (x-catalogue .ptr .1) small $
             -- step
-            lft-new ! tt (λ ν₀-step. move ! (4 ∷ 5 ∷ []) $
+            lft-new ! tt (λ ν₀-step. bring ! (4 ∷ 4 ∷ []) $
             use2 W (later (some (λ (δ : GName). ‵ (MutSlice (named 0) (ν₀-step ∷ []) u8 .own (at-x-text δ (x .at .z-x-text))
             (s-x-text ∷ [])) ⊛ ‵ (LentAgain u8 κ₁ (ν₀-step ∷ []) q₁ (x-text .name) (x-text .ptr .0) (x-text .ptr .1) δ
             (x .at .z-x-text))))) (lends-again u8 κ₁ (ν₀-step ∷ []) q₁ (x-text .name) (x-text .ptr .0) (x-text .ptr .1) 𝓤 H A W
             (named 1) (named 0) (x .at .z-x-text) (length (now x-text)) (x .at .l-x-text)) $
-            await ! tt $ pick ! (λ δ₀-step. split ! $ move ! (2 ∷ 0 ∷ []) $ join ! $
+            await ! tt $ pick ! (λ δ₀-step. split ! $ bring ! (2 ∷ 0 ∷ []) $ group ! 2 $
             use1 W (raw ((step-contract step-out step-x-text 𝓤 H A) .pre (to-step ν₀-step δ₀-step (x .at .state)
             (x .at .z-x-text) el))) (goes-step ν₀-step δ₀-step (x .at .state) (x .at .z-x-text) el (x .at .is-state) g) $
             calls-at ! (fmOf 𝓤 H (W .laws) 𝓣) (step-contract step-out step-x-text 𝓤 H A) known-step
@@ -549,29 +550,28 @@ module _ (#step : Name) (step-out : step-Model Writer) (step-x-text : step-Model
             use1 W (later (some (λ (r : Writer). ((‵ (flft (ν₀-step ∷ []) fullShare) ⊛ ‵ ftrue)
             ⊛ ‵ (Writer′.the-row .own r (w-step ∷ []))) ⊛ raw (ensured 𝓤 H A step-ended (step-clauses step-out step-x-text 𝓤)
             (ν₀-step ∷ [], tt) (step-args δ₀-step (x .at .state) (x .at .z-x-text) el) tt r)))) (id⊢ 𝓤 _) $
-            await ! tt $ pick ! (λ r-step. split ! $ move ! (1 ∷ []) $
+            await ! tt $ pick ! (λ r-step. split ! $ bring ! (1 ∷ []) $
             use1 W (some (λ (zs-step : Unit {0} × (List ℕ × (Unit {0} × Unit {0}))). ‵
             (lasts step-ended (ν₀-step ∷ [], tt) (step-args δ₀-step (x .at .state) (x .at .z-x-text) el) zs-step)
             ⊛ raw (fact 𝓤 (step-says step-out step-x-text (x .at .state) (x .at .z-x-text) el r-step (zs-step .1 .0)))))
             (id⊢ 𝓤 _) $
-            pick ! (λ zs-step. split ! $ move ! (1 ∷ []) $
+            pick ! (λ zs-step. split ! $ bring ! (1 ∷ []) $
             heard ! (step-says step-out step-x-text (x .at .state) (x .at .z-x-text) el r-step (zs-step .1 .0)) (λ e-step.
-            fsplit ! $ move ! (1 ∷ []) $ fsplit ! $ move ! (1 ∷ []) $ fsplit ! $ move ! (1 ∷ []) $ drop ! $
-            move ! (2 ∷ []) $ drop ! $ move ! (1 ∷ []) $ fsplit ! $ move ! (1 ∷ []) $ feqL ! (λ h-step-x-text.
-            move ! (1 ∷ []) $ drop ! $ move ! (1 ∷ []) $ split ! $ move ! (1 ∷ []) $
+            fparts W (_ ∷ _ ∷ _ ∷ []) _ $ discard ! (0 ∷ 1 ∷ []) $ fsplit ! $ bring ! (1 ∷ []) $ feqL ! (λ h-step-x-text.
+            bring ! (1 ∷ []) $ split ! $ bring ! (1 ∷ []) $
             peeks ! Writer′.the-row (Is Writer′.the-row) (shows 𝓤 H A Writer′.the-row) r-step (w-step ∷ []) (λ is-w-step.
             land ! (from ! (stop !)) (store ! 21 refl ((struct.lawful Writer′.the-type Writer″.the-laws 𝓤 H A W .typed) r-step _
             is-w-step .0)) $
             rewrite ! 21 (λ (u : Val). ‵ (fat fullShare Writer″.mir l₄ 0 u)) (ap only ((struct.tells Writer′.the-type
             Writer″.the-laws) r-step _ is-w-step)) refl $
-            drop ! $ split ! $ move ! (1 ∷ []) $ drop ! $ lft-end ! tt $ move ! (0 ∷ 2 ∷ 1 ∷ []) $
+            discard ! (0 ∷ []) $ parts W (_ ∷ []) _ $ lft-end ! tt $ bring ! (0 ∷ 1 ∷ 0 ∷ []) $
             use3 W (later (‵ (MutSlice (named 1) κ₁ u8 .own (at-x-text (x-text .name) (zs-step .1 .0)) (s-x-text ∷ []))
             ⊛ ‵ (flft κ₁ q₁))) (comes-back u8 κ₁ (ν₀-step ∷ []) q₁ (x-text .name) (x-text .ptr .0) (x-text .ptr .1) 𝓤 H A W
             (named 1) (named 0) (x .at .z-x-text) (length (now x-text)) (x .at .l-x-text) room-x-text δ₀-step (zs-step .1 .0)
             h-step-x-text) $
             await ! tt $ split ! $
             -- the turn is over
-            move ! (2 ∷ 3 ∷ 4 ∷ 0 ∷ 1 ∷ []) $
+            bring ! (2 ∷ 2 ∷ 2 ∷ 0 ∷ 0 ∷ []) $
             assigns ! (of-opd ! (load ! (from ! (fld ! refl (stop !))) (look-in ! 19 (sub ! 2 refl (whole !)))))
             (from ! (stop !)) (store ! 13 refl (tt, tt)) $
             breaks-if ! (load ! (from ! (stop !)) (look ! 13 refl))
@@ -610,21 +610,18 @@ module _ (#step : Name) (step-out : step-Model Writer) (step-x-text : step-Model
         alloc1 ! (λ l₆. alloc1 ! (λ l₇. alloc1 ! (λ l₈. alloc1 ! (λ l₉. alloc1 ! (λ l₁₀. alloc1 ! (λ l₁₁. alloc0 ! $
         params1 ! $ pass1 ! (init ! 20 refl (tt, (tt, (record { fits = room-x-catalogue .0 }, tt)))) $
         pass1 ! (init ! 18 refl typed-x-start) $
-        pass1 ! (init ! 16 refl (tt, (tt, (record { fits = room-x-text .0 }, tt)))) $ pass0 ! $ move ! (24 ∷ []) $
-        split ! $ move ! (1 ∷ []) $ split ! $ move ! (1 ∷ []) $ drop ! $ move ! (26 ∷ []) $ fsplit ! $
-        move ! (1 ∷ []) $ fsplit ! $ move ! (1 ∷ []) $ fsplit ! $ move ! (1 ∷ []) $ drop ! $ move ! (1 ∷ []) $
-        drop ! $
+        pass1 ! (init ! 16 refl (tt, (tt, (record { fits = room-x-text .0 }, tt)))) $ pass0 ! $ bring ! (24 ∷ []) $
+        parts W (_ ∷ _ ∷ []) _ $ bring ! (26 ∷ []) $ fparts W (_ ∷ _ ∷ _ ∷ []) _ $ discard ! (1 ∷ []) $
         assigns ! (of-opd ! (load ! (from ! (stop !)) (look ! 22 refl))) (from ! (stop !)) (init ! 18 refl typed-x-start) $
         assigns ! (of-opd ! (lit ! tt)) (from ! (stop !)) (init ! 16 refl (tt, record { fits = lit< tt })) $
-        move ! (1 ∷ []) $
         use1 W (‵ (ShrSlice (named 0) κ₀ Entry′.the-row .own x-catalogue (s-x-catalogue ∷ []))
         ⊛ ‵ (ShrSlice (named 0) κ₀ Entry′.the-row .own x-catalogue (s-x-catalogue ∷ [])))
         (shr-slice-copy 𝓤 H A W (named 0) κ₀ Entry′.the-row .twice x-catalogue (s-x-catalogue ∷ [])) $
-        split ! $ fsplit ! $ drop ! $ fsplit ! $ drop ! $ move ! (0 ∷ 4 ∷ []) $
+        split ! $ fsplit ! $ discard ! (0 ∷ []) $ fsplit ! $ discard ! (0 ∷ []) $ bring ! (0 ∷ 2 ∷ []) $
         looks-slice ! tt Entry′.the-row (Is Entry′.the-row) (shows 𝓤 H A Entry′.the-row)
         (struct.vals Entry′.the-type Entry″.the-laws) (struct.tells Entry′.the-type Entry″.the-laws)
         (struct.copy Entry′.the-type Entry″.the-copy 𝓤 H A W) ys (x-catalogue .ptr .0) (x-catalogue .ptr .1) (λ q′.
-        move ! (2 ∷ []) $ drop ! $
+        discard ! (2 ∷ []) $
         first ! $ blocks ! $ loops ! 𝓣 (Less size) (by-size size) (I 𝓣 known-step q′ l₀ l₁ l₂ l₃ l₄ l₅ l₆ l₇ l₈ l₉ l₁₀ l₁₁)
         (turn-at 𝓣 known-step q′ l₀ l₁ l₂ l₃ l₄ l₅ l₆ l₇ l₈ l₉ l₁₀ l₁₁) at-first)))))))))))))
 

@@ -22,7 +22,7 @@ use prog.Wp.{Heap, WpFn, Tables}
 use ghost.Atoms.{Atoms}
 use contract.Monad.{fact}
 use contract.Lifetimes.{Lfts}
-use types.Kit.{Given, ‵, raw, some, later, _⊛_, ⋆, _$_, _∵_, !, qed, by, move, drop, use0, use1, use2, use3, split, join, pick}
+use types.Kit.{Given, ‵, raw, some, later, _⊛_, ⋆, _$_, _∵_, !, qed, by, use0, use1, use2, use3, group, split, join, pick}
 use types.Kit.{fsplit, fjoin, feqL, suffices, frame, await, done}
 use types.Run.{look, init, stop, hop, fld, from, load, addr, and-then, no-more, of-opd, assigns, land, returns, enter, alloc1}
 use types.Run.{alloc0, params1, pass1, pass0, free0}
@@ -52,7 +52,7 @@ use Rattle.catalogue.proofs.Values.{Value, denotes, rowOf, mirOf, valsOf}
 use Rattle.catalogue.specs.declared.Entry.{Entry}
 use Rattle.catalogue.proofs.Entry as Entry′
 use Rattle.catalogue.proofs.Entry.Laws as Entry″
-use Rattle.catalogue.proofs.Steps.{leave, says-nothing}
+use Rattle.catalogue.proofs.Steps.{bring, discard, parts, fparts, leave, says-nothing}
 use Rattle.catalogue.proofs.Lending.{LentAgain, lends-again, comes-back}
 use Rattle.catalogue.proofs.Arrays.{PartShown, shows-part, part-home}
 
@@ -317,13 +317,12 @@ module _ (Shape Outcome Turn : Value) where
           (at-x-all b-x-all δ₀-call (take x-c x-entries)) (s-x-all b-x-all ∷ [])) ∷ ‵ (ShrSlice (named 2) κ₁ u8 .own x-card
           (s-x-card ∷ [])) ∷ ‵ (MutSlice (named 3) (ν₁-call ∷ []) u8 .own (at-x-buffer δ₁-call (now x-buffer))
           (s-x-buffer ∷ [])) ∷ []) ∵
-          nothing ! $ move ! (4 ∷ 0 ∷ []) $ join ! $ move ! (3 ∷ 0 ∷ []) $ join ! $ move ! (2 ∷ 0 ∷ []) $ join ! $
-          move ! (1 ∷ 0 ∷ []) $ join ! $ nothing ! $ move ! (5 ∷ 0 ∷ []) $ fjoin ! $
+          nothing ! $ bring ! (1 ∷ 1 ∷ 1 ∷ 1 ∷ 0 ∷ []) $ group ! 5 $ nothing ! $ bring ! (5 ∷ 0 ∷ []) $ fjoin ! $
           owned ! u32 (Is u32) (uint-makes 𝓤 H A W w32) x-place _ is-x-place $ fjoin ! $
-          owned ! u32 (Is u32) (uint-makes 𝓤 H A W w32) x-sheet _ is-x-sheet $ fjoin ! $ move ! (4 ∷ 0 ∷ []) $
-          fjoin ! $ move ! (3 ∷ 0 ∷ []) $ fjoin ! $ move ! (2 ∷ 0 ∷ []) $ fjoin ! $
+          owned ! u32 (Is u32) (uint-makes 𝓤 H A W w32) x-sheet _ is-x-sheet $ fjoin ! $ bring ! (4 ∷ 0 ∷ []) $
+          fjoin ! $ bring ! (3 ∷ 0 ∷ []) $ fjoin ! $ bring ! (2 ∷ 0 ∷ []) $ fjoin ! $
           owned ! (rowOf Shape) (Is (rowOf Shape)) (Shape .makes 𝓤 H A) x-shape _ is-x-shape $ fjoin ! $
-          owned ! u32 (Is u32) (uint-makes 𝓤 H A W w32) x-role _ is-x-role $ fjoin ! $ move ! (1 ∷ 0 ∷ []) $ join ! $
+          owned ! u32 (Is u32) (uint-makes 𝓤 H A W w32) x-role _ is-x-role $ fjoin ! $ bring ! (1 ∷ 0 ∷ []) $ join ! $
           frame ! $ done !
 
       -- ---- the caller has what `turn-of` asks
@@ -354,7 +353,7 @@ module _ (Shape Outcome Turn : Value) where
           owned ! (Array Entry′.the-row 1025) (Is (Array Entry′.the-row 1025)) (array-makes 𝓤 H A W Entry′.the-row
           (struct.makes Entry′.the-type Entry″.the-plain 𝓤 H A) 1025) v-all _ is-v-all $
           fjoin ! $ owned ! (rowOf Outcome) (Is (rowOf Outcome)) (Outcome .makes 𝓤 H A) v-outcome _ is-v-outcome $
-          fjoin ! $ move ! (1 ∷ 0 ∷ []) $ join ! $ frame ! $ done !
+          fjoin ! $ bring ! (1 ∷ 0 ∷ []) $ join ! $ frame ! $ done !
 
       -- ---- the exit
       exits : (r : (denotes Turn)) (w : Val) (z-x-buffer : List ℕ) → Is (rowOf Turn) r (w ∷ []) → length z-x-buffer
@@ -369,17 +368,16 @@ module _ (Shape Outcome Turn : Value) where
           suffices ! _ (ends-at 𝓤 H A ended stayed (clauses 𝓤) W bound w r
           (tt, (tt, (tt, (tt, (tt, (tt, (tt, (tt, (z-x-buffer, tt)))))))))
           (tt, (tt, (tt, (tt, (tt, (tt, (tt, (tt, (l-x-buffer, tt)))))))))) $
-          says-nothing ! $ nothing ! $ move ! (6 ∷ 0 ∷ []) $ join ! $ move ! (4 ∷ 0 ∷ []) $ join ! $
-          move ! (2 ∷ 0 ∷ []) $ join ! $ frame ! $ nothing ! $ move ! (3 ∷ 0 ∷ []) $ fjoin ! $
-          owned ! u32 (Is u32) (uint-makes 𝓤 H A W w32) x-place _ is-x-place $ fjoin ! $
-          owned ! u32 (Is u32) (uint-makes 𝓤 H A W w32) x-sheet _ is-x-sheet $ fjoin ! $ move ! (2 ∷ 0 ∷ []) $
-          fjoin ! $ owned ! usize (Is usize) (uint-makes 𝓤 H A W w64) x-c _ is-x-c $ fjoin ! $
+          says-nothing ! $ nothing ! $ bring ! (2 ∷ 3 ∷ 4 ∷ 0 ∷ []) $ group ! 4 $ frame ! $ nothing ! $
+          bring ! (3 ∷ 0 ∷ []) $ fjoin ! $ owned ! u32 (Is u32) (uint-makes 𝓤 H A W w32) x-place _ is-x-place $
+          fjoin ! $ owned ! u32 (Is u32) (uint-makes 𝓤 H A W w32) x-sheet _ is-x-sheet $ fjoin ! $
+          bring ! (2 ∷ 0 ∷ []) $ fjoin ! $ owned ! usize (Is usize) (uint-makes 𝓤 H A W w64) x-c _ is-x-c $ fjoin ! $
           owned ! (Array Entry′.the-row 1025) (Is (Array Entry′.the-row 1025)) (array-makes 𝓤 H A W Entry′.the-row
           (struct.makes Entry′.the-type Entry″.the-plain 𝓤 H A) 1025) x-entries _ is-x-entries $
-          fjoin ! $ move ! (1 ∷ 0 ∷ []) $ fjoin ! $
+          fjoin ! $ bring ! (1 ∷ 0 ∷ []) $ fjoin ! $
           owned ! (rowOf Shape) (Is (rowOf Shape)) (Shape .makes 𝓤 H A) x-shape _ is-x-shape $ fjoin ! $
           owned ! u32 (Is u32) (uint-makes 𝓤 H A W w32) x-role _ is-x-role $ fjoin ! $
-          owned ! (rowOf Turn) (Is (rowOf Turn)) (Turn .makes 𝓤 H A) r _ is $ move ! (1 ∷ 0 ∷ []) $ done !
+          owned ! (rowOf Turn) (Is (rowOf Turn)) (Turn .makes 𝓤 H A) r _ is $ bring ! (1 ∷ 0 ∷ []) $ done !
 
       -- ---- the walk
       walk : (𝓣 : Tables 𝓤 H) → Triple 𝓤 (𝓣 .C #call) (call-contract 𝓤 H A call-ensures)
@@ -401,13 +399,9 @@ module _ (Shape Outcome Turn : Value) where
           pass1 ! (init ! 24 refl typed-x-entries) $ pass1 ! (init ! 22 refl typed-x-c) $
           pass1 ! (init ! 20 refl (tt, (tt, (record { fits = room-x-card .0 }, tt)))) $
           pass1 ! (init ! 18 refl typed-x-sheet) $ pass1 ! (init ! 16 refl typed-x-place) $
-          pass1 ! (init ! 14 refl (tt, (tt, (record { fits = room-x-buffer .0 }, tt)))) $ pass0 ! $ move ! (34 ∷ []) $
-          split ! $ move ! (1 ∷ []) $ split ! $ move ! (1 ∷ []) $ split ! $ move ! (1 ∷ []) $ drop ! $
-          move ! (37 ∷ []) $ fsplit ! $ move ! (1 ∷ []) $ fsplit ! $ move ! (1 ∷ []) $ fsplit ! $ move ! (1 ∷ []) $
-          fsplit ! $ move ! (1 ∷ []) $ fsplit ! $ move ! (1 ∷ []) $ fsplit ! $ move ! (1 ∷ []) $ fsplit ! $
-          move ! (1 ∷ []) $ fsplit ! $ move ! (1 ∷ []) $ fsplit ! $ move ! (1 ∷ []) $ drop ! $ move ! (8 ∷ []) $
-          drop ! $ move ! (7 ∷ []) $ drop ! $ move ! (5 ∷ []) $ drop ! $ move ! (4 ∷ []) $ drop ! $ move ! (2 ∷ []) $
-          drop ! $ move ! (1 ∷ []) $ drop ! $
+          pass1 ! (init ! 14 refl (tt, (tt, (record { fits = room-x-buffer .0 }, tt)))) $ pass0 ! $ bring ! (34 ∷ []) $
+          parts W (_ ∷ _ ∷ _ ∷ []) _ $ bring ! (37 ∷ []) $ fparts W (_ ∷ _ ∷ _ ∷ _ ∷ _ ∷ _ ∷ _ ∷ _ ∷ _ ∷ []) _ $
+          discard ! (0 ∷ 0 ∷ 1 ∷ 1 ∷ 2 ∷ 2 ∷ []) $
           assigns ! (of-opd ! (load ! (from ! (stop !)) (look ! 30 refl))) (from ! (stop !)) (init ! 18 refl typed-x-entries) $
           -- call
           assigns ! (addr ! (from ! (stop !))) (from ! (stop !)) (init ! 14 refl (tt, tt)) $
@@ -419,27 +413,23 @@ module _ (Shape Outcome Turn : Value) where
           assigns ! (agg ! (and-then ! (load ! (from ! (stop !)) (look ! 10 refl)) (and-then !
           (load ! (from ! (fld ! refl (stop !))) (look-in ! 20 (sub ! 1 refl (whole !)))) (no-more !)))) (from ! (stop !))
           (init ! 8 refl (tt, (tt, (record { fits = room-x-buffer .0 }, tt)))) $
-          move ! (2 ∷ []) $
           use1 W (‵ (ShrSlice (named 0) κ₀ u64 .own x-map (s-x-map ∷ [])) ⊛ ‵ (ShrSlice (named 0) κ₀ u64 .own x-map
           (s-x-map ∷ []))) (shr-slice-copy 𝓤 H A W (named 0) κ₀ u64 .twice x-map (s-x-map ∷ [])) $
-          split ! $ lft-new ! tt (λ ν₀-call. move ! (20 ∷ []) $
+          split ! $ lft-new ! tt (λ ν₀-call. bring ! (20 ∷ []) $
           use1 W (later (some (λ (δ : GName). ‵ (ShrSlice (named 1) (ν₀-call ∷ []) Entry′.the-row .own
           (at-x-all l₁₀ δ (take x-c x-entries)) (s-x-all l₁₀ ∷ [])) ⊛ ‵ (PartShown Entry′.the-row 1025 (ν₀-call ∷ []) x-c
           x-entries l₁₀)))) (shows-part Entry′.the-row 1025 (ν₀-call ∷ []) x-c x-entries l₁₀
           (struct.vals Entry′.the-type Entry″.the-laws) (struct.tells Entry′.the-type Entry″.the-laws) tt 𝓤 H A W
           (struct.makes Entry′.the-type Entry″.the-plain 𝓤 H A) is-x-entries (x-all-room) asked (named 1)) $
-          await ! tt $ pick ! (λ δ₀-call. split ! $ move ! (6 ∷ []) $
+          await ! tt $ pick ! (λ δ₀-call. split ! $ bring ! (5 ∷ []) $
           use1 W (‵ (ShrSlice (named 1) κ₁ u8 .own x-card (s-x-card ∷ [])) ⊛ ‵ (ShrSlice (named 1) κ₁ u8 .own x-card
           (s-x-card ∷ []))) (shr-slice-copy 𝓤 H A W (named 1) κ₁ u8 .twice x-card (s-x-card ∷ [])) $
-          split ! $ lft-new ! tt (λ ν₁-call. move ! (8 ∷ 9 ∷ []) $
+          split ! $ lft-new ! tt (λ ν₁-call. bring ! (8 ∷ 10 ∷ []) $
           use2 W (later (some (λ (δ : GName). ‵ (MutSlice (named 3) (ν₁-call ∷ []) u8 .own (at-x-buffer δ (now x-buffer))
           (s-x-buffer ∷ [])) ⊛ ‵ (LentAgain u8 κ₂ (ν₁-call ∷ []) q₂ (x-buffer .name) (x-buffer .ptr .0) (x-buffer .ptr .1) δ
           (now x-buffer))))) (lends-again u8 κ₂ (ν₁-call ∷ []) q₂ (x-buffer .name) (x-buffer .ptr .0) (x-buffer .ptr .1) 𝓤 H A W
           (named 2) (named 3) (now x-buffer) (length (now x-buffer)) refl) $
-          await ! tt $ pick ! (λ δ₁-call. split ! $ move ! (11 ∷ 7 ∷ 10 ∷ 2 ∷ 8 ∷ 5 ∷ 3 ∷ 0 ∷ []) $
-          move ! (6 ∷ 7 ∷ []) $ join ! $ move ! (6 ∷ 0 ∷ []) $ join ! $ move ! (5 ∷ 0 ∷ []) $ join ! $
-          move ! (4 ∷ 0 ∷ []) $ join ! $ move ! (3 ∷ 0 ∷ []) $ join ! $ move ! (2 ∷ 0 ∷ []) $ join ! $
-          move ! (1 ∷ 0 ∷ []) $ join ! $
+          await ! tt $ pick ! (λ δ₁-call. split ! $ bring ! (10 ∷ 7 ∷ 9 ∷ 2 ∷ 6 ∷ 4 ∷ 2 ∷ 0 ∷ []) $ group ! 8 $
           use1 W (raw ((call-contract 𝓤 H A call-ensures) .pre (to-call ν₀-call ν₁-call δ₀-call δ₁-call l₁₀)))
           (goes-call ν₀-call ν₁-call δ₀-call δ₁-call l₁₀) $
           calls-at ! (fmOf 𝓤 H (W .laws) 𝓣) (call-contract 𝓤 H A call-ensures) known-call
@@ -452,28 +442,25 @@ module _ (Shape Outcome Turn : Value) where
           ⊛ ‵ (flft (ν₁-call ∷ []) fullShare) ⊛ ‵ ftrue) ⊛ ‵ ((rowOf Outcome) .own r (w-call ∷ [])))
           ⊛ raw (ensured 𝓤 H A call-ended (call-clauses 𝓤 call-ensures) (κ₀, (ν₀-call ∷ [], (κ₁, (ν₁-call ∷ [], tt))))
           (call-args δ₀-call δ₁-call l₁₀) tt r)))) (id⊢ 𝓤 _) $
-          await ! tt $ pick ! (λ r-call. split ! $ move ! (1 ∷ []) $
+          await ! tt $ pick ! (λ r-call. split ! $ bring ! (1 ∷ []) $
           use1 W (some (λ (zs-call : Unit {0} × (Unit {0} × (Unit {0} × (Unit {0} × (Unit {0}
           × (Unit {0} × (Unit {0} × (List ℕ × Unit {0})))))))). ‵ (lasts call-ended
           (κ₀, (ν₀-call ∷ [], (κ₁, (ν₁-call ∷ [], tt)))) (call-args δ₀-call δ₁-call l₁₀) zs-call)
           ⊛ raw (call-ensures (κ₀, (ν₀-call ∷ [], (κ₁, (ν₁-call ∷ [], tt)))) (call-args δ₀-call δ₁-call l₁₀) r-call
           (atExit call-ended (κ₀, (ν₀-call ∷ [], (κ₁, (ν₁-call ∷ [], tt)))) (call-args δ₀-call δ₁-call l₁₀) zs-call))))
           (id⊢ 𝓤 _) $
-          pick ! (λ zs-call. split ! $ move ! (1 ∷ []) $ drop ! $ fsplit ! $ move ! (1 ∷ []) $ fsplit ! $
-          move ! (1 ∷ []) $ fsplit ! $ move ! (1 ∷ []) $ fsplit ! $ move ! (1 ∷ []) $ fsplit ! $ move ! (1 ∷ []) $
-          fsplit ! $ move ! (1 ∷ []) $ fsplit ! $ move ! (1 ∷ []) $ fsplit ! $ move ! (1 ∷ []) $ drop ! $
-          move ! (7 ∷ []) $ drop ! $ move ! (6 ∷ []) $ drop ! $ move ! (5 ∷ []) $ drop ! $ move ! (4 ∷ []) $ drop ! $
-          move ! (3 ∷ []) $ drop ! $ move ! (2 ∷ []) $ drop ! $ move ! (1 ∷ []) $ drop ! $ fsplit ! $ move ! (1 ∷ []) $
-          feqL ! (λ h-call-x-buffer. move ! (1 ∷ []) $ split ! $ move ! (1 ∷ []) $
+          pick ! (λ zs-call. split ! $ discard ! (1 ∷ []) $ fparts W (_ ∷ _ ∷ _ ∷ _ ∷ _ ∷ _ ∷ _ ∷ _ ∷ []) _ $
+          discard ! (0 ∷ 0 ∷ 0 ∷ 0 ∷ 0 ∷ 0 ∷ 0 ∷ []) $ fsplit ! $ bring ! (1 ∷ []) $ feqL ! (λ h-call-x-buffer.
+          bring ! (1 ∷ []) $ split ! $ bring ! (1 ∷ []) $
           peeks ! (rowOf Outcome) (Is (rowOf Outcome)) (shows 𝓤 H A (rowOf Outcome)) r-call (w-call ∷ []) (λ is-w-call.
-          land ! (from ! (stop !)) (init ! 17 refl ((Outcome .typed 𝓤 H A W) r-call _ is-w-call .0)) $ drop ! $
-          split ! $ move ! (1 ∷ []) $ split ! $ move ! (1 ∷ []) $ split ! $ move ! (1 ∷ []) $ split ! $
-          move ! (1 ∷ []) $ drop ! $ move ! (2 ∷ []) $ lft-end ! tt $ move ! (0 ∷ 7 ∷ []) $
+          land ! (from ! (stop !)) (init ! 17 refl ((Outcome .typed 𝓤 H A W) r-call _ is-w-call .0)) $
+          discard ! (0 ∷ []) $ parts W (_ ∷ _ ∷ _ ∷ _ ∷ []) _ $ bring ! (1 ∷ []) $ lft-end ! tt $
+          bring ! (0 ∷ 6 ∷ []) $
           use2 W (later (‵ (fat fullShare (tyArray Entry″.mir 1025) l₁₀ 0 (only ((array-vals
           (struct.vals Entry′.the-type Entry″.the-laws)) x-entries))))) (part-home Entry′.the-row 1025 (ν₀-call ∷ []) x-c
           x-entries l₁₀ (struct.vals Entry′.the-type Entry″.the-laws) (struct.tells Entry′.the-type Entry″.the-laws) tt 𝓤 H A W
           (struct.makes Entry′.the-type Entry″.the-plain 𝓤 H A) is-x-entries (x-all-room) asked) $
-          await ! tt $ move ! (1 ∷ []) $ lft-end ! tt $ move ! (0 ∷ 5 ∷ 4 ∷ []) $
+          await ! tt $ bring ! (3 ∷ []) $ lft-end ! tt $ bring ! (0 ∷ 4 ∷ 3 ∷ []) $
           use3 W (later (‵ (MutSlice (named 2) κ₂ u8 .own (at-x-buffer (x-buffer .name) (zs-call .1 .1 .1 .1 .1 .1 .1 .0))
           (s-x-buffer ∷ [])) ⊛ ‵ (flft κ₂ q₂))) (comes-back u8 κ₂ (ν₁-call ∷ []) q₂ (x-buffer .name) (x-buffer .ptr .0)
           (x-buffer .ptr .1) 𝓤 H A W (named 2) (named 3) (now x-buffer) (length (now x-buffer)) refl room-x-buffer δ₁-call
@@ -491,20 +478,20 @@ module _ (Shape Outcome Turn : Value) where
           use1 W (later (some (λ (r : (denotes Turn)). ((‵ ftrue) ⊛ ‵ ((rowOf Turn) .own r (w-turn-of ∷ [])))
           ⊛ raw (ensured 𝓤 H A turn-of-ended (turn-of-clauses 𝓤 turn-of-ensures) tt (turn-of-args r-call w-call x-entries) tt
           r)))) (id⊢ 𝓤 _) $
-          await ! tt $ pick ! (λ r-turn-of. split ! $ move ! (1 ∷ []) $
+          await ! tt $ pick ! (λ r-turn-of. split ! $ bring ! (1 ∷ []) $
           use1 W (some (λ (zs-turn-of : Unit {0} × (Unit {0} × Unit {0})). ‵ (lasts turn-of-ended tt
           (turn-of-args r-call w-call x-entries) zs-turn-of) ⊛ raw (turn-of-ensures tt (turn-of-args r-call w-call x-entries)
           r-turn-of (atExit turn-of-ended tt (turn-of-args r-call w-call x-entries) zs-turn-of)))) (id⊢ 𝓤 _) $
-          pick ! (λ zs-turn-of. split ! $ move ! (1 ∷ []) $ drop ! $ fsplit ! $ move ! (1 ∷ []) $ fsplit ! $
-          move ! (1 ∷ []) $ drop ! $ move ! (1 ∷ []) $ drop ! $ drop ! $ split ! $ move ! (1 ∷ []) $
+          pick ! (λ zs-turn-of. split ! $ discard ! (1 ∷ []) $ fparts W (_ ∷ _ ∷ []) _ $ discard ! (0 ∷ 0 ∷ []) $
+          split ! $ bring ! (1 ∷ []) $
           peeks ! (rowOf Turn) (Is (rowOf Turn)) (shows 𝓤 H A (rowOf Turn)) r-turn-of (w-turn-of ∷ []) (λ is-w-turn-of.
-          land ! (from ! (stop !)) (init ! 40 refl ((Turn .typed 𝓤 H A W) r-turn-of _ is-w-turn-of .0)) $ drop ! $
-          drop ! $ returns ! (look ! 38 refl) $ move ! (2 ∷ 19 ∷ []) $ leave ! 38 refl refl $ leave ! 36 refl refl $
-          leave ! 34 refl refl $ leave ! 32 refl refl $ leave ! 30 refl refl $ leave ! 28 refl refl $
-          leave ! 26 refl refl $ leave ! 24 refl refl $ leave ! 22 refl refl $ leave ! 20 refl refl $
-          leave ! 0 refl refl $ leave ! 16 refl refl $ leave ! 14 refl refl $ leave ! 12 refl refl $
-          leave ! 10 refl refl $ leave ! 8 refl refl $ leave ! 6 refl refl $ free0 ! $
-          move ! (5 ∷ 3 ∷ 4 ∷ 2 ∷ 0 ∷ 1 ∷ []) $
+          land ! (from ! (stop !)) (init ! 40 refl ((Turn .typed 𝓤 H A W) r-turn-of _ is-w-turn-of .0)) $
+          discard ! (0 ∷ []) $ parts W ([]) _ $ returns ! (look ! 38 refl) $ bring ! (2 ∷ 18 ∷ []) $
+          leave ! 38 refl refl $ leave ! 36 refl refl $ leave ! 34 refl refl $ leave ! 32 refl refl $
+          leave ! 30 refl refl $ leave ! 28 refl refl $ leave ! 26 refl refl $ leave ! 24 refl refl $
+          leave ! 22 refl refl $ leave ! 20 refl refl $ leave ! 0 refl refl $ leave ! 16 refl refl $
+          leave ! 14 refl refl $ leave ! 12 refl refl $ leave ! 10 refl refl $ leave ! 8 refl refl $
+          leave ! 6 refl refl $ free0 ! $ bring ! (5 ∷ 2 ∷ 3 ∷ 2 ∷ 0 ∷ 0 ∷ []) $
           by ! (exits r-turn-of w-turn-of (zs-call .1 .1 .1 .1 .1 .1 .1 .0) is-w-turn-of
           h-call-x-buffer)))))))))))))))))))))))))))))))
 

@@ -22,8 +22,8 @@ use prog.Wp.{Heap, WpFn, Tables}
 use ghost.Atoms.{Atoms}
 use contract.Monad.{fact}
 use contract.Lifetimes.{Lfts}
-use types.Kit.{Given, ‵, raw, some, later, _⊛_, ⋆, _$_, _∵_, !, qed, by, move, drop, use0, use1, use2, split, join, pick}
-use types.Kit.{fsplit, fjoin, suffices, frame, await, done}
+use types.Kit.{Given, ‵, raw, some, later, _⊛_, ⋆, _$_, _∵_, !, qed, by, use0, use1, use2, group, split, join, pick, fjoin}
+use types.Kit.{suffices, frame, await, done}
 use types.Run.{look, init, stop, from, load, addr, and-then, no-more, of-opd, assigns, land, returns, enter, alloc1, alloc0}
 use types.Run.{params1, pass1, pass0, free0}
 use types.Part.{agg}
@@ -52,7 +52,7 @@ use Rattle.catalogue.proofs.Values.{Value, denotes, rowOf, mirOf, valsOf}
 use Rattle.catalogue.specs.declared.Entry.{Entry}
 use Rattle.catalogue.proofs.Entry as Entry′
 use Rattle.catalogue.proofs.Entry.Laws as Entry″
-use Rattle.catalogue.proofs.Steps.{leave, says-nothing}
+use Rattle.catalogue.proofs.Steps.{bring, discard, parts, fparts, leave, says-nothing}
 use Rattle.catalogue.proofs.Arrays.{PartShown, shows-part, part-home}
 
 module _ (Shape Outcome Turn : Value) where
@@ -245,11 +245,11 @@ module _ (Shape Outcome Turn : Value) where
           qed W (‵ (flft κ₀ q₀) ∷ ‵ (flft (ν₀-call ∷ []) fullShare) ∷ ‵ (ShrSlice (named 0) κ₀ u64 .own x-map (s-x-map ∷ []))
           ∷ ‵ (ShrSlice (named 1) (ν₀-call ∷ []) Entry′.the-row .own (at-x-all b-x-all δ₀-call (take x-c x-entries))
           (s-x-all b-x-all ∷ [])) ∷ []) ∵
-          nothing ! $ move ! (2 ∷ 0 ∷ []) $ join ! $ move ! (1 ∷ 0 ∷ []) $ join ! $ nothing ! $
-          owned ! u32 (Is u32) (uint-makes 𝓤 H A W w32) x-sheet _ is-x-sheet $ fjoin ! $ move ! (3 ∷ 0 ∷ []) $
-          fjoin ! $ move ! (2 ∷ 0 ∷ []) $ fjoin ! $
+          nothing ! $ bring ! (1 ∷ 1 ∷ 0 ∷ []) $ group ! 3 $ nothing ! $
+          owned ! u32 (Is u32) (uint-makes 𝓤 H A W w32) x-sheet _ is-x-sheet $ fjoin ! $ bring ! (3 ∷ 0 ∷ []) $
+          fjoin ! $ bring ! (2 ∷ 0 ∷ []) $ fjoin ! $
           owned ! (rowOf Shape) (Is (rowOf Shape)) (Shape .makes 𝓤 H A) x-shape _ is-x-shape $ fjoin ! $
-          owned ! u32 (Is u32) (uint-makes 𝓤 H A W w32) x-role _ is-x-role $ fjoin ! $ move ! (1 ∷ 0 ∷ []) $ join ! $
+          owned ! u32 (Is u32) (uint-makes 𝓤 H A W w32) x-role _ is-x-role $ fjoin ! $ bring ! (1 ∷ 0 ∷ []) $ join ! $
           frame ! $ done !
 
       -- ---- the caller has what `turn-of` asks
@@ -280,7 +280,7 @@ module _ (Shape Outcome Turn : Value) where
           owned ! (Array Entry′.the-row 1025) (Is (Array Entry′.the-row 1025)) (array-makes 𝓤 H A W Entry′.the-row
           (struct.makes Entry′.the-type Entry″.the-plain 𝓤 H A) 1025) v-all _ is-v-all $
           fjoin ! $ owned ! (rowOf Outcome) (Is (rowOf Outcome)) (Outcome .makes 𝓤 H A) v-outcome _ is-v-outcome $
-          fjoin ! $ move ! (1 ∷ 0 ∷ []) $ join ! $ frame ! $ done !
+          fjoin ! $ bring ! (1 ∷ 0 ∷ []) $ join ! $ frame ! $ done !
 
       -- ---- the exit
       exits : (r : (denotes Turn)) (w : Val) → Is (rowOf Turn) r (w ∷ []) → ent 𝓤 (⋆ 𝓤 H A
@@ -289,15 +289,15 @@ module _ (Shape Outcome Turn : Value) where
           qed W (‵ (ShrSlice (named 0) κ₀ u64 .own x-map (s-x-map ∷ [])) ∷ ‵ (flft κ₀ q₀) ∷ []) ∵
           suffices ! _ (ends-at 𝓤 H A ended stayed (clauses 𝓤) W bound w r (tt, (tt, (tt, (tt, (tt, (tt, tt))))))
           (tt, (tt, (tt, (tt, (tt, (tt, tt))))))) $
-          says-nothing ! $ nothing ! $ move ! (2 ∷ 0 ∷ []) $ join ! $ frame ! $ nothing ! $
+          says-nothing ! $ nothing ! $ bring ! (2 ∷ 0 ∷ []) $ group ! 2 $ frame ! $ nothing ! $
           owned ! u32 (Is u32) (uint-makes 𝓤 H A W w32) x-sheet _ is-x-sheet $ fjoin ! $
           owned ! usize (Is usize) (uint-makes 𝓤 H A W w64) x-c _ is-x-c $ fjoin ! $
           owned ! (Array Entry′.the-row 1025) (Is (Array Entry′.the-row 1025)) (array-makes 𝓤 H A W Entry′.the-row
           (struct.makes Entry′.the-type Entry″.the-plain 𝓤 H A) 1025) x-entries _ is-x-entries $
-          fjoin ! $ move ! (1 ∷ 0 ∷ []) $ fjoin ! $
+          fjoin ! $ bring ! (1 ∷ 0 ∷ []) $ fjoin ! $
           owned ! (rowOf Shape) (Is (rowOf Shape)) (Shape .makes 𝓤 H A) x-shape _ is-x-shape $ fjoin ! $
           owned ! u32 (Is u32) (uint-makes 𝓤 H A W w32) x-role _ is-x-role $ fjoin ! $
-          owned ! (rowOf Turn) (Is (rowOf Turn)) (Turn .makes 𝓤 H A) r _ is $ move ! (1 ∷ 0 ∷ []) $ done !
+          owned ! (rowOf Turn) (Is (rowOf Turn)) (Turn .makes 𝓤 H A) r _ is $ bring ! (1 ∷ 0 ∷ []) $ done !
 
       -- ---- the walk
       walk : (𝓣 : Tables 𝓤 H) → Triple 𝓤 (𝓣 .C #call) (call-contract 𝓤 H A call-ensures)
@@ -315,11 +315,8 @@ module _ (Shape Outcome Turn : Value) where
           params1 ! $ pass1 ! (init ! 20 refl typed-x-role) $ pass1 ! (init ! 18 refl typed-x-shape) $
           pass1 ! (init ! 16 refl (tt, (tt, (record { fits = room-x-map .0 }, tt)))) $
           pass1 ! (init ! 14 refl typed-x-entries) $ pass1 ! (init ! 12 refl typed-x-c) $
-          pass1 ! (init ! 10 refl typed-x-sheet) $ pass0 ! $ move ! (24 ∷ []) $ split ! $ move ! (1 ∷ []) $ drop ! $
-          move ! (25 ∷ []) $ fsplit ! $ move ! (1 ∷ []) $ fsplit ! $ move ! (1 ∷ []) $ fsplit ! $ move ! (1 ∷ []) $
-          fsplit ! $ move ! (1 ∷ []) $ fsplit ! $ move ! (1 ∷ []) $ fsplit ! $ move ! (1 ∷ []) $ drop ! $
-          move ! (5 ∷ []) $ drop ! $ move ! (4 ∷ []) $ drop ! $ move ! (2 ∷ []) $ drop ! $ move ! (1 ∷ []) $ drop ! $
-          drop ! $
+          pass1 ! (init ! 10 refl typed-x-sheet) $ pass0 ! $ bring ! (24 ∷ []) $ parts W (_ ∷ []) _ $
+          bring ! (25 ∷ []) $ fparts W (_ ∷ _ ∷ _ ∷ _ ∷ _ ∷ _ ∷ []) _ $ discard ! (0 ∷ 0 ∷ 1 ∷ 1 ∷ 1 ∷ []) $
           assigns ! (of-opd ! (load ! (from ! (stop !)) (look ! 16 refl))) (from ! (stop !)) (init ! 10 refl typed-x-entries) $
           -- call
           assigns ! (addr ! (from ! (stop !))) (from ! (stop !)) (init ! 6 refl (tt, tt)) $
@@ -328,14 +325,13 @@ module _ (Shape Outcome Turn : Value) where
           (init ! 4 refl (tt, (tt, (typed-x-c .1, tt)))) $
           use1 W (‵ (ShrSlice (named 0) κ₀ u64 .own x-map (s-x-map ∷ [])) ⊛ ‵ (ShrSlice (named 0) κ₀ u64 .own x-map
           (s-x-map ∷ []))) (shr-slice-copy 𝓤 H A W (named 0) κ₀ u64 .twice x-map (s-x-map ∷ [])) $
-          split ! $ lft-new ! tt (λ ν₀-call. move ! (12 ∷ []) $
+          split ! $ lft-new ! tt (λ ν₀-call. bring ! (12 ∷ []) $
           use1 W (later (some (λ (δ : GName). ‵ (ShrSlice (named 1) (ν₀-call ∷ []) Entry′.the-row .own
           (at-x-all l₇ δ (take x-c x-entries)) (s-x-all l₇ ∷ [])) ⊛ ‵ (PartShown Entry′.the-row 1025 (ν₀-call ∷ []) x-c
           x-entries l₇)))) (shows-part Entry′.the-row 1025 (ν₀-call ∷ []) x-c x-entries l₇
           (struct.vals Entry′.the-type Entry″.the-laws) (struct.tells Entry′.the-type Entry″.the-laws) tt 𝓤 H A W
           (struct.makes Entry′.the-type Entry″.the-plain 𝓤 H A) is-x-entries (x-all-room) asked (named 1)) $
-          await ! tt $ pick ! (λ δ₀-call. split ! $ move ! (5 ∷ 2 ∷ 3 ∷ 0 ∷ []) $ move ! (2 ∷ 3 ∷ []) $ join ! $
-          move ! (2 ∷ 0 ∷ []) $ join ! $ move ! (1 ∷ 0 ∷ []) $ join ! $
+          await ! tt $ pick ! (λ δ₀-call. split ! $ bring ! (5 ∷ 2 ∷ 2 ∷ 0 ∷ []) $ group ! 4 $
           use1 W (raw ((call-contract 𝓤 H A call-ensures) .pre (to-call ν₀-call δ₀-call l₇))) (goes-call ν₀-call δ₀-call l₇) $
           calls-at ! (fmOf 𝓤 H (W .laws) 𝓣) (call-contract 𝓤 H A call-ensures) known-call (to-call ν₀-call δ₀-call l₇)
           (and-then ! (load ! (from ! (stop !)) (look ! 22 refl)) (and-then ! (load ! (from ! (stop !)) (look ! 20 refl))
@@ -344,19 +340,17 @@ module _ (Shape Outcome Turn : Value) where
           use1 W (later (some (λ (r : (denotes Outcome)). ((‵ (flft κ₀ q₀) ⊛ ‵ (flft (ν₀-call ∷ []) fullShare) ⊛ ‵ ftrue)
           ⊛ ‵ ((rowOf Outcome) .own r (w-call ∷ []))) ⊛ raw (ensured 𝓤 H A call-ended (call-clauses 𝓤 call-ensures)
           (κ₀, (ν₀-call ∷ [], tt)) (call-args δ₀-call l₇) tt r)))) (id⊢ 𝓤 _) $
-          await ! tt $ pick ! (λ r-call. split ! $ move ! (1 ∷ []) $
+          await ! tt $ pick ! (λ r-call. split ! $ bring ! (1 ∷ []) $
           use1 W (some (λ (zs-call : Unit {0} × (Unit {0} × (Unit {0} × (Unit {0} × (Unit {0} × Unit {0}))))). ‵
           (lasts call-ended (κ₀, (ν₀-call ∷ [], tt)) (call-args δ₀-call l₇) zs-call) ⊛ raw
           (call-ensures
           (κ₀, (ν₀-call ∷ [], tt)) (call-args δ₀-call l₇) r-call (atExit call-ended (κ₀, (ν₀-call ∷ [], tt))
           (call-args δ₀-call l₇) zs-call)))) (id⊢ 𝓤 _) $
-          pick ! (λ zs-call. split ! $ move ! (1 ∷ []) $ drop ! $ fsplit ! $ move ! (1 ∷ []) $ fsplit ! $
-          move ! (1 ∷ []) $ fsplit ! $ move ! (1 ∷ []) $ fsplit ! $ move ! (1 ∷ []) $ fsplit ! $ move ! (1 ∷ []) $
-          drop ! $ move ! (4 ∷ []) $ drop ! $ move ! (3 ∷ []) $ drop ! $ move ! (2 ∷ []) $ drop ! $ move ! (1 ∷ []) $
-          drop ! $ drop ! $ split ! $ move ! (1 ∷ []) $
+          pick ! (λ zs-call. split ! $ discard ! (1 ∷ []) $ fparts W (_ ∷ _ ∷ _ ∷ _ ∷ _ ∷ []) _ $
+          discard ! (0 ∷ 0 ∷ 0 ∷ 0 ∷ 0 ∷ []) $ split ! $ bring ! (1 ∷ []) $
           peeks ! (rowOf Outcome) (Is (rowOf Outcome)) (shows 𝓤 H A (rowOf Outcome)) r-call (w-call ∷ []) (λ is-w-call.
-          land ! (from ! (stop !)) (init ! 10 refl ((Outcome .typed 𝓤 H A W) r-call _ is-w-call .0)) $ drop ! $
-          split ! $ move ! (1 ∷ []) $ split ! $ move ! (1 ∷ []) $ drop ! $ lft-end ! tt $ move ! (0 ∷ 2 ∷ []) $
+          land ! (from ! (stop !)) (init ! 10 refl ((Outcome .typed 𝓤 H A W) r-call _ is-w-call .0)) $
+          discard ! (0 ∷ []) $ parts W (_ ∷ _ ∷ []) _ $ bring ! (1 ∷ []) $ lft-end ! tt $ bring ! (0 ∷ 1 ∷ []) $
           use2 W (later (‵ (fat fullShare (tyArray Entry″.mir 1025) l₇ 0 (only ((array-vals
           (struct.vals Entry′.the-type Entry″.the-laws)) x-entries))))) (part-home Entry′.the-row 1025 (ν₀-call ∷ []) x-c
           x-entries l₇ (struct.vals Entry′.the-type Entry″.the-laws) (struct.tells Entry′.the-type Entry″.the-laws) tt 𝓤 H A W
@@ -374,19 +368,19 @@ module _ (Shape Outcome Turn : Value) where
           use1 W (later (some (λ (r : (denotes Turn)). ((‵ ftrue) ⊛ ‵ ((rowOf Turn) .own r (w-turn-of ∷ [])))
           ⊛ raw (ensured 𝓤 H A turn-of-ended (turn-of-clauses 𝓤 turn-of-ensures) tt (turn-of-args r-call w-call x-entries) tt
           r)))) (id⊢ 𝓤 _) $
-          await ! tt $ pick ! (λ r-turn-of. split ! $ move ! (1 ∷ []) $
+          await ! tt $ pick ! (λ r-turn-of. split ! $ bring ! (1 ∷ []) $
           use1 W (some (λ (zs-turn-of : Unit {0} × (Unit {0} × Unit {0})). ‵ (lasts turn-of-ended tt
           (turn-of-args r-call w-call x-entries) zs-turn-of) ⊛ raw (turn-of-ensures tt (turn-of-args r-call w-call x-entries)
           r-turn-of (atExit turn-of-ended tt (turn-of-args r-call w-call x-entries) zs-turn-of)))) (id⊢ 𝓤 _) $
-          pick ! (λ zs-turn-of. split ! $ move ! (1 ∷ []) $ drop ! $ fsplit ! $ move ! (1 ∷ []) $ fsplit ! $
-          move ! (1 ∷ []) $ drop ! $ move ! (1 ∷ []) $ drop ! $ drop ! $ split ! $ move ! (1 ∷ []) $
+          pick ! (λ zs-turn-of. split ! $ discard ! (1 ∷ []) $ fparts W (_ ∷ _ ∷ []) _ $ discard ! (0 ∷ 0 ∷ []) $
+          split ! $ bring ! (1 ∷ []) $
           peeks ! (rowOf Turn) (Is (rowOf Turn)) (shows 𝓤 H A (rowOf Turn)) r-turn-of (w-turn-of ∷ []) (λ is-w-turn-of.
-          land ! (from ! (stop !)) (init ! 26 refl ((Turn .typed 𝓤 H A W) r-turn-of _ is-w-turn-of .0)) $ drop ! $
-          drop ! $ returns ! (look ! 24 refl) $ move ! (0 ∷ 11 ∷ []) $ leave ! 24 refl refl $ leave ! 22 refl refl $
-          leave ! 20 refl refl $ leave ! 18 refl refl $ leave ! 16 refl refl $ leave ! 14 refl refl $
-          leave ! 12 refl refl $ leave ! 0 refl refl $ leave ! 8 refl refl $ leave ! 6 refl refl $
-          leave ! 4 refl refl $ leave ! 2 refl refl $ free0 ! $ move ! (1 ∷ 0 ∷ []) $
-          by ! (exits r-turn-of w-turn-of is-w-turn-of)))))))))))))))))))))))
+          land ! (from ! (stop !)) (init ! 26 refl ((Turn .typed 𝓤 H A W) r-turn-of _ is-w-turn-of .0)) $
+          discard ! (0 ∷ []) $ parts W ([]) _ $ returns ! (look ! 24 refl) $ bring ! (0 ∷ 10 ∷ []) $
+          leave ! 24 refl refl $ leave ! 22 refl refl $ leave ! 20 refl refl $ leave ! 18 refl refl $
+          leave ! 16 refl refl $ leave ! 14 refl refl $ leave ! 12 refl refl $ leave ! 0 refl refl $
+          leave ! 8 refl refl $ leave ! 6 refl refl $ leave ! 4 refl refl $ leave ! 2 refl refl $ free0 ! $
+          bring ! (1 ∷ 0 ∷ []) $ by ! (exits r-turn-of w-turn-of is-w-turn-of)))))))))))))))))))))))
 
     module _ {M : Type 1} (𝓤 : URA M) (H : Heap 𝓤) (A : Atoms 𝓤) (W : Given 𝓤 H A) (call-ensures : call-Ensures 𝓤)
         (turn-of-ensures : turn-of-Ensures 𝓤) where

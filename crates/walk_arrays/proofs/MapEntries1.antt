@@ -22,7 +22,7 @@ use prog.Wp.{Heap, WpFn, Tables}
 use ghost.Atoms.{Atoms}
 use contract.Monad.{fact}
 use contract.Lifetimes.{Lfts}
-use types.Kit.{Given, ‵, raw, some, given, later, _⊛_, ⋆, _$_, _∵_, !, qed, by, move, drop, use0, use1, use2, use3, split, join}
+use types.Kit.{Given, ‵, raw, some, given, later, _⊛_, ⋆, _$_, _∵_, !, qed, by, use0, use1, use2, use3, group, split, join}
 use types.Kit.{pick, fsplit, fjoin, feqL, suffices, frame, await, learn, done}
 use types.Run.{look, init, stop, hop, fld, from, load, addr, and-then, no-more, of-opd, assigns, land, returns, enter, alloc1}
 use types.Run.{alloc0, params1, pass1, pass0, free0}
@@ -52,7 +52,7 @@ use Rattle.catalogue.proofs.Values.{Value, denotes, rowOf, mirOf, valsOf}
 use Rattle.catalogue.specs.declared.Entry.{Entry}
 use Rattle.catalogue.proofs.Entry as Entry′
 use Rattle.catalogue.proofs.Entry.Laws as Entry″
-use Rattle.catalogue.proofs.Steps.{leave, says-nothing}
+use Rattle.catalogue.proofs.Steps.{bring, discard, parts, fparts, leave, says-nothing}
 use Rattle.catalogue.proofs.Lending.{LentAgain, lends-again, comes-back}
 use Rattle.catalogue.proofs.Arrays.{PartLent, lends-part, part-back}
 
@@ -255,11 +255,11 @@ module _ (Shape Outcome Turn : Value) where
           ∷ ‵ (MutSlice (named 0) (ν₀-call ∷ []) u64 .own (at-x-map δ₀-call (now x-map)) (s-x-map ∷ []))
           ∷ ‵ (MutSlice (named 1) (ν₁-call ∷ []) Entry′.the-row .own (at-x-all b-x-all δ₁-call (take x-c x-entries))
           (s-x-all b-x-all ∷ [])) ∷ []) ∵
-          nothing ! $ move ! (2 ∷ 0 ∷ []) $ join ! $ move ! (1 ∷ 0 ∷ []) $ join ! $ nothing ! $
-          owned ! u32 (Is u32) (uint-makes 𝓤 H A W w32) x-sheet _ is-x-sheet $ fjoin ! $ move ! (3 ∷ 0 ∷ []) $
-          fjoin ! $ move ! (2 ∷ 0 ∷ []) $ fjoin ! $
+          nothing ! $ bring ! (1 ∷ 1 ∷ 0 ∷ []) $ group ! 3 $ nothing ! $
+          owned ! u32 (Is u32) (uint-makes 𝓤 H A W w32) x-sheet _ is-x-sheet $ fjoin ! $ bring ! (3 ∷ 0 ∷ []) $
+          fjoin ! $ bring ! (2 ∷ 0 ∷ []) $ fjoin ! $
           owned ! (rowOf Shape) (Is (rowOf Shape)) (Shape .makes 𝓤 H A) x-shape _ is-x-shape $ fjoin ! $
-          owned ! u32 (Is u32) (uint-makes 𝓤 H A W w32) x-role _ is-x-role $ fjoin ! $ move ! (1 ∷ 0 ∷ []) $ join ! $
+          owned ! u32 (Is u32) (uint-makes 𝓤 H A W w32) x-role _ is-x-role $ fjoin ! $ bring ! (1 ∷ 0 ∷ []) $ join ! $
           frame ! $ done !
 
       -- ---- the caller has what `turn-of` asks
@@ -290,7 +290,7 @@ module _ (Shape Outcome Turn : Value) where
           owned ! (Array Entry′.the-row 1025) (Is (Array Entry′.the-row 1025)) (array-makes 𝓤 H A W Entry′.the-row
           (struct.makes Entry′.the-type Entry″.the-plain 𝓤 H A) 1025) v-all _ is-v-all $
           fjoin ! $ owned ! (rowOf Outcome) (Is (rowOf Outcome)) (Outcome .makes 𝓤 H A) v-outcome _ is-v-outcome $
-          fjoin ! $ move ! (1 ∷ 0 ∷ []) $ join ! $ frame ! $ done !
+          fjoin ! $ bring ! (1 ∷ 0 ∷ []) $ join ! $ frame ! $ done !
 
       -- ---- the exit
       exits : (r : (denotes Turn)) (w : Val) (z-x-map : List ℕ) → Is (rowOf Turn) r (w ∷ []) → length z-x-map
@@ -300,15 +300,15 @@ module _ (Shape Outcome Turn : Value) where
           qed W (‵ (MutSlice (named 0) κ₀ u64 .own (at-x-map (x-map .name) z-x-map) (s-x-map ∷ [])) ∷ ‵ (flft κ₀ q₀) ∷ []) ∵
           suffices ! _ (ends-at 𝓤 H A ended stayed (clauses 𝓤) W bound w r (tt, (tt, (z-x-map, (tt, (tt, (tt, tt))))))
           (tt, (tt, (l-x-map, (tt, (tt, (tt, tt))))))) $
-          says-nothing ! $ nothing ! $ move ! (2 ∷ 0 ∷ []) $ join ! $ frame ! $ nothing ! $
+          says-nothing ! $ nothing ! $ bring ! (2 ∷ 0 ∷ []) $ group ! 2 $ frame ! $ nothing ! $
           owned ! u32 (Is u32) (uint-makes 𝓤 H A W w32) x-sheet _ is-x-sheet $ fjoin ! $
           owned ! usize (Is usize) (uint-makes 𝓤 H A W w64) x-c _ is-x-c $ fjoin ! $
           owned ! (Array Entry′.the-row 1025) (Is (Array Entry′.the-row 1025)) (array-makes 𝓤 H A W Entry′.the-row
           (struct.makes Entry′.the-type Entry″.the-plain 𝓤 H A) 1025) x-entries _ is-x-entries $
-          fjoin ! $ move ! (1 ∷ 0 ∷ []) $ fjoin ! $
+          fjoin ! $ bring ! (1 ∷ 0 ∷ []) $ fjoin ! $
           owned ! (rowOf Shape) (Is (rowOf Shape)) (Shape .makes 𝓤 H A) x-shape _ is-x-shape $ fjoin ! $
           owned ! u32 (Is u32) (uint-makes 𝓤 H A W w32) x-role _ is-x-role $ fjoin ! $
-          owned ! (rowOf Turn) (Is (rowOf Turn)) (Turn .makes 𝓤 H A) r _ is $ move ! (1 ∷ 0 ∷ []) $ done !
+          owned ! (rowOf Turn) (Is (rowOf Turn)) (Turn .makes 𝓤 H A) r _ is $ bring ! (1 ∷ 0 ∷ []) $ done !
 
       -- ---- the walk
       walk : (𝓣 : Tables 𝓤 H) → Triple 𝓤 (𝓣 .C #call) (call-contract 𝓤 H A call-ensures)
@@ -327,11 +327,8 @@ module _ (Shape Outcome Turn : Value) where
           pass1 ! (init ! 22 refl typed-x-shape) $
           pass1 ! (init ! 20 refl (tt, (tt, (record { fits = room-x-map .0 }, tt)))) $
           pass1 ! (init ! 18 refl typed-x-entries) $ pass1 ! (init ! 16 refl typed-x-c) $
-          pass1 ! (init ! 14 refl typed-x-sheet) $ pass0 ! $ move ! (28 ∷ []) $ split ! $ move ! (1 ∷ []) $ drop ! $
-          move ! (29 ∷ []) $ fsplit ! $ move ! (1 ∷ []) $ fsplit ! $ move ! (1 ∷ []) $ fsplit ! $ move ! (1 ∷ []) $
-          fsplit ! $ move ! (1 ∷ []) $ fsplit ! $ move ! (1 ∷ []) $ fsplit ! $ move ! (1 ∷ []) $ drop ! $
-          move ! (5 ∷ []) $ drop ! $ move ! (4 ∷ []) $ drop ! $ move ! (2 ∷ []) $ drop ! $ move ! (1 ∷ []) $ drop ! $
-          drop ! $
+          pass1 ! (init ! 14 refl typed-x-sheet) $ pass0 ! $ bring ! (28 ∷ []) $ parts W (_ ∷ []) _ $
+          bring ! (29 ∷ []) $ fparts W (_ ∷ _ ∷ _ ∷ _ ∷ _ ∷ _ ∷ []) _ $ discard ! (0 ∷ 0 ∷ 1 ∷ 1 ∷ 1 ∷ []) $
           assigns ! (of-opd ! (load ! (from ! (stop !)) (look ! 20 refl))) (from ! (stop !)) (init ! 14 refl typed-x-entries) $
           -- call
           assigns ! (addr ! (from ! (fld ! refl (hop ! (look-in ! 22 (sub ! 0 refl (whole !))) (stop !))))) (from ! (stop !))
@@ -343,19 +340,18 @@ module _ (Shape Outcome Turn : Value) where
           assigns ! (agg ! (and-then ! (load ! (from ! (stop !)) (look ! 6 refl)) (and-then !
           (load ! (from ! (stop !)) (look ! 18 refl)) (no-more !)))) (from ! (stop !))
           (init ! 4 refl (tt, (tt, (typed-x-c .1, tt)))) $
-          lft-new ! tt (λ ν₀-call. move ! (1 ∷ 2 ∷ []) $
+          lft-new ! tt (λ ν₀-call. bring ! (1 ∷ 1 ∷ []) $
           use2 W (later (some (λ (δ : GName). ‵ (MutSlice (named 0) (ν₀-call ∷ []) u64 .own (at-x-map δ (now x-map))
           (s-x-map ∷ [])) ⊛ ‵ (LentAgain u64 κ₀ (ν₀-call ∷ []) q₀ (x-map .name) (x-map .ptr .0) (x-map .ptr .1) δ
           (now x-map))))) (lends-again u64 κ₀ (ν₀-call ∷ []) q₀ (x-map .name) (x-map .ptr .0) (x-map .ptr .1) 𝓤 H A W (named 0)
           (named 0) (now x-map) (length (now x-map)) refl) $
-          await ! tt $ pick ! (λ δ₀-call. split ! $ lft-new ! tt (λ ν₁-call. move ! (16 ∷ []) $
+          await ! tt $ pick ! (λ δ₀-call. split ! $ lft-new ! tt (λ ν₁-call. bring ! (16 ∷ []) $
           use1 W (later (some (λ (δ : GName). ‵ (MutSlice (named 1) (ν₁-call ∷ []) Entry′.the-row .own
           (at-x-all l₇ δ (take x-c x-entries)) (s-x-all l₇ ∷ [])) ⊛ ‵ (PartLent Entry′.the-row 1025 (ν₁-call ∷ []) x-c x-entries
           l₇ δ)))) (lends-part Entry′.the-row 1025 (ν₁-call ∷ []) x-c x-entries l₇ (struct.vals Entry′.the-type Entry″.the-laws)
           (struct.tells Entry′.the-type Entry″.the-laws) tt 𝓤 H A W (struct.makes Entry′.the-type Entry″.the-plain 𝓤 H A)
           is-x-entries (x-all-room) asked (named 1)) $
-          await ! tt $ pick ! (λ δ₁-call. split ! $ move ! (5 ∷ 2 ∷ 3 ∷ 0 ∷ []) $ move ! (2 ∷ 3 ∷ []) $ join ! $
-          move ! (2 ∷ 0 ∷ []) $ join ! $ move ! (1 ∷ 0 ∷ []) $ join ! $
+          await ! tt $ pick ! (λ δ₁-call. split ! $ bring ! (5 ∷ 2 ∷ 2 ∷ 0 ∷ []) $ group ! 4 $
           use1 W (raw ((call-contract 𝓤 H A call-ensures) .pre (to-call ν₀-call ν₁-call δ₀-call δ₁-call l₇)))
           (goes-call ν₀-call ν₁-call δ₀-call δ₁-call l₇) $
           calls-at ! (fmOf 𝓤 H (W .laws) 𝓣) (call-contract 𝓤 H A call-ensures) known-call
@@ -367,24 +363,21 @@ module _ (Shape Outcome Turn : Value) where
           ⊛ ‵ (flft (ν₁-call ∷ []) fullShare) ⊛ ‵ ftrue) ⊛ ‵ ((rowOf Outcome) .own r (w-call ∷ [])))
           ⊛ raw (ensured 𝓤 H A call-ended (call-clauses 𝓤 call-ensures) (ν₀-call ∷ [], (ν₁-call ∷ [], tt))
           (call-args δ₀-call δ₁-call l₇) tt r)))) (id⊢ 𝓤 _) $
-          await ! tt $ pick ! (λ r-call. split ! $ move ! (1 ∷ []) $
+          await ! tt $ pick ! (λ r-call. split ! $ bring ! (1 ∷ []) $
           use1 W (some (λ (zs-call : Unit {0} × (Unit {0} × (List ℕ × (List Entry × (Unit {0} × Unit {0}))))). ‵
           (lasts call-ended (ν₀-call ∷ [], (ν₁-call ∷ [], tt)) (call-args δ₀-call δ₁-call l₇) zs-call)
           ⊛ raw (call-ensures (ν₀-call ∷ [], (ν₁-call ∷ [], tt)) (call-args δ₀-call δ₁-call l₇) r-call
           (atExit call-ended (ν₀-call ∷ [], (ν₁-call ∷ [], tt)) (call-args δ₀-call δ₁-call l₇) zs-call)))) (id⊢ 𝓤 _) $
-          pick ! (λ zs-call. split ! $ move ! (1 ∷ []) $ drop ! $ fsplit ! $ move ! (1 ∷ []) $ fsplit ! $
-          move ! (1 ∷ []) $ fsplit ! $ move ! (1 ∷ []) $ fsplit ! $ move ! (1 ∷ []) $ fsplit ! $ move ! (1 ∷ []) $
-          drop ! $ move ! (4 ∷ []) $ drop ! $ move ! (3 ∷ []) $ drop ! $ move ! (2 ∷ []) $ fsplit ! $ move ! (1 ∷ []) $
-          feqL ! (λ h-call-x-map. move ! (2 ∷ []) $ fsplit ! $ move ! (1 ∷ []) $ feqL ! (λ h-call-x-all.
-          move ! (2 ∷ []) $ drop ! $ move ! (2 ∷ []) $ split ! $ move ! (1 ∷ []) $
+          pick ! (λ zs-call. split ! $ discard ! (1 ∷ []) $ fparts W (_ ∷ _ ∷ _ ∷ _ ∷ _ ∷ []) _ $
+          discard ! (0 ∷ 0 ∷ 2 ∷ []) $ fsplit ! $ bring ! (1 ∷ []) $ feqL ! (λ h-call-x-map. bring ! (1 ∷ []) $
+          fsplit ! $ bring ! (1 ∷ []) $ feqL ! (λ h-call-x-all. bring ! (2 ∷ []) $ split ! $ bring ! (1 ∷ []) $
           peeks ! (rowOf Outcome) (Is (rowOf Outcome)) (shows 𝓤 H A (rowOf Outcome)) r-call (w-call ∷ []) (λ is-w-call.
-          land ! (from ! (stop !)) (init ! 16 refl ((Outcome .typed 𝓤 H A W) r-call _ is-w-call .0)) $ drop ! $
-          split ! $ move ! (1 ∷ []) $ split ! $ move ! (1 ∷ []) $ drop ! $ move ! (1 ∷ []) $ lft-end ! tt $
-          move ! (0 ∷ 5 ∷ 3 ∷ []) $
+          land ! (from ! (stop !)) (init ! 16 refl ((Outcome .typed 𝓤 H A W) r-call _ is-w-call .0)) $
+          discard ! (0 ∷ []) $ parts W (_ ∷ _ ∷ []) _ $ lft-end ! tt $ bring ! (0 ∷ 4 ∷ 2 ∷ []) $
           use3 W (later (‵ (MutSlice (named 0) κ₀ u64 .own (at-x-map (x-map .name) (zs-call .1 .1 .0)) (s-x-map ∷ []))
           ⊛ ‵ (flft κ₀ q₀))) (comes-back u64 κ₀ (ν₀-call ∷ []) q₀ (x-map .name) (x-map .ptr .0) (x-map .ptr .1) 𝓤 H A W
           (named 0) (named 0) (now x-map) (length (now x-map)) refl room-x-map δ₀-call (zs-call .1 .1 .0) h-call-x-map) $
-          await ! tt $ split ! $ move ! (2 ∷ []) $ lft-end ! tt $ move ! (0 ∷ 4 ∷ 3 ∷ []) $
+          await ! tt $ split ! $ bring ! (2 ∷ []) $ lft-end ! tt $ bring ! (0 ∷ 3 ∷ 2 ∷ []) $
           use3 W (later (given (Is (Array Entry′.the-row 1025) ((zs-call .1 .1 .1 .0) ++ drop-list x-c x-entries)
           ((array-vals (struct.vals Entry′.the-type Entry″.the-laws)) ((zs-call .1 .1 .1 .0) ++ drop-list x-c x-entries)))
           (‵ (fat fullShare (tyArray Entry″.mir 1025) l₇ 0 (only ((array-vals (struct.vals Entry′.the-type Entry″.the-laws))
@@ -407,20 +400,21 @@ module _ (Shape Outcome Turn : Value) where
           use1 W (later (some (λ (r : (denotes Turn)). ((‵ ftrue) ⊛ ‵ ((rowOf Turn) .own r (w-turn-of ∷ [])))
           ⊛ raw (ensured 𝓤 H A turn-of-ended (turn-of-clauses 𝓤 turn-of-ensures) tt (turn-of-args r-call w-call
           ((zs-call .1 .1 .1 .0) ++ drop-list x-c x-entries)) tt r)))) (id⊢ 𝓤 _) $
-          await ! tt $ pick ! (λ r-turn-of. split ! $ move ! (1 ∷ []) $
+          await ! tt $ pick ! (λ r-turn-of. split ! $ bring ! (1 ∷ []) $
           use1 W (some (λ (zs-turn-of : Unit {0} × (Unit {0} × Unit {0})). ‵ (lasts turn-of-ended tt
           (turn-of-args r-call w-call ((zs-call .1 .1 .1 .0) ++ drop-list x-c x-entries)) zs-turn-of)
           ⊛ raw (turn-of-ensures tt (turn-of-args r-call w-call ((zs-call .1 .1 .1 .0) ++ drop-list x-c x-entries)) r-turn-of
           (atExit turn-of-ended tt (turn-of-args r-call w-call ((zs-call .1 .1 .1 .0) ++ drop-list x-c x-entries))
           zs-turn-of)))) (id⊢ 𝓤 _) $
-          pick ! (λ zs-turn-of. split ! $ move ! (1 ∷ []) $ drop ! $ fsplit ! $ move ! (1 ∷ []) $ fsplit ! $
-          move ! (1 ∷ []) $ drop ! $ move ! (1 ∷ []) $ drop ! $ drop ! $ split ! $ move ! (1 ∷ []) $
+          pick ! (λ zs-turn-of. split ! $ discard ! (1 ∷ []) $ fparts W (_ ∷ _ ∷ []) _ $ discard ! (0 ∷ 0 ∷ []) $
+          split ! $ bring ! (1 ∷ []) $
           peeks ! (rowOf Turn) (Is (rowOf Turn)) (shows 𝓤 H A (rowOf Turn)) r-turn-of (w-turn-of ∷ []) (λ is-w-turn-of.
-          land ! (from ! (stop !)) (init ! 30 refl ((Turn .typed 𝓤 H A W) r-turn-of _ is-w-turn-of .0)) $ drop ! $
-          drop ! $ returns ! (look ! 28 refl) $ move ! (0 ∷ 15 ∷ []) $ leave ! 28 refl refl $ leave ! 26 refl refl $
-          leave ! 24 refl refl $ leave ! 22 refl refl $ leave ! 20 refl refl $ leave ! 18 refl refl $
-          leave ! 16 refl refl $ leave ! 0 refl refl $ leave ! 12 refl refl $ leave ! 10 refl refl $
-          leave ! 8 refl refl $ leave ! 6 refl refl $ leave ! 4 refl refl $ leave ! 2 refl refl $ free0 ! $
+          land ! (from ! (stop !)) (init ! 30 refl ((Turn .typed 𝓤 H A W) r-turn-of _ is-w-turn-of .0)) $
+          discard ! (0 ∷ []) $ parts W ([]) _ $ returns ! (look ! 28 refl) $ bring ! (0 ∷ 14 ∷ []) $
+          leave ! 28 refl refl $ leave ! 26 refl refl $ leave ! 24 refl refl $ leave ! 22 refl refl $
+          leave ! 20 refl refl $ leave ! 18 refl refl $ leave ! 16 refl refl $ leave ! 0 refl refl $
+          leave ! 12 refl refl $ leave ! 10 refl refl $ leave ! 8 refl refl $ leave ! 6 refl refl $
+          leave ! 4 refl refl $ leave ! 2 refl refl $ free0 ! $
           by ! (exits r-turn-of w-turn-of (zs-call .1 .1 .0) is-w-turn-of h-call-x-map))))))))))))))))))))))))))))))
 
     module _ {M : Type 1} (𝓤 : URA M) (H : Heap 𝓤) (A : Atoms 𝓤) (W : Given 𝓤 H A) (call-ensures : call-Ensures 𝓤)

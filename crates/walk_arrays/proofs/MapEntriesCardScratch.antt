@@ -22,7 +22,7 @@ use prog.Wp.{Heap, WpFn, Tables}
 use ghost.Atoms.{Atoms}
 use contract.Monad.{fact}
 use contract.Lifetimes.{Lfts}
-use types.Kit.{Given, ‵, raw, some, given, later, _⊛_, ⋆, _$_, _∵_, !, qed, by, move, drop, use0, use1, use2, use3, split, join}
+use types.Kit.{Given, ‵, raw, some, given, later, _⊛_, ⋆, _$_, _∵_, !, qed, by, use0, use1, use2, use3, group, split, join}
 use types.Kit.{pick, fsplit, fjoin, feqL, suffices, frame, await, learn, done}
 use types.Run.{look, init, stop, hop, fld, from, load, addr, and-then, no-more, of-opd, assigns, land, returns, enter, alloc1}
 use types.Run.{alloc0, params1, pass1, pass0, free0}
@@ -52,7 +52,7 @@ use Rattle.catalogue.proofs.Values.{Value, denotes, rowOf, mirOf, valsOf}
 use Rattle.catalogue.specs.declared.Entry.{Entry}
 use Rattle.catalogue.proofs.Entry as Entry′
 use Rattle.catalogue.proofs.Entry.Laws as Entry″
-use Rattle.catalogue.proofs.Steps.{leave, says-nothing}
+use Rattle.catalogue.proofs.Steps.{bring, discard, parts, fparts, leave, says-nothing}
 use Rattle.catalogue.proofs.Lending.{LentAgain, lends-again, comes-back}
 use Rattle.catalogue.proofs.Arrays.{PartLent, lends-part, part-back}
 
@@ -294,11 +294,10 @@ module _ (Shape Outcome Turn : Value) where
           (take x-c x-entries)) (s-x-all b-x-all ∷ [])) ∷ ‵ (MutSlice (named 2) (ν₂-call ∷ []) u8 .own
           (at-x-card δ₂-call (now x-card)) (s-x-card ∷ [])) ∷ ‵ (MutSlice (named 3) (ν₃-call ∷ []) u64 .own
           (at-x-scratch δ₃-call (now x-scratch)) (s-x-scratch ∷ [])) ∷ []) ∵
-          nothing ! $ move ! (4 ∷ 0 ∷ []) $ join ! $ move ! (3 ∷ 0 ∷ []) $ join ! $ move ! (2 ∷ 0 ∷ []) $ join ! $
-          move ! (1 ∷ 0 ∷ []) $ join ! $ nothing ! $ move ! (5 ∷ 0 ∷ []) $ fjoin ! $ move ! (4 ∷ 0 ∷ []) $ fjoin ! $
-          move ! (3 ∷ 0 ∷ []) $ fjoin ! $ move ! (2 ∷ 0 ∷ []) $ fjoin ! $
+          nothing ! $ bring ! (1 ∷ 1 ∷ 1 ∷ 1 ∷ 0 ∷ []) $ group ! 5 $ nothing ! $ bring ! (5 ∷ 0 ∷ []) $ fjoin ! $
+          bring ! (4 ∷ 0 ∷ []) $ fjoin ! $ bring ! (3 ∷ 0 ∷ []) $ fjoin ! $ bring ! (2 ∷ 0 ∷ []) $ fjoin ! $
           owned ! (rowOf Shape) (Is (rowOf Shape)) (Shape .makes 𝓤 H A) x-shape _ is-x-shape $ fjoin ! $
-          owned ! u32 (Is u32) (uint-makes 𝓤 H A W w32) x-role _ is-x-role $ fjoin ! $ move ! (1 ∷ 0 ∷ []) $ join ! $
+          owned ! u32 (Is u32) (uint-makes 𝓤 H A W w32) x-role _ is-x-role $ fjoin ! $ bring ! (1 ∷ 0 ∷ []) $ join ! $
           frame ! $ done !
 
       -- ---- the caller has what `turn-of` asks
@@ -329,7 +328,7 @@ module _ (Shape Outcome Turn : Value) where
           owned ! (Array Entry′.the-row 1025) (Is (Array Entry′.the-row 1025)) (array-makes 𝓤 H A W Entry′.the-row
           (struct.makes Entry′.the-type Entry″.the-plain 𝓤 H A) 1025) v-all _ is-v-all $
           fjoin ! $ owned ! (rowOf Outcome) (Is (rowOf Outcome)) (Outcome .makes 𝓤 H A) v-outcome _ is-v-outcome $
-          fjoin ! $ move ! (1 ∷ 0 ∷ []) $ join ! $ frame ! $ done !
+          fjoin ! $ bring ! (1 ∷ 0 ∷ []) $ join ! $ frame ! $ done !
 
       -- ---- the exit
       exits : (r : (denotes Turn)) (w : Val) (z-x-map : List ℕ) (z-x-card : List ℕ) (z-x-scratch : List ℕ)
@@ -346,15 +345,15 @@ module _ (Shape Outcome Turn : Value) where
           suffices ! _ (ends-at 𝓤 H A ended stayed (clauses 𝓤) W bound w r
           (tt, (tt, (z-x-map, (tt, (tt, (z-x-card, (z-x-scratch, tt)))))))
           (tt, (tt, (l-x-map, (tt, (tt, (l-x-card, (l-x-scratch, tt)))))))) $
-          says-nothing ! $ nothing ! $ move ! (6 ∷ 0 ∷ []) $ join ! $ move ! (4 ∷ 0 ∷ []) $ join ! $
-          move ! (2 ∷ 0 ∷ []) $ join ! $ frame ! $ nothing ! $ move ! (3 ∷ 0 ∷ []) $ fjoin ! $ move ! (2 ∷ 0 ∷ []) $
-          fjoin ! $ owned ! usize (Is usize) (uint-makes 𝓤 H A W w64) x-c _ is-x-c $ fjoin ! $
+          says-nothing ! $ nothing ! $ bring ! (2 ∷ 3 ∷ 4 ∷ 0 ∷ []) $ group ! 4 $ frame ! $ nothing ! $
+          bring ! (3 ∷ 0 ∷ []) $ fjoin ! $ bring ! (2 ∷ 0 ∷ []) $ fjoin ! $
+          owned ! usize (Is usize) (uint-makes 𝓤 H A W w64) x-c _ is-x-c $ fjoin ! $
           owned ! (Array Entry′.the-row 1025) (Is (Array Entry′.the-row 1025)) (array-makes 𝓤 H A W Entry′.the-row
           (struct.makes Entry′.the-type Entry″.the-plain 𝓤 H A) 1025) x-entries _ is-x-entries $
-          fjoin ! $ move ! (1 ∷ 0 ∷ []) $ fjoin ! $
+          fjoin ! $ bring ! (1 ∷ 0 ∷ []) $ fjoin ! $
           owned ! (rowOf Shape) (Is (rowOf Shape)) (Shape .makes 𝓤 H A) x-shape _ is-x-shape $ fjoin ! $
           owned ! u32 (Is u32) (uint-makes 𝓤 H A W w32) x-role _ is-x-role $ fjoin ! $
-          owned ! (rowOf Turn) (Is (rowOf Turn)) (Turn .makes 𝓤 H A) r _ is $ move ! (1 ∷ 0 ∷ []) $ done !
+          owned ! (rowOf Turn) (Is (rowOf Turn)) (Turn .makes 𝓤 H A) r _ is $ bring ! (1 ∷ 0 ∷ []) $ done !
 
       -- ---- the walk
       walk : (𝓣 : Tables 𝓤 H) → Triple 𝓤 (𝓣 .C #call) (call-contract 𝓤 H A call-ensures)
@@ -376,12 +375,9 @@ module _ (Shape Outcome Turn : Value) where
           pass1 ! (init ! 30 refl (tt, (tt, (record { fits = room-x-map .0 }, tt)))) $
           pass1 ! (init ! 28 refl typed-x-entries) $ pass1 ! (init ! 26 refl typed-x-c) $
           pass1 ! (init ! 24 refl (tt, (tt, (record { fits = room-x-card .0 }, tt)))) $
-          pass1 ! (init ! 22 refl (tt, (tt, (record { fits = room-x-scratch .0 }, tt)))) $ pass0 ! $ move ! (38 ∷ []) $
-          split ! $ move ! (1 ∷ []) $ split ! $ move ! (1 ∷ []) $ split ! $ move ! (1 ∷ []) $ drop ! $
-          move ! (41 ∷ []) $ fsplit ! $ move ! (1 ∷ []) $ fsplit ! $ move ! (1 ∷ []) $ fsplit ! $ move ! (1 ∷ []) $
-          fsplit ! $ move ! (1 ∷ []) $ fsplit ! $ move ! (1 ∷ []) $ fsplit ! $ move ! (1 ∷ []) $ fsplit ! $
-          move ! (1 ∷ []) $ drop ! $ move ! (6 ∷ []) $ drop ! $ move ! (5 ∷ []) $ drop ! $ move ! (3 ∷ []) $ drop ! $
-          move ! (2 ∷ []) $ drop ! $
+          pass1 ! (init ! 22 refl (tt, (tt, (record { fits = room-x-scratch .0 }, tt)))) $ pass0 ! $
+          bring ! (38 ∷ []) $ parts W (_ ∷ _ ∷ _ ∷ []) _ $ bring ! (41 ∷ []) $
+          fparts W (_ ∷ _ ∷ _ ∷ _ ∷ _ ∷ _ ∷ _ ∷ []) _ $ discard ! (0 ∷ 0 ∷ 1 ∷ 1 ∷ []) $
           assigns ! (of-opd ! (load ! (from ! (stop !)) (look ! 34 refl))) (from ! (stop !)) (init ! 26 refl typed-x-entries) $
           -- call
           assigns ! (addr ! (from ! (fld ! refl (hop ! (look-in ! 36 (sub ! 0 refl (whole !))) (stop !))))) (from ! (stop !))
@@ -403,31 +399,28 @@ module _ (Shape Outcome Turn : Value) where
           assigns ! (agg ! (and-then ! (load ! (from ! (stop !)) (look ! 10 refl)) (and-then !
           (load ! (from ! (fld ! refl (stop !))) (look-in ! 28 (sub ! 1 refl (whole !)))) (no-more !)))) (from ! (stop !))
           (init ! 8 refl (tt, (tt, (record { fits = room-x-scratch .0 }, tt)))) $
-          lft-new ! tt (λ ν₀-call. move ! (3 ∷ 6 ∷ []) $
+          lft-new ! tt (λ ν₀-call. bring ! (1 ∷ 3 ∷ []) $
           use2 W (later (some (λ (δ : GName). ‵ (MutSlice (named 0) (ν₀-call ∷ []) u64 .own (at-x-map δ (now x-map))
           (s-x-map ∷ [])) ⊛ ‵ (LentAgain u64 κ₀ (ν₀-call ∷ []) q₀ (x-map .name) (x-map .ptr .0) (x-map .ptr .1) δ
           (now x-map))))) (lends-again u64 κ₀ (ν₀-call ∷ []) q₀ (x-map .name) (x-map .ptr .0) (x-map .ptr .1) 𝓤 H A W (named 0)
           (named 0) (now x-map) (length (now x-map)) refl) $
-          await ! tt $ pick ! (λ δ₀-call. split ! $ lft-new ! tt (λ ν₁-call. move ! (28 ∷ []) $
+          await ! tt $ pick ! (λ δ₀-call. split ! $ lft-new ! tt (λ ν₁-call. bring ! (28 ∷ []) $
           use1 W (later (some (λ (δ : GName). ‵ (MutSlice (named 1) (ν₁-call ∷ []) Entry′.the-row .own
           (at-x-all l₈ δ (take x-c x-entries)) (s-x-all l₈ ∷ [])) ⊛ ‵ (PartLent Entry′.the-row 1025 (ν₁-call ∷ []) x-c x-entries
           l₈ δ)))) (lends-part Entry′.the-row 1025 (ν₁-call ∷ []) x-c x-entries l₈ (struct.vals Entry′.the-type Entry″.the-laws)
           (struct.tells Entry′.the-type Entry″.the-laws) tt 𝓤 H A W (struct.makes Entry′.the-type Entry″.the-plain 𝓤 H A)
           is-x-entries (x-all-room) asked (named 1)) $
-          await ! tt $ pick ! (λ δ₁-call. split ! $ lft-new ! tt (λ ν₂-call. move ! (8 ∷ 10 ∷ []) $
+          await ! tt $ pick ! (λ δ₁-call. split ! $ lft-new ! tt (λ ν₂-call. bring ! (7 ∷ 8 ∷ []) $
           use2 W (later (some (λ (δ : GName). ‵ (MutSlice (named 2) (ν₂-call ∷ []) u8 .own (at-x-card δ (now x-card))
           (s-x-card ∷ [])) ⊛ ‵ (LentAgain u8 κ₁ (ν₂-call ∷ []) q₁ (x-card .name) (x-card .ptr .0) (x-card .ptr .1) δ
           (now x-card))))) (lends-again u8 κ₁ (ν₂-call ∷ []) q₁ (x-card .name) (x-card .ptr .0) (x-card .ptr .1) 𝓤 H A W
           (named 1) (named 2) (now x-card) (length (now x-card)) refl) $
-          await ! tt $ pick ! (λ δ₂-call. split ! $ lft-new ! tt (λ ν₃-call. move ! (10 ∷ 11 ∷ []) $
+          await ! tt $ pick ! (λ δ₂-call. split ! $ lft-new ! tt (λ ν₃-call. bring ! (10 ∷ 10 ∷ []) $
           use2 W (later (some (λ (δ : GName). ‵ (MutSlice (named 3) (ν₃-call ∷ []) u64 .own (at-x-scratch δ (now x-scratch))
           (s-x-scratch ∷ [])) ⊛ ‵ (LentAgain u64 κ₂ (ν₃-call ∷ []) q₂ (x-scratch .name) (x-scratch .ptr .0) (x-scratch .ptr .1)
           δ (now x-scratch))))) (lends-again u64 κ₂ (ν₃-call ∷ []) q₂ (x-scratch .name) (x-scratch .ptr .0) (x-scratch .ptr .1)
           𝓤 H A W (named 2) (named 3) (now x-scratch) (length (now x-scratch)) refl) $
-          await ! tt $ pick ! (λ δ₃-call. split ! $ move ! (11 ∷ 8 ∷ 5 ∷ 2 ∷ 9 ∷ 6 ∷ 3 ∷ 0 ∷ []) $
-          move ! (6 ∷ 7 ∷ []) $ join ! $ move ! (6 ∷ 0 ∷ []) $ join ! $ move ! (5 ∷ 0 ∷ []) $ join ! $
-          move ! (4 ∷ 0 ∷ []) $ join ! $ move ! (3 ∷ 0 ∷ []) $ join ! $ move ! (2 ∷ 0 ∷ []) $ join ! $
-          move ! (1 ∷ 0 ∷ []) $ join ! $
+          await ! tt $ pick ! (λ δ₃-call. split ! $ bring ! (11 ∷ 8 ∷ 5 ∷ 2 ∷ 6 ∷ 4 ∷ 2 ∷ 0 ∷ []) $ group ! 8 $
           use1 W (raw ((call-contract 𝓤 H A call-ensures) .pre (to-call ν₀-call ν₁-call ν₂-call ν₃-call δ₀-call δ₁-call δ₂-call
           δ₃-call l₈))) (goes-call ν₀-call ν₁-call ν₂-call ν₃-call δ₀-call δ₁-call δ₂-call δ₃-call l₈) $
           calls-at ! (fmOf 𝓤 H (W .laws) 𝓣) (call-contract 𝓤 H A call-ensures) known-call
@@ -441,28 +434,25 @@ module _ (Shape Outcome Turn : Value) where
           ⊛ ‵ ((rowOf Outcome) .own r (w-call ∷ []))) ⊛ raw (ensured 𝓤 H A call-ended (call-clauses 𝓤 call-ensures)
           (ν₀-call ∷ [], (ν₁-call ∷ [], (ν₂-call ∷ [], (ν₃-call ∷ [], tt)))) (call-args δ₀-call δ₁-call δ₂-call δ₃-call l₈) tt
           r)))) (id⊢ 𝓤 _) $
-          await ! tt $ pick ! (λ r-call. split ! $ move ! (1 ∷ []) $
+          await ! tt $ pick ! (λ r-call. split ! $ bring ! (1 ∷ []) $
           use1 W (some (λ (zs-call : Unit {0} × (Unit {0} × (List ℕ × (List Entry × (List ℕ × (List ℕ × Unit {0})))))). ‵
           (lasts call-ended (ν₀-call ∷ [], (ν₁-call ∷ [], (ν₂-call ∷ [], (ν₃-call ∷ [], tt))))
           (call-args δ₀-call δ₁-call δ₂-call δ₃-call l₈) zs-call) ⊛ raw (call-ensures
           (ν₀-call ∷ [], (ν₁-call ∷ [], (ν₂-call ∷ [], (ν₃-call ∷ [], tt)))) (call-args δ₀-call δ₁-call δ₂-call δ₃-call l₈)
           r-call (atExit call-ended (ν₀-call ∷ [], (ν₁-call ∷ [], (ν₂-call ∷ [], (ν₃-call ∷ [], tt))))
           (call-args δ₀-call δ₁-call δ₂-call δ₃-call l₈) zs-call)))) (id⊢ 𝓤 _) $
-          pick ! (λ zs-call. split ! $ move ! (1 ∷ []) $ drop ! $ fsplit ! $ move ! (1 ∷ []) $ fsplit ! $
-          move ! (1 ∷ []) $ fsplit ! $ move ! (1 ∷ []) $ fsplit ! $ move ! (1 ∷ []) $ fsplit ! $ move ! (1 ∷ []) $
-          fsplit ! $ move ! (1 ∷ []) $ drop ! $ move ! (5 ∷ []) $ drop ! $ move ! (4 ∷ []) $ drop ! $ move ! (3 ∷ []) $
-          fsplit ! $ move ! (1 ∷ []) $ feqL ! (λ h-call-x-map. move ! (3 ∷ []) $ fsplit ! $ move ! (1 ∷ []) $
-          feqL ! (λ h-call-x-all. move ! (3 ∷ []) $ fsplit ! $ move ! (1 ∷ []) $ feqL ! (λ h-call-x-card.
-          move ! (3 ∷ []) $ fsplit ! $ move ! (1 ∷ []) $ feqL ! (λ h-call-x-scratch. move ! (4 ∷ []) $ split ! $
-          move ! (1 ∷ []) $
+          pick ! (λ zs-call. split ! $ discard ! (1 ∷ []) $ fparts W (_ ∷ _ ∷ _ ∷ _ ∷ _ ∷ _ ∷ []) _ $
+          discard ! (0 ∷ 0 ∷ []) $ fsplit ! $ bring ! (1 ∷ []) $ feqL ! (λ h-call-x-map. bring ! (1 ∷ []) $ fsplit ! $
+          bring ! (1 ∷ []) $ feqL ! (λ h-call-x-all. bring ! (2 ∷ []) $ fsplit ! $ bring ! (1 ∷ []) $
+          feqL ! (λ h-call-x-card. bring ! (3 ∷ []) $ fsplit ! $ bring ! (1 ∷ []) $ feqL ! (λ h-call-x-scratch.
+          bring ! (4 ∷ []) $ split ! $ bring ! (1 ∷ []) $
           peeks ! (rowOf Outcome) (Is (rowOf Outcome)) (shows 𝓤 H A (rowOf Outcome)) r-call (w-call ∷ []) (λ is-w-call.
-          land ! (from ! (stop !)) (init ! 28 refl ((Outcome .typed 𝓤 H A W) r-call _ is-w-call .0)) $ drop ! $
-          split ! $ move ! (1 ∷ []) $ split ! $ move ! (1 ∷ []) $ split ! $ move ! (1 ∷ []) $ split ! $
-          move ! (1 ∷ []) $ drop ! $ move ! (3 ∷ []) $ lft-end ! tt $ move ! (0 ∷ 11 ∷ 7 ∷ []) $
+          land ! (from ! (stop !)) (init ! 28 refl ((Outcome .typed 𝓤 H A W) r-call _ is-w-call .0)) $
+          discard ! (0 ∷ []) $ parts W (_ ∷ _ ∷ _ ∷ _ ∷ []) _ $ lft-end ! tt $ bring ! (0 ∷ 10 ∷ 6 ∷ []) $
           use3 W (later (‵ (MutSlice (named 0) κ₀ u64 .own (at-x-map (x-map .name) (zs-call .1 .1 .0)) (s-x-map ∷ []))
           ⊛ ‵ (flft κ₀ q₀))) (comes-back u64 κ₀ (ν₀-call ∷ []) q₀ (x-map .name) (x-map .ptr .0) (x-map .ptr .1) 𝓤 H A W
           (named 0) (named 0) (now x-map) (length (now x-map)) refl room-x-map δ₀-call (zs-call .1 .1 .0) h-call-x-map) $
-          await ! tt $ split ! $ move ! (4 ∷ []) $ lft-end ! tt $ move ! (0 ∷ 10 ∷ 7 ∷ []) $
+          await ! tt $ split ! $ bring ! (2 ∷ []) $ lft-end ! tt $ bring ! (0 ∷ 9 ∷ 6 ∷ []) $
           use3 W (later (given (Is (Array Entry′.the-row 1025) ((zs-call .1 .1 .1 .0) ++ drop-list x-c x-entries)
           ((array-vals (struct.vals Entry′.the-type Entry″.the-laws)) ((zs-call .1 .1 .1 .0) ++ drop-list x-c x-entries)))
           (‵ (fat fullShare (tyArray Entry″.mir 1025) l₈ 0 (only ((array-vals (struct.vals Entry′.the-type Entry″.the-laws))
@@ -470,12 +460,12 @@ module _ (Shape Outcome Turn : Value) where
           l₈ (struct.vals Entry′.the-type Entry″.the-laws) (struct.tells Entry′.the-type Entry″.the-laws) tt 𝓤 H A W
           (struct.makes Entry′.the-type Entry″.the-plain 𝓤 H A) is-x-entries (x-all-room) asked δ₁-call (zs-call .1 .1 .1 .0)
           h-call-x-all) $
-          await ! tt $ learn ! (λ is-now-x-all. move ! (4 ∷ []) $ lft-end ! tt $ move ! (0 ∷ 8 ∷ 6 ∷ []) $
+          await ! tt $ learn ! (λ is-now-x-all. bring ! (3 ∷ []) $ lft-end ! tt $ bring ! (0 ∷ 7 ∷ 5 ∷ []) $
           use3 W (later (‵ (MutSlice (named 1) κ₁ u8 .own (at-x-card (x-card .name) (zs-call .1 .1 .1 .1 .0)) (s-x-card ∷ []))
           ⊛ ‵ (flft κ₁ q₁))) (comes-back u8 κ₁ (ν₂-call ∷ []) q₁ (x-card .name) (x-card .ptr .0) (x-card .ptr .1) 𝓤 H A W
           (named 1) (named 2) (now x-card) (length (now x-card)) refl room-x-card δ₂-call (zs-call .1 .1 .1 .1 .0)
           h-call-x-card) $
-          await ! tt $ split ! $ move ! (5 ∷ []) $ lft-end ! tt $ move ! (0 ∷ 7 ∷ 6 ∷ []) $
+          await ! tt $ split ! $ bring ! (5 ∷ []) $ lft-end ! tt $ bring ! (0 ∷ 6 ∷ 5 ∷ []) $
           use3 W (later (‵ (MutSlice (named 2) κ₂ u64 .own (at-x-scratch (x-scratch .name) (zs-call .1 .1 .1 .1 .1 .0))
           (s-x-scratch ∷ [])) ⊛ ‵ (flft κ₂ q₂))) (comes-back u64 κ₂ (ν₃-call ∷ []) q₂ (x-scratch .name) (x-scratch .ptr .0)
           (x-scratch .ptr .1) 𝓤 H A W (named 2) (named 3) (now x-scratch) (length (now x-scratch)) refl room-x-scratch δ₃-call
@@ -495,22 +485,23 @@ module _ (Shape Outcome Turn : Value) where
           use1 W (later (some (λ (r : (denotes Turn)). ((‵ ftrue) ⊛ ‵ ((rowOf Turn) .own r (w-turn-of ∷ [])))
           ⊛ raw (ensured 𝓤 H A turn-of-ended (turn-of-clauses 𝓤 turn-of-ensures) tt (turn-of-args r-call w-call
           ((zs-call .1 .1 .1 .0) ++ drop-list x-c x-entries)) tt r)))) (id⊢ 𝓤 _) $
-          await ! tt $ pick ! (λ r-turn-of. split ! $ move ! (1 ∷ []) $
+          await ! tt $ pick ! (λ r-turn-of. split ! $ bring ! (1 ∷ []) $
           use1 W (some (λ (zs-turn-of : Unit {0} × (Unit {0} × Unit {0})). ‵ (lasts turn-of-ended tt
           (turn-of-args r-call w-call ((zs-call .1 .1 .1 .0) ++ drop-list x-c x-entries)) zs-turn-of)
           ⊛ raw (turn-of-ensures tt (turn-of-args r-call w-call ((zs-call .1 .1 .1 .0) ++ drop-list x-c x-entries)) r-turn-of
           (atExit turn-of-ended tt (turn-of-args r-call w-call ((zs-call .1 .1 .1 .0) ++ drop-list x-c x-entries))
           zs-turn-of)))) (id⊢ 𝓤 _) $
-          pick ! (λ zs-turn-of. split ! $ move ! (1 ∷ []) $ drop ! $ fsplit ! $ move ! (1 ∷ []) $ fsplit ! $
-          move ! (1 ∷ []) $ drop ! $ move ! (1 ∷ []) $ drop ! $ drop ! $ split ! $ move ! (1 ∷ []) $
+          pick ! (λ zs-turn-of. split ! $ discard ! (1 ∷ []) $ fparts W (_ ∷ _ ∷ []) _ $ discard ! (0 ∷ 0 ∷ []) $
+          split ! $ bring ! (1 ∷ []) $
           peeks ! (rowOf Turn) (Is (rowOf Turn)) (shows 𝓤 H A (rowOf Turn)) r-turn-of (w-turn-of ∷ []) (λ is-w-turn-of.
-          land ! (from ! (stop !)) (init ! 44 refl ((Turn .typed 𝓤 H A W) r-turn-of _ is-w-turn-of .0)) $ drop ! $
-          drop ! $ returns ! (look ! 42 refl) $ move ! (4 ∷ 27 ∷ []) $ leave ! 42 refl refl $ leave ! 40 refl refl $
-          leave ! 38 refl refl $ leave ! 36 refl refl $ leave ! 34 refl refl $ leave ! 32 refl refl $
-          leave ! 30 refl refl $ leave ! 28 refl refl $ leave ! 0 refl refl $ leave ! 24 refl refl $
-          leave ! 22 refl refl $ leave ! 20 refl refl $ leave ! 18 refl refl $ leave ! 16 refl refl $
-          leave ! 14 refl refl $ leave ! 12 refl refl $ leave ! 10 refl refl $ leave ! 8 refl refl $
-          leave ! 6 refl refl $ free0 ! $ move ! (4 ∷ 5 ∷ 2 ∷ 3 ∷ 0 ∷ 1 ∷ []) $
+          land ! (from ! (stop !)) (init ! 44 refl ((Turn .typed 𝓤 H A W) r-turn-of _ is-w-turn-of .0)) $
+          discard ! (0 ∷ []) $ parts W ([]) _ $ returns ! (look ! 42 refl) $ bring ! (4 ∷ 26 ∷ []) $
+          leave ! 42 refl refl $ leave ! 40 refl refl $ leave ! 38 refl refl $ leave ! 36 refl refl $
+          leave ! 34 refl refl $ leave ! 32 refl refl $ leave ! 30 refl refl $ leave ! 28 refl refl $
+          leave ! 0 refl refl $ leave ! 24 refl refl $ leave ! 22 refl refl $ leave ! 20 refl refl $
+          leave ! 18 refl refl $ leave ! 16 refl refl $ leave ! 14 refl refl $ leave ! 12 refl refl $
+          leave ! 10 refl refl $ leave ! 8 refl refl $ leave ! 6 refl refl $ free0 ! $
+          bring ! (4 ∷ 4 ∷ 2 ∷ 2 ∷ 0 ∷ 0 ∷ []) $
           by ! (exits r-turn-of w-turn-of (zs-call .1 .1 .0) (zs-call .1 .1 .1 .1 .0) (zs-call .1 .1 .1 .1 .1 .0) is-w-turn-of
           h-call-x-map h-call-x-card h-call-x-scratch)))))))))))))))))))))))))))))))))))))))))
 

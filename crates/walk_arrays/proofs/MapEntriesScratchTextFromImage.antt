@@ -21,7 +21,7 @@ use prog.Wp.{Heap, WpFn, Tables}
 use ghost.Atoms.{Atoms}
 use contract.Monad.{fact}
 use contract.Lifetimes.{Lfts}
-use types.Kit.{Given, ‵, raw, some, given, later, _⊛_, ⋆, _$_, _∵_, !, qed, by, move, drop, use0, use1, use2, use3, split, join}
+use types.Kit.{Given, ‵, raw, some, given, later, _⊛_, ⋆, _$_, _∵_, !, qed, by, use0, use1, use2, use3, group, split, join}
 use types.Kit.{pick, fsplit, fjoin, feqL, suffices, frame, await, learn, done}
 use types.Run.{look, init, stop, hop, fld, from, load, addr, and-then, no-more, of-opd, assigns, land, returns, enter, alloc1}
 use types.Run.{alloc0, params1, pass1, pass0, free0}
@@ -50,7 +50,7 @@ use denote.Struct.Laws as struct
 use Rattle.catalogue.specs.declared.Entry.{Entry}
 use Rattle.catalogue.proofs.Entry as Entry′
 use Rattle.catalogue.proofs.Entry.Laws as Entry″
-use Rattle.catalogue.proofs.Steps.{leave, says-nothing}
+use Rattle.catalogue.proofs.Steps.{bring, discard, parts, fparts, leave, says-nothing}
 use Rattle.catalogue.proofs.Lending.{LentAgain, lends-again, comes-back}
 use Rattle.catalogue.proofs.Arrays.{PartLent, lends-part, part-back}
 
@@ -273,10 +273,9 @@ module _ (#call #used-of : Name) where
         (s-x-all b-x-all ∷ [])) ∷ ‵ (MutSlice (named 3) (ν₂-call ∷ []) u64 .own (at-x-scratch δ₂-call (now x-scratch))
         (s-x-scratch ∷ [])) ∷ ‵ (MutSlice (named 4) (ν₃-call ∷ []) u8 .own (at-x-text δ₃-call (now x-text)) (s-x-text ∷ []))
         ∷ []) ∵
-        nothing ! $ move ! (5 ∷ 0 ∷ []) $ join ! $ move ! (4 ∷ 0 ∷ []) $ join ! $ move ! (3 ∷ 0 ∷ []) $ join ! $
-        move ! (2 ∷ 0 ∷ []) $ join ! $ move ! (1 ∷ 0 ∷ []) $ join ! $ nothing ! $ move ! (6 ∷ 0 ∷ []) $ fjoin ! $
-        move ! (5 ∷ 0 ∷ []) $ fjoin ! $ move ! (4 ∷ 0 ∷ []) $ fjoin ! $ move ! (3 ∷ 0 ∷ []) $ fjoin ! $
-        move ! (2 ∷ 0 ∷ []) $ fjoin ! $ move ! (1 ∷ 0 ∷ []) $ join ! $ frame ! $ done !
+        nothing ! $ bring ! (1 ∷ 1 ∷ 1 ∷ 1 ∷ 1 ∷ 0 ∷ []) $ group ! 6 $ nothing ! $ bring ! (6 ∷ 0 ∷ []) $ fjoin ! $
+        bring ! (5 ∷ 0 ∷ []) $ fjoin ! $ bring ! (4 ∷ 0 ∷ []) $ fjoin ! $ bring ! (3 ∷ 0 ∷ []) $ fjoin ! $
+        bring ! (2 ∷ 0 ∷ []) $ fjoin ! $ bring ! (1 ∷ 0 ∷ []) $ join ! $ frame ! $ done !
 
     -- ---- the caller has what `used-of` asks
     abbrev used-of-args : (v-used : ℕ) (m-v-used : Val) (v-all : (List Entry)) → ℕ × ((List Entry) × Unit {0})
@@ -303,7 +302,7 @@ module _ (#call #used-of : Name) where
         owned ! (Array Entry′.the-row 1024) (Is (Array Entry′.the-row 1024)) (array-makes 𝓤 H A W Entry′.the-row
         (struct.makes Entry′.the-type Entry″.the-plain 𝓤 H A) 1024) v-all _ is-v-all $
         fjoin ! $ owned ! usize (Is usize) (uint-makes 𝓤 H A W w64) v-used _ is-v-used $ fjoin ! $
-        move ! (1 ∷ 0 ∷ []) $ join ! $ frame ! $ done !
+        bring ! (1 ∷ 0 ∷ []) $ join ! $ frame ! $ done !
 
     -- ---- the exit
     exits : (r : ℕ) (w : Val) (z-x-map : List ℕ) (z-x-scratch : List ℕ) (z-x-text : List ℕ) → Is usize r (w ∷ [])
@@ -319,14 +318,13 @@ module _ (#call #used-of : Name) where
         ∷ ‵ (MutSlice (named 3) κ₃ u8 .own (at-x-text (x-text .name) z-x-text) (s-x-text ∷ [])) ∷ ‵ (flft κ₃ q₃) ∷ []) ∵
         suffices ! _ (ends-at 𝓤 H A ended stayed (clauses 𝓤) W bound w r
         (tt, (z-x-map, (tt, (tt, (z-x-scratch, (z-x-text, tt)))))) (tt, (l-x-map, (tt, (tt, (l-x-scratch, (l-x-text, tt))))))) $
-        says-nothing ! $ nothing ! $ move ! (8 ∷ 0 ∷ []) $ join ! $ move ! (6 ∷ 0 ∷ []) $ join ! $
-        move ! (4 ∷ 0 ∷ []) $ join ! $ move ! (2 ∷ 0 ∷ []) $ join ! $ frame ! $ nothing ! $ move ! (4 ∷ 0 ∷ []) $
-        fjoin ! $ move ! (3 ∷ 0 ∷ []) $ fjoin ! $ owned ! usize (Is usize) (uint-makes 𝓤 H A W w64) x-c _ is-x-c $
-        fjoin ! $
+        says-nothing ! $ nothing ! $ bring ! (2 ∷ 3 ∷ 4 ∷ 5 ∷ 0 ∷ []) $ group ! 5 $ frame ! $ nothing ! $
+        bring ! (4 ∷ 0 ∷ []) $ fjoin ! $ bring ! (3 ∷ 0 ∷ []) $ fjoin ! $
+        owned ! usize (Is usize) (uint-makes 𝓤 H A W w64) x-c _ is-x-c $ fjoin ! $
         owned ! (Array Entry′.the-row 1024) (Is (Array Entry′.the-row 1024)) (array-makes 𝓤 H A W Entry′.the-row
         (struct.makes Entry′.the-type Entry″.the-plain 𝓤 H A) 1024) x-entries _ is-x-entries $
-        fjoin ! $ move ! (2 ∷ 0 ∷ []) $ fjoin ! $ move ! (1 ∷ 0 ∷ []) $ fjoin ! $
-        owned ! usize (Is usize) (uint-makes 𝓤 H A W w64) r _ is $ move ! (1 ∷ 0 ∷ []) $ done !
+        fjoin ! $ bring ! (2 ∷ 0 ∷ []) $ fjoin ! $ bring ! (1 ∷ 0 ∷ []) $ fjoin ! $
+        owned ! usize (Is usize) (uint-makes 𝓤 H A W w64) r _ is $ bring ! (1 ∷ 0 ∷ []) $ done !
 
     -- ---- the walk
     walk : (𝓣 : Tables 𝓤 H) → Triple 𝓤 (𝓣 .C #call) (call-contract 𝓤 H A call-ensures)
@@ -347,11 +345,9 @@ module _ (#call #used-of : Name) where
         pass1 ! (init ! 30 refl (tt, (tt, (record { fits = room-x-map .0 }, tt)))) $
         pass1 ! (init ! 28 refl typed-x-entries) $ pass1 ! (init ! 26 refl typed-x-c) $
         pass1 ! (init ! 24 refl (tt, (tt, (record { fits = room-x-scratch .0 }, tt)))) $
-        pass1 ! (init ! 22 refl (tt, (tt, (record { fits = room-x-text .0 }, tt)))) $ pass0 ! $ move ! (36 ∷ []) $
-        split ! $ move ! (1 ∷ []) $ split ! $ move ! (1 ∷ []) $ split ! $ move ! (1 ∷ []) $ split ! $
-        move ! (1 ∷ []) $ drop ! $ move ! (40 ∷ []) $ fsplit ! $ move ! (1 ∷ []) $ fsplit ! $ move ! (1 ∷ []) $
-        fsplit ! $ move ! (1 ∷ []) $ fsplit ! $ move ! (1 ∷ []) $ fsplit ! $ move ! (1 ∷ []) $ fsplit ! $
-        move ! (1 ∷ []) $ drop ! $ move ! (3 ∷ []) $ drop ! $ move ! (2 ∷ []) $ drop ! $
+        pass1 ! (init ! 22 refl (tt, (tt, (record { fits = room-x-text .0 }, tt)))) $ pass0 ! $ bring ! (36 ∷ []) $
+        parts W (_ ∷ _ ∷ _ ∷ _ ∷ []) _ $ bring ! (40 ∷ []) $ fparts W (_ ∷ _ ∷ _ ∷ _ ∷ _ ∷ _ ∷ []) _ $
+        discard ! (2 ∷ 2 ∷ []) $
         assigns ! (of-opd ! (load ! (from ! (stop !)) (look ! 36 refl))) (from ! (stop !)) (init ! 28 refl typed-x-entries) $
         -- call
         assigns ! (addr ! (from ! (fld ! refl (hop ! (look-in ! 38 (sub ! 0 refl (whole !))) (stop !))))) (from ! (stop !))
@@ -373,34 +369,31 @@ module _ (#call #used-of : Name) where
         assigns ! (agg ! (and-then ! (load ! (from ! (stop !)) (look ! 12 refl)) (and-then !
         (load ! (from ! (fld ! refl (stop !))) (look-in ! 30 (sub ! 1 refl (whole !)))) (no-more !)))) (from ! (stop !))
         (init ! 10 refl (tt, (tt, (record { fits = room-x-text .0 }, tt)))) $
-        move ! (3 ∷ []) $
         use1 W (‵ (ShrSlice (named 0) κ₀ u8 .own x-image (s-x-image ∷ [])) ⊛ ‵ (ShrSlice (named 0) κ₀ u8 .own x-image
         (s-x-image ∷ []))) (shr-slice-copy 𝓤 H A W (named 0) κ₀ u8 .twice x-image (s-x-image ∷ [])) $
-        split ! $ lft-new ! tt (λ ν₀-call. move ! (5 ∷ 8 ∷ []) $
+        split ! $ lft-new ! tt (λ ν₀-call. bring ! (3 ∷ 6 ∷ []) $
         use2 W (later (some (λ (δ : GName). ‵ (MutSlice (named 1) (ν₀-call ∷ []) u64 .own (at-x-map δ (now x-map))
         (s-x-map ∷ [])) ⊛ ‵ (LentAgain u64 κ₁ (ν₀-call ∷ []) q₁ (x-map .name) (x-map .ptr .0) (x-map .ptr .1) δ (now x-map)))))
         (lends-again u64 κ₁ (ν₀-call ∷ []) q₁ (x-map .name) (x-map .ptr .0) (x-map .ptr .1) 𝓤 H A W (named 1) (named 1)
         (now x-map) (length (now x-map)) refl) $
-        await ! tt $ pick ! (λ δ₀-call. split ! $ lft-new ! tt (λ ν₁-call. move ! (31 ∷ []) $
+        await ! tt $ pick ! (λ δ₀-call. split ! $ lft-new ! tt (λ ν₁-call. bring ! (31 ∷ []) $
         use1 W (later (some (λ (δ : GName). ‵ (MutSlice (named 2) (ν₁-call ∷ []) Entry′.the-row .own
         (at-x-all l₇ δ (take x-c x-entries)) (s-x-all l₇ ∷ [])) ⊛ ‵ (PartLent Entry′.the-row 1024 (ν₁-call ∷ []) x-c x-entries
         l₇ δ)))) (lends-part Entry′.the-row 1024 (ν₁-call ∷ []) x-c x-entries l₇ (struct.vals Entry′.the-type Entry″.the-laws)
         (struct.tells Entry′.the-type Entry″.the-laws) tt 𝓤 H A W (struct.makes Entry′.the-type Entry″.the-plain 𝓤 H A)
         is-x-entries (x-all-room) asked (named 2)) $
-        await ! tt $ pick ! (λ δ₁-call. split ! $ lft-new ! tt (λ ν₂-call. move ! (10 ∷ 12 ∷ []) $
+        await ! tt $ pick ! (λ δ₁-call. split ! $ lft-new ! tt (λ ν₂-call. bring ! (9 ∷ 11 ∷ []) $
         use2 W (later (some (λ (δ : GName). ‵ (MutSlice (named 3) (ν₂-call ∷ []) u64 .own (at-x-scratch δ (now x-scratch))
         (s-x-scratch ∷ [])) ⊛ ‵ (LentAgain u64 κ₂ (ν₂-call ∷ []) q₂ (x-scratch .name) (x-scratch .ptr .0) (x-scratch .ptr .1) δ
         (now x-scratch))))) (lends-again u64 κ₂ (ν₂-call ∷ []) q₂ (x-scratch .name) (x-scratch .ptr .0) (x-scratch .ptr .1) 𝓤 H
         A W (named 2) (named 3) (now x-scratch) (length (now x-scratch)) refl) $
-        await ! tt $ pick ! (λ δ₂-call. split ! $ lft-new ! tt (λ ν₃-call. move ! (12 ∷ 13 ∷ []) $
+        await ! tt $ pick ! (λ δ₂-call. split ! $ lft-new ! tt (λ ν₃-call. bring ! (12 ∷ 13 ∷ []) $
         use2 W (later (some (λ (δ : GName). ‵ (MutSlice (named 4) (ν₃-call ∷ []) u8 .own (at-x-text δ (now x-text))
         (s-x-text ∷ [])) ⊛ ‵ (LentAgain u8 κ₃ (ν₃-call ∷ []) q₃ (x-text .name) (x-text .ptr .0) (x-text .ptr .1) δ
         (now x-text))))) (lends-again u8 κ₃ (ν₃-call ∷ []) q₃ (x-text .name) (x-text .ptr .0) (x-text .ptr .1) 𝓤 H A W (named 3)
         (named 4) (now x-text) (length (now x-text)) refl) $
-        await ! tt $ pick ! (λ δ₃-call. split ! $ move ! (14 ∷ 11 ∷ 8 ∷ 5 ∷ 2 ∷ 12 ∷ 9 ∷ 6 ∷ 3 ∷ 0 ∷ []) $
-        move ! (8 ∷ 9 ∷ []) $ join ! $ move ! (8 ∷ 0 ∷ []) $ join ! $ move ! (7 ∷ 0 ∷ []) $ join ! $
-        move ! (6 ∷ 0 ∷ []) $ join ! $ move ! (5 ∷ 0 ∷ []) $ join ! $ move ! (4 ∷ 0 ∷ []) $ join ! $
-        move ! (3 ∷ 0 ∷ []) $ join ! $ move ! (2 ∷ 0 ∷ []) $ join ! $ move ! (1 ∷ 0 ∷ []) $ join ! $
+        await ! tt $ pick ! (λ δ₃-call. split ! $ bring ! (14 ∷ 11 ∷ 8 ∷ 5 ∷ 2 ∷ 8 ∷ 6 ∷ 4 ∷ 2 ∷ 0 ∷ []) $
+        group ! 10 $
         use1 W (raw ((call-contract 𝓤 H A call-ensures) .pre (to-call ν₀-call ν₁-call ν₂-call ν₃-call δ₀-call δ₁-call δ₂-call
         δ₃-call l₇))) (goes-call ν₀-call ν₁-call ν₂-call ν₃-call δ₀-call δ₁-call δ₂-call δ₃-call l₇) $
         calls-at ! (fmOf 𝓤 H (W .laws) 𝓣) (call-contract 𝓤 H A call-ensures) known-call
@@ -413,28 +406,25 @@ module _ (#call #used-of : Name) where
         ⊛ raw (ensured 𝓤 H A call-ended (call-clauses 𝓤 call-ensures)
         (κ₀, (ν₀-call ∷ [], (ν₁-call ∷ [], (ν₂-call ∷ [], (ν₃-call ∷ [], tt))))) (call-args δ₀-call δ₁-call δ₂-call δ₃-call l₇)
         tt r)))) (id⊢ 𝓤 _) $
-        await ! tt $ pick ! (λ r-call. split ! $ move ! (1 ∷ []) $
+        await ! tt $ pick ! (λ r-call. split ! $ bring ! (1 ∷ []) $
         use1 W (some (λ (zs-call : Unit {0} × (List ℕ × (List Entry × (List ℕ × (List ℕ × Unit {0}))))). ‵
         (lasts call-ended (κ₀, (ν₀-call ∷ [], (ν₁-call ∷ [], (ν₂-call ∷ [], (ν₃-call ∷ [], tt)))))
         (call-args δ₀-call δ₁-call δ₂-call δ₃-call l₇) zs-call) ⊛ raw (call-ensures
         (κ₀, (ν₀-call ∷ [], (ν₁-call ∷ [], (ν₂-call ∷ [], (ν₃-call ∷ [], tt))))) (call-args δ₀-call δ₁-call δ₂-call δ₃-call l₇)
         r-call (atExit call-ended (κ₀, (ν₀-call ∷ [], (ν₁-call ∷ [], (ν₂-call ∷ [], (ν₃-call ∷ [], tt)))))
         (call-args δ₀-call δ₁-call δ₂-call δ₃-call l₇) zs-call)))) (id⊢ 𝓤 _) $
-        pick ! (λ zs-call. split ! $ move ! (1 ∷ []) $ drop ! $ fsplit ! $ move ! (1 ∷ []) $ fsplit ! $
-        move ! (1 ∷ []) $ fsplit ! $ move ! (1 ∷ []) $ fsplit ! $ move ! (1 ∷ []) $ fsplit ! $ move ! (1 ∷ []) $
-        drop ! $ move ! (4 ∷ []) $ drop ! $ move ! (3 ∷ []) $ fsplit ! $ move ! (1 ∷ []) $ feqL ! (λ h-call-x-map.
-        move ! (3 ∷ []) $ fsplit ! $ move ! (1 ∷ []) $ feqL ! (λ h-call-x-all. move ! (3 ∷ []) $ fsplit ! $
-        move ! (1 ∷ []) $ feqL ! (λ h-call-x-scratch. move ! (3 ∷ []) $ fsplit ! $ move ! (1 ∷ []) $
-        feqL ! (λ h-call-x-text. move ! (4 ∷ []) $ split ! $ move ! (1 ∷ []) $
-        peeks ! usize (Is usize) (shows 𝓤 H A usize) r-call (w-call ∷ []) (λ is-w-call.
-        land ! (from ! (stop !)) (init ! 29 refl ((uint-lawful 𝓤 H A W w64 .typed) r-call _ is-w-call .0)) $ drop ! $
-        split ! $ move ! (1 ∷ []) $ split ! $ move ! (1 ∷ []) $ split ! $ move ! (1 ∷ []) $ split ! $
-        move ! (1 ∷ []) $ split ! $ move ! (1 ∷ []) $ drop ! $ move ! (3 ∷ []) $ lft-end ! tt $
-        move ! (0 ∷ 12 ∷ 8 ∷ []) $
+        pick ! (λ zs-call. split ! $ discard ! (1 ∷ []) $ fparts W (_ ∷ _ ∷ _ ∷ _ ∷ _ ∷ []) _ $ discard ! (0 ∷ []) $
+        fsplit ! $ bring ! (1 ∷ []) $ feqL ! (λ h-call-x-map. bring ! (1 ∷ []) $ fsplit ! $ bring ! (1 ∷ []) $
+        feqL ! (λ h-call-x-all. bring ! (2 ∷ []) $ fsplit ! $ bring ! (1 ∷ []) $ feqL ! (λ h-call-x-scratch.
+        bring ! (3 ∷ []) $ fsplit ! $ bring ! (1 ∷ []) $ feqL ! (λ h-call-x-text. bring ! (4 ∷ []) $ split ! $
+        bring ! (1 ∷ []) $ peeks ! usize (Is usize) (shows 𝓤 H A usize) r-call (w-call ∷ []) (λ is-w-call.
+        land ! (from ! (stop !)) (init ! 29 refl ((uint-lawful 𝓤 H A W w64 .typed) r-call _ is-w-call .0)) $
+        discard ! (0 ∷ []) $ parts W (_ ∷ _ ∷ _ ∷ _ ∷ _ ∷ []) _ $ bring ! (1 ∷ []) $ lft-end ! tt $
+        bring ! (0 ∷ 11 ∷ 7 ∷ []) $
         use3 W (later (‵ (MutSlice (named 1) κ₁ u64 .own (at-x-map (x-map .name) (zs-call .1 .0)) (s-x-map ∷ []))
         ⊛ ‵ (flft κ₁ q₁))) (comes-back u64 κ₁ (ν₀-call ∷ []) q₁ (x-map .name) (x-map .ptr .0) (x-map .ptr .1) 𝓤 H A W (named 1)
         (named 1) (now x-map) (length (now x-map)) refl room-x-map δ₀-call (zs-call .1 .0) h-call-x-map) $
-        await ! tt $ split ! $ move ! (4 ∷ []) $ lft-end ! tt $ move ! (0 ∷ 11 ∷ 8 ∷ []) $
+        await ! tt $ split ! $ bring ! (3 ∷ []) $ lft-end ! tt $ bring ! (0 ∷ 10 ∷ 7 ∷ []) $
         use3 W (later (given (Is (Array Entry′.the-row 1024) ((zs-call .1 .1 .0) ++ drop-list x-c x-entries)
         ((array-vals (struct.vals Entry′.the-type Entry″.the-laws)) ((zs-call .1 .1 .0) ++ drop-list x-c x-entries)))
         (‵ (fat fullShare (tyArray Entry″.mir 1024) l₇ 0 (only ((array-vals (struct.vals Entry′.the-type Entry″.the-laws))
@@ -442,12 +432,12 @@ module _ (#call #used-of : Name) where
         (struct.vals Entry′.the-type Entry″.the-laws) (struct.tells Entry′.the-type Entry″.the-laws) tt 𝓤 H A W
         (struct.makes Entry′.the-type Entry″.the-plain 𝓤 H A) is-x-entries (x-all-room) asked δ₁-call (zs-call .1 .1 .0)
         h-call-x-all) $
-        await ! tt $ learn ! (λ is-now-x-all. move ! (4 ∷ []) $ lft-end ! tt $ move ! (0 ∷ 9 ∷ 7 ∷ []) $
+        await ! tt $ learn ! (λ is-now-x-all. bring ! (4 ∷ []) $ lft-end ! tt $ bring ! (0 ∷ 8 ∷ 6 ∷ []) $
         use3 W (later (‵ (MutSlice (named 2) κ₂ u64 .own (at-x-scratch (x-scratch .name) (zs-call .1 .1 .1 .0))
         (s-x-scratch ∷ [])) ⊛ ‵ (flft κ₂ q₂))) (comes-back u64 κ₂ (ν₂-call ∷ []) q₂ (x-scratch .name) (x-scratch .ptr .0)
         (x-scratch .ptr .1) 𝓤 H A W (named 2) (named 3) (now x-scratch) (length (now x-scratch)) refl room-x-scratch δ₂-call
         (zs-call .1 .1 .1 .0) h-call-x-scratch) $
-        await ! tt $ split ! $ move ! (5 ∷ []) $ lft-end ! tt $ move ! (0 ∷ 8 ∷ 7 ∷ []) $
+        await ! tt $ split ! $ bring ! (6 ∷ []) $ lft-end ! tt $ bring ! (0 ∷ 7 ∷ 6 ∷ []) $
         use3 W (later (‵ (MutSlice (named 3) κ₃ u8 .own (at-x-text (x-text .name) (zs-call .1 .1 .1 .1 .0)) (s-x-text ∷ []))
         ⊛ ‵ (flft κ₃ q₃))) (comes-back u8 κ₃ (ν₃-call ∷ []) q₃ (x-text .name) (x-text .ptr .0) (x-text .ptr .1) 𝓤 H A W
         (named 3) (named 4) (now x-text) (length (now x-text)) refl room-x-text δ₃-call (zs-call .1 .1 .1 .1 .0) h-call-x-text)
@@ -467,22 +457,22 @@ module _ (#call #used-of : Name) where
         use1 W (later (some (λ (r : ℕ). ((‵ ftrue) ⊛ ‵ (usize .own r (w-used-of ∷ [])))
         ⊛ raw (ensured 𝓤 H A used-of-ended (used-of-clauses 𝓤 used-of-ensures) tt (used-of-args r-call w-call
         ((zs-call .1 .1 .0) ++ drop-list x-c x-entries)) tt r)))) (id⊢ 𝓤 _) $
-        await ! tt $ pick ! (λ r-used-of. split ! $ move ! (1 ∷ []) $
+        await ! tt $ pick ! (λ r-used-of. split ! $ bring ! (1 ∷ []) $
         use1 W (some (λ (zs-used-of : Unit {0} × (Unit {0} × Unit {0})). ‵ (lasts used-of-ended tt
         (used-of-args r-call w-call ((zs-call .1 .1 .0) ++ drop-list x-c x-entries)) zs-used-of)
         ⊛ raw (used-of-ensures tt (used-of-args r-call w-call ((zs-call .1 .1 .0) ++ drop-list x-c x-entries)) r-used-of
         (atExit used-of-ended tt (used-of-args r-call w-call ((zs-call .1 .1 .0) ++ drop-list x-c x-entries)) zs-used-of))))
         (id⊢ 𝓤 _) $
-        pick ! (λ zs-used-of. split ! $ move ! (1 ∷ []) $ drop ! $ fsplit ! $ move ! (1 ∷ []) $ fsplit ! $
-        move ! (1 ∷ []) $ drop ! $ move ! (1 ∷ []) $ drop ! $ drop ! $ split ! $ move ! (1 ∷ []) $
+        pick ! (λ zs-used-of. split ! $ discard ! (1 ∷ []) $ fparts W (_ ∷ _ ∷ []) _ $ discard ! (0 ∷ 0 ∷ []) $
+        split ! $ bring ! (1 ∷ []) $
         peeks ! usize (Is usize) (shows 𝓤 H A usize) r-used-of (w-used-of ∷ []) (λ is-w-used-of.
         land ! (from ! (stop !)) (init ! 44 refl ((uint-lawful 𝓤 H A W w64 .typed) r-used-of _ is-w-used-of .0)) $
-        drop ! $ drop ! $ returns ! (look ! 42 refl) $ move ! (4 ∷ 29 ∷ []) $ leave ! 42 refl refl $
-        leave ! 40 refl refl $ leave ! 38 refl refl $ leave ! 36 refl refl $ leave ! 34 refl refl $
-        leave ! 32 refl refl $ leave ! 30 refl refl $ leave ! 0 refl refl $ leave ! 26 refl refl $
-        leave ! 24 refl refl $ leave ! 22 refl refl $ leave ! 20 refl refl $ leave ! 18 refl refl $
-        leave ! 16 refl refl $ leave ! 14 refl refl $ leave ! 12 refl refl $ leave ! 10 refl refl $
-        leave ! 8 refl refl $ free0 ! $ move ! (7 ∷ 6 ∷ 4 ∷ 5 ∷ 2 ∷ 3 ∷ 0 ∷ 1 ∷ []) $
+        discard ! (0 ∷ []) $ parts W ([]) _ $ returns ! (look ! 42 refl) $ bring ! (4 ∷ 28 ∷ []) $
+        leave ! 42 refl refl $ leave ! 40 refl refl $ leave ! 38 refl refl $ leave ! 36 refl refl $
+        leave ! 34 refl refl $ leave ! 32 refl refl $ leave ! 30 refl refl $ leave ! 0 refl refl $
+        leave ! 26 refl refl $ leave ! 24 refl refl $ leave ! 22 refl refl $ leave ! 20 refl refl $
+        leave ! 18 refl refl $ leave ! 16 refl refl $ leave ! 14 refl refl $ leave ! 12 refl refl $
+        leave ! 10 refl refl $ leave ! 8 refl refl $ free0 ! $ bring ! (7 ∷ 6 ∷ 4 ∷ 4 ∷ 2 ∷ 2 ∷ 0 ∷ 0 ∷ []) $
         by ! (exits r-used-of w-used-of (zs-call .1 .0) (zs-call .1 .1 .1 .0) (zs-call .1 .1 .1 .1 .0) is-w-used-of h-call-x-map
         h-call-x-scratch h-call-x-text))))))))))))))))))))))))))))))))))))))))
 

@@ -22,7 +22,7 @@ use prog.Wp.{Heap, WpFn, Tables}
 use ghost.Atoms.{Atoms}
 use contract.Monad.{fact}
 use contract.Lifetimes.{Lfts}
-use types.Kit.{Given, ‵, raw, some, given, later, _⊛_, ⋆, _$_, _∵_, !, qed, by, move, drop, use0, use1, use2, use3, split, join}
+use types.Kit.{Given, ‵, raw, some, given, later, _⊛_, ⋆, _$_, _∵_, !, qed, by, use0, use1, use2, use3, group, split, join}
 use types.Kit.{pick, fsplit, fjoin, feqL, suffices, frame, await, learn, done}
 use types.Run.{look, init, stop, hop, fld, from, load, addr, and-then, no-more, of-opd, assigns, land, returns, enter, alloc1}
 use types.Run.{alloc0, params1, pass1, pass0, free0}
@@ -52,7 +52,7 @@ use Rattle.catalogue.proofs.Values.{Value, denotes, rowOf, mirOf, valsOf}
 use Rattle.catalogue.specs.declared.Entry.{Entry}
 use Rattle.catalogue.proofs.Entry as Entry′
 use Rattle.catalogue.proofs.Entry.Laws as Entry″
-use Rattle.catalogue.proofs.Steps.{leave, says-nothing}
+use Rattle.catalogue.proofs.Steps.{bring, discard, parts, fparts, leave, says-nothing}
 use Rattle.catalogue.proofs.Lending.{LentAgain, lends-again, comes-back}
 use Rattle.catalogue.proofs.Arrays.{PartLent, lends-part, part-back}
 
@@ -414,17 +414,16 @@ module _ (Shape Outcome Turn : Value) where
           (at-x-all b-x-all δ₂-call (take x-c x-entries)) (s-x-all b-x-all ∷ [])) ∷ ‵ (MutSlice (named 3) (ν₃-call ∷ []) u8 .own
           (at-x-card δ₃-call (now x-card)) (s-x-card ∷ [])) ∷ ‵ (ShrRef (named 4) κ₃ (Array u32 8) .own x-limits
           (s-x-limits ∷ [])) ∷ []) ∵
-          nothing ! $ move ! (5 ∷ 0 ∷ []) $ join ! $ move ! (4 ∷ 0 ∷ []) $ join ! $ move ! (3 ∷ 0 ∷ []) $ join ! $
-          move ! (2 ∷ 0 ∷ []) $ join ! $ move ! (1 ∷ 0 ∷ []) $ join ! $ nothing ! $
+          nothing ! $ bring ! (1 ∷ 1 ∷ 1 ∷ 1 ∷ 1 ∷ 0 ∷ []) $ group ! 6 $ nothing ! $
           owned ! u32 (Is u32) (uint-makes 𝓤 H A W w32) x-step _ is-x-step $ fjoin ! $
           owned ! u32 (Is u32) (uint-makes 𝓤 H A W w32) x-before _ is-x-before $ fjoin ! $
           owned ! u32 (Is u32) (uint-makes 𝓤 H A W w32) x-from _ is-x-from $ fjoin ! $
           owned ! u32 (Is u32) (uint-makes 𝓤 H A W w32) x-k _ is-x-k $ fjoin ! $
-          owned ! u32 (Is u32) (uint-makes 𝓤 H A W w32) x-sheet _ is-x-sheet $ fjoin ! $ move ! (6 ∷ 0 ∷ []) $
-          fjoin ! $ move ! (5 ∷ 0 ∷ []) $ fjoin ! $ move ! (4 ∷ 0 ∷ []) $ fjoin ! $ move ! (3 ∷ 0 ∷ []) $ fjoin ! $
-          move ! (2 ∷ 0 ∷ []) $ fjoin ! $
+          owned ! u32 (Is u32) (uint-makes 𝓤 H A W w32) x-sheet _ is-x-sheet $ fjoin ! $ bring ! (6 ∷ 0 ∷ []) $
+          fjoin ! $ bring ! (5 ∷ 0 ∷ []) $ fjoin ! $ bring ! (4 ∷ 0 ∷ []) $ fjoin ! $ bring ! (3 ∷ 0 ∷ []) $ fjoin ! $
+          bring ! (2 ∷ 0 ∷ []) $ fjoin ! $
           owned ! (rowOf Shape) (Is (rowOf Shape)) (Shape .makes 𝓤 H A) x-shape _ is-x-shape $ fjoin ! $
-          owned ! u32 (Is u32) (uint-makes 𝓤 H A W w32) x-role _ is-x-role $ fjoin ! $ move ! (1 ∷ 0 ∷ []) $ join ! $
+          owned ! u32 (Is u32) (uint-makes 𝓤 H A W w32) x-role _ is-x-role $ fjoin ! $ bring ! (1 ∷ 0 ∷ []) $ join ! $
           frame ! $ done !
 
       -- ---- the caller has what `turn-of` asks
@@ -455,7 +454,7 @@ module _ (Shape Outcome Turn : Value) where
           owned ! (Array Entry′.the-row 1025) (Is (Array Entry′.the-row 1025)) (array-makes 𝓤 H A W Entry′.the-row
           (struct.makes Entry′.the-type Entry″.the-plain 𝓤 H A) 1025) v-all _ is-v-all $
           fjoin ! $ owned ! (rowOf Outcome) (Is (rowOf Outcome)) (Outcome .makes 𝓤 H A) v-outcome _ is-v-outcome $
-          fjoin ! $ move ! (1 ∷ 0 ∷ []) $ join ! $ frame ! $ done !
+          fjoin ! $ bring ! (1 ∷ 0 ∷ []) $ join ! $ frame ! $ done !
 
       -- ---- the exit
       exits : (r : (denotes Turn)) (w : Val) (z-x-map : List ℕ) (z-x-summary : List ℕ) (z-x-card : List ℕ)
@@ -473,21 +472,20 @@ module _ (Shape Outcome Turn : Value) where
           suffices ! _ (ends-at 𝓤 H A ended stayed (clauses 𝓤) W bound w r
           (tt, (tt, (z-x-map, (z-x-summary, (tt, (tt, (z-x-card, (tt, (tt, (tt, (tt, (tt, (tt, tt)))))))))))))
           (tt, (tt, (l-x-map, (l-x-summary, (tt, (tt, (l-x-card, (tt, (tt, (tt, (tt, (tt, (tt, tt)))))))))))))) $
-          says-nothing ! $ nothing ! $ move ! (8 ∷ 0 ∷ []) $ join ! $ move ! (6 ∷ 0 ∷ []) $ join ! $
-          move ! (4 ∷ 0 ∷ []) $ join ! $ move ! (2 ∷ 0 ∷ []) $ join ! $ frame ! $ nothing ! $
+          says-nothing ! $ nothing ! $ bring ! (2 ∷ 3 ∷ 4 ∷ 5 ∷ 0 ∷ []) $ group ! 5 $ frame ! $ nothing ! $
           owned ! u32 (Is u32) (uint-makes 𝓤 H A W w32) x-step _ is-x-step $ fjoin ! $
           owned ! u32 (Is u32) (uint-makes 𝓤 H A W w32) x-before _ is-x-before $ fjoin ! $
           owned ! u32 (Is u32) (uint-makes 𝓤 H A W w32) x-from _ is-x-from $ fjoin ! $
           owned ! u32 (Is u32) (uint-makes 𝓤 H A W w32) x-k _ is-x-k $ fjoin ! $
-          owned ! u32 (Is u32) (uint-makes 𝓤 H A W w32) x-sheet _ is-x-sheet $ fjoin ! $ move ! (4 ∷ 0 ∷ []) $
-          fjoin ! $ move ! (3 ∷ 0 ∷ []) $ fjoin ! $ owned ! usize (Is usize) (uint-makes 𝓤 H A W w64) x-c _ is-x-c $
+          owned ! u32 (Is u32) (uint-makes 𝓤 H A W w32) x-sheet _ is-x-sheet $ fjoin ! $ bring ! (4 ∷ 0 ∷ []) $
+          fjoin ! $ bring ! (3 ∷ 0 ∷ []) $ fjoin ! $ owned ! usize (Is usize) (uint-makes 𝓤 H A W w64) x-c _ is-x-c $
           fjoin ! $
           owned ! (Array Entry′.the-row 1025) (Is (Array Entry′.the-row 1025)) (array-makes 𝓤 H A W Entry′.the-row
           (struct.makes Entry′.the-type Entry″.the-plain 𝓤 H A) 1025) x-entries _ is-x-entries $
-          fjoin ! $ move ! (2 ∷ 0 ∷ []) $ fjoin ! $ move ! (1 ∷ 0 ∷ []) $ fjoin ! $
+          fjoin ! $ bring ! (2 ∷ 0 ∷ []) $ fjoin ! $ bring ! (1 ∷ 0 ∷ []) $ fjoin ! $
           owned ! (rowOf Shape) (Is (rowOf Shape)) (Shape .makes 𝓤 H A) x-shape _ is-x-shape $ fjoin ! $
           owned ! u32 (Is u32) (uint-makes 𝓤 H A W w32) x-role _ is-x-role $ fjoin ! $
-          owned ! (rowOf Turn) (Is (rowOf Turn)) (Turn .makes 𝓤 H A) r _ is $ move ! (1 ∷ 0 ∷ []) $ done !
+          owned ! (rowOf Turn) (Is (rowOf Turn)) (Turn .makes 𝓤 H A) r _ is $ bring ! (1 ∷ 0 ∷ []) $ done !
 
       -- ---- the walk
       walk : (𝓣 : Tables 𝓤 H) → Triple 𝓤 (𝓣 .C #call) (call-contract 𝓤 H A call-ensures)
@@ -515,14 +513,9 @@ module _ (Shape Outcome Turn : Value) where
           pass1 ! (init ! 32 refl (tt, tt)) $ pass1 ! (init ! 30 refl typed-x-sheet) $
           pass1 ! (init ! 28 refl typed-x-k) $ pass1 ! (init ! 26 refl typed-x-from) $
           pass1 ! (init ! 24 refl typed-x-before) $ pass1 ! (init ! 22 refl typed-x-step) $ pass0 ! $
-          move ! (50 ∷ []) $ split ! $ move ! (1 ∷ []) $ split ! $ move ! (1 ∷ []) $ split ! $ move ! (1 ∷ []) $
-          split ! $ move ! (1 ∷ []) $ drop ! $ move ! (54 ∷ []) $ fsplit ! $ move ! (1 ∷ []) $ fsplit ! $
-          move ! (1 ∷ []) $ fsplit ! $ move ! (1 ∷ []) $ fsplit ! $ move ! (1 ∷ []) $ fsplit ! $ move ! (1 ∷ []) $
-          fsplit ! $ move ! (1 ∷ []) $ fsplit ! $ move ! (1 ∷ []) $ fsplit ! $ move ! (1 ∷ []) $ fsplit ! $
-          move ! (1 ∷ []) $ fsplit ! $ move ! (1 ∷ []) $ fsplit ! $ move ! (1 ∷ []) $ fsplit ! $ move ! (1 ∷ []) $
-          fsplit ! $ move ! (1 ∷ []) $ drop ! $ move ! (12 ∷ []) $ drop ! $ move ! (11 ∷ []) $ drop ! $
-          move ! (8 ∷ []) $ drop ! $ move ! (7 ∷ []) $ drop ! $ move ! (4 ∷ []) $ drop ! $ move ! (3 ∷ []) $ drop ! $
-          move ! (2 ∷ []) $ drop ! $ move ! (1 ∷ []) $ drop ! $ drop ! $
+          bring ! (50 ∷ []) $ parts W (_ ∷ _ ∷ _ ∷ _ ∷ []) _ $ bring ! (54 ∷ []) $
+          fparts W (_ ∷ _ ∷ _ ∷ _ ∷ _ ∷ _ ∷ _ ∷ _ ∷ _ ∷ _ ∷ _ ∷ _ ∷ _ ∷ []) _ $
+          discard ! (0 ∷ 0 ∷ 2 ∷ 2 ∷ 4 ∷ 4 ∷ 4 ∷ 4 ∷ 4 ∷ []) $
           assigns ! (of-opd ! (load ! (from ! (stop !)) (look ! 46 refl))) (from ! (stop !)) (init ! 28 refl typed-x-entries) $
           -- call
           assigns ! (addr ! (from ! (fld ! refl (hop ! (look-in ! 50 (sub ! 0 refl (whole !))) (stop !))))) (from ! (stop !))
@@ -544,35 +537,32 @@ module _ (Shape Outcome Turn : Value) where
           assigns ! (agg ! (and-then ! (load ! (from ! (stop !)) (look ! 12 refl)) (and-then !
           (load ! (from ! (fld ! refl (stop !))) (look-in ! 42 (sub ! 1 refl (whole !)))) (no-more !)))) (from ! (stop !))
           (init ! 10 refl (tt, (tt, (record { fits = room-x-card .0 }, tt)))) $
-          lft-new ! tt (λ ν₀-call. move ! (4 ∷ 8 ∷ []) $
+          lft-new ! tt (λ ν₀-call. bring ! (1 ∷ 4 ∷ []) $
           use2 W (later (some (λ (δ : GName). ‵ (MutSlice (named 0) (ν₀-call ∷ []) u64 .own (at-x-map δ (now x-map))
           (s-x-map ∷ [])) ⊛ ‵ (LentAgain u64 κ₀ (ν₀-call ∷ []) q₀ (x-map .name) (x-map .ptr .0) (x-map .ptr .1) δ
           (now x-map))))) (lends-again u64 κ₀ (ν₀-call ∷ []) q₀ (x-map .name) (x-map .ptr .0) (x-map .ptr .1) 𝓤 H A W (named 0)
           (named 0) (now x-map) (length (now x-map)) refl) $
-          await ! tt $ pick ! (λ δ₀-call. split ! $ lft-new ! tt (λ ν₁-call. move ! (6 ∷ 9 ∷ []) $
+          await ! tt $ pick ! (λ δ₀-call. split ! $ lft-new ! tt (λ ν₁-call. bring ! (4 ∷ 6 ∷ []) $
           use2 W (later (some (λ (δ : GName). ‵ (MutSlice (named 1) (ν₁-call ∷ []) u32 .own (at-x-summary δ (now x-summary))
           (s-x-summary ∷ [])) ⊛ ‵ (LentAgain u32 κ₁ (ν₁-call ∷ []) q₁ (x-summary .name) (x-summary .ptr .0) (x-summary .ptr .1)
           δ (now x-summary))))) (lends-again u32 κ₁ (ν₁-call ∷ []) q₁ (x-summary .name) (x-summary .ptr .0) (x-summary .ptr .1)
           𝓤 H A W (named 1) (named 1) (now x-summary) (length (now x-summary)) refl) $
-          await ! tt $ pick ! (λ δ₁-call. split ! $ lft-new ! tt (λ ν₂-call. move ! (31 ∷ []) $
+          await ! tt $ pick ! (λ δ₁-call. split ! $ lft-new ! tt (λ ν₂-call. bring ! (31 ∷ []) $
           use1 W (later (some (λ (δ : GName). ‵ (MutSlice (named 2) (ν₂-call ∷ []) Entry′.the-row .own
           (at-x-all l₁₄ δ (take x-c x-entries)) (s-x-all l₁₄ ∷ [])) ⊛ ‵ (PartLent Entry′.the-row 1025 (ν₂-call ∷ []) x-c
           x-entries l₁₄ δ)))) (lends-part Entry′.the-row 1025 (ν₂-call ∷ []) x-c x-entries l₁₄
           (struct.vals Entry′.the-type Entry″.the-laws) (struct.tells Entry′.the-type Entry″.the-laws) tt 𝓤 H A W
           (struct.makes Entry′.the-type Entry″.the-plain 𝓤 H A) is-x-entries (x-all-room) asked (named 2)) $
-          await ! tt $ pick ! (λ δ₂-call. split ! $ lft-new ! tt (λ ν₃-call. move ! (11 ∷ 13 ∷ []) $
+          await ! tt $ pick ! (λ δ₂-call. split ! $ lft-new ! tt (λ ν₃-call. bring ! (10 ∷ 11 ∷ []) $
           use2 W (later (some (λ (δ : GName). ‵ (MutSlice (named 3) (ν₃-call ∷ []) u8 .own (at-x-card δ (now x-card))
           (s-x-card ∷ [])) ⊛ ‵ (LentAgain u8 κ₂ (ν₃-call ∷ []) q₂ (x-card .name) (x-card .ptr .0) (x-card .ptr .1) δ
           (now x-card))))) (lends-again u8 κ₂ (ν₃-call ∷ []) q₂ (x-card .name) (x-card .ptr .0) (x-card .ptr .1) 𝓤 H A W
           (named 2) (named 3) (now x-card) (length (now x-card)) refl) $
-          await ! tt $ pick ! (λ δ₃-call. split ! $ move ! (12 ∷ []) $
+          await ! tt $ pick ! (λ δ₃-call. split ! $ bring ! (12 ∷ []) $
           use1 W (‵ (ShrRef (named 3) κ₃ (Array u32 8) .own x-limits (s-x-limits ∷ []))
           ⊛ ‵ (ShrRef (named 3) κ₃ (Array u32 8) .own x-limits (s-x-limits ∷ []))) (shr-copy 𝓤 H A W (named 3) κ₃
           (Array u32 8) .twice x-limits (s-x-limits ∷ [])) $
-          split ! $ move ! (13 ∷ 10 ∷ 7 ∷ 4 ∷ 14 ∷ 11 ∷ 8 ∷ 5 ∷ 2 ∷ 0 ∷ []) $ move ! (8 ∷ 9 ∷ []) $ join ! $
-          move ! (8 ∷ 0 ∷ []) $ join ! $ move ! (7 ∷ 0 ∷ []) $ join ! $ move ! (6 ∷ 0 ∷ []) $ join ! $
-          move ! (5 ∷ 0 ∷ []) $ join ! $ move ! (4 ∷ 0 ∷ []) $ join ! $ move ! (3 ∷ 0 ∷ []) $ join ! $
-          move ! (2 ∷ 0 ∷ []) $ join ! $ move ! (1 ∷ 0 ∷ []) $ join ! $
+          split ! $ bring ! (13 ∷ 10 ∷ 7 ∷ 4 ∷ 10 ∷ 8 ∷ 6 ∷ 4 ∷ 2 ∷ 0 ∷ []) $ group ! 10 $
           use1 W (raw ((call-contract 𝓤 H A call-ensures) .pre (to-call ν₀-call ν₁-call ν₂-call ν₃-call δ₀-call δ₁-call δ₂-call
           δ₃-call l₁₄))) (goes-call ν₀-call ν₁-call ν₂-call ν₃-call δ₀-call δ₁-call δ₂-call δ₃-call l₁₄) $
           calls-at ! (fmOf 𝓤 H (W .laws) 𝓣) (call-contract 𝓤 H A call-ensures) known-call
@@ -590,7 +580,7 @@ module _ (Shape Outcome Turn : Value) where
           (ensured 𝓤 H A call-ended (call-clauses 𝓤 call-ensures)
           (ν₀-call ∷ [], (ν₁-call ∷ [], (ν₂-call ∷ [], (ν₃-call ∷ [], (κ₃, tt))))) (call-args δ₀-call δ₁-call δ₂-call δ₃-call
           l₁₄) tt r)))) (id⊢ 𝓤 _) $
-          await ! tt $ pick ! (λ r-call. split ! $ move ! (1 ∷ []) $
+          await ! tt $ pick ! (λ r-call. split ! $ bring ! (1 ∷ []) $
           use1 W (some (λ (zs-call : Unit {0} × (Unit {0} × (List ℕ × (List ℕ × (List Entry
           × (List ℕ × (Unit {0} × (Unit {0} × (Unit {0} × (Unit {0} × (Unit {0} × (Unit {0} × Unit {0})))))))))))). ‵
           (lasts call-ended (ν₀-call ∷ [], (ν₁-call ∷ [], (ν₂-call ∷ [], (ν₃-call ∷ [], (κ₃, tt)))))
@@ -598,30 +588,24 @@ module _ (Shape Outcome Turn : Value) where
           (ν₀-call ∷ [], (ν₁-call ∷ [], (ν₂-call ∷ [], (ν₃-call ∷ [], (κ₃, tt))))) (call-args δ₀-call δ₁-call δ₂-call δ₃-call
           l₁₄) r-call (atExit call-ended (ν₀-call ∷ [], (ν₁-call ∷ [], (ν₂-call ∷ [], (ν₃-call ∷ [], (κ₃, tt)))))
           (call-args δ₀-call δ₁-call δ₂-call δ₃-call l₁₄) zs-call)))) (id⊢ 𝓤 _) $
-          pick ! (λ zs-call. split ! $ move ! (1 ∷ []) $ drop ! $ fsplit ! $ move ! (1 ∷ []) $ fsplit ! $
-          move ! (1 ∷ []) $ fsplit ! $ move ! (1 ∷ []) $ fsplit ! $ move ! (1 ∷ []) $ fsplit ! $ move ! (1 ∷ []) $
-          fsplit ! $ move ! (1 ∷ []) $ fsplit ! $ move ! (1 ∷ []) $ fsplit ! $ move ! (1 ∷ []) $ fsplit ! $
-          move ! (1 ∷ []) $ fsplit ! $ move ! (1 ∷ []) $ fsplit ! $ move ! (1 ∷ []) $ fsplit ! $ move ! (1 ∷ []) $
-          drop ! $ move ! (11 ∷ []) $ drop ! $ move ! (10 ∷ []) $ drop ! $ move ! (9 ∷ []) $ fsplit ! $
-          move ! (1 ∷ []) $ feqL ! (λ h-call-x-map. move ! (9 ∷ []) $ fsplit ! $ move ! (1 ∷ []) $
-          feqL ! (λ h-call-x-summary. move ! (9 ∷ []) $ fsplit ! $ move ! (1 ∷ []) $ feqL ! (λ h-call-x-all.
-          move ! (9 ∷ []) $ fsplit ! $ move ! (1 ∷ []) $ feqL ! (λ h-call-x-card. move ! (9 ∷ []) $ drop ! $
-          move ! (8 ∷ []) $ drop ! $ move ! (7 ∷ []) $ drop ! $ move ! (6 ∷ []) $ drop ! $ move ! (5 ∷ []) $ drop ! $
-          move ! (4 ∷ []) $ drop ! $ move ! (4 ∷ []) $ split ! $ move ! (1 ∷ []) $
+          pick ! (λ zs-call. split ! $ discard ! (1 ∷ []) $
+          fparts W (_ ∷ _ ∷ _ ∷ _ ∷ _ ∷ _ ∷ _ ∷ _ ∷ _ ∷ _ ∷ _ ∷ _ ∷ []) _ $
+          discard ! (0 ∷ 0 ∷ 4 ∷ 4 ∷ 4 ∷ 4 ∷ 4 ∷ 4 ∷ []) $ fsplit ! $ bring ! (1 ∷ []) $ feqL ! (λ h-call-x-map.
+          bring ! (1 ∷ []) $ fsplit ! $ bring ! (1 ∷ []) $ feqL ! (λ h-call-x-summary. bring ! (2 ∷ []) $ fsplit ! $
+          bring ! (1 ∷ []) $ feqL ! (λ h-call-x-all. bring ! (3 ∷ []) $ fsplit ! $ bring ! (1 ∷ []) $
+          feqL ! (λ h-call-x-card. bring ! (4 ∷ []) $ split ! $ bring ! (1 ∷ []) $
           peeks ! (rowOf Outcome) (Is (rowOf Outcome)) (shows 𝓤 H A (rowOf Outcome)) r-call (w-call ∷ []) (λ is-w-call.
-          land ! (from ! (stop !)) (init ! 29 refl ((Outcome .typed 𝓤 H A W) r-call _ is-w-call .0)) $ drop ! $
-          split ! $ move ! (1 ∷ []) $ split ! $ move ! (1 ∷ []) $ split ! $ move ! (1 ∷ []) $ split ! $
-          move ! (1 ∷ []) $ split ! $ move ! (1 ∷ []) $ drop ! $ move ! (4 ∷ []) $ lft-end ! tt $
-          move ! (0 ∷ 13 ∷ 8 ∷ []) $
+          land ! (from ! (stop !)) (init ! 29 refl ((Outcome .typed 𝓤 H A W) r-call _ is-w-call .0)) $
+          discard ! (0 ∷ []) $ parts W (_ ∷ _ ∷ _ ∷ _ ∷ _ ∷ []) _ $ lft-end ! tt $ bring ! (0 ∷ 12 ∷ 7 ∷ []) $
           use3 W (later (‵ (MutSlice (named 0) κ₀ u64 .own (at-x-map (x-map .name) (zs-call .1 .1 .0)) (s-x-map ∷ []))
           ⊛ ‵ (flft κ₀ q₀))) (comes-back u64 κ₀ (ν₀-call ∷ []) q₀ (x-map .name) (x-map .ptr .0) (x-map .ptr .1) 𝓤 H A W
           (named 0) (named 0) (now x-map) (length (now x-map)) refl room-x-map δ₀-call (zs-call .1 .1 .0) h-call-x-map) $
-          await ! tt $ split ! $ move ! (5 ∷ []) $ lft-end ! tt $ move ! (0 ∷ 12 ∷ 8 ∷ []) $
+          await ! tt $ split ! $ bring ! (2 ∷ []) $ lft-end ! tt $ bring ! (0 ∷ 11 ∷ 7 ∷ []) $
           use3 W (later (‵ (MutSlice (named 1) κ₁ u32 .own (at-x-summary (x-summary .name) (zs-call .1 .1 .1 .0))
           (s-x-summary ∷ [])) ⊛ ‵ (flft κ₁ q₁))) (comes-back u32 κ₁ (ν₁-call ∷ []) q₁ (x-summary .name) (x-summary .ptr .0)
           (x-summary .ptr .1) 𝓤 H A W (named 1) (named 1) (now x-summary) (length (now x-summary)) refl room-x-summary δ₁-call
           (zs-call .1 .1 .1 .0) h-call-x-summary) $
-          await ! tt $ split ! $ move ! (6 ∷ []) $ lft-end ! tt $ move ! (0 ∷ 11 ∷ 8 ∷ []) $
+          await ! tt $ split ! $ bring ! (4 ∷ []) $ lft-end ! tt $ bring ! (0 ∷ 10 ∷ 7 ∷ []) $
           use3 W (later (given (Is (Array Entry′.the-row 1025) ((zs-call .1 .1 .1 .1 .0) ++ drop-list x-c x-entries)
           ((array-vals (struct.vals Entry′.the-type Entry″.the-laws)) ((zs-call .1 .1 .1 .1 .0) ++ drop-list x-c x-entries)))
           (‵ (fat fullShare (tyArray Entry″.mir 1025) l₁₄ 0 (only ((array-vals (struct.vals Entry′.the-type Entry″.the-laws))
@@ -629,7 +613,7 @@ module _ (Shape Outcome Turn : Value) where
           x-entries l₁₄ (struct.vals Entry′.the-type Entry″.the-laws) (struct.tells Entry′.the-type Entry″.the-laws) tt 𝓤 H A W
           (struct.makes Entry′.the-type Entry″.the-plain 𝓤 H A) is-x-entries (x-all-room) asked δ₂-call (zs-call .1 .1 .1 .1 .0)
           h-call-x-all) $
-          await ! tt $ learn ! (λ is-now-x-all. move ! (6 ∷ []) $ lft-end ! tt $ move ! (0 ∷ 9 ∷ 7 ∷ []) $
+          await ! tt $ learn ! (λ is-now-x-all. bring ! (5 ∷ []) $ lft-end ! tt $ bring ! (0 ∷ 8 ∷ 6 ∷ []) $
           use3 W (later (‵ (MutSlice (named 2) κ₂ u8 .own (at-x-card (x-card .name) (zs-call .1 .1 .1 .1 .1 .0))
           (s-x-card ∷ [])) ⊛ ‵ (flft κ₂ q₂))) (comes-back u8 κ₂ (ν₃-call ∷ []) q₂ (x-card .name) (x-card .ptr .0)
           (x-card .ptr .1) 𝓤 H A W (named 2) (named 3) (now x-card) (length (now x-card)) refl room-x-card δ₃-call
@@ -649,24 +633,24 @@ module _ (Shape Outcome Turn : Value) where
           use1 W (later (some (λ (r : (denotes Turn)). ((‵ ftrue) ⊛ ‵ ((rowOf Turn) .own r (w-turn-of ∷ [])))
           ⊛ raw (ensured 𝓤 H A turn-of-ended (turn-of-clauses 𝓤 turn-of-ensures) tt (turn-of-args r-call w-call
           ((zs-call .1 .1 .1 .1 .0) ++ drop-list x-c x-entries)) tt r)))) (id⊢ 𝓤 _) $
-          await ! tt $ pick ! (λ r-turn-of. split ! $ move ! (1 ∷ []) $
+          await ! tt $ pick ! (λ r-turn-of. split ! $ bring ! (1 ∷ []) $
           use1 W (some (λ (zs-turn-of : Unit {0} × (Unit {0} × Unit {0})). ‵ (lasts turn-of-ended tt
           (turn-of-args r-call w-call ((zs-call .1 .1 .1 .1 .0) ++ drop-list x-c x-entries)) zs-turn-of)
           ⊛ raw (turn-of-ensures tt (turn-of-args r-call w-call ((zs-call .1 .1 .1 .1 .0) ++ drop-list x-c x-entries)) r-turn-of
           (atExit turn-of-ended tt (turn-of-args r-call w-call ((zs-call .1 .1 .1 .1 .0) ++ drop-list x-c x-entries))
           zs-turn-of)))) (id⊢ 𝓤 _) $
-          pick ! (λ zs-turn-of. split ! $ move ! (1 ∷ []) $ drop ! $ fsplit ! $ move ! (1 ∷ []) $ fsplit ! $
-          move ! (1 ∷ []) $ drop ! $ move ! (1 ∷ []) $ drop ! $ drop ! $ split ! $ move ! (1 ∷ []) $
+          pick ! (λ zs-turn-of. split ! $ discard ! (1 ∷ []) $ fparts W (_ ∷ _ ∷ []) _ $ discard ! (0 ∷ 0 ∷ []) $
+          split ! $ bring ! (1 ∷ []) $
           peeks ! (rowOf Turn) (Is (rowOf Turn)) (shows 𝓤 H A (rowOf Turn)) r-turn-of (w-turn-of ∷ []) (λ is-w-turn-of.
-          land ! (from ! (stop !)) (init ! 58 refl ((Turn .typed 𝓤 H A W) r-turn-of _ is-w-turn-of .0)) $ drop ! $
-          drop ! $ returns ! (look ! 56 refl) $ move ! (2 ∷ 29 ∷ []) $ leave ! 56 refl refl $ leave ! 54 refl refl $
-          leave ! 52 refl refl $ leave ! 50 refl refl $ leave ! 48 refl refl $ leave ! 46 refl refl $
-          leave ! 44 refl refl $ leave ! 42 refl refl $ leave ! 40 refl refl $ leave ! 38 refl refl $
-          leave ! 36 refl refl $ leave ! 34 refl refl $ leave ! 32 refl refl $ leave ! 30 refl refl $
-          leave ! 0 refl refl $ leave ! 26 refl refl $ leave ! 24 refl refl $ leave ! 22 refl refl $
-          leave ! 20 refl refl $ leave ! 18 refl refl $ leave ! 16 refl refl $ leave ! 14 refl refl $
-          leave ! 12 refl refl $ leave ! 10 refl refl $ leave ! 8 refl refl $ free0 ! $
-          move ! (4 ∷ 5 ∷ 2 ∷ 3 ∷ 0 ∷ 1 ∷ 7 ∷ 6 ∷ []) $
+          land ! (from ! (stop !)) (init ! 58 refl ((Turn .typed 𝓤 H A W) r-turn-of _ is-w-turn-of .0)) $
+          discard ! (0 ∷ []) $ parts W ([]) _ $ returns ! (look ! 56 refl) $ bring ! (2 ∷ 28 ∷ []) $
+          leave ! 56 refl refl $ leave ! 54 refl refl $ leave ! 52 refl refl $ leave ! 50 refl refl $
+          leave ! 48 refl refl $ leave ! 46 refl refl $ leave ! 44 refl refl $ leave ! 42 refl refl $
+          leave ! 40 refl refl $ leave ! 38 refl refl $ leave ! 36 refl refl $ leave ! 34 refl refl $
+          leave ! 32 refl refl $ leave ! 30 refl refl $ leave ! 0 refl refl $ leave ! 26 refl refl $
+          leave ! 24 refl refl $ leave ! 22 refl refl $ leave ! 20 refl refl $ leave ! 18 refl refl $
+          leave ! 16 refl refl $ leave ! 14 refl refl $ leave ! 12 refl refl $ leave ! 10 refl refl $
+          leave ! 8 refl refl $ free0 ! $ bring ! (4 ∷ 4 ∷ 2 ∷ 2 ∷ 0 ∷ 0 ∷ 1 ∷ 0 ∷ []) $
           by ! (exits r-turn-of w-turn-of (zs-call .1 .1 .0) (zs-call .1 .1 .1 .0) (zs-call .1 .1 .1 .1 .1 .0) is-w-turn-of
           h-call-x-map h-call-x-summary h-call-x-card)))))))))))))))))))))))))))))))))))))))))))))))
 

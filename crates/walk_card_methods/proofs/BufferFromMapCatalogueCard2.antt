@@ -20,8 +20,8 @@ use base.Fml.{Lft, Share, GName, ftrue, flft, fat}
 use prog.Wp.{Heap, WpFn, Tables}
 use ghost.Atoms.{Atoms}
 use contract.Monad.{fact}
-use types.Kit.{Given, ‵, raw, some, later, _⊛_, ⋆, _$_, _∵_, !, qed, by, move, drop, use1, use2, use3, split, join, pick}
-use types.Kit.{rewrite, fsplit, fjoin, feqL, suffices, frame, await, done}
+use types.Kit.{Given, ‵, raw, some, later, _⊛_, ⋆, _$_, _∵_, !, qed, by, use1, use2, use3, group, split, join, pick, rewrite}
+use types.Kit.{fsplit, fjoin, feqL, suffices, frame, await, done}
 use types.Run.{look, init, stop, hop, fld, from, load, addr, and-then, no-more, assigns, land, returns, enter, alloc1, alloc0}
 use types.Run.{params1, pass1, pass0, free0}
 use types.Part.{agg, whole, sub, look-in}
@@ -48,7 +48,7 @@ use denote.Exit.{yes}
 use Rattle.catalogue.proofs.Values.{Value, denotes, rowOf, mirOf, valsOf}
 use Rattle.catalogue.specs.declared.Entry.{Entry}
 use Rattle.catalogue.proofs.Entry as Entry′
-use Rattle.catalogue.proofs.Steps.{leave}
+use Rattle.catalogue.proofs.Steps.{bring, discard, parts, fparts, leave}
 use Rattle.catalogue.proofs.Lending.{LentAgain, lends-again, comes-back}
 
 module _ (Slot Shape Outcome : Value) where
@@ -286,9 +286,9 @@ module _ (Slot Shape Outcome : Value) where
           (s-x-catalogue ∷ [])) ∷ [])) ((find-contract find-out 𝓤 H A) .pre (to-find))
       goes-find =
           qed W (‵ (flft κ₁ q₁) ∷ ‵ (ShrSlice (named 0) κ₁ Entry′.the-row .own x-catalogue (s-x-catalogue ∷ [])) ∷ []) ∵
-          nothing ! $ move ! (1 ∷ 0 ∷ []) $ join ! $ nothing ! $
-          owned ! u32 (Is u32) (uint-makes 𝓤 H A W w32) x-sheet _ is-x-sheet $ fjoin ! $ move ! (2 ∷ 0 ∷ []) $
-          fjoin ! $ move ! (1 ∷ 0 ∷ []) $ join ! $ frame ! $ done !
+          nothing ! $ bring ! (1 ∷ 0 ∷ []) $ group ! 2 $ nothing ! $
+          owned ! u32 (Is u32) (uint-makes 𝓤 H A W w32) x-sheet _ is-x-sheet $ fjoin ! $ bring ! (2 ∷ 0 ∷ []) $
+          fjoin ! $ bring ! (1 ∷ 0 ∷ []) $ join ! $ frame ! $ done !
 
       -- ---- the caller has what `core` asks
       abbrev core-args : (δ₀-core : GName) → (denotes Shape) × (RefT (List ℕ) × (RefT (List ℕ)
@@ -319,14 +319,13 @@ module _ (Slot Shape Outcome : Value) where
           qed W (‵ (flft κ₀ q₀) ∷ ‵ (flft κ₂ q₂) ∷ ‵ (flft (ν₀-core ∷ []) fullShare) ∷ ‵
           (ShrSlice (named 0) κ₀ u64 .own x-map (s-x-map ∷ [])) ∷ ‵ (ShrSlice (named 1) κ₂ u8 .own x-card (s-x-card ∷ []))
           ∷ ‵ (MutSlice (named 2) (ν₀-core ∷ []) u8 .own (at-x-buffer δ₀-core (now x-buffer)) (s-x-buffer ∷ [])) ∷ []) ∵
-          nothing ! $ move ! (3 ∷ 0 ∷ []) $ join ! $ move ! (2 ∷ 0 ∷ []) $ join ! $ move ! (1 ∷ 0 ∷ []) $ join ! $
-          nothing ! $ move ! (4 ∷ 0 ∷ []) $ fjoin ! $
+          nothing ! $ bring ! (1 ∷ 1 ∷ 1 ∷ 0 ∷ []) $ group ! 4 $ nothing ! $ bring ! (4 ∷ 0 ∷ []) $ fjoin ! $
           owned ! u32 (Is u32) (uint-makes 𝓤 H A W w32) x-place _ is-x-place $ fjoin ! $
           owned ! u32 (Is u32) (uint-makes 𝓤 H A W w32) x-sheet _ is-x-sheet $ fjoin ! $
           owned ! (rowOf Slot) (Is (rowOf Slot)) (Slot .makes 𝓤 H A) v-slot _ is-v-slot $ fjoin ! $
-          move ! (3 ∷ 0 ∷ []) $ fjoin ! $ move ! (2 ∷ 0 ∷ []) $ fjoin ! $
+          bring ! (3 ∷ 0 ∷ []) $ fjoin ! $ bring ! (2 ∷ 0 ∷ []) $ fjoin ! $
           owned ! (rowOf Shape) (Is (rowOf Shape)) (Shape .makes 𝓤 H A) x-self _ is-x-self $ fjoin ! $
-          move ! (1 ∷ 0 ∷ []) $ join ! $ frame ! $ done !
+          bring ! (1 ∷ 0 ∷ []) $ join ! $ frame ! $ done !
 
       -- ---- the exit
       exits : Is (rowOf Outcome) v-result (m-v-result ∷ []) → length z-core-x-buffer ≡ length (now x-buffer)
@@ -343,13 +342,12 @@ module _ (Slot Shape Outcome : Value) where
           ∷ []) ∵
           suffices ! _ (ends-at 𝓤 H A ended stayed (clauses 𝓤) W bound m-v-result v-result
           (tt, (tt, (tt, (tt, (tt, (tt, (z-core-x-buffer, tt))))))) (tt, (tt, (tt, (tt, (tt, (tt, (l-x-buffer, tt)))))))) $
-          says ! (refl, refl) $ nothing ! $ move ! (8 ∷ 0 ∷ []) $ join ! $ move ! (6 ∷ 0 ∷ []) $ join ! $
-          move ! (4 ∷ 0 ∷ []) $ join ! $ move ! (2 ∷ 0 ∷ []) $ join ! $ frame ! $ nothing ! $ move ! (4 ∷ 0 ∷ []) $
-          fjoin ! $ owned ! u32 (Is u32) (uint-makes 𝓤 H A W w32) x-place _ is-x-place $ fjoin ! $
-          owned ! u32 (Is u32) (uint-makes 𝓤 H A W w32) x-sheet _ is-x-sheet $ fjoin ! $ move ! (3 ∷ 0 ∷ []) $
-          fjoin ! $ move ! (2 ∷ 0 ∷ []) $ fjoin ! $ move ! (1 ∷ 0 ∷ []) $ fjoin ! $
+          says ! (refl, refl) $ nothing ! $ bring ! (2 ∷ 3 ∷ 4 ∷ 5 ∷ 0 ∷ []) $ group ! 5 $ frame ! $ nothing ! $
+          bring ! (4 ∷ 0 ∷ []) $ fjoin ! $ owned ! u32 (Is u32) (uint-makes 𝓤 H A W w32) x-place _ is-x-place $
+          fjoin ! $ owned ! u32 (Is u32) (uint-makes 𝓤 H A W w32) x-sheet _ is-x-sheet $ fjoin ! $
+          bring ! (3 ∷ 0 ∷ []) $ fjoin ! $ bring ! (2 ∷ 0 ∷ []) $ fjoin ! $ bring ! (1 ∷ 0 ∷ []) $ fjoin ! $
           owned ! (rowOf Shape) (Is (rowOf Shape)) (Shape .makes 𝓤 H A) x-self _ is-x-self $ fjoin ! $
-          owned ! (rowOf Outcome) (Is (rowOf Outcome)) (Outcome .makes 𝓤 H A) v-result _ is $ move ! (1 ∷ 0 ∷ []) $
+          owned ! (rowOf Outcome) (Is (rowOf Outcome)) (Outcome .makes 𝓤 H A) v-result _ is $ bring ! (1 ∷ 0 ∷ []) $
           done !
 
       -- ---- the walk
@@ -371,55 +369,50 @@ module _ (Slot Shape Outcome : Value) where
           pass1 ! (init ! 14 refl (tt, (tt, (record { fits = room-x-catalogue .0 }, tt)))) $
           pass1 ! (init ! 12 refl (tt, (tt, (record { fits = room-x-card .0 }, tt)))) $
           pass1 ! (init ! 10 refl typed-x-sheet) $ pass1 ! (init ! 8 refl typed-x-place) $
-          pass1 ! (init ! 6 refl (tt, (tt, (record { fits = room-x-buffer .0 }, tt)))) $ pass0 ! $ move ! (22 ∷ []) $
-          split ! $ move ! (1 ∷ []) $ split ! $ move ! (1 ∷ []) $ split ! $ move ! (1 ∷ []) $ split ! $
-          move ! (1 ∷ []) $ drop ! $ move ! (26 ∷ []) $ fsplit ! $ move ! (1 ∷ []) $ fsplit ! $ move ! (1 ∷ []) $
-          fsplit ! $ move ! (1 ∷ []) $ fsplit ! $ move ! (1 ∷ []) $ fsplit ! $ move ! (1 ∷ []) $ fsplit ! $
-          move ! (1 ∷ []) $ fsplit ! $ move ! (1 ∷ []) $ drop ! $ move ! (6 ∷ []) $ drop ! $ move ! (2 ∷ []) $ drop ! $
-          move ! (1 ∷ []) $ drop ! $
+          pass1 ! (init ! 6 refl (tt, (tt, (record { fits = room-x-buffer .0 }, tt)))) $ pass0 ! $ bring ! (22 ∷ []) $
+          parts W (_ ∷ _ ∷ _ ∷ _ ∷ []) _ $ bring ! (26 ∷ []) $ fparts W (_ ∷ _ ∷ _ ∷ _ ∷ _ ∷ _ ∷ _ ∷ []) _ $
+          discard ! (0 ∷ 3 ∷ 3 ∷ []) $
           -- find
-          move ! (2 ∷ []) $
+          bring ! (1 ∷ []) $
           use1 W (‵ (ShrSlice (named 1) κ₁ Entry′.the-row .own x-catalogue (s-x-catalogue ∷ []))
           ⊛ ‵ (ShrSlice (named 1) κ₁ Entry′.the-row .own x-catalogue (s-x-catalogue ∷ [])))
           (shr-slice-copy 𝓤 H A W (named 1) κ₁ Entry′.the-row .twice x-catalogue (s-x-catalogue ∷ [])) $
-          split ! $ move ! (7 ∷ 0 ∷ []) $ join ! $
+          split ! $ bring ! (6 ∷ 0 ∷ []) $ group ! 2 $
           use1 W (raw ((find-contract find-out 𝓤 H A) .pre (to-find))) (goes-find) $
           calls-at ! (fmOf 𝓤 H (W .laws) 𝓣) (find-contract find-out 𝓤 H A) known-find (to-find)
           (and-then ! (load ! (from ! (stop !)) (look ! 22 refl)) (and-then ! (load ! (from ! (stop !)) (look ! 18 refl))
           (no-more !))) (λ w-find.
           use1 W (later (some (λ (r : (denotes Slot)). ((‵ (flft κ₁ q₁) ⊛ ‵ ftrue) ⊛ ‵ ((rowOf Slot) .own r (w-find ∷ [])))
           ⊛ raw (ensured 𝓤 H A find-ended (find-clauses find-out 𝓤) (κ₁, tt) (find-args) tt r)))) (id⊢ 𝓤 _) $
-          await ! tt $ pick ! (λ r-find. split ! $ move ! (1 ∷ []) $
+          await ! tt $ pick ! (λ r-find. split ! $ bring ! (1 ∷ []) $
           use1 W (some (λ (zs-find : Unit {0} × (Unit {0} × Unit {0})). ‵ (lasts find-ended (κ₁, tt) (find-args) zs-find)
           ⊛ raw (fact 𝓤 (find-says find-out (now x-catalogue) x-sheet r-find)))) (id⊢ 𝓤 _) $
-          pick ! (λ zs-find. split ! $ move ! (1 ∷ []) $
-          heard ! (find-says find-out (now x-catalogue) x-sheet r-find) (λ e-find. fsplit ! $ move ! (1 ∷ []) $
-          fsplit ! $ move ! (1 ∷ []) $ drop ! $ move ! (1 ∷ []) $ drop ! $ drop ! $ split ! $ move ! (1 ∷ []) $
+          pick ! (λ zs-find. split ! $ bring ! (1 ∷ []) $
+          heard ! (find-says find-out (now x-catalogue) x-sheet r-find) (λ e-find. fparts W (_ ∷ _ ∷ []) _ $
+          discard ! (0 ∷ 0 ∷ []) $ split ! $ bring ! (1 ∷ []) $
           rewrite ! 0 (λ (r : (denotes Slot)). ‵ ((rowOf Slot) .own r (w-find ∷ []))) (e-find) refl $
           peeks ! (rowOf Slot) (Is (rowOf Slot)) (shows 𝓤 H A (rowOf Slot)) v-slot (w-find ∷ []) (λ is-w-find.
           land ! (from ! (stop !)) (init ! 13 refl ((Slot .typed 𝓤 H A W) v-slot _ is-w-find .0)) $
           rewrite ! 13 (λ (u : Val). ‵ (fat fullShare (mirOf Slot) l₈ 0 u)) (ap only ((Slot .tells) v-slot _ is-w-find)) refl $
-          drop ! $ split ! $ move ! (1 ∷ []) $ drop ! $
+          discard ! (0 ∷ []) $ parts W (_ ∷ []) _ $
           -- core
           assigns ! (addr ! (from ! (fld ! refl (hop ! (look-in ! 14 (sub ! 0 refl (whole !))) (stop !))))) (from ! (stop !))
           (init ! 10 refl (tt, tt)) $
           assigns ! (agg ! (and-then ! (load ! (from ! (stop !)) (look ! 10 refl)) (and-then !
           (load ! (from ! (fld ! refl (stop !))) (look-in ! 14 (sub ! 1 refl (whole !)))) (no-more !)))) (from ! (stop !))
           (init ! 8 refl (tt, (tt, (record { fits = room-x-buffer .0 }, tt)))) $
-          move ! (4 ∷ []) $
+          bring ! (2 ∷ []) $
           use1 W (‵ (ShrSlice (named 0) κ₀ u64 .own x-map (s-x-map ∷ [])) ⊛ ‵ (ShrSlice (named 0) κ₀ u64 .own x-map
           (s-x-map ∷ []))) (shr-slice-copy 𝓤 H A W (named 0) κ₀ u64 .twice x-map (s-x-map ∷ [])) $
-          split ! $ move ! (5 ∷ []) $
+          split ! $ bring ! (4 ∷ []) $
           use1 W (‵ (ShrSlice (named 2) κ₂ u8 .own x-card (s-x-card ∷ [])) ⊛ ‵ (ShrSlice (named 2) κ₂ u8 .own x-card
           (s-x-card ∷ []))) (shr-slice-copy 𝓤 H A W (named 2) κ₂ u8 .twice x-card (s-x-card ∷ [])) $
-          split ! $ lft-new ! tt (λ ν₀-core. move ! (7 ∷ 8 ∷ []) $
+          split ! $ lft-new ! tt (λ ν₀-core. bring ! (7 ∷ 9 ∷ []) $
           use2 W (later (some (λ (δ : GName). ‵ (MutSlice (named 2) (ν₀-core ∷ []) u8 .own (at-x-buffer δ (now x-buffer))
           (s-x-buffer ∷ [])) ⊛ ‵ (LentAgain u8 κ₃ (ν₀-core ∷ []) q₃ (x-buffer .name) (x-buffer .ptr .0) (x-buffer .ptr .1) δ
           (now x-buffer))))) (lends-again u8 κ₃ (ν₀-core ∷ []) q₃ (x-buffer .name) (x-buffer .ptr .0) (x-buffer .ptr .1) 𝓤 H A W
           (named 3) (named 2) (now x-buffer) (length (now x-buffer)) refl) $
-          await ! tt $ pick ! (λ δ₀-core. split ! $ move ! (10 ∷ 9 ∷ 2 ∷ 5 ∷ 3 ∷ 0 ∷ []) $ move ! (4 ∷ 5 ∷ []) $
-          join ! $ move ! (4 ∷ 0 ∷ []) $ join ! $ move ! (3 ∷ 0 ∷ []) $ join ! $ move ! (2 ∷ 0 ∷ []) $ join ! $
-          move ! (1 ∷ 0 ∷ []) $ join ! $
+          await ! tt $ pick ! (λ δ₀-core. split ! $ bring ! (9 ∷ 9 ∷ 2 ∷ 4 ∷ 2 ∷ 0 ∷ []) $ group ! 6 $
           use1 W (raw ((core-contract core-out core-x-buffer 𝓤 H A) .pre (to-core ν₀-core δ₀-core)))
           (goes-core ν₀-core δ₀-core (spelled-v-slot w-find is-w-find)) $
           calls-at ! (fmOf 𝓤 H (W .laws) 𝓣) (core-contract core-out core-x-buffer 𝓤 H A) known-core (to-core ν₀-core δ₀-core)
@@ -430,27 +423,24 @@ module _ (Slot Shape Outcome : Value) where
           use1 W (later (some (λ (r : (denotes Outcome)). ((‵ (flft κ₀ q₀) ⊛ ‵ (flft κ₂ q₂) ⊛ ‵ (flft (ν₀-core ∷ []) fullShare)
           ⊛ ‵ ftrue) ⊛ ‵ ((rowOf Outcome) .own r (w-core ∷ []))) ⊛ raw (ensured 𝓤 H A core-ended
           (core-clauses core-out core-x-buffer 𝓤) (κ₀, (κ₂, (ν₀-core ∷ [], tt))) (core-args δ₀-core) tt r)))) (id⊢ 𝓤 _) $
-          await ! tt $ pick ! (λ r-core. split ! $ move ! (1 ∷ []) $
+          await ! tt $ pick ! (λ r-core. split ! $ bring ! (1 ∷ []) $
           use1 W (some (λ (zs-core : Unit {0} × (Unit {0} × (Unit {0} × (Unit {0} × (Unit {0}
           × (Unit {0} × (List ℕ × Unit {0}))))))). ‵ (lasts core-ended (κ₀, (κ₂, (ν₀-core ∷ [], tt))) (core-args δ₀-core)
           zs-core) ⊛ raw (fact 𝓤 (core-says core-out core-x-buffer x-self (now x-map) (now x-card) v-slot x-sheet x-place
           (now x-buffer) r-core (zs-core .1 .1 .1 .1 .1 .1 .0))))) (id⊢ 𝓤 _) $
-          pick ! (λ zs-core. split ! $ move ! (1 ∷ []) $
+          pick ! (λ zs-core. split ! $ bring ! (1 ∷ []) $
           heard ! (core-says core-out core-x-buffer x-self (now x-map) (now x-card) v-slot x-sheet x-place (now x-buffer) r-core
           (zs-core .1 .1 .1 .1 .1 .1 .0)) (λ e-core.
-          fsplit ! $ move ! (1 ∷ []) $ fsplit ! $ move ! (1 ∷ []) $ fsplit ! $ move ! (1 ∷ []) $ fsplit ! $
-          move ! (1 ∷ []) $ fsplit ! $ move ! (1 ∷ []) $ fsplit ! $ move ! (1 ∷ []) $ fsplit ! $ move ! (1 ∷ []) $
-          drop ! $ move ! (6 ∷ []) $ drop ! $ move ! (5 ∷ []) $ drop ! $ move ! (4 ∷ []) $ drop ! $ move ! (3 ∷ []) $
-          drop ! $ move ! (2 ∷ []) $ drop ! $ move ! (1 ∷ []) $ drop ! $ fsplit ! $ move ! (1 ∷ []) $
-          feqL ! (λ h-core-x-buffer. move ! (1 ∷ []) $ split ! $ move ! (1 ∷ []) $
+          fparts W (_ ∷ _ ∷ _ ∷ _ ∷ _ ∷ _ ∷ _ ∷ []) _ $ discard ! (0 ∷ 0 ∷ 0 ∷ 0 ∷ 0 ∷ 0 ∷ []) $ fsplit ! $
+          bring ! (1 ∷ []) $ feqL ! (λ h-core-x-buffer. bring ! (1 ∷ []) $ split ! $ bring ! (1 ∷ []) $
           rewrite ! 0 (λ (r : (denotes Outcome)). ‵ ((rowOf Outcome) .own r (w-core ∷ []))) (e-core .0) refl $
           rewrite ! 2 (λ (l : List ℕ). ‵ (finally u8 δ₀-core l)) (e-core .1) refl $
           peeks ! (rowOf Outcome) (Is (rowOf Outcome)) (shows 𝓤 H A (rowOf Outcome)) v-result (w-core ∷ []) (λ is-w-core.
           land ! (from ! (stop !)) (init ! 28 refl ((Outcome .typed 𝓤 H A W) v-result _ is-w-core .0)) $
           rewrite ! 28 (λ (u : Val). ‵ (fat fullShare (mirOf Outcome) l₀ 0 u)) (ap only ((Outcome .tells) v-result _ is-w-core))
           refl $
-          drop ! $ split ! $ move ! (1 ∷ []) $ split ! $ move ! (1 ∷ []) $ split ! $ move ! (1 ∷ []) $ drop ! $
-          lft-end ! tt $ move ! (0 ∷ 4 ∷ 3 ∷ []) $
+          discard ! (0 ∷ []) $ parts W (_ ∷ _ ∷ _ ∷ []) _ $ bring ! (2 ∷ []) $ lft-end ! tt $
+          bring ! (0 ∷ 3 ∷ 2 ∷ []) $
           use3 W (later (‵ (MutSlice (named 3) κ₃ u8 .own (at-x-buffer (x-buffer .name) z-core-x-buffer) (s-x-buffer ∷ []))
           ⊛ ‵ (flft κ₃ q₃))) (comes-back u8 κ₃ (ν₀-core ∷ []) q₃ (x-buffer .name) (x-buffer .ptr .0) (x-buffer .ptr .1) 𝓤 H A W
           (named 3) (named 2) (now x-buffer) (length (now x-buffer)) refl room-x-buffer δ₀-core z-core-x-buffer
@@ -458,7 +448,7 @@ module _ (Slot Shape Outcome : Value) where
           await ! tt $ split ! $ returns ! (look ! 28 refl) $ leave ! 28 refl refl $ leave ! 26 refl refl $
           leave ! 24 refl refl $ leave ! 22 refl refl $ leave ! 20 refl refl $ leave ! 18 refl refl $
           leave ! 16 refl refl $ leave ! 14 refl refl $ leave ! 12 refl refl $ leave ! 10 refl refl $
-          leave ! 8 refl refl $ free0 ! $ move ! (5 ∷ 3 ∷ 7 ∷ 6 ∷ 4 ∷ 2 ∷ 0 ∷ 1 ∷ []) $
+          leave ! 8 refl refl $ free0 ! $ bring ! (5 ∷ 2 ∷ 5 ∷ 4 ∷ 3 ∷ 2 ∷ 0 ∷ 0 ∷ []) $
           by ! (exits (spelled-v-result w-core is-w-core) (ap {B = ℕ} length (sym (e-core .1))
           ∙ h-core-x-buffer))))))))))))))))))))))))))
 

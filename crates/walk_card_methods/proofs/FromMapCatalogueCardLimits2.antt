@@ -20,8 +20,8 @@ use base.Fml.{Lft, Share, GName, ftrue, flft, fat}
 use prog.Wp.{Heap, WpFn, Tables}
 use ghost.Atoms.{Atoms}
 use contract.Monad.{fact}
-use types.Kit.{Given, ‵, raw, some, later, _⊛_, ⋆, _$_, _∵_, !, qed, by, move, drop, use1, split, join, pick, rewrite, fsplit}
-use types.Kit.{fjoin, suffices, frame, await, done}
+use types.Kit.{Given, ‵, raw, some, later, _⊛_, ⋆, _$_, _∵_, !, qed, by, use1, group, split, join, pick, rewrite, fjoin}
+use types.Kit.{suffices, frame, await, done}
 use types.Run.{look, init, stop, from, load, and-then, no-more, land, returns, enter, alloc1, alloc0, params1, pass1, pass0}
 use types.Run.{free0}
 use sound.WpLaws.{fmOf, WpFn-mono}
@@ -46,7 +46,7 @@ use denote.Exit.{yes}
 use Rattle.catalogue.proofs.Values.{Value, denotes, rowOf, mirOf, valsOf}
 use Rattle.catalogue.specs.declared.Entry.{Entry}
 use Rattle.catalogue.proofs.Entry as Entry′
-use Rattle.catalogue.proofs.Steps.{leave}
+use Rattle.catalogue.proofs.Steps.{bring, discard, parts, fparts, leave}
 
 module _ (Slot Shape Outcome : Value) where
   -- ---- the signature
@@ -317,9 +317,9 @@ module _ (Slot Shape Outcome : Value) where
           (s-x-catalogue ∷ [])) ∷ [])) ((find-contract find-out 𝓤 H A) .pre (to-find))
       goes-find =
           qed W (‵ (flft κ₁ q₁) ∷ ‵ (ShrSlice (named 0) κ₁ Entry′.the-row .own x-catalogue (s-x-catalogue ∷ [])) ∷ []) ∵
-          nothing ! $ move ! (1 ∷ 0 ∷ []) $ join ! $ nothing ! $
-          owned ! u32 (Is u32) (uint-makes 𝓤 H A W w32) x-sheet _ is-x-sheet $ fjoin ! $ move ! (2 ∷ 0 ∷ []) $
-          fjoin ! $ move ! (1 ∷ 0 ∷ []) $ join ! $ frame ! $ done !
+          nothing ! $ bring ! (1 ∷ 0 ∷ []) $ group ! 2 $ nothing ! $
+          owned ! u32 (Is u32) (uint-makes 𝓤 H A W w32) x-sheet _ is-x-sheet $ fjoin ! $ bring ! (2 ∷ 0 ∷ []) $
+          fjoin ! $ bring ! (1 ∷ 0 ∷ []) $ join ! $ frame ! $ done !
 
       -- ---- the caller has what `held-by` asks
       abbrev held-by-args : RefT (List Entry) × (ℕ × Unit {0})
@@ -332,9 +332,9 @@ module _ (Slot Shape Outcome : Value) where
           (s-x-catalogue ∷ [])) ∷ [])) ((held-by-contract held-by-out 𝓤 H A) .pre (to-held-by))
       goes-held-by =
           qed W (‵ (flft κ₁ q₁) ∷ ‵ (ShrSlice (named 0) κ₁ Entry′.the-row .own x-catalogue (s-x-catalogue ∷ [])) ∷ []) ∵
-          nothing ! $ move ! (1 ∷ 0 ∷ []) $ join ! $ nothing ! $
-          owned ! u32 (Is u32) (uint-makes 𝓤 H A W w32) x-sheet _ is-x-sheet $ fjoin ! $ move ! (2 ∷ 0 ∷ []) $
-          fjoin ! $ move ! (1 ∷ 0 ∷ []) $ join ! $ frame ! $ done !
+          nothing ! $ bring ! (1 ∷ 0 ∷ []) $ group ! 2 $ nothing ! $
+          owned ! u32 (Is u32) (uint-makes 𝓤 H A W w32) x-sheet _ is-x-sheet $ fjoin ! $ bring ! (2 ∷ 0 ∷ []) $
+          fjoin ! $ bring ! (1 ∷ 0 ∷ []) $ join ! $ frame ! $ done !
 
       -- ---- the caller has what `core` asks
       abbrev core-args : (denotes Shape) × (RefT (List ℕ) × (RefT (List ℕ) × (RefT (List ℕ)
@@ -368,14 +368,14 @@ module _ (Slot Shape Outcome : Value) where
           qed W (‵ (flft κ₀ q₀) ∷ ‵ (flft κ₂ q₂) ∷ ‵ (flft κ₃ q₃) ∷ ‵ (ShrSlice (named 0) κ₀ u64 .own x-map (s-x-map ∷ []))
           ∷ ‵ (ShrSlice (named 1) κ₂ u8 .own x-card (s-x-card ∷ [])) ∷ ‵ (ShrRef (named 2) κ₃ (Array u32 8) .own x-limits
           (s-x-limits ∷ [])) ∷ []) ∵
-          nothing ! $ move ! (3 ∷ 0 ∷ []) $ join ! $ move ! (2 ∷ 0 ∷ []) $ join ! $ move ! (1 ∷ 0 ∷ []) $ join ! $
-          nothing ! $ owned ! u32 (Is u32) (uint-makes 𝓤 H A W w32) x-k _ is-x-k $ fjoin ! $
+          nothing ! $ bring ! (1 ∷ 1 ∷ 1 ∷ 0 ∷ []) $ group ! 4 $ nothing ! $
+          owned ! u32 (Is u32) (uint-makes 𝓤 H A W w32) x-k _ is-x-k $ fjoin ! $
           owned ! u32 (Is u32) (uint-makes 𝓤 H A W w32) x-sheet _ is-x-sheet $ fjoin ! $
           owned ! u64 (Is u64) (uint-makes 𝓤 H A W w64) v-held _ is-v-held $ fjoin ! $
           owned ! (rowOf Slot) (Is (rowOf Slot)) (Slot .makes 𝓤 H A) v-slot _ is-v-slot $ fjoin ! $
-          move ! (4 ∷ 0 ∷ []) $ fjoin ! $ move ! (3 ∷ 0 ∷ []) $ fjoin ! $ move ! (2 ∷ 0 ∷ []) $ fjoin ! $
+          bring ! (4 ∷ 0 ∷ []) $ fjoin ! $ bring ! (3 ∷ 0 ∷ []) $ fjoin ! $ bring ! (2 ∷ 0 ∷ []) $ fjoin ! $
           owned ! (rowOf Shape) (Is (rowOf Shape)) (Shape .makes 𝓤 H A) x-self _ is-x-self $ fjoin ! $
-          move ! (1 ∷ 0 ∷ []) $ join ! $ frame ! $ done !
+          bring ! (1 ∷ 0 ∷ []) $ join ! $ frame ! $ done !
 
       -- ---- the exit
       exits : Is (rowOf Outcome) v-result (m-v-result ∷ []) → ent 𝓤 (⋆ 𝓤 H A (‵ (ShrSlice (named 0) κ₀ u64 .own x-map
@@ -389,13 +389,12 @@ module _ (Slot Shape Outcome : Value) where
           (ShrRef (named 3) κ₃ (Array u32 8) .own x-limits (s-x-limits ∷ [])) ∷ ‵ (flft κ₃ q₃) ∷ []) ∵
           suffices ! _ (ends-at 𝓤 H A ended stayed (clauses 𝓤) W bound m-v-result v-result
           (tt, (tt, (tt, (tt, (tt, (tt, (tt, tt))))))) (tt, (tt, (tt, (tt, (tt, (tt, (tt, tt)))))))) $
-          says ! refl $ nothing ! $ move ! (8 ∷ 0 ∷ []) $ join ! $ move ! (6 ∷ 0 ∷ []) $ join ! $ move ! (4 ∷ 0 ∷ []) $
-          join ! $ move ! (2 ∷ 0 ∷ []) $ join ! $ frame ! $ nothing ! $
+          says ! refl $ nothing ! $ bring ! (2 ∷ 3 ∷ 4 ∷ 5 ∷ 0 ∷ []) $ group ! 5 $ frame ! $ nothing ! $
           owned ! u32 (Is u32) (uint-makes 𝓤 H A W w32) x-k _ is-x-k $ fjoin ! $
-          owned ! u32 (Is u32) (uint-makes 𝓤 H A W w32) x-sheet _ is-x-sheet $ fjoin ! $ move ! (4 ∷ 0 ∷ []) $
-          fjoin ! $ move ! (3 ∷ 0 ∷ []) $ fjoin ! $ move ! (2 ∷ 0 ∷ []) $ fjoin ! $ move ! (1 ∷ 0 ∷ []) $ fjoin ! $
+          owned ! u32 (Is u32) (uint-makes 𝓤 H A W w32) x-sheet _ is-x-sheet $ fjoin ! $ bring ! (4 ∷ 0 ∷ []) $
+          fjoin ! $ bring ! (3 ∷ 0 ∷ []) $ fjoin ! $ bring ! (2 ∷ 0 ∷ []) $ fjoin ! $ bring ! (1 ∷ 0 ∷ []) $ fjoin ! $
           owned ! (rowOf Shape) (Is (rowOf Shape)) (Shape .makes 𝓤 H A) x-self _ is-x-self $ fjoin ! $
-          owned ! (rowOf Outcome) (Is (rowOf Outcome)) (Outcome .makes 𝓤 H A) v-result _ is $ move ! (1 ∷ 0 ∷ []) $
+          owned ! (rowOf Outcome) (Is (rowOf Outcome)) (Outcome .makes 𝓤 H A) v-result _ is $ bring ! (1 ∷ 0 ∷ []) $
           done !
 
       -- ---- the walk
@@ -417,71 +416,67 @@ module _ (Slot Shape Outcome : Value) where
           pass1 ! (init ! 12 refl (tt, (tt, (record { fits = room-x-catalogue .0 }, tt)))) $
           pass1 ! (init ! 10 refl (tt, (tt, (record { fits = room-x-card .0 }, tt)))) $
           pass1 ! (init ! 8 refl (tt, tt)) $ pass1 ! (init ! 6 refl typed-x-sheet) $
-          pass1 ! (init ! 4 refl typed-x-k) $ pass0 ! $ move ! (20 ∷ []) $ split ! $ move ! (1 ∷ []) $ split ! $
-          move ! (1 ∷ []) $ split ! $ move ! (1 ∷ []) $ split ! $ move ! (1 ∷ []) $ drop ! $ move ! (24 ∷ []) $
-          fsplit ! $ move ! (1 ∷ []) $ fsplit ! $ move ! (1 ∷ []) $ fsplit ! $ move ! (1 ∷ []) $ fsplit ! $
-          move ! (1 ∷ []) $ fsplit ! $ move ! (1 ∷ []) $ fsplit ! $ move ! (1 ∷ []) $ fsplit ! $ move ! (1 ∷ []) $
-          drop ! $ move ! (6 ∷ []) $ drop ! $ move ! (1 ∷ []) $ drop ! $ drop ! $
+          pass1 ! (init ! 4 refl typed-x-k) $ pass0 ! $ bring ! (20 ∷ []) $ parts W (_ ∷ _ ∷ _ ∷ _ ∷ []) _ $
+          bring ! (24 ∷ []) $ fparts W (_ ∷ _ ∷ _ ∷ _ ∷ _ ∷ _ ∷ _ ∷ []) _ $ discard ! (0 ∷ 4 ∷ 4 ∷ []) $
           -- find
-          move ! (2 ∷ []) $
+          bring ! (1 ∷ []) $
           use1 W (‵ (ShrSlice (named 1) κ₁ Entry′.the-row .own x-catalogue (s-x-catalogue ∷ []))
           ⊛ ‵ (ShrSlice (named 1) κ₁ Entry′.the-row .own x-catalogue (s-x-catalogue ∷ [])))
           (shr-slice-copy 𝓤 H A W (named 1) κ₁ Entry′.the-row .twice x-catalogue (s-x-catalogue ∷ [])) $
-          split ! $ move ! (7 ∷ 0 ∷ []) $ join ! $
+          split ! $ bring ! (6 ∷ 0 ∷ []) $ group ! 2 $
           use1 W (raw ((find-contract find-out 𝓤 H A) .pre (to-find))) (goes-find) $
           calls-at ! (fmOf 𝓤 H (W .laws) 𝓣) (find-contract find-out 𝓤 H A) known-find (to-find)
           (and-then ! (load ! (from ! (stop !)) (look ! 20 refl)) (and-then ! (load ! (from ! (stop !)) (look ! 14 refl))
           (no-more !))) (λ w-find.
           use1 W (later (some (λ (r : (denotes Slot)). ((‵ (flft κ₁ q₁) ⊛ ‵ ftrue) ⊛ ‵ ((rowOf Slot) .own r (w-find ∷ [])))
           ⊛ raw (ensured 𝓤 H A find-ended (find-clauses find-out 𝓤) (κ₁, tt) (find-args) tt r)))) (id⊢ 𝓤 _) $
-          await ! tt $ pick ! (λ r-find. split ! $ move ! (1 ∷ []) $
+          await ! tt $ pick ! (λ r-find. split ! $ bring ! (1 ∷ []) $
           use1 W (some (λ (zs-find : Unit {0} × (Unit {0} × Unit {0})). ‵ (lasts find-ended (κ₁, tt) (find-args) zs-find)
           ⊛ raw (fact 𝓤 (find-says find-out (now x-catalogue) x-sheet r-find)))) (id⊢ 𝓤 _) $
-          pick ! (λ zs-find. split ! $ move ! (1 ∷ []) $
-          heard ! (find-says find-out (now x-catalogue) x-sheet r-find) (λ e-find. fsplit ! $ move ! (1 ∷ []) $
-          fsplit ! $ move ! (1 ∷ []) $ drop ! $ move ! (1 ∷ []) $ drop ! $ drop ! $ split ! $ move ! (1 ∷ []) $
+          pick ! (λ zs-find. split ! $ bring ! (1 ∷ []) $
+          heard ! (find-says find-out (now x-catalogue) x-sheet r-find) (λ e-find. fparts W (_ ∷ _ ∷ []) _ $
+          discard ! (0 ∷ 0 ∷ []) $ split ! $ bring ! (1 ∷ []) $
           rewrite ! 0 (λ (r : (denotes Slot)). ‵ ((rowOf Slot) .own r (w-find ∷ []))) (e-find) refl $
           peeks ! (rowOf Slot) (Is (rowOf Slot)) (shows 𝓤 H A (rowOf Slot)) v-slot (w-find ∷ []) (λ is-w-find.
           land ! (from ! (stop !)) (init ! 11 refl ((Slot .typed 𝓤 H A W) v-slot _ is-w-find .0)) $
           rewrite ! 11 (λ (u : Val). ‵ (fat fullShare (mirOf Slot) l₈ 0 u)) (ap only ((Slot .tells) v-slot _ is-w-find)) refl $
-          drop ! $ split ! $ move ! (1 ∷ []) $ drop ! $
+          discard ! (0 ∷ []) $ parts W (_ ∷ []) _ $
           -- held-by
-          move ! (1 ∷ []) $
+          bring ! (1 ∷ []) $
           use1 W (‵ (ShrSlice (named 1) κ₁ Entry′.the-row .own x-catalogue (s-x-catalogue ∷ []))
           ⊛ ‵ (ShrSlice (named 1) κ₁ Entry′.the-row .own x-catalogue (s-x-catalogue ∷ [])))
           (shr-slice-copy 𝓤 H A W (named 1) κ₁ Entry′.the-row .twice x-catalogue (s-x-catalogue ∷ [])) $
-          split ! $ move ! (2 ∷ 0 ∷ []) $ join ! $
+          split ! $ bring ! (2 ∷ 0 ∷ []) $ group ! 2 $
           use1 W (raw ((held-by-contract held-by-out 𝓤 H A) .pre (to-held-by))) (goes-held-by) $
           calls-at ! (fmOf 𝓤 H (W .laws) 𝓣) (held-by-contract held-by-out 𝓤 H A) known-held-by (to-held-by)
           (and-then ! (load ! (from ! (stop !)) (look ! 20 refl)) (and-then ! (load ! (from ! (stop !)) (look ! 14 refl))
           (no-more !))) (λ w-held-by.
           use1 W (later (some (λ (r : ℕ). ((‵ (flft κ₁ q₁) ⊛ ‵ ftrue) ⊛ ‵ (u64 .own r (w-held-by ∷ [])))
           ⊛ raw (ensured 𝓤 H A held-by-ended (held-by-clauses held-by-out 𝓤) (κ₁, tt) (held-by-args) tt r)))) (id⊢ 𝓤 _) $
-          await ! tt $ pick ! (λ r-held-by. split ! $ move ! (1 ∷ []) $
+          await ! tt $ pick ! (λ r-held-by. split ! $ bring ! (1 ∷ []) $
           use1 W (some (λ (zs-held-by : Unit {0} × (Unit {0} × Unit {0})). ‵ (lasts held-by-ended (κ₁, tt) (held-by-args)
           zs-held-by) ⊛ raw (fact 𝓤 (held-by-says held-by-out (now x-catalogue) x-sheet r-held-by)))) (id⊢ 𝓤 _) $
-          pick ! (λ zs-held-by. split ! $ move ! (1 ∷ []) $
-          heard ! (held-by-says held-by-out (now x-catalogue) x-sheet r-held-by) (λ e-held-by. fsplit ! $
-          move ! (1 ∷ []) $ fsplit ! $ move ! (1 ∷ []) $ drop ! $ move ! (1 ∷ []) $ drop ! $ drop ! $ split ! $
-          move ! (1 ∷ []) $ rewrite ! 0 (λ (r : ℕ). ‵ (u64 .own r (w-held-by ∷ []))) (e-held-by) refl $
+          pick ! (λ zs-held-by. split ! $ bring ! (1 ∷ []) $
+          heard ! (held-by-says held-by-out (now x-catalogue) x-sheet r-held-by) (λ e-held-by.
+          fparts W (_ ∷ _ ∷ []) _ $ discard ! (0 ∷ 0 ∷ []) $ split ! $ bring ! (1 ∷ []) $
+          rewrite ! 0 (λ (r : ℕ). ‵ (u64 .own r (w-held-by ∷ []))) (e-held-by) refl $
           peeks ! u64 (Is u64) (shows 𝓤 H A u64) v-held (w-held-by ∷ []) (λ is-w-held-by.
           land ! (from ! (stop !)) (init ! 9 refl ((uint-lawful 𝓤 H A W w64 .typed) v-held _ is-w-held-by .0)) $
           rewrite ! 9 (λ (u : Val). ‵ (fat fullShare (tyInt w64) l₉ 0 u)) (ap only ((uint-tells w64) v-held _ is-w-held-by))
           refl $
-          drop ! $ split ! $ move ! (1 ∷ []) $ drop ! $
+          discard ! (0 ∷ []) $ parts W (_ ∷ []) _ $
           -- core
-          move ! (4 ∷ []) $
+          bring ! (2 ∷ []) $
           use1 W (‵ (ShrSlice (named 0) κ₀ u64 .own x-map (s-x-map ∷ [])) ⊛ ‵ (ShrSlice (named 0) κ₀ u64 .own x-map
           (s-x-map ∷ []))) (shr-slice-copy 𝓤 H A W (named 0) κ₀ u64 .twice x-map (s-x-map ∷ [])) $
-          split ! $ move ! (5 ∷ []) $
+          split ! $ bring ! (4 ∷ []) $
           use1 W (‵ (ShrSlice (named 2) κ₂ u8 .own x-card (s-x-card ∷ [])) ⊛ ‵ (ShrSlice (named 2) κ₂ u8 .own x-card
           (s-x-card ∷ []))) (shr-slice-copy 𝓤 H A W (named 2) κ₂ u8 .twice x-card (s-x-card ∷ [])) $
-          split ! $ move ! (6 ∷ []) $
+          split ! $ bring ! (6 ∷ []) $
           use1 W (‵ (ShrRef (named 3) κ₃ (Array u32 8) .own x-limits (s-x-limits ∷ []))
           ⊛ ‵ (ShrRef (named 3) κ₃ (Array u32 8) .own x-limits (s-x-limits ∷ []))) (shr-copy 𝓤 H A W (named 3) κ₃
           (Array u32 8) .twice x-limits (s-x-limits ∷ [])) $
-          split ! $ move ! (10 ∷ 9 ∷ 8 ∷ 4 ∷ 2 ∷ 0 ∷ []) $ move ! (4 ∷ 5 ∷ []) $ join ! $ move ! (4 ∷ 0 ∷ []) $
-          join ! $ move ! (3 ∷ 0 ∷ []) $ join ! $ move ! (2 ∷ 0 ∷ []) $ join ! $ move ! (1 ∷ 0 ∷ []) $ join ! $
+          split ! $ bring ! (8 ∷ 8 ∷ 8 ∷ 4 ∷ 2 ∷ 0 ∷ []) $ group ! 6 $
           use1 W (raw ((core-contract core-out 𝓤 H A) .pre (to-core))) (goes-core (spelled-v-slot w-find is-w-find)
           (spelled-v-held w-held-by is-w-held-by)) $
           calls-at ! (fmOf 𝓤 H (W .laws) 𝓣) (core-contract core-out 𝓤 H A) known-core (to-core)
@@ -493,29 +488,25 @@ module _ (Slot Shape Outcome : Value) where
           use1 W (later (some (λ (r : (denotes Outcome)). ((‵ (flft κ₀ q₀) ⊛ ‵ (flft κ₂ q₂) ⊛ ‵ (flft κ₃ q₃) ⊛ ‵ ftrue)
           ⊛ ‵ ((rowOf Outcome) .own r (w-core ∷ []))) ⊛ raw (ensured 𝓤 H A core-ended (core-clauses core-out 𝓤)
           (κ₀, (κ₂, (κ₃, tt))) (core-args) tt r)))) (id⊢ 𝓤 _) $
-          await ! tt $ pick ! (λ r-core. split ! $ move ! (1 ∷ []) $
+          await ! tt $ pick ! (λ r-core. split ! $ bring ! (1 ∷ []) $
           use1 W (some (λ (zs-core : Unit {0} × (Unit {0} × (Unit {0} × (Unit {0} × (Unit {0}
           × (Unit {0} × (Unit {0} × (Unit {0} × Unit {0})))))))). ‵ (lasts core-ended (κ₀, (κ₂, (κ₃, tt))) (core-args) zs-core)
           ⊛ raw (fact 𝓤 (core-says core-out x-self (now x-map) (now x-card) (now x-limits) v-slot v-held x-sheet x-k r-core))))
           (id⊢ 𝓤 _) $
-          pick ! (λ zs-core. split ! $ move ! (1 ∷ []) $
+          pick ! (λ zs-core. split ! $ bring ! (1 ∷ []) $
           heard ! (core-says core-out x-self (now x-map) (now x-card) (now x-limits) v-slot v-held x-sheet x-k r-core)
           (λ e-core.
-          fsplit ! $ move ! (1 ∷ []) $ fsplit ! $ move ! (1 ∷ []) $ fsplit ! $ move ! (1 ∷ []) $ fsplit ! $
-          move ! (1 ∷ []) $ fsplit ! $ move ! (1 ∷ []) $ fsplit ! $ move ! (1 ∷ []) $ fsplit ! $ move ! (1 ∷ []) $
-          fsplit ! $ move ! (1 ∷ []) $ drop ! $ move ! (7 ∷ []) $ drop ! $ move ! (6 ∷ []) $ drop ! $ move ! (5 ∷ []) $
-          drop ! $ move ! (4 ∷ []) $ drop ! $ move ! (3 ∷ []) $ drop ! $ move ! (2 ∷ []) $ drop ! $ move ! (1 ∷ []) $
-          drop ! $ drop ! $ split ! $ move ! (1 ∷ []) $
+          fparts W (_ ∷ _ ∷ _ ∷ _ ∷ _ ∷ _ ∷ _ ∷ _ ∷ []) _ $ discard ! (0 ∷ 0 ∷ 0 ∷ 0 ∷ 0 ∷ 0 ∷ 0 ∷ 0 ∷ []) $ split ! $
+          bring ! (1 ∷ []) $
           rewrite ! 0 (λ (r : (denotes Outcome)). ‵ ((rowOf Outcome) .own r (w-core ∷ []))) (e-core) refl $
           peeks ! (rowOf Outcome) (Is (rowOf Outcome)) (shows 𝓤 H A (rowOf Outcome)) v-result (w-core ∷ []) (λ is-w-core.
           land ! (from ! (stop !)) (init ! 25 refl ((Outcome .typed 𝓤 H A W) v-result _ is-w-core .0)) $
           rewrite ! 25 (λ (u : Val). ‵ (fat fullShare (mirOf Outcome) l₀ 0 u)) (ap only ((Outcome .tells) v-result _ is-w-core))
           refl $
-          drop ! $ split ! $ move ! (1 ∷ []) $ split ! $ move ! (1 ∷ []) $ split ! $ move ! (1 ∷ []) $ drop ! $
-          returns ! (look ! 26 refl) $ leave ! 26 refl refl $ leave ! 24 refl refl $ leave ! 22 refl refl $
-          leave ! 20 refl refl $ leave ! 18 refl refl $ leave ! 16 refl refl $ leave ! 14 refl refl $
-          leave ! 12 refl refl $ leave ! 10 refl refl $ leave ! 8 refl refl $ free0 ! $
-          move ! (5 ∷ 2 ∷ 7 ∷ 6 ∷ 4 ∷ 1 ∷ 3 ∷ 0 ∷ []) $
+          discard ! (0 ∷ []) $ parts W (_ ∷ _ ∷ _ ∷ []) _ $ returns ! (look ! 26 refl) $ leave ! 26 refl refl $
+          leave ! 24 refl refl $ leave ! 22 refl refl $ leave ! 20 refl refl $ leave ! 18 refl refl $
+          leave ! 16 refl refl $ leave ! 14 refl refl $ leave ! 12 refl refl $ leave ! 10 refl refl $
+          leave ! 8 refl refl $ free0 ! $ bring ! (5 ∷ 0 ∷ 5 ∷ 4 ∷ 3 ∷ 0 ∷ 1 ∷ 0 ∷ []) $
           by ! (exits (spelled-v-result w-core is-w-core)))))))))))))))))))))))))))
 
     module _ {M : Type 1} (𝓤 : URA M) (H : Heap 𝓤) (A : Atoms 𝓤) (W : Given 𝓤 H A) where

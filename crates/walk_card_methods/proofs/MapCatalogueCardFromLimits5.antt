@@ -24,7 +24,7 @@ use base.Fml.{Lft, Share, GName, ftrue, flft, fat}
 use prog.Wp.{Heap, WpFn, Tables}
 use ghost.Atoms.{Atoms}
 use contract.Monad.{fact}
-use types.Kit.{Given, ‵, raw, some, later, _⊛_, ⋆, _$_, _∵_, !, qed, by, move, drop, use0, use1, use2, use3, split, join, pick}
+use types.Kit.{Given, ‵, raw, some, later, _⊛_, ⋆, _$_, _∵_, !, qed, by, use0, use1, use2, use3, group, split, join, pick}
 use types.Kit.{rewrite, fsplit, fjoin, feqL, suffices, frame, await, done}
 use types.Run.{look, init, stop, hop, fld, from, load, addr, and-then, no-more, assigns, land, returns, enter, alloc1, alloc0}
 use types.Run.{params1, pass1, pass0, free0}
@@ -54,7 +54,7 @@ use Rattle.catalogue.proofs.Values.{Value, denotes, rowOf, mirOf, valsOf}
 use Rattle.catalogue.specs.declared.Entry.{Entry}
 use Rattle.catalogue.proofs.Entry as Entry′
 use Rattle.catalogue.proofs.Entry.Laws as Entry″
-use Rattle.catalogue.proofs.Steps.{leave}
+use Rattle.catalogue.proofs.Steps.{bring, discard, parts, fparts, leave}
 use Rattle.catalogue.proofs.Lending.{LentAgain, lends-again, comes-back, LentOut, lends-out, comes-home}
 
 module _ (Slot Out Shape Outcome : Value) where
@@ -548,9 +548,9 @@ module _ (Slot Out Shape Outcome : Value) where
       goes-find ν₀-find δ₀-find =
           qed W (‵ (flft (ν₀-find ∷ []) fullShare) ∷ ‵ (ShrSlice (named 0) (ν₀-find ∷ []) Entry′.the-row .own
           (at-x-catalogue δ₀-find (now x-catalogue)) (s-x-catalogue ∷ [])) ∷ []) ∵
-          nothing ! $ move ! (1 ∷ 0 ∷ []) $ join ! $ nothing ! $
-          owned ! u32 (Is u32) (uint-makes 𝓤 H A W w32) x-sheet _ is-x-sheet $ fjoin ! $ move ! (2 ∷ 0 ∷ []) $
-          fjoin ! $ move ! (1 ∷ 0 ∷ []) $ join ! $ frame ! $ done !
+          nothing ! $ bring ! (1 ∷ 0 ∷ []) $ group ! 2 $ nothing ! $
+          owned ! u32 (Is u32) (uint-makes 𝓤 H A W w32) x-sheet _ is-x-sheet $ fjoin ! $ bring ! (2 ∷ 0 ∷ []) $
+          fjoin ! $ bring ! (1 ∷ 0 ∷ []) $ join ! $ frame ! $ done !
 
       -- ---- the caller has what `held-by` asks
       abbrev held-by-args : (δ₀-held-by : GName) → RefT (List Entry) × (ℕ × Unit {0})
@@ -568,9 +568,9 @@ module _ (Slot Out Shape Outcome : Value) where
       goes-held-by ν₀-held-by δ₀-held-by =
           qed W (‵ (flft (ν₀-held-by ∷ []) fullShare) ∷ ‵ (ShrSlice (named 0) (ν₀-held-by ∷ []) Entry′.the-row .own
           (at-x-catalogue δ₀-held-by (now x-catalogue)) (s-x-catalogue ∷ [])) ∷ []) ∵
-          nothing ! $ move ! (1 ∷ 0 ∷ []) $ join ! $ nothing ! $
-          owned ! u32 (Is u32) (uint-makes 𝓤 H A W w32) x-sheet _ is-x-sheet $ fjoin ! $ move ! (2 ∷ 0 ∷ []) $
-          fjoin ! $ move ! (1 ∷ 0 ∷ []) $ join ! $ frame ! $ done !
+          nothing ! $ bring ! (1 ∷ 0 ∷ []) $ group ! 2 $ nothing ! $
+          owned ! u32 (Is u32) (uint-makes 𝓤 H A W w32) x-sheet _ is-x-sheet $ fjoin ! $ bring ! (2 ∷ 0 ∷ []) $
+          fjoin ! $ bring ! (1 ∷ 0 ∷ []) $ join ! $ frame ! $ done !
 
       -- ---- the caller has what `core` asks
       abbrev core-args : (δ₀-core δ₁-core : GName) → (denotes Shape) × (RefT (List ℕ) ×
@@ -626,17 +626,17 @@ module _ (Slot Out Shape Outcome : Value) where
           ∷ ‵ (MutSlice (named 0) (ν₀-core ∷ []) u64 .own (at-x-map δ₀-core (now x-map)) (s-x-map ∷ []))
           ∷ ‵ (MutSlice (named 1) (ν₁-core ∷ []) u8 .own (at-x-card δ₁-core (now x-card)) (s-x-card ∷ []))
           ∷ ‵ (ShrRef (named 2) κ₃ (Array u32 8) .own x-limits (s-x-limits ∷ [])) ∷ []) ∵
-          nothing ! $ move ! (3 ∷ 0 ∷ []) $ join ! $ move ! (2 ∷ 0 ∷ []) $ join ! $ move ! (1 ∷ 0 ∷ []) $ join ! $
-          nothing ! $ owned ! u32 (Is u32) (uint-makes 𝓤 H A W w32) x-step _ is-x-step $ fjoin ! $
+          nothing ! $ bring ! (1 ∷ 1 ∷ 1 ∷ 0 ∷ []) $ group ! 4 $ nothing ! $
+          owned ! u32 (Is u32) (uint-makes 𝓤 H A W w32) x-step _ is-x-step $ fjoin ! $
           owned ! u32 (Is u32) (uint-makes 𝓤 H A W w32) x-before _ is-x-before $ fjoin ! $
           owned ! u32 (Is u32) (uint-makes 𝓤 H A W w32) x-from _ is-x-from $ fjoin ! $
           owned ! u32 (Is u32) (uint-makes 𝓤 H A W w32) x-k _ is-x-k $ fjoin ! $
           owned ! u32 (Is u32) (uint-makes 𝓤 H A W w32) x-sheet _ is-x-sheet $ fjoin ! $
           owned ! u64 (Is u64) (uint-makes 𝓤 H A W w64) v-held _ is-v-held $ fjoin ! $
           owned ! (rowOf Slot) (Is (rowOf Slot)) (Slot .makes 𝓤 H A) v-slot _ is-v-slot $ fjoin ! $
-          move ! (4 ∷ 0 ∷ []) $ fjoin ! $ move ! (3 ∷ 0 ∷ []) $ fjoin ! $ move ! (2 ∷ 0 ∷ []) $ fjoin ! $
+          bring ! (4 ∷ 0 ∷ []) $ fjoin ! $ bring ! (3 ∷ 0 ∷ []) $ fjoin ! $ bring ! (2 ∷ 0 ∷ []) $ fjoin ! $
           owned ! (rowOf Shape) (Is (rowOf Shape)) (Shape .makes 𝓤 H A) x-self _ is-x-self $ fjoin ! $
-          move ! (1 ∷ 0 ∷ []) $ join ! $ frame ! $ done !
+          bring ! (1 ∷ 0 ∷ []) $ join ! $ frame ! $ done !
 
       -- ---- the caller has what `entry-of` asks
       abbrev entry-of-args : (denotes Out) × Unit {0}
@@ -650,7 +650,7 @@ module _ (Slot Out Shape Outcome : Value) where
       goes-entry-of is-v-out =
           qed W ([]) ∵
           nothing ! $ nothing ! $ owned ! (rowOf Out) (Is (rowOf Out)) (Out .makes 𝓤 H A) v-out _ is-v-out $ fjoin ! $
-          move ! (1 ∷ 0 ∷ []) $ join ! $ frame ! $ done !
+          bring ! (1 ∷ 0 ∷ []) $ join ! $ frame ! $ done !
 
       -- ---- the caller has what `store` asks
       abbrev store-args : (δ₀-store : GName) → RefT (List Entry) × (ℕ × (Entry × Unit {0}))
@@ -675,11 +675,11 @@ module _ (Slot Out Shape Outcome : Value) where
       goes-store ν₀-store δ₀-store is-v-entry =
           qed W (‵ (flft (ν₀-store ∷ []) fullShare) ∷ ‵ (MutSlice (named 0) (ν₀-store ∷ []) Entry′.the-row .own
           (at-x-catalogue δ₀-store (now x-catalogue)) (s-x-catalogue ∷ [])) ∷ []) ∵
-          nothing ! $ move ! (1 ∷ 0 ∷ []) $ join ! $ nothing ! $
+          nothing ! $ bring ! (1 ∷ 0 ∷ []) $ group ! 2 $ nothing ! $
           owned ! Entry′.the-row (Is Entry′.the-row) (struct.makes Entry′.the-type Entry″.the-plain 𝓤 H A) v-entry _ is-v-entry
           $
           fjoin ! $ owned ! u32 (Is u32) (uint-makes 𝓤 H A W w32) x-sheet _ is-x-sheet $ fjoin ! $
-          move ! (2 ∷ 0 ∷ []) $ fjoin ! $ move ! (1 ∷ 0 ∷ []) $ join ! $ frame ! $ done !
+          bring ! (2 ∷ 0 ∷ []) $ fjoin ! $ bring ! (1 ∷ 0 ∷ []) $ join ! $ frame ! $ done !
 
       -- ---- the caller has what `outcome-of` asks
       abbrev outcome-of-args : (denotes Shape) × ((denotes Out) × Unit {0})
@@ -694,7 +694,7 @@ module _ (Slot Out Shape Outcome : Value) where
           qed W ([]) ∵
           nothing ! $ nothing ! $ owned ! (rowOf Out) (Is (rowOf Out)) (Out .makes 𝓤 H A) v-out _ is-v-out $ fjoin ! $
           owned ! (rowOf Shape) (Is (rowOf Shape)) (Shape .makes 𝓤 H A) x-self _ is-x-self $ fjoin ! $
-          move ! (1 ∷ 0 ∷ []) $ join ! $ frame ! $ done !
+          bring ! (1 ∷ 0 ∷ []) $ join ! $ frame ! $ done !
 
       -- ---- the exit
       exits : Is (rowOf Outcome) v-result (m-v-result ∷ []) → length z-core-x-map ≡ length (now x-map)
@@ -713,16 +713,15 @@ module _ (Slot Out Shape Outcome : Value) where
           suffices ! _ (ends-at 𝓤 H A ended stayed (clauses 𝓤) W bound m-v-result v-result
           (tt, (z-core-x-map, (z-store-x-catalogue, (z-core-x-card, (tt, (tt, (tt, (tt, (tt, (tt, tt))))))))))
           (tt, (l-x-map, (l-x-catalogue, (l-x-card, (tt, (tt, (tt, (tt, (tt, (tt, tt))))))))))) $
-          says ! (refl, refl, refl, refl) $ nothing ! $ move ! (8 ∷ 0 ∷ []) $ join ! $ move ! (6 ∷ 0 ∷ []) $ join ! $
-          move ! (4 ∷ 0 ∷ []) $ join ! $ move ! (2 ∷ 0 ∷ []) $ join ! $ frame ! $ nothing ! $
-          owned ! u32 (Is u32) (uint-makes 𝓤 H A W w32) x-step _ is-x-step $ fjoin ! $
+          says ! (refl, refl, refl, refl) $ nothing ! $ bring ! (2 ∷ 3 ∷ 4 ∷ 5 ∷ 0 ∷ []) $ group ! 5 $ frame ! $
+          nothing ! $ owned ! u32 (Is u32) (uint-makes 𝓤 H A W w32) x-step _ is-x-step $ fjoin ! $
           owned ! u32 (Is u32) (uint-makes 𝓤 H A W w32) x-before _ is-x-before $ fjoin ! $
           owned ! u32 (Is u32) (uint-makes 𝓤 H A W w32) x-from _ is-x-from $ fjoin ! $
           owned ! u32 (Is u32) (uint-makes 𝓤 H A W w32) x-k _ is-x-k $ fjoin ! $
-          owned ! u32 (Is u32) (uint-makes 𝓤 H A W w32) x-sheet _ is-x-sheet $ fjoin ! $ move ! (4 ∷ 0 ∷ []) $
-          fjoin ! $ move ! (3 ∷ 0 ∷ []) $ fjoin ! $ move ! (2 ∷ 0 ∷ []) $ fjoin ! $ move ! (1 ∷ 0 ∷ []) $ fjoin ! $
+          owned ! u32 (Is u32) (uint-makes 𝓤 H A W w32) x-sheet _ is-x-sheet $ fjoin ! $ bring ! (4 ∷ 0 ∷ []) $
+          fjoin ! $ bring ! (3 ∷ 0 ∷ []) $ fjoin ! $ bring ! (2 ∷ 0 ∷ []) $ fjoin ! $ bring ! (1 ∷ 0 ∷ []) $ fjoin ! $
           owned ! (rowOf Shape) (Is (rowOf Shape)) (Shape .makes 𝓤 H A) x-self _ is-x-self $ fjoin ! $
-          owned ! (rowOf Outcome) (Is (rowOf Outcome)) (Outcome .makes 𝓤 H A) v-result _ is $ move ! (1 ∷ 0 ∷ []) $
+          owned ! (rowOf Outcome) (Is (rowOf Outcome)) (Outcome .makes 𝓤 H A) v-result _ is $ bring ! (1 ∷ 0 ∷ []) $
           done !
 
       -- ---- the walk
@@ -752,25 +751,21 @@ module _ (Slot Out Shape Outcome : Value) where
           pass1 ! (init ! 40 refl (tt, tt)) $ pass1 ! (init ! 38 refl typed-x-sheet) $
           pass1 ! (init ! 36 refl typed-x-k) $ pass1 ! (init ! 34 refl typed-x-from) $
           pass1 ! (init ! 32 refl typed-x-before) $ pass1 ! (init ! 30 refl typed-x-step) $ pass0 ! $
-          move ! (52 ∷ []) $ split ! $ move ! (1 ∷ []) $ split ! $ move ! (1 ∷ []) $ split ! $ move ! (1 ∷ []) $
-          split ! $ move ! (1 ∷ []) $ drop ! $ move ! (56 ∷ []) $ fsplit ! $ move ! (1 ∷ []) $ fsplit ! $
-          move ! (1 ∷ []) $ fsplit ! $ move ! (1 ∷ []) $ fsplit ! $ move ! (1 ∷ []) $ fsplit ! $ move ! (1 ∷ []) $
-          fsplit ! $ move ! (1 ∷ []) $ fsplit ! $ move ! (1 ∷ []) $ fsplit ! $ move ! (1 ∷ []) $ fsplit ! $
-          move ! (1 ∷ []) $ fsplit ! $ move ! (1 ∷ []) $ drop ! $ move ! (9 ∷ []) $ drop ! $ move ! (4 ∷ []) $ drop ! $
-          move ! (3 ∷ []) $ drop ! $ move ! (2 ∷ []) $ drop ! $ move ! (1 ∷ []) $ drop ! $ drop ! $
+          bring ! (52 ∷ []) $ parts W (_ ∷ _ ∷ _ ∷ _ ∷ []) _ $ bring ! (56 ∷ []) $
+          fparts W (_ ∷ _ ∷ _ ∷ _ ∷ _ ∷ _ ∷ _ ∷ _ ∷ _ ∷ _ ∷ []) _ $ discard ! (0 ∷ 4 ∷ 4 ∷ 4 ∷ 4 ∷ 4 ∷ []) $
           -- find
           assigns ! (addr ! (from ! (fld ! refl (hop ! (look-in ! 52 (sub ! 0 refl (whole !))) (stop !))))) (from ! (stop !))
           (init ! 28 refl (tt, tt)) $
           assigns ! (agg ! (and-then ! (load ! (from ! (stop !)) (look ! 28 refl)) (and-then !
           (load ! (from ! (fld ! refl (stop !))) (look-in ! 52 (sub ! 1 refl (whole !)))) (no-more !)))) (from ! (stop !))
           (init ! 26 refl (tt, (tt, (record { fits = room-x-catalogue .0 }, tt)))) $
-          lft-new ! tt (λ ν₀-find. move ! (3 ∷ 7 ∷ []) $
+          lft-new ! tt (λ ν₀-find. bring ! (2 ∷ 5 ∷ []) $
           use2 W (later (some (λ (δ : GName). ‵ (ShrSlice (named 0) (ν₀-find ∷ []) Entry′.the-row .own
           (at-x-catalogue δ (now x-catalogue)) (s-x-catalogue ∷ [])) ⊛ ‵ (LentOut Entry′.the-row κ₁ (ν₀-find ∷ []) q₁
           (x-catalogue .name) (x-catalogue .ptr .0) (x-catalogue .ptr .1) (now x-catalogue)))))
           (lends-out Entry′.the-row κ₁ (ν₀-find ∷ []) q₁ (x-catalogue .name) (x-catalogue .ptr .0) (x-catalogue .ptr .1) 𝓤 H A W
           (named 1) (named 0) (now x-catalogue) (length (now x-catalogue)) refl) $
-          await ! tt $ pick ! (λ δ₀-find. split ! $ move ! (2 ∷ 0 ∷ []) $ join ! $
+          await ! tt $ pick ! (λ δ₀-find. split ! $ bring ! (2 ∷ 0 ∷ []) $ group ! 2 $
           use1 W (raw ((find-contract find-out 𝓤 H A) .pre (to-find ν₀-find δ₀-find))) (goes-find ν₀-find δ₀-find) $
           calls-at ! (fmOf 𝓤 H (W .laws) 𝓣) (find-contract find-out 𝓤 H A) known-find (to-find ν₀-find δ₀-find)
           (and-then ! (load ! (from ! (stop !)) (look ! 26 refl)) (and-then ! (load ! (from ! (stop !)) (look ! 46 refl))
@@ -778,17 +773,17 @@ module _ (Slot Out Shape Outcome : Value) where
           use1 W (later (some (λ (r : (denotes Slot)). ((‵ (flft (ν₀-find ∷ []) fullShare) ⊛ ‵ ftrue)
           ⊛ ‵ ((rowOf Slot) .own r (w-find ∷ []))) ⊛ raw (ensured 𝓤 H A find-ended (find-clauses find-out 𝓤) (ν₀-find ∷ [], tt)
           (find-args δ₀-find) tt r)))) (id⊢ 𝓤 _) $
-          await ! tt $ pick ! (λ r-find. split ! $ move ! (1 ∷ []) $
+          await ! tt $ pick ! (λ r-find. split ! $ bring ! (1 ∷ []) $
           use1 W (some (λ (zs-find : Unit {0} × (Unit {0} × Unit {0})). ‵ (lasts find-ended (ν₀-find ∷ [], tt)
           (find-args δ₀-find) zs-find) ⊛ raw (fact 𝓤 (find-says find-out (now x-catalogue) x-sheet r-find)))) (id⊢ 𝓤 _) $
-          pick ! (λ zs-find. split ! $ move ! (1 ∷ []) $
-          heard ! (find-says find-out (now x-catalogue) x-sheet r-find) (λ e-find. fsplit ! $ move ! (1 ∷ []) $
-          fsplit ! $ move ! (1 ∷ []) $ drop ! $ move ! (1 ∷ []) $ drop ! $ drop ! $ split ! $ move ! (1 ∷ []) $
+          pick ! (λ zs-find. split ! $ bring ! (1 ∷ []) $
+          heard ! (find-says find-out (now x-catalogue) x-sheet r-find) (λ e-find. fparts W (_ ∷ _ ∷ []) _ $
+          discard ! (0 ∷ 0 ∷ []) $ split ! $ bring ! (1 ∷ []) $
           rewrite ! 0 (λ (r : (denotes Slot)). ‵ ((rowOf Slot) .own r (w-find ∷ []))) (e-find) refl $
           peeks ! (rowOf Slot) (Is (rowOf Slot)) (shows 𝓤 H A (rowOf Slot)) v-slot (w-find ∷ []) (λ is-w-find.
           land ! (from ! (stop !)) (init ! 37 refl ((Slot .typed 𝓤 H A W) v-slot _ is-w-find .0)) $
           rewrite ! 37 (λ (u : Val). ‵ (fat fullShare (mirOf Slot) l₁₁ 0 u)) (ap only ((Slot .tells) v-slot _ is-w-find)) refl $
-          drop ! $ split ! $ move ! (1 ∷ []) $ drop ! $ lft-end ! tt $
+          discard ! (0 ∷ []) $ parts W (_ ∷ []) _ $ lft-end ! tt $
           use2 W (later (‵ (MutSlice (named 1) κ₁ Entry′.the-row .own (at-x-catalogue (x-catalogue .name) (now x-catalogue))
           (s-x-catalogue ∷ [])) ⊛ ‵ (flft κ₁ q₁))) (comes-home Entry′.the-row κ₁ (ν₀-find ∷ []) q₁ (x-catalogue .name)
           (x-catalogue .ptr .0) (x-catalogue .ptr .1) 𝓤 H A W (named 1) (named 0) (now x-catalogue) (length (now x-catalogue))
@@ -800,13 +795,13 @@ module _ (Slot Out Shape Outcome : Value) where
           assigns ! (agg ! (and-then ! (load ! (from ! (stop !)) (look ! 24 refl)) (and-then !
           (load ! (from ! (fld ! refl (stop !))) (look-in ! 52 (sub ! 1 refl (whole !)))) (no-more !)))) (from ! (stop !))
           (init ! 22 refl (tt, (tt, (record { fits = room-x-catalogue .0 }, tt)))) $
-          lft-new ! tt (λ ν₀-held-by. move ! (1 ∷ 2 ∷ []) $
+          lft-new ! tt (λ ν₀-held-by. bring ! (1 ∷ 1 ∷ []) $
           use2 W (later (some (λ (δ : GName). ‵ (ShrSlice (named 0) (ν₀-held-by ∷ []) Entry′.the-row .own
           (at-x-catalogue δ (now x-catalogue)) (s-x-catalogue ∷ [])) ⊛ ‵ (LentOut Entry′.the-row κ₁ (ν₀-held-by ∷ []) q₁
           (x-catalogue .name) (x-catalogue .ptr .0) (x-catalogue .ptr .1) (now x-catalogue)))))
           (lends-out Entry′.the-row κ₁ (ν₀-held-by ∷ []) q₁ (x-catalogue .name) (x-catalogue .ptr .0) (x-catalogue .ptr .1) 𝓤 H
           A W (named 1) (named 0) (now x-catalogue) (length (now x-catalogue)) refl) $
-          await ! tt $ pick ! (λ δ₀-held-by. split ! $ move ! (2 ∷ 0 ∷ []) $ join ! $
+          await ! tt $ pick ! (λ δ₀-held-by. split ! $ bring ! (2 ∷ 0 ∷ []) $ group ! 2 $
           use1 W (raw ((held-by-contract held-by-out 𝓤 H A) .pre (to-held-by ν₀-held-by δ₀-held-by)))
           (goes-held-by ν₀-held-by δ₀-held-by) $
           calls-at ! (fmOf 𝓤 H (W .laws) 𝓣) (held-by-contract held-by-out 𝓤 H A) known-held-by
@@ -815,19 +810,19 @@ module _ (Slot Out Shape Outcome : Value) where
           use1 W (later (some (λ (r : ℕ). ((‵ (flft (ν₀-held-by ∷ []) fullShare) ⊛ ‵ ftrue) ⊛ ‵ (u64 .own r (w-held-by ∷ [])))
           ⊛ raw (ensured 𝓤 H A held-by-ended (held-by-clauses held-by-out 𝓤) (ν₀-held-by ∷ [], tt) (held-by-args δ₀-held-by) tt
           r)))) (id⊢ 𝓤 _) $
-          await ! tt $ pick ! (λ r-held-by. split ! $ move ! (1 ∷ []) $
+          await ! tt $ pick ! (λ r-held-by. split ! $ bring ! (1 ∷ []) $
           use1 W (some (λ (zs-held-by : Unit {0} × (Unit {0} × Unit {0})). ‵ (lasts held-by-ended (ν₀-held-by ∷ [], tt)
           (held-by-args δ₀-held-by) zs-held-by) ⊛ raw (fact 𝓤 (held-by-says held-by-out (now x-catalogue) x-sheet r-held-by))))
           (id⊢ 𝓤 _) $
-          pick ! (λ zs-held-by. split ! $ move ! (1 ∷ []) $
-          heard ! (held-by-says held-by-out (now x-catalogue) x-sheet r-held-by) (λ e-held-by. fsplit ! $
-          move ! (1 ∷ []) $ fsplit ! $ move ! (1 ∷ []) $ drop ! $ move ! (1 ∷ []) $ drop ! $ drop ! $ split ! $
-          move ! (1 ∷ []) $ rewrite ! 0 (λ (r : ℕ). ‵ (u64 .own r (w-held-by ∷ []))) (e-held-by) refl $
+          pick ! (λ zs-held-by. split ! $ bring ! (1 ∷ []) $
+          heard ! (held-by-says held-by-out (now x-catalogue) x-sheet r-held-by) (λ e-held-by.
+          fparts W (_ ∷ _ ∷ []) _ $ discard ! (0 ∷ 0 ∷ []) $ split ! $ bring ! (1 ∷ []) $
+          rewrite ! 0 (λ (r : ℕ). ‵ (u64 .own r (w-held-by ∷ []))) (e-held-by) refl $
           peeks ! u64 (Is u64) (shows 𝓤 H A u64) v-held (w-held-by ∷ []) (λ is-w-held-by.
           land ! (from ! (stop !)) (init ! 35 refl ((uint-lawful 𝓤 H A W w64 .typed) v-held _ is-w-held-by .0)) $
           rewrite ! 35 (λ (u : Val). ‵ (fat fullShare (tyInt w64) l₁₂ 0 u)) (ap only ((uint-tells w64) v-held _ is-w-held-by))
           refl $
-          drop ! $ split ! $ move ! (1 ∷ []) $ drop ! $ lft-end ! tt $
+          discard ! (0 ∷ []) $ parts W (_ ∷ []) _ $ lft-end ! tt $
           use2 W (later (‵ (MutSlice (named 1) κ₁ Entry′.the-row .own (at-x-catalogue (x-catalogue .name) (now x-catalogue))
           (s-x-catalogue ∷ [])) ⊛ ‵ (flft κ₁ q₁))) (comes-home Entry′.the-row κ₁ (ν₀-held-by ∷ []) q₁ (x-catalogue .name)
           (x-catalogue .ptr .0) (x-catalogue .ptr .1) 𝓤 H A W (named 1) (named 0) (now x-catalogue) (length (now x-catalogue))
@@ -844,22 +839,21 @@ module _ (Slot Out Shape Outcome : Value) where
           assigns ! (agg ! (and-then ! (load ! (from ! (stop !)) (look ! 16 refl)) (and-then !
           (load ! (from ! (fld ! refl (stop !))) (look-in ! 50 (sub ! 1 refl (whole !)))) (no-more !)))) (from ! (stop !))
           (init ! 14 refl (tt, (tt, (record { fits = room-x-card .0 }, tt)))) $
-          lft-new ! tt (λ ν₀-core. move ! (5 ∷ 8 ∷ []) $
+          lft-new ! tt (λ ν₀-core. bring ! (3 ∷ 5 ∷ []) $
           use2 W (later (some (λ (δ : GName). ‵ (MutSlice (named 0) (ν₀-core ∷ []) u64 .own (at-x-map δ (now x-map))
           (s-x-map ∷ [])) ⊛ ‵ (LentAgain u64 κ₀ (ν₀-core ∷ []) q₀ (x-map .name) (x-map .ptr .0) (x-map .ptr .1) δ
           (now x-map))))) (lends-again u64 κ₀ (ν₀-core ∷ []) q₀ (x-map .name) (x-map .ptr .0) (x-map .ptr .1) 𝓤 H A W (named 0)
           (named 0) (now x-map) (length (now x-map)) refl) $
-          await ! tt $ pick ! (λ δ₀-core. split ! $ lft-new ! tt (λ ν₁-core. move ! (7 ∷ 9 ∷ []) $
+          await ! tt $ pick ! (λ δ₀-core. split ! $ lft-new ! tt (λ ν₁-core. bring ! (6 ∷ 7 ∷ []) $
           use2 W (later (some (λ (δ : GName). ‵ (MutSlice (named 1) (ν₁-core ∷ []) u8 .own (at-x-card δ (now x-card))
           (s-x-card ∷ [])) ⊛ ‵ (LentAgain u8 κ₂ (ν₁-core ∷ []) q₂ (x-card .name) (x-card .ptr .0) (x-card .ptr .1) δ
           (now x-card))))) (lends-again u8 κ₂ (ν₁-core ∷ []) q₂ (x-card .name) (x-card .ptr .0) (x-card .ptr .1) 𝓤 H A W
           (named 2) (named 1) (now x-card) (length (now x-card)) refl) $
-          await ! tt $ pick ! (λ δ₁-core. split ! $ move ! (8 ∷ []) $
+          await ! tt $ pick ! (λ δ₁-core. split ! $ bring ! (8 ∷ []) $
           use1 W (‵ (ShrRef (named 3) κ₃ (Array u32 8) .own x-limits (s-x-limits ∷ []))
           ⊛ ‵ (ShrRef (named 3) κ₃ (Array u32 8) .own x-limits (s-x-limits ∷ []))) (shr-copy 𝓤 H A W (named 3) κ₃
           (Array u32 8) .twice x-limits (s-x-limits ∷ [])) $
-          split ! $ move ! (7 ∷ 4 ∷ 10 ∷ 5 ∷ 2 ∷ 0 ∷ []) $ move ! (4 ∷ 5 ∷ []) $ join ! $ move ! (4 ∷ 0 ∷ []) $
-          join ! $ move ! (3 ∷ 0 ∷ []) $ join ! $ move ! (2 ∷ 0 ∷ []) $ join ! $ move ! (1 ∷ 0 ∷ []) $ join ! $
+          split ! $ bring ! (7 ∷ 4 ∷ 8 ∷ 4 ∷ 2 ∷ 0 ∷ []) $ group ! 6 $
           use1 W (raw ((core-contract core-out core-x-map core-x-card 𝓤 H A) .pre (to-core ν₀-core ν₁-core δ₀-core δ₁-core)))
           (goes-core ν₀-core ν₁-core δ₀-core δ₁-core (spelled-v-slot w-find is-w-find) (spelled-v-held w-held-by is-w-held-by))
           $
@@ -875,36 +869,31 @@ module _ (Slot Out Shape Outcome : Value) where
           ⊛ ‵ (flft κ₃ q₃) ⊛ ‵ ftrue) ⊛ ‵ ((rowOf Out) .own r (w-core ∷ []))) ⊛ raw (ensured 𝓤 H A core-ended
           (core-clauses core-out core-x-map core-x-card 𝓤) (ν₀-core ∷ [], (ν₁-core ∷ [], (κ₃, tt))) (core-args δ₀-core δ₁-core)
           tt r)))) (id⊢ 𝓤 _) $
-          await ! tt $ pick ! (λ r-core. split ! $ move ! (1 ∷ []) $
+          await ! tt $ pick ! (λ r-core. split ! $ bring ! (1 ∷ []) $
           use1 W (some (λ (zs-core : Unit {0} × (List ℕ × (List ℕ × (Unit {0} × (Unit {0}
           × (Unit {0} × (Unit {0} × (Unit {0} × (Unit {0} × (Unit {0} × (Unit {0} × Unit {0}))))))))))). ‵
           (lasts core-ended (ν₀-core ∷ [], (ν₁-core ∷ [], (κ₃, tt))) (core-args δ₀-core δ₁-core) zs-core)
           ⊛ raw (fact 𝓤 (core-says core-out core-x-map core-x-card x-self (now x-map) (now x-card) (now x-limits) v-slot v-held
           x-sheet x-k x-from x-before x-step r-core (zs-core .1 .0) (zs-core .1 .1 .0))))) (id⊢ 𝓤 _) $
-          pick ! (λ zs-core. split ! $ move ! (1 ∷ []) $
+          pick ! (λ zs-core. split ! $ bring ! (1 ∷ []) $
           heard ! (core-says core-out core-x-map core-x-card x-self (now x-map) (now x-card) (now x-limits) v-slot v-held
           x-sheet x-k x-from x-before x-step r-core (zs-core .1 .0) (zs-core .1 .1 .0)) (λ e-core.
-          fsplit ! $ move ! (1 ∷ []) $ fsplit ! $ move ! (1 ∷ []) $ fsplit ! $ move ! (1 ∷ []) $ fsplit ! $
-          move ! (1 ∷ []) $ fsplit ! $ move ! (1 ∷ []) $ fsplit ! $ move ! (1 ∷ []) $ fsplit ! $ move ! (1 ∷ []) $
-          fsplit ! $ move ! (1 ∷ []) $ fsplit ! $ move ! (1 ∷ []) $ fsplit ! $ move ! (1 ∷ []) $ fsplit ! $
-          move ! (1 ∷ []) $ drop ! $ move ! (10 ∷ []) $ drop ! $ move ! (9 ∷ []) $ fsplit ! $ move ! (1 ∷ []) $
-          feqL ! (λ h-core-x-map. move ! (9 ∷ []) $ fsplit ! $ move ! (1 ∷ []) $ feqL ! (λ h-core-x-card.
-          move ! (9 ∷ []) $ drop ! $ move ! (8 ∷ []) $ drop ! $ move ! (7 ∷ []) $ drop ! $ move ! (6 ∷ []) $ drop ! $
-          move ! (5 ∷ []) $ drop ! $ move ! (4 ∷ []) $ drop ! $ move ! (3 ∷ []) $ drop ! $ move ! (2 ∷ []) $ drop ! $
-          move ! (2 ∷ []) $ split ! $ move ! (1 ∷ []) $
+          fparts W (_ ∷ _ ∷ _ ∷ _ ∷ _ ∷ _ ∷ _ ∷ _ ∷ _ ∷ _ ∷ _ ∷ []) _ $
+          discard ! (0 ∷ 2 ∷ 2 ∷ 2 ∷ 2 ∷ 2 ∷ 2 ∷ 2 ∷ 2 ∷ []) $ fsplit ! $ bring ! (1 ∷ []) $ feqL ! (λ h-core-x-map.
+          bring ! (1 ∷ []) $ fsplit ! $ bring ! (1 ∷ []) $ feqL ! (λ h-core-x-card. bring ! (2 ∷ []) $ split ! $
+          bring ! (1 ∷ []) $
           rewrite ! 0 (λ (r : (denotes Out)). ‵ ((rowOf Out) .own r (w-core ∷ []))) (e-core .0) refl $
           rewrite ! 3 (λ (l : List ℕ). ‵ (finally u64 δ₀-core l)) (e-core .1) refl $
           rewrite ! 2 (λ (l : List ℕ). ‵ (finally u8 δ₁-core l)) (e-core .2) refl $
           peeks ! (rowOf Out) (Is (rowOf Out)) (shows 𝓤 H A (rowOf Out)) v-out (w-core ∷ []) (λ is-w-core.
           land ! (from ! (stop !)) (init ! 33 refl ((Out .typed 𝓤 H A W) v-out _ is-w-core .0)) $
           rewrite ! 33 (λ (u : Val). ‵ (fat fullShare (mirOf Out) l₁₃ 0 u)) (ap only ((Out .tells) v-out _ is-w-core)) refl $
-          drop ! $ split ! $ move ! (1 ∷ []) $ split ! $ move ! (1 ∷ []) $ split ! $ move ! (1 ∷ []) $ drop ! $
-          move ! (2 ∷ []) $ lft-end ! tt $ move ! (0 ∷ 7 ∷ 4 ∷ []) $
+          discard ! (0 ∷ []) $ parts W (_ ∷ _ ∷ _ ∷ []) _ $ lft-end ! tt $ bring ! (0 ∷ 6 ∷ 3 ∷ []) $
           use3 W (later (‵ (MutSlice (named 0) κ₀ u64 .own (at-x-map (x-map .name) z-core-x-map) (s-x-map ∷ []))
           ⊛ ‵ (flft κ₀ q₀))) (comes-back u64 κ₀ (ν₀-core ∷ []) q₀ (x-map .name) (x-map .ptr .0) (x-map .ptr .1) 𝓤 H A W
           (named 0) (named 0) (now x-map) (length (now x-map)) refl room-x-map δ₀-core z-core-x-map
           (ap {B = ℕ} length (sym (e-core .1)) ∙ h-core-x-map)) $
-          await ! tt $ split ! $ move ! (3 ∷ []) $ lft-end ! tt $ move ! (0 ∷ 6 ∷ 4 ∷ []) $
+          await ! tt $ split ! $ bring ! (2 ∷ []) $ lft-end ! tt $ bring ! (0 ∷ 5 ∷ 3 ∷ []) $
           use3 W (later (‵ (MutSlice (named 2) κ₂ u8 .own (at-x-card (x-card .name) z-core-x-card) (s-x-card ∷ []))
           ⊛ ‵ (flft κ₂ q₂))) (comes-back u8 κ₂ (ν₁-core ∷ []) q₂ (x-card .name) (x-card .ptr .0) (x-card .ptr .1) 𝓤 H A W
           (named 2) (named 1) (now x-card) (length (now x-card)) refl room-x-card δ₁-core z-core-x-card
@@ -917,32 +906,32 @@ module _ (Slot Out Shape Outcome : Value) where
           (and-then ! (load ! (from ! (stop !)) (look ! 33 refl)) (no-more !)) (λ w-entry-of.
           use1 W (later (some (λ (r : Entry). ((‵ ftrue) ⊛ ‵ (Entry′.the-row .own r (w-entry-of ∷ [])))
           ⊛ raw (ensured 𝓤 H A entry-of-ended (entry-of-clauses entry-of-out 𝓤) tt (entry-of-args) tt r)))) (id⊢ 𝓤 _) $
-          await ! tt $ pick ! (λ r-entry-of. split ! $ move ! (1 ∷ []) $
+          await ! tt $ pick ! (λ r-entry-of. split ! $ bring ! (1 ∷ []) $
           use1 W (some (λ (zs-entry-of : Unit {0} × Unit {0}). ‵ (lasts entry-of-ended tt (entry-of-args) zs-entry-of)
           ⊛ raw (fact 𝓤 (entry-of-says entry-of-out v-out r-entry-of)))) (id⊢ 𝓤 _) $
-          pick ! (λ zs-entry-of. split ! $ move ! (1 ∷ []) $
-          heard ! (entry-of-says entry-of-out v-out r-entry-of) (λ e-entry-of. fsplit ! $ move ! (1 ∷ []) $ drop ! $
-          drop ! $ split ! $ move ! (1 ∷ []) $
+          pick ! (λ zs-entry-of. split ! $ bring ! (1 ∷ []) $
+          heard ! (entry-of-says entry-of-out v-out r-entry-of) (λ e-entry-of. fparts W (_ ∷ []) _ $
+          discard ! (0 ∷ []) $ split ! $ bring ! (1 ∷ []) $
           rewrite ! 0 (λ (r : Entry). ‵ (Entry′.the-row .own r (w-entry-of ∷ []))) (e-entry-of) refl $
           peeks ! Entry′.the-row (Is Entry′.the-row) (shows 𝓤 H A Entry′.the-row) v-entry (w-entry-of ∷ []) (λ is-w-entry-of.
           land ! (from ! (stop !)) (init ! 32 refl ((struct.lawful Entry′.the-type Entry″.the-laws 𝓤 H A W .typed) v-entry _
           is-w-entry-of .0)) $
           rewrite ! 32 (λ (u : Val). ‵ (fat fullShare Entry″.mir l₁₄ 0 u)) (ap only ((struct.tells Entry′.the-type
           Entry″.the-laws) v-entry _ is-w-entry-of)) refl $
-          drop ! $ drop ! $
+          discard ! (0 ∷ []) $ parts W ([]) _ $
           -- store
           assigns ! (addr ! (from ! (fld ! refl (hop ! (look-in ! 52 (sub ! 0 refl (whole !))) (stop !))))) (from ! (stop !))
           (init ! 10 refl (tt, tt)) $
           assigns ! (agg ! (and-then ! (load ! (from ! (stop !)) (look ! 10 refl)) (and-then !
           (load ! (from ! (fld ! refl (stop !))) (look-in ! 52 (sub ! 1 refl (whole !)))) (no-more !)))) (from ! (stop !))
           (init ! 8 refl (tt, (tt, (record { fits = room-x-catalogue .0 }, tt)))) $
-          lft-new ! tt (λ ν₀-store. move ! (7 ∷ 8 ∷ []) $
+          lft-new ! tt (λ ν₀-store. bring ! (7 ∷ 7 ∷ []) $
           use2 W (later (some (λ (δ : GName). ‵ (MutSlice (named 0) (ν₀-store ∷ []) Entry′.the-row .own
           (at-x-catalogue δ (now x-catalogue)) (s-x-catalogue ∷ [])) ⊛ ‵ (LentAgain Entry′.the-row κ₁ (ν₀-store ∷ []) q₁
           (x-catalogue .name) (x-catalogue .ptr .0) (x-catalogue .ptr .1) δ (now x-catalogue)))))
           (lends-again Entry′.the-row κ₁ (ν₀-store ∷ []) q₁ (x-catalogue .name) (x-catalogue .ptr .0) (x-catalogue .ptr .1) 𝓤 H
           A W (named 1) (named 0) (now x-catalogue) (length (now x-catalogue)) refl) $
-          await ! tt $ pick ! (λ δ₀-store. split ! $ move ! (2 ∷ 0 ∷ []) $ join ! $
+          await ! tt $ pick ! (λ δ₀-store. split ! $ bring ! (2 ∷ 0 ∷ []) $ group ! 2 $
           use1 W (raw ((store-contract store-x-catalogue 𝓤 H A) .pre (to-store ν₀-store δ₀-store)))
           (goes-store ν₀-store δ₀-store (spelled-v-entry w-entry-of is-w-entry-of)) $
           calls-at ! (fmOf 𝓤 H (W .laws) 𝓣) (store-contract store-x-catalogue 𝓤 H A) known-store (to-store ν₀-store δ₀-store)
@@ -951,20 +940,19 @@ module _ (Slot Out Shape Outcome : Value) where
           use1 W (later (some (λ (r : (Unit {0})). ((‵ (flft (ν₀-store ∷ []) fullShare) ⊛ ‵ ftrue)
           ⊛ ‵ (Nothing .own r (w-store ∷ []))) ⊛ raw (ensured 𝓤 H A store-ended (store-clauses store-x-catalogue 𝓤)
           (ν₀-store ∷ [], tt) (store-args δ₀-store) tt r)))) (id⊢ 𝓤 _) $
-          await ! tt $ pick ! (λ r-store. split ! $ move ! (1 ∷ []) $
+          await ! tt $ pick ! (λ r-store. split ! $ bring ! (1 ∷ []) $
           use1 W (some (λ (zs-store : List Entry × (Unit {0} × (Unit {0} × Unit {0}))). ‵
           (lasts store-ended (ν₀-store ∷ [], tt) (store-args δ₀-store) zs-store) ⊛ raw
           (fact 𝓤 (store-says store-x-catalogue (now x-catalogue) x-sheet v-entry r-store (zs-store .0))))) (id⊢ 𝓤 _) $
-          pick ! (λ zs-store. split ! $ move ! (1 ∷ []) $
+          pick ! (λ zs-store. split ! $ bring ! (1 ∷ []) $
           heard ! (store-says store-x-catalogue (now x-catalogue) x-sheet v-entry r-store (zs-store .0)) (λ e-store.
-          fsplit ! $ move ! (1 ∷ []) $ fsplit ! $ move ! (1 ∷ []) $ fsplit ! $ move ! (1 ∷ []) $ drop ! $
-          move ! (2 ∷ []) $ fsplit ! $ move ! (1 ∷ []) $ feqL ! (λ h-store-x-catalogue. move ! (2 ∷ []) $ drop ! $
-          move ! (1 ∷ []) $ drop ! $ move ! (1 ∷ []) $ split ! $ move ! (1 ∷ []) $
+          fparts W (_ ∷ _ ∷ _ ∷ []) _ $ discard ! (1 ∷ 1 ∷ []) $ fsplit ! $ bring ! (1 ∷ []) $
+          feqL ! (λ h-store-x-catalogue. bring ! (1 ∷ []) $ split ! $ bring ! (1 ∷ []) $
           rewrite ! 2 (λ (l : List Entry). ‵ (finally Entry′.the-row δ₀-store l)) (e-store) refl $
           peeks ! Nothing (Is Nothing) (shows 𝓤 H A Nothing) v-store (w-store ∷ []) (λ is-w-store.
           land ! (from ! (stop !)) (init ! 14 refl ((nothing-lawful 𝓤 H A W .typed) v-store _ is-w-store .0)) $
           rewrite ! 14 (λ (u : Val). ‵ (fat fullShare tyUnit l₂₃ 0 u)) (ap only (nothing-tells v-store _ is-w-store)) refl $
-          drop ! $ split ! $ move ! (1 ∷ []) $ drop ! $ lft-end ! tt $ move ! (0 ∷ 2 ∷ 1 ∷ []) $
+          discard ! (0 ∷ []) $ parts W (_ ∷ []) _ $ lft-end ! tt $ bring ! (0 ∷ 1 ∷ 0 ∷ []) $
           use3 W (later (‵ (MutSlice (named 1) κ₁ Entry′.the-row .own (at-x-catalogue (x-catalogue .name) z-store-x-catalogue)
           (s-x-catalogue ∷ [])) ⊛ ‵ (flft κ₁ q₁))) (comes-back Entry′.the-row κ₁ (ν₀-store ∷ []) q₁ (x-catalogue .name)
           (x-catalogue .ptr .0) (x-catalogue .ptr .1) 𝓤 H A W (named 1) (named 0) (now x-catalogue) (length (now x-catalogue))
@@ -978,27 +966,26 @@ module _ (Slot Out Shape Outcome : Value) where
           (no-more !))) (λ w-outcome-of.
           use1 W (later (some (λ (r : (denotes Outcome)). ((‵ ftrue) ⊛ ‵ ((rowOf Outcome) .own r (w-outcome-of ∷ [])))
           ⊛ raw (ensured 𝓤 H A outcome-of-ended (outcome-of-clauses outcome-of-out 𝓤) tt (outcome-of-args) tt r)))) (id⊢ 𝓤 _) $
-          await ! tt $ pick ! (λ r-outcome-of. split ! $ move ! (1 ∷ []) $
+          await ! tt $ pick ! (λ r-outcome-of. split ! $ bring ! (1 ∷ []) $
           use1 W (some (λ (zs-outcome-of : Unit {0} × (Unit {0} × Unit {0})). ‵ (lasts outcome-of-ended tt (outcome-of-args)
           zs-outcome-of) ⊛ raw (fact 𝓤 (outcome-of-says outcome-of-out x-self v-out r-outcome-of)))) (id⊢ 𝓤 _) $
-          pick ! (λ zs-outcome-of. split ! $ move ! (1 ∷ []) $
-          heard ! (outcome-of-says outcome-of-out x-self v-out r-outcome-of) (λ e-outcome-of. fsplit ! $
-          move ! (1 ∷ []) $ fsplit ! $ move ! (1 ∷ []) $ drop ! $ move ! (1 ∷ []) $ drop ! $ drop ! $ split ! $
-          move ! (1 ∷ []) $
+          pick ! (λ zs-outcome-of. split ! $ bring ! (1 ∷ []) $
+          heard ! (outcome-of-says outcome-of-out x-self v-out r-outcome-of) (λ e-outcome-of. fparts W (_ ∷ _ ∷ []) _ $
+          discard ! (0 ∷ 0 ∷ []) $ split ! $ bring ! (1 ∷ []) $
           rewrite ! 0 (λ (r : (denotes Outcome)). ‵ ((rowOf Outcome) .own r (w-outcome-of ∷ []))) (e-outcome-of) refl $
           peeks ! (rowOf Outcome) (Is (rowOf Outcome)) (shows 𝓤 H A (rowOf Outcome)) v-result (w-outcome-of ∷ [])
           (λ is-w-outcome-of.
           land ! (from ! (stop !)) (init ! 60 refl ((Outcome .typed 𝓤 H A W) v-result _ is-w-outcome-of .0)) $
           rewrite ! 60 (λ (u : Val). ‵ (fat fullShare (mirOf Outcome) l₀ 0 u)) (ap only
           ((Outcome .tells) v-result _ is-w-outcome-of)) refl $
-          drop ! $ drop ! $ returns ! (look ! 58 refl) $ leave ! 58 refl refl $ leave ! 56 refl refl $
-          leave ! 54 refl refl $ leave ! 52 refl refl $ leave ! 50 refl refl $ leave ! 48 refl refl $
-          leave ! 46 refl refl $ leave ! 44 refl refl $ leave ! 42 refl refl $ leave ! 40 refl refl $
-          leave ! 38 refl refl $ leave ! 36 refl refl $ leave ! 34 refl refl $ leave ! 32 refl refl $
-          leave ! 30 refl refl $ leave ! 28 refl refl $ leave ! 26 refl refl $ leave ! 24 refl refl $
-          leave ! 22 refl refl $ leave ! 20 refl refl $ leave ! 18 refl refl $ leave ! 16 refl refl $
-          leave ! 14 refl refl $ leave ! 12 refl refl $ leave ! 10 refl refl $ leave ! 8 refl refl $ free0 ! $
-          move ! (4 ∷ 5 ∷ 0 ∷ 1 ∷ 2 ∷ 3 ∷ 7 ∷ 6 ∷ []) $
+          discard ! (0 ∷ []) $ parts W ([]) _ $ returns ! (look ! 58 refl) $ leave ! 58 refl refl $
+          leave ! 56 refl refl $ leave ! 54 refl refl $ leave ! 52 refl refl $ leave ! 50 refl refl $
+          leave ! 48 refl refl $ leave ! 46 refl refl $ leave ! 44 refl refl $ leave ! 42 refl refl $
+          leave ! 40 refl refl $ leave ! 38 refl refl $ leave ! 36 refl refl $ leave ! 34 refl refl $
+          leave ! 32 refl refl $ leave ! 30 refl refl $ leave ! 28 refl refl $ leave ! 26 refl refl $
+          leave ! 24 refl refl $ leave ! 22 refl refl $ leave ! 20 refl refl $ leave ! 18 refl refl $
+          leave ! 16 refl refl $ leave ! 14 refl refl $ leave ! 12 refl refl $ leave ! 10 refl refl $
+          leave ! 8 refl refl $ free0 ! $ bring ! (4 ∷ 4 ∷ 0 ∷ 0 ∷ 0 ∷ 0 ∷ 1 ∷ 0 ∷ []) $
           by ! (exits (spelled-v-result w-outcome-of is-w-outcome-of) (ap {B = ℕ} length (sym (e-core .1)) ∙ h-core-x-map)
           (ap {B = ℕ} length (sym (e-store)) ∙ h-store-x-catalogue) (ap {B = ℕ} length (sym (e-core .2))
           ∙ h-core-x-card)))))))))))))))))))))))))))))))))))))))))))))))))))))))))))))))))))))))

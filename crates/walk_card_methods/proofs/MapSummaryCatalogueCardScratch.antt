@@ -25,7 +25,7 @@ use base.Fml.{Lft, Share, GName, ftrue, flft, fat}
 use prog.Wp.{Heap, WpFn, Tables}
 use ghost.Atoms.{Atoms}
 use contract.Monad.{fact}
-use types.Kit.{Given, ‵, raw, some, later, _⊛_, ⋆, _$_, _∵_, !, qed, by, move, drop, use0, use1, use2, use3, split, join, pick}
+use types.Kit.{Given, ‵, raw, some, later, _⊛_, ⋆, _$_, _∵_, !, qed, by, use0, use1, use2, use3, group, split, join, pick}
 use types.Kit.{rewrite, fsplit, fjoin, feqL, suffices, frame, await, done}
 use types.Run.{look, init, stop, hop, fld, from, load, addr, and-then, no-more, assigns, land, returns, enter, alloc1, alloc0}
 use types.Run.{params1, pass1, pass0, free0}
@@ -53,7 +53,7 @@ use Rattle.catalogue.proofs.Values.{Value, denotes, rowOf, mirOf, valsOf}
 use Rattle.catalogue.specs.declared.Entry.{Entry}
 use Rattle.catalogue.proofs.Entry as Entry′
 use Rattle.catalogue.proofs.Entry.Laws as Entry″
-use Rattle.catalogue.proofs.Steps.{leave}
+use Rattle.catalogue.proofs.Steps.{bring, discard, parts, fparts, leave}
 use Rattle.catalogue.proofs.Lending.{LentAgain, lends-again, comes-back, LentOut, lends-out, comes-home}
 
 module _ (Shape Outcome : Value) where
@@ -516,7 +516,7 @@ module _ (Shape Outcome : Value) where
       goes-blocks-of =
           qed W ([]) ∵
           nothing ! $ nothing ! $ owned ! (rowOf Shape) (Is (rowOf Shape)) (Shape .makes 𝓤 H A) x-self _ is-x-self $
-          fjoin ! $ move ! (1 ∷ 0 ∷ []) $ join ! $ frame ! $ done !
+          fjoin ! $ bring ! (1 ∷ 0 ∷ []) $ join ! $ frame ! $ done !
 
       -- ---- the caller has what `free-of` asks
       abbrev free-of-args : (denotes Shape) × Unit {0}
@@ -529,7 +529,7 @@ module _ (Shape Outcome : Value) where
       goes-free-of =
           qed W ([]) ∵
           nothing ! $ nothing ! $ owned ! (rowOf Shape) (Is (rowOf Shape)) (Shape .makes 𝓤 H A) x-self _ is-x-self $
-          fjoin ! $ move ! (1 ∷ 0 ∷ []) $ join ! $ frame ! $ done !
+          fjoin ! $ bring ! (1 ∷ 0 ∷ []) $ join ! $ frame ! $ done !
 
       -- ---- the caller has what `beside-fits` asks
       abbrev beside-fits-args : (δ₀-beside-fits δ₁-beside-fits : GName) → RefT (List ℕ) × (RefT (List ℕ) × Unit {0})
@@ -560,8 +560,8 @@ module _ (Shape Outcome : Value) where
           ∷ ‵ (ShrSlice (named 0) (ν₀-beside-fits ∷ []) u64 .own (at-x-map δ₀-beside-fits (now x-map)) (s-x-map ∷ []))
           ∷ ‵ (ShrSlice (named 1) (ν₁-beside-fits ∷ []) u32 .own (at-x-summary δ₁-beside-fits (now x-summary))
           (s-x-summary ∷ [])) ∷ []) ∵
-          nothing ! $ move ! (2 ∷ 0 ∷ []) $ join ! $ move ! (1 ∷ 0 ∷ []) $ join ! $ nothing ! $ move ! (3 ∷ 0 ∷ []) $
-          fjoin ! $ move ! (2 ∷ 0 ∷ []) $ fjoin ! $ move ! (1 ∷ 0 ∷ []) $ join ! $ frame ! $ done !
+          nothing ! $ bring ! (1 ∷ 1 ∷ 0 ∷ []) $ group ! 3 $ nothing ! $ bring ! (3 ∷ 0 ∷ []) $ fjoin ! $
+          bring ! (2 ∷ 0 ∷ []) $ fjoin ! $ bring ! (1 ∷ 0 ∷ []) $ join ! $ frame ! $ done !
 
       -- ---- the caller has what `close` asks
       abbrev close-args : (δ₀-close δ₁-close δ₂-close δ₃-close : GName) → ℕ × (ℕ × (Bool
@@ -617,12 +617,11 @@ module _ (Shape Outcome : Value) where
           (now x-catalogue)) (s-x-catalogue ∷ [])) ∷ ‵ (MutSlice (named 2) (ν₂-close ∷ []) u8 .own
           (at-x-card δ₂-close (now x-card)) (s-x-card ∷ [])) ∷ ‵ (MutSlice (named 3) (ν₃-close ∷ []) u64 .own
           (at-x-scratch δ₃-close (now x-scratch)) (s-x-scratch ∷ [])) ∷ []) ∵
-          nothing ! $ move ! (4 ∷ 0 ∷ []) $ join ! $ move ! (3 ∷ 0 ∷ []) $ join ! $ move ! (2 ∷ 0 ∷ []) $ join ! $
-          move ! (1 ∷ 0 ∷ []) $ join ! $ nothing ! $ move ! (5 ∷ 0 ∷ []) $ fjoin ! $ move ! (4 ∷ 0 ∷ []) $ fjoin ! $
-          move ! (3 ∷ 0 ∷ []) $ fjoin ! $ move ! (2 ∷ 0 ∷ []) $ fjoin ! $
+          nothing ! $ bring ! (1 ∷ 1 ∷ 1 ∷ 1 ∷ 0 ∷ []) $ group ! 5 $ nothing ! $ bring ! (5 ∷ 0 ∷ []) $ fjoin ! $
+          bring ! (4 ∷ 0 ∷ []) $ fjoin ! $ bring ! (3 ∷ 0 ∷ []) $ fjoin ! $ bring ! (2 ∷ 0 ∷ []) $ fjoin ! $
           owned ! Boolean (Is Boolean) (bool-makes 𝓤 H A W) v-fits _ is-v-fits $ fjoin ! $
           owned ! u32 (Is u32) (uint-makes 𝓤 H A W w32) v-free _ is-v-free $ fjoin ! $
-          owned ! u32 (Is u32) (uint-makes 𝓤 H A W w32) v-n _ is-v-n $ fjoin ! $ move ! (1 ∷ 0 ∷ []) $ join ! $
+          owned ! u32 (Is u32) (uint-makes 𝓤 H A W w32) v-n _ is-v-n $ fjoin ! $ bring ! (1 ∷ 0 ∷ []) $ join ! $
           frame ! $ done !
 
       -- ---- the caller has what `rebuild` asks
@@ -654,11 +653,11 @@ module _ (Shape Outcome : Value) where
           ∷ ‵ (ShrSlice (named 0) (ν₀-rebuild ∷ []) u64 .own (at-x-map δ₀-rebuild z-close-x-map) (s-x-map ∷ []))
           ∷ ‵ (MutSlice (named 1) (ν₁-rebuild ∷ []) u32 .own (at-x-summary δ₁-rebuild (now x-summary)) (s-x-summary ∷ [])) ∷ [])
           ∵
-          nothing ! $ move ! (2 ∷ 0 ∷ []) $ join ! $ move ! (1 ∷ 0 ∷ []) $ join ! $ nothing ! $
-          owned ! u32 (Is u32) (uint-makes 𝓤 H A W w32) v-number _ is-v-number $ fjoin ! $ move ! (3 ∷ 0 ∷ []) $
-          fjoin ! $ move ! (2 ∷ 0 ∷ []) $ fjoin ! $
+          nothing ! $ bring ! (1 ∷ 1 ∷ 0 ∷ []) $ group ! 3 $ nothing ! $
+          owned ! u32 (Is u32) (uint-makes 𝓤 H A W w32) v-number _ is-v-number $ fjoin ! $ bring ! (3 ∷ 0 ∷ []) $
+          fjoin ! $ bring ! (2 ∷ 0 ∷ []) $ fjoin ! $
           owned ! (rowOf Shape) (Is (rowOf Shape)) (Shape .makes 𝓤 H A) x-self _ is-x-self $ fjoin ! $
-          move ! (1 ∷ 0 ∷ []) $ join ! $ frame ! $ done !
+          bring ! (1 ∷ 0 ∷ []) $ join ! $ frame ! $ done !
 
       -- ---- the caller has what `save-outcome` asks
       abbrev save-outcome-args : (denotes Shape) × (ℕ × Unit {0})
@@ -673,7 +672,7 @@ module _ (Shape Outcome : Value) where
           qed W ([]) ∵
           nothing ! $ nothing ! $ owned ! u32 (Is u32) (uint-makes 𝓤 H A W w32) v-number _ is-v-number $ fjoin ! $
           owned ! (rowOf Shape) (Is (rowOf Shape)) (Shape .makes 𝓤 H A) x-self _ is-x-self $ fjoin ! $
-          move ! (1 ∷ 0 ∷ []) $ join ! $ frame ! $ done !
+          bring ! (1 ∷ 0 ∷ []) $ join ! $ frame ! $ done !
 
       -- ---- the exit
       exits : Is (rowOf Outcome) v-result (m-v-result ∷ []) → length z-close-x-map ≡ length (now x-map)
@@ -697,12 +696,11 @@ module _ (Shape Outcome : Value) where
           suffices ! _ (ends-at 𝓤 H A ended stayed (clauses 𝓤) W bound m-v-result v-result
           (tt, (z-close-x-map, (z-rebuild-x-summary, (z-close-x-catalogue, (z-close-x-card, (z-close-x-scratch, tt))))))
           (tt, (l-x-map, (l-x-summary, (l-x-catalogue, (l-x-card, (l-x-scratch, tt))))))) $
-          says ! (refl, refl, refl, refl, refl, refl) $ nothing ! $ move ! (10 ∷ 0 ∷ []) $ join ! $
-          move ! (8 ∷ 0 ∷ []) $ join ! $ move ! (6 ∷ 0 ∷ []) $ join ! $ move ! (4 ∷ 0 ∷ []) $ join ! $
-          move ! (2 ∷ 0 ∷ []) $ join ! $ frame ! $ nothing ! $ move ! (5 ∷ 0 ∷ []) $ fjoin ! $ move ! (4 ∷ 0 ∷ []) $
-          fjoin ! $ move ! (3 ∷ 0 ∷ []) $ fjoin ! $ move ! (2 ∷ 0 ∷ []) $ fjoin ! $ move ! (1 ∷ 0 ∷ []) $ fjoin ! $
+          says ! (refl, refl, refl, refl, refl, refl) $ nothing ! $ bring ! (2 ∷ 3 ∷ 4 ∷ 5 ∷ 6 ∷ 0 ∷ []) $ group ! 6 $
+          frame ! $ nothing ! $ bring ! (5 ∷ 0 ∷ []) $ fjoin ! $ bring ! (4 ∷ 0 ∷ []) $ fjoin ! $
+          bring ! (3 ∷ 0 ∷ []) $ fjoin ! $ bring ! (2 ∷ 0 ∷ []) $ fjoin ! $ bring ! (1 ∷ 0 ∷ []) $ fjoin ! $
           owned ! (rowOf Shape) (Is (rowOf Shape)) (Shape .makes 𝓤 H A) x-self _ is-x-self $ fjoin ! $
-          owned ! (rowOf Outcome) (Is (rowOf Outcome)) (Outcome .makes 𝓤 H A) v-result _ is $ move ! (1 ∷ 0 ∷ []) $
+          owned ! (rowOf Outcome) (Is (rowOf Outcome)) (Outcome .makes 𝓤 H A) v-result _ is $ bring ! (1 ∷ 0 ∷ []) $
           done !
 
       -- ---- the walk
@@ -730,47 +728,44 @@ module _ (Shape Outcome : Value) where
           pass1 ! (init ! 48 refl (tt, (tt, (record { fits = room-x-summary .0 }, tt)))) $
           pass1 ! (init ! 46 refl (tt, (tt, (record { fits = room-x-catalogue .0 }, tt)))) $
           pass1 ! (init ! 44 refl (tt, (tt, (record { fits = room-x-card .0 }, tt)))) $
-          pass1 ! (init ! 42 refl (tt, (tt, (record { fits = room-x-scratch .0 }, tt)))) $ pass0 ! $ move ! (56 ∷ []) $
-          split ! $ move ! (1 ∷ []) $ split ! $ move ! (1 ∷ []) $ split ! $ move ! (1 ∷ []) $ split ! $
-          move ! (1 ∷ []) $ split ! $ move ! (1 ∷ []) $ drop ! $ move ! (61 ∷ []) $ fsplit ! $ move ! (1 ∷ []) $
-          fsplit ! $ move ! (1 ∷ []) $ fsplit ! $ move ! (1 ∷ []) $ fsplit ! $ move ! (1 ∷ []) $ fsplit ! $
-          move ! (1 ∷ []) $ fsplit ! $ move ! (1 ∷ []) $ drop ! $ move ! (5 ∷ []) $ drop ! $
+          pass1 ! (init ! 42 refl (tt, (tt, (record { fits = room-x-scratch .0 }, tt)))) $ pass0 ! $
+          bring ! (56 ∷ []) $ parts W (_ ∷ _ ∷ _ ∷ _ ∷ _ ∷ []) _ $ bring ! (61 ∷ []) $
+          fparts W (_ ∷ _ ∷ _ ∷ _ ∷ _ ∷ _ ∷ []) _ $ discard ! (0 ∷ []) $
           -- blocks-of
           use0 W (raw ((blocks-of-contract blocks-of-out 𝓤 H A) .pre (to-blocks-of))) (goes-blocks-of) $
           calls-at ! (fmOf 𝓤 H (W .laws) 𝓣) (blocks-of-contract blocks-of-out 𝓤 H A) known-blocks-of (to-blocks-of)
           (and-then ! (load ! (from ! (stop !)) (look ! 63 refl)) (no-more !)) (λ w-blocks-of.
           use1 W (later (some (λ (r : ℕ). ((‵ ftrue) ⊛ ‵ (u32 .own r (w-blocks-of ∷ [])))
           ⊛ raw (ensured 𝓤 H A blocks-of-ended (blocks-of-clauses blocks-of-out 𝓤) tt (blocks-of-args) tt r)))) (id⊢ 𝓤 _) $
-          await ! tt $ pick ! (λ r-blocks-of. split ! $ move ! (1 ∷ []) $
+          await ! tt $ pick ! (λ r-blocks-of. split ! $ bring ! (1 ∷ []) $
           use1 W (some (λ (zs-blocks-of : Unit {0} × Unit {0}). ‵ (lasts blocks-of-ended tt (blocks-of-args) zs-blocks-of)
           ⊛ raw (fact 𝓤 (blocks-of-says blocks-of-out x-self r-blocks-of)))) (id⊢ 𝓤 _) $
-          pick ! (λ zs-blocks-of. split ! $ move ! (1 ∷ []) $
-          heard ! (blocks-of-says blocks-of-out x-self r-blocks-of) (λ e-blocks-of. fsplit ! $ move ! (1 ∷ []) $
-          drop ! $ drop ! $ split ! $ move ! (1 ∷ []) $
+          pick ! (λ zs-blocks-of. split ! $ bring ! (1 ∷ []) $
+          heard ! (blocks-of-says blocks-of-out x-self r-blocks-of) (λ e-blocks-of. fparts W (_ ∷ []) _ $
+          discard ! (0 ∷ []) $ split ! $ bring ! (1 ∷ []) $
           rewrite ! 0 (λ (r : ℕ). ‵ (u32 .own r (w-blocks-of ∷ []))) (e-blocks-of) refl $
           peeks ! u32 (Is u32) (shows 𝓤 H A u32) v-n (w-blocks-of ∷ []) (λ is-w-blocks-of.
           land ! (from ! (stop !)) (init ! 52 refl ((uint-lawful 𝓤 H A W w32 .typed) v-n _ is-w-blocks-of .0)) $
           rewrite ! 52 (λ (u : Val). ‵ (fat fullShare (tyInt w32) l₇ 0 u)) (ap only ((uint-tells w32) v-n _ is-w-blocks-of))
           refl $
-          drop ! $ drop ! $
+          discard ! (0 ∷ []) $ parts W ([]) _ $
           -- free-of
           use0 W (raw ((free-of-contract free-of-out 𝓤 H A) .pre (to-free-of))) (goes-free-of) $
           calls-at ! (fmOf 𝓤 H (W .laws) 𝓣) (free-of-contract free-of-out 𝓤 H A) known-free-of (to-free-of)
           (and-then ! (load ! (from ! (stop !)) (look ! 63 refl)) (no-more !)) (λ w-free-of.
           use1 W (later (some (λ (r : ℕ). ((‵ ftrue) ⊛ ‵ (u32 .own r (w-free-of ∷ [])))
           ⊛ raw (ensured 𝓤 H A free-of-ended (free-of-clauses free-of-out 𝓤) tt (free-of-args) tt r)))) (id⊢ 𝓤 _) $
-          await ! tt $ pick ! (λ r-free-of. split ! $ move ! (1 ∷ []) $
+          await ! tt $ pick ! (λ r-free-of. split ! $ bring ! (1 ∷ []) $
           use1 W (some (λ (zs-free-of : Unit {0} × Unit {0}). ‵ (lasts free-of-ended tt (free-of-args) zs-free-of)
           ⊛ raw (fact 𝓤 (free-of-says free-of-out x-self r-free-of)))) (id⊢ 𝓤 _) $
-          pick ! (λ zs-free-of. split ! $ move ! (1 ∷ []) $
-          heard ! (free-of-says free-of-out x-self r-free-of) (λ e-free-of. fsplit ! $ move ! (1 ∷ []) $ drop ! $
-          drop ! $ split ! $ move ! (1 ∷ []) $
-          rewrite ! 0 (λ (r : ℕ). ‵ (u32 .own r (w-free-of ∷ []))) (e-free-of) refl $
+          pick ! (λ zs-free-of. split ! $ bring ! (1 ∷ []) $
+          heard ! (free-of-says free-of-out x-self r-free-of) (λ e-free-of. fparts W (_ ∷ []) _ $ discard ! (0 ∷ []) $
+          split ! $ bring ! (1 ∷ []) $ rewrite ! 0 (λ (r : ℕ). ‵ (u32 .own r (w-free-of ∷ []))) (e-free-of) refl $
           peeks ! u32 (Is u32) (shows 𝓤 H A u32) v-free (w-free-of ∷ []) (λ is-w-free-of.
           land ! (from ! (stop !)) (init ! 50 refl ((uint-lawful 𝓤 H A W w32 .typed) v-free _ is-w-free-of .0)) $
           rewrite ! 50 (λ (u : Val). ‵ (fat fullShare (tyInt w32) l₈ 0 u)) (ap only ((uint-tells w32) v-free _ is-w-free-of))
           refl $
-          drop ! $ drop ! $
+          discard ! (0 ∷ []) $ parts W ([]) _ $
           -- beside-fits
           assigns ! (addr ! (from ! (fld ! refl (hop ! (look-in ! 60 (sub ! 0 refl (whole !))) (stop !))))) (from ! (stop !))
           (init ! 42 refl (tt, tt)) $
@@ -782,19 +777,18 @@ module _ (Shape Outcome : Value) where
           assigns ! (agg ! (and-then ! (load ! (from ! (stop !)) (look ! 38 refl)) (and-then !
           (load ! (from ! (fld ! refl (stop !))) (look-in ! 58 (sub ! 1 refl (whole !)))) (no-more !)))) (from ! (stop !))
           (init ! 36 refl (tt, (tt, (record { fits = room-x-summary .0 }, tt)))) $
-          lft-new ! tt (λ ν₀-beside-fits. move ! (5 ∷ 10 ∷ []) $
+          lft-new ! tt (λ ν₀-beside-fits. bring ! (1 ∷ 5 ∷ []) $
           use2 W (later (some (λ (δ : GName). ‵ (ShrSlice (named 0) (ν₀-beside-fits ∷ []) u64 .own (at-x-map δ (now x-map))
           (s-x-map ∷ [])) ⊛ ‵ (LentOut u64 κ₀ (ν₀-beside-fits ∷ []) q₀ (x-map .name) (x-map .ptr .0) (x-map .ptr .1)
           (now x-map))))) (lends-out u64 κ₀ (ν₀-beside-fits ∷ []) q₀ (x-map .name) (x-map .ptr .0) (x-map .ptr .1) 𝓤 H A W
           (named 0) (named 0) (now x-map) (length (now x-map)) refl) $
-          await ! tt $ pick ! (λ δ₀-beside-fits. split ! $ lft-new ! tt (λ ν₁-beside-fits. move ! (7 ∷ 11 ∷ []) $
+          await ! tt $ pick ! (λ δ₀-beside-fits. split ! $ lft-new ! tt (λ ν₁-beside-fits. bring ! (4 ∷ 7 ∷ []) $
           use2 W (later (some (λ (δ : GName). ‵ (ShrSlice (named 1) (ν₁-beside-fits ∷ []) u32 .own
           (at-x-summary δ (now x-summary)) (s-x-summary ∷ [])) ⊛ ‵ (LentOut u32 κ₁ (ν₁-beside-fits ∷ []) q₁ (x-summary .name)
           (x-summary .ptr .0) (x-summary .ptr .1) (now x-summary))))) (lends-out u32 κ₁ (ν₁-beside-fits ∷ []) q₁
           (x-summary .name) (x-summary .ptr .0) (x-summary .ptr .1) 𝓤 H A W (named 1) (named 1) (now x-summary)
           (length (now x-summary)) refl) $
-          await ! tt $ pick ! (λ δ₁-beside-fits. split ! $ move ! (5 ∷ 2 ∷ 3 ∷ 0 ∷ []) $ move ! (2 ∷ 3 ∷ []) $ join ! $
-          move ! (2 ∷ 0 ∷ []) $ join ! $ move ! (1 ∷ 0 ∷ []) $ join ! $
+          await ! tt $ pick ! (λ δ₁-beside-fits. split ! $ bring ! (5 ∷ 2 ∷ 2 ∷ 0 ∷ []) $ group ! 4 $
           use1 W (raw ((beside-fits-contract beside-fits-out 𝓤 H A) .pre (to-beside-fits ν₀-beside-fits ν₁-beside-fits
           δ₀-beside-fits δ₁-beside-fits))) (goes-beside-fits ν₀-beside-fits ν₁-beside-fits δ₀-beside-fits δ₁-beside-fits) $
           calls-at ! (fmOf 𝓤 H (W .laws) 𝓣) (beside-fits-contract beside-fits-out 𝓤 H A) known-beside-fits
@@ -805,24 +799,22 @@ module _ (Shape Outcome : Value) where
           ⊛ ‵ (flft (ν₁-beside-fits ∷ []) fullShare) ⊛ ‵ ftrue) ⊛ ‵ (Boolean .own r (w-beside-fits ∷ [])))
           ⊛ raw (ensured 𝓤 H A beside-fits-ended (beside-fits-clauses beside-fits-out 𝓤)
           (ν₀-beside-fits ∷ [], (ν₁-beside-fits ∷ [], tt)) (beside-fits-args δ₀-beside-fits δ₁-beside-fits) tt r)))) (id⊢ 𝓤 _) $
-          await ! tt $ pick ! (λ r-beside-fits. split ! $ move ! (1 ∷ []) $
+          await ! tt $ pick ! (λ r-beside-fits. split ! $ bring ! (1 ∷ []) $
           use1 W (some (λ (zs-beside-fits : Unit {0} × (Unit {0} × Unit {0})). ‵ (lasts beside-fits-ended
           (ν₀-beside-fits ∷ [], (ν₁-beside-fits ∷ [], tt)) (beside-fits-args δ₀-beside-fits δ₁-beside-fits) zs-beside-fits)
           ⊛ raw (fact 𝓤 (beside-fits-says beside-fits-out (now x-map) (now x-summary) r-beside-fits)))) (id⊢ 𝓤 _) $
-          pick ! (λ zs-beside-fits. split ! $ move ! (1 ∷ []) $
+          pick ! (λ zs-beside-fits. split ! $ bring ! (1 ∷ []) $
           heard ! (beside-fits-says beside-fits-out (now x-map) (now x-summary) r-beside-fits) (λ e-beside-fits.
-          fsplit ! $ move ! (1 ∷ []) $ fsplit ! $ move ! (1 ∷ []) $ drop ! $ move ! (1 ∷ []) $ drop ! $ drop ! $
-          split ! $ move ! (1 ∷ []) $
+          fparts W (_ ∷ _ ∷ []) _ $ discard ! (0 ∷ 0 ∷ []) $ split ! $ bring ! (1 ∷ []) $
           rewrite ! 0 (λ (r : Bool). ‵ (Boolean .own r (w-beside-fits ∷ []))) (e-beside-fits) refl $
           peeks ! Boolean (Is Boolean) (shows 𝓤 H A Boolean) v-fits (w-beside-fits ∷ []) (λ is-w-beside-fits.
           land ! (from ! (stop !)) (init ! 46 refl ((bool-lawful 𝓤 H A W .typed) v-fits _ is-w-beside-fits .0)) $
           rewrite ! 46 (λ (u : Val). ‵ (fat fullShare tyBool l₉ 0 u)) (ap only (bool-tells v-fits _ is-w-beside-fits)) refl $
-          drop ! $ split ! $ move ! (1 ∷ []) $ split ! $ move ! (1 ∷ []) $ drop ! $ move ! (1 ∷ []) $ lft-end ! tt $
-          move ! (0 ∷ 3 ∷ []) $
+          discard ! (0 ∷ []) $ parts W (_ ∷ _ ∷ []) _ $ lft-end ! tt $ bring ! (0 ∷ 2 ∷ []) $
           use2 W (later (‵ (MutSlice (named 0) κ₀ u64 .own (at-x-map (x-map .name) (now x-map)) (s-x-map ∷ []))
           ⊛ ‵ (flft κ₀ q₀))) (comes-home u64 κ₀ (ν₀-beside-fits ∷ []) q₀ (x-map .name) (x-map .ptr .0) (x-map .ptr .1) 𝓤 H A W
           (named 0) (named 0) (now x-map) (length (now x-map)) refl room-x-map) $
-          await ! tt $ split ! $ move ! (2 ∷ []) $ lft-end ! tt $ move ! (0 ∷ 3 ∷ []) $
+          await ! tt $ split ! $ bring ! (2 ∷ []) $ lft-end ! tt $ bring ! (0 ∷ 2 ∷ []) $
           use2 W (later (‵ (MutSlice (named 1) κ₁ u32 .own (at-x-summary (x-summary .name) (now x-summary)) (s-x-summary ∷ []))
           ⊛ ‵ (flft κ₁ q₁))) (comes-home u32 κ₁ (ν₁-beside-fits ∷ []) q₁ (x-summary .name) (x-summary .ptr .0)
           (x-summary .ptr .1) 𝓤 H A W (named 1) (named 1) (now x-summary) (length (now x-summary)) refl room-x-summary) $
@@ -848,31 +840,28 @@ module _ (Shape Outcome : Value) where
           assigns ! (agg ! (and-then ! (load ! (from ! (stop !)) (look ! 22 refl)) (and-then !
           (load ! (from ! (fld ! refl (stop !))) (look-in ! 52 (sub ! 1 refl (whole !)))) (no-more !)))) (from ! (stop !))
           (init ! 20 refl (tt, (tt, (record { fits = room-x-scratch .0 }, tt)))) $
-          lft-new ! tt (λ ν₀-close. move ! (3 ∷ 4 ∷ []) $
+          lft-new ! tt (λ ν₀-close. bring ! (3 ∷ 3 ∷ []) $
           use2 W (later (some (λ (δ : GName). ‵ (MutSlice (named 0) (ν₀-close ∷ []) u64 .own (at-x-map δ (now x-map))
           (s-x-map ∷ [])) ⊛ ‵ (LentAgain u64 κ₀ (ν₀-close ∷ []) q₀ (x-map .name) (x-map .ptr .0) (x-map .ptr .1) δ
           (now x-map))))) (lends-again u64 κ₀ (ν₀-close ∷ []) q₀ (x-map .name) (x-map .ptr .0) (x-map .ptr .1) 𝓤 H A W (named 0)
           (named 0) (now x-map) (length (now x-map)) refl) $
-          await ! tt $ pick ! (λ δ₀-close. split ! $ lft-new ! tt (λ ν₁-close. move ! (8 ∷ 11 ∷ []) $
+          await ! tt $ pick ! (λ δ₀-close. split ! $ lft-new ! tt (λ ν₁-close. bring ! (6 ∷ 8 ∷ []) $
           use2 W (later (some (λ (δ : GName). ‵ (MutSlice (named 1) (ν₁-close ∷ []) Entry′.the-row .own
           (at-x-catalogue δ (now x-catalogue)) (s-x-catalogue ∷ [])) ⊛ ‵ (LentAgain Entry′.the-row κ₂ (ν₁-close ∷ []) q₂
           (x-catalogue .name) (x-catalogue .ptr .0) (x-catalogue .ptr .1) δ (now x-catalogue)))))
           (lends-again Entry′.the-row κ₂ (ν₁-close ∷ []) q₂ (x-catalogue .name) (x-catalogue .ptr .0) (x-catalogue .ptr .1) 𝓤 H
           A W (named 2) (named 1) (now x-catalogue) (length (now x-catalogue)) refl) $
-          await ! tt $ pick ! (λ δ₁-close. split ! $ lft-new ! tt (λ ν₂-close. move ! (10 ∷ 12 ∷ []) $
+          await ! tt $ pick ! (λ δ₁-close. split ! $ lft-new ! tt (λ ν₂-close. bring ! (9 ∷ 10 ∷ []) $
           use2 W (later (some (λ (δ : GName). ‵ (MutSlice (named 2) (ν₂-close ∷ []) u8 .own (at-x-card δ (now x-card))
           (s-x-card ∷ [])) ⊛ ‵ (LentAgain u8 κ₃ (ν₂-close ∷ []) q₃ (x-card .name) (x-card .ptr .0) (x-card .ptr .1) δ
           (now x-card))))) (lends-again u8 κ₃ (ν₂-close ∷ []) q₃ (x-card .name) (x-card .ptr .0) (x-card .ptr .1) 𝓤 H A W
           (named 3) (named 2) (now x-card) (length (now x-card)) refl) $
-          await ! tt $ pick ! (λ δ₂-close. split ! $ lft-new ! tt (λ ν₃-close. move ! (12 ∷ 13 ∷ []) $
+          await ! tt $ pick ! (λ δ₂-close. split ! $ lft-new ! tt (λ ν₃-close. bring ! (12 ∷ 12 ∷ []) $
           use2 W (later (some (λ (δ : GName). ‵ (MutSlice (named 3) (ν₃-close ∷ []) u64 .own (at-x-scratch δ (now x-scratch))
           (s-x-scratch ∷ [])) ⊛ ‵ (LentAgain u64 κ₄ (ν₃-close ∷ []) q₄ (x-scratch .name) (x-scratch .ptr .0) (x-scratch .ptr .1)
           δ (now x-scratch))))) (lends-again u64 κ₄ (ν₃-close ∷ []) q₄ (x-scratch .name) (x-scratch .ptr .0) (x-scratch .ptr .1)
           𝓤 H A W (named 4) (named 3) (now x-scratch) (length (now x-scratch)) refl) $
-          await ! tt $ pick ! (λ δ₃-close. split ! $ move ! (11 ∷ 8 ∷ 5 ∷ 2 ∷ 9 ∷ 6 ∷ 3 ∷ 0 ∷ []) $
-          move ! (6 ∷ 7 ∷ []) $ join ! $ move ! (6 ∷ 0 ∷ []) $ join ! $ move ! (5 ∷ 0 ∷ []) $ join ! $
-          move ! (4 ∷ 0 ∷ []) $ join ! $ move ! (3 ∷ 0 ∷ []) $ join ! $ move ! (2 ∷ 0 ∷ []) $ join ! $
-          move ! (1 ∷ 0 ∷ []) $ join ! $
+          await ! tt $ pick ! (λ δ₃-close. split ! $ bring ! (11 ∷ 8 ∷ 5 ∷ 2 ∷ 6 ∷ 4 ∷ 2 ∷ 0 ∷ []) $ group ! 8 $
           use1 W (raw ((close-contract close-out close-x-map close-x-catalogue close-x-card close-x-scratch 𝓤 H A) .pre
           (to-close ν₀-close ν₁-close ν₂-close ν₃-close δ₀-close δ₁-close δ₂-close δ₃-close)))
           (goes-close ν₀-close ν₁-close ν₂-close ν₃-close δ₀-close δ₁-close δ₂-close δ₃-close
@@ -890,24 +879,22 @@ module _ (Shape Outcome : Value) where
           𝓤)
           (ν₀-close ∷ [], (ν₁-close ∷ [], (ν₂-close ∷ [], (ν₃-close ∷ [], tt)))) (close-args δ₀-close δ₁-close δ₂-close
           δ₃-close) tt r)))) (id⊢ 𝓤 _) $
-          await ! tt $ pick ! (λ r-close. split ! $ move ! (1 ∷ []) $
+          await ! tt $ pick ! (λ r-close. split ! $ bring ! (1 ∷ []) $
           use1 W (some (λ (zs-close : Unit {0} × (Unit {0} × (Unit {0} × (List ℕ × (List Entry
           × (List ℕ × (List ℕ × Unit {0}))))))). ‵ (lasts close-ended
           (ν₀-close ∷ [], (ν₁-close ∷ [], (ν₂-close ∷ [], (ν₃-close ∷ [], tt)))) (close-args δ₀-close δ₁-close δ₂-close
           δ₃-close) zs-close) ⊛ raw (fact 𝓤 (close-says close-out close-x-map close-x-catalogue close-x-card close-x-scratch v-n
           v-free v-fits (now x-map) (now x-catalogue) (now x-card) (now x-scratch) r-close (zs-close .1 .1 .1 .0)
           (zs-close .1 .1 .1 .1 .0) (zs-close .1 .1 .1 .1 .1 .0) (zs-close .1 .1 .1 .1 .1 .1 .0))))) (id⊢ 𝓤 _) $
-          pick ! (λ zs-close. split ! $ move ! (1 ∷ []) $
+          pick ! (λ zs-close. split ! $ bring ! (1 ∷ []) $
           heard ! (close-says close-out close-x-map close-x-catalogue close-x-card close-x-scratch v-n v-free v-fits (now x-map)
           (now x-catalogue) (now x-card) (now x-scratch) r-close (zs-close .1 .1 .1 .0) (zs-close .1 .1 .1 .1 .0)
           (zs-close .1 .1 .1 .1 .1 .0) (zs-close .1 .1 .1 .1 .1 .1 .0)) (λ e-close.
-          fsplit ! $ move ! (1 ∷ []) $ fsplit ! $ move ! (1 ∷ []) $ fsplit ! $ move ! (1 ∷ []) $ fsplit ! $
-          move ! (1 ∷ []) $ fsplit ! $ move ! (1 ∷ []) $ fsplit ! $ move ! (1 ∷ []) $ fsplit ! $ move ! (1 ∷ []) $
-          drop ! $ move ! (6 ∷ []) $ drop ! $ move ! (5 ∷ []) $ drop ! $ move ! (4 ∷ []) $ drop ! $ move ! (3 ∷ []) $
-          fsplit ! $ move ! (1 ∷ []) $ feqL ! (λ h-close-x-map. move ! (3 ∷ []) $ fsplit ! $ move ! (1 ∷ []) $
-          feqL ! (λ h-close-x-catalogue. move ! (3 ∷ []) $ fsplit ! $ move ! (1 ∷ []) $ feqL ! (λ h-close-x-card.
-          move ! (3 ∷ []) $ fsplit ! $ move ! (1 ∷ []) $ feqL ! (λ h-close-x-scratch. move ! (4 ∷ []) $ split ! $
-          move ! (1 ∷ []) $ rewrite ! 0 (λ (r : ℕ). ‵ (u32 .own r (w-close ∷ []))) (e-close .0) refl $
+          fparts W (_ ∷ _ ∷ _ ∷ _ ∷ _ ∷ _ ∷ _ ∷ []) _ $ discard ! (0 ∷ 0 ∷ 0 ∷ []) $ fsplit ! $ bring ! (1 ∷ []) $
+          feqL ! (λ h-close-x-map. bring ! (1 ∷ []) $ fsplit ! $ bring ! (1 ∷ []) $ feqL ! (λ h-close-x-catalogue.
+          bring ! (2 ∷ []) $ fsplit ! $ bring ! (1 ∷ []) $ feqL ! (λ h-close-x-card. bring ! (3 ∷ []) $ fsplit ! $
+          bring ! (1 ∷ []) $ feqL ! (λ h-close-x-scratch. bring ! (4 ∷ []) $ split ! $ bring ! (1 ∷ []) $
+          rewrite ! 0 (λ (r : ℕ). ‵ (u32 .own r (w-close ∷ []))) (e-close .0) refl $
           rewrite ! 5 (λ (l : List ℕ). ‵ (finally u64 δ₀-close l)) (e-close .1) refl $
           rewrite ! 4 (λ (l : List Entry). ‵ (finally Entry′.the-row δ₁-close l)) (e-close .2) refl $
           rewrite ! 3 (λ (l : List ℕ). ‵ (finally u8 δ₂-close l)) (e-close .3) refl $
@@ -916,23 +903,22 @@ module _ (Shape Outcome : Value) where
           land ! (from ! (stop !)) (init ! 46 refl ((uint-lawful 𝓤 H A W w32 .typed) v-number _ is-w-close .0)) $
           rewrite ! 46 (λ (u : Val). ‵ (fat fullShare (tyInt w32) l₁₀ 0 u)) (ap only ((uint-tells w32) v-number _ is-w-close))
           refl $
-          drop ! $ split ! $ move ! (1 ∷ []) $ split ! $ move ! (1 ∷ []) $ split ! $ move ! (1 ∷ []) $ split ! $
-          move ! (1 ∷ []) $ drop ! $ move ! (3 ∷ []) $ lft-end ! tt $ move ! (0 ∷ 11 ∷ 7 ∷ []) $
+          discard ! (0 ∷ []) $ parts W (_ ∷ _ ∷ _ ∷ _ ∷ []) _ $ lft-end ! tt $ bring ! (0 ∷ 10 ∷ 6 ∷ []) $
           use3 W (later (‵ (MutSlice (named 0) κ₀ u64 .own (at-x-map (x-map .name) z-close-x-map) (s-x-map ∷ []))
           ⊛ ‵ (flft κ₀ q₀))) (comes-back u64 κ₀ (ν₀-close ∷ []) q₀ (x-map .name) (x-map .ptr .0) (x-map .ptr .1) 𝓤 H A W
           (named 0) (named 0) (now x-map) (length (now x-map)) refl room-x-map δ₀-close z-close-x-map
           (ap {B = ℕ} length (sym (e-close .1)) ∙ h-close-x-map)) $
-          await ! tt $ split ! $ move ! (4 ∷ []) $ lft-end ! tt $ move ! (0 ∷ 10 ∷ 7 ∷ []) $
+          await ! tt $ split ! $ bring ! (2 ∷ []) $ lft-end ! tt $ bring ! (0 ∷ 9 ∷ 6 ∷ []) $
           use3 W (later (‵ (MutSlice (named 2) κ₂ Entry′.the-row .own (at-x-catalogue (x-catalogue .name) z-close-x-catalogue)
           (s-x-catalogue ∷ [])) ⊛ ‵ (flft κ₂ q₂))) (comes-back Entry′.the-row κ₂ (ν₁-close ∷ []) q₂ (x-catalogue .name)
           (x-catalogue .ptr .0) (x-catalogue .ptr .1) 𝓤 H A W (named 2) (named 1) (now x-catalogue) (length (now x-catalogue))
           refl room-x-catalogue δ₁-close z-close-x-catalogue (ap {B = ℕ} length (sym (e-close .2)) ∙ h-close-x-catalogue)) $
-          await ! tt $ split ! $ move ! (5 ∷ []) $ lft-end ! tt $ move ! (0 ∷ 9 ∷ 7 ∷ []) $
+          await ! tt $ split ! $ bring ! (4 ∷ []) $ lft-end ! tt $ bring ! (0 ∷ 8 ∷ 6 ∷ []) $
           use3 W (later (‵ (MutSlice (named 3) κ₃ u8 .own (at-x-card (x-card .name) z-close-x-card) (s-x-card ∷ []))
           ⊛ ‵ (flft κ₃ q₃))) (comes-back u8 κ₃ (ν₂-close ∷ []) q₃ (x-card .name) (x-card .ptr .0) (x-card .ptr .1) 𝓤 H A W
           (named 3) (named 2) (now x-card) (length (now x-card)) refl room-x-card δ₂-close z-close-x-card
           (ap {B = ℕ} length (sym (e-close .3)) ∙ h-close-x-card)) $
-          await ! tt $ split ! $ move ! (6 ∷ []) $ lft-end ! tt $ move ! (0 ∷ 8 ∷ 7 ∷ []) $
+          await ! tt $ split ! $ bring ! (6 ∷ []) $ lft-end ! tt $ bring ! (0 ∷ 7 ∷ 6 ∷ []) $
           use3 W (later (‵ (MutSlice (named 4) κ₄ u64 .own (at-x-scratch (x-scratch .name) z-close-x-scratch)
           (s-x-scratch ∷ [])) ⊛ ‵ (flft κ₄ q₄))) (comes-back u64 κ₄ (ν₃-close ∷ []) q₄ (x-scratch .name) (x-scratch .ptr .0)
           (x-scratch .ptr .1) 𝓤 H A W (named 4) (named 3) (now x-scratch) (length (now x-scratch)) refl room-x-scratch δ₃-close
@@ -949,18 +935,17 @@ module _ (Shape Outcome : Value) where
           assigns ! (agg ! (and-then ! (load ! (from ! (stop !)) (look ! 12 refl)) (and-then !
           (load ! (from ! (fld ! refl (stop !))) (look-in ! 58 (sub ! 1 refl (whole !)))) (no-more !)))) (from ! (stop !))
           (init ! 10 refl (tt, (tt, (record { fits = room-x-summary .0 }, tt)))) $
-          lft-new ! tt (λ ν₀-rebuild. move ! (7 ∷ 8 ∷ []) $
+          lft-new ! tt (λ ν₀-rebuild. bring ! (7 ∷ 7 ∷ []) $
           use2 W (later (some (λ (δ : GName). ‵ (ShrSlice (named 0) (ν₀-rebuild ∷ []) u64 .own (at-x-map δ z-close-x-map)
           (s-x-map ∷ [])) ⊛ ‵ (LentOut u64 κ₀ (ν₀-rebuild ∷ []) q₀ (x-map .name) (x-map .ptr .0) (x-map .ptr .1)
           z-close-x-map)))) (lends-out u64 κ₀ (ν₀-rebuild ∷ []) q₀ (x-map .name) (x-map .ptr .0) (x-map .ptr .1) 𝓤 H A W
           (named 0) (named 0) z-close-x-map (length (now x-map)) (ap {B = ℕ} length (sym (e-close .1)) ∙ h-close-x-map)) $
-          await ! tt $ pick ! (λ δ₀-rebuild. split ! $ lft-new ! tt (λ ν₁-rebuild. move ! (10 ∷ 11 ∷ []) $
+          await ! tt $ pick ! (λ δ₀-rebuild. split ! $ lft-new ! tt (λ ν₁-rebuild. bring ! (10 ∷ 10 ∷ []) $
           use2 W (later (some (λ (δ : GName). ‵ (MutSlice (named 1) (ν₁-rebuild ∷ []) u32 .own (at-x-summary δ (now x-summary))
           (s-x-summary ∷ [])) ⊛ ‵ (LentAgain u32 κ₁ (ν₁-rebuild ∷ []) q₁ (x-summary .name) (x-summary .ptr .0)
           (x-summary .ptr .1) δ (now x-summary))))) (lends-again u32 κ₁ (ν₁-rebuild ∷ []) q₁ (x-summary .name)
           (x-summary .ptr .0) (x-summary .ptr .1) 𝓤 H A W (named 1) (named 1) (now x-summary) (length (now x-summary)) refl) $
-          await ! tt $ pick ! (λ δ₁-rebuild. split ! $ move ! (5 ∷ 2 ∷ 3 ∷ 0 ∷ []) $ move ! (2 ∷ 3 ∷ []) $ join ! $
-          move ! (2 ∷ 0 ∷ []) $ join ! $ move ! (1 ∷ 0 ∷ []) $ join ! $
+          await ! tt $ pick ! (λ δ₁-rebuild. split ! $ bring ! (5 ∷ 2 ∷ 2 ∷ 0 ∷ []) $ group ! 4 $
           use1 W (raw ((rebuild-contract rebuild-x-summary 𝓤 H A) .pre (to-rebuild ν₀-rebuild ν₁-rebuild δ₀-rebuild
           δ₁-rebuild))) (goes-rebuild ν₀-rebuild ν₁-rebuild δ₀-rebuild δ₁-rebuild (spelled-v-number w-close is-w-close)) $
           calls-at ! (fmOf 𝓤 H (W .laws) 𝓣) (rebuild-contract rebuild-x-summary 𝓤 H A) known-rebuild
@@ -971,28 +956,26 @@ module _ (Shape Outcome : Value) where
           ⊛ ‵ ftrue) ⊛ ‵ (Nothing .own r (w-rebuild ∷ []))) ⊛ raw (ensured 𝓤 H A rebuild-ended
           (rebuild-clauses rebuild-x-summary 𝓤) (ν₀-rebuild ∷ [], (ν₁-rebuild ∷ [], tt)) (rebuild-args δ₀-rebuild δ₁-rebuild) tt
           r)))) (id⊢ 𝓤 _) $
-          await ! tt $ pick ! (λ r-rebuild. split ! $ move ! (1 ∷ []) $
+          await ! tt $ pick ! (λ r-rebuild. split ! $ bring ! (1 ∷ []) $
           use1 W (some (λ (zs-rebuild : Unit {0} × (Unit {0} × (List ℕ × (Unit {0} × Unit {0})))). ‵
           (lasts rebuild-ended (ν₀-rebuild ∷ [], (ν₁-rebuild ∷ [], tt)) (rebuild-args δ₀-rebuild δ₁-rebuild) zs-rebuild)
           ⊛ raw (fact 𝓤 (rebuild-says rebuild-x-summary x-self z-close-x-map (now x-summary) v-number r-rebuild
           (zs-rebuild .1 .1 .0))))) (id⊢ 𝓤 _) $
-          pick ! (λ zs-rebuild. split ! $ move ! (1 ∷ []) $
+          pick ! (λ zs-rebuild. split ! $ bring ! (1 ∷ []) $
           heard ! (rebuild-says rebuild-x-summary x-self z-close-x-map (now x-summary) v-number r-rebuild (zs-rebuild .1 .1 .0))
           (λ e-rebuild.
-          fsplit ! $ move ! (1 ∷ []) $ fsplit ! $ move ! (1 ∷ []) $ fsplit ! $ move ! (1 ∷ []) $ fsplit ! $
-          move ! (1 ∷ []) $ drop ! $ move ! (3 ∷ []) $ drop ! $ move ! (2 ∷ []) $ drop ! $ move ! (1 ∷ []) $ fsplit ! $
-          move ! (1 ∷ []) $ feqL ! (λ h-rebuild-x-summary. move ! (1 ∷ []) $ drop ! $ move ! (1 ∷ []) $ split ! $
-          move ! (1 ∷ []) $ rewrite ! 2 (λ (l : List ℕ). ‵ (finally u32 δ₁-rebuild l)) (e-rebuild) refl $
+          fparts W (_ ∷ _ ∷ _ ∷ _ ∷ []) _ $ discard ! (0 ∷ 0 ∷ 1 ∷ []) $ fsplit ! $ bring ! (1 ∷ []) $
+          feqL ! (λ h-rebuild-x-summary. bring ! (1 ∷ []) $ split ! $ bring ! (1 ∷ []) $
+          rewrite ! 2 (λ (l : List ℕ). ‵ (finally u32 δ₁-rebuild l)) (e-rebuild) refl $
           peeks ! Nothing (Is Nothing) (shows 𝓤 H A Nothing) v-rebuild (w-rebuild ∷ []) (λ is-w-rebuild.
           land ! (from ! (stop !)) (init ! 19 refl ((nothing-lawful 𝓤 H A W .typed) v-rebuild _ is-w-rebuild .0)) $
           rewrite ! 19 (λ (u : Val). ‵ (fat fullShare tyUnit l₂₃ 0 u)) (ap only (nothing-tells v-rebuild _ is-w-rebuild)) refl $
-          drop ! $ split ! $ move ! (1 ∷ []) $ split ! $ move ! (1 ∷ []) $ drop ! $ move ! (1 ∷ []) $ lft-end ! tt $
-          move ! (0 ∷ 4 ∷ []) $
+          discard ! (0 ∷ []) $ parts W (_ ∷ _ ∷ []) _ $ lft-end ! tt $ bring ! (0 ∷ 3 ∷ []) $
           use2 W (later (‵ (MutSlice (named 0) κ₀ u64 .own (at-x-map (x-map .name) z-close-x-map) (s-x-map ∷ []))
           ⊛ ‵ (flft κ₀ q₀))) (comes-home u64 κ₀ (ν₀-rebuild ∷ []) q₀ (x-map .name) (x-map .ptr .0) (x-map .ptr .1) 𝓤 H A W
           (named 0) (named 0) z-close-x-map (length (now x-map)) (ap {B = ℕ} length (sym (e-close .1)) ∙ h-close-x-map)
           room-x-map) $
-          await ! tt $ split ! $ move ! (2 ∷ []) $ lft-end ! tt $ move ! (0 ∷ 4 ∷ 3 ∷ []) $
+          await ! tt $ split ! $ bring ! (2 ∷ []) $ lft-end ! tt $ bring ! (0 ∷ 3 ∷ 2 ∷ []) $
           use3 W (later (‵ (MutSlice (named 1) κ₁ u32 .own (at-x-summary (x-summary .name) z-rebuild-x-summary)
           (s-x-summary ∷ [])) ⊛ ‵ (flft κ₁ q₁))) (comes-back u32 κ₁ (ν₁-rebuild ∷ []) q₁ (x-summary .name) (x-summary .ptr .0)
           (x-summary .ptr .1) 𝓤 H A W (named 1) (named 1) (now x-summary) (length (now x-summary)) refl room-x-summary
@@ -1007,28 +990,28 @@ module _ (Shape Outcome : Value) where
           use1 W (later (some (λ (r : (denotes Outcome)). ((‵ ftrue) ⊛ ‵ ((rowOf Outcome) .own r (w-save-outcome ∷ [])))
           ⊛ raw (ensured 𝓤 H A save-outcome-ended (save-outcome-clauses save-outcome-out 𝓤) tt (save-outcome-args) tt r))))
           (id⊢ 𝓤 _) $
-          await ! tt $ pick ! (λ r-save-outcome. split ! $ move ! (1 ∷ []) $
+          await ! tt $ pick ! (λ r-save-outcome. split ! $ bring ! (1 ∷ []) $
           use1 W (some (λ (zs-save-outcome : Unit {0} × (Unit {0} × Unit {0})). ‵ (lasts save-outcome-ended tt
           (save-outcome-args) zs-save-outcome) ⊛ raw (fact 𝓤 (save-outcome-says save-outcome-out x-self v-number
           r-save-outcome)))) (id⊢ 𝓤 _) $
-          pick ! (λ zs-save-outcome. split ! $ move ! (1 ∷ []) $
-          heard ! (save-outcome-says save-outcome-out x-self v-number r-save-outcome) (λ e-save-outcome. fsplit ! $
-          move ! (1 ∷ []) $ fsplit ! $ move ! (1 ∷ []) $ drop ! $ move ! (1 ∷ []) $ drop ! $ drop ! $ split ! $
-          move ! (1 ∷ []) $
+          pick ! (λ zs-save-outcome. split ! $ bring ! (1 ∷ []) $
+          heard ! (save-outcome-says save-outcome-out x-self v-number r-save-outcome) (λ e-save-outcome.
+          fparts W (_ ∷ _ ∷ []) _ $ discard ! (0 ∷ 0 ∷ []) $ split ! $ bring ! (1 ∷ []) $
           rewrite ! 0 (λ (r : (denotes Outcome)). ‵ ((rowOf Outcome) .own r (w-save-outcome ∷ []))) (e-save-outcome) refl $
           peeks ! (rowOf Outcome) (Is (rowOf Outcome)) (shows 𝓤 H A (rowOf Outcome)) v-result (w-save-outcome ∷ [])
           (λ is-w-save-outcome.
           land ! (from ! (stop !)) (init ! 66 refl ((Outcome .typed 𝓤 H A W) v-result _ is-w-save-outcome .0)) $
           rewrite ! 66 (λ (u : Val). ‵ (fat fullShare (mirOf Outcome) l₀ 0 u)) (ap only
           ((Outcome .tells) v-result _ is-w-save-outcome)) refl $
-          drop ! $ drop ! $ returns ! (look ! 64 refl) $ leave ! 64 refl refl $ leave ! 62 refl refl $
-          leave ! 60 refl refl $ leave ! 58 refl refl $ leave ! 56 refl refl $ leave ! 54 refl refl $
-          leave ! 52 refl refl $ leave ! 50 refl refl $ leave ! 48 refl refl $ leave ! 46 refl refl $
-          leave ! 44 refl refl $ leave ! 42 refl refl $ leave ! 40 refl refl $ leave ! 38 refl refl $
-          leave ! 36 refl refl $ leave ! 34 refl refl $ leave ! 32 refl refl $ leave ! 30 refl refl $
-          leave ! 28 refl refl $ leave ! 26 refl refl $ leave ! 24 refl refl $ leave ! 22 refl refl $
-          leave ! 20 refl refl $ leave ! 18 refl refl $ leave ! 16 refl refl $ leave ! 14 refl refl $
-          leave ! 12 refl refl $ leave ! 10 refl refl $ free0 ! $ move ! (2 ∷ 3 ∷ 0 ∷ 1 ∷ 8 ∷ 9 ∷ 6 ∷ 7 ∷ 4 ∷ 5 ∷ []) $
+          discard ! (0 ∷ []) $ parts W ([]) _ $ returns ! (look ! 64 refl) $ leave ! 64 refl refl $
+          leave ! 62 refl refl $ leave ! 60 refl refl $ leave ! 58 refl refl $ leave ! 56 refl refl $
+          leave ! 54 refl refl $ leave ! 52 refl refl $ leave ! 50 refl refl $ leave ! 48 refl refl $
+          leave ! 46 refl refl $ leave ! 44 refl refl $ leave ! 42 refl refl $ leave ! 40 refl refl $
+          leave ! 38 refl refl $ leave ! 36 refl refl $ leave ! 34 refl refl $ leave ! 32 refl refl $
+          leave ! 30 refl refl $ leave ! 28 refl refl $ leave ! 26 refl refl $ leave ! 24 refl refl $
+          leave ! 22 refl refl $ leave ! 20 refl refl $ leave ! 18 refl refl $ leave ! 16 refl refl $
+          leave ! 14 refl refl $ leave ! 12 refl refl $ leave ! 10 refl refl $ free0 ! $
+          bring ! (2 ∷ 2 ∷ 0 ∷ 0 ∷ 4 ∷ 4 ∷ 2 ∷ 2 ∷ 0 ∷ 0 ∷ []) $
           by ! (exits (spelled-v-result w-save-outcome is-w-save-outcome) (ap {B = ℕ} length (sym (e-close .1)) ∙ h-close-x-map)
           (ap {B = ℕ} length (sym (e-rebuild)) ∙ h-rebuild-x-summary) (ap {B = ℕ} length (sym (e-close .2))
           ∙ h-close-x-catalogue) (ap {B = ℕ} length (sym (e-close .3)) ∙ h-close-x-card)

@@ -25,7 +25,7 @@ use base.Fml.{Lft, Share, GName, ftrue, flft, fat}
 use prog.Wp.{Heap, WpFn, Tables}
 use ghost.Atoms.{Atoms}
 use contract.Monad.{fact}
-use types.Kit.{Given, ‵, raw, some, later, _⊛_, ⋆, _$_, _∵_, !, qed, by, move, drop, use0, use1, use2, use3, split, join, pick}
+use types.Kit.{Given, ‵, raw, some, later, _⊛_, ⋆, _$_, _∵_, !, qed, by, use0, use1, use2, use3, group, split, join, pick}
 use types.Kit.{rewrite, fsplit, fjoin, feqL, suffices, frame, await, done}
 use types.Run.{look, init, store, stop, hop, fld, from, load, addr, and-then, no-more, assigns, land, returns, enter, alloc1}
 use types.Run.{alloc0, params1, pass1, pass0, free0}
@@ -53,7 +53,7 @@ use Rattle.catalogue.proofs.Values.{Value, denotes, rowOf, mirOf, valsOf}
 use Rattle.catalogue.specs.declared.Entry.{Entry}
 use Rattle.catalogue.proofs.Entry as Entry′
 use Rattle.catalogue.proofs.Entry.Laws as Entry″
-use Rattle.catalogue.proofs.Steps.{leave}
+use Rattle.catalogue.proofs.Steps.{bring, discard, parts, fparts, leave}
 use Rattle.catalogue.proofs.Lending.{LentAgain, lends-again, comes-back, LentOut, lends-out, comes-home}
 
 module _ (Pick Slot : Value) where
@@ -523,7 +523,7 @@ module _ (Pick Slot : Value) where
       goes-first-pick =
           qed W ([]) ∵
           nothing ! $ nothing ! $ owned ! u32 (Is u32) (uint-makes 𝓤 H A W w32) x-at _ is-x-at $ fjoin ! $
-          move ! (1 ∷ 0 ∷ []) $ join ! $ frame ! $ done !
+          bring ! (1 ∷ 0 ∷ []) $ join ! $ frame ! $ done !
 
       -- ---- the caller has what `nearest` asks
       abbrev nearest-args : (δ₀-nearest : GName) → RefT (List Entry) × ((denotes Pick) × Unit {0})
@@ -542,9 +542,9 @@ module _ (Pick Slot : Value) where
       goes-nearest ν₀-nearest δ₀-nearest is-v-first =
           qed W (‵ (flft (ν₀-nearest ∷ []) fullShare) ∷ ‵ (ShrSlice (named 0) (ν₀-nearest ∷ []) Entry′.the-row .own
           (at-x-catalogue δ₀-nearest (now x-catalogue)) (s-x-catalogue ∷ [])) ∷ []) ∵
-          nothing ! $ move ! (1 ∷ 0 ∷ []) $ join ! $ nothing ! $
+          nothing ! $ bring ! (1 ∷ 0 ∷ []) $ group ! 2 $ nothing ! $
           owned ! (rowOf Pick) (Is (rowOf Pick)) (Pick .makes 𝓤 H A) v-first _ is-v-first $ fjoin ! $
-          move ! (2 ∷ 0 ∷ []) $ fjoin ! $ move ! (1 ∷ 0 ∷ []) $ join ! $ frame ! $ done !
+          bring ! (2 ∷ 0 ∷ []) $ fjoin ! $ bring ! (1 ∷ 0 ∷ []) $ join ! $ frame ! $ done !
 
       -- ---- the caller has what `move-extent` asks
       abbrev move-extent-args : (δ₀-move-extent : GName) → RefT (List ℕ) × ((denotes Pick) × Unit {0})
@@ -564,9 +564,9 @@ module _ (Pick Slot : Value) where
       goes-move-extent ν₀-move-extent δ₀-move-extent is-v-pick =
           qed W (‵ (flft (ν₀-move-extent ∷ []) fullShare) ∷ ‵ (MutSlice (named 0) (ν₀-move-extent ∷ []) u8 .own
           (at-x-card δ₀-move-extent (now x-card)) (s-x-card ∷ [])) ∷ []) ∵
-          nothing ! $ move ! (1 ∷ 0 ∷ []) $ join ! $ nothing ! $
+          nothing ! $ bring ! (1 ∷ 0 ∷ []) $ group ! 2 $ nothing ! $
           owned ! (rowOf Pick) (Is (rowOf Pick)) (Pick .makes 𝓤 H A) v-pick _ is-v-pick $ fjoin ! $
-          move ! (2 ∷ 0 ∷ []) $ fjoin ! $ move ! (1 ∷ 0 ∷ []) $ join ! $ frame ! $ done !
+          bring ! (2 ∷ 0 ∷ []) $ fjoin ! $ bring ! (1 ∷ 0 ∷ []) $ join ! $ frame ! $ done !
 
       -- ---- the caller has what `sheet-of` asks
       abbrev sheet-of-args : (denotes Pick) × Unit {0}
@@ -580,7 +580,7 @@ module _ (Pick Slot : Value) where
       goes-sheet-of is-v-pick =
           qed W ([]) ∵
           nothing ! $ nothing ! $ owned ! (rowOf Pick) (Is (rowOf Pick)) (Pick .makes 𝓤 H A) v-pick _ is-v-pick $
-          fjoin ! $ move ! (1 ∷ 0 ∷ []) $ join ! $ frame ! $ done !
+          fjoin ! $ bring ! (1 ∷ 0 ∷ []) $ join ! $ frame ! $ done !
 
       -- ---- the caller has what `find` asks
       abbrev find-args : (δ₀-find : GName) → RefT (List Entry) × (ℕ × Unit {0})
@@ -597,9 +597,9 @@ module _ (Pick Slot : Value) where
       goes-find ν₀-find δ₀-find is-v-sheet =
           qed W (‵ (flft (ν₀-find ∷ []) fullShare) ∷ ‵ (ShrSlice (named 0) (ν₀-find ∷ []) Entry′.the-row .own
           (at-x-catalogue δ₀-find (now x-catalogue)) (s-x-catalogue ∷ [])) ∷ []) ∵
-          nothing ! $ move ! (1 ∷ 0 ∷ []) $ join ! $ nothing ! $
-          owned ! u32 (Is u32) (uint-makes 𝓤 H A W w32) v-sheet _ is-v-sheet $ fjoin ! $ move ! (2 ∷ 0 ∷ []) $
-          fjoin ! $ move ! (1 ∷ 0 ∷ []) $ join ! $ frame ! $ done !
+          nothing ! $ bring ! (1 ∷ 0 ∷ []) $ group ! 2 $ nothing ! $
+          owned ! u32 (Is u32) (uint-makes 𝓤 H A W w32) v-sheet _ is-v-sheet $ fjoin ! $ bring ! (2 ∷ 0 ∷ []) $
+          fjoin ! $ bring ! (1 ∷ 0 ∷ []) $ join ! $ frame ! $ done !
 
       -- ---- the caller has what `restart` asks
       abbrev restart-args : (denotes Pick) × ((denotes Slot) × Unit {0})
@@ -614,7 +614,7 @@ module _ (Pick Slot : Value) where
           qed W ([]) ∵
           nothing ! $ nothing ! $ owned ! (rowOf Slot) (Is (rowOf Slot)) (Slot .makes 𝓤 H A) v-slot _ is-v-slot $
           fjoin ! $ owned ! (rowOf Pick) (Is (rowOf Pick)) (Pick .makes 𝓤 H A) v-pick _ is-v-pick $ fjoin ! $
-          move ! (1 ∷ 0 ∷ []) $ join ! $ frame ! $ done !
+          bring ! (1 ∷ 0 ∷ []) $ join ! $ frame ! $ done !
 
       -- ---- the caller has what `store` asks
       abbrev store-args : (δ₀-store : GName) → RefT (List Entry) × (ℕ × (Entry × Unit {0}))
@@ -639,11 +639,11 @@ module _ (Pick Slot : Value) where
       goes-store ν₀-store δ₀-store is-v-sheet is-v-entry =
           qed W (‵ (flft (ν₀-store ∷ []) fullShare) ∷ ‵ (MutSlice (named 0) (ν₀-store ∷ []) Entry′.the-row .own
           (at-x-catalogue δ₀-store (now x-catalogue)) (s-x-catalogue ∷ [])) ∷ []) ∵
-          nothing ! $ move ! (1 ∷ 0 ∷ []) $ join ! $ nothing ! $
+          nothing ! $ bring ! (1 ∷ 0 ∷ []) $ group ! 2 $ nothing ! $
           owned ! Entry′.the-row (Is Entry′.the-row) (struct.makes Entry′.the-type Entry″.the-plain 𝓤 H A) v-entry _ is-v-entry
           $
           fjoin ! $ owned ! u32 (Is u32) (uint-makes 𝓤 H A W w32) v-sheet _ is-v-sheet $ fjoin ! $
-          move ! (2 ∷ 0 ∷ []) $ fjoin ! $ move ! (1 ∷ 0 ∷ []) $ join ! $ frame ! $ done !
+          bring ! (2 ∷ 0 ∷ []) $ fjoin ! $ bring ! (1 ∷ 0 ∷ []) $ join ! $ frame ! $ done !
 
       -- ---- the caller has what `at-after` asks
       abbrev at-after-args : (denotes Pick) × Unit {0}
@@ -657,7 +657,7 @@ module _ (Pick Slot : Value) where
       goes-at-after is-v-pick =
           qed W ([]) ∵
           nothing ! $ nothing ! $ owned ! (rowOf Pick) (Is (rowOf Pick)) (Pick .makes 𝓤 H A) v-pick _ is-v-pick $
-          fjoin ! $ move ! (1 ∷ 0 ∷ []) $ join ! $ frame ! $ done !
+          fjoin ! $ bring ! (1 ∷ 0 ∷ []) $ join ! $ frame ! $ done !
 
       -- ---- the exit
       exits : Is u32 v-result (m-v-result ∷ []) → length z-store-x-catalogue ≡ length (now x-catalogue)
@@ -671,10 +671,10 @@ module _ (Pick Slot : Value) where
           z-move-extent-x-card) (s-x-card ∷ [])) ∷ ‵ (flft κ₁ q₁) ∷ []) ∵
           suffices ! _ (ends-at 𝓤 H A ended stayed (clauses 𝓤) W bound m-v-result v-result
           (z-store-x-catalogue, (z-move-extent-x-card, (tt, tt))) (l-x-catalogue, (l-x-card, (tt, tt)))) $
-          says ! (refl, refl, refl) $ nothing ! $ move ! (4 ∷ 0 ∷ []) $ join ! $ move ! (2 ∷ 0 ∷ []) $ join ! $
-          frame ! $ nothing ! $ owned ! u32 (Is u32) (uint-makes 𝓤 H A W w32) x-at _ is-x-at $ fjoin ! $
-          move ! (2 ∷ 0 ∷ []) $ fjoin ! $ move ! (1 ∷ 0 ∷ []) $ fjoin ! $
-          owned ! u32 (Is u32) (uint-makes 𝓤 H A W w32) v-result _ is $ move ! (1 ∷ 0 ∷ []) $ done !
+          says ! (refl, refl, refl) $ nothing ! $ bring ! (2 ∷ 3 ∷ 0 ∷ []) $ group ! 3 $ frame ! $ nothing ! $
+          owned ! u32 (Is u32) (uint-makes 𝓤 H A W w32) x-at _ is-x-at $ fjoin ! $ bring ! (2 ∷ 0 ∷ []) $ fjoin ! $
+          bring ! (1 ∷ 0 ∷ []) $ fjoin ! $ owned ! u32 (Is u32) (uint-makes 𝓤 H A W w32) v-result _ is $
+          bring ! (1 ∷ 0 ∷ []) $ done !
 
       -- ---- the walk
       walk : (𝓣 : Tables 𝓤 H) → Triple 𝓤 (𝓣 .C #first-pick) (first-pick-contract first-pick-out 𝓤 H A)
@@ -696,40 +696,39 @@ module _ (Pick Slot : Value) where
           alloc1 ! (λ l₁₂. alloc1 ! (λ l₁₃. alloc1 ! (λ l₁₄. alloc1 ! (λ l₁₅. alloc1 ! (λ l₁₆. alloc1 ! (λ l₁₇.
           alloc0 ! $ params1 ! $ pass1 ! (init ! 32 refl (tt, (tt, (record { fits = room-x-catalogue .0 }, tt)))) $
           pass1 ! (init ! 30 refl (tt, (tt, (record { fits = room-x-card .0 }, tt)))) $
-          pass1 ! (init ! 28 refl typed-x-at) $ pass0 ! $ move ! (36 ∷ []) $ split ! $ move ! (1 ∷ []) $ split ! $
-          move ! (1 ∷ []) $ drop ! $ move ! (38 ∷ []) $ fsplit ! $ move ! (1 ∷ []) $ fsplit ! $ move ! (1 ∷ []) $
-          fsplit ! $ move ! (1 ∷ []) $ drop ! $ drop ! $
+          pass1 ! (init ! 28 refl typed-x-at) $ pass0 ! $ bring ! (36 ∷ []) $ parts W (_ ∷ _ ∷ []) _ $
+          bring ! (38 ∷ []) $ fparts W (_ ∷ _ ∷ _ ∷ []) _ $ discard ! (2 ∷ []) $
           -- first-pick
           use0 W (raw ((first-pick-contract first-pick-out 𝓤 H A) .pre (to-first-pick))) (goes-first-pick) $
           calls-at ! (fmOf 𝓤 H (W .laws) 𝓣) (first-pick-contract first-pick-out 𝓤 H A) known-first-pick (to-first-pick)
           (and-then ! (load ! (from ! (stop !)) (look ! 33 refl)) (no-more !)) (λ w-first-pick.
           use1 W (later (some (λ (r : (denotes Pick)). ((‵ ftrue) ⊛ ‵ ((rowOf Pick) .own r (w-first-pick ∷ [])))
           ⊛ raw (ensured 𝓤 H A first-pick-ended (first-pick-clauses first-pick-out 𝓤) tt (first-pick-args) tt r)))) (id⊢ 𝓤 _) $
-          await ! tt $ pick ! (λ r-first-pick. split ! $ move ! (1 ∷ []) $
+          await ! tt $ pick ! (λ r-first-pick. split ! $ bring ! (1 ∷ []) $
           use1 W (some (λ (zs-first-pick : Unit {0} × Unit {0}). ‵ (lasts first-pick-ended tt (first-pick-args) zs-first-pick)
           ⊛ raw (fact 𝓤 (first-pick-says first-pick-out x-at r-first-pick)))) (id⊢ 𝓤 _) $
-          pick ! (λ zs-first-pick. split ! $ move ! (1 ∷ []) $
-          heard ! (first-pick-says first-pick-out x-at r-first-pick) (λ e-first-pick. fsplit ! $ move ! (1 ∷ []) $
-          drop ! $ drop ! $ split ! $ move ! (1 ∷ []) $
+          pick ! (λ zs-first-pick. split ! $ bring ! (1 ∷ []) $
+          heard ! (first-pick-says first-pick-out x-at r-first-pick) (λ e-first-pick. fparts W (_ ∷ []) _ $
+          discard ! (0 ∷ []) $ split ! $ bring ! (1 ∷ []) $
           rewrite ! 0 (λ (r : (denotes Pick)). ‵ ((rowOf Pick) .own r (w-first-pick ∷ []))) (e-first-pick) refl $
           peeks ! (rowOf Pick) (Is (rowOf Pick)) (shows 𝓤 H A (rowOf Pick)) v-first (w-first-pick ∷ []) (λ is-w-first-pick.
           land ! (from ! (stop !)) (init ! 32 refl ((Pick .typed 𝓤 H A W) v-first _ is-w-first-pick .0)) $
           rewrite ! 32 (λ (u : Val). ‵ (fat fullShare (mirOf Pick) l₄ 0 u)) (ap only ((Pick .tells) v-first _ is-w-first-pick))
           refl $
-          drop ! $ drop ! $
+          discard ! (0 ∷ []) $ parts W ([]) _ $
           -- nearest
           assigns ! (addr ! (from ! (fld ! refl (hop ! (look-in ! 36 (sub ! 0 refl (whole !))) (stop !))))) (from ! (stop !))
           (init ! 20 refl (tt, tt)) $
           assigns ! (agg ! (and-then ! (load ! (from ! (stop !)) (look ! 20 refl)) (and-then !
           (load ! (from ! (fld ! refl (stop !))) (look-in ! 36 (sub ! 1 refl (whole !)))) (no-more !)))) (from ! (stop !))
           (init ! 18 refl (tt, (tt, (record { fits = room-x-catalogue .0 }, tt)))) $
-          lft-new ! tt (λ ν₀-nearest. move ! (2 ∷ 4 ∷ []) $
+          lft-new ! tt (λ ν₀-nearest. bring ! (1 ∷ 2 ∷ []) $
           use2 W (later (some (λ (δ : GName). ‵ (ShrSlice (named 0) (ν₀-nearest ∷ []) Entry′.the-row .own
           (at-x-catalogue δ (now x-catalogue)) (s-x-catalogue ∷ [])) ⊛ ‵ (LentOut Entry′.the-row κ₀ (ν₀-nearest ∷ []) q₀
           (x-catalogue .name) (x-catalogue .ptr .0) (x-catalogue .ptr .1) (now x-catalogue)))))
           (lends-out Entry′.the-row κ₀ (ν₀-nearest ∷ []) q₀ (x-catalogue .name) (x-catalogue .ptr .0) (x-catalogue .ptr .1) 𝓤 H
           A W (named 0) (named 0) (now x-catalogue) (length (now x-catalogue)) refl) $
-          await ! tt $ pick ! (λ δ₀-nearest. split ! $ move ! (2 ∷ 0 ∷ []) $ join ! $
+          await ! tt $ pick ! (λ δ₀-nearest. split ! $ bring ! (2 ∷ 0 ∷ []) $ group ! 2 $
           use1 W (raw ((nearest-contract nearest-out 𝓤 H A) .pre (to-nearest ν₀-nearest δ₀-nearest)))
           (goes-nearest ν₀-nearest δ₀-nearest (spelled-v-first w-first-pick is-w-first-pick)) $
           calls-at ! (fmOf 𝓤 H (W .laws) 𝓣) (nearest-contract nearest-out 𝓤 H A) known-nearest
@@ -738,20 +737,19 @@ module _ (Pick Slot : Value) where
           use1 W (later (some (λ (r : (denotes Pick)). ((‵ (flft (ν₀-nearest ∷ []) fullShare) ⊛ ‵ ftrue)
           ⊛ ‵ ((rowOf Pick) .own r (w-nearest ∷ []))) ⊛ raw (ensured 𝓤 H A nearest-ended (nearest-clauses nearest-out 𝓤)
           (ν₀-nearest ∷ [], tt) (nearest-args δ₀-nearest) tt r)))) (id⊢ 𝓤 _) $
-          await ! tt $ pick ! (λ r-nearest. split ! $ move ! (1 ∷ []) $
+          await ! tt $ pick ! (λ r-nearest. split ! $ bring ! (1 ∷ []) $
           use1 W (some (λ (zs-nearest : Unit {0} × (Unit {0} × Unit {0})). ‵ (lasts nearest-ended (ν₀-nearest ∷ [], tt)
           (nearest-args δ₀-nearest) zs-nearest) ⊛ raw (fact 𝓤 (nearest-says nearest-out (now x-catalogue) v-first r-nearest))))
           (id⊢ 𝓤 _) $
-          pick ! (λ zs-nearest. split ! $ move ! (1 ∷ []) $
-          heard ! (nearest-says nearest-out (now x-catalogue) v-first r-nearest) (λ e-nearest. fsplit ! $
-          move ! (1 ∷ []) $ fsplit ! $ move ! (1 ∷ []) $ drop ! $ move ! (1 ∷ []) $ drop ! $ drop ! $ split ! $
-          move ! (1 ∷ []) $
+          pick ! (λ zs-nearest. split ! $ bring ! (1 ∷ []) $
+          heard ! (nearest-says nearest-out (now x-catalogue) v-first r-nearest) (λ e-nearest.
+          fparts W (_ ∷ _ ∷ []) _ $ discard ! (0 ∷ 0 ∷ []) $ split ! $ bring ! (1 ∷ []) $
           rewrite ! 0 (λ (r : (denotes Pick)). ‵ ((rowOf Pick) .own r (w-nearest ∷ []))) (e-nearest) refl $
           peeks ! (rowOf Pick) (Is (rowOf Pick)) (shows 𝓤 H A (rowOf Pick)) v-pick (w-nearest ∷ []) (λ is-w-nearest.
           land ! (from ! (stop !)) (init ! 29 refl ((Pick .typed 𝓤 H A W) v-pick _ is-w-nearest .0)) $
           rewrite ! 29 (λ (u : Val). ‵ (fat fullShare (mirOf Pick) l₅ 0 u)) (ap only ((Pick .tells) v-pick _ is-w-nearest)) refl
           $
-          drop ! $ split ! $ move ! (1 ∷ []) $ drop ! $ lft-end ! tt $
+          discard ! (0 ∷ []) $ parts W (_ ∷ []) _ $ lft-end ! tt $
           use2 W (later (‵ (MutSlice (named 0) κ₀ Entry′.the-row .own (at-x-catalogue (x-catalogue .name) (now x-catalogue))
           (s-x-catalogue ∷ [])) ⊛ ‵ (flft κ₀ q₀))) (comes-home Entry′.the-row κ₀ (ν₀-nearest ∷ []) q₀ (x-catalogue .name)
           (x-catalogue .ptr .0) (x-catalogue .ptr .1) 𝓤 H A W (named 0) (named 0) (now x-catalogue) (length (now x-catalogue))
@@ -763,12 +761,12 @@ module _ (Pick Slot : Value) where
           assigns ! (agg ! (and-then ! (load ! (from ! (stop !)) (look ! 14 refl)) (and-then !
           (load ! (from ! (fld ! refl (stop !))) (look-in ! 34 (sub ! 1 refl (whole !)))) (no-more !)))) (from ! (stop !))
           (init ! 12 refl (tt, (tt, (record { fits = room-x-card .0 }, tt)))) $
-          lft-new ! tt (λ ν₀-move-extent. move ! (3 ∷ 4 ∷ []) $
+          lft-new ! tt (λ ν₀-move-extent. bring ! (3 ∷ 3 ∷ []) $
           use2 W (later (some (λ (δ : GName). ‵ (MutSlice (named 0) (ν₀-move-extent ∷ []) u8 .own (at-x-card δ (now x-card))
           (s-x-card ∷ [])) ⊛ ‵ (LentAgain u8 κ₁ (ν₀-move-extent ∷ []) q₁ (x-card .name) (x-card .ptr .0) (x-card .ptr .1) δ
           (now x-card))))) (lends-again u8 κ₁ (ν₀-move-extent ∷ []) q₁ (x-card .name) (x-card .ptr .0) (x-card .ptr .1) 𝓤 H A W
           (named 1) (named 0) (now x-card) (length (now x-card)) refl) $
-          await ! tt $ pick ! (λ δ₀-move-extent. split ! $ move ! (2 ∷ 0 ∷ []) $ join ! $
+          await ! tt $ pick ! (λ δ₀-move-extent. split ! $ bring ! (2 ∷ 0 ∷ []) $ group ! 2 $
           use1 W (raw ((move-extent-contract move-extent-x-card 𝓤 H A) .pre (to-move-extent ν₀-move-extent δ₀-move-extent)))
           (goes-move-extent ν₀-move-extent δ₀-move-extent (spelled-v-pick w-nearest is-w-nearest)) $
           calls-at ! (fmOf 𝓤 H (W .laws) 𝓣) (move-extent-contract move-extent-x-card 𝓤 H A) known-move-extent
@@ -778,20 +776,20 @@ module _ (Pick Slot : Value) where
           ⊛ ‵ (Nothing .own r (w-move-extent ∷ []))) ⊛ raw (ensured 𝓤 H A move-extent-ended
           (move-extent-clauses move-extent-x-card 𝓤) (ν₀-move-extent ∷ [], tt) (move-extent-args δ₀-move-extent) tt r))))
           (id⊢ 𝓤 _) $
-          await ! tt $ pick ! (λ r-move-extent. split ! $ move ! (1 ∷ []) $
+          await ! tt $ pick ! (λ r-move-extent. split ! $ bring ! (1 ∷ []) $
           use1 W (some (λ (zs-move-extent : List ℕ × (Unit {0} × Unit {0})). ‵ (lasts move-extent-ended
           (ν₀-move-extent ∷ [], tt) (move-extent-args δ₀-move-extent) zs-move-extent) ⊛ raw
           (fact 𝓤 (move-extent-says move-extent-x-card (now x-card) v-pick r-move-extent (zs-move-extent .0))))) (id⊢ 𝓤 _) $
-          pick ! (λ zs-move-extent. split ! $ move ! (1 ∷ []) $
+          pick ! (λ zs-move-extent. split ! $ bring ! (1 ∷ []) $
           heard ! (move-extent-says move-extent-x-card (now x-card) v-pick r-move-extent (zs-move-extent .0)) (λ e-move-extent.
-          fsplit ! $ move ! (1 ∷ []) $ fsplit ! $ move ! (1 ∷ []) $ drop ! $ move ! (1 ∷ []) $ fsplit ! $
-          move ! (1 ∷ []) $ feqL ! (λ h-move-extent-x-card. move ! (1 ∷ []) $ drop ! $ move ! (1 ∷ []) $ split ! $
-          move ! (1 ∷ []) $ rewrite ! 2 (λ (l : List ℕ). ‵ (finally u8 δ₀-move-extent l)) (e-move-extent) refl $
+          fparts W (_ ∷ _ ∷ []) _ $ discard ! (1 ∷ []) $ fsplit ! $ bring ! (1 ∷ []) $ feqL ! (λ h-move-extent-x-card.
+          bring ! (1 ∷ []) $ split ! $ bring ! (1 ∷ []) $
+          rewrite ! 2 (λ (l : List ℕ). ‵ (finally u8 δ₀-move-extent l)) (e-move-extent) refl $
           peeks ! Nothing (Is Nothing) (shows 𝓤 H A Nothing) v-move-extent (w-move-extent ∷ []) (λ is-w-move-extent.
           land ! (from ! (stop !)) (init ! 18 refl ((nothing-lawful 𝓤 H A W .typed) v-move-extent _ is-w-move-extent .0)) $
           rewrite ! 18 (λ (u : Val). ‵ (fat fullShare tyUnit l₁₁ 0 u)) (ap only (nothing-tells v-move-extent _
           is-w-move-extent)) refl $
-          drop ! $ split ! $ move ! (1 ∷ []) $ drop ! $ lft-end ! tt $ move ! (0 ∷ 2 ∷ 1 ∷ []) $
+          discard ! (0 ∷ []) $ parts W (_ ∷ []) _ $ lft-end ! tt $ bring ! (0 ∷ 1 ∷ 0 ∷ []) $
           use3 W (later (‵ (MutSlice (named 1) κ₁ u8 .own (at-x-card (x-card .name) z-move-extent-x-card) (s-x-card ∷ []))
           ⊛ ‵ (flft κ₁ q₁))) (comes-back u8 κ₁ (ν₀-move-extent ∷ []) q₁ (x-card .name) (x-card .ptr .0) (x-card .ptr .1) 𝓤 H A W
           (named 1) (named 0) (now x-card) (length (now x-card)) refl room-x-card δ₀-move-extent z-move-extent-x-card
@@ -804,31 +802,31 @@ module _ (Pick Slot : Value) where
           (and-then ! (load ! (from ! (stop !)) (look ! 29 refl)) (no-more !)) (λ w-sheet-of.
           use1 W (later (some (λ (r : ℕ). ((‵ ftrue) ⊛ ‵ (u32 .own r (w-sheet-of ∷ [])))
           ⊛ raw (ensured 𝓤 H A sheet-of-ended (sheet-of-clauses sheet-of-out 𝓤) tt (sheet-of-args) tt r)))) (id⊢ 𝓤 _) $
-          await ! tt $ pick ! (λ r-sheet-of. split ! $ move ! (1 ∷ []) $
+          await ! tt $ pick ! (λ r-sheet-of. split ! $ bring ! (1 ∷ []) $
           use1 W (some (λ (zs-sheet-of : Unit {0} × Unit {0}). ‵ (lasts sheet-of-ended tt (sheet-of-args) zs-sheet-of)
           ⊛ raw (fact 𝓤 (sheet-of-says sheet-of-out v-pick r-sheet-of)))) (id⊢ 𝓤 _) $
-          pick ! (λ zs-sheet-of. split ! $ move ! (1 ∷ []) $
-          heard ! (sheet-of-says sheet-of-out v-pick r-sheet-of) (λ e-sheet-of. fsplit ! $ move ! (1 ∷ []) $ drop ! $
-          drop ! $ split ! $ move ! (1 ∷ []) $
+          pick ! (λ zs-sheet-of. split ! $ bring ! (1 ∷ []) $
+          heard ! (sheet-of-says sheet-of-out v-pick r-sheet-of) (λ e-sheet-of. fparts W (_ ∷ []) _ $
+          discard ! (0 ∷ []) $ split ! $ bring ! (1 ∷ []) $
           rewrite ! 0 (λ (r : ℕ). ‵ (u32 .own r (w-sheet-of ∷ []))) (e-sheet-of) refl $
           peeks ! u32 (Is u32) (shows 𝓤 H A u32) v-sheet (w-sheet-of ∷ []) (λ is-w-sheet-of.
           land ! (from ! (stop !)) (init ! 28 refl ((uint-lawful 𝓤 H A W w32 .typed) v-sheet _ is-w-sheet-of .0)) $
           rewrite ! 28 (λ (u : Val). ‵ (fat fullShare (tyInt w32) l₆ 0 u)) (ap only ((uint-tells w32) v-sheet _ is-w-sheet-of))
           refl $
-          drop ! $ drop ! $
+          discard ! (0 ∷ []) $ parts W ([]) _ $
           -- find
           assigns ! (addr ! (from ! (fld ! refl (hop ! (look-in ! 36 (sub ! 0 refl (whole !))) (stop !))))) (from ! (stop !))
           (init ! 10 refl (tt, tt)) $
           assigns ! (agg ! (and-then ! (load ! (from ! (stop !)) (look ! 10 refl)) (and-then !
           (load ! (from ! (fld ! refl (stop !))) (look-in ! 36 (sub ! 1 refl (whole !)))) (no-more !)))) (from ! (stop !))
           (init ! 8 refl (tt, (tt, (record { fits = room-x-catalogue .0 }, tt)))) $
-          lft-new ! tt (λ ν₀-find. move ! (3 ∷ 4 ∷ []) $
+          lft-new ! tt (λ ν₀-find. bring ! (3 ∷ 3 ∷ []) $
           use2 W (later (some (λ (δ : GName). ‵ (ShrSlice (named 0) (ν₀-find ∷ []) Entry′.the-row .own
           (at-x-catalogue δ (now x-catalogue)) (s-x-catalogue ∷ [])) ⊛ ‵ (LentOut Entry′.the-row κ₀ (ν₀-find ∷ []) q₀
           (x-catalogue .name) (x-catalogue .ptr .0) (x-catalogue .ptr .1) (now x-catalogue)))))
           (lends-out Entry′.the-row κ₀ (ν₀-find ∷ []) q₀ (x-catalogue .name) (x-catalogue .ptr .0) (x-catalogue .ptr .1) 𝓤 H A W
           (named 0) (named 0) (now x-catalogue) (length (now x-catalogue)) refl) $
-          await ! tt $ pick ! (λ δ₀-find. split ! $ move ! (2 ∷ 0 ∷ []) $ join ! $
+          await ! tt $ pick ! (λ δ₀-find. split ! $ bring ! (2 ∷ 0 ∷ []) $ group ! 2 $
           use1 W (raw ((find-contract find-out 𝓤 H A) .pre (to-find ν₀-find δ₀-find)))
           (goes-find ν₀-find δ₀-find (spelled-v-sheet w-sheet-of is-w-sheet-of)) $
           calls-at ! (fmOf 𝓤 H (W .laws) 𝓣) (find-contract find-out 𝓤 H A) known-find (to-find ν₀-find δ₀-find)
@@ -837,17 +835,17 @@ module _ (Pick Slot : Value) where
           use1 W (later (some (λ (r : (denotes Slot)). ((‵ (flft (ν₀-find ∷ []) fullShare) ⊛ ‵ ftrue)
           ⊛ ‵ ((rowOf Slot) .own r (w-find ∷ []))) ⊛ raw (ensured 𝓤 H A find-ended (find-clauses find-out 𝓤) (ν₀-find ∷ [], tt)
           (find-args δ₀-find) tt r)))) (id⊢ 𝓤 _) $
-          await ! tt $ pick ! (λ r-find. split ! $ move ! (1 ∷ []) $
+          await ! tt $ pick ! (λ r-find. split ! $ bring ! (1 ∷ []) $
           use1 W (some (λ (zs-find : Unit {0} × (Unit {0} × Unit {0})). ‵ (lasts find-ended (ν₀-find ∷ [], tt)
           (find-args δ₀-find) zs-find) ⊛ raw (fact 𝓤 (find-says find-out (now x-catalogue) v-sheet r-find)))) (id⊢ 𝓤 _) $
-          pick ! (λ zs-find. split ! $ move ! (1 ∷ []) $
-          heard ! (find-says find-out (now x-catalogue) v-sheet r-find) (λ e-find. fsplit ! $ move ! (1 ∷ []) $
-          fsplit ! $ move ! (1 ∷ []) $ drop ! $ move ! (1 ∷ []) $ drop ! $ drop ! $ split ! $ move ! (1 ∷ []) $
+          pick ! (λ zs-find. split ! $ bring ! (1 ∷ []) $
+          heard ! (find-says find-out (now x-catalogue) v-sheet r-find) (λ e-find. fparts W (_ ∷ _ ∷ []) _ $
+          discard ! (0 ∷ 0 ∷ []) $ split ! $ bring ! (1 ∷ []) $
           rewrite ! 0 (λ (r : (denotes Slot)). ‵ ((rowOf Slot) .own r (w-find ∷ []))) (e-find) refl $
           peeks ! (rowOf Slot) (Is (rowOf Slot)) (shows 𝓤 H A (rowOf Slot)) v-slot (w-find ∷ []) (λ is-w-find.
           land ! (from ! (stop !)) (init ! 25 refl ((Slot .typed 𝓤 H A W) v-slot _ is-w-find .0)) $
           rewrite ! 25 (λ (u : Val). ‵ (fat fullShare (mirOf Slot) l₇ 0 u)) (ap only ((Slot .tells) v-slot _ is-w-find)) refl $
-          drop ! $ split ! $ move ! (1 ∷ []) $ drop ! $ lft-end ! tt $
+          discard ! (0 ∷ []) $ parts W (_ ∷ []) _ $ lft-end ! tt $
           use2 W (later (‵ (MutSlice (named 0) κ₀ Entry′.the-row .own (at-x-catalogue (x-catalogue .name) (now x-catalogue))
           (s-x-catalogue ∷ [])) ⊛ ‵ (flft κ₀ q₀))) (comes-home Entry′.the-row κ₀ (ν₀-find ∷ []) q₀ (x-catalogue .name)
           (x-catalogue .ptr .0) (x-catalogue .ptr .1) 𝓤 H A W (named 0) (named 0) (now x-catalogue) (length (now x-catalogue))
@@ -861,32 +859,32 @@ module _ (Pick Slot : Value) where
           (no-more !))) (λ w-restart.
           use1 W (later (some (λ (r : Entry). ((‵ ftrue) ⊛ ‵ (Entry′.the-row .own r (w-restart ∷ [])))
           ⊛ raw (ensured 𝓤 H A restart-ended (restart-clauses restart-out 𝓤) tt (restart-args) tt r)))) (id⊢ 𝓤 _) $
-          await ! tt $ pick ! (λ r-restart. split ! $ move ! (1 ∷ []) $
+          await ! tt $ pick ! (λ r-restart. split ! $ bring ! (1 ∷ []) $
           use1 W (some (λ (zs-restart : Unit {0} × (Unit {0} × Unit {0})). ‵ (lasts restart-ended tt (restart-args) zs-restart)
           ⊛ raw (fact 𝓤 (restart-says restart-out v-pick v-slot r-restart)))) (id⊢ 𝓤 _) $
-          pick ! (λ zs-restart. split ! $ move ! (1 ∷ []) $
-          heard ! (restart-says restart-out v-pick v-slot r-restart) (λ e-restart. fsplit ! $ move ! (1 ∷ []) $
-          fsplit ! $ move ! (1 ∷ []) $ drop ! $ move ! (1 ∷ []) $ drop ! $ drop ! $ split ! $ move ! (1 ∷ []) $
+          pick ! (λ zs-restart. split ! $ bring ! (1 ∷ []) $
+          heard ! (restart-says restart-out v-pick v-slot r-restart) (λ e-restart. fparts W (_ ∷ _ ∷ []) _ $
+          discard ! (0 ∷ 0 ∷ []) $ split ! $ bring ! (1 ∷ []) $
           rewrite ! 0 (λ (r : Entry). ‵ (Entry′.the-row .own r (w-restart ∷ []))) (e-restart) refl $
           peeks ! Entry′.the-row (Is Entry′.the-row) (shows 𝓤 H A Entry′.the-row) v-entry (w-restart ∷ []) (λ is-w-restart.
           land ! (from ! (stop !)) (init ! 24 refl ((struct.lawful Entry′.the-type Entry″.the-laws 𝓤 H A W .typed) v-entry _
           is-w-restart .0)) $
           rewrite ! 24 (λ (u : Val). ‵ (fat fullShare Entry″.mir l₈ 0 u)) (ap only ((struct.tells Entry′.the-type
           Entry″.the-laws) v-entry _ is-w-restart)) refl $
-          drop ! $ drop ! $
+          discard ! (0 ∷ []) $ parts W ([]) _ $
           -- store
           assigns ! (addr ! (from ! (fld ! refl (hop ! (look-in ! 36 (sub ! 0 refl (whole !))) (stop !))))) (from ! (stop !))
           (init ! 6 refl (tt, tt)) $
           assigns ! (agg ! (and-then ! (load ! (from ! (stop !)) (look ! 6 refl)) (and-then !
           (load ! (from ! (fld ! refl (stop !))) (look-in ! 36 (sub ! 1 refl (whole !)))) (no-more !)))) (from ! (stop !))
           (init ! 4 refl (tt, (tt, (record { fits = room-x-catalogue .0 }, tt)))) $
-          lft-new ! tt (λ ν₀-store. move ! (1 ∷ 2 ∷ []) $
+          lft-new ! tt (λ ν₀-store. bring ! (1 ∷ 1 ∷ []) $
           use2 W (later (some (λ (δ : GName). ‵ (MutSlice (named 0) (ν₀-store ∷ []) Entry′.the-row .own
           (at-x-catalogue δ (now x-catalogue)) (s-x-catalogue ∷ [])) ⊛ ‵ (LentAgain Entry′.the-row κ₀ (ν₀-store ∷ []) q₀
           (x-catalogue .name) (x-catalogue .ptr .0) (x-catalogue .ptr .1) δ (now x-catalogue)))))
           (lends-again Entry′.the-row κ₀ (ν₀-store ∷ []) q₀ (x-catalogue .name) (x-catalogue .ptr .0) (x-catalogue .ptr .1) 𝓤 H
           A W (named 0) (named 0) (now x-catalogue) (length (now x-catalogue)) refl) $
-          await ! tt $ pick ! (λ δ₀-store. split ! $ move ! (2 ∷ 0 ∷ []) $ join ! $
+          await ! tt $ pick ! (λ δ₀-store. split ! $ bring ! (2 ∷ 0 ∷ []) $ group ! 2 $
           use1 W (raw ((store-contract store-x-catalogue 𝓤 H A) .pre (to-store ν₀-store δ₀-store)))
           (goes-store ν₀-store δ₀-store (spelled-v-sheet w-sheet-of is-w-sheet-of) (spelled-v-entry w-restart is-w-restart)) $
           calls-at ! (fmOf 𝓤 H (W .laws) 𝓣) (store-contract store-x-catalogue 𝓤 H A) known-store (to-store ν₀-store δ₀-store)
@@ -895,20 +893,19 @@ module _ (Pick Slot : Value) where
           use1 W (later (some (λ (r : (Unit {0})). ((‵ (flft (ν₀-store ∷ []) fullShare) ⊛ ‵ ftrue)
           ⊛ ‵ (Nothing .own r (w-store ∷ []))) ⊛ raw (ensured 𝓤 H A store-ended (store-clauses store-x-catalogue 𝓤)
           (ν₀-store ∷ [], tt) (store-args δ₀-store) tt r)))) (id⊢ 𝓤 _) $
-          await ! tt $ pick ! (λ r-store. split ! $ move ! (1 ∷ []) $
+          await ! tt $ pick ! (λ r-store. split ! $ bring ! (1 ∷ []) $
           use1 W (some (λ (zs-store : List Entry × (Unit {0} × (Unit {0} × Unit {0}))). ‵
           (lasts store-ended (ν₀-store ∷ [], tt) (store-args δ₀-store) zs-store) ⊛ raw
           (fact 𝓤 (store-says store-x-catalogue (now x-catalogue) v-sheet v-entry r-store (zs-store .0))))) (id⊢ 𝓤 _) $
-          pick ! (λ zs-store. split ! $ move ! (1 ∷ []) $
+          pick ! (λ zs-store. split ! $ bring ! (1 ∷ []) $
           heard ! (store-says store-x-catalogue (now x-catalogue) v-sheet v-entry r-store (zs-store .0)) (λ e-store.
-          fsplit ! $ move ! (1 ∷ []) $ fsplit ! $ move ! (1 ∷ []) $ fsplit ! $ move ! (1 ∷ []) $ drop ! $
-          move ! (2 ∷ []) $ fsplit ! $ move ! (1 ∷ []) $ feqL ! (λ h-store-x-catalogue. move ! (2 ∷ []) $ drop ! $
-          move ! (1 ∷ []) $ drop ! $ move ! (1 ∷ []) $ split ! $ move ! (1 ∷ []) $
+          fparts W (_ ∷ _ ∷ _ ∷ []) _ $ discard ! (1 ∷ 1 ∷ []) $ fsplit ! $ bring ! (1 ∷ []) $
+          feqL ! (λ h-store-x-catalogue. bring ! (1 ∷ []) $ split ! $ bring ! (1 ∷ []) $
           rewrite ! 2 (λ (l : List Entry). ‵ (finally Entry′.the-row δ₀-store l)) (e-store) refl $
           peeks ! Nothing (Is Nothing) (shows 𝓤 H A Nothing) v-store (w-store ∷ []) (λ is-w-store.
           land ! (from ! (stop !)) (store ! 18 refl ((nothing-lawful 𝓤 H A W .typed) v-store _ is-w-store .0)) $
           rewrite ! 18 (λ (u : Val). ‵ (fat fullShare tyUnit l₁₁ 0 u)) (ap only (nothing-tells v-store _ is-w-store)) refl $
-          drop ! $ split ! $ move ! (1 ∷ []) $ drop ! $ lft-end ! tt $ move ! (0 ∷ 2 ∷ 1 ∷ []) $
+          discard ! (0 ∷ []) $ parts W (_ ∷ []) _ $ lft-end ! tt $ bring ! (0 ∷ 1 ∷ 0 ∷ []) $
           use3 W (later (‵ (MutSlice (named 0) κ₀ Entry′.the-row .own (at-x-catalogue (x-catalogue .name) z-store-x-catalogue)
           (s-x-catalogue ∷ [])) ⊛ ‵ (flft κ₀ q₀))) (comes-back Entry′.the-row κ₀ (ν₀-store ∷ []) q₀ (x-catalogue .name)
           (x-catalogue .ptr .0) (x-catalogue .ptr .1) 𝓤 H A W (named 0) (named 0) (now x-catalogue) (length (now x-catalogue))
@@ -921,22 +918,23 @@ module _ (Pick Slot : Value) where
           (and-then ! (load ! (from ! (stop !)) (look ! 29 refl)) (no-more !)) (λ w-at-after.
           use1 W (later (some (λ (r : ℕ). ((‵ ftrue) ⊛ ‵ (u32 .own r (w-at-after ∷ [])))
           ⊛ raw (ensured 𝓤 H A at-after-ended (at-after-clauses at-after-out 𝓤) tt (at-after-args) tt r)))) (id⊢ 𝓤 _) $
-          await ! tt $ pick ! (λ r-at-after. split ! $ move ! (1 ∷ []) $
+          await ! tt $ pick ! (λ r-at-after. split ! $ bring ! (1 ∷ []) $
           use1 W (some (λ (zs-at-after : Unit {0} × Unit {0}). ‵ (lasts at-after-ended tt (at-after-args) zs-at-after)
           ⊛ raw (fact 𝓤 (at-after-says at-after-out v-pick r-at-after)))) (id⊢ 𝓤 _) $
-          pick ! (λ zs-at-after. split ! $ move ! (1 ∷ []) $
-          heard ! (at-after-says at-after-out v-pick r-at-after) (λ e-at-after. fsplit ! $ move ! (1 ∷ []) $ drop ! $
-          drop ! $ split ! $ move ! (1 ∷ []) $
+          pick ! (λ zs-at-after. split ! $ bring ! (1 ∷ []) $
+          heard ! (at-after-says at-after-out v-pick r-at-after) (λ e-at-after. fparts W (_ ∷ []) _ $
+          discard ! (0 ∷ []) $ split ! $ bring ! (1 ∷ []) $
           rewrite ! 0 (λ (r : ℕ). ‵ (u32 .own r (w-at-after ∷ []))) (e-at-after) refl $
           peeks ! u32 (Is u32) (shows 𝓤 H A u32) v-result (w-at-after ∷ []) (λ is-w-at-after.
           land ! (from ! (stop !)) (init ! 40 refl ((uint-lawful 𝓤 H A W w32 .typed) v-result _ is-w-at-after .0)) $
           rewrite ! 40 (λ (u : Val). ‵ (fat fullShare (tyInt w32) l₀ 0 u)) (ap only ((uint-tells w32) v-result _ is-w-at-after))
           refl $
-          drop ! $ drop ! $ returns ! (look ! 38 refl) $ leave ! 38 refl refl $ leave ! 36 refl refl $
-          leave ! 34 refl refl $ leave ! 32 refl refl $ leave ! 30 refl refl $ leave ! 28 refl refl $
-          leave ! 26 refl refl $ leave ! 24 refl refl $ leave ! 22 refl refl $ leave ! 20 refl refl $
-          leave ! 18 refl refl $ leave ! 16 refl refl $ leave ! 14 refl refl $ leave ! 12 refl refl $
-          leave ! 10 refl refl $ leave ! 8 refl refl $ leave ! 6 refl refl $ leave ! 4 refl refl $ free0 ! $
+          discard ! (0 ∷ []) $ parts W ([]) _ $ returns ! (look ! 38 refl) $ leave ! 38 refl refl $
+          leave ! 36 refl refl $ leave ! 34 refl refl $ leave ! 32 refl refl $ leave ! 30 refl refl $
+          leave ! 28 refl refl $ leave ! 26 refl refl $ leave ! 24 refl refl $ leave ! 22 refl refl $
+          leave ! 20 refl refl $ leave ! 18 refl refl $ leave ! 16 refl refl $ leave ! 14 refl refl $
+          leave ! 12 refl refl $ leave ! 10 refl refl $ leave ! 8 refl refl $ leave ! 6 refl refl $
+          leave ! 4 refl refl $ free0 ! $
           by ! (exits (spelled-v-result w-at-after is-w-at-after) (ap {B = ℕ} length (sym (e-store)) ∙ h-store-x-catalogue)
           (ap {B = ℕ} length (sym (e-move-extent)) ∙
           h-move-extent-x-card))))))))))))))))))))))))))))))))))))))))))))))))))))))))))))))))))))))

@@ -22,8 +22,8 @@ use base.Fml.{Lft, Share, GName, ftrue, flft, fat, froom, fdies}
 use prog.Wp.{Heap, Out as Outs, Env, Calls, Loops, Wp, WpFn, Tables, afterSeq, afterBlock, afterTurn, atReturn}
 use ghost.Atoms.{Atoms}
 use contract.Monad.{fact}
-use types.Kit.{Given, Item, Sq, ‵, raw, some, later, _⊛_, ⋆, anyQ, atRet, runs, _$_, _∵_, !, qed, by, move, drop, use1, use2}
-use types.Kit.{use3, split, join, pick, rewrite, fsplit, fjoin, feqL, suffices, frame, await, done}
+use types.Kit.{Given, Item, Sq, ‵, raw, some, later, _⊛_, ⋆, anyQ, atRet, runs, _$_, _∵_, !, qed, by, use1, use2, use3, group}
+use types.Kit.{split, join, pick, rewrite, fsplit, fjoin, feqL, suffices, frame, await, done}
 use types.Run.{look, init, store, forget, stop, hop, fld, from, load, lit, addr, and-then, no-more, of-opd, bin, assigns}
 use types.Run.{assigns-last, stays, leaves-loop, first, blocks, exec, loops, again, Below, land, returns, enter, alloc1, alloc0}
 use types.Run.{params1, pass1, pass0, free0}
@@ -49,7 +49,7 @@ use denote.Exit.{yes}
 use Rattle.catalogue.specs.declared.Entry.{Entry}
 use Rattle.catalogue.proofs.Entry as Entry′
 use Rattle.catalogue.proofs.Entry.Laws as Entry″
-use Rattle.catalogue.proofs.Steps.{leave, leave-room, is-true, is-false, Less, by-size}
+use Rattle.catalogue.proofs.Steps.{bring, discard, parts, fparts, leave, leave-room, is-true, is-false, Less, by-size}
 use Rattle.catalogue.proofs.Lending.{LentAgain, lends-again, comes-back}
 
 -- ---- the signature
@@ -290,9 +290,9 @@ module _ (#close-next : Name) (close-next-out : close-next-Model ℕ) (close-nex
         ∷ ‵ (MutSlice (named 0) (ν₀-close-next ∷ []) Entry′.the-row .own (at-x-catalogue δ₀-close-next l-x-catalogue)
         (s-x-catalogue ∷ [])) ∷ ‵ (MutSlice (named 1) (ν₁-close-next ∷ []) u8 .own (at-x-card δ₁-close-next l-x-card)
         (s-x-card ∷ [])) ∷ []) ∵
-        nothing ! $ move ! (2 ∷ 0 ∷ []) $ join ! $ move ! (1 ∷ 0 ∷ []) $ join ! $ nothing ! $
-        owned ! u32 (Is u32) (uint-makes 𝓤 H A W w32) v-state _ is-v-state $ fjoin ! $ move ! (3 ∷ 0 ∷ []) $
-        fjoin ! $ move ! (2 ∷ 0 ∷ []) $ fjoin ! $ move ! (1 ∷ 0 ∷ []) $ join ! $ frame ! $ done !
+        nothing ! $ bring ! (1 ∷ 1 ∷ 0 ∷ []) $ group ! 3 $ nothing ! $
+        owned ! u32 (Is u32) (uint-makes 𝓤 H A W w32) v-state _ is-v-state $ fjoin ! $ bring ! (3 ∷ 0 ∷ []) $
+        fjoin ! $ bring ! (2 ∷ 0 ∷ []) $ fjoin ! $ bring ! (1 ∷ 0 ∷ []) $ join ! $ frame ! $ done !
 
     -- ---- the exit
     exits : (r : ℕ) (z-x-catalogue : List Entry) (z-x-card : List ℕ) → Is u32 r (machine-state r ∷ [])
@@ -307,11 +307,11 @@ module _ (#close-next : Name) (close-next-out : close-next-Model ℕ) (close-nex
         (s-x-card ∷ [])) ∷ ‵ (flft κ₁ q₁) ∷ []) ∵
         suffices ! _ (ends-at 𝓤 H A ended stayed (clauses 𝓤) W bound (machine-state r) r
         (z-x-catalogue, (z-x-card, (tt, (tt, tt)))) (l-x-catalogue, (l-x-card, (tt, (tt, tt))))) $
-        says ! said $ nothing ! $ move ! (4 ∷ 0 ∷ []) $ join ! $ move ! (2 ∷ 0 ∷ []) $ join ! $ frame ! $ nothing ! $
+        says ! said $ nothing ! $ bring ! (2 ∷ 3 ∷ 0 ∷ []) $ group ! 3 $ frame ! $ nothing ! $
         owned ! u32 (Is u32) (uint-makes 𝓤 H A W w32) x-start _ is-x-start $ fjoin ! $
-        owned ! usize (Is usize) (uint-makes 𝓤 H A W w64) x-count _ is-x-count $ fjoin ! $ move ! (2 ∷ 0 ∷ []) $
-        fjoin ! $ move ! (1 ∷ 0 ∷ []) $ fjoin ! $ owned ! u32 (Is u32) (uint-makes 𝓤 H A W w32) r _ is $
-        move ! (1 ∷ 0 ∷ []) $ done !
+        owned ! usize (Is usize) (uint-makes 𝓤 H A W w64) x-count _ is-x-count $ fjoin ! $ bring ! (2 ∷ 0 ∷ []) $
+        fjoin ! $ bring ! (1 ∷ 0 ∷ []) $ fjoin ! $ owned ! u32 (Is u32) (uint-makes 𝓤 H A W w32) r _ is $
+        bring ! (1 ∷ 0 ∷ []) $ done !
 
     module _ (𝓣 : Tables 𝓤 H) (known-close-next : Triple 𝓤 (𝓣 .C #close-next) (close-next-contract close-next-out
         close-next-x-catalogue close-next-x-card 𝓤 H A)) (l₀ l₁ l₂ l₃ l₄ l₅ l₆ l₇ l₈ l₉ l₁₀ l₁₁ : ℕ) where
@@ -465,20 +465,19 @@ module _ (#close-next : Name) (close-next-out : close-next-Model ℕ) (close-nex
             assigns ! (agg ! (and-then ! (load ! (from ! (stop !)) (look ! 6 refl)) (and-then !
             (load ! (from ! (fld ! refl (stop !))) (look-in ! 22 (sub ! 1 refl (whole !)))) (no-more !)))) (from ! (stop !))
             (init ! 4 refl (tt, (tt, (record { fits = room-x-card .0 }, tt)))) $
-            lft-new ! tt (λ ν₀-close-next. move ! (1 ∷ 2 ∷ []) $
+            lft-new ! tt (λ ν₀-close-next. bring ! (1 ∷ 1 ∷ []) $
             use2 W (later (some (λ (δ : GName). ‵ (MutSlice (named 0) (ν₀-close-next ∷ []) Entry′.the-row .own
             (at-x-catalogue δ (x .z-x-catalogue)) (s-x-catalogue ∷ [])) ⊛ ‵ (LentAgain Entry′.the-row κ₀ (ν₀-close-next ∷ []) q₀
             (x-catalogue .name) (x-catalogue .ptr .0) (x-catalogue .ptr .1) δ (x .z-x-catalogue)))))
             (lends-again Entry′.the-row κ₀ (ν₀-close-next ∷ []) q₀ (x-catalogue .name) (x-catalogue .ptr .0)
             (x-catalogue .ptr .1) 𝓤 H A W (named 0) (named 0) (x .z-x-catalogue) (length (now x-catalogue)) (x .l-x-catalogue))
             $
-            await ! tt $ pick ! (λ δ₀-close-next. split ! $ lft-new ! tt (λ ν₁-close-next. move ! (4 ∷ 5 ∷ []) $
+            await ! tt $ pick ! (λ δ₀-close-next. split ! $ lft-new ! tt (λ ν₁-close-next. bring ! (4 ∷ 4 ∷ []) $
             use2 W (later (some (λ (δ : GName). ‵ (MutSlice (named 1) (ν₁-close-next ∷ []) u8 .own (at-x-card δ (x .z-x-card))
             (s-x-card ∷ [])) ⊛ ‵ (LentAgain u8 κ₁ (ν₁-close-next ∷ []) q₁ (x-card .name) (x-card .ptr .0) (x-card .ptr .1) δ
             (x .z-x-card))))) (lends-again u8 κ₁ (ν₁-close-next ∷ []) q₁ (x-card .name) (x-card .ptr .0) (x-card .ptr .1) 𝓤 H A
             W (named 1) (named 1) (x .z-x-card) (length (now x-card)) (x .l-x-card)) $
-            await ! tt $ pick ! (λ δ₁-close-next. split ! $ move ! (5 ∷ 2 ∷ 3 ∷ 0 ∷ []) $ move ! (2 ∷ 3 ∷ []) $ join ! $
-            move ! (2 ∷ 0 ∷ []) $ join ! $ move ! (1 ∷ 0 ∷ []) $ join ! $
+            await ! tt $ pick ! (λ δ₁-close-next. split ! $ bring ! (5 ∷ 2 ∷ 2 ∷ 0 ∷ []) $ group ! 4 $
             use1 W (raw ((close-next-contract close-next-out close-next-x-catalogue close-next-x-card 𝓤 H A) .pre
             (to-close-next ν₀-close-next ν₁-close-next δ₀-close-next δ₁-close-next (x .state) (x .z-x-catalogue)
             (x .z-x-card)))) (goes-close-next ν₀-close-next ν₁-close-next δ₀-close-next δ₁-close-next (x .state)
@@ -493,39 +492,37 @@ module _ (#close-next : Name) (close-next-out : close-next-Model ℕ) (close-nex
             (close-next-clauses close-next-out close-next-x-catalogue close-next-x-card 𝓤)
             (ν₀-close-next ∷ [], (ν₁-close-next ∷ [], tt)) (close-next-args δ₀-close-next δ₁-close-next (x .state)
             (x .z-x-catalogue) (x .z-x-card)) tt r)))) (id⊢ 𝓤 _) $
-            await ! tt $ pick ! (λ r-close-next. split ! $ move ! (1 ∷ []) $
+            await ! tt $ pick ! (λ r-close-next. split ! $ bring ! (1 ∷ []) $
             use1 W (some (λ (zs-close-next : List Entry × (List ℕ × (Unit {0} × Unit {0}))). ‵
             (lasts close-next-ended
             (ν₀-close-next ∷ [], (ν₁-close-next ∷ [], tt)) (close-next-args δ₀-close-next δ₁-close-next (x .state)
             (x .z-x-catalogue) (x .z-x-card)) zs-close-next) ⊛ raw (fact 𝓤 (close-next-says close-next-out
             close-next-x-catalogue close-next-x-card (x .z-x-catalogue) (x .z-x-card) (x .state) r-close-next (zs-close-next .0)
             (zs-close-next .1 .0))))) (id⊢ 𝓤 _) $
-            pick ! (λ zs-close-next. split ! $ move ! (1 ∷ []) $
+            pick ! (λ zs-close-next. split ! $ bring ! (1 ∷ []) $
             heard ! (close-next-says close-next-out close-next-x-catalogue close-next-x-card (x .z-x-catalogue) (x .z-x-card)
             (x .state) r-close-next (zs-close-next .0) (zs-close-next .1 .0)) (λ e-close-next.
-            fsplit ! $ move ! (1 ∷ []) $ fsplit ! $ move ! (1 ∷ []) $ fsplit ! $ move ! (1 ∷ []) $ drop ! $
-            move ! (2 ∷ []) $ fsplit ! $ move ! (1 ∷ []) $ feqL ! (λ h-close-next-x-catalogue. move ! (2 ∷ []) $
-            fsplit ! $ move ! (1 ∷ []) $ feqL ! (λ h-close-next-x-card. move ! (2 ∷ []) $ drop ! $ move ! (2 ∷ []) $
-            split ! $ move ! (1 ∷ []) $
+            fparts W (_ ∷ _ ∷ _ ∷ []) _ $ discard ! (2 ∷ []) $ fsplit ! $ bring ! (1 ∷ []) $
+            feqL ! (λ h-close-next-x-catalogue. bring ! (1 ∷ []) $ fsplit ! $ bring ! (1 ∷ []) $
+            feqL ! (λ h-close-next-x-card. bring ! (2 ∷ []) $ split ! $ bring ! (1 ∷ []) $
             peeks ! u32 (Is u32) (shows 𝓤 H A u32) r-close-next (w-close-next ∷ []) (λ is-w-close-next.
             land ! (from ! (stop !)) (store ! 18 refl ((uint-lawful 𝓤 H A W w32 .typed) r-close-next _ is-w-close-next .0)) $
             rewrite ! 18 (λ (u : Val). ‵ (fat fullShare (tyInt w32) l₅ 0 u)) (ap only ((uint-tells w32) r-close-next _
             is-w-close-next)) refl $
-            drop ! $ split ! $ move ! (1 ∷ []) $ split ! $ move ! (1 ∷ []) $ drop ! $ move ! (1 ∷ []) $ lft-end ! tt $
-            move ! (0 ∷ 5 ∷ 3 ∷ []) $
+            discard ! (0 ∷ []) $ parts W (_ ∷ _ ∷ []) _ $ lft-end ! tt $ bring ! (0 ∷ 4 ∷ 2 ∷ []) $
             use3 W (later (‵ (MutSlice (named 0) κ₀ Entry′.the-row .own (at-x-catalogue (x-catalogue .name) (zs-close-next .0))
             (s-x-catalogue ∷ [])) ⊛ ‵ (flft κ₀ q₀))) (comes-back Entry′.the-row κ₀ (ν₀-close-next ∷ []) q₀ (x-catalogue .name)
             (x-catalogue .ptr .0) (x-catalogue .ptr .1) 𝓤 H A W (named 0) (named 0) (x .z-x-catalogue)
             (length (now x-catalogue)) (x .l-x-catalogue) room-x-catalogue δ₀-close-next (zs-close-next .0)
             h-close-next-x-catalogue) $
-            await ! tt $ split ! $ move ! (2 ∷ []) $ lft-end ! tt $ move ! (0 ∷ 4 ∷ 3 ∷ []) $
+            await ! tt $ split ! $ bring ! (2 ∷ []) $ lft-end ! tt $ bring ! (0 ∷ 3 ∷ 2 ∷ []) $
             use3 W (later (‵ (MutSlice (named 1) κ₁ u8 .own (at-x-card (x-card .name) (zs-close-next .1 .0)) (s-x-card ∷ []))
             ⊛ ‵ (flft κ₁ q₁))) (comes-back u8 κ₁ (ν₁-close-next ∷ []) q₁ (x-card .name) (x-card .ptr .0) (x-card .ptr .1) 𝓤 H A
             W (named 1) (named 1) (x .z-x-card) (length (now x-card)) (x .l-x-card) room-x-card δ₁-close-next
             (zs-close-next .1 .0) h-close-next-x-card) $
             await ! tt $ split ! $
             -- the turn is over
-            move ! (2 ∷ 3 ∷ 0 ∷ 1 ∷ []) $
+            bring ! (2 ∷ 2 ∷ 0 ∷ 0 ∷ []) $
             assigns-last ! (bin ! (load ! (from ! (stop !)) (look ! 14 refl)) (lit ! tt) (record { fits = next-fits }))
             (from ! (stop !)) (store ! 14 refl (tt, record { fits = next-fits })) $
             forget ! 4 refl $ forget ! 6 refl $ forget ! 8 refl $ forget ! 10 refl $ forget ! 12 refl $
@@ -553,12 +550,11 @@ module _ (#close-next : Name) (close-next-out : close-next-Model ℕ) (close-nex
         params1 ! $ pass1 ! (init ! 20 refl (tt, (tt, (record { fits = room-x-catalogue .0 }, tt)))) $
         pass1 ! (init ! 18 refl (tt, (tt, (record { fits = room-x-card .0 }, tt)))) $
         pass1 ! (init ! 16 refl typed-x-count) $ pass1 ! (init ! 14 refl typed-x-start) $ pass0 ! $
-        move ! (24 ∷ []) $ split ! $ move ! (1 ∷ []) $ split ! $ move ! (1 ∷ []) $ drop ! $ move ! (26 ∷ []) $
-        fsplit ! $ move ! (1 ∷ []) $ fsplit ! $ move ! (1 ∷ []) $ fsplit ! $ move ! (1 ∷ []) $ fsplit ! $
-        move ! (1 ∷ []) $ drop ! $ move ! (1 ∷ []) $ drop ! $ drop ! $
+        bring ! (24 ∷ []) $ parts W (_ ∷ _ ∷ []) _ $ bring ! (26 ∷ []) $ fparts W (_ ∷ _ ∷ _ ∷ _ ∷ []) _ $
+        discard ! (2 ∷ 2 ∷ []) $
         assigns ! (of-opd ! (load ! (from ! (stop !)) (look ! 18 refl))) (from ! (stop !)) (init ! 16 refl typed-x-start) $
         assigns ! (of-opd ! (lit ! tt)) (from ! (stop !)) (init ! 14 refl (tt, record { fits = lit< tt })) $
-        move ! (1 ∷ 3 ∷ 0 ∷ 2 ∷ []) $
+        bring ! (0 ∷ 1 ∷ 0 ∷ 0 ∷ []) $
         first ! $ blocks ! $ loops ! 𝓣 (Less size) (by-size size) (I 𝓣 known-close-next l₀ l₁ l₂ l₃ l₄ l₅ l₆ l₇ l₈ l₉ l₁₀ l₁₁)
         (turn-at 𝓣 known-close-next l₀ l₁ l₂ l₃ l₄ l₅ l₆ l₇ l₈ l₉ l₁₀ l₁₁) at-first))))))))))))
 

@@ -27,7 +27,7 @@ use base.Fml.{Lft, Share, GName, ftrue, flft, fat}
 use prog.Wp.{Heap, WpFn, Tables}
 use ghost.Atoms.{Atoms}
 use contract.Monad.{fact}
-use types.Kit.{Given, ‵, raw, some, later, _⊛_, ⋆, _$_, _∵_, !, qed, by, move, drop, use0, use1, use2, use3, split, join, pick}
+use types.Kit.{Given, ‵, raw, some, later, _⊛_, ⋆, _$_, _∵_, !, qed, by, use0, use1, use2, use3, group, split, join, pick}
 use types.Kit.{rewrite, fsplit, fjoin, feqL, suffices, frame, await, done}
 use types.Run.{look, init, stop, hop, fld, from, load, addr, and-then, no-more, of-opd, assigns, land, returns, enter, alloc1}
 use types.Run.{alloc0, params1, pass1, pass0, free0}
@@ -55,7 +55,7 @@ use Rattle.catalogue.proofs.Values.{Value, denotes, rowOf, mirOf, valsOf}
 use Rattle.catalogue.specs.declared.Entry.{Entry}
 use Rattle.catalogue.proofs.Entry as Entry′
 use Rattle.catalogue.proofs.Entry.Laws as Entry″
-use Rattle.catalogue.proofs.Steps.{leave}
+use Rattle.catalogue.proofs.Steps.{bring, discard, parts, fparts, leave}
 use Rattle.catalogue.proofs.Lending.{LentAgain, lends-again, comes-back, LentOut, lends-out, comes-home}
 
 module _ (Tally : Value) where
@@ -583,8 +583,8 @@ module _ (Tally : Value) where
         goes-count ν₀-count δ₀-count =
             qed W (‵ (flft (ν₀-count ∷ []) fullShare) ∷ ‵ (ShrSlice (named 0) (ν₀-count ∷ []) Entry′.the-row .own
             (at-x-catalogue δ₀-count (now x-catalogue)) (s-x-catalogue ∷ [])) ∷ []) ∵
-            nothing ! $ move ! (1 ∷ 0 ∷ []) $ join ! $ nothing ! $ move ! (2 ∷ 0 ∷ []) $ fjoin ! $ move ! (1 ∷ 0 ∷ []) $
-            join ! $ frame ! $ done !
+            nothing ! $ bring ! (1 ∷ 0 ∷ []) $ group ! 2 $ nothing ! $ bring ! (2 ∷ 0 ∷ []) $ fjoin ! $
+            bring ! (1 ∷ 0 ∷ []) $ join ! $ frame ! $ done !
 
         -- ---- the caller has what `begin` asks
         abbrev begin-args : (δ₀-begin δ₁-begin δ₂-begin : GName) → ℕ × (ℕ × (Bool × (RefT (List ℕ)
@@ -631,12 +631,12 @@ module _ (Tally : Value) where
             ∷ ‵ (ShrSlice (named 0) (ν₀-begin ∷ []) u64 .own (at-x-map δ₀-begin (now x-map)) (s-x-map ∷ []))
             ∷ ‵ (ShrSlice (named 1) (ν₁-begin ∷ []) u8 .own (at-x-card δ₁-begin (now x-card)) (s-x-card ∷ []))
             ∷ ‵ (ShrSlice (named 2) (ν₂-begin ∷ []) u64 .own (at-x-scratch δ₂-begin (now x-scratch)) (s-x-scratch ∷ [])) ∷ []) ∵
-            nothing ! $ move ! (3 ∷ 0 ∷ []) $ join ! $ move ! (2 ∷ 0 ∷ []) $ join ! $ move ! (1 ∷ 0 ∷ []) $ join ! $
-            nothing ! $ move ! (4 ∷ 0 ∷ []) $ fjoin ! $ move ! (3 ∷ 0 ∷ []) $ fjoin ! $
-            owned ! usize (Is usize) (uint-makes 𝓤 H A W w64) v-count _ is-v-count $ fjoin ! $ move ! (2 ∷ 0 ∷ []) $
-            fjoin ! $ owned ! Boolean (Is Boolean) (bool-makes 𝓤 H A W) x-fits _ is-x-fits $ fjoin ! $
+            nothing ! $ bring ! (1 ∷ 1 ∷ 1 ∷ 0 ∷ []) $ group ! 4 $ nothing ! $ bring ! (4 ∷ 0 ∷ []) $ fjoin ! $
+            bring ! (3 ∷ 0 ∷ []) $ fjoin ! $ owned ! usize (Is usize) (uint-makes 𝓤 H A W w64) v-count _ is-v-count $
+            fjoin ! $ bring ! (2 ∷ 0 ∷ []) $ fjoin ! $
+            owned ! Boolean (Is Boolean) (bool-makes 𝓤 H A W) x-fits _ is-x-fits $ fjoin ! $
             owned ! u32 (Is u32) (uint-makes 𝓤 H A W w32) x-free _ is-x-free $ fjoin ! $
-            owned ! u32 (Is u32) (uint-makes 𝓤 H A W w32) x-n _ is-x-n $ fjoin ! $ move ! (1 ∷ 0 ∷ []) $ join ! $
+            owned ! u32 (Is u32) (uint-makes 𝓤 H A W w32) x-n _ is-x-n $ fjoin ! $ bring ! (1 ∷ 0 ∷ []) $ join ! $
             frame ! $ done !
 
         -- ---- the caller has what `test` asks
@@ -673,10 +673,10 @@ module _ (Tally : Value) where
             ∷ ‵ (ShrSlice (named 1) (ν₁-test ∷ []) Entry′.the-row .own (at-x-catalogue δ₁-test (now x-catalogue))
             (s-x-catalogue ∷ [])) ∷ ‵ (MutSlice (named 2) (ν₂-test ∷ []) u64 .own (at-x-scratch δ₂-test (now x-scratch))
             (s-x-scratch ∷ [])) ∷ []) ∵
-            nothing ! $ move ! (3 ∷ 0 ∷ []) $ join ! $ move ! (2 ∷ 0 ∷ []) $ join ! $ move ! (1 ∷ 0 ∷ []) $ join ! $
-            nothing ! $ owned ! (rowOf Tally) (Is (rowOf Tally)) (Tally .makes 𝓤 H A) v-start _ is-v-start $ fjoin ! $
-            owned ! u32 (Is u32) (uint-makes 𝓤 H A W w32) x-n _ is-x-n $ fjoin ! $ move ! (4 ∷ 0 ∷ []) $ fjoin ! $
-            move ! (3 ∷ 0 ∷ []) $ fjoin ! $ move ! (2 ∷ 0 ∷ []) $ fjoin ! $ move ! (1 ∷ 0 ∷ []) $ join ! $ frame ! $
+            nothing ! $ bring ! (1 ∷ 1 ∷ 1 ∷ 0 ∷ []) $ group ! 4 $ nothing ! $
+            owned ! (rowOf Tally) (Is (rowOf Tally)) (Tally .makes 𝓤 H A) v-start _ is-v-start $ fjoin ! $
+            owned ! u32 (Is u32) (uint-makes 𝓤 H A W w32) x-n _ is-x-n $ fjoin ! $ bring ! (4 ∷ 0 ∷ []) $ fjoin ! $
+            bring ! (3 ∷ 0 ∷ []) $ fjoin ! $ bring ! (2 ∷ 0 ∷ []) $ fjoin ! $ bring ! (1 ∷ 0 ∷ []) $ join ! $ frame ! $
             done !
 
         -- ---- the caller has what `verdict` asks
@@ -692,7 +692,7 @@ module _ (Tally : Value) where
             qed W ([]) ∵
             nothing ! $ nothing ! $ owned ! Boolean (Is Boolean) (bool-makes 𝓤 H A W) v-sound _ is-v-sound $ fjoin ! $
             owned ! (rowOf Tally) (Is (rowOf Tally)) (Tally .makes 𝓤 H A) v-start _ is-v-start $ fjoin ! $
-            move ! (1 ∷ 0 ∷ []) $ join ! $ frame ! $ done !
+            bring ! (1 ∷ 0 ∷ []) $ join ! $ frame ! $ done !
 
         -- ---- the caller has what `rounds-for` asks
         abbrev rounds-for-args : ℕ × (ℕ × Unit {0})
@@ -706,7 +706,7 @@ module _ (Tally : Value) where
         goes-rounds-for is-v-count is-v-number =
             qed W ([]) ∵
             nothing ! $ nothing ! $ owned ! u32 (Is u32) (uint-makes 𝓤 H A W w32) v-number _ is-v-number $ fjoin ! $
-            owned ! usize (Is usize) (uint-makes 𝓤 H A W w64) v-count _ is-v-count $ fjoin ! $ move ! (1 ∷ 0 ∷ []) $
+            owned ! usize (Is usize) (uint-makes 𝓤 H A W w64) v-count _ is-v-count $ fjoin ! $ bring ! (1 ∷ 0 ∷ []) $
             join ! $ frame ! $ done !
 
         -- ---- the caller has what `close-rounds` asks
@@ -744,10 +744,10 @@ module _ (Tally : Value) where
             ∷ ‵ (MutSlice (named 0) (ν₀-close-rounds ∷ []) Entry′.the-row .own (at-x-catalogue δ₀-close-rounds
             (now x-catalogue)) (s-x-catalogue ∷ [])) ∷ ‵ (MutSlice (named 1) (ν₁-close-rounds ∷ []) u8 .own
             (at-x-card δ₁-close-rounds (now x-card)) (s-x-card ∷ [])) ∷ []) ∵
-            nothing ! $ move ! (2 ∷ 0 ∷ []) $ join ! $ move ! (1 ∷ 0 ∷ []) $ join ! $ nothing ! $
+            nothing ! $ bring ! (1 ∷ 1 ∷ 0 ∷ []) $ group ! 3 $ nothing ! $
             owned ! u32 (Is u32) (uint-makes 𝓤 H A W w32) v-number _ is-v-number $ fjoin ! $
-            owned ! usize (Is usize) (uint-makes 𝓤 H A W w64) v-rounds _ is-v-rounds $ fjoin ! $ move ! (3 ∷ 0 ∷ []) $
-            fjoin ! $ move ! (2 ∷ 0 ∷ []) $ fjoin ! $ move ! (1 ∷ 0 ∷ []) $ join ! $ frame ! $ done !
+            owned ! usize (Is usize) (uint-makes 𝓤 H A W w64) v-rounds _ is-v-rounds $ fjoin ! $ bring ! (3 ∷ 0 ∷ []) $
+            fjoin ! $ bring ! (2 ∷ 0 ∷ []) $ fjoin ! $ bring ! (1 ∷ 0 ∷ []) $ join ! $ frame ! $ done !
 
         -- ---- the caller has what `close-map` asks
         abbrev close-map-args : (δ₀-close-map : GName) → RefT (List ℕ) × (ℕ × (ℕ × (ℕ × Unit {0})))
@@ -772,11 +772,11 @@ module _ (Tally : Value) where
         goes-close-map ν₀-close-map δ₀-close-map is-v-last is-v-number =
             qed W (‵ (flft (ν₀-close-map ∷ []) fullShare) ∷ ‵ (MutSlice (named 0) (ν₀-close-map ∷ []) u64 .own
             (at-x-map δ₀-close-map (now x-map)) (s-x-map ∷ [])) ∷ []) ∵
-            nothing ! $ move ! (1 ∷ 0 ∷ []) $ join ! $ nothing ! $
+            nothing ! $ bring ! (1 ∷ 0 ∷ []) $ group ! 2 $ nothing ! $
             owned ! u32 (Is u32) (uint-makes 𝓤 H A W w32) v-number _ is-v-number $ fjoin ! $
             owned ! u32 (Is u32) (uint-makes 𝓤 H A W w32) v-last _ is-v-last $ fjoin ! $
-            owned ! u32 (Is u32) (uint-makes 𝓤 H A W w32) x-n _ is-x-n $ fjoin ! $ move ! (2 ∷ 0 ∷ []) $ fjoin ! $
-            move ! (1 ∷ 0 ∷ []) $ join ! $ frame ! $ done !
+            owned ! u32 (Is u32) (uint-makes 𝓤 H A W w32) x-n _ is-x-n $ fjoin ! $ bring ! (2 ∷ 0 ∷ []) $ fjoin ! $
+            bring ! (1 ∷ 0 ∷ []) $ join ! $ frame ! $ done !
 
         -- ---- the exit
         exits : Is u32 v-number (m-v-number ∷ []) → length z-close-map-x-map ≡ length (now x-map)
@@ -798,13 +798,12 @@ module _ (Tally : Value) where
               (tt, (tt, (z-close-map-x-map, (z-close-rounds-x-catalogue, (z-close-rounds-x-card, (z-test-x-scratch, tt)))))),
             ) (tt, (tt, (tt, (l-x-map, (l-x-catalogue, (l-x-card, (l-x-scratch, tt)))))))) $
             says ! (law x-n x-free x-fits (now x-map) (now x-catalogue) (now x-card) (now x-scratch)) $ nothing ! $
-            move ! (8 ∷ 0 ∷ []) $ join ! $ move ! (6 ∷ 0 ∷ []) $ join ! $ move ! (4 ∷ 0 ∷ []) $ join ! $
-            move ! (2 ∷ 0 ∷ []) $ join ! $ frame ! $ nothing ! $ move ! (4 ∷ 0 ∷ []) $ fjoin ! $ move ! (3 ∷ 0 ∷ []) $
-            fjoin ! $ move ! (2 ∷ 0 ∷ []) $ fjoin ! $ move ! (1 ∷ 0 ∷ []) $ fjoin ! $
+            bring ! (2 ∷ 3 ∷ 4 ∷ 5 ∷ 0 ∷ []) $ group ! 5 $ frame ! $ nothing ! $ bring ! (4 ∷ 0 ∷ []) $ fjoin ! $
+            bring ! (3 ∷ 0 ∷ []) $ fjoin ! $ bring ! (2 ∷ 0 ∷ []) $ fjoin ! $ bring ! (1 ∷ 0 ∷ []) $ fjoin ! $
             owned ! Boolean (Is Boolean) (bool-makes 𝓤 H A W) x-fits _ is-x-fits $ fjoin ! $
             owned ! u32 (Is u32) (uint-makes 𝓤 H A W w32) x-free _ is-x-free $ fjoin ! $
             owned ! u32 (Is u32) (uint-makes 𝓤 H A W w32) x-n _ is-x-n $ fjoin ! $
-            owned ! u32 (Is u32) (uint-makes 𝓤 H A W w32) v-number _ is $ move ! (1 ∷ 0 ∷ []) $ done !
+            owned ! u32 (Is u32) (uint-makes 𝓤 H A W w32) v-number _ is $ bring ! (1 ∷ 0 ∷ []) $ done !
 
         -- ---- the walk
         walk : (𝓣 : Tables 𝓤 H) → Triple 𝓤 (𝓣 .C #count) (count-contract count-out 𝓤 H A)
@@ -833,43 +832,40 @@ module _ (Tally : Value) where
             pass1 ! (init ! 60 refl (tt, (tt, (record { fits = room-x-map .0 }, tt)))) $
             pass1 ! (init ! 58 refl (tt, (tt, (record { fits = room-x-catalogue .0 }, tt)))) $
             pass1 ! (init ! 56 refl (tt, (tt, (record { fits = room-x-card .0 }, tt)))) $
-            pass1 ! (init ! 54 refl (tt, (tt, (record { fits = room-x-scratch .0 }, tt)))) $ pass0 ! $ move ! (70 ∷ []) $
-            split ! $ move ! (1 ∷ []) $ split ! $ move ! (1 ∷ []) $ split ! $ move ! (1 ∷ []) $ split ! $
-            move ! (1 ∷ []) $ drop ! $ move ! (74 ∷ []) $ fsplit ! $ move ! (1 ∷ []) $ fsplit ! $ move ! (1 ∷ []) $
-            fsplit ! $ move ! (1 ∷ []) $ fsplit ! $ move ! (1 ∷ []) $ fsplit ! $ move ! (1 ∷ []) $ fsplit ! $
-            move ! (1 ∷ []) $ fsplit ! $ move ! (1 ∷ []) $ drop ! $ move ! (6 ∷ []) $ drop ! $ move ! (5 ∷ []) $ drop ! $
-            move ! (4 ∷ []) $ drop ! $
+            pass1 ! (init ! 54 refl (tt, (tt, (record { fits = room-x-scratch .0 }, tt)))) $ pass0 ! $
+            bring ! (70 ∷ []) $ parts W (_ ∷ _ ∷ _ ∷ _ ∷ []) _ $ bring ! (74 ∷ []) $
+            fparts W (_ ∷ _ ∷ _ ∷ _ ∷ _ ∷ _ ∷ _ ∷ []) _ $ discard ! (0 ∷ 0 ∷ 0 ∷ []) $
             -- count
             assigns ! (addr ! (from ! (fld ! refl (hop ! (look-in ! 66 (sub ! 0 refl (whole !))) (stop !))))) (from ! (stop !))
             (init ! 48 refl (tt, tt)) $
             assigns ! (agg ! (and-then ! (load ! (from ! (stop !)) (look ! 48 refl)) (and-then !
             (load ! (from ! (fld ! refl (stop !))) (look-in ! 66 (sub ! 1 refl (whole !)))) (no-more !)))) (from ! (stop !))
             (init ! 46 refl (tt, (tt, (record { fits = room-x-catalogue .0 }, tt)))) $
-            lft-new ! tt (λ ν₀-count. move ! (3 ∷ 7 ∷ []) $
+            lft-new ! tt (λ ν₀-count. bring ! (2 ∷ 5 ∷ []) $
             use2 W (later (some (λ (δ : GName). ‵ (ShrSlice (named 0) (ν₀-count ∷ []) Entry′.the-row .own
             (at-x-catalogue δ (now x-catalogue)) (s-x-catalogue ∷ [])) ⊛ ‵ (LentOut Entry′.the-row κ₁ (ν₀-count ∷ []) q₁
             (x-catalogue .name) (x-catalogue .ptr .0) (x-catalogue .ptr .1) (now x-catalogue)))))
             (lends-out Entry′.the-row κ₁ (ν₀-count ∷ []) q₁ (x-catalogue .name) (x-catalogue .ptr .0) (x-catalogue .ptr .1) 𝓤 H
             A W (named 1) (named 0) (now x-catalogue) (length (now x-catalogue)) refl) $
-            await ! tt $ pick ! (λ δ₀-count. split ! $ move ! (2 ∷ 0 ∷ []) $ join ! $
+            await ! tt $ pick ! (λ δ₀-count. split ! $ bring ! (2 ∷ 0 ∷ []) $ group ! 2 $
             use1 W (raw ((count-contract count-out 𝓤 H A) .pre (to-count ν₀-count δ₀-count))) (goes-count ν₀-count δ₀-count) $
             calls-at ! (fmOf 𝓤 H (W .laws) 𝓣) (count-contract count-out 𝓤 H A) known-count (to-count ν₀-count δ₀-count)
             (and-then ! (load ! (from ! (stop !)) (look ! 46 refl)) (no-more !)) (λ w-count.
             use1 W (later (some (λ (r : ℕ). ((‵ (flft (ν₀-count ∷ []) fullShare) ⊛ ‵ ftrue) ⊛ ‵ (usize .own r (w-count ∷ [])))
             ⊛ raw (ensured 𝓤 H A count-ended (count-clauses count-out 𝓤) (ν₀-count ∷ [], tt) (count-args δ₀-count) tt r))))
             (id⊢ 𝓤 _) $
-            await ! tt $ pick ! (λ r-count. split ! $ move ! (1 ∷ []) $
+            await ! tt $ pick ! (λ r-count. split ! $ bring ! (1 ∷ []) $
             use1 W (some (λ (zs-count : Unit {0} × Unit {0}). ‵ (lasts count-ended (ν₀-count ∷ [], tt) (count-args δ₀-count)
             zs-count) ⊛ raw (fact 𝓤 (count-says count-out (now x-catalogue) r-count)))) (id⊢ 𝓤 _) $
-            pick ! (λ zs-count. split ! $ move ! (1 ∷ []) $
-            heard ! (count-says count-out (now x-catalogue) r-count) (λ e-count. fsplit ! $ move ! (1 ∷ []) $ drop ! $
-            drop ! $ split ! $ move ! (1 ∷ []) $
+            pick ! (λ zs-count. split ! $ bring ! (1 ∷ []) $
+            heard ! (count-says count-out (now x-catalogue) r-count) (λ e-count. fparts W (_ ∷ []) _ $
+            discard ! (0 ∷ []) $ split ! $ bring ! (1 ∷ []) $
             rewrite ! 0 (λ (r : ℕ). ‵ (usize .own r (w-count ∷ []))) (e-count) refl $
             peeks ! usize (Is usize) (shows 𝓤 H A usize) v-count (w-count ∷ []) (λ is-w-count.
             land ! (from ! (stop !)) (init ! 61 refl ((uint-lawful 𝓤 H A W w64 .typed) v-count _ is-w-count .0)) $
             rewrite ! 61 (λ (u : Val). ‵ (fat fullShare (tyInt w64) l₈ 0 u)) (ap only ((uint-tells w64) v-count _ is-w-count))
             refl $
-            drop ! $ split ! $ move ! (1 ∷ []) $ drop ! $ lft-end ! tt $
+            discard ! (0 ∷ []) $ parts W (_ ∷ []) _ $ lft-end ! tt $
             use2 W (later (‵ (MutSlice (named 1) κ₁ Entry′.the-row .own (at-x-catalogue (x-catalogue .name) (now x-catalogue))
             (s-x-catalogue ∷ [])) ⊛ ‵ (flft κ₁ q₁))) (comes-home Entry′.the-row κ₁ (ν₀-count ∷ []) q₁ (x-catalogue .name)
             (x-catalogue .ptr .0) (x-catalogue .ptr .1) 𝓤 H A W (named 1) (named 0) (now x-catalogue) (length (now x-catalogue))
@@ -891,24 +887,22 @@ module _ (Tally : Value) where
             assigns ! (agg ! (and-then ! (load ! (from ! (stop !)) (look ! 36 refl)) (and-then !
             (load ! (from ! (fld ! refl (stop !))) (look-in ! 62 (sub ! 1 refl (whole !)))) (no-more !)))) (from ! (stop !))
             (init ! 34 refl (tt, (tt, (record { fits = room-x-scratch .0 }, tt)))) $
-            lft-new ! tt (λ ν₀-begin. move ! (5 ∷ 8 ∷ []) $
+            lft-new ! tt (λ ν₀-begin. bring ! (3 ∷ 5 ∷ []) $
             use2 W (later (some (λ (δ : GName). ‵ (ShrSlice (named 0) (ν₀-begin ∷ []) u64 .own (at-x-map δ (now x-map))
             (s-x-map ∷ [])) ⊛ ‵ (LentOut u64 κ₀ (ν₀-begin ∷ []) q₀ (x-map .name) (x-map .ptr .0) (x-map .ptr .1) (now x-map)))))
             (lends-out u64 κ₀ (ν₀-begin ∷ []) q₀ (x-map .name) (x-map .ptr .0) (x-map .ptr .1) 𝓤 H A W (named 0) (named 0)
             (now x-map) (length (now x-map)) refl) $
-            await ! tt $ pick ! (λ δ₀-begin. split ! $ lft-new ! tt (λ ν₁-begin. move ! (7 ∷ 9 ∷ []) $
+            await ! tt $ pick ! (λ δ₀-begin. split ! $ lft-new ! tt (λ ν₁-begin. bring ! (6 ∷ 7 ∷ []) $
             use2 W (later (some (λ (δ : GName). ‵ (ShrSlice (named 1) (ν₁-begin ∷ []) u8 .own (at-x-card δ (now x-card))
             (s-x-card ∷ [])) ⊛ ‵ (LentOut u8 κ₂ (ν₁-begin ∷ []) q₂ (x-card .name) (x-card .ptr .0) (x-card .ptr .1)
             (now x-card))))) (lends-out u8 κ₂ (ν₁-begin ∷ []) q₂ (x-card .name) (x-card .ptr .0) (x-card .ptr .1) 𝓤 H A W
             (named 2) (named 1) (now x-card) (length (now x-card)) refl) $
-            await ! tt $ pick ! (λ δ₁-begin. split ! $ lft-new ! tt (λ ν₂-begin. move ! (9 ∷ 10 ∷ []) $
+            await ! tt $ pick ! (λ δ₁-begin. split ! $ lft-new ! tt (λ ν₂-begin. bring ! (9 ∷ 9 ∷ []) $
             use2 W (later (some (λ (δ : GName). ‵ (ShrSlice (named 2) (ν₂-begin ∷ []) u64 .own (at-x-scratch δ (now x-scratch))
             (s-x-scratch ∷ [])) ⊛ ‵ (LentOut u64 κ₃ (ν₂-begin ∷ []) q₃ (x-scratch .name) (x-scratch .ptr .0) (x-scratch .ptr .1)
             (now x-scratch))))) (lends-out u64 κ₃ (ν₂-begin ∷ []) q₃ (x-scratch .name) (x-scratch .ptr .0) (x-scratch .ptr .1) 𝓤
             H A W (named 3) (named 2) (now x-scratch) (length (now x-scratch)) refl) $
-            await ! tt $ pick ! (λ δ₂-begin. split ! $ move ! (8 ∷ 5 ∷ 2 ∷ 6 ∷ 3 ∷ 0 ∷ []) $ move ! (4 ∷ 5 ∷ []) $
-            join ! $ move ! (4 ∷ 0 ∷ []) $ join ! $ move ! (3 ∷ 0 ∷ []) $ join ! $ move ! (2 ∷ 0 ∷ []) $ join ! $
-            move ! (1 ∷ 0 ∷ []) $ join ! $
+            await ! tt $ pick ! (λ δ₂-begin. split ! $ bring ! (8 ∷ 5 ∷ 2 ∷ 4 ∷ 2 ∷ 0 ∷ []) $ group ! 6 $
             use1 W (raw ((begin-contract begin-out 𝓤 H A) .pre (to-begin ν₀-begin ν₁-begin ν₂-begin δ₀-begin δ₁-begin
             δ₂-begin))) (goes-begin ν₀-begin ν₁-begin ν₂-begin δ₀-begin δ₁-begin δ₂-begin (spelled-v-count w-count is-w-count))
             $
@@ -922,34 +916,31 @@ module _ (Tally : Value) where
             ⊛ ‵ (flft (ν₁-begin ∷ []) fullShare) ⊛ ‵ (flft (ν₂-begin ∷ []) fullShare) ⊛ ‵ ftrue)
             ⊛ ‵ ((rowOf Tally) .own r (w-begin ∷ []))) ⊛ raw (ensured 𝓤 H A begin-ended (begin-clauses begin-out 𝓤)
             (ν₀-begin ∷ [], (ν₁-begin ∷ [], (ν₂-begin ∷ [], tt))) (begin-args δ₀-begin δ₁-begin δ₂-begin) tt r)))) (id⊢ 𝓤 _) $
-            await ! tt $ pick ! (λ r-begin. split ! $ move ! (1 ∷ []) $
+            await ! tt $ pick ! (λ r-begin. split ! $ bring ! (1 ∷ []) $
             use1 W (some (λ (zs-begin : Unit {0} × (Unit {0} × (Unit {0} × (Unit {0} ×
             (Unit {0} × (Unit {0} × (Unit {0} × Unit {0}))))))). ‵ (lasts begin-ended
             (ν₀-begin ∷ [], (ν₁-begin ∷ [], (ν₂-begin ∷ [], tt))) (begin-args δ₀-begin δ₁-begin δ₂-begin) zs-begin)
             ⊛ raw (fact 𝓤 (begin-says begin-out x-n x-free x-fits (now x-map) v-count (now x-card) (now x-scratch) r-begin))))
             (id⊢ 𝓤 _) $
-            pick ! (λ zs-begin. split ! $ move ! (1 ∷ []) $
+            pick ! (λ zs-begin. split ! $ bring ! (1 ∷ []) $
             heard ! (begin-says begin-out x-n x-free x-fits (now x-map) v-count (now x-card) (now x-scratch) r-begin)
             (λ e-begin.
-            fsplit ! $ move ! (1 ∷ []) $ fsplit ! $ move ! (1 ∷ []) $ fsplit ! $ move ! (1 ∷ []) $ fsplit ! $
-            move ! (1 ∷ []) $ fsplit ! $ move ! (1 ∷ []) $ fsplit ! $ move ! (1 ∷ []) $ fsplit ! $ move ! (1 ∷ []) $
-            drop ! $ move ! (6 ∷ []) $ drop ! $ move ! (5 ∷ []) $ drop ! $ move ! (4 ∷ []) $ drop ! $ move ! (3 ∷ []) $
-            drop ! $ move ! (2 ∷ []) $ drop ! $ move ! (1 ∷ []) $ drop ! $ drop ! $ split ! $ move ! (1 ∷ []) $
+            fparts W (_ ∷ _ ∷ _ ∷ _ ∷ _ ∷ _ ∷ _ ∷ []) _ $ discard ! (0 ∷ 0 ∷ 0 ∷ 0 ∷ 0 ∷ 0 ∷ 0 ∷ []) $ split ! $
+            bring ! (1 ∷ []) $
             rewrite ! 0 (λ (r : (denotes Tally)). ‵ ((rowOf Tally) .own r (w-begin ∷ []))) (e-begin) refl $
             peeks ! (rowOf Tally) (Is (rowOf Tally)) (shows 𝓤 H A (rowOf Tally)) v-start (w-begin ∷ []) (λ is-w-begin.
             land ! (from ! (stop !)) (init ! 57 refl ((Tally .typed 𝓤 H A W) v-start _ is-w-begin .0)) $
             rewrite ! 57 (λ (u : Val). ‵ (fat fullShare (mirOf Tally) l₉ 0 u)) (ap only ((Tally .tells) v-start _ is-w-begin))
             refl $
-            drop ! $ split ! $ move ! (1 ∷ []) $ split ! $ move ! (1 ∷ []) $ split ! $ move ! (1 ∷ []) $ drop ! $
-            move ! (2 ∷ []) $ lft-end ! tt $ move ! (0 ∷ 5 ∷ []) $
+            discard ! (0 ∷ []) $ parts W (_ ∷ _ ∷ _ ∷ []) _ $ lft-end ! tt $ bring ! (0 ∷ 4 ∷ []) $
             use2 W (later (‵ (MutSlice (named 0) κ₀ u64 .own (at-x-map (x-map .name) (now x-map)) (s-x-map ∷ []))
             ⊛ ‵ (flft κ₀ q₀))) (comes-home u64 κ₀ (ν₀-begin ∷ []) q₀ (x-map .name) (x-map .ptr .0) (x-map .ptr .1) 𝓤 H A W
             (named 0) (named 0) (now x-map) (length (now x-map)) refl room-x-map) $
-            await ! tt $ split ! $ move ! (3 ∷ []) $ lft-end ! tt $ move ! (0 ∷ 5 ∷ []) $
+            await ! tt $ split ! $ bring ! (2 ∷ []) $ lft-end ! tt $ bring ! (0 ∷ 4 ∷ []) $
             use2 W (later (‵ (MutSlice (named 2) κ₂ u8 .own (at-x-card (x-card .name) (now x-card)) (s-x-card ∷ []))
             ⊛ ‵ (flft κ₂ q₂))) (comes-home u8 κ₂ (ν₁-begin ∷ []) q₂ (x-card .name) (x-card .ptr .0) (x-card .ptr .1) 𝓤 H A W
             (named 2) (named 1) (now x-card) (length (now x-card)) refl room-x-card) $
-            await ! tt $ split ! $ move ! (4 ∷ []) $ lft-end ! tt $ move ! (0 ∷ 5 ∷ []) $
+            await ! tt $ split ! $ bring ! (4 ∷ []) $ lft-end ! tt $ bring ! (0 ∷ 4 ∷ []) $
             use2 W (later (‵ (MutSlice (named 3) κ₃ u64 .own (at-x-scratch (x-scratch .name) (now x-scratch))
             (s-x-scratch ∷ [])) ⊛ ‵ (flft κ₃ q₃))) (comes-home u64 κ₃ (ν₂-begin ∷ []) q₃ (x-scratch .name) (x-scratch .ptr .0)
             (x-scratch .ptr .1) 𝓤 H A W (named 3) (named 2) (now x-scratch) (length (now x-scratch)) refl room-x-scratch) $
@@ -970,25 +961,23 @@ module _ (Tally : Value) where
             assigns ! (agg ! (and-then ! (load ! (from ! (stop !)) (look ! 24 refl)) (and-then !
             (load ! (from ! (fld ! refl (stop !))) (look-in ! 62 (sub ! 1 refl (whole !)))) (no-more !)))) (from ! (stop !))
             (init ! 22 refl (tt, (tt, (record { fits = room-x-scratch .0 }, tt)))) $
-            lft-new ! tt (λ ν₀-test. move ! (5 ∷ 6 ∷ []) $
+            lft-new ! tt (λ ν₀-test. bring ! (5 ∷ 5 ∷ []) $
             use2 W (later (some (λ (δ : GName). ‵ (ShrSlice (named 0) (ν₀-test ∷ []) u64 .own (at-x-map δ (now x-map))
             (s-x-map ∷ [])) ⊛ ‵ (LentOut u64 κ₀ (ν₀-test ∷ []) q₀ (x-map .name) (x-map .ptr .0) (x-map .ptr .1) (now x-map)))))
             (lends-out u64 κ₀ (ν₀-test ∷ []) q₀ (x-map .name) (x-map .ptr .0) (x-map .ptr .1) 𝓤 H A W (named 0) (named 0)
             (now x-map) (length (now x-map)) refl) $
-            await ! tt $ pick ! (λ δ₀-test. split ! $ lft-new ! tt (λ ν₁-test. move ! (8 ∷ 9 ∷ []) $
+            await ! tt $ pick ! (λ δ₀-test. split ! $ lft-new ! tt (λ ν₁-test. bring ! (8 ∷ 8 ∷ []) $
             use2 W (later (some (λ (δ : GName). ‵ (ShrSlice (named 1) (ν₁-test ∷ []) Entry′.the-row .own
             (at-x-catalogue δ (now x-catalogue)) (s-x-catalogue ∷ [])) ⊛ ‵ (LentOut Entry′.the-row κ₁ (ν₁-test ∷ []) q₁
             (x-catalogue .name) (x-catalogue .ptr .0) (x-catalogue .ptr .1) (now x-catalogue)))))
             (lends-out Entry′.the-row κ₁ (ν₁-test ∷ []) q₁ (x-catalogue .name) (x-catalogue .ptr .0) (x-catalogue .ptr .1) 𝓤 H A
             W (named 1) (named 1) (now x-catalogue) (length (now x-catalogue)) refl) $
-            await ! tt $ pick ! (λ δ₁-test. split ! $ lft-new ! tt (λ ν₂-test. move ! (7 ∷ 8 ∷ []) $
+            await ! tt $ pick ! (λ δ₁-test. split ! $ lft-new ! tt (λ ν₂-test. bring ! (7 ∷ 7 ∷ []) $
             use2 W (later (some (λ (δ : GName). ‵ (MutSlice (named 2) (ν₂-test ∷ []) u64 .own (at-x-scratch δ (now x-scratch))
             (s-x-scratch ∷ [])) ⊛ ‵ (LentAgain u64 κ₃ (ν₂-test ∷ []) q₃ (x-scratch .name) (x-scratch .ptr .0)
             (x-scratch .ptr .1) δ (now x-scratch))))) (lends-again u64 κ₃ (ν₂-test ∷ []) q₃ (x-scratch .name)
             (x-scratch .ptr .0) (x-scratch .ptr .1) 𝓤 H A W (named 3) (named 2) (now x-scratch) (length (now x-scratch)) refl) $
-            await ! tt $ pick ! (λ δ₂-test. split ! $ move ! (8 ∷ 5 ∷ 2 ∷ 6 ∷ 3 ∷ 0 ∷ []) $ move ! (4 ∷ 5 ∷ []) $
-            join ! $ move ! (4 ∷ 0 ∷ []) $ join ! $ move ! (3 ∷ 0 ∷ []) $ join ! $ move ! (2 ∷ 0 ∷ []) $ join ! $
-            move ! (1 ∷ 0 ∷ []) $ join ! $
+            await ! tt $ pick ! (λ δ₂-test. split ! $ bring ! (8 ∷ 5 ∷ 2 ∷ 4 ∷ 2 ∷ 0 ∷ []) $ group ! 6 $
             use1 W (raw ((test-contract test-out test-x-scratch 𝓤 H A) .pre (to-test ν₀-test ν₁-test ν₂-test δ₀-test δ₁-test
             δ₂-test))) (goes-test ν₀-test ν₁-test ν₂-test δ₀-test δ₁-test δ₂-test (spelled-v-start w-begin is-w-begin)) $
             calls-at ! (fmOf 𝓤 H (W .laws) 𝓣) (test-contract test-out test-x-scratch 𝓤 H A) known-test
@@ -1000,34 +989,31 @@ module _ (Tally : Value) where
             ⊛ ‵ (flft (ν₂-test ∷ []) fullShare) ⊛ ‵ ftrue) ⊛ ‵ (Boolean .own r (w-test ∷ [])))
             ⊛ raw (ensured 𝓤 H A test-ended (test-clauses test-out test-x-scratch 𝓤)
             (ν₀-test ∷ [], (ν₁-test ∷ [], (ν₂-test ∷ [], tt))) (test-args δ₀-test δ₁-test δ₂-test) tt r)))) (id⊢ 𝓤 _) $
-            await ! tt $ pick ! (λ r-test. split ! $ move ! (1 ∷ []) $
+            await ! tt $ pick ! (λ r-test. split ! $ bring ! (1 ∷ []) $
             use1 W (some (λ (zs-test : Unit {0} × (Unit {0} × (List ℕ × (Unit {0} × (Unit {0} × Unit {0}))))). ‵
             (lasts test-ended (ν₀-test ∷ [], (ν₁-test ∷ [], (ν₂-test ∷ [], tt))) (test-args δ₀-test δ₁-test δ₂-test) zs-test)
             ⊛ raw (fact 𝓤 (test-says test-out test-x-scratch (now x-map) (now x-catalogue) (now x-scratch) x-n v-start r-test
             (zs-test .1 .1 .0))))) (id⊢ 𝓤 _) $
-            pick ! (λ zs-test. split ! $ move ! (1 ∷ []) $
+            pick ! (λ zs-test. split ! $ bring ! (1 ∷ []) $
             heard ! (test-says test-out test-x-scratch (now x-map) (now x-catalogue) (now x-scratch) x-n v-start r-test
             (zs-test .1 .1 .0)) (λ e-test.
-            fsplit ! $ move ! (1 ∷ []) $ fsplit ! $ move ! (1 ∷ []) $ fsplit ! $ move ! (1 ∷ []) $ fsplit ! $
-            move ! (1 ∷ []) $ fsplit ! $ move ! (1 ∷ []) $ drop ! $ move ! (4 ∷ []) $ drop ! $ move ! (3 ∷ []) $ drop ! $
-            move ! (2 ∷ []) $ fsplit ! $ move ! (1 ∷ []) $ feqL ! (λ h-test-x-scratch. move ! (2 ∷ []) $ drop ! $
-            move ! (1 ∷ []) $ drop ! $ move ! (1 ∷ []) $ split ! $ move ! (1 ∷ []) $
+            fparts W (_ ∷ _ ∷ _ ∷ _ ∷ _ ∷ []) _ $ discard ! (0 ∷ 0 ∷ 1 ∷ 1 ∷ []) $ fsplit ! $ bring ! (1 ∷ []) $
+            feqL ! (λ h-test-x-scratch. bring ! (1 ∷ []) $ split ! $ bring ! (1 ∷ []) $
             rewrite ! 0 (λ (r : Bool). ‵ (Boolean .own r (w-test ∷ []))) (e-test .0) refl $
             rewrite ! 2 (λ (l : List ℕ). ‵ (finally u64 δ₂-test l)) (e-test .1) refl $
             peeks ! Boolean (Is Boolean) (shows 𝓤 H A Boolean) v-sound (w-test ∷ []) (λ is-w-test.
             land ! (from ! (stop !)) (init ! 56 refl ((bool-lawful 𝓤 H A W .typed) v-sound _ is-w-test .0)) $
             rewrite ! 56 (λ (u : Val). ‵ (fat fullShare tyBool l₁₀ 0 u)) (ap only (bool-tells v-sound _ is-w-test)) refl $
-            drop ! $ split ! $ move ! (1 ∷ []) $ split ! $ move ! (1 ∷ []) $ split ! $ move ! (1 ∷ []) $ drop ! $
-            move ! (2 ∷ []) $ lft-end ! tt $ move ! (0 ∷ 6 ∷ []) $
+            discard ! (0 ∷ []) $ parts W (_ ∷ _ ∷ _ ∷ []) _ $ lft-end ! tt $ bring ! (0 ∷ 5 ∷ []) $
             use2 W (later (‵ (MutSlice (named 0) κ₀ u64 .own (at-x-map (x-map .name) (now x-map)) (s-x-map ∷ []))
             ⊛ ‵ (flft κ₀ q₀))) (comes-home u64 κ₀ (ν₀-test ∷ []) q₀ (x-map .name) (x-map .ptr .0) (x-map .ptr .1) 𝓤 H A W
             (named 0) (named 0) (now x-map) (length (now x-map)) refl room-x-map) $
-            await ! tt $ split ! $ move ! (3 ∷ []) $ lft-end ! tt $ move ! (0 ∷ 6 ∷ []) $
+            await ! tt $ split ! $ bring ! (2 ∷ []) $ lft-end ! tt $ bring ! (0 ∷ 5 ∷ []) $
             use2 W (later (‵ (MutSlice (named 1) κ₁ Entry′.the-row .own (at-x-catalogue (x-catalogue .name) (now x-catalogue))
             (s-x-catalogue ∷ [])) ⊛ ‵ (flft κ₁ q₁))) (comes-home Entry′.the-row κ₁ (ν₁-test ∷ []) q₁ (x-catalogue .name)
             (x-catalogue .ptr .0) (x-catalogue .ptr .1) 𝓤 H A W (named 1) (named 1) (now x-catalogue) (length (now x-catalogue))
             refl room-x-catalogue) $
-            await ! tt $ split ! $ move ! (4 ∷ []) $ lft-end ! tt $ move ! (0 ∷ 6 ∷ 5 ∷ []) $
+            await ! tt $ split ! $ bring ! (4 ∷ []) $ lft-end ! tt $ bring ! (0 ∷ 5 ∷ 4 ∷ []) $
             use3 W (later (‵ (MutSlice (named 3) κ₃ u64 .own (at-x-scratch (x-scratch .name) z-test-x-scratch)
             (s-x-scratch ∷ [])) ⊛ ‵ (flft κ₃ q₃))) (comes-back u64 κ₃ (ν₂-test ∷ []) q₃ (x-scratch .name) (x-scratch .ptr .0)
             (x-scratch .ptr .1) 𝓤 H A W (named 3) (named 2) (now x-scratch) (length (now x-scratch)) refl room-x-scratch δ₂-test
@@ -1041,18 +1027,18 @@ module _ (Tally : Value) where
             (no-more !))) (λ w-verdict.
             use1 W (later (some (λ (r : ℕ). ((‵ ftrue) ⊛ ‵ (u32 .own r (w-verdict ∷ [])))
             ⊛ raw (ensured 𝓤 H A verdict-ended (verdict-clauses verdict-out 𝓤) tt (verdict-args) tt r)))) (id⊢ 𝓤 _) $
-            await ! tt $ pick ! (λ r-verdict. split ! $ move ! (1 ∷ []) $
+            await ! tt $ pick ! (λ r-verdict. split ! $ bring ! (1 ∷ []) $
             use1 W (some (λ (zs-verdict : Unit {0} × (Unit {0} × Unit {0})). ‵ (lasts verdict-ended tt (verdict-args)
             zs-verdict) ⊛ raw (fact 𝓤 (verdict-says verdict-out v-start v-sound r-verdict)))) (id⊢ 𝓤 _) $
-            pick ! (λ zs-verdict. split ! $ move ! (1 ∷ []) $
-            heard ! (verdict-says verdict-out v-start v-sound r-verdict) (λ e-verdict. fsplit ! $ move ! (1 ∷ []) $
-            fsplit ! $ move ! (1 ∷ []) $ drop ! $ move ! (1 ∷ []) $ drop ! $ drop ! $ split ! $ move ! (1 ∷ []) $
+            pick ! (λ zs-verdict. split ! $ bring ! (1 ∷ []) $
+            heard ! (verdict-says verdict-out v-start v-sound r-verdict) (λ e-verdict. fparts W (_ ∷ _ ∷ []) _ $
+            discard ! (0 ∷ 0 ∷ []) $ split ! $ bring ! (1 ∷ []) $
             rewrite ! 0 (λ (r : ℕ). ‵ (u32 .own r (w-verdict ∷ []))) (e-verdict) refl $
             peeks ! u32 (Is u32) (shows 𝓤 H A u32) v-number (w-verdict ∷ []) (λ is-w-verdict.
             land ! (from ! (stop !)) (init ! 56 refl ((uint-lawful 𝓤 H A W w32 .typed) v-number _ is-w-verdict .0)) $
             rewrite ! 56 (λ (u : Val). ‵ (fat fullShare (tyInt w32) l₁₁ 0 u)) (ap only
             ((uint-tells w32) v-number _ is-w-verdict)) refl $
-            drop ! $ drop ! $
+            discard ! (0 ∷ []) $ parts W ([]) _ $
             -- rounds-for
             use0 W (raw ((rounds-for-contract rounds-for-out 𝓤 H A) .pre (to-rounds-for)))
             (goes-rounds-for (spelled-v-count w-count is-w-count) (spelled-v-number w-verdict is-w-verdict)) $
@@ -1062,18 +1048,18 @@ module _ (Tally : Value) where
             use1 W (later (some (λ (r : ℕ). ((‵ ftrue) ⊛ ‵ (usize .own r (w-rounds-for ∷ [])))
             ⊛ raw (ensured 𝓤 H A rounds-for-ended (rounds-for-clauses rounds-for-out 𝓤) tt (rounds-for-args) tt r)))) (id⊢ 𝓤 _)
             $
-            await ! tt $ pick ! (λ r-rounds-for. split ! $ move ! (1 ∷ []) $
+            await ! tt $ pick ! (λ r-rounds-for. split ! $ bring ! (1 ∷ []) $
             use1 W (some (λ (zs-rounds-for : Unit {0} × (Unit {0} × Unit {0})). ‵ (lasts rounds-for-ended tt (rounds-for-args)
             zs-rounds-for) ⊛ raw (fact 𝓤 (rounds-for-says rounds-for-out v-count v-number r-rounds-for)))) (id⊢ 𝓤 _) $
-            pick ! (λ zs-rounds-for. split ! $ move ! (1 ∷ []) $
-            heard ! (rounds-for-says rounds-for-out v-count v-number r-rounds-for) (λ e-rounds-for. fsplit ! $
-            move ! (1 ∷ []) $ fsplit ! $ move ! (1 ∷ []) $ drop ! $ move ! (1 ∷ []) $ drop ! $ drop ! $ split ! $
-            move ! (1 ∷ []) $ rewrite ! 0 (λ (r : ℕ). ‵ (usize .own r (w-rounds-for ∷ []))) (e-rounds-for) refl $
+            pick ! (λ zs-rounds-for. split ! $ bring ! (1 ∷ []) $
+            heard ! (rounds-for-says rounds-for-out v-count v-number r-rounds-for) (λ e-rounds-for.
+            fparts W (_ ∷ _ ∷ []) _ $ discard ! (0 ∷ 0 ∷ []) $ split ! $ bring ! (1 ∷ []) $
+            rewrite ! 0 (λ (r : ℕ). ‵ (usize .own r (w-rounds-for ∷ []))) (e-rounds-for) refl $
             peeks ! usize (Is usize) (shows 𝓤 H A usize) v-rounds (w-rounds-for ∷ []) (λ is-w-rounds-for.
             land ! (from ! (stop !)) (init ! 54 refl ((uint-lawful 𝓤 H A W w64 .typed) v-rounds _ is-w-rounds-for .0)) $
             rewrite ! 54 (λ (u : Val). ‵ (fat fullShare (tyInt w64) l₁₂ 0 u)) (ap only
             ((uint-tells w64) v-rounds _ is-w-rounds-for)) refl $
-            drop ! $ drop ! $
+            discard ! (0 ∷ []) $ parts W ([]) _ $
             -- close-rounds
             assigns ! (addr ! (from ! (fld ! refl (hop ! (look-in ! 66 (sub ! 0 refl (whole !))) (stop !))))) (from ! (stop !))
             (init ! 20 refl (tt, tt)) $
@@ -1085,19 +1071,18 @@ module _ (Tally : Value) where
             assigns ! (agg ! (and-then ! (load ! (from ! (stop !)) (look ! 16 refl)) (and-then !
             (load ! (from ! (fld ! refl (stop !))) (look-in ! 64 (sub ! 1 refl (whole !)))) (no-more !)))) (from ! (stop !))
             (init ! 14 refl (tt, (tt, (record { fits = room-x-card .0 }, tt)))) $
-            lft-new ! tt (λ ν₀-close-rounds. move ! (3 ∷ 4 ∷ []) $
+            lft-new ! tt (λ ν₀-close-rounds. bring ! (3 ∷ 3 ∷ []) $
             use2 W (later (some (λ (δ : GName). ‵ (MutSlice (named 0) (ν₀-close-rounds ∷ []) Entry′.the-row .own
             (at-x-catalogue δ (now x-catalogue)) (s-x-catalogue ∷ [])) ⊛ ‵ (LentAgain Entry′.the-row κ₁ (ν₀-close-rounds ∷ [])
             q₁ (x-catalogue .name) (x-catalogue .ptr .0) (x-catalogue .ptr .1) δ (now x-catalogue)))))
             (lends-again Entry′.the-row κ₁ (ν₀-close-rounds ∷ []) q₁ (x-catalogue .name) (x-catalogue .ptr .0)
             (x-catalogue .ptr .1) 𝓤 H A W (named 1) (named 0) (now x-catalogue) (length (now x-catalogue)) refl) $
-            await ! tt $ pick ! (λ δ₀-close-rounds. split ! $ lft-new ! tt (λ ν₁-close-rounds. move ! (8 ∷ 9 ∷ []) $
+            await ! tt $ pick ! (λ δ₀-close-rounds. split ! $ lft-new ! tt (λ ν₁-close-rounds. bring ! (8 ∷ 8 ∷ []) $
             use2 W (later (some (λ (δ : GName). ‵ (MutSlice (named 1) (ν₁-close-rounds ∷ []) u8 .own (at-x-card δ (now x-card))
             (s-x-card ∷ [])) ⊛ ‵ (LentAgain u8 κ₂ (ν₁-close-rounds ∷ []) q₂ (x-card .name) (x-card .ptr .0) (x-card .ptr .1) δ
             (now x-card))))) (lends-again u8 κ₂ (ν₁-close-rounds ∷ []) q₂ (x-card .name) (x-card .ptr .0) (x-card .ptr .1) 𝓤 H A
             W (named 2) (named 1) (now x-card) (length (now x-card)) refl) $
-            await ! tt $ pick ! (λ δ₁-close-rounds. split ! $ move ! (5 ∷ 2 ∷ 3 ∷ 0 ∷ []) $ move ! (2 ∷ 3 ∷ []) $
-            join ! $ move ! (2 ∷ 0 ∷ []) $ join ! $ move ! (1 ∷ 0 ∷ []) $ join ! $
+            await ! tt $ pick ! (λ δ₁-close-rounds. split ! $ bring ! (5 ∷ 2 ∷ 2 ∷ 0 ∷ []) $ group ! 4 $
             use1 W (raw ((close-rounds-contract close-rounds-out close-rounds-x-catalogue close-rounds-x-card 𝓤 H A) .pre
             (to-close-rounds ν₀-close-rounds ν₁-close-rounds δ₀-close-rounds δ₁-close-rounds)))
             (goes-close-rounds ν₀-close-rounds ν₁-close-rounds δ₀-close-rounds δ₁-close-rounds
@@ -1113,20 +1098,18 @@ module _ (Tally : Value) where
             close-rounds-x-card 𝓤)
             (ν₀-close-rounds ∷ [], (ν₁-close-rounds ∷ [], tt)) (close-rounds-args δ₀-close-rounds δ₁-close-rounds) tt r))))
             (id⊢ 𝓤 _) $
-            await ! tt $ pick ! (λ r-close-rounds. split ! $ move ! (1 ∷ []) $
+            await ! tt $ pick ! (λ r-close-rounds. split ! $ bring ! (1 ∷ []) $
             use1 W (some (λ (zs-close-rounds : List Entry × (List ℕ × (Unit {0} × (Unit {0} × Unit {0})))). ‵
             (lasts close-rounds-ended (ν₀-close-rounds ∷ [], (ν₁-close-rounds ∷ [], tt))
             (close-rounds-args δ₀-close-rounds δ₁-close-rounds) zs-close-rounds) ⊛ raw
             (fact 𝓤 (close-rounds-says close-rounds-out close-rounds-x-catalogue close-rounds-x-card (now x-catalogue)
             (now x-card) v-rounds v-number r-close-rounds (zs-close-rounds .0) (zs-close-rounds .1 .0))))) (id⊢ 𝓤 _) $
-            pick ! (λ zs-close-rounds. split ! $ move ! (1 ∷ []) $
+            pick ! (λ zs-close-rounds. split ! $ bring ! (1 ∷ []) $
             heard ! (close-rounds-says close-rounds-out close-rounds-x-catalogue close-rounds-x-card (now x-catalogue)
             (now x-card) v-rounds v-number r-close-rounds (zs-close-rounds .0) (zs-close-rounds .1 .0)) (λ e-close-rounds.
-            fsplit ! $ move ! (1 ∷ []) $ fsplit ! $ move ! (1 ∷ []) $ fsplit ! $ move ! (1 ∷ []) $ fsplit ! $
-            move ! (1 ∷ []) $ drop ! $ move ! (3 ∷ []) $ fsplit ! $ move ! (1 ∷ []) $
-            feqL ! (λ h-close-rounds-x-catalogue. move ! (3 ∷ []) $ fsplit ! $ move ! (1 ∷ []) $
-            feqL ! (λ h-close-rounds-x-card. move ! (3 ∷ []) $ drop ! $ move ! (2 ∷ []) $ drop ! $ move ! (2 ∷ []) $
-            split ! $ move ! (1 ∷ []) $
+            fparts W (_ ∷ _ ∷ _ ∷ _ ∷ []) _ $ discard ! (2 ∷ 2 ∷ []) $ fsplit ! $ bring ! (1 ∷ []) $
+            feqL ! (λ h-close-rounds-x-catalogue. bring ! (1 ∷ []) $ fsplit ! $ bring ! (1 ∷ []) $
+            feqL ! (λ h-close-rounds-x-card. bring ! (2 ∷ []) $ split ! $ bring ! (1 ∷ []) $
             rewrite ! 0 (λ (r : ℕ). ‵ (u32 .own r (w-close-rounds ∷ []))) (e-close-rounds .0) refl $
             rewrite ! 3 (λ (l : List Entry). ‵ (finally Entry′.the-row δ₀-close-rounds l)) (e-close-rounds .1) refl $
             rewrite ! 2 (λ (l : List ℕ). ‵ (finally u8 δ₁-close-rounds l)) (e-close-rounds .2) refl $
@@ -1134,14 +1117,13 @@ module _ (Tally : Value) where
             land ! (from ! (stop !)) (init ! 52 refl ((uint-lawful 𝓤 H A W w32 .typed) v-last _ is-w-close-rounds .0)) $
             rewrite ! 52 (λ (u : Val). ‵ (fat fullShare (tyInt w32) l₁₃ 0 u)) (ap only
             ((uint-tells w32) v-last _ is-w-close-rounds)) refl $
-            drop ! $ split ! $ move ! (1 ∷ []) $ split ! $ move ! (1 ∷ []) $ drop ! $ move ! (1 ∷ []) $ lft-end ! tt $
-            move ! (0 ∷ 5 ∷ 3 ∷ []) $
+            discard ! (0 ∷ []) $ parts W (_ ∷ _ ∷ []) _ $ lft-end ! tt $ bring ! (0 ∷ 4 ∷ 2 ∷ []) $
             use3 W (later (‵ (MutSlice (named 1) κ₁ Entry′.the-row .own (at-x-catalogue (x-catalogue .name)
             z-close-rounds-x-catalogue) (s-x-catalogue ∷ [])) ⊛ ‵ (flft κ₁ q₁))) (comes-back Entry′.the-row κ₁
             (ν₀-close-rounds ∷ []) q₁ (x-catalogue .name) (x-catalogue .ptr .0) (x-catalogue .ptr .1) 𝓤 H A W (named 1)
             (named 0) (now x-catalogue) (length (now x-catalogue)) refl room-x-catalogue δ₀-close-rounds
             z-close-rounds-x-catalogue (ap {B = ℕ} length (sym (e-close-rounds .1)) ∙ h-close-rounds-x-catalogue)) $
-            await ! tt $ split ! $ move ! (2 ∷ []) $ lft-end ! tt $ move ! (0 ∷ 4 ∷ 3 ∷ []) $
+            await ! tt $ split ! $ bring ! (2 ∷ []) $ lft-end ! tt $ bring ! (0 ∷ 3 ∷ 2 ∷ []) $
             use3 W (later (‵ (MutSlice (named 2) κ₂ u8 .own (at-x-card (x-card .name) z-close-rounds-x-card) (s-x-card ∷ []))
             ⊛ ‵ (flft κ₂ q₂))) (comes-back u8 κ₂ (ν₁-close-rounds ∷ []) q₂ (x-card .name) (x-card .ptr .0) (x-card .ptr .1) 𝓤 H
             A W (named 2) (named 1) (now x-card) (length (now x-card)) refl room-x-card δ₁-close-rounds z-close-rounds-x-card
@@ -1153,12 +1135,12 @@ module _ (Tally : Value) where
             assigns ! (agg ! (and-then ! (load ! (from ! (stop !)) (look ! 10 refl)) (and-then !
             (load ! (from ! (fld ! refl (stop !))) (look-in ! 68 (sub ! 1 refl (whole !)))) (no-more !)))) (from ! (stop !))
             (init ! 8 refl (tt, (tt, (record { fits = room-x-map .0 }, tt)))) $
-            lft-new ! tt (λ ν₀-close-map. move ! (7 ∷ 8 ∷ []) $
+            lft-new ! tt (λ ν₀-close-map. bring ! (7 ∷ 7 ∷ []) $
             use2 W (later (some (λ (δ : GName). ‵ (MutSlice (named 0) (ν₀-close-map ∷ []) u64 .own (at-x-map δ (now x-map))
             (s-x-map ∷ [])) ⊛ ‵ (LentAgain u64 κ₀ (ν₀-close-map ∷ []) q₀ (x-map .name) (x-map .ptr .0) (x-map .ptr .1) δ
             (now x-map))))) (lends-again u64 κ₀ (ν₀-close-map ∷ []) q₀ (x-map .name) (x-map .ptr .0) (x-map .ptr .1) 𝓤 H A W
             (named 0) (named 0) (now x-map) (length (now x-map)) refl) $
-            await ! tt $ pick ! (λ δ₀-close-map. split ! $ move ! (2 ∷ 0 ∷ []) $ join ! $
+            await ! tt $ pick ! (λ δ₀-close-map. split ! $ bring ! (2 ∷ 0 ∷ []) $ group ! 2 $
             use1 W (raw ((close-map-contract close-map-x-map 𝓤 H A) .pre (to-close-map ν₀-close-map δ₀-close-map)))
             (goes-close-map ν₀-close-map δ₀-close-map (spelled-v-last w-close-rounds is-w-close-rounds)
             (spelled-v-number w-verdict is-w-verdict)) $
@@ -1169,23 +1151,22 @@ module _ (Tally : Value) where
             use1 W (later (some (λ (r : (Unit {0})). ((‵ (flft (ν₀-close-map ∷ []) fullShare) ⊛ ‵ ftrue)
             ⊛ ‵ (Nothing .own r (w-close-map ∷ []))) ⊛ raw (ensured 𝓤 H A close-map-ended (close-map-clauses close-map-x-map 𝓤)
             (ν₀-close-map ∷ [], tt) (close-map-args δ₀-close-map) tt r)))) (id⊢ 𝓤 _) $
-            await ! tt $ pick ! (λ r-close-map. split ! $ move ! (1 ∷ []) $
+            await ! tt $ pick ! (λ r-close-map. split ! $ bring ! (1 ∷ []) $
             use1 W (some (λ (zs-close-map : List ℕ × (Unit {0} × (Unit {0} × (Unit {0} × Unit {0})))). ‵
             (lasts close-map-ended (ν₀-close-map ∷ [], tt) (close-map-args δ₀-close-map) zs-close-map)
             ⊛ raw (fact 𝓤 (close-map-says close-map-x-map (now x-map) x-n v-last v-number r-close-map (zs-close-map .0)))))
             (id⊢ 𝓤 _) $
-            pick ! (λ zs-close-map. split ! $ move ! (1 ∷ []) $
+            pick ! (λ zs-close-map. split ! $ bring ! (1 ∷ []) $
             heard ! (close-map-says close-map-x-map (now x-map) x-n v-last v-number r-close-map (zs-close-map .0))
             (λ e-close-map.
-            fsplit ! $ move ! (1 ∷ []) $ fsplit ! $ move ! (1 ∷ []) $ fsplit ! $ move ! (1 ∷ []) $ fsplit ! $
-            move ! (1 ∷ []) $ drop ! $ move ! (3 ∷ []) $ fsplit ! $ move ! (1 ∷ []) $ feqL ! (λ h-close-map-x-map.
-            move ! (3 ∷ []) $ drop ! $ move ! (2 ∷ []) $ drop ! $ move ! (1 ∷ []) $ drop ! $ move ! (1 ∷ []) $ split ! $
-            move ! (1 ∷ []) $ rewrite ! 2 (λ (l : List ℕ). ‵ (finally u64 δ₀-close-map l)) (e-close-map) refl $
+            fparts W (_ ∷ _ ∷ _ ∷ _ ∷ []) _ $ discard ! (1 ∷ 1 ∷ 1 ∷ []) $ fsplit ! $ bring ! (1 ∷ []) $
+            feqL ! (λ h-close-map-x-map. bring ! (1 ∷ []) $ split ! $ bring ! (1 ∷ []) $
+            rewrite ! 2 (λ (l : List ℕ). ‵ (finally u64 δ₀-close-map l)) (e-close-map) refl $
             peeks ! Nothing (Is Nothing) (shows 𝓤 H A Nothing) v-close-map (w-close-map ∷ []) (λ is-w-close-map.
             land ! (from ! (stop !)) (init ! 14 refl ((nothing-lawful 𝓤 H A W .typed) v-close-map _ is-w-close-map .0)) $
             rewrite ! 14 (λ (u : Val). ‵ (fat fullShare tyUnit l₃₂ 0 u)) (ap only (nothing-tells v-close-map _ is-w-close-map))
             refl $
-            drop ! $ split ! $ move ! (1 ∷ []) $ drop ! $ lft-end ! tt $ move ! (0 ∷ 2 ∷ 1 ∷ []) $
+            discard ! (0 ∷ []) $ parts W (_ ∷ []) _ $ lft-end ! tt $ bring ! (0 ∷ 1 ∷ 0 ∷ []) $
             use3 W (later (‵ (MutSlice (named 0) κ₀ u64 .own (at-x-map (x-map .name) z-close-map-x-map) (s-x-map ∷ []))
             ⊛ ‵ (flft κ₀ q₀))) (comes-back u64 κ₀ (ν₀-close-map ∷ []) q₀ (x-map .name) (x-map .ptr .0) (x-map .ptr .1) 𝓤 H A W
             (named 0) (named 0) (now x-map) (length (now x-map)) refl room-x-map δ₀-close-map z-close-map-x-map
@@ -1202,7 +1183,7 @@ module _ (Tally : Value) where
             leave ! 30 refl refl $ leave ! 28 refl refl $ leave ! 26 refl refl $ leave ! 24 refl refl $
             leave ! 22 refl refl $ leave ! 20 refl refl $ leave ! 18 refl refl $ leave ! 16 refl refl $
             leave ! 14 refl refl $ leave ! 12 refl refl $ leave ! 10 refl refl $ leave ! 8 refl refl $ free0 ! $
-            move ! (0 ∷ 1 ∷ 4 ∷ 5 ∷ 2 ∷ 3 ∷ 6 ∷ 7 ∷ []) $
+            bring ! (0 ∷ 0 ∷ 2 ∷ 2 ∷ 0 ∷ 0 ∷ 0 ∷ 0 ∷ []) $
             by ! (exits (spelled-v-number w-verdict is-w-verdict) (ap {B = ℕ} length (sym (e-close-map)) ∙ h-close-map-x-map)
             (ap {B = ℕ} length (sym (e-close-rounds .1)) ∙ h-close-rounds-x-catalogue)
             (ap {B = ℕ} length (sym (e-close-rounds .2)) ∙ h-close-rounds-x-card) (ap {B = ℕ} length (sym (e-test .1))

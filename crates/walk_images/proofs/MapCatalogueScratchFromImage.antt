@@ -22,7 +22,7 @@ use base.Fml.{Lft, Share, GName, ftrue, flft, fat}
 use prog.Wp.{Heap, WpFn, Tables}
 use ghost.Atoms.{Atoms}
 use contract.Monad.{fact}
-use types.Kit.{Given, ‵, raw, some, later, _⊛_, ⋆, _$_, _∵_, !, qed, by, move, drop, use0, use1, use2, use3, split, join, pick}
+use types.Kit.{Given, ‵, raw, some, later, _⊛_, ⋆, _$_, _∵_, !, qed, by, use0, use1, use2, use3, group, split, join, pick}
 use types.Kit.{rewrite, fsplit, fjoin, feqL, suffices, frame, await, done}
 use types.Run.{look, init, stop, hop, fld, from, load, addr, and-then, no-more, of-opd, assigns, land, returns, enter, alloc1}
 use types.Run.{alloc0, params1, pass1, pass0, free0}
@@ -51,7 +51,7 @@ use Rattle.catalogue.proofs.Values.{Value, denotes, rowOf, mirOf, valsOf}
 use Rattle.catalogue.specs.declared.Entry.{Entry}
 use Rattle.catalogue.proofs.Entry as Entry′
 use Rattle.catalogue.proofs.Entry.Laws as Entry″
-use Rattle.catalogue.proofs.Steps.{leave}
+use Rattle.catalogue.proofs.Steps.{bring, discard, parts, fparts, leave}
 use Rattle.catalogue.proofs.Lending.{LentAgain, lends-again, comes-back, LentOut, lends-out, comes-home}
 
 module _ (Cursor Loaded : Value) where
@@ -380,8 +380,8 @@ module _ (Cursor Loaded : Value) where
         goes-count ν₀-count δ₀-count =
             qed W (‵ (flft (ν₀-count ∷ []) fullShare) ∷ ‵ (ShrSlice (named 0) (ν₀-count ∷ []) Entry′.the-row .own
             (at-x-catalogue δ₀-count (now x-catalogue)) (s-x-catalogue ∷ [])) ∷ []) ∵
-            nothing ! $ move ! (1 ∷ 0 ∷ []) $ join ! $ nothing ! $ move ! (2 ∷ 0 ∷ []) $ fjoin ! $ move ! (1 ∷ 0 ∷ []) $
-            join ! $ frame ! $ done !
+            nothing ! $ bring ! (1 ∷ 0 ∷ []) $ group ! 2 $ nothing ! $ bring ! (2 ∷ 0 ∷ []) $ fjoin ! $
+            bring ! (1 ∷ 0 ∷ []) $ join ! $ frame ! $ done !
 
         -- ---- the caller has what `load-core` asks
         abbrev load-core-args : (δ₀-load-core δ₁-load-core : GName) → RefT (List ℕ) × (RefT (List ℕ)
@@ -413,10 +413,9 @@ module _ (Cursor Loaded : Value) where
             ∷ ‵ (ShrSlice (named 0) κ₀ u8 .own x-image (s-x-image ∷ [])) ∷ ‵ (MutSlice (named 1) (ν₀-load-core ∷ []) u64 .own
             (at-x-map δ₀-load-core (now x-map)) (s-x-map ∷ [])) ∷ ‵ (MutSlice (named 2) (ν₁-load-core ∷ []) u64 .own
             (at-x-scratch δ₁-load-core (now x-scratch)) (s-x-scratch ∷ [])) ∷ []) ∵
-            nothing ! $ move ! (3 ∷ 0 ∷ []) $ join ! $ move ! (2 ∷ 0 ∷ []) $ join ! $ move ! (1 ∷ 0 ∷ []) $ join ! $
-            nothing ! $ move ! (4 ∷ 0 ∷ []) $ fjoin ! $
-            owned ! usize (Is usize) (uint-makes 𝓤 H A W w64) v-count _ is-v-count $ fjoin ! $ move ! (3 ∷ 0 ∷ []) $
-            fjoin ! $ move ! (2 ∷ 0 ∷ []) $ fjoin ! $ move ! (1 ∷ 0 ∷ []) $ join ! $ frame ! $ done !
+            nothing ! $ bring ! (1 ∷ 1 ∷ 1 ∷ 0 ∷ []) $ group ! 4 $ nothing ! $ bring ! (4 ∷ 0 ∷ []) $ fjoin ! $
+            owned ! usize (Is usize) (uint-makes 𝓤 H A W w64) v-count _ is-v-count $ fjoin ! $ bring ! (3 ∷ 0 ∷ []) $
+            fjoin ! $ bring ! (2 ∷ 0 ∷ []) $ fjoin ! $ bring ! (1 ∷ 0 ∷ []) $ join ! $ frame ! $ done !
 
         -- ---- the caller has what `first-cursor` asks
         abbrev first-cursor-args : (denotes Loaded) × Unit {0}
@@ -431,7 +430,7 @@ module _ (Cursor Loaded : Value) where
             qed W ([]) ∵
             nothing ! $ nothing ! $
             owned ! (rowOf Loaded) (Is (rowOf Loaded)) (Loaded .makes 𝓤 H A) v-loaded _ is-v-loaded $ fjoin ! $
-            move ! (1 ∷ 0 ∷ []) $ join ! $ frame ! $ done !
+            bring ! (1 ∷ 0 ∷ []) $ join ! $ frame ! $ done !
 
         -- ---- the caller has what `read-entries` asks
         abbrev read-entries-args : (δ₀-read-entries : GName) → RefT (List Entry) × (RefT (List ℕ)
@@ -461,9 +460,9 @@ module _ (Cursor Loaded : Value) where
             qed W (‵ (flft (ν₀-read-entries ∷ []) fullShare) ∷ ‵ (flft κ₀ q₀) ∷ ‵ (MutSlice (named 0) (ν₀-read-entries ∷ [])
             Entry′.the-row .own (at-x-catalogue δ₀-read-entries (now x-catalogue)) (s-x-catalogue ∷ []))
             ∷ ‵ (ShrSlice (named 1) κ₀ u8 .own x-image (s-x-image ∷ [])) ∷ []) ∵
-            nothing ! $ move ! (2 ∷ 0 ∷ []) $ join ! $ move ! (1 ∷ 0 ∷ []) $ join ! $ nothing ! $
+            nothing ! $ bring ! (1 ∷ 1 ∷ 0 ∷ []) $ group ! 3 $ nothing ! $
             owned ! (rowOf Cursor) (Is (rowOf Cursor)) (Cursor .makes 𝓤 H A) v-first _ is-v-first $ fjoin ! $
-            move ! (3 ∷ 0 ∷ []) $ fjoin ! $ move ! (2 ∷ 0 ∷ []) $ fjoin ! $ move ! (1 ∷ 0 ∷ []) $ join ! $ frame ! $
+            bring ! (3 ∷ 0 ∷ []) $ fjoin ! $ bring ! (2 ∷ 0 ∷ []) $ fjoin ! $ bring ! (1 ∷ 0 ∷ []) $ join ! $ frame ! $
             done !
 
         -- ---- the exit
@@ -483,11 +482,11 @@ module _ (Cursor Loaded : Value) where
             suffices ! _ (ends-at 𝓤 H A ended stayed (clauses 𝓤) W bound m-v-loaded v-loaded
             (tt, (z-load-core-x-map, (z-read-entries-x-catalogue, (z-load-core-x-scratch, tt))))
             (tt, (l-x-map, (l-x-catalogue, (l-x-scratch, tt))))) $
-            says ! (law (now x-image) (now x-map) (now x-catalogue) (now x-scratch)) $ nothing ! $ move ! (8 ∷ 0 ∷ []) $
-            join ! $ move ! (6 ∷ 0 ∷ []) $ join ! $ move ! (4 ∷ 0 ∷ []) $ join ! $ move ! (2 ∷ 0 ∷ []) $ join ! $
-            frame ! $ nothing ! $ move ! (4 ∷ 0 ∷ []) $ fjoin ! $ move ! (3 ∷ 0 ∷ []) $ fjoin ! $ move ! (2 ∷ 0 ∷ []) $
-            fjoin ! $ move ! (1 ∷ 0 ∷ []) $ fjoin ! $
-            owned ! (rowOf Loaded) (Is (rowOf Loaded)) (Loaded .makes 𝓤 H A) v-loaded _ is $ move ! (1 ∷ 0 ∷ []) $ done !
+            says ! (law (now x-image) (now x-map) (now x-catalogue) (now x-scratch)) $ nothing ! $
+            bring ! (2 ∷ 3 ∷ 4 ∷ 5 ∷ 0 ∷ []) $ group ! 5 $ frame ! $ nothing ! $ bring ! (4 ∷ 0 ∷ []) $ fjoin ! $
+            bring ! (3 ∷ 0 ∷ []) $ fjoin ! $ bring ! (2 ∷ 0 ∷ []) $ fjoin ! $ bring ! (1 ∷ 0 ∷ []) $ fjoin ! $
+            owned ! (rowOf Loaded) (Is (rowOf Loaded)) (Loaded .makes 𝓤 H A) v-loaded _ is $ bring ! (1 ∷ 0 ∷ []) $
+            done !
 
         -- ---- the walk
         walk : (𝓣 : Tables 𝓤 H) → Triple 𝓤 (𝓣 .C #count) (count-contract count-out 𝓤 H A)
@@ -509,41 +508,39 @@ module _ (Cursor Loaded : Value) where
             pass1 ! (init ! 30 refl (tt, (tt, (record { fits = room-x-image .0 }, tt)))) $
             pass1 ! (init ! 28 refl (tt, (tt, (record { fits = room-x-map .0 }, tt)))) $
             pass1 ! (init ! 26 refl (tt, (tt, (record { fits = room-x-catalogue .0 }, tt)))) $
-            pass1 ! (init ! 24 refl (tt, (tt, (record { fits = room-x-scratch .0 }, tt)))) $ pass0 ! $ move ! (34 ∷ []) $
-            split ! $ move ! (1 ∷ []) $ split ! $ move ! (1 ∷ []) $ split ! $ move ! (1 ∷ []) $ split ! $
-            move ! (1 ∷ []) $ drop ! $ move ! (38 ∷ []) $ fsplit ! $ move ! (1 ∷ []) $ fsplit ! $ move ! (1 ∷ []) $
-            fsplit ! $ move ! (1 ∷ []) $ fsplit ! $ move ! (1 ∷ []) $ drop ! $
+            pass1 ! (init ! 24 refl (tt, (tt, (record { fits = room-x-scratch .0 }, tt)))) $ pass0 ! $
+            bring ! (34 ∷ []) $ parts W (_ ∷ _ ∷ _ ∷ _ ∷ []) _ $ bring ! (38 ∷ []) $ fparts W (_ ∷ _ ∷ _ ∷ _ ∷ []) _ $
             -- count
             assigns ! (addr ! (from ! (fld ! refl (hop ! (look-in ! 34 (sub ! 0 refl (whole !))) (stop !))))) (from ! (stop !))
             (init ! 22 refl (tt, tt)) $
             assigns ! (agg ! (and-then ! (load ! (from ! (stop !)) (look ! 22 refl)) (and-then !
             (load ! (from ! (fld ! refl (stop !))) (look-in ! 34 (sub ! 1 refl (whole !)))) (no-more !)))) (from ! (stop !))
             (init ! 20 refl (tt, (tt, (record { fits = room-x-catalogue .0 }, tt)))) $
-            lft-new ! tt (λ ν₀-count. move ! (2 ∷ 6 ∷ []) $
+            lft-new ! tt (λ ν₀-count. bring ! (3 ∷ 6 ∷ []) $
             use2 W (later (some (λ (δ : GName). ‵ (ShrSlice (named 0) (ν₀-count ∷ []) Entry′.the-row .own
             (at-x-catalogue δ (now x-catalogue)) (s-x-catalogue ∷ [])) ⊛ ‵ (LentOut Entry′.the-row κ₂ (ν₀-count ∷ []) q₂
             (x-catalogue .name) (x-catalogue .ptr .0) (x-catalogue .ptr .1) (now x-catalogue)))))
             (lends-out Entry′.the-row κ₂ (ν₀-count ∷ []) q₂ (x-catalogue .name) (x-catalogue .ptr .0) (x-catalogue .ptr .1) 𝓤 H
             A W (named 2) (named 0) (now x-catalogue) (length (now x-catalogue)) refl) $
-            await ! tt $ pick ! (λ δ₀-count. split ! $ move ! (2 ∷ 0 ∷ []) $ join ! $
+            await ! tt $ pick ! (λ δ₀-count. split ! $ bring ! (2 ∷ 0 ∷ []) $ group ! 2 $
             use1 W (raw ((count-contract count-out 𝓤 H A) .pre (to-count ν₀-count δ₀-count))) (goes-count ν₀-count δ₀-count) $
             calls-at ! (fmOf 𝓤 H (W .laws) 𝓣) (count-contract count-out 𝓤 H A) known-count (to-count ν₀-count δ₀-count)
             (and-then ! (load ! (from ! (stop !)) (look ! 20 refl)) (no-more !)) (λ w-count.
             use1 W (later (some (λ (r : ℕ). ((‵ (flft (ν₀-count ∷ []) fullShare) ⊛ ‵ ftrue) ⊛ ‵ (usize .own r (w-count ∷ [])))
             ⊛ raw (ensured 𝓤 H A count-ended (count-clauses count-out 𝓤) (ν₀-count ∷ [], tt) (count-args δ₀-count) tt r))))
             (id⊢ 𝓤 _) $
-            await ! tt $ pick ! (λ r-count. split ! $ move ! (1 ∷ []) $
+            await ! tt $ pick ! (λ r-count. split ! $ bring ! (1 ∷ []) $
             use1 W (some (λ (zs-count : Unit {0} × Unit {0}). ‵ (lasts count-ended (ν₀-count ∷ [], tt) (count-args δ₀-count)
             zs-count) ⊛ raw (fact 𝓤 (count-says count-out (now x-catalogue) r-count)))) (id⊢ 𝓤 _) $
-            pick ! (λ zs-count. split ! $ move ! (1 ∷ []) $
-            heard ! (count-says count-out (now x-catalogue) r-count) (λ e-count. fsplit ! $ move ! (1 ∷ []) $ drop ! $
-            drop ! $ split ! $ move ! (1 ∷ []) $
+            pick ! (λ zs-count. split ! $ bring ! (1 ∷ []) $
+            heard ! (count-says count-out (now x-catalogue) r-count) (λ e-count. fparts W (_ ∷ []) _ $
+            discard ! (0 ∷ []) $ split ! $ bring ! (1 ∷ []) $
             rewrite ! 0 (λ (r : ℕ). ‵ (usize .own r (w-count ∷ []))) (e-count) refl $
             peeks ! usize (Is usize) (shows 𝓤 H A usize) v-count (w-count ∷ []) (λ is-w-count.
             land ! (from ! (stop !)) (init ! 31 refl ((uint-lawful 𝓤 H A W w64 .typed) v-count _ is-w-count .0)) $
             rewrite ! 31 (λ (u : Val). ‵ (fat fullShare (tyInt w64) l₅ 0 u)) (ap only ((uint-tells w64) v-count _ is-w-count))
             refl $
-            drop ! $ split ! $ move ! (1 ∷ []) $ drop ! $ lft-end ! tt $
+            discard ! (0 ∷ []) $ parts W (_ ∷ []) _ $ lft-end ! tt $
             use2 W (later (‵ (MutSlice (named 2) κ₂ Entry′.the-row .own (at-x-catalogue (x-catalogue .name) (now x-catalogue))
             (s-x-catalogue ∷ [])) ⊛ ‵ (flft κ₂ q₂))) (comes-home Entry′.the-row κ₂ (ν₀-count ∷ []) q₂ (x-catalogue .name)
             (x-catalogue .ptr .0) (x-catalogue .ptr .1) 𝓤 H A W (named 2) (named 0) (now x-catalogue) (length (now x-catalogue))
@@ -560,23 +557,21 @@ module _ (Cursor Loaded : Value) where
             assigns ! (agg ! (and-then ! (load ! (from ! (stop !)) (look ! 14 refl)) (and-then !
             (load ! (from ! (fld ! refl (stop !))) (look-in ! 32 (sub ! 1 refl (whole !)))) (no-more !)))) (from ! (stop !))
             (init ! 12 refl (tt, (tt, (record { fits = room-x-scratch .0 }, tt)))) $
-            move ! (4 ∷ []) $
+            bring ! (2 ∷ []) $
             use1 W (‵ (ShrSlice (named 0) κ₀ u8 .own x-image (s-x-image ∷ [])) ⊛ ‵ (ShrSlice (named 0) κ₀ u8 .own x-image
             (s-x-image ∷ []))) (shr-slice-copy 𝓤 H A W (named 0) κ₀ u8 .twice x-image (s-x-image ∷ [])) $
-            split ! $ lft-new ! tt (λ ν₀-load-core. move ! (6 ∷ 8 ∷ []) $
+            split ! $ lft-new ! tt (λ ν₀-load-core. bring ! (5 ∷ 7 ∷ []) $
             use2 W (later (some (λ (δ : GName). ‵ (MutSlice (named 1) (ν₀-load-core ∷ []) u64 .own (at-x-map δ (now x-map))
             (s-x-map ∷ [])) ⊛ ‵ (LentAgain u64 κ₁ (ν₀-load-core ∷ []) q₁ (x-map .name) (x-map .ptr .0) (x-map .ptr .1) δ
             (now x-map))))) (lends-again u64 κ₁ (ν₀-load-core ∷ []) q₁ (x-map .name) (x-map .ptr .0) (x-map .ptr .1) 𝓤 H A W
             (named 1) (named 1) (now x-map) (length (now x-map)) refl) $
-            await ! tt $ pick ! (λ δ₀-load-core. split ! $ lft-new ! tt (λ ν₁-load-core. move ! (8 ∷ 9 ∷ []) $
+            await ! tt $ pick ! (λ δ₀-load-core. split ! $ lft-new ! tt (λ ν₁-load-core. bring ! (8 ∷ 9 ∷ []) $
             use2 W (later (some (λ (δ : GName). ‵ (MutSlice (named 2) (ν₁-load-core ∷ []) u64 .own
             (at-x-scratch δ (now x-scratch)) (s-x-scratch ∷ [])) ⊛ ‵ (LentAgain u64 κ₃ (ν₁-load-core ∷ []) q₃ (x-scratch .name)
             (x-scratch .ptr .0) (x-scratch .ptr .1) δ (now x-scratch))))) (lends-again u64 κ₃ (ν₁-load-core ∷ []) q₃
             (x-scratch .name) (x-scratch .ptr .0) (x-scratch .ptr .1) 𝓤 H A W (named 3) (named 2) (now x-scratch)
             (length (now x-scratch)) refl) $
-            await ! tt $ pick ! (λ δ₁-load-core. split ! $ move ! (10 ∷ 5 ∷ 2 ∷ 6 ∷ 3 ∷ 0 ∷ []) $ move ! (4 ∷ 5 ∷ []) $
-            join ! $ move ! (4 ∷ 0 ∷ []) $ join ! $ move ! (3 ∷ 0 ∷ []) $ join ! $ move ! (2 ∷ 0 ∷ []) $ join ! $
-            move ! (1 ∷ 0 ∷ []) $ join ! $
+            await ! tt $ pick ! (λ δ₁-load-core. split ! $ bring ! (10 ∷ 5 ∷ 2 ∷ 4 ∷ 2 ∷ 0 ∷ []) $ group ! 6 $
             use1 W (raw ((load-core-contract load-core-out load-core-x-map load-core-x-scratch 𝓤 H A) .pre
             (to-load-core ν₀-load-core ν₁-load-core δ₀-load-core δ₁-load-core))) (goes-load-core ν₀-load-core ν₁-load-core
             δ₀-load-core δ₁-load-core (spelled-v-count w-count is-w-count)) $
@@ -589,18 +584,17 @@ module _ (Cursor Loaded : Value) where
             ⊛ ‵ (flft (ν₁-load-core ∷ []) fullShare) ⊛ ‵ ftrue) ⊛ ‵ ((rowOf Loaded) .own r (w-load-core ∷ [])))
             ⊛ raw (ensured 𝓤 H A load-core-ended (load-core-clauses load-core-out load-core-x-map load-core-x-scratch 𝓤)
             (κ₀, (ν₀-load-core ∷ [], (ν₁-load-core ∷ [], tt))) (load-core-args δ₀-load-core δ₁-load-core) tt r)))) (id⊢ 𝓤 _) $
-            await ! tt $ pick ! (λ r-load-core. split ! $ move ! (1 ∷ []) $
+            await ! tt $ pick ! (λ r-load-core. split ! $ bring ! (1 ∷ []) $
             use1 W (some (λ (zs-load-core : Unit {0} × (List ℕ × (Unit {0} × (List ℕ × Unit {0})))). ‵
             (lasts load-core-ended (κ₀, (ν₀-load-core ∷ [], (ν₁-load-core ∷ [], tt))) (load-core-args δ₀-load-core δ₁-load-core)
             zs-load-core) ⊛ raw (fact 𝓤 (load-core-says load-core-out load-core-x-map load-core-x-scratch (now x-image)
             (now x-map) v-count (now x-scratch) r-load-core (zs-load-core .1 .0) (zs-load-core .1 .1 .1 .0))))) (id⊢ 𝓤 _) $
-            pick ! (λ zs-load-core. split ! $ move ! (1 ∷ []) $
+            pick ! (λ zs-load-core. split ! $ bring ! (1 ∷ []) $
             heard ! (load-core-says load-core-out load-core-x-map load-core-x-scratch (now x-image) (now x-map) v-count
             (now x-scratch) r-load-core (zs-load-core .1 .0) (zs-load-core .1 .1 .1 .0)) (λ e-load-core.
-            fsplit ! $ move ! (1 ∷ []) $ fsplit ! $ move ! (1 ∷ []) $ fsplit ! $ move ! (1 ∷ []) $ fsplit ! $
-            move ! (1 ∷ []) $ drop ! $ move ! (3 ∷ []) $ drop ! $ move ! (2 ∷ []) $ fsplit ! $ move ! (1 ∷ []) $
-            feqL ! (λ h-load-core-x-map. move ! (2 ∷ []) $ drop ! $ move ! (1 ∷ []) $ fsplit ! $ move ! (1 ∷ []) $
-            feqL ! (λ h-load-core-x-scratch. move ! (2 ∷ []) $ split ! $ move ! (1 ∷ []) $
+            fparts W (_ ∷ _ ∷ _ ∷ _ ∷ []) _ $ discard ! (0 ∷ 1 ∷ []) $ fsplit ! $ bring ! (1 ∷ []) $
+            feqL ! (λ h-load-core-x-map. bring ! (1 ∷ []) $ fsplit ! $ bring ! (1 ∷ []) $
+            feqL ! (λ h-load-core-x-scratch. bring ! (2 ∷ []) $ split ! $ bring ! (1 ∷ []) $
             rewrite ! 0 (λ (r : (denotes Loaded)). ‵ ((rowOf Loaded) .own r (w-load-core ∷ []))) (e-load-core .0) refl $
             rewrite ! 3 (λ (l : List ℕ). ‵ (finally u64 δ₀-load-core l)) (e-load-core .1) refl $
             rewrite ! 2 (λ (l : List ℕ). ‵ (finally u64 δ₁-load-core l)) (e-load-core .2) refl $
@@ -609,13 +603,13 @@ module _ (Cursor Loaded : Value) where
             land ! (from ! (stop !)) (init ! 29 refl ((Loaded .typed 𝓤 H A W) v-loaded _ is-w-load-core .0)) $
             rewrite ! 29 (λ (u : Val). ‵ (fat fullShare (mirOf Loaded) l₆ 0 u)) (ap only
             ((Loaded .tells) v-loaded _ is-w-load-core)) refl $
-            drop ! $ split ! $ move ! (1 ∷ []) $ split ! $ move ! (1 ∷ []) $ split ! $ move ! (1 ∷ []) $ drop ! $
-            move ! (1 ∷ []) $ lft-end ! tt $ move ! (0 ∷ 6 ∷ 4 ∷ []) $
+            discard ! (0 ∷ []) $ parts W (_ ∷ _ ∷ _ ∷ []) _ $ bring ! (1 ∷ []) $ lft-end ! tt $
+            bring ! (0 ∷ 5 ∷ 3 ∷ []) $
             use3 W (later (‵ (MutSlice (named 1) κ₁ u64 .own (at-x-map (x-map .name) z-load-core-x-map) (s-x-map ∷ []))
             ⊛ ‵ (flft κ₁ q₁))) (comes-back u64 κ₁ (ν₀-load-core ∷ []) q₁ (x-map .name) (x-map .ptr .0) (x-map .ptr .1) 𝓤 H A W
             (named 1) (named 1) (now x-map) (length (now x-map)) refl room-x-map δ₀-load-core z-load-core-x-map
             (ap {B = ℕ} length (sym (e-load-core .1)) ∙ h-load-core-x-map)) $
-            await ! tt $ split ! $ move ! (2 ∷ []) $ lft-end ! tt $ move ! (0 ∷ 5 ∷ 4 ∷ []) $
+            await ! tt $ split ! $ bring ! (3 ∷ []) $ lft-end ! tt $ bring ! (0 ∷ 4 ∷ 3 ∷ []) $
             use3 W (later (‵ (MutSlice (named 3) κ₃ u64 .own (at-x-scratch (x-scratch .name) z-load-core-x-scratch)
             (s-x-scratch ∷ [])) ⊛ ‵ (flft κ₃ q₃))) (comes-back u64 κ₃ (ν₁-load-core ∷ []) q₃ (x-scratch .name)
             (x-scratch .ptr .0) (x-scratch .ptr .1) 𝓤 H A W (named 3) (named 2) (now x-scratch) (length (now x-scratch)) refl
@@ -630,36 +624,35 @@ module _ (Cursor Loaded : Value) where
             use1 W (later (some (λ (r : (denotes Cursor)). ((‵ ftrue) ⊛ ‵ ((rowOf Cursor) .own r (w-first-cursor ∷ [])))
             ⊛ raw (ensured 𝓤 H A first-cursor-ended (first-cursor-clauses first-cursor-out 𝓤) tt (first-cursor-args) tt r))))
             (id⊢ 𝓤 _) $
-            await ! tt $ pick ! (λ r-first-cursor. split ! $ move ! (1 ∷ []) $
+            await ! tt $ pick ! (λ r-first-cursor. split ! $ bring ! (1 ∷ []) $
             use1 W (some (λ (zs-first-cursor : Unit {0} × Unit {0}). ‵ (lasts first-cursor-ended tt (first-cursor-args)
             zs-first-cursor) ⊛ raw (fact 𝓤 (first-cursor-says first-cursor-out v-loaded r-first-cursor)))) (id⊢ 𝓤 _) $
-            pick ! (λ zs-first-cursor. split ! $ move ! (1 ∷ []) $
-            heard ! (first-cursor-says first-cursor-out v-loaded r-first-cursor) (λ e-first-cursor. fsplit ! $
-            move ! (1 ∷ []) $ drop ! $ drop ! $ split ! $ move ! (1 ∷ []) $
+            pick ! (λ zs-first-cursor. split ! $ bring ! (1 ∷ []) $
+            heard ! (first-cursor-says first-cursor-out v-loaded r-first-cursor) (λ e-first-cursor. fparts W (_ ∷ []) _ $
+            discard ! (0 ∷ []) $ split ! $ bring ! (1 ∷ []) $
             rewrite ! 0 (λ (r : (denotes Cursor)). ‵ ((rowOf Cursor) .own r (w-first-cursor ∷ []))) (e-first-cursor) refl $
             peeks ! (rowOf Cursor) (Is (rowOf Cursor)) (shows 𝓤 H A (rowOf Cursor)) v-first (w-first-cursor ∷ [])
             (λ is-w-first-cursor.
             land ! (from ! (stop !)) (init ! 28 refl ((Cursor .typed 𝓤 H A W) v-first _ is-w-first-cursor .0)) $
             rewrite ! 28 (λ (u : Val). ‵ (fat fullShare (mirOf Cursor) l₇ 0 u)) (ap only
             ((Cursor .tells) v-first _ is-w-first-cursor)) refl $
-            drop ! $ drop ! $
+            discard ! (0 ∷ []) $ parts W ([]) _ $
             -- read-entries
             assigns ! (addr ! (from ! (fld ! refl (hop ! (look-in ! 34 (sub ! 0 refl (whole !))) (stop !))))) (from ! (stop !))
             (init ! 10 refl (tt, tt)) $
             assigns ! (agg ! (and-then ! (load ! (from ! (stop !)) (look ! 10 refl)) (and-then !
             (load ! (from ! (fld ! refl (stop !))) (look-in ! 34 (sub ! 1 refl (whole !)))) (no-more !)))) (from ! (stop !))
             (init ! 8 refl (tt, (tt, (record { fits = room-x-catalogue .0 }, tt)))) $
-            lft-new ! tt (λ ν₀-read-entries. move ! (7 ∷ 8 ∷ []) $
+            lft-new ! tt (λ ν₀-read-entries. bring ! (7 ∷ 7 ∷ []) $
             use2 W (later (some (λ (δ : GName). ‵ (MutSlice (named 0) (ν₀-read-entries ∷ []) Entry′.the-row .own
             (at-x-catalogue δ (now x-catalogue)) (s-x-catalogue ∷ [])) ⊛ ‵ (LentAgain Entry′.the-row κ₂ (ν₀-read-entries ∷ [])
             q₂ (x-catalogue .name) (x-catalogue .ptr .0) (x-catalogue .ptr .1) δ (now x-catalogue)))))
             (lends-again Entry′.the-row κ₂ (ν₀-read-entries ∷ []) q₂ (x-catalogue .name) (x-catalogue .ptr .0)
             (x-catalogue .ptr .1) 𝓤 H A W (named 2) (named 0) (now x-catalogue) (length (now x-catalogue)) refl) $
-            await ! tt $ pick ! (λ δ₀-read-entries. split ! $ move ! (8 ∷ []) $
+            await ! tt $ pick ! (λ δ₀-read-entries. split ! $ bring ! (8 ∷ []) $
             use1 W (‵ (ShrSlice (named 0) κ₀ u8 .own x-image (s-x-image ∷ [])) ⊛ ‵ (ShrSlice (named 0) κ₀ u8 .own x-image
             (s-x-image ∷ []))) (shr-slice-copy 𝓤 H A W (named 0) κ₀ u8 .twice x-image (s-x-image ∷ [])) $
-            split ! $ move ! (4 ∷ 9 ∷ 2 ∷ 0 ∷ []) $ move ! (2 ∷ 3 ∷ []) $ join ! $ move ! (2 ∷ 0 ∷ []) $ join ! $
-            move ! (1 ∷ 0 ∷ []) $ join ! $
+            split ! $ bring ! (4 ∷ 8 ∷ 2 ∷ 0 ∷ []) $ group ! 4 $
             use1 W (raw ((read-entries-contract read-entries-out read-entries-x-catalogue 𝓤 H A) .pre
             (to-read-entries ν₀-read-entries δ₀-read-entries))) (goes-read-entries ν₀-read-entries δ₀-read-entries
             (spelled-v-first w-first-cursor is-w-first-cursor)) $
@@ -671,17 +664,16 @@ module _ (Cursor Loaded : Value) where
             ⊛ ‵ ftrue) ⊛ ‵ ((rowOf Cursor) .own r (w-read-entries ∷ []))) ⊛ raw (ensured 𝓤 H A read-entries-ended
             (read-entries-clauses read-entries-out read-entries-x-catalogue 𝓤) (ν₀-read-entries ∷ [], (κ₀, tt))
             (read-entries-args δ₀-read-entries) tt r)))) (id⊢ 𝓤 _) $
-            await ! tt $ pick ! (λ r-read-entries. split ! $ move ! (1 ∷ []) $
+            await ! tt $ pick ! (λ r-read-entries. split ! $ bring ! (1 ∷ []) $
             use1 W (some (λ (zs-read-entries : List Entry × (Unit {0} × (Unit {0} × Unit {0}))). ‵
             (lasts read-entries-ended (ν₀-read-entries ∷ [], (κ₀, tt)) (read-entries-args δ₀-read-entries) zs-read-entries)
             ⊛ raw (fact 𝓤 (read-entries-says read-entries-out read-entries-x-catalogue (now x-catalogue) (now x-image) v-first
             r-read-entries (zs-read-entries .0))))) (id⊢ 𝓤 _) $
-            pick ! (λ zs-read-entries. split ! $ move ! (1 ∷ []) $
+            pick ! (λ zs-read-entries. split ! $ bring ! (1 ∷ []) $
             heard ! (read-entries-says read-entries-out read-entries-x-catalogue (now x-catalogue) (now x-image) v-first
             r-read-entries (zs-read-entries .0)) (λ e-read-entries.
-            fsplit ! $ move ! (1 ∷ []) $ fsplit ! $ move ! (1 ∷ []) $ fsplit ! $ move ! (1 ∷ []) $ drop ! $
-            move ! (2 ∷ []) $ fsplit ! $ move ! (1 ∷ []) $ feqL ! (λ h-read-entries-x-catalogue. move ! (2 ∷ []) $
-            drop ! $ move ! (1 ∷ []) $ drop ! $ move ! (1 ∷ []) $ split ! $ move ! (1 ∷ []) $
+            fparts W (_ ∷ _ ∷ _ ∷ []) _ $ discard ! (1 ∷ 1 ∷ []) $ fsplit ! $ bring ! (1 ∷ []) $
+            feqL ! (λ h-read-entries-x-catalogue. bring ! (1 ∷ []) $ split ! $ bring ! (1 ∷ []) $
             rewrite ! 0 (λ (r : (denotes Cursor)). ‵ ((rowOf Cursor) .own r (w-read-entries ∷ []))) (e-read-entries .0) refl $
             rewrite ! 2 (λ (l : List Entry). ‵ (finally Entry′.the-row δ₀-read-entries l)) (e-read-entries .1) refl $
             peeks ! (rowOf Cursor) (Is (rowOf Cursor)) (shows 𝓤 H A (rowOf Cursor)) v-last (w-read-entries ∷ [])
@@ -689,8 +681,7 @@ module _ (Cursor Loaded : Value) where
             land ! (from ! (stop !)) (init ! 25 refl ((Cursor .typed 𝓤 H A W) v-last _ is-w-read-entries .0)) $
             rewrite ! 25 (λ (u : Val). ‵ (fat fullShare (mirOf Cursor) l₈ 0 u)) (ap only
             ((Cursor .tells) v-last _ is-w-read-entries)) refl $
-            drop ! $ split ! $ move ! (1 ∷ []) $ split ! $ move ! (1 ∷ []) $ drop ! $ move ! (1 ∷ []) $ lft-end ! tt $
-            move ! (0 ∷ 4 ∷ 2 ∷ []) $
+            discard ! (0 ∷ []) $ parts W (_ ∷ _ ∷ []) _ $ lft-end ! tt $ bring ! (0 ∷ 3 ∷ 1 ∷ []) $
             use3 W (later (‵ (MutSlice (named 2) κ₂ Entry′.the-row .own (at-x-catalogue (x-catalogue .name)
             z-read-entries-x-catalogue) (s-x-catalogue ∷ [])) ⊛ ‵ (flft κ₂ q₂))) (comes-back Entry′.the-row κ₂
             (ν₀-read-entries ∷ []) q₂ (x-catalogue .name) (x-catalogue .ptr .0) (x-catalogue .ptr .1) 𝓤 H A W (named 2)
@@ -703,7 +694,7 @@ module _ (Cursor Loaded : Value) where
             leave ! 34 refl refl $ leave ! 32 refl refl $ leave ! 30 refl refl $ leave ! 28 refl refl $
             leave ! 26 refl refl $ leave ! 24 refl refl $ leave ! 22 refl refl $ leave ! 20 refl refl $
             leave ! 18 refl refl $ leave ! 16 refl refl $ leave ! 14 refl refl $ leave ! 12 refl refl $
-            leave ! 10 refl refl $ leave ! 8 refl refl $ free0 ! $ move ! (3 ∷ 2 ∷ 6 ∷ 7 ∷ 0 ∷ 1 ∷ 4 ∷ 5 ∷ []) $
+            leave ! 10 refl refl $ leave ! 8 refl refl $ free0 ! $ bring ! (3 ∷ 2 ∷ 4 ∷ 4 ∷ 0 ∷ 0 ∷ 0 ∷ 0 ∷ []) $
             by ! (exits (spelled-v-loaded w-load-core is-w-load-core) (ap {B = ℕ} length (sym (e-load-core .1))
             ∙ h-load-core-x-map) (ap {B = ℕ} length (sym (e-read-entries .1)) ∙ h-read-entries-x-catalogue)
             (ap {B = ℕ} length (sym (e-load-core .2)) ∙ h-load-core-x-scratch))))))))))))))))))))))))))))))))))))))))))))))))))

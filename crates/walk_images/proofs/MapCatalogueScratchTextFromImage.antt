@@ -22,7 +22,7 @@ use base.Fml.{Lft, Share, GName, ftrue, flft, fat}
 use prog.Wp.{Heap, WpFn, Tables}
 use ghost.Atoms.{Atoms}
 use contract.Monad.{fact}
-use types.Kit.{Given, ‵, raw, some, later, _⊛_, ⋆, _$_, _∵_, !, qed, by, move, drop, use0, use1, use2, use3, split, join, pick}
+use types.Kit.{Given, ‵, raw, some, later, _⊛_, ⋆, _$_, _∵_, !, qed, by, use0, use1, use2, use3, group, split, join, pick}
 use types.Kit.{rewrite, fsplit, fjoin, feqL, suffices, frame, await, done}
 use types.Run.{look, init, stop, hop, fld, from, load, addr, and-then, no-more, assigns, land, returns, enter, alloc1, alloc0}
 use types.Run.{params1, pass1, pass0, free0}
@@ -51,7 +51,7 @@ use Rattle.catalogue.proofs.Values.{Value, denotes, rowOf, mirOf, valsOf}
 use Rattle.catalogue.specs.declared.Entry.{Entry}
 use Rattle.catalogue.proofs.Entry as Entry′
 use Rattle.catalogue.proofs.Entry.Laws as Entry″
-use Rattle.catalogue.proofs.Steps.{leave}
+use Rattle.catalogue.proofs.Steps.{bring, discard, parts, fparts, leave}
 use Rattle.catalogue.proofs.Lending.{LentAgain, lends-again, comes-back, LentOut, lends-out, comes-home}
 
 module _ (Writer Loaded : Value) where
@@ -462,8 +462,8 @@ module _ (Writer Loaded : Value) where
         goes-count ν₀-count δ₀-count =
             qed W (‵ (flft (ν₀-count ∷ []) fullShare) ∷ ‵ (ShrSlice (named 0) (ν₀-count ∷ []) Entry′.the-row .own
             (at-x-catalogue δ₀-count (now x-catalogue)) (s-x-catalogue ∷ [])) ∷ []) ∵
-            nothing ! $ move ! (1 ∷ 0 ∷ []) $ join ! $ nothing ! $ move ! (2 ∷ 0 ∷ []) $ fjoin ! $ move ! (1 ∷ 0 ∷ []) $
-            join ! $ frame ! $ done !
+            nothing ! $ bring ! (1 ∷ 0 ∷ []) $ group ! 2 $ nothing ! $ bring ! (2 ∷ 0 ∷ []) $ fjoin ! $
+            bring ! (1 ∷ 0 ∷ []) $ join ! $ frame ! $ done !
 
         -- ---- the caller has what `load` asks
         abbrev load-args : (δ₀-load δ₁-load δ₂-load : GName) → RefT (List ℕ) × (RefT (List ℕ)
@@ -504,10 +504,9 @@ module _ (Writer Loaded : Value) where
             ∷ ‵ (MutSlice (named 2) (ν₁-load ∷ []) Entry′.the-row .own (at-x-catalogue δ₁-load (now x-catalogue))
             (s-x-catalogue ∷ [])) ∷ ‵ (MutSlice (named 3) (ν₂-load ∷ []) u64 .own (at-x-scratch δ₂-load (now x-scratch))
             (s-x-scratch ∷ [])) ∷ []) ∵
-            nothing ! $ move ! (4 ∷ 0 ∷ []) $ join ! $ move ! (3 ∷ 0 ∷ []) $ join ! $ move ! (2 ∷ 0 ∷ []) $ join ! $
-            move ! (1 ∷ 0 ∷ []) $ join ! $ nothing ! $ move ! (5 ∷ 0 ∷ []) $ fjoin ! $ move ! (4 ∷ 0 ∷ []) $ fjoin ! $
-            move ! (3 ∷ 0 ∷ []) $ fjoin ! $ move ! (2 ∷ 0 ∷ []) $ fjoin ! $ move ! (1 ∷ 0 ∷ []) $ join ! $ frame ! $
-            done !
+            nothing ! $ bring ! (1 ∷ 1 ∷ 1 ∷ 1 ∷ 0 ∷ []) $ group ! 5 $ nothing ! $ bring ! (5 ∷ 0 ∷ []) $ fjoin ! $
+            bring ! (4 ∷ 0 ∷ []) $ fjoin ! $ bring ! (3 ∷ 0 ∷ []) $ fjoin ! $ bring ! (2 ∷ 0 ∷ []) $ fjoin ! $
+            bring ! (1 ∷ 0 ∷ []) $ join ! $ frame ! $ done !
 
         -- ---- the caller has what `begin` asks
         abbrev begin-args : (δ₀-begin δ₁-begin : GName) → (denotes Loaded) × (RefT (List ℕ) × (ℕ × (RefT (List ℕ) × Unit {0})))
@@ -537,11 +536,10 @@ module _ (Writer Loaded : Value) where
             qed W (‵ (flft (ν₀-begin ∷ []) fullShare) ∷ ‵ (flft (ν₁-begin ∷ []) fullShare)
             ∷ ‵ (ShrSlice (named 0) (ν₀-begin ∷ []) u64 .own (at-x-map δ₀-begin z-load-x-map) (s-x-map ∷ []))
             ∷ ‵ (MutSlice (named 1) (ν₁-begin ∷ []) u8 .own (at-x-text δ₁-begin (now x-text)) (s-x-text ∷ [])) ∷ []) ∵
-            nothing ! $ move ! (2 ∷ 0 ∷ []) $ join ! $ move ! (1 ∷ 0 ∷ []) $ join ! $ nothing ! $ move ! (3 ∷ 0 ∷ []) $
-            fjoin ! $ owned ! usize (Is usize) (uint-makes 𝓤 H A W w64) v-count _ is-v-count $ fjoin ! $
-            move ! (2 ∷ 0 ∷ []) $ fjoin ! $
-            owned ! (rowOf Loaded) (Is (rowOf Loaded)) (Loaded .makes 𝓤 H A) v-loaded _ is-v-loaded $ fjoin ! $
-            move ! (1 ∷ 0 ∷ []) $ join ! $ frame ! $ done !
+            nothing ! $ bring ! (1 ∷ 1 ∷ 0 ∷ []) $ group ! 3 $ nothing ! $ bring ! (3 ∷ 0 ∷ []) $ fjoin ! $
+            owned ! usize (Is usize) (uint-makes 𝓤 H A W w64) v-count _ is-v-count $ fjoin ! $ bring ! (2 ∷ 0 ∷ []) $
+            fjoin ! $ owned ! (rowOf Loaded) (Is (rowOf Loaded)) (Loaded .makes 𝓤 H A) v-loaded _ is-v-loaded $ fjoin ! $
+            bring ! (1 ∷ 0 ∷ []) $ join ! $ frame ! $ done !
 
         -- ---- the caller has what `write-sheets` asks
         abbrev write-sheets-args : (δ₀-write-sheets δ₁-write-sheets : GName) → RefT (List Entry)
@@ -577,9 +575,9 @@ module _ (Writer Loaded : Value) where
             ∷ ‵ (ShrSlice (named 0) (ν₀-write-sheets ∷ []) Entry′.the-row .own (at-x-catalogue δ₀-write-sheets
             z-load-x-catalogue) (s-x-catalogue ∷ [])) ∷ ‵ (MutSlice (named 1) (ν₁-write-sheets ∷ []) u8 .own
             (at-x-text δ₁-write-sheets z-begin-x-text) (s-x-text ∷ [])) ∷ []) ∵
-            nothing ! $ move ! (2 ∷ 0 ∷ []) $ join ! $ move ! (1 ∷ 0 ∷ []) $ join ! $ nothing ! $ move ! (3 ∷ 0 ∷ []) $
-            fjoin ! $ owned ! (rowOf Writer) (Is (rowOf Writer)) (Writer .makes 𝓤 H A) v-first _ is-v-first $ fjoin ! $
-            move ! (2 ∷ 0 ∷ []) $ fjoin ! $ move ! (1 ∷ 0 ∷ []) $ join ! $ frame ! $ done !
+            nothing ! $ bring ! (1 ∷ 1 ∷ 0 ∷ []) $ group ! 3 $ nothing ! $ bring ! (3 ∷ 0 ∷ []) $ fjoin ! $
+            owned ! (rowOf Writer) (Is (rowOf Writer)) (Writer .makes 𝓤 H A) v-first _ is-v-first $ fjoin ! $
+            bring ! (2 ∷ 0 ∷ []) $ fjoin ! $ bring ! (1 ∷ 0 ∷ []) $ join ! $ frame ! $ done !
 
         -- ---- the caller has what `place-of` asks
         abbrev place-of-args : (denotes Writer) × Unit {0}
@@ -593,7 +591,7 @@ module _ (Writer Loaded : Value) where
         goes-place-of is-v-last =
             qed W ([]) ∵
             nothing ! $ nothing ! $ owned ! (rowOf Writer) (Is (rowOf Writer)) (Writer .makes 𝓤 H A) v-last _ is-v-last $
-            fjoin ! $ move ! (1 ∷ 0 ∷ []) $ join ! $ frame ! $ done !
+            fjoin ! $ bring ! (1 ∷ 0 ∷ []) $ join ! $ frame ! $ done !
 
         -- ---- the exit
         exits : Is usize v-result (m-v-result ∷ []) → length z-load-x-map ≡ length (now x-map) → length z-load-x-catalogue
@@ -617,11 +615,10 @@ module _ (Writer Loaded : Value) where
             (tt, (z-load-x-map, (z-load-x-catalogue, (z-load-x-scratch, (z-write-sheets-x-text, tt)))))
             (tt, (l-x-map, (l-x-catalogue, (l-x-scratch, (l-x-text, tt)))))) $
             says ! (law (now x-image) (now x-map) (now x-catalogue) (now x-scratch) (now x-text)) $ nothing ! $
-            move ! (10 ∷ 0 ∷ []) $ join ! $ move ! (8 ∷ 0 ∷ []) $ join ! $ move ! (6 ∷ 0 ∷ []) $ join ! $
-            move ! (4 ∷ 0 ∷ []) $ join ! $ move ! (2 ∷ 0 ∷ []) $ join ! $ frame ! $ nothing ! $ move ! (5 ∷ 0 ∷ []) $
-            fjoin ! $ move ! (4 ∷ 0 ∷ []) $ fjoin ! $ move ! (3 ∷ 0 ∷ []) $ fjoin ! $ move ! (2 ∷ 0 ∷ []) $ fjoin ! $
-            move ! (1 ∷ 0 ∷ []) $ fjoin ! $ owned ! usize (Is usize) (uint-makes 𝓤 H A W w64) v-result _ is $
-            move ! (1 ∷ 0 ∷ []) $ done !
+            bring ! (2 ∷ 3 ∷ 4 ∷ 5 ∷ 6 ∷ 0 ∷ []) $ group ! 6 $ frame ! $ nothing ! $ bring ! (5 ∷ 0 ∷ []) $ fjoin ! $
+            bring ! (4 ∷ 0 ∷ []) $ fjoin ! $ bring ! (3 ∷ 0 ∷ []) $ fjoin ! $ bring ! (2 ∷ 0 ∷ []) $ fjoin ! $
+            bring ! (1 ∷ 0 ∷ []) $ fjoin ! $ owned ! usize (Is usize) (uint-makes 𝓤 H A W w64) v-result _ is $
+            bring ! (1 ∷ 0 ∷ []) $ done !
 
         -- ---- the walk
         walk : (𝓣 : Tables 𝓤 H) → Triple 𝓤 (𝓣 .C #count) (count-contract count-out 𝓤 H A)
@@ -647,42 +644,39 @@ module _ (Writer Loaded : Value) where
             pass1 ! (init ! 46 refl (tt, (tt, (record { fits = room-x-map .0 }, tt)))) $
             pass1 ! (init ! 44 refl (tt, (tt, (record { fits = room-x-catalogue .0 }, tt)))) $
             pass1 ! (init ! 42 refl (tt, (tt, (record { fits = room-x-scratch .0 }, tt)))) $
-            pass1 ! (init ! 40 refl (tt, (tt, (record { fits = room-x-text .0 }, tt)))) $ pass0 ! $ move ! (52 ∷ []) $
-            split ! $ move ! (1 ∷ []) $ split ! $ move ! (1 ∷ []) $ split ! $ move ! (1 ∷ []) $ split ! $
-            move ! (1 ∷ []) $ split ! $ move ! (1 ∷ []) $ drop ! $ move ! (57 ∷ []) $ fsplit ! $ move ! (1 ∷ []) $
-            fsplit ! $ move ! (1 ∷ []) $ fsplit ! $ move ! (1 ∷ []) $ fsplit ! $ move ! (1 ∷ []) $ fsplit ! $
-            move ! (1 ∷ []) $ drop ! $
+            pass1 ! (init ! 40 refl (tt, (tt, (record { fits = room-x-text .0 }, tt)))) $ pass0 ! $ bring ! (52 ∷ []) $
+            parts W (_ ∷ _ ∷ _ ∷ _ ∷ _ ∷ []) _ $ bring ! (57 ∷ []) $ fparts W (_ ∷ _ ∷ _ ∷ _ ∷ _ ∷ []) _ $
             -- count
             assigns ! (addr ! (from ! (fld ! refl (hop ! (look-in ! 54 (sub ! 0 refl (whole !))) (stop !))))) (from ! (stop !))
             (init ! 40 refl (tt, tt)) $
             assigns ! (agg ! (and-then ! (load ! (from ! (stop !)) (look ! 40 refl)) (and-then !
             (load ! (from ! (fld ! refl (stop !))) (look-in ! 54 (sub ! 1 refl (whole !)))) (no-more !)))) (from ! (stop !))
             (init ! 38 refl (tt, (tt, (record { fits = room-x-catalogue .0 }, tt)))) $
-            lft-new ! tt (λ ν₀-count. move ! (3 ∷ 8 ∷ []) $
+            lft-new ! tt (λ ν₀-count. bring ! (3 ∷ 7 ∷ []) $
             use2 W (later (some (λ (δ : GName). ‵ (ShrSlice (named 0) (ν₀-count ∷ []) Entry′.the-row .own
             (at-x-catalogue δ (now x-catalogue)) (s-x-catalogue ∷ [])) ⊛ ‵ (LentOut Entry′.the-row κ₂ (ν₀-count ∷ []) q₂
             (x-catalogue .name) (x-catalogue .ptr .0) (x-catalogue .ptr .1) (now x-catalogue)))))
             (lends-out Entry′.the-row κ₂ (ν₀-count ∷ []) q₂ (x-catalogue .name) (x-catalogue .ptr .0) (x-catalogue .ptr .1) 𝓤 H
             A W (named 2) (named 0) (now x-catalogue) (length (now x-catalogue)) refl) $
-            await ! tt $ pick ! (λ δ₀-count. split ! $ move ! (2 ∷ 0 ∷ []) $ join ! $
+            await ! tt $ pick ! (λ δ₀-count. split ! $ bring ! (2 ∷ 0 ∷ []) $ group ! 2 $
             use1 W (raw ((count-contract count-out 𝓤 H A) .pre (to-count ν₀-count δ₀-count))) (goes-count ν₀-count δ₀-count) $
             calls-at ! (fmOf 𝓤 H (W .laws) 𝓣) (count-contract count-out 𝓤 H A) known-count (to-count ν₀-count δ₀-count)
             (and-then ! (load ! (from ! (stop !)) (look ! 38 refl)) (no-more !)) (λ w-count.
             use1 W (later (some (λ (r : ℕ). ((‵ (flft (ν₀-count ∷ []) fullShare) ⊛ ‵ ftrue) ⊛ ‵ (usize .own r (w-count ∷ [])))
             ⊛ raw (ensured 𝓤 H A count-ended (count-clauses count-out 𝓤) (ν₀-count ∷ [], tt) (count-args δ₀-count) tt r))))
             (id⊢ 𝓤 _) $
-            await ! tt $ pick ! (λ r-count. split ! $ move ! (1 ∷ []) $
+            await ! tt $ pick ! (λ r-count. split ! $ bring ! (1 ∷ []) $
             use1 W (some (λ (zs-count : Unit {0} × Unit {0}). ‵ (lasts count-ended (ν₀-count ∷ [], tt) (count-args δ₀-count)
             zs-count) ⊛ raw (fact 𝓤 (count-says count-out (now x-catalogue) r-count)))) (id⊢ 𝓤 _) $
-            pick ! (λ zs-count. split ! $ move ! (1 ∷ []) $
-            heard ! (count-says count-out (now x-catalogue) r-count) (λ e-count. fsplit ! $ move ! (1 ∷ []) $ drop ! $
-            drop ! $ split ! $ move ! (1 ∷ []) $
+            pick ! (λ zs-count. split ! $ bring ! (1 ∷ []) $
+            heard ! (count-says count-out (now x-catalogue) r-count) (λ e-count. fparts W (_ ∷ []) _ $
+            discard ! (0 ∷ []) $ split ! $ bring ! (1 ∷ []) $
             rewrite ! 0 (λ (r : ℕ). ‵ (usize .own r (w-count ∷ []))) (e-count) refl $
             peeks ! usize (Is usize) (shows 𝓤 H A usize) v-count (w-count ∷ []) (λ is-w-count.
             land ! (from ! (stop !)) (init ! 49 refl ((uint-lawful 𝓤 H A W w64 .typed) v-count _ is-w-count .0)) $
             rewrite ! 49 (λ (u : Val). ‵ (fat fullShare (tyInt w64) l₆ 0 u)) (ap only ((uint-tells w64) v-count _ is-w-count))
             refl $
-            drop ! $ split ! $ move ! (1 ∷ []) $ drop ! $ lft-end ! tt $
+            discard ! (0 ∷ []) $ parts W (_ ∷ []) _ $ lft-end ! tt $
             use2 W (later (‵ (MutSlice (named 2) κ₂ Entry′.the-row .own (at-x-catalogue (x-catalogue .name) (now x-catalogue))
             (s-x-catalogue ∷ [])) ⊛ ‵ (flft κ₂ q₂))) (comes-home Entry′.the-row κ₂ (ν₀-count ∷ []) q₂ (x-catalogue .name)
             (x-catalogue .ptr .0) (x-catalogue .ptr .1) 𝓤 H A W (named 2) (named 0) (now x-catalogue) (length (now x-catalogue))
@@ -704,29 +698,26 @@ module _ (Writer Loaded : Value) where
             assigns ! (agg ! (and-then ! (load ! (from ! (stop !)) (look ! 28 refl)) (and-then !
             (load ! (from ! (fld ! refl (stop !))) (look-in ! 52 (sub ! 1 refl (whole !)))) (no-more !)))) (from ! (stop !))
             (init ! 26 refl (tt, (tt, (record { fits = room-x-scratch .0 }, tt)))) $
-            move ! (5 ∷ []) $
+            bring ! (2 ∷ []) $
             use1 W (‵ (ShrSlice (named 0) κ₀ u8 .own x-image (s-x-image ∷ [])) ⊛ ‵ (ShrSlice (named 0) κ₀ u8 .own x-image
             (s-x-image ∷ []))) (shr-slice-copy 𝓤 H A W (named 0) κ₀ u8 .twice x-image (s-x-image ∷ [])) $
-            split ! $ lft-new ! tt (λ ν₀-load. move ! (7 ∷ 10 ∷ []) $
+            split ! $ lft-new ! tt (λ ν₀-load. bring ! (5 ∷ 8 ∷ []) $
             use2 W (later (some (λ (δ : GName). ‵ (MutSlice (named 1) (ν₀-load ∷ []) u64 .own (at-x-map δ (now x-map))
             (s-x-map ∷ [])) ⊛ ‵ (LentAgain u64 κ₁ (ν₀-load ∷ []) q₁ (x-map .name) (x-map .ptr .0) (x-map .ptr .1) δ
             (now x-map))))) (lends-again u64 κ₁ (ν₀-load ∷ []) q₁ (x-map .name) (x-map .ptr .0) (x-map .ptr .1) 𝓤 H A W
             (named 1) (named 1) (now x-map) (length (now x-map)) refl) $
-            await ! tt $ pick ! (λ δ₀-load. split ! $ lft-new ! tt (λ ν₁-load. move ! (6 ∷ 7 ∷ []) $
+            await ! tt $ pick ! (λ δ₀-load. split ! $ lft-new ! tt (λ ν₁-load. bring ! (6 ∷ 6 ∷ []) $
             use2 W (later (some (λ (δ : GName). ‵ (MutSlice (named 2) (ν₁-load ∷ []) Entry′.the-row .own
             (at-x-catalogue δ (now x-catalogue)) (s-x-catalogue ∷ [])) ⊛ ‵ (LentAgain Entry′.the-row κ₂ (ν₁-load ∷ []) q₂
             (x-catalogue .name) (x-catalogue .ptr .0) (x-catalogue .ptr .1) δ (now x-catalogue)))))
             (lends-again Entry′.the-row κ₂ (ν₁-load ∷ []) q₂ (x-catalogue .name) (x-catalogue .ptr .0) (x-catalogue .ptr .1) 𝓤 H
             A W (named 2) (named 2) (now x-catalogue) (length (now x-catalogue)) refl) $
-            await ! tt $ pick ! (λ δ₁-load. split ! $ lft-new ! tt (λ ν₂-load. move ! (10 ∷ 12 ∷ []) $
+            await ! tt $ pick ! (λ δ₁-load. split ! $ lft-new ! tt (λ ν₂-load. bring ! (9 ∷ 11 ∷ []) $
             use2 W (later (some (λ (δ : GName). ‵ (MutSlice (named 3) (ν₂-load ∷ []) u64 .own (at-x-scratch δ (now x-scratch))
             (s-x-scratch ∷ [])) ⊛ ‵ (LentAgain u64 κ₃ (ν₂-load ∷ []) q₃ (x-scratch .name) (x-scratch .ptr .0)
             (x-scratch .ptr .1) δ (now x-scratch))))) (lends-again u64 κ₃ (ν₂-load ∷ []) q₃ (x-scratch .name)
             (x-scratch .ptr .0) (x-scratch .ptr .1) 𝓤 H A W (named 3) (named 3) (now x-scratch) (length (now x-scratch)) refl) $
-            await ! tt $ pick ! (λ δ₂-load. split ! $ move ! (13 ∷ 8 ∷ 5 ∷ 2 ∷ 9 ∷ 6 ∷ 3 ∷ 0 ∷ []) $
-            move ! (6 ∷ 7 ∷ []) $ join ! $ move ! (6 ∷ 0 ∷ []) $ join ! $ move ! (5 ∷ 0 ∷ []) $ join ! $
-            move ! (4 ∷ 0 ∷ []) $ join ! $ move ! (3 ∷ 0 ∷ []) $ join ! $ move ! (2 ∷ 0 ∷ []) $ join ! $
-            move ! (1 ∷ 0 ∷ []) $ join ! $
+            await ! tt $ pick ! (λ δ₂-load. split ! $ bring ! (12 ∷ 8 ∷ 5 ∷ 2 ∷ 6 ∷ 4 ∷ 2 ∷ 0 ∷ []) $ group ! 8 $
             use1 W (raw ((load-contract load-out load-x-map load-x-catalogue load-x-scratch 𝓤 H A) .pre
             (to-load ν₀-load ν₁-load ν₂-load δ₀-load δ₁-load δ₂-load))) (goes-load ν₀-load ν₁-load ν₂-load δ₀-load δ₁-load
             δ₂-load) $
@@ -740,19 +731,17 @@ module _ (Writer Loaded : Value) where
             ⊛ ‵ ((rowOf Loaded) .own r (w-load ∷ []))) ⊛ raw (ensured 𝓤 H A load-ended
             (load-clauses load-out load-x-map load-x-catalogue load-x-scratch 𝓤)
             (κ₀, (ν₀-load ∷ [], (ν₁-load ∷ [], (ν₂-load ∷ [], tt)))) (load-args δ₀-load δ₁-load δ₂-load) tt r)))) (id⊢ 𝓤 _) $
-            await ! tt $ pick ! (λ r-load. split ! $ move ! (1 ∷ []) $
+            await ! tt $ pick ! (λ r-load. split ! $ bring ! (1 ∷ []) $
             use1 W (some (λ (zs-load : Unit {0} × (List ℕ × (List Entry × (List ℕ × Unit {0})))). ‵
             (lasts load-ended (κ₀, (ν₀-load ∷ [], (ν₁-load ∷ [], (ν₂-load ∷ [], tt)))) (load-args δ₀-load δ₁-load δ₂-load)
             zs-load) ⊛ raw (fact 𝓤 (load-says load-out load-x-map load-x-catalogue load-x-scratch (now x-image) (now x-map)
             (now x-catalogue) (now x-scratch) r-load (zs-load .1 .0) (zs-load .1 .1 .0) (zs-load .1 .1 .1 .0))))) (id⊢ 𝓤 _) $
-            pick ! (λ zs-load. split ! $ move ! (1 ∷ []) $
+            pick ! (λ zs-load. split ! $ bring ! (1 ∷ []) $
             heard ! (load-says load-out load-x-map load-x-catalogue load-x-scratch (now x-image) (now x-map) (now x-catalogue)
             (now x-scratch) r-load (zs-load .1 .0) (zs-load .1 .1 .0) (zs-load .1 .1 .1 .0)) (λ e-load.
-            fsplit ! $ move ! (1 ∷ []) $ fsplit ! $ move ! (1 ∷ []) $ fsplit ! $ move ! (1 ∷ []) $ fsplit ! $
-            move ! (1 ∷ []) $ drop ! $ move ! (3 ∷ []) $ drop ! $ move ! (2 ∷ []) $ fsplit ! $ move ! (1 ∷ []) $
-            feqL ! (λ h-load-x-map. move ! (2 ∷ []) $ fsplit ! $ move ! (1 ∷ []) $ feqL ! (λ h-load-x-catalogue.
-            move ! (2 ∷ []) $ fsplit ! $ move ! (1 ∷ []) $ feqL ! (λ h-load-x-scratch. move ! (3 ∷ []) $ split ! $
-            move ! (1 ∷ []) $
+            fparts W (_ ∷ _ ∷ _ ∷ _ ∷ []) _ $ discard ! (0 ∷ []) $ fsplit ! $ bring ! (1 ∷ []) $ feqL ! (λ h-load-x-map.
+            bring ! (1 ∷ []) $ fsplit ! $ bring ! (1 ∷ []) $ feqL ! (λ h-load-x-catalogue. bring ! (2 ∷ []) $ fsplit ! $
+            bring ! (1 ∷ []) $ feqL ! (λ h-load-x-scratch. bring ! (3 ∷ []) $ split ! $ bring ! (1 ∷ []) $
             rewrite ! 0 (λ (r : (denotes Loaded)). ‵ ((rowOf Loaded) .own r (w-load ∷ []))) (e-load .0) refl $
             rewrite ! 4 (λ (l : List ℕ). ‵ (finally u64 δ₀-load l)) (e-load .1) refl $
             rewrite ! 3 (λ (l : List Entry). ‵ (finally Entry′.the-row δ₁-load l)) (e-load .2) refl $
@@ -761,18 +750,18 @@ module _ (Writer Loaded : Value) where
             land ! (from ! (stop !)) (init ! 47 refl ((Loaded .typed 𝓤 H A W) v-loaded _ is-w-load .0)) $
             rewrite ! 47 (λ (u : Val). ‵ (fat fullShare (mirOf Loaded) l₇ 0 u)) (ap only ((Loaded .tells) v-loaded _ is-w-load))
             refl $
-            drop ! $ split ! $ move ! (1 ∷ []) $ split ! $ move ! (1 ∷ []) $ split ! $ move ! (1 ∷ []) $ split ! $
-            move ! (1 ∷ []) $ drop ! $ move ! (2 ∷ []) $ lft-end ! tt $ move ! (0 ∷ 9 ∷ 6 ∷ []) $
+            discard ! (0 ∷ []) $ parts W (_ ∷ _ ∷ _ ∷ _ ∷ []) _ $ bring ! (1 ∷ []) $ lft-end ! tt $
+            bring ! (0 ∷ 8 ∷ 5 ∷ []) $
             use3 W (later (‵ (MutSlice (named 1) κ₁ u64 .own (at-x-map (x-map .name) z-load-x-map) (s-x-map ∷ []))
             ⊛ ‵ (flft κ₁ q₁))) (comes-back u64 κ₁ (ν₀-load ∷ []) q₁ (x-map .name) (x-map .ptr .0) (x-map .ptr .1) 𝓤 H A W
             (named 1) (named 1) (now x-map) (length (now x-map)) refl room-x-map δ₀-load z-load-x-map
             (ap {B = ℕ} length (sym (e-load .1)) ∙ h-load-x-map)) $
-            await ! tt $ split ! $ move ! (3 ∷ []) $ lft-end ! tt $ move ! (0 ∷ 8 ∷ 6 ∷ []) $
+            await ! tt $ split ! $ bring ! (3 ∷ []) $ lft-end ! tt $ bring ! (0 ∷ 7 ∷ 5 ∷ []) $
             use3 W (later (‵ (MutSlice (named 2) κ₂ Entry′.the-row .own (at-x-catalogue (x-catalogue .name) z-load-x-catalogue)
             (s-x-catalogue ∷ [])) ⊛ ‵ (flft κ₂ q₂))) (comes-back Entry′.the-row κ₂ (ν₁-load ∷ []) q₂ (x-catalogue .name)
             (x-catalogue .ptr .0) (x-catalogue .ptr .1) 𝓤 H A W (named 2) (named 2) (now x-catalogue) (length (now x-catalogue))
             refl room-x-catalogue δ₁-load z-load-x-catalogue (ap {B = ℕ} length (sym (e-load .2)) ∙ h-load-x-catalogue)) $
-            await ! tt $ split ! $ move ! (4 ∷ []) $ lft-end ! tt $ move ! (0 ∷ 7 ∷ 6 ∷ []) $
+            await ! tt $ split ! $ bring ! (5 ∷ []) $ lft-end ! tt $ bring ! (0 ∷ 6 ∷ 5 ∷ []) $
             use3 W (later (‵ (MutSlice (named 3) κ₃ u64 .own (at-x-scratch (x-scratch .name) z-load-x-scratch)
             (s-x-scratch ∷ [])) ⊛ ‵ (flft κ₃ q₃))) (comes-back u64 κ₃ (ν₂-load ∷ []) q₃ (x-scratch .name) (x-scratch .ptr .0)
             (x-scratch .ptr .1) 𝓤 H A W (named 3) (named 3) (now x-scratch) (length (now x-scratch)) refl room-x-scratch δ₂-load
@@ -789,18 +778,17 @@ module _ (Writer Loaded : Value) where
             assigns ! (agg ! (and-then ! (load ! (from ! (stop !)) (look ! 20 refl)) (and-then !
             (load ! (from ! (fld ! refl (stop !))) (look-in ! 50 (sub ! 1 refl (whole !)))) (no-more !)))) (from ! (stop !))
             (init ! 18 refl (tt, (tt, (record { fits = room-x-text .0 }, tt)))) $
-            lft-new ! tt (λ ν₀-begin. move ! (5 ∷ 6 ∷ []) $
+            lft-new ! tt (λ ν₀-begin. bring ! (5 ∷ 5 ∷ []) $
             use2 W (later (some (λ (δ : GName). ‵ (ShrSlice (named 0) (ν₀-begin ∷ []) u64 .own (at-x-map δ z-load-x-map)
             (s-x-map ∷ [])) ⊛ ‵ (LentOut u64 κ₁ (ν₀-begin ∷ []) q₁ (x-map .name) (x-map .ptr .0) (x-map .ptr .1)
             z-load-x-map)))) (lends-out u64 κ₁ (ν₀-begin ∷ []) q₁ (x-map .name) (x-map .ptr .0) (x-map .ptr .1) 𝓤 H A W
             (named 1) (named 0) z-load-x-map (length (now x-map)) (ap {B = ℕ} length (sym (e-load .1)) ∙ h-load-x-map)) $
-            await ! tt $ pick ! (λ δ₀-begin. split ! $ lft-new ! tt (λ ν₁-begin. move ! (10 ∷ 11 ∷ []) $
+            await ! tt $ pick ! (λ δ₀-begin. split ! $ lft-new ! tt (λ ν₁-begin. bring ! (10 ∷ 10 ∷ []) $
             use2 W (later (some (λ (δ : GName). ‵ (MutSlice (named 1) (ν₁-begin ∷ []) u8 .own (at-x-text δ (now x-text))
             (s-x-text ∷ [])) ⊛ ‵ (LentAgain u8 κ₄ (ν₁-begin ∷ []) q₄ (x-text .name) (x-text .ptr .0) (x-text .ptr .1) δ
             (now x-text))))) (lends-again u8 κ₄ (ν₁-begin ∷ []) q₄ (x-text .name) (x-text .ptr .0) (x-text .ptr .1) 𝓤 H A W
             (named 4) (named 1) (now x-text) (length (now x-text)) refl) $
-            await ! tt $ pick ! (λ δ₁-begin. split ! $ move ! (5 ∷ 2 ∷ 3 ∷ 0 ∷ []) $ move ! (2 ∷ 3 ∷ []) $ join ! $
-            move ! (2 ∷ 0 ∷ []) $ join ! $ move ! (1 ∷ 0 ∷ []) $ join ! $
+            await ! tt $ pick ! (λ δ₁-begin. split ! $ bring ! (5 ∷ 2 ∷ 2 ∷ 0 ∷ []) $ group ! 4 $
             use1 W (raw ((begin-contract begin-out begin-x-text 𝓤 H A) .pre (to-begin ν₀-begin ν₁-begin δ₀-begin δ₁-begin)))
             (goes-begin ν₀-begin ν₁-begin δ₀-begin δ₁-begin (spelled-v-loaded w-load is-w-load)
             (spelled-v-count w-count is-w-count)) $
@@ -812,30 +800,28 @@ module _ (Writer Loaded : Value) where
             ⊛ ‵ (flft (ν₁-begin ∷ []) fullShare) ⊛ ‵ ftrue) ⊛ ‵ ((rowOf Writer) .own r (w-begin ∷ [])))
             ⊛ raw (ensured 𝓤 H A begin-ended (begin-clauses begin-out begin-x-text 𝓤) (ν₀-begin ∷ [], (ν₁-begin ∷ [], tt))
             (begin-args δ₀-begin δ₁-begin) tt r)))) (id⊢ 𝓤 _) $
-            await ! tt $ pick ! (λ r-begin. split ! $ move ! (1 ∷ []) $
+            await ! tt $ pick ! (λ r-begin. split ! $ bring ! (1 ∷ []) $
             use1 W (some (λ (zs-begin : Unit {0} × (Unit {0} × (Unit {0} × (List ℕ × Unit {0})))). ‵
             (lasts begin-ended (ν₀-begin ∷ [], (ν₁-begin ∷ [], tt)) (begin-args δ₀-begin δ₁-begin) zs-begin)
             ⊛ raw (fact 𝓤 (begin-says begin-out begin-x-text v-loaded z-load-x-map v-count (now x-text) r-begin
             (zs-begin .1 .1 .1 .0))))) (id⊢ 𝓤 _) $
-            pick ! (λ zs-begin. split ! $ move ! (1 ∷ []) $
+            pick ! (λ zs-begin. split ! $ bring ! (1 ∷ []) $
             heard ! (begin-says begin-out begin-x-text v-loaded z-load-x-map v-count (now x-text) r-begin
             (zs-begin .1 .1 .1 .0)) (λ e-begin.
-            fsplit ! $ move ! (1 ∷ []) $ fsplit ! $ move ! (1 ∷ []) $ fsplit ! $ move ! (1 ∷ []) $ fsplit ! $
-            move ! (1 ∷ []) $ drop ! $ move ! (3 ∷ []) $ drop ! $ move ! (2 ∷ []) $ drop ! $ move ! (1 ∷ []) $ drop ! $
-            fsplit ! $ move ! (1 ∷ []) $ feqL ! (λ h-begin-x-text. move ! (1 ∷ []) $ split ! $ move ! (1 ∷ []) $
+            fparts W (_ ∷ _ ∷ _ ∷ _ ∷ []) _ $ discard ! (0 ∷ 0 ∷ 0 ∷ []) $ fsplit ! $ bring ! (1 ∷ []) $
+            feqL ! (λ h-begin-x-text. bring ! (1 ∷ []) $ split ! $ bring ! (1 ∷ []) $
             rewrite ! 0 (λ (r : (denotes Writer)). ‵ ((rowOf Writer) .own r (w-begin ∷ []))) (e-begin .0) refl $
             rewrite ! 2 (λ (l : List ℕ). ‵ (finally u8 δ₁-begin l)) (e-begin .1) refl $
             peeks ! (rowOf Writer) (Is (rowOf Writer)) (shows 𝓤 H A (rowOf Writer)) v-first (w-begin ∷ []) (λ is-w-begin.
             land ! (from ! (stop !)) (init ! 45 refl ((Writer .typed 𝓤 H A W) v-first _ is-w-begin .0)) $
             rewrite ! 45 (λ (u : Val). ‵ (fat fullShare (mirOf Writer) l₈ 0 u)) (ap only ((Writer .tells) v-first _ is-w-begin))
             refl $
-            drop ! $ split ! $ move ! (1 ∷ []) $ split ! $ move ! (1 ∷ []) $ drop ! $ move ! (1 ∷ []) $ lft-end ! tt $
-            move ! (0 ∷ 4 ∷ []) $
+            discard ! (0 ∷ []) $ parts W (_ ∷ _ ∷ []) _ $ lft-end ! tt $ bring ! (0 ∷ 3 ∷ []) $
             use2 W (later (‵ (MutSlice (named 1) κ₁ u64 .own (at-x-map (x-map .name) z-load-x-map) (s-x-map ∷ []))
             ⊛ ‵ (flft κ₁ q₁))) (comes-home u64 κ₁ (ν₀-begin ∷ []) q₁ (x-map .name) (x-map .ptr .0) (x-map .ptr .1) 𝓤 H A W
             (named 1) (named 0) z-load-x-map (length (now x-map)) (ap {B = ℕ} length (sym (e-load .1)) ∙ h-load-x-map)
             room-x-map) $
-            await ! tt $ split ! $ move ! (2 ∷ []) $ lft-end ! tt $ move ! (0 ∷ 4 ∷ 3 ∷ []) $
+            await ! tt $ split ! $ bring ! (2 ∷ []) $ lft-end ! tt $ bring ! (0 ∷ 3 ∷ 2 ∷ []) $
             use3 W (later (‵ (MutSlice (named 4) κ₄ u8 .own (at-x-text (x-text .name) z-begin-x-text) (s-x-text ∷ []))
             ⊛ ‵ (flft κ₄ q₄))) (comes-back u8 κ₄ (ν₁-begin ∷ []) q₄ (x-text .name) (x-text .ptr .0) (x-text .ptr .1) 𝓤 H A W
             (named 4) (named 1) (now x-text) (length (now x-text)) refl room-x-text δ₁-begin z-begin-x-text
@@ -852,21 +838,20 @@ module _ (Writer Loaded : Value) where
             assigns ! (agg ! (and-then ! (load ! (from ! (stop !)) (look ! 12 refl)) (and-then !
             (load ! (from ! (fld ! refl (stop !))) (look-in ! 50 (sub ! 1 refl (whole !)))) (no-more !)))) (from ! (stop !))
             (init ! 10 refl (tt, (tt, (record { fits = room-x-text .0 }, tt)))) $
-            lft-new ! tt (λ ν₀-write-sheets. move ! (7 ∷ 8 ∷ []) $
+            lft-new ! tt (λ ν₀-write-sheets. bring ! (7 ∷ 7 ∷ []) $
             use2 W (later (some (λ (δ : GName). ‵ (ShrSlice (named 0) (ν₀-write-sheets ∷ []) Entry′.the-row .own
             (at-x-catalogue δ z-load-x-catalogue) (s-x-catalogue ∷ [])) ⊛ ‵ (LentOut Entry′.the-row κ₂ (ν₀-write-sheets ∷ []) q₂
             (x-catalogue .name) (x-catalogue .ptr .0) (x-catalogue .ptr .1) z-load-x-catalogue))))
             (lends-out Entry′.the-row κ₂ (ν₀-write-sheets ∷ []) q₂ (x-catalogue .name) (x-catalogue .ptr .0)
             (x-catalogue .ptr .1) 𝓤 H A W (named 2) (named 0) z-load-x-catalogue (length (now x-catalogue))
             (ap {B = ℕ} length (sym (e-load .2)) ∙ h-load-x-catalogue)) $
-            await ! tt $ pick ! (λ δ₀-write-sheets. split ! $ lft-new ! tt (λ ν₁-write-sheets. move ! (4 ∷ 5 ∷ []) $
+            await ! tt $ pick ! (λ δ₀-write-sheets. split ! $ lft-new ! tt (λ ν₁-write-sheets. bring ! (4 ∷ 4 ∷ []) $
             use2 W (later (some (λ (δ : GName). ‵ (MutSlice (named 1) (ν₁-write-sheets ∷ []) u8 .own
             (at-x-text δ z-begin-x-text) (s-x-text ∷ [])) ⊛ ‵ (LentAgain u8 κ₄ (ν₁-write-sheets ∷ []) q₄ (x-text .name)
             (x-text .ptr .0) (x-text .ptr .1) δ z-begin-x-text)))) (lends-again u8 κ₄ (ν₁-write-sheets ∷ []) q₄ (x-text .name)
             (x-text .ptr .0) (x-text .ptr .1) 𝓤 H A W (named 4) (named 1) z-begin-x-text (length (now x-text))
             (ap {B = ℕ} length (sym (e-begin .1)) ∙ h-begin-x-text)) $
-            await ! tt $ pick ! (λ δ₁-write-sheets. split ! $ move ! (5 ∷ 2 ∷ 3 ∷ 0 ∷ []) $ move ! (2 ∷ 3 ∷ []) $
-            join ! $ move ! (2 ∷ 0 ∷ []) $ join ! $ move ! (1 ∷ 0 ∷ []) $ join ! $
+            await ! tt $ pick ! (λ δ₁-write-sheets. split ! $ bring ! (5 ∷ 2 ∷ 2 ∷ 0 ∷ []) $ group ! 4 $
             use1 W (raw ((write-sheets-contract write-sheets-out write-sheets-x-text 𝓤 H A) .pre
             (to-write-sheets ν₀-write-sheets ν₁-write-sheets δ₀-write-sheets δ₁-write-sheets)))
             (goes-write-sheets ν₀-write-sheets ν₁-write-sheets δ₀-write-sheets δ₁-write-sheets
@@ -880,18 +865,17 @@ module _ (Writer Loaded : Value) where
             ⊛ raw (ensured 𝓤 H A write-sheets-ended (write-sheets-clauses write-sheets-out write-sheets-x-text 𝓤)
             (ν₀-write-sheets ∷ [], (ν₁-write-sheets ∷ [], tt)) (write-sheets-args δ₀-write-sheets δ₁-write-sheets) tt r))))
             (id⊢ 𝓤 _) $
-            await ! tt $ pick ! (λ r-write-sheets. split ! $ move ! (1 ∷ []) $
+            await ! tt $ pick ! (λ r-write-sheets. split ! $ bring ! (1 ∷ []) $
             use1 W (some (λ (zs-write-sheets : Unit {0} × (Unit {0} × (List ℕ × Unit {0}))). ‵
             (lasts write-sheets-ended (ν₀-write-sheets ∷ [], (ν₁-write-sheets ∷ [], tt))
             (write-sheets-args δ₀-write-sheets δ₁-write-sheets) zs-write-sheets) ⊛ raw
             (fact 𝓤 (write-sheets-says write-sheets-out write-sheets-x-text z-load-x-catalogue v-first z-begin-x-text
             r-write-sheets (zs-write-sheets .1 .1 .0))))) (id⊢ 𝓤 _) $
-            pick ! (λ zs-write-sheets. split ! $ move ! (1 ∷ []) $
+            pick ! (λ zs-write-sheets. split ! $ bring ! (1 ∷ []) $
             heard ! (write-sheets-says write-sheets-out write-sheets-x-text z-load-x-catalogue v-first z-begin-x-text
             r-write-sheets (zs-write-sheets .1 .1 .0)) (λ e-write-sheets.
-            fsplit ! $ move ! (1 ∷ []) $ fsplit ! $ move ! (1 ∷ []) $ fsplit ! $ move ! (1 ∷ []) $ drop ! $
-            move ! (2 ∷ []) $ drop ! $ move ! (1 ∷ []) $ drop ! $ fsplit ! $ move ! (1 ∷ []) $
-            feqL ! (λ h-write-sheets-x-text. move ! (1 ∷ []) $ split ! $ move ! (1 ∷ []) $
+            fparts W (_ ∷ _ ∷ _ ∷ []) _ $ discard ! (0 ∷ 0 ∷ []) $ fsplit ! $ bring ! (1 ∷ []) $
+            feqL ! (λ h-write-sheets-x-text. bring ! (1 ∷ []) $ split ! $ bring ! (1 ∷ []) $
             rewrite ! 0 (λ (r : (denotes Writer)). ‵ ((rowOf Writer) .own r (w-write-sheets ∷ []))) (e-write-sheets .0) refl $
             rewrite ! 2 (λ (l : List ℕ). ‵ (finally u8 δ₁-write-sheets l)) (e-write-sheets .1) refl $
             peeks ! (rowOf Writer) (Is (rowOf Writer)) (shows 𝓤 H A (rowOf Writer)) v-last (w-write-sheets ∷ [])
@@ -899,13 +883,12 @@ module _ (Writer Loaded : Value) where
             land ! (from ! (stop !)) (init ! 43 refl ((Writer .typed 𝓤 H A W) v-last _ is-w-write-sheets .0)) $
             rewrite ! 43 (λ (u : Val). ‵ (fat fullShare (mirOf Writer) l₉ 0 u)) (ap only
             ((Writer .tells) v-last _ is-w-write-sheets)) refl $
-            drop ! $ split ! $ move ! (1 ∷ []) $ split ! $ move ! (1 ∷ []) $ drop ! $ move ! (1 ∷ []) $ lft-end ! tt $
-            move ! (0 ∷ 4 ∷ []) $
+            discard ! (0 ∷ []) $ parts W (_ ∷ _ ∷ []) _ $ lft-end ! tt $ bring ! (0 ∷ 3 ∷ []) $
             use2 W (later (‵ (MutSlice (named 2) κ₂ Entry′.the-row .own (at-x-catalogue (x-catalogue .name) z-load-x-catalogue)
             (s-x-catalogue ∷ [])) ⊛ ‵ (flft κ₂ q₂))) (comes-home Entry′.the-row κ₂ (ν₀-write-sheets ∷ []) q₂ (x-catalogue .name)
             (x-catalogue .ptr .0) (x-catalogue .ptr .1) 𝓤 H A W (named 2) (named 0) z-load-x-catalogue
             (length (now x-catalogue)) (ap {B = ℕ} length (sym (e-load .2)) ∙ h-load-x-catalogue) room-x-catalogue) $
-            await ! tt $ split ! $ move ! (2 ∷ []) $ lft-end ! tt $ move ! (0 ∷ 4 ∷ 3 ∷ []) $
+            await ! tt $ split ! $ bring ! (2 ∷ []) $ lft-end ! tt $ bring ! (0 ∷ 3 ∷ 2 ∷ []) $
             use3 W (later (‵ (MutSlice (named 4) κ₄ u8 .own (at-x-text (x-text .name) z-write-sheets-x-text) (s-x-text ∷ []))
             ⊛ ‵ (flft κ₄ q₄))) (comes-back u8 κ₄ (ν₁-write-sheets ∷ []) q₄ (x-text .name) (x-text .ptr .0) (x-text .ptr .1) 𝓤 H
             A W (named 4) (named 1) z-begin-x-text (length (now x-text)) (ap {B = ℕ} length (sym (e-begin .1)) ∙ h-begin-x-text)
@@ -919,25 +902,25 @@ module _ (Writer Loaded : Value) where
             (and-then ! (load ! (from ! (stop !)) (look ! 43 refl)) (no-more !)) (λ w-place-of.
             use1 W (later (some (λ (r : ℕ). ((‵ ftrue) ⊛ ‵ (usize .own r (w-place-of ∷ [])))
             ⊛ raw (ensured 𝓤 H A place-of-ended (place-of-clauses place-of-out 𝓤) tt (place-of-args) tt r)))) (id⊢ 𝓤 _) $
-            await ! tt $ pick ! (λ r-place-of. split ! $ move ! (1 ∷ []) $
+            await ! tt $ pick ! (λ r-place-of. split ! $ bring ! (1 ∷ []) $
             use1 W (some (λ (zs-place-of : Unit {0} × Unit {0}). ‵ (lasts place-of-ended tt (place-of-args) zs-place-of)
             ⊛ raw (fact 𝓤 (place-of-says place-of-out v-last r-place-of)))) (id⊢ 𝓤 _) $
-            pick ! (λ zs-place-of. split ! $ move ! (1 ∷ []) $
-            heard ! (place-of-says place-of-out v-last r-place-of) (λ e-place-of. fsplit ! $ move ! (1 ∷ []) $ drop ! $
-            drop ! $ split ! $ move ! (1 ∷ []) $
+            pick ! (λ zs-place-of. split ! $ bring ! (1 ∷ []) $
+            heard ! (place-of-says place-of-out v-last r-place-of) (λ e-place-of. fparts W (_ ∷ []) _ $
+            discard ! (0 ∷ []) $ split ! $ bring ! (1 ∷ []) $
             rewrite ! 0 (λ (r : ℕ). ‵ (usize .own r (w-place-of ∷ []))) (e-place-of) refl $
             peeks ! usize (Is usize) (shows 𝓤 H A usize) v-result (w-place-of ∷ []) (λ is-w-place-of.
             land ! (from ! (stop !)) (init ! 62 refl ((uint-lawful 𝓤 H A W w64 .typed) v-result _ is-w-place-of .0)) $
             rewrite ! 62 (λ (u : Val). ‵ (fat fullShare (tyInt w64) l₀ 0 u)) (ap only ((uint-tells w64) v-result _
             is-w-place-of)) refl $
-            drop ! $ drop ! $ returns ! (look ! 60 refl) $ leave ! 60 refl refl $ leave ! 58 refl refl $
-            leave ! 56 refl refl $ leave ! 54 refl refl $ leave ! 52 refl refl $ leave ! 50 refl refl $
-            leave ! 48 refl refl $ leave ! 46 refl refl $ leave ! 44 refl refl $ leave ! 42 refl refl $
-            leave ! 40 refl refl $ leave ! 38 refl refl $ leave ! 36 refl refl $ leave ! 34 refl refl $
-            leave ! 32 refl refl $ leave ! 30 refl refl $ leave ! 28 refl refl $ leave ! 26 refl refl $
-            leave ! 24 refl refl $ leave ! 22 refl refl $ leave ! 20 refl refl $ leave ! 18 refl refl $
-            leave ! 16 refl refl $ leave ! 14 refl refl $ leave ! 12 refl refl $ leave ! 10 refl refl $ free0 ! $
-            move ! (9 ∷ 8 ∷ 4 ∷ 5 ∷ 2 ∷ 3 ∷ 6 ∷ 7 ∷ 0 ∷ 1 ∷ []) $
+            discard ! (0 ∷ []) $ parts W ([]) _ $ returns ! (look ! 60 refl) $ leave ! 60 refl refl $
+            leave ! 58 refl refl $ leave ! 56 refl refl $ leave ! 54 refl refl $ leave ! 52 refl refl $
+            leave ! 50 refl refl $ leave ! 48 refl refl $ leave ! 46 refl refl $ leave ! 44 refl refl $
+            leave ! 42 refl refl $ leave ! 40 refl refl $ leave ! 38 refl refl $ leave ! 36 refl refl $
+            leave ! 34 refl refl $ leave ! 32 refl refl $ leave ! 30 refl refl $ leave ! 28 refl refl $
+            leave ! 26 refl refl $ leave ! 24 refl refl $ leave ! 22 refl refl $ leave ! 20 refl refl $
+            leave ! 18 refl refl $ leave ! 16 refl refl $ leave ! 14 refl refl $ leave ! 12 refl refl $
+            leave ! 10 refl refl $ free0 ! $ bring ! (9 ∷ 8 ∷ 4 ∷ 4 ∷ 2 ∷ 2 ∷ 2 ∷ 2 ∷ 0 ∷ 0 ∷ []) $
             by ! (exits (spelled-v-result w-place-of is-w-place-of) (ap {B = ℕ} length (sym (e-load .1)) ∙ h-load-x-map)
             (ap {B = ℕ} length (sym (e-load .2)) ∙ h-load-x-catalogue) (ap {B = ℕ} length (sym (e-load .3)) ∙ h-load-x-scratch)
             ((ap {B = ℕ} length (sym (e-write-sheets .1)) ∙ h-write-sheets-x-text) ∙ (ap {B = ℕ} length (sym (e-begin .1))

@@ -27,8 +27,8 @@ use base.Fml.{Lft, Share, GName, ftrue, flft, fat}
 use prog.Wp.{Heap, WpFn, Tables}
 use ghost.Atoms.{Atoms}
 use contract.Monad.{fact}
-use types.Kit.{Given, ‵, raw, some, later, _⊛_, ⋆, _$_, _∵_, !, qed, by, move, drop, use1, use2, use3, split, join, pick}
-use types.Kit.{rewrite, fsplit, fjoin, feqL, suffices, frame, await, done}
+use types.Kit.{Given, ‵, raw, some, later, _⊛_, ⋆, _$_, _∵_, !, qed, by, use1, use2, use3, group, split, join, pick, rewrite}
+use types.Kit.{fsplit, fjoin, feqL, suffices, frame, await, done}
 use types.Run.{look, init, stop, hop, fld, from, load, addr, and-then, no-more, of-opd, assigns, land, returns, enter, alloc1}
 use types.Run.{alloc0, params1, pass1, pass0, free0}
 use types.Part.{agg, whole, sub, look-in}
@@ -56,7 +56,7 @@ use denote.Exit.{yes}
 use Rattle.catalogue.proofs.Values.{Value, denotes, rowOf, mirOf, valsOf}
 use Rattle.catalogue.specs.declared.Entry.{Entry}
 use Rattle.catalogue.proofs.Entry as Entry′
-use Rattle.catalogue.proofs.Steps.{leave}
+use Rattle.catalogue.proofs.Steps.{bring, discard, parts, fparts, leave}
 use Rattle.catalogue.proofs.Lending.{LentAgain, lends-again, comes-back, LentOut, lends-out, comes-home}
 
 module _ (Tally Cursor : Value) where
@@ -555,8 +555,8 @@ module _ (Tally Cursor : Value) where
             (s-x-catalogue ∷ [])) ∷ [])) ((count-contract count-out 𝓤 H A) .pre (to-count))
         goes-count =
             qed W (‵ (flft κ₁ q₁) ∷ ‵ (ShrSlice (named 0) κ₁ Entry′.the-row .own x-catalogue (s-x-catalogue ∷ [])) ∷ []) ∵
-            nothing ! $ move ! (1 ∷ 0 ∷ []) $ join ! $ nothing ! $ move ! (2 ∷ 0 ∷ []) $ fjoin ! $ move ! (1 ∷ 0 ∷ []) $
-            join ! $ frame ! $ done !
+            nothing ! $ bring ! (1 ∷ 0 ∷ []) $ group ! 2 $ nothing ! $ bring ! (2 ∷ 0 ∷ []) $ fjoin ! $
+            bring ! (1 ∷ 0 ∷ []) $ join ! $ frame ! $ done !
 
         -- ---- the caller has what `begin` asks
         abbrev begin-args : (δ₀-begin : GName) → ℕ × (ℕ × (RefT (List ℕ) × (ℕ × (RefT (List ℕ) × Unit {0}))))
@@ -581,10 +581,10 @@ module _ (Tally Cursor : Value) where
         goes-begin ν₀-begin δ₀-begin is-v-count =
             qed W (‵ (flft κ₀ q₀) ∷ ‵ (flft (ν₀-begin ∷ []) fullShare) ∷ ‵ (ShrSlice (named 0) κ₀ u64 .own x-map (s-x-map ∷ []))
             ∷ ‵ (ShrSlice (named 1) (ν₀-begin ∷ []) u64 .own (at-x-scratch δ₀-begin (now x-scratch)) (s-x-scratch ∷ [])) ∷ []) ∵
-            nothing ! $ move ! (2 ∷ 0 ∷ []) $ join ! $ move ! (1 ∷ 0 ∷ []) $ join ! $ nothing ! $ move ! (3 ∷ 0 ∷ []) $
-            fjoin ! $ owned ! usize (Is usize) (uint-makes 𝓤 H A W w64) v-count _ is-v-count $ fjoin ! $
-            move ! (2 ∷ 0 ∷ []) $ fjoin ! $ owned ! u32 (Is u32) (uint-makes 𝓤 H A W w32) x-free _ is-x-free $ fjoin ! $
-            owned ! u32 (Is u32) (uint-makes 𝓤 H A W w32) x-n _ is-x-n $ fjoin ! $ move ! (1 ∷ 0 ∷ []) $ join ! $
+            nothing ! $ bring ! (1 ∷ 1 ∷ 0 ∷ []) $ group ! 3 $ nothing ! $ bring ! (3 ∷ 0 ∷ []) $ fjoin ! $
+            owned ! usize (Is usize) (uint-makes 𝓤 H A W w64) v-count _ is-v-count $ fjoin ! $ bring ! (2 ∷ 0 ∷ []) $
+            fjoin ! $ owned ! u32 (Is u32) (uint-makes 𝓤 H A W w32) x-free _ is-x-free $ fjoin ! $
+            owned ! u32 (Is u32) (uint-makes 𝓤 H A W w32) x-n _ is-x-n $ fjoin ! $ bring ! (1 ∷ 0 ∷ []) $ join ! $
             frame ! $ done !
 
         -- ---- the caller has what `test-sound` asks
@@ -617,10 +617,10 @@ module _ (Tally Cursor : Value) where
             ∷ ‵ (ShrSlice (named 0) κ₀ u64 .own x-map (s-x-map ∷ [])) ∷ ‵ (ShrSlice (named 1) κ₁ Entry′.the-row .own x-catalogue
             (s-x-catalogue ∷ [])) ∷ ‵ (MutSlice (named 2) (ν₀-test-sound ∷ []) u64 .own
             (at-x-scratch δ₀-test-sound (now x-scratch)) (s-x-scratch ∷ [])) ∷ []) ∵
-            nothing ! $ move ! (3 ∷ 0 ∷ []) $ join ! $ move ! (2 ∷ 0 ∷ []) $ join ! $ move ! (1 ∷ 0 ∷ []) $ join ! $
-            nothing ! $ owned ! (rowOf Tally) (Is (rowOf Tally)) (Tally .makes 𝓤 H A) v-start _ is-v-start $ fjoin ! $
-            owned ! u32 (Is u32) (uint-makes 𝓤 H A W w32) x-n _ is-x-n $ fjoin ! $ move ! (4 ∷ 0 ∷ []) $ fjoin ! $
-            move ! (3 ∷ 0 ∷ []) $ fjoin ! $ move ! (2 ∷ 0 ∷ []) $ fjoin ! $ move ! (1 ∷ 0 ∷ []) $ join ! $ frame ! $
+            nothing ! $ bring ! (1 ∷ 1 ∷ 1 ∷ 0 ∷ []) $ group ! 4 $ nothing ! $
+            owned ! (rowOf Tally) (Is (rowOf Tally)) (Tally .makes 𝓤 H A) v-start _ is-v-start $ fjoin ! $
+            owned ! u32 (Is u32) (uint-makes 𝓤 H A W w32) x-n _ is-x-n $ fjoin ! $ bring ! (4 ∷ 0 ∷ []) $ fjoin ! $
+            bring ! (3 ∷ 0 ∷ []) $ fjoin ! $ bring ! (2 ∷ 0 ∷ []) $ fjoin ! $ bring ! (1 ∷ 0 ∷ []) $ join ! $ frame ! $
             done !
 
         -- ---- the caller has what `verdict` asks
@@ -665,12 +665,11 @@ module _ (Tally Cursor : Value) where
             ∷ ‵ (ShrSlice (named 0) κ₀ u64 .own x-map (s-x-map ∷ [])) ∷ ‵ (ShrSlice (named 1) (ν₀-verdict ∷ []) u64 .own
             (at-x-scratch δ₀-verdict z-test-sound-x-scratch) (s-x-scratch ∷ [])) ∷ ‵ (ShrSlice (named 2) (ν₁-verdict ∷ [])
             u8 .own (at-x-image δ₁-verdict (now x-image)) (s-x-image ∷ [])) ∷ []) ∵
-            nothing ! $ move ! (3 ∷ 0 ∷ []) $ join ! $ move ! (2 ∷ 0 ∷ []) $ join ! $ move ! (1 ∷ 0 ∷ []) $ join ! $
-            nothing ! $ move ! (4 ∷ 0 ∷ []) $ fjoin ! $ move ! (3 ∷ 0 ∷ []) $ fjoin ! $
-            owned ! Boolean (Is Boolean) (bool-makes 𝓤 H A W) v-sound _ is-v-sound $ fjoin ! $
-            owned ! usize (Is usize) (uint-makes 𝓤 H A W w64) v-count _ is-v-count $ fjoin ! $ move ! (2 ∷ 0 ∷ []) $
-            fjoin ! $ owned ! u32 (Is u32) (uint-makes 𝓤 H A W w32) x-free _ is-x-free $ fjoin ! $
-            owned ! u32 (Is u32) (uint-makes 𝓤 H A W w32) x-n _ is-x-n $ fjoin ! $ move ! (1 ∷ 0 ∷ []) $ join ! $
+            nothing ! $ bring ! (1 ∷ 1 ∷ 1 ∷ 0 ∷ []) $ group ! 4 $ nothing ! $ bring ! (4 ∷ 0 ∷ []) $ fjoin ! $
+            bring ! (3 ∷ 0 ∷ []) $ fjoin ! $ owned ! Boolean (Is Boolean) (bool-makes 𝓤 H A W) v-sound _ is-v-sound $
+            fjoin ! $ owned ! usize (Is usize) (uint-makes 𝓤 H A W w64) v-count _ is-v-count $ fjoin ! $
+            bring ! (2 ∷ 0 ∷ []) $ fjoin ! $ owned ! u32 (Is u32) (uint-makes 𝓤 H A W w32) x-free _ is-x-free $ fjoin ! $
+            owned ! u32 (Is u32) (uint-makes 𝓤 H A W w32) x-n _ is-x-n $ fjoin ! $ bring ! (1 ∷ 0 ∷ []) $ join ! $
             frame ! $ done !
 
         -- ---- the caller has what `write-head` asks
@@ -698,11 +697,11 @@ module _ (Tally Cursor : Value) where
         goes-write-head ν₀-write-head δ₀-write-head is-v-count is-v-number =
             qed W (‵ (flft (ν₀-write-head ∷ []) fullShare) ∷ ‵ (MutSlice (named 0) (ν₀-write-head ∷ []) u8 .own
             (at-x-image δ₀-write-head (now x-image)) (s-x-image ∷ [])) ∷ []) ∵
-            nothing ! $ move ! (1 ∷ 0 ∷ []) $ join ! $ nothing ! $ move ! (2 ∷ 0 ∷ []) $ fjoin ! $
+            nothing ! $ bring ! (1 ∷ 0 ∷ []) $ group ! 2 $ nothing ! $ bring ! (2 ∷ 0 ∷ []) $ fjoin ! $
             owned ! u32 (Is u32) (uint-makes 𝓤 H A W w32) v-number _ is-v-number $ fjoin ! $
             owned ! usize (Is usize) (uint-makes 𝓤 H A W w64) v-count _ is-v-count $ fjoin ! $
             owned ! u32 (Is u32) (uint-makes 𝓤 H A W w32) x-free _ is-x-free $ fjoin ! $
-            owned ! u32 (Is u32) (uint-makes 𝓤 H A W w32) x-n _ is-x-n $ fjoin ! $ move ! (1 ∷ 0 ∷ []) $ join ! $
+            owned ! u32 (Is u32) (uint-makes 𝓤 H A W w32) x-n _ is-x-n $ fjoin ! $ bring ! (1 ∷ 0 ∷ []) $ join ! $
             frame ! $ done !
 
         -- ---- the caller has what `write-entries` asks
@@ -733,9 +732,9 @@ module _ (Tally Cursor : Value) where
             qed W (‵ (flft κ₁ q₁) ∷ ‵ (flft (ν₀-write-entries ∷ []) fullShare) ∷ ‵ (ShrSlice (named 0) κ₁ Entry′.the-row .own
             x-catalogue (s-x-catalogue ∷ [])) ∷ ‵ (MutSlice (named 1) (ν₀-write-entries ∷ []) u8 .own
             (at-x-image δ₀-write-entries z-write-head-x-image) (s-x-image ∷ [])) ∷ []) ∵
-            nothing ! $ move ! (2 ∷ 0 ∷ []) $ join ! $ move ! (1 ∷ 0 ∷ []) $ join ! $ nothing ! $ move ! (3 ∷ 0 ∷ []) $
-            fjoin ! $ owned ! (rowOf Cursor) (Is (rowOf Cursor)) (Cursor .makes 𝓤 H A) v-first _ is-v-first $ fjoin ! $
-            move ! (2 ∷ 0 ∷ []) $ fjoin ! $ move ! (1 ∷ 0 ∷ []) $ join ! $ frame ! $ done !
+            nothing ! $ bring ! (1 ∷ 1 ∷ 0 ∷ []) $ group ! 3 $ nothing ! $ bring ! (3 ∷ 0 ∷ []) $ fjoin ! $
+            owned ! (rowOf Cursor) (Is (rowOf Cursor)) (Cursor .makes 𝓤 H A) v-first _ is-v-first $ fjoin ! $
+            bring ! (2 ∷ 0 ∷ []) $ fjoin ! $ bring ! (1 ∷ 0 ∷ []) $ join ! $ frame ! $ done !
 
         -- ---- the caller has what `write-rest` asks
         abbrev write-rest-args : (δ₀-write-rest : GName) → RefT (List ℕ) × ((denotes Cursor) × (RefT (List ℕ) × Unit {0}))
@@ -763,9 +762,9 @@ module _ (Tally Cursor : Value) where
             qed W (‵ (flft κ₀ q₀) ∷ ‵ (flft (ν₀-write-rest ∷ []) fullShare) ∷ ‵ (ShrSlice (named 0) κ₀ u64 .own x-map
             (s-x-map ∷ [])) ∷ ‵ (MutSlice (named 1) (ν₀-write-rest ∷ []) u8 .own (at-x-image δ₀-write-rest
             z-write-entries-x-image) (s-x-image ∷ [])) ∷ []) ∵
-            nothing ! $ move ! (2 ∷ 0 ∷ []) $ join ! $ move ! (1 ∷ 0 ∷ []) $ join ! $ nothing ! $ move ! (3 ∷ 0 ∷ []) $
-            fjoin ! $ owned ! (rowOf Cursor) (Is (rowOf Cursor)) (Cursor .makes 𝓤 H A) v-last _ is-v-last $ fjoin ! $
-            move ! (2 ∷ 0 ∷ []) $ fjoin ! $ move ! (1 ∷ 0 ∷ []) $ join ! $ frame ! $ done !
+            nothing ! $ bring ! (1 ∷ 1 ∷ 0 ∷ []) $ group ! 3 $ nothing ! $ bring ! (3 ∷ 0 ∷ []) $ fjoin ! $
+            owned ! (rowOf Cursor) (Is (rowOf Cursor)) (Cursor .makes 𝓤 H A) v-last _ is-v-last $ fjoin ! $
+            bring ! (2 ∷ 0 ∷ []) $ fjoin ! $ bring ! (1 ∷ 0 ∷ []) $ join ! $ frame ! $ done !
 
         -- ---- the exit
         exits : Is u32 v-number (m-v-number ∷ []) → length z-test-sound-x-scratch ≡ length (now x-scratch)
@@ -784,12 +783,11 @@ module _ (Tally Cursor : Value) where
             (tt, (tt, (tt, (tt, (z-test-sound-x-scratch, (z-write-rest-x-image, tt))))))
             (tt, (tt, (tt, (tt, (l-x-scratch, (l-x-image, tt))))))) $
             says ! (law x-n x-free (now x-map) (now x-catalogue) (now x-scratch) (now x-image)) $ nothing ! $
-            move ! (8 ∷ 0 ∷ []) $ join ! $ move ! (6 ∷ 0 ∷ []) $ join ! $ move ! (4 ∷ 0 ∷ []) $ join ! $
-            move ! (2 ∷ 0 ∷ []) $ join ! $ frame ! $ nothing ! $ move ! (4 ∷ 0 ∷ []) $ fjoin ! $ move ! (3 ∷ 0 ∷ []) $
-            fjoin ! $ move ! (2 ∷ 0 ∷ []) $ fjoin ! $ move ! (1 ∷ 0 ∷ []) $ fjoin ! $
+            bring ! (2 ∷ 3 ∷ 4 ∷ 5 ∷ 0 ∷ []) $ group ! 5 $ frame ! $ nothing ! $ bring ! (4 ∷ 0 ∷ []) $ fjoin ! $
+            bring ! (3 ∷ 0 ∷ []) $ fjoin ! $ bring ! (2 ∷ 0 ∷ []) $ fjoin ! $ bring ! (1 ∷ 0 ∷ []) $ fjoin ! $
             owned ! u32 (Is u32) (uint-makes 𝓤 H A W w32) x-free _ is-x-free $ fjoin ! $
             owned ! u32 (Is u32) (uint-makes 𝓤 H A W w32) x-n _ is-x-n $ fjoin ! $
-            owned ! u32 (Is u32) (uint-makes 𝓤 H A W w32) v-number _ is $ move ! (1 ∷ 0 ∷ []) $ done !
+            owned ! u32 (Is u32) (uint-makes 𝓤 H A W w32) v-number _ is $ bring ! (1 ∷ 0 ∷ []) $ done !
 
         -- ---- the walk
         walk : (𝓣 : Tables 𝓤 H) → Triple 𝓤 (𝓣 .C #count) (count-contract count-out 𝓤 H A)
@@ -816,50 +814,47 @@ module _ (Tally Cursor : Value) where
             pass1 ! (init ! 48 refl (tt, (tt, (record { fits = room-x-map .0 }, tt)))) $
             pass1 ! (init ! 46 refl (tt, (tt, (record { fits = room-x-catalogue .0 }, tt)))) $
             pass1 ! (init ! 44 refl (tt, (tt, (record { fits = room-x-scratch .0 }, tt)))) $
-            pass1 ! (init ! 42 refl (tt, (tt, (record { fits = room-x-image .0 }, tt)))) $ pass0 ! $ move ! (56 ∷ []) $
-            split ! $ move ! (1 ∷ []) $ split ! $ move ! (1 ∷ []) $ split ! $ move ! (1 ∷ []) $ split ! $
-            move ! (1 ∷ []) $ drop ! $ move ! (60 ∷ []) $ fsplit ! $ move ! (1 ∷ []) $ fsplit ! $ move ! (1 ∷ []) $
-            fsplit ! $ move ! (1 ∷ []) $ fsplit ! $ move ! (1 ∷ []) $ fsplit ! $ move ! (1 ∷ []) $ fsplit ! $
-            move ! (1 ∷ []) $ drop ! $ move ! (5 ∷ []) $ drop ! $ move ! (4 ∷ []) $ drop ! $
+            pass1 ! (init ! 42 refl (tt, (tt, (record { fits = room-x-image .0 }, tt)))) $ pass0 ! $ bring ! (56 ∷ []) $
+            parts W (_ ∷ _ ∷ _ ∷ _ ∷ []) _ $ bring ! (60 ∷ []) $ fparts W (_ ∷ _ ∷ _ ∷ _ ∷ _ ∷ _ ∷ []) _ $
+            discard ! (0 ∷ 0 ∷ []) $
             -- count
-            move ! (2 ∷ []) $
+            bring ! (1 ∷ []) $
             use1 W (‵ (ShrSlice (named 1) κ₁ Entry′.the-row .own x-catalogue (s-x-catalogue ∷ []))
             ⊛ ‵ (ShrSlice (named 1) κ₁ Entry′.the-row .own x-catalogue (s-x-catalogue ∷ [])))
             (shr-slice-copy 𝓤 H A W (named 1) κ₁ Entry′.the-row .twice x-catalogue (s-x-catalogue ∷ [])) $
-            split ! $ move ! (7 ∷ 0 ∷ []) $ join ! $
+            split ! $ bring ! (6 ∷ 0 ∷ []) $ group ! 2 $
             use1 W (raw ((count-contract count-out 𝓤 H A) .pre (to-count))) (goes-count) $
             calls-at ! (fmOf 𝓤 H (W .laws) 𝓣) (count-contract count-out 𝓤 H A) known-count (to-count)
             (and-then ! (load ! (from ! (stop !)) (look ! 54 refl)) (no-more !)) (λ w-count.
             use1 W (later (some (λ (r : ℕ). ((‵ (flft κ₁ q₁) ⊛ ‵ ftrue) ⊛ ‵ (usize .own r (w-count ∷ [])))
             ⊛ raw (ensured 𝓤 H A count-ended (count-clauses count-out 𝓤) (κ₁, tt) (count-args) tt r)))) (id⊢ 𝓤 _) $
-            await ! tt $ pick ! (λ r-count. split ! $ move ! (1 ∷ []) $
+            await ! tt $ pick ! (λ r-count. split ! $ bring ! (1 ∷ []) $
             use1 W (some (λ (zs-count : Unit {0} × Unit {0}). ‵ (lasts count-ended (κ₁, tt) (count-args) zs-count)
             ⊛ raw (fact 𝓤 (count-says count-out (now x-catalogue) r-count)))) (id⊢ 𝓤 _) $
-            pick ! (λ zs-count. split ! $ move ! (1 ∷ []) $
-            heard ! (count-says count-out (now x-catalogue) r-count) (λ e-count. fsplit ! $ move ! (1 ∷ []) $ drop ! $
-            drop ! $ split ! $ move ! (1 ∷ []) $
+            pick ! (λ zs-count. split ! $ bring ! (1 ∷ []) $
+            heard ! (count-says count-out (now x-catalogue) r-count) (λ e-count. fparts W (_ ∷ []) _ $
+            discard ! (0 ∷ []) $ split ! $ bring ! (1 ∷ []) $
             rewrite ! 0 (λ (r : ℕ). ‵ (usize .own r (w-count ∷ []))) (e-count) refl $
             peeks ! usize (Is usize) (shows 𝓤 H A usize) v-count (w-count ∷ []) (λ is-w-count.
             land ! (from ! (stop !)) (init ! 49 refl ((uint-lawful 𝓤 H A W w64 .typed) v-count _ is-w-count .0)) $
             rewrite ! 49 (λ (u : Val). ‵ (fat fullShare (tyInt w64) l₇ 0 u)) (ap only ((uint-tells w64) v-count _ is-w-count))
             refl $
-            drop ! $ split ! $ move ! (1 ∷ []) $ drop ! $
+            discard ! (0 ∷ []) $ parts W (_ ∷ []) _ $
             -- begin
             assigns ! (addr ! (from ! (fld ! refl (hop ! (look-in ! 52 (sub ! 0 refl (whole !))) (stop !))))) (from ! (stop !))
             (init ! 36 refl (tt, tt)) $
             assigns ! (agg ! (and-then ! (load ! (from ! (stop !)) (look ! 36 refl)) (and-then !
             (load ! (from ! (fld ! refl (stop !))) (look-in ! 52 (sub ! 1 refl (whole !)))) (no-more !)))) (from ! (stop !))
             (init ! 34 refl (tt, (tt, (record { fits = room-x-scratch .0 }, tt)))) $
-            move ! (4 ∷ []) $
+            bring ! (2 ∷ []) $
             use1 W (‵ (ShrSlice (named 0) κ₀ u64 .own x-map (s-x-map ∷ [])) ⊛ ‵ (ShrSlice (named 0) κ₀ u64 .own x-map
             (s-x-map ∷ []))) (shr-slice-copy 𝓤 H A W (named 0) κ₀ u64 .twice x-map (s-x-map ∷ [])) $
-            split ! $ lft-new ! tt (λ ν₀-begin. move ! (6 ∷ 8 ∷ []) $
+            split ! $ lft-new ! tt (λ ν₀-begin. bring ! (5 ∷ 7 ∷ []) $
             use2 W (later (some (λ (δ : GName). ‵ (ShrSlice (named 1) (ν₀-begin ∷ []) u64 .own (at-x-scratch δ (now x-scratch))
             (s-x-scratch ∷ [])) ⊛ ‵ (LentOut u64 κ₂ (ν₀-begin ∷ []) q₂ (x-scratch .name) (x-scratch .ptr .0) (x-scratch .ptr .1)
             (now x-scratch))))) (lends-out u64 κ₂ (ν₀-begin ∷ []) q₂ (x-scratch .name) (x-scratch .ptr .0) (x-scratch .ptr .1) 𝓤
             H A W (named 2) (named 1) (now x-scratch) (length (now x-scratch)) refl) $
-            await ! tt $ pick ! (λ δ₀-begin. split ! $ move ! (9 ∷ 2 ∷ 3 ∷ 0 ∷ []) $ move ! (2 ∷ 3 ∷ []) $ join ! $
-            move ! (2 ∷ 0 ∷ []) $ join ! $ move ! (1 ∷ 0 ∷ []) $ join ! $
+            await ! tt $ pick ! (λ δ₀-begin. split ! $ bring ! (8 ∷ 2 ∷ 2 ∷ 0 ∷ []) $ group ! 4 $
             use1 W (raw ((begin-contract begin-out 𝓤 H A) .pre (to-begin ν₀-begin δ₀-begin)))
             (goes-begin ν₀-begin δ₀-begin (spelled-v-count w-count is-w-count)) $
             calls-at ! (fmOf 𝓤 H (W .laws) 𝓣) (begin-contract begin-out 𝓤 H A) known-begin (to-begin ν₀-begin δ₀-begin)
@@ -869,22 +864,19 @@ module _ (Tally Cursor : Value) where
             use1 W (later (some (λ (r : (denotes Tally)). ((‵ (flft κ₀ q₀) ⊛ ‵ (flft (ν₀-begin ∷ []) fullShare) ⊛ ‵ ftrue)
             ⊛ ‵ ((rowOf Tally) .own r (w-begin ∷ []))) ⊛ raw (ensured 𝓤 H A begin-ended (begin-clauses begin-out 𝓤)
             (κ₀, (ν₀-begin ∷ [], tt)) (begin-args δ₀-begin) tt r)))) (id⊢ 𝓤 _) $
-            await ! tt $ pick ! (λ r-begin. split ! $ move ! (1 ∷ []) $
+            await ! tt $ pick ! (λ r-begin. split ! $ bring ! (1 ∷ []) $
             use1 W (some (λ (zs-begin : Unit {0} × (Unit {0} × (Unit {0} × (Unit {0} × (Unit {0} × Unit {0}))))). ‵
             (lasts begin-ended (κ₀, (ν₀-begin ∷ [], tt)) (begin-args δ₀-begin) zs-begin)
             ⊛ raw (fact 𝓤 (begin-says begin-out x-n x-free (now x-map) v-count (now x-scratch) r-begin)))) (id⊢ 𝓤 _) $
-            pick ! (λ zs-begin. split ! $ move ! (1 ∷ []) $
-            heard ! (begin-says begin-out x-n x-free (now x-map) v-count (now x-scratch) r-begin) (λ e-begin. fsplit ! $
-            move ! (1 ∷ []) $ fsplit ! $ move ! (1 ∷ []) $ fsplit ! $ move ! (1 ∷ []) $ fsplit ! $ move ! (1 ∷ []) $
-            fsplit ! $ move ! (1 ∷ []) $ drop ! $ move ! (4 ∷ []) $ drop ! $ move ! (3 ∷ []) $ drop ! $ move ! (2 ∷ []) $
-            drop ! $ move ! (1 ∷ []) $ drop ! $ drop ! $ split ! $ move ! (1 ∷ []) $
+            pick ! (λ zs-begin. split ! $ bring ! (1 ∷ []) $
+            heard ! (begin-says begin-out x-n x-free (now x-map) v-count (now x-scratch) r-begin) (λ e-begin.
+            fparts W (_ ∷ _ ∷ _ ∷ _ ∷ _ ∷ []) _ $ discard ! (0 ∷ 0 ∷ 0 ∷ 0 ∷ 0 ∷ []) $ split ! $ bring ! (1 ∷ []) $
             rewrite ! 0 (λ (r : (denotes Tally)). ‵ ((rowOf Tally) .own r (w-begin ∷ []))) (e-begin) refl $
             peeks ! (rowOf Tally) (Is (rowOf Tally)) (shows 𝓤 H A (rowOf Tally)) v-start (w-begin ∷ []) (λ is-w-begin.
             land ! (from ! (stop !)) (init ! 46 refl ((Tally .typed 𝓤 H A W) v-start _ is-w-begin .0)) $
             rewrite ! 46 (λ (u : Val). ‵ (fat fullShare (mirOf Tally) l₈ 0 u)) (ap only ((Tally .tells) v-start _ is-w-begin))
             refl $
-            drop ! $ split ! $ move ! (1 ∷ []) $ split ! $ move ! (1 ∷ []) $ drop ! $ lft-end ! tt $
-            move ! (0 ∷ 2 ∷ []) $
+            discard ! (0 ∷ []) $ parts W (_ ∷ _ ∷ []) _ $ bring ! (1 ∷ []) $ lft-end ! tt $ bring ! (0 ∷ 1 ∷ []) $
             use2 W (later (‵ (MutSlice (named 2) κ₂ u64 .own (at-x-scratch (x-scratch .name) (now x-scratch))
             (s-x-scratch ∷ [])) ⊛ ‵ (flft κ₂ q₂))) (comes-home u64 κ₂ (ν₀-begin ∷ []) q₂ (x-scratch .name) (x-scratch .ptr .0)
             (x-scratch .ptr .1) 𝓤 H A W (named 2) (named 1) (now x-scratch) (length (now x-scratch)) refl room-x-scratch) $
@@ -895,22 +887,20 @@ module _ (Tally Cursor : Value) where
             assigns ! (agg ! (and-then ! (load ! (from ! (stop !)) (look ! 32 refl)) (and-then !
             (load ! (from ! (fld ! refl (stop !))) (look-in ! 52 (sub ! 1 refl (whole !)))) (no-more !)))) (from ! (stop !))
             (init ! 30 refl (tt, (tt, (record { fits = room-x-scratch .0 }, tt)))) $
-            move ! (3 ∷ []) $
+            bring ! (3 ∷ []) $
             use1 W (‵ (ShrSlice (named 0) κ₀ u64 .own x-map (s-x-map ∷ [])) ⊛ ‵ (ShrSlice (named 0) κ₀ u64 .own x-map
             (s-x-map ∷ []))) (shr-slice-copy 𝓤 H A W (named 0) κ₀ u64 .twice x-map (s-x-map ∷ [])) $
-            split ! $ move ! (6 ∷ []) $
+            split ! $ bring ! (6 ∷ []) $
             use1 W (‵ (ShrSlice (named 1) κ₁ Entry′.the-row .own x-catalogue (s-x-catalogue ∷ []))
             ⊛ ‵ (ShrSlice (named 1) κ₁ Entry′.the-row .own x-catalogue (s-x-catalogue ∷ [])))
             (shr-slice-copy 𝓤 H A W (named 1) κ₁ Entry′.the-row .twice x-catalogue (s-x-catalogue ∷ [])) $
-            split ! $ lft-new ! tt (λ ν₀-test-sound. move ! (5 ∷ 6 ∷ []) $
+            split ! $ lft-new ! tt (λ ν₀-test-sound. bring ! (5 ∷ 5 ∷ []) $
             use2 W (later (some (λ (δ : GName). ‵ (MutSlice (named 2) (ν₀-test-sound ∷ []) u64 .own
             (at-x-scratch δ (now x-scratch)) (s-x-scratch ∷ [])) ⊛ ‵ (LentAgain u64 κ₂ (ν₀-test-sound ∷ []) q₂ (x-scratch .name)
             (x-scratch .ptr .0) (x-scratch .ptr .1) δ (now x-scratch))))) (lends-again u64 κ₂ (ν₀-test-sound ∷ []) q₂
             (x-scratch .name) (x-scratch .ptr .0) (x-scratch .ptr .1) 𝓤 H A W (named 2) (named 2) (now x-scratch)
             (length (now x-scratch)) refl) $
-            await ! tt $ pick ! (λ δ₀-test-sound. split ! $ move ! (7 ∷ 8 ∷ 2 ∷ 5 ∷ 3 ∷ 0 ∷ []) $ move ! (4 ∷ 5 ∷ []) $
-            join ! $ move ! (4 ∷ 0 ∷ []) $ join ! $ move ! (3 ∷ 0 ∷ []) $ join ! $ move ! (2 ∷ 0 ∷ []) $ join ! $
-            move ! (1 ∷ 0 ∷ []) $ join ! $
+            await ! tt $ pick ! (λ δ₀-test-sound. split ! $ bring ! (7 ∷ 7 ∷ 2 ∷ 4 ∷ 2 ∷ 0 ∷ []) $ group ! 6 $
             use1 W (raw ((test-sound-contract test-sound-out test-sound-x-scratch 𝓤 H A) .pre
             (to-test-sound ν₀-test-sound δ₀-test-sound))) (goes-test-sound ν₀-test-sound δ₀-test-sound
             (spelled-v-start w-begin is-w-begin)) $
@@ -923,25 +913,23 @@ module _ (Tally Cursor : Value) where
             ⊛ ‵ ftrue) ⊛ ‵ (Boolean .own r (w-test-sound ∷ []))) ⊛ raw (ensured 𝓤 H A test-sound-ended
             (test-sound-clauses test-sound-out test-sound-x-scratch 𝓤) (κ₀, (κ₁, (ν₀-test-sound ∷ [], tt)))
             (test-sound-args δ₀-test-sound) tt r)))) (id⊢ 𝓤 _) $
-            await ! tt $ pick ! (λ r-test-sound. split ! $ move ! (1 ∷ []) $
+            await ! tt $ pick ! (λ r-test-sound. split ! $ bring ! (1 ∷ []) $
             use1 W (some (λ (zs-test-sound : Unit {0} × (Unit {0} × (List ℕ × (Unit {0} × (Unit {0} × Unit {0}))))). ‵
             (lasts test-sound-ended (κ₀, (κ₁, (ν₀-test-sound ∷ [], tt))) (test-sound-args δ₀-test-sound) zs-test-sound)
             ⊛ raw (fact 𝓤 (test-sound-says test-sound-out test-sound-x-scratch (now x-map) (now x-catalogue) (now x-scratch) x-n
             v-start r-test-sound (zs-test-sound .1 .1 .0))))) (id⊢ 𝓤 _) $
-            pick ! (λ zs-test-sound. split ! $ move ! (1 ∷ []) $
+            pick ! (λ zs-test-sound. split ! $ bring ! (1 ∷ []) $
             heard ! (test-sound-says test-sound-out test-sound-x-scratch (now x-map) (now x-catalogue) (now x-scratch) x-n
             v-start r-test-sound (zs-test-sound .1 .1 .0)) (λ e-test-sound.
-            fsplit ! $ move ! (1 ∷ []) $ fsplit ! $ move ! (1 ∷ []) $ fsplit ! $ move ! (1 ∷ []) $ fsplit ! $
-            move ! (1 ∷ []) $ fsplit ! $ move ! (1 ∷ []) $ drop ! $ move ! (4 ∷ []) $ drop ! $ move ! (3 ∷ []) $ drop ! $
-            move ! (2 ∷ []) $ fsplit ! $ move ! (1 ∷ []) $ feqL ! (λ h-test-sound-x-scratch. move ! (2 ∷ []) $ drop ! $
-            move ! (1 ∷ []) $ drop ! $ move ! (1 ∷ []) $ split ! $ move ! (1 ∷ []) $
+            fparts W (_ ∷ _ ∷ _ ∷ _ ∷ _ ∷ []) _ $ discard ! (0 ∷ 0 ∷ 1 ∷ 1 ∷ []) $ fsplit ! $ bring ! (1 ∷ []) $
+            feqL ! (λ h-test-sound-x-scratch. bring ! (1 ∷ []) $ split ! $ bring ! (1 ∷ []) $
             rewrite ! 0 (λ (r : Bool). ‵ (Boolean .own r (w-test-sound ∷ []))) (e-test-sound .0) refl $
             rewrite ! 2 (λ (l : List ℕ). ‵ (finally u64 δ₀-test-sound l)) (e-test-sound .1) refl $
             peeks ! Boolean (Is Boolean) (shows 𝓤 H A Boolean) v-sound (w-test-sound ∷ []) (λ is-w-test-sound.
             land ! (from ! (stop !)) (init ! 44 refl ((bool-lawful 𝓤 H A W .typed) v-sound _ is-w-test-sound .0)) $
             rewrite ! 44 (λ (u : Val). ‵ (fat fullShare tyBool l₉ 0 u)) (ap only (bool-tells v-sound _ is-w-test-sound)) refl $
-            drop ! $ split ! $ move ! (1 ∷ []) $ split ! $ move ! (1 ∷ []) $ split ! $ move ! (1 ∷ []) $ drop ! $
-            lft-end ! tt $ move ! (0 ∷ 4 ∷ 3 ∷ []) $
+            discard ! (0 ∷ []) $ parts W (_ ∷ _ ∷ _ ∷ []) _ $ bring ! (2 ∷ []) $ lft-end ! tt $
+            bring ! (0 ∷ 3 ∷ 2 ∷ []) $
             use3 W (later (‵ (MutSlice (named 2) κ₂ u64 .own (at-x-scratch (x-scratch .name) z-test-sound-x-scratch)
             (s-x-scratch ∷ [])) ⊛ ‵ (flft κ₂ q₂))) (comes-back u64 κ₂ (ν₀-test-sound ∷ []) q₂ (x-scratch .name)
             (x-scratch .ptr .0) (x-scratch .ptr .1) 𝓤 H A W (named 2) (named 2) (now x-scratch) (length (now x-scratch)) refl
@@ -959,24 +947,22 @@ module _ (Tally Cursor : Value) where
             assigns ! (agg ! (and-then ! (load ! (from ! (stop !)) (look ! 24 refl)) (and-then !
             (load ! (from ! (fld ! refl (stop !))) (look-in ! 50 (sub ! 1 refl (whole !)))) (no-more !)))) (from ! (stop !))
             (init ! 22 refl (tt, (tt, (record { fits = room-x-image .0 }, tt)))) $
-            move ! (5 ∷ []) $
+            bring ! (5 ∷ []) $
             use1 W (‵ (ShrSlice (named 0) κ₀ u64 .own x-map (s-x-map ∷ [])) ⊛ ‵ (ShrSlice (named 0) κ₀ u64 .own x-map
             (s-x-map ∷ []))) (shr-slice-copy 𝓤 H A W (named 0) κ₀ u64 .twice x-map (s-x-map ∷ [])) $
-            split ! $ lft-new ! tt (λ ν₀-verdict. move ! (3 ∷ 4 ∷ []) $
+            split ! $ lft-new ! tt (λ ν₀-verdict. bring ! (3 ∷ 3 ∷ []) $
             use2 W (later (some (λ (δ : GName). ‵ (ShrSlice (named 1) (ν₀-verdict ∷ []) u64 .own
             (at-x-scratch δ z-test-sound-x-scratch) (s-x-scratch ∷ [])) ⊛ ‵ (LentOut u64 κ₂ (ν₀-verdict ∷ []) q₂
             (x-scratch .name) (x-scratch .ptr .0) (x-scratch .ptr .1) z-test-sound-x-scratch))))
             (lends-out u64 κ₂ (ν₀-verdict ∷ []) q₂ (x-scratch .name) (x-scratch .ptr .0) (x-scratch .ptr .1) 𝓤 H A W (named 2)
             (named 1) z-test-sound-x-scratch (length (now x-scratch)) (ap {B = ℕ} length (sym (e-test-sound .1))
             ∙ h-test-sound-x-scratch)) $
-            await ! tt $ pick ! (λ δ₀-verdict. split ! $ lft-new ! tt (λ ν₁-verdict. move ! (9 ∷ 10 ∷ []) $
+            await ! tt $ pick ! (λ δ₀-verdict. split ! $ lft-new ! tt (λ ν₁-verdict. bring ! (9 ∷ 9 ∷ []) $
             use2 W (later (some (λ (δ : GName). ‵ (ShrSlice (named 2) (ν₁-verdict ∷ []) u8 .own (at-x-image δ (now x-image))
             (s-x-image ∷ [])) ⊛ ‵ (LentOut u8 κ₃ (ν₁-verdict ∷ []) q₃ (x-image .name) (x-image .ptr .0) (x-image .ptr .1)
             (now x-image))))) (lends-out u8 κ₃ (ν₁-verdict ∷ []) q₃ (x-image .name) (x-image .ptr .0) (x-image .ptr .1) 𝓤 H A W
             (named 3) (named 2) (now x-image) (length (now x-image)) refl) $
-            await ! tt $ pick ! (λ δ₁-verdict. split ! $ move ! (9 ∷ 5 ∷ 2 ∷ 6 ∷ 3 ∷ 0 ∷ []) $ move ! (4 ∷ 5 ∷ []) $
-            join ! $ move ! (4 ∷ 0 ∷ []) $ join ! $ move ! (3 ∷ 0 ∷ []) $ join ! $ move ! (2 ∷ 0 ∷ []) $ join ! $
-            move ! (1 ∷ 0 ∷ []) $ join ! $
+            await ! tt $ pick ! (λ δ₁-verdict. split ! $ bring ! (8 ∷ 5 ∷ 2 ∷ 4 ∷ 2 ∷ 0 ∷ []) $ group ! 6 $
             use1 W (raw ((verdict-contract verdict-out 𝓤 H A) .pre (to-verdict ν₀-verdict ν₁-verdict δ₀-verdict δ₁-verdict)))
             (goes-verdict ν₀-verdict ν₁-verdict δ₀-verdict δ₁-verdict (spelled-v-count w-count is-w-count)
             (spelled-v-sound w-test-sound is-w-test-sound)) $
@@ -990,31 +976,27 @@ module _ (Tally Cursor : Value) where
             ⊛ ‵ (flft (ν₁-verdict ∷ []) fullShare) ⊛ ‵ ftrue) ⊛ ‵ (u32 .own r (w-verdict ∷ [])))
             ⊛ raw (ensured 𝓤 H A verdict-ended (verdict-clauses verdict-out 𝓤) (κ₀, (ν₀-verdict ∷ [], (ν₁-verdict ∷ [], tt)))
             (verdict-args δ₀-verdict δ₁-verdict) tt r)))) (id⊢ 𝓤 _) $
-            await ! tt $ pick ! (λ r-verdict. split ! $ move ! (1 ∷ []) $
+            await ! tt $ pick ! (λ r-verdict. split ! $ bring ! (1 ∷ []) $
             use1 W (some (λ (zs-verdict : Unit {0} × (Unit {0} × (Unit {0} × (Unit {0}
             × (Unit {0} × (Unit {0} × (Unit {0} × Unit {0}))))))). ‵ (lasts verdict-ended
             (κ₀, (ν₀-verdict ∷ [], (ν₁-verdict ∷ [], tt))) (verdict-args δ₀-verdict δ₁-verdict) zs-verdict)
             ⊛ raw (fact 𝓤 (verdict-says verdict-out x-n x-free (now x-map) v-count v-sound z-test-sound-x-scratch (now x-image)
             r-verdict)))) (id⊢ 𝓤 _) $
-            pick ! (λ zs-verdict. split ! $ move ! (1 ∷ []) $
+            pick ! (λ zs-verdict. split ! $ bring ! (1 ∷ []) $
             heard ! (verdict-says verdict-out x-n x-free (now x-map) v-count v-sound z-test-sound-x-scratch (now x-image)
             r-verdict) (λ e-verdict.
-            fsplit ! $ move ! (1 ∷ []) $ fsplit ! $ move ! (1 ∷ []) $ fsplit ! $ move ! (1 ∷ []) $ fsplit ! $
-            move ! (1 ∷ []) $ fsplit ! $ move ! (1 ∷ []) $ fsplit ! $ move ! (1 ∷ []) $ fsplit ! $ move ! (1 ∷ []) $
-            drop ! $ move ! (6 ∷ []) $ drop ! $ move ! (5 ∷ []) $ drop ! $ move ! (4 ∷ []) $ drop ! $ move ! (3 ∷ []) $
-            drop ! $ move ! (2 ∷ []) $ drop ! $ move ! (1 ∷ []) $ drop ! $ drop ! $ split ! $ move ! (1 ∷ []) $
-            rewrite ! 0 (λ (r : ℕ). ‵ (u32 .own r (w-verdict ∷ []))) (e-verdict) refl $
+            fparts W (_ ∷ _ ∷ _ ∷ _ ∷ _ ∷ _ ∷ _ ∷ []) _ $ discard ! (0 ∷ 0 ∷ 0 ∷ 0 ∷ 0 ∷ 0 ∷ 0 ∷ []) $ split ! $
+            bring ! (1 ∷ []) $ rewrite ! 0 (λ (r : ℕ). ‵ (u32 .own r (w-verdict ∷ []))) (e-verdict) refl $
             peeks ! u32 (Is u32) (shows 𝓤 H A u32) v-number (w-verdict ∷ []) (λ is-w-verdict.
             land ! (from ! (stop !)) (init ! 41 refl ((uint-lawful 𝓤 H A W w32 .typed) v-number _ is-w-verdict .0)) $
             rewrite ! 41 (λ (u : Val). ‵ (fat fullShare (tyInt w32) l₁₀ 0 u)) (ap only
             ((uint-tells w32) v-number _ is-w-verdict)) refl $
-            drop ! $ split ! $ move ! (1 ∷ []) $ split ! $ move ! (1 ∷ []) $ split ! $ move ! (1 ∷ []) $ drop ! $
-            move ! (1 ∷ []) $ lft-end ! tt $ move ! (0 ∷ 4 ∷ []) $
+            discard ! (0 ∷ []) $ parts W (_ ∷ _ ∷ _ ∷ []) _ $ bring ! (1 ∷ []) $ lft-end ! tt $ bring ! (0 ∷ 3 ∷ []) $
             use2 W (later (‵ (MutSlice (named 2) κ₂ u64 .own (at-x-scratch (x-scratch .name) z-test-sound-x-scratch)
             (s-x-scratch ∷ [])) ⊛ ‵ (flft κ₂ q₂))) (comes-home u64 κ₂ (ν₀-verdict ∷ []) q₂ (x-scratch .name) (x-scratch .ptr .0)
             (x-scratch .ptr .1) 𝓤 H A W (named 2) (named 1) z-test-sound-x-scratch (length (now x-scratch))
             (ap {B = ℕ} length (sym (e-test-sound .1)) ∙ h-test-sound-x-scratch) room-x-scratch) $
-            await ! tt $ split ! $ move ! (2 ∷ []) $ lft-end ! tt $ move ! (0 ∷ 4 ∷ []) $
+            await ! tt $ split ! $ bring ! (3 ∷ []) $ lft-end ! tt $ bring ! (0 ∷ 3 ∷ []) $
             use2 W (later (‵ (MutSlice (named 3) κ₃ u8 .own (at-x-image (x-image .name) (now x-image)) (s-x-image ∷ []))
             ⊛ ‵ (flft κ₃ q₃))) (comes-home u8 κ₃ (ν₁-verdict ∷ []) q₃ (x-image .name) (x-image .ptr .0) (x-image .ptr .1) 𝓤 H A
             W (named 3) (named 2) (now x-image) (length (now x-image)) refl room-x-image) $
@@ -1025,12 +1007,12 @@ module _ (Tally Cursor : Value) where
             assigns ! (agg ! (and-then ! (load ! (from ! (stop !)) (look ! 20 refl)) (and-then !
             (load ! (from ! (fld ! refl (stop !))) (look-in ! 50 (sub ! 1 refl (whole !)))) (no-more !)))) (from ! (stop !))
             (init ! 18 refl (tt, (tt, (record { fits = room-x-image .0 }, tt)))) $
-            lft-new ! tt (λ ν₀-write-head. move ! (1 ∷ 2 ∷ []) $
+            lft-new ! tt (λ ν₀-write-head. bring ! (1 ∷ 1 ∷ []) $
             use2 W (later (some (λ (δ : GName). ‵ (MutSlice (named 0) (ν₀-write-head ∷ []) u8 .own (at-x-image δ (now x-image))
             (s-x-image ∷ [])) ⊛ ‵ (LentAgain u8 κ₃ (ν₀-write-head ∷ []) q₃ (x-image .name) (x-image .ptr .0) (x-image .ptr .1) δ
             (now x-image))))) (lends-again u8 κ₃ (ν₀-write-head ∷ []) q₃ (x-image .name) (x-image .ptr .0) (x-image .ptr .1) 𝓤 H
             A W (named 3) (named 0) (now x-image) (length (now x-image)) refl) $
-            await ! tt $ pick ! (λ δ₀-write-head. split ! $ move ! (2 ∷ 0 ∷ []) $ join ! $
+            await ! tt $ pick ! (λ δ₀-write-head. split ! $ bring ! (2 ∷ 0 ∷ []) $ group ! 2 $
             use1 W (raw ((write-head-contract write-head-out write-head-x-image 𝓤 H A) .pre
             (to-write-head ν₀-write-head δ₀-write-head))) (goes-write-head ν₀-write-head δ₀-write-head
             (spelled-v-count w-count is-w-count) (spelled-v-number w-verdict is-w-verdict)) $
@@ -1043,18 +1025,16 @@ module _ (Tally Cursor : Value) where
             ⊛ ‵ ((rowOf Cursor) .own r (w-write-head ∷ []))) ⊛ raw (ensured 𝓤 H A write-head-ended
             (write-head-clauses write-head-out write-head-x-image 𝓤) (ν₀-write-head ∷ [], tt) (write-head-args δ₀-write-head) tt
             r)))) (id⊢ 𝓤 _) $
-            await ! tt $ pick ! (λ r-write-head. split ! $ move ! (1 ∷ []) $
+            await ! tt $ pick ! (λ r-write-head. split ! $ bring ! (1 ∷ []) $
             use1 W (some (λ (zs-write-head : Unit {0} × (Unit {0} × (Unit {0} × (Unit {0} × (List ℕ × Unit {0}))))). ‵
             (lasts write-head-ended (ν₀-write-head ∷ [], tt) (write-head-args δ₀-write-head) zs-write-head)
             ⊛ raw (fact 𝓤 (write-head-says write-head-out write-head-x-image x-n x-free v-count v-number (now x-image)
             r-write-head (zs-write-head .1 .1 .1 .1 .0))))) (id⊢ 𝓤 _) $
-            pick ! (λ zs-write-head. split ! $ move ! (1 ∷ []) $
+            pick ! (λ zs-write-head. split ! $ bring ! (1 ∷ []) $
             heard ! (write-head-says write-head-out write-head-x-image x-n x-free v-count v-number (now x-image) r-write-head
             (zs-write-head .1 .1 .1 .1 .0)) (λ e-write-head.
-            fsplit ! $ move ! (1 ∷ []) $ fsplit ! $ move ! (1 ∷ []) $ fsplit ! $ move ! (1 ∷ []) $ fsplit ! $
-            move ! (1 ∷ []) $ fsplit ! $ move ! (1 ∷ []) $ drop ! $ move ! (4 ∷ []) $ drop ! $ move ! (3 ∷ []) $ drop ! $
-            move ! (2 ∷ []) $ drop ! $ move ! (1 ∷ []) $ drop ! $ fsplit ! $ move ! (1 ∷ []) $
-            feqL ! (λ h-write-head-x-image. move ! (1 ∷ []) $ split ! $ move ! (1 ∷ []) $
+            fparts W (_ ∷ _ ∷ _ ∷ _ ∷ _ ∷ []) _ $ discard ! (0 ∷ 0 ∷ 0 ∷ 0 ∷ []) $ fsplit ! $ bring ! (1 ∷ []) $
+            feqL ! (λ h-write-head-x-image. bring ! (1 ∷ []) $ split ! $ bring ! (1 ∷ []) $
             rewrite ! 0 (λ (r : (denotes Cursor)). ‵ ((rowOf Cursor) .own r (w-write-head ∷ []))) (e-write-head .0) refl $
             rewrite ! 2 (λ (l : List ℕ). ‵ (finally u8 δ₀-write-head l)) (e-write-head .1) refl $
             peeks ! (rowOf Cursor) (Is (rowOf Cursor)) (shows 𝓤 H A (rowOf Cursor)) v-first (w-write-head ∷ [])
@@ -1062,7 +1042,7 @@ module _ (Tally Cursor : Value) where
             land ! (from ! (stop !)) (init ! 42 refl ((Cursor .typed 𝓤 H A W) v-first _ is-w-write-head .0)) $
             rewrite ! 42 (λ (u : Val). ‵ (fat fullShare (mirOf Cursor) l₁₁ 0 u)) (ap only
             ((Cursor .tells) v-first _ is-w-write-head)) refl $
-            drop ! $ split ! $ move ! (1 ∷ []) $ drop ! $ lft-end ! tt $ move ! (0 ∷ 2 ∷ 1 ∷ []) $
+            discard ! (0 ∷ []) $ parts W (_ ∷ []) _ $ lft-end ! tt $ bring ! (0 ∷ 1 ∷ 0 ∷ []) $
             use3 W (later (‵ (MutSlice (named 3) κ₃ u8 .own (at-x-image (x-image .name) z-write-head-x-image) (s-x-image ∷ []))
             ⊛ ‵ (flft κ₃ q₃))) (comes-back u8 κ₃ (ν₀-write-head ∷ []) q₃ (x-image .name) (x-image .ptr .0) (x-image .ptr .1) 𝓤 H
             A W (named 3) (named 0) (now x-image) (length (now x-image)) refl room-x-image δ₀-write-head z-write-head-x-image
@@ -1074,19 +1054,18 @@ module _ (Tally Cursor : Value) where
             assigns ! (agg ! (and-then ! (load ! (from ! (stop !)) (look ! 16 refl)) (and-then !
             (load ! (from ! (fld ! refl (stop !))) (look-in ! 50 (sub ! 1 refl (whole !)))) (no-more !)))) (from ! (stop !))
             (init ! 14 refl (tt, (tt, (record { fits = room-x-image .0 }, tt)))) $
-            move ! (7 ∷ []) $
+            bring ! (7 ∷ []) $
             use1 W (‵ (ShrSlice (named 1) κ₁ Entry′.the-row .own x-catalogue (s-x-catalogue ∷ []))
             ⊛ ‵ (ShrSlice (named 1) κ₁ Entry′.the-row .own x-catalogue (s-x-catalogue ∷ [])))
             (shr-slice-copy 𝓤 H A W (named 1) κ₁ Entry′.the-row .twice x-catalogue (s-x-catalogue ∷ [])) $
-            split ! $ lft-new ! tt (λ ν₀-write-entries. move ! (3 ∷ 4 ∷ []) $
+            split ! $ lft-new ! tt (λ ν₀-write-entries. bring ! (3 ∷ 3 ∷ []) $
             use2 W (later (some (λ (δ : GName). ‵ (MutSlice (named 1) (ν₀-write-entries ∷ []) u8 .own
             (at-x-image δ z-write-head-x-image) (s-x-image ∷ [])) ⊛ ‵ (LentAgain u8 κ₃ (ν₀-write-entries ∷ []) q₃
             (x-image .name) (x-image .ptr .0) (x-image .ptr .1) δ z-write-head-x-image))))
             (lends-again u8 κ₃ (ν₀-write-entries ∷ []) q₃ (x-image .name) (x-image .ptr .0) (x-image .ptr .1) 𝓤 H A W (named 3)
             (named 1) z-write-head-x-image (length (now x-image)) (ap {B = ℕ} length (sym (e-write-head .1))
             ∙ h-write-head-x-image)) $
-            await ! tt $ pick ! (λ δ₀-write-entries. split ! $ move ! (9 ∷ 2 ∷ 3 ∷ 0 ∷ []) $ move ! (2 ∷ 3 ∷ []) $
-            join ! $ move ! (2 ∷ 0 ∷ []) $ join ! $ move ! (1 ∷ 0 ∷ []) $ join ! $
+            await ! tt $ pick ! (λ δ₀-write-entries. split ! $ bring ! (9 ∷ 2 ∷ 2 ∷ 0 ∷ []) $ group ! 4 $
             use1 W (raw ((write-entries-contract write-entries-out write-entries-x-image 𝓤 H A) .pre
             (to-write-entries ν₀-write-entries δ₀-write-entries))) (goes-write-entries ν₀-write-entries δ₀-write-entries
             (spelled-v-first w-write-head is-w-write-head)) $
@@ -1098,17 +1077,16 @@ module _ (Tally Cursor : Value) where
             ⊛ ‵ ftrue) ⊛ ‵ ((rowOf Cursor) .own r (w-write-entries ∷ []))) ⊛ raw (ensured 𝓤 H A write-entries-ended
             (write-entries-clauses write-entries-out write-entries-x-image 𝓤) (κ₁, (ν₀-write-entries ∷ [], tt))
             (write-entries-args δ₀-write-entries) tt r)))) (id⊢ 𝓤 _) $
-            await ! tt $ pick ! (λ r-write-entries. split ! $ move ! (1 ∷ []) $
+            await ! tt $ pick ! (λ r-write-entries. split ! $ bring ! (1 ∷ []) $
             use1 W (some (λ (zs-write-entries : Unit {0} × (Unit {0} × (List ℕ × Unit {0}))). ‵
             (lasts write-entries-ended (κ₁, (ν₀-write-entries ∷ [], tt)) (write-entries-args δ₀-write-entries) zs-write-entries)
             ⊛ raw (fact 𝓤 (write-entries-says write-entries-out write-entries-x-image (now x-catalogue) v-first
             z-write-head-x-image r-write-entries (zs-write-entries .1 .1 .0))))) (id⊢ 𝓤 _) $
-            pick ! (λ zs-write-entries. split ! $ move ! (1 ∷ []) $
+            pick ! (λ zs-write-entries. split ! $ bring ! (1 ∷ []) $
             heard ! (write-entries-says write-entries-out write-entries-x-image (now x-catalogue) v-first z-write-head-x-image
             r-write-entries (zs-write-entries .1 .1 .0)) (λ e-write-entries.
-            fsplit ! $ move ! (1 ∷ []) $ fsplit ! $ move ! (1 ∷ []) $ fsplit ! $ move ! (1 ∷ []) $ drop ! $
-            move ! (2 ∷ []) $ drop ! $ move ! (1 ∷ []) $ drop ! $ fsplit ! $ move ! (1 ∷ []) $
-            feqL ! (λ h-write-entries-x-image. move ! (1 ∷ []) $ split ! $ move ! (1 ∷ []) $
+            fparts W (_ ∷ _ ∷ _ ∷ []) _ $ discard ! (0 ∷ 0 ∷ []) $ fsplit ! $ bring ! (1 ∷ []) $
+            feqL ! (λ h-write-entries-x-image. bring ! (1 ∷ []) $ split ! $ bring ! (1 ∷ []) $
             rewrite ! 0 (λ (r : (denotes Cursor)). ‵ ((rowOf Cursor) .own r (w-write-entries ∷ []))) (e-write-entries .0) refl $
             rewrite ! 2 (λ (l : List ℕ). ‵ (finally u8 δ₀-write-entries l)) (e-write-entries .1) refl $
             peeks ! (rowOf Cursor) (Is (rowOf Cursor)) (shows 𝓤 H A (rowOf Cursor)) v-last (w-write-entries ∷ [])
@@ -1116,8 +1094,7 @@ module _ (Tally Cursor : Value) where
             land ! (from ! (stop !)) (init ! 39 refl ((Cursor .typed 𝓤 H A W) v-last _ is-w-write-entries .0)) $
             rewrite ! 39 (λ (u : Val). ‵ (fat fullShare (mirOf Cursor) l₁₂ 0 u)) (ap only
             ((Cursor .tells) v-last _ is-w-write-entries)) refl $
-            drop ! $ split ! $ move ! (1 ∷ []) $ split ! $ move ! (1 ∷ []) $ drop ! $ lft-end ! tt $
-            move ! (0 ∷ 3 ∷ 2 ∷ []) $
+            discard ! (0 ∷ []) $ parts W (_ ∷ _ ∷ []) _ $ bring ! (1 ∷ []) $ lft-end ! tt $ bring ! (0 ∷ 2 ∷ 1 ∷ []) $
             use3 W (later (‵ (MutSlice (named 3) κ₃ u8 .own (at-x-image (x-image .name) z-write-entries-x-image)
             (s-x-image ∷ [])) ⊛ ‵ (flft κ₃ q₃))) (comes-back u8 κ₃ (ν₀-write-entries ∷ []) q₃ (x-image .name) (x-image .ptr .0)
             (x-image .ptr .1) 𝓤 H A W (named 3) (named 1) z-write-head-x-image (length (now x-image))
@@ -1130,18 +1107,17 @@ module _ (Tally Cursor : Value) where
             assigns ! (agg ! (and-then ! (load ! (from ! (stop !)) (look ! 10 refl)) (and-then !
             (load ! (from ! (fld ! refl (stop !))) (look-in ! 50 (sub ! 1 refl (whole !)))) (no-more !)))) (from ! (stop !))
             (init ! 8 refl (tt, (tt, (record { fits = room-x-image .0 }, tt)))) $
-            move ! (7 ∷ []) $
+            bring ! (7 ∷ []) $
             use1 W (‵ (ShrSlice (named 0) κ₀ u64 .own x-map (s-x-map ∷ [])) ⊛ ‵ (ShrSlice (named 0) κ₀ u64 .own x-map
             (s-x-map ∷ []))) (shr-slice-copy 𝓤 H A W (named 0) κ₀ u64 .twice x-map (s-x-map ∷ [])) $
-            split ! $ lft-new ! tt (λ ν₀-write-rest. move ! (3 ∷ 4 ∷ []) $
+            split ! $ lft-new ! tt (λ ν₀-write-rest. bring ! (3 ∷ 3 ∷ []) $
             use2 W (later (some (λ (δ : GName). ‵ (MutSlice (named 1) (ν₀-write-rest ∷ []) u8 .own
             (at-x-image δ z-write-entries-x-image) (s-x-image ∷ [])) ⊛ ‵ (LentAgain u8 κ₃ (ν₀-write-rest ∷ []) q₃
             (x-image .name) (x-image .ptr .0) (x-image .ptr .1) δ z-write-entries-x-image))))
             (lends-again u8 κ₃ (ν₀-write-rest ∷ []) q₃ (x-image .name) (x-image .ptr .0) (x-image .ptr .1) 𝓤 H A W (named 3)
             (named 1) z-write-entries-x-image (length (now x-image)) ((ap {B = ℕ} length (sym (e-write-entries .1))
             ∙ h-write-entries-x-image) ∙ (ap {B = ℕ} length (sym (e-write-head .1)) ∙ h-write-head-x-image))) $
-            await ! tt $ pick ! (λ δ₀-write-rest. split ! $ move ! (9 ∷ 2 ∷ 3 ∷ 0 ∷ []) $ move ! (2 ∷ 3 ∷ []) $ join ! $
-            move ! (2 ∷ 0 ∷ []) $ join ! $ move ! (1 ∷ 0 ∷ []) $ join ! $
+            await ! tt $ pick ! (λ δ₀-write-rest. split ! $ bring ! (9 ∷ 2 ∷ 2 ∷ 0 ∷ []) $ group ! 4 $
             use1 W (raw ((write-rest-contract write-rest-x-image 𝓤 H A) .pre (to-write-rest ν₀-write-rest δ₀-write-rest)))
             (goes-write-rest ν₀-write-rest δ₀-write-rest (spelled-v-last w-write-entries is-w-write-entries)) $
             calls-at ! (fmOf 𝓤 H (W .laws) 𝓣) (write-rest-contract write-rest-x-image 𝓤 H A) known-write-rest
@@ -1152,24 +1128,22 @@ module _ (Tally Cursor : Value) where
             ⊛ ‵ (Nothing .own r (w-write-rest ∷ []))) ⊛ raw (ensured 𝓤 H A write-rest-ended
             (write-rest-clauses write-rest-x-image 𝓤) (κ₀, (ν₀-write-rest ∷ [], tt)) (write-rest-args δ₀-write-rest) tt r))))
             (id⊢ 𝓤 _) $
-            await ! tt $ pick ! (λ r-write-rest. split ! $ move ! (1 ∷ []) $
+            await ! tt $ pick ! (λ r-write-rest. split ! $ bring ! (1 ∷ []) $
             use1 W (some (λ (zs-write-rest : Unit {0} × (Unit {0} × (List ℕ × Unit {0}))). ‵
             (lasts write-rest-ended (κ₀, (ν₀-write-rest ∷ [], tt)) (write-rest-args δ₀-write-rest) zs-write-rest)
             ⊛ raw (fact 𝓤 (write-rest-says write-rest-x-image (now x-map) v-last z-write-entries-x-image r-write-rest
             (zs-write-rest .1 .1 .0))))) (id⊢ 𝓤 _) $
-            pick ! (λ zs-write-rest. split ! $ move ! (1 ∷ []) $
+            pick ! (λ zs-write-rest. split ! $ bring ! (1 ∷ []) $
             heard ! (write-rest-says write-rest-x-image (now x-map) v-last z-write-entries-x-image r-write-rest
             (zs-write-rest .1 .1 .0)) (λ e-write-rest.
-            fsplit ! $ move ! (1 ∷ []) $ fsplit ! $ move ! (1 ∷ []) $ fsplit ! $ move ! (1 ∷ []) $ drop ! $
-            move ! (2 ∷ []) $ drop ! $ move ! (1 ∷ []) $ drop ! $ fsplit ! $ move ! (1 ∷ []) $
-            feqL ! (λ h-write-rest-x-image. move ! (1 ∷ []) $ split ! $ move ! (1 ∷ []) $
+            fparts W (_ ∷ _ ∷ _ ∷ []) _ $ discard ! (0 ∷ 0 ∷ []) $ fsplit ! $ bring ! (1 ∷ []) $
+            feqL ! (λ h-write-rest-x-image. bring ! (1 ∷ []) $ split ! $ bring ! (1 ∷ []) $
             rewrite ! 2 (λ (l : List ℕ). ‵ (finally u8 δ₀-write-rest l)) (e-write-rest) refl $
             peeks ! Nothing (Is Nothing) (shows 𝓤 H A Nothing) v-write-rest (w-write-rest ∷ []) (λ is-w-write-rest.
             land ! (from ! (stop !)) (init ! 13 refl ((nothing-lawful 𝓤 H A W .typed) v-write-rest _ is-w-write-rest .0)) $
             rewrite ! 13 (λ (u : Val). ‵ (fat fullShare tyUnit l₂₅ 0 u)) (ap only (nothing-tells v-write-rest _
             is-w-write-rest)) refl $
-            drop ! $ split ! $ move ! (1 ∷ []) $ split ! $ move ! (1 ∷ []) $ drop ! $ lft-end ! tt $
-            move ! (0 ∷ 3 ∷ 2 ∷ []) $
+            discard ! (0 ∷ []) $ parts W (_ ∷ _ ∷ []) _ $ bring ! (1 ∷ []) $ lft-end ! tt $ bring ! (0 ∷ 2 ∷ 1 ∷ []) $
             use3 W (later (‵ (MutSlice (named 3) κ₃ u8 .own (at-x-image (x-image .name) z-write-rest-x-image) (s-x-image ∷ []))
             ⊛ ‵ (flft κ₃ q₃))) (comes-back u8 κ₃ (ν₀-write-rest ∷ []) q₃ (x-image .name) (x-image .ptr .0) (x-image .ptr .1) 𝓤 H
             A W (named 3) (named 1) z-write-entries-x-image (length (now x-image)) ((ap {B = ℕ} length
@@ -1186,7 +1160,7 @@ module _ (Tally Cursor : Value) where
             leave ! 32 refl refl $ leave ! 30 refl refl $ leave ! 28 refl refl $ leave ! 26 refl refl $
             leave ! 24 refl refl $ leave ! 22 refl refl $ leave ! 20 refl refl $ leave ! 18 refl refl $
             leave ! 16 refl refl $ leave ! 14 refl refl $ leave ! 12 refl refl $ leave ! 10 refl refl $
-            leave ! 8 refl refl $ free0 ! $ move ! (3 ∷ 2 ∷ 5 ∷ 4 ∷ 6 ∷ 7 ∷ 0 ∷ 1 ∷ []) $
+            leave ! 8 refl refl $ free0 ! $ bring ! (3 ∷ 2 ∷ 3 ∷ 2 ∷ 2 ∷ 2 ∷ 0 ∷ 0 ∷ []) $
             by ! (exits (spelled-v-number w-verdict is-w-verdict) (ap {B = ℕ} length (sym (e-test-sound .1))
             ∙ h-test-sound-x-scratch) ((ap {B = ℕ} length (sym (e-write-rest)) ∙ h-write-rest-x-image)
             ∙ ((ap {B = ℕ} length (sym (e-write-entries .1)) ∙ h-write-entries-x-image)

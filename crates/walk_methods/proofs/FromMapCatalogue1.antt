@@ -18,8 +18,8 @@ use base.Fml.{Lft, Share, GName, ftrue, flft, fat}
 use prog.Wp.{Heap, WpFn, Tables}
 use ghost.Atoms.{Atoms}
 use contract.Monad.{fact}
-use types.Kit.{Given, ‵, raw, some, later, _⊛_, ⋆, _$_, _∵_, !, qed, by, move, drop, use1, split, join, pick, rewrite, fsplit}
-use types.Kit.{fjoin, suffices, frame, await, done}
+use types.Kit.{Given, ‵, raw, some, later, _⊛_, ⋆, _$_, _∵_, !, qed, by, use1, group, split, join, pick, rewrite, fjoin}
+use types.Kit.{suffices, frame, await, done}
 use types.Run.{look, init, stop, from, load, and-then, no-more, land, returns, enter, alloc1, alloc0, params1, pass1, pass0}
 use types.Run.{free0}
 use sound.WpLaws.{fmOf, WpFn-mono}
@@ -43,7 +43,7 @@ use denote.Exit.{yes}
 use Rattle.catalogue.proofs.Values.{Value, denotes, rowOf, mirOf, valsOf}
 use Rattle.catalogue.specs.declared.Entry.{Entry}
 use Rattle.catalogue.proofs.Entry as Entry′
-use Rattle.catalogue.proofs.Steps.{leave}
+use Rattle.catalogue.proofs.Steps.{bring, discard, parts, fparts, leave}
 
 module _ (Slot Shape Outcome : Value) where
   -- ---- the signature
@@ -234,9 +234,9 @@ module _ (Slot Shape Outcome : Value) where
           (s-x-catalogue ∷ [])) ∷ [])) ((find-contract find-out 𝓤 H A) .pre (to-find))
       goes-find =
           qed W (‵ (flft κ₁ q₁) ∷ ‵ (ShrSlice (named 0) κ₁ Entry′.the-row .own x-catalogue (s-x-catalogue ∷ [])) ∷ []) ∵
-          nothing ! $ move ! (1 ∷ 0 ∷ []) $ join ! $ nothing ! $
-          owned ! u32 (Is u32) (uint-makes 𝓤 H A W w32) x-sheet _ is-x-sheet $ fjoin ! $ move ! (2 ∷ 0 ∷ []) $
-          fjoin ! $ move ! (1 ∷ 0 ∷ []) $ join ! $ frame ! $ done !
+          nothing ! $ bring ! (1 ∷ 0 ∷ []) $ group ! 2 $ nothing ! $
+          owned ! u32 (Is u32) (uint-makes 𝓤 H A W w32) x-sheet _ is-x-sheet $ fjoin ! $ bring ! (2 ∷ 0 ∷ []) $
+          fjoin ! $ bring ! (1 ∷ 0 ∷ []) $ join ! $ frame ! $ done !
 
       -- ---- the caller has what `core` asks
       abbrev core-args : (denotes Shape) × (RefT (List ℕ) × ((denotes Slot) × (ℕ × Unit {0})))
@@ -252,12 +252,12 @@ module _ (Slot Shape Outcome : Value) where
           ∷ ‵ (ShrSlice (named 0) κ₀ u64 .own x-map (s-x-map ∷ [])) ∷ [])) ((core-contract core-out 𝓤 H A) .pre (to-core))
       goes-core is-v-slot =
           qed W (‵ (flft κ₀ q₀) ∷ ‵ (ShrSlice (named 0) κ₀ u64 .own x-map (s-x-map ∷ [])) ∷ []) ∵
-          nothing ! $ move ! (1 ∷ 0 ∷ []) $ join ! $ nothing ! $
+          nothing ! $ bring ! (1 ∷ 0 ∷ []) $ group ! 2 $ nothing ! $
           owned ! u32 (Is u32) (uint-makes 𝓤 H A W w32) x-sheet _ is-x-sheet $ fjoin ! $
           owned ! (rowOf Slot) (Is (rowOf Slot)) (Slot .makes 𝓤 H A) v-slot _ is-v-slot $ fjoin ! $
-          move ! (2 ∷ 0 ∷ []) $ fjoin ! $
+          bring ! (2 ∷ 0 ∷ []) $ fjoin ! $
           owned ! (rowOf Shape) (Is (rowOf Shape)) (Shape .makes 𝓤 H A) x-self _ is-x-self $ fjoin ! $
-          move ! (1 ∷ 0 ∷ []) $ join ! $ frame ! $ done !
+          bring ! (1 ∷ 0 ∷ []) $ join ! $ frame ! $ done !
 
       -- ---- the exit
       exits : Is (rowOf Outcome) v-result (m-v-result ∷ []) → ent 𝓤 (⋆ 𝓤 H A (‵ (ShrSlice (named 0) κ₀ u64 .own x-map
@@ -268,11 +268,11 @@ module _ (Slot Shape Outcome : Value) where
           ∷ ‵ (ShrSlice (named 1) κ₁ Entry′.the-row .own x-catalogue (s-x-catalogue ∷ [])) ∷ ‵ (flft κ₁ q₁) ∷ []) ∵
           suffices ! _ (ends-at 𝓤 H A ended stayed (clauses 𝓤) W bound m-v-result v-result (tt, (tt, (tt, (tt, tt))))
           (tt, (tt, (tt, (tt, tt))))) $
-          says ! refl $ nothing ! $ move ! (4 ∷ 0 ∷ []) $ join ! $ move ! (2 ∷ 0 ∷ []) $ join ! $ frame ! $ nothing ! $
-          owned ! u32 (Is u32) (uint-makes 𝓤 H A W w32) x-sheet _ is-x-sheet $ fjoin ! $ move ! (2 ∷ 0 ∷ []) $
-          fjoin ! $ move ! (1 ∷ 0 ∷ []) $ fjoin ! $
+          says ! refl $ nothing ! $ bring ! (2 ∷ 3 ∷ 0 ∷ []) $ group ! 3 $ frame ! $ nothing ! $
+          owned ! u32 (Is u32) (uint-makes 𝓤 H A W w32) x-sheet _ is-x-sheet $ fjoin ! $ bring ! (2 ∷ 0 ∷ []) $
+          fjoin ! $ bring ! (1 ∷ 0 ∷ []) $ fjoin ! $
           owned ! (rowOf Shape) (Is (rowOf Shape)) (Shape .makes 𝓤 H A) x-self _ is-x-self $ fjoin ! $
-          owned ! (rowOf Outcome) (Is (rowOf Outcome)) (Outcome .makes 𝓤 H A) v-result _ is $ move ! (1 ∷ 0 ∷ []) $
+          owned ! (rowOf Outcome) (Is (rowOf Outcome)) (Outcome .makes 𝓤 H A) v-result _ is $ bring ! (1 ∷ 0 ∷ []) $
           done !
 
       -- ---- the walk
@@ -287,36 +287,36 @@ module _ (Slot Shape Outcome : Value) where
           params1 ! $ pass1 ! (init ! 8 refl typed-x-self) $
           pass1 ! (init ! 6 refl (tt, (tt, (record { fits = room-x-map .0 }, tt)))) $
           pass1 ! (init ! 4 refl (tt, (tt, (record { fits = room-x-catalogue .0 }, tt)))) $
-          pass1 ! (init ! 2 refl typed-x-sheet) $ pass0 ! $ move ! (12 ∷ []) $ split ! $ move ! (1 ∷ []) $ split ! $
-          move ! (1 ∷ []) $ drop ! $ move ! (14 ∷ []) $ fsplit ! $ move ! (1 ∷ []) $ fsplit ! $ move ! (1 ∷ []) $
-          fsplit ! $ move ! (1 ∷ []) $ fsplit ! $ move ! (1 ∷ []) $ drop ! $ move ! (3 ∷ []) $ drop ! $ drop ! $
+          pass1 ! (init ! 2 refl typed-x-sheet) $ pass0 ! $ bring ! (12 ∷ []) $ parts W (_ ∷ _ ∷ []) _ $
+          bring ! (14 ∷ []) $ fparts W (_ ∷ _ ∷ _ ∷ _ ∷ []) _ $ discard ! (0 ∷ 2 ∷ []) $
           -- find
+          bring ! (1 ∷ []) $
           use1 W (‵ (ShrSlice (named 1) κ₁ Entry′.the-row .own x-catalogue (s-x-catalogue ∷ []))
           ⊛ ‵ (ShrSlice (named 1) κ₁ Entry′.the-row .own x-catalogue (s-x-catalogue ∷ [])))
           (shr-slice-copy 𝓤 H A W (named 1) κ₁ Entry′.the-row .twice x-catalogue (s-x-catalogue ∷ [])) $
-          split ! $ move ! (3 ∷ 0 ∷ []) $ join ! $
+          split ! $ bring ! (4 ∷ 0 ∷ []) $ group ! 2 $
           use1 W (raw ((find-contract find-out 𝓤 H A) .pre (to-find))) (goes-find) $
           calls-at ! (fmOf 𝓤 H (W .laws) 𝓣) (find-contract find-out 𝓤 H A) known-find (to-find)
           (and-then ! (load ! (from ! (stop !)) (look ! 8 refl)) (and-then ! (load ! (from ! (stop !)) (look ! 6 refl))
           (no-more !))) (λ w-find.
           use1 W (later (some (λ (r : (denotes Slot)). ((‵ (flft κ₁ q₁) ⊛ ‵ ftrue) ⊛ ‵ ((rowOf Slot) .own r (w-find ∷ [])))
           ⊛ raw (ensured 𝓤 H A find-ended (find-clauses find-out 𝓤) (κ₁, tt) (find-args) tt r)))) (id⊢ 𝓤 _) $
-          await ! tt $ pick ! (λ r-find. split ! $ move ! (1 ∷ []) $
+          await ! tt $ pick ! (λ r-find. split ! $ bring ! (1 ∷ []) $
           use1 W (some (λ (zs-find : Unit {0} × (Unit {0} × Unit {0})). ‵ (lasts find-ended (κ₁, tt) (find-args) zs-find)
           ⊛ raw (fact 𝓤 (find-says find-out (now x-catalogue) x-sheet r-find)))) (id⊢ 𝓤 _) $
-          pick ! (λ zs-find. split ! $ move ! (1 ∷ []) $
-          heard ! (find-says find-out (now x-catalogue) x-sheet r-find) (λ e-find. fsplit ! $ move ! (1 ∷ []) $
-          fsplit ! $ move ! (1 ∷ []) $ drop ! $ move ! (1 ∷ []) $ drop ! $ drop ! $ split ! $ move ! (1 ∷ []) $
+          pick ! (λ zs-find. split ! $ bring ! (1 ∷ []) $
+          heard ! (find-says find-out (now x-catalogue) x-sheet r-find) (λ e-find. fparts W (_ ∷ _ ∷ []) _ $
+          discard ! (0 ∷ 0 ∷ []) $ split ! $ bring ! (1 ∷ []) $
           rewrite ! 0 (λ (r : (denotes Slot)). ‵ ((rowOf Slot) .own r (w-find ∷ []))) (e-find) refl $
           peeks ! (rowOf Slot) (Is (rowOf Slot)) (shows 𝓤 H A (rowOf Slot)) v-slot (w-find ∷ []) (λ is-w-find.
           land ! (from ! (stop !)) (init ! 5 refl ((Slot .typed 𝓤 H A W) v-slot _ is-w-find .0)) $
           rewrite ! 5 (λ (u : Val). ‵ (fat fullShare (mirOf Slot) l₅ 0 u)) (ap only ((Slot .tells) v-slot _ is-w-find)) refl $
-          drop ! $ split ! $ move ! (1 ∷ []) $ drop ! $
+          discard ! (0 ∷ []) $ parts W (_ ∷ []) _ $
           -- core
-          move ! (2 ∷ []) $
+          bring ! (2 ∷ []) $
           use1 W (‵ (ShrSlice (named 0) κ₀ u64 .own x-map (s-x-map ∷ [])) ⊛ ‵ (ShrSlice (named 0) κ₀ u64 .own x-map
           (s-x-map ∷ []))) (shr-slice-copy 𝓤 H A W (named 0) κ₀ u64 .twice x-map (s-x-map ∷ [])) $
-          split ! $ move ! (4 ∷ 0 ∷ []) $ join ! $
+          split ! $ bring ! (4 ∷ 0 ∷ []) $ group ! 2 $
           use1 W (raw ((core-contract core-out 𝓤 H A) .pre (to-core))) (goes-core (spelled-v-slot w-find is-w-find)) $
           calls-at ! (fmOf 𝓤 H (W .laws) 𝓣) (core-contract core-out 𝓤 H A) known-core (to-core)
           (and-then ! (load ! (from ! (stop !)) (look ! 12 refl)) (and-then ! (load ! (from ! (stop !)) (look ! 10 refl))
@@ -325,24 +325,22 @@ module _ (Slot Shape Outcome : Value) where
           use1 W (later (some (λ (r : (denotes Outcome)). ((‵ (flft κ₀ q₀) ⊛ ‵ ftrue) ⊛ ‵
           ((rowOf Outcome) .own r (w-core ∷ []))) ⊛ raw (ensured 𝓤 H A core-ended (core-clauses core-out 𝓤) (κ₀, tt) (core-args)
           tt r)))) (id⊢ 𝓤 _) $
-          await ! tt $ pick ! (λ r-core. split ! $ move ! (1 ∷ []) $
+          await ! tt $ pick ! (λ r-core. split ! $ bring ! (1 ∷ []) $
           use1 W (some (λ (zs-core : Unit {0} × (Unit {0} × (Unit {0} × (Unit {0} × Unit {0})))). ‵
           (lasts core-ended
           (κ₀, tt) (core-args) zs-core) ⊛ raw (fact 𝓤 (core-says core-out x-self (now x-map) v-slot x-sheet r-core)))) (id⊢ 𝓤 _)
           $
-          pick ! (λ zs-core. split ! $ move ! (1 ∷ []) $
-          heard ! (core-says core-out x-self (now x-map) v-slot x-sheet r-core) (λ e-core. fsplit ! $ move ! (1 ∷ []) $
-          fsplit ! $ move ! (1 ∷ []) $ fsplit ! $ move ! (1 ∷ []) $ fsplit ! $ move ! (1 ∷ []) $ drop ! $
-          move ! (3 ∷ []) $ drop ! $ move ! (2 ∷ []) $ drop ! $ move ! (1 ∷ []) $ drop ! $ drop ! $ split ! $
-          move ! (1 ∷ []) $
+          pick ! (λ zs-core. split ! $ bring ! (1 ∷ []) $
+          heard ! (core-says core-out x-self (now x-map) v-slot x-sheet r-core) (λ e-core.
+          fparts W (_ ∷ _ ∷ _ ∷ _ ∷ []) _ $ discard ! (0 ∷ 0 ∷ 0 ∷ 0 ∷ []) $ split ! $ bring ! (1 ∷ []) $
           rewrite ! 0 (λ (r : (denotes Outcome)). ‵ ((rowOf Outcome) .own r (w-core ∷ []))) (e-core) refl $
           peeks ! (rowOf Outcome) (Is (rowOf Outcome)) (shows 𝓤 H A (rowOf Outcome)) v-result (w-core ∷ []) (λ is-w-core.
           land ! (from ! (stop !)) (init ! 15 refl ((Outcome .typed 𝓤 H A W) v-result _ is-w-core .0)) $
           rewrite ! 15 (λ (u : Val). ‵ (fat fullShare (mirOf Outcome) l₀ 0 u)) (ap only ((Outcome .tells) v-result _ is-w-core))
           refl $
-          drop ! $ split ! $ move ! (1 ∷ []) $ drop ! $ returns ! (look ! 14 refl) $ leave ! 14 refl refl $
+          discard ! (0 ∷ []) $ parts W (_ ∷ []) _ $ returns ! (look ! 14 refl) $ leave ! 14 refl refl $
           leave ! 12 refl refl $ leave ! 10 refl refl $ leave ! 8 refl refl $ leave ! 6 refl refl $
-          leave ! 4 refl refl $ free0 ! $ move ! (1 ∷ 0 ∷ 3 ∷ 2 ∷ []) $
+          leave ! 4 refl refl $ free0 ! $ bring ! (1 ∷ 0 ∷ 1 ∷ 0 ∷ []) $
           by ! (exits (spelled-v-result w-core is-w-core))))))))))))))))))
 
     module _ {M : Type 1} (𝓤 : URA M) (H : Heap 𝓤) (A : Atoms 𝓤) (W : Given 𝓤 H A) where

@@ -23,7 +23,7 @@ use base.Fml.{Lft, Share, GName, ftrue, flft, fat}
 use prog.Wp.{Heap, WpFn, Tables}
 use ghost.Atoms.{Atoms}
 use contract.Monad.{fact}
-use types.Kit.{Given, ‵, raw, some, later, _⊛_, ⋆, _$_, _∵_, !, qed, by, move, drop, use0, use1, use2, use3, split, join, pick}
+use types.Kit.{Given, ‵, raw, some, later, _⊛_, ⋆, _$_, _∵_, !, qed, by, use0, use1, use2, use3, group, split, join, pick}
 use types.Kit.{rewrite, fsplit, fjoin, feqL, suffices, frame, await, done}
 use types.Run.{look, init, stop, hop, fld, from, load, addr, and-then, no-more, of-opd, assigns, land, returns, enter, alloc1}
 use types.Run.{alloc0, params1, pass1, pass0, free0}
@@ -51,7 +51,7 @@ use Rattle.catalogue.proofs.Values.{Value, denotes, rowOf, mirOf, valsOf}
 use Rattle.catalogue.specs.declared.Entry.{Entry}
 use Rattle.catalogue.proofs.Entry as Entry′
 use Rattle.catalogue.proofs.Entry.Laws as Entry″
-use Rattle.catalogue.proofs.Steps.{leave}
+use Rattle.catalogue.proofs.Steps.{bring, discard, parts, fparts, leave}
 use Rattle.catalogue.proofs.Lending.{LentAgain, lends-again, comes-back, LentOut, lends-out, comes-home}
 
 module _ (Shape Outcome : Value) where
@@ -356,8 +356,8 @@ module _ (Shape Outcome : Value) where
       goes-count ν₀-count δ₀-count =
           qed W (‵ (flft (ν₀-count ∷ []) fullShare) ∷ ‵ (ShrSlice (named 0) (ν₀-count ∷ []) Entry′.the-row .own
           (at-x-catalogue δ₀-count (now x-catalogue)) (s-x-catalogue ∷ [])) ∷ []) ∵
-          nothing ! $ move ! (1 ∷ 0 ∷ []) $ join ! $ nothing ! $ move ! (2 ∷ 0 ∷ []) $ fjoin ! $ move ! (1 ∷ 0 ∷ []) $
-          join ! $ frame ! $ done !
+          nothing ! $ bring ! (1 ∷ 0 ∷ []) $ group ! 2 $ nothing ! $ bring ! (2 ∷ 0 ∷ []) $ fjoin ! $
+          bring ! (1 ∷ 0 ∷ []) $ join ! $ frame ! $ done !
 
       -- ---- the caller has what `core` asks
       abbrev core-args : (δ₀-core : GName) → (denotes Shape) × (ℕ × (RefT (List ℕ) × (ℕ × Unit {0})))
@@ -382,11 +382,11 @@ module _ (Shape Outcome : Value) where
       goes-core ν₀-core δ₀-core is-v-count =
           qed W (‵ (flft (ν₀-core ∷ []) fullShare) ∷ ‵ (MutSlice (named 0) (ν₀-core ∷ []) u64 .own
           (at-x-map δ₀-core (now x-map)) (s-x-map ∷ [])) ∷ []) ∵
-          nothing ! $ move ! (1 ∷ 0 ∷ []) $ join ! $ nothing ! $
-          owned ! usize (Is usize) (uint-makes 𝓤 H A W w64) v-count _ is-v-count $ fjoin ! $ move ! (2 ∷ 0 ∷ []) $
+          nothing ! $ bring ! (1 ∷ 0 ∷ []) $ group ! 2 $ nothing ! $
+          owned ! usize (Is usize) (uint-makes 𝓤 H A W w64) v-count _ is-v-count $ fjoin ! $ bring ! (2 ∷ 0 ∷ []) $
           fjoin ! $ owned ! u32 (Is u32) (uint-makes 𝓤 H A W w32) x-blocks _ is-x-blocks $ fjoin ! $
           owned ! (rowOf Shape) (Is (rowOf Shape)) (Shape .makes 𝓤 H A) x-self _ is-x-self $ fjoin ! $
-          move ! (1 ∷ 0 ∷ []) $ join ! $ frame ! $ done !
+          bring ! (1 ∷ 0 ∷ []) $ join ! $ frame ! $ done !
 
       -- ---- the caller has what `is-done` asks
       abbrev is-done-args : (denotes Outcome) × Unit {0}
@@ -401,7 +401,7 @@ module _ (Shape Outcome : Value) where
           qed W ([]) ∵
           nothing ! $ nothing ! $
           owned ! (rowOf Outcome) (Is (rowOf Outcome)) (Outcome .makes 𝓤 H A) v-out _ is-v-out $ fjoin ! $
-          move ! (1 ∷ 0 ∷ []) $ join ! $ frame ! $ done !
+          bring ! (1 ∷ 0 ∷ []) $ join ! $ frame ! $ done !
 
       -- ---- the caller has what `clear-if` asks
       abbrev clear-if-args : (δ₀-clear-if : GName) → RefT (List Entry) × (Bool × Unit {0})
@@ -420,9 +420,9 @@ module _ (Shape Outcome : Value) where
       goes-clear-if ν₀-clear-if δ₀-clear-if is-v-accepted =
           qed W (‵ (flft (ν₀-clear-if ∷ []) fullShare) ∷ ‵ (MutSlice (named 0) (ν₀-clear-if ∷ []) Entry′.the-row .own
           (at-x-catalogue δ₀-clear-if (now x-catalogue)) (s-x-catalogue ∷ [])) ∷ []) ∵
-          nothing ! $ move ! (1 ∷ 0 ∷ []) $ join ! $ nothing ! $
+          nothing ! $ bring ! (1 ∷ 0 ∷ []) $ group ! 2 $ nothing ! $
           owned ! Boolean (Is Boolean) (bool-makes 𝓤 H A W) v-accepted _ is-v-accepted $ fjoin ! $
-          move ! (2 ∷ 0 ∷ []) $ fjoin ! $ move ! (1 ∷ 0 ∷ []) $ join ! $ frame ! $ done !
+          bring ! (2 ∷ 0 ∷ []) $ fjoin ! $ bring ! (1 ∷ 0 ∷ []) $ join ! $ frame ! $ done !
 
       -- ---- the exit
       exits : Is (rowOf Outcome) v-out (m-v-out ∷ []) → length z-core-x-map ≡ length (now x-map) → length z-clear-if-x-catalogue
@@ -436,11 +436,12 @@ module _ (Shape Outcome : Value) where
           (s-x-catalogue ∷ [])) ∷ ‵ (flft κ₁ q₁) ∷ []) ∵
           suffices ! _ (ends-at 𝓤 H A ended stayed (clauses 𝓤) W bound m-v-out v-out
           (tt, (tt, (z-core-x-map, (z-clear-if-x-catalogue, tt)))) (tt, (tt, (l-x-map, (l-x-catalogue, tt))))) $
-          says ! (refl, refl, refl) $ nothing ! $ move ! (4 ∷ 0 ∷ []) $ join ! $ move ! (2 ∷ 0 ∷ []) $ join ! $
-          frame ! $ nothing ! $ move ! (2 ∷ 0 ∷ []) $ fjoin ! $ move ! (1 ∷ 0 ∷ []) $ fjoin ! $
+          says ! (refl, refl, refl) $ nothing ! $ bring ! (2 ∷ 3 ∷ 0 ∷ []) $ group ! 3 $ frame ! $ nothing ! $
+          bring ! (2 ∷ 0 ∷ []) $ fjoin ! $ bring ! (1 ∷ 0 ∷ []) $ fjoin ! $
           owned ! u32 (Is u32) (uint-makes 𝓤 H A W w32) x-blocks _ is-x-blocks $ fjoin ! $
           owned ! (rowOf Shape) (Is (rowOf Shape)) (Shape .makes 𝓤 H A) x-self _ is-x-self $ fjoin ! $
-          owned ! (rowOf Outcome) (Is (rowOf Outcome)) (Outcome .makes 𝓤 H A) v-out _ is $ move ! (1 ∷ 0 ∷ []) $ done !
+          owned ! (rowOf Outcome) (Is (rowOf Outcome)) (Outcome .makes 𝓤 H A) v-out _ is $ bring ! (1 ∷ 0 ∷ []) $
+          done !
 
       -- ---- the walk
       walk : (𝓣 : Tables 𝓤 H) → Triple 𝓤 (𝓣 .C #count) (count-contract count-out 𝓤 H A)
@@ -460,40 +461,39 @@ module _ (Shape Outcome : Value) where
           pass1 ! (init ! 26 refl typed-x-self) $ pass1 ! (init ! 24 refl typed-x-blocks) $
           pass1 ! (init ! 22 refl (tt, (tt, (record { fits = room-x-map .0 }, tt)))) $
           pass1 ! (init ! 20 refl (tt, (tt, (record { fits = room-x-catalogue .0 }, tt)))) $ pass0 ! $
-          move ! (30 ∷ []) $ split ! $ move ! (1 ∷ []) $ split ! $ move ! (1 ∷ []) $ drop ! $ move ! (32 ∷ []) $
-          fsplit ! $ move ! (1 ∷ []) $ fsplit ! $ move ! (1 ∷ []) $ fsplit ! $ move ! (1 ∷ []) $ fsplit ! $
-          move ! (1 ∷ []) $ drop ! $ move ! (3 ∷ []) $ drop ! $ move ! (2 ∷ []) $ drop ! $
+          bring ! (30 ∷ []) $ parts W (_ ∷ _ ∷ []) _ $ bring ! (32 ∷ []) $ fparts W (_ ∷ _ ∷ _ ∷ _ ∷ []) _ $
+          discard ! (0 ∷ 0 ∷ []) $
           -- count
           assigns ! (addr ! (from ! (fld ! refl (hop ! (look-in ! 24 (sub ! 0 refl (whole !))) (stop !))))) (from ! (stop !))
           (init ! 16 refl (tt, tt)) $
           assigns ! (agg ! (and-then ! (load ! (from ! (stop !)) (look ! 16 refl)) (and-then !
           (load ! (from ! (fld ! refl (stop !))) (look-in ! 24 (sub ! 1 refl (whole !)))) (no-more !)))) (from ! (stop !))
           (init ! 14 refl (tt, (tt, (record { fits = room-x-catalogue .0 }, tt)))) $
-          lft-new ! tt (λ ν₀-count. move ! (1 ∷ 3 ∷ []) $
+          lft-new ! tt (λ ν₀-count. bring ! (2 ∷ 3 ∷ []) $
           use2 W (later (some (λ (δ : GName). ‵ (ShrSlice (named 0) (ν₀-count ∷ []) Entry′.the-row .own
           (at-x-catalogue δ (now x-catalogue)) (s-x-catalogue ∷ [])) ⊛ ‵ (LentOut Entry′.the-row κ₁ (ν₀-count ∷ []) q₁
           (x-catalogue .name) (x-catalogue .ptr .0) (x-catalogue .ptr .1) (now x-catalogue)))))
           (lends-out Entry′.the-row κ₁ (ν₀-count ∷ []) q₁ (x-catalogue .name) (x-catalogue .ptr .0) (x-catalogue .ptr .1) 𝓤 H A
           W (named 1) (named 0) (now x-catalogue) (length (now x-catalogue)) refl) $
-          await ! tt $ pick ! (λ δ₀-count. split ! $ move ! (2 ∷ 0 ∷ []) $ join ! $
+          await ! tt $ pick ! (λ δ₀-count. split ! $ bring ! (2 ∷ 0 ∷ []) $ group ! 2 $
           use1 W (raw ((count-contract count-out 𝓤 H A) .pre (to-count ν₀-count δ₀-count))) (goes-count ν₀-count δ₀-count) $
           calls-at ! (fmOf 𝓤 H (W .laws) 𝓣) (count-contract count-out 𝓤 H A) known-count (to-count ν₀-count δ₀-count)
           (and-then ! (load ! (from ! (stop !)) (look ! 14 refl)) (no-more !)) (λ w-count.
           use1 W (later (some (λ (r : ℕ). ((‵ (flft (ν₀-count ∷ []) fullShare) ⊛ ‵ ftrue) ⊛ ‵ (usize .own r (w-count ∷ [])))
           ⊛ raw (ensured 𝓤 H A count-ended (count-clauses count-out 𝓤) (ν₀-count ∷ [], tt) (count-args δ₀-count) tt r))))
           (id⊢ 𝓤 _) $
-          await ! tt $ pick ! (λ r-count. split ! $ move ! (1 ∷ []) $
+          await ! tt $ pick ! (λ r-count. split ! $ bring ! (1 ∷ []) $
           use1 W (some (λ (zs-count : Unit {0} × Unit {0}). ‵ (lasts count-ended (ν₀-count ∷ [], tt) (count-args δ₀-count)
           zs-count) ⊛ raw (fact 𝓤 (count-says count-out (now x-catalogue) r-count)))) (id⊢ 𝓤 _) $
-          pick ! (λ zs-count. split ! $ move ! (1 ∷ []) $
-          heard ! (count-says count-out (now x-catalogue) r-count) (λ e-count. fsplit ! $ move ! (1 ∷ []) $ drop ! $
-          drop ! $ split ! $ move ! (1 ∷ []) $
+          pick ! (λ zs-count. split ! $ bring ! (1 ∷ []) $
+          heard ! (count-says count-out (now x-catalogue) r-count) (λ e-count. fparts W (_ ∷ []) _ $
+          discard ! (0 ∷ []) $ split ! $ bring ! (1 ∷ []) $
           rewrite ! 0 (λ (r : ℕ). ‵ (usize .own r (w-count ∷ []))) (e-count) refl $
           peeks ! usize (Is usize) (shows 𝓤 H A usize) v-count (w-count ∷ []) (λ is-w-count.
           land ! (from ! (stop !)) (init ! 23 refl ((uint-lawful 𝓤 H A W w64 .typed) v-count _ is-w-count .0)) $
           rewrite ! 23 (λ (u : Val). ‵ (fat fullShare (tyInt w64) l₅ 0 u)) (ap only ((uint-tells w64) v-count _ is-w-count))
           refl $
-          drop ! $ split ! $ move ! (1 ∷ []) $ drop ! $ lft-end ! tt $
+          discard ! (0 ∷ []) $ parts W (_ ∷ []) _ $ lft-end ! tt $
           use2 W (later (‵ (MutSlice (named 1) κ₁ Entry′.the-row .own (at-x-catalogue (x-catalogue .name) (now x-catalogue))
           (s-x-catalogue ∷ [])) ⊛ ‵ (flft κ₁ q₁))) (comes-home Entry′.the-row κ₁ (ν₀-count ∷ []) q₁ (x-catalogue .name)
           (x-catalogue .ptr .0) (x-catalogue .ptr .1) 𝓤 H A W (named 1) (named 0) (now x-catalogue) (length (now x-catalogue))
@@ -505,12 +505,12 @@ module _ (Shape Outcome : Value) where
           assigns ! (agg ! (and-then ! (load ! (from ! (stop !)) (look ! 12 refl)) (and-then !
           (load ! (from ! (fld ! refl (stop !))) (look-in ! 26 (sub ! 1 refl (whole !)))) (no-more !)))) (from ! (stop !))
           (init ! 10 refl (tt, (tt, (record { fits = room-x-map .0 }, tt)))) $
-          lft-new ! tt (λ ν₀-core. move ! (3 ∷ 4 ∷ []) $
+          lft-new ! tt (λ ν₀-core. bring ! (3 ∷ 3 ∷ []) $
           use2 W (later (some (λ (δ : GName). ‵ (MutSlice (named 0) (ν₀-core ∷ []) u64 .own (at-x-map δ (now x-map))
           (s-x-map ∷ [])) ⊛ ‵ (LentAgain u64 κ₀ (ν₀-core ∷ []) q₀ (x-map .name) (x-map .ptr .0) (x-map .ptr .1) δ
           (now x-map))))) (lends-again u64 κ₀ (ν₀-core ∷ []) q₀ (x-map .name) (x-map .ptr .0) (x-map .ptr .1) 𝓤 H A W (named 0)
           (named 0) (now x-map) (length (now x-map)) refl) $
-          await ! tt $ pick ! (λ δ₀-core. split ! $ move ! (2 ∷ 0 ∷ []) $ join ! $
+          await ! tt $ pick ! (λ δ₀-core. split ! $ bring ! (2 ∷ 0 ∷ []) $ group ! 2 $
           use1 W (raw ((core-contract core-out core-x-map 𝓤 H A) .pre (to-core ν₀-core δ₀-core)))
           (goes-core ν₀-core δ₀-core (spelled-v-count w-count is-w-count)) $
           calls-at ! (fmOf 𝓤 H (W .laws) 𝓣) (core-contract core-out core-x-map 𝓤 H A) known-core (to-core ν₀-core δ₀-core)
@@ -520,23 +520,21 @@ module _ (Shape Outcome : Value) where
           use1 W (later (some (λ (r : (denotes Outcome)). ((‵ (flft (ν₀-core ∷ []) fullShare) ⊛ ‵ ftrue)
           ⊛ ‵ ((rowOf Outcome) .own r (w-core ∷ []))) ⊛ raw (ensured 𝓤 H A core-ended (core-clauses core-out core-x-map 𝓤)
           (ν₀-core ∷ [], tt) (core-args δ₀-core) tt r)))) (id⊢ 𝓤 _) $
-          await ! tt $ pick ! (λ r-core. split ! $ move ! (1 ∷ []) $
+          await ! tt $ pick ! (λ r-core. split ! $ bring ! (1 ∷ []) $
           use1 W (some (λ (zs-core : Unit {0} × (Unit {0} × (List ℕ × (Unit {0} × Unit {0})))). ‵
           (lasts core-ended (ν₀-core ∷ [], tt) (core-args δ₀-core) zs-core) ⊛ raw (fact 𝓤
           (core-says core-out core-x-map x-self x-blocks (now x-map) v-count r-core (zs-core .1 .1 .0))))) (id⊢ 𝓤 _) $
-          pick ! (λ zs-core. split ! $ move ! (1 ∷ []) $
+          pick ! (λ zs-core. split ! $ bring ! (1 ∷ []) $
           heard ! (core-says core-out core-x-map x-self x-blocks (now x-map) v-count r-core (zs-core .1 .1 .0)) (λ e-core.
-          fsplit ! $ move ! (1 ∷ []) $ fsplit ! $ move ! (1 ∷ []) $ fsplit ! $ move ! (1 ∷ []) $ fsplit ! $
-          move ! (1 ∷ []) $ drop ! $ move ! (3 ∷ []) $ drop ! $ move ! (2 ∷ []) $ drop ! $ move ! (1 ∷ []) $ fsplit ! $
-          move ! (1 ∷ []) $ feqL ! (λ h-core-x-map. move ! (1 ∷ []) $ drop ! $ move ! (1 ∷ []) $ split ! $
-          move ! (1 ∷ []) $
+          fparts W (_ ∷ _ ∷ _ ∷ _ ∷ []) _ $ discard ! (0 ∷ 0 ∷ 1 ∷ []) $ fsplit ! $ bring ! (1 ∷ []) $
+          feqL ! (λ h-core-x-map. bring ! (1 ∷ []) $ split ! $ bring ! (1 ∷ []) $
           rewrite ! 0 (λ (r : (denotes Outcome)). ‵ ((rowOf Outcome) .own r (w-core ∷ []))) (e-core .0) refl $
           rewrite ! 2 (λ (l : List ℕ). ‵ (finally u64 δ₀-core l)) (e-core .1) refl $
           peeks ! (rowOf Outcome) (Is (rowOf Outcome)) (shows 𝓤 H A (rowOf Outcome)) v-out (w-core ∷ []) (λ is-w-core.
           land ! (from ! (stop !)) (init ! 22 refl ((Outcome .typed 𝓤 H A W) v-out _ is-w-core .0)) $
           rewrite ! 22 (λ (u : Val). ‵ (fat fullShare (mirOf Outcome) l₆ 0 u)) (ap only ((Outcome .tells) v-out _ is-w-core))
           refl $
-          drop ! $ split ! $ move ! (1 ∷ []) $ drop ! $ lft-end ! tt $ move ! (0 ∷ 2 ∷ 1 ∷ []) $
+          discard ! (0 ∷ []) $ parts W (_ ∷ []) _ $ lft-end ! tt $ bring ! (0 ∷ 1 ∷ 0 ∷ []) $
           use3 W (later (‵ (MutSlice (named 0) κ₀ u64 .own (at-x-map (x-map .name) z-core-x-map) (s-x-map ∷ []))
           ⊛ ‵ (flft κ₀ q₀))) (comes-back u64 κ₀ (ν₀-core ∷ []) q₀ (x-map .name) (x-map .ptr .0) (x-map .ptr .1) 𝓤 H A W
           (named 0) (named 0) (now x-map) (length (now x-map)) refl room-x-map δ₀-core z-core-x-map
@@ -549,30 +547,30 @@ module _ (Shape Outcome : Value) where
           (and-then ! (load ! (from ! (stop !)) (look ! 21 refl)) (no-more !)) (λ w-is-done.
           use1 W (later (some (λ (r : Bool). ((‵ ftrue) ⊛ ‵ (Boolean .own r (w-is-done ∷ [])))
           ⊛ raw (ensured 𝓤 H A is-done-ended (is-done-clauses is-done-out 𝓤) tt (is-done-args) tt r)))) (id⊢ 𝓤 _) $
-          await ! tt $ pick ! (λ r-is-done. split ! $ move ! (1 ∷ []) $
+          await ! tt $ pick ! (λ r-is-done. split ! $ bring ! (1 ∷ []) $
           use1 W (some (λ (zs-is-done : Unit {0} × Unit {0}). ‵ (lasts is-done-ended tt (is-done-args) zs-is-done)
           ⊛ raw (fact 𝓤 (is-done-says is-done-out v-out r-is-done)))) (id⊢ 𝓤 _) $
-          pick ! (λ zs-is-done. split ! $ move ! (1 ∷ []) $
-          heard ! (is-done-says is-done-out v-out r-is-done) (λ e-is-done. fsplit ! $ move ! (1 ∷ []) $ drop ! $
-          drop ! $ split ! $ move ! (1 ∷ []) $
+          pick ! (λ zs-is-done. split ! $ bring ! (1 ∷ []) $
+          heard ! (is-done-says is-done-out v-out r-is-done) (λ e-is-done. fparts W (_ ∷ []) _ $ discard ! (0 ∷ []) $
+          split ! $ bring ! (1 ∷ []) $
           rewrite ! 0 (λ (r : Bool). ‵ (Boolean .own r (w-is-done ∷ []))) (e-is-done) refl $
           peeks ! Boolean (Is Boolean) (shows 𝓤 H A Boolean) v-accepted (w-is-done ∷ []) (λ is-w-is-done.
           land ! (from ! (stop !)) (init ! 20 refl ((bool-lawful 𝓤 H A W .typed) v-accepted _ is-w-is-done .0)) $
           rewrite ! 20 (λ (u : Val). ‵ (fat fullShare tyBool l₇ 0 u)) (ap only (bool-tells v-accepted _ is-w-is-done)) refl $
-          drop ! $ drop ! $
+          discard ! (0 ∷ []) $ parts W ([]) _ $
           -- clear-if
           assigns ! (addr ! (from ! (fld ! refl (hop ! (look-in ! 24 (sub ! 0 refl (whole !))) (stop !))))) (from ! (stop !))
           (init ! 6 refl (tt, tt)) $
           assigns ! (agg ! (and-then ! (load ! (from ! (stop !)) (look ! 6 refl)) (and-then !
           (load ! (from ! (fld ! refl (stop !))) (look-in ! 24 (sub ! 1 refl (whole !)))) (no-more !)))) (from ! (stop !))
           (init ! 4 refl (tt, (tt, (record { fits = room-x-catalogue .0 }, tt)))) $
-          lft-new ! tt (λ ν₀-clear-if. move ! (3 ∷ 4 ∷ []) $
+          lft-new ! tt (λ ν₀-clear-if. bring ! (3 ∷ 3 ∷ []) $
           use2 W (later (some (λ (δ : GName). ‵ (MutSlice (named 0) (ν₀-clear-if ∷ []) Entry′.the-row .own
           (at-x-catalogue δ (now x-catalogue)) (s-x-catalogue ∷ [])) ⊛ ‵ (LentAgain Entry′.the-row κ₁ (ν₀-clear-if ∷ []) q₁
           (x-catalogue .name) (x-catalogue .ptr .0) (x-catalogue .ptr .1) δ (now x-catalogue)))))
           (lends-again Entry′.the-row κ₁ (ν₀-clear-if ∷ []) q₁ (x-catalogue .name) (x-catalogue .ptr .0) (x-catalogue .ptr .1) 𝓤
           H A W (named 1) (named 0) (now x-catalogue) (length (now x-catalogue)) refl) $
-          await ! tt $ pick ! (λ δ₀-clear-if. split ! $ move ! (2 ∷ 0 ∷ []) $ join ! $
+          await ! tt $ pick ! (λ δ₀-clear-if. split ! $ bring ! (2 ∷ 0 ∷ []) $ group ! 2 $
           use1 W (raw ((clear-if-contract clear-if-x-catalogue 𝓤 H A) .pre (to-clear-if ν₀-clear-if δ₀-clear-if)))
           (goes-clear-if ν₀-clear-if δ₀-clear-if (spelled-v-accepted w-is-done is-w-is-done)) $
           calls-at ! (fmOf 𝓤 H (W .laws) 𝓣) (clear-if-contract clear-if-x-catalogue 𝓤 H A) known-clear-if
@@ -581,21 +579,20 @@ module _ (Shape Outcome : Value) where
           use1 W (later (some (λ (r : (Unit {0})). ((‵ (flft (ν₀-clear-if ∷ []) fullShare) ⊛ ‵ ftrue)
           ⊛ ‵ (Nothing .own r (w-clear-if ∷ []))) ⊛ raw (ensured 𝓤 H A clear-if-ended (clear-if-clauses clear-if-x-catalogue 𝓤)
           (ν₀-clear-if ∷ [], tt) (clear-if-args δ₀-clear-if) tt r)))) (id⊢ 𝓤 _) $
-          await ! tt $ pick ! (λ r-clear-if. split ! $ move ! (1 ∷ []) $
+          await ! tt $ pick ! (λ r-clear-if. split ! $ bring ! (1 ∷ []) $
           use1 W (some (λ (zs-clear-if : List Entry × (Unit {0} × Unit {0})). ‵ (lasts clear-if-ended (ν₀-clear-if ∷ [], tt)
           (clear-if-args δ₀-clear-if) zs-clear-if) ⊛ raw (fact 𝓤 (clear-if-says clear-if-x-catalogue (now x-catalogue)
           v-accepted r-clear-if (zs-clear-if .0))))) (id⊢ 𝓤 _) $
-          pick ! (λ zs-clear-if. split ! $ move ! (1 ∷ []) $
+          pick ! (λ zs-clear-if. split ! $ bring ! (1 ∷ []) $
           heard ! (clear-if-says clear-if-x-catalogue (now x-catalogue) v-accepted r-clear-if (zs-clear-if .0)) (λ e-clear-if.
-          fsplit ! $ move ! (1 ∷ []) $ fsplit ! $ move ! (1 ∷ []) $ drop ! $ move ! (1 ∷ []) $ fsplit ! $
-          move ! (1 ∷ []) $ feqL ! (λ h-clear-if-x-catalogue. move ! (1 ∷ []) $ drop ! $ move ! (1 ∷ []) $ split ! $
-          move ! (1 ∷ []) $
+          fparts W (_ ∷ _ ∷ []) _ $ discard ! (1 ∷ []) $ fsplit ! $ bring ! (1 ∷ []) $
+          feqL ! (λ h-clear-if-x-catalogue. bring ! (1 ∷ []) $ split ! $ bring ! (1 ∷ []) $
           rewrite ! 2 (λ (l : List Entry). ‵ (finally Entry′.the-row δ₀-clear-if l)) (e-clear-if) refl $
           peeks ! Nothing (Is Nothing) (shows 𝓤 H A Nothing) v-clear-if (w-clear-if ∷ []) (λ is-w-clear-if.
           land ! (from ! (stop !)) (init ! 10 refl ((nothing-lawful 𝓤 H A W .typed) v-clear-if _ is-w-clear-if .0)) $
           rewrite ! 10 (λ (u : Val). ‵ (fat fullShare tyUnit l₁₂ 0 u)) (ap only (nothing-tells v-clear-if _ is-w-clear-if)) refl
           $
-          drop ! $ split ! $ move ! (1 ∷ []) $ drop ! $ lft-end ! tt $ move ! (0 ∷ 2 ∷ 1 ∷ []) $
+          discard ! (0 ∷ []) $ parts W (_ ∷ []) _ $ lft-end ! tt $ bring ! (0 ∷ 1 ∷ 0 ∷ []) $
           use3 W (later (‵ (MutSlice (named 1) κ₁ Entry′.the-row .own (at-x-catalogue (x-catalogue .name)
           z-clear-if-x-catalogue) (s-x-catalogue ∷ [])) ⊛ ‵ (flft κ₁ q₁))) (comes-back Entry′.the-row κ₁ (ν₀-clear-if ∷ []) q₁
           (x-catalogue .name) (x-catalogue .ptr .0) (x-catalogue .ptr .1) 𝓤 H A W (named 1) (named 0) (now x-catalogue)
@@ -608,7 +605,7 @@ module _ (Shape Outcome : Value) where
           leave ! 26 refl refl $ leave ! 24 refl refl $ leave ! 22 refl refl $ leave ! 20 refl refl $
           leave ! 18 refl refl $ leave ! 16 refl refl $ leave ! 14 refl refl $ leave ! 12 refl refl $
           leave ! 10 refl refl $ leave ! 8 refl refl $ leave ! 6 refl refl $ leave ! 4 refl refl $ free0 ! $
-          move ! (2 ∷ 3 ∷ 0 ∷ 1 ∷ []) $
+          bring ! (2 ∷ 2 ∷ 0 ∷ 0 ∷ []) $
           by ! (exits (spelled-v-out w-core is-w-core) (ap {B = ℕ} length (sym (e-core .1)) ∙ h-core-x-map)
           (ap {B = ℕ} length (sym (e-clear-if)) ∙ h-clear-if-x-catalogue)))))))))))))))))))))))))))))))))))))))))))))
 

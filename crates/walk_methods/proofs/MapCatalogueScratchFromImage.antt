@@ -20,7 +20,7 @@ use base.Fml.{Lft, Share, GName, ftrue, flft, fat}
 use prog.Wp.{Heap, WpFn, Tables}
 use ghost.Atoms.{Atoms}
 use contract.Monad.{fact}
-use types.Kit.{Given, ‵, raw, some, later, _⊛_, ⋆, _$_, _∵_, !, qed, by, move, drop, use0, use1, use2, use3, split, join, pick}
+use types.Kit.{Given, ‵, raw, some, later, _⊛_, ⋆, _$_, _∵_, !, qed, by, use0, use1, use2, use3, group, split, join, pick}
 use types.Kit.{rewrite, fsplit, fjoin, feqL, suffices, frame, await, done}
 use types.Run.{look, init, stop, hop, fld, from, load, addr, and-then, no-more, assigns, land, returns, enter, alloc1, alloc0}
 use types.Run.{params1, pass1, pass0, free0}
@@ -48,7 +48,7 @@ use Rattle.catalogue.proofs.Values.{Value, denotes, rowOf, mirOf, valsOf}
 use Rattle.catalogue.specs.declared.Entry.{Entry}
 use Rattle.catalogue.proofs.Entry as Entry′
 use Rattle.catalogue.proofs.Entry.Laws as Entry″
-use Rattle.catalogue.proofs.Steps.{leave}
+use Rattle.catalogue.proofs.Steps.{bring, discard, parts, fparts, leave}
 use Rattle.catalogue.proofs.Lending.{LentAgain, lends-again, comes-back}
 
 module _ (Loaded Shape Outcome : Value) where
@@ -312,10 +312,9 @@ module _ (Loaded Shape Outcome : Value) where
           ∷ ‵ (MutSlice (named 2) (ν₁-load ∷ []) Entry′.the-row .own (at-x-catalogue δ₁-load (now x-catalogue))
           (s-x-catalogue ∷ [])) ∷ ‵ (MutSlice (named 3) (ν₂-load ∷ []) u64 .own (at-x-scratch δ₂-load (now x-scratch))
           (s-x-scratch ∷ [])) ∷ []) ∵
-          nothing ! $ move ! (4 ∷ 0 ∷ []) $ join ! $ move ! (3 ∷ 0 ∷ []) $ join ! $ move ! (2 ∷ 0 ∷ []) $ join ! $
-          move ! (1 ∷ 0 ∷ []) $ join ! $ nothing ! $ move ! (5 ∷ 0 ∷ []) $ fjoin ! $ move ! (4 ∷ 0 ∷ []) $ fjoin ! $
-          move ! (3 ∷ 0 ∷ []) $ fjoin ! $ move ! (2 ∷ 0 ∷ []) $ fjoin ! $ move ! (1 ∷ 0 ∷ []) $ join ! $ frame ! $
-          done !
+          nothing ! $ bring ! (1 ∷ 1 ∷ 1 ∷ 1 ∷ 0 ∷ []) $ group ! 5 $ nothing ! $ bring ! (5 ∷ 0 ∷ []) $ fjoin ! $
+          bring ! (4 ∷ 0 ∷ []) $ fjoin ! $ bring ! (3 ∷ 0 ∷ []) $ fjoin ! $ bring ! (2 ∷ 0 ∷ []) $ fjoin ! $
+          bring ! (1 ∷ 0 ∷ []) $ join ! $ frame ! $ done !
 
       -- ---- the caller has what `load-outcome` asks
       abbrev load-outcome-args : (denotes Shape) × ((denotes Loaded) × Unit {0})
@@ -331,7 +330,7 @@ module _ (Loaded Shape Outcome : Value) where
           nothing ! $ nothing ! $
           owned ! (rowOf Loaded) (Is (rowOf Loaded)) (Loaded .makes 𝓤 H A) v-loaded _ is-v-loaded $ fjoin ! $
           owned ! (rowOf Shape) (Is (rowOf Shape)) (Shape .makes 𝓤 H A) x-self _ is-x-self $ fjoin ! $
-          move ! (1 ∷ 0 ∷ []) $ join ! $ frame ! $ done !
+          bring ! (1 ∷ 0 ∷ []) $ join ! $ frame ! $ done !
 
       -- ---- the exit
       exits : Is (rowOf Outcome) v-result (m-v-result ∷ []) → length z-load-x-map ≡ length (now x-map)
@@ -350,11 +349,11 @@ module _ (Loaded Shape Outcome : Value) where
           suffices ! _ (ends-at 𝓤 H A ended stayed (clauses 𝓤) W bound m-v-result v-result
           (tt, (tt, (z-load-x-map, (z-load-x-catalogue, (z-load-x-scratch, tt)))))
           (tt, (tt, (l-x-map, (l-x-catalogue, (l-x-scratch, tt)))))) $
-          says ! (refl, refl, refl, refl) $ nothing ! $ move ! (8 ∷ 0 ∷ []) $ join ! $ move ! (6 ∷ 0 ∷ []) $ join ! $
-          move ! (4 ∷ 0 ∷ []) $ join ! $ move ! (2 ∷ 0 ∷ []) $ join ! $ frame ! $ nothing ! $ move ! (4 ∷ 0 ∷ []) $
-          fjoin ! $ move ! (3 ∷ 0 ∷ []) $ fjoin ! $ move ! (2 ∷ 0 ∷ []) $ fjoin ! $ move ! (1 ∷ 0 ∷ []) $ fjoin ! $
+          says ! (refl, refl, refl, refl) $ nothing ! $ bring ! (2 ∷ 3 ∷ 4 ∷ 5 ∷ 0 ∷ []) $ group ! 5 $ frame ! $
+          nothing ! $ bring ! (4 ∷ 0 ∷ []) $ fjoin ! $ bring ! (3 ∷ 0 ∷ []) $ fjoin ! $ bring ! (2 ∷ 0 ∷ []) $
+          fjoin ! $ bring ! (1 ∷ 0 ∷ []) $ fjoin ! $
           owned ! (rowOf Shape) (Is (rowOf Shape)) (Shape .makes 𝓤 H A) x-self _ is-x-self $ fjoin ! $
-          owned ! (rowOf Outcome) (Is (rowOf Outcome)) (Outcome .makes 𝓤 H A) v-result _ is $ move ! (1 ∷ 0 ∷ []) $
+          owned ! (rowOf Outcome) (Is (rowOf Outcome)) (Outcome .makes 𝓤 H A) v-result _ is $ bring ! (1 ∷ 0 ∷ []) $
           done !
 
       -- ---- the walk
@@ -375,11 +374,9 @@ module _ (Loaded Shape Outcome : Value) where
           pass1 ! (init ! 20 refl (tt, (tt, (record { fits = room-x-image .0 }, tt)))) $
           pass1 ! (init ! 18 refl (tt, (tt, (record { fits = room-x-map .0 }, tt)))) $
           pass1 ! (init ! 16 refl (tt, (tt, (record { fits = room-x-catalogue .0 }, tt)))) $
-          pass1 ! (init ! 14 refl (tt, (tt, (record { fits = room-x-scratch .0 }, tt)))) $ pass0 ! $ move ! (26 ∷ []) $
-          split ! $ move ! (1 ∷ []) $ split ! $ move ! (1 ∷ []) $ split ! $ move ! (1 ∷ []) $ split ! $
-          move ! (1 ∷ []) $ drop ! $ move ! (30 ∷ []) $ fsplit ! $ move ! (1 ∷ []) $ fsplit ! $ move ! (1 ∷ []) $
-          fsplit ! $ move ! (1 ∷ []) $ fsplit ! $ move ! (1 ∷ []) $ fsplit ! $ move ! (1 ∷ []) $ drop ! $
-          move ! (4 ∷ []) $ drop ! $
+          pass1 ! (init ! 14 refl (tt, (tt, (record { fits = room-x-scratch .0 }, tt)))) $ pass0 ! $
+          bring ! (26 ∷ []) $ parts W (_ ∷ _ ∷ _ ∷ _ ∷ []) _ $ bring ! (30 ∷ []) $
+          fparts W (_ ∷ _ ∷ _ ∷ _ ∷ _ ∷ []) _ $ discard ! (0 ∷ []) $
           -- load
           assigns ! (addr ! (from ! (fld ! refl (hop ! (look-in ! 26 (sub ! 0 refl (whole !))) (stop !))))) (from ! (stop !))
           (init ! 18 refl (tt, tt)) $
@@ -396,29 +393,25 @@ module _ (Loaded Shape Outcome : Value) where
           assigns ! (agg ! (and-then ! (load ! (from ! (stop !)) (look ! 10 refl)) (and-then !
           (load ! (from ! (fld ! refl (stop !))) (look-in ! 22 (sub ! 1 refl (whole !)))) (no-more !)))) (from ! (stop !))
           (init ! 8 refl (tt, (tt, (record { fits = room-x-scratch .0 }, tt)))) $
-          move ! (3 ∷ []) $
           use1 W (‵ (ShrSlice (named 0) κ₀ u8 .own x-image (s-x-image ∷ [])) ⊛ ‵ (ShrSlice (named 0) κ₀ u8 .own x-image
           (s-x-image ∷ []))) (shr-slice-copy 𝓤 H A W (named 0) κ₀ u8 .twice x-image (s-x-image ∷ [])) $
-          split ! $ lft-new ! tt (λ ν₀-load. move ! (5 ∷ 8 ∷ []) $
+          split ! $ lft-new ! tt (λ ν₀-load. bring ! (3 ∷ 6 ∷ []) $
           use2 W (later (some (λ (δ : GName). ‵ (MutSlice (named 1) (ν₀-load ∷ []) u64 .own (at-x-map δ (now x-map))
           (s-x-map ∷ [])) ⊛ ‵ (LentAgain u64 κ₁ (ν₀-load ∷ []) q₁ (x-map .name) (x-map .ptr .0) (x-map .ptr .1) δ
           (now x-map))))) (lends-again u64 κ₁ (ν₀-load ∷ []) q₁ (x-map .name) (x-map .ptr .0) (x-map .ptr .1) 𝓤 H A W (named 1)
           (named 1) (now x-map) (length (now x-map)) refl) $
-          await ! tt $ pick ! (λ δ₀-load. split ! $ lft-new ! tt (λ ν₁-load. move ! (7 ∷ 9 ∷ []) $
+          await ! tt $ pick ! (λ δ₀-load. split ! $ lft-new ! tt (λ ν₁-load. bring ! (6 ∷ 8 ∷ []) $
           use2 W (later (some (λ (δ : GName). ‵ (MutSlice (named 2) (ν₁-load ∷ []) Entry′.the-row .own
           (at-x-catalogue δ (now x-catalogue)) (s-x-catalogue ∷ [])) ⊛ ‵ (LentAgain Entry′.the-row κ₂ (ν₁-load ∷ []) q₂
           (x-catalogue .name) (x-catalogue .ptr .0) (x-catalogue .ptr .1) δ (now x-catalogue)))))
           (lends-again Entry′.the-row κ₂ (ν₁-load ∷ []) q₂ (x-catalogue .name) (x-catalogue .ptr .0) (x-catalogue .ptr .1) 𝓤 H A
           W (named 2) (named 2) (now x-catalogue) (length (now x-catalogue)) refl) $
-          await ! tt $ pick ! (λ δ₁-load. split ! $ lft-new ! tt (λ ν₂-load. move ! (9 ∷ 10 ∷ []) $
+          await ! tt $ pick ! (λ δ₁-load. split ! $ lft-new ! tt (λ ν₂-load. bring ! (9 ∷ 10 ∷ []) $
           use2 W (later (some (λ (δ : GName). ‵ (MutSlice (named 3) (ν₂-load ∷ []) u64 .own (at-x-scratch δ (now x-scratch))
           (s-x-scratch ∷ [])) ⊛ ‵ (LentAgain u64 κ₃ (ν₂-load ∷ []) q₃ (x-scratch .name) (x-scratch .ptr .0) (x-scratch .ptr .1)
           δ (now x-scratch))))) (lends-again u64 κ₃ (ν₂-load ∷ []) q₃ (x-scratch .name) (x-scratch .ptr .0) (x-scratch .ptr .1)
           𝓤 H A W (named 3) (named 3) (now x-scratch) (length (now x-scratch)) refl) $
-          await ! tt $ pick ! (λ δ₂-load. split ! $ move ! (11 ∷ 8 ∷ 5 ∷ 2 ∷ 9 ∷ 6 ∷ 3 ∷ 0 ∷ []) $
-          move ! (6 ∷ 7 ∷ []) $ join ! $ move ! (6 ∷ 0 ∷ []) $ join ! $ move ! (5 ∷ 0 ∷ []) $ join ! $
-          move ! (4 ∷ 0 ∷ []) $ join ! $ move ! (3 ∷ 0 ∷ []) $ join ! $ move ! (2 ∷ 0 ∷ []) $ join ! $
-          move ! (1 ∷ 0 ∷ []) $ join ! $
+          await ! tt $ pick ! (λ δ₂-load. split ! $ bring ! (11 ∷ 8 ∷ 5 ∷ 2 ∷ 6 ∷ 4 ∷ 2 ∷ 0 ∷ []) $ group ! 8 $
           use1 W (raw ((load-contract load-out load-x-map load-x-catalogue load-x-scratch 𝓤 H A) .pre
           (to-load ν₀-load ν₁-load ν₂-load δ₀-load δ₁-load δ₂-load))) (goes-load ν₀-load ν₁-load ν₂-load δ₀-load δ₁-load
           δ₂-load) $
@@ -431,19 +424,17 @@ module _ (Loaded Shape Outcome : Value) where
           ⊛ ‵ ((rowOf Loaded) .own r (w-load ∷ []))) ⊛ raw (ensured 𝓤 H A load-ended (load-clauses load-out load-x-map
           load-x-catalogue load-x-scratch 𝓤) (κ₀, (ν₀-load ∷ [], (ν₁-load ∷ [], (ν₂-load ∷ [], tt))))
           (load-args δ₀-load δ₁-load δ₂-load) tt r)))) (id⊢ 𝓤 _) $
-          await ! tt $ pick ! (λ r-load. split ! $ move ! (1 ∷ []) $
+          await ! tt $ pick ! (λ r-load. split ! $ bring ! (1 ∷ []) $
           use1 W (some (λ (zs-load : Unit {0} × (List ℕ × (List Entry × (List ℕ × Unit {0})))). ‵
           (lasts load-ended (κ₀, (ν₀-load ∷ [], (ν₁-load ∷ [], (ν₂-load ∷ [], tt)))) (load-args δ₀-load δ₁-load δ₂-load)
           zs-load) ⊛ raw (fact 𝓤 (load-says load-out load-x-map load-x-catalogue load-x-scratch (now x-image) (now x-map)
           (now x-catalogue) (now x-scratch) r-load (zs-load .1 .0) (zs-load .1 .1 .0) (zs-load .1 .1 .1 .0))))) (id⊢ 𝓤 _) $
-          pick ! (λ zs-load. split ! $ move ! (1 ∷ []) $
+          pick ! (λ zs-load. split ! $ bring ! (1 ∷ []) $
           heard ! (load-says load-out load-x-map load-x-catalogue load-x-scratch (now x-image) (now x-map) (now x-catalogue)
           (now x-scratch) r-load (zs-load .1 .0) (zs-load .1 .1 .0) (zs-load .1 .1 .1 .0)) (λ e-load.
-          fsplit ! $ move ! (1 ∷ []) $ fsplit ! $ move ! (1 ∷ []) $ fsplit ! $ move ! (1 ∷ []) $ fsplit ! $
-          move ! (1 ∷ []) $ drop ! $ move ! (3 ∷ []) $ drop ! $ move ! (2 ∷ []) $ fsplit ! $ move ! (1 ∷ []) $
-          feqL ! (λ h-load-x-map. move ! (2 ∷ []) $ fsplit ! $ move ! (1 ∷ []) $ feqL ! (λ h-load-x-catalogue.
-          move ! (2 ∷ []) $ fsplit ! $ move ! (1 ∷ []) $ feqL ! (λ h-load-x-scratch. move ! (3 ∷ []) $ split ! $
-          move ! (1 ∷ []) $
+          fparts W (_ ∷ _ ∷ _ ∷ _ ∷ []) _ $ discard ! (0 ∷ []) $ fsplit ! $ bring ! (1 ∷ []) $ feqL ! (λ h-load-x-map.
+          bring ! (1 ∷ []) $ fsplit ! $ bring ! (1 ∷ []) $ feqL ! (λ h-load-x-catalogue. bring ! (2 ∷ []) $ fsplit ! $
+          bring ! (1 ∷ []) $ feqL ! (λ h-load-x-scratch. bring ! (3 ∷ []) $ split ! $ bring ! (1 ∷ []) $
           rewrite ! 0 (λ (r : (denotes Loaded)). ‵ ((rowOf Loaded) .own r (w-load ∷ []))) (e-load .0) refl $
           rewrite ! 4 (λ (l : List ℕ). ‵ (finally u64 δ₀-load l)) (e-load .1) refl $
           rewrite ! 3 (λ (l : List Entry). ‵ (finally Entry′.the-row δ₁-load l)) (e-load .2) refl $
@@ -452,18 +443,18 @@ module _ (Loaded Shape Outcome : Value) where
           land ! (from ! (stop !)) (init ! 21 refl ((Loaded .typed 𝓤 H A W) v-loaded _ is-w-load .0)) $
           rewrite ! 21 (λ (u : Val). ‵ (fat fullShare (mirOf Loaded) l₆ 0 u)) (ap only ((Loaded .tells) v-loaded _ is-w-load))
           refl $
-          drop ! $ split ! $ move ! (1 ∷ []) $ split ! $ move ! (1 ∷ []) $ split ! $ move ! (1 ∷ []) $ split ! $
-          move ! (1 ∷ []) $ drop ! $ move ! (2 ∷ []) $ lft-end ! tt $ move ! (0 ∷ 9 ∷ 6 ∷ []) $
+          discard ! (0 ∷ []) $ parts W (_ ∷ _ ∷ _ ∷ _ ∷ []) _ $ bring ! (1 ∷ []) $ lft-end ! tt $
+          bring ! (0 ∷ 8 ∷ 5 ∷ []) $
           use3 W (later (‵ (MutSlice (named 1) κ₁ u64 .own (at-x-map (x-map .name) z-load-x-map) (s-x-map ∷ []))
           ⊛ ‵ (flft κ₁ q₁))) (comes-back u64 κ₁ (ν₀-load ∷ []) q₁ (x-map .name) (x-map .ptr .0) (x-map .ptr .1) 𝓤 H A W
           (named 1) (named 1) (now x-map) (length (now x-map)) refl room-x-map δ₀-load z-load-x-map
           (ap {B = ℕ} length (sym (e-load .1)) ∙ h-load-x-map)) $
-          await ! tt $ split ! $ move ! (3 ∷ []) $ lft-end ! tt $ move ! (0 ∷ 8 ∷ 6 ∷ []) $
+          await ! tt $ split ! $ bring ! (3 ∷ []) $ lft-end ! tt $ bring ! (0 ∷ 7 ∷ 5 ∷ []) $
           use3 W (later (‵ (MutSlice (named 2) κ₂ Entry′.the-row .own (at-x-catalogue (x-catalogue .name) z-load-x-catalogue)
           (s-x-catalogue ∷ [])) ⊛ ‵ (flft κ₂ q₂))) (comes-back Entry′.the-row κ₂ (ν₁-load ∷ []) q₂ (x-catalogue .name)
           (x-catalogue .ptr .0) (x-catalogue .ptr .1) 𝓤 H A W (named 2) (named 2) (now x-catalogue) (length (now x-catalogue))
           refl room-x-catalogue δ₁-load z-load-x-catalogue (ap {B = ℕ} length (sym (e-load .2)) ∙ h-load-x-catalogue)) $
-          await ! tt $ split ! $ move ! (4 ∷ []) $ lft-end ! tt $ move ! (0 ∷ 7 ∷ 6 ∷ []) $
+          await ! tt $ split ! $ bring ! (5 ∷ []) $ lft-end ! tt $ bring ! (0 ∷ 6 ∷ 5 ∷ []) $
           use3 W (later (‵ (MutSlice (named 3) κ₃ u64 .own (at-x-scratch (x-scratch .name) z-load-x-scratch) (s-x-scratch ∷ []))
           ⊛ ‵ (flft κ₃ q₃))) (comes-back u64 κ₃ (ν₂-load ∷ []) q₃ (x-scratch .name) (x-scratch .ptr .0) (x-scratch .ptr .1) 𝓤 H
           A W (named 3) (named 3) (now x-scratch) (length (now x-scratch)) refl room-x-scratch δ₂-load z-load-x-scratch
@@ -478,25 +469,24 @@ module _ (Loaded Shape Outcome : Value) where
           use1 W (later (some (λ (r : (denotes Outcome)). ((‵ ftrue) ⊛ ‵ ((rowOf Outcome) .own r (w-load-outcome ∷ [])))
           ⊛ raw (ensured 𝓤 H A load-outcome-ended (load-outcome-clauses load-outcome-out 𝓤) tt (load-outcome-args) tt r))))
           (id⊢ 𝓤 _) $
-          await ! tt $ pick ! (λ r-load-outcome. split ! $ move ! (1 ∷ []) $
+          await ! tt $ pick ! (λ r-load-outcome. split ! $ bring ! (1 ∷ []) $
           use1 W (some (λ (zs-load-outcome : Unit {0} × (Unit {0} × Unit {0})). ‵ (lasts load-outcome-ended tt
           (load-outcome-args) zs-load-outcome) ⊛ raw (fact 𝓤 (load-outcome-says load-outcome-out x-self v-loaded
           r-load-outcome)))) (id⊢ 𝓤 _) $
-          pick ! (λ zs-load-outcome. split ! $ move ! (1 ∷ []) $
-          heard ! (load-outcome-says load-outcome-out x-self v-loaded r-load-outcome) (λ e-load-outcome. fsplit ! $
-          move ! (1 ∷ []) $ fsplit ! $ move ! (1 ∷ []) $ drop ! $ move ! (1 ∷ []) $ drop ! $ drop ! $ split ! $
-          move ! (1 ∷ []) $
+          pick ! (λ zs-load-outcome. split ! $ bring ! (1 ∷ []) $
+          heard ! (load-outcome-says load-outcome-out x-self v-loaded r-load-outcome) (λ e-load-outcome.
+          fparts W (_ ∷ _ ∷ []) _ $ discard ! (0 ∷ 0 ∷ []) $ split ! $ bring ! (1 ∷ []) $
           rewrite ! 0 (λ (r : (denotes Outcome)). ‵ ((rowOf Outcome) .own r (w-load-outcome ∷ []))) (e-load-outcome) refl $
           peeks ! (rowOf Outcome) (Is (rowOf Outcome)) (shows 𝓤 H A (rowOf Outcome)) v-result (w-load-outcome ∷ [])
           (λ is-w-load-outcome.
           land ! (from ! (stop !)) (init ! 34 refl ((Outcome .typed 𝓤 H A W) v-result _ is-w-load-outcome .0)) $
           rewrite ! 34 (λ (u : Val). ‵ (fat fullShare (mirOf Outcome) l₀ 0 u)) (ap only
           ((Outcome .tells) v-result _ is-w-load-outcome)) refl $
-          drop ! $ drop ! $ returns ! (look ! 32 refl) $ leave ! 32 refl refl $ leave ! 30 refl refl $
-          leave ! 28 refl refl $ leave ! 26 refl refl $ leave ! 24 refl refl $ leave ! 22 refl refl $
-          leave ! 20 refl refl $ leave ! 18 refl refl $ leave ! 16 refl refl $ leave ! 14 refl refl $
-          leave ! 12 refl refl $ leave ! 10 refl refl $ leave ! 8 refl refl $ free0 ! $
-          move ! (7 ∷ 6 ∷ 4 ∷ 5 ∷ 2 ∷ 3 ∷ 0 ∷ 1 ∷ []) $
+          discard ! (0 ∷ []) $ parts W ([]) _ $ returns ! (look ! 32 refl) $ leave ! 32 refl refl $
+          leave ! 30 refl refl $ leave ! 28 refl refl $ leave ! 26 refl refl $ leave ! 24 refl refl $
+          leave ! 22 refl refl $ leave ! 20 refl refl $ leave ! 18 refl refl $ leave ! 16 refl refl $
+          leave ! 14 refl refl $ leave ! 12 refl refl $ leave ! 10 refl refl $ leave ! 8 refl refl $ free0 ! $
+          bring ! (7 ∷ 6 ∷ 4 ∷ 4 ∷ 2 ∷ 2 ∷ 0 ∷ 0 ∷ []) $
           by ! (exits (spelled-v-result w-load-outcome is-w-load-outcome) (ap {B = ℕ} length (sym (e-load .1)) ∙ h-load-x-map)
           (ap {B = ℕ} length (sym (e-load .2)) ∙ h-load-x-catalogue) (ap {B = ℕ} length (sym (e-load .3))
           ∙ h-load-x-scratch))))))))))))))))))))))))))))))))))

@@ -22,7 +22,7 @@ use base.Fml.{Lft, Share, GName, ftrue, flft, fat}
 use prog.Wp.{Heap, WpFn, Tables}
 use ghost.Atoms.{Atoms}
 use contract.Monad.{fact}
-use types.Kit.{Given, ‵, raw, some, later, _⊛_, ⋆, _$_, _∵_, !, qed, by, move, drop, use0, use1, use2, use3, split, join, pick}
+use types.Kit.{Given, ‵, raw, some, later, _⊛_, ⋆, _$_, _∵_, !, qed, by, use0, use1, use2, use3, group, split, join, pick}
 use types.Kit.{rewrite, fsplit, fjoin, feqL, suffices, frame, await, done}
 use types.Run.{look, init, stop, hop, fld, from, load, addr, and-then, no-more, assigns, land, returns, enter, alloc1, alloc0}
 use types.Run.{params1, pass1, pass0, free0}
@@ -50,7 +50,7 @@ use denote.Exit.{yes}
 use Rattle.catalogue.proofs.Values.{Value, denotes, rowOf, mirOf, valsOf}
 use Rattle.catalogue.specs.declared.Entry.{Entry}
 use Rattle.catalogue.proofs.Entry as Entry′
-use Rattle.catalogue.proofs.Steps.{leave}
+use Rattle.catalogue.proofs.Steps.{bring, discard, parts, fparts, leave}
 use Rattle.catalogue.proofs.Lending.{LentAgain, lends-again, comes-back}
 
 module _ (Shape Outcome : Value) where
@@ -367,7 +367,7 @@ module _ (Shape Outcome : Value) where
       goes-blocks-of =
           qed W ([]) ∵
           nothing ! $ nothing ! $ owned ! (rowOf Shape) (Is (rowOf Shape)) (Shape .makes 𝓤 H A) x-self _ is-x-self $
-          fjoin ! $ move ! (1 ∷ 0 ∷ []) $ join ! $ frame ! $ done !
+          fjoin ! $ bring ! (1 ∷ 0 ∷ []) $ join ! $ frame ! $ done !
 
       -- ---- the caller has what `free-of` asks
       abbrev free-of-args : (denotes Shape) × Unit {0}
@@ -380,7 +380,7 @@ module _ (Shape Outcome : Value) where
       goes-free-of =
           qed W ([]) ∵
           nothing ! $ nothing ! $ owned ! (rowOf Shape) (Is (rowOf Shape)) (Shape .makes 𝓤 H A) x-self _ is-x-self $
-          fjoin ! $ move ! (1 ∷ 0 ∷ []) $ join ! $ frame ! $ done !
+          fjoin ! $ bring ! (1 ∷ 0 ∷ []) $ join ! $ frame ! $ done !
 
       -- ---- the caller has what `save` asks
       abbrev save-args : (δ₀-save δ₁-save : GName) → ℕ × (ℕ × (RefT (List ℕ) × (RefT (List Entry)
@@ -416,11 +416,10 @@ module _ (Shape Outcome : Value) where
           (s-x-catalogue ∷ [])) ∷ ‵ (MutSlice (named 2) (ν₀-save ∷ []) u64 .own (at-x-scratch δ₀-save (now x-scratch))
           (s-x-scratch ∷ [])) ∷ ‵ (MutSlice (named 3) (ν₁-save ∷ []) u8 .own (at-x-image δ₁-save (now x-image))
           (s-x-image ∷ [])) ∷ []) ∵
-          nothing ! $ move ! (4 ∷ 0 ∷ []) $ join ! $ move ! (3 ∷ 0 ∷ []) $ join ! $ move ! (2 ∷ 0 ∷ []) $ join ! $
-          move ! (1 ∷ 0 ∷ []) $ join ! $ nothing ! $ move ! (5 ∷ 0 ∷ []) $ fjoin ! $ move ! (4 ∷ 0 ∷ []) $ fjoin ! $
-          move ! (3 ∷ 0 ∷ []) $ fjoin ! $ move ! (2 ∷ 0 ∷ []) $ fjoin ! $
+          nothing ! $ bring ! (1 ∷ 1 ∷ 1 ∷ 1 ∷ 0 ∷ []) $ group ! 5 $ nothing ! $ bring ! (5 ∷ 0 ∷ []) $ fjoin ! $
+          bring ! (4 ∷ 0 ∷ []) $ fjoin ! $ bring ! (3 ∷ 0 ∷ []) $ fjoin ! $ bring ! (2 ∷ 0 ∷ []) $ fjoin ! $
           owned ! u32 (Is u32) (uint-makes 𝓤 H A W w32) v-free _ is-v-free $ fjoin ! $
-          owned ! u32 (Is u32) (uint-makes 𝓤 H A W w32) v-n _ is-v-n $ fjoin ! $ move ! (1 ∷ 0 ∷ []) $ join ! $
+          owned ! u32 (Is u32) (uint-makes 𝓤 H A W w32) v-n _ is-v-n $ fjoin ! $ bring ! (1 ∷ 0 ∷ []) $ join ! $
           frame ! $ done !
 
       -- ---- the caller has what `save-outcome` asks
@@ -436,7 +435,7 @@ module _ (Shape Outcome : Value) where
           qed W ([]) ∵
           nothing ! $ nothing ! $ owned ! u32 (Is u32) (uint-makes 𝓤 H A W w32) v-number _ is-v-number $ fjoin ! $
           owned ! (rowOf Shape) (Is (rowOf Shape)) (Shape .makes 𝓤 H A) x-self _ is-x-self $ fjoin ! $
-          move ! (1 ∷ 0 ∷ []) $ join ! $ frame ! $ done !
+          bring ! (1 ∷ 0 ∷ []) $ join ! $ frame ! $ done !
 
       -- ---- the exit
       exits : Is (rowOf Outcome) v-result (m-v-result ∷ []) → length z-save-x-scratch ≡ length (now x-scratch)
@@ -453,11 +452,11 @@ module _ (Shape Outcome : Value) where
           ∷ ‵ (flft κ₃ q₃) ∷ []) ∵
           suffices ! _ (ends-at 𝓤 H A ended stayed (clauses 𝓤) W bound m-v-result v-result
           (tt, (tt, (tt, (z-save-x-scratch, (z-save-x-image, tt))))) (tt, (tt, (tt, (l-x-scratch, (l-x-image, tt)))))) $
-          says ! (refl, refl, refl) $ nothing ! $ move ! (8 ∷ 0 ∷ []) $ join ! $ move ! (6 ∷ 0 ∷ []) $ join ! $
-          move ! (4 ∷ 0 ∷ []) $ join ! $ move ! (2 ∷ 0 ∷ []) $ join ! $ frame ! $ nothing ! $ move ! (4 ∷ 0 ∷ []) $
-          fjoin ! $ move ! (3 ∷ 0 ∷ []) $ fjoin ! $ move ! (2 ∷ 0 ∷ []) $ fjoin ! $ move ! (1 ∷ 0 ∷ []) $ fjoin ! $
+          says ! (refl, refl, refl) $ nothing ! $ bring ! (2 ∷ 3 ∷ 4 ∷ 5 ∷ 0 ∷ []) $ group ! 5 $ frame ! $ nothing ! $
+          bring ! (4 ∷ 0 ∷ []) $ fjoin ! $ bring ! (3 ∷ 0 ∷ []) $ fjoin ! $ bring ! (2 ∷ 0 ∷ []) $ fjoin ! $
+          bring ! (1 ∷ 0 ∷ []) $ fjoin ! $
           owned ! (rowOf Shape) (Is (rowOf Shape)) (Shape .makes 𝓤 H A) x-self _ is-x-self $ fjoin ! $
-          owned ! (rowOf Outcome) (Is (rowOf Outcome)) (Outcome .makes 𝓤 H A) v-result _ is $ move ! (1 ∷ 0 ∷ []) $
+          owned ! (rowOf Outcome) (Is (rowOf Outcome)) (Outcome .makes 𝓤 H A) v-result _ is $ bring ! (1 ∷ 0 ∷ []) $
           done !
 
       -- ---- the walk
@@ -480,47 +479,44 @@ module _ (Shape Outcome : Value) where
           pass1 ! (init ! 20 refl (tt, (tt, (record { fits = room-x-map .0 }, tt)))) $
           pass1 ! (init ! 18 refl (tt, (tt, (record { fits = room-x-catalogue .0 }, tt)))) $
           pass1 ! (init ! 16 refl (tt, (tt, (record { fits = room-x-scratch .0 }, tt)))) $
-          pass1 ! (init ! 14 refl (tt, (tt, (record { fits = room-x-image .0 }, tt)))) $ pass0 ! $ move ! (26 ∷ []) $
-          split ! $ move ! (1 ∷ []) $ split ! $ move ! (1 ∷ []) $ split ! $ move ! (1 ∷ []) $ split ! $
-          move ! (1 ∷ []) $ drop ! $ move ! (30 ∷ []) $ fsplit ! $ move ! (1 ∷ []) $ fsplit ! $ move ! (1 ∷ []) $
-          fsplit ! $ move ! (1 ∷ []) $ fsplit ! $ move ! (1 ∷ []) $ fsplit ! $ move ! (1 ∷ []) $ drop ! $
-          move ! (4 ∷ []) $ drop ! $
+          pass1 ! (init ! 14 refl (tt, (tt, (record { fits = room-x-image .0 }, tt)))) $ pass0 ! $ bring ! (26 ∷ []) $
+          parts W (_ ∷ _ ∷ _ ∷ _ ∷ []) _ $ bring ! (30 ∷ []) $ fparts W (_ ∷ _ ∷ _ ∷ _ ∷ _ ∷ []) _ $
+          discard ! (0 ∷ []) $
           -- blocks-of
           use0 W (raw ((blocks-of-contract blocks-of-out 𝓤 H A) .pre (to-blocks-of))) (goes-blocks-of) $
           calls-at ! (fmOf 𝓤 H (W .laws) 𝓣) (blocks-of-contract blocks-of-out 𝓤 H A) known-blocks-of (to-blocks-of)
           (and-then ! (load ! (from ! (stop !)) (look ! 31 refl)) (no-more !)) (λ w-blocks-of.
           use1 W (later (some (λ (r : ℕ). ((‵ ftrue) ⊛ ‵ (u32 .own r (w-blocks-of ∷ [])))
           ⊛ raw (ensured 𝓤 H A blocks-of-ended (blocks-of-clauses blocks-of-out 𝓤) tt (blocks-of-args) tt r)))) (id⊢ 𝓤 _) $
-          await ! tt $ pick ! (λ r-blocks-of. split ! $ move ! (1 ∷ []) $
+          await ! tt $ pick ! (λ r-blocks-of. split ! $ bring ! (1 ∷ []) $
           use1 W (some (λ (zs-blocks-of : Unit {0} × Unit {0}). ‵ (lasts blocks-of-ended tt (blocks-of-args) zs-blocks-of)
           ⊛ raw (fact 𝓤 (blocks-of-says blocks-of-out x-self r-blocks-of)))) (id⊢ 𝓤 _) $
-          pick ! (λ zs-blocks-of. split ! $ move ! (1 ∷ []) $
-          heard ! (blocks-of-says blocks-of-out x-self r-blocks-of) (λ e-blocks-of. fsplit ! $ move ! (1 ∷ []) $
-          drop ! $ drop ! $ split ! $ move ! (1 ∷ []) $
+          pick ! (λ zs-blocks-of. split ! $ bring ! (1 ∷ []) $
+          heard ! (blocks-of-says blocks-of-out x-self r-blocks-of) (λ e-blocks-of. fparts W (_ ∷ []) _ $
+          discard ! (0 ∷ []) $ split ! $ bring ! (1 ∷ []) $
           rewrite ! 0 (λ (r : ℕ). ‵ (u32 .own r (w-blocks-of ∷ []))) (e-blocks-of) refl $
           peeks ! u32 (Is u32) (shows 𝓤 H A u32) v-n (w-blocks-of ∷ []) (λ is-w-blocks-of.
           land ! (from ! (stop !)) (init ! 22 refl ((uint-lawful 𝓤 H A W w32 .typed) v-n _ is-w-blocks-of .0)) $
           rewrite ! 22 (λ (u : Val). ‵ (fat fullShare (tyInt w32) l₆ 0 u)) (ap only ((uint-tells w32) v-n _ is-w-blocks-of))
           refl $
-          drop ! $ drop ! $
+          discard ! (0 ∷ []) $ parts W ([]) _ $
           -- free-of
           use0 W (raw ((free-of-contract free-of-out 𝓤 H A) .pre (to-free-of))) (goes-free-of) $
           calls-at ! (fmOf 𝓤 H (W .laws) 𝓣) (free-of-contract free-of-out 𝓤 H A) known-free-of (to-free-of)
           (and-then ! (load ! (from ! (stop !)) (look ! 31 refl)) (no-more !)) (λ w-free-of.
           use1 W (later (some (λ (r : ℕ). ((‵ ftrue) ⊛ ‵ (u32 .own r (w-free-of ∷ [])))
           ⊛ raw (ensured 𝓤 H A free-of-ended (free-of-clauses free-of-out 𝓤) tt (free-of-args) tt r)))) (id⊢ 𝓤 _) $
-          await ! tt $ pick ! (λ r-free-of. split ! $ move ! (1 ∷ []) $
+          await ! tt $ pick ! (λ r-free-of. split ! $ bring ! (1 ∷ []) $
           use1 W (some (λ (zs-free-of : Unit {0} × Unit {0}). ‵ (lasts free-of-ended tt (free-of-args) zs-free-of)
           ⊛ raw (fact 𝓤 (free-of-says free-of-out x-self r-free-of)))) (id⊢ 𝓤 _) $
-          pick ! (λ zs-free-of. split ! $ move ! (1 ∷ []) $
-          heard ! (free-of-says free-of-out x-self r-free-of) (λ e-free-of. fsplit ! $ move ! (1 ∷ []) $ drop ! $
-          drop ! $ split ! $ move ! (1 ∷ []) $
-          rewrite ! 0 (λ (r : ℕ). ‵ (u32 .own r (w-free-of ∷ []))) (e-free-of) refl $
+          pick ! (λ zs-free-of. split ! $ bring ! (1 ∷ []) $
+          heard ! (free-of-says free-of-out x-self r-free-of) (λ e-free-of. fparts W (_ ∷ []) _ $ discard ! (0 ∷ []) $
+          split ! $ bring ! (1 ∷ []) $ rewrite ! 0 (λ (r : ℕ). ‵ (u32 .own r (w-free-of ∷ []))) (e-free-of) refl $
           peeks ! u32 (Is u32) (shows 𝓤 H A u32) v-free (w-free-of ∷ []) (λ is-w-free-of.
           land ! (from ! (stop !)) (init ! 20 refl ((uint-lawful 𝓤 H A W w32 .typed) v-free _ is-w-free-of .0)) $
           rewrite ! 20 (λ (u : Val). ‵ (fat fullShare (tyInt w32) l₇ 0 u)) (ap only ((uint-tells w32) v-free _ is-w-free-of))
           refl $
-          drop ! $ drop ! $
+          discard ! (0 ∷ []) $ parts W ([]) _ $
           -- save
           assigns ! (addr ! (from ! (fld ! refl (hop ! (look-in ! 24 (sub ! 0 refl (whole !))) (stop !))))) (from ! (stop !))
           (init ! 14 refl (tt, tt)) $
@@ -532,27 +528,23 @@ module _ (Shape Outcome : Value) where
           assigns ! (agg ! (and-then ! (load ! (from ! (stop !)) (look ! 10 refl)) (and-then !
           (load ! (from ! (fld ! refl (stop !))) (look-in ! 22 (sub ! 1 refl (whole !)))) (no-more !)))) (from ! (stop !))
           (init ! 8 refl (tt, (tt, (record { fits = room-x-image .0 }, tt)))) $
-          move ! (3 ∷ []) $
           use1 W (‵ (ShrSlice (named 0) κ₀ u64 .own x-map (s-x-map ∷ [])) ⊛ ‵ (ShrSlice (named 0) κ₀ u64 .own x-map
           (s-x-map ∷ []))) (shr-slice-copy 𝓤 H A W (named 0) κ₀ u64 .twice x-map (s-x-map ∷ [])) $
-          split ! $ move ! (4 ∷ []) $
+          split ! $ bring ! (2 ∷ []) $
           use1 W (‵ (ShrSlice (named 1) κ₁ Entry′.the-row .own x-catalogue (s-x-catalogue ∷ []))
           ⊛ ‵ (ShrSlice (named 1) κ₁ Entry′.the-row .own x-catalogue (s-x-catalogue ∷ [])))
           (shr-slice-copy 𝓤 H A W (named 1) κ₁ Entry′.the-row .twice x-catalogue (s-x-catalogue ∷ [])) $
-          split ! $ lft-new ! tt (λ ν₀-save. move ! (6 ∷ 8 ∷ []) $
+          split ! $ lft-new ! tt (λ ν₀-save. bring ! (5 ∷ 8 ∷ []) $
           use2 W (later (some (λ (δ : GName). ‵ (MutSlice (named 2) (ν₀-save ∷ []) u64 .own (at-x-scratch δ (now x-scratch))
           (s-x-scratch ∷ [])) ⊛ ‵ (LentAgain u64 κ₂ (ν₀-save ∷ []) q₂ (x-scratch .name) (x-scratch .ptr .0) (x-scratch .ptr .1)
           δ (now x-scratch))))) (lends-again u64 κ₂ (ν₀-save ∷ []) q₂ (x-scratch .name) (x-scratch .ptr .0) (x-scratch .ptr .1)
           𝓤 H A W (named 2) (named 2) (now x-scratch) (length (now x-scratch)) refl) $
-          await ! tt $ pick ! (λ δ₀-save. split ! $ lft-new ! tt (λ ν₁-save. move ! (8 ∷ 9 ∷ []) $
+          await ! tt $ pick ! (λ δ₀-save. split ! $ lft-new ! tt (λ ν₁-save. bring ! (8 ∷ 10 ∷ []) $
           use2 W (later (some (λ (δ : GName). ‵ (MutSlice (named 3) (ν₁-save ∷ []) u8 .own (at-x-image δ (now x-image))
           (s-x-image ∷ [])) ⊛ ‵ (LentAgain u8 κ₃ (ν₁-save ∷ []) q₃ (x-image .name) (x-image .ptr .0) (x-image .ptr .1) δ
           (now x-image))))) (lends-again u8 κ₃ (ν₁-save ∷ []) q₃ (x-image .name) (x-image .ptr .0) (x-image .ptr .1) 𝓤 H A W
           (named 3) (named 3) (now x-image) (length (now x-image)) refl) $
-          await ! tt $ pick ! (λ δ₁-save. split ! $ move ! (11 ∷ 10 ∷ 5 ∷ 2 ∷ 8 ∷ 6 ∷ 3 ∷ 0 ∷ []) $
-          move ! (6 ∷ 7 ∷ []) $ join ! $ move ! (6 ∷ 0 ∷ []) $ join ! $ move ! (5 ∷ 0 ∷ []) $ join ! $
-          move ! (4 ∷ 0 ∷ []) $ join ! $ move ! (3 ∷ 0 ∷ []) $ join ! $ move ! (2 ∷ 0 ∷ []) $ join ! $
-          move ! (1 ∷ 0 ∷ []) $ join ! $
+          await ! tt $ pick ! (λ δ₁-save. split ! $ bring ! (10 ∷ 10 ∷ 5 ∷ 2 ∷ 6 ∷ 4 ∷ 2 ∷ 0 ∷ []) $ group ! 8 $
           use1 W (raw ((save-contract save-out save-x-scratch save-x-image 𝓤 H A) .pre
           (to-save ν₀-save ν₁-save δ₀-save δ₁-save))) (goes-save ν₀-save ν₁-save δ₀-save δ₁-save
           (spelled-v-n w-blocks-of is-w-blocks-of) (spelled-v-free w-free-of is-w-free-of)) $
@@ -565,19 +557,17 @@ module _ (Shape Outcome : Value) where
           ⊛ ‵ (flft (ν₁-save ∷ []) fullShare) ⊛ ‵ ftrue) ⊛ ‵ (u32 .own r (w-save ∷ [])))
           ⊛ raw (ensured 𝓤 H A save-ended (save-clauses save-out save-x-scratch save-x-image 𝓤)
           (κ₀, (κ₁, (ν₀-save ∷ [], (ν₁-save ∷ [], tt)))) (save-args δ₀-save δ₁-save) tt r)))) (id⊢ 𝓤 _) $
-          await ! tt $ pick ! (λ r-save. split ! $ move ! (1 ∷ []) $
+          await ! tt $ pick ! (λ r-save. split ! $ bring ! (1 ∷ []) $
           use1 W (some (λ (zs-save : Unit {0} × (Unit {0} × (Unit {0} × (Unit {0} × (List ℕ × (List ℕ × Unit {0})))))). ‵
           (lasts save-ended (κ₀, (κ₁, (ν₀-save ∷ [], (ν₁-save ∷ [], tt)))) (save-args δ₀-save δ₁-save) zs-save)
           ⊛ raw (fact 𝓤 (save-says save-out save-x-scratch save-x-image v-n v-free (now x-map) (now x-catalogue) (now x-scratch)
           (now x-image) r-save (zs-save .1 .1 .1 .1 .0) (zs-save .1 .1 .1 .1 .1 .0))))) (id⊢ 𝓤 _) $
-          pick ! (λ zs-save. split ! $ move ! (1 ∷ []) $
+          pick ! (λ zs-save. split ! $ bring ! (1 ∷ []) $
           heard ! (save-says save-out save-x-scratch save-x-image v-n v-free (now x-map) (now x-catalogue) (now x-scratch)
           (now x-image) r-save (zs-save .1 .1 .1 .1 .0) (zs-save .1 .1 .1 .1 .1 .0)) (λ e-save.
-          fsplit ! $ move ! (1 ∷ []) $ fsplit ! $ move ! (1 ∷ []) $ fsplit ! $ move ! (1 ∷ []) $ fsplit ! $
-          move ! (1 ∷ []) $ fsplit ! $ move ! (1 ∷ []) $ fsplit ! $ move ! (1 ∷ []) $ drop ! $ move ! (5 ∷ []) $
-          drop ! $ move ! (4 ∷ []) $ drop ! $ move ! (3 ∷ []) $ drop ! $ move ! (2 ∷ []) $ drop ! $ move ! (1 ∷ []) $
-          fsplit ! $ move ! (1 ∷ []) $ feqL ! (λ h-save-x-scratch. move ! (1 ∷ []) $ fsplit ! $ move ! (1 ∷ []) $
-          feqL ! (λ h-save-x-image. move ! (2 ∷ []) $ split ! $ move ! (1 ∷ []) $
+          fparts W (_ ∷ _ ∷ _ ∷ _ ∷ _ ∷ _ ∷ []) _ $ discard ! (0 ∷ 0 ∷ 0 ∷ 0 ∷ []) $ fsplit ! $ bring ! (1 ∷ []) $
+          feqL ! (λ h-save-x-scratch. bring ! (1 ∷ []) $ fsplit ! $ bring ! (1 ∷ []) $ feqL ! (λ h-save-x-image.
+          bring ! (2 ∷ []) $ split ! $ bring ! (1 ∷ []) $
           rewrite ! 0 (λ (r : ℕ). ‵ (u32 .own r (w-save ∷ []))) (e-save .0) refl $
           rewrite ! 3 (λ (l : List ℕ). ‵ (finally u64 δ₀-save l)) (e-save .1) refl $
           rewrite ! 2 (λ (l : List ℕ). ‵ (finally u8 δ₁-save l)) (e-save .2) refl $
@@ -585,13 +575,13 @@ module _ (Shape Outcome : Value) where
           land ! (from ! (stop !)) (init ! 16 refl ((uint-lawful 𝓤 H A W w32 .typed) v-number _ is-w-save .0)) $
           rewrite ! 16 (λ (u : Val). ‵ (fat fullShare (tyInt w32) l₈ 0 u)) (ap only ((uint-tells w32) v-number _ is-w-save))
           refl $
-          drop ! $ split ! $ move ! (1 ∷ []) $ split ! $ move ! (1 ∷ []) $ split ! $ move ! (1 ∷ []) $ split ! $
-          move ! (1 ∷ []) $ drop ! $ move ! (1 ∷ []) $ lft-end ! tt $ move ! (0 ∷ 7 ∷ 5 ∷ []) $
+          discard ! (0 ∷ []) $ parts W (_ ∷ _ ∷ _ ∷ _ ∷ []) _ $ bring ! (2 ∷ []) $ lft-end ! tt $
+          bring ! (0 ∷ 6 ∷ 4 ∷ []) $
           use3 W (later (‵ (MutSlice (named 2) κ₂ u64 .own (at-x-scratch (x-scratch .name) z-save-x-scratch) (s-x-scratch ∷ []))
           ⊛ ‵ (flft κ₂ q₂))) (comes-back u64 κ₂ (ν₀-save ∷ []) q₂ (x-scratch .name) (x-scratch .ptr .0) (x-scratch .ptr .1) 𝓤 H
           A W (named 2) (named 2) (now x-scratch) (length (now x-scratch)) refl room-x-scratch δ₀-save z-save-x-scratch
           (ap {B = ℕ} length (sym (e-save .1)) ∙ h-save-x-scratch)) $
-          await ! tt $ split ! $ move ! (2 ∷ []) $ lft-end ! tt $ move ! (0 ∷ 6 ∷ 5 ∷ []) $
+          await ! tt $ split ! $ bring ! (4 ∷ []) $ lft-end ! tt $ bring ! (0 ∷ 5 ∷ 4 ∷ []) $
           use3 W (later (‵ (MutSlice (named 3) κ₃ u8 .own (at-x-image (x-image .name) z-save-x-image) (s-x-image ∷ []))
           ⊛ ‵ (flft κ₃ q₃))) (comes-back u8 κ₃ (ν₁-save ∷ []) q₃ (x-image .name) (x-image .ptr .0) (x-image .ptr .1) 𝓤 H A W
           (named 3) (named 3) (now x-image) (length (now x-image)) refl room-x-image δ₁-save z-save-x-image
@@ -606,25 +596,24 @@ module _ (Shape Outcome : Value) where
           use1 W (later (some (λ (r : (denotes Outcome)). ((‵ ftrue) ⊛ ‵ ((rowOf Outcome) .own r (w-save-outcome ∷ [])))
           ⊛ raw (ensured 𝓤 H A save-outcome-ended (save-outcome-clauses save-outcome-out 𝓤) tt (save-outcome-args) tt r))))
           (id⊢ 𝓤 _) $
-          await ! tt $ pick ! (λ r-save-outcome. split ! $ move ! (1 ∷ []) $
+          await ! tt $ pick ! (λ r-save-outcome. split ! $ bring ! (1 ∷ []) $
           use1 W (some (λ (zs-save-outcome : Unit {0} × (Unit {0} × Unit {0})). ‵ (lasts save-outcome-ended tt
           (save-outcome-args) zs-save-outcome) ⊛ raw (fact 𝓤 (save-outcome-says save-outcome-out x-self v-number
           r-save-outcome)))) (id⊢ 𝓤 _) $
-          pick ! (λ zs-save-outcome. split ! $ move ! (1 ∷ []) $
-          heard ! (save-outcome-says save-outcome-out x-self v-number r-save-outcome) (λ e-save-outcome. fsplit ! $
-          move ! (1 ∷ []) $ fsplit ! $ move ! (1 ∷ []) $ drop ! $ move ! (1 ∷ []) $ drop ! $ drop ! $ split ! $
-          move ! (1 ∷ []) $
+          pick ! (λ zs-save-outcome. split ! $ bring ! (1 ∷ []) $
+          heard ! (save-outcome-says save-outcome-out x-self v-number r-save-outcome) (λ e-save-outcome.
+          fparts W (_ ∷ _ ∷ []) _ $ discard ! (0 ∷ 0 ∷ []) $ split ! $ bring ! (1 ∷ []) $
           rewrite ! 0 (λ (r : (denotes Outcome)). ‵ ((rowOf Outcome) .own r (w-save-outcome ∷ []))) (e-save-outcome) refl $
           peeks ! (rowOf Outcome) (Is (rowOf Outcome)) (shows 𝓤 H A (rowOf Outcome)) v-result (w-save-outcome ∷ [])
           (λ is-w-save-outcome.
           land ! (from ! (stop !)) (init ! 34 refl ((Outcome .typed 𝓤 H A W) v-result _ is-w-save-outcome .0)) $
           rewrite ! 34 (λ (u : Val). ‵ (fat fullShare (mirOf Outcome) l₀ 0 u)) (ap only
           ((Outcome .tells) v-result _ is-w-save-outcome)) refl $
-          drop ! $ drop ! $ returns ! (look ! 32 refl) $ leave ! 32 refl refl $ leave ! 30 refl refl $
-          leave ! 28 refl refl $ leave ! 26 refl refl $ leave ! 24 refl refl $ leave ! 22 refl refl $
-          leave ! 20 refl refl $ leave ! 18 refl refl $ leave ! 16 refl refl $ leave ! 14 refl refl $
-          leave ! 12 refl refl $ leave ! 10 refl refl $ leave ! 8 refl refl $ free0 ! $
-          move ! (7 ∷ 5 ∷ 6 ∷ 4 ∷ 2 ∷ 3 ∷ 0 ∷ 1 ∷ []) $
+          discard ! (0 ∷ []) $ parts W ([]) _ $ returns ! (look ! 32 refl) $ leave ! 32 refl refl $
+          leave ! 30 refl refl $ leave ! 28 refl refl $ leave ! 26 refl refl $ leave ! 24 refl refl $
+          leave ! 22 refl refl $ leave ! 20 refl refl $ leave ! 18 refl refl $ leave ! 16 refl refl $
+          leave ! 14 refl refl $ leave ! 12 refl refl $ leave ! 10 refl refl $ leave ! 8 refl refl $ free0 ! $
+          bring ! (7 ∷ 4 ∷ 5 ∷ 4 ∷ 2 ∷ 2 ∷ 0 ∷ 0 ∷ []) $
           by ! (exits (spelled-v-result w-save-outcome is-w-save-outcome) (ap {B = ℕ} length (sym (e-save .1))
           ∙ h-save-x-scratch) (ap {B = ℕ} length (sym (e-save .2)) ∙ h-save-x-image)))))))))))))))))))))))))))))))))))))))))
 

@@ -20,7 +20,7 @@ use base.Fml.{Lft, Share, GName, ftrue, flft, fat}
 use prog.Wp.{Heap, WpFn, Tables}
 use ghost.Atoms.{Atoms}
 use contract.Monad.{fact}
-use types.Kit.{Given, ‵, raw, some, later, _⊛_, ⋆, _$_, _∵_, !, qed, by, move, drop, use0, use1, use2, use3, split, join, pick}
+use types.Kit.{Given, ‵, raw, some, later, _⊛_, ⋆, _$_, _∵_, !, qed, by, use0, use1, use2, use3, group, split, join, pick}
 use types.Kit.{rewrite, fsplit, fjoin, feqL, suffices, frame, await, done}
 use types.Run.{look, init, stop, hop, fld, from, load, addr, and-then, no-more, assigns, land, returns, enter, alloc1, alloc0}
 use types.Run.{params1, pass1, pass0, free0}
@@ -48,7 +48,7 @@ use denote.Exit.{yes}
 use Rattle.catalogue.proofs.Values.{Value, denotes, rowOf, mirOf, valsOf}
 use Rattle.catalogue.specs.declared.Entry.{Entry}
 use Rattle.catalogue.proofs.Entry as Entry′
-use Rattle.catalogue.proofs.Steps.{leave}
+use Rattle.catalogue.proofs.Steps.{bring, discard, parts, fparts, leave}
 use Rattle.catalogue.proofs.Lending.{LentAgain, lends-again, comes-back}
 
 module _ (Shape Outcome Reply : Value) where
@@ -406,16 +406,15 @@ module _ (Shape Outcome Reply : Value) where
           ∷ ‵ (ShrSlice (named 0) κ₀ u64 .own x-map (s-x-map ∷ [])) ∷ ‵ (ShrSlice (named 1) κ₁ Entry′.the-row .own x-catalogue
           (s-x-catalogue ∷ [])) ∷ ‵ (ShrSlice (named 2) κ₂ u8 .own x-card (s-x-card ∷ []))
           ∷ ‵ (MutSlice (named 3) (ν₀-call ∷ []) u8 .own (at-x-buffer δ₀-call (now x-buffer)) (s-x-buffer ∷ [])) ∷ []) ∵
-          nothing ! $ move ! (4 ∷ 0 ∷ []) $ join ! $ move ! (3 ∷ 0 ∷ []) $ join ! $ move ! (2 ∷ 0 ∷ []) $ join ! $
-          move ! (1 ∷ 0 ∷ []) $ join ! $ nothing ! $ move ! (5 ∷ 0 ∷ []) $ fjoin ! $
+          nothing ! $ bring ! (1 ∷ 1 ∷ 1 ∷ 1 ∷ 0 ∷ []) $ group ! 5 $ nothing ! $ bring ! (5 ∷ 0 ∷ []) $ fjoin ! $
           owned ! u32 (Is u32) (uint-makes 𝓤 H A W w32) x-day _ is-x-day $ fjoin ! $
           owned ! u32 (Is u32) (uint-makes 𝓤 H A W w32) x-month _ is-x-month $ fjoin ! $
           owned ! u32 (Is u32) (uint-makes 𝓤 H A W w32) x-year _ is-x-year $ fjoin ! $
           owned ! u32 (Is u32) (uint-makes 𝓤 H A W w32) x-place _ is-x-place $ fjoin ! $
-          owned ! u32 (Is u32) (uint-makes 𝓤 H A W w32) x-sheet _ is-x-sheet $ fjoin ! $ move ! (4 ∷ 0 ∷ []) $
-          fjoin ! $ move ! (3 ∷ 0 ∷ []) $ fjoin ! $ move ! (2 ∷ 0 ∷ []) $ fjoin ! $
+          owned ! u32 (Is u32) (uint-makes 𝓤 H A W w32) x-sheet _ is-x-sheet $ fjoin ! $ bring ! (4 ∷ 0 ∷ []) $
+          fjoin ! $ bring ! (3 ∷ 0 ∷ []) $ fjoin ! $ bring ! (2 ∷ 0 ∷ []) $ fjoin ! $
           owned ! (rowOf Shape) (Is (rowOf Shape)) (Shape .makes 𝓤 H A) x-shape _ is-x-shape $ fjoin ! $
-          owned ! u32 (Is u32) (uint-makes 𝓤 H A W w32) x-role _ is-x-role $ fjoin ! $ move ! (1 ∷ 0 ∷ []) $ join ! $
+          owned ! u32 (Is u32) (uint-makes 𝓤 H A W w32) x-role _ is-x-role $ fjoin ! $ bring ! (1 ∷ 0 ∷ []) $ join ! $
           frame ! $ done !
 
       -- ---- the caller has what `reply-of` asks
@@ -431,7 +430,7 @@ module _ (Shape Outcome Reply : Value) where
           qed W ([]) ∵
           nothing ! $ nothing ! $
           owned ! (rowOf Outcome) (Is (rowOf Outcome)) (Outcome .makes 𝓤 H A) v-outcome _ is-v-outcome $ fjoin ! $
-          move ! (1 ∷ 0 ∷ []) $ join ! $ frame ! $ done !
+          bring ! (1 ∷ 0 ∷ []) $ join ! $ frame ! $ done !
 
       -- ---- the exit
       exits : Is (rowOf Reply) v-result (m-v-result ∷ []) → length z-call-x-buffer ≡ length (now x-buffer)
@@ -449,17 +448,16 @@ module _ (Shape Outcome Reply : Value) where
           suffices ! _ (ends-at 𝓤 H A ended stayed (clauses 𝓤) W bound m-v-result v-result
           (tt, (tt, (tt, (tt, (tt, (tt, (tt, (tt, (tt, (tt, (z-call-x-buffer, tt)))))))))))
           (tt, (tt, (tt, (tt, (tt, (tt, (tt, (tt, (tt, (tt, (l-x-buffer, tt)))))))))))) $
-          says ! (refl, refl) $ nothing ! $ move ! (8 ∷ 0 ∷ []) $ join ! $ move ! (6 ∷ 0 ∷ []) $ join ! $
-          move ! (4 ∷ 0 ∷ []) $ join ! $ move ! (2 ∷ 0 ∷ []) $ join ! $ frame ! $ nothing ! $ move ! (4 ∷ 0 ∷ []) $
-          fjoin ! $ owned ! u32 (Is u32) (uint-makes 𝓤 H A W w32) x-day _ is-x-day $ fjoin ! $
+          says ! (refl, refl) $ nothing ! $ bring ! (2 ∷ 3 ∷ 4 ∷ 5 ∷ 0 ∷ []) $ group ! 5 $ frame ! $ nothing ! $
+          bring ! (4 ∷ 0 ∷ []) $ fjoin ! $ owned ! u32 (Is u32) (uint-makes 𝓤 H A W w32) x-day _ is-x-day $ fjoin ! $
           owned ! u32 (Is u32) (uint-makes 𝓤 H A W w32) x-month _ is-x-month $ fjoin ! $
           owned ! u32 (Is u32) (uint-makes 𝓤 H A W w32) x-year _ is-x-year $ fjoin ! $
           owned ! u32 (Is u32) (uint-makes 𝓤 H A W w32) x-place _ is-x-place $ fjoin ! $
-          owned ! u32 (Is u32) (uint-makes 𝓤 H A W w32) x-sheet _ is-x-sheet $ fjoin ! $ move ! (3 ∷ 0 ∷ []) $
-          fjoin ! $ move ! (2 ∷ 0 ∷ []) $ fjoin ! $ move ! (1 ∷ 0 ∷ []) $ fjoin ! $
+          owned ! u32 (Is u32) (uint-makes 𝓤 H A W w32) x-sheet _ is-x-sheet $ fjoin ! $ bring ! (3 ∷ 0 ∷ []) $
+          fjoin ! $ bring ! (2 ∷ 0 ∷ []) $ fjoin ! $ bring ! (1 ∷ 0 ∷ []) $ fjoin ! $
           owned ! (rowOf Shape) (Is (rowOf Shape)) (Shape .makes 𝓤 H A) x-shape _ is-x-shape $ fjoin ! $
           owned ! u32 (Is u32) (uint-makes 𝓤 H A W w32) x-role _ is-x-role $ fjoin ! $
-          owned ! (rowOf Reply) (Is (rowOf Reply)) (Reply .makes 𝓤 H A) v-result _ is $ move ! (1 ∷ 0 ∷ []) $ done !
+          owned ! (rowOf Reply) (Is (rowOf Reply)) (Reply .makes 𝓤 H A) v-result _ is $ bring ! (1 ∷ 0 ∷ []) $ done !
 
       -- ---- the walk
       walk : (𝓣 : Tables 𝓤 H) → Triple 𝓤 (𝓣 .C #call) (call-contract call-out call-x-buffer 𝓤 H A)
@@ -483,39 +481,30 @@ module _ (Shape Outcome Reply : Value) where
           pass1 ! (init ! 16 refl typed-x-sheet) $ pass1 ! (init ! 14 refl typed-x-place) $
           pass1 ! (init ! 12 refl typed-x-year) $ pass1 ! (init ! 10 refl typed-x-month) $
           pass1 ! (init ! 8 refl typed-x-day) $
-          pass1 ! (init ! 6 refl (tt, (tt, (record { fits = room-x-buffer .0 }, tt)))) $ pass0 ! $ move ! (30 ∷ []) $
-          split ! $ move ! (1 ∷ []) $ split ! $ move ! (1 ∷ []) $ split ! $ move ! (1 ∷ []) $ split ! $
-          move ! (1 ∷ []) $ drop ! $ move ! (34 ∷ []) $ fsplit ! $ move ! (1 ∷ []) $ fsplit ! $ move ! (1 ∷ []) $
-          fsplit ! $ move ! (1 ∷ []) $ fsplit ! $ move ! (1 ∷ []) $ fsplit ! $ move ! (1 ∷ []) $ fsplit ! $
-          move ! (1 ∷ []) $ fsplit ! $ move ! (1 ∷ []) $ fsplit ! $ move ! (1 ∷ []) $ fsplit ! $ move ! (1 ∷ []) $
-          fsplit ! $ move ! (1 ∷ []) $ fsplit ! $ move ! (1 ∷ []) $ drop ! $ move ! (10 ∷ []) $ drop ! $
-          move ! (9 ∷ []) $ drop ! $ move ! (5 ∷ []) $ drop ! $ move ! (4 ∷ []) $ drop ! $ move ! (3 ∷ []) $ drop ! $
-          move ! (2 ∷ []) $ drop ! $ move ! (1 ∷ []) $ drop ! $
+          pass1 ! (init ! 6 refl (tt, (tt, (record { fits = room-x-buffer .0 }, tt)))) $ pass0 ! $ bring ! (30 ∷ []) $
+          parts W (_ ∷ _ ∷ _ ∷ _ ∷ []) _ $ bring ! (34 ∷ []) $
+          fparts W (_ ∷ _ ∷ _ ∷ _ ∷ _ ∷ _ ∷ _ ∷ _ ∷ _ ∷ _ ∷ _ ∷ []) _ $ discard ! (0 ∷ 0 ∷ 3 ∷ 3 ∷ 3 ∷ 3 ∷ 3 ∷ []) $
           -- call
           assigns ! (addr ! (from ! (fld ! refl (hop ! (look-in ! 14 (sub ! 0 refl (whole !))) (stop !))))) (from ! (stop !))
           (init ! 10 refl (tt, tt)) $
           assigns ! (agg ! (and-then ! (load ! (from ! (stop !)) (look ! 10 refl)) (and-then !
           (load ! (from ! (fld ! refl (stop !))) (look-in ! 14 (sub ! 1 refl (whole !)))) (no-more !)))) (from ! (stop !))
           (init ! 8 refl (tt, (tt, (record { fits = room-x-buffer .0 }, tt)))) $
-          move ! (3 ∷ []) $
           use1 W (‵ (ShrSlice (named 0) κ₀ u64 .own x-map (s-x-map ∷ [])) ⊛ ‵ (ShrSlice (named 0) κ₀ u64 .own x-map
           (s-x-map ∷ []))) (shr-slice-copy 𝓤 H A W (named 0) κ₀ u64 .twice x-map (s-x-map ∷ [])) $
-          split ! $ move ! (4 ∷ []) $
+          split ! $ bring ! (2 ∷ []) $
           use1 W (‵ (ShrSlice (named 1) κ₁ Entry′.the-row .own x-catalogue (s-x-catalogue ∷ []))
           ⊛ ‵ (ShrSlice (named 1) κ₁ Entry′.the-row .own x-catalogue (s-x-catalogue ∷ [])))
           (shr-slice-copy 𝓤 H A W (named 1) κ₁ Entry′.the-row .twice x-catalogue (s-x-catalogue ∷ [])) $
-          split ! $ move ! (5 ∷ []) $
+          split ! $ bring ! (4 ∷ []) $
           use1 W (‵ (ShrSlice (named 2) κ₂ u8 .own x-card (s-x-card ∷ [])) ⊛ ‵ (ShrSlice (named 2) κ₂ u8 .own x-card
           (s-x-card ∷ []))) (shr-slice-copy 𝓤 H A W (named 2) κ₂ u8 .twice x-card (s-x-card ∷ [])) $
-          split ! $ lft-new ! tt (λ ν₀-call. move ! (7 ∷ 8 ∷ []) $
+          split ! $ lft-new ! tt (λ ν₀-call. bring ! (7 ∷ 10 ∷ []) $
           use2 W (later (some (λ (δ : GName). ‵ (MutSlice (named 3) (ν₀-call ∷ []) u8 .own (at-x-buffer δ (now x-buffer))
           (s-x-buffer ∷ [])) ⊛ ‵ (LentAgain u8 κ₃ (ν₀-call ∷ []) q₃ (x-buffer .name) (x-buffer .ptr .0) (x-buffer .ptr .1) δ
           (now x-buffer))))) (lends-again u8 κ₃ (ν₀-call ∷ []) q₃ (x-buffer .name) (x-buffer .ptr .0) (x-buffer .ptr .1) 𝓤 H A W
           (named 3) (named 3) (now x-buffer) (length (now x-buffer)) refl) $
-          await ! tt $ pick ! (λ δ₀-call. split ! $ move ! (11 ∷ 10 ∷ 9 ∷ 2 ∷ 7 ∷ 5 ∷ 3 ∷ 0 ∷ []) $
-          move ! (6 ∷ 7 ∷ []) $ join ! $ move ! (6 ∷ 0 ∷ []) $ join ! $ move ! (5 ∷ 0 ∷ []) $ join ! $
-          move ! (4 ∷ 0 ∷ []) $ join ! $ move ! (3 ∷ 0 ∷ []) $ join ! $ move ! (2 ∷ 0 ∷ []) $ join ! $
-          move ! (1 ∷ 0 ∷ []) $ join ! $
+          await ! tt $ pick ! (λ δ₀-call. split ! $ bring ! (9 ∷ 9 ∷ 9 ∷ 2 ∷ 6 ∷ 4 ∷ 2 ∷ 0 ∷ []) $ group ! 8 $
           use1 W (raw ((call-contract call-out call-x-buffer 𝓤 H A) .pre (to-call ν₀-call δ₀-call))) (goes-call ν₀-call δ₀-call)
           $
           calls-at ! (fmOf 𝓤 H (W .laws) 𝓣) (call-contract call-out call-x-buffer 𝓤 H A) known-call (to-call ν₀-call δ₀-call)
@@ -529,30 +518,26 @@ module _ (Shape Outcome Reply : Value) where
           ⊛ ‵ (flft (ν₀-call ∷ []) fullShare) ⊛ ‵ ftrue) ⊛ ‵ ((rowOf Outcome) .own r (w-call ∷ [])))
           ⊛ raw (ensured 𝓤 H A call-ended (call-clauses call-out call-x-buffer 𝓤) (κ₀, (κ₁, (κ₂, (ν₀-call ∷ [], tt))))
           (call-args δ₀-call) tt r)))) (id⊢ 𝓤 _) $
-          await ! tt $ pick ! (λ r-call. split ! $ move ! (1 ∷ []) $
+          await ! tt $ pick ! (λ r-call. split ! $ bring ! (1 ∷ []) $
           use1 W (some (λ (zs-call : Unit {0} × (Unit {0} × (Unit {0} × (Unit {0} × (Unit {0}
           × (Unit {0} × (Unit {0} × (Unit {0} × (Unit {0} × (Unit {0} × (List ℕ × Unit {0}))))))))))). ‵
           (lasts call-ended (κ₀, (κ₁, (κ₂, (ν₀-call ∷ [], tt)))) (call-args δ₀-call) zs-call)
           ⊛ raw (fact 𝓤 (call-says call-out call-x-buffer x-role x-shape (now x-map) (now x-catalogue) (now x-card) x-sheet
           x-place x-year x-month x-day (now x-buffer) r-call (zs-call .1 .1 .1 .1 .1 .1 .1 .1 .1 .1 .0))))) (id⊢ 𝓤 _) $
-          pick ! (λ zs-call. split ! $ move ! (1 ∷ []) $
+          pick ! (λ zs-call. split ! $ bring ! (1 ∷ []) $
           heard ! (call-says call-out call-x-buffer x-role x-shape (now x-map) (now x-catalogue) (now x-card) x-sheet x-place
           x-year x-month x-day (now x-buffer) r-call (zs-call .1 .1 .1 .1 .1 .1 .1 .1 .1 .1 .0)) (λ e-call.
-          fsplit ! $ move ! (1 ∷ []) $ fsplit ! $ move ! (1 ∷ []) $ fsplit ! $ move ! (1 ∷ []) $ fsplit ! $
-          move ! (1 ∷ []) $ fsplit ! $ move ! (1 ∷ []) $ fsplit ! $ move ! (1 ∷ []) $ fsplit ! $ move ! (1 ∷ []) $
-          fsplit ! $ move ! (1 ∷ []) $ fsplit ! $ move ! (1 ∷ []) $ fsplit ! $ move ! (1 ∷ []) $ fsplit ! $
-          move ! (1 ∷ []) $ drop ! $ move ! (10 ∷ []) $ drop ! $ move ! (9 ∷ []) $ drop ! $ move ! (8 ∷ []) $ drop ! $
-          move ! (7 ∷ []) $ drop ! $ move ! (6 ∷ []) $ drop ! $ move ! (5 ∷ []) $ drop ! $ move ! (4 ∷ []) $ drop ! $
-          move ! (3 ∷ []) $ drop ! $ move ! (2 ∷ []) $ drop ! $ move ! (1 ∷ []) $ drop ! $ fsplit ! $ move ! (1 ∷ []) $
-          feqL ! (λ h-call-x-buffer. move ! (1 ∷ []) $ split ! $ move ! (1 ∷ []) $
+          fparts W (_ ∷ _ ∷ _ ∷ _ ∷ _ ∷ _ ∷ _ ∷ _ ∷ _ ∷ _ ∷ _ ∷ []) _ $
+          discard ! (0 ∷ 0 ∷ 0 ∷ 0 ∷ 0 ∷ 0 ∷ 0 ∷ 0 ∷ 0 ∷ 0 ∷ []) $ fsplit ! $ bring ! (1 ∷ []) $
+          feqL ! (λ h-call-x-buffer. bring ! (1 ∷ []) $ split ! $ bring ! (1 ∷ []) $
           rewrite ! 0 (λ (r : (denotes Outcome)). ‵ ((rowOf Outcome) .own r (w-call ∷ []))) (e-call .0) refl $
           rewrite ! 2 (λ (l : List ℕ). ‵ (finally u8 δ₀-call l)) (e-call .1) refl $
           peeks ! (rowOf Outcome) (Is (rowOf Outcome)) (shows 𝓤 H A (rowOf Outcome)) v-outcome (w-call ∷ []) (λ is-w-call.
           land ! (from ! (stop !)) (init ! 11 refl ((Outcome .typed 𝓤 H A W) v-outcome _ is-w-call .0)) $
           rewrite ! 11 (λ (u : Val). ‵ (fat fullShare (mirOf Outcome) l₁₂ 0 u)) (ap only
           ((Outcome .tells) v-outcome _ is-w-call)) refl $
-          drop ! $ split ! $ move ! (1 ∷ []) $ split ! $ move ! (1 ∷ []) $ split ! $ move ! (1 ∷ []) $ split ! $
-          move ! (1 ∷ []) $ drop ! $ lft-end ! tt $ move ! (0 ∷ 5 ∷ 4 ∷ []) $
+          discard ! (0 ∷ []) $ parts W (_ ∷ _ ∷ _ ∷ _ ∷ []) _ $ bring ! (3 ∷ []) $ lft-end ! tt $
+          bring ! (0 ∷ 4 ∷ 3 ∷ []) $
           use3 W (later (‵ (MutSlice (named 3) κ₃ u8 .own (at-x-buffer (x-buffer .name) z-call-x-buffer) (s-x-buffer ∷ []))
           ⊛ ‵ (flft κ₃ q₃))) (comes-back u8 κ₃ (ν₀-call ∷ []) q₃ (x-buffer .name) (x-buffer .ptr .0) (x-buffer .ptr .1) 𝓤 H A W
           (named 3) (named 3) (now x-buffer) (length (now x-buffer)) refl room-x-buffer δ₀-call z-call-x-buffer
@@ -565,22 +550,22 @@ module _ (Shape Outcome Reply : Value) where
           (and-then ! (load ! (from ! (stop !)) (look ! 13 refl)) (no-more !)) (λ w-reply-of.
           use1 W (later (some (λ (r : (denotes Reply)). ((‵ ftrue) ⊛ ‵ ((rowOf Reply) .own r (w-reply-of ∷ [])))
           ⊛ raw (ensured 𝓤 H A reply-of-ended (reply-of-clauses reply-of-out 𝓤) tt (reply-of-args) tt r)))) (id⊢ 𝓤 _) $
-          await ! tt $ pick ! (λ r-reply-of. split ! $ move ! (1 ∷ []) $
+          await ! tt $ pick ! (λ r-reply-of. split ! $ bring ! (1 ∷ []) $
           use1 W (some (λ (zs-reply-of : Unit {0} × Unit {0}). ‵ (lasts reply-of-ended tt (reply-of-args) zs-reply-of)
           ⊛ raw (fact 𝓤 (reply-of-says reply-of-out v-outcome r-reply-of)))) (id⊢ 𝓤 _) $
-          pick ! (λ zs-reply-of. split ! $ move ! (1 ∷ []) $
-          heard ! (reply-of-says reply-of-out v-outcome r-reply-of) (λ e-reply-of. fsplit ! $ move ! (1 ∷ []) $
-          drop ! $ drop ! $ split ! $ move ! (1 ∷ []) $
+          pick ! (λ zs-reply-of. split ! $ bring ! (1 ∷ []) $
+          heard ! (reply-of-says reply-of-out v-outcome r-reply-of) (λ e-reply-of. fparts W (_ ∷ []) _ $
+          discard ! (0 ∷ []) $ split ! $ bring ! (1 ∷ []) $
           rewrite ! 0 (λ (r : (denotes Reply)). ‵ ((rowOf Reply) .own r (w-reply-of ∷ []))) (e-reply-of) refl $
           peeks ! (rowOf Reply) (Is (rowOf Reply)) (shows 𝓤 H A (rowOf Reply)) v-result (w-reply-of ∷ []) (λ is-w-reply-of.
           land ! (from ! (stop !)) (init ! 38 refl ((Reply .typed 𝓤 H A W) v-result _ is-w-reply-of .0)) $
           rewrite ! 38 (λ (u : Val). ‵ (fat fullShare (mirOf Reply) l₀ 0 u)) (ap only ((Reply .tells) v-result _ is-w-reply-of))
           refl $
-          drop ! $ drop ! $ returns ! (look ! 36 refl) $ leave ! 36 refl refl $ leave ! 34 refl refl $
-          leave ! 32 refl refl $ leave ! 30 refl refl $ leave ! 28 refl refl $ leave ! 26 refl refl $
-          leave ! 24 refl refl $ leave ! 22 refl refl $ leave ! 20 refl refl $ leave ! 18 refl refl $
-          leave ! 16 refl refl $ leave ! 14 refl refl $ leave ! 12 refl refl $ leave ! 10 refl refl $
-          leave ! 8 refl refl $ free0 ! $ move ! (7 ∷ 4 ∷ 6 ∷ 3 ∷ 5 ∷ 2 ∷ 0 ∷ 1 ∷ []) $
+          discard ! (0 ∷ []) $ parts W ([]) _ $ returns ! (look ! 36 refl) $ leave ! 36 refl refl $
+          leave ! 34 refl refl $ leave ! 32 refl refl $ leave ! 30 refl refl $ leave ! 28 refl refl $
+          leave ! 26 refl refl $ leave ! 24 refl refl $ leave ! 22 refl refl $ leave ! 20 refl refl $
+          leave ! 18 refl refl $ leave ! 16 refl refl $ leave ! 14 refl refl $ leave ! 12 refl refl $
+          leave ! 10 refl refl $ leave ! 8 refl refl $ free0 ! $ bring ! (7 ∷ 2 ∷ 5 ∷ 2 ∷ 3 ∷ 2 ∷ 0 ∷ 0 ∷ []) $
           by ! (exits (spelled-v-result w-reply-of is-w-reply-of) (ap {B = ℕ} length (sym (e-call .1))
           ∙ h-call-x-buffer))))))))))))))))))))))))))))))
 

@@ -20,7 +20,7 @@ use base.Fml.{Lft, Share, GName, ftrue, flft, fat}
 use prog.Wp.{Heap, WpFn, Tables}
 use ghost.Atoms.{Atoms}
 use contract.Monad.{fact}
-use types.Kit.{Given, ‵, raw, some, later, _⊛_, ⋆, _$_, _∵_, !, qed, by, move, drop, use0, use1, use2, use3, split, join, pick}
+use types.Kit.{Given, ‵, raw, some, later, _⊛_, ⋆, _$_, _∵_, !, qed, by, use0, use1, use2, use3, group, split, join, pick}
 use types.Kit.{rewrite, fsplit, fjoin, feqL, suffices, frame, await, done}
 use types.Run.{look, init, stop, hop, fld, from, load, addr, and-then, no-more, assigns, land, returns, enter, alloc1, alloc0}
 use types.Run.{params1, pass1, pass0, free0}
@@ -49,7 +49,7 @@ use Rattle.catalogue.proofs.Values.{Value, denotes, rowOf, mirOf, valsOf}
 use Rattle.catalogue.specs.declared.Entry.{Entry}
 use Rattle.catalogue.proofs.Entry as Entry′
 use Rattle.catalogue.proofs.Entry.Laws as Entry″
-use Rattle.catalogue.proofs.Steps.{leave}
+use Rattle.catalogue.proofs.Steps.{bring, discard, parts, fparts, leave}
 use Rattle.catalogue.proofs.Lending.{LentAgain, lends-again, comes-back}
 
 module _ (Shape Outcome Reply : Value) where
@@ -292,11 +292,11 @@ module _ (Shape Outcome Reply : Value) where
           (ShrSlice (named 0) κ₀ u64 .own x-map (s-x-map ∷ [])) ∷ ‵ (MutSlice (named 1) (ν₀-call ∷ []) Entry′.the-row .own
           (at-x-catalogue δ₀-call (now x-catalogue)) (s-x-catalogue ∷ [])) ∷ ‵ (ShrSlice (named 2) κ₂ u8 .own x-card
           (s-x-card ∷ [])) ∷ []) ∵
-          nothing ! $ move ! (3 ∷ 0 ∷ []) $ join ! $ move ! (2 ∷ 0 ∷ []) $ join ! $ move ! (1 ∷ 0 ∷ []) $ join ! $
-          nothing ! $ owned ! u32 (Is u32) (uint-makes 𝓤 H A W w32) x-sheet _ is-x-sheet $ fjoin ! $
-          move ! (4 ∷ 0 ∷ []) $ fjoin ! $ move ! (3 ∷ 0 ∷ []) $ fjoin ! $ move ! (2 ∷ 0 ∷ []) $ fjoin ! $
+          nothing ! $ bring ! (1 ∷ 1 ∷ 1 ∷ 0 ∷ []) $ group ! 4 $ nothing ! $
+          owned ! u32 (Is u32) (uint-makes 𝓤 H A W w32) x-sheet _ is-x-sheet $ fjoin ! $ bring ! (4 ∷ 0 ∷ []) $
+          fjoin ! $ bring ! (3 ∷ 0 ∷ []) $ fjoin ! $ bring ! (2 ∷ 0 ∷ []) $ fjoin ! $
           owned ! (rowOf Shape) (Is (rowOf Shape)) (Shape .makes 𝓤 H A) x-shape _ is-x-shape $ fjoin ! $
-          owned ! u32 (Is u32) (uint-makes 𝓤 H A W w32) x-role _ is-x-role $ fjoin ! $ move ! (1 ∷ 0 ∷ []) $ join ! $
+          owned ! u32 (Is u32) (uint-makes 𝓤 H A W w32) x-role _ is-x-role $ fjoin ! $ bring ! (1 ∷ 0 ∷ []) $ join ! $
           frame ! $ done !
 
       -- ---- the caller has what `reply-of` asks
@@ -312,7 +312,7 @@ module _ (Shape Outcome Reply : Value) where
           qed W ([]) ∵
           nothing ! $ nothing ! $
           owned ! (rowOf Outcome) (Is (rowOf Outcome)) (Outcome .makes 𝓤 H A) v-outcome _ is-v-outcome $ fjoin ! $
-          move ! (1 ∷ 0 ∷ []) $ join ! $ frame ! $ done !
+          bring ! (1 ∷ 0 ∷ []) $ join ! $ frame ! $ done !
 
       -- ---- the exit
       exits : Is (rowOf Reply) v-result (m-v-result ∷ []) → length z-call-x-catalogue ≡ length (now x-catalogue)
@@ -327,13 +327,12 @@ module _ (Shape Outcome Reply : Value) where
           ∷ []) ∵
           suffices ! _ (ends-at 𝓤 H A ended stayed (clauses 𝓤) W bound m-v-result v-result
           (tt, (tt, (tt, (z-call-x-catalogue, (tt, (tt, tt)))))) (tt, (tt, (tt, (l-x-catalogue, (tt, (tt, tt))))))) $
-          says ! (refl, refl) $ nothing ! $ move ! (6 ∷ 0 ∷ []) $ join ! $ move ! (4 ∷ 0 ∷ []) $ join ! $
-          move ! (2 ∷ 0 ∷ []) $ join ! $ frame ! $ nothing ! $
-          owned ! u32 (Is u32) (uint-makes 𝓤 H A W w32) x-sheet _ is-x-sheet $ fjoin ! $ move ! (3 ∷ 0 ∷ []) $
-          fjoin ! $ move ! (2 ∷ 0 ∷ []) $ fjoin ! $ move ! (1 ∷ 0 ∷ []) $ fjoin ! $
+          says ! (refl, refl) $ nothing ! $ bring ! (2 ∷ 3 ∷ 4 ∷ 0 ∷ []) $ group ! 4 $ frame ! $ nothing ! $
+          owned ! u32 (Is u32) (uint-makes 𝓤 H A W w32) x-sheet _ is-x-sheet $ fjoin ! $ bring ! (3 ∷ 0 ∷ []) $
+          fjoin ! $ bring ! (2 ∷ 0 ∷ []) $ fjoin ! $ bring ! (1 ∷ 0 ∷ []) $ fjoin ! $
           owned ! (rowOf Shape) (Is (rowOf Shape)) (Shape .makes 𝓤 H A) x-shape _ is-x-shape $ fjoin ! $
           owned ! u32 (Is u32) (uint-makes 𝓤 H A W w32) x-role _ is-x-role $ fjoin ! $
-          owned ! (rowOf Reply) (Is (rowOf Reply)) (Reply .makes 𝓤 H A) v-result _ is $ move ! (1 ∷ 0 ∷ []) $ done !
+          owned ! (rowOf Reply) (Is (rowOf Reply)) (Reply .makes 𝓤 H A) v-result _ is $ bring ! (1 ∷ 0 ∷ []) $ done !
 
       -- ---- the walk
       walk : (𝓣 : Tables 𝓤 H) → Triple 𝓤 (𝓣 .C #call) (call-contract call-out call-x-catalogue 𝓤 H A)
@@ -353,31 +352,26 @@ module _ (Shape Outcome Reply : Value) where
           pass1 ! (init ! 12 refl (tt, (tt, (record { fits = room-x-map .0 }, tt)))) $
           pass1 ! (init ! 10 refl (tt, (tt, (record { fits = room-x-catalogue .0 }, tt)))) $
           pass1 ! (init ! 8 refl (tt, (tt, (record { fits = room-x-card .0 }, tt)))) $
-          pass1 ! (init ! 6 refl typed-x-sheet) $ pass0 ! $ move ! (20 ∷ []) $ split ! $ move ! (1 ∷ []) $ split ! $
-          move ! (1 ∷ []) $ split ! $ move ! (1 ∷ []) $ drop ! $ move ! (23 ∷ []) $ fsplit ! $ move ! (1 ∷ []) $
-          fsplit ! $ move ! (1 ∷ []) $ fsplit ! $ move ! (1 ∷ []) $ fsplit ! $ move ! (1 ∷ []) $ fsplit ! $
-          move ! (1 ∷ []) $ fsplit ! $ move ! (1 ∷ []) $ drop ! $ move ! (5 ∷ []) $ drop ! $ move ! (4 ∷ []) $ drop ! $
-          drop ! $
+          pass1 ! (init ! 6 refl typed-x-sheet) $ pass0 ! $ bring ! (20 ∷ []) $ parts W (_ ∷ _ ∷ _ ∷ []) _ $
+          bring ! (23 ∷ []) $ fparts W (_ ∷ _ ∷ _ ∷ _ ∷ _ ∷ _ ∷ []) _ $ discard ! (0 ∷ 0 ∷ 3 ∷ []) $
           -- call
           assigns ! (addr ! (from ! (fld ! refl (hop ! (look-in ! 16 (sub ! 0 refl (whole !))) (stop !))))) (from ! (stop !))
           (init ! 8 refl (tt, tt)) $
           assigns ! (agg ! (and-then ! (load ! (from ! (stop !)) (look ! 8 refl)) (and-then !
           (load ! (from ! (fld ! refl (stop !))) (look-in ! 16 (sub ! 1 refl (whole !)))) (no-more !)))) (from ! (stop !))
           (init ! 6 refl (tt, (tt, (record { fits = room-x-catalogue .0 }, tt)))) $
-          move ! (2 ∷ []) $
           use1 W (‵ (ShrSlice (named 0) κ₀ u64 .own x-map (s-x-map ∷ [])) ⊛ ‵ (ShrSlice (named 0) κ₀ u64 .own x-map
           (s-x-map ∷ []))) (shr-slice-copy 𝓤 H A W (named 0) κ₀ u64 .twice x-map (s-x-map ∷ [])) $
-          split ! $ lft-new ! tt (λ ν₀-call. move ! (4 ∷ 6 ∷ []) $
+          split ! $ lft-new ! tt (λ ν₀-call. bring ! (3 ∷ 5 ∷ []) $
           use2 W (later (some (λ (δ : GName). ‵ (MutSlice (named 1) (ν₀-call ∷ []) Entry′.the-row .own
           (at-x-catalogue δ (now x-catalogue)) (s-x-catalogue ∷ [])) ⊛ ‵ (LentAgain Entry′.the-row κ₁ (ν₀-call ∷ []) q₁
           (x-catalogue .name) (x-catalogue .ptr .0) (x-catalogue .ptr .1) δ (now x-catalogue)))))
           (lends-again Entry′.the-row κ₁ (ν₀-call ∷ []) q₁ (x-catalogue .name) (x-catalogue .ptr .0) (x-catalogue .ptr .1) 𝓤 H A
           W (named 1) (named 1) (now x-catalogue) (length (now x-catalogue)) refl) $
-          await ! tt $ pick ! (λ δ₀-call. split ! $ move ! (5 ∷ []) $
+          await ! tt $ pick ! (λ δ₀-call. split ! $ bring ! (5 ∷ []) $
           use1 W (‵ (ShrSlice (named 2) κ₂ u8 .own x-card (s-x-card ∷ [])) ⊛ ‵ (ShrSlice (named 2) κ₂ u8 .own x-card
           (s-x-card ∷ []))) (shr-slice-copy 𝓤 H A W (named 2) κ₂ u8 .twice x-card (s-x-card ∷ [])) $
-          split ! $ move ! (8 ∷ 4 ∷ 7 ∷ 5 ∷ 2 ∷ 0 ∷ []) $ move ! (4 ∷ 5 ∷ []) $ join ! $ move ! (4 ∷ 0 ∷ []) $ join ! $
-          move ! (3 ∷ 0 ∷ []) $ join ! $ move ! (2 ∷ 0 ∷ []) $ join ! $ move ! (1 ∷ 0 ∷ []) $ join ! $
+          split ! $ bring ! (7 ∷ 4 ∷ 6 ∷ 4 ∷ 2 ∷ 0 ∷ []) $ group ! 6 $
           use1 W (raw ((call-contract call-out call-x-catalogue 𝓤 H A) .pre (to-call ν₀-call δ₀-call)))
           (goes-call ν₀-call δ₀-call) $
           calls-at ! (fmOf 𝓤 H (W .laws) 𝓣) (call-contract call-out call-x-catalogue 𝓤 H A) known-call (to-call ν₀-call δ₀-call)
@@ -388,27 +382,24 @@ module _ (Shape Outcome Reply : Value) where
           use1 W (later (some (λ (r : (denotes Outcome)). ((‵ (flft κ₀ q₀) ⊛ ‵ (flft (ν₀-call ∷ []) fullShare) ⊛ ‵ (flft κ₂ q₂)
           ⊛ ‵ ftrue) ⊛ ‵ ((rowOf Outcome) .own r (w-call ∷ []))) ⊛ raw (ensured 𝓤 H A call-ended
           (call-clauses call-out call-x-catalogue 𝓤) (κ₀, (ν₀-call ∷ [], (κ₂, tt))) (call-args δ₀-call) tt r)))) (id⊢ 𝓤 _) $
-          await ! tt $ pick ! (λ r-call. split ! $ move ! (1 ∷ []) $
+          await ! tt $ pick ! (λ r-call. split ! $ bring ! (1 ∷ []) $
           use1 W (some (λ (zs-call : Unit {0} × (Unit {0} × (Unit {0} × (List Entry × (Unit {0} × (Unit {0} × Unit {0})))))). ‵
           (lasts call-ended (κ₀, (ν₀-call ∷ [], (κ₂, tt))) (call-args δ₀-call) zs-call)
           ⊛ raw (fact 𝓤 (call-says call-out call-x-catalogue x-role x-shape (now x-map) (now x-catalogue) (now x-card) x-sheet
           r-call (zs-call .1 .1 .1 .0))))) (id⊢ 𝓤 _) $
-          pick ! (λ zs-call. split ! $ move ! (1 ∷ []) $
+          pick ! (λ zs-call. split ! $ bring ! (1 ∷ []) $
           heard ! (call-says call-out call-x-catalogue x-role x-shape (now x-map) (now x-catalogue) (now x-card) x-sheet r-call
           (zs-call .1 .1 .1 .0)) (λ e-call.
-          fsplit ! $ move ! (1 ∷ []) $ fsplit ! $ move ! (1 ∷ []) $ fsplit ! $ move ! (1 ∷ []) $ fsplit ! $
-          move ! (1 ∷ []) $ fsplit ! $ move ! (1 ∷ []) $ fsplit ! $ move ! (1 ∷ []) $ drop ! $ move ! (5 ∷ []) $
-          drop ! $ move ! (4 ∷ []) $ drop ! $ move ! (3 ∷ []) $ drop ! $ move ! (2 ∷ []) $ fsplit ! $ move ! (1 ∷ []) $
-          feqL ! (λ h-call-x-catalogue. move ! (2 ∷ []) $ drop ! $ move ! (1 ∷ []) $ drop ! $ move ! (1 ∷ []) $
-          split ! $ move ! (1 ∷ []) $
+          fparts W (_ ∷ _ ∷ _ ∷ _ ∷ _ ∷ _ ∷ []) _ $ discard ! (0 ∷ 0 ∷ 0 ∷ 1 ∷ 1 ∷ []) $ fsplit ! $ bring ! (1 ∷ []) $
+          feqL ! (λ h-call-x-catalogue. bring ! (1 ∷ []) $ split ! $ bring ! (1 ∷ []) $
           rewrite ! 0 (λ (r : (denotes Outcome)). ‵ ((rowOf Outcome) .own r (w-call ∷ []))) (e-call .0) refl $
           rewrite ! 2 (λ (l : List Entry). ‵ (finally Entry′.the-row δ₀-call l)) (e-call .1) refl $
           peeks ! (rowOf Outcome) (Is (rowOf Outcome)) (shows 𝓤 H A (rowOf Outcome)) v-outcome (w-call ∷ []) (λ is-w-call.
           land ! (from ! (stop !)) (init ! 10 refl ((Outcome .typed 𝓤 H A W) v-outcome _ is-w-call .0)) $
           rewrite ! 10 (λ (u : Val). ‵ (fat fullShare (mirOf Outcome) l₇ 0 u)) (ap only
           ((Outcome .tells) v-outcome _ is-w-call)) refl $
-          drop ! $ split ! $ move ! (1 ∷ []) $ split ! $ move ! (1 ∷ []) $ split ! $ move ! (1 ∷ []) $ drop ! $
-          move ! (1 ∷ []) $ lft-end ! tt $ move ! (0 ∷ 5 ∷ 3 ∷ []) $
+          discard ! (0 ∷ []) $ parts W (_ ∷ _ ∷ _ ∷ []) _ $ bring ! (1 ∷ []) $ lft-end ! tt $
+          bring ! (0 ∷ 4 ∷ 2 ∷ []) $
           use3 W (later (‵ (MutSlice (named 1) κ₁ Entry′.the-row .own (at-x-catalogue (x-catalogue .name) z-call-x-catalogue)
           (s-x-catalogue ∷ [])) ⊛ ‵ (flft κ₁ q₁))) (comes-back Entry′.the-row κ₁ (ν₀-call ∷ []) q₁ (x-catalogue .name)
           (x-catalogue .ptr .0) (x-catalogue .ptr .1) 𝓤 H A W (named 1) (named 1) (now x-catalogue) (length (now x-catalogue))
@@ -421,21 +412,21 @@ module _ (Shape Outcome Reply : Value) where
           (and-then ! (load ! (from ! (stop !)) (look ! 11 refl)) (no-more !)) (λ w-reply-of.
           use1 W (later (some (λ (r : (denotes Reply)). ((‵ ftrue) ⊛ ‵ ((rowOf Reply) .own r (w-reply-of ∷ [])))
           ⊛ raw (ensured 𝓤 H A reply-of-ended (reply-of-clauses reply-of-out 𝓤) tt (reply-of-args) tt r)))) (id⊢ 𝓤 _) $
-          await ! tt $ pick ! (λ r-reply-of. split ! $ move ! (1 ∷ []) $
+          await ! tt $ pick ! (λ r-reply-of. split ! $ bring ! (1 ∷ []) $
           use1 W (some (λ (zs-reply-of : Unit {0} × Unit {0}). ‵ (lasts reply-of-ended tt (reply-of-args) zs-reply-of)
           ⊛ raw (fact 𝓤 (reply-of-says reply-of-out v-outcome r-reply-of)))) (id⊢ 𝓤 _) $
-          pick ! (λ zs-reply-of. split ! $ move ! (1 ∷ []) $
-          heard ! (reply-of-says reply-of-out v-outcome r-reply-of) (λ e-reply-of. fsplit ! $ move ! (1 ∷ []) $
-          drop ! $ drop ! $ split ! $ move ! (1 ∷ []) $
+          pick ! (λ zs-reply-of. split ! $ bring ! (1 ∷ []) $
+          heard ! (reply-of-says reply-of-out v-outcome r-reply-of) (λ e-reply-of. fparts W (_ ∷ []) _ $
+          discard ! (0 ∷ []) $ split ! $ bring ! (1 ∷ []) $
           rewrite ! 0 (λ (r : (denotes Reply)). ‵ ((rowOf Reply) .own r (w-reply-of ∷ []))) (e-reply-of) refl $
           peeks ! (rowOf Reply) (Is (rowOf Reply)) (shows 𝓤 H A (rowOf Reply)) v-result (w-reply-of ∷ []) (λ is-w-reply-of.
           land ! (from ! (stop !)) (init ! 26 refl ((Reply .typed 𝓤 H A W) v-result _ is-w-reply-of .0)) $
           rewrite ! 26 (λ (u : Val). ‵ (fat fullShare (mirOf Reply) l₀ 0 u)) (ap only ((Reply .tells) v-result _ is-w-reply-of))
           refl $
-          drop ! $ drop ! $ returns ! (look ! 24 refl) $ leave ! 24 refl refl $ leave ! 22 refl refl $
-          leave ! 20 refl refl $ leave ! 18 refl refl $ leave ! 16 refl refl $ leave ! 14 refl refl $
-          leave ! 12 refl refl $ leave ! 10 refl refl $ leave ! 8 refl refl $ leave ! 6 refl refl $ free0 ! $
-          move ! (5 ∷ 3 ∷ 0 ∷ 1 ∷ 4 ∷ 2 ∷ []) $
+          discard ! (0 ∷ []) $ parts W ([]) _ $ returns ! (look ! 24 refl) $ leave ! 24 refl refl $
+          leave ! 22 refl refl $ leave ! 20 refl refl $ leave ! 18 refl refl $ leave ! 16 refl refl $
+          leave ! 14 refl refl $ leave ! 12 refl refl $ leave ! 10 refl refl $ leave ! 8 refl refl $
+          leave ! 6 refl refl $ free0 ! $ bring ! (5 ∷ 2 ∷ 0 ∷ 0 ∷ 1 ∷ 0 ∷ []) $
           by ! (exits (spelled-v-result w-reply-of is-w-reply-of) (ap {B = ℕ} length (sym (e-call .1))
           ∙ h-call-x-catalogue)))))))))))))))))))))))))
 

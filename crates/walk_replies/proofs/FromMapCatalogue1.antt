@@ -18,8 +18,8 @@ use base.Fml.{Lft, Share, GName, ftrue, flft, fat}
 use prog.Wp.{Heap, WpFn, Tables}
 use ghost.Atoms.{Atoms}
 use contract.Monad.{fact}
-use types.Kit.{Given, ‵, raw, some, later, _⊛_, ⋆, _$_, _∵_, !, qed, by, move, drop, use0, use1, split, join, pick, rewrite}
-use types.Kit.{fsplit, fjoin, suffices, frame, await, done}
+use types.Kit.{Given, ‵, raw, some, later, _⊛_, ⋆, _$_, _∵_, !, qed, by, use0, use1, group, split, join, pick, rewrite, fjoin}
+use types.Kit.{suffices, frame, await, done}
 use types.Run.{look, init, stop, from, load, and-then, no-more, land, returns, enter, alloc1, alloc0, params1, pass1, pass0}
 use types.Run.{free0}
 use sound.WpLaws.{fmOf, WpFn-mono}
@@ -43,7 +43,7 @@ use denote.Exit.{yes}
 use Rattle.catalogue.proofs.Values.{Value, denotes, rowOf, mirOf, valsOf}
 use Rattle.catalogue.specs.declared.Entry.{Entry}
 use Rattle.catalogue.proofs.Entry as Entry′
-use Rattle.catalogue.proofs.Steps.{leave}
+use Rattle.catalogue.proofs.Steps.{bring, discard, parts, fparts, leave}
 
 module _ (Shape Outcome Reply : Value) where
   -- ---- the signature
@@ -257,11 +257,11 @@ module _ (Shape Outcome Reply : Value) where
       goes-call =
           qed W (‵ (flft κ₀ q₀) ∷ ‵ (flft κ₁ q₁) ∷ ‵ (ShrSlice (named 0) κ₀ u64 .own x-map (s-x-map ∷ []))
           ∷ ‵ (ShrSlice (named 1) κ₁ Entry′.the-row .own x-catalogue (s-x-catalogue ∷ [])) ∷ []) ∵
-          nothing ! $ move ! (2 ∷ 0 ∷ []) $ join ! $ move ! (1 ∷ 0 ∷ []) $ join ! $ nothing ! $
-          owned ! u32 (Is u32) (uint-makes 𝓤 H A W w32) x-sheet _ is-x-sheet $ fjoin ! $ move ! (3 ∷ 0 ∷ []) $
-          fjoin ! $ move ! (2 ∷ 0 ∷ []) $ fjoin ! $
+          nothing ! $ bring ! (1 ∷ 1 ∷ 0 ∷ []) $ group ! 3 $ nothing ! $
+          owned ! u32 (Is u32) (uint-makes 𝓤 H A W w32) x-sheet _ is-x-sheet $ fjoin ! $ bring ! (3 ∷ 0 ∷ []) $
+          fjoin ! $ bring ! (2 ∷ 0 ∷ []) $ fjoin ! $
           owned ! (rowOf Shape) (Is (rowOf Shape)) (Shape .makes 𝓤 H A) x-shape _ is-x-shape $ fjoin ! $
-          owned ! u32 (Is u32) (uint-makes 𝓤 H A W w32) x-role _ is-x-role $ fjoin ! $ move ! (1 ∷ 0 ∷ []) $ join ! $
+          owned ! u32 (Is u32) (uint-makes 𝓤 H A W w32) x-role _ is-x-role $ fjoin ! $ bring ! (1 ∷ 0 ∷ []) $ join ! $
           frame ! $ done !
 
       -- ---- the caller has what `reply-of` asks
@@ -277,7 +277,7 @@ module _ (Shape Outcome Reply : Value) where
           qed W ([]) ∵
           nothing ! $ nothing ! $
           owned ! (rowOf Outcome) (Is (rowOf Outcome)) (Outcome .makes 𝓤 H A) v-outcome _ is-v-outcome $ fjoin ! $
-          move ! (1 ∷ 0 ∷ []) $ join ! $ frame ! $ done !
+          bring ! (1 ∷ 0 ∷ []) $ join ! $ frame ! $ done !
 
       -- ---- the exit
       exits : Is (rowOf Reply) v-result (m-v-result ∷ []) → ent 𝓤 (⋆ 𝓤 H A (‵ (ShrSlice (named 0) κ₀ u64 .own x-map
@@ -288,12 +288,12 @@ module _ (Shape Outcome Reply : Value) where
           ∷ ‵ (ShrSlice (named 1) κ₁ Entry′.the-row .own x-catalogue (s-x-catalogue ∷ [])) ∷ ‵ (flft κ₁ q₁) ∷ []) ∵
           suffices ! _ (ends-at 𝓤 H A ended stayed (clauses 𝓤) W bound m-v-result v-result (tt, (tt, (tt, (tt, (tt, tt)))))
           (tt, (tt, (tt, (tt, (tt, tt)))))) $
-          says ! refl $ nothing ! $ move ! (4 ∷ 0 ∷ []) $ join ! $ move ! (2 ∷ 0 ∷ []) $ join ! $ frame ! $ nothing ! $
-          owned ! u32 (Is u32) (uint-makes 𝓤 H A W w32) x-sheet _ is-x-sheet $ fjoin ! $ move ! (2 ∷ 0 ∷ []) $
-          fjoin ! $ move ! (1 ∷ 0 ∷ []) $ fjoin ! $
+          says ! refl $ nothing ! $ bring ! (2 ∷ 3 ∷ 0 ∷ []) $ group ! 3 $ frame ! $ nothing ! $
+          owned ! u32 (Is u32) (uint-makes 𝓤 H A W w32) x-sheet _ is-x-sheet $ fjoin ! $ bring ! (2 ∷ 0 ∷ []) $
+          fjoin ! $ bring ! (1 ∷ 0 ∷ []) $ fjoin ! $
           owned ! (rowOf Shape) (Is (rowOf Shape)) (Shape .makes 𝓤 H A) x-shape _ is-x-shape $ fjoin ! $
           owned ! u32 (Is u32) (uint-makes 𝓤 H A W w32) x-role _ is-x-role $ fjoin ! $
-          owned ! (rowOf Reply) (Is (rowOf Reply)) (Reply .makes 𝓤 H A) v-result _ is $ move ! (1 ∷ 0 ∷ []) $ done !
+          owned ! (rowOf Reply) (Is (rowOf Reply)) (Reply .makes 𝓤 H A) v-result _ is $ bring ! (1 ∷ 0 ∷ []) $ done !
 
       -- ---- the walk
       walk : (𝓣 : Tables 𝓤 H) → Triple 𝓤 (𝓣 .C #call) (call-contract call-out 𝓤 H A) → Triple 𝓤 (𝓣 .C #reply-of)
@@ -309,20 +309,17 @@ module _ (Shape Outcome Reply : Value) where
           pass1 ! (init ! 8 refl typed-x-shape) $
           pass1 ! (init ! 6 refl (tt, (tt, (record { fits = room-x-map .0 }, tt)))) $
           pass1 ! (init ! 4 refl (tt, (tt, (record { fits = room-x-catalogue .0 }, tt)))) $
-          pass1 ! (init ! 2 refl typed-x-sheet) $ pass0 ! $ move ! (14 ∷ []) $ split ! $ move ! (1 ∷ []) $ split ! $
-          move ! (1 ∷ []) $ drop ! $ move ! (16 ∷ []) $ fsplit ! $ move ! (1 ∷ []) $ fsplit ! $ move ! (1 ∷ []) $
-          fsplit ! $ move ! (1 ∷ []) $ fsplit ! $ move ! (1 ∷ []) $ fsplit ! $ move ! (1 ∷ []) $ drop ! $
-          move ! (4 ∷ []) $ drop ! $ move ! (3 ∷ []) $ drop ! $ drop ! $
+          pass1 ! (init ! 2 refl typed-x-sheet) $ pass0 ! $ bring ! (14 ∷ []) $ parts W (_ ∷ _ ∷ []) _ $
+          bring ! (16 ∷ []) $ fparts W (_ ∷ _ ∷ _ ∷ _ ∷ _ ∷ []) _ $ discard ! (0 ∷ 0 ∷ 2 ∷ []) $
           -- call
-          move ! (1 ∷ []) $
           use1 W (‵ (ShrSlice (named 0) κ₀ u64 .own x-map (s-x-map ∷ [])) ⊛ ‵ (ShrSlice (named 0) κ₀ u64 .own x-map
           (s-x-map ∷ []))) (shr-slice-copy 𝓤 H A W (named 0) κ₀ u64 .twice x-map (s-x-map ∷ [])) $
-          split ! $ move ! (2 ∷ []) $
+          split ! $ bring ! (2 ∷ []) $
           use1 W (‵ (ShrSlice (named 1) κ₁ Entry′.the-row .own x-catalogue (s-x-catalogue ∷ []))
           ⊛ ‵ (ShrSlice (named 1) κ₁ Entry′.the-row .own x-catalogue (s-x-catalogue ∷ [])))
           (shr-slice-copy 𝓤 H A W (named 1) κ₁ Entry′.the-row .twice x-catalogue (s-x-catalogue ∷ [])) $
-          split ! $ move ! (5 ∷ 4 ∷ 2 ∷ 0 ∷ []) $ move ! (2 ∷ 3 ∷ []) $ join ! $ move ! (2 ∷ 0 ∷ []) $ join ! $
-          move ! (1 ∷ 0 ∷ []) $ join ! $ use1 W (raw ((call-contract call-out 𝓤 H A) .pre (to-call))) (goes-call) $
+          split ! $ bring ! (4 ∷ 4 ∷ 2 ∷ 0 ∷ []) $ group ! 4 $
+          use1 W (raw ((call-contract call-out 𝓤 H A) .pre (to-call))) (goes-call) $
           calls-at ! (fmOf 𝓤 H (W .laws) 𝓣) (call-contract call-out 𝓤 H A) known-call (to-call)
           (and-then ! (load ! (from ! (stop !)) (look ! 13 refl)) (and-then ! (load ! (from ! (stop !)) (look ! 11 refl))
           (and-then ! (load ! (from ! (stop !)) (look ! 9 refl)) (and-then ! (load ! (from ! (stop !)) (look ! 7 refl))
@@ -330,22 +327,20 @@ module _ (Shape Outcome Reply : Value) where
           use1 W (later (some (λ (r : (denotes Outcome)). ((‵ (flft κ₀ q₀) ⊛ ‵ (flft κ₁ q₁) ⊛ ‵ ftrue)
           ⊛ ‵ ((rowOf Outcome) .own r (w-call ∷ []))) ⊛ raw (ensured 𝓤 H A call-ended (call-clauses call-out 𝓤) (κ₀, (κ₁, tt))
           (call-args) tt r)))) (id⊢ 𝓤 _) $
-          await ! tt $ pick ! (λ r-call. split ! $ move ! (1 ∷ []) $
+          await ! tt $ pick ! (λ r-call. split ! $ bring ! (1 ∷ []) $
           use1 W (some (λ (zs-call : Unit {0} × (Unit {0} × (Unit {0} × (Unit {0} × (Unit {0} × Unit {0}))))). ‵
           (lasts call-ended
           (κ₀, (κ₁, tt)) (call-args) zs-call) ⊛ raw (fact 𝓤 (call-says call-out x-role x-shape (now x-map) (now x-catalogue)
           x-sheet r-call)))) (id⊢ 𝓤 _) $
-          pick ! (λ zs-call. split ! $ move ! (1 ∷ []) $
+          pick ! (λ zs-call. split ! $ bring ! (1 ∷ []) $
           heard ! (call-says call-out x-role x-shape (now x-map) (now x-catalogue) x-sheet r-call) (λ e-call.
-          fsplit ! $ move ! (1 ∷ []) $ fsplit ! $ move ! (1 ∷ []) $ fsplit ! $ move ! (1 ∷ []) $ fsplit ! $
-          move ! (1 ∷ []) $ fsplit ! $ move ! (1 ∷ []) $ drop ! $ move ! (4 ∷ []) $ drop ! $ move ! (3 ∷ []) $ drop ! $
-          move ! (2 ∷ []) $ drop ! $ move ! (1 ∷ []) $ drop ! $ drop ! $ split ! $ move ! (1 ∷ []) $
+          fparts W (_ ∷ _ ∷ _ ∷ _ ∷ _ ∷ []) _ $ discard ! (0 ∷ 0 ∷ 0 ∷ 0 ∷ 0 ∷ []) $ split ! $ bring ! (1 ∷ []) $
           rewrite ! 0 (λ (r : (denotes Outcome)). ‵ ((rowOf Outcome) .own r (w-call ∷ []))) (e-call) refl $
           peeks ! (rowOf Outcome) (Is (rowOf Outcome)) (shows 𝓤 H A (rowOf Outcome)) v-outcome (w-call ∷ []) (λ is-w-call.
           land ! (from ! (stop !)) (init ! 4 refl ((Outcome .typed 𝓤 H A W) v-outcome _ is-w-call .0)) $
           rewrite ! 4 (λ (u : Val). ‵ (fat fullShare (mirOf Outcome) l₆ 0 u)) (ap only ((Outcome .tells) v-outcome _ is-w-call))
           refl $
-          drop ! $ split ! $ move ! (1 ∷ []) $ split ! $ move ! (1 ∷ []) $ drop ! $
+          discard ! (0 ∷ []) $ parts W (_ ∷ _ ∷ []) _ $
           -- reply-of
           use0 W (raw ((reply-of-contract reply-of-out 𝓤 H A) .pre (to-reply-of))) (goes-reply-of
           (spelled-v-outcome w-call is-w-call)) $
@@ -353,20 +348,20 @@ module _ (Shape Outcome Reply : Value) where
           (and-then ! (load ! (from ! (stop !)) (look ! 5 refl)) (no-more !)) (λ w-reply-of.
           use1 W (later (some (λ (r : (denotes Reply)). ((‵ ftrue) ⊛ ‵ ((rowOf Reply) .own r (w-reply-of ∷ [])))
           ⊛ raw (ensured 𝓤 H A reply-of-ended (reply-of-clauses reply-of-out 𝓤) tt (reply-of-args) tt r)))) (id⊢ 𝓤 _) $
-          await ! tt $ pick ! (λ r-reply-of. split ! $ move ! (1 ∷ []) $
+          await ! tt $ pick ! (λ r-reply-of. split ! $ bring ! (1 ∷ []) $
           use1 W (some (λ (zs-reply-of : Unit {0} × Unit {0}). ‵ (lasts reply-of-ended tt (reply-of-args) zs-reply-of)
           ⊛ raw (fact 𝓤 (reply-of-says reply-of-out v-outcome r-reply-of)))) (id⊢ 𝓤 _) $
-          pick ! (λ zs-reply-of. split ! $ move ! (1 ∷ []) $
-          heard ! (reply-of-says reply-of-out v-outcome r-reply-of) (λ e-reply-of. fsplit ! $ move ! (1 ∷ []) $
-          drop ! $ drop ! $ split ! $ move ! (1 ∷ []) $
+          pick ! (λ zs-reply-of. split ! $ bring ! (1 ∷ []) $
+          heard ! (reply-of-says reply-of-out v-outcome r-reply-of) (λ e-reply-of. fparts W (_ ∷ []) _ $
+          discard ! (0 ∷ []) $ split ! $ bring ! (1 ∷ []) $
           rewrite ! 0 (λ (r : (denotes Reply)). ‵ ((rowOf Reply) .own r (w-reply-of ∷ []))) (e-reply-of) refl $
           peeks ! (rowOf Reply) (Is (rowOf Reply)) (shows 𝓤 H A (rowOf Reply)) v-result (w-reply-of ∷ []) (λ is-w-reply-of.
           land ! (from ! (stop !)) (init ! 18 refl ((Reply .typed 𝓤 H A W) v-result _ is-w-reply-of .0)) $
           rewrite ! 18 (λ (u : Val). ‵ (fat fullShare (mirOf Reply) l₀ 0 u)) (ap only ((Reply .tells) v-result _ is-w-reply-of))
           refl $
-          drop ! $ drop ! $ returns ! (look ! 16 refl) $ leave ! 16 refl refl $ leave ! 14 refl refl $
-          leave ! 12 refl refl $ leave ! 10 refl refl $ leave ! 8 refl refl $ leave ! 6 refl refl $
-          leave ! 4 refl refl $ free0 ! $ move ! (3 ∷ 1 ∷ 2 ∷ 0 ∷ []) $
+          discard ! (0 ∷ []) $ parts W ([]) _ $ returns ! (look ! 16 refl) $ leave ! 16 refl refl $
+          leave ! 14 refl refl $ leave ! 12 refl refl $ leave ! 10 refl refl $ leave ! 8 refl refl $
+          leave ! 6 refl refl $ leave ! 4 refl refl $ free0 ! $ bring ! (3 ∷ 0 ∷ 1 ∷ 0 ∷ []) $
           by ! (exits (spelled-v-result w-reply-of is-w-reply-of)))))))))))))))))))
 
     module _ {M : Type 1} (𝓤 : URA M) (H : Heap 𝓤) (A : Atoms 𝓤) (W : Given 𝓤 H A) where

@@ -20,7 +20,7 @@ use base.Fml.{Lft, Share, GName, ftrue, flft, fat}
 use prog.Wp.{Heap, WpFn, Tables}
 use ghost.Atoms.{Atoms}
 use contract.Monad.{fact}
-use types.Kit.{Given, ‵, raw, some, later, _⊛_, ⋆, _$_, _∵_, !, qed, by, move, drop, use0, use1, use2, use3, split, join, pick}
+use types.Kit.{Given, ‵, raw, some, later, _⊛_, ⋆, _$_, _∵_, !, qed, by, use0, use1, use2, use3, group, split, join, pick}
 use types.Kit.{rewrite, fsplit, fjoin, feqL, suffices, frame, await, done}
 use types.Run.{look, init, stop, hop, fld, from, load, addr, and-then, no-more, assigns, land, returns, enter, alloc1, alloc0}
 use types.Run.{params1, pass1, pass0, free0}
@@ -49,7 +49,7 @@ use Rattle.catalogue.proofs.Values.{Value, denotes, rowOf, mirOf, valsOf}
 use Rattle.catalogue.specs.declared.Entry.{Entry}
 use Rattle.catalogue.proofs.Entry as Entry′
 use Rattle.catalogue.proofs.Entry.Laws as Entry″
-use Rattle.catalogue.proofs.Steps.{leave}
+use Rattle.catalogue.proofs.Steps.{bring, discard, parts, fparts, leave}
 use Rattle.catalogue.proofs.Lending.{LentAgain, lends-again, comes-back}
 
 module _ (Shape Outcome Reply : Value) where
@@ -435,15 +435,14 @@ module _ (Shape Outcome Reply : Value) where
           (at-x-catalogue δ₂-call (now x-catalogue)) (s-x-catalogue ∷ [])) ∷ ‵ (MutSlice (named 3) (ν₃-call ∷ []) u8 .own
           (at-x-card δ₃-call (now x-card)) (s-x-card ∷ [])) ∷ ‵ (ShrRef (named 4) κ₄ (Array u32 8) .own x-limits
           (s-x-limits ∷ [])) ∷ []) ∵
-          nothing ! $ move ! (5 ∷ 0 ∷ []) $ join ! $ move ! (4 ∷ 0 ∷ []) $ join ! $ move ! (3 ∷ 0 ∷ []) $ join ! $
-          move ! (2 ∷ 0 ∷ []) $ join ! $ move ! (1 ∷ 0 ∷ []) $ join ! $ nothing ! $
+          nothing ! $ bring ! (1 ∷ 1 ∷ 1 ∷ 1 ∷ 1 ∷ 0 ∷ []) $ group ! 6 $ nothing ! $
           owned ! u32 (Is u32) (uint-makes 𝓤 H A W w32) x-count _ is-x-count $ fjoin ! $
           owned ! u32 (Is u32) (uint-makes 𝓤 H A W w32) x-start _ is-x-start $ fjoin ! $
-          owned ! u32 (Is u32) (uint-makes 𝓤 H A W w32) x-sheet _ is-x-sheet $ fjoin ! $ move ! (6 ∷ 0 ∷ []) $
-          fjoin ! $ move ! (5 ∷ 0 ∷ []) $ fjoin ! $ move ! (4 ∷ 0 ∷ []) $ fjoin ! $ move ! (3 ∷ 0 ∷ []) $ fjoin ! $
-          move ! (2 ∷ 0 ∷ []) $ fjoin ! $
+          owned ! u32 (Is u32) (uint-makes 𝓤 H A W w32) x-sheet _ is-x-sheet $ fjoin ! $ bring ! (6 ∷ 0 ∷ []) $
+          fjoin ! $ bring ! (5 ∷ 0 ∷ []) $ fjoin ! $ bring ! (4 ∷ 0 ∷ []) $ fjoin ! $ bring ! (3 ∷ 0 ∷ []) $ fjoin ! $
+          bring ! (2 ∷ 0 ∷ []) $ fjoin ! $
           owned ! (rowOf Shape) (Is (rowOf Shape)) (Shape .makes 𝓤 H A) x-shape _ is-x-shape $ fjoin ! $
-          owned ! u32 (Is u32) (uint-makes 𝓤 H A W w32) x-role _ is-x-role $ fjoin ! $ move ! (1 ∷ 0 ∷ []) $ join ! $
+          owned ! u32 (Is u32) (uint-makes 𝓤 H A W w32) x-role _ is-x-role $ fjoin ! $ bring ! (1 ∷ 0 ∷ []) $ join ! $
           frame ! $ done !
 
       -- ---- the caller has what `reply-of` asks
@@ -459,7 +458,7 @@ module _ (Shape Outcome Reply : Value) where
           qed W ([]) ∵
           nothing ! $ nothing ! $
           owned ! (rowOf Outcome) (Is (rowOf Outcome)) (Outcome .makes 𝓤 H A) v-outcome _ is-v-outcome $ fjoin ! $
-          move ! (1 ∷ 0 ∷ []) $ join ! $ frame ! $ done !
+          bring ! (1 ∷ 0 ∷ []) $ join ! $ frame ! $ done !
 
       -- ---- the exit
       exits : Is (rowOf Reply) v-result (m-v-result ∷ []) → length z-call-x-map ≡ length (now x-map) → length z-call-x-summary
@@ -481,16 +480,15 @@ module _ (Shape Outcome Reply : Value) where
             tt,
             (tt, (z-call-x-map, (z-call-x-summary, (z-call-x-catalogue, (z-call-x-card, (tt, (tt, (tt, (tt, tt))))))))),
           ) (tt, (tt, (l-x-map, (l-x-summary, (l-x-catalogue, (l-x-card, (tt, (tt, (tt, (tt, tt))))))))))) $
-          says ! (refl, refl, refl, refl, refl) $ nothing ! $ move ! (10 ∷ 0 ∷ []) $ join ! $ move ! (8 ∷ 0 ∷ []) $
-          join ! $ move ! (6 ∷ 0 ∷ []) $ join ! $ move ! (4 ∷ 0 ∷ []) $ join ! $ move ! (2 ∷ 0 ∷ []) $ join ! $
+          says ! (refl, refl, refl, refl, refl) $ nothing ! $ bring ! (2 ∷ 3 ∷ 4 ∷ 5 ∷ 6 ∷ 0 ∷ []) $ group ! 6 $
           frame ! $ nothing ! $ owned ! u32 (Is u32) (uint-makes 𝓤 H A W w32) x-count _ is-x-count $ fjoin ! $
           owned ! u32 (Is u32) (uint-makes 𝓤 H A W w32) x-start _ is-x-start $ fjoin ! $
-          owned ! u32 (Is u32) (uint-makes 𝓤 H A W w32) x-sheet _ is-x-sheet $ fjoin ! $ move ! (5 ∷ 0 ∷ []) $
-          fjoin ! $ move ! (4 ∷ 0 ∷ []) $ fjoin ! $ move ! (3 ∷ 0 ∷ []) $ fjoin ! $ move ! (2 ∷ 0 ∷ []) $ fjoin ! $
-          move ! (1 ∷ 0 ∷ []) $ fjoin ! $
+          owned ! u32 (Is u32) (uint-makes 𝓤 H A W w32) x-sheet _ is-x-sheet $ fjoin ! $ bring ! (5 ∷ 0 ∷ []) $
+          fjoin ! $ bring ! (4 ∷ 0 ∷ []) $ fjoin ! $ bring ! (3 ∷ 0 ∷ []) $ fjoin ! $ bring ! (2 ∷ 0 ∷ []) $ fjoin ! $
+          bring ! (1 ∷ 0 ∷ []) $ fjoin ! $
           owned ! (rowOf Shape) (Is (rowOf Shape)) (Shape .makes 𝓤 H A) x-shape _ is-x-shape $ fjoin ! $
           owned ! u32 (Is u32) (uint-makes 𝓤 H A W w32) x-role _ is-x-role $ fjoin ! $
-          owned ! (rowOf Reply) (Is (rowOf Reply)) (Reply .makes 𝓤 H A) v-result _ is $ move ! (1 ∷ 0 ∷ []) $ done !
+          owned ! (rowOf Reply) (Is (rowOf Reply)) (Reply .makes 𝓤 H A) v-result _ is $ bring ! (1 ∷ 0 ∷ []) $ done !
 
       -- ---- the walk
       walk : (𝓣 : Tables 𝓤 H) → Triple 𝓤 (𝓣 .C #call) (call-contract call-out call-x-map call-x-summary call-x-catalogue
@@ -516,12 +514,8 @@ module _ (Shape Outcome Reply : Value) where
           pass1 ! (init ! 26 refl (tt, (tt, (record { fits = room-x-card .0 }, tt)))) $
           pass1 ! (init ! 24 refl (tt, tt)) $ pass1 ! (init ! 22 refl typed-x-sheet) $
           pass1 ! (init ! 20 refl typed-x-start) $ pass1 ! (init ! 18 refl typed-x-count) $ pass0 ! $
-          move ! (40 ∷ []) $ split ! $ move ! (1 ∷ []) $ split ! $ move ! (1 ∷ []) $ split ! $ move ! (1 ∷ []) $
-          split ! $ move ! (1 ∷ []) $ split ! $ move ! (1 ∷ []) $ drop ! $ move ! (45 ∷ []) $ fsplit ! $
-          move ! (1 ∷ []) $ fsplit ! $ move ! (1 ∷ []) $ fsplit ! $ move ! (1 ∷ []) $ fsplit ! $ move ! (1 ∷ []) $
-          fsplit ! $ move ! (1 ∷ []) $ fsplit ! $ move ! (1 ∷ []) $ fsplit ! $ move ! (1 ∷ []) $ fsplit ! $
-          move ! (1 ∷ []) $ fsplit ! $ move ! (1 ∷ []) $ fsplit ! $ move ! (1 ∷ []) $ drop ! $ move ! (9 ∷ []) $
-          drop ! $ move ! (8 ∷ []) $ drop ! $ move ! (2 ∷ []) $ drop ! $ move ! (1 ∷ []) $ drop ! $ drop ! $
+          bring ! (40 ∷ []) $ parts W (_ ∷ _ ∷ _ ∷ _ ∷ _ ∷ []) _ $ bring ! (45 ∷ []) $
+          fparts W (_ ∷ _ ∷ _ ∷ _ ∷ _ ∷ _ ∷ _ ∷ _ ∷ _ ∷ _ ∷ []) _ $ discard ! (0 ∷ 0 ∷ 5 ∷ 5 ∷ 5 ∷ []) $
           -- call
           assigns ! (addr ! (from ! (fld ! refl (hop ! (look-in ! 42 (sub ! 0 refl (whole !))) (stop !))))) (from ! (stop !))
           (init ! 24 refl (tt, tt)) $
@@ -543,35 +537,32 @@ module _ (Shape Outcome Reply : Value) where
           assigns ! (agg ! (and-then ! (load ! (from ! (stop !)) (look ! 12 refl)) (and-then !
           (load ! (from ! (fld ! refl (stop !))) (look-in ! 36 (sub ! 1 refl (whole !)))) (no-more !)))) (from ! (stop !))
           (init ! 10 refl (tt, (tt, (record { fits = room-x-card .0 }, tt)))) $
-          lft-new ! tt (λ ν₀-call. move ! (5 ∷ 10 ∷ []) $
+          lft-new ! tt (λ ν₀-call. bring ! (1 ∷ 5 ∷ []) $
           use2 W (later (some (λ (δ : GName). ‵ (MutSlice (named 0) (ν₀-call ∷ []) u64 .own (at-x-map δ (now x-map))
           (s-x-map ∷ [])) ⊛ ‵ (LentAgain u64 κ₀ (ν₀-call ∷ []) q₀ (x-map .name) (x-map .ptr .0) (x-map .ptr .1) δ
           (now x-map))))) (lends-again u64 κ₀ (ν₀-call ∷ []) q₀ (x-map .name) (x-map .ptr .0) (x-map .ptr .1) 𝓤 H A W (named 0)
           (named 0) (now x-map) (length (now x-map)) refl) $
-          await ! tt $ pick ! (λ δ₀-call. split ! $ lft-new ! tt (λ ν₁-call. move ! (7 ∷ 11 ∷ []) $
+          await ! tt $ pick ! (λ δ₀-call. split ! $ lft-new ! tt (λ ν₁-call. bring ! (4 ∷ 7 ∷ []) $
           use2 W (later (some (λ (δ : GName). ‵ (MutSlice (named 1) (ν₁-call ∷ []) u32 .own (at-x-summary δ (now x-summary))
           (s-x-summary ∷ [])) ⊛ ‵ (LentAgain u32 κ₁ (ν₁-call ∷ []) q₁ (x-summary .name) (x-summary .ptr .0) (x-summary .ptr .1)
           δ (now x-summary))))) (lends-again u32 κ₁ (ν₁-call ∷ []) q₁ (x-summary .name) (x-summary .ptr .0) (x-summary .ptr .1)
           𝓤 H A W (named 1) (named 1) (now x-summary) (length (now x-summary)) refl) $
-          await ! tt $ pick ! (λ δ₁-call. split ! $ lft-new ! tt (λ ν₂-call. move ! (9 ∷ 12 ∷ []) $
+          await ! tt $ pick ! (λ δ₁-call. split ! $ lft-new ! tt (λ ν₂-call. bring ! (7 ∷ 9 ∷ []) $
           use2 W (later (some (λ (δ : GName). ‵ (MutSlice (named 2) (ν₂-call ∷ []) Entry′.the-row .own
           (at-x-catalogue δ (now x-catalogue)) (s-x-catalogue ∷ [])) ⊛ ‵ (LentAgain Entry′.the-row κ₂ (ν₂-call ∷ []) q₂
           (x-catalogue .name) (x-catalogue .ptr .0) (x-catalogue .ptr .1) δ (now x-catalogue)))))
           (lends-again Entry′.the-row κ₂ (ν₂-call ∷ []) q₂ (x-catalogue .name) (x-catalogue .ptr .0) (x-catalogue .ptr .1) 𝓤 H A
           W (named 2) (named 2) (now x-catalogue) (length (now x-catalogue)) refl) $
-          await ! tt $ pick ! (λ δ₂-call. split ! $ lft-new ! tt (λ ν₃-call. move ! (11 ∷ 13 ∷ []) $
+          await ! tt $ pick ! (λ δ₂-call. split ! $ lft-new ! tt (λ ν₃-call. bring ! (10 ∷ 11 ∷ []) $
           use2 W (later (some (λ (δ : GName). ‵ (MutSlice (named 3) (ν₃-call ∷ []) u8 .own (at-x-card δ (now x-card))
           (s-x-card ∷ [])) ⊛ ‵ (LentAgain u8 κ₃ (ν₃-call ∷ []) q₃ (x-card .name) (x-card .ptr .0) (x-card .ptr .1) δ
           (now x-card))))) (lends-again u8 κ₃ (ν₃-call ∷ []) q₃ (x-card .name) (x-card .ptr .0) (x-card .ptr .1) 𝓤 H A W
           (named 3) (named 3) (now x-card) (length (now x-card)) refl) $
-          await ! tt $ pick ! (λ δ₃-call. split ! $ move ! (12 ∷ []) $
+          await ! tt $ pick ! (λ δ₃-call. split ! $ bring ! (12 ∷ []) $
           use1 W (‵ (ShrRef (named 4) κ₄ (Array u32 8) .own x-limits (s-x-limits ∷ []))
           ⊛ ‵ (ShrRef (named 4) κ₄ (Array u32 8) .own x-limits (s-x-limits ∷ []))) (shr-copy 𝓤 H A W (named 4) κ₄
           (Array u32 8) .twice x-limits (s-x-limits ∷ [])) $
-          split ! $ move ! (13 ∷ 10 ∷ 7 ∷ 4 ∷ 14 ∷ 11 ∷ 8 ∷ 5 ∷ 2 ∷ 0 ∷ []) $ move ! (8 ∷ 9 ∷ []) $ join ! $
-          move ! (8 ∷ 0 ∷ []) $ join ! $ move ! (7 ∷ 0 ∷ []) $ join ! $ move ! (6 ∷ 0 ∷ []) $ join ! $
-          move ! (5 ∷ 0 ∷ []) $ join ! $ move ! (4 ∷ 0 ∷ []) $ join ! $ move ! (3 ∷ 0 ∷ []) $ join ! $
-          move ! (2 ∷ 0 ∷ []) $ join ! $ move ! (1 ∷ 0 ∷ []) $ join ! $
+          split ! $ bring ! (13 ∷ 10 ∷ 7 ∷ 4 ∷ 10 ∷ 8 ∷ 6 ∷ 4 ∷ 2 ∷ 0 ∷ []) $ group ! 10 $
           use1 W (raw ((call-contract call-out call-x-map call-x-summary call-x-catalogue call-x-card 𝓤 H A) .pre
           (to-call ν₀-call ν₁-call ν₂-call ν₃-call δ₀-call δ₁-call δ₂-call δ₃-call))) (goes-call ν₀-call ν₁-call ν₂-call ν₃-call
           δ₀-call δ₁-call δ₂-call δ₃-call) $
@@ -589,7 +580,7 @@ module _ (Shape Outcome Reply : Value) where
           (ensured 𝓤 H A call-ended (call-clauses call-out call-x-map call-x-summary call-x-catalogue call-x-card 𝓤)
           (ν₀-call ∷ [], (ν₁-call ∷ [], (ν₂-call ∷ [], (ν₃-call ∷ [], (κ₄, tt))))) (call-args δ₀-call δ₁-call δ₂-call δ₃-call)
           tt r)))) (id⊢ 𝓤 _) $
-          await ! tt $ pick ! (λ r-call. split ! $ move ! (1 ∷ []) $
+          await ! tt $ pick ! (λ r-call. split ! $ bring ! (1 ∷ []) $
           use1 W (some (λ (zs-call : Unit {0} × (Unit {0} × (List ℕ × (List ℕ × (List Entry
           × (List ℕ × (Unit {0} × (Unit {0} × (Unit {0} × (Unit {0} × Unit {0})))))))))). ‵
           (lasts call-ended (ν₀-call ∷ [], (ν₁-call ∷ [], (ν₂-call ∷ [], (ν₃-call ∷ [], (κ₄, tt)))))
@@ -597,18 +588,15 @@ module _ (Shape Outcome Reply : Value) where
           call-x-catalogue call-x-card x-role x-shape (now x-map) (now x-summary) (now x-catalogue) (now x-card) (now x-limits)
           x-sheet x-start x-count r-call (zs-call .1 .1 .0) (zs-call .1 .1 .1 .0) (zs-call .1 .1 .1 .1 .0)
           (zs-call .1 .1 .1 .1 .1 .0))))) (id⊢ 𝓤 _) $
-          pick ! (λ zs-call. split ! $ move ! (1 ∷ []) $
+          pick ! (λ zs-call. split ! $ bring ! (1 ∷ []) $
           heard ! (call-says call-out call-x-map call-x-summary call-x-catalogue call-x-card x-role x-shape (now x-map)
           (now x-summary) (now x-catalogue) (now x-card) (now x-limits) x-sheet x-start x-count r-call (zs-call .1 .1 .0)
           (zs-call .1 .1 .1 .0) (zs-call .1 .1 .1 .1 .0) (zs-call .1 .1 .1 .1 .1 .0)) (λ e-call.
-          fsplit ! $ move ! (1 ∷ []) $ fsplit ! $ move ! (1 ∷ []) $ fsplit ! $ move ! (1 ∷ []) $ fsplit ! $
-          move ! (1 ∷ []) $ fsplit ! $ move ! (1 ∷ []) $ fsplit ! $ move ! (1 ∷ []) $ fsplit ! $ move ! (1 ∷ []) $
-          fsplit ! $ move ! (1 ∷ []) $ fsplit ! $ move ! (1 ∷ []) $ fsplit ! $ move ! (1 ∷ []) $ drop ! $
-          move ! (9 ∷ []) $ drop ! $ move ! (8 ∷ []) $ drop ! $ move ! (7 ∷ []) $ fsplit ! $ move ! (1 ∷ []) $
-          feqL ! (λ h-call-x-map. move ! (7 ∷ []) $ fsplit ! $ move ! (1 ∷ []) $ feqL ! (λ h-call-x-summary.
-          move ! (7 ∷ []) $ fsplit ! $ move ! (1 ∷ []) $ feqL ! (λ h-call-x-catalogue. move ! (7 ∷ []) $ fsplit ! $
-          move ! (1 ∷ []) $ feqL ! (λ h-call-x-card. move ! (7 ∷ []) $ drop ! $ move ! (6 ∷ []) $ drop ! $
-          move ! (5 ∷ []) $ drop ! $ move ! (4 ∷ []) $ drop ! $ move ! (4 ∷ []) $ split ! $ move ! (1 ∷ []) $
+          fparts W (_ ∷ _ ∷ _ ∷ _ ∷ _ ∷ _ ∷ _ ∷ _ ∷ _ ∷ _ ∷ []) _ $ discard ! (0 ∷ 0 ∷ 4 ∷ 4 ∷ 4 ∷ 4 ∷ []) $ fsplit ! $
+          bring ! (1 ∷ []) $ feqL ! (λ h-call-x-map. bring ! (1 ∷ []) $ fsplit ! $ bring ! (1 ∷ []) $
+          feqL ! (λ h-call-x-summary. bring ! (2 ∷ []) $ fsplit ! $ bring ! (1 ∷ []) $ feqL ! (λ h-call-x-catalogue.
+          bring ! (3 ∷ []) $ fsplit ! $ bring ! (1 ∷ []) $ feqL ! (λ h-call-x-card. bring ! (4 ∷ []) $ split ! $
+          bring ! (1 ∷ []) $
           rewrite ! 0 (λ (r : (denotes Outcome)). ‵ ((rowOf Outcome) .own r (w-call ∷ []))) (e-call .0) refl $
           rewrite ! 5 (λ (l : List ℕ). ‵ (finally u64 δ₀-call l)) (e-call .1) refl $
           rewrite ! 4 (λ (l : List ℕ). ‵ (finally u32 δ₁-call l)) (e-call .2) refl $
@@ -618,24 +606,22 @@ module _ (Shape Outcome Reply : Value) where
           land ! (from ! (stop !)) (init ! 27 refl ((Outcome .typed 𝓤 H A W) v-outcome _ is-w-call .0)) $
           rewrite ! 27 (λ (u : Val). ‵ (fat fullShare (mirOf Outcome) l₁₁ 0 u)) (ap only
           ((Outcome .tells) v-outcome _ is-w-call)) refl $
-          drop ! $ split ! $ move ! (1 ∷ []) $ split ! $ move ! (1 ∷ []) $ split ! $ move ! (1 ∷ []) $ split ! $
-          move ! (1 ∷ []) $ split ! $ move ! (1 ∷ []) $ drop ! $ move ! (4 ∷ []) $ lft-end ! tt $
-          move ! (0 ∷ 13 ∷ 8 ∷ []) $
+          discard ! (0 ∷ []) $ parts W (_ ∷ _ ∷ _ ∷ _ ∷ _ ∷ []) _ $ lft-end ! tt $ bring ! (0 ∷ 12 ∷ 7 ∷ []) $
           use3 W (later (‵ (MutSlice (named 0) κ₀ u64 .own (at-x-map (x-map .name) z-call-x-map) (s-x-map ∷ []))
           ⊛ ‵ (flft κ₀ q₀))) (comes-back u64 κ₀ (ν₀-call ∷ []) q₀ (x-map .name) (x-map .ptr .0) (x-map .ptr .1) 𝓤 H A W
           (named 0) (named 0) (now x-map) (length (now x-map)) refl room-x-map δ₀-call z-call-x-map
           (ap {B = ℕ} length (sym (e-call .1)) ∙ h-call-x-map)) $
-          await ! tt $ split ! $ move ! (5 ∷ []) $ lft-end ! tt $ move ! (0 ∷ 12 ∷ 8 ∷ []) $
+          await ! tt $ split ! $ bring ! (2 ∷ []) $ lft-end ! tt $ bring ! (0 ∷ 11 ∷ 7 ∷ []) $
           use3 W (later (‵ (MutSlice (named 1) κ₁ u32 .own (at-x-summary (x-summary .name) z-call-x-summary) (s-x-summary ∷ []))
           ⊛ ‵ (flft κ₁ q₁))) (comes-back u32 κ₁ (ν₁-call ∷ []) q₁ (x-summary .name) (x-summary .ptr .0) (x-summary .ptr .1) 𝓤 H
           A W (named 1) (named 1) (now x-summary) (length (now x-summary)) refl room-x-summary δ₁-call z-call-x-summary
           (ap {B = ℕ} length (sym (e-call .2)) ∙ h-call-x-summary)) $
-          await ! tt $ split ! $ move ! (6 ∷ []) $ lft-end ! tt $ move ! (0 ∷ 11 ∷ 8 ∷ []) $
+          await ! tt $ split ! $ bring ! (4 ∷ []) $ lft-end ! tt $ bring ! (0 ∷ 10 ∷ 7 ∷ []) $
           use3 W (later (‵ (MutSlice (named 2) κ₂ Entry′.the-row .own (at-x-catalogue (x-catalogue .name) z-call-x-catalogue)
           (s-x-catalogue ∷ [])) ⊛ ‵ (flft κ₂ q₂))) (comes-back Entry′.the-row κ₂ (ν₂-call ∷ []) q₂ (x-catalogue .name)
           (x-catalogue .ptr .0) (x-catalogue .ptr .1) 𝓤 H A W (named 2) (named 2) (now x-catalogue) (length (now x-catalogue))
           refl room-x-catalogue δ₂-call z-call-x-catalogue (ap {B = ℕ} length (sym (e-call .3)) ∙ h-call-x-catalogue)) $
-          await ! tt $ split ! $ move ! (7 ∷ []) $ lft-end ! tt $ move ! (0 ∷ 10 ∷ 8 ∷ []) $
+          await ! tt $ split ! $ bring ! (6 ∷ []) $ lft-end ! tt $ bring ! (0 ∷ 9 ∷ 7 ∷ []) $
           use3 W (later (‵ (MutSlice (named 3) κ₃ u8 .own (at-x-card (x-card .name) z-call-x-card) (s-x-card ∷ []))
           ⊛ ‵ (flft κ₃ q₃))) (comes-back u8 κ₃ (ν₃-call ∷ []) q₃ (x-card .name) (x-card .ptr .0) (x-card .ptr .1) 𝓤 H A W
           (named 3) (named 3) (now x-card) (length (now x-card)) refl room-x-card δ₃-call z-call-x-card
@@ -648,23 +634,24 @@ module _ (Shape Outcome Reply : Value) where
           (and-then ! (load ! (from ! (stop !)) (look ! 27 refl)) (no-more !)) (λ w-reply-of.
           use1 W (later (some (λ (r : (denotes Reply)). ((‵ ftrue) ⊛ ‵ ((rowOf Reply) .own r (w-reply-of ∷ [])))
           ⊛ raw (ensured 𝓤 H A reply-of-ended (reply-of-clauses reply-of-out 𝓤) tt (reply-of-args) tt r)))) (id⊢ 𝓤 _) $
-          await ! tt $ pick ! (λ r-reply-of. split ! $ move ! (1 ∷ []) $
+          await ! tt $ pick ! (λ r-reply-of. split ! $ bring ! (1 ∷ []) $
           use1 W (some (λ (zs-reply-of : Unit {0} × Unit {0}). ‵ (lasts reply-of-ended tt (reply-of-args) zs-reply-of)
           ⊛ raw (fact 𝓤 (reply-of-says reply-of-out v-outcome r-reply-of)))) (id⊢ 𝓤 _) $
-          pick ! (λ zs-reply-of. split ! $ move ! (1 ∷ []) $
-          heard ! (reply-of-says reply-of-out v-outcome r-reply-of) (λ e-reply-of. fsplit ! $ move ! (1 ∷ []) $
-          drop ! $ drop ! $ split ! $ move ! (1 ∷ []) $
+          pick ! (λ zs-reply-of. split ! $ bring ! (1 ∷ []) $
+          heard ! (reply-of-says reply-of-out v-outcome r-reply-of) (λ e-reply-of. fparts W (_ ∷ []) _ $
+          discard ! (0 ∷ []) $ split ! $ bring ! (1 ∷ []) $
           rewrite ! 0 (λ (r : (denotes Reply)). ‵ ((rowOf Reply) .own r (w-reply-of ∷ []))) (e-reply-of) refl $
           peeks ! (rowOf Reply) (Is (rowOf Reply)) (shows 𝓤 H A (rowOf Reply)) v-result (w-reply-of ∷ []) (λ is-w-reply-of.
           land ! (from ! (stop !)) (init ! 50 refl ((Reply .typed 𝓤 H A W) v-result _ is-w-reply-of .0)) $
           rewrite ! 50 (λ (u : Val). ‵ (fat fullShare (mirOf Reply) l₀ 0 u)) (ap only ((Reply .tells) v-result _ is-w-reply-of))
           refl $
-          drop ! $ drop ! $ returns ! (look ! 48 refl) $ leave ! 48 refl refl $ leave ! 46 refl refl $
-          leave ! 44 refl refl $ leave ! 42 refl refl $ leave ! 40 refl refl $ leave ! 38 refl refl $
-          leave ! 36 refl refl $ leave ! 34 refl refl $ leave ! 32 refl refl $ leave ! 30 refl refl $
-          leave ! 28 refl refl $ leave ! 26 refl refl $ leave ! 24 refl refl $ leave ! 22 refl refl $
-          leave ! 20 refl refl $ leave ! 18 refl refl $ leave ! 16 refl refl $ leave ! 14 refl refl $
-          leave ! 12 refl refl $ leave ! 10 refl refl $ free0 ! $ move ! (6 ∷ 7 ∷ 4 ∷ 5 ∷ 2 ∷ 3 ∷ 0 ∷ 1 ∷ 9 ∷ 8 ∷ []) $
+          discard ! (0 ∷ []) $ parts W ([]) _ $ returns ! (look ! 48 refl) $ leave ! 48 refl refl $
+          leave ! 46 refl refl $ leave ! 44 refl refl $ leave ! 42 refl refl $ leave ! 40 refl refl $
+          leave ! 38 refl refl $ leave ! 36 refl refl $ leave ! 34 refl refl $ leave ! 32 refl refl $
+          leave ! 30 refl refl $ leave ! 28 refl refl $ leave ! 26 refl refl $ leave ! 24 refl refl $
+          leave ! 22 refl refl $ leave ! 20 refl refl $ leave ! 18 refl refl $ leave ! 16 refl refl $
+          leave ! 14 refl refl $ leave ! 12 refl refl $ leave ! 10 refl refl $ free0 ! $
+          bring ! (6 ∷ 6 ∷ 4 ∷ 4 ∷ 2 ∷ 2 ∷ 0 ∷ 0 ∷ 1 ∷ 0 ∷ []) $
           by ! (exits (spelled-v-result w-reply-of is-w-reply-of) (ap {B = ℕ} length (sym (e-call .1)) ∙ h-call-x-map)
           (ap {B = ℕ} length (sym (e-call .2)) ∙ h-call-x-summary) (ap {B = ℕ} length (sym (e-call .3)) ∙ h-call-x-catalogue)
           (ap {B = ℕ} length (sym (e-call .4)) ∙ h-call-x-card))))))))))))))))))))))))))))))))))))))))))))

@@ -20,7 +20,7 @@ use base.Fml.{Lft, Share, GName, ftrue, flft, fat}
 use prog.Wp.{Heap, WpFn, Tables}
 use ghost.Atoms.{Atoms}
 use contract.Monad.{fact}
-use types.Kit.{Given, ‵, raw, some, later, _⊛_, ⋆, _$_, _∵_, !, qed, by, move, drop, use0, use1, use2, use3, split, join, pick}
+use types.Kit.{Given, ‵, raw, some, later, _⊛_, ⋆, _$_, _∵_, !, qed, by, use0, use1, use2, use3, group, split, join, pick}
 use types.Kit.{rewrite, fsplit, fjoin, feqL, suffices, frame, await, done}
 use types.Run.{look, init, stop, hop, fld, from, load, addr, and-then, no-more, assigns, land, returns, enter, alloc1, alloc0}
 use types.Run.{params1, pass1, pass0, free0}
@@ -48,7 +48,7 @@ use denote.Exit.{yes}
 use Rattle.catalogue.proofs.Values.{Value, denotes, rowOf, mirOf, valsOf}
 use Rattle.catalogue.specs.declared.Entry.{Entry}
 use Rattle.catalogue.proofs.Entry as Entry′
-use Rattle.catalogue.proofs.Steps.{leave}
+use Rattle.catalogue.proofs.Steps.{bring, discard, parts, fparts, leave}
 use Rattle.catalogue.proofs.Lending.{LentAgain, lends-again, comes-back}
 
 module _ (Shape Outcome Reply : Value) where
@@ -309,11 +309,10 @@ module _ (Shape Outcome Reply : Value) where
           (s-x-catalogue ∷ [])) ∷ ‵ (MutSlice (named 2) (ν₀-call ∷ []) u64 .own (at-x-scratch δ₀-call (now x-scratch))
           (s-x-scratch ∷ [])) ∷ ‵ (MutSlice (named 3) (ν₁-call ∷ []) u8 .own (at-x-image δ₁-call (now x-image))
           (s-x-image ∷ [])) ∷ []) ∵
-          nothing ! $ move ! (4 ∷ 0 ∷ []) $ join ! $ move ! (3 ∷ 0 ∷ []) $ join ! $ move ! (2 ∷ 0 ∷ []) $ join ! $
-          move ! (1 ∷ 0 ∷ []) $ join ! $ nothing ! $ move ! (5 ∷ 0 ∷ []) $ fjoin ! $ move ! (4 ∷ 0 ∷ []) $ fjoin ! $
-          move ! (3 ∷ 0 ∷ []) $ fjoin ! $ move ! (2 ∷ 0 ∷ []) $ fjoin ! $
+          nothing ! $ bring ! (1 ∷ 1 ∷ 1 ∷ 1 ∷ 0 ∷ []) $ group ! 5 $ nothing ! $ bring ! (5 ∷ 0 ∷ []) $ fjoin ! $
+          bring ! (4 ∷ 0 ∷ []) $ fjoin ! $ bring ! (3 ∷ 0 ∷ []) $ fjoin ! $ bring ! (2 ∷ 0 ∷ []) $ fjoin ! $
           owned ! (rowOf Shape) (Is (rowOf Shape)) (Shape .makes 𝓤 H A) x-shape _ is-x-shape $ fjoin ! $
-          owned ! u32 (Is u32) (uint-makes 𝓤 H A W w32) x-role _ is-x-role $ fjoin ! $ move ! (1 ∷ 0 ∷ []) $ join ! $
+          owned ! u32 (Is u32) (uint-makes 𝓤 H A W w32) x-role _ is-x-role $ fjoin ! $ bring ! (1 ∷ 0 ∷ []) $ join ! $
           frame ! $ done !
 
       -- ---- the caller has what `reply-of` asks
@@ -329,7 +328,7 @@ module _ (Shape Outcome Reply : Value) where
           qed W ([]) ∵
           nothing ! $ nothing ! $
           owned ! (rowOf Outcome) (Is (rowOf Outcome)) (Outcome .makes 𝓤 H A) v-outcome _ is-v-outcome $ fjoin ! $
-          move ! (1 ∷ 0 ∷ []) $ join ! $ frame ! $ done !
+          bring ! (1 ∷ 0 ∷ []) $ join ! $ frame ! $ done !
 
       -- ---- the exit
       exits : Is (rowOf Reply) v-result (m-v-result ∷ []) → length z-call-x-scratch ≡ length (now x-scratch)
@@ -347,12 +346,12 @@ module _ (Shape Outcome Reply : Value) where
           suffices ! _ (ends-at 𝓤 H A ended stayed (clauses 𝓤) W bound m-v-result v-result
           (tt, (tt, (tt, (tt, (z-call-x-scratch, (z-call-x-image, tt))))))
           (tt, (tt, (tt, (tt, (l-x-scratch, (l-x-image, tt))))))) $
-          says ! (refl, refl, refl) $ nothing ! $ move ! (8 ∷ 0 ∷ []) $ join ! $ move ! (6 ∷ 0 ∷ []) $ join ! $
-          move ! (4 ∷ 0 ∷ []) $ join ! $ move ! (2 ∷ 0 ∷ []) $ join ! $ frame ! $ nothing ! $ move ! (4 ∷ 0 ∷ []) $
-          fjoin ! $ move ! (3 ∷ 0 ∷ []) $ fjoin ! $ move ! (2 ∷ 0 ∷ []) $ fjoin ! $ move ! (1 ∷ 0 ∷ []) $ fjoin ! $
+          says ! (refl, refl, refl) $ nothing ! $ bring ! (2 ∷ 3 ∷ 4 ∷ 5 ∷ 0 ∷ []) $ group ! 5 $ frame ! $ nothing ! $
+          bring ! (4 ∷ 0 ∷ []) $ fjoin ! $ bring ! (3 ∷ 0 ∷ []) $ fjoin ! $ bring ! (2 ∷ 0 ∷ []) $ fjoin ! $
+          bring ! (1 ∷ 0 ∷ []) $ fjoin ! $
           owned ! (rowOf Shape) (Is (rowOf Shape)) (Shape .makes 𝓤 H A) x-shape _ is-x-shape $ fjoin ! $
           owned ! u32 (Is u32) (uint-makes 𝓤 H A W w32) x-role _ is-x-role $ fjoin ! $
-          owned ! (rowOf Reply) (Is (rowOf Reply)) (Reply .makes 𝓤 H A) v-result _ is $ move ! (1 ∷ 0 ∷ []) $ done !
+          owned ! (rowOf Reply) (Is (rowOf Reply)) (Reply .makes 𝓤 H A) v-result _ is $ bring ! (1 ∷ 0 ∷ []) $ done !
 
       -- ---- the walk
       walk : (𝓣 : Tables 𝓤 H) → Triple 𝓤 (𝓣 .C #call) (call-contract call-out call-x-scratch call-x-image 𝓤 H A)
@@ -372,11 +371,9 @@ module _ (Shape Outcome Reply : Value) where
           pass1 ! (init ! 16 refl (tt, (tt, (record { fits = room-x-map .0 }, tt)))) $
           pass1 ! (init ! 14 refl (tt, (tt, (record { fits = room-x-catalogue .0 }, tt)))) $
           pass1 ! (init ! 12 refl (tt, (tt, (record { fits = room-x-scratch .0 }, tt)))) $
-          pass1 ! (init ! 10 refl (tt, (tt, (record { fits = room-x-image .0 }, tt)))) $ pass0 ! $ move ! (24 ∷ []) $
-          split ! $ move ! (1 ∷ []) $ split ! $ move ! (1 ∷ []) $ split ! $ move ! (1 ∷ []) $ split ! $
-          move ! (1 ∷ []) $ drop ! $ move ! (28 ∷ []) $ fsplit ! $ move ! (1 ∷ []) $ fsplit ! $ move ! (1 ∷ []) $
-          fsplit ! $ move ! (1 ∷ []) $ fsplit ! $ move ! (1 ∷ []) $ fsplit ! $ move ! (1 ∷ []) $ fsplit ! $
-          move ! (1 ∷ []) $ drop ! $ move ! (5 ∷ []) $ drop ! $ move ! (4 ∷ []) $ drop ! $
+          pass1 ! (init ! 10 refl (tt, (tt, (record { fits = room-x-image .0 }, tt)))) $ pass0 ! $ bring ! (24 ∷ []) $
+          parts W (_ ∷ _ ∷ _ ∷ _ ∷ []) _ $ bring ! (28 ∷ []) $ fparts W (_ ∷ _ ∷ _ ∷ _ ∷ _ ∷ _ ∷ []) _ $
+          discard ! (0 ∷ 0 ∷ []) $
           -- call
           assigns ! (addr ! (from ! (fld ! refl (hop ! (look-in ! 20 (sub ! 0 refl (whole !))) (stop !))))) (from ! (stop !))
           (init ! 14 refl (tt, tt)) $
@@ -388,27 +385,23 @@ module _ (Shape Outcome Reply : Value) where
           assigns ! (agg ! (and-then ! (load ! (from ! (stop !)) (look ! 10 refl)) (and-then !
           (load ! (from ! (fld ! refl (stop !))) (look-in ! 18 (sub ! 1 refl (whole !)))) (no-more !)))) (from ! (stop !))
           (init ! 8 refl (tt, (tt, (record { fits = room-x-image .0 }, tt)))) $
-          move ! (3 ∷ []) $
           use1 W (‵ (ShrSlice (named 0) κ₀ u64 .own x-map (s-x-map ∷ [])) ⊛ ‵ (ShrSlice (named 0) κ₀ u64 .own x-map
           (s-x-map ∷ []))) (shr-slice-copy 𝓤 H A W (named 0) κ₀ u64 .twice x-map (s-x-map ∷ [])) $
-          split ! $ move ! (4 ∷ []) $
+          split ! $ bring ! (2 ∷ []) $
           use1 W (‵ (ShrSlice (named 1) κ₁ Entry′.the-row .own x-catalogue (s-x-catalogue ∷ []))
           ⊛ ‵ (ShrSlice (named 1) κ₁ Entry′.the-row .own x-catalogue (s-x-catalogue ∷ [])))
           (shr-slice-copy 𝓤 H A W (named 1) κ₁ Entry′.the-row .twice x-catalogue (s-x-catalogue ∷ [])) $
-          split ! $ lft-new ! tt (λ ν₀-call. move ! (6 ∷ 8 ∷ []) $
+          split ! $ lft-new ! tt (λ ν₀-call. bring ! (5 ∷ 8 ∷ []) $
           use2 W (later (some (λ (δ : GName). ‵ (MutSlice (named 2) (ν₀-call ∷ []) u64 .own (at-x-scratch δ (now x-scratch))
           (s-x-scratch ∷ [])) ⊛ ‵ (LentAgain u64 κ₂ (ν₀-call ∷ []) q₂ (x-scratch .name) (x-scratch .ptr .0) (x-scratch .ptr .1)
           δ (now x-scratch))))) (lends-again u64 κ₂ (ν₀-call ∷ []) q₂ (x-scratch .name) (x-scratch .ptr .0) (x-scratch .ptr .1)
           𝓤 H A W (named 2) (named 2) (now x-scratch) (length (now x-scratch)) refl) $
-          await ! tt $ pick ! (λ δ₀-call. split ! $ lft-new ! tt (λ ν₁-call. move ! (8 ∷ 9 ∷ []) $
+          await ! tt $ pick ! (λ δ₀-call. split ! $ lft-new ! tt (λ ν₁-call. bring ! (8 ∷ 10 ∷ []) $
           use2 W (later (some (λ (δ : GName). ‵ (MutSlice (named 3) (ν₁-call ∷ []) u8 .own (at-x-image δ (now x-image))
           (s-x-image ∷ [])) ⊛ ‵ (LentAgain u8 κ₃ (ν₁-call ∷ []) q₃ (x-image .name) (x-image .ptr .0) (x-image .ptr .1) δ
           (now x-image))))) (lends-again u8 κ₃ (ν₁-call ∷ []) q₃ (x-image .name) (x-image .ptr .0) (x-image .ptr .1) 𝓤 H A W
           (named 3) (named 3) (now x-image) (length (now x-image)) refl) $
-          await ! tt $ pick ! (λ δ₁-call. split ! $ move ! (11 ∷ 10 ∷ 5 ∷ 2 ∷ 8 ∷ 6 ∷ 3 ∷ 0 ∷ []) $
-          move ! (6 ∷ 7 ∷ []) $ join ! $ move ! (6 ∷ 0 ∷ []) $ join ! $ move ! (5 ∷ 0 ∷ []) $ join ! $
-          move ! (4 ∷ 0 ∷ []) $ join ! $ move ! (3 ∷ 0 ∷ []) $ join ! $ move ! (2 ∷ 0 ∷ []) $ join ! $
-          move ! (1 ∷ 0 ∷ []) $ join ! $
+          await ! tt $ pick ! (λ δ₁-call. split ! $ bring ! (10 ∷ 10 ∷ 5 ∷ 2 ∷ 6 ∷ 4 ∷ 2 ∷ 0 ∷ []) $ group ! 8 $
           use1 W (raw ((call-contract call-out call-x-scratch call-x-image 𝓤 H A) .pre
           (to-call ν₀-call ν₁-call δ₀-call δ₁-call))) (goes-call ν₀-call ν₁-call δ₀-call δ₁-call) $
           calls-at ! (fmOf 𝓤 H (W .laws) 𝓣) (call-contract call-out call-x-scratch call-x-image 𝓤 H A) known-call
@@ -420,19 +413,17 @@ module _ (Shape Outcome Reply : Value) where
           ⊛ ‵ (flft (ν₁-call ∷ []) fullShare) ⊛ ‵ ftrue) ⊛ ‵ ((rowOf Outcome) .own r (w-call ∷ [])))
           ⊛ raw (ensured 𝓤 H A call-ended (call-clauses call-out call-x-scratch call-x-image 𝓤)
           (κ₀, (κ₁, (ν₀-call ∷ [], (ν₁-call ∷ [], tt)))) (call-args δ₀-call δ₁-call) tt r)))) (id⊢ 𝓤 _) $
-          await ! tt $ pick ! (λ r-call. split ! $ move ! (1 ∷ []) $
+          await ! tt $ pick ! (λ r-call. split ! $ bring ! (1 ∷ []) $
           use1 W (some (λ (zs-call : Unit {0} × (Unit {0} × (Unit {0} × (Unit {0} × (List ℕ × (List ℕ × Unit {0})))))). ‵
           (lasts call-ended (κ₀, (κ₁, (ν₀-call ∷ [], (ν₁-call ∷ [], tt)))) (call-args δ₀-call δ₁-call) zs-call)
           ⊛ raw (fact 𝓤 (call-says call-out call-x-scratch call-x-image x-role x-shape (now x-map) (now x-catalogue)
           (now x-scratch) (now x-image) r-call (zs-call .1 .1 .1 .1 .0) (zs-call .1 .1 .1 .1 .1 .0))))) (id⊢ 𝓤 _) $
-          pick ! (λ zs-call. split ! $ move ! (1 ∷ []) $
+          pick ! (λ zs-call. split ! $ bring ! (1 ∷ []) $
           heard ! (call-says call-out call-x-scratch call-x-image x-role x-shape (now x-map) (now x-catalogue) (now x-scratch)
           (now x-image) r-call (zs-call .1 .1 .1 .1 .0) (zs-call .1 .1 .1 .1 .1 .0)) (λ e-call.
-          fsplit ! $ move ! (1 ∷ []) $ fsplit ! $ move ! (1 ∷ []) $ fsplit ! $ move ! (1 ∷ []) $ fsplit ! $
-          move ! (1 ∷ []) $ fsplit ! $ move ! (1 ∷ []) $ fsplit ! $ move ! (1 ∷ []) $ drop ! $ move ! (5 ∷ []) $
-          drop ! $ move ! (4 ∷ []) $ drop ! $ move ! (3 ∷ []) $ drop ! $ move ! (2 ∷ []) $ drop ! $ move ! (1 ∷ []) $
-          fsplit ! $ move ! (1 ∷ []) $ feqL ! (λ h-call-x-scratch. move ! (1 ∷ []) $ fsplit ! $ move ! (1 ∷ []) $
-          feqL ! (λ h-call-x-image. move ! (2 ∷ []) $ split ! $ move ! (1 ∷ []) $
+          fparts W (_ ∷ _ ∷ _ ∷ _ ∷ _ ∷ _ ∷ []) _ $ discard ! (0 ∷ 0 ∷ 0 ∷ 0 ∷ []) $ fsplit ! $ bring ! (1 ∷ []) $
+          feqL ! (λ h-call-x-scratch. bring ! (1 ∷ []) $ fsplit ! $ bring ! (1 ∷ []) $ feqL ! (λ h-call-x-image.
+          bring ! (2 ∷ []) $ split ! $ bring ! (1 ∷ []) $
           rewrite ! 0 (λ (r : (denotes Outcome)). ‵ ((rowOf Outcome) .own r (w-call ∷ []))) (e-call .0) refl $
           rewrite ! 3 (λ (l : List ℕ). ‵ (finally u64 δ₀-call l)) (e-call .1) refl $
           rewrite ! 2 (λ (l : List ℕ). ‵ (finally u8 δ₁-call l)) (e-call .2) refl $
@@ -440,13 +431,13 @@ module _ (Shape Outcome Reply : Value) where
           land ! (from ! (stop !)) (init ! 16 refl ((Outcome .typed 𝓤 H A W) v-outcome _ is-w-call .0)) $
           rewrite ! 16 (λ (u : Val). ‵ (fat fullShare (mirOf Outcome) l₇ 0 u)) (ap only
           ((Outcome .tells) v-outcome _ is-w-call)) refl $
-          drop ! $ split ! $ move ! (1 ∷ []) $ split ! $ move ! (1 ∷ []) $ split ! $ move ! (1 ∷ []) $ split ! $
-          move ! (1 ∷ []) $ drop ! $ move ! (1 ∷ []) $ lft-end ! tt $ move ! (0 ∷ 7 ∷ 5 ∷ []) $
+          discard ! (0 ∷ []) $ parts W (_ ∷ _ ∷ _ ∷ _ ∷ []) _ $ bring ! (2 ∷ []) $ lft-end ! tt $
+          bring ! (0 ∷ 6 ∷ 4 ∷ []) $
           use3 W (later (‵ (MutSlice (named 2) κ₂ u64 .own (at-x-scratch (x-scratch .name) z-call-x-scratch) (s-x-scratch ∷ []))
           ⊛ ‵ (flft κ₂ q₂))) (comes-back u64 κ₂ (ν₀-call ∷ []) q₂ (x-scratch .name) (x-scratch .ptr .0) (x-scratch .ptr .1) 𝓤 H
           A W (named 2) (named 2) (now x-scratch) (length (now x-scratch)) refl room-x-scratch δ₀-call z-call-x-scratch
           (ap {B = ℕ} length (sym (e-call .1)) ∙ h-call-x-scratch)) $
-          await ! tt $ split ! $ move ! (2 ∷ []) $ lft-end ! tt $ move ! (0 ∷ 6 ∷ 5 ∷ []) $
+          await ! tt $ split ! $ bring ! (4 ∷ []) $ lft-end ! tt $ bring ! (0 ∷ 5 ∷ 4 ∷ []) $
           use3 W (later (‵ (MutSlice (named 3) κ₃ u8 .own (at-x-image (x-image .name) z-call-x-image) (s-x-image ∷ []))
           ⊛ ‵ (flft κ₃ q₃))) (comes-back u8 κ₃ (ν₁-call ∷ []) q₃ (x-image .name) (x-image .ptr .0) (x-image .ptr .1) 𝓤 H A W
           (named 3) (named 3) (now x-image) (length (now x-image)) refl room-x-image δ₁-call z-call-x-image
@@ -459,21 +450,22 @@ module _ (Shape Outcome Reply : Value) where
           (and-then ! (load ! (from ! (stop !)) (look ! 17 refl)) (no-more !)) (λ w-reply-of.
           use1 W (later (some (λ (r : (denotes Reply)). ((‵ ftrue) ⊛ ‵ ((rowOf Reply) .own r (w-reply-of ∷ [])))
           ⊛ raw (ensured 𝓤 H A reply-of-ended (reply-of-clauses reply-of-out 𝓤) tt (reply-of-args) tt r)))) (id⊢ 𝓤 _) $
-          await ! tt $ pick ! (λ r-reply-of. split ! $ move ! (1 ∷ []) $
+          await ! tt $ pick ! (λ r-reply-of. split ! $ bring ! (1 ∷ []) $
           use1 W (some (λ (zs-reply-of : Unit {0} × Unit {0}). ‵ (lasts reply-of-ended tt (reply-of-args) zs-reply-of)
           ⊛ raw (fact 𝓤 (reply-of-says reply-of-out v-outcome r-reply-of)))) (id⊢ 𝓤 _) $
-          pick ! (λ zs-reply-of. split ! $ move ! (1 ∷ []) $
-          heard ! (reply-of-says reply-of-out v-outcome r-reply-of) (λ e-reply-of. fsplit ! $ move ! (1 ∷ []) $
-          drop ! $ drop ! $ split ! $ move ! (1 ∷ []) $
+          pick ! (λ zs-reply-of. split ! $ bring ! (1 ∷ []) $
+          heard ! (reply-of-says reply-of-out v-outcome r-reply-of) (λ e-reply-of. fparts W (_ ∷ []) _ $
+          discard ! (0 ∷ []) $ split ! $ bring ! (1 ∷ []) $
           rewrite ! 0 (λ (r : (denotes Reply)). ‵ ((rowOf Reply) .own r (w-reply-of ∷ []))) (e-reply-of) refl $
           peeks ! (rowOf Reply) (Is (rowOf Reply)) (shows 𝓤 H A (rowOf Reply)) v-result (w-reply-of ∷ []) (λ is-w-reply-of.
           land ! (from ! (stop !)) (init ! 32 refl ((Reply .typed 𝓤 H A W) v-result _ is-w-reply-of .0)) $
           rewrite ! 32 (λ (u : Val). ‵ (fat fullShare (mirOf Reply) l₀ 0 u)) (ap only ((Reply .tells) v-result _ is-w-reply-of))
           refl $
-          drop ! $ drop ! $ returns ! (look ! 30 refl) $ leave ! 30 refl refl $ leave ! 28 refl refl $
-          leave ! 26 refl refl $ leave ! 24 refl refl $ leave ! 22 refl refl $ leave ! 20 refl refl $
-          leave ! 18 refl refl $ leave ! 16 refl refl $ leave ! 14 refl refl $ leave ! 12 refl refl $
-          leave ! 10 refl refl $ leave ! 8 refl refl $ free0 ! $ move ! (7 ∷ 5 ∷ 6 ∷ 4 ∷ 2 ∷ 3 ∷ 0 ∷ 1 ∷ []) $
+          discard ! (0 ∷ []) $ parts W ([]) _ $ returns ! (look ! 30 refl) $ leave ! 30 refl refl $
+          leave ! 28 refl refl $ leave ! 26 refl refl $ leave ! 24 refl refl $ leave ! 22 refl refl $
+          leave ! 20 refl refl $ leave ! 18 refl refl $ leave ! 16 refl refl $ leave ! 14 refl refl $
+          leave ! 12 refl refl $ leave ! 10 refl refl $ leave ! 8 refl refl $ free0 ! $
+          bring ! (7 ∷ 4 ∷ 5 ∷ 4 ∷ 2 ∷ 2 ∷ 0 ∷ 0 ∷ []) $
           by ! (exits (spelled-v-result w-reply-of is-w-reply-of) (ap {B = ℕ} length (sym (e-call .1)) ∙ h-call-x-scratch)
           (ap {B = ℕ} length (sym (e-call .2)) ∙ h-call-x-image))))))))))))))))))))))))))))))
 

@@ -23,7 +23,7 @@ use base.Fml.{Lft, Share, GName, ftrue, flft, fat}
 use prog.Wp.{Heap, WpFn, Tables}
 use ghost.Atoms.{Atoms}
 use contract.Monad.{fact}
-use types.Kit.{Given, ‵, raw, some, later, _⊛_, ⋆, _$_, _∵_, !, qed, by, move, drop, use0, use1, use2, use3, split, join, pick}
+use types.Kit.{Given, ‵, raw, some, later, _⊛_, ⋆, _$_, _∵_, !, qed, by, use0, use1, use2, use3, group, split, join, pick}
 use types.Kit.{rewrite, fsplit, fjoin, feqL, suffices, frame, await, done}
 use types.Run.{look, init, stop, hop, fld, from, load, addr, and-then, no-more, assigns, land, returns, enter, alloc1, alloc0}
 use types.Run.{params1, pass1, pass0, free0}
@@ -51,7 +51,7 @@ use denote.Exit.{yes}
 use Rattle.catalogue.proofs.Values.{Value, denotes, rowOf, mirOf, valsOf}
 use Rattle.catalogue.specs.declared.Entry.{Entry}
 use Rattle.catalogue.proofs.Entry as Entry′
-use Rattle.catalogue.proofs.Steps.{leave}
+use Rattle.catalogue.proofs.Steps.{bring, discard, parts, fparts, leave}
 use Rattle.catalogue.proofs.Lending.{LentAgain, lends-again, comes-back}
 
 module _ (Shape Outcome : Value) where
@@ -388,7 +388,7 @@ module _ (Shape Outcome : Value) where
         goes-passes =
             qed W ([]) ∵
             nothing ! $ nothing ! $ owned ! u32 (Is u32) (uint-makes 𝓤 H A W w32) x-role _ is-x-role $ fjoin ! $
-            move ! (1 ∷ 0 ∷ []) $ join ! $ frame ! $ done !
+            bring ! (1 ∷ 0 ∷ []) $ join ! $ frame ! $ done !
 
         -- ---- the caller has what `admitted` asks
         abbrev admitted-args : Bool × ((denotes Shape) × Unit {0})
@@ -403,7 +403,7 @@ module _ (Shape Outcome : Value) where
             qed W ([]) ∵
             nothing ! $ nothing ! $ owned ! (rowOf Shape) (Is (rowOf Shape)) (Shape .makes 𝓤 H A) x-shape _ is-x-shape $
             fjoin ! $ owned ! Boolean (Is Boolean) (bool-makes 𝓤 H A W) v-pass _ is-v-pass $ fjoin ! $
-            move ! (1 ∷ 0 ∷ []) $ join ! $ frame ! $ done !
+            bring ! (1 ∷ 0 ∷ []) $ join ! $ frame ! $ done !
 
         -- ---- the caller has what `call` asks
         abbrev call-args : (δ₀-call : GName) → (denotes Shape) × (RefT (List ℕ) × (RefT (List Entry)
@@ -437,13 +437,12 @@ module _ (Shape Outcome : Value) where
             ∷ ‵ (ShrSlice (named 0) κ₀ u64 .own x-map (s-x-map ∷ [])) ∷ ‵ (ShrSlice (named 1) κ₁ Entry′.the-row .own x-catalogue
             (s-x-catalogue ∷ [])) ∷ ‵ (ShrSlice (named 2) κ₂ u8 .own x-card (s-x-card ∷ []))
             ∷ ‵ (MutSlice (named 3) (ν₀-call ∷ []) u8 .own (at-x-buffer δ₀-call (now x-buffer)) (s-x-buffer ∷ [])) ∷ []) ∵
-            nothing ! $ move ! (4 ∷ 0 ∷ []) $ join ! $ move ! (3 ∷ 0 ∷ []) $ join ! $ move ! (2 ∷ 0 ∷ []) $ join ! $
-            move ! (1 ∷ 0 ∷ []) $ join ! $ nothing ! $ move ! (5 ∷ 0 ∷ []) $ fjoin ! $
+            nothing ! $ bring ! (1 ∷ 1 ∷ 1 ∷ 1 ∷ 0 ∷ []) $ group ! 5 $ nothing ! $ bring ! (5 ∷ 0 ∷ []) $ fjoin ! $
             owned ! u32 (Is u32) (uint-makes 𝓤 H A W w32) x-place _ is-x-place $ fjoin ! $
-            owned ! u32 (Is u32) (uint-makes 𝓤 H A W w32) x-sheet _ is-x-sheet $ fjoin ! $ move ! (4 ∷ 0 ∷ []) $
-            fjoin ! $ move ! (3 ∷ 0 ∷ []) $ fjoin ! $ move ! (2 ∷ 0 ∷ []) $ fjoin ! $
+            owned ! u32 (Is u32) (uint-makes 𝓤 H A W w32) x-sheet _ is-x-sheet $ fjoin ! $ bring ! (4 ∷ 0 ∷ []) $
+            fjoin ! $ bring ! (3 ∷ 0 ∷ []) $ fjoin ! $ bring ! (2 ∷ 0 ∷ []) $ fjoin ! $
             owned ! (rowOf Shape) (Is (rowOf Shape)) (Shape .makes 𝓤 H A) v-lent _ is-v-lent $ fjoin ! $
-            move ! (1 ∷ 0 ∷ []) $ join ! $ frame ! $ done !
+            bring ! (1 ∷ 0 ∷ []) $ join ! $ frame ! $ done !
 
         -- ---- the caller has what `answered` asks
         abbrev answered-args : Bool × ((denotes Shape) × ((denotes Outcome) × Unit {0}))
@@ -459,7 +458,7 @@ module _ (Shape Outcome : Value) where
             nothing ! $ nothing ! $
             owned ! (rowOf Outcome) (Is (rowOf Outcome)) (Outcome .makes 𝓤 H A) v-outcome _ is-v-outcome $ fjoin ! $
             owned ! (rowOf Shape) (Is (rowOf Shape)) (Shape .makes 𝓤 H A) x-shape _ is-x-shape $ fjoin ! $
-            owned ! Boolean (Is Boolean) (bool-makes 𝓤 H A W) v-pass _ is-v-pass $ fjoin ! $ move ! (1 ∷ 0 ∷ []) $
+            owned ! Boolean (Is Boolean) (bool-makes 𝓤 H A W) v-pass _ is-v-pass $ fjoin ! $ bring ! (1 ∷ 0 ∷ []) $
             join ! $ frame ! $ done !
 
         -- ---- the exit
@@ -479,14 +478,13 @@ module _ (Shape Outcome : Value) where
             (tt, (tt, (tt, (tt, (tt, (tt, (tt, (z-call-x-buffer, tt))))))))
             (tt, (tt, (tt, (tt, (tt, (tt, (tt, (l-x-buffer, tt))))))))) $
             says ! (law x-role x-shape (now x-map) (now x-catalogue) (now x-card) x-sheet x-place (now x-buffer)) $
-            nothing ! $ move ! (8 ∷ 0 ∷ []) $ join ! $ move ! (6 ∷ 0 ∷ []) $ join ! $ move ! (4 ∷ 0 ∷ []) $ join ! $
-            move ! (2 ∷ 0 ∷ []) $ join ! $ frame ! $ nothing ! $ move ! (4 ∷ 0 ∷ []) $ fjoin ! $
-            owned ! u32 (Is u32) (uint-makes 𝓤 H A W w32) x-place _ is-x-place $ fjoin ! $
-            owned ! u32 (Is u32) (uint-makes 𝓤 H A W w32) x-sheet _ is-x-sheet $ fjoin ! $ move ! (3 ∷ 0 ∷ []) $
-            fjoin ! $ move ! (2 ∷ 0 ∷ []) $ fjoin ! $ move ! (1 ∷ 0 ∷ []) $ fjoin ! $
+            nothing ! $ bring ! (2 ∷ 3 ∷ 4 ∷ 5 ∷ 0 ∷ []) $ group ! 5 $ frame ! $ nothing ! $ bring ! (4 ∷ 0 ∷ []) $
+            fjoin ! $ owned ! u32 (Is u32) (uint-makes 𝓤 H A W w32) x-place _ is-x-place $ fjoin ! $
+            owned ! u32 (Is u32) (uint-makes 𝓤 H A W w32) x-sheet _ is-x-sheet $ fjoin ! $ bring ! (3 ∷ 0 ∷ []) $
+            fjoin ! $ bring ! (2 ∷ 0 ∷ []) $ fjoin ! $ bring ! (1 ∷ 0 ∷ []) $ fjoin ! $
             owned ! (rowOf Shape) (Is (rowOf Shape)) (Shape .makes 𝓤 H A) x-shape _ is-x-shape $ fjoin ! $
             owned ! u32 (Is u32) (uint-makes 𝓤 H A W w32) x-role _ is-x-role $ fjoin ! $
-            owned ! (rowOf Outcome) (Is (rowOf Outcome)) (Outcome .makes 𝓤 H A) v-result _ is $ move ! (1 ∷ 0 ∷ []) $
+            owned ! (rowOf Outcome) (Is (rowOf Outcome)) (Outcome .makes 𝓤 H A) v-result _ is $ bring ! (1 ∷ 0 ∷ []) $
             done !
 
         -- ---- the walk
@@ -510,28 +508,25 @@ module _ (Shape Outcome : Value) where
             pass1 ! (init ! 18 refl (tt, (tt, (record { fits = room-x-catalogue .0 }, tt)))) $
             pass1 ! (init ! 16 refl (tt, (tt, (record { fits = room-x-card .0 }, tt)))) $
             pass1 ! (init ! 14 refl typed-x-sheet) $ pass1 ! (init ! 12 refl typed-x-place) $
-            pass1 ! (init ! 10 refl (tt, (tt, (record { fits = room-x-buffer .0 }, tt)))) $ pass0 ! $ move ! (28 ∷ []) $
-            split ! $ move ! (1 ∷ []) $ split ! $ move ! (1 ∷ []) $ split ! $ move ! (1 ∷ []) $ split ! $
-            move ! (1 ∷ []) $ drop ! $ move ! (32 ∷ []) $ fsplit ! $ move ! (1 ∷ []) $ fsplit ! $ move ! (1 ∷ []) $
-            fsplit ! $ move ! (1 ∷ []) $ fsplit ! $ move ! (1 ∷ []) $ fsplit ! $ move ! (1 ∷ []) $ fsplit ! $
-            move ! (1 ∷ []) $ fsplit ! $ move ! (1 ∷ []) $ fsplit ! $ move ! (1 ∷ []) $ drop ! $ move ! (7 ∷ []) $
-            drop ! $ move ! (6 ∷ []) $ drop ! $ move ! (2 ∷ []) $ drop ! $ move ! (1 ∷ []) $ drop ! $
+            pass1 ! (init ! 10 refl (tt, (tt, (record { fits = room-x-buffer .0 }, tt)))) $ pass0 ! $ bring ! (28 ∷ []) $
+            parts W (_ ∷ _ ∷ _ ∷ _ ∷ []) _ $ bring ! (32 ∷ []) $ fparts W (_ ∷ _ ∷ _ ∷ _ ∷ _ ∷ _ ∷ _ ∷ _ ∷ []) _ $
+            discard ! (0 ∷ 0 ∷ 3 ∷ 3 ∷ []) $
             -- passes
             use0 W (raw ((passes-contract passes-out 𝓤 H A) .pre (to-passes))) (goes-passes) $
             calls-at ! (fmOf 𝓤 H (W .laws) 𝓣) (passes-contract passes-out 𝓤 H A) known-passes (to-passes)
             (and-then ! (load ! (from ! (stop !)) (look ! 33 refl)) (no-more !)) (λ w-passes.
             use1 W (later (some (λ (r : Bool). ((‵ ftrue) ⊛ ‵ (Boolean .own r (w-passes ∷ [])))
             ⊛ raw (ensured 𝓤 H A passes-ended (passes-clauses passes-out 𝓤) tt (passes-args) tt r)))) (id⊢ 𝓤 _) $
-            await ! tt $ pick ! (λ r-passes. split ! $ move ! (1 ∷ []) $
+            await ! tt $ pick ! (λ r-passes. split ! $ bring ! (1 ∷ []) $
             use1 W (some (λ (zs-passes : Unit {0} × Unit {0}). ‵ (lasts passes-ended tt (passes-args) zs-passes)
             ⊛ raw (fact 𝓤 (passes-says passes-out x-role r-passes)))) (id⊢ 𝓤 _) $
-            pick ! (λ zs-passes. split ! $ move ! (1 ∷ []) $
-            heard ! (passes-says passes-out x-role r-passes) (λ e-passes. fsplit ! $ move ! (1 ∷ []) $ drop ! $ drop ! $
-            split ! $ move ! (1 ∷ []) $ rewrite ! 0 (λ (r : Bool). ‵ (Boolean .own r (w-passes ∷ []))) (e-passes) refl $
+            pick ! (λ zs-passes. split ! $ bring ! (1 ∷ []) $
+            heard ! (passes-says passes-out x-role r-passes) (λ e-passes. fparts W (_ ∷ []) _ $ discard ! (0 ∷ []) $
+            split ! $ bring ! (1 ∷ []) $ rewrite ! 0 (λ (r : Bool). ‵ (Boolean .own r (w-passes ∷ []))) (e-passes) refl $
             peeks ! Boolean (Is Boolean) (shows 𝓤 H A Boolean) v-pass (w-passes ∷ []) (λ is-w-passes.
             land ! (from ! (stop !)) (init ! 18 refl ((bool-lawful 𝓤 H A W .typed) v-pass _ is-w-passes .0)) $
             rewrite ! 18 (λ (u : Val). ‵ (fat fullShare tyBool l₉ 0 u)) (ap only (bool-tells v-pass _ is-w-passes)) refl $
-            drop ! $ drop ! $
+            discard ! (0 ∷ []) $ parts W ([]) _ $
             -- admitted
             use0 W (raw ((admitted-contract admitted-out 𝓤 H A) .pre (to-admitted))) (goes-admitted
             (spelled-v-pass w-passes is-w-passes)) $
@@ -540,43 +535,39 @@ module _ (Shape Outcome : Value) where
             (no-more !))) (λ w-admitted.
             use1 W (later (some (λ (r : (denotes Shape)). ((‵ ftrue) ⊛ ‵ ((rowOf Shape) .own r (w-admitted ∷ [])))
             ⊛ raw (ensured 𝓤 H A admitted-ended (admitted-clauses admitted-out 𝓤) tt (admitted-args) tt r)))) (id⊢ 𝓤 _) $
-            await ! tt $ pick ! (λ r-admitted. split ! $ move ! (1 ∷ []) $
+            await ! tt $ pick ! (λ r-admitted. split ! $ bring ! (1 ∷ []) $
             use1 W (some (λ (zs-admitted : Unit {0} × (Unit {0} × Unit {0})). ‵ (lasts admitted-ended tt (admitted-args)
             zs-admitted) ⊛ raw (fact 𝓤 (admitted-says admitted-out v-pass x-shape r-admitted)))) (id⊢ 𝓤 _) $
-            pick ! (λ zs-admitted. split ! $ move ! (1 ∷ []) $
-            heard ! (admitted-says admitted-out v-pass x-shape r-admitted) (λ e-admitted. fsplit ! $ move ! (1 ∷ []) $
-            fsplit ! $ move ! (1 ∷ []) $ drop ! $ move ! (1 ∷ []) $ drop ! $ drop ! $ split ! $ move ! (1 ∷ []) $
+            pick ! (λ zs-admitted. split ! $ bring ! (1 ∷ []) $
+            heard ! (admitted-says admitted-out v-pass x-shape r-admitted) (λ e-admitted. fparts W (_ ∷ _ ∷ []) _ $
+            discard ! (0 ∷ 0 ∷ []) $ split ! $ bring ! (1 ∷ []) $
             rewrite ! 0 (λ (r : (denotes Shape)). ‵ ((rowOf Shape) .own r (w-admitted ∷ []))) (e-admitted) refl $
             peeks ! (rowOf Shape) (Is (rowOf Shape)) (shows 𝓤 H A (rowOf Shape)) v-lent (w-admitted ∷ []) (λ is-w-admitted.
             land ! (from ! (stop !)) (init ! 16 refl ((Shape .typed 𝓤 H A W) v-lent _ is-w-admitted .0)) $
             rewrite ! 16 (λ (u : Val). ‵ (fat fullShare (mirOf Shape) l₁₀ 0 u)) (ap only
             ((Shape .tells) v-lent _ is-w-admitted)) refl $
-            drop ! $ drop ! $
+            discard ! (0 ∷ []) $ parts W ([]) _ $
             -- call
             assigns ! (addr ! (from ! (fld ! refl (hop ! (look-in ! 18 (sub ! 0 refl (whole !))) (stop !))))) (from ! (stop !))
             (init ! 10 refl (tt, tt)) $
             assigns ! (agg ! (and-then ! (load ! (from ! (stop !)) (look ! 10 refl)) (and-then !
             (load ! (from ! (fld ! refl (stop !))) (look-in ! 18 (sub ! 1 refl (whole !)))) (no-more !)))) (from ! (stop !))
             (init ! 8 refl (tt, (tt, (record { fits = room-x-buffer .0 }, tt)))) $
-            move ! (3 ∷ []) $
             use1 W (‵ (ShrSlice (named 0) κ₀ u64 .own x-map (s-x-map ∷ [])) ⊛ ‵ (ShrSlice (named 0) κ₀ u64 .own x-map
             (s-x-map ∷ []))) (shr-slice-copy 𝓤 H A W (named 0) κ₀ u64 .twice x-map (s-x-map ∷ [])) $
-            split ! $ move ! (4 ∷ []) $
+            split ! $ bring ! (2 ∷ []) $
             use1 W (‵ (ShrSlice (named 1) κ₁ Entry′.the-row .own x-catalogue (s-x-catalogue ∷ []))
             ⊛ ‵ (ShrSlice (named 1) κ₁ Entry′.the-row .own x-catalogue (s-x-catalogue ∷ [])))
             (shr-slice-copy 𝓤 H A W (named 1) κ₁ Entry′.the-row .twice x-catalogue (s-x-catalogue ∷ [])) $
-            split ! $ move ! (5 ∷ []) $
+            split ! $ bring ! (4 ∷ []) $
             use1 W (‵ (ShrSlice (named 2) κ₂ u8 .own x-card (s-x-card ∷ [])) ⊛ ‵ (ShrSlice (named 2) κ₂ u8 .own x-card
             (s-x-card ∷ []))) (shr-slice-copy 𝓤 H A W (named 2) κ₂ u8 .twice x-card (s-x-card ∷ [])) $
-            split ! $ lft-new ! tt (λ ν₀-call. move ! (7 ∷ 8 ∷ []) $
+            split ! $ lft-new ! tt (λ ν₀-call. bring ! (7 ∷ 10 ∷ []) $
             use2 W (later (some (λ (δ : GName). ‵ (MutSlice (named 3) (ν₀-call ∷ []) u8 .own (at-x-buffer δ (now x-buffer))
             (s-x-buffer ∷ [])) ⊛ ‵ (LentAgain u8 κ₃ (ν₀-call ∷ []) q₃ (x-buffer .name) (x-buffer .ptr .0) (x-buffer .ptr .1) δ
             (now x-buffer))))) (lends-again u8 κ₃ (ν₀-call ∷ []) q₃ (x-buffer .name) (x-buffer .ptr .0) (x-buffer .ptr .1) 𝓤 H A
             W (named 3) (named 3) (now x-buffer) (length (now x-buffer)) refl) $
-            await ! tt $ pick ! (λ δ₀-call. split ! $ move ! (11 ∷ 10 ∷ 9 ∷ 2 ∷ 7 ∷ 5 ∷ 3 ∷ 0 ∷ []) $
-            move ! (6 ∷ 7 ∷ []) $ join ! $ move ! (6 ∷ 0 ∷ []) $ join ! $ move ! (5 ∷ 0 ∷ []) $ join ! $
-            move ! (4 ∷ 0 ∷ []) $ join ! $ move ! (3 ∷ 0 ∷ []) $ join ! $ move ! (2 ∷ 0 ∷ []) $ join ! $
-            move ! (1 ∷ 0 ∷ []) $ join ! $
+            await ! tt $ pick ! (λ δ₀-call. split ! $ bring ! (9 ∷ 9 ∷ 9 ∷ 2 ∷ 6 ∷ 4 ∷ 2 ∷ 0 ∷ []) $ group ! 8 $
             use1 W (raw ((call-contract call-out call-x-buffer 𝓤 H A) .pre (to-call ν₀-call δ₀-call)))
             (goes-call ν₀-call δ₀-call (spelled-v-lent w-admitted is-w-admitted)) $
             calls-at ! (fmOf 𝓤 H (W .laws) 𝓣) (call-contract call-out call-x-buffer 𝓤 H A) known-call (to-call ν₀-call δ₀-call)
@@ -588,27 +579,24 @@ module _ (Shape Outcome : Value) where
             ⊛ ‵ (flft (ν₀-call ∷ []) fullShare) ⊛ ‵ ftrue) ⊛ ‵ ((rowOf Outcome) .own r (w-call ∷ [])))
             ⊛ raw (ensured 𝓤 H A call-ended (call-clauses call-out call-x-buffer 𝓤) (κ₀, (κ₁, (κ₂, (ν₀-call ∷ [], tt))))
             (call-args δ₀-call) tt r)))) (id⊢ 𝓤 _) $
-            await ! tt $ pick ! (λ r-call. split ! $ move ! (1 ∷ []) $
+            await ! tt $ pick ! (λ r-call. split ! $ bring ! (1 ∷ []) $
             use1 W (some (λ (zs-call : Unit {0} × (Unit {0} × (Unit {0} × (Unit {0} × (Unit {0}
             × (Unit {0} × (List ℕ × Unit {0}))))))). ‵ (lasts call-ended (κ₀, (κ₁, (κ₂, (ν₀-call ∷ [], tt))))
             (call-args δ₀-call) zs-call) ⊛ raw (fact 𝓤 (call-says call-out call-x-buffer v-lent (now x-map) (now x-catalogue)
             (now x-card) x-sheet x-place (now x-buffer) r-call (zs-call .1 .1 .1 .1 .1 .1 .0))))) (id⊢ 𝓤 _) $
-            pick ! (λ zs-call. split ! $ move ! (1 ∷ []) $
+            pick ! (λ zs-call. split ! $ bring ! (1 ∷ []) $
             heard ! (call-says call-out call-x-buffer v-lent (now x-map) (now x-catalogue) (now x-card) x-sheet x-place
             (now x-buffer) r-call (zs-call .1 .1 .1 .1 .1 .1 .0)) (λ e-call.
-            fsplit ! $ move ! (1 ∷ []) $ fsplit ! $ move ! (1 ∷ []) $ fsplit ! $ move ! (1 ∷ []) $ fsplit ! $
-            move ! (1 ∷ []) $ fsplit ! $ move ! (1 ∷ []) $ fsplit ! $ move ! (1 ∷ []) $ fsplit ! $ move ! (1 ∷ []) $
-            drop ! $ move ! (6 ∷ []) $ drop ! $ move ! (5 ∷ []) $ drop ! $ move ! (4 ∷ []) $ drop ! $ move ! (3 ∷ []) $
-            drop ! $ move ! (2 ∷ []) $ drop ! $ move ! (1 ∷ []) $ drop ! $ fsplit ! $ move ! (1 ∷ []) $
-            feqL ! (λ h-call-x-buffer. move ! (1 ∷ []) $ split ! $ move ! (1 ∷ []) $
+            fparts W (_ ∷ _ ∷ _ ∷ _ ∷ _ ∷ _ ∷ _ ∷ []) _ $ discard ! (0 ∷ 0 ∷ 0 ∷ 0 ∷ 0 ∷ 0 ∷ []) $ fsplit ! $
+            bring ! (1 ∷ []) $ feqL ! (λ h-call-x-buffer. bring ! (1 ∷ []) $ split ! $ bring ! (1 ∷ []) $
             rewrite ! 0 (λ (r : (denotes Outcome)). ‵ ((rowOf Outcome) .own r (w-call ∷ []))) (e-call .0) refl $
             rewrite ! 2 (λ (l : List ℕ). ‵ (finally u8 δ₀-call l)) (e-call .1) refl $
             peeks ! (rowOf Outcome) (Is (rowOf Outcome)) (shows 𝓤 H A (rowOf Outcome)) v-outcome (w-call ∷ []) (λ is-w-call.
             land ! (from ! (stop !)) (init ! 11 refl ((Outcome .typed 𝓤 H A W) v-outcome _ is-w-call .0)) $
             rewrite ! 11 (λ (u : Val). ‵ (fat fullShare (mirOf Outcome) l₁₁ 0 u)) (ap only
             ((Outcome .tells) v-outcome _ is-w-call)) refl $
-            drop ! $ split ! $ move ! (1 ∷ []) $ split ! $ move ! (1 ∷ []) $ split ! $ move ! (1 ∷ []) $ split ! $
-            move ! (1 ∷ []) $ drop ! $ lft-end ! tt $ move ! (0 ∷ 5 ∷ 4 ∷ []) $
+            discard ! (0 ∷ []) $ parts W (_ ∷ _ ∷ _ ∷ _ ∷ []) _ $ bring ! (3 ∷ []) $ lft-end ! tt $
+            bring ! (0 ∷ 4 ∷ 3 ∷ []) $
             use3 W (later (‵ (MutSlice (named 3) κ₃ u8 .own (at-x-buffer (x-buffer .name) z-call-x-buffer) (s-x-buffer ∷ []))
             ⊛ ‵ (flft κ₃ q₃))) (comes-back u8 κ₃ (ν₀-call ∷ []) q₃ (x-buffer .name) (x-buffer .ptr .0) (x-buffer .ptr .1) 𝓤 H A
             W (named 3) (named 3) (now x-buffer) (length (now x-buffer)) refl room-x-buffer δ₀-call z-call-x-buffer
@@ -622,25 +610,24 @@ module _ (Shape Outcome : Value) where
             (and-then ! (load ! (from ! (stop !)) (look ! 13 refl)) (no-more !)))) (λ w-answered.
             use1 W (later (some (λ (r : (denotes Outcome)). ((‵ ftrue) ⊛ ‵ ((rowOf Outcome) .own r (w-answered ∷ [])))
             ⊛ raw (ensured 𝓤 H A answered-ended (answered-clauses answered-out 𝓤) tt (answered-args) tt r)))) (id⊢ 𝓤 _) $
-            await ! tt $ pick ! (λ r-answered. split ! $ move ! (1 ∷ []) $
+            await ! tt $ pick ! (λ r-answered. split ! $ bring ! (1 ∷ []) $
             use1 W (some (λ (zs-answered : Unit {0} × (Unit {0} × (Unit {0} × Unit {0}))). ‵
             (lasts answered-ended tt (answered-args) zs-answered) ⊛ raw (fact 𝓤 (answered-says answered-out v-pass x-shape
             v-outcome r-answered)))) (id⊢ 𝓤 _) $
-            pick ! (λ zs-answered. split ! $ move ! (1 ∷ []) $
-            heard ! (answered-says answered-out v-pass x-shape v-outcome r-answered) (λ e-answered. fsplit ! $
-            move ! (1 ∷ []) $ fsplit ! $ move ! (1 ∷ []) $ fsplit ! $ move ! (1 ∷ []) $ drop ! $ move ! (2 ∷ []) $
-            drop ! $ move ! (1 ∷ []) $ drop ! $ drop ! $ split ! $ move ! (1 ∷ []) $
+            pick ! (λ zs-answered. split ! $ bring ! (1 ∷ []) $
+            heard ! (answered-says answered-out v-pass x-shape v-outcome r-answered) (λ e-answered.
+            fparts W (_ ∷ _ ∷ _ ∷ []) _ $ discard ! (0 ∷ 0 ∷ 0 ∷ []) $ split ! $ bring ! (1 ∷ []) $
             rewrite ! 0 (λ (r : (denotes Outcome)). ‵ ((rowOf Outcome) .own r (w-answered ∷ []))) (e-answered) refl $
             peeks ! (rowOf Outcome) (Is (rowOf Outcome)) (shows 𝓤 H A (rowOf Outcome)) v-result (w-answered ∷ [])
             (λ is-w-answered.
             land ! (from ! (stop !)) (init ! 36 refl ((Outcome .typed 𝓤 H A W) v-result _ is-w-answered .0)) $
             rewrite ! 36 (λ (u : Val). ‵ (fat fullShare (mirOf Outcome) l₀ 0 u)) (ap only
             ((Outcome .tells) v-result _ is-w-answered)) refl $
-            drop ! $ drop ! $ returns ! (look ! 34 refl) $ leave ! 34 refl refl $ leave ! 32 refl refl $
-            leave ! 30 refl refl $ leave ! 28 refl refl $ leave ! 26 refl refl $ leave ! 24 refl refl $
-            leave ! 22 refl refl $ leave ! 20 refl refl $ leave ! 18 refl refl $ leave ! 16 refl refl $
-            leave ! 14 refl refl $ leave ! 12 refl refl $ leave ! 10 refl refl $ leave ! 8 refl refl $ free0 ! $
-            move ! (7 ∷ 4 ∷ 6 ∷ 3 ∷ 5 ∷ 2 ∷ 0 ∷ 1 ∷ []) $
+            discard ! (0 ∷ []) $ parts W ([]) _ $ returns ! (look ! 34 refl) $ leave ! 34 refl refl $
+            leave ! 32 refl refl $ leave ! 30 refl refl $ leave ! 28 refl refl $ leave ! 26 refl refl $
+            leave ! 24 refl refl $ leave ! 22 refl refl $ leave ! 20 refl refl $ leave ! 18 refl refl $
+            leave ! 16 refl refl $ leave ! 14 refl refl $ leave ! 12 refl refl $ leave ! 10 refl refl $
+            leave ! 8 refl refl $ free0 ! $ bring ! (7 ∷ 2 ∷ 5 ∷ 2 ∷ 3 ∷ 2 ∷ 0 ∷ 0 ∷ []) $
             by ! (exits (spelled-v-result w-answered is-w-answered) (ap {B = ℕ} length (sym (e-call .1))
             ∙ h-call-x-buffer)))))))))))))))))))))))))))))))))))))))
 

@@ -23,7 +23,7 @@ use base.Fml.{Lft, Share, GName, ftrue, flft, fat}
 use prog.Wp.{Heap, WpFn, Tables}
 use ghost.Atoms.{Atoms}
 use contract.Monad.{fact}
-use types.Kit.{Given, ‵, raw, some, later, _⊛_, ⋆, _$_, _∵_, !, qed, by, move, drop, use0, use1, use2, use3, split, join, pick}
+use types.Kit.{Given, ‵, raw, some, later, _⊛_, ⋆, _$_, _∵_, !, qed, by, use0, use1, use2, use3, group, split, join, pick}
 use types.Kit.{rewrite, fsplit, fjoin, feqL, suffices, frame, await, done}
 use types.Run.{look, init, stop, hop, fld, from, load, addr, and-then, no-more, assigns, land, returns, enter, alloc1, alloc0}
 use types.Run.{params1, pass1, pass0, free0}
@@ -52,7 +52,7 @@ use Rattle.catalogue.proofs.Values.{Value, denotes, rowOf, mirOf, valsOf}
 use Rattle.catalogue.specs.declared.Entry.{Entry}
 use Rattle.catalogue.proofs.Entry as Entry′
 use Rattle.catalogue.proofs.Entry.Laws as Entry″
-use Rattle.catalogue.proofs.Steps.{leave}
+use Rattle.catalogue.proofs.Steps.{bring, discard, parts, fparts, leave}
 use Rattle.catalogue.proofs.Lending.{LentAgain, lends-again, comes-back}
 
 module _ (Shape Outcome : Value) where
@@ -361,7 +361,7 @@ module _ (Shape Outcome : Value) where
         goes-passes =
             qed W ([]) ∵
             nothing ! $ nothing ! $ owned ! u32 (Is u32) (uint-makes 𝓤 H A W w32) x-role _ is-x-role $ fjoin ! $
-            move ! (1 ∷ 0 ∷ []) $ join ! $ frame ! $ done !
+            bring ! (1 ∷ 0 ∷ []) $ join ! $ frame ! $ done !
 
         -- ---- the caller has what `admitted` asks
         abbrev admitted-args : Bool × ((denotes Shape) × Unit {0})
@@ -376,7 +376,7 @@ module _ (Shape Outcome : Value) where
             qed W ([]) ∵
             nothing ! $ nothing ! $ owned ! (rowOf Shape) (Is (rowOf Shape)) (Shape .makes 𝓤 H A) x-shape _ is-x-shape $
             fjoin ! $ owned ! Boolean (Is Boolean) (bool-makes 𝓤 H A W) v-pass _ is-v-pass $ fjoin ! $
-            move ! (1 ∷ 0 ∷ []) $ join ! $ frame ! $ done !
+            bring ! (1 ∷ 0 ∷ []) $ join ! $ frame ! $ done !
 
         -- ---- the caller has what `call` asks
         abbrev call-args : (δ₀-call : GName) → (denotes Shape) × (RefT (List ℕ) × (RefT (List Entry)
@@ -405,11 +405,11 @@ module _ (Shape Outcome : Value) where
             ∷ ‵ (ShrSlice (named 0) κ₀ u64 .own x-map (s-x-map ∷ [])) ∷ ‵ (MutSlice (named 1) (ν₀-call ∷ []) Entry′.the-row .own
             (at-x-catalogue δ₀-call (now x-catalogue)) (s-x-catalogue ∷ [])) ∷ ‵ (ShrSlice (named 2) κ₂ u8 .own x-card
             (s-x-card ∷ [])) ∷ []) ∵
-            nothing ! $ move ! (3 ∷ 0 ∷ []) $ join ! $ move ! (2 ∷ 0 ∷ []) $ join ! $ move ! (1 ∷ 0 ∷ []) $ join ! $
-            nothing ! $ owned ! u32 (Is u32) (uint-makes 𝓤 H A W w32) x-sheet _ is-x-sheet $ fjoin ! $
-            move ! (4 ∷ 0 ∷ []) $ fjoin ! $ move ! (3 ∷ 0 ∷ []) $ fjoin ! $ move ! (2 ∷ 0 ∷ []) $ fjoin ! $
+            nothing ! $ bring ! (1 ∷ 1 ∷ 1 ∷ 0 ∷ []) $ group ! 4 $ nothing ! $
+            owned ! u32 (Is u32) (uint-makes 𝓤 H A W w32) x-sheet _ is-x-sheet $ fjoin ! $ bring ! (4 ∷ 0 ∷ []) $
+            fjoin ! $ bring ! (3 ∷ 0 ∷ []) $ fjoin ! $ bring ! (2 ∷ 0 ∷ []) $ fjoin ! $
             owned ! (rowOf Shape) (Is (rowOf Shape)) (Shape .makes 𝓤 H A) v-lent _ is-v-lent $ fjoin ! $
-            move ! (1 ∷ 0 ∷ []) $ join ! $ frame ! $ done !
+            bring ! (1 ∷ 0 ∷ []) $ join ! $ frame ! $ done !
 
         -- ---- the caller has what `answered` asks
         abbrev answered-args : Bool × ((denotes Shape) × ((denotes Outcome) × Unit {0}))
@@ -425,7 +425,7 @@ module _ (Shape Outcome : Value) where
             nothing ! $ nothing ! $
             owned ! (rowOf Outcome) (Is (rowOf Outcome)) (Outcome .makes 𝓤 H A) v-outcome _ is-v-outcome $ fjoin ! $
             owned ! (rowOf Shape) (Is (rowOf Shape)) (Shape .makes 𝓤 H A) x-shape _ is-x-shape $ fjoin ! $
-            owned ! Boolean (Is Boolean) (bool-makes 𝓤 H A W) v-pass _ is-v-pass $ fjoin ! $ move ! (1 ∷ 0 ∷ []) $
+            owned ! Boolean (Is Boolean) (bool-makes 𝓤 H A W) v-pass _ is-v-pass $ fjoin ! $ bring ! (1 ∷ 0 ∷ []) $
             join ! $ frame ! $ done !
 
         -- ---- the exit
@@ -442,12 +442,12 @@ module _ (Shape Outcome : Value) where
             suffices ! _ (ends-at 𝓤 H A ended stayed (clauses 𝓤) W bound m-v-result v-result
             (tt, (tt, (tt, (z-call-x-catalogue, (tt, (tt, tt)))))) (tt, (tt, (tt, (l-x-catalogue, (tt, (tt, tt))))))) $
             says ! (law x-role x-shape (now x-map) (now x-catalogue) (now x-card) x-sheet) $ nothing ! $
-            move ! (6 ∷ 0 ∷ []) $ join ! $ move ! (4 ∷ 0 ∷ []) $ join ! $ move ! (2 ∷ 0 ∷ []) $ join ! $ frame ! $
-            nothing ! $ owned ! u32 (Is u32) (uint-makes 𝓤 H A W w32) x-sheet _ is-x-sheet $ fjoin ! $
-            move ! (3 ∷ 0 ∷ []) $ fjoin ! $ move ! (2 ∷ 0 ∷ []) $ fjoin ! $ move ! (1 ∷ 0 ∷ []) $ fjoin ! $
+            bring ! (2 ∷ 3 ∷ 4 ∷ 0 ∷ []) $ group ! 4 $ frame ! $ nothing ! $
+            owned ! u32 (Is u32) (uint-makes 𝓤 H A W w32) x-sheet _ is-x-sheet $ fjoin ! $ bring ! (3 ∷ 0 ∷ []) $
+            fjoin ! $ bring ! (2 ∷ 0 ∷ []) $ fjoin ! $ bring ! (1 ∷ 0 ∷ []) $ fjoin ! $
             owned ! (rowOf Shape) (Is (rowOf Shape)) (Shape .makes 𝓤 H A) x-shape _ is-x-shape $ fjoin ! $
             owned ! u32 (Is u32) (uint-makes 𝓤 H A W w32) x-role _ is-x-role $ fjoin ! $
-            owned ! (rowOf Outcome) (Is (rowOf Outcome)) (Outcome .makes 𝓤 H A) v-result _ is $ move ! (1 ∷ 0 ∷ []) $
+            owned ! (rowOf Outcome) (Is (rowOf Outcome)) (Outcome .makes 𝓤 H A) v-result _ is $ bring ! (1 ∷ 0 ∷ []) $
             done !
 
         -- ---- the walk
@@ -469,27 +469,24 @@ module _ (Shape Outcome : Value) where
             pass1 ! (init ! 16 refl (tt, (tt, (record { fits = room-x-map .0 }, tt)))) $
             pass1 ! (init ! 14 refl (tt, (tt, (record { fits = room-x-catalogue .0 }, tt)))) $
             pass1 ! (init ! 12 refl (tt, (tt, (record { fits = room-x-card .0 }, tt)))) $
-            pass1 ! (init ! 10 refl typed-x-sheet) $ pass0 ! $ move ! (24 ∷ []) $ split ! $ move ! (1 ∷ []) $ split ! $
-            move ! (1 ∷ []) $ split ! $ move ! (1 ∷ []) $ drop ! $ move ! (27 ∷ []) $ fsplit ! $ move ! (1 ∷ []) $
-            fsplit ! $ move ! (1 ∷ []) $ fsplit ! $ move ! (1 ∷ []) $ fsplit ! $ move ! (1 ∷ []) $ fsplit ! $
-            move ! (1 ∷ []) $ fsplit ! $ move ! (1 ∷ []) $ drop ! $ move ! (5 ∷ []) $ drop ! $ move ! (4 ∷ []) $ drop ! $
-            drop ! $
+            pass1 ! (init ! 10 refl typed-x-sheet) $ pass0 ! $ bring ! (24 ∷ []) $ parts W (_ ∷ _ ∷ _ ∷ []) _ $
+            bring ! (27 ∷ []) $ fparts W (_ ∷ _ ∷ _ ∷ _ ∷ _ ∷ _ ∷ []) _ $ discard ! (0 ∷ 0 ∷ 3 ∷ []) $
             -- passes
             use0 W (raw ((passes-contract passes-out 𝓤 H A) .pre (to-passes))) (goes-passes) $
             calls-at ! (fmOf 𝓤 H (W .laws) 𝓣) (passes-contract passes-out 𝓤 H A) known-passes (to-passes)
             (and-then ! (load ! (from ! (stop !)) (look ! 27 refl)) (no-more !)) (λ w-passes.
             use1 W (later (some (λ (r : Bool). ((‵ ftrue) ⊛ ‵ (Boolean .own r (w-passes ∷ [])))
             ⊛ raw (ensured 𝓤 H A passes-ended (passes-clauses passes-out 𝓤) tt (passes-args) tt r)))) (id⊢ 𝓤 _) $
-            await ! tt $ pick ! (λ r-passes. split ! $ move ! (1 ∷ []) $
+            await ! tt $ pick ! (λ r-passes. split ! $ bring ! (1 ∷ []) $
             use1 W (some (λ (zs-passes : Unit {0} × Unit {0}). ‵ (lasts passes-ended tt (passes-args) zs-passes)
             ⊛ raw (fact 𝓤 (passes-says passes-out x-role r-passes)))) (id⊢ 𝓤 _) $
-            pick ! (λ zs-passes. split ! $ move ! (1 ∷ []) $
-            heard ! (passes-says passes-out x-role r-passes) (λ e-passes. fsplit ! $ move ! (1 ∷ []) $ drop ! $ drop ! $
-            split ! $ move ! (1 ∷ []) $ rewrite ! 0 (λ (r : Bool). ‵ (Boolean .own r (w-passes ∷ []))) (e-passes) refl $
+            pick ! (λ zs-passes. split ! $ bring ! (1 ∷ []) $
+            heard ! (passes-says passes-out x-role r-passes) (λ e-passes. fparts W (_ ∷ []) _ $ discard ! (0 ∷ []) $
+            split ! $ bring ! (1 ∷ []) $ rewrite ! 0 (λ (r : Bool). ‵ (Boolean .own r (w-passes ∷ []))) (e-passes) refl $
             peeks ! Boolean (Is Boolean) (shows 𝓤 H A Boolean) v-pass (w-passes ∷ []) (λ is-w-passes.
             land ! (from ! (stop !)) (init ! 16 refl ((bool-lawful 𝓤 H A W .typed) v-pass _ is-w-passes .0)) $
             rewrite ! 16 (λ (u : Val). ‵ (fat fullShare tyBool l₇ 0 u)) (ap only (bool-tells v-pass _ is-w-passes)) refl $
-            drop ! $ drop ! $
+            discard ! (0 ∷ []) $ parts W ([]) _ $
             -- admitted
             use0 W (raw ((admitted-contract admitted-out 𝓤 H A) .pre (to-admitted))) (goes-admitted
             (spelled-v-pass w-passes is-w-passes)) $
@@ -498,38 +495,36 @@ module _ (Shape Outcome : Value) where
             (no-more !))) (λ w-admitted.
             use1 W (later (some (λ (r : (denotes Shape)). ((‵ ftrue) ⊛ ‵ ((rowOf Shape) .own r (w-admitted ∷ [])))
             ⊛ raw (ensured 𝓤 H A admitted-ended (admitted-clauses admitted-out 𝓤) tt (admitted-args) tt r)))) (id⊢ 𝓤 _) $
-            await ! tt $ pick ! (λ r-admitted. split ! $ move ! (1 ∷ []) $
+            await ! tt $ pick ! (λ r-admitted. split ! $ bring ! (1 ∷ []) $
             use1 W (some (λ (zs-admitted : Unit {0} × (Unit {0} × Unit {0})). ‵ (lasts admitted-ended tt (admitted-args)
             zs-admitted) ⊛ raw (fact 𝓤 (admitted-says admitted-out v-pass x-shape r-admitted)))) (id⊢ 𝓤 _) $
-            pick ! (λ zs-admitted. split ! $ move ! (1 ∷ []) $
-            heard ! (admitted-says admitted-out v-pass x-shape r-admitted) (λ e-admitted. fsplit ! $ move ! (1 ∷ []) $
-            fsplit ! $ move ! (1 ∷ []) $ drop ! $ move ! (1 ∷ []) $ drop ! $ drop ! $ split ! $ move ! (1 ∷ []) $
+            pick ! (λ zs-admitted. split ! $ bring ! (1 ∷ []) $
+            heard ! (admitted-says admitted-out v-pass x-shape r-admitted) (λ e-admitted. fparts W (_ ∷ _ ∷ []) _ $
+            discard ! (0 ∷ 0 ∷ []) $ split ! $ bring ! (1 ∷ []) $
             rewrite ! 0 (λ (r : (denotes Shape)). ‵ ((rowOf Shape) .own r (w-admitted ∷ []))) (e-admitted) refl $
             peeks ! (rowOf Shape) (Is (rowOf Shape)) (shows 𝓤 H A (rowOf Shape)) v-lent (w-admitted ∷ []) (λ is-w-admitted.
             land ! (from ! (stop !)) (init ! 14 refl ((Shape .typed 𝓤 H A W) v-lent _ is-w-admitted .0)) $
             rewrite ! 14 (λ (u : Val). ‵ (fat fullShare (mirOf Shape) l₈ 0 u)) (ap only ((Shape .tells) v-lent _ is-w-admitted))
             refl $
-            drop ! $ drop ! $
+            discard ! (0 ∷ []) $ parts W ([]) _ $
             -- call
             assigns ! (addr ! (from ! (fld ! refl (hop ! (look-in ! 20 (sub ! 0 refl (whole !))) (stop !))))) (from ! (stop !))
             (init ! 8 refl (tt, tt)) $
             assigns ! (agg ! (and-then ! (load ! (from ! (stop !)) (look ! 8 refl)) (and-then !
             (load ! (from ! (fld ! refl (stop !))) (look-in ! 20 (sub ! 1 refl (whole !)))) (no-more !)))) (from ! (stop !))
             (init ! 6 refl (tt, (tt, (record { fits = room-x-catalogue .0 }, tt)))) $
-            move ! (2 ∷ []) $
             use1 W (‵ (ShrSlice (named 0) κ₀ u64 .own x-map (s-x-map ∷ [])) ⊛ ‵ (ShrSlice (named 0) κ₀ u64 .own x-map
             (s-x-map ∷ []))) (shr-slice-copy 𝓤 H A W (named 0) κ₀ u64 .twice x-map (s-x-map ∷ [])) $
-            split ! $ lft-new ! tt (λ ν₀-call. move ! (4 ∷ 6 ∷ []) $
+            split ! $ lft-new ! tt (λ ν₀-call. bring ! (3 ∷ 5 ∷ []) $
             use2 W (later (some (λ (δ : GName). ‵ (MutSlice (named 1) (ν₀-call ∷ []) Entry′.the-row .own
             (at-x-catalogue δ (now x-catalogue)) (s-x-catalogue ∷ [])) ⊛ ‵ (LentAgain Entry′.the-row κ₁ (ν₀-call ∷ []) q₁
             (x-catalogue .name) (x-catalogue .ptr .0) (x-catalogue .ptr .1) δ (now x-catalogue)))))
             (lends-again Entry′.the-row κ₁ (ν₀-call ∷ []) q₁ (x-catalogue .name) (x-catalogue .ptr .0) (x-catalogue .ptr .1) 𝓤 H
             A W (named 1) (named 1) (now x-catalogue) (length (now x-catalogue)) refl) $
-            await ! tt $ pick ! (λ δ₀-call. split ! $ move ! (5 ∷ []) $
+            await ! tt $ pick ! (λ δ₀-call. split ! $ bring ! (5 ∷ []) $
             use1 W (‵ (ShrSlice (named 2) κ₂ u8 .own x-card (s-x-card ∷ [])) ⊛ ‵ (ShrSlice (named 2) κ₂ u8 .own x-card
             (s-x-card ∷ []))) (shr-slice-copy 𝓤 H A W (named 2) κ₂ u8 .twice x-card (s-x-card ∷ [])) $
-            split ! $ move ! (8 ∷ 4 ∷ 7 ∷ 5 ∷ 2 ∷ 0 ∷ []) $ move ! (4 ∷ 5 ∷ []) $ join ! $ move ! (4 ∷ 0 ∷ []) $ join ! $
-            move ! (3 ∷ 0 ∷ []) $ join ! $ move ! (2 ∷ 0 ∷ []) $ join ! $ move ! (1 ∷ 0 ∷ []) $ join ! $
+            split ! $ bring ! (7 ∷ 4 ∷ 6 ∷ 4 ∷ 2 ∷ 0 ∷ []) $ group ! 6 $
             use1 W (raw ((call-contract call-out call-x-catalogue 𝓤 H A) .pre (to-call ν₀-call δ₀-call)))
             (goes-call ν₀-call δ₀-call (spelled-v-lent w-admitted is-w-admitted)) $
             calls-at ! (fmOf 𝓤 H (W .laws) 𝓣) (call-contract call-out call-x-catalogue 𝓤 H A) known-call
@@ -541,26 +536,24 @@ module _ (Shape Outcome : Value) where
             ⊛ ‵ (flft κ₂ q₂) ⊛ ‵ ftrue) ⊛ ‵ ((rowOf Outcome) .own r (w-call ∷ []))) ⊛ raw
             (ensured 𝓤 H A call-ended (call-clauses call-out call-x-catalogue 𝓤) (κ₀, (ν₀-call ∷ [], (κ₂, tt)))
             (call-args δ₀-call) tt r)))) (id⊢ 𝓤 _) $
-            await ! tt $ pick ! (λ r-call. split ! $ move ! (1 ∷ []) $
+            await ! tt $ pick ! (λ r-call. split ! $ bring ! (1 ∷ []) $
             use1 W (some (λ (zs-call : Unit {0} × (Unit {0} × (List Entry × (Unit {0} × (Unit {0} × Unit {0}))))). ‵
             (lasts call-ended (κ₀, (ν₀-call ∷ [], (κ₂, tt))) (call-args δ₀-call) zs-call)
             ⊛ raw (fact 𝓤 (call-says call-out call-x-catalogue v-lent (now x-map) (now x-catalogue) (now x-card) x-sheet r-call
             (zs-call .1 .1 .0))))) (id⊢ 𝓤 _) $
-            pick ! (λ zs-call. split ! $ move ! (1 ∷ []) $
+            pick ! (λ zs-call. split ! $ bring ! (1 ∷ []) $
             heard ! (call-says call-out call-x-catalogue v-lent (now x-map) (now x-catalogue) (now x-card) x-sheet r-call
             (zs-call .1 .1 .0)) (λ e-call.
-            fsplit ! $ move ! (1 ∷ []) $ fsplit ! $ move ! (1 ∷ []) $ fsplit ! $ move ! (1 ∷ []) $ fsplit ! $
-            move ! (1 ∷ []) $ fsplit ! $ move ! (1 ∷ []) $ drop ! $ move ! (4 ∷ []) $ drop ! $ move ! (3 ∷ []) $ drop ! $
-            move ! (2 ∷ []) $ fsplit ! $ move ! (1 ∷ []) $ feqL ! (λ h-call-x-catalogue. move ! (2 ∷ []) $ drop ! $
-            move ! (1 ∷ []) $ drop ! $ move ! (1 ∷ []) $ split ! $ move ! (1 ∷ []) $
+            fparts W (_ ∷ _ ∷ _ ∷ _ ∷ _ ∷ []) _ $ discard ! (0 ∷ 0 ∷ 1 ∷ 1 ∷ []) $ fsplit ! $ bring ! (1 ∷ []) $
+            feqL ! (λ h-call-x-catalogue. bring ! (1 ∷ []) $ split ! $ bring ! (1 ∷ []) $
             rewrite ! 0 (λ (r : (denotes Outcome)). ‵ ((rowOf Outcome) .own r (w-call ∷ []))) (e-call .0) refl $
             rewrite ! 2 (λ (l : List Entry). ‵ (finally Entry′.the-row δ₀-call l)) (e-call .1) refl $
             peeks ! (rowOf Outcome) (Is (rowOf Outcome)) (shows 𝓤 H A (rowOf Outcome)) v-outcome (w-call ∷ []) (λ is-w-call.
             land ! (from ! (stop !)) (init ! 10 refl ((Outcome .typed 𝓤 H A W) v-outcome _ is-w-call .0)) $
             rewrite ! 10 (λ (u : Val). ‵ (fat fullShare (mirOf Outcome) l₉ 0 u)) (ap only
             ((Outcome .tells) v-outcome _ is-w-call)) refl $
-            drop ! $ split ! $ move ! (1 ∷ []) $ split ! $ move ! (1 ∷ []) $ split ! $ move ! (1 ∷ []) $ drop ! $
-            move ! (1 ∷ []) $ lft-end ! tt $ move ! (0 ∷ 5 ∷ 3 ∷ []) $
+            discard ! (0 ∷ []) $ parts W (_ ∷ _ ∷ _ ∷ []) _ $ bring ! (1 ∷ []) $ lft-end ! tt $
+            bring ! (0 ∷ 4 ∷ 2 ∷ []) $
             use3 W (later (‵ (MutSlice (named 1) κ₁ Entry′.the-row .own (at-x-catalogue (x-catalogue .name) z-call-x-catalogue)
             (s-x-catalogue ∷ [])) ⊛ ‵ (flft κ₁ q₁))) (comes-back Entry′.the-row κ₁ (ν₀-call ∷ []) q₁ (x-catalogue .name)
             (x-catalogue .ptr .0) (x-catalogue .ptr .1) 𝓤 H A W (named 1) (named 1) (now x-catalogue) (length (now x-catalogue))
@@ -574,24 +567,24 @@ module _ (Shape Outcome : Value) where
             (and-then ! (load ! (from ! (stop !)) (look ! 11 refl)) (no-more !)))) (λ w-answered.
             use1 W (later (some (λ (r : (denotes Outcome)). ((‵ ftrue) ⊛ ‵ ((rowOf Outcome) .own r (w-answered ∷ [])))
             ⊛ raw (ensured 𝓤 H A answered-ended (answered-clauses answered-out 𝓤) tt (answered-args) tt r)))) (id⊢ 𝓤 _) $
-            await ! tt $ pick ! (λ r-answered. split ! $ move ! (1 ∷ []) $
+            await ! tt $ pick ! (λ r-answered. split ! $ bring ! (1 ∷ []) $
             use1 W (some (λ (zs-answered : Unit {0} × (Unit {0} × (Unit {0} × Unit {0}))). ‵
             (lasts answered-ended tt (answered-args) zs-answered) ⊛ raw (fact 𝓤 (answered-says answered-out v-pass x-shape
             v-outcome r-answered)))) (id⊢ 𝓤 _) $
-            pick ! (λ zs-answered. split ! $ move ! (1 ∷ []) $
-            heard ! (answered-says answered-out v-pass x-shape v-outcome r-answered) (λ e-answered. fsplit ! $
-            move ! (1 ∷ []) $ fsplit ! $ move ! (1 ∷ []) $ fsplit ! $ move ! (1 ∷ []) $ drop ! $ move ! (2 ∷ []) $
-            drop ! $ move ! (1 ∷ []) $ drop ! $ drop ! $ split ! $ move ! (1 ∷ []) $
+            pick ! (λ zs-answered. split ! $ bring ! (1 ∷ []) $
+            heard ! (answered-says answered-out v-pass x-shape v-outcome r-answered) (λ e-answered.
+            fparts W (_ ∷ _ ∷ _ ∷ []) _ $ discard ! (0 ∷ 0 ∷ 0 ∷ []) $ split ! $ bring ! (1 ∷ []) $
             rewrite ! 0 (λ (r : (denotes Outcome)). ‵ ((rowOf Outcome) .own r (w-answered ∷ []))) (e-answered) refl $
             peeks ! (rowOf Outcome) (Is (rowOf Outcome)) (shows 𝓤 H A (rowOf Outcome)) v-result (w-answered ∷ [])
             (λ is-w-answered.
             land ! (from ! (stop !)) (init ! 30 refl ((Outcome .typed 𝓤 H A W) v-result _ is-w-answered .0)) $
             rewrite ! 30 (λ (u : Val). ‵ (fat fullShare (mirOf Outcome) l₀ 0 u)) (ap only
             ((Outcome .tells) v-result _ is-w-answered)) refl $
-            drop ! $ drop ! $ returns ! (look ! 28 refl) $ leave ! 28 refl refl $ leave ! 26 refl refl $
-            leave ! 24 refl refl $ leave ! 22 refl refl $ leave ! 20 refl refl $ leave ! 18 refl refl $
-            leave ! 16 refl refl $ leave ! 14 refl refl $ leave ! 12 refl refl $ leave ! 10 refl refl $
-            leave ! 8 refl refl $ leave ! 6 refl refl $ free0 ! $ move ! (5 ∷ 3 ∷ 0 ∷ 1 ∷ 4 ∷ 2 ∷ []) $
+            discard ! (0 ∷ []) $ parts W ([]) _ $ returns ! (look ! 28 refl) $ leave ! 28 refl refl $
+            leave ! 26 refl refl $ leave ! 24 refl refl $ leave ! 22 refl refl $ leave ! 20 refl refl $
+            leave ! 18 refl refl $ leave ! 16 refl refl $ leave ! 14 refl refl $ leave ! 12 refl refl $
+            leave ! 10 refl refl $ leave ! 8 refl refl $ leave ! 6 refl refl $ free0 ! $
+            bring ! (5 ∷ 2 ∷ 0 ∷ 0 ∷ 1 ∷ 0 ∷ []) $
             by ! (exits (spelled-v-result w-answered is-w-answered) (ap {B = ℕ} length (sym (e-call .1))
             ∙ h-call-x-catalogue)))))))))))))))))))))))))))))))))))))
 

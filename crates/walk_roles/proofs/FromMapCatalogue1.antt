@@ -21,8 +21,8 @@ use base.Fml.{Lft, Share, GName, ftrue, flft, fat}
 use prog.Wp.{Heap, WpFn, Tables}
 use ghost.Atoms.{Atoms}
 use contract.Monad.{fact}
-use types.Kit.{Given, ‵, raw, some, later, _⊛_, ⋆, _$_, _∵_, !, qed, by, move, drop, use0, use1, split, join, pick, rewrite}
-use types.Kit.{fsplit, fjoin, suffices, frame, await, done}
+use types.Kit.{Given, ‵, raw, some, later, _⊛_, ⋆, _$_, _∵_, !, qed, by, use0, use1, group, split, join, pick, rewrite, fjoin}
+use types.Kit.{suffices, frame, await, done}
 use types.Run.{look, init, stop, from, load, and-then, no-more, land, returns, enter, alloc1, alloc0, params1, pass1, pass0}
 use types.Run.{free0}
 use sound.WpLaws.{fmOf, WpFn-mono}
@@ -46,7 +46,7 @@ use denote.Exit.{yes}
 use Rattle.catalogue.proofs.Values.{Value, denotes, rowOf, mirOf, valsOf}
 use Rattle.catalogue.specs.declared.Entry.{Entry}
 use Rattle.catalogue.proofs.Entry as Entry′
-use Rattle.catalogue.proofs.Steps.{leave}
+use Rattle.catalogue.proofs.Steps.{bring, discard, parts, fparts, leave}
 
 module _ (Shape Outcome : Value) where
   -- ---- the signature
@@ -329,7 +329,7 @@ module _ (Shape Outcome : Value) where
         goes-passes =
             qed W ([]) ∵
             nothing ! $ nothing ! $ owned ! u32 (Is u32) (uint-makes 𝓤 H A W w32) x-role _ is-x-role $ fjoin ! $
-            move ! (1 ∷ 0 ∷ []) $ join ! $ frame ! $ done !
+            bring ! (1 ∷ 0 ∷ []) $ join ! $ frame ! $ done !
 
         -- ---- the caller has what `admitted` asks
         abbrev admitted-args : Bool × ((denotes Shape) × Unit {0})
@@ -344,7 +344,7 @@ module _ (Shape Outcome : Value) where
             qed W ([]) ∵
             nothing ! $ nothing ! $ owned ! (rowOf Shape) (Is (rowOf Shape)) (Shape .makes 𝓤 H A) x-shape _ is-x-shape $
             fjoin ! $ owned ! Boolean (Is Boolean) (bool-makes 𝓤 H A W) v-pass _ is-v-pass $ fjoin ! $
-            move ! (1 ∷ 0 ∷ []) $ join ! $ frame ! $ done !
+            bring ! (1 ∷ 0 ∷ []) $ join ! $ frame ! $ done !
 
         -- ---- the caller has what `call` asks
         abbrev call-args : (denotes Shape) × (RefT (List ℕ) × (RefT (List Entry) × (ℕ × Unit {0})))
@@ -368,11 +368,11 @@ module _ (Shape Outcome : Value) where
         goes-call is-v-lent =
             qed W (‵ (flft κ₀ q₀) ∷ ‵ (flft κ₁ q₁) ∷ ‵ (ShrSlice (named 0) κ₀ u64 .own x-map (s-x-map ∷ []))
             ∷ ‵ (ShrSlice (named 1) κ₁ Entry′.the-row .own x-catalogue (s-x-catalogue ∷ [])) ∷ []) ∵
-            nothing ! $ move ! (2 ∷ 0 ∷ []) $ join ! $ move ! (1 ∷ 0 ∷ []) $ join ! $ nothing ! $
-            owned ! u32 (Is u32) (uint-makes 𝓤 H A W w32) x-sheet _ is-x-sheet $ fjoin ! $ move ! (3 ∷ 0 ∷ []) $
-            fjoin ! $ move ! (2 ∷ 0 ∷ []) $ fjoin ! $
+            nothing ! $ bring ! (1 ∷ 1 ∷ 0 ∷ []) $ group ! 3 $ nothing ! $
+            owned ! u32 (Is u32) (uint-makes 𝓤 H A W w32) x-sheet _ is-x-sheet $ fjoin ! $ bring ! (3 ∷ 0 ∷ []) $
+            fjoin ! $ bring ! (2 ∷ 0 ∷ []) $ fjoin ! $
             owned ! (rowOf Shape) (Is (rowOf Shape)) (Shape .makes 𝓤 H A) v-lent _ is-v-lent $ fjoin ! $
-            move ! (1 ∷ 0 ∷ []) $ join ! $ frame ! $ done !
+            bring ! (1 ∷ 0 ∷ []) $ join ! $ frame ! $ done !
 
         -- ---- the caller has what `answered` asks
         abbrev answered-args : Bool × ((denotes Shape) × ((denotes Outcome) × Unit {0}))
@@ -388,7 +388,7 @@ module _ (Shape Outcome : Value) where
             nothing ! $ nothing ! $
             owned ! (rowOf Outcome) (Is (rowOf Outcome)) (Outcome .makes 𝓤 H A) v-outcome _ is-v-outcome $ fjoin ! $
             owned ! (rowOf Shape) (Is (rowOf Shape)) (Shape .makes 𝓤 H A) x-shape _ is-x-shape $ fjoin ! $
-            owned ! Boolean (Is Boolean) (bool-makes 𝓤 H A W) v-pass _ is-v-pass $ fjoin ! $ move ! (1 ∷ 0 ∷ []) $
+            owned ! Boolean (Is Boolean) (bool-makes 𝓤 H A W) v-pass _ is-v-pass $ fjoin ! $ bring ! (1 ∷ 0 ∷ []) $
             join ! $ frame ! $ done !
 
         -- ---- the exit
@@ -400,13 +400,12 @@ module _ (Shape Outcome : Value) where
             ∷ ‵ (ShrSlice (named 1) κ₁ Entry′.the-row .own x-catalogue (s-x-catalogue ∷ [])) ∷ ‵ (flft κ₁ q₁) ∷ []) ∵
             suffices ! _ (ends-at 𝓤 H A ended stayed (clauses 𝓤) W bound m-v-result v-result (tt, (tt, (tt, (tt, (tt, tt)))))
             (tt, (tt, (tt, (tt, (tt, tt)))))) $
-            says ! (law x-role x-shape (now x-map) (now x-catalogue) x-sheet) $ nothing ! $ move ! (4 ∷ 0 ∷ []) $
-            join ! $ move ! (2 ∷ 0 ∷ []) $ join ! $ frame ! $ nothing ! $
-            owned ! u32 (Is u32) (uint-makes 𝓤 H A W w32) x-sheet _ is-x-sheet $ fjoin ! $ move ! (2 ∷ 0 ∷ []) $
-            fjoin ! $ move ! (1 ∷ 0 ∷ []) $ fjoin ! $
+            says ! (law x-role x-shape (now x-map) (now x-catalogue) x-sheet) $ nothing ! $ bring ! (2 ∷ 3 ∷ 0 ∷ []) $
+            group ! 3 $ frame ! $ nothing ! $ owned ! u32 (Is u32) (uint-makes 𝓤 H A W w32) x-sheet _ is-x-sheet $
+            fjoin ! $ bring ! (2 ∷ 0 ∷ []) $ fjoin ! $ bring ! (1 ∷ 0 ∷ []) $ fjoin ! $
             owned ! (rowOf Shape) (Is (rowOf Shape)) (Shape .makes 𝓤 H A) x-shape _ is-x-shape $ fjoin ! $
             owned ! u32 (Is u32) (uint-makes 𝓤 H A W w32) x-role _ is-x-role $ fjoin ! $
-            owned ! (rowOf Outcome) (Is (rowOf Outcome)) (Outcome .makes 𝓤 H A) v-result _ is $ move ! (1 ∷ 0 ∷ []) $
+            owned ! (rowOf Outcome) (Is (rowOf Outcome)) (Outcome .makes 𝓤 H A) v-result _ is $ bring ! (1 ∷ 0 ∷ []) $
             done !
 
         -- ---- the walk
@@ -426,26 +425,24 @@ module _ (Shape Outcome : Value) where
             pass1 ! (init ! 14 refl typed-x-role) $ pass1 ! (init ! 12 refl typed-x-shape) $
             pass1 ! (init ! 10 refl (tt, (tt, (record { fits = room-x-map .0 }, tt)))) $
             pass1 ! (init ! 8 refl (tt, (tt, (record { fits = room-x-catalogue .0 }, tt)))) $
-            pass1 ! (init ! 6 refl typed-x-sheet) $ pass0 ! $ move ! (18 ∷ []) $ split ! $ move ! (1 ∷ []) $ split ! $
-            move ! (1 ∷ []) $ drop ! $ move ! (20 ∷ []) $ fsplit ! $ move ! (1 ∷ []) $ fsplit ! $ move ! (1 ∷ []) $
-            fsplit ! $ move ! (1 ∷ []) $ fsplit ! $ move ! (1 ∷ []) $ fsplit ! $ move ! (1 ∷ []) $ drop ! $
-            move ! (4 ∷ []) $ drop ! $ move ! (3 ∷ []) $ drop ! $ drop ! $
+            pass1 ! (init ! 6 refl typed-x-sheet) $ pass0 ! $ bring ! (18 ∷ []) $ parts W (_ ∷ _ ∷ []) _ $
+            bring ! (20 ∷ []) $ fparts W (_ ∷ _ ∷ _ ∷ _ ∷ _ ∷ []) _ $ discard ! (0 ∷ 0 ∷ 2 ∷ []) $
             -- passes
             use0 W (raw ((passes-contract passes-out 𝓤 H A) .pre (to-passes))) (goes-passes) $
             calls-at ! (fmOf 𝓤 H (W .laws) 𝓣) (passes-contract passes-out 𝓤 H A) known-passes (to-passes)
             (and-then ! (load ! (from ! (stop !)) (look ! 19 refl)) (no-more !)) (λ w-passes.
             use1 W (later (some (λ (r : Bool). ((‵ ftrue) ⊛ ‵ (Boolean .own r (w-passes ∷ [])))
             ⊛ raw (ensured 𝓤 H A passes-ended (passes-clauses passes-out 𝓤) tt (passes-args) tt r)))) (id⊢ 𝓤 _) $
-            await ! tt $ pick ! (λ r-passes. split ! $ move ! (1 ∷ []) $
+            await ! tt $ pick ! (λ r-passes. split ! $ bring ! (1 ∷ []) $
             use1 W (some (λ (zs-passes : Unit {0} × Unit {0}). ‵ (lasts passes-ended tt (passes-args) zs-passes)
             ⊛ raw (fact 𝓤 (passes-says passes-out x-role r-passes)))) (id⊢ 𝓤 _) $
-            pick ! (λ zs-passes. split ! $ move ! (1 ∷ []) $
-            heard ! (passes-says passes-out x-role r-passes) (λ e-passes. fsplit ! $ move ! (1 ∷ []) $ drop ! $ drop ! $
-            split ! $ move ! (1 ∷ []) $ rewrite ! 0 (λ (r : Bool). ‵ (Boolean .own r (w-passes ∷ []))) (e-passes) refl $
+            pick ! (λ zs-passes. split ! $ bring ! (1 ∷ []) $
+            heard ! (passes-says passes-out x-role r-passes) (λ e-passes. fparts W (_ ∷ []) _ $ discard ! (0 ∷ []) $
+            split ! $ bring ! (1 ∷ []) $ rewrite ! 0 (λ (r : Bool). ‵ (Boolean .own r (w-passes ∷ []))) (e-passes) refl $
             peeks ! Boolean (Is Boolean) (shows 𝓤 H A Boolean) v-pass (w-passes ∷ []) (λ is-w-passes.
             land ! (from ! (stop !)) (init ! 10 refl ((bool-lawful 𝓤 H A W .typed) v-pass _ is-w-passes .0)) $
             rewrite ! 10 (λ (u : Val). ‵ (fat fullShare tyBool l₆ 0 u)) (ap only (bool-tells v-pass _ is-w-passes)) refl $
-            drop ! $ drop ! $
+            discard ! (0 ∷ []) $ parts W ([]) _ $
             -- admitted
             use0 W (raw ((admitted-contract admitted-out 𝓤 H A) .pre (to-admitted))) (goes-admitted
             (spelled-v-pass w-passes is-w-passes)) $
@@ -454,28 +451,26 @@ module _ (Shape Outcome : Value) where
             (no-more !))) (λ w-admitted.
             use1 W (later (some (λ (r : (denotes Shape)). ((‵ ftrue) ⊛ ‵ ((rowOf Shape) .own r (w-admitted ∷ [])))
             ⊛ raw (ensured 𝓤 H A admitted-ended (admitted-clauses admitted-out 𝓤) tt (admitted-args) tt r)))) (id⊢ 𝓤 _) $
-            await ! tt $ pick ! (λ r-admitted. split ! $ move ! (1 ∷ []) $
+            await ! tt $ pick ! (λ r-admitted. split ! $ bring ! (1 ∷ []) $
             use1 W (some (λ (zs-admitted : Unit {0} × (Unit {0} × Unit {0})). ‵ (lasts admitted-ended tt (admitted-args)
             zs-admitted) ⊛ raw (fact 𝓤 (admitted-says admitted-out v-pass x-shape r-admitted)))) (id⊢ 𝓤 _) $
-            pick ! (λ zs-admitted. split ! $ move ! (1 ∷ []) $
-            heard ! (admitted-says admitted-out v-pass x-shape r-admitted) (λ e-admitted. fsplit ! $ move ! (1 ∷ []) $
-            fsplit ! $ move ! (1 ∷ []) $ drop ! $ move ! (1 ∷ []) $ drop ! $ drop ! $ split ! $ move ! (1 ∷ []) $
+            pick ! (λ zs-admitted. split ! $ bring ! (1 ∷ []) $
+            heard ! (admitted-says admitted-out v-pass x-shape r-admitted) (λ e-admitted. fparts W (_ ∷ _ ∷ []) _ $
+            discard ! (0 ∷ 0 ∷ []) $ split ! $ bring ! (1 ∷ []) $
             rewrite ! 0 (λ (r : (denotes Shape)). ‵ ((rowOf Shape) .own r (w-admitted ∷ []))) (e-admitted) refl $
             peeks ! (rowOf Shape) (Is (rowOf Shape)) (shows 𝓤 H A (rowOf Shape)) v-lent (w-admitted ∷ []) (λ is-w-admitted.
             land ! (from ! (stop !)) (init ! 8 refl ((Shape .typed 𝓤 H A W) v-lent _ is-w-admitted .0)) $
             rewrite ! 8 (λ (u : Val). ‵ (fat fullShare (mirOf Shape) l₇ 0 u)) (ap only ((Shape .tells) v-lent _ is-w-admitted))
             refl $
-            drop ! $ drop ! $
+            discard ! (0 ∷ []) $ parts W ([]) _ $
             -- call
-            move ! (1 ∷ []) $
             use1 W (‵ (ShrSlice (named 0) κ₀ u64 .own x-map (s-x-map ∷ [])) ⊛ ‵ (ShrSlice (named 0) κ₀ u64 .own x-map
             (s-x-map ∷ []))) (shr-slice-copy 𝓤 H A W (named 0) κ₀ u64 .twice x-map (s-x-map ∷ [])) $
-            split ! $ move ! (2 ∷ []) $
+            split ! $ bring ! (2 ∷ []) $
             use1 W (‵ (ShrSlice (named 1) κ₁ Entry′.the-row .own x-catalogue (s-x-catalogue ∷ []))
             ⊛ ‵ (ShrSlice (named 1) κ₁ Entry′.the-row .own x-catalogue (s-x-catalogue ∷ [])))
             (shr-slice-copy 𝓤 H A W (named 1) κ₁ Entry′.the-row .twice x-catalogue (s-x-catalogue ∷ [])) $
-            split ! $ move ! (5 ∷ 4 ∷ 2 ∷ 0 ∷ []) $ move ! (2 ∷ 3 ∷ []) $ join ! $ move ! (2 ∷ 0 ∷ []) $ join ! $
-            move ! (1 ∷ 0 ∷ []) $ join ! $
+            split ! $ bring ! (4 ∷ 4 ∷ 2 ∷ 0 ∷ []) $ group ! 4 $
             use1 W (raw ((call-contract call-out 𝓤 H A) .pre (to-call))) (goes-call (spelled-v-lent w-admitted is-w-admitted)) $
             calls-at ! (fmOf 𝓤 H (W .laws) 𝓣) (call-contract call-out 𝓤 H A) known-call (to-call)
             (and-then ! (load ! (from ! (stop !)) (look ! 5 refl)) (and-then ! (load ! (from ! (stop !)) (look ! 13 refl))
@@ -484,22 +479,20 @@ module _ (Shape Outcome : Value) where
             use1 W (later (some (λ (r : (denotes Outcome)). ((‵ (flft κ₀ q₀) ⊛ ‵ (flft κ₁ q₁) ⊛ ‵ ftrue)
             ⊛ ‵ ((rowOf Outcome) .own r (w-call ∷ []))) ⊛ raw (ensured 𝓤 H A call-ended (call-clauses call-out 𝓤) (κ₀, (κ₁, tt))
             (call-args) tt r)))) (id⊢ 𝓤 _) $
-            await ! tt $ pick ! (λ r-call. split ! $ move ! (1 ∷ []) $
+            await ! tt $ pick ! (λ r-call. split ! $ bring ! (1 ∷ []) $
             use1 W (some (λ (zs-call : Unit {0} × (Unit {0} × (Unit {0} × (Unit {0} × Unit {0})))). ‵
             (lasts call-ended
             (κ₀, (κ₁, tt)) (call-args) zs-call) ⊛ raw (fact 𝓤 (call-says call-out v-lent (now x-map) (now x-catalogue) x-sheet
             r-call)))) (id⊢ 𝓤 _) $
-            pick ! (λ zs-call. split ! $ move ! (1 ∷ []) $
-            heard ! (call-says call-out v-lent (now x-map) (now x-catalogue) x-sheet r-call) (λ e-call. fsplit ! $
-            move ! (1 ∷ []) $ fsplit ! $ move ! (1 ∷ []) $ fsplit ! $ move ! (1 ∷ []) $ fsplit ! $ move ! (1 ∷ []) $
-            drop ! $ move ! (3 ∷ []) $ drop ! $ move ! (2 ∷ []) $ drop ! $ move ! (1 ∷ []) $ drop ! $ drop ! $ split ! $
-            move ! (1 ∷ []) $
+            pick ! (λ zs-call. split ! $ bring ! (1 ∷ []) $
+            heard ! (call-says call-out v-lent (now x-map) (now x-catalogue) x-sheet r-call) (λ e-call.
+            fparts W (_ ∷ _ ∷ _ ∷ _ ∷ []) _ $ discard ! (0 ∷ 0 ∷ 0 ∷ 0 ∷ []) $ split ! $ bring ! (1 ∷ []) $
             rewrite ! 0 (λ (r : (denotes Outcome)). ‵ ((rowOf Outcome) .own r (w-call ∷ []))) (e-call) refl $
             peeks ! (rowOf Outcome) (Is (rowOf Outcome)) (shows 𝓤 H A (rowOf Outcome)) v-outcome (w-call ∷ []) (λ is-w-call.
             land ! (from ! (stop !)) (init ! 4 refl ((Outcome .typed 𝓤 H A W) v-outcome _ is-w-call .0)) $
             rewrite ! 4 (λ (u : Val). ‵ (fat fullShare (mirOf Outcome) l₈ 0 u)) (ap only
             ((Outcome .tells) v-outcome _ is-w-call)) refl $
-            drop ! $ split ! $ move ! (1 ∷ []) $ split ! $ move ! (1 ∷ []) $ drop ! $
+            discard ! (0 ∷ []) $ parts W (_ ∷ _ ∷ []) _ $
             -- answered
             use0 W (raw ((answered-contract answered-out 𝓤 H A) .pre (to-answered))) (goes-answered
             (spelled-v-pass w-passes is-w-passes) (spelled-v-outcome w-call is-w-call)) $
@@ -508,23 +501,23 @@ module _ (Shape Outcome : Value) where
             (and-then ! (load ! (from ! (stop !)) (look ! 5 refl)) (no-more !)))) (λ w-answered.
             use1 W (later (some (λ (r : (denotes Outcome)). ((‵ ftrue) ⊛ ‵ ((rowOf Outcome) .own r (w-answered ∷ [])))
             ⊛ raw (ensured 𝓤 H A answered-ended (answered-clauses answered-out 𝓤) tt (answered-args) tt r)))) (id⊢ 𝓤 _) $
-            await ! tt $ pick ! (λ r-answered. split ! $ move ! (1 ∷ []) $
+            await ! tt $ pick ! (λ r-answered. split ! $ bring ! (1 ∷ []) $
             use1 W (some (λ (zs-answered : Unit {0} × (Unit {0} × (Unit {0} × Unit {0}))). ‵
             (lasts answered-ended tt (answered-args) zs-answered) ⊛ raw (fact 𝓤 (answered-says answered-out v-pass x-shape
             v-outcome r-answered)))) (id⊢ 𝓤 _) $
-            pick ! (λ zs-answered. split ! $ move ! (1 ∷ []) $
-            heard ! (answered-says answered-out v-pass x-shape v-outcome r-answered) (λ e-answered. fsplit ! $
-            move ! (1 ∷ []) $ fsplit ! $ move ! (1 ∷ []) $ fsplit ! $ move ! (1 ∷ []) $ drop ! $ move ! (2 ∷ []) $
-            drop ! $ move ! (1 ∷ []) $ drop ! $ drop ! $ split ! $ move ! (1 ∷ []) $
+            pick ! (λ zs-answered. split ! $ bring ! (1 ∷ []) $
+            heard ! (answered-says answered-out v-pass x-shape v-outcome r-answered) (λ e-answered.
+            fparts W (_ ∷ _ ∷ _ ∷ []) _ $ discard ! (0 ∷ 0 ∷ 0 ∷ []) $ split ! $ bring ! (1 ∷ []) $
             rewrite ! 0 (λ (r : (denotes Outcome)). ‵ ((rowOf Outcome) .own r (w-answered ∷ []))) (e-answered) refl $
             peeks ! (rowOf Outcome) (Is (rowOf Outcome)) (shows 𝓤 H A (rowOf Outcome)) v-result (w-answered ∷ [])
             (λ is-w-answered.
             land ! (from ! (stop !)) (init ! 22 refl ((Outcome .typed 𝓤 H A W) v-result _ is-w-answered .0)) $
             rewrite ! 22 (λ (u : Val). ‵ (fat fullShare (mirOf Outcome) l₀ 0 u)) (ap only
             ((Outcome .tells) v-result _ is-w-answered)) refl $
-            drop ! $ drop ! $ returns ! (look ! 20 refl) $ leave ! 20 refl refl $ leave ! 18 refl refl $
-            leave ! 16 refl refl $ leave ! 14 refl refl $ leave ! 12 refl refl $ leave ! 10 refl refl $
-            leave ! 8 refl refl $ leave ! 6 refl refl $ leave ! 4 refl refl $ free0 ! $ move ! (3 ∷ 1 ∷ 2 ∷ 0 ∷ []) $
+            discard ! (0 ∷ []) $ parts W ([]) _ $ returns ! (look ! 20 refl) $ leave ! 20 refl refl $
+            leave ! 18 refl refl $ leave ! 16 refl refl $ leave ! 14 refl refl $ leave ! 12 refl refl $
+            leave ! 10 refl refl $ leave ! 8 refl refl $ leave ! 6 refl refl $ leave ! 4 refl refl $ free0 ! $
+            bring ! (3 ∷ 0 ∷ 1 ∷ 0 ∷ []) $
             by ! (exits (spelled-v-result w-answered is-w-answered)))))))))))))))))))))))))))))))
 
       module _ {M : Type 1} (𝓤 : URA M) (H : Heap 𝓤) (A : Atoms 𝓤) (W : Given 𝓤 H A) where

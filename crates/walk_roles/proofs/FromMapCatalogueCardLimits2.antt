@@ -23,8 +23,8 @@ use base.Fml.{Lft, Share, GName, ftrue, flft, fat}
 use prog.Wp.{Heap, WpFn, Tables}
 use ghost.Atoms.{Atoms}
 use contract.Monad.{fact}
-use types.Kit.{Given, ‵, raw, some, later, _⊛_, ⋆, _$_, _∵_, !, qed, by, move, drop, use0, use1, split, join, pick, rewrite}
-use types.Kit.{fsplit, fjoin, suffices, frame, await, done}
+use types.Kit.{Given, ‵, raw, some, later, _⊛_, ⋆, _$_, _∵_, !, qed, by, use0, use1, group, split, join, pick, rewrite, fjoin}
+use types.Kit.{suffices, frame, await, done}
 use types.Run.{look, init, stop, from, load, and-then, no-more, land, returns, enter, alloc1, alloc0, params1, pass1, pass0}
 use types.Run.{free0}
 use sound.WpLaws.{fmOf, WpFn-mono}
@@ -49,7 +49,7 @@ use denote.Exit.{yes}
 use Rattle.catalogue.proofs.Values.{Value, denotes, rowOf, mirOf, valsOf}
 use Rattle.catalogue.specs.declared.Entry.{Entry}
 use Rattle.catalogue.proofs.Entry as Entry′
-use Rattle.catalogue.proofs.Steps.{leave}
+use Rattle.catalogue.proofs.Steps.{bring, discard, parts, fparts, leave}
 
 module _ (Shape Outcome : Value) where
   -- ---- the signature
@@ -373,7 +373,7 @@ module _ (Shape Outcome : Value) where
         goes-passes =
             qed W ([]) ∵
             nothing ! $ nothing ! $ owned ! u32 (Is u32) (uint-makes 𝓤 H A W w32) x-role _ is-x-role $ fjoin ! $
-            move ! (1 ∷ 0 ∷ []) $ join ! $ frame ! $ done !
+            bring ! (1 ∷ 0 ∷ []) $ join ! $ frame ! $ done !
 
         -- ---- the caller has what `admitted` asks
         abbrev admitted-args : Bool × ((denotes Shape) × Unit {0})
@@ -388,7 +388,7 @@ module _ (Shape Outcome : Value) where
             qed W ([]) ∵
             nothing ! $ nothing ! $ owned ! (rowOf Shape) (Is (rowOf Shape)) (Shape .makes 𝓤 H A) x-shape _ is-x-shape $
             fjoin ! $ owned ! Boolean (Is Boolean) (bool-makes 𝓤 H A W) v-pass _ is-v-pass $ fjoin ! $
-            move ! (1 ∷ 0 ∷ []) $ join ! $ frame ! $ done !
+            bring ! (1 ∷ 0 ∷ []) $ join ! $ frame ! $ done !
 
         -- ---- the caller has what `call` asks
         abbrev call-args : (denotes Shape) × (RefT (List ℕ) × (RefT (List Entry) × (RefT (List ℕ)
@@ -420,13 +420,12 @@ module _ (Shape Outcome : Value) where
             (ShrSlice (named 0) κ₀ u64 .own x-map (s-x-map ∷ [])) ∷ ‵ (ShrSlice (named 1) κ₁ Entry′.the-row .own x-catalogue
             (s-x-catalogue ∷ [])) ∷ ‵ (ShrSlice (named 2) κ₂ u8 .own x-card (s-x-card ∷ []))
             ∷ ‵ (ShrRef (named 3) κ₃ (Array u32 8) .own x-limits (s-x-limits ∷ [])) ∷ []) ∵
-            nothing ! $ move ! (4 ∷ 0 ∷ []) $ join ! $ move ! (3 ∷ 0 ∷ []) $ join ! $ move ! (2 ∷ 0 ∷ []) $ join ! $
-            move ! (1 ∷ 0 ∷ []) $ join ! $ nothing ! $ owned ! u32 (Is u32) (uint-makes 𝓤 H A W w32) x-k _ is-x-k $
-            fjoin ! $ owned ! u32 (Is u32) (uint-makes 𝓤 H A W w32) x-sheet _ is-x-sheet $ fjoin ! $
-            move ! (5 ∷ 0 ∷ []) $ fjoin ! $ move ! (4 ∷ 0 ∷ []) $ fjoin ! $ move ! (3 ∷ 0 ∷ []) $ fjoin ! $
-            move ! (2 ∷ 0 ∷ []) $ fjoin ! $
+            nothing ! $ bring ! (1 ∷ 1 ∷ 1 ∷ 1 ∷ 0 ∷ []) $ group ! 5 $ nothing ! $
+            owned ! u32 (Is u32) (uint-makes 𝓤 H A W w32) x-k _ is-x-k $ fjoin ! $
+            owned ! u32 (Is u32) (uint-makes 𝓤 H A W w32) x-sheet _ is-x-sheet $ fjoin ! $ bring ! (5 ∷ 0 ∷ []) $
+            fjoin ! $ bring ! (4 ∷ 0 ∷ []) $ fjoin ! $ bring ! (3 ∷ 0 ∷ []) $ fjoin ! $ bring ! (2 ∷ 0 ∷ []) $ fjoin ! $
             owned ! (rowOf Shape) (Is (rowOf Shape)) (Shape .makes 𝓤 H A) v-lent _ is-v-lent $ fjoin ! $
-            move ! (1 ∷ 0 ∷ []) $ join ! $ frame ! $ done !
+            bring ! (1 ∷ 0 ∷ []) $ join ! $ frame ! $ done !
 
         -- ---- the caller has what `answered` asks
         abbrev answered-args : Bool × ((denotes Shape) × ((denotes Outcome) × Unit {0}))
@@ -442,7 +441,7 @@ module _ (Shape Outcome : Value) where
             nothing ! $ nothing ! $
             owned ! (rowOf Outcome) (Is (rowOf Outcome)) (Outcome .makes 𝓤 H A) v-outcome _ is-v-outcome $ fjoin ! $
             owned ! (rowOf Shape) (Is (rowOf Shape)) (Shape .makes 𝓤 H A) x-shape _ is-x-shape $ fjoin ! $
-            owned ! Boolean (Is Boolean) (bool-makes 𝓤 H A W) v-pass _ is-v-pass $ fjoin ! $ move ! (1 ∷ 0 ∷ []) $
+            owned ! Boolean (Is Boolean) (bool-makes 𝓤 H A W) v-pass _ is-v-pass $ fjoin ! $ bring ! (1 ∷ 0 ∷ []) $
             join ! $ frame ! $ done !
 
         -- ---- the exit
@@ -458,14 +457,13 @@ module _ (Shape Outcome : Value) where
             suffices ! _ (ends-at 𝓤 H A ended stayed (clauses 𝓤) W bound m-v-result v-result
             (tt, (tt, (tt, (tt, (tt, (tt, (tt, (tt, tt)))))))) (tt, (tt, (tt, (tt, (tt, (tt, (tt, (tt, tt))))))))) $
             says ! (law x-role x-shape (now x-map) (now x-catalogue) (now x-card) (now x-limits) x-sheet x-k) $
-            nothing ! $ move ! (8 ∷ 0 ∷ []) $ join ! $ move ! (6 ∷ 0 ∷ []) $ join ! $ move ! (4 ∷ 0 ∷ []) $ join ! $
-            move ! (2 ∷ 0 ∷ []) $ join ! $ frame ! $ nothing ! $
+            nothing ! $ bring ! (2 ∷ 3 ∷ 4 ∷ 5 ∷ 0 ∷ []) $ group ! 5 $ frame ! $ nothing ! $
             owned ! u32 (Is u32) (uint-makes 𝓤 H A W w32) x-k _ is-x-k $ fjoin ! $
-            owned ! u32 (Is u32) (uint-makes 𝓤 H A W w32) x-sheet _ is-x-sheet $ fjoin ! $ move ! (4 ∷ 0 ∷ []) $
-            fjoin ! $ move ! (3 ∷ 0 ∷ []) $ fjoin ! $ move ! (2 ∷ 0 ∷ []) $ fjoin ! $ move ! (1 ∷ 0 ∷ []) $ fjoin ! $
+            owned ! u32 (Is u32) (uint-makes 𝓤 H A W w32) x-sheet _ is-x-sheet $ fjoin ! $ bring ! (4 ∷ 0 ∷ []) $
+            fjoin ! $ bring ! (3 ∷ 0 ∷ []) $ fjoin ! $ bring ! (2 ∷ 0 ∷ []) $ fjoin ! $ bring ! (1 ∷ 0 ∷ []) $ fjoin ! $
             owned ! (rowOf Shape) (Is (rowOf Shape)) (Shape .makes 𝓤 H A) x-shape _ is-x-shape $ fjoin ! $
             owned ! u32 (Is u32) (uint-makes 𝓤 H A W w32) x-role _ is-x-role $ fjoin ! $
-            owned ! (rowOf Outcome) (Is (rowOf Outcome)) (Outcome .makes 𝓤 H A) v-result _ is $ move ! (1 ∷ 0 ∷ []) $
+            owned ! (rowOf Outcome) (Is (rowOf Outcome)) (Outcome .makes 𝓤 H A) v-result _ is $ bring ! (1 ∷ 0 ∷ []) $
             done !
 
         -- ---- the walk
@@ -488,28 +486,24 @@ module _ (Shape Outcome : Value) where
             pass1 ! (init ! 14 refl (tt, (tt, (record { fits = room-x-catalogue .0 }, tt)))) $
             pass1 ! (init ! 12 refl (tt, (tt, (record { fits = room-x-card .0 }, tt)))) $
             pass1 ! (init ! 10 refl (tt, tt)) $ pass1 ! (init ! 8 refl typed-x-sheet) $
-            pass1 ! (init ! 6 refl typed-x-k) $ pass0 ! $ move ! (24 ∷ []) $ split ! $ move ! (1 ∷ []) $ split ! $
-            move ! (1 ∷ []) $ split ! $ move ! (1 ∷ []) $ split ! $ move ! (1 ∷ []) $ drop ! $ move ! (28 ∷ []) $
-            fsplit ! $ move ! (1 ∷ []) $ fsplit ! $ move ! (1 ∷ []) $ fsplit ! $ move ! (1 ∷ []) $ fsplit ! $
-            move ! (1 ∷ []) $ fsplit ! $ move ! (1 ∷ []) $ fsplit ! $ move ! (1 ∷ []) $ fsplit ! $ move ! (1 ∷ []) $
-            fsplit ! $ move ! (1 ∷ []) $ drop ! $ move ! (7 ∷ []) $ drop ! $ move ! (6 ∷ []) $ drop ! $ move ! (1 ∷ []) $
-            drop ! $ drop ! $
+            pass1 ! (init ! 6 refl typed-x-k) $ pass0 ! $ bring ! (24 ∷ []) $ parts W (_ ∷ _ ∷ _ ∷ _ ∷ []) _ $
+            bring ! (28 ∷ []) $ fparts W (_ ∷ _ ∷ _ ∷ _ ∷ _ ∷ _ ∷ _ ∷ _ ∷ []) _ $ discard ! (0 ∷ 0 ∷ 4 ∷ 4 ∷ []) $
             -- passes
             use0 W (raw ((passes-contract passes-out 𝓤 H A) .pre (to-passes))) (goes-passes) $
             calls-at ! (fmOf 𝓤 H (W .laws) 𝓣) (passes-contract passes-out 𝓤 H A) known-passes (to-passes)
             (and-then ! (load ! (from ! (stop !)) (look ! 29 refl)) (no-more !)) (λ w-passes.
             use1 W (later (some (λ (r : Bool). ((‵ ftrue) ⊛ ‵ (Boolean .own r (w-passes ∷ [])))
             ⊛ raw (ensured 𝓤 H A passes-ended (passes-clauses passes-out 𝓤) tt (passes-args) tt r)))) (id⊢ 𝓤 _) $
-            await ! tt $ pick ! (λ r-passes. split ! $ move ! (1 ∷ []) $
+            await ! tt $ pick ! (λ r-passes. split ! $ bring ! (1 ∷ []) $
             use1 W (some (λ (zs-passes : Unit {0} × Unit {0}). ‵ (lasts passes-ended tt (passes-args) zs-passes)
             ⊛ raw (fact 𝓤 (passes-says passes-out x-role r-passes)))) (id⊢ 𝓤 _) $
-            pick ! (λ zs-passes. split ! $ move ! (1 ∷ []) $
-            heard ! (passes-says passes-out x-role r-passes) (λ e-passes. fsplit ! $ move ! (1 ∷ []) $ drop ! $ drop ! $
-            split ! $ move ! (1 ∷ []) $ rewrite ! 0 (λ (r : Bool). ‵ (Boolean .own r (w-passes ∷ []))) (e-passes) refl $
+            pick ! (λ zs-passes. split ! $ bring ! (1 ∷ []) $
+            heard ! (passes-says passes-out x-role r-passes) (λ e-passes. fparts W (_ ∷ []) _ $ discard ! (0 ∷ []) $
+            split ! $ bring ! (1 ∷ []) $ rewrite ! 0 (λ (r : Bool). ‵ (Boolean .own r (w-passes ∷ []))) (e-passes) refl $
             peeks ! Boolean (Is Boolean) (shows 𝓤 H A Boolean) v-pass (w-passes ∷ []) (λ is-w-passes.
             land ! (from ! (stop !)) (init ! 14 refl ((bool-lawful 𝓤 H A W .typed) v-pass _ is-w-passes .0)) $
             rewrite ! 14 (λ (u : Val). ‵ (fat fullShare tyBool l₉ 0 u)) (ap only (bool-tells v-pass _ is-w-passes)) refl $
-            drop ! $ drop ! $
+            discard ! (0 ∷ []) $ parts W ([]) _ $
             -- admitted
             use0 W (raw ((admitted-contract admitted-out 𝓤 H A) .pre (to-admitted))) (goes-admitted
             (spelled-v-pass w-passes is-w-passes)) $
@@ -518,36 +512,33 @@ module _ (Shape Outcome : Value) where
             (no-more !))) (λ w-admitted.
             use1 W (later (some (λ (r : (denotes Shape)). ((‵ ftrue) ⊛ ‵ ((rowOf Shape) .own r (w-admitted ∷ [])))
             ⊛ raw (ensured 𝓤 H A admitted-ended (admitted-clauses admitted-out 𝓤) tt (admitted-args) tt r)))) (id⊢ 𝓤 _) $
-            await ! tt $ pick ! (λ r-admitted. split ! $ move ! (1 ∷ []) $
+            await ! tt $ pick ! (λ r-admitted. split ! $ bring ! (1 ∷ []) $
             use1 W (some (λ (zs-admitted : Unit {0} × (Unit {0} × Unit {0})). ‵ (lasts admitted-ended tt (admitted-args)
             zs-admitted) ⊛ raw (fact 𝓤 (admitted-says admitted-out v-pass x-shape r-admitted)))) (id⊢ 𝓤 _) $
-            pick ! (λ zs-admitted. split ! $ move ! (1 ∷ []) $
-            heard ! (admitted-says admitted-out v-pass x-shape r-admitted) (λ e-admitted. fsplit ! $ move ! (1 ∷ []) $
-            fsplit ! $ move ! (1 ∷ []) $ drop ! $ move ! (1 ∷ []) $ drop ! $ drop ! $ split ! $ move ! (1 ∷ []) $
+            pick ! (λ zs-admitted. split ! $ bring ! (1 ∷ []) $
+            heard ! (admitted-says admitted-out v-pass x-shape r-admitted) (λ e-admitted. fparts W (_ ∷ _ ∷ []) _ $
+            discard ! (0 ∷ 0 ∷ []) $ split ! $ bring ! (1 ∷ []) $
             rewrite ! 0 (λ (r : (denotes Shape)). ‵ ((rowOf Shape) .own r (w-admitted ∷ []))) (e-admitted) refl $
             peeks ! (rowOf Shape) (Is (rowOf Shape)) (shows 𝓤 H A (rowOf Shape)) v-lent (w-admitted ∷ []) (λ is-w-admitted.
             land ! (from ! (stop !)) (init ! 12 refl ((Shape .typed 𝓤 H A W) v-lent _ is-w-admitted .0)) $
             rewrite ! 12 (λ (u : Val). ‵ (fat fullShare (mirOf Shape) l₁₀ 0 u)) (ap only
             ((Shape .tells) v-lent _ is-w-admitted)) refl $
-            drop ! $ drop ! $
+            discard ! (0 ∷ []) $ parts W ([]) _ $
             -- call
-            move ! (3 ∷ []) $
             use1 W (‵ (ShrSlice (named 0) κ₀ u64 .own x-map (s-x-map ∷ [])) ⊛ ‵ (ShrSlice (named 0) κ₀ u64 .own x-map
             (s-x-map ∷ []))) (shr-slice-copy 𝓤 H A W (named 0) κ₀ u64 .twice x-map (s-x-map ∷ [])) $
-            split ! $ move ! (4 ∷ []) $
+            split ! $ bring ! (2 ∷ []) $
             use1 W (‵ (ShrSlice (named 1) κ₁ Entry′.the-row .own x-catalogue (s-x-catalogue ∷ []))
             ⊛ ‵ (ShrSlice (named 1) κ₁ Entry′.the-row .own x-catalogue (s-x-catalogue ∷ [])))
             (shr-slice-copy 𝓤 H A W (named 1) κ₁ Entry′.the-row .twice x-catalogue (s-x-catalogue ∷ [])) $
-            split ! $ move ! (5 ∷ []) $
+            split ! $ bring ! (4 ∷ []) $
             use1 W (‵ (ShrSlice (named 2) κ₂ u8 .own x-card (s-x-card ∷ [])) ⊛ ‵ (ShrSlice (named 2) κ₂ u8 .own x-card
             (s-x-card ∷ []))) (shr-slice-copy 𝓤 H A W (named 2) κ₂ u8 .twice x-card (s-x-card ∷ [])) $
-            split ! $ move ! (6 ∷ []) $
+            split ! $ bring ! (6 ∷ []) $
             use1 W (‵ (ShrRef (named 3) κ₃ (Array u32 8) .own x-limits (s-x-limits ∷ []))
             ⊛ ‵ (ShrRef (named 3) κ₃ (Array u32 8) .own x-limits (s-x-limits ∷ []))) (shr-copy 𝓤 H A W (named 3) κ₃
             (Array u32 8) .twice x-limits (s-x-limits ∷ [])) $
-            split ! $ move ! (11 ∷ 10 ∷ 9 ∷ 8 ∷ 6 ∷ 4 ∷ 2 ∷ 0 ∷ []) $ move ! (6 ∷ 7 ∷ []) $ join ! $
-            move ! (6 ∷ 0 ∷ []) $ join ! $ move ! (5 ∷ 0 ∷ []) $ join ! $ move ! (4 ∷ 0 ∷ []) $ join ! $
-            move ! (3 ∷ 0 ∷ []) $ join ! $ move ! (2 ∷ 0 ∷ []) $ join ! $ move ! (1 ∷ 0 ∷ []) $ join ! $
+            split ! $ bring ! (8 ∷ 8 ∷ 8 ∷ 8 ∷ 6 ∷ 4 ∷ 2 ∷ 0 ∷ []) $ group ! 8 $
             use1 W (raw ((call-contract call-out 𝓤 H A) .pre (to-call))) (goes-call (spelled-v-lent w-admitted is-w-admitted)) $
             calls-at ! (fmOf 𝓤 H (W .laws) 𝓣) (call-contract call-out 𝓤 H A) known-call (to-call)
             (and-then ! (load ! (from ! (stop !)) (look ! 7 refl)) (and-then ! (load ! (from ! (stop !)) (look ! 21 refl))
@@ -557,25 +548,22 @@ module _ (Shape Outcome : Value) where
             use1 W (later (some (λ (r : (denotes Outcome)). ((‵ (flft κ₀ q₀) ⊛ ‵ (flft κ₁ q₁) ⊛ ‵ (flft κ₂ q₂) ⊛ ‵ (flft κ₃ q₃)
             ⊛ ‵ ftrue) ⊛ ‵ ((rowOf Outcome) .own r (w-call ∷ []))) ⊛ raw (ensured 𝓤 H A call-ended (call-clauses call-out 𝓤)
             (κ₀, (κ₁, (κ₂, (κ₃, tt)))) (call-args) tt r)))) (id⊢ 𝓤 _) $
-            await ! tt $ pick ! (λ r-call. split ! $ move ! (1 ∷ []) $
+            await ! tt $ pick ! (λ r-call. split ! $ bring ! (1 ∷ []) $
             use1 W (some (λ (zs-call : Unit {0} × (Unit {0} × (Unit {0} × (Unit {0} × (Unit {0}
             × (Unit {0} × (Unit {0} × Unit {0}))))))). ‵ (lasts call-ended (κ₀, (κ₁, (κ₂, (κ₃, tt)))) (call-args) zs-call)
             ⊛ raw (fact 𝓤 (call-says call-out v-lent (now x-map) (now x-catalogue) (now x-card) (now x-limits) x-sheet x-k
             r-call)))) (id⊢ 𝓤 _) $
-            pick ! (λ zs-call. split ! $ move ! (1 ∷ []) $
+            pick ! (λ zs-call. split ! $ bring ! (1 ∷ []) $
             heard ! (call-says call-out v-lent (now x-map) (now x-catalogue) (now x-card) (now x-limits) x-sheet x-k r-call)
             (λ e-call.
-            fsplit ! $ move ! (1 ∷ []) $ fsplit ! $ move ! (1 ∷ []) $ fsplit ! $ move ! (1 ∷ []) $ fsplit ! $
-            move ! (1 ∷ []) $ fsplit ! $ move ! (1 ∷ []) $ fsplit ! $ move ! (1 ∷ []) $ fsplit ! $ move ! (1 ∷ []) $
-            drop ! $ move ! (6 ∷ []) $ drop ! $ move ! (5 ∷ []) $ drop ! $ move ! (4 ∷ []) $ drop ! $ move ! (3 ∷ []) $
-            drop ! $ move ! (2 ∷ []) $ drop ! $ move ! (1 ∷ []) $ drop ! $ drop ! $ split ! $ move ! (1 ∷ []) $
+            fparts W (_ ∷ _ ∷ _ ∷ _ ∷ _ ∷ _ ∷ _ ∷ []) _ $ discard ! (0 ∷ 0 ∷ 0 ∷ 0 ∷ 0 ∷ 0 ∷ 0 ∷ []) $ split ! $
+            bring ! (1 ∷ []) $
             rewrite ! 0 (λ (r : (denotes Outcome)). ‵ ((rowOf Outcome) .own r (w-call ∷ []))) (e-call) refl $
             peeks ! (rowOf Outcome) (Is (rowOf Outcome)) (shows 𝓤 H A (rowOf Outcome)) v-outcome (w-call ∷ []) (λ is-w-call.
             land ! (from ! (stop !)) (init ! 6 refl ((Outcome .typed 𝓤 H A W) v-outcome _ is-w-call .0)) $
             rewrite ! 6 (λ (u : Val). ‵ (fat fullShare (mirOf Outcome) l₁₁ 0 u)) (ap only
             ((Outcome .tells) v-outcome _ is-w-call)) refl $
-            drop ! $ split ! $ move ! (1 ∷ []) $ split ! $ move ! (1 ∷ []) $ split ! $ move ! (1 ∷ []) $ split ! $
-            move ! (1 ∷ []) $ drop ! $
+            discard ! (0 ∷ []) $ parts W (_ ∷ _ ∷ _ ∷ _ ∷ []) _ $
             -- answered
             use0 W (raw ((answered-contract answered-out 𝓤 H A) .pre (to-answered))) (goes-answered
             (spelled-v-pass w-passes is-w-passes) (spelled-v-outcome w-call is-w-call)) $
@@ -584,24 +572,24 @@ module _ (Shape Outcome : Value) where
             (and-then ! (load ! (from ! (stop !)) (look ! 9 refl)) (no-more !)))) (λ w-answered.
             use1 W (later (some (λ (r : (denotes Outcome)). ((‵ ftrue) ⊛ ‵ ((rowOf Outcome) .own r (w-answered ∷ [])))
             ⊛ raw (ensured 𝓤 H A answered-ended (answered-clauses answered-out 𝓤) tt (answered-args) tt r)))) (id⊢ 𝓤 _) $
-            await ! tt $ pick ! (λ r-answered. split ! $ move ! (1 ∷ []) $
+            await ! tt $ pick ! (λ r-answered. split ! $ bring ! (1 ∷ []) $
             use1 W (some (λ (zs-answered : Unit {0} × (Unit {0} × (Unit {0} × Unit {0}))). ‵
             (lasts answered-ended tt (answered-args) zs-answered) ⊛ raw (fact 𝓤 (answered-says answered-out v-pass x-shape
             v-outcome r-answered)))) (id⊢ 𝓤 _) $
-            pick ! (λ zs-answered. split ! $ move ! (1 ∷ []) $
-            heard ! (answered-says answered-out v-pass x-shape v-outcome r-answered) (λ e-answered. fsplit ! $
-            move ! (1 ∷ []) $ fsplit ! $ move ! (1 ∷ []) $ fsplit ! $ move ! (1 ∷ []) $ drop ! $ move ! (2 ∷ []) $
-            drop ! $ move ! (1 ∷ []) $ drop ! $ drop ! $ split ! $ move ! (1 ∷ []) $
+            pick ! (λ zs-answered. split ! $ bring ! (1 ∷ []) $
+            heard ! (answered-says answered-out v-pass x-shape v-outcome r-answered) (λ e-answered.
+            fparts W (_ ∷ _ ∷ _ ∷ []) _ $ discard ! (0 ∷ 0 ∷ 0 ∷ []) $ split ! $ bring ! (1 ∷ []) $
             rewrite ! 0 (λ (r : (denotes Outcome)). ‵ ((rowOf Outcome) .own r (w-answered ∷ []))) (e-answered) refl $
             peeks ! (rowOf Outcome) (Is (rowOf Outcome)) (shows 𝓤 H A (rowOf Outcome)) v-result (w-answered ∷ [])
             (λ is-w-answered.
             land ! (from ! (stop !)) (init ! 32 refl ((Outcome .typed 𝓤 H A W) v-result _ is-w-answered .0)) $
             rewrite ! 32 (λ (u : Val). ‵ (fat fullShare (mirOf Outcome) l₀ 0 u)) (ap only
             ((Outcome .tells) v-result _ is-w-answered)) refl $
-            drop ! $ drop ! $ returns ! (look ! 30 refl) $ leave ! 30 refl refl $ leave ! 28 refl refl $
-            leave ! 26 refl refl $ leave ! 24 refl refl $ leave ! 22 refl refl $ leave ! 20 refl refl $
-            leave ! 18 refl refl $ leave ! 16 refl refl $ leave ! 14 refl refl $ leave ! 12 refl refl $
-            leave ! 10 refl refl $ leave ! 8 refl refl $ free0 ! $ move ! (7 ∷ 3 ∷ 6 ∷ 2 ∷ 5 ∷ 1 ∷ 4 ∷ 0 ∷ []) $
+            discard ! (0 ∷ []) $ parts W ([]) _ $ returns ! (look ! 30 refl) $ leave ! 30 refl refl $
+            leave ! 28 refl refl $ leave ! 26 refl refl $ leave ! 24 refl refl $ leave ! 22 refl refl $
+            leave ! 20 refl refl $ leave ! 18 refl refl $ leave ! 16 refl refl $ leave ! 14 refl refl $
+            leave ! 12 refl refl $ leave ! 10 refl refl $ leave ! 8 refl refl $ free0 ! $
+            bring ! (7 ∷ 0 ∷ 5 ∷ 0 ∷ 3 ∷ 0 ∷ 1 ∷ 0 ∷ []) $
             by ! (exits (spelled-v-result w-answered is-w-answered))))))))))))))))))))))))))))))))))
 
       module _ {M : Type 1} (𝓤 : URA M) (H : Heap 𝓤) (A : Atoms 𝓤) (W : Given 𝓤 H A) where

@@ -25,7 +25,7 @@ use base.Fml.{Lft, Share, GName, ftrue, flft, fat}
 use prog.Wp.{Heap, WpFn, Tables}
 use ghost.Atoms.{Atoms}
 use contract.Monad.{fact}
-use types.Kit.{Given, ‵, raw, some, later, _⊛_, ⋆, _$_, _∵_, !, qed, by, move, drop, use0, use1, use2, use3, split, join, pick}
+use types.Kit.{Given, ‵, raw, some, later, _⊛_, ⋆, _$_, _∵_, !, qed, by, use0, use1, use2, use3, group, split, join, pick}
 use types.Kit.{rewrite, fsplit, fjoin, feqL, suffices, frame, await, done}
 use types.Run.{look, init, stop, hop, fld, from, load, addr, and-then, no-more, of-opd, assigns, land, returns, enter, alloc1}
 use types.Run.{alloc0, params1, pass1, pass0, free0}
@@ -55,7 +55,7 @@ use Rattle.catalogue.proofs.Values.{Value, denotes, rowOf, mirOf, valsOf}
 use Rattle.catalogue.specs.declared.Entry.{Entry}
 use Rattle.catalogue.proofs.Entry as Entry′
 use Rattle.catalogue.proofs.Entry.Laws as Entry″
-use Rattle.catalogue.proofs.Steps.{leave}
+use Rattle.catalogue.proofs.Steps.{bring, discard, parts, fparts, leave}
 use Rattle.catalogue.proofs.Lending.{LentAgain, lends-again, comes-back}
 
 module _ (Shape Outcome : Value) where
@@ -439,7 +439,7 @@ module _ (Shape Outcome : Value) where
         goes-passes =
             qed W ([]) ∵
             nothing ! $ nothing ! $ owned ! u32 (Is u32) (uint-makes 𝓤 H A W w32) x-role _ is-x-role $ fjoin ! $
-            move ! (1 ∷ 0 ∷ []) $ join ! $ frame ! $ done !
+            bring ! (1 ∷ 0 ∷ []) $ join ! $ frame ! $ done !
 
         -- ---- the caller has what `rounds` asks
         abbrev rounds-args : Bool × Unit {0}
@@ -453,7 +453,7 @@ module _ (Shape Outcome : Value) where
         goes-rounds is-v-pass =
             qed W ([]) ∵
             nothing ! $ nothing ! $ owned ! Boolean (Is Boolean) (bool-makes 𝓤 H A W) v-pass _ is-v-pass $ fjoin ! $
-            move ! (1 ∷ 0 ∷ []) $ join ! $ frame ! $ done !
+            bring ! (1 ∷ 0 ∷ []) $ join ! $ frame ! $ done !
 
         -- ---- the caller has what `turned-away` asks
         abbrev turned-away-args : (denotes Shape) × Unit {0}
@@ -466,7 +466,7 @@ module _ (Shape Outcome : Value) where
         goes-turned-away =
             qed W ([]) ∵
             nothing ! $ nothing ! $ owned ! (rowOf Shape) (Is (rowOf Shape)) (Shape .makes 𝓤 H A) x-shape _ is-x-shape $
-            fjoin ! $ move ! (1 ∷ 0 ∷ []) $ join ! $ frame ! $ done !
+            fjoin ! $ bring ! (1 ∷ 0 ∷ []) $ join ! $ frame ! $ done !
 
         -- ---- the caller has what `load-rounds` asks
         abbrev load-rounds-args : (δ₀-load-rounds δ₁-load-rounds δ₂-load-rounds : GName) → ℕ
@@ -529,13 +529,12 @@ module _ (Shape Outcome : Value) where
             ∷ ‵ (MutSlice (named 2) (ν₁-load-rounds ∷ []) Entry′.the-row .own (at-x-catalogue δ₁-load-rounds (now x-catalogue))
             (s-x-catalogue ∷ [])) ∷ ‵ (MutSlice (named 3) (ν₂-load-rounds ∷ []) u64 .own
             (at-x-scratch δ₂-load-rounds (now x-scratch)) (s-x-scratch ∷ [])) ∷ []) ∵
-            nothing ! $ move ! (4 ∷ 0 ∷ []) $ join ! $ move ! (3 ∷ 0 ∷ []) $ join ! $ move ! (2 ∷ 0 ∷ []) $ join ! $
-            move ! (1 ∷ 0 ∷ []) $ join ! $ nothing ! $ move ! (5 ∷ 0 ∷ []) $ fjoin ! $ move ! (4 ∷ 0 ∷ []) $ fjoin ! $
-            move ! (3 ∷ 0 ∷ []) $ fjoin ! $ move ! (2 ∷ 0 ∷ []) $ fjoin ! $
+            nothing ! $ bring ! (1 ∷ 1 ∷ 1 ∷ 1 ∷ 0 ∷ []) $ group ! 5 $ nothing ! $ bring ! (5 ∷ 0 ∷ []) $ fjoin ! $
+            bring ! (4 ∷ 0 ∷ []) $ fjoin ! $ bring ! (3 ∷ 0 ∷ []) $ fjoin ! $ bring ! (2 ∷ 0 ∷ []) $ fjoin ! $
             owned ! (rowOf Shape) (Is (rowOf Shape)) (Shape .makes 𝓤 H A) x-shape _ is-x-shape $ fjoin ! $
             owned ! (rowOf Outcome) (Is (rowOf Outcome)) (Outcome .makes 𝓤 H A) v-start _ is-v-start $ fjoin ! $
-            owned ! u32 (Is u32) (uint-makes 𝓤 H A W w32) v-count _ is-v-count $ fjoin ! $ move ! (1 ∷ 0 ∷ []) $ join ! $
-            frame ! $ done !
+            owned ! u32 (Is u32) (uint-makes 𝓤 H A W w32) v-count _ is-v-count $ fjoin ! $ bring ! (1 ∷ 0 ∷ []) $
+            join ! $ frame ! $ done !
 
         -- ---- the caller has what `clear` asks
         abbrev clear-args : (δ₀-clear : GName) → RefT (List ℕ) × Unit {0}
@@ -551,8 +550,8 @@ module _ (Shape Outcome : Value) where
         goes-clear ν₀-clear δ₀-clear =
             qed W (‵ (flft (ν₀-clear ∷ []) fullShare) ∷ ‵ (MutSlice (named 0) (ν₀-clear ∷ []) u64 .own
             (at-x-scratch δ₀-clear z-load-rounds-x-scratch) (s-x-scratch ∷ [])) ∷ []) ∵
-            nothing ! $ move ! (1 ∷ 0 ∷ []) $ join ! $ nothing ! $ move ! (2 ∷ 0 ∷ []) $ fjoin ! $ move ! (1 ∷ 0 ∷ []) $
-            join ! $ frame ! $ done !
+            nothing ! $ bring ! (1 ∷ 0 ∷ []) $ group ! 2 $ nothing ! $ bring ! (2 ∷ 0 ∷ []) $ fjoin ! $
+            bring ! (1 ∷ 0 ∷ []) $ join ! $ frame ! $ done !
 
         -- ---- the exit
         exits : Is (rowOf Outcome) v-outcome (m-v-outcome ∷ []) → length z-load-rounds-x-map ≡ length (now x-map)
@@ -572,12 +571,11 @@ module _ (Shape Outcome : Value) where
             (tt, (tt, (tt, (z-load-rounds-x-map, (z-load-rounds-x-catalogue, (z-clear-x-scratch, tt))))))
             (tt, (tt, (tt, (l-x-map, (l-x-catalogue, (l-x-scratch, tt))))))) $
             says ! (law x-role x-shape (now x-image) (now x-map) (now x-catalogue) (now x-scratch)) $ nothing ! $
-            move ! (8 ∷ 0 ∷ []) $ join ! $ move ! (6 ∷ 0 ∷ []) $ join ! $ move ! (4 ∷ 0 ∷ []) $ join ! $
-            move ! (2 ∷ 0 ∷ []) $ join ! $ frame ! $ nothing ! $ move ! (4 ∷ 0 ∷ []) $ fjoin ! $ move ! (3 ∷ 0 ∷ []) $
-            fjoin ! $ move ! (2 ∷ 0 ∷ []) $ fjoin ! $ move ! (1 ∷ 0 ∷ []) $ fjoin ! $
+            bring ! (2 ∷ 3 ∷ 4 ∷ 5 ∷ 0 ∷ []) $ group ! 5 $ frame ! $ nothing ! $ bring ! (4 ∷ 0 ∷ []) $ fjoin ! $
+            bring ! (3 ∷ 0 ∷ []) $ fjoin ! $ bring ! (2 ∷ 0 ∷ []) $ fjoin ! $ bring ! (1 ∷ 0 ∷ []) $ fjoin ! $
             owned ! (rowOf Shape) (Is (rowOf Shape)) (Shape .makes 𝓤 H A) x-shape _ is-x-shape $ fjoin ! $
             owned ! u32 (Is u32) (uint-makes 𝓤 H A W w32) x-role _ is-x-role $ fjoin ! $
-            owned ! (rowOf Outcome) (Is (rowOf Outcome)) (Outcome .makes 𝓤 H A) v-outcome _ is $ move ! (1 ∷ 0 ∷ []) $
+            owned ! (rowOf Outcome) (Is (rowOf Outcome)) (Outcome .makes 𝓤 H A) v-outcome _ is $ bring ! (1 ∷ 0 ∷ []) $
             done !
 
         -- ---- the walk
@@ -603,27 +601,25 @@ module _ (Shape Outcome : Value) where
             pass1 ! (init ! 32 refl (tt, (tt, (record { fits = room-x-image .0 }, tt)))) $
             pass1 ! (init ! 30 refl (tt, (tt, (record { fits = room-x-map .0 }, tt)))) $
             pass1 ! (init ! 28 refl (tt, (tt, (record { fits = room-x-catalogue .0 }, tt)))) $
-            pass1 ! (init ! 26 refl (tt, (tt, (record { fits = room-x-scratch .0 }, tt)))) $ pass0 ! $ move ! (40 ∷ []) $
-            split ! $ move ! (1 ∷ []) $ split ! $ move ! (1 ∷ []) $ split ! $ move ! (1 ∷ []) $ split ! $
-            move ! (1 ∷ []) $ drop ! $ move ! (44 ∷ []) $ fsplit ! $ move ! (1 ∷ []) $ fsplit ! $ move ! (1 ∷ []) $
-            fsplit ! $ move ! (1 ∷ []) $ fsplit ! $ move ! (1 ∷ []) $ fsplit ! $ move ! (1 ∷ []) $ fsplit ! $
-            move ! (1 ∷ []) $ drop ! $ move ! (5 ∷ []) $ drop ! $ move ! (4 ∷ []) $ drop ! $
+            pass1 ! (init ! 26 refl (tt, (tt, (record { fits = room-x-scratch .0 }, tt)))) $ pass0 ! $
+            bring ! (40 ∷ []) $ parts W (_ ∷ _ ∷ _ ∷ _ ∷ []) _ $ bring ! (44 ∷ []) $
+            fparts W (_ ∷ _ ∷ _ ∷ _ ∷ _ ∷ _ ∷ []) _ $ discard ! (0 ∷ 0 ∷ []) $
             -- passes
             use0 W (raw ((passes-contract passes-out 𝓤 H A) .pre (to-passes))) (goes-passes) $
             calls-at ! (fmOf 𝓤 H (W .laws) 𝓣) (passes-contract passes-out 𝓤 H A) known-passes (to-passes)
             (and-then ! (load ! (from ! (stop !)) (look ! 45 refl)) (no-more !)) (λ w-passes.
             use1 W (later (some (λ (r : Bool). ((‵ ftrue) ⊛ ‵ (Boolean .own r (w-passes ∷ [])))
             ⊛ raw (ensured 𝓤 H A passes-ended (passes-clauses passes-out 𝓤) tt (passes-args) tt r)))) (id⊢ 𝓤 _) $
-            await ! tt $ pick ! (λ r-passes. split ! $ move ! (1 ∷ []) $
+            await ! tt $ pick ! (λ r-passes. split ! $ bring ! (1 ∷ []) $
             use1 W (some (λ (zs-passes : Unit {0} × Unit {0}). ‵ (lasts passes-ended tt (passes-args) zs-passes)
             ⊛ raw (fact 𝓤 (passes-says passes-out x-role r-passes)))) (id⊢ 𝓤 _) $
-            pick ! (λ zs-passes. split ! $ move ! (1 ∷ []) $
-            heard ! (passes-says passes-out x-role r-passes) (λ e-passes. fsplit ! $ move ! (1 ∷ []) $ drop ! $ drop ! $
-            split ! $ move ! (1 ∷ []) $ rewrite ! 0 (λ (r : Bool). ‵ (Boolean .own r (w-passes ∷ []))) (e-passes) refl $
+            pick ! (λ zs-passes. split ! $ bring ! (1 ∷ []) $
+            heard ! (passes-says passes-out x-role r-passes) (λ e-passes. fparts W (_ ∷ []) _ $ discard ! (0 ∷ []) $
+            split ! $ bring ! (1 ∷ []) $ rewrite ! 0 (λ (r : Bool). ‵ (Boolean .own r (w-passes ∷ []))) (e-passes) refl $
             peeks ! Boolean (Is Boolean) (shows 𝓤 H A Boolean) v-pass (w-passes ∷ []) (λ is-w-passes.
             land ! (from ! (stop !)) (init ! 34 refl ((bool-lawful 𝓤 H A W .typed) v-pass _ is-w-passes .0)) $
             rewrite ! 34 (λ (u : Val). ‵ (fat fullShare tyBool l₇ 0 u)) (ap only (bool-tells v-pass _ is-w-passes)) refl $
-            drop ! $ drop ! $
+            discard ! (0 ∷ []) $ parts W ([]) _ $
             -- rounds
             use0 W (raw ((rounds-contract rounds-out 𝓤 H A) .pre (to-rounds))) (goes-rounds
             (spelled-v-pass w-passes is-w-passes)) $
@@ -631,17 +627,17 @@ module _ (Shape Outcome : Value) where
             (and-then ! (load ! (from ! (stop !)) (look ! 33 refl)) (no-more !)) (λ w-rounds.
             use1 W (later (some (λ (r : ℕ). ((‵ ftrue) ⊛ ‵ (u32 .own r (w-rounds ∷ [])))
             ⊛ raw (ensured 𝓤 H A rounds-ended (rounds-clauses rounds-out 𝓤) tt (rounds-args) tt r)))) (id⊢ 𝓤 _) $
-            await ! tt $ pick ! (λ r-rounds. split ! $ move ! (1 ∷ []) $
+            await ! tt $ pick ! (λ r-rounds. split ! $ bring ! (1 ∷ []) $
             use1 W (some (λ (zs-rounds : Unit {0} × Unit {0}). ‵ (lasts rounds-ended tt (rounds-args) zs-rounds)
             ⊛ raw (fact 𝓤 (rounds-says rounds-out v-pass r-rounds)))) (id⊢ 𝓤 _) $
-            pick ! (λ zs-rounds. split ! $ move ! (1 ∷ []) $
-            heard ! (rounds-says rounds-out v-pass r-rounds) (λ e-rounds. fsplit ! $ move ! (1 ∷ []) $ drop ! $ drop ! $
-            split ! $ move ! (1 ∷ []) $ rewrite ! 0 (λ (r : ℕ). ‵ (u32 .own r (w-rounds ∷ []))) (e-rounds) refl $
+            pick ! (λ zs-rounds. split ! $ bring ! (1 ∷ []) $
+            heard ! (rounds-says rounds-out v-pass r-rounds) (λ e-rounds. fparts W (_ ∷ []) _ $ discard ! (0 ∷ []) $
+            split ! $ bring ! (1 ∷ []) $ rewrite ! 0 (λ (r : ℕ). ‵ (u32 .own r (w-rounds ∷ []))) (e-rounds) refl $
             peeks ! u32 (Is u32) (shows 𝓤 H A u32) v-count (w-rounds ∷ []) (λ is-w-rounds.
             land ! (from ! (stop !)) (init ! 32 refl ((uint-lawful 𝓤 H A W w32 .typed) v-count _ is-w-rounds .0)) $
             rewrite ! 32 (λ (u : Val). ‵ (fat fullShare (tyInt w32) l₈ 0 u)) (ap only ((uint-tells w32) v-count _ is-w-rounds))
             refl $
-            drop ! $ drop ! $
+            discard ! (0 ∷ []) $ parts W ([]) _ $
             -- turned-away
             use0 W (raw ((turned-away-contract turned-away-out 𝓤 H A) .pre (to-turned-away))) (goes-turned-away) $
             calls-at ! (fmOf 𝓤 H (W .laws) 𝓣) (turned-away-contract turned-away-out 𝓤 H A) known-turned-away (to-turned-away)
@@ -649,19 +645,19 @@ module _ (Shape Outcome : Value) where
             use1 W (later (some (λ (r : (denotes Outcome)). ((‵ ftrue) ⊛ ‵ ((rowOf Outcome) .own r (w-turned-away ∷ [])))
             ⊛ raw (ensured 𝓤 H A turned-away-ended (turned-away-clauses turned-away-out 𝓤) tt (turned-away-args) tt r))))
             (id⊢ 𝓤 _) $
-            await ! tt $ pick ! (λ r-turned-away. split ! $ move ! (1 ∷ []) $
+            await ! tt $ pick ! (λ r-turned-away. split ! $ bring ! (1 ∷ []) $
             use1 W (some (λ (zs-turned-away : Unit {0} × Unit {0}). ‵ (lasts turned-away-ended tt (turned-away-args)
             zs-turned-away) ⊛ raw (fact 𝓤 (turned-away-says turned-away-out x-shape r-turned-away)))) (id⊢ 𝓤 _) $
-            pick ! (λ zs-turned-away. split ! $ move ! (1 ∷ []) $
-            heard ! (turned-away-says turned-away-out x-shape r-turned-away) (λ e-turned-away. fsplit ! $
-            move ! (1 ∷ []) $ drop ! $ drop ! $ split ! $ move ! (1 ∷ []) $
+            pick ! (λ zs-turned-away. split ! $ bring ! (1 ∷ []) $
+            heard ! (turned-away-says turned-away-out x-shape r-turned-away) (λ e-turned-away. fparts W (_ ∷ []) _ $
+            discard ! (0 ∷ []) $ split ! $ bring ! (1 ∷ []) $
             rewrite ! 0 (λ (r : (denotes Outcome)). ‵ ((rowOf Outcome) .own r (w-turned-away ∷ []))) (e-turned-away) refl $
             peeks ! (rowOf Outcome) (Is (rowOf Outcome)) (shows 𝓤 H A (rowOf Outcome)) v-start (w-turned-away ∷ [])
             (λ is-w-turned-away.
             land ! (from ! (stop !)) (init ! 30 refl ((Outcome .typed 𝓤 H A W) v-start _ is-w-turned-away .0)) $
             rewrite ! 30 (λ (u : Val). ‵ (fat fullShare (mirOf Outcome) l₉ 0 u)) (ap only
             ((Outcome .tells) v-start _ is-w-turned-away)) refl $
-            drop ! $ drop ! $
+            discard ! (0 ∷ []) $ parts W ([]) _ $
             -- load-rounds
             assigns ! (addr ! (from ! (fld ! refl (hop ! (look-in ! 38 (sub ! 0 refl (whole !))) (stop !))))) (from ! (stop !))
             (init ! 24 refl (tt, tt)) $
@@ -678,30 +674,26 @@ module _ (Shape Outcome : Value) where
             assigns ! (agg ! (and-then ! (load ! (from ! (stop !)) (look ! 16 refl)) (and-then !
             (load ! (from ! (fld ! refl (stop !))) (look-in ! 34 (sub ! 1 refl (whole !)))) (no-more !)))) (from ! (stop !))
             (init ! 14 refl (tt, (tt, (record { fits = room-x-scratch .0 }, tt)))) $
-            move ! (3 ∷ []) $
             use1 W (‵ (ShrSlice (named 0) κ₀ u8 .own x-image (s-x-image ∷ [])) ⊛ ‵ (ShrSlice (named 0) κ₀ u8 .own x-image
             (s-x-image ∷ []))) (shr-slice-copy 𝓤 H A W (named 0) κ₀ u8 .twice x-image (s-x-image ∷ [])) $
-            split ! $ lft-new ! tt (λ ν₀-load-rounds. move ! (5 ∷ 8 ∷ []) $
+            split ! $ lft-new ! tt (λ ν₀-load-rounds. bring ! (3 ∷ 6 ∷ []) $
             use2 W (later (some (λ (δ : GName). ‵ (MutSlice (named 1) (ν₀-load-rounds ∷ []) u64 .own (at-x-map δ (now x-map))
             (s-x-map ∷ [])) ⊛ ‵ (LentAgain u64 κ₁ (ν₀-load-rounds ∷ []) q₁ (x-map .name) (x-map .ptr .0) (x-map .ptr .1) δ
             (now x-map))))) (lends-again u64 κ₁ (ν₀-load-rounds ∷ []) q₁ (x-map .name) (x-map .ptr .0) (x-map .ptr .1) 𝓤 H A W
             (named 1) (named 1) (now x-map) (length (now x-map)) refl) $
-            await ! tt $ pick ! (λ δ₀-load-rounds. split ! $ lft-new ! tt (λ ν₁-load-rounds. move ! (7 ∷ 9 ∷ []) $
+            await ! tt $ pick ! (λ δ₀-load-rounds. split ! $ lft-new ! tt (λ ν₁-load-rounds. bring ! (6 ∷ 8 ∷ []) $
             use2 W (later (some (λ (δ : GName). ‵ (MutSlice (named 2) (ν₁-load-rounds ∷ []) Entry′.the-row .own
             (at-x-catalogue δ (now x-catalogue)) (s-x-catalogue ∷ [])) ⊛ ‵ (LentAgain Entry′.the-row κ₂ (ν₁-load-rounds ∷ []) q₂
             (x-catalogue .name) (x-catalogue .ptr .0) (x-catalogue .ptr .1) δ (now x-catalogue)))))
             (lends-again Entry′.the-row κ₂ (ν₁-load-rounds ∷ []) q₂ (x-catalogue .name) (x-catalogue .ptr .0)
             (x-catalogue .ptr .1) 𝓤 H A W (named 2) (named 2) (now x-catalogue) (length (now x-catalogue)) refl) $
-            await ! tt $ pick ! (λ δ₁-load-rounds. split ! $ lft-new ! tt (λ ν₂-load-rounds. move ! (9 ∷ 10 ∷ []) $
+            await ! tt $ pick ! (λ δ₁-load-rounds. split ! $ lft-new ! tt (λ ν₂-load-rounds. bring ! (9 ∷ 10 ∷ []) $
             use2 W (later (some (λ (δ : GName). ‵ (MutSlice (named 3) (ν₂-load-rounds ∷ []) u64 .own
             (at-x-scratch δ (now x-scratch)) (s-x-scratch ∷ [])) ⊛ ‵ (LentAgain u64 κ₃ (ν₂-load-rounds ∷ []) q₃
             (x-scratch .name) (x-scratch .ptr .0) (x-scratch .ptr .1) δ (now x-scratch)))))
             (lends-again u64 κ₃ (ν₂-load-rounds ∷ []) q₃ (x-scratch .name) (x-scratch .ptr .0) (x-scratch .ptr .1) 𝓤 H A W
             (named 3) (named 3) (now x-scratch) (length (now x-scratch)) refl) $
-            await ! tt $ pick ! (λ δ₂-load-rounds. split ! $ move ! (11 ∷ 8 ∷ 5 ∷ 2 ∷ 9 ∷ 6 ∷ 3 ∷ 0 ∷ []) $
-            move ! (6 ∷ 7 ∷ []) $ join ! $ move ! (6 ∷ 0 ∷ []) $ join ! $ move ! (5 ∷ 0 ∷ []) $ join ! $
-            move ! (4 ∷ 0 ∷ []) $ join ! $ move ! (3 ∷ 0 ∷ []) $ join ! $ move ! (2 ∷ 0 ∷ []) $ join ! $
-            move ! (1 ∷ 0 ∷ []) $ join ! $
+            await ! tt $ pick ! (λ δ₂-load-rounds. split ! $ bring ! (11 ∷ 8 ∷ 5 ∷ 2 ∷ 6 ∷ 4 ∷ 2 ∷ 0 ∷ []) $ group ! 8 $
             use1 W (raw ((load-rounds-contract load-rounds-out load-rounds-x-map load-rounds-x-catalogue load-rounds-x-scratch 𝓤
             H A) .pre (to-load-rounds ν₀-load-rounds ν₁-load-rounds ν₂-load-rounds δ₀-load-rounds δ₁-load-rounds
             δ₂-load-rounds))) (goes-load-rounds ν₀-load-rounds ν₁-load-rounds ν₂-load-rounds δ₀-load-rounds δ₁-load-rounds
@@ -719,7 +711,7 @@ module _ (Shape Outcome : Value) where
             (load-rounds-clauses load-rounds-out load-rounds-x-map load-rounds-x-catalogue load-rounds-x-scratch 𝓤)
             (κ₀, (ν₀-load-rounds ∷ [], (ν₁-load-rounds ∷ [], (ν₂-load-rounds ∷ [], tt))))
             (load-rounds-args δ₀-load-rounds δ₁-load-rounds δ₂-load-rounds) tt r)))) (id⊢ 𝓤 _) $
-            await ! tt $ pick ! (λ r-load-rounds. split ! $ move ! (1 ∷ []) $
+            await ! tt $ pick ! (λ r-load-rounds. split ! $ bring ! (1 ∷ []) $
             use1 W (some (λ (zs-load-rounds : Unit {0} × (Unit {0} × (Unit {0} × (Unit {0}
             × (List ℕ × (List Entry × (List ℕ × Unit {0}))))))). ‵ (lasts load-rounds-ended
             (κ₀, (ν₀-load-rounds ∷ [], (ν₁-load-rounds ∷ [], (ν₂-load-rounds ∷ [], tt))))
@@ -728,17 +720,15 @@ module _ (Shape Outcome : Value) where
             v-count v-start x-shape (now x-image) (now x-map) (now x-catalogue) (now x-scratch) r-load-rounds
             (zs-load-rounds .1 .1 .1 .1 .0) (zs-load-rounds .1 .1 .1 .1 .1 .0) (zs-load-rounds .1 .1 .1 .1 .1 .1 .0)))))
             (id⊢ 𝓤 _) $
-            pick ! (λ zs-load-rounds. split ! $ move ! (1 ∷ []) $
+            pick ! (λ zs-load-rounds. split ! $ bring ! (1 ∷ []) $
             heard ! (load-rounds-says load-rounds-out load-rounds-x-map load-rounds-x-catalogue load-rounds-x-scratch v-count
             v-start x-shape (now x-image) (now x-map) (now x-catalogue) (now x-scratch) r-load-rounds
             (zs-load-rounds .1 .1 .1 .1 .0) (zs-load-rounds .1 .1 .1 .1 .1 .0) (zs-load-rounds .1 .1 .1 .1 .1 .1 .0))
             (λ e-load-rounds.
-            fsplit ! $ move ! (1 ∷ []) $ fsplit ! $ move ! (1 ∷ []) $ fsplit ! $ move ! (1 ∷ []) $ fsplit ! $
-            move ! (1 ∷ []) $ fsplit ! $ move ! (1 ∷ []) $ fsplit ! $ move ! (1 ∷ []) $ fsplit ! $ move ! (1 ∷ []) $
-            drop ! $ move ! (6 ∷ []) $ drop ! $ move ! (5 ∷ []) $ drop ! $ move ! (4 ∷ []) $ drop ! $ move ! (3 ∷ []) $
-            drop ! $ move ! (2 ∷ []) $ fsplit ! $ move ! (1 ∷ []) $ feqL ! (λ h-load-rounds-x-map. move ! (2 ∷ []) $
-            fsplit ! $ move ! (1 ∷ []) $ feqL ! (λ h-load-rounds-x-catalogue. move ! (2 ∷ []) $ fsplit ! $
-            move ! (1 ∷ []) $ feqL ! (λ h-load-rounds-x-scratch. move ! (3 ∷ []) $ split ! $ move ! (1 ∷ []) $
+            fparts W (_ ∷ _ ∷ _ ∷ _ ∷ _ ∷ _ ∷ _ ∷ []) _ $ discard ! (0 ∷ 0 ∷ 0 ∷ 0 ∷ []) $ fsplit ! $ bring ! (1 ∷ []) $
+            feqL ! (λ h-load-rounds-x-map. bring ! (1 ∷ []) $ fsplit ! $ bring ! (1 ∷ []) $
+            feqL ! (λ h-load-rounds-x-catalogue. bring ! (2 ∷ []) $ fsplit ! $ bring ! (1 ∷ []) $
+            feqL ! (λ h-load-rounds-x-scratch. bring ! (3 ∷ []) $ split ! $ bring ! (1 ∷ []) $
             rewrite ! 0 (λ (r : (denotes Outcome)). ‵ ((rowOf Outcome) .own r (w-load-rounds ∷ []))) (e-load-rounds .0) refl $
             rewrite ! 4 (λ (l : List ℕ). ‵ (finally u64 δ₀-load-rounds l)) (e-load-rounds .1) refl $
             rewrite ! 3 (λ (l : List Entry). ‵ (finally Entry′.the-row δ₁-load-rounds l)) (e-load-rounds .2) refl $
@@ -748,19 +738,19 @@ module _ (Shape Outcome : Value) where
             land ! (from ! (stop !)) (init ! 27 refl ((Outcome .typed 𝓤 H A W) v-outcome _ is-w-load-rounds .0)) $
             rewrite ! 27 (λ (u : Val). ‵ (fat fullShare (mirOf Outcome) l₁₀ 0 u)) (ap only
             ((Outcome .tells) v-outcome _ is-w-load-rounds)) refl $
-            drop ! $ split ! $ move ! (1 ∷ []) $ split ! $ move ! (1 ∷ []) $ split ! $ move ! (1 ∷ []) $ split ! $
-            move ! (1 ∷ []) $ drop ! $ move ! (2 ∷ []) $ lft-end ! tt $ move ! (0 ∷ 9 ∷ 6 ∷ []) $
+            discard ! (0 ∷ []) $ parts W (_ ∷ _ ∷ _ ∷ _ ∷ []) _ $ bring ! (1 ∷ []) $ lft-end ! tt $
+            bring ! (0 ∷ 8 ∷ 5 ∷ []) $
             use3 W (later (‵ (MutSlice (named 1) κ₁ u64 .own (at-x-map (x-map .name) z-load-rounds-x-map) (s-x-map ∷ []))
             ⊛ ‵ (flft κ₁ q₁))) (comes-back u64 κ₁ (ν₀-load-rounds ∷ []) q₁ (x-map .name) (x-map .ptr .0) (x-map .ptr .1) 𝓤 H A W
             (named 1) (named 1) (now x-map) (length (now x-map)) refl room-x-map δ₀-load-rounds z-load-rounds-x-map
             (ap {B = ℕ} length (sym (e-load-rounds .1)) ∙ h-load-rounds-x-map)) $
-            await ! tt $ split ! $ move ! (3 ∷ []) $ lft-end ! tt $ move ! (0 ∷ 8 ∷ 6 ∷ []) $
+            await ! tt $ split ! $ bring ! (3 ∷ []) $ lft-end ! tt $ bring ! (0 ∷ 7 ∷ 5 ∷ []) $
             use3 W (later (‵ (MutSlice (named 2) κ₂ Entry′.the-row .own (at-x-catalogue (x-catalogue .name)
             z-load-rounds-x-catalogue) (s-x-catalogue ∷ [])) ⊛ ‵ (flft κ₂ q₂))) (comes-back Entry′.the-row κ₂
             (ν₁-load-rounds ∷ []) q₂ (x-catalogue .name) (x-catalogue .ptr .0) (x-catalogue .ptr .1) 𝓤 H A W (named 2) (named 2)
             (now x-catalogue) (length (now x-catalogue)) refl room-x-catalogue δ₁-load-rounds z-load-rounds-x-catalogue
             (ap {B = ℕ} length (sym (e-load-rounds .2)) ∙ h-load-rounds-x-catalogue)) $
-            await ! tt $ split ! $ move ! (4 ∷ []) $ lft-end ! tt $ move ! (0 ∷ 7 ∷ 6 ∷ []) $
+            await ! tt $ split ! $ bring ! (5 ∷ []) $ lft-end ! tt $ bring ! (0 ∷ 6 ∷ 5 ∷ []) $
             use3 W (later (‵ (MutSlice (named 3) κ₃ u64 .own (at-x-scratch (x-scratch .name) z-load-rounds-x-scratch)
             (s-x-scratch ∷ [])) ⊛ ‵ (flft κ₃ q₃))) (comes-back u64 κ₃ (ν₂-load-rounds ∷ []) q₃ (x-scratch .name)
             (x-scratch .ptr .0) (x-scratch .ptr .1) 𝓤 H A W (named 3) (named 3) (now x-scratch) (length (now x-scratch)) refl
@@ -773,14 +763,14 @@ module _ (Shape Outcome : Value) where
             assigns ! (agg ! (and-then ! (load ! (from ! (stop !)) (look ! 10 refl)) (and-then !
             (load ! (from ! (fld ! refl (stop !))) (look-in ! 34 (sub ! 1 refl (whole !)))) (no-more !)))) (from ! (stop !))
             (init ! 8 refl (tt, (tt, (record { fits = room-x-scratch .0 }, tt)))) $
-            lft-new ! tt (λ ν₀-clear. move ! (1 ∷ 2 ∷ []) $
+            lft-new ! tt (λ ν₀-clear. bring ! (1 ∷ 1 ∷ []) $
             use2 W (later (some (λ (δ : GName). ‵ (MutSlice (named 0) (ν₀-clear ∷ []) u64 .own
             (at-x-scratch δ z-load-rounds-x-scratch) (s-x-scratch ∷ [])) ⊛ ‵ (LentAgain u64 κ₃ (ν₀-clear ∷ []) q₃
             (x-scratch .name) (x-scratch .ptr .0) (x-scratch .ptr .1) δ z-load-rounds-x-scratch))))
             (lends-again u64 κ₃ (ν₀-clear ∷ []) q₃ (x-scratch .name) (x-scratch .ptr .0) (x-scratch .ptr .1) 𝓤 H A W (named 3)
             (named 0) z-load-rounds-x-scratch (length (now x-scratch)) (ap {B = ℕ} length (sym (e-load-rounds .3))
             ∙ h-load-rounds-x-scratch)) $
-            await ! tt $ pick ! (λ δ₀-clear. split ! $ move ! (2 ∷ 0 ∷ []) $ join ! $
+            await ! tt $ pick ! (λ δ₀-clear. split ! $ bring ! (2 ∷ 0 ∷ []) $ group ! 2 $
             use1 W (raw ((clear-contract clear-x-scratch 𝓤 H A) .pre (to-clear ν₀-clear δ₀-clear)))
             (goes-clear ν₀-clear δ₀-clear) $
             calls-at ! (fmOf 𝓤 H (W .laws) 𝓣) (clear-contract clear-x-scratch 𝓤 H A) known-clear (to-clear ν₀-clear δ₀-clear)
@@ -788,17 +778,17 @@ module _ (Shape Outcome : Value) where
             use1 W (later (some (λ (r : (Unit {0})). ((‵ (flft (ν₀-clear ∷ []) fullShare) ⊛ ‵ ftrue)
             ⊛ ‵ (Nothing .own r (w-clear ∷ []))) ⊛ raw (ensured 𝓤 H A clear-ended (clear-clauses clear-x-scratch 𝓤)
             (ν₀-clear ∷ [], tt) (clear-args δ₀-clear) tt r)))) (id⊢ 𝓤 _) $
-            await ! tt $ pick ! (λ r-clear. split ! $ move ! (1 ∷ []) $
+            await ! tt $ pick ! (λ r-clear. split ! $ bring ! (1 ∷ []) $
             use1 W (some (λ (zs-clear : List ℕ × Unit {0}). ‵ (lasts clear-ended (ν₀-clear ∷ [], tt) (clear-args δ₀-clear)
             zs-clear) ⊛ raw (fact 𝓤 (clear-says clear-x-scratch z-load-rounds-x-scratch r-clear (zs-clear .0))))) (id⊢ 𝓤 _) $
-            pick ! (λ zs-clear. split ! $ move ! (1 ∷ []) $
-            heard ! (clear-says clear-x-scratch z-load-rounds-x-scratch r-clear (zs-clear .0)) (λ e-clear. fsplit ! $
-            move ! (1 ∷ []) $ drop ! $ fsplit ! $ move ! (1 ∷ []) $ feqL ! (λ h-clear-x-scratch. move ! (1 ∷ []) $
-            split ! $ move ! (1 ∷ []) $ rewrite ! 2 (λ (l : List ℕ). ‵ (finally u64 δ₀-clear l)) (e-clear) refl $
+            pick ! (λ zs-clear. split ! $ bring ! (1 ∷ []) $
+            heard ! (clear-says clear-x-scratch z-load-rounds-x-scratch r-clear (zs-clear .0)) (λ e-clear.
+            fparts W (_ ∷ []) _ $ fsplit ! $ bring ! (1 ∷ []) $ feqL ! (λ h-clear-x-scratch. bring ! (1 ∷ []) $ split ! $
+            bring ! (1 ∷ []) $ rewrite ! 2 (λ (l : List ℕ). ‵ (finally u64 δ₀-clear l)) (e-clear) refl $
             peeks ! Nothing (Is Nothing) (shows 𝓤 H A Nothing) v-clear (w-clear ∷ []) (λ is-w-clear.
             land ! (from ! (stop !)) (init ! 14 refl ((nothing-lawful 𝓤 H A W .typed) v-clear _ is-w-clear .0)) $
             rewrite ! 14 (λ (u : Val). ‵ (fat fullShare tyUnit l₁₇ 0 u)) (ap only (nothing-tells v-clear _ is-w-clear)) refl $
-            drop ! $ split ! $ move ! (1 ∷ []) $ drop ! $ lft-end ! tt $ move ! (0 ∷ 2 ∷ 1 ∷ []) $
+            discard ! (0 ∷ []) $ parts W (_ ∷ []) _ $ lft-end ! tt $ bring ! (0 ∷ 1 ∷ 0 ∷ []) $
             use3 W (later (‵ (MutSlice (named 3) κ₃ u64 .own (at-x-scratch (x-scratch .name) z-clear-x-scratch)
             (s-x-scratch ∷ [])) ⊛ ‵ (flft κ₃ q₃))) (comes-back u64 κ₃ (ν₀-clear ∷ []) q₃ (x-scratch .name) (x-scratch .ptr .0)
             (x-scratch .ptr .1) 𝓤 H A W (named 3) (named 0) z-load-rounds-x-scratch (length (now x-scratch))
@@ -812,7 +802,7 @@ module _ (Shape Outcome : Value) where
             leave ! 32 refl refl $ leave ! 30 refl refl $ leave ! 28 refl refl $ leave ! 26 refl refl $
             leave ! 24 refl refl $ leave ! 22 refl refl $ leave ! 20 refl refl $ leave ! 18 refl refl $
             leave ! 16 refl refl $ leave ! 14 refl refl $ leave ! 12 refl refl $ leave ! 10 refl refl $
-            leave ! 8 refl refl $ free0 ! $ move ! (7 ∷ 6 ∷ 4 ∷ 5 ∷ 2 ∷ 3 ∷ 0 ∷ 1 ∷ []) $
+            leave ! 8 refl refl $ free0 ! $ bring ! (7 ∷ 6 ∷ 4 ∷ 4 ∷ 2 ∷ 2 ∷ 0 ∷ 0 ∷ []) $
             by ! (exits (spelled-v-outcome w-load-rounds is-w-load-rounds) (ap {B = ℕ} length (sym (e-load-rounds .1))
             ∙ h-load-rounds-x-map) (ap {B = ℕ} length (sym (e-load-rounds .2)) ∙ h-load-rounds-x-catalogue)
             ((ap {B = ℕ} length (sym (e-clear)) ∙ h-clear-x-scratch) ∙ (ap {B = ℕ} length (sym (e-load-rounds .3))

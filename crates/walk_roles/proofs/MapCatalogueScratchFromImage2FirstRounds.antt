@@ -23,8 +23,8 @@ use base.Fml.{Lft, Share, GName, ftrue, flft, fat, froom, fdies}
 use prog.Wp.{Heap, Out as Outs, Env, Calls, Loops, Wp, WpFn, Tables, afterSeq, afterBlock, afterTurn, atReturn}
 use ghost.Atoms.{Atoms}
 use contract.Monad.{fact}
-use types.Kit.{Given, Item, Sq, ‵, raw, some, later, _⊛_, ⋆, anyQ, atRet, runs, _$_, _∵_, !, qed, by, move, drop, use1, use2}
-use types.Kit.{use3, split, join, pick, rewrite, fsplit, fjoin, feqL, suffices, frame, await, done}
+use types.Kit.{Given, Item, Sq, ‵, raw, some, later, _⊛_, ⋆, anyQ, atRet, runs, _$_, _∵_, !, qed, by, use1, use2, use3, group}
+use types.Kit.{split, join, pick, rewrite, fsplit, fjoin, feqL, suffices, frame, await, done}
 use types.Run.{look, init, store, forget, stop, hop, fld, from, load, lit, addr, and-then, no-more, of-opd, bin, assigns}
 use types.Run.{assigns-last, stays, leaves-loop, first, blocks, exec, loops, again, Below, land, returns, enter, alloc1, alloc0}
 use types.Run.{params1, pass1, pass0, free0}
@@ -52,7 +52,7 @@ use Rattle.catalogue.proofs.Values.{Value, denotes, rowOf, mirOf, valsOf}
 use Rattle.catalogue.specs.declared.Entry.{Entry}
 use Rattle.catalogue.proofs.Entry as Entry′
 use Rattle.catalogue.proofs.Entry.Laws as Entry″
-use Rattle.catalogue.proofs.Steps.{leave, leave-room, is-true, is-false, Less, by-size}
+use Rattle.catalogue.proofs.Steps.{bring, discard, parts, fparts, leave, leave-room, is-true, is-false, Less, by-size}
 use Rattle.catalogue.proofs.Lending.{LentAgain, lends-again, comes-back}
 
 module _ (Shape Outcome : Value) where
@@ -385,11 +385,10 @@ module _ (Shape Outcome : Value) where
           ∷ ‵ (MutSlice (named 2) (ν₁-call ∷ []) Entry′.the-row .own (at-x-catalogue δ₁-call l-x-catalogue)
           (s-x-catalogue ∷ [])) ∷ ‵ (MutSlice (named 3) (ν₂-call ∷ []) u64 .own (at-x-scratch δ₂-call l-x-scratch)
           (s-x-scratch ∷ [])) ∷ []) ∵
-          nothing ! $ move ! (4 ∷ 0 ∷ []) $ join ! $ move ! (3 ∷ 0 ∷ []) $ join ! $ move ! (2 ∷ 0 ∷ []) $ join ! $
-          move ! (1 ∷ 0 ∷ []) $ join ! $ nothing ! $ move ! (5 ∷ 0 ∷ []) $ fjoin ! $ move ! (4 ∷ 0 ∷ []) $ fjoin ! $
-          move ! (3 ∷ 0 ∷ []) $ fjoin ! $ move ! (2 ∷ 0 ∷ []) $ fjoin ! $
+          nothing ! $ bring ! (1 ∷ 1 ∷ 1 ∷ 1 ∷ 0 ∷ []) $ group ! 5 $ nothing ! $ bring ! (5 ∷ 0 ∷ []) $ fjoin ! $
+          bring ! (4 ∷ 0 ∷ []) $ fjoin ! $ bring ! (3 ∷ 0 ∷ []) $ fjoin ! $ bring ! (2 ∷ 0 ∷ []) $ fjoin ! $
           owned ! (rowOf Shape) (Is (rowOf Shape)) (Shape .makes 𝓤 H A) x-shape _ is-x-shape $ fjoin ! $
-          move ! (1 ∷ 0 ∷ []) $ join ! $ frame ! $ done !
+          bring ! (1 ∷ 0 ∷ []) $ join ! $ frame ! $ done !
 
       -- ---- the exit
       exits : (r : (denotes Outcome)) (z-x-map : List ℕ) (z-x-catalogue : List Entry) (z-x-scratch : List ℕ)
@@ -410,13 +409,13 @@ module _ (Shape Outcome : Value) where
           suffices ! _ (ends-at 𝓤 H A ended stayed (clauses 𝓤) W bound (machine-state r) r
           (tt, (tt, (tt, (tt, (z-x-map, (z-x-catalogue, (z-x-scratch, tt)))))))
           (tt, (tt, (tt, (tt, (l-x-map, (l-x-catalogue, (l-x-scratch, tt)))))))) $
-          says ! said $ nothing ! $ move ! (8 ∷ 0 ∷ []) $ join ! $ move ! (6 ∷ 0 ∷ []) $ join ! $ move ! (4 ∷ 0 ∷ []) $
-          join ! $ move ! (2 ∷ 0 ∷ []) $ join ! $ frame ! $ nothing ! $ move ! (4 ∷ 0 ∷ []) $ fjoin ! $
-          move ! (3 ∷ 0 ∷ []) $ fjoin ! $ move ! (2 ∷ 0 ∷ []) $ fjoin ! $ move ! (1 ∷ 0 ∷ []) $ fjoin ! $
+          says ! said $ nothing ! $ bring ! (2 ∷ 3 ∷ 4 ∷ 5 ∷ 0 ∷ []) $ group ! 5 $ frame ! $ nothing ! $
+          bring ! (4 ∷ 0 ∷ []) $ fjoin ! $ bring ! (3 ∷ 0 ∷ []) $ fjoin ! $ bring ! (2 ∷ 0 ∷ []) $ fjoin ! $
+          bring ! (1 ∷ 0 ∷ []) $ fjoin ! $
           owned ! (rowOf Shape) (Is (rowOf Shape)) (Shape .makes 𝓤 H A) x-shape _ is-x-shape $ fjoin ! $
           owned ! (rowOf Outcome) (Is (rowOf Outcome)) (Outcome .makes 𝓤 H A) x-start _ is-x-start $ fjoin ! $
           owned ! u32 (Is u32) (uint-makes 𝓤 H A W w32) x-count _ is-x-count $ fjoin ! $
-          owned ! (rowOf Outcome) (Is (rowOf Outcome)) (Outcome .makes 𝓤 H A) r _ is $ move ! (1 ∷ 0 ∷ []) $ done !
+          owned ! (rowOf Outcome) (Is (rowOf Outcome)) (Outcome .makes 𝓤 H A) r _ is $ bring ! (1 ∷ 0 ∷ []) $ done !
 
       module _ (𝓣 : Tables 𝓤 H) (known-call : Triple 𝓤 (𝓣 .C #call) (call-contract call-out call-x-map call-x-catalogue
           call-x-scratch 𝓤 H A)) (l₀ l₁ l₂ l₃ l₄ l₅ l₆ l₇ l₈ l₉ l₁₀ l₁₁ l₁₂ l₁₃ l₁₄ l₁₅ l₁₆ : ℕ) where
@@ -611,27 +610,24 @@ module _ (Shape Outcome : Value) where
               (from ! (stop !)) (init ! 8 refl (tt, (tt, (record { fits = room-x-scratch .0 }, tt)))) $
               use1 W (‵ (ShrSlice (named 0) κ₀ u8 .own x-image (s-x-image ∷ [])) ⊛ ‵ (ShrSlice (named 0) κ₀ u8 .own x-image
               (s-x-image ∷ []))) (shr-slice-copy 𝓤 H A W (named 0) κ₀ u8 .twice x-image (s-x-image ∷ [])) $
-              split ! $ lft-new ! tt (λ ν₀-call. move ! (4 ∷ 5 ∷ []) $
+              split ! $ lft-new ! tt (λ ν₀-call. bring ! (4 ∷ 4 ∷ []) $
               use2 W (later (some (λ (δ : GName). ‵ (MutSlice (named 1) (ν₀-call ∷ []) u64 .own (at-x-map δ (x .z-x-map))
               (s-x-map ∷ [])) ⊛ ‵ (LentAgain u64 κ₁ (ν₀-call ∷ []) q₁ (x-map .name) (x-map .ptr .0) (x-map .ptr .1) δ
               (x .z-x-map))))) (lends-again u64 κ₁ (ν₀-call ∷ []) q₁ (x-map .name) (x-map .ptr .0) (x-map .ptr .1) 𝓤 H A W
               (named 1) (named 1) (x .z-x-map) (length (now x-map)) (x .l-x-map)) $
-              await ! tt $ pick ! (λ δ₀-call. split ! $ lft-new ! tt (λ ν₁-call. move ! (7 ∷ 8 ∷ []) $
+              await ! tt $ pick ! (λ δ₀-call. split ! $ lft-new ! tt (λ ν₁-call. bring ! (7 ∷ 7 ∷ []) $
               use2 W (later (some (λ (δ : GName). ‵ (MutSlice (named 2) (ν₁-call ∷ []) Entry′.the-row .own
               (at-x-catalogue δ (x .z-x-catalogue)) (s-x-catalogue ∷ [])) ⊛ ‵ (LentAgain Entry′.the-row κ₂ (ν₁-call ∷ []) q₂
               (x-catalogue .name) (x-catalogue .ptr .0) (x-catalogue .ptr .1) δ (x .z-x-catalogue)))))
               (lends-again Entry′.the-row κ₂ (ν₁-call ∷ []) q₂ (x-catalogue .name) (x-catalogue .ptr .0) (x-catalogue .ptr .1) 𝓤
               H A W (named 2) (named 2) (x .z-x-catalogue) (length (now x-catalogue)) (x .l-x-catalogue)) $
-              await ! tt $ pick ! (λ δ₁-call. split ! $ lft-new ! tt (λ ν₂-call. move ! (10 ∷ 11 ∷ []) $
+              await ! tt $ pick ! (λ δ₁-call. split ! $ lft-new ! tt (λ ν₂-call. bring ! (10 ∷ 10 ∷ []) $
               use2 W (later (some (λ (δ : GName). ‵ (MutSlice (named 3) (ν₂-call ∷ []) u64 .own
               (at-x-scratch δ (x .z-x-scratch)) (s-x-scratch ∷ [])) ⊛ ‵ (LentAgain u64 κ₃ (ν₂-call ∷ []) q₃ (x-scratch .name)
               (x-scratch .ptr .0) (x-scratch .ptr .1) δ (x .z-x-scratch))))) (lends-again u64 κ₃ (ν₂-call ∷ []) q₃
               (x-scratch .name) (x-scratch .ptr .0) (x-scratch .ptr .1) 𝓤 H A W (named 3) (named 3) (x .z-x-scratch)
               (length (now x-scratch)) (x .l-x-scratch)) $
-              await ! tt $ pick ! (λ δ₂-call. split ! $ move ! (11 ∷ 8 ∷ 5 ∷ 2 ∷ 9 ∷ 6 ∷ 3 ∷ 0 ∷ []) $
-              move ! (6 ∷ 7 ∷ []) $ join ! $ move ! (6 ∷ 0 ∷ []) $ join ! $ move ! (5 ∷ 0 ∷ []) $ join ! $
-              move ! (4 ∷ 0 ∷ []) $ join ! $ move ! (3 ∷ 0 ∷ []) $ join ! $ move ! (2 ∷ 0 ∷ []) $ join ! $
-              move ! (1 ∷ 0 ∷ []) $ join ! $
+              await ! tt $ pick ! (λ δ₂-call. split ! $ bring ! (11 ∷ 8 ∷ 5 ∷ 2 ∷ 6 ∷ 4 ∷ 2 ∷ 0 ∷ []) $ group ! 8 $
               use1 W (raw ((call-contract call-out call-x-map call-x-catalogue call-x-scratch 𝓤 H A) .pre
               (to-call ν₀-call ν₁-call ν₂-call δ₀-call δ₁-call δ₂-call (x .z-x-map) (x .z-x-catalogue) (x .z-x-scratch))))
               (goes-call ν₀-call ν₁-call ν₂-call δ₀-call δ₁-call δ₂-call (x .z-x-map) (x .z-x-catalogue) (x .z-x-scratch)) $
@@ -647,45 +643,44 @@ module _ (Shape Outcome : Value) where
               (call-clauses call-out call-x-map call-x-catalogue call-x-scratch 𝓤)
               (κ₀, (ν₀-call ∷ [], (ν₁-call ∷ [], (ν₂-call ∷ [], tt)))) (call-args δ₀-call δ₁-call δ₂-call (x .z-x-map)
               (x .z-x-catalogue) (x .z-x-scratch)) tt r)))) (id⊢ 𝓤 _) $
-              await ! tt $ pick ! (λ r-call. split ! $ move ! (1 ∷ []) $
+              await ! tt $ pick ! (λ r-call. split ! $ bring ! (1 ∷ []) $
               use1 W (some (λ (zs-call : Unit {0} × (Unit {0} × (List ℕ × (List Entry × (List ℕ × Unit {0}))))). ‵
               (lasts call-ended (κ₀, (ν₀-call ∷ [], (ν₁-call ∷ [], (ν₂-call ∷ [], tt))))
               (call-args δ₀-call δ₁-call δ₂-call (x .z-x-map) (x .z-x-catalogue) (x .z-x-scratch)) zs-call)
               ⊛ raw (fact 𝓤 (call-says call-out call-x-map call-x-catalogue call-x-scratch x-shape (now x-image) (x .z-x-map)
               (x .z-x-catalogue) (x .z-x-scratch) r-call (zs-call .1 .1 .0) (zs-call .1 .1 .1 .0) (zs-call .1 .1 .1 .1 .0)))))
               (id⊢ 𝓤 _) $
-              pick ! (λ zs-call. split ! $ move ! (1 ∷ []) $
+              pick ! (λ zs-call. split ! $ bring ! (1 ∷ []) $
               heard ! (call-says call-out call-x-map call-x-catalogue call-x-scratch x-shape (now x-image) (x .z-x-map)
               (x .z-x-catalogue) (x .z-x-scratch) r-call (zs-call .1 .1 .0) (zs-call .1 .1 .1 .0) (zs-call .1 .1 .1 .1 .0))
               (λ e-call.
-              fsplit ! $ move ! (1 ∷ []) $ fsplit ! $ move ! (1 ∷ []) $ fsplit ! $ move ! (1 ∷ []) $ fsplit ! $
-              move ! (1 ∷ []) $ fsplit ! $ move ! (1 ∷ []) $ drop ! $ move ! (4 ∷ []) $ drop ! $ move ! (3 ∷ []) $ drop ! $
-              move ! (2 ∷ []) $ fsplit ! $ move ! (1 ∷ []) $ feqL ! (λ h-call-x-map. move ! (2 ∷ []) $ fsplit ! $
-              move ! (1 ∷ []) $ feqL ! (λ h-call-x-catalogue. move ! (2 ∷ []) $ fsplit ! $ move ! (1 ∷ []) $
-              feqL ! (λ h-call-x-scratch. move ! (3 ∷ []) $ split ! $ move ! (1 ∷ []) $
+              fparts W (_ ∷ _ ∷ _ ∷ _ ∷ _ ∷ []) _ $ discard ! (0 ∷ 0 ∷ []) $ fsplit ! $ bring ! (1 ∷ []) $
+              feqL ! (λ h-call-x-map. bring ! (1 ∷ []) $ fsplit ! $ bring ! (1 ∷ []) $ feqL ! (λ h-call-x-catalogue.
+              bring ! (2 ∷ []) $ fsplit ! $ bring ! (1 ∷ []) $ feqL ! (λ h-call-x-scratch. bring ! (3 ∷ []) $ split ! $
+              bring ! (1 ∷ []) $
               peeks ! (rowOf Outcome) (Is (rowOf Outcome)) (shows 𝓤 H A (rowOf Outcome)) r-call (w-call ∷ []) (λ is-w-call.
               land ! (from ! (stop !)) (store ! 25 refl ((Outcome .typed 𝓤 H A W) r-call _ is-w-call .0)) $
               rewrite ! 25 (λ (u : Val). ‵ (fat fullShare (mirOf Outcome) l₈ 0 u)) (ap only
               ((Outcome .tells) r-call _ is-w-call)) refl $
-              drop ! $ split ! $ move ! (1 ∷ []) $ split ! $ move ! (1 ∷ []) $ split ! $ move ! (1 ∷ []) $ split ! $
-              move ! (1 ∷ []) $ drop ! $ move ! (2 ∷ []) $ lft-end ! tt $ move ! (0 ∷ 9 ∷ 6 ∷ []) $
+              discard ! (0 ∷ []) $ parts W (_ ∷ _ ∷ _ ∷ _ ∷ []) _ $ bring ! (1 ∷ []) $ lft-end ! tt $
+              bring ! (0 ∷ 8 ∷ 5 ∷ []) $
               use3 W (later (‵ (MutSlice (named 1) κ₁ u64 .own (at-x-map (x-map .name) (zs-call .1 .1 .0)) (s-x-map ∷ []))
               ⊛ ‵ (flft κ₁ q₁))) (comes-back u64 κ₁ (ν₀-call ∷ []) q₁ (x-map .name) (x-map .ptr .0) (x-map .ptr .1) 𝓤 H A W
               (named 1) (named 1) (x .z-x-map) (length (now x-map)) (x .l-x-map) room-x-map δ₀-call (zs-call .1 .1 .0)
               h-call-x-map) $
-              await ! tt $ split ! $ move ! (3 ∷ []) $ lft-end ! tt $ move ! (0 ∷ 8 ∷ 6 ∷ []) $
+              await ! tt $ split ! $ bring ! (3 ∷ []) $ lft-end ! tt $ bring ! (0 ∷ 7 ∷ 5 ∷ []) $
               use3 W (later (‵ (MutSlice (named 2) κ₂ Entry′.the-row .own (at-x-catalogue (x-catalogue .name)
               (zs-call .1 .1 .1 .0)) (s-x-catalogue ∷ [])) ⊛ ‵ (flft κ₂ q₂))) (comes-back Entry′.the-row κ₂ (ν₁-call ∷ []) q₂
               (x-catalogue .name) (x-catalogue .ptr .0) (x-catalogue .ptr .1) 𝓤 H A W (named 2) (named 2) (x .z-x-catalogue)
               (length (now x-catalogue)) (x .l-x-catalogue) room-x-catalogue δ₁-call (zs-call .1 .1 .1 .0) h-call-x-catalogue) $
-              await ! tt $ split ! $ move ! (4 ∷ []) $ lft-end ! tt $ move ! (0 ∷ 7 ∷ 6 ∷ []) $
+              await ! tt $ split ! $ bring ! (5 ∷ []) $ lft-end ! tt $ bring ! (0 ∷ 6 ∷ 5 ∷ []) $
               use3 W (later (‵ (MutSlice (named 3) κ₃ u64 .own (at-x-scratch (x-scratch .name) (zs-call .1 .1 .1 .1 .0))
               (s-x-scratch ∷ [])) ⊛ ‵ (flft κ₃ q₃))) (comes-back u64 κ₃ (ν₂-call ∷ []) q₃ (x-scratch .name) (x-scratch .ptr .0)
               (x-scratch .ptr .1) 𝓤 H A W (named 3) (named 3) (x .z-x-scratch) (length (now x-scratch)) (x .l-x-scratch)
               room-x-scratch δ₂-call (zs-call .1 .1 .1 .1 .0) h-call-x-scratch) $
               await ! tt $ split ! $
               -- the turn is over
-              move ! (7 ∷ 6 ∷ 4 ∷ 5 ∷ 2 ∷ 3 ∷ 0 ∷ 1 ∷ []) $
+              bring ! (7 ∷ 6 ∷ 4 ∷ 4 ∷ 2 ∷ 2 ∷ 0 ∷ 0 ∷ []) $
               assigns-last ! (bin ! (load ! (from ! (stop !)) (look ! 22 refl)) (lit ! tt) (record { fits = next-fits }))
               (from ! (stop !)) (store ! 22 refl (tt, record { fits = next-fits })) $
               forget ! 8 refl $ forget ! 10 refl $ forget ! 12 refl $ forget ! 14 refl $ forget ! 16 refl $
@@ -720,15 +715,12 @@ module _ (Shape Outcome : Value) where
           pass1 ! (init ! 24 refl (tt, (tt, (record { fits = room-x-image .0 }, tt)))) $
           pass1 ! (init ! 22 refl (tt, (tt, (record { fits = room-x-map .0 }, tt)))) $
           pass1 ! (init ! 20 refl (tt, (tt, (record { fits = room-x-catalogue .0 }, tt)))) $
-          pass1 ! (init ! 18 refl (tt, (tt, (record { fits = room-x-scratch .0 }, tt)))) $ pass0 ! $ move ! (34 ∷ []) $
-          split ! $ move ! (1 ∷ []) $ split ! $ move ! (1 ∷ []) $ split ! $ move ! (1 ∷ []) $ split ! $
-          move ! (1 ∷ []) $ drop ! $ move ! (38 ∷ []) $ fsplit ! $ move ! (1 ∷ []) $ fsplit ! $ move ! (1 ∷ []) $
-          fsplit ! $ move ! (1 ∷ []) $ fsplit ! $ move ! (1 ∷ []) $ fsplit ! $ move ! (1 ∷ []) $ fsplit ! $
-          move ! (1 ∷ []) $ fsplit ! $ move ! (1 ∷ []) $ drop ! $ move ! (6 ∷ []) $ drop ! $ move ! (5 ∷ []) $ drop ! $
-          move ! (4 ∷ []) $ drop ! $
+          pass1 ! (init ! 18 refl (tt, (tt, (record { fits = room-x-scratch .0 }, tt)))) $ pass0 ! $
+          bring ! (34 ∷ []) $ parts W (_ ∷ _ ∷ _ ∷ _ ∷ []) _ $ bring ! (38 ∷ []) $
+          fparts W (_ ∷ _ ∷ _ ∷ _ ∷ _ ∷ _ ∷ _ ∷ []) _ $ discard ! (0 ∷ 0 ∷ 0 ∷ []) $
           assigns ! (of-opd ! (load ! (from ! (stop !)) (look ! 36 refl))) (from ! (stop !)) (init ! 24 refl typed-x-start) $
           assigns ! (of-opd ! (lit ! tt)) (from ! (stop !)) (init ! 22 refl (tt, record { fits = lit< tt })) $
-          move ! (3 ∷ 7 ∷ 2 ∷ 6 ∷ 1 ∷ 5 ∷ 0 ∷ 4 ∷ []) $
+          bring ! (0 ∷ 3 ∷ 0 ∷ 2 ∷ 0 ∷ 1 ∷ 0 ∷ 0 ∷ []) $
           first ! $ blocks ! $ loops ! 𝓣 (Less size) (by-size size) (I 𝓣 known-call l₀ l₁ l₂ l₃ l₄ l₅ l₆ l₇ l₈ l₉ l₁₀ l₁₁ l₁₂
           l₁₃ l₁₄ l₁₅ l₁₆) (turn-at 𝓣 known-call l₀ l₁ l₂ l₃ l₄ l₅ l₆ l₇ l₈ l₉ l₁₀ l₁₁ l₁₂ l₁₃ l₁₄ l₁₅ l₁₆)
           at-first)))))))))))))))))

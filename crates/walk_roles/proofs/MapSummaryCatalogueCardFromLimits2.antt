@@ -23,7 +23,7 @@ use base.Fml.{Lft, Share, GName, ftrue, flft, fat}
 use prog.Wp.{Heap, WpFn, Tables}
 use ghost.Atoms.{Atoms}
 use contract.Monad.{fact}
-use types.Kit.{Given, ‵, raw, some, later, _⊛_, ⋆, _$_, _∵_, !, qed, by, move, drop, use0, use1, use2, use3, split, join, pick}
+use types.Kit.{Given, ‵, raw, some, later, _⊛_, ⋆, _$_, _∵_, !, qed, by, use0, use1, use2, use3, group, split, join, pick}
 use types.Kit.{rewrite, fsplit, fjoin, feqL, suffices, frame, await, done}
 use types.Run.{look, init, stop, hop, fld, from, load, addr, and-then, no-more, assigns, land, returns, enter, alloc1, alloc0}
 use types.Run.{params1, pass1, pass0, free0}
@@ -52,7 +52,7 @@ use Rattle.catalogue.proofs.Values.{Value, denotes, rowOf, mirOf, valsOf}
 use Rattle.catalogue.specs.declared.Entry.{Entry}
 use Rattle.catalogue.proofs.Entry as Entry′
 use Rattle.catalogue.proofs.Entry.Laws as Entry″
-use Rattle.catalogue.proofs.Steps.{leave}
+use Rattle.catalogue.proofs.Steps.{bring, discard, parts, fparts, leave}
 use Rattle.catalogue.proofs.Lending.{LentAgain, lends-again, comes-back}
 
 module _ (Shape Outcome : Value) where
@@ -448,7 +448,7 @@ module _ (Shape Outcome : Value) where
         goes-passes =
             qed W ([]) ∵
             nothing ! $ nothing ! $ owned ! u32 (Is u32) (uint-makes 𝓤 H A W w32) x-role _ is-x-role $ fjoin ! $
-            move ! (1 ∷ 0 ∷ []) $ join ! $ frame ! $ done !
+            bring ! (1 ∷ 0 ∷ []) $ join ! $ frame ! $ done !
 
         -- ---- the caller has what `admitted` asks
         abbrev admitted-args : Bool × ((denotes Shape) × Unit {0})
@@ -463,7 +463,7 @@ module _ (Shape Outcome : Value) where
             qed W ([]) ∵
             nothing ! $ nothing ! $ owned ! (rowOf Shape) (Is (rowOf Shape)) (Shape .makes 𝓤 H A) x-shape _ is-x-shape $
             fjoin ! $ owned ! Boolean (Is Boolean) (bool-makes 𝓤 H A W) v-pass _ is-v-pass $ fjoin ! $
-            move ! (1 ∷ 0 ∷ []) $ join ! $ frame ! $ done !
+            bring ! (1 ∷ 0 ∷ []) $ join ! $ frame ! $ done !
 
         -- ---- the caller has what `call` asks
         abbrev call-args : (δ₀-call δ₁-call δ₂-call δ₃-call : GName) → (denotes Shape)
@@ -519,14 +519,13 @@ module _ (Shape Outcome : Value) where
             Entry′.the-row .own (at-x-catalogue δ₂-call (now x-catalogue)) (s-x-catalogue ∷ []))
             ∷ ‵ (MutSlice (named 3) (ν₃-call ∷ []) u8 .own (at-x-card δ₃-call (now x-card)) (s-x-card ∷ []))
             ∷ ‵ (ShrRef (named 4) κ₄ (Array u32 8) .own x-limits (s-x-limits ∷ [])) ∷ []) ∵
-            nothing ! $ move ! (5 ∷ 0 ∷ []) $ join ! $ move ! (4 ∷ 0 ∷ []) $ join ! $ move ! (3 ∷ 0 ∷ []) $ join ! $
-            move ! (2 ∷ 0 ∷ []) $ join ! $ move ! (1 ∷ 0 ∷ []) $ join ! $ nothing ! $
+            nothing ! $ bring ! (1 ∷ 1 ∷ 1 ∷ 1 ∷ 1 ∷ 0 ∷ []) $ group ! 6 $ nothing ! $
             owned ! u32 (Is u32) (uint-makes 𝓤 H A W w32) x-k _ is-x-k $ fjoin ! $
-            owned ! u32 (Is u32) (uint-makes 𝓤 H A W w32) x-sheet _ is-x-sheet $ fjoin ! $ move ! (6 ∷ 0 ∷ []) $
-            fjoin ! $ move ! (5 ∷ 0 ∷ []) $ fjoin ! $ move ! (4 ∷ 0 ∷ []) $ fjoin ! $ move ! (3 ∷ 0 ∷ []) $ fjoin ! $
-            move ! (2 ∷ 0 ∷ []) $ fjoin ! $
+            owned ! u32 (Is u32) (uint-makes 𝓤 H A W w32) x-sheet _ is-x-sheet $ fjoin ! $ bring ! (6 ∷ 0 ∷ []) $
+            fjoin ! $ bring ! (5 ∷ 0 ∷ []) $ fjoin ! $ bring ! (4 ∷ 0 ∷ []) $ fjoin ! $ bring ! (3 ∷ 0 ∷ []) $ fjoin ! $
+            bring ! (2 ∷ 0 ∷ []) $ fjoin ! $
             owned ! (rowOf Shape) (Is (rowOf Shape)) (Shape .makes 𝓤 H A) v-lent _ is-v-lent $ fjoin ! $
-            move ! (1 ∷ 0 ∷ []) $ join ! $ frame ! $ done !
+            bring ! (1 ∷ 0 ∷ []) $ join ! $ frame ! $ done !
 
         -- ---- the caller has what `answered` asks
         abbrev answered-args : Bool × ((denotes Shape) × ((denotes Outcome) × Unit {0}))
@@ -542,7 +541,7 @@ module _ (Shape Outcome : Value) where
             nothing ! $ nothing ! $
             owned ! (rowOf Outcome) (Is (rowOf Outcome)) (Outcome .makes 𝓤 H A) v-outcome _ is-v-outcome $ fjoin ! $
             owned ! (rowOf Shape) (Is (rowOf Shape)) (Shape .makes 𝓤 H A) x-shape _ is-x-shape $ fjoin ! $
-            owned ! Boolean (Is Boolean) (bool-makes 𝓤 H A W) v-pass _ is-v-pass $ fjoin ! $ move ! (1 ∷ 0 ∷ []) $
+            owned ! Boolean (Is Boolean) (bool-makes 𝓤 H A W) v-pass _ is-v-pass $ fjoin ! $ bring ! (1 ∷ 0 ∷ []) $
             join ! $ frame ! $ done !
 
         -- ---- the exit
@@ -566,15 +565,14 @@ module _ (Shape Outcome : Value) where
             (tt, (tt, (z-call-x-map, (z-call-x-summary, (z-call-x-catalogue, (z-call-x-card, (tt, (tt, (tt, tt)))))))))
             (tt, (tt, (l-x-map, (l-x-summary, (l-x-catalogue, (l-x-card, (tt, (tt, (tt, tt)))))))))) $
             says ! (law x-role x-shape (now x-map) (now x-summary) (now x-catalogue) (now x-card) (now x-limits) x-sheet x-k) $
-            nothing ! $ move ! (10 ∷ 0 ∷ []) $ join ! $ move ! (8 ∷ 0 ∷ []) $ join ! $ move ! (6 ∷ 0 ∷ []) $ join ! $
-            move ! (4 ∷ 0 ∷ []) $ join ! $ move ! (2 ∷ 0 ∷ []) $ join ! $ frame ! $ nothing ! $
+            nothing ! $ bring ! (2 ∷ 3 ∷ 4 ∷ 5 ∷ 6 ∷ 0 ∷ []) $ group ! 6 $ frame ! $ nothing ! $
             owned ! u32 (Is u32) (uint-makes 𝓤 H A W w32) x-k _ is-x-k $ fjoin ! $
-            owned ! u32 (Is u32) (uint-makes 𝓤 H A W w32) x-sheet _ is-x-sheet $ fjoin ! $ move ! (5 ∷ 0 ∷ []) $
-            fjoin ! $ move ! (4 ∷ 0 ∷ []) $ fjoin ! $ move ! (3 ∷ 0 ∷ []) $ fjoin ! $ move ! (2 ∷ 0 ∷ []) $ fjoin ! $
-            move ! (1 ∷ 0 ∷ []) $ fjoin ! $
+            owned ! u32 (Is u32) (uint-makes 𝓤 H A W w32) x-sheet _ is-x-sheet $ fjoin ! $ bring ! (5 ∷ 0 ∷ []) $
+            fjoin ! $ bring ! (4 ∷ 0 ∷ []) $ fjoin ! $ bring ! (3 ∷ 0 ∷ []) $ fjoin ! $ bring ! (2 ∷ 0 ∷ []) $ fjoin ! $
+            bring ! (1 ∷ 0 ∷ []) $ fjoin ! $
             owned ! (rowOf Shape) (Is (rowOf Shape)) (Shape .makes 𝓤 H A) x-shape _ is-x-shape $ fjoin ! $
             owned ! u32 (Is u32) (uint-makes 𝓤 H A W w32) x-role _ is-x-role $ fjoin ! $
-            owned ! (rowOf Outcome) (Is (rowOf Outcome)) (Outcome .makes 𝓤 H A) v-result _ is $ move ! (1 ∷ 0 ∷ []) $
+            owned ! (rowOf Outcome) (Is (rowOf Outcome)) (Outcome .makes 𝓤 H A) v-result _ is $ bring ! (1 ∷ 0 ∷ []) $
             done !
 
         -- ---- the walk
@@ -602,28 +600,24 @@ module _ (Shape Outcome : Value) where
             pass1 ! (init ! 30 refl (tt, (tt, (record { fits = room-x-catalogue .0 }, tt)))) $
             pass1 ! (init ! 28 refl (tt, (tt, (record { fits = room-x-card .0 }, tt)))) $
             pass1 ! (init ! 26 refl (tt, tt)) $ pass1 ! (init ! 24 refl typed-x-sheet) $
-            pass1 ! (init ! 22 refl typed-x-k) $ pass0 ! $ move ! (42 ∷ []) $ split ! $ move ! (1 ∷ []) $ split ! $
-            move ! (1 ∷ []) $ split ! $ move ! (1 ∷ []) $ split ! $ move ! (1 ∷ []) $ split ! $ move ! (1 ∷ []) $
-            drop ! $ move ! (47 ∷ []) $ fsplit ! $ move ! (1 ∷ []) $ fsplit ! $ move ! (1 ∷ []) $ fsplit ! $
-            move ! (1 ∷ []) $ fsplit ! $ move ! (1 ∷ []) $ fsplit ! $ move ! (1 ∷ []) $ fsplit ! $ move ! (1 ∷ []) $
-            fsplit ! $ move ! (1 ∷ []) $ fsplit ! $ move ! (1 ∷ []) $ fsplit ! $ move ! (1 ∷ []) $ drop ! $
-            move ! (8 ∷ []) $ drop ! $ move ! (7 ∷ []) $ drop ! $ move ! (1 ∷ []) $ drop ! $ drop ! $
+            pass1 ! (init ! 22 refl typed-x-k) $ pass0 ! $ bring ! (42 ∷ []) $ parts W (_ ∷ _ ∷ _ ∷ _ ∷ _ ∷ []) _ $
+            bring ! (47 ∷ []) $ fparts W (_ ∷ _ ∷ _ ∷ _ ∷ _ ∷ _ ∷ _ ∷ _ ∷ _ ∷ []) _ $ discard ! (0 ∷ 0 ∷ 5 ∷ 5 ∷ []) $
             -- passes
             use0 W (raw ((passes-contract passes-out 𝓤 H A) .pre (to-passes))) (goes-passes) $
             calls-at ! (fmOf 𝓤 H (W .laws) 𝓣) (passes-contract passes-out 𝓤 H A) known-passes (to-passes)
             (and-then ! (load ! (from ! (stop !)) (look ! 49 refl)) (no-more !)) (λ w-passes.
             use1 W (later (some (λ (r : Bool). ((‵ ftrue) ⊛ ‵ (Boolean .own r (w-passes ∷ [])))
             ⊛ raw (ensured 𝓤 H A passes-ended (passes-clauses passes-out 𝓤) tt (passes-args) tt r)))) (id⊢ 𝓤 _) $
-            await ! tt $ pick ! (λ r-passes. split ! $ move ! (1 ∷ []) $
+            await ! tt $ pick ! (λ r-passes. split ! $ bring ! (1 ∷ []) $
             use1 W (some (λ (zs-passes : Unit {0} × Unit {0}). ‵ (lasts passes-ended tt (passes-args) zs-passes)
             ⊛ raw (fact 𝓤 (passes-says passes-out x-role r-passes)))) (id⊢ 𝓤 _) $
-            pick ! (λ zs-passes. split ! $ move ! (1 ∷ []) $
-            heard ! (passes-says passes-out x-role r-passes) (λ e-passes. fsplit ! $ move ! (1 ∷ []) $ drop ! $ drop ! $
-            split ! $ move ! (1 ∷ []) $ rewrite ! 0 (λ (r : Bool). ‵ (Boolean .own r (w-passes ∷ []))) (e-passes) refl $
+            pick ! (λ zs-passes. split ! $ bring ! (1 ∷ []) $
+            heard ! (passes-says passes-out x-role r-passes) (λ e-passes. fparts W (_ ∷ []) _ $ discard ! (0 ∷ []) $
+            split ! $ bring ! (1 ∷ []) $ rewrite ! 0 (λ (r : Bool). ‵ (Boolean .own r (w-passes ∷ []))) (e-passes) refl $
             peeks ! Boolean (Is Boolean) (shows 𝓤 H A Boolean) v-pass (w-passes ∷ []) (λ is-w-passes.
             land ! (from ! (stop !)) (init ! 32 refl ((bool-lawful 𝓤 H A W .typed) v-pass _ is-w-passes .0)) $
             rewrite ! 32 (λ (u : Val). ‵ (fat fullShare tyBool l₁₀ 0 u)) (ap only (bool-tells v-pass _ is-w-passes)) refl $
-            drop ! $ drop ! $
+            discard ! (0 ∷ []) $ parts W ([]) _ $
             -- admitted
             use0 W (raw ((admitted-contract admitted-out 𝓤 H A) .pre (to-admitted))) (goes-admitted
             (spelled-v-pass w-passes is-w-passes)) $
@@ -632,18 +626,18 @@ module _ (Shape Outcome : Value) where
             (no-more !))) (λ w-admitted.
             use1 W (later (some (λ (r : (denotes Shape)). ((‵ ftrue) ⊛ ‵ ((rowOf Shape) .own r (w-admitted ∷ [])))
             ⊛ raw (ensured 𝓤 H A admitted-ended (admitted-clauses admitted-out 𝓤) tt (admitted-args) tt r)))) (id⊢ 𝓤 _) $
-            await ! tt $ pick ! (λ r-admitted. split ! $ move ! (1 ∷ []) $
+            await ! tt $ pick ! (λ r-admitted. split ! $ bring ! (1 ∷ []) $
             use1 W (some (λ (zs-admitted : Unit {0} × (Unit {0} × Unit {0})). ‵ (lasts admitted-ended tt (admitted-args)
             zs-admitted) ⊛ raw (fact 𝓤 (admitted-says admitted-out v-pass x-shape r-admitted)))) (id⊢ 𝓤 _) $
-            pick ! (λ zs-admitted. split ! $ move ! (1 ∷ []) $
-            heard ! (admitted-says admitted-out v-pass x-shape r-admitted) (λ e-admitted. fsplit ! $ move ! (1 ∷ []) $
-            fsplit ! $ move ! (1 ∷ []) $ drop ! $ move ! (1 ∷ []) $ drop ! $ drop ! $ split ! $ move ! (1 ∷ []) $
+            pick ! (λ zs-admitted. split ! $ bring ! (1 ∷ []) $
+            heard ! (admitted-says admitted-out v-pass x-shape r-admitted) (λ e-admitted. fparts W (_ ∷ _ ∷ []) _ $
+            discard ! (0 ∷ 0 ∷ []) $ split ! $ bring ! (1 ∷ []) $
             rewrite ! 0 (λ (r : (denotes Shape)). ‵ ((rowOf Shape) .own r (w-admitted ∷ []))) (e-admitted) refl $
             peeks ! (rowOf Shape) (Is (rowOf Shape)) (shows 𝓤 H A (rowOf Shape)) v-lent (w-admitted ∷ []) (λ is-w-admitted.
             land ! (from ! (stop !)) (init ! 30 refl ((Shape .typed 𝓤 H A W) v-lent _ is-w-admitted .0)) $
             rewrite ! 30 (λ (u : Val). ‵ (fat fullShare (mirOf Shape) l₁₁ 0 u)) (ap only
             ((Shape .tells) v-lent _ is-w-admitted)) refl $
-            drop ! $ drop ! $
+            discard ! (0 ∷ []) $ parts W ([]) _ $
             -- call
             assigns ! (addr ! (from ! (fld ! refl (hop ! (look-in ! 44 (sub ! 0 refl (whole !))) (stop !))))) (from ! (stop !))
             (init ! 24 refl (tt, tt)) $
@@ -665,35 +659,32 @@ module _ (Shape Outcome : Value) where
             assigns ! (agg ! (and-then ! (load ! (from ! (stop !)) (look ! 12 refl)) (and-then !
             (load ! (from ! (fld ! refl (stop !))) (look-in ! 38 (sub ! 1 refl (whole !)))) (no-more !)))) (from ! (stop !))
             (init ! 10 refl (tt, (tt, (record { fits = room-x-card .0 }, tt)))) $
-            lft-new ! tt (λ ν₀-call. move ! (5 ∷ 10 ∷ []) $
+            lft-new ! tt (λ ν₀-call. bring ! (1 ∷ 5 ∷ []) $
             use2 W (later (some (λ (δ : GName). ‵ (MutSlice (named 0) (ν₀-call ∷ []) u64 .own (at-x-map δ (now x-map))
             (s-x-map ∷ [])) ⊛ ‵ (LentAgain u64 κ₀ (ν₀-call ∷ []) q₀ (x-map .name) (x-map .ptr .0) (x-map .ptr .1) δ
             (now x-map))))) (lends-again u64 κ₀ (ν₀-call ∷ []) q₀ (x-map .name) (x-map .ptr .0) (x-map .ptr .1) 𝓤 H A W
             (named 0) (named 0) (now x-map) (length (now x-map)) refl) $
-            await ! tt $ pick ! (λ δ₀-call. split ! $ lft-new ! tt (λ ν₁-call. move ! (7 ∷ 11 ∷ []) $
+            await ! tt $ pick ! (λ δ₀-call. split ! $ lft-new ! tt (λ ν₁-call. bring ! (4 ∷ 7 ∷ []) $
             use2 W (later (some (λ (δ : GName). ‵ (MutSlice (named 1) (ν₁-call ∷ []) u32 .own (at-x-summary δ (now x-summary))
             (s-x-summary ∷ [])) ⊛ ‵ (LentAgain u32 κ₁ (ν₁-call ∷ []) q₁ (x-summary .name) (x-summary .ptr .0)
             (x-summary .ptr .1) δ (now x-summary))))) (lends-again u32 κ₁ (ν₁-call ∷ []) q₁ (x-summary .name)
             (x-summary .ptr .0) (x-summary .ptr .1) 𝓤 H A W (named 1) (named 1) (now x-summary) (length (now x-summary)) refl) $
-            await ! tt $ pick ! (λ δ₁-call. split ! $ lft-new ! tt (λ ν₂-call. move ! (9 ∷ 12 ∷ []) $
+            await ! tt $ pick ! (λ δ₁-call. split ! $ lft-new ! tt (λ ν₂-call. bring ! (7 ∷ 9 ∷ []) $
             use2 W (later (some (λ (δ : GName). ‵ (MutSlice (named 2) (ν₂-call ∷ []) Entry′.the-row .own
             (at-x-catalogue δ (now x-catalogue)) (s-x-catalogue ∷ [])) ⊛ ‵ (LentAgain Entry′.the-row κ₂ (ν₂-call ∷ []) q₂
             (x-catalogue .name) (x-catalogue .ptr .0) (x-catalogue .ptr .1) δ (now x-catalogue)))))
             (lends-again Entry′.the-row κ₂ (ν₂-call ∷ []) q₂ (x-catalogue .name) (x-catalogue .ptr .0) (x-catalogue .ptr .1) 𝓤 H
             A W (named 2) (named 2) (now x-catalogue) (length (now x-catalogue)) refl) $
-            await ! tt $ pick ! (λ δ₂-call. split ! $ lft-new ! tt (λ ν₃-call. move ! (11 ∷ 13 ∷ []) $
+            await ! tt $ pick ! (λ δ₂-call. split ! $ lft-new ! tt (λ ν₃-call. bring ! (10 ∷ 11 ∷ []) $
             use2 W (later (some (λ (δ : GName). ‵ (MutSlice (named 3) (ν₃-call ∷ []) u8 .own (at-x-card δ (now x-card))
             (s-x-card ∷ [])) ⊛ ‵ (LentAgain u8 κ₃ (ν₃-call ∷ []) q₃ (x-card .name) (x-card .ptr .0) (x-card .ptr .1) δ
             (now x-card))))) (lends-again u8 κ₃ (ν₃-call ∷ []) q₃ (x-card .name) (x-card .ptr .0) (x-card .ptr .1) 𝓤 H A W
             (named 3) (named 3) (now x-card) (length (now x-card)) refl) $
-            await ! tt $ pick ! (λ δ₃-call. split ! $ move ! (12 ∷ []) $
+            await ! tt $ pick ! (λ δ₃-call. split ! $ bring ! (12 ∷ []) $
             use1 W (‵ (ShrRef (named 4) κ₄ (Array u32 8) .own x-limits (s-x-limits ∷ []))
             ⊛ ‵ (ShrRef (named 4) κ₄ (Array u32 8) .own x-limits (s-x-limits ∷ []))) (shr-copy 𝓤 H A W (named 4) κ₄
             (Array u32 8) .twice x-limits (s-x-limits ∷ [])) $
-            split ! $ move ! (13 ∷ 10 ∷ 7 ∷ 4 ∷ 14 ∷ 11 ∷ 8 ∷ 5 ∷ 2 ∷ 0 ∷ []) $ move ! (8 ∷ 9 ∷ []) $ join ! $
-            move ! (8 ∷ 0 ∷ []) $ join ! $ move ! (7 ∷ 0 ∷ []) $ join ! $ move ! (6 ∷ 0 ∷ []) $ join ! $
-            move ! (5 ∷ 0 ∷ []) $ join ! $ move ! (4 ∷ 0 ∷ []) $ join ! $ move ! (3 ∷ 0 ∷ []) $ join ! $
-            move ! (2 ∷ 0 ∷ []) $ join ! $ move ! (1 ∷ 0 ∷ []) $ join ! $
+            split ! $ bring ! (13 ∷ 10 ∷ 7 ∷ 4 ∷ 10 ∷ 8 ∷ 6 ∷ 4 ∷ 2 ∷ 0 ∷ []) $ group ! 10 $
             use1 W (raw ((call-contract call-out call-x-map call-x-summary call-x-catalogue call-x-card 𝓤 H A) .pre
             (to-call ν₀-call ν₁-call ν₂-call ν₃-call δ₀-call δ₁-call δ₂-call δ₃-call)))
             (goes-call ν₀-call ν₁-call ν₂-call ν₃-call δ₀-call δ₁-call δ₂-call δ₃-call
@@ -711,24 +702,22 @@ module _ (Shape Outcome : Value) where
             (ensured 𝓤 H A call-ended (call-clauses call-out call-x-map call-x-summary call-x-catalogue call-x-card 𝓤)
             (ν₀-call ∷ [], (ν₁-call ∷ [], (ν₂-call ∷ [], (ν₃-call ∷ [], (κ₄, tt))))) (call-args δ₀-call δ₁-call δ₂-call δ₃-call)
             tt r)))) (id⊢ 𝓤 _) $
-            await ! tt $ pick ! (λ r-call. split ! $ move ! (1 ∷ []) $
+            await ! tt $ pick ! (λ r-call. split ! $ bring ! (1 ∷ []) $
             use1 W (some (λ (zs-call : Unit {0} × (List ℕ × (List ℕ × (List Entry × (List ℕ
             × (Unit {0} × (Unit {0} × (Unit {0} × Unit {0})))))))). ‵ (lasts call-ended
             (ν₀-call ∷ [], (ν₁-call ∷ [], (ν₂-call ∷ [], (ν₃-call ∷ [], (κ₄, tt))))) (call-args δ₀-call δ₁-call δ₂-call δ₃-call)
             zs-call) ⊛ raw (fact 𝓤 (call-says call-out call-x-map call-x-summary call-x-catalogue call-x-card v-lent (now x-map)
             (now x-summary) (now x-catalogue) (now x-card) (now x-limits) x-sheet x-k r-call (zs-call .1 .0) (zs-call .1 .1 .0)
             (zs-call .1 .1 .1 .0) (zs-call .1 .1 .1 .1 .0))))) (id⊢ 𝓤 _) $
-            pick ! (λ zs-call. split ! $ move ! (1 ∷ []) $
+            pick ! (λ zs-call. split ! $ bring ! (1 ∷ []) $
             heard ! (call-says call-out call-x-map call-x-summary call-x-catalogue call-x-card v-lent (now x-map)
             (now x-summary) (now x-catalogue) (now x-card) (now x-limits) x-sheet x-k r-call (zs-call .1 .0) (zs-call .1 .1 .0)
             (zs-call .1 .1 .1 .0) (zs-call .1 .1 .1 .1 .0)) (λ e-call.
-            fsplit ! $ move ! (1 ∷ []) $ fsplit ! $ move ! (1 ∷ []) $ fsplit ! $ move ! (1 ∷ []) $ fsplit ! $
-            move ! (1 ∷ []) $ fsplit ! $ move ! (1 ∷ []) $ fsplit ! $ move ! (1 ∷ []) $ fsplit ! $ move ! (1 ∷ []) $
-            fsplit ! $ move ! (1 ∷ []) $ drop ! $ move ! (7 ∷ []) $ drop ! $ move ! (6 ∷ []) $ fsplit ! $
-            move ! (1 ∷ []) $ feqL ! (λ h-call-x-map. move ! (6 ∷ []) $ fsplit ! $ move ! (1 ∷ []) $
-            feqL ! (λ h-call-x-summary. move ! (6 ∷ []) $ fsplit ! $ move ! (1 ∷ []) $ feqL ! (λ h-call-x-catalogue.
-            move ! (6 ∷ []) $ fsplit ! $ move ! (1 ∷ []) $ feqL ! (λ h-call-x-card. move ! (6 ∷ []) $ drop ! $
-            move ! (5 ∷ []) $ drop ! $ move ! (4 ∷ []) $ drop ! $ move ! (4 ∷ []) $ split ! $ move ! (1 ∷ []) $
+            fparts W (_ ∷ _ ∷ _ ∷ _ ∷ _ ∷ _ ∷ _ ∷ _ ∷ []) _ $ discard ! (0 ∷ 4 ∷ 4 ∷ 4 ∷ []) $ fsplit ! $
+            bring ! (1 ∷ []) $ feqL ! (λ h-call-x-map. bring ! (1 ∷ []) $ fsplit ! $ bring ! (1 ∷ []) $
+            feqL ! (λ h-call-x-summary. bring ! (2 ∷ []) $ fsplit ! $ bring ! (1 ∷ []) $ feqL ! (λ h-call-x-catalogue.
+            bring ! (3 ∷ []) $ fsplit ! $ bring ! (1 ∷ []) $ feqL ! (λ h-call-x-card. bring ! (4 ∷ []) $ split ! $
+            bring ! (1 ∷ []) $
             rewrite ! 0 (λ (r : (denotes Outcome)). ‵ ((rowOf Outcome) .own r (w-call ∷ []))) (e-call .0) refl $
             rewrite ! 5 (λ (l : List ℕ). ‵ (finally u64 δ₀-call l)) (e-call .1) refl $
             rewrite ! 4 (λ (l : List ℕ). ‵ (finally u32 δ₁-call l)) (e-call .2) refl $
@@ -738,24 +727,22 @@ module _ (Shape Outcome : Value) where
             land ! (from ! (stop !)) (init ! 27 refl ((Outcome .typed 𝓤 H A W) v-outcome _ is-w-call .0)) $
             rewrite ! 27 (λ (u : Val). ‵ (fat fullShare (mirOf Outcome) l₁₂ 0 u)) (ap only
             ((Outcome .tells) v-outcome _ is-w-call)) refl $
-            drop ! $ split ! $ move ! (1 ∷ []) $ split ! $ move ! (1 ∷ []) $ split ! $ move ! (1 ∷ []) $ split ! $
-            move ! (1 ∷ []) $ split ! $ move ! (1 ∷ []) $ drop ! $ move ! (4 ∷ []) $ lft-end ! tt $
-            move ! (0 ∷ 13 ∷ 8 ∷ []) $
+            discard ! (0 ∷ []) $ parts W (_ ∷ _ ∷ _ ∷ _ ∷ _ ∷ []) _ $ lft-end ! tt $ bring ! (0 ∷ 12 ∷ 7 ∷ []) $
             use3 W (later (‵ (MutSlice (named 0) κ₀ u64 .own (at-x-map (x-map .name) z-call-x-map) (s-x-map ∷ []))
             ⊛ ‵ (flft κ₀ q₀))) (comes-back u64 κ₀ (ν₀-call ∷ []) q₀ (x-map .name) (x-map .ptr .0) (x-map .ptr .1) 𝓤 H A W
             (named 0) (named 0) (now x-map) (length (now x-map)) refl room-x-map δ₀-call z-call-x-map
             (ap {B = ℕ} length (sym (e-call .1)) ∙ h-call-x-map)) $
-            await ! tt $ split ! $ move ! (5 ∷ []) $ lft-end ! tt $ move ! (0 ∷ 12 ∷ 8 ∷ []) $
+            await ! tt $ split ! $ bring ! (2 ∷ []) $ lft-end ! tt $ bring ! (0 ∷ 11 ∷ 7 ∷ []) $
             use3 W (later (‵ (MutSlice (named 1) κ₁ u32 .own (at-x-summary (x-summary .name) z-call-x-summary)
             (s-x-summary ∷ [])) ⊛ ‵ (flft κ₁ q₁))) (comes-back u32 κ₁ (ν₁-call ∷ []) q₁ (x-summary .name) (x-summary .ptr .0)
             (x-summary .ptr .1) 𝓤 H A W (named 1) (named 1) (now x-summary) (length (now x-summary)) refl room-x-summary δ₁-call
             z-call-x-summary (ap {B = ℕ} length (sym (e-call .2)) ∙ h-call-x-summary)) $
-            await ! tt $ split ! $ move ! (6 ∷ []) $ lft-end ! tt $ move ! (0 ∷ 11 ∷ 8 ∷ []) $
+            await ! tt $ split ! $ bring ! (4 ∷ []) $ lft-end ! tt $ bring ! (0 ∷ 10 ∷ 7 ∷ []) $
             use3 W (later (‵ (MutSlice (named 2) κ₂ Entry′.the-row .own (at-x-catalogue (x-catalogue .name) z-call-x-catalogue)
             (s-x-catalogue ∷ [])) ⊛ ‵ (flft κ₂ q₂))) (comes-back Entry′.the-row κ₂ (ν₂-call ∷ []) q₂ (x-catalogue .name)
             (x-catalogue .ptr .0) (x-catalogue .ptr .1) 𝓤 H A W (named 2) (named 2) (now x-catalogue) (length (now x-catalogue))
             refl room-x-catalogue δ₂-call z-call-x-catalogue (ap {B = ℕ} length (sym (e-call .3)) ∙ h-call-x-catalogue)) $
-            await ! tt $ split ! $ move ! (7 ∷ []) $ lft-end ! tt $ move ! (0 ∷ 10 ∷ 8 ∷ []) $
+            await ! tt $ split ! $ bring ! (6 ∷ []) $ lft-end ! tt $ bring ! (0 ∷ 9 ∷ 7 ∷ []) $
             use3 W (later (‵ (MutSlice (named 3) κ₃ u8 .own (at-x-card (x-card .name) z-call-x-card) (s-x-card ∷ []))
             ⊛ ‵ (flft κ₃ q₃))) (comes-back u8 κ₃ (ν₃-call ∷ []) q₃ (x-card .name) (x-card .ptr .0) (x-card .ptr .1) 𝓤 H A W
             (named 3) (named 3) (now x-card) (length (now x-card)) refl room-x-card δ₃-call z-call-x-card
@@ -769,27 +756,26 @@ module _ (Shape Outcome : Value) where
             (and-then ! (load ! (from ! (stop !)) (look ! 27 refl)) (no-more !)))) (λ w-answered.
             use1 W (later (some (λ (r : (denotes Outcome)). ((‵ ftrue) ⊛ ‵ ((rowOf Outcome) .own r (w-answered ∷ [])))
             ⊛ raw (ensured 𝓤 H A answered-ended (answered-clauses answered-out 𝓤) tt (answered-args) tt r)))) (id⊢ 𝓤 _) $
-            await ! tt $ pick ! (λ r-answered. split ! $ move ! (1 ∷ []) $
+            await ! tt $ pick ! (λ r-answered. split ! $ bring ! (1 ∷ []) $
             use1 W (some (λ (zs-answered : Unit {0} × (Unit {0} × (Unit {0} × Unit {0}))). ‵
             (lasts answered-ended tt (answered-args) zs-answered) ⊛ raw (fact 𝓤 (answered-says answered-out v-pass x-shape
             v-outcome r-answered)))) (id⊢ 𝓤 _) $
-            pick ! (λ zs-answered. split ! $ move ! (1 ∷ []) $
-            heard ! (answered-says answered-out v-pass x-shape v-outcome r-answered) (λ e-answered. fsplit ! $
-            move ! (1 ∷ []) $ fsplit ! $ move ! (1 ∷ []) $ fsplit ! $ move ! (1 ∷ []) $ drop ! $ move ! (2 ∷ []) $
-            drop ! $ move ! (1 ∷ []) $ drop ! $ drop ! $ split ! $ move ! (1 ∷ []) $
+            pick ! (λ zs-answered. split ! $ bring ! (1 ∷ []) $
+            heard ! (answered-says answered-out v-pass x-shape v-outcome r-answered) (λ e-answered.
+            fparts W (_ ∷ _ ∷ _ ∷ []) _ $ discard ! (0 ∷ 0 ∷ 0 ∷ []) $ split ! $ bring ! (1 ∷ []) $
             rewrite ! 0 (λ (r : (denotes Outcome)). ‵ ((rowOf Outcome) .own r (w-answered ∷ []))) (e-answered) refl $
             peeks ! (rowOf Outcome) (Is (rowOf Outcome)) (shows 𝓤 H A (rowOf Outcome)) v-result (w-answered ∷ [])
             (λ is-w-answered.
             land ! (from ! (stop !)) (init ! 52 refl ((Outcome .typed 𝓤 H A W) v-result _ is-w-answered .0)) $
             rewrite ! 52 (λ (u : Val). ‵ (fat fullShare (mirOf Outcome) l₀ 0 u)) (ap only
             ((Outcome .tells) v-result _ is-w-answered)) refl $
-            drop ! $ drop ! $ returns ! (look ! 50 refl) $ leave ! 50 refl refl $ leave ! 48 refl refl $
-            leave ! 46 refl refl $ leave ! 44 refl refl $ leave ! 42 refl refl $ leave ! 40 refl refl $
-            leave ! 38 refl refl $ leave ! 36 refl refl $ leave ! 34 refl refl $ leave ! 32 refl refl $
-            leave ! 30 refl refl $ leave ! 28 refl refl $ leave ! 26 refl refl $ leave ! 24 refl refl $
-            leave ! 22 refl refl $ leave ! 20 refl refl $ leave ! 18 refl refl $ leave ! 16 refl refl $
-            leave ! 14 refl refl $ leave ! 12 refl refl $ leave ! 10 refl refl $ free0 ! $
-            move ! (6 ∷ 7 ∷ 4 ∷ 5 ∷ 2 ∷ 3 ∷ 0 ∷ 1 ∷ 9 ∷ 8 ∷ []) $
+            discard ! (0 ∷ []) $ parts W ([]) _ $ returns ! (look ! 50 refl) $ leave ! 50 refl refl $
+            leave ! 48 refl refl $ leave ! 46 refl refl $ leave ! 44 refl refl $ leave ! 42 refl refl $
+            leave ! 40 refl refl $ leave ! 38 refl refl $ leave ! 36 refl refl $ leave ! 34 refl refl $
+            leave ! 32 refl refl $ leave ! 30 refl refl $ leave ! 28 refl refl $ leave ! 26 refl refl $
+            leave ! 24 refl refl $ leave ! 22 refl refl $ leave ! 20 refl refl $ leave ! 18 refl refl $
+            leave ! 16 refl refl $ leave ! 14 refl refl $ leave ! 12 refl refl $ leave ! 10 refl refl $ free0 ! $
+            bring ! (6 ∷ 6 ∷ 4 ∷ 4 ∷ 2 ∷ 2 ∷ 0 ∷ 0 ∷ 1 ∷ 0 ∷ []) $
             by ! (exits (spelled-v-result w-answered is-w-answered) (ap {B = ℕ} length (sym (e-call .1)) ∙ h-call-x-map)
             (ap {B = ℕ} length (sym (e-call .2)) ∙ h-call-x-summary) (ap {B = ℕ} length (sym (e-call .3)) ∙ h-call-x-catalogue)
             (ap {B = ℕ} length (sym (e-call .4)) ∙ h-call-x-card)))))))))))))))))))))))))))))))))))))))))))))))))))))))

@@ -24,7 +24,7 @@ use base.Fml.{Lft, Share, GName, ftrue, flft, fat}
 use prog.Wp.{Heap, WpFn, Tables}
 use ghost.Atoms.{Atoms}
 use contract.Monad.{fact}
-use types.Kit.{Given, ‵, raw, some, later, _⊛_, ⋆, _$_, _∵_, !, qed, by, move, drop, use0, use1, use2, use3, split, join, pick}
+use types.Kit.{Given, ‵, raw, some, later, _⊛_, ⋆, _$_, _∵_, !, qed, by, use0, use1, use2, use3, group, split, join, pick}
 use types.Kit.{rewrite, fsplit, fjoin, feqL, suffices, frame, await, done}
 use types.Run.{look, init, stop, hop, fld, from, load, addr, and-then, no-more, assigns, land, returns, enter, alloc1, alloc0}
 use types.Run.{params1, pass1, pass0, free0}
@@ -52,7 +52,7 @@ use denote.Exit.{yes}
 use Rattle.catalogue.proofs.Values.{Value, denotes, rowOf, mirOf, valsOf}
 use Rattle.catalogue.specs.declared.Entry.{Entry}
 use Rattle.catalogue.proofs.Entry as Entry′
-use Rattle.catalogue.proofs.Steps.{leave}
+use Rattle.catalogue.proofs.Steps.{bring, discard, parts, fparts, leave}
 use Rattle.catalogue.proofs.Lending.{LentAgain, lends-again, comes-back}
 
 module _ (Tally Window : Value) where
@@ -415,10 +415,10 @@ module _ (Tally Window : Value) where
             (s-x-catalogue ∷ [])) ∷ [])) ((tally-entries-contract tally-entries-out 𝓤 H A) .pre (to-tally-entries))
         goes-tally-entries =
             qed W (‵ (flft κ₁ q₁) ∷ ‵ (ShrSlice (named 0) κ₁ Entry′.the-row .own x-catalogue (s-x-catalogue ∷ [])) ∷ []) ∵
-            nothing ! $ move ! (1 ∷ 0 ∷ []) $ join ! $ nothing ! $
+            nothing ! $ bring ! (1 ∷ 0 ∷ []) $ group ! 2 $ nothing ! $
             owned ! (rowOf Tally) (Is (rowOf Tally)) (Tally .makes 𝓤 H A) x-start _ is-x-start $ fjoin ! $
-            owned ! u32 (Is u32) (uint-makes 𝓤 H A W w32) x-n _ is-x-n $ fjoin ! $ move ! (2 ∷ 0 ∷ []) $ fjoin ! $
-            move ! (1 ∷ 0 ∷ []) $ join ! $ frame ! $ done !
+            owned ! u32 (Is u32) (uint-makes 𝓤 H A W w32) x-n _ is-x-n $ fjoin ! $ bring ! (2 ∷ 0 ∷ []) $ fjoin ! $
+            bring ! (1 ∷ 0 ∷ []) $ join ! $ frame ! $ done !
 
         -- ---- the caller has what `first-window` asks
         abbrev first-window-args : (denotes Tally) × Unit {0}
@@ -432,7 +432,7 @@ module _ (Tally Window : Value) where
         goes-first-window is-v-tally =
             qed W ([]) ∵
             nothing ! $ nothing ! $ owned ! (rowOf Tally) (Is (rowOf Tally)) (Tally .makes 𝓤 H A) v-tally _ is-v-tally $
-            fjoin ! $ move ! (1 ∷ 0 ∷ []) $ join ! $ frame ! $ done !
+            fjoin ! $ bring ! (1 ∷ 0 ∷ []) $ join ! $ frame ! $ done !
 
         -- ---- the caller has what `window-count` asks
         abbrev window-count-args : ℕ × ((denotes Window) × Unit {0})
@@ -447,7 +447,7 @@ module _ (Tally Window : Value) where
             qed W ([]) ∵
             nothing ! $ nothing ! $
             owned ! (rowOf Window) (Is (rowOf Window)) (Window .makes 𝓤 H A) v-first _ is-v-first $ fjoin ! $
-            owned ! u32 (Is u32) (uint-makes 𝓤 H A W w32) x-n _ is-x-n $ fjoin ! $ move ! (1 ∷ 0 ∷ []) $ join ! $
+            owned ! u32 (Is u32) (uint-makes 𝓤 H A W w32) x-n _ is-x-n $ fjoin ! $ bring ! (1 ∷ 0 ∷ []) $ join ! $
             frame ! $ done !
 
         -- ---- the caller has what `test-windows` asks
@@ -481,11 +481,11 @@ module _ (Tally Window : Value) where
             ∷ ‵ (ShrSlice (named 0) κ₀ u64 .own x-map (s-x-map ∷ [])) ∷ ‵ (ShrSlice (named 1) κ₁ Entry′.the-row .own x-catalogue
             (s-x-catalogue ∷ [])) ∷ ‵ (MutSlice (named 2) (ν₀-test-windows ∷ []) u64 .own
             (at-x-scratch δ₀-test-windows (now x-scratch)) (s-x-scratch ∷ [])) ∷ []) ∵
-            nothing ! $ move ! (3 ∷ 0 ∷ []) $ join ! $ move ! (2 ∷ 0 ∷ []) $ join ! $ move ! (1 ∷ 0 ∷ []) $ join ! $
-            nothing ! $ owned ! (rowOf Window) (Is (rowOf Window)) (Window .makes 𝓤 H A) v-first _ is-v-first $ fjoin ! $
+            nothing ! $ bring ! (1 ∷ 1 ∷ 1 ∷ 0 ∷ []) $ group ! 4 $ nothing ! $
+            owned ! (rowOf Window) (Is (rowOf Window)) (Window .makes 𝓤 H A) v-first _ is-v-first $ fjoin ! $
             owned ! usize (Is usize) (uint-makes 𝓤 H A W w64) v-count _ is-v-count $ fjoin ! $
-            owned ! u32 (Is u32) (uint-makes 𝓤 H A W w32) x-n _ is-x-n $ fjoin ! $ move ! (4 ∷ 0 ∷ []) $ fjoin ! $
-            move ! (3 ∷ 0 ∷ []) $ fjoin ! $ move ! (2 ∷ 0 ∷ []) $ fjoin ! $ move ! (1 ∷ 0 ∷ []) $ join ! $ frame ! $
+            owned ! u32 (Is u32) (uint-makes 𝓤 H A W w32) x-n _ is-x-n $ fjoin ! $ bring ! (4 ∷ 0 ∷ []) $ fjoin ! $
+            bring ! (3 ∷ 0 ∷ []) $ fjoin ! $ bring ! (2 ∷ 0 ∷ []) $ fjoin ! $ bring ! (1 ∷ 0 ∷ []) $ join ! $ frame ! $
             done !
 
         -- ---- the caller has what `all-passed` asks
@@ -512,9 +512,9 @@ module _ (Tally Window : Value) where
         goes-all-passed ν₀-all-passed δ₀-all-passed is-v-last =
             qed W (‵ (flft (ν₀-all-passed ∷ []) fullShare) ∷ ‵ (MutSlice (named 0) (ν₀-all-passed ∷ []) u64 .own
             (at-x-scratch δ₀-all-passed z-test-windows-x-scratch) (s-x-scratch ∷ [])) ∷ []) ∵
-            nothing ! $ move ! (1 ∷ 0 ∷ []) $ join ! $ nothing ! $ move ! (2 ∷ 0 ∷ []) $ fjoin ! $
+            nothing ! $ bring ! (1 ∷ 0 ∷ []) $ group ! 2 $ nothing ! $ bring ! (2 ∷ 0 ∷ []) $ fjoin ! $
             owned ! (rowOf Window) (Is (rowOf Window)) (Window .makes 𝓤 H A) v-last _ is-v-last $ fjoin ! $
-            move ! (1 ∷ 0 ∷ []) $ join ! $ frame ! $ done !
+            bring ! (1 ∷ 0 ∷ []) $ join ! $ frame ! $ done !
 
         -- ---- the exit
         exits : Is Boolean v-result (m-v-result ∷ []) → length z-all-passed-x-scratch ≡ length (now x-scratch)
@@ -529,12 +529,12 @@ module _ (Tally Window : Value) where
             ∷ ‵ (flft κ₂ q₂) ∷ []) ∵
             suffices ! _ (ends-at 𝓤 H A ended stayed (clauses 𝓤) W bound m-v-result v-result
             (tt, (tt, (z-all-passed-x-scratch, (tt, (tt, tt))))) (tt, (tt, (l-x-scratch, (tt, (tt, tt)))))) $
-            says ! (law (now x-map) (now x-catalogue) (now x-scratch) x-n x-start) $ nothing ! $ move ! (6 ∷ 0 ∷ []) $
-            join ! $ move ! (4 ∷ 0 ∷ []) $ join ! $ move ! (2 ∷ 0 ∷ []) $ join ! $ frame ! $ nothing ! $
+            says ! (law (now x-map) (now x-catalogue) (now x-scratch) x-n x-start) $ nothing ! $
+            bring ! (2 ∷ 3 ∷ 4 ∷ 0 ∷ []) $ group ! 4 $ frame ! $ nothing ! $
             owned ! (rowOf Tally) (Is (rowOf Tally)) (Tally .makes 𝓤 H A) x-start _ is-x-start $ fjoin ! $
-            owned ! u32 (Is u32) (uint-makes 𝓤 H A W w32) x-n _ is-x-n $ fjoin ! $ move ! (3 ∷ 0 ∷ []) $ fjoin ! $
-            move ! (2 ∷ 0 ∷ []) $ fjoin ! $ move ! (1 ∷ 0 ∷ []) $ fjoin ! $
-            owned ! Boolean (Is Boolean) (bool-makes 𝓤 H A W) v-result _ is $ move ! (1 ∷ 0 ∷ []) $ done !
+            owned ! u32 (Is u32) (uint-makes 𝓤 H A W w32) x-n _ is-x-n $ fjoin ! $ bring ! (3 ∷ 0 ∷ []) $ fjoin ! $
+            bring ! (2 ∷ 0 ∷ []) $ fjoin ! $ bring ! (1 ∷ 0 ∷ []) $ fjoin ! $
+            owned ! Boolean (Is Boolean) (bool-makes 𝓤 H A W) v-result _ is $ bring ! (1 ∷ 0 ∷ []) $ done !
 
         -- ---- the walk
         walk : (𝓣 : Tables 𝓤 H) → Triple 𝓤 (𝓣 .C #tally-entries) (tally-entries-contract tally-entries-out 𝓤 H A)
@@ -557,16 +557,15 @@ module _ (Tally Window : Value) where
             pass1 ! (init ! 24 refl (tt, (tt, (record { fits = room-x-map .0 }, tt)))) $
             pass1 ! (init ! 22 refl (tt, (tt, (record { fits = room-x-catalogue .0 }, tt)))) $
             pass1 ! (init ! 20 refl (tt, (tt, (record { fits = room-x-scratch .0 }, tt)))) $
-            pass1 ! (init ! 18 refl typed-x-n) $ pass1 ! (init ! 16 refl typed-x-start) $ pass0 ! $ move ! (28 ∷ []) $
-            split ! $ move ! (1 ∷ []) $ split ! $ move ! (1 ∷ []) $ split ! $ move ! (1 ∷ []) $ drop ! $
-            move ! (31 ∷ []) $ fsplit ! $ move ! (1 ∷ []) $ fsplit ! $ move ! (1 ∷ []) $ fsplit ! $ move ! (1 ∷ []) $
-            fsplit ! $ move ! (1 ∷ []) $ fsplit ! $ move ! (1 ∷ []) $ drop ! $ move ! (1 ∷ []) $ drop ! $ drop ! $
+            pass1 ! (init ! 18 refl typed-x-n) $ pass1 ! (init ! 16 refl typed-x-start) $ pass0 ! $ bring ! (28 ∷ []) $
+            parts W (_ ∷ _ ∷ _ ∷ []) _ $ bring ! (31 ∷ []) $ fparts W (_ ∷ _ ∷ _ ∷ _ ∷ _ ∷ []) _ $
+            discard ! (3 ∷ 3 ∷ []) $
             -- tally-entries
-            move ! (1 ∷ []) $
+            bring ! (1 ∷ []) $
             use1 W (‵ (ShrSlice (named 1) κ₁ Entry′.the-row .own x-catalogue (s-x-catalogue ∷ []))
             ⊛ ‵ (ShrSlice (named 1) κ₁ Entry′.the-row .own x-catalogue (s-x-catalogue ∷ [])))
             (shr-slice-copy 𝓤 H A W (named 1) κ₁ Entry′.the-row .twice x-catalogue (s-x-catalogue ∷ [])) $
-            split ! $ move ! (5 ∷ 0 ∷ []) $ join ! $
+            split ! $ bring ! (5 ∷ 0 ∷ []) $ group ! 2 $
             use1 W (raw ((tally-entries-contract tally-entries-out 𝓤 H A) .pre (to-tally-entries))) (goes-tally-entries) $
             calls-at ! (fmOf 𝓤 H (W .laws) 𝓣) (tally-entries-contract tally-entries-out 𝓤 H A) known-tally-entries
             (to-tally-entries) (and-then ! (load ! (from ! (stop !)) (look ! 28 refl))
@@ -575,21 +574,20 @@ module _ (Tally Window : Value) where
             use1 W (later (some (λ (r : (denotes Tally)). ((‵ (flft κ₁ q₁) ⊛ ‵ ftrue) ⊛ ‵
             ((rowOf Tally) .own r (w-tally-entries ∷ []))) ⊛ raw (ensured 𝓤 H A tally-entries-ended
             (tally-entries-clauses tally-entries-out 𝓤) (κ₁, tt) (tally-entries-args) tt r)))) (id⊢ 𝓤 _) $
-            await ! tt $ pick ! (λ r-tally-entries. split ! $ move ! (1 ∷ []) $
+            await ! tt $ pick ! (λ r-tally-entries. split ! $ bring ! (1 ∷ []) $
             use1 W (some (λ (zs-tally-entries : Unit {0} × (Unit {0} × (Unit {0} × Unit {0}))). ‵
             (lasts tally-entries-ended (κ₁, tt) (tally-entries-args) zs-tally-entries)
             ⊛ raw (fact 𝓤 (tally-entries-says tally-entries-out (now x-catalogue) x-n x-start r-tally-entries)))) (id⊢ 𝓤 _) $
-            pick ! (λ zs-tally-entries. split ! $ move ! (1 ∷ []) $
+            pick ! (λ zs-tally-entries. split ! $ bring ! (1 ∷ []) $
             heard ! (tally-entries-says tally-entries-out (now x-catalogue) x-n x-start r-tally-entries) (λ e-tally-entries.
-            fsplit ! $ move ! (1 ∷ []) $ fsplit ! $ move ! (1 ∷ []) $ fsplit ! $ move ! (1 ∷ []) $ drop ! $
-            move ! (2 ∷ []) $ drop ! $ move ! (1 ∷ []) $ drop ! $ drop ! $ split ! $ move ! (1 ∷ []) $
+            fparts W (_ ∷ _ ∷ _ ∷ []) _ $ discard ! (0 ∷ 0 ∷ 0 ∷ []) $ split ! $ bring ! (1 ∷ []) $
             rewrite ! 0 (λ (r : (denotes Tally)). ‵ ((rowOf Tally) .own r (w-tally-entries ∷ []))) (e-tally-entries) refl $
             peeks ! (rowOf Tally) (Is (rowOf Tally)) (shows 𝓤 H A (rowOf Tally)) v-tally (w-tally-entries ∷ [])
             (λ is-w-tally-entries.
             land ! (from ! (stop !)) (init ! 21 refl ((Tally .typed 𝓤 H A W) v-tally _ is-w-tally-entries .0)) $
             rewrite ! 21 (λ (u : Val). ‵ (fat fullShare (mirOf Tally) l₆ 0 u)) (ap only
             ((Tally .tells) v-tally _ is-w-tally-entries)) refl $
-            drop ! $ split ! $ move ! (1 ∷ []) $ drop ! $
+            discard ! (0 ∷ []) $ parts W (_ ∷ []) _ $
             -- first-window
             use0 W (raw ((first-window-contract first-window-out 𝓤 H A) .pre (to-first-window)))
             (goes-first-window (spelled-v-tally w-tally-entries is-w-tally-entries)) $
@@ -598,19 +596,19 @@ module _ (Tally Window : Value) where
             use1 W (later (some (λ (r : (denotes Window)). ((‵ ftrue) ⊛ ‵ ((rowOf Window) .own r (w-first-window ∷ [])))
             ⊛ raw (ensured 𝓤 H A first-window-ended (first-window-clauses first-window-out 𝓤) tt (first-window-args) tt r))))
             (id⊢ 𝓤 _) $
-            await ! tt $ pick ! (λ r-first-window. split ! $ move ! (1 ∷ []) $
+            await ! tt $ pick ! (λ r-first-window. split ! $ bring ! (1 ∷ []) $
             use1 W (some (λ (zs-first-window : Unit {0} × Unit {0}). ‵ (lasts first-window-ended tt (first-window-args)
             zs-first-window) ⊛ raw (fact 𝓤 (first-window-says first-window-out v-tally r-first-window)))) (id⊢ 𝓤 _) $
-            pick ! (λ zs-first-window. split ! $ move ! (1 ∷ []) $
-            heard ! (first-window-says first-window-out v-tally r-first-window) (λ e-first-window. fsplit ! $
-            move ! (1 ∷ []) $ drop ! $ drop ! $ split ! $ move ! (1 ∷ []) $
+            pick ! (λ zs-first-window. split ! $ bring ! (1 ∷ []) $
+            heard ! (first-window-says first-window-out v-tally r-first-window) (λ e-first-window. fparts W (_ ∷ []) _ $
+            discard ! (0 ∷ []) $ split ! $ bring ! (1 ∷ []) $
             rewrite ! 0 (λ (r : (denotes Window)). ‵ ((rowOf Window) .own r (w-first-window ∷ []))) (e-first-window) refl $
             peeks ! (rowOf Window) (Is (rowOf Window)) (shows 𝓤 H A (rowOf Window)) v-first (w-first-window ∷ [])
             (λ is-w-first-window.
             land ! (from ! (stop !)) (init ! 20 refl ((Window .typed 𝓤 H A W) v-first _ is-w-first-window .0)) $
             rewrite ! 20 (λ (u : Val). ‵ (fat fullShare (mirOf Window) l₇ 0 u)) (ap only
             ((Window .tells) v-first _ is-w-first-window)) refl $
-            drop ! $ drop ! $
+            discard ! (0 ∷ []) $ parts W ([]) _ $
             -- window-count
             use0 W (raw ((window-count-contract window-count-out 𝓤 H A) .pre (to-window-count)))
             (goes-window-count (spelled-v-first w-first-window is-w-first-window)) $
@@ -620,41 +618,39 @@ module _ (Tally Window : Value) where
             use1 W (later (some (λ (r : ℕ). ((‵ ftrue) ⊛ ‵ (usize .own r (w-window-count ∷ [])))
             ⊛ raw (ensured 𝓤 H A window-count-ended (window-count-clauses window-count-out 𝓤) tt (window-count-args) tt r))))
             (id⊢ 𝓤 _) $
-            await ! tt $ pick ! (λ r-window-count. split ! $ move ! (1 ∷ []) $
+            await ! tt $ pick ! (λ r-window-count. split ! $ bring ! (1 ∷ []) $
             use1 W (some (λ (zs-window-count : Unit {0} × (Unit {0} × Unit {0})). ‵ (lasts window-count-ended tt
             (window-count-args) zs-window-count) ⊛ raw (fact 𝓤 (window-count-says window-count-out x-n v-first
             r-window-count)))) (id⊢ 𝓤 _) $
-            pick ! (λ zs-window-count. split ! $ move ! (1 ∷ []) $
-            heard ! (window-count-says window-count-out x-n v-first r-window-count) (λ e-window-count. fsplit ! $
-            move ! (1 ∷ []) $ fsplit ! $ move ! (1 ∷ []) $ drop ! $ move ! (1 ∷ []) $ drop ! $ drop ! $ split ! $
-            move ! (1 ∷ []) $ rewrite ! 0 (λ (r : ℕ). ‵ (usize .own r (w-window-count ∷ []))) (e-window-count) refl $
+            pick ! (λ zs-window-count. split ! $ bring ! (1 ∷ []) $
+            heard ! (window-count-says window-count-out x-n v-first r-window-count) (λ e-window-count.
+            fparts W (_ ∷ _ ∷ []) _ $ discard ! (0 ∷ 0 ∷ []) $ split ! $ bring ! (1 ∷ []) $
+            rewrite ! 0 (λ (r : ℕ). ‵ (usize .own r (w-window-count ∷ []))) (e-window-count) refl $
             peeks ! usize (Is usize) (shows 𝓤 H A usize) v-count (w-window-count ∷ []) (λ is-w-window-count.
             land ! (from ! (stop !)) (init ! 18 refl ((uint-lawful 𝓤 H A W w64 .typed) v-count _ is-w-window-count .0)) $
             rewrite ! 18 (λ (u : Val). ‵ (fat fullShare (tyInt w64) l₈ 0 u)) (ap only ((uint-tells w64) v-count _
             is-w-window-count)) refl $
-            drop ! $ drop ! $
+            discard ! (0 ∷ []) $ parts W ([]) _ $
             -- test-windows
             assigns ! (addr ! (from ! (fld ! refl (hop ! (look-in ! 26 (sub ! 0 refl (whole !))) (stop !))))) (from ! (stop !))
             (init ! 12 refl (tt, tt)) $
             assigns ! (agg ! (and-then ! (load ! (from ! (stop !)) (look ! 12 refl)) (and-then !
             (load ! (from ! (fld ! refl (stop !))) (look-in ! 26 (sub ! 1 refl (whole !)))) (no-more !)))) (from ! (stop !))
             (init ! 10 refl (tt, (tt, (record { fits = room-x-scratch .0 }, tt)))) $
-            move ! (3 ∷ []) $
+            bring ! (2 ∷ []) $
             use1 W (‵ (ShrSlice (named 0) κ₀ u64 .own x-map (s-x-map ∷ [])) ⊛ ‵ (ShrSlice (named 0) κ₀ u64 .own x-map
             (s-x-map ∷ []))) (shr-slice-copy 𝓤 H A W (named 0) κ₀ u64 .twice x-map (s-x-map ∷ [])) $
-            split ! $ move ! (3 ∷ []) $
+            split ! $ bring ! (3 ∷ []) $
             use1 W (‵ (ShrSlice (named 1) κ₁ Entry′.the-row .own x-catalogue (s-x-catalogue ∷ []))
             ⊛ ‵ (ShrSlice (named 1) κ₁ Entry′.the-row .own x-catalogue (s-x-catalogue ∷ [])))
             (shr-slice-copy 𝓤 H A W (named 1) κ₁ Entry′.the-row .twice x-catalogue (s-x-catalogue ∷ [])) $
-            split ! $ lft-new ! tt (λ ν₀-test-windows. move ! (6 ∷ 7 ∷ []) $
+            split ! $ lft-new ! tt (λ ν₀-test-windows. bring ! (6 ∷ 7 ∷ []) $
             use2 W (later (some (λ (δ : GName). ‵ (MutSlice (named 2) (ν₀-test-windows ∷ []) u64 .own
             (at-x-scratch δ (now x-scratch)) (s-x-scratch ∷ [])) ⊛ ‵ (LentAgain u64 κ₂ (ν₀-test-windows ∷ []) q₂
             (x-scratch .name) (x-scratch .ptr .0) (x-scratch .ptr .1) δ (now x-scratch)))))
             (lends-again u64 κ₂ (ν₀-test-windows ∷ []) q₂ (x-scratch .name) (x-scratch .ptr .0) (x-scratch .ptr .1) 𝓤 H A W
             (named 2) (named 2) (now x-scratch) (length (now x-scratch)) refl) $
-            await ! tt $ pick ! (λ δ₀-test-windows. split ! $ move ! (8 ∷ 7 ∷ 2 ∷ 5 ∷ 3 ∷ 0 ∷ []) $ move ! (4 ∷ 5 ∷ []) $
-            join ! $ move ! (4 ∷ 0 ∷ []) $ join ! $ move ! (3 ∷ 0 ∷ []) $ join ! $ move ! (2 ∷ 0 ∷ []) $ join ! $
-            move ! (1 ∷ 0 ∷ []) $ join ! $
+            await ! tt $ pick ! (λ δ₀-test-windows. split ! $ bring ! (8 ∷ 7 ∷ 2 ∷ 4 ∷ 2 ∷ 0 ∷ []) $ group ! 6 $
             use1 W (raw ((test-windows-contract test-windows-out test-windows-x-scratch 𝓤 H A) .pre
             (to-test-windows ν₀-test-windows δ₀-test-windows))) (goes-test-windows ν₀-test-windows δ₀-test-windows
             (spelled-v-count w-window-count is-w-window-count) (spelled-v-first w-first-window is-w-first-window)) $
@@ -668,20 +664,17 @@ module _ (Tally Window : Value) where
             ⊛ ‵ (flft (ν₀-test-windows ∷ []) fullShare) ⊛ ‵ ftrue) ⊛ ‵ ((rowOf Window) .own r (w-test-windows ∷ [])))
             ⊛ raw (ensured 𝓤 H A test-windows-ended (test-windows-clauses test-windows-out test-windows-x-scratch 𝓤)
             (κ₀, (κ₁, (ν₀-test-windows ∷ [], tt))) (test-windows-args δ₀-test-windows) tt r)))) (id⊢ 𝓤 _) $
-            await ! tt $ pick ! (λ r-test-windows. split ! $ move ! (1 ∷ []) $
+            await ! tt $ pick ! (λ r-test-windows. split ! $ bring ! (1 ∷ []) $
             use1 W (some (λ (zs-test-windows : Unit {0} × (Unit {0} × (List ℕ × (Unit {0}
             × (Unit {0} × (Unit {0} × Unit {0})))))). ‵ (lasts test-windows-ended (κ₀, (κ₁, (ν₀-test-windows ∷ [], tt)))
             (test-windows-args δ₀-test-windows) zs-test-windows) ⊛ raw (fact 𝓤 (test-windows-says test-windows-out
             test-windows-x-scratch (now x-map) (now x-catalogue) (now x-scratch) x-n v-count v-first r-test-windows
             (zs-test-windows .1 .1 .0))))) (id⊢ 𝓤 _) $
-            pick ! (λ zs-test-windows. split ! $ move ! (1 ∷ []) $
+            pick ! (λ zs-test-windows. split ! $ bring ! (1 ∷ []) $
             heard ! (test-windows-says test-windows-out test-windows-x-scratch (now x-map) (now x-catalogue) (now x-scratch) x-n
             v-count v-first r-test-windows (zs-test-windows .1 .1 .0)) (λ e-test-windows.
-            fsplit ! $ move ! (1 ∷ []) $ fsplit ! $ move ! (1 ∷ []) $ fsplit ! $ move ! (1 ∷ []) $ fsplit ! $
-            move ! (1 ∷ []) $ fsplit ! $ move ! (1 ∷ []) $ fsplit ! $ move ! (1 ∷ []) $ drop ! $ move ! (5 ∷ []) $
-            drop ! $ move ! (4 ∷ []) $ drop ! $ move ! (3 ∷ []) $ fsplit ! $ move ! (1 ∷ []) $
-            feqL ! (λ h-test-windows-x-scratch. move ! (3 ∷ []) $ drop ! $ move ! (2 ∷ []) $ drop ! $ move ! (1 ∷ []) $
-            drop ! $ move ! (1 ∷ []) $ split ! $ move ! (1 ∷ []) $
+            fparts W (_ ∷ _ ∷ _ ∷ _ ∷ _ ∷ _ ∷ []) _ $ discard ! (0 ∷ 0 ∷ 1 ∷ 1 ∷ 1 ∷ []) $ fsplit ! $ bring ! (1 ∷ []) $
+            feqL ! (λ h-test-windows-x-scratch. bring ! (1 ∷ []) $ split ! $ bring ! (1 ∷ []) $
             rewrite ! 0 (λ (r : (denotes Window)). ‵ ((rowOf Window) .own r (w-test-windows ∷ []))) (e-test-windows .0) refl $
             rewrite ! 2 (λ (l : List ℕ). ‵ (finally u64 δ₀-test-windows l)) (e-test-windows .1) refl $
             peeks ! (rowOf Window) (Is (rowOf Window)) (shows 𝓤 H A (rowOf Window)) v-last (w-test-windows ∷ [])
@@ -689,8 +682,8 @@ module _ (Tally Window : Value) where
             land ! (from ! (stop !)) (init ! 14 refl ((Window .typed 𝓤 H A W) v-last _ is-w-test-windows .0)) $
             rewrite ! 14 (λ (u : Val). ‵ (fat fullShare (mirOf Window) l₉ 0 u)) (ap only
             ((Window .tells) v-last _ is-w-test-windows)) refl $
-            drop ! $ split ! $ move ! (1 ∷ []) $ split ! $ move ! (1 ∷ []) $ split ! $ move ! (1 ∷ []) $ drop ! $
-            lft-end ! tt $ move ! (0 ∷ 4 ∷ 3 ∷ []) $
+            discard ! (0 ∷ []) $ parts W (_ ∷ _ ∷ _ ∷ []) _ $ bring ! (2 ∷ []) $ lft-end ! tt $
+            bring ! (0 ∷ 3 ∷ 2 ∷ []) $
             use3 W (later (‵ (MutSlice (named 2) κ₂ u64 .own (at-x-scratch (x-scratch .name) z-test-windows-x-scratch)
             (s-x-scratch ∷ [])) ⊛ ‵ (flft κ₂ q₂))) (comes-back u64 κ₂ (ν₀-test-windows ∷ []) q₂ (x-scratch .name)
             (x-scratch .ptr .0) (x-scratch .ptr .1) 𝓤 H A W (named 2) (named 2) (now x-scratch) (length (now x-scratch)) refl
@@ -703,14 +696,14 @@ module _ (Tally Window : Value) where
             assigns ! (agg ! (and-then ! (load ! (from ! (stop !)) (look ! 8 refl)) (and-then !
             (load ! (from ! (fld ! refl (stop !))) (look-in ! 26 (sub ! 1 refl (whole !)))) (no-more !)))) (from ! (stop !))
             (init ! 6 refl (tt, (tt, (record { fits = room-x-scratch .0 }, tt)))) $
-            lft-new ! tt (λ ν₀-all-passed. move ! (1 ∷ 2 ∷ []) $
+            lft-new ! tt (λ ν₀-all-passed. bring ! (1 ∷ 1 ∷ []) $
             use2 W (later (some (λ (δ : GName). ‵ (MutSlice (named 0) (ν₀-all-passed ∷ []) u64 .own
             (at-x-scratch δ z-test-windows-x-scratch) (s-x-scratch ∷ [])) ⊛ ‵ (LentAgain u64 κ₂ (ν₀-all-passed ∷ []) q₂
             (x-scratch .name) (x-scratch .ptr .0) (x-scratch .ptr .1) δ z-test-windows-x-scratch))))
             (lends-again u64 κ₂ (ν₀-all-passed ∷ []) q₂ (x-scratch .name) (x-scratch .ptr .0) (x-scratch .ptr .1) 𝓤 H A W
             (named 2) (named 0) z-test-windows-x-scratch (length (now x-scratch)) (ap {B = ℕ} length (sym (e-test-windows .1))
             ∙ h-test-windows-x-scratch)) $
-            await ! tt $ pick ! (λ δ₀-all-passed. split ! $ move ! (2 ∷ 0 ∷ []) $ join ! $
+            await ! tt $ pick ! (λ δ₀-all-passed. split ! $ bring ! (2 ∷ 0 ∷ []) $ group ! 2 $
             use1 W (raw ((all-passed-contract all-passed-out all-passed-x-scratch 𝓤 H A) .pre
             (to-all-passed ν₀-all-passed δ₀-all-passed))) (goes-all-passed ν₀-all-passed δ₀-all-passed
             (spelled-v-last w-test-windows is-w-test-windows)) $
@@ -721,21 +714,21 @@ module _ (Tally Window : Value) where
             ⊛ ‵ (Boolean .own r (w-all-passed ∷ []))) ⊛ raw (ensured 𝓤 H A all-passed-ended
             (all-passed-clauses all-passed-out all-passed-x-scratch 𝓤) (ν₀-all-passed ∷ [], tt) (all-passed-args δ₀-all-passed)
             tt r)))) (id⊢ 𝓤 _) $
-            await ! tt $ pick ! (λ r-all-passed. split ! $ move ! (1 ∷ []) $
+            await ! tt $ pick ! (λ r-all-passed. split ! $ bring ! (1 ∷ []) $
             use1 W (some (λ (zs-all-passed : Unit {0} × (List ℕ × Unit {0})). ‵ (lasts all-passed-ended (ν₀-all-passed ∷ [], tt)
             (all-passed-args δ₀-all-passed) zs-all-passed) ⊛ raw (fact 𝓤 (all-passed-says all-passed-out all-passed-x-scratch
             v-last z-test-windows-x-scratch r-all-passed (zs-all-passed .1 .0))))) (id⊢ 𝓤 _) $
-            pick ! (λ zs-all-passed. split ! $ move ! (1 ∷ []) $
+            pick ! (λ zs-all-passed. split ! $ bring ! (1 ∷ []) $
             heard ! (all-passed-says all-passed-out all-passed-x-scratch v-last z-test-windows-x-scratch r-all-passed
             (zs-all-passed .1 .0)) (λ e-all-passed.
-            fsplit ! $ move ! (1 ∷ []) $ fsplit ! $ move ! (1 ∷ []) $ drop ! $ move ! (1 ∷ []) $ drop ! $ fsplit ! $
-            move ! (1 ∷ []) $ feqL ! (λ h-all-passed-x-scratch. move ! (1 ∷ []) $ split ! $ move ! (1 ∷ []) $
+            fparts W (_ ∷ _ ∷ []) _ $ discard ! (0 ∷ []) $ fsplit ! $ bring ! (1 ∷ []) $
+            feqL ! (λ h-all-passed-x-scratch. bring ! (1 ∷ []) $ split ! $ bring ! (1 ∷ []) $
             rewrite ! 0 (λ (r : Bool). ‵ (Boolean .own r (w-all-passed ∷ []))) (e-all-passed .0) refl $
             rewrite ! 2 (λ (l : List ℕ). ‵ (finally u64 δ₀-all-passed l)) (e-all-passed .1) refl $
             peeks ! Boolean (Is Boolean) (shows 𝓤 H A Boolean) v-result (w-all-passed ∷ []) (λ is-w-all-passed.
             land ! (from ! (stop !)) (init ! 34 refl ((bool-lawful 𝓤 H A W .typed) v-result _ is-w-all-passed .0)) $
             rewrite ! 34 (λ (u : Val). ‵ (fat fullShare tyBool l₀ 0 u)) (ap only (bool-tells v-result _ is-w-all-passed)) refl $
-            drop ! $ split ! $ move ! (1 ∷ []) $ drop ! $ lft-end ! tt $ move ! (0 ∷ 2 ∷ 1 ∷ []) $
+            discard ! (0 ∷ []) $ parts W (_ ∷ []) _ $ lft-end ! tt $ bring ! (0 ∷ 1 ∷ 0 ∷ []) $
             use3 W (later (‵ (MutSlice (named 2) κ₂ u64 .own (at-x-scratch (x-scratch .name) z-all-passed-x-scratch)
             (s-x-scratch ∷ [])) ⊛ ‵ (flft κ₂ q₂))) (comes-back u64 κ₂ (ν₀-all-passed ∷ []) q₂ (x-scratch .name)
             (x-scratch .ptr .0) (x-scratch .ptr .1) 𝓤 H A W (named 2) (named 0) z-test-windows-x-scratch
@@ -745,7 +738,7 @@ module _ (Tally Window : Value) where
             leave ! 28 refl refl $ leave ! 26 refl refl $ leave ! 24 refl refl $ leave ! 22 refl refl $
             leave ! 20 refl refl $ leave ! 18 refl refl $ leave ! 16 refl refl $ leave ! 14 refl refl $
             leave ! 12 refl refl $ leave ! 10 refl refl $ leave ! 8 refl refl $ leave ! 6 refl refl $ free0 ! $
-            move ! (5 ∷ 3 ∷ 4 ∷ 2 ∷ 0 ∷ 1 ∷ []) $
+            bring ! (5 ∷ 2 ∷ 3 ∷ 2 ∷ 0 ∷ 0 ∷ []) $
             by ! (exits (spelled-v-result w-all-passed is-w-all-passed) ((ap {B = ℕ} length (sym (e-all-passed .1))
             ∙ h-all-passed-x-scratch) ∙ (ap {B = ℕ} length (sym (e-test-windows .1)) ∙
             h-test-windows-x-scratch))))))))))))))))))))))))))))))))))))))))))))))))

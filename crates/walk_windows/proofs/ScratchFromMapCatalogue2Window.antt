@@ -21,8 +21,8 @@ use base.Fml.{Lft, Share, GName, ftrue, flft, fat}
 use prog.Wp.{Heap, WpFn, Tables}
 use ghost.Atoms.{Atoms}
 use contract.Monad.{fact}
-use types.Kit.{Given, ‵, raw, some, later, _⊛_, ⋆, _$_, _∵_, !, qed, by, move, drop, use1, use2, use3, split, join, pick}
-use types.Kit.{rewrite, fsplit, fjoin, feqL, suffices, frame, await, done}
+use types.Kit.{Given, ‵, raw, some, later, _⊛_, ⋆, _$_, _∵_, !, qed, by, use1, use2, use3, group, split, join, pick, rewrite}
+use types.Kit.{fsplit, fjoin, feqL, suffices, frame, await, done}
 use types.Run.{look, init, stop, hop, fld, from, load, addr, and-then, no-more, assigns, land, returns, enter, alloc1, alloc0}
 use types.Run.{params1, pass1, pass0, free0}
 use types.Part.{agg, whole, sub, look-in}
@@ -49,7 +49,7 @@ use denote.Exit.{yes}
 use Rattle.catalogue.proofs.Values.{Value, denotes, rowOf, mirOf, valsOf}
 use Rattle.catalogue.specs.declared.Entry.{Entry}
 use Rattle.catalogue.proofs.Entry as Entry′
-use Rattle.catalogue.proofs.Steps.{leave}
+use Rattle.catalogue.proofs.Steps.{bring, discard, parts, fparts, leave}
 use Rattle.catalogue.proofs.Lending.{LentAgain, lends-again, comes-back, LentOut, lends-out, comes-home}
 
 module _ (Window : Value) where
@@ -330,9 +330,9 @@ module _ (Window : Value) where
           qed W (‵ (flft κ₀ q₀) ∷ ‵ (flft (ν₀-fill-window ∷ []) fullShare) ∷ ‵ (ShrSlice (named 0) κ₀ u64 .own x-map
           (s-x-map ∷ [])) ∷ ‵ (MutSlice (named 1) (ν₀-fill-window ∷ []) u64 .own (at-x-scratch δ₀-fill-window (now x-scratch))
           (s-x-scratch ∷ [])) ∷ []) ∵
-          nothing ! $ move ! (2 ∷ 0 ∷ []) $ join ! $ move ! (1 ∷ 0 ∷ []) $ join ! $ nothing ! $ move ! (3 ∷ 0 ∷ []) $
-          fjoin ! $ owned ! (rowOf Window) (Is (rowOf Window)) (Window .makes 𝓤 H A) x-window _ is-x-window $ fjoin ! $
-          move ! (2 ∷ 0 ∷ []) $ fjoin ! $ move ! (1 ∷ 0 ∷ []) $ join ! $ frame ! $ done !
+          nothing ! $ bring ! (1 ∷ 1 ∷ 0 ∷ []) $ group ! 3 $ nothing ! $ bring ! (3 ∷ 0 ∷ []) $ fjoin ! $
+          owned ! (rowOf Window) (Is (rowOf Window)) (Window .makes 𝓤 H A) x-window _ is-x-window $ fjoin ! $
+          bring ! (2 ∷ 0 ∷ []) $ fjoin ! $ bring ! (1 ∷ 0 ∷ []) $ join ! $ frame ! $ done !
 
       -- ---- the caller has what `release-parts` asks
       abbrev release-parts-args : (δ₀-release-parts : GName) → RefT (List Entry) × ((denotes Window)
@@ -363,9 +363,9 @@ module _ (Window : Value) where
           qed W (‵ (flft κ₁ q₁) ∷ ‵ (flft (ν₀-release-parts ∷ []) fullShare) ∷ ‵ (ShrSlice (named 0) κ₁ Entry′.the-row .own
           x-catalogue (s-x-catalogue ∷ [])) ∷ ‵ (MutSlice (named 1) (ν₀-release-parts ∷ []) u64 .own
           (at-x-scratch δ₀-release-parts z-fill-window-x-scratch) (s-x-scratch ∷ [])) ∷ []) ∵
-          nothing ! $ move ! (2 ∷ 0 ∷ []) $ join ! $ move ! (1 ∷ 0 ∷ []) $ join ! $ nothing ! $ move ! (3 ∷ 0 ∷ []) $
-          fjoin ! $ owned ! (rowOf Window) (Is (rowOf Window)) (Window .makes 𝓤 H A) x-window _ is-x-window $ fjoin ! $
-          move ! (2 ∷ 0 ∷ []) $ fjoin ! $ move ! (1 ∷ 0 ∷ []) $ join ! $ frame ! $ done !
+          nothing ! $ bring ! (1 ∷ 1 ∷ 0 ∷ []) $ group ! 3 $ nothing ! $ bring ! (3 ∷ 0 ∷ []) $ fjoin ! $
+          owned ! (rowOf Window) (Is (rowOf Window)) (Window .makes 𝓤 H A) x-window _ is-x-window $ fjoin ! $
+          bring ! (2 ∷ 0 ∷ []) $ fjoin ! $ bring ! (1 ∷ 0 ∷ []) $ join ! $ frame ! $ done !
 
       -- ---- the caller has what `end-window` asks
       abbrev end-window-args : (δ₀-end-window : GName) → ℕ × ((denotes Window) × (RefT (List ℕ) × Unit {0}))
@@ -390,9 +390,9 @@ module _ (Window : Value) where
       goes-end-window ν₀-end-window δ₀-end-window is-v-last =
           qed W (‵ (flft (ν₀-end-window ∷ []) fullShare) ∷ ‵ (ShrSlice (named 0) (ν₀-end-window ∷ []) u64 .own
           (at-x-scratch δ₀-end-window z-release-parts-x-scratch) (s-x-scratch ∷ [])) ∷ []) ∵
-          nothing ! $ move ! (1 ∷ 0 ∷ []) $ join ! $ nothing ! $ move ! (2 ∷ 0 ∷ []) $ fjoin ! $
+          nothing ! $ bring ! (1 ∷ 0 ∷ []) $ group ! 2 $ nothing ! $ bring ! (2 ∷ 0 ∷ []) $ fjoin ! $
           owned ! (rowOf Window) (Is (rowOf Window)) (Window .makes 𝓤 H A) v-last _ is-v-last $ fjoin ! $
-          owned ! u32 (Is u32) (uint-makes 𝓤 H A W w32) x-n _ is-x-n $ fjoin ! $ move ! (1 ∷ 0 ∷ []) $ join ! $
+          owned ! u32 (Is u32) (uint-makes 𝓤 H A W w32) x-n _ is-x-n $ fjoin ! $ bring ! (1 ∷ 0 ∷ []) $ join ! $
           frame ! $ done !
 
       -- ---- the exit
@@ -408,12 +408,12 @@ module _ (Window : Value) where
           ∷ ‵ (flft κ₂ q₂) ∷ []) ∵
           suffices ! _ (ends-at 𝓤 H A ended stayed (clauses 𝓤) W bound m-v-result v-result
           (tt, (tt, (z-release-parts-x-scratch, (tt, (tt, tt))))) (tt, (tt, (l-x-scratch, (tt, (tt, tt)))))) $
-          says ! (refl, refl) $ nothing ! $ move ! (6 ∷ 0 ∷ []) $ join ! $ move ! (4 ∷ 0 ∷ []) $ join ! $
-          move ! (2 ∷ 0 ∷ []) $ join ! $ frame ! $ nothing ! $
+          says ! (refl, refl) $ nothing ! $ bring ! (2 ∷ 3 ∷ 4 ∷ 0 ∷ []) $ group ! 4 $ frame ! $ nothing ! $
           owned ! (rowOf Window) (Is (rowOf Window)) (Window .makes 𝓤 H A) x-window _ is-x-window $ fjoin ! $
-          owned ! u32 (Is u32) (uint-makes 𝓤 H A W w32) x-n _ is-x-n $ fjoin ! $ move ! (3 ∷ 0 ∷ []) $ fjoin ! $
-          move ! (2 ∷ 0 ∷ []) $ fjoin ! $ move ! (1 ∷ 0 ∷ []) $ fjoin ! $
-          owned ! (rowOf Window) (Is (rowOf Window)) (Window .makes 𝓤 H A) v-result _ is $ move ! (1 ∷ 0 ∷ []) $ done !
+          owned ! u32 (Is u32) (uint-makes 𝓤 H A W w32) x-n _ is-x-n $ fjoin ! $ bring ! (3 ∷ 0 ∷ []) $ fjoin ! $
+          bring ! (2 ∷ 0 ∷ []) $ fjoin ! $ bring ! (1 ∷ 0 ∷ []) $ fjoin ! $
+          owned ! (rowOf Window) (Is (rowOf Window)) (Window .makes 𝓤 H A) v-result _ is $ bring ! (1 ∷ 0 ∷ []) $
+          done !
 
       -- ---- the walk
       walk : (𝓣 : Tables 𝓤 H) → Triple 𝓤 (𝓣 .C #fill-window) (fill-window-contract fill-window-x-scratch 𝓤 H A)
@@ -434,27 +434,24 @@ module _ (Window : Value) where
           pass1 ! (init ! 24 refl (tt, (tt, (record { fits = room-x-map .0 }, tt)))) $
           pass1 ! (init ! 22 refl (tt, (tt, (record { fits = room-x-catalogue .0 }, tt)))) $
           pass1 ! (init ! 20 refl (tt, (tt, (record { fits = room-x-scratch .0 }, tt)))) $
-          pass1 ! (init ! 18 refl typed-x-n) $ pass1 ! (init ! 16 refl typed-x-window) $ pass0 ! $ move ! (28 ∷ []) $
-          split ! $ move ! (1 ∷ []) $ split ! $ move ! (1 ∷ []) $ split ! $ move ! (1 ∷ []) $ drop ! $
-          move ! (31 ∷ []) $ fsplit ! $ move ! (1 ∷ []) $ fsplit ! $ move ! (1 ∷ []) $ fsplit ! $ move ! (1 ∷ []) $
-          fsplit ! $ move ! (1 ∷ []) $ fsplit ! $ move ! (1 ∷ []) $ drop ! $ move ! (1 ∷ []) $ drop ! $ drop ! $
+          pass1 ! (init ! 18 refl typed-x-n) $ pass1 ! (init ! 16 refl typed-x-window) $ pass0 ! $ bring ! (28 ∷ []) $
+          parts W (_ ∷ _ ∷ _ ∷ []) _ $ bring ! (31 ∷ []) $ fparts W (_ ∷ _ ∷ _ ∷ _ ∷ _ ∷ []) _ $
+          discard ! (3 ∷ 3 ∷ []) $
           -- fill-window
           assigns ! (addr ! (from ! (fld ! refl (hop ! (look-in ! 26 (sub ! 0 refl (whole !))) (stop !))))) (from ! (stop !))
           (init ! 16 refl (tt, tt)) $
           assigns ! (agg ! (and-then ! (load ! (from ! (stop !)) (look ! 16 refl)) (and-then !
           (load ! (from ! (fld ! refl (stop !))) (look-in ! 26 (sub ! 1 refl (whole !)))) (no-more !)))) (from ! (stop !))
           (init ! 14 refl (tt, (tt, (record { fits = room-x-scratch .0 }, tt)))) $
-          move ! (2 ∷ []) $
           use1 W (‵ (ShrSlice (named 0) κ₀ u64 .own x-map (s-x-map ∷ [])) ⊛ ‵ (ShrSlice (named 0) κ₀ u64 .own x-map
           (s-x-map ∷ []))) (shr-slice-copy 𝓤 H A W (named 0) κ₀ u64 .twice x-map (s-x-map ∷ [])) $
-          split ! $ lft-new ! tt (λ ν₀-fill-window. move ! (3 ∷ 5 ∷ []) $
+          split ! $ lft-new ! tt (λ ν₀-fill-window. bring ! (4 ∷ 6 ∷ []) $
           use2 W (later (some (λ (δ : GName). ‵ (MutSlice (named 1) (ν₀-fill-window ∷ []) u64 .own
           (at-x-scratch δ (now x-scratch)) (s-x-scratch ∷ [])) ⊛ ‵ (LentAgain u64 κ₂ (ν₀-fill-window ∷ []) q₂ (x-scratch .name)
           (x-scratch .ptr .0) (x-scratch .ptr .1) δ (now x-scratch))))) (lends-again u64 κ₂ (ν₀-fill-window ∷ []) q₂
           (x-scratch .name) (x-scratch .ptr .0) (x-scratch .ptr .1) 𝓤 H A W (named 2) (named 1) (now x-scratch)
           (length (now x-scratch)) refl) $
-          await ! tt $ pick ! (λ δ₀-fill-window. split ! $ move ! (7 ∷ 2 ∷ 3 ∷ 0 ∷ []) $ move ! (2 ∷ 3 ∷ []) $ join ! $
-          move ! (2 ∷ 0 ∷ []) $ join ! $ move ! (1 ∷ 0 ∷ []) $ join ! $
+          await ! tt $ pick ! (λ δ₀-fill-window. split ! $ bring ! (6 ∷ 2 ∷ 2 ∷ 0 ∷ []) $ group ! 4 $
           use1 W (raw ((fill-window-contract fill-window-x-scratch 𝓤 H A) .pre (to-fill-window ν₀-fill-window δ₀-fill-window)))
           (goes-fill-window ν₀-fill-window δ₀-fill-window) $
           calls-at ! (fmOf 𝓤 H (W .laws) 𝓣) (fill-window-contract fill-window-x-scratch 𝓤 H A) known-fill-window
@@ -465,24 +462,22 @@ module _ (Window : Value) where
           ⊛ ‵ (Nothing .own r (w-fill-window ∷ []))) ⊛ raw (ensured 𝓤 H A fill-window-ended
           (fill-window-clauses fill-window-x-scratch 𝓤) (κ₀, (ν₀-fill-window ∷ [], tt)) (fill-window-args δ₀-fill-window) tt
           r)))) (id⊢ 𝓤 _) $
-          await ! tt $ pick ! (λ r-fill-window. split ! $ move ! (1 ∷ []) $
+          await ! tt $ pick ! (λ r-fill-window. split ! $ bring ! (1 ∷ []) $
           use1 W (some (λ (zs-fill-window : Unit {0} × (Unit {0} × (List ℕ × Unit {0}))). ‵
           (lasts fill-window-ended (κ₀, (ν₀-fill-window ∷ [], tt)) (fill-window-args δ₀-fill-window) zs-fill-window)
           ⊛ raw (fact 𝓤 (fill-window-says fill-window-x-scratch (now x-map) x-window (now x-scratch) r-fill-window
           (zs-fill-window .1 .1 .0))))) (id⊢ 𝓤 _) $
-          pick ! (λ zs-fill-window. split ! $ move ! (1 ∷ []) $
+          pick ! (λ zs-fill-window. split ! $ bring ! (1 ∷ []) $
           heard ! (fill-window-says fill-window-x-scratch (now x-map) x-window (now x-scratch) r-fill-window
           (zs-fill-window .1 .1 .0)) (λ e-fill-window.
-          fsplit ! $ move ! (1 ∷ []) $ fsplit ! $ move ! (1 ∷ []) $ fsplit ! $ move ! (1 ∷ []) $ drop ! $
-          move ! (2 ∷ []) $ drop ! $ move ! (1 ∷ []) $ drop ! $ fsplit ! $ move ! (1 ∷ []) $
-          feqL ! (λ h-fill-window-x-scratch. move ! (1 ∷ []) $ split ! $ move ! (1 ∷ []) $
+          fparts W (_ ∷ _ ∷ _ ∷ []) _ $ discard ! (0 ∷ 0 ∷ []) $ fsplit ! $ bring ! (1 ∷ []) $
+          feqL ! (λ h-fill-window-x-scratch. bring ! (1 ∷ []) $ split ! $ bring ! (1 ∷ []) $
           rewrite ! 2 (λ (l : List ℕ). ‵ (finally u64 δ₀-fill-window l)) (e-fill-window) refl $
           peeks ! Nothing (Is Nothing) (shows 𝓤 H A Nothing) v-fill-window (w-fill-window ∷ []) (λ is-w-fill-window.
           land ! (from ! (stop !)) (init ! 19 refl ((nothing-lawful 𝓤 H A W .typed) v-fill-window _ is-w-fill-window .0)) $
           rewrite ! 19 (λ (u : Val). ‵ (fat fullShare tyUnit l₇ 0 u)) (ap only (nothing-tells v-fill-window _ is-w-fill-window))
           refl $
-          drop ! $ split ! $ move ! (1 ∷ []) $ split ! $ move ! (1 ∷ []) $ drop ! $ lft-end ! tt $
-          move ! (0 ∷ 3 ∷ 2 ∷ []) $
+          discard ! (0 ∷ []) $ parts W (_ ∷ _ ∷ []) _ $ bring ! (1 ∷ []) $ lft-end ! tt $ bring ! (0 ∷ 2 ∷ 1 ∷ []) $
           use3 W (later (‵ (MutSlice (named 2) κ₂ u64 .own (at-x-scratch (x-scratch .name) z-fill-window-x-scratch)
           (s-x-scratch ∷ [])) ⊛ ‵ (flft κ₂ q₂))) (comes-back u64 κ₂ (ν₀-fill-window ∷ []) q₂ (x-scratch .name)
           (x-scratch .ptr .0) (x-scratch .ptr .1) 𝓤 H A W (named 2) (named 1) (now x-scratch) (length (now x-scratch)) refl
@@ -495,19 +490,18 @@ module _ (Window : Value) where
           assigns ! (agg ! (and-then ! (load ! (from ! (stop !)) (look ! 12 refl)) (and-then !
           (load ! (from ! (fld ! refl (stop !))) (look-in ! 26 (sub ! 1 refl (whole !)))) (no-more !)))) (from ! (stop !))
           (init ! 10 refl (tt, (tt, (record { fits = room-x-scratch .0 }, tt)))) $
-          move ! (4 ∷ []) $
+          bring ! (4 ∷ []) $
           use1 W (‵ (ShrSlice (named 1) κ₁ Entry′.the-row .own x-catalogue (s-x-catalogue ∷ []))
           ⊛ ‵ (ShrSlice (named 1) κ₁ Entry′.the-row .own x-catalogue (s-x-catalogue ∷ [])))
           (shr-slice-copy 𝓤 H A W (named 1) κ₁ Entry′.the-row .twice x-catalogue (s-x-catalogue ∷ [])) $
-          split ! $ lft-new ! tt (λ ν₀-release-parts. move ! (3 ∷ 4 ∷ []) $
+          split ! $ lft-new ! tt (λ ν₀-release-parts. bring ! (3 ∷ 3 ∷ []) $
           use2 W (later (some (λ (δ : GName). ‵ (MutSlice (named 1) (ν₀-release-parts ∷ []) u64 .own
           (at-x-scratch δ z-fill-window-x-scratch) (s-x-scratch ∷ [])) ⊛ ‵ (LentAgain u64 κ₂ (ν₀-release-parts ∷ []) q₂
           (x-scratch .name) (x-scratch .ptr .0) (x-scratch .ptr .1) δ z-fill-window-x-scratch))))
           (lends-again u64 κ₂ (ν₀-release-parts ∷ []) q₂ (x-scratch .name) (x-scratch .ptr .0) (x-scratch .ptr .1) 𝓤 H A W
           (named 2) (named 1) z-fill-window-x-scratch (length (now x-scratch)) (ap {B = ℕ} length (sym (e-fill-window))
           ∙ h-fill-window-x-scratch)) $
-          await ! tt $ pick ! (λ δ₀-release-parts. split ! $ move ! (7 ∷ 2 ∷ 3 ∷ 0 ∷ []) $ move ! (2 ∷ 3 ∷ []) $
-          join ! $ move ! (2 ∷ 0 ∷ []) $ join ! $ move ! (1 ∷ 0 ∷ []) $ join ! $
+          await ! tt $ pick ! (λ δ₀-release-parts. split ! $ bring ! (7 ∷ 2 ∷ 2 ∷ 0 ∷ []) $ group ! 4 $
           use1 W (raw ((release-parts-contract release-parts-out release-parts-x-scratch 𝓤 H A) .pre
           (to-release-parts ν₀-release-parts δ₀-release-parts))) (goes-release-parts ν₀-release-parts δ₀-release-parts) $
           calls-at ! (fmOf 𝓤 H (W .laws) 𝓣) (release-parts-contract release-parts-out release-parts-x-scratch 𝓤 H A)
@@ -518,17 +512,16 @@ module _ (Window : Value) where
           ⊛ ‵ ftrue) ⊛ ‵ ((rowOf Window) .own r (w-release-parts ∷ []))) ⊛ raw (ensured 𝓤 H A release-parts-ended
           (release-parts-clauses release-parts-out release-parts-x-scratch 𝓤) (κ₁, (ν₀-release-parts ∷ [], tt))
           (release-parts-args δ₀-release-parts) tt r)))) (id⊢ 𝓤 _) $
-          await ! tt $ pick ! (λ r-release-parts. split ! $ move ! (1 ∷ []) $
+          await ! tt $ pick ! (λ r-release-parts. split ! $ bring ! (1 ∷ []) $
           use1 W (some (λ (zs-release-parts : Unit {0} × (Unit {0} × (List ℕ × Unit {0}))). ‵
           (lasts release-parts-ended (κ₁, (ν₀-release-parts ∷ [], tt)) (release-parts-args δ₀-release-parts) zs-release-parts)
           ⊛ raw (fact 𝓤 (release-parts-says release-parts-out release-parts-x-scratch (now x-catalogue) x-window
           z-fill-window-x-scratch r-release-parts (zs-release-parts .1 .1 .0))))) (id⊢ 𝓤 _) $
-          pick ! (λ zs-release-parts. split ! $ move ! (1 ∷ []) $
+          pick ! (λ zs-release-parts. split ! $ bring ! (1 ∷ []) $
           heard ! (release-parts-says release-parts-out release-parts-x-scratch (now x-catalogue) x-window
           z-fill-window-x-scratch r-release-parts (zs-release-parts .1 .1 .0)) (λ e-release-parts.
-          fsplit ! $ move ! (1 ∷ []) $ fsplit ! $ move ! (1 ∷ []) $ fsplit ! $ move ! (1 ∷ []) $ drop ! $
-          move ! (2 ∷ []) $ drop ! $ move ! (1 ∷ []) $ drop ! $ fsplit ! $ move ! (1 ∷ []) $
-          feqL ! (λ h-release-parts-x-scratch. move ! (1 ∷ []) $ split ! $ move ! (1 ∷ []) $
+          fparts W (_ ∷ _ ∷ _ ∷ []) _ $ discard ! (0 ∷ 0 ∷ []) $ fsplit ! $ bring ! (1 ∷ []) $
+          feqL ! (λ h-release-parts-x-scratch. bring ! (1 ∷ []) $ split ! $ bring ! (1 ∷ []) $
           rewrite ! 0 (λ (r : (denotes Window)). ‵ ((rowOf Window) .own r (w-release-parts ∷ []))) (e-release-parts .0) refl $
           rewrite ! 2 (λ (l : List ℕ). ‵ (finally u64 δ₀-release-parts l)) (e-release-parts .1) refl $
           peeks ! (rowOf Window) (Is (rowOf Window)) (shows 𝓤 H A (rowOf Window)) v-last (w-release-parts ∷ [])
@@ -536,8 +529,7 @@ module _ (Window : Value) where
           land ! (from ! (stop !)) (init ! 21 refl ((Window .typed 𝓤 H A W) v-last _ is-w-release-parts .0)) $
           rewrite ! 21 (λ (u : Val). ‵ (fat fullShare (mirOf Window) l₆ 0 u)) (ap only
           ((Window .tells) v-last _ is-w-release-parts)) refl $
-          drop ! $ split ! $ move ! (1 ∷ []) $ split ! $ move ! (1 ∷ []) $ drop ! $ lft-end ! tt $
-          move ! (0 ∷ 3 ∷ 2 ∷ []) $
+          discard ! (0 ∷ []) $ parts W (_ ∷ _ ∷ []) _ $ bring ! (1 ∷ []) $ lft-end ! tt $ bring ! (0 ∷ 2 ∷ 1 ∷ []) $
           use3 W (later (‵ (MutSlice (named 2) κ₂ u64 .own (at-x-scratch (x-scratch .name) z-release-parts-x-scratch)
           (s-x-scratch ∷ [])) ⊛ ‵ (flft κ₂ q₂))) (comes-back u64 κ₂ (ν₀-release-parts ∷ []) q₂ (x-scratch .name)
           (x-scratch .ptr .0) (x-scratch .ptr .1) 𝓤 H A W (named 2) (named 1) z-fill-window-x-scratch (length (now x-scratch))
@@ -550,14 +542,14 @@ module _ (Window : Value) where
           assigns ! (agg ! (and-then ! (load ! (from ! (stop !)) (look ! 8 refl)) (and-then !
           (load ! (from ! (fld ! refl (stop !))) (look-in ! 26 (sub ! 1 refl (whole !)))) (no-more !)))) (from ! (stop !))
           (init ! 6 refl (tt, (tt, (record { fits = room-x-scratch .0 }, tt)))) $
-          lft-new ! tt (λ ν₀-end-window. move ! (1 ∷ 2 ∷ []) $
+          lft-new ! tt (λ ν₀-end-window. bring ! (1 ∷ 1 ∷ []) $
           use2 W (later (some (λ (δ : GName). ‵ (ShrSlice (named 0) (ν₀-end-window ∷ []) u64 .own
           (at-x-scratch δ z-release-parts-x-scratch) (s-x-scratch ∷ [])) ⊛ ‵ (LentOut u64 κ₂ (ν₀-end-window ∷ []) q₂
           (x-scratch .name) (x-scratch .ptr .0) (x-scratch .ptr .1) z-release-parts-x-scratch))))
           (lends-out u64 κ₂ (ν₀-end-window ∷ []) q₂ (x-scratch .name) (x-scratch .ptr .0) (x-scratch .ptr .1) 𝓤 H A W (named 2)
           (named 0) z-release-parts-x-scratch (length (now x-scratch)) ((ap {B = ℕ} length (sym (e-release-parts .1))
           ∙ h-release-parts-x-scratch) ∙ (ap {B = ℕ} length (sym (e-fill-window)) ∙ h-fill-window-x-scratch))) $
-          await ! tt $ pick ! (λ δ₀-end-window. split ! $ move ! (2 ∷ 0 ∷ []) $ join ! $
+          await ! tt $ pick ! (λ δ₀-end-window. split ! $ bring ! (2 ∷ 0 ∷ []) $ group ! 2 $
           use1 W (raw ((end-window-contract end-window-out 𝓤 H A) .pre (to-end-window ν₀-end-window δ₀-end-window)))
           (goes-end-window ν₀-end-window δ₀-end-window (spelled-v-last w-release-parts is-w-release-parts)) $
           calls-at ! (fmOf 𝓤 H (W .laws) 𝓣) (end-window-contract end-window-out 𝓤 H A) known-end-window
@@ -567,21 +559,20 @@ module _ (Window : Value) where
           use1 W (later (some (λ (r : (denotes Window)). ((‵ (flft (ν₀-end-window ∷ []) fullShare) ⊛ ‵ ftrue)
           ⊛ ‵ ((rowOf Window) .own r (w-end-window ∷ []))) ⊛ raw (ensured 𝓤 H A end-window-ended
           (end-window-clauses end-window-out 𝓤) (ν₀-end-window ∷ [], tt) (end-window-args δ₀-end-window) tt r)))) (id⊢ 𝓤 _) $
-          await ! tt $ pick ! (λ r-end-window. split ! $ move ! (1 ∷ []) $
+          await ! tt $ pick ! (λ r-end-window. split ! $ bring ! (1 ∷ []) $
           use1 W (some (λ (zs-end-window : Unit {0} × (Unit {0} × (Unit {0} × Unit {0}))). ‵
           (lasts end-window-ended (ν₀-end-window ∷ [], tt) (end-window-args δ₀-end-window) zs-end-window)
           ⊛ raw (fact 𝓤 (end-window-says end-window-out x-n v-last z-release-parts-x-scratch r-end-window)))) (id⊢ 𝓤 _) $
-          pick ! (λ zs-end-window. split ! $ move ! (1 ∷ []) $
+          pick ! (λ zs-end-window. split ! $ bring ! (1 ∷ []) $
           heard ! (end-window-says end-window-out x-n v-last z-release-parts-x-scratch r-end-window) (λ e-end-window.
-          fsplit ! $ move ! (1 ∷ []) $ fsplit ! $ move ! (1 ∷ []) $ fsplit ! $ move ! (1 ∷ []) $ drop ! $
-          move ! (2 ∷ []) $ drop ! $ move ! (1 ∷ []) $ drop ! $ drop ! $ split ! $ move ! (1 ∷ []) $
+          fparts W (_ ∷ _ ∷ _ ∷ []) _ $ discard ! (0 ∷ 0 ∷ 0 ∷ []) $ split ! $ bring ! (1 ∷ []) $
           rewrite ! 0 (λ (r : (denotes Window)). ‵ ((rowOf Window) .own r (w-end-window ∷ []))) (e-end-window) refl $
           peeks ! (rowOf Window) (Is (rowOf Window)) (shows 𝓤 H A (rowOf Window)) v-result (w-end-window ∷ [])
           (λ is-w-end-window.
           land ! (from ! (stop !)) (init ! 33 refl ((Window .typed 𝓤 H A W) v-result _ is-w-end-window .0)) $
           rewrite ! 33 (λ (u : Val). ‵ (fat fullShare (mirOf Window) l₀ 0 u)) (ap only
           ((Window .tells) v-result _ is-w-end-window)) refl $
-          drop ! $ split ! $ move ! (1 ∷ []) $ drop ! $ lft-end ! tt $
+          discard ! (0 ∷ []) $ parts W (_ ∷ []) _ $ lft-end ! tt $
           use2 W (later (‵ (MutSlice (named 2) κ₂ u64 .own (at-x-scratch (x-scratch .name) z-release-parts-x-scratch)
           (s-x-scratch ∷ [])) ⊛ ‵ (flft κ₂ q₂))) (comes-home u64 κ₂ (ν₀-end-window ∷ []) q₂ (x-scratch .name)
           (x-scratch .ptr .0) (x-scratch .ptr .1) 𝓤 H A W (named 2) (named 0) z-release-parts-x-scratch (length (now x-scratch))
@@ -591,7 +582,7 @@ module _ (Window : Value) where
           leave ! 28 refl refl $ leave ! 26 refl refl $ leave ! 24 refl refl $ leave ! 22 refl refl $
           leave ! 20 refl refl $ leave ! 18 refl refl $ leave ! 16 refl refl $ leave ! 14 refl refl $
           leave ! 12 refl refl $ leave ! 10 refl refl $ leave ! 8 refl refl $ leave ! 6 refl refl $ free0 ! $
-          move ! (5 ∷ 4 ∷ 3 ∷ 2 ∷ 0 ∷ 1 ∷ []) $
+          bring ! (5 ∷ 4 ∷ 3 ∷ 2 ∷ 0 ∷ 0 ∷ []) $
           by ! (exits (spelled-v-result w-end-window is-w-end-window) ((ap {B = ℕ} length (sym (e-release-parts .1))
           ∙ h-release-parts-x-scratch) ∙ (ap {B = ℕ} length (sym (e-fill-window)) ∙
           h-fill-window-x-scratch))))))))))))))))))))))))))))))))))))))))

@@ -23,8 +23,8 @@ use base.Fml.{Lft, Share, GName, ftrue, flft, fat, froom, fdies}
 use prog.Wp.{Heap, Out as Outs, Env, Calls, Loops, Wp, WpFn, Tables, afterSeq, afterBlock, afterTurn, atReturn}
 use ghost.Atoms.{Atoms}
 use contract.Monad.{fact}
-use types.Kit.{Given, Item, Sq, ‵, raw, some, later, _⊛_, ⋆, anyQ, atRet, runs, _$_, _∵_, !, qed, by, move, drop, use1, use2}
-use types.Kit.{use3, split, join, pick, rewrite, fsplit, fjoin, feqL, suffices, frame, await, done}
+use types.Kit.{Given, Item, Sq, ‵, raw, some, later, _⊛_, ⋆, anyQ, atRet, runs, _$_, _∵_, !, qed, by, use1, use2, use3, group}
+use types.Kit.{split, join, pick, rewrite, fsplit, fjoin, feqL, suffices, frame, await, done}
 use types.Run.{look, init, store, forget, stop, hop, fld, from, load, lit, addr, and-then, no-more, of-opd, bin, assigns}
 use types.Run.{assigns-last, stays, leaves-loop, first, blocks, exec, loops, again, Below, land, returns, enter, alloc1, alloc0}
 use types.Run.{params1, pass1, pass0, free0}
@@ -51,7 +51,7 @@ use denote.Exit.{yes}
 use Rattle.catalogue.proofs.Values.{Value, denotes, rowOf, mirOf, valsOf}
 use Rattle.catalogue.specs.declared.Entry.{Entry}
 use Rattle.catalogue.proofs.Entry as Entry′
-use Rattle.catalogue.proofs.Steps.{leave, leave-room, is-true, is-false, Less, by-size}
+use Rattle.catalogue.proofs.Steps.{bring, discard, parts, fparts, leave, leave-room, is-true, is-false, Less, by-size}
 use Rattle.catalogue.proofs.Lending.{LentAgain, lends-again, comes-back}
 
 module _ (Window : Value) where
@@ -302,10 +302,10 @@ module _ (Window : Value) where
           ∷ ‵ (ShrSlice (named 0) κ₀ u64 .own x-map (s-x-map ∷ [])) ∷ ‵ (ShrSlice (named 1) κ₁ Entry′.the-row .own x-catalogue
           (s-x-catalogue ∷ [])) ∷ ‵ (MutSlice (named 2) (ν₀-test-window ∷ []) u64 .own (at-x-scratch δ₀-test-window l-x-scratch)
           (s-x-scratch ∷ [])) ∷ []) ∵
-          nothing ! $ move ! (3 ∷ 0 ∷ []) $ join ! $ move ! (2 ∷ 0 ∷ []) $ join ! $ move ! (1 ∷ 0 ∷ []) $ join ! $
-          nothing ! $ owned ! (rowOf Window) (Is (rowOf Window)) (Window .makes 𝓤 H A) v-state _ is-v-state $ fjoin ! $
-          owned ! u32 (Is u32) (uint-makes 𝓤 H A W w32) x-n _ is-x-n $ fjoin ! $ move ! (4 ∷ 0 ∷ []) $ fjoin ! $
-          move ! (3 ∷ 0 ∷ []) $ fjoin ! $ move ! (2 ∷ 0 ∷ []) $ fjoin ! $ move ! (1 ∷ 0 ∷ []) $ join ! $ frame ! $
+          nothing ! $ bring ! (1 ∷ 1 ∷ 1 ∷ 0 ∷ []) $ group ! 4 $ nothing ! $
+          owned ! (rowOf Window) (Is (rowOf Window)) (Window .makes 𝓤 H A) v-state _ is-v-state $ fjoin ! $
+          owned ! u32 (Is u32) (uint-makes 𝓤 H A W w32) x-n _ is-x-n $ fjoin ! $ bring ! (4 ∷ 0 ∷ []) $ fjoin ! $
+          bring ! (3 ∷ 0 ∷ []) $ fjoin ! $ bring ! (2 ∷ 0 ∷ []) $ fjoin ! $ bring ! (1 ∷ 0 ∷ []) $ join ! $ frame ! $
           done !
 
       -- ---- the exit
@@ -322,13 +322,12 @@ module _ (Window : Value) where
           ∷ []) ∵
           suffices ! _ (ends-at 𝓤 H A ended stayed (clauses 𝓤) W bound (machine-state r) r
           (tt, (tt, (z-x-scratch, (tt, (tt, (tt, tt)))))) (tt, (tt, (l-x-scratch, (tt, (tt, (tt, tt))))))) $
-          says ! said $ nothing ! $ move ! (6 ∷ 0 ∷ []) $ join ! $ move ! (4 ∷ 0 ∷ []) $ join ! $ move ! (2 ∷ 0 ∷ []) $
-          join ! $ frame ! $ nothing ! $
+          says ! said $ nothing ! $ bring ! (2 ∷ 3 ∷ 4 ∷ 0 ∷ []) $ group ! 4 $ frame ! $ nothing ! $
           owned ! (rowOf Window) (Is (rowOf Window)) (Window .makes 𝓤 H A) x-start _ is-x-start $ fjoin ! $
           owned ! usize (Is usize) (uint-makes 𝓤 H A W w64) x-count _ is-x-count $ fjoin ! $
-          owned ! u32 (Is u32) (uint-makes 𝓤 H A W w32) x-n _ is-x-n $ fjoin ! $ move ! (3 ∷ 0 ∷ []) $ fjoin ! $
-          move ! (2 ∷ 0 ∷ []) $ fjoin ! $ move ! (1 ∷ 0 ∷ []) $ fjoin ! $
-          owned ! (rowOf Window) (Is (rowOf Window)) (Window .makes 𝓤 H A) r _ is $ move ! (1 ∷ 0 ∷ []) $ done !
+          owned ! u32 (Is u32) (uint-makes 𝓤 H A W w32) x-n _ is-x-n $ fjoin ! $ bring ! (3 ∷ 0 ∷ []) $ fjoin ! $
+          bring ! (2 ∷ 0 ∷ []) $ fjoin ! $ bring ! (1 ∷ 0 ∷ []) $ fjoin ! $
+          owned ! (rowOf Window) (Is (rowOf Window)) (Window .makes 𝓤 H A) r _ is $ bring ! (1 ∷ 0 ∷ []) $ done !
 
       module _ (𝓣 : Tables 𝓤 H) (known-test-window : Triple 𝓤 (𝓣 .C #test-window) (test-window-contract test-window-out
           test-window-x-scratch 𝓤 H A)) (l₀ l₁ l₂ l₃ l₄ l₅ l₆ l₇ l₈ l₉ l₁₀ l₁₁ : ℕ) where
@@ -476,19 +475,17 @@ module _ (Window : Value) where
               (init ! 6 refl (tt, (tt, (record { fits = room-x-scratch .0 }, tt)))) $
               use1 W (‵ (ShrSlice (named 0) κ₀ u64 .own x-map (s-x-map ∷ [])) ⊛ ‵ (ShrSlice (named 0) κ₀ u64 .own x-map
               (s-x-map ∷ []))) (shr-slice-copy 𝓤 H A W (named 0) κ₀ u64 .twice x-map (s-x-map ∷ [])) $
-              split ! $ move ! (3 ∷ []) $
+              split ! $ bring ! (3 ∷ []) $
               use1 W (‵ (ShrSlice (named 1) κ₁ Entry′.the-row .own x-catalogue (s-x-catalogue ∷ []))
               ⊛ ‵ (ShrSlice (named 1) κ₁ Entry′.the-row .own x-catalogue (s-x-catalogue ∷ [])))
               (shr-slice-copy 𝓤 H A W (named 1) κ₁ Entry′.the-row .twice x-catalogue (s-x-catalogue ∷ [])) $
-              split ! $ lft-new ! tt (λ ν₀-test-window. move ! (7 ∷ 8 ∷ []) $
+              split ! $ lft-new ! tt (λ ν₀-test-window. bring ! (7 ∷ 7 ∷ []) $
               use2 W (later (some (λ (δ : GName). ‵ (MutSlice (named 2) (ν₀-test-window ∷ []) u64 .own
               (at-x-scratch δ (x .z-x-scratch)) (s-x-scratch ∷ [])) ⊛ ‵ (LentAgain u64 κ₂ (ν₀-test-window ∷ []) q₂
               (x-scratch .name) (x-scratch .ptr .0) (x-scratch .ptr .1) δ (x .z-x-scratch)))))
               (lends-again u64 κ₂ (ν₀-test-window ∷ []) q₂ (x-scratch .name) (x-scratch .ptr .0) (x-scratch .ptr .1) 𝓤 H A W
               (named 2) (named 2) (x .z-x-scratch) (length (now x-scratch)) (x .l-x-scratch)) $
-              await ! tt $ pick ! (λ δ₀-test-window. split ! $ move ! (7 ∷ 8 ∷ 2 ∷ 5 ∷ 3 ∷ 0 ∷ []) $ move ! (4 ∷ 5 ∷ []) $
-              join ! $ move ! (4 ∷ 0 ∷ []) $ join ! $ move ! (3 ∷ 0 ∷ []) $ join ! $ move ! (2 ∷ 0 ∷ []) $ join ! $
-              move ! (1 ∷ 0 ∷ []) $ join ! $
+              await ! tt $ pick ! (λ δ₀-test-window. split ! $ bring ! (7 ∷ 7 ∷ 2 ∷ 4 ∷ 2 ∷ 0 ∷ []) $ group ! 6 $
               use1 W (raw ((test-window-contract test-window-out test-window-x-scratch 𝓤 H A) .pre
               (to-test-window ν₀-test-window δ₀-test-window (x .state) (x .z-x-scratch))))
               (goes-test-window ν₀-test-window δ₀-test-window (x .state) (x .z-x-scratch) (x .is-state)) $
@@ -502,33 +499,31 @@ module _ (Window : Value) where
               ⊛ raw (ensured 𝓤 H A test-window-ended (test-window-clauses test-window-out test-window-x-scratch 𝓤)
               (κ₀, (κ₁, (ν₀-test-window ∷ [], tt))) (test-window-args δ₀-test-window (x .state) (x .z-x-scratch)) tt r))))
               (id⊢ 𝓤 _) $
-              await ! tt $ pick ! (λ r-test-window. split ! $ move ! (1 ∷ []) $
+              await ! tt $ pick ! (λ r-test-window. split ! $ bring ! (1 ∷ []) $
               use1 W (some (λ (zs-test-window : Unit {0} × (Unit {0} × (List ℕ × (Unit {0} × (Unit {0} × Unit {0}))))). ‵
               (lasts test-window-ended
               (κ₀, (κ₁, (ν₀-test-window ∷ [], tt))) (test-window-args δ₀-test-window (x .state) (x .z-x-scratch))
               zs-test-window) ⊛ raw (fact 𝓤 (test-window-says test-window-out test-window-x-scratch (now x-map)
               (now x-catalogue) (x .z-x-scratch) x-n (x .state) r-test-window (zs-test-window .1 .1 .0))))) (id⊢ 𝓤 _) $
-              pick ! (λ zs-test-window. split ! $ move ! (1 ∷ []) $
+              pick ! (λ zs-test-window. split ! $ bring ! (1 ∷ []) $
               heard ! (test-window-says test-window-out test-window-x-scratch (now x-map) (now x-catalogue) (x .z-x-scratch) x-n
               (x .state) r-test-window (zs-test-window .1 .1 .0)) (λ e-test-window.
-              fsplit ! $ move ! (1 ∷ []) $ fsplit ! $ move ! (1 ∷ []) $ fsplit ! $ move ! (1 ∷ []) $ fsplit ! $
-              move ! (1 ∷ []) $ fsplit ! $ move ! (1 ∷ []) $ drop ! $ move ! (4 ∷ []) $ drop ! $ move ! (3 ∷ []) $ drop ! $
-              move ! (2 ∷ []) $ fsplit ! $ move ! (1 ∷ []) $ feqL ! (λ h-test-window-x-scratch. move ! (2 ∷ []) $ drop ! $
-              move ! (1 ∷ []) $ drop ! $ move ! (1 ∷ []) $ split ! $ move ! (1 ∷ []) $
+              fparts W (_ ∷ _ ∷ _ ∷ _ ∷ _ ∷ []) _ $ discard ! (0 ∷ 0 ∷ 1 ∷ 1 ∷ []) $ fsplit ! $ bring ! (1 ∷ []) $
+              feqL ! (λ h-test-window-x-scratch. bring ! (1 ∷ []) $ split ! $ bring ! (1 ∷ []) $
               peeks ! (rowOf Window) (Is (rowOf Window)) (shows 𝓤 H A (rowOf Window)) r-test-window (w-test-window ∷ [])
               (λ is-w-test-window.
               land ! (from ! (stop !)) (store ! 14 refl ((Window .typed 𝓤 H A W) r-test-window _ is-w-test-window .0)) $
               rewrite ! 14 (λ (u : Val). ‵ (fat fullShare (mirOf Window) l₇ 0 u)) (ap only
               ((Window .tells) r-test-window _ is-w-test-window)) refl $
-              drop ! $ split ! $ move ! (1 ∷ []) $ split ! $ move ! (1 ∷ []) $ split ! $ move ! (1 ∷ []) $ drop ! $
-              lft-end ! tt $ move ! (0 ∷ 4 ∷ 3 ∷ []) $
+              discard ! (0 ∷ []) $ parts W (_ ∷ _ ∷ _ ∷ []) _ $ bring ! (2 ∷ []) $ lft-end ! tt $
+              bring ! (0 ∷ 3 ∷ 2 ∷ []) $
               use3 W (later (‵ (MutSlice (named 2) κ₂ u64 .own (at-x-scratch (x-scratch .name) (zs-test-window .1 .1 .0))
               (s-x-scratch ∷ [])) ⊛ ‵ (flft κ₂ q₂))) (comes-back u64 κ₂ (ν₀-test-window ∷ []) q₂ (x-scratch .name)
               (x-scratch .ptr .0) (x-scratch .ptr .1) 𝓤 H A W (named 2) (named 2) (x .z-x-scratch) (length (now x-scratch))
               (x .l-x-scratch) room-x-scratch δ₀-test-window (zs-test-window .1 .1 .0) h-test-window-x-scratch) $
               await ! tt $ split ! $
               -- the turn is over
-              move ! (5 ∷ 3 ∷ 4 ∷ 2 ∷ 0 ∷ 1 ∷ []) $
+              bring ! (5 ∷ 2 ∷ 3 ∷ 2 ∷ 0 ∷ 0 ∷ []) $
               assigns-last ! (bin ! (load ! (from ! (stop !)) (look ! 12 refl)) (lit ! tt) (record { fits = next-fits }))
               (from ! (stop !)) (store ! 12 refl (tt, record { fits = next-fits })) $
               forget ! 6 refl $ forget ! 8 refl $ forget ! 10 refl $
@@ -559,14 +554,11 @@ module _ (Window : Value) where
           pass1 ! (init ! 18 refl (tt, (tt, (record { fits = room-x-catalogue .0 }, tt)))) $
           pass1 ! (init ! 16 refl (tt, (tt, (record { fits = room-x-scratch .0 }, tt)))) $
           pass1 ! (init ! 14 refl typed-x-n) $ pass1 ! (init ! 12 refl typed-x-count) $
-          pass1 ! (init ! 10 refl typed-x-start) $ pass0 ! $ move ! (24 ∷ []) $ split ! $ move ! (1 ∷ []) $ split ! $
-          move ! (1 ∷ []) $ split ! $ move ! (1 ∷ []) $ drop ! $ move ! (27 ∷ []) $ fsplit ! $ move ! (1 ∷ []) $
-          fsplit ! $ move ! (1 ∷ []) $ fsplit ! $ move ! (1 ∷ []) $ fsplit ! $ move ! (1 ∷ []) $ fsplit ! $
-          move ! (1 ∷ []) $ fsplit ! $ move ! (1 ∷ []) $ drop ! $ move ! (2 ∷ []) $ drop ! $ move ! (1 ∷ []) $ drop ! $
-          drop ! $
+          pass1 ! (init ! 10 refl typed-x-start) $ pass0 ! $ bring ! (24 ∷ []) $ parts W (_ ∷ _ ∷ _ ∷ []) _ $
+          bring ! (27 ∷ []) $ fparts W (_ ∷ _ ∷ _ ∷ _ ∷ _ ∷ _ ∷ []) _ $ discard ! (3 ∷ 3 ∷ 3 ∷ []) $
           assigns ! (of-opd ! (load ! (from ! (stop !)) (look ! 16 refl))) (from ! (stop !)) (init ! 14 refl typed-x-start) $
           assigns ! (of-opd ! (lit ! tt)) (from ! (stop !)) (init ! 12 refl (tt, record { fits = lit< tt })) $
-          move ! (2 ∷ 5 ∷ 1 ∷ 4 ∷ 0 ∷ 3 ∷ []) $
+          bring ! (0 ∷ 2 ∷ 0 ∷ 1 ∷ 0 ∷ 0 ∷ []) $
           first ! $ blocks ! $ loops ! 𝓣 (Less size) (by-size size) (I 𝓣 known-test-window l₀ l₁ l₂ l₃ l₄ l₅ l₆ l₇ l₈ l₉ l₁₀
           l₁₁) (turn-at 𝓣 known-test-window l₀ l₁ l₂ l₃ l₄ l₅ l₆ l₇ l₈ l₉ l₁₀ l₁₁) at-first))))))))))))
 
