@@ -12,9 +12,9 @@ use catalogue_standings::opening::refused_row;
 use map_blocks::run::FREE;
 use map_blocks::run::mark;
 use refusals::Out;
+use refusals::follow;
+use refusals::guide_fits;
 use refusals::refusal;
-use refusals_guides::follow;
-use refusals_guides::guide_fits;
 
 pub fn release(
     n: u32,

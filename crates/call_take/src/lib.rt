@@ -20,7 +20,7 @@ use map_blocks::run::TAKEN;
 use map_blocks::run::mark;
 use map_space::space;
 use refusals::Out;
-use refusals_guides::follow;
+use refusals::follow;
 
 // The k blocks from start on are marked taken and filled with zeros. A summary that guides the call follows the map.
 pub fn occupy(

@@ -198,7 +198,7 @@ pub fn release_guided(
 pub fn beside_fits(map: &[u64], summary: &[u32]) -> bool
     ensures { λ r. ⌜ r ≡ besideFits (now (map .entry)) (now (summary .entry)) ⌝ }
 {
-    refusals_guides::guide_fits(true, map.len(), summary.len())
+    refusals::guide_fits(true, map.len(), summary.len())
 }
 
 // Builds the summary anew, if the call was accepted (document 02 (l)).

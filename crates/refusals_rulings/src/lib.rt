@@ -18,7 +18,7 @@ use catalogue_standings::opening::refused_row;
 use catalogue_standings::opening::row_of;
 use map_blocks::Found;
 use refusals::Figures;
-use refusals_guides::guide_fits;
+use refusals::guide_fits;
 use refusals_runs::figures_wrong;
 use refusals_runs::find_run;
 use refusals_runs::over_limit;

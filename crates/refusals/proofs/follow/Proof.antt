@@ -1,4 +1,4 @@
--- `refusals_guides::follow` meets its contract.
+-- `refusals::follow` meets its contract.
 -- Assumes nothing.
 use mathlib.Core.Path.{_≡_, sym, ap, subst, _∙_}
 use mathlib.Core.Bool.{Bool, true}
@@ -8,9 +8,9 @@ use borrow.Author.Needs.{needs}
 use borrow.Author.Tests.{eqb-true}
 use denote.Ref.{now}
 use Rattle.summary.specs.Summary.{summaryLength}
 use Rattle.refusals.specs.Guides.{guideFits, guideAfter}
-use Rattle.refusals_guides.proofs.follow.Statement.{statement}
-use Rattle.refusals_guides.proofs.follow.Tie as tie
+use Rattle.refusals.proofs.follow.Statement.{statement}
+use Rattle.refusals.proofs.follow.Tie as tie
 
 update-requires : tie.Need-update-requires
 update-requires c κs =

@@ -1,12 +1,12 @@
--- `refusals_guides::guide_fits` meets its contract.
+-- `refusals::guide_fits` meets its contract.
 -- Assumes nothing.
 use mathlib.Core.Path.{refl, ap}
 use Prim.Native.Nat.{ℕ}
 use lib.Dec.{eqb}
 use borrow.Author.Needs.{needs}
 use borrow.Author.Tests.{lt-leb, le-leb, not-true, not-false}
-use Rattle.refusals_guides.proofs.guide_fits.Statement.{statement}
-use Rattle.refusals_guides.proofs.guide_fits.Tie as tie
+use Rattle.refusals.proofs.guide_fits.Statement.{statement}
+use Rattle.refusals.proofs.guide_fits.Tie as tie
 
 returns : tie.Need-returns
 returns c = rw (not-true (c .before .args .guided) (c .if1 .taken)) refl
