@@ -61,7 +61,7 @@ fn show_dated_core(
         × (now (buffer .exit) ≡ datedBufferAt q place year month day (now (buffer .entry))) ⌝ }
 {
     let entry = slot.entry;
-    let answer = call_dated::show_dated(
+    let answer = call_show::dated::show_dated(
         shape.blocks,
         shape.free,
         map,

@@ -7,8 +7,8 @@ use Rattle.calendar.specs.Calendar.{dateOf}
 use Rattle.refusals.proofs.ShowDated.{by-first, by-term, by-block, term-zero}
 use Rattle.refusals.proofs.Showing.{showing-zero, number-fits, in-card, first-in-card, sized-buffer}
 use borrow.Author.Needs.{needs}
-use Rattle.call_dated.proofs.show_dated.Statement.{statement}
-use Rattle.call_dated.proofs.show_dated.Tie as tie
+use Rattle.call_show.proofs.dated.show_dated.Statement.{statement}
+use Rattle.call_show.proofs.dated.show_dated.Tie as tie
 
 showing-row-requires : tie.Need-showing-row-requires
 showing-row-requires c κs = search needs

@@ -13,8 +13,8 @@ use Rattle.catalogue_standings.specs.Rows.{rowNumber}
 use Rattle.catalogue_standings.proofs.Tested.{fails, holds}
 use Rattle.refusals.proofs.ShowDated.{no-date, first-unsound, outside, within}
 use borrow.Author.Needs.{needs}
-use Rattle.call_dated.proofs.term_row.Statement.{statement}
-use Rattle.call_dated.proofs.term_row.Tie as tie
+use Rattle.call_show.proofs.dated.term_row.Statement.{statement}
+use Rattle.call_show.proofs.dated.term_row.Tie as tie
 
 day-number-requires : tie.Need-day-number-requires
 day-number-requires c κs = search needs

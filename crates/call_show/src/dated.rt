@@ -9,6 +9,8 @@ ghost use Rattle.calendar.specs.Term.{termOf, inTerm};
 ghost use Rattle.catalogue_standings.specs.Rows.{rowNumber};
 ghost use Rattle.refusals.specs.Lent.{lent};
 ghost use Rattle.refusals.specs.Effects.{termVerdict, showDatedAnswer, showDatedBuffer};
+use crate::place::show_block;
+use crate::place::showing_row;
 use block::BLOCK;
 use block::PAYLOAD;
 use blocks_of_card::PAYLOAD_START;
@@ -16,8 +18,6 @@ use blocks_of_card::sound_block;
 use calendar::Dated;
 use calendar::day_number;
 use calendar::in_term;
-use call_show::place::show_block;
-use call_show::place::showing_row;
 use catalogue::Entry;
 use catalogue_standings::Answer;
 

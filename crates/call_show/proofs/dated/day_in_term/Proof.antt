@@ -6,8 +6,8 @@ use Prim.Native.Nat.{ℕ}
 use Rattle.blocks_of_card.proofs.Card.{lent-payload}
 use Rattle.calendar.specs.Term.{termOf, inTerm}
 use borrow.Author.Needs.{needs}
-use Rattle.call_dated.proofs.day_in_term.Statement.{statement}
-use Rattle.call_dated.proofs.day_in_term.Tie as tie
+use Rattle.call_show.proofs.dated.day_in_term.Statement.{statement}
+use Rattle.call_show.proofs.dated.day_in_term.Tie as tie
 
 mul-start : tie.Need-mul-start
 mul-start c = search needs
