@@ -2,8 +2,8 @@
 ghost use mathlib.Core.Path.{_≡_};
 ghost use Rattle.refusals.specs.Lent.{lent};
 ghost use Rattle.refusals.specs.Effects.{completeOut};
-use call_fillings::Filling;
-use call_fillings::look;
+use crate::places::Filling;
+use crate::places::look;
 use catalogue::COMPLETE;
 use catalogue::Entry;
 use catalogue_standings::Answer;

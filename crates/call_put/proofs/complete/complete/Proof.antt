@@ -9,15 +9,15 @@ use borrow.Author.Needs.{needs}
 use denote.Ref.{now}
 use Rattle.catalogue.specs.Entries.{completeMark}
 use Rattle.refusals.specs.Effects.{entryOf, outOf, refusalOut, completeOut}
-use Rattle.call_fillings.specs.Fillings.{fillingOf}
+use Rattle.call_put.specs.Fillings.{fillingOf}
 use Rattle.catalogue_standings.specs.Openings.{refusedRow, rowOf}
 use Rattle.catalogue_standings.specs.Rows.{accepted, refused}
 use Rattle.catalogue_standings.specs.declared.Answer.the-variants as answer
-use Rattle.call_fillings.specs.declared.Filling.{Filling}
-use Rattle.call_fillings.specs.declared.Filling.the-variants.{Filled, Blank, Broken}
+use Rattle.call_put.specs.declared.places.Filling.{Filling}
+use Rattle.call_put.specs.declared.places.Filling.the-variants.{Filled, Blank, Broken}
 use Rattle.catalogue_standings.specs.declared.Opened.the-variants.{Stands}
 use Rattle.catalogue_standings.specs.declared.Standing.the-variants.{Open}
-use Rattle.call_fillings.proofs.Fillings.{was-broken, was-blank, was-filled}
+use Rattle.call_put.proofs.Fillings.{was-broken, was-blank, was-filled}
 use Rattle.refusals.specs.Lent.{Lent, lent}
 use Rattle.refusals.proofs.Lent.{allFits, standing, first, limits, extent, refused-first, stands-first}
 use Rattle.catalogue_standings.proofs.Openings.{opened, skip, stop, none-left}

@@ -4,7 +4,7 @@ ghost use Prim.Native.Nat.{_+_, _*_, _≤_};
 ghost use lib.ListN.{length};
 ghost use Rattle.blocks_of_card.specs.Card.{blockOf};
 ghost use Rattle.block_seals.specs.Sealed.{blank, sound};
-ghost use Rattle.call_fillings.specs.Fillings.{fillingOf, orBlank, withPlace};
+ghost use Rattle.call_put.specs.Fillings.{fillingOf, orBlank, withPlace};
 use blocks_of_card::blank_block;
 use blocks_of_card::sound_block;
 

@@ -20,11 +20,11 @@ use Rattle.map_blocks.specs.declared.Found.the-variants.{At, Nothing}
 use Rattle.map_blocks.proofs.Runs.{all-intro, all-elim, all-break}
 use denote.Enum.Declared as Declared
 use types.Run as Run
-use Rattle.call_fillings.proofs.Filling as FillingType
+use Rattle.call_put.proofs.places.Filling as FillingType
 use Rattle.catalogue_standings.specs.Searches.{startAt}
-use Rattle.call_fillings.specs.Fillings.{blankAt, fillingOf, withPlace}
-use Rattle.call_fillings.specs.declared.Filling.{Filling}
-use Rattle.call_fillings.specs.declared.Filling.the-variants.{Filled, Blank, Broken}
+use Rattle.call_put.specs.Fillings.{blankAt, fillingOf, withPlace}
+use Rattle.call_put.specs.declared.places.Filling.{Filling}
+use Rattle.call_put.specs.declared.places.Filling.the-variants.{Filled, Blank, Broken}
 use Rattle.map_blocks.proofs.Least.{least-passes, none-passes, least-more}
 
 -- ---- a blank block is not sound

@@ -5,8 +5,8 @@ use mathlib.Core.Bool.{Bool, _||_, cond}
 use Rattle.map_blocks.specs.Blocks.{all, least}
 use Rattle.map_blocks.specs.declared.Found.{Found}
 use Rattle.map_blocks.specs.declared.Found.the-variants.{At, Nothing}
-use Rattle.call_fillings.specs.declared.Filling.{Filling}
-use Rattle.call_fillings.specs.declared.Filling.the-variants.{Filled, Blank, Broken}
+use Rattle.call_put.specs.declared.places.Filling.{Filling}
+use Rattle.call_put.specs.declared.places.Filling.the-variants.{Filled, Blank, Broken}
 
 -- The lowest blank place, or none.
 abbrev pub blankAt : Found → Filling

@@ -1,10 +1,10 @@
--- `call_fillings::with_place` meets its contract, test by test.
+-- `call_put::places::with_place` meets its contract, test by test.
 -- Assumes nothing.
 use mathlib.Core.Path.{sym, _∙_}
 use borrow.Author.Needs.{needs}
-use Rattle.call_fillings.specs.Fillings.{withPlace}
-use Rattle.call_fillings.proofs.with_place.Statement.{statement}
-use Rattle.call_fillings.proofs.with_place.Tie as tie
+use Rattle.call_put.specs.Fillings.{withPlace}
+use Rattle.call_put.proofs.places.with_place.Statement.{statement}
+use Rattle.call_put.proofs.places.with_place.Tie as tie
 
 sound-block-requires : tie.Need-sound-block-requires
 sound-block-requires c κs = search needs

@@ -1,11 +1,11 @@
--- `call_fillings::or_blank` meets its contract, case by case.
+-- `call_put::places::or_blank` meets its contract, case by case.
 -- Assumes nothing.
 use mathlib.Core.Path.{sym, ap}
 use borrow.Author.Needs.{needs}
-use Rattle.call_fillings.specs.Fillings.{orBlank}
-use Rattle.call_fillings.specs.declared.Filling.{Filling}
-use Rattle.call_fillings.proofs.or_blank.Statement.{statement}
-use Rattle.call_fillings.proofs.or_blank.Tie as tie
+use Rattle.call_put.specs.Fillings.{orBlank}
+use Rattle.call_put.specs.declared.places.Filling.{Filling}
+use Rattle.call_put.proofs.places.or_blank.Statement.{statement}
+use Rattle.call_put.proofs.places.or_blank.Tie as tie
 
 enum-told : tie.Need-enum-told
 enum-told c = search needs

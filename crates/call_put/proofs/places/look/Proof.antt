@@ -1,4 +1,4 @@
--- `call_fillings::look` meets its contract. The loop's invariant: the places passed are blank or sound each, and the
+-- `call_put::places::look` meets its contract. The loop's invariant: the places passed are blank or sound each, and the
 -- lowest blank one among them is known. The measure is how many are left.
 -- Assumes nothing.
 use mathlib.Core.Path.{_≡_, ap, _∙_}
@@ -10,12 +10,12 @@ use lib.ListN.{length}
 use denote.Ref.{now}
 use Rattle.blocks_of_card.specs.Card.{blockOf}
 use Rattle.block_seals.specs.Sealed.{blank, sound}
-use Rattle.call_fillings.specs.Fillings.{fillingOf}
-use Rattle.call_fillings.proofs.Fillings.{Passed, none-passed, all-passed, broken, breaks, passed-more, not-broken}
-use Rattle.call_fillings.proofs.Fillings.{blank-apart}
+use Rattle.call_put.specs.Fillings.{fillingOf}
+use Rattle.call_put.proofs.Fillings.{Passed, none-passed, all-passed, broken, breaks, passed-more, not-broken}
+use Rattle.call_put.proofs.Fillings.{blank-apart}
 use borrow.Author.Needs.{needs}
-use Rattle.call_fillings.proofs.look.Statement.{statement}
-use Rattle.call_fillings.proofs.look.Tie as tie
+use Rattle.call_put.proofs.places.look.Statement.{statement}
+use Rattle.call_put.proofs.places.look.Tie as tie
 
 abbrev blankIn : List ℕ → ℕ → ℕ → Bool
 blankIn card start p = blank (blockOf card (start + p))
