@@ -4,8 +4,8 @@ ghost use lib.ListN.{length};
 ghost use Rattle.call_summary.specs.Answers.{summaryFits, buildAnswer, builtSummary, checkAnswer};
 use catalogue_standings::Answer;
 use catalogue_standings::opening::shape_fits;
+use summary::check;
 use summary::summary_len;
-use summary_check::check;
 use summary_write::build;
 
 // Row 1 for the shape, the map's length and the summary's.

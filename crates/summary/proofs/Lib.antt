@@ -1,4 +1,5 @@
 -- Laws that the proofs of several functions cite, and those for the crates above.
+mod Checking
 pub mod Numbers
 pub mod Own
 pub mod Rebuilding

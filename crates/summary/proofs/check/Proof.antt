@@ -1,11 +1,11 @@
--- `summary_check::check` meets its contract: the summary is the map's own exactly if every group below group 0 is right.
+-- `summary::check` meets its contract: the summary is the map's own exactly if every group below group 0 is right.
 -- Assumes nothing.
 use lib.ListN.{length}
 use borrow.Author.Needs.{needs}
 use denote.Ref.{now}
 use Rattle.summary.proofs.Own.{decided, sited-whole}
-use Rattle.summary_check.proofs.check.Statement.{statement}
-use Rattle.summary_check.proofs.check.Tie as tie
+use Rattle.summary.proofs.check.Statement.{statement}
+use Rattle.summary.proofs.check.Tie as tie
 
 words-of-requires : tie.Need-words-of-requires
 words-of-requires c κs = search needs

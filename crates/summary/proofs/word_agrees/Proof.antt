@@ -1,10 +1,10 @@
--- `summary_check::word_agrees` meets its contract.
+-- `summary::word_agrees` meets its contract.
 -- Assumes nothing.
 use mathlib.Core.Path.{_∙_}
-use Rattle.summary_check.proofs.Checking.{decides-same}
+use Rattle.summary.proofs.Checking.{decides-same}
 use borrow.Author.Needs.{needs}
-use Rattle.summary_check.proofs.word_agrees.Statement.{statement}
-use Rattle.summary_check.proofs.word_agrees.Tie as tie
+use Rattle.summary.proofs.word_agrees.Statement.{statement}
+use Rattle.summary.proofs.word_agrees.Tie as tie
 
 read-requires : tie.Need-read-requires
 read-requires c κs = search needs

@@ -1,14 +1,14 @@
--- `summary_check::halves_agree` meets its contract.
+-- `summary::halves_agree` meets its contract.
 -- Assumes nothing.
 use mathlib.Core.Path.{ap₂, _∙_}
 use Prim.Native.Nat.{_*_}
 use Rattle.summary_groups.specs.declared.Group.{Group}
 use Rattle.summary_groups.specs.Groups.{joinedOf}
 use Rattle.summary.specs.Walks.{halvesOf}
-use Rattle.summary_check.proofs.Checking.{decides-same}
+use Rattle.summary.proofs.Checking.{decides-same}
 use borrow.Author.Needs.{needs}
-use Rattle.summary_check.proofs.halves_agree.Statement.{statement}
-use Rattle.summary_check.proofs.halves_agree.Tie as tie
+use Rattle.summary.proofs.halves_agree.Statement.{statement}
+use Rattle.summary.proofs.halves_agree.Tie as tie
 
 mul-read : tie.Need-mul-read
 mul-read c = search needs

@@ -1,12 +1,12 @@
--- `summary_check::agree` meets its contract.
+-- `summary::agree` meets its contract.
 -- Assumes nothing.
 use mathlib.Core.Path.{ap}
 use borrow.Author.Tests.{eqb-true, eqb-false}
 use Rattle.summary_groups.specs.declared.Group.{Group}
-use Rattle.summary_check.proofs.Checking.{refuted}
+use Rattle.summary.proofs.Checking.{refuted}
 use Rattle.summary_groups.proofs.Joins.{group-eq}
-use Rattle.summary_check.proofs.agree.Statement.{statement}
-use Rattle.summary_check.proofs.agree.Tie as tie
+use Rattle.summary.proofs.agree.Statement.{statement}
+use Rattle.summary.proofs.agree.Tie as tie
 
 returns : tie.Need-returns
 returns c = refuted _ (λ e. c .if1 .taken (ap (λ (x : Group). x .tail) e))

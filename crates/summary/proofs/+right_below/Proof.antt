@@ -8,16 +8,16 @@ use denote.Ref.{now}
 use Rattle.summary_groups.specs.Groups.{power}
 use Rattle.summary_groups.specs.Places.{Sited}
 use Rattle.summary_groups.proofs.Places.{sited-index, sited-pos, sited-left, sited-right}
-use Rattle.summary_check.proofs.Checking.{refuted, word-decides, halves-decide, first-wrong, second-wrong}
+use Rattle.summary.proofs.Checking.{refuted, word-decides, halves-decide, first-wrong, second-wrong}
 use borrow.Fn.Kinds.{In}
 use borrow.Fn.PlainCycle.{Measures, is, falls, and}
-use Rattle.summary_check.proofs.right_below.Reads as right-below
-use Rattle.summary_check.proofs.right_below.Kinds as right-below-kinds
-use Rattle.summary_check.proofs.+right_below.Lts-right_below as right-below-lts
-use Rattle.summary_check.proofs.halves_agree.Reads as halves-agree-reads
-use Rattle.summary_check.proofs.word_agrees.Reads as word-agrees-reads
-use Rattle.summary_check.proofs.+right_below.{statement}
-use Rattle.summary_check.proofs.+right_below.Tie.{close}
+use Rattle.summary.proofs.right_below.Reads as right-below
+use Rattle.summary.proofs.right_below.Kinds as right-below-kinds
+use Rattle.summary.proofs.+right_below.Lts-right_below as right-below-lts
+use Rattle.summary.proofs.halves_agree.Reads as halves-agree-reads
+use Rattle.summary.proofs.word_agrees.Reads as word-agrees-reads
+use Rattle.summary.proofs.+right_below.{statement}
+use Rattle.summary.proofs.+right_below.Tie.{close}
 
 abbrev μ-right-below : Measures 2 right-below-kinds.ps ℕ
 μ-right-below κs a = a .1 .1 .1 .1 .1 .0
