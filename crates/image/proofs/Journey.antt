@@ -28,7 +28,7 @@ use Rattle.image_soundness.specs.Sound.{State, sound, undamaged}
 use Rattle.image_soundness.proofs.Covers.{head-undamaged, tail-undamaged}
 use Rattle.image_soundness.proofs.Damage.{extent-inside, mark-small}
 use Rattle.image_soundness.proofs.WhenSound.{sound-to}
-use Rattle.image.specs.Image.{contentLength, framesFor, entryBytes, body, imageOf, entriesAt, blocksIn, freeCountIn}
+use Rattle.image.specs.Image.{contentLength, framesFor, entryBytes, body, imageOf, entriesFrom, blocksIn, freeCountIn}
 use Rattle.image.specs.Image.{sheetsIn, entriesIn, mapIn, stateIn, filled}
 use Rattle.image.specs.Table.{saveVerdict, headFits, loadFits, loadVerdict}
 use Rattle.image.proofs.Fitting.{SaveFits, save-fits-to, whole-to, to-whole, Head, head-to, to-head, to-load-fits}
@@ -43,14 +43,14 @@ unfolding entryBytes bytes4
 entryBytes-length [] = refl
 entryBytes-length (e ∷ es) = let h = entryBytes-length es in omega arith
 
-entriesAt-length : (bytes : List ℕ) (at c : ℕ) → length (entriesAt bytes at c) ≡ c
-unfolding entriesAt
-entriesAt-length bytes at zero = refl
-entriesAt-length bytes at (suc c) = ap suc (entriesAt-length bytes (at + 12) c)
+entriesFrom-length : (bytes : List ℕ) (at c : ℕ) → length (entriesFrom bytes at c) ≡ c
+unfolding entriesFrom
+entriesFrom-length bytes at zero = refl
+entriesFrom-length bytes at (suc c) = ap suc (entriesFrom-length bytes (at + 12) c)
 
 pub entries-length : (image : List ℕ) (c : ℕ) → length (entriesIn image c) ≡ c
 unfolding entriesIn
-entries-length image c = entriesAt-length (bodyOf image) 12 c
+entries-length image c = entriesFrom-length (bodyOf image) 12 c
 
 pub map-length : (image : List ℕ) (n c : ℕ) → length (mapIn image n c) ≡ wordsFor n
 unfolding mapIn
@@ -63,8 +63,8 @@ entry m s l = record { mark = m; start = s; length = l }
 
 entries-stored : (n : ℕ) (f : ℕ → Bool) (p : List ℕ) (es : List Entry) (q : List ℕ) (at : ℕ) → n ≤ 262144
     → undamaged n f es ≡ true → length p ≡ at
-    → entriesAt (p ++ (entryBytes es ++ q)) at (length es) ≡ es
-unfolding entryBytes entriesAt
+    → entriesFrom (p ++ (entryBytes es ++ q)) at (length es) ≡ es
+unfolding entryBytes entriesFrom
 entries-stored n f p [] q at h u e = refl
 entries-stored n f p (x ∷ es) q at h u e =
     let d = head-undamaged n f x es u in
@@ -92,17 +92,17 @@ entries-stored n f p (x ∷ es) q at h u e =
     let e2 : numberAt (p ++ (m ++ (s ++ (l ++ rest)))) (at + 8) ≡ x .length =
     ap (λ (b : List ℕ). numberAt b (at + 8)) b2 ∙ number-at ((p ++ m) ++ s) rest (x .length) (at + 8) (omega arith)
     (omega arith) in
-    ap (λ (b : List ℕ). entry (numberAt b at) (numberAt b (at + 4)) (numberAt b (at + 8)) ∷ entriesAt b (at + 12) (length es))
+    ap (λ (b : List ℕ). entry (numberAt b at) (numberAt b (at + 4)) (numberAt b (at + 8)) ∷ entriesFrom b (at + 12) (length es))
     all
     ∙ ap₂ (λ (y : Entry) (ys : List Entry). y ∷ ys)
     (ap₂ (λ (a b : ℕ). entry a b (numberAt (p ++ (m ++ (s ++ (l ++ rest)))) (at + 8))) e0 e1
     ∙ ap (entry (x .mark) (x .start)) e2)
-    (ap (λ (b : List ℕ). entriesAt b (at + 12) (length es)) b3
+    (ap (λ (b : List ℕ). entriesFrom b (at + 12) (length es)) b3
     ∙ entries-stored n f (((p ++ m) ++ s) ++ l) es q (at + 12) h (tail-undamaged n f x es u) (omega arith))
 
 entries-back : (bytes : List ℕ) (at c : ℕ) → Bytes bytes → at + 12 * c ≤ length bytes
-    → entryBytes (entriesAt bytes at c) ≡ take (12 * c) (drop at bytes)
-unfolding entryBytes entriesAt
+    → entryBytes (entriesFrom bytes at c) ≡ take (12 * c) (drop at bytes)
+unfolding entryBytes entriesFrom
 entries-back bytes at zero small h = refl
 entries-back bytes at (suc c) small h =
     let e : 4 + (4 + (4 + 12 * c)) ≡ 12 * suc c = omega arith in
@@ -111,7 +111,7 @@ entries-back bytes at (suc c) small h =
     let m : List ℕ = bytes4 (numberAt bytes at) in
     let s : List ℕ = bytes4 (numberAt bytes (at + 4)) in
     let l : List ℕ = bytes4 (numberAt bytes (at + 8)) in
-    let rest : List ℕ = entryBytes (entriesAt bytes (at + 12) c) in
+    let rest : List ℕ = entryBytes (entriesFrom bytes (at + 12) c) in
     let d4 : drop (at + 4) bytes ≡ drop 4 (drop at bytes) = sym (drop-drop 4 at bytes) in
     let d8 : drop (at + 8) bytes ≡ drop 4 (drop 4 (drop at bytes)) = ap (λ (x : ℕ). drop x bytes) (sym a8)
     ∙ sym (drop-drop 4 (at + 4) bytes) ∙ ap (drop 4) d4 in
@@ -315,7 +315,7 @@ module _ (s : State) (scratchlen bufferlen : ℕ) (words : Words (s .map))
   unfolding entriesIn
   image-entries =
       let a : H ++ E ++ M ++ Z ≡ H ++ (E ++ (M ++ Z)) = append-assoc (H ++ E) M Z ∙ append-assoc H E (M ++ Z) in
-      ap (λ (l : List ℕ). entriesAt l 12 C) (image-body ∙ a)
+      ap (λ (l : List ℕ). entriesFrom l 12 C) (image-body ∙ a)
       ∙ entries-stored N (free (s .map)) H (s .entries) (M ++ Z) 12 (fit .limits .limit)
       (sound-to s (saved .whole) .whole) H-length
 

@@ -41,12 +41,12 @@ unfolding body
 imageOf s = frames (framesFor (s .blocks) (length (s .entries))) 0 (framesFor (s .blocks) (length (s .entries))) (body s)
 
 -- The entry that is stored from byte `at` on, and the c entries.
-abbrev pub entryAt : List ℕ → ℕ → Entry
-entryAt bytes at = record { mark = numberAt bytes at; start = numberAt bytes (at + 4); length = numberAt bytes (at + 8) }
+abbrev pub entryFrom : List ℕ → ℕ → Entry
+entryFrom bytes at = record { mark = numberAt bytes at; start = numberAt bytes (at + 4); length = numberAt bytes (at + 8) }
 
-unfoldable pub entriesAt : List ℕ → ℕ → ℕ → List Entry
-entriesAt bytes at zero = []
-entriesAt bytes at (suc c) = entryAt bytes at ∷ entriesAt bytes (at + 12) c
+unfoldable pub entriesFrom : List ℕ → ℕ → ℕ → List Entry
+entriesFrom bytes at zero = []
+entriesFrom bytes at (suc c) = entryFrom bytes at ∷ entriesFrom bytes (at + 12) c
 
 -- n, the free count and c, as an image has them.
 unfoldable pub blocksIn : List ℕ → ℕ
@@ -60,8 +60,8 @@ sheetsIn image = numberAt (bodyOf image) 8
 
 -- The entries and the map that stand in an image of n blocks and c sheets.
 unfoldable pub entriesIn : List ℕ → ℕ → List Entry
-unfolding entriesAt
-entriesIn image c = entriesAt (bodyOf image) 12 c
+unfolding entriesFrom
+entriesIn image c = entriesFrom (bodyOf image) 12 c
 
 unfoldable pub mapIn : List ℕ → ℕ → ℕ → List ℕ
 mapIn image n c = wordsAt (bodyOf image) (12 + 12 * c) (wordsFor n)

@@ -4,7 +4,7 @@ ghost use mathlib.Core.Path.{_≡_};
 ghost use Prim.Native.Nat.{_+_, _-_, _*_, _/_, _%_, _≤_, min};
 ghost use lib.ListN.{length};
 ghost use Rattle.image_frames.specs.Frames.{bodyOf};
-ghost use Rattle.image.specs.Image.{entryAt};
+ghost use Rattle.image.specs.Image.{entryFrom};
 use block::BLOCK;
 use block_bytes::get4;
 use catalogue::Entry;
@@ -16,7 +16,7 @@ use image_soundness::lesser;
 // The entry whose numbers stand together, from byte `at` of the image on.
 pub fn entry_here(image: &[u8], at: usize) -> Entry
     requires { ⌜ at + 12 ≤ length (now image) ⌝ }
-    ensures { λ r. ⌜ r ≡ entryAt (now (image .entry)) at ⌝ }
+    ensures { λ r. ⌜ r ≡ entryFrom (now (image .entry)) at ⌝ }
 {
     let mark = get4(image, at);
     let start = get4(image, at + 4);
@@ -31,7 +31,7 @@ pub fn entry_here(image: &[u8], at: usize) -> Entry
 // The entry that stands at number k of the body, of which two frames may have a part.
 pub fn entry_across(image: &[u8], k: usize) -> Entry
     requires { ⌜ k + 2 ≤ 18446744073709551615 ⌝ }
-    ensures { λ r. ⌜ r ≡ entryAt (bodyOf (now (image .entry))) (4 * k) ⌝ }
+    ensures { λ r. ⌜ r ≡ entryFrom (bodyOf (now (image .entry))) (4 * k) ⌝ }
 {
     let mark = number(image, k);
     let start = number(image, k + 1);
@@ -46,7 +46,7 @@ pub fn entry_across(image: &[u8], k: usize) -> Entry
 // The entry that stands at number k of the body.
 pub fn entry_at(image: &[u8], k: usize) -> Entry
     requires { ⌜ k + 2 ≤ 18446744073709551615 ⌝ }
-    ensures { λ r. ⌜ r ≡ entryAt (bodyOf (now (image .entry))) (4 * k) ⌝ }
+    ensures { λ r. ⌜ r ≡ entryFrom (bodyOf (now (image .entry))) (4 * k) ⌝ }
 {
     if k / NUMBERS < image.len() / BLOCK {
         if k % NUMBERS < NUMBERS - 2 {

@@ -12,7 +12,7 @@ ghost use Rattle.image_soundness.specs.Scratch.{scratchWords};
 ghost use Rattle.image_soundness.specs.Sound.{sound};
 ghost use Rattle.image_soundness.specs.Windows.{tallyOf, copied, windowAfter, scratchAfter, windowOver, scratchOver, oneWindow};
 ghost use Rattle.image_soundness.specs.Windows.{oneScratch, windowsOf, windowCount};
-ghost use Rattle.image.specs.Image.{blocksIn, freeCountIn, sheetsIn, entriesAt, entriesIn, mapIn, stateIn, filled};
+ghost use Rattle.image.specs.Image.{blocksIn, freeCountIn, sheetsIn, entriesFrom, entriesIn, mapIn, stateIn, filled};
 ghost use Rattle.image.specs.Table.{headFits};
 use crate::entries::entry_across;
 use crate::entries::entry_here;
@@ -36,7 +36,7 @@ use image_windows::window_count;
 // Counts entries that stand one behind the other in a frame, from byte `at` of the image on, up to one that does not count.
 fn tally_together(n: u32, first: Tally, image: &[u8], at: usize, count: usize) -> Tally
     requires { ⌜ at + 12 * count ≤ length (now image) ⌝ }
-    ensures { λ r. ⌜ r ≡ tallyOf (entriesAt (now (image .entry)) at count) n first ⌝ }
+    ensures { λ r. ⌜ r ≡ tallyOf (entriesFrom (now (image .entry)) at count) n first ⌝ }
 {
     let mut tally = first;
     let mut i: usize = 0;
@@ -110,8 +110,8 @@ fn release_together(
     count: usize,
 ) -> Window
     requires { ⌜ at + 12 * count ≤ length (now image) ⌝ }
-    ensures { λ r. ⌜ (r ≡ windowOver (entriesAt (now (image .entry)) at count) first (now (scratch .entry)))
-        × (now (scratch .exit) ≡ scratchOver (entriesAt (now (image .entry)) at count) first (now (scratch .entry))) ⌝ }
+    ensures { λ r. ⌜ (r ≡ windowOver (entriesFrom (now (image .entry)) at count) first (now (scratch .entry)))
+        × (now (scratch .exit) ≡ scratchOver (entriesFrom (now (image .entry)) at count) first (now (scratch .entry))) ⌝ }
 {
     let mut window = first;
     let mut i: usize = 0;

@@ -13,7 +13,7 @@ use Rattle.catalogue.specs.declared.Entry.{Entry}
 use Rattle.image_frames.specs.Frames.{bodyOf, totalOf}
 use Rattle.image.specs.Cursors.{cursor}
 use Rattle.image.specs.Effects.{loadResult, loadMap, loadEntries, loadScratch, Loads}
-use Rattle.image.specs.Image.{blocksIn, freeCountIn, sheetsIn, entryAt, entriesAt, entriesIn, stateIn}
+use Rattle.image.specs.Image.{blocksIn, freeCountIn, sheetsIn, entryFrom, entriesFrom, entriesIn, stateIn}
 use Rattle.image_load.specs.Parts.{coreLoaded, coreMap, coreScratch, firstCursor, readEntries}
 use Rattle.image.specs.Table.{loadVerdict}
 use Rattle.image.specs.declared.Loaded.{Loaded}
@@ -25,13 +25,13 @@ use Rattle.image_load.proofs.Reading.{reads, entries-stay}
 
 -- the entries read from number k on
 read-from : (image : List ℕ) (k at : ℕ) (es : List Entry) → at ≡ 4 * k → k + 3 * length es ≤ length image
-    → readEntries es image (cursor k false) ≡ entriesAt (bodyOf image) at (length es)
-unfolding readEntries entriesAt
+    → readEntries es image (cursor k false) ≡ entriesFrom (bodyOf image) at (length es)
+unfolding readEntries entriesFrom
 read-from image k at [] e room = refl
 read-from image k at (x ∷ es) e room =
     ap (λ (t : Turn). t .entry ∷ readEntries es image (t .state))
     (sym (reads (cursor k false) image x (going (cursor k false) image refl (omega arith))))
-    ∙ ap₂ (λ (y : Entry) (l : List Entry). y ∷ l) (ap (entryAt (bodyOf image)) (sym e))
+    ∙ ap₂ (λ (y : Entry) (l : List Entry). y ∷ l) (ap (entryFrom (bodyOf image)) (sym e))
     (read-from image (k + 3) (at + 12) es (omega arith) (omega arith))
 
 never : (k : ℕ) → refused k ≡ accepted → ⊥

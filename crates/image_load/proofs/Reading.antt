@@ -7,7 +7,7 @@ use Prim.Native.Nat.{ℕ, _+_, _*_}
 use Rattle.catalogue.specs.declared.Entry.{Entry}
 use Rattle.image.specs.Cursors.{cursor, active}
 use Rattle.image_frames.specs.Frames.{bodyOf}
-use Rattle.image.specs.Image.{entryAt}
+use Rattle.image.specs.Image.{entryFrom}
 use Rattle.image_load.specs.Parts.{turnAfter, readCursor, readEntries}
 use Rattle.image.specs.declared.Cursor.{Cursor}
 use Rattle.image_load.specs.declared.Turn.{Turn}
@@ -19,16 +19,16 @@ turn at e = record { state = at; entry = e }
 -- one entry read, or none
 module _ (at : Cursor) (image : List ℕ) (e : Entry) where
   pub reads : active at image ≡ true
-      → turn (cursor (at .next + 3) false) (entryAt (bodyOf image) (4 * at .next)) ≡ turnAfter image at e
+      → turn (cursor (at .next + 3) false) (entryFrom (bodyOf image) (4 * at .next)) ≡ turnAfter image at e
   unfolding turnAfter
   reads a =
-      ap (λ (b : Bool). cond b (turn (cursor (at .next + 3) false) (entryAt (bodyOf image) (4 * at .next)))
+      ap (λ (b : Bool). cond b (turn (cursor (at .next + 3) false) (entryFrom (bodyOf image) (4 * at .next)))
       (turn (cursor (at .next) true) e)) (sym a)
 
   pub reads-none : active at image ≡ false → turn (cursor (at .next) true) e ≡ turnAfter image at e
   unfolding turnAfter
   reads-none a =
-      ap (λ (b : Bool). cond b (turn (cursor (at .next + 3) false) (entryAt (bodyOf image) (4 * at .next)))
+      ap (λ (b : Bool). cond b (turn (cursor (at .next + 3) false) (entryFrom (bodyOf image) (4 * at .next)))
       (turn (cursor (at .next) true) e)) (sym a)
 
 -- a cursor that stopped

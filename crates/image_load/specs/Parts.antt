@@ -10,7 +10,7 @@ use Rattle.catalogue.specs.declared.Entry.{Entry}
 use Rattle.image_frames.specs.Frames.{bodyOf}
 use Rattle.image.specs.Cursors.{cursor, active}
 use Rattle.image.specs.Effects.{zerosFor}
-use Rattle.image.specs.Image.{entryAt, stateIn}
+use Rattle.image.specs.Image.{entryFrom, stateIn}
 use Rattle.image.specs.Table.{loadVerdict}
 use Rattle.image.specs.declared.Cursor.{Cursor}
 use Rattle.image.specs.declared.Loaded.{Loaded}
@@ -38,7 +38,7 @@ firstCursor loaded = cursor 3 (not (eqb (loaded .number) 0))
 unfoldable pub turnAfter : List ℕ → Cursor → Entry → Turn
 turnAfter image at e =
     cond (active at image)
-    (record { state = cursor (at .next + 3) false; entry = entryAt (bodyOf image) (4 * at .next) })
+    (record { state = cursor (at .next + 3) false; entry = entryFrom (bodyOf image) (4 * at .next) })
     (record { state = cursor (at .next) true; entry = e })
 
 unfoldable pub readCursor : List Entry → List ℕ → Cursor → Cursor

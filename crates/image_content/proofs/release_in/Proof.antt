@@ -7,7 +7,7 @@ use native.Mathlib.Omega.{arith}
 use denote.Ref.{now}
 use Rattle.image_frames.specs.Frames.{bodyOf}
 use Rattle.image.specs.Image.{entriesIn}
-use Rattle.image_content.proofs.EntriesAt.{rest, rest-none, rest-in, rest-across, together-room, together-first}
+use Rattle.image_content.proofs.EntriesFrom.{rest, rest-none, rest-in, rest-across, together-room, together-first}
 use Rattle.image_content.proofs.Passing.{Left, left-from, left-end, one-ends, one-released, some-ends, some-released}
 use borrow.Author.Needs.{needs}
 use Rattle.image_content.proofs.release_in.Statement.{statement}

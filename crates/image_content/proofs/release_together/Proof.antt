@@ -4,8 +4,8 @@ use mathlib.Core.Path.{_∙_}
 use Prim.Native.Nat.{_-_, _≤_}
 use native.Mathlib.Omega.{arith}
 use denote.Ref.{now}
-use Rattle.image.specs.Image.{entriesAt}
-use Rattle.image_content.proofs.EntriesAt.{rest, rest-all, rest-none, rest-next}
+use Rattle.image.specs.Image.{entriesFrom}
+use Rattle.image_content.proofs.EntriesFrom.{rest, rest-all, rest-none, rest-next}
 use Rattle.image_content.proofs.Passing.{Left, left-from, left-end, one-ends, one-released}
 use borrow.Author.Needs.{needs}
 use Rattle.image_content.proofs.release_together.Statement.{statement}
@@ -13,7 +13,7 @@ use Rattle.image_content.proofs.release_together.Tie as tie
 
 abbrev Inv-loop : tie.InvT-loop
 Inv-loop scratch₀ image at count window₀ i₀ scratch window i =
-    (i ≤ count) × Left (entriesAt image at count) window₀ scratch₀ (rest image at count i) window scratch
+    (i ≤ count) × Left (entriesFrom image at count) window₀ scratch₀ (rest image at count i) window scratch
 
 abbrev μ-loop : tie.MeasureT-loop
 μ-loop scratch₀ image at count window₀ i₀ scratch window i = count - i

@@ -7,7 +7,7 @@ use native.Mathlib.Omega.{arith}
 use denote.Ref.{now}
 use Rattle.image_frames.specs.Frames.{bodyOf}
 use Rattle.image.specs.Image.{entriesIn}
-use Rattle.image_content.proofs.EntriesAt.{rest, rest-none, rest-in, rest-across, together-room, together-first}
+use Rattle.image_content.proofs.EntriesFrom.{rest, rest-none, rest-in, rest-across, together-room, together-first}
 use Rattle.image_content.proofs.Passing.{LeftToCount, count-from, count-none, one-stopped, one-counted, some-stopped}
 use Rattle.image_content.proofs.Passing.{some-counted}
 use borrow.Author.Needs.{needs}

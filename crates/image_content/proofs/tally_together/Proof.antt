@@ -3,8 +3,8 @@
 use Prim.Native.Nat.{_-_, _≤_}
 use native.Mathlib.Omega.{arith}
 use denote.Ref.{now}
-use Rattle.image.specs.Image.{entriesAt}
-use Rattle.image_content.proofs.EntriesAt.{rest, rest-all, rest-none, rest-next}
+use Rattle.image.specs.Image.{entriesFrom}
+use Rattle.image_content.proofs.EntriesFrom.{rest, rest-all, rest-none, rest-next}
 use Rattle.image_content.proofs.Passing.{LeftToCount, count-from, count-none, one-stopped, one-counted}
 use borrow.Author.Needs.{needs}
 use Rattle.image_content.proofs.tally_together.Statement.{statement}
@@ -12,7 +12,7 @@ use Rattle.image_content.proofs.tally_together.Tie as tie
 
 abbrev Inv-loop : tie.InvT-loop
 Inv-loop n image at count tally₀ i₀ tally i =
-    (i ≤ count) × LeftToCount n (entriesAt image at count) tally₀ (rest image at count i) tally
+    (i ≤ count) × LeftToCount n (entriesFrom image at count) tally₀ (rest image at count i) tally
 
 abbrev μ-loop : tie.MeasureT-loop
 μ-loop n image at count tally₀ i₀ tally i = count - i

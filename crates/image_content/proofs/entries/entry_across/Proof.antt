@@ -1,7 +1,7 @@
 -- `entries::entry_across` meets its contract.
 -- Assumes nothing.
 use denote.Ref.{now}
-use Rattle.image_content.proofs.EntriesAt.{entry-across}
+use Rattle.image_content.proofs.EntriesFrom.{entry-across}
 use borrow.Author.Needs.{needs}
 use Rattle.image_content.proofs.entries.entry_across.Statement.{statement}
 use Rattle.image_content.proofs.entries.entry_across.Tie as tie

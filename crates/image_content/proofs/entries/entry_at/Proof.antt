@@ -3,7 +3,7 @@
 use mathlib.Core.Path.{_∙_}
 use native.Mathlib.Omega.{arith}
 use denote.Ref.{now}
-use Rattle.image_content.proofs.EntriesAt.{entry-together}
+use Rattle.image_content.proofs.EntriesFrom.{entry-together}
 use borrow.Author.Needs.{needs}
 use Rattle.image_content.proofs.entries.entry_at.Statement.{statement}
 use Rattle.image_content.proofs.entries.entry_at.Tie as tie

@@ -1,7 +1,7 @@
 -- `entries::entry_here` meets its contract.
 -- Assumes nothing.
 use denote.Ref.{now}
-use Rattle.image_content.proofs.EntriesAt.{entry-made}
+use Rattle.image_content.proofs.EntriesFrom.{entry-made}
 use borrow.Author.Needs.{needs}
 use Rattle.image_content.proofs.entries.entry_here.Statement.{statement}
 use Rattle.image_content.proofs.entries.entry_here.Tie as tie

@@ -10,20 +10,20 @@ use Rattle.catalogue.specs.declared.Entry.{Entry}
 use Rattle.image_frames.specs.Frames.{bodyOf, totalOf}
 use Rattle.image_frames.specs.Numbers.{placeOf, numberIn}
 use Rattle.image_frames.proofs.Numbered.{number-behind}
-use Rattle.image.specs.Image.{entryAt, entriesAt, entriesIn}
+use Rattle.image.specs.Image.{entryFrom, entriesFrom, entriesIn}
 
 abbrev entry : ℕ → ℕ → ℕ → Entry
 entry m s l = record { mark = m; start = s; length = l }
 
 -- an entry made of its three numbers
 pub entry-made : (bytes : List ℕ) (at m s l : ℕ) → m ≡ numberAt bytes at → s ≡ numberAt bytes (at + 4)
-    → l ≡ numberAt bytes (at + 8) → entry m s l ≡ entryAt bytes at
+    → l ≡ numberAt bytes (at + 8) → entry m s l ≡ entryFrom bytes at
 entry-made bytes at m s l p q r =
     ap₂ (λ (x y : ℕ). entry x y l) p q ∙ ap (entry (numberAt bytes at) (numberAt bytes (at + 4))) r
 
 -- of the body, by their numbers
 pub entry-across : (image : List ℕ) (k m s l : ℕ) → m ≡ numberIn image k → s ≡ numberIn image (k + 1)
-    → l ≡ numberIn image (k + 2) → entry m s l ≡ entryAt (bodyOf image) (4 * k)
+    → l ≡ numberIn image (k + 2) → entry m s l ≡ entryFrom (bodyOf image) (4 * k)
 unfolding numberIn
 entry-across image k m s l p q r =
     let e1 : 4 * (k + 1) ≡ 4 * k + 4 = omega arith in
@@ -33,54 +33,54 @@ entry-across image k m s l p q r =
 -- the entries from the i-th on, of `count` that are stored from byte `at` on
 module _ (bytes : List ℕ) (at count : ℕ) where
   abbrev pub rest : ℕ → List Entry
-  rest i = entriesAt bytes (at + 12 * i) (count - i)
+  rest i = entriesFrom bytes (at + 12 * i) (count - i)
 
-  pub rest-all : entriesAt bytes at count ≡ rest 0
-  rest-all = let a : at ≡ at + 12 * 0 = omega arith in let b : count ≡ count - 0 = omega arith in ap₂ (entriesAt bytes) a b
+  pub rest-all : entriesFrom bytes at count ≡ rest 0
+  rest-all = let a : at ≡ at + 12 * 0 = omega arith in let b : count ≡ count - 0 = omega arith in ap₂ (entriesFrom bytes) a b
 
   pub rest-none : (i : ℕ) → count ≤ i → rest i ≡ []
-  unfolding entriesAt
-  rest-none i h = let e : count - i ≡ 0 = omega arith in ap (entriesAt bytes (at + 12 * i)) e
+  unfolding entriesFrom
+  rest-none i h = let e : count - i ≡ 0 = omega arith in ap (entriesFrom bytes (at + 12 * i)) e
 
-  pub rest-more : (i : ℕ) → i < count → rest i ≡ entryAt bytes (at + 12 * i) ∷ rest (i + 1)
-  unfolding entriesAt
+  pub rest-more : (i : ℕ) → i < count → rest i ≡ entryFrom bytes (at + 12 * i) ∷ rest (i + 1)
+  unfolding entriesFrom
   rest-more i h =
       let e : count - i ≡ suc (count - (i + 1)) = omega arith in
       let next : at + 12 * i + 12 ≡ at + 12 * (i + 1) = omega arith in
-      ap (entriesAt bytes (at + 12 * i)) e
-      ∙ ap (λ (x : ℕ). entryAt bytes (at + 12 * i) ∷ entriesAt bytes x (count - (i + 1))) next
+      ap (entriesFrom bytes (at + 12 * i)) e
+      ∙ ap (λ (x : ℕ). entryFrom bytes (at + 12 * i) ∷ entriesFrom bytes x (count - (i + 1))) next
 
   -- and by an entry that was read
-  pub rest-next : (i : ℕ) (e : Entry) → i < count → e ≡ entryAt bytes (at + 12 * i) → rest i ≡ e ∷ rest (i + 1)
+  pub rest-next : (i : ℕ) (e : Entry) → i < count → e ≡ entryFrom bytes (at + 12 * i) → rest i ≡ e ∷ rest (i + 1)
   rest-next i e h ee = rest-more i h ∙ ap (λ (x : Entry). x ∷ rest (i + 1)) (sym ee)
 
 -- some of them, and those behind
-entries-split : (bytes : List ℕ) (at k m : ℕ) → entriesAt bytes at (k + m)
-    ≡ entriesAt bytes at k ++ entriesAt bytes (at + 12 * k) m
-unfolding entriesAt
+entries-split : (bytes : List ℕ) (at k m : ℕ) → entriesFrom bytes at (k + m)
+    ≡ entriesFrom bytes at k ++ entriesFrom bytes (at + 12 * k) m
+unfolding entriesFrom
 entries-split bytes at zero m =
-    let a : at ≡ at + 12 * 0 = omega arith in let b : 0 + m ≡ m = omega arith in ap₂ (entriesAt bytes) a b
+    let a : at ≡ at + 12 * 0 = omega arith in let b : 0 + m ≡ m = omega arith in ap₂ (entriesFrom bytes) a b
 entries-split bytes at (suc k) m =
     let a : at + 12 + 12 * k ≡ at + 12 * suc k = omega arith in
     let b : suc k + m ≡ suc (k + m) = omega arith in
-    ap (entriesAt bytes at) b
-    ∙ ap (λ (l : List Entry). entryAt bytes at ∷ l)
+    ap (entriesFrom bytes at) b
+    ∙ ap (λ (l : List Entry). entryFrom bytes at ∷ l)
     (entries-split bytes (at + 12) k m
-    ∙ ap (λ (x : ℕ). entriesAt bytes (at + 12) k ++ entriesAt bytes x m) a)
+    ∙ ap (λ (x : ℕ). entriesFrom bytes (at + 12) k ++ entriesFrom bytes x m) a)
 
 pub rest-split : (bytes : List ℕ) (at count i k : ℕ) → i + k ≤ count
-    → rest bytes at count i ≡ entriesAt bytes (at + 12 * i) k ++ rest bytes at count (i + k)
+    → rest bytes at count i ≡ entriesFrom bytes (at + 12 * i) k ++ rest bytes at count (i + k)
 rest-split bytes at count i k h =
     let e : count - i ≡ k + (count - (i + k)) = omega arith in
     let a : at + 12 * i + 12 * k ≡ at + 12 * (i + k) = omega arith in
-    ap (entriesAt bytes (at + 12 * i)) e ∙ entries-split bytes (at + 12 * i) k (count - (i + k))
-    ∙ ap (λ (x : ℕ). entriesAt bytes (at + 12 * i) k ++ entriesAt bytes x (count - (i + k))) a
+    ap (entriesFrom bytes (at + 12 * i)) e ∙ entries-split bytes (at + 12 * i) k (count - (i + k))
+    ∙ ap (λ (x : ℕ). entriesFrom bytes (at + 12 * i) k ++ entriesFrom bytes x (count - (i + k))) a
 
 -- entries whose numbers are the same
 same-entries : (xs ys : List ℕ) (p q count : ℕ)
     → ((j : ℕ) → j < 3 * count → numberAt xs (p + 4 * j) ≡ numberAt ys (q + 4 * j))
-    → entriesAt xs p count ≡ entriesAt ys q count
-unfolding entriesAt
+    → entriesFrom xs p count ≡ entriesFrom ys q count
+unfolding entriesFrom
 same-entries xs ys p q zero h = refl
 same-entries xs ys p q (suc count) h =
     let number : (j a b : ℕ) → j < 3 * suc count → a ≡ p + 4 * j → b ≡ q + 4 * j → numberAt xs a ≡ numberAt ys b =
@@ -95,7 +95,7 @@ same-entries xs ys p q (suc count) h =
 
 -- the entry of which one frame has all three numbers
 pub entry-together : (image : List ℕ) (k at : ℕ) → at ≡ placeOf k → k / 124 < totalOf image → k % 124 < 122
-    → entryAt image at ≡ entryAt (bodyOf image) (4 * k)
+    → entryFrom image at ≡ entryFrom (bodyOf image) (4 * k)
 entry-together image k at e inside fit =
     let number : (j a b : ℕ) → j < 3 → a ≡ placeOf k + 4 * j → b ≡ 4 * k + 4 * j
     → numberAt image a ≡ numberAt (bodyOf image) b =
@@ -124,12 +124,12 @@ module _ (image : List ℕ) (sheet c count : ℕ) (below : sheet < c) (inside : 
 
   -- first they, and then those behind
   pub together-first : (at : ℕ) → at ≡ placeOf (3 + 3 * sheet)
-      → rest (bodyOf image) 12 c sheet ≡ entriesAt image at count ++ rest (bodyOf image) 12 c (sheet + count)
+      → rest (bodyOf image) 12 c sheet ≡ entriesFrom image at count ++ rest (bodyOf image) 12 c (sheet + count)
   together-first at ea =
       rest-split (bodyOf image) 12 c sheet count together-few
       ∙ ap (λ (l : List Entry). l ++ rest (bodyOf image) 12 c (sheet + count)) (sym same)
     where
-      same : entriesAt image at count ≡ entriesAt (bodyOf image) (12 + 12 * sheet) count
+      same : entriesFrom image at count ≡ entriesFrom (bodyOf image) (12 + 12 * sheet) count
       same = same-entries image (bodyOf image) at (12 + 12 * sheet) count (λ j u.
           let a : at + 4 * j ≡ placeOf (3 + 3 * sheet) + 4 * j = omega arith in
           let b : 4 * (3 + 3 * sheet) + 4 * j ≡ 12 + 12 * sheet + 4 * j = omega arith in
@@ -141,8 +141,8 @@ pub rest-in : (image : List ℕ) (c : ℕ) → entriesIn image c ≡ rest (bodyO
 unfolding entriesIn
 rest-in image c = rest-all (bodyOf image) 12 c
 
-pub rest-across : (image : List ℕ) (c i : ℕ) (e : Entry) → i < c → e ≡ entryAt (bodyOf image) (4 * (3 + 3 * i))
+pub rest-across : (image : List ℕ) (c i : ℕ) (e : Entry) → i < c → e ≡ entryFrom (bodyOf image) (4 * (3 + 3 * i))
     → rest (bodyOf image) 12 c i ≡ e ∷ rest (bodyOf image) 12 c (i + 1)
 rest-across image c i e h ee =
     let z : 4 * (3 + 3 * i) ≡ 12 + 12 * i = omega arith in
-    rest-next (bodyOf image) 12 c i e h (ee ∙ ap (entryAt (bodyOf image)) z)
+    rest-next (bodyOf image) 12 c i e h (ee ∙ ap (entryFrom (bodyOf image)) z)
