@@ -117,14 +117,14 @@ form-read (Hundredths v) h =
     )
 
 -- what is read is in range, and its form is the bytes read
-pub record Told (a b c d : ℕ) (count : Count) : Type 0 where
+pub record Formed (a b c d : ℕ) (count : Count) : Type 0 where
   pub form : four a b c d ≡ formOf count
   pub range : inRange count ≡ true
 
 module _ (a b c d : ℕ) where
-  told-absent : isAbsent a b c d ≡ true → Told a b c d Absent
+  formed-absent : isAbsent a b c d ≡ true → Formed a b c d Absent
   unfolding isAbsent formOf inRange
-  told-absent e =
+  formed-absent e =
       let ea = eqb-true a 255 (and-left (eqb a 255) (eqb b 255 && (eqb c 255 && eqb d 255)) e) in
       let e1 = and-right (eqb a 255) (eqb b 255 && (eqb c 255 && eqb d 255)) e in
       let eb = eqb-true b 255 (and-left (eqb b 255) (eqb c 255 && eqb d 255) e1) in
@@ -133,9 +133,9 @@ module _ (a b c d : ℕ) where
       let ed = eqb-true d 255 (and-right (eqb c 255) (eqb d 255) e2) in
       record { form = cc; range = refl }
 
-  told-number : digits a b c d ≡ true → Told a b c d (Hundredths (hundredthsOf a b c d))
+  formed-number : digits a b c d ≡ true → Formed a b c d (Hundredths (hundredthsOf a b c d))
   unfolding formOf inRange digits hundredthsOf whole
-  told-number e =
+  formed-number e =
       let pa = and-left (isPair a) (isPair b && (isPair c && isPair d)) e in
       let e1 = and-right (isPair a) (isPair b && (isPair c && isPair d)) e in
       let pb = and-left (isPair b) (isPair c && isPair d) e1 in
@@ -162,12 +162,12 @@ module _ (a b c d : ℕ) where
         range = lt-ltb _ 100000000 most;
       }
 
-  pub told : (count : Count) → countOf a b c d ≡ Is count → Told a b c d count
+  pub formed : (count : Count) → countOf a b c d ≡ Is count → Formed a b c d count
   unfolding countOf
-  told count e = by (isAbsent a b c d) (digits a b c d) refl refl e
+  formed count e = by (isAbsent a b c d) (digits a b c d) refl refl e
     where
       by : (s t : Bool) → isAbsent a b c d ≡ s → digits a b c d ≡ t
-          → cond s (Is Absent) (cond t (Is (Hundredths (hundredthsOf a b c d))) WrongCount) ≡ Is count → Told a b c d count
-      by true t es et e = subst (Told a b c d) (cc) (told-absent es)
-      by false true es et e = subst (Told a b c d) (cc) (told-number et)
+          → cond s (Is Absent) (cond t (Is (Hundredths (hundredthsOf a b c d))) WrongCount) ≡ Is count → Formed a b c d count
+      by true t es et e = subst (Formed a b c d) (cc) (formed-absent es)
+      by false true es et e = subst (Formed a b c d) (cc) (formed-number et)
       by false false es et e = absurd (let z : _≡_ {A = ℕ} 0 1 = cc in omega arith)

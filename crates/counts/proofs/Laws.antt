@@ -26,7 +26,7 @@ use Rattle.counts.specs.declared.CountReply.{CountReply}
 use Rattle.counts.specs.declared.Reading.{Reading}
 use Rattle.counts.specs.declared.Reading.the-variants.{Is, WrongLength, WrongCount}
 use Rattle.counts.proofs.Tests.{write-wrong, write-none, write-range}
-use Rattle.counts.proofs.Forms.{counted, form-length, form-read, Told, told}
+use Rattle.counts.proofs.Forms.{counted, form-length, form-read, Formed, formed}
 
 -- ---- the bytes of a count in its payload
 
@@ -207,20 +207,20 @@ module _ (payload : List ℕ) (which : ℕ) (count : Count) (e : readOf payload 
       by true false es et e = absurd (let z : _≡_ {A = ℕ} 0 1 = cc in omega arith)
       by true true es et e = record { long = eqb-true (length payload) 496 es; inside = ltb-true which 124 et }
 
-  read-told : Told
+  read-formed : Formed
       (getD payload (4 * which) 0)
       (getD payload (4 * which + 1) 0)
       (getD payload (4 * which + 2) 0)
       (getD payload (4 * which + 3) 0)
       count
   unfolding readOf
-  read-told =
-      told _ _ _ _ count
+  read-formed =
+      formed _ _ _ _ count
       (rw (eq-eqb (length payload) 496 (read-inside .long), lt-ltb which 124 (read-inside .inside)) at e)
 
   -- the form of a count that was read is its four bytes: each value has just one form
   pub read-form : bytesAt payload which ≡ formOf count
-  read-form = sym (four-read payload which read-inside) ∙ read-told .form
+  read-form = sym (four-read payload which read-inside) ∙ read-formed .form
 
   -- what is read, written again, gives the same payload
   pub written-again : (writeAnswer payload which count ≡ 0) × (afterWrite payload which count ≡ payload)
@@ -228,8 +228,8 @@ module _ (payload : List ℕ) (which : ℕ) (count : Count) (e : readOf payload 
   written-again =
       let l = eq-eqb (length payload) 496 (read-inside .long) in
       let i = lt-ltb which 124 (read-inside .inside) in (
-        rw (l, i, read-told .range),
-        rw (l, i, read-told .range, ← read-form, put-back payload which read-inside),
+        rw (l, i, read-formed .range),
+        rw (l, i, read-formed .range, ← read-form, put-back payload which read-inside),
       )
 
 pub one-form : (p q : List ℕ) (i j : ℕ) (count : Count) → readOf p i ≡ Is count → readOf q j ≡ Is count
@@ -247,7 +247,7 @@ pub number-only : (payload : List ℕ) (which v : ℕ) → readOf payload which 
     → (v ≤ 99999999) × (bytesAt payload which ≡ four 255 255 255 255 → ⊥)
 unfolding inRange countOf isAbsent
 number-only payload which v e = (
-  omega (arith, ltb-true v 100000000 (read-told payload which (Hundredths v) e .range)),
+  omega (arith, ltb-true v 100000000 (read-formed payload which (Hundredths v) e .range)),
   λ f.
       let w = read-inside payload which (Hundredths v) e in
       let other : Is (Hundredths v) ≡ Is Absent = sym e ∙ read-bytes payload which w ∙ ap counted f in

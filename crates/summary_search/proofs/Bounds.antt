@@ -12,7 +12,7 @@ use Rattle.map_search_word.specs.declared.Step.the-variants.{Hit, Next}
 use Rattle.summary_groups.specs.declared.Group.{Group}
 use Rattle.summary.specs.Summary.{groupIn}
 use Rattle.summary_search.specs.declared.Glance.{Glance}
-use Rattle.summary_search.specs.declared.Glance.the-variants.{Told, Look}
+use Rattle.summary_search.specs.declared.Glance.the-variants.{Settled, Look}
 use Rattle.summary_search.specs.SearchBy.{insideOf, wholeOf, glanceOf, orLook, onward, seekIn}
 use Rattle.summary_search.specs.Seeking.{stepNumber}
 use Rattle.summary_search.proofs.Places.{Level, level-least, level-halves}
@@ -28,7 +28,7 @@ Bounds at k end (Hit t) = (at ≤ t) × (t < end)
 Bounds at k end (Next s) = (s < k) × (s ≤ end) × (at ≤ end → s + at ≤ end)
 
 abbrev pub GlanceBounds : ℕ → ℕ → ℕ → Glance → Type 0
-GlanceBounds at k end (Told r) = Bounds at k end r
+GlanceBounds at k end (Settled r) = Bounds at k end r
 GlanceBounds at k end Look = at < end
 
 module _ (x : Group) (at k base m s : ℕ) (pos : 0 < m) (short : s < k) (behind : at ≤ base → s + at ≤ base) where
@@ -36,30 +36,30 @@ module _ (x : Group) (at k base m s : ℕ) (pos : 0 < m) (short : s < k) (behind
   unfolding insideOf
   inside-bounds l =
       by-test (GlanceBounds at k (base + m)) (leb k (x .longest)) Look
-      (Told (Next (min (min (x .tail) (x .longest)) (base + m - at)))) (λ e. l)
+      (Settled (Next (min (min (x .tail) (x .longest)) (base + m - at)))) (λ e. l)
       (λ e. let u : x .longest < k = leb-false k (x .longest) e in (omega arith, omega arith, λ v. omega arith))
 
   whole-bounds : at ≤ base → GlanceBounds at k (base + m) (wholeOf x k base m s)
   unfolding wholeOf
   whole-bounds l =
       let r : s + at ≤ base = behind l in
-      by-test (GlanceBounds at k (base + m)) (leb (k - s) (x .head)) (Told (Hit (base - s)))
+      by-test (GlanceBounds at k (base + m)) (leb (k - s) (x .head)) (Settled (Hit (base - s)))
       (cond (leb k (x .longest)) Look
-      (cond (eqb (x .head) m) (Told (Next (s + m))) (Told (Next (min (min (x .tail) (x .longest)) m)))))
+      (cond (eqb (x .head) m) (Settled (Next (s + m))) (Settled (Next (min (min (x .tail) (x .longest)) m)))))
       (λ e. (omega arith, omega arith))
       (λ e. let h : x .head < k - s = leb-false (k - s) (x .head) e in
       by-test (GlanceBounds at k (base + m)) (leb k (x .longest)) Look
-      (cond (eqb (x .head) m) (Told (Next (s + m))) (Told (Next (min (min (x .tail) (x .longest)) m)))) (λ q. omega arith)
+      (cond (eqb (x .head) m) (Settled (Next (s + m))) (Settled (Next (min (min (x .tail) (x .longest)) m)))) (λ q. omega arith)
       (λ q. let u : x .longest < k = leb-false k (x .longest) q in
-      by-test (GlanceBounds at k (base + m)) (eqb (x .head) m) (Told (Next (s + m)))
-      (Told (Next (min (min (x .tail) (x .longest)) m)))
+      by-test (GlanceBounds at k (base + m)) (eqb (x .head) m) (Settled (Next (s + m)))
+      (Settled (Next (min (min (x .tail) (x .longest)) m)))
       (λ z. let w : x .head ≡ m = eqb-true (x .head) m z in (omega arith, omega arith, λ v. omega arith))
       (λ z. (omega arith, omega arith, λ v. omega arith))))
 
   pub glance-bounds : GlanceBounds at k (base + m) (glanceOf x at k base m s)
   unfolding glanceOf
   glance-bounds =
-      by-test (GlanceBounds at k (base + m)) (leb (base + m) at) (Told (Next 0))
+      by-test (GlanceBounds at k (base + m)) (leb (base + m) at) (Settled (Next 0))
       (cond (ltb base at) (insideOf x at k (base + m)) (wholeOf x k base m s)) (λ e.
       (omega arith, omega arith, λ v. omega arith))
       (λ e. let l : at < base + m = leb-false (base + m) at e in
@@ -70,7 +70,7 @@ module _ (x : Group) (at k base m s : ℕ) (pos : 0 < m) (short : s < k) (behind
 
 looked : (at k end : ℕ) (x : Glance) (deeper : Step) → GlanceBounds at k end x → (at < end → Bounds at k end deeper)
     → Bounds at k end (orLook x deeper)
-looked at k end (Told r) deeper b look = b
+looked at k end (Settled r) deeper b look = b
 looked at k end Look deeper b look = look b
 
 module _ (summary : List ℕ) (at k : ℕ) where
@@ -106,9 +106,10 @@ module _ (summary : List ℕ) (at k : ℕ) where
 -- ---- what a step comes to
 
 module _ (summary : List ℕ) (at k d g base m s : ℕ) where
-  pub seek-told : (r : Step) → glanceOf (groupIn summary g) at k base m s ≡ Told r → seekIn (suc d) summary at k g base m s ≡ r
+  pub seek-settled : (r : Step) → glanceOf (groupIn summary g) at k base m s ≡ Settled r
+      → seekIn (suc d) summary at k g base m s ≡ r
   unfolding seekIn
-  seek-told r e =
+  seek-settled r e =
       ap (λ (x : Glance). orLook x (cond (eqb m 64) (Hit (max at base))
       (onward (seekIn d summary at k (2 * g + 1) base (m / 2) s)
       (λ next. seekIn d summary at k (2 * g + 2) (base + m / 2) (m / 2) next)))) e

@@ -7,10 +7,10 @@ use native.Mathlib.Omega.{arith}
 use Rattle.map_search_word.specs.declared.Step.{Step}
 use Rattle.map_search_word.specs.declared.Step.the-variants.{Hit, Next}
 use Rattle.summary.specs.Summary.{groupIn}
-use Rattle.summary_search.specs.declared.Glance.the-variants.{Told, Look}
+use Rattle.summary_search.specs.declared.Glance.the-variants.{Settled, Look}
 use Rattle.summary_search.specs.SearchBy.{glanceOf, onward, seekIn}
 use Rattle.summary_search.specs.Seeking.{Lies, stepNumber}
-use Rattle.summary_search.proofs.Bounds.{Bounds, GlanceBounds, glance-bounds, seek-bounds, seek-told, seek-word}
+use Rattle.summary_search.proofs.Bounds.{Bounds, GlanceBounds, glance-bounds, seek-bounds, seek-settled, seek-word}
 use Rattle.summary_search.proofs.Bounds.{seek-halves, number-hit, number-next}
 use Rattle.summary_search.proofs.Places.{located-level, located-least, located-small, located-even, located-left}
 
@@ -25,17 +25,17 @@ module _ (summary : List ℕ) (at k g base m s : ℕ) (lies : Lies summary g bas
   small : base + m ≤ 262144
   small = located-small (lies .words) g base m (lies .located)
 
-  pub told-small : (at ≤ base → s + at ≤ base) → s < k → (r : Step) → glanceOf (groupIn summary g) at k base m s ≡ Told r
+  pub settled-small : (at ≤ base → s + at ≤ base) → s < k → (r : Step) → glanceOf (groupIn summary g) at k base m s ≡ Settled r
       → stepNumber r < 4294967296
-  told-small behind short r e =
+  settled-small behind short r e =
       step-small at k (base + m) r small
       (subst (GlanceBounds at k (base + m)) e
       (glance-bounds (groupIn summary g) at k base m s (omega (arith, least)) short behind))
 
-  pub told-number : (r : Step) → glanceOf (groupIn summary g) at k base m s ≡ Told r → (d : ℕ) → m ≤ 64 * d
+  pub settled-number : (r : Step) → glanceOf (groupIn summary g) at k base m s ≡ Settled r → (d : ℕ) → m ≤ 64 * d
       → stepNumber r ≡ stepNumber (seekIn d summary at k g base m s)
-  told-number r e zero l = absurd (omega (arith, least))
-  told-number r e (suc d) l = sym (ap stepNumber (seek-told summary at k d g base m s r e))
+  settled-number r e zero l = absurd (omega (arith, least))
+  settled-number r e (suc d) l = sym (ap stepNumber (seek-settled summary at k d g base m s r e))
 
   module _ (look : glanceOf (groupIn summary g) at k base m s ≡ Look) where
     pub word-number : (x : ℕ) → m ≡ 64 → x ≡ max at base → (d : ℕ) → m ≤ 64 * d

@@ -23,7 +23,7 @@ use Rattle.summary_groups.proofs.Joins.{group-same}
 use Rattle.summary.specs.Summary.{groupIn, groupAt}
 use Rattle.summary.proofs.Sites.{group-at}
 use Rattle.summary_search.specs.declared.Glance.{Glance}
-use Rattle.summary_search.specs.declared.Glance.the-variants.{Told, Look}
+use Rattle.summary_search.specs.declared.Glance.the-variants.{Settled, Look}
 use Rattle.summary_search.specs.SearchBy.{insideOf, wholeOf, glanceOf, orLook, onward, seekIn, seek}
 use Rattle.summary_search.specs.Seeking.{Located}
 use Rattle.summary_search.proofs.Bounds.{by-test}
@@ -72,7 +72,7 @@ Knows f k end (Hit t) = NoneBefore f k t
 Knows f k end (Next s) = Carried f k end s
 
 abbrev GlanceKnows : (ℕ → Bool) → ℕ → ℕ → ℕ → Glance → Type 0
-GlanceKnows f k low end (Told r) = Knows f k end r
+GlanceKnows f k low end (Settled r) = Knows f k end r
 GlanceKnows f k low end Look = NoneBefore f k low
 
 none-since : (at k : ℕ) (f : ℕ → Bool) → 0 < k → NoneBefore (since at f) k at
@@ -163,26 +163,26 @@ module _ (f : ℕ → Bool) (at k base m s : ℕ) (x : Group) (some : 0 < k) (tr
       (glanceOf x at k base m s)
   unfolding glanceOf insideOf wholeOf
   glance-knows before =
-      by-test (GlanceKnows (since at f) k (max at base) (base + m)) (leb (base + m) at) (Told (Next 0))
+      by-test (GlanceKnows (since at f) k (max at base) (base + m)) (leb (base + m) at) (Settled (Next 0))
       (cond (ltb base at) (insideOf x at k (base + m)) (wholeOf x k base m s)) (λ e. passed (leb-true (base + m) at e))
       (λ e. let l : at < base + m = leb-false (base + m) at e in
       by-test (GlanceKnows (since at f) k (max at base) (base + m)) (ltb base at) (insideOf x at k (base + m))
       (wholeOf x k base m s)
       (λ q. let v : base < at = ltb-true base at q in
       by-test (GlanceKnows (since at f) k (max at base) (base + m)) (leb k (x .longest)) Look
-      (Told (Next (min (min (x .tail) (x .longest)) (base + m - at)))) (λ z u w. none-since at k f some u (omega arith))
+      (Settled (Next (min (min (x .tail) (x .longest)) (base + m - at)))) (λ z u w. none-since at k f some u (omega arith))
       (λ z. inside v l (leb-false k (x .longest) z)))
       (λ q. let v : at ≤ base = ltb-false base at q in
-      by-test (GlanceKnows (since at f) k (max at base) (base + m)) (leb (k - s) (x .head)) (Told (Hit (base - s)))
+      by-test (GlanceKnows (since at f) k (max at base) (base + m)) (leb (k - s) (x .head)) (Settled (Hit (base - s)))
       (cond (leb k (x .longest)) Look
-      (cond (eqb (x .head) m) (Told (Next (s + m))) (Told (Next (min (min (x .tail) (x .longest)) m)))))
+      (cond (eqb (x .head) m) (Settled (Next (s + m))) (Settled (Next (min (min (x .tail) (x .longest)) m)))))
       (λ z. hit v before (before .short))
       (λ z. let h : x .head < k - s = leb-false (k - s) (x .head) z in
       by-test (GlanceKnows (since at f) k (max at base) (base + m)) (leb k (x .longest)) Look
-      (cond (eqb (x .head) m) (Told (Next (s + m))) (Told (Next (min (min (x .tail) (x .longest)) m))))
+      (cond (eqb (x .head) m) (Settled (Next (s + m))) (Settled (Next (min (min (x .tail) (x .longest)) m))))
       (λ c u w. word v before h (leb-true k (x .longest) c) u (omega arith))
-      (λ c. by-test (GlanceKnows (since at f) k (max at base) (base + m)) (eqb (x .head) m) (Told (Next (s + m)))
-      (Told (Next (min (min (x .tail) (x .longest)) m))) (λ i. whole v before h (eqb-true (x .head) m i))
+      (λ c. by-test (GlanceKnows (since at f) k (max at base) (base + m)) (eqb (x .head) m) (Settled (Next (s + m)))
+      (Settled (Next (min (min (x .tail) (x .longest)) m))) (λ i. whole v before h (eqb-true (x .head) m i))
       (λ i. ending v before h (eqb-false (x .head) m i) (leb-false k (x .longest) c))))))
 
 -- ---- down the groups
@@ -196,7 +196,7 @@ module _ (f : ℕ → Bool) (p : ℕ) (summary : List ℕ) (at k : ℕ) (some : 
 
   looked : (low end : ℕ) (x : Glance) (deeper : Step) → GlanceKnows (since at f) k low end x
       → (NoneBefore (since at f) k low → Knows (since at f) k end deeper) → Knows (since at f) k end (orLook x deeper)
-  looked low end (Told r) deeper b look = b
+  looked low end (Settled r) deeper b look = b
   looked low end Look deeper b look = look b
 
   both : (base m : ℕ) (r : Step) (next : ℕ → Step) → m ≡ 2 * (m / 2) → Knows (since at f) k (base + m / 2) r

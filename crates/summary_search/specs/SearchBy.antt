@@ -17,31 +17,31 @@ use Rattle.summary_groups.specs.declared.Group.{Group}
 use Rattle.summary_groups.specs.Groups.{power}
 use Rattle.summary.specs.Summary.{groupIn}
 use Rattle.summary_search.specs.declared.Glance.{Glance}
-use Rattle.summary_search.specs.declared.Glance.the-variants.{Told, Look}
+use Rattle.summary_search.specs.declared.Glance.the-variants.{Settled, Look}
 
 -- What the numbers of a group tell a search for k blocks from block `at` on: `Hit t`, a run may start at t and none before it;
 -- `Next s`, none does, and the group ends in s free blocks; `Look`, the group has such a run.
 
 -- A group that has `at` inside, and ends before block stop.
 unfoldable pub insideOf : Group → ℕ → ℕ → ℕ → Glance
-insideOf x at k stop = cond (leb k (x .longest)) Look (Told (Next (min (min (x .tail) (x .longest)) (stop - at))))
+insideOf x at k stop = cond (leb k (x .longest)) Look (Settled (Next (min (min (x .tail) (x .longest)) (stop - at))))
 
 -- A group of m blocks from base on, which is not before `at`, with s free blocks right before it.
 unfoldable pub wholeOf : Group → ℕ → ℕ → ℕ → ℕ → Glance
 wholeOf x k base m s =
-    cond (leb (k - s) (x .head)) (Told (Hit (base - s)))
+    cond (leb (k - s) (x .head)) (Settled (Hit (base - s)))
     (cond (leb k (x .longest)) Look
-    (cond (eqb (x .head) m) (Told (Next (s + m))) (Told (Next (min (min (x .tail) (x .longest)) m)))))
+    (cond (eqb (x .head) m) (Settled (Next (s + m))) (Settled (Next (min (min (x .tail) (x .longest)) m)))))
 
 -- Any group.
 unfoldable pub glanceOf : Group → ℕ → ℕ → ℕ → ℕ → ℕ → Glance
 unfolding insideOf wholeOf
 glanceOf x at k base m s =
-    cond (leb (base + m) at) (Told (Next 0)) (cond (ltb base at) (insideOf x at k (base + m)) (wholeOf x k base m s))
+    cond (leb (base + m) at) (Settled (Next 0)) (cond (ltb base at) (insideOf x at k (base + m)) (wholeOf x k base m s))
 
--- What is told, or what comes of looking.
+-- What is settled, or what comes of looking.
 abbrev pub orLook : Glance → Step → Step
-orLook (Told r) deeper = r
+orLook (Settled r) deeper = r
 orLook Look deeper = deeper
 
 -- A step, or where it found no start, the next one with the free blocks that it ends in.

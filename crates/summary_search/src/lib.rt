@@ -12,7 +12,7 @@ use survey_words::larger;
 
 // What the numbers of a group tell a search: how it goes on, or that the group must be looked into.
 pub enum Glance {
-    Told(Step),
+    Settled(Step),
     Look,
 }
 
@@ -22,7 +22,7 @@ fn glance_inside(group: Group, at: u32, k: u32, stop: u32) -> Glance
     ensures { λ r. ⌜ r ≡ insideOf group at k stop ⌝ }
 {
     if group.longest < k {
-        return Glance::Told(Step::Next(smaller(smaller(group.tail, group.longest), stop - at)));
+        return Glance::Settled(Step::Next(smaller(smaller(group.tail, group.longest), stop - at)));
     }
     Glance::Look
 }
@@ -33,15 +33,15 @@ fn glance_whole(group: Group, k: u32, base: u32, m: u32, s: u32) -> Glance
     ensures { λ r. ⌜ r ≡ wholeOf group k base m s ⌝ }
 {
     if k - s <= group.head {
-        return Glance::Told(Step::Hit(base - s));
+        return Glance::Settled(Step::Hit(base - s));
     }
     if k <= group.longest {
         return Glance::Look;
     }
     if group.head == m {
-        return Glance::Told(Step::Next(s + m));
+        return Glance::Settled(Step::Next(s + m));
     }
-    Glance::Told(Step::Next(smaller(smaller(group.tail, group.longest), m)))
+    Glance::Settled(Step::Next(smaller(smaller(group.tail, group.longest), m)))
 }
 
 // What a group of m blocks from base on tells a search from block `at` on.
@@ -50,7 +50,7 @@ fn glance_at(group: Group, at: u32, k: u32, base: u32, m: u32, s: u32) -> Glance
     ensures { λ r. ⌜ r ≡ glanceOf group at k base m s ⌝ }
 {
     if base + m <= at {
-        return Glance::Told(Step::Next(0));
+        return Glance::Settled(Step::Next(0));
     }
     if base < at {
         return glance_inside(group, at, k, base + m);
@@ -80,7 +80,7 @@ pub fn seek_in(summary: &[u32], at: u32, k: u32, g: usize, base: u32, m: u32, s:
         ⌜ ((d : ℕ) → m ≤ 64 * d → r ≡ stepNumber (seekIn d (now (summary .entry)) at k g base m s)) ⌝ }
 {
     match glance_at(read(summary, g), at, k, base, m, s) {
-        Glance::Told(step) => number_of(step),
+        Glance::Settled(step) => number_of(step),
         Glance::Look => {
             if m == 64 {
                 return larger(at, base);

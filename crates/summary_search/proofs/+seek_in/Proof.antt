@@ -8,7 +8,8 @@ use denote.Ref.{now}
 use Rattle.summary_groups.specs.declared.Group.{Group}
 use Rattle.summary_search.specs.declared.Glance.{Glance}
 use Rattle.summary_search.specs.SearchBy.{glanceOf}
-use Rattle.summary_search.proofs.Descent.{told-small, told-number, word-number, first-number, carried-on, second-number}
+use Rattle.summary_search.proofs.Descent.{settled-small, settled-number, word-number, first-number, carried-on}
+use Rattle.summary_search.proofs.Descent.{second-number}
 use Rattle.summary_search.proofs.Places.{located-small, located-few, located-least, lies-left, lies-right, lies-room}
 use borrow.Fn.Kinds.{In}
 use borrow.Fn.PlainCycle.{Measures, is, falls, and}
@@ -99,7 +100,7 @@ seek-in-number-of-requires : (t : ℕ) → seek-in-lts.Need-number-of-requires (
 seek-in-number-of-requires t c κs =
     let glance = c .before .before .before in
     let start = glance .before .before .before in
-    told-small (now (start .args .summary)) _ _ _ _ _ _ (start .pre .1 .0) (start .pre .1 .1) (start .pre .1 .2) _
+    settled-small (now (start .args .summary)) _ _ _ _ _ _ (start .pre .1 .0) (start .pre .1 .1) (start .pre .1 .2) _
     (glanced _ _ _ _ _ (glance .before .read .ensures) (glance .glance-at .ensures) ∙ c .before .step .given .1)
 
 seek-in-enum-told : (t : ℕ) → seek-in-lts.Need-enum-told (
@@ -308,7 +309,7 @@ seek-in-returns-3 t c =
     let glance = c .before .before .before .before in
     let start = glance .before .before .before in
     λ d l. c .number-of .ensures
-    ∙ told-number (now (start .args .summary)) _ _ _ _ _ _ (start .pre .1 .0) _
+    ∙ settled-number (now (start .args .summary)) _ _ _ _ _ _ (start .pre .1 .0) _
     (glanced _ _ _ _ _ (glance .before .read .ensures) (glance .glance-at .ensures) ∙ c .before .before .step .given .1) d l
 
 seek-in-returns-4 : (t : ℕ) → seek-in-lts.Need-returns-4 (
