@@ -8,7 +8,7 @@ use native.Mathlib.Omega.{arith}
 use lib.ListN.{length}
 use borrow.Author.Tests.{eqb-true}
 use Rattle.laws.proofs.Bools.{and-left, and-right}
-use Rattle.summary.specs.Summary.{summaryLength, Beside, ownSummary, isOwn}
+use Rattle.summary.specs.Summary.{summaryLength, Matched, ownSummary, isOwn}
 use Rattle.catalogue_standings.specs.Limits.{shapeFits}
 use Rattle.catalogue_standings.specs.Rows.{Verdict, accepted, settle}
 use Rattle.catalogue_standings.specs.declared.Answer.{Answer}
@@ -21,7 +21,7 @@ module _ (n spare : ℕ) (map summary : List ℕ) where
   abbrev whole : Bool
   whole = summaryFits n spare (length map) (length summary)
 
-  pub lengths : whole ≡ true → Beside map n summary
+  pub lengths : whole ≡ true → Matched map n summary
   unfolding summaryFits
   lengths e =
       let f = fits n spare (length map) (and-left (shapeFits n spare (length map)) _ e) in

@@ -118,11 +118,11 @@ module _ (map : List ℕ) (es : List Entry) (scratch : List ℕ) (n : ℕ) (w : 
   abbrev pub oneWindow : Window
   oneWindow = windowEnd n (windowOver es w (copied map w scratch)) oneScratch
 
-pub record Stand : Type 0 where
+pub record Scanned : Type 0 where
   pub state : Window
   pub scratch : List ℕ
 
-unfoldable pub windows : List ℕ → List Entry → ℕ → ℕ → Stand → Stand
+unfoldable pub windows : List ℕ → List Entry → ℕ → ℕ → Scanned → Scanned
 windows map es n zero s = s
 windows map es n (suc k) s = record {
   state = oneWindow map es (windows map es n k s .scratch) n (windows map es n k s .state);

@@ -45,7 +45,7 @@ use Rattle.summary_search.proofs.Searches.{by-none}
 use Rattle.card.specs.Calls.{reserveSummaryBy, acceptSummaryBy}
 use Rattle.ledger.specs.Calls.{on}
 use Rattle.ledger.specs.Claim.{before}
-use Rattle.ledger_summaries.specs.Summaries.{refusing, WrongLength, Comes, Searched, turned-down, granted, AnyReserve}
+use Rattle.ledger_summaries.specs.Summaries.{refusing, WrongLength, Comes, Decided, turned-down, granted, AnyReserve}
 use Rattle.ledger_summaries.proofs.Closed.{same-close, close-anew, close-refuses}
 use Rattle.ledger_summaries.proofs.Ends.{takes, reserve-takes, accept-takes, reserve-refuses, accept-refuses}
 use Rattle.ledger_summaries.proofs.Ends.{grow-refuses, release-refuses}
@@ -222,7 +222,7 @@ module _ (s : Kept) (summary : List ℕ) (limits : List ℕ) (sheet : ℕ) (long
       go (refused m) o e = absurd (not-refused m e)
       go accepted o e = by-15 o (misfigured n g) refl e
 
-  turned : (number : ℕ) → (number ≡ 10) ⊎ (number ≡ 4) → reserveVerdict x k p ≡ refused number → Searched s summary limits
+  turned : (number : ℕ) → (number ≡ 10) ⊎ (number ≡ 4) → reserveVerdict x k p ≡ refused number → Decided s summary limits
       sheet k p
   turned number which h =
       let u = reserve-refuses true summary s sheet number limits k p h in
@@ -258,23 +258,23 @@ module _ (s : Kept) (summary : List ℕ) (limits : List ℕ) (sheet : ℕ) (long
         ap (λ (v : Verdict). effects.takenSummary x v (reserveStart x k p) k) (reserved ∙ sym accepts-there)
         ∙ ap (λ (start : ℕ). effects.takenSummary x (acceptVerdict x t k) start k) starts
 
-    grants : Searched s summary limits sheet k p
+    grants : Decided s summary limits sheet k p
     grants = granted t fits
         (reserve-takes s limits sheet k true summary p
         ∙ ap (λ (v : Verdict). takes s limits sheet k v (reserveStart x k p)) (reserved ∙ sym accepts-there)
         ∙ ap (takes s limits sheet k (acceptVerdict x t k)) starts ∙ sym (accept-takes s limits sheet k true summary t))
         same-summary
 
-  searched : Comes s limits sheet k p → Searched s summary limits sheet k p
+  searched : Comes s limits sheet k p → Decided s summary limits sheet k p
   searched comes = go found refl (passed comes)
     where
-      by-count : (t : ℕ) → found ≡ At t → (w : Passed) → (b : Bool) → ltb (s .shape .free) k ≡ b → Searched s summary limits
+      by-count : (t : ℕ) → found ≡ At t → (w : Passed) → (b : Bool) → ltb (s .shape .free) k ≡ b → Decided s summary limits
           sheet k p
       by-count t f w true b = turned 4 (inr refl)
           (by-rest x (refused 4) (giving-x ∙ w .opens) (reserving.too-few x k p t (w .right) (w .under) f (ltb-true _ _ b)))
       by-count t f w false b = grants t f w (ltb-false _ _ b)
 
-      go : (o : Found) → found ≡ o → Passed → Searched s summary limits sheet k p
+      go : (o : Found) → found ≡ o → Passed → Decided s summary limits sheet k p
       go Nothing f w = turned 10 (inl refl) (by-rest x (refused 10) (giving-x ∙ w .opens)
           (reserving.no-fit x k p (w .right) (w .under) f))
       go (At t) f w = by-count t f w (ltb (s .shape .free) k) refl

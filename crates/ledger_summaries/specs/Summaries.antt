@@ -115,14 +115,14 @@ Comes s limits sheet k p =
 
 -- If it does, it is refused with 10, or with 4 by the free count, and changes nothing; or it is granted a run that is free,
 -- within its figures, inside n and k long, and then does and answers what an accept of that run does.
-pub data Searched (s : Kept) (summary limits : List ℕ) (sheet k : ℕ) (p : Placement) : Type 0 where
+pub data Decided (s : Kept) (summary limits : List ℕ) (sheet k : ℕ) (p : Placement) : Type 0 where
   turned-down : (number : ℕ) → (number ≡ 10) ⊎ (number ≡ 4)
       → endIn true summary s (on sheet (reserve limits k p)) ≡ refusing s number
-      → summaryAfter summary s (on sheet (reserve limits k p)) ≡ summary → Searched s summary limits sheet k p
+      → summaryAfter summary s (on sheet (reserve limits k p)) ≡ summary → Decided s summary limits sheet k p
   granted : (start : ℕ) → fitWithin (free (s .map)) (figuresIn (s .shape .blocks) p) k start ≡ true
       → endIn true summary s (on sheet (reserve limits k p)) ≡ endIn true summary s (on sheet (accept limits start k))
       → summaryAfter summary s (on sheet (reserve limits k p)) ≡ summaryAfter summary s (on sheet (accept limits start k))
-      → Searched s summary limits sheet k p
+      → Decided s summary limits sheet k p
 
 pub record AnyReserve (s : Kept) (summary limits : List ℕ) (sheet k : ℕ) (p : Placement) : Type 0 where
   pub refused-before : (number : ℕ)
@@ -130,7 +130,7 @@ pub record AnyReserve (s : Kept) (summary limits : List ℕ) (sheet k : ℕ) (p 
       refused number
       → (endIn true summary s (on sheet (reserve limits k p)) ≡ endOf s (on sheet (reserve limits k p)))
       × (summaryAfter summary s (on sheet (reserve limits k p)) ≡ summary)
-  pub searched : Comes s limits sheet k p → Searched s summary limits sheet k p
+  pub searched : Comes s limits sheet k p → Decided s summary limits sheet k p
   -- where group 0's longest is below k, the search gives no fit, whatever the map holds
   pub short : Comes s limits sheet k p → getD summary 2 0 < k → endIn true summary s (on sheet (reserve limits k p)) ≡
       refusing s 10

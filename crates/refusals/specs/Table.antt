@@ -39,9 +39,9 @@ pub data Ask : Type 0 where
   -- of document 02 (m): a show of a place on a date
   showDated : ℕ → Date → List ℕ → Ask
 
--- The calls of a list: something is asked of a sheet.
-pub data Call : Type 0 where
-  on : ℕ → Ask → Call
+-- A call for a sheet: something is asked of it.
+pub data SheetCall : Type 0 where
+  on : ℕ → Ask → SheetCall
 
 -- What the rows read, for the sheet that is called for. The program's view is of shape, map, entry and card; the ledger's
 -- is of the ledger.
@@ -151,10 +151,10 @@ rowsFor v standing = []
 rowsFor v (offer limits k) = reserveRows v limits k plain
 rowsFor v (accept limits start k) = giving v k (limitRow v limits k ∷ runRows 17 v start k)
 
-unfoldable pub tableOf : View → Call → List Row
+unfoldable pub tableOf : View → SheetCall → List Row
 unfolding rowsFor
 tableOf v (on sheet ask) = opening v sheet (rowsFor v ask)
 
 -- The verdict on a call.
-abbrev pub verdictOf : View → Call → Verdict
+abbrev pub verdictOf : View → SheetCall → Verdict
 verdictOf v c = firstOf (tableOf v c)

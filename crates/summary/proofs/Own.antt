@@ -10,7 +10,7 @@ use Rattle.laws.proofs.Bools.{not-true}
 use Rattle.summary_groups.specs.Groups.{power}
 use Rattle.summary_groups.specs.Places.{Sited}
 use Rattle.summary_groups.proofs.Places.{power-power, power-small, below-zero, sited-zero}
-use Rattle.summary.specs.Summary.{groupIn, groupAt, usable, ownSummary, isOwn, Beside}
+use Rattle.summary.specs.Summary.{groupIn, groupAt, usable, ownSummary, isOwn, Matched}
 use Rattle.summary.specs.Walks.{RightFrom, RightBelow, Decides}
 use Rattle.summary.proofs.Numbers.{summary-at, summary-only, is-own, own-is}
 
@@ -21,7 +21,7 @@ own-right map n s e h l =
     subst (λ (x : List ℕ). groupIn x h ≡ groupAt (usable map n) (power (length map)) h) (sym e)
     (summary-at (usable map n) (power (length map)) h l)
 
-module _ (map : List ℕ) (n : ℕ) (s : List ℕ) (lent : Beside map n s) where
+module _ (map : List ℕ) (n : ℕ) (s : List ℕ) (lent : Matched map n s) where
   -- the summary is the map's own if every group is right
   pub right-own : RightBelow (usable map n) (power (length map)) s 0 → s ≡ ownSummary map n
   unfolding ownSummary
@@ -33,13 +33,13 @@ module _ (map : List ℕ) (n : ℕ) (s : List ℕ) (lent : Beside map n s) where
       sym (not-true (isOwn map n s) (λ e. d .1 mathlib.Core.Path.refl (λ h l b. own-right map n s (is-own map n s e) h l)))
 
 -- every group from 0 on is right
-pub all-own : (map : List ℕ) (n : ℕ) (s s′ : List ℕ) → Beside map n s → length s′ ≡ length s
+pub all-own : (map : List ℕ) (n : ℕ) (s s′ : List ℕ) → Matched map n s → length s′ ≡ length s
     → RightFrom (usable map n) (power (length map)) s′ 0 → s′ ≡ ownSummary map n
 all-own map n s s′ lent e r =
     right-own map n s′ (record { few = lent .few; fits = lent .fits; long = e ∙ lent .long }) (λ h l b. r h (omega arith) l)
 
 -- group 0 is all words
-pub sited-whole : (map : List ℕ) (n : ℕ) (s : List ℕ) (p : ℕ) → Beside map n s → p ≡ power (length map)
+pub sited-whole : (map : List ℕ) (n : ℕ) (s : List ℕ) (p : ℕ) → Matched map n s → p ≡ power (length map)
     → Sited (power (length map)) 0 0 p
 sited-whole map n s p lent e =
     subst (Sited (power (length map)) 0 0) (sym e)

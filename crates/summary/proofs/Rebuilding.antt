@@ -10,7 +10,7 @@ use native.Mathlib.Omega.{arith}
 use lib.ListN.{length}
 use Rattle.laws.proofs.Bools.{order}
 use Rattle.summary_groups.specs.declared.Group.{Group}
-use Rattle.summary_groups.specs.Groups.{Place, place, groupOf, joinedOf}
+use Rattle.summary_groups.specs.Groups.{Span, place, groupOf, joinedOf}
 use Rattle.summary_groups.specs.Places.{same, Sited, Apart}
 use Rattle.summary_groups.proofs.Places.{apart-below, below-split, sited-left, sited-right, sited-index, sited-last}
 use Rattle.summary.specs.Summary.{groupIn}
@@ -25,14 +25,14 @@ equal a b =
 module _ (p lo hi g first size : ℕ) (s : Sited p g first size) where
   pub meets : first < hi → lo < first + size → Apart p lo hi g → ⊥
   meets a b q =
-      let e : place p g .first ≡ first = ap (λ (l : Place). l .first) (s .lies) in
-      let z : place p g .size ≡ size = ap (λ (l : Place). l .size) (s .lies) in
+      let e : place p g .first ≡ first = ap (λ (l : Span). l .first) (s .lies) in
+      let z : place p g .size ≡ size = ap (λ (l : Span). l .size) (s .lies) in
       ⊎-elim (λ l. omega arith) (λ l. omega arith) q
 
   pub apart : (hi ≤ first) ⊎ (first + size ≤ lo) → Apart p lo hi g
   apart q =
-      let e : place p g .first ≡ first = ap (λ (l : Place). l .first) (s .lies) in
-      let z : place p g .size ≡ size = ap (λ (l : Place). l .size) (s .lies) in
+      let e : place p g .first ≡ first = ap (λ (l : Span). l .first) (s .lies) in
+      let z : place p g .size ≡ size = ap (λ (l : Span). l .size) (s .lies) in
       ⊎-elim (λ l. inl (omega arith)) (λ l. inr (omega arith)) q
 
 -- a group stored as aimed at

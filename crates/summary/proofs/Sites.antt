@@ -4,7 +4,7 @@ use mathlib.Core.Path.{_≡_, sym, ap, ap₂, _∙_}
 use mathlib.Core.Bool.{Bool}
 use Prim.Native.Nat.{ℕ, _+_, _*_, _/_}
 use Rattle.summary_groups.specs.declared.Group.{Group}
-use Rattle.summary_groups.specs.Groups.{Place, groupOf, joinedOf}
+use Rattle.summary_groups.specs.Groups.{Span, groupOf, joinedOf}
 use Rattle.summary_groups.specs.Places.{Sited}
 use Rattle.summary_groups.proofs.Halves.{group-halves}
 use Rattle.summary_groups.proofs.Places.{sited-left, sited-right}
@@ -13,7 +13,7 @@ use Rattle.summary.specs.Summary.{groupAt}
 module _ (f : ℕ → Bool) (p g first size : ℕ) (s : Sited p g first size) where
   pub group-at : groupAt f p g ≡ groupOf f (64 * first) (64 * size)
   unfolding groupAt
-  group-at = ap (λ (l : Place). groupOf f (64 * l .first) (64 * l .size)) (s .lies)
+  group-at = ap (λ (l : Span). groupOf f (64 * l .first) (64 * l .size)) (s .lies)
 
 -- it is built from its halves
 pub at-halves : (f : ℕ → Bool) (p g first size : ℕ) → Sited p g first size → (size ≡ 1 → ⊥)

@@ -15,12 +15,12 @@ use Rattle.map_blocks.specs.Blocks.{free}
 use Rattle.map_blocks.specs.Maps.{marked, inRun}
 use Rattle.map_blocks.proofs.Maps.{marked-length, map-free}
 use Rattle.summary_groups.specs.declared.Group.{Group}
-use Rattle.summary_groups.specs.Groups.{Place, place, power, joinedOf}
+use Rattle.summary_groups.specs.Groups.{Span, place, power, joinedOf}
 use Rattle.summary_groups.specs.Places.{Sited, Apart}
 use Rattle.summary_groups.proofs.Joins.{group-same}
 use Rattle.summary_groups.proofs.Places.{power-power, power-small, below-zero, sited-all, sited-left, sited-right}
 use Rattle.summary_groups.proofs.Places.{Power, sited-pos, sited-even, sited-index}
-use Rattle.summary.specs.Summary.{groupIn, groupAt, summaryOf, usable, ownSummary, summaryLength, Beside}
+use Rattle.summary.specs.Summary.{groupIn, groupAt, summaryOf, usable, ownSummary, summaryLength, Matched}
 use Rattle.summary.specs.Updates.{changed, updatedIn, updatedSummary}
 use Rattle.summary.specs.Walks.{Target, Rebuilds}
 use Rattle.summary.proofs.Rebuilding.{equal}
@@ -30,7 +30,7 @@ use Rattle.summary.proofs.Usable.{below-n, from-n}
 
 -- ---- the words that hold a changed block
 
-module _ (start count : ℕ) (l : Place) where
+module _ (start count : ℕ) (l : Span) where
   is-changed : 0 < count → start < 64 * (l .first + l .size) → 64 * l .first < start + count → changed start count l ≡ true
   is-changed a b c =
       and-both (ltb 0 count) (ltb start (64 * (l .first + l .size)) && ltb (64 * l .first) (start + count)) (lt-ltb 0 count a)
@@ -67,7 +67,7 @@ module _ (f : ℕ → Bool) (p : ℕ) (s : List ℕ) (start count : ℕ) where
         (cond t (groupAt f p g) (joinedOf (updatedIn m f p s start count (2 * g + 1)) (updatedIn m f p s start count
         (2 * g + 2))
         (64 * (place p g .size / 2)))) (groupIn s g))
-        (eq-eqb (place p g .size) 1 (ap (λ (l : Place). l .size) (sited .lies) ∙ e))
+        (eq-eqb (place p g .size) 1 (ap (λ (l : Span). l .size) (sited .lies) ∙ e))
 
     -- a group of more
     after-halves : (size ≡ 1 → ⊥) → updatedIn (suc m) f p s start count g
@@ -76,7 +76,7 @@ module _ (f : ℕ → Bool) (p : ℕ) (s : List ℕ) (start count : ℕ) where
         (groupIn s g)
     unfolding updatedIn
     after-halves ne =
-        let z : place p g .size ≡ size = ap (λ (l : Place). l .size) (sited .lies) in
+        let z : place p g .size ≡ size = ap (λ (l : Span). l .size) (sited .lies) in
         ap (λ (t : Bool). cond (changed start count (place p g))
         (cond t (groupAt f p g) (joinedOf (updatedIn m f p s start count (2 * g + 1)) (updatedIn m f p s start count
         (2 * g + 2))
@@ -226,7 +226,7 @@ module _ (map : List ℕ) (n : ℕ) (s : List ℕ) (start count : ℕ) where
       && ltb (64 * place (power (length map)) h .first) (start + count))) (le-ltb 0 count (omega arith)))))
 
   -- what a walk over the changed words leaves
-  pub rebuilt : (s′ : List ℕ) → Beside map n s → 0 < count → length s′ ≡ length s
+  pub rebuilt : (s′ : List ℕ) → Matched map n s → 0 < count → length s′ ≡ length s
       → Rebuilds (usable map n) (power (length map)) (start / 64) ((start + count + 63) / 64) 0 s s′
       → s′ ≡ updatedSummary map n s start count
   rebuilt s′ lent some e r =

@@ -56,7 +56,7 @@ unfolding sameNumbers ownSummary
 isOwn map n s = sameNumbers s (ownSummary map n)
 
 -- A map of at most 262,144 blocks, n of them the card's, and a summary that has its length.
-pub record Beside (map : List ℕ) (n : ℕ) (s : List ℕ) : Type 0 where
+pub record Matched (map : List ℕ) (n : ℕ) (s : List ℕ) : Type 0 where
   pub few : length map ≤ 4096
   pub fits : n ≤ 64 * length map
   pub long : length s ≡ summaryLength (length map)

@@ -7,11 +7,11 @@ use mathlib.Core.List.{List}
 use lib.Dec.{eqb, ltb}
 use lib.ListN.{length}
 use Rattle.summary_groups.specs.declared.Group.{Group}
-use Rattle.summary_groups.specs.Groups.{Place, place, power, joinedOf}
+use Rattle.summary_groups.specs.Groups.{Span, place, power, joinedOf}
 use Rattle.summary.specs.Summary.{numbers, groupIn, groupAt, usable}
 
 -- The words at a place have one of the count blocks from start on; with a count of 0 none has.
-abbrev pub changed : ℕ → ℕ → Place → Bool
+abbrev pub changed : ℕ → ℕ → Span → Bool
 changed start count l = ltb 0 count && (ltb start (64 * (l .first + l .size)) && ltb (64 * l .first) (start + count))
 
 -- Group g of p words afterwards: as it was in the summary s, if it has none of the changed words; otherwise that of its word, f

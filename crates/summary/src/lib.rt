@@ -7,7 +7,7 @@ ghost use lib.ListN.{length};
 ghost use Rattle.map_blocks.specs.Words.{bit};
 ghost use Rattle.summary_groups.specs.Groups.{power, groupOf};
 ghost use Rattle.summary_groups.specs.Places.{Sited};
-ghost use Rattle.summary.specs.Summary.{usable, groupIn, isOwn, summaryLength, Beside};
+ghost use Rattle.summary.specs.Summary.{usable, groupIn, isOwn, summaryLength, Matched};
 ghost use Rattle.summary.specs.Walks.{halvesOf, RightBelow, Decides};
 use map_blocks::word::part;
 use summary_groups::Group;
@@ -101,7 +101,7 @@ fn halves_agree(summary: &[u32], g: usize, half: usize) -> bool
 
 // Whether group g, of the words first to first + size - 1, and the groups below it are right.
 fn right_below(map: &[u64], n: u32, summary: &[u32], g: usize, first: usize, size: usize) -> bool
-    requires { ⌜ Beside (now map) n (now summary) × Sited (power (length (now map))) g first size ⌝ }
+    requires { ⌜ Matched (now map) n (now summary) × Sited (power (length (now map))) g first size ⌝ }
     ensures { λ r.
         ⌜ Decides r (RightBelow (usable (now (map .entry)) n) (power (length (now (map .entry)))) (now (summary .entry)) g) ⌝ }
 {
@@ -119,7 +119,7 @@ fn right_below(map: &[u64], n: u32, summary: &[u32], g: usize, first: usize, siz
 
 // Whether a summary is the map's own.
 pub fn check(map: &[u64], n: u32, summary: &[u32]) -> bool
-    requires { ⌜ Beside (now map) n (now summary) ⌝ }
+    requires { ⌜ Matched (now map) n (now summary) ⌝ }
     ensures { λ r. ⌜ r ≡ isOwn (now (map .entry)) n (now (summary .entry)) ⌝ }
 {
     right_below(map, n, summary, 0, 0, words_of(summary))

@@ -9,7 +9,7 @@ use lib.Dec.{eqb, ltb}
 use lib.Pow.{pow-pos, pow-mono}
 use borrow.Author.Tests.{eq-eqb, ne-eqb, ltb-true, ltb-false}
 use Rattle.laws.proofs.Bools.{order}
-use Rattle.summary_groups.specs.Groups.{doubled, power, Place, firstHalf, secondHalf, halfOf, placeIn, place}
+use Rattle.summary_groups.specs.Groups.{doubled, power, Span, firstHalf, secondHalf, halfOf, placeIn, place}
 use Rattle.summary_groups.specs.Places.{Below, same, left, right, Sited, Apart}
 
 -- ---- the least power of two
@@ -75,7 +75,7 @@ power-small w h = go (power-power w)
 
 -- ---- where a group lies
 
-abbrev whole : ℕ → Place
+abbrev whole : ℕ → Span
 whole p = record { first = 0; size = p }
 
 whole-at : (m p g : ℕ) → g ≡ 0 → placeIn m p g ≡ whole p
@@ -88,7 +88,7 @@ unfolding placeIn
 fuel zero n p g a b = sym (whole-at n p g (omega arith))
 fuel (suc m) zero p g a b = whole-at (suc m) p g (omega arith)
 fuel (suc m) (suc n) p g a b =
-    ap (λ (x : Place). cond (eqb g 0) (whole p) (halfOf g x)) (fuel m n p ((g - 1) / 2) (omega arith) (omega arith))
+    ap (λ (x : Span). cond (eqb g 0) (whole p) (halfOf g x)) (fuel m n p ((g - 1) / 2) (omega arith) (omega arith))
 
 -- any group but 0 is a half of another
 half-of : (p g h m : ℕ) → h ≡ suc m → (h - 1) / 2 ≡ g → place p h ≡ halfOf h (place p g)
@@ -102,11 +102,11 @@ pub place-zero : (p : ℕ) → place p 0 ≡ record { first = 0; size = p }
 unfolding place placeIn
 place-zero p = refl
 
-first-half : (g : ℕ) (l : Place) → halfOf (2 * g + 1) l ≡ firstHalf l
+first-half : (g : ℕ) (l : Span) → halfOf (2 * g + 1) l ≡ firstHalf l
 unfolding halfOf
 first-half g l = ap (λ (x : Bool). cond x (firstHalf l) (secondHalf l)) (eq-eqb ((2 * g + 1) % 2) 1 (omega arith))
 
-second-half : (g : ℕ) (l : Place) → halfOf (2 * g + 2) l ≡ secondHalf l
+second-half : (g : ℕ) (l : Span) → halfOf (2 * g + 2) l ≡ secondHalf l
 unfolding halfOf
 second-half g l = ap (λ (x : Bool). cond x (firstHalf l) (secondHalf l)) (ne-eqb ((2 * g + 2) % 2) 1 (λ z. omega arith))
 
@@ -149,21 +149,21 @@ below-zero h = go h h (omega arith)
             (left ((h - 1) / 2) (rec ((h - 1) / 2) (omega arith)))) (order (h % 2) 1)) (order h 1)
 
 -- its words are among those of the group above
-pub record Within (a b : Place) : Type 0 where
+pub record Within (a b : Span) : Type 0 where
   pub low : b .first ≤ a .first
   pub high : a .first + a .size ≤ b .first + b .size
 
 pub below-within : (p g h : ℕ) → Below g h → Within (place p h) (place p g)
 below-within p g h same = record { low = omega arith; high = omega arith }
-below-within p g h (left i b) = subst (λ (x : Place). Within x (place p g)) (sym (place-left p i))
+below-within p g h (left i b) = subst (λ (x : Span). Within x (place p g)) (sym (place-left p i))
     (go (place p i) (place p g) (below-within p g i b))
   where
-    go : (a c : Place) → Within a c → Within (firstHalf a) c
+    go : (a c : Span) → Within a c → Within (firstHalf a) c
     go a c w = record { low = omega arith; high = omega arith }
-below-within p g h (right i b) = subst (λ (x : Place). Within x (place p g)) (sym (place-right p i))
+below-within p g h (right i b) = subst (λ (x : Span). Within x (place p g)) (sym (place-right p i))
     (go (place p i) (place p g) (below-within p g i b))
   where
-    go : (a c : Place) → Within a c → Within (secondHalf a) c
+    go : (a c : Span) → Within a c → Within (secondHalf a) c
     go a c w = record { low = omega arith; high = omega arith }
 
 pub apart-below : (p lo hi g h : ℕ) → Below g h → Apart p lo hi g → Apart p lo hi h
@@ -233,17 +233,17 @@ module _ (p g first size : ℕ) (s : Sited p g first size) where
 
 -- every group of a summary lies somewhere
 pub sited-all : (p h : ℕ) → Power p → p ≤ 4096 → h + 1 < 2 * p → Below 0 h → Sited p h (place p h .first) (place p h .size)
-sited-all p h k l u same = subst (λ (x : Place). Sited p 0 (x .first) (x .size)) (sym (place-zero p)) (sited-zero p k l)
+sited-all p h k l u same = subst (λ (x : Span). Sited p 0 (x .first) (x .size)) (sym (place-zero p)) (sited-zero p k l)
 sited-all p h k l u (left i b) =
     let s = sited-all p i k l (omega arith) b in
-    subst (λ (x : Place). Sited p (2 * i + 1) (x .first) (x .size)) (sym (place-left p i))
+    subst (λ (x : Span). Sited p (2 * i + 1) (x .first) (x .size)) (sym (place-left p i))
     (sited-left p i (place p i .first) (place p i .size) s (more i s u))
   where
     more : (i : ℕ) → Sited p i (place p i .first) (place p i .size) → 2 * i + 1 + 1 < 2 * p → place p i .size ≡ 1 → ⊥
     more i s u e = let sum : place p i .first + p ≡ (i + 1) * 1 = s .sum ∙ ap (λ (x : ℕ). (i + 1) * x) e in omega arith
 sited-all p h k l u (right i b) =
     let s = sited-all p i k l (omega arith) b in
-    subst (λ (x : Place). Sited p (2 * i + 2) (x .first) (x .size)) (sym (place-right p i))
+    subst (λ (x : Span). Sited p (2 * i + 2) (x .first) (x .size)) (sym (place-right p i))
     (sited-right p i (place p i .first) (place p i .size) s (more i s u))
   where
     more : (i : ℕ) → Sited p i (place p i .first) (place p i .size) → 2 * i + 2 + 1 < 2 * p → place p i .size ≡ 1 → ⊥

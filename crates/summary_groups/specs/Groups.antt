@@ -19,28 +19,28 @@ unfolding doubled
 power w = doubled w 1 w
 
 -- Where a group lies: its first word, and how many words it has.
-pub record Place : Type 0 where
+pub record Span : Type 0 where
   pub first : ℕ
   pub size : ℕ
 
-abbrev pub firstHalf : Place → Place
+abbrev pub firstHalf : Span → Span
 firstHalf l = record { first = l .first; size = l .size / 2 }
 
-abbrev pub secondHalf : Place → Place
+abbrev pub secondHalf : Span → Span
 secondHalf l = record { first = l .first + l .size / 2; size = l .size / 2 }
 
 -- Groups 2g + 1 and 2g + 2 are the first and second half of group g: so group h is the first where it is odd.
-unfoldable pub halfOf : ℕ → Place → Place
+unfoldable pub halfOf : ℕ → Span → Span
 halfOf h l = cond (eqb (h % 2) 1) (firstHalf l) (secondHalf l)
 
 -- Group 0 is all p words, and any other group h a half of group (h - 1) / 2. The first argument bounds how often a group is a
 -- half of another.
-unfoldable pub placeIn : ℕ → ℕ → ℕ → Place
+unfoldable pub placeIn : ℕ → ℕ → ℕ → Span
 unfolding halfOf
 placeIn zero p h = record { first = 0; size = p }
 placeIn (suc m) p h = cond (eqb h 0) (record { first = 0; size = p }) (halfOf h (placeIn m p ((h - 1) / 2)))
 
-unfoldable pub place : ℕ → ℕ → Place
+unfoldable pub place : ℕ → ℕ → Span
 unfolding placeIn
 place p g = placeIn g p g
 

@@ -13,7 +13,7 @@ use Rattle.summary_groups.specs.declared.Group.{Group}
 use Rattle.summary_groups.specs.Groups.{power, groupOf, joinedOf}
 use Rattle.summary_groups.specs.Places.{Sited}
 use Rattle.summary_groups.proofs.Places.{sited-left, sited-right, sited-even, sited-pos, sited-index}
-use Rattle.summary.specs.Summary.{groupIn, groupAt, Beside}
+use Rattle.summary.specs.Summary.{groupIn, groupAt, Matched}
 use Rattle.summary.specs.Walks.{withGroup, halvesOf, Level, RightFrom}
 use Rattle.summary.proofs.Numbers.{in-with-same, in-with-other}
 use Rattle.summary.proofs.Own.{sited-whole}
@@ -21,7 +21,7 @@ use Rattle.summary.proofs.Rebuilding.{equal}
 use Rattle.summary.proofs.Sites.{group-at, at-halves}
 
 -- group 0 is the only one of all words
-pub level-whole : (map : List ℕ) (n : ℕ) (s : List ℕ) (p : ℕ) → Beside map n s → p ≡ power (length map)
+pub level-whole : (map : List ℕ) (n : ℕ) (s : List ℕ) (p : ℕ) → Matched map n s → p ≡ power (length map)
     → Level (power (length map)) 1 p
 level-whole map n s p lent e = record {
   some = omega arith;

@@ -6,7 +6,7 @@ ghost use lib.ListN.{length};
 ghost use Rattle.map_blocks.specs.Words.{bit};
 ghost use Rattle.summary_groups.specs.Groups.{power, groupOf};
 ghost use Rattle.summary_groups.specs.Places.{Sited};
-ghost use Rattle.summary.specs.Summary.{usable, ownSummary, Beside};
+ghost use Rattle.summary.specs.Summary.{usable, ownSummary, Matched};
 ghost use Rattle.summary.specs.Updates.{updatedSummary};
 ghost use Rattle.summary.specs.Walks.{withGroup, halvesOf, Level, RightFrom, Rebuilds};
 use summary::free_word;
@@ -71,7 +71,7 @@ fn rebuild(
     lo: usize,
     hi: usize,
 )
-    requires { ⌜ Beside (now map) n (now summary) × Sited (power (length (now map))) g first size ⌝ }
+    requires { ⌜ Matched (now map) n (now summary) × Sited (power (length (now map))) g first size ⌝ }
     ensures { λ r.
         ⌜ Rebuilds (usable (now (map .entry)) n) (power (length (now (map .entry)))) lo hi g (now (summary .entry))
         (now (summary .exit)) ⌝ }
@@ -94,7 +94,7 @@ fn rebuild(
 
 // Stores the groups of one word, of which there are count: each as its word tells.
 fn store_words(map: &[u64], n: u32, summary: &mut [u32], count: usize)
-    requires { ⌜ Beside (now map) n (now summary) × Level (power (length (now map))) count 1 ⌝ }
+    requires { ⌜ Matched (now map) n (now summary) × Level (power (length (now map))) count 1 ⌝ }
     ensures { λ r.
         ⌜ RightFrom (usable (now (map .entry)) n) (power (length (now (map .entry)))) (now (summary .exit)) (count - 1) ⌝ }
 {
@@ -122,7 +122,7 @@ fn store_level(summary: &mut [u32], count: usize, half: usize)
 // Builds the groups of size words, of which there are count, and the groups below them: each from its two halves, down to one
 // word. A loop stores all groups of a size: on a full card a call for each group took three times as long.
 fn build_level(map: &[u64], n: u32, summary: &mut [u32], count: usize, size: usize)
-    requires { ⌜ Beside (now map) n (now summary) × Level (power (length (now map))) count size ⌝ }
+    requires { ⌜ Matched (now map) n (now summary) × Level (power (length (now map))) count size ⌝ }
     ensures { λ r.
         ⌜ RightFrom (usable (now (map .entry)) n) (power (length (now (map .entry)))) (now (summary .exit)) (count - 1) ⌝ }
 {
@@ -137,7 +137,7 @@ fn build_level(map: &[u64], n: u32, summary: &mut [u32], count: usize, size: usi
 
 // The summary of a map of n blocks, built anew.
 pub fn build(map: &[u64], n: u32, summary: &mut [u32])
-    requires { ⌜ Beside (now map) n (now summary) ⌝ }
+    requires { ⌜ Matched (now map) n (now summary) ⌝ }
     ensures { λ r. ⌜ now (summary .exit) ≡ ownSummary (now (map .entry)) n ⌝ }
 {
     build_level(map, n, summary, 1, words_of(summary));
@@ -146,7 +146,7 @@ pub fn build(map: &[u64], n: u32, summary: &mut [u32])
 // The summary after the blocks start to start + count - 1 of the map have changed: only the groups above the words that hold
 // one of them are built anew.
 pub fn update(map: &[u64], n: u32, summary: &mut [u32], start: u32, count: u32)
-    requires { ⌜ Beside (now map) n (now summary) × (start + count ≤ 64 * length (now map)) ⌝ }
+    requires { ⌜ Matched (now map) n (now summary) × (start + count ≤ 64 * length (now map)) ⌝ }
     ensures { λ r.
         ⌜ now (summary .exit) ≡ updatedSummary (now (map .entry)) n (now (summary .entry)) start count ⌝ }
 {
