@@ -1,8 +1,8 @@
 -- Every public call that is turned away: what specs/TurnedAway.antt claims.
 -- Assumes nothing.
 use Prim.Native.Nat.{ℕ}
-use mathlib.Core.Path.{_≡_, ap, _∙_}
-use mathlib.Core.Bool.{Bool, true, false, cond}
+use mathlib.Core.Path.{_≡_, ap}
+use mathlib.Core.Bool.{Bool, false, cond}
 use mathlib.Core.List.{List}
 use Rattle.roles.specs.Roles.{may}
 use Rattle.image.specs.Effects.{zerosFor}
@@ -10,6 +10,7 @@ use Rattle.catalogue.specs.declared.Entry.{Entry}
 use Rattle.card.specs.Calls.{Kept}
 use Rattle.card.specs.declared.Outcome.{Outcome}
 use Rattle.role_calls.specs.Turned.{turnedAway}
+use Rattle.role_calls.proofs.Passing.{handed-by, left-by}
 use Rattle.ledger_roles.specs.PublicCalls.{Public, fresh, search, survey, reserve, reservePlaced, offer, accept, grow}
 use Rattle.ledger_roles.specs.PublicCalls.{put, complete, pause, resume, release, show, showDated, standing, save, load}
 use Rattle.ledger_roles.specs.PublicCalls.{close, buildSummary, checkSummary, reserveBy, reservePlacedBy, acceptBy}
@@ -37,13 +38,6 @@ summaryIn l = l .beside .summary
 abbrev scratchIn : Left → List ℕ
 scratchIn l = l .beside .scratch
 
--- where the test fails
-off : {A : Type 0} (b : Bool) (x y z : A) → b ≡ false → x ≡ cond b y z → x ≡ z
-off b x y z e h = h ∙ ap (λ (t : Bool). cond t y z) e
-
-off-by : {R : Type 0} (how : Outcome → R) (b : Bool) (x : R) (y z : Outcome) → b ≡ false → x ≡ how (cond b y z) → x ≡ how z
-off-by how b x y z e h = h ∙ ap (λ (t : Bool). how (cond t y z)) e
-
 module _ {R : Type 0} (how : Outcome → R) (role : ℕ) (s : Kept) (b : Beside) (r : R) (l : Left) where
   away : (lent : Bool) → r ≡ how (turnedAway (s .shape)) → mapIn l ≡ s .map → entriesIn l ≡ s .entries → cardIn l ≡ s .card
       → bufferIn l ≡ b .buffer → imageIn l ≡ b .image → summaryIn l ≡ b .summary
@@ -61,90 +55,90 @@ module _ {R : Type 0} (how : Outcome → R) (role : ℕ) (s : Kept) (b : Beside)
 
   by-call : (c : Public) → may role (nameIn c) ≡ false → Ensures how role s b r l c → TurnedAway how s b r l (lendsScratch c)
   by-call (fresh n) e g =
-      away _ (off-by how _ r _ _ e (g .0 .0)) (off _ (mapIn l) _ _ e (g .0 .1)) (off _ (entriesIn l) _ _ e (g .0 .2))
+      away _ (handed-by how _ _ _ e (g .0 .0)) (left-by _ _ _ e (g .0 .1)) (left-by _ _ _ e (g .0 .2))
       (ap cardIn (g .1)) (ap bufferIn (g .1)) (ap imageIn (g .1)) (ap summaryIn (g .1)) (ap scratchIn (g .1))
   by-call (search k) e g =
-      away _ (off-by how _ r _ _ e (g .0)) (ap mapIn (g .1)) (ap entriesIn (g .1)) (ap cardIn (g .1)) (ap bufferIn (g .1))
+      away _ (handed-by how _ _ _ e (g .0)) (ap mapIn (g .1)) (ap entriesIn (g .1)) (ap cardIn (g .1)) (ap bufferIn (g .1))
       (ap imageIn (g .1)) (ap summaryIn (g .1)) (ap scratchIn (g .1))
   by-call survey e g =
-      away _ (off-by how _ r _ _ e (g .0)) (ap mapIn (g .1)) (ap entriesIn (g .1)) (ap cardIn (g .1)) (ap bufferIn (g .1))
+      away _ (handed-by how _ _ _ e (g .0)) (ap mapIn (g .1)) (ap entriesIn (g .1)) (ap cardIn (g .1)) (ap bufferIn (g .1))
       (ap imageIn (g .1)) (ap summaryIn (g .1)) (ap scratchIn (g .1))
   by-call (reserve limits sheet k) e g =
-      away _ (off-by how _ r _ _ e (g .0 .0)) (off _ (mapIn l) _ _ e (g .0 .1)) (off _ (entriesIn l) _ _ e (g .0 .2))
-      (off _ (cardIn l) _ _ e (g .0 .3)) (ap bufferIn (g .1)) (ap imageIn (g .1)) (ap summaryIn (g .1)) (ap scratchIn (g .1))
+      away _ (handed-by how _ _ _ e (g .0 .0)) (left-by _ _ _ e (g .0 .1)) (left-by _ _ _ e (g .0 .2))
+      (left-by _ _ _ e (g .0 .3)) (ap bufferIn (g .1)) (ap imageIn (g .1)) (ap summaryIn (g .1)) (ap scratchIn (g .1))
   by-call (reservePlaced limits sheet k from before step) e g =
-      away _ (off-by how _ r _ _ e (g .0 .0)) (off _ (mapIn l) _ _ e (g .0 .1)) (off _ (entriesIn l) _ _ e (g .0 .2))
-      (off _ (cardIn l) _ _ e (g .0 .3)) (ap bufferIn (g .1)) (ap imageIn (g .1)) (ap summaryIn (g .1)) (ap scratchIn (g .1))
+      away _ (handed-by how _ _ _ e (g .0 .0)) (left-by _ _ _ e (g .0 .1)) (left-by _ _ _ e (g .0 .2))
+      (left-by _ _ _ e (g .0 .3)) (ap bufferIn (g .1)) (ap imageIn (g .1)) (ap summaryIn (g .1)) (ap scratchIn (g .1))
   by-call (offer limits sheet k) e g =
-      away _ (off-by how _ r _ _ e (g .0)) (ap mapIn (g .1)) (ap entriesIn (g .1)) (ap cardIn (g .1)) (ap bufferIn (g .1))
+      away _ (handed-by how _ _ _ e (g .0)) (ap mapIn (g .1)) (ap entriesIn (g .1)) (ap cardIn (g .1)) (ap bufferIn (g .1))
       (ap imageIn (g .1)) (ap summaryIn (g .1)) (ap scratchIn (g .1))
   by-call (accept limits sheet start k) e g =
-      away _ (off-by how _ r _ _ e (g .0 .0)) (off _ (mapIn l) _ _ e (g .0 .1)) (off _ (entriesIn l) _ _ e (g .0 .2))
-      (off _ (cardIn l) _ _ e (g .0 .3)) (ap bufferIn (g .1)) (ap imageIn (g .1)) (ap summaryIn (g .1)) (ap scratchIn (g .1))
+      away _ (handed-by how _ _ _ e (g .0 .0)) (left-by _ _ _ e (g .0 .1)) (left-by _ _ _ e (g .0 .2))
+      (left-by _ _ _ e (g .0 .3)) (ap bufferIn (g .1)) (ap imageIn (g .1)) (ap summaryIn (g .1)) (ap scratchIn (g .1))
   by-call (grow limits sheet k) e g =
-      away _ (off-by how _ r _ _ e (g .0 .0)) (off _ (mapIn l) _ _ e (g .0 .1)) (off _ (entriesIn l) _ _ e (g .0 .2))
-      (off _ (cardIn l) _ _ e (g .0 .3)) (ap bufferIn (g .1)) (ap imageIn (g .1)) (ap summaryIn (g .1)) (ap scratchIn (g .1))
+      away _ (handed-by how _ _ _ e (g .0 .0)) (left-by _ _ _ e (g .0 .1)) (left-by _ _ _ e (g .0 .2))
+      (left-by _ _ _ e (g .0 .3)) (ap bufferIn (g .1)) (ap imageIn (g .1)) (ap summaryIn (g .1)) (ap scratchIn (g .1))
   by-call (put sheet place payload) e g =
-      away _ (off-by how _ r _ _ e (g .0 .0)) (ap mapIn (g .1)) (ap entriesIn (g .1)) (off _ (cardIn l) _ _ e (g .0 .1))
+      away _ (handed-by how _ _ _ e (g .0 .0)) (ap mapIn (g .1)) (ap entriesIn (g .1)) (left-by _ _ _ e (g .0 .1))
       (ap bufferIn (g .1)) (ap imageIn (g .1)) (ap summaryIn (g .1)) (ap scratchIn (g .1))
   by-call (complete sheet) e g =
-      away _ (off-by how _ r _ _ e (g .0 .0)) (ap mapIn (g .1)) (off _ (entriesIn l) _ _ e (g .0 .1)) (ap cardIn (g .1))
+      away _ (handed-by how _ _ _ e (g .0 .0)) (ap mapIn (g .1)) (left-by _ _ _ e (g .0 .1)) (ap cardIn (g .1))
       (ap bufferIn (g .1)) (ap imageIn (g .1)) (ap summaryIn (g .1)) (ap scratchIn (g .1))
   by-call (pause sheet) e g =
-      away _ (off-by how _ r _ _ e (g .0 .0)) (ap mapIn (g .1)) (off _ (entriesIn l) _ _ e (g .0 .1)) (ap cardIn (g .1))
+      away _ (handed-by how _ _ _ e (g .0 .0)) (ap mapIn (g .1)) (left-by _ _ _ e (g .0 .1)) (ap cardIn (g .1))
       (ap bufferIn (g .1)) (ap imageIn (g .1)) (ap summaryIn (g .1)) (ap scratchIn (g .1))
   by-call (resume sheet) e g =
-      away _ (off-by how _ r _ _ e (g .0 .0)) (ap mapIn (g .1)) (off _ (entriesIn l) _ _ e (g .0 .1)) (ap cardIn (g .1))
+      away _ (handed-by how _ _ _ e (g .0 .0)) (ap mapIn (g .1)) (left-by _ _ _ e (g .0 .1)) (ap cardIn (g .1))
       (ap bufferIn (g .1)) (ap imageIn (g .1)) (ap summaryIn (g .1)) (ap scratchIn (g .1))
   by-call (release sheet) e g =
-      away _ (off-by how _ r _ _ e (g .0 .0)) (off _ (mapIn l) _ _ e (g .0 .1)) (off _ (entriesIn l) _ _ e (g .0 .2))
+      away _ (handed-by how _ _ _ e (g .0 .0)) (left-by _ _ _ e (g .0 .1)) (left-by _ _ _ e (g .0 .2))
       (ap cardIn (g .1)) (ap bufferIn (g .1)) (ap imageIn (g .1)) (ap summaryIn (g .1)) (ap scratchIn (g .1))
   by-call (show sheet place) e g =
-      away _ (off-by how _ r _ _ e (g .0 .0)) (ap mapIn (g .1)) (ap entriesIn (g .1)) (ap cardIn (g .1))
-      (off _ (bufferIn l) _ _ e (g .0 .1)) (ap imageIn (g .1)) (ap summaryIn (g .1)) (ap scratchIn (g .1))
+      away _ (handed-by how _ _ _ e (g .0 .0)) (ap mapIn (g .1)) (ap entriesIn (g .1)) (ap cardIn (g .1))
+      (left-by _ _ _ e (g .0 .1)) (ap imageIn (g .1)) (ap summaryIn (g .1)) (ap scratchIn (g .1))
   by-call (showDated sheet place year month day) e g =
-      away _ (off-by how _ r _ _ e (g .0 .0)) (ap mapIn (g .1)) (ap entriesIn (g .1)) (ap cardIn (g .1))
-      (off _ (bufferIn l) _ _ e (g .0 .1)) (ap imageIn (g .1)) (ap summaryIn (g .1)) (ap scratchIn (g .1))
+      away _ (handed-by how _ _ _ e (g .0 .0)) (ap mapIn (g .1)) (ap entriesIn (g .1)) (ap cardIn (g .1))
+      (left-by _ _ _ e (g .0 .1)) (ap imageIn (g .1)) (ap summaryIn (g .1)) (ap scratchIn (g .1))
   by-call (standing sheet) e g =
-      away _ (off-by how _ r _ _ e (g .0)) (ap mapIn (g .1)) (ap entriesIn (g .1)) (ap cardIn (g .1)) (ap bufferIn (g .1))
+      away _ (handed-by how _ _ _ e (g .0)) (ap mapIn (g .1)) (ap entriesIn (g .1)) (ap cardIn (g .1)) (ap bufferIn (g .1))
       (ap imageIn (g .1)) (ap summaryIn (g .1)) (ap scratchIn (g .1))
   by-call save e g =
-      away _ (off-by how _ r _ _ e (g .0 .0)) (ap mapIn (g .1)) (ap entriesIn (g .1)) (ap cardIn (g .1))
-      (ap bufferIn (g .1)) (off _ (imageIn l) _ _ e (g .0 .2)) (ap summaryIn (g .1)) (g .0 .1)
+      away _ (handed-by how _ _ _ e (g .0 .0)) (ap mapIn (g .1)) (ap entriesIn (g .1)) (ap cardIn (g .1))
+      (ap bufferIn (g .1)) (left-by _ _ _ e (g .0 .2)) (ap summaryIn (g .1)) (g .0 .1)
   by-call (load image) e g =
-      away _ (off-by how _ r _ _ e (g .0 .0)) (off _ (mapIn l) _ _ e (g .0 .1)) (off _ (entriesIn l) _ _ e (g .0 .2))
+      away _ (handed-by how _ _ _ e (g .0 .0)) (left-by _ _ _ e (g .0 .1)) (left-by _ _ _ e (g .0 .2))
       (ap cardIn (g .1)) (ap bufferIn (g .1)) (ap imageIn (g .1)) (ap summaryIn (g .1)) (g .0 .3)
   by-call close e g =
-      away _ (off-by how _ r _ _ e (g .0 .0)) (off _ (mapIn l) _ _ e (g .0 .1)) (off _ (entriesIn l) _ _ e (g .0 .2))
-      (off _ (cardIn l) _ _ e (g .0 .3)) (ap bufferIn (g .1)) (ap imageIn (g .1)) (ap summaryIn (g .1)) (g .0 .4)
+      away _ (handed-by how _ _ _ e (g .0 .0)) (left-by _ _ _ e (g .0 .1)) (left-by _ _ _ e (g .0 .2))
+      (left-by _ _ _ e (g .0 .3)) (ap bufferIn (g .1)) (ap imageIn (g .1)) (ap summaryIn (g .1)) (g .0 .4)
   by-call buildSummary e g =
-      away _ (off-by how _ r _ _ e (g .0 .0)) (ap mapIn (g .1)) (ap entriesIn (g .1)) (ap cardIn (g .1))
-      (ap bufferIn (g .1)) (ap imageIn (g .1)) (off _ (summaryIn l) _ _ e (g .0 .1)) (ap scratchIn (g .1))
+      away _ (handed-by how _ _ _ e (g .0 .0)) (ap mapIn (g .1)) (ap entriesIn (g .1)) (ap cardIn (g .1))
+      (ap bufferIn (g .1)) (ap imageIn (g .1)) (left-by _ _ _ e (g .0 .1)) (ap scratchIn (g .1))
   by-call checkSummary e g =
-      away _ (off-by how _ r _ _ e (g .0)) (ap mapIn (g .1)) (ap entriesIn (g .1)) (ap cardIn (g .1)) (ap bufferIn (g .1))
+      away _ (handed-by how _ _ _ e (g .0)) (ap mapIn (g .1)) (ap entriesIn (g .1)) (ap cardIn (g .1)) (ap bufferIn (g .1))
       (ap imageIn (g .1)) (ap summaryIn (g .1)) (ap scratchIn (g .1))
   by-call (reserveBy limits sheet k) e g =
-      away _ (off-by how _ r _ _ e (g .0 .0)) (off _ (mapIn l) _ _ e (g .0 .1)) (off _ (entriesIn l) _ _ e (g .0 .3))
-      (off _ (cardIn l) _ _ e (g .0 .4)) (ap bufferIn (g .1)) (ap imageIn (g .1)) (off _ (summaryIn l) _ _ e (g .0 .2))
+      away _ (handed-by how _ _ _ e (g .0 .0)) (left-by _ _ _ e (g .0 .1)) (left-by _ _ _ e (g .0 .3))
+      (left-by _ _ _ e (g .0 .4)) (ap bufferIn (g .1)) (ap imageIn (g .1)) (left-by _ _ _ e (g .0 .2))
       (ap scratchIn (g .1))
   by-call (reservePlacedBy limits sheet k from before step) e g =
-      away _ (off-by how _ r _ _ e (g .0 .0)) (off _ (mapIn l) _ _ e (g .0 .1)) (off _ (entriesIn l) _ _ e (g .0 .3))
-      (off _ (cardIn l) _ _ e (g .0 .4)) (ap bufferIn (g .1)) (ap imageIn (g .1)) (off _ (summaryIn l) _ _ e (g .0 .2))
+      away _ (handed-by how _ _ _ e (g .0 .0)) (left-by _ _ _ e (g .0 .1)) (left-by _ _ _ e (g .0 .3))
+      (left-by _ _ _ e (g .0 .4)) (ap bufferIn (g .1)) (ap imageIn (g .1)) (left-by _ _ _ e (g .0 .2))
       (ap scratchIn (g .1))
   by-call (acceptBy limits sheet start k) e g =
-      away _ (off-by how _ r _ _ e (g .0 .0)) (off _ (mapIn l) _ _ e (g .0 .1)) (off _ (entriesIn l) _ _ e (g .0 .3))
-      (off _ (cardIn l) _ _ e (g .0 .4)) (ap bufferIn (g .1)) (ap imageIn (g .1)) (off _ (summaryIn l) _ _ e (g .0 .2))
+      away _ (handed-by how _ _ _ e (g .0 .0)) (left-by _ _ _ e (g .0 .1)) (left-by _ _ _ e (g .0 .3))
+      (left-by _ _ _ e (g .0 .4)) (ap bufferIn (g .1)) (ap imageIn (g .1)) (left-by _ _ _ e (g .0 .2))
       (ap scratchIn (g .1))
   by-call (growBy limits sheet k) e g =
-      away _ (off-by how _ r _ _ e (g .0 .0)) (off _ (mapIn l) _ _ e (g .0 .1)) (off _ (entriesIn l) _ _ e (g .0 .3))
-      (off _ (cardIn l) _ _ e (g .0 .4)) (ap bufferIn (g .1)) (ap imageIn (g .1)) (off _ (summaryIn l) _ _ e (g .0 .2))
+      away _ (handed-by how _ _ _ e (g .0 .0)) (left-by _ _ _ e (g .0 .1)) (left-by _ _ _ e (g .0 .3))
+      (left-by _ _ _ e (g .0 .4)) (ap bufferIn (g .1)) (ap imageIn (g .1)) (left-by _ _ _ e (g .0 .2))
       (ap scratchIn (g .1))
   by-call (releaseBy sheet) e g =
-      away _ (off-by how _ r _ _ e (g .0 .0)) (off _ (mapIn l) _ _ e (g .0 .1)) (off _ (entriesIn l) _ _ e (g .0 .3))
-      (ap cardIn (g .1)) (ap bufferIn (g .1)) (ap imageIn (g .1)) (off _ (summaryIn l) _ _ e (g .0 .2)) (ap scratchIn (g .1))
+      away _ (handed-by how _ _ _ e (g .0 .0)) (left-by _ _ _ e (g .0 .1)) (left-by _ _ _ e (g .0 .3))
+      (ap cardIn (g .1)) (ap bufferIn (g .1)) (ap imageIn (g .1)) (left-by _ _ _ e (g .0 .2)) (ap scratchIn (g .1))
   by-call closeBy e g =
-      away _ (off-by how _ r _ _ e (g .0 .0)) (off _ (mapIn l) _ _ e (g .0 .1)) (off _ (entriesIn l) _ _ e (g .0 .3))
-      (off _ (cardIn l) _ _ e (g .0 .4)) (ap bufferIn (g .1)) (ap imageIn (g .1)) (off _ (summaryIn l) _ _ e (g .0 .2))
+      away _ (handed-by how _ _ _ e (g .0 .0)) (left-by _ _ _ e (g .0 .1)) (left-by _ _ _ e (g .0 .3))
+      (left-by _ _ _ e (g .0 .4)) (ap bufferIn (g .1)) (ap imageIn (g .1)) (left-by _ _ _ e (g .0 .2))
       (g .0 .5)
 
 pub every-call-turned-away : {R : Type 0} (how : Outcome → R) → EveryCallTurnedAway how

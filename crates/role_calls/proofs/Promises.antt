@@ -3,8 +3,8 @@
 -- (crates/card/proofs/Promises.antt) holds of it. What is promised of a call that is turned away stands in
 -- crates/ledger_roles/specs/TurnedAway.antt.
 -- Assumes nothing.
-use mathlib.Core.Path.{_≡_, ap, _∙_}
-use mathlib.Core.Bool.{Bool, true, cond}
+use mathlib.Core.Path.{_≡_}
+use mathlib.Core.Bool.{true}
 use mathlib.Core.List.{List}
 use Prim.Native.Nat.{ℕ}
 use Rattle.roles.specs.Roles as roles
@@ -17,122 +17,116 @@ use Rattle.card.specs.Contracts as inner
 use Rattle.card.specs.declared.Outcome.{Outcome}
 use Rattle.card.specs.declared.Shape.{Shape}
 use Rattle.role_calls.specs.Contracts as outer
-
--- ---- what is handed back or left, by the test whether the role may make the call
-
-module _ {A : Type 0} (b : Bool) (x y : A) {r : A} where
-  pub left : b ≡ true → r ≡ cond b x y → r ≡ x
-  left e h = h ∙ ap (λ (c : Bool). cond c x y) e
-
-module _ {R : Type 0} (how : Outcome → R) (b : Bool) (x y : Outcome) {r : R} where
-  pub told : b ≡ true → r ≡ how (cond b x y) → r ≡ how x
-  told e h = h ∙ ap (λ (c : Bool). how (cond c x y)) e
-
--- ---- the calls
+use Rattle.role_calls.proofs.Passing.{handed-by, left-by}
 
 module _ {R : Type 0} (how : Outcome → R) (role : ℕ) (shape : Shape) (blocks : ℕ) (map : List ℕ) (entries : List Entry)
     (r : R) (map′ : List ℕ) (entries′ : List Entry) (h : outer.Freshens how role shape blocks map entries r map′ entries′)
   where
     pub fresh-passes : roles.may role roles.fresh ≡ true → inner.Freshens how shape blocks map entries r map′ entries′
-    fresh-passes e = (told how _ _ _ e (h .0), left _ _ _ e (h .1), left _ _ _ e (h .2))
+    fresh-passes e = (handed-by how _ _ _ e (h .0), left-by _ _ _ e (h .1), left-by _ _ _ e (h .2))
 
 module _ {R : Type 0} (how : Outcome → R) (role : ℕ) (shape : Shape) (map : List ℕ) (k : ℕ) (r : R)
     (h : outer.Searches how role shape map k r) where
   pub search-passes : roles.may role roles.search ≡ true → inner.Searches how shape map k r
-  search-passes e = told how _ _ _ e h
+  search-passes e = handed-by how _ _ _ e h
 
 module _ {R : Type 0} (how : Outcome → R) (role : ℕ) (shape : Shape) (map : List ℕ) (r : R)
     (h : outer.Surveys how role shape map r) where
   pub survey-passes : roles.may role roles.survey ≡ true → inner.Surveys how shape map r
-  survey-passes e = told how _ _ _ e h
+  survey-passes e = handed-by how _ _ _ e h
 
 module _ {R : Type 0} (how : Outcome → R) (role : ℕ) (shape : Shape) (map : List ℕ) (entries : List Entry)
     (card limits : List ℕ) (sheet k : ℕ) (r : R) (map′ : List ℕ) (entries′ : List Entry) (card′ : List ℕ)
     (h : outer.Reserves how role shape map entries card limits sheet k r map′ entries′ card′) where
   pub reserve-passes : roles.may role roles.reserve ≡ true
       → inner.Reserves how (kept shape map entries card) limits sheet k r map′ entries′ card′
-  reserve-passes e = (told how _ _ _ e (h .0), left _ _ _ e (h .1), left _ _ _ e (h .2), left _ _ _ e (h .3))
+  reserve-passes e = (handed-by how _ _ _ e (h .0), left-by _ _ _ e (h .1), left-by _ _ _ e (h .2), left-by _ _ _ e (h .3))
 
 module _ {R : Type 0} (how : Outcome → R) (role : ℕ) (shape : Shape) (map : List ℕ) (entries : List Entry)
     (card limits : List ℕ) (sheet k from before step : ℕ) (r : R) (map′ : List ℕ) (entries′ : List Entry) (card′ : List ℕ)
     (h : outer.ReservesPlaced how role shape map entries card limits sheet k from before step r map′ entries′ card′) where
   pub reserve-placed-passes : roles.may role roles.reserve ≡ true
       → inner.ReservesPlaced how (kept shape map entries card) limits sheet k from before step r map′ entries′ card′
-  reserve-placed-passes e = (told how _ _ _ e (h .0), left _ _ _ e (h .1), left _ _ _ e (h .2), left _ _ _ e (h .3))
+  reserve-placed-passes e = (
+    handed-by how _ _ _ e (h .0),
+    left-by _ _ _ e (h .1),
+    left-by _ _ _ e (h .2),
+    left-by _ _ _ e (h .3),
+  )
 
 module _ {R : Type 0} (how : Outcome → R) (role : ℕ) (shape : Shape) (map : List ℕ) (entries : List Entry)
     (card limits : List ℕ) (sheet k : ℕ) (r : R) (h : outer.Offers how role shape map entries card limits sheet k r) where
   pub offer-passes : roles.may role roles.offer ≡ true → inner.Offers how (kept shape map entries card) limits sheet k r
-  offer-passes e = told how _ _ _ e h
+  offer-passes e = handed-by how _ _ _ e h
 
 module _ {R : Type 0} (how : Outcome → R) (role : ℕ) (shape : Shape) (map : List ℕ) (entries : List Entry)
     (card limits : List ℕ) (sheet start k : ℕ) (r : R) (map′ : List ℕ) (entries′ : List Entry) (card′ : List ℕ)
     (h : outer.Accepts how role shape map entries card limits sheet start k r map′ entries′ card′) where
   pub accept-passes : roles.may role roles.accept ≡ true
       → inner.Accepts how (kept shape map entries card) limits sheet start k r map′ entries′ card′
-  accept-passes e = (told how _ _ _ e (h .0), left _ _ _ e (h .1), left _ _ _ e (h .2), left _ _ _ e (h .3))
+  accept-passes e = (handed-by how _ _ _ e (h .0), left-by _ _ _ e (h .1), left-by _ _ _ e (h .2), left-by _ _ _ e (h .3))
 
 module _ {R : Type 0} (how : Outcome → R) (role : ℕ) (shape : Shape) (map : List ℕ) (entries : List Entry)
     (card limits : List ℕ) (sheet k : ℕ) (r : R) (map′ : List ℕ) (entries′ : List Entry) (card′ : List ℕ)
     (h : outer.Grows how role shape map entries card limits sheet k r map′ entries′ card′) where
   pub grow-passes : roles.may role roles.grow ≡ true
       → inner.Grows how (kept shape map entries card) limits sheet k r map′ entries′ card′
-  grow-passes e = (told how _ _ _ e (h .0), left _ _ _ e (h .1), left _ _ _ e (h .2), left _ _ _ e (h .3))
+  grow-passes e = (handed-by how _ _ _ e (h .0), left-by _ _ _ e (h .1), left-by _ _ _ e (h .2), left-by _ _ _ e (h .3))
 
 module _ {R : Type 0} (how : Outcome → R) (role : ℕ) (shape : Shape) (map : List ℕ) (entries : List Entry) (card : List ℕ)
     (sheet place : ℕ) (payload : List ℕ) (r : R) (card′ : List ℕ)
     (h : outer.Puts how role shape map entries card sheet place payload r card′) where
   pub put-passes : roles.may role roles.put ≡ true → inner.Puts how (kept shape map entries card) sheet place payload r card′
-  put-passes e = (told how _ _ _ e (h .0), left _ _ _ e (h .1))
+  put-passes e = (handed-by how _ _ _ e (h .0), left-by _ _ _ e (h .1))
 
 module _ {R : Type 0} (how : Outcome → R) (role : ℕ) (shape : Shape) (map : List ℕ) (entries : List Entry) (card : List ℕ)
     (sheet : ℕ) (r : R) (entries′ : List Entry) (h : outer.Completes how role shape map entries card sheet r entries′) where
   pub complete-passes : roles.may role roles.complete ≡ true
       → inner.Completes how (kept shape map entries card) sheet r entries′
-  complete-passes e = (told how _ _ _ e (h .0), left _ _ _ e (h .1))
+  complete-passes e = (handed-by how _ _ _ e (h .0), left-by _ _ _ e (h .1))
 
 module _ {R : Type 0} (how : Outcome → R) (role : ℕ) (shape : Shape) (map : List ℕ) (entries : List Entry) (sheet : ℕ)
     (r : R) (entries′ : List Entry) (h : outer.Pauses how role shape map entries sheet r entries′) where
   pub pause-passes : roles.may role roles.pause ≡ true → inner.Pauses how (kept shape map entries noCard) sheet r entries′
-  pause-passes e = (told how _ _ _ e (h .0), left _ _ _ e (h .1))
+  pause-passes e = (handed-by how _ _ _ e (h .0), left-by _ _ _ e (h .1))
 
 module _ {R : Type 0} (how : Outcome → R) (role : ℕ) (shape : Shape) (map : List ℕ) (entries : List Entry) (sheet : ℕ)
     (r : R) (entries′ : List Entry) (h : outer.Resumes how role shape map entries sheet r entries′) where
   pub resume-passes : roles.may role roles.resume ≡ true → inner.Resumes how (kept shape map entries noCard) sheet r entries′
-  resume-passes e = (told how _ _ _ e (h .0), left _ _ _ e (h .1))
+  resume-passes e = (handed-by how _ _ _ e (h .0), left-by _ _ _ e (h .1))
 
 module _ {R : Type 0} (how : Outcome → R) (role : ℕ) (shape : Shape) (map : List ℕ) (entries : List Entry) (sheet : ℕ)
     (r : R) (map′ : List ℕ) (entries′ : List Entry) (h : outer.Releases how role shape map entries sheet r map′ entries′)
   where
     pub release-passes : roles.may role roles.release ≡ true
         → inner.Releases how (kept shape map entries noCard) sheet r map′ entries′
-    release-passes e = (told how _ _ _ e (h .0), left _ _ _ e (h .1), left _ _ _ e (h .2))
+    release-passes e = (handed-by how _ _ _ e (h .0), left-by _ _ _ e (h .1), left-by _ _ _ e (h .2))
 
 module _ {R : Type 0} (how : Outcome → R) (role : ℕ) (shape : Shape) (map : List ℕ) (entries : List Entry) (card : List ℕ)
     (sheet place : ℕ) (buffer : List ℕ) (r : R) (buffer′ : List ℕ)
     (h : outer.Shows how role shape map entries card sheet place buffer r buffer′) where
   pub show-passes : roles.may role roles.show ≡ true
       → inner.Shows how (kept shape map entries card) sheet place buffer r buffer′
-  show-passes e = (told how _ _ _ e (h .0), left _ _ _ e (h .1))
+  show-passes e = (handed-by how _ _ _ e (h .0), left-by _ _ _ e (h .1))
 
 module _ {R : Type 0} (how : Outcome → R) (role : ℕ) (shape : Shape) (map : List ℕ) (entries : List Entry) (card : List ℕ)
     (sheet place year month day : ℕ) (buffer : List ℕ) (r : R) (buffer′ : List ℕ)
     (h : outer.ShowsDated how role shape map entries card sheet place year month day buffer r buffer′) where
   pub show-dated-passes : roles.may role roles.showDated ≡ true
       → inner.ShowsDated how (kept shape map entries card) sheet place year month day buffer r buffer′
-  show-dated-passes e = (told how _ _ _ e (h .0), left _ _ _ e (h .1))
+  show-dated-passes e = (handed-by how _ _ _ e (h .0), left-by _ _ _ e (h .1))
 
 module _ {R : Type 0} (how : Outcome → R) (role : ℕ) (shape : Shape) (map : List ℕ) (entries : List Entry) (sheet : ℕ)
     (r : R) (h : outer.TellsStanding how role shape map entries sheet r) where
   pub standing-passes : roles.may role roles.standing ≡ true → inner.TellsStanding how (kept shape map entries noCard) sheet r
-  standing-passes e = told how _ _ _ e h
+  standing-passes e = handed-by how _ _ _ e h
 
 module _ {R : Type 0} (how : Outcome → R) (role : ℕ) (shape : Shape) (map : List ℕ) (entries : List Entry)
     (scratch image : List ℕ) (r : R) (scratch′ image′ : List ℕ)
     (h : outer.Saves how role shape map entries scratch image r scratch′ image′) where
   pub save-passes : roles.may role roles.save ≡ true → inner.Saves how shape map entries scratch image r scratch′ image′
   unfolding images.saveScratch
-  save-passes e = (told how _ _ _ e (h .0), h .1, left _ _ _ e (h .2))
+  save-passes e = (handed-by how _ _ _ e (h .0), h .1, left-by _ _ _ e (h .2))
 
 module _ {R : Type 0} (how : Outcome → R) (role : ℕ) (shape : Shape) (image map : List ℕ) (entries : List Entry)
     (scratch : List ℕ) (r : R) (map′ : List ℕ) (entries′ : List Entry) (scratch′ : List ℕ)
@@ -140,7 +134,7 @@ module _ {R : Type 0} (how : Outcome → R) (role : ℕ) (shape : Shape) (image 
   pub load-passes : roles.may role roles.load ≡ true
       → inner.Loads how shape image map entries scratch r map′ entries′ scratch′
   unfolding images.loadScratch
-  load-passes e = (told how _ _ _ e (h .0), left _ _ _ e (h .1), left _ _ _ e (h .2), h .3)
+  load-passes e = (handed-by how _ _ _ e (h .0), left-by _ _ _ e (h .1), left-by _ _ _ e (h .2), h .3)
 
 module _ {R : Type 0} (how : Outcome → R) (role : ℕ) (shape : Shape) (map : List ℕ) (entries : List Entry)
     (card scratch : List ℕ) (r : R) (map′ : List ℕ) (entries′ : List Entry) (card′ scratch′ : List ℕ)
@@ -148,4 +142,4 @@ module _ {R : Type 0} (how : Outcome → R) (role : ℕ) (shape : Shape) (map : 
   pub close-passes : roles.may role roles.close ≡ true
       → inner.Closes how (kept shape map entries card) scratch r map′ entries′ card′ scratch′
   unfolding closings.closeScratch
-  close-passes e = (told how _ _ _ e (h .0), left _ _ _ e (h .1), left _ _ _ e (h .2), left _ _ _ e (h .3), h .4)
+  close-passes e = (handed-by how _ _ _ e (h .0), left-by _ _ _ e (h .1), left-by _ _ _ e (h .2), left-by _ _ _ e (h .3), h .4)

@@ -13,17 +13,17 @@ use Rattle.card.specs.Contracts as inner
 use Rattle.card.specs.declared.Outcome.{Outcome}
 use Rattle.card.specs.declared.Shape.{Shape}
 use Rattle.role_calls.specs.SummaryContracts as summaries
-use Rattle.role_calls.proofs.Promises.{left, told}
+use Rattle.role_calls.proofs.Passing.{handed-by, left-by}
 
 module _ {R : Type 0} (how : Outcome → R) (role : ℕ) (shape : Shape) (map summary : List ℕ) (r : R) (summary′ : List ℕ)
     (h : summaries.Builds how role shape map summary r summary′) where
   pub build-summary-passes : roles.may role roles.buildSummary ≡ true → inner.Builds how shape map summary r summary′
-  build-summary-passes e = (told how _ _ _ e (h .0), left _ _ _ e (h .1))
+  build-summary-passes e = (handed-by how _ _ _ e (h .0), left-by _ _ _ e (h .1))
 
 module _ {R : Type 0} (how : Outcome → R) (role : ℕ) (shape : Shape) (map summary : List ℕ) (r : R)
     (h : summaries.Checks how role shape map summary r) where
   pub check-summary-passes : roles.may role roles.checkSummary ≡ true → inner.Checks how shape map summary r
-  check-summary-passes e = told how _ _ _ e h
+  check-summary-passes e = handed-by how _ _ _ e h
 
 module _ {R : Type 0} (how : Outcome → R) (role : ℕ) (shape : Shape) (map summary : List ℕ) (entries : List Entry)
     (card limits : List ℕ) (sheet k : ℕ) (r : R) (map′ summary′ : List ℕ) (entries′ : List Entry) (card′ : List ℕ)
@@ -31,11 +31,11 @@ module _ {R : Type 0} (how : Outcome → R) (role : ℕ) (shape : Shape) (map su
   pub reserve-by-passes : roles.may role roles.reserve ≡ true
       → inner.ReservesBy how summary (kept shape map entries card) limits sheet k r map′ summary′ entries′ card′
   reserve-by-passes e = (
-    told how _ _ _ e (h .0),
-    left _ _ _ e (h .1),
-    left _ _ _ e (h .2),
-    left _ _ _ e (h .3),
-    left _ _ _ e (h .4),
+    handed-by how _ _ _ e (h .0),
+    left-by _ _ _ e (h .1),
+    left-by _ _ _ e (h .2),
+    left-by _ _ _ e (h .3),
+    left-by _ _ _ e (h .4),
   )
 
 module _ {R : Type 0} (how : Outcome → R) (role : ℕ) (shape : Shape) (map summary : List ℕ) (entries : List Entry)
@@ -48,11 +48,11 @@ module _ {R : Type 0} (how : Outcome → R) (role : ℕ) (shape : Shape) (map su
         → inner.ReservesPlacedBy how summary (kept shape map entries card) limits sheet k from before step
         r map′ summary′ entries′ card′
     reserve-placed-by-passes e = (
-      told how _ _ _ e (h .0),
-      left _ _ _ e (h .1),
-      left _ _ _ e (h .2),
-      left _ _ _ e (h .3),
-      left _ _ _ e (h .4),
+      handed-by how _ _ _ e (h .0),
+      left-by _ _ _ e (h .1),
+      left-by _ _ _ e (h .2),
+      left-by _ _ _ e (h .3),
+      left-by _ _ _ e (h .4),
     )
 
 module _ {R : Type 0} (how : Outcome → R) (role : ℕ) (shape : Shape) (map summary : List ℕ) (entries : List Entry)
@@ -62,11 +62,11 @@ module _ {R : Type 0} (how : Outcome → R) (role : ℕ) (shape : Shape) (map su
     pub accept-by-passes : roles.may role roles.accept ≡ true
         → inner.AcceptsBy how summary (kept shape map entries card) limits sheet start k r map′ summary′ entries′ card′
     accept-by-passes e = (
-      told how _ _ _ e (h .0),
-      left _ _ _ e (h .1),
-      left _ _ _ e (h .2),
-      left _ _ _ e (h .3),
-      left _ _ _ e (h .4),
+      handed-by how _ _ _ e (h .0),
+      left-by _ _ _ e (h .1),
+      left-by _ _ _ e (h .2),
+      left-by _ _ _ e (h .3),
+      left-by _ _ _ e (h .4),
     )
 
 module _ {R : Type 0} (how : Outcome → R) (role : ℕ) (shape : Shape) (map summary : List ℕ) (entries : List Entry)
@@ -75,11 +75,11 @@ module _ {R : Type 0} (how : Outcome → R) (role : ℕ) (shape : Shape) (map su
   pub grow-by-passes : roles.may role roles.grow ≡ true
       → inner.GrowsBy how summary (kept shape map entries card) limits sheet k r map′ summary′ entries′ card′
   grow-by-passes e = (
-    told how _ _ _ e (h .0),
-    left _ _ _ e (h .1),
-    left _ _ _ e (h .2),
-    left _ _ _ e (h .3),
-    left _ _ _ e (h .4),
+    handed-by how _ _ _ e (h .0),
+    left-by _ _ _ e (h .1),
+    left-by _ _ _ e (h .2),
+    left-by _ _ _ e (h .3),
+    left-by _ _ _ e (h .4),
   )
 
 module _ {R : Type 0} (how : Outcome → R) (role : ℕ) (shape : Shape) (map summary : List ℕ) (entries : List Entry)
@@ -87,7 +87,7 @@ module _ {R : Type 0} (how : Outcome → R) (role : ℕ) (shape : Shape) (map su
     (h : summaries.ReleasesBy how role shape map summary entries sheet r map′ summary′ entries′) where
   pub release-by-passes : roles.may role roles.release ≡ true
       → inner.ReleasesBy how summary (kept shape map entries noCard) sheet r map′ summary′ entries′
-  release-by-passes e = (told how _ _ _ e (h .0), left _ _ _ e (h .1), left _ _ _ e (h .2), left _ _ _ e (h .3))
+  release-by-passes e = (handed-by how _ _ _ e (h .0), left-by _ _ _ e (h .1), left-by _ _ _ e (h .2), left-by _ _ _ e (h .3))
 
 module _ {R : Type 0} (how : Outcome → R) (role : ℕ) (shape : Shape) (map summary : List ℕ) (entries : List Entry)
     (card scratch : List ℕ) (r : R) (map′ summary′ : List ℕ) (entries′ : List Entry) (card′ scratch′ : List ℕ)
@@ -96,10 +96,10 @@ module _ {R : Type 0} (how : Outcome → R) (role : ℕ) (shape : Shape) (map su
       → inner.ClosesBy how (kept shape map entries card) scratch summary r map′ summary′ entries′ card′ scratch′
   unfolding closings.closeScratch
   close-by-passes e = (
-    told how _ _ _ e (h .0),
-    left _ _ _ e (h .1),
-    left _ _ _ e (h .2),
-    left _ _ _ e (h .3),
-    left _ _ _ e (h .4),
+    handed-by how _ _ _ e (h .0),
+    left-by _ _ _ e (h .1),
+    left-by _ _ _ e (h .2),
+    left-by _ _ _ e (h .3),
+    left-by _ _ _ e (h .4),
     h .5,
   )
