@@ -1,13 +1,11 @@
 -- Lists of calls with roles come to lists of the calls that are not turned away: so every list is answered and leaves what the
--- ledger says (`every-list-by-role`), with a summary too (`every-list-by-role-with-summary`); every list has a run; and a
--- pharmacist's lists are the lists without roles.
+-- ledger says (`every-list-by-role`), with a summary too (`every-list-by-role-with-summary`); and every list has a run.
 -- Assumes nothing.
 use Prim.Native.Nat.{ℕ, _*_}
 use mathlib.Core.Path.{_≡_, refl, ap, ap₂, subst, _∙_}
 use mathlib.Core.Bool.{Bool, true, false, cond}
 use mathlib.Core.List.{List, [], _∷_, map}
 use lib.ListN.{length}
-use Rattle.roles.specs.Roles.{may, pharmacist}
 use Rattle.catalogue_standings.specs.Answers.{numberOf}
 use Rattle.card.specs.Calls.{Kept}
 use Rattle.card.specs.Contracts.{itself, Builds}
@@ -20,7 +18,7 @@ use Rattle.ledger.proofs.Contracts.{Limits}
 use Rattle.ledger.proofs.Demand.{every-list}
 use Rattle.ledger_summaries.specs.Summaries.{summaryAfter, RunsBy, ownOf}
 use Rattle.ledger_summaries.proofs.Lists.{every-list-with-summary}
-use Rattle.ledger_roles.specs.Made.{Made, passes, broughtBy, turnedEnd, endFor, endByFor, RunsFor, RunsByFor, allBy}
+use Rattle.ledger_roles.specs.Made.{Made, passes, broughtBy, turnedEnd, endFor, endByFor, RunsFor, RunsByFor}
 use Rattle.ledger_roles.specs.Claims.{allToldFor, afterFor, passing, heard, ClaimFor}
 
 -- ---- the run of the calls that are not turned away
@@ -177,15 +175,3 @@ has-run-by-role s [] = ([], s, refl)
 has-run-by-role s (m ∷ made) =
     let rest = has-run-by-role (stateOn (endFor s m)) made in
     (responseOf (endFor s m) ∷ rest .0, rest .1, (stateOn (endFor s m), (refl, refl), rest .2))
-
--- ---- a pharmacist's lists
-
-pharmacist-may : (name : ℕ) → may pharmacist name ≡ true
-unfolding may
-pharmacist-may name = refl
-
-pub pharmacist-passes : (calls : List Call) → passing (allBy pharmacist calls) ≡ calls
-pharmacist-passes [] = refl
-pharmacist-passes (c ∷ calls) =
-    ap (λ (b : Bool). cond b (c ∷ passing (allBy pharmacist calls)) (passing (allBy pharmacist calls))) (pharmacist-may _)
-    ∙ ap (λ (rest : List Call). c ∷ rest) (pharmacist-passes calls)
