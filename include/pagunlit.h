@@ -362,8 +362,7 @@ pagunlit_outcome pagunlit_close_with_summary(uint32_t role, pagunlit_shape shape
  * these as counts is the caller's mistake, which the calls cannot see. */
 #define PAGUNLIT_COUNT_ABSENT 0xFFFFFFFFu
 
-/* What a read of a count hands back. hundredths is PAGUNLIT_COUNT_ABSENT with a refusal too, so that it is never taken for
- * a dose of 0. */
+/* What a read of a count hands back. With a refusal hundredths is PAGUNLIT_COUNT_ABSENT too: never taken for a dose of 0. */
 typedef struct { uint32_t number, hundredths; } pagunlit_count;
 
 /* Reads a count.

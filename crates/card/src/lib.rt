@@ -331,8 +331,7 @@ impl Shape {
         cores::standing_core(self, map, slot, sheet)
     }
 
-    // Writes the image of the state, if it is sound and the buffer exactly the image's length. The scratch is all zeros after
-    // every save.
+    // Writes the image of the state, if it is sound and the buffer exactly the image's length. Every save zeroes the scratch.
     pub fn save(
         self,
         map: &[u64],
@@ -376,8 +375,7 @@ impl Shape {
         cores::save_outcome(self, number)
     }
 
-    // Reads map, entries and shape from an image. It reads nothing of the shape it takes. The scratch is all zeros after every
-    // load.
+    // Reads map, entries and shape from an image, and nothing of the shape it takes. Every load leaves the scratch all zeros.
     pub fn load(
         self,
         image: &[u8],
