@@ -15,7 +15,7 @@ use map_blocks::run::FREE;
 use map_blocks::run::all_marked;
 use map_search_placed::search_placed;
 use refusals::Figures;
-use summary_search_map::search_by;
+use summary_search::search_by;
 
 // Row 15: the figures are not within a card of n blocks.
 pub fn figures_wrong(n: u32, figures: Figures) -> bool

@@ -1,7 +1,7 @@
 -- Laws that the proofs of several functions cite, and those for the crates above.
 mod Bounds
 mod Descent
-pub mod Places
+mod Places
 pub mod Searches
 mod Telling
 pub mod Turns

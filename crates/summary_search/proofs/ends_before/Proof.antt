@@ -1,4 +1,4 @@
--- `summary_search_map::ends_before` meets its contract.
+-- `summary_search::ends_before` meets its contract.
 -- Assumes nothing.
 use mathlib.Core.Path.{_≡_, sym}
 use Prim.Native.Nat.{ℕ, _+_, _-_, _≤_}
@@ -6,8 +6,8 @@ use native.Mathlib.Omega.{arith}
 use lib.Dec.{leb}
 use borrow.Author.Tests.{lt-leb, le-leb, leb-true}
 use Rattle.laws.proofs.Bools.{both-ways}
-use Rattle.summary_search_map.proofs.ends_before.Statement.{statement}
-use Rattle.summary_search_map.proofs.ends_before.Tie as tie
+use Rattle.summary_search.proofs.ends_before.Statement.{statement}
+use Rattle.summary_search.proofs.ends_before.Tie as tie
 
 within : (t k before : ℕ) → k ≤ before → leb t (before - k) ≡ leb (t + k) before
 within t k before l =

@@ -1,4 +1,4 @@
--- `summary_search_map::search_by` meets its contract. The loop's invariant: the turns from block `at` on give the answer.
+-- `summary_search::search_by` meets its contract. The loop's invariant: the turns from block `at` on give the answer.
 -- Assumes nothing.
 use mathlib.Core.Path.{_≡_, sym, _∙_, subst}
 use Prim.Native.Nat.{ℕ, _+_, _-_, _≤_, _<_}
@@ -9,13 +9,13 @@ use borrow.Author.Tests.{leb-true, leb-false}
 use denote.Ref.{now}
 use Rattle.summary_groups.specs.Groups.{power}
 use Rattle.summary_groups.proofs.Places.{power-small, power-pos}
 use Rattle.summary_search.specs.SearchBy.{seek}
 use Rattle.summary_search.specs.Seeking.{stepNumber}
 use Rattle.summary_search.proofs.Places.{lies-whole}
 use Rattle.summary_search.proofs.Turns.{Turning, short-of, turning-first, turning-late, not-before, sought}
 use Rattle.summary_search.proofs.Turns.{found-none, found-far, found-at, found-nothing}
-use Rattle.summary_search_map.proofs.search_by.Statement.{statement}
-use Rattle.summary_search_map.proofs.search_by.Tie as tie
+use Rattle.summary_search.proofs.search_by.Statement.{statement}
+use Rattle.summary_search.proofs.search_by.Tie as tie
 
 abbrev Inv-loop : tie.InvT-loop
 Inv-loop map summary from before step k m at₀ at = Turning map summary from before step k at

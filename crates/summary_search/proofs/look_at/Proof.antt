@@ -1,4 +1,4 @@
--- `summary_search_map::look_at` meets its contract.
+-- `summary_search::look_at` meets its contract.
 -- Assumes nothing.
 use mathlib.Core.Path.{sym, ap, ap₂, _∙_}
 use Prim.Native.Nat.{ℕ, _+_, min}
@@ -6,8 +6,8 @@ use native.Mathlib.Omega.{arith}
 use borrow.Author.Needs.{needs}
 use denote.Ref.{now}
 use Rattle.map_blocks.specs.Blocks.{free, leastFit}
-use Rattle.summary_search_map.proofs.look_at.Statement.{statement}
-use Rattle.summary_search_map.proofs.look_at.Tie as tie
+use Rattle.summary_search.proofs.look_at.Statement.{statement}
+use Rattle.summary_search.proofs.look_at.Tie as tie
 
 add-smaller : tie.Need-add-smaller
 add-smaller c = search needs
