@@ -198,10 +198,6 @@ unfolding moved
 moved-none card to from = sourced-self card (movedFrom to from 0) (λ b.
     ⊎-elim (λ (p : b < to). moved-before to from 0 b p) (λ (p : to ≤ b). moved-after to from 0 b (omega arith)) (order b to))
 
-pub moved-length : (card : List ℕ) (to from k : ℕ) → length (moved card to from k) ≡ length card
-unfolding moved
-moved-length card to from k = sourced-length card (movedFrom to from k)
-
 -- one block more
 module _ (card : List ℕ) (to from i : ℕ) (down : to ≤ from) (inside : 512 * (from + i) + 512 ≤ length card) where
   abbrev one : ℕ → ℕ

@@ -21,9 +21,6 @@ use Rattle.summary.specs.Walks.{withGroup}
 -- ---- one group stored
 
 module _ (s : List ℕ) (g : ℕ) (x : Group) where
-  pub length-with : length (withGroup s g x) ≡ length s
-  length-with = simp length-set
-
   pub in-with-same : 3 * g + 2 < length s → groupIn (withGroup s g x) g ≡ x
   in-with-same l =
       let s₁ : List ℕ = set s (3 * g) (x .head) in
