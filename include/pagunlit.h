@@ -158,13 +158,9 @@ pagunlit_outcome pagunlit_reserve(uint32_t role, pagunlit_shape shape, uint64_t 
 /* The same with three figures: the lowest run that is long enough, starts at or after `from`, starts on a multiple of `step`,
  * and whose last block is below `before`. pagunlit_reserve is the one with 0, the card's blocks and 1. first: its start.
  * second: the space behind it, as above; it ends at the next taken block or the card's end, whatever `before` is.
- *   1, 2, 4   as above
- *   6, 7, 8   the sheet is Paused, Open, Complete
- *   3         count is 0
- *   15        step is 0, from is not below before, or before is above the card's blocks
- *   18        as above
- *   10        no run of free blocks within the figures is long enough
- *   4         count is more than the shape's free count, though there is a run */
+ *   1, 2, 4, 6, 7, 8, 3   as pagunlit_reserve
+ *   15                    step is 0, from is not below before, or before is above the card's blocks
+ *   18, 10, 4             as pagunlit_reserve, of runs within the figures */
 pagunlit_outcome pagunlit_reserve_placed(uint32_t role, pagunlit_shape shape, uint64_t *map, size_t maplen,
     pagunlit_entry *catalogue, size_t cataloguelen, uint8_t *card, size_t cardlen, const uint32_t *limits, uint32_t sheet,
     uint32_t count, uint32_t from, uint32_t before, uint32_t step);
@@ -177,12 +173,9 @@ pagunlit_outcome pagunlit_offer(uint32_t role, pagunlit_shape shape, const uint6
 
 /* An Absent sheet becomes Open with `count` blank places in the blocks from `start` on, as pagunlit_reserve does at the start
  * that it finds. It need not be the lowest run, nor one that was offered. first: the start. second: the space behind it.
- *   1, 2, 4   as above
- *   6, 7, 8   the sheet is Paused, Open, Complete
- *   3         count is 0
- *   18        as above
- *   17        the blocks from start to start + count - 1 are not all free, or go past the card's last
- *   4         count is more than the shape's free count, though they are free */
+ *   1, 2, 4, 6, 7, 8, 3, 18   as pagunlit_reserve
+ *   17                        the blocks from start to start + count - 1 are not all free, or go past the card's last
+ *   4                         count is more than the shape's free count, though they are free */
 pagunlit_outcome pagunlit_accept(uint32_t role, pagunlit_shape shape, uint64_t *map, size_t maplen, pagunlit_entry *catalogue,
     size_t cataloguelen, uint8_t *card, size_t cardlen, const uint32_t *limits, uint32_t sheet, uint32_t start,
     uint32_t count);
@@ -253,13 +246,11 @@ pagunlit_outcome pagunlit_show(uint32_t role, pagunlit_shape shape, const uint64
  * high byte first, as days since 1 January 2000, which is day 0; 31 December 2099 is day 36524. A sheet whose first day is
  * after its last never shows. pagunlit_write_term writes the two days. pagunlit_show remains, for the pharmacy, and does not
  * look at them.
- *   1, 2, 4   as above
- *   5, 6, 7   the sheet is Absent, Paused, Open
- *   3         place is not below the sheet's length, or bufferlen is not 496
- *   19        there is no such date, or it lies outside the years 2000 to 2099
- *   4         the block of place 0 is not sound
- *   20        the day is before the first or after the last
- *   4         the block of this place is not sound */
+ *   1, 2, 4, 5, 6, 7, 3   as pagunlit_show
+ *   19                    there is no such date, or it lies outside the years 2000 to 2099
+ *   4                     the block of place 0 is not sound
+ *   20                    the day is before the first or after the last
+ *   4                     the block of this place is not sound */
 pagunlit_outcome pagunlit_show_dated(uint32_t role, pagunlit_shape shape, const uint64_t *map, size_t maplen,
     const pagunlit_entry *catalogue, size_t cataloguelen, const uint8_t *card, size_t cardlen, uint32_t sheet, uint32_t place,
     uint32_t year, uint32_t month, uint32_t day, uint8_t *buffer, size_t bufferlen);

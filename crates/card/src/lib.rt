@@ -1,24 +1,25 @@
 // The card: its shape, and every call as a method (document 01, "Shape, catalogue, blocks"): one for a sheet finds its entry,
 // leaves the rest to a core on that entry by value, and stores what it hands back. A refusal changes nothing lent but a
-// scratch. The methods are inner, they ask nobody's role: a program calls the functions of the crate role_calls (02 (n)).
+// scratch. The methods are inner, they ask nobody's role: a program calls the functions of the crate role_calls (02 (n)). Here
+// stand those for a sheet, and search and survey; beside it the dated show, those for the whole card, and the forms with a
+// summary.
 mod cores;
 pub mod dated;
 mod guided;
 mod reserves;
 pub mod summary;
+pub mod whole;
 
 ghost use mathlib.Core.Bool.{true};
 ghost use mathlib.Core.Path.{_≡_};
 ghost use Rattle.refusals.specs.Lent.{noCard};
 ghost use Rattle.refusals.specs.Placement.{plain, placed, figures};
-ghost use Rattle.card.specs.Calls.{kept, freshOutcome, freshMap, freshEntries, searchOutcome, surveyOutcome};
-ghost use Rattle.card.specs.Calls.{offerOutcome, acceptOutcome, acceptMap, acceptEntries, acceptCard, reserveOutcome};
-ghost use Rattle.card.specs.Calls.{reserveMap, reserveEntries, reserveCard, growOutcome, growMap, growEntries, growCard};
-ghost use Rattle.card.specs.Calls.{putOutcome, putCard, completeOutcome, completeEntries, pauseOutcome, pauseEntries};
-ghost use Rattle.card.specs.Calls.{resumeOutcome, resumeEntries, releaseOutcome, releaseMap, releaseEntries, showOutcome};
-ghost use Rattle.card.specs.Calls.{showBuffer, standingOutcome, saveOutcome, saveScratch, saveImage, loadOutcome};
-ghost use Rattle.card.specs.Calls.{loadMap, loadEntries, loadScratch};
-ghost use Rattle.card.specs.Closings.{closeOutcome, closeMap, closeEntries, closeCard, closeScratch};
+ghost use Rattle.card.specs.Calls.{kept, searchOutcome, surveyOutcome, offerOutcome, acceptOutcome, acceptMap};
+ghost use Rattle.card.specs.Calls.{acceptEntries, acceptCard, reserveOutcome, reserveMap, reserveEntries, reserveCard};
+ghost use Rattle.card.specs.Calls.{growOutcome, growMap, growEntries, growCard, putOutcome, putCard, completeOutcome};
+ghost use Rattle.card.specs.Calls.{completeEntries, pauseOutcome, pauseEntries, resumeOutcome, resumeEntries};
+ghost use Rattle.card.specs.Calls.{releaseOutcome, releaseMap, releaseEntries, showOutcome, showBuffer};
+ghost use Rattle.card.specs.Calls.{standingOutcome};
 use catalogue::Entry;
 use catalogue_standings::Answer;
 
@@ -59,19 +60,6 @@ impl Shape {
             return false;
         }
         Self::SHEETS == 1024
-    }
-
-    // All blocks free, all sheets Absent. It reads nothing of the shape it takes.
-    pub fn fresh(self, blocks: u32, map: &mut [u64], catalogue: &mut [Entry]) -> Outcome
-        ensures { λ r. ⌜ (r ≡ freshOutcome self blocks (now (map .entry)) (now (catalogue .entry)))
-            × (now (map .exit) ≡ freshMap self blocks (now (map .entry)) (now (catalogue .entry)))
-            × (now (catalogue .exit) ≡ freshEntries self blocks (now (map .entry)) (now (catalogue .entry))) ⌝ }
-    {
-        let count = catalogue::count(&*catalogue);
-        let out = cores::fresh_core(self, blocks, map, count);
-        let accepted = cores::is_done(out);
-        catalogue::clear_if(catalogue, accepted);
-        out
     }
 
     // The least fit for k.
@@ -329,70 +317,5 @@ impl Shape {
     {
         let slot = catalogue::find(catalogue, sheet);
         cores::standing_core(self, map, slot, sheet)
-    }
-
-    // Writes the image of the state, if it is sound and the buffer exactly the image's length. Every save zeroes the scratch.
-    pub fn save(
-        self,
-        map: &[u64],
-        catalogue: &[Entry],
-        scratch: &mut [u64],
-        image: &mut [u8],
-    ) -> Outcome
-        ensures { λ r.
-            ⌜ (r ≡ saveOutcome self (now (map .entry)) (now (catalogue .entry)) (now (scratch .entry)) (now (image .entry)))
-            × (now (scratch .exit) ≡ saveScratch self (now (map .entry)) (now (catalogue .entry)) (now (scratch .entry))
-            (now (image .entry)))
-            × (now (image .exit) ≡ saveImage self (now (map .entry)) (now (catalogue .entry)) (now (scratch .entry))
-            (now (image .entry))) ⌝ }
-    {
-        let n = cores::blocks_of(self);
-        let free = cores::free_of(self);
-        let number = image_save::save(n, free, map, catalogue, scratch, image);
-        cores::save_outcome(self, number)
-    }
-
-    // Moves all extents towards block 0, in order of their starts and with no block free before or between them, and the bytes
-    // of their blocks along, if the state is sound (document 02 (l)). The scratch is all zeros after every closing.
-    pub fn close(
-        self,
-        map: &mut [u64],
-        catalogue: &mut [Entry],
-        card: &mut [u8],
-        scratch: &mut [u64],
-    ) -> Outcome
-        ensures { λ r. let s = kept self (now (map .entry)) (now (catalogue .entry)) (now (card .entry)) in
-            ⌜ (r ≡ closeOutcome s (now (scratch .entry)))
-            × (now (map .exit) ≡ closeMap s (now (scratch .entry)))
-            × (now (catalogue .exit) ≡ closeEntries s (now (scratch .entry)))
-            × (now (card .exit) ≡ closeCard s (now (scratch .entry)))
-            × (now (scratch .exit) ≡ closeScratch s (now (scratch .entry))) ⌝ }
-    {
-        let n = cores::blocks_of(self);
-        let free = cores::free_of(self);
-        let fits = cores::nothing_else(self);
-        let number = closing::close(n, free, fits, map, catalogue, card, scratch);
-        cores::save_outcome(self, number)
-    }
-
-    // Reads map, entries and shape from an image, and nothing of the shape it takes. Every load leaves the scratch all zeros.
-    pub fn load(
-        self,
-        image: &[u8],
-        map: &mut [u64],
-        catalogue: &mut [Entry],
-        scratch: &mut [u64],
-    ) -> Outcome
-        ensures { λ r.
-            ⌜ (r ≡ loadOutcome self (now (image .entry)) (now (map .entry)) (now (catalogue .entry)) (now (scratch .entry)))
-            × (now (map .exit) ≡ loadMap self (now (image .entry)) (now (map .entry)) (now (catalogue .entry))
-            (now (scratch .entry)))
-            × (now (catalogue .exit) ≡ loadEntries self (now (image .entry)) (now (map .entry)) (now (catalogue .entry))
-            (now (scratch .entry)))
-            × (now (scratch .exit) ≡ loadScratch self (now (image .entry)) (now (map .entry)) (now (catalogue .entry))
-            (now (scratch .entry))) ⌝ }
-    {
-        let loaded = image_load::load(image, map, catalogue, scratch);
-        cores::load_outcome(self, loaded)
     }
 }
