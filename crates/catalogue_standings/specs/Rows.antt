@@ -3,6 +3,7 @@
 use Prim.Native.Nat.{ℕ}
 use mathlib.Core.Bool.{Bool, cond}
 use mathlib.Core.List.{List, [], _∷_}
+use lib.Dec.{eqb}
 
 pub record Row : Type 0 where
   pub number : ℕ
@@ -19,6 +20,11 @@ pub data Verdict : Type 0 where
 unfoldable pub firstOf : List Row → Verdict
 firstOf [] = accepted
 firstOf (r ∷ rs) = cond (r .holds) (refused (r .number)) (firstOf rs)
+
+-- The rows before the first with a number.
+unfoldable pub before : ℕ → List Row → List Row
+before number [] = []
+before number (r ∷ rows) = cond (eqb (r .number) number) [] (r ∷ before number rows)
 
 -- What stands after a verdict: the one thing on acceptance, the other on a refusal, by its number.
 module _ {ℓ} {A : Type ℓ} where

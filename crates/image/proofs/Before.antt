@@ -6,23 +6,21 @@ use mathlib.Core.Bool.{Bool, true, false, not, _&&_, _||_, cond, true≢false, f
 use mathlib.Core.List.{List, [], _∷_}
 use Prim.Native.Nat.{ℕ}
 use lib.Dec.{eqb}
-use lib.ListN.{length}
-use borrow.Author.Tests.{not-true}
+use borrow.Author.Tests.{not-true, not-false}
 use Rattle.map_blocks.specs.Blocks.{free}
 use Rattle.laws.proofs.Bools.{and-left, and-right, and-both}
-use Rattle.catalogue.specs.Entries.{absentMark, pausedMark, openMark, completeMark}
+use Rattle.catalogue.specs.Entries.{absentMark, pausedMark}
 use Rattle.catalogue.specs.declared.Entry.{Entry}
-use Rattle.catalogue_standings.specs.Rows.{accepted, firstOf}
-use Rattle.catalogue_standings.specs.Standings.{extentHolds, standingOf, isDamaged}
+use Rattle.catalogue_standings.specs.Rows.{firstOf}
+use Rattle.catalogue_standings.specs.Standings.{standingOf, isDamaged}
 use Rattle.catalogue_standings.specs.declared.Standing.{Standing}
-use Rattle.catalogue_standings.specs.declared.Standing.the-variants.{Absent, Paused, PausedWith, Open, Complete, Damaged}
-use Rattle.image_frames.specs.Frames.{totalOf, framed}
+use Rattle.catalogue_standings.specs.declared.Standing.the-variants.{Absent, Paused, Damaged}
 use Rattle.image_soundness.specs.Sound.{State, undamaged, sound, soundIf}
 use Rattle.image.specs.Before.{standingBefore, undamagedBefore, soundBefore, notPausedWith, noPausedBlocks}
 use Rattle.image.specs.Before.{SavesAsBefore, LoadsAsBefore, StillSaves, StillLoads}
-use Rattle.image.specs.Image.{blocksIn, freeCountIn, sheetsIn, stateIn, filled}
-use Rattle.image.specs.Table.{saveFits, saveRowsIf, saveVerdict, wholeBlocks, headFits, loadFits, loadRowsIf, loadVerdict}
-use Rattle.image.proofs.Verdicts.{row-passed}
+use Rattle.image.specs.Image.{blocksIn, sheetsIn, stateIn, filled}
+use Rattle.image.specs.Table.{saveRowsIf, saveVerdict, loadRowsIf, loadVerdict}
+use Rattle.catalogue_standings.proofs.Rows.{clear}
 
 -- ---- an entry
 
@@ -93,18 +91,14 @@ loads-as-before image maplen count scratchlen b =
 
 pub still-saves : StillSaves
 still-saves s scratchlen bufferlen e =
-    let r1 = row-passed 1 (saveFits (s .blocks) (s .spare) (length (s .entries)) (length (s .map)) scratchlen) _ e in
-    let r4 = row-passed 4 (soundBefore s) _ (r1 .1) in
-    saves-as-before s scratchlen bufferlen (sound-bare s (r4 .0)) ∙ e
+    let rows = saveRowsIf (soundBefore s) s scratchlen bufferlen in
+    saves-as-before s scratchlen bufferlen (sound-bare s (not-false _ (clear 4 rows e .0))) ∙ e
 
 pub still-loads : StillLoads
 still-loads image maplen count scratchlen e =
-    let r1 = row-passed 12 (wholeBlocks (length image)) _ e in
-    let r2 = row-passed 13 (framed image) _ (r1 .1) in
-    let r3 = row-passed 14 (headFits (blocksIn image) (freeCountIn image) (sheetsIn image) (totalOf image)) _ (r2 .1) in
-    let r4 = row-passed 1 (loadFits (blocksIn image) (sheetsIn image) maplen count scratchlen) _ (r3 .1) in
-    let r5 = row-passed 14 (soundBefore (stateIn image) && filled image (blocksIn image) (sheetsIn image)) [] (r4 .1) in
+    let rows = loadRowsIf (soundBefore (stateIn image)) image maplen count scratchlen in
     loads-as-before image maplen count scratchlen
     (sound-bare (stateIn image)
-    (and-left (soundBefore (stateIn image)) (filled image (blocksIn image) (sheetsIn image)) (r5 .0)))
+    (and-left (soundBefore (stateIn image)) (filled image (blocksIn image) (sheetsIn image))
+    (not-false _ (clear 14 rows e .1 .0))))
     ∙ e

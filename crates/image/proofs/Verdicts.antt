@@ -1,28 +1,20 @@
 -- The rows of save and load, test by test, and what an accepted call shows.
 -- Assumes nothing.
 use mathlib.Core.Path.{_≡_, refl, ap, ap₂}
-use mathlib.Core.Bool.{Bool, true, false, not, _&&_}
+use mathlib.Core.Bool.{Bool, true, not, _&&_}
 use mathlib.Core.List.{List, [], _∷_}
 use Prim.Native.Nat.{ℕ, _*_}
-use native.Mathlib.Omega.{arith}
 use lib.Dec.{eqb}
 use lib.ListN.{length}
-use borrow.Author.Tests.{eq-eqb, eqb-true}
+use borrow.Author.Tests.{eq-eqb, eqb-true, not-false}
 use Rattle.laws.proofs.Bools.{and-left, and-right}
-use Rattle.catalogue_standings.specs.Rows.{Row, row, Verdict, accepted, firstOf, settle, rowNumber}
+use Rattle.catalogue_standings.specs.Rows.{Row, row, accepted, firstOf, rowNumber}
 use Rattle.catalogue_standings.proofs.Openings.{skip, none-left}
-use Rattle.catalogue_standings.proofs.Rows.{zero-row}
+use Rattle.catalogue_standings.proofs.Rows.{clear, zero-accepts}
 use Rattle.image_frames.specs.Frames.{totalOf, framed}
 use Rattle.image_soundness.specs.Sound.{State, sound}
 use Rattle.image.specs.Image.{framesFor, blocksIn, freeCountIn, sheetsIn, stateIn, filled}
 use Rattle.image.specs.Table.{saveFits, saveRows, saveVerdict, wholeBlocks, headFits, loadFits, loadRows, loadVerdict}
-
--- a row that does not hold, of an accepted call
-pub row-passed : (number : ℕ) (test : Bool) (rows : List Row) → firstOf (row number (not test) ∷ rows) ≡ accepted
-    → (test ≡ true) × (firstOf rows ≡ accepted)
-unfolding firstOf
-row-passed number true rows e = (refl, e)
-row-passed number false rows e = let z : _≡_ {A = ℕ} 0 1 = ap (λ (v : Verdict). settle v 1 (λ k. 0)) e in absurd (omega arith)
 
 passes-row : (number : ℕ) (test : Bool) (rows : List Row) → test ≡ true → firstOf rows ≡ accepted
     → firstOf (row number (not test) ∷ rows) ≡ accepted
@@ -38,13 +30,11 @@ module _ (s : State) (scratchlen bufferlen : ℕ) where
   pub saved-to : saveVerdict s scratchlen bufferlen ≡ accepted → Saved s scratchlen bufferlen
   unfolding saveVerdict saveRows
   saved-to e =
-      let r1 = row-passed 1 (saveFits (s .blocks) (s .spare) (length (s .entries)) (length (s .map)) scratchlen) _ e in
-      let r4 = row-passed 4 (sound s) _ (r1 .1) in
-      let r12 = row-passed 12 (eqb bufferlen (512 * framesFor (s .blocks) (length (s .entries)))) [] (r4 .1) in
+      let rows = saveRows s scratchlen bufferlen in
       record {
-        lengths = r1 .0;
-        whole = r4 .0;
-        exact = eqb-true bufferlen (512 * framesFor (s .blocks) (length (s .entries))) (r12 .0);
+        lengths = not-false _ (clear 1 rows e .0);
+        whole = not-false _ (clear 4 rows e .0);
+        exact = eqb-true bufferlen (512 * framesFor (s .blocks) (length (s .entries))) (not-false _ (clear 12 rows e .0));
       }
 
   pub to-saved : Saved s scratchlen bufferlen → saveVerdict s scratchlen bufferlen ≡ accepted
@@ -57,9 +47,7 @@ module _ (s : State) (scratchlen bufferlen : ℕ) where
 
   pub save-accepted : rowNumber (saveVerdict s scratchlen bufferlen) ≡ 0 → saveVerdict s scratchlen bufferlen ≡ accepted
   unfolding saveVerdict saveRows
-  save-accepted =
-      zero-row 1 _ _ (λ e. omega arith) (zero-row 4 _ _ (λ e. omega arith)
-      (zero-row 12 _ [] (λ e. omega arith) (λ e. none-left)))
+  save-accepted = zero-accepts _ refl
 
 -- an accepted load
 pub record Accepted (image : List ℕ) (maplen count scratchlen : ℕ) : Type 0 where
@@ -74,26 +62,21 @@ module _ (image : List ℕ) (maplen count scratchlen : ℕ) where
   pub load-accepted : rowNumber (loadVerdict image maplen count scratchlen) ≡ 0
       → loadVerdict image maplen count scratchlen ≡ accepted
   unfolding loadVerdict loadRows
-  load-accepted =
-      zero-row 12 _ _ (λ e. omega arith) (zero-row 13 _ _ (λ e. omega arith)
-      (zero-row 14 _ _ (λ e. omega arith) (zero-row 1 _ _ (λ e. omega arith)
-      (zero-row 14 _ [] (λ e. omega arith) (λ e. none-left)))))
+  load-accepted = zero-accepts _ refl
 
   pub accepted-to : loadVerdict image maplen count scratchlen ≡ accepted → Accepted image maplen count scratchlen
   unfolding loadVerdict loadRows
   accepted-to e =
-      let r1 = row-passed 12 (wholeBlocks (length image)) _ e in
-      let r2 = row-passed 13 (framed image) _ (r1 .1) in
-      let r3 = row-passed 14 (headFits (blocksIn image) (freeCountIn image) (sheetsIn image) (totalOf image)) _ (r2 .1) in
-      let r4 = row-passed 1 (loadFits (blocksIn image) (sheetsIn image) maplen count scratchlen) _ (r3 .1) in
-      let r5 = row-passed 14 (sound (stateIn image) && filled image (blocksIn image) (sheetsIn image)) [] (r4 .1) in
+      let rows = loadRows image maplen count scratchlen in
+      let content = not-false (sound (stateIn image) && filled image (blocksIn image) (sheetsIn image))
+      (clear 14 rows e .1 .0) in
       record {
-        blocks = r1 .0;
-        frames = r2 .0;
-        first = r3 .0;
-        lengths = r4 .0;
-        whole = and-left (sound (stateIn image)) (filled image (blocksIn image) (sheetsIn image)) (r5 .0);
-        fill = and-right (sound (stateIn image)) (filled image (blocksIn image) (sheetsIn image)) (r5 .0);
+        blocks = not-false _ (clear 12 rows e .0);
+        frames = not-false _ (clear 13 rows e .0);
+        first = not-false _ (clear 14 rows e .0);
+        lengths = not-false _ (clear 1 rows e .0);
+        whole = and-left (sound (stateIn image)) (filled image (blocksIn image) (sheetsIn image)) content;
+        fill = and-right (sound (stateIn image)) (filled image (blocksIn image) (sheetsIn image)) content;
       }
 
   pub to-accepted : Accepted image maplen count scratchlen → loadVerdict image maplen count scratchlen ≡ accepted

@@ -9,7 +9,7 @@ use Rattle.map_blocks.specs.Blocks.{all}
 use Rattle.catalogue_standings.specs.Rows.{Verdict, refused, settle}
 use Rattle.refusals.specs.Table.{complete, lowestBlank, tableOf}
 use Rattle.refusals.proofs.BlankPlaces.{Lowest, lowest-of}
-use Rattle.refusals.proofs.Rows.{holds}
+use Rattle.catalogue_standings.proofs.Rows.{holds}
 use Rattle.ledger.specs.Calls.{Call, on}
 use Rattle.ledger.specs.Ledger.{Sheet, lengthIn, isBlank, sheetAt, placeAt, viewIn, listed, rowsIn, verdictIn, deedIn}
 use Rattle.ledger.specs.Answers.{done, refusedWith, toldIn}

@@ -32,7 +32,7 @@ use Rattle.ledger.specs.Steps.{End, ending, endOf, responseOf, stateOn, 
 use Rattle.ledger.proofs.Agreement.{mapIn, stateOf, Matches}
 use Rattle.ledger.proofs.Cover.{held-set}
 use Rattle.ledger.proofs.Keeping.{entries-set, Changed}
-use Rattle.ledger.proofs.Rows.{says, never-says}
+use Rattle.catalogue_standings.proofs.Rows.{says, never-says}
 use Rattle.ledger.proofs.Sheets.{Has}
 
 -- what the ledger answers to a call, by its verdict

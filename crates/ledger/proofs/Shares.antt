@@ -1,9 +1,9 @@
 -- Over a list with unchanging limits from a fresh card no wing ever holds more than its limit (document 02 (k)).
 -- Assumes nothing.
-use Prim.Native.Nat.{ℕ, zero, suc, _+_, _*_, _≤_, _<_}
+use Prim.Native.Nat.{ℕ, _+_, _*_, _≤_}
 use mathlib.Core.Path.{_≡_, refl, sym, ap, subst, _∙_}
 use mathlib.Core.Bool.{Bool, true, false}
-use mathlib.Core.List.{List, [], _∷_, _++_, map}
+use mathlib.Core.List.{List, [], _∷_}
 use native.Mathlib.Omega.{arith}
 use lib.Dec.{eqb}
 use lib.ListN.{length, set, length-map, length-set, length-append, length-replicate, replicate}
@@ -12,11 +12,11 @@ use Rattle.catalogue_wings.specs.Wings.{wingOf, inWing}
 use Rattle.catalogue_standings.specs.Rows.{Verdict, accepted, refused, settle}
 use Rattle.refusals.specs.Shares.{limitOf, overLimit}
 use Rattle.refusals.specs.Table.{reserve, put, grow, complete, pause, resume, release, show, standing, offer, accept}
-use Rattle.refusals.specs.Table.{showDated, rowsFor, tableOf}
-use Rattle.refusals.proofs.Rows.{clear}
+use Rattle.refusals.specs.Table.{showDated, tableOf}
+use Rattle.catalogue_standings.proofs.Rows.{clear}
 use Rattle.card.specs.Calls.{Kept}
 use Rattle.ledger.specs.Calls.{Call, on, close}
-use Rattle.ledger.specs.Ledger.{Place, Blank, Sheet, Absent, Paused, PausedWith, Open, Complete, lengthIn, sheetAt, held}
+use Rattle.ledger.specs.Ledger.{Blank, Sheet, Absent, Paused, PausedWith, Open, Complete, lengthIn, sheetAt, held}
 use Rattle.ledger.specs.Ledger.{heldIn, putIn, growIn, completeIn, pauseIn, resumeIn, bytesOf, listed, rowsIn, verdictIn}
 use Rattle.ledger.specs.Ledger.{startIn, belowIn, restartIn, deedIn, stepIn, begun, closedIn}
 use Rattle.ledger.specs.Steps.{endOf, stateOn, freshState}

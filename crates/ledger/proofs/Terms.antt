@@ -1,7 +1,7 @@
 -- The term of a course (document 02 (m)): what specs/Terms.antt claims.
 -- Assumes nothing.
 use Prim.Native.Nat.{ℕ, _+_, _≤_, _*_, _<_}
-use mathlib.Core.Path.{_≡_, refl, sym, ap, ap₂, _∙_}
+use mathlib.Core.Path.{_≡_, refl, sym, ap, _∙_}
 use mathlib.Core.Bool.{Bool, true, false, not, cond}
 use mathlib.Core.List.{List, []}
 use native.Mathlib.Omega.{arith}
@@ -24,16 +24,16 @@ use Rattle.refusals.specs.Table.{show, showDated, lowestBlank, tableOf}
 use Rattle.refusals.specs.Views.{viewOn}
 use Rattle.refusals.proofs.ShowDated.{accepted-too}
 use Rattle.card.specs.Calls.{Kept, lentTo, told}
-use Rattle.ledger.specs.Calls.{Call, on}
+use Rattle.ledger.specs.Calls.{on}
 use Rattle.ledger.specs.Ledger.{Place, Sheet, Complete, standingIn, bytesOf, sheetAt, placeAt, viewIn, listed, verdictIn}
 use Rattle.ledger.specs.Ledger.{deedIn, after, begun}
 use Rattle.ledger.specs.Answers.{Told, done, refusedWith, toldIn}
-use Rattle.ledger.specs.Steps.{End, ending, endOf, Response, responseOf, stateOn, toldBy, Runs, freshState}
-use Rattle.ledger.specs.Terms.{termIn, Within, ShowsInTerm, ShowsExactlyInItsTerm, DoesWhatShowDoes}
+use Rattle.ledger.specs.Steps.{End, ending, endOf, Response, responseOf, stateOn, toldBy, freshState}
+use Rattle.ledger.specs.Terms.{termIn, ShowsInTerm, ShowsExactlyInItsTerm, DoesWhatShowDoes}
 use Rattle.ledger.proofs.Agreement.{Matches}
 use Rattle.ledger.proofs.Demand.{Left, lists, kept-begun, state-begun, place-of}
 use Rattle.ledger.proofs.Pauses.{held-listed, told-after}
-use Rattle.ledger.proofs.Rows.{never-says}
+use Rattle.catalogue_standings.proofs.Rows.{never-says}
 use Rattle.ledger.proofs.Sheets.{holding}
 
 -- ---- what the ledger answers to a dated show of a complete sheet's place

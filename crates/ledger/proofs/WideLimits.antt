@@ -2,8 +2,8 @@
 -- is not passed the verdict is that without row 18 (`under-limit`), and with limits of n or more a call is accepted exactly if
 -- it was (`wide-limits`).
 -- Assumes nothing.
-use Prim.Native.Nat.{ℕ, _+_, _*_, _/_, _≤_, _<_}
-use mathlib.Core.Path.{_≡_, refl, sym, ap, subst, _∙_}
+use Prim.Native.Nat.{ℕ, _+_, _*_, _≤_, _<_}
+use mathlib.Core.Path.{_≡_, refl, sym, subst, _∙_}
 use mathlib.Core.Logic.{_⊎_, inl, inr}
 use mathlib.Core.Bool.{Bool, true, false, cond, true≢false}
 use mathlib.Core.List.{List, [], _∷_, _++_}
@@ -12,17 +12,15 @@ use lib.Dec.{leb, ltb}
 use lib.ListN.{length}
 use borrow.Author.Tests.{leb-false, le-ltb, ltb-false, not-false}
 use Rattle.catalogue_wings.specs.Wings.{wingOf}
-use Rattle.catalogue_standings.specs.Rows.{Row, row, Verdict, accepted, refused, firstOf, settle}
-use Rattle.catalogue_standings.proofs.Rows.{first-then}
+use Rattle.catalogue_standings.specs.Rows.{Row, row, Verdict, accepted, refused, firstOf, before, settle}
+use Rattle.catalogue_standings.proofs.Rows.{clear, first-then, not-refused, same-number}
 use Rattle.refusals.specs.Placement.{Placement, plain}
 use Rattle.refusals.specs.Shares.{limitOf, overLimit, withoutLimits}
 use Rattle.refusals.specs.Table.{reserve, put, grow, complete, pause, resume, release, show, standing, offer, accept}
 use Rattle.refusals.specs.Table.{showDated, tableOf}
-use Rattle.refusals.proofs.Rows.{clear, not-refused, same-number}
 use Rattle.refusals.proofs.Shares.{none-passed}
 use Rattle.ledger.specs.Calls.{Call, on, close}
 use Rattle.ledger.specs.Ledger.{Sheet, heldIn, spareIn, listed, rowsIn, verdictIn, after, begun}
-use Rattle.ledger.specs.Claim.{before}
 use Rattle.ledger.specs.Steps.{freshState}
 use Rattle.ledger.specs.Shares.{GoesWith, verdictBefore, Under, Wide, AsBefore}
 use Rattle.ledger.proofs.Agreement.{Matches}

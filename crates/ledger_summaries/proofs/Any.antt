@@ -6,7 +6,7 @@ use Prim.Native.Nat.{ℕ, _+_, _-_, _≤_, _<_}
 use mathlib.Core.Path.{_≡_, refl, sym, ap, subst, _∙_}
 use mathlib.Core.Logic.{_⊎_, inl, inr}
 use mathlib.Core.Bool.{Bool, true, false}
-use mathlib.Core.List.{List, [], _∷_}
+use mathlib.Core.List.{List, []}
 use native.Mathlib.Omega.{arith}
 use lib.ListN.{length, set, getD}
 use Rattle.map_blocks.specs.declared.Found.{Found}
@@ -17,34 +17,28 @@ use Rattle.blocks_of_card.specs.Card.{zeroed}
 use Rattle.catalogue_wings.specs.Wings.{heldBy}
 use Rattle.catalogue.specs.Entries.{entryAt, absent, openMark}
 use Rattle.catalogue_standings.specs.Searches.{none, startAt}
-use Rattle.catalogue_standings.specs.Rows.{Verdict, accepted, refused, settle, firstOf, row}
+use Rattle.catalogue_standings.specs.Rows.{Verdict, accepted, refused, settle, firstOf}
 use Rattle.catalogue_standings.specs.declared.Answer.the-variants.{Done}
 use Rattle.refusals.specs.Effects as effects
 use Rattle.refusals.specs.Effects.{entryOf, outOf, refusalOut}
 use Rattle.refusals.specs.Lent.{Lent, noCard}
 use Rattle.refusals.specs.Placement.{Placement}
-use Rattle.refusals.specs.Table as table
 use Rattle.refusals.specs.Table.{reserve, grow, release, accept}
 use Rattle.refusals.proofs.Summaries as summaries
 use Rattle.card.specs.Calls.{Kept, lentByWithin, outcomeOf}
-use Rattle.refusals.specs.Effects.{givingVerdict, runVerdict, reserveVerdict, reserveStart, acceptVerdict}
+use Rattle.refusals.specs.Effects.{runVerdict, unsearchedVerdict, reserveVerdict, reserveStart, acceptVerdict}
 use Rattle.refusals.specs.Guides.{foundBy}
-use Rattle.refusals.specs.Placement.{misfigured, fitWithin, figuresIn}
-use Rattle.refusals.specs.Table.{tableOf}
-use Rattle.refusals.specs.Views.{viewOn}
+use Rattle.refusals.specs.Placement.{fitWithin, figuresIn}
 use Rattle.refusals.specs.declared.Figures.{Figures}
 use Rattle.refusals.proofs.Accept as accepting
-use Rattle.refusals.proofs.Beginnings.{behind, giving-then, given}
+use Rattle.refusals.proofs.Beginnings.{given}
 use Rattle.refusals.proofs.Placement.{figured, plain-fit, found-fit}
 use Rattle.refusals.proofs.Reserve as reserving
-use Rattle.refusals.proofs.Rows.{not-refused}
 use Rattle.refusals.proofs.Runs as runs
-use Rattle.catalogue_standings.proofs.Openings.{skip, stop, none-left}
 use borrow.Author.Tests.{ltb-true, ltb-false}
 use Rattle.summary_search.proofs.Searches.{by-none}
 use Rattle.card.specs.Calls.{reserveSummaryBy, acceptSummaryBy}
 use Rattle.ledger.specs.Calls.{on}
-use Rattle.ledger.specs.Claim.{before}
 use Rattle.ledger_summaries.specs.Summaries.{refusing, WrongLength, Comes, Decided, turned-down, granted, AnyReserve}
 use Rattle.ledger_summaries.proofs.Closed.{same-close, close-anew, close-refuses}
 use Rattle.ledger_summaries.proofs.Ends.{takes, reserve-takes, accept-takes, reserve-refuses, accept-refuses}
@@ -136,91 +130,24 @@ module _ (s : Kept) (summary : List ℕ) (limits : List ℕ) (sheet : ℕ) (long
   abbrev plainly : Lent
   plainly = lentByWithin false [] s (s .card) limits sheet
 
-  giving-x : givingVerdict x k ≡ givingVerdict plainly k
-  giving-x = summaries.giving-same (heldBy (s .entries) sheet) limits summary n (s .shape .free) (s .map) (s .card)
-      (length (s .entries))
-      (entryAt (s .entries) sheet) sheet long k
+  unsearched-x : unsearchedVerdict x k p ≡ unsearchedVerdict plainly k p
+  unsearched-x =
+      summaries.unsearched-same (heldBy (s .entries) sheet) limits summary n (s .shape .free) (s .map) (s .card)
+      (length (s .entries)) (entryAt (s .entries) sheet) sheet long k p
 
-  -- the limit of the sheet's wing is passed
-  abbrev over : Bool
-  over = reserving.over plainly k p
-
-  -- the rows before 10
-  first-rows : firstOf (before 10 (tableOf (viewOn plainly) (table.on sheet (reserve limits k p))))
-      ≡ behind (givingVerdict plainly k) (row 15 (misfigured n g) ∷ row 18 over ∷ [])
-  unfolding before tableOf viewOn
-  first-rows = giving-then plainly k (row 15 (misfigured n g) ∷ row 18 over ∷ [])
-
-  -- both are refused by the same row
-  both-refused : (number : ℕ) → reserveVerdict x k p ≡ refused number → reserveVerdict plainly k p ≡ refused number
+  -- a call that does not come to the search: both are refused by the same row
+  refused-before : (number : ℕ) → unsearchedVerdict plainly k p ≡ refused number
       → (endIn true summary s (on sheet (reserve limits k p)) ≡ endOf s (on sheet (reserve limits k p)))
       × (reserveSummaryBy true summary s limits sheet k p ≡ summary)
-  both-refused number a b =
-      let u = reserve-refuses true summary s sheet number limits k p a in
-      let v = reserve-refuses false [] s sheet number limits k p b in
+  refused-before number h =
+      let u = reserve-refuses true summary s sheet number limits k p
+      (reserving.refused-before x k p number (unsearched-x ∙ h)) in
+      let v = reserve-refuses false [] s sheet number limits k p (reserving.refused-before plainly k p number h) in
       (u .0 ∙ sym (v .0), u .1)
 
-  by-giving : (q : Lent) (number : ℕ) → givingVerdict q k ≡ refused number → reserveVerdict q k p ≡ refused number
-  by-giving q number h =
-      reserving.verdict-behind q k p ∙ ap (λ (v : Verdict). settle v (firstOf (reserving.rest q k p)) refused) h
-
-  by-rest : (q : Lent) (v : Verdict) → givingVerdict q k ≡ accepted → firstOf (reserving.rest q k p) ≡ v
-      → reserveVerdict q k p ≡ v
-  by-rest q v h r =
-      reserving.verdict-behind q k p ∙ ap (λ (w : Verdict). settle w (firstOf (reserving.rest q k p)) refused) h ∙ r
-
-  refused-before : (number : ℕ) → firstOf (before 10 (tableOf (viewOn plainly) (table.on sheet (reserve limits k p)))) ≡ refused
-      number
-      → (endIn true summary s (on sheet (reserve limits k p)) ≡ endOf s (on sheet (reserve limits k p)))
-      × (reserveSummaryBy true summary s limits sheet k p ≡ summary)
-  refused-before number h = go (givingVerdict plainly k) refl (sym first-rows ∙ h)
-    where
-      by-18 : givingVerdict plainly k ≡ accepted → misfigured n g ≡ false → (t : Bool) → over ≡ t
-          → firstOf (row 15 false ∷ row 18 t ∷ []) ≡ refused number
-          → (endIn true summary s (on sheet (reserve limits k p)) ≡ endOf s (on sheet (reserve limits k p)))
-          × (reserveSummaryBy true summary s limits sheet k p ≡ summary)
-      by-18 o w true q e = both-refused 18 (by-rest x (refused 18) (giving-x ∙ o) (reserving.past-limit x k p w q))
-          (by-rest plainly (refused 18) o (reserving.past-limit plainly k p w q))
-      by-18 o w false q e =
-          absurd (not-refused number (sym e ∙ skip 15 false _ accepted refl (skip 18 false [] accepted refl none-left)))
-
-      by-15 : givingVerdict plainly k ≡ accepted → (t : Bool) → misfigured n g ≡ t
-          → firstOf (row 15 t ∷ row 18 over ∷ []) ≡ refused number
-          → (endIn true summary s (on sheet (reserve limits k p)) ≡ endOf s (on sheet (reserve limits k p)))
-          × (reserveSummaryBy true summary s limits sheet k p ≡ summary)
-      by-15 o true w e = both-refused 15 (by-rest x (refused 15) (giving-x ∙ o) (reserving.wrong-figures x k p w))
-          (by-rest plainly (refused 15) o (reserving.wrong-figures plainly k p w))
-      by-15 o false w e = by-18 o w over refl e
-
-      go : (v : Verdict) → givingVerdict plainly k ≡ v → behind v (row 15 (misfigured n g) ∷ row 18 over ∷ []) ≡ refused number
-          → (endIn true summary s (on sheet (reserve limits k p)) ≡ endOf s (on sheet (reserve limits k p)))
-          × (reserveSummaryBy true summary s limits sheet k p ≡ summary)
-      go (refused m) o e = both-refused m (by-giving x m (giving-x ∙ o)) (by-giving plainly m o)
-      go accepted o e = by-15 o (misfigured n g) refl e
-
-  -- a call that comes to the search has passed them
-  pub record Passed : Type 0 where
-    pub opens : givingVerdict plainly k ≡ accepted
-    pub right : misfigured n g ≡ false
-    pub under : over ≡ false
-
-  passed : Comes s limits sheet k p → Passed
-  passed h = go (givingVerdict plainly k) refl (sym first-rows ∙ h)
-    where
-      by-18 : givingVerdict plainly k ≡ accepted → misfigured n g ≡ false → (t : Bool) → over ≡ t
-          → firstOf (row 15 false ∷ row 18 t ∷ []) ≡ accepted → Passed
-      by-18 o w true q e = absurd (not-refused 18 (sym (skip 15 false _ (refused 18) refl (stop 18 true [] refl)) ∙ e))
-      by-18 o w false q e = record { opens = o; right = w; under = q }
-
-      by-15 : givingVerdict plainly k ≡ accepted → (t : Bool) → misfigured n g ≡ t
-          → firstOf (row 15 t ∷ row 18 over ∷ []) ≡ accepted → Passed
-      by-15 o true w e = absurd (not-refused 15 (sym (stop 15 true _ refl) ∙ e))
-      by-15 o false w e = by-18 o w over refl e
-
-      go : (v : Verdict) → givingVerdict plainly k ≡ v → behind v (row 15 (misfigured n g) ∷ row 18 over ∷ []) ≡ accepted →
-          Passed
-      go (refused m) o e = absurd (not-refused m e)
-      go accepted o e = by-15 o (misfigured n g) refl e
+  -- one that comes to the search
+  by-search : (v : Verdict) → Comes s limits sheet k p → firstOf (reserving.searching x k p) ≡ v → reserveVerdict x k p ≡ v
+  by-search v comes h = reserving.searched x k p v (unsearched-x ∙ comes) h
 
   turned : (number : ℕ) → (number ≡ 10) ⊎ (number ≡ 4) → reserveVerdict x k p ≡ refused number → Decided s summary limits
       sheet k p
@@ -232,13 +159,16 @@ module _ (s : Kept) (summary : List ℕ) (limits : List ℕ) (sheet : ℕ) (long
   found = foundBy true summary (s .map) g k
 
   -- a start that was found, and is not too much for the free count
-  module _ (t : ℕ) (f : found ≡ At t) (w : Passed) (few : k ≤ s .shape .free) where
+  module _ (t : ℕ) (f : found ≡ At t) (comes : Comes s limits sheet k p) (few : k ≤ s .shape .free) where
+    w : reserving.Passed plainly k p
+    w = reserving.passed plainly k p comes
+
     fits : fitWithin (map-blocks.free (s .map)) g k t ≡ true
     fits = subst (λ (o : Found). fitWithin (map-blocks.free (s .map)) g k (startAt o) ≡ true) f
         (found-fit true summary (s .map) g k (omega (arith, given plainly k (w .opens) .some)) (ap none f))
 
     reserved : reserveVerdict x k p ≡ accepted
-    reserved = by-rest x accepted (giving-x ∙ w .opens) (reserving.passes x k p t (w .right) (w .under) f few)
+    reserved = by-search accepted comes (reserving.passes x k p t f few)
 
     starts : reserveStart x k p ≡ t
     starts = sym (reserving.starts x k p t f)
@@ -247,7 +177,7 @@ module _ (s : Kept) (summary : List ℕ) (limits : List ℕ) (sheet : ℕ) (long
     accepts-there =
         accepting.verdict-behind x t k
         ∙ ap (λ (v : Verdict). settle v (accepting.run x t k) refused)
-        (giving-x ∙ w .opens)
+        (reserving.passed x k p (unsearched-x ∙ comes) .opens)
         ∙ ap (λ (o : Bool). runVerdict 17 o (map-blocks.free (s .map)) n (s .shape .free) t k) (w .under)
         ∙ runs.passes 17 (map-blocks.free (s .map)) n (s .shape .free) t k
         (plain-fit (map-blocks.free (s .map)) n g k t (figured n g (w .right) .inside) fits) few
@@ -266,25 +196,21 @@ module _ (s : Kept) (summary : List ℕ) (limits : List ℕ) (sheet : ℕ) (long
         same-summary
 
   searched : Comes s limits sheet k p → Decided s summary limits sheet k p
-  searched comes = go found refl (passed comes)
+  searched comes = go found refl
     where
-      by-count : (t : ℕ) → found ≡ At t → (w : Passed) → (b : Bool) → ltb (s .shape .free) k ≡ b → Decided s summary limits
-          sheet k p
-      by-count t f w true b = turned 4 (inr refl)
-          (by-rest x (refused 4) (giving-x ∙ w .opens) (reserving.too-few x k p t (w .right) (w .under) f (ltb-true _ _ b)))
-      by-count t f w false b = grants t f w (ltb-false _ _ b)
+      by-count : (t : ℕ) → found ≡ At t → (b : Bool) → ltb (s .shape .free) k ≡ b → Decided s summary limits sheet k p
+      by-count t f true b = turned 4 (inr refl) (by-search (refused 4) comes (reserving.too-few x k p t f (ltb-true _ _ b)))
+      by-count t f false b = grants t f comes (ltb-false _ _ b)
 
-      go : (o : Found) → found ≡ o → Passed → Decided s summary limits sheet k p
-      go Nothing f w = turned 10 (inl refl) (by-rest x (refused 10) (giving-x ∙ w .opens)
-          (reserving.no-fit x k p (w .right) (w .under) f))
-      go (At t) f w = by-count t f w (ltb (s .shape .free) k) refl
+      go : (o : Found) → found ≡ o → Decided s summary limits sheet k p
+      go Nothing f = turned 10 (inl refl) (by-search (refused 10) comes (reserving.no-fit x k p f))
+      go (At t) f = by-count t f (ltb (s .shape .free) k) refl
 
   short : Comes s limits sheet k p → getD summary 2 0 < k → endIn true summary s (on sheet (reserve limits k p)) ≡ refusing s 10
   short comes l =
-      let w = passed comes in
       reserve-refuses true summary s sheet 10 limits k p
-      (by-rest x (refused 10) (giving-x ∙ w .opens)
-      (reserving.no-fit x k p (w .right) (w .under) (by-none (s .map) summary (g .from) (g .before) (g .step) k l))) .0
+      (by-search (refused 10) comes
+      (reserving.no-fit x k p (by-none (s .map) summary (g .from) (g .before) (g .step) k l))) .0
 
   pub any-reserve : AnyReserve s summary limits sheet k p
   any-reserve = record { refused-before = refused-before; searched = searched; short = short }

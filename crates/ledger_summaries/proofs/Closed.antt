@@ -1,22 +1,21 @@
 -- Closing with a summary beside the map (document 02 (l)): of the wrong length it is refused with 1; of the right length it
 -- changes nothing of the call but itself, and after a closing that was done it is the map's own, whatever it was before.
 -- Assumes nothing.
-use mathlib.Core.Path.{_≡_, refl, sym, ap, ap₂, _∙_}
+use mathlib.Core.Path.{_≡_, refl, sym, ap, _∙_}
 use mathlib.Core.Bool.{Bool, true, false, cond, _&&_}
 use mathlib.Core.List.{List, []}
 use Prim.Native.Nat.{ℕ, _<_}
 use native.Mathlib.Omega.{arith}
 use lib.Dec.{eqb, leb}
 use lib.ListN.{length}
-use borrow.Author.Tests.{eq-eqb, ne-eqb, leb-true, leb-false}
+use borrow.Author.Tests.{eq-eqb, ne-eqb, leb-false}
 use Rattle.laws.proofs.Bools.{and-both, and-right, clash}
 use Rattle.map_blocks.proofs.Maps.{map-length}
 use Rattle.summary.specs.Summary.{summaryLength, ownSummary}
 use Rattle.summary.proofs.Numbers.{own-length}
 use Rattle.catalogue_standings.specs.Limits.{shapeFits}
 use Rattle.catalogue_standings.specs.Rows.{Verdict, accepted, refused}
-use Rattle.catalogue_standings.specs.declared.Answer.{Answer}
-use Rattle.catalogue_standings.specs.declared.Answer.the-variants.{Done, Refused}
+use Rattle.catalogue_standings.specs.declared.Answer.the-variants.{Done}
 use Rattle.call_summary.specs.Answers.{summaryFits, builtSummary}
 use Rattle.call_summary.proofs.Fits.{build-left}
 use Rattle.refusals.specs.Guides.{guideTested}
@@ -29,7 +28,7 @@ use Rattle.card.specs.Closings.{closeMapBy, closeSummaryBy}
 use Rattle.card.proofs.Closings.{verdictBy, summary-for, close-refused, close-accepted}
 use Rattle.ledger.specs.Calls.{close}
 use Rattle.ledger.specs.Steps.{endIn, endOf, stateOn, scratchOf}
-use Rattle.ledger_summaries.specs.Summaries.{summaryAfter, ownOf, refusing, Long, Refused1}
+use Rattle.ledger_summaries.specs.Summaries.{summaryAfter, ownOf, Long, Refused1}
 use Rattle.ledger_summaries.proofs.Ends.{ends}
 
 pub own-fits : (s : Kept) → Long s (ownOf s)

@@ -2,19 +2,16 @@
 -- map-changing calls are the forms with a summary, each lent it as the one before left it, is answered and leaves what the
 -- ledger says, and the summary ends as one built anew.
 -- Assumes nothing.
-use Prim.Native.Nat.{ℕ, _*_, _≤_}
+use Prim.Native.Nat.{ℕ, _*_}
 use mathlib.Core.Path.{_≡_, refl, sym, ap, subst, _∙_}
 use mathlib.Core.Bool.{Bool, true, false}
-use mathlib.Core.List.{List, []}
+use mathlib.Core.List.{List}
 use native.Mathlib.Omega.{arith}
 use lib.ListN.{length}
-use Rattle.summary.specs.Summary.{ownSummary}
 use Rattle.catalogue_standings.specs.Answers.{numberOf}
-use Rattle.catalogue_standings.specs.Rows.{row, Verdict, accepted, refused, firstOf, settle}
-use Rattle.catalogue_standings.specs.declared.Answer.the-variants.{Done, Refused}
 use Rattle.call_summary.specs.Answers.{summaryFits}
 use Rattle.call_summary.proofs.Fits.{build-left, build-refused}
-use Rattle.card.specs.Calls.{Kept, told}
+use Rattle.card.specs.Calls.{Kept}
 use Rattle.card.specs.Contracts.{itself, Builds}
 use Rattle.card.specs.declared.Outcome.{Outcome}
 use Rattle.ledger.specs.Calls.{Call}

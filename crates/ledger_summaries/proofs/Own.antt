@@ -1,9 +1,9 @@
 -- The calls with the map's own summary: each answers and leaves what it does without (`own-step`), and so does every list of
 -- them (`own-runs`).
 -- Assumes nothing.
-use Prim.Native.Nat.{ℕ, _+_, _-_, _*_, _≤_}
+use Prim.Native.Nat.{ℕ, _+_, _*_, _≤_}
 use mathlib.Core.Path.{_≡_, refl, sym, ap, subst, _∙_}
-use mathlib.Core.Logic.{_⊎_, ⊎-elim}
+use mathlib.Core.Logic.{⊎-elim}
 use mathlib.Core.Bool.{Bool, true, false}
 use mathlib.Core.List.{List, [], _∷_}
 use native.Mathlib.Omega.{arith}
@@ -30,7 +30,7 @@ use Rattle.ledger.specs.Steps.{endIn, endOf, responseOf, stateOn}
 use Rattle.ledger_summaries.proofs.Any.{any-summary}
 use Rattle.ledger_summaries.proofs.Closed.{own-fits, same-close, own-close}
 use Rattle.ledger_summaries.proofs.Ends.{takes, reserve-takes}
-use Rattle.ledger_summaries.specs.Summaries.{summaryAfter, RunsBy, ownOf, OwnStep, OwnRuns, Long}
+use Rattle.ledger_summaries.specs.Summaries.{summaryAfter, RunsBy, ownOf, OwnStep, OwnRuns}
 
 -- after the k blocks from a start on became taken or free, or nothing changed, it is the map's own still
 followed : (s : Kept) (v : Verdict) (start k : ℕ) (to : Bool)

@@ -9,19 +9,15 @@ use mathlib.Core.List.{List, [], _∷_}
 use lib.ListN.{length, getD}
 use Rattle.map_blocks.specs.Blocks.{free}
 use Rattle.summary.specs.Summary.{summaryLength, ownSummary}
-use Rattle.catalogue_standings.specs.Rows.{accepted, refused, firstOf}
+use Rattle.catalogue_standings.specs.Rows.{accepted, refused}
 use Rattle.catalogue_standings.specs.declared.Answer.the-variants.{Done, Refused}
+use Rattle.refusals.specs.Effects.{unsearchedVerdict}
 use Rattle.refusals.specs.Placement.{Placement, figuresIn, fitWithin}
-use Rattle.refusals.specs.Table as table
-use Rattle.refusals.specs.Table.{Ask, reserve, put, grow, complete, pause, resume, release, show, standing, offer}
-use Rattle.refusals.specs.Table.{accept}
+use Rattle.refusals.specs.Table.{reserve, put, grow, complete, pause, resume, release, show, standing, offer, accept}
 use Rattle.refusals.specs.Table.{showDated}
-use Rattle.refusals.specs.Table.{tableOf}
-use Rattle.refusals.specs.Views.{viewOn}
 use Rattle.card.specs.Calls.{Kept, lentToWithin, told, reserveSummaryBy, acceptSummaryBy, growSummaryBy, releaseSummaryBy}
 use Rattle.card.specs.Closings.{closeSummaryBy}
 use Rattle.ledger.specs.Calls.{Call, on, close}
-use Rattle.ledger.specs.Claim.{before}
 use Rattle.ledger.specs.Steps.{End, ending, endIn, endOf, Response, responseOf, stateOn, Step, Runs, scratchOf}
 
 -- ---- steps with a summary
@@ -109,9 +105,7 @@ pub record AnySummary (s : Kept) (summary : List ℕ) (sheet : ℕ) : Type 0 whe
 
 -- A reserve comes to the search if no row before 10 holds. If it does not come there, it is answered as without a summary.
 abbrev pub Comes : Kept → List ℕ → ℕ → ℕ → Placement → Type 0
-Comes s limits sheet k p =
-    firstOf (before 10 (tableOf (viewOn (lentToWithin s (s .card) limits sheet)) (table.on sheet (reserve limits k p)))) ≡
-    accepted
+Comes s limits sheet k p = unsearchedVerdict (lentToWithin s (s .card) limits sheet) k p ≡ accepted
 
 -- If it does, it is refused with 10, or with 4 by the free count, and changes nothing; or it is granted a run that is free,
 -- within its figures, inside n and k long, and then does and answers what an accept of that run does.
@@ -126,8 +120,7 @@ pub data Decided (s : Kept) (summary limits : List ℕ) (sheet k : ℕ) (p : Pla
 
 pub record AnyReserve (s : Kept) (summary limits : List ℕ) (sheet k : ℕ) (p : Placement) : Type 0 where
   pub refused-before : (number : ℕ)
-      → firstOf (before 10 (tableOf (viewOn (lentToWithin s (s .card) limits sheet)) (table.on sheet (reserve limits k p)))) ≡
-      refused number
+      → unsearchedVerdict (lentToWithin s (s .card) limits sheet) k p ≡ refused number
       → (endIn true summary s (on sheet (reserve limits k p)) ≡ endOf s (on sheet (reserve limits k p)))
       × (summaryAfter summary s (on sheet (reserve limits k p)) ≡ summary)
   pub searched : Comes s limits sheet k p → Decided s summary limits sheet k p

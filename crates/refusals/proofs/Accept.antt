@@ -3,7 +3,7 @@
 use mathlib.Core.Path.{_≡_}
 use mathlib.Core.Bool.{Bool}
 use mathlib.Core.List.{List, _∷_}
-use Prim.Native.Nat.{ℕ, _-_}
+use Prim.Native.Nat.{ℕ}
 use borrow.Author.Tests.{ltb-false, not-false}
 use Rattle.map_blocks.specs.Blocks.{free}
 use Rattle.catalogue_wings.specs.Wings.{wingOf}
@@ -20,7 +20,7 @@ use Rattle.laws.proofs.Bools.{and-left}
 use Rattle.refusals.proofs.Lent.{lengthsFit, sized}
 use Rattle.refusals.proofs.Taken.{Leaves}
 use Rattle.refusals.proofs.Room.{Room, viewOf, fit-inside}
-use Rattle.refusals.proofs.Rows.{clear}
+use Rattle.catalogue_standings.proofs.Rows.{clear}
 
 module _ (q : Lent) (start k : ℕ) where
   abbrev pub acceptVerdictOn : Verdict

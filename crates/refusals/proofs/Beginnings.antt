@@ -5,7 +5,6 @@ use mathlib.Core.Path.{_≡_, refl, _∙_}
 use mathlib.Core.List.{List, []}
 use mathlib.Core.Bool.{true}
 use Prim.Native.Nat.{ℕ, _<_}
-use native.Mathlib.Omega.{arith}
 use borrow.Author.Tests.{eq-eqb, ne-eqb, eqb-false, not-false}
 use Rattle.map_blocks.specs.Blocks.{free}
 use Rattle.catalogue_standings.specs.Openings.{rowOf}
@@ -16,7 +15,7 @@ use Rattle.catalogue_standings.specs.declared.Standing.{Standing}
 use Rattle.catalogue_standings.specs.declared.Standing.the-variants.{Absent, Open}
 use Rattle.catalogue_standings.proofs.Openings.{NotAbsent, NotOpen, Extent, closed, skip, stop, none-left}
 use Rattle.catalogue_standings.proofs.Openings.{open-extent}
-use Rattle.catalogue_standings.proofs.Rows.{first-then, zero-row}
+use Rattle.catalogue_standings.proofs.Rows.{clear, first-then, zero-accepts}
 use Rattle.refusals.specs.Effects.{givingVerdict, addingVerdict}
 use lib.ListN.{length}
 use Rattle.laws.proofs.Bools.{and-left}
@@ -27,7 +26,6 @@ use Rattle.refusals.specs.Views.{viewOn}
 use Rattle.refusals.proofs.Admitted.{absent-else, absent-passes, open-else, open-passes}
 use Rattle.refusals.proofs.Lent.{Sized, standing, first, lengthsFit, sized, below-last}
 use Rattle.refusals.proofs.Room.{viewOf, only-open}
-use Rattle.refusals.proofs.Rows.{clear}
 
 -- these rows read nothing of wings and limits
 module _ (held : ℕ) (limits : List ℕ) (q : Lent) (k : ℕ) where
@@ -75,13 +73,7 @@ module _ (q : Lent) (k : ℕ) where
   -- no row has the number 0
   pub giving-zero : rowNumber (givingVerdict q k) ≡ 0 → givingVerdict q k ≡ accepted
   unfolding givingVerdict
-  giving-zero =
-      zero-row 1 _ _ (λ e. omega arith)
-      (zero-row 2 _ _ (λ e. omega arith)
-      (zero-row 4 _ _ (λ e. omega arith)
-      (zero-row 6 _ _ (λ e. omega arith)
-      (zero-row 7 _ _ (λ e. omega arith)
-      (zero-row 8 _ _ (λ e. omega arith) (zero-row 3 _ _ (λ e. omega arith) (λ e. none-left)))))))
+  giving-zero = zero-accepts (givingRows []) refl
 
   pub record Given : Type 0 where
     pub sizes : Sized q
@@ -122,13 +114,7 @@ module _ (q : Lent) (k : ℕ) where
 
   pub adding-zero : rowNumber (addingVerdict q k) ≡ 0 → addingVerdict q k ≡ accepted
   unfolding addingVerdict
-  adding-zero =
-      zero-row 1 _ _ (λ e. omega arith)
-      (zero-row 2 _ _ (λ e. omega arith)
-      (zero-row 4 _ _ (λ e. omega arith)
-      (zero-row 5 _ _ (λ e. omega arith)
-      (zero-row 6 _ _ (λ e. omega arith)
-      (zero-row 8 _ _ (λ e. omega arith) (zero-row 3 _ _ (λ e. omega arith) (λ e. none-left)))))))
+  adding-zero = zero-accepts (addingRows []) refl
 
   -- what is added to begins where the entry says, and lies inside n
   pub record Added : Type 0 where

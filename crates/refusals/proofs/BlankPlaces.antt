@@ -23,7 +23,7 @@ use Rattle.refusals.specs.Effects.{completeVerdict, blankPlace}
 use Rattle.refusals.specs.Lent.{Lent}
 use Rattle.refusals.specs.Table.{View, on, complete, everyPlace, lowestBlank, tableOf}
 use Rattle.refusals.specs.Views.{viewOn}
-use Rattle.refusals.proofs.Rows.{holds}
+use Rattle.catalogue_standings.proofs.Rows.{holds}
 
 -- the lowest of m numbers that pass a test
 pub record Lowest (test : ℕ → Bool) (m p : ℕ) : Type 0 where

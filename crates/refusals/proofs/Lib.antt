@@ -1,5 +1,4 @@
 -- Laws of the table and the effects: what the calls share, then each call in document 01's order.
-pub mod Rows
 pub mod Admitted
 pub mod Lent
 pub mod Guides

@@ -21,7 +21,7 @@ use Rattle.refusals.specs.Views.{viewOn}
 use Rattle.refusals.specs.declared.Figures.{Figures}
 use Rattle.refusals.proofs.Placement.{found-fit}
 use Rattle.refusals.proofs.Room.{viewOf}
-use Rattle.refusals.proofs.Rows.{clear}
+use Rattle.catalogue_standings.proofs.Rows.{clear}
 
 module _ (q : Lent) (k : ℕ) where
   -- the answer, once the verdict of the reserve with 0, n and 1 is known

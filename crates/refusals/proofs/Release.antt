@@ -20,7 +20,7 @@ use Rattle.catalogue_standings.specs.Rows.{Verdict, accepted, refused, settle}
 use Rattle.catalogue_standings.specs.Standings.{standingOf, isAbsent, lengthOf}
 use Rattle.refusals.specs.Table.{on, release, tableOf}
 use borrow.Author.Tests.{not-false}
-use Rattle.refusals.proofs.Rows.{clear}
+use Rattle.catalogue_standings.proofs.Rows.{clear}
 use Rattle.refusals.specs.Views.{viewAt}
 use Rattle.catalogue_standings.specs.declared.Answer.the-variants.{Done}
 use Rattle.catalogue_standings.specs.declared.Opened.{Opened}

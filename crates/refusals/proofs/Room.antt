@@ -15,7 +15,7 @@ use Rattle.refusals.specs.Table.{View, on, reserve, grow, tableOf}
 use Rattle.refusals.specs.Views.{viewOn}
 use Rattle.catalogue_standings.specs.declared.Standing.{Standing}
 use Rattle.catalogue_standings.specs.declared.Standing.the-variants.{Absent, Paused, PausedWith, Open, Complete, Damaged}
-use Rattle.refusals.proofs.Rows.{clear}
+use Rattle.catalogue_standings.proofs.Rows.{clear}
 use lib.ListN.{length}
 use Rattle.laws.proofs.Bools.{and-left}
 use Rattle.refusals.specs.Guides.{guideFits, foundBy}

@@ -9,7 +9,7 @@ use lib.Dec.{eqb, ltb}
 use borrow.Author.Tests.{ltb-true, ltb-false, lt-ltb, le-ltb}
 use Rattle.catalogue_standings.specs.Rows.{Row, Verdict, refused, firstOf}
 use Rattle.refusals.specs.Shares.{withoutLimits}
-use Rattle.refusals.proofs.Rows.{Clear, either}
+use Rattle.catalogue_standings.proofs.Rows.{Clear, either}
 
 -- ---- the test
 

@@ -1,21 +1,20 @@
 -- What comes of the verdict of a dated show (document 02 (m)): one of the first rows refuses it, or one of its date's, or the
 -- block of the place decides; and that it does what show does, if it is accepted.
 -- Assumes nothing.
-use mathlib.Core.Path.{_≡_, refl, sym, ap, ap₂, _∙_}
+use mathlib.Core.Path.{_≡_, refl, sym, ap, _∙_}
 use mathlib.Core.Bool.{Bool, true, false, not}
 use mathlib.Core.List.{List, [], _∷_}
 use Prim.Native.Nat.{ℕ, _+_}
 use native.Mathlib.Nat.{add-zero}
-use native.Mathlib.Omega.{arith}
 use Rattle.calendar.specs.Calendar.{Date, dateExists, dayNumber}
 use Rattle.calendar.specs.Term.{Term, termOf, inTerm}
 use Rattle.blocks_of_card.specs.Card.{blockOf}
 use Rattle.block_seals.specs.Sealed.{sound, payloadOf}
 use Rattle.catalogue_standings.specs.Rows.{Row, row, Verdict, accepted, refused, firstOf, rowNumber}
 use Rattle.catalogue_standings.specs.declared.Answer.{Answer}
-use Rattle.catalogue_standings.specs.declared.Answer.the-variants.{Done, Refused}
+use Rattle.catalogue_standings.specs.declared.Answer.the-variants.{Refused}
 use Rattle.catalogue_standings.proofs.Openings.{skip, stop, none-left}
-use Rattle.catalogue_standings.proofs.Rows.{first-then, zero-row, other-row}
+use Rattle.catalogue_standings.proofs.Rows.{clear, first-then, zero-accepts, other-row}
 use Rattle.refusals.specs.Effects.{showingVerdict, termVerdict, blockVerdict, shownAnswer, shownBuffer}
 use Rattle.refusals.specs.Effects.{showVerdict, showDatedVerdict, showDatedAnswer, showDatedBuffer}
 use Rattle.refusals.specs.Lent.{Lent}
@@ -23,7 +22,6 @@ use Rattle.refusals.specs.Table.{on, showDated, termRows, tableOf}
 use Rattle.refusals.specs.Views.{viewOn}
 use Rattle.refusals.proofs.Beginnings.{behind}
 use Rattle.refusals.proofs.Room.{viewOf}
-use Rattle.refusals.proofs.Rows.{clear}
 use Rattle.refusals.proofs.Show.{told, blockAt, soundAt}
 use Rattle.refusals.proofs.Showing.{showing-then}
 
@@ -53,9 +51,7 @@ module _ (s : Bool) (t : Term) (date : Date) where
   -- no row has the number 0
   none-zero : rowNumber (termVerdict s t date) ≡ 0 → termVerdict s t date ≡ accepted
   unfolding termVerdict
-  none-zero =
-      zero-row 19 _ _ (λ e. omega arith)
-      (zero-row 4 _ _ (λ e. omega arith) (zero-row 20 _ _ (λ e. omega arith) (λ e. none-left)))
+  none-zero = zero-accepts (termRows s t date []) refl
 
   pub term-zero : (number : ℕ) → number ≡ rowNumber (termVerdict s t date) → number ≡ 0 → termVerdict s t date ≡ accepted
   term-zero number e z = none-zero (sym e ∙ z)

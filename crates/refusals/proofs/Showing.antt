@@ -16,7 +16,7 @@ use Rattle.catalogue_standings.specs.declared.Opened.the-variants.{Refused, Sta
 use Rattle.catalogue_standings.specs.declared.Standing.{Standing}
 use Rattle.catalogue_standings.specs.declared.Standing.the-variants.{Absent, Paused, PausedWith, Open, Complete, Damaged}
 use Rattle.catalogue_standings.proofs.Openings.{Extent, NotComplete, opened, closed, skip, stop, none-left, complete-extent}
-use Rattle.catalogue_standings.proofs.Rows.{first-then, zero-row}
+use Rattle.catalogue_standings.proofs.Rows.{clear, first-then, zero-accepts}
 use Rattle.refusals.specs.Effects.{showingVerdict}
 use Rattle.refusals.specs.Lent.{Lent}
 use Rattle.refusals.specs.Table.{opening, showing}
@@ -26,7 +26,6 @@ use Rattle.refusals.proofs.Beginnings.{behind}
 use Rattle.refusals.proofs.Lent.{Sized, standing, first, allFits, sized}
 use Rattle.refusals.proofs.Places.{beyond, unsized, placed, well-placed, block-number, block-bytes}
 use Rattle.refusals.proofs.Room.{viewOf}
-use Rattle.refusals.proofs.Rows.{clear}
 
 -- the one standing that a show admits
 only-complete : (s : Standing) → isDamaged s ≡ false → isAbsent s ≡ false → isPaused s ≡ false → isOpen s ≡ false
@@ -76,13 +75,7 @@ module _ (q : Lent) (place : ℕ) (buffer : List ℕ) where
   -- no row has the number 0
   none-zero : rowNumber (showingVerdict q place buffer) ≡ 0 → showingVerdict q place buffer ≡ accepted
   unfolding showingVerdict
-  none-zero =
-      zero-row 1 _ _ (λ e. omega arith)
-      (zero-row 2 _ _ (λ e. omega arith)
-      (zero-row 4 _ _ (λ e. omega arith)
-      (zero-row 5 _ _ (λ e. omega arith)
-      (zero-row 6 _ _ (λ e. omega arith)
-      (zero-row 7 _ _ (λ e. omega arith) (zero-row 3 _ _ (λ e. omega arith) (λ e. none-left)))))))
+  none-zero = zero-accepts (showingRows []) refl
 
   pub showing-zero : (number : ℕ) → number ≡ rowNumber (showingVerdict q place buffer) → number ≡ 0
       → showingVerdict q place buffer ≡ accepted

@@ -13,17 +13,17 @@ use lib.ListN.{length}
 use borrow.Author.Tests.{ne-eqb, eq-eqb}
 use Rattle.map_blocks.specs.declared.Found.{Found}
 use Rattle.catalogue.specs.declared.Entry.{Entry}
-use Rattle.catalogue_standings.specs.Rows.{Row, row, Verdict, accepted, refused, firstOf, settle}
+use Rattle.catalogue_standings.specs.Rows.{Row, row, Verdict, accepted, refused, firstOf, before, settle}
 use Rattle.catalogue_standings.specs.Searches.{none, startAt}
 use Rattle.catalogue_standings.proofs.Openings.{stop}
 use Rattle.summary.specs.Summary.{summaryLength, ownSummary}
 use Rattle.summary.proofs.Numbers.{own-length}
 use Rattle.summary_search.proofs.Searches.{by-own}
-use Rattle.refusals.specs.Effects.{givingVerdict, addingVerdict, reserveVerdict, reserveStart}
+use Rattle.refusals.specs.Effects.{givingVerdict, addingVerdict, unsearchedVerdict, reserveVerdict, reserveStart}
 use Rattle.refusals.specs.Effects.{acceptVerdict, growVerdict, releaseVerdict}
 use Rattle.refusals.specs.Guides.{guideFits, foundBy}
 use Rattle.refusals.specs.Lent.{Lent, lentWithin}
-use Rattle.refusals.specs.Placement.{Placement, figuresIn, misfigured}
+use Rattle.refusals.specs.Placement.{Placement, figuresIn}
 use Rattle.refusals.specs.Table.{tableOf}
 use Rattle.refusals.specs.Views.{viewOn, viewAt}
 use Rattle.refusals.specs.declared.Figures.{Figures}
@@ -59,6 +59,10 @@ module _ (held : ℕ) (limits summary : List ℕ) (n spare : ℕ) (map card : Li
     unfolding addingVerdict viewOn
     adding-same k = row-1-same (guideFits true summary (length map)) (lengthsFit without) _ fits
 
+    pub unsearched-same : (k : ℕ) (p : Placement) → unsearchedVerdict withIt k p ≡ unsearchedVerdict without k p
+    unfolding unsearchedVerdict viewOn before tableOf
+    unsearched-same k p = row-1-same (guideFits true summary (length map)) (lengthsFit without) _ fits
+
     pub accept-same : (start k : ℕ) → acceptVerdict withIt start k ≡ acceptVerdict without start k
     accept-same start k =
         accepting.verdict-behind withIt start k
@@ -89,8 +93,8 @@ module _ (held : ℕ) (limits summary : List ℕ) (n spare : ℕ) (map card : Li
     giving-1 k = row-1 (lengthsFit without) _
 
     pub reserve-1 : (k : ℕ) (p : Placement) → reserveVerdict withIt k p ≡ refused 1
-    reserve-1 k p = reserving.verdict-behind withIt k p
-        ∙ ap (λ (v : Verdict). settle v (firstOf (reserving.rest withIt k p)) refused) (giving-1 k)
+    unfolding unsearchedVerdict viewOn before tableOf
+    reserve-1 k p = reserving.refused-before withIt k p 1 (row-1 (lengthsFit without) _)
 
     pub accept-1 : (start k : ℕ) → acceptVerdict withIt start k ≡ refused 1
     accept-1 start k = accepting.verdict-behind withIt start k
@@ -115,12 +119,12 @@ module _ (held : ℕ) (limits summary : List ℕ) (n spare : ℕ) (map card : Li
       g = figuresIn n p
 
       -- a reserve that comes to the search finds the same
-      found-same : givingVerdict without k ≡ accepted → misfigured n g ≡ false
-          → foundBy true summary map g k ≡ foundBy false [] map g k
-      found-same opens right =
-          let o = given without k opens in
+      found-same : unsearchedVerdict without k p ≡ accepted → foundBy true summary map g k ≡ foundBy false [] map g k
+      found-same comes =
+          let w = reserving.passed without k p comes in
+          let o = given without k (w .opens) in
           by-own map n summary (g .from) (g .before) (g .step) k (omega (arith, o .sizes .shape .words, o .sizes .shape .limit))
-          (o .sizes .shape .covered) (figured n g right .inside) own (omega (arith, o .some))
+          (o .sizes .shape .covered) (figured n g (w .right) .inside) own (omega (arith, o .some))
 
       -- it is refused by the same row, or it is given the same start
       abbrev pub Same : Type 0
@@ -128,41 +132,21 @@ module _ (held : ℕ) (limits summary : List ℕ) (n spare : ℕ) (map card : Li
           ((number : ℕ) × (reserveVerdict withIt k p ≡ refused number) × (reserveVerdict without k p ≡ refused number))
           ⊎ ((reserveVerdict withIt k p ≡ reserveVerdict without k p) × (reserveStart withIt k p ≡ reserveStart without k p))
 
-      behind-same : (v : Verdict) → givingVerdict without k ≡ v → Same
+      by-unsearched : (v : Verdict) → unsearchedVerdict without k p ≡ v → Same
       unfolding reserveStart
-      behind-same (refused number) h = inl (
+      by-unsearched (refused number) h = inl (
         number,
-        reserving.verdict-behind withIt k p
-            ∙ ap (λ (v : Verdict). settle v (firstOf (reserving.rest withIt k p)) refused) (giving-same own-long k ∙ h),
-        reserving.verdict-behind without k p
-            ∙ ap (λ (v : Verdict). settle v (firstOf (reserving.rest without k p)) refused) h,
+        reserving.refused-before withIt k p number (unsearched-same own-long k p ∙ h),
+        reserving.refused-before without k p number h,
       )
-      behind-same accepted h = go (misfigured n g) refl
-        where
-          by-rest : reserveVerdict withIt k p ≡ firstOf (reserving.rest withIt k p)
-          by-rest = reserving.verdict-behind withIt k p
-              ∙ ap (λ (v : Verdict). settle v (firstOf (reserving.rest withIt k p)) refused) (giving-same own-long k ∙ h)
-
-          by-rest-without : reserveVerdict without k p ≡ firstOf (reserving.rest without k p)
-          by-rest-without = reserving.verdict-behind without k p
-              ∙ ap (λ (v : Verdict). settle v (firstOf (reserving.rest without k p)) refused) h
-
-          go : (t : Bool) → misfigured n g ≡ t → Same
-          go true wrong = inl (
-            15,
-            by-rest ∙ reserving.wrong-figures withIt k p wrong,
-            by-rest-without ∙ reserving.wrong-figures without k p wrong,
+      by-unsearched accepted h =
+          let same = found-same h in
+          inr (
+            reserving.searched withIt k p _ (unsearched-same own-long k p ∙ h) refl
+                ∙ ap (λ (o : Found). firstOf (row 10 (none o) ∷ row 4 (ltb spare k) ∷ [])) same
+                ∙ sym (reserving.searched without k p _ h refl),
+            ap startAt same,
           )
-          go false right =
-              let same = found-same h right in
-              inr (
-                by-rest
-                    ∙ ap (λ (o : Found). firstOf
-                    (row 15 (misfigured n g) ∷ row 18 (reserving.over without k p) ∷ row 10 (none o) ∷ row 4 (ltb spare k) ∷
-                    [])) same
-                    ∙ sym by-rest-without,
-                ap startAt same,
-              )
 
       pub reserve-same : Same
-      reserve-same = behind-same (givingVerdict without k) refl
+      reserve-same = by-unsearched (unsearchedVerdict without k p) refl

@@ -15,13 +15,13 @@ use Rattle.blocks_of_card.specs.Card.{blockOf, withBlock, zeroed}
 use Rattle.block_seals.specs.Sealed.{sealed, payloadOf}
 use Rattle.catalogue.specs.Entries.{absent, pausedMark, openMark, completeMark}
 use Rattle.catalogue.specs.declared.Entry.{Entry}
-use Rattle.catalogue_standings.specs.Rows.{row, Verdict, firstOf, settle}
+use Rattle.catalogue_standings.specs.Rows.{row, Verdict, firstOf, before, settle}
 use Rattle.catalogue_standings.specs.Searches.{startAt, startWithSpace}
 use Rattle.refusals.specs.Guides.{foundBy, guideAfter}
 use Rattle.refusals.specs.Lent.{Lent}
 use Rattle.refusals.specs.Placement.{Placement, plain, figuresIn}
 use Rattle.refusals.specs.Table.{on, reserve, put, grow, complete, pause, resume, release, show, standing, lowestBlank}
-use Rattle.refusals.specs.Table.{offer, accept, showDated, opening, giving, adding, showing, termRows, verdictOf}
+use Rattle.refusals.specs.Table.{offer, accept, showDated, opening, giving, adding, showing, termRows, tableOf, verdictOf}
 use Rattle.refusals.specs.Views.{viewAt, viewOn}
 use Rattle.catalogue_standings.specs.declared.Answer.{Answer}
 use Rattle.catalogue_standings.specs.declared.Answer.the-variants.{Done, Start, Reads, Blank, Refused}
@@ -73,6 +73,11 @@ module _ (q : Lent) (v : Verdict) (start k : ℕ) where
 
 -- Reserve: Absent becomes Open at the least fit within its figures.
 module _ (q : Lent) (k : ℕ) (placement : Placement) where
+  -- what the rows before its search say, which are those before 10
+  unfoldable pub unsearchedVerdict : Verdict
+  unfolding viewOn before tableOf
+  unsearchedVerdict = firstOf (before 10 (tableOf (viewOn q) (on (q .sheet) (reserve (q .limits) k placement))))
+
   unfoldable pub reserveVerdict : Verdict
   unfolding viewOn
   reserveVerdict = verdictOf (viewOn q) (on (q .sheet) (reserve (q .limits) k placement))

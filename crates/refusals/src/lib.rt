@@ -1,6 +1,6 @@
 // What the calls on a card are refused with, hand back and leave (document 01, "The ledger, call by call" and "What the
 // caller gets instead"): definitions in specs/, their laws in proofs/. The calls themselves stand in the crates over this
-// one: taking, filling, ending and telling.
+// one, whose names begin with call_.
 ghost use mathlib.Core.Path.{_≡_};
 ghost use mathlib.Core.Bool.{true};
 ghost use Prim.Native.Nat.{_+_, _*_, _≤_};

@@ -7,8 +7,8 @@ ghost use Rattle.map_blocks.specs.Blocks;
 ghost use Rattle.refusals.specs.Lent.{lentBeside, lentWithin};
 ghost use Rattle.refusals.specs.Placement.{placed};
 ghost use Rattle.catalogue_standings.specs.Rows.{rowNumber};
-ghost use Rattle.refusals.specs.Effects.{givingVerdict, addingVerdict, runVerdict, reserveVerdict, reserveStart};
-ghost use Rattle.refusals.specs.Effects.{acceptVerdict, growVerdict};
+ghost use Rattle.refusals.specs.Effects.{givingVerdict, addingVerdict, runVerdict, unsearchedVerdict, reserveVerdict};
+ghost use Rattle.refusals.specs.Effects.{reserveStart, acceptVerdict, growVerdict};
 ghost use Rattle.refusals_rulings.specs.Rulings.{rulingOf};
 use catalogue::Entry;
 use catalogue_standings::Opened;
@@ -97,6 +97,39 @@ fn adding_row(
     0
 }
 
+// The rows of a reserve before its search: those that giving begins with, 15 and 18. The first that holds, or 0.
+fn reserve_row(
+    n: u32,
+    free: u32,
+    map: &[u64],
+    guided: bool,
+    summary: &[u32],
+    card: &[u8],
+    c: usize,
+    entry: Entry,
+    sheet: u32,
+    held: u64,
+    limits: &[u32; 8],
+    k: u32,
+    figures: Figures,
+) -> u32
+    ensures { λ r. let q = lentWithin held (now (limits .entry)) guided (now (summary .entry)) n free (now (map .entry))
+        (now (card .entry)) c entry sheet in
+        ⌜ r ≡ rowNumber (unsearchedVerdict q k (placed figures)) ⌝ }
+{
+    let row = giving_row(n, free, map, guided, summary, card, c, entry, sheet, k);
+    if row != 0 {
+        return row;
+    }
+    if figures_wrong(n, figures) {
+        return 15;
+    }
+    if over_limit(limits, held, sheet, k) {
+        return 18;
+    }
+    0
+}
+
 // The least fit within the figures, or the row that refuses the call.
 pub fn reserve_ruling(
     n: u32,
@@ -117,15 +150,23 @@ pub fn reserve_ruling(
         (now (card .entry)) c entry sheet in
         ⌜ r ≡ rulingOf (reserveVerdict q k (placed figures)) (reserveStart q k (placed figures)) ⌝ }
 {
-    let row = giving_row(n, free, map, guided, summary, card, c, entry, sheet, k);
+    let row = reserve_row(
+        n,
+        free,
+        map,
+        guided,
+        summary,
+        card,
+        c,
+        entry,
+        sheet,
+        held,
+        limits,
+        k,
+        figures,
+    );
     if row != 0 {
         return Ruling::Refused(row);
-    }
-    if figures_wrong(n, figures) {
-        return Ruling::Refused(15);
-    }
-    if over_limit(limits, held, sheet, k) {
-        return Ruling::Refused(18);
     }
     let found = find_run(guided, map, summary, figures, k);
     let Found::At(least) = found else {

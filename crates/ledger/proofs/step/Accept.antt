@@ -2,27 +2,24 @@
 -- Assumes nothing.
 use Prim.Native.Nat.{ℕ}
 use mathlib.Core.Path.{_≡_, refl, ap, _∙_}
-use mathlib.Core.Bool.{Bool, true, false, not}
+use mathlib.Core.Bool.{Bool}
 use mathlib.Core.List.{List}
 use native.Mathlib.Omega.{arith}
-use lib.Dec.{eqb, leb}
-use lib.ListN.{length}
 use borrow.Author.Tests.{not-false}
 use Rattle.map_blocks.specs.Blocks as map-blocks
 use Rattle.map_blocks.specs.Blocks.{fit}
-use Rattle.catalogue_standings.specs.Rows.{Row, accepted, firstOf}
+use Rattle.catalogue_standings.specs.Rows.{Row, accepted, firstOf, before}
 use Rattle.refusals.specs.Effects as effects
 use Rattle.refusals.specs.Table.{Ask, accept, rowsFor, lowestBlank, tableOf}
-use Rattle.refusals.proofs.Rows.{clear}
+use Rattle.catalogue_standings.proofs.Rows.{clear, onwards, from-there}
 use Rattle.ledger.specs.Calls.{Call, on}
 use Rattle.ledger.specs.Ledger.{Sheet, freeIn, spaceIn, viewIn, listed, rowsIn, verdictIn, deedIn}
 use Rattle.ledger.specs.Answers.{toldIn}
-use Rattle.ledger.specs.Claim.{before, Came, Searched}
+use Rattle.ledger.specs.Claim.{Came, Searched}
 use Rattle.ledger.specs.Steps.{endOf}
 use Rattle.ledger.proofs.Agreement.{mapIn, stateOf, Matches, NeverRows, Sharing, saysOn, free-map, verdict-within}
 use Rattle.ledger.proofs.Results as results
 use Rattle.ledger.proofs.Results.{Result, out-back, plain-back, result-of}
-use Rattle.ledger.proofs.Rows.{onwards, from-there}
 use Rattle.ledger.proofs.Search.{only, asked}
 use Rattle.ledger.proofs.Taking.{shown, enough, taken, takes}
 

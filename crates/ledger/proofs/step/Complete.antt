@@ -26,7 +26,7 @@ use Rattle.refusals.specs.Effects as effects
 use Rattle.refusals.specs.Effects.{entryOf, outOf}
 use Rattle.refusals.specs.Table.{complete, rowsFor, lowestBlank, tableOf}
 use Rattle.refusals.specs.Views.{viewOn}
-use Rattle.refusals.proofs.Rows.{clear, same-number}
+use Rattle.catalogue_standings.proofs.Rows.{clear, same-number}
 use Rattle.ledger.specs.Calls.{Call, on}
 use Rattle.ledger.specs.Ledger.{Place, Blank, Sheet, Complete, lengthIn, isBlank, bytesOf, sheetAt, placeAt}
 use Rattle.ledger.specs.Ledger.{spareIn, viewIn, completeIn, listed, rowsIn, verdictIn, deedIn}

@@ -19,7 +19,7 @@ use Rattle.catalogue_standings.specs.declared.Answer.the-variants.{Done}
 use Rattle.refusals.specs.Effects as effects
 use Rattle.refusals.specs.Effects.{entryOf, outOf, refusalOut}
 use Rattle.refusals.specs.Table.{Ask, grow, rowsFor, tableOf}
-use Rattle.refusals.proofs.Rows.{clear}
+use Rattle.catalogue_standings.proofs.Rows.{clear}
 use Rattle.ledger.specs.Calls.{Call, on}
 use Rattle.ledger.specs.Ledger.{Place, Blank, Sheet, Open, standingIn, startIn, lengthIn, sheetAt, freeIn, spareIn}
 use Rattle.ledger.specs.Ledger.{growIn, listed, rowsIn, verdictIn, deedIn}

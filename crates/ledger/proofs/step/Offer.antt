@@ -2,33 +2,31 @@
 -- Assumes nothing.
 use Prim.Native.Nat.{ℕ, _<_}
 use mathlib.Core.Path.{_≡_, refl, ap, _∙_}
-use mathlib.Core.Bool.{Bool, true, false}
+use mathlib.Core.Bool.{Bool}
 use mathlib.Core.List.{List, [], map}
 use native.Mathlib.Omega.{arith}
-use lib.Dec.{eqb}
 use borrow.Author.Tests.{eqb-false}
 use Rattle.map_blocks.specs.Blocks as map-blocks
 use Rattle.map_blocks.specs.Blocks.{leastFit}
 use Rattle.laws.proofs.Bools.{not-true}
 use Rattle.map_blocks.proofs.Fits.{fit-is}
 use Rattle.catalogue_standings.specs.Searches.{startAt}
-use Rattle.catalogue_standings.specs.Rows.{Row, Verdict, accepted, firstOf, settle}
+use Rattle.catalogue_standings.specs.Rows.{Row, Verdict, accepted, firstOf, before, settle}
 use Rattle.catalogue_standings.specs.declared.Answer.the-variants.{Start, Refused}
 use Rattle.card.specs.Calls.{told}
 use Rattle.refusals.specs.Effects as effects
-use Rattle.refusals.specs.Table.{Ask, offer, reserve, rowsFor, lowestBlank, tableOf}
+use Rattle.refusals.specs.Table.{Ask, offer, rowsFor, lowestBlank, tableOf}
 use Rattle.refusals.specs.Placement.{plain, figuresIn, fitWithin, leastWithin}
 use Rattle.refusals.specs.declared.Figures.{Figures}
-use Rattle.refusals.proofs.Rows.{clear}
+use Rattle.catalogue_standings.proofs.Rows.{clear, onwards, from-there}
 use Rattle.ledger.specs.Calls.{Call, on}
 use Rattle.ledger.specs.Ledger.{Sheet, freeIn, spareIn, leastIn, viewIn, listed, rowsIn, verdictIn, deedIn}
 use Rattle.ledger.specs.Answers.{toldIn}
-use Rattle.ledger.specs.Claim.{entryIn, before, Came, Searched}
+use Rattle.ledger.specs.Claim.{entryIn, Came, Searched}
 use Rattle.ledger.specs.Steps.{End, ending, endOf}
 use Rattle.ledger.proofs.Agreement.{mapIn, stateOf, Matches, NeverRows, Sharing, saysOn, free-map, verdict-within}
 use Rattle.ledger.proofs.Results as results
 use Rattle.ledger.proofs.Results.{Result, plain-back, no-change, result-of}
-use Rattle.ledger.proofs.Rows.{onwards, from-there}
 use Rattle.ledger.proofs.Search.{searched}
 use Rattle.ledger.proofs.step.Reserve as reserving
 

@@ -2,7 +2,7 @@
 -- Assumes nothing.
 use Prim.Native.Nat.{ℕ, _<_}
 use mathlib.Core.Path.{_≡_, refl, ap, _∙_}
-use mathlib.Core.Bool.{Bool, true, false}
+use mathlib.Core.Bool.{Bool, false}
 use mathlib.Core.List.{List}
 use native.Mathlib.Omega.{arith}
 use lib.Dec.{eqb, leb}
@@ -14,23 +14,22 @@ use Rattle.laws.proofs.Bools.{not-true}
 use Rattle.map_blocks.proofs.Fits.{fit-is}
 use Rattle.catalogue_standings.specs.Searches.{startAt, none}
 use Rattle.catalogue_standings.specs.Standings.{isPaused, isOpen, isComplete}
-use Rattle.catalogue_standings.specs.Rows.{Row, accepted, firstOf}
+use Rattle.catalogue_standings.specs.Rows.{Row, accepted, firstOf, before}
 use Rattle.refusals.specs.Effects as effects
 use Rattle.refusals.specs.Table.{Ask, reserve, rowsFor, lowestBlank, tableOf}
 use Rattle.refusals.specs.Placement.{Placement, figuresIn, misfigured, fitWithin, leastWithin}
 use Rattle.refusals.specs.declared.Figures.{Figures}
 use Rattle.refusals.proofs.Placement.{figured, plain-fit, least-fits}
-use Rattle.refusals.proofs.Rows.{clear}
+use Rattle.catalogue_standings.proofs.Rows.{clear, onwards, from-there}
 use Rattle.ledger.specs.Calls.{Call, on}
 use Rattle.ledger.specs.Ledger.{Sheet, standingIn, sheetAt, freeIn, leastIn, spaceIn, viewIn, listed, rowsIn, verdictIn}
 use Rattle.ledger.specs.Ledger.{deedIn}
 use Rattle.ledger.specs.Answers.{toldIn}
-use Rattle.ledger.specs.Claim.{before, Came, Searched}
+use Rattle.ledger.specs.Claim.{Came, Searched}
 use Rattle.ledger.specs.Steps.{endOf}
 use Rattle.ledger.proofs.Agreement.{mapIn, stateOf, Matches, NeverRows, Sharing, saysOn, free-map, verdict-within}
 use Rattle.ledger.proofs.Results as results
 use Rattle.ledger.proofs.Results.{Result, out-back, plain-back, result-of}
-use Rattle.ledger.proofs.Rows.{onwards, from-there}
 use Rattle.ledger.proofs.Search.{searched}
 use Rattle.ledger.proofs.Taking.{Shown, shown, enough, taken, takes}
 

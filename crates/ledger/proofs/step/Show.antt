@@ -14,7 +14,7 @@ use Rattle.catalogue_standings.specs.Rows.{Row, Verdict, accepted, firstOf, set
 use Rattle.catalogue_standings.specs.declared.Answer.the-variants.{Done, Refused}
 use Rattle.refusals.specs.Effects as effects
 use Rattle.refusals.specs.Table.{show, misplaced, rowsFor, tableOf}
-use Rattle.refusals.proofs.Rows.{clear}
+use Rattle.catalogue_standings.proofs.Rows.{clear}
 use Rattle.card.specs.Calls.{told}
 use Rattle.ledger.specs.Calls.{Call, on}
 use Rattle.ledger.specs.Ledger.{Blank, Sheet, standingIn, lengthIn, placesIn, isBlank, sheetAt}

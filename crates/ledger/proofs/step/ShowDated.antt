@@ -8,7 +8,7 @@ use mathlib.Core.List.{List, map}
 use native.Mathlib.Omega.{arith}
 use lib.ListN.{length}
 use borrow.Author.Tests.{leb-false}
-use Rattle.calendar.specs.Calendar.{Date, dateExists}
+use Rattle.calendar.specs.Calendar.{Date}
 use Rattle.blocks_of_card.specs.Card.{blockOf}
 use Rattle.block_seals.specs.Sealed.{payloadOf}
 use Rattle.catalogue.specs.declared.Entry.{Entry}
@@ -16,15 +16,15 @@ use Rattle.catalogue_standings.specs.Rows.{Row, Verdict, accepted, firstOf, set
 use Rattle.catalogue_standings.specs.declared.Answer.the-variants.{Done, Refused}
 use Rattle.refusals.specs.Effects as effects
 use Rattle.refusals.specs.Table.{showDated, misplaced, rowsFor, tableOf}
-use Rattle.refusals.proofs.Rows.{clear}
+use Rattle.catalogue_standings.proofs.Rows.{clear}
 use Rattle.card.specs.Calls.{told}
 use Rattle.ledger.specs.Calls.{Call, on}
 use Rattle.ledger.specs.Ledger.{Sheet, lengthIn, sheetAt, placeAt, spareIn, viewIn, listed, rowsIn, verdictIn, deedIn}
 use Rattle.ledger.specs.Claim.{entryIn}
 use Rattle.ledger.specs.Steps.{End, ending, endOf}
-use Rattle.ledger.proofs.Agreement.{Places, mapIn, stateOf, reads, Matches, NeverRows, OwnPlaces, verdict-on}
+use Rattle.ledger.proofs.Agreement.{mapIn, stateOf, reads, Matches, NeverRows, OwnPlaces, verdict-on}
 use Rattle.ledger.proofs.Wings.{entry-at}
-use Rattle.ledger.proofs.Agreement.{Alike, payload-block}
+use Rattle.ledger.proofs.Agreement.{payload-block}
 use Rattle.ledger.proofs.Listed.{or-left}
 use Rattle.ledger.proofs.Results as results
 use Rattle.ledger.proofs.Results.{Result, plain-back, no-change, result-of}

@@ -10,7 +10,7 @@ use Rattle.catalogue_standings.specs.Rows.{Row, Verdict, accepted, settle}
 use Rattle.catalogue_standings.specs.declared.Answer.the-variants.{Reads, Refused}
 use Rattle.refusals.specs.Effects as effects
 use Rattle.refusals.specs.Table.{standing, rowsFor, tableOf}
-use Rattle.refusals.proofs.Rows.{clear}
+use Rattle.catalogue_standings.proofs.Rows.{clear}
 use Rattle.card.specs.Calls.{told}
 use Rattle.ledger.specs.Calls.{Call, on}
 use Rattle.ledger.specs.Ledger.{Sheet, sheetAt, spareIn, listed, rowsIn, verdictIn, deedIn}
