@@ -17,7 +17,7 @@ use Rattle.catalogue_standings.proofs.Standing as StandingType
 use Rattle.catalogue_standings.specs.Openings.{openedOf, unlessDamaged, rowOf}
 use Rattle.catalogue_standings.specs.Rows.{Row, row, Verdict, accepted, refused, firstOf}
 use Rattle.catalogue_standings.specs.Standings.{extentHolds, standingOf, isAbsent, isPaused, isOpen, isComplete}
-use Rattle.catalogue_standings.specs.Standings.{isPausedWithout, isDamaged}
+use Rattle.catalogue_standings.specs.Standings.{isDamaged}
 use Rattle.catalogue_standings.specs.declared.Standing.{Standing}
 use Rattle.catalogue_standings.specs.declared.Standing.the-variants.{Absent, Paused, PausedWith, Open, Complete, Damaged}
 use Rattle.catalogue_standings.specs.declared.Opened.the-variants.{Refused, Stands}
@@ -120,9 +120,6 @@ Not tags s = Run.OneOf tags (Declared.tagOf StandingType.the-type s)
 abbrev pub NotAbsent : Standing → Type 0
 NotAbsent = Not (1 ∷ 2 ∷ 3 ∷ 4 ∷ 5 ∷ [])
 
-abbrev pub NotPausedWith : Standing → Type 0
-NotPausedWith = Not (0 ∷ 1 ∷ 3 ∷ 4 ∷ 5 ∷ [])
-
 abbrev pub NotOpen : Standing → Type 0
 NotOpen = Not (0 ∷ 1 ∷ 2 ∷ 4 ∷ 5 ∷ [])
 
@@ -159,28 +156,6 @@ not-complete (Open a b) rows t d = refl
 not-complete (Complete a b) rows t d = absurd (Run.miss (0 ∷ 1 ∷ 2 ∷ 3 ∷ 5 ∷ []) 4 tt t)
 not-complete Damaged rows t d = absurd (true≢false d)
 
--- pause admits two standings
-pub not-absent-or-complete : (s : Standing) (rows : List Row) → NotAbsent s → NotComplete s → isDamaged s ≡ false
-    → firstOf (row 6 (isPaused s) ∷ row 7 (isOpen s) ∷ rows) ≡ refused (rowOf s)
-unfolding firstOf
-not-absent-or-complete Absent rows a c d = absurd (Run.miss (1 ∷ 2 ∷ 3 ∷ 4 ∷ 5 ∷ []) 0 tt a)
-not-absent-or-complete Paused rows a c d = refl
-not-absent-or-complete (PausedWith s l) rows a c d = refl
-not-absent-or-complete (Open s l) rows a c d = refl
-not-absent-or-complete (Complete s l) rows a c d = absurd (Run.miss (0 ∷ 1 ∷ 2 ∷ 3 ∷ 5 ∷ []) 4 tt c)
-not-absent-or-complete Damaged rows a c d = absurd (true≢false d)
-
-pub not-paused-with : (s : Standing) (rows : List Row) → NotPausedWith s → isDamaged s ≡ false
-    → firstOf (row 5 (isAbsent s) ∷ row 6 (isPausedWithout s) ∷ row 7 (isOpen s) ∷ row 8 (isComplete s) ∷ rows)
-    ≡ refused (rowOf s)
-unfolding firstOf
-not-paused-with Absent rows t d = refl
-not-paused-with Paused rows t d = refl
-not-paused-with (PausedWith a b) rows t d = absurd (Run.miss (0 ∷ 1 ∷ 3 ∷ 4 ∷ 5 ∷ []) 2 tt t)
-not-paused-with (Open a b) rows t d = refl
-not-paused-with (Complete a b) rows t d = refl
-not-paused-with Damaged rows t d = absurd (true≢false d)
-
 -- ---- a standing that a call admits passes
 
 pub is-absent : (s : Standing) (rows : List Row) → s ≡ Absent
@@ -199,19 +174,6 @@ pub is-complete : (s : Standing) (start blocks : ℕ) (rows : List Row) → s �
 unfolding firstOf
 is-complete s start blocks rows e =
     ap (λ (t : Standing). firstOf (row 5 (isAbsent t) ∷ row 6 (isPaused t) ∷ row 7 (isOpen t) ∷ rows)) e
-
-pub is-paused-with : (s : Standing) (start blocks : ℕ) (rows : List Row) → s ≡ PausedWith start blocks
-    → firstOf (row 5 (isAbsent s) ∷ row 6 (isPausedWithout s) ∷ row 7 (isOpen s) ∷ row 8 (isComplete s) ∷ rows) ≡ firstOf rows
-unfolding firstOf
-is-paused-with s start blocks rows e =
-    ap (λ (t : Standing). firstOf (row 5 (isAbsent t) ∷ row 6 (isPausedWithout t) ∷ row 7 (isOpen t) ∷ row 8 (isComplete t)
-    ∷ rows)) e
-
-pub neither-paused-nor-open : (s t : Standing) (rows : List Row) → isPaused t ≡ false → isOpen t ≡ false → s ≡ t
-    → firstOf (row 6 (isPaused s) ∷ row 7 (isOpen s) ∷ rows) ≡ firstOf rows
-unfolding firstOf
-neither-paused-nor-open s t rows p o e =
-    ap (λ (r : Standing). firstOf (row 6 (isPaused r) ∷ row 7 (isOpen r) ∷ rows)) e ∙ simp (p, o)
 
 pub none-left : firstOf [] ≡ accepted
 unfolding firstOf

@@ -15,6 +15,7 @@ pub mod Put
 pub mod Grow
 pub mod Complete
 pub mod BlankPlaces
+pub mod Marks
 pub mod Pause
 pub mod Resume
 pub mod Release

@@ -6,3 +6,4 @@ pub mod Table
 pub mod Lent
 pub mod Views
 pub mod Effects
+pub mod Marks

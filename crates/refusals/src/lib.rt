@@ -20,6 +20,15 @@ pub struct Figures {
     pub step: u32,
 }
 
+// The standings that a call admits, by the names of `Standing`. A damaged one is admitted by none.
+pub struct Admits {
+    pub absent: bool,
+    pub paused: bool,
+    pub pausedwith: bool,
+    pub open: bool,
+    pub complete: bool,
+}
+
 // What a call that may change a sheet hands back: the free count, the sheet's entry and the answer.
 pub struct Out {
     pub free: u32,
