@@ -20,14 +20,6 @@ use Rattle.ledger.proofs.Cover.{held-set, spare-and-held}
 use Rattle.ledger.proofs.Rows.{Never, never-listed}
 use Rattle.ledger.proofs.Sheets.{Sound, refilled}
 
-pub or-left : (a b : Bool) → (a || b) ≡ false → a ≡ false
-or-left true b h = h
-or-left false b h = refl
-
-pub or-right : (a b : Bool) → (a || b) ≡ false → b ≡ false
-or-right true b h = absurd (true≢false h)
-or-right false b h = h
-
 pub or-not : (t : Bool) → (t || not t) ≡ true
 or-not true = refl
 or-not false = refl

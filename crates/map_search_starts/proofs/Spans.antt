@@ -1,16 +1,16 @@
 -- Two words one after the other: the runs of free blocks that start in the first, and the first of them at a start.
 -- Assumes nothing.
-use mathlib.Core.Path.{_≡_, refl, sym, ap, ap₂, _∙_}
+use mathlib.Core.Path.{_≡_, refl, sym, ap, _∙_}
 use mathlib.Core.Logic.{_⊎_, inl, inr, ⊎-elim}
 use mathlib.Core.Bool.{Bool, true, false, _&&_, _||_}
-use Prim.Native.Nat.{ℕ, suc, _+_, _-_, _*_, _/_, _%_, _^_, _≤_, _<_, min}
+use Prim.Native.Nat.{ℕ, _+_, _-_, _*_, _/_, _%_, _^_, _≤_, _<_, min}
 use native.Mathlib.Omega.{arith}
 use lib.Dec.{leb, ltb}
 use lib.Bits.{bitAnd, bitOr}
 use borrow.Author.Tests.{lt-ltb, le-leb, leb-true, ltb-true}
 use Rattle.map_blocks.specs.Blocks.{all}
 use Rattle.map_blocks.specs.Words.{bit, Mask}
-use Rattle.laws.proofs.Bools.{and-left, and-right, and-both, both-ways, clash, not-true, order}
+use Rattle.laws.proofs.Bools.{and-left, and-right, and-both, or-left, or-right, both-ways, clash, not-true, order}
 use Rattle.map_blocks.proofs.Bits.{bit-past, bit-and, bit-or, bit-zero, bit-shl, bit-shr}
 use Rattle.map_blocks.proofs.Runs.{all-intro, all-elim}
 use Rattle.map_search_word.specs.Scan.{Tail}
@@ -20,14 +20,6 @@ use Rattle.map_search_starts.specs.Starts.{Marks, Head, Alone, NoRun, Fi
 or-either : (a b : Bool) → (a || b) ≡ true → (a ≡ true) ⊎ (b ≡ true)
 or-either true b e = inl refl
 or-either false b e = inr e
-
-pub or-left : (a b : Bool) → a ≡ true → (a || b) ≡ true
-or-left true b e = refl
-or-left false b e = absurd (clash false e refl)
-
-pub or-right : (a b : Bool) → b ≡ true → (a || b) ≡ true
-or-right true b e = refl
-or-right false b e = e
 
 module _ (f : ℕ → Bool) (base w n : ℕ) (here : Marks f base w) (behind : Marks f (base + 64) n) where
   -- a block of the first word, and one of the second

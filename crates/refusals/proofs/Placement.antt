@@ -13,18 +13,11 @@ use Rattle.map_blocks.specs.declared.Found.the-variants.{At, Nothing}
 use Rattle.map_blocks.proofs.Fits.{fit-is, is-fit, on-one}
 use Rattle.map_blocks.proofs.Least.{least-passes}
 use Rattle.catalogue_standings.specs.Searches.{none, startAt}
+use Rattle.laws.proofs.Bools.{neither-left, neither-right}
 use Rattle.summary_search.proofs.Searches.{by-fits}
 use Rattle.refusals.specs.Guides.{foundBy}
 use Rattle.refusals.specs.Placement.{misfigured, fitWithin, leastWithin}
 use Rattle.refusals.specs.declared.Figures.{Figures}
-
-or-left : (a b : Bool) → (a || b) ≡ false → a ≡ false
-or-left true b h = h
-or-left false b h = refl
-
-or-right : (a b : Bool) → (a || b) ≡ false → b ≡ false
-or-right true b h = absurd (true≢false h)
-or-right false b h = h
 
 -- row 15 does not hold
 pub record Figured (n : ℕ) (g : Figures) : Type 0 where
@@ -34,11 +27,11 @@ pub record Figured (n : ℕ) (g : Figures) : Type 0 where
 
 pub figured : (n : ℕ) (g : Figures) → misfigured n g ≡ false → Figured n g
 figured n g e =
-    let first : (eqb (g .step) 0 || leb (g .before) (g .from)) ≡ false = or-left _ (ltb n (g .before)) e in
+    let first : (eqb (g .step) 0 || leb (g .before) (g .from)) ≡ false = neither-left _ (ltb n (g .before)) e in
     record {
-      stepped = eqb-false (g .step) 0 (or-left _ (leb (g .before) (g .from)) first);
-      ordered = leb-false (g .before) (g .from) (or-right (eqb (g .step) 0) _ first);
-      inside = ltb-false n (g .before) (or-right (eqb (g .step) 0 || leb (g .before) (g .from)) _ e);
+      stepped = eqb-false (g .step) 0 (neither-left _ (leb (g .before) (g .from)) first);
+      ordered = leb-false (g .before) (g .from) (neither-right (eqb (g .step) 0) _ first);
+      inside = ltb-false n (g .before) (neither-right (eqb (g .step) 0 || leb (g .before) (g .from)) _ e);
     }
 
 -- the row, test by test

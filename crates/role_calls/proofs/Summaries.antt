@@ -1,190 +1,127 @@
--- What the parts of a public call that is lent a summary come to: what the inner call hands
--- back and leaves, or 21 and nothing changed. A call that is turned away hands its inner call something that row 1 refuses, and
--- a refusal changes nothing.
+-- The parts of a public call that is lent a summary come to what its contract says: what the inner call hands back and leaves,
+-- or 21 and nothing changed. A call that is turned away hands its inner call something that row 1 refuses, and a refusal
+-- changes nothing.
 -- Assumes nothing.
-use mathlib.Core.Path.{_≡_, refl}
-use mathlib.Core.Bool.{Bool, true, false, cond}
+use mathlib.Core.Path.{refl}
+use mathlib.Core.Bool.{Bool, true, false}
 use mathlib.Core.List.{List}
 use Prim.Native.Nat.{ℕ}
-use lib.ListN.{length}
 use Rattle.catalogue.specs.declared.Entry.{Entry}
 use Rattle.refusals.specs.Lent.{noCard}
-use Rattle.refusals.specs.Guides.{guideTested}
 use Rattle.refusals.specs.Placement.{plain, placed, figures}
-use Rattle.image.specs.Effects.{zerosFor}
 use Rattle.closing.specs.Effects as closings
-use Rattle.roles.specs.Roles as roles
 use Rattle.card.specs.Calls.{acceptOutcomeBy, acceptMapBy, acceptSummaryBy, acceptEntriesBy, acceptCardBy, growOutcomeBy}
 use Rattle.card.specs.Calls.{growMapBy, growSummaryBy, growEntriesBy, growCardBy, releaseOutcomeBy, releaseMapBy}
-use Rattle.card.specs.Calls.{releaseSummaryBy, releaseEntriesBy, kept, Kept, lentBy, lentByWithin, savedState}
-use Rattle.card.specs.Closings.{closeOutcomeBy, closeMapBy, closeSummaryBy, closeEntriesBy, closeCardBy, closeScratch}
-use Rattle.card.specs.Closings.{closeScratchBy}
+use Rattle.card.specs.Calls.{releaseSummaryBy, releaseEntriesBy, kept, Kept}
+use Rattle.card.specs.Closings.{closeOutcomeBy, closeMapBy, closeSummaryBy, closeEntriesBy, closeCardBy, closeScratchBy}
+use Rattle.card.specs.Contracts.{itself}
 use Rattle.card.specs.Reserves.{plainOutcomeBy, plainMapBy, plainSummaryBy, plainEntriesBy, plainCardBy, placedOutcomeBy}
 use Rattle.card.specs.Reserves.{placedMapBy, placedSummaryBy, placedEntriesBy, placedCardBy}
 use Rattle.card.specs.declared.Shape.{Shape}
 use Rattle.card.proofs.Refusals.{accept-refused-by, grow-refused-by, release-refused-by, reserve-refused-by}
 use Rattle.card.proofs.Closings.{close-refused}
-use Rattle.role_calls.specs.Turned.{turnedAway}
-use Rattle.role_calls.specs.Passes.{admittedBy, answeredBy}
+use Rattle.role_calls.specs.SummaryContracts.{ReservesBy, ReservesPlacedBy, AcceptsBy, GrowsBy, ReleasesBy, ClosesBy}
+use Rattle.role_calls.specs.Passes.{admittedBy, answeredBy, mayReserve, mayAccept, mayGrow, mayRelease, mayClose}
 use Rattle.role_calls.proofs.NoBlocks.{accept-1, close-1, grow-1, release-1, reserve-1}
+use Rattle.role_calls.proofs.Passing.{told-by, kept-by}
 
-module _ (role : ℕ) (shape : Shape) (map summary : List ℕ) (entries : List Entry) (card limits : List ℕ) (sheet k : ℕ) where
-  abbrev lentReserveWithSummary : Bool → Kept
-  lentReserveWithSummary pass = kept (admittedBy pass shape) map entries card
+module _ (role : ℕ) (shape : Shape) (map summary : List ℕ) (entries : List Entry) (card limits : List ℕ) (sheet : ℕ) where
+  abbrev lent : Bool → Kept
+  lent pass = kept (admittedBy pass shape) map entries card
 
-  abbrev TurnedReserveWithSummary : Bool → Type 0
-  TurnedReserveWithSummary pass =
-      (answeredBy pass shape (plainOutcomeBy true summary (lentReserveWithSummary pass) limits sheet k) ≡ cond pass
-      (plainOutcomeBy true summary (lentReserveWithSummary true) limits sheet k) (turnedAway shape))
-      × (plainMapBy true summary (lentReserveWithSummary pass) limits sheet k ≡ cond pass (plainMapBy true summary
-      (lentReserveWithSummary true) limits sheet k) map)
-      × (plainSummaryBy true summary (lentReserveWithSummary pass) limits sheet k ≡ cond pass (plainSummaryBy true summary
-      (lentReserveWithSummary true) limits sheet k) summary)
-      × (plainEntriesBy true summary (lentReserveWithSummary pass) limits sheet k ≡ cond pass (plainEntriesBy true summary
-      (lentReserveWithSummary true) limits sheet k) entries)
-      × (plainCardBy true summary (lentReserveWithSummary pass) limits sheet k ≡ cond pass (plainCardBy true summary
-      (lentReserveWithSummary true) limits sheet k) card)
+  pub reserves-by : (k : ℕ) → ReservesBy itself role shape map summary entries card limits sheet k
+      (answeredBy (mayReserve role) shape (plainOutcomeBy true summary (lent (mayReserve role)) limits sheet k))
+      (plainMapBy true summary (lent (mayReserve role)) limits sheet k)
+      (plainSummaryBy true summary (lent (mayReserve role)) limits sheet k)
+      (plainEntriesBy true summary (lent (mayReserve role)) limits sheet k)
+      (plainCardBy true summary (lent (mayReserve role)) limits sheet k)
+  reserves-by k = let same = reserve-refused-by true summary (lent false) sheet 1 limits k plain (reserve-1 _ _ _ refl) in (
+    told-by (mayReserve role) shape (λ pass. plainOutcomeBy true summary (lent pass) limits sheet k),
+    kept-by (mayReserve role) (λ pass. plainMapBy true summary (lent pass) limits sheet k) (same .1),
+    kept-by (mayReserve role) (λ pass. plainSummaryBy true summary (lent pass) limits sheet k) (same .2),
+    kept-by (mayReserve role) (λ pass. plainEntriesBy true summary (lent pass) limits sheet k) (same .3),
+    kept-by (mayReserve role) (λ pass. plainCardBy true summary (lent pass) limits sheet k) (same .4),
+  )
 
-  turned-reserve-with-summary : (pass : Bool) → TurnedReserveWithSummary pass
-  turned-reserve-with-summary true = (refl, refl, refl, refl, refl)
-  turned-reserve-with-summary false = let same = reserve-refused-by true summary (lentReserveWithSummary false) sheet 1 limits
-      k plain (reserve-1 (lentByWithin true summary (lentReserveWithSummary false) card limits sheet) k plain refl) in
-      (refl, same .1, same .2, same .3, same .4)
+  pub reserves-placed-by : (k from before step : ℕ)
+      → ReservesPlacedBy itself role shape map summary entries card limits sheet k from before step
+      (answeredBy (mayReserve role) shape
+      (placedOutcomeBy true summary (lent (mayReserve role)) limits sheet k from before step))
+      (placedMapBy true summary (lent (mayReserve role)) limits sheet k from before step)
+      (placedSummaryBy true summary (lent (mayReserve role)) limits sheet k from before step)
+      (placedEntriesBy true summary (lent (mayReserve role)) limits sheet k from before step)
+      (placedCardBy true summary (lent (mayReserve role)) limits sheet k from before step)
+  reserves-placed-by k from before step =
+      let same = reserve-refused-by true summary (lent false) sheet 1 limits k (placed (figures from before step))
+      (reserve-1 _ _ _ refl) in (
+        told-by (mayReserve role) shape (λ pass. placedOutcomeBy true summary (lent pass) limits sheet k from before step),
+        kept-by (mayReserve role) (λ pass. placedMapBy true summary (lent pass) limits sheet k from before step) (same .1),
+        kept-by (mayReserve role) (λ pass. placedSummaryBy true summary (lent pass) limits sheet k from before step) (same .2),
+        kept-by (mayReserve role) (λ pass. placedEntriesBy true summary (lent pass) limits sheet k from before step) (same .3),
+        kept-by (mayReserve role) (λ pass. placedCardBy true summary (lent pass) limits sheet k from before step) (same .4),
+      )
 
-  pub reserves-by : TurnedReserveWithSummary (roles.may role roles.reserve)
-  reserves-by = turned-reserve-with-summary (roles.may role roles.reserve)
+  pub accepts-by : (start k : ℕ) → AcceptsBy itself role shape map summary entries card limits sheet start k
+      (answeredBy (mayAccept role) shape (acceptOutcomeBy true summary (lent (mayAccept role)) limits sheet start k))
+      (acceptMapBy true summary (lent (mayAccept role)) limits sheet start k)
+      (acceptSummaryBy true summary (lent (mayAccept role)) limits sheet start k)
+      (acceptEntriesBy true summary (lent (mayAccept role)) limits sheet start k)
+      (acceptCardBy true summary (lent (mayAccept role)) limits sheet start k)
+  accepts-by start k =
+      let same = accept-refused-by true summary (lent false) sheet 1 limits start k (accept-1 _ _ _ refl) in (
+        told-by (mayAccept role) shape (λ pass. acceptOutcomeBy true summary (lent pass) limits sheet start k),
+        kept-by (mayAccept role) (λ pass. acceptMapBy true summary (lent pass) limits sheet start k) (same .1),
+        kept-by (mayAccept role) (λ pass. acceptSummaryBy true summary (lent pass) limits sheet start k) (same .2),
+        kept-by (mayAccept role) (λ pass. acceptEntriesBy true summary (lent pass) limits sheet start k) (same .3),
+        kept-by (mayAccept role) (λ pass. acceptCardBy true summary (lent pass) limits sheet start k) (same .4),
+      )
 
-module _ (role : ℕ) (shape : Shape) (map summary : List ℕ) (entries : List Entry) (card limits : List ℕ) (sheet k from before
-    step : ℕ) where
-  abbrev lentReservePlacedWithSummary : Bool → Kept
-  lentReservePlacedWithSummary pass = kept (admittedBy pass shape) map entries card
-
-  abbrev TurnedReservePlacedWithSummary : Bool → Type 0
-  TurnedReservePlacedWithSummary pass =
-      (answeredBy pass shape (placedOutcomeBy true summary (lentReservePlacedWithSummary pass) limits sheet k from before
-      step) ≡ cond pass (placedOutcomeBy true summary (lentReservePlacedWithSummary true) limits sheet k from before step)
-      (turnedAway shape))
-      × (placedMapBy true summary (lentReservePlacedWithSummary pass) limits sheet k from before step ≡ cond pass (placedMapBy
-      true summary (lentReservePlacedWithSummary true) limits sheet k from before step) map)
-      × (placedSummaryBy true summary (lentReservePlacedWithSummary pass) limits sheet k from before step ≡ cond pass
-      (placedSummaryBy true summary (lentReservePlacedWithSummary true) limits sheet k from before step) summary)
-      × (placedEntriesBy true summary (lentReservePlacedWithSummary pass) limits sheet k from before step ≡ cond pass
-      (placedEntriesBy true summary (lentReservePlacedWithSummary true) limits sheet k from before step) entries)
-      × (placedCardBy true summary (lentReservePlacedWithSummary pass) limits sheet k from before step ≡ cond pass
-      (placedCardBy true summary (lentReservePlacedWithSummary true) limits sheet k from before step) card)
-
-  turned-reserve-placed-with-summary : (pass : Bool) → TurnedReservePlacedWithSummary pass
-  turned-reserve-placed-with-summary true = (refl, refl, refl, refl, refl)
-  turned-reserve-placed-with-summary false = let same = reserve-refused-by true summary (lentReservePlacedWithSummary false)
-      sheet 1 limits k (placed (figures from before step)) (reserve-1 (lentByWithin true summary (lentReservePlacedWithSummary
-      false) card limits sheet) k (placed (figures from before step)) refl) in
-      (refl, same .1, same .2, same .3, same .4)
-
-  pub reserves-placed-by : TurnedReservePlacedWithSummary (roles.may role roles.reserve)
-  reserves-placed-by = turned-reserve-placed-with-summary (roles.may role roles.reserve)
-
-module _ (role : ℕ) (shape : Shape) (map summary : List ℕ) (entries : List Entry) (card limits : List ℕ) (sheet start k : ℕ)
-  where
-    abbrev lentAcceptWithSummary : Bool → Kept
-    lentAcceptWithSummary pass = kept (admittedBy pass shape) map entries card
-
-    abbrev TurnedAcceptWithSummary : Bool → Type 0
-    TurnedAcceptWithSummary pass =
-        (answeredBy pass shape (acceptOutcomeBy true summary (lentAcceptWithSummary pass) limits sheet start k) ≡ cond pass
-        (acceptOutcomeBy true summary (lentAcceptWithSummary true) limits sheet start k) (turnedAway shape))
-        × (acceptMapBy true summary (lentAcceptWithSummary pass) limits sheet start k ≡ cond pass (acceptMapBy true summary
-        (lentAcceptWithSummary true) limits sheet start k) map)
-        × (acceptSummaryBy true summary (lentAcceptWithSummary pass) limits sheet start k ≡ cond pass (acceptSummaryBy true
-        summary (lentAcceptWithSummary true) limits sheet start k) summary)
-        × (acceptEntriesBy true summary (lentAcceptWithSummary pass) limits sheet start k ≡ cond pass (acceptEntriesBy true
-        summary (lentAcceptWithSummary true) limits sheet start k) entries)
-        × (acceptCardBy true summary (lentAcceptWithSummary pass) limits sheet start k ≡ cond pass (acceptCardBy true summary
-        (lentAcceptWithSummary true) limits sheet start k) card)
-
-    turned-accept-with-summary : (pass : Bool) → TurnedAcceptWithSummary pass
-    turned-accept-with-summary true = (refl, refl, refl, refl, refl)
-    turned-accept-with-summary false = let same = accept-refused-by true summary (lentAcceptWithSummary false) sheet 1 limits
-        start k (accept-1 (lentByWithin true summary (lentAcceptWithSummary false) card limits sheet) start k refl) in
-        (refl, same .1, same .2, same .3, same .4)
-
-    pub accepts-by : TurnedAcceptWithSummary (roles.may role roles.accept)
-    accepts-by = turned-accept-with-summary (roles.may role roles.accept)
-
-module _ (role : ℕ) (shape : Shape) (map summary : List ℕ) (entries : List Entry) (card limits : List ℕ) (sheet k : ℕ) where
-  abbrev lentGrowWithSummary : Bool → Kept
-  lentGrowWithSummary pass = kept (admittedBy pass shape) map entries card
-
-  abbrev TurnedGrowWithSummary : Bool → Type 0
-  TurnedGrowWithSummary pass =
-      (answeredBy pass shape (growOutcomeBy true summary (lentGrowWithSummary pass) limits sheet k) ≡ cond pass (growOutcomeBy
-      true summary (lentGrowWithSummary true) limits sheet k) (turnedAway shape))
-      × (growMapBy true summary (lentGrowWithSummary pass) limits sheet k ≡ cond pass (growMapBy true summary
-      (lentGrowWithSummary true) limits sheet k) map)
-      × (growSummaryBy true summary (lentGrowWithSummary pass) limits sheet k ≡ cond pass (growSummaryBy true summary
-      (lentGrowWithSummary true) limits sheet k) summary)
-      × (growEntriesBy true summary (lentGrowWithSummary pass) limits sheet k ≡ cond pass (growEntriesBy true summary
-      (lentGrowWithSummary true) limits sheet k) entries)
-      × (growCardBy true summary (lentGrowWithSummary pass) limits sheet k ≡ cond pass (growCardBy true summary
-      (lentGrowWithSummary true) limits sheet k) card)
-
-  turned-grow-with-summary : (pass : Bool) → TurnedGrowWithSummary pass
-  turned-grow-with-summary true = (refl, refl, refl, refl, refl)
-  turned-grow-with-summary false = let same = grow-refused-by true summary (lentGrowWithSummary false) sheet 1 limits k
-      (grow-1 (lentByWithin true summary (lentGrowWithSummary false) card limits sheet) k refl) in
-      (refl, same .1, same .2, same .3, same .4)
-
-  pub grows-by : TurnedGrowWithSummary (roles.may role roles.grow)
-  grows-by = turned-grow-with-summary (roles.may role roles.grow)
+  pub grows-by : (k : ℕ) → GrowsBy itself role shape map summary entries card limits sheet k
+      (answeredBy (mayGrow role) shape (growOutcomeBy true summary (lent (mayGrow role)) limits sheet k))
+      (growMapBy true summary (lent (mayGrow role)) limits sheet k)
+      (growSummaryBy true summary (lent (mayGrow role)) limits sheet k)
+      (growEntriesBy true summary (lent (mayGrow role)) limits sheet k)
+      (growCardBy true summary (lent (mayGrow role)) limits sheet k)
+  grows-by k = let same = grow-refused-by true summary (lent false) sheet 1 limits k (grow-1 _ _ refl) in (
+    told-by (mayGrow role) shape (λ pass. growOutcomeBy true summary (lent pass) limits sheet k),
+    kept-by (mayGrow role) (λ pass. growMapBy true summary (lent pass) limits sheet k) (same .1),
+    kept-by (mayGrow role) (λ pass. growSummaryBy true summary (lent pass) limits sheet k) (same .2),
+    kept-by (mayGrow role) (λ pass. growEntriesBy true summary (lent pass) limits sheet k) (same .3),
+    kept-by (mayGrow role) (λ pass. growCardBy true summary (lent pass) limits sheet k) (same .4),
+  )
 
 module _ (role : ℕ) (shape : Shape) (map summary : List ℕ) (entries : List Entry) (sheet : ℕ) where
-  abbrev lentReleaseWithSummary : Bool → Kept
-  lentReleaseWithSummary pass = kept (admittedBy pass shape) map entries noCard
+  abbrev bare : Bool → Kept
+  bare pass = kept (admittedBy pass shape) map entries noCard
 
-  abbrev TurnedReleaseWithSummary : Bool → Type 0
-  TurnedReleaseWithSummary pass =
-      (answeredBy pass shape (releaseOutcomeBy true summary (lentReleaseWithSummary pass) sheet) ≡ cond pass (releaseOutcomeBy
-      true summary (lentReleaseWithSummary true) sheet) (turnedAway shape))
-      × (releaseMapBy true summary (lentReleaseWithSummary pass) sheet ≡ cond pass (releaseMapBy true summary
-      (lentReleaseWithSummary true) sheet) map)
-      × (releaseSummaryBy true summary (lentReleaseWithSummary pass) sheet ≡ cond pass (releaseSummaryBy true summary
-      (lentReleaseWithSummary true) sheet) summary)
-      × (releaseEntriesBy true summary (lentReleaseWithSummary pass) sheet ≡ cond pass (releaseEntriesBy true summary
-      (lentReleaseWithSummary true) sheet) entries)
-
-  turned-release-with-summary : (pass : Bool) → TurnedReleaseWithSummary pass
-  turned-release-with-summary true = (refl, refl, refl, refl)
-  turned-release-with-summary false = let same = release-refused-by true summary (lentReleaseWithSummary false) sheet 1
-      (release-1 (lentBy true summary (lentReleaseWithSummary false) noCard sheet) refl) in
-      (refl, same .1, same .2, same .3)
-
-  pub releases-by : TurnedReleaseWithSummary (roles.may role roles.release)
-  releases-by = turned-release-with-summary (roles.may role roles.release)
+  pub releases-by : ReleasesBy itself role shape map summary entries sheet
+      (answeredBy (mayRelease role) shape (releaseOutcomeBy true summary (bare (mayRelease role)) sheet))
+      (releaseMapBy true summary (bare (mayRelease role)) sheet) (releaseSummaryBy true summary (bare (mayRelease role)) sheet)
+      (releaseEntriesBy true summary (bare (mayRelease role)) sheet)
+  releases-by = let same = release-refused-by true summary (bare false) sheet 1 (release-1 _ refl) in (
+    told-by (mayRelease role) shape (λ pass. releaseOutcomeBy true summary (bare pass) sheet),
+    kept-by (mayRelease role) (λ pass. releaseMapBy true summary (bare pass) sheet) (same .1),
+    kept-by (mayRelease role) (λ pass. releaseSummaryBy true summary (bare pass) sheet) (same .2),
+    kept-by (mayRelease role) (λ pass. releaseEntriesBy true summary (bare pass) sheet) (same .3),
+  )
 
 module _ (role : ℕ) (shape : Shape) (map summary : List ℕ) (entries : List Entry) (card scratch : List ℕ) where
-  abbrev lentCloseWithSummary : Bool → Kept
-  lentCloseWithSummary pass = kept (admittedBy pass shape) map entries card
+  abbrev lentClose : Bool → Kept
+  lentClose pass = kept (admittedBy pass shape) map entries card
 
-  abbrev TurnedCloseWithSummary : Bool → Type 0
-  TurnedCloseWithSummary pass =
-      (answeredBy pass shape (closeOutcomeBy true summary (lentCloseWithSummary pass) scratch) ≡ cond pass (closeOutcomeBy
-      true summary (lentCloseWithSummary true) scratch) (turnedAway shape))
-      × (closeMapBy true summary (lentCloseWithSummary pass) scratch ≡ cond pass (closeMapBy true summary
-      (lentCloseWithSummary true) scratch) map)
-      × (closeSummaryBy true summary (lentCloseWithSummary pass) scratch ≡ cond pass (closeSummaryBy true summary
-      (lentCloseWithSummary true) scratch) summary)
-      × (closeEntriesBy true summary (lentCloseWithSummary pass) scratch ≡ cond pass (closeEntriesBy true summary
-      (lentCloseWithSummary true) scratch) entries)
-      × (closeCardBy true summary (lentCloseWithSummary pass) scratch ≡ cond pass (closeCardBy true summary
-      (lentCloseWithSummary true) scratch) card)
-      × (closeScratchBy true summary (lentCloseWithSummary pass) scratch ≡ zerosFor scratch)
-
-  turned-close-with-summary : (pass : Bool) → TurnedCloseWithSummary pass
+  pub closes-by : ClosesBy itself role shape map summary entries card scratch
+      (answeredBy (mayClose role) shape (closeOutcomeBy true summary (lentClose (mayClose role)) scratch))
+      (closeMapBy true summary (lentClose (mayClose role)) scratch)
+      (closeSummaryBy true summary (lentClose (mayClose role)) scratch)
+      (closeEntriesBy true summary (lentClose (mayClose role)) scratch)
+      (closeCardBy true summary (lentClose (mayClose role)) scratch)
+      (closeScratchBy true summary (lentClose (mayClose role)) scratch)
   unfolding closings.closeScratch
-  turned-close-with-summary true = (refl, refl, refl, refl, refl, refl)
-  turned-close-with-summary false = let same = close-refused true summary (lentCloseWithSummary false) scratch 1 (close-1
-      (savedState (admittedBy false shape) map entries) (guideTested true (length map) (length summary)) (length card) (length
-      scratch) refl) in
-      (refl, same .words, same .beside, same .sheets, same .bytes, same .zeros)
-
-  pub closes-by : TurnedCloseWithSummary (roles.may role roles.close)
-  closes-by = turned-close-with-summary (roles.may role roles.close)
+  closes-by = let same = close-refused true summary (lentClose false) scratch 1 (close-1 _ _ _ _ refl) in (
+    told-by (mayClose role) shape (λ pass. closeOutcomeBy true summary (lentClose pass) scratch),
+    kept-by (mayClose role) (λ pass. closeMapBy true summary (lentClose pass) scratch) (same .words),
+    kept-by (mayClose role) (λ pass. closeSummaryBy true summary (lentClose pass) scratch) (same .beside),
+    kept-by (mayClose role) (λ pass. closeEntriesBy true summary (lentClose pass) scratch) (same .sheets),
+    kept-by (mayClose role) (λ pass. closeCardBy true summary (lentClose pass) scratch) (same .bytes),
+    refl,
+  )

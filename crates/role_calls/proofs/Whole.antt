@@ -1,6 +1,6 @@
--- What the parts of a public call on the whole card come to: what the inner call hands
--- back and leaves, or 21 and nothing changed. A call that is turned away hands its inner call something that row 1 refuses, and
--- a refusal changes nothing.
+-- The parts of a public call on the whole card come to what its contract says: what the inner call hands back and leaves, or
+-- 21 and nothing changed. A call that is turned away hands its inner call something that row 1 refuses, and a refusal changes
+-- nothing.
 -- Assumes nothing.
 use mathlib.Core.Path.{_≡_, refl, ap}
 use mathlib.Core.Bool.{Bool, true, false, cond}
@@ -14,76 +14,58 @@ use Rattle.closing.specs.Effects as closings
 use Rattle.roles.specs.Roles as roles
 use Rattle.card.specs.Calls.{loadOutcome, loadMap, loadEntries}
 use Rattle.card.specs.Calls.{freshOutcome, freshMap, freshEntries, saveOutcome, saveImage, kept, saveScratch, Kept}
-use Rattle.card.specs.Calls.{savedState}
 use Rattle.card.specs.Closings.{closeOutcome, closeMap, closeEntries, closeCard, closeScratch}
+use Rattle.card.specs.Contracts.{itself}
 use Rattle.card.specs.declared.Shape.{Shape}
 use Rattle.card.proofs.Refusals.{fresh-refused}
 use Rattle.card.proofs.Images.{save-refused}
 use Rattle.card.proofs.Closings.{close-refused}
+use Rattle.role_calls.specs.Contracts.{Freshens, Saves, Closes}
 use Rattle.role_calls.specs.Turned.{turnedAway}
-use Rattle.role_calls.specs.Passes.{admittedBy, blocksBy, roundsBy, answeredBy}
+use Rattle.role_calls.specs.Passes.{admittedBy, blocksBy, roundsBy, answeredBy, mayFresh, maySave, mayClose}
 use Rattle.role_calls.specs.Rounds.{loading, roundsOutcome, roundsMap, roundsEntries, roundsScratch}
 use Rattle.role_calls.proofs.NoBlocks.{close-1, fresh-1, save-1}
+use Rattle.role_calls.proofs.Passing.{told-by, kept-by}
 
 module _ (role : ℕ) (shape : Shape) (blocks : ℕ) (map : List ℕ) (entries : List Entry) where
-  abbrev TurnedFresh : Bool → Type 0
-  TurnedFresh pass =
-      (answeredBy pass shape (freshOutcome shape (blocksBy pass blocks) map entries) ≡ cond pass (freshOutcome shape (blocksBy
-      true blocks) map entries) (turnedAway shape))
-      × (freshMap shape (blocksBy pass blocks) map entries ≡ cond pass (freshMap shape (blocksBy true blocks) map entries)
-      map)
-      × (freshEntries shape (blocksBy pass blocks) map entries ≡ cond pass (freshEntries shape (blocksBy true blocks) map
-      entries) entries)
-
-  turned-fresh : (pass : Bool) → TurnedFresh pass
-  turned-fresh true = (refl, refl, refl)
-  turned-fresh false = let same = fresh-refused shape 0 map entries (fresh-1 (length map) (length entries)) in
-      (refl, same .1, same .2)
-
-  pub freshens : TurnedFresh (roles.may role roles.fresh)
-  freshens = turned-fresh (roles.may role roles.fresh)
+  pub freshens : Freshens itself role shape blocks map entries
+      (answeredBy (mayFresh role) shape (freshOutcome shape (blocksBy (mayFresh role) blocks) map entries))
+      (freshMap shape (blocksBy (mayFresh role) blocks) map entries)
+      (freshEntries shape (blocksBy (mayFresh role) blocks) map entries)
+  freshens = let same = fresh-refused shape 0 map entries (fresh-1 _ _) in (
+    told-by (mayFresh role) shape (λ pass. freshOutcome shape (blocksBy pass blocks) map entries),
+    kept-by (mayFresh role) (λ pass. freshMap shape (blocksBy pass blocks) map entries) (same .1),
+    kept-by (mayFresh role) (λ pass. freshEntries shape (blocksBy pass blocks) map entries) (same .2),
+  )
 
 module _ (role : ℕ) (shape : Shape) (map : List ℕ) (entries : List Entry) (scratch image : List ℕ) where
-  abbrev TurnedSave : Bool → Type 0
-  TurnedSave pass =
-      (answeredBy pass shape (saveOutcome (admittedBy pass shape) map entries scratch image) ≡ cond pass (saveOutcome
-      (admittedBy true shape) map entries scratch image) (turnedAway shape))
-      × (saveScratch (admittedBy pass shape) map entries scratch image ≡ zerosFor scratch)
-      × (saveImage (admittedBy pass shape) map entries scratch image ≡ cond pass (saveImage (admittedBy true shape) map
-      entries scratch image) image)
-
-  turned-save : (pass : Bool) → TurnedSave pass
+  pub saves : Saves itself role shape map entries scratch image
+      (answeredBy (maySave role) shape (saveOutcome (admittedBy (maySave role) shape) map entries scratch image))
+      (saveScratch (admittedBy (maySave role) shape) map entries scratch image)
+      (saveImage (admittedBy (maySave role) shape) map entries scratch image)
   unfolding images.saveScratch
-  turned-save true = (refl, refl, refl)
-  turned-save false = let same = save-refused (admittedBy false shape) map entries scratch image 1 (save-1 (savedState
-      (admittedBy false shape) map entries) (length scratch) (length image) refl) in
-      (refl, same .2, same .1)
-
-  pub saves : TurnedSave (roles.may role roles.save)
-  saves = turned-save (roles.may role roles.save)
+  saves = let same = save-refused (admittedBy false shape) map entries scratch image 1 (save-1 _ _ _ refl) in (
+    told-by (maySave role) shape (λ pass. saveOutcome (admittedBy pass shape) map entries scratch image),
+    refl,
+    kept-by (maySave role) (λ pass. saveImage (admittedBy pass shape) map entries scratch image) (same .1),
+  )
 
 module _ (role : ℕ) (shape : Shape) (map : List ℕ) (entries : List Entry) (card scratch : List ℕ) where
-  abbrev lentClose : Bool → Kept
-  lentClose pass = kept (admittedBy pass shape) map entries card
+  abbrev lent : Bool → Kept
+  lent pass = kept (admittedBy pass shape) map entries card
 
-  abbrev TurnedClose : Bool → Type 0
-  TurnedClose pass =
-      (answeredBy pass shape (closeOutcome (lentClose pass) scratch) ≡ cond pass (closeOutcome (lentClose true) scratch)
-      (turnedAway shape))
-      × (closeMap (lentClose pass) scratch ≡ cond pass (closeMap (lentClose true) scratch) map)
-      × (closeEntries (lentClose pass) scratch ≡ cond pass (closeEntries (lentClose true) scratch) entries)
-      × (closeCard (lentClose pass) scratch ≡ cond pass (closeCard (lentClose true) scratch) card)
-      × (closeScratch (lentClose pass) scratch ≡ zerosFor scratch)
-
-  turned-close : (pass : Bool) → TurnedClose pass
+  pub closes : Closes itself role shape map entries card scratch
+      (answeredBy (mayClose role) shape (closeOutcome (lent (mayClose role)) scratch)) (closeMap (lent (mayClose role)) scratch)
+      (closeEntries (lent (mayClose role)) scratch) (closeCard (lent (mayClose role)) scratch)
+      (closeScratch (lent (mayClose role)) scratch)
   unfolding closings.closeScratch
-  turned-close true = (refl, refl, refl, refl, refl)
-  turned-close false = let same = close-refused false [] (lentClose false) scratch 1 (close-1 (savedState (admittedBy false
-      shape) map entries) true (length card) (length scratch) refl) in
-      (refl, same .words, same .sheets, same .bytes, same .zeros)
-
-  pub closes : TurnedClose (roles.may role roles.close)
-  closes = turned-close (roles.may role roles.close)
+  closes = let same = close-refused false [] (lent false) scratch 1 (close-1 _ _ _ _ refl) in (
+    told-by (mayClose role) shape (λ pass. closeOutcome (lent pass) scratch),
+    kept-by (mayClose role) (λ pass. closeMap (lent pass) scratch) (same .words),
+    kept-by (mayClose role) (λ pass. closeEntries (lent pass) scratch) (same .sheets),
+    kept-by (mayClose role) (λ pass. closeCard (lent pass) scratch) (same .bytes),
+    refl,
+  )
 
 -- a load is done once, or not at all
 module _ (role : ℕ) (shape : Shape) (image map : List ℕ) (entries : List Entry) (scratch : List ℕ) where

@@ -29,7 +29,7 @@ use Rattle.ledger.specs.Steps.{End, ending, endOf}
 use Rattle.ledger.proofs.Agreement.{mapIn, stateOf, Matches, verdict-on}
 use Rattle.ledger.proofs.Wings.{entry-at}
 use Rattle.ledger.proofs.Keeping.{keep-put}
-use Rattle.ledger.proofs.Listed.{or-left, or-right}
+use Rattle.laws.proofs.Bools.{neither-left, neither-right}
 use Rattle.ledger.proofs.Results as results
 use Rattle.ledger.proofs.Results.{Result, plain-back, one-sheet, result-of}
 use Rattle.ledger.proofs.Sheets.{was-open, Has}
@@ -71,11 +71,11 @@ module _ (n : ℕ) (l : List Sheet) (card : List ℕ) (k : Matches n l card) (i 
       let w : length (set (o .1) p (Payload payload)) ≡ length (o .1) = length-set (o .1) p (Payload payload) in
       let lp : p < length (o .1) = omega (
         arith,
-        leb-false (lengthIn (sheetAt l i)) p (or-left _ _ three),
+        leb-false (lengthIn (sheetAt l i)) p (neither-left _ _ three),
         ap lengthIn (o .2),
       ) in
       let len : length payload ≡ 496 = eqb-true (length payload) 496
-      (not-false _ (or-right (leb (lengthIn (sheetAt l i)) p) _ three)) in
+      (not-false _ (neither-right (leb (lengthIn (sheetAt l i)) p) _ three)) in
       let was : e ≡ entryOf openMark (o .0) (length (o .1)) = entry-at l i lt ∙ ap entryIn (o .2) in
       one-sheet n l card k i (put p payload) (ends accepted) (record {
         inside = lt;

@@ -12,7 +12,7 @@ use Rattle.map_blocks.specs.Blocks.{free, all}
 use Rattle.map_blocks.specs.Words.{bit}
 use Rattle.map_blocks.proofs.Bits.{bit-or}
 use Rattle.map_search_starts.specs.Starts.{Alone}
-use Rattle.map_search_starts.proofs.Spans.{or-left, or-right}
+use Rattle.laws.proofs.Bools.{or-left, or-right}
 use Rattle.map_search_near.proofs.Rows.{word-marks}
 use borrow.Author.Needs.{needs}
 use Rattle.map_search_near.proofs.any_pairs.Statement.{statement}
