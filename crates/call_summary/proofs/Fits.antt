@@ -1,7 +1,7 @@
 -- What row 1 says of the calls on a summary: the lengths that a build and a check need, and what is answered and left.
 -- Assumes nothing.
 use mathlib.Core.Path.{_≡_, sym, ap}
-use mathlib.Core.Bool.{Bool, true, false, not, cond, _&&_}
+use mathlib.Core.Bool.{Bool, true, false, not, cond}
 use mathlib.Core.List.{List, []}
 use Prim.Native.Nat.{ℕ}
 use native.Mathlib.Omega.{arith}
@@ -11,7 +11,6 @@ use Rattle.laws.proofs.Bools.{and-left, and-right}
 use Rattle.summary.specs.Summary.{summaryLength, Matched, ownSummary, isOwn}
 use Rattle.catalogue_standings.specs.Limits.{shapeFits}
 use Rattle.catalogue_standings.specs.Rows.{Verdict, accepted, settle}
-use Rattle.catalogue_standings.specs.declared.Answer.{Answer}
 use Rattle.catalogue_standings.specs.declared.Answer.the-variants.{Done, Own, Refused}
 use Rattle.catalogue_standings.proofs.Limits.{fits}
 use Rattle.catalogue_standings.proofs.Openings.{skip, stop, none-left}

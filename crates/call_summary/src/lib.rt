@@ -1,6 +1,5 @@
 // The calls that are lent a map and a summary alone: a summary is built, or held against the map (document 02, request j).
 ghost use mathlib.Core.Path.{_≡_};
-ghost use lib.ListN.{length};
 ghost use Rattle.call_summary.specs.Answers.{summaryFits, buildAnswer, builtSummary, checkAnswer};
 use catalogue_standings::Answer;
 use catalogue_standings::opening::shape_fits;

@@ -2,7 +2,7 @@
 -- give the same bytes and the same state (`still-saved`, `still-loaded`); where no sheet is paused with blocks they also refuse
 -- as they did (`save-refused-as-before`, `load-refused-as-before`). The rule as it was is in crates/image/specs/Before.antt.
 -- Assumes nothing.
-use mathlib.Core.Path.{_≡_, refl, ap, _∙_}
+use mathlib.Core.Path.{_≡_, ap, _∙_}
 use mathlib.Core.Bool.{true, cond}
 use mathlib.Core.List.{List}
 use Prim.Native.Nat.{ℕ}

@@ -3,7 +3,7 @@
 -- the definitions are in Refusals.antt and Images.antt.
 -- Assumes nothing.
 use mathlib.Core.Path.{_≡_, sym, ap, _∙_}
-use mathlib.Core.Bool.{Bool, true, false, cond}
+use mathlib.Core.Bool.{true, false, cond}
 use mathlib.Core.List.{List, []}
 use Prim.Native.Nat.{ℕ}
 use lib.Dec.{eqb}
@@ -11,7 +11,6 @@ use lib.ListN.{length, replicate}
 use Rattle.catalogue.specs.declared.Entry.{Entry}
 use Rattle.catalogue_standings.specs.Limits.{freshFits}
 use Rattle.catalogue_standings.specs.Rows.{refused}
-use Rattle.catalogue_standings.specs.declared.Answer.{Answer}
 use Rattle.catalogue_standings.specs.declared.Answer.the-variants.{Done, Blank, Refused}
 use Rattle.refusals.specs.Placement.{plain, placed, figures}
 use Rattle.refusals.specs.Effects as effects

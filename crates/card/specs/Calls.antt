@@ -19,12 +19,10 @@ use Rattle.call_summary.specs.Answers as summaries
 use Rattle.catalogue_wings.specs.Wings.{heldBy}
 use Rattle.refusals.specs.Lent.{Lent, lentBeside, within, noCard}
 use Rattle.refusals.specs.Placement.{Placement}
-use Rattle.refusals.specs.Guides.{guideTested}
 use Rattle.refusals.specs.Effects as effects
 use Rattle.refusals.specs.declared.Out.{Out}
 use Rattle.image_soundness.specs.Sound.{State}
 use Rattle.image.specs.Effects as images
-use Rattle.closing.specs.Effects as closings
 use Rattle.image.specs.declared.Loaded.{Loaded}
 use Rattle.card.specs.declared.Outcome.{Outcome}
 use Rattle.card.specs.declared.Shape.{Shape}

@@ -7,7 +7,6 @@ use lib.Dec.{eqb}
 use lib.ListN.{length}
 use Rattle.catalogue.specs.declared.Entry.{Entry}
 use Rattle.call_summary.specs.Answers as summaries
-use Rattle.refusals.specs.Lent.{Lent}
 use Rattle.refusals.specs.Guides.{guideTested}
 use Rattle.closing.specs.Effects as closings
 use Rattle.card.specs.declared.Outcome.{Outcome}

@@ -1,7 +1,7 @@
 -- Row 1, for what a call is lent: the limits of n, c and the free count, and the map's length (document 01, "What the caller
 -- gets instead").
 -- Assumes nothing.
-use Prim.Native.Nat.{ℕ, _+_, _/_}
+use Prim.Native.Nat.{ℕ}
 use mathlib.Core.Bool.{Bool, _&&_}
 use lib.Dec.{eqb, leb}
 use Rattle.map_blocks.specs.Maps.{wordsFor}

@@ -1,7 +1,7 @@
 -- A sheet's wing, and the blocks that a wing holds (document 02 (k)).
 -- Assumes nothing.
 use mathlib.Core.List.{List}
-use Prim.Native.Nat.{ℕ, _+_, _*_, _/_, _%_, _^_}
+use Prim.Native.Nat.{ℕ, _*_, _/_, _%_, _^_}
 use lib.ListN.{take, drop}
 use Rattle.catalogue.specs.Entries.{held}
 use Rattle.catalogue.specs.declared.Entry.{Entry}

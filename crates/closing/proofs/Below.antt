@@ -4,7 +4,7 @@ use mathlib.Core.Path.{_≡_, refl, sym, ap, subst, _∙_}
 use mathlib.Core.Logic.{_⊎_, inl, inr, ⊎-elim}
 use mathlib.Core.Bool.{Bool, true, false, _&&_, cond}
 use mathlib.Core.List.{List, [], _∷_}
-use Prim.Native.Nat.{ℕ, zero, suc, _+_, _≤_, _<_}
+use Prim.Native.Nat.{ℕ, _+_, _≤_, _<_}
 use native.Mathlib.Omega.{arith}
 use lib.Dec.{leb, ltb}
 use lib.ListN.{length}
@@ -13,7 +13,7 @@ use Rattle.laws.proofs.Bools.{order}
 use Rattle.catalogue.specs.declared.Entry.{Entry}
 use Rattle.catalogue.specs.Entries.{held}
 use Rattle.closing.specs.Closed.{below}
-use Rattle.closing.proofs.Members.{Member, Off, Apart}
+use Rattle.closing.proofs.Members.{Member, Apart}
 
 -- what one entry adds
 abbrev part : Entry → ℕ → ℕ

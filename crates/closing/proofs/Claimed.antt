@@ -7,7 +7,7 @@ use Prim.Native.Nat.{ℕ, _+_, _*_, _≤_, _<_}
 use native.Mathlib.Omega.{arith}
 use lib.ListN.{length}
 use Rattle.blocks_of_card.specs.Card.{blockOf}
-use Rattle.catalogue.specs.Entries.{held, entryAt}
+use Rattle.catalogue.specs.Entries.{entryAt}
 use Rattle.catalogue.specs.declared.Entry.{Entry}
 use Rattle.catalogue_standings.specs.Rows.{Verdict, accepted, refused}
 use Rattle.image_soundness.specs.Sound.{State, sound}
@@ -15,7 +15,7 @@ use Rattle.image_soundness.proofs.WhenSound.{Sound, sound-to, to-sound}
 use Rattle.closing.specs.Closed.{closedEntry, closedEntries, closedCard, closedState}
 use Rattle.closing.specs.Claim.{Afterwards, Again}
 use Rattle.closing.specs.Table.{closeFits, closeVerdict}
-use Rattle.closing.proofs.Closes.{Lengths, close-fits-to, verdict-1, verdict-4}
+use Rattle.closing.proofs.Closes.{close-fits-to, verdict-1, verdict-4}
 use Rattle.closing.proofs.Contents.{closed-block, free-block}
 use Rattle.closing.proofs.Fitting.{closed-fit}
 use Rattle.closing.proofs.Kept.{closed-marks, closed-lengths, closed-order, closed-covers, closed-sound, closed-spare}

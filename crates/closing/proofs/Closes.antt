@@ -2,7 +2,7 @@
 -- Assumes nothing.
 use mathlib.Core.Path.{_≡_, refl, sym, ap, ap₂, _∙_}
 use mathlib.Core.Bool.{Bool, true, false, not, _&&_, cond}
-use mathlib.Core.List.{List, [], _∷_}
+use mathlib.Core.List.{List}
 use Prim.Native.Nat.{ℕ, suc, _-_, _*_, _≤_}
 use native.Mathlib.Omega.{arith}
 use lib.Dec.{eqb, leb}
@@ -11,12 +11,12 @@ use borrow.Author.Tests.{le-leb, eqb-true, ne-eqb}
 use Rattle.laws.proofs.Bools.{and-left, and-right, and-both}
 use Rattle.catalogue.specs.Entries.{held}
 use Rattle.catalogue.specs.declared.Entry.{Entry}
-use Rattle.catalogue_standings.specs.Rows.{Verdict, accepted, refused, row, firstOf, settle, rowNumber}
+use Rattle.catalogue_standings.specs.Rows.{Verdict, accepted, refused, firstOf, settle, rowNumber}
 use Rattle.image_soundness.specs.Sound.{State, sound}
 use Rattle.image_soundness.specs.Windows.{tally, tested, testedScratch}
 use Rattle.image_soundness.specs.declared.Tally.{Tally}
 use Rattle.image_soundness.proofs.Tested.{tested-sound}
-use Rattle.image_soundness.proofs.WhenSound.{Sound, sound-to}
+use Rattle.image_soundness.proofs.WhenSound.{sound-to}
 use Rattle.image.specs.Table.{saveFits}
 use Rattle.image.proofs.Fitting.{SaveFits, save-fits-to}
 use Rattle.closing.specs.Closed.{firstTaken, closedEntries, closedCard, closedMap}
@@ -26,7 +26,7 @@ use Rattle.closing.specs.Rounds.{firstTally, numberBy, roundsFor, rounds
 use Rattle.closing.specs.Rounds.{mapFits, mapAfter}
 use Rattle.closing.proofs.Closing.{Made, rounds-close}
 use Rattle.closing.proofs.Kept.{held-fits}
-use Rattle.closing.proofs.Rounded.{at-none, entries-none, card-none}
+use Rattle.closing.proofs.Rounded.{entries-none, card-none}
 
 -- what row 1 leaves
 pub record Lengths (n spare c maplen cardlen scratchlen : ℕ) : Type 0 where

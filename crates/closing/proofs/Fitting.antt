@@ -1,16 +1,15 @@
 -- After closing a search finds the first free block if as many blocks are wanted as are free, or fewer, and nothing if more
 -- are.
 -- Assumes nothing.
-use mathlib.Core.Path.{_≡_, refl, sym, ap, _∙_}
+use mathlib.Core.Path.{_≡_, sym, ap, _∙_}
 use mathlib.Core.Logic.{⊎-elim}
-use mathlib.Core.Bool.{Bool, true, false, cond}
+use mathlib.Core.Bool.{Bool, true, cond}
 use Prim.Native.Nat.{ℕ, _+_, _*_, _≤_, _<_}
 use native.Mathlib.Omega.{arith}
 use lib.Dec.{leb}
 use lib.ListN.{length}
 use borrow.Author.Tests.{le-leb, lt-leb}
 use Rattle.map_blocks.specs.Blocks.{free, fit, leastFit}
-use Rattle.map_blocks.specs.declared.Found.{Found}
 use Rattle.map_blocks.specs.declared.Found.the-variants.{At, Nothing}
 use Rattle.laws.proofs.Bools.{clash, order}
 use Rattle.map_blocks.proofs.Fits.{Fits, is-fit, no-fit, on-one}
@@ -20,7 +19,7 @@ use Rattle.image_soundness.specs.Sound.{State}
 use Rattle.image_soundness.proofs.WhenSound.{Sound}
 use Rattle.catalogue.specs.Entries.{held}
 use Rattle.closing.specs.Closed.{closedMap}
-use Rattle.closing.proofs.Kept.{taken-first, free-then, held-fits, closed-spare}
+use Rattle.closing.proofs.Kept.{taken-first, free-then, closed-spare}
 
 module _ (s : State) (p : Sound s) (room : s .blocks ≤ 64 * length (s .map)) (k : ℕ) (some : 1 ≤ k) where
   abbrev n : ℕ

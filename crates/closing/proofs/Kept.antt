@@ -3,28 +3,27 @@
 -- Assumes nothing.
 use mathlib.Core.Path.{_≡_, refl, sym, ap, ap₂, subst, _∙_}
 use mathlib.Core.Logic.{_⊎_, inl, inr, ⊎-elim}
-use mathlib.Core.Bool.{Bool, true, false, not, _&&_, cond}
+use mathlib.Core.Bool.{Bool, true, false, _&&_, cond}
 use mathlib.Core.List.{List, [], _∷_, map}
-use Prim.Native.Nat.{ℕ, zero, suc, _+_, _-_, _*_, _≤_, _<_}
+use Prim.Native.Nat.{ℕ, zero, suc, _+_, _*_, _≤_, _<_}
 use native.Mathlib.Omega.{arith}
 use lib.Dec.{eqb, leb, ltb}
 use lib.ListN.{length}
-use borrow.Author.Tests.{eqb-true, eqb-false, eq-eqb, ne-eqb, lt-ltb, le-ltb, le-leb, lt-leb}
+use borrow.Author.Tests.{lt-ltb, le-ltb, le-leb, lt-leb}
 use Rattle.map_blocks.specs.Blocks.{free}
-use Rattle.map_blocks.specs.Maps.{inRun, mapOf}
+use Rattle.map_blocks.specs.Maps.{inRun}
 use Rattle.laws.proofs.Bools.{order}
 use Rattle.map_blocks.proofs.Maps.{map-free, map-length}
 use Rattle.survey.specs.Survey.{countsOf}
 use Rattle.catalogue.specs.Entries.{held}
 use Rattle.catalogue.specs.declared.Entry.{Entry}
-use Rattle.catalogue_standings.specs.Standings.{standingOf, isDamaged}
-use Rattle.image_soundness.specs.Sound.{State, coverings, undamaged, sound}
-use Rattle.image_soundness.proofs.Covers.{one, run-in, in-run, run-out, run-before, total, both-undamaged, none-undamaged}
+use Rattle.image_soundness.specs.Sound.{State, coverings, undamaged}
+use Rattle.image_soundness.proofs.Covers.{one, in-run, run-out, run-before, total, both-undamaged, none-undamaged}
 use Rattle.image_soundness.proofs.Covers.{cover-outside, cover-total}
 use Rattle.image_soundness.proofs.WhenSound.{Sound, balance, count-law}
 use Rattle.closing.specs.Closed.{below, closedEntry, closedEntries, closedMap, closedState}
 use Rattle.closing.proofs.Members.{Member, Off, Apart}
-use Rattle.closing.proofs.Below.{below-zero, below-grows, below-adds, below-all}
+use Rattle.closing.proofs.Below.{below-zero, below-adds}
 use Rattle.closing.proofs.Moving.{starts-at-0, empty-undamaged, moved-undamaged}
 use Rattle.closing.proofs.Placing.{member-undamaged, placed}
 

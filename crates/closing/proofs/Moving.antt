@@ -12,7 +12,6 @@ use Rattle.map_blocks.proofs.Runs.{all-intro}
 use Rattle.catalogue.specs.Entries.{absentMark, pausedMark, openMark, completeMark}
 use Rattle.catalogue.specs.declared.Entry.{Entry}
 use Rattle.catalogue_standings.specs.Standings.{extentHolds, standingOf, isDamaged}
-use Rattle.catalogue_standings.specs.declared.Standing.{Standing}
 use Rattle.catalogue_standings.specs.declared.Standing.the-variants.{Absent, Paused, PausedWith, Open, Complete, Damaged}
 
 -- damage, by which mark the entry has, whether start and length are 0, and whether the extent holds

@@ -1,11 +1,11 @@
 -- The entries while closing goes: those that start before t have moved, which is called packed here, and the others are as they
 -- were. What one round does to them.
 -- Assumes nothing.
-use mathlib.Core.Path.{_≡_, refl, sym, ap, ap₂, subst, _∙_}
+use mathlib.Core.Path.{_≡_, refl, sym, ap, ap₂, _∙_}
 use mathlib.Core.Logic.{_⊎_, inl, inr, ⊎-elim}
 use mathlib.Core.Bool.{Bool, true, false, cond}
-use mathlib.Core.List.{List, [], _∷_, map}
-use Prim.Native.Nat.{ℕ, zero, suc, _+_, _≤_, _<_}
+use mathlib.Core.List.{List, map}
+use Prim.Native.Nat.{ℕ, _+_, _≤_, _<_}
 use native.Mathlib.Omega.{arith}
 use lib.Dec.{ltb}
 use lib.ListN.{length, set, length-map}
@@ -14,7 +14,7 @@ use Rattle.laws.proofs.Bools.{order}
 use Rattle.catalogue.specs.Entries.{entryAt, slotAt}
 use Rattle.catalogue.specs.declared.Entry.{Entry}
 use Rattle.closing.specs.Closed.{below, closedEntry, closedEntries}
-use Rattle.closing.specs.Rounds.{pick, firstPick, nearestOf, sheetIn, restarted}
+use Rattle.closing.specs.Rounds.{firstPick, nearestOf, sheetIn, restarted}
 use Rattle.closing.specs.declared.Pick.{Pick}
 use Rattle.closing.proofs.Below.{below-zero, below-adds, below-same, below-one}
 use Rattle.closing.proofs.Members.{Member, Off, Apart, map-same, map-self, at-member, map-at, set-past, set-one}

@@ -1,11 +1,11 @@
 -- The extent that moves next: of those that start at or after the end of those that have moved, the one with the least start,
 -- and its place among the entries. The entries are those of a list that f has changed.
 -- Assumes nothing.
-use mathlib.Core.Path.{_≡_, refl, sym, ap, subst, _∙_}
+use mathlib.Core.Path.{_≡_, refl, sym, ap, subst}
 use mathlib.Core.Logic.{_⊎_, inl, inr, ⊎-elim}
 use mathlib.Core.Bool.{Bool, true, false, _&&_, cond}
 use mathlib.Core.List.{List, [], _∷_, map}
-use Prim.Native.Nat.{ℕ, zero, suc, _+_, _%_, _≤_, _<_}
+use Prim.Native.Nat.{ℕ, suc, _+_, _%_, _≤_, _<_}
 use native.Mathlib.Omega.{arith}
 use lib.Dec.{leb, ltb}
 use lib.ListN.{length}
@@ -15,7 +15,7 @@ use Rattle.catalogue.specs.Entries.{entryAt}
 use Rattle.catalogue.specs.declared.Entry.{Entry}
 use Rattle.closing.specs.Rounds.{pick, isNearer, nearerOf, nearestOf}
 use Rattle.closing.specs.declared.Pick.{Pick}
-use Rattle.closing.proofs.Members.{Member, at-member}
+use Rattle.closing.proofs.Members.{Member}
 
 -- what the test shows
 module _ (t : Pick) (e : Entry) where

@@ -2,7 +2,7 @@
 -- Assumes nothing.
 use mathlib.Core.Path.{_≡_, refl}
 use mathlib.Core.List.{List, [], _∷_}
-use Prim.Native.Nat.{ℕ, zero, suc}
+use Prim.Native.Nat.{ℕ, suc}
 use Rattle.catalogue.specs.declared.Entry.{Entry}
 use Rattle.closing.specs.Rounds.{nearerOf, nearestOf, roundAt, roundEntries, roundCard, roundsAt, roundsEntries}
 use Rattle.closing.specs.Rounds.{roundsCard}

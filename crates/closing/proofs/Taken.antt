@@ -1,16 +1,15 @@
 -- The map in which the first blocks are taken: the fresh map, with these marked.
 -- Assumes nothing.
-use mathlib.Core.Path.{_≡_, refl, sym, ap, ap₂, subst, _∙_}
+use mathlib.Core.Path.{_≡_, sym, ap, subst, _∙_}
 use mathlib.Core.Logic.{⊎-elim}
-use mathlib.Core.Bool.{Bool, true, false, _&&_, cond}
-use mathlib.Core.List.{List}
-use Prim.Native.Nat.{ℕ, _+_, _*_, _≤_, _<_, _^_}
+use mathlib.Core.Bool.{Bool, false, _&&_, cond}
+use Prim.Native.Nat.{ℕ, _*_, _≤_, _<_, _^_}
 use native.Mathlib.Omega.{arith}
 use lib.Dec.{leb, ltb}
 use lib.ListN.{length, getD}
 use borrow.Author.Tests.{le-leb, lt-leb}
 use Rattle.map_blocks.specs.Blocks.{free}
-use Rattle.map_blocks.specs.Maps.{pack, mapOf, freshMap, marked, inRun}
+use Rattle.map_blocks.specs.Maps.{mapOf, freshMap, marked, inRun}
 use Rattle.laws.proofs.Bools.{order}
 use Rattle.map_blocks.proofs.Maps.{map-length, map-at, map-free, map-ext, pack-lt}
 use Rattle.image_soundness.proofs.Covers.{run-in, run-out}

@@ -12,7 +12,6 @@ use borrow.Author.Tests.{lt-ltb, le-ltb}
 use Rattle.laws.proofs.Bools.{order}
 use Rattle.map_blocks.specs.Maps.{inRun}
 use Rattle.map_blocks.proofs.Maps.{map-length}
-use Rattle.catalogue.specs.Entries.{held}
 use Rattle.catalogue.specs.declared.Entry.{Entry}
 use Rattle.closing_moves.proofs.Moved.{sourced-self}
 use Rattle.image_soundness.proofs.Covers.{decide, in-run}

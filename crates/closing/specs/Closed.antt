@@ -2,7 +2,7 @@
 -- free before or between them, and the bytes of their blocks moved along. Blocks that are free afterwards keep the bytes they
 -- had.
 -- Assumes nothing.
-use mathlib.Core.Bool.{Bool, _&&_, cond}
+use mathlib.Core.Bool.{_&&_, cond}
 use mathlib.Core.List.{List, [], _∷_, map}
 use Prim.Native.Nat.{ℕ, _+_, _-_}
 use lib.Dec.{leb, ltb}

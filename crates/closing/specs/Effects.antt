@@ -8,7 +8,6 @@ use Prim.Native.Nat.{ℕ}
 use lib.ListN.{length}
 use Rattle.catalogue_standings.specs.Rows.{Verdict, settle, rowNumber}
 use Rattle.catalogue.specs.declared.Entry.{Entry}
-use Rattle.image_soundness.specs.Sound.{State}
 use Rattle.image.specs.Effects.{zerosFor}
 use Rattle.closing.specs.Closed.{closedEntries, closedCard, closedMap}
 use Rattle.closing.specs.Table.{closeVerdict}

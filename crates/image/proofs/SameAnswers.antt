@@ -3,14 +3,14 @@
 -- save and every load is answered as it was (`save-alike`, `load-alike`).
 -- Assumes nothing.
 use mathlib.Core.Path.{_≡_, refl, sym, ap, _∙_}
-use mathlib.Core.Bool.{Bool, true, not, _&&_}
+use mathlib.Core.Bool.{Bool, not, _&&_}
 use mathlib.Core.List.{List, [], _∷_}
 use Prim.Native.Nat.{ℕ, _*_}
 use lib.Dec.{eqb}
 use lib.ListN.{length}
 use borrow.Author.Tests.{eq-eqb}
 use Rattle.map_blocks.specs.Maps.{wordsFor}
-use Rattle.catalogue_standings.specs.Rows.{Row, row, Verdict, firstOf}
+use Rattle.catalogue_standings.specs.Rows.{Row, row, firstOf}
 use Rattle.catalogue_standings.specs.Limits.{shapeFits, sheetsFit}
 use Rattle.image_frames.specs.Frames.{totalOf, framed}
 use Rattle.image_soundness.specs.Scratch.{scratchWords}

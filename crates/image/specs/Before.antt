@@ -14,7 +14,7 @@ use Rattle.catalogue_standings.specs.Rows.{Verdict, accepted, firstOf}
 use Rattle.catalogue_standings.specs.Standings.{extentHolds, isDamaged}
 use Rattle.catalogue_standings.specs.declared.Standing.{Standing}
 use Rattle.catalogue_standings.specs.declared.Standing.the-variants.{Absent, Paused, Open, Complete, Damaged}
-use Rattle.image_soundness.specs.Sound.{State, coverings, soundIf}
+use Rattle.image_soundness.specs.Sound.{State, soundIf}
 use Rattle.image.specs.Image.{stateIn}
 use Rattle.image.specs.Table.{saveRowsIf, loadRowsIf, saveVerdict, loadVerdict}
 

@@ -5,7 +5,7 @@ use mathlib.Core.Path.{_≡_}
 use mathlib.Core.List.{List}
 use Prim.Native.Nat.{ℕ}
 use lib.ListN.{length, replicate}
-use Rattle.catalogue_standings.specs.Rows.{Verdict, settle, rowNumber}
+use Rattle.catalogue_standings.specs.Rows.{settle, rowNumber}
 use Rattle.catalogue.specs.declared.Entry.{Entry}
 use Rattle.image_soundness.specs.Sound.{State}
 use Rattle.image.specs.Image.{imageOf, stateIn}

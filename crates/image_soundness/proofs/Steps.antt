@@ -7,7 +7,7 @@ use Prim.Native.Nat.{ℕ, _+_, _-_, _*_, _/_, _%_, _≤_, _<_, min}
 use native.Mathlib.Omega.{arith}
 use lib.Dec.{eqb, leb, ltb}
 use lib.ListN.{length, replicate}
-use borrow.Author.Tests.{eq-eqb, ne-eqb, le-leb, lt-leb, le-ltb, leb-true}
+use borrow.Author.Tests.{le-leb, lt-leb, le-ltb, leb-true}
 use Rattle.map_blocks.specs.Blocks.{all}
 use Rattle.map_blocks.specs.Maps.{inState, isFresh}
 use Rattle.laws.proofs.Bools.{and-left, and-right}

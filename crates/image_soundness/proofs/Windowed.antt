@@ -1,14 +1,14 @@
 -- One window: it passes exactly where each of its blocks is free or covered once below n, and neither from n on.
 -- Assumes nothing.
-use mathlib.Core.Path.{_≡_, refl, sym, ap, ap₂, _∙_}
+use mathlib.Core.Path.{_≡_, sym, ap, ap₂, _∙_}
 use mathlib.Core.Bool.{Bool, true, false, not, _&&_, cond}
-use mathlib.Core.List.{List, [], _∷_}
-use Prim.Native.Nat.{ℕ, zero, suc, _+_, _-_, _*_, _/_, _%_, _^_, _≤_, _<_, min}
+use mathlib.Core.List.{List}
+use Prim.Native.Nat.{ℕ, _+_, _-_, _*_, _/_, _%_, _^_, _≤_, _<_, min}
 use native.Mathlib.Omega.{arith}
 use lib.Dec.{eqb, leb, ltb}
 use lib.ListN.{length, getD}
 use borrow.Author.Tests.{le-leb, ltb-true, lt-ltb, not-true, not-false}
-use Rattle.map_blocks.specs.Blocks.{free, all}
+use Rattle.map_blocks.specs.Blocks.{free}
 use Rattle.map_blocks.specs.Maps.{inState, isFresh}
 use Rattle.laws.proofs.Bools.{and-left, and-right, and-both, both-ways}
 use Rattle.map_blocks.proofs.Maps.{in-state, state-of}

@@ -3,9 +3,7 @@
 // extent the part that lies there is released, which must be taken; at the end all blocks of the window below n, and no
 // others, must be free.
 ghost use mathlib.Core.Path.{_≡_};
-ghost use mathlib.Core.Bool.{_&&_};
-ghost use Prim.Native.Nat.{_+_, _*_, _≤_, min, max};
-ghost use lib.Dec.{leb};
+ghost use Prim.Native.Nat.{_+_, _≤_, max};
 ghost use lib.ListN.{length};
 ghost use Rattle.image_soundness.specs.Windows.{copied, touches, taken, windowAfter};
 ghost use Rattle.image_soundness.specs.Windows.{scratchAfter, windowOver, scratchOver, passes, windowEnd, oneWindow};

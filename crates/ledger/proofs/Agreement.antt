@@ -1,10 +1,10 @@
 -- The state that a ledger calls for, and that the rows read the same of it as of the ledger: every verdict is the ledger's.
 -- Assumes nothing.
-use Prim.Native.Nat.{ℕ, zero, suc, _+_, _-_, _*_, _/_, _%_, _^_, _≤_, _<_}
+use Prim.Native.Nat.{ℕ, _+_, _-_, _*_, _/_, _%_, _^_, _≤_, _<_}
 use mathlib.Core.Path.{_≡_, refl, sym, ap, _∙_, fun-ext}
 use mathlib.Core.Bool.{Bool, true, false, cond, not, _&&_, true≢false}
 use mathlib.Core.List.{List, [], _∷_, map}
-use native.Mathlib.Nat.{zero-div, not-suc-le-zero, le-of-suc-le-suc, add-zero}
+use native.Mathlib.Nat.{zero-div, add-zero}
 use native.Mathlib.Omega.{arith}
 use lib.Dec.{eqb, leb, ltb}
 use lib.ListN.{length, length-map, List·getD-eq-default}
@@ -36,7 +36,6 @@ use Rattle.ledger.specs.Ledger.{startIn, lengthIn, isBlank, bytesOf, she
 use Rattle.ledger.specs.Ledger.{viewIn, listed, heldIn, verdictIn}
 use Rattle.ledger.specs.Claim.{entryIn, blockIn}
 use Rattle.card.specs.Calls.{Kept}
-use Rattle.ledger.specs.Steps.{}
 use Rattle.ledger.proofs.Cover.{covers-in, cover-at}
 use Rattle.ledger.proofs.Listed.{listed-same, spare-is}
 use Rattle.ledger.proofs.Rows.{Never}

@@ -1,7 +1,7 @@
 -- The ledger with its gaps closed (document 02 (l)), and the state that it calls for: the closed entries, map and card, with
 -- what holds after every list.
 -- Assumes nothing.
-use Prim.Native.Nat.{ℕ, zero, suc, _+_, _*_, _/_, _≤_, _<_}
+use Prim.Native.Nat.{ℕ, zero, suc, _+_, _≤_, _<_}
 use mathlib.Core.Path.{_≡_, refl, sym, ap, ap₂, subst, _∙_}
 use mathlib.Core.Logic.{⊎-elim}
 use mathlib.Core.Bool.{Bool, true, false, cond, _&&_}
@@ -9,12 +9,11 @@ use mathlib.Core.List.{List, [], _∷_, map}
 use native.Mathlib.Omega.{arith}
 use lib.Dec.{eqb, leb, ltb}
 use lib.ListN.{length, getD, length-map}
-use borrow.Author.Tests.{lt-ltb, le-ltb, le-leb, lt-leb, eq-eqb, ne-eqb}
+use borrow.Author.Tests.{lt-ltb, le-ltb, le-leb, lt-leb}
 use Rattle.laws.proofs.Bools.{order}
-use Rattle.map_blocks.specs.Maps.{mapOf, wordsFor}
+use Rattle.map_blocks.specs.Maps.{wordsFor}
 use Rattle.map_blocks.proofs.Maps.{map-length}
 use Rattle.blocks_of_card.specs.Card.{blockOf}
-use Rattle.catalogue.specs.Entries.{entryAt}
 use Rattle.catalogue.specs.declared.Entry.{Entry}
 use Rattle.image_soundness.specs.Sound as saved
 use Rattle.image_soundness.proofs.Covers.{one}
@@ -28,7 +27,7 @@ use Rattle.closing.proofs.Kept.{closed-covers, closed-inside, held-fits}
 use Rattle.closing.proofs.Members.{Member, at-member}
 use Rattle.closing.proofs.Placing.{placed}
 use Rattle.ledger.specs.Ledger.{Place, Blank, Sheet, Absent, Paused, PausedWith, Open, Complete, startIn, lengthIn}
-use Rattle.ledger.specs.Ledger.{placesIn, sheetAt, placeAt, covers, cover, freeIn, spareIn, belowIn, restartIn, closedIn}
+use Rattle.ledger.specs.Ledger.{placesIn, sheetAt, placeAt, cover, freeIn, spareIn, belowIn, restartIn, closedIn}
 use Rattle.ledger.specs.Claim.{entryIn, blockIn}
 use Rattle.ledger.specs.Steps.{savedOf}
 use Rattle.ledger.proofs.Agreement.{mapIn, stateOf, Matches}

@@ -5,14 +5,14 @@ use Prim.Native.Nat.{ℕ, _+_, _*_, _≤_, _<_}
 use mathlib.Core.Path.{_≡_, refl, sym, ap, subst, _∙_}
 use mathlib.Core.Logic.{_↔_, ⊎-elim}
 use mathlib.Core.Bool.{Bool, true, false, _&&_}
-use mathlib.Core.List.{List, [], _∷_, map}
+use mathlib.Core.List.{List, [], _∷_}
 use native.Mathlib.Omega.{arith}
 use lib.Dec.{leb, ltb}
 use lib.ListN.{length}
-use borrow.Author.Tests.{le-leb, lt-leb, lt-ltb, leb-true}
+use borrow.Author.Tests.{le-leb, lt-ltb, leb-true}
 use Rattle.laws.proofs.Bools.{and-left, and-both, clash, order}
 use Rattle.map_blocks.specs.Blocks.{fit}
-use Rattle.map_blocks.proofs.Fits.{Fits, fit-is, is-fit, no-fit, on-one}
+use Rattle.map_blocks.proofs.Fits.{is-fit, no-fit, on-one}
 use Rattle.map_blocks.proofs.Runs.{all-intro, all-elim}
 use Rattle.refusals.specs.Placement.{plain}
 use Rattle.refusals.specs.Table.{reserve}
@@ -21,14 +21,13 @@ use Rattle.catalogue_standings.specs.Rows.{firstOf}
 use Rattle.ledger.specs.Calls.{Call, on, close}
 use Rattle.ledger.specs.Ledger.{Sheet, freeIn, spareIn, closedIn, deedIn, stepIn, after, begun}
 use Rattle.ledger.specs.Answers.{Told, toldIn}
-use Rattle.ledger.specs.Claim.{entryIn, Came, Searched, SearchedBy}
-use Rattle.ledger.specs.Closings.{ClosedThenReserved, FullWhenMoreWanted}
-use Rattle.ledger.specs.Steps.{Response, toldBy, Step, Runs, freshState}
-use Rattle.ledger.proofs.Agreement.{stateOf, Matches}
-use Rattle.ledger.proofs.Closed.{free-closed, spare-held, kept-closed, few-held, heldInEntries}
-use Rattle.ledger.proofs.Demand.{Left, answered, lists, kept-begun, state-begun}
+use Rattle.ledger.specs.Claim.{Came, SearchedBy}
+use Rattle.ledger.specs.Closings.{FullWhenMoreWanted}
+use Rattle.ledger.specs.Steps.{toldBy, freshState}
+use Rattle.ledger.proofs.Agreement.{Matches}
+use Rattle.ledger.proofs.Closed.{free-closed, spare-held, heldInEntries}
+use Rattle.ledger.proofs.Demand.{Left, lists, kept-begun, state-begun}
 use Rattle.ledger.proofs.Pauses.{told-after, then}
-use Rattle.ledger.proofs.Results.{Result}
 use Rattle.ledger.proofs.step.{result}
 
 -- where the blocks from h on, and those alone, are free: no fit exactly if more are wanted

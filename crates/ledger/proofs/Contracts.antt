@@ -3,7 +3,7 @@
 -- `reserve-contract` and its like in crates/card/proofs/Contracts.antt. That each method meets its contract is what the
 -- check of the crate card shows.
 -- Assumes nothing.
-use Prim.Native.Nat.{ℕ, _+_, _/_, _≤_}
+use Prim.Native.Nat.{ℕ, _≤_}
 use mathlib.Core.Path.{_≡_, refl, sym, ap, _∙_}
 use mathlib.Core.Bool.{Bool, true, false, cond, _&&_}
 use mathlib.Core.List.{List, []}

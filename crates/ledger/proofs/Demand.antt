@@ -1,7 +1,7 @@
 -- Demand 3: every list of calls from a fresh card answers and leaves what the ledger says (`every-list`), and every list has
 -- a run (`every-list-runs`).
 -- Assumes nothing.
-use Prim.Native.Nat.{ℕ, zero, suc, _+_, _*_, _/_, _≤_, _<_}
+use Prim.Native.Nat.{ℕ, zero, suc, _+_, _*_, _≤_, _<_}
 use mathlib.Core.Path.{_≡_, refl, sym, ap, ap₂, subst, _∙_}
 use mathlib.Core.Bool.{and-true, Bool, true, _&&_, false≢true}
 use mathlib.Core.List.{List, [], _∷_, map}

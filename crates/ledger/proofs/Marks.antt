@@ -1,6 +1,6 @@
 -- The map of a ledger, after a mark.
 -- Assumes nothing.
-use Prim.Native.Nat.{ℕ, _+_, _*_, _/_, _^_, _≤_, _<_}
+use Prim.Native.Nat.{ℕ, _+_, _*_, _^_, _≤_, _<_}
 use mathlib.Core.Path.{_≡_, refl, sym, ap, subst, _∙_}
 use mathlib.Core.Bool.{and-false, Bool, true, false, cond, _&&_}
 use mathlib.Core.List.{List}

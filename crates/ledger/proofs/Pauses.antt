@@ -1,6 +1,6 @@
 -- A sheet paused and resumed shows what it showed before, whatever calls on other sheets come between (document 02 (g)).
 -- Assumes nothing.
-use Prim.Native.Nat.{ℕ, zero, suc, _+_, _*_, _≤_, _<_}
+use Prim.Native.Nat.{ℕ, zero, suc, _*_, _≤_, _<_}
 use mathlib.Core.Path.{_≡_, refl, sym, ap, subst, _∙_}
 use mathlib.Core.Logic.{_≢_}
 use mathlib.Core.Bool.{Bool, true, false, cond, not, _||_, false≢true}
@@ -18,14 +18,13 @@ use Rattle.refusals.specs.Table.{offer, accept, tableOf}
 use Rattle.card.specs.Calls.{Kept}
 use Rattle.ledger.specs.Calls.{Call, on, close}
 use Rattle.ledger.specs.Ledger.{belowIn, restartIn, startIn}
-use Rattle.ledger.specs.Ledger.{Place, Blank, Payload, Sheet, Absent, Paused, PausedWith, Open, Complete, standingIn}
+use Rattle.ledger.specs.Ledger.{Blank, Payload, Sheet, Absent, Paused, PausedWith, Open, Complete, standingIn}
 use Rattle.ledger.specs.Ledger.{placesIn, bytesOf}
 use Rattle.ledger.specs.Ledger.{sheetAt, placeAt, viewIn, listed, verdictIn, pauseIn, resumeIn, deedIn, stepIn}
 use Rattle.ledger.specs.Ledger.{after, begun}
-use Rattle.ledger.specs.Answers.{Told, done, refusedWith, toldIn}
-use Rattle.ledger.specs.Pauses.{NotFor, NoneFor, StoppedAndTakenUp, TakenUp, PausedAndResumed}
-use Rattle.ledger.specs.Steps.{Response, toldBy, Step, Runs, freshState}
-use Rattle.ledger.proofs.Agreement.{stateOf, Matches}
+use Rattle.ledger.specs.Answers.{done, refusedWith, toldIn}
+use Rattle.ledger.specs.Pauses.{NotFor, NoneFor, PausedAndResumed}
+use Rattle.ledger.specs.Steps.{Response, toldBy, Step, freshState}
 use Rattle.ledger.proofs.Closed.{closed-at}
 use Rattle.ledger.proofs.Demand.{Left, answered, lists, kept-begun, state-begun}
 use Rattle.ledger.proofs.Sheets.{holding}

@@ -1,20 +1,15 @@
 -- Every state that a list of calls from a fresh card leaves is sound (document 01, "Saved image"), so that it can be saved:
 -- `every-list-sound` and `every-list-saves`.
 -- Assumes nothing.
-use Prim.Native.Nat.{ℕ, suc, _+_, _-_, _*_, _≤_, _<_}
+use Prim.Native.Nat.{ℕ, _*_, _≤_}
 use mathlib.Core.Path.{_≡_, refl, sym, ap, subst, _∙_}
-use mathlib.Core.Bool.{Bool, true, false, cond, not, _&&_}
-use mathlib.Core.List.{List, [], _∷_, map}
-use native.Mathlib.Omega.{arith}
-use lib.Dec.{eqb, leb}
+use mathlib.Core.Bool.{true, not, _&&_}
+use mathlib.Core.List.{List, [], map}
+use lib.Dec.{eqb}
 use lib.ListN.{length}
-use borrow.Author.Tests.{le-leb, lt-ltb, le-ltb, eq-eqb}
-use Rattle.map_blocks.specs.Blocks.{free}
-use Rattle.map_blocks.specs.Maps.{inState}
+use borrow.Author.Tests.{eq-eqb}
 use Rattle.laws.proofs.Bools.{and-both}
-use Rattle.map_blocks.proofs.Runs.{all-intro}
-use Rattle.survey.specs.Survey.{countsOf, freeOf, blocks}
-use Rattle.catalogue_standings.specs.Standings.{standingOf, isDamaged}
+use Rattle.survey.specs.Survey.{blocks}
 use Rattle.catalogue_standings.specs.Limits.{shapeFits, sheetsFit}
 use Rattle.catalogue_standings.specs.Rows.{accepted, firstOf}
 use Rattle.catalogue_standings.proofs.Openings.{skip}
@@ -23,12 +18,11 @@ use Rattle.image_soundness.specs.Sound as saved
 use Rattle.image.specs.Image.{framesFor}
 use Rattle.image.specs.Table.{saveFits, saveRows, saveVerdict}
 use Rattle.ledger.specs.Calls.{Call}
-use Rattle.ledger.specs.Ledger.{Sheet, sheetAt, covers, cover, freeIn, spareIn, after, begun}
+use Rattle.ledger.specs.Ledger.{Sheet, spareIn, after, begun}
 use Rattle.ledger.specs.Claim.{entryIn}
 use Rattle.card.specs.Calls.{Kept}
 use Rattle.ledger.specs.Steps.{Response, Runs, freshState, savedOf}
-use Rattle.ledger.proofs.Agreement.{mapIn, stateOf, Matches, free-map, shape-fits, sheets-fit, stands-same}
-use Rattle.ledger.proofs.Wings.{entry-at}
+use Rattle.ledger.proofs.Agreement.{mapIn, stateOf, Matches, shape-fits, sheets-fit}
 use Rattle.ledger.proofs.Demand.{Left, lists, kept-begun, state-begun}
 use Rattle.ledger.proofs.Soundness.{kept-sound}
 

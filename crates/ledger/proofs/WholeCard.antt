@@ -3,7 +3,7 @@
 -- exactly when no fit exists, and otherwise given the least and the space behind it (`search-lowest`); a survey answers the
 -- three counts (`survey-counts`).
 -- Assumes nothing.
-use Prim.Native.Nat.{ℕ, _≤_, _<_}
+use Prim.Native.Nat.{ℕ, _≤_}
 use mathlib.Core.Path.{_≡_, refl, sym, ap, subst, _∙_}
 use mathlib.Core.Bool.{Bool, true, false, not}
 use mathlib.Core.List.{List, [], _∷_}

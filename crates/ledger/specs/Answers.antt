@@ -5,7 +5,6 @@ use mathlib.Core.Bool.{cond}
 use mathlib.Core.List.{List, [], _∷_}
 use lib.Dec.{eqb}
 use Rattle.catalogue_standings.specs.Rows.{settle}
-use Rattle.refusals.specs.Table.{show}
 use Rattle.refusals.specs.Table.{lowestBlank}
 use Rattle.ledger.specs.Calls.{Call, sheetOf}
 use Rattle.ledger.specs.Ledger.{Sheet, viewIn, verdictIn, deedIn, stepIn}

@@ -4,12 +4,12 @@
 use Prim.Native.Nat.{ℕ, _<_}
 use mathlib.Core.Path.{_≡_}
 use mathlib.Core.Logic.{_↔_}
-use mathlib.Core.List.{List, [], _∷_}
+use mathlib.Core.List.{List}
 use Rattle.refusals.specs.Placement.{plain}
 use Rattle.refusals.specs.Table.{reserve}
 use Rattle.card.specs.Calls.{Kept}
 use Rattle.ledger.specs.Calls.{Call, on, close}
-use Rattle.ledger.specs.Ledger.{Sheet, stepIn, after, begun}
+use Rattle.ledger.specs.Ledger.{stepIn, after, begun}
 use Rattle.ledger.specs.Claim.{Came}
 use Rattle.ledger.specs.Steps.{Response, toldBy, Step, Runs, freshState}
 

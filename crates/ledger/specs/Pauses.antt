@@ -9,7 +9,7 @@ use mathlib.Core.List.{List, [], _∷_}
 use Rattle.refusals.specs.Table.{pause, resume, show}
 use Rattle.card.specs.Calls.{Kept}
 use Rattle.ledger.specs.Calls.{Call, on, close}
-use Rattle.ledger.specs.Ledger.{Sheet, Complete, sheetAt, after, begun}
+use Rattle.ledger.specs.Ledger.{Complete, sheetAt, after, begun}
 use Rattle.ledger.specs.Answers.{done}
 use Rattle.ledger.specs.Steps.{Response, toldBy, Step, Runs, freshState}
 

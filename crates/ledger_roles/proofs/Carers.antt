@@ -1,7 +1,6 @@
 -- A carer's calls are in a carer's row, so the public calls give what the inner ones do: what specs/Carers.antt claims.
 -- Assumes nothing.
 use Prim.Native.Nat.{ℕ}
-use mathlib.Core.Path.{_≡_}
 use mathlib.Core.List.{List}
 use Rattle.roles.specs.Roles.{may, carerMay}
 use Rattle.card.specs.Calls.{Kept}

@@ -2,7 +2,7 @@
 -- Assumes nothing.
 use Prim.Native.Nat.{ℕ}
 use mathlib.Core.Path.{refl}
-use mathlib.Core.List.{List, [], _∷_}
+use mathlib.Core.List.{[], _∷_}
 use Rattle.card.specs.Calls.{Kept}
 use Rattle.card.specs.Contracts.{itself}
 use Rattle.card.specs.declared.Outcome.{Outcome}
@@ -10,7 +10,7 @@ use Rattle.ledger_roles.specs.PublicCalls.{Public, fresh, search, survey
 use Rattle.ledger_roles.specs.PublicCalls.{put, complete, pause, resume, release, show, showDated, standing, save, load}
 use Rattle.ledger_roles.specs.PublicCalls.{close, buildSummary, checkSummary, reserveBy, reservePlacedBy, acceptBy}
 use Rattle.ledger_roles.specs.PublicCalls.{growBy, releaseBy, closeBy, Beside, Left, left, withBuffer, withImage}
-use Rattle.ledger_roles.specs.PublicCalls.{withScratch, withSummary, Ensures, Called, Came, keptThen, Makes}
+use Rattle.ledger_roles.specs.PublicCalls.{withScratch, withSummary, Ensures, Came, keptThen}
 use Rattle.ledger_roles.specs.PublicCalls.{EveryListRuns}
 
 one : (role : ℕ) (s : Kept) (b : Beside) (c : Public) → (r : Outcome) × (l : Left) × Ensures itself role s b r l c

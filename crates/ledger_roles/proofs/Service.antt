@@ -1,6 +1,6 @@
 -- After any list of service's calls every complete sheet shows what it showed: what specs/Service.antt claims.
 -- Assumes nothing.
-use Prim.Native.Nat.{ℕ, _*_, _<_}
+use Prim.Native.Nat.{ℕ, _*_}
 use mathlib.Core.Path.{_≡_, refl, ap, _∙_}
 use mathlib.Core.Bool.{true, false≢true}
 use mathlib.Core.List.{List, [], _∷_}
@@ -9,7 +9,6 @@ use Rattle.roles.specs.Roles.{may, serviceMay, service}
 use Rattle.catalogue_standings.specs.Rows.{Verdict, accepted, refused, firstOf, settle}
 use Rattle.refusals.specs.Table.{reserve, put, grow, complete, pause, resume, release, show, standing, offer, accept}
 use Rattle.refusals.specs.Table.{showDated}
-use Rattle.card.specs.Calls.{Kept}
 use Rattle.ledger.specs.Calls.{Call, on, close}
 use Rattle.ledger.specs.Ledger.{Sheet, Complete, sheetAt, startIn, belowIn, restartIn, closedIn, verdictIn, deedIn, stepIn}
 use Rattle.ledger.specs.Ledger.{after, begun}

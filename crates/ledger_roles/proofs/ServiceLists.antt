@@ -23,10 +23,10 @@ use Rattle.ledger_roles.specs.PublicCalls.{put, complete, pause, resume,
 use Rattle.ledger_roles.specs.PublicCalls.{close, buildSummary, checkSummary, reserveBy, reservePlacedBy, acceptBy}
 use Rattle.ledger_roles.specs.PublicCalls.{growBy, releaseBy, closeBy, Beside, Left, Ensures, Called, Came, keptThen}
 use Rattle.ledger_roles.specs.PublicCalls.{left, nameIn, Makes}
-use Rattle.ledger_roles.specs.Service.{ShowsAsBefore, NeitherFreshNorLoad, ServiceShowsAsBefore}
+use Rattle.ledger_roles.specs.Service.{NeitherFreshNorLoad, ServiceShowsAsBefore}
 use Rattle.ledger_roles.proofs.ClosedSheets.{closedKept, closed-moved}
 use Rattle.ledger_roles.proofs.EveryCarersCall.{shapeOf}
-use Rattle.ledger_roles.proofs.Shown.{Moved, show-same, show-buffer-same, dated-same, dated-buffer-same}
+use Rattle.ledger_roles.proofs.Shown.{show-same, show-buffer-same, dated-same, dated-buffer-same}
 use Rattle.ledger_roles.proofs.TurnedAway.{mapIn, entriesIn, cardIn, every-call-turned-away}
 
 -- ---- a sheet that stands Complete and shows the same

@@ -1,7 +1,7 @@
 -- What a show and a dated show answer of a sheet that stands Complete, where the sheet has moved with its blocks: the same.
 -- Assumes nothing.
 use Prim.Native.Nat.{ℕ, _+_, _*_, _<_}
-use mathlib.Core.Path.{_≡_, refl, sym, ap, subst, _∙_}
+use mathlib.Core.Path.{_≡_, refl, sym, ap, _∙_}
 use mathlib.Core.Bool.{Bool, true, false, not, _&&_, _||_}
 use mathlib.Core.List.{List, [], _∷_}
 use native.Mathlib.Nat.{add-zero}
@@ -25,7 +25,6 @@ use Rattle.refusals.specs.Guides.{guideFits}
 use Rattle.refusals.specs.Table.{tableOf, rowsFor, termRows}
 use Rattle.refusals.specs.Views.{viewOn}
 use Rattle.card.specs.Calls.{Kept, lentTo, told, showOutcome, showBuffer, showDatedOutcome, showDatedBuffer}
-use Rattle.card.specs.declared.Outcome.{Outcome}
 use Rattle.card.specs.declared.Shape.{Shape}
 use Rattle.carers.specs.Learning.{stands}
 use Rattle.carers.proofs.Verdicts.{Seen}

@@ -1,6 +1,6 @@
 -- A search within three figures: that the run it finds is the least fit, and which starts are passed over.
 -- Assumes nothing.
-use mathlib.Core.Path.{_≡_, refl, sym, ap, _∙_, subst}
+use mathlib.Core.Path.{_≡_, sym, ap, _∙_}
 use mathlib.Core.Logic.{⊎-elim}
 use mathlib.Core.Bool.{Bool, true, false, cond}
 use mathlib.Core.List.{List}
@@ -11,7 +11,6 @@ use lib.Dec.{eqb}
 use lib.ListN.{getD}
 use Rattle.map_blocks.specs.Blocks.{free, all, onStep, fit, leastFit}
 use Rattle.map_blocks.specs.Words.{bit}
-use Rattle.map_blocks.specs.declared.Found.{Found}
 use Rattle.map_blocks.specs.declared.Found.the-variants.{At, Nothing}
 use Rattle.map_blocks.proofs.Bits.{bit-zero}
 use Rattle.laws.proofs.Bools.{clash, order, both-ways}

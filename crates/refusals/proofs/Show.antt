@@ -5,10 +5,10 @@ use mathlib.Core.Bool.{Bool, true, false, not}
 use mathlib.Core.List.{List, [], _∷_}
 use Prim.Native.Nat.{ℕ, _+_}
 use Rattle.blocks_of_card.specs.Card.{blockOf}
-use Rattle.block_seals.specs.Sealed.{sound, payloadOf}
-use Rattle.catalogue_standings.specs.Rows.{row, Verdict, accepted, refused, settle, rowNumber}
+use Rattle.block_seals.specs.Sealed.{sound}
+use Rattle.catalogue_standings.specs.Rows.{row, Verdict, accepted, refused, rowNumber}
 use Rattle.catalogue_standings.specs.declared.Answer.{Answer}
-use Rattle.catalogue_standings.specs.declared.Answer.the-variants.{Done, Refused}
+use Rattle.catalogue_standings.specs.declared.Answer.the-variants.{Refused}
 use Rattle.catalogue_standings.proofs.Openings.{skip, stop, none-left}
 use Rattle.catalogue_standings.proofs.Rows.{other-row}
 use Rattle.refusals.specs.Effects.{showingVerdict, blockVerdict, shownAnswer, shownBuffer}

@@ -2,7 +2,7 @@
 -- all other numbers". The shape comes back as it came, and what is lent is as it was; a scratch is all zeros, as after every
 -- refusal.
 -- Assumes nothing.
-use mathlib.Core.Bool.{Bool, cond}
+use mathlib.Core.Bool.{cond}
 use Prim.Native.Nat.{ℕ}
 use Rattle.roles.specs.Roles as roles
 use Rattle.catalogue_standings.specs.declared.Answer.the-variants.{Refused}

@@ -1,6 +1,5 @@
 -- `close_fits` meets its contract, test by test.
 -- Assumes nothing.
-use native.Mathlib.Omega.{arith}
 use Rattle.catalogue_standings.proofs.Tested.{fails, holds}
 use Rattle.closing.proofs.Steps.{not-saved, wrong-card, by-the-rest}
 use borrow.Author.Needs.{needs}

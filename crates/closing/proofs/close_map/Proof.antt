@@ -5,7 +5,6 @@ use mathlib.Core.Bool.{false}
 use mathlib.Core.List.{List}
 use Prim.Native.Nat.{ℕ}
 use native.Mathlib.Omega.{arith}
-use denote.Ref.{now}
 use Rattle.catalogue_standings.proofs.Tested.{fails, holds}
 use Rattle.map_blocks.specs.Maps.{marked}
 use Rattle.closing.proofs.Steps.{map-fits-to, refused-map, unfit-map, marked-map}

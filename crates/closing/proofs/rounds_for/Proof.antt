@@ -1,7 +1,6 @@
 -- `rounds_for` meets its contract.
 -- Assumes nothing.
 use Rattle.closing.proofs.Steps.{all-rounds, no-rounds}
-use borrow.Author.Needs.{needs}
 use Rattle.closing.proofs.rounds_for.Statement.{statement}
 use Rattle.closing.proofs.rounds_for.Tie as tie
 

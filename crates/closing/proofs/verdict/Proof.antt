@@ -1,7 +1,6 @@
 -- `verdict` meets its contract, row by row.
 -- Assumes nothing.
 use Rattle.closing.proofs.Steps.{verdict-1, verdict-0, verdict-4}
-use borrow.Author.Needs.{needs}
 use Rattle.closing.proofs.verdict.Statement.{statement}
 use Rattle.closing.proofs.verdict.Tie as tie
 

@@ -1,7 +1,6 @@
 -- `fill_window` meets its contract.
 -- Assumes nothing.
 use mathlib.Core.Path.{_∙_}
-use native.Mathlib.Omega.{arith}
 use Rattle.image_soundness.proofs.Steps.{not-copied, is-copied}
 use borrow.Author.Needs.{needs}
 use Rattle.image_windows.proofs.fill_window.Statement.{statement}

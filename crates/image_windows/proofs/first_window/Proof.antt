@@ -1,7 +1,6 @@
 -- `first_window` meets its contract.
 -- Assumes nothing.
 use Rattle.image_soundness.proofs.Steps.{first-stopped, first-left}
-use borrow.Author.Needs.{needs}
 use Rattle.image_windows.proofs.first_window.Statement.{statement}
 use Rattle.image_windows.proofs.first_window.Tie as tie
 

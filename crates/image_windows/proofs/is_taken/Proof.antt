@@ -1,7 +1,6 @@
 -- `is_taken` meets its contract.
 -- Assumes nothing.
 use mathlib.Core.Path.{_∙_}
-use native.Mathlib.Omega.{arith}
 use Rattle.image_soundness.proofs.Steps.{taken-short, taken-all}
 use borrow.Author.Needs.{needs}
 use Rattle.image_windows.proofs.is_taken.Statement.{statement}

@@ -5,7 +5,6 @@ use mathlib.Core.Bool.{Bool, cond}
 use native.Mathlib.Omega.{arith}
 use borrow.Author.Tests.{lt-ltb, le-ltb}
 use Rattle.map_blocks.specs.declared.Found.the-variants.{At, Nothing}
-use borrow.Author.Needs.{needs}
 use Rattle.map_search_placed.proofs.found.Statement.{statement}
 use Rattle.map_search_placed.proofs.found.Tie as tie
 

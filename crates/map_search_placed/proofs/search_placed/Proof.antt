@@ -1,8 +1,8 @@
 -- `map_search_placed::search_placed` meets its contract: the plain search is the one from 0 on with a step of 1.
 -- Assumes nothing.
-use mathlib.Core.Path.{_≡_, refl, sym, ap, _∙_, subst}
+use mathlib.Core.Path.{_≡_, sym, ap, _∙_}
 use native.Mathlib.Omega.{arith}
-use mathlib.Core.Bool.{Bool, true, false}
+use mathlib.Core.Bool.{false}
 use denote.Ref.{now}
 use Prim.Native.Nat.{ℕ, _<_, min}
 use Rattle.map_blocks.specs.Blocks.{free, fit, leastFit}

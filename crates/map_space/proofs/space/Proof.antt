@@ -16,9 +16,6 @@ use Rattle.map_space.proofs.Taken.{head-free, head-taken, head-before, 
 use Rattle.map_space.proofs.Taken.{Takes, later-word, none-taken, from-start, is-taken, before-taken}
 use Rattle.map_space.proofs.space.Statement.{statement}
 use Rattle.map_space.proofs.space.Tie as tie
-use Rattle.map_space.proofs.space.Reads as reads
-use Rattle.map_space.proofs.space.Lts as lts
-use Rattle.map_blocks.proofs.word.smaller.Reads as smaller-reads
 
 abbrev Inv-loop : tie.InvT-loop
 Inv-loop map start n first head last i₀ taken₀ i taken =

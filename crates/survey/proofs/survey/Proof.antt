@@ -2,7 +2,7 @@
 -- the last ones.
 -- Assumes nothing.
 use mathlib.Core.Path.{_≡_, refl, ap, subst, _∙_}
-use Prim.Native.Nat.{ℕ, _<_, _≤_, _-_, _*_, _+_, _/_, _^_}
+use Prim.Native.Nat.{ℕ, _<_, _≤_, _-_, _*_, _^_}
 use native.Mathlib.Omega.{arith}
 use lib.Bits.{bitAnd, and-le-r}
 use lib.Count.{ones-le}

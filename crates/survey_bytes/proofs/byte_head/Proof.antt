@@ -1,10 +1,8 @@
 -- `survey_bytes::byte_head` meets its contract: the zeros at the head of the complement are the ones at the head of the byte.
 -- Assumes nothing.
-use mathlib.Core.Path.{_≡_}
 use Prim.Native.Nat.{ℕ, _%_}
 use native.Mathlib.Omega.{arith}
 use borrow.Author.Needs.{needs}
-use Rattle.survey_bytes.specs.Bytes.{bitsOf}
 use Rattle.survey_bytes.proofs.Ends.{head-byte, head-reach}
 use Rattle.survey_bytes.proofs.byte_head.Statement.{statement}
 use Rattle.survey_bytes.proofs.byte_head.Tie as tie

@@ -1,6 +1,5 @@
 -- `survey_bytes::byte_tail` meets its contract: 1 more than the byte has as many zeros at its tail as the byte has ones.
 -- Assumes nothing.
-use mathlib.Core.Path.{_≡_}
 use Prim.Native.Nat.{ℕ, _%_}
 use native.Mathlib.Omega.{arith}
 use borrow.Author.Needs.{needs}

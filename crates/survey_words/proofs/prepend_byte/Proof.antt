@@ -1,6 +1,6 @@
 -- `survey_words::prepend_byte` meets its contract: head and tail are worked out, and the table gives the other two numbers.
 -- Assumes nothing.
-use Prim.Native.Nat.{ℕ, _%_}
+use Prim.Native.Nat.{_%_}
 use native.Mathlib.Omega.{arith}
 use Rattle.survey_bytes.specs.Bytes.{bitsOf}
 use Rattle.survey_words.proofs.Joining.{tail-runs}

@@ -1,7 +1,6 @@
 -- `call_put::put::put` meets its contract: each way out by its row, and the card by what `write_block` leaves.
 -- Assumes nothing.
 use mathlib.Core.Path.{refl, ap, _∙_}
-use mathlib.Core.List.{[]}
 use native.Mathlib.Omega.{arith}
 use borrow.Author.Needs.{needs}
 use denote.Ref.{now}

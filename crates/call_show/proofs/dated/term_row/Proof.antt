@@ -1,13 +1,10 @@
 -- `term_row` meets its contract: each way out by its row.
 -- Assumes nothing.
-use mathlib.Core.Path.{_≡_, sym, ap, _∙_}
-use mathlib.Core.Bool.{true, false}
-use Prim.Native.Nat.{ℕ}
+use mathlib.Core.Path.{sym, ap, _∙_}
 use denote.Ref.{now}
 use Rattle.calendar.proofs.Formulas.{dated, undated}
-use Rattle.calendar.specs.Calendar.{dateOf}
 use Rattle.calendar.specs.Term.{termOf, inTerm}
-use Rattle.block_seals.specs.Sealed.{sound, payloadOf}
+use Rattle.block_seals.specs.Sealed.{payloadOf}
 use Rattle.blocks_of_card.specs.Card.{blockOf}
 use Rattle.catalogue_standings.specs.Rows.{rowNumber}
 use Rattle.catalogue_standings.proofs.Tested.{fails, holds}

@@ -1,7 +1,6 @@
 -- `is_nearer` meets its contract, test by test.
 -- Assumes nothing.
 use Rattle.closing.proofs.Steps.{no-extent, has-moved, by-start}
-use borrow.Author.Needs.{needs}
 use Rattle.closing.proofs.extent.is_nearer.Statement.{statement}
 use Rattle.closing.proofs.extent.is_nearer.Tie as tie
 

@@ -1,7 +1,6 @@
 -- `move_extent` meets its contract.
 -- Assumes nothing.
 use mathlib.Core.Path.{_∙_}
-use native.Mathlib.Omega.{arith}
 use Rattle.closing.proofs.Cards.{not-up, not-outside, moves}
 use borrow.Author.Needs.{needs}
 use Rattle.closing.proofs.extent.move_extent.Statement.{statement}

@@ -1,9 +1,7 @@
 -- `nearer` meets its contract.
 -- Assumes nothing.
 use mathlib.Core.Path.{sym, ap, _∙_}
-use Prim.Native.Nat.{ℕ}
 use Rattle.closing.specs.Rounds.{pick}
-use Rattle.closing.specs.declared.Pick.{Pick}
 use Rattle.closing.proofs.Picks.{is-nearer, is-not}
 use borrow.Author.Needs.{needs}
 use Rattle.closing.proofs.extent.nearer.Statement.{statement}

@@ -2,7 +2,6 @@
 -- Assumes nothing.
 use borrow.Author.Tests.{eq-eqb, ne-eqb}
 use Rattle.image_soundness.proofs.Steps.{first-fails, first-holds}
-use borrow.Author.Needs.{needs}
 use Rattle.image_soundness.proofs.rule.no_extent.Statement.{statement}
 use Rattle.image_soundness.proofs.rule.no_extent.Tie as tie
 
