@@ -36,6 +36,12 @@ pub fn examples() -> String {
     text + &random_with_roles(store)
 }
 
+/// A line of a list is a call of this name.
+#[cfg(test)]
+fn has_call(list: &str, name: &str) -> bool {
+    list.lines().any(|line| line.split_whitespace().next() == Some(name))
+}
+
 /// A heading, and the lines below it.
 type Section = (&'static str, String);
 

@@ -311,3 +311,19 @@ pub(super) const SHEETS: &str = "
     release 1023
     standing 1023
 ";
+
+#[cfg(test)]
+mod tests {
+    use super::*;
+    use crate::call::{CALLS, Kind};
+    use crate::calls::has_call;
+
+    /// Fresh has a list of its own: it takes the blocks and reads no shape.
+    #[test]
+    fn every_call_is_in_a_list() {
+        let all = [EACH, EACH_WITH_SUMMARY, EACH_DATED, EACH_CLOSING].concat();
+        for (kind, name, _) in CALLS {
+            assert!(kind == Kind::Fresh || has_call(&all, name), "{name}");
+        }
+    }
+}

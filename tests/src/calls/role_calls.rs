@@ -197,3 +197,17 @@ pub(super) fn every_call() -> String {
         .map(|role| format!("+role 1\n{}+role {role}\n{EVERY}+role 1\n", on_70(CARD)))
         .concat()
 }
+
+#[cfg(test)]
+mod tests {
+    use super::*;
+    use crate::call::CALLS;
+    use crate::calls::has_call;
+
+    #[test]
+    fn every_call_is_in_the_list() {
+        for (_, name, _) in CALLS {
+            assert!(has_call(EVERY, name), "{name}");
+        }
+    }
+}
