@@ -92,14 +92,15 @@ static const struct way REFUSED_FULL[] = {
 static uint32_t without_placed(uint32_t both) {
     pagunlit_outcome o = pagunlit_reserve_placed(ROLE, shape, map, words(), catalogue, SHEETS, card, bytes(), limits, 0,
                                                  both >> 16, 0, n, both & 0xffff);
-    if (o.number == 0) pagunlit_release(ROLE, o.shape, map, words(), catalogue, SHEETS, 0);
+    if (o.number == 0) shape = pagunlit_release(ROLE, o.shape, map, words(), catalogue, SHEETS, 0).shape;
     return o.number == 0 ? o.first : NO_FIT;
 }
 
 static uint32_t guided_placed(uint32_t both) {
     pagunlit_outcome o = pagunlit_reserve_placed_with_summary(ROLE, shape, map, words(), summary, numbers(), catalogue, SHEETS,
                                                               card, bytes(), limits, 0, both >> 16, 0, n, both & 0xffff);
-    if (o.number == 0) pagunlit_release_with_summary(ROLE, o.shape, map, words(), summary, numbers(), catalogue, SHEETS, 0);
+    if (o.number == 0)
+        shape = pagunlit_release_with_summary(ROLE, o.shape, map, words(), summary, numbers(), catalogue, SHEETS, 0).shape;
     return o.number == 0 ? o.first : NO_FIT;
 }
 

@@ -105,7 +105,7 @@ static void time_survey(const char *name) {
 }
 
 int main(void) {
-    static const uint32_t ks[] = {1, 2, 3, 5, 9, 16, 17, 33, 48, 63, 64, 65, 100, 200};
+    static const uint32_t ks[] = {1, 2, 3, 5, 9, 17, 33, 64, 200};
     printf("Maps of %d blocks, %d of each kind. The time of the proved function, and how many times as long C takes:\n",
            BLOCKS, MAPS);
     printf("(1) bit by bit, (2) next free block, next taken block, and on.\n");

@@ -97,13 +97,32 @@ static void say(const char *what, struct cell cell, double sign) {
 
 static struct cell least_near, least_far, least_aligned, slowest;
 
+// The least and the largest of some figures.
+struct range {
+    double from, to;
+};
+
+static void widen(struct range *range, double figure) {
+    if (range->to == 0 || figure < range->from) range->from = figure;
+    if (figure > range->to) range->to = figure;
+}
+
+// Of a map and a window: near steps, which are up to 8, and far ones; without a fit (0) and with one (1).
+static struct range times[2], bits[2][2], next[2][2];
+static int every_cell;
+
 static void time_search(const char *name, struct figures at, uint32_t k) {
     int found = compared(at, k);
     struct job jobs[] = {{ours, at, k, 0}, {candidates, at, k, 0}, {aligned, at, k, 0}};
     void *pointers[] = {&jobs[0], &jobs[1], &jobs[2]};
     double ns[3];
     least_times(3, run, pointers, ns);
-    printf("%6u %5u %9d %11.1f %13.2f %13.2f\n", at.step, k, found, ns[0] / MAPS, ns[1] / ns[0], ns[2] / ns[0]);
+    if (every_cell)
+        printf("%6u %5u %9d %11.1f %13.2f %13.2f\n", at.step, k, found, ns[0] / MAPS, ns[1] / ns[0], ns[2] / ns[0]);
+    int far = at.step > 8;
+    widen(&times[far], ns[0] / MAPS);
+    widen(&bits[far][found != 0], ns[1] / ns[0]);
+    widen(&next[far][found != 0], ns[2] / ns[0]);
     if (found == 0) least(at.step <= 8 ? &least_near : &least_far, (struct cell){ns[1] / ns[0], name, at, k});
     if (ns[0] / MAPS > 20) least(&least_aligned, (struct cell){ns[2] / ns[0], name, at, k});
     least(&slowest, (struct cell){-ns[0] / MAPS, name, at, k});
@@ -112,9 +131,20 @@ static void time_search(const char *name, struct figures at, uint32_t k) {
 static const uint32_t STEPS[] = {1, 2, 3, 7, 8, 64, 100, 4096}, COUNTS[] = {1, 2, 9, 33, 64, 200};
 static const struct figures WINDOWS[] = {{0, BLOCKS, 0}, {100001, 104097, 0}};
 
+static void say_range(struct range range) {
+    if (range.to == 0)
+        printf(" %15s", "-");
+    else
+        printf(" %6.2f to %5.0f", range.from, range.to);
+}
+
 static void time_steps(const char *name, struct figures window, int by_step) {
-    printf("\n%s, window %u to %u\n  step     k  with fit   ours (ns)     times (1)     times (2)\n", name, window.from,
-           window.before);
+    memset(times, 0, sizeof times);
+    memset(bits, 0, sizeof bits);
+    memset(next, 0, sizeof next);
+    if (every_cell)
+        printf("\n%s, window %u to %u\n  step     k  with fit   ours (ns)     times (1)     times (2)\n", name, window.from,
+               window.before);
     for (size_t i = 0; i < sizeof STEPS / sizeof *STEPS; i++) {
         if (by_step) {
             memset(maps, 0, sizeof maps);
@@ -126,6 +156,15 @@ static void time_steps(const char *name, struct figures window, int by_step) {
         }
         struct figures at = {window.from, window.before, STEPS[i]};
         for (size_t j = 0; j < sizeof COUNTS / sizeof *COUNTS; j++) time_search(name, at, COUNTS[j]);
+    }
+    for (int far = 0; far < 2 && !every_cell; far++) {
+        printf("%-26.26s %-6s %-5s", name, window.from == 0 ? "wide" : "narrow", far ? "far" : "near");
+        say_range(times[far]);
+        for (int found = 0; found < 2; found++) {
+            say_range(bits[far][found]);
+            say_range(next[far][found]);
+        }
+        printf("\n");
     }
 }
 
@@ -150,6 +189,11 @@ int main(int count, char **words) {
     printf("Maps of %d blocks, %d of each kind. The time of the proved function, and how many times as long C takes:\n", BLOCKS,
            MAPS);
     printf("(1) from candidate to candidate bit by bit, (2) next free block, rounded up, next taken block, and on.\n");
+    every_cell = count == 2 && strcmp(words[1], "cells") == 0;
+    if (!every_cell)
+        printf("Near: steps up to 8; far: 64, 100 and 4,096. The least and the largest of each.\n\n"
+               "%-26s %-6s %-5s %15s %15s %15s %15s %15s\n",
+               "", "", "steps", "ours (ns)", "no fit: (1)", "no fit: (2)", "a fit: (1)", "a fit: (2)");
     for (size_t w = 0; w < sizeof WINDOWS / sizeof *WINDOWS; w++) {
         for (int i = 0; i < KIND_COUNT; i++) {
             for (int m = 0; m < MAPS; m++) fill(maps[m], KINDS[i]);

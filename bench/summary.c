@@ -79,20 +79,28 @@ static void reserves(void) {
     }
 }
 
+// The steps of a line: the time with a summary, and how many times as long it takes without, from the least to the largest.
+static void placed_line(double share, uint32_t k) {
+    static const uint32_t steps[] = {1, 3, 8, 64, 100, 4096};
+    double least[2] = {1e18, 1e18}, most[2] = {0, 0};
+    for (size_t j = 0; j < sizeof steps / sizeof *steps; j++) {
+        double figure[2];
+        figure[0] = compared(PLACED, k << 16 | steps[j], &figure[1]);
+        for (int i = 0; i < 2; i++) {
+            if (figure[i] < least[i]) least[i] = figure[i];
+            if (figure[i] > most[i]) most[i] = figure[i];
+        }
+    }
+    printf("%2.0f %%, %2u blocks %18.0f to %5.0f %12.2f to %5.2f\n", 100 * share, k, least[0], most[0], least[1], most[1]);
+}
+
 static void placed(void) {
-    static const uint32_t ks[] = {1, 4, 16}, steps[] = {1, 3, 8, 64, 100, 4096};
-    heading("A placed reserve, and the release of what is granted, on the aged cards; first: with a summary", PLACED, 2);
+    static const uint32_t ks[] = {1, 4, 16};
+    heading("A placed reserve, and the release of what is granted, steps of 1, 3, 8, 64, 100 and 4,096; first: with a summary",
+            PLACED, 2);
     for (int kind = 0; kind < KIND_COUNT; kind++) {
         new_card(BLOCKS, KINDS[kind]);
-        for (size_t i = 0; i < sizeof ks / sizeof *ks; i++) {
-            for (size_t j = 0; j < sizeof steps / sizeof *steps; j++) {
-                uint32_t both = ks[i] << 16 | steps[j], found = guided_placed(both);
-                char what[60];
-                snprintf(what, sizeof what, "%2.0f %%, %2u, step %4u%s", 100 * KINDS[kind].share, ks[i], steps[j],
-                         found == NO_FIT ? ": no fit" : "");
-                line(what, PLACED, 2, both, 1);
-            }
-        }
+        for (size_t i = 0; i < sizeof ks / sizeof *ks; i++) placed_line(KINDS[kind].share, ks[i]);
     }
 }
 

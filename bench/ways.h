@@ -28,6 +28,17 @@ static void run_job(void *job) {
     sink += j->call(j->argument);
 }
 
+// The time of the first of two ways, and how many times as long the second takes.
+static inline double compared(const struct way *ways, uint32_t argument, double *ratio) {
+    struct job jobs[2] = {{ways[0].call, argument}, {ways[1].call, argument}};
+    void *pointers[2] = {&jobs[0], &jobs[1]};
+    double ratios[2];
+    if (ways[0].call(argument) != ways[1].call(argument)) give_up("two ways answer differently");
+    double first = median_times(2, run_job, pointers, ratios);
+    *ratio = ratios[1];
+    return first;
+}
+
 static void heading(const char *what, const struct way *ways, int count) {
     printf("\n%s\n%-28s %12s", what, "", "ns");
     for (int i = 1; i < count; i++) printf(" %16s", ways[i].name);

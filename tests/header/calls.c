@@ -244,6 +244,25 @@ static void doses(void)
     printf("write short term\t%u\n", pagunlit_write_term(slice, sizeof slice - 1, 1, 2));
 }
 
+/* The calendar of terms: a leap day, its number again, the ends of the span, and what is no day of it. */
+static void day(const char *call, pagunlit_day d)
+{
+    printf("%s\t%u days %u date %u %u %u\n", call, d.number, d.days, d.year, d.month, d.day);
+}
+
+static void days(void)
+{
+    day("day of 2024 2 29", pagunlit_day_of_date(2024, 2, 29));
+    day("day of 2023 2 29", pagunlit_day_of_date(2023, 2, 29));
+    day("day of 2077 7 8", pagunlit_day_of_date(2077, 7, 8));
+    day("day of 2100 1 1", pagunlit_day_of_date(2100, 1, 1));
+    day("date of 0", pagunlit_day_of_number(0));
+    day("date of 8825", pagunlit_day_of_number(8825));
+    day("date of 28313", pagunlit_day_of_number(28313));
+    day("date of 36524", pagunlit_day_of_number(36524));
+    day("date of 36525", pagunlit_day_of_number(36525));
+}
+
 int main(void)
 {
     fill(card, sizeof card, 5);
@@ -257,6 +276,7 @@ int main(void)
     images();
     blocks();
     doses();
+    days();
     puts("end");
     return 0;
 }

@@ -1,28 +1,58 @@
 /* Hands over what the headers say: every constant, the size of every struct with the offset, size and type of every field,
  * the macros for many n and c, the texts of the numbers, and what is read from an image's head. A line has a name, a tab and
- * a value; tests/header/src/figures.rs compares each with its own figures. */
+ * a value; tests/header/src/figures.rs compares each with its own figures. It is compiled as C and as C++. */
 #include "pagunlit.h"
+#include "pagunlit_card.h"
 #include "pagunlit_text.h"
 #include "block.h"
 
+#include <assert.h>
+#include <stdalign.h>
 #include <stdio.h>
 
 enum { SMALL = 5000, WORDS = PAGUNLIT_MAP_WORDS(PAGUNLIT_BLOCKS), ALL_SHEETS = 80 };
 
 /* The macros are constant expressions. */
-_Static_assert(PAGUNLIT_MAP_WORDS(1) > 0 && PAGUNLIT_SCRATCH_WORDS(1) > 0 && PAGUNLIT_SUMMARY_NUMBERS(1) > 0 &&
-                   PAGUNLIT_IMAGE_BYTES(1, 1) > 0,
-               "the macros are no constant expressions");
+static_assert(PAGUNLIT_MAP_WORDS(1) > 0 && PAGUNLIT_SCRATCH_WORDS(1) > 0 && PAGUNLIT_SUMMARY_NUMBERS(1) > 0 &&
+                  PAGUNLIT_IMAGE_BYTES(1, 1) > 0,
+              "the macros are no constant expressions");
 
-#define CONSTANT(name) printf(#name "\t%lld\n", (long long)(name))
-#define TYPE(x) _Generic((x), uint32_t: "uint32_t", size_t: "size_t", pagunlit_shape: "pagunlit_shape", default: "another")
-#define STRUCT(name) printf(#name "\tsize %zu align %zu\n", sizeof(name), _Alignof(name))
+#ifdef __cplusplus
+#include <type_traits>
+static const char *type_of(uint32_t) { return "uint32_t"; }
+static const char *type_of(pagunlit_shape) { return "pagunlit_shape"; }
+template <typename Other> static const char *type_of(Other) { return "another"; }
+#define TYPE(x) type_of(x)
+#define LENGTH_TYPE(x) (std::is_same<decltype(x), size_t>::value ? "size_t" : "another")
+#define COPY(name, value) const auto name = (value)
+#else
+#define TYPE(x) _Generic((x), uint32_t: "uint32_t", pagunlit_shape: "pagunlit_shape", default: "another")
+#define LENGTH_TYPE(x) _Generic((x), size_t: "size_t", default: "another")
+#define COPY(name, value) const __typeof__(value) name = (value)
+#endif
+
+/* A constant is whole in any expression: it is as good there as a copy of its value. */
+#define WHOLE(name, copy)                                                                                                   \
+    ((long long)(3 * name) == (long long)(3 * copy) && (long long)(name * 3) == (long long)(copy * 3) &&                    \
+     (long long)(7 - name) == (long long)(7 - copy) && (long long)(~name) == (long long)(~copy) &&                          \
+     (name == 1) == (copy == 1) && (name & 6) == (copy & 6))
+
+#define CONSTANT(name)                                                                                                      \
+    do {                                                                                                                    \
+        COPY(copy, name);                                                                                                   \
+        printf(#name "\t%lld%s\n", (long long)copy, WHOLE(name, copy) ? "" : ", and another number in an expression");      \
+    } while (0)
+#define STRUCT(name) printf(#name "\tsize %zu align %zu\n", sizeof(name), alignof(name))
 #define FIELD(name, field) \
     printf(#name "." #field "\toffset %zu size %zu type %s\n", offsetof(name, field), sizeof(((name *)0)->field), \
            TYPE(((name *)0)->field))
 
 static void constants(void)
 {
+    CONSTANT(PAGUNLIT_BLOCK_BYTES);
+    CONSTANT(PAGUNLIT_PAYLOAD_BYTES);
+    CONSTANT(PAGUNLIT_MOST_BLOCKS);
+    CONSTANT(PAGUNLIT_MOST_SHEETS);
     CONSTANT(PAGUNLIT_BLOCK);
     CONSTANT(PAGUNLIT_PAYLOAD);
     CONSTANT(PAGUNLIT_BLOCKS);
@@ -37,6 +67,9 @@ static void constants(void)
     CONSTANT(PAGUNLIT_OPEN);
     CONSTANT(PAGUNLIT_COMPLETE);
     CONSTANT(PAGUNLIT_COUNT_ABSENT);
+    CONSTANT(PAGUNLIT_SAVE_NOTHING);
+    CONSTANT(PAGUNLIT_SAVE_BEFORE_BLOCKS);
+    CONSTANT(PAGUNLIT_SAVE_FIRST);
     CONSTANT(PAGUNLIT_VERSION);
     printf("PAGUNLIT_VERSION_TEXT\t%s\n", PAGUNLIT_VERSION_TEXT);
     CONSTANT(BLOCK_SIZE);
@@ -94,6 +127,12 @@ static void structs(void)
     STRUCT(pagunlit_count);
     FIELD(pagunlit_count, number);
     FIELD(pagunlit_count, hundredths);
+    STRUCT(pagunlit_day);
+    FIELD(pagunlit_day, number);
+    FIELD(pagunlit_day, days);
+    FIELD(pagunlit_day, year);
+    FIELD(pagunlit_day, month);
+    FIELD(pagunlit_day, day);
 }
 
 static void words(uint32_t n)
@@ -107,13 +146,11 @@ static void bytes(uint32_t n, uint32_t c)
     printf("PAGUNLIT_IMAGE_BYTES(%u,%u)\t%zu\n", n, c, PAGUNLIT_IMAGE_BYTES(n, c));
 }
 
-/* All n from 0 on, the limits, and the largest 32-bit number; for summaries all n within their limits; for images all c with
- * the first words and with the most. */
+/* All n from 0 on to one above the limit, and the largest 32-bit number; for summaries all n within their limits; for images
+ * all c with the first words and with the most. */
 static void macros(void)
 {
-    for (uint32_t n = 0; n <= SMALL; n++)
-        words(n);
-    for (uint32_t n = PAGUNLIT_BLOCKS - SMALL; n <= PAGUNLIT_BLOCKS + 1; n++)
+    for (uint32_t n = 0; n <= PAGUNLIT_BLOCKS + 1; n++)
         words(n);
     words(UINT32_MAX);
     for (uint32_t n = 1; n <= PAGUNLIT_BLOCKS; n++)
@@ -129,16 +166,17 @@ static void macros(void)
     }
     for (uint32_t w = 0; w <= WORDS; w++)
         bytes(64 * w, 1);
-    bytes(PAGUNLIT_BLOCKS, UINT32_MAX);
+    if (SIZE_MAX > UINT32_MAX) /* on a 32-bit processor no length is so large */
+        bytes(PAGUNLIT_BLOCKS, UINT32_MAX);
 }
 
 /* The macros are whole: their arguments may be any expressions, and they may stand in any. */
 static void parentheses(void)
 {
-    printf("type PAGUNLIT_MAP_WORDS\t%s\n", TYPE(PAGUNLIT_MAP_WORDS(1)));
-    printf("type PAGUNLIT_SCRATCH_WORDS\t%s\n", TYPE(PAGUNLIT_SCRATCH_WORDS(1)));
-    printf("type PAGUNLIT_SUMMARY_NUMBERS\t%s\n", TYPE(PAGUNLIT_SUMMARY_NUMBERS(1)));
-    printf("type PAGUNLIT_IMAGE_BYTES\t%s\n", TYPE(PAGUNLIT_IMAGE_BYTES(1, 1)));
+    printf("type PAGUNLIT_MAP_WORDS\t%s\n", LENGTH_TYPE(PAGUNLIT_MAP_WORDS(1)));
+    printf("type PAGUNLIT_SCRATCH_WORDS\t%s\n", LENGTH_TYPE(PAGUNLIT_SCRATCH_WORDS(1)));
+    printf("type PAGUNLIT_SUMMARY_NUMBERS\t%s\n", LENGTH_TYPE(PAGUNLIT_SUMMARY_NUMBERS(1)));
+    printf("type PAGUNLIT_IMAGE_BYTES\t%s\n", LENGTH_TYPE(PAGUNLIT_IMAGE_BYTES(1, 1)));
     printf("inside PAGUNLIT_MAP_WORDS(1|64)\t%zu\n", PAGUNLIT_MAP_WORDS(1 | 64));
     printf("inside PAGUNLIT_SCRATCH_WORDS(1|64)\t%zu\n", PAGUNLIT_SCRATCH_WORDS(1 | 64));
     printf("inside PAGUNLIT_SUMMARY_NUMBERS(1|64)\t%zu\n", PAGUNLIT_SUMMARY_NUMBERS(1 | 64));

@@ -11,6 +11,7 @@
 #define LIMITS const uint32_t *limits
 #define SCRATCH uint64_t *scratch, size_t scratchlen
 #define IMAGE uint8_t *image, size_t imagelen
+#define HELD pagunlit_card *card
 
 #include "pagunlit.h"
 pagunlit_outcome pagunlit_fresh(ROLE, SHAPE, uint32_t blocks, MAP, CATALOGUE);
@@ -48,11 +49,46 @@ pagunlit_outcome pagunlit_close(ROLE, SHAPE, MAP, CATALOGUE, CARD, SCRATCH);
 pagunlit_outcome pagunlit_close_with_summary(ROLE, SHAPE, MAP, SUMMARY, CATALOGUE, CARD, SCRATCH);
 pagunlit_outcome pagunlit_save(ROLE, SHAPE, const MAP, const CATALOGUE, SCRATCH, IMAGE);
 pagunlit_outcome pagunlit_load(ROLE, SHAPE, const IMAGE, MAP, CATALOGUE, SCRATCH);
+
+#include "pagunlit_payload.h"
 pagunlit_count pagunlit_read_count(const uint8_t *payload, size_t payloadlen, uint32_t which);
 uint32_t pagunlit_write_count(uint8_t *payload, size_t payloadlen, uint32_t which, uint32_t hundredths);
 uint32_t pagunlit_write_term(uint8_t *payload, size_t payloadlen, uint32_t first, uint32_t last);
+pagunlit_day pagunlit_day_of_date(uint32_t year, uint32_t month, uint32_t day);
+pagunlit_day pagunlit_day_of_number(uint32_t days);
 uint32_t seal(uint32_t sheet, uint32_t place, const uint8_t *payload, size_t payloadlen, uint8_t *block, size_t blocklen);
 uint32_t check(const uint8_t *block, size_t blocklen);
+
+#include "pagunlit_card.h"
+static inline int pagunlit_card_save_first(const HELD);
+static inline int pagunlit_card_save_before_blocks(const HELD);
+static inline void pagunlit_card_saved(HELD);
+static inline void pagunlit_card_no_limits(HELD);
+static inline pagunlit_outcome pagunlit_card_kept(HELD, pagunlit_outcome outcome, uint32_t to_save);
+static inline pagunlit_outcome pagunlit_card_fresh(HELD, uint32_t blocks);
+static inline pagunlit_outcome pagunlit_card_search(HELD, uint32_t k);
+static inline pagunlit_outcome pagunlit_card_survey(HELD);
+static inline pagunlit_outcome pagunlit_card_reserve(HELD, uint32_t sheet, uint32_t count);
+static inline pagunlit_outcome pagunlit_card_reserve_placed(HELD, uint32_t sheet, uint32_t count, uint32_t from,
+                                                            uint32_t before, uint32_t step);
+static inline pagunlit_outcome pagunlit_card_offer(HELD, uint32_t sheet, uint32_t count);
+static inline pagunlit_outcome pagunlit_card_accept(HELD, uint32_t sheet, uint32_t start, uint32_t count);
+static inline pagunlit_outcome pagunlit_card_grow(HELD, uint32_t sheet, uint32_t count);
+static inline pagunlit_outcome pagunlit_card_put(HELD, uint32_t sheet, uint32_t place, const uint8_t *payload,
+                                                 size_t payloadlen);
+static inline pagunlit_outcome pagunlit_card_complete(HELD, uint32_t sheet);
+static inline pagunlit_outcome pagunlit_card_pause(HELD, uint32_t sheet);
+static inline pagunlit_outcome pagunlit_card_resume(HELD, uint32_t sheet);
+static inline pagunlit_outcome pagunlit_card_release(HELD, uint32_t sheet);
+static inline pagunlit_outcome pagunlit_card_standing(HELD, uint32_t sheet);
+static inline pagunlit_outcome pagunlit_card_show(HELD, uint32_t sheet, uint32_t place, uint8_t *buffer, size_t bufferlen);
+static inline pagunlit_outcome pagunlit_card_show_dated(HELD, uint32_t sheet, uint32_t place, uint32_t year,
+                                                        uint32_t month, uint32_t day, uint8_t *buffer, size_t bufferlen);
+static inline pagunlit_outcome pagunlit_card_summary_build(HELD);
+static inline pagunlit_outcome pagunlit_card_summary_check(HELD);
+static inline pagunlit_outcome pagunlit_card_save(HELD, uint8_t *image, size_t imagelen);
+static inline pagunlit_outcome pagunlit_card_load(HELD, const uint8_t *image, size_t imagelen);
+static inline pagunlit_outcome pagunlit_card_close(HELD);
 
 #include "pagunlit_text.h"
 static inline const char *pagunlit_meaning(uint32_t number);

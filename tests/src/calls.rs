@@ -1,4 +1,21 @@
-//! The examples of the calls: a line for each call, and for each change that no call makes.
+//! The worked examples of the calls: a list with a line for each call and for each change that no call makes
+//! (tests/examples/calls.list), and what comes of each (tests/examples/calls.outcomes). In a line of the outcomes:
+//! ```text
+//!     reserve 0 5       the call: sheet, then k, m or the place, then for a payload its first byte and its length, and for a
+//!                       show buffer its length; for fresh n; for reserve-placed sheet, k, from, before and step;
+//!                       for show-dated sheet, place, year, month and day; for put-term, a put whose payload starts with the
+//!                       two days of a term, sheet, place, first and last day; for close how many words of the scratch are lent
+//!     : 0 12            document 01's number of the answer and its values; 0 is a call that was not refused
+//!     ; 70 65 ..        n, the free count, and the digests of map, catalogue and card, and for show of its buffer, for close
+//!                       of its scratch; for summary-build and summary-check then the numbers of group 0, and the digest of
+//!                       all numbers
+//! ```
+//!
+//! A call whose word begins with summary- is lent the summary; summary-placed is reserve-placed. A line with + is no call: it
+//! sets how many words, entries and bytes are lent (+lend), how many numbers of the summary (+summary), n and the free count
+//! (+shape), an entry (+entry), the two halves of a word of the map (+word), a number of the summary (+number), other bits of a
+//! byte of the card (+byte), or for the calls that follow the eight limits of the wings (+limits), which are n before that, or
+//! the role of who makes them (+role), which is 1 before that. A line with = is a heading.
 
 mod closing_calls;
 mod dated_calls;
@@ -18,10 +35,35 @@ mod wing_calls;
 
 use crate::call::Kind;
 use crate::random::Random;
+pub(crate) use store::by_card;
+pub use store::Caller;
 use store::Store;
 
+/// What comes of each line of a list, by who makes the calls.
+pub fn outcomes(list: &str, caller: Caller) -> String {
+    let store = &mut Store::new(caller);
+    list.lines()
+        .map(|line| match line.starts_with('=') {
+            true => format!("{line}\n"),
+            false => store.line(line),
+        })
+        .collect()
+}
+
+/// The list of the examples: their outcomes, without what came of each line.
+pub fn list() -> String {
+    examples()
+        .lines()
+        .map(|line| match line.find([':', ';']) {
+            Some(end) if !line.starts_with('=') => format!("{}\n", &line[..end]),
+            _ => format!("{line}\n"),
+        })
+        .collect()
+}
+
+/// The outcomes of the examples, worked out block by block and byte by byte.
 pub fn examples() -> String {
-    let store = &mut Store::new();
+    let store = &mut Store::new(by_card);
     let mut text = sections(store, first().into_iter().chain(lists()).chain(last()));
     text += &random(store);
     text += &sections(store, with_summary());

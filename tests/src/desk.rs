@@ -21,6 +21,9 @@ struct Script {
     c: usize,
     limits: Limits,
     role: u32,
+    /// As it was when an image was saved, until a release, a closing or a fresh is accepted: after these the card may hold
+    /// something else where that image has a sheet.
+    saved: Option<Ledger>,
     text: String,
 }
 
@@ -34,6 +37,7 @@ pub fn script(seed: u64) -> String {
         c,
         limits: LARGEST,
         role: PHARMACIST,
+        saved: None,
         text: format!("fresh {n} {c}\nexpect 0 0 0 0\n"),
         random,
     };
@@ -61,6 +65,7 @@ impl Script {
             1 => self.search(),
             2 => self.save_and_load(),
             3 => self.summary(),
+            5 | 6 => self.cut(),
             4 => self.fresh(),
             _ => self.list_call(),
         }
@@ -123,6 +128,7 @@ impl Script {
         }
         if answer == Done {
             self.ledger = Ledger::fresh(self.n, self.c);
+            self.saved = None;
         }
         let expected = expect(&answer);
         writeln!(self.text, "fresh {} {}\n{expected}", self.n, self.c).unwrap();
@@ -133,8 +139,28 @@ impl Script {
         let saved = self.answered("save", Done);
         writeln!(self.text, "save\n{}", expect(&saved)).unwrap();
         if saved == Done {
-            writeln!(self.text, "load\n{}", expect(&Done)).unwrap();
+            self.saved = Some(self.ledger.clone());
+            if self.random.chance(1, 2) {
+                writeln!(self.text, "load\n{}", expect(&Done)).unwrap();
+            }
         }
+    }
+
+    /// The power is cut. Where all is saved before, all stays as it is. Otherwise the sheets are those that were saved, and
+    /// what was put since to a sheet that was Open then is still there.
+    fn cut(&mut self) {
+        let saved = match (self.saved.take(), may(self.role, "save")) {
+            (Some(saved), _) => saved,
+            (None, true) => {
+                writeln!(self.text, "save\n{}", expect(&Done)).unwrap();
+                self.ledger.clone()
+            }
+            (None, false) => return,
+        };
+        let held = |sheet, place| self.ledger.payload(sheet, place).cloned();
+        self.ledger = Ledger::cut(&saved, held);
+        self.saved = Some(self.ledger.clone());
+        writeln!(self.text, "cut\n{}", expect(&Done)).unwrap();
     }
 
     /// A call of a list.
@@ -153,6 +179,9 @@ impl Script {
             line_of(call, &text)
         };
         let answer = self.ledger.call(call, &mut slice).unwrap();
+        if answer == Done && [Kind::Release, Kind::Close].contains(&kind) {
+            self.saved = None;
+        }
         self.text += &format!("{line}\n{}\n", expect(&answer));
         let from = match kind {
             Kind::Show => Some(0),

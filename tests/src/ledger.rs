@@ -30,6 +30,7 @@ pub enum Sheet {
     Complete(Course),
 }
 
+#[derive(Clone)]
 pub struct Ledger {
     n: usize,
     sheets: Vec<Sheet>,
@@ -53,6 +54,14 @@ impl Ledger {
     }
 
     // What the ledger says of a card.
+
+    pub fn block_count(&self) -> usize {
+        self.n
+    }
+
+    pub fn sheet_count(&self) -> usize {
+        self.sheets.len()
+    }
 
     /// The blocks that a sheet covers, as a start and a number of places.
     fn extent(&self, sheet: usize) -> (usize, usize) {
@@ -103,7 +112,7 @@ impl Ledger {
     }
 
     /// The payload of a place, unless it is blank.
-    fn payload(&self, sheet: usize, place: usize) -> Option<&Payload> {
+    pub fn payload(&self, sheet: usize, place: usize) -> Option<&Payload> {
         match &self.sheets[sheet] {
             Sheet::Absent | Sheet::Paused(None) => None,
             Sheet::Open { places, .. } => places[place].as_ref(),
@@ -117,6 +126,18 @@ impl Ledger {
             None => vec![0; 512],
             Some(payload) => sealed(sheet as u32, place as u32, payload),
         }
+    }
+
+    /// What the ledger has to be after a power cut, in which the image is loaded that was saved when it was `saved`. What an
+    /// Open sheet of that image holds is what `place` says of each of its places: nobody else knows what was written since.
+    pub fn cut(saved: &Ledger, place: impl Fn(usize, usize) -> Option<Payload>) -> Ledger {
+        let mut ledger = saved.clone();
+        for (sheet, stands) in ledger.sheets.iter_mut().enumerate() {
+            if let Sheet::Open { places, .. } = stands {
+                *places = (0..places.len()).map(|p| place(sheet, p)).collect();
+            }
+        }
+        ledger
     }
 
     // The calls: the rows that hold for them in their order, then the change.

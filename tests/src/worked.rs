@@ -2,7 +2,7 @@
 //! own figures are of a fresh card of 64 blocks, where n is the free count, start is length and all bits of a word are ones.
 
 use crate::blocks::{to_words, words_of};
-use crate::card::{entry, Card};
+use crate::card::{entry, sealed, Card};
 use crate::image::{body_of, image_of};
 use crate::printer;
 use std::fmt::Display;
@@ -51,6 +51,24 @@ pub fn longest() -> Vec<u8> {
         start += length + (sheet >= 680) as usize;
     }
     image_of(&body_of(&card_of(262144, &sheets)))
+}
+
+/// The sums of a sealed block whose 496 bytes of payload are all 255, of the last sheet and the last place that there can be,
+/// as definitions: both pass 65,521, where document 01's own figures stay below it.
+pub fn sums() -> String {
+    let (sheet, place, byte) = (1023, 262143, 255);
+    let block = sealed(sheet, place, &[byte; 496]);
+    let stored = |at: usize| u32::from_be_bytes(block[at..at + 4].try_into().expect("four bytes"));
+    let mut file = "-- A worked block whose sums A and B pass 65,521, as the program in tests/ works them out: \
+                    `worked-sums` there writes this\n-- file, and the gate compares.\n-- Assumes nothing.\n\
+                    use Prim.Native.Nat.{ℕ}\n"
+        .to_string();
+    number(&mut file, "worked-sheet", "its sheet", sheet);
+    number(&mut file, "worked-place", "its place", place);
+    number(&mut file, "worked-byte", "each byte of its payload", byte);
+    number(&mut file, "worked-A", "A", stored(504));
+    number(&mut file, "worked-B", "B", stored(508));
+    file
 }
 
 /// Defines a number.

@@ -1,9 +1,10 @@
-"""What a customer must believe: README.md's table has every file of specs/ that the files in it are stated with."""
+"""What a customer must believe: docs/SPECIFICATION.md lists every file of specs/ that those in it are stated with."""
 import re
 
-from cited.groups import README, section
+from cited.groups import section
 
-HEADING = '## What a customer must believe'
+SPECIFICATION = 'docs/SPECIFICATION.md'
+HEADING = '## All files'
 USE = re.compile(r'Rattle·(\w+?)(?:·specs)?\.specs\.(\w+)(?:\.\{([^}]*)\})?')
 PUBLIC = re.compile(r'(?ms)^ *pub (?:extern "C" )?fn .*?^ *\{$')
 
@@ -25,12 +26,12 @@ def stated_with(path, text):
 
 
 def believed(sources):
-    rows = [(number, line.split('|')[1].strip()) for number, line in section(sources.text(README), HEADING)
+    rows = [(number, line.split('|')[1].strip()) for number, line in section(sources.text(SPECIFICATION), HEADING)
             if line.startswith('| crates/')]
     listed = {path for _, path in rows}
-    wrong = [] if rows else [(README, 1, f'no table under "{HEADING}"')]
+    wrong = [] if rows else [(SPECIFICATION, 1, f'no table under "{HEADING}"')]
     for number, path in rows:
         if path in sources.all:
             for used in sorted(stated_with(path, sources.text(path)) - listed):
-                wrong.append((README, number, f'{path} is stated with {used}, which the table lacks'))
+                wrong.append((SPECIFICATION, number, f'{path} is stated with {used}, which the table lacks'))
     return wrong

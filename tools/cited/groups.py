@@ -1,21 +1,22 @@
-"""The numbers of docs/DECISIONS.md, and the groups of crates in README.md and crates.txt."""
+"""The numbers of the decisions, and the groups of crates in docs/ARCHITECTURE.md and crates.txt."""
 import re
 
-DECISIONS = 'docs/DECISIONS.md'
-README = 'README.md'
+DECISIONS = ('docs/DECISIONS.md', 'docs/DECISIONS-02.md')
+ARCHITECTURE = 'docs/ARCHITECTURE.md'
 CRATES = 'crates.txt'
 
 
 def points(sources):
-    """the points are 1, 2, 3 and on, and no other is cited"""
+    """the points are 1, 2, 3 and on, over both pages, and no other is cited"""
     found, cited = [], []
-    for number, line in enumerate(sources.text(DECISIONS).split('\n'), 1):
-        m = re.match(r'(\d+)\. ', line)
-        if m:
-            found.append((int(m.group(1)), number))
-        cited += [(int(n), number) for n in re.findall(r'\bpoint\s+(\d+)', line)]
-    wrong = [(DECISIONS, line, f'point {n} stands in place {i}') for i, (n, line) in enumerate(found, 1) if n != i]
-    return wrong[:1] + [(DECISIONS, line, f'no point {n}') for n, line in cited if not 1 <= n <= len(found)]
+    for path in DECISIONS:
+        for number, line in enumerate(sources.text(path).split('\n'), 1):
+            m = re.match(r'(\d+)\. ', line)
+            if m:
+                found.append((int(m.group(1)), path, number))
+            cited += [(int(n), path, number) for n in re.findall(r'\bpoint\s+(\d+)', line)]
+    wrong = [(path, line, f'point {n} stands in place {i}') for i, (n, path, line) in enumerate(found, 1) if n != i]
+    return wrong[:1] + [(path, line, f'no point {n}') for n, path, line in cited if not 1 <= n <= len(found)]
 
 
 def section(text, heading):
@@ -29,9 +30,9 @@ def section(text, heading):
     return rest[:ends[0]] if ends else rest
 
 
-def in_readme(sources):
+def in_layout(sources):
     found = []
-    for number, line in section(sources.text(README), '## Layout'):
+    for number, line in section(sources.text(ARCHITECTURE), '## Layout'):
         group = re.match(r'\s+(\w+): (.+)$', line)
         crate = re.match(r'\s+crates/(\w+)\s', line)
         if crate and found:
@@ -56,14 +57,14 @@ def in_crates(sources):
 
 
 def groups(sources):
-    readme, crates = in_readme(sources), in_crates(sources)
+    layout, crates = in_layout(sources), in_crates(sources)
     wrong = []
-    for (name, here, line), (listed, there, number) in zip(readme, crates):
+    for (name, here, line), (listed, there, number) in zip(layout, crates):
         if name != listed:
-            wrong.append((README, line, f'the group "{name}" is "{listed}" in {CRATES}, line {number}'))
+            wrong.append((ARCHITECTURE, line, f'the group "{name}" is "{listed}" in {CRATES}, line {number}'))
         elif here != there:
             apart = ', '.join(sorted(set(here) ^ set(there))) or 'their order'
-            wrong.append((README, line, f'the group "{name}" differs from {CRATES}, line {number}: {apart}'))
-    if len(readme) != len(crates):
-        wrong.append((README, 1, f'the layout has {len(readme)} groups and {CRATES} {len(crates)}'))
+            wrong.append((ARCHITECTURE, line, f'the group "{name}" differs from {CRATES}, line {number}: {apart}'))
+    if len(layout) != len(crates):
+        wrong.append((ARCHITECTURE, 1, f'the layout has {len(layout)} groups and {CRATES} {len(crates)}'))
     return wrong

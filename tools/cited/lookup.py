@@ -3,6 +3,8 @@ import fnmatch
 import os
 import re
 
+from cited.promises import COLUMN, WHY
+
 # words and dots, with or without slashes between them; a star or a part in capitals stands for any
 TOKEN = re.compile(r'(?<![\w./*-])(?:\.?[\w*-]+(?:\.[\w*-]+)*/?)(?:/?[\w*.-]+)*/?')
 ENDINGS = ('.rt', '.antt', '.rs', '.c', '.h', '.py', '.md', '.txt', '.toml', '.edit', '.a')
@@ -42,7 +44,7 @@ class Lookup:
         self.paths = self.names = self.edits = 0
 
     def block(self, block):
-        if block.heading == 'Must-fail edit':
+        if block.heading == COLUMN and not block.text.startswith(WHY):
             yield from self.edit_column(block)
             return
         named = set(re.findall(r'crates/(\w+)', block.text)) & self.sources.crates

@@ -31,6 +31,25 @@ def comments(path, text):
         yield Block(path, 1 + text.count('\n', 0, m.start()), re.sub(r'(?m)^ \* ?', lambda s: ' ' * len(s.group()), m.group()))
 
 
+# The notes of changes: each is of its own commit, and names what there was then. The newest is the last of NEWEST.
+NOTES = re.compile(r'docs/CHANGES[\w-]*\.md')
+NEWEST = 'docs/CHANGES.md'
+BEFORE = 'Before'
+
+
+def is_of_before(block):
+    """whether a block is of an older note of the changes, or in a column of names that were before"""
+    return block.heading.startswith(BEFORE) or bool(NOTES.fullmatch(block.path)) and block.first < newest(block.path)
+
+
+def newest(path):
+    """the line at which the newest note begins; of another file than NEWEST no line is"""
+    if path != NEWEST:
+        return float('inf')
+    with open(path, encoding='utf-8') as f:
+        return max(number for number, line in enumerate(f, 1) if line.startswith('## '))
+
+
 def blocks(path, text):
     if path.endswith('.h'):
         yield from comments(path, text)

@@ -4,14 +4,15 @@
     let outcome = call(.., &mut all[..c], ..);      let outcome = call(.., &all[..c], ..);
     last(outcome, all)                              last(outcome, all)
 
-The array is a parameter by value, and c another; the function requires that c is at most the array's length. Of its callees
-the walk uses nothing but that they are safe: what they ensure is a parameter of the module. The function ensures nothing."""
+The array is a parameter by value, and c another; the function requires that c is at most the array's length. What each callee
+ensures is a proposition of its parameters, its result and what it leaves: a parameter of the module. The function ensures what
+follows from the two by a law."""
 import re
 
 from walk.call import Arg, Call, argument, copy
 from walk.module import Walk
 from walk.naming import check_name
-from walk.text import HERE, Steps, arrows, cons, paragraphs, signature, spaced, subscript
+from walk.text import HERE, Steps, arrows, at_entry, at_exit, cons, indented, nest, paragraphs, signature, spaced, subscript
 from walk.types import Type, Value
 from walk.wrong import Wrong, at
 
@@ -53,53 +54,52 @@ class Part:
         return f'fat fullShare {self.array.type.mir} {self.block} 0 (only ({self.array.type.vals} {elements}))'
 
 
-class Silent(Call):
-    """A call of which nothing is used but that it is safe."""
+class Told(Call):
+    """A call of which a proposition is told: of what it takes, what it gives, and what it leaves."""
+    modelled = 'what it says of what it takes, gives and leaves'
 
     def __init__(self, role, args, result):
         super().__init__(role, args, result)
-        self.gives, self.leaves, self.models = [], [], []
-        self.meant = f'({self.label}-contract 𝓤 H A {self.label}-ensures)'
+        self.gives, self.leaves, self.models = [], [], [f'{self.label}-says']
+        self.meant = f'({self.label}-contract {self.label}-says 𝓤 H A)'
+
+    def model_params(self):
+        of = arrows(a.of.speaks for a in self.args) + f'{self.result.denotes} → ' + arrows(a.of.speaks for a in self.muts)
+        return f' ({self.label}-says : {of}Type 0)'
 
     def contract(self):
         l = self.label
-        kept = ''.join('(yes, ' for _ in self.args) + 'tt' + ')' * len(self.args)
         return f'''-- ---- what `{l}` is
 abbrev {l}-signature : Signature
 {l}-signature = {signature(self.slices, self.slots(), self.result)}
 
 abbrev {l}-ended : Ended
-{l}-ended = record {{ signature = {l}-signature; kept = {kept} }}
+{l}-ended = record {{ signature = {l}-signature; kept = {nest(['yes'] * len(self.args))} }}
 
-module _ {{M : Type 1}} (𝓤 : URA M) where
-  abbrev {l}-Ensures : Type 2
-  {l}-Ensures = (κs : Lfts {len(self.slices)}) → Args {l}-signature κs → Res {l}-signature κs → AtExit {l}-ended κs → SProp 𝓤
+module _{self.model_params()} where
+  module _ {{M : Type 1}} (𝓤 : URA M) where
+    abbrev {l}-clauses : Clauses 𝓤 {l}-ended
+    {l}-clauses κs a = record {{
+      ghost = Unit {{0}};
+      requires = λ _. emp 𝓤;
+      ensures = λ _ r e. fact 𝓤 ({l}-says{at_entry(self.args)} r{at_exit(self.args)});
+    }}
 
-  abbrev {l}-clauses : {l}-Ensures → Clauses 𝓤 {l}-ended
-  {l}-clauses E κs a = record {{ ghost = Unit {{0}}; requires = λ _. emp 𝓤; ensures = λ _ r e. E κs a r e }}
-
-  module _ (H : Heap 𝓤) (A : Atoms 𝓤) where
-    abbrev pub {l}-contract : {l}-Ensures → Contract 𝓤
-    {l}-contract E = tripleOf 𝓤 H A {l}-signature (closing 𝓤 H A {l}-ended ({l}-clauses E))
+    module _ (H : Heap 𝓤) (A : Atoms 𝓤) where
+      abbrev pub {l}-contract : Contract 𝓤
+      {l}-contract = tripleOf 𝓤 H A {l}-signature (closing 𝓤 H A {l}-ended {l}-clauses)
 '''
 
-    def clauses(self):
-        return f'({self.label}-clauses 𝓤 {self.label}-ensures)'
-
-    def ensured(self):
-        """in the proof of a function: what the callee ensures"""
-        return f'(λ κs a r e. {self.label}-said.clauses 𝓤 H (𝓖 .A) (𝓜 .mem) (𝓡 .run) κs a .ensures tt r e)'
-
-    def stated(self, words):
-        return f'({self.label}-contract{spaced(words)} 𝓤 H (𝓖 .A) {self.ensured()})'
-
     def hears(self, steps, elements, args, r, zs, lists):
-        l, κs = self.label, self.lifetimes()
-        said = f'raw ({l}-ensures {κs} {args} {r} (atExit {l}-ended {κs} {args} {zs}))'
-        steps.say(f'use1 W (some (λ ({zs} : {lists}). ‵ (lasts {l}-ended {κs} {args} {zs}) ⊛ {said})) (id⊢ 𝓤 _)')
+        l = self.label
+        words = spaced([elements(a) for a in self.args] + [r] + [self.last(a) for a in self.muts])
+        said, at_last = f'{l}-says{words}', f'lasts {l}-ended {self.lifetimes()} {args} {zs}'
+        steps.say(f'use1 W (some (λ ({zs} : {lists}). ‵ ({at_last}) ⊛ raw (fact 𝓤 ({said})))) (id⊢ 𝓤 _)')
         steps.under('pick !', zs)
         steps.take('split !', 1, 'lasts', 'ensures')
-        steps.drop('ensures')
+        steps.front('ensures')
+        steps.under(f'heard ! ({said})', 'e-' + l)
+        steps.items.remove('ensures')
 
     # ---- the part of the array
 
@@ -181,13 +181,11 @@ class LentArray(Walk):
         self.given = Value(second[1], at(lines[1], lambda: Type(second[2], section.structs)))
         self.all = Value(first[1], array.type)
         self.given.machine, self.all.machine = 'm-' + self.given.var, f'only ({array.type.vals} {self.all.var})'
-        self.call = Silent(second[3], args, self.given.type)
-        self.final = Silent(third[1], [Arg(self.given), Arg(self.all)], result)
+        self.call = Told(second[3], args, self.given.type)
+        self.final = Told(third[1], [Arg(self.given), Arg(self.all)], result)
         super().__init__(section, name, params, result, [self.call, self.final])
         check_name(self, lent[0])
         self.requires = lambda args: f'{args[params.index(self.part.count)]} ≤ {array.type.count}'
-        self.over = ''.join(f' ({c.label}-ensures : {c.label}-Ensures 𝓤)' for c in self.callees)
-        self.over_all = spaced(c.label + '-ensures' for c in self.callees)
         self.lay_out()
 
     def parse(self):
@@ -214,8 +212,8 @@ class LentArray(Walk):
         return Arg(Part(part[2], array, values[part[3]], section.structs), not part[1])
 
     def wants(self):
-        """what `prove` takes besides the callees: nothing"""
-        return []
+        """what `prove` takes besides the callees"""
+        return ['the definition of what the contract says', 'the law that what the calls say comes to it']
 
     def lay_out(self):
         """the locals in the compiler's order: the result, the parameters, the lets, then temporaries as they come"""
@@ -237,16 +235,32 @@ class LentArray(Walk):
         free = [(self.given.var, self.given.denotes), (self.given.machine, 'Val'), (self.all.var, self.all.denotes)]
         asks = [self.call.asks(of, [(p.block, 'ℕ')]), self.final.asks(of, free)]
         p.block = f'l{subscript(self.places[p.var])}'
-        body = paragraphs([self.signature(), self.in_order()] + [c.contract() for c in self.callees]
-                          + [f'module _ ({self.keys} : Name) where\n' + self.clauses(), self.in_hand(), self.lent_part()]
-                          + asks + [self.exits(), self.walk(), self.theorem()])
-        served = ('One walk serves every choice of the callees: it takes their names and what they ensure,'
-                  ' and uses nothing of that.')
+        walked = [indented(x) for x in [self.clauses(), self.in_hand(), self.lent_part()] + asks
+                  + [self.exits(), self.walk(), self.theorem()]]
+        over = ''.join(c.model_params() for c in self.callees)
+        walked[0] = f'module _ ({self.keys} : Name){over} where\n{self.law()}{walked[0]}'
+        body = paragraphs([self.signature(), self.in_order()] + [c.contract() for c in self.callees] + walked)
+        served = 'One walk serves every choice of the callees: it takes their names and what they say.'
         return self.page(served, body)
+
+    def law(self):
+        """what the function ensures, and the law that it follows from what the calls say"""
+        p, c, f = self.part, self.call, self.final
+        left = {a.of.var: 'y-' + a.of.var for a in c.muts}
+        takes = ''.join(f' ({q.var} : {q.speaks})' for q in self.params) + f' ({self.given.var} : {self.given.denotes})'
+        takes += ''.join(f' ({left[a.of.var]} : {a.of.speaks})' for a in c.muts) + f' (r : {self.result.denotes})'
+        told = spaced([p.elements if a.of is p else a.of.var for a in c.args] + [self.given.var] + list(left.values()))
+        all = f'({left[p.var]} ++ drop-list {p.count.var} {p.array.var})' if p.var in left else p.array.var
+        says = spaced([q.var for q in self.params] + ['r'] + [left.get(q.var, q.var) for q in self.muts])
+        of = f'{arrows(q.speaks for q in self.params)}{self.result.denotes} → {arrows(q.speaks for q in self.muts)}Type 0'
+        return f'''  -- ---- what the function ensures: what follows from what the calls say
+  module _ (Says : {of})
+      (law :{takes} → {c.label}-says{told} → {f.label}-says {self.given.var} {all} r → Says{says}) where
+'''
 
     def clauses(self):
         asked = self.requires([f'(a{" .1" * i} .0)' for i in range(len(self.params))])
-        return self.clauses_of(f'fact 𝓤 ({asked})', 'emp 𝓤')
+        return self.clauses_of(f'fact 𝓤 ({asked})', f'fact 𝓤 (Says{at_entry(self.params)} r{at_exit(self.params)})')
 
     def lent_part(self):
         p = self.part
@@ -262,18 +276,19 @@ class LentArray(Walk):
 '''
 
     def exits(self):
-        """the walk's end: what is in hand is what the contract says, whatever the call gave and left"""
+        """the walk's end: what is in hand is what the contract says, if what the call gave and left is"""
         t, lists = self.result, {p.var: 'z-' + p.var for p in self.muts}
         items = cons(x for p in self.slices for x in p.left(lists))
         self.left = [x for p in self.slices for x in ('o' + p.var, 't' + p.var)]
         lasts = [lists[p.var] if p.slice == 'mut' else 'tt' for p in self.params]
         lengths = ['l-' + p.var if p.slice == 'mut' else 'tt' for p in self.params]
-        ending = self.ends(Steps(self.left), 'w', 'r', t.owns('r', 'is'), lasts, lengths, None)
+        ending = self.ends(Steps(self.left), 'w', 'r', t.owns('r', 'is'), lasts, lengths, 'said')
+        said = spaced([q.now for q in self.params] + ['r'] + [lists[q.var] for q in self.muts])
         binders = f'(r : {t.denotes}) (w : Val)' + ''.join(f' ({lists[p.var]} : {p.speaks})' for p in self.muts)
         as_long = arrows(f'length {lists[p.var]} ≡ length (now {p.var})' for p in self.muts)
         return f'''    -- ---- the exit
-    exits : {binders} → Is {t.row} r (w ∷ []) → {as_long}ent 𝓤 (⋆ 𝓤 H A ({items})) (Post w)
-    exits r w{spaced(lists.values())} is{spaced('l-' + p.var for p in self.muts)} =
+    exits : {binders} → Is {t.row} r (w ∷ []) → {as_long}Says{said} → ent 𝓤 (⋆ 𝓤 H A ({items})) (Post w)
+    exits r w{spaced(lists.values())} is{spaced('l-' + p.var for p in self.muts)} said =
         qed W ({items}) ∵
         {ending}
 '''
@@ -298,7 +313,7 @@ class LentArray(Walk):
         typed = f'({t.typed} {p.now} _ {p.is_now} .0)'
         steps.assign(self.places[self.all.var], f'of-opd ! {steps.load(self.places[p.var])}', typed)
         told = {self.given.var: f'is-{w}', self.all.var: p.is_now}
-        w2, r2, _ = f.perform(steps, of, told, [r, w, p.now])
+        w2, r2, _ = f.perform(steps, lambda a: r if a.of is self.given else p.now, told, [r, w, p.now])
         self.lands(steps, f, w2, r2, 0)
         f.come_back(steps, of, lengths, {}, {})
         steps.say(f'returns ! (look ! {steps.place(0)} refl)')
@@ -310,7 +325,9 @@ class LentArray(Walk):
         assert steps.items == self.left, steps.items
         known = ' '.join('known-' + c.label for c in self.callees)
         lists = [left.get(q.var, f'(now {q.var})') for q in self.muts]
-        end = f"by ! (exits {r2} {w2}{spaced(lists)} is-{w2}{spaced(longer.get(q.var, 'refl') for q in self.muts)})"
+        lasts = [r] + [c.last(a) for a in c.muts] + [r2, f'e-{c.label}', f'e-{f.label}']
+        said = f'(law{spaced([q.now for q in self.params] + lasts)})'
+        end = f"by ! (exits {r2} {w2}{spaced(lists)} is-{w2}{spaced(longer.get(q.var, 'refl') for q in self.muts)} {said})"
         return f'''    -- ---- the walk
     walk : {self.walk_type()}
     walk 𝓣 {known} =

@@ -36,6 +36,7 @@ def argument(word, values):
 
 class Call:
     """What the callee gives, and what each of its `&mut` slices has at last, are parameters of the module: the models."""
+    modelled = 'what it gives, if anything, and what it leaves in each `&mut` slice'
 
     def __init__(self, role, args, result):
         self.role, self.label, self.args, self.result = role, role.replace('_', '-'), args, result

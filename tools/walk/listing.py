@@ -3,16 +3,18 @@
     crate NAME                        the first line: the lines after it are about this crate
     struct [CRATE::]PATH FIELD ..     a struct that is passed by value or in a slice; its fields, if a loop ends on one
     value NAME ..                     in a crate of walks: any type by value, for which a `prove` puts the struct of this name
-    use MODULE NAME ..                a module of antt that has these definitions
+    use MODULE NAME ..                a module of antt that has these definitions; NAME=OTHER brings NAME in under another name
     fn [CRATE::]PATH DEFINITION ..    a callee: what it gives, if anything, and what it leaves in each `&mut` slice, each of its
-                                      parameters in order; F(D) is the definition D, whose arguments F puts in that order
+                                      parameters in order; F(D) is the definition D, whose arguments F puts in that order,
+                                      and F(E,D) the same where F takes E first; D.FIELD is a field of what D gives. Of a walk
+                                      of a call on a part of an array: the one proposition that it ensures
     walk NAME(PARAMS) [-> RESULT]     a walk module; the indented lines after it are its code, with a type at each let. `by law`
                                       at the end of the line: its functions' contracts follow from what its calls come to
     by CRATE::NAME                    the walk module of another crate; the `prove` lines after it are by it
     prove FUNCTION ROLE=FN .. LAW ..  a function that has this code: which fn a callee of the walk is, where it is not
                                       the one of its name; for a loop also what it gives and leaves, with the laws of that;
-                                      for a chain whose contract follows from what its calls come to, the definition of
-                                      what it says, which may be an F(D), and the law
+                                      for a chain whose contract follows from what its calls come to, and for a call on a
+                                      part of an array, the definition of what it says, which may be an F(D), and the law
 
 A line that ends with a comma goes on in the next; what follows a `#` is a remark. The lists are read in the order of
 crates.txt, so that a walk is declared before a `by` names it."""
@@ -21,6 +23,7 @@ import re
 from walk.array import LentArray
 from walk.chain import Chain
 from walk.loop import Loop
+from walk.part import Part
 from walk.proof import Proof
 from walk.rounds import Rounds
 from walk.types import Type, parameters
@@ -30,8 +33,8 @@ WORDS = 'crate', 'struct', 'value', 'use', 'fn', 'walk', 'by', 'prove'
 
 
 def applied(word):
-    """F(D) as antt has it"""
-    return re.sub(r'(\w+)\((\w+)\)', r'(\1 \2)', word)
+    """F(D) and F(E,D) as antt has them"""
+    return re.sub(r'(\w+)\((\w+(?:,\w+)*)\)', lambda m: f'({m[1]} {m[2].replace(",", " ")})', word)
 
 
 class Section:
@@ -51,7 +54,7 @@ class Section:
             self.structs.update((name, None) for name in rest.split())
         elif word == 'use':
             module, *names = rest.split()
-            self.uses.append((module, names))
+            self.uses.append((module, [tuple(n.partition('=')[::2]) if '=' in n else (n, n) for n in names]))
         elif word == 'fn':
             path, *definitions = rest.split()
             path = path if '::' in path else f'{self.crate}::{path}'
@@ -114,6 +117,8 @@ class Section:
         words = (self, name, parameters(params, self.structs), Type(result or '()', self.structs), code)
         if 'catalogue[i]' in code[0]:
             walk = Loop(*words)
+        elif code[0].startswith('let end: '):
+            walk = Part(*words)
         elif re.fullmatch(r'let (mut )?\w+ = \w+;', code[0]):
             walk = LentArray(*words)
         elif code[0].startswith('while '):

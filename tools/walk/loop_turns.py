@@ -269,11 +269,11 @@ class Turns:
             steps.assign(self.places['v-state'], state, f'(typed-state ({r} .state) {is_state})', 'store')
         return is_state
 
-    def points_at(self, steps, pointer):
+    def points_at(self, steps, pointer, how='store'):
         """the pointer to the entry"""
         v = self.catalogue.var
         fits = 'record { fits = far }'
-        steps.assign(self.number, f'bin ! {steps.load(self.i)} (lit ! tt) ({fits})', f'(tt, {fits})', 'store')
+        steps.assign(self.number, f'bin ! {steps.load(self.i)} (lit ! tt) ({fits})', f'(tt, {fits})', how)
         steps.assign(pointer, f'bin ! {steps.load_field(self.places[v], 0)} {steps.load(self.number)} tt', '(tt, tt)')
         steps.retell(pointer, 'tyPtr', 'p : ℕ', f'(vptr ({v} .ptr .0) p)', f'sym (place-is {SIZE} ({v} .ptr .1) i)')
 
@@ -312,7 +312,7 @@ class Turns:
         self.enters(steps, self.locals, self.places)
         if self.start:
             steps.assign(self.places['v-state'], f'of-opd ! {steps.load(self.places[self.start.var])}', self.start.fits)
-        steps.assign(self.i, 'of-opd ! (lit ! tt)', '(tt, record { fits = lit< tt })')
+        self.sets_out(steps)
         steps.front('o' + v)
         if self.stores:
             steps.take('fsplit !', 1, 'fact', 'both')
@@ -337,7 +337,11 @@ class Turns:
         end = f'first ! $ blocks ! $ loops ! 𝓣 (Less size) (by-size size) (I {at}) (turn-at {at}) at-first'
         return f'''    -- ---- the walk, up to the loop
     walk : {self.walk_type()}
-    walk 𝓣 known-{l} =
+    walk 𝓣{spaced('known-' + c.label for c in self.callees)} =
         {self.entered()}
         {steps.close(end, '        ')}
 '''
+
+    def sets_out(self, steps):
+        """the index before the first turn"""
+        steps.assign(self.i, 'of-opd ! (lit ! tt)', '(tt, record { fits = lit< tt })')

@@ -18,7 +18,7 @@ LIBRARY = {
     'mathlib.Core.Path': '_≡_ refl sym _∙_ ap subst',
     'mathlib.Core.Bool': 'Bool true false cond=choose',
     'mathlib.Core.List': '[] _∷_ List _++_',
-    'Prim.Native.Nat': 'ℕ zero suc _+_ _*_ _<_ _≤_ _^_',
+    'Prim.Native.Nat': 'ℕ zero suc _+_ _-_ _*_ _<_ _≤_ _^_',
     'native.Mathlib.Nat': 'zero-add',
     'native.Mathlib.Omega': 'arith',
     'lib.ListN': 'length getD set take drop=drop-list length-append',

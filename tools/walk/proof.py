@@ -7,6 +7,15 @@ from walk.text import paragraphs
 from walk.wrong import Wrong
 
 
+def projected(model, count):
+    """D.F as antt has it: a field of what the definition D gives, of so many arguments"""
+    name, *fields = model.split('.')
+    if not fields:
+        return model
+    xs = ' '.join(f'x{i}' for i in range(count))
+    return f'(λ {xs}. {name} {xs}{"".join(" ." + f for f in fields)})'
+
+
 class Proof:
     """path: the function, as Shape::pause; chosen: which function a callee of the walk is, if not the one of its name;
     laws: what a loop gives and leaves, with the laws of that; what a chain's contract says, with its law"""
@@ -22,9 +31,11 @@ class Proof:
         for c, function, models in self.callees:
             if len(models) != len(c.models):
                 raise Wrong(f'the fn {function} has {len(models)} definitions, and its call in the walk {walk.name} wants'
-                            f' {len(c.models)}: what it gives, if anything, and what it leaves in each `&mut` slice')
+                            f' {len(c.models)}: {c.modelled}')
+        named = [m for _, _, models in self.callees for m in models] + laws
+        self.names = [name.split('.')[0] for m in named for name in re.findall(r'[^()\s]+', m)]
+        self.callees = [(c, function, [projected(m, len(c.args)) for m in models]) for c, function, models in self.callees]
         self.given = [m for _, _, models in self.callees for m in models] + laws
-        self.names = [name for m in self.given for name in re.findall(r'[^()\s]+', m)]
         self.check_laws(laws)
         # a function that is called twice is brought in once
         self.brought = {}
@@ -37,7 +48,7 @@ class Proof:
         if len(laws) != len(wants):
             raise Wrong(f'`prove` takes {len(wants)} names here and has {len(laws)}'
                         + (f': {", ".join(wants)}' if wants else ''))
-        brought = [n for _, names in self.section.uses for n in names]
+        brought = [n for _, names in self.section.uses for _, n in names]
         for name in self.names:
             if name not in brought:
                 raise Wrong(f'no `use` line of the crate {self.here} has {name}')
@@ -58,7 +69,7 @@ class Proof:
         lines = ['use contract.Running.{givenOf, tables, tablesOf}', 'use denote.Triple.Spec.{tripleOf}',
                  'use denote.Triple.Table.{entered, cited}']
         for module, names in self.section.uses:
-            wanted = [n for n in names if n in self.names]
+            wanted = [n if n == called else f'{n} as {called}' for n, called in names if called in self.names]
             if wanted:
                 lines.append(f'use {module}.{{{", ".join(wanted)}}}')
         if walk.values:

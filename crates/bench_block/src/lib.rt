@@ -11,9 +11,9 @@ use block_seals::BLOCK;
 // Fills k blocks from b on with zeros, and gives 0.
 #[no_mangle]
 pub extern "C" fn bench_zero_blocks(card: &mut [u8], b: u32, k: u32) -> u32
-    ensures { λ r. ⌜ r ≡ cond (leb (512 * (b + k)) (length (now (card .entry)))) 0 3 ⌝ }
-    ensures { λ _. ⌜ now (card .exit) ≡ cond (leb (512 * (b + k)) (length (now (card .entry))))
-        (zeroed (now (card .entry)) b k) (now (card .entry)) ⌝ }
+    ensures { λ r. ⌜ (r ≡ cond (leb (512 * (b + k)) (length (now (card .entry)))) 0 3)
+        × (now (card .exit) ≡ cond (leb (512 * (b + k)) (length (now (card .entry))))
+        (zeroed (now (card .entry)) b k) (now (card .entry))) ⌝ }
 {
     if BLOCK * ((b as usize) + (k as usize)) <= card.len() {
         blocks_of_card::zero_blocks(card, b, k);

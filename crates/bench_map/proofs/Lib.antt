@@ -1,2 +1,3 @@
--- The limits of a map, and what is answered within and outside them.
+-- The limits of a map, and what is answered within and outside them (Limits); the contracts of the functions (Contracts).
 pub mod Limits
+pub mod Contracts

@@ -1,2 +1,3 @@
--- The limits of the figures, and what is answered within and outside them.
+-- The limits of the figures, and what is answered within and outside them (Figures); the contract of the function (Contracts).
 pub mod Figures
+pub mod Contracts

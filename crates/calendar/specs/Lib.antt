@@ -1,3 +1,4 @@
 -- What the contracts of `calendar`, and of crates above it, cite.
 pub mod Calendar
+pub mod Days
 pub mod Term

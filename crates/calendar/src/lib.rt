@@ -1,6 +1,8 @@
 // The calendar of a course's term (document 02, request (m)): dates from 1 January 2000, day 0, to 31 December 2099. Years
 // divisible by 4 in this span are leap years. The term is the two days, first and last, that the payload of place 0 starts
 // with.
+pub mod days;
+
 ghost use mathlib.Core.Path.{_≡_};
 ghost use Prim.Native.Nat.{_≤_};
 ghost use lib.ListN.{length};

@@ -1,6 +1,8 @@
 // Complete: Open becomes Complete if every place is filled.
 ghost use mathlib.Core.Path.{_≡_};
-ghost use Rattle.refusals.specs.Lent.{lent};
+ghost use Rattle.refusals.specs.Lent.{calledBy, lent};
+ghost use Rattle.roles.specs.Roles as names;
+ghost use Rattle.roles.specs.Roles.{turnedAway};
 ghost use Rattle.refusals.specs.Effects.{completeOut};
 use crate::places::Filling;
 use crate::places::look;
@@ -9,13 +11,14 @@ use catalogue::Entry;
 use catalogue_standings::Answer;
 use catalogue_standings::Opened;
 use catalogue_standings::Standing;
-use catalogue_standings::opening::open_on;
+use catalogue_standings::opening::enter_on;
 use catalogue_standings::opening::refused_row;
 use catalogue_standings::opening::row_of;
 use refusals::Out;
 use refusals::refusal;
 
 pub fn complete(
+    role: u32,
     n: u32,
     free: u32,
     map: &[u64],
@@ -24,10 +27,21 @@ pub fn complete(
     entry: Entry,
     sheet: u32,
 ) -> Out
-    ensures { λ r. let q = lent n free (now (map .entry)) (now (card .entry)) c entry sheet in
+    ensures { λ r. let q = calledBy (turnedAway role names.complete) (lent n free (now (map .entry)) (now (card .entry)) c
+        entry sheet) in
         ⌜ r ≡ completeOut q ⌝ }
 {
-    let opened = open_on(n, free, map, card.len(), c, sheet, entry);
+    let opened = enter_on(
+        role,
+        roles::COMPLETE,
+        n,
+        free,
+        map,
+        card.len(),
+        c,
+        sheet,
+        entry,
+    );
     let Opened::Stands(stands) = opened else {
         return refusal(free, entry, refused_row(opened));
     };

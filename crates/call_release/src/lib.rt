@@ -1,6 +1,8 @@
 // Release: any standing but Absent becomes Absent, and its blocks free. The card's bytes stay.
 ghost use mathlib.Core.Path.{_≡_};
-ghost use Rattle.refusals.specs.Lent.{lentBeside, noCard};
+ghost use Rattle.refusals.specs.Lent.{lentBeside, calledBy, noCard};
+ghost use Rattle.roles.specs.Roles as names;
+ghost use Rattle.roles.specs.Roles.{turnedAway};
 ghost use Rattle.refusals.specs.Effects.{releaseOut, releaseMap, releaseSummary};
 use catalogue::ABSENT;
 use catalogue::Entry;
@@ -15,8 +17,11 @@ use refusals::Out;
 use refusals::follow;
 use refusals::guide_fits;
 use refusals::refusal;
+use roles::TURNED_AWAY;
+use roles::turned_away;
 
-pub fn release(
+// Of one who may make the call: the rows behind 21.
+fn release_allowed(
     n: u32,
     free: u32,
     map: &mut [u64],
@@ -55,4 +60,25 @@ pub fn release(
         },
         answer: Answer::Done,
     }
+}
+
+pub fn release(
+    role: u32,
+    n: u32,
+    free: u32,
+    map: &mut [u64],
+    guided: bool,
+    summary: &mut [u32],
+    c: usize,
+    entry: Entry,
+    sheet: u32,
+) -> Out
+    ensures { λ r. let q = calledBy (turnedAway role names.release)
+        (lentBeside guided (now (summary .entry)) n free (now (map .entry)) noCard c entry sheet) in
+        ⌜ (r ≡ releaseOut q) × (now (map .exit) ≡ releaseMap q) × (now (summary .exit) ≡ releaseSummary q) ⌝ }
+{
+    if turned_away(role, roles::RELEASE) {
+        return refusal(free, entry, TURNED_AWAY);
+    }
+    release_allowed(n, free, map, guided, summary, c, entry, sheet)
 }

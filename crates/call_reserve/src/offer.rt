@@ -2,7 +2,9 @@
 ghost use mathlib.Core.Path.{_≡_};
 ghost use mathlib.Core.Bool.{false};
 ghost use mathlib.Core.List.{[]};
-ghost use Rattle.refusals.specs.Lent.{lentWithin};
+ghost use Rattle.refusals.specs.Lent.{lentWithin, calledBy};
+ghost use Rattle.roles.specs.Roles as names;
+ghost use Rattle.roles.specs.Roles.{turnedAway};
 ghost use Rattle.refusals.specs.Effects.{offerAnswer};
 use catalogue::Entry;
 use catalogue_standings::Answer;
@@ -11,6 +13,7 @@ use refusals_rulings::Ruling;
 use refusals_rulings::reserve_ruling;
 
 pub fn offer(
+    role: u32,
     n: u32,
     free: u32,
     map: &[u64],
@@ -22,8 +25,9 @@ pub fn offer(
     limits: &[u32; 8],
     k: u32,
 ) -> Answer
-    ensures { λ r. let q = lentWithin held (now (limits .entry)) false [] n free (now (map .entry)) (now (card .entry)) c entry
-        sheet in
+    ensures { λ r. let q = calledBy (turnedAway role names.offer) (lentWithin held (now (limits .entry)) false [] n free (now
+        (map .entry)) (now (card .entry)) c entry
+        sheet) in
         ⌜ r ≡ offerAnswer q k ⌝ }
 {
     let figures = Figures {
@@ -33,6 +37,8 @@ pub fn offer(
     };
     let none = [0u32; 0];
     match reserve_ruling(
+        role,
+        roles::OFFER,
         n,
         free,
         map,

@@ -1,6 +1,8 @@
 // Reserve: Absent becomes Open at the least fit within the figures.
 ghost use mathlib.Core.Path.{_≡_};
-ghost use Rattle.refusals.specs.Lent.{lentWithin};
+ghost use Rattle.refusals.specs.Lent.{lentWithin, calledBy};
+ghost use Rattle.roles.specs.Roles as names;
+ghost use Rattle.roles.specs.Roles.{turnedAway};
 ghost use Rattle.refusals.specs.Placement.{placed};
 ghost use Rattle.refusals.specs.Effects.{reserveOut, reserveMap, reserveSummary, reserveCard};
 use call_take::take;
@@ -12,6 +14,7 @@ use refusals_rulings::Ruling;
 use refusals_rulings::reserve_ruling;
 
 pub fn reserve(
+    role: u32,
     n: u32,
     free: u32,
     map: &mut [u64],
@@ -26,14 +29,17 @@ pub fn reserve(
     k: u32,
     figures: Figures,
 ) -> Out
-    ensures { λ r. let q = lentWithin held (now (limits .entry)) guided (now (summary .entry)) n free (now (map .entry))
-        (now (card .entry)) c entry sheet in
+    ensures { λ r. let q = calledBy (turnedAway role names.reserve) (lentWithin held (now (limits .entry)) guided (now (summary
+        .entry)) n free (now (map .entry))
+        (now (card .entry)) c entry sheet) in
         ⌜ (r ≡ reserveOut q k (placed figures))
         × (now (map .exit) ≡ reserveMap q k (placed figures))
         × (now (summary .exit) ≡ reserveSummary q k (placed figures))
         × (now (card .exit) ≡ reserveCard q k (placed figures)) ⌝ }
 {
     match reserve_ruling(
+        role,
+        roles::RESERVE,
         n,
         free,
         map,

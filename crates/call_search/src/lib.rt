@@ -1,21 +1,24 @@
 // The calls on the whole card, which are lent no entry: search, survey and fresh.
 ghost use mathlib.Core.Path.{_≡_};
-ghost use mathlib.Core.Bool.{cond};
-ghost use lib.ListN.{length};
-ghost use Rattle.map_blocks.specs.Maps.{freshMap};
-ghost use Rattle.catalogue_standings.specs.Limits.{freshFits};
-ghost use Rattle.call_search.specs.Answers.{searchAnswer, surveyAnswer};
+ghost use Rattle.roles.specs.Roles as names;
+ghost use Rattle.roles.specs.Roles.{turnedAway};
+ghost use Rattle.call_search.specs.Answers.{searchAnswer, surveyAnswer, freshNumber, freshMap};
 use catalogue_standings::Answer;
 use catalogue_standings::opening::shape_fits;
 use catalogue_standings::opening::sheets_fit;
 use map_blocks::Found;
 use map_search::search_card;
 use map_space::space;
+use roles::TURNED_AWAY;
+use roles::turned_away;
 
 // The least fit for k, and the space behind it.
-pub fn search(n: u32, free: u32, map: &[u64], k: u32) -> Answer
-    ensures { λ r. ⌜ r ≡ searchAnswer n free (now (map .entry)) k ⌝ }
+pub fn search(role: u32, n: u32, free: u32, map: &[u64], k: u32) -> Answer
+    ensures { λ r. ⌜ r ≡ searchAnswer (turnedAway role names.search) n free (now (map .entry)) k ⌝ }
 {
+    if turned_away(role, roles::SEARCH) {
+        return Answer::Refused(TURNED_AWAY);
+    }
     if !shape_fits(n, free, map.len()) {
         return Answer::Refused(1);
     }
@@ -29,9 +32,12 @@ pub fn search(n: u32, free: u32, map: &[u64], k: u32) -> Answer
     Answer::Start(start, space(map, start, n))
 }
 
-pub fn survey(n: u32, free: u32, map: &[u64]) -> Answer
-    ensures { λ r. ⌜ r ≡ surveyAnswer n free (now (map .entry)) ⌝ }
+pub fn survey(role: u32, n: u32, free: u32, map: &[u64]) -> Answer
+    ensures { λ r. ⌜ r ≡ surveyAnswer (turnedAway role names.survey) n free (now (map .entry)) ⌝ }
 {
+    if turned_away(role, roles::SURVEY) {
+        return Answer::Refused(TURNED_AWAY);
+    }
     if !shape_fits(n, free, map.len()) {
         return Answer::Refused(1);
     }
@@ -39,18 +45,20 @@ pub fn survey(n: u32, free: u32, map: &[u64]) -> Answer
     Answer::Counted(counts.free, counts.runs, counts.longest)
 }
 
-// Whether fresh is accepted; if so the map is that of a fresh card of n blocks, all free.
-pub fn fresh(n: u32, map: &mut [u64], c: usize) -> bool
-    ensures { λ r. ⌜ (r ≡ freshFits n (length (now (map .entry))) c)
-        × (now (map .exit) ≡ cond (freshFits n (length (now (map .entry))) c) (freshMap n (length (now (map .entry))))
-        (now (map .entry))) ⌝ }
+// The map of a fresh card of n blocks, all free. Gives 0 or the refusal's number.
+pub fn fresh(role: u32, n: u32, map: &mut [u64], c: usize) -> u32
+    ensures { λ r. let turned = turnedAway role names.fresh in
+        ⌜ (r ≡ freshNumber turned n (now (map .entry)) c) × (now (map .exit) ≡ freshMap turned n (now (map .entry)) c) ⌝ }
 {
+    if turned_away(role, roles::FRESH) {
+        return TURNED_AWAY;
+    }
     if !shape_fits(n, n, map.len()) {
-        return false;
+        return 1;
     }
     if !sheets_fit(c) {
-        return false;
+        return 1;
     }
     map_blocks::run::fresh(map, n);
-    true
+    0
 }

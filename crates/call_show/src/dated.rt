@@ -7,7 +7,9 @@ ghost use Rattle.blocks_of_card.specs.Card.{blockOf};
 ghost use Rattle.calendar.specs.Calendar.{dateOf};
 ghost use Rattle.calendar.specs.Term.{termOf, inTerm};
 ghost use Rattle.catalogue_standings.specs.Rows.{rowNumber};
-ghost use Rattle.refusals.specs.Lent.{lent};
+ghost use Rattle.refusals.specs.Lent.{calledBy, lent};
+ghost use Rattle.roles.specs.Roles as names;
+ghost use Rattle.roles.specs.Roles.{turnedAway};
 ghost use Rattle.refusals.specs.Effects.{termVerdict, showDatedAnswer, showDatedBuffer};
 use crate::place::show_block;
 use crate::place::showing_row;
@@ -50,6 +52,7 @@ fn term_row(card: &[u8], b: u32, sheet: u32, year: u32, month: u32, day: u32) ->
 }
 
 pub fn show_dated(
+    role: u32,
     n: u32,
     free: u32,
     map: &[u64],
@@ -63,12 +66,25 @@ pub fn show_dated(
     day: u32,
     buffer: &mut [u8],
 ) -> Answer
-    ensures { λ r. let q = lent n free (now (map .entry)) (now (card .entry)) c entry sheet in
+    ensures { λ r. let q = calledBy (turnedAway role names.showDated) (lent n free (now (map .entry)) (now (card .entry)) c
+        entry sheet) in
         let date = dateOf year month day in
         ⌜ (r ≡ showDatedAnswer q place date (now (buffer .entry)))
         × (now (buffer .exit) ≡ showDatedBuffer q place date (now (buffer .entry))) ⌝ }
 {
-    let row = showing_row(n, free, map, card, c, entry, sheet, place, &*buffer);
+    let row = showing_row(
+        role,
+        roles::SHOW_DATED,
+        n,
+        free,
+        map,
+        card,
+        c,
+        entry,
+        sheet,
+        place,
+        &*buffer,
+    );
     if row != 0 {
         return Answer::Refused(row);
     }

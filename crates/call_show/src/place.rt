@@ -5,7 +5,8 @@ ghost use lib.ListN.{length};
 ghost use Rattle.block_seals.specs.Sealed.{sound};
 ghost use Rattle.blocks_of_card.specs.Card.{blockOf};
 ghost use Rattle.catalogue_standings.specs.Rows.{rowNumber};
-ghost use Rattle.refusals.specs.Lent.{lent};
+ghost use Rattle.refusals.specs.Lent.{calledBy, lent};
+ghost use Rattle.roles.specs.Roles.{turnedAway};
 ghost use Rattle.refusals.specs.Effects.{showingVerdict, blockVerdict, shownAnswer, shownBuffer};
 use block::PAYLOAD;
 use blocks_of_card::copy_payload;
@@ -14,12 +15,14 @@ use catalogue::Entry;
 use catalogue_standings::Answer;
 use catalogue_standings::Opened;
 use catalogue_standings::Standing;
-use catalogue_standings::opening::open_on;
+use catalogue_standings::opening::enter_on;
 use catalogue_standings::opening::refused_row;
 use catalogue_standings::opening::row_of;
 
 // The rows that a show begins with: 1, 2, 4 for the entry, 5 to 7 and 3. The first that holds, or 0.
 pub fn showing_row(
+    role: u32,
+    call: u32,
     n: u32,
     free: u32,
     map: &[u64],
@@ -30,10 +33,10 @@ pub fn showing_row(
     place: u32,
     buffer: &[u8],
 ) -> u32
-    ensures { λ r. let q = lent n free (now (map .entry)) (now (card .entry)) c entry sheet in
+    ensures { λ r. let q = calledBy (turnedAway role call) (lent n free (now (map .entry)) (now (card .entry)) c entry sheet) in
         ⌜ r ≡ rowNumber (showingVerdict q place (now (buffer .entry))) ⌝ }
 {
-    let opened = open_on(n, free, map, card.len(), c, sheet, entry);
+    let opened = enter_on(role, call, n, free, map, card.len(), c, sheet, entry);
     let Opened::Stands(stands) = opened else {
         return refused_row(opened);
     };

@@ -1,8 +1,8 @@
--- What row 1 says of the calls on a summary: the lengths that a build and a check need, and what is answered and left.
+-- What rows 21 and 1 say of the calls on a summary: the lengths that a build and a check need, and what is answered and left.
 -- Assumes nothing.
 use mathlib.Core.Path.{_≡_, sym, ap}
 use mathlib.Core.Bool.{Bool, true, false, not, cond}
-use mathlib.Core.List.{List, []}
+use mathlib.Core.List.{List, [], _∷_}
 use Prim.Native.Nat.{ℕ}
 use native.Mathlib.Omega.{arith}
 use lib.ListN.{length}
@@ -10,7 +10,7 @@ use borrow.Author.Tests.{eqb-true}
 use Rattle.laws.proofs.Bools.{and-left, and-right}
 use Rattle.summary.specs.Summary.{summaryLength, Matched, ownSummary, isOwn}
 use Rattle.catalogue_standings.specs.Limits.{shapeFits}
-use Rattle.catalogue_standings.specs.Rows.{Verdict, accepted, settle}
+use Rattle.catalogue_standings.specs.Rows.{Verdict, row, accepted, refused, firstOf, settle}
 use Rattle.catalogue_standings.specs.declared.Answer.the-variants.{Done, Own, Refused}
 use Rattle.catalogue_standings.proofs.Limits.{fits}
 use Rattle.catalogue_standings.proofs.Openings.{skip, stop, none-left}
@@ -30,30 +30,31 @@ module _ (n spare : ℕ) (map summary : List ℕ) where
         long = eqb-true (length summary) (summaryLength (length map)) (and-right (shapeFits n spare (length map)) _ e);
       }
 
-  module _ (e : whole ≡ false) where
-    pub build-refused : Refused 1 ≡ buildAnswer n spare map summary
+  -- what is answered and left, by the verdict
+  module _ (turned : Bool) where
+    abbrev verdict : Verdict
+    verdict = firstOf (row 21 turned ∷ row 1 (not whole) ∷ [])
+
+    pub build-told : (v : Verdict) → verdict ≡ v → settle v Done Refused ≡ buildAnswer turned n spare map summary
     unfolding buildAnswer
-    build-refused = sym (ap (λ (v : Verdict). settle v Done Refused) (stop 1 _ [] (ap not e)))
+    build-told v h = sym (ap (λ (w : Verdict). settle w Done Refused) h)
 
-    pub build-kept : summary ≡ builtSummary n spare map summary
+    pub build-left : (v : Verdict) → verdict ≡ v
+        → settle v (ownSummary map n) (λ number. summary) ≡ builtSummary turned n spare map summary
     unfolding builtSummary
-    build-kept = sym (ap (λ (v : Verdict). settle v (ownSummary map n) (λ number. summary)) (stop 1 _ [] (ap not e)))
+    build-left v h = sym (ap (λ (w : Verdict). settle w (ownSummary map n) (λ number. summary)) h)
 
-    pub check-refused : Refused 1 ≡ checkAnswer n spare map summary
+    pub check-told : (v : Verdict) → verdict ≡ v
+        → settle v (Own (cond (isOwn map n summary) 1 0)) Refused ≡ checkAnswer turned n spare map summary
     unfolding checkAnswer
-    check-refused = sym (ap (λ (v : Verdict). settle v (Own (cond (isOwn map n summary) 1 0)) Refused) (stop 1 _ [] (ap not e)))
+    check-told v h = sym (ap (λ (w : Verdict). settle w (Own (cond (isOwn map n summary) 1 0)) Refused) h)
 
-  module _ (e : whole ≡ true) where
-    pub build-done : Done ≡ buildAnswer n spare map summary
-    unfolding buildAnswer
-    build-done = sym (ap (λ (v : Verdict). settle v Done Refused) (skip 1 _ [] accepted (ap not e) none-left))
+    pub away : turned ≡ true → verdict ≡ refused 21
+    away t = stop 21 _ _ t
 
-    pub build-left : ownSummary map n ≡ builtSummary n spare map summary
-    unfolding builtSummary
-    build-left = sym (ap (λ (v : Verdict). settle v (ownSummary map n) (λ number. summary))
-        (skip 1 _ [] accepted (ap not e) none-left))
+    module _ (may : turned ≡ false) where
+      pub shut : whole ≡ false → verdict ≡ refused 1
+      shut e = skip 21 _ _ (refused 1) may (stop 1 _ [] (ap not e))
 
-    pub check-answered : Own (cond (isOwn map n summary) 1 0) ≡ checkAnswer n spare map summary
-    unfolding checkAnswer
-    check-answered = sym (ap (λ (v : Verdict). settle v (Own (cond (isOwn map n summary) 1 0)) Refused)
-        (skip 1 _ [] accepted (ap not e) none-left))
+      pub passes : whole ≡ true → verdict ≡ accepted
+      passes e = skip 21 _ _ accepted may (skip 1 _ [] accepted (ap not e) none-left)

@@ -1,4 +1,5 @@
--- What the calls that are lent a map and a summary alone answer and leave (document 02, request j).
+-- What the calls that are lent a map and a summary alone answer and leave (document 02, request j). `turned`: whoever
+-- calls may not make the call (document 02 (n)).
 -- Assumes nothing.
 use Prim.Native.Nat.{ℕ}
 use mathlib.Core.Bool.{Bool, not, cond, _&&_}
@@ -16,9 +17,9 @@ unfoldable pub summaryFits : ℕ → ℕ → ℕ → ℕ → Bool
 unfolding shapeFits
 summaryFits n free maplen summarylen = shapeFits n free maplen && eqb summarylen (summaryLength maplen)
 
-module _ (n free : ℕ) (map summary : List ℕ) where
-  abbrev summaryVerdict : Verdict
-  summaryVerdict = firstOf (row 1 (not (summaryFits n free (length map) (length summary))) ∷ [])
+module _ (turned : Bool) (n free : ℕ) (map summary : List ℕ) where
+  abbrev pub summaryVerdict : Verdict
+  summaryVerdict = firstOf (row 21 turned ∷ row 1 (not (summaryFits n free (length map) (length summary))) ∷ [])
 
   -- Build: the summary becomes the map's own.
   unfoldable pub buildAnswer : Answer

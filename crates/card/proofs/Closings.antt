@@ -24,76 +24,80 @@ use Rattle.card.specs.Closings.{closeOutcomeBy, closeMapBy, closeSummary
 use Rattle.card.specs.Closings.{closeCardBy, closeScratchBy}
 use Rattle.card.specs.declared.Outcome.{Outcome}
 
-module _ (guided : Bool) (summary : List ℕ) (s : Kept) (scratch : List ℕ) where
+module _ (turned guided : Bool) (summary : List ℕ) (s : Kept) (scratch : List ℕ) where
   abbrev state : State
   state = savedState (s .shape) (s .map) (s .entries)
 
   abbrev pub verdictBy : Verdict
-  verdictBy = closeVerdict state (guideTested guided (length (s .map)) (length summary)) (length (s .card)) (length scratch)
+  verdictBy = closeVerdict turned state (guideTested guided (length (s .map)) (length summary)) (length (s .card)) (length
+      scratch)
 
   -- what is handed back and left, by the verdict
   abbrev outcomeFor : Verdict → Outcome
   outcomeFor v = told (s .shape) (cond (eqb (rowNumber v) 0) Done (Refused (rowNumber v)))
 
-  outcome-is : closeOutcomeBy guided summary s scratch ≡ outcomeFor verdictBy
+  outcome-is : closeOutcomeBy turned guided summary s scratch ≡ outcomeFor verdictBy
   unfolding closings.closeNumber
   outcome-is = refl
 
-  map-is : closeMapBy guided summary s scratch
+  map-is : closeMapBy turned guided summary s scratch
       ≡ settle verdictBy (closedMap (s .entries) (s .shape .blocks) (s .map)) (λ number. s .map)
   unfolding closings.closeMap
   map-is = refl
 
-  entries-are : closeEntriesBy guided summary s scratch ≡ settle verdictBy (closedEntries (s .entries)) (λ number. s .entries)
+  entries-are : closeEntriesBy turned guided summary s scratch ≡ settle verdictBy (closedEntries (s .entries)) (λ number. s
+      .entries)
   unfolding closings.closeEntries
   entries-are = refl
 
-  card-is : closeCardBy guided summary s scratch
+  card-is : closeCardBy turned guided summary s scratch
       ≡ settle verdictBy (closedCard (s .entries) (s .card)) (λ number. s .card)
   unfolding closings.closeCard
   card-is = refl
 
-  scratch-is : closeScratchBy guided summary s scratch ≡ replicate (length scratch) 0
+  scratch-is : closeScratchBy turned guided summary s scratch ≡ replicate (length scratch) 0
   unfolding closings.closeScratch
   scratch-is = refl
 
-  pub summary-for : (v : Verdict) → verdictBy ≡ v → closeSummaryBy guided summary s scratch
+  pub summary-for : (v : Verdict) → verdictBy ≡ v → closeSummaryBy turned guided summary s scratch
       ≡ cond (eqb (rowNumber v) 0)
-      (builtSummary (s .shape .blocks) (s .shape .free) (closeMapBy guided summary s scratch) summary) summary
+      (builtSummary false (s .shape .blocks) (s .shape .free) (closeMapBy turned guided summary s scratch) summary) summary
   unfolding closings.closeNumber
   summary-for v e =
       ap (λ (w : Verdict). cond (eqb (rowNumber w) 0)
-      (builtSummary (s .shape .blocks) (s .shape .free) (closeMapBy guided summary s scratch) summary) summary) e
+      (builtSummary false (s .shape .blocks) (s .shape .free) (closeMapBy turned guided summary s scratch) summary) summary) e
 
   pub record Refusal (number : ℕ) : Type 0 where
-    pub outcome : closeOutcomeBy guided summary s scratch ≡ told (s .shape) (Refused number)
-    pub words : closeMapBy guided summary s scratch ≡ s .map
-    pub beside : closeSummaryBy guided summary s scratch ≡ summary
-    pub sheets : closeEntriesBy guided summary s scratch ≡ s .entries
-    pub bytes : closeCardBy guided summary s scratch ≡ s .card
-    pub zeros : closeScratchBy guided summary s scratch ≡ replicate (length scratch) 0
+    pub outcome : closeOutcomeBy turned guided summary s scratch ≡ told (s .shape) (Refused number)
+    pub words : closeMapBy turned guided summary s scratch ≡ s .map
+    pub beside : closeSummaryBy turned guided summary s scratch ≡ summary
+    pub sheets : closeEntriesBy turned guided summary s scratch ≡ s .entries
+    pub bytes : closeCardBy turned guided summary s scratch ≡ s .card
+    pub zeros : closeScratchBy turned guided summary s scratch ≡ replicate (length scratch) 0
 
   pub close-refused : (number : ℕ) → verdictBy ≡ refused number → Refusal number
   close-refused number v =
-      let z : eqb number 0 ≡ false = ne-eqb number 0 (refused-number state _ (length (s .card)) (length scratch) number v) in
+      let z : eqb number 0 ≡ false = ne-eqb number 0 (refused-number turned state _ (length (s .card)) (length scratch) number
+      v) in
       record {
         outcome = outcome-is ∙ ap outcomeFor v
             ∙ ap (λ (b : Bool). told (s .shape) (cond b Done (Refused number))) z;
         words = map-is ∙ ap (λ (w : Verdict). settle w (closedMap (s .entries) (s .shape .blocks) (s .map))
             (λ number. s .map)) v;
         beside = summary-for (refused number) v ∙ ap (λ (b : Bool). cond b
-            (builtSummary (s .shape .blocks) (s .shape .free) (closeMapBy guided summary s scratch) summary) summary) z;
+            (builtSummary false (s .shape .blocks) (s .shape .free) (closeMapBy turned guided summary s scratch) summary)
+            summary) z;
         sheets = entries-are ∙ ap (λ (w : Verdict). settle w (closedEntries (s .entries)) (λ number. s .entries)) v;
         bytes = card-is ∙ ap (λ (w : Verdict). settle w (closedCard (s .entries) (s .card)) (λ number. s .card)) v;
         zeros = scratch-is;
       }
 
   pub record Acceptance : Type 0 where
-    pub outcome : closeOutcomeBy guided summary s scratch ≡ told (s .shape) Done
-    pub words : closeMapBy guided summary s scratch ≡ closedMap (s .entries) (s .shape .blocks) (s .map)
-    pub sheets : closeEntriesBy guided summary s scratch ≡ closedEntries (s .entries)
-    pub bytes : closeCardBy guided summary s scratch ≡ closedCard (s .entries) (s .card)
-    pub zeros : closeScratchBy guided summary s scratch ≡ replicate (length scratch) 0
+    pub outcome : closeOutcomeBy turned guided summary s scratch ≡ told (s .shape) Done
+    pub words : closeMapBy turned guided summary s scratch ≡ closedMap (s .entries) (s .shape .blocks) (s .map)
+    pub sheets : closeEntriesBy turned guided summary s scratch ≡ closedEntries (s .entries)
+    pub bytes : closeCardBy turned guided summary s scratch ≡ closedCard (s .entries) (s .card)
+    pub zeros : closeScratchBy turned guided summary s scratch ≡ replicate (length scratch) 0
 
   pub close-accepted : verdictBy ≡ accepted → Acceptance
   close-accepted v = record {

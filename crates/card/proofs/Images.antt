@@ -53,78 +53,86 @@ done-load shape given d = by (eqb (given .number) 0) refl d
     by false e h = absurd (never-done h)
 
 -- what a save of `map` and `entries` wrote, loaded into other buffers of their lengths, whatever shape the load takes
-module _ (shape other : Shape) (map : List ℕ) (entries : List Entry) (scratch buffer map′ : List ℕ) (entries′ : List Entry)
+module _ (turned : Bool) (shape other : Shape) (map : List ℕ) (entries : List Entry) (scratch buffer map′ : List ℕ) (entries′ :
+    List Entry)
     (scratch′ : List ℕ) where
   abbrev written : List ℕ
-  written = saveImage shape map entries scratch buffer
+  written = saveImage turned shape map entries scratch buffer
 
   pub record LoadsBack : Type 0 where
-    pub outcome : loadOutcome other written map′ entries′ scratch′ ≡ told shape Done
-    pub words : loadMap other written map′ entries′ scratch′ ≡ map
-    pub sheets : loadEntries other written map′ entries′ scratch′ ≡ entries
-    pub zeros : loadScratch other written map′ entries′ scratch′ ≡ replicate (length scratch′) 0
+    pub outcome : loadOutcome false other written map′ entries′ scratch′ ≡ told shape Done
+    pub words : loadMap false other written map′ entries′ scratch′ ≡ map
+    pub sheets : loadEntries false other written map′ entries′ scratch′ ≡ entries
+    pub zeros : loadScratch false other written map′ entries′ scratch′ ≡ replicate (length scratch′) 0
 
-  pub saved-loads : Words map → saveOutcome shape map entries scratch buffer ≡ told shape Done
+  pub saved-loads : Words map → saveOutcome turned shape map entries scratch buffer ≡ told shape Done
       → length map′ ≡ length map → length entries′ ≡ length entries → length scratch′ ≡ scratchWords (length map)
       → LoadsBack
   saved-loads words e lm le ls =
-      let z = done-save shape (images.saveNumber (shape .blocks) (shape .free) map entries scratch buffer)
+      let z = done-save shape (images.saveNumber turned (shape .blocks) (shape .free) map entries scratch buffer)
       (ap (λ (o : Outcome). isDone (o .answer)) e) in
-      let g = journey.saved-loads (shape .blocks) (shape .free) map entries scratch buffer map′ entries′ scratch′ words z lm le
+      let g = journey.saved-loads turned (shape .blocks) (shape .free) map entries scratch buffer map′ entries′ scratch′ words
+      z lm le
       ls in
       record { outcome = ap (loadOutcomeBy other) (g .result); words = g .words; sheets = g .sheets; zeros = g .zeros }
 
 -- what a load gives, and the image that it was
-module _ (shape : Shape) (image map : List ℕ) (entries : List Entry) (scratch : List ℕ) (bytes : Bytes image) where
-  abbrev given : Loaded
-  given = loadResult image map entries scratch
+module _ (turned : Bool) (shape : Shape) (image map : List ℕ) (entries : List Entry) (scratch : List ℕ) (bytes : Bytes image)
+  where
+    abbrev given : Loaded
+    given = loadResult turned image map entries scratch
 
-  abbrev handed : Outcome
-  handed = loadOutcome shape image map entries scratch
+    abbrev handed : Outcome
+    handed = loadOutcome turned shape image map entries scratch
 
-  abbrev map′ : List ℕ
-  map′ = loadMap shape image map entries scratch
+    abbrev map′ : List ℕ
+    map′ = loadMap turned shape image map entries scratch
 
-  abbrev entries′ : List Entry
-  entries′ = loadEntries shape image map entries scratch
+    abbrev entries′ : List Entry
+    entries′ = loadEntries turned shape image map entries scratch
 
-  same-shape : given .number ≡ 0 → handed .shape ≡ record { blocks = given .blocks; free = given .free }
-  same-shape z =
-      ap (λ (k : ℕ). cond (eqb k 0) (told (record { blocks = given .blocks; free = given .free }) Done)
-      (told shape (Refused k)) .shape) z
+    same-shape : given .number ≡ 0 → handed .shape ≡ record { blocks = given .blocks; free = given .free }
+    same-shape z =
+        ap (λ (k : ℕ). cond (eqb k 0) (told (record { blocks = given .blocks; free = given .free }) Done)
+        (told shape (Refused k)) .shape) z
 
-  pub loaded-only : isDone (handed .answer) ≡ true → imageOf (savedState (handed .shape) map′ entries′) ≡ image
-  loaded-only d =
-      let z = done-load shape given d in
-      ap (λ (s : Shape). imageOf (savedState s map′ entries′)) (same-shape z)
-      ∙ journey.loaded-only image map entries scratch bytes z
+    pub loaded-only : isDone (handed .answer) ≡ true → imageOf (savedState (handed .shape) map′ entries′) ≡ image
+    loaded-only d =
+        let z = done-load shape given d in
+        ap (λ (s : Shape). imageOf (savedState s map′ entries′)) (same-shape z)
+        ∙ journey.loaded-only turned image map entries scratch bytes z
 
-  -- a save of what was loaded is done, and writes the image again
-  pub loaded-saves : isDone (handed .answer) ≡ true → (other buffer : List ℕ)
-      → length other ≡ scratchWords (length map′) → length buffer ≡ length image
-      → (saveOutcome (handed .shape) map′ entries′ other buffer ≡ told (handed .shape) Done)
-      × (saveImage (handed .shape) map′ entries′ other buffer ≡ image)
-  loaded-saves d other buffer lo lb =
-      let z = done-load shape given d in
-      let again = journey.loaded-saves image map entries scratch bytes z other buffer lo lb in
-      subst (λ (s : Shape). (saveOutcome s map′ entries′ other buffer ≡ told s Done)
-      × (saveImage s map′ entries′ other buffer ≡ image)) (sym (same-shape z)) (
-        ap (λ (k : ℕ). told (record { blocks = given .blocks; free = given .free }) (cond (eqb k 0) Done (Refused k)))
-            (again .0),
-        again .1,
-      )
+    -- a save of what was loaded is done, and writes the image again
+    pub loaded-saves : isDone (handed .answer) ≡ true → (other buffer : List ℕ)
+        → length other ≡ scratchWords (length map′) → length buffer ≡ length image
+        → (saveOutcome false (handed .shape) map′ entries′ other buffer ≡ told (handed .shape) Done)
+        × (saveImage false (handed .shape) map′ entries′ other buffer ≡ image)
+    loaded-saves d other buffer lo lb =
+        let z = done-load shape given d in
+        let again = journey.loaded-saves turned image map entries scratch bytes z other buffer lo lb in
+        subst (λ (s : Shape). (saveOutcome false s map′ entries′ other buffer ≡ told s Done)
+        × (saveImage false s map′ entries′ other buffer ≡ image)) (sym (same-shape z)) (
+          ap (λ (k : ℕ). told (record { blocks = given .blocks; free = given .free }) (cond (eqb k 0) Done (Refused k)))
+              (again .0),
+          again .1,
+        )
+
+pub scratch-zeros : (turned : Bool) (shape : Shape) (map : List ℕ) (entries : List Entry) (scratch buffer : List ℕ)
+    → saveScratch turned shape map entries scratch buffer ≡ replicate (length scratch) 0
+unfolding images.saveScratch
+scratch-zeros turned shape map entries scratch buffer = refl
 
 -- a refusal hands the shape back as it came and changes nothing but the scratch
-pub save-refused : (shape : Shape) (map : List ℕ) (entries : List Entry) (scratch buffer : List ℕ) (number : ℕ)
-    → saveVerdict (savedState shape map entries) (length scratch) (length buffer) ≡ refused number
-    → (saveOutcome shape map entries scratch buffer ≡ told shape (Refused number))
-    × (saveImage shape map entries scratch buffer ≡ buffer)
-    × (saveScratch shape map entries scratch buffer ≡ replicate (length scratch) 0)
+pub save-refused : (turned : Bool) (shape : Shape) (map : List ℕ) (entries : List Entry) (scratch buffer : List ℕ) (number : ℕ)
+    → saveVerdict turned (savedState shape map entries) (length scratch) (length buffer) ≡ refused number
+    → (saveOutcome turned shape map entries scratch buffer ≡ told shape (Refused number))
+    × (saveImage turned shape map entries scratch buffer ≡ buffer)
+    × (saveScratch turned shape map entries scratch buffer ≡ replicate (length scratch) 0)
 unfolding images.saveNumber images.saveImage images.saveScratch
-save-refused shape map entries scratch buffer number v =
+save-refused turned shape map entries scratch buffer number v =
     let some : eqb number 0 ≡ false =
     ne-eqb number 0
-    (λ z. never-accepted number (sym v ∙ save-accepted (savedState shape map entries) (length scratch) (length buffer)
+    (λ z. never-accepted number (sym v ∙ save-accepted turned (savedState shape map entries) (length scratch) (length buffer)
     (ap rowNumber v ∙ z))) in (
       ap (λ (w : Verdict). told shape (cond (eqb (rowNumber w) 0) Done (Refused (rowNumber w)))) v
           ∙ ap (λ (t : Bool). told shape (cond t Done (Refused number))) some,
@@ -132,16 +140,16 @@ save-refused shape map entries scratch buffer number v =
       refl,
     )
 
-pub load-refused : (shape : Shape) (image map : List ℕ) (entries : List Entry) (scratch : List ℕ) (number : ℕ)
-    → loadVerdict image (length map) (length entries) (length scratch) ≡ refused number
-    → (loadOutcome shape image map entries scratch ≡ told shape (Refused number))
-    × (loadMap shape image map entries scratch ≡ map) × (loadEntries shape image map entries scratch ≡ entries)
-    × (loadScratch shape image map entries scratch ≡ replicate (length scratch) 0)
+pub load-refused : (turned : Bool) (shape : Shape) (image map : List ℕ) (entries : List Entry) (scratch : List ℕ) (number : ℕ)
+    → loadVerdict turned image (length map) (length entries) (length scratch) ≡ refused number
+    → (loadOutcome turned shape image map entries scratch ≡ told shape (Refused number))
+    × (loadMap turned shape image map entries scratch ≡ map) × (loadEntries turned shape image map entries scratch ≡ entries)
+    × (loadScratch turned shape image map entries scratch ≡ replicate (length scratch) 0)
 unfolding images.loadResult images.loadMap images.loadEntries images.loadScratch
-load-refused shape image map entries scratch number v =
+load-refused turned shape image map entries scratch number v =
     let some : eqb number 0 ≡ false =
     ne-eqb number 0
-    (λ z. never-accepted number (sym v ∙ load-accepted image (length map) (length entries) (length scratch)
+    (λ z. never-accepted number (sym v ∙ load-accepted turned image (length map) (length entries) (length scratch)
     (ap rowNumber v ∙ z))) in (
       ap (λ (w : Verdict). loadOutcomeBy shape (settle w
           (record { number = 0; blocks = stateIn image .blocks; free = stateIn image .spare })

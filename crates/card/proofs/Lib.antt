@@ -4,7 +4,9 @@ pub mod Before
 pub mod Closings
 pub mod Contracts
 pub mod SummaryContracts
+pub mod EveryRefusal
 pub mod Images
 pub mod Offers
 pub mod Promises
 pub mod Refusals
+pub mod TurnedAway

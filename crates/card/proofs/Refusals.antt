@@ -2,24 +2,27 @@
 -- for each call that may change something, what its contract says where its verdict is a refusal.
 -- Assumes nothing.
 use mathlib.Core.Path.{_≡_, refl, ap, _∙_}
-use mathlib.Core.Bool.{Bool, false, true, cond}
-use mathlib.Core.List.{List, []}
+use mathlib.Core.Bool.{Bool, false, true, not, cond}
+use mathlib.Core.List.{List, [], _∷_}
 use Prim.Native.Nat.{ℕ, _+_, _-_}
 use lib.Dec.{eqb}
 use lib.ListN.{length, set}
+use borrow.Author.Tests.{ne-eqb}
 use Rattle.map_blocks.specs.Blocks as map-blocks
 use Rattle.map_blocks.specs.Maps as maps
 use Rattle.map_blocks.specs.Maps.{marked}
 use Rattle.blocks_of_card.specs.Card.{blockOf, withBlock, zeroed}
 use Rattle.block_seals.specs.Sealed.{sealed, payloadOf}
-use Rattle.catalogue.specs.Entries.{entryAt, clearedIf, openMark, completeMark, pausedMark, absentMark}
+use Rattle.catalogue.specs.Entries.{entryAt, clearedIf, openMark, completeMark, absentMark}
 use Rattle.catalogue.specs.declared.Entry.{Entry}
 use Rattle.catalogue.proofs.Storing.{stored-back}
+use Rattle.catalogue_standings.proofs.Rows.{never-says}
+use Rattle.call_search.specs.Answers.{freshVerdict}
 use Rattle.refusals.specs.Lent.{Lent, noCard}
 use Rattle.refusals.specs.Placement.{Placement}
 use Rattle.refusals.specs.Effects as effects
 use Rattle.catalogue_standings.specs.Limits.{freshFits}
-use Rattle.catalogue_standings.specs.Rows.{Verdict, refused, settle}
+use Rattle.catalogue_standings.specs.Rows.{Row, row, Verdict, refused, settle, rowNumber}
 use Rattle.catalogue_standings.specs.Searches.{startWithSpace}
 use Rattle.catalogue_standings.specs.declared.Answer.{Answer}
 use Rattle.catalogue_standings.specs.declared.Answer.the-variants.{Done, Blank, Refused}
@@ -27,18 +30,17 @@ use Rattle.refusals.specs.declared.Out.{Out}
 use Rattle.card.specs.declared.Shape.{Shape}
 use Rattle.refusals.specs.Guides.{guideAfter}
 use Rattle.card.specs.declared.Outcome.{Outcome}
-use Rattle.card.specs.Calls.{lentBy, lentByWithin, lentToWithin}
+use Rattle.card.specs.Calls.{lentBy, lentByWithin}
 use Rattle.card.specs.Calls.{reserveOutcomeBy, reserveMapBy, reserveSummaryBy, reserveEntriesBy, reserveCardBy}
 use Rattle.card.specs.Calls.{acceptOutcomeBy, acceptMapBy, acceptSummaryBy, acceptEntriesBy, acceptCardBy}
 use Rattle.card.specs.Calls.{growOutcomeBy, growMapBy, growSummaryBy, growEntriesBy, growCardBy}
 use Rattle.card.specs.Calls.{releaseOutcomeBy, releaseMapBy, releaseSummaryBy, releaseEntriesBy}
-use Rattle.card.specs.Calls.{Kept, lentTo, told, outcomeOf, isDone, freshOutcome, freshMap, freshEntries, reserveOutcome}
-use Rattle.card.specs.Calls.{acceptOutcome, acceptMap, acceptEntries, acceptCard}
-use Rattle.card.specs.Calls.{reserveMap, reserveEntries, reserveCard, growOutcome, growMap, growEntries, growCard}
-use Rattle.card.specs.Calls.{putOutcome, putCard, completeOutcome, completeEntries, pauseOutcome, pauseEntries}
-use Rattle.card.specs.Calls.{resumeOutcome, resumeEntries}
+use Rattle.card.specs.Calls.{Kept, lentTo, told, outcomeOf, isDone, freshOutcome, freshMap, freshEntries}
+use Rattle.card.specs.Calls.{putOutcome, putCard, completeOutcome, completeEntries}
+use Rattle.card.specs.Calls.{changeOutcome, changeEntries}
+use Rattle.refusals.specs.Table.{Change, markAfter}
 use Rattle.calendar.specs.Calendar.{Date}
-use Rattle.card.specs.Calls.{releaseOutcome, releaseMap, releaseEntries, showOutcome, showBuffer}
+use Rattle.card.specs.Calls.{showOutcome, showBuffer}
 use Rattle.card.specs.Calls.{showDatedOutcome, showDatedBuffer}
 
 -- a refused call hands back the free count and the entry that it was given: shape and entries are as they were
@@ -50,7 +52,7 @@ handed-back shape entries sheet answer out e =
 
 -- ---- the calls that have a form with a summary: a refusal changes no summary either
 
-module _ (guided : Bool) (summary : List ℕ) (s : Kept) (sheet number : ℕ) where
+module _ (turned guided : Bool) (summary : List ℕ) (s : Kept) (sheet number : ℕ) where
   abbrev spareBy : ℕ
   spareBy = s .shape .free
 
@@ -59,10 +61,10 @@ module _ (guided : Bool) (summary : List ℕ) (s : Kept) (sheet number : ℕ) wh
 
   -- within limits
   abbrev lentOn : List ℕ → Lent
-  lentOn limits = lentByWithin guided summary s (s .card) limits sheet
+  lentOn limits = lentByWithin turned guided summary s (s .card) limits sheet
 
   abbrev lentBare : Lent
-  lentBare = lentBy guided summary s noCard sheet
+  lentBare = lentBy turned guided summary s noCard sheet
 
   -- what is left of map, summary and card, where k blocks from a start on would become taken, or free
   kept-back : (v : Verdict) (start k : ℕ) (to : Bool) → v ≡ refused number
@@ -88,9 +90,10 @@ module _ (guided : Bool) (summary : List ℕ) (s : Kept) (sheet number : ℕ) wh
   -- plain and placed
   pub reserve-refused-by : (limits : List ℕ) (k : ℕ) (p : Placement) → effects.reserveVerdict (lentOn limits) k p ≡ refused
       number
-      → Refuses (reserveOutcomeBy guided summary s limits sheet k p) (reserveMapBy guided summary s limits sheet k p)
-      (reserveSummaryBy guided summary s limits sheet k p) (reserveEntriesBy guided summary s limits sheet k p)
-      (reserveCardBy guided summary s limits sheet k p)
+      → Refuses (reserveOutcomeBy turned guided summary s limits sheet k p) (reserveMapBy turned guided summary s limits sheet
+      k p)
+      (reserveSummaryBy turned guided summary s limits sheet k p) (reserveEntriesBy turned guided summary s limits sheet k p)
+      (reserveCardBy turned guided summary s limits sheet k p)
   unfolding effects.reserveOut effects.reserveMap effects.reserveSummary effects.reserveCard effects.takenOut
       effects.takenMap effects.takenSummary effects.takenCard
   reserve-refused-by limits k p h =
@@ -104,9 +107,11 @@ module _ (guided : Bool) (summary : List ℕ) (s : Kept) (sheet number : ℕ) wh
       (back .0, same .0, same .1, back .1, same .2)
 
   pub accept-refused-by : (limits : List ℕ) (start k : ℕ) → effects.acceptVerdict (lentOn limits) start k ≡ refused number
-      → Refuses (acceptOutcomeBy guided summary s limits sheet start k) (acceptMapBy guided summary s limits sheet start k)
-      (acceptSummaryBy guided summary s limits sheet start k) (acceptEntriesBy guided summary s limits sheet start k)
-      (acceptCardBy guided summary s limits sheet start k)
+      → Refuses (acceptOutcomeBy turned guided summary s limits sheet start k) (acceptMapBy turned guided summary s limits
+      sheet start k)
+      (acceptSummaryBy turned guided summary s limits sheet start k) (acceptEntriesBy turned guided summary s limits sheet
+      start k)
+      (acceptCardBy turned guided summary s limits sheet start k)
   unfolding effects.acceptOut effects.acceptMap effects.acceptSummary effects.acceptCard effects.takenOut effects.takenMap
       effects.takenSummary effects.takenCard
   accept-refused-by limits start k h =
@@ -119,9 +124,9 @@ module _ (guided : Bool) (summary : List ℕ) (s : Kept) (sheet number : ℕ) wh
       (back .0, same .0, same .1, back .1, same .2)
 
   pub grow-refused-by : (limits : List ℕ) (m : ℕ) → effects.growVerdict (lentOn limits) m ≡ refused number
-      → Refuses (growOutcomeBy guided summary s limits sheet m) (growMapBy guided summary s limits sheet m)
-      (growSummaryBy guided summary s limits sheet m) (growEntriesBy guided summary s limits sheet m)
-      (growCardBy guided summary s limits sheet m)
+      → Refuses (growOutcomeBy turned guided summary s limits sheet m) (growMapBy turned guided summary s limits sheet m)
+      (growSummaryBy turned guided summary s limits sheet m) (growEntriesBy turned guided summary s limits sheet m)
+      (growCardBy turned guided summary s limits sheet m)
   unfolding effects.growOut effects.growMap effects.growSummary effects.growCard
   grow-refused-by limits m h =
       let same = kept-back (effects.growVerdict (lentOn limits) m) (entryBy .start + entryBy .length) m false h in
@@ -133,8 +138,8 @@ module _ (guided : Bool) (summary : List ℕ) (s : Kept) (sheet number : ℕ) wh
       (back .0, same .0, same .1, back .1, same .2)
 
   pub release-refused-by : effects.releaseVerdict lentBare ≡ refused number
-      → Refuses (releaseOutcomeBy guided summary s sheet) (releaseMapBy guided summary s sheet)
-      (releaseSummaryBy guided summary s sheet) (releaseEntriesBy guided summary s sheet) (s .card)
+      → Refuses (releaseOutcomeBy turned guided summary s sheet) (releaseMapBy turned guided summary s sheet)
+      (releaseSummaryBy turned guided summary s sheet) (releaseEntriesBy turned guided summary s sheet) (s .card)
   unfolding effects.releaseOut effects.releaseMap effects.releaseSummary
   release-refused-by h =
       let same = kept-back (effects.releaseVerdict lentBare) (entryBy .start) (entryBy .length) true h in
@@ -144,9 +149,9 @@ module _ (guided : Bool) (summary : List ℕ) (s : Kept) (sheet number : ℕ) wh
       (effects.refusalOut spareBy entryBy)) h) in
       (back .0, same .0, same .1, back .1, refl)
 
--- ---- by the map alone
+-- ---- the other calls
 
-module _ (s : Kept) (sheet number : ℕ) where
+module _ (turned : Bool) (s : Kept) (sheet number : ℕ) where
   abbrev free : ℕ
   free = s .shape .free
 
@@ -154,42 +159,14 @@ module _ (s : Kept) (sheet number : ℕ) where
   e = entryAt (s .entries) sheet
 
   abbrev q : Lent
-  q = lentTo s (s .card) sheet
+  q = lentTo turned s (s .card) sheet
 
   abbrev bare : Lent
-  bare = lentTo s noCard sheet
-
-  -- within limits
-  abbrev shared : List ℕ → Lent
-  shared limits = lentToWithin s (s .card) limits sheet
-
-  pub reserve-refused : (limits : List ℕ) (k : ℕ) (p : Placement) → effects.reserveVerdict (shared limits) k p ≡ refused number
-      → (reserveOutcome s limits sheet k p ≡ told (s .shape) (Refused number))
-      × (reserveMap s limits sheet k p ≡ s .map)
-      × (reserveEntries s limits sheet k p ≡ s .entries)
-      × (reserveCard s limits sheet k p ≡ s .card)
-  reserve-refused limits k p h = let same = reserve-refused-by false [] s sheet number limits k p h in
-      (same .0, same .1, same .3, same .4)
-
-  pub accept-refused : (limits : List ℕ) (start k : ℕ) → effects.acceptVerdict (shared limits) start k ≡ refused number
-      → (acceptOutcome s limits sheet start k ≡ told (s .shape) (Refused number))
-      × (acceptMap s limits sheet start k ≡ s .map)
-      × (acceptEntries s limits sheet start k ≡ s .entries)
-      × (acceptCard s limits sheet start k ≡ s .card)
-  accept-refused limits start k h = let same = accept-refused-by false [] s sheet number limits start k h in
-      (same .0, same .1, same .3, same .4)
-
-  pub grow-refused : (limits : List ℕ) (m : ℕ) → effects.growVerdict (shared limits) m ≡ refused number
-      → (growOutcome s limits sheet m ≡ told (s .shape) (Refused number))
-      × (growMap s limits sheet m ≡ s .map)
-      × (growEntries s limits sheet m ≡ s .entries)
-      × (growCard s limits sheet m ≡ s .card)
-  grow-refused limits m h =
-      let same = grow-refused-by false [] s sheet number limits m h in (same .0, same .1, same .3, same .4)
+  bare = lentTo turned s noCard sheet
 
   pub put-refused : (place : ℕ) (payload : List ℕ) → effects.putVerdict q place payload ≡ refused number
-      → (putOutcome s sheet place payload ≡ told (s .shape) (Refused number))
-      × (putCard s sheet place payload ≡ s .card)
+      → (putOutcome turned s sheet place payload ≡ told (s .shape) (Refused number))
+      × (putCard turned s sheet place payload ≡ s .card)
   unfolding effects.putAnswer effects.putCard
   put-refused place payload h = (
     ap (λ (v : Verdict). told (s .shape) (settle v Done Refused)) h,
@@ -198,8 +175,8 @@ module _ (s : Kept) (sheet number : ℕ) where
 
   -- with 9 goes the lowest blank place
   pub complete-refused : effects.completeVerdict q ≡ refused number
-      → (completeOutcome s sheet ≡ told (s .shape) (cond (eqb number 9) (Blank (effects.blankPlace q)) (Refused number)))
-      × (completeEntries s sheet ≡ s .entries)
+      → (completeOutcome turned s sheet ≡ told (s .shape) (cond (eqb number 9) (Blank (effects.blankPlace q)) (Refused number)))
+      × (completeEntries turned s sheet ≡ s .entries)
   unfolding effects.completeOut
   complete-refused h =
       let place : ℕ = effects.blankPlace q in
@@ -207,31 +184,17 @@ module _ (s : Kept) (sheet number : ℕ) where
       (ap (λ (v : Verdict). settle v (effects.outOf free (effects.entryOf completeMark (e .start) (e .length)) Done)
       (λ k. effects.outOf free e (cond (eqb k 9) (Blank place) (Refused k)))) h)
 
-  pub pause-refused : effects.pauseVerdict bare ≡ refused number
-      → (pauseOutcome s sheet ≡ told (s .shape) (Refused number)) × (pauseEntries s sheet ≡ s .entries)
-  unfolding effects.pauseOut
-  pause-refused h =
+  pub change-refused : (c : Change) → effects.changeVerdict bare c ≡ refused number
+      → (changeOutcome turned s sheet c ≡ told (s .shape) (Refused number)) × (changeEntries turned s sheet c ≡ s .entries)
+  unfolding effects.changeOut
+  change-refused c h =
       handed-back (s .shape) (s .entries) sheet (Refused number) _
-      (ap (λ (v : Verdict). settle v (effects.outOf free (effects.entryOf pausedMark (e .start) (e .length)) Done)
+      (ap (λ (v : Verdict). settle v (effects.outOf free (effects.entryOf (markAfter c) (e .start) (e .length)) Done)
       (effects.refusalOut free e)) h)
-
-  pub resume-refused : effects.resumeVerdict bare ≡ refused number
-      → (resumeOutcome s sheet ≡ told (s .shape) (Refused number)) × (resumeEntries s sheet ≡ s .entries)
-  unfolding effects.resumeOut
-  resume-refused h =
-      handed-back (s .shape) (s .entries) sheet (Refused number) _
-      (ap (λ (v : Verdict). settle v (effects.outOf free (effects.entryOf completeMark (e .start) (e .length)) Done)
-      (effects.refusalOut free e)) h)
-
-  pub release-refused : effects.releaseVerdict bare ≡ refused number
-      → (releaseOutcome s sheet ≡ told (s .shape) (Refused number))
-      × (releaseMap s sheet ≡ s .map)
-      × (releaseEntries s sheet ≡ s .entries)
-  release-refused h = let same = release-refused-by false [] s sheet number h in (same .0, same .1, same .3)
 
   pub show-refused : (place : ℕ) (buffer : List ℕ) → effects.showVerdict q place buffer ≡ refused number
-      → (showOutcome s sheet place buffer ≡ told (s .shape) (Refused number))
-      × (showBuffer s sheet place buffer ≡ buffer)
+      → (showOutcome turned s sheet place buffer ≡ told (s .shape) (Refused number))
+      × (showBuffer turned s sheet place buffer ≡ buffer)
   unfolding effects.showAnswer effects.showBuffer
   show-refused place buffer h = (
     ap (λ (v : Verdict). told (s .shape) (settle v Done Refused)) h,
@@ -240,22 +203,31 @@ module _ (s : Kept) (sheet number : ℕ) where
 
   pub show-dated-refused : (place : ℕ) (date : Date) (buffer : List ℕ)
       → effects.showDatedVerdict q place date buffer ≡ refused number
-      → (showDatedOutcome s sheet place date buffer ≡ told (s .shape) (Refused number))
-      × (showDatedBuffer s sheet place date buffer ≡ buffer)
+      → (showDatedOutcome turned s sheet place date buffer ≡ told (s .shape) (Refused number))
+      × (showDatedBuffer turned s sheet place date buffer ≡ buffer)
   unfolding effects.showDatedAnswer effects.showDatedBuffer
   show-dated-refused place date buffer h = (
     ap (λ (v : Verdict). told (s .shape) (settle v Done Refused)) h,
     ap (λ (v : Verdict). settle v (payloadOf (blockOf (s .card) (e .start + place))) (λ number. buffer)) h,
   )
 
--- fresh too
-pub fresh-refused : (shape : Shape) (blocks : ℕ) (map : List ℕ) (entries : List Entry)
-    → freshFits blocks (length map) (length entries) ≡ false
-    → (freshOutcome shape blocks map entries ≡ told shape (Refused 1)) × (freshMap shape blocks map entries ≡ map)
-    × (freshEntries shape blocks map entries ≡ entries)
-fresh-refused shape blocks map entries e = (
-  ap (λ (t : Bool). cond t (told (record { blocks = blocks; free = blocks }) Done) (told shape (Refused 1))) e,
-  ap (λ (t : Bool). cond t (maps.freshMap blocks (length map)) map) e,
-  ap (λ (t : Bool). clearedIf entries
-      (isDone (cond t (told (record { blocks = blocks; free = blocks }) Done) (told shape (Refused 1)) .answer))) e,
-)
+-- fresh too, by its number
+abbrev pub freshBy : Shape → ℕ → Bool → ℕ → Outcome
+freshBy shape blocks done number = cond done (told (record { blocks = blocks; free = blocks }) Done) (told shape (Refused
+    number))
+
+pub fresh-refused : (turned : Bool) (shape : Shape) (blocks : ℕ) (map : List ℕ) (entries : List Entry) (number : ℕ)
+    → freshVerdict turned blocks (length map) (length entries) ≡ refused number
+    → (freshOutcome turned shape blocks map entries ≡ told shape (Refused number))
+    × (freshMap turned shape blocks map entries ≡ map) × (freshEntries turned shape blocks map entries ≡ entries)
+unfolding freshVerdict
+fresh-refused turned shape blocks map entries number v =
+    let rows : List Row = row 21 turned ∷ row 1 (not (freshFits blocks (length map) (length entries))) ∷ [] in
+    let some : eqb number 0 ≡ false = ne-eqb number 0 (λ z. never-says 0 rows refl (v ∙ ap refused z)) in
+    let handed : freshOutcome turned shape blocks map entries ≡ told shape (Refused number) =
+    ap (λ (w : Verdict). freshBy shape blocks (eqb (rowNumber w) 0) (rowNumber w)) v
+    ∙ ap (λ (b : Bool). freshBy shape blocks b number) some in (
+      handed,
+      ap (λ (w : Verdict). settle w (maps.freshMap blocks (length map)) (λ k. map)) v,
+      ap (λ (o : Outcome). clearedIf entries (isDone (o .answer))) handed,
+    )

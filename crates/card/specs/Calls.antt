@@ -8,17 +8,16 @@ use Prim.Native.Nat.{ℕ}
 use lib.Dec.{eqb}
 use lib.ListN.{length, set}
 use Rattle.calendar.specs.Calendar.{Date}
-use Rattle.map_blocks.specs.Maps as maps
 use Rattle.catalogue.specs.Entries.{entryAt, clearedIf}
 use Rattle.catalogue.specs.declared.Entry.{Entry}
-use Rattle.catalogue_standings.specs.Limits.{freshFits}
 use Rattle.catalogue_standings.specs.declared.Answer.{Answer}
 use Rattle.catalogue_standings.specs.declared.Answer.the-variants.{Done, Start, Reads, Counted, Own, Blank, Refused}
 use Rattle.call_search.specs.Answers as whole
 use Rattle.call_summary.specs.Answers as summaries
 use Rattle.catalogue_wings.specs.Wings.{heldBy}
-use Rattle.refusals.specs.Lent.{Lent, lentBeside, within, noCard}
+use Rattle.refusals.specs.Lent.{Lent, lentBeside, within, calledBy, noCard}
 use Rattle.refusals.specs.Placement.{Placement}
+use Rattle.refusals.specs.Table.{Change}
 use Rattle.refusals.specs.Effects as effects
 use Rattle.refusals.specs.declared.Out.{Out}
 use Rattle.image_soundness.specs.Sound.{State}
@@ -47,40 +46,41 @@ isDone (Refused k) = false
 -- ---- the whole card
 
 -- Fresh reads nothing of the shape it takes, and of the catalogue how many entries there are.
-module _ (shape : Shape) (blocks : ℕ) (map : List ℕ) (count : ℕ) where
+module _ (turned : Bool) (shape : Shape) (blocks : ℕ) (map : List ℕ) (count : ℕ) where
   abbrev pub freshOutcomeBy : Outcome
-  freshOutcomeBy = cond (freshFits blocks (length map) count) (told (record { blocks = blocks; free = blocks }) Done)
-      (told shape (Refused 1))
+  freshOutcomeBy =
+      let number = whole.freshNumber turned blocks map count in
+      cond (eqb number 0) (told (record { blocks = blocks; free = blocks }) Done) (told shape (Refused number))
 
   abbrev pub freshMapBy : List ℕ
-  freshMapBy = cond (freshFits blocks (length map) count) (maps.freshMap blocks (length map)) map
+  freshMapBy = whole.freshMap turned blocks map count
 
-module _ (shape : Shape) (blocks : ℕ) (map : List ℕ) (entries : List Entry) where
+module _ (turned : Bool) (shape : Shape) (blocks : ℕ) (map : List ℕ) (entries : List Entry) where
   abbrev pub freshOutcome : Outcome
-  freshOutcome = freshOutcomeBy shape blocks map (length entries)
+  freshOutcome = freshOutcomeBy turned shape blocks map (length entries)
 
   abbrev pub freshMap : List ℕ
-  freshMap = freshMapBy shape blocks map (length entries)
+  freshMap = freshMapBy turned shape blocks map (length entries)
 
   abbrev pub freshEntries : List Entry
   freshEntries = clearedIf entries (isDone (freshOutcome .answer))
 
-abbrev pub searchOutcome : Shape → List ℕ → ℕ → Outcome
-searchOutcome shape map k = told shape (whole.searchAnswer (shape .blocks) (shape .free) map k)
+abbrev pub searchOutcome : Bool → Shape → List ℕ → ℕ → Outcome
+searchOutcome turned shape map k = told shape (whole.searchAnswer turned (shape .blocks) (shape .free) map k)
 
-abbrev pub surveyOutcome : Shape → List ℕ → Outcome
-surveyOutcome shape map = told shape (whole.surveyAnswer (shape .blocks) (shape .free) map)
+abbrev pub surveyOutcome : Bool → Shape → List ℕ → Outcome
+surveyOutcome turned shape map = told shape (whole.surveyAnswer turned (shape .blocks) (shape .free) map)
 
 -- A summary beside the map (document 02 (j)).
-module _ (shape : Shape) (map summary : List ℕ) where
+module _ (turned : Bool) (shape : Shape) (map summary : List ℕ) where
   abbrev pub buildOutcome : Outcome
-  buildOutcome = told shape (summaries.buildAnswer (shape .blocks) (shape .free) map summary)
+  buildOutcome = told shape (summaries.buildAnswer turned (shape .blocks) (shape .free) map summary)
 
   abbrev pub buildSummary : List ℕ
-  buildSummary = summaries.builtSummary (shape .blocks) (shape .free) map summary
+  buildSummary = summaries.builtSummary turned (shape .blocks) (shape .free) map summary
 
   abbrev pub checkOutcome : Outcome
-  checkOutcome = told shape (summaries.checkAnswer (shape .blocks) (shape .free) map summary)
+  checkOutcome = told shape (summaries.checkAnswer turned (shape .blocks) (shape .free) map summary)
 
 -- ---- a sheet
 
@@ -94,44 +94,30 @@ pub record Kept : Type 0 where
 abbrev pub kept : Shape → List ℕ → List Entry → List ℕ → Kept
 kept shape map entries card = record { shape = shape; map = map; entries = entries; card = card }
 
--- What is said of that, as a function of what a call is lent in order.
-abbrev pub withCard : {A : Type 0} → (Kept → A) → Shape → List ℕ → List Entry → List ℕ → A
-withCard says shape map entries card = says (kept shape map entries card)
-
-abbrev pub withoutCard : {A : Type 0} → (Kept → A) → Shape → List ℕ → List Entry → A
-withoutCard says shape map entries = says (kept shape map entries noCard)
-
--- The same of a call that is lent a summary behind the map.
-abbrev pub bySummary : {A : Type 0} → (Bool → List ℕ → Kept → A) → Shape → List ℕ → List ℕ → List Entry → List ℕ → A
-bySummary says shape map summary entries card = says true summary (kept shape map entries card)
-
-abbrev pub bySummaryAlone : {A : Type 0} → (Bool → List ℕ → Kept → A) → Shape → List ℕ → List ℕ → List Entry → A
-bySummaryAlone says shape map summary entries = says true summary (kept shape map entries noCard)
-
 -- What a call on a sheet is lent, with the card and without: the catalogue gives c and the sheet's entry. It is guided by a
 -- summary, or by the map alone.
-abbrev pub lentBy : Bool → List ℕ → Kept → List ℕ → ℕ → Lent
-lentBy guided summary s card sheet =
-    lentBeside guided summary (s .shape .blocks) (s .shape .free) (s .map) card (length (s .entries))
+abbrev pub lentBy : Bool → Bool → List ℕ → Kept → List ℕ → ℕ → Lent
+lentBy turned guided summary s card sheet =
+    calledBy turned (lentBeside guided summary (s .shape .blocks) (s .shape .free) (s .map) card (length (s .entries))
     (entryAt (s .entries) sheet)
-    sheet
+    sheet)
 
-abbrev pub lentTo : Kept → List ℕ → ℕ → Lent
-lentTo s card sheet = lentBy false [] s card sheet
+abbrev pub lentTo : Bool → Kept → List ℕ → ℕ → Lent
+lentTo turned s card sheet = lentBy turned false [] s card sheet
 
 -- The same within limits (document 02 (k)): the catalogue gives what the sheet's wing holds as well.
-abbrev pub lentByWithin : Bool → List ℕ → Kept → List ℕ → List ℕ → ℕ → Lent
-lentByWithin guided summary s card limits sheet =
-    within (heldBy (s .entries) sheet) limits (lentBy guided summary s card sheet)
+abbrev pub lentByWithin : Bool → Bool → List ℕ → Kept → List ℕ → List ℕ → ℕ → Lent
+lentByWithin turned guided summary s card limits sheet =
+    within (heldBy (s .entries) sheet) limits (lentBy turned guided summary s card sheet)
 
-abbrev pub lentToWithin : Kept → List ℕ → List ℕ → ℕ → Lent
-lentToWithin s card limits sheet = lentByWithin false [] s card limits sheet
+abbrev pub lentToWithin : Bool → Kept → List ℕ → List ℕ → ℕ → Lent
+lentToWithin turned s card limits sheet = lentByWithin turned false [] s card limits sheet
 
 -- ---- the calls that have a form with a summary (document 02 (j))
 
-module _ (guided : Bool) (summary : List ℕ) (s : Kept) (limits : List ℕ) (sheet : ℕ) where
+module _ (turned guided : Bool) (summary : List ℕ) (s : Kept) (limits : List ℕ) (sheet : ℕ) where
   abbrev lendsBy : Lent
-  lendsBy = lentByWithin guided summary s (s .card) limits sheet
+  lendsBy = lentByWithin turned guided summary s (s .card) limits sheet
 
   -- reserve, plain or placed
   abbrev reserveOutBy : ℕ → Placement → Out
@@ -188,9 +174,9 @@ module _ (guided : Bool) (summary : List ℕ) (s : Kept) (limits : List ℕ) (sh
   abbrev pub growCardBy : ℕ → List ℕ
   growCardBy m = effects.growCard lendsBy m
 
-module _ (guided : Bool) (summary : List ℕ) (s : Kept) (sheet : ℕ) where
+module _ (turned guided : Bool) (summary : List ℕ) (s : Kept) (sheet : ℕ) where
   abbrev lendsNoCardBy : Lent
-  lendsNoCardBy = lentBy guided summary s noCard sheet
+  lendsNoCardBy = lentBy turned guided summary s noCard sheet
 
   abbrev releaseOutBy : Out
   releaseOutBy = effects.releaseOut lendsNoCardBy
@@ -207,54 +193,18 @@ module _ (guided : Bool) (summary : List ℕ) (s : Kept) (sheet : ℕ) where
   abbrev pub releaseEntriesBy : List Entry
   releaseEntriesBy = set (s .entries) sheet (releaseOutBy .entry)
 
--- ---- by the map alone
+-- ---- the other calls
 
-module _ (s : Kept) (limits : List ℕ) (sheet : ℕ) where
-  abbrev pub reserveOutcome : ℕ → Placement → Outcome
-  reserveOutcome k placement = reserveOutcomeBy false [] s limits sheet k placement
+abbrev pub offerOutcome : Bool → Kept → List ℕ → ℕ → ℕ → Outcome
+offerOutcome turned s limits sheet k =
+    told (s .shape) (effects.offerAnswer (lentToWithin turned s (s .card) limits sheet) k)
 
-  abbrev pub reserveMap : ℕ → Placement → List ℕ
-  reserveMap k placement = reserveMapBy false [] s limits sheet k placement
-
-  abbrev pub reserveEntries : ℕ → Placement → List Entry
-  reserveEntries k placement = reserveEntriesBy false [] s limits sheet k placement
-
-  abbrev pub reserveCard : ℕ → Placement → List ℕ
-  reserveCard k placement = reserveCardBy false [] s limits sheet k placement
-
-  abbrev pub offerOutcome : ℕ → Outcome
-  offerOutcome k = told (s .shape) (effects.offerAnswer (lentToWithin s (s .card) limits sheet) k)
-
-  abbrev pub acceptOutcome : ℕ → ℕ → Outcome
-  acceptOutcome start k = acceptOutcomeBy false [] s limits sheet start k
-
-  abbrev pub acceptMap : ℕ → ℕ → List ℕ
-  acceptMap start k = acceptMapBy false [] s limits sheet start k
-
-  abbrev pub acceptEntries : ℕ → ℕ → List Entry
-  acceptEntries start k = acceptEntriesBy false [] s limits sheet start k
-
-  abbrev pub acceptCard : ℕ → ℕ → List ℕ
-  acceptCard start k = acceptCardBy false [] s limits sheet start k
-
-  abbrev pub growOutcome : ℕ → Outcome
-  growOutcome m = growOutcomeBy false [] s limits sheet m
-
-  abbrev pub growMap : ℕ → List ℕ
-  growMap m = growMapBy false [] s limits sheet m
-
-  abbrev pub growEntries : ℕ → List Entry
-  growEntries m = growEntriesBy false [] s limits sheet m
-
-  abbrev pub growCard : ℕ → List ℕ
-  growCard m = growCardBy false [] s limits sheet m
-
-module _ (s : Kept) (sheet : ℕ) where
+module _ (turned : Bool) (s : Kept) (sheet : ℕ) where
   abbrev lends : Lent
-  lends = lentTo s (s .card) sheet
+  lends = lentTo turned s (s .card) sheet
 
   abbrev lendsNoCard : Lent
-  lendsNoCard = lentTo s noCard sheet
+  lendsNoCard = lentTo turned s noCard sheet
 
   abbrev pub putOutcome : ℕ → List ℕ → Outcome
   putOutcome place payload = told (s .shape) (effects.putAnswer lends place payload)
@@ -284,32 +234,15 @@ module _ (s : Kept) (sheet : ℕ) where
   abbrev pub showDatedBuffer : ℕ → Date → List ℕ → List ℕ
   showDatedBuffer place date buffer = effects.showDatedBuffer lends place date buffer
 
-  abbrev pauseOut : Out
-  pauseOut = effects.pauseOut lendsNoCard
+  -- pause and resume
+  abbrev changeOut : Change → Out
+  changeOut c = effects.changeOut lendsNoCard c
 
-  abbrev pub pauseOutcome : Outcome
-  pauseOutcome = outcomeOf (s .shape) pauseOut
+  abbrev pub changeOutcome : Change → Outcome
+  changeOutcome c = outcomeOf (s .shape) (changeOut c)
 
-  abbrev pub pauseEntries : List Entry
-  pauseEntries = set (s .entries) sheet (pauseOut .entry)
-
-  abbrev resumeOut : Out
-  resumeOut = effects.resumeOut lendsNoCard
-
-  abbrev pub resumeOutcome : Outcome
-  resumeOutcome = outcomeOf (s .shape) resumeOut
-
-  abbrev pub resumeEntries : List Entry
-  resumeEntries = set (s .entries) sheet (resumeOut .entry)
-
-  abbrev pub releaseOutcome : Outcome
-  releaseOutcome = releaseOutcomeBy false [] s sheet
-
-  abbrev pub releaseMap : List ℕ
-  releaseMap = releaseMapBy false [] s sheet
-
-  abbrev pub releaseEntries : List Entry
-  releaseEntries = releaseEntriesBy false [] s sheet
+  abbrev pub changeEntries : Change → List Entry
+  changeEntries c = set (s .entries) sheet (changeOut c .entry)
 
   abbrev pub standingOutcome : Outcome
   standingOutcome = told (s .shape) (effects.standingAnswer lendsNoCard)
@@ -324,15 +257,15 @@ savedState shape map entries = record { blocks = shape .blocks; spare = shape .f
 abbrev pub saveOutcomeBy : Shape → ℕ → Outcome
 saveOutcomeBy shape number = told shape (cond (eqb number 0) Done (Refused number))
 
-module _ (shape : Shape) (map : List ℕ) (entries : List Entry) (scratch image : List ℕ) where
+module _ (turned : Bool) (shape : Shape) (map : List ℕ) (entries : List Entry) (scratch image : List ℕ) where
   abbrev pub saveOutcome : Outcome
-  saveOutcome = saveOutcomeBy shape (images.saveNumber (shape .blocks) (shape .free) map entries scratch image)
+  saveOutcome = saveOutcomeBy shape (images.saveNumber turned (shape .blocks) (shape .free) map entries scratch image)
 
   abbrev pub saveScratch : List ℕ
-  saveScratch = images.saveScratch (shape .blocks) (shape .free) map entries scratch image
+  saveScratch = images.saveScratch turned (shape .blocks) (shape .free) map entries scratch image
 
   abbrev pub saveImage : List ℕ
-  saveImage = images.saveImage (shape .blocks) (shape .free) map entries scratch image
+  saveImage = images.saveImage turned (shape .blocks) (shape .free) map entries scratch image
 
 -- ---- load
 
@@ -342,15 +275,15 @@ loadOutcomeBy shape loaded =
     cond (eqb (loaded .number) 0) (told (record { blocks = loaded .blocks; free = loaded .free }) Done)
     (told shape (Refused (loaded .number)))
 
-module _ (shape : Shape) (image map : List ℕ) (entries : List Entry) (scratch : List ℕ) where
+module _ (turned : Bool) (shape : Shape) (image map : List ℕ) (entries : List Entry) (scratch : List ℕ) where
   abbrev pub loadOutcome : Outcome
-  loadOutcome = loadOutcomeBy shape (images.loadResult image map entries scratch)
+  loadOutcome = loadOutcomeBy shape (images.loadResult turned image map entries scratch)
 
   abbrev pub loadMap : List ℕ
-  loadMap = images.loadMap image map entries scratch
+  loadMap = images.loadMap turned image map entries scratch
 
   abbrev pub loadEntries : List Entry
-  loadEntries = images.loadEntries image map entries scratch
+  loadEntries = images.loadEntries turned image map entries scratch
 
   abbrev pub loadScratch : List ℕ
-  loadScratch = images.loadScratch image map entries scratch
+  loadScratch = images.loadScratch turned image map entries scratch

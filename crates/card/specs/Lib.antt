@@ -1,7 +1,8 @@
--- What the contracts of `card` cite: the public calls, and the cores that they are made of; and the contracts as propositions.
+-- What the contracts of `card` cite: every public call and what it comes to; what a function ensures of that; and the cores.
 pub mod Calls
 pub mod Closings
-pub mod Contracts
 pub mod Cores
+pub mod Leaves
+pub mod Public
 pub mod Reserves
-pub mod DatedShows
+pub mod Ends

@@ -1,11 +1,13 @@
 // The cores of the calls: on an entry by value and plain slices, with the shape taken apart for the crates below. Every
 // decision of a call is here or below; the methods of `Shape` only find the entry and store it.
 ghost use mathlib.Core.Path.{_≡_};
-ghost use Rattle.card.specs.Calls.{outcomeOf, freshOutcomeBy, freshMapBy, saveOutcomeBy, loadOutcomeBy};
-ghost use Rattle.card.specs.Cores.{entryLeft, doneBy, lentAt, putOutcomeAt, showOutcomeAt, standingOutcomeAt};
+ghost use Rattle.roles.specs.Roles as roles;
+ghost use Rattle.card.specs.Calls.{outcomeOf, saveOutcomeBy, loadOutcomeBy};
+ghost use Rattle.card.specs.Cores.{entryLeft, doneBy, lentAt, putOutcomeAt, showOutcomeAt, standingOutcomeAt, pauseOutAt};
+ghost use Rattle.card.specs.Cores.{resumeOutAt, freshOutcomeAt, freshMapAt};
 ghost use Rattle.card.specs.Cores.{blocksOf, spareOf, nothingElse};
 ghost use Rattle.refusals.specs.Lent.{noCard};
-ghost use Rattle.refusals.specs.Effects.{putCard, completeOut, pauseOut, resumeOut, releaseOut, releaseMap, showBuffer};
+ghost use Rattle.refusals.specs.Effects.{putCard, completeOut, releaseOut, releaseMap, showBuffer};
 use crate::Outcome;
 use crate::Shape;
 use catalogue::Entry;
@@ -51,11 +53,12 @@ pub fn is_done(outcome: Outcome) -> bool
 
 // The cores: each takes the shape, and the slot if it has one, apart.
 
-pub fn fresh_core(shape: Shape, blocks: u32, map: &mut [u64], count: usize) -> Outcome
-    ensures { λ r. ⌜ (r ≡ freshOutcomeBy shape blocks (now (map .entry)) count)
-        × (now (map .exit) ≡ freshMapBy shape blocks (now (map .entry)) count) ⌝ }
+pub fn fresh_core(shape: Shape, role: u32, blocks: u32, map: &mut [u64], count: usize) -> Outcome
+    ensures { λ r. ⌜ (r ≡ freshOutcomeAt shape role blocks (now (map .entry)) count)
+        × (now (map .exit) ≡ freshMapAt shape role blocks (now (map .entry)) count) ⌝ }
 {
-    if call_search::fresh(blocks, map, count) {
+    let number = call_search::fresh(role, blocks, map, count);
+    if number == 0 {
         return Outcome {
             shape: Shape {
                 blocks: blocks,
@@ -66,12 +69,13 @@ pub fn fresh_core(shape: Shape, blocks: u32, map: &mut [u64], count: usize) -> O
     }
     Outcome {
         shape: shape,
-        answer: Answer::Refused(1),
+        answer: Answer::Refused(number),
     }
 }
 
 pub fn put_core(
     shape: Shape,
+    role: u32,
     map: &[u64],
     card: &mut [u8],
     slot: Slot,
@@ -79,12 +83,13 @@ pub fn put_core(
     place: u32,
     payload: &[u8],
 ) -> Outcome
-    ensures { λ r. let q = lentAt shape (now (map .entry)) (now (card .entry)) slot sheet in
-        ⌜ (r ≡ putOutcomeAt shape (now (map .entry)) (now (card .entry)) slot sheet place (now (payload .entry)))
+    ensures { λ r. let q = lentAt roles.put shape role (now (map .entry)) (now (card .entry)) slot sheet in
+        ⌜ (r ≡ putOutcomeAt shape role (now (map .entry)) (now (card .entry)) slot sheet place (now (payload .entry)))
         × (now (card .exit) ≡ putCard q place (now (payload .entry))) ⌝ }
 {
     let entry = slot.entry;
     let answer = call_put::put::put(
+        role,
         shape.blocks,
         shape.free,
         map,
@@ -101,12 +106,20 @@ pub fn put_core(
     }
 }
 
-pub fn complete_core(shape: Shape, map: &[u64], card: &[u8], slot: Slot, sheet: u32) -> Out
-    ensures { λ r. let q = lentAt shape (now (map .entry)) (now (card .entry)) slot sheet in
+pub fn complete_core(
+    shape: Shape,
+    role: u32,
+    map: &[u64],
+    card: &[u8],
+    slot: Slot,
+    sheet: u32,
+) -> Out
+    ensures { λ r. let q = lentAt roles.complete shape role (now (map .entry)) (now (card .entry)) slot sheet in
         ⌜ r ≡ completeOut q ⌝ }
 {
     let entry = slot.entry;
     call_put::complete::complete(
+        role,
         shape.blocks,
         shape.free,
         map,
@@ -117,29 +130,44 @@ pub fn complete_core(shape: Shape, map: &[u64], card: &[u8], slot: Slot, sheet: 
     )
 }
 
-pub fn pause_core(shape: Shape, map: &[u64], slot: Slot, sheet: u32) -> Out
-    ensures { λ r. let q = lentAt shape (now (map .entry)) noCard slot sheet in
-        ⌜ r ≡ pauseOut q ⌝ }
+pub fn pause_core(shape: Shape, role: u32, map: &[u64], slot: Slot, sheet: u32) -> Out
+    ensures { λ r. ⌜ r ≡ pauseOutAt (lentAt roles.pause shape role (now (map .entry)) noCard slot sheet) ⌝ }
 {
     let entry = slot.entry;
-    call_pause::pause::pause(shape.blocks, shape.free, map, slot.count, entry, sheet)
+    call_pause::pause::pause(
+        role,
+        shape.blocks,
+        shape.free,
+        map,
+        slot.count,
+        entry,
+        sheet,
+    )
 }
 
-pub fn resume_core(shape: Shape, map: &[u64], slot: Slot, sheet: u32) -> Out
-    ensures { λ r. let q = lentAt shape (now (map .entry)) noCard slot sheet in
-        ⌜ r ≡ resumeOut q ⌝ }
+pub fn resume_core(shape: Shape, role: u32, map: &[u64], slot: Slot, sheet: u32) -> Out
+    ensures { λ r. ⌜ r ≡ resumeOutAt (lentAt roles.resume shape role (now (map .entry)) noCard slot sheet) ⌝ }
 {
     let entry = slot.entry;
-    call_pause::resume::resume(shape.blocks, shape.free, map, slot.count, entry, sheet)
+    call_pause::resume::resume(
+        role,
+        shape.blocks,
+        shape.free,
+        map,
+        slot.count,
+        entry,
+        sheet,
+    )
 }
 
-pub fn release_core(shape: Shape, map: &mut [u64], slot: Slot, sheet: u32) -> Out
-    ensures { λ r. let q = lentAt shape (now (map .entry)) noCard slot sheet in
+pub fn release_core(shape: Shape, role: u32, map: &mut [u64], slot: Slot, sheet: u32) -> Out
+    ensures { λ r. let q = lentAt roles.release shape role (now (map .entry)) noCard slot sheet in
         ⌜ (r ≡ releaseOut q) × (now (map .exit) ≡ releaseMap q) ⌝ }
 {
     let entry = slot.entry;
     let mut none = [0u32; 0];
     call_release::release(
+        role,
         shape.blocks,
         shape.free,
         map,
@@ -153,6 +181,7 @@ pub fn release_core(shape: Shape, map: &mut [u64], slot: Slot, sheet: u32) -> Ou
 
 pub fn show_core(
     shape: Shape,
+    role: u32,
     map: &[u64],
     card: &[u8],
     slot: Slot,
@@ -160,12 +189,13 @@ pub fn show_core(
     place: u32,
     buffer: &mut [u8],
 ) -> Outcome
-    ensures { λ r. let q = lentAt shape (now (map .entry)) (now (card .entry)) slot sheet in
-        ⌜ (r ≡ showOutcomeAt shape (now (map .entry)) (now (card .entry)) slot sheet place (now (buffer .entry)))
+    ensures { λ r. let q = lentAt roles.show shape role (now (map .entry)) (now (card .entry)) slot sheet in
+        ⌜ (r ≡ showOutcomeAt shape role (now (map .entry)) (now (card .entry)) slot sheet place (now (buffer .entry)))
         × (now (buffer .exit) ≡ showBuffer q place (now (buffer .entry))) ⌝ }
 {
     let entry = slot.entry;
     let answer = call_show::show::show(
+        role,
         shape.blocks,
         shape.free,
         map,
@@ -182,11 +212,12 @@ pub fn show_core(
     }
 }
 
-pub fn standing_core(shape: Shape, map: &[u64], slot: Slot, sheet: u32) -> Outcome
-    ensures { λ r. ⌜ r ≡ standingOutcomeAt shape (now (map .entry)) slot sheet ⌝ }
+pub fn standing_core(shape: Shape, role: u32, map: &[u64], slot: Slot, sheet: u32) -> Outcome
+    ensures { λ r. ⌜ r ≡ standingOutcomeAt shape role (now (map .entry)) slot sheet ⌝ }
 {
     let entry = slot.entry;
     let answer = call_show::standing::standing(
+        role,
         shape.blocks,
         shape.free,
         map,

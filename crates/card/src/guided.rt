@@ -1,6 +1,7 @@
 // The cores of the calls that are lent a summary (document 02, request j): the same calls, guided by it.
 ghost use mathlib.Core.Bool.{true};
 ghost use mathlib.Core.Path.{_≡_};
+ghost use Rattle.roles.specs.Roles as roles;
 ghost use Rattle.card.specs.Closings.{rebuilt};
 ghost use Rattle.card.specs.Cores.{lentAtBy, besideFits};
 ghost use Rattle.card.specs.Reserves.{plainOut, plainMap, plainSummary, plainCard};
@@ -17,6 +18,7 @@ use refusals::Out;
 // The plain reserve is the one with 0, n and 1.
 pub fn reserve_guided(
     shape: Shape,
+    role: u32,
     map: &mut [u64],
     summary: &mut [u32],
     card: &mut [u8],
@@ -28,7 +30,7 @@ pub fn reserve_guided(
 ) -> Out
     ensures { λ r.
         let q = within held (now (limits .entry))
-        (lentAtBy true (now (summary .entry)) shape (now (map .entry)) (now (card .entry)) slot sheet) in
+        (lentAtBy true (now (summary .entry)) roles.reserve shape role (now (map .entry)) (now (card .entry)) slot sheet) in
         ⌜ (r ≡ plainOut q k)
         × (now (map .exit) ≡ plainMap q k)
         × (now (summary .exit) ≡ plainSummary q k)
@@ -36,6 +38,7 @@ pub fn reserve_guided(
 {
     reserve_placed_guided(
         shape,
+        role,
         map,
         summary,
         card,
@@ -52,6 +55,7 @@ pub fn reserve_guided(
 
 pub fn reserve_placed_guided(
     shape: Shape,
+    role: u32,
     map: &mut [u64],
     summary: &mut [u32],
     card: &mut [u8],
@@ -66,7 +70,7 @@ pub fn reserve_placed_guided(
 ) -> Out
     ensures { λ r.
         let q = within held (now (limits .entry))
-        (lentAtBy true (now (summary .entry)) shape (now (map .entry)) (now (card .entry)) slot sheet) in
+        (lentAtBy true (now (summary .entry)) roles.reserve shape role (now (map .entry)) (now (card .entry)) slot sheet) in
         ⌜ (r ≡ placedOut q k from before step)
         × (now (map .exit) ≡ placedMap q k from before step)
         × (now (summary .exit) ≡ placedSummary q k from before step)
@@ -79,6 +83,7 @@ pub fn reserve_placed_guided(
         step: step,
     };
     call_reserve::reserve::reserve(
+        role,
         shape.blocks,
         shape.free,
         map,
@@ -97,6 +102,7 @@ pub fn reserve_placed_guided(
 
 pub fn accept_guided(
     shape: Shape,
+    role: u32,
     map: &mut [u64],
     summary: &mut [u32],
     card: &mut [u8],
@@ -109,7 +115,7 @@ pub fn accept_guided(
 ) -> Out
     ensures { λ r.
         let q = within held (now (limits .entry))
-        (lentAtBy true (now (summary .entry)) shape (now (map .entry)) (now (card .entry)) slot sheet) in
+        (lentAtBy true (now (summary .entry)) roles.accept shape role (now (map .entry)) (now (card .entry)) slot sheet) in
         ⌜ (r ≡ acceptOut q start k)
         × (now (map .exit) ≡ acceptMap q start k)
         × (now (summary .exit) ≡ acceptSummary q start k)
@@ -117,6 +123,7 @@ pub fn accept_guided(
 {
     let entry = slot.entry;
     call_reserve::accept::accept(
+        role,
         shape.blocks,
         shape.free,
         map,
@@ -135,6 +142,7 @@ pub fn accept_guided(
 
 pub fn grow_guided(
     shape: Shape,
+    role: u32,
     map: &mut [u64],
     summary: &mut [u32],
     card: &mut [u8],
@@ -146,7 +154,7 @@ pub fn grow_guided(
 ) -> Out
     ensures { λ r.
         let q = within held (now (limits .entry))
-        (lentAtBy true (now (summary .entry)) shape (now (map .entry)) (now (card .entry)) slot sheet) in
+        (lentAtBy true (now (summary .entry)) roles.grow shape role (now (map .entry)) (now (card .entry)) slot sheet) in
         ⌜ (r ≡ growOut q m)
         × (now (map .exit) ≡ growMap q m)
         × (now (summary .exit) ≡ growSummary q m)
@@ -154,6 +162,7 @@ pub fn grow_guided(
 {
     let entry = slot.entry;
     call_reserve::grow::grow(
+        role,
         shape.blocks,
         shape.free,
         map,
@@ -171,18 +180,20 @@ pub fn grow_guided(
 
 pub fn release_guided(
     shape: Shape,
+    role: u32,
     map: &mut [u64],
     summary: &mut [u32],
     slot: Slot,
     sheet: u32,
 ) -> Out
-    ensures { λ r. let q = lentAtBy true (now (summary .entry)) shape (now (map .entry)) noCard slot sheet in
+    ensures { λ r. let q = lentAtBy true (now (summary .entry)) roles.release shape role (now (map .entry)) noCard slot sheet in
         ⌜ (r ≡ releaseOut q)
         × (now (map .exit) ≡ releaseMap q)
         × (now (summary .exit) ≡ releaseSummary q) ⌝ }
 {
     let entry = slot.entry;
     call_release::release(
+        role,
         shape.blocks,
         shape.free,
         map,
@@ -208,5 +219,5 @@ pub fn rebuild(shape: Shape, map: &[u64], summary: &mut [u32], number: u32)
     if number != 0 {
         return;
     }
-    call_summary::build_summary(shape.blocks, shape.free, map, summary);
+    call_summary::rebuild_summary(shape.blocks, shape.free, map, summary);
 }

@@ -12,14 +12,10 @@ pub mod whole;
 
 ghost use mathlib.Core.Bool.{true};
 ghost use mathlib.Core.Path.{_≡_};
-ghost use Rattle.refusals.specs.Lent.{noCard};
-ghost use Rattle.refusals.specs.Placement.{plain, placed, figures};
-ghost use Rattle.card.specs.Calls.{kept, searchOutcome, surveyOutcome, offerOutcome, acceptOutcome, acceptMap};
-ghost use Rattle.card.specs.Calls.{acceptEntries, acceptCard, reserveOutcome, reserveMap, reserveEntries, reserveCard};
-ghost use Rattle.card.specs.Calls.{growOutcome, growMap, growEntries, growCard, putOutcome, putCard, completeOutcome};
-ghost use Rattle.card.specs.Calls.{completeEntries, pauseOutcome, pauseEntries, resumeOutcome, resumeEntries};
-ghost use Rattle.card.specs.Calls.{releaseOutcome, releaseMap, releaseEntries, showOutcome, showBuffer};
-ghost use Rattle.card.specs.Calls.{standingOutcome};
+ghost use Rattle.card.specs.Ends.{searchEnd, surveyEnd, reserveEnd, reservePlacedEnd, offerEnd, acceptEnd, growEnd};
+ghost use Rattle.card.specs.Ends.{putEnd, completeEnd, pauseEnd, resumeEnd, releaseEnd, showEnd, standingEnd};
+ghost use Rattle.card.specs.Leaves.{itself, HandsBack, LeavesCard, LeavesEntries, LeavesBuffer, LeavesMapEntries};
+ghost use Rattle.card.specs.Leaves.{LeavesMapEntriesCard};
 use catalogue::Entry;
 use catalogue_standings::Answer;
 
@@ -63,10 +59,10 @@ impl Shape {
     }
 
     // The least fit for k.
-    pub fn search(self, map: &[u64], k: u32) -> Outcome
-        ensures { λ r. ⌜ r ≡ searchOutcome self (now (map .entry)) k ⌝ }
+    pub fn search(self, role: u32, map: &[u64], k: u32) -> Outcome
+        ensures { λ r. ⌜ HandsBack itself (searchEnd self role (now (map .entry)) k) r ⌝ }
     {
-        let answer = call_search::search(self.blocks, self.free, map, k);
+        let answer = call_search::search(role, self.blocks, self.free, map, k);
         Outcome {
             shape: self,
             answer: answer,
@@ -74,10 +70,10 @@ impl Shape {
     }
 
     // Free blocks, separate runs and the longest run.
-    pub fn survey(self, map: &[u64]) -> Outcome
-        ensures { λ r. ⌜ r ≡ surveyOutcome self (now (map .entry)) ⌝ }
+    pub fn survey(self, role: u32, map: &[u64]) -> Outcome
+        ensures { λ r. ⌜ HandsBack itself (surveyEnd self role (now (map .entry))) r ⌝ }
     {
-        let answer = call_search::survey(self.blocks, self.free, map);
+        let answer = call_search::survey(role, self.blocks, self.free, map);
         Outcome {
             shape: self,
             answer: answer,
@@ -87,6 +83,7 @@ impl Shape {
     // Absent becomes Open at the least fit, with k blank places.
     pub fn reserve(
         self,
+        role: u32,
         map: &mut [u64],
         catalogue: &mut [Entry],
         card: &mut [u8],
@@ -94,16 +91,13 @@ impl Shape {
         sheet: u32,
         k: u32,
     ) -> Outcome
-        ensures { λ r. let s = kept self (now (map .entry)) (now (catalogue .entry)) (now (card .entry)) in
-            let shares = now (limits .entry) in
-            ⌜ (r ≡ reserveOutcome s shares sheet k plain)
-            × (now (map .exit) ≡ reserveMap s shares sheet k plain)
-            × (now (catalogue .exit) ≡ reserveEntries s shares sheet k plain)
-            × (now (card .exit) ≡ reserveCard s shares sheet k plain) ⌝ }
+        ensures { λ r. ⌜ LeavesMapEntriesCard itself (reserveEnd self role (now (map .entry)) (now (catalogue .entry))
+            (now (card .entry)) (now (limits .entry)) sheet k) r (now (map .exit)) (now (catalogue .exit))
+            (now (card .exit)) ⌝ }
     {
         let slot = catalogue::find(&*catalogue, sheet);
         let held = catalogue_wings::held_by(&*catalogue, sheet);
-        let out = reserves::reserve_core(self, map, card, limits, slot, held, sheet, k);
+        let out = reserves::reserve_core(self, role, map, card, limits, slot, held, sheet, k);
         let entry = cores::entry_of(out);
         catalogue::store(catalogue, sheet, entry);
         cores::outcome_of(self, out)
@@ -113,6 +107,7 @@ impl Shape {
     // multiple of `step` (document 02, request a).
     pub fn reserve_placed(
         self,
+        role: u32,
         map: &mut [u64],
         catalogue: &mut [Entry],
         card: &mut [u8],
@@ -123,18 +118,15 @@ impl Shape {
         before: u32,
         step: u32,
     ) -> Outcome
-        ensures { λ r. let s = kept self (now (map .entry)) (now (catalogue .entry)) (now (card .entry)) in
-            let shares = now (limits .entry) in
-            let p = placed (figures from before step) in
-            ⌜ (r ≡ reserveOutcome s shares sheet k p)
-            × (now (map .exit) ≡ reserveMap s shares sheet k p)
-            × (now (catalogue .exit) ≡ reserveEntries s shares sheet k p)
-            × (now (card .exit) ≡ reserveCard s shares sheet k p) ⌝ }
+        ensures { λ r. ⌜ LeavesMapEntriesCard itself (reservePlacedEnd self role (now (map .entry)) (now (catalogue .entry))
+            (now (card .entry)) (now (limits .entry)) sheet k from before step) r (now (map .exit)) (now (catalogue .exit))
+            (now (card .exit)) ⌝ }
     {
         let slot = catalogue::find(&*catalogue, sheet);
         let held = catalogue_wings::held_by(&*catalogue, sheet);
         let out = reserves::reserve_placed_core(
             self,
+            role,
             map,
             card,
             limits,
@@ -154,6 +146,7 @@ impl Shape {
     // Answers where a plain reserve would start now, and the length; it changes nothing (document 02, request f).
     pub fn offer(
         self,
+        role: u32,
         map: &[u64],
         catalogue: &[Entry],
         card: &[u8],
@@ -161,18 +154,18 @@ impl Shape {
         sheet: u32,
         k: u32,
     ) -> Outcome
-        ensures { λ r. let s = kept self (now (map .entry)) (now (catalogue .entry)) (now (card .entry)) in
-            let shares = now (limits .entry) in
-            ⌜ r ≡ offerOutcome s shares sheet k ⌝ }
+        ensures { λ r. ⌜ HandsBack itself (offerEnd self role (now (map .entry)) (now (catalogue .entry))
+            (now (card .entry)) (now (limits .entry)) sheet k) r ⌝ }
     {
         let slot = catalogue::find(catalogue, sheet);
         let held = catalogue_wings::held_by(catalogue, sheet);
-        reserves::offer_core(self, map, card, limits, slot, held, sheet, k)
+        reserves::offer_core(self, role, map, card, limits, slot, held, sheet, k)
     }
 
     // Absent becomes Open at the start that is asked for, if the run there is all free (document 02, request f).
     pub fn accept(
         self,
+        role: u32,
         map: &mut [u64],
         catalogue: &mut [Entry],
         card: &mut [u8],
@@ -181,16 +174,13 @@ impl Shape {
         start: u32,
         k: u32,
     ) -> Outcome
-        ensures { λ r. let s = kept self (now (map .entry)) (now (catalogue .entry)) (now (card .entry)) in
-            let shares = now (limits .entry) in
-            ⌜ (r ≡ acceptOutcome s shares sheet start k)
-            × (now (map .exit) ≡ acceptMap s shares sheet start k)
-            × (now (catalogue .exit) ≡ acceptEntries s shares sheet start k)
-            × (now (card .exit) ≡ acceptCard s shares sheet start k) ⌝ }
+        ensures { λ r. ⌜ LeavesMapEntriesCard itself (acceptEnd self role (now (map .entry)) (now (catalogue .entry))
+            (now (card .entry)) (now (limits .entry)) sheet start k) r (now (map .exit)) (now (catalogue .exit))
+            (now (card .exit)) ⌝ }
     {
         let slot = catalogue::find(&*catalogue, sheet);
         let held = catalogue_wings::held_by(&*catalogue, sheet);
-        let out = reserves::accept_core(self, map, card, limits, slot, held, sheet, start, k);
+        let out = reserves::accept_core(self, role, map, card, limits, slot, held, sheet, start, k);
         let entry = cores::entry_of(out);
         catalogue::store(catalogue, sheet, entry);
         cores::outcome_of(self, out)
@@ -199,6 +189,7 @@ impl Shape {
     // The m blocks after an Open extent are added as blank places.
     pub fn grow(
         self,
+        role: u32,
         map: &mut [u64],
         catalogue: &mut [Entry],
         card: &mut [u8],
@@ -206,16 +197,13 @@ impl Shape {
         sheet: u32,
         m: u32,
     ) -> Outcome
-        ensures { λ r. let s = kept self (now (map .entry)) (now (catalogue .entry)) (now (card .entry)) in
-            let shares = now (limits .entry) in
-            ⌜ (r ≡ growOutcome s shares sheet m)
-            × (now (map .exit) ≡ growMap s shares sheet m)
-            × (now (catalogue .exit) ≡ growEntries s shares sheet m)
-            × (now (card .exit) ≡ growCard s shares sheet m) ⌝ }
+        ensures { λ r. ⌜ LeavesMapEntriesCard itself (growEnd self role (now (map .entry)) (now (catalogue .entry))
+            (now (card .entry)) (now (limits .entry)) sheet m) r (now (map .exit)) (now (catalogue .exit))
+            (now (card .exit)) ⌝ }
     {
         let slot = catalogue::find(&*catalogue, sheet);
         let held = catalogue_wings::held_by(&*catalogue, sheet);
-        let out = reserves::grow_core(self, map, card, limits, slot, held, sheet, m);
+        let out = reserves::grow_core(self, role, map, card, limits, slot, held, sheet, m);
         let entry = cores::entry_of(out);
         catalogue::store(catalogue, sheet, entry);
         cores::outcome_of(self, out)
@@ -224,6 +212,7 @@ impl Shape {
     // On Open, a place becomes the payload.
     pub fn put(
         self,
+        role: u32,
         map: &[u64],
         catalogue: &[Entry],
         card: &mut [u8],
@@ -231,62 +220,63 @@ impl Shape {
         place: u32,
         payload: &[u8],
     ) -> Outcome
-        ensures { λ r. let s = kept self (now (map .entry)) (now (catalogue .entry)) (now (card .entry)) in
-            ⌜ (r ≡ putOutcome s sheet place (now (payload .entry)))
-            × (now (card .exit) ≡ putCard s sheet place (now (payload .entry))) ⌝ }
+        ensures { λ r. ⌜ LeavesCard itself (putEnd self role (now (map .entry)) (now (catalogue .entry)) (now (card .entry))
+            sheet place (now (payload .entry))) r (now (card .exit)) ⌝ }
     {
         let slot = catalogue::find(catalogue, sheet);
-        cores::put_core(self, map, card, slot, sheet, place, payload)
+        cores::put_core(self, role, map, card, slot, sheet, place, payload)
     }
 
     // Open becomes Complete if every place is filled.
-    pub fn complete(self, map: &[u64], catalogue: &mut [Entry], card: &[u8], sheet: u32) -> Outcome
-        ensures { λ r. let s = kept self (now (map .entry)) (now (catalogue .entry)) (now (card .entry)) in
-            ⌜ (r ≡ completeOutcome s sheet)
-            × (now (catalogue .exit) ≡ completeEntries s sheet) ⌝ }
+    pub fn complete(
+        self,
+        role: u32,
+        map: &[u64],
+        catalogue: &mut [Entry],
+        card: &[u8],
+        sheet: u32,
+    ) -> Outcome
+        ensures { λ r. ⌜ LeavesEntries itself (completeEnd self role (now (map .entry)) (now (catalogue .entry))
+            (now (card .entry)) sheet) r (now (catalogue .exit)) ⌝ }
     {
         let slot = catalogue::find(&*catalogue, sheet);
-        let out = cores::complete_core(self, map, card, slot, sheet);
+        let out = cores::complete_core(self, role, map, card, slot, sheet);
         let entry = cores::entry_of(out);
         catalogue::store(catalogue, sheet, entry);
         cores::outcome_of(self, out)
     }
 
     // Absent and Complete become Paused; start and length remain (document 02 (g)).
-    pub fn pause(self, map: &[u64], catalogue: &mut [Entry], sheet: u32) -> Outcome
-        ensures { λ r. let s = kept self (now (map .entry)) (now (catalogue .entry)) noCard in
-            ⌜ (r ≡ pauseOutcome s sheet)
-            × (now (catalogue .exit) ≡ pauseEntries s sheet) ⌝ }
+    pub fn pause(self, role: u32, map: &[u64], catalogue: &mut [Entry], sheet: u32) -> Outcome
+        ensures { λ r. ⌜ LeavesEntries itself (pauseEnd self role (now (map .entry)) (now (catalogue .entry)) sheet) r
+            (now (catalogue .exit)) ⌝ }
     {
         let slot = catalogue::find(&*catalogue, sheet);
-        let out = cores::pause_core(self, map, slot, sheet);
+        let out = cores::pause_core(self, role, map, slot, sheet);
         let entry = cores::entry_of(out);
         catalogue::store(catalogue, sheet, entry);
         cores::outcome_of(self, out)
     }
 
     // Paused with blocks becomes Complete (document 02 (g)).
-    pub fn resume(self, map: &[u64], catalogue: &mut [Entry], sheet: u32) -> Outcome
-        ensures { λ r. let s = kept self (now (map .entry)) (now (catalogue .entry)) noCard in
-            ⌜ (r ≡ resumeOutcome s sheet)
-            × (now (catalogue .exit) ≡ resumeEntries s sheet) ⌝ }
+    pub fn resume(self, role: u32, map: &[u64], catalogue: &mut [Entry], sheet: u32) -> Outcome
+        ensures { λ r. ⌜ LeavesEntries itself (resumeEnd self role (now (map .entry)) (now (catalogue .entry)) sheet) r
+            (now (catalogue .exit)) ⌝ }
     {
         let slot = catalogue::find(&*catalogue, sheet);
-        let out = cores::resume_core(self, map, slot, sheet);
+        let out = cores::resume_core(self, role, map, slot, sheet);
         let entry = cores::entry_of(out);
         catalogue::store(catalogue, sheet, entry);
         cores::outcome_of(self, out)
     }
 
     // Any standing but Absent becomes Absent, and its blocks free.
-    pub fn release(self, map: &mut [u64], catalogue: &mut [Entry], sheet: u32) -> Outcome
-        ensures { λ r. let s = kept self (now (map .entry)) (now (catalogue .entry)) noCard in
-            ⌜ (r ≡ releaseOutcome s sheet)
-            × (now (map .exit) ≡ releaseMap s sheet)
-            × (now (catalogue .exit) ≡ releaseEntries s sheet) ⌝ }
+    pub fn release(self, role: u32, map: &mut [u64], catalogue: &mut [Entry], sheet: u32) -> Outcome
+        ensures { λ r. ⌜ LeavesMapEntries itself (releaseEnd self role (now (map .entry)) (now (catalogue .entry)) sheet) r
+            (now (map .exit)) (now (catalogue .exit)) ⌝ }
     {
         let slot = catalogue::find(&*catalogue, sheet);
-        let out = cores::release_core(self, map, slot, sheet);
+        let out = cores::release_core(self, role, map, slot, sheet);
         let entry = cores::entry_of(out);
         catalogue::store(catalogue, sheet, entry);
         cores::outcome_of(self, out)
@@ -295,6 +285,7 @@ impl Shape {
     // Copies a payload of a Complete sheet.
     pub fn show(
         self,
+        role: u32,
         map: &[u64],
         catalogue: &[Entry],
         card: &[u8],
@@ -302,20 +293,18 @@ impl Shape {
         place: u32,
         buffer: &mut [u8],
     ) -> Outcome
-        ensures { λ r. let s = kept self (now (map .entry)) (now (catalogue .entry)) (now (card .entry)) in
-            ⌜ (r ≡ showOutcome s sheet place (now (buffer .entry)))
-            × (now (buffer .exit) ≡ showBuffer s sheet place (now (buffer .entry))) ⌝ }
+        ensures { λ r. ⌜ LeavesBuffer itself (showEnd self role (now (map .entry)) (now (catalogue .entry))
+            (now (card .entry)) sheet place (now (buffer .entry))) r (now (buffer .exit)) ⌝ }
     {
         let slot = catalogue::find(catalogue, sheet);
-        cores::show_core(self, map, card, slot, sheet, place, buffer)
+        cores::show_core(self, role, map, card, slot, sheet, place, buffer)
     }
 
     // Answers mark, start and length.
-    pub fn standing(self, map: &[u64], catalogue: &[Entry], sheet: u32) -> Outcome
-        ensures { λ r. let s = kept self (now (map .entry)) (now (catalogue .entry)) noCard in
-            ⌜ r ≡ standingOutcome s sheet ⌝ }
+    pub fn standing(self, role: u32, map: &[u64], catalogue: &[Entry], sheet: u32) -> Outcome
+        ensures { λ r. ⌜ HandsBack itself (standingEnd self role (now (map .entry)) (now (catalogue .entry)) sheet) r ⌝ }
     {
         let slot = catalogue::find(catalogue, sheet);
-        cores::standing_core(self, map, slot, sheet)
+        cores::standing_core(self, role, map, slot, sheet)
     }
 }

@@ -1,6 +1,7 @@
 // The cores of the calls that take blocks, or would: reserve, offer, accept and grow. As in cores.rt, the shape and the slot
 // are taken apart for the crates below.
 ghost use mathlib.Core.Path.{_≡_};
+ghost use Rattle.roles.specs.Roles as roles;
 ghost use Rattle.card.specs.Cores.{lentAt};
 ghost use Rattle.card.specs.Cores.{offerOutcomeAt};
 ghost use Rattle.card.specs.Reserves.{plainOut, plainMap, plainCard, placedOut, placedMap, placedCard};
@@ -15,6 +16,7 @@ use refusals::Out;
 // The plain reserve is the one with 0, n and 1.
 pub fn reserve_core(
     shape: Shape,
+    role: u32,
     map: &mut [u64],
     card: &mut [u8],
     limits: &[u32; 8],
@@ -23,7 +25,8 @@ pub fn reserve_core(
     sheet: u32,
     k: u32,
 ) -> Out
-    ensures { λ r. let q = within held (now (limits .entry)) (lentAt shape (now (map .entry)) (now (card .entry)) slot
+    ensures { λ r. let q = within held (now (limits .entry)) (lentAt roles.reserve shape role (now (map .entry)) (now (card
+        .entry)) slot
         sheet) in
         ⌜ (r ≡ plainOut q k)
         × (now (map .exit) ≡ plainMap q k)
@@ -31,6 +34,7 @@ pub fn reserve_core(
 {
     reserve_placed_core(
         shape,
+        role,
         map,
         card,
         limits,
@@ -46,6 +50,7 @@ pub fn reserve_core(
 
 pub fn reserve_placed_core(
     shape: Shape,
+    role: u32,
     map: &mut [u64],
     card: &mut [u8],
     limits: &[u32; 8],
@@ -57,7 +62,8 @@ pub fn reserve_placed_core(
     before: u32,
     step: u32,
 ) -> Out
-    ensures { λ r. let q = within held (now (limits .entry)) (lentAt shape (now (map .entry)) (now (card .entry)) slot
+    ensures { λ r. let q = within held (now (limits .entry)) (lentAt roles.reserve shape role (now (map .entry)) (now (card
+        .entry)) slot
         sheet) in
         ⌜ (r ≡ placedOut q k from before step)
         × (now (map .exit) ≡ placedMap q k from before step)
@@ -71,6 +77,7 @@ pub fn reserve_placed_core(
     };
     let mut none = [0u32; 0];
     call_reserve::reserve::reserve(
+        role,
         shape.blocks,
         shape.free,
         map,
@@ -89,6 +96,7 @@ pub fn reserve_placed_core(
 
 pub fn offer_core(
     shape: Shape,
+    role: u32,
     map: &[u64],
     card: &[u8],
     limits: &[u32; 8],
@@ -97,11 +105,12 @@ pub fn offer_core(
     sheet: u32,
     k: u32,
 ) -> Outcome
-    ensures { λ r. ⌜ r ≡ offerOutcomeAt shape (now (map .entry)) (now (card .entry)) (now (limits .entry)) slot held
+    ensures { λ r. ⌜ r ≡ offerOutcomeAt shape role (now (map .entry)) (now (card .entry)) (now (limits .entry)) slot held
         sheet k ⌝ }
 {
     let entry = slot.entry;
     let answer = call_reserve::offer::offer(
+        role,
         shape.blocks,
         shape.free,
         map,
@@ -121,6 +130,7 @@ pub fn offer_core(
 
 pub fn accept_core(
     shape: Shape,
+    role: u32,
     map: &mut [u64],
     card: &mut [u8],
     limits: &[u32; 8],
@@ -130,7 +140,8 @@ pub fn accept_core(
     start: u32,
     k: u32,
 ) -> Out
-    ensures { λ r. let q = within held (now (limits .entry)) (lentAt shape (now (map .entry)) (now (card .entry)) slot
+    ensures { λ r. let q = within held (now (limits .entry)) (lentAt roles.accept shape role (now (map .entry)) (now (card
+        .entry)) slot
         sheet) in
         ⌜ (r ≡ acceptOut q start k)
         × (now (map .exit) ≡ acceptMap q start k)
@@ -139,6 +150,7 @@ pub fn accept_core(
     let entry = slot.entry;
     let mut none = [0u32; 0];
     call_reserve::accept::accept(
+        role,
         shape.blocks,
         shape.free,
         map,
@@ -157,6 +169,7 @@ pub fn accept_core(
 
 pub fn grow_core(
     shape: Shape,
+    role: u32,
     map: &mut [u64],
     card: &mut [u8],
     limits: &[u32; 8],
@@ -165,7 +178,8 @@ pub fn grow_core(
     sheet: u32,
     m: u32,
 ) -> Out
-    ensures { λ r. let q = within held (now (limits .entry)) (lentAt shape (now (map .entry)) (now (card .entry)) slot
+    ensures { λ r. let q = within held (now (limits .entry)) (lentAt roles.grow shape role (now (map .entry)) (now (card
+        .entry)) slot
         sheet) in
         ⌜ (r ≡ growOut q m)
         × (now (map .exit) ≡ growMap q m)
@@ -174,6 +188,7 @@ pub fn grow_core(
     let entry = slot.entry;
     let mut none = [0u32; 0];
     call_reserve::grow::grow(
+        role,
         shape.blocks,
         shape.free,
         map,

@@ -1,15 +1,8 @@
 // The calls on a summary beside the map, and the calls that are lent one (document 02, request j).
-ghost use mathlib.Core.Bool.{true};
-ghost use mathlib.Core.Path.{_≡_};
-ghost use Rattle.refusals.specs.Lent.{noCard};
-ghost use Rattle.refusals.specs.Placement.{plain, placed, figures};
-ghost use Rattle.card.specs.Calls.{kept, buildOutcome, buildSummary, checkOutcome};
-ghost use Rattle.card.specs.Calls.{reserveOutcomeBy, reserveMapBy, reserveSummaryBy, reserveEntriesBy, reserveCardBy};
-ghost use Rattle.card.specs.Calls.{acceptOutcomeBy, acceptMapBy, acceptSummaryBy, acceptEntriesBy, acceptCardBy};
-ghost use Rattle.card.specs.Calls.{growOutcomeBy, growMapBy, growSummaryBy, growEntriesBy, growCardBy};
-ghost use Rattle.card.specs.Calls.{releaseOutcomeBy, releaseMapBy, releaseSummaryBy, releaseEntriesBy};
-ghost use Rattle.card.specs.Closings.{closeOutcomeBy, closeMapBy, closeSummaryBy, closeEntriesBy, closeCardBy};
-ghost use Rattle.card.specs.Closings.{closeScratchBy};
+ghost use Rattle.card.specs.Ends.{summaryBuildEnd, summaryCheckEnd, reserveWithSummaryEnd, reservePlacedWithSummaryEnd};
+ghost use Rattle.card.specs.Ends.{acceptWithSummaryEnd, growWithSummaryEnd, releaseWithSummaryEnd, closeWithSummaryEnd};
+ghost use Rattle.card.specs.Leaves.{itself, HandsBack, LeavesSummary, LeavesMapSummaryEntries};
+ghost use Rattle.card.specs.Leaves.{LeavesMapSummaryEntriesCard, LeavesMapSummaryEntriesCardScratch};
 use crate::Outcome;
 use crate::Shape;
 use crate::cores;
@@ -18,12 +11,11 @@ use catalogue::Entry;
 
 impl Shape {
     // The summary becomes the map's own.
-    pub fn summary_build(self, map: &[u64], summary: &mut [u32]) -> Outcome
-        ensures { λ r.
-            ⌜ (r ≡ buildOutcome self (now (map .entry)) (now (summary .entry)))
-            × (now (summary .exit) ≡ buildSummary self (now (map .entry)) (now (summary .entry))) ⌝ }
+    pub fn summary_build(self, role: u32, map: &[u64], summary: &mut [u32]) -> Outcome
+        ensures { λ r. ⌜ LeavesSummary itself (summaryBuildEnd self role (now (map .entry)) (now (summary .entry))) r
+            (now (summary .exit)) ⌝ }
     {
-        let answer = call_summary::build_summary(self.blocks, self.free, map, summary);
+        let answer = call_summary::build_summary(role, self.blocks, self.free, map, summary);
         Outcome {
             shape: self,
             answer: answer,
@@ -31,10 +23,10 @@ impl Shape {
     }
 
     // Whether the summary is the map's own.
-    pub fn summary_check(self, map: &[u64], summary: &[u32]) -> Outcome
-        ensures { λ r. ⌜ r ≡ checkOutcome self (now (map .entry)) (now (summary .entry)) ⌝ }
+    pub fn summary_check(self, role: u32, map: &[u64], summary: &[u32]) -> Outcome
+        ensures { λ r. ⌜ HandsBack itself (summaryCheckEnd self role (now (map .entry)) (now (summary .entry))) r ⌝ }
     {
-        let answer = call_summary::check_summary(self.blocks, self.free, map, summary);
+        let answer = call_summary::check_summary(role, self.blocks, self.free, map, summary);
         Outcome {
             shape: self,
             answer: answer,
@@ -44,6 +36,7 @@ impl Shape {
     // Reserve, guided by the summary.
     pub fn reserve_with_summary(
         self,
+        role: u32,
         map: &mut [u64],
         summary: &mut [u32],
         catalogue: &mut [Entry],
@@ -52,17 +45,24 @@ impl Shape {
         sheet: u32,
         k: u32,
     ) -> Outcome
-        ensures { λ r. let s = kept self (now (map .entry)) (now (catalogue .entry)) (now (card .entry)) in
-            let shares = now (limits .entry) in
-            ⌜ (r ≡ reserveOutcomeBy true (now (summary .entry)) s shares sheet k plain)
-            × (now (map .exit) ≡ reserveMapBy true (now (summary .entry)) s shares sheet k plain)
-            × (now (summary .exit) ≡ reserveSummaryBy true (now (summary .entry)) s shares sheet k plain)
-            × (now (catalogue .exit) ≡ reserveEntriesBy true (now (summary .entry)) s shares sheet k plain)
-            × (now (card .exit) ≡ reserveCardBy true (now (summary .entry)) s shares sheet k plain) ⌝ }
+        ensures { λ r. ⌜ LeavesMapSummaryEntriesCard itself (reserveWithSummaryEnd self role (now (map .entry))
+            (now (summary .entry)) (now (catalogue .entry)) (now (card .entry)) (now (limits .entry)) sheet k) r
+            (now (map .exit)) (now (summary .exit)) (now (catalogue .exit)) (now (card .exit)) ⌝ }
     {
         let slot = catalogue::find(&*catalogue, sheet);
         let held = catalogue_wings::held_by(&*catalogue, sheet);
-        let out = guided::reserve_guided(self, map, summary, card, limits, slot, held, sheet, k);
+        let out = guided::reserve_guided(
+            self,
+            role,
+            map,
+            summary,
+            card,
+            limits,
+            slot,
+            held,
+            sheet,
+            k,
+        );
         let entry = cores::entry_of(out);
         catalogue::store(catalogue, sheet, entry);
         cores::outcome_of(self, out)
@@ -71,6 +71,7 @@ impl Shape {
     // The placed reserve, guided by the summary.
     pub fn reserve_placed_with_summary(
         self,
+        role: u32,
         map: &mut [u64],
         summary: &mut [u32],
         catalogue: &mut [Entry],
@@ -82,19 +83,15 @@ impl Shape {
         before: u32,
         step: u32,
     ) -> Outcome
-        ensures { λ r. let s = kept self (now (map .entry)) (now (catalogue .entry)) (now (card .entry)) in
-            let shares = now (limits .entry) in
-            let p = placed (figures from before step) in
-            ⌜ (r ≡ reserveOutcomeBy true (now (summary .entry)) s shares sheet k p)
-            × (now (map .exit) ≡ reserveMapBy true (now (summary .entry)) s shares sheet k p)
-            × (now (summary .exit) ≡ reserveSummaryBy true (now (summary .entry)) s shares sheet k p)
-            × (now (catalogue .exit) ≡ reserveEntriesBy true (now (summary .entry)) s shares sheet k p)
-            × (now (card .exit) ≡ reserveCardBy true (now (summary .entry)) s shares sheet k p) ⌝ }
+        ensures { λ r. ⌜ LeavesMapSummaryEntriesCard itself (reservePlacedWithSummaryEnd self role (now (map .entry))
+            (now (summary .entry)) (now (catalogue .entry)) (now (card .entry)) (now (limits .entry)) sheet k from before
+            step) r (now (map .exit)) (now (summary .exit)) (now (catalogue .exit)) (now (card .exit)) ⌝ }
     {
         let slot = catalogue::find(&*catalogue, sheet);
         let held = catalogue_wings::held_by(&*catalogue, sheet);
         let out = guided::reserve_placed_guided(
             self,
+            role,
             map,
             summary,
             card,
@@ -115,6 +112,7 @@ impl Shape {
     // Accept, after which the summary follows the map.
     pub fn accept_with_summary(
         self,
+        role: u32,
         map: &mut [u64],
         summary: &mut [u32],
         catalogue: &mut [Entry],
@@ -124,18 +122,15 @@ impl Shape {
         start: u32,
         k: u32,
     ) -> Outcome
-        ensures { λ r. let s = kept self (now (map .entry)) (now (catalogue .entry)) (now (card .entry)) in
-            let shares = now (limits .entry) in
-            ⌜ (r ≡ acceptOutcomeBy true (now (summary .entry)) s shares sheet start k)
-            × (now (map .exit) ≡ acceptMapBy true (now (summary .entry)) s shares sheet start k)
-            × (now (summary .exit) ≡ acceptSummaryBy true (now (summary .entry)) s shares sheet start k)
-            × (now (catalogue .exit) ≡ acceptEntriesBy true (now (summary .entry)) s shares sheet start k)
-            × (now (card .exit) ≡ acceptCardBy true (now (summary .entry)) s shares sheet start k) ⌝ }
+        ensures { λ r. ⌜ LeavesMapSummaryEntriesCard itself (acceptWithSummaryEnd self role (now (map .entry))
+            (now (summary .entry)) (now (catalogue .entry)) (now (card .entry)) (now (limits .entry)) sheet start k) r
+            (now (map .exit)) (now (summary .exit)) (now (catalogue .exit)) (now (card .exit)) ⌝ }
     {
         let slot = catalogue::find(&*catalogue, sheet);
         let held = catalogue_wings::held_by(&*catalogue, sheet);
         let out = guided::accept_guided(
             self,
+            role,
             map,
             summary,
             card,
@@ -154,6 +149,7 @@ impl Shape {
     // Grow, after which the summary follows the map.
     pub fn grow_with_summary(
         self,
+        role: u32,
         map: &mut [u64],
         summary: &mut [u32],
         catalogue: &mut [Entry],
@@ -162,17 +158,13 @@ impl Shape {
         sheet: u32,
         m: u32,
     ) -> Outcome
-        ensures { λ r. let s = kept self (now (map .entry)) (now (catalogue .entry)) (now (card .entry)) in
-            let shares = now (limits .entry) in
-            ⌜ (r ≡ growOutcomeBy true (now (summary .entry)) s shares sheet m)
-            × (now (map .exit) ≡ growMapBy true (now (summary .entry)) s shares sheet m)
-            × (now (summary .exit) ≡ growSummaryBy true (now (summary .entry)) s shares sheet m)
-            × (now (catalogue .exit) ≡ growEntriesBy true (now (summary .entry)) s shares sheet m)
-            × (now (card .exit) ≡ growCardBy true (now (summary .entry)) s shares sheet m) ⌝ }
+        ensures { λ r. ⌜ LeavesMapSummaryEntriesCard itself (growWithSummaryEnd self role (now (map .entry))
+            (now (summary .entry)) (now (catalogue .entry)) (now (card .entry)) (now (limits .entry)) sheet m) r
+            (now (map .exit)) (now (summary .exit)) (now (catalogue .exit)) (now (card .exit)) ⌝ }
     {
         let slot = catalogue::find(&*catalogue, sheet);
         let held = catalogue_wings::held_by(&*catalogue, sheet);
-        let out = guided::grow_guided(self, map, summary, card, limits, slot, held, sheet, m);
+        let out = guided::grow_guided(self, role, map, summary, card, limits, slot, held, sheet, m);
         let entry = cores::entry_of(out);
         catalogue::store(catalogue, sheet, entry);
         cores::outcome_of(self, out)
@@ -181,19 +173,18 @@ impl Shape {
     // Release, after which the summary follows the map.
     pub fn release_with_summary(
         self,
+        role: u32,
         map: &mut [u64],
         summary: &mut [u32],
         catalogue: &mut [Entry],
         sheet: u32,
     ) -> Outcome
-        ensures { λ r. let s = kept self (now (map .entry)) (now (catalogue .entry)) noCard in
-            ⌜ (r ≡ releaseOutcomeBy true (now (summary .entry)) s sheet)
-            × (now (map .exit) ≡ releaseMapBy true (now (summary .entry)) s sheet)
-            × (now (summary .exit) ≡ releaseSummaryBy true (now (summary .entry)) s sheet)
-            × (now (catalogue .exit) ≡ releaseEntriesBy true (now (summary .entry)) s sheet) ⌝ }
+        ensures { λ r. ⌜ LeavesMapSummaryEntries itself (releaseWithSummaryEnd self role (now (map .entry))
+            (now (summary .entry)) (now (catalogue .entry)) sheet) r (now (map .exit)) (now (summary .exit))
+            (now (catalogue .exit)) ⌝ }
     {
         let slot = catalogue::find(&*catalogue, sheet);
-        let out = guided::release_guided(self, map, summary, slot, sheet);
+        let out = guided::release_guided(self, role, map, summary, slot, sheet);
         let entry = cores::entry_of(out);
         catalogue::store(catalogue, sheet, entry);
         cores::outcome_of(self, out)
@@ -202,24 +193,21 @@ impl Shape {
     // Closing, after which the summary is built anew (document 02 (l)).
     pub fn close_with_summary(
         self,
+        role: u32,
         map: &mut [u64],
         summary: &mut [u32],
         catalogue: &mut [Entry],
         card: &mut [u8],
         scratch: &mut [u64],
     ) -> Outcome
-        ensures { λ r. let s = kept self (now (map .entry)) (now (catalogue .entry)) (now (card .entry)) in
-            ⌜ (r ≡ closeOutcomeBy true (now (summary .entry)) s (now (scratch .entry)))
-            × (now (map .exit) ≡ closeMapBy true (now (summary .entry)) s (now (scratch .entry)))
-            × (now (summary .exit) ≡ closeSummaryBy true (now (summary .entry)) s (now (scratch .entry)))
-            × (now (catalogue .exit) ≡ closeEntriesBy true (now (summary .entry)) s (now (scratch .entry)))
-            × (now (card .exit) ≡ closeCardBy true (now (summary .entry)) s (now (scratch .entry)))
-            × (now (scratch .exit) ≡ closeScratchBy true (now (summary .entry)) s (now (scratch .entry))) ⌝ }
+        ensures { λ r. ⌜ LeavesMapSummaryEntriesCardScratch itself (closeWithSummaryEnd self role (now (map .entry))
+            (now (summary .entry)) (now (catalogue .entry)) (now (card .entry)) (now (scratch .entry))) r (now (map .exit))
+            (now (summary .exit)) (now (catalogue .exit)) (now (card .exit)) (now (scratch .exit)) ⌝ }
     {
         let n = cores::blocks_of(self);
         let free = cores::free_of(self);
         let fits = guided::beside_fits(&*map, &*summary);
-        let number = closing::close(n, free, fits, map, catalogue, card, scratch);
+        let number = closing::close(role, n, free, fits, map, catalogue, card, scratch);
         guided::rebuild(self, &*map, summary, number);
         cores::save_outcome(self, number)
     }

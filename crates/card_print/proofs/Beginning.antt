@@ -10,7 +10,7 @@ use Rattle.map_blocks.specs.Blocks.{free}
 use Rattle.survey.specs.Survey.{countsOf}
 use Rattle.survey.specs.declared.Counts.{Counts}
 use Rattle.catalogue_standings.specs.Limits.{shapeFits}
-use Rattle.image.specs.declared.Loaded.{Loaded}
+use Rattle.pagunlit_replies.specs.declared.Reply.{Reply}
 use Rattle.printer.specs.Sheets.{headWriter, headWritten}
 use Rattle.printer.specs.Text.{refusalText}
 use Rattle.printer.specs.Writing.{Writes}
@@ -23,7 +23,7 @@ pub refused-at : (number : ℕ) (text : List ℕ) (r : ℕ) (text′ : List ℕ)
 unfolding refusalWriter refusalWritten
 refused-at number text r text′ w = (λ x. record { at = w .ends x; sheet = 0; stop = true }, w .leaves)
 
-module _ (loaded : Loaded) (map : List ℕ) (count : ℕ) (text : List ℕ) (r : Writer) (text′ : List ℕ) where
+module _ (loaded : Reply) (map : List ℕ) (count : ℕ) (text : List ℕ) (r : Writer) (text′ : List ℕ) where
   abbrev Begins : Type 0
   Begins = (r ≡ beginWriter loaded map count text) × (text′ ≡ beginWritten loaded map count text)
 
@@ -32,16 +32,20 @@ module _ (loaded : Loaded) (map : List ℕ) (count : ℕ) (text : List ℕ) (r :
   unfolding beginWriter beginWritten
   refusal-begins e p q = (simp (ne-eqb (loaded .number) 0 e) p, simp (ne-eqb (loaded .number) 0 e) q)
 
-  pub misfit-begins : loaded .number ≡ 0 → shapeFits (loaded .blocks) (loaded .free) (length map) ≡ false
+  pub misfit-begins : loaded .number ≡ 0 → shapeFits (loaded .shape .blocks) (loaded .shape .free) (length map) ≡ false
       → r ≡ refusalWriter 1 text → text′ ≡ refusalWritten 1 text → Begins
   unfolding beginWriter beginWritten
   misfit-begins e f p q = (simp (eq-eqb (loaded .number) 0 e, f) p, simp (eq-eqb (loaded .number) 0 e, f) q)
 
-  pub card-begins : (counts : Counts) → loaded .number ≡ 0 → shapeFits (loaded .blocks) (loaded .free) (length map) ≡ true
-      → counts ≡ countsOf (free map) (loaded .blocks) → r ≡ headWriter (loaded .blocks) (loaded .free) count counts text
-      → text′ ≡ headWritten (loaded .blocks) (loaded .free) count counts text → Begins
+  pub card-begins : (counts : Counts) → loaded .number ≡ 0 → shapeFits (loaded .shape .blocks) (loaded .shape .free) (length
+      map) ≡ true
+      → counts ≡ countsOf (free map) (loaded .shape .blocks) → r ≡ headWriter (loaded .shape .blocks) (loaded .shape .free)
+      count counts text
+      → text′ ≡ headWritten (loaded .shape .blocks) (loaded .shape .free) count counts text → Begins
   unfolding beginWriter beginWritten
   card-begins counts e f c p q = (
-    simp (eq-eqb (loaded .number) 0 e, f) (p ∙ ap (λ (x : Counts). headWriter (loaded .blocks) (loaded .free) count x text) c),
-    simp (eq-eqb (loaded .number) 0 e, f) (q ∙ ap (λ (x : Counts). headWritten (loaded .blocks) (loaded .free) count x text) c),
+    simp (eq-eqb (loaded .number) 0 e, f) (p ∙ ap (λ (x : Counts). headWriter (loaded .shape .blocks) (loaded .shape .free)
+        count x text) c),
+    simp (eq-eqb (loaded .number) 0 e, f) (q ∙ ap (λ (x : Counts). headWritten (loaded .shape .blocks) (loaded .shape .free)
+        count x text) c),
   )

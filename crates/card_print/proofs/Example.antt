@@ -3,7 +3,7 @@
 -- Assumes nothing.
 use Prim.Native.Nat.{ℕ, zero, suc}
 use mathlib.Core.Path.{_≡_, refl, subst, _∙_}
-use mathlib.Core.Bool.{true}
+use mathlib.Core.Bool.{true, false}
 use mathlib.Core.List.{List, _++_}
 use native.Mathlib.Omega.{arith}
 use lib.ListN.{replicate}
@@ -34,7 +34,7 @@ whole : sound card ≡ true
 unfolding sound undamaged coverings standingOf all free countsOf
 whole = refl
 
-pub example-printed : printedOf (head ++ replicate fill 0 ++ sums) 2 2 2 ≡ text
+pub example-printed : printedOf false (head ++ replicate fill 0 ++ sums) 2 2 2 ≡ text
 example-printed =
-    subst (λ (image : List ℕ). printedOf image 2 2 2 ≡ text) example
+    subst (λ (image : List ℕ). printedOf false image 2 2 2 ≡ text) example
     (saved-printed card words fits whole ∙ printed .worked-card)

@@ -24,6 +24,9 @@ use Rattle.image.specs.Table.{saveFits, saveVerdict, loadRows, loadVerdict}
 use Rattle.image.proofs.Fitting.{head-to}
 use Rattle.image.proofs.Journey.{Words, entries-length, saved-state, saved-accepted}
 use Rattle.image.proofs.Verdicts.{accepted-to, to-saved}
+use Rattle.roles.specs.Roles as names
+use Rattle.roles.specs.Roles.{turnedAway, service, may, serviceMay}
+use Rattle.card.specs.declared.Shape.{Shape}
 use Rattle.printer.specs.Text.{AllNumbers, Printable, stateText, refusalText}
 use Rattle.printer.proofs.Room.{card-whole, refusal-whole}
 use Rattle.printer.specs.Writing.{Writes}
@@ -31,22 +34,23 @@ use Rattle.card_print.specs.Printed.{printedOf, Prints, room, Begins}
 
 -- ---- the number of a refusal
 
-small-row : (number : ℕ) (test : Bool) (rows : List Row) → number ≤ 14 → rowNumber (firstOf rows) ≤ 14
-    → rowNumber (firstOf (row number test ∷ rows)) ≤ 14
+small-row : (number : ℕ) (test : Bool) (rows : List Row) → number ≤ 21 → rowNumber (firstOf rows) ≤ 21
+    → rowNumber (firstOf (row number test ∷ rows)) ≤ 21
 unfolding firstOf
 small-row number true rows n f = n
 small-row number false rows n f = f
 
-no-row : rowNumber (firstOf []) ≤ 14
+no-row : rowNumber (firstOf []) ≤ 21
 unfolding firstOf
 no-row = omega arith
 
--- no row of load has a number above 14
-load-number : (image : List ℕ) (maplen count scratchlen : ℕ) → rowNumber (loadVerdict image maplen count scratchlen) ≤ 14
+-- no row of load has a number above 21
+load-number : (turned : Bool) (image : List ℕ) (maplen count scratchlen : ℕ)
+    → rowNumber (loadVerdict turned image maplen count scratchlen) ≤ 21
 unfolding loadVerdict loadRows
-load-number image maplen count scratchlen =
-    small-row 12 _ _ (omega arith) (small-row 13 _ _ (omega arith)
-    (small-row 14 _ _ (omega arith) (small-row 1 _ _ (omega arith) (small-row 14 _ [] (omega arith) no-row))))
+load-number turned image maplen count scratchlen =
+    small-row 21 _ _ (omega arith) (small-row 12 _ _ (omega arith) (small-row 13 _ _ (omega arith)
+    (small-row 14 _ _ (omega arith) (small-row 1 _ _ (omega arith) (small-row 14 _ [] (omega arith) no-row)))))
 
 -- ---- the numbers of a sound state
 
@@ -97,41 +101,49 @@ printable s n spare c whole =
 
 -- ---- what is printed of an image
 
-module _ (image : List ℕ) (maplen count scratchlen : ℕ) where
+module _ (turned : Bool) (image : List ℕ) (maplen count scratchlen : ℕ) where
   abbrev card : List ℕ
   card = stateText (stateIn image .blocks) (stateIn image .spare) (stateIn image .map) (stateIn image .entries)
 
-  loaded-printable : loadVerdict image maplen count scratchlen ≡ accepted
+  loaded-printable : loadVerdict turned image maplen count scratchlen ≡ accepted
       → Printable (stateIn image .blocks) (stateIn image .spare) (countsOf (free (stateIn image .map)) (stateIn image .blocks))
       (stateIn image .entries)
   loaded-printable e =
-      let a = accepted-to image maplen count scratchlen e in
+      let a = accepted-to turned image maplen count scratchlen e in
       let h = head-to (blocksIn image) (freeCountIn image) (sheetsIn image) (totalOf image) (a .first) in
       printable (stateIn image) (h .limits .limit) (h .limits .spare)
       (omega (arith, h .count .few, entries-length image (sheetsIn image))) (a .whole)
 
   pub printed-whole : (text text′ : List ℕ) (r : ℕ) → room ≤ length text
-      → Writes (printedOf image maplen count scratchlen) text 0 r text′
-      → Begins (printedOf image maplen count scratchlen) r text′
-  printed-whole text text′ r h w = go (loadVerdict image maplen count scratchlen) refl w
+      → Writes (printedOf turned image maplen count scratchlen) text 0 r text′
+      → Begins (printedOf turned image maplen count scratchlen) r text′
+  printed-whole text text′ r h w = go (loadVerdict turned image maplen count scratchlen) refl w
     where
-      go : (v : Verdict) → loadVerdict image maplen count scratchlen ≡ v → Writes (settle v card refusalText) text 0 r text′
+      go : (v : Verdict) → loadVerdict turned image maplen count scratchlen ≡ v
+          → Writes (settle v card refusalText) text 0 r text′
           → Begins (settle v card refusalText) r text′
       go accepted e w =
           card-whole (stateIn image .blocks) (stateIn image .spare)
           (countsOf (free (stateIn image .map)) (stateIn image .blocks)) (stateIn image .entries) text text′ r
           (loaded-printable e) (omega (arith, h)) w
       go (refused number) e w =
-          let l : number ≤ 14 = subst (λ (v : Verdict). rowNumber v ≤ 14) e (load-number image maplen count scratchlen) in
+          let l : number ≤ 21 = subst (λ (v : Verdict). rowNumber v ≤ 21) e (load-number turned image maplen count scratchlen)
+          in
           refusal-whole number text text′ r (omega (arith, l)) (omega (arith, h)) w
 
 -- in the words of the contract of `print_image`
-pub prints-whole : (image map : List ℕ) (entries : List Entry) (scratch text : List ℕ) (r : ℕ) (map′ : List ℕ)
+pub prints-whole : (shape : Shape) (role : ℕ) (image map : List ℕ) (entries : List Entry) (scratch text : List ℕ) (r : ℕ) (map′
+    : List ℕ)
     (entries′ : List Entry) (scratch′ text′ : List ℕ)
-    → room ≤ length text → Prints image map entries scratch text r map′ entries′ scratch′ text′
-    → Begins (printedOf image (length map) (length entries) (length scratch)) r text′
-prints-whole image map entries scratch text r map′ entries′ scratch′ text′ h w =
-    printed-whole image (length map) (length entries) (length scratch) text text′ r h w
+    → room ≤ length text → Prints shape role image map entries scratch text r map′ entries′ scratch′ text′
+    → Begins (printedOf (turnedAway role names.load) image (length map) (length entries) (length scratch)) r text′
+prints-whole shape role image map entries scratch text r map′ entries′ scratch′ text′ h w =
+    printed-whole (turnedAway role names.load) image (length map) (length entries) (length scratch) text text′ r h (w .0)
+
+-- the printer loads as service, which is not turned away
+pub service-loads : turnedAway service names.load ≡ false
+unfolding may serviceMay
+service-loads = refl
 
 -- ---- what is printed of the image of a state that can be saved
 
@@ -139,7 +151,7 @@ module _ (s : State) (words : Words (s .map))
     (fit : saveFits (s .blocks) (s .spare) (length (s .entries)) (length (s .map)) (scratchWords (length (s .map))) ≡ true)
     (whole : sound s ≡ true) where
   abbrev printed : List ℕ
-  printed = printedOf (imageOf s) (length (s .map)) (length (s .entries)) (scratchWords (length (s .map)))
+  printed = printedOf false (imageOf s) (length (s .map)) (length (s .entries)) (scratchWords (length (s .map)))
 
   abbrev text-of : State → List ℕ
   text-of s = stateText (s .blocks) (s .spare) (s .map) (s .entries)
@@ -147,18 +159,24 @@ module _ (s : State) (words : Words (s .map))
   abbrev image-length : ℕ
   image-length = 512 * framesFor (s .blocks) (length (s .entries))
 
-  saves : saveVerdict s (scratchWords (length (s .map))) image-length ≡ accepted
-  saves = to-saved s (scratchWords (length (s .map))) image-length (record { lengths = fit; whole = whole; exact = refl })
+  saves : saveVerdict false s (scratchWords (length (s .map))) image-length ≡ accepted
+  saves = to-saved false s (scratchWords (length (s .map))) image-length (record {
+    admitted = refl;
+    lengths = fit;
+    whole = whole;
+    exact = refl;
+  })
 
   pub saved-printed : printed ≡ text-of s
   saved-printed =
       ap (λ (v : Verdict). settle v (text-of (stateIn (imageOf s))) refusalText)
-      (saved-accepted s (scratchWords (length (s .map))) image-length words saves)
-      ∙ ap text-of (saved-state s (scratchWords (length (s .map))) image-length words saves)
+      (saved-accepted false s (scratchWords (length (s .map))) image-length words saves)
+      ∙ ap text-of (saved-state false s (scratchWords (length (s .map))) image-length words saves)
 
   -- so its text stands there, whole
   pub saved-whole : (text text′ : List ℕ) (r : ℕ) → room ≤ length text → Writes printed text 0 r text′
       → Begins (text-of s) r text′
   saved-whole text text′ r h w =
       subst (λ (bytes : List ℕ). Begins bytes r text′) saved-printed
-      (printed-whole (imageOf s) (length (s .map)) (length (s .entries)) (scratchWords (length (s .map))) text text′ r h w)
+      (printed-whole false (imageOf s) (length (s .map)) (length (s .entries)) (scratchWords (length (s .map))) text text′ r h
+      w)

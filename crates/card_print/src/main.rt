@@ -7,11 +7,13 @@ ghost use Rattle.card_print.specs.Printed.{room};
 
 mod print;
 
+use card::Shape;
 use catalogue::Entry;
 use catalogue_standings::opening::SHEETS;
 use image_soundness::SCRATCH;
 use libc::STDIN_FILENO;
 use libc::STDOUT_FILENO;
+use roles::SERVICE;
 
 // 91 blocks, and one byte more, by which a longer input is seen.
 fn image_space() -> [u8; 46593]
@@ -47,7 +49,8 @@ fn smaller(a: usize, b: usize) -> usize
     if a < b { a } else { b }
 }
 
-// Prints an image, with as many words, entries and words of scratch as it asks for and there are at most. The text has room
+// Prints an image as service, with as many words, entries and words of scratch as it asks for and there are at most. The text
+// has room
 // for all that is to be printed: in so many bytes nothing is cut (`prints-whole`, proofs/Whole.antt).
 fn print_card(image: &[u8], map: &mut [u64], scratch: &mut [u64], text: &mut [u8])
     requires { ⌜ room ≤ ListN.length (now text) ⌝ }
@@ -61,7 +64,17 @@ fn print_card(image: &[u8], map: &mut [u64], scratch: &mut [u64], text: &mut [u8
     let w = smaller(words, map.len());
     let s = smaller(w, scratch.len());
     let c = smaller(image_frames::number(image, 2) as usize, SHEETS);
-    let used = print::print_with(image, &mut map[..w], entries, c, &mut scratch[..s], text);
+    let none = Shape { blocks: 0, free: 0 };
+    let used = print::print_with(
+        none,
+        SERVICE,
+        image,
+        &mut map[..w],
+        entries,
+        c,
+        &mut scratch[..s],
+        text,
+    );
     let end = smaller(used, text.len());
     io::write_all(STDOUT_FILENO, &text[..end]);
 }

@@ -14,7 +14,7 @@ use Rattle.catalogue.specs.declared.Entry.{Entry}
 use denote.Enum.Declared as Declared
 use types.Run as Run
 use Rattle.catalogue_standings.proofs.Standing as StandingType
-use Rattle.catalogue_standings.specs.Openings.{openedOf, unlessDamaged, rowOf}
+use Rattle.catalogue_standings.specs.Openings.{openedOf, openedFor, unlessDamaged, rowOf}
 use Rattle.catalogue_standings.specs.Rows.{Row, row, Verdict, accepted, refused, firstOf}
 use Rattle.catalogue_standings.specs.Standings.{extentHolds, standingOf, isAbsent, isPaused, isOpen, isComplete}
 use Rattle.catalogue_standings.specs.Standings.{isDamaged}
@@ -35,14 +35,15 @@ stop number test rows e = simp e
 
 -- ---- what the first rows answered
 
-abbrev pub rowsOf : Bool → ℕ → ℕ → Standing → List Row → List Row
-rowsOf fits c sheet s rows = row 1 (not fits) ∷ row 2 (leb c sheet) ∷ row 4 (isDamaged s) ∷ rows
+abbrev pub rowsOf : Bool → Bool → ℕ → ℕ → Standing → List Row → List Row
+rowsOf turned fits c sheet s rows = row 21 turned ∷ row 1 (not fits) ∷ row 2 (leb c sheet) ∷ row 4 (isDamaged s) ∷ rows
 
-pub closed : (fits : Bool) (c sheet : ℕ) (s : Standing) (rows : List Row) (number : ℕ)
-    → openedOf fits c sheet s ≡ Refused number → firstOf (rowsOf fits c sheet s rows) ≡ refused number
+pub closed : (turned fits : Bool) (c sheet : ℕ) (s : Standing) (rows : List Row) (number : ℕ)
+    → openedFor turned fits c sheet s ≡ Refused number → firstOf (rowsOf turned fits c sheet s rows) ≡ refused number
 unfolding openedOf firstOf
-closed false c sheet s rows number e = cc
-closed true c sheet s rows number e = go (leb c sheet) s e
+closed true fits c sheet s rows number e = cc
+closed false false c sheet s rows number e = cc
+closed false true c sheet s rows number e = go (leb c sheet) s e
   where
     go : (b : Bool) (s : Standing) → cond b (Refused 2) (unlessDamaged s) ≡ Refused number
         → cond b (refused 2) (cond (isDamaged s) (refused 4) (firstOf rows)) ≡ refused number
@@ -54,31 +55,46 @@ closed true c sheet s rows number e = go (leb c sheet) s e
     go false (Complete a b) e = cc
     go false Damaged e = cc
 
-pub record Opening (fits : Bool) (c sheet : ℕ) (s t : Standing) (rows : List Row) : Type 0 where
+pub record Opening (turned fits : Bool) (c sheet : ℕ) (s t : Standing) (rows : List Row) : Type 0 where
+  pub admitted : turned ≡ false
   pub all-fits : fits ≡ true
   pub listed : leb c sheet ≡ false
   pub same : s ≡ t
   pub whole : isDamaged s ≡ false
-  pub verdict : firstOf (rowsOf fits c sheet s rows) ≡ firstOf rows
+  pub verdict : firstOf (rowsOf turned fits c sheet s rows) ≡ firstOf rows
 
-pub opened : (fits : Bool) (c sheet : ℕ) (s t : Standing) (rows : List Row) → openedOf fits c sheet s ≡ Stands t
-    → Opening fits c sheet s t rows
+pub opened : (turned fits : Bool) (c sheet : ℕ) (s t : Standing) (rows : List Row) → openedFor turned fits c sheet s ≡ Stands t
+    → Opening turned fits c sheet s t rows
 unfolding openedOf firstOf
-opened false c sheet s t rows e = absurd (never e)
+opened true fits c sheet s t rows e = absurd (never e)
+  where
+    never : Refused 21 ≡ Stands t → ⊥
+    never e = let z : _≡_ {A = ℕ} 0 1 = cc in omega arith
+opened false false c sheet s t rows e = absurd (never e)
   where
     never : Refused 1 ≡ Stands t → ⊥
     never e = let z : _≡_ {A = ℕ} 0 1 = cc in omega arith
-opened true c sheet s t rows e = go (leb c sheet) refl s e
+opened false true c sheet s t rows e = go (leb c sheet) refl s e
   where
     never : (number : ℕ) → Refused number ≡ Stands t → ⊥
     never number e = let z : _≡_ {A = ℕ} 0 1 = cc in omega arith
 
     made : (b : Bool) → leb c sheet ≡ b → (s : Standing) → b ≡ false → s ≡ t → isDamaged s ≡ false
-        → Opening true c sheet s t rows
-    made b q s f p d = record { all-fits = refl; listed = q ∙ f; same = p; whole = d; verdict = simp (q ∙ f, d) }
+        → Opening false true c sheet s t rows
+    made b q s f p d = record {
+      admitted = refl;
+      all-fits = refl;
+      listed = q ∙ f;
+      same = p;
+      whole = d;
+      verdict = simp (
+        q ∙ f,
+        d,
+      );
+    }
 
     go : (b : Bool) → leb c sheet ≡ b → (s : Standing) → cond b (Refused 2) (unlessDamaged s) ≡ Stands t
-        → Opening true c sheet s t rows
+        → Opening false true c sheet s t rows
     go true q s e = absurd (never 2 e)
     go false q Absent e = made false q Absent refl (cc) refl
     go false q Paused e = made false q Paused refl (cc) refl

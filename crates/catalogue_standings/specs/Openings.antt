@@ -29,6 +29,10 @@ unlessDamaged Damaged = Refused 4
 unfoldable pub openedOf : Bool → ℕ → ℕ → Standing → Opened
 openedOf fits c sheet stands = cond fits (cond (leb c sheet) (Refused 2) (unlessDamaged stands)) (Refused 1)
 
+-- 21 before them, of one who may not make the call (document 02 (n)).
+abbrev pub openedFor : Bool → Bool → ℕ → ℕ → Standing → Opened
+openedFor turned fits c sheet stands = cond turned (Refused 21) (openedOf fits c sheet stands)
+
 -- The number of the refusal.
 abbrev pub refusedRow : Opened → ℕ
 refusedRow (Refused number) = number

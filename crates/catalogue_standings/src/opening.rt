@@ -9,7 +9,8 @@ ghost use Rattle.map_blocks.specs.Blocks.{free};
 ghost use Rattle.catalogue_standings.specs.Standings.{extentHolds, standingOf};
 ghost use Rattle.catalogue_standings.specs.Limits.{shapeFits, sheetsFit};
 ghost use Rattle.catalogue_standings.specs.Openings;
-ghost use Rattle.catalogue_standings.specs.Openings.{openedOf, rowOf, refusedRow};
+ghost use Rattle.catalogue_standings.specs.Openings.{openedOf, openedFor, rowOf, refusedRow};
+ghost use Rattle.roles.specs.Roles.{turnedAway};
 use crate::Opened;
 use crate::Standing;
 use block_seals::BLOCK;
@@ -18,12 +19,13 @@ use catalogue::COMPLETE;
 use catalogue::Entry;
 use catalogue::OPEN;
 use catalogue::PAUSED;
+pub use map_blocks::BLOCKS;
 use map_blocks::run::TAKEN;
 use map_blocks::run::all_marked;
+use roles::TURNED_AWAY;
+use roles::turned_away;
 
-// The most blocks and the most sheets of a card.
-pub const BLOCKS: u32 = 262144;
-
+// The most sheets of a card.
 pub const SHEETS: usize = 1024;
 
 // Row 1 for the shape and the map's length.
@@ -189,6 +191,48 @@ pub fn open_on(
         return Opened::Refused(1);
     }
     open_sheet(n, free, map, c, sheet, entry)
+}
+
+// The same rows behind 21, for a role and the call's name (document 02 (n)).
+pub fn enter_sheet(
+    role: u32,
+    call: u32,
+    n: u32,
+    free: u32,
+    map: &[u64],
+    c: usize,
+    sheet: u32,
+    entry: Entry,
+) -> Opened
+    ensures { λ r. ⌜ r ≡ openedFor (turnedAway role call) (shapeFits n free (length (now (map .entry))) && sheetsFit c) c sheet
+        (standingOf n (Blocks.free (now (map .entry))) entry) ⌝ }
+{
+    if turned_away(role, call) {
+        return Opened::Refused(TURNED_AWAY);
+    }
+    open_sheet(n, free, map, c, sheet, entry)
+}
+
+// The same of a call that is lent the card.
+pub fn enter_on(
+    role: u32,
+    call: u32,
+    n: u32,
+    free: u32,
+    map: &[u64],
+    cardlen: usize,
+    c: usize,
+    sheet: u32,
+    entry: Entry,
+) -> Opened
+    ensures { λ r. ⌜ r ≡ openedFor (turnedAway role call)
+        (shapeFits n free (length (now (map .entry))) && sheetsFit c && eqb cardlen (512 * n)) c sheet
+        (standingOf n (Blocks.free (now (map .entry))) entry) ⌝ }
+{
+    if turned_away(role, call) {
+        return Opened::Refused(TURNED_AWAY);
+    }
+    open_on(n, free, map, cardlen, c, sheet, entry)
 }
 
 // The number of the refusal.

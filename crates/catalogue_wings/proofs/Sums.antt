@@ -3,8 +3,9 @@
 use mathlib.Core.Path.{_≡_, refl, sym, ap, subst, _∙_}
 use mathlib.Core.Bool.{Bool, true, false}
 use mathlib.Core.List.{List, [], _∷_}
-use Prim.Native.Nat.{ℕ, zero, suc, _+_, _-_, _*_, _/_, _%_, _^_, _≤_, _<_, min}
+use Prim.Native.Nat.{ℕ, zero, suc, _+_, _-_, _*_, _/_, _%_, _^_, _≤_, _<_}
 use native.Mathlib.Nat.{mod-add-mod, mod-eq-of-lt, suc-mul}
+use native.Mathlib.Numerals.{add-one}
 use native.Mathlib.Omega.{arith}
 use borrow.Author.Tests.{ltb-true, ltb-false}
 use lib.Dec.{ltb}
@@ -13,83 +14,103 @@ use lib.Seq.{getD-drop, take-all}
 use Rattle.catalogue.specs.Entries.{zeros, entryAt, held}
 use Rattle.catalogue.specs.declared.Entry.{Entry}
 use Rattle.catalogue_wings.specs.Wings.{wingOf, inWing, heldBy}
-use Rattle.catalogue_wings.specs.Passes.{memberOf, memberCount, nothingYet, addedEntry, addedEntries}
+use Rattle.catalogue_wings.specs.Passes.{firstOf, endOf, nothingYet, addedFor, addedEntries, addedWing}
 
--- ---- round by round
+-- ---- entry by entry
 
-pub entries-none : (es : List Entry) (sheet start : ℕ) → addedEntries es sheet 0 start ≡ start
-unfolding addedEntries
-entries-none es sheet start = refl
+pub entries-none : (es : List Entry) (i e sum : ℕ) → e ≤ i → addedEntries es i e sum ≡ sum
+unfolding addedFor
+entries-none es i e sum h =
+    let none : e - i ≡ 0 = omega (arith, h) in
+    ap (λ (k : ℕ). addedFor k es i sum) none
 
-pub entries-more : (k : ℕ) (es : List Entry) (sheet start : ℕ)
-    → addedEntries es sheet (suc k) start ≡ addedEntry es sheet (addedEntries es sheet k start) k
-unfolding addedEntries
-entries-more k es sheet start = refl
+pub entries-more : (es : List Entry) (i e sum : ℕ) → i < e
+    → addedEntries es i e sum ≡ addedEntries es (i + 1) e ((sum + getD es i zeros .length) % 2 ^ 64)
+unfolding addedFor
+entries-more es i e sum h =
+    let more : e - i ≡ suc (e - (i + 1)) = omega (arith, h) in
+    ap (λ (k : ℕ). addedFor k es i sum) more
 
--- ---- one entry more: past the end it has the length 0
+pub end-inside : (first n : ℕ) → endOf first n ≤ n
+end-inside first n = omega arith
 
-pub one-more : (l : List Entry) (j : ℕ) → held (take (suc j) l) ≡ held (take j l) + getD l j zeros .length
+-- ---- the first of some entries apart: past the end it has the length 0
+
+first-apart : (es : List Entry) (i k : ℕ)
+    → held (take (suc k) (drop i es)) ≡ getD es i zeros .length + held (take k (drop (suc i) es))
 unfolding held
-one-more [] zero = refl
-one-more [] (suc j) = refl
-one-more (e ∷ l) zero = omega arith
-one-more (e ∷ l) (suc j) = let h = one-more l j in omega arith
+first-apart [] zero zero = refl
+first-apart [] zero (suc k) = refl
+first-apart [] (suc i) zero = refl
+first-apart [] (suc i) (suc k) = refl
+first-apart (e ∷ es) zero k = refl
+first-apart (e ∷ es) (suc i) k = first-apart es i k
 
-module _ (es : List Entry) (sheet : ℕ) where
-  abbrev wings : List Entry
-  wings = drop (128 * (sheet / 128)) es
-
-  member-at : (i : ℕ) → i < 128 → entryAt es (memberOf sheet i) ≡ getD wings i zeros
-  member-at i below =
-      let same : memberOf sheet i ≡ 128 * (sheet / 128) + i = omega arith in
-      ap (λ (s : ℕ). entryAt es s) same ∙ sym (getD-drop (128 * (sheet / 128)) es i zeros)
-
-  add-one : (i sum : ℕ) → i < 128 → sum ≡ held (take i wings) % 2 ^ 64
-      → addedEntry es sheet sum i ≡ held (take (suc i) wings) % 2 ^ 64
-  add-one i sum below h =
-      ap (λ (e : Entry). (sum + e .length) % 2 ^ 64) (member-at i below)
-      ∙ ap (λ (s : ℕ). (s + getD wings i zeros .length) % 2 ^ 64) h
-      ∙ mod-add-mod (held (take i wings)) (2 ^ 64) (getD wings i zeros .length)
-      ∙ ap (λ (s : ℕ). s % 2 ^ 64) (sym (one-more wings i))
-
-  added-up : (i : ℕ) → i ≤ 128 → addedEntries es sheet i 0 ≡ held (take i wings) % 2 ^ 64
-  unfolding held
-  added-up zero h = entries-none es sheet 0
-  added-up (suc i) h =
-      entries-more i es sheet 0
-      ∙ add-one i (addedEntries es sheet i 0) (omega arith) (added-up i (omega arith))
-
-  abbrev left : ℕ
-  left = length es - sheet / 128 * 128
-
-  as-many : length wings ≡ left
-  as-many =
-      let same : 128 * (sheet / 128) ≡ sheet / 128 * 128 = omega arith in
-      length-drop (128 * (sheet / 128)) es ∙ ap (λ (a : ℕ). length es - a) same
-
-  all-of-it : (t : Bool) → ltb left 128 ≡ t → addedEntries es sheet (min left 128) 0 ≡ held (take 128 wings) % 2 ^ 64
-  all-of-it true e =
-      let below : left < 128 = ltb-true left 128 e in
-      let few : min left 128 ≡ left = omega (arith, below) in
-      let a : length wings ≤ left = omega (arith, as-many) in
-      let b : length wings ≤ 128 = omega (arith, as-many, below) in
-      ap (λ (i : ℕ). addedEntries es sheet i 0) few ∙ added-up left (omega (arith, below))
-      ∙ ap (λ (l : List Entry). held l % 2 ^ 64) (take-all left wings a ∙ sym (take-all 128 wings b))
-  all-of-it false e =
-      let many : min left 128 ≡ 128 = omega (arith, ltb-false left 128 e) in
-      ap (λ (i : ℕ). addedEntries es sheet i 0) many ∙ added-up 128 (omega arith)
+added-up : (k : ℕ) (es : List Entry) (i sum t : ℕ) → sum ≡ t % 2 ^ 64
+    → addedFor k es i sum ≡ (t + held (take k (drop i es))) % 2 ^ 64
+unfolding addedFor held
+added-up zero es i sum t h = h ∙ ap (λ (s : ℕ). s % 2 ^ 64) (plus-none t)
+  where
+    plus-none : (s : ℕ) → s ≡ s + 0
+    plus-none s = omega arith
+added-up (suc k) es i sum t h =
+    let len = getD es i zeros .length in
+    let next : (sum + len) % 2 ^ 64 ≡ (t + len) % 2 ^ 64 =
+    ap (λ (s : ℕ). (s + len) % 2 ^ 64) h ∙ mod-add-mod t (2 ^ 64) len in
+    let rest = held (take k (drop (suc i) es)) in
+    let whole : t + len + held (take k (drop (i + 1) es)) ≡ t + held (take (suc k) (drop i es)) =
+    ap (λ (j : ℕ). t + len + held (take k (drop j es))) (add-one i)
+    ∙ assoc t len rest ∙ ap (λ (s : ℕ). t + s) (sym (first-apart es i k)) in
+    added-up k es (i + 1) ((sum + len) % 2 ^ 64) (t + len) next ∙ ap (λ (s : ℕ). s % 2 ^ 64) whole
+  where
+    assoc : (a b c : ℕ) → a + b + c ≡ a + (b + c)
+    assoc a b c = omega arith
 
 -- ---- the sum that the program makes
 
 abbrev pub Holds : List Entry → ℕ → ℕ → Type 0
 Holds es sheet r = r ≡ heldBy es sheet
 
-pub holds : (es : List Entry) (sheet : ℕ) → Holds es sheet
-    (addedEntries es sheet (memberCount (length es) sheet) (nothingYet sheet))
+module _ (es : List Entry) (sheet : ℕ) where
+  abbrev first : ℕ
+  first = sheet / 128 * 128
+
+  abbrev wings : List Entry
+  wings = drop first es
+
+  all-of-it : (t : Bool) → ltb (length es) (first + 128) ≡ t
+      → held (take (endOf first (length es) - first) wings) ≡ held (take 128 wings)
+  all-of-it true e =
+      let below : length es < first + 128 = ltb-true (length es) (first + 128) e in
+      let many : endOf first (length es) - first ≡ length es - first = omega (arith, below) in
+      let a : length wings ≤ endOf first (length es) - first = omega (arith, length-drop first es, many) in
+      let b : length wings ≤ 128 = omega (arith, length-drop first es, below) in
+      ap held (take-all (endOf first (length es) - first) wings a ∙ sym (take-all 128 wings b))
+  all-of-it false e =
+      let above : first + 128 ≤ length es = ltb-false (length es) (first + 128) e in
+      let many : endOf first (length es) - first ≡ 128 = omega (arith, above) in
+      ap (λ (k : ℕ). held (take k wings)) many
+
+pub holds : (es : List Entry) (sheet : ℕ) → Holds es sheet (addedWing es (firstOf sheet) (nothingYet sheet))
 unfolding heldBy
-holds es sheet = all-of-it es sheet (ltb (left es sheet) 128) refl
+holds es sheet =
+    let from : first es sheet ≡ 128 * (sheet / 128) = omega arith in
+    added-up (endOf (first es sheet) (length es) - first es sheet) es (first es sheet) 0 0 refl
+    ∙ ap (λ (s : ℕ). (0 + s) % 2 ^ 64) (all-of-it es sheet (ltb (length es) (first es sheet + 128)) refl)
+    ∙ ap (λ (a : ℕ). (0 + held (take 128 (drop a es))) % 2 ^ 64) from
+    ∙ ap (λ (s : ℕ). s % 2 ^ 64) (zero-plus (held (take 128 (drop (128 * (sheet / 128)) es))))
+  where
+    zero-plus : (s : ℕ) → 0 + s ≡ s
+    zero-plus s = omega arith
 
 -- ---- it does not wrap
+
+one-more : (l : List Entry) (j : ℕ) → held (take (suc j) l) ≡ held (take j l) + getD l j zeros .length
+unfolding held
+one-more [] zero = refl
+one-more [] (suc j) = refl
+one-more (e ∷ l) zero = omega arith
+one-more (e ∷ l) (suc j) = let h = one-more l j in omega arith
 
 lengths-below : (b : ℕ) (l : List Entry) → ((i : ℕ) → getD l i zeros .length ≤ b) → (j : ℕ) → held (take j l) ≤ j * b
 unfolding held

@@ -31,29 +31,29 @@ first-behind (r ∷ rows) rest number holds e h = by (r .holds) e (λ k. first-b
     by true e next = absurd (let z : _≡_ {A = ℕ} 0 1 = cc in omega arith)
     by false e next = next e
 
-module _ (s : Kept) (sheet : ℕ) where
-  pub show-damaged : ShowRefused s sheet
+module _ (turned : Bool) (s : Kept) (sheet : ℕ) where
+  pub show-damaged : ShowRefused turned s sheet
   unfolding showVerdict tableOf rowsFor viewed viewOn
   show-damaged t p payload place buffer d before =
-      let v = viewed s sheet in
+      let v = viewed turned s sheet in
       let unsound : v .sound place ≡ false =
-      one-or-two-unsound t p payload (blockAt s sheet place) d sheet place in
-      show-refused s sheet 4 place buffer
+      one-or-two-unsound t p payload (blockAt turned s sheet place) d sheet place in
+      show-refused turned s sheet 4 place buffer
       (first-behind
       (opening v sheet (absentRow v ∷ pausedRow v ∷ openRow v ∷ row 3 (misplaced v place buffer) ∷ []))
       [] 4 (not (v .sound place)) before (ap not unsound))
 
-  pub complete-damaged : CompleteRefused s sheet
+  pub complete-damaged : CompleteRefused turned s sheet
   unfolding completeVerdict tableOf rowsFor viewed viewOn
   complete-damaged t p payload place d inside before =
-      let v = viewed s sheet in
+      let v = viewed turned s sheet in
       let unsound : v .sound place ≡ false =
-      one-or-two-unsound t p payload (blockAt s sheet place) d sheet place in
-      let full : v .blank place ≡ false = never-blank t p payload (blockAt s sheet place) d in
+      one-or-two-unsound t p payload (blockAt turned s sheet place) d sheet place in
+      let full : v .blank place ≡ false = never-blank t p payload (blockAt turned s sheet place) d in
       let neither : v .blank place || v .sound place ≡ false = rw (full, unsound) in
       let some : everyPlace v (λ q. v .blank q || v .sound q) ≡ false =
       all-break (λ q. v .blank q || v .sound q) 0 (lengthOf (v .stands)) place (omega arith) (omega arith) neither in
-      complete-refused s sheet 4
+      complete-refused turned s sheet 4
       (first-behind (opening v sheet (absentRow v ∷ pausedRow v ∷ completeRow v ∷ []))
       (row 9 (not (everyPlace v (λ q. not (v .blank q)))) ∷ [])
       4 (not (everyPlace v (λ q. v .blank q || v .sound q))) before (ap not some))

@@ -2,6 +2,7 @@
 -- with 4 and leaves its buffer, and complete is refused with 4 and leaves the catalogue, unless a row before that one holds.
 -- Proved in proofs/Unshown.antt.
 -- Assumes nothing.
+use mathlib.Core.Bool.{Bool}
 use mathlib.Core.Path.{_≡_}
 use mathlib.Core.List.{List, [], _∷_}
 use Prim.Native.Nat.{ℕ, _+_, _<_}
@@ -15,11 +16,11 @@ use Rattle.refusals.specs.Views.{viewOn}
 use Rattle.card.specs.Calls.{Kept, lentTo, told, showOutcome, showBuffer, completeOutcome, completeEntries}
 use Rattle.check_power.specs.Damage.{Damaged}
 
-module _ (s : Kept) (sheet : ℕ) where
+module _ (turned : Bool) (s : Kept) (sheet : ℕ) where
   -- what the rows read of the sheet, and the block of one of its places
   unfoldable pub viewed : View
   unfolding viewOn
-  viewed = viewOn (lentTo s (s .card) sheet)
+  viewed = viewOn (lentTo turned s (s .card) sheet)
 
   abbrev pub blockAt : ℕ → List ℕ
   blockAt place = blockOf (s .card) (entryAt (s .entries) sheet .start + place)
@@ -30,13 +31,13 @@ module _ (s : Kept) (sheet : ℕ) where
       → firstOf (opening viewed sheet
       (absentRow viewed ∷ pausedRow viewed ∷ openRow viewed ∷ row 3 (misplaced viewed place buffer) ∷ []))
       ≡ accepted
-      → (showOutcome s sheet place buffer ≡ told (s .shape) (Refused 4))
-      × (showBuffer s sheet place buffer ≡ buffer)
+      → (showOutcome turned s sheet place buffer ≡ told (s .shape) (Refused 4))
+      × (showBuffer turned s sheet place buffer ≡ buffer)
 
   abbrev pub CompleteRefused : Type 0
   CompleteRefused =
       (t p : ℕ) (payload : List ℕ) (place : ℕ) → Damaged t p payload (blockAt place)
       → place < lengthOf (viewed .stands)
       → firstOf (opening viewed sheet (absentRow viewed ∷ pausedRow viewed ∷ completeRow viewed ∷ [])) ≡ accepted
-      → (completeOutcome s sheet ≡ told (s .shape) (Refused 4))
-      × (completeEntries s sheet ≡ s .entries)
+      → (completeOutcome turned s sheet ≡ told (s .shape) (Refused 4))
+      × (completeEntries turned s sheet ≡ s .entries)

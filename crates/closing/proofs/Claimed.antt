@@ -1,21 +1,23 @@
 -- `afterwards` and `close-twice`: what is claimed of a closed card holds wherever closing is accepted.
 -- Assumes nothing.
-use mathlib.Core.Path.{_≡_, refl, sym, ap, subst, _∙_}
-use mathlib.Core.Bool.{Bool, true, false}
+use mathlib.Core.Path.{_≡_, ap, _∙_}
+use mathlib.Core.Bool.{Bool, true}
 use mathlib.Core.List.{List}
 use Prim.Native.Nat.{ℕ, _+_, _*_, _≤_, _<_}
 use native.Mathlib.Omega.{arith}
 use lib.ListN.{length}
+use borrow.Author.Tests.{not-false}
 use Rattle.blocks_of_card.specs.Card.{blockOf}
 use Rattle.catalogue.specs.Entries.{entryAt}
 use Rattle.catalogue.specs.declared.Entry.{Entry}
-use Rattle.catalogue_standings.specs.Rows.{Verdict, accepted, refused}
+use Rattle.catalogue_standings.specs.Rows.{accepted}
+use Rattle.catalogue_standings.proofs.Rows.{clear}
 use Rattle.image_soundness.specs.Sound.{State, sound}
 use Rattle.image_soundness.proofs.WhenSound.{Sound, sound-to, to-sound}
 use Rattle.closing.specs.Closed.{closedEntry, closedEntries, closedCard, closedState}
 use Rattle.closing.specs.Claim.{Afterwards, Again}
-use Rattle.closing.specs.Table.{closeFits, closeVerdict}
-use Rattle.closing.proofs.Closes.{close-fits-to, verdict-1, verdict-4}
+use Rattle.closing.specs.Table.{closeFits, closeRows, closeVerdict}
+use Rattle.closing.proofs.Closes.{close-fits-to}
 use Rattle.closing.proofs.Contents.{closed-block, free-block}
 use Rattle.closing.proofs.Fitting.{closed-fit}
 use Rattle.closing.proofs.Kept.{closed-marks, closed-lengths, closed-order, closed-covers, closed-sound, closed-spare}
@@ -24,34 +26,16 @@ use Rattle.closing.proofs.Members.{at-member, map-at}
 use Rattle.closing.proofs.Placing.{placed}
 use Rattle.closing.proofs.Twice.{closed-twice, card-stays, map-twice}
 
-not-accepted : (v : Verdict) (k : ℕ) → v ≡ accepted → v ≡ refused k → ⊥
-not-accepted v k a r = no (sym a ∙ r)
-  where
-    no : accepted ≡ refused k → ⊥
-    no e = subst (λ (w : Verdict). only w) e tt
-      where
-        only : Verdict → Type 0
-        only accepted = Unit {0}
-        only (refused j) = ⊥
-
 -- what an acceptance shows
-module _ (s : State) (fits : Bool) (cardlen scratchlen : ℕ) (ok : closeVerdict s fits cardlen scratchlen ≡ accepted) where
-  abbrev fit : Bool
-  fit = closeFits (s .blocks) (s .spare) fits (length (s .entries)) (length (s .map)) cardlen scratchlen
-
-  pub accepted-fits : fit ≡ true
-  accepted-fits = by fit refl
-    where
-      by : (b : Bool) → fit ≡ b → b ≡ true
-      by true e = refl
-      by false e = absurd (not-accepted _ 1 ok (verdict-1 s fits cardlen scratchlen e))
+module _ (turned : Bool) (s : State) (fits : Bool) (cardlen scratchlen : ℕ)
+    (ok : closeVerdict turned s fits cardlen scratchlen ≡ accepted) where
+  pub accepted-fits : closeFits (s .blocks) (s .spare) fits (length (s .entries)) (length (s .map)) cardlen scratchlen ≡ true
+  unfolding closeVerdict closeRows
+  accepted-fits = not-false _ (clear 1 (closeRows turned s fits cardlen scratchlen) ok .0)
 
   pub accepted-sound : sound s ≡ true
-  accepted-sound = by (sound s) refl
-    where
-      by : (b : Bool) → sound s ≡ b → b ≡ true
-      by true e = refl
-      by false e = absurd (not-accepted _ 4 ok (verdict-4 s fits cardlen scratchlen accepted-fits e))
+  unfolding closeVerdict closeRows
+  accepted-sound = not-false _ (clear 4 (closeRows turned s fits cardlen scratchlen) ok .0)
 
 module _ (s : State) (card : List ℕ) (p : Sound s) (room : s .blocks ≤ 64 * length (s .map))
     (bytes : 512 * s .blocks ≤ length card) where
@@ -89,12 +73,12 @@ module _ (s : State) (card : List ℕ) (p : Sound s) (room : s .blocks ≤ 64 * 
   }
 
 -- where closing is accepted
-pub afterwards : (s : State) (fits : Bool) (card scratch : List ℕ)
-    → closeVerdict s fits (length card) (length scratch) ≡ accepted → Afterwards s card
-afterwards s fits card scratch ok =
+pub afterwards : (turned : Bool) (s : State) (fits : Bool) (card scratch : List ℕ)
+    → closeVerdict turned s fits (length card) (length scratch) ≡ accepted → Afterwards s card
+afterwards turned s fits card scratch ok =
     let l = close-fits-to (s .blocks) (s .spare) fits (length (s .entries)) (length (s .map)) (length card) (length scratch)
-    (accepted-fits s fits (length card) (length scratch) ok) in
-    sound-afterwards s card (sound-to s (accepted-sound s fits (length card) (length scratch) ok))
+    (accepted-fits turned s fits (length card) (length scratch) ok) in
+    sound-afterwards s card (sound-to s (accepted-sound turned s fits (length card) (length scratch) ok))
     (l .saved .limits .covered) (omega (arith, l .bytes))
 
 pub close-twice : (s : State) (card : List ℕ) → Again s card

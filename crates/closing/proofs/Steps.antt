@@ -12,6 +12,8 @@ use Rattle.catalogue.specs.declared.Entry.{Entry}
 use Rattle.image.specs.Table.{saveFits}
 use Rattle.image_soundness.specs.Windows.{tally}
 use Rattle.image_soundness.specs.declared.Tally.{Tally}
+use Rattle.roles.specs.Roles as names
+use Rattle.roles.specs.Roles.{turnedAway}
 use Rattle.closing.specs.Closed.{firstTaken}
 use Rattle.closing.specs.Rounds.{isNearer, firstTally, numberBy, roundsFor, mapFits, mapAfter}
 use Rattle.closing.specs.Table.{closeFits}
@@ -48,31 +50,41 @@ module _ (n spare : ℕ) (fits : Bool) (c maplen cardlen scratchlen : ℕ) where
   unfolding closeFits
   by-the-rest e d = simp (e, eq-eqb cardlen (512 * n) d)
 
-module _ (n spare : ℕ) (fits : Bool) (map : List ℕ) (count : ℕ) (card scratch : List ℕ) where
+module _ (role n spare : ℕ) (fits : Bool) (map : List ℕ) (count : ℕ) (card scratch : List ℕ) where
   abbrev lengths : Bool
   lengths = closeFits n spare fits count (length map) (length card) (length scratch)
 
-  pub not-begun : lengths ≡ false → tally 0 true ≡ firstTally n spare fits map count card scratch
+  pub away : turnedAway role names.close ≡ true → tally 0 true ≡ firstTally role n spare fits map count card scratch
   unfolding firstTally
-  not-begun e = simp e
+  away t = simp t
 
-  pub begun : lengths ≡ true → tally (n - spare) false ≡ firstTally n spare fits map count card scratch
-  unfolding firstTally
-  begun e = simp e
+  module _ (t : turnedAway role names.close ≡ false) where
+    pub not-begun : lengths ≡ false → tally 0 true ≡ firstTally role n spare fits map count card scratch
+    unfolding firstTally
+    not-begun e = simp (t, e)
+
+    pub begun : lengths ≡ true → tally (n - spare) false ≡ firstTally role n spare fits map count card scratch
+    unfolding firstTally
+    begun e = simp (t, e)
 
 -- the verdict
-module _ (t : Tally) (whole : Bool) where
-  pub verdict-1 : t .stop ≡ true → 1 ≡ numberBy t whole
+module _ (role : ℕ) (t : Tally) (whole : Bool) where
+  pub verdict-21 : turnedAway role names.close ≡ true → 21 ≡ numberBy role t whole
   unfolding numberBy
-  verdict-1 e = simp e
+  verdict-21 a = simp a
 
-  pub verdict-0 : t .stop ≡ false → whole ≡ true → 0 ≡ numberBy t whole
-  unfolding numberBy
-  verdict-0 e w = simp (e, w)
+  module _ (a : turnedAway role names.close ≡ false) where
+    pub verdict-1 : t .stop ≡ true → 1 ≡ numberBy role t whole
+    unfolding numberBy
+    verdict-1 e = simp (a, e)
 
-  pub verdict-4 : t .stop ≡ false → whole ≡ false → 4 ≡ numberBy t whole
-  unfolding numberBy
-  verdict-4 e w = simp (e, w)
+    pub verdict-0 : t .stop ≡ false → whole ≡ true → 0 ≡ numberBy role t whole
+    unfolding numberBy
+    verdict-0 e w = simp (a, e, w)
+
+    pub verdict-4 : t .stop ≡ false → whole ≡ false → 4 ≡ numberBy role t whole
+    unfolding numberBy
+    verdict-4 e w = simp (a, e, w)
 
 -- how many rounds
 module _ (count number : ℕ) where

@@ -12,11 +12,13 @@ use Rattle.image.specs.Effects.{zerosFor}
 use Rattle.closing.specs.Closed.{closedEntries, closedCard, closedMap}
 use Rattle.closing.specs.Table.{closeVerdict}
 
--- Of n, the free count, whether what else is lent fits, the map, the entries, the card and the scratch.
-module _ (n spare : ℕ) (fits : Bool) (map : List ℕ) (entries : List Entry) (card scratch : List ℕ) where
+-- Of whether it is turned away, n, the free count, whether what else is lent fits, the map, the entries, the card and the
+-- scratch.
+module _ (turned : Bool) (n spare : ℕ) (fits : Bool) (map : List ℕ) (entries : List Entry) (card scratch : List ℕ) where
   abbrev pub verdict : Verdict
   verdict =
-      closeVerdict (record { blocks = n; spare = spare; entries = entries; map = map }) fits (length card) (length scratch)
+      closeVerdict turned (record { blocks = n; spare = spare; entries = entries; map = map }) fits (length card) (length
+      scratch)
 
   unfoldable pub closeNumber : ℕ
   unfolding closeVerdict

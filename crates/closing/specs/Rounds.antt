@@ -12,7 +12,10 @@ use Rattle.catalogue.specs.declared.Slot.{Slot}
 use Rattle.closing_moves.specs.Moved.{moved}
 use Rattle.image_soundness.specs.Windows.{tally}
 use Rattle.image_soundness.specs.declared.Tally.{Tally}
+use Rattle.roles.specs.Roles as names
+use Rattle.roles.specs.Roles.{turnedAway}
 use Rattle.closing.specs.Closed.{firstTaken}
+use Rattle.closing.specs.Effects.{Closes}
 use Rattle.closing.specs.Table.{closeFits}
 use Rattle.closing.specs.declared.Pick.{Pick}
 
@@ -109,16 +112,17 @@ roundsCard es card k at = rounds k (stand es card at) .card
 
 -- ---- the rest
 
--- Unless row 1 holds, the entries have n less the free count to make.
-module _ (n spare : ℕ) (fits : Bool) (map : List ℕ) (count : ℕ) (card scratch : List ℕ) where
+-- Unless row 21 or row 1 holds, the entries have n less the free count to make.
+module _ (role n spare : ℕ) (fits : Bool) (map : List ℕ) (count : ℕ) (card scratch : List ℕ) where
   unfoldable pub firstTally : Tally
   unfolding closeFits
   firstTally =
-      cond (closeFits n spare fits count (length map) (length card) (length scratch)) (tally (n - spare) false) (tally 0 true)
+      cond (turnedAway role names.close) (tally 0 true)
+      (cond (closeFits n spare fits count (length map) (length card) (length scratch)) (tally (n - spare) false) (tally 0 true))
 
--- The number, by whether there is something to test and whether the state is sound.
-unfoldable pub numberBy : Tally → Bool → ℕ
-numberBy t whole = cond (t .stop) 1 (cond whole 0 4)
+-- The number, by who closes, whether there is something to test and whether the state is sound.
+unfoldable pub numberBy : ℕ → Tally → Bool → ℕ
+numberBy role t whole = cond (turnedAway role names.close) 21 (cond (t .stop) 1 (cond whole 0 4))
 
 -- As many rounds as there are entries, and none after a refusal. They begin at block 0, which is what the number is then.
 unfoldable pub roundsFor : ℕ → ℕ → ℕ
@@ -132,3 +136,8 @@ mapFits w n h = leb w 4096 && leb n 262144 && leb n (64 * w) && leb h n
 unfoldable pub mapAfter : List ℕ → ℕ → ℕ → ℕ → List ℕ
 unfolding mapFits
 mapAfter map n h number = cond (eqb number 0 && mapFits (length map) n h) (firstTaken h n (length map)) map
+
+-- What a closing comes to, by who makes it.
+abbrev pub ClosesBy : ℕ → ℕ → ℕ → Bool → List ℕ → List Entry → List ℕ → List ℕ → ℕ → List ℕ → List Entry → List ℕ → List ℕ
+    → Type 0
+ClosesBy role = Closes (turnedAway role names.close)

@@ -1,4 +1,5 @@
--- The rows of closing (document 02 (l)): 1 and 4. A call is refused with the first row that holds.
+-- The rows of closing (document 02 (l)): 21 (document 02 (n)), 1 and 4. A call is refused with the first row that holds.
+-- `turned`: whoever calls may not make the call.
 -- Assumes nothing.
 use mathlib.Core.Bool.{Bool, not, _&&_}
 use mathlib.Core.List.{List, [], _∷_}
@@ -15,15 +16,17 @@ unfoldable pub closeFits : ℕ → ℕ → Bool → ℕ → ℕ → ℕ → ℕ 
 unfolding saveFits
 closeFits n spare fits c maplen cardlen scratchlen = saveFits n spare c maplen scratchlen && eqb cardlen (512 * n) && fits
 
--- Close, of a state, with a card and a scratch of these lengths: 1, then 4 unless the state is sound, by the definition that
+-- Close, of a state, with a card and a scratch of these lengths: 21, 1, then 4 unless the state is sound, by the definition
+-- that
 -- save uses.
-unfoldable pub closeRows : State → Bool → ℕ → ℕ → List Row
+unfoldable pub closeRows : Bool → State → Bool → ℕ → ℕ → List Row
 unfolding closeFits sound
-closeRows s fits cardlen scratchlen =
-    row 1 (not (closeFits (s .blocks) (s .spare) fits (length (s .entries)) (length (s .map)) cardlen scratchlen))
+closeRows turned s fits cardlen scratchlen =
+    row 21 turned
+    ∷ row 1 (not (closeFits (s .blocks) (s .spare) fits (length (s .entries)) (length (s .map)) cardlen scratchlen))
     ∷ row 4 (not (sound s))
     ∷ []
 
-unfoldable pub closeVerdict : State → Bool → ℕ → ℕ → Verdict
+unfoldable pub closeVerdict : Bool → State → Bool → ℕ → ℕ → Verdict
 unfolding closeRows
-closeVerdict s fits cardlen scratchlen = firstOf (closeRows s fits cardlen scratchlen)
+closeVerdict turned s fits cardlen scratchlen = firstOf (closeRows turned s fits cardlen scratchlen)

@@ -5,6 +5,8 @@
 mod extent;
 
 ghost use mathlib.Core.Path.{_≡_};
+ghost use Rattle.roles.specs.Roles as names;
+ghost use Rattle.roles.specs.Roles.{turnedAway};
 ghost use Rattle.closing.specs.Effects.{closeNumber, closeMap, closeEntries, closeCard, closeScratch};
 ghost use Rattle.closing.specs.Rounds.{nearestOf, roundAt, roundEntries, roundCard, roundsAt, roundsEntries};
 ghost use Rattle.closing.specs.Rounds.{roundsCard, firstTally, numberBy, roundsFor, mapFits, mapAfter};
@@ -26,6 +28,8 @@ use image_windows::test_sound;
 use map_blocks::run::TAKEN;
 use map_blocks::run::fresh;
 use map_blocks::run::mark;
+use roles::TURNED_AWAY;
+use roles::turned_away;
 
 // The end of the extents that have moved; of the extent that moves next its start, length and sheet; and the sheet whose entry
 // is looked at next.
@@ -102,8 +106,9 @@ fn close_fits(
     fits
 }
 
-// What the entries must make: n less the free count. If row 1 holds, nothing is to be tested.
+// What the entries must make: n less the free count. If row 21 or row 1 holds, nothing is to be tested.
 fn begin(
+    role: u32,
     n: u32,
     free: u32,
     fits: bool,
@@ -112,8 +117,14 @@ fn begin(
     card: &[u8],
     scratch: &[u64],
 ) -> Tally
-    ensures { λ r. ⌜ r ≡ firstTally n free fits (now (map .entry)) count (now (card .entry)) (now (scratch .entry)) ⌝ }
+    ensures { λ r. ⌜ r ≡ firstTally role n free fits (now (map .entry)) count (now (card .entry)) (now (scratch .entry)) ⌝ }
 {
+    if turned_away(role, roles::CLOSE) {
+        return Tally {
+            left: 0,
+            stop: true,
+        };
+    }
     if !close_fits(n, free, fits, count, map.len(), card.len(), scratch.len()) {
         return Tally {
             left: 0,
@@ -127,9 +138,12 @@ fn begin(
 }
 
 // The rows, by whether there was something to test and whether the state is sound.
-fn verdict(start: Tally, sound: bool) -> u32
-    ensures { λ r. ⌜ r ≡ numberBy start sound ⌝ }
+fn verdict(role: u32, start: Tally, sound: bool) -> u32
+    ensures { λ r. ⌜ r ≡ numberBy role start sound ⌝ }
 {
+    if turned_away(role, roles::CLOSE) {
+        return TURNED_AWAY;
+    }
     if start.stop {
         return 1;
     }
@@ -182,6 +196,7 @@ fn close_map(map: &mut [u64], n: u32, h: u32, number: u32)
 // Closes the gaps of a card, and gives 0 or the refusal's number. `fits`: what else is lent, a summary, has its length. If
 // there are rounds, the number is 0, and that is the block where they begin.
 pub fn close(
+    role: u32,
     n: u32,
     free: u32,
     fits: bool,
@@ -190,21 +205,23 @@ pub fn close(
     card: &mut [u8],
     scratch: &mut [u64],
 ) -> u32
-    ensures { λ r.
-        ⌜ (r ≡ closeNumber n free fits (now (map .entry)) (now (catalogue .entry)) (now (card .entry)) (now (scratch .entry)))
-        × (now (map .exit) ≡ closeMap n free fits (now (map .entry)) (now (catalogue .entry)) (now (card .entry))
+    ensures { λ r. let turned = turnedAway role names.close in
+        ⌜ (r ≡ closeNumber turned n free fits (now (map .entry)) (now (catalogue .entry)) (now (card .entry))
         (now (scratch .entry)))
-        × (now (catalogue .exit) ≡ closeEntries n free fits (now (map .entry)) (now (catalogue .entry)) (now (card .entry))
+        × (now (map .exit) ≡ closeMap turned n free fits (now (map .entry)) (now (catalogue .entry)) (now (card .entry))
         (now (scratch .entry)))
-        × (now (card .exit) ≡ closeCard n free fits (now (map .entry)) (now (catalogue .entry)) (now (card .entry))
+        × (now (catalogue .exit) ≡ closeEntries turned n free fits (now (map .entry)) (now (catalogue .entry)) (now (card
+        .entry))
         (now (scratch .entry)))
-        × (now (scratch .exit) ≡ closeScratch n free fits (now (map .entry)) (now (catalogue .entry)) (now (card .entry))
+        × (now (card .exit) ≡ closeCard turned n free fits (now (map .entry)) (now (catalogue .entry)) (now (card .entry))
+        (now (scratch .entry)))
+        × (now (scratch .exit) ≡ closeScratch turned n free fits (now (map .entry)) (now (catalogue .entry)) (now (card .entry))
         (now (scratch .entry))) ⌝ }
 {
     let count = catalogue::count(&*catalogue);
-    let start = begin(n, free, fits, &*map, count, &*card, &*scratch);
+    let start = begin(role, n, free, fits, &*map, count, &*card, &*scratch);
     let sound = test_sound(&*map, &*catalogue, scratch, n, start);
-    let number = verdict(start, sound);
+    let number = verdict(role, start, sound);
     let rounds = rounds_for(count, number);
     let last = close_rounds(catalogue, card, rounds, number);
     close_map(map, n, last, number);

@@ -82,21 +82,21 @@ sound-bare s h =
 pub saves-as-before : SavesAsBefore
 unfolding saveVerdict
 saves-as-before s scratchlen bufferlen b =
-    ap (λ (whole : Bool). firstOf (saveRowsIf whole s scratchlen bufferlen)) (same-sound s b)
+    ap (λ (whole : Bool). firstOf (saveRowsIf false whole s scratchlen bufferlen)) (same-sound s b)
 
 pub loads-as-before : LoadsAsBefore
 unfolding loadVerdict
 loads-as-before image maplen count scratchlen b =
-    ap (λ (whole : Bool). firstOf (loadRowsIf whole image maplen count scratchlen)) (same-sound (stateIn image) b)
+    ap (λ (whole : Bool). firstOf (loadRowsIf false whole image maplen count scratchlen)) (same-sound (stateIn image) b)
 
 pub still-saves : StillSaves
 still-saves s scratchlen bufferlen e =
-    let rows = saveRowsIf (soundBefore s) s scratchlen bufferlen in
+    let rows = saveRowsIf false (soundBefore s) s scratchlen bufferlen in
     saves-as-before s scratchlen bufferlen (sound-bare s (not-false _ (clear 4 rows e .0))) ∙ e
 
 pub still-loads : StillLoads
 still-loads image maplen count scratchlen e =
-    let rows = loadRowsIf (soundBefore (stateIn image)) image maplen count scratchlen in
+    let rows = loadRowsIf false (soundBefore (stateIn image)) image maplen count scratchlen in
     loads-as-before image maplen count scratchlen
     (sound-bare (stateIn image)
     (and-left (soundBefore (stateIn image)) (filled image (blocksIn image) (sheetsIn image))

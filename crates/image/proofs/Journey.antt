@@ -2,7 +2,7 @@
 -- state that stands in it.
 -- Assumes nothing.
 use mathlib.Core.Path.{_≡_, refl, sym, ap, ap₂, _∙_}
-use mathlib.Core.Bool.{Bool, true}
+use mathlib.Core.Bool.{Bool, true, false}
 use mathlib.Core.List.{List, [], _∷_, _++_, append-assoc}
 use Prim.Native.Nat.{ℕ, zero, suc, _+_, _-_, _*_, _≤_, _<_}
 use native.Mathlib.Omega.{arith}
@@ -132,10 +132,10 @@ state n spare entries map = record { blocks = n; spare = spare; entries = entrie
 
 -- ---- an image that load accepts
 
-module _ (image : List ℕ) (maplen count scratchlen : ℕ) (small : Bytes image)
-    (v : loadVerdict image maplen count scratchlen ≡ accepted) where
-  facts : Accepted image maplen count scratchlen
-  facts = accepted-to image maplen count scratchlen v
+module _ (turned : Bool) (image : List ℕ) (maplen count scratchlen : ℕ) (small : Bytes image)
+    (v : loadVerdict turned image maplen count scratchlen ≡ accepted) where
+  facts : Accepted turned image maplen count scratchlen
+  facts = accepted-to turned image maplen count scratchlen v
 
   abbrev n : ℕ
   n = blocksIn image
@@ -207,10 +207,10 @@ module _ (image : List ℕ) (maplen count scratchlen : ℕ) (small : Bytes image
 
 -- ---- a state that save accepts
 
-module _ (s : State) (scratchlen bufferlen : ℕ) (words : Words (s .map))
-    (v : saveVerdict s scratchlen bufferlen ≡ accepted) where
-  saved : Saved s scratchlen bufferlen
-  saved = saved-to s scratchlen bufferlen v
+module _ (turned : Bool) (s : State) (scratchlen bufferlen : ℕ) (words : Words (s .map))
+    (v : saveVerdict turned s scratchlen bufferlen ≡ accepted) where
+  saved : Saved turned s scratchlen bufferlen
+  saved = saved-to turned s scratchlen bufferlen v
 
   fit : SaveFits (s .blocks) (s .spare) (length (s .entries)) (length (s .map)) scratchlen
   fit = save-fits-to (s .blocks) (s .spare) (length (s .entries)) (length (s .map)) scratchlen (saved .lengths)
@@ -339,11 +339,12 @@ module _ (s : State) (scratchlen bufferlen : ℕ) (words : Words (s .map))
       ∙ ap₂ (λ (x : ℕ) (l : List Entry). state N x l (mapIn image N C)) image-spare image-entries
       ∙ ap (state N (s .spare) (s .entries)) image-map
 
-  -- and load accepts it
-  pub saved-accepted : loadVerdict image (length (s .map)) C (scratchWords (length (s .map))) ≡ accepted
+  -- and a load that is not turned away accepts it
+  pub saved-accepted : loadVerdict false image (length (s .map)) C (scratchWords (length (s .map))) ≡ accepted
   saved-accepted =
       let w = fit .limits .words in
-      to-accepted image (length (s .map)) C (scratchWords (length (s .map))) (record {
+      to-accepted false image (length (s .map)) C (scratchWords (length (s .map))) (record {
+        admitted = refl;
         blocks =
             to-whole (length image)
             (record {

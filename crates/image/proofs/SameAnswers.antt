@@ -3,7 +3,7 @@
 -- save and every load is answered as it was (`save-alike`, `load-alike`).
 -- Assumes nothing.
 use mathlib.Core.Path.{_≡_, refl, sym, ap, _∙_}
-use mathlib.Core.Bool.{Bool, not, _&&_}
+use mathlib.Core.Bool.{Bool, false, not, _&&_}
 use mathlib.Core.List.{List, [], _∷_}
 use Prim.Native.Nat.{ℕ, _*_}
 use lib.Dec.{eqb}
@@ -42,9 +42,9 @@ asked : (a b : ℕ) → eqb a a ≡ eqb b b
 asked a b = eq-eqb a a refl ∙ sym (eq-eqb b b refl)
 
 pub save-alike : (words : ℕ → ℕ) (s : State) (bufferlen : ℕ)
-    → saveVerdict s (scratchWords (length (s .map))) bufferlen
+    → saveVerdict false s (scratchWords (length (s .map))) bufferlen
     ≡ firstOf (saveRowsBy words s (words (length (s .map))) bufferlen)
-unfolding saveVerdict saveRows saveFits saveRowsBy
+unfolding firstOf saveVerdict saveRows saveFits saveRowsBy
 save-alike words s bufferlen =
     ap (λ (b : Bool). firstOf
     (row 1 (not (shapeFits (s .blocks) (s .spare) (length (s .map)) && sheetsFit (length (s .entries)) && b))
@@ -54,9 +54,9 @@ save-alike words s bufferlen =
     (asked (scratchWords (length (s .map))) (words (length (s .map))))
 
 pub load-alike : (words : ℕ → ℕ) (image : List ℕ) (maplen count : ℕ)
-    → loadVerdict image maplen count (scratchWords (wordsFor (blocksIn image)))
+    → loadVerdict false image maplen count (scratchWords (wordsFor (blocksIn image)))
     ≡ firstOf (loadRowsBy words image maplen count (words (wordsFor (blocksIn image))))
-unfolding loadVerdict loadRows loadFits loadRowsBy
+unfolding firstOf loadVerdict loadRows loadFits loadRowsBy
 load-alike words image maplen count =
     ap (λ (b : Bool). firstOf
     (row 12 (not (wholeBlocks (length image)))

@@ -1,7 +1,7 @@
 -- The rows of save and load, test by test, and what an accepted call shows.
 -- Assumes nothing.
 use mathlib.Core.Path.{_≡_, refl, ap, ap₂}
-use mathlib.Core.Bool.{Bool, true, not, _&&_}
+use mathlib.Core.Bool.{Bool, true, false, not, _&&_}
 use mathlib.Core.List.{List, [], _∷_}
 use Prim.Native.Nat.{ℕ, _*_}
 use lib.Dec.{eqb}
@@ -21,36 +21,41 @@ passes-row : (number : ℕ) (test : Bool) (rows : List Row) → test ≡ true �
 passes-row number test rows t h = skip number (not test) rows accepted (ap not t) h
 
 -- an accepted save
-pub record Saved (s : State) (scratchlen bufferlen : ℕ) : Type 0 where
+pub record Saved (turned : Bool) (s : State) (scratchlen bufferlen : ℕ) : Type 0 where
+  pub admitted : turned ≡ false
   pub lengths : saveFits (s .blocks) (s .spare) (length (s .entries)) (length (s .map)) scratchlen ≡ true
   pub whole : sound s ≡ true
   pub exact : bufferlen ≡ 512 * framesFor (s .blocks) (length (s .entries))
 
-module _ (s : State) (scratchlen bufferlen : ℕ) where
-  pub saved-to : saveVerdict s scratchlen bufferlen ≡ accepted → Saved s scratchlen bufferlen
+module _ (turned : Bool) (s : State) (scratchlen bufferlen : ℕ) where
+  pub saved-to : saveVerdict turned s scratchlen bufferlen ≡ accepted → Saved turned s scratchlen bufferlen
   unfolding saveVerdict saveRows
   saved-to e =
-      let rows = saveRows s scratchlen bufferlen in
+      let rows = saveRows turned s scratchlen bufferlen in
       record {
+        admitted = clear 21 rows e .0;
         lengths = not-false _ (clear 1 rows e .0);
         whole = not-false _ (clear 4 rows e .0);
         exact = eqb-true bufferlen (512 * framesFor (s .blocks) (length (s .entries))) (not-false _ (clear 12 rows e .0));
       }
 
-  pub to-saved : Saved s scratchlen bufferlen → saveVerdict s scratchlen bufferlen ≡ accepted
+  pub to-saved : Saved turned s scratchlen bufferlen → saveVerdict turned s scratchlen bufferlen ≡ accepted
   unfolding saveVerdict saveRows
   to-saved p =
-      passes-row 1 (saveFits (s .blocks) (s .spare) (length (s .entries)) (length (s .map)) scratchlen) _ (p .lengths)
+      skip 21 turned _ accepted (p .admitted)
+      (passes-row 1 (saveFits (s .blocks) (s .spare) (length (s .entries)) (length (s .map)) scratchlen) _ (p .lengths)
       (passes-row 4 (sound s) _ (p .whole)
       (passes-row 12 (eqb bufferlen (512 * framesFor (s .blocks) (length (s .entries)))) []
-      (eq-eqb bufferlen (512 * framesFor (s .blocks) (length (s .entries))) (p .exact)) none-left))
+      (eq-eqb bufferlen (512 * framesFor (s .blocks) (length (s .entries))) (p .exact)) none-left)))
 
-  pub save-accepted : rowNumber (saveVerdict s scratchlen bufferlen) ≡ 0 → saveVerdict s scratchlen bufferlen ≡ accepted
+  pub save-accepted : rowNumber (saveVerdict turned s scratchlen bufferlen) ≡ 0 → saveVerdict turned s scratchlen bufferlen ≡
+      accepted
   unfolding saveVerdict saveRows
   save-accepted = zero-accepts _ refl
 
 -- an accepted load
-pub record Accepted (image : List ℕ) (maplen count scratchlen : ℕ) : Type 0 where
+pub record Accepted (turned : Bool) (image : List ℕ) (maplen count scratchlen : ℕ) : Type 0 where
+  pub admitted : turned ≡ false
   pub blocks : wholeBlocks (length image) ≡ true
   pub frames : framed image ≡ true
   pub first : headFits (blocksIn image) (freeCountIn image) (sheetsIn image) (totalOf image) ≡ true
@@ -58,19 +63,20 @@ pub record Accepted (image : List ℕ) (maplen count scratchlen : ℕ) : Type 0 
   pub whole : sound (stateIn image) ≡ true
   pub fill : filled image (blocksIn image) (sheetsIn image) ≡ true
 
-module _ (image : List ℕ) (maplen count scratchlen : ℕ) where
-  pub load-accepted : rowNumber (loadVerdict image maplen count scratchlen) ≡ 0
-      → loadVerdict image maplen count scratchlen ≡ accepted
+module _ (turned : Bool) (image : List ℕ) (maplen count scratchlen : ℕ) where
+  pub load-accepted : rowNumber (loadVerdict turned image maplen count scratchlen) ≡ 0
+      → loadVerdict turned image maplen count scratchlen ≡ accepted
   unfolding loadVerdict loadRows
   load-accepted = zero-accepts _ refl
 
-  pub accepted-to : loadVerdict image maplen count scratchlen ≡ accepted → Accepted image maplen count scratchlen
+  pub accepted-to : loadVerdict turned image maplen count scratchlen ≡ accepted → Accepted turned image maplen count scratchlen
   unfolding loadVerdict loadRows
   accepted-to e =
-      let rows = loadRows image maplen count scratchlen in
+      let rows = loadRows turned image maplen count scratchlen in
       let content = not-false (sound (stateIn image) && filled image (blocksIn image) (sheetsIn image))
       (clear 14 rows e .1 .0) in
       record {
+        admitted = clear 21 rows e .0;
         blocks = not-false _ (clear 12 rows e .0);
         frames = not-false _ (clear 13 rows e .0);
         first = not-false _ (clear 14 rows e .0);
@@ -79,12 +85,13 @@ module _ (image : List ℕ) (maplen count scratchlen : ℕ) where
         fill = and-right (sound (stateIn image)) (filled image (blocksIn image) (sheetsIn image)) content;
       }
 
-  pub to-accepted : Accepted image maplen count scratchlen → loadVerdict image maplen count scratchlen ≡ accepted
+  pub to-accepted : Accepted turned image maplen count scratchlen → loadVerdict turned image maplen count scratchlen ≡ accepted
   unfolding loadVerdict loadRows
   to-accepted p =
-      passes-row 12 (wholeBlocks (length image)) _ (p .blocks)
+      skip 21 turned _ accepted (p .admitted)
+      (passes-row 12 (wholeBlocks (length image)) _ (p .blocks)
       (passes-row 13 (framed image) _ (p .frames)
       (passes-row 14 (headFits (blocksIn image) (freeCountIn image) (sheetsIn image) (totalOf image)) _ (p .first)
       (passes-row 1 (loadFits (blocksIn image) (sheetsIn image) maplen count scratchlen) _ (p .lengths)
       (passes-row 14 (sound (stateIn image) && filled image (blocksIn image) (sheetsIn image)) []
-      (ap₂ _&&_ (p .whole) (p .fill)) none-left))))
+      (ap₂ _&&_ (p .whole) (p .fill)) none-left)))))

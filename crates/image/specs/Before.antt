@@ -1,9 +1,10 @@
 -- Images written before document 02 (g), when an entry marked Paused had start 0 and length 0 alone: the rule as it was, and
--- what is claimed of save and load by the rule as it is. What an image is (`imageOf`, `stateIn`, Image.antt) has not moved, nor
+-- what is claimed of save and load by the rule as it is, of calls that are not turned away. What an image is (`imageOf`,
+-- `stateIn`, Image.antt) has not moved, nor
 -- has a row (Table.antt), but for when an entry is damaged. Proved in proofs/Before.antt.
 -- Assumes nothing.
 use mathlib.Core.Path.{_≡_}
-use mathlib.Core.Bool.{Bool, true, not, _&&_, _||_, cond}
+use mathlib.Core.Bool.{Bool, true, false, not, _&&_, _||_, cond}
 use mathlib.Core.List.{List, [], _∷_}
 use Prim.Native.Nat.{ℕ}
 use lib.Dec.{eqb}
@@ -38,11 +39,11 @@ abbrev pub soundBefore : State → Bool
 soundBefore s = soundIf (undamagedBefore (s .blocks) (free (s .map)) (s .entries)) s
 
 abbrev pub saveVerdictBefore : State → ℕ → ℕ → Verdict
-saveVerdictBefore s scratchlen bufferlen = firstOf (saveRowsIf (soundBefore s) s scratchlen bufferlen)
+saveVerdictBefore s scratchlen bufferlen = firstOf (saveRowsIf false (soundBefore s) s scratchlen bufferlen)
 
 abbrev pub loadVerdictBefore : List ℕ → ℕ → ℕ → ℕ → Verdict
 loadVerdictBefore image maplen count scratchlen =
-    firstOf (loadRowsIf (soundBefore (stateIn image)) image maplen count scratchlen)
+    firstOf (loadRowsIf false (soundBefore (stateIn image)) image maplen count scratchlen)
 
 -- No entry marked Paused has blocks: its start is 0 and its length 0.
 abbrev pub notPausedWith : Entry → Bool
@@ -56,20 +57,20 @@ noPausedBlocks (e ∷ es) = notPausedWith e && noPausedBlocks es
 abbrev pub SavesAsBefore : Type 0
 SavesAsBefore =
     (s : State) (scratchlen bufferlen : ℕ) → noPausedBlocks (s .entries) ≡ true
-    → saveVerdict s scratchlen bufferlen ≡ saveVerdictBefore s scratchlen bufferlen
+    → saveVerdict false s scratchlen bufferlen ≡ saveVerdictBefore s scratchlen bufferlen
 
 abbrev pub LoadsAsBefore : Type 0
 LoadsAsBefore =
     (image : List ℕ) (maplen count scratchlen : ℕ) → noPausedBlocks (stateIn image .entries) ≡ true
-    → loadVerdict image maplen count scratchlen ≡ loadVerdictBefore image maplen count scratchlen
+    → loadVerdict false image maplen count scratchlen ≡ loadVerdictBefore image maplen count scratchlen
 
 -- So each state that could be saved still can be, and each image that could be loaded.
 abbrev pub StillSaves : Type 0
 StillSaves =
     (s : State) (scratchlen bufferlen : ℕ) → saveVerdictBefore s scratchlen bufferlen ≡ accepted
-    → saveVerdict s scratchlen bufferlen ≡ accepted
+    → saveVerdict false s scratchlen bufferlen ≡ accepted
 
 abbrev pub StillLoads : Type 0
 StillLoads =
     (image : List ℕ) (maplen count scratchlen : ℕ) → loadVerdictBefore image maplen count scratchlen ≡ accepted
-    → loadVerdict image maplen count scratchlen ≡ accepted
+    → loadVerdict false image maplen count scratchlen ≡ accepted

@@ -2,6 +2,7 @@
 -- zeros after every save and load.
 -- Assumes nothing.
 use mathlib.Core.Path.{_≡_}
+use mathlib.Core.Bool.{Bool}
 use mathlib.Core.List.{List}
 use Prim.Native.Nat.{ℕ}
 use lib.ListN.{length, replicate}
@@ -16,41 +17,42 @@ use Rattle.image.specs.declared.Loaded.{Loaded}
 abbrev pub zerosFor : List ℕ → List ℕ
 zerosFor scratch = replicate (length scratch) 0
 
--- Save, of n, the free count, the map and the entries, with a scratch and a buffer.
-module _ (n spare : ℕ) (map : List ℕ) (entries : List Entry) (scratch buffer : List ℕ) where
+-- Save, of whether it is turned away, n, the free count, the map and the entries, with a scratch and a buffer.
+module _ (turned : Bool) (n spare : ℕ) (map : List ℕ) (entries : List Entry) (scratch buffer : List ℕ) where
   abbrev pub lentState : State
   lentState = record { blocks = n; spare = spare; entries = entries; map = map }
 
   unfoldable pub saveNumber : ℕ
   unfolding saveVerdict
-  saveNumber = rowNumber (saveVerdict lentState (length scratch) (length buffer))
+  saveNumber = rowNumber (saveVerdict turned lentState (length scratch) (length buffer))
 
   unfoldable pub saveScratch : List ℕ
   saveScratch = zerosFor scratch
 
   unfoldable pub saveImage : List ℕ
   unfolding saveVerdict
-  saveImage = settle (saveVerdict lentState (length scratch) (length buffer)) (imageOf lentState) (λ number. buffer)
+  saveImage = settle (saveVerdict turned lentState (length scratch) (length buffer)) (imageOf lentState) (λ number. buffer)
 
   abbrev pub Saves : ℕ → List ℕ → List ℕ → Type 0
   Saves r scratch′ buffer′ = (r ≡ saveNumber) × (scratch′ ≡ saveScratch) × (buffer′ ≡ saveImage)
 
--- Load, of an image into a map, a catalogue and a scratch.
-module _ (image map : List ℕ) (entries : List Entry) (scratch : List ℕ) where
+-- Load, of whether it is turned away, of an image into a map, a catalogue and a scratch.
+module _ (turned : Bool) (image map : List ℕ) (entries : List Entry) (scratch : List ℕ) where
   unfoldable pub loadResult : Loaded
   unfolding loadVerdict
   loadResult =
-      settle (loadVerdict image (length map) (length entries) (length scratch))
+      settle (loadVerdict turned image (length map) (length entries) (length scratch))
       (record { number = 0; blocks = stateIn image .blocks; free = stateIn image .spare })
       (λ number. record { number = number; blocks = 0; free = 0 })
 
   unfoldable pub loadMap : List ℕ
   unfolding loadVerdict
-  loadMap = settle (loadVerdict image (length map) (length entries) (length scratch)) (stateIn image .map) (λ number. map)
+  loadMap = settle (loadVerdict turned image (length map) (length entries) (length scratch)) (stateIn image .map) (λ number.
+      map)
 
   unfoldable pub loadEntries : List Entry
   unfolding loadVerdict
-  loadEntries = settle (loadVerdict image (length map) (length entries) (length scratch)) (stateIn image .entries)
+  loadEntries = settle (loadVerdict turned image (length map) (length entries) (length scratch)) (stateIn image .entries)
       (λ number. entries)
 
   unfoldable pub loadScratch : List ℕ

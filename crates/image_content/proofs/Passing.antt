@@ -84,39 +84,19 @@ module _ (n : ℕ) (all : List Entry) (first : Tally) where
 
 -- ---- their parts released in a window
 
-module _ (ys : List Entry) where
-  abbrev windowThen : Window → List ℕ → Window
-  windowThen w scratch = cond (w .stop) w (windowOver ys w scratch)
-
-  abbrev scratchThen : Window → List ℕ → List ℕ
-  scratchThen w scratch = cond (w .stop) scratch (scratchOver ys w scratch)
-
-over-both : (xs ys : List Entry) (w : Window) (scratch : List ℕ) → w .stop ≡ false
-    → (windowOver (xs ++ ys) w scratch ≡ windowThen ys (windowOver xs w scratch) (scratchOver xs w scratch))
-    × (scratchOver (xs ++ ys) w scratch ≡ scratchThen ys (windowOver xs w scratch) (scratchOver xs w scratch))
-over-both [] ys w scratch going = (
-  sym (ap₂ (windowThen ys) (over-none w scratch) (left-none w scratch)
-      ∙ ap (λ (b : Bool). cond b w (windowOver ys w scratch)) going),
-  sym (ap₂ (scratchThen ys) (over-none w scratch) (left-none w scratch)
-      ∙ ap (λ (b : Bool). cond b scratch (scratchOver ys w scratch)) going),
+over-both : (xs ys : List Entry) (w : Window) (scratch : List ℕ)
+    → (windowOver (xs ++ ys) w scratch ≡ windowOver ys (windowOver xs w scratch) (scratchOver xs w scratch))
+    × (scratchOver (xs ++ ys) w scratch ≡ scratchOver ys (windowOver xs w scratch) (scratchOver xs w scratch))
+over-both [] ys w scratch = (
+  sym (ap₂ (windowOver ys) (over-none w scratch) (left-none w scratch)),
+  sym (ap₂ (scratchOver ys) (over-none w scratch) (left-none w scratch)),
 )
-over-both (e ∷ xs) ys w scratch going =
-    let w′ : Window = windowAfter w scratch e in
-    let s′ : List ℕ = scratchAfter w scratch e in
-    let more : w′ .stop ≡ false
-    → (windowOver (xs ++ ys) w′ s′ ≡ windowThen ys (windowOver xs w′ s′) (scratchOver xs w′ s′))
-    × (scratchOver (xs ++ ys) w′ s′ ≡ scratchThen ys (windowOver xs w′ s′) (scratchOver xs w′ s′)) =
-    over-both xs ys w′ s′ in
-    let w″ : Window = windowOver xs w′ s′ in
-    let s″ : List ℕ = scratchOver xs w′ s′ in (
-      over-more e (xs ++ ys) w scratch
-          ∙ choice (w′ .stop) (windowThen ys) w′ (windowOver (xs ++ ys) w′ s′) w′ w″ s′ s″
-          (λ s. sym (ap (λ (b : Bool). cond b w′ (windowOver ys w′ s′)) s)) (λ s. more s .0)
-          ∙ ap₂ (windowThen ys) (sym (over-more e xs w scratch)) (sym (left-more e xs w scratch)),
-      left-more e (xs ++ ys) w scratch
-          ∙ choice (w′ .stop) (scratchThen ys) s′ (scratchOver (xs ++ ys) w′ s′) w′ w″ s′ s″
-          (λ s. sym (ap (λ (b : Bool). cond b s′ (scratchOver ys w′ s′)) s)) (λ s. more s .1)
-          ∙ ap₂ (scratchThen ys) (sym (over-more e xs w scratch)) (sym (left-more e xs w scratch)),
+over-both (e ∷ xs) ys w scratch =
+    let more = over-both xs ys (windowAfter w scratch e) (scratchAfter w scratch e) in (
+      over-more e (xs ++ ys) w scratch ∙ more .0
+          ∙ ap₂ (windowOver ys) (sym (over-more e xs w scratch)) (sym (left-more e xs w scratch)),
+      left-more e (xs ++ ys) w scratch ∙ more .1
+          ∙ ap₂ (scratchOver ys) (sym (over-more e xs w scratch)) (sym (left-more e xs w scratch)),
     )
 
 module _ (all : List Entry) (first : Window) (start : List ℕ) where
@@ -132,69 +112,33 @@ module _ (all : List Entry) (first : Window) (start : List ℕ) where
     leaves = ap (λ (x : List Entry). scratchOver x first start) (sym e);
   }
 
-  abbrev pub Ends : Window → List ℕ → Type 0
-  Ends w scratch = (w ≡ windowOver all first start) × (scratch ≡ scratchOver all first start)
-
-  pub left-end : (es : List Entry) (w : Window) (scratch : List ℕ) → es ≡ [] → Left es w scratch → Ends w scratch
+  pub left-end : (es : List Entry) (w : Window) (scratch : List ℕ) → es ≡ [] → Left es w scratch
+      → (w ≡ windowOver all first start) × (scratch ≡ scratchOver all first start)
   left-end es w scratch e l = (
     sym (ap (λ (x : List Entry). windowOver x w scratch) e ∙ over-none w scratch) ∙ l .gives,
     sym (ap (λ (x : List Entry). scratchOver x w scratch) e ∙ left-none w scratch) ∙ l .leaves,
   )
 
-  -- what comes of the entries behind, if nothing failed
-  record Then (more : List Entry) (w : Window) (scratch : List ℕ) : Type 0 where
-    long : length scratch ≡ length start
-    gives : windowThen more w scratch ≡ windowOver all first start
-    leaves : scratchThen more w scratch ≡ scratchOver all first start
-
-  then-stopped : (more : List Entry) (w : Window) (scratch : List ℕ) → w .stop ≡ true → Then more w scratch → Ends w scratch
-  then-stopped more w scratch s l = (
-    first-way (w .stop) w (windowOver more w scratch) (windowOver all first start) s (l .gives),
-    first-way (w .stop) scratch (scratchOver more w scratch) (scratchOver all first start) s (l .leaves),
-  )
-
-  then-left : (more : List Entry) (w : Window) (scratch : List ℕ) → w .stop ≡ false → Then more w scratch → Left more w scratch
-  then-left more w scratch s l = record {
-    long = l .long;
-    gives = second-way (w .stop) w (windowOver more w scratch) (windowOver all first start) s (l .gives);
-    leaves = second-way (w .stop) scratch (scratchOver more w scratch) (scratchOver all first start) s (l .leaves);
+  -- an entry
+  pub one-released : (es more : List Entry) (e : Entry) (w w′ : Window) (scratch scratch′ : List ℕ) → es ≡ e ∷ more
+      → w′ ≡ windowAfter w scratch e → scratch′ ≡ scratchAfter w scratch e → Left es w scratch → Left more w′ scratch′
+  one-released es more e w w′ scratch scratch′ split ew es′ l = record {
+    long = ap length es′ ∙ after-length w scratch e ∙ l .long;
+    gives = ap₂ (windowOver more) ew es′ ∙ sym (over-more e more w scratch)
+        ∙ ap (λ (x : List Entry). windowOver x w scratch) (sym split) ∙ l .gives;
+    leaves = ap₂ (scratchOver more) ew es′ ∙ sym (left-more e more w scratch)
+        ∙ ap (λ (x : List Entry). scratchOver x w scratch) (sym split) ∙ l .leaves;
   }
 
-  -- an entry
-  module _ (es more : List Entry) (e : Entry) (w w′ : Window) (scratch scratch′ : List ℕ) (split : es ≡ e ∷ more)
-      (ew : w′ ≡ windowAfter w scratch e) (es′ : scratch′ ≡ scratchAfter w scratch e) (l : Left es w scratch) where
-    released-one : Then more w′ scratch′
-    released-one = record {
-      long = ap length es′ ∙ after-length w scratch e ∙ l .long;
-      gives = ap₂ (windowThen more) ew es′ ∙ sym (over-more e more w scratch)
-          ∙ ap (λ (x : List Entry). windowOver x w scratch) (sym split) ∙ l .gives;
-      leaves = ap₂ (scratchThen more) ew es′ ∙ sym (left-more e more w scratch)
-          ∙ ap (λ (x : List Entry). scratchOver x w scratch) (sym split) ∙ l .leaves;
-    }
-
-    pub one-ends : w′ .stop ≡ true → Ends w′ scratch′
-    one-ends s = then-stopped more w′ scratch′ s released-one
-
-    pub one-released : w′ .stop ≡ false → Left more w′ scratch′
-    one-released s = then-left more w′ scratch′ s released-one
-
   -- some entries
-  module _ (es some more : List Entry) (w w′ : Window) (scratch scratch′ : List ℕ) (split : es ≡ some ++ more)
-      (ew : w′ ≡ windowOver some w scratch) (es′ : scratch′ ≡ scratchOver some w scratch) (going : w .stop ≡ false)
-      (l : Left es w scratch) where
-    released-some : Then more w′ scratch′
-    released-some =
-        let both = over-both some more w scratch going in
-        record {
-          long = ap length es′ ∙ over-length some w scratch ∙ l .long;
-          gives = ap₂ (windowThen more) ew es′ ∙ sym (both .0)
-              ∙ ap (λ (x : List Entry). windowOver x w scratch) (sym split) ∙ l .gives;
-          leaves = ap₂ (scratchThen more) ew es′ ∙ sym (both .1)
-              ∙ ap (λ (x : List Entry). scratchOver x w scratch) (sym split) ∙ l .leaves;
-        }
-
-    pub some-ends : w′ .stop ≡ true → Ends w′ scratch′
-    some-ends s = then-stopped more w′ scratch′ s released-some
-
-    pub some-released : w′ .stop ≡ false → Left more w′ scratch′
-    some-released s = then-left more w′ scratch′ s released-some
+  pub some-released : (es some more : List Entry) (w w′ : Window) (scratch scratch′ : List ℕ) → es ≡ some ++ more
+      → w′ ≡ windowOver some w scratch → scratch′ ≡ scratchOver some w scratch → Left es w scratch → Left more w′ scratch′
+  some-released es some more w w′ scratch scratch′ split ew es′ l =
+      let both = over-both some more w scratch in
+      record {
+        long = ap length es′ ∙ over-length some w scratch ∙ l .long;
+        gives = ap₂ (windowOver more) ew es′ ∙ sym (both .0)
+            ∙ ap (λ (x : List Entry). windowOver x w scratch) (sym split) ∙ l .gives;
+        leaves = ap₂ (scratchOver more) ew es′ ∙ sym (both .1)
+            ∙ ap (λ (x : List Entry). scratchOver x w scratch) (sym split) ∙ l .leaves;
+      }

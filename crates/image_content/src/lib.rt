@@ -10,7 +10,7 @@ ghost use Rattle.map_blocks.specs.Maps.{wordsFor};
 ghost use Rattle.image_frames.specs.Frames.{totalOf};
 ghost use Rattle.image_soundness.specs.Scratch.{scratchWords};
 ghost use Rattle.image_soundness.specs.Sound.{sound};
-ghost use Rattle.image_soundness.specs.Windows.{tallyOf, copied, windowAfter, scratchAfter, windowOver, scratchOver, oneWindow};
+ghost use Rattle.image_soundness.specs.Windows.{tallyOf, copied, windowOver, scratchOver, oneWindow};
 ghost use Rattle.image_soundness.specs.Windows.{oneScratch, windowsOf, windowCount};
 ghost use Rattle.image.specs.Image.{blocksIn, freeCountIn, sheetsIn, entriesFrom, entriesIn, mapIn, stateIn, filled};
 ghost use Rattle.image.specs.Table.{headFits};
@@ -29,7 +29,7 @@ use image_soundness::tally_entry;
 use image_soundness::words::clear;
 use image_windows::end_window;
 use image_windows::first_window;
-use image_windows::has_part;
+use image_windows::release_near;
 use image_windows::release_part;
 use image_windows::window_count;
 
@@ -89,19 +89,8 @@ fn fill_in(image: &[u8], n: u32, c: usize, window: Window, scratch: &mut [u64])
     read_words(&mut scratch[..w], image, 3 + 3 * c + 2 * a);
 }
 
-// Releases the part of an extent that lies in a window, if it is taken. Most extents have none there, so this is tested first.
-fn release_near(window: Window, scratch: &mut [u64], entry: Entry) -> Window
-    ensures { λ r. ⌜ (r ≡ windowAfter window (now (scratch .entry)) entry)
-        × (now (scratch .exit) ≡ scratchAfter window (now (scratch .entry)) entry) ⌝ }
-{
-    if has_part(window.lo, entry) {
-        return release_part(window, scratch, entry);
-    }
-    window
-}
-
-// Releases the parts of extents whose entries stand one behind the other in a frame, from byte `at` of the image on, up to one
-// that is not taken. This is the loop that a load goes through most: every entry, once for each window.
+// Releases the parts of extents whose entries stand one behind the other in a frame, from byte `at` of the image on. This is
+// the loop that a load goes through most: every entry, once for each window.
 fn release_together(
     first: Window,
     scratch: &mut [u64],
@@ -113,21 +102,21 @@ fn release_together(
     ensures { λ r. ⌜ (r ≡ windowOver (entriesFrom (now (image .entry)) at count) first (now (scratch .entry)))
         × (now (scratch .exit) ≡ scratchOver (entriesFrom (now (image .entry)) at count) first (now (scratch .entry))) ⌝ }
 {
-    let mut window = first;
+    let lo = first.lo;
+    let mut stop = first.stop;
     let mut i: usize = 0;
     while i < count {
-        window = release_near(window, scratch, entry_here(image, at + 12 * i));
-        if window.stop {
-            return window;
-        }
+        let window = Window { lo: lo, stop: stop };
+        let next = release_near(window, scratch, entry_here(image, at + 12 * i));
+        stop = next.stop;
         i += 1;
     }
-    window
+    Window { lo: lo, stop: stop }
 }
 
-// Releases the parts of the c extents that stand in an image, up to one that is not taken: frame by frame, as they are counted.
+// Releases the parts of the c extents that stand in an image: frame by frame, as they are counted.
 fn release_in(first: Window, scratch: &mut [u64], image: &[u8], c: usize) -> Window
-    requires { ⌜ (first .stop ≡ false) × (c ≤ 1024) × (3 + 3 * c ≤ 124 * totalOf (now image)) ⌝ }
+    requires { ⌜ (c ≤ 1024) × (3 + 3 * c ≤ 124 * totalOf (now image)) ⌝ }
     ensures { λ r. ⌜ (r ≡ windowOver (entriesIn (now (image .entry)) c) first (now (scratch .entry)))
         × (now (scratch .exit) ≡ scratchOver (entriesIn (now (image .entry)) c) first (now (scratch .entry))) ⌝ }
 {
@@ -137,16 +126,10 @@ fn release_in(first: Window, scratch: &mut [u64], image: &[u8], c: usize) -> Win
         let count = together(sheet, c);
         window = release_together(window, scratch, image, place(3 + 3 * sheet), count);
         sheet += count;
-        if window.stop {
-            return window;
-        }
         if c <= sheet {
             return window;
         }
         window = release_part(window, scratch, entry_across(image, 3 + 3 * sheet));
-        if window.stop {
-            return window;
-        }
         sheet += 1;
     }
     window

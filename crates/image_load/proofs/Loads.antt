@@ -8,13 +8,15 @@ use native.Mathlib.Omega.{arith}
 use lib.Dec.{eqb}
 use lib.ListN.{length}
 use borrow.Author.Tests.{ne-eqb}
+use Rattle.roles.specs.Roles as names
+use Rattle.roles.specs.Roles.{turnedAway}
 use Rattle.catalogue_standings.specs.Rows.{Verdict, accepted, refused, settle, rowNumber}
 use Rattle.catalogue.specs.declared.Entry.{Entry}
 use Rattle.image_frames.specs.Frames.{bodyOf, totalOf}
 use Rattle.image.specs.Cursors.{cursor}
-use Rattle.image.specs.Effects.{loadResult, loadMap, loadEntries, loadScratch, Loads}
+use Rattle.image.specs.Effects.{loadResult, loadMap, loadEntries, loadScratch}
 use Rattle.image.specs.Image.{blocksIn, freeCountIn, sheetsIn, entryFrom, entriesFrom, entriesIn, stateIn}
-use Rattle.image_load.specs.Parts.{coreLoaded, coreMap, coreScratch, firstCursor, readEntries}
+use Rattle.image_load.specs.Parts.{LoadsBy, coreLoaded, coreMap, coreScratch, firstCursor, readEntries}
 use Rattle.image.specs.Table.{loadVerdict}
 use Rattle.image.specs.declared.Loaded.{Loaded}
 use Rattle.image_load.specs.declared.Turn.{Turn}
@@ -40,36 +42,39 @@ never k q = let z : _≡_ {A = ℕ} 0 1 = ap (λ (v : Verdict). settle v 1 (λ j
 abbrev loaded : ℕ → ℕ → ℕ → Loaded
 loaded number n spare = record { number = number; blocks = n; free = spare }
 
-module _ (image map : List ℕ) (entries : List Entry) (scratch : List ℕ) where
+module _ (role : ℕ) (image map : List ℕ) (entries : List Entry) (scratch : List ℕ) where
+  abbrev turned : Bool
+  turned = turnedAway role names.load
+
   abbrev verdict : Verdict
-  verdict = loadVerdict image (length map) (length entries) (length scratch)
+  verdict = loadVerdict turned image (length map) (length entries) (length scratch)
 
   abbrev given : Verdict → Loaded
   given v = settle v (loaded 0 (blocksIn image) (freeCountIn image)) (λ number. loaded number 0 0)
 
-  entries-law : readEntries entries image (firstCursor (coreLoaded image map (length entries) scratch))
-      ≡ loadEntries image map entries scratch
+  entries-law : readEntries entries image (firstCursor (coreLoaded role image map (length entries) scratch))
+      ≡ loadEntries turned image map entries scratch
   unfolding coreLoaded firstCursor loadEntries entriesIn
   entries-law = by verdict refl
     where
       by : (v : Verdict) → verdict ≡ v → readEntries entries image (cursor 3 (not (eqb (given v .number) 0)))
           ≡ settle v (stateIn image .entries) (λ number. entries)
       by accepted e =
-          let p = accepted-to image (length map) (length entries) (length scratch) e in
+          let p = accepted-to turned image (length map) (length entries) (length scratch) e in
           let w = whole-to (length image) (p .blocks) in
           let h = head-to (blocksIn image) (freeCountIn image) (sheetsIn image) (totalOf image) (p .first) in
           let l = load-fits-to (blocksIn image) (sheetsIn image) (length map) (length entries) (length scratch) (p .lengths) in
           read-from image 3 12 entries refl (omega (arith, w .exact, h .exact, l .entries)) ∙ ap (entriesIn image) (l .entries)
       by (refused k) e =
           let n : k ≡ 0
-          → ⊥ = λ z. never k (sym e ∙ load-accepted image (length map) (length entries) (length scratch)
+          → ⊥ = λ z. never k (sym e ∙ load-accepted turned image (length map) (length entries) (length scratch)
           (ap rowNumber e ∙ z)) in
           ap (λ (b : Bool). readEntries entries image (cursor 3 (not b))) (ne-eqb k 0 n)
           ∙ entries-stay entries image (cursor 3 true) refl
 
-  pub loads : Loads image map entries scratch (coreLoaded image map (length entries) scratch)
-      (coreMap image map (length entries) scratch)
-      (readEntries entries image (firstCursor (coreLoaded image map (length entries) scratch)))
-      (coreScratch image map (length entries) scratch)
+  pub loads : LoadsBy role image map entries scratch (coreLoaded role image map (length entries) scratch)
+      (coreMap role image map (length entries) scratch)
+      (readEntries entries image (firstCursor (coreLoaded role image map (length entries) scratch)))
+      (coreScratch role image map (length entries) scratch)
   unfolding coreLoaded coreMap coreScratch loadResult loadMap loadScratch
   loads = (refl, refl, entries-law, refl)

@@ -3,6 +3,8 @@
 ghost use mathlib.Core.Path.{_≡_};
 ghost use lib.ListN.{length};
 ghost use Rattle.catalogue_standings.specs.Rows.{rowNumber};
+ghost use Rattle.roles.specs.Roles as names;
+ghost use Rattle.roles.specs.Roles.{turnedAway};
 ghost use Rattle.image.specs.Effects.{loadResult, loadMap, loadEntries, loadScratch};
 ghost use Rattle.image_load.specs.Parts.{coreLoaded, coreMap, coreScratch, firstCursor, turnAfter, readCursor};
 ghost use Rattle.image_load.specs.Parts.{readEntries};
@@ -20,6 +22,8 @@ use image_frames::all_framed;
 use image_frames::number;
 use image_frames::read_words;
 use image_soundness::words::clear;
+use roles::TURNED_AWAY;
+use roles::turned_away;
 
 // One entry read: where the next one stands, and the entry.
 pub struct Turn {
@@ -28,9 +32,13 @@ pub struct Turn {
 }
 
 // The rows of load.
-fn verdict(image: &[u8], maplen: usize, count: usize, scratch: &mut [u64]) -> u32
-    ensures { λ r. ⌜ r ≡ rowNumber (loadVerdict (now (image .entry)) maplen count (length (now (scratch .entry)))) ⌝ }
+fn verdict(role: u32, image: &[u8], maplen: usize, count: usize, scratch: &mut [u64]) -> u32
+    ensures { λ r. let turned = turnedAway role names.load in
+        ⌜ r ≡ rowNumber (loadVerdict turned (now (image .entry)) maplen count (length (now (scratch .entry)))) ⌝ }
 {
+    if turned_away(role, roles::LOAD) {
+        return TURNED_AWAY;
+    }
     if !whole_blocks(image.len()) {
         return 12;
     }
@@ -53,12 +61,12 @@ fn verdict(image: &[u8], maplen: usize, count: usize, scratch: &mut [u64]) -> u3
 }
 
 // All of a load but the entries, for a catalogue of `count` of them.
-fn load_core(image: &[u8], map: &mut [u64], count: usize, scratch: &mut [u64]) -> Loaded
-    ensures { λ r. ⌜ (r ≡ coreLoaded (now (image .entry)) (now (map .entry)) count (now (scratch .entry)))
-        × (now (map .exit) ≡ coreMap (now (image .entry)) (now (map .entry)) count (now (scratch .entry)))
-        × (now (scratch .exit) ≡ coreScratch (now (image .entry)) (now (map .entry)) count (now (scratch .entry))) ⌝ }
+fn load_core(role: u32, image: &[u8], map: &mut [u64], count: usize, scratch: &mut [u64]) -> Loaded
+    ensures { λ r. ⌜ (r ≡ coreLoaded role (now (image .entry)) (now (map .entry)) count (now (scratch .entry)))
+        × (now (map .exit) ≡ coreMap role (now (image .entry)) (now (map .entry)) count (now (scratch .entry)))
+        × (now (scratch .exit) ≡ coreScratch role (now (image .entry)) (now (map .entry)) count (now (scratch .entry))) ⌝ }
 {
-    let refusal = verdict(image, map.len(), count, scratch);
+    let refusal = verdict(role, image, map.len(), count, scratch);
     clear(scratch);
     if refusal != 0 {
         return Loaded {
@@ -137,16 +145,24 @@ fn read_entries(catalogue: &mut [Entry], image: &[u8], start: Cursor) -> Cursor
 }
 
 // Loads an image.
-pub fn load(image: &[u8], map: &mut [u64], catalogue: &mut [Entry], scratch: &mut [u64]) -> Loaded
-    ensures { λ r. ⌜ (r ≡ loadResult (now (image .entry)) (now (map .entry)) (now (catalogue .entry)) (now (scratch .entry)))
-        × (now (map .exit) ≡ loadMap (now (image .entry)) (now (map .entry)) (now (catalogue .entry)) (now (scratch .entry)))
-        × (now (catalogue .exit) ≡ loadEntries (now (image .entry)) (now (map .entry)) (now (catalogue .entry))
+pub fn load(
+    role: u32,
+    image: &[u8],
+    map: &mut [u64],
+    catalogue: &mut [Entry],
+    scratch: &mut [u64],
+) -> Loaded
+    ensures { λ r. let turned = turnedAway role names.load in
+        ⌜ (r ≡ loadResult turned (now (image .entry)) (now (map .entry)) (now (catalogue .entry)) (now (scratch .entry)))
+        × (now (map .exit) ≡ loadMap turned (now (image .entry)) (now (map .entry)) (now (catalogue .entry))
         (now (scratch .entry)))
-        × (now (scratch .exit) ≡ loadScratch (now (image .entry)) (now (map .entry)) (now (catalogue .entry))
+        × (now (catalogue .exit) ≡ loadEntries turned (now (image .entry)) (now (map .entry)) (now (catalogue .entry))
+        (now (scratch .entry)))
+        × (now (scratch .exit) ≡ loadScratch turned (now (image .entry)) (now (map .entry)) (now (catalogue .entry))
         (now (scratch .entry))) ⌝ }
 {
     let count = catalogue::count(&*catalogue);
-    let loaded = load_core(image, map, count, scratch);
+    let loaded = load_core(role, image, map, count, scratch);
     let first = first_cursor(loaded);
     let last = read_entries(catalogue, image, first);
     loaded

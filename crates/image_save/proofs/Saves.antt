@@ -23,11 +23,13 @@ use Rattle.image_soundness.specs.Windows.{tally, tested, testedScratch}
 use Rattle.image_soundness.specs.Sound.{State, sound}
 use Rattle.image_soundness.specs.declared.Tally.{Tally}
 use Rattle.image_soundness.proofs.Tested.{tested-sound}
+use Rattle.roles.specs.Roles as names
+use Rattle.roles.specs.Roles.{turnedAway}
 use Rattle.image.specs.Cursors.{cursor}
-use Rattle.image.specs.Effects.{saveNumber, saveScratch, saveImage, Saves}
+use Rattle.image.specs.Effects.{saveNumber, saveScratch, saveImage}
 use Rattle.image.specs.Image.{contentLength, framesFor, entryBytes, body, imageOf}
 use Rattle.image_save.specs.Parts.{firstTally, numberBy, headCursor, headImage, imageAfter, entriesCursor}
-use Rattle.image_save.specs.Parts.{entriesImage, restImage}
+use Rattle.image_save.specs.Parts.{entriesImage, restImage, SavesBy}
 use Rattle.image.specs.Table.{saveFits, saveRows, saveVerdict}
 use Rattle.image.specs.declared.Cursor.{Cursor}
 use Rattle.image.proofs.Journey.{entryBytes-length}
@@ -210,18 +212,21 @@ kept : (v : Verdict) (a b : List ℕ) → (rowNumber v ≡ 0 → ⊥) → b ≡ 
 kept accepted a b n = absurd (n refl)
 kept (refused k) a b n = refl
 
-module _ (n spare : ℕ) (map : List ℕ) (entries : List Entry) (scratch image : List ℕ) where
+module _ (role n spare : ℕ) (map : List ℕ) (entries : List Entry) (scratch image : List ℕ) where
+  abbrev turned : Bool
+  turned = turnedAway role names.save
+
   abbrev state : State
   state = record { blocks = n; spare = spare; entries = entries; map = map }
 
   abbrev verdict : Verdict
-  verdict = saveVerdict state (length scratch) (length image)
+  verdict = saveVerdict turned state (length scratch) (length image)
 
   abbrev fit : Bool
   fit = saveFits n spare (length entries) (length map) (length scratch)
 
   abbrev start : Tally
-  start = firstTally n spare map (length entries) scratch
+  start = firstTally role n spare map (length entries) scratch
 
   abbrev whole : Bool
   whole = tested map entries scratch n start
@@ -234,30 +239,34 @@ module _ (n spare : ℕ) (map : List ℕ) (entries : List Entry) (scratch image 
   cleared-length = length-replicate (length scratch) 0
 
   abbrev given : ℕ
-  given = numberBy n spare map (length entries) whole cleared image
+  given = numberBy role n spare map (length entries) whole cleared image
 
-  -- row 4, where row 1 does not hold
-  whole-sound : fit ≡ true → whole ≡ sound state
+  -- row 4, where neither row 21 nor row 1 holds
+  whole-sound : turned ≡ false → fit ≡ true → whole ≡ sound state
   unfolding firstTally
-  whole-sound f =
+  whole-sound t f =
       let l = save-fits-to n spare (length entries) (length map) (length scratch) f in
-      ap (λ (b : Bool). tested map entries scratch n (cond b (tally (n - spare) false) (tally 0 true))) f
+      ap₂ (λ (a b : Bool). tested map entries scratch n
+      (cond a (tally 0 true) (cond b (tally (n - spare) false) (tally 0 true)))) t f
       ∙ tested-sound state scratch (l .shape) (l .scratch)
 
-  abbrev rows : Bool → Bool → Verdict
-  rows f r = firstOf (row 1 (not f) ∷ row 4 (not r) ∷ row 12 (not (eqb (length image) (512 * framesFor n (length entries))))
+  abbrev rows : Bool → Bool → Bool → Verdict
+  rows t f r =
+      firstOf (row 21 t ∷ row 1 (not f) ∷ row 4 (not r)
+      ∷ row 12 (not (eqb (length image) (512 * framesFor n (length entries))))
       ∷ [])
 
-  number-law : given ≡ saveNumber n spare map entries scratch image
+  number-law : given ≡ saveNumber turned n spare map entries scratch image
   unfolding numberBy saveNumber saveVerdict saveRows firstOf
-  number-law = ap (λ (k : ℕ). rowNumber (rows (saveFits n spare (length entries) (length map) k) whole)) cleared-length
-      ∙ by fit refl
+  number-law = ap (λ (k : ℕ). rowNumber (rows turned (saveFits n spare (length entries) (length map) k) whole)) cleared-length
+      ∙ by turned fit refl refl
     where
-      by : (b : Bool) → fit ≡ b → rowNumber (rows b whole) ≡ rowNumber (rows b (sound state))
-      by true f = ap (λ (r : Bool). rowNumber (rows true r)) (whole-sound f)
-      by false f = refl
+      by : (t f : Bool) → turned ≡ t → fit ≡ f → rowNumber (rows t f whole) ≡ rowNumber (rows t f (sound state))
+      by true f e d = refl
+      by false true e d = ap (λ (r : Bool). rowNumber (rows false true r)) (whole-sound e d)
+      by false false e d = refl
 
-  scratch-law : cleared ≡ saveScratch n spare map entries scratch image
+  scratch-law : cleared ≡ saveScratch turned n spare map entries scratch image
   unfolding testedScratch saveScratch
   scratch-law = refl
 
@@ -274,7 +283,7 @@ module _ (n spare : ℕ) (map : List ℕ) (entries : List Entry) (scratch image 
   unfolding saveNumber
   number-verdict = number-law
 
-  refused-image : (given ≡ 0 → ⊥) → final ≡ saveImage n spare map entries scratch image
+  refused-image : (given ≡ 0 → ⊥) → final ≡ saveImage turned n spare map entries scratch image
   unfolding headCursor headImage saveImage
   refused-image h =
       let z = ne-eqb given 0 h in
@@ -287,12 +296,12 @@ module _ (n spare : ℕ) (map : List ℕ) (entries : List Entry) (scratch image 
       ∙ stopped-rest map image
       ∙ kept verdict (imageOf state) image (λ e. h (number-verdict ∙ e))
 
-  saved-image : given ≡ 0 → final ≡ saveImage n spare map entries scratch image
+  saved-image : given ≡ 0 → final ≡ saveImage turned n spare map entries scratch image
   unfolding headCursor headImage saveImage
   saved-image e =
       let z = eq-eqb given 0 e in
-      let v : verdict ≡ accepted = save-accepted state (length scratch) (length image) (sym number-verdict ∙ e) in
-      let p = saved-to state (length scratch) (length image) v in
+      let v : verdict ≡ accepted = save-accepted turned state (length scratch) (length image) (sym number-verdict ∙ e) in
+      let p = saved-to turned state (length scratch) (length image) v in
       let l = save-fits-to n spare (length entries) (length map) (length scratch) (p .lengths) in
       let ef : first ≡ cursor 3 false = ap (λ (b : Bool). cursor 3 (not b)) z in
       let ei : headedImage ≡ withNumber (withNumber (withNumber image 0 n) 1 spare) 2 (length entries % 4294967296) =
@@ -302,12 +311,12 @@ module _ (n spare : ℕ) (map : List ℕ) (entries : List Entry) (scratch image 
       ∙ accepted-image state image (l .limits .limit) (l .count .few) (l .limits .words) (p .exact)
       ∙ sym (ap (λ (w : Verdict). settle w (imageOf state) (λ number. image)) v)
 
-  image-law : final ≡ saveImage n spare map entries scratch image
+  image-law : final ≡ saveImage turned n spare map entries scratch image
   image-law = by (eqb given 0) refl
     where
-      by : (b : Bool) → eqb given 0 ≡ b → final ≡ saveImage n spare map entries scratch image
+      by : (b : Bool) → eqb given 0 ≡ b → final ≡ saveImage turned n spare map entries scratch image
       by true e = saved-image (eqb-true given 0 e)
       by false e = refused-image (eqb-false given 0 e)
 
-  pub saves : Saves n spare map entries scratch image given cleared final
+  pub saves : SavesBy role n spare map entries scratch image given cleared final
   saves = (number-law, scratch-law, image-law)

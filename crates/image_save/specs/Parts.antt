@@ -10,24 +10,34 @@ use Rattle.catalogue.specs.declared.Entry.{Entry}
 use Rattle.image_frames.specs.Frames.{totalOf, bodyOf, frames}
 use Rattle.block_bytes.specs.Replaced.{replaced}
 use Rattle.image_frames.specs.Numbers.{withNumber, wordBytes}
+use Rattle.roles.specs.Roles as names
+use Rattle.roles.specs.Roles.{turnedAway}
 use Rattle.image_soundness.specs.Windows.{tally}
 use Rattle.image_soundness.specs.declared.Tally.{Tally}
 use Rattle.image.specs.Cursors.{cursor, active}
+use Rattle.image.specs.Effects.{Saves}
 use Rattle.image.specs.Image.{framesFor}
 use Rattle.image.specs.Table.{saveFits, wholeBlocks}
 use Rattle.image.specs.declared.Cursor.{Cursor}
 
--- Unless row 1 holds, the entries have n less the free count to make.
-module _ (n spare : ℕ) (map : List ℕ) (count : ℕ) (scratch : List ℕ) where
+-- What a save comes to, by who makes it.
+abbrev pub SavesBy : ℕ → ℕ → ℕ → List ℕ → List Entry → List ℕ → List ℕ → ℕ → List ℕ → List ℕ → Type 0
+SavesBy role = Saves (turnedAway role names.save)
+
+-- Unless row 21 or row 1 holds, the entries have n less the free count to make.
+module _ (role n spare : ℕ) (map : List ℕ) (count : ℕ) (scratch : List ℕ) where
   unfoldable pub firstTally : Tally
-  firstTally = cond (saveFits n spare count (length map) (length scratch)) (tally (n - spare) false) (tally 0 true)
+  firstTally =
+      cond (turnedAway role names.save) (tally 0 true)
+      (cond (saveFits n spare count (length map) (length scratch)) (tally (n - spare) false) (tally 0 true))
 
 -- The number by whether the state is sound.
-module _ (n spare : ℕ) (map : List ℕ) (count : ℕ) (whole : Bool) (scratch image : List ℕ) where
+module _ (role n spare : ℕ) (map : List ℕ) (count : ℕ) (whole : Bool) (scratch image : List ℕ) where
   unfoldable pub numberBy : ℕ
   numberBy =
       rowNumber (firstOf
-      (row 1 (not (saveFits n spare count (length map) (length scratch)))
+      (row 21 (turnedAway role names.save)
+      ∷ row 1 (not (saveFits n spare count (length map) (length scratch)))
       ∷ row 4 (not whole)
       ∷ row 12 (not (eqb (length image) (512 * framesFor n count)))
       ∷ []))

@@ -1,6 +1,8 @@
 // Save (document 01, "Saved image"): whether the state is sound, the verdict, and then the image from its head to its fill.
 // Everything is validated before the first byte of the image is written, so that a refusal changes nothing but the scratch.
 ghost use mathlib.Core.Path.{_≡_};
+ghost use Rattle.roles.specs.Roles as names;
+ghost use Rattle.roles.specs.Roles.{turnedAway};
 ghost use Rattle.image.specs.Effects.{saveNumber, saveScratch, saveImage};
 ghost use Rattle.image_save.specs.Parts.{firstTally, numberBy, headCursor, headImage, cursorAfter, imageAfter};
 ghost use Rattle.image_save.specs.Parts.{entriesCursor, entriesImage, restFits, restImage};
@@ -17,11 +19,19 @@ use image_frames::seal_all;
 use image_frames::write_words;
 use image_soundness::Tally;
 use image_windows::test_sound;
+use roles::TURNED_AWAY;
+use roles::turned_away;
 
-// What the entries must make: n less the free count. If row 1 holds, nothing is to be tested.
-fn begin(n: u32, free: u32, map: &[u64], count: usize, scratch: &[u64]) -> Tally
-    ensures { λ r. ⌜ r ≡ firstTally n free (now (map .entry)) count (now (scratch .entry)) ⌝ }
+// What the entries must make: n less the free count. If row 21 or row 1 holds, nothing is to be tested.
+fn begin(role: u32, n: u32, free: u32, map: &[u64], count: usize, scratch: &[u64]) -> Tally
+    ensures { λ r. ⌜ r ≡ firstTally role n free (now (map .entry)) count (now (scratch .entry)) ⌝ }
 {
+    if turned_away(role, roles::SAVE) {
+        return Tally {
+            left: 0,
+            stop: true,
+        };
+    }
     if !save_fits(n, free, count, map.len(), scratch.len()) {
         return Tally {
             left: 0,
@@ -36,6 +46,7 @@ fn begin(n: u32, free: u32, map: &[u64], count: usize, scratch: &[u64]) -> Tally
 
 // The rows of save, by whether the state is sound.
 fn verdict(
+    role: u32,
     n: u32,
     free: u32,
     map: &[u64],
@@ -44,8 +55,11 @@ fn verdict(
     scratch: &[u64],
     image: &[u8],
 ) -> u32
-    ensures { λ r. ⌜ r ≡ numberBy n free (now (map .entry)) count sound (now (scratch .entry)) (now (image .entry)) ⌝ }
+    ensures { λ r. ⌜ r ≡ numberBy role n free (now (map .entry)) count sound (now (scratch .entry)) (now (image .entry)) ⌝ }
 {
+    if turned_away(role, roles::SAVE) {
+        return TURNED_AWAY;
+    }
     if !save_fits(n, free, count, map.len(), scratch.len()) {
         return 1;
     }
@@ -155,6 +169,7 @@ fn write_rest(map: &[u64], at: Cursor, image: &mut [u8])
 
 // Saves a state, and gives 0 or the refusal's number.
 pub fn save(
+    role: u32,
     n: u32,
     free: u32,
     map: &[u64],
@@ -162,17 +177,18 @@ pub fn save(
     scratch: &mut [u64],
     image: &mut [u8],
 ) -> u32
-    ensures { λ r.
-        ⌜ (r ≡ saveNumber n free (now (map .entry)) (now (catalogue .entry)) (now (scratch .entry)) (now (image .entry)))
-        × (now (scratch .exit) ≡ saveScratch n free (now (map .entry)) (now (catalogue .entry)) (now (scratch .entry))
+    ensures { λ r. let turned = turnedAway role names.save in
+        ⌜ (r ≡ saveNumber turned n free (now (map .entry)) (now (catalogue .entry)) (now (scratch .entry))
         (now (image .entry)))
-        × (now (image .exit) ≡ saveImage n free (now (map .entry)) (now (catalogue .entry)) (now (scratch .entry))
+        × (now (scratch .exit) ≡ saveScratch turned n free (now (map .entry)) (now (catalogue .entry)) (now (scratch .entry))
+        (now (image .entry)))
+        × (now (image .exit) ≡ saveImage turned n free (now (map .entry)) (now (catalogue .entry)) (now (scratch .entry))
         (now (image .entry))) ⌝ }
 {
     let count = catalogue::count(catalogue);
-    let start = begin(n, free, map, count, &*scratch);
+    let start = begin(role, n, free, map, count, &*scratch);
     let sound = test_sound(map, catalogue, scratch, n, start);
-    let number = verdict(n, free, map, count, sound, &*scratch, &*image);
+    let number = verdict(role, n, free, map, count, sound, &*scratch, &*image);
     let first = write_head(n, free, count, number, image);
     let last = write_entries(catalogue, first, image);
     write_rest(map, last, image);

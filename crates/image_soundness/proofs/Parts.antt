@@ -135,25 +135,6 @@ module _ (lo : ℕ) (scratch : List ℕ) (e : Entry) where
 
 -- ---- all entries
 
-module _ (w : Window) (scratch : List ℕ) (e : Entry) (es : List Entry) where
-  pub over-on : (next : List ℕ) → w .stop ≡ false → (w ≡ windowAfter w scratch e) × (next ≡ scratchAfter w scratch e)
-      → (windowOver (e ∷ es) w scratch ≡ windowOver es w next) × (scratchOver (e ∷ es) w scratch ≡ scratchOver es w next)
-  unfolding windowOver scratchOver
-  over-on next o a =
-      let s : windowAfter w scratch e .stop ≡ false = ap (λ (x : Window). x .stop) (sym (a .0)) ∙ o in (
-        ap (λ (b : Bool). cond b (windowAfter w scratch e)
-            (windowOver es (windowAfter w scratch e) (scratchAfter w scratch e))) s
-            ∙ ap₂ (windowOver es) (sym (a .0)) (sym (a .1)),
-        ap (λ (b : Bool). cond b (scratchAfter w scratch e)
-            (scratchOver es (windowAfter w scratch e) (scratchAfter w scratch e))) s
-            ∙ ap₂ (scratchOver es) (sym (a .0)) (sym (a .1)),
-      )
-
-  over-off : windowAfter w scratch e .stop ≡ true → windowOver (e ∷ es) w scratch .stop ≡ true
-  unfolding windowOver
-  over-off s = ap (λ (b : Bool). cond b (windowAfter w scratch e)
-      (windowOver es (windowAfter w scratch e) (scratchAfter w scratch e)) .stop) s ∙ s
-
 -- what failed before stays so, and the window is the same
 after-stopped : (w : Window) (scratch : List ℕ) (e : Entry) → w .stop ≡ true → windowAfter w scratch e .stop ≡ true
 unfolding windowAfter
@@ -176,18 +157,23 @@ after-lo w scratch e = by (touches (w .lo) e) (partTaken (w .lo) scratch e)
 pub over-stopped : (es : List Entry) (w : Window) (scratch : List ℕ) → w .stop ≡ true → windowOver es w scratch .stop ≡ true
 unfolding windowOver
 over-stopped [] w scratch s = s
-over-stopped (e ∷ es) w scratch s = over-off w scratch e es (after-stopped w scratch e s)
+over-stopped (e ∷ es) w scratch s =
+    over-stopped es (windowAfter w scratch e) (scratchAfter w scratch e) (after-stopped w scratch e s)
 
 pub over-lo : (es : List Entry) (w : Window) (scratch : List ℕ) → windowOver es w scratch .lo ≡ w .lo
 unfolding windowOver
 over-lo [] w scratch = refl
-over-lo (e ∷ es) w scratch =
-    by (windowAfter w scratch e .stop) (over-lo es (windowAfter w scratch e) (scratchAfter w scratch e))
-  where
-    by : (b : Bool) → windowOver es (windowAfter w scratch e) (scratchAfter w scratch e) .lo ≡ windowAfter w scratch e .lo
-        → cond b (windowAfter w scratch e) (windowOver es (windowAfter w scratch e) (scratchAfter w scratch e)) .lo ≡ w .lo
-    by true h = after-lo w scratch e
-    by false h = h ∙ after-lo w scratch e
+over-lo (e ∷ es) w scratch = over-lo es (windowAfter w scratch e) (scratchAfter w scratch e) ∙ after-lo w scratch e
+
+module _ (w : Window) (scratch : List ℕ) (e : Entry) (es : List Entry) where
+  over-on : (next : List ℕ) → (w ≡ windowAfter w scratch e) × (next ≡ scratchAfter w scratch e)
+      → (windowOver (e ∷ es) w scratch ≡ windowOver es w next) × (scratchOver (e ∷ es) w scratch ≡ scratchOver es w next)
+  unfolding windowOver scratchOver
+  over-on next a = (ap₂ (windowOver es) (sym (a .0)) (sym (a .1)), ap₂ (scratchOver es) (sym (a .0)) (sym (a .1)))
+
+  over-off : windowAfter w scratch e .stop ≡ true → windowOver (e ∷ es) w scratch .stop ≡ true
+  unfolding windowOver
+  over-off s = over-stopped es (windowAfter w scratch e) (scratchAfter w scratch e) s
 
 module _ (lo : ℕ) where
   -- each block of the window is free afterwards as often as it was free or covered
@@ -205,7 +191,7 @@ module _ (lo : ℕ) where
       ⊎-elim
       (λ (p : partTaken lo scratch e ≡ true).
       let next : List ℕ = marked scratch (partFrom lo e - lo) (partTo lo e - partFrom lo e) true in
-      let on = over-on (window lo false) scratch e es next refl (step-releases (window lo false) scratch e t p) in
+      let on = over-on (window lo false) scratch e es next (step-releases (window lo false) scratch e t p) in
       let long : length next ≡ length scratch = marked-length scratch (partFrom lo e - lo) (partTo lo e - partFrom lo e) true in
       let rest : coverings es (lo + b) + one (free next b) ≡ one (free (scratchOver es (window lo false) next) b) =
       over-adds es next (ap (λ (x : Window). x .stop) (sym (on .0)) ∙ o) b (omega arith) k in
@@ -219,7 +205,7 @@ module _ (lo : ℕ) where
       absurd (clash (windowOver (e ∷ es) (window lo false) scratch .stop) (over-off (window lo false) scratch e es s) o))
       (decide (partTaken lo scratch e)))
       (λ (t : touches lo e ≡ false).
-      let on = over-on (window lo false) scratch e es scratch refl (step-past (window lo false) scratch e t) in
+      let on = over-on (window lo false) scratch e es scratch (step-past (window lo false) scratch e t) in
       let rest : coverings es (lo + b) + one (free scratch b) ≡ one (free (scratchOver es (window lo false) scratch) b) =
       over-adds es scratch (ap (λ (x : Window). x .stop) (sym (on .0)) ∙ o) b h k in
       let z : one (inRun (e .start) (e .length) (lo + b)) ≡ 0 = ap one (part-none lo e b k t) in
@@ -268,7 +254,7 @@ module _ (lo : ℕ) where
         (λ b h k. let o : one (inRun (e .start) (e .length) (lo + b)) + coverings es (lo + b) + one (free scratch b) ≤ 1 =
         once b h k in omega arith) t in
         let next : List ℕ = marked scratch (partFrom lo e - lo) (partTo lo e - partFrom lo e) true in
-        let on = over-on (window lo false) scratch e es next refl (step-releases (window lo false) scratch e t p) in
+        let on = over-on (window lo false) scratch e es next (step-releases (window lo false) scratch e t p) in
         let long : length next ≡ length scratch =
         marked-length scratch (partFrom lo e - lo) (partTo lo e - partFrom lo e) true in
         ap (λ (x : Window). x .stop) (on .0)
@@ -278,7 +264,7 @@ module _ (lo : ℕ) where
         once b (omega arith) k in
         omega arith))
         (λ (t : touches lo e ≡ false).
-        let on = over-on (window lo false) scratch e es scratch refl (step-past (window lo false) scratch e t) in
+        let on = over-on (window lo false) scratch e es scratch (step-past (window lo false) scratch e t) in
         ap (λ (x : Window). x .stop) (on .0)
         ∙ over-passes es scratch (tail-undamaged n (λ b. false) e es u) room (λ b h k.
         let o : one (inRun (e .start) (e .length) (lo + b)) + coverings es (lo + b) + one (free scratch b) ≤ 1 =

@@ -35,8 +35,7 @@ unfolding windowOver
 over-none w scratch = refl
 
 pub over-more : (e : Entry) (es : List Entry) (w : Window) (scratch : List ℕ)
-    → windowOver (e ∷ es) w scratch ≡ cond (windowAfter w scratch e .stop) (windowAfter w scratch e)
-    (windowOver es (windowAfter w scratch e) (scratchAfter w scratch e))
+    → windowOver (e ∷ es) w scratch ≡ windowOver es (windowAfter w scratch e) (scratchAfter w scratch e)
 unfolding windowOver
 over-more e es w scratch = refl
 
@@ -45,8 +44,7 @@ unfolding scratchOver
 left-none w scratch = refl
 
 pub left-more : (e : Entry) (es : List Entry) (w : Window) (scratch : List ℕ)
-    → scratchOver (e ∷ es) w scratch ≡ cond (windowAfter w scratch e .stop) (scratchAfter w scratch e)
-    (scratchOver es (windowAfter w scratch e) (scratchAfter w scratch e))
+    → scratchOver (e ∷ es) w scratch ≡ scratchOver es (windowAfter w scratch e) (scratchAfter w scratch e)
 unfolding scratchOver
 left-more e es w scratch = refl
 
@@ -125,14 +123,7 @@ pub over-length : (es : List Entry) (w : Window) (scratch : List ℕ) → length
 unfolding scratchOver
 over-length [] w scratch = refl
 over-length (e ∷ es) w scratch =
-    by (windowAfter w scratch e .stop) (over-length es (windowAfter w scratch e) (scratchAfter w scratch e))
-  where
-    by : (b : Bool)
-        → length (scratchOver es (windowAfter w scratch e) (scratchAfter w scratch e)) ≡ length (scratchAfter w scratch e)
-        → length (cond b (scratchAfter w scratch e) (scratchOver es (windowAfter w scratch e) (scratchAfter w scratch e)))
-        ≡ length scratch
-    by true h = after-length w scratch e
-    by false h = h ∙ after-length w scratch e
+    over-length es (windowAfter w scratch e) (scratchAfter w scratch e) ∙ after-length w scratch e
 
 pub one-length : (map : List ℕ) (es : List Entry) (scratch : List ℕ) (n : ℕ) (w : Window)
     → length (oneScratch map es scratch n w) ≡ length scratch

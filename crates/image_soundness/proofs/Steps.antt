@@ -5,7 +5,7 @@ use mathlib.Core.Bool.{Bool, true, false, not, _&&_, cond}
 use mathlib.Core.List.{List}
 use Prim.Native.Nat.{ℕ, _+_, _-_, _*_, _/_, _%_, _≤_, _<_, min}
 use native.Mathlib.Omega.{arith}
-use lib.Dec.{eqb, leb, ltb}
+use lib.Dec.{eqb, leb}
 use lib.ListN.{length, replicate}
 use borrow.Author.Tests.{le-leb, lt-leb, le-ltb, leb-true}
 use Rattle.map_blocks.specs.Blocks.{all}
@@ -67,10 +67,6 @@ module _ (map : List ℕ) (w : Window) (scratch : List ℕ) where
   pub is-copied : length scratch ≤ 64 → wordsFrom map (w .lo / 64) (length scratch) ≡ copied map w scratch
   unfolding copied
   is-copied h = simp (le-leb (length scratch) 64 h)
-
-pub has-part : (lo : ℕ) (e : Entry) (from to : ℕ) → from ≡ partFrom lo e → to ≡ partTo lo e → ltb from to ≡ touches lo e
-unfolding touches
-has-part lo e from to f t = ap₂ ltb f t
 
 -- the start counted back from the window's last block, in 64 bits: as far as the extent is long, and 4095 more
 pub lies-apart : (lo : ℕ) (e : Entry) (back : ℕ) → back < 18446744073709551616

@@ -85,20 +85,16 @@ scratchAfter w scratch e =
     (cond (partTaken (w .lo) scratch e)
     (marked scratch (partFrom (w .lo) e - w .lo) (partTo (w .lo) e - partFrom (w .lo) e) true) scratch) scratch
 
--- And after all of them, up to one that fails.
+-- And after all of them. A part that is not taken is never forgotten, so that none need end the pass.
 unfoldable pub windowOver : List Entry → Window → List ℕ → Window
 unfolding windowAfter scratchAfter
 windowOver [] w scratch = w
-windowOver (e ∷ es) w scratch =
-    cond (windowAfter w scratch e .stop) (windowAfter w scratch e)
-    (windowOver es (windowAfter w scratch e) (scratchAfter w scratch e))
+windowOver (e ∷ es) w scratch = windowOver es (windowAfter w scratch e) (scratchAfter w scratch e)
 
 unfoldable pub scratchOver : List Entry → Window → List ℕ → List ℕ
 unfolding windowAfter scratchAfter
 scratchOver [] w scratch = scratch
-scratchOver (e ∷ es) w scratch =
-    cond (windowAfter w scratch e .stop) (scratchAfter w scratch e)
-    (scratchOver es (windowAfter w scratch e) (scratchAfter w scratch e))
+scratchOver (e ∷ es) w scratch = scratchOver es (windowAfter w scratch e) (scratchAfter w scratch e)
 
 -- Nothing has failed, and all blocks of it below n, and no others, are free.
 unfoldable pub passes : ℕ → Window → List ℕ → Bool

@@ -2,7 +2,6 @@
 -- all entries,
 --     while i < catalogue.len() {
 --         state = step(state, scratch, catalogue[i]);
---         if state.stop { break; }
 --         i += 1;
 --     }
 -- One walk serves every step: it takes the step's name and what its contract says, what the loop gives and leaves, and the
@@ -10,7 +9,7 @@
 -- lent again for each turn's call.
 -- Assumes `Given`.
 use mathlib.Core.Path.{_≡_, refl, sym, _∙_, ap, subst}
-use mathlib.Core.Bool.{Bool, true, false, cond as choose}
+use mathlib.Core.Bool.{Bool}
 use mathlib.Core.List.{[], _∷_, List, _++_}
 use Prim.Native.Nat.{ℕ, suc, _+_, _*_, _<_, _^_}
 use native.Mathlib.Omega.{arith}
@@ -62,8 +61,7 @@ use Rattle.image_soundness.specs.declared.Window.{Window}
 use Rattle.image_soundness.proofs.Window as Window′
 use Rattle.image_soundness.proofs.Window.Laws as Window″
 use Rattle.catalogue.specs.Entries.{zeros}
-use Rattle.catalogue.proofs.Steps.{bring, discard, parts, fparts, leave, leave-room, breaks-if, is-true, is-false, is-not, Less}
-use Rattle.catalogue.proofs.Steps.{by-size}
+use Rattle.catalogue.proofs.Steps.{bring, discard, parts, fparts, leave, leave-room, is-true, is-false, Less, by-size}
 use Rattle.catalogue.proofs.Lending.{LentAgain, lends-again, comes-back}
 
 -- ---- the signature
@@ -95,9 +93,7 @@ turn #step = seq (assign (place 6 []) (rvOpd (copy (place 1 (field 1 ∷ [])))))
     (seq (assign (place 10 []) (op2 offset (copy (place 1 (field 0 ∷ []))) (copy (place 6 []))))
     (seq (assign (place 11 []) (rvOpd (copy (place 10 (deref Entry″.mir ∷ [])))))
     (seq (call #step (copy (place 4 []) ∷ copy (place 9 []) ∷ copy (place 11 []) ∷ []) (place 4 []))
-    (seq (assign (place 7 []) (rvOpd (copy (place 4 (field 1 ∷ [])))))
-    (seq (cond (copy (place 7 [])) (exit 1) skip)
-    (assign (place 5 []) (op2 (add unsigned) (copy (place 5 [])) (int w64 1)))))))))))))
+    (assign (place 5 []) (op2 (add unsigned) (copy (place 5 [])) (int w64 1)))))))))))
 
 abbrev rest : Body
 rest = seq (assign (place 0 []) (rvOpd (copy (place 4 [])))) return
@@ -151,14 +147,13 @@ module _ (#step : Name) (step-out : step-Model Window) (step-x-scratch : step-Mo
     (after-state : List Entry → Window → List ℕ → Window)
     (after-state-nil : (v-state : Window) (x-scratch : List ℕ) → after-state [] v-state x-scratch ≡ v-state)
     (after-state-cons : (e : Entry) (es : List Entry) (v-state : Window) (x-scratch : List ℕ)
-    → after-state (e ∷ es) v-state x-scratch ≡ choose ((step-out v-state x-scratch e) .stop) ((step-out v-state x-scratch e))
-    (after-state es (step-out v-state x-scratch e) (step-x-scratch v-state x-scratch e)))
+    → after-state (e ∷ es) v-state x-scratch ≡ after-state es (step-out v-state x-scratch e)
+    (step-x-scratch v-state x-scratch e))
     (after-x-scratch : List Entry → Window → List ℕ → List ℕ)
     (after-x-scratch-nil : (v-state : Window) (x-scratch : List ℕ) → after-x-scratch [] v-state x-scratch ≡ x-scratch)
     (after-x-scratch-cons : (e : Entry) (es : List Entry) (v-state : Window) (x-scratch : List ℕ)
-    → after-x-scratch (e ∷ es) v-state x-scratch ≡ choose ((step-out v-state x-scratch e) .stop)
-    ((step-x-scratch v-state x-scratch e)) (after-x-scratch es (step-out v-state x-scratch e)
-    (step-x-scratch v-state x-scratch e))) where
+    → after-x-scratch (e ∷ es) v-state x-scratch ≡ after-x-scratch es (step-out v-state x-scratch e)
+    (step-x-scratch v-state x-scratch e)) where
   abbrev Says : List Entry → Window → List ℕ → Window → List ℕ → Type 0
   Says x-catalogue x-start x-scratch r x-scratch′ = (r ≡ after-state x-catalogue x-start x-scratch)
       × (x-scratch′ ≡ after-x-scratch x-catalogue x-start x-scratch)
@@ -461,8 +456,8 @@ module _ (#step : Name) (step-out : step-Model Window) (step-x-scratch : step-Mo
               el-is heard-el
 
           -- where the loop stands after the turn
-          abbrev next : r .stop ≡ false → At
-          next going = record {
+          abbrev next : At
+          next = record {
             at = record {
               past = x .at .past ++ e ∷ [];
               left = es;
@@ -472,44 +467,13 @@ module _ (#step : Name) (step-out : step-Model Window) (step-x-scratch : step-Mo
               l-x-scratch = k-x-scratch;
               all = append-snoc (x .at .past) e es ∙ seam;
             };
-            comes-state = (λ j. after-state es (said .0 j) (said .1 j)) ∙ sym (ap (λ (b : Bool). choose b
-                ((step-out (x .at .state) (x .at .z-x-scratch) e)) (after-state es (step-out (x .at .state) (x .at .z-x-scratch)
-                e) (step-x-scratch (x .at .state) (x .at .z-x-scratch) e))) (sym (ap (λ (t : Window). t .stop) (said .0))
-                ∙ going)) ∙ sym (after-state-cons e es (x .at .state) (x .at .z-x-scratch))
-                ∙ ap (λ (l : List Entry). after-state l (x .at .state) (x .at .z-x-scratch)) (sym cons) ∙ x .comes-state;
-            comes-x-scratch = (λ j. after-x-scratch es (said .0 j) (said .1 j)) ∙ sym (ap
-                (λ (b : Bool). choose b ((step-x-scratch (x .at .state) (x .at .z-x-scratch) e))
-                (after-x-scratch es (step-out (x .at .state) (x .at .z-x-scratch) e) (step-x-scratch (x .at .state)
-                (x .at .z-x-scratch) e))) (sym (ap (λ (t : Window). t .stop) (said .0)) ∙ going))
-                ∙ sym (after-x-scratch-cons e es (x .at .state) (x .at .z-x-scratch)) ∙ ap
-                (λ (l : List Entry). after-x-scratch l (x .at .state) (x .at .z-x-scratch)) (sym cons) ∙ x .comes-x-scratch;
+            comes-state = (λ j. after-state es (said .0 j) (said .1 j)) ∙ sym (after-state-cons e es (x .at .state)
+                (x .at .z-x-scratch)) ∙ ap (λ (l : List Entry). after-state l (x .at .state) (x .at .z-x-scratch)) (sym cons)
+                ∙ x .comes-state;
+            comes-x-scratch = (λ j. after-x-scratch es (said .0 j) (said .1 j)) ∙ sym (after-x-scratch-cons e es (x .at .state)
+                (x .at .z-x-scratch)) ∙ ap (λ (l : List Entry). after-x-scratch l (x .at .state) (x .at .z-x-scratch))
+                (sym cons) ∙ x .comes-x-scratch;
           }
-
-          -- where it stands when it is left
-          abbrev last : Point
-          last = record {
-            past = x .at .past;
-            left = e ∷ es;
-            state = r;
-            is-state = is;
-            z-x-scratch = m-x-scratch;
-            l-x-scratch = k-x-scratch;
-            all = seam;
-          }
-
-          left-off : r .stop ≡ true → Ends last
-          left-off stopping = (
-            (λ j. (said .0 j)) ∙ sym (ap (λ (b : Bool). choose b ((step-out (x .at .state) (x .at .z-x-scratch) e))
-                (after-state es (step-out (x .at .state) (x .at .z-x-scratch) e) (step-x-scratch (x .at .state)
-                (x .at .z-x-scratch) e))) (sym (ap (λ (t : Window). t .stop) (said .0)) ∙ stopping))
-                ∙ sym (after-state-cons e es (x .at .state) (x .at .z-x-scratch)) ∙ ap
-                (λ (l : List Entry). after-state l (x .at .state) (x .at .z-x-scratch)) (sym cons) ∙ x .comes-state,
-            (λ j. (said .1 j)) ∙ sym (ap (λ (b : Bool). choose b ((step-x-scratch (x .at .state) (x .at .z-x-scratch) e))
-                (after-x-scratch es (step-out (x .at .state) (x .at .z-x-scratch) e) (step-x-scratch (x .at .state)
-                (x .at .z-x-scratch) e))) (sym (ap (λ (t : Window). t .stop) (said .0)) ∙ stopping))
-                ∙ sym (after-x-scratch-cons e es (x .at .state) (x .at .z-x-scratch)) ∙ ap
-                (λ (l : List Entry). after-x-scratch l (x .at .state) (x .at .z-x-scratch)) (sym cons) ∙ x .comes-x-scratch,
-          )
 
         more : Sq W (I x) (runs C Λ En (turn #step) (anyQ (afterTurn 𝓤 H (Next x) Left)))
         unfolding afterTurn
@@ -576,23 +540,14 @@ module _ (#step : Name) (step-out : step-Model Window) (step-x-scratch : step-Mo
             await ! tt $ split ! $
             -- the turn is over
             bring ! (2 ∷ 2 ∷ 2 ∷ 0 ∷ 0 ∷ []) $
-            assigns ! (of-opd ! (load ! (from ! (fld ! refl (stop !))) (look-in ! 19 (sub ! 1 refl (whole !)))))
-            (from ! (stop !)) (store ! 13 refl (tt, tt)) $
-            breaks-if ! (load ! (from ! (stop !)) (look ! 13 refl))
-            (λ z. forget ! 5 refl $ forget ! 7 refl $ forget ! 9 refl $ forget ! 11 refl $ forget ! 13 refl $
-            forget ! 15 refl $ exec ! C Λ En rest (atRet En Post) $
-            finish (last r-step (zs-step .1 .0) (spelled r-step w-step is-w-step) e-step
-            (h-step-x-scratch ∙ (x .at .l-x-scratch))) (left-off r-step (zs-step .1 .0) (spelled r-step w-step is-w-step) e-step
-            (h-step-x-scratch ∙ (x .at .l-x-scratch)) (is-true _ z)))
-            (λ z. assigns-last ! (bin ! (load ! (from ! (stop !)) (look ! 17 refl)) (lit ! tt) (record { fits = next-fits }))
+            assigns-last ! (bin ! (load ! (from ! (stop !)) (look ! 17 refl)) (lit ! tt) (record { fits = next-fits }))
             (from ! (stop !)) (store ! 17 refl (tt, record { fits = next-fits })) $
             forget ! 5 refl $ forget ! 7 refl $ forget ! 9 refl $ forget ! 11 refl $ forget ! 13 refl $
             forget ! 15 refl $
             rewrite ! 17 (λ (j : ℕ). ‵ (fat fullShare (tyInt w64) l₅ 0 (vint w64 j))) (sym
             (length-append (x .at .past) (e ∷ []))) refl $
             again ! (Less size) I x (next r-step (zs-step .1 .0) (spelled r-step w-step is-w-step) e-step
-            (h-step-x-scratch ∙ (x .at .l-x-scratch)) (is-not _ z)) shorter)
-            )))))))))
+            (h-step-x-scratch ∙ (x .at .l-x-scratch))) shorter)))))))))
 
       turn-at : (x : At) → Sq W (I x) (runs C Λ En (turn #step) (anyQ (afterTurn 𝓤 H (Next x) Left)))
       turn-at x = by-cases (x .at .left) refl

@@ -3,6 +3,7 @@
 // extent the part that lies there is released, which must be taken; at the end all blocks of the window below n, and no
 // others, must be free.
 ghost use mathlib.Core.Path.{_≡_};
+ghost use mathlib.Core.Bool.{false};
 ghost use Prim.Native.Nat.{_+_, _≤_, max};
 ghost use lib.ListN.{length};
 ghost use Rattle.image_soundness.specs.Windows.{copied, touches, taken, windowAfter};
@@ -47,11 +48,11 @@ fn larger(a: usize, b: usize) -> usize
     if a < b { b } else { a }
 }
 
-// Whether an extent has a part in the window that begins at block lo. Most have none, and one comparison says so of both ends:
-// the start, counted back from the window's last block, is at least the length and 4095 more if the extent ends before the
-// window, and a number near 2^64 if it begins behind it.
-pub fn has_part(lo: u32, entry: Entry) -> bool
-    ensures { λ r. ⌜ r ≡ touches lo entry ⌝ }
+// Whether an extent may have a part in the window that begins at block lo. Most have none, and one comparison says so of both
+// ends: the start, counted back from the window's last block, is at least the length and 4095 more if the extent ends before
+// the window, and a number near 2^64 if it begins behind it.
+fn may_have_part(lo: u32, entry: Entry) -> bool
+    ensures { λ r. ⌜ (r ≡ false → touches lo entry ≡ false) ⌝ }
 {
     let low = lo as usize;
     let start = entry.start as usize;
@@ -59,9 +60,7 @@ pub fn has_part(lo: u32, entry: Entry) -> bool
     if blocks + 4095 <= std::num::wrapping_sub_usize(low + 4095, start) {
         return false;
     }
-    let from = larger(start, low);
-    let to = lesser(start + blocks, low + (WINDOW as usize));
-    from < to
+    true
 }
 
 // Whether the k blocks from s on lie in the scratch and are taken there.
@@ -75,7 +74,7 @@ fn is_taken(scratch: &[u64], s: u32, k: u32) -> bool
     all_marked(scratch, s, k, TAKEN)
 }
 
-// Releases the part of an extent that lies in a window, if it is taken. Most extents have none there: that is one test.
+// Releases the part of an extent that lies in a window, if it is taken.
 pub fn release_part(window: Window, scratch: &mut [u64], entry: Entry) -> Window
     ensures { λ r. ⌜ (r ≡ windowAfter window (now (scratch .entry)) entry)
         × (now (scratch .exit) ≡ scratchAfter window (now (scratch .entry)) entry) ⌝ }
@@ -100,7 +99,18 @@ pub fn release_part(window: Window, scratch: &mut [u64], entry: Entry) -> Window
     window
 }
 
-// Releases the parts of all extents, up to one that is not taken.
+// The same. Most extents have no part there, so that this is tested first.
+pub fn release_near(window: Window, scratch: &mut [u64], entry: Entry) -> Window
+    ensures { λ r. ⌜ (r ≡ windowAfter window (now (scratch .entry)) entry)
+        × (now (scratch .exit) ≡ scratchAfter window (now (scratch .entry)) entry) ⌝ }
+{
+    if may_have_part(window.lo, entry) {
+        return release_part(window, scratch, entry);
+    }
+    window
+}
+
+// Releases the parts of all extents. A part that is not taken does not end it: that would be tested for every entry.
 fn release_parts(catalogue: &[Entry], start: Window, scratch: &mut [u64]) -> Window
     ensures { λ r. ⌜ (r ≡ windowOver (now (catalogue .entry)) start (now (scratch .entry)))
         × (now (scratch .exit) ≡ scratchOver (now (catalogue .entry)) start (now (scratch .entry))) ⌝ }
@@ -108,10 +118,7 @@ fn release_parts(catalogue: &[Entry], start: Window, scratch: &mut [u64]) -> Win
     let mut state = start;
     let mut i: usize = 0;
     while i < catalogue.len() {
-        state = release_part(state, scratch, catalogue[i]);
-        if state.stop {
-            break;
-        }
+        state = release_near(state, scratch, catalogue[i]);
         i += 1;
     }
     state

@@ -27,13 +27,15 @@ use Rattle.catalogue_standings.specs.declared.Standing.{Standing}
 use Rattle.refusals.specs.Table.{Ask, on, View, rowsFor, tableOf, verdictOf}
 use Rattle.catalogue_standings.specs.Limits.{shapeFits, sheetsFit}
 use Rattle.refusals.specs.Placement.{leastWithin}
-use Rattle.refusals.specs.Lent.{lent, within, noCard}
+use Rattle.refusals.proofs.Turned.{turned-first}
+use Rattle.refusals.specs.Lent.{calledBy, lent, within, noCard}
 use Rattle.refusals.specs.Views.{viewAt, viewOn}
 use Rattle.catalogue_standings.proofs.Openings.{skip, stop}
 use Rattle.ledger.specs.Calls as book
+use Rattle.ledger.specs.Calls.{turnedIn}
 use Rattle.ledger.specs.Ledger.{Place, Blank, Payload, Sheet, Absent, Paused, PausedWith, Open, Complete, standingIn}
 use Rattle.ledger.specs.Ledger.{startIn, lengthIn, isBlank, bytesOf, sheetAt, placeAt, cover, freeIn, spareIn}
-use Rattle.ledger.specs.Ledger.{viewIn, listed, heldIn, verdictIn}
+use Rattle.ledger.specs.Ledger.{viewBy, heldIn, verdictIn}
 use Rattle.ledger.specs.Claim.{entryIn, blockIn}
 use Rattle.card.specs.Calls.{Kept}
 use Rattle.ledger.proofs.Cover.{covers-in, cover-at}
@@ -96,8 +98,9 @@ pub record Alike (k : ℕ) (x y : Places) : Type 0 where
   pub term : 0 < k → y .sound 0 ≡ true → x .term ≡ y .term
 
 -- a view of the ledger with other places, and other blocks in the wing
-abbrev pub reads : ℕ → List Sheet → ℕ → Places → View
-reads n l i places = record {
+abbrev pub reads : ℕ → List Sheet → Bool → ℕ → Places → View
+reads n l turned i places = record {
+  turned = turned;
   misfit = false;
   blocks = n;
   sheets = length l;
@@ -147,26 +150,28 @@ stands-as n free (Complete s xs) f h =
     )
 
 -- what the rows of an ask say of the ledger, with other places
-abbrev pub saysOn : ℕ → List Sheet → ℕ → Ask → Places → Verdict
-saysOn n l i a places = firstOf (rowsFor (reads n l i places) a)
+abbrev pub saysOn : ℕ → List Sheet → ℕ → ℕ → Ask → Places → Verdict
+saysOn n l role i a places = firstOf (rowsFor (reads n l (turnedIn role a) i places) a)
 
 -- they look at no place, or at none but the sheet's own
-abbrev pub Plain : ℕ → List Sheet → ℕ → Ask → Type 0
-Plain n l i a = (x y : Places) → saysOn n l i a x ≡ saysOn n l i a y
+abbrev pub Plain : ℕ → List Sheet → ℕ → ℕ → Ask → Type 0
+Plain n l role i a = (x y : Places) → saysOn n l role i a x ≡ saysOn n l role i a y
 
-abbrev pub OwnPlaces : ℕ → List Sheet → ℕ → Ask → Type 0
-OwnPlaces n l i a = (x y : Places) → Alike (lengthIn (sheetAt l i)) x y → saysOn n l i a x ≡ saysOn n l i a y
+abbrev pub OwnPlaces : ℕ → List Sheet → ℕ → ℕ → Ask → Type 0
+OwnPlaces n l role i a =
+    (x y : Places) → Alike (lengthIn (sheetAt l i)) x y → saysOn n l role i a x ≡ saysOn n l role i a y
 
 -- they look at no place, but at what the wing holds
-abbrev pub Sharing : ℕ → List Sheet → ℕ → Ask → Type 0
-Sharing n l i a = (x y : Places) → x .held ≡ y .held → saysOn n l i a x ≡ saysOn n l i a y
+abbrev pub Sharing : ℕ → List Sheet → ℕ → ℕ → Ask → Type 0
+Sharing n l role i a = (x y : Places) → x .held ≡ y .held → saysOn n l role i a x ≡ saysOn n l role i a y
 
 -- the rows that all begin with look at none
-opened : (n : ℕ) (l : List Sheet) (i : ℕ) (a : Ask) (x y : Places) → saysOn n l i a x ≡ saysOn n l i a y
-    → verdictOf (reads n l i x) (on i a) ≡ verdictOf (reads n l i y) (on i a)
+opened : (n : ℕ) (l : List Sheet) (role i : ℕ) (a : Ask) (x y : Places) → saysOn n l role i a x ≡ saysOn n l role i a y
+    → verdictOf (reads n l (turnedIn role a) i x) (on i a) ≡ verdictOf (reads n l (turnedIn role a) i y) (on i a)
 unfolding tableOf firstOf
-opened n l i a x y h =
-    ap (λ (v : Verdict). cond (leb (length l) i) (refused 2) (cond (isDamaged (standingIn (sheetAt l i))) (refused 4) v)) h
+opened n l role i a x y h =
+    ap (λ (v : Verdict). cond (turnedIn role a) (refused 21)
+    (cond (leb (length l) i) (refused 2) (cond (isDamaged (standingIn (sheetAt l i))) (refused 4) v))) h
 
 -- the places as the ledger has them
 abbrev placesOf : List Sheet → ℕ → Places
@@ -178,13 +183,10 @@ placesOf l i = record {
 }
 
 -- a sheet that the catalogue does not have
-beyond : (v : View) (i : ℕ) (a : Ask) → v .misfit ≡ false → leb (v .sheets) i ≡ true → verdictOf v (on i a) ≡ refused 2
+beyond : (v : View) (i : ℕ) (a : Ask) → v .turned ≡ false → v .misfit ≡ false → leb (v .sheets) i ≡ true
+    → verdictOf v (on i a) ≡ refused 2
 unfolding tableOf
-beyond v i a f e = skip 1 _ _ _ f (stop 2 _ _ e)
-
-pub beyond-in : (n : ℕ) (l : List Sheet) (i : ℕ) (a : Ask) → leb (length l) i ≡ true → verdictIn n l (book.on i a) ≡ refused 2
-unfolding tableOf listed
-beyond-in n l i a e = stop 2 _ _ e
+beyond v i a t f e = skip 21 _ _ _ t (skip 1 _ _ _ f (stop 2 _ _ e))
 
 blank-block : (i p : ℕ) (x : Place) → Sized x → sealed-block.blank (blockIn i p x) ≡ isBlank x
 blank-block i p Blank h = blank-zeros 512
@@ -224,19 +226,28 @@ module _ (n : ℕ) (l : List Sheet) (card : List ℕ) (k : Matches n l card) whe
       && eqb (length card) (512 * n)) ≡ false
   fits-on = rw (shape-fits, sheets-fit, eq-eqb (length card) (512 * n) (k .room)) refl
 
-  module _ (i : ℕ) where
+  module _ (turned : Bool) (i : ℕ) where
     abbrev e : Entry
     e = entryAt (map entryIn l) i
 
     -- of a call that goes with limits, and of one that takes no blocks
     abbrev pub holding : ℕ → List ℕ → View
-    holding blocks limits = viewOn (within blocks limits (lent n (spareIn n l) (mapIn n l) card (length (map entryIn l)) e i))
+    holding blocks limits = viewOn (within blocks limits
+        (calledBy turned (lent n (spareIn n l) (mapIn n l) card (length (map entryIn l)) e i)))
 
     abbrev pub on-card : View
     on-card = holding 0 []
 
     abbrev pub at : View
-    at = viewAt (lent n (spareIn n l) (mapIn n l) noCard (length (map entryIn l)) e i)
+    at = viewAt (calledBy turned (lent n (spareIn n l) (mapIn n l) noCard (length (map entryIn l)) e i))
+
+    who-of : (blocks : ℕ) (limits : List ℕ) → holding blocks limits .turned ≡ turned
+    unfolding viewOn
+    who-of blocks limits = refl
+
+    who-of-at : at .turned ≡ turned
+    unfolding viewAt
+    who-of-at = refl
 
     fits-of : (blocks : ℕ) (limits : List ℕ) → holding blocks limits .misfit ≡ false
     unfolding viewOn
@@ -268,9 +279,10 @@ module _ (n : ℕ) (l : List Sheet) (card : List ℕ) (k : Matches n l card) whe
           ∙ stands-as n (map-blocks.free (mapIn n l)) (sheetAt l i) (k .sound .fine i) covered
 
       on-reads : (blocks : ℕ) (limits : List ℕ) → holding blocks limits
-          ≡ reads n l i (record { blank = on-card .blank; sound = on-card .sound; term = on-card .term; held = blocks })
+          ≡ reads n l turned i (record { blank = on-card .blank; sound = on-card .sound; term = on-card .term; held = blocks })
       unfolding viewOn
       on-reads blocks limits = λ t. record {
+        turned = turned;
         misfit = fits-on t;
         blocks = n;
         sheets = length-map l entryIn t;
@@ -285,7 +297,7 @@ module _ (n : ℕ) (l : List Sheet) (card : List ℕ) (k : Matches n l card) whe
         held = blocks;
       }
 
-      at-reads : at ≡ reads n l i (record {
+      at-reads : at ≡ reads n l turned i (record {
         blank = λ p. false;
         sound = λ p. false;
         term = record { first = 0; last = 0 };
@@ -293,6 +305,7 @@ module _ (n : ℕ) (l : List Sheet) (card : List ℕ) (k : Matches n l card) whe
       })
       unfolding viewAt
       at-reads = λ t. record {
+        turned = turned;
         misfit = fits-at t;
         blocks = n;
         sheets = length-map l entryIn t;
@@ -336,39 +349,50 @@ module _ (n : ℕ) (l : List Sheet) (card : List ℕ) (k : Matches n l card) whe
   -- ---- the verdicts
 
   -- no row 1 or 4 holds in the ledger behind those that all begin with
-  abbrev pub NeverRows : ℕ → Ask → Type 0
-  NeverRows i a = Never (row 2 (leb (length l) i) ∷ []) (rowsFor (viewIn n l i) a)
+  abbrev pub NeverRows : ℕ → ℕ → Ask → Type 0
+  NeverRows role i a =
+      Never (row 2 (leb (length l) i) ∷ row 21 (turnedIn role a) ∷ []) (rowsFor (viewBy n l (turnedIn role a) i) a)
 
-  module _ (i : ℕ) (a : Ask) where
-    by-sheet : (v : View) → v .misfit ≡ false → leb (v .sheets) i ≡ leb (length l) i
-        → (i < length l → verdictOf v (on i a) ≡ verdictOf (viewIn n l i) (on i a)) → NeverRows i a
-        → verdictOf v (on i a) ≡ verdictIn n l (book.on i a)
-    by-sheet v fits sheets same never = go (leb (length l) i) refl ∙ listed-same n l (k .sound) i a never
+  module _ (role i : ℕ) (a : Ask) where
+    abbrev turns : Bool
+    turns = turnedIn role a
+
+    by-sheet : (v : View) → v .turned ≡ turns → v .misfit ≡ false → leb (v .sheets) i ≡ leb (length l) i
+        → (i < length l → verdictOf v (on i a) ≡ verdictOf (viewBy n l turns i) (on i a)) → NeverRows role i a
+        → verdictOf v (on i a) ≡ verdictIn n l (book.on role i a)
+    by-sheet v who fits sheets same never =
+        go turns refl (leb (length l) i) refl ∙ listed-same n l (k .sound) role i a never
       where
-        go : (t : Bool) → leb (length l) i ≡ t → verdictOf v (on i a) ≡ verdictOf (viewIn n l i) (on i a)
-        go true out = beyond v i a fits (sheets ∙ out) ∙ sym (beyond (viewIn n l i) i a refl out)
-        go false inside = same (leb-false (length l) i inside)
+        go : (b : Bool) → turns ≡ b → (t : Bool) → leb (length l) i ≡ t
+            → verdictOf v (on i a) ≡ verdictOf (viewBy n l turns i) (on i a)
+        go true e t out = turned-first v (on i a) (who ∙ e) ∙ sym (turned-first (viewBy n l turns i) (on i a) e)
+        go false e true out = beyond v i a (who ∙ e) fits (sheets ∙ out) ∙ sym (beyond (viewBy n l turns i) i a e refl out)
+        go false e false inside = same (leb-false (length l) i inside)
 
     -- a call that is lent the card
-    pub verdict-on : OwnPlaces n l i a → NeverRows i a → verdictOf (on-card i) (on i a) ≡ verdictIn n l (book.on i a)
+    pub verdict-on : OwnPlaces n l role i a → NeverRows role i a
+        → verdictOf (on-card turns i) (on i a) ≡ verdictIn n l (book.on role i a)
     verdict-on own never =
-        by-sheet (on-card i) (fits-of i 0 []) (sheets-of i 0 [])
-        (λ lt. ap (λ (v : View). verdictOf v (on i a)) (on-reads i lt 0 [])
-        ∙ opened n l i a _ (placesOf l i) (own _ (placesOf l i)
-        (record { blank = blank-same i lt; sound = sound-same i lt; term = term-same i lt }))) never
+        by-sheet (on-card turns i) (who-of turns i 0 []) (fits-of turns i 0 []) (sheets-of turns i 0 [])
+        (λ lt. ap (λ (v : View). verdictOf v (on i a)) (on-reads turns i lt 0 [])
+        ∙ opened n l role i a _ (placesOf l i) (own _ (placesOf l i)
+        (record { blank = blank-same turns i lt; sound = sound-same turns i lt; term = term-same turns i lt }))) never
 
     -- one that goes with limits: what the wing holds is the ledger's
-    pub verdict-within : (limits : List ℕ) → Sharing n l i a → NeverRows i a
-        → verdictOf (holding i (heldBy (map entryIn l) i) limits) (on i a) ≡ verdictIn n l (book.on i a)
+    pub verdict-within : (limits : List ℕ) → Sharing n l role i a → NeverRows role i a
+        → verdictOf (holding turns i (heldBy (map entryIn l) i) limits) (on i a) ≡ verdictIn n l (book.on role i a)
     verdict-within limits sharing never =
         let blocks : ℕ = heldBy (map entryIn l) i in
-        by-sheet (holding i blocks limits) (fits-of i blocks limits) (sheets-of i blocks limits)
-        (λ lt. ap (λ (v : View). verdictOf v (on i a)) (on-reads i lt blocks limits)
-        ∙ opened n l i a _ (placesOf l i) (sharing _ (placesOf l i) (wing-same n l (k .high) (λ j. inside-card j) i))) never
+        by-sheet (holding turns i blocks limits) (who-of turns i blocks limits) (fits-of turns i blocks limits)
+        (sheets-of turns i blocks limits)
+        (λ lt. ap (λ (v : View). verdictOf v (on i a)) (on-reads turns i lt blocks limits)
+        ∙ opened n l role i a _ (placesOf l i) (sharing _ (placesOf l i) (wing-same n l (k .high) (λ j. inside-card j) i)))
+        never
 
     -- a call that is not
-    pub verdict-at : Plain n l i a → NeverRows i a → verdictOf (at i) (on i a) ≡ verdictIn n l (book.on i a)
+    pub verdict-at : Plain n l role i a → NeverRows role i a → verdictOf (at turns i) (on i a)
+        ≡ verdictIn n l (book.on role i a)
     verdict-at plain never =
-        by-sheet (at i) (fits-of-at i) (sheets-of-at i)
-        (λ lt. ap (λ (v : View). verdictOf v (on i a)) (at-reads i lt)
-        ∙ opened n l i a _ (placesOf l i) (plain _ (placesOf l i))) never
+        by-sheet (at turns i) (who-of-at turns i) (fits-of-at turns i) (sheets-of-at turns i)
+        (λ lt. ap (λ (v : View). verdictOf v (on i a)) (at-reads turns i lt)
+        ∙ opened n l role i a _ (placesOf l i) (plain _ (placesOf l i))) never

@@ -14,9 +14,9 @@ use Rattle.ledger.specs.Calls.{Call, on}
 use Rattle.ledger.specs.Ledger.{Sheet, lengthIn, isBlank, sheetAt, placeAt, viewIn, listed, rowsIn, verdictIn, deedIn}
 use Rattle.ledger.specs.Answers.{done, refusedWith, toldIn}
 
-module _ (n : ℕ) (l : List Sheet) (i : ℕ) (nine : verdictIn n l (on i complete) ≡ refused 9) where
+module _ (n : ℕ) (l : List Sheet) (role i : ℕ) (nine : verdictIn n l (on role i complete) ≡ refused 9) where
   abbrev call : Call
-  call = on i complete
+  call = on role i complete
 
   pub place-told : toldIn n l call .values ≡ lowestBlank (viewIn n l i) ∷ []
   unfolding deedIn

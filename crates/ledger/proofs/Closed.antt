@@ -29,7 +29,7 @@ use Rattle.closing.proofs.Placing.{placed}
 use Rattle.ledger.specs.Ledger.{Place, Blank, Sheet, Absent, Paused, PausedWith, Open, Complete, startIn, lengthIn}
 use Rattle.ledger.specs.Ledger.{placesIn, sheetAt, placeAt, cover, freeIn, spareIn, belowIn, restartIn, closedIn}
 use Rattle.ledger.specs.Claim.{entryIn, blockIn}
-use Rattle.ledger.specs.Steps.{savedOf}
+use Rattle.ledger.specs.Lists.{savedOf}
 use Rattle.ledger.proofs.Agreement.{mapIn, stateOf, Matches}
 use Rattle.ledger.proofs.Wings.{entry-at}
 use Rattle.ledger.specs.Ledger.{held}
@@ -98,15 +98,6 @@ same-below : (l : List Sheet) (s : ℕ) → below (map entryIn l) s ≡ belowIn 
 unfolding below belowIn
 same-below [] s = refl
 same-below (x ∷ l) s = ap (λ (k : ℕ). cond (ltb (startIn x) s) (lengthIn x) 0 + k) (same-below l s)
-
-same-held : (l : List Sheet) → catalogue.held (map entryIn l) ≡ held l
-unfolding catalogue.held
-same-held [] = refl
-same-held (x ∷ l) = ap (λ (k : ℕ). lengthIn x + k) (same-held l)
-
--- how many blocks they hold
-abbrev pub heldInEntries : List Sheet → ℕ
-heldInEntries l = catalogue.held (map entryIn l)
 
 -- the entry of a sheet that gets its new start is the closed one
 module _ (l : List Sheet) where
@@ -188,7 +179,7 @@ module _ (n : ℕ) (l : List Sheet) (card : List ℕ) (k : Matches n l card) whe
       sym (same-cover (closedIn l) b) ∙ ap (λ (e : List Entry). saved.coverings e b) (sym (entries-closed l))
       ∙ closed-covers (savedOf (stateOf n l card)) sound-before b
 
-  pub free-closed : (b : ℕ) → freeIn n (closedIn l) b ≡ (leb (catalogue.held all) b && ltb b n)
+  free-closed : (b : ℕ) → freeIn n (closedIn l) b ≡ (leb (catalogue.held all) b && ltb b n)
   free-closed b =
       ap (λ (c : ℕ). ltb b n && eqb c 0) (cover-closed b) ∙ ap (λ (t : Bool). ltb b n && t) (one-or-more b (catalogue.held all))
       ∙ swapped (ltb b n) (leb (catalogue.held all) b)
@@ -258,9 +249,6 @@ module _ (n : ℕ) (l : List Sheet) (card : List ℕ) (k : Matches n l card) whe
     once = λ b. omega (arith, cover-closed b, at-most-one (ltb b (catalogue.held all)));
     fine = λ i. rw (closed-at l i) (fine-then i);
   }
-
-  pub spare-held : spareIn n (closedIn l) + heldInEntries l ≡ n
-  spare-held = omega (arith, spare-is n (closedIn l) sound-then, held-closed l, same-held l)
 
   pub spare-closed : spareIn n (closedIn l) ≡ spareIn n l
   spare-closed = omega (arith, spare-is n l (k .sound), spare-is n (closedIn l) sound-then, held-closed l)

@@ -1,9 +1,12 @@
--- Demand 3: every list of calls from a fresh card answers and leaves what the ledger says (`every-list`), and every list has
--- a run (`every-list-runs`).
+-- Demand 3: every list of public calls from a fresh card answers and leaves what the ledger says, by whomever each call is
+-- made: by the map or by the map's own summary (`every-list`; `document-01` of a pharmacist's calls by the map;
+-- `every-list-from-fresh` from the fresh call itself; `every-list-with-summary` from a build), and guided by any summaries,
+-- where a run that a guided reserve was granted is an accept of it (`every-list-by-any`). Every list has a run
+-- (`every-list-runs`).
 -- Assumes nothing.
 use Prim.Native.Nat.{ℕ, zero, suc, _+_, _*_, _≤_, _<_}
 use mathlib.Core.Path.{_≡_, refl, sym, ap, ap₂, subst, _∙_}
-use mathlib.Core.Bool.{and-true, Bool, true, _&&_, false≢true}
+use mathlib.Core.Bool.{and-true, Bool, true, false, _&&_, false≢true}
 use mathlib.Core.List.{List, [], _∷_, map}
 use native.Mathlib.Nat.{not-suc-le-zero}
 use native.Mathlib.Omega.{arith}
@@ -17,7 +20,10 @@ use Rattle.catalogue.specs.Entries.{absent}
 use Rattle.catalogue.specs.declared.Entry.{Entry}
 use Rattle.catalogue_standings.specs.Answers.{numberOf}
 use Rattle.catalogue_standings.specs.Rows.{Verdict, accepted, firstOf, settle}
-use Rattle.refusals.specs.Table.{show, lowestBlank, tableOf}
+use Rattle.roles.specs.Roles as roles
+use Rattle.roles.specs.Roles.{may, pharmacist}
+use Rattle.refusals.specs.Table as table
+use Rattle.refusals.specs.Table.{SheetCall, show, lowestBlank, tableOf}
 use Rattle.ledger.specs.Calls.{Call, on}
 use Rattle.ledger.specs.Ledger.{Place, Blank, Payload, Sheet, Absent, Complete, standingIn, startIn, lengthIn, placesIn}
 use Rattle.ledger.specs.Ledger.{bytesOf, sheetAt, placeAt, cover, freeIn, spareIn, listed, verdictIn, deedIn, stepIn}
@@ -25,16 +31,21 @@ use Rattle.ledger.specs.Ledger.{held, viewIn, after, begun}
 use Rattle.ledger.specs.Answers.{Told, done, refusedWith, toldIn, allToldIn}
 use Rattle.ledger.specs.Claim.{SearchedBy, AllSearched, granted, returned, lastPut, entryIn}
 use Rattle.ledger.specs.Claim.{Agrees, Gives, Claim}
-use Rattle.card.specs.declared.Shape.{Shape}
-use Rattle.card.specs.declared.Outcome.{Outcome}
 use Rattle.card.specs.Calls.{Kept}
-use Rattle.card.specs.Contracts.{itself, Freshens}
-use Rattle.ledger.specs.Steps.{Response, toldBy, endOf, responseOf, stateOn, Step, Runs, freshState}
+use Rattle.card.specs.Public as public
+use Rattle.card.specs.Public.{Public, fresh, search, survey, save, load, build, check, Manner, Beside, End, ends, keptAfter}
+use Rattle.ledger.specs.Lists as lists
+use Rattle.ledger.specs.Lists.{Made, endOf, Response, toldBy, responseOf, freshState, Along, Listed, OfAnyLength}
+use Rattle.ledger.specs.Lists.{ByAny, ByOwn, HandedOn, ownOf, pharmacistsCalls, plainCalls}
+use Rattle.ledger.specs.Lists.{callsIn, repliesIn, heardIn, heardReplies}
+use Rattle.ledger.proofs.Plain.{Step, Runs}
 use Rattle.ledger.proofs.Agreement.{mapIn, stateOf, Matches, free-map}
-use Rattle.ledger.proofs.Contracts.{leaving, Limits, fresh-left}
+use Rattle.ledger.proofs.Feeding.{fed, heard}
+use Rattle.ledger.proofs.Fresh.{Limits, fresh-left}
 use Rattle.ledger.proofs.Cover.{covers-absent}
 use Rattle.ledger.proofs.Listed.{spare-is}
 use Rattle.ledger.proofs.Marks.{map-same}
+use Rattle.ledger.proofs.OwnSummary.{built-own, own-runs}
 use Rattle.ledger.proofs.Results.{Result}
 use Rattle.ledger.proofs.Sheets.{holding, Has}
 use Rattle.ledger.proofs.step.{result}
@@ -63,10 +74,10 @@ pub record Left (n : ℕ) (l : List Sheet) (calls : List Call) (replies : List R
   pub noted-so : (j p : ℕ) (m : Place) → Has p m (sheetAt l j)
       → Has p (lastPut j p m calls replies) (sheetAt (after n l calls) j)
 
-pub lists : (n : ℕ) (calls : List Call) (replies : List Response) (l : List Sheet) (card : List ℕ) (s t : Kept)
+pub lists-left : (n : ℕ) (calls : List Call) (replies : List Response) (l : List Sheet) (card : List ℕ) (s t : Kept)
     → Matches n l card → s ≡ stateOf n l card
     → Runs s calls replies t → Left n l calls replies t
-lists n [] [] l card s t k e h =
+lists-left n [] [] l card s t k e h =
     record {
       card-left = card;
       state-left = h ∙ e;
@@ -76,13 +87,13 @@ lists n [] [] l card s t k e h =
       sum = refl;
       noted-so = λ j p m was. was;
     }
-lists n [] (reply ∷ replies) l card s t k e h = absurd h
-lists n (c ∷ calls) [] l card s t k e h = absurd h
-lists n (c ∷ calls) (reply ∷ replies) l card s t k e h =
+lists-left n [] (reply ∷ replies) l card s t k e h = absurd h
+lists-left n (c ∷ calls) [] l card s t k e h = absurd h
+lists-left n (c ∷ calls) (reply ∷ replies) l card s t k e h =
     let st : Step (stateOf n l card) c reply (h .0) = subst (λ (x : Kept). Step x c reply (h .0)) e (h .1) in
     let r : Result n l card c (verdictIn n l c) = result n l card k c in
     let rest : Left n (stepIn n l c) calls replies t =
-    lists n calls replies (stepIn n l c) (r .card-left) (h .0) t (r .kept-left) (st .1 ∙ r .state-left) (h .2) in
+    lists-left n calls replies (stepIn n l c) (r .card-left) (h .0) t (r .kept-left) (st .1 ∙ r .state-left) (h .2) in
     record {
       card-left = rest .card-left;
       state-left = rest .state-left;
@@ -94,13 +105,6 @@ lists n (c ∷ calls) (reply ∷ replies) l card s t k e h =
           (rw (ap (λ (x : Response). eqb (toldBy x .number) 0) (st .0) ∙ ap (λ (x : Told). eqb (x .number) 0) (r .told-so))
           (r .noted-so j p m was));
     }
-
--- and every list has a run
-pub has-run : (s : Kept) (calls : List Call) → (replies : List Response) × (t : Kept) × Runs s calls replies t
-has-run s [] = ([], s, refl)
-has-run s (c ∷ calls) =
-    let e = endOf s c in
-    let rest = has-run (stateOn e) calls in (responseOf e ∷ rest .0, rest .1, (stateOn e, (refl, refl), rest .2))
 
 -- ---- a fresh card
 
@@ -161,10 +165,12 @@ payload-of (x ∷ xs) (suc p) h = payload-of xs p (omega arith)
 
 -- a show of a complete sheet's place is accepted
 show-accepted : (n : ℕ) (l : List Sheet) (i s : ℕ) (xs : List (List ℕ)) → sheetAt l i ≡ Complete s xs → (p : ℕ) → p < length xs
-    → (buffer : List ℕ) → length buffer ≡ 496 → verdictIn n l (on i (show p buffer)) ≡ accepted
+    → (role : ℕ) → may role roles.show ≡ true → (buffer : List ℕ) → length buffer ≡ 496
+    → verdictIn n l (on role i (show p buffer)) ≡ accepted
 unfolding tableOf listed firstOf
-show-accepted n l i s xs e p lp buffer len =
+show-accepted n l i s xs e p lp role may-show buffer len =
     rw (
+      may-show,
       ap standingIn e,
       lt-leb (length l) i (listed-sheet l i s xs e),
       lt-leb (length xs) p lp,
@@ -172,18 +178,20 @@ show-accepted n l i s xs e p lp buffer len =
     ) refl
 
 module _ (n : ℕ) (l : List Sheet) (card : List ℕ) (k : Matches n l card) (i s : ℕ) (xs : List (List ℕ))
-    (e : sheetAt l i ≡ Complete s xs) (p : ℕ) (lp : p < length xs) where
+    (e-at : sheetAt l i ≡ Complete s xs) (p : ℕ) (lp : p < length xs) where
   pub place-of : placeAt l i p ≡ Payload (getD xs p [])
-  place-of = ap (λ (x : Sheet). getD (placesIn x) p Blank) e ∙ payload-of xs p lp
+  place-of = ap (λ (x : Sheet). getD (placesIn x) p Blank) e-at ∙ payload-of xs p lp
 
   pub shown : (t : Kept) → t ≡ stateOf n l card → Gives t i p (getD xs p [])
   unfolding deedIn
-  shown t at buffer len reply u st =
-      let st′ : Step (stateOf n l card) (on i (show p buffer)) reply u =
-      subst (λ (x : Kept). Step x (on i (show p buffer)) reply u) at st in
-      answered n l card k (on i (show p buffer)) reply u st′
+  shown t at m may-show b buffer len =
+      let call : Call = on (m .role) i (show p buffer) in
+      let e = ends m t b (public.on i (show p buffer)) in
+      let st : Step (stateOf n l card) call (responseOf e) (keptAfter e) =
+      subst (λ (x : Kept). Step x call (responseOf e) (keptAfter e)) at (refl, refl) in
+      answered n l card k call (responseOf e) (keptAfter e) st
       ∙ ap (λ (v : Verdict). settle v (done [] (bytesOf (placeAt l i p))) (refusedWith buffer (lowestBlank (viewIn n l i))))
-      (show-accepted n l i s xs e p lp buffer len)
+      (show-accepted n l i s xs e-at p lp (m .role) may-show buffer len)
       ∙ ap (λ (x : Place). done [] (bytesOf x)) place-of
 
 -- ---- the claim
@@ -208,10 +216,10 @@ module _ (n c : ℕ) (card : List ℕ) (n-low : 1 ≤ n) (n-high : n ≤ 262144)
       reads : (b : ℕ) → free (t .map) b ≡ freeIn n l b
       reads b = ap (λ (x : Kept). free (x .map) b) e ∙ ap (λ (f : ℕ → Bool). f b) (free-map n l)
 
-  pub every-list : (replies : List Response) (t : Kept) → Runs (freshState n c card) calls replies t → Claim n c calls replies t
-  every-list replies t runs =
+  pub claimed : (replies : List Response) (t : Kept) → Runs (freshState n c card) calls replies t → Claim n c calls replies t
+  claimed replies t runs =
       let w : Left n (begun c) calls replies t =
-      lists n calls replies (begun c) card (freshState n c card) t (kept-begun n c card n-low n-high c-low c-high room)
+      lists-left n calls replies (begun c) card (freshState n c card) t (kept-begun n c card n-low n-high c-low c-high room)
       (state-begun n c card n-low n-high c-low c-high room) runs in
       record {
         answers = w .answers;
@@ -233,17 +241,119 @@ module _ (n c : ℕ) (card : List ℕ) (n-low : 1 ≤ n) (n-high : n ≤ 262144)
         );
       }
 
-  pub every-list-runs : (replies : List Response) × (t : Kept) × Runs (freshState n c card) calls replies t
-  every-list-runs = has-run (freshState n c card) calls
+-- ---- every list
 
--- The same from the fresh call itself: what it left when it answered that it was done, and a card of 512·n bytes.
-pub every-list-from-fresh : (shape : Shape) (n : ℕ) (map : List ℕ) (entries : List Entry) (r : Outcome) (map′ : List ℕ)
-    (entries′ : List Entry)
-    → Freshens itself shape n map entries r map′ entries′ → numberOf (r .answer) ≡ 0 → (card : List ℕ) → length card ≡ 512 * n
-    → (calls : List Call) (replies : List Response) (t : Kept) → Runs (leaving r map′ entries′ card) calls replies t
-    → Claim n (length entries) calls replies t
-every-list-from-fresh shape n map entries r map′ entries′ freshened done-so card room calls replies t runs =
-    let left = fresh-left shape n map entries r map′ entries′ freshened done-so in
-    let limits : Limits n (length entries) = left .0 in
-    every-list n (length entries) card (limits .n-low) (limits .n-high) (limits .c-low) (limits .c-high) room calls replies t
-    (subst (λ (s : Kept). Runs s calls replies t) (left .1 card) runs)
+-- every list has a run, whatever the calls are and whatever they are lent: what a call comes to is a function
+pub has-run : (s : Kept) (made : List Made) → (es : List End) × (t : Kept) × lists.Runs s made es t
+has-run s [] = ([], s, refl)
+has-run s (m ∷ made) =
+    let e = endOf s m in
+    let rest = has-run (keptAfter e) made in (e ∷ rest .0, rest .1, (refl, rest .2))
+
+module _ (n c : ℕ) (card : List ℕ) (limits : Limits n c) (room : length card ≡ 512 * n) where
+  claim-of : (calls : List Call) (replies : List Response) (t : Kept) → Runs (freshState n c card) calls replies t
+      → Claim n c calls replies t
+  claim-of calls replies t = claimed n c card (limits .n-low) (limits .n-high) (limits .c-low)
+      (limits .c-high) room calls replies t
+
+  -- by the map or by the map's own summary
+  pub every-list : (made : List Made) (es : List End) (t : Kept) → ByOwn (freshState n c card) made
+      → lists.Runs (freshState n c card) made es t → Claim n c (callsIn made) (repliesIn made es) t
+  every-list made es t own runs =
+      claim-of (callsIn made) (repliesIn made es) t (fed (freshState n c card) made es t own runs)
+
+  -- guided by any summaries
+  pub every-list-by-any : (made : List Made) (es : List End) (t : Kept) → ByAny (freshState n c card) made
+      → lists.Runs (freshState n c card) made es t → Claim n c (heardIn made es) (heardReplies made es) t
+  every-list-by-any made es t any runs =
+      claim-of (heardIn made es) (heardReplies made es) t (heard (freshState n c card) made es t any runs)
+
+  pub every-list-runs : (made : List Made) → (es : List End) × (t : Kept) × lists.Runs (freshState n c card) made es t
+  every-list-runs = has-run (freshState n c card)
+
+  -- where a list of them leaves off, another may go on
+  pub left-by-any : (made : List Made) (es : List End) (t : Kept) → ByAny (freshState n c card) made
+      → lists.Runs (freshState n c card) made es t → Left n (begun c) (heardIn made es) (heardReplies made es) t
+  left-by-any made es t any runs =
+      lists-left n (heardIn made es) (heardReplies made es) (begun c) card (freshState n c card) t
+      (kept-begun n c card (limits .n-low) (limits .n-high) (limits .c-low) (limits .c-high) room)
+      (state-begun n c card (limits .n-low) (limits .n-high) (limits .c-low) (limits .c-high) room)
+      (heard (freshState n c card) made es t any runs)
+
+  pub left-by-own : (made : List Made) (es : List End) (t : Kept) → ByOwn (freshState n c card) made
+      → lists.Runs (freshState n c card) made es t → Left n (begun c) (callsIn made) (repliesIn made es) t
+  left-by-own made es t own runs =
+      lists-left n (callsIn made) (repliesIn made es) (begun c) card (freshState n c card) t
+      (kept-begun n c card (limits .n-low) (limits .n-high) (limits .c-low) (limits .c-high) room)
+      (state-begun n c card (limits .n-low) (limits .n-high) (limits .c-low) (limits .c-high) room)
+      (fed (freshState n c card) made es t own runs)
+
+  -- document 01's lists: a pharmacist's calls on sheets, by the map alone
+  plain-own : (s : Kept) (calls : List SheetCall) → ByOwn s (pharmacistsCalls calls)
+  plain-own s [] = tt
+  plain-own s (table.on sheet ask ∷ calls) = (
+    record {
+      joins = tt;
+      scratch = λ e. absurd (false≢true (ap isClose e));
+      summary = λ e. absurd (false≢true e);
+    },
+    plain-own _ calls,
+  )
+    where
+      isClose : Public → Bool
+      isClose (public.on sheet ask) = false
+      isClose (fresh n) = false
+      isClose (search k) = false
+      isClose survey = false
+      isClose save = false
+      isClose (load image) = false
+      isClose public.close = true
+      isClose build = false
+      isClose check = false
+
+  plain-fed : (calls : List SheetCall) → callsIn (pharmacistsCalls calls) ≡ plainCalls calls
+  plain-fed [] = refl
+  plain-fed (table.on sheet ask ∷ calls) = ap (λ (rest : List Call). on pharmacist sheet ask ∷ rest) (plain-fed calls)
+
+  plain-heard : (s t : Kept) (calls : List SheetCall) (es : List End) → lists.Runs s (pharmacistsCalls calls) es t
+      → repliesIn (pharmacistsCalls calls) es ≡ map responseOf es
+  plain-heard s t [] [] runs = refl
+  plain-heard s t [] (e ∷ es) runs = absurd runs
+  plain-heard s t (table.on sheet ask ∷ calls) [] runs = absurd runs
+  plain-heard s t (table.on sheet ask ∷ calls) (e ∷ es) runs =
+      ap (λ (rest : List Response). responseOf e ∷ rest) (plain-heard (keptAfter e) t calls es (runs .1))
+
+  pub document-01 : (calls : List SheetCall) (es : List End) (t : Kept)
+      → lists.Runs (freshState n c card) (pharmacistsCalls calls) es t → Claim n c (plainCalls calls) (map responseOf es) t
+  document-01 calls es t runs =
+      let claim = every-list (pharmacistsCalls calls) es t (plain-own (freshState n c card) calls) runs in
+      subst (λ (replies : List Response). Claim n c (plainCalls calls) replies t)
+      (plain-heard (freshState n c card) t calls es runs)
+      (subst (λ (fed-so : List Call). Claim n c fed-so (repliesIn (pharmacistsCalls calls) es) t) (plain-fed calls) claim)
+
+  -- from a summary that was built from the fresh map, each call lent it as the one before left it (document 02 (j)): answers
+  -- and ledger are those of every list, and the summary ends as one built anew
+  pub every-list-with-summary : (m : Manner) (b : Beside)
+      → numberOf (ends m (freshState n c card) b build .outcome .answer) ≡ 0
+      → (made : List Made) (es : List End) (t : Kept) (last : List ℕ)
+      → HandedOn (ends m (freshState n c card) b build .beside .summary) (freshState n c card) made last
+      → Along (Listed OfAnyLength) (freshState n c card) made → lists.Runs (freshState n c card) made es t
+      → Claim n c (callsIn made) (repliesIn made es) t × (last ≡ ownOf t)
+  every-list-with-summary m b built made es t last handed-on listed-so runs =
+      let own = own-runs (freshState n c card) made last es t runs
+      (subst (λ (x : List ℕ). HandedOn x (freshState n c card) made last) (built-own m (freshState n c card) b built) handed-on)
+      listed-so in
+      (every-list made es t (own .0) runs, own .1)
+
+-- The same from the fresh call itself: what it left when it answered that it was done, whoever made it, and a card of 512·n
+-- bytes.
+pub every-list-from-fresh : (m : Manner) (s : Kept) (b : Beside) (n : ℕ) → length (s .card) ≡ 512 * n
+    → numberOf (ends m s b (fresh n) .outcome .answer) ≡ 0
+    → (made : List Made) (es : List End) (t : Kept) → ByOwn (keptAfter (ends m s b (fresh n))) made
+    → lists.Runs (keptAfter (ends m s b (fresh n))) made es t
+    → Claim n (length (s .entries)) (callsIn made) (repliesIn made es) t
+every-list-from-fresh m s b n room done-so made es t own runs =
+    let left = fresh-left m s b n done-so in
+    every-list n (length (s .entries)) (s .card) (left .0) room made es t
+    (subst (λ (x : Kept). ByOwn x made) (left .1) own)
+    (subst (λ (x : Kept). lists.Runs x made es t) (left .1) runs)

@@ -10,12 +10,15 @@ use lib.ListN.{length, getD, set}
 use borrow.Author.Tests.{le-ltb, not-false}
 use Rattle.map_blocks.specs.Blocks.{all}
 use Rattle.map_blocks.proofs.Runs.{all-elim}
-use Rattle.catalogue_standings.specs.Rows.{row, firstOf}
+use Rattle.catalogue_standings.specs.Rows.{row, refused, firstOf}
+use Rattle.catalogue_standings.proofs.Openings.{skip, stop}
 use Rattle.catalogue_standings.specs.Standings.{isDamaged}
 use Rattle.refusals.specs.Table.{Ask, on, rowsFor, tableOf}
 use Rattle.ledger.specs.Calls as book
+use Rattle.ledger.specs.Calls.{turnedIn}
 use Rattle.ledger.specs.Ledger.{Place, Blank, Payload, Sheet, Absent, Paused, PausedWith, Open, Complete, standingIn}
-use Rattle.ledger.specs.Ledger.{held, lengthIn, placesIn, isBlank, bytesOf, sheetAt, placeAt, spareIn, viewIn, verdictIn}
+use Rattle.ledger.specs.Ledger.{held, lengthIn, placesIn, isBlank, bytesOf, sheetAt, placeAt, spareIn, viewBy, verdictIn}
+use Rattle.ledger.specs.Ledger.{listed}
 use Rattle.ledger.proofs.Cover.{held-set, spare-and-held}
 use Rattle.ledger.proofs.Rows.{Never, never-listed}
 use Rattle.ledger.proofs.Sheets.{Sound, refilled}
@@ -57,8 +60,20 @@ module _ (n : ℕ) (l : List Sheet) (ok : Sound n l) where
       (omega (arith, spare-is, held-set l i x h, spare-and-held n (set l i x) (then .once) (λ j. then .fine j .inside)))
 
   -- no dropped row holds, if none of those behind the opening does
-  pub listed-same : (i : ℕ) (a : Ask) → Never (row 2 (leb (length l) i) ∷ []) (rowsFor (viewIn n l i) a)
-      → firstOf (tableOf (viewIn n l i) (on i a)) ≡ verdictIn n l (book.on i a)
+  pub listed-same : (role i : ℕ) (a : Ask)
+      → Never (row 2 (leb (length l) i) ∷ row 21 (turnedIn role a) ∷ []) (rowsFor (viewBy n l (turnedIn role a) i) a)
+      → firstOf (tableOf (viewBy n l (turnedIn role a) i) (on i a)) ≡ verdictIn n l (book.on role i a)
   unfolding tableOf firstOf
-  listed-same i a h = never-listed [] (tableOf (viewIn n l i) (on i a)) refl
+  listed-same role i a h = never-listed [] (tableOf (viewBy n l (turnedIn role a) i) (on i a)) refl
       (λ p. refl, (λ p. sheet-undamaged (sheetAt l i), h))
+
+-- a call that is turned away, and one for a sheet that the ledger does not have
+pub beyond-in : (n : ℕ) (l : List Sheet) (role i : ℕ) (a : Ask) → turnedIn role a ≡ false → leb (length l) i ≡ true
+    → verdictIn n l (book.on role i a) ≡ refused 2
+unfolding tableOf listed
+beyond-in n l role i a t e = skip 21 _ _ _ t (stop 2 _ _ e)
+
+pub turned-in : (n : ℕ) (l : List Sheet) (role i : ℕ) (a : Ask) → turnedIn role a ≡ true
+    → verdictIn n l (book.on role i a) ≡ refused 21
+unfolding tableOf listed
+turned-in n l role i a e = stop 21 _ _ e

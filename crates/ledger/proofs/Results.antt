@@ -28,7 +28,8 @@ use Rattle.ledger.specs.Ledger.{Place, Sheet, Absent, lengthIn, sheetAt,
 use Rattle.ledger.specs.Ledger.{held, verdictIn, deedIn}
 use Rattle.ledger.specs.Answers.{Told, done, refusedWith}
 use Rattle.ledger.specs.Claim.{entryIn, noted, noteOf, SearchedBy}
-use Rattle.ledger.specs.Steps.{End, ending, endOf, responseOf, stateOn, toldBy}
+use Rattle.ledger.specs.Lists.{toldBy}
+use Rattle.ledger.proofs.Plain.{End, ending, endOf, responseOf, stateOn}
 use Rattle.ledger.proofs.Agreement.{mapIn, stateOf, Matches}
 use Rattle.ledger.proofs.Cover.{held-set}
 use Rattle.ledger.proofs.Keeping.{entries-set, Changed}
@@ -153,10 +154,10 @@ module _ (n : ℕ) (l : List Sheet) (card : List ℕ) where
     -- ---- an accepted call that changes one sheet
 
     -- sheet i becomes `sheet`
-    pub record OneSheet (i : ℕ) (a : Ask) (end : End) : Type 0 where
+    pub record OneSheet (role i : ℕ) (a : Ask) (end : End) : Type 0 where
       pub inside : i < length l
       pub sheet : Sheet
-      pub becomes : deedIn n l (on i a) .ledger ≡ set l i sheet
+      pub becomes : deedIn n l (on role i a) .ledger ≡ set l i sheet
       -- what the program then keeps, and answers
       pub spare : ℕ
       pub marks : List ℕ
@@ -166,18 +167,19 @@ module _ (n : ℕ) (l : List Sheet) (card : List ℕ) where
       pub changed : Changed n l i sheet spare marks card-left
       pub stored : entry ≡ entryIn sheet
       pub ends-so : end ≡ ending (told (record { blocks = n; free = spare }) answer) marks
-          (set (map entryIn l) i entry) card-left (deedIn n l (on i a) .left)
-      pub says-so : (numberOf answer ≡ 0) × (valuesOf answer ≡ deedIn n l (on i a) .values)
+          (set (map entryIn l) i entry) card-left (deedIn n l (on role i a) .left)
+      pub says-so : (numberOf answer ≡ 0) × (valuesOf answer ≡ deedIn n l (on role i a) .values)
       -- the blocks that it has now, and what is noted of its places and of no other sheet's
-      pub moved : lengthIn sheet + deedIn n l (on i a) .returns ≡ lengthIn (sheetAt l i) + deedIn n l (on i a) .grants
-      pub noted-here : (p : ℕ) (m : Place) → Has p m (sheetAt l i) → Has p (noted i p m (noteOf (on i a))) sheet
-      pub noted-there : (j p : ℕ) (m : Place) → j ≢ i → noted j p m (noteOf (on i a)) ≡ m
+      pub moved : lengthIn sheet + deedIn n l (on role i a) .returns ≡ lengthIn (sheetAt l i) + deedIn n l (on role i a) .grants
+      pub noted-here : (p : ℕ) (m : Place) → Has p m (sheetAt l i) → Has p (noted i p m (noteOf (on role i a))) sheet
+      pub noted-there : (j p : ℕ) (m : Place) → j ≢ i → noted j p m (noteOf (on role i a)) ≡ m
 
-    pub one-sheet : (i : ℕ) (a : Ask) (end : End) → OneSheet i a end → Done (on i a) end
-    one-sheet i a end o = record {
+    pub one-sheet : (role i : ℕ) (a : Ask) (end : End) → OneSheet role i a end → Done (on role i a) end
+    one-sheet role i a end o = record {
       card-left = o .card-left;
       answer = o .answer;
-      ends-so = o .ends-so ∙ left ∙ ap (λ (l′ : List Sheet). endIn l′ (o .card-left) (o .answer) (deedIn n l (on i a) .left))
+      ends-so = o .ends-so ∙ left ∙ ap (λ (l′ : List Sheet). endIn l′ (o .card-left) (o .answer)
+          (deedIn n l (on role i a) .left))
           (sym (o .becomes));
       says-so = o .says-so;
       kept-left = rw (o .becomes) (o .changed .kept-left);
@@ -189,13 +191,13 @@ module _ (n : ℕ) (l : List Sheet) (card : List ℕ) where
         stored = ap (set (map entryIn l) i) (o .stored) ∙ entries-set l i (o .sheet)
 
         left : ending (told (record { blocks = n; free = o .spare }) (o .answer)) (o .marks) (set (map entryIn l) i (o .entry))
-            (o .card-left) (deedIn n l (on i a) .left)
-            ≡ endIn (set l i (o .sheet)) (o .card-left) (o .answer) (deedIn n l (on i a) .left)
+            (o .card-left) (deedIn n l (on role i a) .left)
+            ≡ endIn (set l i (o .sheet)) (o .card-left) (o .answer) (deedIn n l (on role i a) .left)
         left = λ t. ending (told (record { blocks = n; free = o .changed .spare-left t }) (o .answer)) (o .changed .map-left t)
-            (stored t) (o .card-left) (deedIn n l (on i a) .left)
+            (stored t) (o .card-left) (deedIn n l (on role i a) .left)
 
         go : (j p : ℕ) (m : Place) → Has p m (sheetAt l j) → (t : Bool) → eqb j i ≡ t
-            → Has p (noted j p m (noteOf (on i a))) (sheetAt (set l i (o .sheet)) j)
+            → Has p (noted j p m (noteOf (on role i a))) (sheetAt (set l i (o .sheet)) j)
         go j p m was true q =
             rw (eqb-true j i q, getD-set-same l i (o .sheet) Absent (o .inside))
             (o .noted-here p m (subst (λ (i′ : ℕ). Has p m (sheetAt l i′)) (eqb-true j i q) was))

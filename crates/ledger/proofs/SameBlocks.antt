@@ -2,15 +2,15 @@
 -- Assumes nothing.
 use Prim.Native.Nat.{ℕ, _≤_, _<_}
 use mathlib.Core.Path.{_≡_, refl, ap, subst, _∙_}
-use mathlib.Core.Bool.{Bool, true, false, true≢false}
+use mathlib.Core.Bool.{Bool, true, false≢true}
 use mathlib.Core.List.{List}
 use native.Mathlib.Omega.{arith}
 use lib.ListN.{length, getD}
-use Rattle.catalogue.specs.Entries.{pausedMark, completeMark}
-use Rattle.catalogue_standings.specs.Standings.{isAbsent, isPaused, isPausedWithout, isOpen, isComplete}
+use Rattle.refusals.specs.Marks.{isAdmitted}
+use Rattle.refusals.specs.Table.{Change, pause, resume, admitsOf, markAfter}
 use Rattle.refusals.specs.Effects.{entryOf}
 use Rattle.ledger.specs.Ledger.{Place, Blank, Sheet, Absent, Paused, PausedWith, Open, Complete, standingIn, startIn}
-use Rattle.ledger.specs.Ledger.{lengthIn, placesIn, sheetAt, spareIn, pauseIn, resumeIn}
+use Rattle.ledger.specs.Ledger.{lengthIn, placesIn, sheetAt, spareIn, changeIn}
 use Rattle.ledger.specs.Claim.{entryIn}
 use Rattle.ledger.proofs.Agreement.{mapIn, Matches}
 use Rattle.ledger.proofs.Keeping.{Changed, keep-places}
@@ -25,9 +25,10 @@ pub record SameBlocks (mark : ℕ) (x y : Sheet) : Type 0 where
   pub holds : holding x ≡ holding y
   pub entry : entryOf mark (startIn y) (lengthIn y) ≡ entryIn x
 
-pub paused : (y : Sheet) → isPaused (standingIn y) ≡ false → isOpen (standingIn y) ≡ false
-    → SameBlocks pausedMark (pauseIn y) y
-paused Absent p o = record {
+-- what is admitted keeps its blocks
+pub changed : (c : Change) (y : Sheet) → isAdmitted (admitsOf c) (standingIn y) ≡ true
+    → SameBlocks (markAfter c) (changeIn c y) y
+changed pause Absent h = record {
   starts = refl;
   lasts = refl;
   places = refl;
@@ -35,10 +36,10 @@ paused Absent p o = record {
   holds = refl;
   entry = refl;
 }
-paused Paused p o = absurd (true≢false p)
-paused (PausedWith s xs) p o = absurd (true≢false p)
-paused (Open s ps) p o = absurd (true≢false o)
-paused (Complete s xs) p o = record {
+changed pause Paused h = absurd (false≢true h)
+changed pause (PausedWith s xs) h = absurd (false≢true h)
+changed pause (Open s ps) h = absurd (false≢true h)
+changed pause (Complete s xs) h = record {
   starts = refl;
   lasts = refl;
   places = refl;
@@ -46,12 +47,9 @@ paused (Complete s xs) p o = record {
   holds = refl;
   entry = refl;
 }
-
-pub resumed : (y : Sheet) → isAbsent (standingIn y) ≡ false → isPausedWithout (standingIn y) ≡ false
-    → isOpen (standingIn y) ≡ false → isComplete (standingIn y) ≡ false → SameBlocks completeMark (resumeIn y) y
-resumed Absent a p o c = absurd (true≢false a)
-resumed Paused a p o c = absurd (true≢false p)
-resumed (PausedWith s xs) a p o c = record {
+changed resume Absent h = absurd (false≢true h)
+changed resume Paused h = absurd (false≢true h)
+changed resume (PausedWith s xs) h = record {
   starts = refl;
   lasts = refl;
   places = refl;
@@ -59,8 +57,8 @@ resumed (PausedWith s xs) a p o c = record {
   holds = refl;
   entry = refl;
 }
-resumed (Open s ps) a p o c = absurd (true≢false o)
-resumed (Complete s xs) a p o c = absurd (true≢false c)
+changed resume (Open s ps) h = absurd (false≢true h)
+changed resume (Complete s xs) h = absurd (false≢true h)
 
 -- what is noted of its places stays
 pub has-same : {mark : ℕ} {x y : Sheet} → SameBlocks mark x y → (p : ℕ) (m : Place) → Has p m y → Has p m x

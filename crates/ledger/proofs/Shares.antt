@@ -1,7 +1,8 @@
--- Over a list with unchanging limits from a fresh card no wing ever holds more than its limit (document 02 (k)).
+-- Over a list of public calls with unchanging limits from a fresh card, guided by whatever summaries, no wing ever holds more
+-- than its limit (document 02 (k)).
 -- Assumes nothing.
 use Prim.Native.Nat.{ℕ, _+_, _*_, _≤_}
-use mathlib.Core.Path.{_≡_, refl, sym, ap, subst, _∙_}
+use mathlib.Core.Path.{_≡_, refl, sym, ap, subst}
 use mathlib.Core.Bool.{Bool, true, false}
 use mathlib.Core.List.{List, [], _∷_}
 use native.Mathlib.Omega.{arith}
@@ -11,23 +12,25 @@ use borrow.Author.Tests.{ltb-false, eqb-true, eqb-false}
 use Rattle.catalogue_wings.specs.Wings.{wingOf, inWing}
 use Rattle.catalogue_standings.specs.Rows.{Verdict, accepted, refused, settle}
 use Rattle.refusals.specs.Shares.{limitOf, overLimit}
-use Rattle.refusals.specs.Table.{reserve, put, grow, complete, pause, resume, release, show, standing, offer, accept}
+use Rattle.refusals.specs.Table.{Change, pause, resume}
+use Rattle.refusals.specs.Table.{reserve, put, grow, complete, change, release, show, standing, offer, accept}
 use Rattle.refusals.specs.Table.{showDated, tableOf}
 use Rattle.catalogue_standings.proofs.Rows.{clear}
 use Rattle.card.specs.Calls.{Kept}
+use Rattle.card.specs.Public.{keptAfter}
 use Rattle.ledger.specs.Calls.{Call, on, close}
 use Rattle.ledger.specs.Ledger.{Blank, Sheet, Absent, Paused, PausedWith, Open, Complete, lengthIn, sheetAt, held}
-use Rattle.ledger.specs.Ledger.{heldIn, putIn, growIn, completeIn, pauseIn, resumeIn, bytesOf, listed, rowsIn, verdictIn}
-use Rattle.ledger.specs.Ledger.{startIn, belowIn, restartIn, deedIn, stepIn, begun, closedIn}
-use Rattle.ledger.specs.Steps.{endOf, stateOn, freshState}
-use Rattle.ledger.specs.Shares.{GoesWith, Unchanging, WithinLimits, Throughout}
+use Rattle.ledger.specs.Ledger.{heldIn, putIn, growIn, completeIn, pauseIn, resumeIn, changeIn, bytesOf, listed, rowsIn}
+use Rattle.ledger.specs.Ledger.{verdictIn}
+use Rattle.ledger.specs.Ledger.{startIn, belowIn, restartIn, deedIn, stepIn, after, begun, closedIn}
+use Rattle.ledger.specs.Lists.{Made, endOf, ByAny, callsIn, repliesTo, freshState}
+use Rattle.ledger.specs.Shares.{GoesWith, Unchanging, WithinLimits, Throughout, NoWingOver}
 use Rattle.ledger.proofs.Agreement.{stateOf, Matches}
-use Rattle.ledger.proofs.Contracts.{Limits}
-use Rattle.ledger.proofs.Demand.{kept-begun, state-begun, held-begun}
-use Rattle.ledger.proofs.Results.{Result}
+use Rattle.ledger.proofs.Demand.{Left, lists-left, kept-begun, state-begun, held-begun}
+use Rattle.ledger.proofs.Feeding.{heardFrom, heard-one, all-from}
+use Rattle.ledger.proofs.Fresh.{Limits}
 use Rattle.ledger.proofs.Wings.{wing-same, wing-part, wing-more, wing-other, wing-map}
 use Rattle.ledger.proofs.Closed.{same-length}
-use Rattle.ledger.proofs.step.{result}
 
 -- ---- the length of a sheet after a call
 
@@ -65,6 +68,10 @@ resume-length Paused = refl
 resume-length (PausedWith s xs) = refl
 resume-length (Open s ps) = refl
 resume-length (Complete s xs) = refl
+
+change-length : (c : Change) (x : Sheet) → lengthIn (changeIn c x) ≡ lengthIn x
+change-length pause x = pause-length x
+change-length resume x = resume-length x
 
 -- ---- an accepted call
 
@@ -107,27 +114,25 @@ module _ (n : ℕ) (limits : List ℕ) (l : List Sheet) (within : InLedger limit
 bounded : (n : ℕ) (limits : List ℕ) (l : List Sheet) → InLedger limits l → (c : Call) → GoesWith limits c
     → verdictIn n l c ≡ accepted → InLedger limits (deedIn n l c .ledger)
 unfolding deedIn tableOf listed closedIn
-bounded n limits l w (on i (reserve given k p)) same h =
-    taken n limits l w i given _ k same (clear 18 (rowsIn n l (on i (reserve given k p))) h .0)
-bounded n limits l w (on i (offer given k)) same h = w
-bounded n limits l w (on i (accept given start k)) same h =
-    taken n limits l w i given start k same (clear 18 (rowsIn n l (on i (accept given start k))) h .0)
-bounded n limits l w (on i (grow given m)) same h =
+bounded n limits l w (on role i (reserve given k p)) same h =
+    taken n limits l w i given _ k same (clear 18 (rowsIn n l (on role i (reserve given k p))) h .0)
+bounded n limits l w (on role i (offer given k)) same h = w
+bounded n limits l w (on role i (accept given start k)) same h =
+    taken n limits l w i given start k same (clear 18 (rowsIn n l (on role i (accept given start k))) h .0)
+bounded n limits l w (on role i (grow given m)) same h =
     changes n limits l w i (growIn m (sheetAt l i)) m (grow-length m (sheetAt l i))
-    (under n limits l w i given m same (clear 18 (rowsIn n l (on i (grow given m))) h .0))
-bounded n limits l w (on i (put p payload)) same h =
+    (under n limits l w i given m same (clear 18 (rowsIn n l (on role i (grow given m))) h .0))
+bounded n limits l w (on role i (put p payload)) same h =
     stays n limits l w i (putIn p payload (sheetAt l i)) (omega (arith, put-length p payload (sheetAt l i)))
-bounded n limits l w (on i complete) same h =
+bounded n limits l w (on role i complete) same h =
     stays n limits l w i (completeIn (sheetAt l i)) (omega (arith, complete-length (sheetAt l i)))
-bounded n limits l w (on i pause) same h =
-    stays n limits l w i (pauseIn (sheetAt l i)) (omega (arith, pause-length (sheetAt l i)))
-bounded n limits l w (on i resume) same h =
-    stays n limits l w i (resumeIn (sheetAt l i)) (omega (arith, resume-length (sheetAt l i)))
-bounded n limits l w (on i release) same h = stays n limits l w i Absent (omega arith)
-bounded n limits l w (on i (show p buffer)) same h = w
-bounded n limits l w (on i (showDated p date buffer)) same h = w
-bounded n limits l w (on i standing) same h = w
-bounded n limits l w close same h = λ j.
+bounded n limits l w (on role i (change c)) same h =
+    stays n limits l w i (changeIn c (sheetAt l i)) (omega (arith, change-length c (sheetAt l i)))
+bounded n limits l w (on role i release) same h = stays n limits l w i Absent (omega arith)
+bounded n limits l w (on role i (show p buffer)) same h = w
+bounded n limits l w (on role i (showDated p date buffer)) same h = w
+bounded n limits l w (on role i standing) same h = w
+bounded n limits l w (close role) same h = λ j.
     let moved : heldIn (closedIn l) j ≡ heldIn l j =
     wing-map (λ x. restartIn (belowIn l (startIn x)) x) (λ x. same-length (belowIn l (startIn x)) x) l j in
     omega (arith, moved, w j)
@@ -148,21 +153,30 @@ shows : (n : ℕ) (limits : List ℕ) (l : List Sheet) (card : List ℕ) → Mat
 shows n limits l card k w i =
     let same = wing-same n l (k .high) (λ j. omega (arith, k .sound .fine j .inside)) i in omega (arith, same, w i)
 
-throughout : (n : ℕ) (limits : List ℕ) (calls : List Call) (l : List Sheet) (card : List ℕ) (s : Kept) → Matches n l card
-    → s ≡ stateOf n l card → InLedger limits l → Unchanging limits calls → Throughout (WithinLimits limits) s calls
-throughout n limits [] l card s k e w same = subst (WithinLimits limits) (sym e) (shows n limits l card k w)
-throughout n limits (c ∷ calls) l card s k e w same =
-    let r : Result n l card c (verdictIn n l c) = result n l card k c in (
-      subst (WithinLimits limits) (sym e) (shows n limits l card k w),
-      throughout n limits calls (stepIn n l c) (r .card-left) (stateOn (endOf s c)) (r .kept-left)
-          (ap (λ (x : Kept). stateOn (endOf x c)) e ∙ r .state-left) (stepped n limits l w c (same .0)) (same .1),
-    )
+-- a call with these limits leaves them kept, and so does a list
+module _ (n : ℕ) (limits : List ℕ) where
+  after-calls : (calls : List Call) (l : List Sheet) → InLedger limits l → Unchanging limits calls
+      → InLedger limits (after n l calls)
+  after-calls [] l w same = w
+  after-calls (c ∷ calls) l w same = after-calls calls (stepIn n l c) (stepped n limits l w c (same .0)) (same .1)
+
+  throughout : (made : List Made) (l : List Sheet) (card : List ℕ) (s : Kept) → Matches n l card → s ≡ stateOf n l card
+      → InLedger limits l → ByAny s made → Unchanging limits (callsIn made) → Throughout (WithinLimits limits) s made
+  throughout [] l card s k e w any same = subst (WithinLimits limits) (sym e) (shows n limits l card k w)
+  throughout (m ∷ made) l card s k e w any same =
+      let calls : List Call = heardFrom s m in
+      let unchanged = all-from (GoesWith limits) (λ role sheet given k start p h. h) s m (callsIn made) same in
+      let left : Left n l calls (repliesTo (endOf s m) calls) (keptAfter (endOf s m)) =
+      lists-left n calls (repliesTo (endOf s m) calls) l card s (keptAfter (endOf s m)) k e (heard-one s m (any .0)) in (
+        subst (WithinLimits limits) (sym e) (shows n limits l card k w),
+        throughout made (after n l calls) (left .card-left) (keptAfter (endOf s m)) (left .kept-left) (left .state-left)
+            (after-calls calls l w (unchanged .0)) (any .1) (unchanged .1),
+      )
 
 -- from a fresh card, with n and c within their bounds and a card of 512·n bytes
-pub no-wing-over : (n c : ℕ) (card : List ℕ) → Limits n c → length card ≡ 512 * n → (limits : List ℕ) (calls : List Call)
-    → Unchanging limits calls → Throughout (WithinLimits limits) (freshState n c card) calls
-no-wing-over n c card b room limits calls same =
-    throughout n limits calls (begun c) card (freshState n c card)
+pub no-wing-over : (n c : ℕ) (card : List ℕ) → Limits n c → length card ≡ 512 * n → NoWingOver n c card
+no-wing-over n c card b room made limits any same =
+    throughout n limits made (begun c) card (freshState n c card)
     (kept-begun n c card (b .n-low) (b .n-high) (b .c-low) (b .c-high) room)
     (state-begun n c card (b .n-low) (b .n-high) (b .c-low) (b .c-high) room)
-    (λ j. omega (arith, wing-part (begun c) j, held-begun c)) same
+    (λ j. omega (arith, wing-part (begun c) j, held-begun c)) any same

@@ -17,11 +17,11 @@ use Rattle.refusals.specs.Table as table
 use Rattle.refusals.specs.Table.{Ask, misplaced, tableOf, verdictOf}
 use Rattle.catalogue_standings.proofs.Rows.{clear, says}
 use Rattle.card.specs.Calls.{told}
-use Rattle.ledger.specs.Calls.{Call, on}
+use Rattle.ledger.specs.Calls.{Call, on, turnedIn}
 use Rattle.ledger.specs.Ledger.{Blank, Sheet, standingIn, lengthIn, placesIn, isBlank, bytesOf, sheetAt, placeAt, spareIn}
 use Rattle.ledger.specs.Ledger.{viewIn, listed, rowsIn, verdictIn, Unnoted, Deed, leaves, _and_, fills, deedIn}
 use Rattle.ledger.specs.Claim.{entryIn, noteOf}
-use Rattle.ledger.specs.Steps.{End, ending, endOf}
+use Rattle.ledger.proofs.Plain.{End, ending, endOf}
 use Rattle.ledger.proofs.Agreement.{mapIn, stateOf, Matches, NeverRows, OwnPlaces, on-card, verdict-on, payload-block}
 use Rattle.ledger.proofs.Wings.{entry-at}
 use Rattle.laws.proofs.Bools.{neither-left}
@@ -52,9 +52,9 @@ module _ (n : ℕ) (l : List Sheet) (i p : ℕ) (buffer : List ℕ) where
   pub sound-there : Passed → (q : ℕ) → q ≤ p → not (viewIn n l i .sound q) ≡ false
   sound-there h q le = ap (λ (t : Bool). not (not t)) (filled h q le)
 
-module _ (n : ℕ) (l : List Sheet) (card : List ℕ) (k : Matches n l card) (i p : ℕ) (buffer : List ℕ) (a : Ask) where
+module _ (n : ℕ) (l : List Sheet) (card : List ℕ) (k : Matches n l card) (role i p : ℕ) (buffer : List ℕ) (a : Ask) where
   abbrev call : Call
-  call = on i a
+  call = on role i a
 
   -- where these bytes go to the buffer
   abbrev filling : List ℕ → Verdict → End
@@ -71,9 +71,9 @@ module _ (n : ℕ) (l : List Sheet) (card : List ℕ) (k : Matches n l card) (i 
 
   -- what is the call's own: it fills its buffer with the place, and changes nothing
   pub record ShowsPlace : Type 0 where
-    pub ends-so : endOf (stateOf n l card) call ≡ ends (verdictOf (on-card n l card k i) (table.on i a))
-    pub own : OwnPlaces n l i a
-    pub never : NeverRows n l card k i a
+    pub ends-so : endOf (stateOf n l card) call ≡ ends (verdictOf (on-card n l card k (turnedIn role a) i) (table.on i a))
+    pub own : OwnPlaces n l role i a
+    pub never : NeverRows n l card k role i a
     pub no-row-0 : says 0 (rowsIn n l call) ≡ false
     pub no-row-9 : says 9 (rowsIn n l call) ≡ false
     -- it does so in every ledger: what is noted of a call is read in the one without sheets
@@ -95,5 +95,5 @@ module _ (n : ℕ) (l : List Sheet) (card : List ℕ) (k : Matches n l card) (i 
 
   pub shows-place : ShowsPlace → Result n l card call (verdictIn n l call)
   shows-place s =
-      result-of n l card k call ends (s .ends-so ∙ ap ends (verdict-on n l card k i a (s .own) (s .never))) (s .no-row-0)
+      result-of n l card k call ends (s .ends-so ∙ ap ends (verdict-on n l card k role i a (s .own) (s .never))) (s .no-row-0)
       (accepts s) (plain-back n l card k call _ (s .no-row-9) (λ number. rw (s .does n l))) (rw (s .does n l) tt)

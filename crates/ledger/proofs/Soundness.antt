@@ -17,7 +17,7 @@ use Rattle.catalogue_standings.specs.Standings.{standingOf, isDamaged}
 use Rattle.image_soundness.specs.Sound as saved
 use Rattle.ledger.specs.Ledger.{Sheet, sheetAt, covers, cover, freeIn, spareIn}
 use Rattle.ledger.specs.Claim.{entryIn}
-use Rattle.ledger.specs.Steps.{savedOf}
+use Rattle.ledger.specs.Lists.{savedOf}
 use Rattle.ledger.proofs.Agreement.{mapIn, stateOf, Matches, free-map, stands-same}
 use Rattle.ledger.proofs.Wings.{entry-at}
 use Rattle.ledger.proofs.Listed.{sheet-undamaged}
@@ -57,7 +57,7 @@ module _ (n : ℕ) (l : List Sheet) (card : List ℕ) (k : Matches n l card) whe
       (and-both _ _
       (all-undamaged n (free (mapIn n l)) l
       (λ i lt. ap (λ e. isDamaged (standingOf n (free (mapIn n l)) e)) (sym (entry-at l i lt))
-      ∙ ap isDamaged (stands-same n l card k i lt) ∙ sheet-undamaged (sheetAt l i)))
+      ∙ ap isDamaged (stands-same n l card k false i lt) ∙ sheet-undamaged (sheetAt l i)))
       (all-intro _ 0 n (λ b a lt. ap (λ (c : ℕ). leb c 1) (same-cover l b) ∙ le-leb (cover l b) 1 (k .sound .once b))))
       (all-intro _ 0 n (λ b a lt. below b (omega arith))))
       (all-intro _ n (64 * length (mapIn n l) - n)

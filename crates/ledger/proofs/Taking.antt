@@ -22,7 +22,7 @@ use Rattle.ledger.specs.Calls.{on}
 use Rattle.ledger.specs.Ledger.{Blank, Sheet, Absent, Open, standingIn, lengthIn, sheetAt, freeIn, spareIn, spaceIn}
 use Rattle.ledger.specs.Ledger.{Begun, deedIn}
 use Rattle.ledger.specs.Claim.{noteOf}
-use Rattle.ledger.specs.Steps.{End}
+use Rattle.ledger.proofs.Plain.{End}
 use Rattle.ledger.proofs.Agreement.{mapIn, Matches}
 use Rattle.ledger.proofs.Keeping.{keep-reserve}
 use Rattle.ledger.proofs.Listed.{spared}
@@ -30,7 +30,7 @@ use Rattle.ledger.proofs.Results as results
 use Rattle.ledger.proofs.Results.{outEnd, one-sheet}
 use Rattle.ledger.proofs.Sheets.{was-absent, reserved, blanks-at}
 
-module _ (n : ℕ) (l : List Sheet) (card : List ℕ) (k : Matches n l card) (i m start : ℕ) where
+module _ (n : ℕ) (l : List Sheet) (card : List ℕ) (k : Matches n l card) (role i m start : ℕ) where
   -- what the rows have shown
   pub record Shown : Type 0 where
     pub inside : i < length l
@@ -63,16 +63,16 @@ module _ (n : ℕ) (l : List Sheet) (card : List ℕ) (k : Matches n l card) (i 
 
   -- the deed of the call is `takesAt`
   pub record Takes (a : Ask) : Type 0 where
-    pub ledger-is : deedIn n l (on i a) .ledger ≡ set l i (Open start (replicate m Blank))
-    pub values-are : deedIn n l (on i a) .values ≡ start ∷ spaceIn n l start ∷ []
-    pub grants-are : deedIn n l (on i a) .grants ≡ m
-    pub returns-are : deedIn n l (on i a) .returns ≡ 0
-    pub left-is : deedIn n l (on i a) .left ≡ []
-    pub note-is : noteOf (on i a) ≡ Begun i
+    pub ledger-is : deedIn n l (on role i a) .ledger ≡ set l i (Open start (replicate m Blank))
+    pub values-are : deedIn n l (on role i a) .values ≡ start ∷ spaceIn n l start ∷ []
+    pub grants-are : deedIn n l (on role i a) .grants ≡ m
+    pub returns-are : deedIn n l (on role i a) .returns ≡ 0
+    pub left-is : deedIn n l (on role i a) .left ≡ []
+    pub note-is : noteOf (on role i a) ≡ Begun i
 
-  pub takes : (a : Ask) → Takes a → Shown → results.Done n l card (on i a) (taken (freeIn n l) accepted)
+  pub takes : (a : Ask) → Takes a → Shown → results.Done n l card (on role i a) (taken (freeIn n l) accepted)
   takes a d s =
-      one-sheet n l card k i a (taken (freeIn n l) accepted) (record {
+      one-sheet n l card k role i a (taken (freeIn n l) accepted) (record {
         inside = s .inside;
         sheet = Open start (replicate m Blank);
         becomes = d .ledger-is;

@@ -10,12 +10,14 @@ use mathlib.Core.List.{List, []}
 use lib.ListN.{length, getD}
 use Rattle.calendar.specs.Calendar.{Date, dateExists, dayNumber}
 use Rattle.calendar.specs.Term.{Term, termOf}
+use Rattle.roles.specs.Roles as roles
+use Rattle.roles.specs.Roles.{may}
 use Rattle.refusals.specs.Table.{show, showDated}
 use Rattle.card.specs.Calls.{Kept}
-use Rattle.ledger.specs.Calls.{Call, on}
+use Rattle.card.specs.Public.{on, Manner, Beside, End, ends}
 use Rattle.ledger.specs.Ledger.{Complete, sheetAt, after, begun}
 use Rattle.ledger.specs.Answers.{Told, done}
-use Rattle.ledger.specs.Steps.{Response, toldBy, Step, Runs, freshState}
+use Rattle.ledger.specs.Lists.{Made, toldOf, Runs, ByAny, heardIn, freshState}
 
 -- The term of a complete sheet: the two days that its payload of place 0 starts with.
 abbrev pub termIn : List (List ℕ) → Term
@@ -31,18 +33,19 @@ pub record ShowsInTerm (payloads : List (List ℕ)) (p day : ℕ) (buffer : List
   pub exactly : (told ≡ done [] (getD payloads p [])) ↔ Within (termIn payloads) day
   pub otherwise : (Within (termIn payloads) day → ⊥) → told ≡ record { number = 20; values = []; buffer = buffer }
 
--- After every list of calls from a fresh card, on every date that exists.
+-- After every list of calls from a fresh card, guided by whatever summaries, on every date that exists.
 abbrev pub ShowsExactlyInItsTerm : ℕ → ℕ → List ℕ → Type 0
 ShowsExactlyInItsTerm n c card =
-    (calls : List Call) (replies : List Response) (t : Kept) → Runs (freshState n c card) calls replies t
-    → (sheet start : ℕ) (payloads : List (List ℕ)) → sheetAt (after n (begun c) calls) sheet ≡ Complete start payloads
+    (made : List Made) (es : List End) (t : Kept) → ByAny (freshState n c card) made → Runs (freshState n c card) made es t
+    → (sheet start : ℕ) (payloads : List (List ℕ)) → sheetAt (after n (begun c) (heardIn made es)) sheet
+    ≡ Complete start payloads
     → (p : ℕ) → p < length payloads → (date : Date) → dateExists date ≡ true → (buffer : List ℕ) → length buffer ≡ 496
-    → (reply : Response) (u : Kept) → Step t (on sheet (showDated p date buffer)) reply u
-    → ShowsInTerm payloads p (dayNumber date) buffer (toldBy reply)
+    → (m : Manner) → may (m .role) roles.showDated ≡ true → (b : Beside)
+    → ShowsInTerm payloads p (dayNumber date) buffer (toldOf (ends m t b (on sheet (showDated p date buffer))))
 
 -- From any state: a dated show that is done replies and leaves what a show of the place does.
 abbrev pub DoesWhatShowDoes : Type 0
 DoesWhatShowDoes =
-    (s : Kept) (sheet p : ℕ) (date : Date) (buffer : List ℕ) (dated shown : Response) (t u : Kept)
-    → Step s (on sheet (showDated p date buffer)) dated t → Step s (on sheet (show p buffer)) shown u
-    → toldBy dated .number ≡ 0 → (dated ≡ shown) × (t ≡ u)
+    (s : Kept) (m other : Manner) (b : Beside) (sheet p : ℕ) (date : Date) (buffer : List ℕ)
+    → may (other .role) roles.show ≡ true → toldOf (ends m s b (on sheet (showDated p date buffer))) .number ≡ 0
+    → ends m s b (on sheet (showDated p date buffer)) ≡ ends other s b (on sheet (show p buffer))

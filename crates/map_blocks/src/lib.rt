@@ -3,6 +3,9 @@
 pub mod run;
 pub mod word;
 
+// The most blocks of a card. It is `Shape`'s constant (crate card), and stands here because the search needs it too.
+pub const BLOCKS: u32 = 262144;
+
 // What a search answers.
 pub enum Found {
     At(u32),

@@ -10,6 +10,7 @@ mod far;
 mod taken;
 
 use far::search_far;
+use map_blocks::BLOCKS;
 use map_blocks::Found;
 use map_blocks::word::smaller;
 use map_search::search;
@@ -65,7 +66,7 @@ pub fn search_placed(map: &[u64], from: u32, before: u32, step: u32, k: u32) -> 
     }
     if 512 <= step {
         return found(
-            search_far(map, from, before, smaller(step, 262144), k),
+            search_far(map, from, before, smaller(step, BLOCKS), k),
             before,
         );
     }

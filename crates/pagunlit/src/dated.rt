@@ -1,6 +1,7 @@
 // The C function of the dated show (document 02 (m)).
 ghost use Rattle.pagunlit_replies.specs.Replies.{replyOf};
-ghost use Rattle.role_calls.specs.Contracts.{ShowsDated};
+ghost use Rattle.card.specs.Ends.{showDatedEnd};
+ghost use Rattle.card.specs.Leaves.{LeavesBuffer};
 use card::Shape;
 use catalogue::Entry;
 use pagunlit_replies::Reply;
@@ -20,12 +21,11 @@ pub extern "C" fn pagunlit_show_dated(
     day: u32,
     buffer: &mut [u8],
 ) -> Reply
-    ensures { λ r. ⌜ ShowsDated replyOf role shape (now (map .entry)) (now (catalogue .entry)) (now (card .entry)) sheet place
-        year month day (now (buffer .entry)) r (now (buffer .exit)) ⌝ }
+    ensures { λ r. ⌜ LeavesBuffer replyOf (showDatedEnd shape role (now (map .entry)) (now (catalogue .entry))
+        (now (card .entry)) sheet place year month day (now (buffer .entry))) r (now (buffer .exit)) ⌝ }
 {
-    let outcome = role_calls::show_dated(
+    let outcome = shape.show_dated(
         role,
-        shape,
         map,
         catalogue,
         card,

@@ -2,6 +2,7 @@
 // call of its name (crate role_calls), with the role of who makes it, and turns the outcome into document 01's numbers. A slice
 // is a pointer and a length to C; the shape, the entries and the reply are structs of 32-bit numbers.
 pub mod dated;
+pub mod days;
 pub mod summary;
 
 ghost use mathlib.Core.Path.{_≡_};
@@ -10,9 +11,12 @@ ghost use Rattle.calendar.specs.Term.{termAnswer, withTerm};
 ghost use Rattle.counts.specs.Counts.{readOf, writeAnswer, afterWrite};
 ghost use Rattle.counts.specs.Replies.{countReply, countFrom};
 ghost use Rattle.pagunlit_replies.specs.Replies.{replyOf};
-ghost use Rattle.role_calls.specs.Contracts.{Freshens, Searches, Surveys, Reserves, ReservesPlaced};
-ghost use Rattle.role_calls.specs.Contracts.{Offers, Accepts, Grows, Puts};
-ghost use Rattle.role_calls.specs.Contracts.{Completes, Pauses, Resumes, Releases, Shows, TellsStanding, Saves, Closes, Loads};
+ghost use Rattle.card.specs.Ends.{freshEnd, searchEnd, surveyEnd, reserveEnd, reservePlacedEnd, offerEnd, acceptEnd, growEnd};
+ghost use Rattle.card.specs.Ends.{putEnd, completeEnd, pauseEnd, resumeEnd, releaseEnd, showEnd, standingEnd, saveEnd};
+ghost use Rattle.card.specs.Ends.{loadEnd, closeEnd};
+ghost use Rattle.card.specs.Leaves.{HandsBack, LeavesCard, LeavesEntries, LeavesBuffer, LeavesMapEntries};
+ghost use Rattle.card.specs.Leaves.{LeavesMapEntriesCard, LeavesScratchImage, LeavesMapEntriesScratch};
+ghost use Rattle.card.specs.Leaves.{LeavesMapEntriesCardScratch};
 use card::Shape;
 use catalogue::Entry;
 use counts::CountReply;
@@ -27,26 +31,26 @@ pub extern "C" fn pagunlit_fresh(
     map: &mut [u64],
     catalogue: &mut [Entry],
 ) -> Reply
-    ensures { λ r. ⌜ Freshens replyOf role shape blocks (now (map .entry)) (now (catalogue .entry)) r (now (map .exit))
-        (now (catalogue .exit)) ⌝ }
+    ensures { λ r. ⌜ LeavesMapEntries replyOf (freshEnd shape role blocks (now (map .entry)) (now (catalogue .entry))) r
+        (now (map .exit)) (now (catalogue .exit)) ⌝ }
 {
-    let outcome = role_calls::fresh(role, shape, blocks, map, catalogue);
+    let outcome = shape.fresh(role, blocks, map, catalogue);
     reply_of(outcome)
 }
 
 #[no_mangle]
 pub extern "C" fn pagunlit_search(role: u32, shape: Shape, map: &[u64], k: u32) -> Reply
-    ensures { λ r. ⌜ Searches replyOf role shape (now (map .entry)) k r ⌝ }
+    ensures { λ r. ⌜ HandsBack replyOf (searchEnd shape role (now (map .entry)) k) r ⌝ }
 {
-    let outcome = role_calls::search(role, shape, map, k);
+    let outcome = shape.search(role, map, k);
     reply_of(outcome)
 }
 
 #[no_mangle]
 pub extern "C" fn pagunlit_survey(role: u32, shape: Shape, map: &[u64]) -> Reply
-    ensures { λ r. ⌜ Surveys replyOf role shape (now (map .entry)) r ⌝ }
+    ensures { λ r. ⌜ HandsBack replyOf (surveyEnd shape role (now (map .entry))) r ⌝ }
 {
-    let outcome = role_calls::survey(role, shape, map);
+    let outcome = shape.survey(role, map);
     reply_of(outcome)
 }
 
@@ -61,10 +65,11 @@ pub extern "C" fn pagunlit_reserve(
     sheet: u32,
     count: u32,
 ) -> Reply
-    ensures { λ r. ⌜ Reserves replyOf role shape (now (map .entry)) (now (catalogue .entry)) (now (card .entry))
-        (now (limits .entry)) sheet count r (now (map .exit)) (now (catalogue .exit)) (now (card .exit)) ⌝ }
+    ensures { λ r. ⌜ LeavesMapEntriesCard replyOf (reserveEnd shape role (now (map .entry)) (now (catalogue .entry))
+        (now (card .entry)) (now (limits .entry)) sheet count) r (now (map .exit)) (now (catalogue .exit))
+        (now (card .exit)) ⌝ }
 {
-    let outcome = role_calls::reserve(role, shape, map, catalogue, card, limits, sheet, count);
+    let outcome = shape.reserve(role, map, catalogue, card, limits, sheet, count);
     reply_of(outcome)
 }
 
@@ -82,12 +87,12 @@ pub extern "C" fn pagunlit_reserve_placed(
     before: u32,
     step: u32,
 ) -> Reply
-    ensures { λ r. ⌜ ReservesPlaced replyOf role shape (now (map .entry)) (now (catalogue .entry)) (now (card .entry))
-        (now (limits .entry)) sheet count from before step r (now (map .exit)) (now (catalogue .exit)) (now (card .exit)) ⌝ }
+    ensures { λ r. ⌜ LeavesMapEntriesCard replyOf (reservePlacedEnd shape role (now (map .entry)) (now (catalogue .entry))
+        (now (card .entry)) (now (limits .entry)) sheet count from before step) r (now (map .exit)) (now (catalogue .exit))
+        (now (card .exit)) ⌝ }
 {
-    let outcome = role_calls::reserve_placed(
+    let outcome = shape.reserve_placed(
         role,
-        shape,
         map,
         catalogue,
         card,
@@ -112,10 +117,10 @@ pub extern "C" fn pagunlit_offer(
     sheet: u32,
     count: u32,
 ) -> Reply
-    ensures { λ r. ⌜ Offers replyOf role shape (now (map .entry)) (now (catalogue .entry)) (now (card .entry))
-        (now (limits .entry)) sheet count r ⌝ }
+    ensures { λ r. ⌜ HandsBack replyOf (offerEnd shape role (now (map .entry)) (now (catalogue .entry)) (now (card .entry))
+        (now (limits .entry)) sheet count) r ⌝ }
 {
-    let outcome = role_calls::offer(role, shape, map, catalogue, card, limits, sheet, count);
+    let outcome = shape.offer(role, map, catalogue, card, limits, sheet, count);
     reply_of(outcome)
 }
 
@@ -131,20 +136,11 @@ pub extern "C" fn pagunlit_accept(
     start: u32,
     count: u32,
 ) -> Reply
-    ensures { λ r. ⌜ Accepts replyOf role shape (now (map .entry)) (now (catalogue .entry)) (now (card .entry))
-        (now (limits .entry)) sheet start count r (now (map .exit)) (now (catalogue .exit)) (now (card .exit)) ⌝ }
+    ensures { λ r. ⌜ LeavesMapEntriesCard replyOf (acceptEnd shape role (now (map .entry)) (now (catalogue .entry))
+        (now (card .entry)) (now (limits .entry)) sheet start count) r (now (map .exit)) (now (catalogue .exit))
+        (now (card .exit)) ⌝ }
 {
-    let outcome = role_calls::accept(
-        role,
-        shape,
-        map,
-        catalogue,
-        card,
-        limits,
-        sheet,
-        start,
-        count,
-    );
+    let outcome = shape.accept(role, map, catalogue, card, limits, sheet, start, count);
     reply_of(outcome)
 }
 
@@ -159,10 +155,11 @@ pub extern "C" fn pagunlit_grow(
     sheet: u32,
     count: u32,
 ) -> Reply
-    ensures { λ r. ⌜ Grows replyOf role shape (now (map .entry)) (now (catalogue .entry)) (now (card .entry))
-        (now (limits .entry)) sheet count r (now (map .exit)) (now (catalogue .exit)) (now (card .exit)) ⌝ }
+    ensures { λ r. ⌜ LeavesMapEntriesCard replyOf (growEnd shape role (now (map .entry)) (now (catalogue .entry))
+        (now (card .entry)) (now (limits .entry)) sheet count) r (now (map .exit)) (now (catalogue .exit))
+        (now (card .exit)) ⌝ }
 {
-    let outcome = role_calls::grow(role, shape, map, catalogue, card, limits, sheet, count);
+    let outcome = shape.grow(role, map, catalogue, card, limits, sheet, count);
     reply_of(outcome)
 }
 
@@ -177,10 +174,10 @@ pub extern "C" fn pagunlit_put(
     place: u32,
     payload: &[u8],
 ) -> Reply
-    ensures { λ r. ⌜ Puts replyOf role shape (now (map .entry)) (now (catalogue .entry)) (now (card .entry)) sheet place
-        (now (payload .entry)) r (now (card .exit)) ⌝ }
+    ensures { λ r. ⌜ LeavesCard replyOf (putEnd shape role (now (map .entry)) (now (catalogue .entry)) (now (card .entry))
+        sheet place (now (payload .entry))) r (now (card .exit)) ⌝ }
 {
-    let outcome = role_calls::put(role, shape, map, catalogue, card, sheet, place, payload);
+    let outcome = shape.put(role, map, catalogue, card, sheet, place, payload);
     reply_of(outcome)
 }
 
@@ -193,10 +190,10 @@ pub extern "C" fn pagunlit_complete(
     card: &[u8],
     sheet: u32,
 ) -> Reply
-    ensures { λ r. ⌜ Completes replyOf role shape (now (map .entry)) (now (catalogue .entry)) (now (card .entry)) sheet r
-        (now (catalogue .exit)) ⌝ }
+    ensures { λ r. ⌜ LeavesEntries replyOf (completeEnd shape role (now (map .entry)) (now (catalogue .entry))
+        (now (card .entry)) sheet) r (now (catalogue .exit)) ⌝ }
 {
-    let outcome = role_calls::complete(role, shape, map, catalogue, card, sheet);
+    let outcome = shape.complete(role, map, catalogue, card, sheet);
     reply_of(outcome)
 }
 
@@ -208,9 +205,10 @@ pub extern "C" fn pagunlit_pause(
     catalogue: &mut [Entry],
     sheet: u32,
 ) -> Reply
-    ensures { λ r. ⌜ Pauses replyOf role shape (now (map .entry)) (now (catalogue .entry)) sheet r (now (catalogue .exit)) ⌝ }
+    ensures { λ r. ⌜ LeavesEntries replyOf (pauseEnd shape role (now (map .entry)) (now (catalogue .entry)) sheet) r
+        (now (catalogue .exit)) ⌝ }
 {
-    let outcome = role_calls::pause(role, shape, map, catalogue, sheet);
+    let outcome = shape.pause(role, map, catalogue, sheet);
     reply_of(outcome)
 }
 
@@ -222,9 +220,10 @@ pub extern "C" fn pagunlit_resume(
     catalogue: &mut [Entry],
     sheet: u32,
 ) -> Reply
-    ensures { λ r. ⌜ Resumes replyOf role shape (now (map .entry)) (now (catalogue .entry)) sheet r (now (catalogue .exit)) ⌝ }
+    ensures { λ r. ⌜ LeavesEntries replyOf (resumeEnd shape role (now (map .entry)) (now (catalogue .entry)) sheet) r
+        (now (catalogue .exit)) ⌝ }
 {
-    let outcome = role_calls::resume(role, shape, map, catalogue, sheet);
+    let outcome = shape.resume(role, map, catalogue, sheet);
     reply_of(outcome)
 }
 
@@ -236,10 +235,10 @@ pub extern "C" fn pagunlit_release(
     catalogue: &mut [Entry],
     sheet: u32,
 ) -> Reply
-    ensures { λ r. ⌜ Releases replyOf role shape (now (map .entry)) (now (catalogue .entry)) sheet r (now (map .exit))
-        (now (catalogue .exit)) ⌝ }
+    ensures { λ r. ⌜ LeavesMapEntries replyOf (releaseEnd shape role (now (map .entry)) (now (catalogue .entry)) sheet) r
+        (now (map .exit)) (now (catalogue .exit)) ⌝ }
 {
-    let outcome = role_calls::release(role, shape, map, catalogue, sheet);
+    let outcome = shape.release(role, map, catalogue, sheet);
     reply_of(outcome)
 }
 
@@ -254,10 +253,10 @@ pub extern "C" fn pagunlit_show(
     place: u32,
     buffer: &mut [u8],
 ) -> Reply
-    ensures { λ r. ⌜ Shows replyOf role shape (now (map .entry)) (now (catalogue .entry)) (now (card .entry)) sheet place
-        (now (buffer .entry)) r (now (buffer .exit)) ⌝ }
+    ensures { λ r. ⌜ LeavesBuffer replyOf (showEnd shape role (now (map .entry)) (now (catalogue .entry))
+        (now (card .entry)) sheet place (now (buffer .entry))) r (now (buffer .exit)) ⌝ }
 {
-    let outcome = role_calls::show(role, shape, map, catalogue, card, sheet, place, buffer);
+    let outcome = shape.show(role, map, catalogue, card, sheet, place, buffer);
     reply_of(outcome)
 }
 
@@ -269,9 +268,9 @@ pub extern "C" fn pagunlit_standing(
     catalogue: &[Entry],
     sheet: u32,
 ) -> Reply
-    ensures { λ r. ⌜ TellsStanding replyOf role shape (now (map .entry)) (now (catalogue .entry)) sheet r ⌝ }
+    ensures { λ r. ⌜ HandsBack replyOf (standingEnd shape role (now (map .entry)) (now (catalogue .entry)) sheet) r ⌝ }
 {
-    let outcome = role_calls::standing(role, shape, map, catalogue, sheet);
+    let outcome = shape.standing(role, map, catalogue, sheet);
     reply_of(outcome)
 }
 
@@ -284,10 +283,10 @@ pub extern "C" fn pagunlit_save(
     scratch: &mut [u64],
     image: &mut [u8],
 ) -> Reply
-    ensures { λ r. ⌜ Saves replyOf role shape (now (map .entry)) (now (catalogue .entry)) (now (scratch .entry))
-        (now (image .entry)) r (now (scratch .exit)) (now (image .exit)) ⌝ }
+    ensures { λ r. ⌜ LeavesScratchImage replyOf (saveEnd shape role (now (map .entry)) (now (catalogue .entry))
+        (now (scratch .entry)) (now (image .entry))) r (now (scratch .exit)) (now (image .exit)) ⌝ }
 {
-    let outcome = role_calls::save(role, shape, map, catalogue, scratch, image);
+    let outcome = shape.save(role, map, catalogue, scratch, image);
     reply_of(outcome)
 }
 
@@ -300,10 +299,11 @@ pub extern "C" fn pagunlit_close(
     card: &mut [u8],
     scratch: &mut [u64],
 ) -> Reply
-    ensures { λ r. ⌜ Closes replyOf role shape (now (map .entry)) (now (catalogue .entry)) (now (card .entry))
-        (now (scratch .entry)) r (now (map .exit)) (now (catalogue .exit)) (now (card .exit)) (now (scratch .exit)) ⌝ }
+    ensures { λ r. ⌜ LeavesMapEntriesCardScratch replyOf (closeEnd shape role (now (map .entry)) (now (catalogue .entry))
+        (now (card .entry)) (now (scratch .entry))) r (now (map .exit)) (now (catalogue .exit)) (now (card .exit))
+        (now (scratch .exit)) ⌝ }
 {
-    let outcome = role_calls::close(role, shape, map, catalogue, card, scratch);
+    let outcome = shape.close(role, map, catalogue, card, scratch);
     reply_of(outcome)
 }
 
@@ -316,10 +316,10 @@ pub extern "C" fn pagunlit_load(
     catalogue: &mut [Entry],
     scratch: &mut [u64],
 ) -> Reply
-    ensures { λ r. ⌜ Loads replyOf role shape (now (image .entry)) (now (map .entry)) (now (catalogue .entry))
-        (now (scratch .entry)) r (now (map .exit)) (now (catalogue .exit)) (now (scratch .exit)) ⌝ }
+    ensures { λ r. ⌜ LeavesMapEntriesScratch replyOf (loadEnd shape role (now (image .entry)) (now (map .entry))
+        (now (catalogue .entry)) (now (scratch .entry))) r (now (map .exit)) (now (catalogue .exit)) (now (scratch .exit)) ⌝ }
 {
-    let outcome = role_calls::load(role, shape, image, map, catalogue, scratch);
+    let outcome = shape.load(role, image, map, catalogue, scratch);
     reply_of(outcome)
 }
 

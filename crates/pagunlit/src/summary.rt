@@ -1,8 +1,9 @@
 // The C functions on a summary beside the map, and of the calls that are lent one (document 02, request j).
 ghost use Rattle.pagunlit_replies.specs.Replies.{replyOf};
-ghost use Rattle.role_calls.specs.SummaryContracts.{Builds, Checks, ReservesBy, ReservesPlacedBy};
-ghost use Rattle.role_calls.specs.SummaryContracts.{AcceptsBy, GrowsBy, ReleasesBy};
-ghost use Rattle.role_calls.specs.SummaryContracts.{ClosesBy};
+ghost use Rattle.card.specs.Ends.{summaryBuildEnd, summaryCheckEnd, reserveWithSummaryEnd, reservePlacedWithSummaryEnd};
+ghost use Rattle.card.specs.Ends.{acceptWithSummaryEnd, growWithSummaryEnd, releaseWithSummaryEnd, closeWithSummaryEnd};
+ghost use Rattle.card.specs.Leaves.{HandsBack, LeavesSummary, LeavesMapSummaryEntries, LeavesMapSummaryEntriesCard};
+ghost use Rattle.card.specs.Leaves.{LeavesMapSummaryEntriesCardScratch};
 use card::Shape;
 use catalogue::Entry;
 use pagunlit_replies::Reply;
@@ -15,9 +16,10 @@ pub extern "C" fn pagunlit_summary_build(
     map: &[u64],
     summary: &mut [u32],
 ) -> Reply
-    ensures { λ r. ⌜ Builds replyOf role shape (now (map .entry)) (now (summary .entry)) r (now (summary .exit)) ⌝ }
+    ensures { λ r. ⌜ LeavesSummary replyOf (summaryBuildEnd shape role (now (map .entry)) (now (summary .entry))) r
+        (now (summary .exit)) ⌝ }
 {
-    let outcome = role_calls::summary::summary_build(role, shape, map, summary);
+    let outcome = shape.summary_build(role, map, summary);
     reply_of(outcome)
 }
 
@@ -28,9 +30,9 @@ pub extern "C" fn pagunlit_summary_check(
     map: &[u64],
     summary: &[u32],
 ) -> Reply
-    ensures { λ r. ⌜ Checks replyOf role shape (now (map .entry)) (now (summary .entry)) r ⌝ }
+    ensures { λ r. ⌜ HandsBack replyOf (summaryCheckEnd shape role (now (map .entry)) (now (summary .entry))) r ⌝ }
 {
-    let outcome = role_calls::summary::summary_check(role, shape, map, summary);
+    let outcome = shape.summary_check(role, map, summary);
     reply_of(outcome)
 }
 
@@ -46,13 +48,12 @@ pub extern "C" fn pagunlit_reserve_with_summary(
     sheet: u32,
     count: u32,
 ) -> Reply
-    ensures { λ r. ⌜ ReservesBy replyOf role shape (now (map .entry)) (now (summary .entry)) (now (catalogue .entry))
-        (now (card .entry)) (now (limits .entry)) sheet count r (now (map .exit)) (now (summary .exit))
-        (now (catalogue .exit)) (now (card .exit)) ⌝ }
+    ensures { λ r. ⌜ LeavesMapSummaryEntriesCard replyOf (reserveWithSummaryEnd shape role (now (map .entry))
+        (now (summary .entry)) (now (catalogue .entry)) (now (card .entry)) (now (limits .entry)) sheet count) r
+        (now (map .exit)) (now (summary .exit)) (now (catalogue .exit)) (now (card .exit)) ⌝ }
 {
-    let outcome = role_calls::summary::reserve_with_summary(
+    let outcome = shape.reserve_with_summary(
         role,
-        shape,
         map,
         summary,
         catalogue,
@@ -79,13 +80,12 @@ pub extern "C" fn pagunlit_reserve_placed_with_summary(
     before: u32,
     step: u32,
 ) -> Reply
-    ensures { λ r. ⌜ ReservesPlacedBy replyOf role shape (now (map .entry)) (now (summary .entry)) (now (catalogue .entry))
-        (now (card .entry)) (now (limits .entry)) sheet count from before step r (now (map .exit)) (now (summary .exit))
-        (now (catalogue .exit)) (now (card .exit)) ⌝ }
+    ensures { λ r. ⌜ LeavesMapSummaryEntriesCard replyOf (reservePlacedWithSummaryEnd shape role (now (map .entry))
+        (now (summary .entry)) (now (catalogue .entry)) (now (card .entry)) (now (limits .entry)) sheet count from before
+        step) r (now (map .exit)) (now (summary .exit)) (now (catalogue .exit)) (now (card .exit)) ⌝ }
 {
-    let outcome = role_calls::summary::reserve_placed_with_summary(
+    let outcome = shape.reserve_placed_with_summary(
         role,
-        shape,
         map,
         summary,
         catalogue,
@@ -113,13 +113,12 @@ pub extern "C" fn pagunlit_accept_with_summary(
     start: u32,
     count: u32,
 ) -> Reply
-    ensures { λ r. ⌜ AcceptsBy replyOf role shape (now (map .entry)) (now (summary .entry)) (now (catalogue .entry))
-        (now (card .entry)) (now (limits .entry)) sheet start count r (now (map .exit)) (now (summary .exit))
-        (now (catalogue .exit)) (now (card .exit)) ⌝ }
+    ensures { λ r. ⌜ LeavesMapSummaryEntriesCard replyOf (acceptWithSummaryEnd shape role (now (map .entry))
+        (now (summary .entry)) (now (catalogue .entry)) (now (card .entry)) (now (limits .entry)) sheet start count) r
+        (now (map .exit)) (now (summary .exit)) (now (catalogue .exit)) (now (card .exit)) ⌝ }
 {
-    let outcome = role_calls::summary::accept_with_summary(
+    let outcome = shape.accept_with_summary(
         role,
-        shape,
         map,
         summary,
         catalogue,
@@ -144,13 +143,12 @@ pub extern "C" fn pagunlit_grow_with_summary(
     sheet: u32,
     count: u32,
 ) -> Reply
-    ensures { λ r. ⌜ GrowsBy replyOf role shape (now (map .entry)) (now (summary .entry)) (now (catalogue .entry))
-        (now (card .entry)) (now (limits .entry)) sheet count r (now (map .exit)) (now (summary .exit))
-        (now (catalogue .exit)) (now (card .exit)) ⌝ }
+    ensures { λ r. ⌜ LeavesMapSummaryEntriesCard replyOf (growWithSummaryEnd shape role (now (map .entry))
+        (now (summary .entry)) (now (catalogue .entry)) (now (card .entry)) (now (limits .entry)) sheet count) r
+        (now (map .exit)) (now (summary .exit)) (now (catalogue .exit)) (now (card .exit)) ⌝ }
 {
-    let outcome = role_calls::summary::grow_with_summary(
+    let outcome = shape.grow_with_summary(
         role,
-        shape,
         map,
         summary,
         catalogue,
@@ -171,17 +169,11 @@ pub extern "C" fn pagunlit_release_with_summary(
     catalogue: &mut [Entry],
     sheet: u32,
 ) -> Reply
-    ensures { λ r. ⌜ ReleasesBy replyOf role shape (now (map .entry)) (now (summary .entry)) (now (catalogue .entry)) sheet r
-        (now (map .exit)) (now (summary .exit)) (now (catalogue .exit)) ⌝ }
+    ensures { λ r. ⌜ LeavesMapSummaryEntries replyOf (releaseWithSummaryEnd shape role (now (map .entry))
+        (now (summary .entry)) (now (catalogue .entry)) sheet) r (now (map .exit)) (now (summary .exit))
+        (now (catalogue .exit)) ⌝ }
 {
-    let outcome = role_calls::summary::release_with_summary(
-        role,
-        shape,
-        map,
-        summary,
-        catalogue,
-        sheet,
-    );
+    let outcome = shape.release_with_summary(role, map, summary, catalogue, sheet);
     reply_of(outcome)
 }
 
@@ -195,18 +187,10 @@ pub extern "C" fn pagunlit_close_with_summary(
     card: &mut [u8],
     scratch: &mut [u64],
 ) -> Reply
-    ensures { λ r. ⌜ ClosesBy replyOf role shape (now (map .entry)) (now (summary .entry)) (now (catalogue .entry))
-        (now (card .entry)) (now (scratch .entry)) r (now (map .exit)) (now (summary .exit)) (now (catalogue .exit))
-        (now (card .exit)) (now (scratch .exit)) ⌝ }
+    ensures { λ r. ⌜ LeavesMapSummaryEntriesCardScratch replyOf (closeWithSummaryEnd shape role (now (map .entry))
+        (now (summary .entry)) (now (catalogue .entry)) (now (card .entry)) (now (scratch .entry))) r (now (map .exit))
+        (now (summary .exit)) (now (catalogue .exit)) (now (card .exit)) (now (scratch .exit)) ⌝ }
 {
-    let outcome = role_calls::summary::close_with_summary(
-        role,
-        shape,
-        map,
-        summary,
-        catalogue,
-        card,
-        scratch,
-    );
+    let outcome = shape.close_with_summary(role, map, summary, catalogue, card, scratch);
     reply_of(outcome)
 }

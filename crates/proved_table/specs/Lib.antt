@@ -1,2 +1,3 @@
--- The theorem that document 01 asks for.
+-- The theorem that document 01 asks for, and the figures of a worked block in it.
 pub mod Table
+pub mod WorkedSums

@@ -1,4 +1,5 @@
--- Document 01's "Table to be proved": one theorem, `table`, with its ten rows and the three figures that are also there.
+-- Document 01's "Table to be proved": one theorem, `table`, with its ten rows and the three figures that are also there;
+-- and of a block besides whose sums pass 65,521.
 -- Assumes nothing.
 use mathlib.Core.Path.{_≡_, refl}
 use mathlib.Core.Bool.{Bool, true, false, _||_}
@@ -16,6 +17,7 @@ use Rattle.image_frames.specs.Frames.{frames}
 use Rattle.image_frames.specs.Numbers.{bytes8, wordBytes}
 use Rattle.image_soundness.specs.Sound.{State}
 use Rattle.image.specs.Image.{entryBytes, body, imageOf}
+use Rattle.proved_table.specs.WorkedSums.{worked-sheet, worked-place, worked-byte, worked-A, worked-B}
 
 -- The answer of a search for k in a card of n blocks, with a map of w words and block b free where f b.
 abbrev pub answer : ℕ → ℕ → (ℕ → Bool) → ℕ → Found
@@ -44,6 +46,8 @@ pub record Table : Type 0 where
   pub fresh-length : length (imageOf freshState) ≡ 512
   pub fresh-A : numberAt (imageOf freshState) 504 ≡ 2236
   pub fresh-B : numberAt (imageOf freshState) 508 ≡ 3003
+  -- a block whose A is 65,521 less than without a modulus, and whose B more than that: no other modulus gives both
+  pub worked : sums 1 0 (front worked-sheet worked-place (replicate 496 worked-byte)) ≡ (worked-A, worked-B)
 
 pub table : Table
 unfolding leastFit mapOf freshMap free sums bytes4 numberAt sealed frames body entryBytes wordBytes bytes8 imageOf
@@ -63,4 +67,5 @@ table = record {
   fresh-length = refl;
   fresh-A = refl;
   fresh-B = refl;
+  worked = refl;
 }

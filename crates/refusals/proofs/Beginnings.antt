@@ -52,19 +52,23 @@ module _ (q : Lent) (k : ℕ) where
 
   pub giving-shut : (number : ℕ) → first q ≡ Refused number → givingVerdict q k ≡ refused number
   unfolding givingVerdict viewOn
-  giving-shut number h = closed _ _ _ _ _ number h
+  giving-shut number h = closed _ _ _ _ _ _ number h
+
+  pub giving-turned : q .turned ≡ true → givingVerdict q k ≡ refused 21
+  unfolding givingVerdict viewOn
+  giving-turned t = stop 21 _ _ t
 
   pub giving-other : (s : Standing) → first q ≡ Stands s → NotAbsent s → givingVerdict q k ≡ refused (rowOf s)
   unfolding givingVerdict viewOn
-  giving-other s h differs = absent-else _ _ _ _ _ s h differs
+  giving-other s h differs = absent-else _ _ _ _ _ _ s h differs
 
   pub giving-nothing : first q ≡ Stands Absent → k ≡ 0 → givingVerdict q k ≡ refused 3
   unfolding givingVerdict viewOn
-  giving-nothing h z = absent-passes _ _ _ _ _ h ∙ stop 3 _ _ (eq-eqb k 0 z)
+  giving-nothing h z = absent-passes _ _ _ _ _ _ h ∙ stop 3 _ _ (eq-eqb k 0 z)
 
   pub giving-passes : first q ≡ Stands Absent → (k ≡ 0 → ⊥) → givingVerdict q k ≡ accepted
   unfolding givingVerdict viewOn
-  giving-passes h z = absent-passes _ _ _ _ _ h ∙ skip 3 _ _ _ (ne-eqb k 0 z) none-left
+  giving-passes h z = absent-passes _ _ _ _ _ _ h ∙ skip 3 _ _ _ (ne-eqb k 0 z) none-left
 
   pub giving-then : (rows : List Row) → firstOf (givingRows rows) ≡ behind (givingVerdict q k) rows
   unfolding givingVerdict
@@ -94,19 +98,23 @@ module _ (q : Lent) (k : ℕ) where
 
   pub adding-shut : (number : ℕ) → first q ≡ Refused number → addingVerdict q k ≡ refused number
   unfolding addingVerdict viewOn
-  adding-shut number h = closed _ _ _ _ _ number h
+  adding-shut number h = closed _ _ _ _ _ _ number h
+
+  pub adding-turned : q .turned ≡ true → addingVerdict q k ≡ refused 21
+  unfolding addingVerdict viewOn
+  adding-turned t = stop 21 _ _ t
 
   pub adding-other : (s : Standing) → first q ≡ Stands s → NotOpen s → addingVerdict q k ≡ refused (rowOf s)
   unfolding addingVerdict viewOn
-  adding-other s h differs = open-else _ _ _ _ _ s h differs
+  adding-other s h differs = open-else _ _ _ _ _ _ s h differs
 
   pub adding-nothing : (start blocks : ℕ) → first q ≡ Stands (Open start blocks) → k ≡ 0 → addingVerdict q k ≡ refused 3
   unfolding addingVerdict viewOn
-  adding-nothing start blocks h z = open-passes _ _ _ _ _ start blocks h ∙ stop 3 _ _ (eq-eqb k 0 z)
+  adding-nothing start blocks h z = open-passes _ _ _ _ _ _ start blocks h ∙ stop 3 _ _ (eq-eqb k 0 z)
 
   pub adding-passes : (start blocks : ℕ) → first q ≡ Stands (Open start blocks) → (k ≡ 0 → ⊥) → addingVerdict q k ≡ accepted
   unfolding addingVerdict viewOn
-  adding-passes start blocks h z = open-passes _ _ _ _ _ start blocks h ∙ skip 3 _ _ _ (ne-eqb k 0 z) none-left
+  adding-passes start blocks h z = open-passes _ _ _ _ _ _ start blocks h ∙ skip 3 _ _ _ (ne-eqb k 0 z) none-left
 
   pub adding-then : (rows : List Row) → firstOf (addingRows rows) ≡ behind (addingVerdict q k) rows
   unfolding addingVerdict

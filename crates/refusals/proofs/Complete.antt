@@ -12,7 +12,7 @@ use Rattle.blocks_of_card.specs.Card.{blockOf}
 use Rattle.block_seals.specs.Sealed.{blank, sound}
 use Rattle.refusals.specs.Effects.{entryOf, outOf, refusalOut, completeVerdict, blankPlace, completeOut}
 use Rattle.catalogue_standings.specs.Searches.{startAt}
-use Rattle.catalogue_standings.specs.Openings.{openedOf, unlessDamaged, rowOf}
+use Rattle.catalogue_standings.specs.Openings.{openedOf, openedFor, unlessDamaged, rowOf}
 use Rattle.catalogue_standings.specs.Rows.{Row, row, Verdict, refused, firstOf, settle}
 use Rattle.catalogue_standings.specs.Standings.{lengthOf}
 use Rattle.refusals.specs.Table.{lowestBlank, tableOf}
@@ -29,10 +29,10 @@ use Rattle.catalogue_standings.proofs.Openings.{NotOpen, closed, opened}
 
 -- ---- no row but the last is 9
 
-pub opening-row : (fits : Bool) (c sheet : ℕ) (s : Standing) (number : ℕ) → openedOf fits c sheet s ≡ Refused number
-    → eqb number 9 ≡ false
+pub opening-row : (turned fits : Bool) (c sheet : ℕ) (s : Standing) (number : ℕ)
+    → openedFor turned fits c sheet s ≡ Refused number → eqb number 9 ≡ false
 unfolding openedOf
-opening-row fits c sheet s number e = go fits (leb c sheet) s e
+opening-row turned fits c sheet s number e = go turned fits (leb c sheet) s e
   where
     is : (row : ℕ) → eqb row 9 ≡ false → Refused row ≡ Refused number → eqb number 9 ≡ false
     is row f e = let same : row ≡ number = cc in ap (λ (k : ℕ). eqb k 9) (sym same) ∙ f
@@ -40,16 +40,18 @@ opening-row fits c sheet s number e = go fits (leb c sheet) s e
     never : (s : Standing) → Stands s ≡ Refused number → ⊥
     never s e = let z : _≡_ {A = ℕ} 0 1 = cc in omega arith
 
-    go : (fits late : Bool) (s : Standing) → cond fits (cond late (Refused 2) (unlessDamaged s)) (Refused 1) ≡ Refused number
+    go : (turned fits late : Bool) (s : Standing)
+        → cond turned (Refused 21) (cond fits (cond late (Refused 2) (unlessDamaged s)) (Refused 1)) ≡ Refused number
         → eqb number 9 ≡ false
-    go false late s e = is 1 refl e
-    go true true s e = is 2 refl e
-    go true false Absent e = absurd (never Absent e)
-    go true false Paused e = absurd (never Paused e)
-    go true false (PausedWith a b) e = absurd (never (PausedWith a b) e)
-    go true false (Open a b) e = absurd (never (Open a b) e)
-    go true false (Complete a b) e = absurd (never (Complete a b) e)
-    go true false Damaged e = is 4 refl e
+    go true fits late s e = is 21 refl e
+    go false false late s e = is 1 refl e
+    go false true true s e = is 2 refl e
+    go false true false Absent e = absurd (never Absent e)
+    go false true false Paused e = absurd (never Paused e)
+    go false true false (PausedWith a b) e = absurd (never (PausedWith a b) e)
+    go false true false (Open a b) e = absurd (never (Open a b) e)
+    go false true false (Complete a b) e = absurd (never (Complete a b) e)
+    go false true false Damaged e = is 4 refl e
 
 pub standing-row : (s : Standing) → eqb (rowOf s) 9 ≡ false
 standing-row Absent = refl
@@ -85,11 +87,11 @@ module _ (q : Lent) where
 
   pub shut : (number : ℕ) → first q ≡ Refused number → verdict ≡ refused number
   unfolding completeVerdict viewOn tableOf
-  shut number h = closed _ _ _ _ _ number h
+  shut number h = closed _ _ _ _ _ _ number h
 
   pub other : (s : Standing) → first q ≡ Stands s → NotOpen s → verdict ≡ refused (rowOf s)
   unfolding completeVerdict viewOn tableOf
-  other s h differs = open-else _ _ _ _ _ s h differs
+  other s h differs = open-else _ _ _ _ _ _ s h differs
 
   -- a place of an extent, and the rows of its blocks: 4, then 9
   abbrev pub blankAt : ℕ → ℕ → Bool
@@ -107,9 +109,9 @@ module _ (q : Lent) where
     pub admitted : verdict ≡ firstOf (rest start blocks)
     unfolding completeVerdict viewOn tableOf
     admitted =
-        open-passes _ _ _ _ _ start blocks opens
+        open-passes _ _ _ _ _ _ start blocks opens
         ∙ ap (λ (s : Standing). firstOf (rest (q .entry .start) (lengthOf s)))
-        (opened (allFits q) (q .sheets) (q .sheet) (standing q) (Open start blocks) [] opens .same)
+        (opened (q .turned) (allFits q) (q .sheets) (q .sheet) (standing q) (Open start blocks) [] opens .same)
         ∙ ap (λ (s : ℕ). firstOf (rest s blocks)) (extent q start blocks opens .starts)
 
     pub lowest-is : startAt (least (blankAt start) 0 blocks) ≡ lowest
@@ -117,4 +119,4 @@ module _ (q : Lent) where
     lowest-is =
         ap (λ (s : ℕ). startAt (least (blankAt s) 0 blocks)) (sym (extent q start blocks opens .starts))
         ∙ ap (λ (s : Standing). startAt (least (blankAt (q .entry .start)) 0 (lengthOf s)))
-        (sym (opened (allFits q) (q .sheets) (q .sheet) (standing q) (Open start blocks) [] opens .same))
+        (sym (opened (q .turned) (allFits q) (q .sheets) (q .sheet) (standing q) (Open start blocks) [] opens .same))

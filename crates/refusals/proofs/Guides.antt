@@ -9,7 +9,7 @@ use lib.ListN.{length}
 use borrow.Author.Tests.{le-leb}
 use Rattle.laws.proofs.Bools.{and-left, and-right, and-both, not-true, clash}
 use Rattle.catalogue_standings.specs.Limits.{shapeFits, sheetsFit}
-use Rattle.catalogue_standings.specs.Openings.{openedOf}
+use Rattle.catalogue_standings.specs.Openings.{openedOf, openedFor}
 use Rattle.catalogue_standings.specs.declared.Opened.{Opened}
 use Rattle.catalogue_standings.specs.declared.Opened.the-variants.{Refused}
 use Rattle.catalogue_standings.proofs.Limits.{Fits}
@@ -45,33 +45,38 @@ module _ (q : Lent) where
       go false e = refl
 
   -- where the test fails, row 1 holds; where it passes, the tests behind it decide
-  pub guide-shut : guideTest ≡ false → first q ≡ Refused 1
+  pub guide-shut : q .turned ≡ false → guideTest ≡ false → first q ≡ Refused 1
   unfolding openedOf
-  guide-shut e =
-      ap (λ (x : Bool). openedOf x (q .sheets) (q .sheet) (standing q))
+  guide-shut may e =
+      ap (λ (t : Bool). openedFor t (allFits q) (q .sheets) (q .sheet) (standing q)) may
+      ∙ ap (λ (x : Bool). openedOf x (q .sheets) (q .sheet) (standing q))
       (not-true (allFits q)
       (λ h. clash guideTest (test-holds (few-words (sized q h .shape)) (and-left guides (lengthsFit q) h)) e))
 
-  pub guide-open : (r : Opened) → guideTest ≡ true → r ≡ openedOf (lengthsFit q) (q .sheets) (q .sheet) (standing q)
+  pub guide-open : (r : Opened) → q .turned ≡ false → guideTest ≡ true → r ≡ openedOf (lengthsFit q) (q .sheets) (q .sheet)
+      (standing q)
       → r ≡ first q
-  guide-open r e h =
+  guide-open r may e h =
       h ∙ ap (λ (x : Bool). openedOf (x && lengthsFit q) (q .sheets) (q .sheet) (standing q)) (sym (guides-so e))
+      ∙ sym (ap (λ (t : Bool). openedFor t (allFits q) (q .sheets) (q .sheet) (standing q)) may)
 
   -- the same of a call that is not lent the card
-  pub guide-shut-at : guideTest ≡ false → firstAt q ≡ Refused 1
+  pub guide-shut-at : q .turned ≡ false → guideTest ≡ false → firstAt q ≡ Refused 1
   unfolding openedOf
-  guide-shut-at e =
-      ap (λ (x : Bool). openedOf x (q .sheets) (q .sheet) (standing q))
+  guide-shut-at may e =
+      ap (λ (t : Bool). openedFor t (allFitsAt q) (q .sheets) (q .sheet) (standing q)) may
+      ∙ ap (λ (x : Bool). openedOf x (q .sheets) (q .sheet) (standing q))
       (not-true (allFitsAt q)
       (λ h. clash guideTest (test-holds (few-words (sized-at q h)) (and-left guides _ h)) e))
 
-  pub guide-open-at : (r : Opened) → guideTest ≡ true
+  pub guide-open-at : (r : Opened) → q .turned ≡ false → guideTest ≡ true
       → r ≡ openedOf (shapeFits (q .n) (q .spare) (length (q .map)) && sheetsFit (q .sheets)) (q .sheets) (q .sheet)
       (standing q)
       → r ≡ firstAt q
-  guide-open-at r e h =
+  guide-open-at r may e h =
       h ∙ ap (λ (x : Bool). openedOf (x && (shapeFits (q .n) (q .spare) (length (q .map)) && sheetsFit (q .sheets))) (q .sheets)
       (q .sheet) (standing q)) (sym (guides-so e))
+      ∙ sym (ap (λ (t : Bool). openedFor t (allFitsAt q) (q .sheets) (q .sheet) (standing q)) may)
 
   -- what guides an accepted call has its length
   pub guided-so : guideTest ≡ true → guideFits (q .guided) (q .summary) (length (q .map)) ≡ true

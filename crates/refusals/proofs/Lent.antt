@@ -2,7 +2,7 @@
 -- Assumes nothing.
 use mathlib.Core.Path.{_≡_, sym, ap, _∙_}
 use mathlib.Core.Bool.{Bool, true, false, _&&_}
-use mathlib.Core.List.{[]}
+use mathlib.Core.List.{List, []}
 use Prim.Native.Nat.{ℕ, _*_, _<_}
 use native.Mathlib.Omega.{arith}
 use borrow.Author.Tests.{leb-true, leb-false}
@@ -12,7 +12,8 @@ use Rattle.map_blocks.specs.Blocks.{free}
 use Rattle.laws.proofs.Bools.{and-left, and-right}
 use Rattle.refusals.specs.Guides.{guideFits}
 use Rattle.refusals.specs.Lent.{Lent}
-use Rattle.catalogue_standings.specs.Openings.{openedOf}
+use Rattle.catalogue_standings.specs.Openings.{openedFor}
+use Rattle.catalogue_standings.specs.Rows.{Row}
 use Rattle.catalogue_standings.specs.Standings.{standingOf}
 use Rattle.catalogue_standings.specs.Limits.{shapeFits, sheetsFit}
 use Rattle.catalogue_standings.specs.declared.Opened.{Opened}
@@ -20,7 +21,7 @@ use Rattle.catalogue_standings.specs.declared.Opened.the-variants.{Refused, Sta
 use Rattle.catalogue_standings.specs.declared.Standing.{Standing}
 use Rattle.catalogue_standings.specs.declared.Standing.the-variants.{Open}
 use Rattle.catalogue_standings.proofs.Limits.{Fits, sheet-fits, CardFits, card-fits}
-use Rattle.catalogue_standings.proofs.Openings.{Extent, opened, open-extent}
+use Rattle.catalogue_standings.proofs.Openings.{Extent, Opening, opened, open-extent}
 
 -- row 1 does not hold: the limits of n, and the lengths of map and card
 abbrev pub Sized : Lent → Type 0
@@ -40,7 +41,7 @@ module _ (q : Lent) where
 
   -- what the rows that the call begins with answer
   abbrev pub first : Opened
-  first = openedOf allFits (q .sheets) (q .sheet) standing
+  first = openedFor (q .turned) allFits (q .sheets) (q .sheet) standing
 
   pub sized : allFits ≡ true → Sized q
   sized e = card-fits (q .n) (q .spare) (length (q .map)) (q .sheets) (length (q .card))
@@ -63,7 +64,16 @@ module _ (q : Lent) where
       && (shapeFits (q .n) (q .spare) (length (q .map)) && sheetsFit (q .sheets))
 
   abbrev pub firstAt : Opened
-  firstAt = openedOf allFitsAt (q .sheets) (q .sheet) standing
+  firstAt = openedFor (q .turned) allFitsAt (q .sheets) (q .sheet) standing
+
+  -- what an opening says of what is lent
+  pub opens : (s : Standing) (rows : List Row) → first ≡ Stands s
+      → Opening (q .turned) allFits (q .sheets) (q .sheet) standing s rows
+  opens s rows h = opened (q .turned) allFits (q .sheets) (q .sheet) standing s rows h
+
+  pub opens-at : (s : Standing) (rows : List Row) → firstAt ≡ Stands s
+      → Opening (q .turned) allFitsAt (q .sheets) (q .sheet) standing s rows
+  opens-at s rows h = opened (q .turned) allFitsAt (q .sheets) (q .sheet) standing s rows h
 
   pub sized-at : allFitsAt ≡ true → Fits (q .n) (q .spare) (length (q .map))
   sized-at e =
@@ -77,9 +87,9 @@ module _ (q : Lent) where
   stands-first r s t asked told same = sym asked ∙ told ∙ ap Stands same
 
   pub limits : (s : Standing) → first ≡ Stands s → Sized q
-  limits s h = sized (opened allFits (q .sheets) (q .sheet) standing s [] h .all-fits)
+  limits s h = sized (opens s [] h .all-fits)
 
   pub extent : (start blocks : ℕ) → first ≡ Stands (Open start blocks) → Extent (q .n) (free (q .map)) (q .entry) start blocks
   extent start blocks h =
       open-extent (q .n) (free (q .map)) (q .entry) start blocks
-      (opened allFits (q .sheets) (q .sheet) standing (Open start blocks) [] h .same)
+      (opens (Open start blocks) [] h .same)

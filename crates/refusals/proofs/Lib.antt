@@ -15,9 +15,8 @@ pub mod Put
 pub mod Grow
 pub mod Complete
 pub mod BlankPlaces
+pub mod Turned
 pub mod Marks
-pub mod Pause
-pub mod Resume
 pub mod Release
 pub mod Showing
 pub mod Shares

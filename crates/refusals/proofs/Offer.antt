@@ -56,7 +56,8 @@ module _ (q : Lent) (k : ℕ) where
       let f = free (q .map) in
       let fits : fit f 0 (q .n) 1 k (startAt (foundBy (q .guided) (q .summary) (q .map) g k)) ≡ true = found-fit (q .guided)
       (q .summary) (q .map) g k (omega (arith, eqb-false k 0 (clear 3 rows h .0))) (clear 10 rows h .0) in
-      skip 1 _ _ _ (clear 1 rows h .0)
+      skip 21 _ _ _ (clear 21 rows h .0)
+      (skip 1 _ _ _ (clear 1 rows h .0)
       (skip 2 _ _ _ (clear 2 rows h .0)
       (skip 4 _ _ _ (clear 4 rows h .0)
       (skip 6 _ _ _ (clear 6 rows h .0)
@@ -65,7 +66,7 @@ module _ (q : Lent) (k : ℕ) where
       (skip 3 _ _ _ (clear 3 rows h .0)
       (skip 18 _ _ _ (clear 18 rows h .0)
       (skip 17 _ _ _ (ap not fits)
-      (skip 4 _ _ _ (clear 4 rows h .1 .0) none-left)))))))))
+      (skip 4 _ _ _ (clear 4 rows h .1 .0) none-left))))))))))
 
   -- what the accept then hands back and leaves is what the reserve would have
   module _ (h : reserveVerdict q k plain ≡ accepted) where

@@ -52,24 +52,24 @@ module _ (q : Lent) (place : ℕ) (payload : List ℕ) where
 
   pub shut : {o : Opened} (number : ℕ) → o ≡ first → o ≡ opening.Refused number → verdict ≡ refused number
   unfolding putVerdict viewOn tableOf
-  shut number given told = closed _ _ _ _ _ number (sym given ∙ told)
+  shut number given told = closed _ _ _ _ _ _ number (sym given ∙ told)
 
   pub other : {o : Opened} (s : Standing) → o ≡ first → o ≡ opening.Stands s → NotOpen s
       → verdict ≡ refused (rowOf s)
   unfolding putVerdict viewOn tableOf
   other s given told differs =
-      let x = opened _ _ _ _ s _ (sym given ∙ told) in
+      let x = opened _ _ _ _ _ s _ (sym given ∙ told) in
       x .verdict
       ∙ not-open stands _ (subst NotOpen (sym (x .same)) differs) (x .whole)
       ∙ ap (λ (t : Standing). refused (rowOf t)) (x .same)
 
   module _ (start blocks : ℕ) {o : Opened} (given : o ≡ first) (told : o ≡ opening.Stands (Open start blocks)) where
     pub limits : CardFits (q .n) (q .spare) (length (q .map)) (length (q .card))
-    limits = lent-laws.sized q (opened _ _ _ _ (Open start blocks) [] (sym given ∙ told) .all-fits)
+    limits = lent-laws.sized q (lent-laws.opens q (Open start blocks) [] (sym given ∙ told) .all-fits)
 
     pub extent : Extent (q .n) (free (q .map)) (q .entry) start blocks
     extent = open-extent (q .n) (free (q .map)) (q .entry) start blocks
-        (opened _ _ _ _ (Open start blocks) [] (sym given ∙ told) .same)
+        (lent-laws.opens q (Open start blocks) [] (sym given ∙ told) .same)
 
     pub same-block : withBlock (q .card) (start + place) (sealed (q .sheet) place payload) ≡ written
     same-block = ap (λ (s : ℕ). withBlock (q .card) (s + place) (sealed (q .sheet) place payload)) (sym (extent .starts))
@@ -78,7 +78,7 @@ module _ (q : Lent) (place : ℕ) (payload : List ℕ) where
     pub reached : verdict ≡ firstOf (row 3 (Misplaced blocks place (length payload)) ∷ [])
     unfolding putVerdict viewOn tableOf
     reached =
-        let x = opened _ _ _ _ (Open start blocks) _ (sym given ∙ told) in
+        let x = opened _ _ _ _ _ (Open start blocks) _ (sym given ∙ told) in
         x .verdict
         ∙ is-open stands start blocks _ (x .same)
         ∙ ap (λ (s : Standing). firstOf (row 3 (Misplaced (lengthOf s) place (length payload)) ∷ [])) (x .same)

@@ -74,21 +74,21 @@ module _ (q : Lent) where
 
   pub shut : {o : Opened} (number : ℕ) → o ≡ first → o ≡ Refused number → verdict ≡ refused number
   unfolding releaseVerdict viewAt tableOf
-  shut number given told = closed _ _ _ _ _ number (sym given ∙ told)
+  shut number given told = closed _ _ _ _ _ _ number (sym given ∙ told)
 
   pub absent : {o : Opened} → o ≡ first → o ≡ Stands Absent → verdict ≡ refused 5
   unfolding releaseVerdict viewAt tableOf
   absent given told =
-      let x = opened _ _ _ _ Absent _ (sym given ∙ told) in
+      let x = opened _ _ _ _ _ Absent _ (sym given ∙ told) in
       x .verdict ∙ stop 5 (isAbsent stands) _ (ap isAbsent (x .same))
 
   module _ (s : Standing) {o : Opened} (given : o ≡ first) (told : o ≡ Stands s) where
     -- the limits, and the extent to be freed
     pub limits : Fits (q .n) (q .spare) (length (q .map))
-    limits = lent-laws.sized-at q (opened _ _ _ _ s [] (sym given ∙ told) .all-fits)
+    limits = lent-laws.sized-at q (lent-laws.opens-at q s [] (sym given ∙ told) .all-fits)
 
     pub extent : Inside (q .n) (q .entry) stands
-    extent = inside-of (q .n) (free (q .map)) (q .entry) (opened _ _ _ _ s [] (sym given ∙ told) .whole)
+    extent = inside-of (q .n) (free (q .map)) (q .entry) (lent-laws.opens-at q s [] (sym given ∙ told) .whole)
 
     -- the blocks to be marked lie in the map
     pub in-map : (q .entry .start + q .entry .length ≤ 262144) × (q .entry .start + q .entry .length ≤ 64 * length (q .map))
@@ -101,7 +101,7 @@ module _ (q : Lent) where
       pub over : q .n - q .spare < q .entry .length → verdict ≡ refused 4
       unfolding releaseVerdict viewAt tableOf
       over above =
-          let x = opened _ _ _ _ s _ (sym given ∙ told) in
+          let x = opened _ _ _ _ _ s _ (sym given ∙ told) in
           let below = limits .spare in
           let lasts = extent .lasts in
           x .verdict
@@ -111,7 +111,7 @@ module _ (q : Lent) where
       pub passes : q .entry .length ≤ q .n - q .spare → verdict ≡ accepted
       unfolding releaseVerdict viewAt tableOf
       passes within =
-          let x = opened _ _ _ _ s _ (sym given ∙ told) in
+          let x = opened _ _ _ _ _ s _ (sym given ∙ told) in
           let below = limits .spare in
           let lasts = extent .lasts in
           x .verdict

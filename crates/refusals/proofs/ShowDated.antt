@@ -134,10 +134,11 @@ module _ (q : Lent) (place : ℕ) (date : Date) (buffer : List ℕ) where
   unfolding showDatedVerdict showVerdict viewOn tableOf
   accepted-too h =
       let rows = tableOf (viewOf q) (on (q .sheet) (showDated place date buffer)) in
-      skip 1 _ _ _ (clear 1 rows h .0)
+      skip 21 _ _ _ (clear 21 rows h .0)
+      (skip 1 _ _ _ (clear 1 rows h .0)
       (skip 2 _ _ _ (clear 2 rows h .0)
       (skip 4 _ _ _ (clear 4 rows h .0)
       (skip 5 _ _ _ (clear 5 rows h .0)
       (skip 6 _ _ _ (clear 6 rows h .0)
       (skip 7 _ _ _ (clear 7 rows h .0)
-      (skip 3 _ _ _ (clear 3 rows h .0) (skip 4 _ _ _ (clear 4 rows h .1 .1 .0) none-left)))))))
+      (skip 3 _ _ _ (clear 3 rows h .0) (skip 4 _ _ _ (clear 4 rows h .1 .1 .0) none-left))))))))

@@ -43,33 +43,33 @@ module _ (q : Lent) (place : ℕ) (buffer : List ℕ) where
 
   pub showing-shut : (number : ℕ) → first q ≡ Refused number → showingVerdict q place buffer ≡ refused number
   unfolding showingVerdict viewOn
-  showing-shut number h = closed _ _ _ _ _ number h
+  showing-shut number h = closed _ _ _ _ _ _ number h
 
   pub showing-other : (s : Standing) → first q ≡ Stands s → NotComplete s → showingVerdict q place buffer ≡ refused (rowOf s)
   unfolding showingVerdict viewOn
-  showing-other s h differs = complete-else _ _ _ _ _ s h differs
+  showing-other s h differs = complete-else _ _ _ _ _ _ s h differs
 
   module _ (start blocks : ℕ) (h : first q ≡ Stands (Complete start blocks)) where
     lasts : lengthOf (standing q) ≡ blocks
-    lasts = ap lengthOf (opened (allFits q) (q .sheets) (q .sheet) (standing q) (Complete start blocks) [] h .same)
+    lasts = ap lengthOf (opened (q .turned) (allFits q) (q .sheets) (q .sheet) (standing q) (Complete start blocks) [] h .same)
 
     pub showing-past-end : blocks ≤ place → showingVerdict q place buffer ≡ refused 3
     unfolding showingVerdict viewOn
     showing-past-end b =
-        complete-passes _ _ _ _ _ start blocks h
+        complete-passes _ _ _ _ _ _ start blocks h
         ∙ stop 3 _ _ (beyond (lengthOf (standing q)) place (length buffer) (omega (arith, lasts)))
 
     module _ (listed : place < blocks) where
       pub showing-misfit : (length buffer ≡ 496 → ⊥) → showingVerdict q place buffer ≡ refused 3
       unfolding showingVerdict viewOn
       showing-misfit d =
-          complete-passes _ _ _ _ _ start blocks h
+          complete-passes _ _ _ _ _ _ start blocks h
           ∙ stop 3 _ _ (unsized (lengthOf (standing q)) place (length buffer) (omega (arith, lasts)) d)
 
       pub showing-passes : length buffer ≡ 496 → showingVerdict q place buffer ≡ accepted
       unfolding showingVerdict viewOn
       showing-passes d =
-          complete-passes _ _ _ _ _ start blocks h
+          complete-passes _ _ _ _ _ _ start blocks h
           ∙ skip 3 _ _ _ (placed (lengthOf (standing q)) place (length buffer) (omega (arith, lasts)) d) none-left
 
   -- no row has the number 0

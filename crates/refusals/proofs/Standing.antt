@@ -30,8 +30,8 @@ module _ (q : Lent) where
 
   pub shut : {o : Opened} (number : ℕ) → o ≡ first → o ≡ opening.Refused number → verdict ≡ refused number
   unfolding viewAt tableOf
-  shut number given told = closed _ _ _ _ _ number (sym given ∙ told)
+  shut number given told = closed _ _ _ _ _ _ number (sym given ∙ told)
 
   pub passes : {o : Opened} (s : Standing) → o ≡ first → o ≡ opening.Stands s → verdict ≡ accepted
   unfolding viewAt tableOf
-  passes s given told = opened _ _ _ _ s _ (sym given ∙ told) .verdict ∙ none-left
+  passes s given told = opened _ _ _ _ _ s _ (sym given ∙ told) .verdict ∙ none-left

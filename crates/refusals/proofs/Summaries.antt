@@ -15,7 +15,7 @@ use Rattle.map_blocks.specs.declared.Found.{Found}
 use Rattle.catalogue.specs.declared.Entry.{Entry}
 use Rattle.catalogue_standings.specs.Rows.{Row, row, Verdict, accepted, refused, firstOf, before, settle}
 use Rattle.catalogue_standings.specs.Searches.{none, startAt}
-use Rattle.catalogue_standings.proofs.Openings.{stop}
+use Rattle.catalogue_standings.proofs.Openings.{skip, stop}
 use Rattle.summary.specs.Summary.{summaryLength, ownSummary}
 use Rattle.summary.proofs.Numbers.{own-length}
 use Rattle.summary_search.proofs.Searches.{by-own}
@@ -35,9 +35,9 @@ use Rattle.refusals.proofs.Placement.{figured}
 use Rattle.refusals.proofs.Reserve as reserving
 
 -- row 1 says the same, whatever rows follow
-row-1-same : (t : Bool) (fits : Bool) (rows : List Row) → t ≡ true
-    → firstOf (row 1 (not (t && fits)) ∷ rows) ≡ firstOf (row 1 (not fits) ∷ rows)
-row-1-same t fits rows e = ap (λ (x : Bool). firstOf (row 1 (not (x && fits)) ∷ rows)) e
+row-1-same : (turned t fits : Bool) (rows : List Row) → t ≡ true
+    → firstOf (row 21 turned ∷ row 1 (not (t && fits)) ∷ rows) ≡ firstOf (row 21 turned ∷ row 1 (not fits) ∷ rows)
+row-1-same turned t fits rows e = ap (λ (x : Bool). firstOf (row 21 turned ∷ row 1 (not (x && fits)) ∷ rows)) e
 
 module _ (held : ℕ) (limits summary : List ℕ) (n spare : ℕ) (map card : List ℕ) (c : ℕ) (e : Entry) (sheet : ℕ) where
   -- with the summary, and without
@@ -53,15 +53,15 @@ module _ (held : ℕ) (limits summary : List ℕ) (n spare : ℕ) (map card : Li
 
     pub giving-same : (k : ℕ) → givingVerdict withIt k ≡ givingVerdict without k
     unfolding givingVerdict viewOn
-    giving-same k = row-1-same (guideFits true summary (length map)) (lengthsFit without) _ fits
+    giving-same k = row-1-same false (guideFits true summary (length map)) (lengthsFit without) _ fits
 
     pub adding-same : (k : ℕ) → addingVerdict withIt k ≡ addingVerdict without k
     unfolding addingVerdict viewOn
-    adding-same k = row-1-same (guideFits true summary (length map)) (lengthsFit without) _ fits
+    adding-same k = row-1-same false (guideFits true summary (length map)) (lengthsFit without) _ fits
 
     pub unsearched-same : (k : ℕ) (p : Placement) → unsearchedVerdict withIt k p ≡ unsearchedVerdict without k p
     unfolding unsearchedVerdict viewOn before tableOf
-    unsearched-same k p = row-1-same (guideFits true summary (length map)) (lengthsFit without) _ fits
+    unsearched-same k p = row-1-same false (guideFits true summary (length map)) (lengthsFit without) _ fits
 
     pub accept-same : (start k : ℕ) → acceptVerdict withIt start k ≡ acceptVerdict without start k
     accept-same start k =
@@ -77,16 +77,16 @@ module _ (held : ℕ) (limits summary : List ℕ) (n spare : ℕ) (map card : Li
 
     pub release-same : releaseVerdict withIt ≡ releaseVerdict without
     unfolding releaseVerdict viewAt tableOf
-    release-same = row-1-same (guideFits true summary (length map)) _ _ fits
+    release-same = row-1-same false (guideFits true summary (length map)) _ _ fits
 
   -- a summary of the wrong length is 1
   module _ (short : length summary ≡ summaryLength (length map) → ⊥) where
     misfits : guideFits true summary (length map) ≡ false
     misfits = ne-eqb (length summary) (summaryLength (length map)) short
 
-    row-1 : (fits : Bool) (rows : List Row) → firstOf (row 1 (not (guideFits true summary (length map) && fits)) ∷ rows) ≡
-        refused 1
-    row-1 fits rows = stop 1 _ rows (ap (λ (x : Bool). not (x && fits)) misfits)
+    row-1 : (fits : Bool) (rows : List Row)
+        → firstOf (row 21 false ∷ row 1 (not (guideFits true summary (length map) && fits)) ∷ rows) ≡ refused 1
+    row-1 fits rows = skip 21 _ _ _ refl (stop 1 _ rows (ap (λ (x : Bool). not (x && fits)) misfits))
 
     giving-1 : (k : ℕ) → givingVerdict withIt k ≡ refused 1
     unfolding givingVerdict viewOn

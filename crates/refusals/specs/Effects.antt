@@ -13,14 +13,15 @@ use Rattle.map_blocks.specs.Blocks.{fit}
 use Rattle.map_blocks.specs.Maps.{marked}
 use Rattle.blocks_of_card.specs.Card.{blockOf, withBlock, zeroed}
 use Rattle.block_seals.specs.Sealed.{sealed, payloadOf}
-use Rattle.catalogue.specs.Entries.{absent, pausedMark, openMark, completeMark}
+use Rattle.catalogue.specs.Entries.{absent, openMark, completeMark}
 use Rattle.catalogue.specs.declared.Entry.{Entry}
 use Rattle.catalogue_standings.specs.Rows.{row, Verdict, firstOf, before, settle}
 use Rattle.catalogue_standings.specs.Searches.{startAt, startWithSpace}
 use Rattle.refusals.specs.Guides.{foundBy, guideAfter}
 use Rattle.refusals.specs.Lent.{Lent}
 use Rattle.refusals.specs.Placement.{Placement, plain, figuresIn}
-use Rattle.refusals.specs.Table.{on, reserve, put, grow, complete, pause, resume, release, show, standing, lowestBlank}
+use Rattle.refusals.specs.Table.{on, reserve, put, grow, complete, Change, change, markAfter, release, show, standing}
+use Rattle.refusals.specs.Table.{lowestBlank}
 use Rattle.refusals.specs.Table.{offer, accept, showDated, opening, giving, adding, showing, termRows, tableOf, verdictOf}
 use Rattle.refusals.specs.Views.{viewAt, viewOn}
 use Rattle.catalogue_standings.specs.declared.Answer.{Answer}
@@ -186,25 +187,14 @@ module _ (q : Lent) where
       (λ number. outOf (q .spare) (q .entry) (cond (eqb number 9) (Blank blankPlace) (Refused number)))
 
 module _ (q : Lent) where
-  -- Pause: the mark becomes Paused; start and length remain, 0 and 0 of an Absent sheet and the extent of a Complete one
-  -- (document 02 (g)).
-  unfoldable pub pauseVerdict : Verdict
+  -- Pause and resume: the mark changes; start and length remain, 0 and 0 of an Absent sheet (document 02 (g)).
+  unfoldable pub changeVerdict : Change → Verdict
   unfolding viewAt
-  pauseVerdict = verdictOf (viewAt q) (on (q .sheet) pause)
+  changeVerdict c = verdictOf (viewAt q) (on (q .sheet) (change c))
 
-  unfoldable pub pauseOut : Out
-  unfolding pauseVerdict
-  pauseOut = settle pauseVerdict (outOf (q .spare) (entryOf pausedMark (q .entry .start) (q .entry .length)) Done)
-      (refusalOut (q .spare) (q .entry))
-
-  -- Resume: a Paused sheet with blocks becomes Complete (document 02 (g)).
-  unfoldable pub resumeVerdict : Verdict
-  unfolding viewAt
-  resumeVerdict = verdictOf (viewAt q) (on (q .sheet) resume)
-
-  unfoldable pub resumeOut : Out
-  unfolding resumeVerdict
-  resumeOut = settle resumeVerdict (outOf (q .spare) (entryOf completeMark (q .entry .start) (q .entry .length)) Done)
+  unfoldable pub changeOut : Change → Out
+  unfolding changeVerdict
+  changeOut c = settle (changeVerdict c) (outOf (q .spare) (entryOf (markAfter c) (q .entry .start) (q .entry .length)) Done)
       (refusalOut (q .spare) (q .entry))
 
   -- Release: any standing but Absent becomes Absent, its blocks free; the card's bytes stay.

@@ -20,6 +20,8 @@ pub record Lent : Type 0 where
   pub summary : List ℕ
   pub held : ℕ
   pub limits : List ℕ
+  -- whoever calls may not make this call
+  pub turned : Bool
 
 -- For a call that takes no blocks.
 abbrev pub lentBeside : Bool → List ℕ → ℕ → ℕ → List ℕ → List ℕ → ℕ → Entry → ℕ → Lent
@@ -35,6 +37,7 @@ lentBeside guided summary n spare map card c e sheet = record {
   summary = summary;
   held = 0;
   limits = [];
+  turned = false;
 }
 
 -- The same, within limits.
@@ -51,11 +54,29 @@ within held limits q = record {
   summary = q .summary;
   held = held;
   limits = limits;
+  turned = q .turned;
 }
 
 abbrev pub lentWithin : ℕ → List ℕ → Bool → List ℕ → ℕ → ℕ → List ℕ → List ℕ → ℕ → Entry → ℕ → Lent
 lentWithin held limits guided summary n spare map card c e sheet =
     within held limits (lentBeside guided summary n spare map card c e sheet)
+
+-- The same of one who may make the call, or may not.
+abbrev pub calledBy : Bool → Lent → Lent
+calledBy turned q = record {
+  n = q .n;
+  spare = q .spare;
+  map = q .map;
+  card = q .card;
+  sheets = q .sheets;
+  entry = q .entry;
+  sheet = q .sheet;
+  guided = q .guided;
+  summary = q .summary;
+  held = q .held;
+  limits = q .limits;
+  turned = turned;
+}
 
 -- For one that is lent no summary.
 abbrev pub lent : ℕ → ℕ → List ℕ → List ℕ → ℕ → Entry → ℕ → Lent

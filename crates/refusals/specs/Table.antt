@@ -1,10 +1,11 @@
--- The table of refusals (document 01, "What the caller gets instead"): for each call its rows, in the order 1, 2, 4 for the
--- entry, 5 to 8, 3, 15 (document 02, request a), 18 (request k), 19 (request m), 4 for blocks, with 20 between place 0 and the
+-- The table of refusals (document 01, "What the caller gets instead"): for each call its rows, in the order 21
+-- (document 02, request n), 1, 2, 4 for the entry, 5 to 8, 3, 15 (document 02, request a), 18 (request k), 19 (request m), 4
+-- for blocks, with 20 between place 0 and the
 -- place wanted (request m), 9, 10, 11 or 17 (request f), and last 4 for the count. A call is refused with the first row that
 -- holds.
 -- Assumes nothing.
 use Prim.Native.Nat.{ℕ, _+_}
-use mathlib.Core.Bool.{Bool, not, _||_}
+use mathlib.Core.Bool.{Bool, true, false, not, _&&_, _||_}
 use mathlib.Core.List.{List, [], _∷_}
 use lib.Dec.{eqb, leb, ltb}
 use lib.ListN.{length}
@@ -14,12 +15,27 @@ use Rattle.map_blocks.specs.Blocks.{all, fit, least, leastFit}
 use Rattle.map_blocks.specs.declared.Found.{Found}
 use Rattle.refusals.specs.Placement.{Placement, plain, figuresIn, misfigured}
 use Rattle.refusals.specs.Shares.{overLimit}
+use Rattle.refusals.specs.declared.Admits.{Admits}
 use Rattle.refusals.specs.declared.Figures.{Figures}
+use Rattle.catalogue.specs.Entries.{pausedMark, completeMark}
 use Rattle.catalogue_standings.specs.Searches.{none, startAt}
 use Rattle.catalogue_standings.specs.Rows.{Row, row, Verdict, firstOf}
 use Rattle.catalogue_standings.specs.Standings.{isAbsent, isPaused, isPausedWithout, isOpen, isComplete, isDamaged}
 use Rattle.catalogue_standings.specs.Standings.{startOf, lengthOf}
 use Rattle.catalogue_standings.specs.declared.Standing.{Standing}
+
+-- The calls that change the mark of an entry and nothing else of a card.
+pub data Change : Type 0 where
+  pause resume : Change
+
+-- Which standings each admits (document 01; document 02 (g)), and the mark that it leaves.
+abbrev pub admitsOf : Change → Admits
+admitsOf pause = record { absent = true; paused = false; pausedwith = false; «open» = false; complete = true }
+admitsOf resume = record { absent = false; paused = false; pausedwith = true; «open» = false; complete = false }
+
+abbrev pub markAfter : Change → ℕ
+markAfter pause = pausedMark
+markAfter resume = completeMark
 
 -- What is asked of a sheet. A reserve of k blocks is plain or placed. With each call that takes blocks, or would, go the limits
 -- of the eight wings (document 02 (k)).
@@ -28,8 +44,7 @@ pub data Ask : Type 0 where
   put : ℕ → List ℕ → Ask
   grow : List ℕ → ℕ → Ask
   complete : Ask
-  pause : Ask
-  resume : Ask
+  change : Change → Ask
   release : Ask
   show : ℕ → List ℕ → Ask
   standing : Ask
@@ -39,6 +54,10 @@ pub data Ask : Type 0 where
   -- of document 02 (m): a show of a place on a date
   showDated : ℕ → Date → List ℕ → Ask
 
+-- a pause with blocks
+abbrev isPausedWith : Standing → Bool
+isPausedWith s = isPaused s && not (isPausedWithout s)
+
 -- A call for a sheet: something is asked of it.
 pub data SheetCall : Type 0 where
   on : ℕ → Ask → SheetCall
@@ -46,6 +65,8 @@ pub data SheetCall : Type 0 where
 -- What the rows read, for the sheet that is called for. The program's view is of shape, map, entry and card; the ledger's
 -- is of the ledger.
 pub record View : Type 0 where
+  -- row 21: whoever calls may not make this call (document 02 (n))
+  pub turned : Bool
   -- row 1: a limit or a lent length is wrong
   pub misfit : Bool
   -- n, c and the free count
@@ -79,9 +100,18 @@ openRow v = row 7 (isOpen (v .stands))
 abbrev pub completeRow : View → Row
 completeRow v = row 8 (isComplete (v .stands))
 
--- Rows 1, 2 and 4 for the entry, before the rows of the call.
+-- Rows 5 to 8 of a call that changes the mark: for what it does not admit.
+abbrev pub refusing : Admits → View → List Row
+refusing a v =
+    let s = v .stands in
+    row 5 (isAbsent s && not (a .absent))
+    ∷ row 6 (isPausedWithout s && not (a .paused) || isPausedWith s && not (a .pausedwith))
+    ∷ row 7 (isOpen s && not (a .open)) ∷ row 8 (isComplete s && not (a .complete)) ∷ []
+
+-- Rows 21, 1, 2 and 4 for the entry, before the rows of the call.
 abbrev pub opening : View → ℕ → List Row → List Row
-opening v sheet rows = row 1 (v .misfit) ∷ row 2 (leb (v .sheets) sheet) ∷ row 4 (isDamaged (v .stands)) ∷ rows
+opening v sheet rows =
+    row 21 (v .turned) ∷ row 1 (v .misfit) ∷ row 2 (leb (v .sheets) sheet) ∷ row 4 (isDamaged (v .stands)) ∷ rows
 
 -- Rows 6 to 8 and 3 of a call that gives k blocks to an Absent sheet, before its own.
 abbrev pub giving : View → ℕ → List Row → List Row
@@ -141,8 +171,7 @@ rowsFor v (grow limits m) =
 rowsFor v complete =
     absentRow v ∷ pausedRow v ∷ completeRow v ∷ row 4 (not (everyPlace v (λ p. v .blank p || v .sound p)))
     ∷ row 9 (not (everyPlace v (λ p. not (v .blank p)))) ∷ []
-rowsFor v pause = pausedRow v ∷ openRow v ∷ []
-rowsFor v resume = absentRow v ∷ row 6 (isPausedWithout (v .stands)) ∷ openRow v ∷ completeRow v ∷ []
+rowsFor v (change c) = refusing (admitsOf c) v
 rowsFor v release = absentRow v ∷ row 4 (ltb (v .blocks) (v .spare + lengthOf (v .stands))) ∷ []
 rowsFor v (show place buffer) = showing v place buffer (row 4 (not (v .sound place)) ∷ [])
 rowsFor v (showDated place date buffer) =

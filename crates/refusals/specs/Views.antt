@@ -19,6 +19,7 @@ use Rattle.refusals.specs.Table.{View}
 unfoldable pub viewAt : Lent → View
 unfolding shapeFits sheetsFit
 viewAt q = record {
+  turned = q .turned;
   misfit = not (guideFits (q .guided) (q .summary) (length (q .map))
       && (shapeFits (q .n) (q .spare) (length (q .map)) && sheetsFit (q .sheets)));
   blocks = q .n;
@@ -38,6 +39,7 @@ viewAt q = record {
 unfoldable pub viewOn : Lent → View
 unfolding shapeFits sheetsFit
 viewOn q = record {
+  turned = q .turned;
   misfit = not (guideFits (q .guided) (q .summary) (length (q .map))
       && (shapeFits (q .n) (q .spare) (length (q .map)) && sheetsFit (q .sheets) && eqb (length (q .card)) (512 * q .n)));
   blocks = q .n;

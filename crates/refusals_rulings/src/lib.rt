@@ -4,7 +4,9 @@ ghost use mathlib.Core.Path.{_≡_};
 ghost use Prim.Native.Nat.{_+_, _*_, _≤_};
 ghost use lib.ListN.{length};
 ghost use Rattle.map_blocks.specs.Blocks;
-ghost use Rattle.refusals.specs.Lent.{lentBeside, lentWithin};
+ghost use Rattle.refusals.specs.Lent.{lentBeside, lentWithin, calledBy};
+ghost use Rattle.roles.specs.Roles as names;
+ghost use Rattle.roles.specs.Roles.{turnedAway};
 ghost use Rattle.refusals.specs.Placement.{placed};
 ghost use Rattle.catalogue_standings.specs.Rows.{rowNumber};
 ghost use Rattle.refusals.specs.Effects.{givingVerdict, addingVerdict, runVerdict, unsearchedVerdict, reserveVerdict};
@@ -23,6 +25,8 @@ use refusals_runs::figures_wrong;
 use refusals_runs::find_run;
 use refusals_runs::over_limit;
 use refusals_runs::run_is_free;
+use roles::TURNED_AWAY;
+use roles::turned_away;
 
 // Where the blocks that a call takes start, or the number of the refusal.
 pub enum Ruling {
@@ -64,6 +68,31 @@ fn giving_row(
     0
 }
 
+// The same behind 21, for a role and the call's name (document 02 (n)).
+fn enter_giving(
+    role: u32,
+    call: u32,
+    n: u32,
+    free: u32,
+    map: &[u64],
+    guided: bool,
+    summary: &[u32],
+    card: &[u8],
+    c: usize,
+    entry: Entry,
+    sheet: u32,
+    k: u32,
+) -> u32
+    ensures { λ r. let q = lentBeside guided (now (summary .entry)) n free (now (map .entry)) (now (card .entry)) c entry sheet
+        in
+        ⌜ r ≡ rowNumber (givingVerdict (calledBy (turnedAway role call) q) k) ⌝ }
+{
+    if turned_away(role, call) {
+        return TURNED_AWAY;
+    }
+    giving_row(n, free, map, guided, summary, card, c, entry, sheet, k)
+}
+
 // The same of a call that adds m blocks to an Open sheet: 1, 2, 4 for the entry, 5, 6, 8 and 3.
 fn adding_row(
     n: u32,
@@ -97,8 +126,35 @@ fn adding_row(
     0
 }
 
+// The same behind 21, for a role and the call's name (document 02 (n)).
+fn enter_adding(
+    role: u32,
+    call: u32,
+    n: u32,
+    free: u32,
+    map: &[u64],
+    guided: bool,
+    summary: &[u32],
+    card: &[u8],
+    c: usize,
+    entry: Entry,
+    sheet: u32,
+    m: u32,
+) -> u32
+    ensures { λ r. let q = lentBeside guided (now (summary .entry)) n free (now (map .entry)) (now (card .entry)) c entry sheet
+        in
+        ⌜ r ≡ rowNumber (addingVerdict (calledBy (turnedAway role call) q) m) ⌝ }
+{
+    if turned_away(role, call) {
+        return TURNED_AWAY;
+    }
+    adding_row(n, free, map, guided, summary, card, c, entry, sheet, m)
+}
+
 // The rows of a reserve before its search: those that giving begins with, 15 and 18. The first that holds, or 0.
 fn reserve_row(
+    role: u32,
+    call: u32,
     n: u32,
     free: u32,
     map: &[u64],
@@ -113,11 +169,25 @@ fn reserve_row(
     k: u32,
     figures: Figures,
 ) -> u32
-    ensures { λ r. let q = lentWithin held (now (limits .entry)) guided (now (summary .entry)) n free (now (map .entry))
-        (now (card .entry)) c entry sheet in
+    ensures { λ r. let q = calledBy (turnedAway role call) (lentWithin held (now (limits .entry)) guided (now (summary .entry))
+        n free (now (map .entry))
+        (now (card .entry)) c entry sheet) in
         ⌜ r ≡ rowNumber (unsearchedVerdict q k (placed figures)) ⌝ }
 {
-    let row = giving_row(n, free, map, guided, summary, card, c, entry, sheet, k);
+    let row = enter_giving(
+        role,
+        call,
+        n,
+        free,
+        map,
+        guided,
+        summary,
+        card,
+        c,
+        entry,
+        sheet,
+        k,
+    );
     if row != 0 {
         return row;
     }
@@ -132,6 +202,8 @@ fn reserve_row(
 
 // The least fit within the figures, or the row that refuses the call.
 pub fn reserve_ruling(
+    role: u32,
+    call: u32,
     n: u32,
     free: u32,
     map: &[u64],
@@ -146,11 +218,14 @@ pub fn reserve_ruling(
     k: u32,
     figures: Figures,
 ) -> Ruling
-    ensures { λ r. let q = lentWithin held (now (limits .entry)) guided (now (summary .entry)) n free (now (map .entry))
-        (now (card .entry)) c entry sheet in
+    ensures { λ r. let q = calledBy (turnedAway role call) (lentWithin held (now (limits .entry)) guided (now (summary .entry))
+        n free (now (map .entry))
+        (now (card .entry)) c entry sheet) in
         ⌜ r ≡ rulingOf (reserveVerdict q k (placed figures)) (reserveStart q k (placed figures)) ⌝ }
 {
     let row = reserve_row(
+        role,
+        call,
         n,
         free,
         map,
@@ -198,6 +273,7 @@ fn run_ruling(n: u32, free: u32, map: &[u64], start: u32, k: u32, over: bool, nu
 
 // The start that is asked for, or the row that refuses the call.
 pub fn accept_ruling(
+    role: u32,
     n: u32,
     free: u32,
     map: &[u64],
@@ -212,11 +288,25 @@ pub fn accept_ruling(
     start: u32,
     k: u32,
 ) -> Ruling
-    ensures { λ r. let q = lentWithin held (now (limits .entry)) guided (now (summary .entry)) n free (now (map .entry))
-        (now (card .entry)) c entry sheet in
+    ensures { λ r. let q = calledBy (turnedAway role names.accept) (lentWithin held (now (limits .entry)) guided (now (summary
+        .entry)) n free (now (map .entry))
+        (now (card .entry)) c entry sheet) in
         ⌜ r ≡ rulingOf (acceptVerdict q start k) start ⌝ }
 {
-    let row = giving_row(n, free, map, guided, summary, card, c, entry, sheet, k);
+    let row = enter_giving(
+        role,
+        roles::ACCEPT,
+        n,
+        free,
+        map,
+        guided,
+        summary,
+        card,
+        c,
+        entry,
+        sheet,
+        k,
+    );
     if row != 0 {
         return Ruling::Refused(row);
     }
@@ -226,6 +316,7 @@ pub fn accept_ruling(
 
 // The end of the extent, or the row that refuses the call.
 pub fn grow_ruling(
+    role: u32,
     n: u32,
     free: u32,
     map: &[u64],
@@ -239,11 +330,25 @@ pub fn grow_ruling(
     limits: &[u32; 8],
     m: u32,
 ) -> Ruling
-    ensures { λ r. let q = lentWithin held (now (limits .entry)) guided (now (summary .entry)) n free (now (map .entry))
-        (now (card .entry)) c entry sheet in
+    ensures { λ r. let q = calledBy (turnedAway role names.grow) (lentWithin held (now (limits .entry)) guided (now (summary
+        .entry)) n free (now (map .entry))
+        (now (card .entry)) c entry sheet) in
         ⌜ r ≡ rulingOf (growVerdict q m) (entry .start + entry .length) ⌝ }
 {
-    let row = adding_row(n, free, map, guided, summary, card, c, entry, sheet, m);
+    let row = enter_adding(
+        role,
+        roles::GROW,
+        n,
+        free,
+        map,
+        guided,
+        summary,
+        card,
+        c,
+        entry,
+        sheet,
+        m,
+    );
     if row != 0 {
         return Ruling::Refused(row);
     }

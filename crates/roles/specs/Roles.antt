@@ -2,7 +2,7 @@
 -- take no role, so they have no name here.
 -- Assumes nothing.
 use Prim.Native.Nat.{ℕ}
-use mathlib.Core.Bool.{Bool, true, false, _||_, cond}
+use mathlib.Core.Bool.{Bool, true, false, not, _||_, cond}
 use mathlib.Core.List.{List, [], _∷_}
 use lib.Dec.{eqb}
 
@@ -98,3 +98,7 @@ may role call =
     cond (eqb role pharmacist) true
     (cond (eqb role carer) (carerMay call)
     (cond (eqb role service) (serviceMay call) false))
+
+-- "21 for an unknown role or a call not in its row".
+abbrev pub turnedAway : ℕ → ℕ → Bool
+turnedAway role call = not (may role call)

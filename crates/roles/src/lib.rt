@@ -110,3 +110,10 @@ pub fn may(role: u32, call: u32) -> bool
     }
     false
 }
+
+// Whether a call is turned away by role: row 21 of every call.
+pub fn turned_away(role: u32, call: u32) -> bool
+    ensures { λ r. ⌜ r ≡ table.turnedAway role call ⌝ }
+{
+    !may(role, call)
+}

@@ -1,17 +1,16 @@
 -- The map's own summary: every group is right. What the walks over all groups come to.
 -- Assumes nothing.
-use mathlib.Core.Path.{_≡_, sym, _∙_, subst}
+use mathlib.Core.Path.{_≡_, sym, subst}
 use mathlib.Core.Bool.{Bool, true, false}
 use mathlib.Core.List.{List}
 use Prim.Native.Nat.{ℕ, _+_, _*_, _<_}
-use native.Mathlib.Omega.{arith}
 use lib.ListN.{length}
 use Rattle.laws.proofs.Bools.{not-true}
 use Rattle.summary_groups.specs.Groups.{power}
 use Rattle.summary_groups.specs.Places.{Sited}
 use Rattle.summary_groups.proofs.Places.{power-power, power-small, below-zero, sited-zero}
 use Rattle.summary.specs.Summary.{groupIn, groupAt, usable, ownSummary, isOwn, Matched}
-use Rattle.summary.specs.Walks.{RightFrom, RightBelow, Decides}
+use Rattle.summary.specs.Walks.{RightBelow, Decides}
 use Rattle.summary.proofs.Numbers.{summary-at, summary-only, is-own, own-is}
 
 pub own-right : (map : List ℕ) (n : ℕ) (s : List ℕ) → s ≡ ownSummary map n → (h : ℕ) → h + 1 < 2 * power (length map)
@@ -31,12 +30,6 @@ module _ (map : List ℕ) (n : ℕ) (s : List ℕ) (lent : Matched map n s) wher
   decided true d = sym (own-is map n s (right-own (d .0 mathlib.Core.Path.refl)))
   decided false d =
       sym (not-true (isOwn map n s) (λ e. d .1 mathlib.Core.Path.refl (λ h l b. own-right map n s (is-own map n s e) h l)))
-
--- every group from 0 on is right
-pub all-own : (map : List ℕ) (n : ℕ) (s s′ : List ℕ) → Matched map n s → length s′ ≡ length s
-    → RightFrom (usable map n) (power (length map)) s′ 0 → s′ ≡ ownSummary map n
-all-own map n s s′ lent e r =
-    right-own map n s′ (record { few = lent .few; fits = lent .fits; long = e ∙ lent .long }) (λ h l b. r h (omega arith) l)
 
 -- group 0 is all words
 pub sited-whole : (map : List ℕ) (n : ℕ) (s : List ℕ) (p : ℕ) → Matched map n s → p ≡ power (length map)

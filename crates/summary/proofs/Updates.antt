@@ -9,8 +9,8 @@ use native.Mathlib.Nat.{zero-add}
 use native.Mathlib.Omega.{arith}
 use lib.Dec.{eqb, leb, ltb}
 use lib.ListN.{length}
-use borrow.Author.Tests.{eq-eqb, ne-eqb, lt-ltb, le-ltb, lt-leb}
-use Rattle.laws.proofs.Bools.{order, clash, and-both}
+use borrow.Author.Tests.{eq-eqb, ne-eqb, le-ltb, lt-leb}
+use Rattle.laws.proofs.Bools.{order, clash, not-true}
 use Rattle.map_blocks.specs.Blocks.{free}
 use Rattle.map_blocks.specs.Maps.{marked, inRun}
 use Rattle.map_blocks.proofs.Maps.{marked-length, map-free}
@@ -21,38 +21,14 @@ use Rattle.summary_groups.proofs.Joins.{group-same}
 use Rattle.summary_groups.proofs.Places.{power-power, power-small, below-zero, sited-all, sited-left, sited-right}
 use Rattle.summary_groups.proofs.Places.{Power, sited-pos, sited-even, sited-index}
 use Rattle.summary.specs.Summary.{groupIn, groupAt, summaryOf, usable, ownSummary, summaryLength, Matched}
-use Rattle.summary.specs.Updates.{changed, updatedIn, updatedSummary}
-use Rattle.summary.specs.Walks.{Target, Rebuilds}
+use Rattle.summary.specs.Updates.{changed, idle, builtFrom, updatedIn, updatedSummary}
+use Rattle.summary.specs.Walks.{Idle, Target, RestIn}
+use Rattle.summary.proofs.Idle.{is-changed, not-changed, built-kept, built-joined}
+use Rattle.summary.proofs.Idle.{is-idle, idle-low, idle-high, idle-same}
 use Rattle.summary.proofs.Rebuilding.{equal}
 use Rattle.summary.proofs.Numbers.{numbers-length, numbers-at, numbers-only, summary-at, summary-only}
 use Rattle.summary.proofs.Sites.{group-at, at-halves}
 use Rattle.summary.proofs.Usable.{below-n, from-n}
-
--- ---- the words that hold a changed block
-
-module _ (start count : ℕ) (l : Span) where
-  is-changed : 0 < count → start < 64 * (l .first + l .size) → 64 * l .first < start + count → changed start count l ≡ true
-  is-changed a b c =
-      and-both (ltb 0 count) (ltb start (64 * (l .first + l .size)) && ltb (64 * l .first) (start + count)) (lt-ltb 0 count a)
-      (and-both (ltb start (64 * (l .first + l .size))) (ltb (64 * l .first) (start + count))
-      (lt-ltb start (64 * (l .first + l .size)) b) (lt-ltb (64 * l .first) (start + count) c))
-
-  none-and : (x y : Bool) → (x && (false && y)) ≡ false
-  none-and true y = refl
-  none-and false y = refl
-
-  none-last : (x y : Bool) → (x && (y && false)) ≡ false
-  none-last true true = refl
-  none-last true false = refl
-  none-last false y = refl
-
-  not-changed : ((start + count + 63) / 64 ≤ l .first) ⊎ (l .first + l .size ≤ start / 64) → changed start count l ≡ false
-  not-changed (inl u) =
-      ap (λ (x : Bool). ltb 0 count && (ltb start (64 * (l .first + l .size)) && x))
-      (le-ltb (64 * l .first) (start + count) (omega arith)) ∙ none-last (ltb 0 count) (ltb start (64 * (l .first + l .size)))
-  not-changed (inr u) =
-      ap (λ (x : Bool). ltb 0 count && (x && ltb (64 * l .first) (start + count)))
-      (le-ltb start (64 * (l .first + l .size)) (omega arith)) ∙ none-and (ltb 0 count) (ltb (64 * l .first) (start + count))
 
 -- ---- group by group
 
@@ -64,25 +40,27 @@ module _ (f : ℕ → Bool) (p : ℕ) (s : List ℕ) (start count : ℕ) where
     unfolding updatedIn
     after-word e =
         ap (λ (t : Bool). cond (changed start count (place p g))
-        (cond t (groupAt f p g) (joinedOf (updatedIn m f p s start count (2 * g + 1)) (updatedIn m f p s start count
-        (2 * g + 2))
-        (64 * (place p g .size / 2)))) (groupIn s g))
+        (cond t (groupAt f p g) (builtFrom start count p s g (updatedIn m f p s start count (2 * g + 1))
+        (updatedIn m f p s start count (2 * g + 2))
+        (place p g .size / 2))) (groupIn s g))
         (eq-eqb (place p g .size) 1 (ap (λ (l : Span). l .size) (sited .lies) ∙ e))
 
     -- a group of more
     after-halves : (size ≡ 1 → ⊥) → updatedIn (suc m) f p s start count g
         ≡ cond (changed start count (place p g))
-        (joinedOf (updatedIn m f p s start count (2 * g + 1)) (updatedIn m f p s start count (2 * g + 2)) (64 * (size / 2)))
+        (builtFrom start count p s g (updatedIn m f p s start count (2 * g + 1)) (updatedIn m f p s start count (2 * g + 2))
+        (size / 2))
         (groupIn s g)
     unfolding updatedIn
     after-halves ne =
         let z : place p g .size ≡ size = ap (λ (l : Span). l .size) (sited .lies) in
         ap (λ (t : Bool). cond (changed start count (place p g))
-        (cond t (groupAt f p g) (joinedOf (updatedIn m f p s start count (2 * g + 1)) (updatedIn m f p s start count
-        (2 * g + 2))
-        (64 * (place p g .size / 2)))) (groupIn s g)) (ne-eqb (place p g .size) 1 (λ q. ne (sym z ∙ q)))
+        (cond t (groupAt f p g) (builtFrom start count p s g (updatedIn m f p s start count (2 * g + 1))
+        (updatedIn m f p s start count (2 * g + 2))
+        (place p g .size / 2))) (groupIn s g)) (ne-eqb (place p g .size) 1 (λ q. ne (sym z ∙ q)))
         ∙ ap (λ (x : ℕ). cond (changed start count (place p g))
-        (joinedOf (updatedIn m f p s start count (2 * g + 1)) (updatedIn m f p s start count (2 * g + 2)) (64 * (x / 2)))
+        (builtFrom start count p s g (updatedIn m f p s start count (2 * g + 1)) (updatedIn m f p s start count (2 * g + 2))
+        (x / 2))
         (groupIn s g)) z
 
   -- a group that has no changed word
@@ -91,8 +69,8 @@ module _ (f : ℕ → Bool) (p : ℕ) (s : List ℕ) (start count : ℕ) where
   passed zero g e = refl
   passed (suc m) g e =
       ap (λ (t : Bool). cond t (cond (eqb (place p g .size) 1) (groupAt f p g)
-      (joinedOf (updatedIn m f p s start count (2 * g + 1)) (updatedIn m f p s start count (2 * g + 2))
-      (64 * (place p g .size / 2))))
+      (builtFrom start count p s g (updatedIn m f p s start count (2 * g + 1)) (updatedIn m f p s start count (2 * g + 2))
+      (place p g .size / 2)))
       (groupIn s g)) e
 
   -- once a group can be halved often enough, it does not matter how often
@@ -105,36 +83,87 @@ module _ (f : ℕ → Bool) (p : ℕ) (s : List ℕ) (start count : ℕ) where
       (λ ne. let even : size ≡ 2 * (size / 2) = sited-even p g first size sited ne in
       let pos : 0 < size = sited-pos p g first size sited in
       after-halves m g first size sited ne
-      ∙ ap₂ (λ (x y : Group). cond (changed start count (place p g)) (joinedOf x y (64 * (size / 2))) (groupIn s g))
+      ∙ ap₂ (λ (x y : Group). cond (changed start count (place p g)) (builtFrom start count p s g x y (size / 2)) (groupIn s g))
       (enough m m′ (2 * g + 1) first (size / 2) (sited-left p g first size sited ne) (omega arith) (omega arith))
       (enough m m′ (2 * g + 2) (first + size / 2) (size / 2) (sited-right p g first size sited ne) (omega arith) (omega arith))
       ∙ sym (after-halves m′ g first size sited ne)) (equal size 1)
 
-  -- where the groups that have no changed word are right, all are right afterwards
-  after-right : ((h : ℕ) → h + 1 < 2 * p → changed start count (place p h) ≡ false → groupIn s h ≡ groupAt f p h)
-      → (m g first size : ℕ) → Sited p g first size → size ≤ m → updatedIn m f p s start count g ≡ groupAt f p g
-  after-right rest zero g first size sited a = absurd (omega (arith, sited-pos p g first size sited))
-  after-right rest (suc m) g first size sited a =
-      ⊎-elim (λ e. after-word m g first size sited e ∙ settled (groupAt f p g) refl)
-      (λ ne. let even : size ≡ 2 * (size / 2) = sited-even p g first size sited ne in
-      let pos : 0 < size = sited-pos p g first size sited in
-      after-halves m g first size sited ne
-      ∙ settled (joinedOf (updatedIn m f p s start count (2 * g + 1)) (updatedIn m f p s start count (2 * g + 2))
-      (64 * (size / 2)))
-      (ap₂ (λ (x y : Group). joinedOf x y (64 * (size / 2)))
-      (after-right rest m (2 * g + 1) first (size / 2) (sited-left p g first size sited ne) (omega arith))
-      (after-right rest m (2 * g + 2) (first + size / 2) (size / 2) (sited-right p g first size sited ne) (omega arith))
-      ∙ at-halves f p g first size sited ne)) (equal size 1)
-    where
-      by : (x : Group) → x ≡ groupAt f p g → (t : Bool) → changed start count (place p g) ≡ t → cond t x (groupIn s g)
-          ≡ groupAt f p g
-      by x e true q = e
-      by x e false q = rest g (sited-index p g first size sited) q
+  -- where the groups that have no changed word are right, and each was as its halves told, all are right afterwards
+  module _ (rest : (h : ℕ) → h + 1 < 2 * p → changed start count (place p h) ≡ false → groupIn s h ≡ groupAt f p h)
+      (was : (g first size : ℕ) → Sited p g first size → (size ≡ 1 → ⊥)
+      → groupIn s g ≡ joinedOf (groupIn s (2 * g + 1)) (groupIn s (2 * g + 2)) (64 * (size / 2))) where
+    module _ (g first size : ℕ) (sited : Sited p g first size) (ne : size ≡ 1 → ⊥) (x y : Group)
+        (a : x ≡ groupAt f p (2 * g + 1)) (b : y ≡ groupAt f p (2 * g + 2)) where
+      joined-right : joinedOf x y (64 * (size / 2)) ≡ groupAt f p g
+      joined-right = ap₂ (λ (v w : Group). joinedOf v w (64 * (size / 2))) a b ∙ at-halves f p g first size sited ne
 
-      settled : (x : Group) → x ≡ groupAt f p g → cond (changed start count (place p g)) x (groupIn s g) ≡ groupAt f p g
-      settled x e = by x e (changed start count (place p g)) refl
+      left-is : place p (2 * g + 1) ≡ record { first = first; size = size / 2 }
+      left-is = sited-left p g first size sited ne .lies
 
-  -- ---- what the walk aims at
+      right-is : place p (2 * g + 2) ≡ record { first = first + size / 2; size = size / 2 }
+      right-is = sited-right p g first size sited ne .lies
+
+      kept-left : idle start count p s (2 * g + 1) x ≡ true → groupIn s g ≡ groupAt f p g
+      kept-left e =
+          let u : start + count ≤ 64 * (place p (2 * g + 1) .first + place p (2 * g + 1) .size) =
+          idle-high p s start count (2 * g + 1) x e in
+          let c : place p (2 * g + 1) .first ≡ first = ap (λ (l : Span). l .first) left-is in
+          let d : place p (2 * g + 1) .size ≡ size / 2 = ap (λ (l : Span). l .size) left-is in
+          let v : place p (2 * g + 2) .first ≡ first + size / 2 = ap (λ (l : Span). l .first) right-is in
+          let i : 2 * g + 2 + 1 < 2 * p =
+          sited-index p (2 * g + 2) (first + size / 2) (size / 2) (sited-right p g first size sited ne) in
+          was g first size sited ne
+          ∙ ap₂ (λ (v w : Group). joinedOf v w (64 * (size / 2))) (sym (idle-same p s start count (2 * g + 1) x e) ∙ a)
+          (rest (2 * g + 2) i (not-changed start count (place p (2 * g + 2)) (inl (omega arith))))
+          ∙ at-halves f p g first size sited ne
+
+      kept-right : idle start count p s (2 * g + 2) y ≡ true → groupIn s g ≡ groupAt f p g
+      kept-right e =
+          let u : 64 * place p (2 * g + 2) .first ≤ start = idle-low p s start count (2 * g + 2) y e in
+          let c : place p (2 * g + 1) .first ≡ first = ap (λ (l : Span). l .first) left-is in
+          let d : place p (2 * g + 1) .size ≡ size / 2 = ap (λ (l : Span). l .size) left-is in
+          let v : place p (2 * g + 2) .first ≡ first + size / 2 = ap (λ (l : Span). l .first) right-is in
+          let i : 2 * g + 1 + 1 < 2 * p =
+          sited-index p (2 * g + 1) first (size / 2) (sited-left p g first size sited ne) in
+          was g first size sited ne
+          ∙ ap₂ (λ (v w : Group). joinedOf v w (64 * (size / 2)))
+          (rest (2 * g + 1) i (not-changed start count (place p (2 * g + 1)) (inr (omega arith))))
+          (sym (idle-same p s start count (2 * g + 2) y e) ∙ b)
+          ∙ at-halves f p g first size sited ne
+
+      built-right : builtFrom start count p s g x y (size / 2) ≡ groupAt f p g
+      built-right = go (idle start count p s (2 * g + 1) x) (idle start count p s (2 * g + 2) y) refl refl
+        where
+          go : (t u : Bool) → idle start count p s (2 * g + 1) x ≡ t → idle start count p s (2 * g + 2) y ≡ u
+              → builtFrom start count p s g x y (size / 2) ≡ groupAt f p g
+          go true u q r = built-kept p s start count g x y (size / 2) (inl q) ∙ kept-left q
+          go false true q r = built-kept p s start count g x y (size / 2) (inr r) ∙ kept-right r
+          go false false q r = built-joined p s start count g x y (size / 2) q r ∙ joined-right
+
+    after-right : (m g first size : ℕ) → Sited p g first size → size ≤ m → updatedIn m f p s start count g ≡ groupAt f p g
+    after-right zero g first size sited a = absurd (omega (arith, sited-pos p g first size sited))
+    after-right (suc m) g first size sited a =
+        ⊎-elim (λ e. after-word m g first size sited e ∙ settled (groupAt f p g) refl)
+        (λ ne. let even : size ≡ 2 * (size / 2) = sited-even p g first size sited ne in
+        let pos : 0 < size = sited-pos p g first size sited in
+        after-halves m g first size sited ne
+        ∙ settled (builtFrom start count p s g (updatedIn m f p s start count (2 * g + 1))
+        (updatedIn m f p s start count (2 * g + 2)) (size / 2))
+        (built-right g first size sited ne (updatedIn m f p s start count (2 * g + 1))
+        (updatedIn m f p s start count (2 * g + 2))
+        (after-right m (2 * g + 1) first (size / 2) (sited-left p g first size sited ne) (omega arith))
+        (after-right m (2 * g + 2) (first + size / 2) (size / 2) (sited-right p g first size sited ne) (omega arith))))
+        (equal size 1)
+      where
+        by : (x : Group) → x ≡ groupAt f p g → (t : Bool) → changed start count (place p g) ≡ t → cond t x (groupIn s g)
+            ≡ groupAt f p g
+        by x e true q = e
+        by x e false q = rest g (sited-index p g first size sited) q
+
+        settled : (x : Group) → x ≡ groupAt f p g → cond (changed start count (place p g)) x (groupIn s g) ≡ groupAt f p g
+        settled x e = by x e (changed start count (place p g)) refl
+
+  -- ---- what an update aims at
 
   module _ (some : 0 < count) where
     meeting : (g : ℕ) → (Apart p (start / 64) ((start + count + 63) / 64) g → ⊥) → changed start count (place p g) ≡ true
@@ -143,18 +172,45 @@ module _ (f : ℕ → Bool) (p : ℕ) (s : List ℕ) (start count : ℕ) where
         (order (start / 64) (place p g .first + place p g .size))) (λ a. absurd (m (inl a)))
         (order (place p g .first) ((start + count + 63) / 64))
 
-    pub update-target : Target f p (start / 64) ((start + count + 63) / 64) (updatedIn p f p s start count)
+    abbrev aim : ℕ → Group
+    aim g = updatedIn p f p s start count g
+
+    from-idle : (h : ℕ) → Idle p (start / 64) ((start + count + 63) / 64) s aim h → idle start count p s h (aim h) ≡ true
+    from-idle h i =
+        let a : place p h .first ≤ start / 64 = i .low in
+        let b : (start + count + 63) / 64 ≤ place p h .first + place p h .size = i .high in
+        is-idle p s start count h (aim h) (omega arith) (omega arith) (i .same)
+
+    to-idle : (h : ℕ) → (Idle p (start / 64) ((start + count + 63) / 64) s aim h → ⊥) → idle start count p s h (aim h) ≡ false
+    to-idle h n =
+        not-true (idle start count p s h (aim h)) (λ e.
+        let a : 64 * place p h .first ≤ start = idle-low p s start count h (aim h) e in
+        let b : start + count ≤ 64 * (place p h .first + place p h .size) = idle-high p s start count h (aim h) e in
+        n (record { low = omega arith; high = omega arith; same = idle-same p s start count h (aim h) e }))
+
+    built : (g first size : ℕ) → Sited p g first size → (size ≡ 1 → ⊥)
+        → (Apart p (start / 64) ((start + count + 63) / 64) g → ⊥)
+        → aim g ≡ builtFrom start count p s g (aim (2 * g + 1)) (aim (2 * g + 2)) (size / 2)
+    built g first size sited ne m =
+        let i : first + size ≤ p = sited .inside in
+        enough p (suc p) g first size sited (omega arith) (omega arith) ∙ after-halves p g first size sited ne
+        ∙ ap (λ (t : Bool). cond t (builtFrom start count p s g (aim (2 * g + 1)) (aim (2 * g + 2)) (size / 2)) (groupIn s g))
+        (meeting g m)
+
+    pub update-target : Target f p (start / 64) ((start + count + 63) / 64) s (updatedIn p f p s start count)
     update-target = record {
       word = λ g first sited m.
           let i : first + 1 ≤ p = sited .inside in
           sym (enough p (suc p) g first 1 sited (omega arith) (omega arith) ∙ after-word p g first 1 sited refl
           ∙ ap (λ (t : Bool). cond t (groupAt f p g) (groupIn s g)) (meeting g m) ∙ group-at f p g first 1 sited);
-      halves = λ g first size sited ne m.
-          let i : first + size ≤ p = sited .inside in
-          sym (enough p (suc p) g first size sited (omega arith) (omega arith) ∙ after-halves p g first size sited ne
-          ∙ ap (λ (t : Bool). cond t (joinedOf (updatedIn p f p s start count (2 * g + 1))
-          (updatedIn p f p s start count (2 * g + 2))
-          (64 * (size / 2))) (groupIn s g)) (meeting g m));
+      halves = λ g first size sited ne m a b.
+          sym (built g first size sited ne m
+          ∙ built-joined p s start count g (aim (2 * g + 1)) (aim (2 * g + 2)) (size / 2) (to-idle (2 * g + 1) a)
+          (to-idle (2 * g + 2) b));
+      kept = λ g first size sited ne m q.
+          sym (built g first size sited ne m
+          ∙ built-kept p s start count g (aim (2 * g + 1)) (aim (2 * g + 2)) (size / 2)
+          (⊎-elim (λ a. inl (from-idle (2 * g + 1) a)) (λ b. inr (from-idle (2 * g + 2) b)) q));
     }
 
 -- ---- blocks that differ in the changed ones alone
@@ -174,12 +230,26 @@ module _ (f f′ : ℕ → Bool) (p start count : ℕ) (outside : (b : ℕ) → 
       group-same f f′ (64 * place p h .first) (64 * place p h .first) (64 * place p h .size) (λ j l.
       outside (64 * place p h .first + j) (apart h (64 * place p h .first + j) e (omega arith) (omega arith)))
 
+  module _ (s : List ℕ) (was : s ≡ summaryOf f p) where
+    right-was : (h : ℕ) → h + 1 < 2 * p → groupIn s h ≡ groupAt f p h
+    right-was h u = subst (λ (x : List ℕ). groupIn x h ≡ groupAt f p h) (sym was) (summary-at f p h u)
+
+    halves-were : (g first size : ℕ) → Sited p g first size → (size ≡ 1 → ⊥)
+        → groupIn s g ≡ joinedOf (groupIn s (2 * g + 1)) (groupIn s (2 * g + 2)) (64 * (size / 2))
+    halves-were g first size sited ne =
+        let i : 2 * g + 1 + 1 < 2 * p =
+        sited-index p (2 * g + 1) first (size / 2) (sited-left p g first size sited ne) in
+        let j : 2 * g + 2 + 1 < 2 * p =
+        sited-index p (2 * g + 2) (first + size / 2) (size / 2) (sited-right p g first size sited ne) in
+        right-was g (sited-index p g first size sited) ∙ sym (at-halves f p g first size sited ne)
+        ∙ ap₂ (λ (x y : Group). joinedOf x y (64 * (size / 2))) (sym (right-was (2 * g + 1) i)) (sym (right-was (2 * g + 2) j))
+
   right-after : Power p → p ≤ 4096 → (s : List ℕ) → s ≡ summaryOf f p → (h : ℕ) → h + 1 < 2 * p
       → updatedIn p f′ p s start count h ≡ groupAt f′ p h
   right-after k small s was h l =
       let sited : Sited p h (place p h .first) (place p h .size) = sited-all p h k small l (below-zero h) in
-      after-right f′ p s start count (λ i u e.
-      subst (λ (x : List ℕ). groupIn x i ≡ groupAt f p i) (sym was) (summary-at f p i u) ∙ same-group i e)
+      after-right f′ p s start count (λ i u e. right-was s was i u ∙ same-group i e)
+      (λ g first size sited ne. halves-were s was g first size sited ne)
       p h (place p h .first) (place p h .size) sited (omega (arith, sited .inside))
 
 -- ---- the summary as a whole
@@ -225,16 +295,18 @@ module _ (map : List ℕ) (n : ℕ) (s : List ℕ) (start count : ℕ) where
       (ap (λ (t : Bool). t && (ltb start (64 * (place (power (length map)) h .first + place (power (length map)) h .size))
       && ltb (64 * place (power (length map)) h .first) (start + count))) (le-ltb 0 count (omega arith)))))
 
-  -- what a walk over the changed words leaves
+  -- what building the groups above the changed words leaves
   pub rebuilt : (s′ : List ℕ) → Matched map n s → 0 < count → length s′ ≡ length s
-      → Rebuilds (usable map n) (power (length map)) (start / 64) ((start + count + 63) / 64) 0 s s′
+      → ((aim : ℕ → Group) → Target (usable map n) (power (length map)) (start / 64) ((start + count + 63) / 64) s aim
+      → RestIn (power (length map)) (start / 64) ((start + count + 63) / 64) s aim
+      → (h : ℕ) → h + 1 < 2 * power (length map) → groupIn s′ h ≡ aim h)
       → s′ ≡ updatedSummary map n s start count
   rebuilt s′ lent some e r =
-      updated-only s′ (e ∙ lent .long) (λ h l.
-      r .done (updatedIn (power (length map)) (usable map n) (power (length map)) s start count)
+      updated-only s′ (e ∙ lent .long)
+      (r (updatedIn (power (length map)) (usable map n) (power (length map)) s start count)
       (update-target (usable map n) (power (length map)) s start count some)
       (λ i u a. sym (passed (usable map n) (power (length map)) s start count (power (length map)) i
-      (not-changed start count (place (power (length map)) i) a))) h l (below-zero h))
+      (not-changed start count (place (power (length map)) i) a))))
 
   -- where the summary was that of blocks which differ from the map's in the changed ones alone, it becomes the map's own
   pub own-updated : (f : ℕ → Bool) → length map ≤ 4096 → s ≡ summaryOf f (power (length map))

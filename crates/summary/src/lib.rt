@@ -68,7 +68,7 @@ pub fn free_word(map: &[u64], n: u32, i: usize) -> u64
 
 // Whether two groups are the same. The tail is compared first: the last two would otherwise be read from memory as one number,
 // right after they have been stored as two.
-fn agree(a: Group, b: Group) -> bool
+pub fn agree(a: Group, b: Group) -> bool
     ensures { λ r. ⌜ Decides r (a ≡ b) ⌝ }
 {
     if a.tail != b.tail {

@@ -1,15 +1,15 @@
 -- What a search by a summary gives: with any summary nothing but fits, none where group 0's longest is below k, and with the
 -- map's own summary the least fit.
 -- Assumes nothing.
-use mathlib.Core.Path.{_≡_, refl, sym, _∙_}
+use mathlib.Core.Path.{_≡_, refl, sym, ap, _∙_}
 use mathlib.Core.Logic.{⊎-elim}
-use mathlib.Core.Bool.{Bool, true}
+use mathlib.Core.Bool.{Bool, true, false, cond}
 use mathlib.Core.List.{List}
 use Prim.Native.Nat.{ℕ, zero, suc, _+_, _*_, _≤_, _<_, min}
 use native.Mathlib.Omega.{arith}
-use lib.Dec.{ltb}
+use lib.Dec.{leb, ltb}
 use lib.ListN.{length}
-use borrow.Author.Tests.{lt-ltb}
+use borrow.Author.Tests.{lt-ltb, lt-leb, le-leb}
 use Rattle.laws.proofs.Bools.{order, clash, and-both, not-true}
 use Rattle.map_blocks.specs.declared.Found.{Found}
 use Rattle.map_blocks.specs.declared.Found.the-variants.{At, Nothing}
@@ -24,7 +24,7 @@ use Rattle.summary_groups.specs.Groups.{power}
 use Rattle.summary_groups.proofs.Places.{power-power, power-small, power-enough}
 use Rattle.summary.specs.Summary.{groupIn, usable, ownSummary}
 use Rattle.summary.proofs.Own.{own-right}
-use Rattle.summary_search.specs.SearchBy.{seek, stretch, turns, searchBy}
+use Rattle.summary_search.specs.SearchBy.{seek, stretch, turns, searchDown, nearOf, searchBy}
 use Rattle.summary_search.specs.Seeking.{Located}
 use Rattle.summary_search.proofs.Bounds.{Bounds}
 use Rattle.summary_search.proofs.Places.{located-whole}
@@ -90,17 +90,36 @@ module _ (map summary : List ℕ) (from before step k : ℕ) (some : 0 < k) wher
           (sym (turn-near map summary before step k d at u q v) ∙ e) on) (order before (u + k))
 
   -- every start that is given is a fit
-  pub by-fits : (t : ℕ) → searchBy map summary from before step k ≡ At t → fit (free map) from before step k t ≡ true
-  by-fits t e =
+  down-fits : (t : ℕ) → searchDown map summary from before step k ≡ At t → fit (free map) from before step k t ≡ true
+  down-fits t e =
       ⊎-elim (λ l. absurd (never-both t (sym e ∙ short-of map summary from before step k l)))
       (λ l. let first = turning-first map summary from before step k l in
       is-fit (free map) from before step k t (turns-fit (first .left) from t (omega arith) (first .is ∙ e)))
       (order (groupIn summary 0 .longest) k)
 
+  -- every start that is given is a fit, of the first words or of those that the groups lead to
+  pub by-fits : (t : ℕ) → searchBy map summary from before step k ≡ At t → fit (free map) from before step k t ≡ true
+  unfolding searchBy
+  by-fits t e =
+      go (leb k (groupIn summary 0 .longest)) (leastFit (free map) from (min before (from + nearOf step k)) step k) refl e
+    where
+      go : (b : Bool) (r : Found) → leastFit (free map) from (min before (from + nearOf step k)) step k ≡ r
+          → cond b (orElse r (searchDown map summary from before step k)) Nothing ≡ At t
+          → fit (free map) from before step k t ≡ true
+      go false r q h = absurd (never-both t (sym h))
+      go true Nothing q h = down-fits t h
+      go true (At s) q h =
+          is-fit (free map) from before step k t
+          (whole-fits (free map) from before step k from (min before (from + nearOf step k)) (omega arith) (omega arith) t
+          (q ∙ h))
+
 -- where group 0's longest is below k there is none, whatever the map holds
 pub by-none : (map summary : List ℕ) (from before step k : ℕ) → groupIn summary 0 .longest < k
     → searchBy map summary from before step k ≡ Nothing
-by-none map summary from before step k l = short-of map summary from before step k l
+unfolding searchBy
+by-none map summary from before step k l =
+    ap (λ (b : Bool). cond b (orElse (leastFit (free map) from (min before (from + nearOf step k)) step k)
+    (searchDown map summary from before step k)) Nothing) (lt-leb k (groupIn summary 0 .longest) l)
 
 -- ---- with the map's own summary
 
@@ -148,13 +167,12 @@ module _ (map : List ℕ) (n : ℕ) (summary : List ℕ) (from before step k : �
       ⊎-elim (λ a. clear u a h)
       (λ a. clash (all (since at (usable map n)) u k) (counts-since at u a h) (carried .none u (omega arith))) (order u at)
 
-  found-own : (t : ℕ) → Clear t → from ≤ t → t + k ≤ before → (s : ℕ)
-      → leastFit (free map) t (min before (t + k + stretch step)) step k ≡ At s
+  found-own : (t end : ℕ) → end ≤ before → Clear t → from ≤ t → (s : ℕ)
+      → leastFit (free map) t end step k ≡ At s
       → leastFit (free map) from before step k ≡ At s
   unfolding leastFit
-  found-own t clear l v s e =
-      let h : Fits (free map) from before step k s =
-      whole-fits (free map) from before step k t (min before (t + k + stretch step)) (omega arith) l s e in
+  found-own t end in-all clear l s e =
+      let h : Fits (free map) from before step k s = whole-fits (free map) from before step k t end in-all l s e in
       let b : s + k ≤ before = h .high in
       least-at (fit (free map) from before step k) 0 before s (omega arith) (omega arith)
       (is-fit (free map) from before step k s h)
@@ -163,7 +181,7 @@ module _ (map : List ℕ) (n : ℕ) (summary : List ℕ) (from before step k : �
       below : (u : ℕ) → u < s → Fits (free map) from before step k u → ⊥
       below u c h =
           ⊎-elim (λ a. clear u a h)
-          (λ a. stretch-below (free map) from before step k t (min before (t + k + stretch step)) (omega arith) l s u e a c h)
+          (λ a. stretch-below (free map) from before step k t end in-all l s u e a c h)
           (order u t)
 
   clear-on : (t : ℕ) → Clear t → from ≤ t → leastFit (free map) t (min before (t + k + stretch step)) step k ≡ Nothing
@@ -190,7 +208,8 @@ module _ (map : List ℕ) (n : ℕ) (summary : List ℕ) (from before step k : �
           → ((at′ : ℕ) → from ≤ at′ → before < d + at′ → Clear at′
           → turns d map summary before step k at′ ≡ leastFit (free map) from before step k)
           → orElse r (turns d map summary before step k (t + stretch step + 1)) ≡ leastFit (free map) from before step k
-      found t (At s) e a v clear′ on = sym (found-own t clear′ (omega arith) v s e)
+      found t (At s) e a v clear′ on =
+          sym (found-own t (min before (t + k + stretch step)) (omega arith) clear′ (omega arith) s e)
       found t Nothing e a v clear′ on =
           on (t + stretch step + 1) (omega arith) (omega arith) (clear-on t clear′ (omega arith) e)
 
@@ -222,10 +241,27 @@ module _ (map : List ℕ) (n : ℕ) (summary : List ℕ) (from before step k : �
       let z : k ≤ groupIn summary 0 .longest = y .longest u k (omega arith) (omega arith) (counts u h) in
       omega arith
 
-  -- the least fit is given
-  pub by-own : searchBy map summary from before step k ≡ leastFit (free map) from before step k
-  by-own =
+  -- the search down the groups gives the least fit
+  down-own : searchDown map summary from before step k ≡ leastFit (free map) from before step k
+  down-own =
       ⊎-elim (λ l. short-of map summary from before step k l ∙ sym (none-left (long-enough l)))
       (λ l. let first = turning-first map summary from before step k l in
       sym (first .is) ∙ turns-own (first .left) from (omega arith) (first .room) (λ u v h. omega (arith, h .low)))
       (order (groupIn summary 0 .longest) k)
+
+  -- and so does the search by the summary
+  pub by-own : searchBy map summary from before step k ≡ leastFit (free map) from before step k
+  unfolding searchBy
+  by-own =
+      ⊎-elim (λ l. by-none map summary from before step k l ∙ sym (none-left (long-enough l)))
+      (λ l. ap (λ (b : Bool). cond b (orElse (leastFit (free map) from (min before (from + nearOf step k)) step k)
+      (searchDown map summary from before step k)) Nothing) (le-leb k (groupIn summary 0 .longest) l)
+      ∙ go (leastFit (free map) from (min before (from + nearOf step k)) step k) refl)
+      (order (groupIn summary 0 .longest) k)
+    where
+      go : (r : Found) → leastFit (free map) from (min before (from + nearOf step k)) step k ≡ r
+          → orElse r (searchDown map summary from before step k) ≡ leastFit (free map) from before step k
+      go Nothing q = down-own
+      go (At s) q =
+          sym (found-own from (min before (from + nearOf step k)) (omega arith) (λ u v h. omega (arith, h .low)) (omega arith) s
+          q)

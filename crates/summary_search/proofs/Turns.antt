@@ -3,7 +3,7 @@
 use mathlib.Core.Path.{_≡_, refl, sym, ap, _∙_, subst}
 use mathlib.Core.Bool.{Bool, cond}
 use mathlib.Core.List.{List}
-use Prim.Native.Nat.{ℕ, zero, suc, _+_, _-_, _*_, _^_, _≤_, _<_, min}
+use Prim.Native.Nat.{ℕ, zero, suc, _+_, _-_, _*_, _/_, _^_, _≤_, _<_, min}
 use native.Mathlib.Omega.{arith}
 use lib.Dec.{ltb}
 use lib.ListN.{length}
@@ -16,7 +16,7 @@ use Rattle.map_search_word.specs.declared.Step.the-variants.{Hit, Next}
 use Rattle.summary_groups.specs.Groups.{power}
 use Rattle.summary_groups.proofs.Places.{power-power, power-small}
 use Rattle.summary.specs.Summary.{groupIn}
-use Rattle.summary_search.specs.SearchBy.{seekIn, seek, stretch, onHit, turns, searchBy}
+use Rattle.summary_search.specs.SearchBy.{seekIn, seek, stretch, onHit, turns, searchDown}
 use Rattle.summary_search.specs.Seeking.{stepNumber}
 use Rattle.summary_search.proofs.Bounds.{Bounds, seek-bounds, number-hit, number-next}
 
@@ -99,19 +99,19 @@ late map summary before step k some (suc d) at l = by (seek summary (power (leng
 -- the turns from block `at` on give the answer, and those left are enough
 pub record Turning (map summary : List ℕ) (from before step k at : ℕ) : Type 0 where
   pub left : ℕ
-  pub is : turns left map summary before step k at ≡ searchBy map summary from before step k
+  pub is : turns left map summary before step k at ≡ searchDown map summary from before step k
   pub room : before < left + at
 
 pub short-of : (map summary : List ℕ) (from before step k : ℕ) → groupIn summary 0 .longest < k
-    → searchBy map summary from before step k ≡ Nothing
-unfolding searchBy
+    → searchDown map summary from before step k ≡ Nothing
+unfolding searchDown
 short-of map summary from before step k l =
     ap (λ (b : Bool). cond b Nothing (turns (suc before) map summary before step k from))
     (lt-ltb (groupIn summary 0 .longest) k l)
 
 pub turning-first : (map summary : List ℕ) (from before step k : ℕ) → k ≤ groupIn summary 0 .longest
     → Turning map summary from before step k from
-unfolding searchBy
+unfolding searchDown
 turning-first map summary from before step k l = record {
   left = suc before;
   is = sym (ap (λ (b : Bool). cond b Nothing (turns (suc before) map summary before step k from))
@@ -121,42 +121,43 @@ turning-first map summary from before step k l = record {
 
 module _ (map summary : List ℕ) (from before step k : ℕ) (few : length map ≤ 4096) (some : 0 < k) (at : ℕ)
     (turning : Turning map summary from before step k at) where
-  pub turning-late : before ≤ at → Nothing ≡ searchBy map summary from before step k
+  pub turning-late : before ≤ at → Nothing ≡ searchDown map summary from before step k
   turning-late l = sym (late map summary before step k some (turning .left) at l) ∙ turning .is
 
   module _ (t : ℕ) (e : t ≡ stepNumber (seek summary (power (length map)) at k)) where
-    turning-none : (d : ℕ) → turns d map summary before step k at ≡ searchBy map summary from before step k → before < d + at
-        → at < before → 2 ^ 31 ≤ t → Nothing ≡ searchBy map summary from before step k
+    turning-none : (d : ℕ) → turns d map summary before step k at ≡ searchDown map summary from before step k → before < d + at
+        → at < before → 2 ^ 31 ≤ t → Nothing ≡ searchDown map summary from before step k
     turning-none zero q room u l = absurd (omega arith)
     turning-none (suc d) q room u l =
         sym (turn-none map summary before step k d at (t - 2 ^ 31) (is-next map summary k few some at t e l)) ∙ q
 
-    pub found-none : at < before → 2 ^ 31 ≤ t → Nothing ≡ searchBy map summary from before step k
+    pub found-none : at < before → 2 ^ 31 ≤ t → Nothing ≡ searchDown map summary from before step k
     found-none u l = turning-none (turning .left) (turning .is) (turning .room) u l
 
-    turning-far : (d : ℕ) → turns d map summary before step k at ≡ searchBy map summary from before step k → before < d + at
-        → at < before → t < 2 ^ 31 → before < t + k → Nothing ≡ searchBy map summary from before step k
+    turning-far : (d : ℕ) → turns d map summary before step k at ≡ searchDown map summary from before step k → before < d + at
+        → at < before → t < 2 ^ 31 → before < t + k → Nothing ≡ searchDown map summary from before step k
     turning-far zero q room u l v = absurd (omega arith)
     turning-far (suc d) q room u l v =
         sym (turn-far map summary before step k d at t (is-hit map summary k few some at t e l) v) ∙ q
 
-    pub found-far : at < before → t < 2 ^ 31 → before < t + k → Nothing ≡ searchBy map summary from before step k
+    pub found-far : at < before → t < 2 ^ 31 → before < t + k → Nothing ≡ searchDown map summary from before step k
     found-far u l v = turning-far (turning .left) (turning .is) (turning .room) u l v
 
     module _ (l : t < 2 ^ 31) (v : t + k ≤ before) (u : at < before) where
-      turning-at : (d s : ℕ) → turns d map summary before step k at ≡ searchBy map summary from before step k → before < d + at
+      turning-at : (d s : ℕ) → turns d map summary before step k at ≡ searchDown map summary from before step k
+          → before < d + at
           → leastFit (free map) t (min before (t + k + stretch step)) step k ≡ At s
-          → At s ≡ searchBy map summary from before step k
+          → At s ≡ searchDown map summary from before step k
       turning-at zero s q room f = absurd (omega arith)
       turning-at (suc d) s q room f =
           sym (turn-near map summary before step k d at t (is-hit map summary k few some at t e l) v
           ∙ ap (λ (r : Found). orElse r (turns d map summary before step k (t + stretch step + 1))) f) ∙ q
 
       pub found-at : (s : ℕ) → leastFit (free map) t (min before (t + k + stretch step)) step k ≡ At s
-          → At s ≡ searchBy map summary from before step k
+          → At s ≡ searchDown map summary from before step k
       found-at s f = turning-at (turning .left) s (turning .is) (turning .room) f
 
-      turning-on : (d : ℕ) → turns d map summary before step k at ≡ searchBy map summary from before step k → before < d + at
+      turning-on : (d : ℕ) → turns d map summary before step k at ≡ searchDown map summary from before step k → before < d + at
           → leastFit (free map) t (min before (t + k + stretch step)) step k ≡ Nothing
           → Turning map summary from before step k (t + stretch step + 1)
       turning-on zero q room f = absurd (omega arith)
@@ -173,7 +174,9 @@ module _ (map summary : List ℕ) (from before step k : ℕ) (few : length map �
 
 -- the search down all groups, by how many words group 0 has
 pub sought : (summary : List ℕ) (at k p q t : ℕ) → p ≡ q
-    → ((d : ℕ) → 64 * p ≤ 64 * d → t ≡ stepNumber (seekIn d summary at k 0 0 (64 * p) 0)) → t ≡ stepNumber (seek summary q at k)
+    → t ≡ stepNumber (seekIn (64 * p / 64) summary at k 0 0 (64 * p) 0) → t ≡ stepNumber (seek summary q at k)
 unfolding seek
 sought summary at k p q t e h =
-    h q (omega arith) ∙ ap (λ (x : ℕ). stepNumber (seekIn q summary at k 0 0 (64 * x) 0)) e
+    let words : 64 * p / 64 ≡ p = omega arith in
+    h ∙ ap (λ (x : ℕ). stepNumber (seekIn x summary at k 0 0 (64 * p) 0)) words
+    ∙ ap (λ (x : ℕ). stepNumber (seekIn x summary at k 0 0 (64 * x) 0)) e

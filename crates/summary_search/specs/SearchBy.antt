@@ -1,7 +1,7 @@
--- The search by a summary (document 02, request (j)), for all figures; the plain search is the one with 0, n and 1. It goes
--- down from group 0 by the summary's numbers alone to where a run of k may start first, and looks at the map there. With the
--- map's own summary it gives the least fit (`by-own`), and with any summary nothing but fits (`by-fits`); both in
--- proofs/Searches.antt.
+-- The search by a summary (document 02, request (j)), for all figures; the plain search is the one with 0, n and 1. Where few
+-- blocks are wanted it looks at the first words of the map, where a card mostly has them. Otherwise it goes down from group 0
+-- by the summary's numbers alone to where a run of k may start first, and looks at the map there. With the map's own summary it
+-- gives the least fit (`by-own`), and with any summary nothing but fits (`by-fits`); both in proofs/Searches.antt.
 -- Assumes nothing.
 use Prim.Native.Nat.{ℕ, zero, suc, _+_, _-_, _*_, _/_, min, max}
 use mathlib.Core.Bool.{cond}
@@ -86,8 +86,21 @@ turns (suc d) map summary before step k at =
     (orElse (leastFit (free map) t (min before (t + k + stretch step)) step k)
     (turns d map summary before step k (t + stretch step + 1))))
 
--- The search by a summary. Where group 0's longest is below k it gives no fit, whatever the map holds.
-unfoldable pub searchBy : List ℕ → List ℕ → ℕ → ℕ → ℕ → ℕ → Found
+-- The search down the groups. Where group 0's longest is below k it gives no fit, whatever the map holds.
+unfoldable pub searchDown : List ℕ → List ℕ → ℕ → ℕ → ℕ → ℕ → Found
 unfolding turns
-searchBy map summary from before step k =
+searchDown map summary from before step k =
     cond (ltb (groupIn summary 0 .longest) k) Nothing (turns (suc before) map summary before step k from)
+
+-- How many blocks from `from` on are looked at in the map first, without the groups: eight words, where few blocks are wanted
+-- and their starts are near each other.
+abbrev pub nearOf : ℕ → ℕ → ℕ
+nearOf step k = cond (ltb 8 step) 0 (cond (ltb 16 k) 0 512)
+
+-- The search by a summary: where group 0's longest is not below k, the first words of the map, and then down the groups.
+unfoldable pub searchBy : List ℕ → List ℕ → ℕ → ℕ → ℕ → ℕ → Found
+unfolding searchDown
+searchBy map summary from before step k =
+    cond (leb k (groupIn summary 0 .longest))
+    (orElse (leastFit (free map) from (min before (from + nearOf step k)) step k) (searchDown map summary from before step k))
+    Nothing

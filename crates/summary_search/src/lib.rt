@@ -1,13 +1,14 @@
 // The search by a summary (document 02, request (j)), for all figures: the summary tells where a run may start first, and the
 // map is looked at there, a stretch of blocks at a time. So every start that it gives was found in the map.
 ghost use mathlib.Core.Path.{_≡_};
-ghost use Prim.Native.Nat.{ℕ, _+_, _*_, _<_, _≤_, min};
+ghost use Prim.Native.Nat.{_+_, _*_, _/_, _<_, _≤_, min};
 ghost use lib.Dec.{leb};
 ghost use lib.ListN.{length};
 ghost use Rattle.map_blocks.specs.Blocks.{free, leastFit};
 ghost use Rattle.summary.specs.Summary.{summaryLength};
-ghost use Rattle.summary_search.specs.SearchBy.{insideOf, wholeOf, glanceOf, seekIn, stretch, searchBy};
-ghost use Rattle.summary_search.specs.Seeking.{Lies, stepNumber};
+ghost use Rattle.summary_search.specs.SearchBy.{insideOf, wholeOf, glanceOf, seekIn, stretch, searchDown, nearOf};
+ghost use Rattle.summary_search.specs.SearchBy.{searchBy};
+ghost use Rattle.summary_search.specs.Seeking.{Lies, Stands, toGo, stepNumber};
 use map_blocks::Found;
 use map_blocks::word::smaller;
 use map_search::search;
@@ -69,38 +70,116 @@ fn glance_at(group: Group, at: u32, k: u32, base: u32, m: u32, s: u32) -> Glance
 // The first number that is no start.
 const NONE: u32 = 0x8000_0000;
 
-// A step as a number, which stays in a register: a start, or NONE and the free blocks carried on.
-fn number_of(step: Step) -> u32
-    requires { ⌜ stepNumber step < 4294967296 ⌝ }
-    ensures { λ r. ⌜ r ≡ stepNumber step ⌝ }
+// Where a search down the groups stands: at group g, of the m blocks from base on. The group is to be looked at, with s free
+// blocks right before it; or it is passed, and ends in s free blocks; or the search has ended with a start, or with NONE and
+// the free blocks carried on, which is s.
+pub struct Place {
+    pub g: usize,
+    pub base: u32,
+    pub m: u32,
+    pub s: u32,
+    pub stage: u32,
+}
+
+const AHEAD: u32 = 0;
+
+const PASSED: u32 = 1;
+
+const ENDED: u32 = 2;
+
+// From a group to the next. A group that must be looked into is its two halves, one after the other; in one word the run may
+// start anywhere. Behind a first half is the second, and behind a second half the whole is passed.
+fn advance(summary: &[u32], at: u32, k: u32, whole: u32, place: Place) -> Place
+    requires { ⌜ Stands (now summary) at k whole place × (place .stage < 2) ⌝ }
+    ensures { λ r. ⌜ Stands (now (summary .entry)) at k whole r
+        × (toGo (r .stage) (r .g) (r .base) (r .m) < toGo (place .stage) (place .g) (place .base) (place .m)) ⌝ }
 {
-    match step {
-        Step::Hit(t) => t,
-        Step::Next(s) => NONE + s,
+    let g = place.g;
+    let base = place.base;
+    let m = place.m;
+    let s = place.s;
+    if place.stage == PASSED {
+        if base + m == whole {
+            return Place {
+                g: 0,
+                base: 0,
+                m: 0,
+                s: NONE + s,
+                stage: ENDED,
+            };
+        }
+        if g % 2 == 1 {
+            return Place {
+                g: g + 1,
+                base: base + m,
+                m: m,
+                s: s,
+                stage: AHEAD,
+            };
+        }
+        return Place {
+            g: g / 2 - 1,
+            base: base - m,
+            m: 2 * m,
+            s: s,
+            stage: PASSED,
+        };
+    }
+    match glance_at(read(summary, g), at, k, base, m, s) {
+        Glance::Settled(step) => match step {
+            Step::Hit(t) => return Place {
+                g: 0,
+                base: 0,
+                m: 0,
+                s: t,
+                stage: ENDED,
+            },
+            Step::Next(c) => return Place {
+                g: g,
+                base: base,
+                m: m,
+                s: c,
+                stage: PASSED,
+            },
+        },
+        Glance::Look => {
+            if m == 64 {
+                return Place {
+                    g: 0,
+                    base: 0,
+                    m: 0,
+                    s: larger(at, base),
+                    stage: ENDED,
+                };
+            }
+            return Place {
+                g: 2 * g + 1,
+                base: base,
+                m: m / 2,
+                s: s,
+                stage: AHEAD,
+            };
+        }
     }
 }
 
-// Where a run of k may start first, from block `at` on, in group g, of the m blocks from base on, with s free blocks right
-// before it: by the summary's numbers alone.
-fn seek_in(summary: &[u32], at: u32, k: u32, g: usize, base: u32, m: u32, s: u32) -> u32
-    requires { ⌜ Lies (now summary) g base m × (at ≤ base → s + at ≤ base) × (s < k) ⌝ }
-    ensures { λ r.
-        ⌜ ((d : ℕ) → m ≤ 64 * d → r ≡ stepNumber (seekIn d (now (summary .entry)) at k g base m s)) ⌝ }
+// Where a run of k may start first, from block `at` on, in the groups of the m blocks of a summary: by its numbers alone. A
+// start, or NONE and the free blocks carried on.
+fn seek_down(summary: &[u32], at: u32, k: u32, m: u32) -> u32
+    requires { ⌜ Lies (now summary) 0 0 m × (0 < k) ⌝ }
+    ensures { λ r. ⌜ r ≡ stepNumber (seekIn (m / 64) (now (summary .entry)) at k 0 0 m 0) ⌝ }
 {
-    match glance_at(read(summary, g), at, k, base, m, s) {
-        Glance::Settled(step) => number_of(step),
-        Glance::Look => {
-            if m == 64 {
-                return larger(at, base);
-            }
-            let half = m / 2;
-            let first = seek_in(summary, at, k, 2 * g + 1, base, half, s);
-            if first < NONE {
-                return first;
-            }
-            seek_in(summary, at, k, 2 * g + 2, base + half, half, first - NONE)
-        }
+    let mut place = Place {
+        g: 0,
+        base: 0,
+        m: m,
+        s: 0,
+        stage: AHEAD,
+    };
+    while place.stage < ENDED {
+        place = advance(summary, at, k, m, place);
     }
+    place.s
 }
 
 // Whether a run of k that starts at t ends at or before `before`.
@@ -132,11 +211,11 @@ fn look_at(map: &[u64], t: u32, before: u32, step: u32, k: u32) -> Found
     search_placed(map, t, end, step, k)
 }
 
-// The search by a summary.
-pub fn search_by(map: &[u64], summary: &[u32], from: u32, before: u32, step: u32, k: u32) -> Found
+// The search down the groups of a summary.
+fn search_down(map: &[u64], summary: &[u32], from: u32, before: u32, step: u32, k: u32) -> Found
     requires { ⌜ (length (now map) ≤ 4096) × (before ≤ 64 * length (now map))
         × (length (now summary) ≡ summaryLength (length (now map))) × (0 < k) × (0 < step) ⌝ }
-    ensures { λ r. ⌜ r ≡ searchBy (now (map .entry)) (now (summary .entry)) from before step k ⌝ }
+    ensures { λ r. ⌜ r ≡ searchDown (now (map .entry)) (now (summary .entry)) from before step k ⌝ }
 {
     if summary[2] < k {
         return Found::Nothing;
@@ -144,7 +223,7 @@ pub fn search_by(map: &[u64], summary: &[u32], from: u32, before: u32, step: u32
     let m = 64 * (words_of(summary) as u32);
     let mut at = from;
     while at < before {
-        let t = seek_in(summary, at, k, 0, 0, m, 0);
+        let t = seek_down(summary, at, k, m);
         if NONE <= t {
             return Found::Nothing;
         }
@@ -156,6 +235,58 @@ pub fn search_by(map: &[u64], summary: &[u32], from: u32, before: u32, step: u32
         } else {
             return Found::Nothing;
         }
+    }
+    Found::Nothing
+}
+
+// How many blocks are looked at first, without the groups.
+fn near_of(step: u32, k: u32) -> u32
+    ensures { λ r. ⌜ r ≡ nearOf step k ⌝ }
+{
+    if 8 < step {
+        return 0;
+    }
+    if 16 < k {
+        return 0;
+    }
+    512
+}
+
+// Where they end.
+fn near_end(from: u32, before: u32, step: u32, k: u32) -> u32
+    requires { ⌜ before ≤ 262144 ⌝ }
+    ensures { λ r. ⌜ r ≡ min before (from + nearOf step k) ⌝ }
+{
+    if before <= from {
+        return before;
+    }
+    smaller(before, from + near_of(step, k))
+}
+
+// The least fit of the first words of the map.
+fn look_near(map: &[u64], from: u32, before: u32, step: u32, k: u32) -> Found
+    requires { ⌜ (before ≤ 262144) × (before ≤ 64 * length (now map)) × (0 < k) × (0 < step) ⌝ }
+    ensures { λ r. ⌜ r ≡ leastFit (free (now (map .entry))) from (min before (from + nearOf step k)) step k ⌝ }
+{
+    let end = near_end(from, before, step, k);
+    if step == 1 {
+        return search(map, from, end, k);
+    }
+    search_placed(map, from, end, step, k)
+}
+
+// The search by a summary. On most cards a few blocks are found in the first words, and the groups are not needed.
+pub fn search_by(map: &[u64], summary: &[u32], from: u32, before: u32, step: u32, k: u32) -> Found
+    requires { ⌜ (length (now map) ≤ 4096) × (before ≤ 64 * length (now map))
+        × (length (now summary) ≡ summaryLength (length (now map))) × (0 < k) × (0 < step) ⌝ }
+    ensures { λ r. ⌜ r ≡ searchBy (now (map .entry)) (now (summary .entry)) from before step k ⌝ }
+{
+    if k <= summary[2] {
+        let near = look_near(map, from, before, step, k);
+        let Found::At(start) = near else {
+            return search_down(map, summary, from, before, step, k);
+        };
+        return Found::At(start);
     }
     Found::Nothing
 }

@@ -1,2 +1,4 @@
 -- Laws that the proofs of several functions cite.
 mod Levels
+mod Climbs
+mod Stored

@@ -1,14 +1,18 @@
 // The summary of a map built, and brought up to date where the map has changed (document 02, request (j)).
 ghost use mathlib.Core.Path.{_≡_};
 ghost use mathlib.Core.Bool.{Bool};
-ghost use Prim.Native.Nat.{ℕ, _+_, _-_, _*_, _<_, _≤_};
+ghost use mathlib.Core.List.{List};
+ghost use Prim.Native.Nat.{ℕ, _+_, _*_, _<_, _≤_};
 ghost use lib.ListN.{length};
 ghost use Rattle.map_blocks.specs.Words.{bit};
 ghost use Rattle.summary_groups.specs.Groups.{power, groupOf};
 ghost use Rattle.summary_groups.specs.Places.{Sited};
-ghost use Rattle.summary.specs.Summary.{usable, ownSummary, Matched};
+ghost use Rattle.summary.specs.Summary.{usable, groupIn, ownSummary, Matched};
 ghost use Rattle.summary.specs.Updates.{updatedSummary};
-ghost use Rattle.summary.specs.Walks.{withGroup, halvesOf, Level, RightFrom, Rebuilds};
+ghost use Rattle.summary_groups.specs.declared.Group.{Group as Told};
+ghost use Rattle.summary.specs.Walks.{withGroup, halvesOf, Builds, Decides};
+ghost use Rattle.summary_write.specs.Climbs.{Joins, Stores, Rises, Stands, Comes};
+use summary::agree;
 use summary::free_word;
 use summary::read;
 use summary::words_of;
@@ -59,80 +63,136 @@ fn store_joined(summary: &mut [u32], g: usize, half: usize)
     store(summary, g, joined(a, b, 64 * (half as u32)));
 }
 
-// Builds group g, of the words first to first + size - 1, and the groups below it anew, where they have one of the words lo to
-// hi - 1: each from its two halves, down to one word.
-fn rebuild(
-    map: &[u64],
-    n: u32,
-    summary: &mut [u32],
-    g: usize,
-    first: usize,
-    size: usize,
-    lo: usize,
-    hi: usize,
-)
-    requires { ⌜ Matched (now map) n (now summary) × Sited (power (length (now map))) g first size ⌝ }
+// Stores the groups of the words lo to hi - 1, each as its word tells: that of word i is group leaf + i.
+fn store_leaves(map: &[u64], n: u32, summary: &mut [u32], leaf: usize, lo: usize, hi: usize)
+    requires { ⌜ Matched (now map) n (now summary) × (leaf + 1 ≡ power (length (now map))) × (hi ≤ leaf + 1)
+        × (lo ≤ hi) ⌝ }
     ensures { λ r.
-        ⌜ Rebuilds (usable (now (map .entry)) n) (power (length (now (map .entry)))) lo hi g (now (summary .entry))
+        ⌜ ((aim : ℕ → Told) → ((i : ℕ) → lo ≤ i → i < hi → groupOf (usable (now (map .entry)) n) (64 * i) 64 ≡ aim (leaf + i))
+        → Stores aim (now (summary .entry)) (now (summary .exit)) (leaf + lo) (leaf + hi)) ⌝ }
+{
+    let mut i = lo;
+    while i < hi {
+        store_word(summary, leaf + i, free_word(map, n, i));
+        i += 1;
+    }
+}
+
+// Stores the groups g to stop - 1, each as its two halves tell, of half words each.
+fn store_joins(summary: &mut [u32], g: usize, stop: usize, half: usize)
+    requires { ⌜ (stop ≤ 4096) × (half ≤ 4096) × (6 * stop + 2 < length (now summary)) × (g ≤ stop) ⌝ }
+    ensures { λ r.
+        ⌜ ((aim : ℕ → Told) → Joins aim (now (summary .entry)) g stop half
+        → Stores aim (now (summary .entry)) (now (summary .exit)) g stop) ⌝ }
+{
+    let mut i = g;
+    while i < stop {
+        store_joined(summary, i, half);
+        i += 1;
+    }
+}
+
+// Stores group g of a summary. Whether it was so before.
+fn restore(summary: &mut [u32], g: usize, group: Group) -> bool
+    requires { ⌜ (g ≤ 16384) × (3 * g + 2 < length (now summary)) ⌝ }
+    ensures { λ r. ⌜ Decides r (groupIn (now (summary .entry)) g ≡ group)
+        × (now (summary .exit) ≡ withGroup (now (summary .entry)) g group) ⌝ }
+{
+    let same = agree(read(summary, g), group);
+    store(summary, g, group);
+    same
+}
+
+// Stores group g, of word i alone, as its word tells. Whether it was so before.
+fn restore_word(map: &[u64], n: u32, summary: &mut [u32], g: usize, i: usize) -> bool
+    requires { ⌜ (i ≤ 4096) × (n ≤ 64 * length (now map)) × (g ≤ 16384) × (3 * g + 2 < length (now summary)) ⌝ }
+    ensures { λ r. let x = groupOf (usable (now (map .entry)) n) (64 * i) 64 in
+        ⌜ Decides r (groupIn (now (summary .entry)) g ≡ x) × (now (summary .exit) ≡ withGroup (now (summary .entry)) g x) ⌝ }
+{
+    restore(summary, g, word_group(free_word(map, n, i)))
+}
+
+// Stores group g as its two halves tell, of half words each. Whether it was so before.
+fn restore_joined(summary: &mut [u32], g: usize, half: usize) -> bool
+    requires { ⌜ (g ≤ 4096) × (half ≤ 4096) × (3 * (2 * g + 2) + 2 < length (now summary)) ⌝ }
+    ensures { λ r. let x = halvesOf (now (summary .entry)) g half in
+        ⌜ Decides r (groupIn (now (summary .entry)) g ≡ x) × (now (summary .exit) ≡ withGroup (now (summary .entry)) g x) ⌝ }
+{
+    let a = read(summary, 2 * g + 1);
+    let b = read(summary, 2 * g + 2);
+    restore(summary, g, joined(a, b, 64 * (half as u32)))
+}
+
+// Builds the groups above group `from` anew, of size words, from their two halves: up to one that stays as it was, above which
+// none changes.
+fn climb(summary: &mut [u32], from: usize, size: usize)
+    requires { ⌜ Stands (now summary) size from ⌝ }
+    ensures { λ r.
+        ⌜ ((f : ℕ → Bool) (p lo hi : ℕ) (was : List ℕ) → Rises f p lo hi was (now (summary .entry)) size from
+        → Comes f p lo hi was (now (summary .exit))) ⌝ }
+{
+    let mut g = from;
+    let mut half = size;
+    while 0 < g {
+        g = (g - 1) / 2;
+        if restore_joined(summary, g, half) {
+            return;
+        }
+        half = 2 * half;
+    }
+}
+
+// Builds the groups above word i anew.
+fn rebuild_word(map: &[u64], n: u32, summary: &mut [u32], i: usize)
+    requires { ⌜ Matched (now map) n (now summary) × (i < power (length (now map))) ⌝ }
+    ensures { λ r.
+        ⌜ Comes (usable (now (map .entry)) n) (power (length (now (map .entry)))) i (i + 1) (now (summary .entry))
         (now (summary .exit)) ⌝ }
 {
-    if hi <= first {
+    let g = words_of(summary) - 1 + i;
+    if restore_word(map, n, summary, g, i) {
         return;
     }
-    if first + size <= lo {
-        return;
+    climb(summary, g, 1);
+}
+
+// Builds the groups above the words lo to hi - 1 anew, which are two or more: level by level, up to where one group has them
+// all.
+fn rebuild_words(map: &[u64], n: u32, summary: &mut [u32], lo: usize, hi: usize)
+    requires { ⌜ Matched (now map) n (now summary) × (lo + 1 < hi) × (hi ≤ power (length (now map))) ⌝ }
+    ensures { λ r.
+        ⌜ Comes (usable (now (map .entry)) n) (power (length (now (map .entry)))) lo hi (now (summary .entry))
+        (now (summary .exit)) ⌝ }
+{
+    let leaf = words_of(summary) - 1;
+    store_leaves(map, n, summary, leaf, lo, hi);
+    let mut g = leaf + lo;
+    let mut stop = leaf + hi;
+    let mut half: usize = 1;
+    while (g - 1) / 2 + 1 < stop / 2 {
+        g = (g - 1) / 2;
+        stop = stop / 2;
+        store_joins(summary, g, stop, half);
+        half = 2 * half;
     }
+    climb(summary, g, half);
+}
+
+// Builds group g, of the words first to first + size - 1, and the groups below it: each from its two halves, down to one word.
+fn build_group(map: &[u64], n: u32, summary: &mut [u32], g: usize, first: usize, size: usize)
+    requires { ⌜ Matched (now map) n (now summary) × Sited (power (length (now map))) g first size ⌝ }
+    ensures { λ r.
+        ⌜ Builds (usable (now (map .entry)) n) (power (length (now (map .entry)))) g (now (summary .entry))
+        (now (summary .exit)) ⌝ }
+{
     if size == 1 {
         store_word(summary, g, free_word(map, n, first));
         return;
     }
     let half = size / 2;
-    rebuild(map, n, summary, 2 * g + 1, first, half, lo, hi);
-    rebuild(map, n, summary, 2 * g + 2, first + half, half, lo, hi);
+    build_group(map, n, summary, 2 * g + 1, first, half);
+    build_group(map, n, summary, 2 * g + 2, first + half, half);
     store_joined(summary, g, half);
-}
-
-// Stores the groups of one word, of which there are count: each as its word tells.
-fn store_words(map: &[u64], n: u32, summary: &mut [u32], count: usize)
-    requires { ⌜ Matched (now map) n (now summary) × Level (power (length (now map))) count 1 ⌝ }
-    ensures { λ r.
-        ⌜ RightFrom (usable (now (map .entry)) n) (power (length (now (map .entry)))) (now (summary .exit)) (count - 1) ⌝ }
-{
-    let mut i = count;
-    while 0 < i {
-        i = i - 1;
-        store_word(summary, count - 1 + i, free_word(map, n, i));
-    }
-}
-
-// Stores the groups of two times half words, of which there are count: each as its two halves tell.
-fn store_level(summary: &mut [u32], count: usize, half: usize)
-    requires { ⌜ (0 < count) × (count ≤ 2048) × (half ≤ 4096) × (12 * count < length (now summary) + 4) ⌝ }
-    ensures { λ r.
-        ⌜ ((f : ℕ → Bool) (p : ℕ) → Level p count (2 * half) → RightFrom f p (now (summary .entry)) (2 * count - 1)
-        → RightFrom f p (now (summary .exit)) (count - 1)) ⌝ }
-{
-    let mut i = count;
-    while 0 < i {
-        i = i - 1;
-        store_joined(summary, count - 1 + i, half);
-    }
-}
-
-// Builds the groups of size words, of which there are count, and the groups below them: each from its two halves, down to one
-// word. A loop stores all groups of a size: on a full card a call for each group took three times as long.
-fn build_level(map: &[u64], n: u32, summary: &mut [u32], count: usize, size: usize)
-    requires { ⌜ Matched (now map) n (now summary) × Level (power (length (now map))) count size ⌝ }
-    ensures { λ r.
-        ⌜ RightFrom (usable (now (map .entry)) n) (power (length (now (map .entry)))) (now (summary .exit)) (count - 1) ⌝ }
-{
-    if size == 1 {
-        store_words(map, n, summary, count);
-        return;
-    }
-    let half = size / 2;
-    build_level(map, n, summary, 2 * count, half);
-    store_level(summary, count, half);
 }
 
 // The summary of a map of n blocks, built anew.
@@ -140,11 +200,11 @@ pub fn build(map: &[u64], n: u32, summary: &mut [u32])
     requires { ⌜ Matched (now map) n (now summary) ⌝ }
     ensures { λ r. ⌜ now (summary .exit) ≡ ownSummary (now (map .entry)) n ⌝ }
 {
-    build_level(map, n, summary, 1, words_of(summary));
+    build_group(map, n, summary, 0, 0, words_of(summary));
 }
 
-// The summary after the blocks start to start + count - 1 of the map have changed: only the groups above the words that hold
-// one of them are built anew.
+// The summary after the blocks start to start + count - 1 of the map have changed: only groups above the words that hold one of
+// them are built anew.
 pub fn update(map: &[u64], n: u32, summary: &mut [u32], start: u32, count: u32)
     requires { ⌜ Matched (now map) n (now summary) × (start + count ≤ 64 * length (now map)) ⌝ }
     ensures { λ r.
@@ -153,15 +213,11 @@ pub fn update(map: &[u64], n: u32, summary: &mut [u32], start: u32, count: u32)
     if count == 0 {
         return;
     }
-    let p = words_of(summary);
-    rebuild(
-        map,
-        n,
-        summary,
-        0,
-        0,
-        p,
-        (start / 64) as usize,
-        ((start + count + 63) / 64) as usize,
-    );
+    let lo = (start / 64) as usize;
+    let hi = ((start + count + 63) / 64) as usize;
+    if lo + 1 == hi {
+        rebuild_word(map, n, summary, lo);
+        return;
+    }
+    rebuild_words(map, n, summary, lo, hi);
 }

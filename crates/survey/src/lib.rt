@@ -31,8 +31,7 @@ pub struct Counts {
     pub longest: u32,
 }
 
-// A word before the blocks passed. A word with no free block needs no table, but it is looked for only where no block
-// passed is free: further on the test would be guessed wrong too often.
+// A word before the blocks passed. A word with no free block needs no table.
 fn prepend_word(table: &[u8; 512], passed: Passed, w: u64) -> Passed
     requires { ⌜ Ruled (now table) ⌝ }
     requires { ⌜ (passed .head ≤ 15000000) × (passed .runs ≤ 15000000) ⌝ }
@@ -41,14 +40,12 @@ fn prepend_word(table: &[u8; 512], passed: Passed, w: u64) -> Passed
         → Summary (r .head) (r .longest) (r .runs) (bitsOf 64 w ++ ys)) ⌝ }
     ensures { λ r. ⌜ (r .head ≤ passed .head + 2040) × (r .runs ≤ passed .runs + 2040) ⌝ }
 {
-    if passed.longest == 0 {
-        if w == 0 {
-            return Passed {
-                head: 0,
-                longest: 0,
-                runs: passed.runs,
-            };
-        }
+    if w == 0 {
+        return Passed {
+            head: 0,
+            longest: passed.longest,
+            runs: passed.runs,
+        };
     }
     if 14 <= passed.longest {
         if bytes_short(w) {

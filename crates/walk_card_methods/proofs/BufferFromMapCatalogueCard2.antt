@@ -1,7 +1,7 @@
--- Written by tools/walks: every function (self: Shape, map: &[u64], catalogue: &[Entry], card: &[u8], sheet: u32, place: u32,
--- buffer: &mut [u8]) whose code is
+-- Written by tools/walks: every function (self: Shape, role: u32, map: &[u64], catalogue: &[Entry], card: &[u8], sheet: u32,
+-- place: u32, buffer: &mut [u8]) whose code is
 --     let slot: Slot = find(catalogue, sheet);
---     core(self, map, card, slot, sheet, place, buffer)
+--     core(self, role, map, card, slot, sheet, place, buffer)
 -- One walk serves every choice of the callees: it takes their names and what their contracts say. The types by value are any,
 -- too.
 -- Assumes `Given`.
@@ -57,24 +57,27 @@ module _ (Slot Shape Outcome : Value) where
   signature = record {
     lifetimes = 4;
     outlives = [];
-    params = plain (λ _. (rowOf Shape)) ∷ shrSlice 0 tt (λ _. u64) ∷ shrSlice 1 tt (λ _. Entry′.the-row)
+    params = plain (λ _. (rowOf Shape)) ∷ plain (λ _. u32) ∷ shrSlice 0 tt (λ _. u64) ∷ shrSlice 1 tt (λ _. Entry′.the-row)
         ∷ shrSlice 2 tt (λ _. u8) ∷ plain (λ _. u32) ∷ plain (λ _. u32) ∷ mutSlice 3 tt (λ _. u8) ∷ [];
     result = plain (λ _. (rowOf Outcome));
   }
 
   abbrev ended : Ended
-  ended = record { signature = signature; kept = (yes, (yes, (yes, (yes, (yes, (yes, (yes, tt))))))) }
+  ended = record { signature = signature; kept = (yes, (yes, (yes, (yes, (yes, (yes, (yes, (yes, tt)))))))) }
 
   abbrev stayed : Stays (ended .signature .params) (ended .kept)
   stayed = (
     stay-none (λ _. (rowOf Shape)) yes,
     (
-      stay-none-slice (0 ∷ []) tt (plain (λ _. u64)) yes,
+      stay-none (λ _. u32) yes,
       (
-        stay-none-slice (1 ∷ []) tt (plain (λ _. Entry′.the-row)) yes,
+        stay-none-slice (0 ∷ []) tt (plain (λ _. u64)) yes,
         (
-          stay-none-slice (2 ∷ []) tt (plain (λ _. u8)) yes,
-          (stay-none (λ _. u32) yes, (stay-none (λ _. u32) yes, (stay-slice (3 ∷ []) tt (plain (λ _. u8)), tt))),
+          stay-none-slice (1 ∷ []) tt (plain (λ _. Entry′.the-row)) yes,
+          (
+            stay-none-slice (2 ∷ []) tt (plain (λ _. u8)) yes,
+            (stay-none (λ _. u32) yes, (stay-none (λ _. u32) yes, (stay-slice (3 ∷ []) tt (plain (λ _. u8)), tt))),
+          ),
         ),
       ),
     ),
@@ -85,18 +88,18 @@ module _ (Slot Shape Outcome : Value) where
   function #find #core = record {
     lifetimes = 4;
     outlives = [];
-    params = 7;
-    locals = local (mirOf Outcome) valueLocal ∷ local (mirOf Shape) valueLocal ∷ local
-        (sliceTy (tyRef (named 0) imm (tyInt w64))) valueLocal ∷ local (sliceTy (tyRef (named 1) imm
-        (pointee (Entry′.the-row .written)))) valueLocal ∷ local (sliceTy (tyRef (named 2) imm (tyInt w8))) valueLocal
-        ∷ local (tyInt w32) valueLocal ∷ local (tyInt w32) valueLocal ∷ local (sliceTy (tyRef (named 3) mut (tyInt w8)))
-        valueLocal ∷ local (mirOf Slot) valueLocal ∷ local (tyRef erased mut (tyInt w8)) valueLocal
-        ∷ local (sliceTy (tyRef erased mut (tyInt w8))) valueLocal ∷ [];
-    body = seq (call #find (copy (place 3 []) ∷ copy (place 5 []) ∷ []) (place 8 []))
-        (seq (assign (place 9 []) (addrOf (place 7 (field 0 ∷ deref (tyInt w8) ∷ []))))
-        (seq (assign (place 10 []) (aggregate (copy (place 9 []) ∷ copy (place 7 (field 1 ∷ [])) ∷ [])))
-        (seq (call #core (copy (place 1 []) ∷ copy (place 2 []) ∷ copy (place 4 []) ∷ copy (place 8 []) ∷ copy (place 5 [])
-        ∷ copy (place 6 []) ∷ copy (place 10 []) ∷ []) (place 0 [])) return)));
+    params = 8;
+    locals = local (mirOf Outcome) valueLocal ∷ local (mirOf Shape) valueLocal ∷ local (tyInt w32) valueLocal
+        ∷ local (sliceTy (tyRef (named 0) imm (tyInt w64))) valueLocal ∷ local (sliceTy
+        (tyRef (named 1) imm (pointee (Entry′.the-row .written)))) valueLocal ∷ local (sliceTy (tyRef (named 2) imm (tyInt w8)))
+        valueLocal ∷ local (tyInt w32) valueLocal ∷ local (tyInt w32) valueLocal ∷ local
+        (sliceTy (tyRef (named 3) mut (tyInt w8))) valueLocal ∷ local (mirOf Slot) valueLocal
+        ∷ local (tyRef erased mut (tyInt w8)) valueLocal ∷ local (sliceTy (tyRef erased mut (tyInt w8))) valueLocal ∷ [];
+    body = seq (call #find (copy (place 4 []) ∷ copy (place 6 []) ∷ []) (place 9 []))
+        (seq (assign (place 10 []) (addrOf (place 8 (field 0 ∷ deref (tyInt w8) ∷ []))))
+        (seq (assign (place 11 []) (aggregate (copy (place 10 []) ∷ copy (place 8 (field 1 ∷ [])) ∷ [])))
+        (seq (call #core (copy (place 1 []) ∷ copy (place 2 []) ∷ copy (place 3 []) ∷ copy (place 5 []) ∷ copy (place 9 [])
+        ∷ copy (place 6 []) ∷ copy (place 7 []) ∷ copy (place 11 []) ∷ []) (place 0 [])) return)));
   }
 
   -- ---- what `find` is, and what it ensures
@@ -135,28 +138,31 @@ module _ (Slot Shape Outcome : Value) where
   core-signature = record {
     lifetimes = 3;
     outlives = [];
-    params = plain (λ _. (rowOf Shape)) ∷ shrSlice 0 tt (λ _. u64) ∷ shrSlice 1 tt (λ _. u8) ∷ plain (λ _. (rowOf Slot))
-        ∷ plain (λ _. u32) ∷ plain (λ _. u32) ∷ mutSlice 2 tt (λ _. u8) ∷ [];
+    params = plain (λ _. (rowOf Shape)) ∷ plain (λ _. u32) ∷ shrSlice 0 tt (λ _. u64) ∷ shrSlice 1 tt (λ _. u8)
+        ∷ plain (λ _. (rowOf Slot)) ∷ plain (λ _. u32) ∷ plain (λ _. u32) ∷ mutSlice 2 tt (λ _. u8) ∷ [];
     result = plain (λ _. (rowOf Outcome));
   }
 
   abbrev core-ended : Ended
-  core-ended = record { signature = core-signature; kept = (yes, (yes, (yes, (yes, (yes, (yes, (yes, tt))))))) }
+  core-ended = record { signature = core-signature; kept = (yes, (yes, (yes, (yes, (yes, (yes, (yes, (yes, tt)))))))) }
 
   abbrev core-Model : Type 0 → Type 0
-  core-Model X = (denotes Shape) → List ℕ → List ℕ → (denotes Slot) → ℕ → ℕ → List ℕ → X
+  core-Model X = (denotes Shape) → ℕ → List ℕ → List ℕ → (denotes Slot) → ℕ → ℕ → List ℕ → X
 
   module _ (core-out : core-Model (denotes Outcome)) (core-x-buffer : core-Model (List ℕ)) where
-    abbrev core-says : (denotes Shape) → List ℕ → List ℕ → (denotes Slot) → ℕ → ℕ → List ℕ → (denotes Outcome) → List ℕ → Type 0
-    core-says a0 a1 a2 a3 a4 a5 a6 r b6 = (r ≡ core-out a0 a1 a2 a3 a4 a5 a6) × (b6 ≡ core-x-buffer a0 a1 a2 a3 a4 a5 a6)
+    abbrev core-says : (denotes Shape) → ℕ → List ℕ → List ℕ → (denotes Slot) → ℕ → ℕ → List ℕ → (denotes Outcome) → List ℕ
+        → Type 0
+    core-says a0 a1 a2 a3 a4 a5 a6 a7 r b7 = (r ≡ core-out a0 a1 a2 a3 a4 a5 a6 a7) × (b7
+        ≡ core-x-buffer a0 a1 a2 a3 a4 a5 a6 a7)
 
     module _ {M : Type 1} (𝓤 : URA M) where
       abbrev core-clauses : Clauses 𝓤 core-ended
       core-clauses κs a = record {
         ghost = Unit {0};
         requires = λ _. emp 𝓤;
-        ensures = λ _ r e. fact 𝓤 (core-says (a .0) (now (a .1 .0)) (now (a .1 .1 .0)) (a .1 .1 .1 .0) (a .1 .1 .1 .1 .0)
-            (a .1 .1 .1 .1 .1 .0) (now (a .1 .1 .1 .1 .1 .1 .0)) r (now (e .1 .1 .1 .1 .1 .1 .0)));
+        ensures = λ _ r e. fact 𝓤 (core-says (a .0) (a .1 .0) (now (a .1 .1 .0)) (now (a .1 .1 .1 .0)) (a .1 .1 .1 .1 .0)
+            (a .1 .1 .1 .1 .1 .0) (a .1 .1 .1 .1 .1 .1 .0) (now (a .1 .1 .1 .1 .1 .1 .1 .0)) r
+            (now (e .1 .1 .1 .1 .1 .1 .1 .0)));
       }
 
       module _ (H : Heap 𝓤) (A : Atoms 𝓤) where
@@ -166,16 +172,16 @@ module _ (Slot Shape Outcome : Value) where
   module _ (#find #core : Name) (find-out : find-Model (denotes Slot)) (core-out : core-Model (denotes Outcome))
       (core-x-buffer : core-Model (List ℕ)) where
     -- ---- what the chain gives, call by call
-    module _ (x-self : (denotes Shape)) (x-map : List ℕ) (x-catalogue : List Entry) (x-card : List ℕ) (x-sheet : ℕ)
+    module _ (x-self : (denotes Shape)) (x-role : ℕ) (x-map : List ℕ) (x-catalogue : List Entry) (x-card : List ℕ) (x-sheet : ℕ)
         (x-place : ℕ) (x-buffer : List ℕ) where
       abbrev v-slot-of : (denotes Slot)
       v-slot-of = find-out x-catalogue x-sheet
 
       abbrev v-result-of : (denotes Outcome)
-      v-result-of = core-out x-self x-map x-card v-slot-of x-sheet x-place x-buffer
+      v-result-of = core-out x-self x-role x-map x-card v-slot-of x-sheet x-place x-buffer
 
       abbrev z-core-x-buffer-of : List ℕ
-      z-core-x-buffer-of = core-x-buffer x-self x-map x-card v-slot-of x-sheet x-place x-buffer
+      z-core-x-buffer-of = core-x-buffer x-self x-role x-map x-card v-slot-of x-sheet x-place x-buffer
 
       abbrev Says : (denotes Outcome) → List ℕ → Type 0
       Says r x-buffer′ = (r ≡ v-result-of) × (x-buffer′ ≡ z-core-x-buffer-of)
@@ -185,22 +191,29 @@ module _ (Slot Shape Outcome : Value) where
       clauses κs a = record {
         ghost = Unit {0};
         requires = λ _. emp 𝓤;
-        ensures = λ _ r e. fact 𝓤 (Says (a .0) (now (a .1 .0)) (now (a .1 .1 .0)) (now (a .1 .1 .1 .0)) (a .1 .1 .1 .1 .0)
-            (a .1 .1 .1 .1 .1 .0) (now (a .1 .1 .1 .1 .1 .1 .0)) r (now (e .1 .1 .1 .1 .1 .1 .0)));
+        ensures = λ _ r e. fact 𝓤 (Says (a .0) (a .1 .0) (now (a .1 .1 .0)) (now (a .1 .1 .1 .0)) (now (a .1 .1 .1 .1 .0))
+            (a .1 .1 .1 .1 .1 .0) (a .1 .1 .1 .1 .1 .1 .0) (now (a .1 .1 .1 .1 .1 .1 .1 .0)) r
+            (now (e .1 .1 .1 .1 .1 .1 .1 .0)));
       }
 
     module _ {M : Type 1} (𝓤 : URA M) (H : Heap 𝓤) (A : Atoms 𝓤) (W : Given 𝓤 H A) (κ₀ κ₁ κ₂ κ₃ : Lft) (q₀ q₁ q₂ q₃ : Share)
-        (x-self : (denotes Shape)) (x-map : RefT (List ℕ)) (x-catalogue : RefT (List Entry)) (x-card : RefT (List ℕ))
-        (x-sheet : ℕ) (x-place : ℕ) (x-buffer : RefT (List ℕ))
-        (is-x-self : Is (rowOf Shape) x-self ((valsOf Shape) x-self)) (room-x-map : Room u64 (length (now x-map)))
-        (room-x-catalogue : Room Entry′.the-row (length (now x-catalogue))) (room-x-card : Room u8 (length (now x-card)))
-        (is-x-sheet : Is u32 x-sheet ((uint-vals w32) x-sheet)) (is-x-place : Is u32 x-place ((uint-vals w32) x-place))
-        (room-x-buffer : Room u8 (length (now x-buffer))) where
+        (x-self : (denotes Shape)) (x-role : ℕ) (x-map : RefT (List ℕ)) (x-catalogue : RefT (List Entry))
+        (x-card : RefT (List ℕ)) (x-sheet : ℕ) (x-place : ℕ) (x-buffer : RefT (List ℕ))
+        (is-x-self : Is (rowOf Shape) x-self ((valsOf Shape) x-self)) (is-x-role : Is u32 x-role ((uint-vals w32) x-role))
+        (room-x-map : Room u64 (length (now x-map))) (room-x-catalogue : Room Entry′.the-row (length (now x-catalogue)))
+        (room-x-card : Room u8 (length (now x-card))) (is-x-sheet : Is u32 x-sheet ((uint-vals w32) x-sheet))
+        (is-x-place : Is u32 x-place ((uint-vals w32) x-place)) (room-x-buffer : Room u8 (length (now x-buffer))) where
       abbrev m-x-self : Val
       m-x-self = only ((valsOf Shape) x-self)
 
       typed-x-self : Holds (hasTy (mirOf Shape) m-x-self) × WT m-x-self
       typed-x-self = (Shape .typed 𝓤 H A W) x-self _ is-x-self .0
+
+      abbrev m-x-role : Val
+      m-x-role = only ((uint-vals w32) x-role)
+
+      typed-x-role : Holds (hasTy (tyInt w32) m-x-role) × WT m-x-role
+      typed-x-role = (uint-lawful 𝓤 H A W w32 .typed) x-role _ is-x-role .0
 
       abbrev s-x-map : Val
       s-x-map = sliceVal (x-map .ptr) (length (now x-map))
@@ -238,14 +251,18 @@ module _ (Slot Shape Outcome : Value) where
       abbrev at-x-buffer : GName → List ℕ → RefT (List ℕ)
       at-x-buffer δ l = record { ptr = x-buffer .ptr; name = δ; now = l }
 
-      abbrev args : (denotes Shape) × (RefT (List ℕ) × (RefT (List Entry) × (RefT (List ℕ)
-          × (ℕ × (ℕ × (RefT (List ℕ) × Unit {0}))))))
-      args = (x-self, (x-map, (x-catalogue, (x-card, (x-sheet, (x-place, (x-buffer, tt)))))))
+      abbrev args : (denotes Shape) × (ℕ × (RefT (List ℕ) × (RefT (List Entry) × (RefT (List ℕ)
+          × (ℕ × (ℕ × (RefT (List ℕ) × Unit {0})))))))
+      args = (x-self, (x-role, (x-map, (x-catalogue, (x-card, (x-sheet, (x-place, (x-buffer, tt))))))))
 
-      abbrev vals : List Val × (List Val × (List Val × (List Val × (List Val × (List Val × (List Val × Unit {0}))))))
+      abbrev vals : List Val × (List Val × (List Val × (List Val × (List Val × (List Val
+          × (List Val × (List Val × Unit {0})))))))
       vals = (
         m-x-self ∷ [],
-        (s-x-map ∷ [], (s-x-catalogue ∷ [], (s-x-card ∷ [], (m-x-sheet ∷ [], (m-x-place ∷ [], (s-x-buffer ∷ [], tt)))))),
+        (
+          m-x-role ∷ [],
+          (s-x-map ∷ [], (s-x-catalogue ∷ [], (s-x-card ∷ [], (m-x-sheet ∷ [], (m-x-place ∷ [], (s-x-buffer ∷ [], tt)))))),
+        ),
       )
 
       abbrev bound : walkOf 𝓤 H A ended stayed (clauses 𝓤) .Ghost
@@ -255,13 +272,14 @@ module _ (Slot Shape Outcome : Value) where
       Post = walkOf 𝓤 H A ended stayed (clauses 𝓤) .post bound
 
       abbrev v-slot : (denotes Slot)
-      v-slot = v-slot-of x-self (now x-map) (now x-catalogue) (now x-card) x-sheet x-place (now x-buffer)
+      v-slot = v-slot-of x-self x-role (now x-map) (now x-catalogue) (now x-card) x-sheet x-place (now x-buffer)
 
       abbrev v-result : (denotes Outcome)
-      v-result = v-result-of x-self (now x-map) (now x-catalogue) (now x-card) x-sheet x-place (now x-buffer)
+      v-result = v-result-of x-self x-role (now x-map) (now x-catalogue) (now x-card) x-sheet x-place (now x-buffer)
 
       abbrev z-core-x-buffer : List ℕ
-      z-core-x-buffer = z-core-x-buffer-of x-self (now x-map) (now x-catalogue) (now x-card) x-sheet x-place (now x-buffer)
+      z-core-x-buffer = z-core-x-buffer-of x-self x-role (now x-map) (now x-catalogue) (now x-card) x-sheet x-place
+          (now x-buffer)
 
       abbrev m-v-slot : Val
       m-v-slot = only ((valsOf Slot) v-slot)
@@ -291,9 +309,10 @@ module _ (Slot Shape Outcome : Value) where
           fjoin ! $ bring ! (1 ∷ 0 ∷ []) $ join ! $ frame ! $ done !
 
       -- ---- the caller has what `core` asks
-      abbrev core-args : (δ₀-core : GName) → (denotes Shape) × (RefT (List ℕ) × (RefT (List ℕ)
-          × ((denotes Slot) × (ℕ × (ℕ × (RefT (List ℕ) × Unit {0}))))))
-      core-args δ₀-core = (x-self, (x-map, (x-card, (v-slot, (x-sheet, (x-place, (at-x-buffer δ₀-core (now x-buffer), tt)))))))
+      abbrev core-args : (δ₀-core : GName) → (denotes Shape) × (ℕ × (RefT (List ℕ) × (RefT (List ℕ)
+          × ((denotes Slot) × (ℕ × (ℕ × (RefT (List ℕ) × Unit {0})))))))
+      core-args δ₀-core =
+          (x-self, (x-role, (x-map, (x-card, (v-slot, (x-sheet, (x-place, (at-x-buffer δ₀-core (now x-buffer), tt))))))))
 
       abbrev to-core : (ν₀-core : ℕ) (δ₀-core : GName) → (core-contract core-out core-x-buffer 𝓤 H A) .Ghost
       to-core ν₀-core δ₀-core = (
@@ -304,7 +323,10 @@ module _ (Slot Shape Outcome : Value) where
           core-args δ₀-core,
           (
             m-x-self ∷ [],
-            (s-x-map ∷ [], (s-x-card ∷ [], (m-v-slot ∷ [], (m-x-sheet ∷ [], (m-x-place ∷ [], (s-x-buffer ∷ [], tt)))))),
+            (
+              m-x-role ∷ [],
+              (s-x-map ∷ [], (s-x-card ∷ [], (m-v-slot ∷ [], (m-x-sheet ∷ [], (m-x-place ∷ [], (s-x-buffer ∷ [], tt)))))),
+            ),
           ),
         ),
         tt,
@@ -324,6 +346,7 @@ module _ (Slot Shape Outcome : Value) where
           owned ! u32 (Is u32) (uint-makes 𝓤 H A W w32) x-sheet _ is-x-sheet $ fjoin ! $
           owned ! (rowOf Slot) (Is (rowOf Slot)) (Slot .makes 𝓤 H A) v-slot _ is-v-slot $ fjoin ! $
           bring ! (3 ∷ 0 ∷ []) $ fjoin ! $ bring ! (2 ∷ 0 ∷ []) $ fjoin ! $
+          owned ! u32 (Is u32) (uint-makes 𝓤 H A W w32) x-role _ is-x-role $ fjoin ! $
           owned ! (rowOf Shape) (Is (rowOf Shape)) (Shape .makes 𝓤 H A) x-self _ is-x-self $ fjoin ! $
           bring ! (1 ∷ 0 ∷ []) $ join ! $ frame ! $ done !
 
@@ -341,11 +364,13 @@ module _ (Slot Shape Outcome : Value) where
           (MutSlice (named 3) κ₃ u8 .own (at-x-buffer (x-buffer .name) z-core-x-buffer) (s-x-buffer ∷ [])) ∷ ‵ (flft κ₃ q₃)
           ∷ []) ∵
           suffices ! _ (ends-at 𝓤 H A ended stayed (clauses 𝓤) W bound m-v-result v-result
-          (tt, (tt, (tt, (tt, (tt, (tt, (z-core-x-buffer, tt))))))) (tt, (tt, (tt, (tt, (tt, (tt, (l-x-buffer, tt)))))))) $
+          (tt, (tt, (tt, (tt, (tt, (tt, (tt, (z-core-x-buffer, tt))))))))
+          (tt, (tt, (tt, (tt, (tt, (tt, (tt, (l-x-buffer, tt))))))))) $
           says ! (refl, refl) $ nothing ! $ bring ! (2 ∷ 3 ∷ 4 ∷ 5 ∷ 0 ∷ []) $ group ! 5 $ frame ! $ nothing ! $
           bring ! (4 ∷ 0 ∷ []) $ fjoin ! $ owned ! u32 (Is u32) (uint-makes 𝓤 H A W w32) x-place _ is-x-place $
           fjoin ! $ owned ! u32 (Is u32) (uint-makes 𝓤 H A W w32) x-sheet _ is-x-sheet $ fjoin ! $
           bring ! (3 ∷ 0 ∷ []) $ fjoin ! $ bring ! (2 ∷ 0 ∷ []) $ fjoin ! $ bring ! (1 ∷ 0 ∷ []) $ fjoin ! $
+          owned ! u32 (Is u32) (uint-makes 𝓤 H A W w32) x-role _ is-x-role $ fjoin ! $
           owned ! (rowOf Shape) (Is (rowOf Shape)) (Shape .makes 𝓤 H A) x-self _ is-x-self $ fjoin ! $
           owned ! (rowOf Outcome) (Is (rowOf Outcome)) (Outcome .makes 𝓤 H A) v-result _ is $ bring ! (1 ∷ 0 ∷ []) $
           done !
@@ -354,24 +379,24 @@ module _ (Slot Shape Outcome : Value) where
       walk : (𝓣 : Tables 𝓤 H) → Triple 𝓤 (𝓣 .C #find) (find-contract find-out 𝓤 H A) → Triple 𝓤 (𝓣 .C #core)
           (core-contract core-out core-x-buffer 𝓤 H A) → ent 𝓤 (onEntry 𝓤 H A signature (κ₀, (κ₁, (κ₂, (κ₃, tt))))
           (q₀, (q₁, (q₂, (q₃, tt)))) args vals)
-          (WpFn 𝓤 H (𝓣 .C) (𝓣 .Λ) (function #find #core) (m-x-self ∷ s-x-map ∷ s-x-catalogue ∷ s-x-card ∷ m-x-sheet ∷ m-x-place
-          ∷ s-x-buffer ∷ []) Post)
+          (WpFn 𝓤 H (𝓣 .C) (𝓣 .Λ) (function #find #core) (m-x-self ∷ m-x-role ∷ s-x-map ∷ s-x-catalogue ∷ s-x-card ∷ m-x-sheet
+          ∷ m-x-place ∷ s-x-buffer ∷ []) Post)
       walk 𝓣 known-find known-core =
           qed W ((‵ (flft κ₀ q₀) ⊛ ‵ (flft κ₁ q₁) ⊛ ‵ (flft κ₂ q₂) ⊛ ‵ (flft κ₃ q₃) ⊛ ‵ ftrue)
-          ∷ ‵ (owns ((rowOf Shape) ∷ ShrSlice (named 0) κ₀ u64 ∷ ShrSlice (named 1) κ₁ Entry′.the-row ∷ ShrSlice (named 2) κ₂ u8
-          ∷ u32 ∷ u32 ∷ MutSlice (named 3) κ₃ u8 ∷ []) args vals) ∷ []) ∵
-          enter ! (𝓣 .C) (𝓣 .Λ) (function #find #core) (m-x-self ∷ s-x-map ∷ s-x-catalogue ∷ s-x-card ∷ m-x-sheet ∷ m-x-place
-          ∷ s-x-buffer ∷ []) _ $
+          ∷ ‵ (owns ((rowOf Shape) ∷ u32 ∷ ShrSlice (named 0) κ₀ u64 ∷ ShrSlice (named 1) κ₁ Entry′.the-row
+          ∷ ShrSlice (named 2) κ₂ u8 ∷ u32 ∷ u32 ∷ MutSlice (named 3) κ₃ u8 ∷ []) args vals) ∷ []) ∵
+          enter ! (𝓣 .C) (𝓣 .Λ) (function #find #core) (m-x-self ∷ m-x-role ∷ s-x-map ∷ s-x-catalogue ∷ s-x-card ∷ m-x-sheet
+          ∷ m-x-place ∷ s-x-buffer ∷ []) _ $
           alloc1 ! (λ l₀. alloc1 ! (λ l₁. alloc1 ! (λ l₂. alloc1 ! (λ l₃. alloc1 ! (λ l₄. alloc1 ! (λ l₅.
-          alloc1 ! (λ l₆. alloc1 ! (λ l₇. alloc1 ! (λ l₈. alloc1 ! (λ l₉. alloc1 ! (λ l₁₀. alloc0 ! $ params1 ! $
-          pass1 ! (init ! 18 refl typed-x-self) $
+          alloc1 ! (λ l₆. alloc1 ! (λ l₇. alloc1 ! (λ l₈. alloc1 ! (λ l₉. alloc1 ! (λ l₁₀. alloc1 ! (λ l₁₁. alloc0 ! $
+          params1 ! $ pass1 ! (init ! 20 refl typed-x-self) $ pass1 ! (init ! 18 refl typed-x-role) $
           pass1 ! (init ! 16 refl (tt, (tt, (record { fits = room-x-map .0 }, tt)))) $
           pass1 ! (init ! 14 refl (tt, (tt, (record { fits = room-x-catalogue .0 }, tt)))) $
           pass1 ! (init ! 12 refl (tt, (tt, (record { fits = room-x-card .0 }, tt)))) $
           pass1 ! (init ! 10 refl typed-x-sheet) $ pass1 ! (init ! 8 refl typed-x-place) $
-          pass1 ! (init ! 6 refl (tt, (tt, (record { fits = room-x-buffer .0 }, tt)))) $ pass0 ! $ bring ! (22 ∷ []) $
-          parts W (_ ∷ _ ∷ _ ∷ _ ∷ []) _ $ bring ! (26 ∷ []) $ fparts W (_ ∷ _ ∷ _ ∷ _ ∷ _ ∷ _ ∷ _ ∷ []) _ $
-          discard ! (0 ∷ 3 ∷ 3 ∷ []) $
+          pass1 ! (init ! 6 refl (tt, (tt, (record { fits = room-x-buffer .0 }, tt)))) $ pass0 ! $ bring ! (24 ∷ []) $
+          parts W (_ ∷ _ ∷ _ ∷ _ ∷ []) _ $ bring ! (28 ∷ []) $ fparts W (_ ∷ _ ∷ _ ∷ _ ∷ _ ∷ _ ∷ _ ∷ _ ∷ []) _ $
+          discard ! (0 ∷ 0 ∷ 3 ∷ 3 ∷ []) $
           -- find
           bring ! (1 ∷ []) $
           use1 W (‵ (ShrSlice (named 1) κ₁ Entry′.the-row .own x-catalogue (s-x-catalogue ∷ []))
@@ -393,7 +418,7 @@ module _ (Slot Shape Outcome : Value) where
           rewrite ! 0 (λ (r : (denotes Slot)). ‵ ((rowOf Slot) .own r (w-find ∷ []))) (e-find) refl $
           peeks ! (rowOf Slot) (Is (rowOf Slot)) (shows 𝓤 H A (rowOf Slot)) v-slot (w-find ∷ []) (λ is-w-find.
           land ! (from ! (stop !)) (init ! 13 refl ((Slot .typed 𝓤 H A W) v-slot _ is-w-find .0)) $
-          rewrite ! 13 (λ (u : Val). ‵ (fat fullShare (mirOf Slot) l₈ 0 u)) (ap only ((Slot .tells) v-slot _ is-w-find)) refl $
+          rewrite ! 13 (λ (u : Val). ‵ (fat fullShare (mirOf Slot) l₉ 0 u)) (ap only ((Slot .tells) v-slot _ is-w-find)) refl $
           discard ! (0 ∷ []) $ parts W (_ ∷ []) _ $
           -- core
           assigns ! (addr ! (from ! (fld ! refl (hop ! (look-in ! 14 (sub ! 0 refl (whole !))) (stop !))))) (from ! (stop !))
@@ -416,28 +441,29 @@ module _ (Slot Shape Outcome : Value) where
           use1 W (raw ((core-contract core-out core-x-buffer 𝓤 H A) .pre (to-core ν₀-core δ₀-core)))
           (goes-core ν₀-core δ₀-core (spelled-v-slot w-find is-w-find)) $
           calls-at ! (fmOf 𝓤 H (W .laws) 𝓣) (core-contract core-out core-x-buffer 𝓤 H A) known-core (to-core ν₀-core δ₀-core)
-          (and-then ! (load ! (from ! (stop !)) (look ! 24 refl)) (and-then ! (load ! (from ! (stop !)) (look ! 22 refl))
-          (and-then ! (load ! (from ! (stop !)) (look ! 18 refl)) (and-then ! (load ! (from ! (stop !)) (look ! 10 refl))
-          (and-then ! (load ! (from ! (stop !)) (look ! 16 refl)) (and-then ! (load ! (from ! (stop !)) (look ! 14 refl))
-          (and-then ! (load ! (from ! (stop !)) (look ! 6 refl)) (no-more !)))))))) (λ w-core.
+          (and-then ! (load ! (from ! (stop !)) (look ! 26 refl)) (and-then ! (load ! (from ! (stop !)) (look ! 24 refl))
+          (and-then ! (load ! (from ! (stop !)) (look ! 22 refl)) (and-then ! (load ! (from ! (stop !)) (look ! 18 refl))
+          (and-then ! (load ! (from ! (stop !)) (look ! 10 refl)) (and-then ! (load ! (from ! (stop !)) (look ! 16 refl))
+          (and-then ! (load ! (from ! (stop !)) (look ! 14 refl)) (and-then ! (load ! (from ! (stop !)) (look ! 6 refl))
+          (no-more !))))))))) (λ w-core.
           use1 W (later (some (λ (r : (denotes Outcome)). ((‵ (flft κ₀ q₀) ⊛ ‵ (flft κ₂ q₂) ⊛ ‵ (flft (ν₀-core ∷ []) fullShare)
           ⊛ ‵ ftrue) ⊛ ‵ ((rowOf Outcome) .own r (w-core ∷ []))) ⊛ raw (ensured 𝓤 H A core-ended
           (core-clauses core-out core-x-buffer 𝓤) (κ₀, (κ₂, (ν₀-core ∷ [], tt))) (core-args δ₀-core) tt r)))) (id⊢ 𝓤 _) $
           await ! tt $ pick ! (λ r-core. split ! $ bring ! (1 ∷ []) $
           use1 W (some (λ (zs-core : Unit {0} × (Unit {0} × (Unit {0} × (Unit {0} × (Unit {0}
-          × (Unit {0} × (List ℕ × Unit {0}))))))). ‵ (lasts core-ended (κ₀, (κ₂, (ν₀-core ∷ [], tt))) (core-args δ₀-core)
-          zs-core) ⊛ raw (fact 𝓤 (core-says core-out core-x-buffer x-self (now x-map) (now x-card) v-slot x-sheet x-place
-          (now x-buffer) r-core (zs-core .1 .1 .1 .1 .1 .1 .0))))) (id⊢ 𝓤 _) $
+          × (Unit {0} × (Unit {0} × (List ℕ × Unit {0})))))))). ‵ (lasts core-ended (κ₀, (κ₂, (ν₀-core ∷ [], tt)))
+          (core-args δ₀-core) zs-core) ⊛ raw (fact 𝓤 (core-says core-out core-x-buffer x-self x-role (now x-map) (now x-card)
+          v-slot x-sheet x-place (now x-buffer) r-core (zs-core .1 .1 .1 .1 .1 .1 .1 .0))))) (id⊢ 𝓤 _) $
           pick ! (λ zs-core. split ! $ bring ! (1 ∷ []) $
-          heard ! (core-says core-out core-x-buffer x-self (now x-map) (now x-card) v-slot x-sheet x-place (now x-buffer) r-core
-          (zs-core .1 .1 .1 .1 .1 .1 .0)) (λ e-core.
-          fparts W (_ ∷ _ ∷ _ ∷ _ ∷ _ ∷ _ ∷ _ ∷ []) _ $ discard ! (0 ∷ 0 ∷ 0 ∷ 0 ∷ 0 ∷ 0 ∷ []) $ fsplit ! $
+          heard ! (core-says core-out core-x-buffer x-self x-role (now x-map) (now x-card) v-slot x-sheet x-place (now x-buffer)
+          r-core (zs-core .1 .1 .1 .1 .1 .1 .1 .0)) (λ e-core.
+          fparts W (_ ∷ _ ∷ _ ∷ _ ∷ _ ∷ _ ∷ _ ∷ _ ∷ []) _ $ discard ! (0 ∷ 0 ∷ 0 ∷ 0 ∷ 0 ∷ 0 ∷ 0 ∷ []) $ fsplit ! $
           bring ! (1 ∷ []) $ feqL ! (λ h-core-x-buffer. bring ! (1 ∷ []) $ split ! $ bring ! (1 ∷ []) $
           rewrite ! 0 (λ (r : (denotes Outcome)). ‵ ((rowOf Outcome) .own r (w-core ∷ []))) (e-core .0) refl $
           rewrite ! 2 (λ (l : List ℕ). ‵ (finally u8 δ₀-core l)) (e-core .1) refl $
           peeks ! (rowOf Outcome) (Is (rowOf Outcome)) (shows 𝓤 H A (rowOf Outcome)) v-result (w-core ∷ []) (λ is-w-core.
-          land ! (from ! (stop !)) (init ! 28 refl ((Outcome .typed 𝓤 H A W) v-result _ is-w-core .0)) $
-          rewrite ! 28 (λ (u : Val). ‵ (fat fullShare (mirOf Outcome) l₀ 0 u)) (ap only ((Outcome .tells) v-result _ is-w-core))
+          land ! (from ! (stop !)) (init ! 30 refl ((Outcome .typed 𝓤 H A W) v-result _ is-w-core .0)) $
+          rewrite ! 30 (λ (u : Val). ‵ (fat fullShare (mirOf Outcome) l₀ 0 u)) (ap only ((Outcome .tells) v-result _ is-w-core))
           refl $
           discard ! (0 ∷ []) $ parts W (_ ∷ _ ∷ _ ∷ []) _ $ bring ! (2 ∷ []) $ lft-end ! tt $
           bring ! (0 ∷ 3 ∷ 2 ∷ []) $
@@ -445,12 +471,12 @@ module _ (Slot Shape Outcome : Value) where
           ⊛ ‵ (flft κ₃ q₃))) (comes-back u8 κ₃ (ν₀-core ∷ []) q₃ (x-buffer .name) (x-buffer .ptr .0) (x-buffer .ptr .1) 𝓤 H A W
           (named 3) (named 2) (now x-buffer) (length (now x-buffer)) refl room-x-buffer δ₀-core z-core-x-buffer
           (ap {B = ℕ} length (sym (e-core .1)) ∙ h-core-x-buffer)) $
-          await ! tt $ split ! $ returns ! (look ! 28 refl) $ leave ! 28 refl refl $ leave ! 26 refl refl $
-          leave ! 24 refl refl $ leave ! 22 refl refl $ leave ! 20 refl refl $ leave ! 18 refl refl $
-          leave ! 16 refl refl $ leave ! 14 refl refl $ leave ! 12 refl refl $ leave ! 10 refl refl $
-          leave ! 8 refl refl $ free0 ! $ bring ! (5 ∷ 2 ∷ 5 ∷ 4 ∷ 3 ∷ 2 ∷ 0 ∷ 0 ∷ []) $
+          await ! tt $ split ! $ returns ! (look ! 30 refl) $ leave ! 30 refl refl $ leave ! 28 refl refl $
+          leave ! 26 refl refl $ leave ! 24 refl refl $ leave ! 22 refl refl $ leave ! 20 refl refl $
+          leave ! 18 refl refl $ leave ! 16 refl refl $ leave ! 14 refl refl $ leave ! 12 refl refl $
+          leave ! 10 refl refl $ leave ! 8 refl refl $ free0 ! $ bring ! (5 ∷ 2 ∷ 5 ∷ 4 ∷ 3 ∷ 2 ∷ 0 ∷ 0 ∷ []) $
           by ! (exits (spelled-v-result w-core is-w-core) (ap {B = ℕ} length (sym (e-core .1))
-          ∙ h-core-x-buffer))))))))))))))))))))))))))
+          ∙ h-core-x-buffer)))))))))))))))))))))))))))
 
     module _ {M : Type 1} (𝓤 : URA M) (H : Heap 𝓤) (A : Atoms 𝓤) (W : Given 𝓤 H A) where
       walks : (𝓣 : Tables 𝓤 H) → Triple 𝓤 (𝓣 .C #find) (find-contract find-out 𝓤 H A) → Triple 𝓤 (𝓣 .C #core)
@@ -460,25 +486,29 @@ module _ (Slot Shape Outcome : Value) where
           walked 𝓤 H A ended stayed (clauses 𝓤) (WpFn 𝓤 H (𝓣 .C) (𝓣 .Λ) (function #find #core))
           (λ κs. (
             (valsOf Shape),
-            (slice-vals, (slice-vals, (slice-vals, ((uint-vals w32), ((uint-vals w32), (slice-vals, tt)))))),
+            ((uint-vals w32), (slice-vals, (slice-vals, (slice-vals, ((uint-vals w32), ((uint-vals w32), (slice-vals, tt))))))),
           ))
           (λ κs. (
             (Shape .tells),
             (
-              shr-slice-tells (named 0) (κs .0) u64,
+              (uint-tells w32),
               (
-                shr-slice-tells (named 1) (κs .1 .0) Entry′.the-row,
+                shr-slice-tells (named 0) (κs .0) u64,
                 (
-                  shr-slice-tells (named 2) (κs .1 .1 .0) u8,
-                  ((uint-tells w32), ((uint-tells w32), (mut-slice-tells (named 3) (κs .1 .1 .1 .0) u8, tt))),
+                  shr-slice-tells (named 1) (κs .1 .0) Entry′.the-row,
+                  (
+                    shr-slice-tells (named 2) (κs .1 .1 .0) u8,
+                    ((uint-tells w32), ((uint-tells w32), (mut-slice-tells (named 3) (κs .1 .1 .1 .0) u8, tt))),
+                  ),
                 ),
               ),
             ),
           ))
           (λ κs qs bounds a g are. via 𝓤 _ (fst∗ 𝓤 _ (emp 𝓤)) (walk 𝓤 H A W (κs .0) (κs .1 .0) (κs .1 .1 .0) (κs .1 .1 .1 .0)
           (qs .0) (qs .1 .0) (qs .1 .1 .0) (qs .1 .1 .1 .0) (a .0) (a .1 .0) (a .1 .1 .0) (a .1 .1 .1 .0) (a .1 .1 .1 .1 .0)
-          (a .1 .1 .1 .1 .1 .0) (a .1 .1 .1 .1 .1 .1 .0) (are .0) (are .1 .0 .0 .1) (are .1 .1 .0 .0 .1) (are .1 .1 .1 .0 .0 .1)
-          (are .1 .1 .1 .1 .0) (are .1 .1 .1 .1 .1 .0) (are .1 .1 .1 .1 .1 .1 .0 .0 .1) 𝓣 known-find known-core))
+          (a .1 .1 .1 .1 .1 .0) (a .1 .1 .1 .1 .1 .1 .0) (a .1 .1 .1 .1 .1 .1 .1 .0) (are .0) (are .1 .0) (are .1 .1 .0 .0 .1)
+          (are .1 .1 .1 .0 .0 .1) (are .1 .1 .1 .1 .0 .0 .1) (are .1 .1 .1 .1 .1 .0) (are .1 .1 .1 .1 .1 .1 .0)
+          (are .1 .1 .1 .1 .1 .1 .1 .0 .0 .1) 𝓣 known-find known-core))
 
       pub meets : (𝓣 : Tables 𝓤 H) → Triple 𝓤 (𝓣 .C #find) (find-contract find-out 𝓤 H A)
           → Triple 𝓤 (𝓣 .C #core) (core-contract core-out core-x-buffer 𝓤 H A) → Meets 𝓤 H A signature
@@ -487,14 +517,17 @@ module _ (Slot Shape Outcome : Value) where
           walk-meets 𝓤 H A ended stayed W (
             goes-none 𝓤 H A W 4 (λ _. (rowOf Shape)) yes (λ κs x f. refl),
             (
-              goes-none-slice 𝓤 H A W 4 (0 ∷ []) tt (plain (λ _. u64)) yes,
+              goes-none 𝓤 H A W 4 (λ _. u32) yes (λ κs x f. refl),
               (
-                goes-none-slice 𝓤 H A W 4 (1 ∷ []) tt (plain (λ _. Entry′.the-row)) yes,
+                goes-none-slice 𝓤 H A W 4 (0 ∷ []) tt (plain (λ _. u64)) yes,
                 (
-                  goes-none-slice 𝓤 H A W 4 (2 ∷ []) tt (plain (λ _. u8)) yes,
+                  goes-none-slice 𝓤 H A W 4 (1 ∷ []) tt (plain (λ _. Entry′.the-row)) yes,
                   (
-                    goes-none 𝓤 H A W 4 (λ _. u32) yes (λ κs x f. refl),
-                    (goes-none 𝓤 H A W 4 (λ _. u32) yes (λ κs x f. refl), (goes-slice 𝓤 H A W 4 3 tt (plain (λ _. u8)), tt)),
+                    goes-none-slice 𝓤 H A W 4 (2 ∷ []) tt (plain (λ _. u8)) yes,
+                    (
+                      goes-none 𝓤 H A W 4 (λ _. u32) yes (λ κs x f. refl),
+                      (goes-none 𝓤 H A W 4 (λ _. u32) yes (λ κs x f. refl), (goes-slice 𝓤 H A W 4 3 tt (plain (λ _. u8)), tt)),
+                    ),
                   ),
                 ),
               ),

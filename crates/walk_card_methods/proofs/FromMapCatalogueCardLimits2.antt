@@ -1,8 +1,8 @@
--- Written by tools/walks: every function (self: Shape, map: &[u64], catalogue: &[Entry], card: &[u8], limits: &[u32; 8], sheet:
--- u32, k: u32) whose code is
+-- Written by tools/walks: every function (self: Shape, role: u32, map: &[u64], catalogue: &[Entry], card: &[u8], limits: &[u32;
+-- 8], sheet: u32, k: u32) whose code is
 --     let slot: Slot = find(catalogue, sheet);
 --     let held: u64 = held_by(catalogue, sheet);
---     core(self, map, card, limits, slot, held, sheet, k)
+--     core(self, role, map, card, limits, slot, held, sheet, k)
 -- One walk serves every choice of the callees: it takes their names and what their contracts say. The types by value are any,
 -- too.
 -- Assumes `Given`.
@@ -54,26 +54,29 @@ module _ (Slot Shape Outcome : Value) where
   signature = record {
     lifetimes = 4;
     outlives = [];
-    params = plain (λ _. (rowOf Shape)) ∷ shrSlice 0 tt (λ _. u64) ∷ shrSlice 1 tt (λ _. Entry′.the-row)
+    params = plain (λ _. (rowOf Shape)) ∷ plain (λ _. u32) ∷ shrSlice 0 tt (λ _. u64) ∷ shrSlice 1 tt (λ _. Entry′.the-row)
         ∷ shrSlice 2 tt (λ _. u8) ∷ shrRef 3 tt (λ _. (Array u32 8)) ∷ plain (λ _. u32) ∷ plain (λ _. u32) ∷ [];
     result = plain (λ _. (rowOf Outcome));
   }
 
   abbrev ended : Ended
-  ended = record { signature = signature; kept = (yes, (yes, (yes, (yes, (yes, (yes, (yes, tt))))))) }
+  ended = record { signature = signature; kept = (yes, (yes, (yes, (yes, (yes, (yes, (yes, (yes, tt)))))))) }
 
   abbrev stayed : Stays (ended .signature .params) (ended .kept)
   stayed = (
     stay-none (λ _. (rowOf Shape)) yes,
     (
-      stay-none-slice (0 ∷ []) tt (plain (λ _. u64)) yes,
+      stay-none (λ _. u32) yes,
       (
-        stay-none-slice (1 ∷ []) tt (plain (λ _. Entry′.the-row)) yes,
+        stay-none-slice (0 ∷ []) tt (plain (λ _. u64)) yes,
         (
-          stay-none-slice (2 ∷ []) tt (plain (λ _. u8)) yes,
+          stay-none-slice (1 ∷ []) tt (plain (λ _. Entry′.the-row)) yes,
           (
-            stay-none-ref (3 ∷ []) tt (plain (λ _. (Array u32 8))) yes,
-            (stay-none (λ _. u32) yes, (stay-none (λ _. u32) yes, tt)),
+            stay-none-slice (2 ∷ []) tt (plain (λ _. u8)) yes,
+            (
+              stay-none-ref (3 ∷ []) tt (plain (λ _. (Array u32 8))) yes,
+              (stay-none (λ _. u32) yes, (stay-none (λ _. u32) yes, tt)),
+            ),
           ),
         ),
       ),
@@ -85,16 +88,16 @@ module _ (Slot Shape Outcome : Value) where
   function #find #held-by #core = record {
     lifetimes = 4;
     outlives = [];
-    params = 7;
-    locals = local (mirOf Outcome) valueLocal ∷ local (mirOf Shape) valueLocal ∷ local
-        (sliceTy (tyRef (named 0) imm (tyInt w64))) valueLocal ∷ local (sliceTy (tyRef (named 1) imm
-        (pointee (Entry′.the-row .written)))) valueLocal ∷ local (sliceTy (tyRef (named 2) imm (tyInt w8))) valueLocal
-        ∷ local (tyRef (named 3) imm (tyArray (tyInt w32) 8)) valueLocal ∷ local (tyInt w32) valueLocal
+    params = 8;
+    locals = local (mirOf Outcome) valueLocal ∷ local (mirOf Shape) valueLocal ∷ local (tyInt w32) valueLocal
+        ∷ local (sliceTy (tyRef (named 0) imm (tyInt w64))) valueLocal ∷ local (sliceTy
+        (tyRef (named 1) imm (pointee (Entry′.the-row .written)))) valueLocal ∷ local (sliceTy (tyRef (named 2) imm (tyInt w8)))
+        valueLocal ∷ local (tyRef (named 3) imm (tyArray (tyInt w32) 8)) valueLocal ∷ local (tyInt w32) valueLocal
         ∷ local (tyInt w32) valueLocal ∷ local (mirOf Slot) valueLocal ∷ local (tyInt w64) valueLocal ∷ [];
-    body = seq (call #find (copy (place 3 []) ∷ copy (place 6 []) ∷ []) (place 8 []))
-        (seq (call #held-by (copy (place 3 []) ∷ copy (place 6 []) ∷ []) (place 9 []))
-        (seq (call #core (copy (place 1 []) ∷ copy (place 2 []) ∷ copy (place 4 []) ∷ copy (place 5 []) ∷ copy (place 8 [])
-        ∷ copy (place 9 []) ∷ copy (place 6 []) ∷ copy (place 7 []) ∷ []) (place 0 [])) return));
+    body = seq (call #find (copy (place 4 []) ∷ copy (place 7 []) ∷ []) (place 9 []))
+        (seq (call #held-by (copy (place 4 []) ∷ copy (place 7 []) ∷ []) (place 10 []))
+        (seq (call #core (copy (place 1 []) ∷ copy (place 2 []) ∷ copy (place 3 []) ∷ copy (place 5 []) ∷ copy (place 6 [])
+        ∷ copy (place 9 []) ∷ copy (place 10 []) ∷ copy (place 7 []) ∷ copy (place 8 []) ∷ []) (place 0 [])) return));
   }
 
   -- ---- what `find` is, and what it ensures
@@ -164,28 +167,30 @@ module _ (Slot Shape Outcome : Value) where
   core-signature = record {
     lifetimes = 3;
     outlives = [];
-    params = plain (λ _. (rowOf Shape)) ∷ shrSlice 0 tt (λ _. u64) ∷ shrSlice 1 tt (λ _. u8) ∷ shrRef 2 tt (λ _. (Array u32 8))
-        ∷ plain (λ _. (rowOf Slot)) ∷ plain (λ _. u64) ∷ plain (λ _. u32) ∷ plain (λ _. u32) ∷ [];
+    params = plain (λ _. (rowOf Shape)) ∷ plain (λ _. u32) ∷ shrSlice 0 tt (λ _. u64) ∷ shrSlice 1 tt (λ _. u8)
+        ∷ shrRef 2 tt (λ _. (Array u32 8)) ∷ plain (λ _. (rowOf Slot)) ∷ plain (λ _. u64) ∷ plain (λ _. u32) ∷ plain (λ _. u32)
+        ∷ [];
     result = plain (λ _. (rowOf Outcome));
   }
 
   abbrev core-ended : Ended
-  core-ended = record { signature = core-signature; kept = (yes, (yes, (yes, (yes, (yes, (yes, (yes, (yes, tt)))))))) }
+  core-ended = record { signature = core-signature; kept = (yes, (yes, (yes, (yes, (yes, (yes, (yes, (yes, (yes, tt))))))))) }
 
   abbrev core-Model : Type 0 → Type 0
-  core-Model X = (denotes Shape) → List ℕ → List ℕ → (List ℕ) → (denotes Slot) → ℕ → ℕ → ℕ → X
+  core-Model X = (denotes Shape) → ℕ → List ℕ → List ℕ → (List ℕ) → (denotes Slot) → ℕ → ℕ → ℕ → X
 
   module _ (core-out : core-Model (denotes Outcome)) where
-    abbrev core-says : (denotes Shape) → List ℕ → List ℕ → (List ℕ) → (denotes Slot) → ℕ → ℕ → ℕ → (denotes Outcome) → Type 0
-    core-says a0 a1 a2 a3 a4 a5 a6 a7 r = r ≡ core-out a0 a1 a2 a3 a4 a5 a6 a7
+    abbrev core-says : (denotes Shape) → ℕ → List ℕ → List ℕ → (List ℕ) → (denotes Slot) → ℕ → ℕ → ℕ → (denotes Outcome)
+        → Type 0
+    core-says a0 a1 a2 a3 a4 a5 a6 a7 a8 r = r ≡ core-out a0 a1 a2 a3 a4 a5 a6 a7 a8
 
     module _ {M : Type 1} (𝓤 : URA M) where
       abbrev core-clauses : Clauses 𝓤 core-ended
       core-clauses κs a = record {
         ghost = Unit {0};
         requires = λ _. emp 𝓤;
-        ensures = λ _ r e. fact 𝓤 (core-says (a .0) (now (a .1 .0)) (now (a .1 .1 .0)) (now (a .1 .1 .1 .0)) (a .1 .1 .1 .1 .0)
-            (a .1 .1 .1 .1 .1 .0) (a .1 .1 .1 .1 .1 .1 .0) (a .1 .1 .1 .1 .1 .1 .1 .0) r);
+        ensures = λ _ r e. fact 𝓤 (core-says (a .0) (a .1 .0) (now (a .1 .1 .0)) (now (a .1 .1 .1 .0)) (now (a .1 .1 .1 .1 .0))
+            (a .1 .1 .1 .1 .1 .0) (a .1 .1 .1 .1 .1 .1 .0) (a .1 .1 .1 .1 .1 .1 .1 .0) (a .1 .1 .1 .1 .1 .1 .1 .1 .0) r);
       }
 
       module _ (H : Heap 𝓤) (A : Atoms 𝓤) where
@@ -195,8 +200,8 @@ module _ (Slot Shape Outcome : Value) where
   module _ (#find #held-by #core : Name) (find-out : find-Model (denotes Slot)) (held-by-out : held-by-Model ℕ)
       (core-out : core-Model (denotes Outcome)) where
     -- ---- what the chain gives, call by call
-    module _ (x-self : (denotes Shape)) (x-map : List ℕ) (x-catalogue : List Entry) (x-card : List ℕ) (x-limits : (List ℕ))
-        (x-sheet : ℕ) (x-k : ℕ) where
+    module _ (x-self : (denotes Shape)) (x-role : ℕ) (x-map : List ℕ) (x-catalogue : List Entry) (x-card : List ℕ)
+        (x-limits : (List ℕ)) (x-sheet : ℕ) (x-k : ℕ) where
       abbrev v-slot-of : (denotes Slot)
       v-slot-of = find-out x-catalogue x-sheet
 
@@ -204,7 +209,7 @@ module _ (Slot Shape Outcome : Value) where
       v-held-of = held-by-out x-catalogue x-sheet
 
       abbrev v-result-of : (denotes Outcome)
-      v-result-of = core-out x-self x-map x-card x-limits v-slot-of v-held-of x-sheet x-k
+      v-result-of = core-out x-self x-role x-map x-card x-limits v-slot-of v-held-of x-sheet x-k
 
       abbrev Says : (denotes Outcome) → Type 0
       Says r = r ≡ v-result-of
@@ -214,21 +219,28 @@ module _ (Slot Shape Outcome : Value) where
       clauses κs a = record {
         ghost = Unit {0};
         requires = λ _. emp 𝓤;
-        ensures = λ _ r e. fact 𝓤 (Says (a .0) (now (a .1 .0)) (now (a .1 .1 .0)) (now (a .1 .1 .1 .0)) (now (a .1 .1 .1 .1 .0))
-            (a .1 .1 .1 .1 .1 .0) (a .1 .1 .1 .1 .1 .1 .0) r);
+        ensures = λ _ r e. fact 𝓤 (Says (a .0) (a .1 .0) (now (a .1 .1 .0)) (now (a .1 .1 .1 .0)) (now (a .1 .1 .1 .1 .0))
+            (now (a .1 .1 .1 .1 .1 .0)) (a .1 .1 .1 .1 .1 .1 .0) (a .1 .1 .1 .1 .1 .1 .1 .0) r);
       }
 
     module _ {M : Type 1} (𝓤 : URA M) (H : Heap 𝓤) (A : Atoms 𝓤) (W : Given 𝓤 H A) (κ₀ κ₁ κ₂ κ₃ : Lft) (q₀ q₁ q₂ q₃ : Share)
-        (x-self : (denotes Shape)) (x-map : RefT (List ℕ)) (x-catalogue : RefT (List Entry)) (x-card : RefT (List ℕ))
-        (x-limits : RefT (List ℕ)) (x-sheet : ℕ) (x-k : ℕ)
-        (is-x-self : Is (rowOf Shape) x-self ((valsOf Shape) x-self)) (room-x-map : Room u64 (length (now x-map)))
-        (room-x-catalogue : Room Entry′.the-row (length (now x-catalogue))) (room-x-card : Room u8 (length (now x-card)))
-        (is-x-sheet : Is u32 x-sheet ((uint-vals w32) x-sheet)) (is-x-k : Is u32 x-k ((uint-vals w32) x-k)) where
+        (x-self : (denotes Shape)) (x-role : ℕ) (x-map : RefT (List ℕ)) (x-catalogue : RefT (List Entry))
+        (x-card : RefT (List ℕ)) (x-limits : RefT (List ℕ)) (x-sheet : ℕ) (x-k : ℕ)
+        (is-x-self : Is (rowOf Shape) x-self ((valsOf Shape) x-self)) (is-x-role : Is u32 x-role ((uint-vals w32) x-role))
+        (room-x-map : Room u64 (length (now x-map))) (room-x-catalogue : Room Entry′.the-row (length (now x-catalogue)))
+        (room-x-card : Room u8 (length (now x-card))) (is-x-sheet : Is u32 x-sheet ((uint-vals w32) x-sheet))
+        (is-x-k : Is u32 x-k ((uint-vals w32) x-k)) where
       abbrev m-x-self : Val
       m-x-self = only ((valsOf Shape) x-self)
 
       typed-x-self : Holds (hasTy (mirOf Shape) m-x-self) × WT m-x-self
       typed-x-self = (Shape .typed 𝓤 H A W) x-self _ is-x-self .0
+
+      abbrev m-x-role : Val
+      m-x-role = only ((uint-vals w32) x-role)
+
+      typed-x-role : Holds (hasTy (tyInt w32) m-x-role) × WT m-x-role
+      typed-x-role = (uint-lawful 𝓤 H A W w32 .typed) x-role _ is-x-role .0
 
       abbrev s-x-map : Val
       s-x-map = sliceVal (x-map .ptr) (length (now x-map))
@@ -263,14 +275,18 @@ module _ (Slot Shape Outcome : Value) where
       typed-x-k : Holds (hasTy (tyInt w32) m-x-k) × WT m-x-k
       typed-x-k = (uint-lawful 𝓤 H A W w32 .typed) x-k _ is-x-k .0
 
-      abbrev args : (denotes Shape) × (RefT (List ℕ) × (RefT (List Entry) × (RefT (List ℕ)
-          × (RefT (List ℕ) × (ℕ × (ℕ × Unit {0}))))))
-      args = (x-self, (x-map, (x-catalogue, (x-card, (x-limits, (x-sheet, (x-k, tt)))))))
+      abbrev args : (denotes Shape) × (ℕ × (RefT (List ℕ) × (RefT (List Entry) × (RefT (List ℕ)
+          × (RefT (List ℕ) × (ℕ × (ℕ × Unit {0})))))))
+      args = (x-self, (x-role, (x-map, (x-catalogue, (x-card, (x-limits, (x-sheet, (x-k, tt))))))))
 
-      abbrev vals : List Val × (List Val × (List Val × (List Val × (List Val × (List Val × (List Val × Unit {0}))))))
+      abbrev vals : List Val × (List Val × (List Val × (List Val × (List Val × (List Val
+          × (List Val × (List Val × Unit {0})))))))
       vals = (
         m-x-self ∷ [],
-        (s-x-map ∷ [], (s-x-catalogue ∷ [], (s-x-card ∷ [], (s-x-limits ∷ [], (m-x-sheet ∷ [], (m-x-k ∷ [], tt)))))),
+        (
+          m-x-role ∷ [],
+          (s-x-map ∷ [], (s-x-catalogue ∷ [], (s-x-card ∷ [], (s-x-limits ∷ [], (m-x-sheet ∷ [], (m-x-k ∷ [], tt)))))),
+        ),
       )
 
       abbrev bound : walkOf 𝓤 H A ended stayed (clauses 𝓤) .Ghost
@@ -280,13 +296,13 @@ module _ (Slot Shape Outcome : Value) where
       Post = walkOf 𝓤 H A ended stayed (clauses 𝓤) .post bound
 
       abbrev v-slot : (denotes Slot)
-      v-slot = v-slot-of x-self (now x-map) (now x-catalogue) (now x-card) (now x-limits) x-sheet x-k
+      v-slot = v-slot-of x-self x-role (now x-map) (now x-catalogue) (now x-card) (now x-limits) x-sheet x-k
 
       abbrev v-held : ℕ
-      v-held = v-held-of x-self (now x-map) (now x-catalogue) (now x-card) (now x-limits) x-sheet x-k
+      v-held = v-held-of x-self x-role (now x-map) (now x-catalogue) (now x-card) (now x-limits) x-sheet x-k
 
       abbrev v-result : (denotes Outcome)
-      v-result = v-result-of x-self (now x-map) (now x-catalogue) (now x-card) (now x-limits) x-sheet x-k
+      v-result = v-result-of x-self x-role (now x-map) (now x-catalogue) (now x-card) (now x-limits) x-sheet x-k
 
       abbrev m-v-slot : Val
       m-v-slot = only ((valsOf Slot) v-slot)
@@ -337,9 +353,9 @@ module _ (Slot Shape Outcome : Value) where
           fjoin ! $ bring ! (1 ∷ 0 ∷ []) $ join ! $ frame ! $ done !
 
       -- ---- the caller has what `core` asks
-      abbrev core-args : (denotes Shape) × (RefT (List ℕ) × (RefT (List ℕ) × (RefT (List ℕ)
-          × ((denotes Slot) × (ℕ × (ℕ × (ℕ × Unit {0})))))))
-      core-args = (x-self, (x-map, (x-card, (x-limits, (v-slot, (v-held, (x-sheet, (x-k, tt))))))))
+      abbrev core-args : (denotes Shape) × (ℕ × (RefT (List ℕ) × (RefT (List ℕ) × (RefT (List ℕ)
+          × ((denotes Slot) × (ℕ × (ℕ × (ℕ × Unit {0}))))))))
+      core-args = (x-self, (x-role, (x-map, (x-card, (x-limits, (v-slot, (v-held, (x-sheet, (x-k, tt)))))))))
 
       abbrev to-core : (core-contract core-out 𝓤 H A) .Ghost
       to-core = (
@@ -351,8 +367,11 @@ module _ (Slot Shape Outcome : Value) where
           (
             m-x-self ∷ [],
             (
-              s-x-map ∷ [],
-              (s-x-card ∷ [], (s-x-limits ∷ [], (m-v-slot ∷ [], (m-v-held ∷ [], (m-x-sheet ∷ [], (m-x-k ∷ [], tt)))))),
+              m-x-role ∷ [],
+              (
+                s-x-map ∷ [],
+                (s-x-card ∷ [], (s-x-limits ∷ [], (m-v-slot ∷ [], (m-v-held ∷ [], (m-x-sheet ∷ [], (m-x-k ∷ [], tt)))))),
+              ),
             ),
           ),
         ),
@@ -374,6 +393,7 @@ module _ (Slot Shape Outcome : Value) where
           owned ! u64 (Is u64) (uint-makes 𝓤 H A W w64) v-held _ is-v-held $ fjoin ! $
           owned ! (rowOf Slot) (Is (rowOf Slot)) (Slot .makes 𝓤 H A) v-slot _ is-v-slot $ fjoin ! $
           bring ! (4 ∷ 0 ∷ []) $ fjoin ! $ bring ! (3 ∷ 0 ∷ []) $ fjoin ! $ bring ! (2 ∷ 0 ∷ []) $ fjoin ! $
+          owned ! u32 (Is u32) (uint-makes 𝓤 H A W w32) x-role _ is-x-role $ fjoin ! $
           owned ! (rowOf Shape) (Is (rowOf Shape)) (Shape .makes 𝓤 H A) x-self _ is-x-self $ fjoin ! $
           bring ! (1 ∷ 0 ∷ []) $ join ! $ frame ! $ done !
 
@@ -388,11 +408,12 @@ module _ (Slot Shape Outcome : Value) where
           ∷ ‵ (ShrSlice (named 2) κ₂ u8 .own x-card (s-x-card ∷ [])) ∷ ‵ (flft κ₂ q₂) ∷ ‵
           (ShrRef (named 3) κ₃ (Array u32 8) .own x-limits (s-x-limits ∷ [])) ∷ ‵ (flft κ₃ q₃) ∷ []) ∵
           suffices ! _ (ends-at 𝓤 H A ended stayed (clauses 𝓤) W bound m-v-result v-result
-          (tt, (tt, (tt, (tt, (tt, (tt, (tt, tt))))))) (tt, (tt, (tt, (tt, (tt, (tt, (tt, tt)))))))) $
+          (tt, (tt, (tt, (tt, (tt, (tt, (tt, (tt, tt)))))))) (tt, (tt, (tt, (tt, (tt, (tt, (tt, (tt, tt))))))))) $
           says ! refl $ nothing ! $ bring ! (2 ∷ 3 ∷ 4 ∷ 5 ∷ 0 ∷ []) $ group ! 5 $ frame ! $ nothing ! $
           owned ! u32 (Is u32) (uint-makes 𝓤 H A W w32) x-k _ is-x-k $ fjoin ! $
           owned ! u32 (Is u32) (uint-makes 𝓤 H A W w32) x-sheet _ is-x-sheet $ fjoin ! $ bring ! (4 ∷ 0 ∷ []) $
           fjoin ! $ bring ! (3 ∷ 0 ∷ []) $ fjoin ! $ bring ! (2 ∷ 0 ∷ []) $ fjoin ! $ bring ! (1 ∷ 0 ∷ []) $ fjoin ! $
+          owned ! u32 (Is u32) (uint-makes 𝓤 H A W w32) x-role _ is-x-role $ fjoin ! $
           owned ! (rowOf Shape) (Is (rowOf Shape)) (Shape .makes 𝓤 H A) x-self _ is-x-self $ fjoin ! $
           owned ! (rowOf Outcome) (Is (rowOf Outcome)) (Outcome .makes 𝓤 H A) v-result _ is $ bring ! (1 ∷ 0 ∷ []) $
           done !
@@ -401,23 +422,23 @@ module _ (Slot Shape Outcome : Value) where
       walk : (𝓣 : Tables 𝓤 H) → Triple 𝓤 (𝓣 .C #find) (find-contract find-out 𝓤 H A) → Triple 𝓤 (𝓣 .C #held-by)
           (held-by-contract held-by-out 𝓤 H A) → Triple 𝓤 (𝓣 .C #core) (core-contract core-out 𝓤 H A)
           → ent 𝓤 (onEntry 𝓤 H A signature (κ₀, (κ₁, (κ₂, (κ₃, tt)))) (q₀, (q₁, (q₂, (q₃, tt)))) args vals)
-          (WpFn 𝓤 H (𝓣 .C) (𝓣 .Λ) (function #find #held-by #core) (m-x-self ∷ s-x-map ∷ s-x-catalogue ∷ s-x-card ∷ s-x-limits
-          ∷ m-x-sheet ∷ m-x-k ∷ []) Post)
+          (WpFn 𝓤 H (𝓣 .C) (𝓣 .Λ) (function #find #held-by #core) (m-x-self ∷ m-x-role ∷ s-x-map ∷ s-x-catalogue ∷ s-x-card
+          ∷ s-x-limits ∷ m-x-sheet ∷ m-x-k ∷ []) Post)
       walk 𝓣 known-find known-held-by known-core =
           qed W ((‵ (flft κ₀ q₀) ⊛ ‵ (flft κ₁ q₁) ⊛ ‵ (flft κ₂ q₂) ⊛ ‵ (flft κ₃ q₃) ⊛ ‵ ftrue)
-          ∷ ‵ (owns ((rowOf Shape) ∷ ShrSlice (named 0) κ₀ u64 ∷ ShrSlice (named 1) κ₁ Entry′.the-row ∷ ShrSlice (named 2) κ₂ u8
-          ∷ ShrRef (named 3) κ₃ (Array u32 8) ∷ u32 ∷ u32 ∷ []) args vals) ∷ []) ∵
-          enter ! (𝓣 .C) (𝓣 .Λ) (function #find #held-by #core) (m-x-self ∷ s-x-map ∷ s-x-catalogue ∷ s-x-card ∷ s-x-limits
-          ∷ m-x-sheet ∷ m-x-k ∷ []) _ $
+          ∷ ‵ (owns ((rowOf Shape) ∷ u32 ∷ ShrSlice (named 0) κ₀ u64 ∷ ShrSlice (named 1) κ₁ Entry′.the-row
+          ∷ ShrSlice (named 2) κ₂ u8 ∷ ShrRef (named 3) κ₃ (Array u32 8) ∷ u32 ∷ u32 ∷ []) args vals) ∷ []) ∵
+          enter ! (𝓣 .C) (𝓣 .Λ) (function #find #held-by #core) (m-x-self ∷ m-x-role ∷ s-x-map ∷ s-x-catalogue ∷ s-x-card
+          ∷ s-x-limits ∷ m-x-sheet ∷ m-x-k ∷ []) _ $
           alloc1 ! (λ l₀. alloc1 ! (λ l₁. alloc1 ! (λ l₂. alloc1 ! (λ l₃. alloc1 ! (λ l₄. alloc1 ! (λ l₅.
-          alloc1 ! (λ l₆. alloc1 ! (λ l₇. alloc1 ! (λ l₈. alloc1 ! (λ l₉. alloc0 ! $ params1 ! $
-          pass1 ! (init ! 16 refl typed-x-self) $
+          alloc1 ! (λ l₆. alloc1 ! (λ l₇. alloc1 ! (λ l₈. alloc1 ! (λ l₉. alloc1 ! (λ l₁₀. alloc0 ! $ params1 ! $
+          pass1 ! (init ! 18 refl typed-x-self) $ pass1 ! (init ! 16 refl typed-x-role) $
           pass1 ! (init ! 14 refl (tt, (tt, (record { fits = room-x-map .0 }, tt)))) $
           pass1 ! (init ! 12 refl (tt, (tt, (record { fits = room-x-catalogue .0 }, tt)))) $
           pass1 ! (init ! 10 refl (tt, (tt, (record { fits = room-x-card .0 }, tt)))) $
           pass1 ! (init ! 8 refl (tt, tt)) $ pass1 ! (init ! 6 refl typed-x-sheet) $
-          pass1 ! (init ! 4 refl typed-x-k) $ pass0 ! $ bring ! (20 ∷ []) $ parts W (_ ∷ _ ∷ _ ∷ _ ∷ []) _ $
-          bring ! (24 ∷ []) $ fparts W (_ ∷ _ ∷ _ ∷ _ ∷ _ ∷ _ ∷ _ ∷ []) _ $ discard ! (0 ∷ 4 ∷ 4 ∷ []) $
+          pass1 ! (init ! 4 refl typed-x-k) $ pass0 ! $ bring ! (22 ∷ []) $ parts W (_ ∷ _ ∷ _ ∷ _ ∷ []) _ $
+          bring ! (26 ∷ []) $ fparts W (_ ∷ _ ∷ _ ∷ _ ∷ _ ∷ _ ∷ _ ∷ _ ∷ []) _ $ discard ! (0 ∷ 0 ∷ 4 ∷ 4 ∷ []) $
           -- find
           bring ! (1 ∷ []) $
           use1 W (‵ (ShrSlice (named 1) κ₁ Entry′.the-row .own x-catalogue (s-x-catalogue ∷ []))
@@ -439,7 +460,7 @@ module _ (Slot Shape Outcome : Value) where
           rewrite ! 0 (λ (r : (denotes Slot)). ‵ ((rowOf Slot) .own r (w-find ∷ []))) (e-find) refl $
           peeks ! (rowOf Slot) (Is (rowOf Slot)) (shows 𝓤 H A (rowOf Slot)) v-slot (w-find ∷ []) (λ is-w-find.
           land ! (from ! (stop !)) (init ! 11 refl ((Slot .typed 𝓤 H A W) v-slot _ is-w-find .0)) $
-          rewrite ! 11 (λ (u : Val). ‵ (fat fullShare (mirOf Slot) l₈ 0 u)) (ap only ((Slot .tells) v-slot _ is-w-find)) refl $
+          rewrite ! 11 (λ (u : Val). ‵ (fat fullShare (mirOf Slot) l₉ 0 u)) (ap only ((Slot .tells) v-slot _ is-w-find)) refl $
           discard ! (0 ∷ []) $ parts W (_ ∷ []) _ $
           -- held-by
           bring ! (1 ∷ []) $
@@ -462,7 +483,7 @@ module _ (Slot Shape Outcome : Value) where
           rewrite ! 0 (λ (r : ℕ). ‵ (u64 .own r (w-held-by ∷ []))) (e-held-by) refl $
           peeks ! u64 (Is u64) (shows 𝓤 H A u64) v-held (w-held-by ∷ []) (λ is-w-held-by.
           land ! (from ! (stop !)) (init ! 9 refl ((uint-lawful 𝓤 H A W w64 .typed) v-held _ is-w-held-by .0)) $
-          rewrite ! 9 (λ (u : Val). ‵ (fat fullShare (tyInt w64) l₉ 0 u)) (ap only ((uint-tells w64) v-held _ is-w-held-by))
+          rewrite ! 9 (λ (u : Val). ‵ (fat fullShare (tyInt w64) l₁₀ 0 u)) (ap only ((uint-tells w64) v-held _ is-w-held-by))
           refl $
           discard ! (0 ∷ []) $ parts W (_ ∷ []) _ $
           -- core
@@ -480,34 +501,34 @@ module _ (Slot Shape Outcome : Value) where
           use1 W (raw ((core-contract core-out 𝓤 H A) .pre (to-core))) (goes-core (spelled-v-slot w-find is-w-find)
           (spelled-v-held w-held-by is-w-held-by)) $
           calls-at ! (fmOf 𝓤 H (W .laws) 𝓣) (core-contract core-out 𝓤 H A) known-core (to-core)
-          (and-then ! (load ! (from ! (stop !)) (look ! 22 refl)) (and-then ! (load ! (from ! (stop !)) (look ! 20 refl))
-          (and-then ! (load ! (from ! (stop !)) (look ! 16 refl)) (and-then ! (load ! (from ! (stop !)) (look ! 14 refl))
-          (and-then ! (load ! (from ! (stop !)) (look ! 8 refl)) (and-then ! (load ! (from ! (stop !)) (look ! 6 refl))
-          (and-then ! (load ! (from ! (stop !)) (look ! 12 refl)) (and-then ! (load ! (from ! (stop !)) (look ! 10 refl))
-          (no-more !))))))))) (λ w-core.
+          (and-then ! (load ! (from ! (stop !)) (look ! 24 refl)) (and-then ! (load ! (from ! (stop !)) (look ! 22 refl))
+          (and-then ! (load ! (from ! (stop !)) (look ! 20 refl)) (and-then ! (load ! (from ! (stop !)) (look ! 16 refl))
+          (and-then ! (load ! (from ! (stop !)) (look ! 14 refl)) (and-then ! (load ! (from ! (stop !)) (look ! 8 refl))
+          (and-then ! (load ! (from ! (stop !)) (look ! 6 refl)) (and-then ! (load ! (from ! (stop !)) (look ! 12 refl))
+          (and-then ! (load ! (from ! (stop !)) (look ! 10 refl)) (no-more !)))))))))) (λ w-core.
           use1 W (later (some (λ (r : (denotes Outcome)). ((‵ (flft κ₀ q₀) ⊛ ‵ (flft κ₂ q₂) ⊛ ‵ (flft κ₃ q₃) ⊛ ‵ ftrue)
           ⊛ ‵ ((rowOf Outcome) .own r (w-core ∷ []))) ⊛ raw (ensured 𝓤 H A core-ended (core-clauses core-out 𝓤)
           (κ₀, (κ₂, (κ₃, tt))) (core-args) tt r)))) (id⊢ 𝓤 _) $
           await ! tt $ pick ! (λ r-core. split ! $ bring ! (1 ∷ []) $
           use1 W (some (λ (zs-core : Unit {0} × (Unit {0} × (Unit {0} × (Unit {0} × (Unit {0}
-          × (Unit {0} × (Unit {0} × (Unit {0} × Unit {0})))))))). ‵ (lasts core-ended (κ₀, (κ₂, (κ₃, tt))) (core-args) zs-core)
-          ⊛ raw (fact 𝓤 (core-says core-out x-self (now x-map) (now x-card) (now x-limits) v-slot v-held x-sheet x-k r-core))))
-          (id⊢ 𝓤 _) $
+          × (Unit {0} × (Unit {0} × (Unit {0} × (Unit {0} × Unit {0}))))))))). ‵ (lasts core-ended (κ₀, (κ₂, (κ₃, tt)))
+          (core-args) zs-core) ⊛ raw (fact 𝓤 (core-says core-out x-self x-role (now x-map) (now x-card) (now x-limits) v-slot
+          v-held x-sheet x-k r-core)))) (id⊢ 𝓤 _) $
           pick ! (λ zs-core. split ! $ bring ! (1 ∷ []) $
-          heard ! (core-says core-out x-self (now x-map) (now x-card) (now x-limits) v-slot v-held x-sheet x-k r-core)
+          heard ! (core-says core-out x-self x-role (now x-map) (now x-card) (now x-limits) v-slot v-held x-sheet x-k r-core)
           (λ e-core.
-          fparts W (_ ∷ _ ∷ _ ∷ _ ∷ _ ∷ _ ∷ _ ∷ _ ∷ []) _ $ discard ! (0 ∷ 0 ∷ 0 ∷ 0 ∷ 0 ∷ 0 ∷ 0 ∷ 0 ∷ []) $ split ! $
-          bring ! (1 ∷ []) $
+          fparts W (_ ∷ _ ∷ _ ∷ _ ∷ _ ∷ _ ∷ _ ∷ _ ∷ _ ∷ []) _ $ discard ! (0 ∷ 0 ∷ 0 ∷ 0 ∷ 0 ∷ 0 ∷ 0 ∷ 0 ∷ 0 ∷ []) $
+          split ! $ bring ! (1 ∷ []) $
           rewrite ! 0 (λ (r : (denotes Outcome)). ‵ ((rowOf Outcome) .own r (w-core ∷ []))) (e-core) refl $
           peeks ! (rowOf Outcome) (Is (rowOf Outcome)) (shows 𝓤 H A (rowOf Outcome)) v-result (w-core ∷ []) (λ is-w-core.
-          land ! (from ! (stop !)) (init ! 25 refl ((Outcome .typed 𝓤 H A W) v-result _ is-w-core .0)) $
-          rewrite ! 25 (λ (u : Val). ‵ (fat fullShare (mirOf Outcome) l₀ 0 u)) (ap only ((Outcome .tells) v-result _ is-w-core))
+          land ! (from ! (stop !)) (init ! 27 refl ((Outcome .typed 𝓤 H A W) v-result _ is-w-core .0)) $
+          rewrite ! 27 (λ (u : Val). ‵ (fat fullShare (mirOf Outcome) l₀ 0 u)) (ap only ((Outcome .tells) v-result _ is-w-core))
           refl $
-          discard ! (0 ∷ []) $ parts W (_ ∷ _ ∷ _ ∷ []) _ $ returns ! (look ! 26 refl) $ leave ! 26 refl refl $
-          leave ! 24 refl refl $ leave ! 22 refl refl $ leave ! 20 refl refl $ leave ! 18 refl refl $
-          leave ! 16 refl refl $ leave ! 14 refl refl $ leave ! 12 refl refl $ leave ! 10 refl refl $
-          leave ! 8 refl refl $ free0 ! $ bring ! (5 ∷ 0 ∷ 5 ∷ 4 ∷ 3 ∷ 0 ∷ 1 ∷ 0 ∷ []) $
-          by ! (exits (spelled-v-result w-core is-w-core)))))))))))))))))))))))))))
+          discard ! (0 ∷ []) $ parts W (_ ∷ _ ∷ _ ∷ []) _ $ returns ! (look ! 28 refl) $ leave ! 28 refl refl $
+          leave ! 26 refl refl $ leave ! 24 refl refl $ leave ! 22 refl refl $ leave ! 20 refl refl $
+          leave ! 18 refl refl $ leave ! 16 refl refl $ leave ! 14 refl refl $ leave ! 12 refl refl $
+          leave ! 10 refl refl $ leave ! 8 refl refl $ free0 ! $ bring ! (5 ∷ 0 ∷ 5 ∷ 4 ∷ 3 ∷ 0 ∷ 1 ∷ 0 ∷ []) $
+          by ! (exits (spelled-v-result w-core is-w-core))))))))))))))))))))))))))))
 
     module _ {M : Type 1} (𝓤 : URA M) (H : Heap 𝓤) (A : Atoms 𝓤) (W : Given 𝓤 H A) where
       walks : (𝓣 : Tables 𝓤 H) → Triple 𝓤 (𝓣 .C #find) (find-contract find-out 𝓤 H A) → Triple 𝓤 (𝓣 .C #held-by)
@@ -517,25 +538,29 @@ module _ (Slot Shape Outcome : Value) where
           walked 𝓤 H A ended stayed (clauses 𝓤) (WpFn 𝓤 H (𝓣 .C) (𝓣 .Λ) (function #find #held-by #core))
           (λ κs. (
             (valsOf Shape),
-            (slice-vals, (slice-vals, (slice-vals, (ptr-vals, ((uint-vals w32), ((uint-vals w32), tt)))))),
+            ((uint-vals w32), (slice-vals, (slice-vals, (slice-vals, (ptr-vals, ((uint-vals w32), ((uint-vals w32), tt))))))),
           ))
           (λ κs. (
             (Shape .tells),
             (
-              shr-slice-tells (named 0) (κs .0) u64,
+              (uint-tells w32),
               (
-                shr-slice-tells (named 1) (κs .1 .0) Entry′.the-row,
+                shr-slice-tells (named 0) (κs .0) u64,
                 (
-                  shr-slice-tells (named 2) (κs .1 .1 .0) u8,
-                  (shr-tells (named 3) (κs .1 .1 .1 .0) (Array u32 8), ((uint-tells w32), ((uint-tells w32), tt))),
+                  shr-slice-tells (named 1) (κs .1 .0) Entry′.the-row,
+                  (
+                    shr-slice-tells (named 2) (κs .1 .1 .0) u8,
+                    (shr-tells (named 3) (κs .1 .1 .1 .0) (Array u32 8), ((uint-tells w32), ((uint-tells w32), tt))),
+                  ),
                 ),
               ),
             ),
           ))
           (λ κs qs bounds a g are. via 𝓤 _ (fst∗ 𝓤 _ (emp 𝓤)) (walk 𝓤 H A W (κs .0) (κs .1 .0) (κs .1 .1 .0) (κs .1 .1 .1 .0)
           (qs .0) (qs .1 .0) (qs .1 .1 .0) (qs .1 .1 .1 .0) (a .0) (a .1 .0) (a .1 .1 .0) (a .1 .1 .1 .0) (a .1 .1 .1 .1 .0)
-          (a .1 .1 .1 .1 .1 .0) (a .1 .1 .1 .1 .1 .1 .0) (are .0) (are .1 .0 .0 .1) (are .1 .1 .0 .0 .1) (are .1 .1 .1 .0 .0 .1)
-          (are .1 .1 .1 .1 .1 .0) (are .1 .1 .1 .1 .1 .1 .0) 𝓣 known-find known-held-by known-core))
+          (a .1 .1 .1 .1 .1 .0) (a .1 .1 .1 .1 .1 .1 .0) (a .1 .1 .1 .1 .1 .1 .1 .0) (are .0) (are .1 .0) (are .1 .1 .0 .0 .1)
+          (are .1 .1 .1 .0 .0 .1) (are .1 .1 .1 .1 .0 .0 .1) (are .1 .1 .1 .1 .1 .1 .0) (are .1 .1 .1 .1 .1 .1 .1 .0) 𝓣
+          known-find known-held-by known-core))
 
       pub meets : (𝓣 : Tables 𝓤 H) → Triple 𝓤 (𝓣 .C #find) (find-contract find-out 𝓤 H A)
           → Triple 𝓤 (𝓣 .C #held-by) (held-by-contract held-by-out 𝓤 H A) → Triple 𝓤 (𝓣 .C #core) (core-contract core-out 𝓤 H A)
@@ -544,16 +569,19 @@ module _ (Slot Shape Outcome : Value) where
           walk-meets 𝓤 H A ended stayed W (
             goes-none 𝓤 H A W 4 (λ _. (rowOf Shape)) yes (λ κs x f. refl),
             (
-              goes-none-slice 𝓤 H A W 4 (0 ∷ []) tt (plain (λ _. u64)) yes,
+              goes-none 𝓤 H A W 4 (λ _. u32) yes (λ κs x f. refl),
               (
-                goes-none-slice 𝓤 H A W 4 (1 ∷ []) tt (plain (λ _. Entry′.the-row)) yes,
+                goes-none-slice 𝓤 H A W 4 (0 ∷ []) tt (plain (λ _. u64)) yes,
                 (
-                  goes-none-slice 𝓤 H A W 4 (2 ∷ []) tt (plain (λ _. u8)) yes,
+                  goes-none-slice 𝓤 H A W 4 (1 ∷ []) tt (plain (λ _. Entry′.the-row)) yes,
                   (
-                    goes-none-ref 𝓤 H A W 4 (3 ∷ []) tt (plain (λ _. (Array u32 8))) yes,
+                    goes-none-slice 𝓤 H A W 4 (2 ∷ []) tt (plain (λ _. u8)) yes,
                     (
-                      goes-none 𝓤 H A W 4 (λ _. u32) yes (λ κs x f. refl),
-                      (goes-none 𝓤 H A W 4 (λ _. u32) yes (λ κs x f. refl), tt),
+                      goes-none-ref 𝓤 H A W 4 (3 ∷ []) tt (plain (λ _. (Array u32 8))) yes,
+                      (
+                        goes-none 𝓤 H A W 4 (λ _. u32) yes (λ κs x f. refl),
+                        (goes-none 𝓤 H A W 4 (λ _. u32) yes (λ κs x f. refl), tt),
+                      ),
                     ),
                   ),
                 ),

@@ -1,9 +1,9 @@
--- Written by tools/walks: every function (self: Shape, map: &mut [u64], catalogue: &mut [Entry], card: &mut [u8], scratch: &mut
--- [u64]) whose code is
+-- Written by tools/walks: every function (self: Shape, role: u32, map: &mut [u64], catalogue: &mut [Entry], card: &mut [u8],
+-- scratch: &mut [u64]) whose code is
 --     let n: u32 = blocks_of(self);
 --     let free: u32 = free_of(self);
 --     let fits: bool = nothing_else(self);
---     let number: u32 = close(n, free, fits, map, catalogue, card, scratch);
+--     let number: u32 = close(role, n, free, fits, map, catalogue, card, scratch);
 --     save_outcome(self, number)
 -- One walk serves every choice of the callees: it takes their names and what their contracts say. The types by value are any,
 -- too.
@@ -60,22 +60,25 @@ module _ (Shape Outcome : Value) where
   signature = record {
     lifetimes = 4;
     outlives = [];
-    params = plain (λ _. (rowOf Shape)) ∷ mutSlice 0 tt (λ _. u64) ∷ mutSlice 1 tt (λ _. Entry′.the-row)
+    params = plain (λ _. (rowOf Shape)) ∷ plain (λ _. u32) ∷ mutSlice 0 tt (λ _. u64) ∷ mutSlice 1 tt (λ _. Entry′.the-row)
         ∷ mutSlice 2 tt (λ _. u8) ∷ mutSlice 3 tt (λ _. u64) ∷ [];
     result = plain (λ _. (rowOf Outcome));
   }
 
   abbrev ended : Ended
-  ended = record { signature = signature; kept = (yes, (yes, (yes, (yes, (yes, tt))))) }
+  ended = record { signature = signature; kept = (yes, (yes, (yes, (yes, (yes, (yes, tt)))))) }
 
   abbrev stayed : Stays (ended .signature .params) (ended .kept)
   stayed = (
     stay-none (λ _. (rowOf Shape)) yes,
     (
-      stay-slice (0 ∷ []) tt (plain (λ _. u64)),
+      stay-none (λ _. u32) yes,
       (
-        stay-slice (1 ∷ []) tt (plain (λ _. Entry′.the-row)),
-        (stay-slice (2 ∷ []) tt (plain (λ _. u8)), (stay-slice (3 ∷ []) tt (plain (λ _. u64)), tt)),
+        stay-slice (0 ∷ []) tt (plain (λ _. u64)),
+        (
+          stay-slice (1 ∷ []) tt (plain (λ _. Entry′.the-row)),
+          (stay-slice (2 ∷ []) tt (plain (λ _. u8)), (stay-slice (3 ∷ []) tt (plain (λ _. u64)), tt)),
+        ),
       ),
     ),
   )
@@ -85,31 +88,31 @@ module _ (Shape Outcome : Value) where
   function #blocks-of #free-of #nothing-else #close #save-outcome = record {
     lifetimes = 4;
     outlives = [];
-    params = 5;
-    locals = local (mirOf Outcome) valueLocal ∷ local (mirOf Shape) valueLocal ∷ local
-        (sliceTy (tyRef (named 0) mut (tyInt w64))) valueLocal ∷ local (sliceTy (tyRef (named 1) mut
-        (pointee (Entry′.the-row .written)))) valueLocal ∷ local (sliceTy (tyRef (named 2) mut (tyInt w8))) valueLocal
-        ∷ local (sliceTy (tyRef (named 3) mut (tyInt w64))) valueLocal ∷ local (tyInt w32) valueLocal
+    params = 6;
+    locals = local (mirOf Outcome) valueLocal ∷ local (mirOf Shape) valueLocal ∷ local (tyInt w32) valueLocal
+        ∷ local (sliceTy (tyRef (named 0) mut (tyInt w64))) valueLocal ∷ local (sliceTy
+        (tyRef (named 1) mut (pointee (Entry′.the-row .written)))) valueLocal ∷ local (sliceTy (tyRef (named 2) mut (tyInt w8)))
+        valueLocal ∷ local (sliceTy (tyRef (named 3) mut (tyInt w64))) valueLocal ∷ local (tyInt w32) valueLocal
         ∷ local (tyInt w32) valueLocal ∷ local tyBool valueLocal ∷ local (tyInt w32) valueLocal
         ∷ local (tyRef erased mut (tyInt w64)) valueLocal ∷ local (sliceTy (tyRef erased mut (tyInt w64))) valueLocal
         ∷ local (tyRef erased mut (pointee (Entry′.the-row .written))) valueLocal ∷ local
         (sliceTy (tyRef erased mut (pointee (Entry′.the-row .written)))) valueLocal ∷ local (tyRef erased mut (tyInt w8))
         valueLocal ∷ local (sliceTy (tyRef erased mut (tyInt w8))) valueLocal ∷ local (tyRef erased mut (tyInt w64)) valueLocal
         ∷ local (sliceTy (tyRef erased mut (tyInt w64))) valueLocal ∷ [];
-    body = seq (call #blocks-of (copy (place 1 []) ∷ []) (place 6 []))
-        (seq (call #free-of (copy (place 1 []) ∷ []) (place 7 []))
-        (seq (call #nothing-else (copy (place 1 []) ∷ []) (place 8 []))
-        (seq (assign (place 10 []) (addrOf (place 2 (field 0 ∷ deref (tyInt w64) ∷ []))))
-        (seq (assign (place 11 []) (aggregate (copy (place 10 []) ∷ copy (place 2 (field 1 ∷ [])) ∷ [])))
-        (seq (assign (place 12 []) (addrOf (place 3 (field 0 ∷ deref Entry″.mir ∷ []))))
-        (seq (assign (place 13 []) (aggregate (copy (place 12 []) ∷ copy (place 3 (field 1 ∷ [])) ∷ [])))
-        (seq (assign (place 14 []) (addrOf (place 4 (field 0 ∷ deref (tyInt w8) ∷ []))))
-        (seq (assign (place 15 []) (aggregate (copy (place 14 []) ∷ copy (place 4 (field 1 ∷ [])) ∷ [])))
-        (seq (assign (place 16 []) (addrOf (place 5 (field 0 ∷ deref (tyInt w64) ∷ []))))
-        (seq (assign (place 17 []) (aggregate (copy (place 16 []) ∷ copy (place 5 (field 1 ∷ [])) ∷ [])))
-        (seq (call #close (copy (place 6 []) ∷ copy (place 7 []) ∷ copy (place 8 []) ∷ copy (place 11 []) ∷ copy (place 13 [])
-        ∷ copy (place 15 []) ∷ copy (place 17 []) ∷ []) (place 9 []))
-        (seq (call #save-outcome (copy (place 1 []) ∷ copy (place 9 []) ∷ []) (place 0 [])) return))))))))))));
+    body = seq (call #blocks-of (copy (place 1 []) ∷ []) (place 7 []))
+        (seq (call #free-of (copy (place 1 []) ∷ []) (place 8 []))
+        (seq (call #nothing-else (copy (place 1 []) ∷ []) (place 9 []))
+        (seq (assign (place 11 []) (addrOf (place 3 (field 0 ∷ deref (tyInt w64) ∷ []))))
+        (seq (assign (place 12 []) (aggregate (copy (place 11 []) ∷ copy (place 3 (field 1 ∷ [])) ∷ [])))
+        (seq (assign (place 13 []) (addrOf (place 4 (field 0 ∷ deref Entry″.mir ∷ []))))
+        (seq (assign (place 14 []) (aggregate (copy (place 13 []) ∷ copy (place 4 (field 1 ∷ [])) ∷ [])))
+        (seq (assign (place 15 []) (addrOf (place 5 (field 0 ∷ deref (tyInt w8) ∷ []))))
+        (seq (assign (place 16 []) (aggregate (copy (place 15 []) ∷ copy (place 5 (field 1 ∷ [])) ∷ [])))
+        (seq (assign (place 17 []) (addrOf (place 6 (field 0 ∷ deref (tyInt w64) ∷ []))))
+        (seq (assign (place 18 []) (aggregate (copy (place 17 []) ∷ copy (place 6 (field 1 ∷ [])) ∷ [])))
+        (seq (call #close (copy (place 2 []) ∷ copy (place 7 []) ∷ copy (place 8 []) ∷ copy (place 9 []) ∷ copy (place 12 [])
+        ∷ copy (place 14 []) ∷ copy (place 16 []) ∷ copy (place 18 []) ∷ []) (place 10 []))
+        (seq (call #save-outcome (copy (place 1 []) ∷ copy (place 10 []) ∷ []) (place 0 [])) return))))))))))));
   }
 
   -- ---- what `blocks-of` is, and what it ensures
@@ -210,33 +213,34 @@ module _ (Shape Outcome : Value) where
   close-signature = record {
     lifetimes = 4;
     outlives = [];
-    params = plain (λ _. u32) ∷ plain (λ _. u32) ∷ plain (λ _. Boolean) ∷ mutSlice 0 tt (λ _. u64)
+    params = plain (λ _. u32) ∷ plain (λ _. u32) ∷ plain (λ _. u32) ∷ plain (λ _. Boolean) ∷ mutSlice 0 tt (λ _. u64)
         ∷ mutSlice 1 tt (λ _. Entry′.the-row) ∷ mutSlice 2 tt (λ _. u8) ∷ mutSlice 3 tt (λ _. u64) ∷ [];
     result = plain (λ _. u32);
   }
 
   abbrev close-ended : Ended
-  close-ended = record { signature = close-signature; kept = (yes, (yes, (yes, (yes, (yes, (yes, (yes, tt))))))) }
+  close-ended = record { signature = close-signature; kept = (yes, (yes, (yes, (yes, (yes, (yes, (yes, (yes, tt)))))))) }
 
   abbrev close-Model : Type 0 → Type 0
-  close-Model X = ℕ → ℕ → Bool → List ℕ → List Entry → List ℕ → List ℕ → X
+  close-Model X = ℕ → ℕ → ℕ → Bool → List ℕ → List Entry → List ℕ → List ℕ → X
 
   module _ (close-out : close-Model ℕ) (close-x-map : close-Model (List ℕ)) (close-x-catalogue : close-Model (List Entry))
       (close-x-card : close-Model (List ℕ)) (close-x-scratch : close-Model (List ℕ)) where
-    abbrev close-says : ℕ → ℕ → Bool → List ℕ → List Entry → List ℕ → List ℕ → ℕ → List ℕ → List Entry → List ℕ → List ℕ
+    abbrev close-says : ℕ → ℕ → ℕ → Bool → List ℕ → List Entry → List ℕ → List ℕ → ℕ → List ℕ → List Entry → List ℕ → List ℕ
         → Type 0
-    close-says a0 a1 a2 a3 a4 a5 a6 r b3 b4 b5 b6 = (r ≡ close-out a0 a1 a2 a3 a4 a5 a6)
-        × (b3 ≡ close-x-map a0 a1 a2 a3 a4 a5 a6) × (b4 ≡ close-x-catalogue a0 a1 a2 a3 a4 a5 a6)
-        × (b5 ≡ close-x-card a0 a1 a2 a3 a4 a5 a6) × (b6 ≡ close-x-scratch a0 a1 a2 a3 a4 a5 a6)
+    close-says a0 a1 a2 a3 a4 a5 a6 a7 r b4 b5 b6 b7 = (r ≡ close-out a0 a1 a2 a3 a4 a5 a6 a7)
+        × (b4 ≡ close-x-map a0 a1 a2 a3 a4 a5 a6 a7) × (b5 ≡ close-x-catalogue a0 a1 a2 a3 a4 a5 a6 a7)
+        × (b6 ≡ close-x-card a0 a1 a2 a3 a4 a5 a6 a7) × (b7 ≡ close-x-scratch a0 a1 a2 a3 a4 a5 a6 a7)
 
     module _ {M : Type 1} (𝓤 : URA M) where
       abbrev close-clauses : Clauses 𝓤 close-ended
       close-clauses κs a = record {
         ghost = Unit {0};
         requires = λ _. emp 𝓤;
-        ensures = λ _ r e. fact 𝓤 (close-says (a .0) (a .1 .0) (a .1 .1 .0) (now (a .1 .1 .1 .0)) (now (a .1 .1 .1 .1 .0))
-            (now (a .1 .1 .1 .1 .1 .0)) (now (a .1 .1 .1 .1 .1 .1 .0)) r (now (e .1 .1 .1 .0)) (now (e .1 .1 .1 .1 .0))
-            (now (e .1 .1 .1 .1 .1 .0)) (now (e .1 .1 .1 .1 .1 .1 .0)));
+        ensures = λ _ r e. fact 𝓤 (close-says (a .0) (a .1 .0) (a .1 .1 .0) (a .1 .1 .1 .0) (now (a .1 .1 .1 .1 .0))
+            (now (a .1 .1 .1 .1 .1 .0)) (now (a .1 .1 .1 .1 .1 .1 .0)) (now (a .1 .1 .1 .1 .1 .1 .1 .0)) r
+            (now (e .1 .1 .1 .1 .0)) (now (e .1 .1 .1 .1 .1 .0)) (now (e .1 .1 .1 .1 .1 .1 .0))
+            (now (e .1 .1 .1 .1 .1 .1 .1 .0)));
       }
 
       module _ (H : Heap 𝓤) (A : Atoms 𝓤) where
@@ -279,7 +283,8 @@ module _ (Shape Outcome : Value) where
       (close-x-map : close-Model (List ℕ)) (close-x-catalogue : close-Model (List Entry)) (close-x-card : close-Model (List ℕ))
       (close-x-scratch : close-Model (List ℕ)) (save-outcome-out : save-outcome-Model (denotes Outcome)) where
     -- ---- what the chain gives, call by call
-    module _ (x-self : (denotes Shape)) (x-map : List ℕ) (x-catalogue : List Entry) (x-card : List ℕ) (x-scratch : List ℕ) where
+    module _ (x-self : (denotes Shape)) (x-role : ℕ) (x-map : List ℕ) (x-catalogue : List Entry) (x-card : List ℕ)
+        (x-scratch : List ℕ) where
       abbrev v-n-of : ℕ
       v-n-of = blocks-of-out x-self
 
@@ -290,19 +295,19 @@ module _ (Shape Outcome : Value) where
       v-fits-of = nothing-else-out x-self
 
       abbrev v-number-of : ℕ
-      v-number-of = close-out v-n-of v-free-of v-fits-of x-map x-catalogue x-card x-scratch
+      v-number-of = close-out x-role v-n-of v-free-of v-fits-of x-map x-catalogue x-card x-scratch
 
       abbrev z-close-x-map-of : List ℕ
-      z-close-x-map-of = close-x-map v-n-of v-free-of v-fits-of x-map x-catalogue x-card x-scratch
+      z-close-x-map-of = close-x-map x-role v-n-of v-free-of v-fits-of x-map x-catalogue x-card x-scratch
 
       abbrev z-close-x-catalogue-of : List Entry
-      z-close-x-catalogue-of = close-x-catalogue v-n-of v-free-of v-fits-of x-map x-catalogue x-card x-scratch
+      z-close-x-catalogue-of = close-x-catalogue x-role v-n-of v-free-of v-fits-of x-map x-catalogue x-card x-scratch
 
       abbrev z-close-x-card-of : List ℕ
-      z-close-x-card-of = close-x-card v-n-of v-free-of v-fits-of x-map x-catalogue x-card x-scratch
+      z-close-x-card-of = close-x-card x-role v-n-of v-free-of v-fits-of x-map x-catalogue x-card x-scratch
 
       abbrev z-close-x-scratch-of : List ℕ
-      z-close-x-scratch-of = close-x-scratch v-n-of v-free-of v-fits-of x-map x-catalogue x-card x-scratch
+      z-close-x-scratch-of = close-x-scratch x-role v-n-of v-free-of v-fits-of x-map x-catalogue x-card x-scratch
 
       abbrev v-result-of : (denotes Outcome)
       v-result-of = save-outcome-out x-self v-number-of
@@ -316,21 +321,28 @@ module _ (Shape Outcome : Value) where
       clauses κs a = record {
         ghost = Unit {0};
         requires = λ _. emp 𝓤;
-        ensures = λ _ r e. fact 𝓤 (Says (a .0) (now (a .1 .0)) (now (a .1 .1 .0)) (now (a .1 .1 .1 .0)) (now (a .1 .1 .1 .1 .0))
-            r (now (e .1 .0)) (now (e .1 .1 .0)) (now (e .1 .1 .1 .0)) (now (e .1 .1 .1 .1 .0)));
+        ensures = λ _ r e. fact 𝓤 (Says (a .0) (a .1 .0) (now (a .1 .1 .0)) (now (a .1 .1 .1 .0)) (now (a .1 .1 .1 .1 .0))
+            (now (a .1 .1 .1 .1 .1 .0)) r (now (e .1 .1 .0)) (now (e .1 .1 .1 .0)) (now (e .1 .1 .1 .1 .0))
+            (now (e .1 .1 .1 .1 .1 .0)));
       }
 
     module _ {M : Type 1} (𝓤 : URA M) (H : Heap 𝓤) (A : Atoms 𝓤) (W : Given 𝓤 H A) (κ₀ κ₁ κ₂ κ₃ : Lft) (q₀ q₁ q₂ q₃ : Share)
-        (x-self : (denotes Shape)) (x-map : RefT (List ℕ)) (x-catalogue : RefT (List Entry)) (x-card : RefT (List ℕ))
-        (x-scratch : RefT (List ℕ))
-        (is-x-self : Is (rowOf Shape) x-self ((valsOf Shape) x-self)) (room-x-map : Room u64 (length (now x-map)))
-        (room-x-catalogue : Room Entry′.the-row (length (now x-catalogue))) (room-x-card : Room u8 (length (now x-card)))
-        (room-x-scratch : Room u64 (length (now x-scratch))) where
+        (x-self : (denotes Shape)) (x-role : ℕ) (x-map : RefT (List ℕ)) (x-catalogue : RefT (List Entry))
+        (x-card : RefT (List ℕ)) (x-scratch : RefT (List ℕ))
+        (is-x-self : Is (rowOf Shape) x-self ((valsOf Shape) x-self)) (is-x-role : Is u32 x-role ((uint-vals w32) x-role))
+        (room-x-map : Room u64 (length (now x-map))) (room-x-catalogue : Room Entry′.the-row (length (now x-catalogue)))
+        (room-x-card : Room u8 (length (now x-card))) (room-x-scratch : Room u64 (length (now x-scratch))) where
       abbrev m-x-self : Val
       m-x-self = only ((valsOf Shape) x-self)
 
       typed-x-self : Holds (hasTy (mirOf Shape) m-x-self) × WT m-x-self
       typed-x-self = (Shape .typed 𝓤 H A W) x-self _ is-x-self .0
+
+      abbrev m-x-role : Val
+      m-x-role = only ((uint-vals w32) x-role)
+
+      typed-x-role : Holds (hasTy (tyInt w32) m-x-role) × WT m-x-role
+      typed-x-role = (uint-lawful 𝓤 H A W w32 .typed) x-role _ is-x-role .0
 
       abbrev s-x-map : Val
       s-x-map = sliceVal (x-map .ptr) (length (now x-map))
@@ -356,11 +368,11 @@ module _ (Shape Outcome : Value) where
       abbrev at-x-scratch : GName → List ℕ → RefT (List ℕ)
       at-x-scratch δ l = record { ptr = x-scratch .ptr; name = δ; now = l }
 
-      abbrev args : (denotes Shape) × (RefT (List ℕ) × (RefT (List Entry) × (RefT (List ℕ) × (RefT (List ℕ) × Unit {0}))))
-      args = (x-self, (x-map, (x-catalogue, (x-card, (x-scratch, tt)))))
+      abbrev args : (denotes Shape) × (ℕ × (RefT (List ℕ) × (RefT (List Entry) × (RefT (List ℕ) × (RefT (List ℕ) × Unit {0})))))
+      args = (x-self, (x-role, (x-map, (x-catalogue, (x-card, (x-scratch, tt))))))
 
-      abbrev vals : List Val × (List Val × (List Val × (List Val × (List Val × Unit {0}))))
-      vals = (m-x-self ∷ [], (s-x-map ∷ [], (s-x-catalogue ∷ [], (s-x-card ∷ [], (s-x-scratch ∷ [], tt)))))
+      abbrev vals : List Val × (List Val × (List Val × (List Val × (List Val × (List Val × Unit {0})))))
+      vals = (m-x-self ∷ [], (m-x-role ∷ [], (s-x-map ∷ [], (s-x-catalogue ∷ [], (s-x-card ∷ [], (s-x-scratch ∷ [], tt))))))
 
       abbrev bound : walkOf 𝓤 H A ended stayed (clauses 𝓤) .Ghost
       bound = (((κ₀, (κ₁, (κ₂, (κ₃, tt)))), (q₀, (q₁, (q₂, (q₃, tt)))), tt, args, vals), tt)
@@ -369,31 +381,31 @@ module _ (Shape Outcome : Value) where
       Post = walkOf 𝓤 H A ended stayed (clauses 𝓤) .post bound
 
       abbrev v-n : ℕ
-      v-n = v-n-of x-self (now x-map) (now x-catalogue) (now x-card) (now x-scratch)
+      v-n = v-n-of x-self x-role (now x-map) (now x-catalogue) (now x-card) (now x-scratch)
 
       abbrev v-free : ℕ
-      v-free = v-free-of x-self (now x-map) (now x-catalogue) (now x-card) (now x-scratch)
+      v-free = v-free-of x-self x-role (now x-map) (now x-catalogue) (now x-card) (now x-scratch)
 
       abbrev v-fits : Bool
-      v-fits = v-fits-of x-self (now x-map) (now x-catalogue) (now x-card) (now x-scratch)
+      v-fits = v-fits-of x-self x-role (now x-map) (now x-catalogue) (now x-card) (now x-scratch)
 
       abbrev v-number : ℕ
-      v-number = v-number-of x-self (now x-map) (now x-catalogue) (now x-card) (now x-scratch)
+      v-number = v-number-of x-self x-role (now x-map) (now x-catalogue) (now x-card) (now x-scratch)
 
       abbrev z-close-x-map : List ℕ
-      z-close-x-map = z-close-x-map-of x-self (now x-map) (now x-catalogue) (now x-card) (now x-scratch)
+      z-close-x-map = z-close-x-map-of x-self x-role (now x-map) (now x-catalogue) (now x-card) (now x-scratch)
 
       abbrev z-close-x-catalogue : List Entry
-      z-close-x-catalogue = z-close-x-catalogue-of x-self (now x-map) (now x-catalogue) (now x-card) (now x-scratch)
+      z-close-x-catalogue = z-close-x-catalogue-of x-self x-role (now x-map) (now x-catalogue) (now x-card) (now x-scratch)
 
       abbrev z-close-x-card : List ℕ
-      z-close-x-card = z-close-x-card-of x-self (now x-map) (now x-catalogue) (now x-card) (now x-scratch)
+      z-close-x-card = z-close-x-card-of x-self x-role (now x-map) (now x-catalogue) (now x-card) (now x-scratch)
 
       abbrev z-close-x-scratch : List ℕ
-      z-close-x-scratch = z-close-x-scratch-of x-self (now x-map) (now x-catalogue) (now x-card) (now x-scratch)
+      z-close-x-scratch = z-close-x-scratch-of x-self x-role (now x-map) (now x-catalogue) (now x-card) (now x-scratch)
 
       abbrev v-result : (denotes Outcome)
-      v-result = v-result-of x-self (now x-map) (now x-catalogue) (now x-card) (now x-scratch)
+      v-result = v-result-of x-self x-role (now x-map) (now x-catalogue) (now x-card) (now x-scratch)
 
       abbrev m-v-n : Val
       m-v-n = only ((uint-vals w32) v-n)
@@ -465,19 +477,22 @@ module _ (Shape Outcome : Value) where
           fjoin ! $ bring ! (1 ∷ 0 ∷ []) $ join ! $ frame ! $ done !
 
       -- ---- the caller has what `close` asks
-      abbrev close-args : (δ₀-close δ₁-close δ₂-close δ₃-close : GName) → ℕ × (ℕ × (Bool
-          × (RefT (List ℕ) × (RefT (List Entry) × (RefT (List ℕ) × (RefT (List ℕ) × Unit {0}))))))
+      abbrev close-args : (δ₀-close δ₁-close δ₂-close δ₃-close : GName) → ℕ × (ℕ × (ℕ ×
+          (Bool × (RefT (List ℕ) × (RefT (List Entry) × (RefT (List ℕ) × (RefT (List ℕ) × Unit {0})))))))
       close-args δ₀-close δ₁-close δ₂-close δ₃-close = (
-        v-n,
+        x-role,
         (
-          v-free,
+          v-n,
           (
-            v-fits,
+            v-free,
             (
-              at-x-map δ₀-close (now x-map),
+              v-fits,
               (
-                at-x-catalogue δ₁-close (now x-catalogue),
-                (at-x-card δ₂-close (now x-card), (at-x-scratch δ₃-close (now x-scratch), tt)),
+                at-x-map δ₀-close (now x-map),
+                (
+                  at-x-catalogue δ₁-close (now x-catalogue),
+                  (at-x-card δ₂-close (now x-card), (at-x-scratch δ₃-close (now x-scratch), tt)),
+                ),
               ),
             ),
           ),
@@ -494,8 +509,14 @@ module _ (Shape Outcome : Value) where
               tt,
               close-args δ₀-close δ₁-close δ₂-close δ₃-close,
               (
-                m-v-n ∷ [],
-                (m-v-free ∷ [], (m-v-fits ∷ [], (s-x-map ∷ [], (s-x-catalogue ∷ [], (s-x-card ∷ [], (s-x-scratch ∷ [], tt)))))),
+                m-x-role ∷ [],
+                (
+                  m-v-n ∷ [],
+                  (
+                    m-v-free ∷ [],
+                    (m-v-fits ∷ [], (s-x-map ∷ [], (s-x-catalogue ∷ [], (s-x-card ∷ [], (s-x-scratch ∷ [], tt))))),
+                  ),
+                ),
               ),
             ),
             tt,
@@ -522,7 +543,8 @@ module _ (Shape Outcome : Value) where
           bring ! (4 ∷ 0 ∷ []) $ fjoin ! $ bring ! (3 ∷ 0 ∷ []) $ fjoin ! $ bring ! (2 ∷ 0 ∷ []) $ fjoin ! $
           owned ! Boolean (Is Boolean) (bool-makes 𝓤 H A W) v-fits _ is-v-fits $ fjoin ! $
           owned ! u32 (Is u32) (uint-makes 𝓤 H A W w32) v-free _ is-v-free $ fjoin ! $
-          owned ! u32 (Is u32) (uint-makes 𝓤 H A W w32) v-n _ is-v-n $ fjoin ! $ bring ! (1 ∷ 0 ∷ []) $ join ! $
+          owned ! u32 (Is u32) (uint-makes 𝓤 H A W w32) v-n _ is-v-n $ fjoin ! $
+          owned ! u32 (Is u32) (uint-makes 𝓤 H A W w32) x-role _ is-x-role $ fjoin ! $ bring ! (1 ∷ 0 ∷ []) $ join ! $
           frame ! $ done !
 
       -- ---- the caller has what `save-outcome` asks
@@ -556,12 +578,12 @@ module _ (Shape Outcome : Value) where
           (s-x-card ∷ [])) ∷ ‵ (flft κ₂ q₂) ∷ ‵ (MutSlice (named 3) κ₃ u64 .own (at-x-scratch (x-scratch .name)
           z-close-x-scratch) (s-x-scratch ∷ [])) ∷ ‵ (flft κ₃ q₃) ∷ []) ∵
           suffices ! _ (ends-at 𝓤 H A ended stayed (clauses 𝓤) W bound m-v-result v-result
-          (tt, (z-close-x-map, (z-close-x-catalogue, (z-close-x-card, (z-close-x-scratch, tt)))))
-          (tt, (l-x-map, (l-x-catalogue, (l-x-card, (l-x-scratch, tt)))))) $
+          (tt, (tt, (z-close-x-map, (z-close-x-catalogue, (z-close-x-card, (z-close-x-scratch, tt))))))
+          (tt, (tt, (l-x-map, (l-x-catalogue, (l-x-card, (l-x-scratch, tt))))))) $
           says ! (refl, refl, refl, refl, refl) $ nothing ! $ bring ! (2 ∷ 3 ∷ 4 ∷ 5 ∷ 0 ∷ []) $ group ! 5 $ frame ! $
           nothing ! $ bring ! (4 ∷ 0 ∷ []) $ fjoin ! $ bring ! (3 ∷ 0 ∷ []) $ fjoin ! $ bring ! (2 ∷ 0 ∷ []) $
-          fjoin ! $ bring ! (1 ∷ 0 ∷ []) $ fjoin ! $
-          owned ! (rowOf Shape) (Is (rowOf Shape)) (Shape .makes 𝓤 H A) x-self _ is-x-self $ fjoin ! $
+          fjoin ! $ bring ! (1 ∷ 0 ∷ []) $ fjoin ! $ owned ! u32 (Is u32) (uint-makes 𝓤 H A W w32) x-role _ is-x-role $
+          fjoin ! $ owned ! (rowOf Shape) (Is (rowOf Shape)) (Shape .makes 𝓤 H A) x-self _ is-x-self $ fjoin ! $
           owned ! (rowOf Outcome) (Is (rowOf Outcome)) (Outcome .makes 𝓤 H A) v-result _ is $ bring ! (1 ∷ 0 ∷ []) $
           done !
 
@@ -573,27 +595,28 @@ module _ (Shape Outcome : Value) where
           (save-outcome-contract save-outcome-out 𝓤 H A) → ent 𝓤 (onEntry 𝓤 H A signature (κ₀, (κ₁, (κ₂, (κ₃, tt))))
           (q₀, (q₁, (q₂, (q₃, tt)))) args vals)
           (WpFn 𝓤 H (𝓣 .C) (𝓣 .Λ) (function #blocks-of #free-of #nothing-else #close #save-outcome)
-          (m-x-self ∷ s-x-map ∷ s-x-catalogue ∷ s-x-card ∷ s-x-scratch ∷ []) Post)
+          (m-x-self ∷ m-x-role ∷ s-x-map ∷ s-x-catalogue ∷ s-x-card ∷ s-x-scratch ∷ []) Post)
       walk 𝓣 known-blocks-of known-free-of known-nothing-else known-close known-save-outcome =
           qed W ((‵ (flft κ₀ q₀) ⊛ ‵ (flft κ₁ q₁) ⊛ ‵ (flft κ₂ q₂) ⊛ ‵ (flft κ₃ q₃) ⊛ ‵ ftrue)
-          ∷ ‵ (owns ((rowOf Shape) ∷ MutSlice (named 0) κ₀ u64 ∷ MutSlice (named 1) κ₁ Entry′.the-row ∷ MutSlice (named 2) κ₂ u8
-          ∷ MutSlice (named 3) κ₃ u64 ∷ []) args vals) ∷ []) ∵
+          ∷ ‵ (owns ((rowOf Shape) ∷ u32 ∷ MutSlice (named 0) κ₀ u64 ∷ MutSlice (named 1) κ₁ Entry′.the-row
+          ∷ MutSlice (named 2) κ₂ u8 ∷ MutSlice (named 3) κ₃ u64 ∷ []) args vals) ∷ []) ∵
           enter ! (𝓣 .C) (𝓣 .Λ) (function #blocks-of #free-of #nothing-else #close #save-outcome)
-          (m-x-self ∷ s-x-map ∷ s-x-catalogue ∷ s-x-card ∷ s-x-scratch ∷ []) _ $
+          (m-x-self ∷ m-x-role ∷ s-x-map ∷ s-x-catalogue ∷ s-x-card ∷ s-x-scratch ∷ []) _ $
           alloc1 ! (λ l₀. alloc1 ! (λ l₁. alloc1 ! (λ l₂. alloc1 ! (λ l₃. alloc1 ! (λ l₄. alloc1 ! (λ l₅.
           alloc1 ! (λ l₆. alloc1 ! (λ l₇. alloc1 ! (λ l₈. alloc1 ! (λ l₉. alloc1 ! (λ l₁₀. alloc1 ! (λ l₁₁.
           alloc1 ! (λ l₁₂. alloc1 ! (λ l₁₃. alloc1 ! (λ l₁₄. alloc1 ! (λ l₁₅. alloc1 ! (λ l₁₆. alloc1 ! (λ l₁₇.
-          alloc0 ! $ params1 ! $ pass1 ! (init ! 32 refl typed-x-self) $
+          alloc1 ! (λ l₁₈. alloc0 ! $ params1 ! $ pass1 ! (init ! 34 refl typed-x-self) $
+          pass1 ! (init ! 32 refl typed-x-role) $
           pass1 ! (init ! 30 refl (tt, (tt, (record { fits = room-x-map .0 }, tt)))) $
           pass1 ! (init ! 28 refl (tt, (tt, (record { fits = room-x-catalogue .0 }, tt)))) $
           pass1 ! (init ! 26 refl (tt, (tt, (record { fits = room-x-card .0 }, tt)))) $
           pass1 ! (init ! 24 refl (tt, (tt, (record { fits = room-x-scratch .0 }, tt)))) $ pass0 ! $
-          bring ! (36 ∷ []) $ parts W (_ ∷ _ ∷ _ ∷ _ ∷ []) _ $ bring ! (40 ∷ []) $
-          fparts W (_ ∷ _ ∷ _ ∷ _ ∷ _ ∷ []) _ $ discard ! (0 ∷ []) $
+          bring ! (38 ∷ []) $ parts W (_ ∷ _ ∷ _ ∷ _ ∷ []) _ $ bring ! (42 ∷ []) $
+          fparts W (_ ∷ _ ∷ _ ∷ _ ∷ _ ∷ _ ∷ []) _ $ discard ! (0 ∷ 0 ∷ []) $
           -- blocks-of
           use0 W (raw ((blocks-of-contract blocks-of-out 𝓤 H A) .pre (to-blocks-of))) (goes-blocks-of) $
           calls-at ! (fmOf 𝓤 H (W .laws) 𝓣) (blocks-of-contract blocks-of-out 𝓤 H A) known-blocks-of (to-blocks-of)
-          (and-then ! (load ! (from ! (stop !)) (look ! 41 refl)) (no-more !)) (λ w-blocks-of.
+          (and-then ! (load ! (from ! (stop !)) (look ! 43 refl)) (no-more !)) (λ w-blocks-of.
           use1 W (later (some (λ (r : ℕ). ((‵ ftrue) ⊛ ‵ (u32 .own r (w-blocks-of ∷ [])))
           ⊛ raw (ensured 𝓤 H A blocks-of-ended (blocks-of-clauses blocks-of-out 𝓤) tt (blocks-of-args) tt r)))) (id⊢ 𝓤 _) $
           await ! tt $ pick ! (λ r-blocks-of. split ! $ bring ! (1 ∷ []) $
@@ -605,13 +628,13 @@ module _ (Shape Outcome : Value) where
           rewrite ! 0 (λ (r : ℕ). ‵ (u32 .own r (w-blocks-of ∷ []))) (e-blocks-of) refl $
           peeks ! u32 (Is u32) (shows 𝓤 H A u32) v-n (w-blocks-of ∷ []) (λ is-w-blocks-of.
           land ! (from ! (stop !)) (init ! 32 refl ((uint-lawful 𝓤 H A W w32 .typed) v-n _ is-w-blocks-of .0)) $
-          rewrite ! 32 (λ (u : Val). ‵ (fat fullShare (tyInt w32) l₆ 0 u)) (ap only ((uint-tells w32) v-n _ is-w-blocks-of))
+          rewrite ! 32 (λ (u : Val). ‵ (fat fullShare (tyInt w32) l₇ 0 u)) (ap only ((uint-tells w32) v-n _ is-w-blocks-of))
           refl $
           discard ! (0 ∷ []) $ parts W ([]) _ $
           -- free-of
           use0 W (raw ((free-of-contract free-of-out 𝓤 H A) .pre (to-free-of))) (goes-free-of) $
           calls-at ! (fmOf 𝓤 H (W .laws) 𝓣) (free-of-contract free-of-out 𝓤 H A) known-free-of (to-free-of)
-          (and-then ! (load ! (from ! (stop !)) (look ! 41 refl)) (no-more !)) (λ w-free-of.
+          (and-then ! (load ! (from ! (stop !)) (look ! 43 refl)) (no-more !)) (λ w-free-of.
           use1 W (later (some (λ (r : ℕ). ((‵ ftrue) ⊛ ‵ (u32 .own r (w-free-of ∷ [])))
           ⊛ raw (ensured 𝓤 H A free-of-ended (free-of-clauses free-of-out 𝓤) tt (free-of-args) tt r)))) (id⊢ 𝓤 _) $
           await ! tt $ pick ! (λ r-free-of. split ! $ bring ! (1 ∷ []) $
@@ -622,13 +645,13 @@ module _ (Shape Outcome : Value) where
           split ! $ bring ! (1 ∷ []) $ rewrite ! 0 (λ (r : ℕ). ‵ (u32 .own r (w-free-of ∷ []))) (e-free-of) refl $
           peeks ! u32 (Is u32) (shows 𝓤 H A u32) v-free (w-free-of ∷ []) (λ is-w-free-of.
           land ! (from ! (stop !)) (init ! 30 refl ((uint-lawful 𝓤 H A W w32 .typed) v-free _ is-w-free-of .0)) $
-          rewrite ! 30 (λ (u : Val). ‵ (fat fullShare (tyInt w32) l₇ 0 u)) (ap only ((uint-tells w32) v-free _ is-w-free-of))
+          rewrite ! 30 (λ (u : Val). ‵ (fat fullShare (tyInt w32) l₈ 0 u)) (ap only ((uint-tells w32) v-free _ is-w-free-of))
           refl $
           discard ! (0 ∷ []) $ parts W ([]) _ $
           -- nothing-else
           use0 W (raw ((nothing-else-contract nothing-else-out 𝓤 H A) .pre (to-nothing-else))) (goes-nothing-else) $
           calls-at ! (fmOf 𝓤 H (W .laws) 𝓣) (nothing-else-contract nothing-else-out 𝓤 H A) known-nothing-else (to-nothing-else)
-          (and-then ! (load ! (from ! (stop !)) (look ! 41 refl)) (no-more !)) (λ w-nothing-else.
+          (and-then ! (load ! (from ! (stop !)) (look ! 43 refl)) (no-more !)) (λ w-nothing-else.
           use1 W (later (some (λ (r : Bool). ((‵ ftrue) ⊛ ‵ (Boolean .own r (w-nothing-else ∷ [])))
           ⊛ raw (ensured 𝓤 H A nothing-else-ended (nothing-else-clauses nothing-else-out 𝓤) tt (nothing-else-args) tt r))))
           (id⊢ 𝓤 _) $
@@ -641,7 +664,7 @@ module _ (Shape Outcome : Value) where
           rewrite ! 0 (λ (r : Bool). ‵ (Boolean .own r (w-nothing-else ∷ []))) (e-nothing-else) refl $
           peeks ! Boolean (Is Boolean) (shows 𝓤 H A Boolean) v-fits (w-nothing-else ∷ []) (λ is-w-nothing-else.
           land ! (from ! (stop !)) (init ! 28 refl ((bool-lawful 𝓤 H A W .typed) v-fits _ is-w-nothing-else .0)) $
-          rewrite ! 28 (λ (u : Val). ‵ (fat fullShare tyBool l₈ 0 u)) (ap only (bool-tells v-fits _ is-w-nothing-else)) refl $
+          rewrite ! 28 (λ (u : Val). ‵ (fat fullShare tyBool l₉ 0 u)) (ap only (bool-tells v-fits _ is-w-nothing-else)) refl $
           discard ! (0 ∷ []) $ parts W ([]) _ $
           -- close
           assigns ! (addr ! (from ! (fld ! refl (hop ! (look-in ! 38 (sub ! 0 refl (whole !))) (stop !))))) (from ! (stop !))
@@ -693,10 +716,11 @@ module _ (Shape Outcome : Value) where
           (spelled-v-fits w-nothing-else is-w-nothing-else)) $
           calls-at ! (fmOf 𝓤 H (W .laws) 𝓣) (close-contract close-out close-x-map close-x-catalogue close-x-card close-x-scratch
           𝓤 H A) known-close (to-close ν₀-close ν₁-close ν₂-close ν₃-close δ₀-close δ₁-close δ₂-close δ₃-close)
-          (and-then ! (load ! (from ! (stop !)) (look ! 27 refl)) (and-then ! (load ! (from ! (stop !)) (look ! 25 refl))
-          (and-then ! (load ! (from ! (stop !)) (look ! 23 refl)) (and-then ! (load ! (from ! (stop !)) (look ! 17 refl))
-          (and-then ! (load ! (from ! (stop !)) (look ! 13 refl)) (and-then ! (load ! (from ! (stop !)) (look ! 9 refl))
-          (and-then ! (load ! (from ! (stop !)) (look ! 5 refl)) (no-more !)))))))) (λ w-close.
+          (and-then ! (load ! (from ! (stop !)) (look ! 37 refl)) (and-then ! (load ! (from ! (stop !)) (look ! 27 refl))
+          (and-then ! (load ! (from ! (stop !)) (look ! 25 refl)) (and-then ! (load ! (from ! (stop !)) (look ! 23 refl))
+          (and-then ! (load ! (from ! (stop !)) (look ! 17 refl)) (and-then ! (load ! (from ! (stop !)) (look ! 13 refl))
+          (and-then ! (load ! (from ! (stop !)) (look ! 9 refl)) (and-then ! (load ! (from ! (stop !)) (look ! 5 refl))
+          (no-more !))))))))) (λ w-close.
           use1 W (later (some (λ (r : ℕ). ((‵ (flft (ν₀-close ∷ []) fullShare) ⊛ ‵ (flft (ν₁-close ∷ []) fullShare)
           ⊛ ‵ (flft (ν₂-close ∷ []) fullShare) ⊛ ‵ (flft (ν₃-close ∷ []) fullShare) ⊛ ‵ ftrue) ⊛ ‵ (u32 .own r (w-close ∷ [])))
           ⊛ raw (ensured 𝓤 H A close-ended (close-clauses close-out close-x-map close-x-catalogue close-x-card close-x-scratch
@@ -704,28 +728,28 @@ module _ (Shape Outcome : Value) where
           (ν₀-close ∷ [], (ν₁-close ∷ [], (ν₂-close ∷ [], (ν₃-close ∷ [], tt)))) (close-args δ₀-close δ₁-close δ₂-close
           δ₃-close) tt r)))) (id⊢ 𝓤 _) $
           await ! tt $ pick ! (λ r-close. split ! $ bring ! (1 ∷ []) $
-          use1 W (some (λ (zs-close : Unit {0} × (Unit {0} × (Unit {0} × (List ℕ × (List Entry
-          × (List ℕ × (List ℕ × Unit {0}))))))). ‵ (lasts close-ended
+          use1 W (some (λ (zs-close : Unit {0} × (Unit {0} × (Unit {0} × (Unit {0} × (List ℕ
+          × (List Entry × (List ℕ × (List ℕ × Unit {0})))))))). ‵ (lasts close-ended
           (ν₀-close ∷ [], (ν₁-close ∷ [], (ν₂-close ∷ [], (ν₃-close ∷ [], tt)))) (close-args δ₀-close δ₁-close δ₂-close
-          δ₃-close) zs-close) ⊛ raw (fact 𝓤 (close-says close-out close-x-map close-x-catalogue close-x-card close-x-scratch v-n
-          v-free v-fits (now x-map) (now x-catalogue) (now x-card) (now x-scratch) r-close (zs-close .1 .1 .1 .0)
-          (zs-close .1 .1 .1 .1 .0) (zs-close .1 .1 .1 .1 .1 .0) (zs-close .1 .1 .1 .1 .1 .1 .0))))) (id⊢ 𝓤 _) $
+          δ₃-close) zs-close) ⊛ raw (fact 𝓤 (close-says close-out close-x-map close-x-catalogue close-x-card close-x-scratch
+          x-role v-n v-free v-fits (now x-map) (now x-catalogue) (now x-card) (now x-scratch) r-close (zs-close .1 .1 .1 .1 .0)
+          (zs-close .1 .1 .1 .1 .1 .0) (zs-close .1 .1 .1 .1 .1 .1 .0) (zs-close .1 .1 .1 .1 .1 .1 .1 .0))))) (id⊢ 𝓤 _) $
           pick ! (λ zs-close. split ! $ bring ! (1 ∷ []) $
-          heard ! (close-says close-out close-x-map close-x-catalogue close-x-card close-x-scratch v-n v-free v-fits (now x-map)
-          (now x-catalogue) (now x-card) (now x-scratch) r-close (zs-close .1 .1 .1 .0) (zs-close .1 .1 .1 .1 .0)
-          (zs-close .1 .1 .1 .1 .1 .0) (zs-close .1 .1 .1 .1 .1 .1 .0)) (λ e-close.
-          fparts W (_ ∷ _ ∷ _ ∷ _ ∷ _ ∷ _ ∷ _ ∷ []) _ $ discard ! (0 ∷ 0 ∷ 0 ∷ []) $ fsplit ! $ bring ! (1 ∷ []) $
-          feqL ! (λ h-close-x-map. bring ! (1 ∷ []) $ fsplit ! $ bring ! (1 ∷ []) $ feqL ! (λ h-close-x-catalogue.
-          bring ! (2 ∷ []) $ fsplit ! $ bring ! (1 ∷ []) $ feqL ! (λ h-close-x-card. bring ! (3 ∷ []) $ fsplit ! $
-          bring ! (1 ∷ []) $ feqL ! (λ h-close-x-scratch. bring ! (4 ∷ []) $ split ! $ bring ! (1 ∷ []) $
-          rewrite ! 0 (λ (r : ℕ). ‵ (u32 .own r (w-close ∷ []))) (e-close .0) refl $
+          heard ! (close-says close-out close-x-map close-x-catalogue close-x-card close-x-scratch x-role v-n v-free v-fits
+          (now x-map) (now x-catalogue) (now x-card) (now x-scratch) r-close (zs-close .1 .1 .1 .1 .0)
+          (zs-close .1 .1 .1 .1 .1 .0) (zs-close .1 .1 .1 .1 .1 .1 .0) (zs-close .1 .1 .1 .1 .1 .1 .1 .0)) (λ e-close.
+          fparts W (_ ∷ _ ∷ _ ∷ _ ∷ _ ∷ _ ∷ _ ∷ _ ∷ []) _ $ discard ! (0 ∷ 0 ∷ 0 ∷ 0 ∷ []) $ fsplit ! $
+          bring ! (1 ∷ []) $ feqL ! (λ h-close-x-map. bring ! (1 ∷ []) $ fsplit ! $ bring ! (1 ∷ []) $
+          feqL ! (λ h-close-x-catalogue. bring ! (2 ∷ []) $ fsplit ! $ bring ! (1 ∷ []) $ feqL ! (λ h-close-x-card.
+          bring ! (3 ∷ []) $ fsplit ! $ bring ! (1 ∷ []) $ feqL ! (λ h-close-x-scratch. bring ! (4 ∷ []) $ split ! $
+          bring ! (1 ∷ []) $ rewrite ! 0 (λ (r : ℕ). ‵ (u32 .own r (w-close ∷ []))) (e-close .0) refl $
           rewrite ! 5 (λ (l : List ℕ). ‵ (finally u64 δ₀-close l)) (e-close .1) refl $
           rewrite ! 4 (λ (l : List Entry). ‵ (finally Entry′.the-row δ₁-close l)) (e-close .2) refl $
           rewrite ! 3 (λ (l : List ℕ). ‵ (finally u8 δ₂-close l)) (e-close .3) refl $
           rewrite ! 2 (λ (l : List ℕ). ‵ (finally u64 δ₃-close l)) (e-close .4) refl $
           peeks ! u32 (Is u32) (shows 𝓤 H A u32) v-number (w-close ∷ []) (λ is-w-close.
           land ! (from ! (stop !)) (init ! 26 refl ((uint-lawful 𝓤 H A W w32 .typed) v-number _ is-w-close .0)) $
-          rewrite ! 26 (λ (u : Val). ‵ (fat fullShare (tyInt w32) l₉ 0 u)) (ap only ((uint-tells w32) v-number _ is-w-close))
+          rewrite ! 26 (λ (u : Val). ‵ (fat fullShare (tyInt w32) l₁₀ 0 u)) (ap only ((uint-tells w32) v-number _ is-w-close))
           refl $
           discard ! (0 ∷ []) $ parts W (_ ∷ _ ∷ _ ∷ _ ∷ []) _ $ lft-end ! tt $ bring ! (0 ∷ 10 ∷ 6 ∷ []) $
           use3 W (later (‵ (MutSlice (named 0) κ₀ u64 .own (at-x-map (x-map .name) z-close-x-map) (s-x-map ∷ []))
@@ -752,7 +776,7 @@ module _ (Shape Outcome : Value) where
           use0 W (raw ((save-outcome-contract save-outcome-out 𝓤 H A) .pre (to-save-outcome)))
           (goes-save-outcome (spelled-v-number w-close is-w-close)) $
           calls-at ! (fmOf 𝓤 H (W .laws) 𝓣) (save-outcome-contract save-outcome-out 𝓤 H A) known-save-outcome (to-save-outcome)
-          (and-then ! (load ! (from ! (stop !)) (look ! 41 refl)) (and-then ! (load ! (from ! (stop !)) (look ! 25 refl))
+          (and-then ! (load ! (from ! (stop !)) (look ! 43 refl)) (and-then ! (load ! (from ! (stop !)) (look ! 25 refl))
           (no-more !))) (λ w-save-outcome.
           use1 W (later (some (λ (r : (denotes Outcome)). ((‵ ftrue) ⊛ ‵ ((rowOf Outcome) .own r (w-save-outcome ∷ [])))
           ⊛ raw (ensured 𝓤 H A save-outcome-ended (save-outcome-clauses save-outcome-out 𝓤) tt (save-outcome-args) tt r))))
@@ -767,18 +791,18 @@ module _ (Shape Outcome : Value) where
           rewrite ! 0 (λ (r : (denotes Outcome)). ‵ ((rowOf Outcome) .own r (w-save-outcome ∷ []))) (e-save-outcome) refl $
           peeks ! (rowOf Outcome) (Is (rowOf Outcome)) (shows 𝓤 H A (rowOf Outcome)) v-result (w-save-outcome ∷ [])
           (λ is-w-save-outcome.
-          land ! (from ! (stop !)) (init ! 44 refl ((Outcome .typed 𝓤 H A W) v-result _ is-w-save-outcome .0)) $
-          rewrite ! 44 (λ (u : Val). ‵ (fat fullShare (mirOf Outcome) l₀ 0 u)) (ap only
+          land ! (from ! (stop !)) (init ! 46 refl ((Outcome .typed 𝓤 H A W) v-result _ is-w-save-outcome .0)) $
+          rewrite ! 46 (λ (u : Val). ‵ (fat fullShare (mirOf Outcome) l₀ 0 u)) (ap only
           ((Outcome .tells) v-result _ is-w-save-outcome)) refl $
-          discard ! (0 ∷ []) $ parts W ([]) _ $ returns ! (look ! 42 refl) $ leave ! 42 refl refl $
-          leave ! 40 refl refl $ leave ! 38 refl refl $ leave ! 36 refl refl $ leave ! 34 refl refl $
-          leave ! 32 refl refl $ leave ! 30 refl refl $ leave ! 28 refl refl $ leave ! 26 refl refl $
-          leave ! 24 refl refl $ leave ! 22 refl refl $ leave ! 20 refl refl $ leave ! 18 refl refl $
-          leave ! 16 refl refl $ leave ! 14 refl refl $ leave ! 12 refl refl $ leave ! 10 refl refl $
-          leave ! 8 refl refl $ free0 ! $ bring ! (6 ∷ 6 ∷ 4 ∷ 4 ∷ 2 ∷ 2 ∷ 0 ∷ 0 ∷ []) $
+          discard ! (0 ∷ []) $ parts W ([]) _ $ returns ! (look ! 44 refl) $ leave ! 44 refl refl $
+          leave ! 42 refl refl $ leave ! 40 refl refl $ leave ! 38 refl refl $ leave ! 36 refl refl $
+          leave ! 34 refl refl $ leave ! 32 refl refl $ leave ! 30 refl refl $ leave ! 28 refl refl $
+          leave ! 26 refl refl $ leave ! 24 refl refl $ leave ! 22 refl refl $ leave ! 20 refl refl $
+          leave ! 18 refl refl $ leave ! 16 refl refl $ leave ! 14 refl refl $ leave ! 12 refl refl $
+          leave ! 10 refl refl $ leave ! 8 refl refl $ free0 ! $ bring ! (6 ∷ 6 ∷ 4 ∷ 4 ∷ 2 ∷ 2 ∷ 0 ∷ 0 ∷ []) $
           by ! (exits (spelled-v-result w-save-outcome is-w-save-outcome) (ap {B = ℕ} length (sym (e-close .1)) ∙ h-close-x-map)
           (ap {B = ℕ} length (sym (e-close .2)) ∙ h-close-x-catalogue) (ap {B = ℕ} length (sym (e-close .3)) ∙ h-close-x-card)
-          (ap {B = ℕ} length (sym (e-close .4)) ∙ h-close-x-scratch)))))))))))))))))))))))))))))))))))))))))))))))))))))))))
+          (ap {B = ℕ} length (sym (e-close .4)) ∙ h-close-x-scratch))))))))))))))))))))))))))))))))))))))))))))))))))))))))))
 
     module _ {M : Type 1} (𝓤 : URA M) (H : Heap 𝓤) (A : Atoms 𝓤) (W : Given 𝓤 H A) where
       walks : (𝓣 : Tables 𝓤 H) → Triple 𝓤 (𝓣 .C #blocks-of) (blocks-of-contract blocks-of-out 𝓤 H A)
@@ -789,21 +813,25 @@ module _ (Shape Outcome : Value) where
           (function #blocks-of #free-of #nothing-else #close #save-outcome)) (clauses 𝓤)
       walks 𝓣 known-blocks-of known-free-of known-nothing-else known-close known-save-outcome =
           walked 𝓤 H A ended stayed (clauses 𝓤) (WpFn 𝓤 H (𝓣 .C) (𝓣 .Λ) (function #blocks-of #free-of #nothing-else #close
-          #save-outcome)) (λ κs. ((valsOf Shape), (slice-vals, (slice-vals, (slice-vals, (slice-vals, tt))))))
+          #save-outcome)) (λ κs.
+          ((valsOf Shape), ((uint-vals w32), (slice-vals, (slice-vals, (slice-vals, (slice-vals, tt)))))))
           (λ κs. (
             (Shape .tells),
             (
-              mut-slice-tells (named 0) (κs .0) u64,
+              (uint-tells w32),
               (
-                mut-slice-tells (named 1) (κs .1 .0) Entry′.the-row,
-                (mut-slice-tells (named 2) (κs .1 .1 .0) u8, (mut-slice-tells (named 3) (κs .1 .1 .1 .0) u64, tt)),
+                mut-slice-tells (named 0) (κs .0) u64,
+                (
+                  mut-slice-tells (named 1) (κs .1 .0) Entry′.the-row,
+                  (mut-slice-tells (named 2) (κs .1 .1 .0) u8, (mut-slice-tells (named 3) (κs .1 .1 .1 .0) u64, tt)),
+                ),
               ),
             ),
           ))
           (λ κs qs bounds a g are. via 𝓤 _ (fst∗ 𝓤 _ (emp 𝓤)) (walk 𝓤 H A W (κs .0) (κs .1 .0) (κs .1 .1 .0) (κs .1 .1 .1 .0)
           (qs .0) (qs .1 .0) (qs .1 .1 .0) (qs .1 .1 .1 .0) (a .0) (a .1 .0) (a .1 .1 .0) (a .1 .1 .1 .0) (a .1 .1 .1 .1 .0)
-          (are .0) (are .1 .0 .0 .1) (are .1 .1 .0 .0 .1) (are .1 .1 .1 .0 .0 .1) (are .1 .1 .1 .1 .0 .0 .1) 𝓣 known-blocks-of
-          known-free-of known-nothing-else known-close known-save-outcome))
+          (a .1 .1 .1 .1 .1 .0) (are .0) (are .1 .0) (are .1 .1 .0 .0 .1) (are .1 .1 .1 .0 .0 .1) (are .1 .1 .1 .1 .0 .0 .1)
+          (are .1 .1 .1 .1 .1 .0 .0 .1) 𝓣 known-blocks-of known-free-of known-nothing-else known-close known-save-outcome))
 
       pub meets : (𝓣 : Tables 𝓤 H) → Triple 𝓤 (𝓣 .C #blocks-of) (blocks-of-contract blocks-of-out 𝓤 H A)
           → Triple 𝓤 (𝓣 .C #free-of) (free-of-contract free-of-out 𝓤 H A) → Triple 𝓤 (𝓣 .C #nothing-else)
@@ -815,10 +843,13 @@ module _ (Shape Outcome : Value) where
           walk-meets 𝓤 H A ended stayed W (
             goes-none 𝓤 H A W 4 (λ _. (rowOf Shape)) yes (λ κs x f. refl),
             (
-              goes-slice 𝓤 H A W 4 0 tt (plain (λ _. u64)),
+              goes-none 𝓤 H A W 4 (λ _. u32) yes (λ κs x f. refl),
               (
-                goes-slice 𝓤 H A W 4 1 tt (plain (λ _. Entry′.the-row)),
-                (goes-slice 𝓤 H A W 4 2 tt (plain (λ _. u8)), (goes-slice 𝓤 H A W 4 3 tt (plain (λ _. u64)), tt)),
+                goes-slice 𝓤 H A W 4 0 tt (plain (λ _. u64)),
+                (
+                  goes-slice 𝓤 H A W 4 1 tt (plain (λ _. Entry′.the-row)),
+                  (goes-slice 𝓤 H A W 4 2 tt (plain (λ _. u8)), (goes-slice 𝓤 H A W 4 3 tt (plain (λ _. u64)), tt)),
+                ),
               ),
             ),
           )

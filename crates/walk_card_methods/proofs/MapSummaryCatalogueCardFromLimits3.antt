@@ -1,8 +1,8 @@
--- Written by tools/walks: every function (self: Shape, map: &mut [u64], summary: &mut [u32], catalogue: &mut [Entry], card:
--- &mut [u8], limits: &[u32; 8], sheet: u32, start: u32, k: u32) whose code is
+-- Written by tools/walks: every function (self: Shape, role: u32, map: &mut [u64], summary: &mut [u32], catalogue: &mut
+-- [Entry], card: &mut [u8], limits: &[u32; 8], sheet: u32, start: u32, k: u32) whose code is
 --     let slot: Slot = find(&*catalogue, sheet);
 --     let held: u64 = held_by(&*catalogue, sheet);
---     let out: Out = core(self, map, summary, card, limits, slot, held, sheet, start, k);
+--     let out: Out = core(self, role, map, summary, card, limits, slot, held, sheet, start, k);
 --     let entry: Entry = entry_of(out);
 --     store(catalogue, sheet, entry);
 --     outcome_of(self, out)
@@ -63,29 +63,32 @@ module _ (Slot Out Shape Outcome : Value) where
   signature = record {
     lifetimes = 5;
     outlives = [];
-    params = plain (λ _. (rowOf Shape)) ∷ mutSlice 0 tt (λ _. u64) ∷ mutSlice 1 tt (λ _. u32)
+    params = plain (λ _. (rowOf Shape)) ∷ plain (λ _. u32) ∷ mutSlice 0 tt (λ _. u64) ∷ mutSlice 1 tt (λ _. u32)
         ∷ mutSlice 2 tt (λ _. Entry′.the-row) ∷ mutSlice 3 tt (λ _. u8) ∷ shrRef 4 tt (λ _. (Array u32 8)) ∷ plain (λ _. u32)
         ∷ plain (λ _. u32) ∷ plain (λ _. u32) ∷ [];
     result = plain (λ _. (rowOf Outcome));
   }
 
   abbrev ended : Ended
-  ended = record { signature = signature; kept = (yes, (yes, (yes, (yes, (yes, (yes, (yes, (yes, (yes, tt))))))))) }
+  ended = record { signature = signature; kept = (yes, (yes, (yes, (yes, (yes, (yes, (yes, (yes, (yes, (yes, tt)))))))))) }
 
   abbrev stayed : Stays (ended .signature .params) (ended .kept)
   stayed = (
     stay-none (λ _. (rowOf Shape)) yes,
     (
-      stay-slice (0 ∷ []) tt (plain (λ _. u64)),
+      stay-none (λ _. u32) yes,
       (
-        stay-slice (1 ∷ []) tt (plain (λ _. u32)),
+        stay-slice (0 ∷ []) tt (plain (λ _. u64)),
         (
-          stay-slice (2 ∷ []) tt (plain (λ _. Entry′.the-row)),
+          stay-slice (1 ∷ []) tt (plain (λ _. u32)),
           (
-            stay-slice (3 ∷ []) tt (plain (λ _. u8)),
+            stay-slice (2 ∷ []) tt (plain (λ _. Entry′.the-row)),
             (
-              stay-none-ref (4 ∷ []) tt (plain (λ _. (Array u32 8))) yes,
-              (stay-none (λ _. u32) yes, (stay-none (λ _. u32) yes, (stay-none (λ _. u32) yes, tt))),
+              stay-slice (3 ∷ []) tt (plain (λ _. u8)),
+              (
+                stay-none-ref (4 ∷ []) tt (plain (λ _. (Array u32 8))) yes,
+                (stay-none (λ _. u32) yes, (stay-none (λ _. u32) yes, (stay-none (λ _. u32) yes, tt))),
+              ),
             ),
           ),
         ),
@@ -98,10 +101,10 @@ module _ (Slot Out Shape Outcome : Value) where
   function #find #held-by #core #entry-of #store #outcome-of = record {
     lifetimes = 5;
     outlives = [];
-    params = 9;
-    locals = local (mirOf Outcome) valueLocal ∷ local (mirOf Shape) valueLocal ∷ local
-        (sliceTy (tyRef (named 0) mut (tyInt w64))) valueLocal ∷ local (sliceTy (tyRef (named 1) mut (tyInt w32))) valueLocal
-        ∷ local (sliceTy (tyRef (named 2) mut (pointee (Entry′.the-row .written)))) valueLocal
+    params = 10;
+    locals = local (mirOf Outcome) valueLocal ∷ local (mirOf Shape) valueLocal ∷ local (tyInt w32) valueLocal
+        ∷ local (sliceTy (tyRef (named 0) mut (tyInt w64))) valueLocal ∷ local (sliceTy (tyRef (named 1) mut (tyInt w32)))
+        valueLocal ∷ local (sliceTy (tyRef (named 2) mut (pointee (Entry′.the-row .written)))) valueLocal
         ∷ local (sliceTy (tyRef (named 3) mut (tyInt w8))) valueLocal ∷ local (tyRef (named 4) imm (tyArray (tyInt w32) 8))
         valueLocal ∷ local (tyInt w32) valueLocal ∷ local (tyInt w32) valueLocal ∷ local (tyInt w32) valueLocal
         ∷ local (mirOf Slot) valueLocal ∷ local (tyInt w64) valueLocal ∷ local (mirOf Out) valueLocal
@@ -114,26 +117,26 @@ module _ (Slot Out Shape Outcome : Value) where
         ∷ local (sliceTy (tyRef erased mut (tyInt w8))) valueLocal ∷ local tyUnit valueLocal
         ∷ local (tyRef erased mut (pointee (Entry′.the-row .written))) valueLocal ∷ local
         (sliceTy (tyRef erased mut (pointee (Entry′.the-row .written)))) valueLocal ∷ [];
-    body = seq (assign (place 14 []) (addrOf (place 4 (field 0 ∷ deref Entry″.mir ∷ []))))
-        (seq (assign (place 15 []) (aggregate (copy (place 14 []) ∷ copy (place 4 (field 1 ∷ [])) ∷ [])))
-        (seq (call #find (copy (place 15 []) ∷ copy (place 7 []) ∷ []) (place 10 []))
-        (seq (assign (place 16 []) (addrOf (place 4 (field 0 ∷ deref Entry″.mir ∷ []))))
-        (seq (assign (place 17 []) (aggregate (copy (place 16 []) ∷ copy (place 4 (field 1 ∷ [])) ∷ [])))
-        (seq (call #held-by (copy (place 17 []) ∷ copy (place 7 []) ∷ []) (place 11 []))
-        (seq (assign (place 18 []) (addrOf (place 2 (field 0 ∷ deref (tyInt w64) ∷ []))))
-        (seq (assign (place 19 []) (aggregate (copy (place 18 []) ∷ copy (place 2 (field 1 ∷ [])) ∷ [])))
-        (seq (assign (place 20 []) (addrOf (place 3 (field 0 ∷ deref (tyInt w32) ∷ []))))
-        (seq (assign (place 21 []) (aggregate (copy (place 20 []) ∷ copy (place 3 (field 1 ∷ [])) ∷ [])))
-        (seq (assign (place 22 []) (addrOf (place 5 (field 0 ∷ deref (tyInt w8) ∷ []))))
-        (seq (assign (place 23 []) (aggregate (copy (place 22 []) ∷ copy (place 5 (field 1 ∷ [])) ∷ [])))
-        (seq (call #core (copy (place 1 []) ∷ copy (place 19 []) ∷ copy (place 21 []) ∷ copy (place 23 []) ∷ copy (place 6 [])
-        ∷ copy (place 10 []) ∷ copy (place 11 []) ∷ copy (place 7 []) ∷ copy (place 8 []) ∷ copy (place 9 []) ∷ [])
-        (place 12 []))
-        (seq (call #entry-of (copy (place 12 []) ∷ []) (place 13 []))
-        (seq (assign (place 25 []) (addrOf (place 4 (field 0 ∷ deref Entry″.mir ∷ []))))
-        (seq (assign (place 26 []) (aggregate (copy (place 25 []) ∷ copy (place 4 (field 1 ∷ [])) ∷ [])))
-        (seq (call #store (copy (place 26 []) ∷ copy (place 7 []) ∷ copy (place 13 []) ∷ []) (place 24 []))
-        (seq (call #outcome-of (copy (place 1 []) ∷ copy (place 12 []) ∷ []) (place 0 [])) return)))))))))))))))));
+    body = seq (assign (place 15 []) (addrOf (place 5 (field 0 ∷ deref Entry″.mir ∷ []))))
+        (seq (assign (place 16 []) (aggregate (copy (place 15 []) ∷ copy (place 5 (field 1 ∷ [])) ∷ [])))
+        (seq (call #find (copy (place 16 []) ∷ copy (place 8 []) ∷ []) (place 11 []))
+        (seq (assign (place 17 []) (addrOf (place 5 (field 0 ∷ deref Entry″.mir ∷ []))))
+        (seq (assign (place 18 []) (aggregate (copy (place 17 []) ∷ copy (place 5 (field 1 ∷ [])) ∷ [])))
+        (seq (call #held-by (copy (place 18 []) ∷ copy (place 8 []) ∷ []) (place 12 []))
+        (seq (assign (place 19 []) (addrOf (place 3 (field 0 ∷ deref (tyInt w64) ∷ []))))
+        (seq (assign (place 20 []) (aggregate (copy (place 19 []) ∷ copy (place 3 (field 1 ∷ [])) ∷ [])))
+        (seq (assign (place 21 []) (addrOf (place 4 (field 0 ∷ deref (tyInt w32) ∷ []))))
+        (seq (assign (place 22 []) (aggregate (copy (place 21 []) ∷ copy (place 4 (field 1 ∷ [])) ∷ [])))
+        (seq (assign (place 23 []) (addrOf (place 6 (field 0 ∷ deref (tyInt w8) ∷ []))))
+        (seq (assign (place 24 []) (aggregate (copy (place 23 []) ∷ copy (place 6 (field 1 ∷ [])) ∷ [])))
+        (seq (call #core (copy (place 1 []) ∷ copy (place 2 []) ∷ copy (place 20 []) ∷ copy (place 22 []) ∷ copy (place 24 [])
+        ∷ copy (place 7 []) ∷ copy (place 11 []) ∷ copy (place 12 []) ∷ copy (place 8 []) ∷ copy (place 9 [])
+        ∷ copy (place 10 []) ∷ []) (place 13 []))
+        (seq (call #entry-of (copy (place 13 []) ∷ []) (place 14 []))
+        (seq (assign (place 26 []) (addrOf (place 5 (field 0 ∷ deref Entry″.mir ∷ []))))
+        (seq (assign (place 27 []) (aggregate (copy (place 26 []) ∷ copy (place 5 (field 1 ∷ [])) ∷ [])))
+        (seq (call #store (copy (place 27 []) ∷ copy (place 8 []) ∷ copy (place 14 []) ∷ []) (place 25 []))
+        (seq (call #outcome-of (copy (place 1 []) ∷ copy (place 13 []) ∷ []) (place 0 [])) return)))))))))))))))));
   }
 
   -- ---- what `find` is, and what it ensures
@@ -203,38 +206,38 @@ module _ (Slot Out Shape Outcome : Value) where
   core-signature = record {
     lifetimes = 4;
     outlives = [];
-    params = plain (λ _. (rowOf Shape)) ∷ mutSlice 0 tt (λ _. u64) ∷ mutSlice 1 tt (λ _. u32) ∷ mutSlice 2 tt (λ _. u8)
-        ∷ shrRef 3 tt (λ _. (Array u32 8)) ∷ plain (λ _. (rowOf Slot)) ∷ plain (λ _. u64) ∷ plain (λ _. u32) ∷ plain (λ _. u32)
-        ∷ plain (λ _. u32) ∷ [];
+    params = plain (λ _. (rowOf Shape)) ∷ plain (λ _. u32) ∷ mutSlice 0 tt (λ _. u64) ∷ mutSlice 1 tt (λ _. u32)
+        ∷ mutSlice 2 tt (λ _. u8) ∷ shrRef 3 tt (λ _. (Array u32 8)) ∷ plain (λ _. (rowOf Slot)) ∷ plain (λ _. u64)
+        ∷ plain (λ _. u32) ∷ plain (λ _. u32) ∷ plain (λ _. u32) ∷ [];
     result = plain (λ _. (rowOf Out));
   }
 
   abbrev core-ended : Ended
   core-ended = record {
     signature = core-signature;
-    kept = (yes, (yes, (yes, (yes, (yes, (yes, (yes, (yes, (yes, (yes, tt))))))))));
+    kept = (yes, (yes, (yes, (yes, (yes, (yes, (yes, (yes, (yes, (yes, (yes, tt)))))))))));
   }
 
   abbrev core-Model : Type 0 → Type 0
-  core-Model X = (denotes Shape) → List ℕ → List ℕ → List ℕ → (List ℕ) → (denotes Slot) → ℕ → ℕ → ℕ → ℕ → X
+  core-Model X = (denotes Shape) → ℕ → List ℕ → List ℕ → List ℕ → (List ℕ) → (denotes Slot) → ℕ → ℕ → ℕ → ℕ → X
 
   module _ (core-out : core-Model (denotes Out)) (core-x-map : core-Model (List ℕ)) (core-x-summary : core-Model (List ℕ))
       (core-x-card : core-Model (List ℕ)) where
-    abbrev core-says : (denotes Shape) → List ℕ → List ℕ → List ℕ → (List ℕ) → (denotes Slot) → ℕ → ℕ → ℕ → ℕ → (denotes Out)
-        → List ℕ → List ℕ → List ℕ → Type 0
-    core-says a0 a1 a2 a3 a4 a5 a6 a7 a8 a9 r b1 b2 b3 = (r ≡ core-out a0 a1 a2 a3 a4 a5 a6 a7 a8 a9)
-        × (b1 ≡ core-x-map a0 a1 a2 a3 a4 a5 a6 a7 a8 a9) × (b2 ≡ core-x-summary a0 a1 a2 a3 a4 a5 a6 a7 a8 a9)
-        × (b3 ≡ core-x-card a0 a1 a2 a3 a4 a5 a6 a7 a8 a9)
+    abbrev core-says : (denotes Shape) → ℕ → List ℕ → List ℕ → List ℕ → (List ℕ) → (denotes Slot) → ℕ → ℕ → ℕ → ℕ
+        → (denotes Out) → List ℕ → List ℕ → List ℕ → Type 0
+    core-says a0 a1 a2 a3 a4 a5 a6 a7 a8 a9 a10 r b2 b3 b4 = (r ≡ core-out a0 a1 a2 a3 a4 a5 a6 a7 a8 a9 a10)
+        × (b2 ≡ core-x-map a0 a1 a2 a3 a4 a5 a6 a7 a8 a9 a10) × (b3 ≡ core-x-summary a0 a1 a2 a3 a4 a5 a6 a7 a8 a9 a10)
+        × (b4 ≡ core-x-card a0 a1 a2 a3 a4 a5 a6 a7 a8 a9 a10)
 
     module _ {M : Type 1} (𝓤 : URA M) where
       abbrev core-clauses : Clauses 𝓤 core-ended
       core-clauses κs a = record {
         ghost = Unit {0};
         requires = λ _. emp 𝓤;
-        ensures = λ _ r e. fact 𝓤 (core-says (a .0) (now (a .1 .0)) (now (a .1 .1 .0)) (now (a .1 .1 .1 .0))
-            (now (a .1 .1 .1 .1 .0)) (a .1 .1 .1 .1 .1 .0) (a .1 .1 .1 .1 .1 .1 .0) (a .1 .1 .1 .1 .1 .1 .1 .0)
-            (a .1 .1 .1 .1 .1 .1 .1 .1 .0) (a .1 .1 .1 .1 .1 .1 .1 .1 .1 .0) r (now (e .1 .0)) (now (e .1 .1 .0))
-            (now (e .1 .1 .1 .0)));
+        ensures = λ _ r e. fact 𝓤 (core-says (a .0) (a .1 .0) (now (a .1 .1 .0)) (now (a .1 .1 .1 .0)) (now (a .1 .1 .1 .1 .0))
+            (now (a .1 .1 .1 .1 .1 .0)) (a .1 .1 .1 .1 .1 .1 .0) (a .1 .1 .1 .1 .1 .1 .1 .0) (a .1 .1 .1 .1 .1 .1 .1 .1 .0)
+            (a .1 .1 .1 .1 .1 .1 .1 .1 .1 .0) (a .1 .1 .1 .1 .1 .1 .1 .1 .1 .1 .0) r (now (e .1 .1 .0)) (now (e .1 .1 .1 .0))
+            (now (e .1 .1 .1 .1 .0)));
       }
 
       module _ (H : Heap 𝓤) (A : Atoms 𝓤) where
@@ -339,8 +342,8 @@ module _ (Slot Out Shape Outcome : Value) where
       (core-x-summary : core-Model (List ℕ)) (core-x-card : core-Model (List ℕ)) (entry-of-out : entry-of-Model Entry)
       (store-x-catalogue : store-Model (List Entry)) (outcome-of-out : outcome-of-Model (denotes Outcome)) where
     -- ---- what the chain gives, call by call
-    module _ (x-self : (denotes Shape)) (x-map : List ℕ) (x-summary : List ℕ) (x-catalogue : List Entry) (x-card : List ℕ)
-        (x-limits : (List ℕ)) (x-sheet : ℕ) (x-start : ℕ) (x-k : ℕ) where
+    module _ (x-self : (denotes Shape)) (x-role : ℕ) (x-map : List ℕ) (x-summary : List ℕ) (x-catalogue : List Entry)
+        (x-card : List ℕ) (x-limits : (List ℕ)) (x-sheet : ℕ) (x-start : ℕ) (x-k : ℕ) where
       abbrev v-slot-of : (denotes Slot)
       v-slot-of = find-out x-catalogue x-sheet
 
@@ -348,16 +351,16 @@ module _ (Slot Out Shape Outcome : Value) where
       v-held-of = held-by-out x-catalogue x-sheet
 
       abbrev v-out-of : (denotes Out)
-      v-out-of = core-out x-self x-map x-summary x-card x-limits v-slot-of v-held-of x-sheet x-start x-k
+      v-out-of = core-out x-self x-role x-map x-summary x-card x-limits v-slot-of v-held-of x-sheet x-start x-k
 
       abbrev z-core-x-map-of : List ℕ
-      z-core-x-map-of = core-x-map x-self x-map x-summary x-card x-limits v-slot-of v-held-of x-sheet x-start x-k
+      z-core-x-map-of = core-x-map x-self x-role x-map x-summary x-card x-limits v-slot-of v-held-of x-sheet x-start x-k
 
       abbrev z-core-x-summary-of : List ℕ
-      z-core-x-summary-of = core-x-summary x-self x-map x-summary x-card x-limits v-slot-of v-held-of x-sheet x-start x-k
+      z-core-x-summary-of = core-x-summary x-self x-role x-map x-summary x-card x-limits v-slot-of v-held-of x-sheet x-start x-k
 
       abbrev z-core-x-card-of : List ℕ
-      z-core-x-card-of = core-x-card x-self x-map x-summary x-card x-limits v-slot-of v-held-of x-sheet x-start x-k
+      z-core-x-card-of = core-x-card x-self x-role x-map x-summary x-card x-limits v-slot-of v-held-of x-sheet x-start x-k
 
       abbrev v-entry-of : Entry
       v-entry-of = entry-of-out v-out-of
@@ -377,24 +380,33 @@ module _ (Slot Out Shape Outcome : Value) where
       clauses κs a = record {
         ghost = Unit {0};
         requires = λ _. emp 𝓤;
-        ensures = λ _ r e. fact 𝓤 (Says (a .0) (now (a .1 .0)) (now (a .1 .1 .0)) (now (a .1 .1 .1 .0)) (now (a .1 .1 .1 .1 .0))
-            (now (a .1 .1 .1 .1 .1 .0)) (a .1 .1 .1 .1 .1 .1 .0) (a .1 .1 .1 .1 .1 .1 .1 .0) (a .1 .1 .1 .1 .1 .1 .1 .1 .0) r
-            (now (e .1 .0)) (now (e .1 .1 .0)) (now (e .1 .1 .1 .0)) (now (e .1 .1 .1 .1 .0)));
+        ensures = λ _ r e. fact 𝓤 (Says (a .0) (a .1 .0) (now (a .1 .1 .0)) (now (a .1 .1 .1 .0)) (now (a .1 .1 .1 .1 .0))
+            (now (a .1 .1 .1 .1 .1 .0)) (now (a .1 .1 .1 .1 .1 .1 .0)) (a .1 .1 .1 .1 .1 .1 .1 .0)
+            (a .1 .1 .1 .1 .1 .1 .1 .1 .0) (a .1 .1 .1 .1 .1 .1 .1 .1 .1 .0) r (now (e .1 .1 .0)) (now (e .1 .1 .1 .0))
+            (now (e .1 .1 .1 .1 .0)) (now (e .1 .1 .1 .1 .1 .0)));
       }
 
     module _ {M : Type 1} (𝓤 : URA M) (H : Heap 𝓤) (A : Atoms 𝓤) (W : Given 𝓤 H A) (κ₀ κ₁ κ₂ κ₃ κ₄ : Lft)
         (q₀ q₁ q₂ q₃ q₄ : Share)
-        (x-self : (denotes Shape)) (x-map : RefT (List ℕ)) (x-summary : RefT (List ℕ)) (x-catalogue : RefT (List Entry))
-        (x-card : RefT (List ℕ)) (x-limits : RefT (List ℕ)) (x-sheet : ℕ) (x-start : ℕ) (x-k : ℕ)
-        (is-x-self : Is (rowOf Shape) x-self ((valsOf Shape) x-self)) (room-x-map : Room u64 (length (now x-map)))
-        (room-x-summary : Room u32 (length (now x-summary))) (room-x-catalogue : Room Entry′.the-row (length (now x-catalogue)))
-        (room-x-card : Room u8 (length (now x-card))) (is-x-sheet : Is u32 x-sheet ((uint-vals w32) x-sheet))
-        (is-x-start : Is u32 x-start ((uint-vals w32) x-start)) (is-x-k : Is u32 x-k ((uint-vals w32) x-k)) where
+        (x-self : (denotes Shape)) (x-role : ℕ) (x-map : RefT (List ℕ)) (x-summary : RefT (List ℕ))
+        (x-catalogue : RefT (List Entry)) (x-card : RefT (List ℕ)) (x-limits : RefT (List ℕ)) (x-sheet : ℕ) (x-start : ℕ)
+        (x-k : ℕ)
+        (is-x-self : Is (rowOf Shape) x-self ((valsOf Shape) x-self)) (is-x-role : Is u32 x-role ((uint-vals w32) x-role))
+        (room-x-map : Room u64 (length (now x-map))) (room-x-summary : Room u32 (length (now x-summary)))
+        (room-x-catalogue : Room Entry′.the-row (length (now x-catalogue))) (room-x-card : Room u8 (length (now x-card)))
+        (is-x-sheet : Is u32 x-sheet ((uint-vals w32) x-sheet)) (is-x-start : Is u32 x-start ((uint-vals w32) x-start))
+        (is-x-k : Is u32 x-k ((uint-vals w32) x-k)) where
       abbrev m-x-self : Val
       m-x-self = only ((valsOf Shape) x-self)
 
       typed-x-self : Holds (hasTy (mirOf Shape) m-x-self) × WT m-x-self
       typed-x-self = (Shape .typed 𝓤 H A W) x-self _ is-x-self .0
+
+      abbrev m-x-role : Val
+      m-x-role = only ((uint-vals w32) x-role)
+
+      typed-x-role : Holds (hasTy (tyInt w32) m-x-role) × WT m-x-role
+      typed-x-role = (uint-lawful 𝓤 H A W w32 .typed) x-role _ is-x-role .0
 
       abbrev s-x-map : Val
       s-x-map = sliceVal (x-map .ptr) (length (now x-map))
@@ -441,19 +453,22 @@ module _ (Slot Out Shape Outcome : Value) where
       typed-x-k : Holds (hasTy (tyInt w32) m-x-k) × WT m-x-k
       typed-x-k = (uint-lawful 𝓤 H A W w32 .typed) x-k _ is-x-k .0
 
-      abbrev args : (denotes Shape) × (RefT (List ℕ) × (RefT (List ℕ) × (RefT (List Entry)
-          × (RefT (List ℕ) × (RefT (List ℕ) × (ℕ × (ℕ × (ℕ × Unit {0}))))))))
-      args = (x-self, (x-map, (x-summary, (x-catalogue, (x-card, (x-limits, (x-sheet, (x-start, (x-k, tt)))))))))
+      abbrev args : (denotes Shape) × (ℕ × (RefT (List ℕ) × (RefT (List ℕ) × (RefT (List Entry)
+          × (RefT (List ℕ) × (RefT (List ℕ) × (ℕ × (ℕ × (ℕ × Unit {0})))))))))
+      args = (x-self, (x-role, (x-map, (x-summary, (x-catalogue, (x-card, (x-limits, (x-sheet, (x-start, (x-k, tt))))))))))
 
       abbrev vals : List Val × (List Val × (List Val × (List Val × (List Val × (List Val
-          × (List Val × (List Val × (List Val × Unit {0}))))))))
+          × (List Val × (List Val × (List Val × (List Val × Unit {0})))))))))
       vals = (
         m-x-self ∷ [],
         (
-          s-x-map ∷ [],
+          m-x-role ∷ [],
           (
-            s-x-summary ∷ [],
-            (s-x-catalogue ∷ [], (s-x-card ∷ [], (s-x-limits ∷ [], (m-x-sheet ∷ [], (m-x-start ∷ [], (m-x-k ∷ [], tt)))))),
+            s-x-map ∷ [],
+            (
+              s-x-summary ∷ [],
+              (s-x-catalogue ∷ [], (s-x-card ∷ [], (s-x-limits ∷ [], (m-x-sheet ∷ [], (m-x-start ∷ [], (m-x-k ∷ [], tt)))))),
+            ),
           ),
         ),
       )
@@ -465,36 +480,40 @@ module _ (Slot Out Shape Outcome : Value) where
       Post = walkOf 𝓤 H A ended stayed (clauses 𝓤) .post bound
 
       abbrev v-slot : (denotes Slot)
-      v-slot = v-slot-of x-self (now x-map) (now x-summary) (now x-catalogue) (now x-card) (now x-limits) x-sheet x-start x-k
+      v-slot = v-slot-of x-self x-role (now x-map) (now x-summary) (now x-catalogue) (now x-card) (now x-limits) x-sheet x-start
+          x-k
 
       abbrev v-held : ℕ
-      v-held = v-held-of x-self (now x-map) (now x-summary) (now x-catalogue) (now x-card) (now x-limits) x-sheet x-start x-k
+      v-held = v-held-of x-self x-role (now x-map) (now x-summary) (now x-catalogue) (now x-card) (now x-limits) x-sheet x-start
+          x-k
 
       abbrev v-out : (denotes Out)
-      v-out = v-out-of x-self (now x-map) (now x-summary) (now x-catalogue) (now x-card) (now x-limits) x-sheet x-start x-k
+      v-out = v-out-of x-self x-role (now x-map) (now x-summary) (now x-catalogue) (now x-card) (now x-limits) x-sheet x-start
+          x-k
 
       abbrev z-core-x-map : List ℕ
-      z-core-x-map = z-core-x-map-of x-self (now x-map) (now x-summary) (now x-catalogue) (now x-card) (now x-limits) x-sheet
-          x-start x-k
-
-      abbrev z-core-x-summary : List ℕ
-      z-core-x-summary = z-core-x-summary-of x-self (now x-map) (now x-summary) (now x-catalogue) (now x-card) (now x-limits)
+      z-core-x-map = z-core-x-map-of x-self x-role (now x-map) (now x-summary) (now x-catalogue) (now x-card) (now x-limits)
           x-sheet x-start x-k
 
+      abbrev z-core-x-summary : List ℕ
+      z-core-x-summary = z-core-x-summary-of x-self x-role (now x-map) (now x-summary) (now x-catalogue) (now x-card)
+          (now x-limits) x-sheet x-start x-k
+
       abbrev z-core-x-card : List ℕ
-      z-core-x-card = z-core-x-card-of x-self (now x-map) (now x-summary) (now x-catalogue) (now x-card) (now x-limits) x-sheet
-          x-start x-k
+      z-core-x-card = z-core-x-card-of x-self x-role (now x-map) (now x-summary) (now x-catalogue) (now x-card) (now x-limits)
+          x-sheet x-start x-k
 
       abbrev v-entry : Entry
-      v-entry = v-entry-of x-self (now x-map) (now x-summary) (now x-catalogue) (now x-card) (now x-limits) x-sheet x-start x-k
+      v-entry = v-entry-of x-self x-role (now x-map) (now x-summary) (now x-catalogue) (now x-card) (now x-limits) x-sheet
+          x-start x-k
 
       abbrev z-store-x-catalogue : List Entry
-      z-store-x-catalogue = z-store-x-catalogue-of x-self (now x-map) (now x-summary) (now x-catalogue) (now x-card)
+      z-store-x-catalogue = z-store-x-catalogue-of x-self x-role (now x-map) (now x-summary) (now x-catalogue) (now x-card)
           (now x-limits) x-sheet x-start x-k
 
       abbrev v-result : (denotes Outcome)
-      v-result = v-result-of x-self (now x-map) (now x-summary) (now x-catalogue) (now x-card) (now x-limits) x-sheet x-start
-          x-k
+      v-result = v-result-of x-self x-role (now x-map) (now x-summary) (now x-catalogue) (now x-card) (now x-limits) x-sheet
+          x-start x-k
 
       abbrev m-v-slot : Val
       m-v-slot = only ((valsOf Slot) v-slot)
@@ -575,15 +594,18 @@ module _ (Slot Out Shape Outcome : Value) where
           fjoin ! $ bring ! (1 ∷ 0 ∷ []) $ join ! $ frame ! $ done !
 
       -- ---- the caller has what `core` asks
-      abbrev core-args : (δ₀-core δ₁-core δ₂-core : GName) → (denotes Shape) × (RefT (List ℕ)
-          × (RefT (List ℕ) × (RefT (List ℕ) × (RefT (List ℕ) × ((denotes Slot) × (ℕ × (ℕ × (ℕ × (ℕ × Unit {0})))))))))
+      abbrev core-args : (δ₀-core δ₁-core δ₂-core : GName) → (denotes Shape) × (ℕ × (RefT (List ℕ)
+          × (RefT (List ℕ) × (RefT (List ℕ) × (RefT (List ℕ) × ((denotes Slot) × (ℕ × (ℕ × (ℕ × (ℕ × Unit {0}))))))))))
       core-args δ₀-core δ₁-core δ₂-core = (
         x-self,
         (
-          at-x-map δ₀-core (now x-map),
+          x-role,
           (
-            at-x-summary δ₁-core (now x-summary),
-            (at-x-card δ₂-core (now x-card), (x-limits, (v-slot, (v-held, (x-sheet, (x-start, (x-k, tt))))))),
+            at-x-map δ₀-core (now x-map),
+            (
+              at-x-summary δ₁-core (now x-summary),
+              (at-x-card δ₂-core (now x-card), (x-limits, (v-slot, (v-held, (x-sheet, (x-start, (x-k, tt))))))),
+            ),
           ),
         ),
       )
@@ -599,12 +621,15 @@ module _ (Slot Out Shape Outcome : Value) where
           (
             m-x-self ∷ [],
             (
-              s-x-map ∷ [],
+              m-x-role ∷ [],
               (
-                s-x-summary ∷ [],
+                s-x-map ∷ [],
                 (
-                  s-x-card ∷ [],
-                  (s-x-limits ∷ [], (m-v-slot ∷ [], (m-v-held ∷ [], (m-x-sheet ∷ [], (m-x-start ∷ [], (m-x-k ∷ [], tt)))))),
+                  s-x-summary ∷ [],
+                  (
+                    s-x-card ∷ [],
+                    (s-x-limits ∷ [], (m-v-slot ∷ [], (m-v-held ∷ [], (m-x-sheet ∷ [], (m-x-start ∷ [], (m-x-k ∷ [], tt)))))),
+                  ),
                 ),
               ),
             ),
@@ -635,7 +660,7 @@ module _ (Slot Out Shape Outcome : Value) where
           owned ! u64 (Is u64) (uint-makes 𝓤 H A W w64) v-held _ is-v-held $ fjoin ! $
           owned ! (rowOf Slot) (Is (rowOf Slot)) (Slot .makes 𝓤 H A) v-slot _ is-v-slot $ fjoin ! $
           bring ! (5 ∷ 0 ∷ []) $ fjoin ! $ bring ! (4 ∷ 0 ∷ []) $ fjoin ! $ bring ! (3 ∷ 0 ∷ []) $ fjoin ! $
-          bring ! (2 ∷ 0 ∷ []) $ fjoin ! $
+          bring ! (2 ∷ 0 ∷ []) $ fjoin ! $ owned ! u32 (Is u32) (uint-makes 𝓤 H A W w32) x-role _ is-x-role $ fjoin ! $
           owned ! (rowOf Shape) (Is (rowOf Shape)) (Shape .makes 𝓤 H A) x-self _ is-x-self $ fjoin ! $
           bring ! (1 ∷ 0 ∷ []) $ join ! $ frame ! $ done !
 
@@ -713,15 +738,16 @@ module _ (Slot Out Shape Outcome : Value) where
           z-store-x-catalogue) (s-x-catalogue ∷ [])) ∷ ‵ (flft κ₂ q₂) ∷ ‵ (MutSlice (named 3) κ₃ u8 .own
           (at-x-card (x-card .name) z-core-x-card) (s-x-card ∷ [])) ∷ ‵ (flft κ₃ q₃) ∷ ‵
           (ShrRef (named 4) κ₄ (Array u32 8) .own x-limits (s-x-limits ∷ [])) ∷ ‵ (flft κ₄ q₄) ∷ []) ∵
-          suffices ! _ (ends-at 𝓤 H A ended stayed (clauses 𝓤) W bound m-v-result v-result
-          (tt, (z-core-x-map, (z-core-x-summary, (z-store-x-catalogue, (z-core-x-card, (tt, (tt, (tt, (tt, tt)))))))))
-          (tt, (l-x-map, (l-x-summary, (l-x-catalogue, (l-x-card, (tt, (tt, (tt, (tt, tt)))))))))) $
+          suffices ! _ (ends-at 𝓤 H A ended stayed (clauses 𝓤) W bound m-v-result v-result (
+            tt,
+            (tt, (z-core-x-map, (z-core-x-summary, (z-store-x-catalogue, (z-core-x-card, (tt, (tt, (tt, (tt, tt))))))))),
+          ) (tt, (tt, (l-x-map, (l-x-summary, (l-x-catalogue, (l-x-card, (tt, (tt, (tt, (tt, tt))))))))))) $
           says ! (refl, refl, refl, refl, refl) $ nothing ! $ bring ! (2 ∷ 3 ∷ 4 ∷ 5 ∷ 6 ∷ 0 ∷ []) $ group ! 6 $
           frame ! $ nothing ! $ owned ! u32 (Is u32) (uint-makes 𝓤 H A W w32) x-k _ is-x-k $ fjoin ! $
           owned ! u32 (Is u32) (uint-makes 𝓤 H A W w32) x-start _ is-x-start $ fjoin ! $
           owned ! u32 (Is u32) (uint-makes 𝓤 H A W w32) x-sheet _ is-x-sheet $ fjoin ! $ bring ! (5 ∷ 0 ∷ []) $
           fjoin ! $ bring ! (4 ∷ 0 ∷ []) $ fjoin ! $ bring ! (3 ∷ 0 ∷ []) $ fjoin ! $ bring ! (2 ∷ 0 ∷ []) $ fjoin ! $
-          bring ! (1 ∷ 0 ∷ []) $ fjoin ! $
+          bring ! (1 ∷ 0 ∷ []) $ fjoin ! $ owned ! u32 (Is u32) (uint-makes 𝓤 H A W w32) x-role _ is-x-role $ fjoin ! $
           owned ! (rowOf Shape) (Is (rowOf Shape)) (Shape .makes 𝓤 H A) x-self _ is-x-self $ fjoin ! $
           owned ! (rowOf Outcome) (Is (rowOf Outcome)) (Outcome .makes 𝓤 H A) v-result _ is $ bring ! (1 ∷ 0 ∷ []) $
           done !
@@ -734,28 +760,30 @@ module _ (Slot Out Shape Outcome : Value) where
           (outcome-of-contract outcome-of-out 𝓤 H A) → ent 𝓤 (onEntry 𝓤 H A signature (κ₀, (κ₁, (κ₂, (κ₃, (κ₄, tt)))))
           (q₀, (q₁, (q₂, (q₃, (q₄, tt))))) args vals)
           (WpFn 𝓤 H (𝓣 .C) (𝓣 .Λ) (function #find #held-by #core #entry-of #store #outcome-of)
-          (m-x-self ∷ s-x-map ∷ s-x-summary ∷ s-x-catalogue ∷ s-x-card ∷ s-x-limits ∷ m-x-sheet ∷ m-x-start ∷ m-x-k ∷ []) Post)
+          (m-x-self ∷ m-x-role ∷ s-x-map ∷ s-x-summary ∷ s-x-catalogue ∷ s-x-card ∷ s-x-limits ∷ m-x-sheet ∷ m-x-start ∷ m-x-k
+          ∷ []) Post)
       walk 𝓣 known-find known-held-by known-core known-entry-of known-store known-outcome-of =
           qed W ((‵ (flft κ₀ q₀) ⊛ ‵ (flft κ₁ q₁) ⊛ ‵ (flft κ₂ q₂) ⊛ ‵ (flft κ₃ q₃) ⊛ ‵ (flft κ₄ q₄) ⊛ ‵ ftrue)
-          ∷ ‵ (owns ((rowOf Shape) ∷ MutSlice (named 0) κ₀ u64 ∷ MutSlice (named 1) κ₁ u32
+          ∷ ‵ (owns ((rowOf Shape) ∷ u32 ∷ MutSlice (named 0) κ₀ u64 ∷ MutSlice (named 1) κ₁ u32
           ∷ MutSlice (named 2) κ₂ Entry′.the-row ∷ MutSlice (named 3) κ₃ u8 ∷ ShrRef (named 4) κ₄ (Array u32 8) ∷ u32 ∷ u32
           ∷ u32 ∷ []) args vals) ∷ []) ∵
           enter ! (𝓣 .C) (𝓣 .Λ) (function #find #held-by #core #entry-of #store #outcome-of)
-          (m-x-self ∷ s-x-map ∷ s-x-summary ∷ s-x-catalogue ∷ s-x-card ∷ s-x-limits ∷ m-x-sheet ∷ m-x-start ∷ m-x-k ∷ []) _ $
+          (m-x-self ∷ m-x-role ∷ s-x-map ∷ s-x-summary ∷ s-x-catalogue ∷ s-x-card ∷ s-x-limits ∷ m-x-sheet ∷ m-x-start ∷ m-x-k
+          ∷ []) _ $
           alloc1 ! (λ l₀. alloc1 ! (λ l₁. alloc1 ! (λ l₂. alloc1 ! (λ l₃. alloc1 ! (λ l₄. alloc1 ! (λ l₅.
           alloc1 ! (λ l₆. alloc1 ! (λ l₇. alloc1 ! (λ l₈. alloc1 ! (λ l₉. alloc1 ! (λ l₁₀. alloc1 ! (λ l₁₁.
           alloc1 ! (λ l₁₂. alloc1 ! (λ l₁₃. alloc1 ! (λ l₁₄. alloc1 ! (λ l₁₅. alloc1 ! (λ l₁₆. alloc1 ! (λ l₁₇.
           alloc1 ! (λ l₁₈. alloc1 ! (λ l₁₉. alloc1 ! (λ l₂₀. alloc1 ! (λ l₂₁. alloc1 ! (λ l₂₂. alloc1 ! (λ l₂₃.
-          alloc1 ! (λ l₂₄. alloc1 ! (λ l₂₅. alloc1 ! (λ l₂₆. alloc0 ! $ params1 ! $
-          pass1 ! (init ! 50 refl typed-x-self) $
+          alloc1 ! (λ l₂₄. alloc1 ! (λ l₂₅. alloc1 ! (λ l₂₆. alloc1 ! (λ l₂₇. alloc0 ! $ params1 ! $
+          pass1 ! (init ! 52 refl typed-x-self) $ pass1 ! (init ! 50 refl typed-x-role) $
           pass1 ! (init ! 48 refl (tt, (tt, (record { fits = room-x-map .0 }, tt)))) $
           pass1 ! (init ! 46 refl (tt, (tt, (record { fits = room-x-summary .0 }, tt)))) $
           pass1 ! (init ! 44 refl (tt, (tt, (record { fits = room-x-catalogue .0 }, tt)))) $
           pass1 ! (init ! 42 refl (tt, (tt, (record { fits = room-x-card .0 }, tt)))) $
           pass1 ! (init ! 40 refl (tt, tt)) $ pass1 ! (init ! 38 refl typed-x-sheet) $
-          pass1 ! (init ! 36 refl typed-x-start) $ pass1 ! (init ! 34 refl typed-x-k) $ pass0 ! $ bring ! (54 ∷ []) $
-          parts W (_ ∷ _ ∷ _ ∷ _ ∷ _ ∷ []) _ $ bring ! (59 ∷ []) $
-          fparts W (_ ∷ _ ∷ _ ∷ _ ∷ _ ∷ _ ∷ _ ∷ _ ∷ _ ∷ []) _ $ discard ! (0 ∷ 5 ∷ 5 ∷ 5 ∷ []) $
+          pass1 ! (init ! 36 refl typed-x-start) $ pass1 ! (init ! 34 refl typed-x-k) $ pass0 ! $ bring ! (56 ∷ []) $
+          parts W (_ ∷ _ ∷ _ ∷ _ ∷ _ ∷ []) _ $ bring ! (61 ∷ []) $
+          fparts W (_ ∷ _ ∷ _ ∷ _ ∷ _ ∷ _ ∷ _ ∷ _ ∷ _ ∷ _ ∷ []) _ $ discard ! (0 ∷ 0 ∷ 5 ∷ 5 ∷ 5 ∷ []) $
           -- find
           assigns ! (addr ! (from ! (fld ! refl (hop ! (look-in ! 54 (sub ! 0 refl (whole !))) (stop !))))) (from ! (stop !))
           (init ! 34 refl (tt, tt)) $
@@ -785,7 +813,7 @@ module _ (Slot Out Shape Outcome : Value) where
           rewrite ! 0 (λ (r : (denotes Slot)). ‵ ((rowOf Slot) .own r (w-find ∷ []))) (e-find) refl $
           peeks ! (rowOf Slot) (Is (rowOf Slot)) (shows 𝓤 H A (rowOf Slot)) v-slot (w-find ∷ []) (λ is-w-find.
           land ! (from ! (stop !)) (init ! 43 refl ((Slot .typed 𝓤 H A W) v-slot _ is-w-find .0)) $
-          rewrite ! 43 (λ (u : Val). ‵ (fat fullShare (mirOf Slot) l₁₀ 0 u)) (ap only ((Slot .tells) v-slot _ is-w-find)) refl $
+          rewrite ! 43 (λ (u : Val). ‵ (fat fullShare (mirOf Slot) l₁₁ 0 u)) (ap only ((Slot .tells) v-slot _ is-w-find)) refl $
           discard ! (0 ∷ []) $ parts W (_ ∷ []) _ $ lft-end ! tt $
           use2 W (later (‵ (MutSlice (named 2) κ₂ Entry′.the-row .own (at-x-catalogue (x-catalogue .name) (now x-catalogue))
           (s-x-catalogue ∷ [])) ⊛ ‵ (flft κ₂ q₂))) (comes-home Entry′.the-row κ₂ (ν₀-find ∷ []) q₂ (x-catalogue .name)
@@ -823,7 +851,7 @@ module _ (Slot Out Shape Outcome : Value) where
           rewrite ! 0 (λ (r : ℕ). ‵ (u64 .own r (w-held-by ∷ []))) (e-held-by) refl $
           peeks ! u64 (Is u64) (shows 𝓤 H A u64) v-held (w-held-by ∷ []) (λ is-w-held-by.
           land ! (from ! (stop !)) (init ! 41 refl ((uint-lawful 𝓤 H A W w64 .typed) v-held _ is-w-held-by .0)) $
-          rewrite ! 41 (λ (u : Val). ‵ (fat fullShare (tyInt w64) l₁₁ 0 u)) (ap only ((uint-tells w64) v-held _ is-w-held-by))
+          rewrite ! 41 (λ (u : Val). ‵ (fat fullShare (tyInt w64) l₁₂ 0 u)) (ap only ((uint-tells w64) v-held _ is-w-held-by))
           refl $
           discard ! (0 ∷ []) $ parts W (_ ∷ []) _ $ lft-end ! tt $
           use2 W (later (‵ (MutSlice (named 2) κ₂ Entry′.the-row .own (at-x-catalogue (x-catalogue .name) (now x-catalogue))
@@ -871,38 +899,39 @@ module _ (Slot Out Shape Outcome : Value) where
           (to-core ν₀-core ν₁-core ν₂-core δ₀-core δ₁-core δ₂-core))) (goes-core ν₀-core ν₁-core ν₂-core δ₀-core δ₁-core δ₂-core
           (spelled-v-slot w-find is-w-find) (spelled-v-held w-held-by is-w-held-by)) $
           calls-at ! (fmOf 𝓤 H (W .laws) 𝓣) (core-contract core-out core-x-map core-x-summary core-x-card 𝓤 H A) known-core
-          (to-core ν₀-core ν₁-core ν₂-core δ₀-core δ₁-core δ₂-core) (and-then ! (load ! (from ! (stop !)) (look ! 57 refl))
-          (and-then ! (load ! (from ! (stop !)) (look ! 21 refl)) (and-then ! (load ! (from ! (stop !)) (look ! 17 refl))
-          (and-then ! (load ! (from ! (stop !)) (look ! 13 refl)) (and-then ! (load ! (from ! (stop !)) (look ! 47 refl))
-          (and-then ! (load ! (from ! (stop !)) (look ! 39 refl)) (and-then ! (load ! (from ! (stop !)) (look ! 37 refl))
-          (and-then ! (load ! (from ! (stop !)) (look ! 45 refl)) (and-then ! (load ! (from ! (stop !)) (look ! 43 refl))
-          (and-then ! (load ! (from ! (stop !)) (look ! 41 refl)) (no-more !))))))))))) (λ w-core.
+          (to-core ν₀-core ν₁-core ν₂-core δ₀-core δ₁-core δ₂-core) (and-then ! (load ! (from ! (stop !)) (look ! 59 refl))
+          (and-then ! (load ! (from ! (stop !)) (look ! 57 refl)) (and-then ! (load ! (from ! (stop !)) (look ! 21 refl))
+          (and-then ! (load ! (from ! (stop !)) (look ! 17 refl)) (and-then ! (load ! (from ! (stop !)) (look ! 13 refl))
+          (and-then ! (load ! (from ! (stop !)) (look ! 47 refl)) (and-then ! (load ! (from ! (stop !)) (look ! 39 refl))
+          (and-then ! (load ! (from ! (stop !)) (look ! 37 refl)) (and-then ! (load ! (from ! (stop !)) (look ! 45 refl))
+          (and-then ! (load ! (from ! (stop !)) (look ! 43 refl)) (and-then ! (load ! (from ! (stop !)) (look ! 41 refl))
+          (no-more !)))))))))))) (λ w-core.
           use1 W (later (some (λ (r : (denotes Out)). ((‵ (flft (ν₀-core ∷ []) fullShare) ⊛ ‵ (flft (ν₁-core ∷ []) fullShare)
           ⊛ ‵ (flft (ν₂-core ∷ []) fullShare) ⊛ ‵ (flft κ₄ q₄) ⊛ ‵ ftrue) ⊛ ‵ ((rowOf Out) .own r (w-core ∷ [])))
           ⊛ raw (ensured 𝓤 H A core-ended (core-clauses core-out core-x-map core-x-summary core-x-card 𝓤)
           (ν₀-core ∷ [], (ν₁-core ∷ [], (ν₂-core ∷ [], (κ₄, tt)))) (core-args δ₀-core δ₁-core δ₂-core) tt r)))) (id⊢ 𝓤 _) $
           await ! tt $ pick ! (λ r-core. split ! $ bring ! (1 ∷ []) $
-          use1 W (some (λ (zs-core : Unit {0} × (List ℕ × (List ℕ × (List ℕ × (Unit {0}
-          × (Unit {0} × (Unit {0} × (Unit {0} × (Unit {0} × (Unit {0} × Unit {0})))))))))). ‵
+          use1 W (some (λ (zs-core : Unit {0} × (Unit {0} × (List ℕ × (List ℕ × (List ℕ
+          × (Unit {0} × (Unit {0} × (Unit {0} × (Unit {0} × (Unit {0} × (Unit {0} × Unit {0}))))))))))). ‵
           (lasts core-ended (ν₀-core ∷ [], (ν₁-core ∷ [], (ν₂-core ∷ [], (κ₄, tt)))) (core-args δ₀-core δ₁-core δ₂-core)
-          zs-core) ⊛ raw (fact 𝓤 (core-says core-out core-x-map core-x-summary core-x-card x-self (now x-map) (now x-summary)
-          (now x-card) (now x-limits) v-slot v-held x-sheet x-start x-k r-core (zs-core .1 .0) (zs-core .1 .1 .0)
-          (zs-core .1 .1 .1 .0))))) (id⊢ 𝓤 _) $
+          zs-core) ⊛ raw (fact 𝓤 (core-says core-out core-x-map core-x-summary core-x-card x-self x-role (now x-map)
+          (now x-summary) (now x-card) (now x-limits) v-slot v-held x-sheet x-start x-k r-core (zs-core .1 .1 .0)
+          (zs-core .1 .1 .1 .0) (zs-core .1 .1 .1 .1 .0))))) (id⊢ 𝓤 _) $
           pick ! (λ zs-core. split ! $ bring ! (1 ∷ []) $
-          heard ! (core-says core-out core-x-map core-x-summary core-x-card x-self (now x-map) (now x-summary) (now x-card)
-          (now x-limits) v-slot v-held x-sheet x-start x-k r-core (zs-core .1 .0) (zs-core .1 .1 .0) (zs-core .1 .1 .1 .0))
-          (λ e-core.
-          fparts W (_ ∷ _ ∷ _ ∷ _ ∷ _ ∷ _ ∷ _ ∷ _ ∷ _ ∷ _ ∷ []) _ $ discard ! (0 ∷ 3 ∷ 3 ∷ 3 ∷ 3 ∷ 3 ∷ 3 ∷ []) $
-          fsplit ! $ bring ! (1 ∷ []) $ feqL ! (λ h-core-x-map. bring ! (1 ∷ []) $ fsplit ! $ bring ! (1 ∷ []) $
-          feqL ! (λ h-core-x-summary. bring ! (2 ∷ []) $ fsplit ! $ bring ! (1 ∷ []) $ feqL ! (λ h-core-x-card.
-          bring ! (3 ∷ []) $ split ! $ bring ! (1 ∷ []) $
+          heard ! (core-says core-out core-x-map core-x-summary core-x-card x-self x-role (now x-map) (now x-summary)
+          (now x-card) (now x-limits) v-slot v-held x-sheet x-start x-k r-core (zs-core .1 .1 .0) (zs-core .1 .1 .1 .0)
+          (zs-core .1 .1 .1 .1 .0)) (λ e-core.
+          fparts W (_ ∷ _ ∷ _ ∷ _ ∷ _ ∷ _ ∷ _ ∷ _ ∷ _ ∷ _ ∷ _ ∷ []) _ $
+          discard ! (0 ∷ 0 ∷ 3 ∷ 3 ∷ 3 ∷ 3 ∷ 3 ∷ 3 ∷ []) $ fsplit ! $ bring ! (1 ∷ []) $ feqL ! (λ h-core-x-map.
+          bring ! (1 ∷ []) $ fsplit ! $ bring ! (1 ∷ []) $ feqL ! (λ h-core-x-summary. bring ! (2 ∷ []) $ fsplit ! $
+          bring ! (1 ∷ []) $ feqL ! (λ h-core-x-card. bring ! (3 ∷ []) $ split ! $ bring ! (1 ∷ []) $
           rewrite ! 0 (λ (r : (denotes Out)). ‵ ((rowOf Out) .own r (w-core ∷ []))) (e-core .0) refl $
           rewrite ! 4 (λ (l : List ℕ). ‵ (finally u64 δ₀-core l)) (e-core .1) refl $
           rewrite ! 3 (λ (l : List ℕ). ‵ (finally u32 δ₁-core l)) (e-core .2) refl $
           rewrite ! 2 (λ (l : List ℕ). ‵ (finally u8 δ₂-core l)) (e-core .3) refl $
           peeks ! (rowOf Out) (Is (rowOf Out)) (shows 𝓤 H A (rowOf Out)) v-out (w-core ∷ []) (λ is-w-core.
           land ! (from ! (stop !)) (init ! 39 refl ((Out .typed 𝓤 H A W) v-out _ is-w-core .0)) $
-          rewrite ! 39 (λ (u : Val). ‵ (fat fullShare (mirOf Out) l₁₂ 0 u)) (ap only ((Out .tells) v-out _ is-w-core)) refl $
+          rewrite ! 39 (λ (u : Val). ‵ (fat fullShare (mirOf Out) l₁₃ 0 u)) (ap only ((Out .tells) v-out _ is-w-core)) refl $
           discard ! (0 ∷ []) $ parts W (_ ∷ _ ∷ _ ∷ _ ∷ []) _ $ lft-end ! tt $ bring ! (0 ∷ 9 ∷ 5 ∷ []) $
           use3 W (later (‵ (MutSlice (named 0) κ₀ u64 .own (at-x-map (x-map .name) z-core-x-map) (s-x-map ∷ []))
           ⊛ ‵ (flft κ₀ q₀))) (comes-back u64 κ₀ (ν₀-core ∷ []) q₀ (x-map .name) (x-map .ptr .0) (x-map .ptr .1) 𝓤 H A W
@@ -936,7 +965,7 @@ module _ (Slot Out Shape Outcome : Value) where
           peeks ! Entry′.the-row (Is Entry′.the-row) (shows 𝓤 H A Entry′.the-row) v-entry (w-entry-of ∷ []) (λ is-w-entry-of.
           land ! (from ! (stop !)) (init ! 38 refl ((struct.lawful Entry′.the-type Entry″.the-laws 𝓤 H A W .typed) v-entry _
           is-w-entry-of .0)) $
-          rewrite ! 38 (λ (u : Val). ‵ (fat fullShare Entry″.mir l₁₃ 0 u)) (ap only ((struct.tells Entry′.the-type
+          rewrite ! 38 (λ (u : Val). ‵ (fat fullShare Entry″.mir l₁₄ 0 u)) (ap only ((struct.tells Entry′.the-type
           Entry″.the-laws) v-entry _ is-w-entry-of)) refl $
           discard ! (0 ∷ []) $ parts W ([]) _ $
           -- store
@@ -971,7 +1000,7 @@ module _ (Slot Out Shape Outcome : Value) where
           rewrite ! 2 (λ (l : List Entry). ‵ (finally Entry′.the-row δ₀-store l)) (e-store) refl $
           peeks ! Nothing (Is Nothing) (shows 𝓤 H A Nothing) v-store (w-store ∷ []) (λ is-w-store.
           land ! (from ! (stop !)) (init ! 16 refl ((nothing-lawful 𝓤 H A W .typed) v-store _ is-w-store .0)) $
-          rewrite ! 16 (λ (u : Val). ‵ (fat fullShare tyUnit l₂₄ 0 u)) (ap only (nothing-tells v-store _ is-w-store)) refl $
+          rewrite ! 16 (λ (u : Val). ‵ (fat fullShare tyUnit l₂₅ 0 u)) (ap only (nothing-tells v-store _ is-w-store)) refl $
           discard ! (0 ∷ []) $ parts W (_ ∷ []) _ $ lft-end ! tt $ bring ! (0 ∷ 1 ∷ 0 ∷ []) $
           use3 W (later (‵ (MutSlice (named 2) κ₂ Entry′.the-row .own (at-x-catalogue (x-catalogue .name) z-store-x-catalogue)
           (s-x-catalogue ∷ [])) ⊛ ‵ (flft κ₂ q₂))) (comes-back Entry′.the-row κ₂ (ν₀-store ∷ []) q₂ (x-catalogue .name)
@@ -982,7 +1011,7 @@ module _ (Slot Out Shape Outcome : Value) where
           use0 W (raw ((outcome-of-contract outcome-of-out 𝓤 H A) .pre (to-outcome-of)))
           (goes-outcome-of (spelled-v-out w-core is-w-core)) $
           calls-at ! (fmOf 𝓤 H (W .laws) 𝓣) (outcome-of-contract outcome-of-out 𝓤 H A) known-outcome-of (to-outcome-of)
-          (and-then ! (load ! (from ! (stop !)) (look ! 61 refl)) (and-then ! (load ! (from ! (stop !)) (look ! 39 refl))
+          (and-then ! (load ! (from ! (stop !)) (look ! 63 refl)) (and-then ! (load ! (from ! (stop !)) (look ! 39 refl))
           (no-more !))) (λ w-outcome-of.
           use1 W (later (some (λ (r : (denotes Outcome)). ((‵ ftrue) ⊛ ‵ ((rowOf Outcome) .own r (w-outcome-of ∷ [])))
           ⊛ raw (ensured 𝓤 H A outcome-of-ended (outcome-of-clauses outcome-of-out 𝓤) tt (outcome-of-args) tt r)))) (id⊢ 𝓤 _) $
@@ -995,22 +1024,22 @@ module _ (Slot Out Shape Outcome : Value) where
           rewrite ! 0 (λ (r : (denotes Outcome)). ‵ ((rowOf Outcome) .own r (w-outcome-of ∷ []))) (e-outcome-of) refl $
           peeks ! (rowOf Outcome) (Is (rowOf Outcome)) (shows 𝓤 H A (rowOf Outcome)) v-result (w-outcome-of ∷ [])
           (λ is-w-outcome-of.
-          land ! (from ! (stop !)) (init ! 64 refl ((Outcome .typed 𝓤 H A W) v-result _ is-w-outcome-of .0)) $
-          rewrite ! 64 (λ (u : Val). ‵ (fat fullShare (mirOf Outcome) l₀ 0 u)) (ap only
+          land ! (from ! (stop !)) (init ! 66 refl ((Outcome .typed 𝓤 H A W) v-result _ is-w-outcome-of .0)) $
+          rewrite ! 66 (λ (u : Val). ‵ (fat fullShare (mirOf Outcome) l₀ 0 u)) (ap only
           ((Outcome .tells) v-result _ is-w-outcome-of)) refl $
-          discard ! (0 ∷ []) $ parts W ([]) _ $ returns ! (look ! 62 refl) $ leave ! 62 refl refl $
-          leave ! 60 refl refl $ leave ! 58 refl refl $ leave ! 56 refl refl $ leave ! 54 refl refl $
-          leave ! 52 refl refl $ leave ! 50 refl refl $ leave ! 48 refl refl $ leave ! 46 refl refl $
-          leave ! 44 refl refl $ leave ! 42 refl refl $ leave ! 40 refl refl $ leave ! 38 refl refl $
-          leave ! 36 refl refl $ leave ! 34 refl refl $ leave ! 32 refl refl $ leave ! 30 refl refl $
-          leave ! 28 refl refl $ leave ! 26 refl refl $ leave ! 24 refl refl $ leave ! 22 refl refl $
-          leave ! 20 refl refl $ leave ! 18 refl refl $ leave ! 16 refl refl $ leave ! 14 refl refl $
-          leave ! 12 refl refl $ leave ! 10 refl refl $ free0 ! $
+          discard ! (0 ∷ []) $ parts W ([]) _ $ returns ! (look ! 64 refl) $ leave ! 64 refl refl $
+          leave ! 62 refl refl $ leave ! 60 refl refl $ leave ! 58 refl refl $ leave ! 56 refl refl $
+          leave ! 54 refl refl $ leave ! 52 refl refl $ leave ! 50 refl refl $ leave ! 48 refl refl $
+          leave ! 46 refl refl $ leave ! 44 refl refl $ leave ! 42 refl refl $ leave ! 40 refl refl $
+          leave ! 38 refl refl $ leave ! 36 refl refl $ leave ! 34 refl refl $ leave ! 32 refl refl $
+          leave ! 30 refl refl $ leave ! 28 refl refl $ leave ! 26 refl refl $ leave ! 24 refl refl $
+          leave ! 22 refl refl $ leave ! 20 refl refl $ leave ! 18 refl refl $ leave ! 16 refl refl $
+          leave ! 14 refl refl $ leave ! 12 refl refl $ leave ! 10 refl refl $ free0 ! $
           bring ! (6 ∷ 6 ∷ 4 ∷ 4 ∷ 0 ∷ 0 ∷ 0 ∷ 0 ∷ 1 ∷ 0 ∷ []) $
           by ! (exits (spelled-v-result w-outcome-of is-w-outcome-of) (ap {B = ℕ} length (sym (e-core .1)) ∙ h-core-x-map)
           (ap {B = ℕ} length (sym (e-core .2)) ∙ h-core-x-summary) (ap {B = ℕ} length (sym (e-store)) ∙ h-store-x-catalogue)
           (ap {B = ℕ} length (sym (e-core .3)) ∙
-          h-core-x-card)))))))))))))))))))))))))))))))))))))))))))))))))))))))))))))))))))))))))))
+          h-core-x-card))))))))))))))))))))))))))))))))))))))))))))))))))))))))))))))))))))))))))))
 
     module _ {M : Type 1} (𝓤 : URA M) (H : Heap 𝓤) (A : Atoms 𝓤) (W : Given 𝓤 H A) where
       walks : (𝓣 : Tables 𝓤 H) → Triple 𝓤 (𝓣 .C #find) (find-contract find-out 𝓤 H A) → Triple 𝓤 (𝓣 .C #held-by)
@@ -1024,23 +1053,32 @@ module _ (Slot Out Shape Outcome : Value) where
           #outcome-of)) (λ κs. (
             (valsOf Shape),
             (
-              slice-vals,
-              (slice-vals, (slice-vals, (slice-vals, (ptr-vals, ((uint-vals w32), ((uint-vals w32), ((uint-vals w32), tt))))))),
+              (uint-vals w32),
+              (
+                slice-vals,
+                (
+                  slice-vals,
+                  (slice-vals, (slice-vals, (ptr-vals, ((uint-vals w32), ((uint-vals w32), ((uint-vals w32), tt)))))),
+                ),
+              ),
             ),
           ))
           (λ κs. (
             (Shape .tells),
             (
-              mut-slice-tells (named 0) (κs .0) u64,
+              (uint-tells w32),
               (
-                mut-slice-tells (named 1) (κs .1 .0) u32,
+                mut-slice-tells (named 0) (κs .0) u64,
                 (
-                  mut-slice-tells (named 2) (κs .1 .1 .0) Entry′.the-row,
+                  mut-slice-tells (named 1) (κs .1 .0) u32,
                   (
-                    mut-slice-tells (named 3) (κs .1 .1 .1 .0) u8,
+                    mut-slice-tells (named 2) (κs .1 .1 .0) Entry′.the-row,
                     (
-                      shr-tells (named 4) (κs .1 .1 .1 .1 .0) (Array u32 8),
-                      ((uint-tells w32), ((uint-tells w32), ((uint-tells w32), tt))),
+                      mut-slice-tells (named 3) (κs .1 .1 .1 .0) u8,
+                      (
+                        shr-tells (named 4) (κs .1 .1 .1 .1 .0) (Array u32 8),
+                        ((uint-tells w32), ((uint-tells w32), ((uint-tells w32), tt))),
+                      ),
                     ),
                   ),
                 ),
@@ -1050,9 +1088,10 @@ module _ (Slot Out Shape Outcome : Value) where
           (λ κs qs bounds a g are. via 𝓤 _ (fst∗ 𝓤 _ (emp 𝓤)) (walk 𝓤 H A W (κs .0) (κs .1 .0) (κs .1 .1 .0) (κs .1 .1 .1 .0)
           (κs .1 .1 .1 .1 .0) (qs .0) (qs .1 .0) (qs .1 .1 .0) (qs .1 .1 .1 .0) (qs .1 .1 .1 .1 .0) (a .0) (a .1 .0)
           (a .1 .1 .0) (a .1 .1 .1 .0) (a .1 .1 .1 .1 .0) (a .1 .1 .1 .1 .1 .0) (a .1 .1 .1 .1 .1 .1 .0)
-          (a .1 .1 .1 .1 .1 .1 .1 .0) (a .1 .1 .1 .1 .1 .1 .1 .1 .0) (are .0) (are .1 .0 .0 .1) (are .1 .1 .0 .0 .1)
-          (are .1 .1 .1 .0 .0 .1) (are .1 .1 .1 .1 .0 .0 .1) (are .1 .1 .1 .1 .1 .1 .0) (are .1 .1 .1 .1 .1 .1 .1 .0)
-          (are .1 .1 .1 .1 .1 .1 .1 .1 .0) 𝓣 known-find known-held-by known-core known-entry-of known-store known-outcome-of))
+          (a .1 .1 .1 .1 .1 .1 .1 .0) (a .1 .1 .1 .1 .1 .1 .1 .1 .0) (a .1 .1 .1 .1 .1 .1 .1 .1 .1 .0) (are .0) (are .1 .0)
+          (are .1 .1 .0 .0 .1) (are .1 .1 .1 .0 .0 .1) (are .1 .1 .1 .1 .0 .0 .1) (are .1 .1 .1 .1 .1 .0 .0 .1)
+          (are .1 .1 .1 .1 .1 .1 .1 .0) (are .1 .1 .1 .1 .1 .1 .1 .1 .0) (are .1 .1 .1 .1 .1 .1 .1 .1 .1 .0) 𝓣 known-find
+          known-held-by known-core known-entry-of known-store known-outcome-of))
 
       pub meets : (𝓣 : Tables 𝓤 H) → Triple 𝓤 (𝓣 .C #find) (find-contract find-out 𝓤 H A)
           → Triple 𝓤 (𝓣 .C #held-by) (held-by-contract held-by-out 𝓤 H A) → Triple 𝓤 (𝓣 .C #core)
@@ -1065,20 +1104,23 @@ module _ (Slot Out Shape Outcome : Value) where
           walk-meets 𝓤 H A ended stayed W (
             goes-none 𝓤 H A W 5 (λ _. (rowOf Shape)) yes (λ κs x f. refl),
             (
-              goes-slice 𝓤 H A W 5 0 tt (plain (λ _. u64)),
+              goes-none 𝓤 H A W 5 (λ _. u32) yes (λ κs x f. refl),
               (
-                goes-slice 𝓤 H A W 5 1 tt (plain (λ _. u32)),
+                goes-slice 𝓤 H A W 5 0 tt (plain (λ _. u64)),
                 (
-                  goes-slice 𝓤 H A W 5 2 tt (plain (λ _. Entry′.the-row)),
+                  goes-slice 𝓤 H A W 5 1 tt (plain (λ _. u32)),
                   (
-                    goes-slice 𝓤 H A W 5 3 tt (plain (λ _. u8)),
+                    goes-slice 𝓤 H A W 5 2 tt (plain (λ _. Entry′.the-row)),
                     (
-                      goes-none-ref 𝓤 H A W 5 (4 ∷ []) tt (plain (λ _. (Array u32 8))) yes,
+                      goes-slice 𝓤 H A W 5 3 tt (plain (λ _. u8)),
                       (
-                        goes-none 𝓤 H A W 5 (λ _. u32) yes (λ κs x f. refl),
+                        goes-none-ref 𝓤 H A W 5 (4 ∷ []) tt (plain (λ _. (Array u32 8))) yes,
                         (
                           goes-none 𝓤 H A W 5 (λ _. u32) yes (λ κs x f. refl),
-                          (goes-none 𝓤 H A W 5 (λ _. u32) yes (λ κs x f. refl), tt),
+                          (
+                            goes-none 𝓤 H A W 5 (λ _. u32) yes (λ κs x f. refl),
+                            (goes-none 𝓤 H A W 5 (λ _. u32) yes (λ κs x f. refl), tt),
+                          ),
                         ),
                       ),
                     ),

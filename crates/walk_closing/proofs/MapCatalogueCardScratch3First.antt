@@ -1,9 +1,9 @@
--- Written by tools/walks: every function (n: u32, free: u32, fits: bool, map: &mut [u64], catalogue: &mut [Entry], card: &mut
--- [u8], scratch: &mut [u64]) whose code is
+-- Written by tools/walks: every function (role: u32, n: u32, free: u32, fits: bool, map: &mut [u64], catalogue: &mut [Entry],
+-- card: &mut [u8], scratch: &mut [u64]) whose code is
 --     let count: usize = count(&*catalogue);
---     let start: Tally = begin(n, free, fits, &*map, count, &*card, &*scratch);
+--     let start: Tally = begin(role, n, free, fits, &*map, count, &*card, &*scratch);
 --     let sound: bool = test(&*map, &*catalogue, scratch, n, start);
---     let number: u32 = verdict(start, sound);
+--     let number: u32 = verdict(role, start, sound);
 --     let rounds: usize = rounds_for(count, number);
 --     let last: u32 = close_rounds(catalogue, card, rounds, number);
 --     close_map(map, n, last, number);
@@ -64,13 +64,13 @@ module _ (Tally : Value) where
   signature = record {
     lifetimes = 4;
     outlives = [];
-    params = plain (λ _. u32) ∷ plain (λ _. u32) ∷ plain (λ _. Boolean) ∷ mutSlice 0 tt (λ _. u64)
+    params = plain (λ _. u32) ∷ plain (λ _. u32) ∷ plain (λ _. u32) ∷ plain (λ _. Boolean) ∷ mutSlice 0 tt (λ _. u64)
         ∷ mutSlice 1 tt (λ _. Entry′.the-row) ∷ mutSlice 2 tt (λ _. u8) ∷ mutSlice 3 tt (λ _. u64) ∷ [];
     result = plain (λ _. u32);
   }
 
   abbrev ended : Ended
-  ended = record { signature = signature; kept = (yes, (yes, (yes, (yes, (yes, (yes, (yes, tt))))))) }
+  ended = record { signature = signature; kept = (yes, (yes, (yes, (yes, (yes, (yes, (yes, (yes, tt)))))))) }
 
   abbrev stayed : Stays (ended .signature .params) (ended .kept)
   stayed = (
@@ -78,12 +78,15 @@ module _ (Tally : Value) where
     (
       stay-none (λ _. u32) yes,
       (
-        stay-none (λ _. Boolean) yes,
+        stay-none (λ _. u32) yes,
         (
-          stay-slice (0 ∷ []) tt (plain (λ _. u64)),
+          stay-none (λ _. Boolean) yes,
           (
-            stay-slice (1 ∷ []) tt (plain (λ _. Entry′.the-row)),
-            (stay-slice (2 ∷ []) tt (plain (λ _. u8)), (stay-slice (3 ∷ []) tt (plain (λ _. u64)), tt)),
+            stay-slice (0 ∷ []) tt (plain (λ _. u64)),
+            (
+              stay-slice (1 ∷ []) tt (plain (λ _. Entry′.the-row)),
+              (stay-slice (2 ∷ []) tt (plain (λ _. u8)), (stay-slice (3 ∷ []) tt (plain (λ _. u64)), tt)),
+            ),
           ),
         ),
       ),
@@ -95,9 +98,9 @@ module _ (Tally : Value) where
   function #count #begin #test #verdict #rounds-for #close-rounds #close-map = record {
     lifetimes = 4;
     outlives = [];
-    params = 7;
+    params = 8;
     locals = local (tyInt w32) valueLocal ∷ local (tyInt w32) valueLocal ∷ local (tyInt w32) valueLocal
-        ∷ local tyBool valueLocal ∷ local (sliceTy (tyRef (named 0) mut (tyInt w64))) valueLocal
+        ∷ local (tyInt w32) valueLocal ∷ local tyBool valueLocal ∷ local (sliceTy (tyRef (named 0) mut (tyInt w64))) valueLocal
         ∷ local (sliceTy (tyRef (named 1) mut (pointee (Entry′.the-row .written)))) valueLocal
         ∷ local (sliceTy (tyRef (named 2) mut (tyInt w8))) valueLocal ∷ local (sliceTy (tyRef (named 3) mut (tyInt w64)))
         valueLocal ∷ local (tyInt w64) valueLocal ∷ local (mirOf Tally) valueLocal ∷ local tyBool valueLocal
@@ -114,38 +117,38 @@ module _ (Tally : Value) where
         (sliceTy (tyRef erased mut (pointee (Entry′.the-row .written)))) valueLocal ∷ local (tyRef erased mut (tyInt w8))
         valueLocal ∷ local (sliceTy (tyRef erased mut (tyInt w8))) valueLocal ∷ local tyUnit valueLocal
         ∷ local (tyRef erased mut (tyInt w64)) valueLocal ∷ local (sliceTy (tyRef erased mut (tyInt w64))) valueLocal ∷ [];
-    body = seq (assign (place 14 []) (addrOf (place 5 (field 0 ∷ deref Entry″.mir ∷ []))))
-        (seq (assign (place 15 []) (aggregate (copy (place 14 []) ∷ copy (place 5 (field 1 ∷ [])) ∷ [])))
-        (seq (call #count (copy (place 15 []) ∷ []) (place 8 []))
-        (seq (assign (place 16 []) (addrOf (place 4 (field 0 ∷ deref (tyInt w64) ∷ []))))
-        (seq (assign (place 17 []) (aggregate (copy (place 16 []) ∷ copy (place 4 (field 1 ∷ [])) ∷ [])))
-        (seq (assign (place 18 []) (addrOf (place 6 (field 0 ∷ deref (tyInt w8) ∷ []))))
-        (seq (assign (place 19 []) (aggregate (copy (place 18 []) ∷ copy (place 6 (field 1 ∷ [])) ∷ [])))
-        (seq (assign (place 20 []) (addrOf (place 7 (field 0 ∷ deref (tyInt w64) ∷ []))))
-        (seq (assign (place 21 []) (aggregate (copy (place 20 []) ∷ copy (place 7 (field 1 ∷ [])) ∷ [])))
-        (seq (call #begin (copy (place 1 []) ∷ copy (place 2 []) ∷ copy (place 3 []) ∷ copy (place 17 []) ∷ copy (place 8 [])
-        ∷ copy (place 19 []) ∷ copy (place 21 []) ∷ []) (place 9 []))
-        (seq (assign (place 22 []) (addrOf (place 4 (field 0 ∷ deref (tyInt w64) ∷ []))))
-        (seq (assign (place 23 []) (aggregate (copy (place 22 []) ∷ copy (place 4 (field 1 ∷ [])) ∷ [])))
-        (seq (assign (place 24 []) (addrOf (place 5 (field 0 ∷ deref Entry″.mir ∷ []))))
-        (seq (assign (place 25 []) (aggregate (copy (place 24 []) ∷ copy (place 5 (field 1 ∷ [])) ∷ [])))
-        (seq (assign (place 26 []) (addrOf (place 7 (field 0 ∷ deref (tyInt w64) ∷ []))))
-        (seq (assign (place 27 []) (aggregate (copy (place 26 []) ∷ copy (place 7 (field 1 ∷ [])) ∷ [])))
-        (seq (call #test (copy (place 23 []) ∷ copy (place 25 []) ∷ copy (place 27 []) ∷ copy (place 1 []) ∷ copy (place 9 [])
-        ∷ []) (place 10 []))
-        (seq (call #verdict (copy (place 9 []) ∷ copy (place 10 []) ∷ []) (place 11 []))
-        (seq (call #rounds-for (copy (place 8 []) ∷ copy (place 11 []) ∷ []) (place 12 []))
-        (seq (assign (place 28 []) (addrOf (place 5 (field 0 ∷ deref Entry″.mir ∷ []))))
-        (seq (assign (place 29 []) (aggregate (copy (place 28 []) ∷ copy (place 5 (field 1 ∷ [])) ∷ [])))
-        (seq (assign (place 30 []) (addrOf (place 6 (field 0 ∷ deref (tyInt w8) ∷ []))))
-        (seq (assign (place 31 []) (aggregate (copy (place 30 []) ∷ copy (place 6 (field 1 ∷ [])) ∷ [])))
-        (seq (call #close-rounds (copy (place 29 []) ∷ copy (place 31 []) ∷ copy (place 12 []) ∷ copy (place 11 []) ∷ [])
-        (place 13 []))
-        (seq (assign (place 33 []) (addrOf (place 4 (field 0 ∷ deref (tyInt w64) ∷ []))))
-        (seq (assign (place 34 []) (aggregate (copy (place 33 []) ∷ copy (place 4 (field 1 ∷ [])) ∷ [])))
-        (seq (call #close-map (copy (place 34 []) ∷ copy (place 1 []) ∷ copy (place 13 []) ∷ copy (place 11 []) ∷ [])
-        (place 32 []))
-        (seq (assign (place 0 []) (rvOpd (copy (place 11 [])))) return)))))))))))))))))))))))))));
+    body = seq (assign (place 15 []) (addrOf (place 6 (field 0 ∷ deref Entry″.mir ∷ []))))
+        (seq (assign (place 16 []) (aggregate (copy (place 15 []) ∷ copy (place 6 (field 1 ∷ [])) ∷ [])))
+        (seq (call #count (copy (place 16 []) ∷ []) (place 9 []))
+        (seq (assign (place 17 []) (addrOf (place 5 (field 0 ∷ deref (tyInt w64) ∷ []))))
+        (seq (assign (place 18 []) (aggregate (copy (place 17 []) ∷ copy (place 5 (field 1 ∷ [])) ∷ [])))
+        (seq (assign (place 19 []) (addrOf (place 7 (field 0 ∷ deref (tyInt w8) ∷ []))))
+        (seq (assign (place 20 []) (aggregate (copy (place 19 []) ∷ copy (place 7 (field 1 ∷ [])) ∷ [])))
+        (seq (assign (place 21 []) (addrOf (place 8 (field 0 ∷ deref (tyInt w64) ∷ []))))
+        (seq (assign (place 22 []) (aggregate (copy (place 21 []) ∷ copy (place 8 (field 1 ∷ [])) ∷ [])))
+        (seq (call #begin (copy (place 1 []) ∷ copy (place 2 []) ∷ copy (place 3 []) ∷ copy (place 4 []) ∷ copy (place 18 [])
+        ∷ copy (place 9 []) ∷ copy (place 20 []) ∷ copy (place 22 []) ∷ []) (place 10 []))
+        (seq (assign (place 23 []) (addrOf (place 5 (field 0 ∷ deref (tyInt w64) ∷ []))))
+        (seq (assign (place 24 []) (aggregate (copy (place 23 []) ∷ copy (place 5 (field 1 ∷ [])) ∷ [])))
+        (seq (assign (place 25 []) (addrOf (place 6 (field 0 ∷ deref Entry″.mir ∷ []))))
+        (seq (assign (place 26 []) (aggregate (copy (place 25 []) ∷ copy (place 6 (field 1 ∷ [])) ∷ [])))
+        (seq (assign (place 27 []) (addrOf (place 8 (field 0 ∷ deref (tyInt w64) ∷ []))))
+        (seq (assign (place 28 []) (aggregate (copy (place 27 []) ∷ copy (place 8 (field 1 ∷ [])) ∷ [])))
+        (seq (call #test (copy (place 24 []) ∷ copy (place 26 []) ∷ copy (place 28 []) ∷ copy (place 2 []) ∷ copy (place 10 [])
+        ∷ []) (place 11 []))
+        (seq (call #verdict (copy (place 1 []) ∷ copy (place 10 []) ∷ copy (place 11 []) ∷ []) (place 12 []))
+        (seq (call #rounds-for (copy (place 9 []) ∷ copy (place 12 []) ∷ []) (place 13 []))
+        (seq (assign (place 29 []) (addrOf (place 6 (field 0 ∷ deref Entry″.mir ∷ []))))
+        (seq (assign (place 30 []) (aggregate (copy (place 29 []) ∷ copy (place 6 (field 1 ∷ [])) ∷ [])))
+        (seq (assign (place 31 []) (addrOf (place 7 (field 0 ∷ deref (tyInt w8) ∷ []))))
+        (seq (assign (place 32 []) (aggregate (copy (place 31 []) ∷ copy (place 7 (field 1 ∷ [])) ∷ [])))
+        (seq (call #close-rounds (copy (place 30 []) ∷ copy (place 32 []) ∷ copy (place 13 []) ∷ copy (place 12 []) ∷ [])
+        (place 14 []))
+        (seq (assign (place 34 []) (addrOf (place 5 (field 0 ∷ deref (tyInt w64) ∷ []))))
+        (seq (assign (place 35 []) (aggregate (copy (place 34 []) ∷ copy (place 5 (field 1 ∷ [])) ∷ [])))
+        (seq (call #close-map (copy (place 35 []) ∷ copy (place 2 []) ∷ copy (place 14 []) ∷ copy (place 12 []) ∷ [])
+        (place 33 []))
+        (seq (assign (place 0 []) (rvOpd (copy (place 12 [])))) return)))))))))))))))))))))))))));
   }
 
   -- ---- what `count` is, and what it ensures
@@ -184,28 +187,28 @@ module _ (Tally : Value) where
   begin-signature = record {
     lifetimes = 3;
     outlives = [];
-    params = plain (λ _. u32) ∷ plain (λ _. u32) ∷ plain (λ _. Boolean) ∷ shrSlice 0 tt (λ _. u64) ∷ plain (λ _. usize)
-        ∷ shrSlice 1 tt (λ _. u8) ∷ shrSlice 2 tt (λ _. u64) ∷ [];
+    params = plain (λ _. u32) ∷ plain (λ _. u32) ∷ plain (λ _. u32) ∷ plain (λ _. Boolean) ∷ shrSlice 0 tt (λ _. u64)
+        ∷ plain (λ _. usize) ∷ shrSlice 1 tt (λ _. u8) ∷ shrSlice 2 tt (λ _. u64) ∷ [];
     result = plain (λ _. (rowOf Tally));
   }
 
   abbrev begin-ended : Ended
-  begin-ended = record { signature = begin-signature; kept = (yes, (yes, (yes, (yes, (yes, (yes, (yes, tt))))))) }
+  begin-ended = record { signature = begin-signature; kept = (yes, (yes, (yes, (yes, (yes, (yes, (yes, (yes, tt)))))))) }
 
   abbrev begin-Model : Type 0 → Type 0
-  begin-Model X = ℕ → ℕ → Bool → List ℕ → ℕ → List ℕ → List ℕ → X
+  begin-Model X = ℕ → ℕ → ℕ → Bool → List ℕ → ℕ → List ℕ → List ℕ → X
 
   module _ (begin-out : begin-Model (denotes Tally)) where
-    abbrev begin-says : ℕ → ℕ → Bool → List ℕ → ℕ → List ℕ → List ℕ → (denotes Tally) → Type 0
-    begin-says a0 a1 a2 a3 a4 a5 a6 r = r ≡ begin-out a0 a1 a2 a3 a4 a5 a6
+    abbrev begin-says : ℕ → ℕ → ℕ → Bool → List ℕ → ℕ → List ℕ → List ℕ → (denotes Tally) → Type 0
+    begin-says a0 a1 a2 a3 a4 a5 a6 a7 r = r ≡ begin-out a0 a1 a2 a3 a4 a5 a6 a7
 
     module _ {M : Type 1} (𝓤 : URA M) where
       abbrev begin-clauses : Clauses 𝓤 begin-ended
       begin-clauses κs a = record {
         ghost = Unit {0};
         requires = λ _. emp 𝓤;
-        ensures = λ _ r e. fact 𝓤 (begin-says (a .0) (a .1 .0) (a .1 .1 .0) (now (a .1 .1 .1 .0)) (a .1 .1 .1 .1 .0)
-            (now (a .1 .1 .1 .1 .1 .0)) (now (a .1 .1 .1 .1 .1 .1 .0)) r);
+        ensures = λ _ r e. fact 𝓤 (begin-says (a .0) (a .1 .0) (a .1 .1 .0) (a .1 .1 .1 .0) (now (a .1 .1 .1 .1 .0))
+            (a .1 .1 .1 .1 .1 .0) (now (a .1 .1 .1 .1 .1 .1 .0)) (now (a .1 .1 .1 .1 .1 .1 .1 .0)) r);
       }
 
       module _ (H : Heap 𝓤) (A : Atoms 𝓤) where
@@ -250,26 +253,26 @@ module _ (Tally : Value) where
   verdict-signature = record {
     lifetimes = 0;
     outlives = [];
-    params = plain (λ _. (rowOf Tally)) ∷ plain (λ _. Boolean) ∷ [];
+    params = plain (λ _. u32) ∷ plain (λ _. (rowOf Tally)) ∷ plain (λ _. Boolean) ∷ [];
     result = plain (λ _. u32);
   }
 
   abbrev verdict-ended : Ended
-  verdict-ended = record { signature = verdict-signature; kept = (yes, (yes, tt)) }
+  verdict-ended = record { signature = verdict-signature; kept = (yes, (yes, (yes, tt))) }
 
   abbrev verdict-Model : Type 0 → Type 0
-  verdict-Model X = (denotes Tally) → Bool → X
+  verdict-Model X = ℕ → (denotes Tally) → Bool → X
 
   module _ (verdict-out : verdict-Model ℕ) where
-    abbrev verdict-says : (denotes Tally) → Bool → ℕ → Type 0
-    verdict-says a0 a1 r = r ≡ verdict-out a0 a1
+    abbrev verdict-says : ℕ → (denotes Tally) → Bool → ℕ → Type 0
+    verdict-says a0 a1 a2 r = r ≡ verdict-out a0 a1 a2
 
     module _ {M : Type 1} (𝓤 : URA M) where
       abbrev verdict-clauses : Clauses 𝓤 verdict-ended
       verdict-clauses κs a = record {
         ghost = Unit {0};
         requires = λ _. emp 𝓤;
-        ensures = λ _ r e. fact 𝓤 (verdict-says (a .0) (a .1 .0) r);
+        ensures = λ _ r e. fact 𝓤 (verdict-says (a .0) (a .1 .0) (a .1 .1 .0) r);
       }
 
       module _ (H : Heap 𝓤) (A : Atoms 𝓤) where
@@ -378,13 +381,13 @@ module _ (Tally : Value) where
       (close-rounds-x-catalogue : close-rounds-Model (List Entry)) (close-rounds-x-card : close-rounds-Model (List ℕ))
       (close-map-x-map : close-map-Model (List ℕ)) where
     -- ---- what the chain gives, call by call
-    module _ (x-n : ℕ) (x-free : ℕ) (x-fits : Bool) (x-map : List ℕ) (x-catalogue : List Entry) (x-card : List ℕ)
+    module _ (x-role : ℕ) (x-n : ℕ) (x-free : ℕ) (x-fits : Bool) (x-map : List ℕ) (x-catalogue : List Entry) (x-card : List ℕ)
         (x-scratch : List ℕ) where
       abbrev v-count-of : ℕ
       v-count-of = count-out x-catalogue
 
       abbrev v-start-of : (denotes Tally)
-      v-start-of = begin-out x-n x-free x-fits x-map v-count-of x-card x-scratch
+      v-start-of = begin-out x-role x-n x-free x-fits x-map v-count-of x-card x-scratch
 
       abbrev v-sound-of : Bool
       v-sound-of = test-out x-map x-catalogue x-scratch x-n v-start-of
@@ -393,7 +396,7 @@ module _ (Tally : Value) where
       z-test-x-scratch-of = test-x-scratch x-map x-catalogue x-scratch x-n v-start-of
 
       abbrev v-number-of : ℕ
-      v-number-of = verdict-out v-start-of v-sound-of
+      v-number-of = verdict-out x-role v-start-of v-sound-of
 
       abbrev v-rounds-of : ℕ
       v-rounds-of = rounds-for-out v-count-of v-number-of
@@ -411,30 +414,38 @@ module _ (Tally : Value) where
       z-close-map-x-map-of = close-map-x-map x-map x-n v-last-of v-number-of
 
     -- ---- what the function ensures: what a law says of that
-    module _ (Says : ℕ → ℕ → Bool → List ℕ → List Entry → List ℕ → List ℕ → ℕ → List ℕ → List Entry → List ℕ → List ℕ → Type 0)
-        (law : (x-n : ℕ) (x-free : ℕ) (x-fits : Bool) (x-map : List ℕ) (x-catalogue : List Entry) (x-card : List ℕ)
-        (x-scratch : List ℕ) → Says x-n x-free x-fits x-map x-catalogue x-card x-scratch
-        (v-number-of x-n x-free x-fits x-map x-catalogue x-card x-scratch) (z-close-map-x-map-of x-n x-free x-fits x-map
-        x-catalogue x-card x-scratch) (z-close-rounds-x-catalogue-of x-n x-free x-fits x-map x-catalogue x-card x-scratch)
-        (z-close-rounds-x-card-of x-n x-free x-fits x-map x-catalogue x-card x-scratch)
-        (z-test-x-scratch-of x-n x-free x-fits x-map x-catalogue x-card x-scratch)) where
+    module _ (Says : ℕ → ℕ → ℕ → Bool → List ℕ → List Entry → List ℕ → List ℕ → ℕ → List ℕ → List Entry → List ℕ → List ℕ
+        → Type 0)
+        (law : (x-role : ℕ) (x-n : ℕ) (x-free : ℕ) (x-fits : Bool) (x-map : List ℕ) (x-catalogue : List Entry) (x-card : List ℕ)
+        (x-scratch : List ℕ) → Says x-role x-n x-free x-fits x-map x-catalogue x-card x-scratch
+        (v-number-of x-role x-n x-free x-fits x-map x-catalogue x-card x-scratch) (z-close-map-x-map-of x-role x-n x-free x-fits
+        x-map x-catalogue x-card x-scratch) (z-close-rounds-x-catalogue-of x-role x-n x-free x-fits x-map x-catalogue x-card
+        x-scratch) (z-close-rounds-x-card-of x-role x-n x-free x-fits x-map x-catalogue x-card x-scratch)
+        (z-test-x-scratch-of x-role x-n x-free x-fits x-map x-catalogue x-card x-scratch)) where
       module _ {M : Type 1} (𝓤 : URA M) where
         abbrev clauses : Clauses 𝓤 ended
         clauses κs a = record {
           ghost = Unit {0};
           requires = λ _. emp 𝓤;
-          ensures = λ _ r e. fact 𝓤 (Says (a .0) (a .1 .0) (a .1 .1 .0) (now (a .1 .1 .1 .0)) (now (a .1 .1 .1 .1 .0))
-              (now (a .1 .1 .1 .1 .1 .0)) (now (a .1 .1 .1 .1 .1 .1 .0)) r (now (e .1 .1 .1 .0)) (now (e .1 .1 .1 .1 .0))
-              (now (e .1 .1 .1 .1 .1 .0)) (now (e .1 .1 .1 .1 .1 .1 .0)));
+          ensures = λ _ r e. fact 𝓤 (Says (a .0) (a .1 .0) (a .1 .1 .0) (a .1 .1 .1 .0) (now (a .1 .1 .1 .1 .0))
+              (now (a .1 .1 .1 .1 .1 .0)) (now (a .1 .1 .1 .1 .1 .1 .0)) (now (a .1 .1 .1 .1 .1 .1 .1 .0)) r
+              (now (e .1 .1 .1 .1 .0)) (now (e .1 .1 .1 .1 .1 .0)) (now (e .1 .1 .1 .1 .1 .1 .0))
+              (now (e .1 .1 .1 .1 .1 .1 .1 .0)));
         }
 
       module _ {M : Type 1} (𝓤 : URA M) (H : Heap 𝓤) (A : Atoms 𝓤) (W : Given 𝓤 H A) (κ₀ κ₁ κ₂ κ₃ : Lft) (q₀ q₁ q₂ q₃ : Share)
-          (x-n : ℕ) (x-free : ℕ) (x-fits : Bool) (x-map : RefT (List ℕ)) (x-catalogue : RefT (List Entry))
+          (x-role : ℕ) (x-n : ℕ) (x-free : ℕ) (x-fits : Bool) (x-map : RefT (List ℕ)) (x-catalogue : RefT (List Entry))
           (x-card : RefT (List ℕ)) (x-scratch : RefT (List ℕ))
-          (is-x-n : Is u32 x-n ((uint-vals w32) x-n)) (is-x-free : Is u32 x-free ((uint-vals w32) x-free))
-          (is-x-fits : Is Boolean x-fits (bool-vals x-fits)) (room-x-map : Room u64 (length (now x-map)))
-          (room-x-catalogue : Room Entry′.the-row (length (now x-catalogue))) (room-x-card : Room u8 (length (now x-card)))
-          (room-x-scratch : Room u64 (length (now x-scratch))) where
+          (is-x-role : Is u32 x-role ((uint-vals w32) x-role)) (is-x-n : Is u32 x-n ((uint-vals w32) x-n))
+          (is-x-free : Is u32 x-free ((uint-vals w32) x-free)) (is-x-fits : Is Boolean x-fits (bool-vals x-fits))
+          (room-x-map : Room u64 (length (now x-map))) (room-x-catalogue : Room Entry′.the-row (length (now x-catalogue)))
+          (room-x-card : Room u8 (length (now x-card))) (room-x-scratch : Room u64 (length (now x-scratch))) where
+        abbrev m-x-role : Val
+        m-x-role = only ((uint-vals w32) x-role)
+
+        typed-x-role : Holds (hasTy (tyInt w32) m-x-role) × WT m-x-role
+        typed-x-role = (uint-lawful 𝓤 H A W w32 .typed) x-role _ is-x-role .0
+
         abbrev m-x-n : Val
         m-x-n = only ((uint-vals w32) x-n)
 
@@ -477,13 +488,18 @@ module _ (Tally : Value) where
         abbrev at-x-scratch : GName → List ℕ → RefT (List ℕ)
         at-x-scratch δ l = record { ptr = x-scratch .ptr; name = δ; now = l }
 
-        abbrev args : ℕ × (ℕ × (Bool × (RefT (List ℕ) × (RefT (List Entry) × (RefT (List ℕ) × (RefT (List ℕ) × Unit {0}))))))
-        args = (x-n, (x-free, (x-fits, (x-map, (x-catalogue, (x-card, (x-scratch, tt)))))))
+        abbrev args : ℕ × (ℕ × (ℕ × (Bool × (RefT (List ℕ) × (RefT (List Entry) × (RefT (List ℕ)
+            × (RefT (List ℕ) × Unit {0})))))))
+        args = (x-role, (x-n, (x-free, (x-fits, (x-map, (x-catalogue, (x-card, (x-scratch, tt))))))))
 
-        abbrev vals : List Val × (List Val × (List Val × (List Val × (List Val × (List Val × (List Val × Unit {0}))))))
+        abbrev vals : List Val × (List Val × (List Val × (List Val × (List Val × (List Val
+            × (List Val × (List Val × Unit {0})))))))
         vals = (
-          m-x-n ∷ [],
-          (m-x-free ∷ [], (m-x-fits ∷ [], (s-x-map ∷ [], (s-x-catalogue ∷ [], (s-x-card ∷ [], (s-x-scratch ∷ [], tt)))))),
+          m-x-role ∷ [],
+          (
+            m-x-n ∷ [],
+            (m-x-free ∷ [], (m-x-fits ∷ [], (s-x-map ∷ [], (s-x-catalogue ∷ [], (s-x-card ∷ [], (s-x-scratch ∷ [], tt)))))),
+          ),
         )
 
         abbrev bound : walkOf 𝓤 H A ended stayed (clauses 𝓤) .Ghost
@@ -493,36 +509,38 @@ module _ (Tally : Value) where
         Post = walkOf 𝓤 H A ended stayed (clauses 𝓤) .post bound
 
         abbrev v-count : ℕ
-        v-count = v-count-of x-n x-free x-fits (now x-map) (now x-catalogue) (now x-card) (now x-scratch)
+        v-count = v-count-of x-role x-n x-free x-fits (now x-map) (now x-catalogue) (now x-card) (now x-scratch)
 
         abbrev v-start : (denotes Tally)
-        v-start = v-start-of x-n x-free x-fits (now x-map) (now x-catalogue) (now x-card) (now x-scratch)
+        v-start = v-start-of x-role x-n x-free x-fits (now x-map) (now x-catalogue) (now x-card) (now x-scratch)
 
         abbrev v-sound : Bool
-        v-sound = v-sound-of x-n x-free x-fits (now x-map) (now x-catalogue) (now x-card) (now x-scratch)
+        v-sound = v-sound-of x-role x-n x-free x-fits (now x-map) (now x-catalogue) (now x-card) (now x-scratch)
 
         abbrev z-test-x-scratch : List ℕ
-        z-test-x-scratch = z-test-x-scratch-of x-n x-free x-fits (now x-map) (now x-catalogue) (now x-card) (now x-scratch)
-
-        abbrev v-number : ℕ
-        v-number = v-number-of x-n x-free x-fits (now x-map) (now x-catalogue) (now x-card) (now x-scratch)
-
-        abbrev v-rounds : ℕ
-        v-rounds = v-rounds-of x-n x-free x-fits (now x-map) (now x-catalogue) (now x-card) (now x-scratch)
-
-        abbrev v-last : ℕ
-        v-last = v-last-of x-n x-free x-fits (now x-map) (now x-catalogue) (now x-card) (now x-scratch)
-
-        abbrev z-close-rounds-x-catalogue : List Entry
-        z-close-rounds-x-catalogue = z-close-rounds-x-catalogue-of x-n x-free x-fits (now x-map) (now x-catalogue) (now x-card)
+        z-test-x-scratch = z-test-x-scratch-of x-role x-n x-free x-fits (now x-map) (now x-catalogue) (now x-card)
             (now x-scratch)
 
+        abbrev v-number : ℕ
+        v-number = v-number-of x-role x-n x-free x-fits (now x-map) (now x-catalogue) (now x-card) (now x-scratch)
+
+        abbrev v-rounds : ℕ
+        v-rounds = v-rounds-of x-role x-n x-free x-fits (now x-map) (now x-catalogue) (now x-card) (now x-scratch)
+
+        abbrev v-last : ℕ
+        v-last = v-last-of x-role x-n x-free x-fits (now x-map) (now x-catalogue) (now x-card) (now x-scratch)
+
+        abbrev z-close-rounds-x-catalogue : List Entry
+        z-close-rounds-x-catalogue = z-close-rounds-x-catalogue-of x-role x-n x-free x-fits (now x-map) (now x-catalogue)
+            (now x-card) (now x-scratch)
+
         abbrev z-close-rounds-x-card : List ℕ
-        z-close-rounds-x-card = z-close-rounds-x-card-of x-n x-free x-fits (now x-map) (now x-catalogue) (now x-card)
+        z-close-rounds-x-card = z-close-rounds-x-card-of x-role x-n x-free x-fits (now x-map) (now x-catalogue) (now x-card)
             (now x-scratch)
 
         abbrev z-close-map-x-map : List ℕ
-        z-close-map-x-map = z-close-map-x-map-of x-n x-free x-fits (now x-map) (now x-catalogue) (now x-card) (now x-scratch)
+        z-close-map-x-map = z-close-map-x-map-of x-role x-n x-free x-fits (now x-map) (now x-catalogue) (now x-card)
+            (now x-scratch)
 
         abbrev m-v-count : Val
         m-v-count = only ((uint-vals w64) v-count)
@@ -587,17 +605,20 @@ module _ (Tally : Value) where
             bring ! (1 ∷ 0 ∷ []) $ join ! $ frame ! $ done !
 
         -- ---- the caller has what `begin` asks
-        abbrev begin-args : (δ₀-begin δ₁-begin δ₂-begin : GName) → ℕ × (ℕ × (Bool × (RefT (List ℕ)
-            × (ℕ × (RefT (List ℕ) × (RefT (List ℕ) × Unit {0}))))))
+        abbrev begin-args : (δ₀-begin δ₁-begin δ₂-begin : GName) → ℕ × (ℕ × (ℕ × (Bool
+            × (RefT (List ℕ) × (ℕ × (RefT (List ℕ) × (RefT (List ℕ) × Unit {0})))))))
         begin-args δ₀-begin δ₁-begin δ₂-begin = (
-          x-n,
+          x-role,
           (
-            x-free,
+            x-n,
             (
-              x-fits,
+              x-free,
               (
-                at-x-map δ₀-begin (now x-map),
-                (v-count, (at-x-card δ₁-begin (now x-card), (at-x-scratch δ₂-begin (now x-scratch), tt))),
+                x-fits,
+                (
+                  at-x-map δ₀-begin (now x-map),
+                  (v-count, (at-x-card δ₁-begin (now x-card), (at-x-scratch δ₂-begin (now x-scratch), tt))),
+                ),
               ),
             ),
           ),
@@ -612,8 +633,11 @@ module _ (Tally : Value) where
             tt,
             begin-args δ₀-begin δ₁-begin δ₂-begin,
             (
-              m-x-n ∷ [],
-              (m-x-free ∷ [], (m-x-fits ∷ [], (s-x-map ∷ [], (m-v-count ∷ [], (s-x-card ∷ [], (s-x-scratch ∷ [], tt)))))),
+              m-x-role ∷ [],
+              (
+                m-x-n ∷ [],
+                (m-x-free ∷ [], (m-x-fits ∷ [], (s-x-map ∷ [], (m-v-count ∷ [], (s-x-card ∷ [], (s-x-scratch ∷ [], tt)))))),
+              ),
             ),
           ),
           tt,
@@ -636,7 +660,8 @@ module _ (Tally : Value) where
             fjoin ! $ bring ! (2 ∷ 0 ∷ []) $ fjoin ! $
             owned ! Boolean (Is Boolean) (bool-makes 𝓤 H A W) x-fits _ is-x-fits $ fjoin ! $
             owned ! u32 (Is u32) (uint-makes 𝓤 H A W w32) x-free _ is-x-free $ fjoin ! $
-            owned ! u32 (Is u32) (uint-makes 𝓤 H A W w32) x-n _ is-x-n $ fjoin ! $ bring ! (1 ∷ 0 ∷ []) $ join ! $
+            owned ! u32 (Is u32) (uint-makes 𝓤 H A W w32) x-n _ is-x-n $ fjoin ! $
+            owned ! u32 (Is u32) (uint-makes 𝓤 H A W w32) x-role _ is-x-role $ fjoin ! $ bring ! (1 ∷ 0 ∷ []) $ join ! $
             frame ! $ done !
 
         -- ---- the caller has what `test` asks
@@ -680,11 +705,11 @@ module _ (Tally : Value) where
             done !
 
         -- ---- the caller has what `verdict` asks
-        abbrev verdict-args : (denotes Tally) × (Bool × Unit {0})
-        verdict-args = (v-start, (v-sound, tt))
+        abbrev verdict-args : ℕ × ((denotes Tally) × (Bool × Unit {0}))
+        verdict-args = (x-role, (v-start, (v-sound, tt)))
 
         abbrev to-verdict : (verdict-contract verdict-out 𝓤 H A) .Ghost
-        to-verdict = ((tt, tt, tt, verdict-args, (m-v-start ∷ [], (m-v-sound ∷ [], tt))), tt)
+        to-verdict = ((tt, tt, tt, verdict-args, (m-x-role ∷ [], (m-v-start ∷ [], (m-v-sound ∷ [], tt)))), tt)
 
         goes-verdict : Is (rowOf Tally) v-start (m-v-start ∷ []) → Is Boolean v-sound (m-v-sound ∷ [])
             → ent 𝓤 (⋆ 𝓤 H A ([])) ((verdict-contract verdict-out 𝓤 H A) .pre (to-verdict))
@@ -692,7 +717,8 @@ module _ (Tally : Value) where
             qed W ([]) ∵
             nothing ! $ nothing ! $ owned ! Boolean (Is Boolean) (bool-makes 𝓤 H A W) v-sound _ is-v-sound $ fjoin ! $
             owned ! (rowOf Tally) (Is (rowOf Tally)) (Tally .makes 𝓤 H A) v-start _ is-v-start $ fjoin ! $
-            bring ! (1 ∷ 0 ∷ []) $ join ! $ frame ! $ done !
+            owned ! u32 (Is u32) (uint-makes 𝓤 H A W w32) x-role _ is-x-role $ fjoin ! $ bring ! (1 ∷ 0 ∷ []) $ join ! $
+            frame ! $ done !
 
         -- ---- the caller has what `rounds-for` asks
         abbrev rounds-for-args : ℕ × (ℕ × Unit {0})
@@ -795,14 +821,18 @@ module _ (Tally : Value) where
             (at-x-scratch (x-scratch .name) z-test-x-scratch) (s-x-scratch ∷ [])) ∷ ‵ (flft κ₃ q₃) ∷ []) ∵
             suffices ! _ (ends-at 𝓤 H A ended stayed (clauses 𝓤) W bound m-v-number v-number (
               tt,
-              (tt, (tt, (z-close-map-x-map, (z-close-rounds-x-catalogue, (z-close-rounds-x-card, (z-test-x-scratch, tt)))))),
-            ) (tt, (tt, (tt, (l-x-map, (l-x-catalogue, (l-x-card, (l-x-scratch, tt)))))))) $
-            says ! (law x-n x-free x-fits (now x-map) (now x-catalogue) (now x-card) (now x-scratch)) $ nothing ! $
-            bring ! (2 ∷ 3 ∷ 4 ∷ 5 ∷ 0 ∷ []) $ group ! 5 $ frame ! $ nothing ! $ bring ! (4 ∷ 0 ∷ []) $ fjoin ! $
-            bring ! (3 ∷ 0 ∷ []) $ fjoin ! $ bring ! (2 ∷ 0 ∷ []) $ fjoin ! $ bring ! (1 ∷ 0 ∷ []) $ fjoin ! $
+              (
+                tt,
+                (tt, (tt, (z-close-map-x-map, (z-close-rounds-x-catalogue, (z-close-rounds-x-card, (z-test-x-scratch, tt)))))),
+              ),
+            ) (tt, (tt, (tt, (tt, (l-x-map, (l-x-catalogue, (l-x-card, (l-x-scratch, tt))))))))) $
+            says ! (law x-role x-n x-free x-fits (now x-map) (now x-catalogue) (now x-card) (now x-scratch)) $
+            nothing ! $ bring ! (2 ∷ 3 ∷ 4 ∷ 5 ∷ 0 ∷ []) $ group ! 5 $ frame ! $ nothing ! $ bring ! (4 ∷ 0 ∷ []) $
+            fjoin ! $ bring ! (3 ∷ 0 ∷ []) $ fjoin ! $ bring ! (2 ∷ 0 ∷ []) $ fjoin ! $ bring ! (1 ∷ 0 ∷ []) $ fjoin ! $
             owned ! Boolean (Is Boolean) (bool-makes 𝓤 H A W) x-fits _ is-x-fits $ fjoin ! $
             owned ! u32 (Is u32) (uint-makes 𝓤 H A W w32) x-free _ is-x-free $ fjoin ! $
             owned ! u32 (Is u32) (uint-makes 𝓤 H A W w32) x-n _ is-x-n $ fjoin ! $
+            owned ! u32 (Is u32) (uint-makes 𝓤 H A W w32) x-role _ is-x-role $ fjoin ! $
             owned ! u32 (Is u32) (uint-makes 𝓤 H A W w32) v-number _ is $ bring ! (1 ∷ 0 ∷ []) $ done !
 
         -- ---- the walk
@@ -814,27 +844,27 @@ module _ (Tally : Value) where
             → Triple 𝓤 (𝓣 .C #close-map) (close-map-contract close-map-x-map 𝓤 H A) → ent 𝓤
             (onEntry 𝓤 H A signature (κ₀, (κ₁, (κ₂, (κ₃, tt)))) (q₀, (q₁, (q₂, (q₃, tt)))) args vals)
             (WpFn 𝓤 H (𝓣 .C) (𝓣 .Λ) (function #count #begin #test #verdict #rounds-for #close-rounds #close-map)
-            (m-x-n ∷ m-x-free ∷ m-x-fits ∷ s-x-map ∷ s-x-catalogue ∷ s-x-card ∷ s-x-scratch ∷ []) Post)
+            (m-x-role ∷ m-x-n ∷ m-x-free ∷ m-x-fits ∷ s-x-map ∷ s-x-catalogue ∷ s-x-card ∷ s-x-scratch ∷ []) Post)
         walk 𝓣 known-count known-begin known-test known-verdict known-rounds-for known-close-rounds known-close-map =
             qed W ((‵ (flft κ₀ q₀) ⊛ ‵ (flft κ₁ q₁) ⊛ ‵ (flft κ₂ q₂) ⊛ ‵ (flft κ₃ q₃) ⊛ ‵ ftrue)
-            ∷ ‵ (owns (u32 ∷ u32 ∷ Boolean ∷ MutSlice (named 0) κ₀ u64 ∷ MutSlice (named 1) κ₁ Entry′.the-row
+            ∷ ‵ (owns (u32 ∷ u32 ∷ u32 ∷ Boolean ∷ MutSlice (named 0) κ₀ u64 ∷ MutSlice (named 1) κ₁ Entry′.the-row
             ∷ MutSlice (named 2) κ₂ u8 ∷ MutSlice (named 3) κ₃ u64 ∷ []) args vals) ∷ []) ∵
             enter ! (𝓣 .C) (𝓣 .Λ) (function #count #begin #test #verdict #rounds-for #close-rounds #close-map)
-            (m-x-n ∷ m-x-free ∷ m-x-fits ∷ s-x-map ∷ s-x-catalogue ∷ s-x-card ∷ s-x-scratch ∷ []) _ $
+            (m-x-role ∷ m-x-n ∷ m-x-free ∷ m-x-fits ∷ s-x-map ∷ s-x-catalogue ∷ s-x-card ∷ s-x-scratch ∷ []) _ $
             alloc1 ! (λ l₀. alloc1 ! (λ l₁. alloc1 ! (λ l₂. alloc1 ! (λ l₃. alloc1 ! (λ l₄. alloc1 ! (λ l₅.
             alloc1 ! (λ l₆. alloc1 ! (λ l₇. alloc1 ! (λ l₈. alloc1 ! (λ l₉. alloc1 ! (λ l₁₀. alloc1 ! (λ l₁₁.
             alloc1 ! (λ l₁₂. alloc1 ! (λ l₁₃. alloc1 ! (λ l₁₄. alloc1 ! (λ l₁₅. alloc1 ! (λ l₁₆. alloc1 ! (λ l₁₇.
             alloc1 ! (λ l₁₈. alloc1 ! (λ l₁₉. alloc1 ! (λ l₂₀. alloc1 ! (λ l₂₁. alloc1 ! (λ l₂₂. alloc1 ! (λ l₂₃.
             alloc1 ! (λ l₂₄. alloc1 ! (λ l₂₅. alloc1 ! (λ l₂₆. alloc1 ! (λ l₂₇. alloc1 ! (λ l₂₈. alloc1 ! (λ l₂₉.
-            alloc1 ! (λ l₃₀. alloc1 ! (λ l₃₁. alloc1 ! (λ l₃₂. alloc1 ! (λ l₃₃. alloc1 ! (λ l₃₄. alloc0 ! $ params1 ! $
-            pass1 ! (init ! 66 refl typed-x-n) $ pass1 ! (init ! 64 refl typed-x-free) $
-            pass1 ! (init ! 62 refl typed-x-fits) $
+            alloc1 ! (λ l₃₀. alloc1 ! (λ l₃₁. alloc1 ! (λ l₃₂. alloc1 ! (λ l₃₃. alloc1 ! (λ l₃₄. alloc1 ! (λ l₃₅.
+            alloc0 ! $ params1 ! $ pass1 ! (init ! 68 refl typed-x-role) $ pass1 ! (init ! 66 refl typed-x-n) $
+            pass1 ! (init ! 64 refl typed-x-free) $ pass1 ! (init ! 62 refl typed-x-fits) $
             pass1 ! (init ! 60 refl (tt, (tt, (record { fits = room-x-map .0 }, tt)))) $
             pass1 ! (init ! 58 refl (tt, (tt, (record { fits = room-x-catalogue .0 }, tt)))) $
             pass1 ! (init ! 56 refl (tt, (tt, (record { fits = room-x-card .0 }, tt)))) $
             pass1 ! (init ! 54 refl (tt, (tt, (record { fits = room-x-scratch .0 }, tt)))) $ pass0 ! $
-            bring ! (70 ∷ []) $ parts W (_ ∷ _ ∷ _ ∷ _ ∷ []) _ $ bring ! (74 ∷ []) $
-            fparts W (_ ∷ _ ∷ _ ∷ _ ∷ _ ∷ _ ∷ _ ∷ []) _ $ discard ! (0 ∷ 0 ∷ 0 ∷ []) $
+            bring ! (72 ∷ []) $ parts W (_ ∷ _ ∷ _ ∷ _ ∷ []) _ $ bring ! (76 ∷ []) $
+            fparts W (_ ∷ _ ∷ _ ∷ _ ∷ _ ∷ _ ∷ _ ∷ _ ∷ []) _ $ discard ! (0 ∷ 0 ∷ 0 ∷ 0 ∷ []) $
             -- count
             assigns ! (addr ! (from ! (fld ! refl (hop ! (look-in ! 66 (sub ! 0 refl (whole !))) (stop !))))) (from ! (stop !))
             (init ! 48 refl (tt, tt)) $
@@ -863,7 +893,7 @@ module _ (Tally : Value) where
             rewrite ! 0 (λ (r : ℕ). ‵ (usize .own r (w-count ∷ []))) (e-count) refl $
             peeks ! usize (Is usize) (shows 𝓤 H A usize) v-count (w-count ∷ []) (λ is-w-count.
             land ! (from ! (stop !)) (init ! 61 refl ((uint-lawful 𝓤 H A W w64 .typed) v-count _ is-w-count .0)) $
-            rewrite ! 61 (λ (u : Val). ‵ (fat fullShare (tyInt w64) l₈ 0 u)) (ap only ((uint-tells w64) v-count _ is-w-count))
+            rewrite ! 61 (λ (u : Val). ‵ (fat fullShare (tyInt w64) l₉ 0 u)) (ap only ((uint-tells w64) v-count _ is-w-count))
             refl $
             discard ! (0 ∷ []) $ parts W (_ ∷ []) _ $ lft-end ! tt $
             use2 W (later (‵ (MutSlice (named 1) κ₁ Entry′.the-row .own (at-x-catalogue (x-catalogue .name) (now x-catalogue))
@@ -908,29 +938,30 @@ module _ (Tally : Value) where
             $
             calls-at ! (fmOf 𝓤 H (W .laws) 𝓣) (begin-contract begin-out 𝓤 H A) known-begin
             (to-begin ν₀-begin ν₁-begin ν₂-begin δ₀-begin δ₁-begin δ₂-begin) (and-then !
-            (load ! (from ! (stop !)) (look ! 72 refl)) (and-then ! (load ! (from ! (stop !)) (look ! 70 refl))
-            (and-then ! (load ! (from ! (stop !)) (look ! 68 refl)) (and-then ! (load ! (from ! (stop !)) (look ! 40 refl))
-            (and-then ! (load ! (from ! (stop !)) (look ! 58 refl)) (and-then ! (load ! (from ! (stop !)) (look ! 36 refl))
-            (and-then ! (load ! (from ! (stop !)) (look ! 32 refl)) (no-more !)))))))) (λ w-begin.
+            (load ! (from ! (stop !)) (look ! 74 refl)) (and-then ! (load ! (from ! (stop !)) (look ! 72 refl))
+            (and-then ! (load ! (from ! (stop !)) (look ! 70 refl)) (and-then ! (load ! (from ! (stop !)) (look ! 68 refl))
+            (and-then ! (load ! (from ! (stop !)) (look ! 40 refl)) (and-then ! (load ! (from ! (stop !)) (look ! 58 refl))
+            (and-then ! (load ! (from ! (stop !)) (look ! 36 refl)) (and-then ! (load ! (from ! (stop !)) (look ! 32 refl))
+            (no-more !))))))))) (λ w-begin.
             use1 W (later (some (λ (r : (denotes Tally)). ((‵ (flft (ν₀-begin ∷ []) fullShare)
             ⊛ ‵ (flft (ν₁-begin ∷ []) fullShare) ⊛ ‵ (flft (ν₂-begin ∷ []) fullShare) ⊛ ‵ ftrue)
             ⊛ ‵ ((rowOf Tally) .own r (w-begin ∷ []))) ⊛ raw (ensured 𝓤 H A begin-ended (begin-clauses begin-out 𝓤)
             (ν₀-begin ∷ [], (ν₁-begin ∷ [], (ν₂-begin ∷ [], tt))) (begin-args δ₀-begin δ₁-begin δ₂-begin) tt r)))) (id⊢ 𝓤 _) $
             await ! tt $ pick ! (λ r-begin. split ! $ bring ! (1 ∷ []) $
             use1 W (some (λ (zs-begin : Unit {0} × (Unit {0} × (Unit {0} × (Unit {0} ×
-            (Unit {0} × (Unit {0} × (Unit {0} × Unit {0}))))))). ‵ (lasts begin-ended
+            (Unit {0} × (Unit {0} × (Unit {0} × (Unit {0} × Unit {0})))))))). ‵ (lasts begin-ended
             (ν₀-begin ∷ [], (ν₁-begin ∷ [], (ν₂-begin ∷ [], tt))) (begin-args δ₀-begin δ₁-begin δ₂-begin) zs-begin)
-            ⊛ raw (fact 𝓤 (begin-says begin-out x-n x-free x-fits (now x-map) v-count (now x-card) (now x-scratch) r-begin))))
-            (id⊢ 𝓤 _) $
+            ⊛ raw (fact 𝓤 (begin-says begin-out x-role x-n x-free x-fits (now x-map) v-count (now x-card) (now x-scratch)
+            r-begin)))) (id⊢ 𝓤 _) $
             pick ! (λ zs-begin. split ! $ bring ! (1 ∷ []) $
-            heard ! (begin-says begin-out x-n x-free x-fits (now x-map) v-count (now x-card) (now x-scratch) r-begin)
+            heard ! (begin-says begin-out x-role x-n x-free x-fits (now x-map) v-count (now x-card) (now x-scratch) r-begin)
             (λ e-begin.
-            fparts W (_ ∷ _ ∷ _ ∷ _ ∷ _ ∷ _ ∷ _ ∷ []) _ $ discard ! (0 ∷ 0 ∷ 0 ∷ 0 ∷ 0 ∷ 0 ∷ 0 ∷ []) $ split ! $
+            fparts W (_ ∷ _ ∷ _ ∷ _ ∷ _ ∷ _ ∷ _ ∷ _ ∷ []) _ $ discard ! (0 ∷ 0 ∷ 0 ∷ 0 ∷ 0 ∷ 0 ∷ 0 ∷ 0 ∷ []) $ split ! $
             bring ! (1 ∷ []) $
             rewrite ! 0 (λ (r : (denotes Tally)). ‵ ((rowOf Tally) .own r (w-begin ∷ []))) (e-begin) refl $
             peeks ! (rowOf Tally) (Is (rowOf Tally)) (shows 𝓤 H A (rowOf Tally)) v-start (w-begin ∷ []) (λ is-w-begin.
             land ! (from ! (stop !)) (init ! 57 refl ((Tally .typed 𝓤 H A W) v-start _ is-w-begin .0)) $
-            rewrite ! 57 (λ (u : Val). ‵ (fat fullShare (mirOf Tally) l₉ 0 u)) (ap only ((Tally .tells) v-start _ is-w-begin))
+            rewrite ! 57 (λ (u : Val). ‵ (fat fullShare (mirOf Tally) l₁₀ 0 u)) (ap only ((Tally .tells) v-start _ is-w-begin))
             refl $
             discard ! (0 ∷ []) $ parts W (_ ∷ _ ∷ _ ∷ []) _ $ lft-end ! tt $ bring ! (0 ∷ 4 ∷ []) $
             use2 W (later (‵ (MutSlice (named 0) κ₀ u64 .own (at-x-map (x-map .name) (now x-map)) (s-x-map ∷ []))
@@ -1003,7 +1034,7 @@ module _ (Tally : Value) where
             rewrite ! 2 (λ (l : List ℕ). ‵ (finally u64 δ₂-test l)) (e-test .1) refl $
             peeks ! Boolean (Is Boolean) (shows 𝓤 H A Boolean) v-sound (w-test ∷ []) (λ is-w-test.
             land ! (from ! (stop !)) (init ! 56 refl ((bool-lawful 𝓤 H A W .typed) v-sound _ is-w-test .0)) $
-            rewrite ! 56 (λ (u : Val). ‵ (fat fullShare tyBool l₁₀ 0 u)) (ap only (bool-tells v-sound _ is-w-test)) refl $
+            rewrite ! 56 (λ (u : Val). ‵ (fat fullShare tyBool l₁₁ 0 u)) (ap only (bool-tells v-sound _ is-w-test)) refl $
             discard ! (0 ∷ []) $ parts W (_ ∷ _ ∷ _ ∷ []) _ $ lft-end ! tt $ bring ! (0 ∷ 5 ∷ []) $
             use2 W (later (‵ (MutSlice (named 0) κ₀ u64 .own (at-x-map (x-map .name) (now x-map)) (s-x-map ∷ []))
             ⊛ ‵ (flft κ₀ q₀))) (comes-home u64 κ₀ (ν₀-test ∷ []) q₀ (x-map .name) (x-map .ptr .0) (x-map .ptr .1) 𝓤 H A W
@@ -1023,20 +1054,21 @@ module _ (Tally : Value) where
             use0 W (raw ((verdict-contract verdict-out 𝓤 H A) .pre (to-verdict))) (goes-verdict
             (spelled-v-start w-begin is-w-begin) (spelled-v-sound w-test is-w-test)) $
             calls-at ! (fmOf 𝓤 H (W .laws) 𝓣) (verdict-contract verdict-out 𝓤 H A) known-verdict (to-verdict)
-            (and-then ! (load ! (from ! (stop !)) (look ! 59 refl)) (and-then ! (load ! (from ! (stop !)) (look ! 57 refl))
-            (no-more !))) (λ w-verdict.
+            (and-then ! (load ! (from ! (stop !)) (look ! 77 refl)) (and-then ! (load ! (from ! (stop !)) (look ! 59 refl))
+            (and-then ! (load ! (from ! (stop !)) (look ! 57 refl)) (no-more !)))) (λ w-verdict.
             use1 W (later (some (λ (r : ℕ). ((‵ ftrue) ⊛ ‵ (u32 .own r (w-verdict ∷ [])))
             ⊛ raw (ensured 𝓤 H A verdict-ended (verdict-clauses verdict-out 𝓤) tt (verdict-args) tt r)))) (id⊢ 𝓤 _) $
             await ! tt $ pick ! (λ r-verdict. split ! $ bring ! (1 ∷ []) $
-            use1 W (some (λ (zs-verdict : Unit {0} × (Unit {0} × Unit {0})). ‵ (lasts verdict-ended tt (verdict-args)
-            zs-verdict) ⊛ raw (fact 𝓤 (verdict-says verdict-out v-start v-sound r-verdict)))) (id⊢ 𝓤 _) $
+            use1 W (some (λ (zs-verdict : Unit {0} × (Unit {0} × (Unit {0} × Unit {0}))). ‵
+            (lasts verdict-ended tt (verdict-args) zs-verdict) ⊛ raw (fact 𝓤 (verdict-says verdict-out x-role v-start v-sound
+            r-verdict)))) (id⊢ 𝓤 _) $
             pick ! (λ zs-verdict. split ! $ bring ! (1 ∷ []) $
-            heard ! (verdict-says verdict-out v-start v-sound r-verdict) (λ e-verdict. fparts W (_ ∷ _ ∷ []) _ $
-            discard ! (0 ∷ 0 ∷ []) $ split ! $ bring ! (1 ∷ []) $
+            heard ! (verdict-says verdict-out x-role v-start v-sound r-verdict) (λ e-verdict.
+            fparts W (_ ∷ _ ∷ _ ∷ []) _ $ discard ! (0 ∷ 0 ∷ 0 ∷ []) $ split ! $ bring ! (1 ∷ []) $
             rewrite ! 0 (λ (r : ℕ). ‵ (u32 .own r (w-verdict ∷ []))) (e-verdict) refl $
             peeks ! u32 (Is u32) (shows 𝓤 H A u32) v-number (w-verdict ∷ []) (λ is-w-verdict.
             land ! (from ! (stop !)) (init ! 56 refl ((uint-lawful 𝓤 H A W w32 .typed) v-number _ is-w-verdict .0)) $
-            rewrite ! 56 (λ (u : Val). ‵ (fat fullShare (tyInt w32) l₁₁ 0 u)) (ap only
+            rewrite ! 56 (λ (u : Val). ‵ (fat fullShare (tyInt w32) l₁₂ 0 u)) (ap only
             ((uint-tells w32) v-number _ is-w-verdict)) refl $
             discard ! (0 ∷ []) $ parts W ([]) _ $
             -- rounds-for
@@ -1057,7 +1089,7 @@ module _ (Tally : Value) where
             rewrite ! 0 (λ (r : ℕ). ‵ (usize .own r (w-rounds-for ∷ []))) (e-rounds-for) refl $
             peeks ! usize (Is usize) (shows 𝓤 H A usize) v-rounds (w-rounds-for ∷ []) (λ is-w-rounds-for.
             land ! (from ! (stop !)) (init ! 54 refl ((uint-lawful 𝓤 H A W w64 .typed) v-rounds _ is-w-rounds-for .0)) $
-            rewrite ! 54 (λ (u : Val). ‵ (fat fullShare (tyInt w64) l₁₂ 0 u)) (ap only
+            rewrite ! 54 (λ (u : Val). ‵ (fat fullShare (tyInt w64) l₁₃ 0 u)) (ap only
             ((uint-tells w64) v-rounds _ is-w-rounds-for)) refl $
             discard ! (0 ∷ []) $ parts W ([]) _ $
             -- close-rounds
@@ -1115,7 +1147,7 @@ module _ (Tally : Value) where
             rewrite ! 2 (λ (l : List ℕ). ‵ (finally u8 δ₁-close-rounds l)) (e-close-rounds .2) refl $
             peeks ! u32 (Is u32) (shows 𝓤 H A u32) v-last (w-close-rounds ∷ []) (λ is-w-close-rounds.
             land ! (from ! (stop !)) (init ! 52 refl ((uint-lawful 𝓤 H A W w32 .typed) v-last _ is-w-close-rounds .0)) $
-            rewrite ! 52 (λ (u : Val). ‵ (fat fullShare (tyInt w32) l₁₃ 0 u)) (ap only
+            rewrite ! 52 (λ (u : Val). ‵ (fat fullShare (tyInt w32) l₁₄ 0 u)) (ap only
             ((uint-tells w32) v-last _ is-w-close-rounds)) refl $
             discard ! (0 ∷ []) $ parts W (_ ∷ _ ∷ []) _ $ lft-end ! tt $ bring ! (0 ∷ 4 ∷ 2 ∷ []) $
             use3 W (later (‵ (MutSlice (named 1) κ₁ Entry′.the-row .own (at-x-catalogue (x-catalogue .name)
@@ -1164,7 +1196,7 @@ module _ (Tally : Value) where
             rewrite ! 2 (λ (l : List ℕ). ‵ (finally u64 δ₀-close-map l)) (e-close-map) refl $
             peeks ! Nothing (Is Nothing) (shows 𝓤 H A Nothing) v-close-map (w-close-map ∷ []) (λ is-w-close-map.
             land ! (from ! (stop !)) (init ! 14 refl ((nothing-lawful 𝓤 H A W .typed) v-close-map _ is-w-close-map .0)) $
-            rewrite ! 14 (λ (u : Val). ‵ (fat fullShare tyUnit l₃₂ 0 u)) (ap only (nothing-tells v-close-map _ is-w-close-map))
+            rewrite ! 14 (λ (u : Val). ‵ (fat fullShare tyUnit l₃₃ 0 u)) (ap only (nothing-tells v-close-map _ is-w-close-map))
             refl $
             discard ! (0 ∷ []) $ parts W (_ ∷ []) _ $ lft-end ! tt $ bring ! (0 ∷ 1 ∷ 0 ∷ []) $
             use3 W (later (‵ (MutSlice (named 0) κ₀ u64 .own (at-x-map (x-map .name) z-close-map-x-map) (s-x-map ∷ []))
@@ -1173,21 +1205,21 @@ module _ (Tally : Value) where
             (ap {B = ℕ} length (sym (e-close-map)) ∙ h-close-map-x-map)) $
             await ! tt $ split ! $
             assigns ! (of-opd ! (load ! (from ! (stop !)) (look ! 54 refl))) (from ! (stop !))
-            (init ! 76 refl ((uint-lawful 𝓤 H A W w32 .typed) v-number _ (spelled-v-number w-verdict is-w-verdict) .0)) $
-            returns ! (look ! 76 refl) $ leave ! 76 refl refl $ leave ! 74 refl refl $ leave ! 72 refl refl $
-            leave ! 70 refl refl $ leave ! 68 refl refl $ leave ! 66 refl refl $ leave ! 64 refl refl $
-            leave ! 62 refl refl $ leave ! 60 refl refl $ leave ! 58 refl refl $ leave ! 56 refl refl $
-            leave ! 54 refl refl $ leave ! 52 refl refl $ leave ! 50 refl refl $ leave ! 48 refl refl $
-            leave ! 46 refl refl $ leave ! 44 refl refl $ leave ! 42 refl refl $ leave ! 40 refl refl $
-            leave ! 38 refl refl $ leave ! 36 refl refl $ leave ! 34 refl refl $ leave ! 32 refl refl $
-            leave ! 30 refl refl $ leave ! 28 refl refl $ leave ! 26 refl refl $ leave ! 24 refl refl $
-            leave ! 22 refl refl $ leave ! 20 refl refl $ leave ! 18 refl refl $ leave ! 16 refl refl $
-            leave ! 14 refl refl $ leave ! 12 refl refl $ leave ! 10 refl refl $ leave ! 8 refl refl $ free0 ! $
-            bring ! (0 ∷ 0 ∷ 2 ∷ 2 ∷ 0 ∷ 0 ∷ 0 ∷ 0 ∷ []) $
+            (init ! 78 refl ((uint-lawful 𝓤 H A W w32 .typed) v-number _ (spelled-v-number w-verdict is-w-verdict) .0)) $
+            returns ! (look ! 78 refl) $ leave ! 78 refl refl $ leave ! 76 refl refl $ leave ! 74 refl refl $
+            leave ! 72 refl refl $ leave ! 70 refl refl $ leave ! 68 refl refl $ leave ! 66 refl refl $
+            leave ! 64 refl refl $ leave ! 62 refl refl $ leave ! 60 refl refl $ leave ! 58 refl refl $
+            leave ! 56 refl refl $ leave ! 54 refl refl $ leave ! 52 refl refl $ leave ! 50 refl refl $
+            leave ! 48 refl refl $ leave ! 46 refl refl $ leave ! 44 refl refl $ leave ! 42 refl refl $
+            leave ! 40 refl refl $ leave ! 38 refl refl $ leave ! 36 refl refl $ leave ! 34 refl refl $
+            leave ! 32 refl refl $ leave ! 30 refl refl $ leave ! 28 refl refl $ leave ! 26 refl refl $
+            leave ! 24 refl refl $ leave ! 22 refl refl $ leave ! 20 refl refl $ leave ! 18 refl refl $
+            leave ! 16 refl refl $ leave ! 14 refl refl $ leave ! 12 refl refl $ leave ! 10 refl refl $
+            leave ! 8 refl refl $ free0 ! $ bring ! (0 ∷ 0 ∷ 2 ∷ 2 ∷ 0 ∷ 0 ∷ 0 ∷ 0 ∷ []) $
             by ! (exits (spelled-v-number w-verdict is-w-verdict) (ap {B = ℕ} length (sym (e-close-map)) ∙ h-close-map-x-map)
             (ap {B = ℕ} length (sym (e-close-rounds .1)) ∙ h-close-rounds-x-catalogue)
             (ap {B = ℕ} length (sym (e-close-rounds .2)) ∙ h-close-rounds-x-card) (ap {B = ℕ} length (sym (e-test .1))
-            ∙ h-test-x-scratch))))))))))))))))))))))))))))))))))))))))))))))))))))))))))))))))))))))))))))))))))))))))))))))))
+            ∙ h-test-x-scratch)))))))))))))))))))))))))))))))))))))))))))))))))))))))))))))))))))))))))))))))))))))))))))))))))
 
       module _ {M : Type 1} (𝓤 : URA M) (H : Heap 𝓤) (A : Atoms 𝓤) (W : Given 𝓤 H A) where
         walks : (𝓣 : Tables 𝓤 H) → Triple 𝓤 (𝓣 .C #count) (count-contract count-out 𝓤 H A)
@@ -1199,19 +1231,24 @@ module _ (Tally : Value) where
             (WpFn 𝓤 H (𝓣 .C) (𝓣 .Λ) (function #count #begin #test #verdict #rounds-for #close-rounds #close-map)) (clauses 𝓤)
         walks 𝓣 known-count known-begin known-test known-verdict known-rounds-for known-close-rounds known-close-map =
             walked 𝓤 H A ended stayed (clauses 𝓤) (WpFn 𝓤 H (𝓣 .C) (𝓣 .Λ) (function #count #begin #test #verdict #rounds-for
-            #close-rounds #close-map)) (λ κs.
-            ((uint-vals w32), ((uint-vals w32), (bool-vals, (slice-vals, (slice-vals, (slice-vals, (slice-vals, tt))))))))
+            #close-rounds #close-map)) (λ κs. (
+              (uint-vals w32),
+              ((uint-vals w32), ((uint-vals w32), (bool-vals, (slice-vals, (slice-vals, (slice-vals, (slice-vals, tt))))))),
+            ))
             (λ κs. (
               (uint-tells w32),
               (
                 (uint-tells w32),
                 (
-                  bool-tells,
+                  (uint-tells w32),
                   (
-                    mut-slice-tells (named 0) (κs .0) u64,
+                    bool-tells,
                     (
-                      mut-slice-tells (named 1) (κs .1 .0) Entry′.the-row,
-                      (mut-slice-tells (named 2) (κs .1 .1 .0) u8, (mut-slice-tells (named 3) (κs .1 .1 .1 .0) u64, tt)),
+                      mut-slice-tells (named 0) (κs .0) u64,
+                      (
+                        mut-slice-tells (named 1) (κs .1 .0) Entry′.the-row,
+                        (mut-slice-tells (named 2) (κs .1 .1 .0) u8, (mut-slice-tells (named 3) (κs .1 .1 .1 .0) u64, tt)),
+                      ),
                     ),
                   ),
                 ),
@@ -1219,9 +1256,10 @@ module _ (Tally : Value) where
             ))
             (λ κs qs bounds a g are. via 𝓤 _ (fst∗ 𝓤 _ (emp 𝓤)) (walk 𝓤 H A W (κs .0) (κs .1 .0) (κs .1 .1 .0) (κs .1 .1 .1 .0)
             (qs .0) (qs .1 .0) (qs .1 .1 .0) (qs .1 .1 .1 .0) (a .0) (a .1 .0) (a .1 .1 .0) (a .1 .1 .1 .0) (a .1 .1 .1 .1 .0)
-            (a .1 .1 .1 .1 .1 .0) (a .1 .1 .1 .1 .1 .1 .0) (are .0) (are .1 .0) (are .1 .1 .0) (are .1 .1 .1 .0 .0 .1)
-            (are .1 .1 .1 .1 .0 .0 .1) (are .1 .1 .1 .1 .1 .0 .0 .1) (are .1 .1 .1 .1 .1 .1 .0 .0 .1) 𝓣 known-count known-begin
-            known-test known-verdict known-rounds-for known-close-rounds known-close-map))
+            (a .1 .1 .1 .1 .1 .0) (a .1 .1 .1 .1 .1 .1 .0) (a .1 .1 .1 .1 .1 .1 .1 .0) (are .0) (are .1 .0) (are .1 .1 .0)
+            (are .1 .1 .1 .0) (are .1 .1 .1 .1 .0 .0 .1) (are .1 .1 .1 .1 .1 .0 .0 .1) (are .1 .1 .1 .1 .1 .1 .0 .0 .1)
+            (are .1 .1 .1 .1 .1 .1 .1 .0 .0 .1) 𝓣 known-count known-begin known-test known-verdict known-rounds-for
+            known-close-rounds known-close-map))
 
         pub meets : (𝓣 : Tables 𝓤 H) → Triple 𝓤 (𝓣 .C #count) (count-contract count-out 𝓤 H A)
             → Triple 𝓤 (𝓣 .C #begin) (begin-contract begin-out 𝓤 H A) → Triple 𝓤 (𝓣 .C #test)
@@ -1237,12 +1275,15 @@ module _ (Tally : Value) where
               (
                 goes-none 𝓤 H A W 4 (λ _. u32) yes (λ κs x f. refl),
                 (
-                  goes-none 𝓤 H A W 4 (λ _. Boolean) yes (λ κs x f. refl),
+                  goes-none 𝓤 H A W 4 (λ _. u32) yes (λ κs x f. refl),
                   (
-                    goes-slice 𝓤 H A W 4 0 tt (plain (λ _. u64)),
+                    goes-none 𝓤 H A W 4 (λ _. Boolean) yes (λ κs x f. refl),
                     (
-                      goes-slice 𝓤 H A W 4 1 tt (plain (λ _. Entry′.the-row)),
-                      (goes-slice 𝓤 H A W 4 2 tt (plain (λ _. u8)), (goes-slice 𝓤 H A W 4 3 tt (plain (λ _. u64)), tt)),
+                      goes-slice 𝓤 H A W 4 0 tt (plain (λ _. u64)),
+                      (
+                        goes-slice 𝓤 H A W 4 1 tt (plain (λ _. Entry′.the-row)),
+                        (goes-slice 𝓤 H A W 4 2 tt (plain (λ _. u8)), (goes-slice 𝓤 H A W 4 3 tt (plain (λ _. u64)), tt)),
+                      ),
                     ),
                   ),
                 ),

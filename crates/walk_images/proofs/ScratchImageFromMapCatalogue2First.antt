@@ -1,9 +1,9 @@
--- Written by tools/walks: every function (n: u32, free: u32, map: &[u64], catalogue: &[Entry], scratch: &mut [u64], image: &mut
--- [u8]) whose code is
+-- Written by tools/walks: every function (role: u32, n: u32, free: u32, map: &[u64], catalogue: &[Entry], scratch: &mut [u64],
+-- image: &mut [u8]) whose code is
 --     let count: usize = count(catalogue);
---     let start: Tally = begin(n, free, map, count, &*scratch);
+--     let start: Tally = begin(role, n, free, map, count, &*scratch);
 --     let sound: bool = test_sound(map, catalogue, scratch, n, start);
---     let number: u32 = verdict(n, free, map, count, sound, &*scratch, &*image);
+--     let number: u32 = verdict(role, n, free, map, count, sound, &*scratch, &*image);
 --     let first: Cursor = write_head(n, free, count, number, image);
 --     let last: Cursor = write_entries(catalogue, first, image);
 --     write_rest(map, last, image);
@@ -65,13 +65,13 @@ module _ (Tally Cursor : Value) where
   signature = record {
     lifetimes = 4;
     outlives = [];
-    params = plain (λ _. u32) ∷ plain (λ _. u32) ∷ shrSlice 0 tt (λ _. u64) ∷ shrSlice 1 tt (λ _. Entry′.the-row)
-        ∷ mutSlice 2 tt (λ _. u64) ∷ mutSlice 3 tt (λ _. u8) ∷ [];
+    params = plain (λ _. u32) ∷ plain (λ _. u32) ∷ plain (λ _. u32) ∷ shrSlice 0 tt (λ _. u64)
+        ∷ shrSlice 1 tt (λ _. Entry′.the-row) ∷ mutSlice 2 tt (λ _. u64) ∷ mutSlice 3 tt (λ _. u8) ∷ [];
     result = plain (λ _. u32);
   }
 
   abbrev ended : Ended
-  ended = record { signature = signature; kept = (yes, (yes, (yes, (yes, (yes, (yes, tt)))))) }
+  ended = record { signature = signature; kept = (yes, (yes, (yes, (yes, (yes, (yes, (yes, tt))))))) }
 
   abbrev stayed : Stays (ended .signature .params) (ended .kept)
   stayed = (
@@ -79,10 +79,13 @@ module _ (Tally Cursor : Value) where
     (
       stay-none (λ _. u32) yes,
       (
-        stay-none-slice (0 ∷ []) tt (plain (λ _. u64)) yes,
+        stay-none (λ _. u32) yes,
         (
-          stay-none-slice (1 ∷ []) tt (plain (λ _. Entry′.the-row)) yes,
-          (stay-slice (2 ∷ []) tt (plain (λ _. u64)), (stay-slice (3 ∷ []) tt (plain (λ _. u8)), tt)),
+          stay-none-slice (0 ∷ []) tt (plain (λ _. u64)) yes,
+          (
+            stay-none-slice (1 ∷ []) tt (plain (λ _. Entry′.the-row)) yes,
+            (stay-slice (2 ∷ []) tt (plain (λ _. u64)), (stay-slice (3 ∷ []) tt (plain (λ _. u8)), tt)),
+          ),
         ),
       ),
     ),
@@ -93,46 +96,47 @@ module _ (Tally Cursor : Value) where
   function #count #begin #test-sound #verdict #write-head #write-entries #write-rest = record {
     lifetimes = 4;
     outlives = [];
-    params = 6;
+    params = 7;
     locals = local (tyInt w32) valueLocal ∷ local (tyInt w32) valueLocal ∷ local (tyInt w32) valueLocal
-        ∷ local (sliceTy (tyRef (named 0) imm (tyInt w64))) valueLocal ∷ local (sliceTy
-        (tyRef (named 1) imm (pointee (Entry′.the-row .written)))) valueLocal ∷ local (sliceTy
-        (tyRef (named 2) mut (tyInt w64))) valueLocal ∷ local (sliceTy (tyRef (named 3) mut (tyInt w8))) valueLocal
-        ∷ local (tyInt w64) valueLocal ∷ local (mirOf Tally) valueLocal ∷ local tyBool valueLocal ∷ local (tyInt w32) valueLocal
-        ∷ local (mirOf Cursor) valueLocal ∷ local (mirOf Cursor) valueLocal ∷ local (tyRef erased imm (tyInt w64)) valueLocal
-        ∷ local (sliceTy (tyRef erased imm (tyInt w64))) valueLocal ∷ local (tyRef erased mut (tyInt w64)) valueLocal
-        ∷ local (sliceTy (tyRef erased mut (tyInt w64))) valueLocal ∷ local (tyRef erased imm (tyInt w64)) valueLocal
-        ∷ local (sliceTy (tyRef erased imm (tyInt w64))) valueLocal ∷ local (tyRef erased imm (tyInt w8)) valueLocal
-        ∷ local (sliceTy (tyRef erased imm (tyInt w8))) valueLocal ∷ local (tyRef erased mut (tyInt w8)) valueLocal
-        ∷ local (sliceTy (tyRef erased mut (tyInt w8))) valueLocal ∷ local (tyRef erased mut (tyInt w8)) valueLocal
-        ∷ local (sliceTy (tyRef erased mut (tyInt w8))) valueLocal ∷ local tyUnit valueLocal
-        ∷ local (tyRef erased mut (tyInt w8)) valueLocal ∷ local (sliceTy (tyRef erased mut (tyInt w8))) valueLocal ∷ [];
-    body = seq (call #count (copy (place 4 []) ∷ []) (place 7 []))
-        (seq (assign (place 13 []) (addrOf (place 5 (field 0 ∷ deref (tyInt w64) ∷ []))))
-        (seq (assign (place 14 []) (aggregate (copy (place 13 []) ∷ copy (place 5 (field 1 ∷ [])) ∷ [])))
-        (seq (call #begin (copy (place 1 []) ∷ copy (place 2 []) ∷ copy (place 3 []) ∷ copy (place 7 []) ∷ copy (place 14 [])
-        ∷ []) (place 8 []))
-        (seq (assign (place 15 []) (addrOf (place 5 (field 0 ∷ deref (tyInt w64) ∷ []))))
-        (seq (assign (place 16 []) (aggregate (copy (place 15 []) ∷ copy (place 5 (field 1 ∷ [])) ∷ [])))
-        (seq (call #test-sound (copy (place 3 []) ∷ copy (place 4 []) ∷ copy (place 16 []) ∷ copy (place 1 [])
-        ∷ copy (place 8 []) ∷ []) (place 9 []))
-        (seq (assign (place 17 []) (addrOf (place 5 (field 0 ∷ deref (tyInt w64) ∷ []))))
-        (seq (assign (place 18 []) (aggregate (copy (place 17 []) ∷ copy (place 5 (field 1 ∷ [])) ∷ [])))
-        (seq (assign (place 19 []) (addrOf (place 6 (field 0 ∷ deref (tyInt w8) ∷ []))))
-        (seq (assign (place 20 []) (aggregate (copy (place 19 []) ∷ copy (place 6 (field 1 ∷ [])) ∷ [])))
-        (seq (call #verdict (copy (place 1 []) ∷ copy (place 2 []) ∷ copy (place 3 []) ∷ copy (place 7 []) ∷ copy (place 9 [])
-        ∷ copy (place 18 []) ∷ copy (place 20 []) ∷ []) (place 10 []))
-        (seq (assign (place 21 []) (addrOf (place 6 (field 0 ∷ deref (tyInt w8) ∷ []))))
-        (seq (assign (place 22 []) (aggregate (copy (place 21 []) ∷ copy (place 6 (field 1 ∷ [])) ∷ [])))
-        (seq (call #write-head (copy (place 1 []) ∷ copy (place 2 []) ∷ copy (place 7 []) ∷ copy (place 10 [])
-        ∷ copy (place 22 []) ∷ []) (place 11 []))
-        (seq (assign (place 23 []) (addrOf (place 6 (field 0 ∷ deref (tyInt w8) ∷ []))))
-        (seq (assign (place 24 []) (aggregate (copy (place 23 []) ∷ copy (place 6 (field 1 ∷ [])) ∷ [])))
-        (seq (call #write-entries (copy (place 4 []) ∷ copy (place 11 []) ∷ copy (place 24 []) ∷ []) (place 12 []))
-        (seq (assign (place 26 []) (addrOf (place 6 (field 0 ∷ deref (tyInt w8) ∷ []))))
-        (seq (assign (place 27 []) (aggregate (copy (place 26 []) ∷ copy (place 6 (field 1 ∷ [])) ∷ [])))
-        (seq (call #write-rest (copy (place 3 []) ∷ copy (place 12 []) ∷ copy (place 27 []) ∷ []) (place 25 []))
-        (seq (assign (place 0 []) (rvOpd (copy (place 10 [])))) return)))))))))))))))))))));
+        ∷ local (tyInt w32) valueLocal ∷ local (sliceTy (tyRef (named 0) imm (tyInt w64))) valueLocal
+        ∷ local (sliceTy (tyRef (named 1) imm (pointee (Entry′.the-row .written)))) valueLocal
+        ∷ local (sliceTy (tyRef (named 2) mut (tyInt w64))) valueLocal ∷ local (sliceTy (tyRef (named 3) mut (tyInt w8)))
+        valueLocal ∷ local (tyInt w64) valueLocal ∷ local (mirOf Tally) valueLocal ∷ local tyBool valueLocal
+        ∷ local (tyInt w32) valueLocal ∷ local (mirOf Cursor) valueLocal ∷ local (mirOf Cursor) valueLocal
+        ∷ local (tyRef erased imm (tyInt w64)) valueLocal ∷ local (sliceTy (tyRef erased imm (tyInt w64))) valueLocal
+        ∷ local (tyRef erased mut (tyInt w64)) valueLocal ∷ local (sliceTy (tyRef erased mut (tyInt w64))) valueLocal
+        ∷ local (tyRef erased imm (tyInt w64)) valueLocal ∷ local (sliceTy (tyRef erased imm (tyInt w64))) valueLocal
+        ∷ local (tyRef erased imm (tyInt w8)) valueLocal ∷ local (sliceTy (tyRef erased imm (tyInt w8))) valueLocal
+        ∷ local (tyRef erased mut (tyInt w8)) valueLocal ∷ local (sliceTy (tyRef erased mut (tyInt w8))) valueLocal
+        ∷ local (tyRef erased mut (tyInt w8)) valueLocal ∷ local (sliceTy (tyRef erased mut (tyInt w8))) valueLocal
+        ∷ local tyUnit valueLocal ∷ local (tyRef erased mut (tyInt w8)) valueLocal ∷ local
+        (sliceTy (tyRef erased mut (tyInt w8))) valueLocal ∷ [];
+    body = seq (call #count (copy (place 5 []) ∷ []) (place 8 []))
+        (seq (assign (place 14 []) (addrOf (place 6 (field 0 ∷ deref (tyInt w64) ∷ []))))
+        (seq (assign (place 15 []) (aggregate (copy (place 14 []) ∷ copy (place 6 (field 1 ∷ [])) ∷ [])))
+        (seq (call #begin (copy (place 1 []) ∷ copy (place 2 []) ∷ copy (place 3 []) ∷ copy (place 4 []) ∷ copy (place 8 [])
+        ∷ copy (place 15 []) ∷ []) (place 9 []))
+        (seq (assign (place 16 []) (addrOf (place 6 (field 0 ∷ deref (tyInt w64) ∷ []))))
+        (seq (assign (place 17 []) (aggregate (copy (place 16 []) ∷ copy (place 6 (field 1 ∷ [])) ∷ [])))
+        (seq (call #test-sound (copy (place 4 []) ∷ copy (place 5 []) ∷ copy (place 17 []) ∷ copy (place 2 [])
+        ∷ copy (place 9 []) ∷ []) (place 10 []))
+        (seq (assign (place 18 []) (addrOf (place 6 (field 0 ∷ deref (tyInt w64) ∷ []))))
+        (seq (assign (place 19 []) (aggregate (copy (place 18 []) ∷ copy (place 6 (field 1 ∷ [])) ∷ [])))
+        (seq (assign (place 20 []) (addrOf (place 7 (field 0 ∷ deref (tyInt w8) ∷ []))))
+        (seq (assign (place 21 []) (aggregate (copy (place 20 []) ∷ copy (place 7 (field 1 ∷ [])) ∷ [])))
+        (seq (call #verdict (copy (place 1 []) ∷ copy (place 2 []) ∷ copy (place 3 []) ∷ copy (place 4 []) ∷ copy (place 8 [])
+        ∷ copy (place 10 []) ∷ copy (place 19 []) ∷ copy (place 21 []) ∷ []) (place 11 []))
+        (seq (assign (place 22 []) (addrOf (place 7 (field 0 ∷ deref (tyInt w8) ∷ []))))
+        (seq (assign (place 23 []) (aggregate (copy (place 22 []) ∷ copy (place 7 (field 1 ∷ [])) ∷ [])))
+        (seq (call #write-head (copy (place 2 []) ∷ copy (place 3 []) ∷ copy (place 8 []) ∷ copy (place 11 [])
+        ∷ copy (place 23 []) ∷ []) (place 12 []))
+        (seq (assign (place 24 []) (addrOf (place 7 (field 0 ∷ deref (tyInt w8) ∷ []))))
+        (seq (assign (place 25 []) (aggregate (copy (place 24 []) ∷ copy (place 7 (field 1 ∷ [])) ∷ [])))
+        (seq (call #write-entries (copy (place 5 []) ∷ copy (place 12 []) ∷ copy (place 25 []) ∷ []) (place 13 []))
+        (seq (assign (place 27 []) (addrOf (place 7 (field 0 ∷ deref (tyInt w8) ∷ []))))
+        (seq (assign (place 28 []) (aggregate (copy (place 27 []) ∷ copy (place 7 (field 1 ∷ [])) ∷ [])))
+        (seq (call #write-rest (copy (place 4 []) ∷ copy (place 13 []) ∷ copy (place 28 []) ∷ []) (place 26 []))
+        (seq (assign (place 0 []) (rvOpd (copy (place 11 [])))) return)))))))))))))))))))));
   }
 
   -- ---- what `count` is, and what it ensures
@@ -171,27 +175,28 @@ module _ (Tally Cursor : Value) where
   begin-signature = record {
     lifetimes = 2;
     outlives = [];
-    params = plain (λ _. u32) ∷ plain (λ _. u32) ∷ shrSlice 0 tt (λ _. u64) ∷ plain (λ _. usize) ∷ shrSlice 1 tt (λ _. u64)
-        ∷ [];
+    params = plain (λ _. u32) ∷ plain (λ _. u32) ∷ plain (λ _. u32) ∷ shrSlice 0 tt (λ _. u64) ∷ plain (λ _. usize)
+        ∷ shrSlice 1 tt (λ _. u64) ∷ [];
     result = plain (λ _. (rowOf Tally));
   }
 
   abbrev begin-ended : Ended
-  begin-ended = record { signature = begin-signature; kept = (yes, (yes, (yes, (yes, (yes, tt))))) }
+  begin-ended = record { signature = begin-signature; kept = (yes, (yes, (yes, (yes, (yes, (yes, tt)))))) }
 
   abbrev begin-Model : Type 0 → Type 0
-  begin-Model X = ℕ → ℕ → List ℕ → ℕ → List ℕ → X
+  begin-Model X = ℕ → ℕ → ℕ → List ℕ → ℕ → List ℕ → X
 
   module _ (begin-out : begin-Model (denotes Tally)) where
-    abbrev begin-says : ℕ → ℕ → List ℕ → ℕ → List ℕ → (denotes Tally) → Type 0
-    begin-says a0 a1 a2 a3 a4 r = r ≡ begin-out a0 a1 a2 a3 a4
+    abbrev begin-says : ℕ → ℕ → ℕ → List ℕ → ℕ → List ℕ → (denotes Tally) → Type 0
+    begin-says a0 a1 a2 a3 a4 a5 r = r ≡ begin-out a0 a1 a2 a3 a4 a5
 
     module _ {M : Type 1} (𝓤 : URA M) where
       abbrev begin-clauses : Clauses 𝓤 begin-ended
       begin-clauses κs a = record {
         ghost = Unit {0};
         requires = λ _. emp 𝓤;
-        ensures = λ _ r e. fact 𝓤 (begin-says (a .0) (a .1 .0) (now (a .1 .1 .0)) (a .1 .1 .1 .0) (now (a .1 .1 .1 .1 .0)) r);
+        ensures = λ _ r e. fact 𝓤 (begin-says (a .0) (a .1 .0) (a .1 .1 .0) (now (a .1 .1 .1 .0)) (a .1 .1 .1 .1 .0)
+            (now (a .1 .1 .1 .1 .1 .0)) r);
       }
 
       module _ (H : Heap 𝓤) (A : Atoms 𝓤) where
@@ -236,28 +241,28 @@ module _ (Tally Cursor : Value) where
   verdict-signature = record {
     lifetimes = 3;
     outlives = [];
-    params = plain (λ _. u32) ∷ plain (λ _. u32) ∷ shrSlice 0 tt (λ _. u64) ∷ plain (λ _. usize) ∷ plain (λ _. Boolean)
-        ∷ shrSlice 1 tt (λ _. u64) ∷ shrSlice 2 tt (λ _. u8) ∷ [];
+    params = plain (λ _. u32) ∷ plain (λ _. u32) ∷ plain (λ _. u32) ∷ shrSlice 0 tt (λ _. u64) ∷ plain (λ _. usize)
+        ∷ plain (λ _. Boolean) ∷ shrSlice 1 tt (λ _. u64) ∷ shrSlice 2 tt (λ _. u8) ∷ [];
     result = plain (λ _. u32);
   }
 
   abbrev verdict-ended : Ended
-  verdict-ended = record { signature = verdict-signature; kept = (yes, (yes, (yes, (yes, (yes, (yes, (yes, tt))))))) }
+  verdict-ended = record { signature = verdict-signature; kept = (yes, (yes, (yes, (yes, (yes, (yes, (yes, (yes, tt)))))))) }
 
   abbrev verdict-Model : Type 0 → Type 0
-  verdict-Model X = ℕ → ℕ → List ℕ → ℕ → Bool → List ℕ → List ℕ → X
+  verdict-Model X = ℕ → ℕ → ℕ → List ℕ → ℕ → Bool → List ℕ → List ℕ → X
 
   module _ (verdict-out : verdict-Model ℕ) where
-    abbrev verdict-says : ℕ → ℕ → List ℕ → ℕ → Bool → List ℕ → List ℕ → ℕ → Type 0
-    verdict-says a0 a1 a2 a3 a4 a5 a6 r = r ≡ verdict-out a0 a1 a2 a3 a4 a5 a6
+    abbrev verdict-says : ℕ → ℕ → ℕ → List ℕ → ℕ → Bool → List ℕ → List ℕ → ℕ → Type 0
+    verdict-says a0 a1 a2 a3 a4 a5 a6 a7 r = r ≡ verdict-out a0 a1 a2 a3 a4 a5 a6 a7
 
     module _ {M : Type 1} (𝓤 : URA M) where
       abbrev verdict-clauses : Clauses 𝓤 verdict-ended
       verdict-clauses κs a = record {
         ghost = Unit {0};
         requires = λ _. emp 𝓤;
-        ensures = λ _ r e. fact 𝓤 (verdict-says (a .0) (a .1 .0) (now (a .1 .1 .0)) (a .1 .1 .1 .0) (a .1 .1 .1 .1 .0)
-            (now (a .1 .1 .1 .1 .1 .0)) (now (a .1 .1 .1 .1 .1 .1 .0)) r);
+        ensures = λ _ r e. fact 𝓤 (verdict-says (a .0) (a .1 .0) (a .1 .1 .0) (now (a .1 .1 .1 .0)) (a .1 .1 .1 .1 .0)
+            (a .1 .1 .1 .1 .1 .0) (now (a .1 .1 .1 .1 .1 .1 .0)) (now (a .1 .1 .1 .1 .1 .1 .1 .0)) r);
       }
 
       module _ (H : Heap 𝓤) (A : Atoms 𝓤) where
@@ -367,12 +372,13 @@ module _ (Tally Cursor : Value) where
       (write-entries-out : write-entries-Model (denotes Cursor)) (write-entries-x-image : write-entries-Model (List ℕ))
       (write-rest-x-image : write-rest-Model (List ℕ)) where
     -- ---- what the chain gives, call by call
-    module _ (x-n : ℕ) (x-free : ℕ) (x-map : List ℕ) (x-catalogue : List Entry) (x-scratch : List ℕ) (x-image : List ℕ) where
+    module _ (x-role : ℕ) (x-n : ℕ) (x-free : ℕ) (x-map : List ℕ) (x-catalogue : List Entry) (x-scratch : List ℕ)
+        (x-image : List ℕ) where
       abbrev v-count-of : ℕ
       v-count-of = count-out x-catalogue
 
       abbrev v-start-of : (denotes Tally)
-      v-start-of = begin-out x-n x-free x-map v-count-of x-scratch
+      v-start-of = begin-out x-role x-n x-free x-map v-count-of x-scratch
 
       abbrev v-sound-of : Bool
       v-sound-of = test-sound-out x-map x-catalogue x-scratch x-n v-start-of
@@ -381,7 +387,7 @@ module _ (Tally Cursor : Value) where
       z-test-sound-x-scratch-of = test-sound-x-scratch x-map x-catalogue x-scratch x-n v-start-of
 
       abbrev v-number-of : ℕ
-      v-number-of = verdict-out x-n x-free x-map v-count-of v-sound-of z-test-sound-x-scratch-of x-image
+      v-number-of = verdict-out x-role x-n x-free x-map v-count-of v-sound-of z-test-sound-x-scratch-of x-image
 
       abbrev v-first-of : (denotes Cursor)
       v-first-of = write-head-out x-n x-free v-count-of v-number-of x-image
@@ -399,26 +405,34 @@ module _ (Tally Cursor : Value) where
       z-write-rest-x-image-of = write-rest-x-image x-map v-last-of z-write-entries-x-image-of
 
     -- ---- what the function ensures: what a law says of that
-    module _ (Says : ℕ → ℕ → List ℕ → List Entry → List ℕ → List ℕ → ℕ → List ℕ → List ℕ → Type 0)
-        (law : (x-n : ℕ) (x-free : ℕ) (x-map : List ℕ) (x-catalogue : List Entry) (x-scratch : List ℕ) (x-image : List ℕ)
-        → Says x-n x-free x-map x-catalogue x-scratch x-image (v-number-of x-n x-free x-map x-catalogue x-scratch x-image)
-        (z-test-sound-x-scratch-of x-n x-free x-map x-catalogue x-scratch x-image) (z-write-rest-x-image-of x-n x-free x-map
-        x-catalogue x-scratch x-image)) where
+    module _ (Says : ℕ → ℕ → ℕ → List ℕ → List Entry → List ℕ → List ℕ → ℕ → List ℕ → List ℕ → Type 0)
+        (law : (x-role : ℕ) (x-n : ℕ) (x-free : ℕ) (x-map : List ℕ) (x-catalogue : List Entry) (x-scratch : List ℕ)
+        (x-image : List ℕ) → Says x-role x-n x-free x-map x-catalogue x-scratch x-image
+        (v-number-of x-role x-n x-free x-map x-catalogue x-scratch x-image) (z-test-sound-x-scratch-of x-role x-n x-free x-map
+        x-catalogue x-scratch x-image) (z-write-rest-x-image-of x-role x-n x-free x-map x-catalogue x-scratch x-image)) where
       module _ {M : Type 1} (𝓤 : URA M) where
         abbrev clauses : Clauses 𝓤 ended
         clauses κs a = record {
           ghost = Unit {0};
           requires = λ _. emp 𝓤;
-          ensures = λ _ r e. fact 𝓤 (Says (a .0) (a .1 .0) (now (a .1 .1 .0)) (now (a .1 .1 .1 .0)) (now (a .1 .1 .1 .1 .0))
-              (now (a .1 .1 .1 .1 .1 .0)) r (now (e .1 .1 .1 .1 .0)) (now (e .1 .1 .1 .1 .1 .0)));
+          ensures = λ _ r e. fact 𝓤 (Says (a .0) (a .1 .0) (a .1 .1 .0) (now (a .1 .1 .1 .0)) (now (a .1 .1 .1 .1 .0))
+              (now (a .1 .1 .1 .1 .1 .0)) (now (a .1 .1 .1 .1 .1 .1 .0)) r (now (e .1 .1 .1 .1 .1 .0))
+              (now (e .1 .1 .1 .1 .1 .1 .0)));
         }
 
       module _ {M : Type 1} (𝓤 : URA M) (H : Heap 𝓤) (A : Atoms 𝓤) (W : Given 𝓤 H A) (κ₀ κ₁ κ₂ κ₃ : Lft) (q₀ q₁ q₂ q₃ : Share)
-          (x-n : ℕ) (x-free : ℕ) (x-map : RefT (List ℕ)) (x-catalogue : RefT (List Entry)) (x-scratch : RefT (List ℕ))
-          (x-image : RefT (List ℕ))
-          (is-x-n : Is u32 x-n ((uint-vals w32) x-n)) (is-x-free : Is u32 x-free ((uint-vals w32) x-free))
-          (room-x-map : Room u64 (length (now x-map))) (room-x-catalogue : Room Entry′.the-row (length (now x-catalogue)))
-          (room-x-scratch : Room u64 (length (now x-scratch))) (room-x-image : Room u8 (length (now x-image))) where
+          (x-role : ℕ) (x-n : ℕ) (x-free : ℕ) (x-map : RefT (List ℕ)) (x-catalogue : RefT (List Entry))
+          (x-scratch : RefT (List ℕ)) (x-image : RefT (List ℕ))
+          (is-x-role : Is u32 x-role ((uint-vals w32) x-role)) (is-x-n : Is u32 x-n ((uint-vals w32) x-n))
+          (is-x-free : Is u32 x-free ((uint-vals w32) x-free)) (room-x-map : Room u64 (length (now x-map)))
+          (room-x-catalogue : Room Entry′.the-row (length (now x-catalogue))) (room-x-scratch : Room u64
+          (length (now x-scratch))) (room-x-image : Room u8 (length (now x-image))) where
+        abbrev m-x-role : Val
+        m-x-role = only ((uint-vals w32) x-role)
+
+        typed-x-role : Holds (hasTy (tyInt w32) m-x-role) × WT m-x-role
+        typed-x-role = (uint-lawful 𝓤 H A W w32 .typed) x-role _ is-x-role .0
+
         abbrev m-x-n : Val
         m-x-n = only ((uint-vals w32) x-n)
 
@@ -455,11 +469,14 @@ module _ (Tally Cursor : Value) where
         abbrev at-x-image : GName → List ℕ → RefT (List ℕ)
         at-x-image δ l = record { ptr = x-image .ptr; name = δ; now = l }
 
-        abbrev args : ℕ × (ℕ × (RefT (List ℕ) × (RefT (List Entry) × (RefT (List ℕ) × (RefT (List ℕ) × Unit {0})))))
-        args = (x-n, (x-free, (x-map, (x-catalogue, (x-scratch, (x-image, tt))))))
+        abbrev args : ℕ × (ℕ × (ℕ × (RefT (List ℕ) × (RefT (List Entry) × (RefT (List ℕ) × (RefT (List ℕ) × Unit {0}))))))
+        args = (x-role, (x-n, (x-free, (x-map, (x-catalogue, (x-scratch, (x-image, tt)))))))
 
-        abbrev vals : List Val × (List Val × (List Val × (List Val × (List Val × (List Val × Unit {0})))))
-        vals = (m-x-n ∷ [], (m-x-free ∷ [], (s-x-map ∷ [], (s-x-catalogue ∷ [], (s-x-scratch ∷ [], (s-x-image ∷ [], tt))))))
+        abbrev vals : List Val × (List Val × (List Val × (List Val × (List Val × (List Val × (List Val × Unit {0}))))))
+        vals = (
+          m-x-role ∷ [],
+          (m-x-n ∷ [], (m-x-free ∷ [], (s-x-map ∷ [], (s-x-catalogue ∷ [], (s-x-scratch ∷ [], (s-x-image ∷ [], tt)))))),
+        )
 
         abbrev bound : walkOf 𝓤 H A ended stayed (clauses 𝓤) .Ghost
         bound = (((κ₀, (κ₁, (κ₂, (κ₃, tt)))), (q₀, (q₁, (q₂, (q₃, tt)))), tt, args, vals), tt)
@@ -468,36 +485,38 @@ module _ (Tally Cursor : Value) where
         Post = walkOf 𝓤 H A ended stayed (clauses 𝓤) .post bound
 
         abbrev v-count : ℕ
-        v-count = v-count-of x-n x-free (now x-map) (now x-catalogue) (now x-scratch) (now x-image)
+        v-count = v-count-of x-role x-n x-free (now x-map) (now x-catalogue) (now x-scratch) (now x-image)
 
         abbrev v-start : (denotes Tally)
-        v-start = v-start-of x-n x-free (now x-map) (now x-catalogue) (now x-scratch) (now x-image)
+        v-start = v-start-of x-role x-n x-free (now x-map) (now x-catalogue) (now x-scratch) (now x-image)
 
         abbrev v-sound : Bool
-        v-sound = v-sound-of x-n x-free (now x-map) (now x-catalogue) (now x-scratch) (now x-image)
+        v-sound = v-sound-of x-role x-n x-free (now x-map) (now x-catalogue) (now x-scratch) (now x-image)
 
         abbrev z-test-sound-x-scratch : List ℕ
-        z-test-sound-x-scratch = z-test-sound-x-scratch-of x-n x-free (now x-map) (now x-catalogue) (now x-scratch)
+        z-test-sound-x-scratch = z-test-sound-x-scratch-of x-role x-n x-free (now x-map) (now x-catalogue) (now x-scratch)
             (now x-image)
 
         abbrev v-number : ℕ
-        v-number = v-number-of x-n x-free (now x-map) (now x-catalogue) (now x-scratch) (now x-image)
+        v-number = v-number-of x-role x-n x-free (now x-map) (now x-catalogue) (now x-scratch) (now x-image)
 
         abbrev v-first : (denotes Cursor)
-        v-first = v-first-of x-n x-free (now x-map) (now x-catalogue) (now x-scratch) (now x-image)
+        v-first = v-first-of x-role x-n x-free (now x-map) (now x-catalogue) (now x-scratch) (now x-image)
 
         abbrev z-write-head-x-image : List ℕ
-        z-write-head-x-image = z-write-head-x-image-of x-n x-free (now x-map) (now x-catalogue) (now x-scratch) (now x-image)
+        z-write-head-x-image = z-write-head-x-image-of x-role x-n x-free (now x-map) (now x-catalogue) (now x-scratch)
+            (now x-image)
 
         abbrev v-last : (denotes Cursor)
-        v-last = v-last-of x-n x-free (now x-map) (now x-catalogue) (now x-scratch) (now x-image)
+        v-last = v-last-of x-role x-n x-free (now x-map) (now x-catalogue) (now x-scratch) (now x-image)
 
         abbrev z-write-entries-x-image : List ℕ
-        z-write-entries-x-image = z-write-entries-x-image-of x-n x-free (now x-map) (now x-catalogue) (now x-scratch)
+        z-write-entries-x-image = z-write-entries-x-image-of x-role x-n x-free (now x-map) (now x-catalogue) (now x-scratch)
             (now x-image)
 
         abbrev z-write-rest-x-image : List ℕ
-        z-write-rest-x-image = z-write-rest-x-image-of x-n x-free (now x-map) (now x-catalogue) (now x-scratch) (now x-image)
+        z-write-rest-x-image = z-write-rest-x-image-of x-role x-n x-free (now x-map) (now x-catalogue) (now x-scratch)
+            (now x-image)
 
         abbrev m-v-count : Val
         m-v-count = only ((uint-vals w64) v-count)
@@ -559,8 +578,8 @@ module _ (Tally Cursor : Value) where
             bring ! (1 ∷ 0 ∷ []) $ join ! $ frame ! $ done !
 
         -- ---- the caller has what `begin` asks
-        abbrev begin-args : (δ₀-begin : GName) → ℕ × (ℕ × (RefT (List ℕ) × (ℕ × (RefT (List ℕ) × Unit {0}))))
-        begin-args δ₀-begin = (x-n, (x-free, (x-map, (v-count, (at-x-scratch δ₀-begin (now x-scratch), tt)))))
+        abbrev begin-args : (δ₀-begin : GName) → ℕ × (ℕ × (ℕ × (RefT (List ℕ) × (ℕ × (RefT (List ℕ) × Unit {0})))))
+        begin-args δ₀-begin = (x-role, (x-n, (x-free, (x-map, (v-count, (at-x-scratch δ₀-begin (now x-scratch), tt))))))
 
         abbrev to-begin : (ν₀-begin : ℕ) (δ₀-begin : GName) → (begin-contract begin-out 𝓤 H A) .Ghost
         to-begin ν₀-begin δ₀-begin = (
@@ -569,7 +588,7 @@ module _ (Tally Cursor : Value) where
             (q₀, (fullShare, tt)),
             tt,
             begin-args δ₀-begin,
-            (m-x-n ∷ [], (m-x-free ∷ [], (s-x-map ∷ [], (m-v-count ∷ [], (s-x-scratch ∷ [], tt))))),
+            (m-x-role ∷ [], (m-x-n ∷ [], (m-x-free ∷ [], (s-x-map ∷ [], (m-v-count ∷ [], (s-x-scratch ∷ [], tt)))))),
           ),
           tt,
         )
@@ -584,7 +603,8 @@ module _ (Tally Cursor : Value) where
             nothing ! $ bring ! (1 ∷ 1 ∷ 0 ∷ []) $ group ! 3 $ nothing ! $ bring ! (3 ∷ 0 ∷ []) $ fjoin ! $
             owned ! usize (Is usize) (uint-makes 𝓤 H A W w64) v-count _ is-v-count $ fjoin ! $ bring ! (2 ∷ 0 ∷ []) $
             fjoin ! $ owned ! u32 (Is u32) (uint-makes 𝓤 H A W w32) x-free _ is-x-free $ fjoin ! $
-            owned ! u32 (Is u32) (uint-makes 𝓤 H A W w32) x-n _ is-x-n $ fjoin ! $ bring ! (1 ∷ 0 ∷ []) $ join ! $
+            owned ! u32 (Is u32) (uint-makes 𝓤 H A W w32) x-n _ is-x-n $ fjoin ! $
+            owned ! u32 (Is u32) (uint-makes 𝓤 H A W w32) x-role _ is-x-role $ fjoin ! $ bring ! (1 ∷ 0 ∷ []) $ join ! $
             frame ! $ done !
 
         -- ---- the caller has what `test-sound` asks
@@ -624,15 +644,21 @@ module _ (Tally Cursor : Value) where
             done !
 
         -- ---- the caller has what `verdict` asks
-        abbrev verdict-args : (δ₀-verdict δ₁-verdict : GName) → ℕ × (ℕ × (RefT (List ℕ)
-            × (ℕ × (Bool × (RefT (List ℕ) × (RefT (List ℕ) × Unit {0}))))))
+        abbrev verdict-args : (δ₀-verdict δ₁-verdict : GName) → ℕ × (ℕ × (ℕ × (RefT (List ℕ)
+            × (ℕ × (Bool × (RefT (List ℕ) × (RefT (List ℕ) × Unit {0})))))))
         verdict-args δ₀-verdict δ₁-verdict = (
-          x-n,
+          x-role,
           (
-            x-free,
+            x-n,
             (
-              x-map,
-              (v-count, (v-sound, (at-x-scratch δ₀-verdict z-test-sound-x-scratch, (at-x-image δ₁-verdict (now x-image), tt)))),
+              x-free,
+              (
+                x-map,
+                (
+                  v-count,
+                  (v-sound, (at-x-scratch δ₀-verdict z-test-sound-x-scratch, (at-x-image δ₁-verdict (now x-image), tt))),
+                ),
+              ),
             ),
           ),
         )
@@ -646,8 +672,11 @@ module _ (Tally Cursor : Value) where
             tt,
             verdict-args δ₀-verdict δ₁-verdict,
             (
-              m-x-n ∷ [],
-              (m-x-free ∷ [], (s-x-map ∷ [], (m-v-count ∷ [], (m-v-sound ∷ [], (s-x-scratch ∷ [], (s-x-image ∷ [], tt)))))),
+              m-x-role ∷ [],
+              (
+                m-x-n ∷ [],
+                (m-x-free ∷ [], (s-x-map ∷ [], (m-v-count ∷ [], (m-v-sound ∷ [], (s-x-scratch ∷ [], (s-x-image ∷ [], tt)))))),
+              ),
             ),
           ),
           tt,
@@ -669,7 +698,8 @@ module _ (Tally Cursor : Value) where
             bring ! (3 ∷ 0 ∷ []) $ fjoin ! $ owned ! Boolean (Is Boolean) (bool-makes 𝓤 H A W) v-sound _ is-v-sound $
             fjoin ! $ owned ! usize (Is usize) (uint-makes 𝓤 H A W w64) v-count _ is-v-count $ fjoin ! $
             bring ! (2 ∷ 0 ∷ []) $ fjoin ! $ owned ! u32 (Is u32) (uint-makes 𝓤 H A W w32) x-free _ is-x-free $ fjoin ! $
-            owned ! u32 (Is u32) (uint-makes 𝓤 H A W w32) x-n _ is-x-n $ fjoin ! $ bring ! (1 ∷ 0 ∷ []) $ join ! $
+            owned ! u32 (Is u32) (uint-makes 𝓤 H A W w32) x-n _ is-x-n $ fjoin ! $
+            owned ! u32 (Is u32) (uint-makes 𝓤 H A W w32) x-role _ is-x-role $ fjoin ! $ bring ! (1 ∷ 0 ∷ []) $ join ! $
             frame ! $ done !
 
         -- ---- the caller has what `write-head` asks
@@ -780,13 +810,14 @@ module _ (Tally Cursor : Value) where
             ∷ ‵ (flft κ₂ q₂) ∷ ‵ (MutSlice (named 3) κ₃ u8 .own (at-x-image (x-image .name) z-write-rest-x-image)
             (s-x-image ∷ [])) ∷ ‵ (flft κ₃ q₃) ∷ []) ∵
             suffices ! _ (ends-at 𝓤 H A ended stayed (clauses 𝓤) W bound m-v-number v-number
-            (tt, (tt, (tt, (tt, (z-test-sound-x-scratch, (z-write-rest-x-image, tt))))))
-            (tt, (tt, (tt, (tt, (l-x-scratch, (l-x-image, tt))))))) $
-            says ! (law x-n x-free (now x-map) (now x-catalogue) (now x-scratch) (now x-image)) $ nothing ! $
+            (tt, (tt, (tt, (tt, (tt, (z-test-sound-x-scratch, (z-write-rest-x-image, tt)))))))
+            (tt, (tt, (tt, (tt, (tt, (l-x-scratch, (l-x-image, tt)))))))) $
+            says ! (law x-role x-n x-free (now x-map) (now x-catalogue) (now x-scratch) (now x-image)) $ nothing ! $
             bring ! (2 ∷ 3 ∷ 4 ∷ 5 ∷ 0 ∷ []) $ group ! 5 $ frame ! $ nothing ! $ bring ! (4 ∷ 0 ∷ []) $ fjoin ! $
             bring ! (3 ∷ 0 ∷ []) $ fjoin ! $ bring ! (2 ∷ 0 ∷ []) $ fjoin ! $ bring ! (1 ∷ 0 ∷ []) $ fjoin ! $
             owned ! u32 (Is u32) (uint-makes 𝓤 H A W w32) x-free _ is-x-free $ fjoin ! $
             owned ! u32 (Is u32) (uint-makes 𝓤 H A W w32) x-n _ is-x-n $ fjoin ! $
+            owned ! u32 (Is u32) (uint-makes 𝓤 H A W w32) x-role _ is-x-role $ fjoin ! $
             owned ! u32 (Is u32) (uint-makes 𝓤 H A W w32) v-number _ is $ bring ! (1 ∷ 0 ∷ []) $ done !
 
         -- ---- the walk
@@ -798,25 +829,26 @@ module _ (Tally Cursor : Value) where
             write-entries-x-image 𝓤 H A) → Triple 𝓤 (𝓣 .C #write-rest) (write-rest-contract write-rest-x-image 𝓤 H A)
             → ent 𝓤 (onEntry 𝓤 H A signature (κ₀, (κ₁, (κ₂, (κ₃, tt)))) (q₀, (q₁, (q₂, (q₃, tt)))) args vals)
             (WpFn 𝓤 H (𝓣 .C) (𝓣 .Λ) (function #count #begin #test-sound #verdict #write-head #write-entries #write-rest)
-            (m-x-n ∷ m-x-free ∷ s-x-map ∷ s-x-catalogue ∷ s-x-scratch ∷ s-x-image ∷ []) Post)
+            (m-x-role ∷ m-x-n ∷ m-x-free ∷ s-x-map ∷ s-x-catalogue ∷ s-x-scratch ∷ s-x-image ∷ []) Post)
         walk 𝓣 known-count known-begin known-test-sound known-verdict known-write-head known-write-entries known-write-rest =
             qed W ((‵ (flft κ₀ q₀) ⊛ ‵ (flft κ₁ q₁) ⊛ ‵ (flft κ₂ q₂) ⊛ ‵ (flft κ₃ q₃) ⊛ ‵ ftrue)
-            ∷ ‵ (owns (u32 ∷ u32 ∷ ShrSlice (named 0) κ₀ u64 ∷ ShrSlice (named 1) κ₁ Entry′.the-row ∷ MutSlice (named 2) κ₂ u64
-            ∷ MutSlice (named 3) κ₃ u8 ∷ []) args vals) ∷ []) ∵
+            ∷ ‵ (owns (u32 ∷ u32 ∷ u32 ∷ ShrSlice (named 0) κ₀ u64 ∷ ShrSlice (named 1) κ₁ Entry′.the-row
+            ∷ MutSlice (named 2) κ₂ u64 ∷ MutSlice (named 3) κ₃ u8 ∷ []) args vals) ∷ []) ∵
             enter ! (𝓣 .C) (𝓣 .Λ) (function #count #begin #test-sound #verdict #write-head #write-entries #write-rest)
-            (m-x-n ∷ m-x-free ∷ s-x-map ∷ s-x-catalogue ∷ s-x-scratch ∷ s-x-image ∷ []) _ $
+            (m-x-role ∷ m-x-n ∷ m-x-free ∷ s-x-map ∷ s-x-catalogue ∷ s-x-scratch ∷ s-x-image ∷ []) _ $
             alloc1 ! (λ l₀. alloc1 ! (λ l₁. alloc1 ! (λ l₂. alloc1 ! (λ l₃. alloc1 ! (λ l₄. alloc1 ! (λ l₅.
             alloc1 ! (λ l₆. alloc1 ! (λ l₇. alloc1 ! (λ l₈. alloc1 ! (λ l₉. alloc1 ! (λ l₁₀. alloc1 ! (λ l₁₁.
             alloc1 ! (λ l₁₂. alloc1 ! (λ l₁₃. alloc1 ! (λ l₁₄. alloc1 ! (λ l₁₅. alloc1 ! (λ l₁₆. alloc1 ! (λ l₁₇.
             alloc1 ! (λ l₁₈. alloc1 ! (λ l₁₉. alloc1 ! (λ l₂₀. alloc1 ! (λ l₂₁. alloc1 ! (λ l₂₂. alloc1 ! (λ l₂₃.
-            alloc1 ! (λ l₂₄. alloc1 ! (λ l₂₅. alloc1 ! (λ l₂₆. alloc1 ! (λ l₂₇. alloc0 ! $ params1 ! $
-            pass1 ! (init ! 52 refl typed-x-n) $ pass1 ! (init ! 50 refl typed-x-free) $
+            alloc1 ! (λ l₂₄. alloc1 ! (λ l₂₅. alloc1 ! (λ l₂₆. alloc1 ! (λ l₂₇. alloc1 ! (λ l₂₈. alloc0 ! $ params1 ! $
+            pass1 ! (init ! 54 refl typed-x-role) $ pass1 ! (init ! 52 refl typed-x-n) $
+            pass1 ! (init ! 50 refl typed-x-free) $
             pass1 ! (init ! 48 refl (tt, (tt, (record { fits = room-x-map .0 }, tt)))) $
             pass1 ! (init ! 46 refl (tt, (tt, (record { fits = room-x-catalogue .0 }, tt)))) $
             pass1 ! (init ! 44 refl (tt, (tt, (record { fits = room-x-scratch .0 }, tt)))) $
-            pass1 ! (init ! 42 refl (tt, (tt, (record { fits = room-x-image .0 }, tt)))) $ pass0 ! $ bring ! (56 ∷ []) $
-            parts W (_ ∷ _ ∷ _ ∷ _ ∷ []) _ $ bring ! (60 ∷ []) $ fparts W (_ ∷ _ ∷ _ ∷ _ ∷ _ ∷ _ ∷ []) _ $
-            discard ! (0 ∷ 0 ∷ []) $
+            pass1 ! (init ! 42 refl (tt, (tt, (record { fits = room-x-image .0 }, tt)))) $ pass0 ! $ bring ! (58 ∷ []) $
+            parts W (_ ∷ _ ∷ _ ∷ _ ∷ []) _ $ bring ! (62 ∷ []) $ fparts W (_ ∷ _ ∷ _ ∷ _ ∷ _ ∷ _ ∷ _ ∷ []) _ $
+            discard ! (0 ∷ 0 ∷ 0 ∷ []) $
             -- count
             bring ! (1 ∷ []) $
             use1 W (‵ (ShrSlice (named 1) κ₁ Entry′.the-row .own x-catalogue (s-x-catalogue ∷ []))
@@ -837,7 +869,7 @@ module _ (Tally Cursor : Value) where
             rewrite ! 0 (λ (r : ℕ). ‵ (usize .own r (w-count ∷ []))) (e-count) refl $
             peeks ! usize (Is usize) (shows 𝓤 H A usize) v-count (w-count ∷ []) (λ is-w-count.
             land ! (from ! (stop !)) (init ! 49 refl ((uint-lawful 𝓤 H A W w64 .typed) v-count _ is-w-count .0)) $
-            rewrite ! 49 (λ (u : Val). ‵ (fat fullShare (tyInt w64) l₇ 0 u)) (ap only ((uint-tells w64) v-count _ is-w-count))
+            rewrite ! 49 (λ (u : Val). ‵ (fat fullShare (tyInt w64) l₈ 0 u)) (ap only ((uint-tells w64) v-count _ is-w-count))
             refl $
             discard ! (0 ∷ []) $ parts W (_ ∷ []) _ $
             -- begin
@@ -858,23 +890,25 @@ module _ (Tally Cursor : Value) where
             use1 W (raw ((begin-contract begin-out 𝓤 H A) .pre (to-begin ν₀-begin δ₀-begin)))
             (goes-begin ν₀-begin δ₀-begin (spelled-v-count w-count is-w-count)) $
             calls-at ! (fmOf 𝓤 H (W .laws) 𝓣) (begin-contract begin-out 𝓤 H A) known-begin (to-begin ν₀-begin δ₀-begin)
-            (and-then ! (load ! (from ! (stop !)) (look ! 59 refl)) (and-then ! (load ! (from ! (stop !)) (look ! 57 refl))
-            (and-then ! (load ! (from ! (stop !)) (look ! 55 refl)) (and-then ! (load ! (from ! (stop !)) (look ! 47 refl))
-            (and-then ! (load ! (from ! (stop !)) (look ! 33 refl)) (no-more !)))))) (λ w-begin.
+            (and-then ! (load ! (from ! (stop !)) (look ! 61 refl)) (and-then ! (load ! (from ! (stop !)) (look ! 59 refl))
+            (and-then ! (load ! (from ! (stop !)) (look ! 57 refl)) (and-then ! (load ! (from ! (stop !)) (look ! 55 refl))
+            (and-then ! (load ! (from ! (stop !)) (look ! 47 refl)) (and-then ! (load ! (from ! (stop !)) (look ! 33 refl))
+            (no-more !))))))) (λ w-begin.
             use1 W (later (some (λ (r : (denotes Tally)). ((‵ (flft κ₀ q₀) ⊛ ‵ (flft (ν₀-begin ∷ []) fullShare) ⊛ ‵ ftrue)
             ⊛ ‵ ((rowOf Tally) .own r (w-begin ∷ []))) ⊛ raw (ensured 𝓤 H A begin-ended (begin-clauses begin-out 𝓤)
             (κ₀, (ν₀-begin ∷ [], tt)) (begin-args δ₀-begin) tt r)))) (id⊢ 𝓤 _) $
             await ! tt $ pick ! (λ r-begin. split ! $ bring ! (1 ∷ []) $
-            use1 W (some (λ (zs-begin : Unit {0} × (Unit {0} × (Unit {0} × (Unit {0} × (Unit {0} × Unit {0}))))). ‵
+            use1 W (some (λ (zs-begin : Unit {0} × (Unit {0} × (Unit {0} × (Unit {0} × (Unit {0} × (Unit {0} × Unit {0})))))). ‵
             (lasts begin-ended (κ₀, (ν₀-begin ∷ [], tt)) (begin-args δ₀-begin) zs-begin)
-            ⊛ raw (fact 𝓤 (begin-says begin-out x-n x-free (now x-map) v-count (now x-scratch) r-begin)))) (id⊢ 𝓤 _) $
+            ⊛ raw (fact 𝓤 (begin-says begin-out x-role x-n x-free (now x-map) v-count (now x-scratch) r-begin)))) (id⊢ 𝓤 _) $
             pick ! (λ zs-begin. split ! $ bring ! (1 ∷ []) $
-            heard ! (begin-says begin-out x-n x-free (now x-map) v-count (now x-scratch) r-begin) (λ e-begin.
-            fparts W (_ ∷ _ ∷ _ ∷ _ ∷ _ ∷ []) _ $ discard ! (0 ∷ 0 ∷ 0 ∷ 0 ∷ 0 ∷ []) $ split ! $ bring ! (1 ∷ []) $
+            heard ! (begin-says begin-out x-role x-n x-free (now x-map) v-count (now x-scratch) r-begin) (λ e-begin.
+            fparts W (_ ∷ _ ∷ _ ∷ _ ∷ _ ∷ _ ∷ []) _ $ discard ! (0 ∷ 0 ∷ 0 ∷ 0 ∷ 0 ∷ 0 ∷ []) $ split ! $
+            bring ! (1 ∷ []) $
             rewrite ! 0 (λ (r : (denotes Tally)). ‵ ((rowOf Tally) .own r (w-begin ∷ []))) (e-begin) refl $
             peeks ! (rowOf Tally) (Is (rowOf Tally)) (shows 𝓤 H A (rowOf Tally)) v-start (w-begin ∷ []) (λ is-w-begin.
             land ! (from ! (stop !)) (init ! 46 refl ((Tally .typed 𝓤 H A W) v-start _ is-w-begin .0)) $
-            rewrite ! 46 (λ (u : Val). ‵ (fat fullShare (mirOf Tally) l₈ 0 u)) (ap only ((Tally .tells) v-start _ is-w-begin))
+            rewrite ! 46 (λ (u : Val). ‵ (fat fullShare (mirOf Tally) l₉ 0 u)) (ap only ((Tally .tells) v-start _ is-w-begin))
             refl $
             discard ! (0 ∷ []) $ parts W (_ ∷ _ ∷ []) _ $ bring ! (1 ∷ []) $ lft-end ! tt $ bring ! (0 ∷ 1 ∷ []) $
             use2 W (later (‵ (MutSlice (named 2) κ₂ u64 .own (at-x-scratch (x-scratch .name) (now x-scratch))
@@ -927,7 +961,7 @@ module _ (Tally Cursor : Value) where
             rewrite ! 2 (λ (l : List ℕ). ‵ (finally u64 δ₀-test-sound l)) (e-test-sound .1) refl $
             peeks ! Boolean (Is Boolean) (shows 𝓤 H A Boolean) v-sound (w-test-sound ∷ []) (λ is-w-test-sound.
             land ! (from ! (stop !)) (init ! 44 refl ((bool-lawful 𝓤 H A W .typed) v-sound _ is-w-test-sound .0)) $
-            rewrite ! 44 (λ (u : Val). ‵ (fat fullShare tyBool l₉ 0 u)) (ap only (bool-tells v-sound _ is-w-test-sound)) refl $
+            rewrite ! 44 (λ (u : Val). ‵ (fat fullShare tyBool l₁₀ 0 u)) (ap only (bool-tells v-sound _ is-w-test-sound)) refl $
             discard ! (0 ∷ []) $ parts W (_ ∷ _ ∷ _ ∷ []) _ $ bring ! (2 ∷ []) $ lft-end ! tt $
             bring ! (0 ∷ 3 ∷ 2 ∷ []) $
             use3 W (later (‵ (MutSlice (named 2) κ₂ u64 .own (at-x-scratch (x-scratch .name) z-test-sound-x-scratch)
@@ -967,29 +1001,29 @@ module _ (Tally Cursor : Value) where
             (goes-verdict ν₀-verdict ν₁-verdict δ₀-verdict δ₁-verdict (spelled-v-count w-count is-w-count)
             (spelled-v-sound w-test-sound is-w-test-sound)) $
             calls-at ! (fmOf 𝓤 H (W .laws) 𝓣) (verdict-contract verdict-out 𝓤 H A) known-verdict
-            (to-verdict ν₀-verdict ν₁-verdict δ₀-verdict δ₁-verdict) (and-then ! (load ! (from ! (stop !)) (look ! 58 refl))
-            (and-then ! (load ! (from ! (stop !)) (look ! 56 refl)) (and-then ! (load ! (from ! (stop !)) (look ! 54 refl))
-            (and-then ! (load ! (from ! (stop !)) (look ! 46 refl)) (and-then ! (load ! (from ! (stop !)) (look ! 42 refl))
-            (and-then ! (load ! (from ! (stop !)) (look ! 24 refl)) (and-then ! (load ! (from ! (stop !)) (look ! 20 refl))
-            (no-more !)))))))) (λ w-verdict.
+            (to-verdict ν₀-verdict ν₁-verdict δ₀-verdict δ₁-verdict) (and-then ! (load ! (from ! (stop !)) (look ! 60 refl))
+            (and-then ! (load ! (from ! (stop !)) (look ! 58 refl)) (and-then ! (load ! (from ! (stop !)) (look ! 56 refl))
+            (and-then ! (load ! (from ! (stop !)) (look ! 54 refl)) (and-then ! (load ! (from ! (stop !)) (look ! 46 refl))
+            (and-then ! (load ! (from ! (stop !)) (look ! 42 refl)) (and-then ! (load ! (from ! (stop !)) (look ! 24 refl))
+            (and-then ! (load ! (from ! (stop !)) (look ! 20 refl)) (no-more !))))))))) (λ w-verdict.
             use1 W (later (some (λ (r : ℕ). ((‵ (flft κ₀ q₀) ⊛ ‵ (flft (ν₀-verdict ∷ []) fullShare)
             ⊛ ‵ (flft (ν₁-verdict ∷ []) fullShare) ⊛ ‵ ftrue) ⊛ ‵ (u32 .own r (w-verdict ∷ [])))
             ⊛ raw (ensured 𝓤 H A verdict-ended (verdict-clauses verdict-out 𝓤) (κ₀, (ν₀-verdict ∷ [], (ν₁-verdict ∷ [], tt)))
             (verdict-args δ₀-verdict δ₁-verdict) tt r)))) (id⊢ 𝓤 _) $
             await ! tt $ pick ! (λ r-verdict. split ! $ bring ! (1 ∷ []) $
             use1 W (some (λ (zs-verdict : Unit {0} × (Unit {0} × (Unit {0} × (Unit {0}
-            × (Unit {0} × (Unit {0} × (Unit {0} × Unit {0}))))))). ‵ (lasts verdict-ended
+            × (Unit {0} × (Unit {0} × (Unit {0} × (Unit {0} × Unit {0})))))))). ‵ (lasts verdict-ended
             (κ₀, (ν₀-verdict ∷ [], (ν₁-verdict ∷ [], tt))) (verdict-args δ₀-verdict δ₁-verdict) zs-verdict)
-            ⊛ raw (fact 𝓤 (verdict-says verdict-out x-n x-free (now x-map) v-count v-sound z-test-sound-x-scratch (now x-image)
-            r-verdict)))) (id⊢ 𝓤 _) $
+            ⊛ raw (fact 𝓤 (verdict-says verdict-out x-role x-n x-free (now x-map) v-count v-sound z-test-sound-x-scratch
+            (now x-image) r-verdict)))) (id⊢ 𝓤 _) $
             pick ! (λ zs-verdict. split ! $ bring ! (1 ∷ []) $
-            heard ! (verdict-says verdict-out x-n x-free (now x-map) v-count v-sound z-test-sound-x-scratch (now x-image)
+            heard ! (verdict-says verdict-out x-role x-n x-free (now x-map) v-count v-sound z-test-sound-x-scratch (now x-image)
             r-verdict) (λ e-verdict.
-            fparts W (_ ∷ _ ∷ _ ∷ _ ∷ _ ∷ _ ∷ _ ∷ []) _ $ discard ! (0 ∷ 0 ∷ 0 ∷ 0 ∷ 0 ∷ 0 ∷ 0 ∷ []) $ split ! $
+            fparts W (_ ∷ _ ∷ _ ∷ _ ∷ _ ∷ _ ∷ _ ∷ _ ∷ []) _ $ discard ! (0 ∷ 0 ∷ 0 ∷ 0 ∷ 0 ∷ 0 ∷ 0 ∷ 0 ∷ []) $ split ! $
             bring ! (1 ∷ []) $ rewrite ! 0 (λ (r : ℕ). ‵ (u32 .own r (w-verdict ∷ []))) (e-verdict) refl $
             peeks ! u32 (Is u32) (shows 𝓤 H A u32) v-number (w-verdict ∷ []) (λ is-w-verdict.
             land ! (from ! (stop !)) (init ! 41 refl ((uint-lawful 𝓤 H A W w32 .typed) v-number _ is-w-verdict .0)) $
-            rewrite ! 41 (λ (u : Val). ‵ (fat fullShare (tyInt w32) l₁₀ 0 u)) (ap only
+            rewrite ! 41 (λ (u : Val). ‵ (fat fullShare (tyInt w32) l₁₁ 0 u)) (ap only
             ((uint-tells w32) v-number _ is-w-verdict)) refl $
             discard ! (0 ∷ []) $ parts W (_ ∷ _ ∷ _ ∷ []) _ $ bring ! (1 ∷ []) $ lft-end ! tt $ bring ! (0 ∷ 3 ∷ []) $
             use2 W (later (‵ (MutSlice (named 2) κ₂ u64 .own (at-x-scratch (x-scratch .name) z-test-sound-x-scratch)
@@ -1040,7 +1074,7 @@ module _ (Tally Cursor : Value) where
             peeks ! (rowOf Cursor) (Is (rowOf Cursor)) (shows 𝓤 H A (rowOf Cursor)) v-first (w-write-head ∷ [])
             (λ is-w-write-head.
             land ! (from ! (stop !)) (init ! 42 refl ((Cursor .typed 𝓤 H A W) v-first _ is-w-write-head .0)) $
-            rewrite ! 42 (λ (u : Val). ‵ (fat fullShare (mirOf Cursor) l₁₁ 0 u)) (ap only
+            rewrite ! 42 (λ (u : Val). ‵ (fat fullShare (mirOf Cursor) l₁₂ 0 u)) (ap only
             ((Cursor .tells) v-first _ is-w-write-head)) refl $
             discard ! (0 ∷ []) $ parts W (_ ∷ []) _ $ lft-end ! tt $ bring ! (0 ∷ 1 ∷ 0 ∷ []) $
             use3 W (later (‵ (MutSlice (named 3) κ₃ u8 .own (at-x-image (x-image .name) z-write-head-x-image) (s-x-image ∷ []))
@@ -1092,7 +1126,7 @@ module _ (Tally Cursor : Value) where
             peeks ! (rowOf Cursor) (Is (rowOf Cursor)) (shows 𝓤 H A (rowOf Cursor)) v-last (w-write-entries ∷ [])
             (λ is-w-write-entries.
             land ! (from ! (stop !)) (init ! 39 refl ((Cursor .typed 𝓤 H A W) v-last _ is-w-write-entries .0)) $
-            rewrite ! 39 (λ (u : Val). ‵ (fat fullShare (mirOf Cursor) l₁₂ 0 u)) (ap only
+            rewrite ! 39 (λ (u : Val). ‵ (fat fullShare (mirOf Cursor) l₁₃ 0 u)) (ap only
             ((Cursor .tells) v-last _ is-w-write-entries)) refl $
             discard ! (0 ∷ []) $ parts W (_ ∷ _ ∷ []) _ $ bring ! (1 ∷ []) $ lft-end ! tt $ bring ! (0 ∷ 2 ∷ 1 ∷ []) $
             use3 W (later (‵ (MutSlice (named 3) κ₃ u8 .own (at-x-image (x-image .name) z-write-entries-x-image)
@@ -1141,7 +1175,7 @@ module _ (Tally Cursor : Value) where
             rewrite ! 2 (λ (l : List ℕ). ‵ (finally u8 δ₀-write-rest l)) (e-write-rest) refl $
             peeks ! Nothing (Is Nothing) (shows 𝓤 H A Nothing) v-write-rest (w-write-rest ∷ []) (λ is-w-write-rest.
             land ! (from ! (stop !)) (init ! 13 refl ((nothing-lawful 𝓤 H A W .typed) v-write-rest _ is-w-write-rest .0)) $
-            rewrite ! 13 (λ (u : Val). ‵ (fat fullShare tyUnit l₂₅ 0 u)) (ap only (nothing-tells v-write-rest _
+            rewrite ! 13 (λ (u : Val). ‵ (fat fullShare tyUnit l₂₆ 0 u)) (ap only (nothing-tells v-write-rest _
             is-w-write-rest)) refl $
             discard ! (0 ∷ []) $ parts W (_ ∷ _ ∷ []) _ $ bring ! (1 ∷ []) $ lft-end ! tt $ bring ! (0 ∷ 2 ∷ 1 ∷ []) $
             use3 W (later (‵ (MutSlice (named 3) κ₃ u8 .own (at-x-image (x-image .name) z-write-rest-x-image) (s-x-image ∷ []))
@@ -1152,20 +1186,20 @@ module _ (Tally Cursor : Value) where
             ∙ h-write-rest-x-image)) $
             await ! tt $ split ! $
             assigns ! (of-opd ! (load ! (from ! (stop !)) (look ! 42 refl))) (from ! (stop !))
-            (init ! 62 refl ((uint-lawful 𝓤 H A W w32 .typed) v-number _ (spelled-v-number w-verdict is-w-verdict) .0)) $
-            returns ! (look ! 62 refl) $ leave ! 62 refl refl $ leave ! 60 refl refl $ leave ! 58 refl refl $
-            leave ! 56 refl refl $ leave ! 54 refl refl $ leave ! 52 refl refl $ leave ! 50 refl refl $
-            leave ! 48 refl refl $ leave ! 46 refl refl $ leave ! 44 refl refl $ leave ! 42 refl refl $
-            leave ! 40 refl refl $ leave ! 38 refl refl $ leave ! 36 refl refl $ leave ! 34 refl refl $
-            leave ! 32 refl refl $ leave ! 30 refl refl $ leave ! 28 refl refl $ leave ! 26 refl refl $
-            leave ! 24 refl refl $ leave ! 22 refl refl $ leave ! 20 refl refl $ leave ! 18 refl refl $
-            leave ! 16 refl refl $ leave ! 14 refl refl $ leave ! 12 refl refl $ leave ! 10 refl refl $
-            leave ! 8 refl refl $ free0 ! $ bring ! (3 ∷ 2 ∷ 3 ∷ 2 ∷ 2 ∷ 2 ∷ 0 ∷ 0 ∷ []) $
+            (init ! 64 refl ((uint-lawful 𝓤 H A W w32 .typed) v-number _ (spelled-v-number w-verdict is-w-verdict) .0)) $
+            returns ! (look ! 64 refl) $ leave ! 64 refl refl $ leave ! 62 refl refl $ leave ! 60 refl refl $
+            leave ! 58 refl refl $ leave ! 56 refl refl $ leave ! 54 refl refl $ leave ! 52 refl refl $
+            leave ! 50 refl refl $ leave ! 48 refl refl $ leave ! 46 refl refl $ leave ! 44 refl refl $
+            leave ! 42 refl refl $ leave ! 40 refl refl $ leave ! 38 refl refl $ leave ! 36 refl refl $
+            leave ! 34 refl refl $ leave ! 32 refl refl $ leave ! 30 refl refl $ leave ! 28 refl refl $
+            leave ! 26 refl refl $ leave ! 24 refl refl $ leave ! 22 refl refl $ leave ! 20 refl refl $
+            leave ! 18 refl refl $ leave ! 16 refl refl $ leave ! 14 refl refl $ leave ! 12 refl refl $
+            leave ! 10 refl refl $ leave ! 8 refl refl $ free0 ! $ bring ! (3 ∷ 2 ∷ 3 ∷ 2 ∷ 2 ∷ 2 ∷ 0 ∷ 0 ∷ []) $
             by ! (exits (spelled-v-number w-verdict is-w-verdict) (ap {B = ℕ} length (sym (e-test-sound .1))
             ∙ h-test-sound-x-scratch) ((ap {B = ℕ} length (sym (e-write-rest)) ∙ h-write-rest-x-image)
             ∙ ((ap {B = ℕ} length (sym (e-write-entries .1)) ∙ h-write-entries-x-image)
             ∙ (ap {B = ℕ} length (sym (e-write-head .1)) ∙
-            h-write-head-x-image)))))))))))))))))))))))))))))))))))))))))))))))))))))))))))))))))))))))))))))))))))))
+            h-write-head-x-image))))))))))))))))))))))))))))))))))))))))))))))))))))))))))))))))))))))))))))))))))))))
 
       module _ {M : Type 1} (𝓤 : URA M) (H : Heap 𝓤) (A : Atoms 𝓤) (W : Given 𝓤 H A) where
         walks : (𝓣 : Tables 𝓤 H) → Triple 𝓤 (𝓣 .C #count) (count-contract count-out 𝓤 H A)
@@ -1178,26 +1212,31 @@ module _ (Tally Cursor : Value) where
             #write-entries #write-rest)) (clauses 𝓤)
         walks 𝓣 known-count known-begin known-test-sound known-verdict known-write-head known-write-entries known-write-rest =
             walked 𝓤 H A ended stayed (clauses 𝓤) (WpFn 𝓤 H (𝓣 .C) (𝓣 .Λ) (function #count #begin #test-sound #verdict
-            #write-head #write-entries #write-rest)) (λ κs.
-            ((uint-vals w32), ((uint-vals w32), (slice-vals, (slice-vals, (slice-vals, (slice-vals, tt)))))))
+            #write-head #write-entries #write-rest)) (λ κs. (
+              (uint-vals w32),
+              ((uint-vals w32), ((uint-vals w32), (slice-vals, (slice-vals, (slice-vals, (slice-vals, tt)))))),
+            ))
             (λ κs. (
               (uint-tells w32),
               (
                 (uint-tells w32),
                 (
-                  shr-slice-tells (named 0) (κs .0) u64,
+                  (uint-tells w32),
                   (
-                    shr-slice-tells (named 1) (κs .1 .0) Entry′.the-row,
-                    (mut-slice-tells (named 2) (κs .1 .1 .0) u64, (mut-slice-tells (named 3) (κs .1 .1 .1 .0) u8, tt)),
+                    shr-slice-tells (named 0) (κs .0) u64,
+                    (
+                      shr-slice-tells (named 1) (κs .1 .0) Entry′.the-row,
+                      (mut-slice-tells (named 2) (κs .1 .1 .0) u64, (mut-slice-tells (named 3) (κs .1 .1 .1 .0) u8, tt)),
+                    ),
                   ),
                 ),
               ),
             ))
             (λ κs qs bounds a g are. via 𝓤 _ (fst∗ 𝓤 _ (emp 𝓤)) (walk 𝓤 H A W (κs .0) (κs .1 .0) (κs .1 .1 .0) (κs .1 .1 .1 .0)
             (qs .0) (qs .1 .0) (qs .1 .1 .0) (qs .1 .1 .1 .0) (a .0) (a .1 .0) (a .1 .1 .0) (a .1 .1 .1 .0) (a .1 .1 .1 .1 .0)
-            (a .1 .1 .1 .1 .1 .0) (are .0) (are .1 .0) (are .1 .1 .0 .0 .1) (are .1 .1 .1 .0 .0 .1) (are .1 .1 .1 .1 .0 .0 .1)
-            (are .1 .1 .1 .1 .1 .0 .0 .1) 𝓣 known-count known-begin known-test-sound known-verdict known-write-head
-            known-write-entries known-write-rest))
+            (a .1 .1 .1 .1 .1 .0) (a .1 .1 .1 .1 .1 .1 .0) (are .0) (are .1 .0) (are .1 .1 .0) (are .1 .1 .1 .0 .0 .1)
+            (are .1 .1 .1 .1 .0 .0 .1) (are .1 .1 .1 .1 .1 .0 .0 .1) (are .1 .1 .1 .1 .1 .1 .0 .0 .1) 𝓣 known-count known-begin
+            known-test-sound known-verdict known-write-head known-write-entries known-write-rest))
 
         pub meets : (𝓣 : Tables 𝓤 H) → Triple 𝓤 (𝓣 .C #count) (count-contract count-out 𝓤 H A)
             → Triple 𝓤 (𝓣 .C #begin) (begin-contract begin-out 𝓤 H A) → Triple 𝓤 (𝓣 .C #test-sound)
@@ -1213,10 +1252,13 @@ module _ (Tally Cursor : Value) where
               (
                 goes-none 𝓤 H A W 4 (λ _. u32) yes (λ κs x f. refl),
                 (
-                  goes-none-slice 𝓤 H A W 4 (0 ∷ []) tt (plain (λ _. u64)) yes,
+                  goes-none 𝓤 H A W 4 (λ _. u32) yes (λ κs x f. refl),
                   (
-                    goes-none-slice 𝓤 H A W 4 (1 ∷ []) tt (plain (λ _. Entry′.the-row)) yes,
-                    (goes-slice 𝓤 H A W 4 2 tt (plain (λ _. u64)), (goes-slice 𝓤 H A W 4 3 tt (plain (λ _. u8)), tt)),
+                    goes-none-slice 𝓤 H A W 4 (0 ∷ []) tt (plain (λ _. u64)) yes,
+                    (
+                      goes-none-slice 𝓤 H A W 4 (1 ∷ []) tt (plain (λ _. Entry′.the-row)) yes,
+                      (goes-slice 𝓤 H A W 4 2 tt (plain (λ _. u64)), (goes-slice 𝓤 H A W 4 3 tt (plain (λ _. u8)), tt)),
+                    ),
                   ),
                 ),
               ),

@@ -1,6 +1,7 @@
--- Written by tools/walks: every function (self: Shape, blocks: u32, map: &mut [u64], catalogue: &mut [Entry]) whose code is
+-- Written by tools/walks: every function (self: Shape, role: u32, blocks: u32, map: &mut [u64], catalogue: &mut [Entry]) whose
+-- code is
 --     let count: usize = count(&*catalogue);
---     let out: Outcome = core(self, blocks, map, count);
+--     let out: Outcome = core(self, role, blocks, map, count);
 --     let accepted: bool = is_done(out);
 --     clear_if(catalogue, accepted);
 --     out
@@ -60,20 +61,23 @@ module _ (Shape Outcome : Value) where
   signature = record {
     lifetimes = 2;
     outlives = [];
-    params = plain (λ _. (rowOf Shape)) ∷ plain (λ _. u32) ∷ mutSlice 0 tt (λ _. u64) ∷ mutSlice 1 tt (λ _. Entry′.the-row)
-        ∷ [];
+    params = plain (λ _. (rowOf Shape)) ∷ plain (λ _. u32) ∷ plain (λ _. u32) ∷ mutSlice 0 tt (λ _. u64)
+        ∷ mutSlice 1 tt (λ _. Entry′.the-row) ∷ [];
     result = plain (λ _. (rowOf Outcome));
   }
 
   abbrev ended : Ended
-  ended = record { signature = signature; kept = (yes, (yes, (yes, (yes, tt)))) }
+  ended = record { signature = signature; kept = (yes, (yes, (yes, (yes, (yes, tt))))) }
 
   abbrev stayed : Stays (ended .signature .params) (ended .kept)
   stayed = (
     stay-none (λ _. (rowOf Shape)) yes,
     (
       stay-none (λ _. u32) yes,
-      (stay-slice (0 ∷ []) tt (plain (λ _. u64)), (stay-slice (1 ∷ []) tt (plain (λ _. Entry′.the-row)), tt)),
+      (
+        stay-none (λ _. u32) yes,
+        (stay-slice (0 ∷ []) tt (plain (λ _. u64)), (stay-slice (1 ∷ []) tt (plain (λ _. Entry′.the-row)), tt)),
+      ),
     ),
   )
 
@@ -82,26 +86,27 @@ module _ (Shape Outcome : Value) where
   function #count #core #is-done #clear-if = record {
     lifetimes = 2;
     outlives = [];
-    params = 4;
+    params = 5;
     locals = local (mirOf Outcome) valueLocal ∷ local (mirOf Shape) valueLocal ∷ local (tyInt w32) valueLocal
-        ∷ local (sliceTy (tyRef (named 0) mut (tyInt w64))) valueLocal ∷ local (sliceTy
-        (tyRef (named 1) mut (pointee (Entry′.the-row .written)))) valueLocal ∷ local (tyInt w64) valueLocal
+        ∷ local (tyInt w32) valueLocal ∷ local (sliceTy (tyRef (named 0) mut (tyInt w64))) valueLocal
+        ∷ local (sliceTy (tyRef (named 1) mut (pointee (Entry′.the-row .written)))) valueLocal ∷ local (tyInt w64) valueLocal
         ∷ local (mirOf Outcome) valueLocal ∷ local tyBool valueLocal ∷ local (tyRef erased imm
         (pointee (Entry′.the-row .written))) valueLocal ∷ local (sliceTy (tyRef erased imm (pointee (Entry′.the-row .written))))
         valueLocal ∷ local (tyRef erased mut (tyInt w64)) valueLocal ∷ local (sliceTy (tyRef erased mut (tyInt w64))) valueLocal
         ∷ local tyUnit valueLocal ∷ local (tyRef erased mut (pointee (Entry′.the-row .written))) valueLocal
         ∷ local (sliceTy (tyRef erased mut (pointee (Entry′.the-row .written)))) valueLocal ∷ [];
-    body = seq (assign (place 8 []) (addrOf (place 4 (field 0 ∷ deref Entry″.mir ∷ []))))
-        (seq (assign (place 9 []) (aggregate (copy (place 8 []) ∷ copy (place 4 (field 1 ∷ [])) ∷ [])))
-        (seq (call #count (copy (place 9 []) ∷ []) (place 5 []))
-        (seq (assign (place 10 []) (addrOf (place 3 (field 0 ∷ deref (tyInt w64) ∷ []))))
-        (seq (assign (place 11 []) (aggregate (copy (place 10 []) ∷ copy (place 3 (field 1 ∷ [])) ∷ [])))
-        (seq (call #core (copy (place 1 []) ∷ copy (place 2 []) ∷ copy (place 11 []) ∷ copy (place 5 []) ∷ []) (place 6 []))
-        (seq (call #is-done (copy (place 6 []) ∷ []) (place 7 []))
-        (seq (assign (place 13 []) (addrOf (place 4 (field 0 ∷ deref Entry″.mir ∷ []))))
-        (seq (assign (place 14 []) (aggregate (copy (place 13 []) ∷ copy (place 4 (field 1 ∷ [])) ∷ [])))
-        (seq (call #clear-if (copy (place 14 []) ∷ copy (place 7 []) ∷ []) (place 12 []))
-        (seq (assign (place 0 []) (rvOpd (copy (place 6 [])))) return))))))))));
+    body = seq (assign (place 9 []) (addrOf (place 5 (field 0 ∷ deref Entry″.mir ∷ []))))
+        (seq (assign (place 10 []) (aggregate (copy (place 9 []) ∷ copy (place 5 (field 1 ∷ [])) ∷ [])))
+        (seq (call #count (copy (place 10 []) ∷ []) (place 6 []))
+        (seq (assign (place 11 []) (addrOf (place 4 (field 0 ∷ deref (tyInt w64) ∷ []))))
+        (seq (assign (place 12 []) (aggregate (copy (place 11 []) ∷ copy (place 4 (field 1 ∷ [])) ∷ [])))
+        (seq (call #core (copy (place 1 []) ∷ copy (place 2 []) ∷ copy (place 3 []) ∷ copy (place 12 []) ∷ copy (place 6 [])
+        ∷ []) (place 7 []))
+        (seq (call #is-done (copy (place 7 []) ∷ []) (place 8 []))
+        (seq (assign (place 14 []) (addrOf (place 5 (field 0 ∷ deref Entry″.mir ∷ []))))
+        (seq (assign (place 15 []) (aggregate (copy (place 14 []) ∷ copy (place 5 (field 1 ∷ [])) ∷ [])))
+        (seq (call #clear-if (copy (place 15 []) ∷ copy (place 8 []) ∷ []) (place 13 []))
+        (seq (assign (place 0 []) (rvOpd (copy (place 7 [])))) return))))))))));
   }
 
   -- ---- what `count` is, and what it ensures
@@ -140,26 +145,28 @@ module _ (Shape Outcome : Value) where
   core-signature = record {
     lifetimes = 1;
     outlives = [];
-    params = plain (λ _. (rowOf Shape)) ∷ plain (λ _. u32) ∷ mutSlice 0 tt (λ _. u64) ∷ plain (λ _. usize) ∷ [];
+    params = plain (λ _. (rowOf Shape)) ∷ plain (λ _. u32) ∷ plain (λ _. u32) ∷ mutSlice 0 tt (λ _. u64) ∷ plain (λ _. usize)
+        ∷ [];
     result = plain (λ _. (rowOf Outcome));
   }
 
   abbrev core-ended : Ended
-  core-ended = record { signature = core-signature; kept = (yes, (yes, (yes, (yes, tt)))) }
+  core-ended = record { signature = core-signature; kept = (yes, (yes, (yes, (yes, (yes, tt))))) }
 
   abbrev core-Model : Type 0 → Type 0
-  core-Model X = (denotes Shape) → ℕ → List ℕ → ℕ → X
+  core-Model X = (denotes Shape) → ℕ → ℕ → List ℕ → ℕ → X
 
   module _ (core-out : core-Model (denotes Outcome)) (core-x-map : core-Model (List ℕ)) where
-    abbrev core-says : (denotes Shape) → ℕ → List ℕ → ℕ → (denotes Outcome) → List ℕ → Type 0
-    core-says a0 a1 a2 a3 r b2 = (r ≡ core-out a0 a1 a2 a3) × (b2 ≡ core-x-map a0 a1 a2 a3)
+    abbrev core-says : (denotes Shape) → ℕ → ℕ → List ℕ → ℕ → (denotes Outcome) → List ℕ → Type 0
+    core-says a0 a1 a2 a3 a4 r b3 = (r ≡ core-out a0 a1 a2 a3 a4) × (b3 ≡ core-x-map a0 a1 a2 a3 a4)
 
     module _ {M : Type 1} (𝓤 : URA M) where
       abbrev core-clauses : Clauses 𝓤 core-ended
       core-clauses κs a = record {
         ghost = Unit {0};
         requires = λ _. emp 𝓤;
-        ensures = λ _ r e. fact 𝓤 (core-says (a .0) (a .1 .0) (now (a .1 .1 .0)) (a .1 .1 .1 .0) r (now (e .1 .1 .0)));
+        ensures = λ _ r e. fact 𝓤 (core-says (a .0) (a .1 .0) (a .1 .1 .0) (now (a .1 .1 .1 .0)) (a .1 .1 .1 .1 .0) r
+            (now (e .1 .1 .1 .0)));
       }
 
       module _ (H : Heap 𝓤) (A : Atoms 𝓤) where
@@ -232,15 +239,15 @@ module _ (Shape Outcome : Value) where
       (core-x-map : core-Model (List ℕ)) (is-done-out : is-done-Model Bool) (clear-if-x-catalogue : clear-if-Model
       (List Entry)) where
     -- ---- what the chain gives, call by call
-    module _ (x-self : (denotes Shape)) (x-blocks : ℕ) (x-map : List ℕ) (x-catalogue : List Entry) where
+    module _ (x-self : (denotes Shape)) (x-role : ℕ) (x-blocks : ℕ) (x-map : List ℕ) (x-catalogue : List Entry) where
       abbrev v-count-of : ℕ
       v-count-of = count-out x-catalogue
 
       abbrev v-out-of : (denotes Outcome)
-      v-out-of = core-out x-self x-blocks x-map v-count-of
+      v-out-of = core-out x-self x-role x-blocks x-map v-count-of
 
       abbrev z-core-x-map-of : List ℕ
-      z-core-x-map-of = core-x-map x-self x-blocks x-map v-count-of
+      z-core-x-map-of = core-x-map x-self x-role x-blocks x-map v-count-of
 
       abbrev v-accepted-of : Bool
       v-accepted-of = is-done-out v-out-of
@@ -256,19 +263,26 @@ module _ (Shape Outcome : Value) where
       clauses κs a = record {
         ghost = Unit {0};
         requires = λ _. emp 𝓤;
-        ensures = λ _ r e. fact 𝓤 (Says (a .0) (a .1 .0) (now (a .1 .1 .0)) (now (a .1 .1 .1 .0)) r (now (e .1 .1 .0))
-            (now (e .1 .1 .1 .0)));
+        ensures = λ _ r e. fact 𝓤 (Says (a .0) (a .1 .0) (a .1 .1 .0) (now (a .1 .1 .1 .0)) (now (a .1 .1 .1 .1 .0)) r
+            (now (e .1 .1 .1 .0)) (now (e .1 .1 .1 .1 .0)));
       }
 
     module _ {M : Type 1} (𝓤 : URA M) (H : Heap 𝓤) (A : Atoms 𝓤) (W : Given 𝓤 H A) (κ₀ κ₁ : Lft) (q₀ q₁ : Share)
-        (x-self : (denotes Shape)) (x-blocks : ℕ) (x-map : RefT (List ℕ)) (x-catalogue : RefT (List Entry))
-        (is-x-self : Is (rowOf Shape) x-self ((valsOf Shape) x-self)) (is-x-blocks : Is u32 x-blocks ((uint-vals w32) x-blocks))
-        (room-x-map : Room u64 (length (now x-map))) (room-x-catalogue : Room Entry′.the-row (length (now x-catalogue))) where
+        (x-self : (denotes Shape)) (x-role : ℕ) (x-blocks : ℕ) (x-map : RefT (List ℕ)) (x-catalogue : RefT (List Entry))
+        (is-x-self : Is (rowOf Shape) x-self ((valsOf Shape) x-self)) (is-x-role : Is u32 x-role ((uint-vals w32) x-role))
+        (is-x-blocks : Is u32 x-blocks ((uint-vals w32) x-blocks)) (room-x-map : Room u64 (length (now x-map)))
+        (room-x-catalogue : Room Entry′.the-row (length (now x-catalogue))) where
       abbrev m-x-self : Val
       m-x-self = only ((valsOf Shape) x-self)
 
       typed-x-self : Holds (hasTy (mirOf Shape) m-x-self) × WT m-x-self
       typed-x-self = (Shape .typed 𝓤 H A W) x-self _ is-x-self .0
+
+      abbrev m-x-role : Val
+      m-x-role = only ((uint-vals w32) x-role)
+
+      typed-x-role : Holds (hasTy (tyInt w32) m-x-role) × WT m-x-role
+      typed-x-role = (uint-lawful 𝓤 H A W w32 .typed) x-role _ is-x-role .0
 
       abbrev m-x-blocks : Val
       m-x-blocks = only ((uint-vals w32) x-blocks)
@@ -288,11 +302,11 @@ module _ (Shape Outcome : Value) where
       abbrev at-x-catalogue : GName → List Entry → RefT (List Entry)
       at-x-catalogue δ l = record { ptr = x-catalogue .ptr; name = δ; now = l }
 
-      abbrev args : (denotes Shape) × (ℕ × (RefT (List ℕ) × (RefT (List Entry) × Unit {0})))
-      args = (x-self, (x-blocks, (x-map, (x-catalogue, tt))))
+      abbrev args : (denotes Shape) × (ℕ × (ℕ × (RefT (List ℕ) × (RefT (List Entry) × Unit {0}))))
+      args = (x-self, (x-role, (x-blocks, (x-map, (x-catalogue, tt)))))
 
-      abbrev vals : List Val × (List Val × (List Val × (List Val × Unit {0})))
-      vals = (m-x-self ∷ [], (m-x-blocks ∷ [], (s-x-map ∷ [], (s-x-catalogue ∷ [], tt))))
+      abbrev vals : List Val × (List Val × (List Val × (List Val × (List Val × Unit {0}))))
+      vals = (m-x-self ∷ [], (m-x-role ∷ [], (m-x-blocks ∷ [], (s-x-map ∷ [], (s-x-catalogue ∷ [], tt)))))
 
       abbrev bound : walkOf 𝓤 H A ended stayed (clauses 𝓤) .Ghost
       bound = (((κ₀, (κ₁, tt)), (q₀, (q₁, tt)), tt, args, vals), tt)
@@ -301,19 +315,19 @@ module _ (Shape Outcome : Value) where
       Post = walkOf 𝓤 H A ended stayed (clauses 𝓤) .post bound
 
       abbrev v-count : ℕ
-      v-count = v-count-of x-self x-blocks (now x-map) (now x-catalogue)
+      v-count = v-count-of x-self x-role x-blocks (now x-map) (now x-catalogue)
 
       abbrev v-out : (denotes Outcome)
-      v-out = v-out-of x-self x-blocks (now x-map) (now x-catalogue)
+      v-out = v-out-of x-self x-role x-blocks (now x-map) (now x-catalogue)
 
       abbrev z-core-x-map : List ℕ
-      z-core-x-map = z-core-x-map-of x-self x-blocks (now x-map) (now x-catalogue)
+      z-core-x-map = z-core-x-map-of x-self x-role x-blocks (now x-map) (now x-catalogue)
 
       abbrev v-accepted : Bool
-      v-accepted = v-accepted-of x-self x-blocks (now x-map) (now x-catalogue)
+      v-accepted = v-accepted-of x-self x-role x-blocks (now x-map) (now x-catalogue)
 
       abbrev z-clear-if-x-catalogue : List Entry
-      z-clear-if-x-catalogue = z-clear-if-x-catalogue-of x-self x-blocks (now x-map) (now x-catalogue)
+      z-clear-if-x-catalogue = z-clear-if-x-catalogue-of x-self x-role x-blocks (now x-map) (now x-catalogue)
 
       abbrev m-v-count : Val
       m-v-count = only ((uint-vals w64) v-count)
@@ -360,8 +374,8 @@ module _ (Shape Outcome : Value) where
           bring ! (1 ∷ 0 ∷ []) $ join ! $ frame ! $ done !
 
       -- ---- the caller has what `core` asks
-      abbrev core-args : (δ₀-core : GName) → (denotes Shape) × (ℕ × (RefT (List ℕ) × (ℕ × Unit {0})))
-      core-args δ₀-core = (x-self, (x-blocks, (at-x-map δ₀-core (now x-map), (v-count, tt))))
+      abbrev core-args : (δ₀-core : GName) → (denotes Shape) × (ℕ × (ℕ × (RefT (List ℕ) × (ℕ × Unit {0}))))
+      core-args δ₀-core = (x-self, (x-role, (x-blocks, (at-x-map δ₀-core (now x-map), (v-count, tt)))))
 
       abbrev to-core : (ν₀-core : ℕ) (δ₀-core : GName) → (core-contract core-out core-x-map 𝓤 H A) .Ghost
       to-core ν₀-core δ₀-core = (
@@ -370,7 +384,7 @@ module _ (Shape Outcome : Value) where
           (fullShare, tt),
           tt,
           core-args δ₀-core,
-          (m-x-self ∷ [], (m-x-blocks ∷ [], (s-x-map ∷ [], (m-v-count ∷ [], tt)))),
+          (m-x-self ∷ [], (m-x-role ∷ [], (m-x-blocks ∷ [], (s-x-map ∷ [], (m-v-count ∷ [], tt))))),
         ),
         tt,
       )
@@ -385,6 +399,7 @@ module _ (Shape Outcome : Value) where
           nothing ! $ bring ! (1 ∷ 0 ∷ []) $ group ! 2 $ nothing ! $
           owned ! usize (Is usize) (uint-makes 𝓤 H A W w64) v-count _ is-v-count $ fjoin ! $ bring ! (2 ∷ 0 ∷ []) $
           fjoin ! $ owned ! u32 (Is u32) (uint-makes 𝓤 H A W w32) x-blocks _ is-x-blocks $ fjoin ! $
+          owned ! u32 (Is u32) (uint-makes 𝓤 H A W w32) x-role _ is-x-role $ fjoin ! $
           owned ! (rowOf Shape) (Is (rowOf Shape)) (Shape .makes 𝓤 H A) x-self _ is-x-self $ fjoin ! $
           bring ! (1 ∷ 0 ∷ []) $ join ! $ frame ! $ done !
 
@@ -435,10 +450,11 @@ module _ (Shape Outcome : Value) where
           ∷ ‵ (MutSlice (named 1) κ₁ Entry′.the-row .own (at-x-catalogue (x-catalogue .name) z-clear-if-x-catalogue)
           (s-x-catalogue ∷ [])) ∷ ‵ (flft κ₁ q₁) ∷ []) ∵
           suffices ! _ (ends-at 𝓤 H A ended stayed (clauses 𝓤) W bound m-v-out v-out
-          (tt, (tt, (z-core-x-map, (z-clear-if-x-catalogue, tt)))) (tt, (tt, (l-x-map, (l-x-catalogue, tt))))) $
+          (tt, (tt, (tt, (z-core-x-map, (z-clear-if-x-catalogue, tt))))) (tt, (tt, (tt, (l-x-map, (l-x-catalogue, tt)))))) $
           says ! (refl, refl, refl) $ nothing ! $ bring ! (2 ∷ 3 ∷ 0 ∷ []) $ group ! 3 $ frame ! $ nothing ! $
           bring ! (2 ∷ 0 ∷ []) $ fjoin ! $ bring ! (1 ∷ 0 ∷ []) $ fjoin ! $
           owned ! u32 (Is u32) (uint-makes 𝓤 H A W w32) x-blocks _ is-x-blocks $ fjoin ! $
+          owned ! u32 (Is u32) (uint-makes 𝓤 H A W w32) x-role _ is-x-role $ fjoin ! $
           owned ! (rowOf Shape) (Is (rowOf Shape)) (Shape .makes 𝓤 H A) x-self _ is-x-self $ fjoin ! $
           owned ! (rowOf Outcome) (Is (rowOf Outcome)) (Outcome .makes 𝓤 H A) v-out _ is $ bring ! (1 ∷ 0 ∷ []) $
           done !
@@ -448,21 +464,22 @@ module _ (Shape Outcome : Value) where
           → Triple 𝓤 (𝓣 .C #core) (core-contract core-out core-x-map 𝓤 H A) → Triple 𝓤 (𝓣 .C #is-done)
           (is-done-contract is-done-out 𝓤 H A) → Triple 𝓤 (𝓣 .C #clear-if) (clear-if-contract clear-if-x-catalogue 𝓤 H A)
           → ent 𝓤 (onEntry 𝓤 H A signature (κ₀, (κ₁, tt)) (q₀, (q₁, tt)) args vals)
-          (WpFn 𝓤 H (𝓣 .C) (𝓣 .Λ) (function #count #core #is-done #clear-if) (m-x-self ∷ m-x-blocks ∷ s-x-map ∷ s-x-catalogue
-          ∷ []) Post)
+          (WpFn 𝓤 H (𝓣 .C) (𝓣 .Λ) (function #count #core #is-done #clear-if) (m-x-self ∷ m-x-role ∷ m-x-blocks ∷ s-x-map
+          ∷ s-x-catalogue ∷ []) Post)
       walk 𝓣 known-count known-core known-is-done known-clear-if =
-          qed W ((‵ (flft κ₀ q₀) ⊛ ‵ (flft κ₁ q₁) ⊛ ‵ ftrue) ∷ ‵ (owns ((rowOf Shape) ∷ u32 ∷ MutSlice (named 0) κ₀ u64
+          qed W ((‵ (flft κ₀ q₀) ⊛ ‵ (flft κ₁ q₁) ⊛ ‵ ftrue) ∷ ‵ (owns ((rowOf Shape) ∷ u32 ∷ u32 ∷ MutSlice (named 0) κ₀ u64
           ∷ MutSlice (named 1) κ₁ Entry′.the-row ∷ []) args vals) ∷ []) ∵
-          enter ! (𝓣 .C) (𝓣 .Λ) (function #count #core #is-done #clear-if) (m-x-self ∷ m-x-blocks ∷ s-x-map ∷ s-x-catalogue
-          ∷ []) _ $
+          enter ! (𝓣 .C) (𝓣 .Λ) (function #count #core #is-done #clear-if) (m-x-self ∷ m-x-role ∷ m-x-blocks ∷ s-x-map
+          ∷ s-x-catalogue ∷ []) _ $
           alloc1 ! (λ l₀. alloc1 ! (λ l₁. alloc1 ! (λ l₂. alloc1 ! (λ l₃. alloc1 ! (λ l₄. alloc1 ! (λ l₅.
           alloc1 ! (λ l₆. alloc1 ! (λ l₇. alloc1 ! (λ l₈. alloc1 ! (λ l₉. alloc1 ! (λ l₁₀. alloc1 ! (λ l₁₁.
-          alloc1 ! (λ l₁₂. alloc1 ! (λ l₁₃. alloc1 ! (λ l₁₄. alloc0 ! $ params1 ! $
-          pass1 ! (init ! 26 refl typed-x-self) $ pass1 ! (init ! 24 refl typed-x-blocks) $
+          alloc1 ! (λ l₁₂. alloc1 ! (λ l₁₃. alloc1 ! (λ l₁₄. alloc1 ! (λ l₁₅. alloc0 ! $ params1 ! $
+          pass1 ! (init ! 28 refl typed-x-self) $ pass1 ! (init ! 26 refl typed-x-role) $
+          pass1 ! (init ! 24 refl typed-x-blocks) $
           pass1 ! (init ! 22 refl (tt, (tt, (record { fits = room-x-map .0 }, tt)))) $
           pass1 ! (init ! 20 refl (tt, (tt, (record { fits = room-x-catalogue .0 }, tt)))) $ pass0 ! $
-          bring ! (30 ∷ []) $ parts W (_ ∷ _ ∷ []) _ $ bring ! (32 ∷ []) $ fparts W (_ ∷ _ ∷ _ ∷ _ ∷ []) _ $
-          discard ! (0 ∷ 0 ∷ []) $
+          bring ! (32 ∷ []) $ parts W (_ ∷ _ ∷ []) _ $ bring ! (34 ∷ []) $ fparts W (_ ∷ _ ∷ _ ∷ _ ∷ _ ∷ []) _ $
+          discard ! (0 ∷ 0 ∷ 0 ∷ []) $
           -- count
           assigns ! (addr ! (from ! (fld ! refl (hop ! (look-in ! 24 (sub ! 0 refl (whole !))) (stop !))))) (from ! (stop !))
           (init ! 16 refl (tt, tt)) $
@@ -491,7 +508,7 @@ module _ (Shape Outcome : Value) where
           rewrite ! 0 (λ (r : ℕ). ‵ (usize .own r (w-count ∷ []))) (e-count) refl $
           peeks ! usize (Is usize) (shows 𝓤 H A usize) v-count (w-count ∷ []) (λ is-w-count.
           land ! (from ! (stop !)) (init ! 23 refl ((uint-lawful 𝓤 H A W w64 .typed) v-count _ is-w-count .0)) $
-          rewrite ! 23 (λ (u : Val). ‵ (fat fullShare (tyInt w64) l₅ 0 u)) (ap only ((uint-tells w64) v-count _ is-w-count))
+          rewrite ! 23 (λ (u : Val). ‵ (fat fullShare (tyInt w64) l₆ 0 u)) (ap only ((uint-tells w64) v-count _ is-w-count))
           refl $
           discard ! (0 ∷ []) $ parts W (_ ∷ []) _ $ lft-end ! tt $
           use2 W (later (‵ (MutSlice (named 1) κ₁ Entry′.the-row .own (at-x-catalogue (x-catalogue .name) (now x-catalogue))
@@ -514,25 +531,26 @@ module _ (Shape Outcome : Value) where
           use1 W (raw ((core-contract core-out core-x-map 𝓤 H A) .pre (to-core ν₀-core δ₀-core)))
           (goes-core ν₀-core δ₀-core (spelled-v-count w-count is-w-count)) $
           calls-at ! (fmOf 𝓤 H (W .laws) 𝓣) (core-contract core-out core-x-map 𝓤 H A) known-core (to-core ν₀-core δ₀-core)
-          (and-then ! (load ! (from ! (stop !)) (look ! 30 refl)) (and-then ! (load ! (from ! (stop !)) (look ! 28 refl))
-          (and-then ! (load ! (from ! (stop !)) (look ! 10 refl)) (and-then ! (load ! (from ! (stop !)) (look ! 22 refl))
-          (no-more !))))) (λ w-core.
+          (and-then ! (load ! (from ! (stop !)) (look ! 32 refl)) (and-then ! (load ! (from ! (stop !)) (look ! 30 refl))
+          (and-then ! (load ! (from ! (stop !)) (look ! 28 refl)) (and-then ! (load ! (from ! (stop !)) (look ! 10 refl))
+          (and-then ! (load ! (from ! (stop !)) (look ! 22 refl)) (no-more !)))))) (λ w-core.
           use1 W (later (some (λ (r : (denotes Outcome)). ((‵ (flft (ν₀-core ∷ []) fullShare) ⊛ ‵ ftrue)
           ⊛ ‵ ((rowOf Outcome) .own r (w-core ∷ []))) ⊛ raw (ensured 𝓤 H A core-ended (core-clauses core-out core-x-map 𝓤)
           (ν₀-core ∷ [], tt) (core-args δ₀-core) tt r)))) (id⊢ 𝓤 _) $
           await ! tt $ pick ! (λ r-core. split ! $ bring ! (1 ∷ []) $
-          use1 W (some (λ (zs-core : Unit {0} × (Unit {0} × (List ℕ × (Unit {0} × Unit {0})))). ‵
+          use1 W (some (λ (zs-core : Unit {0} × (Unit {0} × (Unit {0} × (List ℕ × (Unit {0} × Unit {0}))))). ‵
           (lasts core-ended (ν₀-core ∷ [], tt) (core-args δ₀-core) zs-core) ⊛ raw (fact 𝓤
-          (core-says core-out core-x-map x-self x-blocks (now x-map) v-count r-core (zs-core .1 .1 .0))))) (id⊢ 𝓤 _) $
+          (core-says core-out core-x-map x-self x-role x-blocks (now x-map) v-count r-core (zs-core .1 .1 .1 .0))))) (id⊢ 𝓤 _) $
           pick ! (λ zs-core. split ! $ bring ! (1 ∷ []) $
-          heard ! (core-says core-out core-x-map x-self x-blocks (now x-map) v-count r-core (zs-core .1 .1 .0)) (λ e-core.
-          fparts W (_ ∷ _ ∷ _ ∷ _ ∷ []) _ $ discard ! (0 ∷ 0 ∷ 1 ∷ []) $ fsplit ! $ bring ! (1 ∷ []) $
+          heard ! (core-says core-out core-x-map x-self x-role x-blocks (now x-map) v-count r-core (zs-core .1 .1 .1 .0))
+          (λ e-core.
+          fparts W (_ ∷ _ ∷ _ ∷ _ ∷ _ ∷ []) _ $ discard ! (0 ∷ 0 ∷ 0 ∷ 1 ∷ []) $ fsplit ! $ bring ! (1 ∷ []) $
           feqL ! (λ h-core-x-map. bring ! (1 ∷ []) $ split ! $ bring ! (1 ∷ []) $
           rewrite ! 0 (λ (r : (denotes Outcome)). ‵ ((rowOf Outcome) .own r (w-core ∷ []))) (e-core .0) refl $
           rewrite ! 2 (λ (l : List ℕ). ‵ (finally u64 δ₀-core l)) (e-core .1) refl $
           peeks ! (rowOf Outcome) (Is (rowOf Outcome)) (shows 𝓤 H A (rowOf Outcome)) v-out (w-core ∷ []) (λ is-w-core.
           land ! (from ! (stop !)) (init ! 22 refl ((Outcome .typed 𝓤 H A W) v-out _ is-w-core .0)) $
-          rewrite ! 22 (λ (u : Val). ‵ (fat fullShare (mirOf Outcome) l₆ 0 u)) (ap only ((Outcome .tells) v-out _ is-w-core))
+          rewrite ! 22 (λ (u : Val). ‵ (fat fullShare (mirOf Outcome) l₇ 0 u)) (ap only ((Outcome .tells) v-out _ is-w-core))
           refl $
           discard ! (0 ∷ []) $ parts W (_ ∷ []) _ $ lft-end ! tt $ bring ! (0 ∷ 1 ∷ 0 ∷ []) $
           use3 W (later (‵ (MutSlice (named 0) κ₀ u64 .own (at-x-map (x-map .name) z-core-x-map) (s-x-map ∷ []))
@@ -556,7 +574,7 @@ module _ (Shape Outcome : Value) where
           rewrite ! 0 (λ (r : Bool). ‵ (Boolean .own r (w-is-done ∷ []))) (e-is-done) refl $
           peeks ! Boolean (Is Boolean) (shows 𝓤 H A Boolean) v-accepted (w-is-done ∷ []) (λ is-w-is-done.
           land ! (from ! (stop !)) (init ! 20 refl ((bool-lawful 𝓤 H A W .typed) v-accepted _ is-w-is-done .0)) $
-          rewrite ! 20 (λ (u : Val). ‵ (fat fullShare tyBool l₇ 0 u)) (ap only (bool-tells v-accepted _ is-w-is-done)) refl $
+          rewrite ! 20 (λ (u : Val). ‵ (fat fullShare tyBool l₈ 0 u)) (ap only (bool-tells v-accepted _ is-w-is-done)) refl $
           discard ! (0 ∷ []) $ parts W ([]) _ $
           -- clear-if
           assigns ! (addr ! (from ! (fld ! refl (hop ! (look-in ! 24 (sub ! 0 refl (whole !))) (stop !))))) (from ! (stop !))
@@ -590,7 +608,7 @@ module _ (Shape Outcome : Value) where
           rewrite ! 2 (λ (l : List Entry). ‵ (finally Entry′.the-row δ₀-clear-if l)) (e-clear-if) refl $
           peeks ! Nothing (Is Nothing) (shows 𝓤 H A Nothing) v-clear-if (w-clear-if ∷ []) (λ is-w-clear-if.
           land ! (from ! (stop !)) (init ! 10 refl ((nothing-lawful 𝓤 H A W .typed) v-clear-if _ is-w-clear-if .0)) $
-          rewrite ! 10 (λ (u : Val). ‵ (fat fullShare tyUnit l₁₂ 0 u)) (ap only (nothing-tells v-clear-if _ is-w-clear-if)) refl
+          rewrite ! 10 (λ (u : Val). ‵ (fat fullShare tyUnit l₁₃ 0 u)) (ap only (nothing-tells v-clear-if _ is-w-clear-if)) refl
           $
           discard ! (0 ∷ []) $ parts W (_ ∷ []) _ $ lft-end ! tt $ bring ! (0 ∷ 1 ∷ 0 ∷ []) $
           use3 W (later (‵ (MutSlice (named 1) κ₁ Entry′.the-row .own (at-x-catalogue (x-catalogue .name)
@@ -600,14 +618,14 @@ module _ (Shape Outcome : Value) where
           (ap {B = ℕ} length (sym (e-clear-if)) ∙ h-clear-if-x-catalogue)) $
           await ! tt $ split ! $
           assigns ! (of-opd ! (load ! (from ! (stop !)) (look ! 20 refl))) (from ! (stop !))
-          (init ! 32 refl ((Outcome .typed 𝓤 H A W) v-out _ (spelled-v-out w-core is-w-core) .0)) $
-          returns ! (look ! 32 refl) $ leave ! 32 refl refl $ leave ! 30 refl refl $ leave ! 28 refl refl $
-          leave ! 26 refl refl $ leave ! 24 refl refl $ leave ! 22 refl refl $ leave ! 20 refl refl $
-          leave ! 18 refl refl $ leave ! 16 refl refl $ leave ! 14 refl refl $ leave ! 12 refl refl $
-          leave ! 10 refl refl $ leave ! 8 refl refl $ leave ! 6 refl refl $ leave ! 4 refl refl $ free0 ! $
-          bring ! (2 ∷ 2 ∷ 0 ∷ 0 ∷ []) $
+          (init ! 34 refl ((Outcome .typed 𝓤 H A W) v-out _ (spelled-v-out w-core is-w-core) .0)) $
+          returns ! (look ! 34 refl) $ leave ! 34 refl refl $ leave ! 32 refl refl $ leave ! 30 refl refl $
+          leave ! 28 refl refl $ leave ! 26 refl refl $ leave ! 24 refl refl $ leave ! 22 refl refl $
+          leave ! 20 refl refl $ leave ! 18 refl refl $ leave ! 16 refl refl $ leave ! 14 refl refl $
+          leave ! 12 refl refl $ leave ! 10 refl refl $ leave ! 8 refl refl $ leave ! 6 refl refl $
+          leave ! 4 refl refl $ free0 ! $ bring ! (2 ∷ 2 ∷ 0 ∷ 0 ∷ []) $
           by ! (exits (spelled-v-out w-core is-w-core) (ap {B = ℕ} length (sym (e-core .1)) ∙ h-core-x-map)
-          (ap {B = ℕ} length (sym (e-clear-if)) ∙ h-clear-if-x-catalogue)))))))))))))))))))))))))))))))))))))))))))))
+          (ap {B = ℕ} length (sym (e-clear-if)) ∙ h-clear-if-x-catalogue))))))))))))))))))))))))))))))))))))))))))))))
 
     module _ {M : Type 1} (𝓤 : URA M) (H : Heap 𝓤) (A : Atoms 𝓤) (W : Given 𝓤 H A) where
       walks : (𝓣 : Tables 𝓤 H) → Triple 𝓤 (𝓣 .C #count) (count-contract count-out 𝓤 H A)
@@ -616,17 +634,20 @@ module _ (Shape Outcome : Value) where
           → Walks 𝓤 H A ended stayed (WpFn 𝓤 H (𝓣 .C) (𝓣 .Λ) (function #count #core #is-done #clear-if)) (clauses 𝓤)
       walks 𝓣 known-count known-core known-is-done known-clear-if =
           walked 𝓤 H A ended stayed (clauses 𝓤) (WpFn 𝓤 H (𝓣 .C) (𝓣 .Λ) (function #count #core #is-done #clear-if))
-          (λ κs. ((valsOf Shape), ((uint-vals w32), (slice-vals, (slice-vals, tt)))))
+          (λ κs. ((valsOf Shape), ((uint-vals w32), ((uint-vals w32), (slice-vals, (slice-vals, tt))))))
           (λ κs. (
             (Shape .tells),
             (
               (uint-tells w32),
-              (mut-slice-tells (named 0) (κs .0) u64, (mut-slice-tells (named 1) (κs .1 .0) Entry′.the-row, tt)),
+              (
+                (uint-tells w32),
+                (mut-slice-tells (named 0) (κs .0) u64, (mut-slice-tells (named 1) (κs .1 .0) Entry′.the-row, tt)),
+              ),
             ),
           ))
           (λ κs qs bounds a g are. via 𝓤 _ (fst∗ 𝓤 _ (emp 𝓤)) (walk 𝓤 H A W (κs .0) (κs .1 .0) (qs .0) (qs .1 .0) (a .0)
-          (a .1 .0) (a .1 .1 .0) (a .1 .1 .1 .0) (are .0) (are .1 .0) (are .1 .1 .0 .0 .1) (are .1 .1 .1 .0 .0 .1) 𝓣 known-count
-          known-core known-is-done known-clear-if))
+          (a .1 .0) (a .1 .1 .0) (a .1 .1 .1 .0) (a .1 .1 .1 .1 .0) (are .0) (are .1 .0) (are .1 .1 .0) (are .1 .1 .1 .0 .0 .1)
+          (are .1 .1 .1 .1 .0 .0 .1) 𝓣 known-count known-core known-is-done known-clear-if))
 
       pub meets : (𝓣 : Tables 𝓤 H) → Triple 𝓤 (𝓣 .C #count) (count-contract count-out 𝓤 H A)
           → Triple 𝓤 (𝓣 .C #core) (core-contract core-out core-x-map 𝓤 H A) → Triple 𝓤 (𝓣 .C #is-done)
@@ -638,7 +659,10 @@ module _ (Shape Outcome : Value) where
             goes-none 𝓤 H A W 2 (λ _. (rowOf Shape)) yes (λ κs x f. refl),
             (
               goes-none 𝓤 H A W 2 (λ _. u32) yes (λ κs x f. refl),
-              (goes-slice 𝓤 H A W 2 0 tt (plain (λ _. u64)), (goes-slice 𝓤 H A W 2 1 tt (plain (λ _. Entry′.the-row)), tt)),
+              (
+                goes-none 𝓤 H A W 2 (λ _. u32) yes (λ κs x f. refl),
+                (goes-slice 𝓤 H A W 2 0 tt (plain (λ _. u64)), (goes-slice 𝓤 H A W 2 1 tt (plain (λ _. Entry′.the-row)), tt)),
+              ),
             ),
           )
           (clauses 𝓤) (WpFn 𝓤 H (𝓣 .C) (𝓣 .Λ) (function #count #core #is-done #clear-if))

@@ -1,7 +1,7 @@
--- Written by tools/walks: every function (self: Shape, map: &mut [u64], summary: &mut [u32], catalogue: &mut [Entry], sheet:
--- u32) whose code is
+-- Written by tools/walks: every function (self: Shape, role: u32, map: &mut [u64], summary: &mut [u32], catalogue: &mut
+-- [Entry], sheet: u32) whose code is
 --     let slot: Slot = find(&*catalogue, sheet);
---     let out: Out = core(self, map, summary, slot, sheet);
+--     let out: Out = core(self, role, map, summary, slot, sheet);
 --     let entry: Entry = entry_of(out);
 --     store(catalogue, sheet, entry);
 --     outcome_of(self, out)
@@ -60,22 +60,25 @@ module _ (Slot Out Shape Outcome : Value) where
   signature = record {
     lifetimes = 3;
     outlives = [];
-    params = plain (λ _. (rowOf Shape)) ∷ mutSlice 0 tt (λ _. u64) ∷ mutSlice 1 tt (λ _. u32)
+    params = plain (λ _. (rowOf Shape)) ∷ plain (λ _. u32) ∷ mutSlice 0 tt (λ _. u64) ∷ mutSlice 1 tt (λ _. u32)
         ∷ mutSlice 2 tt (λ _. Entry′.the-row) ∷ plain (λ _. u32) ∷ [];
     result = plain (λ _. (rowOf Outcome));
   }
 
   abbrev ended : Ended
-  ended = record { signature = signature; kept = (yes, (yes, (yes, (yes, (yes, tt))))) }
+  ended = record { signature = signature; kept = (yes, (yes, (yes, (yes, (yes, (yes, tt)))))) }
 
   abbrev stayed : Stays (ended .signature .params) (ended .kept)
   stayed = (
     stay-none (λ _. (rowOf Shape)) yes,
     (
-      stay-slice (0 ∷ []) tt (plain (λ _. u64)),
+      stay-none (λ _. u32) yes,
       (
-        stay-slice (1 ∷ []) tt (plain (λ _. u32)),
-        (stay-slice (2 ∷ []) tt (plain (λ _. Entry′.the-row)), (stay-none (λ _. u32) yes, tt)),
+        stay-slice (0 ∷ []) tt (plain (λ _. u64)),
+        (
+          stay-slice (1 ∷ []) tt (plain (λ _. u32)),
+          (stay-slice (2 ∷ []) tt (plain (λ _. Entry′.the-row)), (stay-none (λ _. u32) yes, tt)),
+        ),
       ),
     ),
   )
@@ -85,31 +88,31 @@ module _ (Slot Out Shape Outcome : Value) where
   function #find #core #entry-of #store #outcome-of = record {
     lifetimes = 3;
     outlives = [];
-    params = 5;
-    locals = local (mirOf Outcome) valueLocal ∷ local (mirOf Shape) valueLocal ∷ local
-        (sliceTy (tyRef (named 0) mut (tyInt w64))) valueLocal ∷ local (sliceTy (tyRef (named 1) mut (tyInt w32))) valueLocal
-        ∷ local (sliceTy (tyRef (named 2) mut (pointee (Entry′.the-row .written)))) valueLocal ∷ local (tyInt w32) valueLocal
-        ∷ local (mirOf Slot) valueLocal ∷ local (mirOf Out) valueLocal ∷ local Entry″.mir valueLocal
-        ∷ local (tyRef erased imm (pointee (Entry′.the-row .written))) valueLocal ∷ local
-        (sliceTy (tyRef erased imm (pointee (Entry′.the-row .written)))) valueLocal ∷ local (tyRef erased mut (tyInt w64))
-        valueLocal ∷ local (sliceTy (tyRef erased mut (tyInt w64))) valueLocal ∷ local (tyRef erased mut (tyInt w32)) valueLocal
-        ∷ local (sliceTy (tyRef erased mut (tyInt w32))) valueLocal ∷ local tyUnit valueLocal
-        ∷ local (tyRef erased mut (pointee (Entry′.the-row .written))) valueLocal ∷ local
-        (sliceTy (tyRef erased mut (pointee (Entry′.the-row .written)))) valueLocal ∷ [];
-    body = seq (assign (place 9 []) (addrOf (place 4 (field 0 ∷ deref Entry″.mir ∷ []))))
-        (seq (assign (place 10 []) (aggregate (copy (place 9 []) ∷ copy (place 4 (field 1 ∷ [])) ∷ [])))
-        (seq (call #find (copy (place 10 []) ∷ copy (place 5 []) ∷ []) (place 6 []))
-        (seq (assign (place 11 []) (addrOf (place 2 (field 0 ∷ deref (tyInt w64) ∷ []))))
-        (seq (assign (place 12 []) (aggregate (copy (place 11 []) ∷ copy (place 2 (field 1 ∷ [])) ∷ [])))
-        (seq (assign (place 13 []) (addrOf (place 3 (field 0 ∷ deref (tyInt w32) ∷ []))))
-        (seq (assign (place 14 []) (aggregate (copy (place 13 []) ∷ copy (place 3 (field 1 ∷ [])) ∷ [])))
-        (seq (call #core (copy (place 1 []) ∷ copy (place 12 []) ∷ copy (place 14 []) ∷ copy (place 6 []) ∷ copy (place 5 [])
-        ∷ []) (place 7 []))
-        (seq (call #entry-of (copy (place 7 []) ∷ []) (place 8 []))
-        (seq (assign (place 16 []) (addrOf (place 4 (field 0 ∷ deref Entry″.mir ∷ []))))
-        (seq (assign (place 17 []) (aggregate (copy (place 16 []) ∷ copy (place 4 (field 1 ∷ [])) ∷ [])))
-        (seq (call #store (copy (place 17 []) ∷ copy (place 5 []) ∷ copy (place 8 []) ∷ []) (place 15 []))
-        (seq (call #outcome-of (copy (place 1 []) ∷ copy (place 7 []) ∷ []) (place 0 [])) return))))))))))));
+    params = 6;
+    locals = local (mirOf Outcome) valueLocal ∷ local (mirOf Shape) valueLocal ∷ local (tyInt w32) valueLocal
+        ∷ local (sliceTy (tyRef (named 0) mut (tyInt w64))) valueLocal ∷ local (sliceTy (tyRef (named 1) mut (tyInt w32)))
+        valueLocal ∷ local (sliceTy (tyRef (named 2) mut (pointee (Entry′.the-row .written)))) valueLocal
+        ∷ local (tyInt w32) valueLocal ∷ local (mirOf Slot) valueLocal ∷ local (mirOf Out) valueLocal
+        ∷ local Entry″.mir valueLocal ∷ local (tyRef erased imm (pointee (Entry′.the-row .written))) valueLocal
+        ∷ local (sliceTy (tyRef erased imm (pointee (Entry′.the-row .written)))) valueLocal
+        ∷ local (tyRef erased mut (tyInt w64)) valueLocal ∷ local (sliceTy (tyRef erased mut (tyInt w64))) valueLocal
+        ∷ local (tyRef erased mut (tyInt w32)) valueLocal ∷ local (sliceTy (tyRef erased mut (tyInt w32))) valueLocal
+        ∷ local tyUnit valueLocal ∷ local (tyRef erased mut (pointee (Entry′.the-row .written))) valueLocal
+        ∷ local (sliceTy (tyRef erased mut (pointee (Entry′.the-row .written)))) valueLocal ∷ [];
+    body = seq (assign (place 10 []) (addrOf (place 5 (field 0 ∷ deref Entry″.mir ∷ []))))
+        (seq (assign (place 11 []) (aggregate (copy (place 10 []) ∷ copy (place 5 (field 1 ∷ [])) ∷ [])))
+        (seq (call #find (copy (place 11 []) ∷ copy (place 6 []) ∷ []) (place 7 []))
+        (seq (assign (place 12 []) (addrOf (place 3 (field 0 ∷ deref (tyInt w64) ∷ []))))
+        (seq (assign (place 13 []) (aggregate (copy (place 12 []) ∷ copy (place 3 (field 1 ∷ [])) ∷ [])))
+        (seq (assign (place 14 []) (addrOf (place 4 (field 0 ∷ deref (tyInt w32) ∷ []))))
+        (seq (assign (place 15 []) (aggregate (copy (place 14 []) ∷ copy (place 4 (field 1 ∷ [])) ∷ [])))
+        (seq (call #core (copy (place 1 []) ∷ copy (place 2 []) ∷ copy (place 13 []) ∷ copy (place 15 []) ∷ copy (place 7 [])
+        ∷ copy (place 6 []) ∷ []) (place 8 []))
+        (seq (call #entry-of (copy (place 8 []) ∷ []) (place 9 []))
+        (seq (assign (place 17 []) (addrOf (place 5 (field 0 ∷ deref Entry″.mir ∷ []))))
+        (seq (assign (place 18 []) (aggregate (copy (place 17 []) ∷ copy (place 5 (field 1 ∷ [])) ∷ [])))
+        (seq (call #store (copy (place 18 []) ∷ copy (place 6 []) ∷ copy (place 9 []) ∷ []) (place 16 []))
+        (seq (call #outcome-of (copy (place 1 []) ∷ copy (place 8 []) ∷ []) (place 0 [])) return))))))))))));
   }
 
   -- ---- what `find` is, and what it ensures
@@ -148,29 +151,29 @@ module _ (Slot Out Shape Outcome : Value) where
   core-signature = record {
     lifetimes = 2;
     outlives = [];
-    params = plain (λ _. (rowOf Shape)) ∷ mutSlice 0 tt (λ _. u64) ∷ mutSlice 1 tt (λ _. u32) ∷ plain (λ _. (rowOf Slot))
-        ∷ plain (λ _. u32) ∷ [];
+    params = plain (λ _. (rowOf Shape)) ∷ plain (λ _. u32) ∷ mutSlice 0 tt (λ _. u64) ∷ mutSlice 1 tt (λ _. u32)
+        ∷ plain (λ _. (rowOf Slot)) ∷ plain (λ _. u32) ∷ [];
     result = plain (λ _. (rowOf Out));
   }
 
   abbrev core-ended : Ended
-  core-ended = record { signature = core-signature; kept = (yes, (yes, (yes, (yes, (yes, tt))))) }
+  core-ended = record { signature = core-signature; kept = (yes, (yes, (yes, (yes, (yes, (yes, tt)))))) }
 
   abbrev core-Model : Type 0 → Type 0
-  core-Model X = (denotes Shape) → List ℕ → List ℕ → (denotes Slot) → ℕ → X
+  core-Model X = (denotes Shape) → ℕ → List ℕ → List ℕ → (denotes Slot) → ℕ → X
 
   module _ (core-out : core-Model (denotes Out)) (core-x-map : core-Model (List ℕ)) (core-x-summary : core-Model (List ℕ)) where
-    abbrev core-says : (denotes Shape) → List ℕ → List ℕ → (denotes Slot) → ℕ → (denotes Out) → List ℕ → List ℕ → Type 0
-    core-says a0 a1 a2 a3 a4 r b1 b2 = (r ≡ core-out a0 a1 a2 a3 a4) × (b1 ≡ core-x-map a0 a1 a2 a3 a4)
-        × (b2 ≡ core-x-summary a0 a1 a2 a3 a4)
+    abbrev core-says : (denotes Shape) → ℕ → List ℕ → List ℕ → (denotes Slot) → ℕ → (denotes Out) → List ℕ → List ℕ → Type 0
+    core-says a0 a1 a2 a3 a4 a5 r b2 b3 = (r ≡ core-out a0 a1 a2 a3 a4 a5) × (b2 ≡ core-x-map a0 a1 a2 a3 a4 a5)
+        × (b3 ≡ core-x-summary a0 a1 a2 a3 a4 a5)
 
     module _ {M : Type 1} (𝓤 : URA M) where
       abbrev core-clauses : Clauses 𝓤 core-ended
       core-clauses κs a = record {
         ghost = Unit {0};
         requires = λ _. emp 𝓤;
-        ensures = λ _ r e. fact 𝓤 (core-says (a .0) (now (a .1 .0)) (now (a .1 .1 .0)) (a .1 .1 .1 .0) (a .1 .1 .1 .1 .0) r
-            (now (e .1 .0)) (now (e .1 .1 .0)));
+        ensures = λ _ r e. fact 𝓤 (core-says (a .0) (a .1 .0) (now (a .1 .1 .0)) (now (a .1 .1 .1 .0)) (a .1 .1 .1 .1 .0)
+            (a .1 .1 .1 .1 .1 .0) r (now (e .1 .1 .0)) (now (e .1 .1 .1 .0)));
       }
 
       module _ (H : Heap 𝓤) (A : Atoms 𝓤) where
@@ -275,18 +278,19 @@ module _ (Slot Out Shape Outcome : Value) where
       (entry-of-out : entry-of-Model Entry) (store-x-catalogue : store-Model (List Entry))
       (outcome-of-out : outcome-of-Model (denotes Outcome)) where
     -- ---- what the chain gives, call by call
-    module _ (x-self : (denotes Shape)) (x-map : List ℕ) (x-summary : List ℕ) (x-catalogue : List Entry) (x-sheet : ℕ) where
+    module _ (x-self : (denotes Shape)) (x-role : ℕ) (x-map : List ℕ) (x-summary : List ℕ) (x-catalogue : List Entry)
+        (x-sheet : ℕ) where
       abbrev v-slot-of : (denotes Slot)
       v-slot-of = find-out x-catalogue x-sheet
 
       abbrev v-out-of : (denotes Out)
-      v-out-of = core-out x-self x-map x-summary v-slot-of x-sheet
+      v-out-of = core-out x-self x-role x-map x-summary v-slot-of x-sheet
 
       abbrev z-core-x-map-of : List ℕ
-      z-core-x-map-of = core-x-map x-self x-map x-summary v-slot-of x-sheet
+      z-core-x-map-of = core-x-map x-self x-role x-map x-summary v-slot-of x-sheet
 
       abbrev z-core-x-summary-of : List ℕ
-      z-core-x-summary-of = core-x-summary x-self x-map x-summary v-slot-of x-sheet
+      z-core-x-summary-of = core-x-summary x-self x-role x-map x-summary v-slot-of x-sheet
 
       abbrev v-entry-of : Entry
       v-entry-of = entry-of-out v-out-of
@@ -306,21 +310,28 @@ module _ (Slot Out Shape Outcome : Value) where
       clauses κs a = record {
         ghost = Unit {0};
         requires = λ _. emp 𝓤;
-        ensures = λ _ r e. fact 𝓤 (Says (a .0) (now (a .1 .0)) (now (a .1 .1 .0)) (now (a .1 .1 .1 .0)) (a .1 .1 .1 .1 .0) r
-            (now (e .1 .0)) (now (e .1 .1 .0)) (now (e .1 .1 .1 .0)));
+        ensures = λ _ r e. fact 𝓤 (Says (a .0) (a .1 .0) (now (a .1 .1 .0)) (now (a .1 .1 .1 .0)) (now (a .1 .1 .1 .1 .0))
+            (a .1 .1 .1 .1 .1 .0) r (now (e .1 .1 .0)) (now (e .1 .1 .1 .0)) (now (e .1 .1 .1 .1 .0)));
       }
 
     module _ {M : Type 1} (𝓤 : URA M) (H : Heap 𝓤) (A : Atoms 𝓤) (W : Given 𝓤 H A) (κ₀ κ₁ κ₂ : Lft) (q₀ q₁ q₂ : Share)
-        (x-self : (denotes Shape)) (x-map : RefT (List ℕ)) (x-summary : RefT (List ℕ)) (x-catalogue : RefT (List Entry))
-        (x-sheet : ℕ)
-        (is-x-self : Is (rowOf Shape) x-self ((valsOf Shape) x-self)) (room-x-map : Room u64 (length (now x-map)))
-        (room-x-summary : Room u32 (length (now x-summary))) (room-x-catalogue : Room Entry′.the-row (length (now x-catalogue)))
-        (is-x-sheet : Is u32 x-sheet ((uint-vals w32) x-sheet)) where
+        (x-self : (denotes Shape)) (x-role : ℕ) (x-map : RefT (List ℕ)) (x-summary : RefT (List ℕ))
+        (x-catalogue : RefT (List Entry)) (x-sheet : ℕ)
+        (is-x-self : Is (rowOf Shape) x-self ((valsOf Shape) x-self)) (is-x-role : Is u32 x-role ((uint-vals w32) x-role))
+        (room-x-map : Room u64 (length (now x-map))) (room-x-summary : Room u32 (length (now x-summary)))
+        (room-x-catalogue : Room Entry′.the-row (length (now x-catalogue))) (is-x-sheet : Is u32 x-sheet
+        ((uint-vals w32) x-sheet)) where
       abbrev m-x-self : Val
       m-x-self = only ((valsOf Shape) x-self)
 
       typed-x-self : Holds (hasTy (mirOf Shape) m-x-self) × WT m-x-self
       typed-x-self = (Shape .typed 𝓤 H A W) x-self _ is-x-self .0
+
+      abbrev m-x-role : Val
+      m-x-role = only ((uint-vals w32) x-role)
+
+      typed-x-role : Holds (hasTy (tyInt w32) m-x-role) × WT m-x-role
+      typed-x-role = (uint-lawful 𝓤 H A W w32 .typed) x-role _ is-x-role .0
 
       abbrev s-x-map : Val
       s-x-map = sliceVal (x-map .ptr) (length (now x-map))
@@ -346,11 +357,11 @@ module _ (Slot Out Shape Outcome : Value) where
       typed-x-sheet : Holds (hasTy (tyInt w32) m-x-sheet) × WT m-x-sheet
       typed-x-sheet = (uint-lawful 𝓤 H A W w32 .typed) x-sheet _ is-x-sheet .0
 
-      abbrev args : (denotes Shape) × (RefT (List ℕ) × (RefT (List ℕ) × (RefT (List Entry) × (ℕ × Unit {0}))))
-      args = (x-self, (x-map, (x-summary, (x-catalogue, (x-sheet, tt)))))
+      abbrev args : (denotes Shape) × (ℕ × (RefT (List ℕ) × (RefT (List ℕ) × (RefT (List Entry) × (ℕ × Unit {0})))))
+      args = (x-self, (x-role, (x-map, (x-summary, (x-catalogue, (x-sheet, tt))))))
 
-      abbrev vals : List Val × (List Val × (List Val × (List Val × (List Val × Unit {0}))))
-      vals = (m-x-self ∷ [], (s-x-map ∷ [], (s-x-summary ∷ [], (s-x-catalogue ∷ [], (m-x-sheet ∷ [], tt)))))
+      abbrev vals : List Val × (List Val × (List Val × (List Val × (List Val × (List Val × Unit {0})))))
+      vals = (m-x-self ∷ [], (m-x-role ∷ [], (s-x-map ∷ [], (s-x-summary ∷ [], (s-x-catalogue ∷ [], (m-x-sheet ∷ [], tt))))))
 
       abbrev bound : walkOf 𝓤 H A ended stayed (clauses 𝓤) .Ghost
       bound = (((κ₀, (κ₁, (κ₂, tt))), (q₀, (q₁, (q₂, tt))), tt, args, vals), tt)
@@ -359,25 +370,25 @@ module _ (Slot Out Shape Outcome : Value) where
       Post = walkOf 𝓤 H A ended stayed (clauses 𝓤) .post bound
 
       abbrev v-slot : (denotes Slot)
-      v-slot = v-slot-of x-self (now x-map) (now x-summary) (now x-catalogue) x-sheet
+      v-slot = v-slot-of x-self x-role (now x-map) (now x-summary) (now x-catalogue) x-sheet
 
       abbrev v-out : (denotes Out)
-      v-out = v-out-of x-self (now x-map) (now x-summary) (now x-catalogue) x-sheet
+      v-out = v-out-of x-self x-role (now x-map) (now x-summary) (now x-catalogue) x-sheet
 
       abbrev z-core-x-map : List ℕ
-      z-core-x-map = z-core-x-map-of x-self (now x-map) (now x-summary) (now x-catalogue) x-sheet
+      z-core-x-map = z-core-x-map-of x-self x-role (now x-map) (now x-summary) (now x-catalogue) x-sheet
 
       abbrev z-core-x-summary : List ℕ
-      z-core-x-summary = z-core-x-summary-of x-self (now x-map) (now x-summary) (now x-catalogue) x-sheet
+      z-core-x-summary = z-core-x-summary-of x-self x-role (now x-map) (now x-summary) (now x-catalogue) x-sheet
 
       abbrev v-entry : Entry
-      v-entry = v-entry-of x-self (now x-map) (now x-summary) (now x-catalogue) x-sheet
+      v-entry = v-entry-of x-self x-role (now x-map) (now x-summary) (now x-catalogue) x-sheet
 
       abbrev z-store-x-catalogue : List Entry
-      z-store-x-catalogue = z-store-x-catalogue-of x-self (now x-map) (now x-summary) (now x-catalogue) x-sheet
+      z-store-x-catalogue = z-store-x-catalogue-of x-self x-role (now x-map) (now x-summary) (now x-catalogue) x-sheet
 
       abbrev v-result : (denotes Outcome)
-      v-result = v-result-of x-self (now x-map) (now x-summary) (now x-catalogue) x-sheet
+      v-result = v-result-of x-self x-role (now x-map) (now x-summary) (now x-catalogue) x-sheet
 
       abbrev m-v-slot : Val
       m-v-slot = only ((valsOf Slot) v-slot)
@@ -432,10 +443,12 @@ module _ (Slot Out Shape Outcome : Value) where
           fjoin ! $ bring ! (1 ∷ 0 ∷ []) $ join ! $ frame ! $ done !
 
       -- ---- the caller has what `core` asks
-      abbrev core-args : (δ₀-core δ₁-core : GName) → (denotes Shape) × (RefT (List ℕ) ×
-          (RefT (List ℕ) × ((denotes Slot) × (ℕ × Unit {0}))))
-      core-args δ₀-core δ₁-core =
-          (x-self, (at-x-map δ₀-core (now x-map), (at-x-summary δ₁-core (now x-summary), (v-slot, (x-sheet, tt)))))
+      abbrev core-args : (δ₀-core δ₁-core : GName) → (denotes Shape) × (ℕ × (RefT (List ℕ)
+          × (RefT (List ℕ) × ((denotes Slot) × (ℕ × Unit {0})))))
+      core-args δ₀-core δ₁-core = (
+        x-self,
+        (x-role, (at-x-map δ₀-core (now x-map), (at-x-summary δ₁-core (now x-summary), (v-slot, (x-sheet, tt))))),
+      )
 
       abbrev to-core : (ν₀-core ν₁-core : ℕ) (δ₀-core δ₁-core : GName) → (core-contract core-out core-x-map core-x-summary 𝓤 H
           A) .Ghost
@@ -445,7 +458,7 @@ module _ (Slot Out Shape Outcome : Value) where
           (fullShare, (fullShare, tt)),
           tt,
           core-args δ₀-core δ₁-core,
-          (m-x-self ∷ [], (s-x-map ∷ [], (s-x-summary ∷ [], (m-v-slot ∷ [], (m-x-sheet ∷ [], tt))))),
+          (m-x-self ∷ [], (m-x-role ∷ [], (s-x-map ∷ [], (s-x-summary ∷ [], (m-v-slot ∷ [], (m-x-sheet ∷ [], tt)))))),
         ),
         tt,
       )
@@ -463,6 +476,7 @@ module _ (Slot Out Shape Outcome : Value) where
           owned ! u32 (Is u32) (uint-makes 𝓤 H A W w32) x-sheet _ is-x-sheet $ fjoin ! $
           owned ! (rowOf Slot) (Is (rowOf Slot)) (Slot .makes 𝓤 H A) v-slot _ is-v-slot $ fjoin ! $
           bring ! (3 ∷ 0 ∷ []) $ fjoin ! $ bring ! (2 ∷ 0 ∷ []) $ fjoin ! $
+          owned ! u32 (Is u32) (uint-makes 𝓤 H A W w32) x-role _ is-x-role $ fjoin ! $
           owned ! (rowOf Shape) (Is (rowOf Shape)) (Shape .makes 𝓤 H A) x-self _ is-x-self $ fjoin ! $
           bring ! (1 ∷ 0 ∷ []) $ join ! $ frame ! $ done !
 
@@ -538,11 +552,12 @@ module _ (Slot Out Shape Outcome : Value) where
           ∷ ‵ (flft κ₁ q₁) ∷ ‵ (MutSlice (named 2) κ₂ Entry′.the-row .own (at-x-catalogue (x-catalogue .name)
           z-store-x-catalogue) (s-x-catalogue ∷ [])) ∷ ‵ (flft κ₂ q₂) ∷ []) ∵
           suffices ! _ (ends-at 𝓤 H A ended stayed (clauses 𝓤) W bound m-v-result v-result
-          (tt, (z-core-x-map, (z-core-x-summary, (z-store-x-catalogue, (tt, tt)))))
-          (tt, (l-x-map, (l-x-summary, (l-x-catalogue, (tt, tt)))))) $
+          (tt, (tt, (z-core-x-map, (z-core-x-summary, (z-store-x-catalogue, (tt, tt))))))
+          (tt, (tt, (l-x-map, (l-x-summary, (l-x-catalogue, (tt, tt))))))) $
           says ! (refl, refl, refl, refl) $ nothing ! $ bring ! (2 ∷ 3 ∷ 4 ∷ 0 ∷ []) $ group ! 4 $ frame ! $
           nothing ! $ owned ! u32 (Is u32) (uint-makes 𝓤 H A W w32) x-sheet _ is-x-sheet $ fjoin ! $
           bring ! (3 ∷ 0 ∷ []) $ fjoin ! $ bring ! (2 ∷ 0 ∷ []) $ fjoin ! $ bring ! (1 ∷ 0 ∷ []) $ fjoin ! $
+          owned ! u32 (Is u32) (uint-makes 𝓤 H A W w32) x-role _ is-x-role $ fjoin ! $
           owned ! (rowOf Shape) (Is (rowOf Shape)) (Shape .makes 𝓤 H A) x-self _ is-x-self $ fjoin ! $
           owned ! (rowOf Outcome) (Is (rowOf Outcome)) (Outcome .makes 𝓤 H A) v-result _ is $ bring ! (1 ∷ 0 ∷ []) $
           done !
@@ -553,23 +568,24 @@ module _ (Slot Out Shape Outcome : Value) where
           (entry-of-contract entry-of-out 𝓤 H A) → Triple 𝓤 (𝓣 .C #store) (store-contract store-x-catalogue 𝓤 H A)
           → Triple 𝓤 (𝓣 .C #outcome-of) (outcome-of-contract outcome-of-out 𝓤 H A) → ent 𝓤
           (onEntry 𝓤 H A signature (κ₀, (κ₁, (κ₂, tt))) (q₀, (q₁, (q₂, tt))) args vals)
-          (WpFn 𝓤 H (𝓣 .C) (𝓣 .Λ) (function #find #core #entry-of #store #outcome-of) (m-x-self ∷ s-x-map ∷ s-x-summary
-          ∷ s-x-catalogue ∷ m-x-sheet ∷ []) Post)
+          (WpFn 𝓤 H (𝓣 .C) (𝓣 .Λ) (function #find #core #entry-of #store #outcome-of) (m-x-self ∷ m-x-role ∷ s-x-map
+          ∷ s-x-summary ∷ s-x-catalogue ∷ m-x-sheet ∷ []) Post)
       walk 𝓣 known-find known-core known-entry-of known-store known-outcome-of =
           qed W ((‵ (flft κ₀ q₀) ⊛ ‵ (flft κ₁ q₁) ⊛ ‵ (flft κ₂ q₂) ⊛ ‵ ftrue) ∷ ‵ (owns
-          ((rowOf Shape) ∷ MutSlice (named 0) κ₀ u64 ∷ MutSlice (named 1) κ₁ u32 ∷ MutSlice (named 2) κ₂ Entry′.the-row ∷ u32
-          ∷ []) args vals) ∷ []) ∵
-          enter ! (𝓣 .C) (𝓣 .Λ) (function #find #core #entry-of #store #outcome-of) (m-x-self ∷ s-x-map ∷ s-x-summary
+          ((rowOf Shape) ∷ u32 ∷ MutSlice (named 0) κ₀ u64 ∷ MutSlice (named 1) κ₁ u32 ∷ MutSlice (named 2) κ₂ Entry′.the-row
+          ∷ u32 ∷ []) args vals) ∷ []) ∵
+          enter ! (𝓣 .C) (𝓣 .Λ) (function #find #core #entry-of #store #outcome-of) (m-x-self ∷ m-x-role ∷ s-x-map ∷ s-x-summary
           ∷ s-x-catalogue ∷ m-x-sheet ∷ []) _ $
           alloc1 ! (λ l₀. alloc1 ! (λ l₁. alloc1 ! (λ l₂. alloc1 ! (λ l₃. alloc1 ! (λ l₄. alloc1 ! (λ l₅.
           alloc1 ! (λ l₆. alloc1 ! (λ l₇. alloc1 ! (λ l₈. alloc1 ! (λ l₉. alloc1 ! (λ l₁₀. alloc1 ! (λ l₁₁.
           alloc1 ! (λ l₁₂. alloc1 ! (λ l₁₃. alloc1 ! (λ l₁₄. alloc1 ! (λ l₁₅. alloc1 ! (λ l₁₆. alloc1 ! (λ l₁₇.
-          alloc0 ! $ params1 ! $ pass1 ! (init ! 32 refl typed-x-self) $
+          alloc1 ! (λ l₁₈. alloc0 ! $ params1 ! $ pass1 ! (init ! 34 refl typed-x-self) $
+          pass1 ! (init ! 32 refl typed-x-role) $
           pass1 ! (init ! 30 refl (tt, (tt, (record { fits = room-x-map .0 }, tt)))) $
           pass1 ! (init ! 28 refl (tt, (tt, (record { fits = room-x-summary .0 }, tt)))) $
           pass1 ! (init ! 26 refl (tt, (tt, (record { fits = room-x-catalogue .0 }, tt)))) $
-          pass1 ! (init ! 24 refl typed-x-sheet) $ pass0 ! $ bring ! (36 ∷ []) $ parts W (_ ∷ _ ∷ _ ∷ []) _ $
-          bring ! (39 ∷ []) $ fparts W (_ ∷ _ ∷ _ ∷ _ ∷ _ ∷ []) _ $ discard ! (0 ∷ 3 ∷ []) $
+          pass1 ! (init ! 24 refl typed-x-sheet) $ pass0 ! $ bring ! (38 ∷ []) $ parts W (_ ∷ _ ∷ _ ∷ []) _ $
+          bring ! (41 ∷ []) $ fparts W (_ ∷ _ ∷ _ ∷ _ ∷ _ ∷ _ ∷ []) _ $ discard ! (0 ∷ 0 ∷ 3 ∷ []) $
           -- find
           assigns ! (addr ! (from ! (fld ! refl (hop ! (look-in ! 32 (sub ! 0 refl (whole !))) (stop !))))) (from ! (stop !))
           (init ! 22 refl (tt, tt)) $
@@ -599,7 +615,7 @@ module _ (Slot Out Shape Outcome : Value) where
           rewrite ! 0 (λ (r : (denotes Slot)). ‵ ((rowOf Slot) .own r (w-find ∷ []))) (e-find) refl $
           peeks ! (rowOf Slot) (Is (rowOf Slot)) (shows 𝓤 H A (rowOf Slot)) v-slot (w-find ∷ []) (λ is-w-find.
           land ! (from ! (stop !)) (init ! 29 refl ((Slot .typed 𝓤 H A W) v-slot _ is-w-find .0)) $
-          rewrite ! 29 (λ (u : Val). ‵ (fat fullShare (mirOf Slot) l₆ 0 u)) (ap only ((Slot .tells) v-slot _ is-w-find)) refl $
+          rewrite ! 29 (λ (u : Val). ‵ (fat fullShare (mirOf Slot) l₇ 0 u)) (ap only ((Slot .tells) v-slot _ is-w-find)) refl $
           discard ! (0 ∷ []) $ parts W (_ ∷ []) _ $ lft-end ! tt $
           use2 W (later (‵ (MutSlice (named 2) κ₂ Entry′.the-row .own (at-x-catalogue (x-catalogue .name) (now x-catalogue))
           (s-x-catalogue ∷ [])) ⊛ ‵ (flft κ₂ q₂))) (comes-home Entry′.the-row κ₂ (ν₀-find ∷ []) q₂ (x-catalogue .name)
@@ -631,23 +647,23 @@ module _ (Slot Out Shape Outcome : Value) where
           use1 W (raw ((core-contract core-out core-x-map core-x-summary 𝓤 H A) .pre (to-core ν₀-core ν₁-core δ₀-core δ₁-core)))
           (goes-core ν₀-core ν₁-core δ₀-core δ₁-core (spelled-v-slot w-find is-w-find)) $
           calls-at ! (fmOf 𝓤 H (W .laws) 𝓣) (core-contract core-out core-x-map core-x-summary 𝓤 H A) known-core
-          (to-core ν₀-core ν₁-core δ₀-core δ₁-core) (and-then ! (load ! (from ! (stop !)) (look ! 37 refl))
-          (and-then ! (load ! (from ! (stop !)) (look ! 15 refl)) (and-then ! (load ! (from ! (stop !)) (look ! 11 refl))
-          (and-then ! (load ! (from ! (stop !)) (look ! 27 refl)) (and-then ! (load ! (from ! (stop !)) (look ! 29 refl))
-          (no-more !)))))) (λ w-core.
+          (to-core ν₀-core ν₁-core δ₀-core δ₁-core) (and-then ! (load ! (from ! (stop !)) (look ! 39 refl))
+          (and-then ! (load ! (from ! (stop !)) (look ! 37 refl)) (and-then ! (load ! (from ! (stop !)) (look ! 15 refl))
+          (and-then ! (load ! (from ! (stop !)) (look ! 11 refl)) (and-then ! (load ! (from ! (stop !)) (look ! 27 refl))
+          (and-then ! (load ! (from ! (stop !)) (look ! 29 refl)) (no-more !))))))) (λ w-core.
           use1 W (later (some (λ (r : (denotes Out)). ((‵ (flft (ν₀-core ∷ []) fullShare) ⊛ ‵ (flft (ν₁-core ∷ []) fullShare)
           ⊛ ‵ ftrue) ⊛ ‵ ((rowOf Out) .own r (w-core ∷ []))) ⊛ raw (ensured 𝓤 H A core-ended
           (core-clauses core-out core-x-map core-x-summary 𝓤) (ν₀-core ∷ [], (ν₁-core ∷ [], tt)) (core-args δ₀-core δ₁-core) tt
           r)))) (id⊢ 𝓤 _) $
           await ! tt $ pick ! (λ r-core. split ! $ bring ! (1 ∷ []) $
-          use1 W (some (λ (zs-core : Unit {0} × (List ℕ × (List ℕ × (Unit {0} × (Unit {0} × Unit {0}))))). ‵
+          use1 W (some (λ (zs-core : Unit {0} × (Unit {0} × (List ℕ × (List ℕ × (Unit {0} × (Unit {0} × Unit {0})))))). ‵
           (lasts core-ended (ν₀-core ∷ [], (ν₁-core ∷ [], tt)) (core-args δ₀-core δ₁-core) zs-core)
-          ⊛ raw (fact 𝓤 (core-says core-out core-x-map core-x-summary x-self (now x-map) (now x-summary) v-slot x-sheet r-core
-          (zs-core .1 .0) (zs-core .1 .1 .0))))) (id⊢ 𝓤 _) $
+          ⊛ raw (fact 𝓤 (core-says core-out core-x-map core-x-summary x-self x-role (now x-map) (now x-summary) v-slot x-sheet
+          r-core (zs-core .1 .1 .0) (zs-core .1 .1 .1 .0))))) (id⊢ 𝓤 _) $
           pick ! (λ zs-core. split ! $ bring ! (1 ∷ []) $
-          heard ! (core-says core-out core-x-map core-x-summary x-self (now x-map) (now x-summary) v-slot x-sheet r-core
-          (zs-core .1 .0) (zs-core .1 .1 .0)) (λ e-core.
-          fparts W (_ ∷ _ ∷ _ ∷ _ ∷ _ ∷ []) _ $ discard ! (0 ∷ 2 ∷ 2 ∷ []) $ fsplit ! $ bring ! (1 ∷ []) $
+          heard ! (core-says core-out core-x-map core-x-summary x-self x-role (now x-map) (now x-summary) v-slot x-sheet r-core
+          (zs-core .1 .1 .0) (zs-core .1 .1 .1 .0)) (λ e-core.
+          fparts W (_ ∷ _ ∷ _ ∷ _ ∷ _ ∷ _ ∷ []) _ $ discard ! (0 ∷ 0 ∷ 2 ∷ 2 ∷ []) $ fsplit ! $ bring ! (1 ∷ []) $
           feqL ! (λ h-core-x-map. bring ! (1 ∷ []) $ fsplit ! $ bring ! (1 ∷ []) $ feqL ! (λ h-core-x-summary.
           bring ! (2 ∷ []) $ split ! $ bring ! (1 ∷ []) $
           rewrite ! 0 (λ (r : (denotes Out)). ‵ ((rowOf Out) .own r (w-core ∷ []))) (e-core .0) refl $
@@ -655,7 +671,7 @@ module _ (Slot Out Shape Outcome : Value) where
           rewrite ! 2 (λ (l : List ℕ). ‵ (finally u32 δ₁-core l)) (e-core .2) refl $
           peeks ! (rowOf Out) (Is (rowOf Out)) (shows 𝓤 H A (rowOf Out)) v-out (w-core ∷ []) (λ is-w-core.
           land ! (from ! (stop !)) (init ! 28 refl ((Out .typed 𝓤 H A W) v-out _ is-w-core .0)) $
-          rewrite ! 28 (λ (u : Val). ‵ (fat fullShare (mirOf Out) l₇ 0 u)) (ap only ((Out .tells) v-out _ is-w-core)) refl $
+          rewrite ! 28 (λ (u : Val). ‵ (fat fullShare (mirOf Out) l₈ 0 u)) (ap only ((Out .tells) v-out _ is-w-core)) refl $
           discard ! (0 ∷ []) $ parts W (_ ∷ _ ∷ []) _ $ lft-end ! tt $ bring ! (0 ∷ 4 ∷ 2 ∷ []) $
           use3 W (later (‵ (MutSlice (named 0) κ₀ u64 .own (at-x-map (x-map .name) z-core-x-map) (s-x-map ∷ []))
           ⊛ ‵ (flft κ₀ q₀))) (comes-back u64 κ₀ (ν₀-core ∷ []) q₀ (x-map .name) (x-map .ptr .0) (x-map .ptr .1) 𝓤 H A W
@@ -684,7 +700,7 @@ module _ (Slot Out Shape Outcome : Value) where
           peeks ! Entry′.the-row (Is Entry′.the-row) (shows 𝓤 H A Entry′.the-row) v-entry (w-entry-of ∷ []) (λ is-w-entry-of.
           land ! (from ! (stop !)) (init ! 26 refl ((struct.lawful Entry′.the-type Entry″.the-laws 𝓤 H A W .typed) v-entry _
           is-w-entry-of .0)) $
-          rewrite ! 26 (λ (u : Val). ‵ (fat fullShare Entry″.mir l₈ 0 u)) (ap only ((struct.tells Entry′.the-type
+          rewrite ! 26 (λ (u : Val). ‵ (fat fullShare Entry″.mir l₉ 0 u)) (ap only ((struct.tells Entry′.the-type
           Entry″.the-laws) v-entry _ is-w-entry-of)) refl $
           discard ! (0 ∷ []) $ parts W ([]) _ $
           -- store
@@ -719,7 +735,7 @@ module _ (Slot Out Shape Outcome : Value) where
           rewrite ! 2 (λ (l : List Entry). ‵ (finally Entry′.the-row δ₀-store l)) (e-store) refl $
           peeks ! Nothing (Is Nothing) (shows 𝓤 H A Nothing) v-store (w-store ∷ []) (λ is-w-store.
           land ! (from ! (stop !)) (init ! 12 refl ((nothing-lawful 𝓤 H A W .typed) v-store _ is-w-store .0)) $
-          rewrite ! 12 (λ (u : Val). ‵ (fat fullShare tyUnit l₁₅ 0 u)) (ap only (nothing-tells v-store _ is-w-store)) refl $
+          rewrite ! 12 (λ (u : Val). ‵ (fat fullShare tyUnit l₁₆ 0 u)) (ap only (nothing-tells v-store _ is-w-store)) refl $
           discard ! (0 ∷ []) $ parts W (_ ∷ []) _ $ lft-end ! tt $ bring ! (0 ∷ 1 ∷ 0 ∷ []) $
           use3 W (later (‵ (MutSlice (named 2) κ₂ Entry′.the-row .own (at-x-catalogue (x-catalogue .name) z-store-x-catalogue)
           (s-x-catalogue ∷ [])) ⊛ ‵ (flft κ₂ q₂))) (comes-back Entry′.the-row κ₂ (ν₀-store ∷ []) q₂ (x-catalogue .name)
@@ -730,7 +746,7 @@ module _ (Slot Out Shape Outcome : Value) where
           use0 W (raw ((outcome-of-contract outcome-of-out 𝓤 H A) .pre (to-outcome-of)))
           (goes-outcome-of (spelled-v-out w-core is-w-core)) $
           calls-at ! (fmOf 𝓤 H (W .laws) 𝓣) (outcome-of-contract outcome-of-out 𝓤 H A) known-outcome-of (to-outcome-of)
-          (and-then ! (load ! (from ! (stop !)) (look ! 39 refl)) (and-then ! (load ! (from ! (stop !)) (look ! 27 refl))
+          (and-then ! (load ! (from ! (stop !)) (look ! 41 refl)) (and-then ! (load ! (from ! (stop !)) (look ! 27 refl))
           (no-more !))) (λ w-outcome-of.
           use1 W (later (some (λ (r : (denotes Outcome)). ((‵ ftrue) ⊛ ‵ ((rowOf Outcome) .own r (w-outcome-of ∷ [])))
           ⊛ raw (ensured 𝓤 H A outcome-of-ended (outcome-of-clauses outcome-of-out 𝓤) tt (outcome-of-args) tt r)))) (id⊢ 𝓤 _) $
@@ -743,18 +759,18 @@ module _ (Slot Out Shape Outcome : Value) where
           rewrite ! 0 (λ (r : (denotes Outcome)). ‵ ((rowOf Outcome) .own r (w-outcome-of ∷ []))) (e-outcome-of) refl $
           peeks ! (rowOf Outcome) (Is (rowOf Outcome)) (shows 𝓤 H A (rowOf Outcome)) v-result (w-outcome-of ∷ [])
           (λ is-w-outcome-of.
-          land ! (from ! (stop !)) (init ! 42 refl ((Outcome .typed 𝓤 H A W) v-result _ is-w-outcome-of .0)) $
-          rewrite ! 42 (λ (u : Val). ‵ (fat fullShare (mirOf Outcome) l₀ 0 u)) (ap only
+          land ! (from ! (stop !)) (init ! 44 refl ((Outcome .typed 𝓤 H A W) v-result _ is-w-outcome-of .0)) $
+          rewrite ! 44 (λ (u : Val). ‵ (fat fullShare (mirOf Outcome) l₀ 0 u)) (ap only
           ((Outcome .tells) v-result _ is-w-outcome-of)) refl $
-          discard ! (0 ∷ []) $ parts W ([]) _ $ returns ! (look ! 40 refl) $ leave ! 40 refl refl $
-          leave ! 38 refl refl $ leave ! 36 refl refl $ leave ! 34 refl refl $ leave ! 32 refl refl $
-          leave ! 30 refl refl $ leave ! 28 refl refl $ leave ! 26 refl refl $ leave ! 24 refl refl $
-          leave ! 22 refl refl $ leave ! 20 refl refl $ leave ! 18 refl refl $ leave ! 16 refl refl $
-          leave ! 14 refl refl $ leave ! 12 refl refl $ leave ! 10 refl refl $ leave ! 8 refl refl $
-          leave ! 6 refl refl $ free0 ! $ bring ! (4 ∷ 4 ∷ 2 ∷ 2 ∷ 0 ∷ 0 ∷ []) $
+          discard ! (0 ∷ []) $ parts W ([]) _ $ returns ! (look ! 42 refl) $ leave ! 42 refl refl $
+          leave ! 40 refl refl $ leave ! 38 refl refl $ leave ! 36 refl refl $ leave ! 34 refl refl $
+          leave ! 32 refl refl $ leave ! 30 refl refl $ leave ! 28 refl refl $ leave ! 26 refl refl $
+          leave ! 24 refl refl $ leave ! 22 refl refl $ leave ! 20 refl refl $ leave ! 18 refl refl $
+          leave ! 16 refl refl $ leave ! 14 refl refl $ leave ! 12 refl refl $ leave ! 10 refl refl $
+          leave ! 8 refl refl $ leave ! 6 refl refl $ free0 ! $ bring ! (4 ∷ 4 ∷ 2 ∷ 2 ∷ 0 ∷ 0 ∷ []) $
           by ! (exits (spelled-v-result w-outcome-of is-w-outcome-of) (ap {B = ℕ} length (sym (e-core .1)) ∙ h-core-x-map)
           (ap {B = ℕ} length (sym (e-core .2)) ∙ h-core-x-summary) (ap {B = ℕ} length (sym (e-store))
-          ∙ h-store-x-catalogue))))))))))))))))))))))))))))))))))))))))))))))))))))))))
+          ∙ h-store-x-catalogue)))))))))))))))))))))))))))))))))))))))))))))))))))))))))
 
     module _ {M : Type 1} (𝓤 : URA M) (H : Heap 𝓤) (A : Atoms 𝓤) (W : Given 𝓤 H A) where
       walks : (𝓣 : Tables 𝓤 H) → Triple 𝓤 (𝓣 .C #find) (find-contract find-out 𝓤 H A) → Triple 𝓤 (𝓣 .C #core)
@@ -764,21 +780,24 @@ module _ (Slot Out Shape Outcome : Value) where
           (WpFn 𝓤 H (𝓣 .C) (𝓣 .Λ) (function #find #core #entry-of #store #outcome-of)) (clauses 𝓤)
       walks 𝓣 known-find known-core known-entry-of known-store known-outcome-of =
           walked 𝓤 H A ended stayed (clauses 𝓤) (WpFn 𝓤 H (𝓣 .C) (𝓣 .Λ) (function #find #core #entry-of #store #outcome-of))
-          (λ κs. ((valsOf Shape), (slice-vals, (slice-vals, (slice-vals, ((uint-vals w32), tt))))))
+          (λ κs. ((valsOf Shape), ((uint-vals w32), (slice-vals, (slice-vals, (slice-vals, ((uint-vals w32), tt)))))))
           (λ κs. (
             (Shape .tells),
             (
-              mut-slice-tells (named 0) (κs .0) u64,
+              (uint-tells w32),
               (
-                mut-slice-tells (named 1) (κs .1 .0) u32,
-                (mut-slice-tells (named 2) (κs .1 .1 .0) Entry′.the-row, ((uint-tells w32), tt)),
+                mut-slice-tells (named 0) (κs .0) u64,
+                (
+                  mut-slice-tells (named 1) (κs .1 .0) u32,
+                  (mut-slice-tells (named 2) (κs .1 .1 .0) Entry′.the-row, ((uint-tells w32), tt)),
+                ),
               ),
             ),
           ))
           (λ κs qs bounds a g are. via 𝓤 _ (fst∗ 𝓤 _ (emp 𝓤)) (walk 𝓤 H A W (κs .0) (κs .1 .0) (κs .1 .1 .0) (qs .0) (qs .1 .0)
-          (qs .1 .1 .0) (a .0) (a .1 .0) (a .1 .1 .0) (a .1 .1 .1 .0) (a .1 .1 .1 .1 .0) (are .0) (are .1 .0 .0 .1)
-          (are .1 .1 .0 .0 .1) (are .1 .1 .1 .0 .0 .1) (are .1 .1 .1 .1 .0) 𝓣 known-find known-core known-entry-of known-store
-          known-outcome-of))
+          (qs .1 .1 .0) (a .0) (a .1 .0) (a .1 .1 .0) (a .1 .1 .1 .0) (a .1 .1 .1 .1 .0) (a .1 .1 .1 .1 .1 .0) (are .0)
+          (are .1 .0) (are .1 .1 .0 .0 .1) (are .1 .1 .1 .0 .0 .1) (are .1 .1 .1 .1 .0 .0 .1) (are .1 .1 .1 .1 .1 .0) 𝓣
+          known-find known-core known-entry-of known-store known-outcome-of))
 
       pub meets : (𝓣 : Tables 𝓤 H) → Triple 𝓤 (𝓣 .C #find) (find-contract find-out 𝓤 H A)
           → Triple 𝓤 (𝓣 .C #core) (core-contract core-out core-x-map core-x-summary 𝓤 H A)
@@ -790,12 +809,15 @@ module _ (Slot Out Shape Outcome : Value) where
           walk-meets 𝓤 H A ended stayed W (
             goes-none 𝓤 H A W 3 (λ _. (rowOf Shape)) yes (λ κs x f. refl),
             (
-              goes-slice 𝓤 H A W 3 0 tt (plain (λ _. u64)),
+              goes-none 𝓤 H A W 3 (λ _. u32) yes (λ κs x f. refl),
               (
-                goes-slice 𝓤 H A W 3 1 tt (plain (λ _. u32)),
+                goes-slice 𝓤 H A W 3 0 tt (plain (λ _. u64)),
                 (
-                  goes-slice 𝓤 H A W 3 2 tt (plain (λ _. Entry′.the-row)),
-                  (goes-none 𝓤 H A W 3 (λ _. u32) yes (λ κs x f. refl), tt),
+                  goes-slice 𝓤 H A W 3 1 tt (plain (λ _. u32)),
+                  (
+                    goes-slice 𝓤 H A W 3 2 tt (plain (λ _. Entry′.the-row)),
+                    (goes-none 𝓤 H A W 3 (λ _. u32) yes (λ κs x f. refl), tt),
+                  ),
                 ),
               ),
             ),

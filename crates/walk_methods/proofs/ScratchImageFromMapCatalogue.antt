@@ -1,8 +1,8 @@
--- Written by tools/walks: every function (self: Shape, map: &[u64], catalogue: &[Entry], scratch: &mut [u64], image: &mut [u8])
--- whose code is
+-- Written by tools/walks: every function (self: Shape, role: u32, map: &[u64], catalogue: &[Entry], scratch: &mut [u64], image:
+-- &mut [u8]) whose code is
 --     let n: u32 = blocks_of(self);
 --     let free: u32 = free_of(self);
---     let number: u32 = save(n, free, map, catalogue, scratch, image);
+--     let number: u32 = save(role, n, free, map, catalogue, scratch, image);
 --     save_outcome(self, number)
 -- One walk serves every choice of the callees: it takes their names and what their contracts say. The types by value are any,
 -- too.
@@ -59,22 +59,25 @@ module _ (Shape Outcome : Value) where
   signature = record {
     lifetimes = 4;
     outlives = [];
-    params = plain (λ _. (rowOf Shape)) ∷ shrSlice 0 tt (λ _. u64) ∷ shrSlice 1 tt (λ _. Entry′.the-row)
+    params = plain (λ _. (rowOf Shape)) ∷ plain (λ _. u32) ∷ shrSlice 0 tt (λ _. u64) ∷ shrSlice 1 tt (λ _. Entry′.the-row)
         ∷ mutSlice 2 tt (λ _. u64) ∷ mutSlice 3 tt (λ _. u8) ∷ [];
     result = plain (λ _. (rowOf Outcome));
   }
 
   abbrev ended : Ended
-  ended = record { signature = signature; kept = (yes, (yes, (yes, (yes, (yes, tt))))) }
+  ended = record { signature = signature; kept = (yes, (yes, (yes, (yes, (yes, (yes, tt)))))) }
 
   abbrev stayed : Stays (ended .signature .params) (ended .kept)
   stayed = (
     stay-none (λ _. (rowOf Shape)) yes,
     (
-      stay-none-slice (0 ∷ []) tt (plain (λ _. u64)) yes,
+      stay-none (λ _. u32) yes,
       (
-        stay-none-slice (1 ∷ []) tt (plain (λ _. Entry′.the-row)) yes,
-        (stay-slice (2 ∷ []) tt (plain (λ _. u64)), (stay-slice (3 ∷ []) tt (plain (λ _. u8)), tt)),
+        stay-none-slice (0 ∷ []) tt (plain (λ _. u64)) yes,
+        (
+          stay-none-slice (1 ∷ []) tt (plain (λ _. Entry′.the-row)) yes,
+          (stay-slice (2 ∷ []) tt (plain (λ _. u64)), (stay-slice (3 ∷ []) tt (plain (λ _. u8)), tt)),
+        ),
       ),
     ),
   )
@@ -84,23 +87,23 @@ module _ (Shape Outcome : Value) where
   function #blocks-of #free-of #save #save-outcome = record {
     lifetimes = 4;
     outlives = [];
-    params = 5;
-    locals = local (mirOf Outcome) valueLocal ∷ local (mirOf Shape) valueLocal ∷ local
-        (sliceTy (tyRef (named 0) imm (tyInt w64))) valueLocal ∷ local (sliceTy (tyRef (named 1) imm
-        (pointee (Entry′.the-row .written)))) valueLocal ∷ local (sliceTy (tyRef (named 2) mut (tyInt w64))) valueLocal
-        ∷ local (sliceTy (tyRef (named 3) mut (tyInt w8))) valueLocal ∷ local (tyInt w32) valueLocal
-        ∷ local (tyInt w32) valueLocal ∷ local (tyInt w32) valueLocal ∷ local (tyRef erased mut (tyInt w64)) valueLocal
-        ∷ local (sliceTy (tyRef erased mut (tyInt w64))) valueLocal ∷ local (tyRef erased mut (tyInt w8)) valueLocal
-        ∷ local (sliceTy (tyRef erased mut (tyInt w8))) valueLocal ∷ [];
-    body = seq (call #blocks-of (copy (place 1 []) ∷ []) (place 6 []))
-        (seq (call #free-of (copy (place 1 []) ∷ []) (place 7 []))
-        (seq (assign (place 9 []) (addrOf (place 4 (field 0 ∷ deref (tyInt w64) ∷ []))))
-        (seq (assign (place 10 []) (aggregate (copy (place 9 []) ∷ copy (place 4 (field 1 ∷ [])) ∷ [])))
-        (seq (assign (place 11 []) (addrOf (place 5 (field 0 ∷ deref (tyInt w8) ∷ []))))
-        (seq (assign (place 12 []) (aggregate (copy (place 11 []) ∷ copy (place 5 (field 1 ∷ [])) ∷ [])))
-        (seq (call #save (copy (place 6 []) ∷ copy (place 7 []) ∷ copy (place 2 []) ∷ copy (place 3 []) ∷ copy (place 10 [])
-        ∷ copy (place 12 []) ∷ []) (place 8 []))
-        (seq (call #save-outcome (copy (place 1 []) ∷ copy (place 8 []) ∷ []) (place 0 [])) return)))))));
+    params = 6;
+    locals = local (mirOf Outcome) valueLocal ∷ local (mirOf Shape) valueLocal ∷ local (tyInt w32) valueLocal
+        ∷ local (sliceTy (tyRef (named 0) imm (tyInt w64))) valueLocal ∷ local (sliceTy
+        (tyRef (named 1) imm (pointee (Entry′.the-row .written)))) valueLocal ∷ local (sliceTy
+        (tyRef (named 2) mut (tyInt w64))) valueLocal ∷ local (sliceTy (tyRef (named 3) mut (tyInt w8))) valueLocal
+        ∷ local (tyInt w32) valueLocal ∷ local (tyInt w32) valueLocal ∷ local (tyInt w32) valueLocal
+        ∷ local (tyRef erased mut (tyInt w64)) valueLocal ∷ local (sliceTy (tyRef erased mut (tyInt w64))) valueLocal
+        ∷ local (tyRef erased mut (tyInt w8)) valueLocal ∷ local (sliceTy (tyRef erased mut (tyInt w8))) valueLocal ∷ [];
+    body = seq (call #blocks-of (copy (place 1 []) ∷ []) (place 7 []))
+        (seq (call #free-of (copy (place 1 []) ∷ []) (place 8 []))
+        (seq (assign (place 10 []) (addrOf (place 5 (field 0 ∷ deref (tyInt w64) ∷ []))))
+        (seq (assign (place 11 []) (aggregate (copy (place 10 []) ∷ copy (place 5 (field 1 ∷ [])) ∷ [])))
+        (seq (assign (place 12 []) (addrOf (place 6 (field 0 ∷ deref (tyInt w8) ∷ []))))
+        (seq (assign (place 13 []) (aggregate (copy (place 12 []) ∷ copy (place 6 (field 1 ∷ [])) ∷ [])))
+        (seq (call #save (copy (place 2 []) ∷ copy (place 7 []) ∷ copy (place 8 []) ∷ copy (place 3 []) ∷ copy (place 4 [])
+        ∷ copy (place 11 []) ∷ copy (place 13 []) ∷ []) (place 9 []))
+        (seq (call #save-outcome (copy (place 1 []) ∷ copy (place 9 []) ∷ []) (place 0 [])) return)))))));
   }
 
   -- ---- what `blocks-of` is, and what it ensures
@@ -170,29 +173,30 @@ module _ (Shape Outcome : Value) where
   save-signature = record {
     lifetimes = 4;
     outlives = [];
-    params = plain (λ _. u32) ∷ plain (λ _. u32) ∷ shrSlice 0 tt (λ _. u64) ∷ shrSlice 1 tt (λ _. Entry′.the-row)
-        ∷ mutSlice 2 tt (λ _. u64) ∷ mutSlice 3 tt (λ _. u8) ∷ [];
+    params = plain (λ _. u32) ∷ plain (λ _. u32) ∷ plain (λ _. u32) ∷ shrSlice 0 tt (λ _. u64)
+        ∷ shrSlice 1 tt (λ _. Entry′.the-row) ∷ mutSlice 2 tt (λ _. u64) ∷ mutSlice 3 tt (λ _. u8) ∷ [];
     result = plain (λ _. u32);
   }
 
   abbrev save-ended : Ended
-  save-ended = record { signature = save-signature; kept = (yes, (yes, (yes, (yes, (yes, (yes, tt)))))) }
+  save-ended = record { signature = save-signature; kept = (yes, (yes, (yes, (yes, (yes, (yes, (yes, tt))))))) }
 
   abbrev save-Model : Type 0 → Type 0
-  save-Model X = ℕ → ℕ → List ℕ → List Entry → List ℕ → List ℕ → X
+  save-Model X = ℕ → ℕ → ℕ → List ℕ → List Entry → List ℕ → List ℕ → X
 
   module _ (save-out : save-Model ℕ) (save-x-scratch : save-Model (List ℕ)) (save-x-image : save-Model (List ℕ)) where
-    abbrev save-says : ℕ → ℕ → List ℕ → List Entry → List ℕ → List ℕ → ℕ → List ℕ → List ℕ → Type 0
-    save-says a0 a1 a2 a3 a4 a5 r b4 b5 = (r ≡ save-out a0 a1 a2 a3 a4 a5) × (b4 ≡ save-x-scratch a0 a1 a2 a3 a4 a5)
-        × (b5 ≡ save-x-image a0 a1 a2 a3 a4 a5)
+    abbrev save-says : ℕ → ℕ → ℕ → List ℕ → List Entry → List ℕ → List ℕ → ℕ → List ℕ → List ℕ → Type 0
+    save-says a0 a1 a2 a3 a4 a5 a6 r b5 b6 = (r ≡ save-out a0 a1 a2 a3 a4 a5 a6) × (b5 ≡ save-x-scratch a0 a1 a2 a3 a4 a5 a6)
+        × (b6 ≡ save-x-image a0 a1 a2 a3 a4 a5 a6)
 
     module _ {M : Type 1} (𝓤 : URA M) where
       abbrev save-clauses : Clauses 𝓤 save-ended
       save-clauses κs a = record {
         ghost = Unit {0};
         requires = λ _. emp 𝓤;
-        ensures = λ _ r e. fact 𝓤 (save-says (a .0) (a .1 .0) (now (a .1 .1 .0)) (now (a .1 .1 .1 .0)) (now (a .1 .1 .1 .1 .0))
-            (now (a .1 .1 .1 .1 .1 .0)) r (now (e .1 .1 .1 .1 .0)) (now (e .1 .1 .1 .1 .1 .0)));
+        ensures = λ _ r e. fact 𝓤 (save-says (a .0) (a .1 .0) (a .1 .1 .0) (now (a .1 .1 .1 .0)) (now (a .1 .1 .1 .1 .0))
+            (now (a .1 .1 .1 .1 .1 .0)) (now (a .1 .1 .1 .1 .1 .1 .0)) r (now (e .1 .1 .1 .1 .1 .0))
+            (now (e .1 .1 .1 .1 .1 .1 .0)));
       }
 
       module _ (H : Heap 𝓤) (A : Atoms 𝓤) where
@@ -234,7 +238,7 @@ module _ (Shape Outcome : Value) where
       (save-out : save-Model ℕ) (save-x-scratch : save-Model (List ℕ)) (save-x-image : save-Model (List ℕ))
       (save-outcome-out : save-outcome-Model (denotes Outcome)) where
     -- ---- what the chain gives, call by call
-    module _ (x-self : (denotes Shape)) (x-map : List ℕ) (x-catalogue : List Entry) (x-scratch : List ℕ)
+    module _ (x-self : (denotes Shape)) (x-role : ℕ) (x-map : List ℕ) (x-catalogue : List Entry) (x-scratch : List ℕ)
         (x-image : List ℕ) where
       abbrev v-n-of : ℕ
       v-n-of = blocks-of-out x-self
@@ -243,13 +247,13 @@ module _ (Shape Outcome : Value) where
       v-free-of = free-of-out x-self
 
       abbrev v-number-of : ℕ
-      v-number-of = save-out v-n-of v-free-of x-map x-catalogue x-scratch x-image
+      v-number-of = save-out x-role v-n-of v-free-of x-map x-catalogue x-scratch x-image
 
       abbrev z-save-x-scratch-of : List ℕ
-      z-save-x-scratch-of = save-x-scratch v-n-of v-free-of x-map x-catalogue x-scratch x-image
+      z-save-x-scratch-of = save-x-scratch x-role v-n-of v-free-of x-map x-catalogue x-scratch x-image
 
       abbrev z-save-x-image-of : List ℕ
-      z-save-x-image-of = save-x-image v-n-of v-free-of x-map x-catalogue x-scratch x-image
+      z-save-x-image-of = save-x-image x-role v-n-of v-free-of x-map x-catalogue x-scratch x-image
 
       abbrev v-result-of : (denotes Outcome)
       v-result-of = save-outcome-out x-self v-number-of
@@ -262,21 +266,27 @@ module _ (Shape Outcome : Value) where
       clauses κs a = record {
         ghost = Unit {0};
         requires = λ _. emp 𝓤;
-        ensures = λ _ r e. fact 𝓤 (Says (a .0) (now (a .1 .0)) (now (a .1 .1 .0)) (now (a .1 .1 .1 .0)) (now (a .1 .1 .1 .1 .0))
-            r (now (e .1 .1 .1 .0)) (now (e .1 .1 .1 .1 .0)));
+        ensures = λ _ r e. fact 𝓤 (Says (a .0) (a .1 .0) (now (a .1 .1 .0)) (now (a .1 .1 .1 .0)) (now (a .1 .1 .1 .1 .0))
+            (now (a .1 .1 .1 .1 .1 .0)) r (now (e .1 .1 .1 .1 .0)) (now (e .1 .1 .1 .1 .1 .0)));
       }
 
     module _ {M : Type 1} (𝓤 : URA M) (H : Heap 𝓤) (A : Atoms 𝓤) (W : Given 𝓤 H A) (κ₀ κ₁ κ₂ κ₃ : Lft) (q₀ q₁ q₂ q₃ : Share)
-        (x-self : (denotes Shape)) (x-map : RefT (List ℕ)) (x-catalogue : RefT (List Entry)) (x-scratch : RefT (List ℕ))
-        (x-image : RefT (List ℕ))
-        (is-x-self : Is (rowOf Shape) x-self ((valsOf Shape) x-self)) (room-x-map : Room u64 (length (now x-map)))
-        (room-x-catalogue : Room Entry′.the-row (length (now x-catalogue))) (room-x-scratch : Room u64 (length (now x-scratch)))
-        (room-x-image : Room u8 (length (now x-image))) where
+        (x-self : (denotes Shape)) (x-role : ℕ) (x-map : RefT (List ℕ)) (x-catalogue : RefT (List Entry))
+        (x-scratch : RefT (List ℕ)) (x-image : RefT (List ℕ))
+        (is-x-self : Is (rowOf Shape) x-self ((valsOf Shape) x-self)) (is-x-role : Is u32 x-role ((uint-vals w32) x-role))
+        (room-x-map : Room u64 (length (now x-map))) (room-x-catalogue : Room Entry′.the-row (length (now x-catalogue)))
+        (room-x-scratch : Room u64 (length (now x-scratch))) (room-x-image : Room u8 (length (now x-image))) where
       abbrev m-x-self : Val
       m-x-self = only ((valsOf Shape) x-self)
 
       typed-x-self : Holds (hasTy (mirOf Shape) m-x-self) × WT m-x-self
       typed-x-self = (Shape .typed 𝓤 H A W) x-self _ is-x-self .0
+
+      abbrev m-x-role : Val
+      m-x-role = only ((uint-vals w32) x-role)
+
+      typed-x-role : Holds (hasTy (tyInt w32) m-x-role) × WT m-x-role
+      typed-x-role = (uint-lawful 𝓤 H A W w32 .typed) x-role _ is-x-role .0
 
       abbrev s-x-map : Val
       s-x-map = sliceVal (x-map .ptr) (length (now x-map))
@@ -302,11 +312,11 @@ module _ (Shape Outcome : Value) where
       abbrev at-x-image : GName → List ℕ → RefT (List ℕ)
       at-x-image δ l = record { ptr = x-image .ptr; name = δ; now = l }
 
-      abbrev args : (denotes Shape) × (RefT (List ℕ) × (RefT (List Entry) × (RefT (List ℕ) × (RefT (List ℕ) × Unit {0}))))
-      args = (x-self, (x-map, (x-catalogue, (x-scratch, (x-image, tt)))))
+      abbrev args : (denotes Shape) × (ℕ × (RefT (List ℕ) × (RefT (List Entry) × (RefT (List ℕ) × (RefT (List ℕ) × Unit {0})))))
+      args = (x-self, (x-role, (x-map, (x-catalogue, (x-scratch, (x-image, tt))))))
 
-      abbrev vals : List Val × (List Val × (List Val × (List Val × (List Val × Unit {0}))))
-      vals = (m-x-self ∷ [], (s-x-map ∷ [], (s-x-catalogue ∷ [], (s-x-scratch ∷ [], (s-x-image ∷ [], tt)))))
+      abbrev vals : List Val × (List Val × (List Val × (List Val × (List Val × (List Val × Unit {0})))))
+      vals = (m-x-self ∷ [], (m-x-role ∷ [], (s-x-map ∷ [], (s-x-catalogue ∷ [], (s-x-scratch ∷ [], (s-x-image ∷ [], tt))))))
 
       abbrev bound : walkOf 𝓤 H A ended stayed (clauses 𝓤) .Ghost
       bound = (((κ₀, (κ₁, (κ₂, (κ₃, tt)))), (q₀, (q₁, (q₂, (q₃, tt)))), tt, args, vals), tt)
@@ -315,22 +325,22 @@ module _ (Shape Outcome : Value) where
       Post = walkOf 𝓤 H A ended stayed (clauses 𝓤) .post bound
 
       abbrev v-n : ℕ
-      v-n = v-n-of x-self (now x-map) (now x-catalogue) (now x-scratch) (now x-image)
+      v-n = v-n-of x-self x-role (now x-map) (now x-catalogue) (now x-scratch) (now x-image)
 
       abbrev v-free : ℕ
-      v-free = v-free-of x-self (now x-map) (now x-catalogue) (now x-scratch) (now x-image)
+      v-free = v-free-of x-self x-role (now x-map) (now x-catalogue) (now x-scratch) (now x-image)
 
       abbrev v-number : ℕ
-      v-number = v-number-of x-self (now x-map) (now x-catalogue) (now x-scratch) (now x-image)
+      v-number = v-number-of x-self x-role (now x-map) (now x-catalogue) (now x-scratch) (now x-image)
 
       abbrev z-save-x-scratch : List ℕ
-      z-save-x-scratch = z-save-x-scratch-of x-self (now x-map) (now x-catalogue) (now x-scratch) (now x-image)
+      z-save-x-scratch = z-save-x-scratch-of x-self x-role (now x-map) (now x-catalogue) (now x-scratch) (now x-image)
 
       abbrev z-save-x-image : List ℕ
-      z-save-x-image = z-save-x-image-of x-self (now x-map) (now x-catalogue) (now x-scratch) (now x-image)
+      z-save-x-image = z-save-x-image-of x-self x-role (now x-map) (now x-catalogue) (now x-scratch) (now x-image)
 
       abbrev v-result : (denotes Outcome)
-      v-result = v-result-of x-self (now x-map) (now x-catalogue) (now x-scratch) (now x-image)
+      v-result = v-result-of x-self x-role (now x-map) (now x-catalogue) (now x-scratch) (now x-image)
 
       abbrev m-v-n : Val
       m-v-n = only ((uint-vals w32) v-n)
@@ -383,11 +393,11 @@ module _ (Shape Outcome : Value) where
           fjoin ! $ bring ! (1 ∷ 0 ∷ []) $ join ! $ frame ! $ done !
 
       -- ---- the caller has what `save` asks
-      abbrev save-args : (δ₀-save δ₁-save : GName) → ℕ × (ℕ × (RefT (List ℕ) × (RefT (List Entry)
-          × (RefT (List ℕ) × (RefT (List ℕ) × Unit {0})))))
+      abbrev save-args : (δ₀-save δ₁-save : GName) → ℕ × (ℕ × (ℕ × (RefT (List ℕ) × (RefT (List Entry)
+          × (RefT (List ℕ) × (RefT (List ℕ) × Unit {0}))))))
       save-args δ₀-save δ₁-save = (
-        v-n,
-        (v-free, (x-map, (x-catalogue, (at-x-scratch δ₀-save (now x-scratch), (at-x-image δ₁-save (now x-image), tt))))),
+        x-role,
+        (v-n, (v-free, (x-map, (x-catalogue, (at-x-scratch δ₀-save (now x-scratch), (at-x-image δ₁-save (now x-image), tt)))))),
       )
 
       abbrev to-save : (ν₀-save ν₁-save : ℕ) (δ₀-save δ₁-save : GName) → (save-contract save-out save-x-scratch save-x-image 𝓤 H
@@ -398,7 +408,10 @@ module _ (Shape Outcome : Value) where
           (q₀, (q₁, (fullShare, (fullShare, tt)))),
           tt,
           save-args δ₀-save δ₁-save,
-          (m-v-n ∷ [], (m-v-free ∷ [], (s-x-map ∷ [], (s-x-catalogue ∷ [], (s-x-scratch ∷ [], (s-x-image ∷ [], tt)))))),
+          (
+            m-x-role ∷ [],
+            (m-v-n ∷ [], (m-v-free ∷ [], (s-x-map ∷ [], (s-x-catalogue ∷ [], (s-x-scratch ∷ [], (s-x-image ∷ [], tt)))))),
+          ),
         ),
         tt,
       )
@@ -419,7 +432,8 @@ module _ (Shape Outcome : Value) where
           nothing ! $ bring ! (1 ∷ 1 ∷ 1 ∷ 1 ∷ 0 ∷ []) $ group ! 5 $ nothing ! $ bring ! (5 ∷ 0 ∷ []) $ fjoin ! $
           bring ! (4 ∷ 0 ∷ []) $ fjoin ! $ bring ! (3 ∷ 0 ∷ []) $ fjoin ! $ bring ! (2 ∷ 0 ∷ []) $ fjoin ! $
           owned ! u32 (Is u32) (uint-makes 𝓤 H A W w32) v-free _ is-v-free $ fjoin ! $
-          owned ! u32 (Is u32) (uint-makes 𝓤 H A W w32) v-n _ is-v-n $ fjoin ! $ bring ! (1 ∷ 0 ∷ []) $ join ! $
+          owned ! u32 (Is u32) (uint-makes 𝓤 H A W w32) v-n _ is-v-n $ fjoin ! $
+          owned ! u32 (Is u32) (uint-makes 𝓤 H A W w32) x-role _ is-x-role $ fjoin ! $ bring ! (1 ∷ 0 ∷ []) $ join ! $
           frame ! $ done !
 
       -- ---- the caller has what `save-outcome` asks
@@ -451,10 +465,11 @@ module _ (Shape Outcome : Value) where
           ∷ ‵ (flft κ₂ q₂) ∷ ‵ (MutSlice (named 3) κ₃ u8 .own (at-x-image (x-image .name) z-save-x-image) (s-x-image ∷ []))
           ∷ ‵ (flft κ₃ q₃) ∷ []) ∵
           suffices ! _ (ends-at 𝓤 H A ended stayed (clauses 𝓤) W bound m-v-result v-result
-          (tt, (tt, (tt, (z-save-x-scratch, (z-save-x-image, tt))))) (tt, (tt, (tt, (l-x-scratch, (l-x-image, tt)))))) $
+          (tt, (tt, (tt, (tt, (z-save-x-scratch, (z-save-x-image, tt))))))
+          (tt, (tt, (tt, (tt, (l-x-scratch, (l-x-image, tt))))))) $
           says ! (refl, refl, refl) $ nothing ! $ bring ! (2 ∷ 3 ∷ 4 ∷ 5 ∷ 0 ∷ []) $ group ! 5 $ frame ! $ nothing ! $
           bring ! (4 ∷ 0 ∷ []) $ fjoin ! $ bring ! (3 ∷ 0 ∷ []) $ fjoin ! $ bring ! (2 ∷ 0 ∷ []) $ fjoin ! $
-          bring ! (1 ∷ 0 ∷ []) $ fjoin ! $
+          bring ! (1 ∷ 0 ∷ []) $ fjoin ! $ owned ! u32 (Is u32) (uint-makes 𝓤 H A W w32) x-role _ is-x-role $ fjoin ! $
           owned ! (rowOf Shape) (Is (rowOf Shape)) (Shape .makes 𝓤 H A) x-self _ is-x-self $ fjoin ! $
           owned ! (rowOf Outcome) (Is (rowOf Outcome)) (Outcome .makes 𝓤 H A) v-result _ is $ bring ! (1 ∷ 0 ∷ []) $
           done !
@@ -465,27 +480,28 @@ module _ (Shape Outcome : Value) where
           (save-contract save-out save-x-scratch save-x-image 𝓤 H A) → Triple 𝓤 (𝓣 .C #save-outcome)
           (save-outcome-contract save-outcome-out 𝓤 H A) → ent 𝓤 (onEntry 𝓤 H A signature (κ₀, (κ₁, (κ₂, (κ₃, tt))))
           (q₀, (q₁, (q₂, (q₃, tt)))) args vals)
-          (WpFn 𝓤 H (𝓣 .C) (𝓣 .Λ) (function #blocks-of #free-of #save #save-outcome) (m-x-self ∷ s-x-map ∷ s-x-catalogue
-          ∷ s-x-scratch ∷ s-x-image ∷ []) Post)
+          (WpFn 𝓤 H (𝓣 .C) (𝓣 .Λ) (function #blocks-of #free-of #save #save-outcome) (m-x-self ∷ m-x-role ∷ s-x-map
+          ∷ s-x-catalogue ∷ s-x-scratch ∷ s-x-image ∷ []) Post)
       walk 𝓣 known-blocks-of known-free-of known-save known-save-outcome =
           qed W ((‵ (flft κ₀ q₀) ⊛ ‵ (flft κ₁ q₁) ⊛ ‵ (flft κ₂ q₂) ⊛ ‵ (flft κ₃ q₃) ⊛ ‵ ftrue)
-          ∷ ‵ (owns ((rowOf Shape) ∷ ShrSlice (named 0) κ₀ u64 ∷ ShrSlice (named 1) κ₁ Entry′.the-row
+          ∷ ‵ (owns ((rowOf Shape) ∷ u32 ∷ ShrSlice (named 0) κ₀ u64 ∷ ShrSlice (named 1) κ₁ Entry′.the-row
           ∷ MutSlice (named 2) κ₂ u64 ∷ MutSlice (named 3) κ₃ u8 ∷ []) args vals) ∷ []) ∵
-          enter ! (𝓣 .C) (𝓣 .Λ) (function #blocks-of #free-of #save #save-outcome) (m-x-self ∷ s-x-map ∷ s-x-catalogue
-          ∷ s-x-scratch ∷ s-x-image ∷ []) _ $
+          enter ! (𝓣 .C) (𝓣 .Λ) (function #blocks-of #free-of #save #save-outcome) (m-x-self ∷ m-x-role ∷ s-x-map
+          ∷ s-x-catalogue ∷ s-x-scratch ∷ s-x-image ∷ []) _ $
           alloc1 ! (λ l₀. alloc1 ! (λ l₁. alloc1 ! (λ l₂. alloc1 ! (λ l₃. alloc1 ! (λ l₄. alloc1 ! (λ l₅.
           alloc1 ! (λ l₆. alloc1 ! (λ l₇. alloc1 ! (λ l₈. alloc1 ! (λ l₉. alloc1 ! (λ l₁₀. alloc1 ! (λ l₁₁.
-          alloc1 ! (λ l₁₂. alloc0 ! $ params1 ! $ pass1 ! (init ! 22 refl typed-x-self) $
+          alloc1 ! (λ l₁₂. alloc1 ! (λ l₁₃. alloc0 ! $ params1 ! $ pass1 ! (init ! 24 refl typed-x-self) $
+          pass1 ! (init ! 22 refl typed-x-role) $
           pass1 ! (init ! 20 refl (tt, (tt, (record { fits = room-x-map .0 }, tt)))) $
           pass1 ! (init ! 18 refl (tt, (tt, (record { fits = room-x-catalogue .0 }, tt)))) $
           pass1 ! (init ! 16 refl (tt, (tt, (record { fits = room-x-scratch .0 }, tt)))) $
-          pass1 ! (init ! 14 refl (tt, (tt, (record { fits = room-x-image .0 }, tt)))) $ pass0 ! $ bring ! (26 ∷ []) $
-          parts W (_ ∷ _ ∷ _ ∷ _ ∷ []) _ $ bring ! (30 ∷ []) $ fparts W (_ ∷ _ ∷ _ ∷ _ ∷ _ ∷ []) _ $
-          discard ! (0 ∷ []) $
+          pass1 ! (init ! 14 refl (tt, (tt, (record { fits = room-x-image .0 }, tt)))) $ pass0 ! $ bring ! (28 ∷ []) $
+          parts W (_ ∷ _ ∷ _ ∷ _ ∷ []) _ $ bring ! (32 ∷ []) $ fparts W (_ ∷ _ ∷ _ ∷ _ ∷ _ ∷ _ ∷ []) _ $
+          discard ! (0 ∷ 0 ∷ []) $
           -- blocks-of
           use0 W (raw ((blocks-of-contract blocks-of-out 𝓤 H A) .pre (to-blocks-of))) (goes-blocks-of) $
           calls-at ! (fmOf 𝓤 H (W .laws) 𝓣) (blocks-of-contract blocks-of-out 𝓤 H A) known-blocks-of (to-blocks-of)
-          (and-then ! (load ! (from ! (stop !)) (look ! 31 refl)) (no-more !)) (λ w-blocks-of.
+          (and-then ! (load ! (from ! (stop !)) (look ! 33 refl)) (no-more !)) (λ w-blocks-of.
           use1 W (later (some (λ (r : ℕ). ((‵ ftrue) ⊛ ‵ (u32 .own r (w-blocks-of ∷ [])))
           ⊛ raw (ensured 𝓤 H A blocks-of-ended (blocks-of-clauses blocks-of-out 𝓤) tt (blocks-of-args) tt r)))) (id⊢ 𝓤 _) $
           await ! tt $ pick ! (λ r-blocks-of. split ! $ bring ! (1 ∷ []) $
@@ -497,13 +513,13 @@ module _ (Shape Outcome : Value) where
           rewrite ! 0 (λ (r : ℕ). ‵ (u32 .own r (w-blocks-of ∷ []))) (e-blocks-of) refl $
           peeks ! u32 (Is u32) (shows 𝓤 H A u32) v-n (w-blocks-of ∷ []) (λ is-w-blocks-of.
           land ! (from ! (stop !)) (init ! 22 refl ((uint-lawful 𝓤 H A W w32 .typed) v-n _ is-w-blocks-of .0)) $
-          rewrite ! 22 (λ (u : Val). ‵ (fat fullShare (tyInt w32) l₆ 0 u)) (ap only ((uint-tells w32) v-n _ is-w-blocks-of))
+          rewrite ! 22 (λ (u : Val). ‵ (fat fullShare (tyInt w32) l₇ 0 u)) (ap only ((uint-tells w32) v-n _ is-w-blocks-of))
           refl $
           discard ! (0 ∷ []) $ parts W ([]) _ $
           -- free-of
           use0 W (raw ((free-of-contract free-of-out 𝓤 H A) .pre (to-free-of))) (goes-free-of) $
           calls-at ! (fmOf 𝓤 H (W .laws) 𝓣) (free-of-contract free-of-out 𝓤 H A) known-free-of (to-free-of)
-          (and-then ! (load ! (from ! (stop !)) (look ! 31 refl)) (no-more !)) (λ w-free-of.
+          (and-then ! (load ! (from ! (stop !)) (look ! 33 refl)) (no-more !)) (λ w-free-of.
           use1 W (later (some (λ (r : ℕ). ((‵ ftrue) ⊛ ‵ (u32 .own r (w-free-of ∷ [])))
           ⊛ raw (ensured 𝓤 H A free-of-ended (free-of-clauses free-of-out 𝓤) tt (free-of-args) tt r)))) (id⊢ 𝓤 _) $
           await ! tt $ pick ! (λ r-free-of. split ! $ bring ! (1 ∷ []) $
@@ -514,7 +530,7 @@ module _ (Shape Outcome : Value) where
           split ! $ bring ! (1 ∷ []) $ rewrite ! 0 (λ (r : ℕ). ‵ (u32 .own r (w-free-of ∷ []))) (e-free-of) refl $
           peeks ! u32 (Is u32) (shows 𝓤 H A u32) v-free (w-free-of ∷ []) (λ is-w-free-of.
           land ! (from ! (stop !)) (init ! 20 refl ((uint-lawful 𝓤 H A W w32 .typed) v-free _ is-w-free-of .0)) $
-          rewrite ! 20 (λ (u : Val). ‵ (fat fullShare (tyInt w32) l₇ 0 u)) (ap only ((uint-tells w32) v-free _ is-w-free-of))
+          rewrite ! 20 (λ (u : Val). ‵ (fat fullShare (tyInt w32) l₈ 0 u)) (ap only ((uint-tells w32) v-free _ is-w-free-of))
           refl $
           discard ! (0 ∷ []) $ parts W ([]) _ $
           -- save
@@ -549,31 +565,33 @@ module _ (Shape Outcome : Value) where
           (to-save ν₀-save ν₁-save δ₀-save δ₁-save))) (goes-save ν₀-save ν₁-save δ₀-save δ₁-save
           (spelled-v-n w-blocks-of is-w-blocks-of) (spelled-v-free w-free-of is-w-free-of)) $
           calls-at ! (fmOf 𝓤 H (W .laws) 𝓣) (save-contract save-out save-x-scratch save-x-image 𝓤 H A) known-save
-          (to-save ν₀-save ν₁-save δ₀-save δ₁-save) (and-then ! (load ! (from ! (stop !)) (look ! 17 refl))
-          (and-then ! (load ! (from ! (stop !)) (look ! 15 refl)) (and-then ! (load ! (from ! (stop !)) (look ! 25 refl))
-          (and-then ! (load ! (from ! (stop !)) (look ! 23 refl)) (and-then ! (load ! (from ! (stop !)) (look ! 9 refl))
-          (and-then ! (load ! (from ! (stop !)) (look ! 5 refl)) (no-more !))))))) (λ w-save.
+          (to-save ν₀-save ν₁-save δ₀-save δ₁-save) (and-then ! (load ! (from ! (stop !)) (look ! 27 refl))
+          (and-then ! (load ! (from ! (stop !)) (look ! 17 refl)) (and-then ! (load ! (from ! (stop !)) (look ! 15 refl))
+          (and-then ! (load ! (from ! (stop !)) (look ! 25 refl)) (and-then ! (load ! (from ! (stop !)) (look ! 23 refl))
+          (and-then ! (load ! (from ! (stop !)) (look ! 9 refl)) (and-then ! (load ! (from ! (stop !)) (look ! 5 refl))
+          (no-more !)))))))) (λ w-save.
           use1 W (later (some (λ (r : ℕ). ((‵ (flft κ₀ q₀) ⊛ ‵ (flft κ₁ q₁) ⊛ ‵ (flft (ν₀-save ∷ []) fullShare)
           ⊛ ‵ (flft (ν₁-save ∷ []) fullShare) ⊛ ‵ ftrue) ⊛ ‵ (u32 .own r (w-save ∷ [])))
           ⊛ raw (ensured 𝓤 H A save-ended (save-clauses save-out save-x-scratch save-x-image 𝓤)
           (κ₀, (κ₁, (ν₀-save ∷ [], (ν₁-save ∷ [], tt)))) (save-args δ₀-save δ₁-save) tt r)))) (id⊢ 𝓤 _) $
           await ! tt $ pick ! (λ r-save. split ! $ bring ! (1 ∷ []) $
-          use1 W (some (λ (zs-save : Unit {0} × (Unit {0} × (Unit {0} × (Unit {0} × (List ℕ × (List ℕ × Unit {0})))))). ‵
-          (lasts save-ended (κ₀, (κ₁, (ν₀-save ∷ [], (ν₁-save ∷ [], tt)))) (save-args δ₀-save δ₁-save) zs-save)
-          ⊛ raw (fact 𝓤 (save-says save-out save-x-scratch save-x-image v-n v-free (now x-map) (now x-catalogue) (now x-scratch)
-          (now x-image) r-save (zs-save .1 .1 .1 .1 .0) (zs-save .1 .1 .1 .1 .1 .0))))) (id⊢ 𝓤 _) $
+          use1 W (some (λ (zs-save : Unit {0} × (Unit {0} × (Unit {0} × (Unit {0} × (Unit {0}
+          × (List ℕ × (List ℕ × Unit {0}))))))). ‵ (lasts save-ended (κ₀, (κ₁, (ν₀-save ∷ [], (ν₁-save ∷ [], tt))))
+          (save-args δ₀-save δ₁-save) zs-save) ⊛ raw (fact 𝓤 (save-says save-out save-x-scratch save-x-image x-role v-n v-free
+          (now x-map) (now x-catalogue) (now x-scratch) (now x-image) r-save (zs-save .1 .1 .1 .1 .1 .0)
+          (zs-save .1 .1 .1 .1 .1 .1 .0))))) (id⊢ 𝓤 _) $
           pick ! (λ zs-save. split ! $ bring ! (1 ∷ []) $
-          heard ! (save-says save-out save-x-scratch save-x-image v-n v-free (now x-map) (now x-catalogue) (now x-scratch)
-          (now x-image) r-save (zs-save .1 .1 .1 .1 .0) (zs-save .1 .1 .1 .1 .1 .0)) (λ e-save.
-          fparts W (_ ∷ _ ∷ _ ∷ _ ∷ _ ∷ _ ∷ []) _ $ discard ! (0 ∷ 0 ∷ 0 ∷ 0 ∷ []) $ fsplit ! $ bring ! (1 ∷ []) $
-          feqL ! (λ h-save-x-scratch. bring ! (1 ∷ []) $ fsplit ! $ bring ! (1 ∷ []) $ feqL ! (λ h-save-x-image.
-          bring ! (2 ∷ []) $ split ! $ bring ! (1 ∷ []) $
+          heard ! (save-says save-out save-x-scratch save-x-image x-role v-n v-free (now x-map) (now x-catalogue)
+          (now x-scratch) (now x-image) r-save (zs-save .1 .1 .1 .1 .1 .0) (zs-save .1 .1 .1 .1 .1 .1 .0)) (λ e-save.
+          fparts W (_ ∷ _ ∷ _ ∷ _ ∷ _ ∷ _ ∷ _ ∷ []) _ $ discard ! (0 ∷ 0 ∷ 0 ∷ 0 ∷ 0 ∷ []) $ fsplit ! $
+          bring ! (1 ∷ []) $ feqL ! (λ h-save-x-scratch. bring ! (1 ∷ []) $ fsplit ! $ bring ! (1 ∷ []) $
+          feqL ! (λ h-save-x-image. bring ! (2 ∷ []) $ split ! $ bring ! (1 ∷ []) $
           rewrite ! 0 (λ (r : ℕ). ‵ (u32 .own r (w-save ∷ []))) (e-save .0) refl $
           rewrite ! 3 (λ (l : List ℕ). ‵ (finally u64 δ₀-save l)) (e-save .1) refl $
           rewrite ! 2 (λ (l : List ℕ). ‵ (finally u8 δ₁-save l)) (e-save .2) refl $
           peeks ! u32 (Is u32) (shows 𝓤 H A u32) v-number (w-save ∷ []) (λ is-w-save.
           land ! (from ! (stop !)) (init ! 16 refl ((uint-lawful 𝓤 H A W w32 .typed) v-number _ is-w-save .0)) $
-          rewrite ! 16 (λ (u : Val). ‵ (fat fullShare (tyInt w32) l₈ 0 u)) (ap only ((uint-tells w32) v-number _ is-w-save))
+          rewrite ! 16 (λ (u : Val). ‵ (fat fullShare (tyInt w32) l₉ 0 u)) (ap only ((uint-tells w32) v-number _ is-w-save))
           refl $
           discard ! (0 ∷ []) $ parts W (_ ∷ _ ∷ _ ∷ _ ∷ []) _ $ bring ! (2 ∷ []) $ lft-end ! tt $
           bring ! (0 ∷ 6 ∷ 4 ∷ []) $
@@ -591,7 +609,7 @@ module _ (Shape Outcome : Value) where
           use0 W (raw ((save-outcome-contract save-outcome-out 𝓤 H A) .pre (to-save-outcome)))
           (goes-save-outcome (spelled-v-number w-save is-w-save)) $
           calls-at ! (fmOf 𝓤 H (W .laws) 𝓣) (save-outcome-contract save-outcome-out 𝓤 H A) known-save-outcome (to-save-outcome)
-          (and-then ! (load ! (from ! (stop !)) (look ! 31 refl)) (and-then ! (load ! (from ! (stop !)) (look ! 17 refl))
+          (and-then ! (load ! (from ! (stop !)) (look ! 33 refl)) (and-then ! (load ! (from ! (stop !)) (look ! 17 refl))
           (no-more !))) (λ w-save-outcome.
           use1 W (later (some (λ (r : (denotes Outcome)). ((‵ ftrue) ⊛ ‵ ((rowOf Outcome) .own r (w-save-outcome ∷ [])))
           ⊛ raw (ensured 𝓤 H A save-outcome-ended (save-outcome-clauses save-outcome-out 𝓤) tt (save-outcome-args) tt r))))
@@ -606,16 +624,16 @@ module _ (Shape Outcome : Value) where
           rewrite ! 0 (λ (r : (denotes Outcome)). ‵ ((rowOf Outcome) .own r (w-save-outcome ∷ []))) (e-save-outcome) refl $
           peeks ! (rowOf Outcome) (Is (rowOf Outcome)) (shows 𝓤 H A (rowOf Outcome)) v-result (w-save-outcome ∷ [])
           (λ is-w-save-outcome.
-          land ! (from ! (stop !)) (init ! 34 refl ((Outcome .typed 𝓤 H A W) v-result _ is-w-save-outcome .0)) $
-          rewrite ! 34 (λ (u : Val). ‵ (fat fullShare (mirOf Outcome) l₀ 0 u)) (ap only
+          land ! (from ! (stop !)) (init ! 36 refl ((Outcome .typed 𝓤 H A W) v-result _ is-w-save-outcome .0)) $
+          rewrite ! 36 (λ (u : Val). ‵ (fat fullShare (mirOf Outcome) l₀ 0 u)) (ap only
           ((Outcome .tells) v-result _ is-w-save-outcome)) refl $
-          discard ! (0 ∷ []) $ parts W ([]) _ $ returns ! (look ! 32 refl) $ leave ! 32 refl refl $
-          leave ! 30 refl refl $ leave ! 28 refl refl $ leave ! 26 refl refl $ leave ! 24 refl refl $
-          leave ! 22 refl refl $ leave ! 20 refl refl $ leave ! 18 refl refl $ leave ! 16 refl refl $
-          leave ! 14 refl refl $ leave ! 12 refl refl $ leave ! 10 refl refl $ leave ! 8 refl refl $ free0 ! $
-          bring ! (7 ∷ 4 ∷ 5 ∷ 4 ∷ 2 ∷ 2 ∷ 0 ∷ 0 ∷ []) $
+          discard ! (0 ∷ []) $ parts W ([]) _ $ returns ! (look ! 34 refl) $ leave ! 34 refl refl $
+          leave ! 32 refl refl $ leave ! 30 refl refl $ leave ! 28 refl refl $ leave ! 26 refl refl $
+          leave ! 24 refl refl $ leave ! 22 refl refl $ leave ! 20 refl refl $ leave ! 18 refl refl $
+          leave ! 16 refl refl $ leave ! 14 refl refl $ leave ! 12 refl refl $ leave ! 10 refl refl $
+          leave ! 8 refl refl $ free0 ! $ bring ! (7 ∷ 4 ∷ 5 ∷ 4 ∷ 2 ∷ 2 ∷ 0 ∷ 0 ∷ []) $
           by ! (exits (spelled-v-result w-save-outcome is-w-save-outcome) (ap {B = ℕ} length (sym (e-save .1))
-          ∙ h-save-x-scratch) (ap {B = ℕ} length (sym (e-save .2)) ∙ h-save-x-image)))))))))))))))))))))))))))))))))))))))))
+          ∙ h-save-x-scratch) (ap {B = ℕ} length (sym (e-save .2)) ∙ h-save-x-image))))))))))))))))))))))))))))))))))))))))))
 
     module _ {M : Type 1} (𝓤 : URA M) (H : Heap 𝓤) (A : Atoms 𝓤) (W : Given 𝓤 H A) where
       walks : (𝓣 : Tables 𝓤 H) → Triple 𝓤 (𝓣 .C #blocks-of) (blocks-of-contract blocks-of-out 𝓤 H A)
@@ -625,21 +643,24 @@ module _ (Shape Outcome : Value) where
           (function #blocks-of #free-of #save #save-outcome)) (clauses 𝓤)
       walks 𝓣 known-blocks-of known-free-of known-save known-save-outcome =
           walked 𝓤 H A ended stayed (clauses 𝓤) (WpFn 𝓤 H (𝓣 .C) (𝓣 .Λ) (function #blocks-of #free-of #save #save-outcome))
-          (λ κs. ((valsOf Shape), (slice-vals, (slice-vals, (slice-vals, (slice-vals, tt))))))
+          (λ κs. ((valsOf Shape), ((uint-vals w32), (slice-vals, (slice-vals, (slice-vals, (slice-vals, tt)))))))
           (λ κs. (
             (Shape .tells),
             (
-              shr-slice-tells (named 0) (κs .0) u64,
+              (uint-tells w32),
               (
-                shr-slice-tells (named 1) (κs .1 .0) Entry′.the-row,
-                (mut-slice-tells (named 2) (κs .1 .1 .0) u64, (mut-slice-tells (named 3) (κs .1 .1 .1 .0) u8, tt)),
+                shr-slice-tells (named 0) (κs .0) u64,
+                (
+                  shr-slice-tells (named 1) (κs .1 .0) Entry′.the-row,
+                  (mut-slice-tells (named 2) (κs .1 .1 .0) u64, (mut-slice-tells (named 3) (κs .1 .1 .1 .0) u8, tt)),
+                ),
               ),
             ),
           ))
           (λ κs qs bounds a g are. via 𝓤 _ (fst∗ 𝓤 _ (emp 𝓤)) (walk 𝓤 H A W (κs .0) (κs .1 .0) (κs .1 .1 .0) (κs .1 .1 .1 .0)
           (qs .0) (qs .1 .0) (qs .1 .1 .0) (qs .1 .1 .1 .0) (a .0) (a .1 .0) (a .1 .1 .0) (a .1 .1 .1 .0) (a .1 .1 .1 .1 .0)
-          (are .0) (are .1 .0 .0 .1) (are .1 .1 .0 .0 .1) (are .1 .1 .1 .0 .0 .1) (are .1 .1 .1 .1 .0 .0 .1) 𝓣 known-blocks-of
-          known-free-of known-save known-save-outcome))
+          (a .1 .1 .1 .1 .1 .0) (are .0) (are .1 .0) (are .1 .1 .0 .0 .1) (are .1 .1 .1 .0 .0 .1) (are .1 .1 .1 .1 .0 .0 .1)
+          (are .1 .1 .1 .1 .1 .0 .0 .1) 𝓣 known-blocks-of known-free-of known-save known-save-outcome))
 
       pub meets : (𝓣 : Tables 𝓤 H) → Triple 𝓤 (𝓣 .C #blocks-of) (blocks-of-contract blocks-of-out 𝓤 H A)
           → Triple 𝓤 (𝓣 .C #free-of) (free-of-contract free-of-out 𝓤 H A) → Triple 𝓤 (𝓣 .C #save)
@@ -650,10 +671,13 @@ module _ (Shape Outcome : Value) where
           walk-meets 𝓤 H A ended stayed W (
             goes-none 𝓤 H A W 4 (λ _. (rowOf Shape)) yes (λ κs x f. refl),
             (
-              goes-none-slice 𝓤 H A W 4 (0 ∷ []) tt (plain (λ _. u64)) yes,
+              goes-none 𝓤 H A W 4 (λ _. u32) yes (λ κs x f. refl),
               (
-                goes-none-slice 𝓤 H A W 4 (1 ∷ []) tt (plain (λ _. Entry′.the-row)) yes,
-                (goes-slice 𝓤 H A W 4 2 tt (plain (λ _. u64)), (goes-slice 𝓤 H A W 4 3 tt (plain (λ _. u8)), tt)),
+                goes-none-slice 𝓤 H A W 4 (0 ∷ []) tt (plain (λ _. u64)) yes,
+                (
+                  goes-none-slice 𝓤 H A W 4 (1 ∷ []) tt (plain (λ _. Entry′.the-row)) yes,
+                  (goes-slice 𝓤 H A W 4 2 tt (plain (λ _. u64)), (goes-slice 𝓤 H A W 4 3 tt (plain (λ _. u8)), tt)),
+                ),
               ),
             ),
           )

@@ -1,6 +1,6 @@
 -- Written by tools/walks: every function (role: u32, shape: Shape, map: &[u64], catalogue: &[Entry], card: &[u8], sheet: u32,
 -- place: u32, buffer: &mut [u8]) whose code is
---     let outcome: Outcome = call(role, shape, map, catalogue, card, sheet, place, buffer);
+--     let outcome: Outcome = call(shape, role, map, catalogue, card, sheet, place, buffer);
 --     reply_of(outcome)
 -- One walk serves every choice of the callees: it takes their names and what their contracts say. The types by value are any,
 -- too.
@@ -97,7 +97,7 @@ module _ (Shape Outcome Reply : Value) where
         ∷ local (tyRef erased mut (tyInt w8)) valueLocal ∷ local (sliceTy (tyRef erased mut (tyInt w8))) valueLocal ∷ [];
     body = seq (assign (place 10 []) (addrOf (place 8 (field 0 ∷ deref (tyInt w8) ∷ []))))
         (seq (assign (place 11 []) (aggregate (copy (place 10 []) ∷ copy (place 8 (field 1 ∷ [])) ∷ [])))
-        (seq (call #call (copy (place 1 []) ∷ copy (place 2 []) ∷ copy (place 3 []) ∷ copy (place 4 []) ∷ copy (place 5 [])
+        (seq (call #call (copy (place 2 []) ∷ copy (place 1 []) ∷ copy (place 3 []) ∷ copy (place 4 []) ∷ copy (place 5 [])
         ∷ copy (place 6 []) ∷ copy (place 7 []) ∷ copy (place 11 []) ∷ []) (place 9 []))
         (seq (call #reply-of (copy (place 9 []) ∷ []) (place 0 [])) return)));
   }
@@ -107,7 +107,7 @@ module _ (Shape Outcome Reply : Value) where
   call-signature = record {
     lifetimes = 4;
     outlives = [];
-    params = plain (λ _. u32) ∷ plain (λ _. (rowOf Shape)) ∷ shrSlice 0 tt (λ _. u64) ∷ shrSlice 1 tt (λ _. Entry′.the-row)
+    params = plain (λ _. (rowOf Shape)) ∷ plain (λ _. u32) ∷ shrSlice 0 tt (λ _. u64) ∷ shrSlice 1 tt (λ _. Entry′.the-row)
         ∷ shrSlice 2 tt (λ _. u8) ∷ plain (λ _. u32) ∷ plain (λ _. u32) ∷ mutSlice 3 tt (λ _. u8) ∷ [];
     result = plain (λ _. (rowOf Outcome));
   }
@@ -116,10 +116,10 @@ module _ (Shape Outcome Reply : Value) where
   call-ended = record { signature = call-signature; kept = (yes, (yes, (yes, (yes, (yes, (yes, (yes, (yes, tt)))))))) }
 
   abbrev call-Model : Type 0 → Type 0
-  call-Model X = ℕ → (denotes Shape) → List ℕ → List Entry → List ℕ → ℕ → ℕ → List ℕ → X
+  call-Model X = (denotes Shape) → ℕ → List ℕ → List Entry → List ℕ → ℕ → ℕ → List ℕ → X
 
   module _ (call-out : call-Model (denotes Outcome)) (call-x-buffer : call-Model (List ℕ)) where
-    abbrev call-says : ℕ → (denotes Shape) → List ℕ → List Entry → List ℕ → ℕ → ℕ → List ℕ → (denotes Outcome) → List ℕ → Type 0
+    abbrev call-says : (denotes Shape) → ℕ → List ℕ → List Entry → List ℕ → ℕ → ℕ → List ℕ → (denotes Outcome) → List ℕ → Type 0
     call-says a0 a1 a2 a3 a4 a5 a6 a7 r b7 = (r ≡ call-out a0 a1 a2 a3 a4 a5 a6 a7) × (b7
         ≡ call-x-buffer a0 a1 a2 a3 a4 a5 a6 a7)
 
@@ -174,10 +174,10 @@ module _ (Shape Outcome Reply : Value) where
     module _ (x-role : ℕ) (x-shape : (denotes Shape)) (x-map : List ℕ) (x-catalogue : List Entry) (x-card : List ℕ)
         (x-sheet : ℕ) (x-place : ℕ) (x-buffer : List ℕ) where
       abbrev v-outcome-of : (denotes Outcome)
-      v-outcome-of = call-out x-role x-shape x-map x-catalogue x-card x-sheet x-place x-buffer
+      v-outcome-of = call-out x-shape x-role x-map x-catalogue x-card x-sheet x-place x-buffer
 
       abbrev z-call-x-buffer-of : List ℕ
-      z-call-x-buffer-of = call-x-buffer x-role x-shape x-map x-catalogue x-card x-sheet x-place x-buffer
+      z-call-x-buffer-of = call-x-buffer x-shape x-role x-map x-catalogue x-card x-sheet x-place x-buffer
 
       abbrev v-result-of : (denotes Reply)
       v-result-of = reply-of-out v-outcome-of
@@ -293,11 +293,11 @@ module _ (Shape Outcome Reply : Value) where
       spelled-v-result w is = subst (λ (vs : List Val). Is (rowOf Reply) v-result vs) ((Reply .tells) v-result _ is) is
 
       -- ---- the caller has what `call` asks
-      abbrev call-args : (δ₀-call : GName) → ℕ × ((denotes Shape) × (RefT (List ℕ) × (RefT (List Entry)
+      abbrev call-args : (δ₀-call : GName) → (denotes Shape) × (ℕ × (RefT (List ℕ) × (RefT (List Entry)
           × (RefT (List ℕ) × (ℕ × (ℕ × (RefT (List ℕ) × Unit {0})))))))
       call-args δ₀-call = (
-        x-role,
-        (x-shape, (x-map, (x-catalogue, (x-card, (x-sheet, (x-place, (at-x-buffer δ₀-call (now x-buffer), tt))))))),
+        x-shape,
+        (x-role, (x-map, (x-catalogue, (x-card, (x-sheet, (x-place, (at-x-buffer δ₀-call (now x-buffer), tt))))))),
       )
 
       abbrev to-call : (ν₀-call : ℕ) (δ₀-call : GName) → (call-contract call-out call-x-buffer 𝓤 H A) .Ghost
@@ -308,9 +308,9 @@ module _ (Shape Outcome Reply : Value) where
           tt,
           call-args δ₀-call,
           (
-            m-x-role ∷ [],
+            m-x-shape ∷ [],
             (
-              m-x-shape ∷ [],
+              m-x-role ∷ [],
               (s-x-map ∷ [], (s-x-catalogue ∷ [], (s-x-card ∷ [], (m-x-sheet ∷ [], (m-x-place ∷ [], (s-x-buffer ∷ [], tt)))))),
             ),
           ),
@@ -333,9 +333,9 @@ module _ (Shape Outcome Reply : Value) where
           owned ! u32 (Is u32) (uint-makes 𝓤 H A W w32) x-place _ is-x-place $ fjoin ! $
           owned ! u32 (Is u32) (uint-makes 𝓤 H A W w32) x-sheet _ is-x-sheet $ fjoin ! $ bring ! (4 ∷ 0 ∷ []) $
           fjoin ! $ bring ! (3 ∷ 0 ∷ []) $ fjoin ! $ bring ! (2 ∷ 0 ∷ []) $ fjoin ! $
+          owned ! u32 (Is u32) (uint-makes 𝓤 H A W w32) x-role _ is-x-role $ fjoin ! $
           owned ! (rowOf Shape) (Is (rowOf Shape)) (Shape .makes 𝓤 H A) x-shape _ is-x-shape $ fjoin ! $
-          owned ! u32 (Is u32) (uint-makes 𝓤 H A W w32) x-role _ is-x-role $ fjoin ! $ bring ! (1 ∷ 0 ∷ []) $ join ! $
-          frame ! $ done !
+          bring ! (1 ∷ 0 ∷ []) $ join ! $ frame ! $ done !
 
       -- ---- the caller has what `reply-of` asks
       abbrev reply-of-args : (denotes Outcome) × Unit {0}
@@ -422,7 +422,7 @@ module _ (Shape Outcome Reply : Value) where
           use1 W (raw ((call-contract call-out call-x-buffer 𝓤 H A) .pre (to-call ν₀-call δ₀-call))) (goes-call ν₀-call δ₀-call)
           $
           calls-at ! (fmOf 𝓤 H (W .laws) 𝓣) (call-contract call-out call-x-buffer 𝓤 H A) known-call (to-call ν₀-call δ₀-call)
-          (and-then ! (load ! (from ! (stop !)) (look ! 25 refl)) (and-then ! (load ! (from ! (stop !)) (look ! 23 refl))
+          (and-then ! (load ! (from ! (stop !)) (look ! 23 refl)) (and-then ! (load ! (from ! (stop !)) (look ! 25 refl))
           (and-then ! (load ! (from ! (stop !)) (look ! 21 refl)) (and-then ! (load ! (from ! (stop !)) (look ! 19 refl))
           (and-then ! (load ! (from ! (stop !)) (look ! 17 refl)) (and-then ! (load ! (from ! (stop !)) (look ! 15 refl))
           (and-then ! (load ! (from ! (stop !)) (look ! 13 refl)) (and-then ! (load ! (from ! (stop !)) (look ! 5 refl))
@@ -434,10 +434,10 @@ module _ (Shape Outcome Reply : Value) where
           await ! tt $ pick ! (λ r-call. split ! $ bring ! (1 ∷ []) $
           use1 W (some (λ (zs-call : Unit {0} × (Unit {0} × (Unit {0} × (Unit {0} × (Unit {0}
           × (Unit {0} × (Unit {0} × (List ℕ × Unit {0})))))))). ‵ (lasts call-ended (κ₀, (κ₁, (κ₂, (ν₀-call ∷ [], tt))))
-          (call-args δ₀-call) zs-call) ⊛ raw (fact 𝓤 (call-says call-out call-x-buffer x-role x-shape (now x-map)
+          (call-args δ₀-call) zs-call) ⊛ raw (fact 𝓤 (call-says call-out call-x-buffer x-shape x-role (now x-map)
           (now x-catalogue) (now x-card) x-sheet x-place (now x-buffer) r-call (zs-call .1 .1 .1 .1 .1 .1 .1 .0))))) (id⊢ 𝓤 _) $
           pick ! (λ zs-call. split ! $ bring ! (1 ∷ []) $
-          heard ! (call-says call-out call-x-buffer x-role x-shape (now x-map) (now x-catalogue) (now x-card) x-sheet x-place
+          heard ! (call-says call-out call-x-buffer x-shape x-role (now x-map) (now x-catalogue) (now x-card) x-sheet x-place
           (now x-buffer) r-call (zs-call .1 .1 .1 .1 .1 .1 .1 .0)) (λ e-call.
           fparts W (_ ∷ _ ∷ _ ∷ _ ∷ _ ∷ _ ∷ _ ∷ _ ∷ []) _ $ discard ! (0 ∷ 0 ∷ 0 ∷ 0 ∷ 0 ∷ 0 ∷ 0 ∷ []) $ fsplit ! $
           bring ! (1 ∷ []) $ feqL ! (λ h-call-x-buffer. bring ! (1 ∷ []) $ split ! $ bring ! (1 ∷ []) $

@@ -1,6 +1,6 @@
 -- Written by tools/walks: every function (role: u32, shape: Shape, map: &[u64], catalogue: &mut [Entry], card: &[u8], sheet:
 -- u32) whose code is
---     let outcome: Outcome = call(role, shape, map, catalogue, card, sheet);
+--     let outcome: Outcome = call(shape, role, map, catalogue, card, sheet);
 --     reply_of(outcome)
 -- One walk serves every choice of the callees: it takes their names and what their contracts say. The types by value are any,
 -- too.
@@ -95,7 +95,7 @@ module _ (Shape Outcome Reply : Value) where
         (tyRef erased mut (pointee (Entry′.the-row .written)))) valueLocal ∷ [];
     body = seq (assign (place 8 []) (addrOf (place 4 (field 0 ∷ deref Entry″.mir ∷ []))))
         (seq (assign (place 9 []) (aggregate (copy (place 8 []) ∷ copy (place 4 (field 1 ∷ [])) ∷ [])))
-        (seq (call #call (copy (place 1 []) ∷ copy (place 2 []) ∷ copy (place 3 []) ∷ copy (place 9 []) ∷ copy (place 5 [])
+        (seq (call #call (copy (place 2 []) ∷ copy (place 1 []) ∷ copy (place 3 []) ∷ copy (place 9 []) ∷ copy (place 5 [])
         ∷ copy (place 6 []) ∷ []) (place 7 []))
         (seq (call #reply-of (copy (place 7 []) ∷ []) (place 0 [])) return)));
   }
@@ -105,7 +105,7 @@ module _ (Shape Outcome Reply : Value) where
   call-signature = record {
     lifetimes = 3;
     outlives = [];
-    params = plain (λ _. u32) ∷ plain (λ _. (rowOf Shape)) ∷ shrSlice 0 tt (λ _. u64) ∷ mutSlice 1 tt (λ _. Entry′.the-row)
+    params = plain (λ _. (rowOf Shape)) ∷ plain (λ _. u32) ∷ shrSlice 0 tt (λ _. u64) ∷ mutSlice 1 tt (λ _. Entry′.the-row)
         ∷ shrSlice 2 tt (λ _. u8) ∷ plain (λ _. u32) ∷ [];
     result = plain (λ _. (rowOf Outcome));
   }
@@ -114,10 +114,10 @@ module _ (Shape Outcome Reply : Value) where
   call-ended = record { signature = call-signature; kept = (yes, (yes, (yes, (yes, (yes, (yes, tt)))))) }
 
   abbrev call-Model : Type 0 → Type 0
-  call-Model X = ℕ → (denotes Shape) → List ℕ → List Entry → List ℕ → ℕ → X
+  call-Model X = (denotes Shape) → ℕ → List ℕ → List Entry → List ℕ → ℕ → X
 
   module _ (call-out : call-Model (denotes Outcome)) (call-x-catalogue : call-Model (List Entry)) where
-    abbrev call-says : ℕ → (denotes Shape) → List ℕ → List Entry → List ℕ → ℕ → (denotes Outcome) → List Entry → Type 0
+    abbrev call-says : (denotes Shape) → ℕ → List ℕ → List Entry → List ℕ → ℕ → (denotes Outcome) → List Entry → Type 0
     call-says a0 a1 a2 a3 a4 a5 r b3 = (r ≡ call-out a0 a1 a2 a3 a4 a5) × (b3 ≡ call-x-catalogue a0 a1 a2 a3 a4 a5)
 
     module _ {M : Type 1} (𝓤 : URA M) where
@@ -170,10 +170,10 @@ module _ (Shape Outcome Reply : Value) where
     module _ (x-role : ℕ) (x-shape : (denotes Shape)) (x-map : List ℕ) (x-catalogue : List Entry) (x-card : List ℕ)
         (x-sheet : ℕ) where
       abbrev v-outcome-of : (denotes Outcome)
-      v-outcome-of = call-out x-role x-shape x-map x-catalogue x-card x-sheet
+      v-outcome-of = call-out x-shape x-role x-map x-catalogue x-card x-sheet
 
       abbrev z-call-x-catalogue-of : List Entry
-      z-call-x-catalogue-of = call-x-catalogue x-role x-shape x-map x-catalogue x-card x-sheet
+      z-call-x-catalogue-of = call-x-catalogue x-shape x-role x-map x-catalogue x-card x-sheet
 
       abbrev v-result-of : (denotes Reply)
       v-result-of = reply-of-out v-outcome-of
@@ -266,9 +266,9 @@ module _ (Shape Outcome Reply : Value) where
       spelled-v-result w is = subst (λ (vs : List Val). Is (rowOf Reply) v-result vs) ((Reply .tells) v-result _ is) is
 
       -- ---- the caller has what `call` asks
-      abbrev call-args : (δ₀-call : GName) → ℕ × ((denotes Shape) × (RefT (List ℕ) × (RefT (List Entry)
+      abbrev call-args : (δ₀-call : GName) → (denotes Shape) × (ℕ × (RefT (List ℕ) × (RefT (List Entry)
           × (RefT (List ℕ) × (ℕ × Unit {0})))))
-      call-args δ₀-call = (x-role, (x-shape, (x-map, (at-x-catalogue δ₀-call (now x-catalogue), (x-card, (x-sheet, tt))))))
+      call-args δ₀-call = (x-shape, (x-role, (x-map, (at-x-catalogue δ₀-call (now x-catalogue), (x-card, (x-sheet, tt))))))
 
       abbrev to-call : (ν₀-call : ℕ) (δ₀-call : GName) → (call-contract call-out call-x-catalogue 𝓤 H A) .Ghost
       to-call ν₀-call δ₀-call = (
@@ -277,7 +277,7 @@ module _ (Shape Outcome Reply : Value) where
           (q₀, (fullShare, (q₂, tt))),
           tt,
           call-args δ₀-call,
-          (m-x-role ∷ [], (m-x-shape ∷ [], (s-x-map ∷ [], (s-x-catalogue ∷ [], (s-x-card ∷ [], (m-x-sheet ∷ [], tt)))))),
+          (m-x-shape ∷ [], (m-x-role ∷ [], (s-x-map ∷ [], (s-x-catalogue ∷ [], (s-x-card ∷ [], (m-x-sheet ∷ [], tt)))))),
         ),
         tt,
       )
@@ -295,9 +295,9 @@ module _ (Shape Outcome Reply : Value) where
           nothing ! $ bring ! (1 ∷ 1 ∷ 1 ∷ 0 ∷ []) $ group ! 4 $ nothing ! $
           owned ! u32 (Is u32) (uint-makes 𝓤 H A W w32) x-sheet _ is-x-sheet $ fjoin ! $ bring ! (4 ∷ 0 ∷ []) $
           fjoin ! $ bring ! (3 ∷ 0 ∷ []) $ fjoin ! $ bring ! (2 ∷ 0 ∷ []) $ fjoin ! $
+          owned ! u32 (Is u32) (uint-makes 𝓤 H A W w32) x-role _ is-x-role $ fjoin ! $
           owned ! (rowOf Shape) (Is (rowOf Shape)) (Shape .makes 𝓤 H A) x-shape _ is-x-shape $ fjoin ! $
-          owned ! u32 (Is u32) (uint-makes 𝓤 H A W w32) x-role _ is-x-role $ fjoin ! $ bring ! (1 ∷ 0 ∷ []) $ join ! $
-          frame ! $ done !
+          bring ! (1 ∷ 0 ∷ []) $ join ! $ frame ! $ done !
 
       -- ---- the caller has what `reply-of` asks
       abbrev reply-of-args : (denotes Outcome) × Unit {0}
@@ -375,7 +375,7 @@ module _ (Shape Outcome Reply : Value) where
           use1 W (raw ((call-contract call-out call-x-catalogue 𝓤 H A) .pre (to-call ν₀-call δ₀-call)))
           (goes-call ν₀-call δ₀-call) $
           calls-at ! (fmOf 𝓤 H (W .laws) 𝓣) (call-contract call-out call-x-catalogue 𝓤 H A) known-call (to-call ν₀-call δ₀-call)
-          (and-then ! (load ! (from ! (stop !)) (look ! 20 refl)) (and-then ! (load ! (from ! (stop !)) (look ! 18 refl))
+          (and-then ! (load ! (from ! (stop !)) (look ! 18 refl)) (and-then ! (load ! (from ! (stop !)) (look ! 20 refl))
           (and-then ! (load ! (from ! (stop !)) (look ! 16 refl)) (and-then ! (load ! (from ! (stop !)) (look ! 4 refl))
           (and-then ! (load ! (from ! (stop !)) (look ! 12 refl)) (and-then ! (load ! (from ! (stop !)) (look ! 10 refl))
           (no-more !))))))) (λ w-call.
@@ -385,10 +385,10 @@ module _ (Shape Outcome Reply : Value) where
           await ! tt $ pick ! (λ r-call. split ! $ bring ! (1 ∷ []) $
           use1 W (some (λ (zs-call : Unit {0} × (Unit {0} × (Unit {0} × (List Entry × (Unit {0} × (Unit {0} × Unit {0})))))). ‵
           (lasts call-ended (κ₀, (ν₀-call ∷ [], (κ₂, tt))) (call-args δ₀-call) zs-call)
-          ⊛ raw (fact 𝓤 (call-says call-out call-x-catalogue x-role x-shape (now x-map) (now x-catalogue) (now x-card) x-sheet
+          ⊛ raw (fact 𝓤 (call-says call-out call-x-catalogue x-shape x-role (now x-map) (now x-catalogue) (now x-card) x-sheet
           r-call (zs-call .1 .1 .1 .0))))) (id⊢ 𝓤 _) $
           pick ! (λ zs-call. split ! $ bring ! (1 ∷ []) $
-          heard ! (call-says call-out call-x-catalogue x-role x-shape (now x-map) (now x-catalogue) (now x-card) x-sheet r-call
+          heard ! (call-says call-out call-x-catalogue x-shape x-role (now x-map) (now x-catalogue) (now x-card) x-sheet r-call
           (zs-call .1 .1 .1 .0)) (λ e-call.
           fparts W (_ ∷ _ ∷ _ ∷ _ ∷ _ ∷ _ ∷ []) _ $ discard ! (0 ∷ 0 ∷ 0 ∷ 1 ∷ 1 ∷ []) $ fsplit ! $ bring ! (1 ∷ []) $
           feqL ! (λ h-call-x-catalogue. bring ! (1 ∷ []) $ split ! $ bring ! (1 ∷ []) $

@@ -1,5 +1,5 @@
 -- Written by tools/walks: every function (role: u32, shape: Shape, map: &[u64], catalogue: &[Entry], sheet: u32) whose code is
---     let outcome: Outcome = call(role, shape, map, catalogue, sheet);
+--     let outcome: Outcome = call(shape, role, map, catalogue, sheet);
 --     reply_of(outcome)
 -- One walk serves every choice of the callees: it takes their names and what their contracts say. The types by value are any,
 -- too.
@@ -81,7 +81,7 @@ module _ (Shape Outcome Reply : Value) where
         ∷ local (sliceTy (tyRef (named 0) imm (tyInt w64))) valueLocal ∷ local (sliceTy
         (tyRef (named 1) imm (pointee (Entry′.the-row .written)))) valueLocal ∷ local (tyInt w32) valueLocal
         ∷ local (mirOf Outcome) valueLocal ∷ [];
-    body = seq (call #call (copy (place 1 []) ∷ copy (place 2 []) ∷ copy (place 3 []) ∷ copy (place 4 []) ∷ copy (place 5 [])
+    body = seq (call #call (copy (place 2 []) ∷ copy (place 1 []) ∷ copy (place 3 []) ∷ copy (place 4 []) ∷ copy (place 5 [])
         ∷ []) (place 6 []))
         (seq (call #reply-of (copy (place 6 []) ∷ []) (place 0 [])) return);
   }
@@ -91,7 +91,7 @@ module _ (Shape Outcome Reply : Value) where
   call-signature = record {
     lifetimes = 2;
     outlives = [];
-    params = plain (λ _. u32) ∷ plain (λ _. (rowOf Shape)) ∷ shrSlice 0 tt (λ _. u64) ∷ shrSlice 1 tt (λ _. Entry′.the-row)
+    params = plain (λ _. (rowOf Shape)) ∷ plain (λ _. u32) ∷ shrSlice 0 tt (λ _. u64) ∷ shrSlice 1 tt (λ _. Entry′.the-row)
         ∷ plain (λ _. u32) ∷ [];
     result = plain (λ _. (rowOf Outcome));
   }
@@ -100,10 +100,10 @@ module _ (Shape Outcome Reply : Value) where
   call-ended = record { signature = call-signature; kept = (yes, (yes, (yes, (yes, (yes, tt))))) }
 
   abbrev call-Model : Type 0 → Type 0
-  call-Model X = ℕ → (denotes Shape) → List ℕ → List Entry → ℕ → X
+  call-Model X = (denotes Shape) → ℕ → List ℕ → List Entry → ℕ → X
 
   module _ (call-out : call-Model (denotes Outcome)) where
-    abbrev call-says : ℕ → (denotes Shape) → List ℕ → List Entry → ℕ → (denotes Outcome) → Type 0
+    abbrev call-says : (denotes Shape) → ℕ → List ℕ → List Entry → ℕ → (denotes Outcome) → Type 0
     call-says a0 a1 a2 a3 a4 r = r ≡ call-out a0 a1 a2 a3 a4
 
     module _ {M : Type 1} (𝓤 : URA M) where
@@ -154,7 +154,7 @@ module _ (Shape Outcome Reply : Value) where
     -- ---- what the chain gives, call by call
     module _ (x-role : ℕ) (x-shape : (denotes Shape)) (x-map : List ℕ) (x-catalogue : List Entry) (x-sheet : ℕ) where
       abbrev v-outcome-of : (denotes Outcome)
-      v-outcome-of = call-out x-role x-shape x-map x-catalogue x-sheet
+      v-outcome-of = call-out x-shape x-role x-map x-catalogue x-sheet
 
       abbrev v-result-of : (denotes Reply)
       v-result-of = reply-of-out v-outcome-of
@@ -236,8 +236,8 @@ module _ (Shape Outcome Reply : Value) where
       spelled-v-result w is = subst (λ (vs : List Val). Is (rowOf Reply) v-result vs) ((Reply .tells) v-result _ is) is
 
       -- ---- the caller has what `call` asks
-      abbrev call-args : ℕ × ((denotes Shape) × (RefT (List ℕ) × (RefT (List Entry) × (ℕ × Unit {0}))))
-      call-args = (x-role, (x-shape, (x-map, (x-catalogue, (x-sheet, tt)))))
+      abbrev call-args : (denotes Shape) × (ℕ × (RefT (List ℕ) × (RefT (List Entry) × (ℕ × Unit {0}))))
+      call-args = (x-shape, (x-role, (x-map, (x-catalogue, (x-sheet, tt)))))
 
       abbrev to-call : (call-contract call-out 𝓤 H A) .Ghost
       to-call = (
@@ -246,7 +246,7 @@ module _ (Shape Outcome Reply : Value) where
           (q₀, (q₁, tt)),
           tt,
           call-args,
-          (m-x-role ∷ [], (m-x-shape ∷ [], (s-x-map ∷ [], (s-x-catalogue ∷ [], (m-x-sheet ∷ [], tt))))),
+          (m-x-shape ∷ [], (m-x-role ∷ [], (s-x-map ∷ [], (s-x-catalogue ∷ [], (m-x-sheet ∷ [], tt))))),
         ),
         tt,
       )
@@ -259,10 +259,9 @@ module _ (Shape Outcome Reply : Value) where
           ∷ ‵ (ShrSlice (named 1) κ₁ Entry′.the-row .own x-catalogue (s-x-catalogue ∷ [])) ∷ []) ∵
           nothing ! $ bring ! (1 ∷ 1 ∷ 0 ∷ []) $ group ! 3 $ nothing ! $
           owned ! u32 (Is u32) (uint-makes 𝓤 H A W w32) x-sheet _ is-x-sheet $ fjoin ! $ bring ! (3 ∷ 0 ∷ []) $
-          fjoin ! $ bring ! (2 ∷ 0 ∷ []) $ fjoin ! $
-          owned ! (rowOf Shape) (Is (rowOf Shape)) (Shape .makes 𝓤 H A) x-shape _ is-x-shape $ fjoin ! $
-          owned ! u32 (Is u32) (uint-makes 𝓤 H A W w32) x-role _ is-x-role $ fjoin ! $ bring ! (1 ∷ 0 ∷ []) $ join ! $
-          frame ! $ done !
+          fjoin ! $ bring ! (2 ∷ 0 ∷ []) $ fjoin ! $ owned ! u32 (Is u32) (uint-makes 𝓤 H A W w32) x-role _ is-x-role $
+          fjoin ! $ owned ! (rowOf Shape) (Is (rowOf Shape)) (Shape .makes 𝓤 H A) x-shape _ is-x-shape $ fjoin ! $
+          bring ! (1 ∷ 0 ∷ []) $ join ! $ frame ! $ done !
 
       -- ---- the caller has what `reply-of` asks
       abbrev reply-of-args : (denotes Outcome) × Unit {0}
@@ -321,7 +320,7 @@ module _ (Shape Outcome Reply : Value) where
           split ! $ bring ! (4 ∷ 4 ∷ 2 ∷ 0 ∷ []) $ group ! 4 $
           use1 W (raw ((call-contract call-out 𝓤 H A) .pre (to-call))) (goes-call) $
           calls-at ! (fmOf 𝓤 H (W .laws) 𝓣) (call-contract call-out 𝓤 H A) known-call (to-call)
-          (and-then ! (load ! (from ! (stop !)) (look ! 13 refl)) (and-then ! (load ! (from ! (stop !)) (look ! 11 refl))
+          (and-then ! (load ! (from ! (stop !)) (look ! 11 refl)) (and-then ! (load ! (from ! (stop !)) (look ! 13 refl))
           (and-then ! (load ! (from ! (stop !)) (look ! 9 refl)) (and-then ! (load ! (from ! (stop !)) (look ! 7 refl))
           (and-then ! (load ! (from ! (stop !)) (look ! 5 refl)) (no-more !)))))) (λ w-call.
           use1 W (later (some (λ (r : (denotes Outcome)). ((‵ (flft κ₀ q₀) ⊛ ‵ (flft κ₁ q₁) ⊛ ‵ ftrue)
@@ -330,10 +329,10 @@ module _ (Shape Outcome Reply : Value) where
           await ! tt $ pick ! (λ r-call. split ! $ bring ! (1 ∷ []) $
           use1 W (some (λ (zs-call : Unit {0} × (Unit {0} × (Unit {0} × (Unit {0} × (Unit {0} × Unit {0}))))). ‵
           (lasts call-ended
-          (κ₀, (κ₁, tt)) (call-args) zs-call) ⊛ raw (fact 𝓤 (call-says call-out x-role x-shape (now x-map) (now x-catalogue)
+          (κ₀, (κ₁, tt)) (call-args) zs-call) ⊛ raw (fact 𝓤 (call-says call-out x-shape x-role (now x-map) (now x-catalogue)
           x-sheet r-call)))) (id⊢ 𝓤 _) $
           pick ! (λ zs-call. split ! $ bring ! (1 ∷ []) $
-          heard ! (call-says call-out x-role x-shape (now x-map) (now x-catalogue) x-sheet r-call) (λ e-call.
+          heard ! (call-says call-out x-shape x-role (now x-map) (now x-catalogue) x-sheet r-call) (λ e-call.
           fparts W (_ ∷ _ ∷ _ ∷ _ ∷ _ ∷ []) _ $ discard ! (0 ∷ 0 ∷ 0 ∷ 0 ∷ 0 ∷ []) $ split ! $ bring ! (1 ∷ []) $
           rewrite ! 0 (λ (r : (denotes Outcome)). ‵ ((rowOf Outcome) .own r (w-call ∷ []))) (e-call) refl $
           peeks ! (rowOf Outcome) (Is (rowOf Outcome)) (shows 𝓤 H A (rowOf Outcome)) v-outcome (w-call ∷ []) (λ is-w-call.

@@ -1,6 +1,6 @@
 -- Written by tools/walks: every function (role: u32, shape: Shape, map: &[u64], catalogue: &[Entry], card: &[u8], limits:
 -- &[u32; 8], sheet: u32, count: u32) whose code is
---     let outcome: Outcome = call(role, shape, map, catalogue, card, limits, sheet, count);
+--     let outcome: Outcome = call(shape, role, map, catalogue, card, limits, sheet, count);
 --     reply_of(outcome)
 -- One walk serves every choice of the callees: it takes their names and what their contracts say. The types by value are any,
 -- too.
@@ -93,7 +93,7 @@ module _ (Shape Outcome Reply : Value) where
         (tyRef (named 1) imm (pointee (Entry′.the-row .written)))) valueLocal ∷ local (sliceTy (tyRef (named 2) imm (tyInt w8)))
         valueLocal ∷ local (tyRef (named 3) imm (tyArray (tyInt w32) 8)) valueLocal ∷ local (tyInt w32) valueLocal
         ∷ local (tyInt w32) valueLocal ∷ local (mirOf Outcome) valueLocal ∷ [];
-    body = seq (call #call (copy (place 1 []) ∷ copy (place 2 []) ∷ copy (place 3 []) ∷ copy (place 4 []) ∷ copy (place 5 [])
+    body = seq (call #call (copy (place 2 []) ∷ copy (place 1 []) ∷ copy (place 3 []) ∷ copy (place 4 []) ∷ copy (place 5 [])
         ∷ copy (place 6 []) ∷ copy (place 7 []) ∷ copy (place 8 []) ∷ []) (place 9 []))
         (seq (call #reply-of (copy (place 9 []) ∷ []) (place 0 [])) return);
   }
@@ -103,7 +103,7 @@ module _ (Shape Outcome Reply : Value) where
   call-signature = record {
     lifetimes = 4;
     outlives = [];
-    params = plain (λ _. u32) ∷ plain (λ _. (rowOf Shape)) ∷ shrSlice 0 tt (λ _. u64) ∷ shrSlice 1 tt (λ _. Entry′.the-row)
+    params = plain (λ _. (rowOf Shape)) ∷ plain (λ _. u32) ∷ shrSlice 0 tt (λ _. u64) ∷ shrSlice 1 tt (λ _. Entry′.the-row)
         ∷ shrSlice 2 tt (λ _. u8) ∷ shrRef 3 tt (λ _. (Array u32 8)) ∷ plain (λ _. u32) ∷ plain (λ _. u32) ∷ [];
     result = plain (λ _. (rowOf Outcome));
   }
@@ -112,10 +112,10 @@ module _ (Shape Outcome Reply : Value) where
   call-ended = record { signature = call-signature; kept = (yes, (yes, (yes, (yes, (yes, (yes, (yes, (yes, tt)))))))) }
 
   abbrev call-Model : Type 0 → Type 0
-  call-Model X = ℕ → (denotes Shape) → List ℕ → List Entry → List ℕ → (List ℕ) → ℕ → ℕ → X
+  call-Model X = (denotes Shape) → ℕ → List ℕ → List Entry → List ℕ → (List ℕ) → ℕ → ℕ → X
 
   module _ (call-out : call-Model (denotes Outcome)) where
-    abbrev call-says : ℕ → (denotes Shape) → List ℕ → List Entry → List ℕ → (List ℕ) → ℕ → ℕ → (denotes Outcome) → Type 0
+    abbrev call-says : (denotes Shape) → ℕ → List ℕ → List Entry → List ℕ → (List ℕ) → ℕ → ℕ → (denotes Outcome) → Type 0
     call-says a0 a1 a2 a3 a4 a5 a6 a7 r = r ≡ call-out a0 a1 a2 a3 a4 a5 a6 a7
 
     module _ {M : Type 1} (𝓤 : URA M) where
@@ -168,7 +168,7 @@ module _ (Shape Outcome Reply : Value) where
     module _ (x-role : ℕ) (x-shape : (denotes Shape)) (x-map : List ℕ) (x-catalogue : List Entry) (x-card : List ℕ)
         (x-limits : (List ℕ)) (x-sheet : ℕ) (x-count : ℕ) where
       abbrev v-outcome-of : (denotes Outcome)
-      v-outcome-of = call-out x-role x-shape x-map x-catalogue x-card x-limits x-sheet x-count
+      v-outcome-of = call-out x-shape x-role x-map x-catalogue x-card x-limits x-sheet x-count
 
       abbrev v-result-of : (denotes Reply)
       v-result-of = reply-of-out v-outcome-of
@@ -276,9 +276,9 @@ module _ (Shape Outcome Reply : Value) where
       spelled-v-result w is = subst (λ (vs : List Val). Is (rowOf Reply) v-result vs) ((Reply .tells) v-result _ is) is
 
       -- ---- the caller has what `call` asks
-      abbrev call-args : ℕ × ((denotes Shape) × (RefT (List ℕ) × (RefT (List Entry) × (RefT (List ℕ)
+      abbrev call-args : (denotes Shape) × (ℕ × (RefT (List ℕ) × (RefT (List Entry) × (RefT (List ℕ)
           × (RefT (List ℕ) × (ℕ × (ℕ × Unit {0})))))))
-      call-args = (x-role, (x-shape, (x-map, (x-catalogue, (x-card, (x-limits, (x-sheet, (x-count, tt))))))))
+      call-args = (x-shape, (x-role, (x-map, (x-catalogue, (x-card, (x-limits, (x-sheet, (x-count, tt))))))))
 
       abbrev to-call : (call-contract call-out 𝓤 H A) .Ghost
       to-call = (
@@ -288,9 +288,9 @@ module _ (Shape Outcome Reply : Value) where
           tt,
           call-args,
           (
-            m-x-role ∷ [],
+            m-x-shape ∷ [],
             (
-              m-x-shape ∷ [],
+              m-x-role ∷ [],
               (s-x-map ∷ [], (s-x-catalogue ∷ [], (s-x-card ∷ [], (s-x-limits ∷ [], (m-x-sheet ∷ [], (m-x-count ∷ [], tt)))))),
             ),
           ),
@@ -312,9 +312,9 @@ module _ (Shape Outcome Reply : Value) where
           owned ! u32 (Is u32) (uint-makes 𝓤 H A W w32) x-count _ is-x-count $ fjoin ! $
           owned ! u32 (Is u32) (uint-makes 𝓤 H A W w32) x-sheet _ is-x-sheet $ fjoin ! $ bring ! (5 ∷ 0 ∷ []) $
           fjoin ! $ bring ! (4 ∷ 0 ∷ []) $ fjoin ! $ bring ! (3 ∷ 0 ∷ []) $ fjoin ! $ bring ! (2 ∷ 0 ∷ []) $ fjoin ! $
+          owned ! u32 (Is u32) (uint-makes 𝓤 H A W w32) x-role _ is-x-role $ fjoin ! $
           owned ! (rowOf Shape) (Is (rowOf Shape)) (Shape .makes 𝓤 H A) x-shape _ is-x-shape $ fjoin ! $
-          owned ! u32 (Is u32) (uint-makes 𝓤 H A W w32) x-role _ is-x-role $ fjoin ! $ bring ! (1 ∷ 0 ∷ []) $ join ! $
-          frame ! $ done !
+          bring ! (1 ∷ 0 ∷ []) $ join ! $ frame ! $ done !
 
       -- ---- the caller has what `reply-of` asks
       abbrev reply-of-args : (denotes Outcome) × Unit {0}
@@ -389,7 +389,7 @@ module _ (Shape Outcome Reply : Value) where
           split ! $ bring ! (8 ∷ 8 ∷ 8 ∷ 8 ∷ 6 ∷ 4 ∷ 2 ∷ 0 ∷ []) $ group ! 8 $
           use1 W (raw ((call-contract call-out 𝓤 H A) .pre (to-call))) (goes-call) $
           calls-at ! (fmOf 𝓤 H (W .laws) 𝓣) (call-contract call-out 𝓤 H A) known-call (to-call)
-          (and-then ! (load ! (from ! (stop !)) (look ! 21 refl)) (and-then ! (load ! (from ! (stop !)) (look ! 19 refl))
+          (and-then ! (load ! (from ! (stop !)) (look ! 19 refl)) (and-then ! (load ! (from ! (stop !)) (look ! 21 refl))
           (and-then ! (load ! (from ! (stop !)) (look ! 17 refl)) (and-then ! (load ! (from ! (stop !)) (look ! 15 refl))
           (and-then ! (load ! (from ! (stop !)) (look ! 13 refl)) (and-then ! (load ! (from ! (stop !)) (look ! 11 refl))
           (and-then ! (load ! (from ! (stop !)) (look ! 9 refl)) (and-then ! (load ! (from ! (stop !)) (look ! 7 refl))
@@ -400,10 +400,10 @@ module _ (Shape Outcome Reply : Value) where
           await ! tt $ pick ! (λ r-call. split ! $ bring ! (1 ∷ []) $
           use1 W (some (λ (zs-call : Unit {0} × (Unit {0} × (Unit {0} × (Unit {0} × (Unit {0}
           × (Unit {0} × (Unit {0} × (Unit {0} × Unit {0})))))))). ‵ (lasts call-ended (κ₀, (κ₁, (κ₂, (κ₃, tt)))) (call-args)
-          zs-call) ⊛ raw (fact 𝓤 (call-says call-out x-role x-shape (now x-map) (now x-catalogue) (now x-card) (now x-limits)
+          zs-call) ⊛ raw (fact 𝓤 (call-says call-out x-shape x-role (now x-map) (now x-catalogue) (now x-card) (now x-limits)
           x-sheet x-count r-call)))) (id⊢ 𝓤 _) $
           pick ! (λ zs-call. split ! $ bring ! (1 ∷ []) $
-          heard ! (call-says call-out x-role x-shape (now x-map) (now x-catalogue) (now x-card) (now x-limits) x-sheet x-count
+          heard ! (call-says call-out x-shape x-role (now x-map) (now x-catalogue) (now x-card) (now x-limits) x-sheet x-count
           r-call) (λ e-call.
           fparts W (_ ∷ _ ∷ _ ∷ _ ∷ _ ∷ _ ∷ _ ∷ _ ∷ []) _ $ discard ! (0 ∷ 0 ∷ 0 ∷ 0 ∷ 0 ∷ 0 ∷ 0 ∷ 0 ∷ []) $ split ! $
           bring ! (1 ∷ []) $

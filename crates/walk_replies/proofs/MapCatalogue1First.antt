@@ -1,6 +1,6 @@
 -- Written by tools/walks: every function (role: u32, shape: Shape, blocks: u32, map: &mut [u64], catalogue: &mut [Entry]) whose
 -- code is
---     let outcome: Outcome = call(role, shape, blocks, map, catalogue);
+--     let outcome: Outcome = call(shape, role, blocks, map, catalogue);
 --     reply_of(outcome)
 -- One walk serves every choice of the callees: it takes their names and what their contracts say. The types by value are any,
 -- too.
@@ -93,7 +93,7 @@ module _ (Shape Outcome Reply : Value) where
         (seq (assign (place 8 []) (aggregate (copy (place 7 []) ∷ copy (place 4 (field 1 ∷ [])) ∷ [])))
         (seq (assign (place 9 []) (addrOf (place 5 (field 0 ∷ deref Entry″.mir ∷ []))))
         (seq (assign (place 10 []) (aggregate (copy (place 9 []) ∷ copy (place 5 (field 1 ∷ [])) ∷ [])))
-        (seq (call #call (copy (place 1 []) ∷ copy (place 2 []) ∷ copy (place 3 []) ∷ copy (place 8 []) ∷ copy (place 10 [])
+        (seq (call #call (copy (place 2 []) ∷ copy (place 1 []) ∷ copy (place 3 []) ∷ copy (place 8 []) ∷ copy (place 10 [])
         ∷ []) (place 6 []))
         (seq (call #reply-of (copy (place 6 []) ∷ []) (place 0 [])) return)))));
   }
@@ -103,7 +103,7 @@ module _ (Shape Outcome Reply : Value) where
   call-signature = record {
     lifetimes = 2;
     outlives = [];
-    params = plain (λ _. u32) ∷ plain (λ _. (rowOf Shape)) ∷ plain (λ _. u32) ∷ mutSlice 0 tt (λ _. u64)
+    params = plain (λ _. (rowOf Shape)) ∷ plain (λ _. u32) ∷ plain (λ _. u32) ∷ mutSlice 0 tt (λ _. u64)
         ∷ mutSlice 1 tt (λ _. Entry′.the-row) ∷ [];
     result = plain (λ _. (rowOf Outcome));
   }
@@ -112,11 +112,11 @@ module _ (Shape Outcome Reply : Value) where
   call-ended = record { signature = call-signature; kept = (yes, (yes, (yes, (yes, (yes, tt))))) }
 
   abbrev call-Model : Type 0 → Type 0
-  call-Model X = ℕ → (denotes Shape) → ℕ → List ℕ → List Entry → X
+  call-Model X = (denotes Shape) → ℕ → ℕ → List ℕ → List Entry → X
 
   module _ (call-out : call-Model (denotes Outcome)) (call-x-map : call-Model (List ℕ))
       (call-x-catalogue : call-Model (List Entry)) where
-    abbrev call-says : ℕ → (denotes Shape) → ℕ → List ℕ → List Entry → (denotes Outcome) → List ℕ → List Entry → Type 0
+    abbrev call-says : (denotes Shape) → ℕ → ℕ → List ℕ → List Entry → (denotes Outcome) → List ℕ → List Entry → Type 0
     call-says a0 a1 a2 a3 a4 r b3 b4 = (r ≡ call-out a0 a1 a2 a3 a4) × (b3 ≡ call-x-map a0 a1 a2 a3 a4)
         × (b4 ≡ call-x-catalogue a0 a1 a2 a3 a4)
 
@@ -169,13 +169,13 @@ module _ (Shape Outcome Reply : Value) where
     -- ---- what the chain gives, call by call
     module _ (x-role : ℕ) (x-shape : (denotes Shape)) (x-blocks : ℕ) (x-map : List ℕ) (x-catalogue : List Entry) where
       abbrev v-outcome-of : (denotes Outcome)
-      v-outcome-of = call-out x-role x-shape x-blocks x-map x-catalogue
+      v-outcome-of = call-out x-shape x-role x-blocks x-map x-catalogue
 
       abbrev z-call-x-map-of : List ℕ
-      z-call-x-map-of = call-x-map x-role x-shape x-blocks x-map x-catalogue
+      z-call-x-map-of = call-x-map x-shape x-role x-blocks x-map x-catalogue
 
       abbrev z-call-x-catalogue-of : List Entry
-      z-call-x-catalogue-of = call-x-catalogue x-role x-shape x-blocks x-map x-catalogue
+      z-call-x-catalogue-of = call-x-catalogue x-shape x-role x-blocks x-map x-catalogue
 
       abbrev v-result-of : (denotes Reply)
       v-result-of = reply-of-out v-outcome-of
@@ -264,10 +264,10 @@ module _ (Shape Outcome Reply : Value) where
       spelled-v-result w is = subst (λ (vs : List Val). Is (rowOf Reply) v-result vs) ((Reply .tells) v-result _ is) is
 
       -- ---- the caller has what `call` asks
-      abbrev call-args : (δ₀-call δ₁-call : GName) → ℕ × ((denotes Shape) × (ℕ × (RefT (List ℕ)
+      abbrev call-args : (δ₀-call δ₁-call : GName) → (denotes Shape) × (ℕ × (ℕ × (RefT (List ℕ)
           × (RefT (List Entry) × Unit {0}))))
       call-args δ₀-call δ₁-call =
-          (x-role, (x-shape, (x-blocks, (at-x-map δ₀-call (now x-map), (at-x-catalogue δ₁-call (now x-catalogue), tt)))))
+          (x-shape, (x-role, (x-blocks, (at-x-map δ₀-call (now x-map), (at-x-catalogue δ₁-call (now x-catalogue), tt)))))
 
       abbrev to-call : (ν₀-call ν₁-call : ℕ) (δ₀-call δ₁-call : GName) → (call-contract call-out call-x-map call-x-catalogue 𝓤 H
           A) .Ghost
@@ -277,7 +277,7 @@ module _ (Shape Outcome Reply : Value) where
           (fullShare, (fullShare, tt)),
           tt,
           call-args δ₀-call δ₁-call,
-          (m-x-role ∷ [], (m-x-shape ∷ [], (m-x-blocks ∷ [], (s-x-map ∷ [], (s-x-catalogue ∷ [], tt))))),
+          (m-x-shape ∷ [], (m-x-role ∷ [], (m-x-blocks ∷ [], (s-x-map ∷ [], (s-x-catalogue ∷ [], tt))))),
         ),
         tt,
       )
@@ -294,9 +294,9 @@ module _ (Shape Outcome Reply : Value) where
           (s-x-catalogue ∷ [])) ∷ []) ∵
           nothing ! $ bring ! (1 ∷ 1 ∷ 0 ∷ []) $ group ! 3 $ nothing ! $ bring ! (3 ∷ 0 ∷ []) $ fjoin ! $
           bring ! (2 ∷ 0 ∷ []) $ fjoin ! $ owned ! u32 (Is u32) (uint-makes 𝓤 H A W w32) x-blocks _ is-x-blocks $
-          fjoin ! $ owned ! (rowOf Shape) (Is (rowOf Shape)) (Shape .makes 𝓤 H A) x-shape _ is-x-shape $ fjoin ! $
-          owned ! u32 (Is u32) (uint-makes 𝓤 H A W w32) x-role _ is-x-role $ fjoin ! $ bring ! (1 ∷ 0 ∷ []) $ join ! $
-          frame ! $ done !
+          fjoin ! $ owned ! u32 (Is u32) (uint-makes 𝓤 H A W w32) x-role _ is-x-role $ fjoin ! $
+          owned ! (rowOf Shape) (Is (rowOf Shape)) (Shape .makes 𝓤 H A) x-shape _ is-x-shape $ fjoin ! $
+          bring ! (1 ∷ 0 ∷ []) $ join ! $ frame ! $ done !
 
       -- ---- the caller has what `reply-of` asks
       abbrev reply-of-args : (denotes Outcome) × Unit {0}
@@ -377,8 +377,8 @@ module _ (Shape Outcome Reply : Value) where
           use1 W (raw ((call-contract call-out call-x-map call-x-catalogue 𝓤 H A) .pre
           (to-call ν₀-call ν₁-call δ₀-call δ₁-call))) (goes-call ν₀-call ν₁-call δ₀-call δ₁-call) $
           calls-at ! (fmOf 𝓤 H (W .laws) 𝓣) (call-contract call-out call-x-map call-x-catalogue 𝓤 H A) known-call
-          (to-call ν₀-call ν₁-call δ₀-call δ₁-call) (and-then ! (load ! (from ! (stop !)) (look ! 21 refl))
-          (and-then ! (load ! (from ! (stop !)) (look ! 19 refl)) (and-then ! (load ! (from ! (stop !)) (look ! 17 refl))
+          (to-call ν₀-call ν₁-call δ₀-call δ₁-call) (and-then ! (load ! (from ! (stop !)) (look ! 19 refl))
+          (and-then ! (load ! (from ! (stop !)) (look ! 21 refl)) (and-then ! (load ! (from ! (stop !)) (look ! 17 refl))
           (and-then ! (load ! (from ! (stop !)) (look ! 7 refl)) (and-then ! (load ! (from ! (stop !)) (look ! 3 refl))
           (no-more !)))))) (λ w-call.
           use1 W (later (some (λ (r : (denotes Outcome)). ((‵ (flft (ν₀-call ∷ []) fullShare)
@@ -388,10 +388,10 @@ module _ (Shape Outcome Reply : Value) where
           await ! tt $ pick ! (λ r-call. split ! $ bring ! (1 ∷ []) $
           use1 W (some (λ (zs-call : Unit {0} × (Unit {0} × (Unit {0} × (List ℕ × (List Entry × Unit {0}))))). ‵
           (lasts call-ended (ν₀-call ∷ [], (ν₁-call ∷ [], tt)) (call-args δ₀-call δ₁-call) zs-call)
-          ⊛ raw (fact 𝓤 (call-says call-out call-x-map call-x-catalogue x-role x-shape x-blocks (now x-map) (now x-catalogue)
+          ⊛ raw (fact 𝓤 (call-says call-out call-x-map call-x-catalogue x-shape x-role x-blocks (now x-map) (now x-catalogue)
           r-call (zs-call .1 .1 .1 .0) (zs-call .1 .1 .1 .1 .0))))) (id⊢ 𝓤 _) $
           pick ! (λ zs-call. split ! $ bring ! (1 ∷ []) $
-          heard ! (call-says call-out call-x-map call-x-catalogue x-role x-shape x-blocks (now x-map) (now x-catalogue) r-call
+          heard ! (call-says call-out call-x-map call-x-catalogue x-shape x-role x-blocks (now x-map) (now x-catalogue) r-call
           (zs-call .1 .1 .1 .0) (zs-call .1 .1 .1 .1 .0)) (λ e-call.
           fparts W (_ ∷ _ ∷ _ ∷ _ ∷ _ ∷ []) _ $ discard ! (0 ∷ 0 ∷ 0 ∷ []) $ fsplit ! $ bring ! (1 ∷ []) $
           feqL ! (λ h-call-x-map. bring ! (1 ∷ []) $ fsplit ! $ bring ! (1 ∷ []) $ feqL ! (λ h-call-x-catalogue.

@@ -1,6 +1,6 @@
 -- Written by tools/walks: every function (role: u32, shape: Shape, map: &mut [u64], catalogue: &mut [Entry], card: &mut [u8],
 -- limits: &[u32; 8], sheet: u32, count: u32) whose code is
---     let outcome: Outcome = call(role, shape, map, catalogue, card, limits, sheet, count);
+--     let outcome: Outcome = call(shape, role, map, catalogue, card, limits, sheet, count);
 --     reply_of(outcome)
 -- One walk serves every choice of the callees: it takes their names and what their contracts say. The types by value are any,
 -- too.
@@ -108,7 +108,7 @@ module _ (Shape Outcome Reply : Value) where
         (seq (assign (place 13 []) (aggregate (copy (place 12 []) ∷ copy (place 4 (field 1 ∷ [])) ∷ [])))
         (seq (assign (place 14 []) (addrOf (place 5 (field 0 ∷ deref (tyInt w8) ∷ []))))
         (seq (assign (place 15 []) (aggregate (copy (place 14 []) ∷ copy (place 5 (field 1 ∷ [])) ∷ [])))
-        (seq (call #call (copy (place 1 []) ∷ copy (place 2 []) ∷ copy (place 11 []) ∷ copy (place 13 []) ∷ copy (place 15 [])
+        (seq (call #call (copy (place 2 []) ∷ copy (place 1 []) ∷ copy (place 11 []) ∷ copy (place 13 []) ∷ copy (place 15 [])
         ∷ copy (place 6 []) ∷ copy (place 7 []) ∷ copy (place 8 []) ∷ []) (place 9 []))
         (seq (call #reply-of (copy (place 9 []) ∷ []) (place 0 [])) return)))))));
   }
@@ -118,7 +118,7 @@ module _ (Shape Outcome Reply : Value) where
   call-signature = record {
     lifetimes = 4;
     outlives = [];
-    params = plain (λ _. u32) ∷ plain (λ _. (rowOf Shape)) ∷ mutSlice 0 tt (λ _. u64) ∷ mutSlice 1 tt (λ _. Entry′.the-row)
+    params = plain (λ _. (rowOf Shape)) ∷ plain (λ _. u32) ∷ mutSlice 0 tt (λ _. u64) ∷ mutSlice 1 tt (λ _. Entry′.the-row)
         ∷ mutSlice 2 tt (λ _. u8) ∷ shrRef 3 tt (λ _. (Array u32 8)) ∷ plain (λ _. u32) ∷ plain (λ _. u32) ∷ [];
     result = plain (λ _. (rowOf Outcome));
   }
@@ -127,11 +127,11 @@ module _ (Shape Outcome Reply : Value) where
   call-ended = record { signature = call-signature; kept = (yes, (yes, (yes, (yes, (yes, (yes, (yes, (yes, tt)))))))) }
 
   abbrev call-Model : Type 0 → Type 0
-  call-Model X = ℕ → (denotes Shape) → List ℕ → List Entry → List ℕ → (List ℕ) → ℕ → ℕ → X
+  call-Model X = (denotes Shape) → ℕ → List ℕ → List Entry → List ℕ → (List ℕ) → ℕ → ℕ → X
 
   module _ (call-out : call-Model (denotes Outcome)) (call-x-map : call-Model (List ℕ))
       (call-x-catalogue : call-Model (List Entry)) (call-x-card : call-Model (List ℕ)) where
-    abbrev call-says : ℕ → (denotes Shape) → List ℕ → List Entry → List ℕ → (List ℕ) → ℕ → ℕ → (denotes Outcome) → List ℕ
+    abbrev call-says : (denotes Shape) → ℕ → List ℕ → List Entry → List ℕ → (List ℕ) → ℕ → ℕ → (denotes Outcome) → List ℕ
         → List Entry → List ℕ → Type 0
     call-says a0 a1 a2 a3 a4 a5 a6 a7 r b2 b3 b4 = (r ≡ call-out a0 a1 a2 a3 a4 a5 a6 a7)
         × (b2 ≡ call-x-map a0 a1 a2 a3 a4 a5 a6 a7) × (b3 ≡ call-x-catalogue a0 a1 a2 a3 a4 a5 a6 a7)
@@ -189,16 +189,16 @@ module _ (Shape Outcome Reply : Value) where
     module _ (x-role : ℕ) (x-shape : (denotes Shape)) (x-map : List ℕ) (x-catalogue : List Entry) (x-card : List ℕ)
         (x-limits : (List ℕ)) (x-sheet : ℕ) (x-count : ℕ) where
       abbrev v-outcome-of : (denotes Outcome)
-      v-outcome-of = call-out x-role x-shape x-map x-catalogue x-card x-limits x-sheet x-count
+      v-outcome-of = call-out x-shape x-role x-map x-catalogue x-card x-limits x-sheet x-count
 
       abbrev z-call-x-map-of : List ℕ
-      z-call-x-map-of = call-x-map x-role x-shape x-map x-catalogue x-card x-limits x-sheet x-count
+      z-call-x-map-of = call-x-map x-shape x-role x-map x-catalogue x-card x-limits x-sheet x-count
 
       abbrev z-call-x-catalogue-of : List Entry
-      z-call-x-catalogue-of = call-x-catalogue x-role x-shape x-map x-catalogue x-card x-limits x-sheet x-count
+      z-call-x-catalogue-of = call-x-catalogue x-shape x-role x-map x-catalogue x-card x-limits x-sheet x-count
 
       abbrev z-call-x-card-of : List ℕ
-      z-call-x-card-of = call-x-card x-role x-shape x-map x-catalogue x-card x-limits x-sheet x-count
+      z-call-x-card-of = call-x-card x-shape x-role x-map x-catalogue x-card x-limits x-sheet x-count
 
       abbrev v-result-of : (denotes Reply)
       v-result-of = reply-of-out v-outcome-of
@@ -318,12 +318,12 @@ module _ (Shape Outcome Reply : Value) where
       spelled-v-result w is = subst (λ (vs : List Val). Is (rowOf Reply) v-result vs) ((Reply .tells) v-result _ is) is
 
       -- ---- the caller has what `call` asks
-      abbrev call-args : (δ₀-call δ₁-call δ₂-call : GName) → ℕ × ((denotes Shape) × (RefT (List ℕ)
+      abbrev call-args : (δ₀-call δ₁-call δ₂-call : GName) → (denotes Shape) × (ℕ × (RefT (List ℕ)
           × (RefT (List Entry) × (RefT (List ℕ) × (RefT (List ℕ) × (ℕ × (ℕ × Unit {0})))))))
       call-args δ₀-call δ₁-call δ₂-call = (
-        x-role,
+        x-shape,
         (
-          x-shape,
+          x-role,
           (
             at-x-map δ₀-call (now x-map),
             (at-x-catalogue δ₁-call (now x-catalogue), (at-x-card δ₂-call (now x-card), (x-limits, (x-sheet, (x-count, tt))))),
@@ -340,9 +340,9 @@ module _ (Shape Outcome Reply : Value) where
           tt,
           call-args δ₀-call δ₁-call δ₂-call,
           (
-            m-x-role ∷ [],
+            m-x-shape ∷ [],
             (
-              m-x-shape ∷ [],
+              m-x-role ∷ [],
               (s-x-map ∷ [], (s-x-catalogue ∷ [], (s-x-card ∷ [], (s-x-limits ∷ [], (m-x-sheet ∷ [], (m-x-count ∷ [], tt)))))),
             ),
           ),
@@ -368,9 +368,9 @@ module _ (Shape Outcome Reply : Value) where
           owned ! u32 (Is u32) (uint-makes 𝓤 H A W w32) x-count _ is-x-count $ fjoin ! $
           owned ! u32 (Is u32) (uint-makes 𝓤 H A W w32) x-sheet _ is-x-sheet $ fjoin ! $ bring ! (5 ∷ 0 ∷ []) $
           fjoin ! $ bring ! (4 ∷ 0 ∷ []) $ fjoin ! $ bring ! (3 ∷ 0 ∷ []) $ fjoin ! $ bring ! (2 ∷ 0 ∷ []) $ fjoin ! $
+          owned ! u32 (Is u32) (uint-makes 𝓤 H A W w32) x-role _ is-x-role $ fjoin ! $
           owned ! (rowOf Shape) (Is (rowOf Shape)) (Shape .makes 𝓤 H A) x-shape _ is-x-shape $ fjoin ! $
-          owned ! u32 (Is u32) (uint-makes 𝓤 H A W w32) x-role _ is-x-role $ fjoin ! $ bring ! (1 ∷ 0 ∷ []) $ join ! $
-          frame ! $ done !
+          bring ! (1 ∷ 0 ∷ []) $ join ! $ frame ! $ done !
 
       -- ---- the caller has what `reply-of` asks
       abbrev reply-of-args : (denotes Outcome) × Unit {0}
@@ -475,8 +475,8 @@ module _ (Shape Outcome Reply : Value) where
           (to-call ν₀-call ν₁-call ν₂-call δ₀-call δ₁-call δ₂-call))) (goes-call ν₀-call ν₁-call ν₂-call δ₀-call δ₁-call
           δ₂-call) $
           calls-at ! (fmOf 𝓤 H (W .laws) 𝓣) (call-contract call-out call-x-map call-x-catalogue call-x-card 𝓤 H A) known-call
-          (to-call ν₀-call ν₁-call ν₂-call δ₀-call δ₁-call δ₂-call) (and-then ! (load ! (from ! (stop !)) (look ! 33 refl))
-          (and-then ! (load ! (from ! (stop !)) (look ! 31 refl)) (and-then ! (load ! (from ! (stop !)) (look ! 13 refl))
+          (to-call ν₀-call ν₁-call ν₂-call δ₀-call δ₁-call δ₂-call) (and-then ! (load ! (from ! (stop !)) (look ! 31 refl))
+          (and-then ! (load ! (from ! (stop !)) (look ! 33 refl)) (and-then ! (load ! (from ! (stop !)) (look ! 13 refl))
           (and-then ! (load ! (from ! (stop !)) (look ! 9 refl)) (and-then ! (load ! (from ! (stop !)) (look ! 5 refl))
           (and-then ! (load ! (from ! (stop !)) (look ! 23 refl)) (and-then ! (load ! (from ! (stop !)) (look ! 21 refl))
           (and-then ! (load ! (from ! (stop !)) (look ! 19 refl)) (no-more !))))))))) (λ w-call.
@@ -489,11 +489,11 @@ module _ (Shape Outcome Reply : Value) where
           use1 W (some (λ (zs-call : Unit {0} × (Unit {0} × (List ℕ × (List Entry × (List ℕ
           × (Unit {0} × (Unit {0} × (Unit {0} × Unit {0})))))))). ‵ (lasts call-ended
           (ν₀-call ∷ [], (ν₁-call ∷ [], (ν₂-call ∷ [], (κ₃, tt)))) (call-args δ₀-call δ₁-call δ₂-call) zs-call)
-          ⊛ raw (fact 𝓤 (call-says call-out call-x-map call-x-catalogue call-x-card x-role x-shape (now x-map) (now x-catalogue)
+          ⊛ raw (fact 𝓤 (call-says call-out call-x-map call-x-catalogue call-x-card x-shape x-role (now x-map) (now x-catalogue)
           (now x-card) (now x-limits) x-sheet x-count r-call (zs-call .1 .1 .0) (zs-call .1 .1 .1 .0)
           (zs-call .1 .1 .1 .1 .0))))) (id⊢ 𝓤 _) $
           pick ! (λ zs-call. split ! $ bring ! (1 ∷ []) $
-          heard ! (call-says call-out call-x-map call-x-catalogue call-x-card x-role x-shape (now x-map) (now x-catalogue)
+          heard ! (call-says call-out call-x-map call-x-catalogue call-x-card x-shape x-role (now x-map) (now x-catalogue)
           (now x-card) (now x-limits) x-sheet x-count r-call (zs-call .1 .1 .0) (zs-call .1 .1 .1 .0) (zs-call .1 .1 .1 .1 .0))
           (λ e-call.
           fparts W (_ ∷ _ ∷ _ ∷ _ ∷ _ ∷ _ ∷ _ ∷ _ ∷ []) _ $ discard ! (0 ∷ 0 ∷ 3 ∷ 3 ∷ 3 ∷ []) $ fsplit ! $

@@ -1,6 +1,6 @@
 -- Written by tools/walks: every function (role: u32, shape: Shape, map: &mut [u64], catalogue: &mut [Entry], card: &mut [u8],
 -- limits: &[u32; 8], sheet: u32, start: u32, count: u32) whose code is
---     let outcome: Outcome = call(role, shape, map, catalogue, card, limits, sheet, start, count);
+--     let outcome: Outcome = call(shape, role, map, catalogue, card, limits, sheet, start, count);
 --     reply_of(outcome)
 -- One walk serves every choice of the callees: it takes their names and what their contracts say. The types by value are any,
 -- too.
@@ -109,7 +109,7 @@ module _ (Shape Outcome Reply : Value) where
         (seq (assign (place 14 []) (aggregate (copy (place 13 []) ∷ copy (place 4 (field 1 ∷ [])) ∷ [])))
         (seq (assign (place 15 []) (addrOf (place 5 (field 0 ∷ deref (tyInt w8) ∷ []))))
         (seq (assign (place 16 []) (aggregate (copy (place 15 []) ∷ copy (place 5 (field 1 ∷ [])) ∷ [])))
-        (seq (call #call (copy (place 1 []) ∷ copy (place 2 []) ∷ copy (place 12 []) ∷ copy (place 14 []) ∷ copy (place 16 [])
+        (seq (call #call (copy (place 2 []) ∷ copy (place 1 []) ∷ copy (place 12 []) ∷ copy (place 14 []) ∷ copy (place 16 [])
         ∷ copy (place 6 []) ∷ copy (place 7 []) ∷ copy (place 8 []) ∷ copy (place 9 []) ∷ []) (place 10 []))
         (seq (call #reply-of (copy (place 10 []) ∷ []) (place 0 [])) return)))))));
   }
@@ -119,7 +119,7 @@ module _ (Shape Outcome Reply : Value) where
   call-signature = record {
     lifetimes = 4;
     outlives = [];
-    params = plain (λ _. u32) ∷ plain (λ _. (rowOf Shape)) ∷ mutSlice 0 tt (λ _. u64) ∷ mutSlice 1 tt (λ _. Entry′.the-row)
+    params = plain (λ _. (rowOf Shape)) ∷ plain (λ _. u32) ∷ mutSlice 0 tt (λ _. u64) ∷ mutSlice 1 tt (λ _. Entry′.the-row)
         ∷ mutSlice 2 tt (λ _. u8) ∷ shrRef 3 tt (λ _. (Array u32 8)) ∷ plain (λ _. u32) ∷ plain (λ _. u32) ∷ plain (λ _. u32)
         ∷ [];
     result = plain (λ _. (rowOf Outcome));
@@ -129,11 +129,11 @@ module _ (Shape Outcome Reply : Value) where
   call-ended = record { signature = call-signature; kept = (yes, (yes, (yes, (yes, (yes, (yes, (yes, (yes, (yes, tt))))))))) }
 
   abbrev call-Model : Type 0 → Type 0
-  call-Model X = ℕ → (denotes Shape) → List ℕ → List Entry → List ℕ → (List ℕ) → ℕ → ℕ → ℕ → X
+  call-Model X = (denotes Shape) → ℕ → List ℕ → List Entry → List ℕ → (List ℕ) → ℕ → ℕ → ℕ → X
 
   module _ (call-out : call-Model (denotes Outcome)) (call-x-map : call-Model (List ℕ))
       (call-x-catalogue : call-Model (List Entry)) (call-x-card : call-Model (List ℕ)) where
-    abbrev call-says : ℕ → (denotes Shape) → List ℕ → List Entry → List ℕ → (List ℕ) → ℕ → ℕ → ℕ → (denotes Outcome) → List ℕ
+    abbrev call-says : (denotes Shape) → ℕ → List ℕ → List Entry → List ℕ → (List ℕ) → ℕ → ℕ → ℕ → (denotes Outcome) → List ℕ
         → List Entry → List ℕ → Type 0
     call-says a0 a1 a2 a3 a4 a5 a6 a7 a8 r b2 b3 b4 = (r ≡ call-out a0 a1 a2 a3 a4 a5 a6 a7 a8)
         × (b2 ≡ call-x-map a0 a1 a2 a3 a4 a5 a6 a7 a8) × (b3 ≡ call-x-catalogue a0 a1 a2 a3 a4 a5 a6 a7 a8)
@@ -191,16 +191,16 @@ module _ (Shape Outcome Reply : Value) where
     module _ (x-role : ℕ) (x-shape : (denotes Shape)) (x-map : List ℕ) (x-catalogue : List Entry) (x-card : List ℕ)
         (x-limits : (List ℕ)) (x-sheet : ℕ) (x-start : ℕ) (x-count : ℕ) where
       abbrev v-outcome-of : (denotes Outcome)
-      v-outcome-of = call-out x-role x-shape x-map x-catalogue x-card x-limits x-sheet x-start x-count
+      v-outcome-of = call-out x-shape x-role x-map x-catalogue x-card x-limits x-sheet x-start x-count
 
       abbrev z-call-x-map-of : List ℕ
-      z-call-x-map-of = call-x-map x-role x-shape x-map x-catalogue x-card x-limits x-sheet x-start x-count
+      z-call-x-map-of = call-x-map x-shape x-role x-map x-catalogue x-card x-limits x-sheet x-start x-count
 
       abbrev z-call-x-catalogue-of : List Entry
-      z-call-x-catalogue-of = call-x-catalogue x-role x-shape x-map x-catalogue x-card x-limits x-sheet x-start x-count
+      z-call-x-catalogue-of = call-x-catalogue x-shape x-role x-map x-catalogue x-card x-limits x-sheet x-start x-count
 
       abbrev z-call-x-card-of : List ℕ
-      z-call-x-card-of = call-x-card x-role x-shape x-map x-catalogue x-card x-limits x-sheet x-start x-count
+      z-call-x-card-of = call-x-card x-shape x-role x-map x-catalogue x-card x-limits x-sheet x-start x-count
 
       abbrev v-result-of : (denotes Reply)
       v-result-of = reply-of-out v-outcome-of
@@ -331,12 +331,12 @@ module _ (Shape Outcome Reply : Value) where
       spelled-v-result w is = subst (λ (vs : List Val). Is (rowOf Reply) v-result vs) ((Reply .tells) v-result _ is) is
 
       -- ---- the caller has what `call` asks
-      abbrev call-args : (δ₀-call δ₁-call δ₂-call : GName) → ℕ × ((denotes Shape) × (RefT (List ℕ)
+      abbrev call-args : (δ₀-call δ₁-call δ₂-call : GName) → (denotes Shape) × (ℕ × (RefT (List ℕ)
           × (RefT (List Entry) × (RefT (List ℕ) × (RefT (List ℕ) × (ℕ × (ℕ × (ℕ × Unit {0}))))))))
       call-args δ₀-call δ₁-call δ₂-call = (
-        x-role,
+        x-shape,
         (
-          x-shape,
+          x-role,
           (
             at-x-map δ₀-call (now x-map),
             (
@@ -356,9 +356,9 @@ module _ (Shape Outcome Reply : Value) where
           tt,
           call-args δ₀-call δ₁-call δ₂-call,
           (
-            m-x-role ∷ [],
+            m-x-shape ∷ [],
             (
-              m-x-shape ∷ [],
+              m-x-role ∷ [],
               (
                 s-x-map ∷ [],
                 (
@@ -391,9 +391,9 @@ module _ (Shape Outcome Reply : Value) where
           owned ! u32 (Is u32) (uint-makes 𝓤 H A W w32) x-start _ is-x-start $ fjoin ! $
           owned ! u32 (Is u32) (uint-makes 𝓤 H A W w32) x-sheet _ is-x-sheet $ fjoin ! $ bring ! (5 ∷ 0 ∷ []) $
           fjoin ! $ bring ! (4 ∷ 0 ∷ []) $ fjoin ! $ bring ! (3 ∷ 0 ∷ []) $ fjoin ! $ bring ! (2 ∷ 0 ∷ []) $ fjoin ! $
+          owned ! u32 (Is u32) (uint-makes 𝓤 H A W w32) x-role _ is-x-role $ fjoin ! $
           owned ! (rowOf Shape) (Is (rowOf Shape)) (Shape .makes 𝓤 H A) x-shape _ is-x-shape $ fjoin ! $
-          owned ! u32 (Is u32) (uint-makes 𝓤 H A W w32) x-role _ is-x-role $ fjoin ! $ bring ! (1 ∷ 0 ∷ []) $ join ! $
-          frame ! $ done !
+          bring ! (1 ∷ 0 ∷ []) $ join ! $ frame ! $ done !
 
       -- ---- the caller has what `reply-of` asks
       abbrev reply-of-args : (denotes Outcome) × Unit {0}
@@ -500,8 +500,8 @@ module _ (Shape Outcome Reply : Value) where
           (to-call ν₀-call ν₁-call ν₂-call δ₀-call δ₁-call δ₂-call))) (goes-call ν₀-call ν₁-call ν₂-call δ₀-call δ₁-call
           δ₂-call) $
           calls-at ! (fmOf 𝓤 H (W .laws) 𝓣) (call-contract call-out call-x-map call-x-catalogue call-x-card 𝓤 H A) known-call
-          (to-call ν₀-call ν₁-call ν₂-call δ₀-call δ₁-call δ₂-call) (and-then ! (load ! (from ! (stop !)) (look ! 35 refl))
-          (and-then ! (load ! (from ! (stop !)) (look ! 33 refl)) (and-then ! (load ! (from ! (stop !)) (look ! 13 refl))
+          (to-call ν₀-call ν₁-call ν₂-call δ₀-call δ₁-call δ₂-call) (and-then ! (load ! (from ! (stop !)) (look ! 33 refl))
+          (and-then ! (load ! (from ! (stop !)) (look ! 35 refl)) (and-then ! (load ! (from ! (stop !)) (look ! 13 refl))
           (and-then ! (load ! (from ! (stop !)) (look ! 9 refl)) (and-then ! (load ! (from ! (stop !)) (look ! 5 refl))
           (and-then ! (load ! (from ! (stop !)) (look ! 25 refl)) (and-then ! (load ! (from ! (stop !)) (look ! 23 refl))
           (and-then ! (load ! (from ! (stop !)) (look ! 21 refl)) (and-then ! (load ! (from ! (stop !)) (look ! 19 refl))
@@ -515,11 +515,11 @@ module _ (Shape Outcome Reply : Value) where
           use1 W (some (λ (zs-call : Unit {0} × (Unit {0} × (List ℕ × (List Entry × (List ℕ
           × (Unit {0} × (Unit {0} × (Unit {0} × (Unit {0} × Unit {0}))))))))). ‵ (lasts call-ended
           (ν₀-call ∷ [], (ν₁-call ∷ [], (ν₂-call ∷ [], (κ₃, tt)))) (call-args δ₀-call δ₁-call δ₂-call) zs-call)
-          ⊛ raw (fact 𝓤 (call-says call-out call-x-map call-x-catalogue call-x-card x-role x-shape (now x-map) (now x-catalogue)
+          ⊛ raw (fact 𝓤 (call-says call-out call-x-map call-x-catalogue call-x-card x-shape x-role (now x-map) (now x-catalogue)
           (now x-card) (now x-limits) x-sheet x-start x-count r-call (zs-call .1 .1 .0) (zs-call .1 .1 .1 .0)
           (zs-call .1 .1 .1 .1 .0))))) (id⊢ 𝓤 _) $
           pick ! (λ zs-call. split ! $ bring ! (1 ∷ []) $
-          heard ! (call-says call-out call-x-map call-x-catalogue call-x-card x-role x-shape (now x-map) (now x-catalogue)
+          heard ! (call-says call-out call-x-map call-x-catalogue call-x-card x-shape x-role (now x-map) (now x-catalogue)
           (now x-card) (now x-limits) x-sheet x-start x-count r-call (zs-call .1 .1 .0) (zs-call .1 .1 .1 .0)
           (zs-call .1 .1 .1 .1 .0)) (λ e-call.
           fparts W (_ ∷ _ ∷ _ ∷ _ ∷ _ ∷ _ ∷ _ ∷ _ ∷ _ ∷ []) _ $ discard ! (0 ∷ 0 ∷ 3 ∷ 3 ∷ 3 ∷ 3 ∷ []) $ fsplit ! $

@@ -1,6 +1,6 @@
 -- Written by tools/walks: every function (role: u32, shape: Shape, map: &mut [u64], catalogue: &mut [Entry], card: &mut [u8],
 -- scratch: &mut [u64]) whose code is
---     let outcome: Outcome = call(role, shape, map, catalogue, card, scratch);
+--     let outcome: Outcome = call(shape, role, map, catalogue, card, scratch);
 --     reply_of(outcome)
 -- One walk serves every choice of the callees: it takes their names and what their contracts say. The types by value are any,
 -- too.
@@ -102,7 +102,7 @@ module _ (Shape Outcome Reply : Value) where
         (seq (assign (place 13 []) (aggregate (copy (place 12 []) ∷ copy (place 5 (field 1 ∷ [])) ∷ [])))
         (seq (assign (place 14 []) (addrOf (place 6 (field 0 ∷ deref (tyInt w64) ∷ []))))
         (seq (assign (place 15 []) (aggregate (copy (place 14 []) ∷ copy (place 6 (field 1 ∷ [])) ∷ [])))
-        (seq (call #call (copy (place 1 []) ∷ copy (place 2 []) ∷ copy (place 9 []) ∷ copy (place 11 []) ∷ copy (place 13 [])
+        (seq (call #call (copy (place 2 []) ∷ copy (place 1 []) ∷ copy (place 9 []) ∷ copy (place 11 []) ∷ copy (place 13 [])
         ∷ copy (place 15 []) ∷ []) (place 7 []))
         (seq (call #reply-of (copy (place 7 []) ∷ []) (place 0 [])) return)))))))));
   }
@@ -112,7 +112,7 @@ module _ (Shape Outcome Reply : Value) where
   call-signature = record {
     lifetimes = 4;
     outlives = [];
-    params = plain (λ _. u32) ∷ plain (λ _. (rowOf Shape)) ∷ mutSlice 0 tt (λ _. u64) ∷ mutSlice 1 tt (λ _. Entry′.the-row)
+    params = plain (λ _. (rowOf Shape)) ∷ plain (λ _. u32) ∷ mutSlice 0 tt (λ _. u64) ∷ mutSlice 1 tt (λ _. Entry′.the-row)
         ∷ mutSlice 2 tt (λ _. u8) ∷ mutSlice 3 tt (λ _. u64) ∷ [];
     result = plain (λ _. (rowOf Outcome));
   }
@@ -121,12 +121,12 @@ module _ (Shape Outcome Reply : Value) where
   call-ended = record { signature = call-signature; kept = (yes, (yes, (yes, (yes, (yes, (yes, tt)))))) }
 
   abbrev call-Model : Type 0 → Type 0
-  call-Model X = ℕ → (denotes Shape) → List ℕ → List Entry → List ℕ → List ℕ → X
+  call-Model X = (denotes Shape) → ℕ → List ℕ → List Entry → List ℕ → List ℕ → X
 
   module _ (call-out : call-Model (denotes Outcome)) (call-x-map : call-Model (List ℕ))
       (call-x-catalogue : call-Model (List Entry)) (call-x-card : call-Model (List ℕ))
       (call-x-scratch : call-Model (List ℕ)) where
-    abbrev call-says : ℕ → (denotes Shape) → List ℕ → List Entry → List ℕ → List ℕ → (denotes Outcome) → List ℕ → List Entry
+    abbrev call-says : (denotes Shape) → ℕ → List ℕ → List Entry → List ℕ → List ℕ → (denotes Outcome) → List ℕ → List Entry
         → List ℕ → List ℕ → Type 0
     call-says a0 a1 a2 a3 a4 a5 r b2 b3 b4 b5 = (r ≡ call-out a0 a1 a2 a3 a4 a5) × (b2 ≡ call-x-map a0 a1 a2 a3 a4 a5)
         × (b3 ≡ call-x-catalogue a0 a1 a2 a3 a4 a5) × (b4 ≡ call-x-card a0 a1 a2 a3 a4 a5)
@@ -184,19 +184,19 @@ module _ (Shape Outcome Reply : Value) where
     module _ (x-role : ℕ) (x-shape : (denotes Shape)) (x-map : List ℕ) (x-catalogue : List Entry) (x-card : List ℕ)
         (x-scratch : List ℕ) where
       abbrev v-outcome-of : (denotes Outcome)
-      v-outcome-of = call-out x-role x-shape x-map x-catalogue x-card x-scratch
+      v-outcome-of = call-out x-shape x-role x-map x-catalogue x-card x-scratch
 
       abbrev z-call-x-map-of : List ℕ
-      z-call-x-map-of = call-x-map x-role x-shape x-map x-catalogue x-card x-scratch
+      z-call-x-map-of = call-x-map x-shape x-role x-map x-catalogue x-card x-scratch
 
       abbrev z-call-x-catalogue-of : List Entry
-      z-call-x-catalogue-of = call-x-catalogue x-role x-shape x-map x-catalogue x-card x-scratch
+      z-call-x-catalogue-of = call-x-catalogue x-shape x-role x-map x-catalogue x-card x-scratch
 
       abbrev z-call-x-card-of : List ℕ
-      z-call-x-card-of = call-x-card x-role x-shape x-map x-catalogue x-card x-scratch
+      z-call-x-card-of = call-x-card x-shape x-role x-map x-catalogue x-card x-scratch
 
       abbrev z-call-x-scratch-of : List ℕ
-      z-call-x-scratch-of = call-x-scratch x-role x-shape x-map x-catalogue x-card x-scratch
+      z-call-x-scratch-of = call-x-scratch x-shape x-role x-map x-catalogue x-card x-scratch
 
       abbrev v-result-of : (denotes Reply)
       v-result-of = reply-of-out v-outcome-of
@@ -300,12 +300,12 @@ module _ (Shape Outcome Reply : Value) where
       spelled-v-result w is = subst (λ (vs : List Val). Is (rowOf Reply) v-result vs) ((Reply .tells) v-result _ is) is
 
       -- ---- the caller has what `call` asks
-      abbrev call-args : (δ₀-call δ₁-call δ₂-call δ₃-call : GName) → ℕ × ((denotes Shape)
-          × (RefT (List ℕ) × (RefT (List Entry) × (RefT (List ℕ) × (RefT (List ℕ) × Unit {0})))))
+      abbrev call-args : (δ₀-call δ₁-call δ₂-call δ₃-call : GName) → (denotes Shape) ×
+          (ℕ × (RefT (List ℕ) × (RefT (List Entry) × (RefT (List ℕ) × (RefT (List ℕ) × Unit {0})))))
       call-args δ₀-call δ₁-call δ₂-call δ₃-call = (
-        x-role,
+        x-shape,
         (
-          x-shape,
+          x-role,
           (
             at-x-map δ₀-call (now x-map),
             (
@@ -324,7 +324,7 @@ module _ (Shape Outcome Reply : Value) where
           (fullShare, (fullShare, (fullShare, (fullShare, tt)))),
           tt,
           call-args δ₀-call δ₁-call δ₂-call δ₃-call,
-          (m-x-role ∷ [], (m-x-shape ∷ [], (s-x-map ∷ [], (s-x-catalogue ∷ [], (s-x-card ∷ [], (s-x-scratch ∷ [], tt)))))),
+          (m-x-shape ∷ [], (m-x-role ∷ [], (s-x-map ∷ [], (s-x-catalogue ∷ [], (s-x-card ∷ [], (s-x-scratch ∷ [], tt)))))),
         ),
         tt,
       )
@@ -345,9 +345,9 @@ module _ (Shape Outcome Reply : Value) where
           ∷ ‵ (MutSlice (named 3) (ν₃-call ∷ []) u64 .own (at-x-scratch δ₃-call (now x-scratch)) (s-x-scratch ∷ [])) ∷ []) ∵
           nothing ! $ bring ! (1 ∷ 1 ∷ 1 ∷ 1 ∷ 0 ∷ []) $ group ! 5 $ nothing ! $ bring ! (5 ∷ 0 ∷ []) $ fjoin ! $
           bring ! (4 ∷ 0 ∷ []) $ fjoin ! $ bring ! (3 ∷ 0 ∷ []) $ fjoin ! $ bring ! (2 ∷ 0 ∷ []) $ fjoin ! $
+          owned ! u32 (Is u32) (uint-makes 𝓤 H A W w32) x-role _ is-x-role $ fjoin ! $
           owned ! (rowOf Shape) (Is (rowOf Shape)) (Shape .makes 𝓤 H A) x-shape _ is-x-shape $ fjoin ! $
-          owned ! u32 (Is u32) (uint-makes 𝓤 H A W w32) x-role _ is-x-role $ fjoin ! $ bring ! (1 ∷ 0 ∷ []) $ join ! $
-          frame ! $ done !
+          bring ! (1 ∷ 0 ∷ []) $ join ! $ frame ! $ done !
 
       -- ---- the caller has what `reply-of` asks
       abbrev reply-of-args : (denotes Outcome) × Unit {0}
@@ -459,7 +459,7 @@ module _ (Shape Outcome Reply : Value) where
           δ₀-call δ₁-call δ₂-call δ₃-call) $
           calls-at ! (fmOf 𝓤 H (W .laws) 𝓣) (call-contract call-out call-x-map call-x-catalogue call-x-card call-x-scratch 𝓤 H
           A) known-call (to-call ν₀-call ν₁-call ν₂-call ν₃-call δ₀-call δ₁-call δ₂-call δ₃-call)
-          (and-then ! (load ! (from ! (stop !)) (look ! 33 refl)) (and-then ! (load ! (from ! (stop !)) (look ! 31 refl))
+          (and-then ! (load ! (from ! (stop !)) (look ! 31 refl)) (and-then ! (load ! (from ! (stop !)) (look ! 33 refl))
           (and-then ! (load ! (from ! (stop !)) (look ! 17 refl)) (and-then ! (load ! (from ! (stop !)) (look ! 13 refl))
           (and-then ! (load ! (from ! (stop !)) (look ! 9 refl)) (and-then ! (load ! (from ! (stop !)) (look ! 5 refl))
           (no-more !))))))) (λ w-call.
@@ -472,10 +472,10 @@ module _ (Shape Outcome Reply : Value) where
           use1 W (some (λ (zs-call : Unit {0} × (Unit {0} × (List ℕ × (List Entry × (List ℕ × (List ℕ × Unit {0})))))). ‵
           (lasts call-ended (ν₀-call ∷ [], (ν₁-call ∷ [], (ν₂-call ∷ [], (ν₃-call ∷ [], tt))))
           (call-args δ₀-call δ₁-call δ₂-call δ₃-call) zs-call) ⊛ raw (fact 𝓤 (call-says call-out call-x-map call-x-catalogue
-          call-x-card call-x-scratch x-role x-shape (now x-map) (now x-catalogue) (now x-card) (now x-scratch) r-call
+          call-x-card call-x-scratch x-shape x-role (now x-map) (now x-catalogue) (now x-card) (now x-scratch) r-call
           (zs-call .1 .1 .0) (zs-call .1 .1 .1 .0) (zs-call .1 .1 .1 .1 .0) (zs-call .1 .1 .1 .1 .1 .0))))) (id⊢ 𝓤 _) $
           pick ! (λ zs-call. split ! $ bring ! (1 ∷ []) $
-          heard ! (call-says call-out call-x-map call-x-catalogue call-x-card call-x-scratch x-role x-shape (now x-map)
+          heard ! (call-says call-out call-x-map call-x-catalogue call-x-card call-x-scratch x-shape x-role (now x-map)
           (now x-catalogue) (now x-card) (now x-scratch) r-call (zs-call .1 .1 .0) (zs-call .1 .1 .1 .0)
           (zs-call .1 .1 .1 .1 .0) (zs-call .1 .1 .1 .1 .1 .0)) (λ e-call.
           fparts W (_ ∷ _ ∷ _ ∷ _ ∷ _ ∷ _ ∷ []) _ $ discard ! (0 ∷ 0 ∷ []) $ fsplit ! $ bring ! (1 ∷ []) $

@@ -1,6 +1,6 @@
 -- Written by tools/walks: every function (role: u32, shape: Shape, image: &[u8], map: &mut [u64], catalogue: &mut [Entry],
 -- scratch: &mut [u64]) whose code is
---     let outcome: Outcome = call(role, shape, image, map, catalogue, scratch);
+--     let outcome: Outcome = call(shape, role, image, map, catalogue, scratch);
 --     reply_of(outcome)
 -- One walk serves every choice of the callees: it takes their names and what their contracts say. The types by value are any,
 -- too.
@@ -101,7 +101,7 @@ module _ (Shape Outcome Reply : Value) where
         (seq (assign (place 11 []) (aggregate (copy (place 10 []) ∷ copy (place 5 (field 1 ∷ [])) ∷ [])))
         (seq (assign (place 12 []) (addrOf (place 6 (field 0 ∷ deref (tyInt w64) ∷ []))))
         (seq (assign (place 13 []) (aggregate (copy (place 12 []) ∷ copy (place 6 (field 1 ∷ [])) ∷ [])))
-        (seq (call #call (copy (place 1 []) ∷ copy (place 2 []) ∷ copy (place 3 []) ∷ copy (place 9 []) ∷ copy (place 11 [])
+        (seq (call #call (copy (place 2 []) ∷ copy (place 1 []) ∷ copy (place 3 []) ∷ copy (place 9 []) ∷ copy (place 11 [])
         ∷ copy (place 13 []) ∷ []) (place 7 []))
         (seq (call #reply-of (copy (place 7 []) ∷ []) (place 0 [])) return)))))));
   }
@@ -111,7 +111,7 @@ module _ (Shape Outcome Reply : Value) where
   call-signature = record {
     lifetimes = 4;
     outlives = [];
-    params = plain (λ _. u32) ∷ plain (λ _. (rowOf Shape)) ∷ shrSlice 0 tt (λ _. u8) ∷ mutSlice 1 tt (λ _. u64)
+    params = plain (λ _. (rowOf Shape)) ∷ plain (λ _. u32) ∷ shrSlice 0 tt (λ _. u8) ∷ mutSlice 1 tt (λ _. u64)
         ∷ mutSlice 2 tt (λ _. Entry′.the-row) ∷ mutSlice 3 tt (λ _. u64) ∷ [];
     result = plain (λ _. (rowOf Outcome));
   }
@@ -120,11 +120,11 @@ module _ (Shape Outcome Reply : Value) where
   call-ended = record { signature = call-signature; kept = (yes, (yes, (yes, (yes, (yes, (yes, tt)))))) }
 
   abbrev call-Model : Type 0 → Type 0
-  call-Model X = ℕ → (denotes Shape) → List ℕ → List ℕ → List Entry → List ℕ → X
+  call-Model X = (denotes Shape) → ℕ → List ℕ → List ℕ → List Entry → List ℕ → X
 
   module _ (call-out : call-Model (denotes Outcome)) (call-x-map : call-Model (List ℕ))
       (call-x-catalogue : call-Model (List Entry)) (call-x-scratch : call-Model (List ℕ)) where
-    abbrev call-says : ℕ → (denotes Shape) → List ℕ → List ℕ → List Entry → List ℕ → (denotes Outcome) → List ℕ → List Entry
+    abbrev call-says : (denotes Shape) → ℕ → List ℕ → List ℕ → List Entry → List ℕ → (denotes Outcome) → List ℕ → List Entry
         → List ℕ → Type 0
     call-says a0 a1 a2 a3 a4 a5 r b3 b4 b5 = (r ≡ call-out a0 a1 a2 a3 a4 a5) × (b3 ≡ call-x-map a0 a1 a2 a3 a4 a5)
         × (b4 ≡ call-x-catalogue a0 a1 a2 a3 a4 a5) × (b5 ≡ call-x-scratch a0 a1 a2 a3 a4 a5)
@@ -180,16 +180,16 @@ module _ (Shape Outcome Reply : Value) where
     module _ (x-role : ℕ) (x-shape : (denotes Shape)) (x-image : List ℕ) (x-map : List ℕ) (x-catalogue : List Entry)
         (x-scratch : List ℕ) where
       abbrev v-outcome-of : (denotes Outcome)
-      v-outcome-of = call-out x-role x-shape x-image x-map x-catalogue x-scratch
+      v-outcome-of = call-out x-shape x-role x-image x-map x-catalogue x-scratch
 
       abbrev z-call-x-map-of : List ℕ
-      z-call-x-map-of = call-x-map x-role x-shape x-image x-map x-catalogue x-scratch
+      z-call-x-map-of = call-x-map x-shape x-role x-image x-map x-catalogue x-scratch
 
       abbrev z-call-x-catalogue-of : List Entry
-      z-call-x-catalogue-of = call-x-catalogue x-role x-shape x-image x-map x-catalogue x-scratch
+      z-call-x-catalogue-of = call-x-catalogue x-shape x-role x-image x-map x-catalogue x-scratch
 
       abbrev z-call-x-scratch-of : List ℕ
-      z-call-x-scratch-of = call-x-scratch x-role x-shape x-image x-map x-catalogue x-scratch
+      z-call-x-scratch-of = call-x-scratch x-shape x-role x-image x-map x-catalogue x-scratch
 
       abbrev v-result-of : (denotes Reply)
       v-result-of = reply-of-out v-outcome-of
@@ -290,12 +290,12 @@ module _ (Shape Outcome Reply : Value) where
       spelled-v-result w is = subst (λ (vs : List Val). Is (rowOf Reply) v-result vs) ((Reply .tells) v-result _ is) is
 
       -- ---- the caller has what `call` asks
-      abbrev call-args : (δ₀-call δ₁-call δ₂-call : GName) → ℕ × ((denotes Shape) × (RefT (List ℕ)
+      abbrev call-args : (δ₀-call δ₁-call δ₂-call : GName) → (denotes Shape) × (ℕ × (RefT (List ℕ)
           × (RefT (List ℕ) × (RefT (List Entry) × (RefT (List ℕ) × Unit {0})))))
       call-args δ₀-call δ₁-call δ₂-call = (
-        x-role,
+        x-shape,
         (
-          x-shape,
+          x-role,
           (
             x-image,
             (
@@ -314,7 +314,7 @@ module _ (Shape Outcome Reply : Value) where
           (q₀, (fullShare, (fullShare, (fullShare, tt)))),
           tt,
           call-args δ₀-call δ₁-call δ₂-call,
-          (m-x-role ∷ [], (m-x-shape ∷ [], (s-x-image ∷ [], (s-x-map ∷ [], (s-x-catalogue ∷ [], (s-x-scratch ∷ [], tt)))))),
+          (m-x-shape ∷ [], (m-x-role ∷ [], (s-x-image ∷ [], (s-x-map ∷ [], (s-x-catalogue ∷ [], (s-x-scratch ∷ [], tt)))))),
         ),
         tt,
       )
@@ -336,9 +336,9 @@ module _ (Shape Outcome Reply : Value) where
           (s-x-scratch ∷ [])) ∷ []) ∵
           nothing ! $ bring ! (1 ∷ 1 ∷ 1 ∷ 1 ∷ 0 ∷ []) $ group ! 5 $ nothing ! $ bring ! (5 ∷ 0 ∷ []) $ fjoin ! $
           bring ! (4 ∷ 0 ∷ []) $ fjoin ! $ bring ! (3 ∷ 0 ∷ []) $ fjoin ! $ bring ! (2 ∷ 0 ∷ []) $ fjoin ! $
+          owned ! u32 (Is u32) (uint-makes 𝓤 H A W w32) x-role _ is-x-role $ fjoin ! $
           owned ! (rowOf Shape) (Is (rowOf Shape)) (Shape .makes 𝓤 H A) x-shape _ is-x-shape $ fjoin ! $
-          owned ! u32 (Is u32) (uint-makes 𝓤 H A W w32) x-role _ is-x-role $ fjoin ! $ bring ! (1 ∷ 0 ∷ []) $ join ! $
-          frame ! $ done !
+          bring ! (1 ∷ 0 ∷ []) $ join ! $ frame ! $ done !
 
       -- ---- the caller has what `reply-of` asks
       abbrev reply-of-args : (denotes Outcome) × Unit {0}
@@ -440,8 +440,8 @@ module _ (Shape Outcome Reply : Value) where
           (to-call ν₀-call ν₁-call ν₂-call δ₀-call δ₁-call δ₂-call))) (goes-call ν₀-call ν₁-call ν₂-call δ₀-call δ₁-call
           δ₂-call) $
           calls-at ! (fmOf 𝓤 H (W .laws) 𝓣) (call-contract call-out call-x-map call-x-catalogue call-x-scratch 𝓤 H A) known-call
-          (to-call ν₀-call ν₁-call ν₂-call δ₀-call δ₁-call δ₂-call) (and-then ! (load ! (from ! (stop !)) (look ! 29 refl))
-          (and-then ! (load ! (from ! (stop !)) (look ! 27 refl)) (and-then ! (load ! (from ! (stop !)) (look ! 25 refl))
+          (to-call ν₀-call ν₁-call ν₂-call δ₀-call δ₁-call δ₂-call) (and-then ! (load ! (from ! (stop !)) (look ! 27 refl))
+          (and-then ! (load ! (from ! (stop !)) (look ! 29 refl)) (and-then ! (load ! (from ! (stop !)) (look ! 25 refl))
           (and-then ! (load ! (from ! (stop !)) (look ! 13 refl)) (and-then ! (load ! (from ! (stop !)) (look ! 9 refl))
           (and-then ! (load ! (from ! (stop !)) (look ! 5 refl)) (no-more !))))))) (λ w-call.
           use1 W (later (some (λ (r : (denotes Outcome)). ((‵ (flft κ₀ q₀) ⊛ ‵ (flft (ν₀-call ∷ []) fullShare)
@@ -452,11 +452,11 @@ module _ (Shape Outcome Reply : Value) where
           await ! tt $ pick ! (λ r-call. split ! $ bring ! (1 ∷ []) $
           use1 W (some (λ (zs-call : Unit {0} × (Unit {0} × (Unit {0} × (List ℕ × (List Entry × (List ℕ × Unit {0})))))). ‵
           (lasts call-ended (κ₀, (ν₀-call ∷ [], (ν₁-call ∷ [], (ν₂-call ∷ [], tt)))) (call-args δ₀-call δ₁-call δ₂-call)
-          zs-call) ⊛ raw (fact 𝓤 (call-says call-out call-x-map call-x-catalogue call-x-scratch x-role x-shape (now x-image)
+          zs-call) ⊛ raw (fact 𝓤 (call-says call-out call-x-map call-x-catalogue call-x-scratch x-shape x-role (now x-image)
           (now x-map) (now x-catalogue) (now x-scratch) r-call (zs-call .1 .1 .1 .0) (zs-call .1 .1 .1 .1 .0)
           (zs-call .1 .1 .1 .1 .1 .0))))) (id⊢ 𝓤 _) $
           pick ! (λ zs-call. split ! $ bring ! (1 ∷ []) $
-          heard ! (call-says call-out call-x-map call-x-catalogue call-x-scratch x-role x-shape (now x-image) (now x-map)
+          heard ! (call-says call-out call-x-map call-x-catalogue call-x-scratch x-shape x-role (now x-image) (now x-map)
           (now x-catalogue) (now x-scratch) r-call (zs-call .1 .1 .1 .0) (zs-call .1 .1 .1 .1 .0) (zs-call .1 .1 .1 .1 .1 .0))
           (λ e-call.
           fparts W (_ ∷ _ ∷ _ ∷ _ ∷ _ ∷ _ ∷ []) _ $ discard ! (0 ∷ 0 ∷ 0 ∷ []) $ fsplit ! $ bring ! (1 ∷ []) $

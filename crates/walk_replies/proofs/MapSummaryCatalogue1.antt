@@ -1,6 +1,6 @@
 -- Written by tools/walks: every function (role: u32, shape: Shape, map: &mut [u64], summary: &mut [u32], catalogue: &mut
 -- [Entry], sheet: u32) whose code is
---     let outcome: Outcome = call(role, shape, map, summary, catalogue, sheet);
+--     let outcome: Outcome = call(shape, role, map, summary, catalogue, sheet);
 --     reply_of(outcome)
 -- One walk serves every choice of the callees: it takes their names and what their contracts say. The types by value are any,
 -- too.
@@ -99,7 +99,7 @@ module _ (Shape Outcome Reply : Value) where
         (seq (assign (place 11 []) (aggregate (copy (place 10 []) ∷ copy (place 4 (field 1 ∷ [])) ∷ [])))
         (seq (assign (place 12 []) (addrOf (place 5 (field 0 ∷ deref Entry″.mir ∷ []))))
         (seq (assign (place 13 []) (aggregate (copy (place 12 []) ∷ copy (place 5 (field 1 ∷ [])) ∷ [])))
-        (seq (call #call (copy (place 1 []) ∷ copy (place 2 []) ∷ copy (place 9 []) ∷ copy (place 11 []) ∷ copy (place 13 [])
+        (seq (call #call (copy (place 2 []) ∷ copy (place 1 []) ∷ copy (place 9 []) ∷ copy (place 11 []) ∷ copy (place 13 [])
         ∷ copy (place 6 []) ∷ []) (place 7 []))
         (seq (call #reply-of (copy (place 7 []) ∷ []) (place 0 [])) return)))))));
   }
@@ -109,7 +109,7 @@ module _ (Shape Outcome Reply : Value) where
   call-signature = record {
     lifetimes = 3;
     outlives = [];
-    params = plain (λ _. u32) ∷ plain (λ _. (rowOf Shape)) ∷ mutSlice 0 tt (λ _. u64) ∷ mutSlice 1 tt (λ _. u32)
+    params = plain (λ _. (rowOf Shape)) ∷ plain (λ _. u32) ∷ mutSlice 0 tt (λ _. u64) ∷ mutSlice 1 tt (λ _. u32)
         ∷ mutSlice 2 tt (λ _. Entry′.the-row) ∷ plain (λ _. u32) ∷ [];
     result = plain (λ _. (rowOf Outcome));
   }
@@ -118,11 +118,11 @@ module _ (Shape Outcome Reply : Value) where
   call-ended = record { signature = call-signature; kept = (yes, (yes, (yes, (yes, (yes, (yes, tt)))))) }
 
   abbrev call-Model : Type 0 → Type 0
-  call-Model X = ℕ → (denotes Shape) → List ℕ → List ℕ → List Entry → ℕ → X
+  call-Model X = (denotes Shape) → ℕ → List ℕ → List ℕ → List Entry → ℕ → X
 
   module _ (call-out : call-Model (denotes Outcome)) (call-x-map : call-Model (List ℕ)) (call-x-summary : call-Model (List ℕ))
       (call-x-catalogue : call-Model (List Entry)) where
-    abbrev call-says : ℕ → (denotes Shape) → List ℕ → List ℕ → List Entry → ℕ → (denotes Outcome) → List ℕ → List ℕ → List Entry
+    abbrev call-says : (denotes Shape) → ℕ → List ℕ → List ℕ → List Entry → ℕ → (denotes Outcome) → List ℕ → List ℕ → List Entry
         → Type 0
     call-says a0 a1 a2 a3 a4 a5 r b2 b3 b4 = (r ≡ call-out a0 a1 a2 a3 a4 a5) × (b2 ≡ call-x-map a0 a1 a2 a3 a4 a5)
         × (b3 ≡ call-x-summary a0 a1 a2 a3 a4 a5) × (b4 ≡ call-x-catalogue a0 a1 a2 a3 a4 a5)
@@ -178,16 +178,16 @@ module _ (Shape Outcome Reply : Value) where
     module _ (x-role : ℕ) (x-shape : (denotes Shape)) (x-map : List ℕ) (x-summary : List ℕ) (x-catalogue : List Entry)
         (x-sheet : ℕ) where
       abbrev v-outcome-of : (denotes Outcome)
-      v-outcome-of = call-out x-role x-shape x-map x-summary x-catalogue x-sheet
+      v-outcome-of = call-out x-shape x-role x-map x-summary x-catalogue x-sheet
 
       abbrev z-call-x-map-of : List ℕ
-      z-call-x-map-of = call-x-map x-role x-shape x-map x-summary x-catalogue x-sheet
+      z-call-x-map-of = call-x-map x-shape x-role x-map x-summary x-catalogue x-sheet
 
       abbrev z-call-x-summary-of : List ℕ
-      z-call-x-summary-of = call-x-summary x-role x-shape x-map x-summary x-catalogue x-sheet
+      z-call-x-summary-of = call-x-summary x-shape x-role x-map x-summary x-catalogue x-sheet
 
       abbrev z-call-x-catalogue-of : List Entry
-      z-call-x-catalogue-of = call-x-catalogue x-role x-shape x-map x-summary x-catalogue x-sheet
+      z-call-x-catalogue-of = call-x-catalogue x-shape x-role x-map x-summary x-catalogue x-sheet
 
       abbrev v-result-of : (denotes Reply)
       v-result-of = reply-of-out v-outcome-of
@@ -288,12 +288,12 @@ module _ (Shape Outcome Reply : Value) where
       spelled-v-result w is = subst (λ (vs : List Val). Is (rowOf Reply) v-result vs) ((Reply .tells) v-result _ is) is
 
       -- ---- the caller has what `call` asks
-      abbrev call-args : (δ₀-call δ₁-call δ₂-call : GName) → ℕ × ((denotes Shape) × (RefT (List ℕ)
+      abbrev call-args : (δ₀-call δ₁-call δ₂-call : GName) → (denotes Shape) × (ℕ × (RefT (List ℕ)
           × (RefT (List ℕ) × (RefT (List Entry) × (ℕ × Unit {0})))))
       call-args δ₀-call δ₁-call δ₂-call = (
-        x-role,
+        x-shape,
         (
-          x-shape,
+          x-role,
           (
             at-x-map δ₀-call (now x-map),
             (at-x-summary δ₁-call (now x-summary), (at-x-catalogue δ₂-call (now x-catalogue), (x-sheet, tt))),
@@ -309,7 +309,7 @@ module _ (Shape Outcome Reply : Value) where
           (fullShare, (fullShare, (fullShare, tt))),
           tt,
           call-args δ₀-call δ₁-call δ₂-call,
-          (m-x-role ∷ [], (m-x-shape ∷ [], (s-x-map ∷ [], (s-x-summary ∷ [], (s-x-catalogue ∷ [], (m-x-sheet ∷ [], tt)))))),
+          (m-x-shape ∷ [], (m-x-role ∷ [], (s-x-map ∷ [], (s-x-summary ∷ [], (s-x-catalogue ∷ [], (m-x-sheet ∷ [], tt)))))),
         ),
         tt,
       )
@@ -330,9 +330,9 @@ module _ (Shape Outcome Reply : Value) where
           nothing ! $ bring ! (1 ∷ 1 ∷ 1 ∷ 0 ∷ []) $ group ! 4 $ nothing ! $
           owned ! u32 (Is u32) (uint-makes 𝓤 H A W w32) x-sheet _ is-x-sheet $ fjoin ! $ bring ! (4 ∷ 0 ∷ []) $
           fjoin ! $ bring ! (3 ∷ 0 ∷ []) $ fjoin ! $ bring ! (2 ∷ 0 ∷ []) $ fjoin ! $
+          owned ! u32 (Is u32) (uint-makes 𝓤 H A W w32) x-role _ is-x-role $ fjoin ! $
           owned ! (rowOf Shape) (Is (rowOf Shape)) (Shape .makes 𝓤 H A) x-shape _ is-x-shape $ fjoin ! $
-          owned ! u32 (Is u32) (uint-makes 𝓤 H A W w32) x-role _ is-x-role $ fjoin ! $ bring ! (1 ∷ 0 ∷ []) $ join ! $
-          frame ! $ done !
+          bring ! (1 ∷ 0 ∷ []) $ join ! $ frame ! $ done !
 
       -- ---- the caller has what `reply-of` asks
       abbrev reply-of-args : (denotes Outcome) × Unit {0}
@@ -430,8 +430,8 @@ module _ (Shape Outcome Reply : Value) where
           (to-call ν₀-call ν₁-call ν₂-call δ₀-call δ₁-call δ₂-call))) (goes-call ν₀-call ν₁-call ν₂-call δ₀-call δ₁-call
           δ₂-call) $
           calls-at ! (fmOf 𝓤 H (W .laws) 𝓣) (call-contract call-out call-x-map call-x-summary call-x-catalogue 𝓤 H A) known-call
-          (to-call ν₀-call ν₁-call ν₂-call δ₀-call δ₁-call δ₂-call) (and-then ! (load ! (from ! (stop !)) (look ! 28 refl))
-          (and-then ! (load ! (from ! (stop !)) (look ! 26 refl)) (and-then ! (load ! (from ! (stop !)) (look ! 12 refl))
+          (to-call ν₀-call ν₁-call ν₂-call δ₀-call δ₁-call δ₂-call) (and-then ! (load ! (from ! (stop !)) (look ! 26 refl))
+          (and-then ! (load ! (from ! (stop !)) (look ! 28 refl)) (and-then ! (load ! (from ! (stop !)) (look ! 12 refl))
           (and-then ! (load ! (from ! (stop !)) (look ! 8 refl)) (and-then ! (load ! (from ! (stop !)) (look ! 4 refl))
           (and-then ! (load ! (from ! (stop !)) (look ! 18 refl)) (no-more !))))))) (λ w-call.
           use1 W (later (some (λ (r : (denotes Outcome)). ((‵ (flft (ν₀-call ∷ []) fullShare)
@@ -442,11 +442,11 @@ module _ (Shape Outcome Reply : Value) where
           await ! tt $ pick ! (λ r-call. split ! $ bring ! (1 ∷ []) $
           use1 W (some (λ (zs-call : Unit {0} × (Unit {0} × (List ℕ × (List ℕ × (List Entry × (Unit {0} × Unit {0})))))). ‵
           (lasts call-ended (ν₀-call ∷ [], (ν₁-call ∷ [], (ν₂-call ∷ [], tt))) (call-args δ₀-call δ₁-call δ₂-call) zs-call)
-          ⊛ raw (fact 𝓤 (call-says call-out call-x-map call-x-summary call-x-catalogue x-role x-shape (now x-map)
+          ⊛ raw (fact 𝓤 (call-says call-out call-x-map call-x-summary call-x-catalogue x-shape x-role (now x-map)
           (now x-summary) (now x-catalogue) x-sheet r-call (zs-call .1 .1 .0) (zs-call .1 .1 .1 .0) (zs-call .1 .1 .1 .1 .0)))))
           (id⊢ 𝓤 _) $
           pick ! (λ zs-call. split ! $ bring ! (1 ∷ []) $
-          heard ! (call-says call-out call-x-map call-x-summary call-x-catalogue x-role x-shape (now x-map) (now x-summary)
+          heard ! (call-says call-out call-x-map call-x-summary call-x-catalogue x-shape x-role (now x-map) (now x-summary)
           (now x-catalogue) x-sheet r-call (zs-call .1 .1 .0) (zs-call .1 .1 .1 .0) (zs-call .1 .1 .1 .1 .0)) (λ e-call.
           fparts W (_ ∷ _ ∷ _ ∷ _ ∷ _ ∷ _ ∷ []) _ $ discard ! (0 ∷ 0 ∷ 3 ∷ []) $ fsplit ! $ bring ! (1 ∷ []) $
           feqL ! (λ h-call-x-map. bring ! (1 ∷ []) $ fsplit ! $ bring ! (1 ∷ []) $ feqL ! (λ h-call-x-summary.

@@ -1,6 +1,6 @@
 -- Written by tools/walks: every function (role: u32, shape: Shape, map: &mut [u64], summary: &mut [u32], catalogue: &mut
 -- [Entry], card: &mut [u8], limits: &[u32; 8], sheet: u32, count: u32, from: u32, before: u32, step: u32) whose code is
---     let outcome: Outcome = call(role, shape, map, summary, catalogue, card, limits, sheet, count, from, before, step);
+--     let outcome: Outcome = call(shape, role, map, summary, catalogue, card, limits, sheet, count, from, before, step);
 --     reply_of(outcome)
 -- One walk serves every choice of the callees: it takes their names and what their contracts say. The types by value are any,
 -- too.
@@ -125,7 +125,7 @@ module _ (Shape Outcome Reply : Value) where
         (seq (assign (place 19 []) (aggregate (copy (place 18 []) ∷ copy (place 5 (field 1 ∷ [])) ∷ [])))
         (seq (assign (place 20 []) (addrOf (place 6 (field 0 ∷ deref (tyInt w8) ∷ []))))
         (seq (assign (place 21 []) (aggregate (copy (place 20 []) ∷ copy (place 6 (field 1 ∷ [])) ∷ [])))
-        (seq (call #call (copy (place 1 []) ∷ copy (place 2 []) ∷ copy (place 15 []) ∷ copy (place 17 []) ∷ copy (place 19 [])
+        (seq (call #call (copy (place 2 []) ∷ copy (place 1 []) ∷ copy (place 15 []) ∷ copy (place 17 []) ∷ copy (place 19 [])
         ∷ copy (place 21 []) ∷ copy (place 7 []) ∷ copy (place 8 []) ∷ copy (place 9 []) ∷ copy (place 10 [])
         ∷ copy (place 11 []) ∷ copy (place 12 []) ∷ []) (place 13 []))
         (seq (call #reply-of (copy (place 13 []) ∷ []) (place 0 [])) return)))))))));
@@ -136,7 +136,7 @@ module _ (Shape Outcome Reply : Value) where
   call-signature = record {
     lifetimes = 5;
     outlives = [];
-    params = plain (λ _. u32) ∷ plain (λ _. (rowOf Shape)) ∷ mutSlice 0 tt (λ _. u64) ∷ mutSlice 1 tt (λ _. u32)
+    params = plain (λ _. (rowOf Shape)) ∷ plain (λ _. u32) ∷ mutSlice 0 tt (λ _. u64) ∷ mutSlice 1 tt (λ _. u32)
         ∷ mutSlice 2 tt (λ _. Entry′.the-row) ∷ mutSlice 3 tt (λ _. u8) ∷ shrRef 4 tt (λ _. (Array u32 8)) ∷ plain (λ _. u32)
         ∷ plain (λ _. u32) ∷ plain (λ _. u32) ∷ plain (λ _. u32) ∷ plain (λ _. u32) ∷ [];
     result = plain (λ _. (rowOf Outcome));
@@ -149,11 +149,11 @@ module _ (Shape Outcome Reply : Value) where
   }
 
   abbrev call-Model : Type 0 → Type 0
-  call-Model X = ℕ → (denotes Shape) → List ℕ → List ℕ → List Entry → List ℕ → (List ℕ) → ℕ → ℕ → ℕ → ℕ → ℕ → X
+  call-Model X = (denotes Shape) → ℕ → List ℕ → List ℕ → List Entry → List ℕ → (List ℕ) → ℕ → ℕ → ℕ → ℕ → ℕ → X
 
   module _ (call-out : call-Model (denotes Outcome)) (call-x-map : call-Model (List ℕ)) (call-x-summary : call-Model (List ℕ))
       (call-x-catalogue : call-Model (List Entry)) (call-x-card : call-Model (List ℕ)) where
-    abbrev call-says : ℕ → (denotes Shape) → List ℕ → List ℕ → List Entry → List ℕ → (List ℕ) → ℕ → ℕ → ℕ → ℕ → ℕ
+    abbrev call-says : (denotes Shape) → ℕ → List ℕ → List ℕ → List Entry → List ℕ → (List ℕ) → ℕ → ℕ → ℕ → ℕ → ℕ
         → (denotes Outcome) → List ℕ → List ℕ → List Entry → List ℕ → Type 0
     call-says a0 a1 a2 a3 a4 a5 a6 a7 a8 a9 a10 a11 r b2 b3 b4 b5 = (r ≡ call-out a0 a1 a2 a3 a4 a5 a6 a7 a8 a9 a10 a11)
         × (b2 ≡ call-x-map a0 a1 a2 a3 a4 a5 a6 a7 a8 a9 a10 a11) × (b3 ≡ call-x-summary a0 a1 a2 a3 a4 a5 a6 a7 a8 a9 a10 a11)
@@ -214,22 +214,22 @@ module _ (Shape Outcome Reply : Value) where
     module _ (x-role : ℕ) (x-shape : (denotes Shape)) (x-map : List ℕ) (x-summary : List ℕ) (x-catalogue : List Entry)
         (x-card : List ℕ) (x-limits : (List ℕ)) (x-sheet : ℕ) (x-count : ℕ) (x-from : ℕ) (x-before : ℕ) (x-step : ℕ) where
       abbrev v-outcome-of : (denotes Outcome)
-      v-outcome-of = call-out x-role x-shape x-map x-summary x-catalogue x-card x-limits x-sheet x-count x-from x-before x-step
+      v-outcome-of = call-out x-shape x-role x-map x-summary x-catalogue x-card x-limits x-sheet x-count x-from x-before x-step
 
       abbrev z-call-x-map-of : List ℕ
-      z-call-x-map-of = call-x-map x-role x-shape x-map x-summary x-catalogue x-card x-limits x-sheet x-count x-from x-before
+      z-call-x-map-of = call-x-map x-shape x-role x-map x-summary x-catalogue x-card x-limits x-sheet x-count x-from x-before
           x-step
 
       abbrev z-call-x-summary-of : List ℕ
-      z-call-x-summary-of = call-x-summary x-role x-shape x-map x-summary x-catalogue x-card x-limits x-sheet x-count x-from
+      z-call-x-summary-of = call-x-summary x-shape x-role x-map x-summary x-catalogue x-card x-limits x-sheet x-count x-from
           x-before x-step
 
       abbrev z-call-x-catalogue-of : List Entry
-      z-call-x-catalogue-of = call-x-catalogue x-role x-shape x-map x-summary x-catalogue x-card x-limits x-sheet x-count x-from
+      z-call-x-catalogue-of = call-x-catalogue x-shape x-role x-map x-summary x-catalogue x-card x-limits x-sheet x-count x-from
           x-before x-step
 
       abbrev z-call-x-card-of : List ℕ
-      z-call-x-card-of = call-x-card x-role x-shape x-map x-summary x-catalogue x-card x-limits x-sheet x-count x-from x-before
+      z-call-x-card-of = call-x-card x-shape x-role x-map x-summary x-catalogue x-card x-limits x-sheet x-count x-from x-before
           x-step
 
       abbrev v-result-of : (denotes Reply)
@@ -409,13 +409,13 @@ module _ (Shape Outcome Reply : Value) where
       spelled-v-result w is = subst (λ (vs : List Val). Is (rowOf Reply) v-result vs) ((Reply .tells) v-result _ is) is
 
       -- ---- the caller has what `call` asks
-      abbrev call-args : (δ₀-call δ₁-call δ₂-call δ₃-call : GName) → ℕ × ((denotes Shape)
-          × (RefT (List ℕ) × (RefT (List ℕ) × (RefT (List Entry) × (RefT (List ℕ) × (RefT (List ℕ)
-          × (ℕ × (ℕ × (ℕ × (ℕ × (ℕ × Unit {0})))))))))))
+      abbrev call-args : (δ₀-call δ₁-call δ₂-call δ₃-call : GName) → (denotes Shape) ×
+          (ℕ × (RefT (List ℕ) × (RefT (List ℕ) × (RefT (List Entry) × (RefT (List ℕ) ×
+          (RefT (List ℕ) × (ℕ × (ℕ × (ℕ × (ℕ × (ℕ × Unit {0})))))))))))
       call-args δ₀-call δ₁-call δ₂-call δ₃-call = (
-        x-role,
+        x-shape,
         (
-          x-shape,
+          x-role,
           (
             at-x-map δ₀-call (now x-map),
             (
@@ -438,9 +438,9 @@ module _ (Shape Outcome Reply : Value) where
           tt,
           call-args δ₀-call δ₁-call δ₂-call δ₃-call,
           (
-            m-x-role ∷ [],
+            m-x-shape ∷ [],
             (
-              m-x-shape ∷ [],
+              m-x-role ∷ [],
               (
                 s-x-map ∷ [],
                 (
@@ -488,10 +488,9 @@ module _ (Shape Outcome Reply : Value) where
           owned ! u32 (Is u32) (uint-makes 𝓤 H A W w32) x-count _ is-x-count $ fjoin ! $
           owned ! u32 (Is u32) (uint-makes 𝓤 H A W w32) x-sheet _ is-x-sheet $ fjoin ! $ bring ! (6 ∷ 0 ∷ []) $
           fjoin ! $ bring ! (5 ∷ 0 ∷ []) $ fjoin ! $ bring ! (4 ∷ 0 ∷ []) $ fjoin ! $ bring ! (3 ∷ 0 ∷ []) $ fjoin ! $
-          bring ! (2 ∷ 0 ∷ []) $ fjoin ! $
+          bring ! (2 ∷ 0 ∷ []) $ fjoin ! $ owned ! u32 (Is u32) (uint-makes 𝓤 H A W w32) x-role _ is-x-role $ fjoin ! $
           owned ! (rowOf Shape) (Is (rowOf Shape)) (Shape .makes 𝓤 H A) x-shape _ is-x-shape $ fjoin ! $
-          owned ! u32 (Is u32) (uint-makes 𝓤 H A W w32) x-role _ is-x-role $ fjoin ! $ bring ! (1 ∷ 0 ∷ []) $ join ! $
-          frame ! $ done !
+          bring ! (1 ∷ 0 ∷ []) $ join ! $ frame ! $ done !
 
       -- ---- the caller has what `reply-of` asks
       abbrev reply-of-args : (denotes Outcome) × Unit {0}
@@ -623,7 +622,7 @@ module _ (Shape Outcome Reply : Value) where
           δ₀-call δ₁-call δ₂-call δ₃-call) $
           calls-at ! (fmOf 𝓤 H (W .laws) 𝓣) (call-contract call-out call-x-map call-x-summary call-x-catalogue call-x-card 𝓤 H
           A) known-call (to-call ν₀-call ν₁-call ν₂-call ν₃-call δ₀-call δ₁-call δ₂-call δ₃-call)
-          (and-then ! (load ! (from ! (stop !)) (look ! 46 refl)) (and-then ! (load ! (from ! (stop !)) (look ! 44 refl))
+          (and-then ! (load ! (from ! (stop !)) (look ! 44 refl)) (and-then ! (load ! (from ! (stop !)) (look ! 46 refl))
           (and-then ! (load ! (from ! (stop !)) (look ! 18 refl)) (and-then ! (load ! (from ! (stop !)) (look ! 14 refl))
           (and-then ! (load ! (from ! (stop !)) (look ! 10 refl)) (and-then ! (load ! (from ! (stop !)) (look ! 6 refl))
           (and-then ! (load ! (from ! (stop !)) (look ! 34 refl)) (and-then ! (load ! (from ! (stop !)) (look ! 32 refl))
@@ -641,11 +640,11 @@ module _ (Shape Outcome Reply : Value) where
           × (List ℕ × (Unit {0} × (Unit {0} × (Unit {0} × (Unit {0} × (Unit {0} × (Unit {0} × Unit {0})))))))))))). ‵
           (lasts call-ended (ν₀-call ∷ [], (ν₁-call ∷ [], (ν₂-call ∷ [], (ν₃-call ∷ [], (κ₄, tt)))))
           (call-args δ₀-call δ₁-call δ₂-call δ₃-call) zs-call) ⊛ raw (fact 𝓤 (call-says call-out call-x-map call-x-summary
-          call-x-catalogue call-x-card x-role x-shape (now x-map) (now x-summary) (now x-catalogue) (now x-card) (now x-limits)
+          call-x-catalogue call-x-card x-shape x-role (now x-map) (now x-summary) (now x-catalogue) (now x-card) (now x-limits)
           x-sheet x-count x-from x-before x-step r-call (zs-call .1 .1 .0) (zs-call .1 .1 .1 .0) (zs-call .1 .1 .1 .1 .0)
           (zs-call .1 .1 .1 .1 .1 .0))))) (id⊢ 𝓤 _) $
           pick ! (λ zs-call. split ! $ bring ! (1 ∷ []) $
-          heard ! (call-says call-out call-x-map call-x-summary call-x-catalogue call-x-card x-role x-shape (now x-map)
+          heard ! (call-says call-out call-x-map call-x-summary call-x-catalogue call-x-card x-shape x-role (now x-map)
           (now x-summary) (now x-catalogue) (now x-card) (now x-limits) x-sheet x-count x-from x-before x-step r-call
           (zs-call .1 .1 .0) (zs-call .1 .1 .1 .0) (zs-call .1 .1 .1 .1 .0) (zs-call .1 .1 .1 .1 .1 .0)) (λ e-call.
           fparts W (_ ∷ _ ∷ _ ∷ _ ∷ _ ∷ _ ∷ _ ∷ _ ∷ _ ∷ _ ∷ _ ∷ _ ∷ []) _ $

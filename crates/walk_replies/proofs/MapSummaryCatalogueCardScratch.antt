@@ -1,6 +1,6 @@
 -- Written by tools/walks: every function (role: u32, shape: Shape, map: &mut [u64], summary: &mut [u32], catalogue: &mut
 -- [Entry], card: &mut [u8], scratch: &mut [u64]) whose code is
---     let outcome: Outcome = call(role, shape, map, summary, catalogue, card, scratch);
+--     let outcome: Outcome = call(shape, role, map, summary, catalogue, card, scratch);
 --     reply_of(outcome)
 -- One walk serves every choice of the callees: it takes their names and what their contracts say. The types by value are any,
 -- too.
@@ -108,7 +108,7 @@ module _ (Shape Outcome Reply : Value) where
         (seq (assign (place 16 []) (aggregate (copy (place 15 []) ∷ copy (place 6 (field 1 ∷ [])) ∷ [])))
         (seq (assign (place 17 []) (addrOf (place 7 (field 0 ∷ deref (tyInt w64) ∷ []))))
         (seq (assign (place 18 []) (aggregate (copy (place 17 []) ∷ copy (place 7 (field 1 ∷ [])) ∷ [])))
-        (seq (call #call (copy (place 1 []) ∷ copy (place 2 []) ∷ copy (place 10 []) ∷ copy (place 12 []) ∷ copy (place 14 [])
+        (seq (call #call (copy (place 2 []) ∷ copy (place 1 []) ∷ copy (place 10 []) ∷ copy (place 12 []) ∷ copy (place 14 [])
         ∷ copy (place 16 []) ∷ copy (place 18 []) ∷ []) (place 8 []))
         (seq (call #reply-of (copy (place 8 []) ∷ []) (place 0 [])) return)))))))))));
   }
@@ -118,7 +118,7 @@ module _ (Shape Outcome Reply : Value) where
   call-signature = record {
     lifetimes = 5;
     outlives = [];
-    params = plain (λ _. u32) ∷ plain (λ _. (rowOf Shape)) ∷ mutSlice 0 tt (λ _. u64) ∷ mutSlice 1 tt (λ _. u32)
+    params = plain (λ _. (rowOf Shape)) ∷ plain (λ _. u32) ∷ mutSlice 0 tt (λ _. u64) ∷ mutSlice 1 tt (λ _. u32)
         ∷ mutSlice 2 tt (λ _. Entry′.the-row) ∷ mutSlice 3 tt (λ _. u8) ∷ mutSlice 4 tt (λ _. u64) ∷ [];
     result = plain (λ _. (rowOf Outcome));
   }
@@ -127,12 +127,12 @@ module _ (Shape Outcome Reply : Value) where
   call-ended = record { signature = call-signature; kept = (yes, (yes, (yes, (yes, (yes, (yes, (yes, tt))))))) }
 
   abbrev call-Model : Type 0 → Type 0
-  call-Model X = ℕ → (denotes Shape) → List ℕ → List ℕ → List Entry → List ℕ → List ℕ → X
+  call-Model X = (denotes Shape) → ℕ → List ℕ → List ℕ → List Entry → List ℕ → List ℕ → X
 
   module _ (call-out : call-Model (denotes Outcome)) (call-x-map : call-Model (List ℕ)) (call-x-summary : call-Model (List ℕ))
       (call-x-catalogue : call-Model (List Entry)) (call-x-card : call-Model (List ℕ))
       (call-x-scratch : call-Model (List ℕ)) where
-    abbrev call-says : ℕ → (denotes Shape) → List ℕ → List ℕ → List Entry → List ℕ → List ℕ → (denotes Outcome) → List ℕ
+    abbrev call-says : (denotes Shape) → ℕ → List ℕ → List ℕ → List Entry → List ℕ → List ℕ → (denotes Outcome) → List ℕ
         → List ℕ → List Entry → List ℕ → List ℕ → Type 0
     call-says a0 a1 a2 a3 a4 a5 a6 r b2 b3 b4 b5 b6 = (r ≡ call-out a0 a1 a2 a3 a4 a5 a6)
         × (b2 ≡ call-x-map a0 a1 a2 a3 a4 a5 a6) × (b3 ≡ call-x-summary a0 a1 a2 a3 a4 a5 a6)
@@ -191,22 +191,22 @@ module _ (Shape Outcome Reply : Value) where
     module _ (x-role : ℕ) (x-shape : (denotes Shape)) (x-map : List ℕ) (x-summary : List ℕ) (x-catalogue : List Entry)
         (x-card : List ℕ) (x-scratch : List ℕ) where
       abbrev v-outcome-of : (denotes Outcome)
-      v-outcome-of = call-out x-role x-shape x-map x-summary x-catalogue x-card x-scratch
+      v-outcome-of = call-out x-shape x-role x-map x-summary x-catalogue x-card x-scratch
 
       abbrev z-call-x-map-of : List ℕ
-      z-call-x-map-of = call-x-map x-role x-shape x-map x-summary x-catalogue x-card x-scratch
+      z-call-x-map-of = call-x-map x-shape x-role x-map x-summary x-catalogue x-card x-scratch
 
       abbrev z-call-x-summary-of : List ℕ
-      z-call-x-summary-of = call-x-summary x-role x-shape x-map x-summary x-catalogue x-card x-scratch
+      z-call-x-summary-of = call-x-summary x-shape x-role x-map x-summary x-catalogue x-card x-scratch
 
       abbrev z-call-x-catalogue-of : List Entry
-      z-call-x-catalogue-of = call-x-catalogue x-role x-shape x-map x-summary x-catalogue x-card x-scratch
+      z-call-x-catalogue-of = call-x-catalogue x-shape x-role x-map x-summary x-catalogue x-card x-scratch
 
       abbrev z-call-x-card-of : List ℕ
-      z-call-x-card-of = call-x-card x-role x-shape x-map x-summary x-catalogue x-card x-scratch
+      z-call-x-card-of = call-x-card x-shape x-role x-map x-summary x-catalogue x-card x-scratch
 
       abbrev z-call-x-scratch-of : List ℕ
-      z-call-x-scratch-of = call-x-scratch x-role x-shape x-map x-summary x-catalogue x-card x-scratch
+      z-call-x-scratch-of = call-x-scratch x-shape x-role x-map x-summary x-catalogue x-card x-scratch
 
       abbrev v-result-of : (denotes Reply)
       v-result-of = reply-of-out v-outcome-of
@@ -329,12 +329,12 @@ module _ (Shape Outcome Reply : Value) where
       spelled-v-result w is = subst (λ (vs : List Val). Is (rowOf Reply) v-result vs) ((Reply .tells) v-result _ is) is
 
       -- ---- the caller has what `call` asks
-      abbrev call-args : (δ₀-call δ₁-call δ₂-call δ₃-call δ₄-call : GName) → ℕ × ((denotes Shape)
-          × (RefT (List ℕ) × (RefT (List ℕ) × (RefT (List Entry) × (RefT (List ℕ) × (RefT (List ℕ) × Unit {0}))))))
+      abbrev call-args : (δ₀-call δ₁-call δ₂-call δ₃-call δ₄-call : GName) → (denotes Shape)
+          × (ℕ × (RefT (List ℕ) × (RefT (List ℕ) × (RefT (List Entry) × (RefT (List ℕ) × (RefT (List ℕ) × Unit {0}))))))
       call-args δ₀-call δ₁-call δ₂-call δ₃-call δ₄-call = (
-        x-role,
+        x-shape,
         (
-          x-shape,
+          x-role,
           (
             at-x-map δ₀-call (now x-map),
             (
@@ -358,9 +358,9 @@ module _ (Shape Outcome Reply : Value) where
               tt,
               call-args δ₀-call δ₁-call δ₂-call δ₃-call δ₄-call,
               (
-                m-x-role ∷ [],
+                m-x-shape ∷ [],
                 (
-                  m-x-shape ∷ [],
+                  m-x-role ∷ [],
                   (s-x-map ∷ [], (s-x-summary ∷ [], (s-x-catalogue ∷ [], (s-x-card ∷ [], (s-x-scratch ∷ [], tt))))),
                 ),
               ),
@@ -388,10 +388,9 @@ module _ (Shape Outcome Reply : Value) where
           (at-x-scratch δ₄-call (now x-scratch)) (s-x-scratch ∷ [])) ∷ []) ∵
           nothing ! $ bring ! (1 ∷ 1 ∷ 1 ∷ 1 ∷ 1 ∷ 0 ∷ []) $ group ! 6 $ nothing ! $ bring ! (6 ∷ 0 ∷ []) $ fjoin ! $
           bring ! (5 ∷ 0 ∷ []) $ fjoin ! $ bring ! (4 ∷ 0 ∷ []) $ fjoin ! $ bring ! (3 ∷ 0 ∷ []) $ fjoin ! $
-          bring ! (2 ∷ 0 ∷ []) $ fjoin ! $
+          bring ! (2 ∷ 0 ∷ []) $ fjoin ! $ owned ! u32 (Is u32) (uint-makes 𝓤 H A W w32) x-role _ is-x-role $ fjoin ! $
           owned ! (rowOf Shape) (Is (rowOf Shape)) (Shape .makes 𝓤 H A) x-shape _ is-x-shape $ fjoin ! $
-          owned ! u32 (Is u32) (uint-makes 𝓤 H A W w32) x-role _ is-x-role $ fjoin ! $ bring ! (1 ∷ 0 ∷ []) $ join ! $
-          frame ! $ done !
+          bring ! (1 ∷ 0 ∷ []) $ join ! $ frame ! $ done !
 
       -- ---- the caller has what `reply-of` asks
       abbrev reply-of-args : (denotes Outcome) × Unit {0}
@@ -520,8 +519,8 @@ module _ (Shape Outcome Reply : Value) where
           (goes-call ν₀-call ν₁-call ν₂-call ν₃-call ν₄-call δ₀-call δ₁-call δ₂-call δ₃-call δ₄-call) $
           calls-at ! (fmOf 𝓤 H (W .laws) 𝓣) (call-contract call-out call-x-map call-x-summary call-x-catalogue call-x-card
           call-x-scratch 𝓤 H A) known-call (to-call ν₀-call ν₁-call ν₂-call ν₃-call ν₄-call δ₀-call δ₁-call δ₂-call δ₃-call
-          δ₄-call) (and-then ! (load ! (from ! (stop !)) (look ! 40 refl)) (and-then !
-          (load ! (from ! (stop !)) (look ! 38 refl)) (and-then ! (load ! (from ! (stop !)) (look ! 22 refl))
+          δ₄-call) (and-then ! (load ! (from ! (stop !)) (look ! 38 refl)) (and-then !
+          (load ! (from ! (stop !)) (look ! 40 refl)) (and-then ! (load ! (from ! (stop !)) (look ! 22 refl))
           (and-then ! (load ! (from ! (stop !)) (look ! 18 refl)) (and-then ! (load ! (from ! (stop !)) (look ! 14 refl))
           (and-then ! (load ! (from ! (stop !)) (look ! 10 refl)) (and-then ! (load ! (from ! (stop !)) (look ! 6 refl))
           (no-more !)))))))) (λ w-call.
@@ -536,11 +535,11 @@ module _ (Shape Outcome Reply : Value) where
           × (List ℕ × (List ℕ × Unit {0}))))))). ‵ (lasts call-ended
           (ν₀-call ∷ [], (ν₁-call ∷ [], (ν₂-call ∷ [], (ν₃-call ∷ [], (ν₄-call ∷ [], tt)))))
           (call-args δ₀-call δ₁-call δ₂-call δ₃-call δ₄-call) zs-call) ⊛ raw (fact 𝓤 (call-says call-out call-x-map
-          call-x-summary call-x-catalogue call-x-card call-x-scratch x-role x-shape (now x-map) (now x-summary)
+          call-x-summary call-x-catalogue call-x-card call-x-scratch x-shape x-role (now x-map) (now x-summary)
           (now x-catalogue) (now x-card) (now x-scratch) r-call (zs-call .1 .1 .0) (zs-call .1 .1 .1 .0)
           (zs-call .1 .1 .1 .1 .0) (zs-call .1 .1 .1 .1 .1 .0) (zs-call .1 .1 .1 .1 .1 .1 .0))))) (id⊢ 𝓤 _) $
           pick ! (λ zs-call. split ! $ bring ! (1 ∷ []) $
-          heard ! (call-says call-out call-x-map call-x-summary call-x-catalogue call-x-card call-x-scratch x-role x-shape
+          heard ! (call-says call-out call-x-map call-x-summary call-x-catalogue call-x-card call-x-scratch x-shape x-role
           (now x-map) (now x-summary) (now x-catalogue) (now x-card) (now x-scratch) r-call (zs-call .1 .1 .0)
           (zs-call .1 .1 .1 .0) (zs-call .1 .1 .1 .1 .0) (zs-call .1 .1 .1 .1 .1 .0) (zs-call .1 .1 .1 .1 .1 .1 .0)) (λ e-call.
           fparts W (_ ∷ _ ∷ _ ∷ _ ∷ _ ∷ _ ∷ _ ∷ []) _ $ discard ! (0 ∷ 0 ∷ []) $ fsplit ! $ bring ! (1 ∷ []) $

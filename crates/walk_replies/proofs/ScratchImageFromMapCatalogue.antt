@@ -1,6 +1,6 @@
 -- Written by tools/walks: every function (role: u32, shape: Shape, map: &[u64], catalogue: &[Entry], scratch: &mut [u64],
 -- image: &mut [u8]) whose code is
---     let outcome: Outcome = call(role, shape, map, catalogue, scratch, image);
+--     let outcome: Outcome = call(shape, role, map, catalogue, scratch, image);
 --     reply_of(outcome)
 -- One walk serves every choice of the callees: it takes their names and what their contracts say. The types by value are any,
 -- too.
@@ -97,7 +97,7 @@ module _ (Shape Outcome Reply : Value) where
         (seq (assign (place 9 []) (aggregate (copy (place 8 []) ∷ copy (place 5 (field 1 ∷ [])) ∷ [])))
         (seq (assign (place 10 []) (addrOf (place 6 (field 0 ∷ deref (tyInt w8) ∷ []))))
         (seq (assign (place 11 []) (aggregate (copy (place 10 []) ∷ copy (place 6 (field 1 ∷ [])) ∷ [])))
-        (seq (call #call (copy (place 1 []) ∷ copy (place 2 []) ∷ copy (place 3 []) ∷ copy (place 4 []) ∷ copy (place 9 [])
+        (seq (call #call (copy (place 2 []) ∷ copy (place 1 []) ∷ copy (place 3 []) ∷ copy (place 4 []) ∷ copy (place 9 [])
         ∷ copy (place 11 []) ∷ []) (place 7 []))
         (seq (call #reply-of (copy (place 7 []) ∷ []) (place 0 [])) return)))));
   }
@@ -107,7 +107,7 @@ module _ (Shape Outcome Reply : Value) where
   call-signature = record {
     lifetimes = 4;
     outlives = [];
-    params = plain (λ _. u32) ∷ plain (λ _. (rowOf Shape)) ∷ shrSlice 0 tt (λ _. u64) ∷ shrSlice 1 tt (λ _. Entry′.the-row)
+    params = plain (λ _. (rowOf Shape)) ∷ plain (λ _. u32) ∷ shrSlice 0 tt (λ _. u64) ∷ shrSlice 1 tt (λ _. Entry′.the-row)
         ∷ mutSlice 2 tt (λ _. u64) ∷ mutSlice 3 tt (λ _. u8) ∷ [];
     result = plain (λ _. (rowOf Outcome));
   }
@@ -116,11 +116,11 @@ module _ (Shape Outcome Reply : Value) where
   call-ended = record { signature = call-signature; kept = (yes, (yes, (yes, (yes, (yes, (yes, tt)))))) }
 
   abbrev call-Model : Type 0 → Type 0
-  call-Model X = ℕ → (denotes Shape) → List ℕ → List Entry → List ℕ → List ℕ → X
+  call-Model X = (denotes Shape) → ℕ → List ℕ → List Entry → List ℕ → List ℕ → X
 
   module _ (call-out : call-Model (denotes Outcome)) (call-x-scratch : call-Model (List ℕ))
       (call-x-image : call-Model (List ℕ)) where
-    abbrev call-says : ℕ → (denotes Shape) → List ℕ → List Entry → List ℕ → List ℕ → (denotes Outcome) → List ℕ → List ℕ
+    abbrev call-says : (denotes Shape) → ℕ → List ℕ → List Entry → List ℕ → List ℕ → (denotes Outcome) → List ℕ → List ℕ
         → Type 0
     call-says a0 a1 a2 a3 a4 a5 r b4 b5 = (r ≡ call-out a0 a1 a2 a3 a4 a5) × (b4 ≡ call-x-scratch a0 a1 a2 a3 a4 a5)
         × (b5 ≡ call-x-image a0 a1 a2 a3 a4 a5)
@@ -175,13 +175,13 @@ module _ (Shape Outcome Reply : Value) where
     module _ (x-role : ℕ) (x-shape : (denotes Shape)) (x-map : List ℕ) (x-catalogue : List Entry) (x-scratch : List ℕ)
         (x-image : List ℕ) where
       abbrev v-outcome-of : (denotes Outcome)
-      v-outcome-of = call-out x-role x-shape x-map x-catalogue x-scratch x-image
+      v-outcome-of = call-out x-shape x-role x-map x-catalogue x-scratch x-image
 
       abbrev z-call-x-scratch-of : List ℕ
-      z-call-x-scratch-of = call-x-scratch x-role x-shape x-map x-catalogue x-scratch x-image
+      z-call-x-scratch-of = call-x-scratch x-shape x-role x-map x-catalogue x-scratch x-image
 
       abbrev z-call-x-image-of : List ℕ
-      z-call-x-image-of = call-x-image x-role x-shape x-map x-catalogue x-scratch x-image
+      z-call-x-image-of = call-x-image x-shape x-role x-map x-catalogue x-scratch x-image
 
       abbrev v-result-of : (denotes Reply)
       v-result-of = reply-of-out v-outcome-of
@@ -277,11 +277,11 @@ module _ (Shape Outcome Reply : Value) where
       spelled-v-result w is = subst (λ (vs : List Val). Is (rowOf Reply) v-result vs) ((Reply .tells) v-result _ is) is
 
       -- ---- the caller has what `call` asks
-      abbrev call-args : (δ₀-call δ₁-call : GName) → ℕ × ((denotes Shape) × (RefT (List ℕ)
+      abbrev call-args : (δ₀-call δ₁-call : GName) → (denotes Shape) × (ℕ × (RefT (List ℕ)
           × (RefT (List Entry) × (RefT (List ℕ) × (RefT (List ℕ) × Unit {0})))))
       call-args δ₀-call δ₁-call = (
-        x-role,
-        (x-shape, (x-map, (x-catalogue, (at-x-scratch δ₀-call (now x-scratch), (at-x-image δ₁-call (now x-image), tt))))),
+        x-shape,
+        (x-role, (x-map, (x-catalogue, (at-x-scratch δ₀-call (now x-scratch), (at-x-image δ₁-call (now x-image), tt))))),
       )
 
       abbrev to-call : (ν₀-call ν₁-call : ℕ) (δ₀-call δ₁-call : GName) → (call-contract call-out call-x-scratch call-x-image 𝓤 H
@@ -292,7 +292,7 @@ module _ (Shape Outcome Reply : Value) where
           (q₀, (q₁, (fullShare, (fullShare, tt)))),
           tt,
           call-args δ₀-call δ₁-call,
-          (m-x-role ∷ [], (m-x-shape ∷ [], (s-x-map ∷ [], (s-x-catalogue ∷ [], (s-x-scratch ∷ [], (s-x-image ∷ [], tt)))))),
+          (m-x-shape ∷ [], (m-x-role ∷ [], (s-x-map ∷ [], (s-x-catalogue ∷ [], (s-x-scratch ∷ [], (s-x-image ∷ [], tt)))))),
         ),
         tt,
       )
@@ -311,9 +311,9 @@ module _ (Shape Outcome Reply : Value) where
           (s-x-image ∷ [])) ∷ []) ∵
           nothing ! $ bring ! (1 ∷ 1 ∷ 1 ∷ 1 ∷ 0 ∷ []) $ group ! 5 $ nothing ! $ bring ! (5 ∷ 0 ∷ []) $ fjoin ! $
           bring ! (4 ∷ 0 ∷ []) $ fjoin ! $ bring ! (3 ∷ 0 ∷ []) $ fjoin ! $ bring ! (2 ∷ 0 ∷ []) $ fjoin ! $
+          owned ! u32 (Is u32) (uint-makes 𝓤 H A W w32) x-role _ is-x-role $ fjoin ! $
           owned ! (rowOf Shape) (Is (rowOf Shape)) (Shape .makes 𝓤 H A) x-shape _ is-x-shape $ fjoin ! $
-          owned ! u32 (Is u32) (uint-makes 𝓤 H A W w32) x-role _ is-x-role $ fjoin ! $ bring ! (1 ∷ 0 ∷ []) $ join ! $
-          frame ! $ done !
+          bring ! (1 ∷ 0 ∷ []) $ join ! $ frame ! $ done !
 
       -- ---- the caller has what `reply-of` asks
       abbrev reply-of-args : (denotes Outcome) × Unit {0}
@@ -405,8 +405,8 @@ module _ (Shape Outcome Reply : Value) where
           use1 W (raw ((call-contract call-out call-x-scratch call-x-image 𝓤 H A) .pre
           (to-call ν₀-call ν₁-call δ₀-call δ₁-call))) (goes-call ν₀-call ν₁-call δ₀-call δ₁-call) $
           calls-at ! (fmOf 𝓤 H (W .laws) 𝓣) (call-contract call-out call-x-scratch call-x-image 𝓤 H A) known-call
-          (to-call ν₀-call ν₁-call δ₀-call δ₁-call) (and-then ! (load ! (from ! (stop !)) (look ! 25 refl))
-          (and-then ! (load ! (from ! (stop !)) (look ! 23 refl)) (and-then ! (load ! (from ! (stop !)) (look ! 21 refl))
+          (to-call ν₀-call ν₁-call δ₀-call δ₁-call) (and-then ! (load ! (from ! (stop !)) (look ! 23 refl))
+          (and-then ! (load ! (from ! (stop !)) (look ! 25 refl)) (and-then ! (load ! (from ! (stop !)) (look ! 21 refl))
           (and-then ! (load ! (from ! (stop !)) (look ! 19 refl)) (and-then ! (load ! (from ! (stop !)) (look ! 9 refl))
           (and-then ! (load ! (from ! (stop !)) (look ! 5 refl)) (no-more !))))))) (λ w-call.
           use1 W (later (some (λ (r : (denotes Outcome)). ((‵ (flft κ₀ q₀) ⊛ ‵ (flft κ₁ q₁) ⊛ ‵ (flft (ν₀-call ∷ []) fullShare)
@@ -416,10 +416,10 @@ module _ (Shape Outcome Reply : Value) where
           await ! tt $ pick ! (λ r-call. split ! $ bring ! (1 ∷ []) $
           use1 W (some (λ (zs-call : Unit {0} × (Unit {0} × (Unit {0} × (Unit {0} × (List ℕ × (List ℕ × Unit {0})))))). ‵
           (lasts call-ended (κ₀, (κ₁, (ν₀-call ∷ [], (ν₁-call ∷ [], tt)))) (call-args δ₀-call δ₁-call) zs-call)
-          ⊛ raw (fact 𝓤 (call-says call-out call-x-scratch call-x-image x-role x-shape (now x-map) (now x-catalogue)
+          ⊛ raw (fact 𝓤 (call-says call-out call-x-scratch call-x-image x-shape x-role (now x-map) (now x-catalogue)
           (now x-scratch) (now x-image) r-call (zs-call .1 .1 .1 .1 .0) (zs-call .1 .1 .1 .1 .1 .0))))) (id⊢ 𝓤 _) $
           pick ! (λ zs-call. split ! $ bring ! (1 ∷ []) $
-          heard ! (call-says call-out call-x-scratch call-x-image x-role x-shape (now x-map) (now x-catalogue) (now x-scratch)
+          heard ! (call-says call-out call-x-scratch call-x-image x-shape x-role (now x-map) (now x-catalogue) (now x-scratch)
           (now x-image) r-call (zs-call .1 .1 .1 .1 .0) (zs-call .1 .1 .1 .1 .1 .0)) (λ e-call.
           fparts W (_ ∷ _ ∷ _ ∷ _ ∷ _ ∷ _ ∷ []) _ $ discard ! (0 ∷ 0 ∷ 0 ∷ 0 ∷ []) $ fsplit ! $ bring ! (1 ∷ []) $
           feqL ! (λ h-call-x-scratch. bring ! (1 ∷ []) $ fsplit ! $ bring ! (1 ∷ []) $ feqL ! (λ h-call-x-image.

@@ -352,6 +352,9 @@ pub fn compare(printed: &str) -> (Vec<String>, usize) {
     for (call, value) in doses() {
         state.line(call, value);
     }
+    for (call, value) in crate::days::days() {
+        state.line(&call, value);
+    }
     state.line("end", String::new());
     let mut lines = printed.lines();
     for (call, expected) in &state.lines {

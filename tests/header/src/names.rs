@@ -10,7 +10,16 @@ type Functions = BTreeMap<String, Vec<String>>;
 
 /// The functions of each header, as document 01 and the signatures of the Rattle source have them.
 const PROTOTYPES: &str = include_str!("../prototypes.c");
-const HEADERS: [&str; 3] = ["pagunlit.h", "pagunlit_text.h", "block.h"];
+const HEADERS: [&str; 5] = [
+    "pagunlit.h",
+    "pagunlit_payload.h",
+    "pagunlit_card.h",
+    "pagunlit_text.h",
+    "block.h",
+];
+
+/// Macros that are no figures: what says that an answer is to be looked at, and what stops that.
+const NO_FIGURES: [&str; 2] = ["PAGUNLIT_USE_RESULT", "PAGUNLIT_UNUSED_RESULTS"];
 
 /// What prototypes.c has behind a header, its macros written out.
 fn expected(header: &str) -> Functions {
@@ -69,7 +78,10 @@ fn functions(code: &str) -> Functions {
         let Some((head, parameters)) = declaration.split_once('(') else {
             continue;
         };
-        let names = parameters.trim_end().trim_end_matches(')').split(',');
+        let parameters = parameters
+            .rsplit_once(')')
+            .map_or(parameters, |(inside, _)| inside);
+        let names = parameters.split(',');
         found.insert(
             last_name(head).to_string(),
             names.map(|name| last_name(name).to_string()).collect(),
@@ -87,7 +99,7 @@ fn constants<'a>(code: &'a str, header: &str) -> Vec<&'a str> {
                 .iter()
                 .any(|p| name.starts_with(p))
         })
-        .filter(|name| *name != guard)
+        .filter(|name| *name != guard && !NO_FIGURES.contains(name))
         .collect()
 }
 
@@ -135,5 +147,21 @@ pub fn compare(folder: &str) -> (Vec<String>, usize) {
 
 /// The functions that the library exports.
 pub fn exported() -> Vec<String> {
-    expected("pagunlit.h").into_keys().collect()
+    let headers = ["pagunlit.h", "pagunlit_payload.h"];
+    headers
+        .iter()
+        .flat_map(|one| expected(one).into_keys())
+        .collect()
+}
+
+/// A program that takes the address of every function of a header, so that each has to be there when it is linked, by its name:
+/// in C++ one that the header does not declare as C has another.
+pub fn addresses(header: &str) -> String {
+    let names = expected(header).into_keys();
+    let addresses: String = names.map(|name| format!("    (any)&{name},\n")).collect();
+    format!(
+        "#include \"{header}\"\n\ntypedef void (*any)(void);\nany volatile all[] = {{\n{addresses}}};\n\n\
+         int main(void)\n{{\n    for (unsigned i = 0; i < sizeof all / sizeof *all; i++)\n        \
+         if (!all[i])\n            return 1;\n    return 0;\n}}\n"
+    )
 }

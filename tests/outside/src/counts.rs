@@ -111,6 +111,11 @@ impl Counts {
         *self.kinds.entry(kind.to_string()).or_default() += 1;
     }
 
+    /// So many more of a kind.
+    pub fn add_kind(&mut self, kind: &str, count: u64) {
+        *self.kinds.entry(kind.to_string()).or_default() += count;
+    }
+
     /// The line of a kind of call.
     pub fn print_kind(&self, kind: &str) {
         let made = self.kinds.get(kind).copied().unwrap_or(0);

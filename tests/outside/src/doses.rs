@@ -93,6 +93,31 @@ fn writes(
     same_slice("payload", &lent, payload)
 }
 
+/// A count written into a payload of digits, and the same count read.
+pub fn written_and_read(
+    which: u32,
+    hundredths: u32,
+    margin: usize,
+    counts: &mut Counts,
+) -> Result<(), String> {
+    let mut payload = vec![0x77; PAYLOAD];
+    writes(&mut payload, which, hundredths, margin, counts)?;
+    reads(&payload, which, margin, counts)
+}
+
+/// A count of four bytes, read.
+pub fn stored_and_read(
+    which: u32,
+    stored: u32,
+    margin: usize,
+    counts: &mut Counts,
+) -> Result<(), String> {
+    let mut payload = vec![0x77; PAYLOAD];
+    let at = 4 * which as usize;
+    payload[at..at + 4].copy_from_slice(&stored.to_be_bytes());
+    reads(&payload, which, margin, counts)
+}
+
 /// All pairs of two neighbouring bytes of a count, among digits and among bytes of FF.
 pub fn digits(margin: usize, counts: &mut Counts) -> Result<(), String> {
     for fill in [0x12, 0xff] {

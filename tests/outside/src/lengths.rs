@@ -34,7 +34,7 @@ const TERM: Bytes = Bytes {
 
 /// A card of 70 blocks with its own summary: sheet 0 is complete, sheet 1 open and filled, sheet 2 absent, sheet 3 a paused
 /// course.
-fn four_sheets() -> Card {
+pub fn four_sheets() -> Card {
     let mut card = used_card(70, 4, &mut Random::of(0));
     let calls = [
         call(Kind::Fresh, 0, 70),

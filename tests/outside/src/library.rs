@@ -61,6 +61,30 @@ impl Outcome {
             third: values[2],
         }
     }
+
+    /// The answer of a call of a kind that an outcome hands back: `of` with another value left out would be another outcome.
+    pub fn answer(self, kind: Kind) -> Answer {
+        let [first, second, third] =
+            [self.first, self.second, self.third].map(|value| value as usize);
+        let answer = match (self.number, kind.without_summary()) {
+            (0, Kind::Search | Kind::Reserve | Kind::ReservePlaced | Kind::Accept) => {
+                Answer::Start(first, second)
+            }
+            (0, Kind::Offer) => Answer::Offered(first, second),
+            (0, Kind::Standing) => Answer::Stands(card::entry(self.first, self.second, self.third)),
+            (0, Kind::Survey) => Answer::Counted(first, second, third),
+            (0, Kind::SummaryCheck) => Answer::Own(first == 1),
+            (0, _) => Answer::Done,
+            (9, _) => Answer::Blank(first),
+            (number, _) => Answer::Refused(number),
+        };
+        let all = Outcome::of(self.shape, answer);
+        assert!(
+            self == all,
+            "{kind:?} gave {self:?}, and its answer is {all:?}"
+        );
+        answer
+    }
 }
 
 #[rustfmt::skip]

@@ -3,8 +3,10 @@
 //!
 //!     outside check [SEED]          the same calls in every run, in a minute or two
 //!     outside for SECONDS [SEED]    as many lists as the time allows
+//!     outside cuts [SECONDS [SEED]] the power cuts alone
 //!     outside valgrind [SEED]       few lists, on small cards, with nothing around what is lent
 //!     outside again PART SEED       one list again, as a failure names it
+//!     outside examples calls|map     what comes of the worked examples of the list on standard input
 //!     outside library               the sha256 checksum of the archive that it is linked with
 
 mod beside;
@@ -12,10 +14,18 @@ mod carer;
 mod caught;
 mod closing;
 mod counts;
+mod cut_lists;
+mod cut_saves;
+mod cut_shows;
+mod cuts;
 mod damage;
 mod dated;
 mod dates;
+mod days;
+mod dispenser;
 mod doses;
+mod edges;
+mod examples;
 mod figures;
 mod flaws;
 mod generate;
@@ -24,6 +34,7 @@ mod images_together;
 mod lengths;
 mod library;
 mod lists;
+mod numbers;
 mod offers;
 mod pauses;
 mod placed;
@@ -144,10 +155,13 @@ const GROUPS: &[Group] = &[
         ],
         report: |counts| counts.report_kinds(roles::expected().chain(carer::expected())),
     },
-    // Offers and accepts of all runs.
+    // Offers and accepts of all runs, and runs that start and end beside the ends of words: marked, and tested.
     Group {
-        parts: &[part("runs", |_, margin, counts| offers::all_runs(margin, counts), 1, 0, 0)],
-        report: |_| Ok(()),
+        parts: &[
+            part("runs", |_, margin, counts| offers::all_runs(margin, counts), 1, 0, 0),
+            part("word-edges", |_, margin, counts| edges::runs(margin, counts), 1, 1, 0),
+        ],
+        report: |counts| counts.report_kinds(edges::expected()),
     },
     // Calls with a true or a false summary, and the build and the check of summaries.
     Group {
@@ -186,6 +200,25 @@ const GROUPS: &[Group] = &[
         ],
         report: |_| Ok(()),
     },
+    // Numbers that differ in a few bits from what they are compared with.
+    Group {
+        parts: &[
+            part("other-calls", numbers::of_calls, 8, 2, 0),
+            part("other-blocks", |_, margin, counts| numbers::of_blocks(margin, counts), 1, 1, 0),
+            part("other-summary", |_, margin, counts| numbers::of_summaries(margin, counts), 1, 1, 0),
+            part("other-images", |_, margin, counts| numbers::of_images(margin, counts), 1, 1, 0),
+            part("other-doses", |_, margin, counts| numbers::of_doses(margin, counts), 1, 1, 0),
+        ],
+        report: |counts| counts.report_kinds(numbers::expected()),
+    },
+    // The calendar for C.
+    Group {
+        parts: &[
+            part("every-number", |_, _, counts| days::every_day(counts), 1, 0, 0),
+            part("days", days::random, 200, 100, 10),
+        ],
+        report: |_| Ok(()),
+    },
     // Two rows or more that hold at once.
     Group {
         parts: &[
@@ -193,6 +226,15 @@ const GROUPS: &[Group] = &[
             part("images-together", images_together::images_together, 100, 10, 2),
         ],
         report: |_| Ok(()),
+    },
+    // Power cuts.
+    Group {
+        parts: &[
+            part("cuts", cuts::kept, 1500, 200, 2),
+            part("cuts-broken", cuts::broken, 200, 20, 1),
+            part("cuts-worked", |_, margin, counts| cut_lists::worked(margin, counts), 1, 0, 1),
+        ],
+        report: cuts::report,
     },
     // Save and load.
     Group {
@@ -232,7 +274,11 @@ fn run(part: &Part, from: u64, count: u64, margin: usize, counts: &mut Counts) {
     );
 }
 
+/// A group of which nothing ran has nothing to tell.
 fn report(group: &Group, counts: &Counts) {
+    if counts.calls == 0 {
+        return;
+    }
     if let Err(error) = (group.report)(counts) {
         eprintln!("outside: FAILED: {error}");
         std::process::exit(1);
@@ -273,6 +319,23 @@ fn run_for(time: Duration, mut seed: u64) -> Counts {
     total
 }
 
+/// The power cuts alone, as many as the time allows.
+fn run_cuts(time: Duration, mut seed: u64) {
+    let group = GROUPS
+        .iter()
+        .find(|group| group.parts[0].name == "cuts")
+        .expect("the cuts are a group");
+    let (begin, counts) = (Instant::now(), &mut Counts::default());
+    run(&group.parts[2], seed, 1, MARGIN, counts);
+    while begin.elapsed() < time {
+        for part in group.parts.iter().filter(|part| part.turn > 0) {
+            run(part, seed, part.turn, MARGIN, counts);
+        }
+        seed += 10000;
+    }
+    report(group, counts);
+}
+
 /// Every pair of rows that can hold at once must have been met.
 fn report_pairs(counts: Counts) {
     if let Err(error) = counts.report_pairs() {
@@ -283,7 +346,8 @@ fn report_pairs(counts: Counts) {
 
 fn usage() -> ! {
     eprintln!(
-        "usage: outside check [SEED] | for SECONDS [SEED] | valgrind [SEED] | again PART SEED | library"
+        "usage: outside check [SEED] | for SECONDS [SEED] | cuts [SECONDS [SEED]] | valgrind [SEED] | again PART SEED \
+         | examples calls|map | library"
     );
     std::process::exit(2);
 }
@@ -299,9 +363,19 @@ fn main() {
             println!("{}", env!("ARCHIVE_SHA256"));
             return;
         }
+        (Some("examples"), Some(set)) => {
+            let list = std::io::read_to_string(std::io::stdin()).expect("a list of examples");
+            print!(
+                "{}",
+                examples::outcomes(set, &list).unwrap_or_else(|| usage())
+            );
+            return;
+        }
         (Some("check"), _) => report_pairs(run_all(number(1), MARGIN, |part| part.check)),
         (Some("valgrind"), _) => drop(run_all(number(1), 0, |part| part.valgrind)),
         (Some("for"), Some(_)) => report_pairs(run_for(Duration::from_secs(number(1)), number(2))),
+        (Some("cuts"), None) => run_cuts(Duration::from_secs(20), 1),
+        (Some("cuts"), Some(_)) => run_cuts(Duration::from_secs(number(1)), number(2)),
         (Some("again"), Some(name)) => {
             let mut parts = GROUPS.iter().flat_map(|group| group.parts);
             let part = parts

@@ -53,7 +53,7 @@ fn damaged(mut block: Vec<u8>, random: &mut Random) -> Vec<u8> {
     block
 }
 
-fn single_check(block: Vec<u8>, margin: usize) -> Result<(), String> {
+pub fn single_check(block: Vec<u8>, margin: usize) -> Result<(), String> {
     let expected = match block.len() {
         512 => {
             let number = |at: usize| u32::from_be_bytes(block[at..at + 4].try_into().unwrap());

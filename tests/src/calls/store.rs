@@ -7,8 +7,24 @@ use crate::card::{entry, Answer, Card, Entry};
 use crate::roles::PHARMACIST;
 use crate::rows::Row;
 
+/// Who makes the calls of a list: the card, worked out here, or the C library (tests/outside). A call is made on what the card
+/// has, with the payload or the buffer and the scratch that it is lent; all is then as it left it.
+pub type Caller = fn(&mut Card, Call, &mut [u8], &mut [u64]) -> Answer;
+
+/// The card itself: what the outcomes come from.
+pub(crate) fn by_card(
+    card: &mut Card,
+    call: Call,
+    slice: &mut [u8],
+    scratch: &mut [u64],
+) -> Answer {
+    scratch.fill(0);
+    card.call(call, slice)
+}
+
 /// What the calls work on, of which they are lent the first words, entries, bytes and numbers of the summary.
 pub(super) struct Store {
+    caller: Caller,
     n: usize,
     free: usize,
     map: Vec<bool>,
@@ -92,8 +108,9 @@ fn call_of(word: &str, numbers: &[u32]) -> Call {
 impl Store {
     /// A shape of 9 blocks, damaged entries, and words, bytes and a summary that held something before. There is one number
     /// more than the summary of three words has.
-    pub(super) fn new() -> Store {
+    pub(super) fn new(caller: Caller) -> Store {
         Store {
+            caller,
             n: 9,
             free: 9,
             map: from_words(&[0x0123456789abcdef; 3]),
@@ -156,10 +173,11 @@ impl Store {
             Some(buffer) => &mut buffer[..call.bytes.length],
             None => &mut brought[..],
         };
-        let answer = card.call(call, slice);
-        if let Some(scratch) = &mut self.scratch {
-            scratch[..call.number as usize].fill(0);
-        }
+        let scratch = match &mut self.scratch {
+            Some(scratch) => &mut scratch[..call.number as usize],
+            None => &mut [],
+        };
+        let answer = (self.caller)(card, call, slice, scratch);
         if let Answer::Refused(_) | Answer::Blank(_) | Answer::Offered(..) = answer {
             assert!(*card == before, "it changed something: {word} {numbers:?}");
         } else {

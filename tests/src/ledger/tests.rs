@@ -366,3 +366,24 @@ fn closing() {
     assert_eq!(ledger.offer(2, 15), Err(Refused(10)));
     assert_eq!(ledger.offer(2, 14), Ok(Offered(6, 14)));
 }
+
+/// A power cut: Complete and paused courses are those that were saved, and an Open sheet has what the card has in its places.
+#[test]
+fn power_cut() {
+    let mut saved = Ledger::fresh(8, 3);
+    assert_eq!(saved.accept(0, 0, 1), Ok(Start(0, 8)));
+    assert_eq!(saved.put(0, 0, &[7; 496]), Ok(Done));
+    assert_eq!(saved.complete(0), Ok(Done));
+    assert_eq!(saved.accept(1, 1, 2), Ok(Start(1, 7)));
+    let mut later = saved.clone();
+    assert_eq!(later.put(1, 1, &[8; 496]), Ok(Done));
+    assert_eq!(later.pause(0), Ok(Done));
+    assert_eq!(later.accept(2, 5, 1), Ok(Start(5, 3)));
+    let cut = Ledger::cut(&saved, |sheet, place| later.payload(sheet, place).cloned());
+    assert_eq!(cut.entry(0), entry(0x43, 0, 1));
+    assert_eq!(cut.block(0, 0), sealed(0, 0, &[7; 496]));
+    assert_eq!(cut.entry(1), entry(0x4f, 1, 2));
+    assert_eq!(cut.block(1, 0), [0; 512]);
+    assert_eq!(cut.block(1, 1), sealed(1, 1, &[8; 496]));
+    assert_eq!(cut.entry(2), entry(0x41, 0, 0));
+}

@@ -20,7 +20,7 @@ pub(super) fn by_turns(even: u64, odd: u64) -> String {
     format!("x{} o{}", halves(even), halves(odd))
 }
 
-/// A mark, or with a large letter a test, of the blocks from start to end - 1.
+/// The blocks from start to end - 1, to become free or taken.
 pub(super) fn run(letter: char, start: usize, end: usize) -> String {
     format!("{letter}{start}+{}", end - start)
 }

@@ -1,7 +1,6 @@
 //! Maps of as many blocks as a card may have.
 
 use super::command::*;
-use super::store::WORDS;
 
 /// The most blocks that a card may have.
 pub(super) const LIMIT: usize = 262144;
@@ -46,13 +45,12 @@ fn one_run(even: u64, (start, end): (usize, usize)) -> String {
         by_turns(even, 0),
         run('f', start, end),
         run('t', start.saturating_sub(1), start),
-        run('F', start, end),
     ];
-    format!("{} {} d c\n", marks.join(" "), around(end - start))
+    format!("{} {} c\n", marks.join(" "), around(end - start))
 }
 
 fn fresh_map(n: usize) -> String {
-    format!("n{WORDS}+{n} {} m{n} {} d c\n", held(), around(n))
+    format!("{} {} m{n} {} d c\n", card(n), held(), around(n))
 }
 
 /// A run of 60 blocks that ends with a word, and one of 100 that starts some words later: what was free before words that are
@@ -64,5 +62,5 @@ fn two_runs(last: usize, gap: usize) -> String {
         run('f', end - 60, end),
         run('f', start, start + 100)
     );
-    format!("{NO_FREE} {marks} {} {} d c\n", around(60), around(100))
+    format!("{NO_FREE} {marks} {} {} c\n", around(60), around(100))
 }

@@ -2,8 +2,10 @@
 
 use super::command::*;
 use super::full_maps::LIMIT;
-use super::store::{Store, WORDS};
+use super::store::Store;
+use super::WORDS;
 use crate::blocks::survey;
+use crate::calls::by_card;
 use crate::random::Random;
 
 /// A list with what its commands have done.
@@ -30,7 +32,7 @@ pub(super) fn random_maps() -> String {
     let random = &mut Random(seed);
     let mut done = Done {
         list: format!("=random-maps,-seed-{seed:x}=\n"),
-        store: Store::new(),
+        store: Store::new(by_card),
     };
     for _ in 0..2500 {
         random_map(&mut done, random);
@@ -67,16 +69,6 @@ fn random_run(letters: [char; 2], start: usize, end: usize, random: &mut Random)
     run(random.one(&letters), start, end)
 }
 
-/// A test of 1 to `most` blocks, if they are blocks of the card.
-fn random_test(done: &mut Done, n: usize, most: usize, random: &mut Random) {
-    let start = random.within(0, n);
-    let end = start + random.within(1, most + 1);
-    let test = random_run(['F', 'T'], start, end, random);
-    if end <= n {
-        done.add(test);
-    }
-}
-
 /// A mark of any blocks of the card.
 fn random_mark(n: usize, random: &mut Random) -> String {
     let start = random.within(0, n);
@@ -91,11 +83,11 @@ fn random_searches(done: &mut Done, random: &mut Random) {
     }
 }
 
-/// The counts of a map, the searches around its longest run, and its words as one number.
+/// The counts of a map, and the searches around its longest run.
 fn summary(done: &mut Done) {
-    let n = done.store.before;
+    let n = done.store.n;
     let longest = survey(done.store.map(), n).longest;
-    for command in format!("c {} d", around(longest)).split(' ') {
+    for command in format!("c {}", around(longest)).split(' ') {
         done.add(command.to_string());
     }
 }
@@ -107,8 +99,6 @@ fn random_map(done: &mut Done, random: &mut Random) {
     done.add(card(n));
     done.add(random_words(x / 384 % 8, random));
     random_searches(done, random);
-    random_test(done, n, 6, random);
-    random_test(done, n, 80, random);
     done.add(random_mark(n, random));
     done.add(random_mark(n, random));
     summary(done);

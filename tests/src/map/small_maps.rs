@@ -43,8 +43,6 @@ pub(super) fn edges() -> String {
     [
         section("one-free-run", free_run),
         section("one-taken-run", taken_run),
-        section("marks", marks),
-        section("tests", tests),
         section("windows", window),
         window(65, 63),
         window(256, 0),
@@ -61,36 +59,6 @@ fn free_run(start: usize, end: usize) -> String {
 fn taken_run(start: usize, end: usize) -> String {
     let sides = format!("{} {}", around(start), around(256 - end));
     format!("m256 {} {sides} c\n", run('t', start, end))
-}
-
-fn marks(start: usize, end: usize) -> String {
-    let alternating = by_turns(0xaaaaaaaaaaaaaaaa, 0xaaaaaaaaaaaaaaaa);
-    let line = |letter| {
-        format!(
-            "{alternating} {} {}\n",
-            run(letter, start, end),
-            all_words(4)
-        )
-    };
-    line('f') + &line('t')
-}
-
-/// A free run with one block more or less on either side, and the taken blocks around it with one more.
-fn tests(start: usize, end: usize) -> String {
-    let before = |b: usize| b.saturating_sub(1);
-    let after = |b: usize| (b + 1).min(256);
-    let commands = [
-        NO_FREE.to_string(),
-        run('f', start, end),
-        run('F', start, end),
-        run('F', before(start), end),
-        run('F', start, after(end)),
-        run('T', 0, start),
-        run('T', 0, after(start)),
-        run('T', end, 256),
-        run('T', before(end), 256),
-    ];
-    commands.join(" ") + "\n"
 }
 
 /// A window of a map that is all free, and of one with the blocks 60 to 69 and 120 to 199 free.
@@ -123,7 +91,7 @@ pub(super) fn two_words() -> String {
     ];
     let mut text = "=two-words-by-turns=\n".to_string();
     for (even, odd) in turns {
-        text += &format!("{} {} {}\n", card(300), by_turns(even, odd), all_words(5));
+        text += &format!("{} {}\n", card(300), by_turns(even, odd));
         for n in SIZES {
             text += &format!("{} {} c\n", card(n), searches(&lengths));
         }
@@ -137,7 +105,7 @@ pub(super) fn junk() -> String {
     for n in SIZES {
         for letter in ['t', 'f'] {
             let ones = by_turns(u64::MAX, u64::MAX);
-            let map = format!("{ones} {} {}", run(letter, 0, n), all_words(words_of(n)));
+            let map = format!("{ones} {}", run(letter, 0, n));
             text += &format!("{} {map} {} c\n", card(n), around(n));
         }
     }
@@ -165,21 +133,18 @@ pub(super) fn two_bytes() -> String {
     text
 }
 
-/// What the calls do not ask for, beside what they do: no blocks, and blocks that the map or a card does not have.
+/// Shapes and lengths that no card has, k of 0, windows that are none, and the largest map.
 pub(super) fn refused() -> String {
     let list = "\
-        n0+0 s1 c f0+0 F0+0 T0+0 m70 f0+1 t0+1 F0+1 T0+1 w0 d\n\
-        n0+1 s1 c\n\
-        n2+70 x0 o0 f60+10 s0 s1 c d\n\
+        n0+0 s0 s1 c m0 m1\n\
+        n0+1 s1 c m1\n\
+        n2+64 s1 c m64\n\
+        n2+70 x0 o0 f60+10 s0 s1 s11 c\n\
         n2+128 s0 s1 c\n\
-        n2+129 s0 s1 c\n\
-        n2+4294967295 s10 s4294967295 c\n\
-        b200-128 s1 s0\n\
-        b0-129 s1\n\
-        f0+128 t0+129 f128+0 t128+1 t129+0 t4294967295+1 t4294967295+4294967295 t0+4294967295 d\n\
-        F0+128 F0+129 F128+0 T128+0 F128+1 T129+0 T4294967295+1 F4294967295+4294967295 T0+4294967295\n\
-        n4096+262144 m262144 s262144 s262145 c f262144+0 f262144+1 t0+262145 F0+262144 F0+262145 d\n\
-        n4096+262145 s1 c\n\
-        n4097+262145 s1 c f262144+1 F262144+1 d\n";
+        n2+129 s0 s1 c m129\n\
+        n2+4294967295 s10 s4294967295 c m4294967295\n\
+        n2+128 b200-128 s1 s0 b128-128 s1 b0-129 s1 s0 b0-127 s127 s128 s4294967295\n\
+        n4096+262144 m262144 s262144 s262145 c t0+1 s262144 s262143 c d\n\
+        n4096+262145 s1 c m262145 b0-100 s1 d\n";
     format!("=refused=\n{list}")
 }

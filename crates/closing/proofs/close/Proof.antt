@@ -7,9 +7,8 @@ use denote.Triple.Spec.{tripleOf}
 use denote.Triple.Table.{entered, cited}
 use lib.ListN.{length}
 use Rattle.image_soundness.specs.Windows.{tested, testedScratch}
-use Rattle.closing.specs.Effects.{Closes}
 use Rattle.closing.specs.Rounds.{roundsAt, roundsEntries, roundsCard}
-use Rattle.closing.specs.Rounds.{firstTally, numberBy, roundsFor, mapAfter}
+use Rattle.closing.specs.Rounds.{firstTally, numberBy, roundsFor, mapAfter, ClosesBy}
 use Rattle.closing.proofs.Closes.{closes}
 use Rattle.catalogue.proofs.Values.{Value, valueOf}
 use Rattle.image_soundness.proofs.Tally as Tally′
@@ -46,7 +45,7 @@ close-spec 𝓤 H 𝓜 𝓖 𝓡 =
     (tables 𝓤 H 𝓜 𝓡 code.env .C) (tables 𝓤 H 𝓜 𝓡 code.env .Λ) #close code.function (code.unfolded 𝓤 H 𝓜 𝓡)
     (meets Tally count-def.name begin-def.name test-def.name verdict-def.name rounds-for-def.name close-rounds-def.name
     close-map-def.name length firstTally tested testedScratch numberBy roundsFor roundsAt roundsEntries roundsCard mapAfter
-    Closes closes
+    ClosesBy closes
     𝓤 H (𝓖 .A) (givenOf 𝓤 H 𝓜 𝓖) (tablesOf 𝓤 H 𝓜 (tables 𝓤 H 𝓜 𝓡 code.env))
     (cited 𝓤 H (count-contract Tally length 𝓤 H (𝓖 .A)) 𝓜 𝓡 code.env count-def.name count-def.routine code.calls-catalogue·count
     (count-met.met 𝓤 H 𝓜 𝓖 𝓡))

@@ -6,8 +6,7 @@ use contract.Running.{givenOf, tables, tablesOf}
 use denote.Triple.Spec.{tripleOf}
 use denote.Triple.Table.{entered, cited}
 use lib.ListN.{length}
-use Rattle.image.specs.Effects.{Loads}
-use Rattle.image_load.specs.Parts.{coreLoaded, coreMap, coreScratch, firstCursor, readCursor, readEntries}
+use Rattle.image_load.specs.Parts.{LoadsBy, coreLoaded, coreMap, coreScratch, firstCursor, readCursor, readEntries}
 use Rattle.image_load.proofs.Loads.{loads}
 use Rattle.catalogue.proofs.Values.{Value, valueOf}
 use Rattle.image.proofs.Cursor as Cursor′
@@ -41,7 +40,7 @@ load-spec 𝓤 H 𝓜 𝓖 𝓡 =
     entered 𝓤 H (tripleOf 𝓤 H (𝓖 .A) load.signature (load.spec 𝓤 H (𝓖 .A) (𝓜 .mem) (𝓡 .run)))
     (tables 𝓤 H 𝓜 𝓡 code.env .C) (tables 𝓤 H 𝓜 𝓡 code.env .Λ) #load code.function (code.unfolded 𝓤 H 𝓜 𝓡)
     (meets Cursor Loaded count-def.name load-core-def.name first-cursor-def.name read-entries-def.name length coreLoaded coreMap
-    coreScratch firstCursor readCursor readEntries Loads loads
+    coreScratch firstCursor readCursor readEntries LoadsBy loads
     𝓤 H (𝓖 .A) (givenOf 𝓤 H 𝓜 𝓖) (tablesOf 𝓤 H 𝓜 (tables 𝓤 H 𝓜 𝓡 code.env))
     (cited 𝓤 H (count-contract Cursor Loaded length 𝓤 H (𝓖 .A)) 𝓜 𝓡 code.env count-def.name count-def.routine
     code.calls-catalogue·count (count-met.met 𝓤 H 𝓜 𝓖 𝓡))

@@ -7,8 +7,7 @@ use denote.Triple.Spec.{tripleOf}
 use denote.Triple.Table.{entered, cited}
 use lib.ListN.{length}
 use Rattle.image_soundness.specs.Windows.{tested, testedScratch}
-use Rattle.image.specs.Effects.{Saves}
-use Rattle.image_save.specs.Parts.{firstTally, numberBy, headCursor, headImage}
+use Rattle.image_save.specs.Parts.{SavesBy, firstTally, numberBy, headCursor, headImage}
 use Rattle.image_save.specs.Parts.{entriesCursor, entriesImage, restImage}
 use Rattle.image_save.proofs.Saves.{saves}
 use Rattle.catalogue.proofs.Values.{Value, valueOf}
@@ -51,7 +50,7 @@ save-spec 𝓤 H 𝓜 𝓖 𝓡 =
     (tables 𝓤 H 𝓜 𝓡 code.env .C) (tables 𝓤 H 𝓜 𝓡 code.env .Λ) #save code.function (code.unfolded 𝓤 H 𝓜 𝓡)
     (meets Tally Cursor count-def.name begin-def.name test-sound-def.name verdict-def.name write-head-def.name
     write-entries-def.name write-rest-def.name length firstTally tested testedScratch numberBy headCursor headImage
-    entriesCursor entriesImage restImage Saves saves
+    entriesCursor entriesImage restImage SavesBy saves
     𝓤 H (𝓖 .A) (givenOf 𝓤 H 𝓜 𝓖) (tablesOf 𝓤 H 𝓜 (tables 𝓤 H 𝓜 𝓡 code.env))
     (cited 𝓤 H (count-contract Tally Cursor length 𝓤 H (𝓖 .A)) 𝓜 𝓡 code.env count-def.name count-def.routine
     code.calls-catalogue·count (count-met.met 𝓤 H 𝓜 𝓖 𝓡))

@@ -1,5 +1,5 @@
 -- Written by tools/walks: `image_windows::release_parts` meets its contract, by the walk of `PartsReleased.antt`, with the
--- calls of `image_windows::release_part`.
+-- calls of `image_windows::release_near`.
 -- Assumes nothing.
 use contract.Running.{givenOf, tables, tablesOf}
 use denote.Triple.Spec.{tripleOf}
@@ -7,8 +7,8 @@ use denote.Triple.Table.{entered, cited}
 use Rattle.image_soundness.specs.Windows.{windowAfter, scratchAfter, windowOver, scratchOver}
 use Rattle.image_soundness.proofs.Rounds.{over-none, over-more, left-none, left-more}
 use Rattle.image_windows.proofs.PartsReleased.{step-contract, meets}
-use Rattle.image_windows.proofs.release_part.Symbol as step-def
-use Rattle.image_windows.proofs.release_part.Met as step-met
+use Rattle.image_windows.proofs.release_near.Symbol as step-def
+use Rattle.image_windows.proofs.release_near.Met as step-met
 use Rattle.image_windows.proofs.release_parts.Key.{name as #release-parts}
 use Rattle.image_windows.proofs.release_parts as release-parts
 use Rattle.image_windows.proofs.release_parts.Statement as stated
@@ -22,4 +22,4 @@ release-parts-spec 𝓤 H 𝓜 𝓖 𝓡 =
     (meets step-def.name windowAfter scratchAfter windowOver over-none over-more scratchOver left-none left-more
     𝓤 H (𝓖 .A) (givenOf 𝓤 H 𝓜 𝓖) (tablesOf 𝓤 H 𝓜 (tables 𝓤 H 𝓜 𝓡 code.env))
     (cited 𝓤 H (step-contract windowAfter scratchAfter 𝓤 H (𝓖 .A)) 𝓜 𝓡 code.env step-def.name step-def.routine
-    code.calls-image-windows·release-part (step-met.met 𝓤 H 𝓜 𝓖 𝓡)))
+    code.calls-image-windows·release-near (step-met.met 𝓤 H 𝓜 𝓖 𝓡)))

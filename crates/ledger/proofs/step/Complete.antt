@@ -21,29 +21,29 @@ use Rattle.catalogue_standings.specs.declared.Standing.{Standing}
 use Rattle.catalogue_standings.specs.declared.Answer.{Answer}
 use Rattle.catalogue_standings.specs.declared.Answer.the-variants as answers
 use Rattle.catalogue_standings.specs.declared.Answer.the-variants.{Done, Refused}
-use Rattle.refusals.specs.Lent.{lent}
+use Rattle.refusals.specs.Lent.{calledBy, lent}
 use Rattle.refusals.specs.Effects as effects
 use Rattle.refusals.specs.Effects.{entryOf, outOf}
 use Rattle.refusals.specs.Table.{complete, rowsFor, lowestBlank, tableOf}
 use Rattle.refusals.specs.Views.{viewOn}
 use Rattle.catalogue_standings.proofs.Rows.{clear, same-number}
-use Rattle.ledger.specs.Calls.{Call, on}
+use Rattle.ledger.specs.Calls.{Call, on, turnedIn}
 use Rattle.ledger.specs.Ledger.{Place, Blank, Sheet, Complete, lengthIn, isBlank, bytesOf, sheetAt, placeAt}
 use Rattle.ledger.specs.Ledger.{spareIn, viewIn, completeIn, listed, rowsIn, verdictIn, deedIn}
 use Rattle.ledger.specs.Claim.{entryIn}
-use Rattle.ledger.specs.Steps.{End, endOf}
+use Rattle.ledger.proofs.Plain.{End, endOf}
 use Rattle.ledger.proofs.Agreement.{mapIn, stateOf, Matches, NeverRows, OwnPlaces, on-card, blank-same}
 use Rattle.ledger.proofs.Wings.{entry-at}
-use Rattle.ledger.proofs.Agreement.{beyond-in, stands-same, verdict-on}
+use Rattle.ledger.proofs.Agreement.{stands-same, verdict-on}
 use Rattle.ledger.proofs.Keeping.{keep-complete}
-use Rattle.ledger.proofs.Listed.{full, or-not}
+use Rattle.ledger.proofs.Listed.{full, or-not, beyond-in, turned-in}
 use Rattle.ledger.proofs.Results as results
 use Rattle.ledger.proofs.Results.{Result, Back, outEnd, stored-again, one-sheet, result-of}
 use Rattle.ledger.proofs.Sheets.{was-open, Has}
 
-module _ (n : ℕ) (l : List Sheet) (card : List ℕ) (k : Matches n l card) (i : ℕ) where
+module _ (n : ℕ) (l : List Sheet) (card : List ℕ) (k : Matches n l card) (role i : ℕ) where
   abbrev call : Call
-  call = on i complete
+  call = on role i complete
 
   abbrev rows : List Row
   rows = rowsIn n l call
@@ -51,7 +51,10 @@ module _ (n : ℕ) (l : List Sheet) (card : List ℕ) (k : Matches n l card) (i 
   abbrev e : Entry
   e = results.e n l card k i
 
-  own : OwnPlaces n l i complete
+  abbrev turns : Bool
+  turns = turnedIn role complete
+
+  own : OwnPlaces n l role i complete
   unfolding rowsFor
   own x y alike =
       let m : ℕ = lengthIn (sheetAt l i) in
@@ -63,13 +66,13 @@ module _ (n : ℕ) (l : List Sheet) (card : List ℕ) (k : Matches n l card) (i 
       all-same (λ p. not (x .blank p)) (λ p. not (y .blank p)) 0 0 m (λ j h. ap not (alike .blank (0 + j) (omega arith))) in
       rw (either, each)
 
-  never : NeverRows n l card k i complete
+  never : NeverRows n l card k role i complete
   unfolding rowsFor
   never = (λ h. ap not (all-intro _ 0 (lengthIn (sheetAt l i)) (λ p a b. or-not (isBlank (placeAt l i p)))), tt)
 
   -- the place that goes with 9
   abbrev given : ℕ
-  given = effects.blankPlace (lent n (spareIn n l) (mapIn n l) card (length (map entryIn l)) e i)
+  given = effects.blankPlace (calledBy turns (lent n (spareIn n l) (mapIn n l) card (length (map entryIn l)) e i))
 
   abbrev answer : ℕ → Answer
   answer number = cond (eqb number 9) (answers.Blank given) (Refused number)
@@ -83,9 +86,10 @@ module _ (n : ℕ) (l : List Sheet) (card : List ℕ) (k : Matches n l card) (i 
   abbrev ends : Verdict → End
   ends = stored (entryOf completeMark (e .start) (e .length))
 
-  verdict : effects.completeVerdict (lent n (spareIn n l) (mapIn n l) card (length (map entryIn l)) e i) ≡ verdictIn n l call
+  verdict : effects.completeVerdict (calledBy turns (lent n (spareIn n l) (mapIn n l) card (length (map entryIn l)) e i))
+      ≡ verdictIn n l call
   unfolding effects.completeVerdict
-  verdict = verdict-on n l card k i complete own never
+  verdict = verdict-on n l card k role i complete own never
 
   ends-so : endOf (stateOf n l card) call ≡ ends (verdictIn n l call)
   unfolding effects.completeOut
@@ -99,7 +103,7 @@ module _ (n : ℕ) (l : List Sheet) (card : List ℕ) (k : Matches n l card) (i 
       let filled = full l i (o .0) (o .1) (o .2) (clear 9 rows h .0) in
       let w : length (map bytesOf (o .1)) ≡ length (o .1) = length-map (o .1) bytesOf in
       let was : e ≡ entryOf openMark (o .0) (length (o .1)) = entry-at l i lt ∙ ap entryIn (o .2) in
-      one-sheet n l card k i complete (ends accepted) (record {
+      one-sheet n l card k role i complete (ends accepted) (record {
         inside = lt;
         sheet = Complete (o .0) (map bytesOf (o .1));
         becomes = ap (λ (y : Sheet). set l i (completeIn y)) (o .2);
@@ -121,13 +125,18 @@ module _ (n : ℕ) (l : List Sheet) (card : List ℕ) (k : Matches n l card) (i 
   given-same : verdictIn n l call ≡ refused 9 → given ≡ lowestBlank (viewIn n l i)
   unfolding effects.blankPlace lowestBlank viewOn
   given-same nine =
-      ap (λ (s : Standing). startAt (least (on-card n l card k i .blank) 0 (lengthOf s))) (stands-same n l card k i lt)
-      ∙ ap startAt (least-same (on-card n l card k i .blank) (λ p. isBlank (placeAt l i p)) 0 (lengthIn (sheetAt l i))
-      (λ p low high. blank-same n l card k i lt p (omega arith)))
+      ap (λ (s : Standing). startAt (least (on-card n l card k turns i .blank) 0 (lengthOf s)))
+      (stands-same n l card k turns i lt)
+      ∙ ap startAt (least-same (on-card n l card k turns i .blank) (λ p. isBlank (placeAt l i p)) 0 (lengthIn (sheetAt l i))
+      (λ p low high. blank-same n l card k turns i lt p (omega arith)))
     where
       in-list : (t : Bool) → leb (length l) i ≡ t → i < length l
-      in-list true out = let q : _≡_ {A = ℕ} 2 9 = same-number 2 9 (sym (beyond-in n l i complete out) ∙ nine) in
-          absurd (omega arith)
+      in-list true out = absurd (go turns refl)
+        where
+          go : (t : Bool) → turns ≡ t → ⊥
+          go true e = let q : _≡_ {A = ℕ} 21 9 = same-number 21 9 (sym (turned-in n l role i complete e) ∙ nine) in omega arith
+          go false e = let q : _≡_ {A = ℕ} 2 9 = same-number 2 9
+              (sym (beyond-in n l role i complete e out) ∙ nine) in omega arith
       in-list false q = leb-false (length l) i q
 
       lt : i < length l

@@ -19,20 +19,20 @@ use Rattle.refusals.specs.Table.{Ask, offer, rowsFor, lowestBlank, tableOf}
 use Rattle.refusals.specs.Placement.{plain, figuresIn, fitWithin, leastWithin}
 use Rattle.refusals.specs.declared.Figures.{Figures}
 use Rattle.catalogue_standings.proofs.Rows.{clear, onwards, from-there}
-use Rattle.ledger.specs.Calls.{Call, on}
+use Rattle.ledger.specs.Calls.{Call, on, turnedIn}
 use Rattle.ledger.specs.Ledger.{Sheet, freeIn, spareIn, leastIn, viewIn, listed, rowsIn, verdictIn, deedIn}
 use Rattle.ledger.specs.Answers.{toldIn}
 use Rattle.ledger.specs.Claim.{entryIn, Came, Searched}
-use Rattle.ledger.specs.Steps.{End, ending, endOf}
+use Rattle.ledger.proofs.Plain.{End, ending, endOf}
 use Rattle.ledger.proofs.Agreement.{mapIn, stateOf, Matches, NeverRows, Sharing, saysOn, free-map, verdict-within}
 use Rattle.ledger.proofs.Results as results
 use Rattle.ledger.proofs.Results.{Result, plain-back, no-change, result-of}
 use Rattle.ledger.proofs.Search.{searched}
 use Rattle.ledger.proofs.step.Reserve as reserving
 
-module _ (n : ℕ) (l : List Sheet) (card : List ℕ) (k : Matches n l card) (i : ℕ) (limits : List ℕ) (m : ℕ) where
+module _ (n : ℕ) (l : List Sheet) (card : List ℕ) (k : Matches n l card) (role i : ℕ) (limits : List ℕ) (m : ℕ) where
   abbrev call : Call
-  call = on i (offer limits m)
+  call = on role i (offer limits m)
 
   abbrev ask : Ask
   ask = offer limits m
@@ -53,20 +53,20 @@ module _ (n : ℕ) (l : List Sheet) (card : List ℕ) (k : Matches n l card) (i 
   ends = tellsAt (leastIn n l m plain)
 
   -- its rows are those of the plain reserve
-  never : NeverRows n l card k i (offer limits m)
+  never : NeverRows n l card k role i (offer limits m)
   unfolding rowsFor
-  never = reserving.never n l card k i limits m plain
+  never = reserving.never-for n l card k role i limits m plain (turnedIn role ask)
 
-  sharing : Sharing n l i ask
+  sharing : Sharing n l role i ask
   unfolding rowsFor
   sharing x y same = ap
-      (λ (h : ℕ). saysOn n l i ask (record { blank = y .blank; sound = y .sound; term = y .term; held = h })) same
+      (λ (h : ℕ). saysOn n l role i ask (record { blank = y .blank; sound = y .sound; term = y .term; held = h })) same
 
   ends-so : endOf (stateOf n l card) call ≡ ends (verdictIn n l call)
   unfolding effects.offerAnswer rowsFor
   ends-so =
       ap (tellsAt (startAt (leastWithin (map-blocks.free (mapIn n l)) g m)))
-      (verdict-within n l card k i ask limits sharing never)
+      (verdict-within n l card k role i ask limits sharing never)
       ∙ ap (λ (f : ℕ → Bool). tellsAt (startAt (leastWithin f g m)) (verdictIn n l call)) (free-map n l)
 
   accepts : verdictIn n l call ≡ accepted → results.Done n l card call (ends accepted)

@@ -25,7 +25,7 @@ use Rattle.ledger.specs.Calls.{Call, on}
 use Rattle.ledger.specs.Ledger.{Place, Blank, Payload, Sheet, Open, lengthIn, sheetAt, spareIn, putIn, listed, rowsIn}
 use Rattle.ledger.specs.Ledger.{verdictIn, deedIn}
 use Rattle.ledger.specs.Claim.{entryIn}
-use Rattle.ledger.specs.Steps.{End, ending, endOf}
+use Rattle.ledger.proofs.Plain.{End, ending, endOf}
 use Rattle.ledger.proofs.Agreement.{mapIn, stateOf, Matches, verdict-on}
 use Rattle.ledger.proofs.Wings.{entry-at}
 use Rattle.ledger.proofs.Keeping.{keep-put}
@@ -34,9 +34,9 @@ use Rattle.ledger.proofs.Results as results
 use Rattle.ledger.proofs.Results.{Result, plain-back, one-sheet, result-of}
 use Rattle.ledger.proofs.Sheets.{was-open, Has}
 
-module _ (n : ℕ) (l : List Sheet) (card : List ℕ) (k : Matches n l card) (i p : ℕ) (payload : List ℕ) where
+module _ (n : ℕ) (l : List Sheet) (card : List ℕ) (k : Matches n l card) (role i p : ℕ) (payload : List ℕ) where
   abbrev call : Call
-  call = on i (put p payload)
+  call = on role i (put p payload)
 
   abbrev rows : List Row
   rows = rowsIn n l call
@@ -55,7 +55,7 @@ module _ (n : ℕ) (l : List Sheet) (card : List ℕ) (k : Matches n l card) (i 
 
   ends-so : endOf (stateOf n l card) call ≡ ends (verdictIn n l call)
   unfolding effects.putAnswer effects.putCard rowsFor
-  ends-so = ap ends (verdict-on n l card k i (put p payload) (λ x y alike. refl) tt)
+  ends-so = ap ends (verdict-on n l card k role i (put p payload) (λ x y alike. refl) tt)
 
   put-at : (ps : List Place) (q : ℕ) (m : Place) → p < length ps → getD ps q Blank ≡ m → (t : Bool) → eqb q p ≡ t
       → getD (set ps p (Payload payload)) q Blank ≡ cond t (Payload payload) m
@@ -77,7 +77,7 @@ module _ (n : ℕ) (l : List Sheet) (card : List ℕ) (k : Matches n l card) (i 
       let len : length payload ≡ 496 = eqb-true (length payload) 496
       (not-false _ (neither-right (leb (lengthIn (sheetAt l i)) p) _ three)) in
       let was : e ≡ entryOf openMark (o .0) (length (o .1)) = entry-at l i lt ∙ ap entryIn (o .2) in
-      one-sheet n l card k i (put p payload) (ends accepted) (record {
+      one-sheet n l card k role i (put p payload) (ends accepted) (record {
         inside = lt;
         sheet = Open (o .0) (set (o .1) p (Payload payload));
         becomes = ap (λ (y : Sheet). set l i (putIn p payload y)) (o .2);

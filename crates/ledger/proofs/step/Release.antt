@@ -18,7 +18,7 @@ use Rattle.refusals.specs.Table.{release, rowsFor, tableOf}
 use Rattle.catalogue_standings.proofs.Rows.{clear}
 use Rattle.ledger.specs.Calls.{Call, on}
 use Rattle.ledger.specs.Ledger.{Sheet, Absent, startIn, lengthIn, sheetAt, spareIn, listed, rowsIn, verdictIn, deedIn}
-use Rattle.ledger.specs.Steps.{End, endOf}
+use Rattle.ledger.proofs.Plain.{End, endOf}
 use Rattle.ledger.proofs.Agreement.{mapIn, stateOf, Matches, verdict-at}
 use Rattle.ledger.proofs.Wings.{entry-at}
 use Rattle.ledger.proofs.Cover.{length-held}
@@ -27,9 +27,9 @@ use Rattle.ledger.proofs.Listed.{spare-is}
 use Rattle.ledger.proofs.Results as results
 use Rattle.ledger.proofs.Results.{Result, outEnd, out-back, plain-back, one-sheet, result-of}
 
-module _ (n : ℕ) (l : List Sheet) (card : List ℕ) (k : Matches n l card) (i : ℕ) where
+module _ (n : ℕ) (l : List Sheet) (card : List ℕ) (k : Matches n l card) (role i : ℕ) where
   abbrev call : Call
-  call = on i release
+  call = on role i release
 
   abbrev rows : List Row
   rows = rowsIn n l call
@@ -48,7 +48,7 @@ module _ (n : ℕ) (l : List Sheet) (card : List ℕ) (k : Matches n l card) (i 
   unfolding effects.releaseOut effects.releaseMap rowsFor
   ends-so =
       ap ends
-      (verdict-at n l card k i release (λ x y. refl)
+      (verdict-at n l card k role i release (λ x y. refl)
       (λ h. le-ltb n (spareIn n l + lengthIn (sheetAt l i)) (omega (arith, spare-is n l (k .sound), length-held l i)), tt))
 
   accepts : verdictIn n l call ≡ accepted → results.Done n l card call (ends accepted)
@@ -56,7 +56,7 @@ module _ (n : ℕ) (l : List Sheet) (card : List ℕ) (k : Matches n l card) (i 
   accepts h =
       let lt : i < length l = leb-false (length l) i (clear 2 rows h .0) in
       let x : Sheet = sheetAt l i in
-      one-sheet n l card k i release (ends accepted) (record {
+      one-sheet n l card k role i release (ends accepted) (record {
         inside = lt;
         sheet = Absent;
         becomes = refl;

@@ -15,25 +15,25 @@ use Rattle.ledger.proofs.Agreement.{Matches, OwnPlaces, saysOn}
 use Rattle.ledger.proofs.Results.{Result}
 use Rattle.ledger.proofs.Showing.{misses, inside, sound-there, shows-place}
 
-module _ (n : ℕ) (l : List Sheet) (card : List ℕ) (k : Matches n l card) (i p : ℕ) (buffer : List ℕ) where
+module _ (n : ℕ) (l : List Sheet) (card : List ℕ) (k : Matches n l card) (role i p : ℕ) (buffer : List ℕ) where
   abbrev ask : Ask
   ask = show p buffer
 
   abbrev rows : List Row
-  rows = rowsIn n l (on i ask)
+  rows = rowsIn n l (on role i ask)
 
   -- it looks at the place wanted only, and only where the sheet has it
-  own : OwnPlaces n l i ask
+  own : OwnPlaces n l role i ask
   unfolding rowsFor firstOf
   own x y alike = go (misses n l i p buffer) refl
     where
-      go : (t : Bool) → misses n l i p buffer ≡ t → saysOn n l i ask x ≡ saysOn n l i ask y
+      go : (t : Bool) → misses n l i p buffer ≡ t → saysOn n l role i ask x ≡ saysOn n l role i ask y
       go true h = rw h
       go false h = rw (alike .sound p (inside n l i p buffer h p (omega arith)))
 
-  pub show-result : Result n l card (on i ask) (verdictIn n l (on i ask))
+  pub show-result : Result n l card (on role i ask) (verdictIn n l (on role i ask))
   unfolding effects.showAnswer effects.showBuffer rowsFor tableOf listed deedIn
-  show-result = shows-place n l card k i p buffer ask (record {
+  show-result = shows-place n l card k role i p buffer ask (record {
     ends-so = refl;
     own = own;
     never = (

@@ -17,19 +17,20 @@ use Rattle.ledger.proofs.Agreement.{Matches, OwnPlaces, saysOn}
 use Rattle.ledger.proofs.Results.{Result}
 use Rattle.ledger.proofs.Showing.{misses, inside, sound-there, shows-place}
 
-module _ (n : ℕ) (l : List Sheet) (card : List ℕ) (k : Matches n l card) (i p : ℕ) (date : Date) (buffer : List ℕ) where
+module _ (n : ℕ) (l : List Sheet) (card : List ℕ) (k : Matches n l card) (role i p : ℕ) (date : Date) (buffer : List ℕ) where
   abbrev ask : Ask
   ask = showDated p date buffer
 
   abbrev rows : List Row
-  rows = rowsIn n l (on i ask)
+  rows = rowsIn n l (on role i ask)
 
   -- it looks at place 0 and at the place wanted only, where the sheet has them, and at the term only where place 0 is sound
-  own : OwnPlaces n l i ask
+  own : OwnPlaces n l role i ask
   unfolding rowsFor firstOf
   own x y alike = go (misses n l i p buffer) refl (y .sound 0) refl
     where
-      go : (t : Bool) → misses n l i p buffer ≡ t → (s : Bool) → y .sound 0 ≡ s → saysOn n l i ask x ≡ saysOn n l i ask y
+      go : (t : Bool) → misses n l i p buffer ≡ t → (s : Bool) → y .sound 0 ≡ s → saysOn n l role i ask x
+          ≡ saysOn n l role i ask y
       go true h s e = rw h
       go false h true e =
           let first = inside n l i p buffer h 0 (omega arith) in
@@ -40,9 +41,9 @@ module _ (n : ℕ) (l : List Sheet) (card : List ℕ) (k : Matches n l card) (i 
         e,
       )
 
-  pub show-dated-result : Result n l card (on i ask) (verdictIn n l (on i ask))
+  pub show-dated-result : Result n l card (on role i ask) (verdictIn n l (on role i ask))
   unfolding effects.showDatedAnswer effects.showDatedBuffer rowsFor tableOf listed deedIn
-  show-dated-result = shows-place n l card k i p buffer ask (record {
+  show-dated-result = shows-place n l card k role i p buffer ask (record {
     ends-so = refl;
     own = own;
     never = (

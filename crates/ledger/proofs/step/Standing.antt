@@ -15,15 +15,15 @@ use Rattle.card.specs.Calls.{told}
 use Rattle.ledger.specs.Calls.{Call, on}
 use Rattle.ledger.specs.Ledger.{Sheet, sheetAt, spareIn, listed, rowsIn, verdictIn, deedIn}
 use Rattle.ledger.specs.Claim.{entryIn}
-use Rattle.ledger.specs.Steps.{End, ending, endOf}
+use Rattle.ledger.proofs.Plain.{End, ending, endOf}
 use Rattle.ledger.proofs.Agreement.{mapIn, stateOf, Matches, verdict-at}
 use Rattle.ledger.proofs.Wings.{entry-at}
 use Rattle.ledger.proofs.Results as results
 use Rattle.ledger.proofs.Results.{Result, plain-back, no-change, result-of}
 
-module _ (n : ℕ) (l : List Sheet) (card : List ℕ) (k : Matches n l card) (i : ℕ) where
+module _ (n : ℕ) (l : List Sheet) (card : List ℕ) (k : Matches n l card) (role i : ℕ) where
   abbrev call : Call
-  call = on i standing
+  call = on role i standing
 
   abbrev rows : List Row
   rows = rowsIn n l call
@@ -38,7 +38,7 @@ module _ (n : ℕ) (l : List Sheet) (card : List ℕ) (k : Matches n l card) (i 
 
   ends-so : endOf (stateOf n l card) call ≡ ends (verdictIn n l call)
   unfolding effects.standingAnswer rowsFor
-  ends-so = ap ends (verdict-at n l card k i standing (λ x y. refl) tt)
+  ends-so = ap ends (verdict-at n l card k role i standing (λ x y. refl) tt)
 
   accepts : verdictIn n l call ≡ accepted → results.Done n l card call (ends accepted)
   unfolding tableOf listed deedIn

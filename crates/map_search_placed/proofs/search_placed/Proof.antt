@@ -1,6 +1,6 @@
 -- `map_search_placed::search_placed` meets its contract: the plain search is the one from 0 on with a step of 1.
 -- Assumes nothing.
-use mathlib.Core.Path.{_≡_, sym, ap, _∙_}
+use mathlib.Core.Path.{_≡_, ap, _∙_}
 use native.Mathlib.Omega.{arith}
 use mathlib.Core.Bool.{false}
 use denote.Ref.{now}
@@ -44,8 +44,10 @@ search-requires c κs = search needs
 returns : tie.Need-returns
 returns c =
     let a = c .before .before .before .before .args in
-    c .search .ensures ∙ ap (λ (x : ℕ). leastFit (free (now (a .map))) x (a .before) 1 (a .k)) (sym (c .before .if2 .taken))
-    ∙ ap (λ (x : ℕ). leastFit (free (now (a .map))) (a .from) (a .before) x (a .k)) (sym (c .before .before .if1 .taken))
+    let start : 0 ≡ a .from = omega (arith, c .before .if2 .taken) in
+    let every : 1 ≡ a .step = omega (arith, c .before .before .if1 .taken) in
+    c .search .ensures ∙ ap (λ (x : ℕ). leastFit (free (now (a .map))) x (a .before) 1 (a .k)) start
+    ∙ ap (λ (x : ℕ). leastFit (free (now (a .map))) (a .from) (a .before) x (a .k)) every
 
 returns-2 : tie.Need-returns-2
 returns-2 c =

@@ -1,13 +1,11 @@
 -- Written by tools/walks: `pagunlit::pagunlit_close` meets its contract, by the walk of `MapCatalogueCardScratch.antt` of the
--- crate walk_replies, with the calls of `role_calls::close`, `pagunlit_replies::reply_of`.
+-- crate walk_replies, with the calls of `card::Shape::close`, `pagunlit_replies::reply_of`.
 -- Assumes nothing.
 use contract.Running.{givenOf, tables, tablesOf}
 use denote.Triple.Spec.{tripleOf}
 use denote.Triple.Table.{entered, cited}
 use Rattle.pagunlit_replies.specs.Replies.{replyOf}
-use Rattle.role_calls.specs.Scratches.{closeScratch}
-use Rattle.role_calls.specs.Calls.{closeOutcomeFor}
-use Rattle.role_calls.specs.Calls.{closeMapFor, closeEntriesFor, closeCardFor}
+use Rattle.card.specs.Ends.{closeEnd}
 use Rattle.catalogue.proofs.Values.{Value, valueOf}
 use Rattle.card.proofs.Shape as Shape′
 use Rattle.card.proofs.Shape.Laws as Shape″
@@ -16,8 +14,8 @@ use Rattle.card.proofs.Outcome.Laws as Outcome″
 use Rattle.pagunlit_replies.proofs.Reply as Reply′
 use Rattle.pagunlit_replies.proofs.Reply.Laws as Reply″
 use Rattle.walk_replies.proofs.MapCatalogueCardScratch.{call-contract, reply-of-contract, meets}
-use Rattle.role_calls.proofs.close.Symbol as call-def
-use Rattle.role_calls.proofs.close.Met as call-met
+use Rattle.card.proofs.Shape.close.Symbol as call-def
+use Rattle.card.proofs.Shape.close.Met as call-met
 use Rattle.pagunlit_replies.proofs.reply_of.Symbol as reply-of-def
 use Rattle.pagunlit_replies.proofs.reply_of.Met as reply-of-met
 use Rattle.pagunlit.proofs.pagunlit_close.Key.{name as #pagunlit-close}
@@ -39,10 +37,14 @@ unfolding code.routine tablesOf
 pagunlit-close-spec 𝓤 H 𝓜 𝓖 𝓡 =
     entered 𝓤 H (tripleOf 𝓤 H (𝓖 .A) pagunlit-close.signature (pagunlit-close.spec 𝓤 H (𝓖 .A) (𝓜 .mem) (𝓡 .run)))
     (tables 𝓤 H 𝓜 𝓡 code.env .C) (tables 𝓤 H 𝓜 𝓡 code.env .Λ) #pagunlit-close code.function (code.unfolded 𝓤 H 𝓜 𝓡)
-    (meets Shape Outcome Reply call-def.name reply-of-def.name closeOutcomeFor closeMapFor closeEntriesFor closeCardFor
-    closeScratch replyOf
+    (meets Shape Outcome Reply call-def.name reply-of-def.name (λ x0 x1 x2 x3 x4 x5. closeEnd x0 x1 x2 x3 x4 x5 .outcome)
+    (λ x0 x1 x2 x3 x4 x5. closeEnd x0 x1 x2 x3 x4 x5 .map) (λ x0 x1 x2 x3 x4 x5. closeEnd x0 x1 x2 x3 x4 x5 .entries)
+    (λ x0 x1 x2 x3 x4 x5. closeEnd x0 x1 x2 x3 x4 x5 .card) (λ x0 x1 x2 x3 x4 x5. closeEnd x0 x1 x2 x3 x4 x5 .beside .scratch)
+    replyOf
     𝓤 H (𝓖 .A) (givenOf 𝓤 H 𝓜 𝓖) (tablesOf 𝓤 H 𝓜 (tables 𝓤 H 𝓜 𝓡 code.env))
-    (cited 𝓤 H (call-contract Shape Outcome Reply closeOutcomeFor closeMapFor closeEntriesFor closeCardFor closeScratch 𝓤 H
-    (𝓖 .A)) 𝓜 𝓡 code.env call-def.name call-def.routine code.calls-role-calls·close (call-met.met 𝓤 H 𝓜 𝓖 𝓡))
+    (cited 𝓤 H (call-contract Shape Outcome Reply (λ x0 x1 x2 x3 x4 x5. closeEnd x0 x1 x2 x3 x4 x5 .outcome)
+    (λ x0 x1 x2 x3 x4 x5. closeEnd x0 x1 x2 x3 x4 x5 .map) (λ x0 x1 x2 x3 x4 x5. closeEnd x0 x1 x2 x3 x4 x5 .entries)
+    (λ x0 x1 x2 x3 x4 x5. closeEnd x0 x1 x2 x3 x4 x5 .card) (λ x0 x1 x2 x3 x4 x5. closeEnd x0 x1 x2 x3 x4 x5 .beside .scratch) 𝓤
+    H (𝓖 .A)) 𝓜 𝓡 code.env call-def.name call-def.routine code.calls-card·Shape·close (call-met.met 𝓤 H 𝓜 𝓖 𝓡))
     (cited 𝓤 H (reply-of-contract Shape Outcome Reply replyOf 𝓤 H (𝓖 .A)) 𝓜 𝓡 code.env reply-of-def.name reply-of-def.routine
     code.calls-pagunlit-replies·reply-of (reply-of-met.met 𝓤 H 𝓜 𝓖 𝓡)))

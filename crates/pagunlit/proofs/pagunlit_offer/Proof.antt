@@ -1,11 +1,11 @@
 -- Written by tools/walks: `pagunlit::pagunlit_offer` meets its contract, by the walk of `FromMapCatalogueCardLimits2.antt` of
--- the crate walk_replies, with the calls of `role_calls::offer`, `pagunlit_replies::reply_of`.
+-- the crate walk_replies, with the calls of `card::Shape::offer`, `pagunlit_replies::reply_of`.
 -- Assumes nothing.
 use contract.Running.{givenOf, tables, tablesOf}
 use denote.Triple.Spec.{tripleOf}
 use denote.Triple.Table.{entered, cited}
 use Rattle.pagunlit_replies.specs.Replies.{replyOf}
-use Rattle.role_calls.specs.Calls.{offerOutcomeFor}
+use Rattle.card.specs.Ends.{offerEnd}
 use Rattle.catalogue.proofs.Values.{Value, valueOf}
 use Rattle.card.proofs.Shape as Shape′
 use Rattle.card.proofs.Shape.Laws as Shape″
@@ -14,8 +14,8 @@ use Rattle.card.proofs.Outcome.Laws as Outcome″
 use Rattle.pagunlit_replies.proofs.Reply as Reply′
 use Rattle.pagunlit_replies.proofs.Reply.Laws as Reply″
 use Rattle.walk_replies.proofs.FromMapCatalogueCardLimits2.{call-contract, reply-of-contract, meets}
-use Rattle.role_calls.proofs.offer.Symbol as call-def
-use Rattle.role_calls.proofs.offer.Met as call-met
+use Rattle.card.proofs.Shape.offer.Symbol as call-def
+use Rattle.card.proofs.Shape.offer.Met as call-met
 use Rattle.pagunlit_replies.proofs.reply_of.Symbol as reply-of-def
 use Rattle.pagunlit_replies.proofs.reply_of.Met as reply-of-met
 use Rattle.pagunlit.proofs.pagunlit_offer.Key.{name as #pagunlit-offer}
@@ -37,9 +37,10 @@ unfolding code.routine tablesOf
 pagunlit-offer-spec 𝓤 H 𝓜 𝓖 𝓡 =
     entered 𝓤 H (tripleOf 𝓤 H (𝓖 .A) pagunlit-offer.signature (pagunlit-offer.spec 𝓤 H (𝓖 .A) (𝓜 .mem) (𝓡 .run)))
     (tables 𝓤 H 𝓜 𝓡 code.env .C) (tables 𝓤 H 𝓜 𝓡 code.env .Λ) #pagunlit-offer code.function (code.unfolded 𝓤 H 𝓜 𝓡)
-    (meets Shape Outcome Reply call-def.name reply-of-def.name offerOutcomeFor replyOf
+    (meets Shape Outcome Reply call-def.name reply-of-def.name (λ x0 x1 x2 x3 x4 x5 x6 x7. offerEnd x0 x1 x2 x3 x4 x5 x6
+    x7 .outcome) replyOf
     𝓤 H (𝓖 .A) (givenOf 𝓤 H 𝓜 𝓖) (tablesOf 𝓤 H 𝓜 (tables 𝓤 H 𝓜 𝓡 code.env))
-    (cited 𝓤 H (call-contract Shape Outcome Reply offerOutcomeFor 𝓤 H (𝓖 .A)) 𝓜 𝓡 code.env call-def.name call-def.routine
-    code.calls-role-calls·offer (call-met.met 𝓤 H 𝓜 𝓖 𝓡))
+    (cited 𝓤 H (call-contract Shape Outcome Reply (λ x0 x1 x2 x3 x4 x5 x6 x7. offerEnd x0 x1 x2 x3 x4 x5 x6 x7 .outcome) 𝓤 H
+    (𝓖 .A)) 𝓜 𝓡 code.env call-def.name call-def.routine code.calls-card·Shape·offer (call-met.met 𝓤 H 𝓜 𝓖 𝓡))
     (cited 𝓤 H (reply-of-contract Shape Outcome Reply replyOf 𝓤 H (𝓖 .A)) 𝓜 𝓡 code.env reply-of-def.name reply-of-def.routine
     code.calls-pagunlit-replies·reply-of (reply-of-met.met 𝓤 H 𝓜 𝓖 𝓡)))

@@ -1,12 +1,11 @@
 -- Written by tools/walks: `pagunlit::pagunlit_release` meets its contract, by the walk of `MapCatalogue1.antt` of the crate
--- walk_replies, with the calls of `role_calls::release`, `pagunlit_replies::reply_of`.
+-- walk_replies, with the calls of `card::Shape::release`, `pagunlit_replies::reply_of`.
 -- Assumes nothing.
 use contract.Running.{givenOf, tables, tablesOf}
 use denote.Triple.Spec.{tripleOf}
 use denote.Triple.Table.{entered, cited}
 use Rattle.pagunlit_replies.specs.Replies.{replyOf}
-use Rattle.role_calls.specs.Calls.{releaseOutcomeFor}
-use Rattle.role_calls.specs.Calls.{releaseMapFor, releaseEntriesFor}
+use Rattle.card.specs.Ends.{releaseEnd}
 use Rattle.catalogue.proofs.Values.{Value, valueOf}
 use Rattle.card.proofs.Shape as Shape′
 use Rattle.card.proofs.Shape.Laws as Shape″
@@ -15,8 +14,8 @@ use Rattle.card.proofs.Outcome.Laws as Outcome″
 use Rattle.pagunlit_replies.proofs.Reply as Reply′
 use Rattle.pagunlit_replies.proofs.Reply.Laws as Reply″
 use Rattle.walk_replies.proofs.MapCatalogue1.{call-contract, reply-of-contract, meets}
-use Rattle.role_calls.proofs.release.Symbol as call-def
-use Rattle.role_calls.proofs.release.Met as call-met
+use Rattle.card.proofs.Shape.release.Symbol as call-def
+use Rattle.card.proofs.Shape.release.Met as call-met
 use Rattle.pagunlit_replies.proofs.reply_of.Symbol as reply-of-def
 use Rattle.pagunlit_replies.proofs.reply_of.Met as reply-of-met
 use Rattle.pagunlit.proofs.pagunlit_release.Key.{name as #pagunlit-release}
@@ -38,9 +37,11 @@ unfolding code.routine tablesOf
 pagunlit-release-spec 𝓤 H 𝓜 𝓖 𝓡 =
     entered 𝓤 H (tripleOf 𝓤 H (𝓖 .A) pagunlit-release.signature (pagunlit-release.spec 𝓤 H (𝓖 .A) (𝓜 .mem) (𝓡 .run)))
     (tables 𝓤 H 𝓜 𝓡 code.env .C) (tables 𝓤 H 𝓜 𝓡 code.env .Λ) #pagunlit-release code.function (code.unfolded 𝓤 H 𝓜 𝓡)
-    (meets Shape Outcome Reply call-def.name reply-of-def.name releaseOutcomeFor releaseMapFor releaseEntriesFor replyOf
+    (meets Shape Outcome Reply call-def.name reply-of-def.name (λ x0 x1 x2 x3 x4. releaseEnd x0 x1 x2 x3 x4 .outcome)
+    (λ x0 x1 x2 x3 x4. releaseEnd x0 x1 x2 x3 x4 .map) (λ x0 x1 x2 x3 x4. releaseEnd x0 x1 x2 x3 x4 .entries) replyOf
     𝓤 H (𝓖 .A) (givenOf 𝓤 H 𝓜 𝓖) (tablesOf 𝓤 H 𝓜 (tables 𝓤 H 𝓜 𝓡 code.env))
-    (cited 𝓤 H (call-contract Shape Outcome Reply releaseOutcomeFor releaseMapFor releaseEntriesFor 𝓤 H (𝓖 .A)) 𝓜 𝓡 code.env
-    call-def.name call-def.routine code.calls-role-calls·release (call-met.met 𝓤 H 𝓜 𝓖 𝓡))
+    (cited 𝓤 H (call-contract Shape Outcome Reply (λ x0 x1 x2 x3 x4. releaseEnd x0 x1 x2 x3 x4 .outcome)
+    (λ x0 x1 x2 x3 x4. releaseEnd x0 x1 x2 x3 x4 .map) (λ x0 x1 x2 x3 x4. releaseEnd x0 x1 x2 x3 x4 .entries) 𝓤 H (𝓖 .A)) 𝓜 𝓡
+    code.env call-def.name call-def.routine code.calls-card·Shape·release (call-met.met 𝓤 H 𝓜 𝓖 𝓡))
     (cited 𝓤 H (reply-of-contract Shape Outcome Reply replyOf 𝓤 H (𝓖 .A)) 𝓜 𝓡 code.env reply-of-def.name reply-of-def.routine
     code.calls-pagunlit-replies·reply-of (reply-of-met.met 𝓤 H 𝓜 𝓖 𝓡)))

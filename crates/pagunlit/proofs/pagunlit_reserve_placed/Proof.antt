@@ -1,13 +1,12 @@
 -- Written by tools/walks: `pagunlit::pagunlit_reserve_placed` meets its contract, by the walk of
--- `MapCatalogueCardFromLimits5.antt` of the crate walk_replies, with the calls of `role_calls::reserve_placed`,
+-- `MapCatalogueCardFromLimits5.antt` of the crate walk_replies, with the calls of `card::Shape::reserve_placed`,
 -- `pagunlit_replies::reply_of`.
 -- Assumes nothing.
 use contract.Running.{givenOf, tables, tablesOf}
 use denote.Triple.Spec.{tripleOf}
 use denote.Triple.Table.{entered, cited}
 use Rattle.pagunlit_replies.specs.Replies.{replyOf}
-use Rattle.role_calls.specs.Calls.{reservePlacedOutcomeFor, reservePlacedMapFor}
-use Rattle.role_calls.specs.Calls.{reservePlacedEntriesFor, reservePlacedCardFor}
+use Rattle.card.specs.Ends.{reservePlacedEnd}
 use Rattle.catalogue.proofs.Values.{Value, valueOf}
 use Rattle.card.proofs.Shape as Shape′
 use Rattle.card.proofs.Shape.Laws as Shape″
@@ -16,8 +15,8 @@ use Rattle.card.proofs.Outcome.Laws as Outcome″
 use Rattle.pagunlit_replies.proofs.Reply as Reply′
 use Rattle.pagunlit_replies.proofs.Reply.Laws as Reply″
 use Rattle.walk_replies.proofs.MapCatalogueCardFromLimits5.{call-contract, reply-of-contract, meets}
-use Rattle.role_calls.proofs.reserve_placed.Symbol as call-def
-use Rattle.role_calls.proofs.reserve_placed.Met as call-met
+use Rattle.card.proofs.Shape.reserve_placed.Symbol as call-def
+use Rattle.card.proofs.Shape.reserve_placed.Met as call-met
 use Rattle.pagunlit_replies.proofs.reply_of.Symbol as reply-of-def
 use Rattle.pagunlit_replies.proofs.reply_of.Met as reply-of-met
 use Rattle.pagunlit.proofs.pagunlit_reserve_placed.Key.{name as #pagunlit-reserve-placed}
@@ -40,11 +39,15 @@ pagunlit-reserve-placed-spec 𝓤 H 𝓜 𝓖 𝓡 =
     entered 𝓤 H (tripleOf 𝓤 H (𝓖 .A) pagunlit-reserve-placed.signature (pagunlit-reserve-placed.spec 𝓤 H (𝓖 .A) (𝓜 .mem)
     (𝓡 .run)))
     (tables 𝓤 H 𝓜 𝓡 code.env .C) (tables 𝓤 H 𝓜 𝓡 code.env .Λ) #pagunlit-reserve-placed code.function (code.unfolded 𝓤 H 𝓜 𝓡)
-    (meets Shape Outcome Reply call-def.name reply-of-def.name reservePlacedOutcomeFor reservePlacedMapFor
-    reservePlacedEntriesFor reservePlacedCardFor replyOf
+    (meets Shape Outcome Reply call-def.name reply-of-def.name (λ x0 x1 x2 x3 x4 x5 x6 x7 x8 x9 x10. reservePlacedEnd x0 x1 x2
+    x3 x4 x5 x6 x7 x8 x9 x10 .outcome) (λ x0 x1 x2 x3 x4 x5 x6 x7 x8 x9 x10. reservePlacedEnd x0 x1 x2 x3 x4 x5 x6 x7 x8 x9
+    x10 .map) (λ x0 x1 x2 x3 x4 x5 x6 x7 x8 x9 x10. reservePlacedEnd x0 x1 x2 x3 x4 x5 x6 x7 x8 x9 x10 .entries)
+    (λ x0 x1 x2 x3 x4 x5 x6 x7 x8 x9 x10. reservePlacedEnd x0 x1 x2 x3 x4 x5 x6 x7 x8 x9 x10 .card) replyOf
     𝓤 H (𝓖 .A) (givenOf 𝓤 H 𝓜 𝓖) (tablesOf 𝓤 H 𝓜 (tables 𝓤 H 𝓜 𝓡 code.env))
-    (cited 𝓤 H (call-contract Shape Outcome Reply reservePlacedOutcomeFor reservePlacedMapFor reservePlacedEntriesFor
-    reservePlacedCardFor 𝓤 H (𝓖 .A)) 𝓜 𝓡 code.env call-def.name call-def.routine code.calls-role-calls·reserve-placed
-    (call-met.met 𝓤 H 𝓜 𝓖 𝓡))
+    (cited 𝓤 H (call-contract Shape Outcome Reply (λ x0 x1 x2 x3 x4 x5 x6 x7 x8 x9 x10. reservePlacedEnd x0 x1 x2 x3 x4 x5 x6 x7
+    x8 x9 x10 .outcome) (λ x0 x1 x2 x3 x4 x5 x6 x7 x8 x9 x10. reservePlacedEnd x0 x1 x2 x3 x4 x5 x6 x7 x8 x9 x10 .map)
+    (λ x0 x1 x2 x3 x4 x5 x6 x7 x8 x9 x10. reservePlacedEnd x0 x1 x2 x3 x4 x5 x6 x7 x8 x9 x10 .entries)
+    (λ x0 x1 x2 x3 x4 x5 x6 x7 x8 x9 x10. reservePlacedEnd x0 x1 x2 x3 x4 x5 x6 x7 x8 x9 x10 .card) 𝓤 H (𝓖 .A)) 𝓜 𝓡 code.env
+    call-def.name call-def.routine code.calls-card·Shape·reserve-placed (call-met.met 𝓤 H 𝓜 𝓖 𝓡))
     (cited 𝓤 H (reply-of-contract Shape Outcome Reply replyOf 𝓤 H (𝓖 .A)) 𝓜 𝓡 code.env reply-of-def.name reply-of-def.routine
     code.calls-pagunlit-replies·reply-of (reply-of-met.met 𝓤 H 𝓜 𝓖 𝓡)))

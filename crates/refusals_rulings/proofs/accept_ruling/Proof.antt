@@ -7,7 +7,9 @@ use borrow.Author.Needs.{needs}
 use denote.Ref.{now}
 use Rattle.map_blocks.specs.Blocks.{free}
 use Rattle.refusals.specs.Effects.{givingVerdict, runVerdict, acceptVerdict}
-use Rattle.refusals.specs.Lent.{lentBeside, lentWithin}
+use Rattle.roles.specs.Roles as names
+use Rattle.roles.specs.Roles.{turnedAway}
+use Rattle.refusals.specs.Lent.{calledBy, lentBeside, lentWithin}
 use Rattle.refusals.proofs.Accept.{run, verdict-behind}
 use Rattle.refusals.proofs.Beginnings.{giving-within, giving-zero, given}
 use Rattle.refusals_rulings.specs.Rulings.{rulingOf}
@@ -15,48 +17,54 @@ use Rattle.refusals_rulings.proofs.Rulings.{ruled, first-row, by-first,
 use Rattle.refusals_rulings.proofs.accept_ruling.Statement.{statement}
 use Rattle.refusals_rulings.proofs.accept_ruling.Tie as tie
 
-giving-row-requires : tie.Need-giving-row-requires
-giving-row-requires c κs = search needs
+enter-giving-requires : tie.Need-enter-giving-requires
+enter-giving-requires c κs = search needs
 
 returns : tie.Need-returns
 returns c =
-    let call = c .before .giving-row in
+    let call = c .before .enter-giving in
     let a = c .before .before .before .before .before .args in
-    let q₀ = lentBeside (a .guided) (now (a .summary)) (a .n) (a .free) (now (a .map)) (now (a .card)) (a .c) (a .entry)
-    (a .sheet) in
-    let q = lentWithin (a .held) (now (a .limits)) (a .guided) (now (a .summary)) (a .n) (a .free) (now (a .map))
+    let q₀ = calledBy (turnedAway (a .role) names.accept) (lentBeside (a .guided) (now (a .summary)) (a .n) (a .free) (now (a
+    .map)) (now (a .card)) (a .c) (a .entry)
+    (a .sheet)) in
+    let q = calledBy (turnedAway (a .role) names.accept) (lentWithin (a .held) (now (a .limits)) (a .guided) (now (a .summary))
+    (a .n) (a .free) (now (a .map))
     (now (a .card))
-    (a .c) (a .entry) (a .sheet) in
+    (a .c) (a .entry) (a .sheet)) in
     by-first (a .start) (givingVerdict q (a .k)) (run q (a .start) (a .k)) (acceptVerdict q (a .start) (a .k)) (call .result)
     (verdict-behind q (a .start) (a .k)) (first-row (giving-within (a .held) (now (a .limits)) q₀ (a .k)) (call .ensures))
     (c .if1 .taken)
 
 over-limit-requires : tie.Need-over-limit-requires
 over-limit-requires c κs =
-    let call = c .before .giving-row in
+    let call = c .before .enter-giving in
     let a = c .before .before .before .before .before .args in
-    let q₀ = lentBeside (a .guided) (now (a .summary)) (a .n) (a .free) (now (a .map)) (now (a .card)) (a .c) (a .entry)
-    (a .sheet) in
+    let q₀ = calledBy (turnedAway (a .role) names.accept) (lentBeside (a .guided) (now (a .summary)) (a .n) (a .free) (now (a
+    .map)) (now (a .card)) (a .c) (a .entry)
+    (a .sheet)) in
     given q₀ (a .k) (giving-zero q₀ (a .k) (sym (call .ensures) ∙ c .if1 .left)) .below
 
 run-ruling-requires : tie.Need-run-ruling-requires
 run-ruling-requires c κs =
-    let call = c .before .before .giving-row in
+    let call = c .before .before .enter-giving in
     let a = c .before .before .before .before .before .before .args in
-    let q₀ = lentBeside (a .guided) (now (a .summary)) (a .n) (a .free) (now (a .map)) (now (a .card)) (a .c) (a .entry)
-    (a .sheet) in
+    let q₀ = calledBy (turnedAway (a .role) names.accept) (lentBeside (a .guided) (now (a .summary)) (a .n) (a .free) (now (a
+    .map)) (now (a .card)) (a .c) (a .entry)
+    (a .sheet)) in
     let g = given q₀ (a .k) (giving-zero q₀ (a .k) (sym (call .ensures) ∙ c .before .if1 .left)) in
     (omega (arith, g .sizes .shape .limit), omega (arith, g .sizes .shape .covered))
 
 returns-2 : tie.Need-returns-2
 returns-2 c =
-    let call = c .before .before .before .giving-row in
+    let call = c .before .before .before .enter-giving in
     let a = c .before .before .before .before .before .before .before .args in
-    let q₀ = lentBeside (a .guided) (now (a .summary)) (a .n) (a .free) (now (a .map)) (now (a .card)) (a .c) (a .entry)
-    (a .sheet) in
-    let q = lentWithin (a .held) (now (a .limits)) (a .guided) (now (a .summary)) (a .n) (a .free) (now (a .map))
+    let q₀ = calledBy (turnedAway (a .role) names.accept) (lentBeside (a .guided) (now (a .summary)) (a .n) (a .free) (now (a
+    .map)) (now (a .card)) (a .c) (a .entry)
+    (a .sheet)) in
+    let q = calledBy (turnedAway (a .role) names.accept) (lentWithin (a .held) (now (a .limits)) (a .guided) (now (a .summary))
+    (a .n) (a .free) (now (a .map))
     (now (a .card))
-    (a .c) (a .entry) (a .sheet) in
+    (a .c) (a .entry) (a .sheet)) in
     let opens = first-row (giving-within (a .held) (now (a .limits)) q₀ (a .k)) (call .ensures) in
     c .run-ruling .ensures
     ∙ ap (λ (o : Bool). rulingOf (runVerdict 17 o (free (q .map)) (q .n) (q .spare) (a .start) (a .k)) (a .start))
@@ -66,4 +74,4 @@ returns-2 c =
     (verdict-behind q (a .start) (a .k)) (giving-zero q (a .k) (sym opens ∙ c .before .before .if1 .left)) refl)
 
 pub accept-ruling-spec : {M : Type 1} → statement M
-accept-ruling-spec = tie.close (tie.spec giving-row-requires returns over-limit-requires run-ruling-requires returns-2)
+accept-ruling-spec = tie.close (tie.spec enter-giving-requires returns over-limit-requires run-ruling-requires returns-2)

@@ -23,7 +23,7 @@ returns c =
     let a = c .before .before .before .before .before .args in
     let q = lentBeside (a .guided) (now (a .summary)) (a .n) (a .free) (now (a .map)) (now (a .card)) (a .c) (a .entry)
     (a .sheet) in
-    sym (ap rowNumber (adding-shut q (a .m) 1 (guide-shut q (fails (test .ensures) (c .if1 .taken)))))
+    sym (ap rowNumber (adding-shut q (a .m) 1 (guide-shut q refl (fails (test .ensures) (c .if1 .taken)))))
 
 open-on-requires : tie.Need-open-on-requires
 open-on-requires c κs = search needs
@@ -46,7 +46,7 @@ returns-2 c =
     let q = lentBeside (a .guided) (now (a .summary)) (a .n) (a .free) (now (a .map)) (now (a .card)) (a .c) (a .entry)
     (a .sheet) in
     let opens =
-    guide-open q (call .result) (holds (test .ensures) (c .before .before .before .before .if1 .left)) (call .ensures) in
+    guide-open q (call .result) refl (holds (test .ensures) (c .before .before .before .before .if1 .left)) (call .ensures) in
     c .refused-row .ensures ∙ ap refusedRow (told .1)
     ∙ sym (ap rowNumber (adding-shut q (a .m) (told .0 .0) (refused-first q (call .result) (told .0 .0) opens (told .1))))
 
@@ -64,7 +64,7 @@ returns-3 c =
     let a = c .before .before .before .before .before .before .before .before .before .before .before .args in
     let q = lentBeside (a .guided) (now (a .summary)) (a .n) (a .free) (now (a .map)) (now (a .card)) (a .c) (a .entry)
     (a .sheet) in
-    let opens = guide-open q (call .result) (holds (test .ensures)
+    let opens = guide-open q (call .result) refl (holds (test .ensures)
     (c .before .before .before .before .before .before .if1 .left)) (call .ensures) in
     c .row-of .ensures
     ∙ sym (ap rowNumber (adding-other q (a .m) (stands .0 .0)
@@ -79,7 +79,7 @@ returns-4 c =
     let a = c .before .before .before .before .before .before .before .before .before .before .before .before .args in
     let q = lentBeside (a .guided) (now (a .summary)) (a .n) (a .free) (now (a .map)) (now (a .card)) (a .c) (a .entry)
     (a .sheet) in
-    let opens = guide-open q (call .result) (holds (test .ensures)
+    let opens = guide-open q (call .result) refl (holds (test .ensures)
     (c .before .before .before .before .before .before .before .if1 .left)) (call .ensures) in
     sym (ap rowNumber (adding-nothing q (a .m) (told .0 .0) (told .0 .1 .0)
     (stands-first q (call .result) (stands .0 .0) (Open (told .0 .0) (told .0 .1 .0)) opens (stands .1) (told .1))
@@ -94,7 +94,7 @@ returns-5 c =
     let a = c .before .before .before .before .before .before .before .before .before .before .before .before .args in
     let q = lentBeside (a .guided) (now (a .summary)) (a .n) (a .free) (now (a .map)) (now (a .card)) (a .c) (a .entry)
     (a .sheet) in
-    let opens = guide-open q (call .result) (holds (test .ensures)
+    let opens = guide-open q (call .result) refl (holds (test .ensures)
     (c .before .before .before .before .before .before .before .if1 .left)) (call .ensures) in
     sym (ap rowNumber (adding-passes q (a .m) (told .0 .0) (told .0 .1 .0)
     (stands-first q (call .result) (stands .0 .0) (Open (told .0 .0) (told .0 .1 .0)) opens (stands .1) (told .1))

@@ -23,7 +23,7 @@ returns c =
     let a = c .before .before .before .before .before .args in
     let q = lentBeside (a .guided) (now (a .summary)) (a .n) (a .free) (now (a .map)) (now (a .card)) (a .c) (a .entry)
     (a .sheet) in
-    sym (ap rowNumber (giving-shut q (a .k) 1 (guide-shut q (fails (test .ensures) (c .if1 .taken)))))
+    sym (ap rowNumber (giving-shut q (a .k) 1 (guide-shut q refl (fails (test .ensures) (c .if1 .taken)))))
 
 open-on-requires : tie.Need-open-on-requires
 open-on-requires c κs = search needs
@@ -46,7 +46,7 @@ returns-2 c =
     let q = lentBeside (a .guided) (now (a .summary)) (a .n) (a .free) (now (a .map)) (now (a .card)) (a .c) (a .entry)
     (a .sheet) in
     let opens =
-    guide-open q (call .result) (holds (test .ensures) (c .before .before .before .before .if1 .left)) (call .ensures) in
+    guide-open q (call .result) refl (holds (test .ensures) (c .before .before .before .before .if1 .left)) (call .ensures) in
     c .refused-row .ensures ∙ ap refusedRow (told .1)
     ∙ sym (ap rowNumber (giving-shut q (a .k) (told .0 .0) (refused-first q (call .result) (told .0 .0) opens (told .1))))
 
@@ -64,7 +64,7 @@ returns-3 c =
     let a = c .before .before .before .before .before .before .before .before .before .before .before .args in
     let q = lentBeside (a .guided) (now (a .summary)) (a .n) (a .free) (now (a .map)) (now (a .card)) (a .c) (a .entry)
     (a .sheet) in
-    let opens = guide-open q (call .result) (holds (test .ensures)
+    let opens = guide-open q (call .result) refl (holds (test .ensures)
     (c .before .before .before .before .before .before .if1 .left)) (call .ensures) in
     c .row-of .ensures
     ∙ sym (ap rowNumber (giving-other q (a .k) (stands .0 .0)
@@ -79,7 +79,7 @@ returns-4 c =
     let a = c .before .before .before .before .before .before .before .before .before .before .before .before .args in
     let q = lentBeside (a .guided) (now (a .summary)) (a .n) (a .free) (now (a .map)) (now (a .card)) (a .c) (a .entry)
     (a .sheet) in
-    let opens = guide-open q (call .result) (holds (test .ensures)
+    let opens = guide-open q (call .result) refl (holds (test .ensures)
     (c .before .before .before .before .before .before .before .if1 .left)) (call .ensures) in
     sym (ap rowNumber (giving-nothing q (a .k)
     (stands-first q (call .result) (stands .0 .0) Absent opens (stands .1) (told .1)) (c .if2 .taken)))
@@ -93,7 +93,7 @@ returns-5 c =
     let a = c .before .before .before .before .before .before .before .before .before .before .before .before .args in
     let q = lentBeside (a .guided) (now (a .summary)) (a .n) (a .free) (now (a .map)) (now (a .card)) (a .c) (a .entry)
     (a .sheet) in
-    let opens = guide-open q (call .result) (holds (test .ensures)
+    let opens = guide-open q (call .result) refl (holds (test .ensures)
     (c .before .before .before .before .before .before .before .if1 .left)) (call .ensures) in
     sym (ap rowNumber (giving-passes q (a .k)
     (stands-first q (call .result) (stands .0 .0) Absent opens (stands .1) (told .1)) (c .if2 .left)))

@@ -8,7 +8,8 @@ use Rattle.catalogue_standings.specs.Rows.{Verdict, accepted, refused, firstOf,
 use Rattle.catalogue_standings.proofs.Openings.{skip, stop, none-left}
 use Rattle.catalogue_standings.proofs.Rows.{other-row}
 use Rattle.refusals.specs.Effects.{givingVerdict, unsearchedVerdict}
-use Rattle.refusals.specs.Lent.{Lent, lentBeside, lentWithin}
+use Rattle.roles.specs.Roles.{turnedAway}
+use Rattle.refusals.specs.Lent.{calledBy, Lent, lentBeside, lentWithin}
 use Rattle.refusals.specs.Placement.{Placement, placed}
 use Rattle.refusals.proofs.Beginnings.{behind, giving-within, giving-zero, given}
 use Rattle.refusals.proofs.Reserve.{own, unsearched-behind}
@@ -32,18 +33,20 @@ module _ (q : Lent) (k : ℕ) (p : Placement) where
       unsearched-behind q k p ∙ ap (λ (w : Verdict). behind w (own q k p)) opens ∙ h in
       ap rowNumber (sym so)
 
-giving-row-requires : tie.Need-giving-row-requires
-giving-row-requires c κs = search needs
+enter-giving-requires : tie.Need-enter-giving-requires
+enter-giving-requires c κs = search needs
 
 returns : tie.Need-returns
 returns c =
-    let call = c .before .giving-row in
+    let call = c .before .enter-giving in
     let a = c .before .before .before .before .before .args in
-    let q₀ = lentBeside (a .guided) (now (a .summary)) (a .n) (a .free) (now (a .map)) (now (a .card)) (a .c) (a .entry)
-    (a .sheet) in
-    let q = lentWithin (a .held) (now (a .limits)) (a .guided) (now (a .summary)) (a .n) (a .free) (now (a .map))
+    let q₀ = calledBy (turnedAway (a .role) (a .call)) (lentBeside (a .guided) (now (a .summary)) (a .n) (a .free) (now (a
+    .map)) (now (a .card)) (a .c) (a .entry)
+    (a .sheet)) in
+    let q = calledBy (turnedAway (a .role) (a .call)) (lentWithin (a .held) (now (a .limits)) (a .guided) (now (a .summary)) (a
+    .n) (a .free) (now (a .map))
     (now (a .card))
-    (a .c) (a .entry) (a .sheet) in
+    (a .c) (a .entry) (a .sheet)) in
     by-giving q (a .k) (placed (a .figures)) (call .result)
     (first-row (giving-within (a .held) (now (a .limits)) q₀ (a .k)) (call .ensures)) (c .if1 .taken)
 
@@ -53,34 +56,39 @@ figures-wrong-requires c κs = search needs
 returns-2 : tie.Need-returns-2
 returns-2 c =
     let a = c .before .before .before .before .before .before .before .args in
-    let q₀ = lentBeside (a .guided) (now (a .summary)) (a .n) (a .free) (now (a .map)) (now (a .card)) (a .c) (a .entry)
-    (a .sheet) in
-    let q = lentWithin (a .held) (now (a .limits)) (a .guided) (now (a .summary)) (a .n) (a .free) (now (a .map))
+    let q₀ = calledBy (turnedAway (a .role) (a .call)) (lentBeside (a .guided) (now (a .summary)) (a .n) (a .free) (now (a
+    .map)) (now (a .card)) (a .c) (a .entry)
+    (a .sheet)) in
+    let q = calledBy (turnedAway (a .role) (a .call)) (lentWithin (a .held) (now (a .limits)) (a .guided) (now (a .summary)) (a
+    .n) (a .free) (now (a .map))
     (now (a .card))
-    (a .c) (a .entry) (a .sheet) in
+    (a .c) (a .entry) (a .sheet)) in
     let first =
-    first-row (giving-within (a .held) (now (a .limits)) q₀ (a .k)) (c .before .before .before .giving-row .ensures) in
+    first-row (giving-within (a .held) (now (a .limits)) q₀ (a .k)) (c .before .before .before .enter-giving .ensures) in
     by-own q (a .k) (placed (a .figures)) (giving-zero q (a .k) (sym first ∙ c .before .before .if1 .left)) (refused 15)
     (stop 15 _ _ (sym (c .before .figures-wrong .ensures) ∙ c .if2 .taken))
 
 over-limit-requires : tie.Need-over-limit-requires
 over-limit-requires c κs =
     let a = c .before .before .before .before .before .before .before .args in
-    let q₀ = lentBeside (a .guided) (now (a .summary)) (a .n) (a .free) (now (a .map)) (now (a .card)) (a .c) (a .entry)
-    (a .sheet) in
+    let q₀ = calledBy (turnedAway (a .role) (a .call)) (lentBeside (a .guided) (now (a .summary)) (a .n) (a .free) (now (a
+    .map)) (now (a .card)) (a .c) (a .entry)
+    (a .sheet)) in
     given q₀ (a .k)
-    (giving-zero q₀ (a .k) (sym (c .before .before .before .giving-row .ensures) ∙ c .before .before .if1 .left)) .below
+    (giving-zero q₀ (a .k) (sym (c .before .before .before .enter-giving .ensures) ∙ c .before .before .if1 .left)) .below
 
 returns-3 : tie.Need-returns-3
 returns-3 c =
     let a = c .before .before .before .before .before .before .before .before .before .args in
-    let q₀ = lentBeside (a .guided) (now (a .summary)) (a .n) (a .free) (now (a .map)) (now (a .card)) (a .c) (a .entry)
-    (a .sheet) in
-    let q = lentWithin (a .held) (now (a .limits)) (a .guided) (now (a .summary)) (a .n) (a .free) (now (a .map))
+    let q₀ = calledBy (turnedAway (a .role) (a .call)) (lentBeside (a .guided) (now (a .summary)) (a .n) (a .free) (now (a
+    .map)) (now (a .card)) (a .c) (a .entry)
+    (a .sheet)) in
+    let q = calledBy (turnedAway (a .role) (a .call)) (lentWithin (a .held) (now (a .limits)) (a .guided) (now (a .summary)) (a
+    .n) (a .free) (now (a .map))
     (now (a .card))
-    (a .c) (a .entry) (a .sheet) in
+    (a .c) (a .entry) (a .sheet)) in
     let first = first-row (giving-within (a .held) (now (a .limits)) q₀ (a .k))
-    (c .before .before .before .before .before .giving-row .ensures) in
+    (c .before .before .before .before .before .enter-giving .ensures) in
     let right = sym (c .before .before .before .figures-wrong .ensures) ∙ c .before .before .if2 .left in
     by-own q (a .k) (placed (a .figures)) (giving-zero q (a .k) (sym first ∙ c .before .before .before .before .if1 .left))
     (refused 18) (skip 15 _ _ _ right (stop 18 _ _ (sym (c .before .over-limit .ensures) ∙ c .if3 .taken)))
@@ -88,13 +96,15 @@ returns-3 c =
 returns-4 : tie.Need-returns-4
 returns-4 c =
     let a = c .before .before .before .before .before .before .before .before .before .args in
-    let q₀ = lentBeside (a .guided) (now (a .summary)) (a .n) (a .free) (now (a .map)) (now (a .card)) (a .c) (a .entry)
-    (a .sheet) in
-    let q = lentWithin (a .held) (now (a .limits)) (a .guided) (now (a .summary)) (a .n) (a .free) (now (a .map))
+    let q₀ = calledBy (turnedAway (a .role) (a .call)) (lentBeside (a .guided) (now (a .summary)) (a .n) (a .free) (now (a
+    .map)) (now (a .card)) (a .c) (a .entry)
+    (a .sheet)) in
+    let q = calledBy (turnedAway (a .role) (a .call)) (lentWithin (a .held) (now (a .limits)) (a .guided) (now (a .summary)) (a
+    .n) (a .free) (now (a .map))
     (now (a .card))
-    (a .c) (a .entry) (a .sheet) in
+    (a .c) (a .entry) (a .sheet)) in
     let first = first-row (giving-within (a .held) (now (a .limits)) q₀ (a .k))
-    (c .before .before .before .before .before .giving-row .ensures) in
+    (c .before .before .before .before .before .enter-giving .ensures) in
     let right = sym (c .before .before .before .figures-wrong .ensures) ∙ c .before .before .if2 .left in
     by-own q (a .k) (placed (a .figures)) (giving-zero q (a .k) (sym first ∙ c .before .before .before .before .if1 .left))
     accepted (skip 15 _ _ _ right (skip 18 _ _ _ (sym (c .before .over-limit .ensures) ∙ c .if3 .left) none-left))
@@ -103,7 +113,7 @@ pub reserve-row-spec : {M : Type 1} → statement M
 reserve-row-spec =
     tie.close
     (tie.spec
-    giving-row-requires
+    enter-giving-requires
     returns
     figures-wrong-requires
     returns-2

@@ -7,7 +7,8 @@ use borrow.Author.Needs.{needs}
 use denote.Ref.{now}
 use Rattle.catalogue_standings.specs.Rows.{Verdict, accepted, refused, firstOf}
 use Rattle.refusals.specs.Effects.{unsearchedVerdict}
-use Rattle.refusals.specs.Lent.{Lent, lentWithin}
+use Rattle.roles.specs.Roles.{turnedAway}
+use Rattle.refusals.specs.Lent.{calledBy, Lent, lentWithin}
 use Rattle.refusals.specs.Placement.{Placement, placed}
 use Rattle.refusals.proofs.Beginnings.{given}
 use Rattle.refusals.proofs.Placement.{figured}
@@ -33,9 +34,10 @@ returns : tie.Need-returns
 returns c =
     let call = c .before .reserve-row in
     let a = c .before .before .before .before .before .args in
-    let q = lentWithin (a .held) (now (a .limits)) (a .guided) (now (a .summary)) (a .n) (a .free) (now (a .map))
+    let q = calledBy (turnedAway (a .role) (a .call)) (lentWithin (a .held) (now (a .limits)) (a .guided) (now (a .summary)) (a
+    .n) (a .free) (now (a .map))
     (now (a .card))
-    (a .c) (a .entry) (a .sheet) in
+    (a .c) (a .entry) (a .sheet)) in
     let p = placed (a .figures) in
     by-first (reserveStartOn q (a .k) p) (unsearchedVerdict q (a .k) p) (firstOf (searching q (a .k) p))
     (reserveVerdictOn q (a .k) p) (call .result) (verdict-behind q (a .k) p) (call .ensures) (c .if1 .taken)
@@ -44,9 +46,10 @@ find-run-requires : tie.Need-find-run-requires
 find-run-requires c κs =
     let call = c .before .reserve-row in
     let a = c .before .before .before .before .before .args in
-    let q = lentWithin (a .held) (now (a .limits)) (a .guided) (now (a .summary)) (a .n) (a .free) (now (a .map))
+    let q = calledBy (turnedAway (a .role) (a .call)) (lentWithin (a .held) (now (a .limits)) (a .guided) (now (a .summary)) (a
+    .n) (a .free) (now (a .map))
     (now (a .card))
-    (a .c) (a .entry) (a .sheet) in
+    (a .c) (a .entry) (a .sheet)) in
     let w = passed q (a .k) (placed (a .figures))
     (unsearched-zero q (a .k) (placed (a .figures)) (sym (call .ensures) ∙ c .if1 .left)) in
     let opens = given q (a .k) (w .opens) in
@@ -68,9 +71,10 @@ enum-told c = search needs
 returns-2 : tie.Need-returns-2
 returns-2 c =
     let a = c .before .before .before .before .before .before .before .before .args in
-    let q = lentWithin (a .held) (now (a .limits)) (a .guided) (now (a .summary)) (a .n) (a .free) (now (a .map))
+    let q = calledBy (turnedAway (a .role) (a .call)) (lentWithin (a .held) (now (a .limits)) (a .guided) (now (a .summary)) (a
+    .n) (a .free) (now (a .map))
     (now (a .card))
-    (a .c) (a .entry) (a .sheet) in
+    (a .c) (a .entry) (a .sheet)) in
     let p = placed (a .figures) in
     let comes = unsearched-zero q (a .k) p
     (sym (c .before .before .before .before .reserve-row .ensures) ∙ c .before .before .before .if1 .left) in
@@ -80,9 +84,10 @@ returns-2 c =
 returns-3 : tie.Need-returns-3
 returns-3 c =
     let a = c .before .before .before .before .before .before .before .before .before .before .args in
-    let q = lentWithin (a .held) (now (a .limits)) (a .guided) (now (a .summary)) (a .n) (a .free) (now (a .map))
+    let q = calledBy (turnedAway (a .role) (a .call)) (lentWithin (a .held) (now (a .limits)) (a .guided) (now (a .summary)) (a
+    .n) (a .free) (now (a .map))
     (now (a .card))
-    (a .c) (a .entry) (a .sheet) in
+    (a .c) (a .entry) (a .sheet)) in
     let p = placed (a .figures) in
     let comes = unsearched-zero q (a .k) p
     (sym (c .before .before .before .before .before .before .reserve-row .ensures) ∙ c .before .before .before .before .before
@@ -94,9 +99,10 @@ returns-3 c =
 returns-4 : tie.Need-returns-4
 returns-4 c =
     let a = c .before .before .before .before .before .before .before .before .before .before .args in
-    let q = lentWithin (a .held) (now (a .limits)) (a .guided) (now (a .summary)) (a .n) (a .free) (now (a .map))
+    let q = calledBy (turnedAway (a .role) (a .call)) (lentWithin (a .held) (now (a .limits)) (a .guided) (now (a .summary)) (a
+    .n) (a .free) (now (a .map))
     (now (a .card))
-    (a .c) (a .entry) (a .sheet) in
+    (a .c) (a .entry) (a .sheet)) in
     let p = placed (a .figures) in
     let comes = unsearched-zero q (a .k) p
     (sym (c .before .before .before .before .before .before .reserve-row .ensures) ∙ c .before .before .before .before .before

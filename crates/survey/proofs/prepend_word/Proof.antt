@@ -11,15 +11,13 @@ use borrow.Author.Needs.{needs}
 use Rattle.survey.proofs.prepend_word.Statement.{statement}
 use Rattle.survey.proofs.prepend_word.Tie as tie
 
--- a word with no free block, where none is passed
+-- a word with no free block
 returns : tie.Need-returns
 returns c =
-    let a = c .before .before .before .args in (
+    let a = c .before .args in (
       λ ys s.
-          let none : Summary (a .passed .head) 0 (a .passed .runs) ys =
-          subst (λ (l : ℕ). Summary (a .passed .head) l (a .passed .runs) ys) (c .before .if1 .taken) s in
-          subst (λ (w : ℕ). Summary 0 0 (a .passed .runs) (bitsOf 64 w ++ ys)) (sym (c .if2 .taken))
-          (past-zero _ _ (a .passed .head) ys none),
+          subst (λ (w : ℕ). Summary 0 (a .passed .longest) (a .passed .runs) (bitsOf 64 w ++ ys)) (sym (c .if1 .taken))
+          (past-zero _ _ (a .passed .head) ys s),
       omega arith,
     )
 
@@ -28,8 +26,8 @@ bytes-short-requires c κs = search needs
 
 prepend-word-short-requires : tie.Need-prepend-word-short-requires
 prepend-word-short-requires c κs =
-    let start = c .before .before .before .before .before .before in
-    ((start .pre .0, c .before .bytes-short .ensures (c .if4 .taken)), (omega arith, omega arith, omega arith))
+    let start = c .before .before .before .before .before in
+    ((start .pre .0, c .before .bytes-short .ensures (c .if3 .taken)), (omega arith, omega arith, omega arith))
 
 returns-2 : tie.Need-returns-2
 returns-2 c = search needs
@@ -39,8 +37,8 @@ bytes-apart-requires c κs = search needs
 
 prepend-word-apart-requires : tie.Need-prepend-word-apart-requires
 prepend-word-apart-requires c κs =
-    let start = c .before .before .before .before .before .before in
-    ((start .pre .0, c .before .bytes-apart .ensures (c .if5 .taken)), start .pre .1)
+    let start = c .before .before .before .before .before in
+    ((start .pre .0, c .before .bytes-apart .ensures (c .if4 .taken)), start .pre .1)
 
 returns-3 : tie.Need-returns-3
 returns-3 c = search needs

@@ -17,7 +17,9 @@ use Rattle.call_put.specs.declared.places.Filling.the-variants.{Filled, 
 use Rattle.catalogue_standings.specs.declared.Opened.the-variants.{Stands}
 use Rattle.catalogue_standings.specs.declared.Standing.the-variants.{Open}
 use Rattle.call_put.proofs.Fillings.{was-broken, was-blank, was-filled}
-use Rattle.refusals.specs.Lent.{Lent, lent}
+use Rattle.roles.specs.Roles as names
+use Rattle.roles.specs.Roles.{turnedAway}
+use Rattle.refusals.specs.Lent.{calledBy, Lent, lent}
 use Rattle.refusals.proofs.Lent.{allFits, standing, first, limits, extent, refused-first, stands-first}
 use Rattle.catalogue_standings.proofs.Openings.{opened, skip, stop, none-left}
 use Rattle.call_put.proofs.complete.complete.Statement.{statement}
@@ -47,8 +49,8 @@ module _ (q : Lent) (start blocks : ℕ) (opens : first q ≡ Stands (Open start
         ∙ ap (λ (l : ℕ). outOf (q .spare) (entryOf completeMark (q .entry .start) l) answer.Done) (sym (x .lasts))
         ∙ out q accepted (admitted q start blocks opens ∙ skip 4 _ _ _ (ap not (w .0)) (skip 9 _ _ _ (ap not (w .1)) none-left))
 
-open-on-requires : tie.Need-open-on-requires
-open-on-requires c κs = search needs
+enter-on-requires : tie.Need-enter-on-requires
+enter-on-requires c κs = search needs
 
 enum-known-opened : tie.Need-enum-known-opened
 enum-known-opened c = search needs
@@ -65,13 +67,14 @@ refusal-requires c κs = search needs
 returns : tie.Need-returns
 returns c =
     let a = c .before .before .before .before .before .before .before .args in
-    let q = lent (a .n) (a .free) (now (a .map)) (now (a .card)) (a .c) (a .entry) (a .sheet) in
+    let q = calledBy (turnedAway (a .role) names.complete) (lent (a .n) (a .free) (now (a .map)) (now (a .card)) (a .c) (a
+    .entry) (a .sheet)) in
     let told = c .before .before .enum-told .given in
-    let shuts = refused-first q (c .before .before .before .before .open-on .result) (told .0 .0)
-    (c .before .before .before .before .open-on .ensures) (told .1) in
+    let shuts = refused-first q (c .before .before .before .before .enter-on .result) (told .0 .0)
+    (c .before .before .before .before .enter-on .ensures) (told .1) in
     by-row q (told .0 .0) (c .refusal .result) (c .refusal .ensures
     ∙ ap (refusalOut (a .free) (a .entry)) (c .before .refused-row .ensures ∙ ap refusedRow (told .1)))
-    (shut q (told .0 .0) shuts) (opening-row (allFits q) (q .sheets) (q .sheet) (standing q) (told .0 .0) shuts)
+    (shut q (told .0 .0) shuts) (opening-row (q .turned) (allFits q) (q .sheets) (q .sheet) (standing q) (told .0 .0) shuts)
 
 enum-known-stands : tie.Need-enum-known-stands
 enum-known-stands c = search needs
@@ -86,10 +89,11 @@ returns-2 : tie.Need-returns-2
 returns-2 c =
     let here = c .before .before .before .before in
     let a = here .before .before .before .before .before .args in
-    let q = lent (a .n) (a .free) (now (a .map)) (now (a .card)) (a .c) (a .entry) (a .sheet) in
+    let q = calledBy (turnedAway (a .role) names.complete) (lent (a .n) (a .free) (now (a .map)) (now (a .card)) (a .c) (a
+    .entry) (a .sheet)) in
     let s = here .opened .given .0 .0 in
-    let stands = stands-first q (here .before .before .open-on .result) (here .opened .given .0 .0) s
-    (here .before .before .open-on .ensures) (here .opened .given .1) refl in
+    let stands = stands-first q (here .before .before .enter-on .result) (here .opened .given .0 .0) s
+    (here .before .before .enter-on .ensures) (here .opened .given .1) refl in
     by-row q (rowOf s) (c .refusal2 .result) (c .refusal2 .ensures
     ∙ ap (refusalOut (a .free) (a .entry)) (c .before .row-of .ensures))
     (other q s stands (c .before .before .match2 .keys2)) (standing-row s)
@@ -99,11 +103,12 @@ look-requires c κs =
     let place = c .before in
     let here = place .before .before .before in
     let a = here .before .before .before .before .before .args in
-    let q = lent (a .n) (a .free) (now (a .map)) (now (a .card)) (a .c) (a .entry) (a .sheet) in
+    let q = calledBy (turnedAway (a .role) names.complete) (lent (a .n) (a .free) (now (a .map)) (now (a .card)) (a .c) (a
+    .entry) (a .sheet)) in
     let start = place .stands .given .0 .0 in
     let blocks = place .stands .given .0 .1 .0 in
-    let opens = stands-first q (here .before .before .open-on .result) (here .opened .given .0 .0) (Open start blocks)
-    (here .before .before .open-on .ensures) (here .opened .given .1) (place .stands .given .1) in
+    let opens = stands-first q (here .before .before .enter-on .result) (here .opened .given .0 .0) (Open start blocks)
+    (here .before .before .enter-on .ensures) (here .opened .given .1) (place .stands .given .1) in
     let x = extent q start blocks opens in
     let l = limits q (Open start blocks) opens in
     (omega (arith, x .inside, l .shape .limit), omega (arith, x .inside, l .bytes))
@@ -126,11 +131,12 @@ returns-3 c =
     let place = c .before .before .before .before .before in
     let here = place .before .before .before in
     let a = here .before .before .before .before .before .args in
-    let q = lent (a .n) (a .free) (now (a .map)) (now (a .card)) (a .c) (a .entry) (a .sheet) in
+    let q = calledBy (turnedAway (a .role) names.complete) (lent (a .n) (a .free) (now (a .map)) (now (a .card)) (a .c) (a
+    .entry) (a .sheet)) in
     let start = place .stands .given .0 .0 in
     let blocks = place .stands .given .0 .1 .0 in
-    let opens = stands-first q (here .before .before .open-on .result) (here .opened .given .0 .0) (Open start blocks)
-    (here .before .before .open-on .ensures) (here .opened .given .1) (place .stands .given .1) in
+    let opens = stands-first q (here .before .before .enter-on .result) (here .opened .given .0 .0) (Open start blocks)
+    (here .before .before .enter-on .ensures) (here .opened .given .1) (place .stands .given .1) in
     by-row q 4 (c .refusal3 .result) (c .refusal3 .ensures)
     (some-broken q start blocks opens (seen .result) (seen .ensures) (c .before .enum-told2 .given .1)) refl
 
@@ -140,11 +146,12 @@ returns-4 c =
     let place = c .before .before .before .before .before in
     let here = place .before .before .before in
     let a = here .before .before .before .before .before .args in
-    let q = lent (a .n) (a .free) (now (a .map)) (now (a .card)) (a .c) (a .entry) (a .sheet) in
+    let q = calledBy (turnedAway (a .role) names.complete) (lent (a .n) (a .free) (now (a .map)) (now (a .card)) (a .c) (a
+    .entry) (a .sheet)) in
     let start = place .stands .given .0 .0 in
     let blocks = place .stands .given .0 .1 .0 in
-    let opens = stands-first q (here .before .before .open-on .result) (here .opened .given .0 .0) (Open start blocks)
-    (here .before .before .open-on .ensures) (here .opened .given .1) (place .stands .given .1) in
+    let opens = stands-first q (here .before .before .enter-on .result) (here .opened .given .0 .0) (Open start blocks)
+    (here .before .before .enter-on .ensures) (here .opened .given .1) (place .stands .given .1) in
     some-blank q start blocks opens (seen .result) (seen .ensures) (c .before .place .given .0 .0) (c .before .place .given .1)
 
 returns-5 : tie.Need-returns-5
@@ -153,18 +160,19 @@ returns-5 c =
     let place = c .before .before .before .before in
     let here = place .before .before .before in
     let a = here .before .before .before .before .before .args in
-    let q = lent (a .n) (a .free) (now (a .map)) (now (a .card)) (a .c) (a .entry) (a .sheet) in
+    let q = calledBy (turnedAway (a .role) names.complete) (lent (a .n) (a .free) (now (a .map)) (now (a .card)) (a .c) (a
+    .entry) (a .sheet)) in
     let start = place .stands .given .0 .0 in
     let blocks = place .stands .given .0 .1 .0 in
-    let opens = stands-first q (here .before .before .open-on .result) (here .opened .given .0 .0) (Open start blocks)
-    (here .before .before .open-on .ensures) (here .opened .given .1) (place .stands .given .1) in
+    let opens = stands-first q (here .before .before .enter-on .result) (here .opened .given .0 .0) (Open start blocks)
+    (here .before .before .enter-on .ensures) (here .opened .given .1) (place .stands .given .1) in
     all-filled q start blocks opens (seen .result) (seen .ensures) (c .enum-told3 .given .1)
 
 pub complete-spec : {M : Type 1} → statement M
 complete-spec =
     tie.close
     (tie.spec
-    open-on-requires
+    enter-on-requires
     enum-known-opened
     enum-told
     refused-row-requires

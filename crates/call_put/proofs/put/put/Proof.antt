@@ -12,11 +12,13 @@ use Rattle.catalogue_standings.specs.declared.Opened.the-variants as opening
 use Rattle.catalogue_standings.proofs.Openings.{opened}
 use Rattle.call_put.proofs.put.put.Statement.{statement}
 use Rattle.call_put.proofs.put.put.Tie as tie
-use Rattle.refusals.specs.Lent.{lent}
+use Rattle.roles.specs.Roles as names
+use Rattle.roles.specs.Roles.{turnedAway}
+use Rattle.refusals.specs.Lent.{calledBy, lent}
 use Rattle.refusals.proofs.Put.{out, stands, shut, other, past-end, misfit, done, number-fits, in-card}
 
-open-on-requires : tie.Need-open-on-requires
-open-on-requires c κs = search needs
+enter-on-requires : tie.Need-enter-on-requires
+enter-on-requires c κs = search needs
 
 enum-known-opened : tie.Need-enum-known-opened
 enum-known-opened c = search needs
@@ -31,7 +33,7 @@ returns : tie.Need-returns
 returns c =
     let here = c .before in
     let told = here .enum-told .given in
-    out _ _ _ (refused (told .0 .0)) (shut _ _ _ (told .0 .0) (here .before .before .open-on .ensures) (told .1)) _ _
+    out _ _ _ (refused (told .0 .0)) (shut _ _ _ (told .0 .0) (here .before .before .enter-on .ensures) (told .1)) _ _
     (ap Refused (c .refused-row .ensures ∙ ap refusedRow (told .1)))
     refl
 
@@ -46,7 +48,8 @@ returns-2 c =
     let here = c .before .before .before in
     let sheet-stands = here .opened .given in
     out _ _ _ (refused (rowOf (sheet-stands .0 .0)))
-    (other _ _ _ (sheet-stands .0 .0) (here .before .before .open-on .ensures) (sheet-stands .1) (c .before .match2 .keys2)) _ _
+    (other _ _ _ (sheet-stands .0 .0) (here .before .before .enter-on .ensures) (sheet-stands .1) (c .before .match2 .keys2)) _
+    _
     (ap Refused (c .row-of .ensures)) refl
 
 returns-3 : tie.Need-returns-3
@@ -55,7 +58,7 @@ returns-3 c =
     let here = c .before .before .before .before .before in
     out _ _ _ (refused 3)
     (past-end _ _ _ (at .0 .0) (at .0 .1 .0)
-    (here .before .before .open-on .ensures) (here .opened .given .1 ∙ ap opening.Stands (at .1)) (c .if1 .taken)) _ _
+    (here .before .before .enter-on .ensures) (here .opened .given .1 ∙ ap opening.Stands (at .1)) (c .if1 .taken)) _ _
     refl refl
 
 returns-4 : tie.Need-returns-4
@@ -64,7 +67,7 @@ returns-4 c =
     let here = c .before .before .before .before .before .before in
     out _ _ _ (refused 3)
     (misfit _ _ _ (at .0 .0) (at .0 .1 .0)
-    (here .before .before .open-on .ensures) (here .opened .given .1 ∙ ap opening.Stands (at .1)) (c .before .if1 .left)
+    (here .before .before .enter-on .ensures) (here .opened .given .1 ∙ ap opening.Stands (at .1)) (c .before .if1 .left)
     (c .if2 .taken)) _ _
     refl refl
 
@@ -74,9 +77,10 @@ add-write-block c =
     let here = c .before .before .before .before .before .before .before in
     let a = here .before .before .before .before .before .before .args in
     let fits =
-    number-fits (lent (a .n) (a .free) (now (a .map)) (now (a .card)) (a .c) (a .entry) (a .sheet)) (a .place)
+    number-fits (calledBy (turnedAway (a .role) names.put) (lent (a .n) (a .free) (now (a .map)) (now (a .card)) (a .c) (a
+    .entry) (a .sheet))) (a .place)
     (now (a .payload)) (at .0 .0) (at .0 .1 .0)
-    (here .before .before .open-on .ensures) (here .opened .given .1 ∙ ap opening.Stands (at .1))
+    (here .before .before .enter-on .ensures) (here .opened .given .1 ∙ ap opening.Stands (at .1))
     (c .before .before .if1 .left) in
     omega (arith, fits)
 
@@ -86,9 +90,10 @@ write-block-requires c κs =
     let here = c .before .before .before .before .before .before .before in
     let a = here .before .before .before .before .before .before .args in
     let inside =
-    in-card (lent (a .n) (a .free) (now (a .map)) (now (a .card)) (a .c) (a .entry) (a .sheet)) (a .place) (now (a .payload))
+    in-card (calledBy (turnedAway (a .role) names.put) (lent (a .n) (a .free) (now (a .map)) (now (a .card)) (a .c) (a .entry)
+    (a .sheet))) (a .place) (now (a .payload))
     (at .0 .0) (at .0 .1 .0)
-    (here .before .before .open-on .ensures) (here .opened .given .1 ∙ ap opening.Stands (at .1))
+    (here .before .before .enter-on .ensures) (here .opened .given .1 ∙ ap opening.Stands (at .1))
     (c .before .before .if1 .left) in
     (omega (arith, inside), c .before .if2 .left)
 
@@ -101,7 +106,7 @@ returns-5 c =
     let at = if2 .before .before .before .stands .given in
     let here = if2 .before .before .before .before .before .before in
     done _ _ _ (at .0 .0) (at .0 .1 .0)
-    (here .before .before .open-on .ensures) (here .opened .given .1 ∙ ap opening.Stands (at .1)) (if2 .before .if1 .left)
+    (here .before .before .enter-on .ensures) (here .opened .given .1 ∙ ap opening.Stands (at .1)) (if2 .before .if1 .left)
     (if2 .if2 .left) _
     (c .before .before .write-block .ensures)
 
@@ -109,7 +114,7 @@ pub put-spec : {M : Type 1} → statement M
 put-spec =
     tie.close
     (tie.spec
-    open-on-requires
+    enter-on-requires
     enum-known-opened
     enum-told
     refused-row-requires

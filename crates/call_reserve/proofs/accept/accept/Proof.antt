@@ -4,7 +4,9 @@
 use native.Mathlib.Omega.{arith}
 use borrow.Author.Needs.{needs}
 use denote.Ref.{now}
-use Rattle.refusals.specs.Lent.{lentWithin}
+use Rattle.refusals.specs.Lent.{lentWithin, calledBy}
+use Rattle.roles.specs.Roles as names
+use Rattle.roles.specs.Roles.{turnedAway}
 use Rattle.refusals.proofs.Accept.{taken, acceptVerdictOn, accept-room}
 use Rattle.refusals.proofs.Taken.{unchanged, changed}
 use Rattle.refusals_rulings.proofs.Rulings.{accepts, refuses}
@@ -28,9 +30,10 @@ take-requires c κs =
     let place = c .before .before .before .before .at .given in
     let call = c .before .before .before .before .before .before .accept-ruling in
     let a = c .before .before .before .before .before .before .before .before .before .before .before .before .before .args in
-    let q = lentWithin (a .held) (now (a .limits)) (a .guided) (now (a .summary)) (a .n) (a .free) (now (a .map))
+    let q = calledBy (turnedAway (a .role) names.accept) (lentWithin (a .held) (now (a .limits)) (a .guided) (now (a .summary))
+    (a .n) (a .free) (now (a .map))
     (now (a .card))
-    (a .c) (a .entry) (a .sheet) in
+    (a .c) (a .entry) (a .sheet)) in
     let ruled = accepts (a .start) (call .result) (acceptVerdictOn q (a .start) (a .k)) (place .0 .0) (call .ensures)
     (place .1) in
     let room = accept-room q (a .start) (a .k) (ruled .0) in (
@@ -57,9 +60,10 @@ returns c =
     let place = c .before .before .row .given in
     let call = c .before .before .before .before .accept-ruling in
     let a = c .before .before .before .before .before .before .before .before .before .before .before .args in
-    let q = lentWithin (a .held) (now (a .limits)) (a .guided) (now (a .summary)) (a .n) (a .free) (now (a .map))
+    let q = calledBy (turnedAway (a .role) names.accept) (lentWithin (a .held) (now (a .limits)) (a .guided) (now (a .summary))
+    (a .n) (a .free) (now (a .map))
     (now (a .card))
-    (a .c) (a .entry) (a .sheet) in
+    (a .c) (a .entry) (a .sheet)) in
     taken q (a .start) (a .k) _ _ _ _
     (unchanged q (acceptVerdictOn q (a .start) (a .k)) (a .start) (a .k) (place .0 .0) (c .refusal .result)
     (refuses (a .start) (call .result) (acceptVerdictOn q (a .start) (a .k)) (place .0 .0) (call .ensures)
@@ -81,9 +85,10 @@ returns-2 c =
     .accept-ruling in
     let a = c .before .before .before .before .before .before .before .before .before .before .before .before .before .before
     .before .before .before .before .before .before .args in
-    let q = lentWithin (a .held) (now (a .limits)) (a .guided) (now (a .summary)) (a .n) (a .free) (now (a .map))
+    let q = calledBy (turnedAway (a .role) names.accept) (lentWithin (a .held) (now (a .limits)) (a .guided) (now (a .summary))
+    (a .n) (a .free) (now (a .map))
     (now (a .card))
-    (a .c) (a .entry) (a .sheet) in
+    (a .c) (a .entry) (a .sheet)) in
     let ruled = accepts (a .start) (call .result) (acceptVerdictOn q (a .start) (a .k)) (place .0 .0) (call .ensures)
     (place .1) in
     let done = c .before .before .before .before .before .before .take in

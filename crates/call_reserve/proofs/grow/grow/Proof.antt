@@ -4,7 +4,9 @@
 use native.Mathlib.Omega.{arith}
 use borrow.Author.Needs.{needs}
 use denote.Ref.{now}
-use Rattle.refusals.specs.Lent.{lentWithin}
+use Rattle.refusals.specs.Lent.{lentWithin, calledBy}
+use Rattle.roles.specs.Roles as names
+use Rattle.roles.specs.Roles.{turnedAway}
 use Rattle.refusals.proofs.Grow.{end, unchanged, changed}
 use Rattle.refusals.proofs.Room.{growVerdictOn, grow-room}
 use Rattle.refusals_rulings.proofs.Rulings.{accepts, refuses}
@@ -28,9 +30,10 @@ occupy-requires c κs =
     let place = c .before .before .before .before .end .given in
     let call = c .before .before .before .before .before .before .grow-ruling in
     let a = c .before .before .before .before .before .before .before .before .before .before .before .before .before .args in
-    let q = lentWithin (a .held) (now (a .limits)) (a .guided) (now (a .summary)) (a .n) (a .free) (now (a .map))
+    let q = calledBy (turnedAway (a .role) names.grow) (lentWithin (a .held) (now (a .limits)) (a .guided) (now (a .summary))
+    (a .n) (a .free) (now (a .map))
     (now (a .card))
-    (a .c) (a .entry) (a .sheet) in
+    (a .c) (a .entry) (a .sheet)) in
     let ruled = accepts (end q (a .m)) (call .result) (growVerdictOn q (a .m)) (place .0 .0) (call .ensures) (place .1) in
     let room = grow-room q (a .m) (ruled .0) in (
       omega (arith, room .inside, ruled .1),
@@ -41,29 +44,31 @@ occupy-requires c κs =
       omega (arith, room .sizes .bytes),
     )
 
-sub-t30 : tie.Need-sub-t30
-sub-t30 c =
+sub-t31 : tie.Need-sub-t31
+sub-t31 c =
     let place = c .before .before .before .before .before .before .before .before .before .before .before .end .given in
     let call = c .before .before .before .before .before .before .before .before .before .before .before .before .before
     .grow-ruling in
     let a = c .before .before .before .before .before .before .before .before .before .before .before .before .before .before
     .before .before .before .before .before .before .args in
-    let q = lentWithin (a .held) (now (a .limits)) (a .guided) (now (a .summary)) (a .n) (a .free) (now (a .map))
+    let q = calledBy (turnedAway (a .role) names.grow) (lentWithin (a .held) (now (a .limits)) (a .guided) (now (a .summary))
+    (a .n) (a .free) (now (a .map))
     (now (a .card))
-    (a .c) (a .entry) (a .sheet) in
+    (a .c) (a .entry) (a .sheet)) in
     let ruled = accepts (end q (a .m)) (call .result) (growVerdictOn q (a .m)) (place .0 .0) (call .ensures) (place .1) in
     omega (arith, grow-room q (a .m) (ruled .0) .enough)
 
-add-t31 : tie.Need-add-t31
-add-t31 c =
+add-t32 : tie.Need-add-t32
+add-t32 c =
     let place = c .before .before .before .before .before .before .before .before .before .before .before .before .end .given in
     let call = c .before .before .before .before .before .before .before .before .before .before .before .before .before
     .before .grow-ruling in
     let a = c .before .before .before .before .before .before .before .before .before .before .before .before .before .before
     .before .before .before .before .before .before .before .args in
-    let q = lentWithin (a .held) (now (a .limits)) (a .guided) (now (a .summary)) (a .n) (a .free) (now (a .map))
+    let q = calledBy (turnedAway (a .role) names.grow) (lentWithin (a .held) (now (a .limits)) (a .guided) (now (a .summary))
+    (a .n) (a .free) (now (a .map))
     (now (a .card))
-    (a .c) (a .entry) (a .sheet) in
+    (a .c) (a .entry) (a .sheet)) in
     let ruled = accepts (end q (a .m)) (call .result) (growVerdictOn q (a .m)) (place .0 .0) (call .ensures) (place .1) in
     let room = grow-room q (a .m) (ruled .0) in
     omega (arith, room .inside, room .sizes .shape .limit)
@@ -82,9 +87,10 @@ returns c =
     let place = c .before .before .row .given in
     let call = c .before .before .before .before .grow-ruling in
     let a = c .before .before .before .before .before .before .before .before .before .before .before .args in
-    let q = lentWithin (a .held) (now (a .limits)) (a .guided) (now (a .summary)) (a .n) (a .free) (now (a .map))
+    let q = calledBy (turnedAway (a .role) names.grow) (lentWithin (a .held) (now (a .limits)) (a .guided) (now (a .summary))
+    (a .n) (a .free) (now (a .map))
     (now (a .card))
-    (a .c) (a .entry) (a .sheet) in
+    (a .c) (a .entry) (a .sheet)) in
     unchanged q (a .m) (place .0 .0) (c .refusal .result)
     (refuses (end q (a .m)) (call .result) (growVerdictOn q (a .m)) (place .0 .0) (call .ensures) (place .1))
     (c .refusal .ensures)
@@ -105,9 +111,10 @@ returns-2 c =
     .before .grow-ruling in
     let a = c .before .before .before .before .before .before .before .before .before .before .before .before .before .before
     .before .before .before .before .before .before .before .args in
-    let q = lentWithin (a .held) (now (a .limits)) (a .guided) (now (a .summary)) (a .n) (a .free) (now (a .map))
+    let q = calledBy (turnedAway (a .role) names.grow) (lentWithin (a .held) (now (a .limits)) (a .guided) (now (a .summary))
+    (a .n) (a .free) (now (a .map))
     (now (a .card))
-    (a .c) (a .entry) (a .sheet) in
+    (a .c) (a .entry) (a .sheet)) in
     let ruled = accepts (end q (a .m)) (call .result) (growVerdictOn q (a .m)) (place .0 .0) (call .ensures) (place .1) in
     let done = c .before .before .before .before .before .before .before .occupy .ensures in
     changed q (a .m) (place .0 .0) _ _ _ (ruled .0) (ruled .1) (done .0) (done .1) (done .2)
@@ -121,8 +128,8 @@ grow-spec =
     refusal-requires
     enum-known-end
     occupy-requires
-    sub-t30
-    add-t31
+    sub-t31
+    add-t32
     same-length
     same-length-2
     same-length-3

@@ -5,7 +5,9 @@ use mathlib.Core.Bool.{false}
 use mathlib.Core.List.{[]}
 use borrow.Author.Needs.{needs}
 use denote.Ref.{now}
-use Rattle.refusals.specs.Lent.{lentWithin}
+use Rattle.refusals.specs.Lent.{lentWithin, calledBy}
+use Rattle.roles.specs.Roles as names
+use Rattle.roles.specs.Roles.{turnedAway}
 use Rattle.refusals.specs.Placement.{placed, figures}
 use Rattle.refusals.proofs.Offer.{answers}
 use Rattle.refusals.proofs.Room.{reserveVerdictOn, reserveStartOn}
@@ -31,8 +33,9 @@ returns c =
     let place = c .before .row in
     let call = c .before .before .before .reserve-ruling in
     let a = c .before .before .before .before .before .before .before .args in
-    let q = lentWithin (a .held) (now (a .limits)) false [] (a .n) (a .free) (now (a .map)) (now (a .card)) (a .c) (a .entry)
-    (a .sheet) in
+    let q = calledBy (turnedAway (a .role) names.offer) (lentWithin (a .held) (now (a .limits)) false [] (a .n) (a .free) (now
+    (a .map)) (now (a .card)) (a .c) (a .entry)
+    (a .sheet)) in
     let p = placed (figures 0 (a .n) 1) in
     let number = place .given .0 .0 in
     answers q (a .k) (refused number) _
@@ -44,8 +47,9 @@ returns-2 c =
     let place = c .before .start in
     let call = c .before .before .before .reserve-ruling in
     let a = c .before .before .before .before .before .before .before .args in
-    let q = lentWithin (a .held) (now (a .limits)) false [] (a .n) (a .free) (now (a .map)) (now (a .card)) (a .c) (a .entry)
-    (a .sheet) in
+    let q = calledBy (turnedAway (a .role) names.offer) (lentWithin (a .held) (now (a .limits)) false [] (a .n) (a .free) (now
+    (a .map)) (now (a .card)) (a .c) (a .entry)
+    (a .sheet)) in
     let p = placed (figures 0 (a .n) 1) in
     let ruled = accepts (reserveStartOn q (a .k) p) (call .result) (reserveVerdictOn q (a .k) p) (place .given .0 .0)
     (call .ensures) (place .given .1) in

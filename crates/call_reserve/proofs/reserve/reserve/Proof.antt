@@ -4,7 +4,9 @@
 use native.Mathlib.Omega.{arith}
 use borrow.Author.Needs.{needs}
 use denote.Ref.{now}
-use Rattle.refusals.specs.Lent.{lentWithin}
+use Rattle.refusals.specs.Lent.{lentWithin, calledBy}
+use Rattle.roles.specs.Roles as names
+use Rattle.roles.specs.Roles.{turnedAway}
 use Rattle.refusals.specs.Placement.{placed}
 use Rattle.refusals.proofs.Reserve.{taken}
 use Rattle.refusals.proofs.Room.{reserveVerdictOn, reserveStartOn, reserve-room}
@@ -30,9 +32,10 @@ take-requires c κs =
     let place = c .before .before .before .before .start .given in
     let call = c .before .before .before .before .before .before .reserve-ruling in
     let a = c .before .before .before .before .before .before .before .before .before .before .before .before .before .args in
-    let q = lentWithin (a .held) (now (a .limits)) (a .guided) (now (a .summary)) (a .n) (a .free) (now (a .map))
+    let q = calledBy (turnedAway (a .role) names.reserve) (lentWithin (a .held) (now (a .limits)) (a .guided) (now (a
+    .summary)) (a .n) (a .free) (now (a .map))
     (now (a .card))
-    (a .c) (a .entry) (a .sheet) in
+    (a .c) (a .entry) (a .sheet)) in
     let p = placed (a .figures) in
     let ruled = accepts (reserveStartOn q (a .k) p) (call .result) (reserveVerdictOn q (a .k) p) (place .0 .0) (call .ensures)
     (place .1) in
@@ -60,9 +63,10 @@ returns c =
     let place = c .before .before .row .given in
     let call = c .before .before .before .before .reserve-ruling in
     let a = c .before .before .before .before .before .before .before .before .before .before .before .args in
-    let q = lentWithin (a .held) (now (a .limits)) (a .guided) (now (a .summary)) (a .n) (a .free) (now (a .map))
+    let q = calledBy (turnedAway (a .role) names.reserve) (lentWithin (a .held) (now (a .limits)) (a .guided) (now (a
+    .summary)) (a .n) (a .free) (now (a .map))
     (now (a .card))
-    (a .c) (a .entry) (a .sheet) in
+    (a .c) (a .entry) (a .sheet)) in
     let p = placed (a .figures) in
     taken q (a .k) p _ _ _ _
     (unchanged q (reserveVerdictOn q (a .k) p) (reserveStartOn q (a .k) p) (a .k) (place .0 .0) (c .refusal .result)
@@ -85,9 +89,10 @@ returns-2 c =
     .reserve-ruling in
     let a = c .before .before .before .before .before .before .before .before .before .before .before .before .before .before
     .before .before .before .before .before .before .args in
-    let q = lentWithin (a .held) (now (a .limits)) (a .guided) (now (a .summary)) (a .n) (a .free) (now (a .map))
+    let q = calledBy (turnedAway (a .role) names.reserve) (lentWithin (a .held) (now (a .limits)) (a .guided) (now (a
+    .summary)) (a .n) (a .free) (now (a .map))
     (now (a .card))
-    (a .c) (a .entry) (a .sheet) in
+    (a .c) (a .entry) (a .sheet)) in
     let p = placed (a .figures) in
     let ruled = accepts (reserveStartOn q (a .k) p) (call .result) (reserveVerdictOn q (a .k) p) (place .0 .0) (call .ensures)
     (place .1) in

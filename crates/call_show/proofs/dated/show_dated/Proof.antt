@@ -2,7 +2,9 @@
 -- Assumes nothing.
 use native.Mathlib.Omega.{arith}
 use denote.Ref.{now}
-use Rattle.refusals.specs.Lent.{lent}
+use Rattle.roles.specs.Roles as names
+use Rattle.roles.specs.Roles.{turnedAway}
+use Rattle.refusals.specs.Lent.{calledBy, lent}
 use Rattle.calendar.specs.Calendar.{dateOf}
 use Rattle.refusals.proofs.ShowDated.{by-first, by-term, by-block, term-zero}
 use Rattle.refusals.proofs.Showing.{showing-zero, number-fits, in-card, first-in-card, sized-buffer}
@@ -19,7 +21,8 @@ same-length c = search needs
 returns : tie.Need-returns
 returns c =
     let a = c .before .before .before .before .before .before .args in
-    let q = lent (a .n) (a .free) (now (a .map)) (now (a .card)) (a .c) (a .entry) (a .sheet) in
+    let q = calledBy (turnedAway (a .role) names.showDated) (lent (a .n) (a .free) (now (a .map)) (now (a .card)) (a .c) (a
+    .entry) (a .sheet)) in
     by-first q (a .place) (dateOf (a .year) (a .month) (a .day)) (now (a .buffer)) _ (c .before .showing-row .ensures)
     (c .if1 .taken)
 
@@ -27,7 +30,8 @@ term-row-requires : tie.Need-term-row-requires
 term-row-requires c κs =
     let row = c in
     let a = row .before .before .before .before .before .before .args in
-    let q = lent (a .n) (a .free) (now (a .map)) (now (a .card)) (a .c) (a .entry) (a .sheet) in
+    let q = calledBy (turnedAway (a .role) names.showDated) (lent (a .n) (a .free) (now (a .map)) (now (a .card)) (a .c) (a
+    .entry) (a .sheet)) in
     let opens = showing-zero q (a .place) (now (a .buffer)) _ (row .before .showing-row .ensures) (row .if1 .left) in
     first-in-card q (a .place) (now (a .buffer)) opens
 
@@ -39,7 +43,8 @@ returns-2 c =
     let date = c in
     let row = date .before .before in
     let a = row .before .before .before .before .before .before .args in
-    let q = lent (a .n) (a .free) (now (a .map)) (now (a .card)) (a .c) (a .entry) (a .sheet) in
+    let q = calledBy (turnedAway (a .role) names.showDated) (lent (a .n) (a .free) (now (a .map)) (now (a .card)) (a .c) (a
+    .entry) (a .sheet)) in
     let opens = showing-zero q (a .place) (now (a .buffer)) _ (row .before .showing-row .ensures) (row .if1 .left) in
     by-term q (a .place) (dateOf (a .year) (a .month) (a .day)) (now (a .buffer)) opens _ (c .before .term-row .ensures)
     (c .if2 .taken)
@@ -49,7 +54,8 @@ add-show-block c =
     let date = c .before in
     let row = date .before .before in
     let a = row .before .before .before .before .before .before .args in
-    let q = lent (a .n) (a .free) (now (a .map)) (now (a .card)) (a .c) (a .entry) (a .sheet) in
+    let q = calledBy (turnedAway (a .role) names.showDated) (lent (a .n) (a .free) (now (a .map)) (now (a .card)) (a .c) (a
+    .entry) (a .sheet)) in
     let opens = showing-zero q (a .place) (now (a .buffer)) _ (row .before .showing-row .ensures) (row .if1 .left) in
     omega (arith, number-fits q (a .place) (now (a .buffer)) opens)
 
@@ -58,7 +64,8 @@ show-block-requires c κs =
     let date = c .before .before in
     let row = date .before .before in
     let a = row .before .before .before .before .before .before .args in
-    let q = lent (a .n) (a .free) (now (a .map)) (now (a .card)) (a .c) (a .entry) (a .sheet) in
+    let q = calledBy (turnedAway (a .role) names.showDated) (lent (a .n) (a .free) (now (a .map)) (now (a .card)) (a .c) (a
+    .entry) (a .sheet)) in
     let opens = showing-zero q (a .place) (now (a .buffer)) _ (row .before .showing-row .ensures) (row .if1 .left) in
     let inside = in-card q (a .place) (now (a .buffer)) opens in
     (omega (arith, inside), sized-buffer q (a .place) (now (a .buffer)) opens)
@@ -71,7 +78,8 @@ returns-3 c =
     let date = c .before .before .before .before .before in
     let row = date .before .before in
     let a = row .before .before .before .before .before .before .args in
-    let q = lent (a .n) (a .free) (now (a .map)) (now (a .card)) (a .c) (a .entry) (a .sheet) in
+    let q = calledBy (turnedAway (a .role) names.showDated) (lent (a .n) (a .free) (now (a .map)) (now (a .card)) (a .c) (a
+    .entry) (a .sheet)) in
     let opens = showing-zero q (a .place) (now (a .buffer)) _ (row .before .showing-row .ensures) (row .if1 .left) in
     by-block q (a .place) (dateOf (a .year) (a .month) (a .day)) (now (a .buffer)) opens
     (term-zero _ _ _ _ (date .before .term-row .ensures) (date .if2 .left)) _ _

@@ -2,7 +2,9 @@
 -- Assumes nothing.
 use native.Mathlib.Omega.{arith}
 use denote.Ref.{now}
-use Rattle.refusals.specs.Lent.{lent}
+use Rattle.roles.specs.Roles as names
+use Rattle.roles.specs.Roles.{turnedAway}
+use Rattle.refusals.specs.Lent.{calledBy, lent}
 use Rattle.refusals.proofs.Show.{by-first, by-block}
 use Rattle.refusals.proofs.Showing.{showing-zero, number-fits, in-card, sized-buffer}
 use borrow.Author.Needs.{needs}
@@ -18,14 +20,16 @@ same-length c = search needs
 returns : tie.Need-returns
 returns c =
     let a = c .before .before .before .before .before .before .args in
-    let q = lent (a .n) (a .free) (now (a .map)) (now (a .card)) (a .c) (a .entry) (a .sheet) in
+    let q = calledBy (turnedAway (a .role) names.show) (lent (a .n) (a .free) (now (a .map)) (now (a .card)) (a .c) (a .entry)
+    (a .sheet)) in
     by-first q (a .place) (now (a .buffer)) _ (c .before .showing-row .ensures) (c .if1 .taken)
 
 add-show-block : tie.Need-add-show-block
 add-show-block c =
     let row = c .before in
     let a = row .before .before .before .before .before .before .args in
-    let q = lent (a .n) (a .free) (now (a .map)) (now (a .card)) (a .c) (a .entry) (a .sheet) in
+    let q = calledBy (turnedAway (a .role) names.show) (lent (a .n) (a .free) (now (a .map)) (now (a .card)) (a .c) (a .entry)
+    (a .sheet)) in
     let opens = showing-zero q (a .place) (now (a .buffer)) _ (row .before .showing-row .ensures) (row .if1 .left) in
     omega (arith, number-fits q (a .place) (now (a .buffer)) opens)
 
@@ -33,7 +37,8 @@ show-block-requires : tie.Need-show-block-requires
 show-block-requires c κs =
     let row = c .before .before in
     let a = row .before .before .before .before .before .before .args in
-    let q = lent (a .n) (a .free) (now (a .map)) (now (a .card)) (a .c) (a .entry) (a .sheet) in
+    let q = calledBy (turnedAway (a .role) names.show) (lent (a .n) (a .free) (now (a .map)) (now (a .card)) (a .c) (a .entry)
+    (a .sheet)) in
     let opens = showing-zero q (a .place) (now (a .buffer)) _ (row .before .showing-row .ensures) (row .if1 .left) in
     let inside = in-card q (a .place) (now (a .buffer)) opens in
     (omega (arith, inside), sized-buffer q (a .place) (now (a .buffer)) opens)
@@ -45,7 +50,8 @@ returns-2 : tie.Need-returns-2
 returns-2 c =
     let row = c .before .before .before .before .before in
     let a = row .before .before .before .before .before .before .args in
-    let q = lent (a .n) (a .free) (now (a .map)) (now (a .card)) (a .c) (a .entry) (a .sheet) in
+    let q = calledBy (turnedAway (a .role) names.show) (lent (a .n) (a .free) (now (a .map)) (now (a .card)) (a .c) (a .entry)
+    (a .sheet)) in
     let opens = showing-zero q (a .place) (now (a .buffer)) _ (row .before .showing-row .ensures) (row .if1 .left) in
     by-block q (a .place) (now (a .buffer)) opens _ _
     (c .before .before .show-block .ensures .0) (c .before .before .show-block .ensures .1)

@@ -9,8 +9,8 @@ use Rattle.call_show.proofs.standing.standing.Statement.{statement}
 use Rattle.call_show.proofs.standing.standing.Tie as tie
 use Rattle.refusals.proofs.Standing.{out, shut, passes}
 
-open-sheet-requires : tie.Need-open-sheet-requires
-open-sheet-requires c κs = search needs
+enter-sheet-requires : tie.Need-enter-sheet-requires
+enter-sheet-requires c κs = search needs
 
 enum-told : tie.Need-enum-told
 enum-told c = search needs
@@ -25,12 +25,12 @@ returns : tie.Need-returns
 returns c =
     let told = c .before .enum-told2 .given in
     ap Refused (c .refused-row .ensures ∙ ap refusedRow (told .1))
-    ∙ sym (out _ (refused (told .0 .0)) (shut _ (told .0 .0) (c .before .before .before .open-sheet .ensures) (told .1)))
+    ∙ sym (out _ (refused (told .0 .0)) (shut _ (told .0 .0) (c .before .before .before .enter-sheet .ensures) (told .1)))
 
 returns-2 : tie.Need-returns-2
 returns-2 c =
     let told = c .enum-told .given in
-    sym (out _ accepted (passes _ (told .0 .0) (c .before .before .open-sheet .ensures) (told .1)))
+    sym (out _ accepted (passes _ (told .0 .0) (c .before .before .enter-sheet .ensures) (told .1)))
 
 pub standing-spec : {M : Type 1} → statement M
-standing-spec = tie.close (tie.spec open-sheet-requires enum-told enum-told-2 refused-row-requires returns returns-2)
+standing-spec = tie.close (tie.spec enter-sheet-requires enum-told enum-told-2 refused-row-requires returns returns-2)

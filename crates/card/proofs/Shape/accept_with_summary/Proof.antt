@@ -13,6 +13,7 @@ use Rattle.card.specs.Calls.{outcomeOf}
 use Rattle.card.specs.Cores.{entryLeft}
 use Rattle.card.specs.Cores.{withSummary}
 use Rattle.refusals.specs.Effects.{acceptOut, acceptMap, acceptCard}
+use Rattle.roles.specs.Roles.{accept as asAccept}
 use Rattle.refusals.specs.Effects.{acceptSummary}
 use Rattle.catalogue.proofs.Values.{Value, valueOf}
 use Rattle.catalogue.proofs.Slot as Slot′
@@ -61,16 +62,16 @@ accept-with-summary-spec 𝓤 H 𝓜 𝓖 𝓡 =
     entered 𝓤 H (tripleOf 𝓤 H (𝓖 .A) accept-with-summary.signature (accept-with-summary.spec 𝓤 H (𝓖 .A) (𝓜 .mem) (𝓡 .run)))
     (tables 𝓤 H 𝓜 𝓡 code.env .C) (tables 𝓤 H 𝓜 𝓡 code.env .Λ) #accept-with-summary code.function (code.unfolded 𝓤 H 𝓜 𝓡)
     (meets Slot Out Shape Outcome find-def.name held-by-def.name core-def.name entry-of-def.name store-def.name
-    outcome-of-def.name slotAt heldBy (withSummary acceptOut) (withSummary acceptMap) (withSummary acceptSummary)
-    (withSummary acceptCard) entryLeft set outcomeOf
+    outcome-of-def.name slotAt heldBy (withSummary asAccept acceptOut) (withSummary asAccept acceptMap)
+    (withSummary asAccept acceptSummary) (withSummary asAccept acceptCard) entryLeft set outcomeOf
     𝓤 H (𝓖 .A) (givenOf 𝓤 H 𝓜 𝓖) (tablesOf 𝓤 H 𝓜 (tables 𝓤 H 𝓜 𝓡 code.env))
     (cited 𝓤 H (find-contract Slot Out Shape Outcome slotAt 𝓤 H (𝓖 .A)) 𝓜 𝓡 code.env find-def.name find-def.routine
     code.calls-catalogue·find (find-met.met 𝓤 H 𝓜 𝓖 𝓡))
     (cited 𝓤 H (held-by-contract Slot Out Shape Outcome heldBy 𝓤 H (𝓖 .A)) 𝓜 𝓡 code.env held-by-def.name held-by-def.routine
     code.calls-catalogue-wings·held-by (held-by-met.met 𝓤 H 𝓜 𝓖 𝓡))
-    (cited 𝓤 H (core-contract Slot Out Shape Outcome (withSummary acceptOut) (withSummary acceptMap) (withSummary acceptSummary)
-    (withSummary acceptCard) 𝓤 H (𝓖 .A)) 𝓜 𝓡 code.env core-def.name core-def.routine code.calls-card·guided·accept-guided
-    (core-met.met 𝓤 H 𝓜 𝓖 𝓡))
+    (cited 𝓤 H (core-contract Slot Out Shape Outcome (withSummary asAccept acceptOut) (withSummary asAccept acceptMap)
+    (withSummary asAccept acceptSummary) (withSummary asAccept acceptCard) 𝓤 H (𝓖 .A)) 𝓜 𝓡 code.env core-def.name
+    core-def.routine code.calls-card·guided·accept-guided (core-met.met 𝓤 H 𝓜 𝓖 𝓡))
     (cited 𝓤 H (entry-of-contract Slot Out Shape Outcome entryLeft 𝓤 H (𝓖 .A)) 𝓜 𝓡 code.env entry-of-def.name
     entry-of-def.routine code.calls-card·cores·entry-of (entry-of-met.met 𝓤 H 𝓜 𝓖 𝓡))
     (cited 𝓤 H (store-contract Slot Out Shape Outcome set 𝓤 H (𝓖 .A)) 𝓜 𝓡 code.env store-def.name store-def.routine

@@ -7,7 +7,9 @@ use denote.Triple.Spec.{tripleOf}
 use denote.Triple.Table.{entered, cited}
 use Rattle.closing.specs.Effects.{closeNumber, closeMap, closeEntries, closeCard, closeScratch}
 use Rattle.card.specs.Calls.{saveOutcomeBy}
+use Rattle.card.specs.Cores.{byRole}
 use Rattle.card.specs.Cores.{blocksOf, spareOf, nothingElse}
+use Rattle.roles.specs.Roles.{close as asClose}
 use Rattle.catalogue.proofs.Values.{Value, valueOf}
 use Rattle.card.proofs.Shape as Shape′
 use Rattle.card.proofs.Shape.Laws as Shape″
@@ -42,7 +44,8 @@ close-spec 𝓤 H 𝓜 𝓖 𝓡 =
     entered 𝓤 H (tripleOf 𝓤 H (𝓖 .A) close.signature (close.spec 𝓤 H (𝓖 .A) (𝓜 .mem) (𝓡 .run)))
     (tables 𝓤 H 𝓜 𝓡 code.env .C) (tables 𝓤 H 𝓜 𝓡 code.env .Λ) #close code.function (code.unfolded 𝓤 H 𝓜 𝓡)
     (meets Shape Outcome blocks-of-def.name free-of-def.name nothing-else-def.name close-def.name save-outcome-def.name blocksOf
-    spareOf nothingElse closeNumber closeMap closeEntries closeCard closeScratch saveOutcomeBy
+    spareOf nothingElse (byRole asClose closeNumber) (byRole asClose closeMap) (byRole asClose closeEntries)
+    (byRole asClose closeCard) (byRole asClose closeScratch) saveOutcomeBy
     𝓤 H (𝓖 .A) (givenOf 𝓤 H 𝓜 𝓖) (tablesOf 𝓤 H 𝓜 (tables 𝓤 H 𝓜 𝓡 code.env))
     (cited 𝓤 H (blocks-of-contract Shape Outcome blocksOf 𝓤 H (𝓖 .A)) 𝓜 𝓡 code.env blocks-of-def.name blocks-of-def.routine
     code.calls-card·cores·blocks-of (blocks-of-met.met 𝓤 H 𝓜 𝓖 𝓡))
@@ -50,7 +53,8 @@ close-spec 𝓤 H 𝓜 𝓖 𝓡 =
     code.calls-card·cores·free-of (free-of-met.met 𝓤 H 𝓜 𝓖 𝓡))
     (cited 𝓤 H (nothing-else-contract Shape Outcome nothingElse 𝓤 H (𝓖 .A)) 𝓜 𝓡 code.env nothing-else-def.name
     nothing-else-def.routine code.calls-card·cores·nothing-else (nothing-else-met.met 𝓤 H 𝓜 𝓖 𝓡))
-    (cited 𝓤 H (close-contract Shape Outcome closeNumber closeMap closeEntries closeCard closeScratch 𝓤 H (𝓖 .A)) 𝓜 𝓡 code.env
+    (cited 𝓤 H (close-contract Shape Outcome (byRole asClose closeNumber) (byRole asClose closeMap)
+    (byRole asClose closeEntries) (byRole asClose closeCard) (byRole asClose closeScratch) 𝓤 H (𝓖 .A)) 𝓜 𝓡 code.env
     close-def.name close-def.routine code.calls-closing·close (close-met.met 𝓤 H 𝓜 𝓖 𝓡))
     (cited 𝓤 H (save-outcome-contract Shape Outcome saveOutcomeBy 𝓤 H (𝓖 .A)) 𝓜 𝓡 code.env save-outcome-def.name
     save-outcome-def.routine code.calls-card·cores·save-outcome (save-outcome-met.met 𝓤 H 𝓜 𝓖 𝓡)))

@@ -7,8 +7,10 @@ use denote.Triple.Spec.{tripleOf}
 use denote.Triple.Table.{entered, cited}
 use Rattle.closing.specs.Effects.{closeNumber, closeMap, closeEntries, closeCard, closeScratch}
 use Rattle.card.specs.Calls.{saveOutcomeBy}
+use Rattle.card.specs.Cores.{byRole}
 use Rattle.card.specs.Closings.{rebuilt}
 use Rattle.card.specs.Cores.{blocksOf, spareOf, besideFits}
+use Rattle.roles.specs.Roles.{close as asClose}
 use Rattle.catalogue.proofs.Values.{Value, valueOf}
 use Rattle.card.proofs.Shape as Shape′
 use Rattle.card.proofs.Shape.Laws as Shape″
@@ -46,8 +48,8 @@ close-with-summary-spec 𝓤 H 𝓜 𝓖 𝓡 =
     entered 𝓤 H (tripleOf 𝓤 H (𝓖 .A) close-with-summary.signature (close-with-summary.spec 𝓤 H (𝓖 .A) (𝓜 .mem) (𝓡 .run)))
     (tables 𝓤 H 𝓜 𝓡 code.env .C) (tables 𝓤 H 𝓜 𝓡 code.env .Λ) #close-with-summary code.function (code.unfolded 𝓤 H 𝓜 𝓡)
     (meets Shape Outcome blocks-of-def.name free-of-def.name beside-fits-def.name close-def.name rebuild-def.name
-    save-outcome-def.name blocksOf spareOf besideFits closeNumber closeMap closeEntries closeCard closeScratch rebuilt
-    saveOutcomeBy
+    save-outcome-def.name blocksOf spareOf besideFits (byRole asClose closeNumber) (byRole asClose closeMap)
+    (byRole asClose closeEntries) (byRole asClose closeCard) (byRole asClose closeScratch) rebuilt saveOutcomeBy
     𝓤 H (𝓖 .A) (givenOf 𝓤 H 𝓜 𝓖) (tablesOf 𝓤 H 𝓜 (tables 𝓤 H 𝓜 𝓡 code.env))
     (cited 𝓤 H (blocks-of-contract Shape Outcome blocksOf 𝓤 H (𝓖 .A)) 𝓜 𝓡 code.env blocks-of-def.name blocks-of-def.routine
     code.calls-card·cores·blocks-of (blocks-of-met.met 𝓤 H 𝓜 𝓖 𝓡))
@@ -55,7 +57,8 @@ close-with-summary-spec 𝓤 H 𝓜 𝓖 𝓡 =
     code.calls-card·cores·free-of (free-of-met.met 𝓤 H 𝓜 𝓖 𝓡))
     (cited 𝓤 H (beside-fits-contract Shape Outcome besideFits 𝓤 H (𝓖 .A)) 𝓜 𝓡 code.env beside-fits-def.name
     beside-fits-def.routine code.calls-card·guided·beside-fits (beside-fits-met.met 𝓤 H 𝓜 𝓖 𝓡))
-    (cited 𝓤 H (close-contract Shape Outcome closeNumber closeMap closeEntries closeCard closeScratch 𝓤 H (𝓖 .A)) 𝓜 𝓡 code.env
+    (cited 𝓤 H (close-contract Shape Outcome (byRole asClose closeNumber) (byRole asClose closeMap)
+    (byRole asClose closeEntries) (byRole asClose closeCard) (byRole asClose closeScratch) 𝓤 H (𝓖 .A)) 𝓜 𝓡 code.env
     close-def.name close-def.routine code.calls-closing·close (close-met.met 𝓤 H 𝓜 𝓖 𝓡))
     (cited 𝓤 H (rebuild-contract Shape Outcome rebuilt 𝓤 H (𝓖 .A)) 𝓜 𝓡 code.env rebuild-def.name rebuild-def.routine
     code.calls-card·guided·rebuild (rebuild-met.met 𝓤 H 𝓜 𝓖 𝓡))

@@ -6,7 +6,7 @@ use denote.Triple.Spec.{tripleOf}
 use denote.Triple.Table.{entered, cited}
 use lib.ListN.{length}
 use Rattle.catalogue.specs.Entries.{clearedIf}
-use Rattle.card.specs.Calls.{freshOutcomeBy, freshMapBy}
+use Rattle.card.specs.Cores.{freshOutcomeAt, freshMapAt}
 use Rattle.card.specs.Cores.{doneBy}
 use Rattle.catalogue.proofs.Values.{Value, valueOf}
 use Rattle.card.proofs.Shape as Shape′
@@ -38,12 +38,12 @@ unfolding code.routine tablesOf
 fresh-spec 𝓤 H 𝓜 𝓖 𝓡 =
     entered 𝓤 H (tripleOf 𝓤 H (𝓖 .A) fresh.signature (fresh.spec 𝓤 H (𝓖 .A) (𝓜 .mem) (𝓡 .run)))
     (tables 𝓤 H 𝓜 𝓡 code.env .C) (tables 𝓤 H 𝓜 𝓡 code.env .Λ) #fresh code.function (code.unfolded 𝓤 H 𝓜 𝓡)
-    (meets Shape Outcome count-def.name core-def.name is-done-def.name clear-if-def.name length freshOutcomeBy freshMapBy doneBy
+    (meets Shape Outcome count-def.name core-def.name is-done-def.name clear-if-def.name length freshOutcomeAt freshMapAt doneBy
     clearedIf
     𝓤 H (𝓖 .A) (givenOf 𝓤 H 𝓜 𝓖) (tablesOf 𝓤 H 𝓜 (tables 𝓤 H 𝓜 𝓡 code.env))
     (cited 𝓤 H (count-contract Shape Outcome length 𝓤 H (𝓖 .A)) 𝓜 𝓡 code.env count-def.name count-def.routine
     code.calls-catalogue·count (count-met.met 𝓤 H 𝓜 𝓖 𝓡))
-    (cited 𝓤 H (core-contract Shape Outcome freshOutcomeBy freshMapBy 𝓤 H (𝓖 .A)) 𝓜 𝓡 code.env core-def.name core-def.routine
+    (cited 𝓤 H (core-contract Shape Outcome freshOutcomeAt freshMapAt 𝓤 H (𝓖 .A)) 𝓜 𝓡 code.env core-def.name core-def.routine
     code.calls-card·cores·fresh-core (core-met.met 𝓤 H 𝓜 𝓖 𝓡))
     (cited 𝓤 H (is-done-contract Shape Outcome doneBy 𝓤 H (𝓖 .A)) 𝓜 𝓡 code.env is-done-def.name is-done-def.routine
     code.calls-card·cores·is-done (is-done-met.met 𝓤 H 𝓜 𝓖 𝓡))

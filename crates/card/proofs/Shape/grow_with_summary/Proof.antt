@@ -13,6 +13,7 @@ use Rattle.card.specs.Calls.{outcomeOf}
 use Rattle.card.specs.Cores.{entryLeft}
 use Rattle.card.specs.Cores.{withSummary}
 use Rattle.refusals.specs.Effects.{growOut, growMap, growCard}
+use Rattle.roles.specs.Roles.{grow as asGrow}
 use Rattle.refusals.specs.Effects.{growSummary}
 use Rattle.catalogue.proofs.Values.{Value, valueOf}
 use Rattle.catalogue.proofs.Slot as Slot′
@@ -61,16 +62,16 @@ grow-with-summary-spec 𝓤 H 𝓜 𝓖 𝓡 =
     entered 𝓤 H (tripleOf 𝓤 H (𝓖 .A) grow-with-summary.signature (grow-with-summary.spec 𝓤 H (𝓖 .A) (𝓜 .mem) (𝓡 .run)))
     (tables 𝓤 H 𝓜 𝓡 code.env .C) (tables 𝓤 H 𝓜 𝓡 code.env .Λ) #grow-with-summary code.function (code.unfolded 𝓤 H 𝓜 𝓡)
     (meets Slot Out Shape Outcome find-def.name held-by-def.name core-def.name entry-of-def.name store-def.name
-    outcome-of-def.name slotAt heldBy (withSummary growOut) (withSummary growMap) (withSummary growSummary)
-    (withSummary growCard) entryLeft set outcomeOf
+    outcome-of-def.name slotAt heldBy (withSummary asGrow growOut) (withSummary asGrow growMap) (withSummary asGrow growSummary)
+    (withSummary asGrow growCard) entryLeft set outcomeOf
     𝓤 H (𝓖 .A) (givenOf 𝓤 H 𝓜 𝓖) (tablesOf 𝓤 H 𝓜 (tables 𝓤 H 𝓜 𝓡 code.env))
     (cited 𝓤 H (find-contract Slot Out Shape Outcome slotAt 𝓤 H (𝓖 .A)) 𝓜 𝓡 code.env find-def.name find-def.routine
     code.calls-catalogue·find (find-met.met 𝓤 H 𝓜 𝓖 𝓡))
     (cited 𝓤 H (held-by-contract Slot Out Shape Outcome heldBy 𝓤 H (𝓖 .A)) 𝓜 𝓡 code.env held-by-def.name held-by-def.routine
     code.calls-catalogue-wings·held-by (held-by-met.met 𝓤 H 𝓜 𝓖 𝓡))
-    (cited 𝓤 H (core-contract Slot Out Shape Outcome (withSummary growOut) (withSummary growMap) (withSummary growSummary)
-    (withSummary growCard) 𝓤 H (𝓖 .A)) 𝓜 𝓡 code.env core-def.name core-def.routine code.calls-card·guided·grow-guided
-    (core-met.met 𝓤 H 𝓜 𝓖 𝓡))
+    (cited 𝓤 H (core-contract Slot Out Shape Outcome (withSummary asGrow growOut) (withSummary asGrow growMap)
+    (withSummary asGrow growSummary) (withSummary asGrow growCard) 𝓤 H (𝓖 .A)) 𝓜 𝓡 code.env core-def.name core-def.routine
+    code.calls-card·guided·grow-guided (core-met.met 𝓤 H 𝓜 𝓖 𝓡))
     (cited 𝓤 H (entry-of-contract Slot Out Shape Outcome entryLeft 𝓤 H (𝓖 .A)) 𝓜 𝓡 code.env entry-of-def.name
     entry-of-def.routine code.calls-card·cores·entry-of (entry-of-met.met 𝓤 H 𝓜 𝓖 𝓡))
     (cited 𝓤 H (store-contract Slot Out Shape Outcome set 𝓤 H (𝓖 .A)) 𝓜 𝓡 code.env store-def.name store-def.routine

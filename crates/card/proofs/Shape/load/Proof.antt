@@ -6,6 +6,8 @@ use denote.Triple.Spec.{tripleOf}
 use denote.Triple.Table.{entered, cited}
 use Rattle.image.specs.Effects.{loadResult, loadMap, loadEntries, loadScratch}
 use Rattle.card.specs.Calls.{loadOutcomeBy}
+use Rattle.card.specs.Cores.{byRole}
+use Rattle.roles.specs.Roles.{load as asLoad}
 use Rattle.catalogue.proofs.Values.{Value, valueOf}
 use Rattle.image.proofs.Loaded as Loaded′
 use Rattle.image.proofs.Loaded.Laws as Loaded″
@@ -37,9 +39,11 @@ unfolding code.routine tablesOf
 load-spec 𝓤 H 𝓜 𝓖 𝓡 =
     entered 𝓤 H (tripleOf 𝓤 H (𝓖 .A) load.signature (load.spec 𝓤 H (𝓖 .A) (𝓜 .mem) (𝓡 .run)))
     (tables 𝓤 H 𝓜 𝓡 code.env .C) (tables 𝓤 H 𝓜 𝓡 code.env .Λ) #load code.function (code.unfolded 𝓤 H 𝓜 𝓡)
-    (meets Loaded Shape Outcome load-def.name load-outcome-def.name loadResult loadMap loadEntries loadScratch loadOutcomeBy
+    (meets Loaded Shape Outcome load-def.name load-outcome-def.name (byRole asLoad loadResult) (byRole asLoad loadMap)
+    (byRole asLoad loadEntries) (byRole asLoad loadScratch) loadOutcomeBy
     𝓤 H (𝓖 .A) (givenOf 𝓤 H 𝓜 𝓖) (tablesOf 𝓤 H 𝓜 (tables 𝓤 H 𝓜 𝓡 code.env))
-    (cited 𝓤 H (load-contract Loaded Shape Outcome loadResult loadMap loadEntries loadScratch 𝓤 H (𝓖 .A)) 𝓜 𝓡 code.env
-    load-def.name load-def.routine code.calls-image-load·load (load-met.met 𝓤 H 𝓜 𝓖 𝓡))
+    (cited 𝓤 H (load-contract Loaded Shape Outcome (byRole asLoad loadResult) (byRole asLoad loadMap)
+    (byRole asLoad loadEntries) (byRole asLoad loadScratch) 𝓤 H (𝓖 .A)) 𝓜 𝓡 code.env load-def.name load-def.routine
+    code.calls-image-load·load (load-met.met 𝓤 H 𝓜 𝓖 𝓡))
     (cited 𝓤 H (load-outcome-contract Loaded Shape Outcome loadOutcomeBy 𝓤 H (𝓖 .A)) 𝓜 𝓡 code.env load-outcome-def.name
     load-outcome-def.routine code.calls-card·cores·load-outcome (load-outcome-met.met 𝓤 H 𝓜 𝓖 𝓡)))

@@ -10,7 +10,8 @@ use Rattle.catalogue.specs.Entries.{slotAt}
 use Rattle.card.specs.Calls.{outcomeOf}
 use Rattle.card.specs.Cores.{entryLeft}
 use Rattle.card.specs.Cores.{withSlotAlone}
-use Rattle.refusals.specs.Effects.{pauseOut}
+use Rattle.card.specs.Cores.{pauseOutAt}
+use Rattle.roles.specs.Roles.{pause as asPause}
 use Rattle.catalogue.proofs.Values.{Value, valueOf}
 use Rattle.catalogue.proofs.Slot as Slot′
 use Rattle.catalogue.proofs.Slot.Laws as Slot″
@@ -55,11 +56,11 @@ pause-spec 𝓤 H 𝓜 𝓖 𝓡 =
     entered 𝓤 H (tripleOf 𝓤 H (𝓖 .A) pause.signature (pause.spec 𝓤 H (𝓖 .A) (𝓜 .mem) (𝓡 .run)))
     (tables 𝓤 H 𝓜 𝓡 code.env .C) (tables 𝓤 H 𝓜 𝓡 code.env .Λ) #pause code.function (code.unfolded 𝓤 H 𝓜 𝓡)
     (meets Slot Out Shape Outcome find-def.name core-def.name entry-of-def.name store-def.name outcome-of-def.name slotAt
-    (withSlotAlone pauseOut) entryLeft set outcomeOf
+    (withSlotAlone asPause pauseOutAt) entryLeft set outcomeOf
     𝓤 H (𝓖 .A) (givenOf 𝓤 H 𝓜 𝓖) (tablesOf 𝓤 H 𝓜 (tables 𝓤 H 𝓜 𝓡 code.env))
     (cited 𝓤 H (find-contract Slot Out Shape Outcome slotAt 𝓤 H (𝓖 .A)) 𝓜 𝓡 code.env find-def.name find-def.routine
     code.calls-catalogue·find (find-met.met 𝓤 H 𝓜 𝓖 𝓡))
-    (cited 𝓤 H (core-contract Slot Out Shape Outcome (withSlotAlone pauseOut) 𝓤 H (𝓖 .A)) 𝓜 𝓡 code.env core-def.name
+    (cited 𝓤 H (core-contract Slot Out Shape Outcome (withSlotAlone asPause pauseOutAt) 𝓤 H (𝓖 .A)) 𝓜 𝓡 code.env core-def.name
     core-def.routine code.calls-card·cores·pause-core (core-met.met 𝓤 H 𝓜 𝓖 𝓡))
     (cited 𝓤 H (entry-of-contract Slot Out Shape Outcome entryLeft 𝓤 H (𝓖 .A)) 𝓜 𝓡 code.env entry-of-def.name
     entry-of-def.routine code.calls-card·cores·entry-of (entry-of-met.met 𝓤 H 𝓜 𝓖 𝓡))

@@ -13,6 +13,7 @@ use Rattle.card.specs.Calls.{outcomeOf}
 use Rattle.card.specs.Cores.{entryLeft}
 use Rattle.card.specs.Cores.{withSummary}
 use Rattle.card.specs.Reserves.{plainOut, plainMap, plainSummary, plainCard}
+use Rattle.roles.specs.Roles.{reserve as asReserve}
 use Rattle.catalogue.proofs.Values.{Value, valueOf}
 use Rattle.catalogue.proofs.Slot as Slot′
 use Rattle.catalogue.proofs.Slot.Laws as Slot″
@@ -60,16 +61,16 @@ reserve-with-summary-spec 𝓤 H 𝓜 𝓖 𝓡 =
     entered 𝓤 H (tripleOf 𝓤 H (𝓖 .A) reserve-with-summary.signature (reserve-with-summary.spec 𝓤 H (𝓖 .A) (𝓜 .mem) (𝓡 .run)))
     (tables 𝓤 H 𝓜 𝓡 code.env .C) (tables 𝓤 H 𝓜 𝓡 code.env .Λ) #reserve-with-summary code.function (code.unfolded 𝓤 H 𝓜 𝓡)
     (meets Slot Out Shape Outcome find-def.name held-by-def.name core-def.name entry-of-def.name store-def.name
-    outcome-of-def.name slotAt heldBy (withSummary plainOut) (withSummary plainMap) (withSummary plainSummary)
-    (withSummary plainCard) entryLeft set outcomeOf
+    outcome-of-def.name slotAt heldBy (withSummary asReserve plainOut) (withSummary asReserve plainMap)
+    (withSummary asReserve plainSummary) (withSummary asReserve plainCard) entryLeft set outcomeOf
     𝓤 H (𝓖 .A) (givenOf 𝓤 H 𝓜 𝓖) (tablesOf 𝓤 H 𝓜 (tables 𝓤 H 𝓜 𝓡 code.env))
     (cited 𝓤 H (find-contract Slot Out Shape Outcome slotAt 𝓤 H (𝓖 .A)) 𝓜 𝓡 code.env find-def.name find-def.routine
     code.calls-catalogue·find (find-met.met 𝓤 H 𝓜 𝓖 𝓡))
     (cited 𝓤 H (held-by-contract Slot Out Shape Outcome heldBy 𝓤 H (𝓖 .A)) 𝓜 𝓡 code.env held-by-def.name held-by-def.routine
     code.calls-catalogue-wings·held-by (held-by-met.met 𝓤 H 𝓜 𝓖 𝓡))
-    (cited 𝓤 H (core-contract Slot Out Shape Outcome (withSummary plainOut) (withSummary plainMap) (withSummary plainSummary)
-    (withSummary plainCard) 𝓤 H (𝓖 .A)) 𝓜 𝓡 code.env core-def.name core-def.routine code.calls-card·guided·reserve-guided
-    (core-met.met 𝓤 H 𝓜 𝓖 𝓡))
+    (cited 𝓤 H (core-contract Slot Out Shape Outcome (withSummary asReserve plainOut) (withSummary asReserve plainMap)
+    (withSummary asReserve plainSummary) (withSummary asReserve plainCard) 𝓤 H (𝓖 .A)) 𝓜 𝓡 code.env core-def.name
+    core-def.routine code.calls-card·guided·reserve-guided (core-met.met 𝓤 H 𝓜 𝓖 𝓡))
     (cited 𝓤 H (entry-of-contract Slot Out Shape Outcome entryLeft 𝓤 H (𝓖 .A)) 𝓜 𝓡 code.env entry-of-def.name
     entry-of-def.routine code.calls-card·cores·entry-of (entry-of-met.met 𝓤 H 𝓜 𝓖 𝓡))
     (cited 𝓤 H (store-contract Slot Out Shape Outcome set 𝓤 H (𝓖 .A)) 𝓜 𝓡 code.env store-def.name store-def.routine

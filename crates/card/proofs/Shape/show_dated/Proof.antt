@@ -7,6 +7,7 @@ use denote.Triple.Table.{entered, cited}
 use Rattle.catalogue.specs.Entries.{slotAt}
 use Rattle.card.specs.Cores.{withSlot}
 use Rattle.card.specs.Cores.{datedOutcomeAt, datedBufferAt}
+use Rattle.roles.specs.Roles.{showDated as asShowDated}
 use Rattle.catalogue.proofs.Values.{Value, valueOf}
 use Rattle.catalogue.proofs.Slot as Slot′
 use Rattle.catalogue.proofs.Slot.Laws as Slot″
@@ -38,9 +39,9 @@ unfolding code.routine tablesOf
 show-dated-spec 𝓤 H 𝓜 𝓖 𝓡 =
     entered 𝓤 H (tripleOf 𝓤 H (𝓖 .A) show-dated.signature (show-dated.spec 𝓤 H (𝓖 .A) (𝓜 .mem) (𝓡 .run)))
     (tables 𝓤 H 𝓜 𝓡 code.env .C) (tables 𝓤 H 𝓜 𝓡 code.env .Λ) #show-dated code.function (code.unfolded 𝓤 H 𝓜 𝓡)
-    (meets Slot Shape Outcome find-def.name core-def.name slotAt datedOutcomeAt (withSlot datedBufferAt)
+    (meets Slot Shape Outcome find-def.name core-def.name slotAt datedOutcomeAt (withSlot asShowDated datedBufferAt)
     𝓤 H (𝓖 .A) (givenOf 𝓤 H 𝓜 𝓖) (tablesOf 𝓤 H 𝓜 (tables 𝓤 H 𝓜 𝓡 code.env))
     (cited 𝓤 H (find-contract Slot Shape Outcome slotAt 𝓤 H (𝓖 .A)) 𝓜 𝓡 code.env find-def.name find-def.routine
     code.calls-catalogue·find (find-met.met 𝓤 H 𝓜 𝓖 𝓡))
-    (cited 𝓤 H (core-contract Slot Shape Outcome datedOutcomeAt (withSlot datedBufferAt) 𝓤 H (𝓖 .A)) 𝓜 𝓡 code.env core-def.name
-    core-def.routine code.calls-card·dated·show-dated-core (core-met.met 𝓤 H 𝓜 𝓖 𝓡)))
+    (cited 𝓤 H (core-contract Slot Shape Outcome datedOutcomeAt (withSlot asShowDated datedBufferAt) 𝓤 H (𝓖 .A)) 𝓜 𝓡 code.env
+    core-def.name core-def.routine code.calls-card·dated·show-dated-core (core-met.met 𝓤 H 𝓜 𝓖 𝓡)))

@@ -1,7 +1,7 @@
 -- `rebuild` meets its contract.
 -- Assumes nothing.
 use mathlib.Core.Path.{_≡_, sym, ap, _∙_}
-use mathlib.Core.Bool.{Bool, cond}
+use mathlib.Core.Bool.{Bool, false, cond}
 use mathlib.Core.List.{List}
 use Prim.Native.Nat.{ℕ}
 use denote.Ref.{now}
@@ -15,12 +15,12 @@ use Rattle.card.proofs.guided.rebuild.Tie as tie
 
 module _ (shape : Shape) (map summary : List ℕ) (number : ℕ) where
   abbrev by : Bool → List ℕ
-  by b = cond b (builtSummary (shape .blocks) (shape .free) map summary) summary
+  by b = cond b (builtSummary false (shape .blocks) (shape .free) map summary) summary
 
   stays : (number ≡ 0 → ⊥) → summary ≡ rebuilt shape map summary number
   stays d = sym (ap by (ne-eqb number 0 d))
 
-  builds : number ≡ 0 → builtSummary (shape .blocks) (shape .free) map summary ≡ rebuilt shape map summary number
+  builds : number ≡ 0 → builtSummary false (shape .blocks) (shape .free) map summary ≡ rebuilt shape map summary number
   builds z = sym (ap by (eq-eqb number 0 z))
 
 returns : tie.Need-returns
@@ -28,8 +28,8 @@ returns c =
     let a = c .before .before .before .args in
     stays (a .shape) (now (a .map)) (now (a .summary)) (a .number) (c .if1 .taken)
 
-build-summary-requires : tie.Need-build-summary-requires
-build-summary-requires c κs = search needs
+rebuild-summary-requires : tie.Need-rebuild-summary-requires
+rebuild-summary-requires c κs = search needs
 
 same-length : tie.Need-same-length
 same-length c = search needs
@@ -38,8 +38,8 @@ returns-2 : tie.Need-returns-2
 returns-2 c =
     let built = c .before .before in
     let a = built .before .before .before .before .before .args in
-    built .build-summary .ensures .1 ∙ builds (a .shape) (now (a .map)) (now (a .summary)) (a .number)
+    built .rebuild-summary .ensures .1 ∙ builds (a .shape) (now (a .map)) (now (a .summary)) (a .number)
     (built .before .before .if1 .left)
 
 pub rebuild-spec : {M : Type 1} → statement M
-rebuild-spec = tie.close (tie.spec returns build-summary-requires same-length returns-2)
+rebuild-spec = tie.close (tie.spec returns rebuild-summary-requires same-length returns-2)

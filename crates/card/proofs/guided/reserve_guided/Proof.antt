@@ -6,6 +6,7 @@ use borrow.Author.Needs.{needs}
 use denote.Ref.{now}
 use Rattle.refusals.proofs.Reserve.{plain-out, plain-map, plain-summary, plain-card}
 use Rattle.refusals.specs.Lent.{within}
+use Rattle.roles.specs.Roles as roles
 use Rattle.card.specs.Cores.{lentAtBy}
 use Rattle.card.proofs.guided.reserve_guided.Statement.{statement}
 use Rattle.card.proofs.guided.reserve_guided.Tie as tie
@@ -26,7 +27,7 @@ returns : tie.Need-returns
 returns c =
     let a = c .before .before .before .before .before .before .before .before .before .before .before .before .before .args in
     let q = within (a .held) (now (a .limits))
-    (lentAtBy true (now (a .summary)) (a .shape) (now (a .map)) (now (a .card)) (a .slot) (a .sheet)) in
+    (lentAtBy true (now (a .summary)) roles.reserve (a .shape) (a .role) (now (a .map)) (now (a .card)) (a .slot) (a .sheet)) in
     let left = c .before .before .before .before .before .before .reserve-placed-guided .ensures in (
       left .0 ∙ plain-out q (a .k),
       left .1 ∙ plain-map q (a .k),

@@ -5,6 +5,7 @@ use borrow.Author.Needs.{needs}
 use denote.Ref.{now}
 use Rattle.refusals.proofs.Reserve.{plain-out, plain-map, plain-card}
 use Rattle.refusals.specs.Lent.{within}
+use Rattle.roles.specs.Roles as roles
 use Rattle.card.specs.Cores.{lentAt}
 use Rattle.card.proofs.reserves.reserve_core.Statement.{statement}
 use Rattle.card.proofs.reserves.reserve_core.Tie as tie
@@ -22,7 +23,8 @@ returns : tie.Need-returns
 returns c =
     let placed = c .before .before .before .before in
     let a = placed .before .before .before .before .before .args in
-    let q = within (a .held) (now (a .limits)) (lentAt (a .shape) (now (a .map)) (now (a .card)) (a .slot) (a .sheet)) in
+    let q = within (a .held) (now (a .limits)) (lentAt roles.reserve (a .shape) (a .role) (now (a .map)) (now (a .card)) (a
+    .slot) (a .sheet)) in
     let left = placed .reserve-placed-core .ensures in
     (left .0 ∙ plain-out q (a .k), left .1 ∙ plain-map q (a .k), left .2 ∙ plain-card q (a .k))
 

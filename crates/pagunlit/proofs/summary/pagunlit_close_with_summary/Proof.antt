@@ -1,14 +1,12 @@
 -- Written by tools/walks: `pagunlit::summary::pagunlit_close_with_summary` meets its contract, by the walk of
--- `MapSummaryCatalogueCardScratch.antt` of the crate walk_replies, with the calls of `role_calls::summary::close_with_summary`,
+-- `MapSummaryCatalogueCardScratch.antt` of the crate walk_replies, with the calls of `card::Shape::close_with_summary`,
 -- `pagunlit_replies::reply_of`.
 -- Assumes nothing.
 use contract.Running.{givenOf, tables, tablesOf}
 use denote.Triple.Spec.{tripleOf}
 use denote.Triple.Table.{entered, cited}
 use Rattle.pagunlit_replies.specs.Replies.{replyOf}
-use Rattle.role_calls.specs.Scratches.{closeWithSummaryScratch}
-use Rattle.role_calls.specs.SummaryCalls.{closeByOutcomeFor, closeByMapFor, closeBySummaryFor}
-use Rattle.role_calls.specs.SummaryCalls.{closeByEntriesFor, closeByCardFor}
+use Rattle.card.specs.Ends.{closeWithSummaryEnd}
 use Rattle.catalogue.proofs.Values.{Value, valueOf}
 use Rattle.card.proofs.Shape as Shape′
 use Rattle.card.proofs.Shape.Laws as Shape″
@@ -17,8 +15,8 @@ use Rattle.card.proofs.Outcome.Laws as Outcome″
 use Rattle.pagunlit_replies.proofs.Reply as Reply′
 use Rattle.pagunlit_replies.proofs.Reply.Laws as Reply″
 use Rattle.walk_replies.proofs.MapSummaryCatalogueCardScratch.{call-contract, reply-of-contract, meets}
-use Rattle.role_calls.proofs.summary.close_with_summary.Symbol as call-def
-use Rattle.role_calls.proofs.summary.close_with_summary.Met as call-met
+use Rattle.card.proofs.Shape.close_with_summary.Symbol as call-def
+use Rattle.card.proofs.Shape.close_with_summary.Met as call-met
 use Rattle.pagunlit_replies.proofs.reply_of.Symbol as reply-of-def
 use Rattle.pagunlit_replies.proofs.reply_of.Met as reply-of-met
 use Rattle.pagunlit.proofs.summary.pagunlit_close_with_summary.Key.{name as #pagunlit-close-with-summary}
@@ -41,11 +39,17 @@ pagunlit-close-with-summary-spec 𝓤 H 𝓜 𝓖 𝓡 =
     entered 𝓤 H (tripleOf 𝓤 H (𝓖 .A) pagunlit-close-with-summary.signature (pagunlit-close-with-summary.spec 𝓤 H (𝓖 .A) (𝓜 .mem)
     (𝓡 .run)))
     (tables 𝓤 H 𝓜 𝓡 code.env .C) (tables 𝓤 H 𝓜 𝓡 code.env .Λ) #pagunlit-close-with-summary code.function (code.unfolded 𝓤 H 𝓜 𝓡)
-    (meets Shape Outcome Reply call-def.name reply-of-def.name closeByOutcomeFor closeByMapFor closeBySummaryFor
-    closeByEntriesFor closeByCardFor closeWithSummaryScratch replyOf
+    (meets Shape Outcome Reply call-def.name reply-of-def.name (λ x0 x1 x2 x3 x4 x5 x6. closeWithSummaryEnd x0 x1 x2 x3 x4 x5
+    x6 .outcome) (λ x0 x1 x2 x3 x4 x5 x6. closeWithSummaryEnd x0 x1 x2 x3 x4 x5 x6 .map)
+    (λ x0 x1 x2 x3 x4 x5 x6. closeWithSummaryEnd x0 x1 x2 x3 x4 x5 x6 .beside .summary)
+    (λ x0 x1 x2 x3 x4 x5 x6. closeWithSummaryEnd x0 x1 x2 x3 x4 x5 x6 .entries) (λ x0 x1 x2 x3 x4 x5 x6. closeWithSummaryEnd x0
+    x1 x2 x3 x4 x5 x6 .card) (λ x0 x1 x2 x3 x4 x5 x6. closeWithSummaryEnd x0 x1 x2 x3 x4 x5 x6 .beside .scratch) replyOf
     𝓤 H (𝓖 .A) (givenOf 𝓤 H 𝓜 𝓖) (tablesOf 𝓤 H 𝓜 (tables 𝓤 H 𝓜 𝓡 code.env))
-    (cited 𝓤 H (call-contract Shape Outcome Reply closeByOutcomeFor closeByMapFor closeBySummaryFor closeByEntriesFor
-    closeByCardFor closeWithSummaryScratch 𝓤 H (𝓖 .A)) 𝓜 𝓡 code.env call-def.name call-def.routine
-    code.calls-role-calls·summary·close-with-summary (call-met.met 𝓤 H 𝓜 𝓖 𝓡))
+    (cited 𝓤 H (call-contract Shape Outcome Reply (λ x0 x1 x2 x3 x4 x5 x6. closeWithSummaryEnd x0 x1 x2 x3 x4 x5 x6 .outcome)
+    (λ x0 x1 x2 x3 x4 x5 x6. closeWithSummaryEnd x0 x1 x2 x3 x4 x5 x6 .map) (λ x0 x1 x2 x3 x4 x5 x6. closeWithSummaryEnd x0 x1
+    x2 x3 x4 x5 x6 .beside .summary) (λ x0 x1 x2 x3 x4 x5 x6. closeWithSummaryEnd x0 x1 x2 x3 x4 x5 x6 .entries)
+    (λ x0 x1 x2 x3 x4 x5 x6. closeWithSummaryEnd x0 x1 x2 x3 x4 x5 x6 .card) (λ x0 x1 x2 x3 x4 x5 x6. closeWithSummaryEnd x0 x1
+    x2 x3 x4 x5 x6 .beside .scratch) 𝓤 H (𝓖 .A)) 𝓜 𝓡 code.env call-def.name call-def.routine
+    code.calls-card·Shape·close-with-summary (call-met.met 𝓤 H 𝓜 𝓖 𝓡))
     (cited 𝓤 H (reply-of-contract Shape Outcome Reply replyOf 𝓤 H (𝓖 .A)) 𝓜 𝓡 code.env reply-of-def.name reply-of-def.routine
     code.calls-pagunlit-replies·reply-of (reply-of-met.met 𝓤 H 𝓜 𝓖 𝓡)))

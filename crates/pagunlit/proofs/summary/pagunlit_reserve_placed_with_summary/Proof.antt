@@ -1,13 +1,12 @@
 -- Written by tools/walks: `pagunlit::summary::pagunlit_reserve_placed_with_summary` meets its contract, by the walk of
 -- `MapSummaryCatalogueCardFromLimits5.antt` of the crate walk_replies, with the calls of
--- `role_calls::summary::reserve_placed_with_summary`, `pagunlit_replies::reply_of`.
+-- `card::Shape::reserve_placed_with_summary`, `pagunlit_replies::reply_of`.
 -- Assumes nothing.
 use contract.Running.{givenOf, tables, tablesOf}
 use denote.Triple.Spec.{tripleOf}
 use denote.Triple.Table.{entered, cited}
 use Rattle.pagunlit_replies.specs.Replies.{replyOf}
-use Rattle.role_calls.specs.SummaryCalls.{reservePlacedByOutcomeFor, reservePlacedByMapFor}
-use Rattle.role_calls.specs.SummaryCalls.{reservePlacedBySummaryFor, reservePlacedByEntriesFor, reservePlacedByCardFor}
+use Rattle.card.specs.Ends.{reservePlacedWithSummaryEnd}
 use Rattle.catalogue.proofs.Values.{Value, valueOf}
 use Rattle.card.proofs.Shape as Shape′
 use Rattle.card.proofs.Shape.Laws as Shape″
@@ -16,8 +15,8 @@ use Rattle.card.proofs.Outcome.Laws as Outcome″
 use Rattle.pagunlit_replies.proofs.Reply as Reply′
 use Rattle.pagunlit_replies.proofs.Reply.Laws as Reply″
 use Rattle.walk_replies.proofs.MapSummaryCatalogueCardFromLimits5.{call-contract, reply-of-contract, meets}
-use Rattle.role_calls.proofs.summary.reserve_placed_with_summary.Symbol as call-def
-use Rattle.role_calls.proofs.summary.reserve_placed_with_summary.Met as call-met
+use Rattle.card.proofs.Shape.reserve_placed_with_summary.Symbol as call-def
+use Rattle.card.proofs.Shape.reserve_placed_with_summary.Met as call-met
 use Rattle.pagunlit_replies.proofs.reply_of.Symbol as reply-of-def
 use Rattle.pagunlit_replies.proofs.reply_of.Met as reply-of-met
 use Rattle.pagunlit.proofs.summary.pagunlit_reserve_placed_with_summary.Key.{name as #function}
@@ -40,11 +39,19 @@ pagunlit-reserve-placed-with-summary-spec 𝓤 H 𝓜 𝓖 𝓡 =
     entered 𝓤 H (tripleOf 𝓤 H (𝓖 .A) pagunlit-reserve-placed-with-summary.signature (pagunlit-reserve-placed-with-summary.spec 𝓤
     H (𝓖 .A) (𝓜 .mem) (𝓡 .run)))
     (tables 𝓤 H 𝓜 𝓡 code.env .C) (tables 𝓤 H 𝓜 𝓡 code.env .Λ) #function code.function (code.unfolded 𝓤 H 𝓜 𝓡)
-    (meets Shape Outcome Reply call-def.name reply-of-def.name reservePlacedByOutcomeFor reservePlacedByMapFor
-    reservePlacedBySummaryFor reservePlacedByEntriesFor reservePlacedByCardFor replyOf
+    (meets Shape Outcome Reply call-def.name reply-of-def.name (λ x0 x1 x2 x3 x4 x5 x6 x7 x8 x9 x10 x11.
+    reservePlacedWithSummaryEnd x0 x1 x2 x3 x4 x5 x6 x7 x8 x9 x10 x11 .outcome) (λ x0 x1 x2 x3 x4 x5 x6 x7 x8 x9 x10 x11.
+    reservePlacedWithSummaryEnd x0 x1 x2 x3 x4 x5 x6 x7 x8 x9 x10 x11 .map) (λ x0 x1 x2 x3 x4 x5 x6 x7 x8 x9 x10 x11.
+    reservePlacedWithSummaryEnd x0 x1 x2 x3 x4 x5 x6 x7 x8 x9 x10 x11 .beside .summary)
+    (λ x0 x1 x2 x3 x4 x5 x6 x7 x8 x9 x10 x11. reservePlacedWithSummaryEnd x0 x1 x2 x3 x4 x5 x6 x7 x8 x9 x10 x11 .entries)
+    (λ x0 x1 x2 x3 x4 x5 x6 x7 x8 x9 x10 x11. reservePlacedWithSummaryEnd x0 x1 x2 x3 x4 x5 x6 x7 x8 x9 x10 x11 .card) replyOf
     𝓤 H (𝓖 .A) (givenOf 𝓤 H 𝓜 𝓖) (tablesOf 𝓤 H 𝓜 (tables 𝓤 H 𝓜 𝓡 code.env))
-    (cited 𝓤 H (call-contract Shape Outcome Reply reservePlacedByOutcomeFor reservePlacedByMapFor reservePlacedBySummaryFor
-    reservePlacedByEntriesFor reservePlacedByCardFor 𝓤 H (𝓖 .A)) 𝓜 𝓡 code.env call-def.name call-def.routine
-    code.calls-role-calls·summary·reserve-placed-with-summary (call-met.met 𝓤 H 𝓜 𝓖 𝓡))
+    (cited 𝓤 H (call-contract Shape Outcome Reply (λ x0 x1 x2 x3 x4 x5 x6 x7 x8 x9 x10 x11. reservePlacedWithSummaryEnd x0 x1 x2
+    x3 x4 x5 x6 x7 x8 x9 x10 x11 .outcome) (λ x0 x1 x2 x3 x4 x5 x6 x7 x8 x9 x10 x11. reservePlacedWithSummaryEnd x0 x1 x2 x3 x4
+    x5 x6 x7 x8 x9 x10 x11 .map) (λ x0 x1 x2 x3 x4 x5 x6 x7 x8 x9 x10 x11. reservePlacedWithSummaryEnd x0 x1 x2 x3 x4 x5 x6 x7
+    x8 x9 x10 x11 .beside .summary) (λ x0 x1 x2 x3 x4 x5 x6 x7 x8 x9 x10 x11. reservePlacedWithSummaryEnd x0 x1 x2 x3 x4 x5 x6
+    x7 x8 x9 x10 x11 .entries) (λ x0 x1 x2 x3 x4 x5 x6 x7 x8 x9 x10 x11. reservePlacedWithSummaryEnd x0 x1 x2 x3 x4 x5 x6 x7 x8
+    x9 x10 x11 .card) 𝓤 H (𝓖 .A)) 𝓜 𝓡 code.env call-def.name call-def.routine code.calls-card·Shape·reserve-placed-with-summary
+    (call-met.met 𝓤 H 𝓜 𝓖 𝓡))
     (cited 𝓤 H (reply-of-contract Shape Outcome Reply replyOf 𝓤 H (𝓖 .A)) 𝓜 𝓡 code.env reply-of-def.name reply-of-def.routine
     code.calls-pagunlit-replies·reply-of (reply-of-met.met 𝓤 H 𝓜 𝓖 𝓡)))

@@ -1,0 +1,2 @@
+-- The contracts of the functions.
+pub mod Contracts

@@ -1,4 +1,0 @@
--- What the theorems about a carer's calls cite.
-pub mod Readings
-pub mod Learning
-pub mod Listed

@@ -1,2 +1,0 @@
--- What is claimed of the calls with a summary.
-pub mod Summaries

@@ -1,0 +1,4 @@
+-- What the roles guarantee.
+pub mod Rows
+pub mod Carers
+pub mod Service

@@ -1,0 +1,2 @@
+-- What the contracts of `summary_write` cite.
+pub mod Climbs
