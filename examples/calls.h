@@ -2,7 +2,7 @@
 #ifndef EXAMPLES_CALLS_H
 #define EXAMPLES_CALLS_H
 
-#include "pagunlit.h"
+#include "pagunlit_card.h"
 #include "pagunlit_text.h"
 
 #include <stdio.h>
@@ -10,25 +10,28 @@
 
 enum { BLOCKS = 8, SHEETS = 4, WORDS = PAGUNLIT_MAP_WORDS(BLOCKS), SCRATCH = PAGUNLIT_SCRATCH_WORDS(BLOCKS) };
 
-/* All that the library works on belongs to the program. The shape is handed from call to call. */
-static pagunlit_shape shape;
-static uint64_t map[WORDS];
-static pagunlit_entry catalogue[SHEETS];
-static uint8_t card[BLOCKS * PAGUNLIT_BLOCK];
-
-/* Who makes the calls: the pharmacist may make all of them, a carer and the service some. */
-static uint32_t role = PAGUNLIT_PHARMACIST;
-
-/* The most blocks that each wing may hold. All sheets here are of wing 0, and it may hold any number, but where it is told. */
-static uint32_t limits[PAGUNLIT_WINGS] = {UINT32_MAX};
-
-/* For save and load: the image of the map and the catalogue; and, also for closing, a scratch of at most 64 words. */
-static uint8_t image[PAGUNLIT_IMAGE_BYTES(BLOCKS, SHEETS)];
-static uint64_t scratch[SCRATCH];
-
-/* Beside the map: a summary of it, of three numbers for each group of words. A map of one word has one group. */
+/* All that the library works on belongs to the program: the map of the card's blocks, the catalogue of its sheets, and the card
+ * itself; for save and load the image of map and catalogue; a scratch for them and for closing; and beside the map a summary of
+ * it, of three numbers for each group of words. A map of one word has one group. */
 enum { NUMBERS = PAGUNLIT_SUMMARY_NUMBERS(BLOCKS) };
+static uint64_t map[WORDS], scratch[SCRATCH];
+static pagunlit_entry catalogue[SHEETS];
+static uint8_t bytes[BLOCKS * PAGUNLIT_BLOCK_BYTES], image[PAGUNLIT_IMAGE_BYTES(BLOCKS, SHEETS)];
 static uint32_t summary[NUMBERS];
+
+/* The struct is lent all of it, and keeps the shape from call to call. The pharmacist may make all calls, a carer and the
+ * service some. All sheets here are of wing 0, and it may hold any number of blocks, but where it is told. */
+static pagunlit_card card;
+
+static void lend(void)
+{
+    card.role = PAGUNLIT_PHARMACIST;
+    card.map = map, card.maplen = WORDS;
+    card.catalogue = catalogue, card.cataloguelen = SHEETS;
+    card.card = bytes, card.cardlen = sizeof bytes;
+    card.scratch = scratch, card.scratchlen = SCRATCH;
+    pagunlit_card_no_limits(&card);
+}
 
 /* What stands in the place of block b: '.' if it is free, or the number of its sheet. Two sheets would show as '!'. */
 static char holder(uint32_t b)
@@ -44,12 +47,11 @@ static char holder(uint32_t b)
     return c;
 }
 
-/* Prints a line: the call, the card's blocks, and what the call answered. Keeps the shape for the next call. */
+/* Prints a line: the call, the card's blocks, and what the call answered. */
 static void told(const char *call, pagunlit_outcome outcome)
 {
     char blocks[BLOCKS + 1] = {0};
 
-    shape = outcome.shape;
     for (uint32_t b = 0; b < BLOCKS; b++)
         blocks[b] = holder(b);
     printf("  %-26s %s  ", call, blocks);
@@ -61,23 +63,42 @@ static void told(const char *call, pagunlit_outcome outcome)
     putchar('\n');
 }
 
+/* The image is stored. Here it is a variable, which stands for what the power leaves; a dispenser writes it to a file, and says
+ * that it is saved once it is there. */
+static void save(void)
+{
+    pagunlit_outcome saved = pagunlit_card_save(&card, image, sizeof image);
+
+    told("save", saved);
+    if (saved.number == PAGUNLIT_DONE)
+        pagunlit_card_saved(&card);
+}
+
+/* What a release, a fresh card or a closing leaves is saved before blocks are taken: the struct tells. */
+static void save_before_blocks(void)
+{
+    if (pagunlit_card_save_before_blocks(&card))
+        save();
+}
+
 static void fresh(void)
 {
-    told("fresh", pagunlit_fresh(role, shape, BLOCKS, map, WORDS, catalogue, SHEETS));
+    told("fresh", pagunlit_card_fresh(&card, BLOCKS));
 }
 
 static void reserve(uint32_t sheet, uint32_t places)
 {
     char call[40];
 
+    save_before_blocks();
     snprintf(call, sizeof call, "reserve sheet %u, places %u", sheet, places);
-    told(call, pagunlit_reserve(role, shape, map, WORDS, catalogue, SHEETS, card, sizeof card, limits, sheet, places));
+    told(call, pagunlit_card_reserve(&card, sheet, places));
 }
 
 /* Where a sheet would start, and how long it could become there. */
 static void search(uint32_t places)
 {
-    pagunlit_outcome s = pagunlit_search(role, shape, map, WORDS, places);
+    pagunlit_outcome s = pagunlit_card_search(&card, places);
 
     if (s.number == PAGUNLIT_DONE)
         printf("      %u places would start at block %u, with space for %u\n", places, s.first, s.second);
@@ -88,25 +109,28 @@ static void search(uint32_t places)
 /* A payload is 496 bytes: here a line of text, and zeros behind it. */
 static void put(uint32_t sheet, uint32_t place, const char *line)
 {
-    uint8_t payload[PAGUNLIT_PAYLOAD] = {0};
+    uint8_t payload[PAGUNLIT_PAYLOAD_BYTES] = {0};
     char call[40];
 
     memcpy(payload, line, strlen(line));
     snprintf(call, sizeof call, "put sheet %u, place %u", sheet, place);
-    told(call, pagunlit_put(role, shape, map, WORDS, catalogue, SHEETS, card, sizeof card, sheet, place, payload,
-                            sizeof payload));
+    told(call, pagunlit_card_put(&card, sheet, place, payload, sizeof payload));
 }
 
 /* Place 0 of a course that is shown by date starts with its first day and its last, as days since 1 January 2000. */
-static void put_term(uint32_t sheet, uint32_t first, uint32_t last)
+static void put_term(uint32_t sheet, pagunlit_day first, pagunlit_day last)
 {
-    uint8_t payload[PAGUNLIT_PAYLOAD] = {0};
+    uint8_t payload[PAGUNLIT_PAYLOAD_BYTES] = {0};
     char call[40];
 
-    pagunlit_write_term(payload, sizeof payload, first, last);
+    if (first.number != PAGUNLIT_DONE || last.number != PAGUNLIT_DONE ||
+        pagunlit_write_term(payload, sizeof payload, first.days, last.days) != PAGUNLIT_DONE) {
+        puts("      that is no term");
+        return;
+    }
+    printf("      from day %u to day %u\n", first.days, last.days);
     snprintf(call, sizeof call, "put the term of sheet %u", sheet);
-    told(call, pagunlit_put(role, shape, map, WORDS, catalogue, SHEETS, card, sizeof card, sheet, 0, payload,
-                            sizeof payload));
+    told(call, pagunlit_card_put(&card, sheet, 0, payload, sizeof payload));
 }
 
 static void complete(uint32_t sheet)
@@ -114,7 +138,7 @@ static void complete(uint32_t sheet)
     char call[40];
 
     snprintf(call, sizeof call, "complete sheet %u", sheet);
-    told(call, pagunlit_complete(role, shape, map, WORDS, catalogue, SHEETS, card, sizeof card, sheet));
+    told(call, pagunlit_card_complete(&card, sheet));
 }
 
 static void pause_sheet(uint32_t sheet)
@@ -122,7 +146,7 @@ static void pause_sheet(uint32_t sheet)
     char call[40];
 
     snprintf(call, sizeof call, "pause sheet %u", sheet);
-    told(call, pagunlit_pause(role, shape, map, WORDS, catalogue, SHEETS, sheet));
+    told(call, pagunlit_card_pause(&card, sheet));
 }
 
 static void resume(uint32_t sheet)
@@ -130,15 +154,14 @@ static void resume(uint32_t sheet)
     char call[40];
 
     snprintf(call, sizeof call, "resume sheet %u", sheet);
-    told(call, pagunlit_resume(role, shape, map, WORDS, catalogue, SHEETS, sheet));
+    told(call, pagunlit_card_resume(&card, sheet));
 }
 
 /* Where a sheet would go, to be seen before it is agreed to. */
 static pagunlit_outcome offer(uint32_t sheet, uint32_t places)
 {
     char call[40];
-    pagunlit_outcome outcome =
-        pagunlit_offer(role, shape, map, WORDS, catalogue, SHEETS, card, sizeof card, limits, sheet, places);
+    pagunlit_outcome outcome = pagunlit_card_offer(&card, sheet, places);
 
     snprintf(call, sizeof call, "offer sheet %u, places %u", sheet, places);
     told(call, outcome);
@@ -150,9 +173,9 @@ static void accept_offer(uint32_t sheet, pagunlit_outcome offered)
 {
     char call[40];
 
+    save_before_blocks();
     snprintf(call, sizeof call, "accept sheet %u at block %u", sheet, offered.first);
-    told(call, pagunlit_accept(role, shape, map, WORDS, catalogue, SHEETS, card, sizeof card, limits, sheet, offered.first,
-                               offered.second));
+    told(call, pagunlit_card_accept(&card, sheet, offered.first, offered.second));
 }
 
 static void release(uint32_t sheet)
@@ -160,49 +183,40 @@ static void release(uint32_t sheet)
     char call[40];
 
     snprintf(call, sizeof call, "release sheet %u", sheet);
-    told(call, pagunlit_release(role, shape, map, WORDS, catalogue, SHEETS, sheet));
+    told(call, pagunlit_card_release(&card, sheet));
+}
+
+/* From here on the struct is lent the summary: the calls that have a form with one are made in that form. */
+static void lend_summary(void)
+{
+    card.summary = summary;
+    card.summarylen = NUMBERS;
+}
+
+static void take_summary_back(void)
+{
+    card.summary = NULL;
 }
 
 /* The summary is written for the map as it is now. */
 static void build_summary(void)
 {
-    told("build the summary", pagunlit_summary_build(role, shape, map, WORDS, summary, NUMBERS));
+    told("build the summary", pagunlit_card_summary_build(&card));
 }
 
 /* What group 0, which is all words, says of the card, and whether that is still so. */
 static void read_summary(void)
 {
-    pagunlit_outcome s = pagunlit_summary_check(role, shape, map, WORDS, summary, NUMBERS);
+    pagunlit_outcome s = pagunlit_card_summary_check(&card);
 
     printf("      the summary says: longest run %u; it is %s\n", summary[2], s.first == 1 ? "the map's own" : "an old one");
 }
 
-/* The same calls as above, lent the summary besides. */
-static void reserve_with_summary(uint32_t sheet, uint32_t places)
-{
-    char call[40];
-
-    snprintf(call, sizeof call, "reserve sheet %u, places %u", sheet, places);
-    told(call, pagunlit_reserve_with_summary(role, shape, map, WORDS, summary, NUMBERS, catalogue, SHEETS, card, sizeof card,
-                                             limits, sheet, places));
-    read_summary();
-}
-
-static void release_with_summary(uint32_t sheet)
-{
-    char call[40];
-
-    snprintf(call, sizeof call, "release sheet %u", sheet);
-    told(call, pagunlit_release_with_summary(role, shape, map, WORDS, summary, NUMBERS, catalogue, SHEETS, sheet));
-    read_summary();
-}
-
 static void show(uint32_t sheet, uint32_t place)
 {
-    uint8_t buffer[PAGUNLIT_PAYLOAD];
+    uint8_t buffer[PAGUNLIT_PAYLOAD_BYTES];
     char call[40];
-    pagunlit_outcome outcome =
-        pagunlit_show(role, shape, map, WORDS, catalogue, SHEETS, card, sizeof card, sheet, place, buffer, sizeof buffer);
+    pagunlit_outcome outcome = pagunlit_card_show(&card, sheet, place, buffer, sizeof buffer);
 
     snprintf(call, sizeof call, "show sheet %u, place %u", sheet, place);
     told(call, outcome);
@@ -213,10 +227,10 @@ static void show(uint32_t sheet, uint32_t place)
 /* What a sheet shows on a day: nothing before its first or after its last. */
 static void show_dated(uint32_t sheet, uint32_t place, uint32_t year, uint32_t month, uint32_t day)
 {
-    uint8_t buffer[PAGUNLIT_PAYLOAD];
+    uint8_t buffer[PAGUNLIT_PAYLOAD_BYTES];
     char call[40];
-    pagunlit_outcome outcome = pagunlit_show_dated(role, shape, map, WORDS, catalogue, SHEETS, card, sizeof card, sheet, place,
-                                                   year, month, day, buffer, sizeof buffer);
+    pagunlit_outcome outcome =
+        pagunlit_card_show_dated(&card, sheet, place, year, month, day, buffer, sizeof buffer);
 
     snprintf(call, sizeof call, "show sheet %u on %u-%02u-%02u", sheet, year, month, day);
     told(call, outcome);
@@ -227,23 +241,22 @@ static void show_dated(uint32_t sheet, uint32_t place, uint32_t year, uint32_t m
 /* All sheets move together towards block 0, and what their blocks hold moves along. */
 static void close_gaps(void)
 {
-    told("close the gaps", pagunlit_close(role, shape, map, WORDS, catalogue, SHEETS, card, sizeof card, scratch, SCRATCH));
-}
-
-static void save(void)
-{
-    told("save", pagunlit_save(role, shape, map, WORDS, catalogue, SHEETS, scratch, SCRATCH, image, sizeof image));
+    told("close the gaps", pagunlit_card_close(&card));
 }
 
 /* The head of an image says how long a map and a catalogue it needs. This program has room for one card. */
 static void load(void)
 {
     uint32_t blocks = pagunlit_image_blocks(image, sizeof image), sheets = pagunlit_image_sheets(image, sizeof image);
+    pagunlit_outcome loaded;
 
     printf("      the image is of %u blocks and %u sheets\n", blocks, sheets);
     if (blocks != BLOCKS || sheets != SHEETS)
         return;
-    told("load", pagunlit_load(role, shape, image, sizeof image, map, WORDS, catalogue, SHEETS, scratch, SCRATCH));
+    loaded = pagunlit_card_load(&card, image, sizeof image);
+    told("load", loaded);
+    if (loaded.number == PAGUNLIT_DONE)
+        pagunlit_card_saved(&card); /* it is the last one saved */
 }
 
 /* The power is off: nothing is left but the card and the image. */
@@ -251,14 +264,15 @@ static void forget(void)
 {
     memset(map, 0, sizeof map);
     memset(catalogue, 0, sizeof catalogue);
-    memset(&shape, 0, sizeof shape);
+    memset(&card, 0, sizeof card);
+    lend();
 }
 
 /* What stands for each sheet. */
 static void standings(void)
 {
     for (uint32_t sheet = 0; sheet < SHEETS; sheet++) {
-        pagunlit_outcome s = pagunlit_standing(role, shape, map, WORDS, catalogue, SHEETS, sheet);
+        pagunlit_outcome s = pagunlit_card_standing(&card, sheet);
 
         printf("      sheet %u: %c, start %u, length %u\n", sheet, (char)s.first, s.second, s.third);
     }
@@ -267,7 +281,7 @@ static void standings(void)
 /* How full the card is. */
 static void survey(void)
 {
-    pagunlit_outcome s = pagunlit_survey(role, shape, map, WORDS);
+    pagunlit_outcome s = pagunlit_card_survey(&card);
 
     printf("      free blocks %u, runs of them %u, longest run %u\n", s.first, s.second, s.third);
 }

@@ -5,7 +5,8 @@
  * card ('.' is free), and what the call answered. Three things are to be seen in that column and in the answers,
  * whatever is called: a sheet with a blank place is neither completed, shown nor taken for a pause; each block has one
  * sheet at most; and a reserve is told that the card is full only when no run of free blocks is long enough. The calls are
- * the pharmacist's, but for some near the end.
+ * the pharmacist's, but for some near the end. What a release or a closing leaves is saved before blocks are taken, where the
+ * struct that holds the card says so.
  *
  *     examples/run        builds it, prints what it prints, and compares that with course.txt
  */
@@ -14,7 +15,7 @@
 /* A count of a payload, as a prescriber reads it: with two decimals, or absent, which is not 0. */
 static void count(const uint8_t *payload, uint32_t which)
 {
-    pagunlit_count c = pagunlit_read_count(payload, PAGUNLIT_PAYLOAD, which);
+    pagunlit_count c = pagunlit_read_count(payload, PAGUNLIT_PAYLOAD_BYTES, which);
 
     printf("      count %u: ", which);
     if (c.number != 0)
@@ -28,10 +29,11 @@ static void count(const uint8_t *payload, uint32_t which)
 /* The doses of a day, as counts of a payload. */
 static void doses(void)
 {
-    uint8_t payload[PAGUNLIT_PAYLOAD] = {0};
+    uint8_t payload[PAGUNLIT_PAYLOAD_BYTES] = {0};
 
-    pagunlit_write_count(payload, sizeof payload, 0, 250);
-    pagunlit_write_count(payload, sizeof payload, 1, PAGUNLIT_COUNT_ABSENT);
+    if (pagunlit_write_count(payload, sizeof payload, 0, 250) != PAGUNLIT_DONE ||
+        pagunlit_write_count(payload, sizeof payload, 1, PAGUNLIT_COUNT_ABSENT) != PAGUNLIT_DONE)
+        puts("      that is no count");
     printf("      2.50 tablets are the bytes %02X %02X %02X %02X\n", payload[0], payload[1], payload[2], payload[3]);
     count(payload, 0);
     count(payload, 1);
@@ -132,27 +134,36 @@ static void power_cut(void)
 static void kept_summary(void)
 {
     puts("A summary beside the map says at once whether a run is long enough. Calls that are lent it keep it.");
+    lend_summary();
     build_summary();
     read_summary();
-    reserve_with_summary(0, 3);
-    release_with_summary(2);
-    reserve_with_summary(0, 7);
+    reserve(0, 3);
+    read_summary();
+    release(2);
+    read_summary();
+    reserve(0, 7);
+    read_summary();
 
     puts("A call that is not lent it leaves it behind. An old summary can miss a run, so it is built again.");
+    take_summary_back();
     release(0);
-    reserve_with_summary(0, 3);
+    lend_summary();
+    reserve(0, 3);
+    read_summary();
     build_summary();
-    reserve_with_summary(0, 3);
+    reserve(0, 3);
+    read_summary();
+    take_summary_back();
 }
 
 static void shared_card(void)
 {
     puts("Wings share the card. Beyond its limit a wing gets nothing, though there are free blocks.");
-    limits[0] = 5;
+    card.limits[0] = 5;
     reserve(2, 2);
     reserve(2, 1);
     release(2);
-    limits[0] = UINT32_MAX;
+    card.limits[0] = UINT32_MAX;
 }
 
 static void closed_gaps(void)
@@ -167,6 +178,7 @@ static void closed_gaps(void)
     survey();
     reserve(0, 4);
     close_gaps();
+    save();
     survey();
     reserve(0, 4);
     show(2, 0);
@@ -175,23 +187,23 @@ static void closed_gaps(void)
 
 static void others(void)
 {
-    puts("The pharmacist prescribes a course from 29 February 2024, day 8825, to 6 March, day 8831.");
+    puts("The pharmacist prescribes a course from 29 February 2024 to 6 March.");
     release(0);
     reserve(0, 2);
-    put_term(0, 8825, 8831);
+    put_term(0, pagunlit_day_of_date(2024, 2, 29), pagunlit_day_of_date(2024, 3, 6));
     put(0, 1, "one tablet at 8");
     complete(0);
     release(3);
 
     puts("A carer reads: what holds on the day, and nothing before or after it. All else is turned away.");
-    role = PAGUNLIT_CARER;
+    card.role = PAGUNLIT_CARER;
     show(0, 1);
     show_dated(0, 1, 2024, 2, 28);
     show_dated(0, 1, 2024, 2, 29);
     pause_sheet(0);
 
     puts("Service looks after the card, and reads no prescription.");
-    role = PAGUNLIT_SERVICE;
+    card.role = PAGUNLIT_SERVICE;
     show_dated(0, 1, 2024, 2, 29);
     close_gaps();
     save();
@@ -199,13 +211,14 @@ static void others(void)
     standings();
 
     puts("The carer finds the course where it is now.");
-    role = PAGUNLIT_CARER;
+    card.role = PAGUNLIT_CARER;
     show_dated(0, 1, 2024, 3, 6);
-    role = PAGUNLIT_PHARMACIST;
+    card.role = PAGUNLIT_PHARMACIST;
 }
 
 int main(void)
 {
+    lend();
     prescription();
     stopped_course();
     full_card();

@@ -1,0 +1,23 @@
+-- What the theorems are proved by: what each call does (Deeds).
+pub mod Deeds
+pub mod Accepted
+pub mod EveryCall
+pub mod WholeCalls
+pub mod Standings
+pub mod Apart
+pub mod Keeping
+pub mod Blocks
+pub mod Writes
+pub mod Images
+pub mod OlderImage
+pub mod Own
+pub mod Since
+pub mod Steps
+pub mod Closings
+pub mod Shown
+pub mod Words
+pub mod Notes
+pub mod WithClosings
+pub mod Rule
+pub mod WorkedClosings
+pub mod Worked
