@@ -1,7 +1,6 @@
 /* What the library answered, in words and number. The words say what the number says, of the sheet and the blocks asked for. */
 #include "desk.h"
 #include "draw.h"
-#include "pagunlit_text.h"
 
 #include <stdio.h>
 #include <string.h>
@@ -9,9 +8,9 @@
 void answer_dose(uint32_t hundredths)
 {
     if (hundredths == PAGUNLIT_COUNT_ABSENT)
-        printf("absent");
+        say("absent");
     else
-        printf("%u.%02u", hundredths / 100, hundredths % 100);
+        say("%u.%02u", hundredths / 100, hundredths % 100);
 }
 
 /* How many bytes the letter at hand has, in UTF-8; 0 where they are none, or would steer a terminal. */
@@ -61,11 +60,11 @@ static void shorten(char *text)
 static void print_day(uint32_t day)
 {
     if (day > 36524) {
-        printf("day %u", day);
+        say("day %u", day);
         return;
     }
     desk_date date = date_of(day);
-    printf("%u-%02u-%02u", date.year, date.month, date.day);
+    say("%u-%02u-%02u", date.year, date.month, date.day);
 }
 
 static uint32_t number_at(const uint8_t *bytes)
@@ -79,15 +78,15 @@ void answer_payload(const uint8_t payload[PAGUNLIT_PAYLOAD], int dated)
     size_t from = dated ? 8 : 0;
 
     if (dated) {
-        printf("    from ");
+        say("    from ");
         print_day(number_at(payload));
-        printf(" to ");
+        say(" to ");
         print_day(number_at(payload + 4));
-        putchar('\n');
+        say("\n");
     }
     answer_text(payload + from, PAGUNLIT_PAYLOAD - from, text);
     shorten(text);
-    printf("    \"%s\"\n", text);
+    say("    \"%s\"\n", text);
 }
 
 /* The end of a word for one of something, or for several. */
@@ -103,26 +102,26 @@ static int refused_sheet(const desk_said *said)
 
     switch (said->row) {
     case ROW_SHEET:
-        return printf("there is no sheet %u", sheet);
+        return say("there is no sheet %u", sheet);
     case ROW_ENTRY:
-        return printf("the entry of sheet %u is damaged", sheet);
+        return say("the entry of sheet %u is damaged", sheet);
     case ROW_ABSENT:
-        return printf("sheet %u is Absent", sheet);
+        return say("sheet %u is Absent", sheet);
     case ROW_PAUSED:
-        return printf("sheet %u is Paused%s", sheet, said->call == CALL_RESUME ? " without blocks" : "");
+        return say("sheet %u is Paused%s", sheet, said->call == CALL_RESUME ? " without blocks" : "");
     case ROW_OPEN:
-        return printf("sheet %u is Open", sheet);
+        return say("sheet %u is Open", sheet);
     case ROW_COMPLETE:
-        return printf("sheet %u is Complete", sheet);
+        return say("sheet %u is Complete", sheet);
     case ROW_PLACE:
-        return printf("sheet %u has no place %u", sheet, said->count);
+        return say("sheet %u has no place %u", sheet, said->count);
     case ROW_BLANK:
-        return printf("place %u is blank", said->outcome.first);
+        return say("place %u is blank", said->outcome.first);
     case ROW_FIRST:
-        return printf("the block of place 0 is not sound");
+        return say("the block of place 0 is not sound");
     case ROW_BLOCK:
-        return said->call == CALL_COMPLETE ? printf("a block of sheet %u is neither blank nor sound", sheet)
-                                           : printf("the block of place %u is not sound", said->count);
+        return said->call == CALL_COMPLETE ? say("a block of sheet %u is neither blank nor sound", sheet)
+                                           : say("the block of place %u is not sound", said->count);
     default:
         return 0;
     }
@@ -134,32 +133,33 @@ static int refused_other(const desk *d)
 
     switch (said->row) {
     case ROW_ROLE:
-        return printf("%s%s may not make this call", d->card.role == PAGUNLIT_CARER ? "a " : "", role_name(d->card.role));
+        return say("%s%s may not make this call", d->card.lent.role == PAGUNLIT_CARER ? "a " : "",
+                   role_name(d->card.lent.role));
     case ROW_NONE:
-        return printf("no block was asked for");
+        return say("no block was asked for");
     case ROW_FIT:
-        return printf("no run of %u free block%s%s", said->count, s(said->count),
-                      said->call == CALL_PLACED ? " within these figures" : "");
+        return say("no run of %u free block%s%s", said->count, s(said->count),
+                   said->call == CALL_PLACED ? " within these figures" : "");
     case ROW_NEXT:
-        return printf("%u block%s behind sheet %u: not all free and on the card", said->count, s(said->count), said->sheet);
+        return say("%u block%s behind sheet %u: not all free and on the card", said->count, s(said->count), said->sheet);
     case ROW_RUN:
-        return printf("%u block%s from %u on: not all free and on the card", said->count, s(said->count), said->start);
+        return say("%u block%s from %u on: not all free and on the card", said->count, s(said->count), said->start);
     case ROW_FIGURES:
-        return printf("from %u, before %u, step %u cannot be", said->figures.from, said->figures.before, said->figures.step);
+        return say("from %u, before %u, step %u cannot be", said->figures.from, said->figures.before, said->figures.step);
     case ROW_LIMIT: {
         uint32_t wing = said->sheet / PAGUNLIT_WING_SHEETS;
-        uint32_t limit = d->card.limits[wing % PAGUNLIT_WINGS];
+        uint32_t limit = d->card.lent.limits[wing % PAGUNLIT_WINGS];
 
-        return printf("wing %u would hold more than its limit of %u block%s", wing, limit, s(limit));
+        return say("wing %u would hold more than its limit of %u block%s", wing, limit, s(limit));
     }
     case ROW_DATE:
-        return printf("there is no such date from 2000 to 2099");
+        return say("there is no such date from 2000 to 2099");
     case ROW_TERM:
-        return printf("the day is outside the term of sheet %u", said->sheet);
+        return say("the day is outside the term of sheet %u", said->sheet);
     case ROW_FREE:
-        return printf("the free count contradicts the call");
+        return say("the free count contradicts the call");
     case ROW_STATE:
-        return printf("the state is not sound");
+        return say("the state is not sound");
     default:
         return 0;
     }
@@ -170,16 +170,16 @@ static int refused_bytes(const desk_said *said)
 {
     switch (said->row) {
     case ROW_LENGTH:
-        return printf("the length of the image is wrong");
+        return say("the length of the image is wrong");
     case ROW_FRAME:
-        return printf("a frame of the image has a wrong number, total or check");
+        return say("a frame of the image has a wrong number, total or check");
     case ROW_HEAD:
-        return printf("the image's blocks, sheets or free count are out of limits, or its length does not fit them");
+        return say("the image's blocks, sheets or free count are out of limits, or its length does not fit them");
     case ROW_CONTENT:
-        return printf("the state in the image is not sound, or what fills it up is not zero");
+        return say("the state in the image is not sound, or what fills it up is not zero");
     case ROW_DIGIT:
-        return printf(said->call == CALL_READ_COUNT ? "there is no count %u, or its four bytes are no digits"
-                                                    : "there is no count %u, or the dose is out of range", said->start);
+        return say(said->call == CALL_READ_COUNT ? "there is no count %u, or its four bytes are no digits"
+                                                 : "there is no count %u, or the dose is out of range", said->start);
     default:
         return 0;
     }
@@ -187,10 +187,10 @@ static int refused_bytes(const desk_said *said)
 
 static void refused(const desk *d)
 {
-    printf("refused, %u: ", d->said.outcome.number);
+    say("refused, %u: ", d->said.outcome.number);
     if (!refused_sheet(&d->said) && !refused_other(d) && !refused_bytes(&d->said))
-        printf("%s", pagunlit_meaning(d->said.outcome.number));
-    putchar('\n');
+        say("%s", rows_meaning(d->said.row));
+    say("\n");
 }
 
 static int done_blocks(const desk_said *said)
@@ -199,20 +199,20 @@ static int done_blocks(const desk_said *said)
 
     switch (said->call) {
     case CALL_SEARCH:
-        return printf("%u block%s would start at block %u, with space for %u", said->count, s(said->count), o->first,
-                      o->second);
+        return say("%u block%s would start at block %u, with space for %u", said->count, s(said->count), o->first,
+                   o->second);
     case CALL_SURVEY:
-        return printf("free blocks %u, runs of them %u, longest run %u", o->first, o->second, o->third);
+        return say("free blocks %u, runs of them %u, longest run %u", o->first, o->second, o->third);
     case CALL_RESERVE:
     case CALL_PLACED:
     case CALL_ACCEPT:
-        return printf("sheet %u is Open from block %u on, with space for %u", said->sheet, o->first, o->second);
+        return say("sheet %u is Open from block %u on, with space for %u", said->sheet, o->first, o->second);
     case CALL_OFFER:
-        return printf("sheet %u would start at block %u, with %u place%s", said->sheet, o->first, o->second, s(o->second));
+        return say("sheet %u would start at block %u, with %u place%s", said->sheet, o->first, o->second, s(o->second));
     case CALL_GROW:
-        return printf("sheet %u has %u more blank place%s", said->sheet, said->count, s(said->count));
+        return say("sheet %u has %u more blank place%s", said->sheet, said->count, s(said->count));
     case CALL_CHECK:
-        return printf("%s", o->first ? "the summary is the map's own" : "the summary is not the map's own");
+        return say("%s", o->first ? "the summary is the map's own" : "the summary is not the map's own");
     default:
         return 0;
     }
@@ -225,15 +225,15 @@ static int done_sheet(const desk_said *said)
     switch (said->call) {
     case CALL_COMPLETE:
     case CALL_RESUME:
-        return printf("sheet %u is Complete", said->sheet);
+        return say("sheet %u is Complete", said->sheet);
     case CALL_PAUSE:
-        return printf("sheet %u is Paused", said->sheet);
+        return say("sheet %u is Paused", said->sheet);
     case CALL_RELEASE:
-        return printf("sheet %u is Absent", said->sheet);
+        return say("sheet %u is Absent", said->sheet);
     case CALL_STANDING:
-        return printf("sheet %u: %s, start %u, length %u", said->sheet, draw_standing(o->first), o->second, o->third);
+        return say("sheet %u: %s, start %u, length %u", said->sheet, draw_standing(o->first), o->second, o->third);
     case CALL_PUT:
-        return printf("place %u of sheet %u is filled", said->count, said->sheet);
+        return say("place %u of sheet %u is filled", said->count, said->sheet);
     default:
         return 0;
     }
@@ -244,18 +244,18 @@ static int done_other(const desk_said *said)
 {
     switch (said->call) {
     case CALL_FRESH:
-        return printf("all blocks are free, all sheets Absent");
+        return say("all blocks are free, all sheets Absent");
     case CALL_SHOW:
     case CALL_DATED:
-        return printf("place %u of sheet %u", said->count, said->sheet);
+        return say("place %u of sheet %u", said->count, said->sheet);
     case CALL_BUILD:
-        return printf("the summary is built from the map");
+        return say("the summary is built from the map");
     case CALL_SAVE:
-        return printf("an image of %u bytes", said->count);
+        return say("an image of %u bytes", said->count);
     case CALL_LOAD:
-        return printf("the map and the catalogue are those of the image");
+        return say("the map and the catalogue are those of the image");
     case CALL_CLOSE:
-        return printf("the gaps are closed");
+        return say("the gaps are closed");
     default:
         return 0;
     }
@@ -263,14 +263,14 @@ static int done_other(const desk_said *said)
 
 static void done(const desk_said *said)
 {
-    printf("done, 0: ");
+    say("done, 0: ");
     if (said->call == CALL_READ_COUNT) {
-        printf("count %u of place %u is ", said->start, said->count);
+        say("count %u of place %u is ", said->start, said->count);
         answer_dose(said->hundredths);
     } else if (!done_blocks(said) && !done_sheet(said)) {
         done_other(said);
     }
-    putchar('\n');
+    say("\n");
     if (said->shown)
         answer_payload(said->payload, said->call == CALL_DATED && said->count == 0);
 }
@@ -280,16 +280,18 @@ void answer(desk *d)
     char line[65];
 
     d->said.made = 1;
-    d->said.row = rows_held(&d->card, &d->said, d->image, d->imagelen);
+    d->said.row = rows_held(&d->card, &d->said, d->loaded, d->loadedlen);
     if (d->said.outcome.number == PAGUNLIT_DONE)
         done(&d->said);
     else
         refused(d);
     draw_line(&d->card, line, 64);
     if (line[0])
-        printf("    [%s]\n", line);
+        say("    [%s]\n", line);
     else
-        puts("    (there is no card yet: `fresh 8 4` makes one of 8 blocks and 4 sheets)");
+        say_line("    (there is no card yet: `fresh 8 4` makes one of 8 blocks and 4 sheets)");
     if (d->card.broken && d->said.outcome.number == PAGUNLIT_DONE)
-        puts("    (damaged on purpose: this card is not what a list of calls left)");
+        say_line("    (damaged on purpose: this card is not what a list of calls left)");
+    if (d->said.outcome.number == PAGUNLIT_DONE)
+        power_note(d);
 }

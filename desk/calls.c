@@ -1,7 +1,6 @@
 /* The commands that are calls of the library on a card. Each reads its arguments, makes the call and tells what it answered. */
 #include "desk.h"
 
-#include <stdio.h>
 #include <string.h>
 
 /* What is said of a call starts anew with it. */
@@ -36,11 +35,11 @@ static void wrote(desk *d, uint32_t from, uint32_t count)
 
 void build_where_kept(desk *d)
 {
-    if (!d->card.with_summary)
+    if (!card_lends_summary(&d->card))
         return;
-    d->card.with_summary = library_summary_build(&d->card).number == PAGUNLIT_DONE;
-    puts(d->card.with_summary ? "    (the summary is built anew)"
-                              : "    (the summary could not be built: from now on the calls are lent none)");
+    card_lend_summary(&d->card, card_summary(&d->card, pagunlit_card_summary_build).number == PAGUNLIT_DONE);
+    say_line(card_lends_summary(&d->card) ? "    (the summary is built anew)"
+                                          : "    (the summary could not be built: from now on the calls are lent none)");
 }
 
 /* Makes another card. Fresh leaves the card's bytes alone, so that those of a card with as many blocks stay. */
@@ -49,11 +48,11 @@ static void fresh_other(desk *d, uint32_t blocks, uint32_t sheets)
     desk_card next;
 
     if (!card_make(&next, blocks, sheets)) {
-        puts("There is not enough memory for such a card.");
+        say_line("There is not enough memory for such a card.");
         return;
     }
     card_settings(&next, &d->card);
-    begin(d, CALL_FRESH)->outcome = library_fresh(&next, blocks);
+    begin(d, CALL_FRESH)->outcome = pagunlit_card_fresh(&next.lent, blocks);
     if (d->said.outcome.number != PAGUNLIT_DONE) {
         card_free(&next);
     } else {
@@ -68,10 +67,10 @@ COMMAND(fresh)
 
     if (!numbers(d, words, 2, both))
         return;
-    if (blocks != card_blocks(&d->card) || sheets != d->card.cataloguelen) {
+    if (blocks != card_blocks(&d->card) || sheets != d->card.lent.cataloguelen) {
         fresh_other(d, blocks, sheets);
     } else {
-        begin(d, CALL_FRESH)->outcome = library_fresh(&d->card, blocks);
+        begin(d, CALL_FRESH)->outcome = pagunlit_card_fresh(&d->card.lent, blocks);
         d->card.broken &= d->said.outcome.number != PAGUNLIT_DONE;
         answer(d);
     }
@@ -87,7 +86,7 @@ COMMAND(search)
         return;
     desk_said *said = begin(d, CALL_SEARCH);
     said->count = count;
-    said->outcome = library_search(&d->card, count);
+    said->outcome = pagunlit_card_search(&d->card.lent, count);
     answer(d);
 }
 
@@ -95,14 +94,14 @@ COMMAND(survey)
 {
     if (!numbers(d, words, 0, NULL))
         return;
-    begin(d, CALL_SURVEY)->outcome = library_survey(&d->card);
+    begin(d, CALL_SURVEY)->outcome = pagunlit_card_survey(&d->card.lent);
     answer(d);
 }
 
 /* The three figures, each by its name and in any order. Those that are not named are the plain reserve's. */
 static int figures(desk *d, const desk_words *words, desk_figures *f)
 {
-    *f = (desk_figures){0, d->card.shape.blocks, 1};
+    *f = (desk_figures){0, d->card.lent.shape.blocks, 1};
     for (int i = 3; i < words->count; i += 2) {
         const char *name = words->word[i];
         uint32_t *figure = strcmp(name, "from") == 0     ? &f->from
@@ -134,8 +133,8 @@ COMMAND(reserve)
     said->sheet = sheet;
     said->count = count;
     said->figures = f;
-    said->outcome = words->count > 3 ? library_reserve_placed(&d->card, sheet, count, f)
-                                     : library_reserve(&d->card, sheet, count);
+    said->outcome = words->count > 3 ? pagunlit_card_reserve_placed(&d->card.lent, sheet, count, f.from, f.before, f.step)
+                                     : pagunlit_card_reserve(&d->card.lent, sheet, count);
     wrote(d, said->outcome.first, count);
     answer(d);
 }
@@ -149,7 +148,7 @@ COMMAND(offer)
     desk_said *said = begin(d, CALL_OFFER);
     said->sheet = sheet;
     said->count = count;
-    said->outcome = library_offer(&d->card, sheet, count);
+    said->outcome = pagunlit_card_offer(&d->card.lent, sheet, count);
     answer(d);
     if (said->outcome.number == PAGUNLIT_DONE)
         d->offer = *said;
@@ -178,7 +177,7 @@ COMMAND(accept)
     said->sheet = sheet;
     said->start = start;
     said->count = count;
-    said->outcome = library_accept(&d->card, sheet, start, count);
+    said->outcome = pagunlit_card_accept(&d->card.lent, sheet, start, count);
     wrote(d, start, count);
     answer(d);
 }
@@ -192,9 +191,9 @@ COMMAND(grow)
     desk_said *said = begin(d, CALL_GROW);
     said->sheet = sheet;
     said->count = count;
-    said->outcome = library_grow(&d->card, sheet, count);
+    said->outcome = pagunlit_card_grow(&d->card.lent, sheet, count);
     if (said->outcome.number == PAGUNLIT_DONE) {
-        const pagunlit_entry *entry = &d->card.catalogue[sheet];
+        const pagunlit_entry *entry = &d->card.lent.catalogue[sheet];
 
         wrote(d, entry->start, entry->length);
     }
@@ -202,7 +201,7 @@ COMMAND(grow)
 }
 
 /* The calls that have a sheet and nothing else. */
-static void sheet_call(desk *d, const desk_words *words, desk_call call, pagunlit_outcome (*made)(desk_card *, uint32_t))
+static void sheet_call(desk *d, const desk_words *words, desk_call call, pagunlit_outcome (*made)(pagunlit_card *, uint32_t))
 {
     uint32_t sheet, *one[] = {&sheet};
 
@@ -210,40 +209,40 @@ static void sheet_call(desk *d, const desk_words *words, desk_call call, pagunli
         return;
     desk_said *said = begin(d, call);
     said->sheet = sheet;
-    said->outcome = made(&d->card, sheet);
+    said->outcome = made(&d->card.lent, sheet);
     answer(d);
 }
 
 COMMAND(complete)
 {
-    sheet_call(d, words, CALL_COMPLETE, library_complete);
+    sheet_call(d, words, CALL_COMPLETE, pagunlit_card_complete);
 }
 
 COMMAND(pause)
 {
-    sheet_call(d, words, CALL_PAUSE, library_pause);
+    sheet_call(d, words, CALL_PAUSE, pagunlit_card_pause);
 }
 
 COMMAND(resume)
 {
-    sheet_call(d, words, CALL_RESUME, library_resume);
+    sheet_call(d, words, CALL_RESUME, pagunlit_card_resume);
 }
 
 COMMAND(release)
 {
-    sheet_call(d, words, CALL_RELEASE, library_release);
+    sheet_call(d, words, CALL_RELEASE, pagunlit_card_release);
 }
 
 COMMAND(standing)
 {
-    sheet_call(d, words, CALL_STANDING, library_standing);
+    sheet_call(d, words, CALL_STANDING, pagunlit_card_standing);
 }
 
 COMMAND(close)
 {
     if (!numbers(d, words, 0, NULL))
         return;
-    begin(d, CALL_CLOSE)->outcome = library_close(&d->card);
+    begin(d, CALL_CLOSE)->outcome = pagunlit_card_close(&d->card.lent);
     wrote(d, 0, card_blocks(&d->card));
     answer(d);
 }
@@ -255,14 +254,15 @@ COMMAND(summary)
     if (words->count != 2 || (strcmp(word, "on") != 0 && strcmp(word, "off") != 0 && strcmp(word, "check") != 0)) {
         command_usage(d, words);
     } else if (strcmp(word, "off") == 0) {
-        d->card.with_summary = 0;
-        puts("From now on the calls are lent no summary.");
+        card_lend_summary(&d->card, 0);
+        say_line("From now on the calls are lent no summary.");
     } else if (strcmp(word, "check") == 0) {
-        begin(d, CALL_CHECK)->outcome = library_summary_check(&d->card);
+        begin(d, CALL_CHECK)->outcome = card_summary(&d->card, pagunlit_card_summary_check);
         answer(d);
     } else {
-        begin(d, CALL_BUILD)->outcome = library_summary_build(&d->card);
-        d->card.with_summary |= d->said.outcome.number == PAGUNLIT_DONE;
+        begin(d, CALL_BUILD)->outcome = card_summary(&d->card, pagunlit_card_summary_build);
+        if (d->said.outcome.number == PAGUNLIT_DONE)
+            card_lend_summary(&d->card, 1);
         answer(d);
     }
 }

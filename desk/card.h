@@ -2,25 +2,23 @@
 #ifndef DESK_CARD_H
 #define DESK_CARD_H
 
-#include "pagunlit.h"
+#include "pagunlit_card.h"
+#include "say.h"
+
+/* What was accepted since the state was saved: what the rule for saving goes by (docs/C.md, "Saving and power cuts"). */
+typedef struct {
+    int unsaved;  /* the map or the catalogue is another */
+    int released; /* a release or a fresh */
+    int closed;   /* a closing, or a load of another image than the last one saved */
+    int cut;      /* the power was cut, and no closing was accepted since: saving does not end this */
+} desk_saving;
 
 typedef struct {
-    pagunlit_shape shape;
-    uint64_t *map;
-    size_t maplen;
-    pagunlit_entry *catalogue;
-    size_t cataloguelen;
-    uint8_t *card;
-    size_t cardlen;
-    uint8_t *seen;      /* the card's bytes as the last command left them, so that undo knows what they were */
-    uint32_t *summary;
-    size_t summarylen;
-    uint64_t *scratch;
-    size_t scratchlen;
-    uint32_t limits[PAGUNLIT_WINGS];
-    uint32_t role;
-    int with_summary;   /* the calls that have a form with a summary are made in that form */
-    int broken;         /* something was damaged on purpose */
+    pagunlit_card lent;
+    uint32_t *summary; /* its memory, which is there also while the calls are lent none */
+    uint8_t *seen;     /* the card's bytes as the last command left them, so that undo knows what they were */
+    int broken;        /* something was damaged on purpose */
+    desk_saving saving;
 } desk_card;
 
 /* A card of `blocks` blocks and `sheets` sheets whose memory is all zeros. 0 if there is not enough memory. Where a number is
@@ -34,6 +32,13 @@ void card_free(desk_card *card);
 
 /* The limits, the role and what else was set by a command goes with the next card. */
 void card_settings(desk_card *card, const desk_card *from);
+
+/* From now on the calls that have a form with a summary are made in that form, or not. */
+void card_lend_summary(desk_card *card, int lent);
+int card_lends_summary(const desk_card *card);
+
+/* Builds or checks the summary in its memory, whether the calls are lent it or not. */
+pagunlit_outcome card_summary(const desk_card *card, pagunlit_outcome (*call)(pagunlit_card *));
 
 /* How many blocks the memory is for. Drawing goes by this, and not by the shape, which may be damaged. */
 uint32_t card_blocks(const desk_card *card);

@@ -32,6 +32,10 @@ const desk_command commands[] = {
     {"close", "", "close the gaps: all sheets move towards block 0", command_close, CALL_CLOSE},
     {"save", "[FILE]", "save map and catalogue as an image", command_save, CALL_SAVE},
     {"load", "[FILE]", "load an image", command_load, CALL_LOAD},
+    {"cut", "[torn BLOCK BYTES]",
+     "cut the power: the memory is lost, the card's bytes stay, and the image that was saved last is loaded; of the last write"
+     " to BLOCK only BYTES came to the card", command_cut, CALL_LOAD},
+    {"rule", "", "whether all is saved, and what the rule for saving asks next", command_rule, CALLS},
     {"limit", "[WING BLOCKS|none]", "the most blocks that a wing may hold; without arguments: all limits", command_limit,
      CALLS},
     {"summary", "on|off|check", "keep a summary beside the map; check whether it is the map's own", command_summary,
@@ -41,18 +45,23 @@ const desk_command commands[] = {
      "damage something on purpose", command_break, CALLS},
     {"card", "", "the card as a grid, and its sheets", command_card, CALLS},
     {"picture", "FILE.svg", "the card as a picture", command_picture, CALLS},
+    {"data", "card | commands | block BLOCK | sheet SHEET | picture WIDTH [FROM COUNT] | legend", "the same for programs",
+     command_data, CALLS},
     {"why", "", "which rows the last call passed, and which one held", command_why, CALLS},
     {"expect", "NUMBER [VALUE ..] | shown TEXT | card LETTERS", "compare the last answer, what was shown, or the card",
      command_expect, CALLS},
-    {"history", "", "every line that was given", command_history, CALLS},
+    {"run", "FILE", "run the commands of a file, a lesson for one", command_script, CALLS},
+    {"history", "[FILE]", "every command so far; with FILE: as a script that `run` takes", command_history, CALLS},
     {"undo", "", "take back the last command that changed something", command_undo, CALLS},
-    {"help", "[COMMAND]", "this list, or a command with the rows that can refuse it", command_help, CALLS},
+    {"help", "[COMMAND]", "this list, or a command with the rows that can refuse it; also `?`", command_help, CALLS},
     {"quit", "", "the end", command_quit, CALLS},
     {NULL, NULL, NULL, NULL, CALLS},
 };
 
 static const desk_command *command_named(const char *name)
 {
+    if (strcmp(name, "?") == 0)
+        name = "help";
     for (const desk_command *command = commands; command->name; command++)
         if (strcmp(command->name, name) == 0)
             return command;
@@ -63,13 +72,17 @@ void desk_wrong(desk *d, const char *format, ...)
 {
     va_list values;
 
-    if (!d->terminal)
-        printf("line %zu: ", d->number);
+    char text[512];
+
     va_start(values, format);
-    vprintf(format, values);
+    vsnprintf(text, sizeof text, format, values);
     va_end(values);
-    putchar('\n');
-    d->failed |= !d->terminal;
+    if (d->typed)
+        say("%s\n", text);
+    else
+        say("line %zu: %s\n", d->number, text);
+    d->failed |= !d->typed;
+    d->wrong = 1;
 }
 
 static const char *space_before(const char *arguments)
@@ -103,12 +116,12 @@ static void help_one(desk *d, const char *name)
         desk_wrong(d, "There is no command `%.40s`. `help` lists them.", name);
         return;
     }
-    printf("%s%s%s\n  %s\n", command->name, space_before(command->arguments), command->arguments, command->text);
+    say("%s%s%s\n  %s\n", command->name, space_before(command->arguments), command->arguments, command->text);
     if (command->call == CALLS)
         return;
-    puts("  What can refuse it; the first that holds is the answer:");
+    say_line("  What can refuse it; the first that holds is the answer:");
     for (const desk_row *row = rows_of(command->call); *row != NO_ROW; row++)
-        printf("    %2u  %s\n", rows_number(*row), rows_sentence(*row));
+        say("    %2u  %s\n", rows_number(*row), rows_sentence(*row));
 }
 
 void command_help(desk *d, const desk_words *words)
@@ -117,10 +130,10 @@ void command_help(desk *d, const desk_words *words)
         help_one(d, words->word[1]);
         return;
     }
-    puts("A card is blocks in a row; a sheet is a prescription that holds a run of them. All are counted from 0.");
+    say_line("A card is blocks in a row; a sheet is a prescription that holds a run of them. All are counted from 0.");
     for (const desk_command *command = commands; command->name; command++)
-        printf("  %-9s %s\n", command->name, command->text);
-    puts("`help reserve` has its arguments, and what can refuse it. A line that begins with # is a comment.");
+        say("  %-9s %s\n", command->name, command->text);
+    say_line("`help reserve` has its arguments, and what can refuse it. A line that begins with # is a comment.");
 }
 
 static size_t least(size_t a, size_t b, size_t c)
@@ -183,10 +196,10 @@ static void run_words(desk *d, const desk_words *words)
 
     if (!command) {
         no_command(d, words->word[0]);
-    } else if (command->run == command_undo) {
-        command->run(d, words);
+    } else if (command->run == command_undo || command->run == command_script) {
+        command->run(d, words); /* no step of its own: a script has a step for each of its commands */
     } else if (!steps_begin(d, words->line)) {
-        puts("There is not enough memory for this command.");
+        desk_wrong(d, "There is not enough memory for this command.");
     } else {
         command->run(d, words);
         steps_end(d);
@@ -202,7 +215,7 @@ void command_run(desk *d, const char *line)
         return;
     }
     if (!words_split(&words, line)) {
-        puts("There is not enough memory for this line.");
+        desk_wrong(d, "There is not enough memory for this line.");
         return;
     }
     if (words.count > 0 && words.word[0][0] != '#')

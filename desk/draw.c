@@ -1,15 +1,14 @@
 #include "draw.h"
 
-#include "library.h"
+#include "card.h"
 
-#include <stdio.h>
 #include <stdlib.h>
 #include <string.h>
 
 /* Where a sheet's blocks begin and end on the card, whatever its entry says. */
 static void extent(const desk_card *card, size_t sheet, uint32_t *start, uint32_t *end)
 {
-    uint64_t n = card_blocks(card), from = card->catalogue[sheet].start, to = from + card->catalogue[sheet].length;
+    uint64_t n = card_blocks(card), from = card->lent.catalogue[sheet].start, to = from + card->lent.catalogue[sheet].length;
 
     *start = (uint32_t)(from < n ? from : n);
     *end = (uint32_t)(to < n ? to : n);
@@ -25,7 +24,7 @@ static int32_t *holders(const desk_card *card)
         return NULL;
     for (uint32_t b = 0; b < n; b++)
         held[b] = card_is_free(card, b) ? RUN_FREE : RUN_LOST;
-    for (size_t sheet = 0; sheet < card->cataloguelen; sheet++) {
+    for (size_t sheet = 0; sheet < card->lent.cataloguelen; sheet++) {
         extent(card, sheet, &start, &end);
         for (uint32_t b = start; b < end; b++)
             held[b] = held[b] == RUN_LOST ? (int32_t)sheet : held[b] == RUN_FREE || held[b] == RUN_LEAK ? RUN_LEAK : RUN_TWICE;
@@ -121,18 +120,18 @@ const char *draw_standing(uint32_t mark)
 /* A sheet that is not Absent, as the library's standing answers it. */
 static int list_sheet(desk_card *card, uint32_t sheet)
 {
-    pagunlit_outcome said = library_standing(card, sheet);
+    pagunlit_outcome said = pagunlit_card_standing(&card->lent, sheet);
 
     if (said.number != PAGUNLIT_DONE) {
-        printf("  sheet %u (%c): refused, %u\n", sheet, draw_letter((int32_t)sheet), said.number);
+        say("  sheet %u (%c): refused, %u\n", sheet, draw_letter((int32_t)sheet), said.number);
         return 1;
     }
     if (said.first == PAGUNLIT_ABSENT)
         return 0;
-    printf("  sheet %u (%c): %s", sheet, draw_letter((int32_t)sheet), draw_standing(said.first));
+    say("  sheet %u (%c): %s", sheet, draw_letter((int32_t)sheet), draw_standing(said.first));
     if (said.third > 0)
-        printf(", blocks %u to %u", said.second, said.second + said.third - 1);
-    putchar('\n');
+        say(", blocks %u to %u", said.second, said.second + said.third - 1);
+    say("\n");
     return 1;
 }
 
@@ -140,19 +139,19 @@ static void list_sheets(desk_card *card)
 {
     int listed = 0, others = 0;
 
-    if (library_standing(card, 0).number == PAGUNLIT_TURNED_AWAY) {
-        puts("  how its sheets stand is refused, 21: this role may not ask");
+    if (pagunlit_card_standing(&card->lent, 0).number == PAGUNLIT_TURNED_AWAY) {
+        say_line("  how its sheets stand is refused, 21: this role may not ask");
         return;
     }
-    for (uint32_t sheet = 0; sheet < card->cataloguelen; sheet++)
+    for (uint32_t sheet = 0; sheet < card->lent.cataloguelen; sheet++)
         if (listed < DESK_LISTED)
             listed += list_sheet(card, sheet);
         else
-            others += library_standing(card, sheet).first != PAGUNLIT_ABSENT;
+            others += pagunlit_card_standing(&card->lent, sheet).first != PAGUNLIT_ABSENT;
     if (listed == 0)
-        puts("  no sheet: all are Absent");
+        say_line("  no sheet: all are Absent");
     if (others > 0)
-        printf("  and %d more: `standing SHEET` tells of each\n", others);
+        say("  and %d more: `standing SHEET` tells of each\n", others);
 }
 
 void draw_grid(desk_card *card)
@@ -163,8 +162,8 @@ void draw_grid(desk_card *card)
 
     draw_line(card, text, CELLS);
     for (size_t at = 0; text[at]; at += COLUMNS)
-        printf("  %6zu  %.*s\n", at * group, COLUMNS, text + at);
+        say("  %6zu  %.*s\n", at * group, COLUMNS, text + at);
     if (group > 1)
-        printf("  a letter is %u blocks; ':' part of them is free, '+' several sheets, '#' a sheet above 61\n", group);
+        say("  a letter is %u blocks; ':' part of them is free, '+' several sheets, '#' a sheet above 61\n", group);
     list_sheets(card);
 }

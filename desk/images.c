@@ -17,9 +17,12 @@ static desk_said *begin(desk *d, desk_call call)
     return &d->said;
 }
 
+/* The image that was kept before goes with the step, so that undo has it. */
 static void keep_image(desk *d, uint8_t *image, size_t imagelen)
 {
-    free(d->image);
+    d->step.replaced = 1;
+    d->step.image_was = d->image;
+    d->step.imagelen_was = d->imagelen;
     d->image = image;
     d->imagelen = imagelen;
     d->images++;
@@ -33,12 +36,12 @@ static void write_file(desk *d, const char *name)
     if (!file || fclose(file) != 0 || written != d->imagelen)
         desk_wrong(d, "The file could not be written (%s).", strerror(errno));
     else
-        printf("    written to %s\n", name);
+        say("    written to %s\n", name);
 }
 
 COMMAND(save)
 {
-    size_t sheets = d->card.cataloguelen;
+    size_t sheets = d->card.lent.cataloguelen;
     size_t imagelen = PAGUNLIT_IMAGE_BYTES(card_blocks(&d->card), sheets);
     uint8_t *image = calloc(imagelen, 1);
 
@@ -48,20 +51,20 @@ COMMAND(save)
         return;
     }
     desk_said *said = begin(d, CALL_SAVE);
-    said->outcome = library_save(&d->card, image, imagelen);
+    said->outcome = pagunlit_card_save(&d->card.lent, image, imagelen);
     said->count = (uint32_t)imagelen;
-    answer(d);
-    if (said->outcome.number != PAGUNLIT_DONE) {
+    if (said->outcome.number == PAGUNLIT_DONE)
+        keep_image(d, image, imagelen);
+    else
         free(image);
-        return;
-    }
-    keep_image(d, image, imagelen);
-    if (words->count == 2)
+    answer(d);
+    if (said->outcome.number == PAGUNLIT_DONE && words->count == 2)
         write_file(d, words->word[1]);
 }
 
-/* Reads a file as an image. At most LONGEST bytes: what is longer is no image, and load says so. */
-static int read_file(desk *d, const char *name)
+/* Loads an image from a file. At most LONGEST bytes are read: what is longer is no image, and load says so. It is kept only if
+ * none is: what was saved last stays what comes back after a power cut. */
+static void load_file(desk *d, const char *name)
 {
     FILE *file = fopen(name, "rb");
     uint8_t *image = file ? malloc(LONGEST) : NULL;
@@ -72,30 +75,34 @@ static int read_file(desk *d, const char *name)
         desk_wrong(d, "The file could not be read (%s).", strerror(errno));
     if (file)
         fclose(file);
-    if (failed)
-        free(image);
-    else
+    if (!failed)
+        image_load(d, image, length);
+    if (!failed && !d->image && d->said.outcome.number == PAGUNLIT_DONE)
         keep_image(d, image, length);
-    return !failed;
+    else
+        free(image);
 }
 
 /* Load reads a map and a catalogue, and no block: a card of the same size stays in its slot, for another a blank one is put
  * in. */
-static void load_image(desk *d)
+void image_load(desk *d, const uint8_t *image, size_t imagelen)
 {
-    uint32_t blocks = pagunlit_image_blocks(d->image, d->imagelen), sheets = pagunlit_image_sheets(d->image, d->imagelen);
+    uint32_t blocks = pagunlit_image_blocks(image, imagelen), sheets = pagunlit_image_sheets(image, imagelen);
     desk_card next;
 
     if (!card_make(&next, blocks, sheets)) {
-        puts("There is not enough memory for such a card.");
+        say_line("There is not enough memory for such a card.");
         return;
     }
     card_settings(&next, &d->card);
-    begin(d, CALL_LOAD)->outcome = library_load(&next, d->image, d->imagelen, next.maplen);
+    next.saving = d->card.saving;
+    d->loaded = image;
+    d->loadedlen = imagelen;
+    begin(d, CALL_LOAD)->outcome = pagunlit_card_load(&next.lent, image, imagelen);
     if (d->said.outcome.number != PAGUNLIT_DONE) {
         card_free(&next);
     } else {
-        next.broken = d->card.broken && next.cardlen == d->card.cardlen;
+        next.broken = d->card.broken && next.lent.cardlen == d->card.lent.cardlen;
         steps_replace(d, &next);
     }
     answer(d);
@@ -109,18 +116,19 @@ COMMAND(load)
         command_usage(d, words);
         return;
     }
-    if (words->count == 2 && !read_file(d, words->word[1]))
-        return;
-    if (!d->image)
+    if (words->count == 2)
+        load_file(d, words->word[1]);
+    else if (!d->image)
         desk_wrong(d, "No image was saved yet. `save` keeps one, `save FILE` writes it to a file, `load FILE` reads one.");
     else
-        load_image(d);
+        image_load(d, d->image, d->imagelen);
 }
 
 static void broken(desk *d)
 {
     d->card.broken = 1;
-    puts("This card is no longer what a list of calls left. What the calls promise of any memory, they keep.");
+    d->card.saving.unsaved = 1;
+    say_line("This card is no longer what a list of calls left. What the calls promise of any memory, they keep.");
 }
 
 static void break_block(desk *d, const desk_words *words)
@@ -137,10 +145,10 @@ static void break_block(desk *d, const desk_words *words)
         desk_wrong(d, "The card has %u blocks of %d bytes, counted from 0.", card_blocks(&d->card), PAGUNLIT_BLOCK);
         return;
     }
-    d->card.card[(size_t)PAGUNLIT_BLOCK * block + byte] ^= 1;
+    d->card.lent.card[(size_t)PAGUNLIT_BLOCK * block + byte] ^= 1;
     d->from = block;
     d->to = block + 1;
-    printf("Byte %u of block %u has changed, as a worn contact changes it.\n", byte, block);
+    say("Byte %u of block %u has changed, as a worn contact changes it.\n", byte, block);
     broken(d);
 }
 
@@ -157,11 +165,11 @@ static void break_entry(desk *d, const desk_words *words)
     if (!command_number(d, words, 2, "the sheet", &sheet) ||
         (words->count == 5 && !command_number(d, words, 4, part, &number)))
         return;
-    if (sheet >= d->card.cataloguelen) {
-        desk_wrong(d, "The card has %zu sheets, counted from 0.", d->card.cataloguelen);
+    if (sheet >= d->card.lent.cataloguelen) {
+        desk_wrong(d, "The card has %zu sheets, counted from 0.", d->card.lent.cataloguelen);
         return;
     }
-    pagunlit_entry *entry = &d->card.catalogue[sheet];
+    pagunlit_entry *entry = &d->card.lent.catalogue[sheet];
     if (words->count == 3)
         *entry = (pagunlit_entry){0, 0, 0};
     else if (strcmp(part, "mark") == 0)
@@ -174,7 +182,7 @@ static void break_entry(desk *d, const desk_words *words)
         command_usage(d, words);
         return;
     }
-    printf("The entry of sheet %u is now mark %u, start %u, length %u.\n", sheet, entry->mark, entry->start, entry->length);
+    say("The entry of sheet %u is now mark %u, start %u, length %u.\n", sheet, entry->mark, entry->start, entry->length);
     broken(d);
 }
 
@@ -184,8 +192,8 @@ static void break_bit(desk *d, uint32_t block)
         desk_wrong(d, "The map has %u blocks, counted from 0.", card_blocks(&d->card));
         return;
     }
-    d->card.map[block / 64] ^= (uint64_t)1 << (63 - block % 64);
-    printf("Block %u is now %s in the map.\n", block, card_is_free(&d->card, block) ? "free" : "taken");
+    d->card.lent.map[block / 64] ^= (uint64_t)1 << (63 - block % 64);
+    say("Block %u is now %s in the map.\n", block, card_is_free(&d->card, block) ? "free" : "taken");
     broken(d);
 }
 
@@ -199,7 +207,7 @@ static void break_image(desk *d, uint32_t byte)
     d->image[byte] ^= 1;
     d->step.image = d->images;
     d->step.byte = byte;
-    printf("Byte %u of the saved image has changed. The card is as it was.\n", byte);
+    say("Byte %u of the saved image has changed. The card is as it was.\n", byte);
 }
 
 COMMAND(break)
@@ -220,8 +228,8 @@ COMMAND(break)
     else if (strcmp(what, "image") == 0)
         break_image(d, number);
     else {
-        d->card.shape.free = number;
-        printf("The free count is now %u.\n", number);
+        d->card.lent.shape.free = number;
+        say("The free count is now %u.\n", number);
         broken(d);
     }
 }

@@ -13,7 +13,7 @@ static void line_of(const desk_picture *p, double x, double y, desk_look look, i
 }
 
 /* How sheets stand, and what else a block may be. */
-static void meanings(const desk_picture *p, double y)
+void picture_meanings(const desk_picture *p, double y)
 {
     static const desk_look complete = {"#BBBBBB", "#000000", NULL, 0, 0}, open = {"#BBBBBB", "#000000", NULL, 1, 0},
                            paused = {"#777777", "#000000", "url(#paused)", 0, 0},
@@ -30,7 +30,7 @@ static void meanings(const desk_picture *p, double y)
 /* A sheet as the library's standing answers it. Gives 0 if it is Absent. */
 static int sheet_at(const desk_picture *p, desk_card *card, uint32_t sheet, double x, double y)
 {
-    pagunlit_outcome said = library_standing(card, sheet);
+    pagunlit_outcome said = pagunlit_card_standing(&card->lent, sheet);
     char text[80];
     desk_look look = picture_look(card, (int32_t)sheet);
 
@@ -59,15 +59,15 @@ static void sheets_of(const desk_picture *p, desk_card *card, double x, double y
     uint32_t listed = 0, others = 0;
     char text[80];
 
-    if (library_standing(card, 0).number == PAGUNLIT_TURNED_AWAY) {
+    if (pagunlit_card_standing(&card->lent, 0).number == PAGUNLIT_TURNED_AWAY) {
         remark(p, x, y, "refused, 21: this role may not ask how they stand");
         return;
     }
-    for (uint32_t sheet = 0; sheet < card->cataloguelen; sheet++)
+    for (uint32_t sheet = 0; sheet < card->lent.cataloguelen; sheet++)
         if (listed < LISTED)
             listed += (uint32_t)sheet_at(p, card, sheet, x + COLUMN * (listed / LINES), y + LINE * (listed % LINES));
         else
-            others += library_standing(card, sheet).first != PAGUNLIT_ABSENT;
+            others += pagunlit_card_standing(&card->lent, sheet).first != PAGUNLIT_ABSENT;
     snprintf(text, sizeof text, "and %u more: the number of each stands on it where there is room", others);
     if (others > 0)
         remark(p, x, y + LINE * LINES, text);
@@ -80,6 +80,6 @@ void picture_legend(const desk_picture *p, desk_card *card)
     fprintf(p->file, "<text x=\"20\" y=\"%.2f\" font-size=\"14\" font-weight=\"bold\">Marks</text>\n", top - 12);
     fprintf(p->file, "<text x=\"%d\" y=\"%.2f\" font-size=\"14\" font-weight=\"bold\">Sheets, by number</text>\n",
             20 + COLUMN + 10, top - 12);
-    meanings(p, top);
+    picture_meanings(p, top);
     sheets_of(p, card, 20 + COLUMN + 10, top);
 }

@@ -1,133 +1,213 @@
 /* The console. It reads a terminal with line editing (where libedit was there when it was built), a script, or standard input
- * without prompts. Its exit status is 1 if an `expect` of a script failed or a line of it was not understood. */
+ * without prompts. Its exit status is 1 if an `expect` of a script failed or a line of it was not understood. What only a
+ * terminal has is all here: its width, Ctrl-C, and the stops of a script. */
 #include "desk.h"
 
-#include <stdio.h>
+#include <errno.h>
+#include <signal.h>
 #include <stdlib.h>
 #include <string.h>
+#include <sys/ioctl.h>
+#include <sys/select.h>
 #include <unistd.h>
 
 #ifdef DESK_EDITLINE
 #include <editline/readline.h>
 #endif
 
-/* Keeps a line for `history`. One that does not fit into memory is left out. */
-static void remember(desk *d, const char *line)
+/* Ctrl-C ends the command at hand, or the line that is being typed. A call of the library is never ended in its middle. */
+static volatile sig_atomic_t interrupted;
+
+static void on_interrupt(int number)
 {
-    if (d->linecount % 64 == 0) {
-        char **more = realloc(d->lines, (d->linecount + 64) * sizeof *more);
-        if (!more)
-            return;
-        d->lines = more;
+    (void)number;
+    interrupted = 1;
+}
+
+static int was_interrupted(void)
+{
+    return interrupted;
+}
+
+/* The width of the terminal, which may have changed since the last line. Gives its lines, 0 where they are not known. */
+static size_t look_at_terminal(void)
+{
+    struct winsize size;
+    int known = isatty(STDOUT_FILENO) && ioctl(STDOUT_FILENO, TIOCGWINSZ, &size) == 0;
+
+    say_width(known ? size.ws_col : 0);
+    return known ? size.ws_row : 0;
+}
+
+typedef enum { READ_LINE, READ_END, READ_INTERRUPTED } reading;
+
+#ifdef DESK_EDITLINE
+
+static char *typed_line;
+static int line_ended;
+
+/* libedit hands over a line that was typed, or NULL at the end of the input. */
+static void take_line(char *line)
+{
+    typed_line = line;
+    line_ended = 1;
+    rl_callback_handler_remove();
+}
+
+/* Waits until something is typed. Ctrl-C is let through only here, so that none is missed between a look and the wait. */
+static int wait_for_key(void)
+{
+    sigset_t blocked, before;
+    fd_set input;
+
+    sigemptyset(&blocked);
+    sigaddset(&blocked, SIGINT);
+    sigprocmask(SIG_BLOCK, &blocked, &before);
+    FD_ZERO(&input);
+    FD_SET(STDIN_FILENO, &input);
+    int ready = interrupted ? -1 : pselect(STDIN_FILENO + 1, &input, NULL, NULL, NULL, &before);
+    sigprocmask(SIG_SETMASK, &before, NULL);
+    return ready > 0 || !interrupted;
+}
+
+static reading read_line(const char *prompt, char **line)
+{
+    line_ended = 0;
+    typed_line = NULL;
+    rl_callback_handler_install(prompt, take_line);
+    while (!line_ended) {
+        if (wait_for_key()) {
+            rl_callback_read_char();
+        } else {
+            rl_callback_handler_remove();
+            return READ_INTERRUPTED;
+        }
     }
-    if ((d->lines[d->linecount] = strdup(line)))
-        d->linecount++;
+    *line = typed_line;
+    if (*line && (*line)[0])
+        add_history(*line);
+    return *line ? READ_LINE : READ_END;
 }
 
-/* What stands before each line: who makes the calls, where it is not the pharmacist. */
-static const char *prompt(const desk *d)
-{
-    static char text[24];
+#else
 
-    snprintf(text, sizeof text, "%s> ", d->card.role == PAGUNLIT_PHARMACIST ? "" : role_name(d->card.role));
-    return text;
-}
-
-/* A comment that is read aloud, or a command, as a script has it. */
-static void echo(const desk *d, const char *line)
+static reading read_line(const char *prompt, char **line)
 {
-    if (line[0] == '#')
-        printf("%s\n", line[1] == ' ' ? line + 2 : line + 1);
-    else if (line[0])
-        printf("%s%s\n", prompt(d), line);
-    else
-        putchar('\n');
-}
-
-static void run_line(desk *d, char *line)
-{
-    d->number++;
-    if (d->echo)
-        echo(d, line);
-    command_run(d, line);
-    if (line[strspn(line, " \t")] && line[0] != '#')
-        remember(d, line);
-    fflush(stdout);
-}
-
-/* The next line without its end, or 0. One with a zero byte in it is no text, and is made one that is refused as such. */
-static int next_line(const desk *d, char **line, size_t *size, FILE *input)
-{
-    if (d->terminal) {
-        fputs(prompt(d), stdout);
-        fflush(stdout);
-    }
-    ssize_t length = getline(line, size, input);
-    if (length < 0)
-        return 0;
-    if (length > 0 && (*line)[length - 1] == '\n')
-        (*line)[--length] = '\0';
-    if (strlen(*line) != (size_t)length)
-        strcpy(*line, "\x01");
-    return 1;
-}
-
-static void run_stream(desk *d, FILE *input)
-{
-    char *line = NULL;
     size_t size = 0;
 
-    while (!d->over && next_line(d, &line, &size, input))
-        run_line(d, line);
-    free(line);
+    *line = NULL;
+    fputs(prompt, stdout);
+    fflush(stdout);
+    ssize_t length = getline(line, &size, stdin);
+    if (length < 0) {
+        free(*line);
+        if (interrupted)
+            clearerr(stdin);
+        return interrupted ? READ_INTERRUPTED : READ_END;
+    }
+    (*line)[strcspn(*line, "\n")] = '\0';
+    return READ_LINE;
+}
+
+#endif
+
+/* What is typed where a script has stopped. Enter goes on: commands that were tried are taken back, so that the script goes on
+ * from where it was. 0 if it is to be left. */
+static int stop(desk *d)
+{
+    static const char *const prompt = "-- Enter: go on. A command: try it. leave: end the script> ";
+    size_t lowest = d->lowest;
+    int typed = d->typed, going = 1, stopped = 1;
+    char *line;
+
+    d->lowest = d->taken;
+    d->typed = 1;
+    while (stopped && !d->over) {
+        reading read = read_line(prompt, &line);
+
+        look_at_terminal();
+        going = read == READ_LINE && strcmp(line, "leave") != 0;
+        stopped = going && line[0];
+        if (stopped) {
+            script_line(d, line);
+            interrupted = 0;
+        }
+        if (read == READ_LINE)
+            free(line);
+        else
+            say("\n");
+    }
+    while (going && !d->over && d->taken > d->lowest)
+        script_line(d, "undo");
+    d->lowest = lowest;
+    d->typed = typed;
+    return going;
+}
+
+/* A script stops where a paragraph of it ends, and before what it printed leaves the screen. */
+static int pause_script(desk *d, const char *line)
+{
+    enum { ROOM = 6 }; /* lines of the next answer, and of the prompt */
+    static size_t printed;
+    size_t lines = look_at_terminal();
+
+    printed += say_lines();
+    if (interrupted) {
+        say("(the script is left at line %zu)\n", d->number);
+        return 0;
+    }
+    if (printed == 0 || (line[0] && (lines <= ROOM || printed < lines - ROOM)))
+        return 1;
+    desk_said said = d->said, offer = d->offer;
+    int going = stop(d);
+    if (going) {
+        d->said = said;
+        d->offer = offer;
+    }
+    say_lines();
+    printed = 0;
+    return going;
+}
+
+static void on_terminal(desk *d)
+{
+    struct sigaction action;
+
+    memset(&action, 0, sizeof action);
+    action.sa_handler = on_interrupt; /* without SA_RESTART: a file that is waited for is given up */
+    sigemptyset(&action.sa_mask);
+    sigaction(SIGINT, &action, NULL);
+    d->interrupted = was_interrupted;
+    if (isatty(STDOUT_FILENO))
+        d->pause = pause_script;
+    look_at_terminal();
 }
 
 static void run_terminal(desk *d)
 {
-    puts("A card at a desk. `help` lists the commands, `fresh 8 4` makes a card of 8 blocks and 4 sheets.");
-#ifdef DESK_EDITLINE
+    reading read = READ_LINE;
     char *line;
 
-    while (!d->over && (line = readline(prompt(d)))) {
-        if (line[0])
-            add_history(line);
-        run_line(d, line);
-        free(line);
+    say_line("A card at a desk. `help` lists the commands, `fresh 8 4` makes a card of 8 blocks and 4 sheets.");
+    while (!d->over && read != READ_END) {
+        interrupted = 0;
+        d->typed = 1;
+        read = read_line(script_prompt(d), &line);
+        look_at_terminal();
+        say_lines();
+        if (read == READ_LINE) {
+            script_line(d, line);
+            free(line);
+        } else {
+            say("\n");
+        }
     }
-#else
-    run_stream(d, stdin);
-#endif
-    putchar('\n');
-}
-
-static int run_script(desk *d, const char *name)
-{
-    FILE *script = fopen(name, "r");
-
-    if (!script) {
-        perror(name);
-        return 0;
-    }
-    d->echo = 1;
-    run_stream(d, script);
-    fclose(script);
-    return 1;
-}
-
-static void desk_free(desk *d)
-{
-    steps_free(d);
-    card_free(&d->card);
-    free(d->image);
-    while (d->linecount > 0)
-        free(d->lines[--d->linecount]);
-    free(d->lines);
 }
 
 int main(int count, char **words)
 {
     static desk d;
-    int read = 1;
+    int read = 1, terminal = isatty(STDIN_FILENO);
 
     if (count > 2) {
         fputs("usage: desk [SCRIPT]\n", stderr);
@@ -137,13 +217,17 @@ int main(int count, char **words)
         fputs("desk: there is not enough memory\n", stderr);
         return 2;
     }
-    d.terminal = count == 1 && isatty(STDIN_FILENO);
-    if (count == 2)
-        read = run_script(&d, words[1]);
-    else if (d.terminal)
+    if (terminal)
+        on_terminal(&d);
+    if (count == 2) {
+        read = script_run(&d, words[1]);
+        if (!read)
+            perror(words[1]);
+    } else if (terminal) {
         run_terminal(&d);
-    else
-        run_stream(&d, stdin);
+    } else {
+        script_stream(&d, stdin, 0);
+    }
     int failed = d.failed;
     desk_free(&d);
     return !read ? 2 : failed;

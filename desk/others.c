@@ -2,6 +2,7 @@
 #include "desk.h"
 #include "draw.h"
 
+#include <errno.h>
 #include <stdio.h>
 #include <string.h>
 
@@ -10,11 +11,11 @@ static void list_limits(const desk *d)
     for (uint32_t wing = 0; wing < PAGUNLIT_WINGS; wing++) {
         uint32_t first = wing * PAGUNLIT_WING_SHEETS;
 
-        printf("    wing %u (sheets %u to %u): ", wing, first, first + PAGUNLIT_WING_SHEETS - 1);
-        if (d->card.limits[wing] == UINT32_MAX)
-            puts("no limit");
+        say("    wing %u (sheets %u to %u): ", wing, first, first + PAGUNLIT_WING_SHEETS - 1);
+        if (d->card.lent.limits[wing] == UINT32_MAX)
+            say_line("no limit");
         else
-            printf("%u blocks\n", d->card.limits[wing]);
+            say("%u blocks\n", d->card.lent.limits[wing]);
     }
 }
 
@@ -38,11 +39,11 @@ COMMAND(limit)
                    PAGUNLIT_WINGS, PAGUNLIT_WINGS - 1, PAGUNLIT_WING_SHEETS);
         return;
     }
-    d->card.limits[wing] = limit;
+    d->card.lent.limits[wing] = limit;
     if (limit == UINT32_MAX)
-        printf("Wing %u has no limit.\n", wing);
+        say("Wing %u has no limit.\n", wing);
     else
-        printf("Wing %u may hold %u blocks.\n", wing, limit);
+        say("Wing %u may hold %u blocks.\n", wing, limit);
 }
 
 COMMAND(card)
@@ -52,11 +53,11 @@ COMMAND(card)
         return;
     }
     if (card_blocks(&d->card) == 0) {
-        puts("There is no card yet: `fresh 8 4` makes one.");
+        say_line("There is no card yet: `fresh 8 4` makes one.");
         return;
     }
-    printf("A card of %u blocks and %zu sheets, %u of its blocks free.\n", d->card.shape.blocks, d->card.cataloguelen,
-           d->card.shape.free);
+    say("A card of %u blocks and %zu sheets, %u of its blocks free.\n", d->card.lent.shape.blocks, d->card.lent.cataloguelen,
+        d->card.lent.shape.free);
     draw_grid(&d->card);
 }
 
@@ -67,7 +68,7 @@ COMMAND(picture)
     else if (card_blocks(&d->card) == 0)
         desk_wrong(d, "There is no card to draw yet: `fresh 8 4` makes one.");
     else if (picture_write(d, words->word[1]))
-        printf("The picture is in %s.\n", words->word[1]);
+        say("The picture is in %s.\n", words->word[1]);
     else
         desk_wrong(d, "The picture could not be written to %s.", words->word[1]);
 }
@@ -82,7 +83,7 @@ COMMAND(why)
 
 static void unmet(desk *d, const char *wanted, const char *was)
 {
-    printf("NOT AS EXPECTED (line %zu): expected %s, and it was %s\n", d->number, wanted, was);
+    say("NOT AS EXPECTED (line %zu): expected %s, and it was %s\n", d->number, wanted, was);
     d->failed = 1;
 }
 
@@ -150,11 +151,32 @@ COMMAND(expect)
     }
 }
 
+/* The commands so far as a script. What they answered is not in it, and `expect` lines are, if there were any. */
+static void write_history(desk *d, const char *name)
+{
+    FILE *file = fopen(name, "w");
+    int failed = !file;
+
+    for (size_t i = 0; file && i < d->linecount; i++)
+        failed |= fprintf(file, "%s\n", d->lines[i]) < 0;
+    if (file && fclose(file) != 0)
+        failed = 1;
+    if (failed)
+        desk_wrong(d, "The file could not be written (%s).", strerror(errno));
+    else
+        say("    %zu command%s written to %s\n", d->linecount, d->linecount == 1 ? "" : "s", name);
+}
+
 COMMAND(history)
 {
-    (void)words;
-    for (size_t i = 0; i < d->linecount; i++)
-        printf("%5zu  %s\n", i + 1, d->lines[i]);
+    if (words->count > 2) {
+        command_usage(d, words);
+    } else if (words->count == 2) {
+        write_history(d, words->word[1]);
+    } else {
+        for (size_t i = 0; i < d->linecount && !(d->interrupted && d->interrupted()); i++)
+            say("%5zu  %s\n", i + 1, d->lines[i]);
+    }
 }
 
 COMMAND(undo)
@@ -168,11 +190,11 @@ COMMAND(undo)
     steps_undo(d);
     draw_line(&d->card, line, 64);
     if (line[0])
-        printf("    [%s]\n", line);
+        say("    [%s]\n", line);
 }
 
 COMMAND(quit)
 {
     (void)words;
-    d->over = 1;
+    d->over = d->scripts > 0 && !d->typed ? OVER_SCRIPT : OVER_ALL;
 }

@@ -1,7 +1,6 @@
 /* The commands on what a place holds: a text, a term, dose counts. */
 #include "desk.h"
 
-#include <stdio.h>
 #include <string.h>
 
 /* Where the payload of a block begins (document 01: sheet number and place come before it). */
@@ -21,9 +20,9 @@ static void put(desk *d, uint32_t sheet, uint32_t place, const uint8_t payload[P
 {
     desk_said *said = begin(d, CALL_PUT, sheet, place);
 
-    said->outcome = library_put(&d->card, sheet, place, payload);
+    said->outcome = pagunlit_card_put(&d->card.lent, sheet, place, payload, PAGUNLIT_PAYLOAD);
     if (said->outcome.number == PAGUNLIT_DONE) {
-        d->from = d->card.catalogue[sheet].start + place;
+        d->from = d->card.lent.catalogue[sheet].start + place;
         d->to = d->from + 1;
     }
     answer(d);
@@ -80,8 +79,8 @@ COMMAND(term)
     if (!command_number(d, words, 1, "the sheet", &sheet) || !day_at(d, words, 2, &first) || !day_at(d, words, 3, &last) ||
         !text_to(d, payload, 8, words_rest(words, 4)))
         return;
-    pagunlit_write_term(payload, sizeof payload, first, last);
-    put(d, sheet, 0, payload);
+    if (pagunlit_write_term(payload, sizeof payload, first, last) == PAGUNLIT_DONE)
+        put(d, sheet, 0, payload);
 }
 
 /* The payload that a count is written to: what the place holds already, or one in which every count is absent. Absent is not 0,
@@ -91,7 +90,7 @@ static void payload_so_far(const desk *d, uint32_t sheet, uint32_t place, uint8_
     const uint8_t *block = card_place(&d->card, sheet, place);
 
     memset(payload, 0xFF, PAGUNLIT_PAYLOAD);
-    if (block && !card_is_blank(&d->card, d->card.catalogue[sheet].start + place))
+    if (block && !card_is_blank(&d->card, d->card.lent.catalogue[sheet].start + place))
         memcpy(payload, block + PAYLOAD_AT, PAGUNLIT_PAYLOAD);
 }
 
@@ -116,7 +115,7 @@ static int shown(desk *d, uint32_t sheet, uint32_t place)
 {
     desk_said *said = begin(d, CALL_SHOW, sheet, place);
 
-    said->outcome = library_show(&d->card, sheet, place, said->payload);
+    said->outcome = pagunlit_card_show(&d->card.lent, sheet, place, said->payload, PAGUNLIT_PAYLOAD);
     if (said->outcome.number != PAGUNLIT_DONE)
         answer(d);
     return said->outcome.number == PAGUNLIT_DONE;
@@ -141,14 +140,14 @@ static void read_all(desk *d)
         pagunlit_count count = pagunlit_read_count(d->said.payload, PAGUNLIT_PAYLOAD, which);
 
         if (count.number == PAGUNLIT_DONE && count.hundredths != PAGUNLIT_COUNT_ABSENT) {
-            printf("    count %u is ", which);
+            say("    count %u is ", which);
             answer_dose(count.hundredths);
-            putchar('\n');
+            say("\n");
         } else if (count.number != PAGUNLIT_DONE) {
-            printf("    count %u: refused, %u\n", which, count.number);
+            say("    count %u: refused, %u\n", which, count.number);
         }
     }
-    puts("    the others are absent");
+    say_line("    the others are absent");
 }
 
 COMMAND(count)
@@ -192,8 +191,9 @@ COMMAND(show)
     }
     desk_said *said = begin(d, dated ? CALL_DATED : CALL_SHOW, sheet, place);
     said->date = date;
-    said->outcome = dated ? library_show_dated(&d->card, sheet, place, date, said->payload)
-                          : library_show(&d->card, sheet, place, said->payload);
+    said->outcome = dated ? pagunlit_card_show_dated(&d->card.lent, sheet, place, date.year, date.month, date.day,
+                                                     said->payload, PAGUNLIT_PAYLOAD)
+                          : pagunlit_card_show(&d->card.lent, sheet, place, said->payload, PAGUNLIT_PAYLOAD);
     said->shown = said->outcome.number == PAGUNLIT_DONE;
     answer(d);
 }

@@ -23,7 +23,7 @@ desk_look picture_look(const desk_card *card, int32_t sheet)
     if (sheet < 0)
         return wrong;
     desk_look look = colours[(size_t)sheet % (sizeof colours / sizeof *colours)];
-    uint32_t mark = card->catalogue[sheet].mark;
+    uint32_t mark = card->lent.catalogue[sheet].mark;
 
     look.dashed = mark == PAGUNLIT_OPEN;
     look.over = mark == PAGUNLIT_PAUSED ? "url(#paused)" : NULL;
@@ -32,12 +32,12 @@ desk_look picture_look(const desk_card *card, int32_t sheet)
 
 double picture_x(const desk_picture *p, uint32_t block)
 {
-    return p->left + block % p->columns * p->unit;
+    return p->left + (block - p->from) % p->columns * p->unit;
 }
 
 double picture_y(const desk_picture *p, uint32_t block)
 {
-    return p->top + block / p->columns * (p->height + PICTURE_GAP);
+    return p->top + (block - p->from) / p->columns * (p->height + p->gap);
 }
 
 static void rectangle(const desk_picture *p, double x, double y, double width, double height, const char *how)
@@ -97,7 +97,7 @@ static void draw_blocks(const desk_picture *p, const desk_card *card, const desk
     for (uint32_t b = from; b < to; b++) {
         double x = picture_x(p, b), y = picture_y(p, b);
 
-        if (run->sheet >= 0 && card->catalogue[run->sheet].mark == PAGUNLIT_OPEN && card_is_blank(card, b))
+        if (run->sheet >= 0 && card->lent.catalogue[run->sheet].mark == PAGUNLIT_OPEN && card_is_blank(card, b))
             rectangle(p, x + 3, y + 3, p->unit - 6, p->height - 6, "fill=\"#FFFFFF\" stroke=\"#000000\" stroke-width=\"0.5\"");
         if (b > from)
             fprintf(p->file, "<path d=\"M%.2f %.2fv%.2f\" stroke=\"#000000\" stroke-width=\"0.4\"/>\n", x, y, p->height);
@@ -122,13 +122,13 @@ static void name_run(const desk_picture *p, const desk_card *card, const desk_ru
 }
 
 /* A run is drawn row by row. Its name stands on the widest part. */
-static void draw_run(const desk_picture *p, const desk_card *card, const desk_run *run)
+void picture_run(const desk_picture *p, const desk_card *card, const desk_run *run)
 {
     uint32_t end = run->start + run->length, widest = 0, named = run->start;
     desk_look look = picture_look(card, run->sheet);
 
     for (uint32_t from = run->start, to; from < end; from = to) {
-        uint32_t row_end = (from / p->columns + 1) * p->columns;
+        uint32_t row_end = p->from + ((from - p->from) / p->columns + 1) * p->columns;
 
         to = row_end < end ? row_end : end;
         picture_box(p, picture_x(p, from), picture_y(p, from), (to - from) * p->unit, p->height, look);
@@ -152,22 +152,24 @@ static uint32_t columns_for(uint32_t n)
 
 static void measure(desk_picture *p, uint32_t n)
 {
+    p->from = 0;
     p->blocks = n;
     p->columns = columns_for(n);
     p->rows = (n + p->columns - 1) / p->columns;
     p->unit = p->columns <= 16 ? 48 : 896.0 / p->columns;
     p->height = p->columns <= 16 ? 36 : 24;
+    p->gap = 8;
     p->left = 80;
     p->top = 78;
     double wide = p->left + p->columns * p->unit + 20;
     p->width = wide < 860 ? 860 : wide;
-    p->depth = p->top + p->rows * (p->height + PICTURE_GAP) + PICTURE_LEGEND;
+    p->depth = p->top + p->rows * (p->height + p->gap) + PICTURE_LEGEND;
 }
 
-static void open_picture(const desk_picture *p)
+void picture_open(const desk_picture *p, const char *more)
 {
     fprintf(p->file, "<svg xmlns=\"http://www.w3.org/2000/svg\" width=\"%.0f\" height=\"%.0f\" viewBox=\"0 0 %.0f %.0f\""
-            " font-family=\"sans-serif\">\n<defs>\n", p->width, p->depth, p->width, p->depth);
+            " font-family=\"sans-serif\"%s>\n<defs>\n", p->width, p->depth, p->width, p->depth, more);
     fputs("<pattern id=\"paused\" width=\"8\" height=\"8\" patternUnits=\"userSpaceOnUse\">"
           "<path d=\"M-2 2L2 -2M0 8L8 0M6 10L10 6\" stroke=\"#FFFFFF\" stroke-width=\"2.6\"/>"
           "<path d=\"M-2 4L4 -2M0 10L10 0\" stroke=\"#000000\" stroke-width=\"0.8\"/></pattern>\n"
@@ -179,10 +181,10 @@ static void open_picture(const desk_picture *p)
 /* The title: the card, and what the library's survey says of it. */
 static void draw_title(const desk_picture *p, desk_card *card)
 {
-    pagunlit_outcome survey = library_survey(card);
+    pagunlit_outcome survey = pagunlit_card_survey(&card->lent);
 
     fprintf(p->file, "<text x=\"20\" y=\"32\" font-size=\"20\" font-weight=\"bold\">A card of %u blocks and %zu sheets"
-            "</text>\n", p->blocks, card->cataloguelen);
+            "</text>\n", p->blocks, card->lent.cataloguelen);
     fprintf(p->file, "<text x=\"20\" y=\"56\" font-size=\"14\">");
     if (survey.number == PAGUNLIT_DONE)
         fprintf(p->file, "%u blocks are free, in %u %s; the longest has %u.", survey.first, survey.second,
@@ -193,11 +195,11 @@ static void draw_title(const desk_picture *p, desk_card *card)
 }
 
 /* The number of each row's first block. */
-static void draw_numbers(const desk_picture *p)
+void picture_numbers(const desk_picture *p)
 {
     for (uint32_t row = 0; row < p->rows; row++)
         fprintf(p->file, "<text x=\"%.0f\" y=\"%.2f\" font-size=\"12\" text-anchor=\"end\" fill=\"#444444\">%u</text>\n",
-                p->left - 8, picture_y(p, row * p->columns) + p->height / 2 + 4, row * p->columns);
+                p->left - 8, picture_y(p, p->from + row * p->columns) + p->height / 2 + 4, p->from + row * p->columns);
 }
 
 int picture_write(desk *d, const char *name)
@@ -212,11 +214,11 @@ int picture_write(desk *d, const char *name)
         return 0;
     }
     measure(&p, card_blocks(&d->card));
-    open_picture(&p);
+    picture_open(&p, "");
     draw_title(&p, &d->card);
-    draw_numbers(&p);
+    picture_numbers(&p);
     for (size_t i = 0; i < count; i++)
-        draw_run(&p, &d->card, &runs[i]);
+        picture_run(&p, &d->card, &runs[i]);
     picture_legend(&p, &d->card);
     fputs("</svg>\n", p.file);
     free(runs);

@@ -7,11 +7,11 @@
 
 #include <stdio.h>
 
-/* The blocks stand in rows of `columns`. Lengths are in pixels. */
+/* The blocks from `from` on stand in rows of `columns`. Lengths are in pixels. */
 typedef struct {
     FILE *file;
-    uint32_t blocks, columns, rows;
-    double unit, height; /* of a block and of a row */
+    uint32_t from, blocks, columns, rows;
+    double unit, height, gap; /* of a block, of a row and between two */
     double left, top;
     double width, depth; /* of the whole picture */
 } desk_picture;
@@ -23,7 +23,7 @@ typedef struct {
     int dashed, slanted;
 } desk_look;
 
-enum { PICTURE_LEGEND = 210, PICTURE_GAP = 8 };
+enum { PICTURE_LEGEND = 210 };
 
 desk_look picture_look(const desk_card *card, int32_t sheet);
 double picture_x(const desk_picture *p, uint32_t block);
@@ -32,7 +32,13 @@ double picture_y(const desk_picture *p, uint32_t block);
 /* A rectangle that looks like a run. */
 void picture_box(const desk_picture *p, double x, double y, double width, double height, desk_look look);
 
+/* The beginning of a picture, with its patterns; the number of each row's first block; a run, row by row. */
+void picture_open(const desk_picture *p, const char *more);
+void picture_numbers(const desk_picture *p);
+void picture_run(const desk_picture *p, const desk_card *card, const desk_run *run);
+
 /* legend.c: what the looks mean, and the sheets of the card. */
 void picture_legend(const desk_picture *p, desk_card *card);
+void picture_meanings(const desk_picture *p, double y);
 
 #endif

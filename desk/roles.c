@@ -30,9 +30,9 @@ const char *role_name(uint32_t role)
 static void say_role(uint32_t role)
 {
     if (is_known(role))
-        printf("Role %u, %s: %s.\n", role, roles[role].name, roles[role].calls);
+        say("Role %u, %s: %s.\n", role, roles[role].name, roles[role].calls);
     else
-        printf("Role %u: document 02 has no such role.\n", role);
+        say("Role %u: document 02 has no such role.\n", role);
 }
 
 /* A role by its name or its number. Any number can be asked for: the library turns away those that are no role. */
@@ -48,7 +48,7 @@ static void list_roles(uint32_t role)
 {
     for (uint32_t known = PAGUNLIT_PHARMACIST; is_known(known); known++)
         say_role(known);
-    printf("The calls are made by: %s.\n", role_name(role));
+    say("The calls are made by: %s.\n", role_name(role));
 }
 
 COMMAND(role)
@@ -58,11 +58,11 @@ COMMAND(role)
     if (words->count > 2) {
         command_usage(d, words);
     } else if (words->count == 1) {
-        list_roles(d->card.role);
+        list_roles(d->card.lent.role);
     } else if (!role_named(words->word[1], &role)) {
         desk_wrong(d, "`%.40s` is no role: there are pharmacist, carer and service.", words->word[1]);
     } else {
-        d->card.role = role;
+        d->card.lent.role = role;
         say_role(role);
     }
 }

@@ -3,7 +3,8 @@
 #ifndef DESK_ROWS_H
 #define DESK_ROWS_H
 
-#include "library.h"
+#include "card.h"
+#include "words.h"
 
 typedef enum {
     CALL_FRESH, CALL_SEARCH, CALL_SURVEY, CALL_RESERVE, CALL_PLACED, CALL_OFFER, CALL_ACCEPT, CALL_GROW, CALL_PUT,
@@ -34,7 +35,10 @@ typedef struct {
 
 const char *rows_name(desk_call call);
 uint32_t rows_number(desk_row row);
+
+/* What document 01's table says of a row, or document 02, with the document before it; and without. */
 const char *rows_sentence(desk_row row);
+const char *rows_meaning(desk_row row);
 
 /* The rows of a call in their order, up to NO_ROW. */
 const desk_row *rows_of(desk_call call);

@@ -97,35 +97,18 @@ int read_dose(const char *word, uint32_t *hundredths)
     return *word == '\0';
 }
 
-static uint32_t days_in_month(uint32_t year, uint32_t month)
-{
-    static const uint32_t days[12] = {31, 28, 31, 30, 31, 30, 31, 31, 30, 31, 30, 31};
-
-    /* All years divisible by 4 are leap years from 2000 to 2099 (document 02, (m)). */
-    return days[month - 1] + (month == 2 && year % 4 == 0);
-}
-
 int day_of(desk_date date, uint32_t *day)
 {
-    if (date.year < 2000 || date.year > 2099 || date.month < 1 || date.month > 12 || date.day < 1 ||
-        date.day > days_in_month(date.year, date.month))
-        return 0;
-    *day = date.day - 1;
-    for (uint32_t year = 2000; year < date.year; year++)
-        *day += year % 4 == 0 ? 366 : 365;
-    for (uint32_t month = 1; month < date.month; month++)
-        *day += days_in_month(date.year, month);
-    return 1;
+    pagunlit_day found = pagunlit_day_of_date(date.year, date.month, date.day);
+
+    *day = found.days;
+    return found.number == PAGUNLIT_DONE;
 }
 
 desk_date date_of(uint32_t day)
 {
-    desk_date date = {2000, 1, 1};
+    pagunlit_day found = pagunlit_day_of_number(day);
+    desk_date date = {found.year, found.month, found.day};
 
-    while (day >= (date.year % 4 == 0 ? 366u : 365u))
-        day -= date.year++ % 4 == 0 ? 366 : 365;
-    while (day >= days_in_month(date.year, date.month))
-        day -= days_in_month(date.year, date.month++);
-    date.day = day + 1;
     return date;
 }

@@ -2,7 +2,10 @@
 #ifndef DESK_WORDS_H
 #define DESK_WORDS_H
 
-#include "library.h"
+#include "card.h"
+
+typedef struct { uint32_t from, before, step; } desk_figures;
+typedef struct { uint32_t year, month, day; } desk_date;
 
 enum { DESK_WORDS = 16 };
 

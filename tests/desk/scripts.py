@@ -6,24 +6,18 @@
     tests/desk/scripts.py bytes SEED         commands that damage the card too, and lines of any bytes
     tests/desk/scripts.py large              a card of full size, filled and with gaps
     tests/desk/scripts.py shown < PAGE       the run of the console that a page of the documents shows
-    tests/desk/scripts.py terminal PROGRAM   runs the console on a terminal, on the lines of a run from standard input, and
-                                             looks whether it prints that run
-    tests/desk/scripts.py edited PROGRAM     edits a line on a terminal, and calls one back
 """
-import os
-import pty
 import random
-import re
 import sys
-import termios
-import time
 
 CHANGING = ('reserve', 'accept', 'grow', 'put', 'term', 'complete', 'pause', 'resume', 'release')
 NAMES = ('fresh reserve put term count complete show grow pause resume release offer accept standing search survey close save '
-         'load limit summary role break card why expect history undo help').split()
+         'load cut rule limit summary role break card data why expect run history undo help ?').split()
 WORDS = ('0 1 2 3 7 8 63 64 128 1024 4096 4294967295 4294967296 -1 x on off check from before step block byte entry bit image '
-         'free mark start length none absent 2.50 99999999.99 1e9 2026-11-15 2026-13-45 0-0-0 shown card carer').split()
+         'torn free mark start length none absent 2.50 99999999.99 1e9 2026-11-15 2026-13-45 0-0-0 shown card carer').split()
 
+
+FILES = [[b'save'], [b'load'], [b'run'], [b'history']]
 
 # Commands with numbers in the places of the signs: a small one for %, any for ?.
 PLAUSIBLE = ('fresh 8 4|fresh 70 9|reserve % %|reserve % % from % before ? step %|put % % one tablet|term % % ? a course|'
@@ -31,13 +25,18 @@ PLAUSIBLE = ('fresh 8 4|fresh 70 9|reserve % %|reserve % % from % before ? step 
              'offer % %|accept % % %|accept|standing %|search %|survey|close|save|load|limit 0 ?|limit 0 none|summary on|'
              'summary off|summary check|role 1|role 1|role %|'
              'break block % byte ?|break entry %|break entry % mark ?|break entry % start ?|'
-             'break entry % length ?|break bit ?|break free ?|break image ?|card|picture /dev/null|why|undo|undo|undo')
+             'break entry % length ?|break bit ?|break free ?|break image ?|card|picture /dev/null|why|cut|cut torn % ?|'
+             'rule|history /dev/null|run /dev/null|data card|data commands|data block %|data sheet %|data picture 400|'
+             'data picture 300 % ?|data legend|undo|undo|undo')
 
 
 def detour(line, card):
-    """Calls that are done here, and are taken back: another text before a sheet is completed, closing where there is a gap."""
+    """Calls that are done here, and are taken back: another text before a sheet is completed, closing where there is a gap; and
+    power cuts."""
     if line.startswith('complete '):
         return [f'put {line.split()[1]} 0 another text', 'undo']
+    if line.startswith(('put ', 'pause ', 'resume ')):
+        return ['cut', 'undo']
     return ['close', 'undo'] if '.' in card.rstrip('.') else []
 
 
@@ -93,7 +92,8 @@ def random_bytes(seed):
     r = random.Random(seed)
     lines = [b'fresh 8 4'] + [r.choice([plausible] * 12 + [nearly, any_bytes, spoiled])(r) for _ in range(600)]
     # No file is written or read by a name that came about by chance.
-    lines = [b'#' + line if line.split()[:1] in ([b'save'], [b'load']) and len(line.split()) > 1 else line for line in lines]
+    lines = [b'#' + line if line.split()[:1] in FILES and line.split()[1:2] not in ([], [b'/dev/null']) else line
+             for line in lines]
     return b'\n'.join(lines) + r.choice([b'', b'\n', b'\0'])
 
 
@@ -121,63 +121,6 @@ def shown(lines):
     return [line[4:] for line in lines[first:last] if not line.startswith('    $ ')]
 
 
-def has_libedit(program):
-    with open(program, 'rb') as f:
-        return b'libedit' in f.read()
-
-
-def until_prompt(end, edits):
-    """What the console prints, without what moves a cursor, until it waits for a line or has ended. libedit prints its prompt
-    before it takes the echo over from the terminal: what is typed in between would be seen twice."""
-    printed = ''
-    while not re.search(r'\n([a-z]+( [0-9]+)?)?> $', printed):
-        try:
-            part = os.read(end, 4096)
-        except OSError:
-            part = b''
-        if not part:
-            return printed
-        printed = re.sub(r'\x1b\[[0-9;?]*[A-Za-z]|\x1b[=>]|\r', '', printed + part.decode())
-    while edits and termios.tcgetattr(end)[3] & termios.ECHO:
-        time.sleep(0.01)
-    return printed
-
-
-def on_terminal(program, lines):
-    """All that the console prints on a terminal where these lines are typed, each after its prompt, and its exit status."""
-    edits = has_libedit(program)
-    child, end = pty.fork()
-    if child == 0:
-        os.environ['TERM'] = 'dumb'
-        os.execv(program, [program])
-    printed = until_prompt(end, edits)
-    for line in [*lines, 'quit']:
-        os.write(end, line.encode() + b'\n')
-        printed += until_prompt(end, edits)
-    os.close(end)
-    return printed, os.waitstatus_to_exitcode(os.waitpid(child, 0)[1])
-
-
-def terminal(program, run):
-    """A wrong line is answered with a hint and is no failure there."""
-    typed = [line[2:] for line in run if line.startswith('> ')]
-    printed, status = on_terminal(program, typed + ['reserv 0 3'])
-    wanted = '\n'.join(run) + '\n'
-    if not printed.startswith(wanted):
-        sys.exit(f'on a terminal the console printed\n{printed}\nand not first\n{wanted}')
-    if 'Is it `reserve`?' not in printed or status != 0:
-        sys.exit(f'on a terminal the console printed {printed!r} and ended with {status}')
-
-
-def edited(program):
-    """A letter is deleted in the middle of a line, and the line before is called back, with another number at its end."""
-    back, left, delete = '\x1b[A', '\x1b[D', '\x7f'
-    printed, status = on_terminal(program, ['fresh 8 4', 'reserrve 0 3' + left * 6 + delete, back + delete + '4', 'role carer'])
-    for wanted in ('[000.....]', 'refused, 7: sheet 0 is Open', 'carer> '):
-        if wanted not in printed or status != 0:
-            sys.exit(f'on a terminal the console did not print {wanted!r}, but {printed!r}, and ended with {status}')
-
-
 def main(words):
     if words[:1] == ['undone']:
         print('\n'.join(undone(sys.stdin.read().splitlines())))
@@ -189,10 +132,6 @@ def main(words):
         print('\n'.join(large()))
     elif words[:1] == ['shown']:
         print('\n'.join(shown(sys.stdin.read().splitlines())))
-    elif words[:1] == ['terminal'] and len(words) == 2:
-        terminal(words[1], sys.stdin.read().splitlines())
-    elif words[:1] == ['edited'] and len(words) == 2:
-        edited(words[1])
     else:
         sys.exit(__doc__)
 
