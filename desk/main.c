@@ -4,16 +4,35 @@
 #include "desk.h"
 
 #include <errno.h>
-#include <signal.h>
 #include <stdlib.h>
 #include <string.h>
+#include <unistd.h>
+#ifndef __wasi__
+#include <signal.h>
 #include <sys/ioctl.h>
 #include <sys/select.h>
-#include <unistd.h>
+#endif
 
 #ifdef DESK_EDITLINE
 #include <editline/readline.h>
 #endif
+
+#ifdef __wasi__
+
+/* WebAssembly has no signals and no terminal with a width. */
+static int interrupted;
+
+static void take_interrupts(void)
+{
+}
+
+static size_t look_at_terminal(void)
+{
+    say_width(0);
+    return 0;
+}
+
+#else
 
 /* Ctrl-C ends the command at hand, or the line that is being typed. A call of the library is never ended in its middle. */
 static volatile sig_atomic_t interrupted;
@@ -24,9 +43,14 @@ static void on_interrupt(int number)
     interrupted = 1;
 }
 
-static int was_interrupted(void)
+static void take_interrupts(void)
 {
-    return interrupted;
+    struct sigaction action;
+
+    memset(&action, 0, sizeof action);
+    action.sa_handler = on_interrupt; /* without SA_RESTART: a file that is waited for is given up */
+    sigemptyset(&action.sa_mask);
+    sigaction(SIGINT, &action, NULL);
 }
 
 /* The width of the terminal, which may have changed since the last line. Gives its lines, 0 where they are not known. */
@@ -37,6 +61,13 @@ static size_t look_at_terminal(void)
 
     say_width(known ? size.ws_col : 0);
     return known ? size.ws_row : 0;
+}
+
+#endif
+
+static int was_interrupted(void)
+{
+    return interrupted;
 }
 
 typedef enum { READ_LINE, READ_END, READ_INTERRUPTED } reading;
@@ -171,12 +202,7 @@ static int pause_script(desk *d, const char *line)
 
 static void on_terminal(desk *d)
 {
-    struct sigaction action;
-
-    memset(&action, 0, sizeof action);
-    action.sa_handler = on_interrupt; /* without SA_RESTART: a file that is waited for is given up */
-    sigemptyset(&action.sa_mask);
-    sigaction(SIGINT, &action, NULL);
+    take_interrupts();
     d->interrupted = was_interrupted;
     if (isatty(STDOUT_FILENO))
         d->pause = pause_script;
