@@ -20,19 +20,19 @@ use Rattle.bench_block.specs.contracts.bench_blank_block as blank-block-function
 
 -- what is passed is a.0, a.1.0 and so on, in the order of the parameters, and what is left of it t.0, t.1.0 and so on
 module _ {M : Type 1} {𝓤 : Ura M} (𝓛 : Logic 𝓤) (mem : Memory → SProp 𝓤) (run : Routine → Fun 𝓤) where
-  pub bench-zero-blocks-contract : Ensures 𝓤 zero-function.ended (zero-function.clauses 𝓛 mem run)
+  pub bench_zero_blocks_contract : Ensures 𝓤 zero-function.ended (zero-function.clauses 𝓛 mem run)
       (λ κs a r t. (r ≡ cond (leb (512 * (a.1.0 + a.1.1.0)) (length a.0.now)) 0 3)
       × (t.0.now ≡ cond (leb (512 * (a.1.0 + a.1.1.0)) (length a.0.now))
       (zeroed a.0.now a.1.0 a.1.1.0) a.0.now))
-  bench-zero-blocks-contract κs a r t g = refl
+  bench_zero_blocks_contract κs a r t g = refl
 
-  pub bench-blank-block-contract : Ensures 𝓤 blank-block-function.ended (blank-block-function.clauses 𝓛 mem run)
+  pub bench_blank_block_contract : Ensures 𝓤 blank-block-function.ended (blank-block-function.clauses 𝓛 mem run)
       (λ κs a r t. r ≡ cond (leb (512 * a.1.0 + 512) (length a.0.now))
       (cond (blank (block_of a.0.now a.1.0)) 1 0) 3)
-  bench-blank-block-contract κs a r t g = refl
+  bench_blank_block_contract κs a r t g = refl
 
-  pub bench-zero-blocks-asks-nothing : AsksNothing 𝓤 zero-function.ended (zero-function.clauses 𝓛 mem run)
-  bench-zero-blocks-asks-nothing κs a g = refl
+  pub bench_zero_blocks_asks_nothing : AsksNothing 𝓤 zero-function.ended (zero-function.clauses 𝓛 mem run)
+  bench_zero_blocks_asks_nothing κs a g = refl
 
-  pub bench-blank-block-asks-nothing : AsksNothing 𝓤 blank-block-function.ended (blank-block-function.clauses 𝓛 mem run)
-  bench-blank-block-asks-nothing κs a g = refl
+  pub bench_blank_block_asks_nothing : AsksNothing 𝓤 blank-block-function.ended (blank-block-function.clauses 𝓛 mem run)
+  bench_blank_block_asks_nothing κs a g = refl

@@ -16,23 +16,23 @@ use Rattle.bench_map.specs.contracts.map_bench_survey as survey-function
 
 -- what is passed is a.0, a.1.0 and so on, in the order of the parameters, and what is left of it t.0, t.1.0 and so on
 module _ {M : Type 1} {𝓤 : Ura M} (𝓛 : Logic 𝓤) (mem : Memory → SProp 𝓤) (run : Routine → Fun 𝓤) where
-  pub within-limits-contract : Ensures 𝓤 limits-function.ended (limits-function.clauses 𝓛 mem run)
+  pub within_limits_contract : Ensures 𝓤 limits-function.ended (limits-function.clauses 𝓛 mem run)
       (λ κs a r t. r ≡ within_limits a.0.now a.1.0)
-  within-limits-contract κs a r t g = refl
+  within_limits_contract κs a r t g = refl
 
-  pub map-bench-search-contract : Ensures 𝓤 search-function.ended (search-function.clauses 𝓛 mem run)
+  pub map_bench_search_contract : Ensures 𝓤 search-function.ended (search-function.clauses 𝓛 mem run)
       (λ κs a r t. r ≡ searched a.0.now a.1.0 a.1.1.0)
-  map-bench-search-contract κs a r t g = refl
+  map_bench_search_contract κs a r t g = refl
 
-  pub map-bench-survey-contract : Ensures 𝓤 survey-function.ended (survey-function.clauses 𝓛 mem run)
+  pub map_bench_survey_contract : Ensures 𝓤 survey-function.ended (survey-function.clauses 𝓛 mem run)
       (λ κs a r t. r ≡ surveyed a.0.now a.1.0)
-  map-bench-survey-contract κs a r t g = refl
+  map_bench_survey_contract κs a r t g = refl
 
-  pub within-limits-asks-nothing : AsksNothing 𝓤 limits-function.ended (limits-function.clauses 𝓛 mem run)
-  within-limits-asks-nothing κs a g = refl
+  pub within_limits_asks_nothing : AsksNothing 𝓤 limits-function.ended (limits-function.clauses 𝓛 mem run)
+  within_limits_asks_nothing κs a g = refl
 
-  pub map-bench-search-asks-nothing : AsksNothing 𝓤 search-function.ended (search-function.clauses 𝓛 mem run)
-  map-bench-search-asks-nothing κs a g = refl
+  pub map_bench_search_asks_nothing : AsksNothing 𝓤 search-function.ended (search-function.clauses 𝓛 mem run)
+  map_bench_search_asks_nothing κs a g = refl
 
-  pub map-bench-survey-asks-nothing : AsksNothing 𝓤 survey-function.ended (survey-function.clauses 𝓛 mem run)
-  map-bench-survey-asks-nothing κs a g = refl
+  pub map_bench_survey_asks_nothing : AsksNothing 𝓤 survey-function.ended (survey-function.clauses 𝓛 mem run)
+  map_bench_survey_asks_nothing κs a g = refl

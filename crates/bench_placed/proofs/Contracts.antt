@@ -14,10 +14,10 @@ use Rattle.bench_placed.specs.contracts.map_bench_search_placed as placed-functi
 
 -- what is passed is a.0, a.1.0 and so on, in the order of the parameters, and what is left of it t.0, t.1.0 and so on
 module _ {M : Type 1} {𝓤 : Ura M} (𝓛 : Logic 𝓤) (mem : Memory → SProp 𝓤) (run : Routine → Fun 𝓤) where
-  pub map-bench-search-placed-contract : Ensures 𝓤 placed-function.ended (placed-function.clauses 𝓛 mem run)
+  pub map_bench_search_placed_contract : Ensures 𝓤 placed-function.ended (placed-function.clauses 𝓛 mem run)
       (λ κs a r t. r ≡ placed_searched a.0.now a.1.0 a.1.1.0 a.1.1.1.0 a.1.1.1.1.0
       a.1.1.1.1.1.0)
-  map-bench-search-placed-contract κs a r t g = refl
+  map_bench_search_placed_contract κs a r t g = refl
 
-  pub map-bench-search-placed-asks-nothing : AsksNothing 𝓤 placed-function.ended (placed-function.clauses 𝓛 mem run)
-  map-bench-search-placed-asks-nothing κs a g = refl
+  pub map_bench_search_placed_asks_nothing : AsksNothing 𝓤 placed-function.ended (placed-function.clauses 𝓛 mem run)
+  map_bench_search_placed_asks_nothing κs a g = refl

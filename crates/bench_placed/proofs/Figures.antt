@@ -19,16 +19,16 @@ module _ (map : List ℕ) (n from before step k : ℕ) where
   unfolding placed_searched
   no_step p e = simp (le-leb 1 k p, lt-leb 1 step (omega arith))
 
-  pub past-last : 0 < k → 0 < step → n < before → 0xffff_fffe ≡ placed_searched map n from before step k
+  pub past_last : 0 < k → 0 < step → n < before → 0xffff_fffe ≡ placed_searched map n from before step k
   unfolding placed_searched
-  past-last p s l = simp (le-leb 1 k p, le-leb 1 step s, lt-leb before n l)
+  past_last p s l = simp (le-leb 1 k p, le-leb 1 step s, lt-leb before n l)
 
-  pub placed-outside : 0 < k → 0 < step → before ≤ n → within_limits map n ≡ false
+  pub placed_outside : 0 < k → 0 < step → before ≤ n → within_limits map n ≡ false
       → 0xffff_fffe ≡ placed_searched map n from before step k
   unfolding placed_searched
-  placed-outside p s l e = simp (le-leb 1 k p, le-leb 1 step s, le-leb before n l, e)
+  placed_outside p s l e = simp (le-leb 1 k p, le-leb 1 step s, le-leb before n l, e)
 
-  pub placed-within : 0 < k → 0 < step → before ≤ n → within_limits map n ≡ true
+  pub placed_within : 0 < k → 0 < step → before ≤ n → within_limits map n ≡ true
       → start_for (least_fit (free map) from before step k) ≡ placed_searched map n from before step k
   unfolding placed_searched
-  placed-within p s l e = simp (le-leb 1 k p, le-leb 1 step s, le-leb before n l, e)
+  placed_within p s l e = simp (le-leb 1 k p, le-leb 1 step s, le-leb before n l, e)

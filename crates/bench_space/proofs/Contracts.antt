@@ -14,9 +14,9 @@ use Rattle.bench_space.specs.contracts.map_bench_space as space-function
 
 -- what is passed is a.0, a.1.0 and so on, in the order of the parameters, and what is left of it t.0, t.1.0 and so on
 module _ {M : Type 1} {𝓤 : Ura M} (𝓛 : Logic 𝓤) (mem : Memory → SProp 𝓤) (run : Routine → Fun 𝓤) where
-  pub map-bench-space-contract : Ensures 𝓤 space-function.ended (space-function.clauses 𝓛 mem run)
+  pub map_bench_space_contract : Ensures 𝓤 space-function.ended (space-function.clauses 𝓛 mem run)
       (λ κs a r t. r ≡ space_answered a.0.now a.1.0 a.1.1.0)
-  map-bench-space-contract κs a r t g = refl
+  map_bench_space_contract κs a r t g = refl
 
-  pub map-bench-space-asks-nothing : AsksNothing 𝓤 space-function.ended (space-function.clauses 𝓛 mem run)
-  map-bench-space-asks-nothing κs a g = refl
+  pub map_bench_space_asks_nothing : AsksNothing 𝓤 space-function.ended (space-function.clauses 𝓛 mem run)
+  map_bench_space_asks_nothing κs a g = refl

@@ -9,10 +9,10 @@ use Rattle.bench_map.specs.Answers.{within_limits}
 use Rattle.bench_space.specs.Answers.{space_answered}
 
 module _ (map : List ℕ) (n start : ℕ) where
-  pub space-within : within_limits map n ≡ true → space (free map) start n ≡ space_answered map n start
+  pub space_within : within_limits map n ≡ true → space (free map) start n ≡ space_answered map n start
   unfolding space_answered
-  space-within e = simp e
+  space_within e = simp e
 
-  pub space-outside : within_limits map n ≡ false → 0xffff_fffe ≡ space_answered map n start
+  pub space_outside : within_limits map n ≡ false → 0xffff_fffe ≡ space_answered map n start
   unfolding space_answered
-  space-outside e = simp e
+  space_outside e = simp e

@@ -20,9 +20,9 @@ module _ (bytes : List ℕ) (at : ℕ) (news : List ℕ) (fits : at + length new
   head_length : length (take at bytes) ≡ at
   head_length = length-take-le at bytes (omega arith)
 
-  pub replaced-length : length (replaced bytes at news) ≡ length bytes
+  pub replaced_length : length (replaced bytes at news) ≡ length bytes
   unfolding replaced
-  replaced-length =
+  replaced_length =
       let rest : List ℕ = drop (length news) (drop at bytes) in
       omega (
         arith,
@@ -33,9 +33,9 @@ module _ (bytes : List ℕ) (at : ℕ) (news : List ℕ) (fits : at + length new
         head_length,
       )
 
-  pub replaced-before : (j : ℕ) → j < at → get_or (replaced bytes at news) j 0 ≡ get_or bytes j 0
+  pub replaced_before : (j : ℕ) → j < at → get_or (replaced bytes at news) j 0 ≡ get_or bytes j 0
   unfolding replaced
-  replaced-before j h =
+  replaced_before j h =
       get_or-append (take at bytes) (news ++ drop (length news) (drop at bytes)) 0 j (omega (arith, head_length))
       ∙ get_or-take at bytes j 0 h
 
@@ -47,11 +47,11 @@ module _ (bytes : List ℕ) (at : ℕ) (news : List ℕ) (fits : at + length new
       ap (λ (x : ℕ). get_or (take at bytes ++ (news ++ drop (length news) (drop at bytes))) x 0) q
       ∙ get_or-append-add (take at bytes) (news ++ drop (length news) (drop at bytes)) y 0
 
-  pub replaced-in : (y : ℕ) → y < length news → get_or (replaced bytes at news) (at + y) 0 ≡ get_or news y 0
-  replaced-in y h = behind y ∙ get_or-append news (drop (length news) (drop at bytes)) 0 y h
+  pub replaced_in : (y : ℕ) → y < length news → get_or (replaced bytes at news) (at + y) 0 ≡ get_or news y 0
+  replaced_in y h = behind y ∙ get_or-append news (drop (length news) (drop at bytes)) 0 y h
 
-  pub replaced-after : (j : ℕ) → at + length news ≤ j → get_or (replaced bytes at news) j 0 ≡ get_or bytes j 0
-  replaced-after j h =
+  pub replaced_after : (j : ℕ) → at + length news ≤ j → get_or (replaced bytes at news) j 0 ≡ get_or bytes j 0
+  replaced_after j h =
       let y : ℕ = j - (at + length news) in
       let q : j ≡ at + (length news + (j - (at + length news))) = omega arith in
       let p : at + (length news + (j - (at + length news))) ≡ j = omega arith in
@@ -61,10 +61,10 @@ module _ (bytes : List ℕ) (at : ℕ) (news : List ℕ) (fits : at + length new
       ∙ ap (λ (x : ℕ). get_or bytes x 0) p
 
   -- a write behind the one before it
-  pub replaced-more : (more : List ℕ) → replaced (replaced bytes at news) (at + length news) more
+  pub replaced_more : (more : List ℕ) → replaced (replaced bytes at news) (at + length news) more
       ≡ replaced bytes at (news ++ more)
   unfolding replaced
-  replaced-more more =
+  replaced_more more =
       let rest : List ℕ = drop (length news) (drop at bytes) in
       let front : List ℕ = take at bytes ++ news in
       let long : length (take at bytes ++ news) ≡ at + length news = length-append (take at bytes) news

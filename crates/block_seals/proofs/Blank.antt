@@ -25,9 +25,9 @@ or_both (suc t) x =
 
 module _ (s : List ℕ) (i all : ℕ) where
   -- a turn of the test
-  pub gather-more : i < length s → eqb (bit_or all (get_or s i 0)) 0 && blank (drop (i + 1) s) ≡ eqb all 0 && blank (drop i s)
+  pub gather_more : i < length s → eqb (bit_or all (get_or s i 0)) 0 && blank (drop (i + 1) s) ≡ eqb all 0 && blank (drop i s)
   unfolding blank
-  gather-more h = rw (or_both all (get_or s i 0), and_assoc, drop-cons s i 0 h, blank, add-one)
+  gather_more h = rw (or_both all (get_or s i 0), and_assoc, drop-cons s i 0 h, blank, add-one)
 
   -- its end
   pub gathered : length s ≡ i → eqb all 0 ≡ eqb all 0 && blank (drop i s)

@@ -44,8 +44,8 @@ module _ (sheet place : ℕ) (payload : List ℕ) (whole : length payload ≡ 49
   front_length = omega (arith, length-append (bytes4 sheet ++ bytes4 place) payload, eight)
 
   -- a sealed block has 512 bytes
-  pub sealed-length : length (sealed sheet place payload) ≡ 512
-  sealed-length =
+  pub sealed_length : length (sealed sheet place payload) ≡ 512
+  sealed_length =
       ap length by_front
       ∙ omega (
         arith,
@@ -57,33 +57,33 @@ module _ (sheet place : ℕ) (payload : List ℕ) (whole : length payload ≡ 49
       )
 
   -- its first 504 bytes are what was summed
-  pub front-sealed : take 504 (sealed sheet place payload) ≡ front sheet place payload
-  front-sealed = ap (take 504) by_front ∙ take_at (front sheet place payload) (bytes4 A ++ bytes4 B) 504 front_length
+  pub front_sealed : take 504 (sealed sheet place payload) ≡ front sheet place payload
+  front_sealed = ap (take 504) by_front ∙ take_at (front sheet place payload) (bytes4 A ++ bytes4 B) 504 front_length
 
   -- its payload is the one sealed
-  pub payload-sealed : payload_of (sealed sheet place payload) ≡ payload
+  pub payload_sealed : payload_of (sealed sheet place payload) ≡ payload
   unfolding payload_of
-  payload-sealed =
+  payload_sealed =
       ap (λ (l : List ℕ). take 496 (drop 8 l)) (by_front
       ∙ append_assoc (bytes4 sheet ++ bytes4 place) payload (bytes4 A ++ bytes4 B))
       ∙ ap (take 496) (drop_at (bytes4 sheet ++ bytes4 place) (payload ++ (bytes4 A ++ bytes4 B)) 8 eight)
       ∙ take_at payload (bytes4 A ++ bytes4 B) 496 whole
 
   -- it carries its sheet and its place
-  pub sheet-sealed : sheet < 4294967296 → number_at (sealed sheet place payload) 0 ≡ sheet
-  sheet-sealed h =
+  pub sheet_sealed : sheet < 4294967296 → number_at (sealed sheet place payload) 0 ≡ sheet
+  sheet_sealed h =
       ap (λ (l : List ℕ). number_at l 0) by_parts ∙ number_at_lem []
       (bytes4 place ++ (payload ++ (bytes4 A ++ bytes4 B))) sheet 0 refl h
 
-  pub place-sealed : place < 4294967296 → number_at (sealed sheet place payload) 4 ≡ place
-  place-sealed h =
+  pub place_sealed : place < 4294967296 → number_at (sealed sheet place payload) 4 ≡ place
+  place_sealed h =
       ap (λ (l : List ℕ). number_at l 4) by_parts
       ∙ number_at_lem (bytes4 sheet) (payload ++ (bytes4 A ++ bytes4 B)) place 4 (bytes4_length sheet) h
 
   -- its check holds
-  pub check-sealed : check_holds (sealed sheet place payload) ≡ true
+  pub check_sealed : check_holds (sealed sheet place payload) ≡ true
   unfolding check_holds A B
-  check-sealed =
+  check_sealed =
       let s = sums_below 1 0 (front sheet place payload) (lit< tt) (lit< tt) in
       let a : number_at (sealed sheet place payload) 504 ≡ A =
       ap (λ (l : List ℕ). number_at l 504) by_front
@@ -93,29 +93,29 @@ module _ (sheet place : ℕ) (payload : List ℕ) (whole : length payload ≡ 49
       ∙ number_at_lem (front sheet place payload ++ bytes4 A) [] B 508
       (omega (arith, length-append (front sheet place payload) (bytes4 A), bytes4_length A, front_length))
       (omega (arith, s.1)) in
-      rw (front-sealed, a, b, eq-eqb A A refl, eq-eqb B B refl)
+      rw (front_sealed, a, b, eq-eqb A A refl, eq-eqb B B refl)
 
   -- it is sound for its own sheet and place and for no other
-  pub sound-sealed : (s p : ℕ) → sheet < 4294967296 → place < 4294967296
+  pub sound_sealed : (s p : ℕ) → sheet < 4294967296 → place < 4294967296
       → sound s p (sealed sheet place payload) ≡ eqb sheet s && eqb place p
   unfolding sound
-  sound-sealed s p hs hp = rw (sheet-sealed hs, place-sealed hp, check-sealed, and-true)
+  sound_sealed s p hs hp = rw (sheet_sealed hs, place_sealed hp, check_sealed, and-true)
 
-  pub sound-own : sheet < 4294967296 → place < 4294967296 → sound sheet place (sealed sheet place payload) ≡ true
-  sound-own hs hp = sound-sealed sheet place hs hp ∙ rw (eq-eqb sheet sheet refl, eq-eqb place place refl)
+  pub sound_own : sheet < 4294967296 → place < 4294967296 → sound sheet place (sealed sheet place payload) ≡ true
+  sound_own hs hp = sound_sealed sheet place hs hp ∙ rw (eq-eqb sheet sheet refl, eq-eqb place place refl)
 
-  pub sound-only : (s p : ℕ) → sheet < 4294967296 → place < 4294967296 → sound s p (sealed sheet place payload) ≡ true
+  pub sound_only : (s p : ℕ) → sheet < 4294967296 → place < 4294967296 → sound s p (sealed sheet place payload) ≡ true
       → (s ≡ sheet) × (p ≡ place)
-  sound-only s p hs hp e =
-      let both = sym (sound-sealed s p hs hp) ∙ e in (
+  sound_only s p hs hp e =
+      let both = sym (sound_sealed s p hs hp) ∙ e in (
         sym (eqb-true sheet s (and_left (eqb sheet s) (eqb place p) both)),
         sym (eqb-true place p (and_right (eqb sheet s) (eqb place p) both)),
       )
 
   -- it is never blank: over zeros alone A is 1
-  pub blank-sealed : blank (sealed sheet place payload) ≡ false
+  pub blank_sealed : blank (sealed sheet place payload) ≡ false
   unfolding blank sums bytes4 A B
-  blank-sealed = ap blank by_front ∙ blank_append (front sheet place payload) (bytes4 A ++ bytes4 B)
+  blank_sealed = ap blank by_front ∙ blank_append (front sheet place payload) (bytes4 A ++ bytes4 B)
       ∙ by (blank (front sheet place payload)) refl
     where
       by : (r : Bool) → blank (front sheet place payload) ≡ r → r && blank (bytes4 A ++ bytes4 B) ≡ false
@@ -134,7 +134,7 @@ pub sealed_injective : (s p t q : ℕ) (x y : List ℕ) → length x ≡ 496 →
     → s < 4294967296 → p < 4294967296 → t < 4294967296 → q < 4294967296
     → sealed s p x ≡ sealed t q y → (s ≡ t) × (p ≡ q) × (x ≡ y)
 sealed_injective s p t q x y hx hy hs hp ht hq e = (
-  sym (sheet-sealed s p x hx hs) ∙ ap (λ (l : List ℕ). number_at l 0) e ∙ sheet-sealed t q y hy ht,
-  sym (place-sealed s p x hx hp) ∙ ap (λ (l : List ℕ). number_at l 4) e ∙ place-sealed t q y hy hq,
-  sym (payload-sealed s p x hx) ∙ ap payload_of e ∙ payload-sealed t q y hy,
+  sym (sheet_sealed s p x hx hs) ∙ ap (λ (l : List ℕ). number_at l 0) e ∙ sheet_sealed t q y hy ht,
+  sym (place_sealed s p x hx hp) ∙ ap (λ (l : List ℕ). number_at l 4) e ∙ place_sealed t q y hy hq,
+  sym (payload_sealed s p x hx) ∙ ap payload_of e ∙ payload_sealed t q y hy,
 )

@@ -62,9 +62,9 @@ module _ (card bytes : List ℕ) (b : ℕ) (inside : 512 * b + 512 ≤ length ca
       ∙ take_at bytes (drop 512 (drop (512 * b) card)) 512 whole
 
   -- any other is as it was
-  before-block : (d : ℕ) → d < b → block_of (with_block card b bytes) d ≡ block_of card d
+  before_block : (d : ℕ) → d < b → block_of (with_block card b bytes) d ≡ block_of card d
   unfolding block_of with_block
-  before-block d h =
+  before_block d h =
       sym (mid_before (512 * d) 512 (512 * b) (with_block card b bytes) (omega arith))
       ∙ ap (mid_of (512 * d) 512) (take_put (512 * b) 512 card bytes (omega arith))
       ∙ mid_before (512 * d) 512 (512 * b) card (omega arith)
@@ -89,13 +89,13 @@ module _ (card bytes : List ℕ) (b : ℕ) (inside : 512 * b + 512 ≤ length ca
   other_block d n = by (ltb d b) refl
     where
       by : (t : Bool) → ltb d b ≡ t → block_of (with_block card b bytes) d ≡ block_of card d
-      by true e = before-block d (ltb-true d b e)
+      by true e = before_block d (ltb-true d b e)
       by false e = after_block d (omega (arith, ltb-false d b e))
 
   -- and the card is as long as before
-  pub length-withBlock : length (with_block card b bytes) ≡ length card
+  pub length_with_block : length (with_block card b bytes) ≡ length card
   unfolding with_block block_of
-  length-withBlock = same_len_mid (512 * b) 512 card bytes (whole ∙ sym (block_length card b inside))
+  length_with_block = same_len_mid (512 * b) 512 card bytes (whole ∙ sym (block_length card b inside))
 
 -- k blocks from b on are zeros
 pub length_zeroed : (card : List ℕ) (b k : ℕ) → 512 * (b + k) ≤ length card → length (zeroed card b k) ≡ length card
@@ -103,7 +103,7 @@ unfolding zeroed
 length_zeroed card b zero h = refl
 length_zeroed card b (suc k) h =
     let l = length_zeroed card b k (omega arith) in
-    length-withBlock (zeroed card b k) (replicate 512 0) (b + k) (omega arith) refl ∙ l
+    length_with_block (zeroed card b k) (replicate 512 0) (b + k) (omega arith) refl ∙ l
 
 pub zeroed_inside : (card : List ℕ) (b k d : ℕ) → 512 * (b + k) ≤ length card → b ≤ d → d < b + k
     → block_of (zeroed card b k) d ≡ replicate 512 0

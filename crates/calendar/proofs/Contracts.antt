@@ -1,6 +1,6 @@
 -- The contracts of the calendar's public functions, of the functions themselves: what each ensures is the proposition that
 -- stands here, by computation (`..-contract`), and it asks nothing of its caller (`..-asks-nothing`), but that the test of a
--- term asks for a payload's length (`in-term-asks`). So a clause of the source that is made weaker, or one that asks more, is
+-- term asks for a payload's length (`in_term_asks`). So a clause of the source that is made weaker, or one that asks more, is
 -- refused here.
 -- Assumes nothing.
 use mathlib.Core.Path.{◌≡◌, refl}
@@ -24,44 +24,44 @@ use Rattle.calendar.specs.contracts.write_term as write-term-function
 
 -- what is passed is a.0, a.1.0 and so on, in the order of the parameters, and what is left of it t.0, t.1.0 and so on
 module _ {M : Type 1} {𝓤 : Ura M} (𝓛 : Logic 𝓤) (mem : Memory → SProp 𝓤) (run : Routine → Fun 𝓤) where
-  pub is-date-contract : Ensures 𝓤 is-date-function.ended (is-date-function.clauses 𝓛 mem run) (λ κs a r t.
+  pub is_date_contract : Ensures 𝓤 is-date-function.ended (is-date-function.clauses 𝓛 mem run) (λ κs a r t.
       r ≡ is_date a.0 a.1.0 a.1.1.0)
-  is-date-contract κs a r t g = refl
+  is_date_contract κs a r t g = refl
 
-  pub day-number-contract : Ensures 𝓤 day-number-function.ended (day-number-function.clauses 𝓛 mem run) (λ κs a r t.
+  pub day_number_contract : Ensures 𝓤 day-number-function.ended (day-number-function.clauses 𝓛 mem run) (λ κs a r t.
       r ≡ dated_of a.0 a.1.0 a.1.1.0)
-  day-number-contract κs a r t g = refl
+  day_number_contract κs a r t g = refl
 
-  pub day-of-date-contract : Ensures 𝓤 day-of-date-function.ended (day-of-date-function.clauses 𝓛 mem run) (λ κs a r t.
+  pub day_of_date_contract : Ensures 𝓤 day-of-date-function.ended (day-of-date-function.clauses 𝓛 mem run) (λ κs a r t.
       r ≡ day_of_date a.0 a.1.0 a.1.1.0)
-  day-of-date-contract κs a r t g = refl
+  day_of_date_contract κs a r t g = refl
 
-  pub day-of-number-contract : Ensures 𝓤 day-of-number-function.ended (day-of-number-function.clauses 𝓛 mem run)
+  pub day_of_number_contract : Ensures 𝓤 day-of-number-function.ended (day-of-number-function.clauses 𝓛 mem run)
       (λ κs a r t. r ≡ day_of_number a.0)
-  day-of-number-contract κs a r t g = refl
+  day_of_number_contract κs a r t g = refl
 
-  pub in-term-contract : Ensures 𝓤 in-term-function.ended (in-term-function.clauses 𝓛 mem run) (λ κs a r t.
+  pub in_term_contract : Ensures 𝓤 in-term-function.ended (in-term-function.clauses 𝓛 mem run) (λ κs a r t.
       r ≡ in_term (term_of a.0.now) a.1.0)
-  in-term-contract κs a r t g = refl
+  in_term_contract κs a r t g = refl
 
-  pub write-term-contract : Ensures 𝓤 write-term-function.ended (write-term-function.clauses 𝓛 mem run) (λ κs a r t.
+  pub write_term_contract : Ensures 𝓤 write-term-function.ended (write-term-function.clauses 𝓛 mem run) (λ κs a r t.
       (r ≡ term_answer a.0.now) × (t.0.now ≡ with_term a.0.now a.1.0 a.1.1.0))
-  write-term-contract κs a r t g = refl
+  write_term_contract κs a r t g = refl
 
-  pub is-date-asks-nothing : AsksNothing 𝓤 is-date-function.ended (is-date-function.clauses 𝓛 mem run)
-  is-date-asks-nothing κs a g = refl
+  pub is_date_asks_nothing : AsksNothing 𝓤 is-date-function.ended (is-date-function.clauses 𝓛 mem run)
+  is_date_asks_nothing κs a g = refl
 
-  pub day-number-asks-nothing : AsksNothing 𝓤 day-number-function.ended (day-number-function.clauses 𝓛 mem run)
-  day-number-asks-nothing κs a g = refl
+  pub day_number_asks_nothing : AsksNothing 𝓤 day-number-function.ended (day-number-function.clauses 𝓛 mem run)
+  day_number_asks_nothing κs a g = refl
 
-  pub day-of-date-asks-nothing : AsksNothing 𝓤 day-of-date-function.ended (day-of-date-function.clauses 𝓛 mem run)
-  day-of-date-asks-nothing κs a g = refl
+  pub day_of_date_asks_nothing : AsksNothing 𝓤 day-of-date-function.ended (day-of-date-function.clauses 𝓛 mem run)
+  day_of_date_asks_nothing κs a g = refl
 
-  pub day-of-number-asks-nothing : AsksNothing 𝓤 day-of-number-function.ended (day-of-number-function.clauses 𝓛 mem run)
-  day-of-number-asks-nothing κs a g = refl
+  pub day_of_number_asks_nothing : AsksNothing 𝓤 day-of-number-function.ended (day-of-number-function.clauses 𝓛 mem run)
+  day_of_number_asks_nothing κs a g = refl
 
-  pub in-term-asks : Asks 𝓤 in-term-function.ended (in-term-function.clauses 𝓛 mem run) (λ κs a. length a.0.now ≡ 496)
-  in-term-asks κs a g = refl
+  pub in_term_asks : Asks 𝓤 in-term-function.ended (in-term-function.clauses 𝓛 mem run) (λ κs a. length a.0.now ≡ 496)
+  in_term_asks κs a g = refl
 
-  pub write-term-asks-nothing : AsksNothing 𝓤 write-term-function.ended (write-term-function.clauses 𝓛 mem run)
-  write-term-asks-nothing κs a g = refl
+  pub write_term_asks_nothing : AsksNothing 𝓤 write-term-function.ended (write-term-function.clauses 𝓛 mem run)
+  write_term_asks_nothing κs a g = refl

@@ -33,9 +33,9 @@ pub record Exists (y m d : ℕ) : Type 0 where
   pub day_high : d ≤ month_length (leap_day y) m
 
 module _ (y m d : ℕ) where
-  pub date-of : is_date y m d ≡ true → Exists y m d
+  pub date_of_lem : is_date y m d ≡ true → Exists y m d
   unfolding is_date
-  date-of e =
+  date_of_lem e =
       let year = in_span 2000 2099 y in
       let month = in_span 1 12 m in
       let day = in_span 1 (month_length (leap_day y) m) d in
@@ -52,9 +52,9 @@ module _ (y m d : ℕ) where
         day_high = span_high 1 (month_length (leap_day y) m) d ed;
       }
 
-  pub is-date : Exists y m d → is_date y m d ≡ true
+  pub is_date_lem : Exists y m d → is_date y m d ≡ true
   unfolding is_date
-  is-date t =
+  is_date_lem t =
       and_both (in_span 2000 2099 y) (in_span 1 12 m && in_span 1 (month_length (leap_day y) m) d)
       (in_span_lem 2000 2099 y t.year_low t.year_high)
       (and_both (in_span 1 12 m) (in_span 1 (month_length (leap_day y) m) d) (in_span_lem 1 12 m t.month_low t.month_high)
@@ -116,22 +116,22 @@ sum_grows f n (suc m) h = by (order n (suc m)) (λ k. sum_grows f n m k)
         subst (λ (k : ℕ). sum_of f k ≤ sum_of f m + f m) same (omega arith)
 
 module _ (leap : ℕ) where
-  pub month-next : (m : ℕ) → 1 ≤ m → before_month leap (m + 1) ≡ before_month leap m + month_length leap m
+  pub month_next : (m : ℕ) → 1 ≤ m → before_month leap (m + 1) ≡ before_month leap m + month_length leap m
   unfolding before_month sum_of
-  month-next zero h = absurd (omega arith)
-  month-next (suc m) h =
+  month_next zero h = absurd (omega arith)
+  month_next (suc m) h =
       let up : suc m + 1 - 1 ≡ suc m = omega arith in
       let down : suc m - 1 ≡ m = omega arith in
       let at : 1 + m ≡ suc m = omega arith in
       rw (up, down, at)
 
-  pub month-grows : (m n : ℕ) → m ≤ n → before_month leap m ≤ before_month leap n
+  pub month_grows : (m n : ℕ) → m ≤ n → before_month leap m ≤ before_month leap n
   unfolding before_month
-  month-grows m n h = sum_grows (λ i. month_length leap (1 + i)) (m - 1) (n - 1) (omega arith)
+  month_grows m n h = sum_grows (λ i. month_length leap (1 + i)) (m - 1) (n - 1) (omega arith)
 
-  pub all-months : before_month leap 13 ≡ 365 + leap
+  pub all_months : before_month leap 13 ≡ 365 + leap
   unfolding before_month sum_of month_length
-  all-months = omega arith
+  all_months = omega arith
 
 pub year_next : (y : ℕ) → 2000 ≤ y → before_year (y + 1) ≡ before_year y + (365 + leap_day y)
 unfolding before_year sum_of
@@ -148,16 +148,16 @@ year_grows y z h = sum_grows (λ i. 365 + leap_day (2000 + i)) (y - 2000) (z - 2
 -- ---- what `is_date` answers, by the tests that it makes
 
 module _ (y m d : ℕ) where
-  pub date-tested : (r : Bool) (length leap : ℕ) → in_span 2000 2099 y ≡ true → in_span 1 12 m ≡ true → r ≡ in_span 1 length d
+  pub date_tested : (r : Bool) (length leap : ℕ) → in_span 2000 2099 y ≡ true → in_span 1 12 m ≡ true → r ≡ in_span 1 length d
       → length ≡ month_length leap m
       → leap ≡ leap_day y → r ≡ is_date y m d
   unfolding is_date
-  date-tested r length leap ey em er el en = rw (ey, em, er, el, en)
+  date_tested r length leap ey em er el en = rw (ey, em, er, el, en)
 
-  pub no-month : in_span 2000 2099 y ≡ true → in_span 1 12 m ≡ false → false ≡ is_date y m d
+  pub no_month : in_span 2000 2099 y ≡ true → in_span 1 12 m ≡ false → false ≡ is_date y m d
   unfolding is_date
-  no-month ey em = rw (ey, em)
+  no_month ey em = rw (ey, em)
 
-  pub no-year : in_span 2000 2099 y ≡ false → false ≡ is_date y m d
+  pub no_year : in_span 2000 2099 y ≡ false → false ≡ is_date y m d
   unfolding is_date
-  no-year ey = rw ey
+  no_year ey = rw ey

@@ -16,24 +16,24 @@ module _ (leap m : ℕ) (lo : 1 ≤ m) (hi : m ≤ 12) where
   unfolding month_length
   february e = sym (ap (month_length leap) e)
 
-  pub other-month : (m ≡ 2 → ⊥) → (m + m / 8) % 2 + 30 ≡ month_length leap m
+  pub other_month : (m ≡ 2 → ⊥) → (m + m / 8) % 2 + 30 ≡ month_length leap m
   unfolding month_length
-  other-month =
+  other_month =
       twelve (λ k. (k ≡ 2 → ⊥) → (k + k / 8) % 2 + 30 ≡ month_length leap k)
       (λ h. refl) (λ h. absurd (h refl)) (λ h. refl) (λ h. refl) (λ h. refl) (λ h. refl) (λ h. refl) (λ h. refl)
       (λ h. refl) (λ h. refl) (λ h. refl) (λ h. refl) m lo hi
 
-  pub early-month : m ≤ 2 → 31 * (m - 1) ≡ before_month leap m
+  pub early_month : m ≤ 2 → 31 * (m - 1) ≡ before_month leap m
   unfolding before_month sum_of month_length
-  early-month =
+  early_month =
       twelve (λ k. k ≤ 2 → 31 * (k - 1) ≡ before_month leap k)
       (λ h. refl) (λ h. refl) (λ h. absurd (omega arith)) (λ h. absurd (omega arith)) (λ h. absurd (omega arith))
       (λ h. absurd (omega arith)) (λ h. absurd (omega arith)) (λ h. absurd (omega arith)) (λ h. absurd (omega arith))
       (λ h. absurd (omega arith)) (λ h. absurd (omega arith)) (λ h. absurd (omega arith)) m lo hi
 
-  pub late-month : 2 < m → (153 * m - 457) / 5 + 59 + leap ≡ before_month leap m
+  pub late_month : 2 < m → (153 * m - 457) / 5 + 59 + leap ≡ before_month leap m
   unfolding before_month sum_of month_length
-  late-month =
+  late_month =
       twelve (λ k. 2 < k → (153 * k - 457) / 5 + 59 + leap ≡ before_month leap k)
       (λ h. absurd (omega arith)) (λ h. absurd (omega arith)) (λ h. omega arith) (λ h. omega arith) (λ h. omega arith)
       (λ h. omega arith) (λ h. omega arith) (λ h. omega arith) (λ h. omega arith) (λ h. omega arith) (λ h. omega arith)

@@ -12,9 +12,9 @@ use Rattle.laws.proofs.Bools.{order}
 use Rattle.calendar.specs.Calendar.{leap_day, month_length, before_month, before_year, is_date, day_of}
 use Rattle.calendar.specs.Days.{date_at, day_with, no_day, day_of_date, day_of_number}
 use Rattle.calendar.specs.declared.days.DayReply.{DayReply}
-use Rattle.calendar.proofs.Dates.{Exists, is-date, leap_small, month_days, month-next, all-months, year_next}
-use Rattle.calendar.proofs.Formulas.{early-month, late-month, year_days}
-use Rattle.calendar.proofs.Laws.{day_zero, day_most, day-once, next-one-more, next-date}
+use Rattle.calendar.proofs.Dates.{Exists, is_date_lem, leap_small, month_days, month_next, all_months, year_next}
+use Rattle.calendar.proofs.Formulas.{early_month, late_month, year_days}
+use Rattle.calendar.proofs.Laws.{day_zero, day_most, day-once, next_one_more, next_date}
 
 -- ---- the year and the month of a day
 
@@ -33,33 +33,33 @@ module _ (leap rest : ℕ) where
   abbrev pub In : ℕ → Type 0
   In m = (1 ≤ m) × (m ≤ 12) × (before_month leap m ≤ rest) × (rest < before_month leap (m + 1))
 
-  pub early-found : leap ≤ 1 → rest < 59 + leap → In (rest / 31 + 1)
-  early-found small h = (omega arith, omega arith, start, end (order rest 31))
+  pub early_found : leap ≤ 1 → rest < 59 + leap → In (rest / 31 + 1)
+  early_found small h = (omega arith, omega arith, start, end (order rest 31))
     where
       m : ℕ
       m = rest / 31 + 1
 
       start : before_month leap m ≤ rest
-      start = omega (arith, early-month leap m (omega arith) (omega arith) (omega arith))
+      start = omega (arith, early_month leap m (omega arith) (omega arith) (omega arith))
 
       end : (rest < 31) ⊎ (31 ≤ rest) → rest < before_month leap (m + 1)
-      end (inl p) = omega (arith, early-month leap (m + 1) (omega arith) (omega arith) (omega arith))
-      end (inr p) = omega (arith, late-month leap (m + 1) (omega arith) (omega arith) (omega arith))
+      end (inl p) = omega (arith, early_month leap (m + 1) (omega arith) (omega arith) (omega arith))
+      end (inr p) = omega (arith, late_month leap (m + 1) (omega arith) (omega arith) (omega arith))
 
-  pub late-found : rest < 365 + leap → 59 + leap ≤ rest → In ((5 * (rest - 59 - leap) + 2) / 153 + 3)
-  late-found h k = (omega arith, omega arith, start, end (order m 12))
+  pub late_found : rest < 365 + leap → 59 + leap ≤ rest → In ((5 * (rest - 59 - leap) + 2) / 153 + 3)
+  late_found h k = (omega arith, omega arith, start, end (order m 12))
     where
       m : ℕ
       m = (5 * (rest - 59 - leap) + 2) / 153 + 3
 
       start : before_month leap m ≤ rest
-      start = omega (arith, late-month leap m (omega arith) (omega arith) (omega arith))
+      start = omega (arith, late_month leap m (omega arith) (omega arith) (omega arith))
 
       end : (m < 12) ⊎ (12 ≤ m) → rest < before_month leap (m + 1)
-      end (inl p) = omega (arith, late-month leap (m + 1) (omega arith) (omega arith) (omega arith))
+      end (inl p) = omega (arith, late_month leap (m + 1) (omega arith) (omega arith) (omega arith))
       end (inr p) =
           let last : m + 1 ≡ 13 = omega arith in
-          omega (arith, ap (before_month leap) last, all-months leap)
+          omega (arith, ap (before_month leap) last, all_months leap)
 
 -- ---- the date of a number
 
@@ -72,7 +72,7 @@ unfolding date_at
 date_at_lem zero h = record { date = first; number = day_zero }
   where
     first : is_date 2000 1 1 ≡ true
-    first = is-date 2000 1 1 (record {
+    first = is_date_lem 2000 1 1 (record {
       year_low = lit< tt;
       year_high = lit< tt;
       month_low = lit< tt;
@@ -88,8 +88,8 @@ date_at_lem (suc k) h = step (date_at_lem k (omega arith))
         let m : ℕ = (date_at k).month in
         let d : ℕ = (date_at k).day in
         record {
-          date = next-date y m d n.date (omega (arith, n.number));
-          number = omega (arith, next-one-more y m d n.date, n.number);
+          date = next_date y m d n.date (omega (arith, n.number));
+          number = omega (arith, next_one_more y m d n.date, n.number);
         }
 
 -- a date with that number is the one
@@ -110,13 +110,13 @@ summed k y m rest before start er from inside = omega (arith, start, er, from, i
 pub day_found : (k y m leap rest before : ℕ) → 2000 ≤ y → y ≤ 2099 → before_year y ≤ k → leap ≡ leap_day y
     → rest ≡ k - before_year y
     → In leap rest m → before ≡ before_month leap m → day_with k y m (rest - before + 1) ≡ day_of_number k
-day_found k y m leap rest before low high start el er found eb = number_of_lem k y m d (is-date y m d exists) number
+day_found k y m leap rest before low high start el er found eb = number_of_lem k y m d (is_date_lem y m d exists) number
   where
     d : ℕ
     d = rest - before + 1
 
     months : before_month (leap_day y) (m + 1) ≡ before_month (leap_day y) m + month_length (leap_day y) m
-    months = month-next (leap_day y) m found.0
+    months = month_next (leap_day y) m found.0
 
     from : before ≡ before_month (leap_day y) m
     from = eb ∙ ap (λ (l : ℕ). before_month l m) el

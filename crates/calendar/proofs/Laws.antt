@@ -1,6 +1,6 @@
 -- The laws of day numbers (document 02, request (m)): they go from 0 to 36,524 (`day_zero`, `day_last`, `day_most`), each
 -- exactly once (`day_of_each`, `day-once`), later dates have higher ones (`later_higher`), and the next date's is one more
--- (`next-one-more`, `next-date`).
+-- (`next_one_more`, `next_date`).
 -- Assumes nothing.
 use mathlib.Core.Path.{◌≡◌, refl, sym, ap, ap₂, ◌∙◌}
 use mathlib.Core.Logic.{inl, inr, ⊎_elim}
@@ -12,23 +12,23 @@ use borrow.Author.Tests.{ltb-true, ltb-false}
 use Rattle.laws.proofs.Bools.{order}
 use Rattle.calendar.specs.Calendar.{leap_day, month_length, sum_of, before_month, before_year, in_span, is_date, day_of}
 use Rattle.calendar.specs.Calendar.{Earlier, Date, next}
-use Rattle.calendar.proofs.Dates.{Exists, date-of, is-date, leap_small, month_days, month-next, month-grows}
-use Rattle.calendar.proofs.Dates.{all-months, year_next, year_grows}
+use Rattle.calendar.proofs.Dates.{Exists, date_of_lem, is_date_lem, leap_small, month_days, month_next, month_grows}
+use Rattle.calendar.proofs.Dates.{all_months, year_next, year_grows}
 
 -- ---- within a month, a year and the span
 
 module _ (y m d : ℕ) (t : Exists y m d) where
-  in-month : before_month (leap_day y) m + (d - 1) < before_month (leap_day y) (m + 1)
-  in-month = omega (arith, month-next (leap_day y) m t.month_low, t.day_low, t.day_high)
+  in_month : before_month (leap_day y) m + (d - 1) < before_month (leap_day y) (m + 1)
+  in_month = omega (arith, month_next (leap_day y) m t.month_low, t.day_low, t.day_high)
 
-  in-year : day_of y m d < before_year (y + 1)
+  in_year : day_of y m d < before_year (y + 1)
   unfolding day_of
-  in-year =
+  in_year =
       omega (
         arith,
-        in-month,
-        month-grows (leap_day y) (m + 1) 13 (omega (arith, t.month_high)),
-        all-months (leap_day y),
+        in_month,
+        month_grows (leap_day y) (m + 1) 13 (omega (arith, t.month_high)),
+        all_months (leap_day y),
         year_next y t.year_low,
       )
 
@@ -38,8 +38,8 @@ hundred_years = refl
 
 pub day_most : (y m d : ℕ) → is_date y m d ≡ true → day_of y m d ≤ 36524
 day_most y m d e =
-    let t = date-of y m d e in
-    omega (arith, in-year y m d t, year_grows (y + 1) 2100 (omega (arith, t.year_high)), hundred_years)
+    let t = date_of_lem y m d e in
+    omega (arith, in_year y m d t, year_grows (y + 1) 2100 (omega (arith, t.year_high)), hundred_years)
 
 pub day_zero : day_of 2000 1 1 ≡ 0
 unfolding day_of before_year before_month sum_of
@@ -55,17 +55,17 @@ pub later_higher : (y m d y' m' d' : ℕ) → is_date y m d ≡ true → is_date
     → day_of y m d < day_of y' m' d'
 unfolding day_of
 later_higher y m d y' m' d' e e' (inl h) =
-    omega (arith, in-year y m d (date-of y m d e), year_grows (y + 1) y' (omega arith))
+    omega (arith, in_year y m d (date_of_lem y m d e), year_grows (y + 1) y' (omega arith))
 later_higher y m d y' m' d' e e' (inr (same, inl h)) =
     omega (
       arith,
-      in-month y m d (date-of y m d e),
-      month-grows (leap_day y) (m + 1) m' (omega arith),
+      in_month y m d (date_of_lem y m d e),
+      month_grows (leap_day y) (m + 1) m' (omega arith),
       ap before_year same,
       ap (λ (k : ℕ). before_month (leap_day k) m') same,
     )
 later_higher y m d y' m' d' e e' (inr (same, inr (alike, h))) =
-    omega (arith, (date-of y m d e).day_low, ap before_year same, ap₂ (λ (k n : ℕ). before_month (leap_day k) n) same alike)
+    omega (arith, (date_of_lem y m d e).day_low, ap before_year same, ap₂ (λ (k n : ℕ). before_month (leap_day k) n) same alike)
 
 -- so no two dates have one number
 module _ (y m d y' m' d' : ℕ) (e : is_date y m d ≡ true) (e' : is_date y' m' d' ≡ true) (same : day_of y m d ≡ day_of y' m' d')
@@ -105,20 +105,20 @@ none leap = refl
 
 module _ (y m d : ℕ) (e : is_date y m d ≡ true) where
   t : Exists y m d
-  t = date-of y m d e
+  t = date_of_lem y m d e
 
   -- the day, the month or the year is one more
   record Next (u : Date) : Type 0 where
     one_more : day_of u.year u.month u.day ≡ day_of y m d + 1
     date : day_of y m d < 36524 → is_date u.year u.month u.day ≡ true
 
-  in-length : d < month_length (leap_day y) m → Next (record { year = y; month = m; day = d + 1 })
+  in_length : d < month_length (leap_day y) m → Next (record { year = y; month = m; day = d + 1 })
   unfolding day_of
-  in-length h = record {
+  in_length h = record {
     one_more = omega (arith, t.day_low);
     date =
         λ _.
-        is-date y m (d + 1)
+        is_date_lem y m (d + 1)
         (record {
           year_low = t.year_low;
           year_high = t.year_high;
@@ -129,13 +129,13 @@ module _ (y m d : ℕ) (e : is_date y m d ≡ true) where
         });
   }
 
-  month-over : month_length (leap_day y) m ≤ d → m < 12 → Next (record { year = y; month = m + 1; day = 1 })
+  month_over : month_length (leap_day y) m ≤ d → m < 12 → Next (record { year = y; month = m + 1; day = 1 })
   unfolding day_of
-  month-over h k = record {
-    one_more = omega (arith, month-next (leap_day y) m t.month_low, t.day_low, t.day_high);
+  month_over h k = record {
+    one_more = omega (arith, month_next (leap_day y) m t.month_low, t.day_low, t.day_high);
     date =
         λ _.
-        is-date y (m + 1) 1
+        is_date_lem y (m + 1) 1
         (record {
           year_low = t.year_low;
           year_high = t.year_high;
@@ -146,13 +146,13 @@ module _ (y m d : ℕ) (e : is_date y m d ≡ true) where
         });
   }
 
-  year-over : month_length (leap_day y) m ≤ d → 12 ≤ m → Next (record { year = y + 1; month = 1; day = 1 })
+  year_over : month_length (leap_day y) m ≤ d → 12 ≤ m → Next (record { year = y + 1; month = 1; day = 1 })
   unfolding day_of
-  year-over h k =
+  year_over h k =
       let last : m ≡ 12 = omega (arith, t.month_high) in
       let months : before_month (leap_day y) m + month_length (leap_day y) m ≡ 365 + leap_day y =
-      sym (month-next (leap_day y) m t.month_low) ∙ ap (λ (n : ℕ). before_month (leap_day y) (n + 1)) last
-      ∙ all-months (leap_day y) in
+      sym (month_next (leap_day y) m t.month_low) ∙ ap (λ (n : ℕ). before_month (leap_day y) (n + 1)) last
+      ∙ all_months (leap_day y) in
       let first : before_month (leap_day (y + 1)) 1 ≡ 0 = none (leap_day (y + 1)) in
       let more : before_year (y + 1) + before_month (leap_day (y + 1)) 1 + (1 - 1) ≡ day_of y m d + 1 =
       omega (arith, months, first, year_next y t.year_low, t.day_low, t.day_high) in
@@ -160,7 +160,7 @@ module _ (y m d : ℕ) (e : is_date y m d ≡ true) where
         one_more = more;
         date =
             λ early.
-            is-date (y + 1) 1 1
+            is_date_lem (y + 1) 1 1
             (record {
               year_low = omega (arith, t.year_low);
               year_high =
@@ -182,16 +182,16 @@ module _ (y m d : ℕ) (e : is_date y m d ≡ true) where
       by : (r s : Bool) → ltb d (month_length (leap_day y) m) ≡ r → ltb m 12 ≡ s
           → Next (cond r (record { year = y; month = m; day = d + 1 })
           (cond s (record { year = y; month = m + 1; day = 1 }) (record { year = y + 1; month = 1; day = 1 })))
-      by true s er es = in-length (ltb-true d (month_length (leap_day y) m) er)
-      by false true er es = month-over (ltb-false d (month_length (leap_day y) m) er) (ltb-true m 12 es)
-      by false false er es = year-over (ltb-false d (month_length (leap_day y) m) er) (ltb-false m 12 es)
+      by true s er es = in_length (ltb-true d (month_length (leap_day y) m) er)
+      by false true er es = month_over (ltb-false d (month_length (leap_day y) m) er) (ltb-true m 12 es)
+      by false false er es = year_over (ltb-false d (month_length (leap_day y) m) er) (ltb-false m 12 es)
 
-  pub next-one-more : day_of (next y m d).year (next y m d).month (next y m d).day ≡ day_of y m d + 1
-  next-one-more = after.one_more
+  pub next_one_more : day_of (next y m d).year (next y m d).month (next y m d).day ≡ day_of y m d + 1
+  next_one_more = after.one_more
 
   -- every date but 31 December 2099, day 36,524, has a next one in the span
-  pub next-date : day_of y m d < 36524 → is_date (next y m d).year (next y m d).month (next y m d).day ≡ true
-  next-date h = after.date h
+  pub next_date : day_of y m d < 36524 → is_date (next y m d).year (next y m d).month (next y m d).day ≡ true
+  next_date h = after.date h
 
 -- ---- every number up to the last is a date's
 
@@ -204,7 +204,7 @@ pub day_of_each : (k : ℕ) → k ≤ 36524 → Numbered k
 day_of_each zero h = record { at = record { year = 2000; month = 1; day = 1 }; date = first; number = day_zero }
   where
     first : is_date 2000 1 1 ≡ true
-    first = is-date 2000 1 1 (record {
+    first = is_date_lem 2000 1 1 (record {
       year_low = lit< tt;
       year_high = lit< tt;
       month_low = lit< tt;
@@ -221,8 +221,8 @@ day_of_each (suc k) h = step (day_of_each k (omega arith))
         let d : ℕ = n.at.day in
         record {
           at = next y m d;
-          date = next-date y m d n.date (omega (arith, n.number));
-          number = omega (arith, next-one-more y m d n.date, n.number);
+          date = next_date y m d n.date (omega (arith, n.number));
+          number = omega (arith, next_one_more y m d n.date, n.number);
         }
 
 -- ---- worked examples, from another calendar

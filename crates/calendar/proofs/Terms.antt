@@ -1,5 +1,5 @@
 -- What `in_term` and `write_term` answer, and the laws of a term: a term that is written is read back (`written-term`), and a
--- term whose first day is after its last holds no day (`turned-term`).
+-- term whose first day is after its last holds no day (`turned_term`).
 -- Assumes nothing.
 use mathlib.Core.Path.{◌≡◌, refl, sym, ap, ap₂, ◌∙◌}
 use mathlib.Core.Bool.{Bool, true, false}
@@ -13,7 +13,7 @@ use Rattle.laws.proofs.Bools.{not_true}
 use Rattle.block_bytes.specs.Numbers.{bytes4, number_at}
 use Rattle.block_bytes.specs.Replaced.{replaced}
 use Rattle.block_bytes.proofs.Numbers.{bytes4_length, number_at_lem}
-use Rattle.block_bytes.proofs.Replaced.{replaced-more}
+use Rattle.block_bytes.proofs.Replaced.{replaced_more}
 use Rattle.calendar.specs.Calendar.{in_span}
 use Rattle.calendar.specs.Term.{Term, term_of, in_term, term_answer, with_term}
 use Rattle.calendar.proofs.Dates.{span_low, span_high, in_span_lem}
@@ -35,9 +35,9 @@ term_read first last rest hf hl =
     )
 
 module _ (payload : List ℕ) (first last : ℕ) where
-  pub wrong-length : (length payload ≡ 496 → ⊥) → (3 ≡ term_answer payload) × (payload ≡ with_term payload first last)
+  pub wrong_length : (length payload ≡ 496 → ⊥) → (3 ≡ term_answer payload) × (payload ≡ with_term payload first last)
   unfolding term_answer with_term
-  wrong-length d = (rw (ne_eqb (length payload) 496 d), rw (ne_eqb (length payload) 496 d))
+  wrong_length d = (rw (ne_eqb (length payload) 496 d), rw (ne_eqb (length payload) 496 d))
 
   module _ (whole : length payload ≡ 496) where
     pub both-written : replaced (replaced payload 0 (bytes4 first)) 4 (bytes4 last) ≡ with_term payload first last
@@ -46,7 +46,7 @@ module _ (payload : List ℕ) (first last : ℕ) where
         let four : length (bytes4 first) ≡ 4 = bytes4_length first in
         rw (eq-eqb (length payload) 496 whole)
         (ap (λ (at : ℕ). replaced (replaced payload 0 (bytes4 first)) at (bytes4 last)) (sym four)
-        ∙ replaced-more payload 0 (bytes4 first) (omega (arith, four)) (bytes4 last))
+        ∙ replaced_more payload 0 (bytes4 first) (omega (arith, four)) (bytes4 last))
 
     parts : put_mid 4 (8 - 4) (put_mid 0 (4 - 0) payload (bytes4 first)) (bytes4 last)
         ≡ replaced (replaced payload 0 (bytes4 first)) 4 (bytes4 last)
@@ -70,18 +70,18 @@ module _ (payload : List ℕ) (first last : ℕ) where
 -- ---- a day in the term
 
 module _ (t : Term) (day : ℕ) where
-  pub term-first : in_term t day ≡ true → t.first ≤ day
+  pub term_first : in_term t day ≡ true → t.first ≤ day
   unfolding in_term
-  term-first e = span_low t.first t.last day e
+  term_first e = span_low t.first t.last day e
 
-  pub term-last : in_term t day ≡ true → day ≤ t.last
+  pub term_last : in_term t day ≡ true → day ≤ t.last
   unfolding in_term
-  term-last e = span_high t.first t.last day e
+  term_last e = span_high t.first t.last day e
 
-  pub term-holds : t.first ≤ day → day ≤ t.last → in_term t day ≡ true
+  pub term_holds : t.first ≤ day → day ≤ t.last → in_term t day ≡ true
   unfolding in_term
-  term-holds f l = in_span_lem t.first t.last day f l
+  term_holds f l = in_span_lem t.first t.last day f l
 
   -- "First after last never shows"
-  pub turned-term : t.last < t.first → in_term t day ≡ false
-  turned-term h = not_true (in_term t day) (λ e. omega (arith, term-first e, term-last e))
+  pub turned_term : t.last < t.first → in_term t day ≡ false
+  turned_term h = not_true (in_term t day) (λ e. omega (arith, term_first e, term_last e))

@@ -3,7 +3,7 @@ ghost use Rattle.std.specs.Prelude.{◌≡◌};
 ghost use Rattle.refusals.specs.Lent.{lent, called_by, no_card};
 ghost use Rattle.roles.specs.Roles as names;
 ghost use Rattle.roles.specs.Roles.{turned_away};
-ghost use Rattle.refusals.specs.Effects.{changeOut};
+ghost use Rattle.refusals.specs.Effects.{change_out};
 ghost use Rattle.refusals.specs.Table as table;
 
 use crate::marks::{admit, with_mark};
@@ -13,7 +13,7 @@ use refusals::{Admits, Out};
 
 pub fn pause(role: u32, n: u32, free: u32, map: &[u64], c: usize, entry: Entry, sheet: u32) -> Out
     ensures { let q = called_by (turned_away role names.pause) (lent n free map.now no_card c entry sheet) in
-        result ≡ changeOut q table.pause }
+        result ≡ change_out q table.pause }
 {
     let admits = Admits {
         absent: true,

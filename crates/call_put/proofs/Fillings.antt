@@ -17,7 +17,7 @@ use Rattle.block_seals.proofs.Sealed.{sound_zeros}
 use Rattle.map_blocks.specs.Blocks.{all, least, or_else}
 use Rattle.map_blocks.specs.declared.Found.{Found}
 use Rattle.map_blocks.specs.declared.Found.TheVariants.{At, Nothing}
-use Rattle.map_blocks.proofs.Runs.{all-intro, all-elim, all-break}
+use Rattle.map_blocks.proofs.Runs.{all_intro, all_elim, all_break}
 use denote.Enum.Declared as Declared
 use types.Run as Run
 use Rattle.call_put.specs.contracts.places.Filling as FillingType
@@ -25,7 +25,7 @@ use Rattle.catalogue_standings.specs.Searches.{start_at}
 use Rattle.call_put.specs.Fillings.{blank_at, filling_of, with_place}
 use Rattle.call_put.specs.declared.places.Filling.{Filling}
 use Rattle.call_put.specs.declared.places.Filling.TheVariants.{Filled, Blank, Broken}
-use Rattle.map_blocks.proofs.Least.{least-passes, none_passes, least_more}
+use Rattle.map_blocks.proofs.Least.{least_passes, none_passes, least_more}
 
 -- ---- a blank block is not sound
 
@@ -55,14 +55,14 @@ module _ (blank sound : ℕ → Bool) where
   unfolding all least
   none_passed = record { whole = refl; lowest = refl }
 
-  pub all-passed : (k : ℕ) (filling : Filling) → Passed k filling → filling ≡ filling_of blank sound k
+  pub all_passed_lem : (k : ℕ) (filling : Filling) → Passed k filling → filling ≡ filling_of blank sound k
   unfolding filling_of
-  all-passed k filling h = h.lowest ∙ sym (ap (λ (b : Bool). cond b (blank_at (least blank 0 k)) Broken) h.whole)
+  all_passed_lem k filling h = h.lowest ∙ sym (ap (λ (b : Bool). cond b (blank_at (least blank 0 k)) Broken) h.whole)
 
   pub broken : (k p : ℕ) → p < k → either p ≡ false → Broken ≡ filling_of blank sound k
   unfolding filling_of
   broken k p l e =
-      sym (ap (λ (b : Bool). cond b (blank_at (least blank 0 k)) Broken) (all-break either 0 k p (omega arith) (omega arith) e))
+      sym (ap (λ (b : Bool). cond b (blank_at (least blank 0 k)) Broken) (all_break either 0 k p (omega arith) (omega arith) e))
 
   -- a place that breaks the sheet is neither blank nor sound
   pub breaks : (p : ℕ) (filling next : Filling) → Passed p filling → next ≡ with_place filling p (blank p) (sound p)
@@ -78,13 +78,13 @@ module _ (blank sound : ℕ → Bool) where
       go false false o e = refl
 
   -- any other is passed too
-  pub passed-more : (p : ℕ) (filling next : Filling) → Passed p filling → (blank p ≡ true → sound p ≡ false)
+  pub passed_more : (p : ℕ) (filling next : Filling) → Passed p filling → (blank p ≡ true → sound p ≡ false)
       → next ≡ with_place filling p (blank p) (sound p) → (next ≡ Broken → ⊥)
       → Passed (p + 1) next
   unfolding with_place
-  passed-more p filling next h apart e whole = record {
-    whole = all-intro either 0 (p + 1) (λ t a l. ⊎_elim (λ (w : t ≡ p). ap either w ∙ held)
-        (λ (w : t < p). all-elim either 0 p h.whole t a (omega arith)) (eq-or-lt_of_le {n = t} {m = p} (omega arith)));
+  passed_more p filling next h apart e whole = record {
+    whole = all_intro either 0 (p + 1) (λ t a l. ⊎_elim (λ (w : t ≡ p). ap either w ∙ held)
+        (λ (w : t < p). all_elim either 0 p h.whole t a (omega arith)) (eq-or-lt_of_le {n = t} {m = p} (omega arith)));
     lowest =
         e ∙ ap (λ (f : Filling). with_place f p (blank p) (sound p)) h.lowest ∙ go (blank p) (sound p) (least blank 0 p) apart
         (λ q. whole (e ∙ ap (λ (f : Filling). with_place f p (blank p) (sound p)) h.lowest ∙ q))
@@ -124,21 +124,21 @@ module _ (blank sound : ℕ → Bool) (k : ℕ) where
   whole true o f n e = (refl, e)
   whole false o f n e = absurd (n (sym e))
 
-  pub was-broken : filling_of blank sound k ≡ Broken → all (λ p. blank p || sound p) 0 k ≡ false
+  pub was_broken : filling_of blank sound k ≡ Broken → all (λ p. blank p || sound p) 0 k ≡ false
   unfolding filling_of
-  was-broken e = go (all (λ p. blank p || sound p) 0 k) (least blank 0 k) e
+  was_broken e = go (all (λ p. blank p || sound p) 0 k) (least blank 0 k) e
     where
       go : (x : Bool) (o : Found) → cond x (blank_at o) Broken ≡ Broken → x ≡ false
       go true o e = absurd (never_broken o e)
       go false o e = refl
 
-  pub was-filled : filling_of blank sound k ≡ Filled
+  pub was_filled : filling_of blank sound k ≡ Filled
       → (all (λ p. blank p || sound p) 0 k ≡ true) × (all (λ p. not (blank p)) 0 k ≡ true)
   unfolding filling_of
-  was-filled e =
+  was_filled e =
       let w = whole (all (λ p. blank p || sound p) 0 k) (least blank 0 k) Filled (λ q. never_broken Nothing q) e in (
         w.0,
-        all-intro (λ p. not (blank p)) 0 k (λ t a l. ap
+        all_intro (λ p. not (blank p)) 0 k (λ t a l. ap
             not (none_passes blank 0 k (nothing (least blank 0 k) w.1) t a l)),
       )
     where
@@ -146,14 +146,14 @@ module _ (blank sound : ℕ → Bool) (k : ℕ) where
       nothing (At p) e = absurd (let z : ◌≡◌ {A = ℕ} 0 1 = cc in omega arith)
       nothing Nothing e = refl
 
-  pub was-blank : (p : ℕ) → filling_of blank sound k ≡ Blank p
+  pub was_blank : (p : ℕ) → filling_of blank sound k ≡ Blank p
       → (all (λ p. blank p || sound p) 0 k ≡ true) × (all (λ p. not (blank p)) 0 k ≡ false) × (start_at (least blank 0 k) ≡ p)
   unfolding filling_of
-  was-blank p e =
+  was_blank p e =
       let w = whole (all (λ p. blank p || sound p) 0 k) (least blank 0 k) (Blank p) (λ q. never_broken (At p) q) e in
       let at = here (least blank 0 k) w.1 in
-      let l = least-passes blank 0 k p at in
-      (w.0, all-break (λ p. not (blank p)) 0 k p l.low l.high (ap not l.test), ap start_at at)
+      let l = least_passes blank 0 k p at in
+      (w.0, all_break (λ p. not (blank p)) 0 k p l.low l.high (ap not l.test), ap start_at at)
     where
       here : (o : Found) → blank_at o ≡ Blank p → o ≡ At p
       here (At q) e = let same : q ≡ p = cc in ap At same

@@ -3,7 +3,7 @@ ghost use Rattle.std.specs.Prelude.{◌≡◌};
 ghost use Rattle.refusals.specs.Lent.{called_by, lent};
 ghost use Rattle.roles.specs.Roles as names;
 ghost use Rattle.roles.specs.Roles.{turned_away};
-ghost use Rattle.refusals.specs.Effects.{completeOut};
+ghost use Rattle.refusals.specs.Effects.{complete_out};
 
 use crate::places::{Filling, look};
 use catalogue::{COMPLETE, Entry};
@@ -23,7 +23,7 @@ pub fn complete(
 ) -> Out
     ensures { let q = called_by (turned_away role names.complete) (lent n free map.now card.now c
         entry sheet) in
-        result ≡ completeOut q }
+        result ≡ complete_out q }
 {
     let opened = enter_on(
         role,

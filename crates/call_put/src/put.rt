@@ -3,7 +3,7 @@ ghost use Rattle.std.specs.Prelude.{◌≡◌};
 ghost use Rattle.refusals.specs.Lent.{called_by, lent};
 ghost use Rattle.roles.specs.Roles as names;
 ghost use Rattle.roles.specs.Roles.{turned_away};
-ghost use Rattle.refusals.specs.Effects.{putAnswer, putCard};
+ghost use Rattle.refusals.specs.Effects.{put_answer, put_card};
 
 use block::PAYLOAD;
 use blocks_of_card::write_block;
@@ -25,8 +25,8 @@ pub fn put(
 ) -> Answer
     ensures { let q = called_by (turned_away role names.put) (lent n free map.now card.old c entry
         sheet) in
-        (result ≡ putAnswer q place payload.now)
-        × (card.new ≡ putCard q place payload.now) }
+        (result ≡ put_answer q place payload.now)
+        × (card.new ≡ put_card q place payload.now) }
 {
     let opened = enter_on(role, roles::PUT, n, free, map, card.len(), c, sheet, entry);
     let Opened::Stands(stands) = opened else {

@@ -3,7 +3,7 @@ ghost use Rattle.std.specs.Prelude.{◌≡◌};
 ghost use Rattle.refusals.specs.Lent.{lent_beside, called_by, no_card};
 ghost use Rattle.roles.specs.Roles as names;
 ghost use Rattle.roles.specs.Roles.{turned_away};
-ghost use Rattle.refusals.specs.Effects.{releaseOut, releaseMap, releaseSummary};
+ghost use Rattle.refusals.specs.Effects.{release_out, release_map, release_summary};
 
 use catalogue::{ABSENT, Entry};
 use catalogue_standings::opening::{open_sheet, refused_row};
@@ -24,7 +24,7 @@ fn release_allowed(
     sheet: u32,
 ) -> Out
     ensures { let q = lent_beside guided summary.old n free map.old no_card c entry sheet in
-        (result ≡ releaseOut q) × (map.new ≡ releaseMap q) × (summary.new ≡ releaseSummary q) }
+        (result ≡ release_out q) × (map.new ≡ release_map q) × (summary.new ≡ release_summary q) }
 {
     if !guide_fits(guided, map.len(), summary.len()) {
         return refusal(free, entry, 1);
@@ -67,7 +67,7 @@ pub fn release(
 ) -> Out
     ensures { let q = called_by (turned_away role names.release)
         (lent_beside guided summary.old n free map.old no_card c entry sheet) in
-        (result ≡ releaseOut q) × (map.new ≡ releaseMap q) × (summary.new ≡ releaseSummary q) }
+        (result ≡ release_out q) × (map.new ≡ release_map q) × (summary.new ≡ release_summary q) }
 {
     if turned_away(role, roles::RELEASE) {
         return refusal(free, entry, TURNED_AWAY);

@@ -3,7 +3,7 @@ ghost use Rattle.std.specs.Prelude.{◌≡◌};
 ghost use Rattle.refusals.specs.Lent.{lent_within, called_by};
 ghost use Rattle.roles.specs.Roles as names;
 ghost use Rattle.roles.specs.Roles.{turned_away};
-ghost use Rattle.refusals.specs.Effects.{acceptOut, acceptMap, acceptSummary, acceptCard};
+ghost use Rattle.refusals.specs.Effects.{accept_out, accept_map, accept_summary, accept_card};
 
 use call_take::take;
 use catalogue::Entry;
@@ -28,10 +28,10 @@ pub fn accept(
 ) -> Out
     ensures { let q = called_by (turned_away role names.accept) (lent_within held limits.now guided summary.entry.now n free map.old
         card.old c entry sheet) in
-        (result ≡ acceptOut q start k)
-        × (map.new ≡ acceptMap q start k)
-        × (summary.new ≡ acceptSummary q start k)
-        × (card.new ≡ acceptCard q start k) }
+        (result ≡ accept_out q start k)
+        × (map.new ≡ accept_map q start k)
+        × (summary.new ≡ accept_summary q start k)
+        × (card.new ≡ accept_card q start k) }
 {
     match accept_ruling(
         role, n, free, map, guided, summary, card, c, entry, sheet, held, limits, start, k,

@@ -3,7 +3,7 @@ ghost use Rattle.std.specs.Prelude.{◌≡◌};
 ghost use Rattle.refusals.specs.Lent.{lent_within, called_by};
 ghost use Rattle.roles.specs.Roles as names;
 ghost use Rattle.roles.specs.Roles.{turned_away};
-ghost use Rattle.refusals.specs.Effects.{growOut, growMap, growSummary, growCard};
+ghost use Rattle.refusals.specs.Effects.{grow_out, grow_map, grow_summary, grow_card};
 
 use call_take::occupy;
 use catalogue::{Entry, OPEN};
@@ -28,10 +28,10 @@ pub fn grow(
 ) -> Out
     ensures { let q = called_by (turned_away role names.grow) (lent_within held limits.now guided summary.entry.now n free map.old
         card.old c entry sheet) in
-        (result ≡ growOut q m)
-        × (map.new ≡ growMap q m)
-        × (summary.new ≡ growSummary q m)
-        × (card.new ≡ growCard q m) }
+        (result ≡ grow_out q m)
+        × (map.new ≡ grow_map q m)
+        × (summary.new ≡ grow_summary q m)
+        × (card.new ≡ grow_card q m) }
 {
     match grow_ruling(
         role, n, free, map, guided, summary, card, c, entry, sheet, held, limits, m,

@@ -4,7 +4,7 @@ ghost use Rattle.refusals.specs.Lent.{lent_within, called_by};
 ghost use Rattle.roles.specs.Roles as names;
 ghost use Rattle.roles.specs.Roles.{turned_away};
 ghost use Rattle.refusals.specs.Placement.{placed};
-ghost use Rattle.refusals.specs.Effects.{reserveOut, reserveMap, reserveSummary, reserveCard};
+ghost use Rattle.refusals.specs.Effects.{reserve_out, reserve_map, reserve_summary, reserve_card};
 
 use call_take::take;
 use catalogue::Entry;
@@ -29,10 +29,10 @@ pub fn reserve(
 ) -> Out
     ensures { let q = called_by (turned_away role names.reserve) (lent_within held limits.now guided summary.entry.now n free map.old
         card.old c entry sheet) in
-        (result ≡ reserveOut q k (placed figures))
-        × (map.new ≡ reserveMap q k (placed figures))
-        × (summary.new ≡ reserveSummary q k (placed figures))
-        × (card.new ≡ reserveCard q k (placed figures)) }
+        (result ≡ reserve_out q k (placed figures))
+        × (map.new ≡ reserve_map q k (placed figures))
+        × (summary.new ≡ reserve_summary q k (placed figures))
+        × (card.new ≡ reserve_card q k (placed figures)) }
 {
     match reserve_ruling(
         role,

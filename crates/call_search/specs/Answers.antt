@@ -36,4 +36,4 @@ abbrev pub fresh_number : Bool → ℕ → List ℕ → ℕ → ℕ
 fresh_number turned n map c = row_number (fresh_verdict turned n (length map) c)
 
 abbrev pub fresh_map : Bool → ℕ → List ℕ → ℕ → List ℕ
-fresh_map turned n map c = settle (fresh_verdict turned n (length map) c) (maps.freshMap n (length map)) (λ number. map)
+fresh_map turned n map c = settle (fresh_verdict turned n (length map) c) (maps.fresh_map n (length map)) (λ number. map)

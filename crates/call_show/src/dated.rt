@@ -8,7 +8,7 @@ ghost use Rattle.catalogue_standings.specs.Rows.{row_number};
 ghost use Rattle.refusals.specs.Lent.{called_by, lent};
 ghost use Rattle.roles.specs.Roles as names;
 ghost use Rattle.roles.specs.Roles.{turned_away};
-ghost use Rattle.refusals.specs.Effects.{term_verdict, showDatedAnswer, showDatedBuffer};
+ghost use Rattle.refusals.specs.Effects.{term_verdict, show_dated_answer, show_dated_buffer};
 
 use crate::place::{show_block, showing_row};
 use block::{BLOCK, PAYLOAD};
@@ -63,8 +63,8 @@ pub fn show_dated(
     ensures { let q = called_by (turned_away role names.show_dated) (lent n free map.now card.now c
         entry sheet) in
         let date = date_of year month day in
-        (result ≡ showDatedAnswer q place date buffer.old)
-        × (buffer.new ≡ showDatedBuffer q place date buffer.old) }
+        (result ≡ show_dated_answer q place date buffer.old)
+        × (buffer.new ≡ show_dated_buffer q place date buffer.old) }
 {
     let row = showing_row(
         role,

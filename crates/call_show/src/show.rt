@@ -3,7 +3,7 @@ ghost use Rattle.std.specs.Prelude.{◌≡◌};
 ghost use Rattle.refusals.specs.Lent.{called_by, lent};
 ghost use Rattle.roles.specs.Roles as names;
 ghost use Rattle.roles.specs.Roles.{turned_away};
-ghost use Rattle.refusals.specs.Effects.{showAnswer, showBuffer};
+ghost use Rattle.refusals.specs.Effects.{show_answer, show_buffer};
 
 use crate::place::{show_block, showing_row};
 use catalogue::Entry;
@@ -23,8 +23,8 @@ pub fn show(
 ) -> Answer
     ensures { let q = called_by (turned_away role names.show) (lent n free map.now card.now c entry
         sheet) in
-        (result ≡ showAnswer q place buffer.old)
-        × (buffer.new ≡ showBuffer q place buffer.old) }
+        (result ≡ show_answer q place buffer.old)
+        × (buffer.new ≡ show_buffer q place buffer.old) }
 {
     let row = showing_row(
         role,

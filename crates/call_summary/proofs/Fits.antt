@@ -14,7 +14,7 @@ use Rattle.catalogue_standings.specs.Rows.{Verdict, row, accepted, refused, firs
 use Rattle.catalogue_standings.specs.declared.Answer.TheVariants.{Done, Own, Refused}
 use Rattle.catalogue_standings.proofs.Limits.{fits}
 use Rattle.catalogue_standings.proofs.Openings.{skip, stop, none_left}
-use Rattle.call_summary.specs.Answers.{summary_fits, buildAnswer, builtSummary, check_answer}
+use Rattle.call_summary.specs.Answers.{summary_fits, build_answer, built_summary, check_answer}
 
 module _ (n spare : ℕ) (map summary : List ℕ) where
   abbrev whole : Bool
@@ -35,13 +35,13 @@ module _ (n spare : ℕ) (map summary : List ℕ) where
     abbrev verdict : Verdict
     verdict = first_of (row 21 turned ∷ row 1 (not whole) ∷ [])
 
-    pub build-told : (v : Verdict) → verdict ≡ v → settle v Done Refused ≡ buildAnswer turned n spare map summary
-    unfolding buildAnswer
+    pub build-told : (v : Verdict) → verdict ≡ v → settle v Done Refused ≡ build_answer turned n spare map summary
+    unfolding build_answer
     build-told v h = sym (ap (λ (w : Verdict). settle w Done Refused) h)
 
     pub build-left : (v : Verdict) → verdict ≡ v
-        → settle v (own_summary map n) (λ number. summary) ≡ builtSummary turned n spare map summary
-    unfolding builtSummary
+        → settle v (own_summary map n) (λ number. summary) ≡ built_summary turned n spare map summary
+    unfolding built_summary
     build-left v h = sym (ap (λ (w : Verdict). settle w (own_summary map n) (λ number. summary)) h)
 
     pub check-told : (v : Verdict) → verdict ≡ v

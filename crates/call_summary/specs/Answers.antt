@@ -14,16 +14,16 @@ unfolding shape_fits
 summary_fits n free maplen summarylen = shape_fits n free maplen && eqb summarylen (summary_length maplen)
 
 module _ (turned : Bool) (n free : ℕ) (map summary : List ℕ) where
-  abbrev pub summaryVerdict : Verdict
-  summaryVerdict = first_of (row 21 turned ∷ row 1 (not (summary_fits n free (length map) (length summary))) ∷ [])
+  abbrev pub summary_verdict : Verdict
+  summary_verdict = first_of (row 21 turned ∷ row 1 (not (summary_fits n free (length map) (length summary))) ∷ [])
 
   -- Build: the summary becomes the map's own.
-  unfoldable pub buildAnswer : Answer
-  buildAnswer = settle summaryVerdict Done Refused
+  unfoldable pub build_answer : Answer
+  build_answer = settle summary_verdict Done Refused
 
-  unfoldable pub builtSummary : List ℕ
-  builtSummary = settle summaryVerdict (own_summary map n) (λ number. summary)
+  unfoldable pub built_summary : List ℕ
+  built_summary = settle summary_verdict (own_summary map n) (λ number. summary)
 
   -- Check: 1 exactly if the summary is the map's own, else 0.
   unfoldable pub check_answer : Answer
-  check_answer = settle summaryVerdict (Own (cond (is_own map n summary) 1 0)) Refused
+  check_answer = settle summary_verdict (Own (cond (is_own map n summary) 1 0)) Refused

@@ -2,7 +2,7 @@
 ghost use Rattle.std.specs.Prelude.{false, ◌≡◌};
 ghost use Rattle.roles.specs.Roles as names;
 ghost use Rattle.roles.specs.Roles.{turned_away};
-ghost use Rattle.call_summary.specs.Answers.{summary_fits, buildAnswer, builtSummary, check_answer};
+ghost use Rattle.call_summary.specs.Answers.{summary_fits, build_answer, built_summary, check_answer};
 
 use catalogue_standings::Answer;
 use catalogue_standings::opening::shape_fits;
@@ -22,8 +22,8 @@ fn summary_fits(n: u32, free: u32, maplen: usize, summarylen: usize) -> bool
 
 // The summary of the map, built anew. It asks nobody's role: a closing ends with it, for whoever may close.
 pub fn rebuild_summary(n: u32, free: u32, map: &[u64], summary: &mut [u32]) -> Answer
-    ensures { (result ≡ buildAnswer false n free map.now summary.old)
-        × (summary.new ≡ builtSummary false n free map.now summary.old) }
+    ensures { (result ≡ build_answer false n free map.now summary.old)
+        × (summary.new ≡ built_summary false n free map.now summary.old) }
 {
     if !summary_fits(n, free, map.len(), summary.len()) {
         return Answer::Refused(1);
@@ -35,8 +35,8 @@ pub fn rebuild_summary(n: u32, free: u32, map: &[u64], summary: &mut [u32]) -> A
 // The call of that.
 pub fn build_summary(role: u32, n: u32, free: u32, map: &[u64], summary: &mut [u32]) -> Answer
     ensures { let turned = turned_away role names.buildSummary in
-        (result ≡ buildAnswer turned n free map.now summary.old)
-        × (summary.new ≡ builtSummary turned n free map.now summary.old) }
+        (result ≡ build_answer turned n free map.now summary.old)
+        × (summary.new ≡ built_summary turned n free map.now summary.old) }
 {
     if turned_away(role, roles::BUILD_SUMMARY) {
         return Answer::Refused(TURNED_AWAY);

@@ -22,7 +22,7 @@ use Rattle.image_soundness.specs.Sound.{State}
 use Rattle.image.proofs.Before.{saves_as_before, loads_as_before, still_saves, still_loads}
 use Rattle.card.specs.Calls.{Kept, told, load_outcome_by, saved_state}
 use Rattle.card.specs.Public.{save, load, kind_of, Manner, Beside, with_scratch, ending, telling, refused_end}
-use Rattle.card.specs.Public.{endSave, endLoad, ends}
+use Rattle.card.specs.Public.{end_save, end_load, ends}
 use Rattle.card.specs.declared.Shape.{Shape}
 use Rattle.card.proofs.Images.{save_refused, load_refused}
 use Rattle.card.proofs.TurnedAway.{put_together}
@@ -32,33 +32,33 @@ module _ (guided : Bool) (s : Kept) (b : Beside) where
   abbrev state : State
   state = saved_state s.shape s.map s.entries
 
-  abbrev savedTo : List ℕ → Beside
-  savedTo image = record { summary = b.summary; scratch = zeros_for b.scratch; image = image }
+  abbrev saved_to : List ℕ → Beside
+  saved_to image = record { summary = b.summary; scratch = zeros_for b.scratch; image = image }
 
   saved : save_verdict false state (length b.scratch) (length b.image) ≡ accepted
-      → endSave false guided s b ≡ telling s (savedTo (image_of state)) (told s.shape Done) []
-  unfolding images.saveNumber images.saveImage images.saveScratch
+      → end_save false guided s b ≡ telling s (saved_to (image_of state)) (told s.shape Done) []
+  unfolding images.save_number images.save_image images.save_scratch
   saved v =
-      ap (λ (w : Verdict). telling s (savedTo (settle w (image_of state) (λ k. b.image)))
+      ap (λ (w : Verdict). telling s (saved_to (settle w (image_of state) (λ k. b.image)))
       (told s.shape (cond (eqb (row_number w) 0) Done (Refused (row_number w)))) []) v
 
   not_saved : (number : ℕ) → save_verdict false state (length b.scratch) (length b.image) ≡ refused number
-      → endSave false guided s b ≡ refused_end number s b (kind_of save)
+      → end_save false guided s b ≡ refused_end number s b (kind_of save)
   not_saved number v =
       let same = save_refused false s.shape s.map s.entries b.scratch b.image number v in
       put_together same.0 refl refl refl
       (λ x. record { summary = b.summary; scratch = same.2 x; image = same.1 x })
 
   -- the shape that stands in an image
-  abbrev pub shapeIn : List ℕ → Shape
-  shapeIn image = record { blocks = (state_in image).blocks; free = (state_in image).spare }
+  abbrev pub shape_in : List ℕ → Shape
+  shape_in image = record { blocks = (state_in image).blocks; free = (state_in image).spare }
 
   loaded : (image : List ℕ)
       → load_verdict false image (length s.map) (length s.entries) (length b.scratch) ≡ accepted
-      → endLoad false guided s b image
-      ≡ ending (told (shapeIn image) Done) (state_in image).map (state_in image).entries s.card []
+      → end_load false guided s b image
+      ≡ ending (told (shape_in image) Done) (state_in image).map (state_in image).entries s.card []
       (with_scratch (zeros_for b.scratch) b)
-  unfolding images.loadResult images.loadMap images.loadEntries images.loadScratch
+  unfolding images.load_result images.load_map images.load_entries images.load_scratch
   loaded image v =
       ap (λ (w : Verdict). ending (load_outcome_by s.shape (settle w
       (record { number = 0; blocks = (state_in image).blocks; free = (state_in image).spare })
@@ -66,10 +66,10 @@ module _ (guided : Bool) (s : Kept) (b : Beside) where
       (settle w (state_in image).map (λ k. s.map)) (settle w (state_in image).entries (λ k. s.entries)) s.card []
       (with_scratch (zeros_for b.scratch) b)) v
 
-  not-loaded : (image : List ℕ) (number : ℕ)
+  not_loaded : (image : List ℕ) (number : ℕ)
       → load_verdict false image (length s.map) (length s.entries) (length b.scratch) ≡ refused number
-      → endLoad false guided s b image ≡ refused_end number s b (kind_of (load image))
-  not-loaded image number v =
+      → end_load false guided s b image ≡ refused_end number s b (kind_of (load image))
+  not_loaded image number v =
       let same = load_refused false s.shape image s.map s.entries b.scratch number v in
       put_together same.0 same.1 same.2 refl (ap (λ (zeros : List ℕ). with_scratch zeros b) same.3)
 
@@ -77,13 +77,13 @@ module _ (guided : Bool) (s : Kept) (b : Beside) where
 
 module _ (m : Manner) (s : Kept) (b : Beside) where
   module _ (may-save : may m.role roles.save ≡ true) where
-    not-turned-save : ends m s b save ≡ endSave false m.guided s b
-    not-turned-save = ap (λ (u : Bool). endSave u m.guided s b) (ap not may-save)
+    not-turned-save : ends m s b save ≡ end_save false m.guided s b
+    not-turned-save = ap (λ (u : Bool). end_save u m.guided s b) (ap not may-save)
 
     -- a state that could be saved is saved, and its image is the same bytes
     pub still-saved : save_verdict_before (state m.guided s b) (length b.scratch) (length b.image) ≡ accepted
         → ends m s b save
-        ≡ telling s (savedTo m.guided s b (image_of (state m.guided s b))) (told s.shape Done) []
+        ≡ telling s (saved_to m.guided s b (image_of (state m.guided s b))) (told s.shape Done) []
     still-saved v =
         not-turned-save ∙ saved m.guided s b (still_saves (state m.guided s b) (length b.scratch) (length b.image)
         v)
@@ -97,13 +97,13 @@ module _ (m : Manner) (s : Kept) (b : Beside) where
         (saves_as_before (state m.guided s b) (length b.scratch) (length b.image) bare ∙ v)
 
   module _ (may_load : may m.role roles.load ≡ true) (image : List ℕ) where
-    not-turned-load : ends m s b (load image) ≡ endLoad false m.guided s b image
-    not-turned-load = ap (λ (u : Bool). endLoad u m.guided s b image) (ap not may_load)
+    not-turned-load : ends m s b (load image) ≡ end_load false m.guided s b image
+    not-turned-load = ap (λ (u : Bool). end_load u m.guided s b image) (ap not may_load)
 
     -- an image that could be loaded is loaded, to the same state
     pub still_loaded : load_verdict_before image (length s.map) (length s.entries) (length b.scratch) ≡ accepted
         → ends m s b (load image)
-        ≡ ending (told (shapeIn m.guided s b image) Done) (state_in image).map (state_in image).entries s.card []
+        ≡ ending (told (shape_in m.guided s b image) Done) (state_in image).map (state_in image).entries s.card []
         (with_scratch (zeros_for b.scratch) b)
     still_loaded v =
         not-turned-load ∙ loaded m.guided s b image
@@ -113,5 +113,5 @@ module _ (m : Manner) (s : Kept) (b : Beside) where
         → load_verdict_before image (length s.map) (length s.entries) (length b.scratch) ≡ refused number
         → ends m s b (load image) ≡ refused_end number s b (kind_of (load image))
     load-refused-as-before number bare v =
-        not-turned-load ∙ not-loaded m.guided s b image number
+        not-turned-load ∙ not_loaded m.guided s b image number
         (loads_as_before image (length s.map) (length s.entries) (length b.scratch) bare ∙ v)

@@ -47,160 +47,160 @@ use Rattle.card.specs.contracts.Shape.load as load-method
 
 -- what is passed is a.0, a.1.0 and so on, in the order of the parameters, and what is left of it t.0, t.1.0 and so on
 module _ {M : Type 1} {𝓤 : Ura M} (𝓛 : Logic 𝓤) (mem : Memory → SProp 𝓤) (run : Routine → Fun 𝓤) where
-  pub constants-hold-contract : Ensures 𝓤 constants-hold-method.ended (constants-hold-method.clauses 𝓛 mem run) (λ κs a r t.
+  pub constants_hold_contract : Ensures 𝓤 constants-hold-method.ended (constants-hold-method.clauses 𝓛 mem run) (λ κs a r t.
       r ≡ true)
-  constants-hold-contract κs a r t g = refl
+  constants_hold_contract κs a r t g = refl
 
-  pub fresh-contract : Ensures 𝓤 fresh-method.ended (fresh-method.clauses 𝓛 mem run) (λ κs a r t.
+  pub fresh_contract : Ensures 𝓤 fresh-method.ended (fresh-method.clauses 𝓛 mem run) (λ κs a r t.
       LeavesMapEntries itself (ends (by_map a.1.0) (kept a.0 a.1.1.1.0.now a.1.1.1.1.0.now no_card)
       nothing (fresh a.1.1.0)) r t.1.1.1.0.now t.1.1.1.1.0.now)
-  fresh-contract κs a r t g = refl
+  fresh_contract κs a r t g = refl
 
-  pub search-contract : Ensures 𝓤 search-method.ended (search-method.clauses 𝓛 mem run) (λ κs a r t.
+  pub search_contract : Ensures 𝓤 search-method.ended (search-method.clauses 𝓛 mem run) (λ κs a r t.
       HandsBack itself (ends (by_map a.1.0) (kept a.0 a.1.1.0.now [] no_card) nothing (search a.1.1.1.0))
       r)
-  search-contract κs a r t g = refl
+  search_contract κs a r t g = refl
 
-  pub survey-contract : Ensures 𝓤 survey-method.ended (survey-method.clauses 𝓛 mem run) (λ κs a r t.
+  pub survey_contract : Ensures 𝓤 survey-method.ended (survey-method.clauses 𝓛 mem run) (λ κs a r t.
       HandsBack itself (ends (by_map a.1.0) (kept a.0 a.1.1.0.now [] no_card) nothing survey) r)
-  survey-contract κs a r t g = refl
+  survey_contract κs a r t g = refl
 
-  pub reserve-contract : Ensures 𝓤 reserve-method.ended (reserve-method.clauses 𝓛 mem run) (λ κs a r t.
+  pub reserve_contract : Ensures 𝓤 reserve-method.ended (reserve-method.clauses 𝓛 mem run) (λ κs a r t.
       LeavesMapEntriesCard itself (ends (by_map a.1.0) (kept a.0 a.1.1.0.now a.1.1.1.0.now a.1.1.1.1.0.now) nothing (on a.1.1.1.1.1.1.0 (reserve a.1.1.1.1.1.0.now a.1.1.1.1.1.1.1.0
       plain))) r t.1.1.0.now t.1.1.1.0.now t.1.1.1.1.0.now)
-  reserve-contract κs a r t g = refl
+  reserve_contract κs a r t g = refl
 
-  pub reserve-placed-contract : Ensures 𝓤 reserve-placed-method.ended
+  pub reserve_placed_contract : Ensures 𝓤 reserve-placed-method.ended
       (reserve-placed-method.clauses 𝓛 mem run) (λ κs a r t.
       LeavesMapEntriesCard itself (ends (by_map a.1.0) (kept a.0 a.1.1.0.now a.1.1.1.0.now a.1.1.1.1.0.now) nothing (on a.1.1.1.1.1.1.0 (reserve a.1.1.1.1.1.0.now a.1.1.1.1.1.1.1.0
       (placed (figures a.1.1.1.1.1.1.1.1.0 a.1.1.1.1.1.1.1.1.1.0 a.1.1.1.1.1.1.1.1.1.1.0))))) r t.1.1.0.now t.1.1.1.0.now t.1.1.1.1.0.now)
-  reserve-placed-contract κs a r t g = refl
+  reserve_placed_contract κs a r t g = refl
 
-  pub offer-contract : Ensures 𝓤 offer-method.ended (offer-method.clauses 𝓛 mem run) (λ κs a r t.
+  pub offer_contract : Ensures 𝓤 offer-method.ended (offer-method.clauses 𝓛 mem run) (λ κs a r t.
       HandsBack itself (ends (by_map a.1.0) (kept a.0 a.1.1.0.now a.1.1.1.0.now a.1.1.1.1.0.now) nothing (on a.1.1.1.1.1.1.0 (offer a.1.1.1.1.1.0.now a.1.1.1.1.1.1.1.0))) r)
-  offer-contract κs a r t g = refl
+  offer_contract κs a r t g = refl
 
-  pub accept-contract : Ensures 𝓤 accept-method.ended (accept-method.clauses 𝓛 mem run) (λ κs a r t.
+  pub accept_contract : Ensures 𝓤 accept-method.ended (accept-method.clauses 𝓛 mem run) (λ κs a r t.
       LeavesMapEntriesCard itself (ends (by_map a.1.0) (kept a.0 a.1.1.0.now a.1.1.1.0.now a.1.1.1.1.0.now) nothing (on a.1.1.1.1.1.1.0 (accept a.1.1.1.1.1.0.now a.1.1.1.1.1.1.1.0 a.1.1.1.1.1.1.1.1.0))) r t.1.1.0.now t.1.1.1.0.now t.1.1.1.1.0.now)
-  accept-contract κs a r t g = refl
+  accept_contract κs a r t g = refl
 
-  pub grow-contract : Ensures 𝓤 grow-method.ended (grow-method.clauses 𝓛 mem run) (λ κs a r t.
+  pub grow_contract : Ensures 𝓤 grow-method.ended (grow-method.clauses 𝓛 mem run) (λ κs a r t.
       LeavesMapEntriesCard itself (ends (by_map a.1.0) (kept a.0 a.1.1.0.now a.1.1.1.0.now a.1.1.1.1.0.now) nothing (on a.1.1.1.1.1.1.0 (grow a.1.1.1.1.1.0.now a.1.1.1.1.1.1.1.0))) r
       t.1.1.0.now t.1.1.1.0.now t.1.1.1.1.0.now)
-  grow-contract κs a r t g = refl
+  grow_contract κs a r t g = refl
 
-  pub put-contract : Ensures 𝓤 put-method.ended (put-method.clauses 𝓛 mem run) (λ κs a r t.
+  pub put_contract : Ensures 𝓤 put-method.ended (put-method.clauses 𝓛 mem run) (λ κs a r t.
       LeavesCard itself (ends (by_map a.1.0) (kept a.0 a.1.1.0.now a.1.1.1.0.now a.1.1.1.1.0.now) nothing (on a.1.1.1.1.1.0 (put a.1.1.1.1.1.1.0 a.1.1.1.1.1.1.1.0.now))) r
       t.1.1.1.1.0.now)
-  put-contract κs a r t g = refl
+  put_contract κs a r t g = refl
 
-  pub complete-contract : Ensures 𝓤 complete-method.ended (complete-method.clauses 𝓛 mem run) (λ κs a r t.
+  pub complete_contract : Ensures 𝓤 complete-method.ended (complete-method.clauses 𝓛 mem run) (λ κs a r t.
       LeavesEntries itself (ends (by_map a.1.0) (kept a.0 a.1.1.0.now a.1.1.1.0.now a.1.1.1.1.0.now) nothing (on a.1.1.1.1.1.0 complete)) r t.1.1.1.0.now)
-  complete-contract κs a r t g = refl
+  complete_contract κs a r t g = refl
 
-  pub pause-contract : Ensures 𝓤 pause-method.ended (pause-method.clauses 𝓛 mem run) (λ κs a r t.
+  pub pause_contract : Ensures 𝓤 pause-method.ended (pause-method.clauses 𝓛 mem run) (λ κs a r t.
       LeavesEntries itself (ends (by_map a.1.0) (kept a.0 a.1.1.0.now a.1.1.1.0.now no_card) nothing (on
       a.1.1.1.1.0 (change pause))) r t.1.1.1.0.now)
-  pause-contract κs a r t g = refl
+  pause_contract κs a r t g = refl
 
-  pub resume-contract : Ensures 𝓤 resume-method.ended (resume-method.clauses 𝓛 mem run) (λ κs a r t.
+  pub resume_contract : Ensures 𝓤 resume-method.ended (resume-method.clauses 𝓛 mem run) (λ κs a r t.
       LeavesEntries itself (ends (by_map a.1.0) (kept a.0 a.1.1.0.now a.1.1.1.0.now no_card) nothing (on
       a.1.1.1.1.0 (change resume))) r t.1.1.1.0.now)
-  resume-contract κs a r t g = refl
+  resume_contract κs a r t g = refl
 
-  pub release-contract : Ensures 𝓤 release-method.ended (release-method.clauses 𝓛 mem run) (λ κs a r t.
+  pub release_contract : Ensures 𝓤 release-method.ended (release-method.clauses 𝓛 mem run) (λ κs a r t.
       LeavesMapEntries itself (ends (by_map a.1.0) (kept a.0 a.1.1.0.now a.1.1.1.0.now no_card) nothing
       (on a.1.1.1.1.0 release)) r t.1.1.0.now t.1.1.1.0.now)
-  release-contract κs a r t g = refl
+  release_contract κs a r t g = refl
 
-  pub show-contract : Ensures 𝓤 show-method.ended (show-method.clauses 𝓛 mem run) (λ κs a r t.
+  pub show_contract : Ensures 𝓤 show-method.ended (show-method.clauses 𝓛 mem run) (λ κs a r t.
       LeavesBuffer itself (ends (by_map a.1.0) (kept a.0 a.1.1.0.now a.1.1.1.0.now a.1.1.1.1.0.now) nothing (on a.1.1.1.1.1.0 (show a.1.1.1.1.1.1.0 a.1.1.1.1.1.1.1.0.now))) r
       t.1.1.1.1.1.1.1.0.now)
-  show-contract κs a r t g = refl
+  show_contract κs a r t g = refl
 
-  pub show-dated-contract : Ensures 𝓤 show-dated-method.ended (show-dated-method.clauses 𝓛 mem run) (λ κs a r t.
+  pub show_dated_contract : Ensures 𝓤 show-dated-method.ended (show-dated-method.clauses 𝓛 mem run) (λ κs a r t.
       LeavesBuffer itself (ends (by_map a.1.0) (kept a.0 a.1.1.0.now a.1.1.1.0.now a.1.1.1.1.0.now) nothing (on a.1.1.1.1.1.0 (show_dated a.1.1.1.1.1.1.0 (date_of a.1.1.1.1.1.1.1.0 a.1.1.1.1.1.1.1.1.0 a.1.1.1.1.1.1.1.1.1.0) a.1.1.1.1.1.1.1.1.1.1.0.now))) r
       t.1.1.1.1.1.1.1.1.1.1.0.now)
-  show-dated-contract κs a r t g = refl
+  show_dated_contract κs a r t g = refl
 
-  pub standing-contract : Ensures 𝓤 standing-method.ended (standing-method.clauses 𝓛 mem run) (λ κs a r t.
+  pub standing_contract : Ensures 𝓤 standing-method.ended (standing-method.clauses 𝓛 mem run) (λ κs a r t.
       HandsBack itself (ends (by_map a.1.0) (kept a.0 a.1.1.0.now a.1.1.1.0.now no_card) nothing (on a.1.1.1.1.0 standing)) r)
-  standing-contract κs a r t g = refl
+  standing_contract κs a r t g = refl
 
-  pub save-contract : Ensures 𝓤 save-method.ended (save-method.clauses 𝓛 mem run) (λ κs a r t.
+  pub save_contract : Ensures 𝓤 save-method.ended (save-method.clauses 𝓛 mem run) (λ κs a r t.
       LeavesScratchImage itself (ends (by_map a.1.0) (kept a.0 a.1.1.0.now a.1.1.1.0.now no_card)
       (beside [] a.1.1.1.1.0.now a.1.1.1.1.1.0.now) save) r t.1.1.1.1.0.now
       t.1.1.1.1.1.0.now)
-  save-contract κs a r t g = refl
+  save_contract κs a r t g = refl
 
-  pub close-contract : Ensures 𝓤 close-method.ended (close-method.clauses 𝓛 mem run) (λ κs a r t.
+  pub close_contract : Ensures 𝓤 close-method.ended (close-method.clauses 𝓛 mem run) (λ κs a r t.
       LeavesMapEntriesCardScratch itself (ends (by_map a.1.0) (kept a.0 a.1.1.0.now a.1.1.1.0.now a.1.1.1.1.0.now) (beside [] a.1.1.1.1.1.0.now []) close) r t.1.1.0.now t.1.1.1.0.now
       t.1.1.1.1.0.now t.1.1.1.1.1.0.now)
-  close-contract κs a r t g = refl
+  close_contract κs a r t g = refl
 
-  pub load-contract : Ensures 𝓤 load-method.ended (load-method.clauses 𝓛 mem run) (λ κs a r t.
+  pub load_contract : Ensures 𝓤 load-method.ended (load-method.clauses 𝓛 mem run) (λ κs a r t.
       LeavesMapEntriesScratch itself (ends (by_map a.1.0) (kept a.0 a.1.1.1.0.now a.1.1.1.1.0.now
       no_card) (beside [] a.1.1.1.1.1.0.now []) (load a.1.1.0.now)) r t.1.1.1.0.now
       t.1.1.1.1.0.now t.1.1.1.1.1.0.now)
-  load-contract κs a r t g = refl
+  load_contract κs a r t g = refl
 
-  pub constants-hold-asks-nothing : AsksNothing 𝓤 constants-hold-method.ended (constants-hold-method.clauses 𝓛 mem run)
-  constants-hold-asks-nothing κs a g = refl
+  pub constants_hold_asks_nothing : AsksNothing 𝓤 constants-hold-method.ended (constants-hold-method.clauses 𝓛 mem run)
+  constants_hold_asks_nothing κs a g = refl
 
-  pub fresh-asks-nothing : AsksNothing 𝓤 fresh-method.ended (fresh-method.clauses 𝓛 mem run)
-  fresh-asks-nothing κs a g = refl
+  pub fresh_asks_nothing : AsksNothing 𝓤 fresh-method.ended (fresh-method.clauses 𝓛 mem run)
+  fresh_asks_nothing κs a g = refl
 
-  pub search-asks-nothing : AsksNothing 𝓤 search-method.ended (search-method.clauses 𝓛 mem run)
-  search-asks-nothing κs a g = refl
+  pub search_asks_nothing : AsksNothing 𝓤 search-method.ended (search-method.clauses 𝓛 mem run)
+  search_asks_nothing κs a g = refl
 
-  pub survey-asks-nothing : AsksNothing 𝓤 survey-method.ended (survey-method.clauses 𝓛 mem run)
-  survey-asks-nothing κs a g = refl
+  pub survey_asks_nothing : AsksNothing 𝓤 survey-method.ended (survey-method.clauses 𝓛 mem run)
+  survey_asks_nothing κs a g = refl
 
-  pub reserve-asks-nothing : AsksNothing 𝓤 reserve-method.ended (reserve-method.clauses 𝓛 mem run)
-  reserve-asks-nothing κs a g = refl
+  pub reserve_asks_nothing : AsksNothing 𝓤 reserve-method.ended (reserve-method.clauses 𝓛 mem run)
+  reserve_asks_nothing κs a g = refl
 
-  pub reserve-placed-asks-nothing : AsksNothing 𝓤 reserve-placed-method.ended
+  pub reserve_placed_asks_nothing : AsksNothing 𝓤 reserve-placed-method.ended
       (reserve-placed-method.clauses 𝓛 mem run)
-  reserve-placed-asks-nothing κs a g = refl
+  reserve_placed_asks_nothing κs a g = refl
 
-  pub offer-asks-nothing : AsksNothing 𝓤 offer-method.ended (offer-method.clauses 𝓛 mem run)
-  offer-asks-nothing κs a g = refl
+  pub offer_asks_nothing : AsksNothing 𝓤 offer-method.ended (offer-method.clauses 𝓛 mem run)
+  offer_asks_nothing κs a g = refl
 
-  pub accept-asks-nothing : AsksNothing 𝓤 accept-method.ended (accept-method.clauses 𝓛 mem run)
-  accept-asks-nothing κs a g = refl
+  pub accept_asks_nothing : AsksNothing 𝓤 accept-method.ended (accept-method.clauses 𝓛 mem run)
+  accept_asks_nothing κs a g = refl
 
-  pub grow-asks-nothing : AsksNothing 𝓤 grow-method.ended (grow-method.clauses 𝓛 mem run)
-  grow-asks-nothing κs a g = refl
+  pub grow_asks_nothing : AsksNothing 𝓤 grow-method.ended (grow-method.clauses 𝓛 mem run)
+  grow_asks_nothing κs a g = refl
 
-  pub put-asks-nothing : AsksNothing 𝓤 put-method.ended (put-method.clauses 𝓛 mem run)
-  put-asks-nothing κs a g = refl
+  pub put_asks_nothing : AsksNothing 𝓤 put-method.ended (put-method.clauses 𝓛 mem run)
+  put_asks_nothing κs a g = refl
 
-  pub complete-asks-nothing : AsksNothing 𝓤 complete-method.ended (complete-method.clauses 𝓛 mem run)
-  complete-asks-nothing κs a g = refl
+  pub complete_asks_nothing : AsksNothing 𝓤 complete-method.ended (complete-method.clauses 𝓛 mem run)
+  complete_asks_nothing κs a g = refl
 
-  pub pause-asks-nothing : AsksNothing 𝓤 pause-method.ended (pause-method.clauses 𝓛 mem run)
-  pause-asks-nothing κs a g = refl
+  pub pause_asks_nothing : AsksNothing 𝓤 pause-method.ended (pause-method.clauses 𝓛 mem run)
+  pause_asks_nothing κs a g = refl
 
-  pub resume-asks-nothing : AsksNothing 𝓤 resume-method.ended (resume-method.clauses 𝓛 mem run)
-  resume-asks-nothing κs a g = refl
+  pub resume_asks_nothing : AsksNothing 𝓤 resume-method.ended (resume-method.clauses 𝓛 mem run)
+  resume_asks_nothing κs a g = refl
 
-  pub release-asks-nothing : AsksNothing 𝓤 release-method.ended (release-method.clauses 𝓛 mem run)
-  release-asks-nothing κs a g = refl
+  pub release_asks_nothing : AsksNothing 𝓤 release-method.ended (release-method.clauses 𝓛 mem run)
+  release_asks_nothing κs a g = refl
 
-  pub show-asks-nothing : AsksNothing 𝓤 show-method.ended (show-method.clauses 𝓛 mem run)
-  show-asks-nothing κs a g = refl
+  pub show_asks_nothing : AsksNothing 𝓤 show-method.ended (show-method.clauses 𝓛 mem run)
+  show_asks_nothing κs a g = refl
 
-  pub show-dated-asks-nothing : AsksNothing 𝓤 show-dated-method.ended (show-dated-method.clauses 𝓛 mem run)
-  show-dated-asks-nothing κs a g = refl
+  pub show_dated_asks_nothing : AsksNothing 𝓤 show-dated-method.ended (show-dated-method.clauses 𝓛 mem run)
+  show_dated_asks_nothing κs a g = refl
 
-  pub standing-asks-nothing : AsksNothing 𝓤 standing-method.ended (standing-method.clauses 𝓛 mem run)
-  standing-asks-nothing κs a g = refl
+  pub standing_asks_nothing : AsksNothing 𝓤 standing-method.ended (standing-method.clauses 𝓛 mem run)
+  standing_asks_nothing κs a g = refl
 
-  pub save-asks-nothing : AsksNothing 𝓤 save-method.ended (save-method.clauses 𝓛 mem run)
-  save-asks-nothing κs a g = refl
+  pub save_asks_nothing : AsksNothing 𝓤 save-method.ended (save-method.clauses 𝓛 mem run)
+  save_asks_nothing κs a g = refl
 
-  pub close-asks-nothing : AsksNothing 𝓤 close-method.ended (close-method.clauses 𝓛 mem run)
-  close-asks-nothing κs a g = refl
+  pub close_asks_nothing : AsksNothing 𝓤 close-method.ended (close-method.clauses 𝓛 mem run)
+  close_asks_nothing κs a g = refl
 
-  pub load-asks-nothing : AsksNothing 𝓤 load-method.ended (load-method.clauses 𝓛 mem run)
-  load-asks-nothing κs a g = refl
+  pub load_asks_nothing : AsksNothing 𝓤 load-method.ended (load-method.clauses 𝓛 mem run)
+  load_asks_nothing κs a g = refl

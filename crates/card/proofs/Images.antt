@@ -1,6 +1,6 @@
 -- The saved image, of a shape's methods (document 01, "Saved image"). What a save was given, a load of what it wrote gives
--- back: shape, map and entries (`saved-loads`). An image that load accepts is the image of what it gives, so it is the only
--- one (`loaded-only`), and a save writes it again (`loaded-saves`). A refusal hands the shape back as it came and changes
+-- back: shape, map and entries (`saved_loads`). An image that load accepts is the image of what it gives, so it is the only
+-- one (`loaded_only`), and a save writes it again (`loaded_saves`). A refusal hands the shape back as it came and changes
 -- nothing but the scratch (`save_refused`, `load_refused`).
 -- Assumes nothing.
 use mathlib.Core.Path.{◌≡◌, refl, sym, ap, subst, ◌∙◌}
@@ -17,17 +17,17 @@ use Rattle.catalogue.specs.declared.Entry.{Entry}
 use Rattle.image_soundness.specs.Scratch.{scratch_words}
 use Rattle.image_frames.specs.Frames.{Bytes}
 use Rattle.image.specs.Effects as images
-use Rattle.image.specs.Effects.{loadResult}
+use Rattle.image.specs.Effects.{load_result}
 use Rattle.image.specs.Image.{image_of, state_in}
 use Rattle.image.specs.Table.{save_verdict, load_verdict}
 use Rattle.image.specs.declared.Loaded.{Loaded}
 use Rattle.image.proofs.Journey.{Words}
 use Rattle.image.proofs.ReturnJourney as journey
-use Rattle.image.proofs.Verdicts.{save-accepted, load-accepted}
+use Rattle.image.proofs.Verdicts.{save_accepted, load_accepted}
 use Rattle.card.specs.declared.Outcome.{Outcome}
 use Rattle.card.specs.declared.Shape.{Shape}
-use Rattle.card.specs.Calls.{told, is_done, load_outcome_by, saved_state, saveOutcome, saveScratch, saveImage, loadOutcome}
-use Rattle.card.specs.Calls.{loadMap, loadEntries, loadScratch}
+use Rattle.card.specs.Calls.{told, is_done, load_outcome_by, saved_state, save_outcome, save_scratch, save_image, load_outcome}
+use Rattle.card.specs.Calls.{load_map, load_entries, load_scratch}
 
 never_accepted : (number : ℕ) → refused number ≡ accepted → ⊥
 never_accepted number e = let z : ◌≡◌ {A = ℕ} 0 1 = cc in omega arith
@@ -57,21 +57,21 @@ module _ (turned : Bool) (shape other : Shape) (map : List ℕ) (entries : List 
     List Entry)
     (scratch' : List ℕ) where
   abbrev written : List ℕ
-  written = saveImage turned shape map entries scratch buffer
+  written = save_image turned shape map entries scratch buffer
 
   pub record LoadsBack : Type 0 where
-    pub outcome : loadOutcome false other written map' entries' scratch' ≡ told shape Done
-    pub words : loadMap false other written map' entries' scratch' ≡ map
-    pub sheets : loadEntries false other written map' entries' scratch' ≡ entries
-    pub zeros : loadScratch false other written map' entries' scratch' ≡ replicate (length scratch') 0
+    pub outcome : load_outcome false other written map' entries' scratch' ≡ told shape Done
+    pub words : load_map false other written map' entries' scratch' ≡ map
+    pub sheets : load_entries false other written map' entries' scratch' ≡ entries
+    pub zeros : load_scratch false other written map' entries' scratch' ≡ replicate (length scratch') 0
 
-  pub saved-loads : Words map → saveOutcome turned shape map entries scratch buffer ≡ told shape Done
+  pub saved_loads : Words map → save_outcome turned shape map entries scratch buffer ≡ told shape Done
       → length map' ≡ length map → length entries' ≡ length entries → length scratch' ≡ scratch_words (length map)
       → LoadsBack
-  saved-loads words e lm le ls =
-      let z = done_save shape (images.saveNumber turned shape.blocks shape.free map entries scratch buffer)
+  saved_loads words e lm le ls =
+      let z = done_save shape (images.save_number turned shape.blocks shape.free map entries scratch buffer)
       (ap (λ (o : Outcome). is_done o.answer) e) in
-      let g = journey.saved-loads turned shape.blocks shape.free map entries scratch buffer map' entries' scratch' words
+      let g = journey.saved_loads turned shape.blocks shape.free map entries scratch buffer map' entries' scratch' words
       z lm le
       ls in
       record { outcome = ap (load_outcome_by other) g.result; words = g.words; sheets = g.sheets; zeros = g.zeros }
@@ -80,59 +80,59 @@ module _ (turned : Bool) (shape other : Shape) (map : List ℕ) (entries : List 
 module _ (turned : Bool) (shape : Shape) (image map : List ℕ) (entries : List Entry) (scratch : List ℕ) (bytes : Bytes image)
   where
     abbrev given : Loaded
-    given = loadResult turned image map entries scratch
+    given = load_result turned image map entries scratch
 
     abbrev handed : Outcome
-    handed = loadOutcome turned shape image map entries scratch
+    handed = load_outcome turned shape image map entries scratch
 
     abbrev map' : List ℕ
-    map' = loadMap turned shape image map entries scratch
+    map' = load_map turned shape image map entries scratch
 
     abbrev entries' : List Entry
-    entries' = loadEntries turned shape image map entries scratch
+    entries' = load_entries turned shape image map entries scratch
 
     same_shape : given.number ≡ 0 → handed.shape ≡ record { blocks = given.blocks; free = given.free }
     same_shape z =
         ap (λ (k : ℕ). (cond (eqb k 0) (told (record { blocks = given.blocks; free = given.free }) Done)
         (told shape (Refused k))).shape) z
 
-    pub loaded-only : is_done handed.answer ≡ true → image_of (saved_state handed.shape map' entries') ≡ image
-    loaded-only d =
+    pub loaded_only : is_done handed.answer ≡ true → image_of (saved_state handed.shape map' entries') ≡ image
+    loaded_only d =
         let z = done_load shape given d in
         ap (λ (s : Shape). image_of (saved_state s map' entries')) (same_shape z)
-        ∙ journey.loaded-only turned image map entries scratch bytes z
+        ∙ journey.loaded_only turned image map entries scratch bytes z
 
     -- a save of what was loaded is done, and writes the image again
-    pub loaded-saves : is_done handed.answer ≡ true → (other buffer : List ℕ)
+    pub loaded_saves : is_done handed.answer ≡ true → (other buffer : List ℕ)
         → length other ≡ scratch_words (length map') → length buffer ≡ length image
-        → (saveOutcome false handed.shape map' entries' other buffer ≡ told handed.shape Done)
-        × (saveImage false handed.shape map' entries' other buffer ≡ image)
-    loaded-saves d other buffer lo lb =
+        → (save_outcome false handed.shape map' entries' other buffer ≡ told handed.shape Done)
+        × (save_image false handed.shape map' entries' other buffer ≡ image)
+    loaded_saves d other buffer lo lb =
         let z = done_load shape given d in
-        let again = journey.loaded-saves turned image map entries scratch bytes z other buffer lo lb in
-        subst (λ (s : Shape). (saveOutcome false s map' entries' other buffer ≡ told s Done)
-        × (saveImage false s map' entries' other buffer ≡ image)) (sym (same_shape z)) (
+        let again = journey.loaded_saves turned image map entries scratch bytes z other buffer lo lb in
+        subst (λ (s : Shape). (save_outcome false s map' entries' other buffer ≡ told s Done)
+        × (save_image false s map' entries' other buffer ≡ image)) (sym (same_shape z)) (
           ap (λ (k : ℕ). told (record { blocks = given.blocks; free = given.free }) (cond (eqb k 0) Done (Refused k)))
               again.0,
           again.1,
         )
 
 pub scratch_zeros : (turned : Bool) (shape : Shape) (map : List ℕ) (entries : List Entry) (scratch buffer : List ℕ)
-    → saveScratch turned shape map entries scratch buffer ≡ replicate (length scratch) 0
-unfolding images.saveScratch
+    → save_scratch turned shape map entries scratch buffer ≡ replicate (length scratch) 0
+unfolding images.save_scratch
 scratch_zeros turned shape map entries scratch buffer = refl
 
 -- a refusal hands the shape back as it came and changes nothing but the scratch
 pub save_refused : (turned : Bool) (shape : Shape) (map : List ℕ) (entries : List Entry) (scratch buffer : List ℕ) (number : ℕ)
     → save_verdict turned (saved_state shape map entries) (length scratch) (length buffer) ≡ refused number
-    → (saveOutcome turned shape map entries scratch buffer ≡ told shape (Refused number))
-    × (saveImage turned shape map entries scratch buffer ≡ buffer)
-    × (saveScratch turned shape map entries scratch buffer ≡ replicate (length scratch) 0)
-unfolding images.saveNumber images.saveImage images.saveScratch
+    → (save_outcome turned shape map entries scratch buffer ≡ told shape (Refused number))
+    × (save_image turned shape map entries scratch buffer ≡ buffer)
+    × (save_scratch turned shape map entries scratch buffer ≡ replicate (length scratch) 0)
+unfolding images.save_number images.save_image images.save_scratch
 save_refused turned shape map entries scratch buffer number v =
     let some : eqb number 0 ≡ false =
     ne_eqb number 0
-    (λ z. never_accepted number (sym v ∙ save-accepted turned (saved_state shape map entries) (length scratch) (length buffer)
+    (λ z. never_accepted number (sym v ∙ save_accepted turned (saved_state shape map entries) (length scratch) (length buffer)
     (ap row_number v ∙ z))) in (
       ap (λ (w : Verdict). told shape (cond (eqb (row_number w) 0) Done (Refused (row_number w)))) v
           ∙ ap (λ (t : Bool). told shape (cond t Done (Refused number))) some,
@@ -142,14 +142,14 @@ save_refused turned shape map entries scratch buffer number v =
 
 pub load_refused : (turned : Bool) (shape : Shape) (image map : List ℕ) (entries : List Entry) (scratch : List ℕ) (number : ℕ)
     → load_verdict turned image (length map) (length entries) (length scratch) ≡ refused number
-    → (loadOutcome turned shape image map entries scratch ≡ told shape (Refused number))
-    × (loadMap turned shape image map entries scratch ≡ map) × (loadEntries turned shape image map entries scratch ≡ entries)
-    × (loadScratch turned shape image map entries scratch ≡ replicate (length scratch) 0)
-unfolding images.loadResult images.loadMap images.loadEntries images.loadScratch
+    → (load_outcome turned shape image map entries scratch ≡ told shape (Refused number))
+    × (load_map turned shape image map entries scratch ≡ map) × (load_entries turned shape image map entries scratch ≡ entries)
+    × (load_scratch turned shape image map entries scratch ≡ replicate (length scratch) 0)
+unfolding images.load_result images.load_map images.load_entries images.load_scratch
 load_refused turned shape image map entries scratch number v =
     let some : eqb number 0 ≡ false =
     ne_eqb number 0
-    (λ z. never_accepted number (sym v ∙ load-accepted turned image (length map) (length entries) (length scratch)
+    (λ z. never_accepted number (sym v ∙ load_accepted turned image (length map) (length entries) (length scratch)
     (ap row_number v ∙ z))) in (
       ap (λ (w : Verdict). load_outcome_by shape (settle w
           (record { number = 0; blocks = (state_in image).blocks; free = (state_in image).spare })

@@ -28,80 +28,80 @@ use Rattle.card.specs.contracts.Shape.release_with_summary as release-with-summa
 use Rattle.card.specs.contracts.Shape.close_with_summary as close-with-summary-method
 
 module _ {M : Type 1} {𝓤 : Ura M} (𝓛 : Logic 𝓤) (mem : Memory → SProp 𝓤) (run : Routine → Fun 𝓤) where
-  pub summary-build-contract : Ensures 𝓤 summary-build-method.ended (summary-build-method.clauses 𝓛 mem run) (λ κs a r t.
+  pub summary_build_contract : Ensures 𝓤 summary-build-method.ended (summary-build-method.clauses 𝓛 mem run) (λ κs a r t.
       LeavesSummary itself (ends (by_map a.1.0) (kept a.0 a.1.1.0.now [] no_card) (beside a.1.1.1.0.now
       [] []) build) r t.1.1.1.0.now)
-  summary-build-contract κs a r t g = refl
+  summary_build_contract κs a r t g = refl
 
-  pub summary-check-contract : Ensures 𝓤 summary-check-method.ended (summary-check-method.clauses 𝓛 mem run) (λ κs a r t.
+  pub summary_check_contract : Ensures 𝓤 summary-check-method.ended (summary-check-method.clauses 𝓛 mem run) (λ κs a r t.
       HandsBack itself (ends (by_map a.1.0) (kept a.0 a.1.1.0.now [] no_card) (beside a.1.1.1.0.now []
       []) check) r)
-  summary-check-contract κs a r t g = refl
+  summary_check_contract κs a r t g = refl
 
-  pub reserve-with-summary-contract : Ensures 𝓤 reserve-with-summary-method.ended
+  pub reserve_with_summary_contract : Ensures 𝓤 reserve-with-summary-method.ended
       (reserve-with-summary-method.clauses 𝓛 mem run) (λ κs a r t.
       LeavesMapSummaryEntriesCard itself (ends (by_summary a.1.0) (kept a.0 a.1.1.0.now a.1.1.1.1.0.now a.1.1.1.1.1.0.now) (beside a.1.1.1.0.now [] []) (on a.1.1.1.1.1.1.1.0 (reserve a.1.1.1.1.1.1.0.now a.1.1.1.1.1.1.1.1.0 plain))) r t.1.1.0.now t.1.1.1.0.now
       t.1.1.1.1.0.now t.1.1.1.1.1.0.now)
-  reserve-with-summary-contract κs a r t g = refl
+  reserve_with_summary_contract κs a r t g = refl
 
-  pub reserve-placed-with-summary-contract : Ensures 𝓤 reserve-placed-with-summary-method.ended
+  pub reserve_placed_with_summary_contract : Ensures 𝓤 reserve-placed-with-summary-method.ended
       (reserve-placed-with-summary-method.clauses 𝓛 mem run) (λ κs a r t.
       LeavesMapSummaryEntriesCard itself (ends (by_summary a.1.0) (kept a.0 a.1.1.0.now a.1.1.1.1.0.now a.1.1.1.1.1.0.now) (beside a.1.1.1.0.now [] []) (on a.1.1.1.1.1.1.1.0 (reserve a.1.1.1.1.1.1.0.now a.1.1.1.1.1.1.1.1.0 (placed (figures a.1.1.1.1.1.1.1.1.1.0 a.1.1.1.1.1.1.1.1.1.1.0 a.1.1.1.1.1.1.1.1.1.1.1.0))))) r t.1.1.0.now t.1.1.1.0.now
       t.1.1.1.1.0.now t.1.1.1.1.1.0.now)
-  reserve-placed-with-summary-contract κs a r t g = refl
+  reserve_placed_with_summary_contract κs a r t g = refl
 
-  pub accept-with-summary-contract : Ensures 𝓤 accept-with-summary-method.ended
+  pub accept_with_summary_contract : Ensures 𝓤 accept-with-summary-method.ended
       (accept-with-summary-method.clauses 𝓛 mem run) (λ κs a r t.
       LeavesMapSummaryEntriesCard itself (ends (by_summary a.1.0) (kept a.0 a.1.1.0.now a.1.1.1.1.0.now a.1.1.1.1.1.0.now) (beside a.1.1.1.0.now [] []) (on a.1.1.1.1.1.1.1.0 (accept a.1.1.1.1.1.1.0.now a.1.1.1.1.1.1.1.1.0 a.1.1.1.1.1.1.1.1.1.0))) r t.1.1.0.now
       t.1.1.1.0.now t.1.1.1.1.0.now t.1.1.1.1.1.0.now)
-  accept-with-summary-contract κs a r t g = refl
+  accept_with_summary_contract κs a r t g = refl
 
-  pub grow-with-summary-contract : Ensures 𝓤 grow-with-summary-method.ended
+  pub grow_with_summary_contract : Ensures 𝓤 grow-with-summary-method.ended
       (grow-with-summary-method.clauses 𝓛 mem run) (λ κs a r t.
       LeavesMapSummaryEntriesCard itself (ends (by_summary a.1.0) (kept a.0 a.1.1.0.now a.1.1.1.1.0.now a.1.1.1.1.1.0.now) (beside a.1.1.1.0.now [] []) (on a.1.1.1.1.1.1.1.0 (grow a.1.1.1.1.1.1.0.now a.1.1.1.1.1.1.1.1.0))) r t.1.1.0.now t.1.1.1.0.now
       t.1.1.1.1.0.now t.1.1.1.1.1.0.now)
-  grow-with-summary-contract κs a r t g = refl
+  grow_with_summary_contract κs a r t g = refl
 
-  pub release-with-summary-contract : Ensures 𝓤 release-with-summary-method.ended
+  pub release_with_summary_contract : Ensures 𝓤 release-with-summary-method.ended
       (release-with-summary-method.clauses 𝓛 mem run) (λ κs a r t.
       LeavesMapSummaryEntries itself (ends (by_summary a.1.0) (kept a.0 a.1.1.0.now a.1.1.1.1.0.now
       no_card) (beside a.1.1.1.0.now [] []) (on a.1.1.1.1.1.0 release)) r t.1.1.0.now
       t.1.1.1.0.now t.1.1.1.1.0.now)
-  release-with-summary-contract κs a r t g = refl
+  release_with_summary_contract κs a r t g = refl
 
-  pub summary-build-asks-nothing : AsksNothing 𝓤 summary-build-method.ended (summary-build-method.clauses 𝓛 mem run)
-  summary-build-asks-nothing κs a g = refl
+  pub summary_build_asks_nothing : AsksNothing 𝓤 summary-build-method.ended (summary-build-method.clauses 𝓛 mem run)
+  summary_build_asks_nothing κs a g = refl
 
-  pub summary-check-asks-nothing : AsksNothing 𝓤 summary-check-method.ended (summary-check-method.clauses 𝓛 mem run)
-  summary-check-asks-nothing κs a g = refl
+  pub summary_check_asks_nothing : AsksNothing 𝓤 summary-check-method.ended (summary-check-method.clauses 𝓛 mem run)
+  summary_check_asks_nothing κs a g = refl
 
-  pub reserve-with-summary-asks-nothing : AsksNothing 𝓤 reserve-with-summary-method.ended
+  pub reserve_with_summary_asks_nothing : AsksNothing 𝓤 reserve-with-summary-method.ended
       (reserve-with-summary-method.clauses 𝓛 mem run)
-  reserve-with-summary-asks-nothing κs a g = refl
+  reserve_with_summary_asks_nothing κs a g = refl
 
-  pub reserve-placed-with-summary-asks-nothing : AsksNothing 𝓤 reserve-placed-with-summary-method.ended
+  pub reserve_placed_with_summary_asks_nothing : AsksNothing 𝓤 reserve-placed-with-summary-method.ended
       (reserve-placed-with-summary-method.clauses 𝓛 mem run)
-  reserve-placed-with-summary-asks-nothing κs a g = refl
+  reserve_placed_with_summary_asks_nothing κs a g = refl
 
-  pub accept-with-summary-asks-nothing : AsksNothing 𝓤 accept-with-summary-method.ended
+  pub accept_with_summary_asks_nothing : AsksNothing 𝓤 accept-with-summary-method.ended
       (accept-with-summary-method.clauses 𝓛 mem run)
-  accept-with-summary-asks-nothing κs a g = refl
+  accept_with_summary_asks_nothing κs a g = refl
 
-  pub grow-with-summary-asks-nothing : AsksNothing 𝓤 grow-with-summary-method.ended
+  pub grow_with_summary_asks_nothing : AsksNothing 𝓤 grow-with-summary-method.ended
       (grow-with-summary-method.clauses 𝓛 mem run)
-  grow-with-summary-asks-nothing κs a g = refl
+  grow_with_summary_asks_nothing κs a g = refl
 
-  pub release-with-summary-asks-nothing : AsksNothing 𝓤 release-with-summary-method.ended
+  pub release_with_summary_asks_nothing : AsksNothing 𝓤 release-with-summary-method.ended
       (release-with-summary-method.clauses 𝓛 mem run)
-  release-with-summary-asks-nothing κs a g = refl
+  release_with_summary_asks_nothing κs a g = refl
 
-  pub close-with-summary-contract : Ensures 𝓤 close-with-summary-method.ended
+  pub close_with_summary_contract : Ensures 𝓤 close-with-summary-method.ended
       (close-with-summary-method.clauses 𝓛 mem run) (λ κs a r t.
       LeavesMapSummaryEntriesCardScratch itself (ends (by_summary a.1.0) (kept a.0 a.1.1.0.now a.1.1.1.1.0.now a.1.1.1.1.1.0.now) (beside a.1.1.1.0.now a.1.1.1.1.1.1.0.now []) close) r
       t.1.1.0.now t.1.1.1.0.now t.1.1.1.1.0.now t.1.1.1.1.1.0.now
       t.1.1.1.1.1.1.0.now)
-  close-with-summary-contract κs a r t g = refl
+  close_with_summary_contract κs a r t g = refl
 
-  pub close-with-summary-asks-nothing : AsksNothing 𝓤 close-with-summary-method.ended
+  pub close_with_summary_asks_nothing : AsksNothing 𝓤 close-with-summary-method.ended
       (close-with-summary-method.clauses 𝓛 mem run)
-  close-with-summary-asks-nothing κs a g = refl
+  close_with_summary_asks_nothing κs a g = refl

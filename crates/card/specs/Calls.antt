@@ -43,40 +43,40 @@ is_done (Refused k) = false
 
 -- Fresh reads nothing of the shape it takes, and of the catalogue how many entries there are.
 module _ (turned : Bool) (shape : Shape) (blocks : ℕ) (map : List ℕ) (count : ℕ) where
-  abbrev pub freshOutcomeBy : Outcome
-  freshOutcomeBy =
-      let number = whole.freshNumber turned blocks map count in
+  abbrev pub fresh_outcome_by : Outcome
+  fresh_outcome_by =
+      let number = whole.fresh_number turned blocks map count in
       cond (eqb number 0) (told (record { blocks = blocks; free = blocks }) Done) (told shape (Refused number))
 
-  abbrev pub freshMapBy : List ℕ
-  freshMapBy = whole.freshMap turned blocks map count
+  abbrev pub fresh_map_by : List ℕ
+  fresh_map_by = whole.fresh_map turned blocks map count
 
 module _ (turned : Bool) (shape : Shape) (blocks : ℕ) (map : List ℕ) (entries : List Entry) where
-  abbrev pub freshOutcome : Outcome
-  freshOutcome = freshOutcomeBy turned shape blocks map (length entries)
+  abbrev pub fresh_outcome : Outcome
+  fresh_outcome = fresh_outcome_by turned shape blocks map (length entries)
 
   abbrev pub fresh_map : List ℕ
-  fresh_map = freshMapBy turned shape blocks map (length entries)
+  fresh_map = fresh_map_by turned shape blocks map (length entries)
 
-  abbrev pub freshEntries : List Entry
-  freshEntries = cleared_if entries (is_done freshOutcome.answer)
+  abbrev pub fresh_entries : List Entry
+  fresh_entries = cleared_if entries (is_done fresh_outcome.answer)
 
 abbrev pub search_outcome : Bool → Shape → List ℕ → ℕ → Outcome
-search_outcome turned shape map k = told shape (whole.searchAnswer turned shape.blocks shape.free map k)
+search_outcome turned shape map k = told shape (whole.search_answer turned shape.blocks shape.free map k)
 
 abbrev pub survey_outcome : Bool → Shape → List ℕ → Outcome
-survey_outcome turned shape map = told shape (whole.surveyAnswer turned shape.blocks shape.free map)
+survey_outcome turned shape map = told shape (whole.survey_answer turned shape.blocks shape.free map)
 
 -- A summary beside the map (document 02 (j)).
 module _ (turned : Bool) (shape : Shape) (map summary : List ℕ) where
-  abbrev pub buildOutcome : Outcome
-  buildOutcome = told shape (summaries.buildAnswer turned shape.blocks shape.free map summary)
+  abbrev pub build_outcome : Outcome
+  build_outcome = told shape (summaries.build_answer turned shape.blocks shape.free map summary)
 
   abbrev pub build_summary : List ℕ
-  build_summary = summaries.builtSummary turned shape.blocks shape.free map summary
+  build_summary = summaries.built_summary turned shape.blocks shape.free map summary
 
-  abbrev pub checkOutcome : Outcome
-  checkOutcome = told shape (summaries.checkAnswer turned shape.blocks shape.free map summary)
+  abbrev pub check_outcome : Outcome
+  check_outcome = told shape (summaries.check_answer turned shape.blocks shape.free map summary)
 
 -- ---- a sheet
 
@@ -112,136 +112,136 @@ lent_to_within turned s card limits sheet = lent_by_within turned false [] s car
 -- ---- the calls that have a form with a summary (document 02 (j))
 
 module _ (turned guided : Bool) (summary : List ℕ) (s : Kept) (limits : List ℕ) (sheet : ℕ) where
-  abbrev lendsBy : Lent
-  lendsBy = lent_by_within turned guided summary s s.card limits sheet
+  abbrev lends_by : Lent
+  lends_by = lent_by_within turned guided summary s s.card limits sheet
 
   -- reserve, plain or placed
-  abbrev reserveOutBy : ℕ → Placement → Out
-  reserveOutBy k placement = effects.reserveOut lendsBy k placement
+  abbrev reserve_out_by : ℕ → Placement → Out
+  reserve_out_by k placement = effects.reserve_out lends_by k placement
 
-  abbrev pub reserveOutcomeBy : ℕ → Placement → Outcome
-  reserveOutcomeBy k placement = outcome_of s.shape (reserveOutBy k placement)
+  abbrev pub reserve_outcome_by : ℕ → Placement → Outcome
+  reserve_outcome_by k placement = outcome_of s.shape (reserve_out_by k placement)
 
-  abbrev pub reserveMapBy : ℕ → Placement → List ℕ
-  reserveMapBy k placement = effects.reserveMap lendsBy k placement
+  abbrev pub reserve_map_by : ℕ → Placement → List ℕ
+  reserve_map_by k placement = effects.reserve_map lends_by k placement
 
-  abbrev pub reserveSummaryBy : ℕ → Placement → List ℕ
-  reserveSummaryBy k placement = effects.reserveSummary lendsBy k placement
+  abbrev pub reserve_summary_by : ℕ → Placement → List ℕ
+  reserve_summary_by k placement = effects.reserve_summary lends_by k placement
 
-  abbrev pub reserveEntriesBy : ℕ → Placement → List Entry
-  reserveEntriesBy k placement = set s.entries sheet (reserveOutBy k placement).entry
+  abbrev pub reserve_entries_by : ℕ → Placement → List Entry
+  reserve_entries_by k placement = set s.entries sheet (reserve_out_by k placement).entry
 
-  abbrev pub reserveCardBy : ℕ → Placement → List ℕ
-  reserveCardBy k placement = effects.reserveCard lendsBy k placement
+  abbrev pub reserve_card_by : ℕ → Placement → List ℕ
+  reserve_card_by k placement = effects.reserve_card lends_by k placement
 
-  abbrev acceptOutBy : ℕ → ℕ → Out
-  acceptOutBy start k = effects.acceptOut lendsBy start k
+  abbrev accept_out_by : ℕ → ℕ → Out
+  accept_out_by start k = effects.accept_out lends_by start k
 
-  abbrev pub acceptOutcomeBy : ℕ → ℕ → Outcome
-  acceptOutcomeBy start k = outcome_of s.shape (acceptOutBy start k)
+  abbrev pub accept_outcome_by : ℕ → ℕ → Outcome
+  accept_outcome_by start k = outcome_of s.shape (accept_out_by start k)
 
-  abbrev pub acceptMapBy : ℕ → ℕ → List ℕ
-  acceptMapBy start k = effects.acceptMap lendsBy start k
+  abbrev pub accept_map_by : ℕ → ℕ → List ℕ
+  accept_map_by start k = effects.accept_map lends_by start k
 
-  abbrev pub acceptSummaryBy : ℕ → ℕ → List ℕ
-  acceptSummaryBy start k = effects.acceptSummary lendsBy start k
+  abbrev pub accept_summary_by : ℕ → ℕ → List ℕ
+  accept_summary_by start k = effects.accept_summary lends_by start k
 
-  abbrev pub acceptEntriesBy : ℕ → ℕ → List Entry
-  acceptEntriesBy start k = set s.entries sheet (acceptOutBy start k).entry
+  abbrev pub accept_entries_by : ℕ → ℕ → List Entry
+  accept_entries_by start k = set s.entries sheet (accept_out_by start k).entry
 
-  abbrev pub acceptCardBy : ℕ → ℕ → List ℕ
-  acceptCardBy start k = effects.acceptCard lendsBy start k
+  abbrev pub accept_card_by : ℕ → ℕ → List ℕ
+  accept_card_by start k = effects.accept_card lends_by start k
 
-  abbrev growOutBy : ℕ → Out
-  growOutBy m = effects.growOut lendsBy m
+  abbrev grow_out_by : ℕ → Out
+  grow_out_by m = effects.grow_out lends_by m
 
-  abbrev pub growOutcomeBy : ℕ → Outcome
-  growOutcomeBy m = outcome_of s.shape (growOutBy m)
+  abbrev pub grow_outcome_by : ℕ → Outcome
+  grow_outcome_by m = outcome_of s.shape (grow_out_by m)
 
-  abbrev pub growMapBy : ℕ → List ℕ
-  growMapBy m = effects.growMap lendsBy m
+  abbrev pub grow_map_by : ℕ → List ℕ
+  grow_map_by m = effects.grow_map lends_by m
 
-  abbrev pub growSummaryBy : ℕ → List ℕ
-  growSummaryBy m = effects.growSummary lendsBy m
+  abbrev pub grow_summary_by : ℕ → List ℕ
+  grow_summary_by m = effects.grow_summary lends_by m
 
-  abbrev pub growEntriesBy : ℕ → List Entry
-  growEntriesBy m = set s.entries sheet (growOutBy m).entry
+  abbrev pub grow_entries_by : ℕ → List Entry
+  grow_entries_by m = set s.entries sheet (grow_out_by m).entry
 
-  abbrev pub growCardBy : ℕ → List ℕ
-  growCardBy m = effects.growCard lendsBy m
+  abbrev pub grow_card_by : ℕ → List ℕ
+  grow_card_by m = effects.grow_card lends_by m
 
 module _ (turned guided : Bool) (summary : List ℕ) (s : Kept) (sheet : ℕ) where
-  abbrev lendsNoCardBy : Lent
-  lendsNoCardBy = lent_by turned guided summary s no_card sheet
+  abbrev lends_no_card_by : Lent
+  lends_no_card_by = lent_by turned guided summary s no_card sheet
 
-  abbrev releaseOutBy : Out
-  releaseOutBy = effects.releaseOut lendsNoCardBy
+  abbrev release_out_by : Out
+  release_out_by = effects.release_out lends_no_card_by
 
-  abbrev pub releaseOutcomeBy : Outcome
-  releaseOutcomeBy = outcome_of s.shape releaseOutBy
+  abbrev pub release_outcome_by : Outcome
+  release_outcome_by = outcome_of s.shape release_out_by
 
-  abbrev pub releaseMapBy : List ℕ
-  releaseMapBy = effects.releaseMap lendsNoCardBy
+  abbrev pub release_map_by : List ℕ
+  release_map_by = effects.release_map lends_no_card_by
 
-  abbrev pub releaseSummaryBy : List ℕ
-  releaseSummaryBy = effects.releaseSummary lendsNoCardBy
+  abbrev pub release_summary_by : List ℕ
+  release_summary_by = effects.release_summary lends_no_card_by
 
-  abbrev pub releaseEntriesBy : List Entry
-  releaseEntriesBy = set s.entries sheet releaseOutBy.entry
+  abbrev pub release_entries_by : List Entry
+  release_entries_by = set s.entries sheet release_out_by.entry
 
 -- ---- the other calls
 
 abbrev pub offer_outcome : Bool → Kept → List ℕ → ℕ → ℕ → Outcome
 offer_outcome turned s limits sheet k =
-    told s.shape (effects.offerAnswer (lent_to_within turned s s.card limits sheet) k)
+    told s.shape (effects.offer_answer (lent_to_within turned s s.card limits sheet) k)
 
 module _ (turned : Bool) (s : Kept) (sheet : ℕ) where
   abbrev lends : Lent
   lends = lent_to turned s s.card sheet
 
-  abbrev lendsNoCard : Lent
-  lendsNoCard = lent_to turned s no_card sheet
+  abbrev lends_no_card : Lent
+  lends_no_card = lent_to turned s no_card sheet
 
-  abbrev pub putOutcome : ℕ → List ℕ → Outcome
-  putOutcome place payload = told s.shape (effects.putAnswer lends place payload)
+  abbrev pub put_outcome : ℕ → List ℕ → Outcome
+  put_outcome place payload = told s.shape (effects.put_answer lends place payload)
 
-  abbrev pub putCard : ℕ → List ℕ → List ℕ
-  putCard place payload = effects.putCard lends place payload
+  abbrev pub put_card : ℕ → List ℕ → List ℕ
+  put_card place payload = effects.put_card lends place payload
 
-  abbrev completeOut : Out
-  completeOut = effects.completeOut lends
+  abbrev complete_out : Out
+  complete_out = effects.complete_out lends
 
-  abbrev pub completeOutcome : Outcome
-  completeOutcome = outcome_of s.shape completeOut
+  abbrev pub complete_outcome : Outcome
+  complete_outcome = outcome_of s.shape complete_out
 
-  abbrev pub completeEntries : List Entry
-  completeEntries = set s.entries sheet completeOut.entry
+  abbrev pub complete_entries : List Entry
+  complete_entries = set s.entries sheet complete_out.entry
 
-  abbrev pub showOutcome : ℕ → List ℕ → Outcome
-  showOutcome place buffer = told s.shape (effects.showAnswer lends place buffer)
+  abbrev pub show_outcome : ℕ → List ℕ → Outcome
+  show_outcome place buffer = told s.shape (effects.show_answer lends place buffer)
 
-  abbrev pub showBuffer : ℕ → List ℕ → List ℕ
-  showBuffer place buffer = effects.showBuffer lends place buffer
+  abbrev pub show_buffer : ℕ → List ℕ → List ℕ
+  show_buffer place buffer = effects.show_buffer lends place buffer
 
   -- (document 02 (m))
-  abbrev pub showDatedOutcome : ℕ → Date → List ℕ → Outcome
-  showDatedOutcome place date buffer = told s.shape (effects.showDatedAnswer lends place date buffer)
+  abbrev pub show_dated_outcome : ℕ → Date → List ℕ → Outcome
+  show_dated_outcome place date buffer = told s.shape (effects.show_dated_answer lends place date buffer)
 
-  abbrev pub showDatedBuffer : ℕ → Date → List ℕ → List ℕ
-  showDatedBuffer place date buffer = effects.showDatedBuffer lends place date buffer
+  abbrev pub show_dated_buffer : ℕ → Date → List ℕ → List ℕ
+  show_dated_buffer place date buffer = effects.show_dated_buffer lends place date buffer
 
   -- pause and resume
-  abbrev changeOut : Change → Out
-  changeOut c = effects.changeOut lendsNoCard c
+  abbrev change_out : Change → Out
+  change_out c = effects.change_out lends_no_card c
 
-  abbrev pub changeOutcome : Change → Outcome
-  changeOutcome c = outcome_of s.shape (changeOut c)
+  abbrev pub change_outcome : Change → Outcome
+  change_outcome c = outcome_of s.shape (change_out c)
 
-  abbrev pub changeEntries : Change → List Entry
-  changeEntries c = set s.entries sheet (changeOut c).entry
+  abbrev pub change_entries : Change → List Entry
+  change_entries c = set s.entries sheet (change_out c).entry
 
-  abbrev pub standingOutcome : Outcome
-  standingOutcome = told s.shape (effects.standingAnswer lendsNoCard)
+  abbrev pub standing_outcome : Outcome
+  standing_outcome = told s.shape (effects.standing_answer lends_no_card)
 
 -- ---- the saved image
 
@@ -254,14 +254,14 @@ abbrev pub save_outcome_by : Shape → ℕ → Outcome
 save_outcome_by shape number = told shape (cond (eqb number 0) Done (Refused number))
 
 module _ (turned : Bool) (shape : Shape) (map : List ℕ) (entries : List Entry) (scratch image : List ℕ) where
-  abbrev pub saveOutcome : Outcome
-  saveOutcome = save_outcome_by shape (images.saveNumber turned shape.blocks shape.free map entries scratch image)
+  abbrev pub save_outcome : Outcome
+  save_outcome = save_outcome_by shape (images.save_number turned shape.blocks shape.free map entries scratch image)
 
-  abbrev pub saveScratch : List ℕ
-  saveScratch = images.saveScratch turned shape.blocks shape.free map entries scratch image
+  abbrev pub save_scratch : List ℕ
+  save_scratch = images.save_scratch turned shape.blocks shape.free map entries scratch image
 
-  abbrev pub saveImage : List ℕ
-  saveImage = images.saveImage turned shape.blocks shape.free map entries scratch image
+  abbrev pub save_image : List ℕ
+  save_image = images.save_image turned shape.blocks shape.free map entries scratch image
 
 -- ---- load
 
@@ -272,14 +272,14 @@ load_outcome_by shape loaded =
     (told shape (Refused loaded.number))
 
 module _ (turned : Bool) (shape : Shape) (image map : List ℕ) (entries : List Entry) (scratch : List ℕ) where
-  abbrev pub loadOutcome : Outcome
-  loadOutcome = load_outcome_by shape (images.loadResult turned image map entries scratch)
+  abbrev pub load_outcome : Outcome
+  load_outcome = load_outcome_by shape (images.load_result turned image map entries scratch)
 
-  abbrev pub loadMap : List ℕ
-  loadMap = images.loadMap turned image map entries scratch
+  abbrev pub load_map : List ℕ
+  load_map = images.load_map turned image map entries scratch
 
-  abbrev pub loadEntries : List Entry
-  loadEntries = images.loadEntries turned image map entries scratch
+  abbrev pub load_entries : List Entry
+  load_entries = images.load_entries turned image map entries scratch
 
-  abbrev pub loadScratch : List ℕ
-  loadScratch = images.loadScratch turned image map entries scratch
+  abbrev pub load_scratch : List ℕ
+  load_scratch = images.load_scratch turned image map entries scratch

@@ -12,7 +12,7 @@ use Rattle.roles.specs.Roles as roles
 use Rattle.roles.specs.Roles.{turned_away}
 use Rattle.refusals.specs.declared.Out.{Out}
 use Rattle.refusals.specs.Table as table
-use Rattle.card.specs.Calls.{told, is_done, freshOutcomeBy, freshMapBy}
+use Rattle.card.specs.Calls.{told, is_done, fresh_outcome_by, fresh_map_by}
 use Rattle.card.specs.declared.Shape.{Shape}
 use Rattle.card.specs.declared.Outcome.{Outcome}
 
@@ -57,45 +57,45 @@ with_slot_alone call says shape role map slot sheet = says (lent_at call shape r
 -- A call that hands the shape back as it came.
 abbrev pub put_outcome_at : Shape → ℕ → List ℕ → List ℕ → Slot → ℕ → ℕ → List ℕ → Outcome
 put_outcome_at shape role map card slot sheet place payload =
-    told shape (effects.putAnswer (lent_at roles.put shape role map card slot sheet) place payload)
+    told shape (effects.put_answer (lent_at roles.put shape role map card slot sheet) place payload)
 
 abbrev pub show_outcome_at : Shape → ℕ → List ℕ → List ℕ → Slot → ℕ → ℕ → List ℕ → Outcome
 show_outcome_at shape role map card slot sheet place buffer =
-    told shape (effects.showAnswer (lent_at roles.show shape role map card slot sheet) place buffer)
+    told shape (effects.show_answer (lent_at roles.show shape role map card slot sheet) place buffer)
 
 -- its date is three numbers (document 02 (m))
 abbrev pub dated_outcome_at : Shape → ℕ → List ℕ → List ℕ → Slot → ℕ → ℕ → ℕ → ℕ → ℕ → List ℕ → Outcome
 dated_outcome_at shape role map card slot sheet place year month day buffer =
-    told shape (effects.showDatedAnswer (lent_at roles.show_dated shape role map card slot sheet) place (date_of year month day)
+    told shape (effects.show_dated_answer (lent_at roles.show_dated shape role map card slot sheet) place (date_of year month day)
     buffer)
 
 abbrev pub dated_buffer_at : Lent → ℕ → ℕ → ℕ → ℕ → List ℕ → List ℕ
-dated_buffer_at q place year month day buffer = effects.showDatedBuffer q place (date_of year month day) buffer
+dated_buffer_at q place year month day buffer = effects.show_dated_buffer q place (date_of year month day) buffer
 
 abbrev pub standing_outcome_at : Shape → ℕ → List ℕ → Slot → ℕ → Outcome
 standing_outcome_at shape role map slot sheet =
-    told shape (effects.standingAnswer (lent_at roles.standing shape role map no_card slot sheet))
+    told shape (effects.standing_answer (lent_at roles.standing shape role map no_card slot sheet))
 
 abbrev pub offer_outcome_at : Shape → ℕ → List ℕ → List ℕ → List ℕ → Slot → ℕ → ℕ → ℕ → Outcome
 offer_outcome_at shape role map card limits slot held sheet k =
-    told shape (effects.offerAnswer (within held limits (lent_at roles.offer shape role map card slot sheet)) k)
+    told shape (effects.offer_answer (within held limits (lent_at roles.offer shape role map card slot sheet)) k)
 
 -- Pause and resume.
 abbrev pub pause_out_at : Lent → Out
-pause_out_at q = effects.changeOut q table.pause
+pause_out_at q = effects.change_out q table.pause
 
 abbrev pub resume_out_at : Lent → Out
-resume_out_at q = effects.changeOut q table.resume
+resume_out_at q = effects.change_out q table.resume
 
 -- What is said of a call on the whole card, of one who is turned away or not: as a function of the role.
 abbrev pub by_role : {A : Type 0} → ℕ → (Bool → A) → ℕ → A
 by_role call says role = says (turned_away role call)
 
 abbrev pub fresh_outcome_at : Shape → ℕ → ℕ → List ℕ → ℕ → Outcome
-fresh_outcome_at shape role blocks map count = freshOutcomeBy (turned_away role roles.fresh) shape blocks map count
+fresh_outcome_at shape role blocks map count = fresh_outcome_by (turned_away role roles.fresh) shape blocks map count
 
 abbrev pub fresh_map_at : Shape → ℕ → ℕ → List ℕ → ℕ → List ℕ
-fresh_map_at shape role blocks map count = freshMapBy (turned_away role roles.fresh) shape blocks map count
+fresh_map_at shape role blocks map count = fresh_map_by (turned_away role roles.fresh) shape blocks map count
 
 -- Nothing else is lent, whose length row 1 would ask for.
 abbrev pub nothing_else : Shape → Bool

@@ -22,20 +22,20 @@ abbrev pub nothing : Beside
 nothing = beside [] [] []
 
 module _ (shape : Shape) (role : ℕ) (blocks : ℕ) (map : List ℕ) (entries : List Entry) where
-  abbrev pub freshEnd : End
-  freshEnd = ends (by_map role) (kept shape map entries no_card) nothing (fresh blocks)
+  abbrev pub fresh_end : End
+  fresh_end = ends (by_map role) (kept shape map entries no_card) nothing (fresh blocks)
 
 module _ (shape : Shape) (role : ℕ) (map : List ℕ) (k : ℕ) where
-  abbrev pub searchEnd : End
-  searchEnd = ends (by_map role) (kept shape map [] no_card) nothing (search k)
+  abbrev pub search_end : End
+  search_end = ends (by_map role) (kept shape map [] no_card) nothing (search k)
 
 module _ (shape : Shape) (role : ℕ) (map : List ℕ) where
-  abbrev pub surveyEnd : End
-  surveyEnd = ends (by_map role) (kept shape map [] no_card) nothing survey
+  abbrev pub survey_end : End
+  survey_end = ends (by_map role) (kept shape map [] no_card) nothing survey
 
 module _ (shape : Shape) (role : ℕ) (map : List ℕ) (entries : List Entry) (card limits : List ℕ) (sheet k : ℕ) where
-  abbrev pub reserveEnd : End
-  reserveEnd = ends (by_map role) (kept shape map entries card) nothing (on sheet (reserve limits k plain))
+  abbrev pub reserve_end : End
+  reserve_end = ends (by_map role) (kept shape map entries card) nothing (on sheet (reserve limits k plain))
 
 module _ (shape : Shape) (role : ℕ) (map : List ℕ) (entries : List Entry) (card limits : List ℕ) (sheet k from before step : ℕ)
   where
@@ -44,16 +44,16 @@ module _ (shape : Shape) (role : ℕ) (map : List ℕ) (entries : List Entry) (c
         before step))))
 
 module _ (shape : Shape) (role : ℕ) (map : List ℕ) (entries : List Entry) (card limits : List ℕ) (sheet k : ℕ) where
-  abbrev pub offerEnd : End
-  offerEnd = ends (by_map role) (kept shape map entries card) nothing (on sheet (offer limits k))
+  abbrev pub offer_end : End
+  offer_end = ends (by_map role) (kept shape map entries card) nothing (on sheet (offer limits k))
 
 module _ (shape : Shape) (role : ℕ) (map : List ℕ) (entries : List Entry) (card limits : List ℕ) (sheet start k : ℕ) where
-  abbrev pub acceptEnd : End
-  acceptEnd = ends (by_map role) (kept shape map entries card) nothing (on sheet (accept limits start k))
+  abbrev pub accept_end : End
+  accept_end = ends (by_map role) (kept shape map entries card) nothing (on sheet (accept limits start k))
 
 module _ (shape : Shape) (role : ℕ) (map : List ℕ) (entries : List Entry) (card limits : List ℕ) (sheet m : ℕ) where
-  abbrev pub growEnd : End
-  growEnd = ends (by_map role) (kept shape map entries card) nothing (on sheet (grow limits m))
+  abbrev pub grow_end : End
+  grow_end = ends (by_map role) (kept shape map entries card) nothing (on sheet (grow limits m))
 
 module _ (shape : Shape) (role : ℕ) (map : List ℕ) (entries : List Entry) (card : List ℕ) (sheet place : ℕ) (payload : List ℕ)
   where
@@ -61,18 +61,18 @@ module _ (shape : Shape) (role : ℕ) (map : List ℕ) (entries : List Entry) (c
     putEnd = ends (by_map role) (kept shape map entries card) nothing (on sheet (put place payload))
 
 module _ (shape : Shape) (role : ℕ) (map : List ℕ) (entries : List Entry) (card : List ℕ) (sheet : ℕ) where
-  abbrev pub completeEnd : End
-  completeEnd = ends (by_map role) (kept shape map entries card) nothing (on sheet complete)
+  abbrev pub complete_end : End
+  complete_end = ends (by_map role) (kept shape map entries card) nothing (on sheet complete)
 
 module _ (shape : Shape) (role : ℕ) (map : List ℕ) (entries : List Entry) (sheet : ℕ) where
-  abbrev pub pauseEnd : End
-  pauseEnd = ends (by_map role) (kept shape map entries no_card) nothing (on sheet (change pause))
+  abbrev pub pause_end : End
+  pause_end = ends (by_map role) (kept shape map entries no_card) nothing (on sheet (change pause))
 
-  abbrev pub resumeEnd : End
-  resumeEnd = ends (by_map role) (kept shape map entries no_card) nothing (on sheet (change resume))
+  abbrev pub resume_end : End
+  resume_end = ends (by_map role) (kept shape map entries no_card) nothing (on sheet (change resume))
 
-  abbrev pub releaseEnd : End
-  releaseEnd = ends (by_map role) (kept shape map entries no_card) nothing (on sheet release)
+  abbrev pub release_end : End
+  release_end = ends (by_map role) (kept shape map entries no_card) nothing (on sheet release)
 
 module _ (shape : Shape) (role : ℕ) (map : List ℕ) (entries : List Entry) (card : List ℕ) (sheet place : ℕ) (buffer : List ℕ)
   where
@@ -81,42 +81,42 @@ module _ (shape : Shape) (role : ℕ) (map : List ℕ) (entries : List Entry) (c
 
 module _ (shape : Shape) (role : ℕ) (map : List ℕ) (entries : List Entry) (card : List ℕ) (sheet place year month day : ℕ)
     (buffer : List ℕ) where
-  abbrev pub showDatedEnd : End
-  showDatedEnd = ends (by_map role) (kept shape map entries card) nothing (on sheet (show_dated place (date_of year month day)
+  abbrev pub show_dated_end : End
+  show_dated_end = ends (by_map role) (kept shape map entries card) nothing (on sheet (show_dated place (date_of year month day)
       buffer))
 
 module _ (shape : Shape) (role : ℕ) (map : List ℕ) (entries : List Entry) (sheet : ℕ) where
-  abbrev pub standingEnd : End
-  standingEnd = ends (by_map role) (kept shape map entries no_card) nothing (on sheet standing)
+  abbrev pub standing_end : End
+  standing_end = ends (by_map role) (kept shape map entries no_card) nothing (on sheet standing)
 
 module _ (shape : Shape) (role : ℕ) (map : List ℕ) (entries : List Entry) (scratch image : List ℕ) where
-  abbrev pub saveEnd : End
-  saveEnd = ends (by_map role) (kept shape map entries no_card) (beside [] scratch image) save
+  abbrev pub save_end : End
+  save_end = ends (by_map role) (kept shape map entries no_card) (beside [] scratch image) save
 
 module _ (shape : Shape) (role : ℕ) (image map : List ℕ) (entries : List Entry) (scratch : List ℕ) where
-  abbrev pub loadEnd : End
-  loadEnd = ends (by_map role) (kept shape map entries no_card) (beside [] scratch []) (load image)
+  abbrev pub load_end : End
+  load_end = ends (by_map role) (kept shape map entries no_card) (beside [] scratch []) (load image)
 
 module _ (shape : Shape) (role : ℕ) (map : List ℕ) (entries : List Entry) (card scratch : List ℕ) where
-  abbrev pub closeEnd : End
-  closeEnd = ends (by_map role) (kept shape map entries card) (beside [] scratch []) close
+  abbrev pub close_end : End
+  close_end = ends (by_map role) (kept shape map entries card) (beside [] scratch []) close
 
 module _ (shape : Shape) (role : ℕ) (map summary : List ℕ) where
-  abbrev pub summaryBuildEnd : End
-  summaryBuildEnd = ends (by_map role) (kept shape map [] no_card) (beside summary [] []) build
+  abbrev pub summary_build_end : End
+  summary_build_end = ends (by_map role) (kept shape map [] no_card) (beside summary [] []) build
 
-  abbrev pub summaryCheckEnd : End
-  summaryCheckEnd = ends (by_map role) (kept shape map [] no_card) (beside summary [] []) check
+  abbrev pub summary_check_end : End
+  summary_check_end = ends (by_map role) (kept shape map [] no_card) (beside summary [] []) check
 
 module _ (shape : Shape) (role : ℕ) (map summary : List ℕ) (entries : List Entry) (card limits : List ℕ) (sheet k : ℕ) where
-  abbrev pub reserveWithSummaryEnd : End
-  reserveWithSummaryEnd = ends (by_summary role) (kept shape map entries card) (beside summary [] []) (on sheet (reserve limits
+  abbrev pub reserve_with_summary_end : End
+  reserve_with_summary_end = ends (by_summary role) (kept shape map entries card) (beside summary [] []) (on sheet (reserve limits
       k plain))
 
 module _ (shape : Shape) (role : ℕ) (map summary : List ℕ) (entries : List Entry) (card limits : List ℕ) (sheet k from before
     step : ℕ) where
-  abbrev pub reservePlacedWithSummaryEnd : End
-  reservePlacedWithSummaryEnd = ends (by_summary role) (kept shape map entries card) (beside summary [] []) (on sheet (reserve
+  abbrev pub reserve_placed_with_summary_end : End
+  reserve_placed_with_summary_end = ends (by_summary role) (kept shape map entries card) (beside summary [] []) (on sheet (reserve
       limits k (placed (figures from before step))))
 
 module _ (shape : Shape) (role : ℕ) (map summary : List ℕ) (entries : List Entry) (card limits : List ℕ) (sheet start k : ℕ)
@@ -126,13 +126,13 @@ module _ (shape : Shape) (role : ℕ) (map summary : List ℕ) (entries : List E
         start k))
 
 module _ (shape : Shape) (role : ℕ) (map summary : List ℕ) (entries : List Entry) (card limits : List ℕ) (sheet m : ℕ) where
-  abbrev pub growWithSummaryEnd : End
-  growWithSummaryEnd = ends (by_summary role) (kept shape map entries card) (beside summary [] []) (on sheet (grow limits m))
+  abbrev pub grow_with_summary_end : End
+  grow_with_summary_end = ends (by_summary role) (kept shape map entries card) (beside summary [] []) (on sheet (grow limits m))
 
 module _ (shape : Shape) (role : ℕ) (map summary : List ℕ) (entries : List Entry) (sheet : ℕ) where
-  abbrev pub releaseWithSummaryEnd : End
-  releaseWithSummaryEnd = ends (by_summary role) (kept shape map entries no_card) (beside summary [] []) (on sheet release)
+  abbrev pub release_with_summary_end : End
+  release_with_summary_end = ends (by_summary role) (kept shape map entries no_card) (beside summary [] []) (on sheet release)
 
 module _ (shape : Shape) (role : ℕ) (map summary : List ℕ) (entries : List Entry) (card scratch : List ℕ) where
-  abbrev pub closeWithSummaryEnd : End
-  closeWithSummaryEnd = ends (by_summary role) (kept shape map entries card) (beside summary scratch []) close
+  abbrev pub close_with_summary_end : End
+  close_with_summary_end = ends (by_summary role) (kept shape map entries card) (beside summary scratch []) close

@@ -12,16 +12,16 @@ use Rattle.roles.specs.Roles.{turned_away}
 use Rattle.refusals.specs.Table.{Ask, reserve, put, grow, complete, change, release, show, standing, offer, accept, show_dated}
 use Rattle.refusals.specs.Table.{Change, pause, resume}
 use Rattle.image.specs.Effects.{zeros_for}
-use Rattle.card.specs.Calls.{Kept, told, freshOutcome, fresh_map, freshEntries, search_outcome, survey_outcome}
-use Rattle.card.specs.Calls.{buildOutcome, build_summary, checkOutcome}
-use Rattle.card.specs.Calls.{reserveOutcomeBy, reserveMapBy, reserveSummaryBy, reserveEntriesBy, reserveCardBy}
-use Rattle.card.specs.Calls.{offer_outcome, acceptOutcomeBy, acceptMapBy, acceptSummaryBy, acceptEntriesBy, acceptCardBy}
-use Rattle.card.specs.Calls.{growOutcomeBy, growMapBy, growSummaryBy, growEntriesBy, growCardBy, putOutcome, putCard}
-use Rattle.card.specs.Calls.{completeOutcome, completeEntries, changeOutcome, changeEntries}
-use Rattle.card.specs.Calls.{releaseOutcomeBy, releaseMapBy, releaseSummaryBy, releaseEntriesBy}
-use Rattle.card.specs.Calls.{showOutcome, showBuffer, showDatedOutcome, showDatedBuffer, standingOutcome}
-use Rattle.card.specs.Calls.{saveOutcome, saveScratch, saveImage, loadOutcome, loadMap, loadEntries, loadScratch}
-use Rattle.card.specs.Closings.{closeOutcomeBy, closeMapBy, closeSummaryBy, closeEntriesBy, closeCardBy, closeScratchBy}
+use Rattle.card.specs.Calls.{Kept, told, fresh_outcome, fresh_map, fresh_entries, search_outcome, survey_outcome}
+use Rattle.card.specs.Calls.{build_outcome, build_summary, check_outcome}
+use Rattle.card.specs.Calls.{reserve_outcome_by, reserve_map_by, reserve_summary_by, reserve_entries_by, reserve_card_by}
+use Rattle.card.specs.Calls.{offer_outcome, accept_outcome_by, accept_map_by, accept_summary_by, accept_entries_by, accept_card_by}
+use Rattle.card.specs.Calls.{grow_outcome_by, grow_map_by, grow_summary_by, grow_entries_by, grow_card_by, put_outcome, put_card}
+use Rattle.card.specs.Calls.{complete_outcome, complete_entries, change_outcome, change_entries}
+use Rattle.card.specs.Calls.{release_outcome_by, release_map_by, release_summary_by, release_entries_by}
+use Rattle.card.specs.Calls.{show_outcome, show_buffer, show_dated_outcome, show_dated_buffer, standing_outcome}
+use Rattle.card.specs.Calls.{save_outcome, save_scratch, save_image, load_outcome, load_map, load_entries, load_scratch}
+use Rattle.card.specs.Closings.{close_outcome_by, close_map_by, close_summary_by, close_entries_by, close_card_by, close_scratch_by}
 use Rattle.card.specs.declared.Outcome.{Outcome}
 
 -- ---- the calls
@@ -83,8 +83,8 @@ kind_of survey = plainly roles.survey
 kind_of save = lent_scratch roles.save false
 kind_of (load image) = lent_scratch roles.load false
 kind_of close = lent_scratch roles.close true
-kind_of build = plainly roles.buildSummary
-kind_of check = plainly roles.checkSummary
+kind_of build = plainly roles.build_summary
+kind_of check = plainly roles.check_summary
 
 -- ---- how a call is made, and what it comes to
 
@@ -164,86 +164,86 @@ module _ (turned guided : Bool) (s : Kept) (b : Beside) (sheet : ℕ) where
   abbrev left : List ℕ → Beside
   left summary = cond guided (with_summary summary b) b
 
-  abbrev pub endOn : Ask → End
-  endOn (reserve limits k placement) =
-      ending (reserveOutcomeBy turned guided guide s limits sheet k placement)
-      (reserveMapBy turned guided guide s limits sheet k placement)
-      (reserveEntriesBy turned guided guide s limits sheet k placement)
-      (reserveCardBy turned guided guide s limits sheet k placement) []
-      (left (reserveSummaryBy turned guided guide s limits sheet k placement))
-  endOn (offer limits k) = telling s b (offer_outcome turned s limits sheet k) []
-  endOn (accept limits start k) =
-      ending (acceptOutcomeBy turned guided guide s limits sheet start k)
-      (acceptMapBy turned guided guide s limits sheet start k) (acceptEntriesBy turned guided guide s limits sheet start k)
-      (acceptCardBy turned guided guide s limits sheet start k) []
-      (left (acceptSummaryBy turned guided guide s limits sheet start k))
-  endOn (grow limits m) =
-      ending (growOutcomeBy turned guided guide s limits sheet m) (growMapBy turned guided guide s limits sheet m)
-      (growEntriesBy turned guided guide s limits sheet m) (growCardBy turned guided guide s limits sheet m) []
-      (left (growSummaryBy turned guided guide s limits sheet m))
-  endOn (put p payload) =
-      ending (putOutcome turned s sheet p payload) s.map s.entries (putCard turned s sheet p payload) [] b
-  endOn complete = ending (completeOutcome turned s sheet) s.map (completeEntries turned s sheet) s.card [] b
-  endOn (change c) = ending (changeOutcome turned s sheet c) s.map (changeEntries turned s sheet c) s.card [] b
-  endOn release =
-      ending (releaseOutcomeBy turned guided guide s sheet) (releaseMapBy turned guided guide s sheet)
-      (releaseEntriesBy turned guided guide s sheet) s.card [] (left (releaseSummaryBy turned guided guide s sheet))
-  endOn (show p buffer) = telling s b (showOutcome turned s sheet p buffer) (showBuffer turned s sheet p buffer)
-  endOn (show_dated p date buffer) =
-      telling s b (showDatedOutcome turned s sheet p date buffer) (showDatedBuffer turned s sheet p date buffer)
-  endOn standing = telling s b (standingOutcome turned s sheet) []
+  abbrev pub end_on : Ask → End
+  end_on (reserve limits k placement) =
+      ending (reserve_outcome_by turned guided guide s limits sheet k placement)
+      (reserve_map_by turned guided guide s limits sheet k placement)
+      (reserve_entries_by turned guided guide s limits sheet k placement)
+      (reserve_card_by turned guided guide s limits sheet k placement) []
+      (left (reserve_summary_by turned guided guide s limits sheet k placement))
+  end_on (offer limits k) = telling s b (offer_outcome turned s limits sheet k) []
+  end_on (accept limits start k) =
+      ending (accept_outcome_by turned guided guide s limits sheet start k)
+      (accept_map_by turned guided guide s limits sheet start k) (accept_entries_by turned guided guide s limits sheet start k)
+      (accept_card_by turned guided guide s limits sheet start k) []
+      (left (accept_summary_by turned guided guide s limits sheet start k))
+  end_on (grow limits m) =
+      ending (grow_outcome_by turned guided guide s limits sheet m) (grow_map_by turned guided guide s limits sheet m)
+      (grow_entries_by turned guided guide s limits sheet m) (grow_card_by turned guided guide s limits sheet m) []
+      (left (grow_summary_by turned guided guide s limits sheet m))
+  end_on (put p payload) =
+      ending (put_outcome turned s sheet p payload) s.map s.entries (put_card turned s sheet p payload) [] b
+  end_on complete = ending (complete_outcome turned s sheet) s.map (complete_entries turned s sheet) s.card [] b
+  end_on (change c) = ending (change_outcome turned s sheet c) s.map (change_entries turned s sheet c) s.card [] b
+  end_on release =
+      ending (release_outcome_by turned guided guide s sheet) (release_map_by turned guided guide s sheet)
+      (release_entries_by turned guided guide s sheet) s.card [] (left (release_summary_by turned guided guide s sheet))
+  end_on (show p buffer) = telling s b (show_outcome turned s sheet p buffer) (show_buffer turned s sheet p buffer)
+  end_on (show_dated p date buffer) =
+      telling s b (show_dated_outcome turned s sheet p date buffer) (show_dated_buffer turned s sheet p date buffer)
+  end_on standing = telling s b (standing_outcome turned s sheet) []
 
 -- The same of the whole card.
 module _ (turned guided : Bool) (s : Kept) (b : Beside) where
-  abbrev guideFor : List ℕ
-  guideFor = cond guided b.summary []
+  abbrev guide_for : List ℕ
+  guide_for = cond guided b.summary []
 
-  abbrev pub endFresh : ℕ → End
-  endFresh n =
-      ending (freshOutcome turned s.shape n s.map s.entries) (fresh_map turned s.shape n s.map s.entries)
-      (freshEntries turned s.shape n s.map s.entries) s.card [] b
+  abbrev pub end_fresh : ℕ → End
+  end_fresh n =
+      ending (fresh_outcome turned s.shape n s.map s.entries) (fresh_map turned s.shape n s.map s.entries)
+      (fresh_entries turned s.shape n s.map s.entries) s.card [] b
 
-  abbrev pub endSave : End
-  endSave =
+  abbrev pub end_save : End
+  end_save =
       telling s
       (record {
         summary = b.summary;
-        scratch = saveScratch turned s.shape s.map s.entries b.scratch b.image;
-        image = saveImage turned s.shape s.map s.entries b.scratch b.image;
+        scratch = save_scratch turned s.shape s.map s.entries b.scratch b.image;
+        image = save_image turned s.shape s.map s.entries b.scratch b.image;
       })
-      (saveOutcome turned s.shape s.map s.entries b.scratch b.image) []
+      (save_outcome turned s.shape s.map s.entries b.scratch b.image) []
 
-  abbrev pub endLoad : List ℕ → End
-  endLoad image =
-      ending (loadOutcome turned s.shape image s.map s.entries b.scratch)
-      (loadMap turned s.shape image s.map s.entries b.scratch)
-      (loadEntries turned s.shape image s.map s.entries b.scratch) s.card []
-      (with_scratch (loadScratch turned s.shape image s.map s.entries b.scratch) b)
+  abbrev pub end_load : List ℕ → End
+  end_load image =
+      ending (load_outcome turned s.shape image s.map s.entries b.scratch)
+      (load_map turned s.shape image s.map s.entries b.scratch)
+      (load_entries turned s.shape image s.map s.entries b.scratch) s.card []
+      (with_scratch (load_scratch turned s.shape image s.map s.entries b.scratch) b)
 
-  abbrev pub endClose : End
-  endClose =
-      ending (closeOutcomeBy turned guided guideFor s b.scratch) (closeMapBy turned guided guideFor s b.scratch)
-      (closeEntriesBy turned guided guideFor s b.scratch) (closeCardBy turned guided guideFor s b.scratch) []
+  abbrev pub end_close : End
+  end_close =
+      ending (close_outcome_by turned guided guide_for s b.scratch) (close_map_by turned guided guide_for s b.scratch)
+      (close_entries_by turned guided guide_for s b.scratch) (close_card_by turned guided guide_for s b.scratch) []
       (record {
-        summary = cond guided (closeSummaryBy turned guided guideFor s b.scratch) b.summary;
-        scratch = closeScratchBy turned guided guideFor s b.scratch;
+        summary = cond guided (close_summary_by turned guided guide_for s b.scratch) b.summary;
+        scratch = close_scratch_by turned guided guide_for s b.scratch;
         image = b.image;
       })
 
-  abbrev pub endBuild : End
-  endBuild =
+  abbrev pub end_build : End
+  end_build =
       telling s (with_summary (build_summary turned s.shape s.map b.summary) b)
-      (buildOutcome turned s.shape s.map b.summary) []
+      (build_outcome turned s.shape s.map b.summary) []
 
 -- What every public call comes to.
 module _ (m : Manner) (s : Kept) (b : Beside) where
   abbrev pub ends : Public → End
-  ends (on sheet ask) = endOn (turned m (on sheet ask)) m.guided s b sheet ask
-  ends (fresh n) = endFresh (turned m (fresh n)) m.guided s b n
+  ends (on sheet ask) = end_on (turned m (on sheet ask)) m.guided s b sheet ask
+  ends (fresh n) = end_fresh (turned m (fresh n)) m.guided s b n
   ends (search k) = telling s b (search_outcome (turned m (search k)) s.shape s.map k) []
   ends survey = telling s b (survey_outcome (turned m survey) s.shape s.map) []
-  ends save = endSave (turned m save) m.guided s b
-  ends (load image) = endLoad (turned m (load image)) m.guided s b image
-  ends close = endClose (turned m close) m.guided s b
-  ends build = endBuild (turned m build) m.guided s b
-  ends check = telling s b (checkOutcome (turned m check) s.shape s.map b.summary) []
+  ends save = end_save (turned m save) m.guided s b
+  ends (load image) = end_load (turned m (load image)) m.guided s b image
+  ends close = end_close (turned m close) m.guided s b
+  ends build = end_build (turned m build) m.guided s b
+  ends check = telling s b (check_outcome (turned m check) s.shape s.map b.summary) []

@@ -9,27 +9,27 @@ use Rattle.refusals.specs.Effects as effects
 use Rattle.refusals.specs.declared.Out.{Out}
 
 module _ (q : Lent) (k : ℕ) where
-  abbrev pub plainOut : Out
-  plainOut = effects.reserveOut q k plain
+  abbrev pub plain_out : Out
+  plain_out = effects.reserve_out q k plain
 
-  abbrev pub plainMap : List ℕ
-  plainMap = effects.reserveMap q k plain
+  abbrev pub plain_map : List ℕ
+  plain_map = effects.reserve_map q k plain
 
-  abbrev pub plainSummary : List ℕ
-  plainSummary = effects.reserveSummary q k plain
+  abbrev pub plain_summary : List ℕ
+  plain_summary = effects.reserve_summary q k plain
 
-  abbrev pub plainCard : List ℕ
-  plainCard = effects.reserveCard q k plain
+  abbrev pub plain_card : List ℕ
+  plain_card = effects.reserve_card q k plain
 
 module _ (q : Lent) (k from before step : ℕ) where
-  abbrev pub placedOut : Out
-  placedOut = effects.reserveOut q k (placed (figures from before step))
+  abbrev pub placed_out : Out
+  placed_out = effects.reserve_out q k (placed (figures from before step))
 
-  abbrev pub placedMap : List ℕ
-  placedMap = effects.reserveMap q k (placed (figures from before step))
+  abbrev pub placed_map : List ℕ
+  placed_map = effects.reserve_map q k (placed (figures from before step))
 
-  abbrev pub placedSummary : List ℕ
-  placedSummary = effects.reserveSummary q k (placed (figures from before step))
+  abbrev pub placed_summary : List ℕ
+  placed_summary = effects.reserve_summary q k (placed (figures from before step))
 
-  abbrev pub placedCard : List ℕ
-  placedCard = effects.reserveCard q k (placed (figures from before step))
+  abbrev pub placed_card : List ℕ
+  placed_card = effects.reserve_card q k (placed (figures from before step))

@@ -7,7 +7,7 @@ ghost use Rattle.card.specs.Cores.{entry_left, done_by, lent_at, put_outcome_at,
 ghost use Rattle.card.specs.Cores.{resume_out_at, fresh_outcome_at, fresh_map_at};
 ghost use Rattle.card.specs.Cores.{blocks_of, spare_of, nothing_else};
 ghost use Rattle.refusals.specs.Lent.{no_card};
-ghost use Rattle.refusals.specs.Effects.{putCard, completeOut, releaseOut, releaseMap, showBuffer};
+ghost use Rattle.refusals.specs.Effects.{put_card, complete_out, release_out, release_map, show_buffer};
 
 use crate::{Outcome, Shape};
 use catalogue::{Entry, Slot};
@@ -84,7 +84,7 @@ pub fn put_core(
 ) -> Outcome
     ensures { let q = lent_at roles.put shape role map.now card.old slot sheet in
         (result ≡ put_outcome_at shape role map.now card.old slot sheet place payload.now)
-        × (card.new ≡ putCard q place payload.now) }
+        × (card.new ≡ put_card q place payload.now) }
 {
     let entry = slot.entry;
     let answer = call_put::put::put(
@@ -114,7 +114,7 @@ pub fn complete_core(
     sheet: u32,
 ) -> Out
     ensures { let q = lent_at roles.complete shape role map.now card.now slot sheet in
-        result ≡ completeOut q }
+        result ≡ complete_out q }
 {
     let entry = slot.entry;
     call_put::complete::complete(
@@ -161,7 +161,7 @@ pub fn resume_core(shape: Shape, role: u32, map: &[u64], slot: Slot, sheet: u32)
 
 pub fn release_core(shape: Shape, role: u32, map: &mut [u64], slot: Slot, sheet: u32) -> Out
     ensures { let q = lent_at roles.release shape role map.old no_card slot sheet in
-        (result ≡ releaseOut q) × (map.new ≡ releaseMap q) }
+        (result ≡ release_out q) × (map.new ≡ release_map q) }
 {
     let entry = slot.entry;
     let mut none = [0u32; 0];
@@ -190,7 +190,7 @@ pub fn show_core(
 ) -> Outcome
     ensures { let q = lent_at roles.show shape role map.now card.now slot sheet in
         (result ≡ show_outcome_at shape role map.now card.now slot sheet place buffer.old)
-        × (buffer.new ≡ showBuffer q place buffer.old) }
+        × (buffer.new ≡ show_buffer q place buffer.old) }
 {
     let entry = slot.entry;
     let answer = call_show::show::show(

@@ -2,7 +2,7 @@
 ghost use Rattle.std.specs.Prelude.{◌≡◌};
 ghost use Rattle.roles.specs.Roles as roles;
 ghost use Rattle.card.specs.Cores.{lent_at, dated_outcome_at, dated_buffer_at};
-ghost use Rattle.card.specs.Ends.{showDatedEnd};
+ghost use Rattle.card.specs.Ends.{show_dated_end};
 ghost use Rattle.card.specs.Leaves.{itself, LeavesBuffer};
 
 use crate::{Outcome, Shape};
@@ -23,7 +23,7 @@ impl Shape {
         day: u32,
         buffer: &mut [u8],
     ) -> Outcome
-        ensures { LeavesBuffer itself (showDatedEnd self role map.now catalogue.now
+        ensures { LeavesBuffer itself (show_dated_end self role map.now catalogue.now
             card.now sheet place year month day buffer.old) result buffer.new }
     {
         let slot = catalogue::find(catalogue, sheet);

@@ -3,12 +3,12 @@ ghost use Rattle.std.specs.Prelude.{true, ◌≡◌};
 ghost use Rattle.roles.specs.Roles as roles;
 ghost use Rattle.card.specs.Closings.{rebuilt};
 ghost use Rattle.card.specs.Cores.{lent_at_by, beside_fits};
-ghost use Rattle.card.specs.Reserves.{plainOut, plainMap, plainSummary, plainCard};
-ghost use Rattle.card.specs.Reserves.{placedOut, placedMap, placedSummary, placedCard};
+ghost use Rattle.card.specs.Reserves.{plain_out, plain_map, plain_summary, plain_card};
+ghost use Rattle.card.specs.Reserves.{placed_out, placed_map, placed_summary, placed_card};
 ghost use Rattle.refusals.specs.Lent.{within, no_card};
-ghost use Rattle.refusals.specs.Effects.{acceptOut, acceptMap, acceptSummary, acceptCard};
-ghost use Rattle.refusals.specs.Effects.{growOut, growMap, growSummary, growCard};
-ghost use Rattle.refusals.specs.Effects.{releaseOut, releaseMap, releaseSummary};
+ghost use Rattle.refusals.specs.Effects.{accept_out, accept_map, accept_summary, accept_card};
+ghost use Rattle.refusals.specs.Effects.{grow_out, grow_map, grow_summary, grow_card};
+ghost use Rattle.refusals.specs.Effects.{release_out, release_map, release_summary};
 
 use crate::Shape;
 use catalogue::Slot;
@@ -29,10 +29,10 @@ pub fn reserve_guided(
 ) -> Out
     ensures { let q = within held limits.now
         (lent_at_by true summary.old roles.reserve shape role map.old card.old slot sheet) in
-        (result ≡ plainOut q k)
-        × (map.new ≡ plainMap q k)
-        × (summary.new ≡ plainSummary q k)
-        × (card.new ≡ plainCard q k) }
+        (result ≡ plain_out q k)
+        × (map.new ≡ plain_map q k)
+        × (summary.new ≡ plain_summary q k)
+        × (card.new ≡ plain_card q k) }
 {
     reserve_placed_guided(
         shape,
@@ -68,10 +68,10 @@ pub fn reserve_placed_guided(
 ) -> Out
     ensures { let q = within held limits.now
         (lent_at_by true summary.old roles.reserve shape role map.old card.old slot sheet) in
-        (result ≡ placedOut q k from before step)
-        × (map.new ≡ placedMap q k from before step)
-        × (summary.new ≡ placedSummary q k from before step)
-        × (card.new ≡ placedCard q k from before step) }
+        (result ≡ placed_out q k from before step)
+        × (map.new ≡ placed_map q k from before step)
+        × (summary.new ≡ placed_summary q k from before step)
+        × (card.new ≡ placed_card q k from before step) }
 {
     let entry = slot.entry;
     let figures = Figures {
@@ -112,10 +112,10 @@ pub fn accept_guided(
 ) -> Out
     ensures { let q = within held limits.now
         (lent_at_by true summary.old roles.accept shape role map.old card.old slot sheet) in
-        (result ≡ acceptOut q start k)
-        × (map.new ≡ acceptMap q start k)
-        × (summary.new ≡ acceptSummary q start k)
-        × (card.new ≡ acceptCard q start k) }
+        (result ≡ accept_out q start k)
+        × (map.new ≡ accept_map q start k)
+        × (summary.new ≡ accept_summary q start k)
+        × (card.new ≡ accept_card q start k) }
 {
     let entry = slot.entry;
     call_reserve::accept::accept(
@@ -150,10 +150,10 @@ pub fn grow_guided(
 ) -> Out
     ensures { let q = within held limits.now
         (lent_at_by true summary.old roles.grow shape role map.old card.old slot sheet) in
-        (result ≡ growOut q m)
-        × (map.new ≡ growMap q m)
-        × (summary.new ≡ growSummary q m)
-        × (card.new ≡ growCard q m) }
+        (result ≡ grow_out q m)
+        × (map.new ≡ grow_map q m)
+        × (summary.new ≡ grow_summary q m)
+        × (card.new ≡ grow_card q m) }
 {
     let entry = slot.entry;
     call_reserve::grow::grow(
@@ -182,9 +182,9 @@ pub fn release_guided(
     sheet: u32,
 ) -> Out
     ensures { let q = lent_at_by true summary.old roles.release shape role map.old no_card slot sheet in
-        (result ≡ releaseOut q)
-        × (map.new ≡ releaseMap q)
-        × (summary.new ≡ releaseSummary q) }
+        (result ≡ release_out q)
+        × (map.new ≡ release_map q)
+        × (summary.new ≡ release_summary q) }
 {
     let entry = slot.entry;
     call_release::release(

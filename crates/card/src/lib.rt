@@ -11,8 +11,8 @@ pub mod summary;
 pub mod whole;
 
 ghost use Rattle.std.specs.Prelude.{true, ◌≡◌};
-ghost use Rattle.card.specs.Ends.{searchEnd, surveyEnd, reserveEnd, reservePlacedEnd, offerEnd, acceptEnd, growEnd};
-ghost use Rattle.card.specs.Ends.{putEnd, completeEnd, pauseEnd, resumeEnd, releaseEnd, showEnd, standingEnd};
+ghost use Rattle.card.specs.Ends.{search_end, survey_end, reserve_end, reservePlacedEnd, offer_end, accept_end, grow_end};
+ghost use Rattle.card.specs.Ends.{putEnd, complete_end, pause_end, resume_end, release_end, showEnd, standing_end};
 ghost use Rattle.card.specs.Leaves.{itself, HandsBack, LeavesCard, LeavesEntries, LeavesBuffer, LeavesMapEntries};
 ghost use Rattle.card.specs.Leaves.{LeavesMapEntriesCard};
 
@@ -62,7 +62,7 @@ impl Shape {
 
     // The least fit for k.
     pub fn search(self, role: u32, map: &[u64], k: u32) -> Outcome
-        ensures { HandsBack itself (searchEnd self role map.now k) result }
+        ensures { HandsBack itself (search_end self role map.now k) result }
     {
         let answer = call_search::search(role, self.blocks, self.free, map, k);
         Outcome {
@@ -73,7 +73,7 @@ impl Shape {
 
     // Free blocks, separate runs and the longest run.
     pub fn survey(self, role: u32, map: &[u64]) -> Outcome
-        ensures { HandsBack itself (surveyEnd self role map.now) result }
+        ensures { HandsBack itself (survey_end self role map.now) result }
     {
         let answer = call_search::survey(role, self.blocks, self.free, map);
         Outcome {
@@ -93,7 +93,7 @@ impl Shape {
         sheet: u32,
         k: u32,
     ) -> Outcome
-        ensures { LeavesMapEntriesCard itself (reserveEnd self role map.old catalogue.old
+        ensures { LeavesMapEntriesCard itself (reserve_end self role map.old catalogue.old
             card.old limits.now sheet k) result map.new catalogue.new
             card.new }
     {
@@ -145,7 +145,7 @@ impl Shape {
         sheet: u32,
         k: u32,
     ) -> Outcome
-        ensures { HandsBack itself (offerEnd self role map.now catalogue.now
+        ensures { HandsBack itself (offer_end self role map.now catalogue.now
             card.now limits.now sheet k) result }
     {
         let slot = catalogue::find(catalogue, sheet);
@@ -165,7 +165,7 @@ impl Shape {
         start: u32,
         k: u32,
     ) -> Outcome
-        ensures { LeavesMapEntriesCard itself (acceptEnd self role map.old catalogue.old
+        ensures { LeavesMapEntriesCard itself (accept_end self role map.old catalogue.old
             card.old limits.now sheet start k) result map.new catalogue.new
             card.new }
     {
@@ -188,7 +188,7 @@ impl Shape {
         sheet: u32,
         m: u32,
     ) -> Outcome
-        ensures { LeavesMapEntriesCard itself (growEnd self role map.old catalogue.old
+        ensures { LeavesMapEntriesCard itself (grow_end self role map.old catalogue.old
             card.old limits.now sheet m) result map.new catalogue.new
             card.new }
     {
@@ -227,7 +227,7 @@ impl Shape {
         card: &[u8],
         sheet: u32,
     ) -> Outcome
-        ensures { LeavesEntries itself (completeEnd self role map.now catalogue.old
+        ensures { LeavesEntries itself (complete_end self role map.now catalogue.old
             card.now sheet) result catalogue.new }
     {
         let slot = catalogue::find(&*catalogue, sheet);
@@ -239,7 +239,7 @@ impl Shape {
 
     // Absent and Complete become Paused; start and length remain (document 02 (g)).
     pub fn pause(self, role: u32, map: &[u64], catalogue: &mut [Entry], sheet: u32) -> Outcome
-        ensures { LeavesEntries itself (pauseEnd self role map.now catalogue.old sheet) result
+        ensures { LeavesEntries itself (pause_end self role map.now catalogue.old sheet) result
             catalogue.new }
     {
         let slot = catalogue::find(&*catalogue, sheet);
@@ -251,7 +251,7 @@ impl Shape {
 
     // Paused with blocks becomes Complete (document 02 (g)).
     pub fn resume(self, role: u32, map: &[u64], catalogue: &mut [Entry], sheet: u32) -> Outcome
-        ensures { LeavesEntries itself (resumeEnd self role map.now catalogue.old sheet) result
+        ensures { LeavesEntries itself (resume_end self role map.now catalogue.old sheet) result
             catalogue.new }
     {
         let slot = catalogue::find(&*catalogue, sheet);
@@ -263,7 +263,7 @@ impl Shape {
 
     // Any standing but Absent becomes Absent, and its blocks free.
     pub fn release(self, role: u32, map: &mut [u64], catalogue: &mut [Entry], sheet: u32) -> Outcome
-        ensures { LeavesMapEntries itself (releaseEnd self role map.old catalogue.old sheet) result
+        ensures { LeavesMapEntries itself (release_end self role map.old catalogue.old sheet) result
             map.new catalogue.new }
     {
         let slot = catalogue::find(&*catalogue, sheet);
@@ -293,7 +293,7 @@ impl Shape {
 
     // Answers mark, start and length.
     pub fn standing(self, role: u32, map: &[u64], catalogue: &[Entry], sheet: u32) -> Outcome
-        ensures { HandsBack itself (standingEnd self role map.now catalogue.now sheet) result }
+        ensures { HandsBack itself (standing_end self role map.now catalogue.now sheet) result }
     {
         let slot = catalogue::find(catalogue, sheet);
         cores::standing_core(self, role, map, slot, sheet)

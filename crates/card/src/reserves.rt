@@ -4,9 +4,9 @@ ghost use Rattle.std.specs.Prelude.{◌≡◌};
 ghost use Rattle.roles.specs.Roles as roles;
 ghost use Rattle.card.specs.Cores.{lent_at};
 ghost use Rattle.card.specs.Cores.{offer_outcome_at};
-ghost use Rattle.card.specs.Reserves.{plainOut, plainMap, plainCard, placedOut, placedMap, placedCard};
+ghost use Rattle.card.specs.Reserves.{plain_out, plain_map, plain_card, placed_out, placed_map, placed_card};
 ghost use Rattle.refusals.specs.Lent.{within};
-ghost use Rattle.refusals.specs.Effects.{acceptOut, acceptMap, acceptCard, growOut, growMap, growCard};
+ghost use Rattle.refusals.specs.Effects.{accept_out, accept_map, accept_card, grow_out, grow_map, grow_card};
 
 use crate::{Outcome, Shape};
 use catalogue::Slot;
@@ -26,9 +26,9 @@ pub fn reserve_core(
 ) -> Out
     ensures { let q = within held limits.now (lent_at roles.reserve shape role map.old card.entry.now slot
         sheet) in
-        (result ≡ plainOut q k)
-        × (map.new ≡ plainMap q k)
-        × (card.new ≡ plainCard q k) }
+        (result ≡ plain_out q k)
+        × (map.new ≡ plain_map q k)
+        × (card.new ≡ plain_card q k) }
 {
     reserve_placed_core(
         shape,
@@ -62,9 +62,9 @@ pub fn reserve_placed_core(
 ) -> Out
     ensures { let q = within held limits.now (lent_at roles.reserve shape role map.old card.entry.now slot
         sheet) in
-        (result ≡ placedOut q k from before step)
-        × (map.new ≡ placedMap q k from before step)
-        × (card.new ≡ placedCard q k from before step) }
+        (result ≡ placed_out q k from before step)
+        × (map.new ≡ placed_map q k from before step)
+        × (card.new ≡ placed_card q k from before step) }
 {
     let entry = slot.entry;
     let figures = Figures {
@@ -139,9 +139,9 @@ pub fn accept_core(
 ) -> Out
     ensures { let q = within held limits.now (lent_at roles.accept shape role map.old card.entry.now slot
         sheet) in
-        (result ≡ acceptOut q start k)
-        × (map.new ≡ acceptMap q start k)
-        × (card.new ≡ acceptCard q start k) }
+        (result ≡ accept_out q start k)
+        × (map.new ≡ accept_map q start k)
+        × (card.new ≡ accept_card q start k) }
 {
     let entry = slot.entry;
     let mut none = [0u32; 0];
@@ -176,9 +176,9 @@ pub fn grow_core(
 ) -> Out
     ensures { let q = within held limits.now (lent_at roles.grow shape role map.old card.entry.now slot
         sheet) in
-        (result ≡ growOut q m)
-        × (map.new ≡ growMap q m)
-        × (card.new ≡ growCard q m) }
+        (result ≡ grow_out q m)
+        × (map.new ≡ grow_map q m)
+        × (card.new ≡ grow_card q m) }
 {
     let entry = slot.entry;
     let mut none = [0u32; 0];

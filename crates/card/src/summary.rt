@@ -1,6 +1,6 @@
 // The calls on a summary beside the map, and the calls that are lent one (document 02, request j).
-ghost use Rattle.card.specs.Ends.{summaryBuildEnd, summaryCheckEnd, reserveWithSummaryEnd, reservePlacedWithSummaryEnd};
-ghost use Rattle.card.specs.Ends.{acceptWithSummaryEnd, growWithSummaryEnd, releaseWithSummaryEnd, closeWithSummaryEnd};
+ghost use Rattle.card.specs.Ends.{summary_build_end, summary_check_end, reserve_with_summary_end, reserve_placed_with_summary_end};
+ghost use Rattle.card.specs.Ends.{acceptWithSummaryEnd, grow_with_summary_end, release_with_summary_end, close_with_summary_end};
 ghost use Rattle.card.specs.Leaves.{itself, HandsBack, LeavesSummary, LeavesMapSummaryEntries};
 ghost use Rattle.card.specs.Leaves.{LeavesMapSummaryEntriesCard, LeavesMapSummaryEntriesCardScratch};
 
@@ -10,7 +10,7 @@ use catalogue::Entry;
 impl Shape {
     // The summary becomes the map's own.
     pub fn summary_build(self, role: u32, map: &[u64], summary: &mut [u32]) -> Outcome
-        ensures { LeavesSummary itself (summaryBuildEnd self role map.now summary.old) result
+        ensures { LeavesSummary itself (summary_build_end self role map.now summary.old) result
             summary.new }
     {
         let answer = call_summary::build_summary(role, self.blocks, self.free, map, summary);
@@ -22,7 +22,7 @@ impl Shape {
 
     // Whether the summary is the map's own.
     pub fn summary_check(self, role: u32, map: &[u64], summary: &[u32]) -> Outcome
-        ensures { HandsBack itself (summaryCheckEnd self role map.now summary.now) result }
+        ensures { HandsBack itself (summary_check_end self role map.now summary.now) result }
     {
         let answer = call_summary::check_summary(role, self.blocks, self.free, map, summary);
         Outcome {
@@ -43,7 +43,7 @@ impl Shape {
         sheet: u32,
         k: u32,
     ) -> Outcome
-        ensures { LeavesMapSummaryEntriesCard itself (reserveWithSummaryEnd self role map.old
+        ensures { LeavesMapSummaryEntriesCard itself (reserve_with_summary_end self role map.old
             summary.old catalogue.old card.old limits.now sheet k) result
             map.new summary.new catalogue.new card.new }
     {
@@ -72,7 +72,7 @@ impl Shape {
         before: u32,
         step: u32,
     ) -> Outcome
-        ensures { LeavesMapSummaryEntriesCard itself (reservePlacedWithSummaryEnd self role map.old
+        ensures { LeavesMapSummaryEntriesCard itself (reserve_placed_with_summary_end self role map.old
             summary.old catalogue.old card.old limits.now sheet k from before
             step) result map.new summary.new catalogue.new card.new }
     {
@@ -125,7 +125,7 @@ impl Shape {
         sheet: u32,
         m: u32,
     ) -> Outcome
-        ensures { LeavesMapSummaryEntriesCard itself (growWithSummaryEnd self role map.old
+        ensures { LeavesMapSummaryEntriesCard itself (grow_with_summary_end self role map.old
             summary.old catalogue.old card.old limits.now sheet m) result
             map.new summary.new catalogue.new card.new }
     {
@@ -146,7 +146,7 @@ impl Shape {
         catalogue: &mut [Entry],
         sheet: u32,
     ) -> Outcome
-        ensures { LeavesMapSummaryEntries itself (releaseWithSummaryEnd self role map.old
+        ensures { LeavesMapSummaryEntries itself (release_with_summary_end self role map.old
             summary.old catalogue.old sheet) result map.new summary.new
             catalogue.new }
     {
@@ -167,7 +167,7 @@ impl Shape {
         card: &mut [u8],
         scratch: &mut [u64],
     ) -> Outcome
-        ensures { LeavesMapSummaryEntriesCardScratch itself (closeWithSummaryEnd self role map.old
+        ensures { LeavesMapSummaryEntriesCardScratch itself (close_with_summary_end self role map.old
             summary.old catalogue.old card.old scratch.old) result map.new
             summary.new catalogue.new card.new scratch.new }
     {

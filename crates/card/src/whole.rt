@@ -1,5 +1,5 @@
 // The methods for the whole card: fresh, save, close and load.
-ghost use Rattle.card.specs.Ends.{freshEnd, saveEnd, loadEnd, closeEnd};
+ghost use Rattle.card.specs.Ends.{fresh_end, save_end, load_end, close_end};
 ghost use Rattle.card.specs.Leaves.{itself, LeavesMapEntries, LeavesScratchImage, LeavesMapEntriesScratch};
 ghost use Rattle.card.specs.Leaves.{LeavesMapEntriesCardScratch};
 
@@ -9,7 +9,7 @@ use catalogue::Entry;
 impl Shape {
     // All blocks free, all sheets Absent. It reads nothing of the shape it takes.
     pub fn fresh(self, role: u32, blocks: u32, map: &mut [u64], catalogue: &mut [Entry]) -> Outcome
-        ensures { LeavesMapEntries itself (freshEnd self role blocks map.old catalogue.old) result
+        ensures { LeavesMapEntries itself (fresh_end self role blocks map.old catalogue.old) result
             map.new catalogue.new }
     {
         let count = catalogue::count(&*catalogue);
@@ -28,7 +28,7 @@ impl Shape {
         scratch: &mut [u64],
         image: &mut [u8],
     ) -> Outcome
-        ensures { LeavesScratchImage itself (saveEnd self role map.now catalogue.now
+        ensures { LeavesScratchImage itself (save_end self role map.now catalogue.now
             scratch.old image.old) result scratch.new image.new }
     {
         let n = cores::blocks_of(self);
@@ -47,7 +47,7 @@ impl Shape {
         card: &mut [u8],
         scratch: &mut [u64],
     ) -> Outcome
-        ensures { LeavesMapEntriesCardScratch itself (closeEnd self role map.old catalogue.old
+        ensures { LeavesMapEntriesCardScratch itself (close_end self role map.old catalogue.old
             card.old scratch.old) result map.new catalogue.new card.new
             scratch.new }
     {
@@ -67,7 +67,7 @@ impl Shape {
         catalogue: &mut [Entry],
         scratch: &mut [u64],
     ) -> Outcome
-        ensures { LeavesMapEntriesScratch itself (loadEnd self role image.now map.old
+        ensures { LeavesMapEntriesScratch itself (load_end self role image.now map.old
             catalogue.old scratch.old) result map.new catalogue.new
             scratch.new }
     {

@@ -1,6 +1,6 @@
 -- The contracts of the printer's functions, of the functions themselves: what each ensures is the proposition that stands here,
--- by computation (`..-contract`), and what it asks of its caller: nothing (`print-image-asks-nothing`), or no more entries than
--- there are (`print-with-asks`). So a clause of the source that is made weaker, or one that asks more, is refused here.
+-- by computation (`..-contract`), and what it asks of its caller: nothing (`print_image_asks_nothing`), or no more entries than
+-- there are (`print_with_asks`). So a clause of the source that is made weaker, or one that asks more, is refused here.
 -- Assumes nothing.
 use Prim.Native.Nat.{◌≤◌}
 use mathlib.Core.Path.{refl}
@@ -17,25 +17,25 @@ use Rattle.card_print.specs.contracts.print.print_with as print-with-function
 
 -- what is passed is a.0, a.1.0 and so on, in the order of the parameters, and what is left of it t.0, t.1.0 and so on
 module _ {M : Type 1} {𝓤 : Ura M} (𝓛 : Logic 𝓤) (mem : Memory → SProp 𝓤) (run : Routine → Fun 𝓤) where
-  pub print-image-contract : Ensures 𝓤 print-image-function.ended (print-image-function.clauses 𝓛 mem run) (λ κs a r t.
+  pub print_image_contract : Ensures 𝓤 print-image-function.ended (print-image-function.clauses 𝓛 mem run) (λ κs a r t.
       let lent = a.1.1 in
       let left = t.1.1 in
       Prints a.0 a.1.0 lent.0.now lent.1.0.now lent.1.1.0.now lent.1.1.1.0.now
       lent.1.1.1.1.0.now
       r left.1.0.now left.1.1.0.now left.1.1.1.0.now left.1.1.1.1.0.now)
-  print-image-contract κs a r t g = refl
+  print_image_contract κs a r t g = refl
 
-  pub print-with-contract : Ensures 𝓤 print-with-function.ended (print-with-function.clauses 𝓛 mem run) (λ κs a r t.
+  pub print_with_contract : Ensures 𝓤 print-with-function.ended (print-with-function.clauses 𝓛 mem run) (λ κs a r t.
       let lent = a.1.1 in
       let left = t.1.1 in
       PrintsWith a.0 a.1.0 lent.0.now lent.1.0.now lent.1.1.0 lent.1.1.1.0
       lent.1.1.1.1.0.now lent.1.1.1.1.1.0.now
       r left.1.0.now left.1.1.1.1.0.now left.1.1.1.1.1.0.now)
-  print-with-contract κs a r t g = refl
+  print_with_contract κs a r t g = refl
 
-  pub print-image-asks-nothing : AsksNothing 𝓤 print-image-function.ended (print-image-function.clauses 𝓛 mem run)
-  print-image-asks-nothing κs a g = refl
+  pub print_image_asks_nothing : AsksNothing 𝓤 print-image-function.ended (print-image-function.clauses 𝓛 mem run)
+  print_image_asks_nothing κs a g = refl
 
-  pub print-with-asks : Asks 𝓤 print-with-function.ended (print-with-function.clauses 𝓛 mem run) (λ κs a.
+  pub print_with_asks : Asks 𝓤 print-with-function.ended (print-with-function.clauses 𝓛 mem run) (λ κs a.
       a.1.1.1.1.1.0 ≤ 1024)
-  print-with-asks κs a g = refl
+  print_with_asks κs a g = refl

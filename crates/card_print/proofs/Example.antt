@@ -19,7 +19,7 @@ use Rattle.image.proofs.Journey.{Words}
 use Rattle.printer.specs.ExampleFigures.{text}
 use Rattle.printer.specs.Printed.{printed}
 use Rattle.card_print.specs.Printed.{printed_of}
-use Rattle.card_print.proofs.Whole.{saved-printed}
+use Rattle.card_print.proofs.Whole.{saved_printed}
 
 words : Words map
 words zero = omega arith
@@ -37,4 +37,4 @@ whole = refl
 pub example_printed : printed_of false (head ++ replicate fill 0 ++ sums) 2 2 2 ≡ text
 example_printed =
     subst (λ (image : List ℕ). printed_of false image 2 2 2 ≡ text) example
-    (saved-printed card words fits whole ∙ printed.worked_card)
+    (saved_printed card words fits whole ∙ printed.worked_card)

@@ -15,15 +15,15 @@ use Rattle.catalogue.specs.declared.Entry.{Entry}
 use Rattle.catalogue_standings.specs.Rows.{Row, row, Verdict, accepted, refused, first_of, settle, row_number}
 use Rattle.image_soundness.specs.Scratch.{scratch_words}
 use Rattle.image_soundness.specs.Sound.{State, undamaged, sound}
-use Rattle.image_soundness.proofs.Covers.{head-undamaged, tail-undamaged}
-use Rattle.image_soundness.proofs.Damage.{extent-inside}
-use Rattle.image_soundness.proofs.WhenSound.{sound-to}
+use Rattle.image_soundness.proofs.Covers.{head_undamaged, tail_undamaged}
+use Rattle.image_soundness.proofs.Damage.{extent_inside}
+use Rattle.image_soundness.proofs.WhenSound.{sound_to}
 use Rattle.image_frames.specs.Frames.{total_of}
 use Rattle.image.specs.Image.{frames_for, image_of, blocks_in, free_count_in, sheets_in, state_in}
 use Rattle.image.specs.Table.{save_fits, save_verdict, load_rows, load_verdict}
-use Rattle.image.proofs.Fitting.{head-to}
-use Rattle.image.proofs.Journey.{Words, entries_length, saved-state, saved-accepted}
-use Rattle.image.proofs.Verdicts.{accepted-to, to-saved}
+use Rattle.image.proofs.Fitting.{head_to}
+use Rattle.image.proofs.Journey.{Words, entries_length, saved_state_lem, saved_accepted}
+use Rattle.image.proofs.Verdicts.{accepted_to, to_saved}
 use Rattle.roles.specs.Roles as names
 use Rattle.roles.specs.Roles.{turned_away, service, may, service_may}
 use Rattle.card.specs.declared.Shape.{Shape}
@@ -82,9 +82,9 @@ counts_small f n = (
 -- an extent that is not damaged lies inside the card
 numbers_inside : (n : ℕ) (f : ℕ → Bool) (es : List Entry) → n < 4294967296 → undamaged n f es ≡ true → AllNumbers es
 numbers_inside n f [] h u i = (omega arith, omega arith)
-numbers_inside n f (e ∷ es) h u zero = let l = extent-inside n e f (head-undamaged n f e es u) in
+numbers_inside n f (e ∷ es) h u zero = let l = extent_inside n e f (head_undamaged n f e es u) in
     (omega (arith, l), omega (arith, l))
-numbers_inside n f (e ∷ es) h u (suc i) = numbers_inside n f es h (tail-undamaged n f e es u) i
+numbers_inside n f (e ∷ es) h u (suc i) = numbers_inside n f es h (tail_undamaged n f e es u) i
 
 printable : (s : State) → s.blocks ≤ 262144 → s.spare ≤ s.blocks → length s.entries ≤ 1024 → sound s ≡ true
     → Printable s.blocks s.spare (counts_of (free s.map) s.blocks) s.entries
@@ -96,7 +96,7 @@ printable s n spare c whole =
       runs = omega (arith, n, counts.0);
       longest = omega (arith, n, counts.1);
       sheets = c;
-      numbers = numbers_inside s.blocks (free s.map) s.entries (omega (arith, n)) (sound-to s whole).whole;
+      numbers = numbers_inside s.blocks (free s.map) s.entries (omega (arith, n)) (sound_to s whole).whole;
     }
 
 -- ---- what is printed of an image
@@ -105,19 +105,19 @@ module _ (turned : Bool) (image : List ℕ) (maplen count scratchlen : ℕ) wher
   abbrev card : List ℕ
   card = state_text (state_in image).blocks (state_in image).spare (state_in image).map (state_in image).entries
 
-  loaded-printable : load_verdict turned image maplen count scratchlen ≡ accepted
+  loaded_printable : load_verdict turned image maplen count scratchlen ≡ accepted
       → Printable (state_in image).blocks (state_in image).spare (counts_of (free (state_in image).map) (state_in image).blocks)
       (state_in image).entries
-  loaded-printable e =
-      let a = accepted-to turned image maplen count scratchlen e in
-      let h = head-to (blocks_in image) (free_count_in image) (sheets_in image) (total_of image) a.first in
+  loaded_printable e =
+      let a = accepted_to turned image maplen count scratchlen e in
+      let h = head_to (blocks_in image) (free_count_in image) (sheets_in image) (total_of image) a.first in
       printable (state_in image) h.limits.limit h.limits.spare
       (omega (arith, h.count.few, entries_length image (sheets_in image))) a.whole
 
-  pub printed-whole : (text text' : List ℕ) (r : ℕ) → room ≤ length text
+  pub printed_whole : (text text' : List ℕ) (r : ℕ) → room ≤ length text
       → Writes (printed_of turned image maplen count scratchlen) text 0 r text'
       → Begins (printed_of turned image maplen count scratchlen) r text'
-  printed-whole text text' r h w = go (load_verdict turned image maplen count scratchlen) refl w
+  printed_whole text text' r h w = go (load_verdict turned image maplen count scratchlen) refl w
     where
       go : (v : Verdict) → load_verdict turned image maplen count scratchlen ≡ v
           → Writes (settle v card refusal_text) text 0 r text'
@@ -125,7 +125,7 @@ module _ (turned : Bool) (image : List ℕ) (maplen count scratchlen : ℕ) wher
       go accepted e w =
           card_whole (state_in image).blocks (state_in image).spare
           (counts_of (free (state_in image).map) (state_in image).blocks) (state_in image).entries text text' r
-          (loaded-printable e) (omega (arith, h)) w
+          (loaded_printable e) (omega (arith, h)) w
       go (refused number) e w =
           let l : number ≤ 21 = subst (λ (v : Verdict). row_number v ≤ 21) e (load_number turned image maplen count scratchlen)
           in
@@ -138,7 +138,7 @@ pub prints_whole : (shape : Shape) (role : ℕ) (image map : List ℕ) (entries 
     → room ≤ length text → Prints shape role image map entries scratch text r map' entries' scratch' text'
     → Begins (printed_of (turned_away role names.load) image (length map) (length entries) (length scratch)) r text'
 prints_whole shape role image map entries scratch text r map' entries' scratch' text' h w =
-    printed-whole (turned_away role names.load) image (length map) (length entries) (length scratch) text text' r h w.0
+    printed_whole (turned_away role names.load) image (length map) (length entries) (length scratch) text text' r h w.0
 
 -- the printer loads as service, which is not turned away
 pub service_loads : turned_away service names.load ≡ false
@@ -156,27 +156,27 @@ module _ (s : State) (words : Words s.map)
   abbrev text_of : State → List ℕ
   text_of s = state_text s.blocks s.spare s.map s.entries
 
-  abbrev image-length : ℕ
-  image-length = 512 * frames_for s.blocks (length s.entries)
+  abbrev image_length : ℕ
+  image_length = 512 * frames_for s.blocks (length s.entries)
 
-  saves : save_verdict false s (scratch_words (length s.map)) image-length ≡ accepted
-  saves = to-saved false s (scratch_words (length s.map)) image-length (record {
+  saves : save_verdict false s (scratch_words (length s.map)) image_length ≡ accepted
+  saves = to_saved false s (scratch_words (length s.map)) image_length (record {
     admitted = refl;
     lengths = fit;
     whole = whole;
     exact = refl;
   })
 
-  pub saved-printed : printed ≡ text_of s
-  saved-printed =
+  pub saved_printed : printed ≡ text_of s
+  saved_printed =
       ap (λ (v : Verdict). settle v (text_of (state_in (image_of s))) refusal_text)
-      (saved-accepted false s (scratch_words (length s.map)) image-length words saves)
-      ∙ ap text_of (saved-state false s (scratch_words (length s.map)) image-length words saves)
+      (saved_accepted false s (scratch_words (length s.map)) image_length words saves)
+      ∙ ap text_of (saved_state_lem false s (scratch_words (length s.map)) image_length words saves)
 
   -- so its text stands there, whole
-  pub saved-whole : (text text' : List ℕ) (r : ℕ) → room ≤ length text → Writes printed text 0 r text'
+  pub saved_whole : (text text' : List ℕ) (r : ℕ) → room ≤ length text → Writes printed text 0 r text'
       → Begins (text_of s) r text'
-  saved-whole text text' r h w =
-      subst (λ (bytes : List ℕ). Begins bytes r text') saved-printed
-      (printed-whole false (image_of s) (length s.map) (length s.entries) (scratch_words (length s.map)) text text' r h
+  saved_whole text text' r h w =
+      subst (λ (bytes : List ℕ). Begins bytes r text') saved_printed
+      (printed_whole false (image_of s) (length s.map) (length s.entries) (scratch_words (length s.map)) text text' r h
       w)

@@ -7,7 +7,7 @@ use Rattle.catalogue_standings.specs.Rows.{settle}
 use Rattle.roles.specs.Roles as names
 use Rattle.roles.specs.Roles.{turned_away}
 use Rattle.card.specs.declared.Shape.{Shape}
-use Rattle.image.specs.Effects.{zeros_for, loadMap, loadEntries}
+use Rattle.image.specs.Effects.{zeros_for, load_map, load_entries}
 use Rattle.image.specs.Image.{state_in}
 use Rattle.image.specs.Table.{load_verdict}
 use Rattle.printer.specs.Text.{state_text, refusal_text}
@@ -27,8 +27,8 @@ abbrev pub Prints : Shape → ℕ → List ℕ → List ℕ → List Entry → L
     → Type 0
 Prints shape role image map entries scratch text r map' entries' scratch' text' =
     Writes (printed_of (turned_away role names.load) image (length map) (length entries) (length scratch)) text 0 r text'
-    × (map' ≡ loadMap (turned_away role names.load) image map entries scratch)
-    × (entries' ≡ loadEntries (turned_away role names.load) image map entries scratch)
+    × (map' ≡ load_map (turned_away role names.load) image map entries scratch)
+    × (entries' ≡ load_entries (turned_away role names.load) image map entries scratch)
     × (scratch' ≡ zeros_for scratch)
 
 -- The same with the first c of some entries, of which nothing is handed back.
@@ -36,7 +36,7 @@ abbrev pub PrintsWith : Shape → ℕ → List ℕ → List ℕ → List Entry �
     → Type 0
 PrintsWith shape role image map entries c scratch text r map' scratch' text' =
     Writes (printed_of (turned_away role names.load) image (length map) (length (take c entries)) (length scratch)) text 0 r text'
-    × (map' ≡ loadMap (turned_away role names.load) image map (take c entries) scratch) × (scratch' ≡ zeros_for scratch)
+    × (map' ≡ load_map (turned_away role names.load) image map (take c entries) scratch) × (scratch' ≡ zeros_for scratch)
 
 -- What was used is given back, whatever the entries are.
 abbrev pub Given : ℕ → List Entry → ℕ → Type 0

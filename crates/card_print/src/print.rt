@@ -1,6 +1,6 @@
 // The card printer's work: an image in, the text of its card or of a refusal out.
 ghost use Rattle.std.specs.Prelude.{◌≡◌, ◌≤◌};
-ghost use Rattle.card_print.specs.Beginnings.{refusal_writer, refusal_written, beginWriter, beginWritten};
+ghost use Rattle.card_print.specs.Beginnings.{refusal_writer, refusal_written, begin_writer, begin_written};
 ghost use Rattle.card_print.specs.Printed.{Prints, PrintsWith, Given};
 
 use card::Shape;
@@ -24,8 +24,8 @@ fn refuse(number: u32, text: &mut [u8]) -> Writer
 
 // Writes a refusal, or the first two lines of a card.
 fn begin(loaded: Reply, map: &[u64], count: usize, text: &mut [u8]) -> Writer
-    ensures { (result ≡ beginWriter loaded map.now count text.old)
-        × (text.new ≡ beginWritten loaded map.now count text.old) }
+    ensures { (result ≡ begin_writer loaded map.now count text.old)
+        × (text.new ≡ begin_written loaded map.now count text.old) }
 {
     if loaded.number != 0 {
         return refuse(loaded.number, text);

@@ -45,8 +45,8 @@ module _ (R : RattleType) (n : ℕ) (κ : Lft) (c : ℕ) (xs : List R.Denot) (b 
   abbrev pub PartShown : Fml
   PartShown = fsep (flent κ ((arr_parts (shares R) (length (take c xs))).part full_share (take c xs) b 0)) others
 
-  abbrev at-list : GName → List R.Denot → MutBor (List R.Denot)
-  at-list γ ys = record { ref_ptr = (b, 0); ghost_name = γ; now = ys }
+  abbrev at_list : GName → List R.Denot → MutBor (List R.Denot)
+  at_list γ ys = record { ref_ptr = (b, 0); ghost_name = γ; now = ys }
 
   module _ (vals : R.Denot → List Val) (tells : Tells R (Is R) vals) (one : Single R.mir) {M : Type 1} {𝓤 : Ura M}
       (𝓛 : Logic 𝓤) (makes : Makes 𝓛 R (Is R)) where
@@ -98,10 +98,10 @@ module _ (R : RattleType) (n : ℕ) (κ : Lft) (c : ℕ) (xs : List R.Denot) (b 
 
       module _ (ℓ : Lifetime) where
         abbrev Lent : GName → ℕ → Fml
-        Lent γ m = (MutSlice ℓ κ R).own_val (at-list γ (take c xs)) (slice_val (b, 0) m ∷ [])
+        Lent γ m = (MutSlice ℓ κ R).own_val (at_list γ (take c xs)) (slice_val (b, 0) m ∷ [])
 
         abbrev Shown : GName → ℕ → Fml
-        Shown γ m = (ShrSlice ℓ κ R).own_val (at-list γ (take c xs)) (slice_val (b, 0) m ∷ [])
+        Shown γ m = (ShrSlice ℓ κ R).own_val (at_list γ (take c xs)) (slice_val (b, 0) m ∷ [])
 
         pub lends_part : ent 𝓤 (have (Whole xs)) (H.⇛ (ex 𝓤 (λ (γ : GName). sep 𝓤 (have (Lent γ c)) (have (PartLent γ)))))
         lends_part =

@@ -119,15 +119,15 @@ abbrev step_model : Type 0 → Type 0
 step_model X = Bool → Entry → X
 
 module _ (step-out : step_model Entry) where
-  abbrev step-says : Bool → Entry → Entry → Type 0
-  step-says a0 a1 r = r ≡ step-out a0 a1
+  abbrev step_says : Bool → Entry → Entry → Type 0
+  step_says a0 a1 r = r ≡ step-out a0 a1
 
   module _ {M : Type 1} (𝓤 : Ura M) where
     abbrev step-clauses : Clauses 𝓤 step_ended
     step-clauses κs a = record {
       ghost = Unit {0};
       requires = λ _. emp 𝓤;
-      ensures = λ _ r e. fact 𝓤 (step-says a.0 a.1.0 r);
+      ensures = λ _ r e. fact 𝓤 (step_says a.0 a.1.0 r);
     }
 
     module _ (𝓛 : Logic 𝓤) where
@@ -206,13 +206,13 @@ module _ (#step : Name) (step-out : step_model Entry)
     -- the loop goes on from here, and comes to the outcome
     record At : Type 0 where
       at : Point
-      comes-entries : at.past ++ (after-entries at.left x-accepted) ≡ after-entries ys x-accepted
+      comes_entries : at.past ++ (after-entries at.left x-accepted) ≡ after-entries ys x-accepted
 
     abbrev size : At → ℕ
     size x = length x.at.left
 
     abbrev at_first : At
-    at_first = record { at = record { past = []; left = ys; all = zero-add n }; comes-entries = refl }
+    at_first = record { at = record { past = []; left = ys; all = zero-add n }; comes_entries = refl }
 
     sums : (x : Point) → length x.past + length x.left ≡ n
     sums x = x.all
@@ -237,23 +237,23 @@ module _ (#step : Name) (step-out : step_model Entry)
         bring ! (1 ∷ 0 ∷ []) $ join ! $ frame ! $ done !
 
     -- ---- the exit
-    exits : (z-x-catalogue : List Entry) → Says x-catalogue.now x-accepted tt z-x-catalogue → length z-x-catalogue
+    exits : (z_x_catalogue : List Entry) → Says x-catalogue.now x-accepted tt z_x_catalogue → length z_x_catalogue
         ≡ length x-catalogue.now → ent 𝓤 (⋆ 𝓛 (‵ (fobs x-catalogue.ghost_name ((coded_holeys Entry'.the_row).code
-        (heres Entry'.the_row z-x-catalogue))) ∷ ‵ (fbor κ₀ (Held Entry'.the_row (length z-x-catalogue) x-catalogue.ptr.0
+        (heres Entry'.the_row z_x_catalogue))) ∷ ‵ (fbor κ₀ (Held Entry'.the_row (length z_x_catalogue) x-catalogue.ptr.0
         x-catalogue.ptr.1 x-catalogue.name)) ∷ ‵ (flft κ₀ q₀) ∷ [])) (Post vunit)
-    exits z-x-catalogue said l-x-catalogue =
-        qed 𝓛 (‵ (fobs x-catalogue.name ((coded_holeys Entry'.the_row).code (heres Entry'.the_row z-x-catalogue)))
-        ∷ ‵ (fbor κ₀ (Held Entry'.the_row (length z-x-catalogue) x-catalogue.ptr.0 x-catalogue.ptr.1
+    exits z_x_catalogue said l_x_catalogue =
+        qed 𝓛 (‵ (fobs x-catalogue.name ((coded_holeys Entry'.the_row).code (heres Entry'.the_row z_x_catalogue)))
+        ∷ ‵ (fbor κ₀ (Held Entry'.the_row (length z_x_catalogue) x-catalogue.ptr.0 x-catalogue.ptr.1
         x-catalogue.name)) ∷ ‵ (flft κ₀ q₀) ∷ []) ∵
         fjoin ! $
-        pure_i ! (mut_slice_at Entry'.the_row (at-x-catalogue x-catalogue.name z-x-catalogue) (s-x-catalogue ∷ []))
+        pure_i ! (mut_slice_at Entry'.the_row (at-x-catalogue x-catalogue.name z_x_catalogue) (s-x-catalogue ∷ []))
         (tt, (tt, tt)) (
-          ap (λ (j : ℕ). slice_val x-catalogue.ptr j ∷ []) (sym l-x-catalogue),
-          subst (Room Entry'.the_row) (sym l-x-catalogue) room-x-catalogue,
+          ap (λ (j : ℕ). slice_val x-catalogue.ptr j ∷ []) (sym l_x_catalogue),
+          subst (Room Entry'.the_row) (sym l_x_catalogue) room-x-catalogue,
         ) $
         fjoin ! $
-        suffices ! _ (ends_at 𝓛 ended stayed (clauses 𝓤) bound vunit tt (z-x-catalogue, (tt, tt))
-        (l-x-catalogue, (tt, tt))) $
+        suffices ! _ (ends_at 𝓛 ended stayed (clauses 𝓤) bound vunit tt (z_x_catalogue, (tt, tt))
+        (l_x_catalogue, (tt, tt))) $
         says ! said $ nothing ! $ bring ! (2 ∷ 0 ∷ []) $ group ! 2 $ frame ! $ nothing ! $
         owned ! Boolean (Is Boolean) (bool_Makes 𝓛) x-accepted _ is-x-accepted $ fjoin ! $
         bring ! (1 ∷ 0 ∷ []) $ fjoin ! $ feq_i ! (List Val) (vunit ∷ []) (vunit ∷ []) refl $ bring ! (1 ∷ 0 ∷ []) $
@@ -337,7 +337,7 @@ module _ (#step : Name) (step-out : step_model Entry)
 
           fin : Ends x.at
           fin = ap (λ (l : List Entry). x.at.past ++ l) (nil ∙ sym (after-entries-nil x-accepted))
-              ∙ ap (λ (l : List Entry). x.at.past ++ (after-entries l x-accepted)) (sym nil) ∙ x.comes-entries
+              ∙ ap (λ (l : List Entry). x.at.past ++ (after-entries l x-accepted)) (sym nil) ∙ x.comes_entries
 
       -- ---- a turn that passes one entry
       module _ (x : At) (e : Entry) (es : List Entry) (cons : x.at.left ≡ e ∷ es) where
@@ -379,9 +379,9 @@ module _ (#step : Name) (step-out : step_model Entry)
         spelled r w is = subst (λ (vs : List Val). Is Entry'.the_row r vs) ((struct.tells Entry'.the_type Entry''.the_laws) r _
             is) is
 
-        module _ (r : Entry) (heard-el : step-says step-out x-accepted el r) where
-          said : step-says step-out x-accepted e r
-          said = subst (λ (d : Entry). step-says step-out x-accepted d r) el-is heard-el
+        module _ (r : Entry) (heard-el : step_says step-out x-accepted el r) where
+          said : step_says step-out x-accepted e r
+          said = subst (λ (d : Entry). step_says step-out x-accepted d r) el-is heard-el
 
           -- where the loop stands after the turn
           abbrev next : At
@@ -391,10 +391,10 @@ module _ (#step : Name) (step-out : step_model Entry)
               left = es;
               all = omega (arith, sums x.at, one_more, length-append x.at.past (r ∷ []));
             };
-            comes-entries = append_snoc x.at.past r (after-entries es x-accepted) ∙
+            comes_entries = append_snoc x.at.past r (after-entries es x-accepted) ∙
                 (λ j. x.at.past ++ ((said j) ∷ after-entries es x-accepted)) ∙ ap (λ (l : List Entry). x.at.past ++ l)
                 (sym (after-entries-cons e es x-accepted)) ∙ ap (λ (l : List Entry). x.at.past
-                ++ (after-entries l x-accepted)) (sym cons) ∙ x.comes-entries;
+                ++ (after-entries l x-accepted)) (sym cons) ∙ x.comes_entries;
           }
 
         more : Sq 𝓛 (I x) (runs C Λ En (turn #step) (any_q (after_turn 𝓤 H (Next x) Left)))
@@ -426,8 +426,8 @@ module _ (#step : Name) (step-out : step_model Entry)
             ⊛ raw (ensured 𝓛 step_ended (step-clauses step-out 𝓤) tt (step_args el) tt r)))) (id⊢ 𝓤 _) $
             await ! tt $ pick ! (λ r-step. split ! $ bring ! (1 ∷ []) $
             use1 𝓛 (some (λ (zs-step : Unit {0} × (Unit {0} × Unit {0})). ‵ (lasts step_ended tt (step_args el) zs-step)
-            ⊛ raw (fact 𝓤 (step-says step-out x-accepted el r-step)))) (id⊢ 𝓤 _) $
-            pick ! (λ zs-step. split ! $ bring ! (1 ∷ []) $ heard ! (step-says step-out x-accepted el r-step) (λ e-step.
+            ⊛ raw (fact 𝓤 (step_says step-out x-accepted el r-step)))) (id⊢ 𝓤 _) $
+            pick ! (λ zs-step. split ! $ bring ! (1 ∷ []) $ heard ! (step_says step-out x-accepted el r-step) (λ e-step.
             fparts 𝓛 (_ ∷ _ ∷ []) _ $ discard ! (0 ∷ 0 ∷ []) $ split ! $ bring ! (1 ∷ []) $
             peeks ! Entry'.the_row (Is Entry'.the_row) (shows 𝓛 Entry'.the_row) r-step (w-step ∷ []) (λ is-w-step.
             land ! (from ! (stop !)) (init ! 18 refl ((struct.lawful Entry'.the_type Entry''.the_laws 𝓛).typed r-step _

@@ -33,8 +33,8 @@ use denote.Lend.{Held, lends_slice, slice_back, lends_shr_slice}
 use denote.Index.{row, whole_out, whole_in, opens_slice, closes_slice}
 
 module _ (R : RattleType) (κ κ' : Lft) (q : Share) (γ : GName) (b o : ℕ) where
-  abbrev at-list : GName → List R.Denot → MutBor (List R.Denot)
-  at-list δ ys = record { ref_ptr = (b, o); ghost_name = δ; now = ys }
+  abbrev at_list : GName → List R.Denot → MutBor (List R.Denot)
+  at_list δ ys = record { ref_ptr = (b, o); ghost_name = δ; now = ys }
 
   -- the holder's own borrow, open
   abbrev Open : List R.Denot → Fml
@@ -54,13 +54,13 @@ module _ (R : RattleType) (κ κ' : Lft) (q : Share) (γ : GName) (b o : ℕ) wh
     vals n = slice_val (b, o) n ∷ []
 
     abbrev Mine : List R.Denot → ℕ → Fml
-    Mine ys n = (MutSlice ℓ κ R).own_val (at-list γ ys) (vals n)
+    Mine ys n = (MutSlice ℓ κ R).own_val (at_list γ ys) (vals n)
 
     abbrev Again : GName → List R.Denot → ℕ → Fml
-    Again δ ys n = (MutSlice ℓ' κ' R).own_val (at-list δ ys) (vals n)
+    Again δ ys n = (MutSlice ℓ' κ' R).own_val (at_list δ ys) (vals n)
 
     abbrev Out : GName → List R.Denot → ℕ → Fml
-    Out δ ys n = (ShrSlice ℓ' κ' R).own_val (at-list δ ys) (vals n)
+    Out δ ys n = (ShrSlice ℓ' κ' R).own_val (at_list δ ys) (vals n)
 
     abbrev have : Fml → SProp 𝓤
     have f = sem 𝓛 f
@@ -72,7 +72,7 @@ module _ (R : RattleType) (κ κ' : Lft) (q : Share) (γ : GName) (b o : ℕ) wh
           subst (λ (m : ℕ). ent 𝓤 (sep 𝓤 (have (Mine ys m)) (A.lft κ q))
           (H.⇛ (ex 𝓤 (λ (γ₁ : GName). sep 𝓤 (have (Again γ₁ ys m)) (have (LentAgain γ₁ ys)))))) e (
           qed 𝓛 (‵ (Mine ys (length ys)) ∷ ‵ (flft κ q) ∷ []) ∵ updating ! $ fsplit ! $ pure_l !
-          (mut_slice_at R (at-list γ ys) (vals (length ys))) (λ p. fsplit ! $ opens_slice ! tt R ys b o $
+          (mut_slice_at R (at_list γ ys) (vals (length ys))) (λ p. fsplit ! $ opens_slice ! tt R ys b o $
           use1 𝓛 (‵ (cells (mem R) ys b o)) (whole_in 𝓛 R ys b o) $
           use1 𝓛 (later (some (λ (γ₁ : GName). ‵ (Again γ₁ ys (length ys)) ⊛ ‵ (flent κ' (Held R (length ys) b o γ₁)))))
           (lends_slice 𝓛 R ℓ' κ' ys b o p.1) $ await ! tt $ pick ! (λ γ₁. split ! $
@@ -86,7 +86,7 @@ module _ (R : RattleType) (κ κ' : Lft) (q : Share) (γ : GName) (b o : ℕ) wh
           subst (λ (m : ℕ). ent 𝓤 (sep 𝓤 (have (Mine ys m)) (A.lft κ q))
           (H.⇛ (ex 𝓤 (λ (γ₁ : GName). sep 𝓤 (have (Out γ₁ ys m)) (have (LentOut ys)))))) e (
           qed 𝓛 (‵ (Mine ys (length ys)) ∷ ‵ (flft κ q) ∷ []) ∵ updating ! $ fsplit ! $ pure_l !
-          (mut_slice_at R (at-list γ ys) (vals (length ys)))
+          (mut_slice_at R (at_list γ ys) (vals (length ys)))
           (λ p. fsplit ! $ opens_slice ! tt R ys b o $ feq_i ! ℕ (length ys) (length ys) refl $ fjoin ! $
           use1 𝓛 (later
           (some (λ (γ₁ : GName). ‵ (Out γ₁ ys (length ys)) ⊛ ‵
@@ -108,7 +108,7 @@ module _ (R : RattleType) (κ κ' : Lft) (q : Share) (γ : GName) (b o : ℕ) wh
             (‵ (row R full_share zs b o)) (whole_out 𝓛 R zs b o) $
             move ! (1 ∷ []) $ fsplit ! $ move ! (1 ∷ []) $ fsplit ! $ move !
             (3 ∷ 2 ∷ 0 ∷ 1 ∷ []) $ closes_slice ! tt R ys zs f b o $ at_once ! $
-            fjoin ! $ pure_i ! (mut_slice_at R (at-list γ zs) (vals n)) (tt, (tt, tt))
+            fjoin ! $ pure_i ! (mut_slice_at R (at_list γ zs) (vals n)) (tt, (tt, tt))
             (ap vals (sym (f ∙ e)), subst (Room R) (sym (f ∙ e)) room) $ fjoin ! $ done !
 
         pub comes_home : ent 𝓤 (sep 𝓤 (A.dead κ') (have (LentOut ys))) (H.⇛ (sep 𝓤 (have (Mine ys n)) (A.lft κ q)))
@@ -117,5 +117,5 @@ module _ (R : RattleType) (κ κ' : Lft) (q : Share) (γ : GName) (b o : ℕ) wh
             (2 ∷ 0 ∷ []) $ lent_back ! tt $ fsplit ! $ drop ! $
             move ! (1 ∷ []) $ fsplit ! $ move ! (1 ∷ []) $ fsplit ! $ move !
             (3 ∷ 2 ∷ 0 ∷ 1 ∷ []) $ closes_slice ! tt R ys ys refl b o $ at_once ! $
-            fjoin ! $ pure_i ! (shr_slice_at R (at-list γ ys) (vals n)) (tt, (tt, tt))
+            fjoin ! $ pure_i ! (shr_slice_at R (at_list γ ys) (vals n)) (tt, (tt, tt))
             (ap vals (sym e), subst (Room R) (sym e) room) $ fjoin ! $ done !

@@ -57,7 +57,7 @@ closed false true c sheet s rows number e = go (leb c sheet) s e
 
 pub record Opening (turned fits : Bool) (c sheet : ℕ) (s t : Standing) (rows : List Row) : Type 0 where
   pub admitted : turned ≡ false
-  pub all_fits : fits ≡ true
+  pub all_fits_lem : fits ≡ true
   pub listed : leb c sheet ≡ false
   pub same : s ≡ t
   pub whole : is_damaged s ≡ false
@@ -83,7 +83,7 @@ opened false true c sheet s t rows e = go (leb c sheet) refl s e
         → Opening false true c sheet s t rows
     made b q s f p d = record {
       admitted = refl;
-      all_fits = refl;
+      all_fits_lem = refl;
       listed = q ∙ f;
       same = p;
       whole = d;
@@ -215,9 +215,9 @@ holding true s r t d q e = (refl, e)
 holding false s r t d q e = absurd (true≢false (sym q ∙ ap t (sym e) ∙ d))
 
 module _ (n : ℕ) (free : ℕ → Bool) (e : Entry) where
-  pub open-extent : (start blocks : ℕ) → standing_of n free e ≡ Open start blocks → Extent n free e start blocks
+  pub open_extent : (start blocks : ℕ) → standing_of n free e ≡ Open start blocks → Extent n free e start blocks
   unfolding standing_of
-  open-extent start blocks h = go (eqb e.mark absent_mark) (eqb e.mark paused_mark) (eqb e.mark open_mark)
+  open_extent start blocks h = go (eqb e.mark absent_mark) (eqb e.mark paused_mark) (eqb e.mark open_mark)
       (eqb e.mark complete_mark) h
     where
       zeros : Bool
@@ -248,9 +248,9 @@ module _ (n : ℕ) (free : ℕ → Bool) (e : Entry) where
           absurd (plain is_open holds (Complete e.start e.length) (Open start blocks) refl refl refl h)
       go false false false false h = absurd (plain is_open false Damaged (Open start blocks) refl refl refl h)
 
-  pub complete-extent : (start blocks : ℕ) → standing_of n free e ≡ Complete start blocks → Extent n free e start blocks
+  pub complete_extent : (start blocks : ℕ) → standing_of n free e ≡ Complete start blocks → Extent n free e start blocks
   unfolding standing_of
-  complete-extent start blocks h = go (eqb e.mark absent_mark) (eqb e.mark paused_mark) (eqb e.mark open_mark)
+  complete_extent start blocks h = go (eqb e.mark absent_mark) (eqb e.mark paused_mark) (eqb e.mark open_mark)
       (eqb e.mark complete_mark) h
     where
       zeros : Bool

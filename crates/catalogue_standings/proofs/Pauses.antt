@@ -22,7 +22,7 @@ module _ (n : ℕ) (free : ℕ → Bool) (e : Entry) where
 
   pub record Pause : Type 0 where
     pub marked : e.mark ≡ paused_mark
-    pub either-form : (zeros ≡ true) ⊎ (holds ≡ true)
+    pub either_form : (zeros ≡ true) ⊎ (holds ≡ true)
 
   -- by which marks the entry's is, whether start and length are 0, and whether the extent holds
   abbrev said : Bool → Bool → Bool → Bool → Bool → Bool → Standing
@@ -45,9 +45,9 @@ module _ (n : ℕ) (free : ℕ → Bool) (e : Entry) where
   by_mark false false false true z false h = absurd (false≢true h)
   by_mark false false false false z x h = absurd (false≢true h)
 
-  pub reads-as-paused : is_paused (standing_of n free e) ≡ true → Pause
+  pub reads_as_paused : is_paused (standing_of n free e) ≡ true → Pause
   unfolding standing_of
-  reads-as-paused h =
+  reads_as_paused h =
       let f = by_mark (eqb e.mark absent_mark) (eqb e.mark paused_mark) (eqb e.mark open_mark)
       (eqb e.mark complete_mark) zeros holds h in
-      record { marked = eqb-true e.mark paused_mark f.0; either-form = f.1 }
+      record { marked = eqb-true e.mark paused_mark f.0; either_form = f.1 }

@@ -78,15 +78,15 @@ abbrev first_of_model : Type 0 → Type 0
 first_of_model X = ℕ → X
 
 module _ (first-of-out : first_of_model ℕ) where
-  abbrev first-of-says : ℕ → ℕ → Type 0
-  first-of-says a0 r = r ≡ first-of-out a0
+  abbrev first_of_says : ℕ → ℕ → Type 0
+  first_of_says a0 r = r ≡ first-of-out a0
 
   module _ {M : Type 1} (𝓤 : Ura M) where
     abbrev first-of-clauses : Clauses 𝓤 first_of_ended
     first-of-clauses κs a = record {
       ghost = Unit {0};
       requires = λ _. emp 𝓤;
-      ensures = λ _ r e. fact 𝓤 (first-of-says a.0 r);
+      ensures = λ _ r e. fact 𝓤 (first_of_says a.0 r);
     }
 
     module _ (𝓛 : Logic 𝓤) where
@@ -104,15 +104,15 @@ abbrev nothing_yet_model : Type 0 → Type 0
 nothing_yet_model X = ℕ → X
 
 module _ (nothing-yet-out : nothing_yet_model ℕ) where
-  abbrev nothing-yet-says : ℕ → ℕ → Type 0
-  nothing-yet-says a0 r = r ≡ nothing-yet-out a0
+  abbrev nothing_yet_says : ℕ → ℕ → Type 0
+  nothing_yet_says a0 r = r ≡ nothing-yet-out a0
 
   module _ {M : Type 1} (𝓤 : Ura M) where
     abbrev nothing-yet-clauses : Clauses 𝓤 nothing_yet_ended
     nothing-yet-clauses κs a = record {
       ghost = Unit {0};
       requires = λ _. emp 𝓤;
-      ensures = λ _ r e. fact 𝓤 (nothing-yet-says a.0 r);
+      ensures = λ _ r e. fact 𝓤 (nothing_yet_says a.0 r);
     }
 
     module _ (𝓛 : Logic 𝓤) where
@@ -135,15 +135,15 @@ abbrev add_entries_model : Type 0 → Type 0
 add_entries_model X = List Entry → ℕ → ℕ → X
 
 module _ (add-entries-out : add_entries_model ℕ) where
-  abbrev add-entries-says : List Entry → ℕ → ℕ → ℕ → Type 0
-  add-entries-says a0 a1 a2 r = r ≡ add-entries-out a0 a1 a2
+  abbrev add_entries_says : List Entry → ℕ → ℕ → ℕ → Type 0
+  add_entries_says a0 a1 a2 r = r ≡ add-entries-out a0 a1 a2
 
   module _ {M : Type 1} (𝓤 : Ura M) where
     abbrev add-entries-clauses : Clauses 𝓤 add_entries_ended
     add-entries-clauses κs a = record {
       ghost = Unit {0};
       requires = λ _. emp 𝓤;
-      ensures = λ _ r e. fact 𝓤 (add-entries-says a.0.now a.1.0 a.1.1.0 r);
+      ensures = λ _ r e. fact 𝓤 (add_entries_says a.0.now a.1.0 a.1.1.0 r);
     }
 
     module _ (𝓛 : Logic 𝓤) where
@@ -305,9 +305,9 @@ module _ (#first-of #nothing-yet #add-entries : Name) (first-of-out : first_of_m
           ⊛ raw (ensured 𝓛 first_of_ended (first-of-clauses first-of-out 𝓤) tt (first-of-args) tt r)))) (id⊢ 𝓤 _) $
           await ! tt $ pick ! (λ r-first-of. split ! $ bring ! (1 ∷ []) $
           use1 𝓛 (some (λ (zs-first-of : Unit {0} × Unit {0}). ‵ (lasts first_of_ended tt (first-of-args) zs-first-of)
-          ⊛ raw (fact 𝓤 (first-of-says first-of-out x-sheet r-first-of)))) (id⊢ 𝓤 _) $
+          ⊛ raw (fact 𝓤 (first_of_says first-of-out x-sheet r-first-of)))) (id⊢ 𝓤 _) $
           pick ! (λ zs-first-of. split ! $ bring ! (1 ∷ []) $
-          heard ! (first-of-says first-of-out x-sheet r-first-of) (λ e-first-of. fparts 𝓛 (_ ∷ []) _ $
+          heard ! (first_of_says first-of-out x-sheet r-first-of) (λ e-first-of. fparts 𝓛 (_ ∷ []) _ $
           discard ! (0 ∷ []) $ split ! $ bring ! (1 ∷ []) $
           rewrite ! 0 (λ (r : ℕ). ‵ (usize.own_val r (w-first-of ∷ []))) (e-first-of) refl $
           peeks ! usize (Is usize) (shows 𝓛 usize) v-first (w-first-of ∷ []) (λ is-w-first-of.
@@ -324,9 +324,9 @@ module _ (#first-of #nothing-yet #add-entries : Name) (first-of-out : first_of_m
           (id⊢ 𝓤 _) $
           await ! tt $ pick ! (λ r-nothing-yet. split ! $ bring ! (1 ∷ []) $
           use1 𝓛 (some (λ (zs-nothing-yet : Unit {0} × Unit {0}). ‵ (lasts nothing_yet_ended tt (nothing-yet-args)
-          zs-nothing-yet) ⊛ raw (fact 𝓤 (nothing-yet-says nothing-yet-out x-sheet r-nothing-yet)))) (id⊢ 𝓤 _) $
+          zs-nothing-yet) ⊛ raw (fact 𝓤 (nothing_yet_says nothing-yet-out x-sheet r-nothing-yet)))) (id⊢ 𝓤 _) $
           pick ! (λ zs-nothing-yet. split ! $ bring ! (1 ∷ []) $
-          heard ! (nothing-yet-says nothing-yet-out x-sheet r-nothing-yet) (λ e-nothing-yet. fparts 𝓛 (_ ∷ []) _ $
+          heard ! (nothing_yet_says nothing-yet-out x-sheet r-nothing-yet) (λ e-nothing-yet. fparts 𝓛 (_ ∷ []) _ $
           discard ! (0 ∷ []) $ split ! $ bring ! (1 ∷ []) $
           rewrite ! 0 (λ (r : ℕ). ‵ (u64.own_val r (w-nothing-yet ∷ []))) (e-nothing-yet) refl $
           peeks ! u64 (Is u64) (shows 𝓛 u64) v-none (w-nothing-yet ∷ []) (λ is-w-nothing-yet.
@@ -350,9 +350,9 @@ module _ (#first-of #nothing-yet #add-entries : Name) (first-of-out : first_of_m
           await ! tt $ pick ! (λ r-add-entries. split ! $ bring ! (1 ∷ []) $
           use1 𝓛 (some (λ (zs-add-entries : Unit {0} × (Unit {0} × (Unit {0} × Unit {0}))). ‵
           (lasts add_entries_ended (κ₀, tt) (add-entries-args) zs-add-entries) ⊛ raw (fact 𝓤
-          (add-entries-says add-entries-out x-catalogue.now v-first v-none r-add-entries)))) (id⊢ 𝓤 _) $
+          (add_entries_says add-entries-out x-catalogue.now v-first v-none r-add-entries)))) (id⊢ 𝓤 _) $
           pick ! (λ zs-add-entries. split ! $ bring ! (1 ∷ []) $
-          heard ! (add-entries-says add-entries-out x-catalogue.now v-first v-none r-add-entries) (λ e-add-entries.
+          heard ! (add_entries_says add-entries-out x-catalogue.now v-first v-none r-add-entries) (λ e-add-entries.
           fparts 𝓛 (_ ∷ _ ∷ _ ∷ []) _ $ discard ! (0 ∷ 0 ∷ 0 ∷ []) $ split ! $ bring ! (1 ∷ []) $
           rewrite ! 0 (λ (r : ℕ). ‵ (u64.own_val r (w-add-entries ∷ []))) (e-add-entries) refl $
           peeks ! u64 (Is u64) (shows 𝓛 u64) v-result (w-add-entries ∷ []) (λ is-w-add-entries.

@@ -69,15 +69,15 @@ module _ (es : List Entry) (sheet : ℕ) where
   abbrev wings : List Entry
   wings = drop first es
 
-  all-of-it : (t : Bool) → ltb (length es) (first + 128) ≡ t
+  all_of_it : (t : Bool) → ltb (length es) (first + 128) ≡ t
       → held (take (end_of first (length es) - first) wings) ≡ held (take 128 wings)
-  all-of-it true e =
+  all_of_it true e =
       let below : length es < first + 128 = ltb-true (length es) (first + 128) e in
       let many : end_of first (length es) - first ≡ length es - first = omega (arith, below) in
       let a : length wings ≤ end_of first (length es) - first = omega (arith, length-drop first es, many) in
       let b : length wings ≤ 128 = omega (arith, length-drop first es, below) in
       ap held (take_all (end_of first (length es) - first) wings a ∙ sym (take_all 128 wings b))
-  all-of-it false e =
+  all_of_it false e =
       let above : first + 128 ≤ length es = ltb-false (length es) (first + 128) e in
       let many : end_of first (length es) - first ≡ 128 = omega (arith, above) in
       ap (λ (k : ℕ). held (take k wings)) many
@@ -87,7 +87,7 @@ unfolding held_by
 holds es sheet =
     let from : first es sheet ≡ 128 * (sheet / 128) = omega arith in
     added_up (end_of (first es sheet) (length es) - first es sheet) es (first es sheet) 0 0 refl
-    ∙ ap (λ (s : ℕ). (0 + s) % 2 ^ 64) (all-of-it es sheet (ltb (length es) (first es sheet + 128)) refl)
+    ∙ ap (λ (s : ℕ). (0 + s) % 2 ^ 64) (all_of_it es sheet (ltb (length es) (first es sheet + 128)) refl)
     ∙ ap (λ (a : ℕ). (0 + held (take 128 (drop a es))) % 2 ^ 64) from
     ∙ ap (λ (s : ℕ). s % 2 ^ 64) (zero-plus (held (take 128 (drop (128 * (sheet / 128)) es))))
   where
@@ -113,9 +113,9 @@ lengths_below b l h (suc j) =
     let all : suc j * b ≡ j * b + b = suc-mul j b in omega arith
 
 -- a wing has 128 entries at the most
-pub lengths_fit : (b : ℕ) (es : List Entry) (wing : ℕ) → ((i : ℕ) → (entry_at es i).length ≤ b) → held (in_wing wing es) ≤
+pub lengths_fit_lem : (b : ℕ) (es : List Entry) (wing : ℕ) → ((i : ℕ) → (entry_at es i).length ≤ b) → held (in_wing wing es) ≤
     128 * b
-lengths_fit b es wing h =
+lengths_fit_lem b es wing h =
     lengths_below b (drop (128 * wing) es)
     (λ i. subst (λ (e : Entry). e.length ≤ b) (sym (get_or-drop (128 * wing) es i zeros)) (h (128 * wing + i))) 128
 
@@ -124,5 +124,5 @@ pub held_is : (es : List Entry) (sheet : ℕ) → ((i : ℕ) → (entry_at es i)
     → held_by es sheet ≡ held (in_wing (wing_of sheet) es)
 unfolding held_by
 held_is es sheet h =
-    let fits = lengths_fit 4294967295 es (wing_of sheet) h in
+    let fits = lengths_fit_lem 4294967295 es (wing_of sheet) h in
     mod-eq_of_lt (omega (arith, fits))

@@ -112,15 +112,15 @@ abbrev bound_model : Type 0 → Type 0
 bound_model X = ℕ → ℕ → X
 
 module _ (bound-out : bound_model ℕ) where
-  abbrev bound-says : ℕ → ℕ → ℕ → Type 0
-  bound-says a0 a1 r = r ≡ bound-out a0 a1
+  abbrev bound_says : ℕ → ℕ → ℕ → Type 0
+  bound_says a0 a1 r = r ≡ bound-out a0 a1
 
   module _ {M : Type 1} (𝓤 : Ura M) where
     abbrev bound-clauses : Clauses 𝓤 bound_ended
     bound-clauses κs a = record {
       ghost = Unit {0};
       requires = λ _. emp 𝓤;
-      ensures = λ _ r e. fact 𝓤 (bound-says a.0 a.1.0 r);
+      ensures = λ _ r e. fact 𝓤 (bound_says a.0 a.1.0 r);
     }
 
     module _ (𝓛 : Logic 𝓤) where
@@ -143,15 +143,15 @@ abbrev step_model : Type 0 → Type 0
 step_model X = ℕ → Entry → X
 
 module _ (step-out : step_model ℕ) where
-  abbrev step-says : ℕ → Entry → ℕ → Type 0
-  step-says a0 a1 r = r ≡ step-out a0 a1
+  abbrev step_says : ℕ → Entry → ℕ → Type 0
+  step_says a0 a1 r = r ≡ step-out a0 a1
 
   module _ {M : Type 1} (𝓤 : Ura M) where
     abbrev step-clauses : Clauses 𝓤 step_ended
     step-clauses κs a = record {
       ghost = Unit {0};
       requires = λ _. emp 𝓤;
-      ensures = λ _ r e. fact 𝓤 (step-says a.0 a.1.0 r);
+      ensures = λ _ r e. fact 𝓤 (step_says a.0 a.1.0 r);
     }
 
     module _ (𝓛 : Logic 𝓤) where
@@ -242,7 +242,7 @@ module _ (#bound #step : Name) (bound-out : bound_model ℕ) (step-out : step_mo
 
     -- ---- where the loop stands: the index, and the state
     record Point : Type 0 where
-      at-index : ℕ
+      at_index : ℕ
       state : ℕ
       is_state : Is u64 state (machine-state state ∷ [])
 
@@ -253,15 +253,15 @@ module _ (#bound #step : Name) (bound-out : bound_model ℕ) (step-out : step_mo
     -- the loop goes on from here, and comes to the outcome
     record At : Type 0 where
       at : Point
-      comes-state : after-state ys at.at-index end at.state ≡ after-state ys x-first end x-start
+      comes_state : after-state ys at.at_index end at.state ≡ after-state ys x-first end x-start
 
     abbrev size : At → ℕ
-    size x = end - x.at.at-index
+    size x = end - x.at.at_index
 
     abbrev at_first : At
     at_first = record {
-      at = record { at-index = x-first; state = x-start; is_state = is-x-start };
-      comes-state = refl;
+      at = record { at_index = x-first; state = x-start; is_state = is-x-start };
+      comes_state = refl;
     }
 
     -- ---- the caller has what `bound` asks
@@ -339,7 +339,7 @@ module _ (#bound #step : Name) (bound-out : bound_model ℕ) (step-out : step_mo
           ∷ ‵ (fdies (ty_int w64) l₇)
           ∷ ‵ (fat full_share (ty_int w64) l₆ 0 (vint w64 end))
           ∷ ‵ (fdies (ty_int w64) l₆)
-          ∷ ‵ (fat full_share (ty_int w64) l₅ 0 (vint w64 x.at-index))
+          ∷ ‵ (fat full_share (ty_int w64) l₅ 0 (vint w64 x.at_index))
           ∷ ‵ (fdies (ty_int w64) l₅)
           ∷ ‵ (fat full_share (ty_int w64) l₄ 0 (machine-state x.state))
           ∷ ‵ (fdies (ty_int w64) l₄)
@@ -379,24 +379,24 @@ module _ (#bound #step : Name) (bound-out : bound_model ℕ) (step-out : step_mo
       ends x nil =
           assigns ! (bin ! (load ! (from ! (stop !)) (look ! 15 refl)) (load ! (from ! (stop !)) (look ! 13 refl)) tt)
           (from ! (stop !)) (init ! 9 refl (tt, tt)) $
-          rewrite ! 9 (λ (b : Bool). ‵ (fat full_share ty_bool l₈ 0 (vbool b))) (is_false (ltb x.at.at-index end)
+          rewrite ! 9 (λ (b : Bool). ‵ (fat full_share ty_bool l₈ 0 (vbool b))) (is_false (ltb x.at.at_index end)
           (λ z. not-less (ltb→lt _ _ z))) refl $
           leaves_loop ! (load ! (from ! (stop !)) (look ! 9 refl)) $ forget ! 9 refl $
           exec ! C Λ En rest (at_ret En Post) $ finish x.at fin
         where
-          not-less : x.at.at-index < end → ⊥
+          not-less : x.at.at_index < end → ⊥
           not-less z = omega (arith, z, nil)
 
-          passed : end ≤ x.at.at-index
+          passed : end ≤ x.at.at_index
           passed = omega (arith, nil)
 
           fin : Ends x.at
-          fin = sym (after-state-none ys x.at.at-index end x.at.state passed) ∙ x.comes-state
+          fin = sym (after-state-none ys x.at.at_index end x.at.state passed) ∙ x.comes_state
 
       -- ---- a turn that passes one entry
       module _ (x : At) (k : ℕ) (one : size x ≡ suc k) where
         abbrev i : ℕ
-        i = x.at.at-index
+        i = x.at.at_index
 
         abbrev c : List Entry
         c = ys
@@ -426,12 +426,12 @@ module _ (#bound #step : Name) (bound-out : bound_model ℕ) (step-out : step_mo
         spelled r w is = subst (λ (vs : List Val). Is u64 r vs) ((uint_Tells w64) r _ is) is
 
         -- where the loop stands after the turn
-        module _ (r : ℕ) (is : Is u64 r (machine-state r ∷ [])) (heard : step-says step-out x.at.state el r) where
+        module _ (r : ℕ) (is : Is u64 r (machine-state r ∷ [])) (heard : step_says step-out x.at.state el r) where
           abbrev next : At
           next = record {
-            at = record { at-index = i + 1; state = r; is_state = is };
-            comes-state = (λ j. after-state ys (i + 1) end (heard j)) ∙ sym (after-state-more ys i end x.at.state
-                before-end) ∙ x.comes-state;
+            at = record { at_index = i + 1; state = r; is_state = is };
+            comes_state = (λ j. after-state ys (i + 1) end (heard j)) ∙ sym (after-state-more ys i end x.at.state
+                before-end) ∙ x.comes_state;
           }
 
         more : Sq 𝓛 (I x) (runs C Λ En (turn #step) (any_q (after_turn 𝓤 H (Next x) Left)))
@@ -464,9 +464,9 @@ module _ (#bound #step : Name) (bound-out : bound_model ℕ) (step-out : step_mo
             ⊛ raw (ensured 𝓛 step_ended (step-clauses step-out 𝓤) tt (step_args x.at.state el) tt r)))) (id⊢ 𝓤 _) $
             await ! tt $ pick ! (λ r-step. split ! $ bring ! (1 ∷ []) $
             use1 𝓛 (some (λ (zs-step : Unit {0} × (Unit {0} × Unit {0})). ‵ (lasts step_ended tt (step_args x.at.state el)
-            zs-step) ⊛ raw (fact 𝓤 (step-says step-out x.at.state el r-step)))) (id⊢ 𝓤 _) $
+            zs-step) ⊛ raw (fact 𝓤 (step_says step-out x.at.state el r-step)))) (id⊢ 𝓤 _) $
             pick ! (λ zs-step. split ! $ bring ! (1 ∷ []) $
-            heard ! (step-says step-out x.at.state el r-step) (λ e-step. fparts 𝓛 (_ ∷ _ ∷ []) _ $
+            heard ! (step_says step-out x.at.state el r-step) (λ e-step. fparts 𝓛 (_ ∷ _ ∷ []) _ $
             discard ! (0 ∷ 0 ∷ []) $ split ! $ bring ! (1 ∷ []) $
             peeks ! u64 (Is u64) (shows 𝓛 u64) r-step (w-step ∷ []) (λ is-w-step.
             land ! (from ! (stop !)) (store ! 19 refl ((uint_Lawful 𝓛 w64).typed r-step _ is-w-step).0) $
@@ -512,8 +512,8 @@ module _ (#bound #step : Name) (bound-out : bound_model ℕ) (step-out : step_mo
         (ensured 𝓛 bound_ended (bound-clauses bound-out 𝓤) tt (bound-args) tt r)))) (id⊢ 𝓤 _) $
         await ! tt $ pick ! (λ r-bound. split ! $ bring ! (1 ∷ []) $
         use1 𝓛 (some (λ (zs-bound : Unit {0} × (Unit {0} × Unit {0})). ‵ (lasts bound_ended tt (bound-args) zs-bound)
-        ⊛ raw (fact 𝓤 (bound-says bound-out x-first n r-bound)))) (id⊢ 𝓤 _) $
-        pick ! (λ zs-bound. split ! $ bring ! (1 ∷ []) $ heard ! (bound-says bound-out x-first n r-bound) (λ e-bound.
+        ⊛ raw (fact 𝓤 (bound_says bound-out x-first n r-bound)))) (id⊢ 𝓤 _) $
+        pick ! (λ zs-bound. split ! $ bring ! (1 ∷ []) $ heard ! (bound_says bound-out x-first n r-bound) (λ e-bound.
         fparts 𝓛 (_ ∷ _ ∷ []) _ $ discard ! (0 ∷ 0 ∷ []) $ split ! $ bring ! (1 ∷ []) $
         peeks ! usize (Is usize) (shows 𝓛 usize) r-bound (w-bound ∷ []) (λ is-w-bound.
         land ! (from ! (stop !)) (init ! 14 refl ((uint_Lawful 𝓛 w64).typed r-bound _ is-w-bound).0) $

@@ -13,7 +13,7 @@ abbrev pub in_wing : {A : Type 0} → ℕ → List A → List A
 in_wing wing sheets = take 128 (drop (128 * wing) sheets)
 
 -- The blocks held by the wing of a sheet: the lengths in its sheets' entries together, as the entries have them, damaged ones
--- too, in 64 bits. (128 lengths of 32 bits do not come to 2 ^ 64: `lengths_fit` in proofs/Sums.antt.)
+-- too, in 64 bits. (128 lengths of 32 bits do not come to 2 ^ 64: `lengths_fit_lem` in proofs/Sums.antt.)
 unfoldable pub held_by : List Entry → ℕ → ℕ
 unfolding held
 held_by entries sheet = held (in_wing (wing_of sheet) entries) % 2 ^ 64

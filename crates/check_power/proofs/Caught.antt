@@ -15,14 +15,14 @@ use Rattle.laws.proofs.Bools.{and_left, and_right, not_true, order}
 use Rattle.block_bytes.specs.Numbers.{bytes4, number_at}
 use Rattle.block_bytes.proofs.Numbers.{number_at_lem}
 use Rattle.block_seals.specs.Sealed.{sums, front, sealed, check_holds, sound}
-use Rattle.block_seals.proofs.Sealed.{sealed-length, check-sealed}
+use Rattle.block_seals.proofs.Sealed.{sealed_length, check_sealed}
 use Rattle.block.specs.Calls.{check_answer}
 use Rattle.image_frames.specs.Frames.{Bytes}
 use Rattle.image_frames.proofs.Framing.{bytes_back}
 use Rattle.check_power.specs.Damage.{apart, traded, Payload, Damaged, OneOrTwoRefused, OneOrTwoUnsound, OneRefused}
 use Rattle.check_power.specs.Damage.{OtherByteRefused, TradeRefused, three, ThreeCanPass}
 use Rattle.check_power.proofs.Apart.{apart_split, apart_none, apart_self, apart_set}
-use Rattle.check_power.proofs.Moves.{moved, twice, A-moves, B-moves, one-moves}
+use Rattle.check_power.proofs.Moves.{moved, twice, A-moves, B-moves, one_moves}
 
 -- ---- bytes
 
@@ -55,48 +55,48 @@ bytes_stored n (suc (suc (suc (suc i)))) = lit< tt
 -- ---- stored numbers: equal exactly if their bytes are
 
 module _ (b c : List ℕ) (at : ℕ) (sb : Bytes b) (sc : Bytes c) (hb : at + 4 ≤ length b) (hc : at + 4 ≤ length c) where
-  stored-small : (l : List ℕ) → Bytes l → number_at l at < 4294967296
+  stored_small : (l : List ℕ) → Bytes l → number_at l at < 4294967296
   unfolding number_at
-  stored-small l h = omega (arith, h at, h (at + 1), h (at + 2), h (at + 3))
+  stored_small l h = omega (arith, h at, h (at + 1), h (at + 2), h (at + 3))
 
   same_bytes : number_at b at ≡ number_at c at → take 4 (drop at b) ≡ take 4 (drop at c)
   same_bytes e = sym (bytes_back b at sb hb) ∙ ap bytes4 e ∙ bytes_back c at sc hc
 
   same_number : take 4 (drop at b) ≡ take 4 (drop at c) → number_at b at ≡ number_at c at
   same_number e =
-      sym (number_at_lem [] [] (number_at b at) 0 refl (stored-small b sb))
+      sym (number_at_lem [] [] (number_at b at) 0 refl (stored_small b sb))
       ∙ ap (λ (l : List ℕ). number_at (l ++ []) 0) (bytes_back b at sb hb ∙ e ∙ sym (bytes_back c at sc hc))
-      ∙ number_at_lem [] [] (number_at c at) 0 refl (stored-small c sc)
+      ∙ number_at_lem [] [] (number_at c at) 0 refl (stored_small c sc)
 
 -- ---- two blocks whose check holds are equal or differ at three places at the least
 
 module _ (b c : List ℕ) (lb : length b ≡ 512) (lc : length c ≡ 512) (sb : Bytes b) (sc : Bytes c)
     (hb : check_holds b ≡ true) (hc : check_holds c ≡ true) where
-  stored-A : (l : List ℕ) → check_holds l ≡ true → number_at l 504 ≡ (sums 1 0 (take 504 l)).0
+  stored_a : (l : List ℕ) → check_holds l ≡ true → number_at l 504 ≡ (sums 1 0 (take 504 l)).0
   unfolding check_holds
-  stored-A l h =
+  stored_a l h =
       eqb-true (number_at l 504) (sums 1 0 (take 504 l)).0 (and_left _ (eqb (number_at l 508) (sums 1 0 (take 504 l)).1) h)
 
-  stored-B : (l : List ℕ) → check_holds l ≡ true → number_at l 508 ≡ (sums 1 0 (take 504 l)).1
+  stored_b : (l : List ℕ) → check_holds l ≡ true → number_at l 508 ≡ (sums 1 0 (take 504 l)).1
   unfolding check_holds
-  stored-B l h =
+  stored_b l h =
       eqb-true (number_at l 508) (sums 1 0 (take 504 l)).1 (and_right (eqb (number_at l 504) (sums 1 0 (take 504 l)).0) _ h)
 
   -- the places: among the first 504 bytes, in A and in B
-  in-data : ℕ
-  in-data = apart (take 504 b) (take 504 c)
+  in_data : ℕ
+  in_data = apart (take 504 b) (take 504 c)
 
-  in-A : ℕ
-  in-A = apart (take 4 (drop 504 b)) (take 4 (drop 504 c))
+  in_a : ℕ
+  in_a = apart (take 4 (drop 504 b)) (take 4 (drop 504 c))
 
-  in-B : ℕ
-  in-B = apart (take 4 (drop 508 b)) (take 4 (drop 508 c))
+  in_b : ℕ
+  in_b = apart (take 4 (drop 508 b)) (take 4 (drop 508 c))
 
   last : (l : List ℕ) → length l ≡ 512 → drop 4 (drop 504 l) ≡ take 4 (drop 508 l)
   last l h = drop-drop 4 504 l ∙ sym (take_all 4 (drop 508 l) (omega (arith, length-drop 508 l)))
 
-  parts : apart b c ≡ in-data + (in-A + in-B)
-  unfolding in-data in-A in-B
+  parts : apart b c ≡ in_data + (in_a + in_b)
+  unfolding in_data in_a in_b
   parts =
       apart_split 504 b c
       ∙ ap (λ (n : ℕ). apart (take 504 b) (take 504 c) + n)
@@ -111,29 +111,29 @@ module _ (b c : List ℕ) (lb : length b ≡ 512) (lc : length c ≡ 512) (sb : 
       length-take-le 4 (drop at b) (omega (arith, length-drop at b))
       ∙ sym (length-take-le 4 (drop at c) (omega (arith, length-drop at c)))
 
-  A-kept : in-A ≡ 0 → (sums 1 0 (take 504 b)).0 ≡ (sums 1 0 (take 504 c)).0
-  unfolding in-A
+  A-kept : in_a ≡ 0 → (sums 1 0 (take 504 b)).0 ≡ (sums 1 0 (take 504 c)).0
+  unfolding in_a
   A-kept e =
-      sym (stored-A b hb)
+      sym (stored_a b hb)
       ∙ same_number b c 504 sb sc (omega arith) (omega arith)
       (apart_none (take 4 (drop 504 b)) (take 4 (drop 504 c)) (four 504 (lit< tt)) e)
-      ∙ stored-A c hc
+      ∙ stored_a c hc
 
-  B-kept : in-B ≡ 0 → (sums 1 0 (take 504 b)).1 ≡ (sums 1 0 (take 504 c)).1
-  unfolding in-B
+  B-kept : in_b ≡ 0 → (sums 1 0 (take 504 b)).1 ≡ (sums 1 0 (take 504 c)).1
+  unfolding in_b
   B-kept e =
-      sym (stored-B b hb)
+      sym (stored_b b hb)
       ∙ same_number b c 508 sb sc (omega arith) (omega arith)
       (apart_none (take 4 (drop 508 b)) (take 4 (drop 508 c)) (four 508 (lit< tt)) e)
-      ∙ stored-B c hc
+      ∙ stored_b c hc
 
   -- no change among the first 504 bytes: A and B are the same, and so are their bytes
-  data-kept : in-data ≡ 0 → b ≡ c
-  unfolding in-data in-A in-B
-  data-kept e =
+  data_kept : in_data ≡ 0 → b ≡ c
+  unfolding in_data in_a in_b
+  data_kept e =
       let same : take 504 b ≡ take 504 c = apart_none (take 504 b) (take 504 c) (long b lb ∙ sym (long c lc)) e in
-      let a : number_at b 504 ≡ number_at c 504 = stored-A b hb ∙ ap (λ (l : List ℕ). (sums 1 0 l).0) same ∙ sym (stored-A c hc) in
-      let z : number_at b 508 ≡ number_at c 508 = stored-B b hb ∙ ap (λ (l : List ℕ). (sums 1 0 l).1) same ∙ sym (stored-B c hc) in
+      let a : number_at b 504 ≡ number_at c 504 = stored_a b hb ∙ ap (λ (l : List ℕ). (sums 1 0 l).0) same ∙ sym (stored_a c hc) in
+      let z : number_at b 508 ≡ number_at c 508 = stored_b b hb ∙ ap (λ (l : List ℕ). (sums 1 0 l).1) same ∙ sym (stored_b c hc) in
       sym (take-append-drop 504 b)
       ∙ ap₂ ◌++◌ same
       (sym (take-append-drop 4 (drop 504 b))
@@ -143,47 +143,47 @@ module _ (b c : List ℕ) (lb : length b ≡ 512) (lc : length c ≡ 512) (sb : 
       ∙ take-append-drop 504 c
 
   -- one change there moves both sums, and only one of the stored numbers could follow
-  one-in-data : in-data ≡ 1 → in-A + in-B ≤ 1 → ⊥
-  unfolding in-data
-  one-in-data e few =
+  one_in_data : in_data ≡ 1 → in_a + in_b ≤ 1 → ⊥
+  unfolding in_data
+  one_in_data e few =
       let m = moved (take 504 b) (take 504 c) (long b lb ∙ sym (long c lc)) (bytes_take 504 b sb) (bytes_take 504 c sc) e in
       ⊎_elim
-      (λ (p : in-A < 1). A-moves (take 504 b) (take 504 c) (long b lb ∙ sym (long c lc)) (omega (arith, long b lb)) m
+      (λ (p : in_a < 1). A-moves (take 504 b) (take 504 c) (long b lb ∙ sym (long c lc)) (omega (arith, long b lb)) m
       (A-kept (omega arith)))
-      (λ (p : 1 ≤ in-A). B-moves (take 504 b) (take 504 c) (long b lb ∙ sym (long c lc)) (omega (arith, long b lb)) m
-      (B-kept (omega arith))) (order in-A 1)
+      (λ (p : 1 ≤ in_a). B-moves (take 504 b) (take 504 c) (long b lb ∙ sym (long c lc)) (omega (arith, long b lb)) m
+      (B-kept (omega arith))) (order in_a 1)
 
   -- two changes there move one of the sums, and no stored number could follow
-  two-in-data : in-data ≡ 2 → in-A ≡ 0 → in-B ≡ 0 → ⊥
-  unfolding in-data
-  two-in-data e ea eb =
-      one-moves (take 504 b) (take 504 c) (long b lb ∙ sym (long c lc)) (omega (arith, long b lb))
+  two_in_data : in_data ≡ 2 → in_a ≡ 0 → in_b ≡ 0 → ⊥
+  unfolding in_data
+  two_in_data e ea eb =
+      one_moves (take 504 b) (take 504 c) (long b lb ∙ sym (long c lc)) (omega (arith, long b lb))
       (twice (take 504 b) (take 504 c) (long b lb ∙ sym (long c lc)) (bytes_take 504 b sb) (bytes_take 504 c sc) e) (A-kept ea)
       (B-kept eb)
 
-  pub equal-or-three : apart b c ≤ 2 → b ≡ c
-  equal-or-three few = by in-data refl
+  pub equal_or_three : apart b c ≤ 2 → b ≡ c
+  equal_or_three few = by in_data refl
     where
-      by : (k : ℕ) → in-data ≡ k → b ≡ c
-      by zero e = data-kept e
-      by (suc zero) e = absurd (one-in-data e (omega (arith, parts)))
-      by (suc (suc zero)) e = absurd (two-in-data e (omega (arith, parts)) (omega (arith, parts)))
+      by : (k : ℕ) → in_data ≡ k → b ≡ c
+      by zero e = data_kept e
+      by (suc zero) e = absurd (one_in_data e (omega (arith, parts)))
+      by (suc (suc zero)) e = absurd (two_in_data e (omega (arith, parts)) (omega (arith, parts)))
       by (suc (suc (suc k))) e = absurd (omega (arith, parts))
 
 -- ---- a sealed block
 
 module _ (sheet place : ℕ) (payload : List ℕ) (fits : Payload payload) where
-  long-sealed : length (sealed sheet place payload) ≡ 512
-  long-sealed = sealed-length sheet place payload fits.whole
+  long_sealed : length (sealed sheet place payload) ≡ 512
+  long_sealed = sealed_length sheet place payload fits.whole
 
   pub front_bytes : Bytes (front sheet place payload)
   front_bytes =
       bytes_append (bytes4 sheet ++ bytes4 place) payload
       (bytes_append (bytes4 sheet) (bytes4 place) (bytes_stored sheet) (bytes_stored place)) fits.small
 
-  sealed-bytes : Bytes (sealed sheet place payload)
+  sealed_bytes : Bytes (sealed sheet place payload)
   unfolding sealed
-  sealed-bytes =
+  sealed_bytes =
       let A : ℕ = (sums 1 0 (front sheet place payload)).0 in
       let B : ℕ = (sums 1 0 (front sheet place payload)).1 in
       bytes_append (front sheet place payload ++ bytes4 A) (bytes4 B)
@@ -205,8 +205,8 @@ caught sheet place payload block d =
     let l : List ℕ = sealed sheet place payload in
     let fits = d.sealable in
     let same : block ≡ l =
-    equal-or-three block l d.whole (long-sealed sheet place payload fits) d.small
-    (sealed-bytes sheet place payload fits) h (check-sealed sheet place payload fits.whole) d.few in
+    equal_or_three block l d.whole (long_sealed sheet place payload fits) d.small
+    (sealed_bytes sheet place payload fits) h (check_sealed sheet place payload fits.whole) d.few in
     omega (arith, d.some, ap (λ (b : List ℕ). apart b l) same, apart_self l)
 
 pub one_or_two_refused : OneOrTwoRefused
@@ -226,12 +226,12 @@ one_refused sheet place payload block fits l s one =
 pub other_byte_refused : OtherByteRefused
 other_byte_refused sheet place payload i a fits hi ha other =
     let l : List ℕ = sealed sheet place payload in
-    let long : length l ≡ 512 = long-sealed sheet place payload fits in
+    let long : length l ≡ 512 = long_sealed sheet place payload fits in
     one_or_two_refused sheet place payload (set l i a)
     (record {
       sealable = fits;
       whole = length-set l i a ∙ long;
-      small = bytes_set l i a (sealed-bytes sheet place payload fits) ha;
+      small = bytes_set l i a (sealed_bytes sheet place payload fits) ha;
       some = changed sheet place payload fits (set l i a) i (length-set l i a)
           (λ e. other (sym (get_or-set_same l i a 0 (omega arith)) ∙ e));
       few = omega (arith, apart_set l l i a, apart_self l);
@@ -242,8 +242,8 @@ trade_refused sheet place payload i fits hi unequal =
     let l : List ℕ = sealed sheet place payload in
     let x : ℕ = get_or l i 0 in
     let y : ℕ = get_or l (i + 1) 0 in
-    let long : length l ≡ 512 = long-sealed sheet place payload fits in
-    let small = sealed-bytes sheet place payload fits in
+    let long : length l ≡ 512 = long_sealed sheet place payload fits in
+    let small = sealed_bytes sheet place payload fits in
     let long-once : length (set l i y) ≡ length l = length-set l i y in
     let long-twice : length (traded l i) ≡ length l = length-set (set l i y) (i + 1) x ∙ long-once in
     one_or_two_refused sheet place payload (traded l i)

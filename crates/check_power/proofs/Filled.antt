@@ -73,21 +73,21 @@ module _ (vs : List ℕ) (long : length vs ≡ 504) (small : Bytes vs) where
   B : ℕ
   B = (sums 1 0 vs).1
 
-  no-total : total us ≡ 0
+  no_total : total us ≡ 0
   unfolding us total
-  no-total = refl
+  no_total = refl
 
-  no-weight : weighted us ≡ 0
+  no_weight : weighted us ≡ 0
   unfolding us weighted
-  no-weight = refl
+  no_weight = refl
 
-  zeros-long : length us ≡ 504
+  zeros_long : length us ≡ 504
   unfolding us
-  zeros-long = refl
+  zeros_long = refl
 
-  zeros-small : Bytes us
+  zeros_small : Bytes us
   unfolding us
-  zeros-small = zeros 504
+  zeros_small = zeros 504
     where
       zeros : (n : ℕ) → Bytes (replicate n 0)
       zeros zero i = lit< tt
@@ -102,11 +102,11 @@ module _ (vs : List ℕ) (long : length vs ≡ 504) (small : Bytes vs) where
   one : Moved us vs → 2 ≤ apart (replicate 4 0) (bytes4 A) + apart (replicate 4 0) (bytes4 B)
   unfolding B
   one m =
-      let a = A-there (omega (arith, m.in_total, no-total, m.y_byte)) in
+      let a = A-there (omega (arith, m.in_total, no_total, m.y_byte)) in
       let b : 1 ≤ apart (replicate 4 0) (bytes4 (sums 1 0 vs).1) =
       not_none (sums 1 0 vs).1 (omega (arith, B-plain vs)) λ z.
-      no_turn (weighted vs) m.w m.x m.y (omega (arith, m.w_high, zeros-long)) m.y_byte
-      (sym m.in_weighted ∙ ap (λ (k : ℕ). k + m.w * m.y) no-weight)
+      no_turn (weighted vs) m.w m.x m.y (omega (arith, m.w_high, zeros_long)) m.y_byte
+      (sym m.in_weighted ∙ ap (λ (k : ℕ). k + m.w * m.y) no_weight)
       (ap (λ (k : ℕ). (k + weighted vs) % 65521) (lengths) ∙ sym (B-plain vs) ∙ z) in
       omega arith
     where
@@ -115,26 +115,26 @@ module _ (vs : List ℕ) (long : length vs ≡ 504) (small : Bytes vs) where
 
   -- two: so is A
   two : Twice us vs → 1 ≤ apart (replicate 4 0) (bytes4 A)
-  two m = A-there (omega (arith, m.in_total, no-total, m.y_byte, m.y'_byte))
+  two m = A-there (omega (arith, m.in_total, no_total, m.y_byte, m.y'_byte))
 
   -- none
-  none-there : us ≡ vs → apart (replicate 4 0) (bytes4 A) + apart (replicate 4 0) (bytes4 B) ≡ 3
+  none_there : us ≡ vs → apart (replicate 4 0) (bytes4 A) + apart (replicate 4 0) (bytes4 B) ≡ 3
   unfolding A B us
-  none-there same =
+  none_there same =
       ap (λ (l : List ℕ). apart (replicate 4 0) (bytes4 (sums 1 0 l).0) + apart (replicate 4 0) (bytes4 (sums 1 0 l).1))
       (sym same)
       ∙ sums_of_zeros
 
-  three-there : 3 ≤ apart us vs + apart (replicate 8 0) (bytes4 A ++ bytes4 B)
-  three-there = by (apart us vs) refl
+  three_there : 3 ≤ apart us vs + apart (replicate 8 0) (bytes4 A ++ bytes4 B)
+  three_there = by (apart us vs) refl
     where
       same-long : length us ≡ length vs
-      same-long = zeros-long ∙ sym long
+      same-long = zeros_long ∙ sym long
 
       by : (k : ℕ) → apart us vs ≡ k → 3 ≤ k + apart (replicate 8 0) (bytes4 A ++ bytes4 B)
-      by zero e = omega (arith, two_numbers A B, none-there (apart_none us vs same-long e))
-      by (suc zero) e = omega (arith, two_numbers A B, one (moved us vs same-long zeros-small small e))
-      by (suc (suc zero)) e = omega (arith, two_numbers A B, two (twice us vs same-long zeros-small small e))
+      by zero e = omega (arith, two_numbers A B, none_there (apart_none us vs same-long e))
+      by (suc zero) e = omega (arith, two_numbers A B, one (moved us vs same-long zeros_small small e))
+      by (suc (suc zero)) e = omega (arith, two_numbers A B, two (twice us vs same-long zeros_small small e))
       by (suc (suc (suc k))) e = omega arith
 
 -- ---- a sealed block
@@ -155,7 +155,7 @@ zeros_apart sheet place payload fits =
       ap (apart (replicate 504 0)) (take_at vs stored 504 long),
       ap (λ (l : List ℕ). apart (replicate 8 0) (drop 504 l)) whole,
       ap (apart (replicate 8 0)) (drop_at vs stored 504 long),
-      three-there vs long (front_bytes sheet place payload fits),
+      three_there vs long (front_bytes sheet place payload fits),
     )
   where
     front_long : (sheet place : ℕ) (payload : List ℕ) → length payload ≡ 496 → length (front sheet place payload) ≡ 504

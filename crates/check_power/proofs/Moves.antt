@@ -90,9 +90,9 @@ module _ (x y : ℕ) (us vs : List ℕ) (long : length us ≡ length vs) where
     in_weighted = omega (arith, ap (λ (n : ℕ). suc (length us) * n) same, weight, m.in_weighted);
   }
 
-  moved-first : us ≡ vs → x < 256 → y < 256 → (x ≡ y → ⊥) → Moved (x ∷ us) (y ∷ vs)
+  moved_first : us ≡ vs → x < 256 → y < 256 → (x ≡ y → ⊥) → Moved (x ∷ us) (y ∷ vs)
   unfolding total weighted
-  moved-first rest hx hy d = record {
+  moved_first rest hx hy d = record {
     x = x;
     y = y;
     w = suc (length us);
@@ -105,9 +105,9 @@ module _ (x y : ℕ) (us vs : List ℕ) (long : length us ≡ length vs) where
     in_weighted = omega (arith, ap weighted rest, weight);
   }
 
-  twice-on : x ≡ y → Twice us vs → Twice (x ∷ us) (y ∷ vs)
+  twice_on : x ≡ y → Twice us vs → Twice (x ∷ us) (y ∷ vs)
   unfolding total weighted
-  twice-on same m = record {
+  twice_on same m = record {
     x = m.x;
     y = m.y;
     x' = m.x';
@@ -125,9 +125,9 @@ module _ (x y : ℕ) (us vs : List ℕ) (long : length us ≡ length vs) where
     in_weighted = omega (arith, ap (λ (n : ℕ). suc (length us) * n) same, weight, m.in_weighted);
   }
 
-  twice-first : Moved us vs → x < 256 → y < 256 → (x ≡ y → ⊥) → Twice (x ∷ us) (y ∷ vs)
+  twice_first : Moved us vs → x < 256 → y < 256 → (x ≡ y → ⊥) → Twice (x ∷ us) (y ∷ vs)
   unfolding total weighted
-  twice-first m hx hy d =
+  twice_first m hx hy d =
       let e : ℕ = suc (length us) - m.w in
       let all : suc (length us) ≡ m.w + e = omega (arith, m.w_high) in
       record {
@@ -162,7 +162,7 @@ moved (x ∷ us) (y ∷ vs) l su sv e =
     by : (r : Bool) → eqb x y ≡ r → cond r 0 1 + apart us vs ≡ 1 → (apart us vs ≡ 1 → Moved us vs) → Moved (x ∷ us) (y ∷ vs)
     by true p e next = moved_on x y us vs (omega arith) (eqb-true x y p) (next (omega arith))
     by false p e next =
-        moved-first x y us vs (omega arith) (apart_none us vs (omega arith) (omega arith)) (su 0) (sv 0) (eqb-false x y p)
+        moved_first x y us vs (omega arith) (apart_none us vs (omega arith) (omega arith)) (su 0) (sv 0) (eqb-false x y p)
 
 pub twice : (us vs : List ℕ) → length us ≡ length vs → Bytes us → Bytes vs → apart us vs ≡ 2 → Twice us vs
 unfolding apart
@@ -172,9 +172,9 @@ twice (x ∷ us) (y ∷ vs) l su sv e =
     by (eqb x y) refl e (λ k. twice us vs (omega arith) (rest_bytes x us su) (rest_bytes y vs sv) k)
   where
     by : (r : Bool) → eqb x y ≡ r → cond r 0 1 + apart us vs ≡ 2 → (apart us vs ≡ 2 → Twice us vs) → Twice (x ∷ us) (y ∷ vs)
-    by true p e next = twice-on x y us vs (omega arith) (eqb-true x y p) (next (omega arith))
+    by true p e next = twice_on x y us vs (omega arith) (eqb-true x y p) (next (omega arith))
     by false p e next =
-        twice-first x y us vs (omega arith) (moved us vs (omega arith) (rest_bytes x us su) (rest_bytes y vs sv) (omega arith))
+        twice_first x y us vs (omega arith) (moved us vs (omega arith) (rest_bytes x us su) (rest_bytes y vs sv) (omega arith))
         (su 0) (sv 0) (eqb-false x y p)
 
 -- ---- what that does to A and B
@@ -205,22 +205,22 @@ module _ (us vs : List ℕ) (long : length us ≡ length vs) (short : length us 
       other_a (total us) (total vs) m.x m.y m.x_byte m.y_byte m.differ m.in_total
       (sym (A-plain us) ∙ same ∙ A-plain vs)
 
-  weighted-moves : (w x y : ℕ) → 0 < w → w ≤ 504 → x < 256 → y < 256 → (x ≡ y → ⊥) → weighted us + w * y ≡ weighted vs + w * x
+  weighted_moves : (w x y : ℕ) → 0 < w → w ≤ 504 → x < 256 → y < 256 → (x ≡ y → ⊥) → weighted us + w * y ≡ weighted vs + w * x
       → (sums 1 0 us).1 ≡ (sums 1 0 vs).1 → ⊥
-  weighted-moves w x y hw hw' hx hy d e same =
+  weighted_moves w x y hw hw' hx hy d e same =
       unequal_remainders (0 + length us * 1 + weighted us) (0 + length vs * 1 + weighted vs) w x y hw hw' hx hy d
       (omega (arith, lengths, e)) (sym (B-plain us) ∙ same ∙ B-plain vs)
 
   pub B-moves : Moved us vs → (sums 1 0 us).1 ≡ (sums 1 0 vs).1 → ⊥
   B-moves m same =
-      weighted-moves m.w m.x m.y m.w_low (omega (arith, m.w_high)) m.x_byte m.y_byte m.differ
+      weighted_moves m.w m.x m.y m.w_low (omega (arith, m.w_high)) m.x_byte m.y_byte m.differ
       m.in_weighted same
 
-  pub one-moves : Twice us vs → (sums 1 0 us).0 ≡ (sums 1 0 vs).0 → (sums 1 0 us).1 ≡ (sums 1 0 vs).1 → ⊥
-  one-moves m same-a same-b =
+  pub one_moves : Twice us vs → (sums 1 0 us).0 ≡ (sums 1 0 vs).0 → (sums 1 0 us).1 ≡ (sums 1 0 vs).1 → ⊥
+  one_moves m same-a same-b =
       let s : m.x + m.x' ≡ m.y + m.y' =
       same_a (total us) (total vs) (m.x + m.x') (m.y + m.y') (omega (arith, m.x_byte, m.x'_byte))
       (omega (arith, m.y_byte, m.y'_byte)) m.in_total
       (sym (A-plain us) ∙ same-a ∙ A-plain vs) in
-      weighted-moves m.e m.x m.y m.e_low (omega (arith, m.e_high)) m.x_byte m.y_byte m.differ
+      weighted_moves m.e m.x m.y m.e_low (omega (arith, m.e_high)) m.x_byte m.y_byte m.differ
       (joined (weighted us) (weighted vs) m.w m.e m.x m.y m.x' m.y' s m.in_weighted) same-b

@@ -7,7 +7,7 @@ use Prim.Native.Nat.{ℕ, ◌<◌}
 use native.Mathlib.Omega.{arith}
 use lib.ListN.{length}
 use Rattle.laws.proofs.Bools.{not_true, clash}
-use Rattle.map_blocks.proofs.Runs.{all-elim}
+use Rattle.map_blocks.proofs.Runs.{all_elim}
 use Rattle.blocks_of_card.specs.Card.{block_of}
 use Rattle.block_seals.specs.Sealed.{sound}
 use Rattle.catalogue_standings.specs.Rows.{refused, first_of}
@@ -22,18 +22,18 @@ use Rattle.check_power.proofs.Caught.{one_or_two_unsound}
 
 module _ (image : List ℕ) (sheet place : ℕ) (payload : List ℕ) (i : ℕ) (inside : i < total_of image)
     (d : Damaged sheet place payload (block_of image i)) where
-  pub frame-fails : framed image ≡ false
+  pub frame_fails : framed image ≡ false
   unfolding framed
-  frame-fails =
+  frame_fails =
       not_true (framed image) λ h.
       clash (sound i (total_of image) (block_of image i))
-      (all-elim (λ k. sound k (total_of image) (block_of image k)) 0 (total_of image) h i (omega arith) (omega arith))
+      (all_elim (λ k. sound k (total_of image) (block_of image k)) 0 (total_of image) h i (omega arith) (omega arith))
       (one_or_two_unsound sheet place payload (block_of image i) d i (total_of image))
 
   verdict : (turned : Bool) (maplen count scratchlen : ℕ) → turned ≡ false → whole_blocks (length image) ≡ true
       → load_verdict turned image maplen count scratchlen ≡ refused 13
   unfolding load_verdict first_of
-  verdict turned maplen count scratchlen t w = rw (t, w, frame-fails)
+  verdict turned maplen count scratchlen t w = rw (t, w, frame_fails)
 
 pub frame_refused : FrameRefused
 frame_refused shape role image map entries scratch sheet place payload i m w inside d =

@@ -5,14 +5,14 @@ use mathlib.Core.Bool.{Bool, true, false, not, ◌||◌, cond}
 use mathlib.Core.List.{List, [], ◌∷◌, ◌++◌}
 use Prim.Native.Nat.{ℕ}
 use native.Mathlib.Omega.{arith}
-use Rattle.map_blocks.proofs.Runs.{all-break}
+use Rattle.map_blocks.proofs.Runs.{all_break}
 use Rattle.catalogue_standings.specs.Rows.{Row, row, first_of, accepted, refused}
 use Rattle.catalogue_standings.specs.Standings.{length_of}
 use Rattle.refusals.specs.Table.{table_of, rows_for, opening, every_place}
 use Rattle.refusals.specs.Table.{absent_row, paused_row, open_row, complete_row, misplaced}
 use Rattle.refusals.specs.Views.{view_on}
-use Rattle.refusals.specs.Effects.{showVerdict, completeVerdict}
-use Rattle.card.proofs.Refusals.{show-refused, complete-refused}
+use Rattle.refusals.specs.Effects.{show_verdict, complete_verdict}
+use Rattle.card.proofs.Refusals.{show_refused, complete_refused}
 use Rattle.card.specs.Calls.{Kept}
 use Rattle.check_power.specs.Sheets.{viewed, block_at, ShowRefused, CompleteRefused}
 use Rattle.check_power.proofs.Caught.{one_or_two_unsound}
@@ -32,28 +32,28 @@ first_behind (r ∷ rows) rest number holds e h = by r.holds e (λ k. first_behi
     by false e next = next e
 
 module _ (turned : Bool) (s : Kept) (sheet : ℕ) where
-  pub show-damaged : ShowRefused turned s sheet
-  unfolding showVerdict table_of rows_for viewed view_on
-  show-damaged t p payload place buffer d before =
+  pub show_damaged : ShowRefused turned s sheet
+  unfolding show_verdict table_of rows_for viewed view_on
+  show_damaged t p payload place buffer d before =
       let v = viewed turned s sheet in
       let unsound : v.sound place ≡ false =
       one_or_two_unsound t p payload (block_at turned s sheet place) d sheet place in
-      show-refused turned s sheet 4 place buffer
+      show_refused turned s sheet 4 place buffer
       (first_behind
       (opening v sheet (absent_row v ∷ paused_row v ∷ open_row v ∷ row 3 (misplaced v place buffer) ∷ []))
       [] 4 (not (v.sound place)) before (ap not unsound))
 
-  pub complete-damaged : CompleteRefused turned s sheet
-  unfolding completeVerdict table_of rows_for viewed view_on
-  complete-damaged t p payload place d inside before =
+  pub complete_damaged : CompleteRefused turned s sheet
+  unfolding complete_verdict table_of rows_for viewed view_on
+  complete_damaged t p payload place d inside before =
       let v = viewed turned s sheet in
       let unsound : v.sound place ≡ false =
       one_or_two_unsound t p payload (block_at turned s sheet place) d sheet place in
       let full : v.blank place ≡ false = never_blank t p payload (block_at turned s sheet place) d in
       let neither : v.blank place || v.sound place ≡ false = rw (full, unsound) in
       let some : every_place v (λ q. v.blank q || v.sound q) ≡ false =
-      all-break (λ q. v.blank q || v.sound q) 0 (length_of v.stands) place (omega arith) (omega arith) neither in
-      complete-refused turned s sheet 4
+      all_break (λ q. v.blank q || v.sound q) 0 (length_of v.stands) place (omega arith) (omega arith) neither in
+      complete_refused turned s sheet 4
       (first_behind (opening v sheet (absent_row v ∷ paused_row v ∷ complete_row v ∷ []))
       (row 9 (not (every_place v (λ q. not (v.blank q)))) ∷ [])
       4 (not (every_place v (λ q. v.blank q || v.sound q))) before (ap not some))

@@ -1,5 +1,5 @@
 -- Damage to a sealed block, and what is claimed of it (document 02, request (i)). The claims are proved in proofs/Caught.antt.
--- They speak of `check_answer`, which is what the exported `check` ensures of its result (`check-contract`,
+-- They speak of `check_answer`, which is what the exported `check` ensures of its result (`check_contract`,
 -- proofs/Contracts.antt of the crate block). "It holds for
 -- all sheets, places and payloads": a sheet and a place are any numbers here, those of 32 bits among them.
 -- Assumes nothing.

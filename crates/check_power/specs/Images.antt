@@ -13,7 +13,7 @@ use Rattle.card.specs.declared.Shape.{Shape}
 use Rattle.roles.specs.Roles as roles
 use Rattle.roles.specs.Roles.{may}
 use Rattle.card.specs.Calls.{told}
-use Rattle.card.specs.Ends.{loadEnd}
+use Rattle.card.specs.Ends.{load_end}
 use Rattle.check_power.specs.Damage.{Damaged}
 
 abbrev pub FrameRefused : Type 0
@@ -22,7 +22,7 @@ FrameRefused =
     → (sheet place : ℕ) (payload : List ℕ) (i : ℕ)
     → may role roles.load ≡ true
     → whole_blocks (length image) ≡ true → i < total_of image → Damaged sheet place payload (block_of image i)
-    → ((loadEnd shape role image map entries scratch).outcome ≡ told shape (Refused 13))
-    × ((loadEnd shape role image map entries scratch).map ≡ map)
-    × ((loadEnd shape role image map entries scratch).entries ≡ entries)
-    × ((loadEnd shape role image map entries scratch).beside.scratch ≡ replicate (length scratch) 0)
+    → ((load_end shape role image map entries scratch).outcome ≡ told shape (Refused 13))
+    × ((load_end shape role image map entries scratch).map ≡ map)
+    × ((load_end shape role image map entries scratch).entries ≡ entries)
+    × ((load_end shape role image map entries scratch).beside.scratch ≡ replicate (length scratch) 0)

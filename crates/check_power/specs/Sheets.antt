@@ -10,7 +10,7 @@ use Rattle.catalogue.specs.Entries.{entry_at}
 use Rattle.blocks_of_card.specs.Card.{block_of}
 use Rattle.refusals.specs.Table.{View, opening, absent_row, paused_row, open_row, complete_row, misplaced}
 use Rattle.refusals.specs.Views.{view_on}
-use Rattle.card.specs.Calls.{Kept, lent_to, told, showOutcome, showBuffer, completeOutcome, completeEntries}
+use Rattle.card.specs.Calls.{Kept, lent_to, told, show_outcome, show_buffer, complete_outcome, complete_entries}
 use Rattle.check_power.specs.Damage.{Damaged}
 
 module _ (turned : Bool) (s : Kept) (sheet : ℕ) where
@@ -28,13 +28,13 @@ module _ (turned : Bool) (s : Kept) (sheet : ℕ) where
       → first_of (opening viewed sheet
       (absent_row viewed ∷ paused_row viewed ∷ open_row viewed ∷ row 3 (misplaced viewed place buffer) ∷ []))
       ≡ accepted
-      → (showOutcome turned s sheet place buffer ≡ told s.shape (Refused 4))
-      × (showBuffer turned s sheet place buffer ≡ buffer)
+      → (show_outcome turned s sheet place buffer ≡ told s.shape (Refused 4))
+      × (show_buffer turned s sheet place buffer ≡ buffer)
 
   abbrev pub CompleteRefused : Type 0
   CompleteRefused =
       (t p : ℕ) (payload : List ℕ) (place : ℕ) → Damaged t p payload (block_at place)
       → place < length_of viewed.stands
       → first_of (opening viewed sheet (absent_row viewed ∷ paused_row viewed ∷ complete_row viewed ∷ [])) ≡ accepted
-      → (completeOutcome turned s sheet ≡ told s.shape (Refused 4))
-      × (completeEntries turned s sheet ≡ s.entries)
+      → (complete_outcome turned s sheet ≡ told s.shape (Refused 4))
+      × (complete_entries turned s sheet ≡ s.entries)

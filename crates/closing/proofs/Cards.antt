@@ -7,7 +7,7 @@ use Rattle.map_blocks.specs.Maps.{in_run}
 use Rattle.catalogue.specs.Entries.{entry_at}
 use Rattle.catalogue.specs.declared.Entry.{Entry}
 use Rattle.closing_moves.specs.Moved.{sourced, moved_from, moved}
-use Rattle.closing_moves.proofs.Moved.{sourced-length, sourced-same, sourced_twice, moved_in, moved_before, moved-after}
+use Rattle.closing_moves.proofs.Moved.{sourced_length, sourced_same, sourced_twice, moved_in, moved_before, moved_after}
 use Rattle.closing_moves.proofs.Moved.{moved_none}
 use Rattle.image_soundness.proofs.Covers.{decide, run_in, in_run_lem, run_out, run_before}
 use Rattle.closing.specs.Closed.{below, source}
@@ -22,9 +22,9 @@ module _ (card : List ℕ) (t : Pick) where
   abbrev tests : Bool → Bool → List ℕ
   tests a b = cond (a && b) (moved card t.at t.start t.length) card
 
-  pub not-up : t.start < t.at → card ≡ moved_card card t
+  pub not_up : t.start < t.at → card ≡ moved_card card t
   unfolding moved_card
-  not-up h = sym (ap (λ (a : Bool). tests a (leb (512 * (t.start + t.length)) (length card))) (lt-leb t.at t.start h))
+  not_up h = sym (ap (λ (a : Bool). tests a (leb (512 * (t.start + t.length)) (length card))) (lt-leb t.at t.start h))
 
   module _ (down : t.at ≤ t.start) where
     pub not-outside : length card < 512 * (t.start + t.length) → card ≡ moved_card card t
@@ -53,13 +53,13 @@ module _ (all : List Entry) where
   abbrev from : Entry → ℕ → ℕ
   from e b = e.start + (b - below all e.start)
 
-  unfoldable pub sourceTo : ℕ → List Entry → ℕ → ℕ
-  sourceTo t [] b = b
-  sourceTo t (e ∷ es) b = cond (over t e b) (from e b) (sourceTo t es b)
+  unfoldable pub source_to : ℕ → List Entry → ℕ → ℕ
+  source_to t [] b = b
+  source_to t (e ∷ es) b = cond (over t e b) (from e b) (source_to t es b)
 
-  over-in : (t : ℕ) (e : Entry) (b : ℕ) → e.start < t → below all e.start ≤ b → b < below all e.start + e.length
+  over_in : (t : ℕ) (e : Entry) (b : ℕ) → e.start < t → below all e.start ≤ b → b < below all e.start + e.length
       → over t e b ≡ true
-  over-in t e b h lo hi =
+  over_in t e b h lo hi =
       and_both (ltb e.start t) (in_run (below all e.start) e.length b) (lt-ltb e.start t h)
       (run_in (below all e.start) e.length b lo hi)
 
@@ -68,8 +68,8 @@ module _ (all : List Entry) where
     lo : below all e.start ≤ b
     hi : b < below all e.start + e.length
 
-  in-over : (t : ℕ) (e : Entry) (b : ℕ) → over t e b ≡ true → Over t e b
-  in-over t e b h =
+  in_over : (t : ℕ) (e : Entry) (b : ℕ) → over t e b ≡ true → Over t e b
+  in_over t e b h =
       let r = in_run_lem (below all e.start) e.length b
       (and_right (ltb e.start t) (in_run (below all e.start) e.length b) h) in
       record {
@@ -79,35 +79,35 @@ module _ (all : List Entry) where
         hi = r.1;
       }
 
-  hit : (t : ℕ) (e : Entry) (es : List Entry) (b : ℕ) → over t e b ≡ true → sourceTo t (e ∷ es) b ≡ from e b
-  unfolding sourceTo
-  hit t e es b h = ap (λ (o : Bool). cond o (from e b) (sourceTo t es b)) h
+  hit : (t : ℕ) (e : Entry) (es : List Entry) (b : ℕ) → over t e b ≡ true → source_to t (e ∷ es) b ≡ from e b
+  unfolding source_to
+  hit t e es b h = ap (λ (o : Bool). cond o (from e b) (source_to t es b)) h
 
-  miss : (t : ℕ) (e : Entry) (es : List Entry) (b : ℕ) → over t e b ≡ false → sourceTo t (e ∷ es) b ≡ sourceTo t es b
-  unfolding sourceTo
-  miss t e es b h = ap (λ (o : Bool). cond o (from e b) (sourceTo t es b)) h
+  miss : (t : ℕ) (e : Entry) (es : List Entry) (b : ℕ) → over t e b ≡ false → source_to t (e ∷ es) b ≡ source_to t es b
+  unfolding source_to
+  miss t e es b h = ap (λ (o : Bool). cond o (from e b) (source_to t es b)) h
 
   -- no extent of the packed ones lies over b
   pub none_over : (t : ℕ) (es : List Entry) (b : ℕ)
-      → ((e : Entry) → Member e es → e.start < t → below all e.start + e.length ≤ b) → sourceTo t es b ≡ b
-  unfolding sourceTo
+      → ((e : Entry) → Member e es → e.start < t → below all e.start + e.length ≤ b) → source_to t es b ≡ b
+  unfolding source_to
   none_over t [] b h = refl
   none_over t (e ∷ es) b h =
       ⊎_elim
-      (λ (o : over t e b ≡ true). let k = in-over t e b o in absurd (omega (arith, h e (inl refl) k.before, k.hi)))
+      (λ (o : over t e b ≡ true). let k = in_over t e b o in absurd (omega (arith, h e (inl refl) k.before, k.hi)))
       (λ (o : over t e b ≡ false). miss t e es b o ∙ none_over t es b (λ x m. h x (inr m)))
       (decide (over t e b))
 
-  pub at_first : (es : List Entry) (b : ℕ) → sourceTo 0 es b ≡ b
+  pub at_first : (es : List Entry) (b : ℕ) → source_to 0 es b ≡ b
   at_first es b = none_over 0 es b (λ e m l. absurd (omega arith))
 
-  pub beyond : (t b : ℕ) → below all t ≤ b → sourceTo t all b ≡ b
+  pub beyond : (t b : ℕ) → below all t ≤ b → source_to t all b ≡ b
   beyond t b h = none_over t all b (λ e m l. omega (arith, below_adds all e t m l))
 
   -- all extents are packed
   pub at_last : (t : ℕ) (es : List Entry) (b : ℕ) → ((e : Entry) → Member e es → 1 ≤ e.length → e.start < t)
-      → sourceTo t es b ≡ source all es b
-  unfolding sourceTo source
+      → source_to t es b ≡ source all es b
+  unfolding source_to source
   at_last t [] b h = refl
   at_last t (e ∷ es) b h =
       ap₂ (λ (o : Bool) (r : ℕ). cond o (from e b) r)
@@ -156,15 +156,15 @@ module _ (all : List Entry) where
     -- outside of where it lands
     elsewhere : (es : List Entry) → ((e : Entry) → Member e es → Member e all) → (b : ℕ)
         → (b < below all t) ⊎ (below all t + which.length ≤ b)
-        → sourceTo t' es b ≡ sourceTo t es b
-    unfolding sourceTo
+        → source_to t' es b ≡ source_to t es b
+    unfolding source_to
     elsewhere [] sub b o = refl
     elsewhere (e ∷ es) sub b o =
         ⊎_elim
         (λ (h : over t' e b ≡ true).
-        let k = in-over t' e b h in
+        let k = in_over t' e b h in
         ⊎_elim
-        (λ (lt : e.start < t). hit t' e es b h ∙ sym (hit t e es b (over-in t e b lt k.lo k.hi)))
+        (λ (lt : e.start < t). hit t' e es b h ∙ sym (hit t e es b (over_in t e b lt k.lo k.hi)))
         (λ (ge : t ≤ e.start).
         let w = the_one e (sub e (inl refl)) (omega (arith, k.lo, k.hi)) ge k.before in
         let at : below all e.start ≡ below all t = landed e w.0 in
@@ -176,8 +176,8 @@ module _ (all : List Entry) where
         (λ (h : over t' e b ≡ false).
         ⊎_elim
         (λ (g : over t e b ≡ true).
-        let k = in-over t e b g in
-        absurd (clash (over t' e b) (over-in t' e b (omega (arith, k.before, x.waits)) k.lo k.hi) h))
+        let k = in_over t e b g in
+        absurd (clash (over t' e b) (over_in t' e b (omega (arith, k.before, x.waits)) k.lo k.hi) h))
         (λ (g : over t e b ≡ false). miss t' e es b h ∙ elsewhere es (λ y m. sub y (inr m)) b o ∙ sym (miss t e es b g))
         (decide (over t e b)))
         (decide (over t' e b))
@@ -185,11 +185,11 @@ module _ (all : List Entry) where
     -- where it lands
     there : (es : List Entry) → ((e : Entry) → Member e es → Member e all) → Member which es → (b : ℕ) → below all t ≤ b
         → b < below all t + which.length
-        → sourceTo t' es b ≡ which.start + (b - below all t)
+        → source_to t' es b ≡ which.start + (b - below all t)
     there (e ∷ es) sub m b lo hi =
         ⊎_elim
         (λ (h : over t' e b ≡ true).
-        let k = in-over t' e b h in
+        let k = in_over t' e b h in
         ⊎_elim
         (λ (lt : e.start < t). absurd (omega (arith, below_adds all e t (sub e (inl refl)) lt, k.hi)))
         (λ (ge : t ≤ e.start).
@@ -202,27 +202,27 @@ module _ (all : List Entry) where
         let s : e.start ≡ which.start = ap (λ (z : Entry). z.start) i in
         let l : e.length ≡ which.length = ap (λ (z : Entry). z.length) i in
         let at : below all e.start ≡ below all t = landed e s in
-        absurd (clash (over t' e b) (over-in t' e b (omega arith) (omega arith) (omega arith)) h))
+        absurd (clash (over t' e b) (over_in t' e b (omega arith) (omega arith) (omega arith)) h))
         (λ (i : Member which es). miss t' e es b h ∙ there es (λ y m. sub y (inr m)) i b lo hi)
         m)
         (decide (over t' e b))
 
     -- the moves before this one left its blocks alone
-    composed : (b : ℕ) → sourceTo t all (moved_from (below all t) which.start which.length b) ≡ sourceTo t' all b
+    composed : (b : ℕ) → source_to t all (moved_from (below all t) which.start which.length b) ≡ source_to t' all b
     composed b =
         let a : ℕ = below all t in
         let down : below all t ≤ which.start = moves-down all n t p small few gap r x in
         ⊎_elim
         (λ (lo : b < below all t).
-        ap (sourceTo t all) (moved_before a which.start which.length b lo)
+        ap (source_to t all) (moved_before a which.start which.length b lo)
         ∙ sym (elsewhere all (λ y m. m) b (inl lo)))
         (λ (hi : below all t ≤ b).
         ⊎_elim
         (λ (u : b < below all t + which.length).
-        ap (sourceTo t all) (moved_in a which.start which.length b hi u)
+        ap (source_to t all) (moved_in a which.start which.length b hi u)
         ∙ beyond t (which.start + (b - a)) (omega arith) ∙ sym (there all (λ y m. m) member b hi u))
         (λ (u : below all t + which.length ≤ b).
-        ap (sourceTo t all) (moved-after a which.start which.length b u)
+        ap (source_to t all) (moved_after a which.start which.length b u)
         ∙ sym (elsewhere all (λ y m. m) b (inr u)))
         (order b (below all t + which.length)))
         (order b (below all t))
@@ -239,27 +239,27 @@ module _ (all : List Entry) where
         (λ (u : j / 512 < below all t + which.length).
         let e = moved_in (below all t) which.start which.length (j / 512) hi u in omega arith)
         (λ (u : below all t + which.length ≤ j / 512).
-        let e = moved-after (below all t) which.start which.length (j / 512) u in omega arith)
+        let e = moved_after (below all t) which.start which.length (j / 512) u in omega arith)
         (order (j / 512) (below all t + which.length)))
         (order (j / 512) (below all t))
 
     pub next-card : (card : List ℕ) → 512 * n ≤ length card
-        → moved_card (sourced (sourceTo t all) card) r ≡ sourced (sourceTo t' all) card
+        → moved_card (sourced (source_to t all) card) r ≡ sourced (source_to t' all) card
     unfolding moved
     next-card card fits =
         let inside : which.start + which.length ≤ n = p.inside which member in
         let down : below all t ≤ which.start = moves-down all n t p small few gap r x in
-        let c : List ℕ = sourced (sourceTo t all) card in
+        let c : List ℕ = sourced (source_to t all) card in
         let a : r.at ≡ below all t = x.at_same in
-        let s : r.start ≡ which.start = x.its-start in
-        let l : r.length ≡ which.length = x.its-length in
-        sym (moves (sourced (sourceTo t all) card) r (omega arith)
-        (omega (arith, sourced-length card (sourceTo t all))))
-        ∙ ap₂ (λ (y z : ℕ). sourced (moved_from y z r.length) (sourced (sourceTo t all) card)) a s
-        ∙ ap (λ (z : ℕ). sourced (moved_from (below all t) which.start z) (sourced (sourceTo t all) card)) l
-        ∙ sourced_twice card (sourceTo t all) (moved_from (below all t) which.start which.length) (within card fits)
-        ∙ sourced-same card (λ b. sourceTo t all (moved_from (below all t) which.start which.length b)) (sourceTo t' all)
+        let s : r.start ≡ which.start = x.its_start in
+        let l : r.length ≡ which.length = x.its_length in
+        sym (moves (sourced (source_to t all) card) r (omega arith)
+        (omega (arith, sourced_length card (source_to t all))))
+        ∙ ap₂ (λ (y z : ℕ). sourced (moved_from y z r.length) (sourced (source_to t all) card)) a s
+        ∙ ap (λ (z : ℕ). sourced (moved_from (below all t) which.start z) (sourced (source_to t all) card)) l
+        ∙ sourced_twice card (source_to t all) (moved_from (below all t) which.start which.length) (within card fits)
+        ∙ sourced_same card (λ b. source_to t all (moved_from (below all t) which.start which.length b)) (source_to t' all)
         composed
 
-  pub last-card : (t : ℕ) (r : Pick) → Last all t r → (card : List ℕ) → moved_card card r ≡ card
-  last-card t r x card = moves_none card r x.no_length
+  pub last_card : (t : ℕ) (r : Pick) → Last all t r → (card : List ℕ) → moved_card card r ≡ card
+  last_card t r x card = moves_none card r x.no_length

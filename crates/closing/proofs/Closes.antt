@@ -9,20 +9,20 @@ use Rattle.catalogue_standings.proofs.Rows.{never_says}
 use Rattle.roles.specs.Roles as names
 use Rattle.roles.specs.Roles.{turned_away}
 use Rattle.image_soundness.specs.Sound.{State, sound}
-use Rattle.image_soundness.specs.Windows.{tally, tested, testedScratch}
+use Rattle.image_soundness.specs.Windows.{tally, tested, tested_scratch}
 use Rattle.image_soundness.specs.declared.Tally.{Tally}
-use Rattle.image_soundness.proofs.Tested.{tested-sound}
-use Rattle.image_soundness.proofs.WhenSound.{sound-to}
+use Rattle.image_soundness.proofs.Tested.{tested_sound}
+use Rattle.image_soundness.proofs.WhenSound.{sound_to}
 use Rattle.image.specs.Table.{save_fits}
-use Rattle.image.proofs.Fitting.{SaveFits, save-fits-to}
+use Rattle.image.proofs.Fitting.{SaveFits, save_fits_to}
 use Rattle.closing.specs.Closed.{first_taken, closed_entries, closed_card, closed_map}
 use Rattle.closing.specs.Table.{close_fits, close_rows, close_verdict}
-use Rattle.closing.specs.Effects.{closeNumber, closeMap, closeEntries, closeCard, closeScratch}
-use Rattle.closing.specs.Rounds.{firstTally, number_by, rounds_for, rounds_at, rounds_entries, rounds_card}
+use Rattle.closing.specs.Effects.{close_number, close_map, close_entries, close_card, close_scratch}
+use Rattle.closing.specs.Rounds.{first_tally, number_by, rounds_for, rounds_at, rounds_entries, rounds_card}
 use Rattle.closing.specs.Rounds.{map_fits, map_after, ClosesBy}
 use Rattle.closing.proofs.Closing.{Made, rounds_close}
 use Rattle.closing.proofs.Kept.{held_fits}
-use Rattle.closing.proofs.Rounded.{entries_none, card-none}
+use Rattle.closing.proofs.Rounded.{entries_none, card_none}
 
 -- what row 1 leaves
 pub record Lengths (n spare c maplen cardlen scratchlen : ℕ) : Type 0 where
@@ -37,7 +37,7 @@ close_fits_to n spare fits c maplen cardlen scratchlen e =
     let b : Bool = eqb cardlen (512 * n) in
     let ab = and_left (a && b) fits e in
     record {
-      saved = save-fits-to n spare c maplen scratchlen (and_left a b ab);
+      saved = save_fits_to n spare c maplen scratchlen (and_left a b ab);
       bytes = eqb-true cardlen (512 * n) (and_right a b ab);
     }
 
@@ -56,22 +56,22 @@ module _ (turned : Bool) (s : State) (fits : Bool) (cardlen scratchlen : ℕ) wh
   abbrev rows : Bool → Bool → Bool → Verdict
   rows t f w = cond t (refused 21) (cond (not f) (refused 1) (cond (not w) (refused 4) accepted))
 
-  verdict-is : close_verdict turned s fits cardlen scratchlen ≡ rows turned fit (sound s)
+  verdict_is : close_verdict turned s fits cardlen scratchlen ≡ rows turned fit (sound s)
   unfolding close_verdict close_rows first_of
-  verdict-is = refl
+  verdict_is = refl
 
-  pub verdict-21 : turned ≡ true → close_verdict turned s fits cardlen scratchlen ≡ refused 21
-  verdict-21 t = verdict-is ∙ ap (λ (x : Bool). rows x fit (sound s)) t
+  pub verdict_21 : turned ≡ true → close_verdict turned s fits cardlen scratchlen ≡ refused 21
+  verdict_21 t = verdict_is ∙ ap (λ (x : Bool). rows x fit (sound s)) t
 
   module _ (t : turned ≡ false) where
     pub verdict-1 : fit ≡ false → close_verdict turned s fits cardlen scratchlen ≡ refused 1
-    verdict-1 e = verdict-is ∙ ap₂ (λ (x f : Bool). rows x f (sound s)) t e
+    verdict-1 e = verdict_is ∙ ap₂ (λ (x f : Bool). rows x f (sound s)) t e
 
     pub verdict-4 : fit ≡ true → sound s ≡ false → close_verdict turned s fits cardlen scratchlen ≡ refused 4
-    verdict-4 e w = verdict-is ∙ ap (λ (x : Bool). rows x fit (sound s)) t ∙ ap₂ (rows false) e w
+    verdict-4 e w = verdict_is ∙ ap (λ (x : Bool). rows x fit (sound s)) t ∙ ap₂ (rows false) e w
 
     pub verdict-0 : fit ≡ true → sound s ≡ true → close_verdict turned s fits cardlen scratchlen ≡ accepted
-    verdict-0 e w = verdict-is ∙ ap (λ (x : Bool). rows x fit (sound s)) t ∙ ap₂ (rows false) e w
+    verdict-0 e w = verdict_is ∙ ap (λ (x : Bool). rows x fit (sound s)) t ∙ ap₂ (rows false) e w
 
 -- a refusal has a number
 pub refused_number : (turned : Bool) (s : State) (fits : Bool) (cardlen scratchlen number : ℕ)
@@ -91,7 +91,7 @@ module _ (role n spare : ℕ) (fits : Bool) (map : List ℕ) (entries : List Ent
   row_1 = close_fits n spare fits (length entries) (length map) (length card) (length scratch)
 
   abbrev start : Tally
-  start = firstTally role n spare fits map (length entries) card scratch
+  start = first_tally role n spare fits map (length entries) card scratch
 
   abbrev whole : Bool
   whole = tested map entries scratch n start
@@ -108,7 +108,7 @@ module _ (role n spare : ℕ) (fits : Bool) (map : List ℕ) (entries : List Ent
   abbrev Result : Type 0
   Result = ClosesBy role n spare fits map entries card scratch number (map_after map n last number)
       (rounds_entries entries card times number) (rounds_card entries card times number)
-      (testedScratch map entries scratch n start)
+      (tested_scratch map entries scratch n start)
 
   -- what is said, for a verdict
   said : (v : Verdict) → close_verdict turned state fits (length card) (length scratch) ≡ v
@@ -117,7 +117,7 @@ module _ (role n spare : ℕ) (fits : Bool) (map : List ℕ) (entries : List Ent
       → rounds_entries entries card times number ≡ settle v (closed_entries entries) (λ number. entries)
       → rounds_card entries card times number ≡ settle v (closed_card entries card) (λ number. card)
       → Result
-  unfolding closeNumber closeMap closeEntries closeCard closeScratch testedScratch
+  unfolding close_number close_map close_entries close_card close_scratch tested_scratch
   said v e p q r t = (
     p ∙ ap row_number (sym e),
     q ∙ ap (λ (w : Verdict). settle w (closed_map entries n map) (λ number. map)) (sym e),
@@ -131,9 +131,9 @@ module _ (role n spare : ℕ) (fits : Bool) (map : List ℕ) (entries : List Ent
     not-0 : eqb number 0 ≡ false
     not-0 = ne_eqb number 0 (λ e. omega (arith, is, e))
 
-    no-rounds : times ≡ 0
+    no_rounds : times ≡ 0
     unfolding rounds_for
-    no-rounds = ap (λ (b : Bool). cond b (length entries) 0) not-0
+    no_rounds = ap (λ (b : Bool). cond b (length entries) 0) not-0
 
     same_map : map_after map n last number ≡ map
     unfolding map_after
@@ -141,17 +141,17 @@ module _ (role n spare : ℕ) (fits : Bool) (map : List ℕ) (entries : List Ent
 
     refusal : close_verdict turned state fits (length card) (length scratch) ≡ refused (suc k) → Result
     refusal e = said (refused (suc k)) e is same_map
-        (ap (λ (m : ℕ). rounds_entries entries card m number) no-rounds ∙ entries_none entries card number)
-        (ap (λ (m : ℕ). rounds_card entries card m number) no-rounds ∙ card-none entries card number)
+        (ap (λ (m : ℕ). rounds_entries entries card m number) no_rounds ∙ entries_none entries card number)
+        (ap (λ (m : ℕ). rounds_card entries card m number) no_rounds ∙ card_none entries card number)
 
   -- the number by the rows
-  number-21 : turned ≡ true → number ≡ 21
+  number_21 : turned ≡ true → number ≡ 21
   unfolding number_by
-  number-21 t = ap (λ (a : Bool). cond a 21 (cond start.stop 1 (cond whole 0 4))) t
+  number_21 t = ap (λ (a : Bool). cond a 21 (cond start.stop 1 (cond whole 0 4))) t
 
   module _ (t : turned ≡ false) where
     start-by : start ≡ cond row_1 (tally (n - spare) false) (tally 0 true)
-    unfolding firstTally
+    unfolding first_tally
     start-by = ap (λ (a : Bool). cond a (tally 0 true) (cond row_1 (tally (n - spare) false) (tally 0 true))) t
 
     number_by_lem : number ≡ cond start.stop 1 (cond whole 0 4)
@@ -171,35 +171,35 @@ module _ (role n spare : ℕ) (fits : Bool) (map : List ℕ) (entries : List Ent
       long : Lengths n spare (length entries) (length map) (length card) (length scratch)
       long = close_fits_to n spare fits (length entries) (length map) (length card) (length scratch) f
 
-      whole-sound : whole ≡ sound state
-      whole-sound =
+      whole_sound : whole ≡ sound state
+      whole_sound =
           ap (tested map entries scratch n) start_is
-          ∙ tested-sound state scratch long.saved.shape long.saved.scratch
+          ∙ tested_sound state scratch long.saved.shape long.saved.scratch
 
       number_is : number ≡ cond (sound state) 0 4
       number_is =
-          number_by_lem ∙ ap₂ (λ (s : Tally) (w : Bool). cond s.stop 1 (cond w 0 4)) start_is whole-sound
+          number_by_lem ∙ ap₂ (λ (s : Tally) (w : Bool). cond s.stop 1 (cond w 0 4)) start_is whole_sound
 
       module _ (w : sound state ≡ true) where
         number-0 : number ≡ 0
         number-0 = number_is ∙ ap (λ (b : Bool). cond b 0 4) w
 
-        all-rounds : times ≡ length entries
+        all_rounds : times ≡ length entries
         unfolding rounds_for
-        all-rounds = ap (λ (x : ℕ). cond (eqb x 0) (length entries) 0) number-0
+        all_rounds = ap (λ (x : ℕ). cond (eqb x 0) (length entries) 0) number-0
 
         made : Made entries card
-        made = rounds_close state card (sound-to state w) long.saved.limits.limit long.saved.count.few
+        made = rounds_close state card (sound_to state w) long.saved.limits.limit long.saved.count.few
             (omega (arith, long.bytes))
 
         last-is : last ≡ held entries
-        last-is = ap₂ (rounds_at entries card) all-rounds number-0 ∙ made.ends
+        last-is = ap₂ (rounds_at entries card) all_rounds number-0 ∙ made.ends
 
-        map-fits : map_fits (length map) n (held entries) ≡ true
+        map_fits_lem : map_fits (length map) n (held entries) ≡ true
         unfolding map_fits
-        map-fits =
+        map_fits_lem =
             let l = long.saved.limits in
-            let h : held entries ≤ n = held_fits state (sound-to state w) in
+            let h : held entries ≤ n = held_fits state (sound_to state w) in
             and_both _ (leb (held entries) n)
             (and_both _ (leb n (64 * length map))
             (and_both (leb (length map) 4096) (leb n 262144) (le-leb (length map) 4096 (omega (arith, l.words, l.limit)))
@@ -211,18 +211,18 @@ module _ (role n spare : ℕ) (fits : Bool) (map : List ℕ) (entries : List Ent
         unfolding map_after closed_map
         map_is =
             ap₂ (λ (h x : ℕ). cond (eqb x 0 && map_fits (length map) n h) (first_taken h n (length map)) map) last-is number-0
-            ∙ ap (λ (b : Bool). cond b (first_taken (held entries) n (length map)) map) map-fits
+            ∙ ap (λ (b : Bool). cond b (first_taken (held entries) n (length map)) map) map_fits_lem
 
         acceptance : Result
         acceptance = said accepted (verdict-0 turned state fits (length card) (length scratch) t f w) number-0 map_is
-            (ap₂ (rounds_entries entries card) all-rounds number-0 ∙ made.entries)
-            (ap₂ (rounds_card entries card) all-rounds number-0 ∙ made.cards)
+            (ap₂ (rounds_entries entries card) all_rounds number-0 ∙ made.entries)
+            (ap₂ (rounds_card entries card) all_rounds number-0 ∙ made.cards)
 
   pub closes : Result
   closes = by turned row_1 (sound state) refl refl refl
     where
       by : (t f w : Bool) → turned ≡ t → row_1 ≡ f → sound state ≡ w → Result
-      by true f w a e d = refusal 20 (number-21 a) (verdict-21 turned state fits (length card) (length scratch) a)
+      by true f w a e d = refusal 20 (number_21 a) (verdict_21 turned state fits (length card) (length scratch) a)
       by false false w a e d = refusal 0 (number-1 a e) (verdict-1 turned state fits (length card) (length scratch) a e)
       by false true false a e d =
           refusal 3 (number_is a e ∙ ap (λ (b : Bool). cond b 0 4) d)

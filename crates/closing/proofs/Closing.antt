@@ -5,20 +5,20 @@ use Rattle.std.proofs.Common.{◌≡◌, ℕ, zero, suc, ◌+◌, ◌-◌, ◌*�
 use Rattle.catalogue.specs.Entries.{entry_at, held, slot_at}
 use Rattle.catalogue.specs.declared.Entry.{Entry}
 use Rattle.closing_moves.specs.Moved.{sourced}
-use Rattle.closing_moves.proofs.Moved.{sourced-self, sourced-same}
+use Rattle.closing_moves.proofs.Moved.{sourced_self, sourced_same}
 use Rattle.image_soundness.specs.Sound.{State}
 use Rattle.image_soundness.proofs.WhenSound.{Sound}
 use Rattle.closing.specs.Closed.{below, closed_entries, source, closed_card}
 use Rattle.closing.specs.Rounds.{first_pick, nearest_of, moved_card, sheet_in, restarted, at_after}
 use Rattle.closing.specs.Rounds.{rounds_at, rounds_entries, rounds_card}
 use Rattle.closing.specs.declared.Pick.{Pick}
-use Rattle.closing.proofs.Rounded.{at_none, entries_none, card-none, at_more, entries_more, card-more}
+use Rattle.closing.proofs.Rounded.{at_none, entries_none, card_none, at_more, entries_more, card_more}
 use Rattle.closing.proofs.Below.{below_zero, below_all, waiting, waiting_most, waiting_less, none_waits, waits_none}
 use Rattle.closing.proofs.Members.{at_member}
 use Rattle.closing.proofs.Placing.{placed}
-use Rattle.closing.proofs.Packing.{Placed, up_to, none-packed, all-packed, Gap, first-gap, Next, Last, next-or-last}
+use Rattle.closing.proofs.Packing.{Placed, up_to, none_packed, all_packed, Gap, first_gap, Next, Last, next-or-last}
 use Rattle.closing.proofs.Packing.{moves-down, next-at, next-gap, next-entries, last-entries}
-use Rattle.closing.proofs.Cards.{sourceTo, at_first, at_last, next-card, last-card}
+use Rattle.closing.proofs.Cards.{source_to, at_first, at_last, next-card, last_card}
 
 -- where the moved extents end, if that is a number of 32 bits
 at_moves : (t : Pick) → t.at + t.length < 4294967296 → at_after t ≡ t.at + t.length
@@ -38,18 +38,18 @@ module _ (n : ℕ) (all : List Entry) (card : List ℕ) (p : Placed n all) (smal
     gap : Gap all t
     low : below all t ≤ n
     is_at : rounds_at all card k 0 ≡ below all t
-    is-entries : rounds_entries all card k 0 ≡ map (up_to all t) all
-    is-card : rounds_card all card k 0 ≡ sourced (sourceTo all t all) card
+    is_entries : rounds_entries all card k 0 ≡ map (up_to all t) all
+    is_card : rounds_card all card k 0 ≡ sourced (source_to all t all) card
     few : waiting all t ≤ length all - k
 
-  stage-first : Stage 0
-  stage-first = record {
+  stage_first : Stage 0
+  stage_first = record {
     t = 0;
-    gap = first-gap all;
+    gap = first_gap all;
     low = omega (arith, below_zero all);
     is_at = at_none all card 0 ∙ sym (below_zero all);
-    is-entries = entries_none all card 0 ∙ sym (none-packed all);
-    is-card = card-none all card 0 ∙ sourced-self card (sourceTo all 0 all) (at_first all all);
+    is_entries = entries_none all card 0 ∙ sym (none_packed all);
+    is_card = card_none all card 0 ∙ sourced_self card (source_to all 0 all) (at_first all all);
     few = omega (arith, waiting_most all 0);
   }
 
@@ -58,7 +58,7 @@ module _ (n : ℕ) (all : List Entry) (card : List ℕ) (p : Placed n all) (smal
     r = nearest_of (map (up_to all s.t) all) (first_pick (below all s.t))
 
     same-pick : nearest_of (rounds_entries all card k 0) (first_pick (rounds_at all card k 0)) ≡ r
-    same-pick = ap₂ (λ (es : List Entry) (a : ℕ). nearest_of es (first_pick a)) s.is-entries s.is_at
+    same-pick = ap₂ (λ (es : List Entry) (a : ℕ). nearest_of es (first_pick a)) s.is_entries s.is_at
 
     at_next : rounds_at all card (suc k) 0 ≡ at_after r
     at_next = at_more k all card 0 ∙ ap at_after same-pick
@@ -67,10 +67,10 @@ module _ (n : ℕ) (all : List Entry) (card : List ℕ) (p : Placed n all) (smal
     packed es q = set es (sheet_in q) (restarted q (slot_at es (sheet_in q)))
 
     entries_next : rounds_entries all card (suc k) 0 ≡ packed (map (up_to all s.t) all) r
-    entries_next = entries_more k all card 0 ∙ ap₂ packed s.is-entries same-pick
+    entries_next = entries_more k all card 0 ∙ ap₂ packed s.is_entries same-pick
 
-    card-next : rounds_card all card (suc k) 0 ≡ moved_card (sourced (sourceTo all s.t all) card) r
-    card-next = card-more k all card 0 ∙ ap₂ moved_card s.is-card same-pick
+    card-next : rounds_card all card (suc k) 0 ≡ moved_card (sourced (source_to all s.t all) card) r
+    card-next = card_more k all card 0 ∙ ap₂ moved_card s.is_card same-pick
 
     one_more : Next all s.t r → Stage (suc k)
     one_more x =
@@ -79,7 +79,7 @@ module _ (n : ℕ) (all : List Entry) (card : List ℕ) (p : Placed n all) (smal
         let down : below all s.t ≤ e.start = moves-down all n s.t p small many s.gap r x in
         let inside : e.start + e.length ≤ n = p.inside e m in
         let a : r.at ≡ below all s.t = x.at_same in
-        let l : r.length ≡ e.length = x.its-length in
+        let l : r.length ≡ e.length = x.its_length in
         let ends : below all (e.start + 1) ≡ below all s.t + e.length =
         next-at all n s.t p small many s.gap r x in
         let less : waiting all (e.start + 1) + 1 ≤ waiting all s.t = waiting_less all e s.t m x.some x.waits in
@@ -89,8 +89,8 @@ module _ (n : ℕ) (all : List Entry) (card : List ℕ) (p : Placed n all) (smal
           gap = next-gap all n s.t p small many s.gap r x;
           low = omega arith;
           is_at = at_next ∙ at_moves r (omega arith) ∙ sum;
-          is-entries = entries_next ∙ next-entries all n s.t p small many s.gap r x;
-          is-card = card-next ∙ next-card all n s.t p small many s.gap r x card fits;
+          is_entries = entries_next ∙ next-entries all n s.t p small many s.gap r x;
+          is_card = card-next ∙ next-card all n s.t p small many s.gap r x card fits;
           few = omega (arith, s.few);
         }
 
@@ -105,8 +105,8 @@ module _ (n : ℕ) (all : List Entry) (card : List ℕ) (p : Placed n all) (smal
           gap = s.gap;
           low = s.low;
           is_at = at_next ∙ at_moves r (omega (arith, s.low)) ∙ sum;
-          is-entries = entries_next ∙ last-entries all n s.t p small many s.gap r x;
-          is-card = card-next ∙ last-card all s.t r x (sourced (sourceTo all s.t all) card);
+          is_entries = entries_next ∙ last-entries all n s.t p small many s.gap r x;
+          is_card = card-next ∙ last_card all s.t r x (sourced (source_to all s.t all) card);
           few = omega arith;
         }
 
@@ -114,7 +114,7 @@ module _ (n : ℕ) (all : List Entry) (card : List ℕ) (p : Placed n all) (smal
     stage-next = ⊎_elim one_more no_more (next-or-last all n s.t p small many s.gap)
 
   stages : (k : ℕ) → Stage k
-  stages zero = stage-first
+  stages zero = stage_first
   stages (suc k) = stage-next k (stages k)
 
   made : Made all card
@@ -125,9 +125,9 @@ module _ (n : ℕ) (all : List Entry) (card : List ℕ) (p : Placed n all) (smal
       let packed : (e : Entry) → _ = none_waits all s.t none in
       record {
         ends = s.is_at ∙ below_all all s.t packed;
-        entries = s.is-entries ∙ all-packed all n s.t p packed;
-        cards = s.is-card
-            ∙ sourced-same card (sourceTo all s.t all) (source all all) (λ b. at_last all s.t all b packed);
+        entries = s.is_entries ∙ all_packed all n s.t p packed;
+        cards = s.is_card
+            ∙ sourced_same card (source_to all s.t all) (source all all) (λ b. at_last all s.t all b packed);
       }
 
 pub rounds_close : (s : State) (card : List ℕ) → Sound s → s.blocks ≤ 262144 → length s.entries ≤ 1024

@@ -7,12 +7,12 @@ use Rattle.laws.proofs.Bools.{clash}
 use Rattle.blocks_of_card.specs.Card.{block_of}
 use Rattle.catalogue.specs.Entries.{held}
 use Rattle.catalogue.specs.declared.Entry.{Entry}
-use Rattle.closing_moves.proofs.Moved.{sourced-length, sourced_block}
+use Rattle.closing_moves.proofs.Moved.{sourced_length, sourced_block}
 use Rattle.image_soundness.proofs.Covers.{decide, run_in, in_run_lem}
 use Rattle.closing.specs.Closed.{below, closed_entry, source, closed_card}
 use Rattle.closing.proofs.Members.{Member, Apart, two_apart}
 use Rattle.closing.proofs.Below.{below_adds}
-use Rattle.closing.proofs.Kept.{closed-inside}
+use Rattle.closing.proofs.Kept.{closed_inside}
 
 module _ (all : List Entry) where
   abbrev lies : Entry → ℕ → Bool
@@ -26,14 +26,14 @@ module _ (all : List Entry) where
   unfolding source
   miss e es b h = ap (λ (o : Bool). cond o (e.start + (b - below all e.start)) (source all es b)) h
 
-  beyond-all : (es : List Entry) → ((e : Entry) → Member e es → Member e all) → (b : ℕ) → held all ≤ b → source all es b ≡ b
+  beyond_all : (es : List Entry) → ((e : Entry) → Member e es → Member e all) → (b : ℕ) → held all ≤ b → source all es b ≡ b
   unfolding source
-  beyond-all [] sub b h = refl
-  beyond-all (e ∷ es) sub b h =
+  beyond_all [] sub b h = refl
+  beyond_all (e ∷ es) sub b h =
       ⊎_elim
       (λ (o : lies e b ≡ true). let k = in_run_lem (below all e.start) e.length b o in
-      absurd (omega (arith, closed-inside all e (sub e (inl refl)), k.1)))
-      (λ (o : lies e b ≡ false). miss e es b o ∙ beyond-all es (λ x m. sub x (inr m)) b h)
+      absurd (omega (arith, closed_inside all e (sub e (inl refl)), k.1)))
+      (λ (o : lies e b ≡ false). miss e es b o ∙ beyond_all es (λ x m. sub x (inr m)) b h)
       (decide (lies e b))
 
   module _ (apart : Apart all) (e : Entry) (member : Member e all) (p : ℕ) (place : p < e.length) where
@@ -81,15 +81,15 @@ module _ (all : List Entry) (card : List ℕ) where
       → block_of (closed_card all card) ((closed_entry all e).start + p) ≡ block_of card (e.start + p)
   unfolding closed_card
   closed_block apart e m p lt fits room =
-      let i : below all e.start + e.length ≤ held all = closed-inside all e m in
+      let i : below all e.start + e.length ≤ held all = closed_inside all e m in
       sourced_block card (source all all) (below all e.start + p) (e.start + p) (source-own all apart e m p lt)
       (omega arith) (omega arith)
 
   -- a block that is free afterwards
-  pub free-block : (b : ℕ) → held all ≤ b → 512 * b + 512 ≤ length card → block_of (closed_card all card) b ≡ block_of card b
+  pub free_block : (b : ℕ) → held all ≤ b → 512 * b + 512 ≤ length card → block_of (closed_card all card) b ≡ block_of card b
   unfolding closed_card
-  free-block b h fits = sourced_block card (source all all) b b (beyond-all all all (λ y m. m) b h) fits fits
+  free_block b h fits = sourced_block card (source all all) b b (beyond_all all all (λ y m. m) b h) fits fits
 
-  pub closed-card-length : length (closed_card all card) ≡ length card
+  pub closed_card_length : length (closed_card all card) ≡ length card
   unfolding closed_card
-  closed-card-length = sourced-length card (source all all)
+  closed_card_length = sourced_length card (source all all)

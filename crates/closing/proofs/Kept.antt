@@ -11,13 +11,13 @@ use Rattle.survey.specs.Survey.{counts_of}
 use Rattle.catalogue.specs.Entries.{held}
 use Rattle.catalogue.specs.declared.Entry.{Entry}
 use Rattle.image_soundness.specs.Sound.{State, coverings, undamaged}
-use Rattle.image_soundness.proofs.Covers.{one, in_run_lem, run_out, run_before, total, both-undamaged, none_undamaged}
-use Rattle.image_soundness.proofs.Covers.{cover-outside, cover-total}
+use Rattle.image_soundness.proofs.Covers.{one, in_run_lem, run_out, run_before, total, both_undamaged, none_undamaged}
+use Rattle.image_soundness.proofs.Covers.{cover_outside, cover_total}
 use Rattle.image_soundness.proofs.WhenSound.{Sound, balance, count_law}
 use Rattle.closing.specs.Closed.{below, closed_entry, closed_entries, closed_map, closed_state}
 use Rattle.closing.proofs.Members.{Member, Off, Apart}
 use Rattle.closing.proofs.Below.{below_zero, below_adds}
-use Rattle.closing.proofs.Moving.{starts-at-0, empty-undamaged, moved-undamaged}
+use Rattle.closing.proofs.Moving.{starts_at_0, empty_undamaged, moved-undamaged}
 use Rattle.closing.proofs.Placing.{member_undamaged, placed}
 
 -- ---- marks, lengths and order
@@ -41,41 +41,41 @@ below_held (x ∷ xs) t = let q : below xs t ≤ held xs = below_held xs t in le
     part-most false = omega arith
 
 module _ (all : List Entry) where
-  pub closed-marks : map (λ e. e.mark) (closed_entries all) ≡ map (λ e. e.mark) all
+  pub closed_marks : map (λ e. e.mark) (closed_entries all) ≡ map (λ e. e.mark) all
   unfolding closed_entries
-  closed-marks = keeps (λ e. e.mark) (closed_entry all) all (λ e. refl)
+  closed_marks = keeps (λ e. e.mark) (closed_entry all) all (λ e. refl)
 
-  pub closed-lengths : map (λ e. e.length) (closed_entries all) ≡ map (λ e. e.length) all
+  pub closed_lengths : map (λ e. e.length) (closed_entries all) ≡ map (λ e. e.length) all
   unfolding closed_entries
-  closed-lengths = keeps (λ e. e.length) (closed_entry all) all (λ e. refl)
+  closed_lengths = keeps (λ e. e.length) (closed_entry all) all (λ e. refl)
 
-  pub closed-held : held (closed_entries all) ≡ held all
+  pub closed_held : held (closed_entries all) ≡ held all
   unfolding closed_entries
-  closed-held = held_map (closed_entry all) all (λ e. refl)
+  closed_held = held_map (closed_entry all) all (λ e. refl)
 
   -- an extent that started before another ends before that starts, or where it starts
-  pub closed-order : (x e : Entry) → Member x all → x.start < e.start
+  pub closed_order : (x e : Entry) → Member x all → x.start < e.start
       → (closed_entry all x).start + x.length ≤ (closed_entry all e).start
-  closed-order x e m h = below_adds all x e.start m h
+  closed_order x e m h = below_adds all x e.start m h
 
-  pub closed-inside : (e : Entry) → Member e all → (closed_entry all e).start + e.length ≤ held all
-  closed-inside e m = omega (arith, below_adds all e (e.start + 1) m (omega arith), below_held all (e.start + 1))
+  pub closed_inside : (e : Entry) → Member e all → (closed_entry all e).start + e.length ≤ held all
+  closed_inside e m = omega (arith, below_adds all e (e.start + 1) m (omega arith), below_held all (e.start + 1))
 
   -- ---- the blocks that are covered
-  map-member : (f : Entry → Entry) (es : List Entry) (P : Entry → Type 0) → ((e : Entry) → Member e es → P (f e))
+  map_member : (f : Entry → Entry) (es : List Entry) (P : Entry → Type 0) → ((e : Entry) → Member e es → P (f e))
       → (y : Entry) → Member y (map f es) → P y
-  map-member f (x ∷ xs) P h y (inl p) = subst P p (h x (inl refl))
-  map-member f (x ∷ xs) P h y (inr m) = map-member f xs P (λ e k. h e (inr k)) y m
+  map_member f (x ∷ xs) P h y (inl p) = subst P p (h x (inl refl))
+  map_member f (x ∷ xs) P h y (inr m) = map_member f xs P (λ e k. h e (inr k)) y m
 
-  apart-closed : (es : List Entry) → ((e : Entry) → Member e es → Member e all) → Apart es → Apart (map (closed_entry all) es)
-  apart-closed [] sub a = tt
-  apart-closed (x ∷ xs) sub a = (
-    map-member (closed_entry all) xs (Off (closed_entry all x)) (λ e m lx le.
+  apart_closed : (es : List Entry) → ((e : Entry) → Member e es → Member e all) → Apart es → Apart (map (closed_entry all) es)
+  apart_closed [] sub a = tt
+  apart_closed (x ∷ xs) sub a = (
+    map_member (closed_entry all) xs (Off (closed_entry all x)) (λ e m lx le.
         ⊎_elim
         (λ (p : x.start + x.length ≤ e.start). inl (below_adds all x e.start (sub x (inl refl)) (omega arith)))
         (λ (p : e.start + e.length ≤ x.start). inr (below_adds all e x.start (sub e (inr m)) (omega arith)))
         (a.0 e m lx le)),
-    apart-closed xs (λ e m. sub e (inr m)) a.1,
+    apart_closed xs (λ e m. sub e (inr m)) a.1,
   )
 
 none_cover : (es : List Entry) (b : ℕ) → ((e : Entry) → Member e es → (b < e.start) ⊎ (e.start + e.length ≤ b))
@@ -155,41 +155,41 @@ module _ (s : State) (p : Sound s) where
   f = free s.map
 
   -- the entries are undamaged afterwards, where the first blocks are taken
-  undamaged-closed : (m : ℕ) (g : ℕ → Bool) → held all ≤ m → ((b : ℕ) → b < held all → g b ≡ false) → (es : List Entry)
+  undamaged_closed : (m : ℕ) (g : ℕ → Bool) → held all ≤ m → ((b : ℕ) → b < held all → g b ≡ false) → (es : List Entry)
       → ((e : Entry) → Member e es → Member e all)
       → undamaged m g (map (closed_entry all) es) ≡ true
-  undamaged-closed m g room taken [] sub = none_undamaged m g
-  undamaged-closed m g room taken (x ∷ xs) sub =
+  undamaged_closed m g room taken [] sub = none_undamaged m g
+  undamaged_closed m g room taken (x ∷ xs) sub =
       let d = member_undamaged n f all p.whole x (sub x (inl refl)) in
-      let i : below all x.start + x.length ≤ held all = closed-inside all x (sub x (inl refl)) in
-      both-undamaged m g (closed_entry all x) (map (closed_entry all) xs)
+      let i : below all x.start + x.length ≤ held all = closed_inside all x (sub x (inl refl)) in
+      both_undamaged m g (closed_entry all x) (map (closed_entry all) xs)
       (⊎_elim
       (λ (z : x.length < 1).
       let l : x.length ≡ 0 = omega arith in
-      empty-undamaged n f x d m (below all x.start) g l (ap (below all) (starts-at-0 n f x d l) ∙ below_zero all))
+      empty_undamaged n f x d m (below all x.start) g l (ap (below all) (starts_at_0 n f x d l) ∙ below_zero all))
       (λ (z : 1 ≤ x.length). moved-undamaged n f x d m (below all x.start) g z (omega arith)
       (λ b lo hi. taken b (omega arith)))
       (order x.length 1))
-      (undamaged-closed m g room taken xs (λ e k. sub e (inr k)))
+      (undamaged_closed m g room taken xs (λ e k. sub e (inr k)))
 
-  pub closed-covers : (b : ℕ) → coverings (closed_entries all) b ≡ one (ltb b (held all))
+  pub closed_covers : (b : ℕ) → coverings (closed_entries all) b ≡ one (ltb b (held all))
   unfolding closed_entries
-  closed-covers b =
-      let a : Apart (map (closed_entry all) all) = apart-closed all all (λ e m. m) (placed s p).apart in
-      let u = undamaged-closed (held all) (λ b. false) (omega arith) (λ b h. refl) all (λ e m. m) in
+  closed_covers b =
+      let a : Apart (map (closed_entry all) all) = apart_closed all all (λ e m. m) (placed s p).apart in
+      let u = undamaged_closed (held all) (λ b. false) (omega arith) (λ b h. refl) all (λ e m. m) in
       let t : total (coverings (map (closed_entry all) all)) (held all) ≡ held all =
-      cover-total (held all) (λ b. false) (map (closed_entry all) all) u ∙ held_map (closed_entry all) all (λ e. refl) in
+      cover_total (held all) (λ b. false) (map (closed_entry all) all) u ∙ held_map (closed_entry all) all (λ e. refl) in
       ⊎_elim
       (λ (lo : b < held all). total_full (coverings (map (closed_entry all) all)) (held all)
       (apart_covers (map (closed_entry all) all) a) t b lo ∙ ap one (sym (lt-ltb b (held all) lo)))
-      (λ (hi : held all ≤ b). cover-outside (held all) (λ b. false) (map (closed_entry all) all) u b hi
+      (λ (hi : held all ≤ b). cover_outside (held all) (λ b. false) (map (closed_entry all) all) u b hi
       ∙ ap one (sym (le-ltb b (held all) hi)))
       (order b (held all))
 
   -- no more blocks than the card has
   pub held_fits : held all ≤ n
   held_fits =
-      let t : total (coverings all) n ≡ held all = cover-total n f all p.whole in
+      let t : total (coverings all) n ≡ held all = cover_total n f all p.whole in
       omega (arith, total_least (coverings all) n (apart_covers all (placed s p).apart))
 
 module _ (s : State) (p : Sound s) (room : s.blocks ≤ 64 * length s.map) where
@@ -199,44 +199,44 @@ module _ (s : State) (p : Sound s) (room : s.blocks ≤ 64 * length s.map) where
   abbrev g : ℕ → Bool
   g = free (closed_map s.entries s.blocks s.map)
 
-  pub closed-free : (b : ℕ) → b < 64 * length s.map → g b ≡ (leb h b && ltb b s.blocks)
+  pub closed_free : (b : ℕ) → b < 64 * length s.map → g b ≡ (leb h b && ltb b s.blocks)
   unfolding closed_map
-  closed-free b l = map_free (λ b. leb h b && ltb b s.blocks) (length s.map) b (omega arith)
+  closed_free b l = map_free (λ b. leb h b && ltb b s.blocks) (length s.map) b (omega arith)
 
-  closed-length : length (closed_map s.entries s.blocks s.map) ≡ length s.map
+  closed_length : length (closed_map s.entries s.blocks s.map) ≡ length s.map
   unfolding closed_map
-  closed-length = map_length (λ b. leb h b && ltb b s.blocks) (length s.map)
+  closed_length = map_length (λ b. leb h b && ltb b s.blocks) (length s.map)
 
-  pub taken-first : (b : ℕ) → b < h → g b ≡ false
-  taken-first b l =
+  pub taken_first : (b : ℕ) → b < h → g b ≡ false
+  taken_first b l =
       let k : h ≤ s.blocks = held_fits s p in
-      closed-free b (omega arith) ∙ ap (λ (t : Bool). t && ltb b s.blocks) (lt-leb h b l)
+      closed_free b (omega arith) ∙ ap (λ (t : Bool). t && ltb b s.blocks) (lt-leb h b l)
 
-  pub free-then : (b : ℕ) → h ≤ b → b < s.blocks → g b ≡ true
-  free-then b l u = closed-free b (omega arith) ∙ ap₂ (λ (t v : Bool). t && v) (le-leb h b l) (lt-ltb b s.blocks u)
+  pub free_then : (b : ℕ) → h ≤ b → b < s.blocks → g b ≡ true
+  free_then b l u = closed_free b (omega arith) ∙ ap₂ (λ (t v : Bool). t && v) (le-leb h b l) (lt-ltb b s.blocks u)
 
-  none-beyond : (b : ℕ) → s.blocks ≤ b → b < 64 * length s.map → g b ≡ false
-  none-beyond b l u = closed-free b u ∙ both (leb h b) (le-ltb b s.blocks l)
+  none_beyond : (b : ℕ) → s.blocks ≤ b → b < 64 * length s.map → g b ≡ false
+  none_beyond b l u = closed_free b u ∙ both (leb h b) (le-ltb b s.blocks l)
     where
       both : (t : Bool) → ltb b s.blocks ≡ false → (t && ltb b s.blocks) ≡ false
       both true e = e
       both false e = refl
 
   covered : (b : ℕ) → b < h → coverings (closed_entries s.entries) b ≡ 1
-  covered b l = closed-covers s p b ∙ ap one (lt-ltb b h l)
+  covered b l = closed_covers s p b ∙ ap one (lt-ltb b h l)
 
   uncovered : (b : ℕ) → h ≤ b → coverings (closed_entries s.entries) b ≡ 0
-  uncovered b l = closed-covers s p b ∙ ap one (le-ltb b h l)
+  uncovered b l = closed_covers s p b ∙ ap one (le-ltb b h l)
 
-  whole-closed : undamaged s.blocks g (closed_entries s.entries) ≡ true
+  whole_closed : undamaged s.blocks g (closed_entries s.entries) ≡ true
   unfolding closed_entries
-  whole-closed = undamaged-closed s p s.blocks g (held_fits s p) taken-first s.entries (λ e m. m)
+  whole_closed = undamaged_closed s p s.blocks g (held_fits s p) taken_first s.entries (λ e m. m)
 
-  balanced-closed : (b : ℕ) → b < s.blocks → coverings (closed_entries s.entries) b + one (g b) ≡ 1
-  balanced-closed b u =
+  balanced_closed : (b : ℕ) → b < s.blocks → coverings (closed_entries s.entries) b + one (g b) ≡ 1
+  balanced_closed b u =
       ⊎_elim
-      (λ (l : b < h). ap₂ ◌+◌ (covered b l) (ap one (taken-first b l)))
-      (λ (l : h ≤ b). ap₂ ◌+◌ (uncovered b l) (ap one (free-then b l u)))
+      (λ (l : b < h). ap₂ ◌+◌ (covered b l) (ap one (taken_first b l)))
+      (λ (l : h ≤ b). ap₂ ◌+◌ (uncovered b l) (ap one (free_then b l u)))
       (order b h)
 
   pub closed_sound : Sound (closed_state s)
@@ -245,22 +245,22 @@ module _ (s : State) (p : Sound s) (room : s.blocks ≤ 64 * length s.map) where
       count_law s.blocks (free s.map) s.entries p.whole
       (λ b u. balance (coverings s.entries b) (free s.map b) (p.disjoint b u) (p.uncovered b u)) in
       let after : held (closed_entries s.entries) + (counts_of g s.blocks).free ≡ s.blocks =
-      count_law s.blocks g (closed_entries s.entries) whole-closed balanced-closed in
-      let same : held (closed_entries s.entries) ≡ h = closed-held s.entries in
+      count_law s.blocks g (closed_entries s.entries) whole_closed balanced_closed in
+      let same : held (closed_entries s.entries) ≡ h = closed_held s.entries in
       record {
-        whole = whole-closed;
-        disjoint = λ b u. omega (arith, balanced-closed b u);
+        whole = whole_closed;
+        disjoint = λ b u. omega (arith, balanced_closed b u);
         uncovered = λ b u. ⊎_elim
-            (λ (l : b < h). taken-first b l ∙ ap (λ (k : ℕ). eqb k 0) (sym (covered b l)))
-            (λ (l : h ≤ b). free-then b l u ∙ ap (λ (k : ℕ). eqb k 0) (sym (uncovered b l)))
+            (λ (l : b < h). taken_first b l ∙ ap (λ (k : ℕ). eqb k 0) (sym (covered b l)))
+            (λ (l : h ≤ b). free_then b l u ∙ ap (λ (k : ℕ). eqb k 0) (sym (uncovered b l)))
             (order b h);
-        beyond = λ b l u. none-beyond b l (omega (arith, closed-length, u));
+        beyond = λ b l u. none_beyond b l (omega (arith, closed_length, u));
         counted = omega (arith, p.counted);
       }
 
   -- as many blocks are free as the free count says, and they are the last ones
-  pub closed-spare : h + s.spare ≡ s.blocks
-  closed-spare =
+  pub closed_spare : h + s.spare ≡ s.blocks
+  closed_spare =
       omega (
         arith,
         p.counted,

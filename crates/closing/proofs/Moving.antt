@@ -4,7 +4,7 @@ use Rattle.std.proofs.Common.{◌≡◌, ℕ, ◌+◌, ◌<◌, ◌≤◌, Bool,
 use borrow.Author.Tests.{lt-leb}
 use Rattle.map_blocks.specs.Blocks.{all}
 use Rattle.laws.proofs.Bools.{and_left, and_both}
-use Rattle.map_blocks.proofs.Runs.{all-intro}
+use Rattle.map_blocks.proofs.Runs.{all_intro}
 use Rattle.catalogue.specs.Entries.{absent_mark, paused_mark, open_mark, complete_mark}
 use Rattle.catalogue.specs.declared.Entry.{Entry}
 use Rattle.catalogue_standings.specs.Standings.{extent_holds, standing_of, is_damaged}
@@ -68,22 +68,22 @@ unfolding extent_holds
 not_holding n f s l z = ap (λ (b : Bool). b && leb (s + l) n && all (λ b. not (f b)) s l) (lt-leb 1 l (omega arith))
 
 module _ (n : ℕ) (f : ℕ → Bool) (e : Entry) (d : is_damaged (standing_of n f e) ≡ false) where
-  abbrev by-marks : Bool → Bool → Bool
-  by-marks = damage (eqb e.mark absent_mark) (eqb e.mark paused_mark) (eqb e.mark open_mark) (eqb e.mark complete_mark)
+  abbrev by_marks_lem : Bool → Bool → Bool
+  by_marks_lem = damage (eqb e.mark absent_mark) (eqb e.mark paused_mark) (eqb e.mark open_mark) (eqb e.mark complete_mark)
 
-  pub starts-at-0 : e.length ≡ 0 → e.start ≡ 0
-  starts-at-0 z =
-      let q : by-marks (zeroed e) false ≡ false = ap (by-marks (zeroed e)) (sym (not_holding n f e.start e.length z))
+  pub starts_at_0 : e.length ≡ 0 → e.start ≡ 0
+  starts_at_0 z =
+      let q : by_marks_lem (zeroed e) false ≡ false = ap (by_marks_lem (zeroed e)) (sym (not_holding n f e.start e.length z))
       ∙ sym (damage_of n f e) ∙ d in
       eqb-true e.start 0 (and_left (eqb e.start 0) (eqb e.length 0)
       (zeroed_then (eqb e.mark absent_mark) (eqb e.mark paused_mark) (eqb e.mark open_mark)
       (eqb e.mark complete_mark) (zeroed e) q))
 
-  pub empty-undamaged : (m s : ℕ) (g : ℕ → Bool) → e.length ≡ 0 → s ≡ 0
+  pub empty_undamaged : (m s : ℕ) (g : ℕ → Bool) → e.length ≡ 0 → s ≡ 0
       → is_damaged (standing_of m g (record { mark = e.mark; start = s; length = e.length })) ≡ false
-  empty-undamaged m s g z h =
+  empty_undamaged m s g z h =
       damage_of m g (record { mark = e.mark; start = s; length = e.length })
-      ∙ ap₂ by-marks (ap (λ (k : ℕ). eqb k 0 && eqb e.length 0) (h ∙ sym (starts-at-0 z)))
+      ∙ ap₂ by_marks_lem (ap (λ (k : ℕ). eqb k 0 && eqb e.length 0) (h ∙ sym (starts_at_0 z)))
       (not_holding m g s e.length z ∙ sym (not_holding n f e.start e.length z))
       ∙ sym (damage_of n f e) ∙ d
 
@@ -98,14 +98,14 @@ module _ (n : ℕ) (f : ℕ → Bool) (e : Entry) (d : is_damaged (standing_of n
     holding =
         and_both (leb 1 e.length && leb (s + e.length) m) (all (λ b. not (g b)) s e.length)
         (and_both (leb 1 e.length) (leb (s + e.length) m) (le-leb 1 e.length some) (le-leb (s + e.length) m inside))
-        (all-intro (λ b. not (g b)) s e.length (λ b p q. ap not (taken b p q)))
+        (all_intro (λ b. not (g b)) s e.length (λ b p q. ap not (taken b p q)))
 
     pub moved-undamaged : is_damaged (standing_of m g (record { mark = e.mark; start = s; length = e.length })) ≡ false
     moved-undamaged =
         let h : Bool = extent_holds n f e.start e.length in
-        let q : by-marks false h ≡ false = ap (λ (z : Bool). by-marks z h) (sym (not-both (eqb e.start 0)))
+        let q : by_marks_lem false h ≡ false = ap (λ (z : Bool). by_marks_lem z h) (sym (not-both (eqb e.start 0)))
         ∙ sym (damage_of n f e) ∙ d in
         damage_of m g (record { mark = e.mark; start = s; length = e.length })
-        ∙ ap₂ by-marks (not-both (eqb s 0)) holding
+        ∙ ap₂ by_marks_lem (not-both (eqb s 0)) holding
         ∙ holds_then (eqb e.mark absent_mark) (eqb e.mark paused_mark) (eqb e.mark open_mark)
         (eqb e.mark complete_mark) h q

@@ -109,15 +109,15 @@ abbrev step_model : Type 0 → Type 0
 step_model X = Pick → Entry → X
 
 module _ (step-out : step_model Pick) where
-  abbrev step-says : Pick → Entry → Pick → Type 0
-  step-says a0 a1 r = r ≡ step-out a0 a1
+  abbrev step_says : Pick → Entry → Pick → Type 0
+  step_says a0 a1 r = r ≡ step-out a0 a1
 
   module _ {M : Type 1} (𝓤 : Ura M) where
     abbrev step-clauses : Clauses 𝓤 step_ended
     step-clauses κs a = record {
       ghost = Unit {0};
       requires = λ _. emp 𝓤;
-      ensures = λ _ r e. fact 𝓤 (step-says a.0 a.1.0 r);
+      ensures = λ _ r e. fact 𝓤 (step_says a.0 a.1.0 r);
     }
 
     module _ (𝓛 : Logic 𝓤) where
@@ -201,7 +201,7 @@ module _ (#step : Name) (step-out : step_model Pick)
     -- the loop goes on from here, and comes to the outcome
     record At : Type 0 where
       at : Point
-      comes-state : after-state at.left at.state ≡ after-state ys x-start
+      comes_state : after-state at.left at.state ≡ after-state ys x-start
 
     abbrev size : At → ℕ
     size x = length x.at.left
@@ -209,7 +209,7 @@ module _ (#step : Name) (step-out : step_model Pick)
     abbrev at_first : At
     at_first = record {
       at = record { past = []; left = ys; state = x-start; is_state = is-x-start; all = refl };
-      comes-state = refl;
+      comes_state = refl;
     }
 
     sums : (x : Point) → length x.past + length x.left ≡ n
@@ -325,7 +325,7 @@ module _ (#step : Name) (step-out : step_model Pick)
 
           fin : Ends x.at
           fin = sym (after-state-nil x.at.state) ∙ ap (λ (l : List Entry). after-state l x.at.state) (sym nil)
-              ∙ x.comes-state
+              ∙ x.comes_state
 
       -- ---- a turn that passes one entry
       module _ (x : At) (e : Entry) (es : List Entry) (cons : x.at.left ≡ e ∷ es) where
@@ -366,10 +366,10 @@ module _ (#step : Name) (step-out : step_model Pick)
         spelled r w is = subst (λ (vs : List Val). Is Pick'.the_row r vs) ((struct.tells Pick'.the_type Pick''.the_laws) r _ is)
             is
 
-        module _ (r : Pick) (is : Is Pick'.the_row r (machine-state r ∷ [])) (heard-el : step-says step-out x.at.state el
+        module _ (r : Pick) (is : Is Pick'.the_row r (machine-state r ∷ [])) (heard-el : step_says step-out x.at.state el
             r) where
-          said : step-says step-out x.at.state e r
-          said = subst (λ (d : Entry). step-says step-out x.at.state d r) el-is heard-el
+          said : step_says step-out x.at.state e r
+          said = subst (λ (d : Entry). step_says step-out x.at.state d r) el-is heard-el
 
           -- where the loop stands after the turn
           abbrev next : At
@@ -381,8 +381,8 @@ module _ (#step : Name) (step-out : step_model Pick)
               is_state = is;
               all = append_snoc x.at.past e es ∙ seam;
             };
-            comes-state = (λ j. after-state es (said j)) ∙ sym (after-state-cons e es x.at.state)
-                ∙ ap (λ (l : List Entry). after-state l x.at.state) (sym cons) ∙ x.comes-state;
+            comes_state = (λ j. after-state es (said j)) ∙ sym (after-state-cons e es x.at.state)
+                ∙ ap (λ (l : List Entry). after-state l x.at.state) (sym cons) ∙ x.comes_state;
           }
 
         more : Sq 𝓛 (I x) (runs C Λ En (turn #step) (any_q (after_turn 𝓤 H (Next x) Left)))
@@ -416,9 +416,9 @@ module _ (#step : Name) (step-out : step_model Pick)
             ⊛ raw (ensured 𝓛 step_ended (step-clauses step-out 𝓤) tt (step_args x.at.state el) tt r)))) (id⊢ 𝓤 _) $
             await ! tt $ pick ! (λ r-step. split ! $ bring ! (1 ∷ []) $
             use1 𝓛 (some (λ (zs-step : Unit {0} × (Unit {0} × Unit {0})). ‵ (lasts step_ended tt (step_args x.at.state el)
-            zs-step) ⊛ raw (fact 𝓤 (step-says step-out x.at.state el r-step)))) (id⊢ 𝓤 _) $
+            zs-step) ⊛ raw (fact 𝓤 (step_says step-out x.at.state el r-step)))) (id⊢ 𝓤 _) $
             pick ! (λ zs-step. split ! $ bring ! (1 ∷ []) $
-            heard ! (step-says step-out x.at.state el r-step) (λ e-step. fparts 𝓛 (_ ∷ _ ∷ []) _ $
+            heard ! (step_says step-out x.at.state el r-step) (λ e-step. fparts 𝓛 (_ ∷ _ ∷ []) _ $
             discard ! (0 ∷ 0 ∷ []) $ split ! $ bring ! (1 ∷ []) $
             peeks ! Pick'.the_row (Is Pick'.the_row) (shows 𝓛 Pick'.the_row) r-step (w-step ∷ []) (λ is-w-step.
             land ! (from ! (stop !)) (store ! 15 refl ((struct.lawful Pick'.the_type Pick''.the_laws 𝓛).typed r-step _

@@ -12,7 +12,7 @@ use Rattle.closing.specs.declared.Pick.{Pick}
 use Rattle.closing.proofs.Below.{below_zero, below_adds, below_same, below_one}
 use Rattle.closing.proofs.Members.{Member, Off, Apart, map_same, map_self, at_member, map_at, set_past, set_one}
 use Rattle.closing.proofs.Members.{starts_after}
-use Rattle.closing.proofs.Picks.{Kept, Found, Picked, nearest-found}
+use Rattle.closing.proofs.Picks.{Kept, Found, Picked, nearest_found}
 
 -- Entries that can be packed in a card of n blocks: their extents lie inside it and apart, and one without blocks starts at 0.
 pub record Placed (n : ℕ) (es : List Entry) : Type 0 where
@@ -25,14 +25,14 @@ module _ (all : List Entry) where
   abbrev pub up_to : ℕ → Entry → Entry
   up_to t e = cond (ltb e.start t) (closed_entry all e) e
 
-  packed-entry : (t : ℕ) (e : Entry) → e.start < t → up_to t e ≡ closed_entry all e
-  packed-entry t e h = ap (λ (b : Bool). cond b (closed_entry all e) e) (lt-ltb e.start t h)
+  packed_entry : (t : ℕ) (e : Entry) → e.start < t → up_to t e ≡ closed_entry all e
+  packed_entry t e h = ap (λ (b : Bool). cond b (closed_entry all e) e) (lt-ltb e.start t h)
 
-  other-entry : (t : ℕ) (e : Entry) → t ≤ e.start → up_to t e ≡ e
-  other-entry t e h = ap (λ (b : Bool). cond b (closed_entry all e) e) (le-ltb e.start t h)
+  other_entry : (t : ℕ) (e : Entry) → t ≤ e.start → up_to t e ≡ e
+  other_entry t e h = ap (λ (b : Bool). cond b (closed_entry all e) e) (le-ltb e.start t h)
 
-  upTo-length : (t : ℕ) (e : Entry) → (up_to t e).length ≡ e.length
-  upTo-length t e = by (ltb e.start t)
+  up_to_length : (t : ℕ) (e : Entry) → (up_to t e).length ≡ e.length
+  up_to_length t e = by (ltb e.start t)
     where
       by : (b : Bool) → (cond b (closed_entry all e) e).length ≡ e.length
       by true = refl
@@ -44,49 +44,49 @@ module _ (all : List Entry) where
       let z : below all e.start ≡ e.start = ap (below all) h ∙ below_zero all ∙ sym h in
       ap (λ (s : ℕ). record { mark = e.mark; start = s; length = e.length }) z
 
-  still-upTo : (t : ℕ) (e : Entry) → e.start ≡ 0 → up_to t e ≡ e
-  still-upTo t e h = by (ltb e.start t)
+  still_up_to : (t : ℕ) (e : Entry) → e.start ≡ 0 → up_to t e ≡ e
+  still_up_to t e h = by (ltb e.start t)
     where
       by : (b : Bool) → cond b (closed_entry all e) e ≡ e
       by true = still e h
       by false = refl
 
-  pub none-packed : map (up_to 0) all ≡ all
-  none-packed = map_self (up_to 0) all (λ e m. other-entry 0 e (omega arith))
+  pub none_packed : map (up_to 0) all ≡ all
+  none_packed = map_self (up_to 0) all (λ e m. other_entry 0 e (omega arith))
 
-  pub all-packed : (n t : ℕ) → Placed n all → ((e : Entry) → Member e all → 1 ≤ e.length → e.start < t)
+  pub all_packed : (n t : ℕ) → Placed n all → ((e : Entry) → Member e all → 1 ≤ e.length → e.start < t)
       → map (up_to t) all ≡ closed_entries all
   unfolding closed_entries
-  all-packed n t p h = map_same (up_to t) (closed_entry all) all (λ e m.
+  all_packed n t p h = map_same (up_to t) (closed_entry all) all (λ e m.
       ⊎_elim
-      (λ (z : e.length < 1). let s = p.empty e m (omega arith) in still-upTo t e s ∙ sym (still e s))
-      (λ (z : 1 ≤ e.length). packed-entry t e (h e m z))
+      (λ (z : e.length < 1). let s = p.empty e m (omega arith) in still_up_to t e s ∙ sym (still e s))
+      (λ (z : 1 ≤ e.length). packed_entry t e (h e m z))
       (order e.length 1))
 
   -- No extent that is not packed starts before the packed ones end.
   abbrev pub Gap : ℕ → Type 0
   Gap t = (e : Entry) → Member e all → 1 ≤ e.length → t ≤ e.start → below all t ≤ e.start
 
-  pub first-gap : Gap 0
-  first-gap e m l h = let z : below all 0 ≡ 0 = below_zero all in omega arith
+  pub first_gap : Gap 0
+  first_gap e m l h = let z : below all 0 ≡ 0 = below_zero all in omega arith
 
   -- What is packed next, where those that start before t are packed: the entry at a place.
   pub record Next (t : ℕ) (r : Pick) : Type 0 where
     pub at_same : r.at ≡ below all t
     pub place : ℕ
     pub inside : place < length all
-    pub its-sheet : r.sheet ≡ place
+    pub its_sheet : r.sheet ≡ place
     pub some : 1 ≤ (entry_at all place).length
     pub waits : t ≤ (entry_at all place).start
-    pub its-start : r.start ≡ (entry_at all place).start
-    pub its-length : r.length ≡ (entry_at all place).length
+    pub its_start : r.start ≡ (entry_at all place).start
+    pub its_length : r.length ≡ (entry_at all place).length
     pub least : (e : Entry) → Member e all → 1 ≤ e.length → t ≤ e.start → (entry_at all place).start ≤ e.start
     pub lands : below all (entry_at all place).start ≡ below all t
 
   pub record Last (t : ℕ) (r : Pick) : Type 0 where
     pub at_same : r.at ≡ below all t
     pub no_length : r.length ≡ 0
-    pub no-sheet : r.sheet ≡ 4294967295
+    pub no_sheet : r.sheet ≡ 4294967295
     pub none : (e : Entry) → Member e all → 1 ≤ e.length → e.start < t
 
   module _ (n t : ℕ) (p : Placed n all) (small : n < 4294967295) (few : length all < 4294967295) (gap : Gap t) where
@@ -96,14 +96,14 @@ module _ (all : List Entry) where
     not-packed e m l h =
         ⊎_elim
         (λ (lt : e.start < t).
-        let k : (up_to t e).start ≡ below all e.start = ap (λ (z : Entry). z.start) (packed-entry t e lt) in
+        let k : (up_to t e).start ≡ below all e.start = ap (λ (z : Entry). z.start) (packed_entry t e lt) in
         let a : below all e.start + e.length ≤ below all t = below_adds all e t m lt in
-        absurd (omega (arith, upTo-length t e)))
-        (λ (ge : t ≤ e.start). (ge, other-entry t e ge))
+        absurd (omega (arith, up_to_length t e)))
+        (λ (ge : t ≤ e.start). (ge, other_entry t e ge))
         (order e.start t)
 
     as_is : (e : Entry) → t ≤ e.start → (up_to t e).start ≡ e.start
-    as_is e h = ap (λ (z : Entry). z.start) (other-entry t e h)
+    as_is e h = ap (λ (z : Entry). z.start) (other_entry t e h)
 
     abbrev q : Pick
     q = first_pick (below all t)
@@ -112,18 +112,18 @@ module _ (all : List Entry) where
     r₀ = nearest_of (map (up_to t) all) q
 
     found : Found (up_to t) all q r₀
-    found = nearest-found (up_to t) all q (omega arith)
+    found = nearest_found (up_to t) all q (omega arith)
 
     -- no extent that waits starts before it
     near : (e : Entry) → Member e all → 1 ≤ e.length → t ≤ e.start → r₀.start ≤ e.start
     near e m l h =
-        omega (arith, as_is e h, found.least e m (omega (arith, upTo-length t e)) (omega (arith, as_is e h, gap e m l h)))
+        omega (arith, as_is e h, found.least e m (omega (arith, up_to_length t e)) (omega (arith, as_is e h, gap e m l h)))
 
     is_last : Kept (up_to t) q r₀ → Last t r₀
     is_last k = record {
       at_same = found.at_same;
       no_length = k.same_length;
-      no-sheet = k.same-sheet;
+      no_sheet = k.same_sheet;
       none = λ e m l. ⊎_elim
           (λ (lt : e.start < t). lt)
           (λ (ge : t ≤ e.start).
@@ -135,18 +135,18 @@ module _ (all : List Entry) where
     is-next k =
         let e : Entry = entry_at all k.place in
         let o = not-packed e (at_member all k.place k.inside) k.some k.after in
-        let s : r₀.start ≡ e.start = k.its-start ∙ ap (λ (z : Entry). z.start) o.1 in
+        let s : r₀.start ≡ e.start = k.its_start ∙ ap (λ (z : Entry). z.start) o.1 in
         let least : (y : Entry) → Member y all → 1 ≤ y.length → t ≤ y.start → e.start ≤ y.start =
         λ y m l h. omega (arith, s, near y m l h) in
         record {
           at_same = found.at_same;
           place = k.place;
           inside = k.inside;
-          its-sheet = omega (arith, k.its-sheet);
-          some = omega (arith, k.some, upTo-length t e);
+          its_sheet = omega (arith, k.its_sheet);
+          some = omega (arith, k.some, up_to_length t e);
           waits = o.0;
-          its-start = s;
-          its-length = k.its-length ∙ upTo-length t e;
+          its_start = s;
+          its_length = k.its_length ∙ up_to_length t e;
           least = least;
           lands = below_same all t e.start o.0 least;
         }
@@ -181,13 +181,13 @@ module _ (all : List Entry) where
           ⊎_elim
           (λ (z : y.length < 1).
           let s : y.start ≡ 0 = p.empty y m (omega arith) in
-          still-upTo t y s ∙ sym (still-upTo (which.start + 1) y s))
+          still_up_to t y s ∙ sym (still_up_to (which.start + 1) y s))
           (λ (z : 1 ≤ y.length).
           ⊎_elim
           (λ (lt : y.start < t).
-          packed-entry t y lt ∙ sym (packed-entry (which.start + 1) y (omega (arith, x.waits))))
+          packed_entry t y lt ∙ sym (packed_entry (which.start + 1) y (omega (arith, x.waits))))
           (λ (ge : t ≤ y.start).
-          other-entry t y ge ∙ sym (other-entry (which.start + 1) y (later y m z ge (off x.some z))))
+          other_entry t y ge ∙ sym (other_entry (which.start + 1) y (later y m z ge (off x.some z))))
           (order y.start t))
           (order y.length 1)
         where
@@ -201,20 +201,20 @@ module _ (all : List Entry) where
       stored : restarted r (slot_at (map (up_to t) all) r.sheet) ≡ up_to (which.start + 1) which
       stored =
           let found-there : entry_at (map (up_to t) all) r.sheet ≡ which =
-          ap (entry_at (map (up_to t) all)) x.its-sheet ∙ map_at (up_to t) all x.place x.inside
-          ∙ other-entry t which x.waits in
+          ap (entry_at (map (up_to t) all)) x.its_sheet ∙ map_at (up_to t) all x.place x.inside
+          ∙ other_entry t which x.waits in
           let at : r.at ≡ below all which.start = x.at_same ∙ sym x.lands in
           ap₂ (λ (e : Entry) (s : ℕ). record { mark = e.mark; start = s; length = e.length }) found-there at
-          ∙ sym (packed-entry (which.start + 1) which (omega arith))
+          ∙ sym (packed_entry (which.start + 1) which (omega arith))
 
       pub next-entries : set (map (up_to t) all) (sheet_in r) (restarted r (slot_at (map (up_to t) all) (sheet_in r)))
           ≡ map (up_to (which.start + 1)) all
       next-entries =
-          ap₂ (set (map (up_to t) all)) x.its-sheet stored
+          ap₂ (set (map (up_to t) all)) x.its_sheet stored
           ∙ set_one (up_to t) (up_to (which.start + 1)) all x.place x.inside p.apart others
 
     pub last-entries : (r : Pick) → Last t r
         → set (map (up_to t) all) (sheet_in r) (restarted r (slot_at (map (up_to t) all) (sheet_in r))) ≡ map (up_to t) all
     last-entries r x =
         set_past (map (up_to t) all) r.sheet (restarted r (slot_at (map (up_to t) all) r.sheet))
-        (omega (arith, length-map all (up_to t), x.no-sheet))
+        (omega (arith, length-map all (up_to t), x.no_sheet))

@@ -16,9 +16,9 @@ module _ (t : Pick) (e : Entry) where
     after : t.at ≤ e.start
     before : e.start < t.start
 
-  nearer-to : is_nearer t e ≡ true → Nearer
+  nearer_to : is_nearer t e ≡ true → Nearer
   unfolding is_nearer
-  nearer-to h =
+  nearer_to h =
       let a : Bool = leb 1 e.length in
       let b : Bool = leb t.at e.start in
       let c : Bool = ltb e.start t.start in
@@ -29,18 +29,18 @@ module _ (t : Pick) (e : Entry) where
         before = ltb-true e.start t.start (and_right (a && b) c h);
       }
 
-  to-nearer : Nearer → is_nearer t e ≡ true
+  to_nearer : Nearer → is_nearer t e ≡ true
   unfolding is_nearer
-  to-nearer w =
+  to_nearer w =
       and_both (leb 1 e.length && leb t.at e.start) (ltb e.start t.start)
       (and_both (leb 1 e.length) (leb t.at e.start) (le-leb 1 e.length w.some)
       (le-leb t.at e.start w.after))
       (lt-ltb e.start t.start w.before)
 
-  not-nearer : is_nearer t e ≡ false → 1 ≤ e.length → t.at ≤ e.start → t.start ≤ e.start
-  not-nearer h s a =
+  not_nearer : is_nearer t e ≡ false → 1 ≤ e.length → t.at ≤ e.start → t.start ≤ e.start
+  not_nearer h s a =
       ⊎_elim
-      (λ (l : e.start < t.start). absurd (clash (is_nearer t e) (to-nearer (record { some = s; after = a; before = l })) h))
+      (λ (l : e.start < t.start). absurd (clash (is_nearer t e) (to_nearer (record { some = s; after = a; before = l })) h))
       (λ (l : t.start ≤ e.start). l)
       (order e.start t.start)
 
@@ -53,9 +53,9 @@ module _ (t : Pick) (e : Entry) where
   abbrev passed : Pick
   passed = pick t.at t.start t.length t.sheet next
 
-  pub is-nearer : is_nearer t e ≡ true → taken ≡ nearer_of t e
+  pub is_nearer_lem : is_nearer t e ≡ true → taken ≡ nearer_of t e
   unfolding nearer_of
-  is-nearer h = sym (ap (λ (b : Bool). cond b taken passed) h)
+  is_nearer_lem h = sym (ap (λ (b : Bool). cond b taken passed) h)
 
   pub is_not : is_nearer t e ≡ false → passed ≡ nearer_of t e
   unfolding nearer_of
@@ -66,11 +66,11 @@ module _ (f : Entry → Entry) where
   pub record Picked (es : List Entry) (p r : Pick) : Type 0 where
     pub place : ℕ
     pub inside : place < length es
-    pub its-sheet : r.sheet ≡ p.next + place
+    pub its_sheet : r.sheet ≡ p.next + place
     pub some : 1 ≤ (f (entry_at es place)).length
     pub after : p.at ≤ (f (entry_at es place)).start
-    pub its-start : r.start ≡ (f (entry_at es place)).start
-    pub its-length : r.length ≡ (f (entry_at es place)).length
+    pub its_start : r.start ≡ (f (entry_at es place)).start
+    pub its_length : r.length ≡ (f (entry_at es place)).length
 
   pub record Kept (p r : Pick) : Type 0 where
     pub same_start : r.start ≡ p.start
@@ -89,27 +89,27 @@ module _ (f : Entry → Entry) where
     further q a n k = record {
       place = suc k.place;
       inside = omega (arith, k.inside);
-      its-sheet = omega (arith, k.its-sheet, n);
+      its_sheet = omega (arith, k.its_sheet, n);
       some = k.some;
       after = omega (arith, k.after, a);
-      its-start = k.its-start;
-      its-length = k.its-length;
+      its_start = k.its_start;
+      its_length = k.its_length;
     }
 
     on-taken : p.next + 1 < 4294967296 → is_nearer p (f x) ≡ true → Found es (taken p (f x)) r → Found (x ∷ es) p r
     on-taken small h n =
-        let w : Nearer p (f x) = nearer-to p (f x) h in
+        let w : Nearer p (f x) = nearer_to p (f x) h in
         record {
           at_same = n.at_same;
           found = inr (⊎_elim
               (λ (k : Kept (taken p (f x)) r). record {
                 place = 0;
                 inside = omega arith;
-                its-sheet = omega (arith, k.same-sheet);
+                its_sheet = omega (arith, k.same_sheet);
                 some = w.some;
                 after = w.after;
-                its-start = k.same_start;
-                its-length = k.same_length;
+                its_start = k.same_start;
+                its_length = k.same_length;
               })
               (λ (k : Picked es (taken p (f x)) r). further (taken p (f x)) refl (omega arith) k)
               n.found);
@@ -127,33 +127,33 @@ module _ (f : Entry → Entry) where
           (λ (k : Kept (passed p (f x)) r). inl (record {
             same_start = k.same_start;
             same_length = k.same_length;
-            same_sheet = k.same-sheet;
+            same_sheet = k.same_sheet;
           }))
           (λ (k : Picked es (passed p (f x)) r). inr (further (passed p (f x)) refl (omega arith) k))
           n.found;
       least = λ e m s l. ⊎_elim
           (λ (i : x ≡ e). subst (λ (z : Entry). 1 ≤ (f z).length → p.at ≤ (f z).start → r.start ≤ (f z).start) i
-          (λ (s' : 1 ≤ (f x).length) (l' : p.at ≤ (f x).start). omega (arith, n.falls, not-nearer p (f x) h s' l')) s l)
+          (λ (s' : 1 ≤ (f x).length) (l' : p.at ≤ (f x).start). omega (arith, n.falls, not_nearer p (f x) h s' l')) s l)
           (λ (i : Member e es). n.least e i s l)
           m;
       falls = n.falls;
     }
 
-  pub nearest-found : (es : List Entry) (p : Pick) → p.next + length es < 4294967296 → Found es p (nearest_of (map f es) p)
+  pub nearest_found : (es : List Entry) (p : Pick) → p.next + length es < 4294967296 → Found es p (nearest_of (map f es) p)
   unfolding nearest_of
-  nearest-found [] p small = record {
+  nearest_found [] p small = record {
     at_same = refl;
     found = inl (record { same_start = refl; same_length = refl; same_sheet = refl });
     least = λ e m. absurd m;
     falls = omega arith;
   }
-  nearest-found (x ∷ es) p small = by (is_nearer p (f x)) refl (λ t. nearest-found es t)
+  nearest_found (x ∷ es) p small = by (is_nearer p (f x)) refl (λ t. nearest_found es t)
     where
       by : (b : Bool) → is_nearer p (f x) ≡ b
           → ((t : Pick) → t.next + length es < 4294967296 → Found es t (nearest_of (map f es) t))
           → Found (x ∷ es) p (nearest_of (map f es) (nearer_of p (f x)))
       by true h rest =
-          subst (λ (t : Pick). Found (x ∷ es) p (nearest_of (map f es) t)) (is-nearer p (f x) h)
+          subst (λ (t : Pick). Found (x ∷ es) p (nearest_of (map f es) t)) (is_nearer_lem p (f x) h)
           (on-taken x es p (nearest_of (map f es) (taken p (f x))) (omega arith) h (rest (taken p (f x)) (omega arith)))
       by false h rest =
           subst (λ (t : Pick). Found (x ∷ es) p (nearest_of (map f es) t)) (is_not p (f x) h)

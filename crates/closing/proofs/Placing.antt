@@ -7,17 +7,17 @@ use Rattle.map_blocks.specs.Maps.{in_run}
 use Rattle.catalogue.specs.declared.Entry.{Entry}
 use Rattle.catalogue_standings.specs.Standings.{standing_of, is_damaged}
 use Rattle.image_soundness.specs.Sound.{State, coverings, undamaged}
-use Rattle.image_soundness.proofs.Covers.{one, run_in, head-undamaged, tail-undamaged}
-use Rattle.image_soundness.proofs.Damage.{extent-inside}
+use Rattle.image_soundness.proofs.Covers.{one, run_in, head_undamaged, tail_undamaged}
+use Rattle.image_soundness.proofs.Damage.{extent_inside}
 use Rattle.image_soundness.proofs.WhenSound.{Sound}
 use Rattle.closing.proofs.Members.{Member, Apart}
-use Rattle.closing.proofs.Moving.{starts-at-0}
+use Rattle.closing.proofs.Moving.{starts_at_0}
 use Rattle.closing.proofs.Packing.{Placed}
 
 pub member_undamaged : (n : ℕ) (f : ℕ → Bool) (es : List Entry) → undamaged n f es ≡ true → (e : Entry) → Member e es
     → is_damaged (standing_of n f e) ≡ false
-member_undamaged n f (x ∷ xs) u e (inl p) = ap (λ (z : Entry). is_damaged (standing_of n f z)) (sym p) ∙ head-undamaged n f x xs u
-member_undamaged n f (x ∷ xs) u e (inr m) = member_undamaged n f xs (tail-undamaged n f x xs u) e m
+member_undamaged n f (x ∷ xs) u e (inl p) = ap (λ (z : Entry). is_damaged (standing_of n f z)) (sym p) ∙ head_undamaged n f x xs u
+member_undamaged n f (x ∷ xs) u e (inr m) = member_undamaged n f xs (tail_undamaged n f x xs u) e m
 
 member_covers : (es : List Entry) (e : Entry) (b : ℕ) → Member e es → e.start ≤ b → b < e.start + e.length
     → 1 ≤ coverings es b
@@ -60,11 +60,11 @@ apart_of n (x ∷ xs) inside once = (
 pub placed : (s : State) → Sound s → Placed s.blocks s.entries
 placed s p =
     let inside : (e : Entry) → Member e s.entries → e.start + e.length ≤ s.blocks =
-    λ e m. extent-inside s.blocks e (free s.map)
+    λ e m. extent_inside s.blocks e (free s.map)
     (member_undamaged s.blocks (free s.map) s.entries p.whole e m) in
     record {
       apart = apart_of s.blocks s.entries inside p.disjoint;
       inside = inside;
-      empty = λ e m z. starts-at-0 s.blocks (free s.map) e
+      empty = λ e m z. starts_at_0 s.blocks (free s.map) e
           (member_undamaged s.blocks (free s.map) s.entries p.whole e m) z;
     }

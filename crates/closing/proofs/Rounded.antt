@@ -2,7 +2,7 @@
 -- Assumes nothing.
 use Rattle.std.proofs.Common.{◌≡◌, ℕ, suc, List, [], ◌∷◌, refl}
 use Rattle.catalogue.specs.declared.Entry.{Entry}
-use Rattle.closing.specs.Rounds.{nearer_of, nearest_of, roundAt, roundEntries, roundCard, rounds_at, rounds_entries}
+use Rattle.closing.specs.Rounds.{nearer_of, nearest_of, round_at, round_entries, round_card, rounds_at, rounds_entries}
 use Rattle.closing.specs.Rounds.{rounds_card}
 use Rattle.closing.specs.declared.Pick.{Pick}
 
@@ -23,22 +23,22 @@ module _ (es : List Entry) (card : List ℕ) (at : ℕ) where
   unfolding rounds_entries
   entries_none = refl
 
-  pub card-none : rounds_card es card 0 at ≡ card
+  pub card_none : rounds_card es card 0 at ≡ card
   unfolding rounds_card
-  card-none = refl
+  card_none = refl
 
 module _ (k : ℕ) (es : List Entry) (card : List ℕ) (at : ℕ) where
   pub at_more : rounds_at es card (suc k) at
-      ≡ roundAt (rounds_entries es card k at) (rounds_card es card k at) (rounds_at es card k at)
+      ≡ round_at (rounds_entries es card k at) (rounds_card es card k at) (rounds_at es card k at)
   unfolding rounds_at rounds_entries rounds_card
   at_more = refl
 
   pub entries_more : rounds_entries es card (suc k) at
-      ≡ roundEntries (rounds_entries es card k at) (rounds_card es card k at) (rounds_at es card k at)
+      ≡ round_entries (rounds_entries es card k at) (rounds_card es card k at) (rounds_at es card k at)
   unfolding rounds_at rounds_entries rounds_card
   entries_more = refl
 
-  pub card-more : rounds_card es card (suc k) at
-      ≡ roundCard (rounds_entries es card k at) (rounds_card es card k at) (rounds_at es card k at)
+  pub card_more : rounds_card es card (suc k) at
+      ≡ round_card (rounds_entries es card k at) (rounds_card es card k at) (rounds_at es card k at)
   unfolding rounds_at rounds_entries rounds_card
-  card-more = refl
+  card_more = refl

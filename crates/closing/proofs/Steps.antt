@@ -10,23 +10,23 @@ use Rattle.image_soundness.specs.declared.Tally.{Tally}
 use Rattle.roles.specs.Roles as names
 use Rattle.roles.specs.Roles.{turned_away}
 use Rattle.closing.specs.Closed.{first_taken}
-use Rattle.closing.specs.Rounds.{is_nearer, firstTally, number_by, rounds_for, map_fits, map_after}
+use Rattle.closing.specs.Rounds.{is_nearer, first_tally, number_by, rounds_for, map_fits, map_after}
 use Rattle.closing.specs.Table.{close_fits}
 use Rattle.closing.specs.declared.Pick.{Pick}
 
 -- an entry that is looked at
 module _ (t : Pick) (e : Entry) where
-  pub no-extent : e.length < 1 → false ≡ is_nearer t e
+  pub no_extent : e.length < 1 → false ≡ is_nearer t e
   unfolding is_nearer
-  no-extent h = simp (lt-leb 1 e.length h)
+  no_extent h = simp (lt-leb 1 e.length h)
 
-  pub has-moved : 1 ≤ e.length → e.start < t.at → false ≡ is_nearer t e
+  pub has_moved : 1 ≤ e.length → e.start < t.at → false ≡ is_nearer t e
   unfolding is_nearer
-  has-moved h l = simp (le-leb 1 e.length h, lt-leb t.at e.start l)
+  has_moved h l = simp (le-leb 1 e.length h, lt-leb t.at e.start l)
 
-  pub by-start : 1 ≤ e.length → t.at ≤ e.start → ltb e.start t.start ≡ is_nearer t e
+  pub by_start : 1 ≤ e.length → t.at ≤ e.start → ltb e.start t.start ≡ is_nearer t e
   unfolding is_nearer
-  by-start h l = simp (le-leb 1 e.length h, le-leb t.at e.start l)
+  by_start h l = simp (le-leb 1 e.length h, le-leb t.at e.start l)
 
 -- row 1
 module _ (n spare : ℕ) (fits : Bool) (c maplen cardlen scratchlen : ℕ) where
@@ -37,36 +37,36 @@ module _ (n spare : ℕ) (fits : Bool) (c maplen cardlen scratchlen : ℕ) where
   unfolding close_fits
   not_saved e = simp e
 
-  pub wrong-card : saved ≡ true → (cardlen ≡ 512 * n → ⊥) → false ≡ close_fits n spare fits c maplen cardlen scratchlen
+  pub wrong_card : saved ≡ true → (cardlen ≡ 512 * n → ⊥) → false ≡ close_fits n spare fits c maplen cardlen scratchlen
   unfolding close_fits
-  wrong-card e d = simp (e, ne_eqb cardlen (512 * n) d)
+  wrong_card e d = simp (e, ne_eqb cardlen (512 * n) d)
 
-  pub by-the-rest : saved ≡ true → cardlen ≡ 512 * n → fits ≡ close_fits n spare fits c maplen cardlen scratchlen
+  pub by_the_rest : saved ≡ true → cardlen ≡ 512 * n → fits ≡ close_fits n spare fits c maplen cardlen scratchlen
   unfolding close_fits
-  by-the-rest e d = simp (e, eq-eqb cardlen (512 * n) d)
+  by_the_rest e d = simp (e, eq-eqb cardlen (512 * n) d)
 
 module _ (role n spare : ℕ) (fits : Bool) (map : List ℕ) (count : ℕ) (card scratch : List ℕ) where
   abbrev lengths : Bool
   lengths = close_fits n spare fits count (length map) (length card) (length scratch)
 
-  pub away : turned_away role names.close ≡ true → tally 0 true ≡ firstTally role n spare fits map count card scratch
-  unfolding firstTally
+  pub away : turned_away role names.close ≡ true → tally 0 true ≡ first_tally role n spare fits map count card scratch
+  unfolding first_tally
   away t = simp t
 
   module _ (t : turned_away role names.close ≡ false) where
-    pub not-begun : lengths ≡ false → tally 0 true ≡ firstTally role n spare fits map count card scratch
-    unfolding firstTally
+    pub not-begun : lengths ≡ false → tally 0 true ≡ first_tally role n spare fits map count card scratch
+    unfolding first_tally
     not-begun e = simp (t, e)
 
-    pub begun : lengths ≡ true → tally (n - spare) false ≡ firstTally role n spare fits map count card scratch
-    unfolding firstTally
+    pub begun : lengths ≡ true → tally (n - spare) false ≡ first_tally role n spare fits map count card scratch
+    unfolding first_tally
     begun e = simp (t, e)
 
 -- the verdict
 module _ (role : ℕ) (t : Tally) (whole : Bool) where
-  pub verdict-21 : turned_away role names.close ≡ true → 21 ≡ number_by role t whole
+  pub verdict_21 : turned_away role names.close ≡ true → 21 ≡ number_by role t whole
   unfolding number_by
-  verdict-21 a = simp a
+  verdict_21 a = simp a
 
   module _ (a : turned_away role names.close ≡ false) where
     pub verdict-1 : t.stop ≡ true → 1 ≡ number_by role t whole
@@ -83,13 +83,13 @@ module _ (role : ℕ) (t : Tally) (whole : Bool) where
 
 -- how many rounds
 module _ (count number : ℕ) where
-  pub all-rounds : number ≡ 0 → count ≡ rounds_for count number
+  pub all_rounds : number ≡ 0 → count ≡ rounds_for count number
   unfolding rounds_for
-  all-rounds e = simp (eq-eqb number 0 e)
+  all_rounds e = simp (eq-eqb number 0 e)
 
-  pub no-rounds : (number ≡ 0 → ⊥) → 0 ≡ rounds_for count number
+  pub no_rounds : (number ≡ 0 → ⊥) → 0 ≡ rounds_for count number
   unfolding rounds_for
-  no-rounds d = simp (ne_eqb number 0 d)
+  no_rounds d = simp (ne_eqb number 0 d)
 
 -- whether the map can be marked
 module _ (w n h : ℕ) where
@@ -115,9 +115,9 @@ module _ (w n h : ℕ) where
     pub room : n ≤ 64 * w
     pub blocks : h ≤ n
 
-  pub map-fits-to : map_fits w n h ≡ true → MapFits
+  pub map_fits_to : map_fits w n h ≡ true → MapFits
   unfolding map_fits
-  map-fits-to e =
+  map_fits_to e =
       let a : Bool = leb w 4096 in
       let b : Bool = leb n 262144 in
       let c : Bool = leb n (64 * w) in
@@ -132,9 +132,9 @@ module _ (w n h : ℕ) where
       }
 
 module _ (map : List ℕ) (n h number : ℕ) where
-  pub refused-map : (number ≡ 0 → ⊥) → map ≡ map_after map n h number
+  pub refused_map : (number ≡ 0 → ⊥) → map ≡ map_after map n h number
   unfolding map_after
-  refused-map d = simp (ne_eqb number 0 d)
+  refused_map d = simp (ne_eqb number 0 d)
 
   module _ (z : number ≡ 0) where
     pub unfit-map : map_fits (length map) n h ≡ false → map ≡ map_after map n h number

@@ -5,11 +5,11 @@ use Rattle.laws.proofs.Bools.{order}
 use Rattle.map_blocks.specs.Maps.{in_run}
 use Rattle.map_blocks.proofs.Maps.{map_length}
 use Rattle.catalogue.specs.declared.Entry.{Entry}
-use Rattle.closing_moves.proofs.Moved.{sourced-self}
+use Rattle.closing_moves.proofs.Moved.{sourced_self}
 use Rattle.image_soundness.proofs.Covers.{decide, in_run_lem}
 use Rattle.closing.specs.Closed.{below, closed_entry, closed_entries, source, closed_card, first_taken, closed_map}
 use Rattle.closing.proofs.Below.{below_adds, below_grows}
-use Rattle.closing.proofs.Kept.{closed-held}
+use Rattle.closing.proofs.Kept.{closed_held}
 use Rattle.closing.proofs.Members.{Member, map_map, map_same}
 
 module _ (all : List Entry) where
@@ -38,29 +38,29 @@ module _ (all : List Entry) where
       none true e = e
       none false e = refl
 
-  below-part : (es : List Entry) → ((e : Entry) → Member e es → Member e all) → (s : ℕ)
+  below_part : (es : List Entry) → ((e : Entry) → Member e es → Member e all) → (s : ℕ)
       → below (map moved es) (below all s) ≡ below es s
   unfolding below
-  below-part [] sub s = refl
-  below-part (x ∷ xs) sub s = ap₂ ◌+◌ (part x s (sub x (inl refl))) (below-part xs (λ e m. sub e (inr m)) s)
+  below_part [] sub s = refl
+  below_part (x ∷ xs) sub s = ap₂ ◌+◌ (part x s (sub x (inl refl))) (below_part xs (λ e m. sub e (inr m)) s)
 
-  pub below-twice : (s : ℕ) → below (closed_entries all) (below all s) ≡ below all s
+  pub below_twice : (s : ℕ) → below (closed_entries all) (below all s) ≡ below all s
   unfolding closed_entries
-  below-twice s = below-part all (λ e m. m) s
+  below_twice s = below_part all (λ e m. m) s
 
-  pub closed-twice : closed_entries (closed_entries all) ≡ closed_entries all
+  pub closed_twice : closed_entries (closed_entries all) ≡ closed_entries all
   unfolding closed_entries
-  closed-twice =
+  closed_twice =
       map_map moved (closed_entry (map moved all)) all
       ∙ map_same (λ e. closed_entry (map moved all) (moved e)) moved all (λ e m.
-      ap (λ (s : ℕ). record { mark = e.mark; start = s; length = e.length }) (below-part all (λ y k. k) e.start))
+      ap (λ (s : ℕ). record { mark = e.mark; start = s; length = e.length }) (below_part all (λ y k. k) e.start))
 
   -- no block moves
   stays : (es : List Entry) (b : ℕ) → source (closed_entries all) (map moved es) b ≡ b
   unfolding source
   stays [] b = refl
   stays (x ∷ xs) b =
-      let at : below (closed_entries all) (below all x.start) ≡ below all x.start = below-twice x.start in
+      let at : below (closed_entries all) (below all x.start) ≡ below all x.start = below_twice x.start in
       ⊎_elim
       (λ (h : in_run (below (closed_entries all) (below all x.start)) x.length b ≡ true).
       let k = in_run_lem (below (closed_entries all) (below all x.start)) x.length b h in
@@ -71,11 +71,11 @@ module _ (all : List Entry) where
       (source (closed_entries all) (map moved xs) b)) h ∙ stays xs b)
       (decide (in_run (below (closed_entries all) (below all x.start)) x.length b))
 
-  pub card-stays : (card : List ℕ) → closed_card (closed_entries all) card ≡ card
+  pub card_stays : (card : List ℕ) → closed_card (closed_entries all) card ≡ card
   unfolding closed_card closed_entries
-  card-stays card = sym (sourced-self card (source (map moved all) (map moved all)) (λ b. stays all b))
+  card_stays card = sym (sourced_self card (source (map moved all) (map moved all)) (λ b. stays all b))
 
-  pub map-twice : (n : ℕ) (map : List ℕ) → closed_map (closed_entries all) n (closed_map all n map) ≡ closed_map all n map
+  pub map_twice : (n : ℕ) (map : List ℕ) → closed_map (closed_entries all) n (closed_map all n map) ≡ closed_map all n map
   unfolding closed_map
-  map-twice n map =
-      ap₂ (λ (h w : ℕ). first_taken h n w) (closed-held all) (map_length _ (length map))
+  map_twice n map =
+      ap₂ (λ (h w : ℕ). first_taken h n w) (closed_held all) (map_length _ (length map))

@@ -16,25 +16,25 @@ module _ (turned : Bool) (n spare : ℕ) (fits : Bool) (map : List ℕ) (entries
       close_verdict turned (record { blocks = n; spare = spare; entries = entries; map = map }) fits (length card) (length
       scratch)
 
-  unfoldable pub closeNumber : ℕ
+  unfoldable pub close_number : ℕ
   unfolding close_verdict
-  closeNumber = row_number verdict
+  close_number = row_number verdict
 
-  unfoldable pub closeMap : List ℕ
+  unfoldable pub close_map : List ℕ
   unfolding close_verdict closed_map
-  closeMap = settle verdict (closed_map entries n map) (λ number. map)
+  close_map = settle verdict (closed_map entries n map) (λ number. map)
 
-  unfoldable pub closeEntries : List Entry
+  unfoldable pub close_entries : List Entry
   unfolding close_verdict closed_entries
-  closeEntries = settle verdict (closed_entries entries) (λ number. entries)
+  close_entries = settle verdict (closed_entries entries) (λ number. entries)
 
-  unfoldable pub closeCard : List ℕ
+  unfoldable pub close_card : List ℕ
   unfolding close_verdict closed_card
-  closeCard = settle verdict (closed_card entries card) (λ number. card)
+  close_card = settle verdict (closed_card entries card) (λ number. card)
 
-  unfoldable pub closeScratch : List ℕ
-  closeScratch = zeros_for scratch
+  unfoldable pub close_scratch : List ℕ
+  close_scratch = zeros_for scratch
 
   abbrev pub Closes : ℕ → List ℕ → List Entry → List ℕ → List ℕ → Type 0
   Closes r map' entries' card' scratch' =
-      (r ≡ closeNumber) × (map' ≡ closeMap) × (entries' ≡ closeEntries) × (card' ≡ closeCard) × (scratch' ≡ closeScratch)
+      (r ≡ close_number) × (map' ≡ close_map) × (entries' ≡ close_entries) × (card' ≡ close_card) × (scratch' ≡ close_scratch)

@@ -67,14 +67,14 @@ module _ (es : List Entry) (card : List ℕ) (at : ℕ) where
   abbrev pub picked : Pick
   picked = nearest_of es (first_pick at)
 
-  abbrev pub roundAt : ℕ
-  roundAt = at_after picked
+  abbrev pub round_at : ℕ
+  round_at = at_after picked
 
-  abbrev pub roundEntries : List Entry
-  roundEntries = slice_set es (sheet_in picked) (restarted picked (slot_at es (sheet_in picked)))
+  abbrev pub round_entries : List Entry
+  round_entries = slice_set es (sheet_in picked) (restarted picked (slot_at es (sheet_in picked)))
 
-  abbrev pub roundCard : List ℕ
-  roundCard = moved_card card picked
+  abbrev pub round_card : List ℕ
+  round_card = moved_card card picked
 
 pub record Stand : Type 0 where
   pub at : ℕ
@@ -86,9 +86,9 @@ rounds zero s = s
 rounds (suc k) s =
     let t = rounds k s in
     record {
-      at = roundAt t.entries t.card t.at;
-      entries = roundEntries t.entries t.card t.at;
-      card = roundCard t.entries t.card t.at;
+      at = round_at t.entries t.card t.at;
+      entries = round_entries t.entries t.card t.at;
+      card = round_card t.entries t.card t.at;
     }
 
 abbrev pub stand : List Entry → List ℕ → ℕ → Stand
@@ -110,9 +110,9 @@ rounds_card es card k at = (rounds k (stand es card at)).card
 
 -- Unless row 21 or row 1 holds, the entries have n less the free count to make.
 module _ (role n spare : ℕ) (fits : Bool) (map : List ℕ) (count : ℕ) (card scratch : List ℕ) where
-  unfoldable pub firstTally : Tally
+  unfoldable pub first_tally : Tally
   unfolding close_fits
-  firstTally =
+  first_tally =
       cond (turned_away role names.close) (tally 0 true)
       (cond (close_fits n spare fits count (length map) (length card) (length scratch)) (tally (n - spare) false) (tally 0 true))
 

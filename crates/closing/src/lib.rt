@@ -7,9 +7,9 @@ mod extent;
 ghost use Rattle.std.specs.Prelude.{◌≡◌};
 ghost use Rattle.roles.specs.Roles as names;
 ghost use Rattle.roles.specs.Roles.{turned_away};
-ghost use Rattle.closing.specs.Effects.{closeNumber, closeMap, closeEntries, closeCard, closeScratch};
-ghost use Rattle.closing.specs.Rounds.{nearest_of, roundAt, roundEntries, roundCard, rounds_at, rounds_entries};
-ghost use Rattle.closing.specs.Rounds.{rounds_card, firstTally, number_by, rounds_for, map_fits, map_after};
+ghost use Rattle.closing.specs.Effects.{close_number, close_map, close_entries, close_card, close_scratch};
+ghost use Rattle.closing.specs.Rounds.{nearest_of, round_at, round_entries, round_card, rounds_at, rounds_entries};
+ghost use Rattle.closing.specs.Rounds.{rounds_card, first_tally, number_by, rounds_for, map_fits, map_after};
 ghost use Rattle.closing.specs.Table.{close_fits};
 
 use crate::extent::{at_after, first_pick, move_extent, nearer, restart, sheet_of};
@@ -48,9 +48,9 @@ fn nearest(catalogue: &[Entry], start: Pick) -> Pick
 
 // One round. Gives where the extents that have moved end.
 fn close_next(catalogue: &mut [Entry], card: &mut [u8], at: u32) -> u32
-    ensures { (result ≡ roundAt catalogue.old card.old at)
-        × (catalogue.new ≡ roundEntries catalogue.old card.old at)
-        × (card.new ≡ roundCard catalogue.old card.old at) }
+    ensures { (result ≡ round_at catalogue.old card.old at)
+        × (catalogue.new ≡ round_entries catalogue.old card.old at)
+        × (card.new ≡ round_card catalogue.old card.old at) }
 {
     let first = first_pick(at);
     let pick = nearest(&*catalogue, first);
@@ -109,7 +109,7 @@ fn begin(
     card: &[u8],
     scratch: &[u64],
 ) -> Tally
-    ensures { result ≡ firstTally role n free fits map.now count card.now scratch.now }
+    ensures { result ≡ first_tally role n free fits map.now count card.now scratch.now }
 {
     if turned_away(role, roles::CLOSE) {
         return Tally {
@@ -198,15 +198,15 @@ pub fn close(
     scratch: &mut [u64],
 ) -> u32
     ensures { let turned = turned_away role names.close in
-        (result ≡ closeNumber turned n free fits map.old catalogue.old card.old
+        (result ≡ close_number turned n free fits map.old catalogue.old card.old
         scratch.old)
-        × (map.new ≡ closeMap turned n free fits map.old catalogue.old card.old
+        × (map.new ≡ close_map turned n free fits map.old catalogue.old card.old
         scratch.old)
-        × (catalogue.new ≡ closeEntries turned n free fits map.old catalogue.old card.entry.now
+        × (catalogue.new ≡ close_entries turned n free fits map.old catalogue.old card.entry.now
         scratch.old)
-        × (card.new ≡ closeCard turned n free fits map.old catalogue.old card.old
+        × (card.new ≡ close_card turned n free fits map.old catalogue.old card.old
         scratch.old)
-        × (scratch.new ≡ closeScratch turned n free fits map.old catalogue.old card.old
+        × (scratch.new ≡ close_scratch turned n free fits map.old catalogue.old card.old
         scratch.old) }
 {
     let count = catalogue::count(&*catalogue);

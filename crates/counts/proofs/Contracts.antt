@@ -19,30 +19,30 @@ use Rattle.counts.specs.contracts.count_from as count-from-function
 
 -- what is passed is a.0, a.1.0 and so on, in the order of the parameters, and what is left of it t.0, t.1.0 and so on
 module _ {M : Type 1} {𝓤 : Ura M} (𝓛 : Logic 𝓤) (mem : Memory → SProp 𝓤) (run : Routine → Fun 𝓤) where
-  pub read-count-contract : Ensures 𝓤 read-count-function.ended (read-count-function.clauses 𝓛 mem run) (λ κs a r t.
+  pub read_count_contract : Ensures 𝓤 read-count-function.ended (read-count-function.clauses 𝓛 mem run) (λ κs a r t.
       r ≡ read_of a.0.now a.1.0)
-  read-count-contract κs a r t g = refl
+  read_count_contract κs a r t g = refl
 
-  pub write-count-contract : Ensures 𝓤 write-count-function.ended (write-count-function.clauses 𝓛 mem run) (λ κs a r t.
+  pub write_count_contract : Ensures 𝓤 write-count-function.ended (write-count-function.clauses 𝓛 mem run) (λ κs a r t.
       (r ≡ write_answer a.0.now a.1.0 a.1.1.0) × (t.0.now ≡ after_write a.0.now a.1.0 a.1.1.0))
-  write-count-contract κs a r t g = refl
+  write_count_contract κs a r t g = refl
 
-  pub reply-of-contract : Ensures 𝓤 reply-of-function.ended (reply-of-function.clauses 𝓛 mem run) (λ κs a r t.
+  pub reply_of_contract : Ensures 𝓤 reply-of-function.ended (reply-of-function.clauses 𝓛 mem run) (λ κs a r t.
       r ≡ count_reply a.0)
-  reply-of-contract κs a r t g = refl
+  reply_of_contract κs a r t g = refl
 
-  pub count-from-contract : Ensures 𝓤 count-from-function.ended (count-from-function.clauses 𝓛 mem run) (λ κs a r t.
+  pub count_from_contract : Ensures 𝓤 count-from-function.ended (count-from-function.clauses 𝓛 mem run) (λ κs a r t.
       r ≡ count_from a.0)
-  count-from-contract κs a r t g = refl
+  count_from_contract κs a r t g = refl
 
-  pub read-count-asks-nothing : AsksNothing 𝓤 read-count-function.ended (read-count-function.clauses 𝓛 mem run)
-  read-count-asks-nothing κs a g = refl
+  pub read_count_asks_nothing : AsksNothing 𝓤 read-count-function.ended (read-count-function.clauses 𝓛 mem run)
+  read_count_asks_nothing κs a g = refl
 
-  pub write-count-asks-nothing : AsksNothing 𝓤 write-count-function.ended (write-count-function.clauses 𝓛 mem run)
-  write-count-asks-nothing κs a g = refl
+  pub write_count_asks_nothing : AsksNothing 𝓤 write-count-function.ended (write-count-function.clauses 𝓛 mem run)
+  write_count_asks_nothing κs a g = refl
 
-  pub reply-of-asks-nothing : AsksNothing 𝓤 reply-of-function.ended (reply-of-function.clauses 𝓛 mem run)
-  reply-of-asks-nothing κs a g = refl
+  pub reply_of_asks_nothing : AsksNothing 𝓤 reply-of-function.ended (reply-of-function.clauses 𝓛 mem run)
+  reply_of_asks_nothing κs a g = refl
 
-  pub count-from-asks-nothing : AsksNothing 𝓤 count-from-function.ended (count-from-function.clauses 𝓛 mem run)
-  count-from-asks-nothing κs a g = refl
+  pub count_from_asks_nothing : AsksNothing 𝓤 count-from-function.ended (count-from-function.clauses 𝓛 mem run)
+  count_from_asks_nothing κs a g = refl

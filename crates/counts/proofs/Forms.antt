@@ -45,9 +45,9 @@ module _ (x : ℕ) (p : is_pair x ≡ true) where
   unfolding pair_of
   pair_small = omega (arith, high, low)
 
-  byte-of-pair : byte_of (pair_of x) ≡ x
+  byte_of_pair : byte_of (pair_of x) ≡ x
   unfolding pair_of byte_of
-  byte-of-pair = omega (arith, high, low)
+  byte_of_pair = omega (arith, high, low)
 
 -- ---- the number of four pairs of digits, and its pairs
 
@@ -55,21 +55,21 @@ module _ (p q r s : ℕ) (hq : q < 100) (hr : r < 100) (hs : s < 100) where
   whole : ℕ
   whole = p * 1000000 + q * 10000 + r * 100 + s
 
-  first-pair : whole / 1000000 ≡ p
+  first_pair : whole / 1000000 ≡ p
   unfolding whole
-  first-pair = omega arith
+  first_pair = omega arith
 
-  second-pair : whole / 10000 % 100 ≡ q
+  second_pair : whole / 10000 % 100 ≡ q
   unfolding whole
-  second-pair = omega arith
+  second_pair = omega arith
 
-  third-pair : whole / 100 % 100 ≡ r
+  third_pair : whole / 100 % 100 ≡ r
   unfolding whole
-  third-pair = omega arith
+  third_pair = omega arith
 
-  last-pair : whole % 100 ≡ s
+  last_pair : whole % 100 ≡ s
   unfolding whole
-  last-pair = omega arith
+  last_pair = omega arith
 
 joined : (v : ℕ) → v / 1000000 * 1000000 + v / 10000 % 100 * 10000 + v / 100 % 100 * 100 + v % 100 ≡ v
 joined v =
@@ -122,9 +122,9 @@ pub record Formed (a b c d : ℕ) (count : Count) : Type 0 where
   pub range : in_range count ≡ true
 
 module _ (a b c d : ℕ) where
-  formed-absent : is_absent a b c d ≡ true → Formed a b c d Absent
+  formed_absent : is_absent a b c d ≡ true → Formed a b c d Absent
   unfolding is_absent form_of in_range
-  formed-absent e =
+  formed_absent e =
       let ea = eqb-true a 255 (and_left (eqb a 255) (eqb b 255 && (eqb c 255 && eqb d 255)) e) in
       let e1 = and_right (eqb a 255) (eqb b 255 && (eqb c 255 && eqb d 255)) e in
       let eb = eqb-true b 255 (and_left (eqb b 255) (eqb c 255 && eqb d 255) e1) in
@@ -133,9 +133,9 @@ module _ (a b c d : ℕ) where
       let ed = eqb-true d 255 (and_right (eqb c 255) (eqb d 255) e2) in
       record { form = cc; range = refl }
 
-  formed-number : digits a b c d ≡ true → Formed a b c d (Hundredths (hundredths_of a b c d))
+  formed_number : digits a b c d ≡ true → Formed a b c d (Hundredths (hundredths_of a b c d))
   unfolding form_of in_range digits hundredths_of whole
-  formed-number e =
+  formed_number e =
       let pa = and_left (is_pair a) (is_pair b && (is_pair c && is_pair d)) e in
       let e1 = and_right (is_pair a) (is_pair b && (is_pair c && is_pair d)) e in
       let pb = and_left (is_pair b) (is_pair c && is_pair d) e1 in
@@ -150,14 +150,14 @@ module _ (a b c d : ℕ) where
       record {
         form =
             sym (rw (
-              first-pair (pair_of a) (pair_of b) (pair_of c) (pair_of d) sb sc sd,
-              second-pair (pair_of a) (pair_of b) (pair_of c) (pair_of d) sb sc sd,
-              third-pair (pair_of a) (pair_of b) (pair_of c) (pair_of d) sb sc sd,
-              last-pair (pair_of a) (pair_of b) (pair_of c) (pair_of d) sb sc sd,
-              byte-of-pair a pa,
-              byte-of-pair b pb,
-              byte-of-pair c pc,
-              byte-of-pair d pd,
+              first_pair (pair_of a) (pair_of b) (pair_of c) (pair_of d) sb sc sd,
+              second_pair (pair_of a) (pair_of b) (pair_of c) (pair_of d) sb sc sd,
+              third_pair (pair_of a) (pair_of b) (pair_of c) (pair_of d) sb sc sd,
+              last_pair (pair_of a) (pair_of b) (pair_of c) (pair_of d) sb sc sd,
+              byte_of_pair a pa,
+              byte_of_pair b pb,
+              byte_of_pair c pc,
+              byte_of_pair d pd,
             ));
         range = lt-ltb _ 100000000 most;
       }
@@ -168,6 +168,6 @@ module _ (a b c d : ℕ) where
     where
       by : (s t : Bool) → is_absent a b c d ≡ s → digits a b c d ≡ t
           → cond s (Is Absent) (cond t (Is (Hundredths (hundredths_of a b c d))) WrongCount) ≡ Is count → Formed a b c d count
-      by true t es et e = subst (Formed a b c d) (cc) (formed-absent es)
-      by false true es et e = subst (Formed a b c d) (cc) (formed-number et)
+      by true t es et e = subst (Formed a b c d) (cc) (formed_absent es)
+      by false true es et e = subst (Formed a b c d) (cc) (formed_number et)
       by false false es et e = absurd (let z : ◌≡◌ {A = ℕ} 0 1 = cc in omega arith)

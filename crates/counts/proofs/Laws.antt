@@ -1,7 +1,7 @@
 -- The laws of request (e) of document 02, of what a read and a write of the crate's contracts give: what is written is read
--- back, and no other count is touched (`read_back`, `others-kept`, `bytes-kept`); what is read, written again, gives the same
--- payload, so each value has just one form (`written-again`, `one_form`); absent is four bytes of FF and nothing else, and
--- never a number (`absent_only`, `number_only`); a refusal changes nothing (`refused-keeps`).
+-- back, and no other count is touched (`read_back`, `others_kept`, `bytes_kept`); what is read, written again, gives the same
+-- payload, so each value has just one form (`written_again`, `one_form`); absent is four bytes of FF and nothing else, and
+-- never a number (`absent_only_lem`, `number_only`); a refusal changes nothing (`refused_keeps`).
 -- Assumes nothing.
 use mathlib.Core.Path.{◌≡◌, refl, sym, ap, subst, ◌∙◌}
 use mathlib.Core.Logic.{◌⊎◌, ⊎_elim, inl, inr}
@@ -16,7 +16,7 @@ use lib.Seq.{get_or-drop, length-take-le, take_at, drop_at}
 use borrow.Author.Tests.{eq-eqb, ne_eqb, eqb-true, eqb-false, lt-ltb, ltb-true, ltb-false}
 use Rattle.laws.proofs.Bools.{order}
 use Rattle.block_bytes.specs.Replaced.{replaced}
-use Rattle.block_bytes.proofs.Replaced.{replaced-length, replaced-before, replaced-after}
+use Rattle.block_bytes.proofs.Replaced.{replaced_length, replaced_before, replaced_after}
 use Rattle.counts.specs.Counts.{is_pair, pair_of, hundredths_of, is_absent, digits, count_of, read_of, four, bytes_at, form_of}
 use Rattle.counts.specs.Counts.{in_range, write_answer, after_write}
 use Rattle.counts.specs.Replies.{count_reply, count_from}
@@ -25,7 +25,7 @@ use Rattle.counts.specs.declared.Count.TheVariants.{Absent, Hundredths}
 use Rattle.counts.specs.declared.CountReply.{CountReply}
 use Rattle.counts.specs.declared.Reading.{Reading}
 use Rattle.counts.specs.declared.Reading.TheVariants.{Is, WrongLength, WrongCount}
-use Rattle.counts.proofs.Tests.{write-wrong, write-none, write-range}
+use Rattle.counts.proofs.Tests.{write_wrong, write-none, write-range}
 use Rattle.counts.proofs.Forms.{counted, form_length, form_read, Formed, formed}
 
 -- ---- the bytes of a count in its payload
@@ -36,13 +36,13 @@ record Inside (payload : List ℕ) (which : ℕ) : Type 0 where
   inside : which < 124
 
 module _ (payload : List ℕ) (which : ℕ) (w : Inside payload which) where
-  four-read : four
+  four_read : four
       (get_or payload (4 * which) 0)
       (get_or payload (4 * which + 1) 0)
       (get_or payload (4 * which + 2) 0)
       (get_or payload (4 * which + 3) 0)
       ≡ bytes_at payload which
-  four-read = sym (parted rest (omega (arith, w.long, w.inside, length-drop (4 * which) payload)) ∙ places)
+  four_read = sym (parted rest (omega (arith, w.long, w.inside, length-drop (4 * which) payload)) ∙ places)
     where
       rest : List ℕ
       rest = drop (4 * which) payload
@@ -70,9 +70,9 @@ module _ (payload : List ℕ) (which : ℕ) (w : Inside payload which) where
           )
 
   -- a read is of these four bytes
-  read-bytes : read_of payload which ≡ counted (bytes_at payload which)
+  read_bytes : read_of payload which ≡ counted (bytes_at payload which)
   unfolding read_of
-  read-bytes = rw (eq-eqb (length payload) 496 w.long, lt-ltb which 124 w.inside) (ap counted four-read)
+  read_bytes = rw (eq-eqb (length payload) 496 w.long, lt-ltb which 124 w.inside) (ap counted four_read)
 
   -- four bytes put there, and the same four put back
   module _ (bytes : List ℕ) (size : length bytes ≡ 4) where
@@ -80,11 +80,11 @@ module _ (payload : List ℕ) (which : ℕ) (w : Inside payload which) where
     fits = omega (arith, w.long, w.inside)
 
     put-inside : Inside (replaced payload (4 * which) bytes) which
-    put-inside = record { long = replaced-length payload (4 * which) bytes fits ∙ w.long; inside = w.inside }
+    put-inside = record { long = replaced_length payload (4 * which) bytes fits ∙ w.long; inside = w.inside }
 
-    put-there : bytes_at (replaced payload (4 * which) bytes) which ≡ bytes
+    put_there : bytes_at (replaced payload (4 * which) bytes) which ≡ bytes
     unfolding replaced
-    put-there =
+    put_there =
         let rest : List ℕ = drop (length bytes) (drop (4 * which) payload) in
         let front : length (take (4 * which) payload) ≡ 4 * which =
         length-take-le (4 * which) payload (omega (arith, w.long, w.inside)) in
@@ -92,8 +92,8 @@ module _ (payload : List ℕ) (which : ℕ) (w : Inside payload which) where
 
     put-elsewhere : (i : ℕ) → (i < 4 * which) ⊎ (4 * which + 4 ≤ i)
         → get_or (replaced payload (4 * which) bytes) i 0 ≡ get_or payload i 0
-    put-elsewhere i (inl h) = replaced-before payload (4 * which) bytes fits i h
-    put-elsewhere i (inr h) = replaced-after payload (4 * which) bytes fits i (omega arith)
+    put-elsewhere i (inl h) = replaced_before payload (4 * which) bytes fits i h
+    put-elsewhere i (inr h) = replaced_after payload (4 * which) bytes fits i (omega arith)
 
   put_back : replaced payload (4 * which) (bytes_at payload which) ≡ payload
   unfolding replaced
@@ -119,7 +119,7 @@ module _ (payload : List ℕ) (which : ℕ) (count : Count) where
     where
       by : (s t u : Bool) → eqb (length payload) 496 ≡ s → ltb which 124 ≡ t → in_range count ≡ u → Accepted
       by false t u es et eu =
-          absurd (omega (arith, e, (write-wrong payload which count (eqb-false (length payload) 496 es)).0))
+          absurd (omega (arith, e, (write_wrong payload which count (eqb-false (length payload) 496 es)).0))
       by true false u es et eu =
           absurd (omega
           (arith, e, (write-none payload which count (eqb-true (length payload) 496 es) (ltb-false which 124 et)).0))
@@ -137,14 +137,14 @@ module _ (payload : List ℕ) (which : ℕ) (count : Count) where
       let a = accepted e in
       let bytes : List ℕ = form_of count in
       ap (λ (l : List ℕ). read_of l which) a.after
-      ∙ read-bytes (replaced payload (4 * which) bytes) which (put-inside payload which a.within bytes (form_length count))
-      ∙ ap counted (put-there payload which a.within bytes (form_length count))
+      ∙ read_bytes (replaced payload (4 * which) bytes) which (put-inside payload which a.within bytes (form_length count))
+      ∙ ap counted (put_there payload which a.within bytes (form_length count))
       ∙ form_read count a.range
 
   -- a refused write changes nothing
-  pub refused-keeps : (write_answer payload which count ≡ 0 → ⊥) → after_write payload which count ≡ payload
+  pub refused_keeps : (write_answer payload which count ≡ 0 → ⊥) → after_write payload which count ≡ payload
   unfolding after_write
-  refused-keeps h = rw (ne_eqb (write_answer payload which count) 0 h)
+  refused_keeps h = rw (ne_eqb (write_answer payload which count) 0 h)
 
   -- by whether a write is accepted
   either : (P : List ℕ → Type 0) → P payload → (Accepted → P (replaced payload (4 * which) (form_of count)))
@@ -152,46 +152,46 @@ module _ (payload : List ℕ) (which : ℕ) (count : Count) where
   either P kept put = by (eqb (write_answer payload which count) 0) refl
     where
       by : (t : Bool) → eqb (write_answer payload which count) 0 ≡ t → P (after_write payload which count)
-      by false e = subst P (sym (refused-keeps (eqb-false (write_answer payload which count) 0 e))) kept
+      by false e = subst P (sym (refused_keeps (eqb-false (write_answer payload which count) 0 e))) kept
       by true e =
           let a = accepted (eqb-true (write_answer payload which count) 0 e) in
           subst P (sym a.after) (put a)
 
   -- a write changes those four bytes only
-  pub length-kept : length (after_write payload which count) ≡ length payload
-  length-kept =
+  pub length_kept : length (after_write payload which count) ≡ length payload
+  length_kept =
       either (λ l. length l ≡ length payload) refl λ a.
       (put-inside payload which a.within (form_of count) (form_length count)).long ∙ sym a.within.long
 
-  pub bytes-kept : (i : ℕ) → (i < 4 * which) ⊎ (4 * which + 4 ≤ i)
+  pub bytes_kept : (i : ℕ) → (i < 4 * which) ⊎ (4 * which + 4 ≤ i)
       → get_or (after_write payload which count) i 0 ≡ get_or payload i 0
-  bytes-kept i h =
+  bytes_kept i h =
       either (λ l. get_or l i 0 ≡ get_or payload i 0) refl λ a.
       put-elsewhere payload which a.within (form_of count) (form_length count) i h
 
   -- and leaves every other count as it was
-  pub others-kept : (other : ℕ) → (other ≡ which → ⊥) → read_of (after_write payload which count) other ≡ read_of payload other
+  pub others_kept : (other : ℕ) → (other ≡ which → ⊥) → read_of (after_write payload which count) other ≡ read_of payload other
   unfolding read_of
-  others-kept other h =
+  others_kept other h =
       let side : (i : ℕ) → i < 4 → (4 * other + i < 4 * which) ⊎ (4 * which + 4 ≤ 4 * other + i) =
       λ i small.
       ⊎_elim (λ (p : other < which). inl (omega arith)) (λ (p : which ≤ other). inr (omega arith)) (order other which) in
       let zeroth : get_or (after_write payload which count) (4 * other) 0 ≡ get_or payload (4 * other) 0 =
-      rw add-zero at (bytes-kept (4 * other + 0) (side 0 (lit< tt))) in
+      rw add-zero at (bytes_kept (4 * other + 0) (side 0 (lit< tt))) in
       rw (
-        length-kept,
+        length_kept,
         zeroth,
-        bytes-kept (4 * other + 1) (side 1 (lit< tt)),
-        bytes-kept (4 * other + 2) (side 2 (lit< tt)),
-        bytes-kept (4 * other + 3) (side 3 (lit< tt)),
+        bytes_kept (4 * other + 1) (side 1 (lit< tt)),
+        bytes_kept (4 * other + 2) (side 2 (lit< tt)),
+        bytes_kept (4 * other + 3) (side 3 (lit< tt)),
       )
 
 -- ---- what is read
 
 module _ (payload : List ℕ) (which : ℕ) (count : Count) (e : read_of payload which ≡ Is count) where
-  read-inside : Inside payload which
+  read_inside : Inside payload which
   unfolding read_of
-  read-inside = by (eqb (length payload) 496) (ltb which 124) refl refl e
+  read_inside = by (eqb (length payload) 496) (ltb which 124) refl refl e
     where
       there : Reading
       there =
@@ -207,50 +207,50 @@ module _ (payload : List ℕ) (which : ℕ) (count : Count) (e : read_of payload
       by true false es et e = absurd (let z : ◌≡◌ {A = ℕ} 0 1 = cc in omega arith)
       by true true es et e = record { long = eqb-true (length payload) 496 es; inside = ltb-true which 124 et }
 
-  read-formed : Formed
+  read_formed : Formed
       (get_or payload (4 * which) 0)
       (get_or payload (4 * which + 1) 0)
       (get_or payload (4 * which + 2) 0)
       (get_or payload (4 * which + 3) 0)
       count
   unfolding read_of
-  read-formed =
+  read_formed =
       formed _ _ _ _ count
-      (rw (eq-eqb (length payload) 496 read-inside.long, lt-ltb which 124 read-inside.inside) at e)
+      (rw (eq-eqb (length payload) 496 read_inside.long, lt-ltb which 124 read_inside.inside) at e)
 
   -- the form of a count that was read is its four bytes: each value has just one form
-  pub read-form : bytes_at payload which ≡ form_of count
-  read-form = sym (four-read payload which read-inside) ∙ read-formed.form
+  pub read_form : bytes_at payload which ≡ form_of count
+  read_form = sym (four_read payload which read_inside) ∙ read_formed.form
 
   -- what is read, written again, gives the same payload
-  pub written-again : (write_answer payload which count ≡ 0) × (after_write payload which count ≡ payload)
+  pub written_again : (write_answer payload which count ≡ 0) × (after_write payload which count ≡ payload)
   unfolding write_answer after_write
-  written-again =
-      let l = eq-eqb (length payload) 496 read-inside.long in
-      let i = lt-ltb which 124 read-inside.inside in (
-        rw (l, i, read-formed.range),
-        rw (l, i, read-formed.range, ← read-form, put_back payload which read-inside),
+  written_again =
+      let l = eq-eqb (length payload) 496 read_inside.long in
+      let i = lt-ltb which 124 read_inside.inside in (
+        rw (l, i, read_formed.range),
+        rw (l, i, read_formed.range, ← read_form, put_back payload which read_inside),
       )
 
 pub one_form : (p q : List ℕ) (i j : ℕ) (count : Count) → read_of p i ≡ Is count → read_of q j ≡ Is count
     → bytes_at p i ≡ bytes_at q j
-one_form p q i j count e f = read-form p i count e ∙ sym (read-form q j count f)
+one_form p q i j count e f = read_form p i count e ∙ sym (read_form q j count f)
 
 -- absent is four bytes of FF
-pub absent_only : (payload : List ℕ) (which : ℕ) → read_of payload which ≡ Is Absent
+pub absent_only_lem : (payload : List ℕ) (which : ℕ) → read_of payload which ≡ Is Absent
     → bytes_at payload which ≡ four 255 255 255 255
 unfolding form_of
-absent_only payload which e = read-form payload which Absent e
+absent_only_lem payload which e = read_form payload which Absent e
 
 -- a number that is read is at most 99,999,999, and its bytes are not these
 pub number_only : (payload : List ℕ) (which v : ℕ) → read_of payload which ≡ Is (Hundredths v)
     → (v ≤ 99999999) × (bytes_at payload which ≡ four 255 255 255 255 → ⊥)
 unfolding in_range count_of is_absent
 number_only payload which v e = (
-  omega (arith, ltb-true v 100000000 (read-formed payload which (Hundredths v) e).range),
+  omega (arith, ltb-true v 100000000 (read_formed payload which (Hundredths v) e).range),
   λ f.
-      let w = read-inside payload which (Hundredths v) e in
-      let other : Is (Hundredths v) ≡ Is Absent = sym e ∙ read-bytes payload which w ∙ ap counted f in
+      let w = read_inside payload which (Hundredths v) e in
+      let other : Is (Hundredths v) ≡ Is Absent = sym e ∙ read_bytes payload which w ∙ ap counted f in
       let z : ◌≡◌ {A = ℕ} 0 1 = cc in
       omega arith,
 )

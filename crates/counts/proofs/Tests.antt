@@ -26,20 +26,20 @@ unfolding hundredths_of
 sum_told a b c d p q r s ep eq er es = cc
 
 module _ (a b c d : ℕ) where
-  number-present : digits a b c d ≡ true → is_absent a b c d ≡ false
+  number_present : digits a b c d ≡ true → is_absent a b c d ≡ false
   unfolding digits is_absent is_pair
-  number-present e =
+  number_present e =
       let first = and_left (is_pair a) (is_pair b && (is_pair c && is_pair d)) e in
       let high : a / 16 < 10 = ltb-true (a / 16) 10 (and_left (ltb (a / 16) 10) (ltb (a % 16) 10) first) in
       rw (ne_eqb a 255 (λ z. omega arith))
 
-  pub number-told : (v : ℕ) → digits a b c d ≡ true → v ≡ hundredths_of a b c d → Is (Hundredths v) ≡ count_of a b c d
+  pub number_told : (v : ℕ) → digits a b c d ≡ true → v ≡ hundredths_of a b c d → Is (Hundredths v) ≡ count_of a b c d
   unfolding count_of
-  number-told v e ev = rw (number-present e, e, ev)
+  number_told v e ev = rw (number_present e, e, ev)
 
-  pub digit-refused : is_absent a b c d ≡ false → digits a b c d ≡ false → WrongCount ≡ count_of a b c d
+  pub digit_refused : is_absent a b c d ≡ false → digits a b c d ≡ false → WrongCount ≡ count_of a b c d
   unfolding count_of
-  digit-refused e t = rw (e, t)
+  digit_refused e t = rw (e, t)
 
 -- a number is absent exactly if it is 4,294,967,295
 pub absent_told : (n : ℕ) → n ≡ 4294967295 → Is Absent ≡ count_of (n / 16777216) (n / 65536 % 256) (n / 256 % 256) (n % 256)
@@ -73,9 +73,9 @@ not_absent n h = not_true (is_absent (n / 16777216) (n / 65536 % 256) (n / 256 %
         steps (n / 16777216) (n / 65536 % 256) (n / 256 % 256) (n % 256) (n / 65536) (n / 256) p q r s one two three
 
 module _ (payload : List ℕ) (which : ℕ) where
-  pub read-wrong : (length payload ≡ 496 → ⊥) → WrongLength ≡ read_of payload which
+  pub read_wrong : (length payload ≡ 496 → ⊥) → WrongLength ≡ read_of payload which
   unfolding read_of
-  read-wrong h = rw (ne_eqb (length payload) 496 h)
+  read_wrong h = rw (ne_eqb (length payload) 496 h)
 
   pub read_none : length payload ≡ 496 → 124 ≤ which → WrongCount ≡ read_of payload which
   unfolding read_of
@@ -152,9 +152,9 @@ module _ (payload : List ℕ) (which : ℕ) (count : Count) where
   abbrev pub Written : ℕ → List ℕ → Type 0
   Written answer after = (answer ≡ write_answer payload which count) × (after ≡ after_write payload which count)
 
-  pub write-wrong : (length payload ≡ 496 → ⊥) → Written 3 payload
+  pub write_wrong : (length payload ≡ 496 → ⊥) → Written 3 payload
   unfolding write_answer after_write
-  write-wrong h = (rw (ne_eqb (length payload) 496 h), rw (ne_eqb (length payload) 496 h))
+  write_wrong h = (rw (ne_eqb (length payload) 496 h), rw (ne_eqb (length payload) 496 h))
 
   module _ (l : length payload ≡ 496) where
     pub write-none : 124 ≤ which → Written 16 payload

@@ -34,9 +34,9 @@ module _ (n : ℕ) (f : ℕ → Bool) (e : Entry) where
   same false true false paused rest b = absurd (false≢true b)
   same false false z paused rest b = refl
 
-  same-standing : not_paused_with e ≡ true → standing_of n f e ≡ standing_before n f e
+  same_standing : not_paused_with e ≡ true → standing_of n f e ≡ standing_before n f e
   unfolding standing_of standing_before
-  same-standing b =
+  same_standing b =
       same (eqb e.mark absent_mark) (eqb e.mark paused_mark) (eqb e.start 0 && eqb e.length 0) _ _ b
 
   bare : (p q z : Bool) (rest : Standing)
@@ -46,9 +46,9 @@ module _ (n : ℕ) (f : ℕ → Bool) (e : Entry) where
   bare true true false rest d = absurd (true≢false d)
   bare false true false rest d = absurd (true≢false d)
 
-  was-bare : is_damaged (standing_before n f e) ≡ false → not_paused_with e ≡ true
+  was_bare : is_damaged (standing_before n f e) ≡ false → not_paused_with e ≡ true
   unfolding standing_before
-  was-bare d = bare (eqb e.mark absent_mark) (eqb e.mark paused_mark) (eqb e.start 0 && eqb e.length 0) _ d
+  was_bare d = bare (eqb e.mark absent_mark) (eqb e.mark paused_mark) (eqb e.start 0 && eqb e.length 0) _ d
 
 -- ---- a state
 
@@ -56,14 +56,14 @@ same_undamaged : (n : ℕ) (f : ℕ → Bool) (es : List Entry) → no_paused_bl
 unfolding undamaged undamaged_before no_paused_blocks
 same_undamaged n f [] b = refl
 same_undamaged n f (e ∷ es) b =
-    ap₂ (λ (s : Standing) (t : Bool). not (is_damaged s) && t) (same-standing n f e (and_left _ _ b))
+    ap₂ (λ (s : Standing) (t : Bool). not (is_damaged s) && t) (same_standing n f e (and_left _ _ b))
     (same_undamaged n f es (and_right (not_paused_with e) _ b))
 
 pub were_bare : (n : ℕ) (f : ℕ → Bool) (es : List Entry) → undamaged_before n f es ≡ true → no_paused_blocks es ≡ true
 unfolding undamaged_before no_paused_blocks
 were_bare n f [] u = refl
 were_bare n f (e ∷ es) u =
-    and_both _ _ (was-bare n f e (not-true _ (and_left (not (is_damaged (standing_before n f e))) _ u)))
+    and_both _ _ (was_bare n f e (not-true _ (and_left (not (is_damaged (standing_before n f e))) _ u)))
     (were_bare n f es (and_right (not (is_damaged (standing_before n f e))) _ u))
 
 same_sound : (s : State) → no_paused_blocks s.entries ≡ true → sound s ≡ sound_before s

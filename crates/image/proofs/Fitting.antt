@@ -34,9 +34,9 @@ pub record SaveFits (n spare c maplen scratchlen : ℕ) : Type 0 where
   pub scratch : scratchlen ≡ scratch_words maplen
 
 module _ (n spare c maplen scratchlen : ℕ) where
-  pub save-unshaped : shape_fits n spare maplen ≡ false → false ≡ save_fits n spare c maplen scratchlen
+  pub save_unshaped : shape_fits n spare maplen ≡ false → false ≡ save_fits n spare c maplen scratchlen
   unfolding save_fits
-  save-unshaped s = sym (ap (λ (a : Bool). a && sheets_fit c && eqb scratchlen (scratch_words maplen)) s)
+  save_unshaped s = sym (ap (λ (a : Bool). a && sheets_fit c && eqb scratchlen (scratch_words maplen)) s)
 
   module _ (s : shape_fits n spare maplen ≡ true) where
     pub save-uncounted : sheets_fit c ≡ false → false ≡ save_fits n spare c maplen scratchlen
@@ -49,9 +49,9 @@ module _ (n spare c maplen scratchlen : ℕ) where
     save-by-scratch t v ev = ap (eqb scratchlen) ev
         ∙ sym (ap₂ (λ (a b : Bool). a && b && eqb scratchlen (scratch_words maplen)) s t)
 
-  pub save-fits-to : save_fits n spare c maplen scratchlen ≡ true → SaveFits n spare c maplen scratchlen
+  pub save_fits_to : save_fits n spare c maplen scratchlen ≡ true → SaveFits n spare c maplen scratchlen
   unfolding save_fits
-  save-fits-to e =
+  save_fits_to e =
       let a : Bool = shape_fits n spare maplen in
       let b : Bool = sheets_fit c in
       let d : Bool = eqb scratchlen (scratch_words maplen) in
@@ -64,9 +64,9 @@ module _ (n spare c maplen scratchlen : ℕ) where
         scratch = eqb-true scratchlen (scratch_words maplen) (and_right (a && b) d e);
       }
 
-  pub to-save-fits : shape_fits n spare maplen ≡ true → sheets_fit c ≡ true → scratchlen ≡ scratch_words maplen
+  pub to_save_fits : shape_fits n spare maplen ≡ true → sheets_fit c ≡ true → scratchlen ≡ scratch_words maplen
       → save_fits n spare c maplen scratchlen ≡ true
-  to-save-fits s t e = sym (save-by-scratch s t (scratch_words maplen) refl) ∙ eq-eqb scratchlen (scratch_words maplen) e
+  to_save_fits s t e = sym (save-by-scratch s t (scratch_words maplen) refl) ∙ eq-eqb scratchlen (scratch_words maplen) e
 
 -- row 12 of load
 pub record Whole (bytes : ℕ) : Type 0 where
@@ -75,9 +75,9 @@ pub record Whole (bytes : ℕ) : Type 0 where
   pub few : bytes / 512 ≤ 91
 
 module _ (bytes : ℕ) where
-  pub whole-cut : (bytes % 512 ≡ 0 → ⊥) → false ≡ whole_blocks bytes
+  pub whole_cut : (bytes % 512 ≡ 0 → ⊥) → false ≡ whole_blocks bytes
   unfolding whole_blocks
-  whole-cut h = sym (ap (λ (a : Bool). a && leb 1 (bytes / 512) && leb (bytes / 512) 91) (ne_eqb (bytes % 512) 0 h))
+  whole_cut h = sym (ap (λ (a : Bool). a && leb 1 (bytes / 512) && leb (bytes / 512) 91) (ne_eqb (bytes % 512) 0 h))
 
   module _ (z : bytes % 512 ≡ 0) where
     pub whole-none : bytes / 512 < 1 → false ≡ whole_blocks bytes
@@ -116,13 +116,13 @@ pub record Head (n spare c total : ℕ) : Type 0 where
   pub exact : total ≡ frames_for n c
 
 module _ (n spare c total : ℕ) where
-  pub head-unshaped : shape_fits n spare (words_for n) ≡ false → false ≡ head_fits n spare c total
+  pub head_unshaped : shape_fits n spare (words_for n) ≡ false → false ≡ head_fits n spare c total
   unfolding head_fits
-  head-unshaped s = sym (ap (λ (a : Bool). a && sheets_fit c && eqb total (frames_for n c)) s)
+  head_unshaped s = sym (ap (λ (a : Bool). a && sheets_fit c && eqb total (frames_for n c)) s)
 
   pub head_large : 262144 < n → false ≡ head_fits n spare c total
   head_large h =
-      head-unshaped (not-true' (shape_fits n spare (words_for n))
+      head_unshaped (not-true' (shape_fits n spare (words_for n))
       (λ e. let l = fits n spare (words_for n) e in omega (arith, l.limit)))
     where
       not-true' : (a : Bool) → (a ≡ true → ⊥) → a ≡ false
@@ -138,12 +138,12 @@ module _ (n spare c total : ℕ) where
     unfolding head_fits
     head-by-total k t e = ap (eqb total) e ∙ sym (ap₂ (λ (a b : Bool). a && b && eqb total (frames_for n c)) s k)
 
-  pub sheets-few : sheets_fit c ≡ true → c ≤ 1024
-  sheets-few e = (sheets c e).few
+  pub sheets_few : sheets_fit c ≡ true → c ≤ 1024
+  sheets_few e = (sheets c e).few
 
-  pub head-to : head_fits n spare c total ≡ true → Head n spare c total
+  pub head_to : head_fits n spare c total ≡ true → Head n spare c total
   unfolding head_fits
-  head-to e =
+  head_to e =
       let a : Bool = shape_fits n spare (words_for n) in
       let b : Bool = sheets_fit c in
       let d : Bool = eqb total (frames_for n c) in
@@ -167,9 +167,9 @@ pub record LoadFits (n c maplen count scratchlen : ℕ) : Type 0 where
   pub scratch : scratchlen ≡ scratch_words (words_for n)
 
 module _ (n c maplen count scratchlen w : ℕ) (ew : w ≡ words_for n) where
-  pub load-words : (maplen ≡ w → ⊥) → false ≡ load_fits n c maplen count scratchlen
+  pub load_words : (maplen ≡ w → ⊥) → false ≡ load_fits n c maplen count scratchlen
   unfolding load_fits
-  load-words h =
+  load_words h =
       sym (ap (λ (a : Bool). a && eqb count c && eqb scratchlen (scratch_words (words_for n)))
       (ne_eqb maplen (words_for n) (λ q. h (q ∙ sym ew))))
 

@@ -20,19 +20,19 @@ use Rattle.catalogue.specs.declared.Entry.{Entry}
 use Rattle.image_frames.specs.Frames.{Bytes, frames, body_of, total_of, framed, sealed_image}
 use Rattle.image_frames.specs.Numbers.{word_bytes, words_at}
 use Rattle.image_frames.proofs.Bodies.{body_length}
-use Rattle.image_frames.proofs.Framing.{frames_length, frames-total, frames-body, frames-hold, framed_back, bytes_back}
+use Rattle.image_frames.proofs.Framing.{frames_length, frames_total, frames_body, frames_hold, framed_back, bytes_back}
 use Rattle.image_frames.proofs.Recovered.{body_bytes, words_back, words_stored}
 use Rattle.image_frames.proofs.Stored.{word_bytes_length, words_at_length}
 use Rattle.image_soundness.specs.Scratch.{scratch_words}
 use Rattle.image_soundness.specs.Sound.{State, sound, undamaged}
-use Rattle.image_soundness.proofs.Covers.{head-undamaged, tail-undamaged}
-use Rattle.image_soundness.proofs.Damage.{extent-inside, mark-small}
-use Rattle.image_soundness.proofs.WhenSound.{sound-to}
+use Rattle.image_soundness.proofs.Covers.{head_undamaged, tail_undamaged}
+use Rattle.image_soundness.proofs.Damage.{extent_inside, mark_small}
+use Rattle.image_soundness.proofs.WhenSound.{sound_to}
 use Rattle.image.specs.Image.{content_length, frames_for, entry_bytes, body, image_of, entries_from, blocks_in, free_count_in}
 use Rattle.image.specs.Image.{sheets_in, entries_in, map_in, state_in, filled}
 use Rattle.image.specs.Table.{save_verdict, head_fits, load_fits, load_verdict}
-use Rattle.image.proofs.Fitting.{SaveFits, save-fits-to, whole_to, to_whole, Head, head-to, to_head, to_load_fits}
-use Rattle.image.proofs.Verdicts.{Saved, saved-to, Accepted, accepted-to, to-accepted}
+use Rattle.image.proofs.Fitting.{SaveFits, save_fits_to, whole_to, to_whole, Head, head_to, to_head, to_load_fits}
+use Rattle.image.proofs.Verdicts.{Saved, saved_to_lem, Accepted, accepted_to, to_accepted}
 
 -- every element fits a 64-bit word, as those of a map do
 abbrev pub Words : List ℕ → Type 0
@@ -67,9 +67,9 @@ entries_stored : (n : ℕ) (f : ℕ → Bool) (p : List ℕ) (es : List Entry) (
 unfolding entry_bytes entries_from
 entries_stored n f p [] q at h u e = refl
 entries_stored n f p (x ∷ es) q at h u e =
-    let d = head-undamaged n f x es u in
-    let i = extent-inside n x f d in
-    let k = mark-small n x f d in
+    let d = head_undamaged n f x es u in
+    let i = extent_inside n x f d in
+    let k = mark_small n x f d in
     let m : List ℕ = bytes4 x.mark in
     let s : List ℕ = bytes4 x.start in
     let l : List ℕ = bytes4 x.length in
@@ -98,7 +98,7 @@ entries_stored n f p (x ∷ es) q at h u e =
     (ap₂ (λ (a b : ℕ). entry a b (number_at (p ++ (m ++ (s ++ (l ++ rest)))) (at + 8))) e0 e1
     ∙ ap (entry x.mark x.start) e2)
     (ap (λ (b : List ℕ). entries_from b (at + 12) (length es)) b3
-    ∙ entries_stored n f (((p ++ m) ++ s) ++ l) es q (at + 12) h (tail-undamaged n f x es u) (omega arith))
+    ∙ entries_stored n f (((p ++ m) ++ s) ++ l) es q (at + 12) h (tail_undamaged n f x es u) (omega arith))
 
 entries_back : (bytes : List ℕ) (at c : ℕ) → Bytes bytes → at + 12 * c ≤ length bytes
     → entry_bytes (entries_from bytes at c) ≡ take (12 * c) (drop at bytes)
@@ -135,7 +135,7 @@ state n spare entries map = record { blocks = n; spare = spare; entries = entrie
 module _ (turned : Bool) (image : List ℕ) (maplen count scratchlen : ℕ) (small : Bytes image)
     (v : load_verdict turned image maplen count scratchlen ≡ accepted) where
   facts : Accepted turned image maplen count scratchlen
-  facts = accepted-to turned image maplen count scratchlen v
+  facts = accepted_to turned image maplen count scratchlen v
 
   abbrev n : ℕ
   n = blocks_in image
@@ -153,7 +153,7 @@ module _ (turned : Bool) (image : List ℕ) (maplen count scratchlen : ℕ) (sma
   map = map_in image n c
 
   head : Head n (free_count_in image) c (total_of image)
-  head = head-to n (free_count_in image) c (total_of image) facts.first
+  head = head_to n (free_count_in image) c (total_of image) facts.first
 
   long : length b ≡ 496 * frames_for n c
   long = body_length image ∙ ap (λ (k : ℕ). 496 * k) head.exact
@@ -161,26 +161,26 @@ module _ (turned : Bool) (image : List ℕ) (maplen count scratchlen : ℕ) (sma
   bytes : Bytes b
   bytes = body_bytes image small
 
-  first-bytes : bytes4 n ++ bytes4 (free_count_in image) ++ bytes4 c ≡ take 12 b
+  first_bytes : bytes4 n ++ bytes4 (free_count_in image) ++ bytes4 c ≡ take 12 b
   unfolding blocks_in free_count_in sheets_in
-  first-bytes =
+  first_bytes =
       let l = long in
       ap₂ (λ (x y : List ℕ). (x ++ y) ++ bytes4 (number_at b 8)) (bytes_back b 0 bytes (omega arith))
       (bytes_back b 4 bytes (omega arith))
       ∙ ap (λ (x : List ℕ). (take 4 (drop 0 b) ++ take 4 (drop 4 b)) ++ x) (bytes_back b 8 bytes (omega arith))
       ∙ ap (λ (x : List ℕ). x ++ take 4 (drop 8 b)) (sym (take-add 4 4 b)) ∙ sym (take-add 8 4 b)
 
-  entry-bytes : entry_bytes entries ≡ take (12 * c) (drop 12 b)
+  entry_bytes_lem : entry_bytes entries ≡ take (12 * c) (drop 12 b)
   unfolding entries_in
-  entry-bytes = let l = long in entries_back b 12 c bytes (omega arith)
+  entry_bytes_lem = let l = long in entries_back b 12 c bytes (omega arith)
 
-  word-bytes : word_bytes map ≡ take (8 * words_for n) (drop (12 + 12 * c) b)
+  word_bytes_lem : word_bytes map ≡ take (8 * words_for n) (drop (12 + 12 * c) b)
   unfolding map_in
-  word-bytes = let l = long in words_back b (12 + 12 * c) (words_for n) bytes (omega arith)
+  word_bytes_lem = let l = long in words_back b (12 + 12 * c) (words_for n) bytes (omega arith)
 
-  fill-bytes : replicate (496 * frames_for n c - content_length n c) 0 ≡ drop (content_length n c) b
+  fill_bytes : replicate (496 * frames_for n c - content_length n c) 0 ≡ drop (content_length n c) b
   unfolding filled
-  fill-bytes =
+  fill_bytes =
       let l : length (drop (content_length n c) b) ≡ 496 * frames_for n c - content_length n c = length-drop (content_length n c) b
       ∙ ap (λ (k : ℕ). k - content_length n c) long in
       sym (blank_is_zeros (drop (content_length n c) b) facts.fill ∙ ap (λ (k : ℕ). replicate k 0) l)
@@ -190,17 +190,17 @@ module _ (turned : Bool) (image : List ℕ) (maplen count scratchlen : ℕ) (sma
   body_back =
       ap (λ (k : ℕ). (bytes4 n ++ bytes4 (free_count_in image) ++ bytes4 k) ++ entry_bytes entries ++ word_bytes map
       ++ replicate (496 * frames_for n k - content_length n k) 0) (entries_length image c)
-      ∙ ap₂ (λ (x y : List ℕ). x ++ y ++ word_bytes map ++ replicate (496 * frames_for n c - content_length n c) 0) first-bytes
-      entry-bytes
+      ∙ ap₂ (λ (x y : List ℕ). x ++ y ++ word_bytes map ++ replicate (496 * frames_for n c - content_length n c) 0) first_bytes
+      entry_bytes_lem
       ∙ ap₂ (λ (x y : List ℕ). x ++ y ++ replicate (496 * frames_for n c - content_length n c) 0)
-      (sym (take-add 12 (12 * c) b)) word-bytes
-      ∙ ap₂ ◌++◌ (sym (take-add (12 + 12 * c) (8 * words_for n) b)) fill-bytes
+      (sym (take-add 12 (12 * c) b)) word_bytes_lem
+      ∙ ap₂ ◌++◌ (sym (take-add (12 + 12 * c) (8 * words_for n) b)) fill_bytes
       ∙ take-append-drop (content_length n c) b
 
   -- it is the image of the state that it gives
-  pub loaded-image : image_of (state_in image) ≡ image
+  pub loaded_image : image_of (state_in image) ≡ image
   unfolding image_of sealed_image
-  loaded-image =
+  loaded_image =
       let w = whole_to (length image) facts.blocks in
       let t : frames_for n (length entries) ≡ total_of image = ap (frames_for n) (entries_length image c) ∙ sym head.exact in
       ap₂ (λ (k : ℕ) (l : List ℕ). frames k 0 k l) t body_back ∙ framed_back image small w.exact facts.frames
@@ -210,10 +210,10 @@ module _ (turned : Bool) (image : List ℕ) (maplen count scratchlen : ℕ) (sma
 module _ (turned : Bool) (s : State) (scratchlen bufferlen : ℕ) (words : Words s.map)
     (v : save_verdict turned s scratchlen bufferlen ≡ accepted) where
   saved : Saved turned s scratchlen bufferlen
-  saved = saved-to turned s scratchlen bufferlen v
+  saved = saved_to_lem turned s scratchlen bufferlen v
 
   fit : SaveFits s.blocks s.spare (length s.entries) (length s.map) scratchlen
-  fit = save-fits-to s.blocks s.spare (length s.entries) (length s.map) scratchlen saved.lengths
+  fit = save_fits_to s.blocks s.spare (length s.entries) (length s.map) scratchlen saved.lengths
 
   abbrev N : ℕ
   N = s.blocks
@@ -252,12 +252,12 @@ module _ (turned : Bool) (s : State) (scratchlen bufferlen : ℕ) (words : Words
   HEM-length : length (H ++ E ++ M) ≡ content_length N C
   HEM-length = let w = fit.limits.words in omega (arith, length-append (H ++ E) M, HE-length, word_bytes_length s.map)
 
-  saved-body : body s ≡ H ++ E ++ M ++ Z
+  saved_body : body s ≡ H ++ E ++ M ++ Z
   unfolding body
-  saved-body = refl
+  saved_body = refl
 
-  body-long : length (body s) ≡ 496 * T
-  body-long = ap length saved-body ∙ omega (
+  body_long : length (body s) ≡ 496 * T
+  body_long = ap length saved_body ∙ omega (
     arith,
     length-append (H ++ E ++ M) Z,
     HEM-length,
@@ -267,98 +267,98 @@ module _ (turned : Bool) (s : State) (scratchlen bufferlen : ℕ) (words : Words
   abbrev image : List ℕ
   image = image_of s
 
-  image-body : body_of image ≡ H ++ E ++ M ++ Z
+  image_body : body_of image ≡ H ++ E ++ M ++ Z
   unfolding image_of
-  image-body = frames-body T (body s) body-long ∙ saved-body
+  image_body = frames_body T (body s) body_long ∙ saved_body
 
-  image-total : total_of image ≡ T
+  image_total : total_of image ≡ T
   unfolding image_of
-  image-total = frames-total T (body s) body-long
+  image_total = frames_total T (body s) body_long
 
-  image-length : length image ≡ 512 * T
+  image_length : length image ≡ 512 * T
   unfolding image_of
-  image-length = frames_length T 0 T (body s) body-long
+  image_length = frames_length T 0 T (body s) body_long
 
   few : T ≤ 91
   few = omega (arith, fit.limits.limit, fit.count.few)
 
-  image-framed : framed image ≡ true
+  image_framed : framed image ≡ true
   unfolding image_of
-  image-framed = frames-hold T (body s) body-long (omega (arith, few))
+  image_framed = frames_hold T (body s) body_long (omega (arith, few))
 
   -- what stands in the image
-  image-blocks : blocks_in image ≡ N
+  image_blocks : blocks_in image ≡ N
   unfolding blocks_in
-  image-blocks =
+  image_blocks =
       let a : H ++ E ++ M ++ Z ≡ bytes4 N ++ (bytes4 s.spare ++ (bytes4 C ++ (E ++ (M ++ Z)))) = simp append_assoc in
-      ap (λ (l : List ℕ). number_at l 0) (image-body ∙ a)
+      ap (λ (l : List ℕ). number_at l 0) (image_body ∙ a)
       ∙ number_at_lem [] (bytes4 s.spare ++ (bytes4 C ++ (E ++ (M ++ Z)))) N 0 refl (omega (arith, fit.limits.limit))
 
-  image-spare : free_count_in image ≡ s.spare
+  image_spare : free_count_in image ≡ s.spare
   unfolding free_count_in
-  image-spare =
+  image_spare =
       let a : H ++ E ++ M ++ Z ≡ bytes4 N ++ (bytes4 s.spare ++ (bytes4 C ++ (E ++ (M ++ Z)))) = simp append_assoc in
-      ap (λ (l : List ℕ). number_at l 4) (image-body ∙ a)
+      ap (λ (l : List ℕ). number_at l 4) (image_body ∙ a)
       ∙ number_at_lem (bytes4 N) (bytes4 C ++ (E ++ (M ++ Z))) s.spare 4 (bytes4_length N)
       (omega (arith, fit.limits.limit, fit.limits.spare))
 
-  image-sheets : sheets_in image ≡ C
+  image_sheets : sheets_in image ≡ C
   unfolding sheets_in
-  image-sheets =
+  image_sheets =
       let a : H ++ E ++ M ++ Z ≡ (bytes4 N ++ bytes4 s.spare) ++ (bytes4 C ++ (E ++ (M ++ Z))) = simp append_assoc in
-      ap (λ (l : List ℕ). number_at l 8) (image-body ∙ a)
+      ap (λ (l : List ℕ). number_at l 8) (image_body ∙ a)
       ∙ number_at_lem (bytes4 N ++ bytes4 s.spare) (E ++ (M ++ Z)) C 8
       (omega (arith, length-append (bytes4 N) (bytes4 s.spare), bytes4_length N, bytes4_length s.spare))
       (omega (arith, fit.count.few))
 
-  image-entries : entries_in image C ≡ s.entries
+  image_entries : entries_in image C ≡ s.entries
   unfolding entries_in
-  image-entries =
+  image_entries =
       let a : H ++ E ++ M ++ Z ≡ H ++ (E ++ (M ++ Z)) = append_assoc (H ++ E) M Z ∙ append_assoc H E (M ++ Z) in
-      ap (λ (l : List ℕ). entries_from l 12 C) (image-body ∙ a)
+      ap (λ (l : List ℕ). entries_from l 12 C) (image_body ∙ a)
       ∙ entries_stored N (free s.map) H s.entries (M ++ Z) 12 fit.limits.limit
-      (sound-to s saved.whole).whole H-length
+      (sound_to s saved.whole).whole H-length
 
-  image-map : map_in image N C ≡ s.map
+  image_map : map_in image N C ≡ s.map
   unfolding map_in
-  image-map =
+  image_map =
       let a : H ++ E ++ M ++ Z ≡ (H ++ E) ++ (M ++ Z) = append_assoc (H ++ E) M Z in
-      ap₂ (λ (l : List ℕ) (k : ℕ). words_at l (12 + 12 * C) k) (image-body ∙ a) (sym fit.limits.words)
+      ap₂ (λ (l : List ℕ) (k : ℕ). words_at l (12 + 12 * C) k) (image_body ∙ a) (sym fit.limits.words)
       ∙ words_stored (H ++ E) s.map Z (12 + 12 * C) HE-length words
 
-  image-filled : filled image N C ≡ true
+  image_filled : filled image N C ≡ true
   unfolding filled
-  image-filled =
-      ap (λ (l : List ℕ). blank (drop (content_length N C) l)) image-body
+  image_filled =
+      ap (λ (l : List ℕ). blank (drop (content_length N C) l)) image_body
       ∙ ap blank (drop_at (H ++ E ++ M) Z (content_length N C) HEM-length) ∙ blank_zeros (496 * T - content_length N C)
 
   -- the state that stands in the image is the one saved
-  pub saved-state : state_in image ≡ s
-  saved-state =
-      ap₂ (λ (x y : ℕ). state x (free_count_in image) (entries_in image y) (map_in image x y)) image-blocks image-sheets
-      ∙ ap₂ (λ (x : ℕ) (l : List Entry). state N x l (map_in image N C)) image-spare image-entries
-      ∙ ap (state N s.spare s.entries) image-map
+  pub saved_state_lem : state_in image ≡ s
+  saved_state_lem =
+      ap₂ (λ (x y : ℕ). state x (free_count_in image) (entries_in image y) (map_in image x y)) image_blocks image_sheets
+      ∙ ap₂ (λ (x : ℕ) (l : List Entry). state N x l (map_in image N C)) image_spare image_entries
+      ∙ ap (state N s.spare s.entries) image_map
 
   -- and a load that is not turned away accepts it
-  pub saved-accepted : load_verdict false image (length s.map) C (scratch_words (length s.map)) ≡ accepted
-  saved-accepted =
+  pub saved_accepted : load_verdict false image (length s.map) C (scratch_words (length s.map)) ≡ accepted
+  saved_accepted =
       let w = fit.limits.words in
-      to-accepted false image (length s.map) C (scratch_words (length s.map)) (record {
+      to_accepted false image (length s.map) C (scratch_words (length s.map)) (record {
         admitted = refl;
         blocks =
             to_whole (length image)
             (record {
-              exact = omega (arith, image-length);
-              some = omega (arith, image-length);
-              few = omega (arith, image-length, few);
+              exact = omega (arith, image_length);
+              some = omega (arith, image_length);
+              few = omega (arith, image_length, few);
             });
-        frames = image-framed;
-        first = ap₂ (λ (x y : ℕ). head_fits x (free_count_in image) y (total_of image)) image-blocks image-sheets
-            ∙ ap₂ (λ (x t : ℕ). head_fits N x C t) image-spare image-total
+        frames = image_framed;
+        first = ap₂ (λ (x y : ℕ). head_fits x (free_count_in image) y (total_of image)) image_blocks image_sheets
+            ∙ ap₂ (λ (x t : ℕ). head_fits N x C t) image_spare image_total
             ∙ to_head N s.spare C T (ap (shape_fits N s.spare) (sym w) ∙ fit.shape) fit.listed refl;
-        lengths = ap₂ (λ (x y : ℕ). load_fits x y (length s.map) C (scratch_words (length s.map))) image-blocks image-sheets
+        lengths = ap₂ (λ (x y : ℕ). load_fits x y (length s.map) C (scratch_words (length s.map))) image_blocks image_sheets
             ∙ to_load_fits N C (length s.map) C (scratch_words (length s.map))
             (record { words = w; entries = refl; scratch = ap scratch_words w });
-        whole = ap sound saved-state ∙ saved.whole;
-        fill = ap₂ (filled image) image-blocks image-sheets ∙ image-filled;
+        whole = ap sound saved_state_lem ∙ saved.whole;
+        fill = ap₂ (filled image) image_blocks image_sheets ∙ image_filled;
       })

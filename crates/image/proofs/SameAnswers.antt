@@ -20,16 +20,16 @@ use Rattle.image.specs.Table.{save_fits, save_rows, save_verdict, whole_blocks, 
 
 -- the rows, where the scratch of a map of w words is to have `words w`; document 01's are those of `λ w. w`
 module _ (words : ℕ → ℕ) where
-  pub saveRowsBy : State → ℕ → ℕ → List Row
-  saveRowsBy s scratchlen bufferlen =
+  pub save_rows_by : State → ℕ → ℕ → List Row
+  save_rows_by s scratchlen bufferlen =
       row 1 (not (shape_fits s.blocks s.spare (length s.map) && sheets_fit (length s.entries)
       && eqb scratchlen (words (length s.map))))
       ∷ row 4 (not (sound s))
       ∷ row 12 (not (eqb bufferlen (512 * frames_for s.blocks (length s.entries))))
       ∷ []
 
-  pub loadRowsBy : List ℕ → ℕ → ℕ → ℕ → List Row
-  loadRowsBy image maplen count scratchlen =
+  pub load_rows_by : List ℕ → ℕ → ℕ → ℕ → List Row
+  load_rows_by image maplen count scratchlen =
       row 12 (not (whole_blocks (length image)))
       ∷ row 13 (not (framed image))
       ∷ row 14 (not (head_fits (blocks_in image) (free_count_in image) (sheets_in image) (total_of image)))
@@ -43,8 +43,8 @@ asked a b = eq-eqb a a refl ∙ sym (eq-eqb b b refl)
 
 pub save_alike : (words : ℕ → ℕ) (s : State) (bufferlen : ℕ)
     → save_verdict false s (scratch_words (length s.map)) bufferlen
-    ≡ first_of (saveRowsBy words s (words (length s.map)) bufferlen)
-unfolding first_of save_verdict save_rows save_fits saveRowsBy
+    ≡ first_of (save_rows_by words s (words (length s.map)) bufferlen)
+unfolding first_of save_verdict save_rows save_fits save_rows_by
 save_alike words s bufferlen =
     ap (λ (b : Bool). first_of
     (row 1 (not (shape_fits s.blocks s.spare (length s.map) && sheets_fit (length s.entries) && b))
@@ -55,8 +55,8 @@ save_alike words s bufferlen =
 
 pub load_alike : (words : ℕ → ℕ) (image : List ℕ) (maplen count : ℕ)
     → load_verdict false image maplen count (scratch_words (words_for (blocks_in image)))
-    ≡ first_of (loadRowsBy words image maplen count (words (words_for (blocks_in image))))
-unfolding first_of load_verdict load_rows load_fits loadRowsBy
+    ≡ first_of (load_rows_by words image maplen count (words (words_for (blocks_in image))))
+unfolding first_of load_verdict load_rows load_fits load_rows_by
 load_alike words image maplen count =
     ap (λ (b : Bool). first_of
     (row 12 (not (whole_blocks (length image)))

@@ -28,9 +28,9 @@ pub record Saved (turned : Bool) (s : State) (scratchlen bufferlen : ℕ) : Type
   pub exact : bufferlen ≡ 512 * frames_for s.blocks (length s.entries)
 
 module _ (turned : Bool) (s : State) (scratchlen bufferlen : ℕ) where
-  pub saved-to : save_verdict turned s scratchlen bufferlen ≡ accepted → Saved turned s scratchlen bufferlen
+  pub saved_to_lem : save_verdict turned s scratchlen bufferlen ≡ accepted → Saved turned s scratchlen bufferlen
   unfolding save_verdict save_rows
-  saved-to e =
+  saved_to_lem e =
       let rows = save_rows turned s scratchlen bufferlen in
       record {
         admitted = (clear 21 rows e).0;
@@ -39,19 +39,19 @@ module _ (turned : Bool) (s : State) (scratchlen bufferlen : ℕ) where
         exact = eqb-true bufferlen (512 * frames_for s.blocks (length s.entries)) (not-false _ (clear 12 rows e).0);
       }
 
-  pub to-saved : Saved turned s scratchlen bufferlen → save_verdict turned s scratchlen bufferlen ≡ accepted
+  pub to_saved : Saved turned s scratchlen bufferlen → save_verdict turned s scratchlen bufferlen ≡ accepted
   unfolding save_verdict save_rows
-  to-saved p =
+  to_saved p =
       skip 21 turned _ accepted p.admitted
       (passes_row 1 (save_fits s.blocks s.spare (length s.entries) (length s.map) scratchlen) _ p.lengths
       (passes_row 4 (sound s) _ p.whole
       (passes_row 12 (eqb bufferlen (512 * frames_for s.blocks (length s.entries))) []
       (eq-eqb bufferlen (512 * frames_for s.blocks (length s.entries)) p.exact) none_left)))
 
-  pub save-accepted : row_number (save_verdict turned s scratchlen bufferlen) ≡ 0 → save_verdict turned s scratchlen bufferlen ≡
+  pub save_accepted : row_number (save_verdict turned s scratchlen bufferlen) ≡ 0 → save_verdict turned s scratchlen bufferlen ≡
       accepted
   unfolding save_verdict save_rows
-  save-accepted = zero_accepts _ refl
+  save_accepted = zero_accepts _ refl
 
 -- an accepted load
 pub record Accepted (turned : Bool) (image : List ℕ) (maplen count scratchlen : ℕ) : Type 0 where
@@ -64,14 +64,14 @@ pub record Accepted (turned : Bool) (image : List ℕ) (maplen count scratchlen 
   pub fill : filled image (blocks_in image) (sheets_in image) ≡ true
 
 module _ (turned : Bool) (image : List ℕ) (maplen count scratchlen : ℕ) where
-  pub load-accepted : row_number (load_verdict turned image maplen count scratchlen) ≡ 0
+  pub load_accepted : row_number (load_verdict turned image maplen count scratchlen) ≡ 0
       → load_verdict turned image maplen count scratchlen ≡ accepted
   unfolding load_verdict load_rows
-  load-accepted = zero_accepts _ refl
+  load_accepted = zero_accepts _ refl
 
-  pub accepted-to : load_verdict turned image maplen count scratchlen ≡ accepted → Accepted turned image maplen count scratchlen
+  pub accepted_to : load_verdict turned image maplen count scratchlen ≡ accepted → Accepted turned image maplen count scratchlen
   unfolding load_verdict load_rows
-  accepted-to e =
+  accepted_to e =
       let rows = load_rows turned image maplen count scratchlen in
       let content = not-false (sound (state_in image) && filled image (blocks_in image) (sheets_in image))
       (clear 14 rows e).1.0 in
@@ -85,9 +85,9 @@ module _ (turned : Bool) (image : List ℕ) (maplen count scratchlen : ℕ) wher
         fill = and_right (sound (state_in image)) (filled image (blocks_in image) (sheets_in image)) content;
       }
 
-  pub to-accepted : Accepted turned image maplen count scratchlen → load_verdict turned image maplen count scratchlen ≡ accepted
+  pub to_accepted : Accepted turned image maplen count scratchlen → load_verdict turned image maplen count scratchlen ≡ accepted
   unfolding load_verdict load_rows
-  to-accepted p =
+  to_accepted p =
       skip 21 turned _ accepted p.admitted
       (passes_row 12 (whole_blocks (length image)) _ p.blocks
       (passes_row 13 (framed image) _ p.frames

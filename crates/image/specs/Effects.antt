@@ -15,44 +15,44 @@ zeros_for scratch = replicate (length scratch) 0
 
 -- Save, of whether it is turned away, n, the free count, the map and the entries, with a scratch and a buffer.
 module _ (turned : Bool) (n spare : ℕ) (map : List ℕ) (entries : List Entry) (scratch buffer : List ℕ) where
-  abbrev pub lentState : State
-  lentState = record { blocks = n; spare = spare; entries = entries; map = map }
+  abbrev pub lent_state : State
+  lent_state = record { blocks = n; spare = spare; entries = entries; map = map }
 
-  unfoldable pub saveNumber : ℕ
+  unfoldable pub save_number : ℕ
   unfolding save_verdict
-  saveNumber = row_number (save_verdict turned lentState (length scratch) (length buffer))
+  save_number = row_number (save_verdict turned lent_state (length scratch) (length buffer))
 
-  unfoldable pub saveScratch : List ℕ
-  saveScratch = zeros_for scratch
+  unfoldable pub save_scratch : List ℕ
+  save_scratch = zeros_for scratch
 
-  unfoldable pub saveImage : List ℕ
+  unfoldable pub save_image : List ℕ
   unfolding save_verdict
-  saveImage = settle (save_verdict turned lentState (length scratch) (length buffer)) (image_of lentState) (λ number. buffer)
+  save_image = settle (save_verdict turned lent_state (length scratch) (length buffer)) (image_of lent_state) (λ number. buffer)
 
   abbrev pub Saves : ℕ → List ℕ → List ℕ → Type 0
-  Saves r scratch' buffer' = (r ≡ saveNumber) × (scratch' ≡ saveScratch) × (buffer' ≡ saveImage)
+  Saves r scratch' buffer' = (r ≡ save_number) × (scratch' ≡ save_scratch) × (buffer' ≡ save_image)
 
 -- Load, of whether it is turned away, of an image into a map, a catalogue and a scratch.
 module _ (turned : Bool) (image map : List ℕ) (entries : List Entry) (scratch : List ℕ) where
-  unfoldable pub loadResult : Loaded
+  unfoldable pub load_result : Loaded
   unfolding load_verdict
-  loadResult =
+  load_result =
       settle (load_verdict turned image (length map) (length entries) (length scratch))
       (record { number = 0; blocks = (state_in image).blocks; free = (state_in image).spare })
       (λ number. record { number = number; blocks = 0; free = 0 })
 
-  unfoldable pub loadMap : List ℕ
+  unfoldable pub load_map : List ℕ
   unfolding load_verdict
-  loadMap = settle (load_verdict turned image (length map) (length entries) (length scratch)) (state_in image).map (λ number.
+  load_map = settle (load_verdict turned image (length map) (length entries) (length scratch)) (state_in image).map (λ number.
       map)
 
-  unfoldable pub loadEntries : List Entry
+  unfoldable pub load_entries : List Entry
   unfolding load_verdict
-  loadEntries = settle (load_verdict turned image (length map) (length entries) (length scratch)) (state_in image).entries
+  load_entries = settle (load_verdict turned image (length map) (length entries) (length scratch)) (state_in image).entries
       (λ number. entries)
 
-  unfoldable pub loadScratch : List ℕ
-  loadScratch = zeros_for scratch
+  unfoldable pub load_scratch : List ℕ
+  load_scratch = zeros_for scratch
 
   abbrev pub Loads : Loaded → List ℕ → List Entry → List ℕ → Type 0
-  Loads r map' entries' scratch' = (r ≡ loadResult) × (map' ≡ loadMap) × (entries' ≡ loadEntries) × (scratch' ≡ loadScratch)
+  Loads r map' entries' scratch' = (r ≡ load_result) × (map' ≡ load_map) × (entries' ≡ load_entries) × (scratch' ≡ load_scratch)

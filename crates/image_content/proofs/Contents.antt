@@ -17,7 +17,7 @@ use Rattle.image_soundness.specs.Sound.{State, sound}
 use Rattle.image_soundness.specs.Windows.{tally, tally_of, windows_of, first_window, window_count, tested}
 use Rattle.image_soundness.specs.declared.Tally.{Tally}
 use Rattle.image_soundness.specs.declared.Window.{Window}
-use Rattle.image_soundness.proofs.Tested.{tested-sound}
+use Rattle.image_soundness.proofs.Tested.{tested_sound}
 use Rattle.image.specs.Image.{content_length, blocks_in, free_count_in, sheets_in, entries_in, map_in, state_in, filled}
 
 abbrev state : ℕ → ℕ → List Entry → List ℕ → State
@@ -26,25 +26,25 @@ state n spare entries map = record { blocks = n; spare = spare; entries = entrie
 -- n, free count and c as they were read
 module _ (image : List ℕ) (n spare c : ℕ) (en : n ≡ blocks_in image) (es : spare ≡ free_count_in image)
     (ec : c ≡ sheets_in image) where
-  pub content-sound : shape_fits n spare (words_for n) ≡ true → (scratch : List ℕ) → length scratch ≡ scratch_words (words_for n)
+  pub content_sound : shape_fits n spare (words_for n) ≡ true → (scratch : List ℕ) → length scratch ≡ scratch_words (words_for n)
       → (t : Tally) (first : Window) (stop : Bool) → t ≡ tally_of (entries_in image c) n (tally (n - spare) false)
       → first ≡ first_window t
       → stop ≡ (windows_of (map_in image n c) (entries_in image c) scratch n (window_count n first) first).stop
       → not stop ≡ sound (state_in image)
   unfolding tested
-  content-sound fit scratch size t first stop et ef el =
+  content_sound fit scratch size t first stop et ef el =
       ap not
       (el ∙ ap (λ (w : Window). (windows_of (map_in image n c) (entries_in image c) scratch n (window_count n w) w).stop)
       (ef ∙ ap first_window et))
-      ∙ tested-sound (state n spare (entries_in image c) (map_in image n c)) scratch
+      ∙ tested_sound (state n spare (entries_in image c) (map_in image n c)) scratch
       (ap (shape_fits n spare) (map_length image n c) ∙ fit) (size ∙ ap scratch_words (sym (map_length image n c)))
       ∙ ap₂ (λ (x y : ℕ). sound (state x y (entries_in image c) (map_in image x c))) en es
       ∙ ap (λ (x : ℕ). sound (state (blocks_in image) (free_count_in image) (entries_in image x) (map_in image (blocks_in image) x)))
       ec
 
-  pub content-filled : (w : ℕ) → w ≡ words_for n
+  pub content_filled : (w : ℕ) → w ≡ words_for n
       → blank (drop (4 * (3 + 3 * c + 2 * w)) (body_of image)) ≡ filled image (blocks_in image) (sheets_in image)
   unfolding filled
-  content-filled w ew =
+  content_filled w ew =
       let e : 4 * (3 + 3 * c + 2 * w) ≡ content_length n c = omega arith in
       ap (λ (x : ℕ). blank (drop x (body_of image))) e ∙ ap₂ (λ (x y : ℕ). blank (drop (content_length x y) (body_of image))) en ec

@@ -38,9 +38,9 @@ module _ (bytes : List ℕ) (at count : ℕ) where
   pub rest_all : entries_from bytes at count ≡ rest 0
   rest_all = let a : at ≡ at + 12 * 0 = omega arith in let b : count ≡ count - 0 = omega arith in ap₂ (entries_from bytes) a b
 
-  pub rest-none : (i : ℕ) → count ≤ i → rest i ≡ []
+  pub rest_none : (i : ℕ) → count ≤ i → rest i ≡ []
   unfolding entries_from
-  rest-none i h = let e : count - i ≡ 0 = omega arith in ap (entries_from bytes (at + 12 * i)) e
+  rest_none i h = let e : count - i ≡ 0 = omega arith in ap (entries_from bytes (at + 12 * i)) e
 
   pub rest_more : (i : ℕ) → i < count → rest i ≡ entry_from bytes (at + 12 * i) ∷ rest (i + 1)
   unfolding entries_from
@@ -51,8 +51,8 @@ module _ (bytes : List ℕ) (at count : ℕ) where
       ∙ ap (λ (x : ℕ). entry_from bytes (at + 12 * i) ∷ entries_from bytes x (count - (i + 1))) next
 
   -- and by an entry that was read
-  pub rest-next : (i : ℕ) (e : Entry) → i < count → e ≡ entry_from bytes (at + 12 * i) → rest i ≡ e ∷ rest (i + 1)
-  rest-next i e h ee = rest_more i h ∙ ap (λ (x : Entry). x ∷ rest (i + 1)) (sym ee)
+  pub rest_next : (i : ℕ) (e : Entry) → i < count → e ≡ entry_from bytes (at + 12 * i) → rest i ≡ e ∷ rest (i + 1)
+  rest_next i e h ee = rest_more i h ∙ ap (λ (x : Entry). x ∷ rest (i + 1)) (sym ee)
 
 -- some of them, and those behind
 entries_split : (bytes : List ℕ) (at k m : ℕ) → entries_from bytes at (k + m)
@@ -112,21 +112,21 @@ room q r count len inside fit = omega arith
 -- the entries that stand whole in the frame where that of a sheet begins, before that of sheet c
 module _ (image : List ℕ) (sheet c count : ℕ) (below : sheet < c) (inside : 3 + 3 * c ≤ 124 * total_of image)
     (e : count ≡ min ((124 - (3 + 3 * sheet) % 124) / 3) (c - sheet)) where
-  pub together-few : sheet + count ≤ c
-  together-few = omega arith
+  pub together_few : sheet + count ≤ c
+  together_few = omega arith
 
-  pub together-room : (at : ℕ) → at ≡ place_of (3 + 3 * sheet) → at + 12 * count ≤ length image
-  together-room at ea =
+  pub together_room : (at : ℕ) → at ≡ place_of (3 + 3 * sheet) → at + 12 * count ≤ length image
+  together_room at ea =
       let fit : (3 + 3 * sheet) % 124 + 3 * count ≤ 124 = omega arith in
       let first : (3 + 3 * sheet) / 124 < total_of image = omega arith in
       let r = room ((3 + 3 * sheet) / 124) ((3 + 3 * sheet) % 124) count (length image) first fit in
       omega arith
 
   -- first they, and then those behind
-  pub together-first : (at : ℕ) → at ≡ place_of (3 + 3 * sheet)
+  pub together_first : (at : ℕ) → at ≡ place_of (3 + 3 * sheet)
       → rest (body_of image) 12 c sheet ≡ entries_from image at count ++ rest (body_of image) 12 c (sheet + count)
-  together-first at ea =
-      rest_split (body_of image) 12 c sheet count together-few
+  together_first at ea =
+      rest_split (body_of image) 12 c sheet count together_few
       ∙ ap (λ (l : List Entry). l ++ rest (body_of image) 12 c (sheet + count)) (sym same)
     where
       same : entries_from image at count ≡ entries_from (body_of image) (12 + 12 * sheet) count
@@ -145,4 +145,4 @@ pub rest_across : (image : List ℕ) (c i : ℕ) (e : Entry) → i < c → e ≡
     → rest (body_of image) 12 c i ≡ e ∷ rest (body_of image) 12 c (i + 1)
 rest_across image c i e h ee =
     let z : 4 * (3 + 3 * i) ≡ 12 + 12 * i = omega arith in
-    rest-next (body_of image) 12 c i e h (ee ∙ ap (entry_from (body_of image)) z)
+    rest_next (body_of image) 12 c i e h (ee ∙ ap (entry_from (body_of image)) z)

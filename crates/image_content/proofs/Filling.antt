@@ -18,12 +18,12 @@ use Rattle.image_frames.specs.Numbers.{words_at}
 use Rattle.image_frames.proofs.Stored.{words_at_length, words_at_at}
 use Rattle.image.proofs.Journey.{map_length}
 use Rattle.image_soundness.specs.Windows.{copied, window_over}
-use Rattle.image_soundness.specs.Windows.{scratch_over, window_end, oneWindow, oneScratch, windows_of, windows_scratch}
+use Rattle.image_soundness.specs.Windows.{scratch_over, window_end, one_window, one_scratch, windows_of, windows_scratch}
 use Rattle.image_soundness.specs.declared.Window.{Window}
-use Rattle.image_soundness.proofs.Rounds.{words_all, windows-none, windows-more, scratch-none, scratch-more}
+use Rattle.image_soundness.proofs.Rounds.{words_all, windows_none, windows_more, scratch_none, scratch_more}
 use Rattle.image_soundness.proofs.Rounds.{windows_length}
-use Rattle.image_soundness.proofs.Steps.{is-copied}
-use Rattle.image_soundness.proofs.Windowed.{one-stopped}
+use Rattle.image_soundness.proofs.Steps.{is_copied}
+use Rattle.image_soundness.proofs.Windowed.{one_stopped}
 use Rattle.image.specs.Image.{map_in}
 
 drop_zeros : (m k : ℕ) → drop k (replicate {A = ℕ} m 0) ≡ replicate (m - k) 0
@@ -44,8 +44,8 @@ module _ (image : List ℕ) (n c a w : ℕ) (win : Window) (scratch : List ℕ) 
       ∙ ap (λ (x : ℕ). number_at (body_of image) x * 4294967296 + number_at (body_of image) (x + 4)) e
       ∙ sym (words_at_at (body_of image) (12 + 12 * c) (words_for n) (win.lo / 64 + i) (omega arith))
 
-  word-past : (i : ℕ) → w ≤ i → i < length scratch → 0 ≡ get_or (map_in image n c) (win.lo / 64 + i) 0
-  word-past i h l =
+  word_past : (i : ℕ) → w ≤ i → i < length scratch → 0 ≡ get_or (map_in image n c) (win.lo / 64 + i) 0
+  word_past i h l =
       sym (get_or-eq_default (map_in image n c) 0 {n = win.lo / 64 + i} (omega (arith, map_length image n c)))
 
   abbrev there : List ℕ
@@ -62,7 +62,7 @@ module _ (image : List ℕ) (n c a w : ℕ) (win : Window) (scratch : List ℕ) 
       (λ (u : w ≤ i).
       let e : i ≡ length there + (i - w) = omega arith in
       ap (λ (x : ℕ). get_or (there ++ behind) x 0) e ∙ get_or-append-add there behind (i - w) 0
-      ∙ get_or-replicate (length scratch - w) (i - w) 0 0 (omega arith) ∙ word-past i u h) (order i w)
+      ∙ get_or-replicate (length scratch - w) (i - w) 0 0 (omega arith) ∙ word_past i u h) (order i w)
 
   joined : there ++ behind ≡ copied (map_in image n c) win scratch
   joined =
@@ -71,13 +71,13 @@ module _ (image : List ℕ) (n c a w : ℕ) (win : Window) (scratch : List ℕ) 
       length-replicate {A = ℕ} (length scratch - w) 0 in
       words_all (map_in image n c) (there ++ behind) (win.lo / 64) (length scratch) (length scratch)
       (length-append there behind ∙ omega arith) (omega arith) word_at
-      ∙ is-copied (map_in image n c) win scratch few
+      ∙ is_copied (map_in image n c) win scratch few
 
   -- read over a scratch that is cleared
-  pub window-read : (zeros first : List ℕ) → zeros ≡ replicate (length scratch) 0
+  pub window_read : (zeros first : List ℕ) → zeros ≡ replicate (length scratch) 0
       → first ≡ words_at (body_of image) (4 * (3 + 3 * c + 2 * a)) (length (take w zeros))
       → first ++ drop w zeros ≡ copied (map_in image n c) win scratch
-  window-read zeros first ez e =
+  window_read zeros first ez e =
       let lz : length zeros ≡ length scratch = ap length ez ∙ length-replicate (length scratch) 0 in
       let lw : length (take w zeros) ≡ w = length-take-le w zeros (omega arith) in
       ap₂ ◌++◌ (e ∙ ap (words_at (body_of image) (4 * (3 + 3 * c + 2 * a))) lw)
@@ -85,11 +85,11 @@ module _ (image : List ℕ) (n c a w : ℕ) (win : Window) (scratch : List ℕ) 
 
 -- one window, and one window more
 module _ (map : List ℕ) (es : List Entry) (n : ℕ) where
-  pub window-tested : (scratch first used : List ℕ) (w last next : Window) → first ≡ copied map w scratch
+  pub window_tested : (scratch first used : List ℕ) (w last next : Window) → first ≡ copied map w scratch
       → last ≡ window_over es w first → used ≡ scratch_over es w first → next ≡ window_end n last used
-      → (next ≡ oneWindow map es scratch n w) × (used ≡ oneScratch map es scratch n w)
-  window-tested scratch first used w last next ef el eu en =
-      let eu' : used ≡ oneScratch map es scratch n w = eu ∙ ap (scratch_over es w) ef in
+      → (next ≡ one_window map es scratch n w) × (used ≡ one_scratch map es scratch n w)
+  window_tested scratch first used w last next ef el eu en =
+      let eu' : used ≡ one_scratch map es scratch n w = eu ∙ ap (scratch_over es w) ef in
       (en ∙ ap₂ (window_end n) (el ∙ ap (window_over es w) ef) eu', eu')
 
   module _ (start : List ℕ) (first : Window) where
@@ -97,10 +97,10 @@ module _ (map : List ℕ) (es : List Entry) (n : ℕ) where
       pub state : w ≡ windows_of map es start n i first
       pub used : scratch ≡ windows_scratch map es start n i first
 
-    pub stands-first : Stands 0 first start
-    stands-first = record {
-      state = sym (windows-none map es start n first);
-      used = sym (scratch-none map es start n first);
+    pub stands_first : Stands 0 first start
+    stands_first = record {
+      state = sym (windows_none map es start n first);
+      used = sym (scratch_none map es start n first);
     }
 
     pub stands-long : (i : ℕ) (w : Window) (scratch : List ℕ) → Stands i w scratch → length scratch ≡ length start
@@ -120,8 +120,8 @@ module _ (map : List ℕ) (es : List Entry) (n : ℕ) where
     stands-stopped (suc k) i w scratch t s =
         let z : i + suc k ≡ suc (i + k) = omega arith in
         ap (λ (x : ℕ). (windows_of map es start n x first).stop) z
-        ∙ ap (λ (x : Window). x.stop) (windows-more (i + k) map es start n first)
-        ∙ one-stopped map es (windows_scratch map es start n (i + k) first) n (windows_of map es start n (i + k) first)
+        ∙ ap (λ (x : Window). x.stop) (windows_more (i + k) map es start n first)
+        ∙ one_stopped map es (windows_scratch map es start n (i + k) first) n (windows_of map es start n (i + k) first)
         (stands-stopped k i w scratch t s)
 
     pub stands-ended : (i k : ℕ) {count : ℕ} (w : Window) (scratch : List ℕ) → w.stop ≡ true → i ≤ k → k ≡ count
@@ -130,13 +130,13 @@ module _ (map : List ℕ) (es : List Entry) (n : ℕ) where
         let z : i + (k - i) ≡ k = omega arith in
         t ∙ sym (ap (λ (x : ℕ). (windows_of map es start n x first).stop) (sym (z ∙ e)) ∙ stands-stopped (k - i) i w scratch t s)
 
-    pub stands-next : (i : ℕ) (w w' : Window) (scratch scratch' : List ℕ) → w' ≡ oneWindow map es scratch n w
-        → scratch' ≡ oneScratch map es scratch n w → Stands i w scratch → Stands (i + 1) w' scratch'
+    pub stands-next : (i : ℕ) (w w' : Window) (scratch scratch' : List ℕ) → w' ≡ one_window map es scratch n w
+        → scratch' ≡ one_scratch map es scratch n w → Stands i w scratch → Stands (i + 1) w' scratch'
     stands-next i w w' scratch scratch' ew es' s =
         let k : suc i ≡ i + 1 = omega arith in
         record {
-          state = ew ∙ ap₂ (λ (x : List ℕ) (y : Window). oneWindow map es x n y) s.used s.state
-              ∙ sym (windows-more i map es start n first) ∙ ap (λ (x : ℕ). windows_of map es start n x first) k;
-          used = es' ∙ ap₂ (λ (x : List ℕ) (y : Window). oneScratch map es x n y) s.used s.state
-              ∙ sym (scratch-more i map es start n first) ∙ ap (λ (x : ℕ). windows_scratch map es start n x first) k;
+          state = ew ∙ ap₂ (λ (x : List ℕ) (y : Window). one_window map es x n y) s.used s.state
+              ∙ sym (windows_more i map es start n first) ∙ ap (λ (x : ℕ). windows_of map es start n x first) k;
+          used = es' ∙ ap₂ (λ (x : List ℕ) (y : Window). one_scratch map es x n y) s.used s.state
+              ∙ sym (scratch_more i map es start n first) ∙ ap (λ (x : ℕ). windows_scratch map es start n x first) k;
         }

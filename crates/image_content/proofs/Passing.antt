@@ -48,8 +48,8 @@ module _ (n : ℕ) (all : List Entry) (first : Tally) where
   abbrev pub LeftToCount : List Entry → Tally → Type 0
   LeftToCount es t = tally_of es n t ≡ tally_of all n first
 
-  pub count-from : (es : List Entry) → all ≡ es → LeftToCount es first
-  count-from es e = ap (λ (x : List Entry). tally_of x n first) (sym e)
+  pub count_from_lem : (es : List Entry) → all ≡ es → LeftToCount es first
+  count_from_lem es e = ap (λ (x : List Entry). tally_of x n first) (sym e)
 
   pub count_none : (es : List Entry) (t : Tally) → es ≡ [] → LeftToCount es t → t ≡ tally_of all n first
   count_none es t e l = sym (ap (λ (x : List Entry). tally_of x n t) e ∙ tally_none n t) ∙ l
@@ -62,8 +62,8 @@ module _ (n : ℕ) (all : List Entry) (first : Tally) where
         ap (λ (x : Tally). cond x.stop x (tally_of more n x)) et ∙ sym (tally_more e more n t)
         ∙ ap (λ (x : List Entry). tally_of x n t) (sym split) ∙ l
 
-    pub one-stopped : t'.stop ≡ true → t' ≡ tally_of all n first
-    one-stopped s = first_way t'.stop t' (tally_of more n t') (tally_of all n first) s counted-one
+    pub one_stopped : t'.stop ≡ true → t' ≡ tally_of all n first
+    one_stopped s = first_way t'.stop t' (tally_of more n t') (tally_of all n first) s counted-one
 
     pub one-counted : t'.stop ≡ false → LeftToCount more t'
     one-counted s = second_way t'.stop t' (tally_of more n t') (tally_of all n first) s counted-one
@@ -105,8 +105,8 @@ module _ (all : List Entry) (first : Window) (start : List ℕ) where
     pub gives : window_over es w scratch ≡ window_over all first start
     pub leaves : scratch_over es w scratch ≡ scratch_over all first start
 
-  pub left-from : (es : List Entry) → all ≡ es → Left es first start
-  left-from es e = record {
+  pub left_from : (es : List Entry) → all ≡ es → Left es first start
+  left_from es e = record {
     long = refl;
     gives = ap (λ (x : List Entry). window_over x first start) (sym e);
     leaves = ap (λ (x : List Entry). scratch_over x first start) (sym e);
@@ -120,9 +120,9 @@ module _ (all : List Entry) (first : Window) (start : List ℕ) where
   )
 
   -- an entry
-  pub one-released : (es more : List Entry) (e : Entry) (w w' : Window) (scratch scratch' : List ℕ) → es ≡ e ∷ more
+  pub one_released : (es more : List Entry) (e : Entry) (w w' : Window) (scratch scratch' : List ℕ) → es ≡ e ∷ more
       → w' ≡ window_after w scratch e → scratch' ≡ scratch_after w scratch e → Left es w scratch → Left more w' scratch'
-  one-released es more e w w' scratch scratch' split ew es' l = record {
+  one_released es more e w w' scratch scratch' split ew es' l = record {
     long = ap length es' ∙ after_length w scratch e ∙ l.long;
     gives = ap₂ (window_over more) ew es' ∙ sym (over_more e more w scratch)
         ∙ ap (λ (x : List Entry). window_over x w scratch) (sym split) ∙ l.gives;
@@ -131,9 +131,9 @@ module _ (all : List Entry) (first : Window) (start : List ℕ) where
   }
 
   -- some entries
-  pub some-released : (es some more : List Entry) (w w' : Window) (scratch scratch' : List ℕ) → es ≡ some ++ more
+  pub some_released : (es some more : List Entry) (w w' : Window) (scratch scratch' : List ℕ) → es ≡ some ++ more
       → w' ≡ window_over some w scratch → scratch' ≡ scratch_over some w scratch → Left es w scratch → Left more w' scratch'
-  some-released es some more w w' scratch scratch' split ew es' l =
+  some_released es some more w w' scratch scratch' split ew es' l =
       let both = over_both some more w scratch in
       record {
         long = ap length es' ∙ over_length some w scratch ∙ l.long;

@@ -7,8 +7,8 @@ ghost use Rattle.map_blocks.specs.Maps.{words_for};
 ghost use Rattle.image_frames.specs.Frames.{total_of};
 ghost use Rattle.image_soundness.specs.Scratch.{scratch_words};
 ghost use Rattle.image_soundness.specs.Sound.{sound};
-ghost use Rattle.image_soundness.specs.Windows.{tally_of, copied, window_over, scratch_over, oneWindow};
-ghost use Rattle.image_soundness.specs.Windows.{oneScratch, windows_of, window_count};
+ghost use Rattle.image_soundness.specs.Windows.{tally_of, copied, window_over, scratch_over, one_window};
+ghost use Rattle.image_soundness.specs.Windows.{one_scratch, windows_of, window_count};
 ghost use Rattle.image.specs.Image.{blocks_in, free_count_in, sheets_in, entries_from, entries_in, map_in, state_in, filled};
 ghost use Rattle.image.specs.Table.{head_fits};
 
@@ -126,9 +126,9 @@ fn release_in(first: Window, scratch: &mut [u64], image: &[u8], c: usize) -> Win
 fn test_window(image: &[u8], n: u32, c: usize, window: Window, scratch: &mut [u64]) -> Window
     requires { (window.stop ≡ false) × (n ≤ 262144) × (c ≤ 1024) × (3 + 3 * c ≤ 124 * total_of image.now)
         × (length scratch.old ≤ 64) }
-    ensures { (result ≡ oneWindow (map_in image.now n c) (entries_in image.now c) scratch.old n
+    ensures { (result ≡ one_window (map_in image.now n c) (entries_in image.now c) scratch.old n
         window)
-        × (scratch.new ≡ oneScratch (map_in image.now n c) (entries_in image.now c)
+        × (scratch.new ≡ one_scratch (map_in image.now n c) (entries_in image.now c)
         scratch.old n window) }
 {
     fill_in(image, n, c, window, scratch);

@@ -14,12 +14,12 @@ use lib.Seq.{take_at, drop_at, take-add, take_all, drop-drop, drop-append-add, d
 use borrow.Author.Tests.{eqb-true}
 use Rattle.map_blocks.specs.Blocks.{all}
 use Rattle.laws.proofs.Bools.{and_left, and_right, order}
-use Rattle.map_blocks.proofs.Runs.{all-intro, all-elim}
+use Rattle.map_blocks.proofs.Runs.{all_intro, all_elim}
 use Rattle.blocks_of_card.specs.Card.{block_of, with_block}
 use Rattle.block_bytes.specs.Numbers.{bytes4, number_at}
 use Rattle.block_seals.specs.Sealed.{sums, front, sealed, check_holds, sound, payload_of}
-use Rattle.blocks_of_card.proofs.Card.{block_length, same_block, other_block, length-withBlock}
-use Rattle.block_seals.proofs.Sealed.{sealed-length, sound-own, payload-sealed}
+use Rattle.blocks_of_card.proofs.Card.{block_length, same_block, other_block, length_with_block}
+use Rattle.block_seals.proofs.Sealed.{sealed_length, sound_own, payload_sealed}
 use Rattle.image_frames.specs.Frames.{Bytes, frames, bodies, body_of, total_of, framed, sealed_image}
 use Rattle.image_frames.proofs.Bodies.{payload_length}
 
@@ -36,7 +36,7 @@ frames_length t i (suc k) body e =
     omega (
       arith,
       length-append (sealed i t (take 496 body)) (frames t (suc i) k (drop 496 body)),
-      sealed-length i t (take 496 body) (part_length body k e),
+      sealed_length i t (take 496 body) (part_length body k e),
       frames_length t (suc i) k (drop 496 body) (rest_length body k e),
     )
 
@@ -47,11 +47,11 @@ unfolding frames block_of
 frames_block t i zero j body e h = absurd (omega arith)
 frames_block t i (suc k) zero body e h =
     take_at (sealed i t (take 496 body)) (frames t (suc i) k (drop 496 body)) 512
-    (sealed-length i t (take 496 body) (part_length body k e))
+    (sealed_length i t (take 496 body) (part_length body k e))
     ∙ ap (λ (x : ℕ). sealed x t (take 496 body)) (sym (add-zero i))
 frames_block t i (suc k) (suc j) body e h =
     let first : List ℕ = sealed i t (take 496 body) in
-    let l : length first ≡ 512 = sealed-length i t (take 496 body) (part_length body k e) in
+    let l : length first ≡ 512 = sealed_length i t (take 496 body) (part_length body k e) in
     let at : 512 * suc j ≡ length first + 512 * j = omega arith in
     let back : 496 + 496 * j ≡ 496 * suc j = omega arith in
     let next : suc i + j ≡ i + suc j = omega arith in
@@ -73,27 +73,27 @@ module _ (t : ℕ) (body : List ℕ) (long : length body ≡ 496 * t) where
       let p : List ℕ = take 496 (drop (496 * i) body) in
       let next : 496 * i + 496 ≡ 496 * suc i = omega arith in
       ap₂ ◌++◌
-      (ap payload_of (frames_block t 0 t i body long (omega arith)) ∙ payload-sealed (0 + i) t p (part i (omega arith)))
+      (ap payload_of (frames_block t 0 t i body long (omega arith)) ∙ payload_sealed (0 + i) t p (part i (omega arith)))
       (carried (suc i) k (omega arith) ∙ ap (λ (x : ℕ). drop x body) (sym next) ∙ sym (drop-drop 496 (496 * i) body))
       ∙ take-append-drop 496 (drop (496 * i) body)
 
-  pub frames-total : total_of (frames t 0 t body) ≡ t
-  frames-total = omega (arith, frames_length t 0 t body long)
+  pub frames_total : total_of (frames t 0 t body) ≡ t
+  frames_total = omega (arith, frames_length t 0 t body long)
 
-  pub frames-body : body_of (frames t 0 t body) ≡ body
+  pub frames_body : body_of (frames t 0 t body) ≡ body
   unfolding body_of
-  frames-body = ap (bodies (frames t 0 t body) 0) frames-total ∙ carried 0 t (omega arith)
+  frames_body = ap (bodies (frames t 0 t body) 0) frames_total ∙ carried 0 t (omega arith)
 
   -- and they hold
-  pub frames-hold : t < 4294967296 → framed (frames t 0 t body) ≡ true
+  pub frames_hold : t < 4294967296 → framed (frames t 0 t body) ≡ true
   unfolding framed
-  frames-hold small =
+  frames_hold small =
       let image : List ℕ = frames t 0 t body in
-      ap (λ (k : ℕ). all (λ i. sound i k (block_of image i)) 0 k) frames-total
-      ∙ all-intro (λ i. sound i t (block_of image i)) 0 t (λ i a h.
+      ap (λ (k : ℕ). all (λ i. sound i k (block_of image i)) 0 k) frames_total
+      ∙ all_intro (λ i. sound i t (block_of image i)) 0 t (λ i a h.
       ap (sound i t) (frames_block t 0 t i body long (omega arith)
       ∙ ap (λ (x : ℕ). sealed x t (take 496 (drop (496 * i) body))) (zero-add i))
-      ∙ sound-own i t (take 496 (drop (496 * i) body)) (part i (omega arith)) (omega arith) small)
+      ∙ sound_own i t (take 496 (drop (496 * i) body)) (part i (omega arith)) (omega arith) small)
 
 -- a block of the image, as the frames begin
 this : (image : List ℕ) (i : ℕ) → take 512 (drop (512 * i) image) ≡ block_of image i
@@ -215,7 +215,7 @@ framed_back image small whole good =
     let t : ℕ = total_of image in
     sym (sealed_blocks image image t 0 t whole whole (omega arith) (λ j h.
     sym (block_back j t (block_of image j) (block_length image j (omega arith)) (bytes_block image j small)
-    (all-elim (λ i. sound i t (block_of image i)) 0 t good j (omega arith) (omega arith)))))
+    (all_elim (λ i. sound i t (block_of image i)) 0 t good j (omega arith) (omega arith)))))
 
 -- sealing, block by block
 pub record Sealing (first : List ℕ) (t i : ℕ) (image : List ℕ) : Type 0 where
@@ -224,15 +224,15 @@ pub record Sealing (first : List ℕ) (t i : ℕ) (image : List ℕ) : Type 0 wh
   pub left : (j : ℕ) → i ≤ j → block_of image j ≡ block_of first j
 
 module _ (first : List ℕ) (t : ℕ) (whole : length first ≡ 512 * t) where
-  pub sealing-more : (i : ℕ) (image : List ℕ) → i < t → Sealing first t i image
+  pub sealing_more : (i : ℕ) (image : List ℕ) → i < t → Sealing first t i image
       → Sealing first t (i + 1) (with_block image i (sealed i t (payload_of (block_of image i))))
-  sealing-more i image h s =
+  sealing_more i image h s =
       let long : length image ≡ length first = s.long in
       let inside : 512 * i + 512 ≤ length image = omega arith in
       let p : List ℕ = payload_of (block_of image i) in
-      let size = sealed-length i t p (payload_length (block_of image i) (block_length image i inside)) in
+      let size = sealed_length i t p (payload_length (block_of image i) (block_length image i inside)) in
       record {
-        long = length-withBlock image (sealed i t p) i inside size ∙ long;
+        long = length_with_block image (sealed i t p) i inside size ∙ long;
         done = λ j u.
             ⊎_elim (λ (lo : j < i). other_block image (sealed i t p) i inside size j (λ e. omega arith) ∙ s.done j lo)
             (λ (hi : i ≤ j).
@@ -243,8 +243,8 @@ module _ (first : List ℕ) (t : ℕ) (whole : length first ≡ 512 * t) where
         left = λ j u. other_block image (sealed i t p) i inside size j (λ e. omega arith) ∙ s.left j (omega arith);
       }
 
-  pub sealing-end : (i : ℕ) (image : List ℕ) → t ≤ i → t ≡ total_of first → Sealing first t i image → image ≡ sealed_image first
+  pub sealing_end : (i : ℕ) (image : List ℕ) → t ≤ i → t ≡ total_of first → Sealing first t i image → image ≡ sealed_image first
   unfolding sealed_image body_of
-  sealing-end i image h e s =
+  sealing_end i image h e s =
       sealed_blocks first image t 0 t whole (s.long ∙ whole) (omega arith) (λ j u. s.done j (omega arith))
       ∙ ap (λ (x : ℕ). frames x 0 x (bodies first 0 x)) e

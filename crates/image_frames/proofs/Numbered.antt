@@ -15,7 +15,7 @@ use Rattle.block_bytes.specs.Numbers.{bytes4, number_at}
 use Rattle.block_bytes.proofs.Numbers.{bytes4_length}
 use Rattle.image_frames.specs.Frames.{body_of, total_of}
 use Rattle.block_bytes.specs.Replaced.{replaced}
-use Rattle.block_bytes.proofs.Replaced.{replaced-length, replaced-before, replaced-in, replaced-after}
+use Rattle.block_bytes.proofs.Replaced.{replaced_length, replaced_before, replaced_in, replaced_after}
 use Rattle.image_frames.specs.Numbers.{place_of, number_in, with_number}
 use Rattle.image_frames.proofs.Bodies.{body_length, body_at}
 
@@ -33,9 +33,9 @@ number_moved xs ys a b h =
 
 module _ (image : List ℕ) (k : ℕ) where
   -- a number stands where its place says
-  pub number-in : k / 124 < total_of image → number_at image (place_of k) ≡ number_in image k
+  pub number_in_lem : k / 124 < total_of image → number_at image (place_of k) ≡ number_in image k
   unfolding number_in
-  number-in h =
+  number_in_lem h =
       number_moved image (body_of image) (place_of k) (4 * k) (λ y u.
       let e : 512 * ((4 * k + y) / 496) + 8 + (4 * k + y) % 496 ≡ place_of k + y = omega arith in
       sym (body_at image (4 * k + y) (omega arith) ∙ ap (λ (x : ℕ). get_or image x 0) e))
@@ -49,31 +49,31 @@ module _ (image : List ℕ) (k : ℕ) where
       sym (body_at image (4 * k + 4 * j + y) (omega arith) ∙ ap (λ (x : ℕ). get_or image x 0) e))
 
   -- past the end it is 0
-  pub number-out : total_of image ≤ k / 124 → 0 ≡ number_in image k
+  pub number_out : total_of image ≤ k / 124 → 0 ≡ number_in image k
   unfolding number_in number_at
-  number-out h =
+  number_out h =
       let past : (y : ℕ) → get_or (body_of image) (4 * k + y) 0 ≡ 0 =
       λ y. get_or-eq_default (body_of image) 0 {n = 4 * k + y} (omega (arith, body_length image)) in
       let z : get_or (body_of image) (4 * k) 0 ≡ 0 = ap (λ (x : ℕ). get_or (body_of image) x 0) (sym (add-zero (4 * k))) ∙ past 0 in
       omega (arith, z, past 1, past 2, past 3)
 
-  pub stored-in : (number : ℕ) → k / 124 < total_of image
+  pub stored_in : (number : ℕ) → k / 124 < total_of image
       → with_number image k number ≡ replaced image (place_of k) (bytes4 number)
   unfolding with_number
-  stored-in number h = ap (λ (t : Bool). cond t (replaced image (place_of k) (bytes4 number)) image)
+  stored_in number h = ap (λ (t : Bool). cond t (replaced image (place_of k) (bytes4 number)) image)
       (lt-ltb (k / 124) (total_of image) h)
 
-  pub stored-out : (number : ℕ) → total_of image ≤ k / 124 → with_number image k number ≡ image
+  pub stored_out : (number : ℕ) → total_of image ≤ k / 124 → with_number image k number ≡ image
   unfolding with_number
-  stored-out number h = ap (λ (t : Bool). cond t (replaced image (place_of k) (bytes4 number)) image)
+  stored_out number h = ap (λ (t : Bool). cond t (replaced image (place_of k) (bytes4 number)) image)
       (le-ltb (k / 124) (total_of image) h)
 
-  pub stored-length : (number : ℕ) → length (with_number image k number) ≡ length image
-  stored-length number =
+  pub stored_length : (number : ℕ) → length (with_number image k number) ≡ length image
+  stored_length number =
       ⊎_elim
       (λ (lo : k / 124 < total_of image).
-      ap length (stored-in number lo) ∙ replaced-length image (place_of k) (bytes4 number) (omega (arith, bytes4_length number)))
-      (λ (hi : total_of image ≤ k / 124). ap length (stored-out number hi))
+      ap length (stored_in number lo) ∙ replaced_length image (place_of k) (bytes4 number) (omega (arith, bytes4_length number)))
+      (λ (hi : total_of image ≤ k / 124). ap length (stored_out number hi))
       (order (k / 124) (total_of image))
 
   -- storing a number replaces its four bytes of the body
@@ -84,7 +84,7 @@ module _ (image : List ℕ) (k : ℕ) where
     new-total : total_of new ≡ total_of image
     unfolding new
     new-total =
-        ap (λ (n : ℕ). n / 512) (replaced-length image (place_of k) (bytes4 number) (omega (arith, bytes4_length number)))
+        ap (λ (n : ℕ). n / 512) (replaced_length image (place_of k) (bytes4 number) (omega (arith, bytes4_length number)))
 
     byte : (j : ℕ) → j < 496 * total_of image → get_or (body_of new) j 0
         ≡ get_or (replaced (body_of image) (4 * k) (bytes4 number)) j 0
@@ -99,8 +99,8 @@ module _ (image : List ℕ) (k : ℕ) where
         (λ (lo : j < 4 * k).
         ⊎_elim
         (λ (p : 512 * (j / 496) + 8 + j % 496 < place_of k).
-        from ∙ replaced-before image (place_of k) (bytes4 number) (omega arith) (512 * (j / 496) + 8 + j % 496) p ∙ kept
-        ∙ sym (replaced-before (body_of image) (4 * k) (bytes4 number) (omega arith) j lo))
+        from ∙ replaced_before image (place_of k) (bytes4 number) (omega arith) (512 * (j / 496) + 8 + j % 496) p ∙ kept
+        ∙ sym (replaced_before (body_of image) (4 * k) (bytes4 number) (omega arith) j lo))
         (λ (p : place_of k ≤ 512 * (j / 496) + 8 + j % 496). absurd (omega arith))
         (order (512 * (j / 496) + 8 + j % 496) (place_of k)))
         (λ (hi : 4 * k ≤ j).
@@ -108,14 +108,14 @@ module _ (image : List ℕ) (k : ℕ) where
         (λ (in4 : j < 4 * k + 4).
         let e : 512 * (j / 496) + 8 + j % 496 ≡ place_of k + (j - 4 * k) = omega arith in
         let q : j ≡ 4 * k + (j - 4 * k) = omega arith in
-        from ∙ ap (λ (x : ℕ). get_or new x 0) e ∙ replaced-in image (place_of k) (bytes4 number) (omega arith) (j - 4 * k)
+        from ∙ ap (λ (x : ℕ). get_or new x 0) e ∙ replaced_in image (place_of k) (bytes4 number) (omega arith) (j - 4 * k)
         (omega arith)
         ∙ sym (ap (λ (x : ℕ). get_or (replaced (body_of image) (4 * k) (bytes4 number)) x 0) q
-        ∙ replaced-in (body_of image) (4 * k) (bytes4 number) (omega arith) (j - 4 * k) (omega arith)))
+        ∙ replaced_in (body_of image) (4 * k) (bytes4 number) (omega arith) (j - 4 * k) (omega arith)))
         (λ (out : 4 * k + 4 ≤ j).
-        from ∙ replaced-after image (place_of k) (bytes4 number) (omega arith) (512 * (j / 496) + 8 + j % 496) (omega arith)
+        from ∙ replaced_after image (place_of k) (bytes4 number) (omega arith) (512 * (j / 496) + 8 + j % 496) (omega arith)
         ∙ kept
-        ∙ sym (replaced-after (body_of image) (4 * k) (bytes4 number) (omega arith) j (omega arith)))
+        ∙ sym (replaced_after (body_of image) (4 * k) (bytes4 number) (omega arith) j (omega arith)))
         (order j (4 * k + 4)))
         (order j (4 * k))
 
@@ -123,8 +123,8 @@ module _ (image : List ℕ) (k : ℕ) where
     unfolding new
     stored-body =
         let t = new-total in
-        ap body_of (stored-in number inside)
+        ap body_of (stored_in number inside)
         ∙ ext_get_or 0 (body_of new) (replaced (body_of image) (4 * k) (bytes4 number))
         (body_length new ∙ ap (λ (x : ℕ). 496 * x) t ∙ sym (body_length image)
-        ∙ sym (replaced-length (body_of image) (4 * k) (bytes4 number) (omega (arith, bytes4_length number, body_length image))))
+        ∙ sym (replaced_length (body_of image) (4 * k) (bytes4 number) (omega (arith, bytes4_length number, body_length image))))
         (λ j h. byte j (omega (arith, body_length new)))

@@ -19,10 +19,10 @@ use Rattle.block_seals.proofs.Blank.{blank_zeros, blank_is_zeros}
 use Rattle.block_bytes.proofs.Numbers.{bytes4_length}
 use Rattle.image_frames.specs.Frames.{body_of, total_of}
 use Rattle.block_bytes.specs.Replaced.{replaced}
-use Rattle.block_bytes.proofs.Replaced.{replaced_none, replaced-more}
+use Rattle.block_bytes.proofs.Replaced.{replaced_none, replaced_more}
 use Rattle.image_frames.specs.Numbers.{place_of, number_in, with_number, bytes8, word_bytes, word_at, words_at}
 use Rattle.image_frames.proofs.Bodies.{body_length}
-use Rattle.image_frames.proofs.Numbered.{number_behind, stored-length, stored-body}
+use Rattle.image_frames.proofs.Numbered.{number_behind, stored_length, stored-body}
 
 -- some bytes were written, from number k on, over the body of an image
 pub record Written (first : List ℕ) (k : ℕ) (news image : List ℕ) : Type 0 where
@@ -34,31 +34,31 @@ module _ (first : List ℕ) (k : ℕ) where
   written_none = record { long = refl; bytes = sym (replaced_none (body_of first) (4 * k)) }
 
   -- one number more behind them
-  pub written-number : (news image next : List ℕ) (i number : ℕ) → 4 * i ≡ 4 * k + length news → i / 124 < total_of first
+  pub written_number : (news image next : List ℕ) (i number : ℕ) → 4 * i ≡ 4 * k + length news → i / 124 < total_of first
       → next ≡ with_number image i number
       → Written first k news image → Written first k (news ++ bytes4 number) next
-  written-number news image next i number e h said w =
+  written_number news image next i number e h said w =
       let t : total_of image ≡ total_of first = ap (λ (n : ℕ). n / 512) w.long in
       record {
-        long = ap length said ∙ stored-length image i number ∙ w.long;
+        long = ap length said ∙ stored_length image i number ∙ w.long;
         bytes = ap body_of said ∙ stored-body image i number (omega arith)
             ∙ ap₂ (λ (x : List ℕ) (y : ℕ). replaced x y (bytes4 number)) w.bytes e
-            ∙ replaced-more (body_of first) (4 * k) news (omega (arith, body_length first)) (bytes4 number);
+            ∙ replaced_more (body_of first) (4 * k) news (omega (arith, body_length first)) (bytes4 number);
       }
 
   -- zeros up to number i
-  pub zeros-none : Written first k (replicate (4 * (k - k)) 0) first
-  zeros-none = let e : 0 ≡ 4 * (k - k) = omega arith in subst (λ (n : ℕ). Written first k (replicate n 0) first) e written_none
+  pub zeros_none : Written first k (replicate (4 * (k - k)) 0) first
+  zeros_none = let e : 0 ≡ 4 * (k - k) = omega arith in subst (λ (n : ℕ). Written first k (replicate n 0) first) e written_none
 
-  pub zeros-more : (image next : List ℕ) (i : ℕ) → k ≤ i → i / 124 < total_of first → next ≡ with_number image i 0
+  pub zeros_more : (image next : List ℕ) (i : ℕ) → k ≤ i → i / 124 < total_of first → next ≡ with_number image i 0
       → Written first k (replicate (4 * (i - k)) 0) image → Written first k (replicate (4 * (i + 1 - k)) 0) next
   unfolding bytes4
-  zeros-more image next i o h said w =
+  zeros_more image next i o h said w =
       let l : length {A = ℕ} (replicate (4 * (i - k)) 0) ≡ 4 * (i - k) = length-replicate {A = ℕ} (4 * (i - k)) 0 in
       let e : 4 * (i - k) + 4 ≡ 4 * (i + 1 - k) = omega arith in
       subst (λ (l : List ℕ). Written first k l next)
       (replicate-append-replicate {A = ℕ} (4 * (i - k)) 4 0 ∙ ap (λ (n : ℕ). replicate n 0) e)
-      (written-number (replicate (4 * (i - k)) 0) image next i 0 (omega arith) h said w)
+      (written_number (replicate (4 * (i - k)) 0) image next i 0 (omega arith) h said w)
 
 -- words as bytes
 pub bytes8_length : (word : ℕ) → length (bytes8 word) ≡ 8
@@ -89,9 +89,9 @@ word_behind words i h =
 
 -- a word more
 module _ (first : List ℕ) (k : ℕ) (words : List ℕ) where
-  pub words-none : Written first k (word_bytes (take 0 words)) first
+  pub words_none : Written first k (word_bytes (take 0 words)) first
   unfolding word_bytes
-  words-none = written_none first k
+  words_none = written_none first k
 
   pub words_more : (image next last : List ℕ) (i : ℕ) → i < length words → (k + 2 * i + 1) / 124 < total_of first
       → next ≡ with_number image (k + 2 * i) (get_or words i 0 / 4294967296)
@@ -105,13 +105,13 @@ module _ (first : List ℕ) (k : ℕ) (words : List ℕ) where
       let l2 : length (word_bytes (take i words) ++ bytes4 (x / 4294967296)) ≡ 8 * i + 4 =
       omega (arith, length-append news (bytes4 (x / 4294967296)), bytes4_length (x / 4294967296)) in
       subst (λ (b : List ℕ). Written first k b last) (word_behind words i h)
-      (written-number first k (news ++ bytes4 (x / 4294967296)) next last (k + 2 * i + 1) (x % 4294967296)
+      (written_number first k (news ++ bytes4 (x / 4294967296)) next last (k + 2 * i + 1) (x % 4294967296)
       (omega arith) inside said'
-      (written-number first k news image next (k + 2 * i) (x / 4294967296) (omega arith) (omega arith) said w))
+      (written_number first k news image next (k + 2 * i) (x / 4294967296) (omega arith) (omega arith) said w))
 
-  pub words-end : (image : List ℕ) (i : ℕ) → length words ≤ i → Written first k (word_bytes (take i words)) image
+  pub words_end : (image : List ℕ) (i : ℕ) → length words ≤ i → Written first k (word_bytes (take i words)) image
       → Written first k (word_bytes words) image
-  words-end image i h w = subst (λ (l : List ℕ). Written first k (word_bytes l) image) (take_all i words h) w
+  words_end image i h w = subst (λ (l : List ℕ). Written first k (word_bytes l) image) (take_all i words h) w
 
 -- words read
 pub words_at_length : (bytes : List ℕ) (at w : ℕ) → length (words_at bytes at w) ≡ w
@@ -172,12 +172,12 @@ pub record Reading (bytes : List ℕ) (at : ℕ) (first : List ℕ) (i : ℕ) (w
   pub read : (j : ℕ) → j < i → get_or words j 0 ≡ word_at bytes (at + 8 * j)
 
 module _ (bytes : List ℕ) (at : ℕ) (first : List ℕ) where
-  pub reading-none : Reading bytes at first 0 first
-  reading-none = record { long = refl; read = λ j u. absurd (omega arith) }
+  pub reading_none : Reading bytes at first 0 first
+  reading_none = record { long = refl; read = λ j u. absurd (omega arith) }
 
-  pub reading-more : (i : ℕ) (words : List ℕ) (x : ℕ) → i < length words → x ≡ word_at bytes (at + 8 * i)
+  pub reading_more : (i : ℕ) (words : List ℕ) (x : ℕ) → i < length words → x ≡ word_at bytes (at + 8 * i)
       → Reading bytes at first i words → Reading bytes at first (i + 1) (set words i x)
-  reading-more i words x h e r = record {
+  reading_more i words x h e r = record {
     long = length-set words i x ∙ r.long;
     read = λ j u.
         ⊎_elim (λ (lo : j < i). get_or-set_other words i j x 0 (λ (q : j ≡ i). absurd (omega arith)) ∙ r.read j lo)
@@ -188,11 +188,11 @@ module _ (bytes : List ℕ) (at : ℕ) (first : List ℕ) where
   }
 
   -- some words more, read to the part behind those that were passed
-  pub reading-part : (i from k : ℕ) (words part : List ℕ) → i ≤ length words → from ≡ at + 8 * i
+  pub reading_part : (i from k : ℕ) (words part : List ℕ) → i ≤ length words → from ≡ at + 8 * i
       → k ≤ length (mid_of i (length words - i) words)
       → part ≡ words_at bytes from k ++ drop k (mid_of i (length words - i) words)
       → Reading bytes at first i words → Reading bytes at first (i + k) (put_mid i (length words - i) words part)
-  reading-part i from k words part h ef fit e r =
+  reading_part i from k words part h ef fit e r =
       let mid : List ℕ = mid_of i (length words - i) words in
       let front : List ℕ = take i words in
       let new : List ℕ = words_at bytes from k in
@@ -216,9 +216,9 @@ module _ (bytes : List ℕ) (at : ℕ) (first : List ℕ) where
             ∙ words_at_at bytes from k (j - i) (omega arith) ∙ ap (word_at bytes) z) (order j i);
       }
 
-  pub reading-end : (i : ℕ) (words : List ℕ) → length first ≤ i → Reading bytes at first i words
+  pub reading_end : (i : ℕ) (words : List ℕ) → length first ≤ i → Reading bytes at first i words
       → words ≡ words_at bytes at (length first)
-  reading-end i words h r =
+  reading_end i words h r =
       let long : length words ≡ length first = r.long in
       ext_get_or 0 words (words_at bytes at (length first)) (long ∙ sym (words_at_length bytes at (length first)))
       (λ j u. r.read j (omega arith) ∙ sym (words_at_at bytes at (length first) j (omega arith)))
@@ -245,10 +245,10 @@ zeros_at (suc n) (suc y) = zeros_at n y
 
 -- the fill, number by number
 module _ (image : List ℕ) (k : ℕ) where
-  pub zeros-all : (i : ℕ) → 124 * total_of image ≤ i → ((j : ℕ) → k ≤ j → j < i → number_in image j ≡ 0)
+  pub zeros_all : (i : ℕ) → 124 * total_of image ≤ i → ((j : ℕ) → k ≤ j → j < i → number_in image j ≡ 0)
       → true ≡ blank (drop (4 * k) (body_of image))
   unfolding number_in
-  zeros-all i h passed =
+  zeros_all i h passed =
       let rest : List ℕ = drop (4 * k) (body_of image) in
       let same : rest ≡ replicate (length rest) 0 =
       ext_get_or 0 rest (replicate (length rest) 0) (sym (length-replicate {A = ℕ} (length rest) 0)) (λ y u.
@@ -259,9 +259,9 @@ module _ (image : List ℕ) (k : ℕ) where
       ∙ sym (zeros_at (length rest) y)) in
       sym (ap blank same ∙ blank_zeros (length rest))
 
-  pub zeros-not : (i : ℕ) → k ≤ i → (number_in image i ≡ 0 → ⊥) → false ≡ blank (drop (4 * k) (body_of image))
+  pub zeros_not : (i : ℕ) → k ≤ i → (number_in image i ≡ 0 → ⊥) → false ≡ blank (drop (4 * k) (body_of image))
   unfolding number_in
-  zeros-not i o n =
+  zeros_not i o n =
       let rest : List ℕ = drop (4 * k) (body_of image) in
       sym (not_true (blank rest) (λ b. n (number_zero (body_of image) (4 * i) (λ y.
       let e : 4 * i + y ≡ 4 * k + (4 * (i - k) + y) = omega arith in

@@ -138,15 +138,15 @@ abbrev step_model : Type 0 → Type 0
 step_model X = List ℕ → Cursor → Entry → X
 
 module _ (step-out : step_model Turn) where
-  abbrev step-says : List ℕ → Cursor → Entry → Turn → Type 0
-  step-says a0 a1 a2 r = r ≡ step-out a0 a1 a2
+  abbrev step_says : List ℕ → Cursor → Entry → Turn → Type 0
+  step_says a0 a1 a2 r = r ≡ step-out a0 a1 a2
 
   module _ {M : Type 1} (𝓤 : Ura M) where
     abbrev step-clauses : Clauses 𝓤 step_ended
     step-clauses κs a = record {
       ghost = Unit {0};
       requires = λ _. emp 𝓤;
-      ensures = λ _ r e. fact 𝓤 (step-says a.0.now a.1.0 a.1.1.0 r);
+      ensures = λ _ r e. fact 𝓤 (step_says a.0.now a.1.0 a.1.1.0 r);
     }
 
     module _ (𝓛 : Logic 𝓤) where
@@ -248,8 +248,8 @@ module _ (#step : Name) (step-out : step_model Turn)
     -- the loop goes on from here, and comes to the outcome
     record At : Type 0 where
       at : Point
-      comes-state : after-state at.left x-image.now at.state ≡ after-state ys x-image.now x-start
-      comes-entries : at.past ++ (after-entries at.left x-image.now at.state) ≡ after-entries ys x-image.now x-start
+      comes_state : after-state at.left x-image.now at.state ≡ after-state ys x-image.now x-start
+      comes_entries : at.past ++ (after-entries at.left x-image.now at.state) ≡ after-entries ys x-image.now x-start
 
     abbrev size : At → ℕ
     size x = length x.at.left
@@ -257,8 +257,8 @@ module _ (#step : Name) (step-out : step_model Turn)
     abbrev at_first : At
     at_first = record {
       at = record { past = []; left = ys; state = x-start; is_state = is-x-start; all = zero-add n };
-      comes-state = refl;
-      comes-entries = refl;
+      comes_state = refl;
+      comes_entries = refl;
     }
 
     sums : (x : Point) → length x.past + length x.left ≡ n
@@ -297,26 +297,26 @@ module _ (#step : Name) (step-out : step_model Turn)
         fjoin ! $ bring ! (2 ∷ 0 ∷ []) $ fjoin ! $ bring ! (1 ∷ 0 ∷ []) $ join ! $ frame ! $ done !
 
     -- ---- the exit
-    exits : (r : Cursor) (z-x-catalogue : List Entry) → Is Cursor'.the_row r (machine-state r ∷ [])
-        → Says x-catalogue.now x-image.now x-start r z-x-catalogue → length z-x-catalogue ≡ length x-catalogue.now
-        → ent 𝓤 (⋆ 𝓛 (‵ (fobs x-catalogue.name ((coded_holeys Entry'.the_row).code (heres Entry'.the_row z-x-catalogue)))
-        ∷ ‵ (fbor κ₀ (Held Entry'.the_row (length z-x-catalogue) x-catalogue.ptr.0 x-catalogue.ptr.1
+    exits : (r : Cursor) (z_x_catalogue : List Entry) → Is Cursor'.the_row r (machine-state r ∷ [])
+        → Says x-catalogue.now x-image.now x-start r z_x_catalogue → length z_x_catalogue ≡ length x-catalogue.now
+        → ent 𝓤 (⋆ 𝓛 (‵ (fobs x-catalogue.name ((coded_holeys Entry'.the_row).code (heres Entry'.the_row z_x_catalogue)))
+        ∷ ‵ (fbor κ₀ (Held Entry'.the_row (length z_x_catalogue) x-catalogue.ptr.0 x-catalogue.ptr.1
         x-catalogue.name)) ∷ ‵ (flft κ₀ q₀) ∷ ‵ ((ShrSlice (named 1) κ₁ u8).own_val x-image (s-x-image ∷ [])) ∷ ‵ (flft κ₁ q₁)
         ∷ [])) (Post (machine-state r))
-    exits r z-x-catalogue is said l-x-catalogue =
-        qed 𝓛 (‵ (fobs x-catalogue.name ((coded_holeys Entry'.the_row).code (heres Entry'.the_row z-x-catalogue)))
-        ∷ ‵ (fbor κ₀ (Held Entry'.the_row (length z-x-catalogue) x-catalogue.ptr.0 x-catalogue.ptr.1
+    exits r z_x_catalogue is said l_x_catalogue =
+        qed 𝓛 (‵ (fobs x-catalogue.name ((coded_holeys Entry'.the_row).code (heres Entry'.the_row z_x_catalogue)))
+        ∷ ‵ (fbor κ₀ (Held Entry'.the_row (length z_x_catalogue) x-catalogue.ptr.0 x-catalogue.ptr.1
         x-catalogue.name)) ∷ ‵ (flft κ₀ q₀) ∷ ‵ ((ShrSlice (named 1) κ₁ u8).own_val x-image (s-x-image ∷ [])) ∷ ‵ (flft κ₁ q₁)
         ∷ []) ∵
         fjoin ! $
-        pure_i ! (shr_slice_at Entry'.the_row (at-x-catalogue x-catalogue.name z-x-catalogue) (s-x-catalogue ∷ []))
+        pure_i ! (shr_slice_at Entry'.the_row (at-x-catalogue x-catalogue.name z_x_catalogue) (s-x-catalogue ∷ []))
         (tt, (tt, tt)) (
-          ap (λ (j : ℕ). slice_val x-catalogue.ptr j ∷ []) (sym l-x-catalogue),
-          subst (Room Entry'.the_row) (sym l-x-catalogue) room-x-catalogue,
+          ap (λ (j : ℕ). slice_val x-catalogue.ptr j ∷ []) (sym l_x_catalogue),
+          subst (Room Entry'.the_row) (sym l_x_catalogue) room-x-catalogue,
         ) $
         fjoin ! $
-        suffices ! _ (ends_at 𝓛 ended stayed (clauses 𝓤) bound (machine-state r) r (z-x-catalogue, (tt, (tt, tt)))
-        (l-x-catalogue, (tt, (tt, tt)))) $
+        suffices ! _ (ends_at 𝓛 ended stayed (clauses 𝓤) bound (machine-state r) r (z_x_catalogue, (tt, (tt, tt)))
+        (l_x_catalogue, (tt, (tt, tt)))) $
         says ! said $ nothing ! $ bring ! (2 ∷ 3 ∷ 0 ∷ []) $ group ! 3 $ frame ! $ nothing ! $
         owned ! Cursor'.the_row (Is Cursor'.the_row) (struct.makes Cursor'.the_type Cursor''.the_plain 𝓛) x-start _
         is-x-start $
@@ -411,10 +411,10 @@ module _ (#step : Name) (step-out : step_model Turn)
           fin : Ends x.at
           fin = (
             sym (after-state-nil x-image.now x.at.state) ∙ ap (λ (l : List Entry). after-state l x-image.now
-                x.at.state) (sym nil) ∙ x.comes-state,
+                x.at.state) (sym nil) ∙ x.comes_state,
             ap (λ (l : List Entry). x.at.past ++ l) (nil ∙ sym (after-entries-nil x-image.now x.at.state))
                 ∙ ap (λ (l : List Entry). x.at.past ++ (after-entries l x-image.now x.at.state)) (sym nil)
-                ∙ x.comes-entries,
+                ∙ x.comes_entries,
           )
 
       -- ---- a turn that passes one entry
@@ -458,9 +458,9 @@ module _ (#step : Name) (step-out : step_model Turn)
         spelled r w is = struct.owed Turn'.the_type Turn''.the_laws r _ is
 
         module _ (r : Turn) (is : Is Cursor'.the_row r.state (machine-state r.state ∷ []))
-            (heard-el : step-says step-out x-image.now x.at.state el r) where
-          said : step-says step-out x-image.now x.at.state e r
-          said = subst (λ (d : Entry). step-says step-out x-image.now x.at.state d r) el-is heard-el
+            (heard-el : step_says step-out x-image.now x.at.state el r) where
+          said : step_says step-out x-image.now x.at.state e r
+          said = subst (λ (d : Entry). step_says step-out x-image.now x.at.state d r) el-is heard-el
 
           -- where the loop stands after the turn
           abbrev next : r.state.stop ≡ false → At
@@ -472,20 +472,20 @@ module _ (#step : Name) (step-out : step_model Turn)
               is_state = is;
               all = omega (arith, sums x.at, one_more, length-append x.at.past (r.entry ∷ []));
             };
-            comes-state = (λ j. after-state es x-image.now (said j).state) ∙ sym (ap
+            comes_state = (λ j. after-state es x-image.now (said j).state) ∙ sym (ap
                 (λ (b : Bool). choose b ((step-out x-image.now x.at.state e).state)
                 (after-state es x-image.now (step-out x-image.now x.at.state e).state))
                 (sym (ap (λ (t : Turn). t.state.stop) (said)) ∙ going)) ∙ sym (after-state-cons e es x-image.now
                 x.at.state) ∙ ap (λ (l : List Entry). after-state l x-image.now x.at.state) (sym cons)
-                ∙ x.comes-state;
-            comes-entries = append_snoc x.at.past r.entry (after-entries es x-image.now r.state)
+                ∙ x.comes_state;
+            comes_entries = append_snoc x.at.past r.entry (after-entries es x-image.now r.state)
                 ∙ (λ j. x.at.past ++ ((said j).entry ∷ after-entries es x-image.now (said j).state))
                 ∙ sym (ap (λ (b : Bool). x.at.past ++ (choose b ((step-out x-image.now x.at.state e).entry ∷ es)
                 ((step-out x-image.now x.at.state e).entry ∷ after-entries es x-image.now
                 (step-out x-image.now x.at.state e).state))) (sym (ap (λ (t : Turn). t.state.stop) (said))
                 ∙ going)) ∙ ap (λ (l : List Entry). x.at.past ++ l) (sym (after-entries-cons e es x-image.now
                 x.at.state)) ∙ ap (λ (l : List Entry). x.at.past ++ (after-entries l x-image.now x.at.state))
-                (sym cons) ∙ x.comes-entries;
+                (sym cons) ∙ x.comes_entries;
           }
 
           -- where it stands when it is left
@@ -504,14 +504,14 @@ module _ (#step : Name) (step-out : step_model Turn)
                 (after-state es x-image.now (step-out x-image.now x.at.state e).state))
                 (sym (ap (λ (t : Turn). t.state.stop) (said)) ∙ stopping)) ∙ sym (after-state-cons e es x-image.now
                 x.at.state) ∙ ap (λ (l : List Entry). after-state l x-image.now x.at.state) (sym cons)
-                ∙ x.comes-state,
+                ∙ x.comes_state,
             (λ j. x.at.past ++ ((said j).entry ∷ es)) ∙ sym (ap (λ (b : Bool). x.at.past
                 ++ (choose b ((step-out x-image.now x.at.state e).entry ∷ es)
                 ((step-out x-image.now x.at.state e).entry ∷ after-entries es x-image.now
                 (step-out x-image.now x.at.state e).state))) (sym (ap (λ (t : Turn). t.state.stop) (said))
                 ∙ stopping)) ∙ ap (λ (l : List Entry). x.at.past ++ l) (sym (after-entries-cons e es x-image.now
                 x.at.state)) ∙ ap (λ (l : List Entry). x.at.past ++ (after-entries l x-image.now x.at.state))
-                (sym cons) ∙ x.comes-entries,
+                (sym cons) ∙ x.comes_entries,
           )
 
         more : Sq 𝓛 (I x) (runs C Λ En (turn #step) (any_q (after_turn 𝓤 H (Next x) Left)))
@@ -550,9 +550,9 @@ module _ (#step : Name) (step-out : step_model Turn)
             await ! tt $ pick ! (λ r-step. split ! $ bring ! (1 ∷ []) $
             use1 𝓛 (some (λ (zs-step : Unit {0} × (Unit {0} × (Unit {0} × Unit {0}))). ‵
             (lasts step_ended (κ₁, tt) (step_args x.at.state el) zs-step) ⊛ raw (fact 𝓤
-            (step-says step-out x-image.now x.at.state el r-step)))) (id⊢ 𝓤 _) $
+            (step_says step-out x-image.now x.at.state el r-step)))) (id⊢ 𝓤 _) $
             pick ! (λ zs-step. split ! $ bring ! (1 ∷ []) $
-            heard ! (step-says step-out x-image.now x.at.state el r-step) (λ e-step. fparts 𝓛 (_ ∷ _ ∷ _ ∷ []) _ $
+            heard ! (step_says step-out x-image.now x.at.state el r-step) (λ e-step. fparts 𝓛 (_ ∷ _ ∷ _ ∷ []) _ $
             discard ! (0 ∷ 0 ∷ 0 ∷ []) $ split ! $ bring ! (1 ∷ []) $
             peeks ! Turn'.the_row (Is Turn'.the_row) (shows 𝓛 Turn'.the_row) r-step (w-step ∷ []) (λ is-w-step.
             land ! (from ! (stop !)) (init ! 19 refl ((struct.lawful Turn'.the_type Turn''.the_laws 𝓛).typed r-step _

@@ -10,17 +10,17 @@ use Rattle.image_frames.specs.Numbers.{number_in, words_at}
 use Rattle.image.specs.Image.{blocks_in, free_count_in, sheets_in, map_in}
 
 module _ (image : List ℕ) where
-  pub blocks-in : number_in image 0 ≡ blocks_in image
+  pub blocks_in_lem : number_in image 0 ≡ blocks_in image
   unfolding number_in blocks_in
-  blocks-in = refl
+  blocks_in_lem = refl
 
-  pub spare-in : number_in image 1 ≡ free_count_in image
+  pub spare_in_lem : number_in image 1 ≡ free_count_in image
   unfolding number_in free_count_in
-  spare-in = refl
+  spare_in_lem = refl
 
-  pub sheets-in : number_in image 2 ≡ sheets_in image
+  pub sheets_in_lem : number_in image 2 ≡ sheets_in image
   unfolding number_in sheets_in
-  sheets-in = refl
+  sheets_in_lem = refl
 
 -- the map
 pub map_read : (image : List ℕ) (n c len : ℕ) (words : List ℕ) → len ≡ words_for n

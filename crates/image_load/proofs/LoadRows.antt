@@ -23,9 +23,9 @@ module _ (turned : Bool) (image : List ℕ) (maplen count scratchlen : ℕ) wher
   abbrev content : Bool
   content = sound (state_in image) && filled image (blocks_in image) (sheets_in image)
 
-  pub load-row-21 : turned ≡ true → 21 ≡ row_number (load_verdict turned image maplen count scratchlen)
+  pub load_row_21 : turned ≡ true → 21 ≡ row_number (load_verdict turned image maplen count scratchlen)
   unfolding load_verdict load_rows
-  load-row-21 t = sym (ap row_number (stop 21 turned _ t))
+  load_row_21 t = sym (ap row_number (stop 21 turned _ t))
 
   module _ (t : turned ≡ false) where
     pub load-row-12 : whole_blocks (length image) ≡ false → 12 ≡ row_number (load_verdict turned image maplen count scratchlen)

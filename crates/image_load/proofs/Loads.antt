@@ -14,15 +14,15 @@ use Rattle.catalogue_standings.specs.Rows.{Verdict, accepted, refused, settle, r
 use Rattle.catalogue.specs.declared.Entry.{Entry}
 use Rattle.image_frames.specs.Frames.{body_of, total_of}
 use Rattle.image.specs.Cursors.{cursor}
-use Rattle.image.specs.Effects.{loadResult, loadMap, loadEntries, loadScratch}
+use Rattle.image.specs.Effects.{load_result, load_map, load_entries, load_scratch}
 use Rattle.image.specs.Image.{blocks_in, free_count_in, sheets_in, entry_from, entries_from, entries_in, state_in}
-use Rattle.image_load.specs.Parts.{LoadsBy, coreLoaded, coreMap, coreScratch, first_cursor, read_entries}
+use Rattle.image_load.specs.Parts.{LoadsBy, core_loaded, core_map, core_scratch, first_cursor, read_entries}
 use Rattle.image.specs.Table.{load_verdict}
 use Rattle.image.specs.declared.Loaded.{Loaded}
 use Rattle.image_load.specs.declared.Turn.{Turn}
 use Rattle.image.proofs.Cursors.{going}
-use Rattle.image.proofs.Fitting.{whole_to, head-to, load_fits_to}
-use Rattle.image.proofs.Verdicts.{load-accepted, accepted-to}
+use Rattle.image.proofs.Fitting.{whole_to, head_to, load_fits_to}
+use Rattle.image.proofs.Verdicts.{load_accepted, accepted_to}
 use Rattle.image_load.proofs.Reading.{reads, entries_stay}
 
 -- the entries read from number k on
@@ -52,29 +52,29 @@ module _ (role : ℕ) (image map : List ℕ) (entries : List Entry) (scratch : L
   abbrev given : Verdict → Loaded
   given v = settle v (loaded 0 (blocks_in image) (free_count_in image)) (λ number. loaded number 0 0)
 
-  entries-law : read_entries entries image (first_cursor (coreLoaded role image map (length entries) scratch))
-      ≡ loadEntries turned image map entries scratch
-  unfolding coreLoaded first_cursor loadEntries entries_in
-  entries-law = by verdict refl
+  entries_law : read_entries entries image (first_cursor (core_loaded role image map (length entries) scratch))
+      ≡ load_entries turned image map entries scratch
+  unfolding core_loaded first_cursor load_entries entries_in
+  entries_law = by verdict refl
     where
       by : (v : Verdict) → verdict ≡ v → read_entries entries image (cursor 3 (not (eqb (given v).number 0)))
           ≡ settle v (state_in image).entries (λ number. entries)
       by accepted e =
-          let p = accepted-to turned image (length map) (length entries) (length scratch) e in
+          let p = accepted_to turned image (length map) (length entries) (length scratch) e in
           let w = whole_to (length image) p.blocks in
-          let h = head-to (blocks_in image) (free_count_in image) (sheets_in image) (total_of image) p.first in
+          let h = head_to (blocks_in image) (free_count_in image) (sheets_in image) (total_of image) p.first in
           let l = load_fits_to (blocks_in image) (sheets_in image) (length map) (length entries) (length scratch) p.lengths in
           read_from_lem image 3 12 entries refl (omega (arith, w.exact, h.exact, l.entries)) ∙ ap (entries_in image) l.entries
       by (refused k) e =
           let n : k ≡ 0
-          → ⊥ = λ z. never k (sym e ∙ load-accepted turned image (length map) (length entries) (length scratch)
+          → ⊥ = λ z. never k (sym e ∙ load_accepted turned image (length map) (length entries) (length scratch)
           (ap row_number e ∙ z)) in
           ap (λ (b : Bool). read_entries entries image (cursor 3 (not b))) (ne_eqb k 0 n)
           ∙ entries_stay entries image (cursor 3 true) refl
 
-  pub loads : LoadsBy role image map entries scratch (coreLoaded role image map (length entries) scratch)
-      (coreMap role image map (length entries) scratch)
-      (read_entries entries image (first_cursor (coreLoaded role image map (length entries) scratch)))
-      (coreScratch role image map (length entries) scratch)
-  unfolding coreLoaded coreMap coreScratch loadResult loadMap loadScratch
-  loads = (refl, refl, entries-law, refl)
+  pub loads : LoadsBy role image map entries scratch (core_loaded role image map (length entries) scratch)
+      (core_map role image map (length entries) scratch)
+      (read_entries entries image (first_cursor (core_loaded role image map (length entries) scratch)))
+      (core_scratch role image map (length entries) scratch)
+  unfolding core_loaded core_map core_scratch load_result load_map load_scratch
+  loads = (refl, refl, entries_law, refl)

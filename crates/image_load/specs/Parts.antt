@@ -23,17 +23,17 @@ module _ (role : ℕ) (image map : List ℕ) (count : ℕ) (scratch : List ℕ) 
   abbrev ruled : Verdict
   ruled = load_verdict (turned_away role names.load) image (length map) count (length scratch)
 
-  unfoldable pub coreLoaded : Loaded
-  coreLoaded =
+  unfoldable pub core_loaded : Loaded
+  core_loaded =
       settle ruled
       (record { number = 0; blocks = (state_in image).blocks; free = (state_in image).spare })
       (λ number. record { number = number; blocks = 0; free = 0 })
 
-  unfoldable pub coreMap : List ℕ
-  coreMap = settle ruled (state_in image).map (λ number. map)
+  unfoldable pub core_map : List ℕ
+  core_map = settle ruled (state_in image).map (λ number. map)
 
-  unfoldable pub coreScratch : List ℕ
-  coreScratch = zeros_for scratch
+  unfoldable pub core_scratch : List ℕ
+  core_scratch = zeros_for scratch
 
 -- The entries stand behind n, free count and c, and are read if the load was accepted.
 unfoldable pub first_cursor : Loaded → Cursor

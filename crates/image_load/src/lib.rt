@@ -4,8 +4,8 @@ ghost use Rattle.std.specs.Prelude.{◌≡◌, length};
 ghost use Rattle.catalogue_standings.specs.Rows.{row_number};
 ghost use Rattle.roles.specs.Roles as names;
 ghost use Rattle.roles.specs.Roles.{turned_away};
-ghost use Rattle.image.specs.Effects.{loadResult, loadMap, loadEntries, loadScratch};
-ghost use Rattle.image_load.specs.Parts.{coreLoaded, coreMap, coreScratch, first_cursor, turn_after, read_cursor};
+ghost use Rattle.image.specs.Effects.{load_result, load_map, load_entries, load_scratch};
+ghost use Rattle.image_load.specs.Parts.{core_loaded, core_map, core_scratch, first_cursor, turn_after, read_cursor};
 ghost use Rattle.image_load.specs.Parts.{read_entries};
 ghost use Rattle.image.specs.Table.{load_verdict};
 
@@ -57,9 +57,9 @@ fn verdict(role: u32, image: &[u8], maplen: usize, count: usize, scratch: &mut [
 
 // All of a load but the entries, for a catalogue of `count` of them.
 fn load_core(role: u32, image: &[u8], map: &mut [u64], count: usize, scratch: &mut [u64]) -> Loaded
-    ensures { (result ≡ coreLoaded role image.now map.old count scratch.old)
-        × (map.new ≡ coreMap role image.now map.old count scratch.old)
-        × (scratch.new ≡ coreScratch role image.now map.old count scratch.old) }
+    ensures { (result ≡ core_loaded role image.now map.old count scratch.old)
+        × (map.new ≡ core_map role image.now map.old count scratch.old)
+        × (scratch.new ≡ core_scratch role image.now map.old count scratch.old) }
 {
     let refusal = verdict(role, image, map.len(), count, scratch);
     clear(scratch);
@@ -148,12 +148,12 @@ pub fn load(
     scratch: &mut [u64],
 ) -> Loaded
     ensures { let turned = turned_away role names.load in
-        (result ≡ loadResult turned image.now map.old catalogue.old scratch.old)
-        × (map.new ≡ loadMap turned image.now map.old catalogue.old
+        (result ≡ load_result turned image.now map.old catalogue.old scratch.old)
+        × (map.new ≡ load_map turned image.now map.old catalogue.old
         scratch.old)
-        × (catalogue.new ≡ loadEntries turned image.now map.old catalogue.old
+        × (catalogue.new ≡ load_entries turned image.now map.old catalogue.old
         scratch.old)
-        × (scratch.new ≡ loadScratch turned image.now map.old catalogue.old
+        × (scratch.new ≡ load_scratch turned image.now map.old catalogue.old
         scratch.old) }
 {
     let count = catalogue::count(&*catalogue);

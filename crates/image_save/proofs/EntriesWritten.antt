@@ -132,15 +132,15 @@ abbrev step_model : Type 0 → Type 0
 step_model X = Cursor → List ℕ → Entry → X
 
 module _ (step-out : step_model Cursor) (step-x-image : step_model (List ℕ)) where
-  abbrev step-says : Cursor → List ℕ → Entry → Cursor → List ℕ → Type 0
-  step-says a0 a1 a2 r b1 = (r ≡ step-out a0 a1 a2) × (b1 ≡ step-x-image a0 a1 a2)
+  abbrev step_says : Cursor → List ℕ → Entry → Cursor → List ℕ → Type 0
+  step_says a0 a1 a2 r b1 = (r ≡ step-out a0 a1 a2) × (b1 ≡ step-x-image a0 a1 a2)
 
   module _ {M : Type 1} (𝓤 : Ura M) where
     abbrev step-clauses : Clauses 𝓤 step_ended
     step-clauses κs a = record {
       ghost = Unit {0};
       requires = λ _. emp 𝓤;
-      ensures = λ _ r e. fact 𝓤 (step-says a.0 a.1.0.now a.1.1.0 r e.1.0.now);
+      ensures = λ _ r e. fact 𝓤 (step_says a.0 a.1.0.now a.1.1.0 r e.1.0.now);
     }
 
     module _ (𝓛 : Logic 𝓤) where
@@ -232,19 +232,19 @@ module _ (#step : Name) (step-out : step_model Cursor) (step-x-image : step_mode
       left : List Entry
       state : Cursor
       is_state : Is Cursor'.the_row state (machine-state state ∷ [])
-      z-x-image : List ℕ
-      l-x-image : length z-x-image ≡ length x-image.now
+      z_x_image : List ℕ
+      l_x_image : length z_x_image ≡ length x-image.now
       all : past ++ left ≡ ys
 
     -- the loop ends here: what stands is the outcome
     abbrev Ends : Point → Type 0
-    Ends x = (x.state ≡ after-state ys x-start x-image.now) × (x.z-x-image ≡ after-x-image ys x-start x-image.now)
+    Ends x = (x.state ≡ after-state ys x-start x-image.now) × (x.z_x_image ≡ after-x-image ys x-start x-image.now)
 
     -- the loop goes on from here, and comes to the outcome
     record At : Type 0 where
       at : Point
-      comes-state : after-state at.left at.state at.z-x-image ≡ after-state ys x-start x-image.now
-      comes-x-image : after-x-image at.left at.state at.z-x-image ≡ after-x-image ys x-start x-image.now
+      comes_state : after-state at.left at.state at.z_x_image ≡ after-state ys x-start x-image.now
+      comes_x_image : after-x-image at.left at.state at.z_x_image ≡ after-x-image ys x-start x-image.now
 
     abbrev size : At → ℕ
     size x = length x.at.left
@@ -256,12 +256,12 @@ module _ (#step : Name) (step-out : step_model Cursor) (step-x-image : step_mode
         left = ys;
         state = x-start;
         is_state = is-x-start;
-        z-x-image = x-image.now;
-        l-x-image = refl;
+        z_x_image = x-image.now;
+        l_x_image = refl;
         all = refl;
       };
-      comes-state = refl;
-      comes-x-image = refl;
+      comes_state = refl;
+      comes_x_image = refl;
     }
 
     sums : (x : Point) → length x.past + length x.left ≡ n
@@ -271,30 +271,30 @@ module _ (#step : Name) (step-out : step_model Cursor) (step-x-image : step_mode
     len x = length-append x.past x.left ∙ sums x
 
     -- ---- the caller has what `step` asks
-    abbrev step_args : (δ₀-step : GName) (v-state : Cursor) (l-x-image : List ℕ) (v-entry : Entry) → Cursor
+    abbrev step_args : (δ₀-step : GName) (v-state : Cursor) (l_x_image : List ℕ) (v-entry : Entry) → Cursor
         × (MutBor (List ℕ) × (Entry × Unit {0}))
-    step_args δ₀-step v-state l-x-image v-entry = (v-state, (at-x-image δ₀-step l-x-image, (v-entry, tt)))
+    step_args δ₀-step v-state l_x_image v-entry = (v-state, (at-x-image δ₀-step l_x_image, (v-entry, tt)))
 
-    abbrev to_step : (ν₀-step : ℕ) (δ₀-step : GName) (v-state : Cursor) (l-x-image : List ℕ) (v-entry : Entry)
+    abbrev to_step : (ν₀-step : ℕ) (δ₀-step : GName) (v-state : Cursor) (l_x_image : List ℕ) (v-entry : Entry)
         → (step-contract step-out step-x-image 𝓤 𝓛).Ghost
-    to_step ν₀-step δ₀-step v-state l-x-image v-entry = (
+    to_step ν₀-step δ₀-step v-state l_x_image v-entry = (
       (
         (ν₀-step ∷ [], tt),
         (full_share, tt),
         tt,
-        step_args δ₀-step v-state l-x-image v-entry,
+        step_args δ₀-step v-state l_x_image v-entry,
         ((machine-state v-state) ∷ [], (s-x-image ∷ [], ((machine-entry v-entry) ∷ [], tt))),
       ),
       tt,
     )
 
-    goes_step : (ν₀-step : ℕ) (δ₀-step : GName) (v-state : Cursor) (l-x-image : List ℕ) (v-entry : Entry)
+    goes_step : (ν₀-step : ℕ) (δ₀-step : GName) (v-state : Cursor) (l_x_image : List ℕ) (v-entry : Entry)
         → Is Cursor'.the_row v-state ((machine-state v-state) ∷ []) → Is Entry'.the_row v-entry ((machine-entry v-entry) ∷ [])
         → ent 𝓤 (⋆ 𝓛 (‵ (flft (ν₀-step ∷ []) full_share) ∷ ‵ ((MutSlice (named 0) (ν₀-step ∷ []) u8).own_val
-        (at-x-image δ₀-step l-x-image) (s-x-image ∷ [])) ∷ [])) ((step-contract step-out step-x-image 𝓤 𝓛).pre
-        (to_step ν₀-step δ₀-step v-state l-x-image v-entry))
-    goes_step ν₀-step δ₀-step v-state l-x-image v-entry is-v-state is-v-entry =
-        qed 𝓛 (‵ (flft (ν₀-step ∷ []) full_share) ∷ ‵ ((MutSlice (named 0) (ν₀-step ∷ []) u8).own_val (at-x-image δ₀-step l-x-image)
+        (at-x-image δ₀-step l_x_image) (s-x-image ∷ [])) ∷ [])) ((step-contract step-out step-x-image 𝓤 𝓛).pre
+        (to_step ν₀-step δ₀-step v-state l_x_image v-entry))
+    goes_step ν₀-step δ₀-step v-state l_x_image v-entry is-v-state is-v-entry =
+        qed 𝓛 (‵ (flft (ν₀-step ∷ []) full_share) ∷ ‵ ((MutSlice (named 0) (ν₀-step ∷ []) u8).own_val (at-x-image δ₀-step l_x_image)
         (s-x-image ∷ [])) ∷ []) ∵
         nothing ! $ bring ! (1 ∷ 0 ∷ []) $ group ! 2 $ nothing ! $
         owned ! Entry'.the_row (Is Entry'.the_row) (struct.makes Entry'.the_type Entry''.the_plain 𝓛) v-entry _ is-v-entry $
@@ -304,16 +304,16 @@ module _ (#step : Name) (step-out : step_model Cursor) (step-x-image : step_mode
         fjoin ! $ bring ! (1 ∷ 0 ∷ []) $ join ! $ frame ! $ done !
 
     -- ---- the exit
-    exits : (r : Cursor) (z-x-image : List ℕ) → Is Cursor'.the_row r (machine-state r ∷ [])
-        → Says x-catalogue.now x-start x-image.now r z-x-image → length z-x-image ≡ length x-image.now
+    exits : (r : Cursor) (z_x_image : List ℕ) → Is Cursor'.the_row r (machine-state r ∷ [])
+        → Says x-catalogue.now x-start x-image.now r z_x_image → length z_x_image ≡ length x-image.now
         → ent 𝓤 (⋆ 𝓛 (‵ ((ShrSlice (named 0) κ₀ Entry'.the_row).own_val x-catalogue (s-x-catalogue ∷ [])) ∷ ‵ (flft κ₀ q₀)
-        ∷ ‵ ((MutSlice (named 1) κ₁ u8).own_val (at-x-image x-image.name z-x-image) (s-x-image ∷ [])) ∷ ‵ (flft κ₁ q₁) ∷ []))
+        ∷ ‵ ((MutSlice (named 1) κ₁ u8).own_val (at-x-image x-image.name z_x_image) (s-x-image ∷ [])) ∷ ‵ (flft κ₁ q₁) ∷ []))
         (Post (machine-state r))
-    exits r z-x-image is said l-x-image =
+    exits r z_x_image is said l_x_image =
         qed 𝓛 (‵ ((ShrSlice (named 0) κ₀ Entry'.the_row).own_val x-catalogue (s-x-catalogue ∷ [])) ∷ ‵ (flft κ₀ q₀)
-        ∷ ‵ ((MutSlice (named 1) κ₁ u8).own_val (at-x-image x-image.name z-x-image) (s-x-image ∷ [])) ∷ ‵ (flft κ₁ q₁) ∷ []) ∵
-        suffices ! _ (ends_at 𝓛 ended stayed (clauses 𝓤) bound (machine-state r) r (tt, (tt, (z-x-image, tt)))
-        (tt, (tt, (l-x-image, tt)))) $
+        ∷ ‵ ((MutSlice (named 1) κ₁ u8).own_val (at-x-image x-image.name z_x_image) (s-x-image ∷ [])) ∷ ‵ (flft κ₁ q₁) ∷ []) ∵
+        suffices ! _ (ends_at 𝓛 ended stayed (clauses 𝓤) bound (machine-state r) r (tt, (tt, (z_x_image, tt)))
+        (tt, (tt, (l_x_image, tt)))) $
         says ! said $ nothing ! $ bring ! (2 ∷ 3 ∷ 0 ∷ []) $ group ! 3 $ frame ! $ nothing ! $ bring ! (2 ∷ 0 ∷ []) $
         fjoin ! $
         owned ! Cursor'.the_row (Is Cursor'.the_row) (struct.makes Cursor'.the_type Cursor''.the_plain 𝓛) x-start _
@@ -341,7 +341,7 @@ module _ (#step : Name) (step-out : step_model Cursor) (step-x-image : step_mode
       J x = ‵ (row Entry'.the_row q' ys x-catalogue.ptr.0 x-catalogue.ptr.1)
           ∷ ‵ (fobor κ₀ q₀ ((arr_parts (shares Entry'.the_row) n).part q' ys x-catalogue.ptr.0 x-catalogue.ptr.1))
           ∷ ‵ ((ShrSlice (named 0) κ₀ Entry'.the_row).own_val x-catalogue (s-x-catalogue ∷ []))
-          ∷ ‵ ((MutSlice (named 1) κ₁ u8).own_val (at-x-image x-image.name x.z-x-image) (s-x-image ∷ []))
+          ∷ ‵ ((MutSlice (named 1) κ₁ u8).own_val (at-x-image x-image.name x.z_x_image) (s-x-image ∷ []))
           ∷ ‵ (flft κ₁ q₁)
           ∷ ‵ (froom Entry''.mir l₁₁ 0)
           ∷ ‵ (fdies Entry''.mir l₁₁)
@@ -388,7 +388,7 @@ module _ (#step : Name) (step-out : step_model Cursor) (step-x-image : step_mode
           leave ! 20 refl refl $ leave ! 18 refl refl $ leave ! 16 refl refl $ leave_room ! 14 refl refl $
           leave_room ! 12 refl refl $ leave_room ! 10 refl refl $ leave_room ! 8 refl refl $ leave_room ! 6 refl refl $
           leave_room ! 4 refl refl $ free0 ! $ bring ! (1 ∷ 0 ∷ 0 ∷ 0 ∷ []) $
-          by ! (exits x.state x.z-x-image x.is_state (fin.0, fin.1) x.l-x-image)
+          by ! (exits x.state x.z_x_image x.is_state (fin.0, fin.1) x.l_x_image)
 
       -- ---- the turn that finds no entry
       ends : (x : At) → x.at.left ≡ [] → Sq 𝓛 (I x) (runs C Λ En (turn #step) (any_q (after_turn 𝓤 H (Next x) Left)))
@@ -408,10 +408,10 @@ module _ (#step : Name) (step-out : step_model Cursor) (step-x-image : step_mode
 
           fin : Ends x.at
           fin = (
-            sym (after-state-nil x.at.state x.at.z-x-image) ∙ ap (λ (l : List Entry). after-state l x.at.state
-                x.at.z-x-image) (sym nil) ∙ x.comes-state,
-            sym (after-x-image-nil x.at.state x.at.z-x-image) ∙ ap (λ (l : List Entry). after-x-image l x.at.state
-                x.at.z-x-image) (sym nil) ∙ x.comes-x-image,
+            sym (after-state-nil x.at.state x.at.z_x_image) ∙ ap (λ (l : List Entry). after-state l x.at.state
+                x.at.z_x_image) (sym nil) ∙ x.comes_state,
+            sym (after-x-image-nil x.at.state x.at.z_x_image) ∙ ap (λ (l : List Entry). after-x-image l x.at.state
+                x.at.z_x_image) (sym nil) ∙ x.comes_x_image,
           )
 
       -- ---- a turn that passes one entry
@@ -454,10 +454,10 @@ module _ (#step : Name) (step-out : step_model Cursor) (step-x-image : step_mode
             _ is) is
 
         module _ (r : Cursor) (m-x-image : List ℕ) (is : Is Cursor'.the_row r (machine-state r ∷ []))
-            (heard-el : step-says step-out step-x-image x.at.state x.at.z-x-image el r m-x-image)
+            (heard-el : step_says step-out step-x-image x.at.state x.at.z_x_image el r m-x-image)
             (k-x-image : length m-x-image ≡ length x-image.now) where
-          said : step-says step-out step-x-image x.at.state x.at.z-x-image e r m-x-image
-          said = subst (λ (d : Entry). step-says step-out step-x-image x.at.state x.at.z-x-image d r m-x-image) el-is
+          said : step_says step-out step-x-image x.at.state x.at.z_x_image e r m-x-image
+          said = subst (λ (d : Entry). step_says step-out step-x-image x.at.state x.at.z_x_image d r m-x-image) el-is
               heard-el
 
           -- where the loop stands after the turn
@@ -468,21 +468,21 @@ module _ (#step : Name) (step-out : step_model Cursor) (step-x-image : step_mode
               left = es;
               state = r;
               is_state = is;
-              z-x-image = m-x-image;
-              l-x-image = k-x-image;
+              z_x_image = m-x-image;
+              l_x_image = k-x-image;
               all = append_snoc x.at.past e es ∙ seam;
             };
-            comes-state = (λ j. after-state es (said.0 j) (said.1 j)) ∙ sym (ap (λ (b : Bool). choose b
-                ((step-out x.at.state x.at.z-x-image e)) (after-state es (step-out x.at.state x.at.z-x-image e)
-                (step-x-image x.at.state x.at.z-x-image e))) (sym (ap (λ (t : Cursor). t.stop) said.0) ∙ going))
-                ∙ sym (after-state-cons e es x.at.state x.at.z-x-image) ∙ ap (λ (l : List Entry). after-state l
-                x.at.state x.at.z-x-image) (sym cons) ∙ x.comes-state;
-            comes-x-image = (λ j. after-x-image es (said.0 j) (said.1 j)) ∙ sym (ap (λ (b : Bool). choose b
-                ((step-x-image x.at.state x.at.z-x-image e)) (after-x-image es
-                (step-out x.at.state x.at.z-x-image e) (step-x-image x.at.state x.at.z-x-image e)))
+            comes_state = (λ j. after-state es (said.0 j) (said.1 j)) ∙ sym (ap (λ (b : Bool). choose b
+                ((step-out x.at.state x.at.z_x_image e)) (after-state es (step-out x.at.state x.at.z_x_image e)
+                (step-x-image x.at.state x.at.z_x_image e))) (sym (ap (λ (t : Cursor). t.stop) said.0) ∙ going))
+                ∙ sym (after-state-cons e es x.at.state x.at.z_x_image) ∙ ap (λ (l : List Entry). after-state l
+                x.at.state x.at.z_x_image) (sym cons) ∙ x.comes_state;
+            comes_x_image = (λ j. after-x-image es (said.0 j) (said.1 j)) ∙ sym (ap (λ (b : Bool). choose b
+                ((step-x-image x.at.state x.at.z_x_image e)) (after-x-image es
+                (step-out x.at.state x.at.z_x_image e) (step-x-image x.at.state x.at.z_x_image e)))
                 (sym (ap (λ (t : Cursor). t.stop) said.0) ∙ going)) ∙ sym (after-x-image-cons e es x.at.state
-                x.at.z-x-image) ∙ ap (λ (l : List Entry). after-x-image l x.at.state x.at.z-x-image) (sym cons)
-                ∙ x.comes-x-image;
+                x.at.z_x_image) ∙ ap (λ (l : List Entry). after-x-image l x.at.state x.at.z_x_image) (sym cons)
+                ∙ x.comes_x_image;
           }
 
           -- where it stands when it is left
@@ -492,23 +492,23 @@ module _ (#step : Name) (step-out : step_model Cursor) (step-x-image : step_mode
             left = e ∷ es;
             state = r;
             is_state = is;
-            z-x-image = m-x-image;
-            l-x-image = k-x-image;
+            z_x_image = m-x-image;
+            l_x_image = k-x-image;
             all = seam;
           }
 
           left-off : r.stop ≡ true → Ends last
           left-off stopping = (
-            (λ j. (said.0 j)) ∙ sym (ap (λ (b : Bool). choose b ((step-out x.at.state x.at.z-x-image e))
-                (after-state es (step-out x.at.state x.at.z-x-image e) (step-x-image x.at.state x.at.z-x-image
+            (λ j. (said.0 j)) ∙ sym (ap (λ (b : Bool). choose b ((step-out x.at.state x.at.z_x_image e))
+                (after-state es (step-out x.at.state x.at.z_x_image e) (step-x-image x.at.state x.at.z_x_image
                 e))) (sym (ap (λ (t : Cursor). t.stop) said.0) ∙ stopping)) ∙ sym (after-state-cons e es x.at.state
-                x.at.z-x-image) ∙ ap (λ (l : List Entry). after-state l x.at.state x.at.z-x-image) (sym cons)
-                ∙ x.comes-state,
-            (λ j. (said.1 j)) ∙ sym (ap (λ (b : Bool). choose b ((step-x-image x.at.state x.at.z-x-image e))
-                (after-x-image es (step-out x.at.state x.at.z-x-image e) (step-x-image x.at.state x.at.z-x-image
+                x.at.z_x_image) ∙ ap (λ (l : List Entry). after-state l x.at.state x.at.z_x_image) (sym cons)
+                ∙ x.comes_state,
+            (λ j. (said.1 j)) ∙ sym (ap (λ (b : Bool). choose b ((step-x-image x.at.state x.at.z_x_image e))
+                (after-x-image es (step-out x.at.state x.at.z_x_image e) (step-x-image x.at.state x.at.z_x_image
                 e))) (sym (ap (λ (t : Cursor). t.stop) said.0) ∙ stopping)) ∙ sym (after-x-image-cons e es x.at.state
-                x.at.z-x-image) ∙ ap (λ (l : List Entry). after-x-image l x.at.state x.at.z-x-image) (sym cons)
-                ∙ x.comes-x-image,
+                x.at.z_x_image) ∙ ap (λ (l : List Entry). after-x-image l x.at.state x.at.z_x_image) (sym cons)
+                ∙ x.comes_x_image,
           )
 
         more : Sq 𝓛 (I x) (runs C Λ En (turn #step) (any_q (after_turn 𝓤 H (Next x) Left)))
@@ -539,27 +539,27 @@ module _ (#step : Name) (step-out : step_model Cursor) (step-x-image : step_mode
             elem_back ! Entry'.the_row q' ys i zeros (machine-entry el ∷ []) x-catalogue.ptr.0 x-catalogue.ptr.1 small $
             -- step
             lft_new ! tt (λ ν₀-step. bring ! (4 ∷ 4 ∷ []) $
-            use2 𝓛 (later (some (λ (δ : GName). ‵ ((MutSlice (named 0) (ν₀-step ∷ []) u8).own_val (at-x-image δ x.at.z-x-image)
+            use2 𝓛 (later (some (λ (δ : GName). ‵ ((MutSlice (named 0) (ν₀-step ∷ []) u8).own_val (at-x-image δ x.at.z_x_image)
             (s-x-image ∷ [])) ⊛ ‵ (LentAgain u8 κ₁ (ν₀-step ∷ []) q₁ x-image.name x-image.ptr.0 x-image.ptr.1 δ
-            x.at.z-x-image)))) (lends_again u8 κ₁ (ν₀-step ∷ []) q₁ x-image.name x-image.ptr.0 x-image.ptr.1 𝓛
-            (named 1) (named 0) x.at.z-x-image (length x-image.now) x.at.l-x-image) $
+            x.at.z_x_image)))) (lends_again u8 κ₁ (ν₀-step ∷ []) q₁ x-image.name x-image.ptr.0 x-image.ptr.1 𝓛
+            (named 1) (named 0) x.at.z_x_image (length x-image.now) x.at.l_x_image) $
             await ! tt $ pick ! (λ δ₀-step. split ! $ bring ! (2 ∷ 0 ∷ []) $ group ! 2 $
             use1 𝓛 (raw ((step-contract step-out step-x-image 𝓤 𝓛).pre (to_step ν₀-step δ₀-step x.at.state
-            x.at.z-x-image el))) (goes_step ν₀-step δ₀-step x.at.state x.at.z-x-image el x.at.is_state g) $
+            x.at.z_x_image el))) (goes_step ν₀-step δ₀-step x.at.state x.at.z_x_image el x.at.is_state g) $
             calls_at ! (fm_of 𝓤 H 𝓛.laws 𝓣) (step-contract step-out step-x-image 𝓤 𝓛) Known-step
-            (to_step ν₀-step δ₀-step x.at.state x.at.z-x-image el) (and_then !
+            (to_step ν₀-step δ₀-step x.at.state x.at.z_x_image el) (and_then !
             (load ! (from ! (stop !)) (look ! 19 refl)) (and_then ! (load ! (from ! (stop !)) (look ! 9 refl))
             (and_then ! (load ! (from ! (stop !)) (look ! 5 refl)) (no_more !)))) (λ w-step.
             use1 𝓛 (later (some (λ (r : Cursor). ((‵ (flft (ν₀-step ∷ []) full_share) ⊛ ‵ ftrue)
             ⊛ ‵ ((Cursor'.the_row).own_val r (w-step ∷ []))) ⊛ raw (ensured 𝓛 step_ended (step-clauses step-out step-x-image 𝓤)
-            (ν₀-step ∷ [], tt) (step_args δ₀-step x.at.state x.at.z-x-image el) tt r)))) (id⊢ 𝓤 _) $
+            (ν₀-step ∷ [], tt) (step_args δ₀-step x.at.state x.at.z_x_image el) tt r)))) (id⊢ 𝓤 _) $
             await ! tt $ pick ! (λ r-step. split ! $ bring ! (1 ∷ []) $
             use1 𝓛 (some (λ (zs-step : Unit {0} × (List ℕ × (Unit {0} × Unit {0}))). ‵
-            (lasts step_ended (ν₀-step ∷ [], tt) (step_args δ₀-step x.at.state x.at.z-x-image el) zs-step)
-            ⊛ raw (fact 𝓤 (step-says step-out step-x-image x.at.state x.at.z-x-image el r-step zs-step.1.0))))
+            (lasts step_ended (ν₀-step ∷ [], tt) (step_args δ₀-step x.at.state x.at.z_x_image el) zs-step)
+            ⊛ raw (fact 𝓤 (step_says step-out step-x-image x.at.state x.at.z_x_image el r-step zs-step.1.0))))
             (id⊢ 𝓤 _) $
             pick ! (λ zs-step. split ! $ bring ! (1 ∷ []) $
-            heard ! (step-says step-out step-x-image x.at.state x.at.z-x-image el r-step zs-step.1.0) (λ e-step.
+            heard ! (step_says step-out step-x-image x.at.state x.at.z_x_image el r-step zs-step.1.0) (λ e-step.
             fparts 𝓛 (_ ∷ _ ∷ _ ∷ []) _ $ discard ! (0 ∷ 1 ∷ []) $ fsplit ! $ bring ! (1 ∷ []) $
             feq_l ! (λ h-step-x-image. bring ! (1 ∷ []) $ split ! $ bring ! (1 ∷ []) $
             peeks ! Cursor'.the_row (Is Cursor'.the_row) (shows 𝓛 Cursor'.the_row) r-step (w-step ∷ []) (λ is-w-step.
@@ -570,7 +570,7 @@ module _ (#step : Name) (step-out : step_model Cursor) (step-x-image : step_mode
             discard ! (0 ∷ []) $ parts 𝓛 (_ ∷ []) _ $ lft_end ! tt $ bring ! (0 ∷ 1 ∷ 0 ∷ []) $
             use3 𝓛 (later (‵ ((MutSlice (named 1) κ₁ u8).own_val (at-x-image x-image.name zs-step.1.0) (s-x-image ∷ []))
             ⊛ ‵ (flft κ₁ q₁))) (comes_back u8 κ₁ (ν₀-step ∷ []) q₁ x-image.name x-image.ptr.0 x-image.ptr.1 𝓛
-            (named 1) (named 0) x.at.z-x-image (length x-image.now) x.at.l-x-image room-x-image δ₀-step
+            (named 1) (named 0) x.at.z_x_image (length x-image.now) x.at.l_x_image room-x-image δ₀-step
             zs-step.1.0 h-step-x-image) $
             await ! tt $ split ! $
             -- the turn is over
@@ -580,8 +580,8 @@ module _ (#step : Name) (step-out : step_model Cursor) (step-x-image : step_mode
             breaks-if ! (load ! (from ! (stop !)) (look ! 13 refl))
             (λ z. forget ! 5 refl $ forget ! 7 refl $ forget ! 9 refl $ forget ! 11 refl $ forget ! 13 refl $
             forget ! 15 refl $ exec ! C Λ En rest (at_ret En Post) $
-            finish (last r-step zs-step.1.0 (spelled r-step w-step is-w-step) e-step (h-step-x-image ∙ x.at.l-x-image))
-            (left-off r-step zs-step.1.0 (spelled r-step w-step is-w-step) e-step (h-step-x-image ∙ x.at.l-x-image)
+            finish (last r-step zs-step.1.0 (spelled r-step w-step is-w-step) e-step (h-step-x-image ∙ x.at.l_x_image))
+            (left-off r-step zs-step.1.0 (spelled r-step w-step is-w-step) e-step (h-step-x-image ∙ x.at.l_x_image)
             (is_true _ z)))
             (λ z. assigns_last ! (bin ! (load ! (from ! (stop !)) (look ! 17 refl)) (lit ! tt) (record { fits = next_fits }))
             (from ! (stop !)) (store ! 17 refl (tt, record { fits = next_fits })) $
@@ -590,7 +590,7 @@ module _ (#step : Name) (step-out : step_model Cursor) (step-x-image : step_mode
             rewrite ! 17 (λ (j : ℕ). ‵ (fat full_share (ty_int w64) l₅ 0 (vint w64 j))) (sym
             (length-append x.at.past (e ∷ []))) refl $
             again ! (Less size) I x (next r-step zs-step.1.0 (spelled r-step w-step is-w-step) e-step
-            (h-step-x-image ∙ x.at.l-x-image) (is_not _ z)) shorter)
+            (h-step-x-image ∙ x.at.l_x_image) (is_not _ z)) shorter)
             )))))))))
 
       turn_at : (x : At) → Sq 𝓛 (I x) (runs C Λ En (turn #step) (any_q (after_turn 𝓤 H (Next x) Left)))

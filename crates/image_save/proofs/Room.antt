@@ -22,9 +22,9 @@ module _ (maplen : ℕ) (at : Cursor) (bytes : ℕ) where
   abbrev tests : Bool → Bool → Bool → Bool → Bool
   tests a b d f = not a && b && d && f && leb (at.next + 2 * maplen) (124 * (bytes / 512))
 
-  pub rest-stopped : at.stop ≡ true → false ≡ rest_fits maplen at bytes
+  pub rest_stopped : at.stop ≡ true → false ≡ rest_fits maplen at bytes
   unfolding rest_fits
-  rest-stopped s = sym (ap (λ (a : Bool). tests a (whole_blocks bytes) (leb at.next 4096) (leb maplen 4096)) s)
+  rest_stopped s = sym (ap (λ (a : Bool). tests a (whole_blocks bytes) (leb at.next 4096) (leb maplen 4096)) s)
 
   module _ (s : at.stop ≡ false) where
     pub rest-cut : whole_blocks bytes ≡ false → false ≡ rest_fits maplen at bytes
@@ -52,9 +52,9 @@ module _ (maplen : ℕ) (at : Cursor) (bytes : ℕ) where
             sym (ap₂ (λ (a b : Bool). tests a b (leb at.next 4096) (leb maplen 4096)) s w
             ∙ ap₂ (λ (d f : Bool). d && f && leb (at.next + 2 * maplen) (124 * (bytes / 512))) near h)
 
-  pub rest-to : rest_fits maplen at bytes ≡ true → RestFits maplen at bytes
+  pub rest_to : rest_fits maplen at bytes ≡ true → RestFits maplen at bytes
   unfolding rest_fits
-  rest-to e =
+  rest_to e =
       let a : Bool = not at.stop in
       let b : Bool = whole_blocks bytes in
       let d : Bool = leb at.next 4096 in
@@ -70,7 +70,7 @@ module _ (maplen : ℕ) (at : Cursor) (bytes : ℕ) where
         room = leb-true (at.next + 2 * maplen) (124 * (bytes / 512)) (and_right (a && b && d && f) g e);
       }
 
-  pub to-rest : at.stop ≡ false → RestFits maplen at bytes → rest_fits maplen at bytes ≡ true
-  to-rest s r =
+  pub to_rest : at.stop ≡ false → RestFits maplen at bytes → rest_fits maplen at bytes ≡ true
+  to_rest s r =
       sym (rest-by-room s (to_whole bytes r.whole) (le-leb at.next 4096 r.near) (le-leb maplen 4096 r.few))
       ∙ le-leb (at.next + 2 * maplen) (124 * (bytes / 512)) r.room

@@ -22,9 +22,9 @@ module _ (role n spare : ℕ) (map : List ℕ) (count : ℕ) (whole : Bool) (scr
   abbrev turned : Bool
   turned = turned_away role names.save
 
-  pub save-row-21 : turned ≡ true → 21 ≡ number_by role n spare map count whole scratch image
+  pub save_row_21 : turned ≡ true → 21 ≡ number_by role n spare map count whole scratch image
   unfolding number_by
-  save-row-21 t = sym (ap row_number (stop 21 turned _ t))
+  save_row_21 t = sym (ap row_number (stop 21 turned _ t))
 
   module _ (t : turned ≡ false) where
     pub save-row-1 : fit ≡ false → 1 ≡ number_by role n spare map count whole scratch image

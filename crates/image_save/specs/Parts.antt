@@ -22,8 +22,8 @@ SavesBy role = Saves (turned_away role names.save)
 
 -- Unless row 21 or row 1 holds, the entries have n less the free count to make.
 module _ (role n spare : ℕ) (map : List ℕ) (count : ℕ) (scratch : List ℕ) where
-  unfoldable pub firstTally : Tally
-  firstTally =
+  unfoldable pub first_tally : Tally
+  first_tally =
       cond (turned_away role names.save) (tally 0 true)
       (cond (save_fits n spare count (length map) (length scratch)) (tally (n - spare) false) (tally 0 true))
 
@@ -40,11 +40,11 @@ module _ (role n spare : ℕ) (map : List ℕ) (count : ℕ) (whole : Bool) (scr
 
 -- n, free count and c are written, if the save was accepted; the entries stand behind them.
 module _ (n spare count number : ℕ) (image : List ℕ) where
-  unfoldable pub headCursor : Cursor
-  headCursor = cursor 3 (not (eqb number 0))
+  unfoldable pub head_cursor : Cursor
+  head_cursor = cursor 3 (not (eqb number 0))
 
-  unfoldable pub headImage : List ℕ
-  headImage = cond (eqb number 0) (with_number (with_number (with_number image 0 n) 1 spare) 2 (count % 4294967296)) image
+  unfoldable pub head_image : List ℕ
+  head_image = cond (eqb number 0) (with_number (with_number (with_number image 0 n) 1 spare) 2 (count % 4294967296)) image
 
 -- An entry is written at the cursor, which goes on behind it.
 unfoldable pub cursor_after : Cursor → List ℕ → Entry → Cursor

@@ -3,8 +3,8 @@
 ghost use Rattle.std.specs.Prelude.{◌≡◌};
 ghost use Rattle.roles.specs.Roles as names;
 ghost use Rattle.roles.specs.Roles.{turned_away};
-ghost use Rattle.image.specs.Effects.{saveNumber, saveScratch, saveImage};
-ghost use Rattle.image_save.specs.Parts.{firstTally, number_by, headCursor, headImage, cursor_after, image_after};
+ghost use Rattle.image.specs.Effects.{save_number, save_scratch, save_image};
+ghost use Rattle.image_save.specs.Parts.{first_tally, number_by, head_cursor, head_image, cursor_after, image_after};
 ghost use Rattle.image_save.specs.Parts.{entries_cursor, entries_image, rest_fits, rest_image};
 
 use block::BLOCK;
@@ -18,7 +18,7 @@ use roles::{TURNED_AWAY, turned_away};
 
 // What the entries must make: n less the free count. If row 21 or row 1 holds, nothing is to be tested.
 fn begin(role: u32, n: u32, free: u32, map: &[u64], count: usize, scratch: &[u64]) -> Tally
-    ensures { result ≡ firstTally role n free map.now count scratch.now }
+    ensures { result ≡ first_tally role n free map.now count scratch.now }
 {
     if turned_away(role, roles::SAVE) {
         return Tally {
@@ -68,8 +68,8 @@ fn verdict(
 
 // Writes n, free count and c, if the save was accepted. The entries stand behind them.
 fn write_head(n: u32, free: u32, count: usize, number: u32, image: &mut [u8]) -> Cursor
-    ensures { (result ≡ headCursor n free count number image.old)
-        × (image.new ≡ headImage n free count number image.old) }
+    ensures { (result ≡ head_cursor n free count number image.old)
+        × (image.new ≡ head_image n free count number image.old) }
 {
     if number != 0 {
         return Cursor {
@@ -172,11 +172,11 @@ pub fn save(
     image: &mut [u8],
 ) -> u32
     ensures { let turned = turned_away role names.save in
-        (result ≡ saveNumber turned n free map.now catalogue.now scratch.old
+        (result ≡ save_number turned n free map.now catalogue.now scratch.old
         image.old)
-        × (scratch.new ≡ saveScratch turned n free map.now catalogue.now scratch.old
+        × (scratch.new ≡ save_scratch turned n free map.now catalogue.now scratch.old
         image.old)
-        × (image.new ≡ saveImage turned n free map.now catalogue.now scratch.old
+        × (image.new ≡ save_image turned n free map.now catalogue.now scratch.old
         image.old) }
 {
     let count = catalogue::count(catalogue);

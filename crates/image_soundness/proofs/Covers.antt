@@ -17,7 +17,7 @@ use Rattle.catalogue.specs.Entries.{held}
 use Rattle.catalogue.specs.declared.Entry.{Entry}
 use Rattle.catalogue_standings.specs.Standings.{standing_of, is_damaged}
 use Rattle.image_soundness.specs.Sound.{coverings, undamaged}
-use Rattle.image_soundness.proofs.Damage.{extent-inside, extent-taken, still-undamaged}
+use Rattle.image_soundness.proofs.Damage.{extent_inside, extent_taken, still_undamaged}
 
 -- 1 where a test holds
 abbrev pub one : Bool → ℕ
@@ -117,37 +117,37 @@ not_damaged : (a b : Bool) → (not a && b) ≡ true → a ≡ false
 not_damaged a b e = not-true a (and_left (not a) b e)
 
 module _ (n : ℕ) (f : ℕ → Bool) where
-  pub head-undamaged : (e : Entry) (es : List Entry) → undamaged n f (e ∷ es) ≡ true → is_damaged (standing_of n f e) ≡ false
+  pub head_undamaged : (e : Entry) (es : List Entry) → undamaged n f (e ∷ es) ≡ true → is_damaged (standing_of n f e) ≡ false
   unfolding undamaged
-  head-undamaged e es u = not_damaged (is_damaged (standing_of n f e)) (undamaged n f es) u
+  head_undamaged e es u = not_damaged (is_damaged (standing_of n f e)) (undamaged n f es) u
 
-  pub tail-undamaged : (e : Entry) (es : List Entry) → undamaged n f (e ∷ es) ≡ true → undamaged n f es ≡ true
+  pub tail_undamaged : (e : Entry) (es : List Entry) → undamaged n f (e ∷ es) ≡ true → undamaged n f es ≡ true
   unfolding undamaged
-  tail-undamaged e es u = and_right (not (is_damaged (standing_of n f e))) (undamaged n f es) u
+  tail_undamaged e es u = and_right (not (is_damaged (standing_of n f e))) (undamaged n f es) u
 
-  pub both-undamaged : (e : Entry) (es : List Entry) → is_damaged (standing_of n f e) ≡ false → undamaged n f es ≡ true
+  pub both_undamaged : (e : Entry) (es : List Entry) → is_damaged (standing_of n f e) ≡ false → undamaged n f es ≡ true
       → undamaged n f (e ∷ es) ≡ true
   unfolding undamaged
-  both-undamaged e es d u = and_both (not (is_damaged (standing_of n f e))) (undamaged n f es) (ap not d) u
+  both_undamaged e es d u = and_both (not (is_damaged (standing_of n f e))) (undamaged n f es) (ap not d) u
 
   -- no block from n on is covered
-  pub cover-outside : (es : List Entry) → undamaged n f es ≡ true → (b : ℕ) → n ≤ b → coverings es b ≡ 0
+  pub cover_outside : (es : List Entry) → undamaged n f es ≡ true → (b : ℕ) → n ≤ b → coverings es b ≡ 0
   unfolding coverings
-  cover-outside [] u b h = refl
-  cover-outside (e ∷ es) u b h =
-      let i : e.start + e.length ≤ n = extent-inside n e f (head-undamaged e es u) in
-      ap₂ ◌+◌ (ap one (run_out e.start e.length b (omega arith))) (cover-outside es (tail-undamaged e es u) b h)
+  cover_outside [] u b h = refl
+  cover_outside (e ∷ es) u b h =
+      let i : e.start + e.length ≤ n = extent_inside n e f (head_undamaged e es u) in
+      ap₂ ◌+◌ (ap one (run_out e.start e.length b (omega arith))) (cover_outside es (tail_undamaged e es u) b h)
 
   -- the covers make what the entries hold
-  pub cover-total : (es : List Entry) → undamaged n f es ≡ true → total (coverings es) n ≡ held es
+  pub cover_total : (es : List Entry) → undamaged n f es ≡ true → total (coverings es) n ≡ held es
   unfolding coverings held
-  cover-total [] u = total_same (coverings []) (λ b. 0) n (λ b l. refl) ∙ total_none n
-  cover-total (e ∷ es) u =
-      let i : e.start + e.length ≤ n = extent-inside n e f (head-undamaged e es u) in
+  cover_total [] u = total_same (coverings []) (λ b. 0) n (λ b l. refl) ∙ total_none n
+  cover_total (e ∷ es) u =
+      let i : e.start + e.length ≤ n = extent_inside n e f (head_undamaged e es u) in
       let r : total (λ b. one (in_run e.start e.length b)) n ≡ e.length = total_run e.start e.length n
       ∙ omega arith in
       total_add (λ b. one (in_run e.start e.length b)) (coverings es) n
-      ∙ ap₂ ◌+◌ r (cover-total es (tail-undamaged e es u))
+      ∙ ap₂ ◌+◌ r (cover_total es (tail_undamaged e es u))
 
 pub none_undamaged : (n : ℕ) (g : ℕ → Bool) → undamaged n g [] ≡ true
 unfolding undamaged
@@ -159,10 +159,10 @@ pub still_all : (n : ℕ) (f g : ℕ → Bool) (es : List Entry) → undamaged n
 unfolding coverings
 still_all n f g [] u h = none_undamaged n g
 still_all n f g (e ∷ es) u h =
-    let d = head-undamaged n f e es u in
-    let i : e.start + e.length ≤ n = extent-inside n e f d in
-    both-undamaged n g e es
-    (still-undamaged n e f g d (λ b p q.
+    let d = head_undamaged n f e es u in
+    let i : e.start + e.length ≤ n = extent_inside n e f d in
+    both_undamaged n g e es
+    (still_undamaged n e f g d (λ b p q.
     let r : one (in_run e.start e.length b) ≡ 1 = ap one (run_in e.start e.length b p q) in
-    h b (omega arith) (omega arith) (extent-taken n e f d b p q)))
-    (still_all n f g es (tail-undamaged n f e es u) (λ b l c t. h b l (omega arith) t))
+    h b (omega arith) (omega arith) (extent_taken n e f d b p q)))
+    (still_all n f g es (tail_undamaged n f e es u) (λ b l c t. h b l (omega arith) t))

@@ -11,7 +11,7 @@ use borrow.Author.Tests.{eqb-true, not-true}
 use Rattle.catalogue.specs.Entries.{absent_mark, paused_mark, open_mark, complete_mark}
 use Rattle.map_blocks.specs.Blocks.{all}
 use Rattle.laws.proofs.Bools.{and_left, and_right, and_both}
-use Rattle.map_blocks.proofs.Runs.{all-intro, all-elim}
+use Rattle.map_blocks.proofs.Runs.{all_intro, all_elim}
 use Rattle.catalogue.specs.declared.Entry.{Entry}
 use Rattle.catalogue_standings.specs.Standings.{extent_holds, standing_of, is_damaged}
 use Rattle.catalogue_standings.specs.declared.Standing.{Standing}
@@ -42,40 +42,40 @@ either e false false false true zeros false d = absurd (true≢false d)
 either e false false false false zeros holds d = absurd (true≢false d)
 
 module _ (n : ℕ) (e : Entry) where
-  standing-said : (f : ℕ → Bool) → standing_of n f e
+  standing_said : (f : ℕ → Bool) → standing_of n f e
       ≡ said e (eqb e.mark absent_mark) (eqb e.mark paused_mark) (eqb e.mark open_mark) (eqb e.mark complete_mark)
       (eqb e.start 0 && eqb e.length 0) (extent_holds n f e.start e.length)
   unfolding standing_of said
-  standing-said f = refl
+  standing_said f = refl
 
   -- no blocks, or an extent that holds
-  pub extent-of : (f : ℕ → Bool) → is_damaged (standing_of n f e) ≡ false
+  pub extent_of : (f : ℕ → Bool) → is_damaged (standing_of n f e) ≡ false
       → (e.length ≡ 0) ⊎ (extent_holds n f e.start e.length ≡ true)
-  extent-of f d =
+  extent_of f d =
       ⊎_elim (λ z. inl (eqb-true e.length 0 (and_right (eqb e.start 0) (eqb e.length 0) z))) (λ h. inr h)
       (either e (eqb e.mark absent_mark) (eqb e.mark paused_mark) (eqb e.mark open_mark) (eqb e.mark complete_mark)
       (eqb e.start 0 && eqb e.length 0)
-      (extent_holds n f e.start e.length) (ap is_damaged (sym (standing-said f)) ∙ d))
+      (extent_holds n f e.start e.length) (ap is_damaged (sym (standing_said f)) ∙ d))
 
-  pub extent-inside : (f : ℕ → Bool) → is_damaged (standing_of n f e) ≡ false → e.start + e.length ≤ n
-  extent-inside f d = (inside_of n f e d).inside
+  pub extent_inside : (f : ℕ → Bool) → is_damaged (standing_of n f e) ≡ false → e.start + e.length ≤ n
+  extent_inside f d = (inside_of n f e d).inside
 
-  pub extent-taken : (f : ℕ → Bool) → is_damaged (standing_of n f e) ≡ false → (b : ℕ) → e.start ≤ b → b < e.start + e.length
+  pub extent_taken : (f : ℕ → Bool) → is_damaged (standing_of n f e) ≡ false → (b : ℕ) → e.start ≤ b → b < e.start + e.length
       → f b ≡ false
   unfolding extent_holds
-  extent-taken f d b l u =
+  extent_taken f d b l u =
       ⊎_elim (λ (z : e.length ≡ 0). absurd (omega arith))
       (λ h. not-true (f b)
-      (all-elim (λ b. not (f b)) e.start e.length
+      (all_elim (λ b. not (f b)) e.start e.length
       (and_right (leb 1 e.length && leb (e.start + e.length) n) (all (λ b. not (f b)) e.start e.length) h) b l u))
-      (extent-of f d)
+      (extent_of f d)
 
   -- the same with other blocks free, none of them its own
-  pub still-undamaged : (f g : ℕ → Bool) → is_damaged (standing_of n f e) ≡ false
+  pub still_undamaged : (f g : ℕ → Bool) → is_damaged (standing_of n f e) ≡ false
       → ((b : ℕ) → e.start ≤ b → b < e.start + e.length → g b ≡ false)
       → is_damaged (standing_of n g e) ≡ false
   unfolding extent_holds
-  still-undamaged f g d taken =
+  still_undamaged f g d taken =
       let s : ℕ = e.start in
       let l : ℕ = e.length in
       let same : extent_holds n g s l ≡ extent_holds n f s l =
@@ -86,19 +86,19 @@ module _ (n : ℕ) (e : Entry) where
       (λ h.
       and_both (leb 1 l && leb (s + l) n) (all (λ b. not (g b)) s l)
       (and_left (leb 1 l && leb (s + l) n) (all (λ b. not (f b)) s l) h)
-      (all-intro (λ b. not (g b)) s l (λ b p q. ap not (taken b p q))) ∙ sym h)
-      (extent-of f d) in
-      ap is_damaged (standing-said g
+      (all_intro (λ b. not (g b)) s l (λ b p q. ap not (taken b p q))) ∙ sym h)
+      (extent_of f d) in
+      ap is_damaged (standing_said g
       ∙ ap (said e (eqb e.mark absent_mark) (eqb e.mark paused_mark) (eqb e.mark open_mark) (eqb e.mark complete_mark)
       (eqb e.start 0 && eqb e.length 0)) same
-      ∙ sym (standing-said f)) ∙ d
+      ∙ sym (standing_said f)) ∙ d
 
   -- its mark is one of the four
-  pub mark-small : (f : ℕ → Bool) → is_damaged (standing_of n f e) ≡ false → e.mark < 256
+  pub mark_small : (f : ℕ → Bool) → is_damaged (standing_of n f e) ≡ false → e.mark < 256
   unfolding said
-  mark-small f d =
+  mark_small f d =
       by (eqb e.mark absent_mark) (eqb e.mark paused_mark) (eqb e.mark open_mark)
-      (eqb e.mark complete_mark) refl refl refl refl (ap is_damaged (sym (standing-said f)) ∙ d)
+      (eqb e.mark complete_mark) refl refl refl refl (ap is_damaged (sym (standing_said f)) ∙ d)
     where
       by : (p q o k : Bool) → eqb e.mark absent_mark ≡ p → eqb e.mark paused_mark ≡ q → eqb e.mark open_mark ≡ o
           → eqb e.mark complete_mark ≡ k

@@ -125,15 +125,15 @@ abbrev step_model : Type 0 → Type 0
 step_model X = ℕ → Tally → Entry → X
 
 module _ (step-out : step_model Tally) where
-  abbrev step-says : ℕ → Tally → Entry → Tally → Type 0
-  step-says a0 a1 a2 r = r ≡ step-out a0 a1 a2
+  abbrev step_says : ℕ → Tally → Entry → Tally → Type 0
+  step_says a0 a1 a2 r = r ≡ step-out a0 a1 a2
 
   module _ {M : Type 1} (𝓤 : Ura M) where
     abbrev step-clauses : Clauses 𝓤 step_ended
     step-clauses κs a = record {
       ghost = Unit {0};
       requires = λ _. emp 𝓤;
-      ensures = λ _ r e. fact 𝓤 (step-says a.0 a.1.0 a.1.1.0 r);
+      ensures = λ _ r e. fact 𝓤 (step_says a.0 a.1.0 a.1.1.0 r);
     }
 
     module _ (𝓛 : Logic 𝓤) where
@@ -227,7 +227,7 @@ module _ (#step : Name) (step-out : step_model Tally)
     -- the loop goes on from here, and comes to the outcome
     record At : Type 0 where
       at : Point
-      comes-state : after-state at.left x-n at.state ≡ after-state ys x-n x-start
+      comes_state : after-state at.left x-n at.state ≡ after-state ys x-n x-start
 
     abbrev size : At → ℕ
     size x = length x.at.left
@@ -235,7 +235,7 @@ module _ (#step : Name) (step-out : step_model Tally)
     abbrev at_first : At
     at_first = record {
       at = record { past = []; left = ys; state = x-start; is_state = is-x-start; all = refl };
-      comes-state = refl;
+      comes_state = refl;
     }
 
     sums : (x : Point) → length x.past + length x.left ≡ n
@@ -359,7 +359,7 @@ module _ (#step : Name) (step-out : step_model Tally)
 
           fin : Ends x.at
           fin = sym (after-state-nil x-n x.at.state) ∙ ap (λ (l : List Entry). after-state l x-n x.at.state) (sym nil)
-              ∙ x.comes-state
+              ∙ x.comes_state
 
       -- ---- a turn that passes one entry
       module _ (x : At) (e : Entry) (es : List Entry) (cons : x.at.left ≡ e ∷ es) where
@@ -400,10 +400,10 @@ module _ (#step : Name) (step-out : step_model Tally)
         spelled r w is = subst (λ (vs : List Val). Is Tally'.the_row r vs) ((struct.tells Tally'.the_type Tally''.the_laws) r _
             is) is
 
-        module _ (r : Tally) (is : Is Tally'.the_row r (machine-state r ∷ [])) (heard-el : step-says step-out x-n x.at.state
+        module _ (r : Tally) (is : Is Tally'.the_row r (machine-state r ∷ [])) (heard-el : step_says step-out x-n x.at.state
             el r) where
-          said : step-says step-out x-n x.at.state e r
-          said = subst (λ (d : Entry). step-says step-out x-n x.at.state d r) el-is heard-el
+          said : step_says step-out x-n x.at.state e r
+          said = subst (λ (d : Entry). step_says step-out x-n x.at.state d r) el-is heard-el
 
           -- where the loop stands after the turn
           abbrev next : r.stop ≡ false → At
@@ -415,10 +415,10 @@ module _ (#step : Name) (step-out : step_model Tally)
               is_state = is;
               all = append_snoc x.at.past e es ∙ seam;
             };
-            comes-state = (λ j. after-state es x-n (said j)) ∙ sym (ap (λ (b : Bool). choose b ((step-out x-n x.at.state e))
+            comes_state = (λ j. after-state es x-n (said j)) ∙ sym (ap (λ (b : Bool). choose b ((step-out x-n x.at.state e))
                 (after-state es x-n (step-out x-n x.at.state e))) (sym (ap (λ (t : Tally). t.stop) (said)) ∙ going))
                 ∙ sym (after-state-cons e es x-n x.at.state) ∙ ap (λ (l : List Entry). after-state l x-n x.at.state)
-                (sym cons) ∙ x.comes-state;
+                (sym cons) ∙ x.comes_state;
           }
 
           -- where it stands when it is left
@@ -429,7 +429,7 @@ module _ (#step : Name) (step-out : step_model Tally)
           left-off stopping = (λ j. (said j)) ∙ sym (ap (λ (b : Bool). choose b ((step-out x-n x.at.state e))
               (after-state es x-n (step-out x-n x.at.state e))) (sym (ap (λ (t : Tally). t.stop) (said)) ∙ stopping))
               ∙ sym (after-state-cons e es x-n x.at.state) ∙ ap (λ (l : List Entry). after-state l x-n x.at.state)
-              (sym cons) ∙ x.comes-state
+              (sym cons) ∙ x.comes_state
 
         more : Sq 𝓛 (I x) (runs C Λ En (turn #step) (any_q (after_turn 𝓤 H (Next x) Left)))
         unfolding after_turn
@@ -462,10 +462,10 @@ module _ (#step : Name) (step-out : step_model Tally)
             ⊛ raw (ensured 𝓛 step_ended (step-clauses step-out 𝓤) tt (step_args x.at.state el) tt r)))) (id⊢ 𝓤 _) $
             await ! tt $ pick ! (λ r-step. split ! $ bring ! (1 ∷ []) $
             use1 𝓛 (some (λ (zs-step : Unit {0} × (Unit {0} × (Unit {0} × Unit {0}))). ‵
-            (lasts step_ended tt (step_args x.at.state el) zs-step) ⊛ raw (fact 𝓤 (step-says step-out x-n x.at.state el
+            (lasts step_ended tt (step_args x.at.state el) zs-step) ⊛ raw (fact 𝓤 (step_says step-out x-n x.at.state el
             r-step)))) (id⊢ 𝓤 _) $
             pick ! (λ zs-step. split ! $ bring ! (1 ∷ []) $
-            heard ! (step-says step-out x-n x.at.state el r-step) (λ e-step. fparts 𝓛 (_ ∷ _ ∷ _ ∷ []) _ $
+            heard ! (step_says step-out x-n x.at.state el r-step) (λ e-step. fparts 𝓛 (_ ∷ _ ∷ _ ∷ []) _ $
             discard ! (0 ∷ 0 ∷ 0 ∷ []) $ split ! $ bring ! (1 ∷ []) $
             peeks ! Tally'.the_row (Is Tally'.the_row) (shows 𝓛 Tally'.the_row) r-step (w-step ∷ []) (λ is-w-step.
             land ! (from ! (stop !)) (store ! 15 refl ((struct.lawful Tally'.the_type Tally''.the_laws 𝓛).typed r-step _

@@ -7,7 +7,7 @@ use lib.Dec.{leb, eqb}
 use borrow.Author.Tests.{eq-eqb, ne_eqb}
 use Rattle.catalogue.specs.Entries.{absent_mark, paused_mark, open_mark, complete_mark}
 use Rattle.map_blocks.specs.Blocks.{all}
-use Rattle.map_blocks.proofs.Runs.{all-intro}
+use Rattle.map_blocks.proofs.Runs.{all_intro}
 use Rattle.catalogue.specs.declared.Entry.{Entry}
 use Rattle.catalogue_standings.specs.Standings.{extent_holds, standing_of, is_damaged}
 use Rattle.catalogue_standings.specs.declared.Standing.TheVariants.{Absent, Paused, PausedWith, Open, Complete, Damaged}
@@ -37,7 +37,7 @@ by_mark e false false false false z h = refl
 -- an extent that holds where no block is free
 extent_alone : (n s l : ℕ) → extent_holds n (λ b. false) s l ≡ (leb 1 l && leb (s + l) n)
 unfolding extent_holds
-extent_alone n s l = by (leb 1 l && leb (s + l) n) (all (λ b. true) s l) (all-intro (λ b. true) s l (λ b p q. refl))
+extent_alone n s l = by (leb 1 l && leb (s + l) n) (all (λ b. true) s l) (all_intro (λ b. true) s l (λ b p q. refl))
   where
     by : (a b : Bool) → b ≡ true → (a && b) ≡ a
     by true b e = e
@@ -59,8 +59,8 @@ module _ (n : ℕ) (e : Entry) where
       ∙ ap (rule (eqb e.mark absent_mark) (eqb e.mark paused_mark) (eqb e.mark open_mark) (eqb e.mark complete_mark)
       zeros) (extent_alone n e.start e.length)
 
-  pub rule-absent : e.mark ≡ absent_mark → zeros ≡ keeps_rule n e
-  rule-absent h = sym (kept ∙ simp (eq-eqb e.mark absent_mark h))
+  pub rule_absent : e.mark ≡ absent_mark → zeros ≡ keeps_rule n e
+  rule_absent h = sym (kept ∙ simp (eq-eqb e.mark absent_mark h))
 
   module _ (a : e.mark ≡ absent_mark → ⊥) where
     pub rule-paused : e.mark ≡ paused_mark → cond zeros true inside ≡ keeps_rule n e

@@ -14,9 +14,9 @@ use Rattle.laws.proofs.Bools.{order}
 use Rattle.map_blocks.proofs.Maps.{marked_length}
 use Rattle.catalogue.specs.declared.Entry.{Entry}
 use Rattle.image_soundness.specs.Windows.{tally_after, tally_of, words_from, copied, part_from, part_to, touches, part_taken}
-use Rattle.image_soundness.specs.Windows.{window_after, scratch_after, window_over, scratch_over, oneWindow, oneScratch}
+use Rattle.image_soundness.specs.Windows.{window_after, scratch_after, window_over, scratch_over, one_window, one_scratch}
 use Rattle.image_soundness.specs.Windows.{windows_of, windows_scratch, first_window, window_count, passed_all, cleared_all}
-use Rattle.image_soundness.specs.Windows.{tested, testedScratch, Tests}
+use Rattle.image_soundness.specs.Windows.{tested, tested_scratch, Tests}
 use Rattle.image_soundness.specs.declared.Tally.{Tally}
 use Rattle.image_soundness.specs.declared.Window.{Window}
 
@@ -50,24 +50,24 @@ left_more e es w scratch = refl
 
 -- window by window
 module _ (map : List ℕ) (es : List Entry) (scratch : List ℕ) (n : ℕ) (w : Window) where
-  pub windows-none : windows_of map es scratch n 0 w ≡ w
+  pub windows_none : windows_of map es scratch n 0 w ≡ w
   unfolding windows_of
-  windows-none = refl
+  windows_none = refl
 
-  pub scratch-none : windows_scratch map es scratch n 0 w ≡ scratch
+  pub scratch_none : windows_scratch map es scratch n 0 w ≡ scratch
   unfolding windows_scratch
-  scratch-none = refl
+  scratch_none = refl
 
 module _ (k : ℕ) (map : List ℕ) (es : List Entry) (scratch : List ℕ) (n : ℕ) (w : Window) where
-  pub windows-more : windows_of map es scratch n (suc k) w
-      ≡ oneWindow map es (windows_scratch map es scratch n k w) n (windows_of map es scratch n k w)
+  pub windows_more : windows_of map es scratch n (suc k) w
+      ≡ one_window map es (windows_scratch map es scratch n k w) n (windows_of map es scratch n k w)
   unfolding windows_of windows_scratch
-  windows-more = refl
+  windows_more = refl
 
-  pub scratch-more : windows_scratch map es scratch n (suc k) w
-      ≡ oneScratch map es (windows_scratch map es scratch n k w) n (windows_of map es scratch n k w)
+  pub scratch_more : windows_scratch map es scratch n (suc k) w
+      ≡ one_scratch map es (windows_scratch map es scratch n k w) n (windows_of map es scratch n k w)
   unfolding windows_of windows_scratch
-  scratch-more = refl
+  scratch_more = refl
 
 -- the scratch is as long as before
 pub words_length : (map : List ℕ) (a m : ℕ) → length (words_from map a m) ≡ m
@@ -126,14 +126,14 @@ over_length (e ∷ es) w scratch =
     over_length es (window_after w scratch e) (scratch_after w scratch e) ∙ after_length w scratch e
 
 pub one_length : (map : List ℕ) (es : List Entry) (scratch : List ℕ) (n : ℕ) (w : Window)
-    → length (oneScratch map es scratch n w) ≡ length scratch
+    → length (one_scratch map es scratch n w) ≡ length scratch
 one_length map es scratch n w = over_length es w (copied map w scratch) ∙ copied_length map w scratch
 
 pub windows_length : (k : ℕ) (map : List ℕ) (es : List Entry) (scratch : List ℕ) (n : ℕ) (w : Window)
     → length (windows_scratch map es scratch n k w) ≡ length scratch
-windows_length zero map es scratch n w = ap length (scratch-none map es scratch n w)
+windows_length zero map es scratch n w = ap length (scratch_none map es scratch n w)
 windows_length (suc k) map es scratch n w =
-    ap length (scratch-more k map es scratch n w)
+    ap length (scratch_more k map es scratch n w)
     ∙ one_length map es (windows_scratch map es scratch n k w) n (windows_of map es scratch n k w)
     ∙ windows_length k map es scratch n w
 
@@ -152,5 +152,5 @@ module _ (map : List ℕ) (es : List Entry) (scratch : List ℕ) (n : ℕ) (star
   used = windows_scratch map es scratch n count first
 
   pub tests : Tests map es scratch n start (passed_all last used) (cleared_all last used)
-  unfolding passed_all cleared_all tested testedScratch
+  unfolding passed_all cleared_all tested tested_scratch
   tests = (refl, ap (λ (k : ℕ). replicate k 0) (windows_length count map es scratch n first))

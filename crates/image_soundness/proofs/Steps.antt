@@ -34,39 +34,39 @@ either_second a b e = sym (ap (λ (x : Bool). cond x true b) e)
 
 -- an entry that is counted
 module _ (n : ℕ) (t : Tally) (e : Entry) where
-  pub counts-stopped : t.stop ≡ true → false ≡ countable n t e
+  pub counts_stopped : t.stop ≡ true → false ≡ countable n t e
   unfolding countable
-  counts-stopped s = simp s
+  counts_stopped s = simp s
 
-  pub counts-broken : t.stop ≡ false → keeps_rule n e ≡ false → false ≡ countable n t e
+  pub counts_broken : t.stop ≡ false → keeps_rule n e ≡ false → false ≡ countable n t e
   unfolding countable
-  counts-broken s k = simp (s, k)
+  counts_broken s k = simp (s, k)
 
-  pub counts-by-length : t.stop ≡ false → keeps_rule n e ≡ true → leb e.length t.left ≡ countable n t e
+  pub counts_by_length : t.stop ≡ false → keeps_rule n e ≡ true → leb e.length t.left ≡ countable n t e
   unfolding countable
-  counts-by-length s k = simp (s, k)
+  counts_by_length s k = simp (s, k)
 
-  pub counted-enough : countable n t e ≡ true → e.length ≤ t.left
+  pub counted_enough : countable n t e ≡ true → e.length ≤ t.left
   unfolding countable
-  counted-enough h = leb-true e.length t.left (and_right (not t.stop && keeps_rule n e) (leb e.length t.left) h)
+  counted_enough h = leb-true e.length t.left (and_right (not t.stop && keeps_rule n e) (leb e.length t.left) h)
 
-  pub not-counted : countable n t e ≡ false → tally t.left true ≡ tally_after n t e
+  pub not_counted : countable n t e ≡ false → tally t.left true ≡ tally_after n t e
   unfolding tally_after
-  not-counted h = simp h
+  not_counted h = simp h
 
-  pub is-counted : countable n t e ≡ true → tally (t.left - e.length) false ≡ tally_after n t e
+  pub is_counted : countable n t e ≡ true → tally (t.left - e.length) false ≡ tally_after n t e
   unfolding tally_after
-  is-counted h = simp h
+  is_counted h = simp h
 
 -- a window
 module _ (map : List ℕ) (w : Window) (scratch : List ℕ) where
-  pub not-copied : 64 < length scratch → scratch ≡ copied map w scratch
+  pub not_copied : 64 < length scratch → scratch ≡ copied map w scratch
   unfolding copied
-  not-copied h = simp (lt-leb (length scratch) 64 h)
+  not_copied h = simp (lt-leb (length scratch) 64 h)
 
-  pub is-copied : length scratch ≤ 64 → words_from map (w.lo / 64) (length scratch) ≡ copied map w scratch
+  pub is_copied : length scratch ≤ 64 → words_from map (w.lo / 64) (length scratch) ≡ copied map w scratch
   unfolding copied
-  is-copied h = simp (le-leb (length scratch) 64 h)
+  is_copied h = simp (le-leb (length scratch) 64 h)
 
 -- the start counted back from the window's last block, in 64 bits: as far as the extent is long, and 4095 more
 pub lies_apart : (lo : ℕ) (e : Entry) (back : ℕ) → back < 18446744073709551616
@@ -75,62 +75,62 @@ unfolding touches
 lies_apart lo e back small wraps far = sym (le-ltb (part_from lo e) (part_to lo e) (omega arith))
 
 module _ (scratch : List ℕ) (s k : ℕ) where
-  pub taken-short : length scratch < (s + k + 63) / 64 → false ≡ taken scratch s k
+  pub taken_short : length scratch < (s + k + 63) / 64 → false ≡ taken scratch s k
   unfolding taken
-  taken-short h = simp (lt-leb (s + k) (64 * length scratch) (omega arith))
+  taken_short h = simp (lt-leb (s + k) (64 * length scratch) (omega arith))
 
-  pub taken-all : (s + k + 63) / 64 ≤ length scratch → all (in_state scratch false) s k ≡ taken scratch s k
+  pub taken_all : (s + k + 63) / 64 ≤ length scratch → all (in_state scratch false) s k ≡ taken scratch s k
   unfolding taken
-  taken-all h = simp (le-leb (s + k) (64 * length scratch) (omega arith))
+  taken_all h = simp (le-leb (s + k) (64 * length scratch) (omega arith))
 
-  pub taken-fits : taken scratch s k ≡ true → s + k ≤ 64 * length scratch
+  pub taken_fits : taken scratch s k ≡ true → s + k ≤ 64 * length scratch
   unfolding taken
-  taken-fits h = leb-true (s + k) (64 * length scratch)
+  taken_fits h = leb-true (s + k) (64 * length scratch)
       (and_left (leb (s + k) (64 * length scratch)) (all (in_state scratch false) s k) h)
 
 module _ (n : ℕ) (w : Window) (scratch : List ℕ) where
-  pub passes-stopped : w.stop ≡ true → false ≡ passes n w scratch
+  pub passes_stopped : w.stop ≡ true → false ≡ passes n w scratch
   unfolding passes
-  passes-stopped h = simp h
+  passes_stopped h = simp h
 
-  pub passes-long : w.stop ≡ false → 64 < length scratch → false ≡ passes n w scratch
+  pub passes_long : w.stop ≡ false → 64 < length scratch → false ≡ passes n w scratch
   unfolding passes
-  passes-long h l = simp (h, lt-leb (length scratch) 64 l)
+  passes_long h l = simp (h, lt-leb (length scratch) 64 l)
 
-  pub passes-fresh : w.stop ≡ false → length scratch ≤ 64 → (k : ℕ) → k ≡ n - w.lo → is_fresh scratch k ≡ passes n w scratch
+  pub passes_fresh : w.stop ≡ false → length scratch ≤ 64 → (k : ℕ) → k ≡ n - w.lo → is_fresh scratch k ≡ passes n w scratch
   unfolding passes
-  passes-fresh h l k e = ap (is_fresh scratch) e ∙ simp (h, le-leb (length scratch) 64 l)
+  passes_fresh h l k e = ap (is_fresh scratch) e ∙ simp (h, le-leb (length scratch) 64 l)
 
-  pub window-ends : (fine : Bool) (k : ℕ) → fine ≡ passes n w scratch → k ≡ min w.lo 262144
+  pub window_ends : (fine : Bool) (k : ℕ) → fine ≡ passes n w scratch → k ≡ min w.lo 262144
       → window (k + 4096) (not fine) ≡ window_end n w scratch
   unfolding window_end
-  window-ends fine k p q = ap₂ (λ (x : ℕ) (b : Bool). window (x + 4096) (not b)) q p
+  window_ends fine k p q = ap₂ (λ (x : ℕ) (b : Bool). window (x + 4096) (not b)) q p
 
 -- the first window, and how many there are
 module _ (t : Tally) where
-  pub first-stopped : t.stop ≡ true → window 0 true ≡ first_window t
+  pub first_stopped : t.stop ≡ true → window 0 true ≡ first_window t
   unfolding first_window
-  first-stopped h = simp h
+  first_stopped h = simp h
 
-  pub first-left : t.stop ≡ false → window 0 (not (eqb t.left 0)) ≡ first_window t
+  pub first_left : t.stop ≡ false → window 0 (not (eqb t.left 0)) ≡ first_window t
   unfolding first_window
-  first-left h = simp h
+  first_left h = simp h
 
 -- the end
 module _ (w : Window) (scratch : List ℕ) where
-  pub all-passed : not w.stop ≡ passed_all w scratch
+  pub all_passed_lem : not w.stop ≡ passed_all w scratch
   unfolding passed_all
-  all-passed = refl
+  all_passed_lem = refl
 
-  pub all-cleared : replicate (length scratch) 0 ≡ cleared_all w scratch
+  pub all_cleared : replicate (length scratch) 0 ≡ cleared_all w scratch
   unfolding cleared_all
-  all-cleared = refl
+  all_cleared = refl
 
 module _ (n : ℕ) (w : Window) where
   pub count_none : w.stop ≡ true → 0 ≡ window_count n w
   unfolding window_count
   count_none h = simp h
 
-  pub count-all : w.stop ≡ false → (n + 4095) / 4096 ≡ window_count n w
+  pub count_all : w.stop ≡ false → (n + 4095) / 4096 ≡ window_count n w
   unfolding window_count
-  count-all h = simp h
+  count_all h = simp h

@@ -1,4 +1,4 @@
--- The test of each entry alone and then window by window is soundness (`tested-sound`).
+-- The test of each entry alone and then window by window is soundness (`tested_sound`).
 -- Assumes nothing.
 use mathlib.Core.Path.{◌≡◌, refl, sym, ap, ap₂, subst, ◌∙◌}
 use mathlib.Core.Logic.{⊎_elim}
@@ -18,15 +18,15 @@ use Rattle.catalogue_standings.specs.Limits.{shape_fits}
 use Rattle.catalogue_standings.proofs.Limits.{Fits, fits}
 use Rattle.image_soundness.specs.Scratch.{scratch_words}
 use Rattle.image_soundness.specs.Sound.{State, coverings, undamaged, sound}
-use Rattle.image_soundness.specs.Windows.{tally, window, tally_of, oneWindow, windows_of, windows_scratch, first_window}
+use Rattle.image_soundness.specs.Windows.{tally, window, tally_of, one_window, windows_of, windows_scratch, first_window}
 use Rattle.image_soundness.specs.Windows.{window_count, tested}
 use Rattle.image_soundness.specs.declared.Tally.{Tally}
 use Rattle.image_soundness.specs.declared.Window.{Window}
-use Rattle.image_soundness.proofs.Covers.{decide, one, same_one, cover-outside, still_all}
-use Rattle.image_soundness.proofs.Counted.{tally-counted, counted-tally}
-use Rattle.image_soundness.proofs.Rounds.{windows-none, windows-more, windows_length}
-use Rattle.image_soundness.proofs.WhenSound.{Tidy, sound-to, to-sound, tidy-sound, sound-tidy}
-use Rattle.image_soundness.proofs.Windowed.{Good, window-good, good-window, one-stopped, one-lo}
+use Rattle.image_soundness.proofs.Covers.{decide, one, same_one, cover_outside, still_all}
+use Rattle.image_soundness.proofs.Counted.{tally_counted, counted_tally}
+use Rattle.image_soundness.proofs.Rounds.{windows_none, windows_more, windows_length}
+use Rattle.image_soundness.proofs.WhenSound.{Tidy, sound_to, to_sound, tidy_sound, sound_tidy}
+use Rattle.image_soundness.proofs.Windowed.{Good, window_good, good_window, one_stopped, one_lo}
 
 -- the first window, and how many there are
 module _ (t : Tally) where
@@ -97,10 +97,10 @@ module _ (s : State) (scratch : List ℕ) (fit : shape_fits s.blocks s.spare (le
   S-long i = windows_length i map es scratch n (window 0 false)
 
   W-lo : (i : ℕ) → i ≤ 64 → (W i).lo ≡ 4096 * i
-  W-lo zero h = ap (λ (w : Window). w.lo) (windows-none map es scratch n (window 0 false))
+  W-lo zero h = ap (λ (w : Window). w.lo) (windows_none map es scratch n (window 0 false))
   W-lo (suc i) h =
       let l : (W i).lo ≡ 4096 * i = W-lo i (omega arith) in
-      ap (λ (w : Window). w.lo) (windows-more i map es scratch n (window 0 false)) ∙ one-lo map es (S i) n (W i) ∙ omega arith
+      ap (λ (w : Window). w.lo) (windows_more i map es scratch n (window 0 false)) ∙ one_lo map es (S i) n (W i) ∙ omega arith
 
   -- window i, where nothing has failed before it
   W-is : (i : ℕ) → i ≤ 64 → (W i).stop ≡ false → W i ≡ window (4096 * i) false
@@ -112,79 +112,79 @@ module _ (s : State) (scratch : List ℕ) (fit : shape_fits s.blocks s.spare (le
   abbrev Fine : ℕ → Type 0
   Fine i = Good map es n (4096 * i) m (S i) (S-long i) few (aligned i)
 
-  next-is : (i : ℕ) → i ≤ 64 → (W i).stop ≡ false → W (suc i) ≡ oneWindow map es (S i) n (window (4096 * i) false)
-  next-is i h o = windows-more i map es scratch n (window 0 false) ∙ ap (oneWindow map es (S i) n) (W-is i h o)
+  next_is : (i : ℕ) → i ≤ 64 → (W i).stop ≡ false → W (suc i) ≡ one_window map es (S i) n (window (4096 * i) false)
+  next_is i h o = windows_more i map es scratch n (window 0 false) ∙ ap (one_window map es (S i) n) (W-is i h o)
 
   -- all windows passed: each of them is as it should be
-  before-passed : (i : ℕ) → (W (suc i)).stop ≡ false → (W i).stop ≡ false
-  before-passed i o =
+  before_passed : (i : ℕ) → (W (suc i)).stop ≡ false → (W i).stop ≡ false
+  before_passed i o =
       ⊎_elim
       (λ (t : (W i).stop ≡ true).
       absurd (clash (W (suc i)).stop
-      (ap (λ (w : Window). w.stop) (windows-more i map es scratch n (window 0 false)) ∙ one-stopped map es (S i) n (W i) t) o))
+      (ap (λ (w : Window). w.stop) (windows_more i map es scratch n (window 0 false)) ∙ one_stopped map es (S i) n (W i) t) o))
       (λ (t : (W i).stop ≡ false). t) (decide (W i).stop)
 
-  all-fine : (k : ℕ) → k ≤ 64 → (W k).stop ≡ false → (i : ℕ) → i < k → Fine i
-  all-fine zero h o i l = absurd (omega arith)
-  all-fine (suc k) h o i l =
-      let before = before-passed k o in
+  all_fine : (k : ℕ) → k ≤ 64 → (W k).stop ≡ false → (i : ℕ) → i < k → Fine i
+  all_fine zero h o i l = absurd (omega arith)
+  all_fine (suc k) h o i l =
+      let before = before_passed k o in
       ⊎_elim
-      (λ (u : i < k). all-fine k (omega arith) before i u)
+      (λ (u : i < k). all_fine k (omega arith) before i u)
       (λ (u : k ≤ i).
       let e : k ≡ i = omega arith in
-      subst Fine e (window-good map es n (4096 * k) m (S k) (S-long k) few (aligned k)
-      (ap (λ (w : Window). w.stop) (sym (next-is k (omega arith) before)) ∙ o))) (order i k)
+      subst Fine e (window_good map es n (4096 * k) m (S k) (S-long k) few (aligned k)
+      (ap (λ (w : Window). w.stop) (sym (next_is k (omega arith) before)) ∙ o))) (order i k)
 
-  fine-once : ((i : ℕ) → i < count → Fine i) → (x : ℕ) → x < 64 * length map → Once x
-  fine-once good x h =
+  fine_once : ((i : ℕ) → i < count → Fine i) → (x : ℕ) → x < 64 * length map → Once x
+  fine_once good x h =
       let l = limits in
       let z : 4096 * (x / 4096) + x % 4096 ≡ x = omega arith in
       subst Once z (good (x / 4096) (omega (arith, l.words)) (x % 4096) (omega (arith, l.words)))
 
   -- each block as it should be: all windows pass
-  once-fine : undamaged n (λ b. false) es ≡ true → ((x : ℕ) → x < 64 * length map → Once x) → (i : ℕ) → Fine i
-  once-fine u once i b h =
+  once_fine : undamaged n (λ b. false) es ≡ true → ((x : ℕ) → x < 64 * length map → Once x) → (i : ℕ) → Fine i
+  once_fine u once i b h =
       let l = limits in
       let x : ℕ = 4096 * i + b in
       ⊎_elim (λ (lo : x < 64 * length map). once x lo)
       (λ (hi : 64 * length map ≤ x).
-      ap₂ ◌+◌ (cover-outside n (λ b. false) es u x (omega (arith, l.covered))) (ap one (free_past map x hi))
+      ap₂ ◌+◌ (cover_outside n (λ b. false) es u x (omega (arith, l.covered))) (ap one (free_past map x hi))
       ∙ sym (ap one (le-ltb x n (omega (arith, l.covered))))) (order x (64 * length map))
 
-  never-fails : undamaged n (λ b. false) es ≡ true → ((i : ℕ) → Fine i) → (k : ℕ) → k ≤ count → (W k).stop ≡ false
-  never-fails u good zero h = ap (λ (w : Window). w.stop) (windows-none map es scratch n (window 0 false))
-  never-fails u good (suc k) h =
+  never_fails : undamaged n (λ b. false) es ≡ true → ((i : ℕ) → Fine i) → (k : ℕ) → k ≤ count → (W k).stop ≡ false
+  never_fails u good zero h = ap (λ (w : Window). w.stop) (windows_none map es scratch n (window 0 false))
+  never_fails u good (suc k) h =
       let l = limits in
-      let o = never-fails u good k (omega arith) in
-      ap (λ (w : Window). w.stop) (next-is k (omega (arith, l.limit)) o)
-      ∙ good-window map es n (4096 * k) m (S k) (S-long k) few (aligned k) u (omega (arith, l.words)) (good k)
+      let o = never_fails u good k (omega arith) in
+      ap (λ (w : Window). w.stop) (next_is k (omega (arith, l.limit)) o)
+      ∙ good_window map es n (4096 * k) m (S k) (S-long k) few (aligned k) u (omega (arith, l.words)) (good k)
 
   abbrev t : Tally
   t = tally_of es n (tally (n - s.spare) false)
 
-  test-is : first_window t ≡ window 0 false → tested map es scratch n (tally (n - s.spare) false) ≡ not (W count).stop
+  test_is : first_window t ≡ window 0 false → tested map es scratch n (tally (n - s.spare) false) ≡ not (W count).stop
   unfolding tested
-  test-is e =
+  test_is e =
       ap (λ (w : Window). not (windows_of map es scratch n (window_count n w) w).stop) e
       ∙ ap (λ (k : ℕ). not (W k).stop) (count_on n)
 
-  test-first : tested map es scratch n (tally (n - s.spare) false) ≡ true → (first_window t).stop ≡ false
+  test_first : tested map es scratch n (tally (n - s.spare) false) ≡ true → (first_window t).stop ≡ false
   unfolding tested
-  test-first h =
+  test_first h =
       ⊎_elim
       (λ (e : (first_window t).stop ≡ true).
       absurd (clash (tested map es scratch n (tally (n - s.spare) false)) h
       (ap (λ (k : ℕ). not (windows_of map es scratch n k (first_window t)).stop) (count_off n (first_window t) e)
-      ∙ ap (λ (w : Window). not w.stop) (windows-none map es scratch n (first_window t)) ∙ ap not e)))
+      ∙ ap (λ (w : Window). not w.stop) (windows_none map es scratch n (first_window t)) ∙ ap not e)))
       (λ (e : (first_window t).stop ≡ false). e) (decide (first_window t).stop)
 
-  tested-tidy : tested map es scratch n (tally (n - s.spare) false) ≡ true → Tidy n (n - s.spare) map es
-  tested-tidy h =
+  tested_tidy : tested map es scratch n (tally (n - s.spare) false) ≡ true → Tidy n (n - s.spare) map es
+  tested_tidy h =
       let l = limits in
-      let f = first_to t (test-first h) in
-      let c = tally-counted n (n - s.spare) es f.0 in
-      let o : (W count).stop ≡ false = not-true (W count).stop (sym (test-is (first_on t f.0 f.1)) ∙ h) in
-      let once = fine-once (all-fine count (omega (arith, l.limit)) o) in
+      let f = first_to t (test_first h) in
+      let c = tally_counted n (n - s.spare) es f.0 in
+      let o : (W count).stop ≡ false = not-true (W count).stop (sym (test_is (first_on t f.0 f.1)) ∙ h) in
+      let once = fine_once (all_fine count (omega (arith, l.limit)) o) in
       record {
         whole = still_all n (λ b. false) (free map) es c.alone (λ b u k z.
             let e : coverings es b + one (free map b) ≡ 1 = once b (omega (arith, l.covered)) ∙ ap one (lt-ltb b n u) in
@@ -193,18 +193,18 @@ module _ (s : State) (scratch : List ℕ) (fit : shape_fits s.blocks s.spare (le
         sum = omega (arith, c.enough, c.rest, f.1);
       }
 
-  tidy-tested : Tidy n (n - s.spare) map es → tested map es scratch n (tally (n - s.spare) false) ≡ true
-  tidy-tested p =
+  tidy_tested : Tidy n (n - s.spare) map es → tested map es scratch n (tally (n - s.spare) false) ≡ true
+  tidy_tested p =
       let u : undamaged n (λ b. false) es ≡ true = still_all n (free map) (λ b. false) es p.whole (λ b l c z. refl) in
-      let e : t ≡ tally (n - s.spare - held es) false = counted-tally n (n - s.spare) es u (omega (arith, p.sum)) in
+      let e : t ≡ tally (n - s.spare - held es) false = counted_tally n (n - s.spare) es u (omega (arith, p.sum)) in
       let z : n - s.spare - held es ≡ 0 = omega (arith, p.sum) in
       let first = first_on t (ap (λ (x : Tally). x.stop) e) (ap (λ (x : Tally). x.left) e ∙ z) in
-      test-is first ∙ ap not (never-fails u (once-fine u p.once) count (omega arith))
+      test_is first ∙ ap not (never_fails u (once_fine u p.once) count (omega arith))
 
   -- the test is soundness
-  pub tested-sound : tested map es scratch n (tally (n - s.spare) false) ≡ sound s
-  tested-sound =
+  pub tested_sound : tested map es scratch n (tally (n - s.spare) false) ≡ sound s
+  tested_sound =
       let l = limits in
       both_ways (tested map es scratch n (tally (n - s.spare) false)) (sound s)
-      (λ h. to-sound s (tidy-sound s l.covered l.spare (tested-tidy h)))
-      (λ h. tidy-tested (sound-tidy s l.covered l.spare (sound-to s h)))
+      (λ h. to_sound s (tidy_sound s l.covered l.spare (tested_tidy h)))
+      (λ h. tidy_tested (sound_tidy s l.covered l.spare (sound_to s h)))

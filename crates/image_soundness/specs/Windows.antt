@@ -1,7 +1,7 @@
 -- How soundness is tested with a scratch of 64 words. First each entry alone: it must keep the rule of its mark, and the
 -- lengths together must make what the free count leaves of n. Then the map, window by window: the 64 words of a window are
 -- copied to the scratch, and of each extent the part that lies there is released, which must be taken; at the end all blocks
--- of the window below n, and no others, must be free. `tested-sound` (proofs/Tested.antt) says that this is soundness.
+-- of the window below n, and no others, must be free. `tested_sound` (proofs/Tested.antt) says that this is soundness.
 -- Assumes nothing.
 use Rattle.std.specs.Prelude.{◌≡◌, Bool, true, false, ◌&&◌, cond, List, [], ◌∷◌, ℕ, zero, suc, ◌+◌, ◌-◌, ◌*◌, ◌/◌, min, max, eqb, leb, ltb, length, get_or, replicate}
 use Rattle.std.proofs.Math.Bool.{not}
@@ -104,11 +104,11 @@ window_end n w scratch = window (min w.lo 262144 + 4096) (not (passes n w scratc
 -- ---- all windows
 
 module _ (map : List ℕ) (es : List Entry) (scratch : List ℕ) (n : ℕ) (w : Window) where
-  abbrev pub oneScratch : List ℕ
-  oneScratch = scratch_over es w (copied map w scratch)
+  abbrev pub one_scratch : List ℕ
+  one_scratch = scratch_over es w (copied map w scratch)
 
-  abbrev pub oneWindow : Window
-  oneWindow = window_end n (window_over es w (copied map w scratch)) oneScratch
+  abbrev pub one_window : Window
+  one_window = window_end n (window_over es w (copied map w scratch)) one_scratch
 
 pub record Scanned : Type 0 where
   pub state : Window
@@ -117,8 +117,8 @@ pub record Scanned : Type 0 where
 unfoldable pub windows : List ℕ → List Entry → ℕ → ℕ → Scanned → Scanned
 windows map es n zero s = s
 windows map es n (suc k) s = record {
-  state = oneWindow map es (windows map es n k s).scratch n (windows map es n k s).state;
-  scratch = oneScratch map es (windows map es n k s).scratch n (windows map es n k s).state;
+  state = one_window map es (windows map es n k s).scratch n (windows map es n k s).state;
+  scratch = one_scratch map es (windows map es n k s).scratch n (windows map es n k s).state;
 }
 
 unfoldable pub windows_of : List ℕ → List Entry → List ℕ → ℕ → ℕ → Window → Window
@@ -154,8 +154,8 @@ module _ (map : List ℕ) (es : List Entry) (scratch : List ℕ) (n : ℕ) (star
       not (windows_of map es scratch n (window_count n (first_window (tally_of es n start))) (first_window (tally_of es n start))
       ).stop
 
-  unfoldable pub testedScratch : List ℕ
-  testedScratch = replicate (length scratch) 0
+  unfoldable pub tested_scratch : List ℕ
+  tested_scratch = replicate (length scratch) 0
 
   abbrev pub Tests : Bool → List ℕ → Type 0
-  Tests r scratch' = (r ≡ tested) × (scratch' ≡ testedScratch)
+  Tests r scratch' = (r ≡ tested) × (scratch' ≡ tested_scratch)

@@ -121,15 +121,15 @@ abbrev step_model : Type 0 → Type 0
 step_model X = Window → List ℕ → Entry → X
 
 module _ (step-out : step_model Window) (step-x-scratch : step_model (List ℕ)) where
-  abbrev step-says : Window → List ℕ → Entry → Window → List ℕ → Type 0
-  step-says a0 a1 a2 r b1 = (r ≡ step-out a0 a1 a2) × (b1 ≡ step-x-scratch a0 a1 a2)
+  abbrev step_says : Window → List ℕ → Entry → Window → List ℕ → Type 0
+  step_says a0 a1 a2 r b1 = (r ≡ step-out a0 a1 a2) × (b1 ≡ step-x-scratch a0 a1 a2)
 
   module _ {M : Type 1} (𝓤 : Ura M) where
     abbrev step-clauses : Clauses 𝓤 step_ended
     step-clauses κs a = record {
       ghost = Unit {0};
       requires = λ _. emp 𝓤;
-      ensures = λ _ r e. fact 𝓤 (step-says a.0 a.1.0.now a.1.1.0 r e.1.0.now);
+      ensures = λ _ r e. fact 𝓤 (step_says a.0 a.1.0.now a.1.1.0 r e.1.0.now);
     }
 
     module _ (𝓛 : Logic 𝓤) where
@@ -221,19 +221,19 @@ module _ (#step : Name) (step-out : step_model Window) (step-x-scratch : step_mo
       left : List Entry
       state : Window
       is_state : Is Window'.the_row state (machine-state state ∷ [])
-      z-x-scratch : List ℕ
-      l-x-scratch : length z-x-scratch ≡ length x-scratch.now
+      z_x_scratch : List ℕ
+      l_x_scratch : length z_x_scratch ≡ length x-scratch.now
       all : past ++ left ≡ ys
 
     -- the loop ends here: what stands is the outcome
     abbrev Ends : Point → Type 0
-    Ends x = (x.state ≡ after-state ys x-start x-scratch.now) × (x.z-x-scratch ≡ after-x-scratch ys x-start x-scratch.now)
+    Ends x = (x.state ≡ after-state ys x-start x-scratch.now) × (x.z_x_scratch ≡ after-x-scratch ys x-start x-scratch.now)
 
     -- the loop goes on from here, and comes to the outcome
     record At : Type 0 where
       at : Point
-      comes-state : after-state at.left at.state at.z-x-scratch ≡ after-state ys x-start x-scratch.now
-      comes-x-scratch : after-x-scratch at.left at.state at.z-x-scratch ≡ after-x-scratch ys x-start x-scratch.now
+      comes_state : after-state at.left at.state at.z_x_scratch ≡ after-state ys x-start x-scratch.now
+      comes_x_scratch : after-x-scratch at.left at.state at.z_x_scratch ≡ after-x-scratch ys x-start x-scratch.now
 
     abbrev size : At → ℕ
     size x = length x.at.left
@@ -245,12 +245,12 @@ module _ (#step : Name) (step-out : step_model Window) (step-x-scratch : step_mo
         left = ys;
         state = x-start;
         is_state = is-x-start;
-        z-x-scratch = x-scratch.now;
-        l-x-scratch = refl;
+        z_x_scratch = x-scratch.now;
+        l_x_scratch = refl;
         all = refl;
       };
-      comes-state = refl;
-      comes-x-scratch = refl;
+      comes_state = refl;
+      comes_x_scratch = refl;
     }
 
     sums : (x : Point) → length x.past + length x.left ≡ n
@@ -260,31 +260,31 @@ module _ (#step : Name) (step-out : step_model Window) (step-x-scratch : step_mo
     len x = length-append x.past x.left ∙ sums x
 
     -- ---- the caller has what `step` asks
-    abbrev step_args : (δ₀-step : GName) (v-state : Window) (l-x-scratch : List ℕ) (v-entry : Entry) → Window
+    abbrev step_args : (δ₀-step : GName) (v-state : Window) (l_x_scratch : List ℕ) (v-entry : Entry) → Window
         × (MutBor (List ℕ) × (Entry × Unit {0}))
-    step_args δ₀-step v-state l-x-scratch v-entry = (v-state, (at-x-scratch δ₀-step l-x-scratch, (v-entry, tt)))
+    step_args δ₀-step v-state l_x_scratch v-entry = (v-state, (at-x-scratch δ₀-step l_x_scratch, (v-entry, tt)))
 
-    abbrev to_step : (ν₀-step : ℕ) (δ₀-step : GName) (v-state : Window) (l-x-scratch : List ℕ) (v-entry : Entry)
+    abbrev to_step : (ν₀-step : ℕ) (δ₀-step : GName) (v-state : Window) (l_x_scratch : List ℕ) (v-entry : Entry)
         → (step-contract step-out step-x-scratch 𝓤 𝓛).Ghost
-    to_step ν₀-step δ₀-step v-state l-x-scratch v-entry = (
+    to_step ν₀-step δ₀-step v-state l_x_scratch v-entry = (
       (
         (ν₀-step ∷ [], tt),
         (full_share, tt),
         tt,
-        step_args δ₀-step v-state l-x-scratch v-entry,
+        step_args δ₀-step v-state l_x_scratch v-entry,
         ((machine-state v-state) ∷ [], (s-x-scratch ∷ [], ((machine-entry v-entry) ∷ [], tt))),
       ),
       tt,
     )
 
-    goes_step : (ν₀-step : ℕ) (δ₀-step : GName) (v-state : Window) (l-x-scratch : List ℕ) (v-entry : Entry)
+    goes_step : (ν₀-step : ℕ) (δ₀-step : GName) (v-state : Window) (l_x_scratch : List ℕ) (v-entry : Entry)
         → Is Window'.the_row v-state ((machine-state v-state) ∷ []) → Is Entry'.the_row v-entry ((machine-entry v-entry) ∷ [])
         → ent 𝓤 (⋆ 𝓛 (‵ (flft (ν₀-step ∷ []) full_share) ∷ ‵ ((MutSlice (named 0) (ν₀-step ∷ []) u64).own_val
-        (at-x-scratch δ₀-step l-x-scratch) (s-x-scratch ∷ [])) ∷ [])) ((step-contract step-out step-x-scratch 𝓤 𝓛).pre
-        (to_step ν₀-step δ₀-step v-state l-x-scratch v-entry))
-    goes_step ν₀-step δ₀-step v-state l-x-scratch v-entry is-v-state is-v-entry =
+        (at-x-scratch δ₀-step l_x_scratch) (s-x-scratch ∷ [])) ∷ [])) ((step-contract step-out step-x-scratch 𝓤 𝓛).pre
+        (to_step ν₀-step δ₀-step v-state l_x_scratch v-entry))
+    goes_step ν₀-step δ₀-step v-state l_x_scratch v-entry is-v-state is-v-entry =
         qed 𝓛 (‵ (flft (ν₀-step ∷ []) full_share) ∷ ‵ ((MutSlice (named 0) (ν₀-step ∷ []) u64).own_val
-        (at-x-scratch δ₀-step l-x-scratch) (s-x-scratch ∷ [])) ∷ []) ∵
+        (at-x-scratch δ₀-step l_x_scratch) (s-x-scratch ∷ [])) ∷ []) ∵
         nothing ! $ bring ! (1 ∷ 0 ∷ []) $ group ! 2 $ nothing ! $
         owned ! Entry'.the_row (Is Entry'.the_row) (struct.makes Entry'.the_type Entry''.the_plain 𝓛) v-entry _ is-v-entry $
         fjoin ! $ bring ! (2 ∷ 0 ∷ []) $ fjoin ! $
@@ -293,17 +293,17 @@ module _ (#step : Name) (step-out : step_model Window) (step-x-scratch : step_mo
         fjoin ! $ bring ! (1 ∷ 0 ∷ []) $ join ! $ frame ! $ done !
 
     -- ---- the exit
-    exits : (r : Window) (z-x-scratch : List ℕ) → Is Window'.the_row r (machine-state r ∷ [])
-        → Says x-catalogue.now x-start x-scratch.now r z-x-scratch → length z-x-scratch ≡ length x-scratch.now
+    exits : (r : Window) (z_x_scratch : List ℕ) → Is Window'.the_row r (machine-state r ∷ [])
+        → Says x-catalogue.now x-start x-scratch.now r z_x_scratch → length z_x_scratch ≡ length x-scratch.now
         → ent 𝓤 (⋆ 𝓛 (‵ ((ShrSlice (named 0) κ₀ Entry'.the_row).own_val x-catalogue (s-x-catalogue ∷ [])) ∷ ‵ (flft κ₀ q₀)
-        ∷ ‵ ((MutSlice (named 1) κ₁ u64).own_val (at-x-scratch x-scratch.name z-x-scratch) (s-x-scratch ∷ [])) ∷ ‵ (flft κ₁ q₁)
+        ∷ ‵ ((MutSlice (named 1) κ₁ u64).own_val (at-x-scratch x-scratch.name z_x_scratch) (s-x-scratch ∷ [])) ∷ ‵ (flft κ₁ q₁)
         ∷ [])) (Post (machine-state r))
-    exits r z-x-scratch is said l-x-scratch =
+    exits r z_x_scratch is said l_x_scratch =
         qed 𝓛 (‵ ((ShrSlice (named 0) κ₀ Entry'.the_row).own_val x-catalogue (s-x-catalogue ∷ [])) ∷ ‵ (flft κ₀ q₀)
-        ∷ ‵ ((MutSlice (named 1) κ₁ u64).own_val (at-x-scratch x-scratch.name z-x-scratch) (s-x-scratch ∷ [])) ∷ ‵ (flft κ₁ q₁)
+        ∷ ‵ ((MutSlice (named 1) κ₁ u64).own_val (at-x-scratch x-scratch.name z_x_scratch) (s-x-scratch ∷ [])) ∷ ‵ (flft κ₁ q₁)
         ∷ []) ∵
-        suffices ! _ (ends_at 𝓛 ended stayed (clauses 𝓤) bound (machine-state r) r (tt, (tt, (z-x-scratch, tt)))
-        (tt, (tt, (l-x-scratch, tt)))) $
+        suffices ! _ (ends_at 𝓛 ended stayed (clauses 𝓤) bound (machine-state r) r (tt, (tt, (z_x_scratch, tt)))
+        (tt, (tt, (l_x_scratch, tt)))) $
         says ! said $ nothing ! $ bring ! (2 ∷ 3 ∷ 0 ∷ []) $ group ! 3 $ frame ! $ nothing ! $ bring ! (2 ∷ 0 ∷ []) $
         fjoin ! $
         owned ! Window'.the_row (Is Window'.the_row) (struct.makes Window'.the_type Window''.the_plain 𝓛) x-start _
@@ -331,7 +331,7 @@ module _ (#step : Name) (step-out : step_model Window) (step-x-scratch : step_mo
       J x = ‵ (row Entry'.the_row q' ys x-catalogue.ptr.0 x-catalogue.ptr.1)
           ∷ ‵ (fobor κ₀ q₀ ((arr_parts (shares Entry'.the_row) n).part q' ys x-catalogue.ptr.0 x-catalogue.ptr.1))
           ∷ ‵ ((ShrSlice (named 0) κ₀ Entry'.the_row).own_val x-catalogue (s-x-catalogue ∷ []))
-          ∷ ‵ ((MutSlice (named 1) κ₁ u64).own_val (at-x-scratch x-scratch.name x.z-x-scratch) (s-x-scratch ∷ []))
+          ∷ ‵ ((MutSlice (named 1) κ₁ u64).own_val (at-x-scratch x-scratch.name x.z_x_scratch) (s-x-scratch ∷ []))
           ∷ ‵ (flft κ₁ q₁)
           ∷ ‵ (froom Entry''.mir l₁₁ 0)
           ∷ ‵ (fdies Entry''.mir l₁₁)
@@ -378,7 +378,7 @@ module _ (#step : Name) (step-out : step_model Window) (step-x-scratch : step_mo
           leave ! 20 refl refl $ leave ! 18 refl refl $ leave ! 16 refl refl $ leave_room ! 14 refl refl $
           leave_room ! 12 refl refl $ leave_room ! 10 refl refl $ leave_room ! 8 refl refl $ leave_room ! 6 refl refl $
           leave_room ! 4 refl refl $ free0 ! $ bring ! (1 ∷ 0 ∷ 0 ∷ 0 ∷ []) $
-          by ! (exits x.state x.z-x-scratch x.is_state (fin.0, fin.1) x.l-x-scratch)
+          by ! (exits x.state x.z_x_scratch x.is_state (fin.0, fin.1) x.l_x_scratch)
 
       -- ---- the turn that finds no entry
       ends : (x : At) → x.at.left ≡ [] → Sq 𝓛 (I x) (runs C Λ En (turn #step) (any_q (after_turn 𝓤 H (Next x) Left)))
@@ -398,10 +398,10 @@ module _ (#step : Name) (step-out : step_model Window) (step-x-scratch : step_mo
 
           fin : Ends x.at
           fin = (
-            sym (after-state-nil x.at.state x.at.z-x-scratch) ∙ ap (λ (l : List Entry). after-state l x.at.state
-                x.at.z-x-scratch) (sym nil) ∙ x.comes-state,
-            sym (after-x-scratch-nil x.at.state x.at.z-x-scratch) ∙ ap (λ (l : List Entry). after-x-scratch l
-                x.at.state x.at.z-x-scratch) (sym nil) ∙ x.comes-x-scratch,
+            sym (after-state-nil x.at.state x.at.z_x_scratch) ∙ ap (λ (l : List Entry). after-state l x.at.state
+                x.at.z_x_scratch) (sym nil) ∙ x.comes_state,
+            sym (after-x-scratch-nil x.at.state x.at.z_x_scratch) ∙ ap (λ (l : List Entry). after-x-scratch l
+                x.at.state x.at.z_x_scratch) (sym nil) ∙ x.comes_x_scratch,
           )
 
       -- ---- a turn that passes one entry
@@ -444,10 +444,10 @@ module _ (#step : Name) (step-out : step_model Window) (step-x-scratch : step_mo
             _ is) is
 
         module _ (r : Window) (m-x-scratch : List ℕ) (is : Is Window'.the_row r (machine-state r ∷ []))
-            (heard-el : step-says step-out step-x-scratch x.at.state x.at.z-x-scratch el r m-x-scratch)
+            (heard-el : step_says step-out step-x-scratch x.at.state x.at.z_x_scratch el r m-x-scratch)
             (k-x-scratch : length m-x-scratch ≡ length x-scratch.now) where
-          said : step-says step-out step-x-scratch x.at.state x.at.z-x-scratch e r m-x-scratch
-          said = subst (λ (d : Entry). step-says step-out step-x-scratch x.at.state x.at.z-x-scratch d r m-x-scratch)
+          said : step_says step-out step-x-scratch x.at.state x.at.z_x_scratch e r m-x-scratch
+          said = subst (λ (d : Entry). step_says step-out step-x-scratch x.at.state x.at.z_x_scratch d r m-x-scratch)
               el-is heard-el
 
           -- where the loop stands after the turn
@@ -458,16 +458,16 @@ module _ (#step : Name) (step-out : step_model Window) (step-x-scratch : step_mo
               left = es;
               state = r;
               is_state = is;
-              z-x-scratch = m-x-scratch;
-              l-x-scratch = k-x-scratch;
+              z_x_scratch = m-x-scratch;
+              l_x_scratch = k-x-scratch;
               all = append_snoc x.at.past e es ∙ seam;
             };
-            comes-state = (λ j. after-state es (said.0 j) (said.1 j)) ∙ sym (after-state-cons e es x.at.state
-                x.at.z-x-scratch) ∙ ap (λ (l : List Entry). after-state l x.at.state x.at.z-x-scratch) (sym cons)
-                ∙ x.comes-state;
-            comes-x-scratch = (λ j. after-x-scratch es (said.0 j) (said.1 j)) ∙ sym (after-x-scratch-cons e es x.at.state
-                x.at.z-x-scratch) ∙ ap (λ (l : List Entry). after-x-scratch l x.at.state x.at.z-x-scratch)
-                (sym cons) ∙ x.comes-x-scratch;
+            comes_state = (λ j. after-state es (said.0 j) (said.1 j)) ∙ sym (after-state-cons e es x.at.state
+                x.at.z_x_scratch) ∙ ap (λ (l : List Entry). after-state l x.at.state x.at.z_x_scratch) (sym cons)
+                ∙ x.comes_state;
+            comes_x_scratch = (λ j. after-x-scratch es (said.0 j) (said.1 j)) ∙ sym (after-x-scratch-cons e es x.at.state
+                x.at.z_x_scratch) ∙ ap (λ (l : List Entry). after-x-scratch l x.at.state x.at.z_x_scratch)
+                (sym cons) ∙ x.comes_x_scratch;
           }
 
         more : Sq 𝓛 (I x) (runs C Λ En (turn #step) (any_q (after_turn 𝓤 H (Next x) Left)))
@@ -499,27 +499,27 @@ module _ (#step : Name) (step-out : step_model Window) (step-x-scratch : step_mo
             -- step
             lft_new ! tt (λ ν₀-step. bring ! (4 ∷ 4 ∷ []) $
             use2 𝓛 (later (some (λ (δ : GName). ‵ ((MutSlice (named 0) (ν₀-step ∷ []) u64).own_val
-            (at-x-scratch δ x.at.z-x-scratch) (s-x-scratch ∷ [])) ⊛ ‵ (LentAgain u64 κ₁ (ν₀-step ∷ []) q₁ x-scratch.name
-            x-scratch.ptr.0 x-scratch.ptr.1 δ x.at.z-x-scratch)))) (lends_again u64 κ₁ (ν₀-step ∷ []) q₁
-            x-scratch.name x-scratch.ptr.0 x-scratch.ptr.1 𝓛 (named 1) (named 0) x.at.z-x-scratch
-            (length x-scratch.now) x.at.l-x-scratch) $
+            (at-x-scratch δ x.at.z_x_scratch) (s-x-scratch ∷ [])) ⊛ ‵ (LentAgain u64 κ₁ (ν₀-step ∷ []) q₁ x-scratch.name
+            x-scratch.ptr.0 x-scratch.ptr.1 δ x.at.z_x_scratch)))) (lends_again u64 κ₁ (ν₀-step ∷ []) q₁
+            x-scratch.name x-scratch.ptr.0 x-scratch.ptr.1 𝓛 (named 1) (named 0) x.at.z_x_scratch
+            (length x-scratch.now) x.at.l_x_scratch) $
             await ! tt $ pick ! (λ δ₀-step. split ! $ bring ! (2 ∷ 0 ∷ []) $ group ! 2 $
             use1 𝓛 (raw ((step-contract step-out step-x-scratch 𝓤 𝓛).pre (to_step ν₀-step δ₀-step x.at.state
-            x.at.z-x-scratch el))) (goes_step ν₀-step δ₀-step x.at.state x.at.z-x-scratch el x.at.is_state g) $
+            x.at.z_x_scratch el))) (goes_step ν₀-step δ₀-step x.at.state x.at.z_x_scratch el x.at.is_state g) $
             calls_at ! (fm_of 𝓤 H 𝓛.laws 𝓣) (step-contract step-out step-x-scratch 𝓤 𝓛) Known-step
-            (to_step ν₀-step δ₀-step x.at.state x.at.z-x-scratch el) (and_then !
+            (to_step ν₀-step δ₀-step x.at.state x.at.z_x_scratch el) (and_then !
             (load ! (from ! (stop !)) (look ! 19 refl)) (and_then ! (load ! (from ! (stop !)) (look ! 9 refl))
             (and_then ! (load ! (from ! (stop !)) (look ! 5 refl)) (no_more !)))) (λ w-step.
             use1 𝓛 (later (some (λ (r : Window). ((‵ (flft (ν₀-step ∷ []) full_share) ⊛ ‵ ftrue)
             ⊛ ‵ ((Window'.the_row).own_val r (w-step ∷ []))) ⊛ raw (ensured 𝓛 step_ended (step-clauses step-out step-x-scratch 𝓤)
-            (ν₀-step ∷ [], tt) (step_args δ₀-step x.at.state x.at.z-x-scratch el) tt r)))) (id⊢ 𝓤 _) $
+            (ν₀-step ∷ [], tt) (step_args δ₀-step x.at.state x.at.z_x_scratch el) tt r)))) (id⊢ 𝓤 _) $
             await ! tt $ pick ! (λ r-step. split ! $ bring ! (1 ∷ []) $
             use1 𝓛 (some (λ (zs-step : Unit {0} × (List ℕ × (Unit {0} × Unit {0}))). ‵
-            (lasts step_ended (ν₀-step ∷ [], tt) (step_args δ₀-step x.at.state x.at.z-x-scratch el) zs-step)
-            ⊛ raw (fact 𝓤 (step-says step-out step-x-scratch x.at.state x.at.z-x-scratch el r-step zs-step.1.0))))
+            (lasts step_ended (ν₀-step ∷ [], tt) (step_args δ₀-step x.at.state x.at.z_x_scratch el) zs-step)
+            ⊛ raw (fact 𝓤 (step_says step-out step-x-scratch x.at.state x.at.z_x_scratch el r-step zs-step.1.0))))
             (id⊢ 𝓤 _) $
             pick ! (λ zs-step. split ! $ bring ! (1 ∷ []) $
-            heard ! (step-says step-out step-x-scratch x.at.state x.at.z-x-scratch el r-step zs-step.1.0) (λ e-step.
+            heard ! (step_says step-out step-x-scratch x.at.state x.at.z_x_scratch el r-step zs-step.1.0) (λ e-step.
             fparts 𝓛 (_ ∷ _ ∷ _ ∷ []) _ $ discard ! (0 ∷ 1 ∷ []) $ fsplit ! $ bring ! (1 ∷ []) $
             feq_l ! (λ h-step-x-scratch. bring ! (1 ∷ []) $ split ! $ bring ! (1 ∷ []) $
             peeks ! Window'.the_row (Is Window'.the_row) (shows 𝓛 Window'.the_row) r-step (w-step ∷ []) (λ is-w-step.
@@ -530,7 +530,7 @@ module _ (#step : Name) (step-out : step_model Window) (step-x-scratch : step_mo
             discard ! (0 ∷ []) $ parts 𝓛 (_ ∷ []) _ $ lft_end ! tt $ bring ! (0 ∷ 1 ∷ 0 ∷ []) $
             use3 𝓛 (later (‵ ((MutSlice (named 1) κ₁ u64).own_val (at-x-scratch x-scratch.name zs-step.1.0)
             (s-x-scratch ∷ [])) ⊛ ‵ (flft κ₁ q₁))) (comes_back u64 κ₁ (ν₀-step ∷ []) q₁ x-scratch.name x-scratch.ptr.0
-            x-scratch.ref_ptr.1 𝓛 (named 1) (named 0) x.at.z-x-scratch (length x-scratch.now) x.at.l-x-scratch
+            x-scratch.ref_ptr.1 𝓛 (named 1) (named 0) x.at.z_x_scratch (length x-scratch.now) x.at.l_x_scratch
             room-x-scratch δ₀-step zs-step.1.0 h-step-x-scratch) $
             await ! tt $ split ! $
             -- the turn is over
@@ -542,7 +542,7 @@ module _ (#step : Name) (step-out : step_model Window) (step-x-scratch : step_mo
             rewrite ! 17 (λ (j : ℕ). ‵ (fat full_share (ty_int w64) l₅ 0 (vint w64 j))) (sym
             (length-append x.at.past (e ∷ []))) refl $
             again ! (Less size) I x (next r-step zs-step.1.0 (spelled r-step w-step is-w-step) e-step
-            (h-step-x-scratch ∙ x.at.l-x-scratch)) shorter)))))))))
+            (h-step-x-scratch ∙ x.at.l_x_scratch)) shorter)))))))))
 
       turn_at : (x : At) → Sq 𝓛 (I x) (runs C Λ En (turn #step) (any_q (after_turn 𝓤 H (Next x) Left)))
       turn_at x = by_cases x.at.left refl

@@ -4,9 +4,9 @@
 // others, must be free.
 ghost use Rattle.std.specs.Prelude.{◌≡◌, ◌+◌, ◌≤◌, max, false, length};
 ghost use Rattle.image_soundness.specs.Windows.{copied, touches, taken, window_after};
-ghost use Rattle.image_soundness.specs.Windows.{scratch_after, window_over, scratch_over, passes, window_end, oneWindow};
-ghost use Rattle.image_soundness.specs.Windows.{oneScratch, windows_of, windows_scratch, first_window, window_count};
-ghost use Rattle.image_soundness.specs.Windows.{passed_all, cleared_all, tested, testedScratch};
+ghost use Rattle.image_soundness.specs.Windows.{scratch_after, window_over, scratch_over, passes, window_end, one_window};
+ghost use Rattle.image_soundness.specs.Windows.{one_scratch, windows_of, windows_scratch, first_window, window_count};
+ghost use Rattle.image_soundness.specs.Windows.{passed_all, cleared_all, tested, tested_scratch};
 
 use catalogue::Entry;
 use catalogue_standings::opening::BLOCKS;
@@ -145,8 +145,8 @@ fn test_window(
     n: u32,
     window: Window,
 ) -> Window
-    ensures { (result ≡ oneWindow map.now catalogue.now scratch.old n window)
-        × (scratch.new ≡ oneScratch map.now catalogue.now scratch.old n window) }
+    ensures { (result ≡ one_window map.now catalogue.now scratch.old n window)
+        × (scratch.new ≡ one_scratch map.now catalogue.now scratch.old n window) }
 {
     fill_window(map, window, scratch);
     let last = release_parts(catalogue, window, scratch);
@@ -217,7 +217,7 @@ pub fn test_sound(
     start: Tally,
 ) -> bool
     ensures { (result ≡ tested map.now catalogue.now scratch.old n start)
-        × (scratch.new ≡ testedScratch map.now catalogue.now scratch.old n start) }
+        × (scratch.new ≡ tested_scratch map.now catalogue.now scratch.old n start) }
 {
     let tally = tally_entries(catalogue, n, start);
     let first = first_window(tally);

@@ -12,11 +12,11 @@ use borrow.Author.Tests.{le-leb, lt-ltb, le-ltb, eq-eqb, ne_eqb, leb-false, ltb-
 use Rattle.map_blocks.specs.Blocks as map-blocks
 use Rattle.map_blocks.specs.Maps.{map_of, words_for}
 use Rattle.map_blocks.proofs.Maps.{map_length, map_free}
-use Rattle.map_blocks.proofs.Runs.{all-intro}
+use Rattle.map_blocks.proofs.Runs.{all_intro}
 use Rattle.blocks_of_card.specs.Card.{block_of}
 use Rattle.block_seals.specs.Sealed as sealed-block
 use Rattle.block_seals.proofs.Blank.{blank_zeros}
-use Rattle.block_seals.proofs.Sealed.{sound-own, sound_zeros, blank-sealed, payload-sealed}
+use Rattle.block_seals.proofs.Sealed.{sound_own, sound_zeros, blank_sealed, payload_sealed}
 use Rattle.calendar.specs.Term.{Term, term_of}
 use Rattle.catalogue.specs.Entries.{entry_at}
 use Rattle.catalogue.specs.declared.Entry.{Entry}
@@ -39,10 +39,10 @@ use Rattle.ledger.specs.Ledger.{view_by, held_in, verdict_in}
 use Rattle.ledger.specs.Claim.{entry_in, block_in}
 use Rattle.card.specs.Calls.{Kept}
 use Rattle.ledger.proofs.Cover.{covers_in, cover_at}
-use Rattle.ledger.proofs.Listed.{listed_same, spare-is}
+use Rattle.ledger.proofs.Listed.{listed_same, spare_is}
 use Rattle.ledger.proofs.Rows.{Never}
 use Rattle.ledger.proofs.Sheets.{Sized, Fine, Sound}
-use Rattle.ledger.proofs.Wings.{entry_at_lem, wing-same}
+use Rattle.ledger.proofs.Wings.{entry_at_lem, wing_same}
 
 -- ---- the state that a ledger calls for
 
@@ -134,19 +134,19 @@ stands_as n free (PausedWith s xs) f h =
     ∙ simp (
       le-leb 1 (length xs) f.needed,
       le-leb (s + length xs) n f.inside,
-      all-intro (λ b. not (free b)) s (length xs) (λ b p q. ap not (h b p q)),
+      all_intro (λ b. not (free b)) s (length xs) (λ b p q. ap not (h b p q)),
     )
 stands_as n free (Open s ps) f h =
     simp (
       le-leb 1 (length ps) f.needed,
       le-leb (s + length ps) n f.inside,
-      all-intro (λ b. not (free b)) s (length ps) (λ b p q. ap not (h b p q)),
+      all_intro (λ b. not (free b)) s (length ps) (λ b p q. ap not (h b p q)),
     )
 stands_as n free (Complete s xs) f h =
     simp (
       le-leb 1 (length xs) f.needed,
       le-leb (s + length xs) n f.inside,
-      all-intro (λ b. not (free b)) s (length xs) (λ b p q. ap not (h b p q)),
+      all_intro (λ b. not (free b)) s (length xs) (λ b p q. ap not (h b p q)),
     )
 
 -- what the rows of an ask say of the ledger, with other places
@@ -190,41 +190,41 @@ beyond v i a t f e = skip 21 _ _ _ t (skip 1 _ _ _ f (stop 2 _ _ e))
 
 blank_block : (i p : ℕ) (x : Place) → Sized x → sealed-block.blank (block_in i p x) ≡ is_blank x
 blank_block i p Blank h = blank_zeros 512
-blank_block i p (Payload bytes) h = blank-sealed i p bytes h
+blank_block i p (Payload bytes) h = blank_sealed i p bytes h
 
 sound_block : (i p : ℕ) (x : Place) → Sized x → i < 4294967296 → p < 4294967296
     → sealed-block.sound i p (block_in i p x) ≡ not (is_blank x)
 sound_block i p Blank h hi hp = sound_zeros i p
-sound_block i p (Payload bytes) h hi hp = sound-own i p bytes h hi hp
+sound_block i p (Payload bytes) h hi hp = sound_own i p bytes h hi hp
 
 pub payload_block : (i p : ℕ) (x : Place) → is_blank x ≡ false → Sized x → sealed-block.payloadOf (block_in i p x) ≡ bytes_of x
 payload_block i p Blank h z = absurd (true≢false h)
-payload_block i p (Payload bytes) h z = payload-sealed i p bytes z
+payload_block i p (Payload bytes) h z = payload_sealed i p bytes z
 
 module _ (n : ℕ) (l : List Sheet) (card : List ℕ) (k : Matches n l card) where
-  map-fits : length (map_in n l) ≡ words_for n
-  map-fits = map_length (free_in n l) (words_for n)
+  map_fits_lem : length (map_in n l) ≡ words_for n
+  map_fits_lem = map_length (free_in n l) (words_for n)
 
-  pub shape-fits : shape_fits n (spare_in n l) (length (map_in n l)) ≡ true
+  pub shape_fits_lem : shape_fits n (spare_in n l) (length (map_in n l)) ≡ true
   unfolding shape_fits
-  shape-fits =
+  shape_fits_lem =
       simp (
         le-leb 1 n k.low,
         le-leb n 262144 k.high,
-        le-leb (spare_in n l) n (omega (arith, spare-is n l k.sound)),
-        eq-eqb (length (map_in n l)) (words_for n) map-fits,
+        le-leb (spare_in n l) n (omega (arith, spare_is n l k.sound)),
+        eq-eqb (length (map_in n l)) (words_for n) map_fits_lem,
       )
 
-  pub sheets-fit : sheets_fit (length (map entry_in l)) ≡ true
+  pub sheets_fit_lem : sheets_fit (length (map entry_in l)) ≡ true
   unfolding sheets_fit
-  sheets-fit = rw (length-map l entry_in) (simp (le-leb 1 (length l) k.some_sheet, le-leb (length l) 1024 k.few_sheets))
+  sheets_fit_lem = rw (length-map l entry_in) (simp (le-leb 1 (length l) k.some_sheet, le-leb (length l) 1024 k.few_sheets))
 
-  fits-at : not (shape_fits n (spare_in n l) (length (map_in n l)) && sheets_fit (length (map entry_in l))) ≡ false
-  fits-at = rw (shape-fits, sheets-fit) refl
+  fits_at : not (shape_fits n (spare_in n l) (length (map_in n l)) && sheets_fit (length (map entry_in l))) ≡ false
+  fits_at = rw (shape_fits_lem, sheets_fit_lem) refl
 
   fits_on : not (shape_fits n (spare_in n l) (length (map_in n l)) && sheets_fit (length (map entry_in l))
       && eqb (length card) (512 * n)) ≡ false
-  fits_on = rw (shape-fits, sheets-fit, eq-eqb (length card) (512 * n) k.room) refl
+  fits_on = rw (shape_fits_lem, sheets_fit_lem, eq-eqb (length card) (512 * n) k.room) refl
 
   module _ (turned : Bool) (i : ℕ) where
     abbrev e : Entry
@@ -259,7 +259,7 @@ module _ (n : ℕ) (l : List Sheet) (card : List ℕ) (k : Matches n l card) whe
 
     fits-of-at : at.misfit ≡ false
     unfolding view_at
-    fits-of-at = fits-at
+    fits-of-at = fits_at
 
     sheets-of-at : leb at.sheets i ≡ leb (length l) i
     unfolding view_at
@@ -306,7 +306,7 @@ module _ (n : ℕ) (l : List Sheet) (card : List ℕ) (k : Matches n l card) whe
       unfolding view_at
       at_reads = λ t. record {
         turned = turned;
-        misfit = fits-at t;
+        misfit = fits_at t;
         blocks = n;
         sheets = length-map l entry_in t;
         spare = spare_in n l;
@@ -327,9 +327,9 @@ module _ (n : ℕ) (l : List Sheet) (card : List ℕ) (k : Matches n l card) whe
       unfolding view_on
       blank-same p h = ap sealed-block.blank (here p h) ∙ blank_block i p (place_at l i p) ((k.sound.fine i).sized p)
 
-      pub sound-same : (p : ℕ) → p < length_in (sheet_at l i) → on-card.sound p ≡ not (is_blank (place_at l i p))
+      pub sound_same : (p : ℕ) → p < length_in (sheet_at l i) → on-card.sound p ≡ not (is_blank (place_at l i p))
       unfolding view_on
-      sound-same p h =
+      sound_same p h =
           ap (sealed-block.sound i p) (here p h)
           ∙ sound_block i p (place_at l i p) ((k.sound.fine i).sized p) (omega (arith, k.few_sheets))
           (omega (arith, k.high, (k.sound.fine i).inside))
@@ -343,8 +343,8 @@ module _ (n : ℕ) (l : List Sheet) (card : List ℕ) (k : Matches n l card) whe
           ∙ ap sealed-block.payloadOf (here 0 some)
           ∙ payload_block i 0 (place_at l i 0) (not-true _ sealed) ((k.sound.fine i).sized 0))
 
-  inside-card : (i : ℕ) → length_in (sheet_at l i) ≤ n
-  inside-card i = omega (arith, (k.sound.fine i).inside)
+  inside_card : (i : ℕ) → length_in (sheet_at l i) ≤ n
+  inside_card i = omega (arith, (k.sound.fine i).inside)
 
   -- ---- the verdicts
 
@@ -376,7 +376,7 @@ module _ (n : ℕ) (l : List Sheet) (card : List ℕ) (k : Matches n l card) whe
         by-sheet (on-card turns i) (who-of turns i 0 []) (fits-of turns i 0 []) (sheets-of turns i 0 [])
         (λ lt. ap (λ (v : View). verdict_of v (on i a)) (on-reads turns i lt 0 [])
         ∙ opened n l role i a _ (places_of l i) (own _ (places_of l i)
-        (record { blank = blank-same turns i lt; sound = sound-same turns i lt; term = term-same turns i lt }))) never
+        (record { blank = blank-same turns i lt; sound = sound_same turns i lt; term = term-same turns i lt }))) never
 
     -- one that goes with limits: what the wing holds is the ledger's
     pub verdict-within : (limits : List ℕ) → Sharing n l role i a → NeverRows role i a
@@ -386,7 +386,7 @@ module _ (n : ℕ) (l : List Sheet) (card : List ℕ) (k : Matches n l card) whe
         by-sheet (holding turns i blocks limits) (who-of turns i blocks limits) (fits-of turns i blocks limits)
         (sheets-of turns i blocks limits)
         (λ lt. ap (λ (v : View). verdict_of v (on i a)) (on-reads turns i lt blocks limits)
-        ∙ opened n l role i a _ (places_of l i) (sharing _ (places_of l i) (wing-same n l k.high (λ j. inside-card j) i)))
+        ∙ opened n l role i a _ (places_of l i) (sharing _ (places_of l i) (wing_same n l k.high (λ j. inside_card j) i)))
         never
 
     -- a call that is not

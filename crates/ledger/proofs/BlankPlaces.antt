@@ -18,13 +18,13 @@ module _ (n : ℕ) (l : List Sheet) (role i : ℕ) (nine : verdict_in n l (on ro
   abbrev call : Call
   call = on role i complete
 
-  pub place-told : (told_in n l call).values ≡ lowest_blank (view_in n l i) ∷ []
+  pub place_told : (told_in n l call).values ≡ lowest_blank (view_in n l i) ∷ []
   unfolding deed_in
-  place-told = ap (λ (v : Verdict). (settle v (done [] []) (refused_with [] (lowest_blank (view_in n l i)))).values) nine
+  place_told = ap (λ (v : Verdict). (settle v (done [] []) (refused_with [] (lowest_blank (view_in n l i)))).values) nine
 
-  pub told-is-lowest : Lowest (λ p. is_blank (place_at l i p)) (length_in (sheet_at l i)) (lowest_blank (view_in n l i))
+  pub told_is_lowest : Lowest (λ p. is_blank (place_at l i p)) (length_in (sheet_at l i)) (lowest_blank (view_in n l i))
   unfolding table_of listed
-  told-is-lowest = go (holds 9 (rows_in n l call) nine)
+  told_is_lowest = go (holds 9 (rows_in n l call) nine)
     where
       go : (not (all (λ p. not (is_blank (place_at l i p))) 0 (length_in (sheet_at l i))) ≡ true) ⊎ ⊥
           → Lowest (λ p. is_blank (place_at l i p)) (length_in (sheet_at l i)) (lowest_blank (view_in n l i))

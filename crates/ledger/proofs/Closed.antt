@@ -17,13 +17,13 @@ use Rattle.blocks_of_card.specs.Card.{block_of}
 use Rattle.catalogue.specs.declared.Entry.{Entry}
 use Rattle.image_soundness.specs.Sound as saved
 use Rattle.image_soundness.proofs.Covers.{one}
-use Rattle.image_soundness.proofs.WhenSound.{sound-to}
+use Rattle.image_soundness.proofs.WhenSound.{sound_to}
 use Rattle.image_soundness.proofs.WhenSound as when
 use Rattle.catalogue.specs.Entries as catalogue
 use Rattle.closing.specs.Closed.{below, closed_entry, closed_entries, closed_card, closed_map, first_taken}
 use Rattle.closing.proofs.Below.{below_zero}
-use Rattle.closing.proofs.Contents.{closed_block, closed-card-length}
-use Rattle.closing.proofs.Kept.{closed-covers, closed-inside, held_fits}
+use Rattle.closing.proofs.Contents.{closed_block, closed_card_length}
+use Rattle.closing.proofs.Kept.{closed_covers, closed_inside, held_fits}
 use Rattle.closing.proofs.Members.{Member, at_member}
 use Rattle.closing.proofs.Placing.{placed}
 use Rattle.ledger.specs.Ledger.{Place, Blank, Sheet, Absent, Paused, PausedWith, Open, Complete, start_in, length_in}
@@ -33,10 +33,10 @@ use Rattle.ledger.specs.Lists.{saved_of}
 use Rattle.ledger.proofs.Agreement.{map_in, state_of, Matches}
 use Rattle.ledger.proofs.Wings.{entry_at_lem}
 use Rattle.ledger.specs.Ledger.{held}
-use Rattle.ledger.proofs.Listed.{spare-is}
+use Rattle.ledger.proofs.Listed.{spare_is}
 use Rattle.ledger.proofs.Marks.{map_same}
 use Rattle.ledger.proofs.Sheets.{needs, Fine, Sound, holding, Has}
-use Rattle.ledger.proofs.Soundness.{same_cover, kept-sound}
+use Rattle.ledger.proofs.Soundness.{same_cover, kept_sound}
 
 -- ---- a sheet that gets a start
 
@@ -117,38 +117,38 @@ module _ (l : List Sheet) where
   entry_closed (Complete t xs) =
       ap (λ (s : ℕ). record { mark = (entry_in (Complete t xs)).mark; start = s; length = length xs }) (same_below l t)
 
-  entries-part : (r : List Sheet) → map (closed_entry es) (map entry_in r) ≡ map entry_in (map moved r)
-  entries-part [] = refl
-  entries-part (x ∷ r) = ap₂ ◌∷◌ (entry_closed x) (entries-part r)
+  entries_part : (r : List Sheet) → map (closed_entry es) (map entry_in r) ≡ map entry_in (map moved r)
+  entries_part [] = refl
+  entries_part (x ∷ r) = ap₂ ◌∷◌ (entry_closed x) (entries_part r)
 
-  pub entries-closed : closed_entries es ≡ map entry_in (closed_in l)
+  pub entries_closed : closed_entries es ≡ map entry_in (closed_in l)
   unfolding closed_entries closed_in
-  entries-closed = entries-part l
+  entries_closed = entries_part l
 
-  sheet-part : (r : List Sheet) (i : ℕ) → sheet_at (map moved r) i ≡ moved (sheet_at r i)
-  sheet-part [] i = refl
-  sheet-part (x ∷ r) zero = refl
-  sheet-part (x ∷ r) (suc i) = sheet-part r i
+  sheet_part : (r : List Sheet) (i : ℕ) → sheet_at (map moved r) i ≡ moved (sheet_at r i)
+  sheet_part [] i = refl
+  sheet_part (x ∷ r) zero = refl
+  sheet_part (x ∷ r) (suc i) = sheet_part r i
 
   pub closed_at : (i : ℕ) → sheet_at (closed_in l) i ≡ moved (sheet_at l i)
   unfolding closed_in
-  closed_at i = sheet-part l i
+  closed_at i = sheet_part l i
 
-  closed-length : length (closed_in l) ≡ length l
+  closed_length : length (closed_in l) ≡ length l
   unfolding closed_in
-  closed-length = length-map l moved
+  closed_length = length-map l moved
 
-  held-part : (r : List Sheet) → held (map moved r) ≡ held r
-  held-part [] = refl
-  held-part (x ∷ r) = ap₂ ◌+◌ (same_length (below_in l (start_in x)) x) (held-part r)
+  held_part : (r : List Sheet) → held (map moved r) ≡ held r
+  held_part [] = refl
+  held_part (x ∷ r) = ap₂ ◌+◌ (same_length (below_in l (start_in x)) x) (held_part r)
 
-  pub held-closed : held (closed_in l) ≡ held l
+  pub held_closed : held (closed_in l) ≡ held l
   unfolding closed_in
-  held-closed = held-part l
+  held_closed = held_part l
 
   -- what a place holds stays
-  pub has-closed : (j p : ℕ) (m : Place) → Has p m (sheet_at l j) → Has p m (sheet_at (closed_in l) j)
-  has-closed j p m was = subst (Has p m) (sym (closed_at j)) (λ h.
+  pub has_closed : (j p : ℕ) (m : Place) → Has p m (sheet_at l j) → Has p m (sheet_at (closed_in l) j)
+  has_closed j p m was = subst (Has p m) (sym (closed_at j)) (λ h.
       ap (λ (ps : List Place). get_or ps p Blank) (same_places (below_in l (start_in (sheet_at l j))) (sheet_at l j))
       ∙ was (sym (same_holding (below_in l (start_in (sheet_at l j))) (sheet_at l j)) ∙ h))
 
@@ -171,42 +171,42 @@ module _ (n : ℕ) (l : List Sheet) (card : List ℕ) (k : Matches n l card) whe
   abbrev all : List Entry
   all = map entry_in l
 
-  sound-before : when.Sound (saved_of (state_of n l card))
-  sound-before = sound-to (saved_of (state_of n l card)) (kept-sound n l card k)
+  sound_before_lem : when.Sound (saved_of (state_of n l card))
+  sound_before_lem = sound_to (saved_of (state_of n l card)) (kept_sound n l card k)
 
-  cover-closed : (b : ℕ) → cover (closed_in l) b ≡ one (ltb b (catalogue.held all))
-  cover-closed b =
-      sym (same_cover (closed_in l) b) ∙ ap (λ (e : List Entry). saved.coverings e b) (sym (entries-closed l))
-      ∙ closed-covers (saved_of (state_of n l card)) sound-before b
+  cover_closed : (b : ℕ) → cover (closed_in l) b ≡ one (ltb b (catalogue.held all))
+  cover_closed b =
+      sym (same_cover (closed_in l) b) ∙ ap (λ (e : List Entry). saved.coverings e b) (sym (entries_closed l))
+      ∙ closed_covers (saved_of (state_of n l card)) sound_before_lem b
 
-  free-closed : (b : ℕ) → free_in n (closed_in l) b ≡ (leb (catalogue.held all) b && ltb b n)
-  free-closed b =
-      ap (λ (c : ℕ). ltb b n && eqb c 0) (cover-closed b) ∙ ap (λ (t : Bool). ltb b n && t) (one_or_more b (catalogue.held all))
+  free_closed : (b : ℕ) → free_in n (closed_in l) b ≡ (leb (catalogue.held all) b && ltb b n)
+  free_closed b =
+      ap (λ (c : ℕ). ltb b n && eqb c 0) (cover_closed b) ∙ ap (λ (t : Bool). ltb b n && t) (one_or_more b (catalogue.held all))
       ∙ swapped (ltb b n) (leb (catalogue.held all) b)
 
-  pub map-closed : closed_map all n (map_in n l) ≡ map_in n (closed_in l)
+  pub map_closed : closed_map all n (map_in n l) ≡ map_in n (closed_in l)
   unfolding closed_map
-  map-closed =
+  map_closed =
       ap (first_taken (catalogue.held all) n) (map_length (free_in n l) (words_for n))
-      ∙ map_same (λ b. leb (catalogue.held all) b && ltb b n) (free_in n (closed_in l)) (words_for n) (λ b h. sym (free-closed b))
+      ∙ map_same (λ b. leb (catalogue.held all) b && ltb b n) (free_in n (closed_in l)) (words_for n) (λ b h. sym (free_closed b))
 
-  pub few-held : catalogue.held all ≤ n
-  few-held = held_fits (saved_of (state_of n l card)) sound-before
+  pub few_held : catalogue.held all ≤ n
+  few_held = held_fits (saved_of (state_of n l card)) sound_before_lem
 
   -- a sheet of the ledger, where it goes
   here : (i : ℕ) → i < length l → Member (entry_in (sheet_at l i)) all
   here i h = subst (λ (e : Entry). Member e all) (entry_at_lem l i h) (at_member all i (omega (arith, length-map l entry_in, h)))
 
-  inside-then : (i : ℕ) → i < length l → 1 ≤ length_in (sheet_at l i)
+  inside_then : (i : ℕ) → i < length l → 1 ≤ length_in (sheet_at l i)
       → start_in (moved l (sheet_at l i)) + length_in (sheet_at l i) ≤ n
-  inside-then i h some =
+  inside_then i h some =
       let s : start_in (moved l (sheet_at l i)) ≡ below_in l (start_in (sheet_at l i)) =
       start_of (below_in l (start_in (sheet_at l i))) (sheet_at l i) some in
       omega (
         arith,
-        closed-inside all (entry_in (sheet_at l i)) (here i h),
+        closed_inside all (entry_in (sheet_at l i)) (here i h),
         same_below l (start_in (sheet_at l i)),
-        few-held,
+        few_held,
       )
 
   -- a sheet with places is one of the ledger's, and one without starts at 0
@@ -215,15 +215,15 @@ module _ (n : ℕ) (l : List Sheet) (card : List ℕ) (k : Matches n l card) whe
   listed_here (x ∷ r) zero h = omega arith
   listed_here (x ∷ r) (suc i) h = let later = listed_here r i h in omega arith
 
-  empty-inside : (s : ℕ) (x : Sheet) → Fine n x → length_in x ≡ 0 → start_in (restart_in s x) + length_in x ≤ n
-  empty-inside s Absent f z = omega arith
-  empty-inside s Paused f z = omega arith
-  empty-inside s (PausedWith t xs) f z = absurd (omega (arith, f.needed, z))
-  empty-inside s (Open t ps) f z = absurd (omega (arith, f.needed, z))
-  empty-inside s (Complete t xs) f z = absurd (omega (arith, f.needed, z))
+  empty_inside : (s : ℕ) (x : Sheet) → Fine n x → length_in x ≡ 0 → start_in (restart_in s x) + length_in x ≤ n
+  empty_inside s Absent f z = omega arith
+  empty_inside s Paused f z = omega arith
+  empty_inside s (PausedWith t xs) f z = absurd (omega (arith, f.needed, z))
+  empty_inside s (Open t ps) f z = absurd (omega (arith, f.needed, z))
+  empty_inside s (Complete t xs) f z = absurd (omega (arith, f.needed, z))
 
-  fine-then : (i : ℕ) → Fine n (moved l (sheet_at l i))
-  fine-then i =
+  fine_then : (i : ℕ) → Fine n (moved l (sheet_at l i))
+  fine_then i =
       let x : Sheet = sheet_at l i in
       let s : ℕ = below_in l (start_in x) in
       let f : Fine n (sheet_at l i) = k.sound.fine i in
@@ -231,8 +231,8 @@ module _ (n : ℕ) (l : List Sheet) (card : List ℕ) (k : Matches n l card) whe
       (sheet_at l i) in
       let inside : start_in (moved l (sheet_at l i)) + length_in (sheet_at l i) ≤ n =
       ⊎_elim
-      (λ (z : length_in (sheet_at l i) < 1). empty-inside s (sheet_at l i) f (omega arith))
-      (λ (z : 1 ≤ length_in (sheet_at l i)). inside-then i (listed_here l i z) z)
+      (λ (z : length_in (sheet_at l i) < 1). empty_inside s (sheet_at l i) f (omega arith))
+      (λ (z : 1 ≤ length_in (sheet_at l i)). inside_then i (listed_here l i z) z)
       (order (length_in (sheet_at l i)) 1) in
       record {
         inside = omega arith;
@@ -244,35 +244,35 @@ module _ (n : ℕ) (l : List Sheet) (card : List ℕ) (k : Matches n l card) whe
   at_most_one true = omega arith
   at_most_one false = omega arith
 
-  sound-then : Sound n (closed_in l)
-  sound-then = record {
-    once = λ b. omega (arith, cover-closed b, at_most_one (ltb b (catalogue.held all)));
-    fine = λ i. rw (closed_at l i) (fine-then i);
+  sound_then : Sound n (closed_in l)
+  sound_then = record {
+    once = λ b. omega (arith, cover_closed b, at_most_one (ltb b (catalogue.held all)));
+    fine = λ i. rw (closed_at l i) (fine_then i);
   }
 
-  pub spare-closed : spare_in n (closed_in l) ≡ spare_in n l
-  spare-closed = omega (arith, spare-is n l k.sound, spare-is n (closed_in l) sound-then, held-closed l)
+  pub spare_closed : spare_in n (closed_in l) ≡ spare_in n l
+  spare_closed = omega (arith, spare_is n l k.sound, spare_is n (closed_in l) sound_then, held_closed l)
 
-  block-then : (i p : ℕ) → p < length_in (sheet_at l i)
+  block_then : (i p : ℕ) → p < length_in (sheet_at l i)
       → block_of (closed_card all card) (start_in (moved l (sheet_at l i)) + p) ≡ block_in i p (place_at l i p)
-  block-then i p h =
+  block_then i p h =
       let x : Sheet = sheet_at l i in
       let lt : i < length l = listed_here l i (omega arith) in
       let s : start_in (moved l (sheet_at l i)) ≡ below all (start_in (sheet_at l i)) =
       start_of (below_in l (start_in (sheet_at l i))) (sheet_at l i) (omega arith) ∙ sym (same_below l (start_in (sheet_at l i))) in
       ap (λ (b : ℕ). block_of (closed_card all card) (b + p)) s
-      ∙ closed_block all card (placed (saved_of (state_of n l card)) sound-before).apart (entry_in (sheet_at l i)) (here i lt) p h
-      (omega (arith, k.room, (k.sound.fine i).inside)) (omega (arith, k.room, few-held))
+      ∙ closed_block all card (placed (saved_of (state_of n l card)) sound_before_lem).apart (entry_in (sheet_at l i)) (here i lt) p h
+      (omega (arith, k.room, (k.sound.fine i).inside)) (omega (arith, k.room, few_held))
       ∙ k.blocks i p h
 
-  pub kept-closed : Matches n (closed_in l) (closed_card all card)
-  kept-closed = record {
+  pub kept_closed : Matches n (closed_in l) (closed_card all card)
+  kept_closed = record {
     low = k.low;
     high = k.high;
-    some_sheet = omega (arith, closed-length l, k.some_sheet);
-    few_sheets = omega (arith, closed-length l, k.few_sheets);
-    sound = sound-then;
-    room = closed-card-length all card ∙ k.room;
+    some_sheet = omega (arith, closed_length l, k.some_sheet);
+    few_sheets = omega (arith, closed_length l, k.few_sheets);
+    sound = sound_then;
+    room = closed_card_length all card ∙ k.room;
     blocks = λ i p h. at-sheet i p (subst (λ (x : Sheet). p < length_in x) (closed_at l i) h);
   }
     where
@@ -282,6 +282,6 @@ module _ (n : ℕ) (l : List Sheet) (card : List ℕ) (k : Matches n l card) whe
           let len : length_in (moved l (sheet_at l i)) ≡ length_in (sheet_at l i) =
           same_length (below_in l (start_in (sheet_at l i))) (sheet_at l i) in
           ap (λ (x : Sheet). block_of (closed_card all card) (start_in x + p)) (closed_at l i)
-          ∙ block-then i p (omega arith)
+          ∙ block_then i p (omega arith)
           ∙ ap (block_in i p) (sym (ap (λ (x : Sheet). get_or (places_in x) p Blank) (closed_at l i)
           ∙ ap (λ (ps : List Place). get_or ps p Blank) (same_places (below_in l (start_in (sheet_at l i))) (sheet_at l i))))

@@ -21,7 +21,7 @@ use Rattle.catalogue_standings.proofs.Rows.{onwards, before_then, never_says}
 use Rattle.roles.specs.Roles as roles
 use Rattle.roles.specs.Roles.{may, turned_away}
 use Rattle.refusals.specs.Effects as effects
-use Rattle.refusals.specs.Effects.{unsearchedVerdict, reserveVerdict}
+use Rattle.refusals.specs.Effects.{unsearched_verdict, reserve_verdict}
 use Rattle.refusals.specs.Lent.{Lent}
 use Rattle.refusals.specs.Placement.{plain}
 use Rattle.refusals.specs.Guides.{guide_tested}
@@ -33,8 +33,8 @@ use Rattle.refusals.proofs.Reserve as reserving
 use Rattle.closing.specs.Effects as closings
 use Rattle.closing.proofs.Claimed.{afterwards}
 use Rattle.card.specs.Calls.{Kept, lent_by_within, saved_state, is_done}
-use Rattle.card.specs.Public.{on, close, Manner, turned, Beside, End, endOn, endClose, ends, kept_after}
-use Rattle.card.proofs.Closings.{verdictBy, close-refused, close-accepted}
+use Rattle.card.specs.Public.{on, close, Manner, turned, Beside, End, end_on, end_close, ends, kept_after}
+use Rattle.card.proofs.Closings.{verdict_by, close_refused, close_accepted}
 use Rattle.ledger.specs.Answers.{Told, told_in}
 use Rattle.ledger.specs.Calls as ledgers
 use Rattle.ledger.specs.Calls.{Call}
@@ -43,12 +43,12 @@ use Rattle.ledger.specs.Closings.{Comes, FullWhenMoreWanted, FullInLists}
 use Rattle.ledger.specs.Ledger.{Sheet, listed, rows_in, verdict_in, deed_in, step_in, after, begun}
 use Rattle.ledger.specs.Lists.{end_of, response_of, told_of, call_in, calls_in, replies_to, replies_in, own_of}
 use Rattle.ledger.proofs.Agreement.{state_of, Matches}
-use Rattle.ledger.proofs.Demand.{Left, answered, left-by-own}
+use Rattle.ledger.proofs.Demand.{Left, answered, left_by_own}
 use Rattle.ledger.proofs.Feeding.{fed_one}
 use Rattle.ledger.proofs.Fresh.{Limits}
-use Rattle.ledger.proofs.GuidedEnds.{takes, reserve-takes, reserve-refuses}
-use Rattle.ledger.proofs.OwnSummary.{same-on}
-use Rattle.ledger.proofs.Pauses.{told-after, then}
+use Rattle.ledger.proofs.GuidedEnds.{takes, reserve-takes, reserve_refuses}
+use Rattle.ledger.proofs.OwnSummary.{same_on}
+use Rattle.ledger.proofs.Pauses.{told_after, then}
 use Rattle.ledger.proofs.Plain as plain-calls
 use Rattle.ledger.proofs.WideLimits.{told_number}
 
@@ -63,21 +63,21 @@ module _ (h : ℕ) (t : Kept) (behind : FitsBehind h t) (away : Bool) (b : Besid
   abbrev q : Lent
   q = lent_by_within away false [] t t.card limits sheet
 
-  module _ (comes : unsearchedVerdict q k plain ≡ accepted) where
+  module _ (comes : unsearched_verdict q k plain ≡ accepted) where
     some : 1 ≤ k
     some = omega (arith, (given q k (reserving.passed q k plain comes).opens).some)
 
     abbrev number : Verdict → ℕ
-    number v = number_of (takes t limits sheet k v (effects.reserveStart q k plain) b).outcome.answer
+    number v = number_of (takes t limits sheet k v (effects.reserve_start q k plain) b).outcome.answer
 
     -- the number by the verdict
-    told_so : (v : Verdict) → reserveVerdict q k plain ≡ v
-        → (told_of (endOn away false t b sheet (reserve limits k plain))).number ≡ number v
+    told_so : (v : Verdict) → reserve_verdict q k plain ≡ v
+        → (told_of (end_on away false t b sheet (reserve limits k plain))).number ≡ number v
     told_so v e = ap (λ (x : End). number_of x.outcome.answer) (reserve-takes t limits sheet k away false b plain)
         ∙ ap number e
 
     by_count : (few : Bool) → leb k t.shape.free ≡ few
-        → ((told_of (endOn away false t b sheet (reserve limits k plain))).number ≡ 10) ↔ (t.shape.free < k)
+        → ((told_of (end_on away false t b sheet (reserve limits k plain))).number ≡ 10) ↔ (t.shape.free < k)
     by_count true e =
         let found : reserving.found q k plain ≡ At h = behind k some ∙ ap (λ (f : Bool). cond f (At h) Nothing) e in
         let few : k ≤ t.shape.free = leb-true k t.shape.free e in
@@ -85,18 +85,18 @@ module _ (h : ℕ) (t : Kept) (behind : FitsBehind h t) (away : Bool) (b : Besid
         (λ ten. absurd (omega (arith, sym ten ∙ zero)), λ more. absurd (omega (arith, more, few)))
     by_count false e =
         let found : reserving.found q k plain ≡ Nothing = behind k some ∙ ap (λ (f : Bool). cond f (At h) Nothing) e in
-        let ten = told_so (refused 10) (reserving.searched q k plain (refused 10) comes (reserving.no-fit q k plain found)) in
+        let ten = told_so (refused 10) (reserving.searched q k plain (refused 10) comes (reserving.no_fit q k plain found)) in
         (λ x. leb-false k t.shape.free e, λ more. ten)
 
-    pub by_map : ((told_of (endOn away false t b sheet (reserve limits k plain))).number ≡ 10) ↔ (t.shape.free < k)
+    pub by_map : ((told_of (end_on away false t b sheet (reserve limits k plain))).number ≡ 10) ↔ (t.shape.free < k)
     by_map = by_count (leb k t.shape.free) refl
 
     -- by the map's own summary the same
     pub by-either : (guided : Bool) → (guided ≡ true → b.summary ≡ own_of t)
-        → ((told_of (endOn away guided t b sheet (reserve limits k plain))).number ≡ 10) ↔ (t.shape.free < k)
+        → ((told_of (end_on away guided t b sheet (reserve limits k plain))).number ≡ 10) ↔ (t.shape.free < k)
     by-either true own =
         subst (λ (x : ℕ). (x ≡ 10) ↔ (t.shape.free < k))
-        (sym (ap (λ (e : End). (told_of e).number) (same-on t b (own refl) sheet away (reserve limits k plain)))) by_map
+        (sym (ap (λ (e : End). (told_of e).number) (same_on t b (own refl) sheet away (reserve limits k plain)))) by_map
     by-either false own = by_map
 
 -- ---- the state that a closing leaves
@@ -106,22 +106,22 @@ module _ (away guided : Bool) (s : Kept) (b : Beside) where
   guide = cond guided b.summary []
 
   abbrev e : End
-  e = endClose away guided s b
+  e = end_close away guided s b
 
   pub left_behind : e.outcome.answer ≡ Done → FitsBehind (held s.entries) (kept_after e)
-  left_behind done-so k some = by (verdictBy away guided guide s b.scratch) refl
+  left_behind done-so k some = by (verdict_by away guided guide s b.scratch) refl
     where
-      by : (v : Verdict) → verdictBy away guided guide s b.scratch ≡ v
+      by : (v : Verdict) → verdict_by away guided guide s b.scratch ≡ v
           → least_fit (free e.map) 0 e.outcome.shape.blocks 1 k
           ≡ cond (leb k e.outcome.shape.free) (At (held s.entries)) Nothing
       by accepted v =
-          let a = close-accepted away guided guide s b.scratch v in
+          let a = close_accepted away guided guide s b.scratch v in
           (λ x. least_fit (free (a.words x)) 0 (a.outcome x).shape.blocks 1 k)
           ∙ (afterwards away (saved_state s.shape s.map s.entries) (guide_tested guided (length s.map) (length guide))
           s.card b.scratch v).fits k some
           ∙ (λ x. cond (leb k (sym a.outcome x).shape.free) (At (held s.entries)) Nothing)
       by (refused number) v =
-          let o = (close-refused away guided guide s b.scratch number v).outcome in
+          let o = (close_refused away guided guide s b.scratch number v).outcome in
           let z : false ≡ true = ap (λ x. is_done x.answer) (sym o) ∙ ap is_done done-so in
           let one : ◌≡◌ {A = ℕ} 0 1 = ap (λ (t : Bool). cond t 1 0) z in
           absurd (omega arith)
@@ -157,37 +157,37 @@ module _ (n : ℕ) (l : List Sheet) (card : List ℕ) (k : Matches n l card) (ro
   by_row true = inr refl
   by_row false = inl refl
 
-  ledgers-number : Came 10 n l call → NoneOrTen (row_number (verdict_in n l call))
+  ledgers_number : Came 10 n l call → NoneOrTen (row_number (verdict_in n l call))
   unfolding before onwards table_of listed
-  ledgers-number came =
+  ledgers_number came =
       subst (λ (v : Verdict). NoneOrTen (row_number v))
       (sym (before_then 10 (rows_in n l call) ∙ ap (λ (v : Verdict). behind v (onwards 10 (rows_in n l call))) came))
       (by_row _)
 
   -- and the program's is the same
-  programs-number : (b : Beside)
-      → (told_of (endOn away false s b i (reserve limits m plain))).number ≡ row_number (verdict_in n l call)
-  programs-number b =
-      let e = endOn away false s b i (reserve limits m plain) in
+  programs_number : (b : Beside)
+      → (told_of (end_on away false s b i (reserve limits m plain))).number ≡ row_number (verdict_in n l call)
+  programs_number b =
+      let e = end_on away false s b i (reserve limits m plain) in
       ap (λ (x : Told). x.number) (answered n l card k call (response_of e) (kept_after e) (refl, refl))
       ∙ told_number (verdict_in n l call) _ _ refl (λ j. refl)
 
-  unsaid-10 : (number : ℕ) → NoneOrTen number → unsearchedVerdict lent m plain ≡ refused number → ⊥
-  unfolding unsearchedVerdict view_on before table_of
-  unsaid-10 number (inl z) e =
+  unsaid_10 : (number : ℕ) → NoneOrTen number → unsearched_verdict lent m plain ≡ refused number → ⊥
+  unfolding unsearched_verdict view_on before table_of
+  unsaid_10 number (inl z) e =
       never_says 0 (before 10 (table_of (view_on lent) (table.on i (reserve limits m plain)))) refl (e ∙ ap refused z)
-  unsaid-10 number (inr z) e =
+  unsaid_10 number (inr z) e =
       never_says 10 (before 10 (table_of (view_on lent) (table.on i (reserve limits m plain)))) refl (e ∙ ap refused z)
 
-  pub came-comes : Beside → Came 10 n l call → unsearchedVerdict lent m plain ≡ accepted
-  came-comes b came = by (unsearchedVerdict lent m plain) refl
+  pub came_comes : Beside → Came 10 n l call → unsearched_verdict lent m plain ≡ accepted
+  came_comes b came = by (unsearched_verdict lent m plain) refl
     where
-      by : (v : Verdict) → unsearchedVerdict lent m plain ≡ v → v ≡ accepted
+      by : (v : Verdict) → unsearched_verdict lent m plain ≡ v → v ≡ accepted
       by accepted e = refl
       by (refused number) e =
-          let told = ap (λ (x : End). (told_of x).number) (reserve-refuses away false s b i number limits m plain
+          let told = ap (λ (x : End). (told_of x).number) (reserve_refuses away false s b i number limits m plain
           (reserving.refused_before lent m plain number e)) in
-          absurd (unsaid-10 number (subst NoneOrTen (sym (programs-number b) ∙ told) (ledgers-number came)) e)
+          absurd (unsaid_10 number (subst NoneOrTen (sym (programs_number b) ∙ told) (ledgers_number came)) e)
 
 -- a closing that is told 0 was done
 done_told : (number : ℕ) → number_of (cond (eqb number 0) Done (Refused number)) ≡ 0
@@ -201,11 +201,11 @@ done_told number z = by (eqb number 0) refl
         sym (ap (λ (t : Bool). number_of (cond t Done (Refused number))) e) ∙ z in
         absurd (eqb-false number 0 e zero)
 
-close_done : (t guided : Bool) (s : Kept) (b : Beside) → number_of (endClose t guided s b).outcome.answer ≡ 0
-    → (endClose t guided s b).outcome.answer ≡ Done
+close_done : (t guided : Bool) (s : Kept) (b : Beside) → number_of (end_close t guided s b).outcome.answer ≡ 0
+    → (end_close t guided s b).outcome.answer ≡ Done
 close_done t guided s b z =
     let guide : List ℕ = cond guided b.summary [] in
-    done_told (closings.closeNumber t s.shape.blocks s.shape.free (guide_tested guided (length s.map) (length guide))
+    done_told (closings.close_number t s.shape.blocks s.shape.free (guide_tested guided (length s.map) (length guide))
     s.map s.entries s.card b.scratch) z
 
 closes_told : (n : ℕ) (l : List Sheet) (role : ℕ) → may role roles.close ≡ true → (told_in n l (ledgers.close role)).number ≡ 0
@@ -214,30 +214,30 @@ closes_told n l role m = rw (m) refl
 
 module _ (n c : ℕ) (card : List ℕ) (limits : Limits n c) (room : length card ≡ 512 * n) where
   -- from the state that the closing leaves
-  full-there : (l : List Sheet) (card' : List ℕ) (s t : Kept) → Matches n l card' → t ≡ state_of n l card'
+  full_there : (l : List Sheet) (card' : List ℕ) (s t : Kept) → Matches n l card' → t ≡ state_of n l card'
       → (closer : Manner) (lent : Beside) → (ends closer s lent close).outcome.answer ≡ Done
       → t ≡ kept_after (ends closer s lent close) → (m : Manner) (b : Beside) → (m.guided ≡ true → b.summary ≡ own_of t)
       → (given-limits : List ℕ) (sheet k : ℕ) → Came 10 n l (ledgers.on m.role sheet (reserve given-limits k plain))
       → ((told_of (ends m t b (on sheet (reserve given-limits k plain)))).number ≡ 10) ↔ (t.shape.free < k)
-  full-there l card' s t matches at closer lent done-so from m b own given-limits sheet k came =
+  full_there l card' s t matches at closer lent done-so from m b own given-limits sheet k came =
       closed_full s closer lent done-so t from m b own given-limits sheet k
       (subst (λ (x : Kept). Comes m x given-limits sheet k plain) (sym at)
-      (came-comes n l card' matches m.role sheet given-limits k b came))
+      (came_comes n l card' matches m.role sheet given-limits k b came))
 
-  pub closed-full-in-lists : FullInLists n c card
-  closed-full-in-lists made es s own runs closing closes listed-so may-close t from m b guided-own given-limits sheet k came =
-      let w : Left n (begun c) (calls_in made) (replies_in made es) s = left-by-own n c card limits room made es s own runs in
+  pub closed_full_in_lists : FullInLists n c card
+  closed_full_in_lists made es s own runs closing closes listed-so may-close t from m b guided-own given-limits sheet k came =
+      let w : Left n (begun c) (calls_in made) (replies_in made es) s = left_by_own n c card limits room made es s own runs in
       let e = end_of s closing in
       let role : ℕ = closing.manner.role in
       let step = subst (λ (calls : List Call). plain-calls.Runs s calls (replies_to e calls) (kept_after e))
       (ap (call_in role) closes) (fed_one s closing listed-so) in
       let then-left = then w (ledgers.close role) (response_of e) step.0 step.1 in
       let told : (told_of e).number ≡ 0 =
-      ap (λ (x : Told). x.number) (told-after w (ledgers.close role) (response_of e) step.0 step.1)
+      ap (λ (x : Told). x.number) (told_after w (ledgers.close role) (response_of e) step.0 step.1)
       ∙ closes_told n (after n (begun c) (calls_in made)) role may-close in
       let same : ends closing.manner s closing.beside close ≡ e =
       ap (ends closing.manner s closing.beside) (sym closes) in
-      full-there (step_in n (after n (begun c) (calls_in made)) (ledgers.close role)) then-left.card_left s t
+      full_there (step_in n (after n (begun c) (calls_in made)) (ledgers.close role)) then-left.card_left s t
       then-left.kept_left (from ∙ step.2 ∙ then-left.state_left) closing.manner closing.beside
       (close_done (turned closing.manner close) closing.manner.guided s closing.beside
       (ap (λ (x : End). (told_of x).number) same ∙ told))

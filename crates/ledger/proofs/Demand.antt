@@ -1,8 +1,8 @@
 -- Demand 3: every list of public calls from a fresh card answers and leaves what the ledger says, by whomever each call is
--- made: by the map or by the map's own summary (`every-list`; `document-01` of a pharmacist's calls by the map;
--- `every_list_from_fresh` from the fresh call itself; `every-list-with-summary` from a build), and guided by any summaries,
--- where a run that a guided reserve was granted is an accept of it (`every-list-by-any`). Every list has a run
--- (`every-list-runs`).
+-- made: by the map or by the map's own summary (`every_list`; `document_01` of a pharmacist's calls by the map;
+-- `every_list_from_fresh` from the fresh call itself; `every_list_with_summary` from a build), and guided by any summaries,
+-- where a run that a guided reserve was granted is an accept of it (`every_list_by_any`). Every list has a run
+-- (`every_list_runs`).
 -- Assumes nothing.
 use Prim.Native.Nat.{ℕ, zero, suc, ◌+◌, ◌*◌, ◌≤◌, ◌<◌}
 use mathlib.Core.Path.{◌≡◌, refl, sym, ap, ap₂, subst, ◌∙◌}
@@ -41,9 +41,9 @@ use Rattle.ledger.specs.Lists.{calls_in, replies_in, heard_in, heard_replies}
 use Rattle.ledger.proofs.Plain.{Step, Runs}
 use Rattle.ledger.proofs.Agreement.{map_in, state_of, Matches, free_map}
 use Rattle.ledger.proofs.Feeding.{fed, heard}
-use Rattle.ledger.proofs.Fresh.{Limits, fresh-left}
+use Rattle.ledger.proofs.Fresh.{Limits, fresh_left}
 use Rattle.ledger.proofs.Cover.{covers_absent}
-use Rattle.ledger.proofs.Listed.{spare-is}
+use Rattle.ledger.proofs.Listed.{spare_is}
 use Rattle.ledger.proofs.Marks.{map_same}
 use Rattle.ledger.proofs.OwnSummary.{built_own, own_runs}
 use Rattle.ledger.proofs.Results.{Result}
@@ -57,8 +57,8 @@ module _ (n : ℕ) (l : List Sheet) (card : List ℕ) (k : Matches n l card) (c 
   pub answered : told_by reply ≡ told_in n l c
   answered = ap told_by st.0 ∙ (result n l card k c).told_so
 
-  by-search : SearchedBy n l c (told_by reply)
-  by-search = subst (SearchedBy n l c) (sym answered) (result n l card k c).searched
+  by_search : SearchedBy n l c (told_by reply)
+  by_search = subst (SearchedBy n l c) (sym answered) (result n l card k c).searched
 
 -- ---- a list of calls
 
@@ -99,7 +99,7 @@ lists_left n (c ∷ calls) (reply ∷ replies) l card s t k e h =
       state_left = rest.state_left;
       kept_left = rest.kept_left;
       answers = ap₂ ◌∷◌ (answered n l card k c reply h.0 st) rest.answers;
-      searches = (by-search n l card k c reply h.0 st, rest.searches);
+      searches = (by_search n l card k c reply h.0 st, rest.searches);
       sum = omega (arith, rest.sum, r.sum);
       noted_so = λ j p m was. rest.noted_so j p _
           (rw (ap (λ (x : Response). eqb (told_by x).number 0) st.0 ∙ ap (λ (x : Told). eqb x.number 0) r.told_so)
@@ -127,8 +127,8 @@ entries_begun (suc c) = ap (λ (r : List Entry). absent ∷ r) (entries_begun c)
 
 module _ (n c : ℕ) (card : List ℕ) (n_low : 1 ≤ n) (n_high : n ≤ 262144) (c_low : 1 ≤ c) (c_high : c ≤ 1024)
     (room : length card ≡ 512 * n) where
-  pub kept-begun : Matches n (begun c) card
-  kept-begun = record {
+  pub kept_begun : Matches n (begun c) card
+  kept_begun = record {
     low = n_low;
     high = n_high;
     some_sheet = omega (arith, length-replicate c Absent);
@@ -141,10 +141,10 @@ module _ (n c : ℕ) (card : List ℕ) (n_low : 1 ≤ n) (n_high : n ≤ 262144)
     blocks = λ i p h. absurd (not-suc-le-zero (subst (λ (x : Sheet). p < length_in x) (sheet_begun c i) h));
   }
 
-  pub state-begun : fresh_state n c card ≡ state_of n (begun c) card
+  pub state_begun : fresh_state n c card ≡ state_of n (begun c) card
   unfolding fresh_map
-  state-begun =
-      let spare : n ≡ spare_in n (begun c) = omega (arith, spare-is n (begun c) kept-begun.sound, held_begun c) in
+  state_begun =
+      let spare : n ≡ spare_in n (begun c) = omega (arith, spare_is n (begun c) kept_begun.sound, held_begun c) in
       let whole : fresh_map n (words_for n) ≡ map_in n (begun c) =
       map_same (λ b. ltb b n) (free_in n (begun c)) (words_for n)
       (λ b lt. sym (ap (λ (x : Bool). ltb b n && x) (eq-eqb (cover (begun c) b) 0 (cover_begun c b))
@@ -219,15 +219,15 @@ module _ (n c : ℕ) (card : List ℕ) (n_low : 1 ≤ n) (n_high : n ≤ 262144)
   pub claimed : (replies : List Response) (t : Kept) → Runs (fresh_state n c card) calls replies t → Claim n c calls replies t
   claimed replies t runs =
       let w : Left n (begun c) calls replies t =
-      lists_left n calls replies (begun c) card (fresh_state n c card) t (kept-begun n c card n_low n_high c_low c_high room)
-      (state-begun n c card n_low n_high c_low c_high room) runs in
+      lists_left n calls replies (begun c) card (fresh_state n c card) t (kept_begun n c card n_low n_high c_low c_high room)
+      (state_begun n c card n_low n_high c_low c_high room) runs in
       record {
         answers = w.answers;
         agrees = agreeing t w.card_left w.state_left w.kept_left;
         sum = omega (
           arith,
           w.sum,
-          spare-is n l w.kept_left.sound,
+          spare_is n l w.kept_left.sound,
           held_begun c,
           ap (λ (x : Kept). x.shape.free) w.state_left,
         );
@@ -251,53 +251,53 @@ has_run s (m ∷ made) =
     let rest = has_run (kept_after e) made in (e ∷ rest.0, rest.1, (refl, rest.2))
 
 module _ (n c : ℕ) (card : List ℕ) (limits : Limits n c) (room : length card ≡ 512 * n) where
-  claim-of : (calls : List Call) (replies : List Response) (t : Kept) → Runs (fresh_state n c card) calls replies t
+  claim_of : (calls : List Call) (replies : List Response) (t : Kept) → Runs (fresh_state n c card) calls replies t
       → Claim n c calls replies t
-  claim-of calls replies t = claimed n c card limits.n_low limits.n_high limits.c_low
+  claim_of calls replies t = claimed n c card limits.n_low limits.n_high limits.c_low
       limits.c_high room calls replies t
 
   -- by the map or by the map's own summary
-  pub every-list : (made : List Made) (es : List End) (t : Kept) → ByOwn (fresh_state n c card) made
+  pub every_list : (made : List Made) (es : List End) (t : Kept) → ByOwn (fresh_state n c card) made
       → lists.Runs (fresh_state n c card) made es t → Claim n c (calls_in made) (replies_in made es) t
-  every-list made es t own runs =
-      claim-of (calls_in made) (replies_in made es) t (fed (fresh_state n c card) made es t own runs)
+  every_list made es t own runs =
+      claim_of (calls_in made) (replies_in made es) t (fed (fresh_state n c card) made es t own runs)
 
   -- guided by any summaries
-  pub every-list-by-any : (made : List Made) (es : List End) (t : Kept) → ByAny (fresh_state n c card) made
+  pub every_list_by_any : (made : List Made) (es : List End) (t : Kept) → ByAny (fresh_state n c card) made
       → lists.Runs (fresh_state n c card) made es t → Claim n c (heard_in made es) (heard_replies made es) t
-  every-list-by-any made es t any runs =
-      claim-of (heard_in made es) (heard_replies made es) t (heard (fresh_state n c card) made es t any runs)
+  every_list_by_any made es t any runs =
+      claim_of (heard_in made es) (heard_replies made es) t (heard (fresh_state n c card) made es t any runs)
 
-  pub every-list-runs : (made : List Made) → (es : List End) × (t : Kept) × lists.Runs (fresh_state n c card) made es t
-  every-list-runs = has_run (fresh_state n c card)
+  pub every_list_runs : (made : List Made) → (es : List End) × (t : Kept) × lists.Runs (fresh_state n c card) made es t
+  every_list_runs = has_run (fresh_state n c card)
 
   -- where a list of them leaves off, another may go on
-  pub left-by-any : (made : List Made) (es : List End) (t : Kept) → ByAny (fresh_state n c card) made
+  pub left_by_any : (made : List Made) (es : List End) (t : Kept) → ByAny (fresh_state n c card) made
       → lists.Runs (fresh_state n c card) made es t → Left n (begun c) (heard_in made es) (heard_replies made es) t
-  left-by-any made es t any runs =
+  left_by_any made es t any runs =
       lists_left n (heard_in made es) (heard_replies made es) (begun c) card (fresh_state n c card) t
-      (kept-begun n c card limits.n_low limits.n_high limits.c_low limits.c_high room)
-      (state-begun n c card limits.n_low limits.n_high limits.c_low limits.c_high room)
+      (kept_begun n c card limits.n_low limits.n_high limits.c_low limits.c_high room)
+      (state_begun n c card limits.n_low limits.n_high limits.c_low limits.c_high room)
       (heard (fresh_state n c card) made es t any runs)
 
-  pub left-by-own : (made : List Made) (es : List End) (t : Kept) → ByOwn (fresh_state n c card) made
+  pub left_by_own : (made : List Made) (es : List End) (t : Kept) → ByOwn (fresh_state n c card) made
       → lists.Runs (fresh_state n c card) made es t → Left n (begun c) (calls_in made) (replies_in made es) t
-  left-by-own made es t own runs =
+  left_by_own made es t own runs =
       lists_left n (calls_in made) (replies_in made es) (begun c) card (fresh_state n c card) t
-      (kept-begun n c card limits.n_low limits.n_high limits.c_low limits.c_high room)
-      (state-begun n c card limits.n_low limits.n_high limits.c_low limits.c_high room)
+      (kept_begun n c card limits.n_low limits.n_high limits.c_low limits.c_high room)
+      (state_begun n c card limits.n_low limits.n_high limits.c_low limits.c_high room)
       (fed (fresh_state n c card) made es t own runs)
 
   -- document 01's lists: a pharmacist's calls on sheets, by the map alone
-  plain-own : (s : Kept) (calls : List SheetCall) → ByOwn s (pharmacists_calls calls)
-  plain-own s [] = tt
-  plain-own s (table.on sheet ask ∷ calls) = (
+  plain_own : (s : Kept) (calls : List SheetCall) → ByOwn s (pharmacists_calls calls)
+  plain_own s [] = tt
+  plain_own s (table.on sheet ask ∷ calls) = (
     record {
       joins = tt;
       scratch = λ e. absurd (false≢true (ap isClose e));
       summary = λ e. absurd (false≢true e);
     },
-    plain-own _ calls,
+    plain_own _ calls,
   )
     where
       isClose : Public → Bool
@@ -311,39 +311,39 @@ module _ (n c : ℕ) (card : List ℕ) (limits : Limits n c) (room : length card
       isClose build = false
       isClose check = false
 
-  plain-fed : (calls : List SheetCall) → calls_in (pharmacists_calls calls) ≡ plain_calls calls
-  plain-fed [] = refl
-  plain-fed (table.on sheet ask ∷ calls) = ap (λ (rest : List Call). on pharmacist sheet ask ∷ rest) (plain-fed calls)
+  plain_fed : (calls : List SheetCall) → calls_in (pharmacists_calls calls) ≡ plain_calls calls
+  plain_fed [] = refl
+  plain_fed (table.on sheet ask ∷ calls) = ap (λ (rest : List Call). on pharmacist sheet ask ∷ rest) (plain_fed calls)
 
-  plain-heard : (s t : Kept) (calls : List SheetCall) (es : List End) → lists.Runs s (pharmacists_calls calls) es t
+  plain_heard : (s t : Kept) (calls : List SheetCall) (es : List End) → lists.Runs s (pharmacists_calls calls) es t
       → replies_in (pharmacists_calls calls) es ≡ map response_of es
-  plain-heard s t [] [] runs = refl
-  plain-heard s t [] (e ∷ es) runs = absurd runs
-  plain-heard s t (table.on sheet ask ∷ calls) [] runs = absurd runs
-  plain-heard s t (table.on sheet ask ∷ calls) (e ∷ es) runs =
-      ap (λ (rest : List Response). response_of e ∷ rest) (plain-heard (kept_after e) t calls es runs.1)
+  plain_heard s t [] [] runs = refl
+  plain_heard s t [] (e ∷ es) runs = absurd runs
+  plain_heard s t (table.on sheet ask ∷ calls) [] runs = absurd runs
+  plain_heard s t (table.on sheet ask ∷ calls) (e ∷ es) runs =
+      ap (λ (rest : List Response). response_of e ∷ rest) (plain_heard (kept_after e) t calls es runs.1)
 
-  pub document-01 : (calls : List SheetCall) (es : List End) (t : Kept)
+  pub document_01 : (calls : List SheetCall) (es : List End) (t : Kept)
       → lists.Runs (fresh_state n c card) (pharmacists_calls calls) es t → Claim n c (plain_calls calls) (map response_of es) t
-  document-01 calls es t runs =
-      let claim = every-list (pharmacists_calls calls) es t (plain-own (fresh_state n c card) calls) runs in
+  document_01 calls es t runs =
+      let claim = every_list (pharmacists_calls calls) es t (plain_own (fresh_state n c card) calls) runs in
       subst (λ (replies : List Response). Claim n c (plain_calls calls) replies t)
-      (plain-heard (fresh_state n c card) t calls es runs)
-      (subst (λ (fed-so : List Call). Claim n c fed-so (replies_in (pharmacists_calls calls) es) t) (plain-fed calls) claim)
+      (plain_heard (fresh_state n c card) t calls es runs)
+      (subst (λ (fed-so : List Call). Claim n c fed-so (replies_in (pharmacists_calls calls) es) t) (plain_fed calls) claim)
 
   -- from a summary that was built from the fresh map, each call lent it as the one before left it (document 02 (j)): answers
   -- and ledger are those of every list, and the summary ends as one built anew
-  pub every-list-with-summary : (m : Manner) (b : Beside)
+  pub every_list_with_summary : (m : Manner) (b : Beside)
       → number_of (ends m (fresh_state n c card) b build).outcome.answer ≡ 0
       → (made : List Made) (es : List End) (t : Kept) (last : List ℕ)
       → HandedOn (ends m (fresh_state n c card) b build).beside.summary (fresh_state n c card) made last
       → Along (Listed OfAnyLength) (fresh_state n c card) made → lists.Runs (fresh_state n c card) made es t
       → Claim n c (calls_in made) (replies_in made es) t × (last ≡ own_of t)
-  every-list-with-summary m b built made es t last handed-on listed-so runs =
+  every_list_with_summary m b built made es t last handed-on listed-so runs =
       let own = own_runs (fresh_state n c card) made last es t runs
       (subst (λ (x : List ℕ). HandedOn x (fresh_state n c card) made last) (built_own m (fresh_state n c card) b built) handed-on)
       listed-so in
-      (every-list made es t own.0 runs, own.1)
+      (every_list made es t own.0 runs, own.1)
 
 -- The same from the fresh call itself: what it left when it answered that it was done, whoever made it, and a card of 512·n
 -- bytes.
@@ -353,7 +353,7 @@ pub every_list_from_fresh : (m : Manner) (s : Kept) (b : Beside) (n : ℕ) → l
     → lists.Runs (kept_after (ends m s b (fresh n))) made es t
     → Claim n (length s.entries) (calls_in made) (replies_in made es) t
 every_list_from_fresh m s b n room done-so made es t own runs =
-    let left = fresh-left m s b n done-so in
-    every-list n (length s.entries) s.card left.0 room made es t
+    let left = fresh_left m s b n done-so in
+    every_list n (length s.entries) s.card left.0 room made es t
     (subst (λ (x : Kept). ByOwn x made) left.1 own)
     (subst (λ (x : Kept). lists.Runs x made es t) left.1 runs)

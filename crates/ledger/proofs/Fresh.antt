@@ -1,5 +1,5 @@
 -- What an accepted fresh left, whoever made it: n and c are within their limits, and a list starts from the state of
--- `fresh_state` (`fresh-left`); and fresh is accepted for all n and c within their limits (`fresh-accepts`).
+-- `fresh_state` (`fresh_left`); and fresh is accepted for all n and c within their limits (`fresh_accepts`).
 -- Assumes nothing.
 use Prim.Native.Nat.{ℕ, ◌≤◌}
 use mathlib.Core.Path.{◌≡◌, refl, sym, ap, ◌∙◌}
@@ -22,7 +22,7 @@ use Rattle.catalogue_standings.proofs.Rows.{clear, never_says}
 use Rattle.call_search.specs.Answers.{fresh_verdict}
 use Rattle.roles.specs.Roles as roles
 use Rattle.roles.specs.Roles.{may}
-use Rattle.card.specs.Calls.{Kept, told, is_done, freshOutcome, fresh_map, freshEntries}
+use Rattle.card.specs.Calls.{Kept, told, is_done, fresh_outcome, fresh_map, fresh_entries}
 use Rattle.card.specs.Public.{fresh, Manner, turned, Beside, ends, kept_after}
 use Rattle.card.specs.declared.Outcome.{Outcome}
 use Rattle.ledger.specs.Lists.{fresh_state}
@@ -50,9 +50,9 @@ module _ (m : Manner) (s : Kept) (b : Beside) (n : ℕ) where
   abbrev Left : Type 0
   Left = Limits n c × (kept_after (ends m s b (fresh n)) ≡ fresh_state n c s.card)
 
-  by-verdict : (v : Verdict) → verdict ≡ v → number_of (told_by v).answer ≡ 0 → Left
+  by_verdict : (v : Verdict) → verdict ≡ v → number_of (told_by v).answer ≡ 0 → Left
   unfolding fresh_verdict fresh_fits shape_fits sheets_fit
-  by-verdict (refused number) e h =
+  by_verdict (refused number) e h =
       let some : eqb number 0 ≡ false = ne_eqb number 0
       (λ z. never_says 0 (row 21 away ∷ row 1 (not (fresh_fits n (length s.map) c)) ∷ []) refl (e ∙ ap refused z)) in
       let is : number ≡ 0 =
@@ -60,7 +60,7 @@ module _ (m : Manner) (s : Kept) (b : Beside) (n : ℕ) where
       (told s.shape (Refused number))).answer)
       some) ∙ h in
       absurd (never_says 0 (row 21 away ∷ row 1 (not (fresh_fits n (length s.map) c)) ∷ []) refl (e ∙ ap refused is))
-  by-verdict accepted e h = (
+  by_verdict accepted e h = (
     record {
       n_low = leb-true 1 n (and_left _ _ (and_left _ _ (and_left _ _ fits)));
       n_high = leb-true n 262144 (and_right (leb 1 n) _ (and_left _ _ (and_left _ _ fits)));
@@ -79,25 +79,25 @@ module _ (m : Manner) (s : Kept) (b : Beside) (n : ℕ) where
       sheets : (leb 1 c && leb c 1024) ≡ true
       sheets = and_right (leb 1 n && leb n 262144 && leb n n && eqb (length s.map) (words_for n)) _ fresh-fits
 
-      outcome : freshOutcome away s.shape n s.map s.entries ≡ told (record { blocks = n; free = n }) Done
+      outcome : fresh_outcome away s.shape n s.map s.entries ≡ told (record { blocks = n; free = n }) Done
       outcome = ap told_by e
 
-      marks : fresh_map away s.shape n s.map s.entries ≡ maps.freshMap n (words_for n)
+      marks : fresh_map away s.shape n s.map s.entries ≡ maps.fresh_map n (words_for n)
       marks =
-          ap (λ (v : Verdict). settle v (maps.freshMap n (length s.map)) (λ number. s.map)) e
-          ∙ ap (maps.freshMap n) (eqb-true (length s.map) (words_for n)
+          ap (λ (v : Verdict). settle v (maps.fresh_map n (length s.map)) (λ number. s.map)) e
+          ∙ ap (maps.fresh_map n) (eqb-true (length s.map) (words_for n)
           (and_right (leb 1 n && leb n 262144 && leb n n) _ fits))
 
-      stored : freshEntries away s.shape n s.map s.entries ≡ replicate c absent
+      stored : fresh_entries away s.shape n s.map s.entries ≡ replicate c absent
       stored = ap (λ (v : Verdict). cleared_if s.entries (is_done (told_by v).answer)) e
 
-  pub fresh-left : number_of (ends m s b (fresh n)).outcome.answer ≡ 0 → Left
-  fresh-left h = by-verdict verdict refl h
+  pub fresh_left : number_of (ends m s b (fresh n)).outcome.answer ≡ 0 → Left
+  fresh_left h = by_verdict verdict refl h
 
-  pub fresh-accepts : may m.role roles.fresh ≡ true → Limits n c → length s.map ≡ words_for n
+  pub fresh_accepts : may m.role roles.fresh ≡ true → Limits n c → length s.map ≡ words_for n
       → number_of (ends m s b (fresh n)).outcome.answer ≡ 0
   unfolding fresh_verdict fresh_fits shape_fits sheets_fit
-  fresh-accepts may-fresh limits e =
+  fresh_accepts may-fresh limits e =
       let fits : fresh_fits n (length s.map) c ≡ true =
       simp (
         le-leb 1 n limits.n_low,

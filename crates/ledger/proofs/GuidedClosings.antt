@@ -16,17 +16,17 @@ use Rattle.summary.proofs.Numbers.{own_length}
 use Rattle.catalogue_standings.specs.Limits.{shape_fits}
 use Rattle.catalogue_standings.specs.Rows.{Verdict, accepted, refused}
 use Rattle.catalogue_standings.specs.declared.Answer.TheVariants.{Done}
-use Rattle.call_summary.specs.Answers.{summary_fits, builtSummary}
+use Rattle.call_summary.specs.Answers.{summary_fits, built_summary}
 use Rattle.call_summary.proofs.Fits.{build-left, passes}
 use Rattle.refusals.specs.Guides.{guide_tested}
 use Rattle.closing.specs.Closed.{closed_map}
 use Rattle.closing.specs.Table.{close_fits, close_verdict}
-use Rattle.closing.proofs.Claimed.{accepted-fits}
+use Rattle.closing.proofs.Claimed.{accepted_fits}
 use Rattle.closing.proofs.Closes.{close_fits_to, fits_beside, verdict-1}
 use Rattle.card.specs.Calls.{Kept, saved_state, is_done}
-use Rattle.card.specs.Closings.{closeMapBy, closeSummaryBy}
-use Rattle.card.specs.Public.{close, kind_of, Beside, with_summary, with_scratch, refused_end, endClose, kept_after}
-use Rattle.card.proofs.Closings.{verdictBy, summary-for, close-refused, close-accepted}
+use Rattle.card.specs.Closings.{close_map_by, close_summary_by}
+use Rattle.card.specs.Public.{close, kind_of, Beside, with_summary, with_scratch, refused_end, end_close, kept_after}
+use Rattle.card.proofs.Closings.{verdict_by, summary_for, close_refused, close_accepted}
 use Rattle.card.proofs.TurnedAway.{put_together}
 use Rattle.ledger.specs.Lists.{Long, own_of}
 use Rattle.ledger.specs.Summaries.{apart}
@@ -59,13 +59,13 @@ module _ (s : Kept) (summary scratch : List ℕ) where
       (length s.map) (length s.card) (length scratch) t) e))
       (λ f. f)
 
-  verdict-unfit : beside ≡ false → verdictBy false true summary s scratch ≡ refused 1
-  verdict-unfit e =
+  verdict_unfit : beside ≡ false → verdict_by false true summary s scratch ≡ refused 1
+  verdict_unfit e =
       verdict-1 false (saved_state s.shape s.map s.entries) beside (length s.card) (length scratch) refl (unfit e)
 
   -- with more than 4,096 words row 1 holds in any case
-  verdict-long : 4096 < length s.map → verdictBy false false [] s scratch ≡ refused 1
-  verdict-long l =
+  verdict_long : 4096 < length s.map → verdict_by false false [] s scratch ≡ refused 1
+  verdict_long l =
       verdict-1 false (saved_state s.shape s.map s.entries) true (length s.card) (length scratch) refl
       (by_cases (fitting true)
       (λ e. let f = close_fits_to s.shape.blocks s.shape.free true (length s.entries) (length s.map)
@@ -73,14 +73,14 @@ module _ (s : Kept) (summary scratch : List ℕ) where
       absurd (omega (arith, f.saved.limits.words, f.saved.limits.limit)))
       (λ e. e))
 
-  same-verdict : Long s summary → verdictBy false true summary s scratch ≡ verdictBy false false [] s scratch
-  same-verdict long =
+  same_verdict : Long s summary → verdict_by false true summary s scratch ≡ verdict_by false false [] s scratch
+  same_verdict long =
       by_cases (leb (length s.map) 4096)
       (λ e. ap (λ (b : Bool). close_verdict false (saved_state s.shape s.map s.entries) b (length s.card)
       (length scratch))
       (and_both (leb (length s.map) 4096) _ e (eq-eqb (length summary) (summary_length (length s.map)) long)))
-      (λ e. verdict-unfit (ap (λ (b : Bool). b && eqb (length summary) (summary_length (length s.map))) e)
-      ∙ sym (verdict-long (leb-false (length s.map) 4096 e)))
+      (λ e. verdict_unfit (ap (λ (b : Bool). b && eqb (length summary) (summary_length (length s.map))) e)
+      ∙ sym (verdict_long (leb-false (length s.map) 4096 e)))
 
 -- ---- what is handed back and left
 
@@ -88,29 +88,29 @@ module _ (s : Kept) (b : Beside) where
   abbrev lent : List ℕ
   lent = b.scratch
 
-  pub same-close : Long s b.summary → apart (endClose false true s b) ≡ apart (endClose false false s b)
-  same-close long = by (verdictBy false true b.summary s lent) refl
+  pub same_close : Long s b.summary → apart (end_close false true s b) ≡ apart (end_close false false s b)
+  same_close long = by (verdict_by false true b.summary s lent) refl
     where
-      by : (v : Verdict) → verdictBy false true b.summary s lent ≡ v → apart (endClose false true s b)
-          ≡ apart (endClose false false s b)
+      by : (v : Verdict) → verdict_by false true b.summary s lent ≡ v → apart (end_close false true s b)
+          ≡ apart (end_close false false s b)
       by accepted e =
-          let x = close-accepted false true b.summary s lent e in
-          let y = close-accepted false false [] s lent (sym (same-verdict s b.summary lent long) ∙ e) in
+          let x = close_accepted false true b.summary s lent e in
+          let y = close_accepted false false [] s lent (sym (same_verdict s b.summary lent long) ∙ e) in
           put_together (x.outcome ∙ sym y.outcome) (x.words ∙ sym y.words) (x.sheets ∙ sym y.sheets)
           (x.bytes ∙ sym y.bytes) (ap (λ (z : List ℕ). with_scratch z (with_summary [] b))
           (x.zeros ∙ sym y.zeros))
       by (refused number) e =
-          let x = close-refused false true b.summary s lent number e in
-          let y = close-refused false false [] s lent number (sym (same-verdict s b.summary lent long) ∙ e) in
+          let x = close_refused false true b.summary s lent number e in
+          let y = close_refused false false [] s lent number (sym (same_verdict s b.summary lent long) ∙ e) in
           put_together (x.outcome ∙ sym y.outcome) (x.words ∙ sym y.words) (x.sheets ∙ sym y.sheets)
           (x.bytes ∙ sym y.bytes) (ap (λ (z : List ℕ). with_scratch z (with_summary [] b))
           (x.zeros ∙ sym y.zeros))
 
-  pub close-refuses : (Long s b.summary → ⊥) → endClose false true s b ≡ refused_end 1 s b (kind_of close)
-  close-refuses short =
-      let v = verdict-unfit s b.summary lent (no_fit (leb (length s.map) 4096) _
+  pub close_refuses : (Long s b.summary → ⊥) → end_close false true s b ≡ refused_end 1 s b (kind_of close)
+  close_refuses short =
+      let v = verdict_unfit s b.summary lent (no_fit (leb (length s.map) 4096) _
       (ne_eqb (length b.summary) (summary_length (length s.map)) short)) in
-      let r = close-refused false true b.summary s lent 1 v in
+      let r = close_refused false true b.summary s lent 1 v in
       put_together r.outcome r.words r.sheets r.bytes
       (λ x. with_scratch (r.zeros x) (with_summary (r.beside x) b))
 
@@ -118,7 +118,7 @@ module _ (s : Kept) (b : Beside) where
 
 -- a lent summary is the map's own after an accepted closing, whatever it was
 module _ (turned : Bool) (summary : List ℕ) (s : Kept) (scratch : List ℕ)
-    (v : verdictBy turned true summary s scratch ≡ accepted)
+    (v : verdict_by turned true summary s scratch ≡ accepted)
   where
     abbrev left : List ℕ
     left = closed_map s.entries s.shape.blocks s.map
@@ -129,7 +129,7 @@ module _ (turned : Bool) (summary : List ℕ) (s : Kept) (scratch : List ℕ)
 
     fit : close_fits s.shape.blocks s.shape.free (guide_tested true (length s.map) (length summary))
         (length s.entries) (length s.map) (length s.card) (length scratch) ≡ true
-    fit = accepted-fits turned (saved_state s.shape s.map s.entries) _ (length s.card) (length scratch) v
+    fit = accepted_fits turned (saved_state s.shape s.map s.entries) _ (length s.card) (length scratch) v
 
     whole : summary_fits s.shape.blocks s.shape.free (length left) (length summary) ≡ true
     unfolding summary_fits
@@ -142,40 +142,40 @@ module _ (turned : Bool) (summary : List ℕ) (s : Kept) (scratch : List ℕ)
         ∙ and_both _ _ l.saved.shape
         (and_right (leb (length s.map) 4096) (eqb (length summary) (summary_length (length s.map))) b)
 
-    pub closed-summary : closeSummaryBy turned true summary s scratch
-        ≡ own_summary (closeMapBy turned true summary s scratch) s.shape.blocks
+    pub closed-summary : close_summary_by turned true summary s scratch
+        ≡ own_summary (close_map_by turned true summary s scratch) s.shape.blocks
     closed-summary =
-        let w : closeMapBy turned true summary s scratch ≡ left = (close-accepted turned true summary s scratch v).words in
-        summary-for turned true summary s scratch accepted v
-        ∙ ap (λ (m : List ℕ). builtSummary false s.shape.blocks s.shape.free m summary) w
+        let w : close_map_by turned true summary s scratch ≡ left = (close_accepted turned true summary s scratch v).words in
+        summary_for turned true summary s scratch accepted v
+        ∙ ap (λ (m : List ℕ). built_summary false s.shape.blocks s.shape.free m summary) w
         ∙ sym (build-left s.shape.blocks s.shape.free left summary false accepted
         (passes s.shape.blocks s.shape.free left summary false refl whole))
         ∙ ap (λ (m : List ℕ). own_summary m s.shape.blocks) (sym w)
 
 module _ (turned : Bool) (s : Kept) (b : Beside) where
   abbrev verdict : Verdict
-  verdict = verdictBy turned true b.summary s b.scratch
+  verdict = verdict_by turned true b.summary s b.scratch
 
-  pub close-anew : (endClose turned true s b).outcome.answer ≡ Done → (endClose turned true s b).beside.summary
-      ≡ own_of (kept_after (endClose turned true s b))
-  close-anew done-so = by verdict refl
+  pub close_anew : (end_close turned true s b).outcome.answer ≡ Done → (end_close turned true s b).beside.summary
+      ≡ own_of (kept_after (end_close turned true s b))
+  close_anew done-so = by verdict refl
     where
-      by : (v : Verdict) → verdict ≡ v → (endClose turned true s b).beside.summary
-          ≡ own_of (kept_after (endClose turned true s b))
+      by : (v : Verdict) → verdict ≡ v → (end_close turned true s b).beside.summary
+          ≡ own_of (kept_after (end_close turned true s b))
       by accepted e = closed-summary turned b.summary s b.scratch e
       by (refused number) e =
-          let o = (close-refused turned true b.summary s b.scratch number e).outcome in
+          let o = (close_refused turned true b.summary s b.scratch number e).outcome in
           let z : false ≡ true = ap (λ x. is_done x.answer) (sym o) ∙ ap is_done done-so in
           let one : ◌≡◌ {A = ℕ} 0 1 = ap (λ (t : Bool). cond t 1 0) z in
           absurd (omega arith)
 
-  pub own-close : b.summary ≡ own_of s → (endClose turned true s b).beside.summary
-      ≡ own_of (kept_after (endClose turned true s b))
-  own-close own = by verdict refl
+  pub own_close : b.summary ≡ own_of s → (end_close turned true s b).beside.summary
+      ≡ own_of (kept_after (end_close turned true s b))
+  own_close own = by verdict refl
     where
-      by : (v : Verdict) → verdict ≡ v → (endClose turned true s b).beside.summary
-          ≡ own_of (kept_after (endClose turned true s b))
+      by : (v : Verdict) → verdict ≡ v → (end_close turned true s b).beside.summary
+          ≡ own_of (kept_after (end_close turned true s b))
       by accepted e = closed-summary turned b.summary s b.scratch e
       by (refused number) e =
-          let r = close-refused turned true b.summary s b.scratch number e in
+          let r = close_refused turned true b.summary s b.scratch number e in
           r.beside ∙ own ∙ ap (λ (m : List ℕ). own_summary m s.shape.blocks) (sym r.words)

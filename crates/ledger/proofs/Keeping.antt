@@ -18,9 +18,9 @@ use Rattle.map_blocks.specs.Maps.{in_run, marked}
 use Rattle.laws.proofs.Bools.{clash, order}
 use Rattle.blocks_of_card.specs.Card.{block_of, with_block, zeroed}
 use Rattle.block_seals.specs.Sealed.{sealed}
-use Rattle.blocks_of_card.proofs.Card.{same_block, other_block, length-withBlock, length_zeroed, zeroed_inside, zeroed_before}
+use Rattle.blocks_of_card.proofs.Card.{same_block, other_block, length_with_block, length_zeroed, zeroed_inside, zeroed_before}
 use Rattle.blocks_of_card.proofs.Card.{zeroed_after}
-use Rattle.block_seals.proofs.Sealed.{sealed-length}
+use Rattle.block_seals.proofs.Sealed.{sealed_length}
 use Rattle.catalogue.specs.declared.Entry.{Entry}
 use Rattle.refusals.proofs.Room.{fit_inside}
 use Rattle.ledger.specs.Ledger.{Place, Blank, Payload, Sheet, Absent, Open, Complete, start_in, length_in, places_in}
@@ -29,8 +29,8 @@ use Rattle.ledger.specs.Claim.{entry_in, block_in}
 use Rattle.ledger.proofs.Agreement.{map_in, Matches}
 use Rattle.ledger.proofs.Cover.{in_run_lem, run_in, covers_in, covers_out, covers_absent, cover_set, cover_at, cover_two}
 use Rattle.ledger.proofs.Cover.{held_set}
-use Rattle.ledger.proofs.Listed.{spare-is}
-use Rattle.ledger.proofs.Marks.{map-kept, map-taken, map-given}
+use Rattle.ledger.proofs.Listed.{spare_is}
+use Rattle.ledger.proofs.Marks.{map_kept, map_taken, map_given}
 use Rattle.ledger.proofs.Sheets.{Fine, Sound, set_cases, fit_free, sound_none, reserved, grown, completed, putting}
 
 pub entries_set : (l : List Sheet) (i : ℕ) (x : Sheet) → set (map entry_in l) i (entry_in x) ≡ map entry_in (set l i x)
@@ -45,7 +45,7 @@ Filled card j x = (p : ℕ) → p < length_in x → block_of card (start_in x + 
 -- what an accepted change of sheet i to x leaves: the free count, the map and what holds
 pub record Changed (n : ℕ) (l : List Sheet) (i : ℕ) (x : Sheet) (spare : ℕ) (marks : List ℕ) (card : List ℕ) : Type 0 where
   pub spare_left : spare ≡ spare_in n (set l i x)
-  pub map_left : marks ≡ map_in n (set l i x)
+  pub map_left_lem : marks ≡ map_in n (set l i x)
   pub kept_left : Matches n (set l i x) card
 
 module _ (n : ℕ) (l : List Sheet) (card : List ℕ) (k : Matches n l card) (i : ℕ) (lt : i < length l) where
@@ -65,11 +65,11 @@ module _ (n : ℕ) (l : List Sheet) (card : List ℕ) (k : Matches n l card) (i 
       }
 
   -- free blocks and the sheet's come to what they were
-  spare-set : (x : Sheet) → Sound n (set l i x) → spare_in n (set l i x) + length_in x ≡ spare_in n l + length_in (sheet_at l i)
-  spare-set x ok = omega (arith, spare-is n l k.sound, spare-is n (set l i x) ok, held_set l i x lt)
+  spare_set : (x : Sheet) → Sound n (set l i x) → spare_in n (set l i x) + length_in x ≡ spare_in n l + length_in (sheet_at l i)
+  spare_set x ok = omega (arith, spare_is n l k.sound, spare_is n (set l i x) ok, held_set l i x lt)
 
-  cover-rest : (x : Sheet) (b : ℕ) → covers x b ≡ covers (sheet_at l i) b → cover (set l i x) b ≡ cover l b
-  cover-rest x b e = omega (arith, cover_set l i x b lt, e)
+  cover_rest : (x : Sheet) (b : ℕ) → covers x b ≡ covers (sheet_at l i) b → cover (set l i x) b ≡ cover l b
+  cover_rest x b e = omega (arith, cover_set l i x b lt, e)
 
   -- no sheet has a block in a run that is free
   others : (s m : ℕ) → s + m ≤ n → ((b : ℕ) → s ≤ b → b < s + m → cover l b ≡ 0) → (j : ℕ)
@@ -97,9 +97,9 @@ module _ (n : ℕ) (l : List Sheet) (card : List ℕ) (k : Matches n l card) (i 
           past (inr r) = after r
 
   -- sheet i had nothing, and takes a fit
-  pub keep-reserve : (m s : ℕ) → sheet_at l i ≡ Absent → 0 < m → fit (free_in n l) 0 n 1 m s ≡ true
+  pub keep_reserve : (m s : ℕ) → sheet_at l i ≡ Absent → 0 < m → fit (free_in n l) 0 n 1 m s ≡ true
       → Changed n l i (Open s (replicate m Blank)) (spare_in n l - m) (marked (map_in n l) s m false) (zeroed card s m)
-  keep-reserve m s gone pos f =
+  keep_reserve m s gone pos f =
       let x : Sheet = Open s (replicate m Blank) in
       let w : length (replicate m Blank) ≡ m = length-replicate m Blank in
       let inside : s + m ≤ n = fit_inside (free_in n l) n m s f in
@@ -108,16 +108,16 @@ module _ (n : ℕ) (l : List Sheet) (card : List ℕ) (k : Matches n l card) (i 
       let bare : (b : ℕ) → covers (sheet_at l i) b ≡ 0 = λ b. ap (λ (y : Sheet). covers y b) gone ∙ covers_absent b in
       let z : length_in (sheet_at l i) ≡ 0 = ap length_in gone in
       record {
-        spare_left = omega (arith, spare-set x ok);
-        map_left =
-            map-taken n l (set l i x) s m inside
+        spare_left = omega (arith, spare_set x ok);
+        map_left_lem =
+            map_taken n l (set l i x) s m inside
             (λ b e q. let r = in_run_lem s m b e in omega (
               arith,
               cover_set l i x b lt,
               bare b,
               covers_in x b r.0 (omega (arith, r.1)),
             ))
-            (λ b e. cover-rest x b (covers_out x b (λ r. clash (in_run s m b) (run_in s m b r.0 (omega (arith, r.1))) e)
+            (λ b e. cover_rest x b (covers_out x b (λ r. clash (in_run s m b) (run_in s m b r.0 (omega (arith, r.1))) e)
             ∙ sym (bare b)));
         kept_left =
             keep x (zeroed card s m) ok (length_zeroed card s m fits ∙ k.room)
@@ -127,33 +127,33 @@ module _ (n : ℕ) (l : List Sheet) (card : List ℕ) (k : Matches n l card) (i 
       }
 
   -- sheet i becomes one that has the same places, the card as it was
-  pub keep-places : (x : Sheet) → Sound n (set l i x) → start_in x ≡ start_in (sheet_at l i) → length_in x ≡ length_in (sheet_at l i)
+  pub keep_places : (x : Sheet) → Sound n (set l i x) → start_in x ≡ start_in (sheet_at l i) → length_in x ≡ length_in (sheet_at l i)
       → places_in x ≡ places_in (sheet_at l i)
       → Changed n l i x (spare_in n l) (map_in n l) card
-  keep-places x ok es el ep =
+  keep_places x ok es el ep =
       record {
-        spare_left = omega (arith, spare-set x ok);
-        map_left = map-kept n l (set l i x) (λ b. cover-rest x b (rw (es, el)));
+        spare_left = omega (arith, spare_set x ok);
+        map_left_lem = map_kept n l (set l i x) (λ b. cover_rest x b (rw (es, el)));
         kept_left = keep x card ok k.room (rw (es, el, ep) (k.blocks i)) (λ j ne. k.blocks j);
       }
 
   -- sheet i gives its blocks back
-  pub keep-release : Changed n l i Absent (spare_in n l + length_in (sheet_at l i))
+  pub keep_release : Changed n l i Absent (spare_in n l + length_in (sheet_at l i))
       (marked (map_in n l) (start_in (sheet_at l i)) (length_in (sheet_at l i)) true) card
-  keep-release =
+  keep_release =
       let x : Sheet = sheet_at l i in
       let inside : start_in x + length_in x ≤ n = (k.sound.fine i).inside in
       let ok : Sound n (set l i Absent) = sound_none n l k.sound i lt Absent
       (record { inside = omega arith; needed = omega arith; sized = λ p. tt }) refl in
       record {
-        spare_left = omega (arith, spare-set Absent ok);
-        map_left =
-            map-given n l (set l i Absent) (start_in x) (length_in x) inside
+        spare_left = omega (arith, spare_set Absent ok);
+        map_left_lem =
+            map_given n l (set l i Absent) (start_in x) (length_in x) inside
             (λ b e. let r = in_run_lem (start_in x) (length_in x) b e in (
               omega (arith, r.1),
               omega (arith, cover_set l i Absent b lt, covers_absent b, covers_in x b r.0 r.1, k.sound.once b),
             ))
-            (λ b e. cover-rest Absent b (covers_absent b
+            (λ b e. cover_rest Absent b (covers_absent b
             ∙ sym (covers_out x b (λ r. clash (in_run (start_in x) (length_in x) b)
             (run_in (start_in x) (length_in x) b r.0 r.1) e))));
         kept_left = keep Absent card ok k.room (λ p lp. absurd (not-suc-le-zero lp)) (λ j ne. k.blocks j);
@@ -173,13 +173,13 @@ module _ (n : ℕ) (l : List Sheet) (card : List ℕ) (k : Matches n l card) (i 
         (zeroed card (s + length ps) m)
     keep-grow m pos f =
         record {
-          spare_left = omega (arith, spare-set x ok, held-before, wide);
-          map_left =
-              map-taken n l (set l i x) at m inside
+          spare_left = omega (arith, spare_set x ok, held-before, wide);
+          map_left_lem =
+              map_taken n l (set l i x) at m inside
               (λ b e q. let r = in_run_lem at m b e in
               let out : covers (Open s ps) b ≡ 0 = covers_out (Open s ps) b (λ h. omega (arith, h.1, r.0)) in
               omega (arith, cover_set l i x b lt, old b, covers_in x b (omega (arith, r.0)) (omega (arith, r.1, wide))))
-              (λ b e. cover-rest x b (outside b e ∙ sym (old b)));
+              (λ b e. cover_rest x b (outside b e ∙ sym (old b)));
           kept_left =
               keep x (zeroed card at m) ok (length_zeroed card at m fits ∙ k.room)
               (λ p lp. new p (order p (length ps)) (omega (arith, wide)))
@@ -238,7 +238,7 @@ module _ (n : ℕ) (l : List Sheet) (card : List ℕ) (k : Matches n l card) (i 
     pub keep-complete : map Payload (map bytes_of ps) ≡ ps
         → Changed n l i (Complete s (map bytes_of ps)) (spare_in n l) (map_in n l) card
     keep-complete full =
-        keep-places (Complete s (map bytes_of ps)) (completed n l k.sound i lt s ps was full) (sym (ap start_in was))
+        keep_places (Complete s (map bytes_of ps)) (completed n l k.sound i lt s ps was full) (sym (ap start_in was))
         (length-map ps bytes_of ∙ sym held-before) (full ∙ sym (ap places_in was))
 
     -- a place is filled
@@ -247,10 +247,10 @@ module _ (n : ℕ) (l : List Sheet) (card : List ℕ) (k : Matches n l card) (i 
         (with_block card (s + p) (sealed i p payload))
     keep-put p payload lp len =
         record {
-          spare_left = omega (arith, spare-set x ok, held-before, w);
-          map_left = map-kept n l (set l i x) (λ b. cover-rest x b (rw (was, w)));
+          spare_left = omega (arith, spare_set x ok, held-before, w);
+          map_left_lem = map_kept n l (set l i x) (λ b. cover_rest x b (rw (was, w)));
           kept_left =
-              keep x card' ok (length-withBlock card bytes (s + p) big whole ∙ k.room)
+              keep x card' ok (length_with_block card bytes (s + p) big whole ∙ k.room)
               (λ q lq. new q (eqb q p) refl (omega (arith, w)))
               (λ j ne q lq. other_block card bytes (s + p) big whole (start_in (sheet_at l j) + q) (elsewhere j ne q lq)
               ∙ k.blocks j q lq);
@@ -266,7 +266,7 @@ module _ (n : ℕ) (l : List Sheet) (card : List ℕ) (k : Matches n l card) (i 
         card' = with_block card (s + p) bytes
 
         whole : length bytes ≡ 512
-        whole = sealed-length i p payload len
+        whole = sealed_length i p payload len
 
         w : length (set ps p (Payload payload)) ≡ length ps
         w = length-set ps p (Payload payload)

@@ -9,7 +9,7 @@ use lib.Dec.{leb, ltb}
 use lib.ListN.{length, get_or, set}
 use borrow.Author.Tests.{le-ltb, not-false}
 use Rattle.map_blocks.specs.Blocks.{all}
-use Rattle.map_blocks.proofs.Runs.{all-elim}
+use Rattle.map_blocks.proofs.Runs.{all_elim}
 use Rattle.catalogue_standings.specs.Rows.{row, refused, first_of}
 use Rattle.catalogue_standings.proofs.Openings.{skip, stop}
 use Rattle.catalogue_standings.specs.Standings.{is_damaged}
@@ -42,22 +42,22 @@ full l i s ps was h =
     let every : all (λ p. not (is_blank (get_or ps p Blank))) 0 (length ps) ≡ true =
     subst (λ (x : Sheet). all (λ p. not (is_blank (get_or (places_in x) p Blank))) 0 (length_in x) ≡ true) was (not-false _ h) in
     refilled ps (λ p lp. not-true-is (is_blank (get_or ps p Blank))
-    (all-elim (λ p. not (is_blank (get_or ps p Blank))) 0 (length ps) every p (omega arith) (omega arith)))
+    (all_elim (λ p. not (is_blank (get_or ps p Blank))) 0 (length ps) every p (omega arith) (omega arith)))
   where
     not-true-is : (t : Bool) → not t ≡ true → t ≡ false
     not-true-is true e = absurd (true≢false (sym e))
     not-true-is false e = refl
 
 module _ (n : ℕ) (l : List Sheet) (ok : Sound n l) where
-  pub spare-is : spare_in n l + held l ≡ n
-  spare-is = spare_and_held n l ok.once (λ i. (ok.fine i).inside)
+  pub spare_is : spare_in n l + held l ≡ n
+  spare_is = spare_and_held n l ok.once (λ i. (ok.fine i).inside)
 
   -- what is granted was spare
   pub spared : (i k : ℕ) (x : Sheet) → i < length l → length_in x ≡ k + length_in (sheet_at l i) → Sound n (set l i x)
       → ltb (spare_in n l) k ≡ false
   spared i k x h e then =
       le-ltb (spare_in n l) k
-      (omega (arith, spare-is, held_set l i x h, spare_and_held n (set l i x) then.once (λ j. (then.fine j).inside)))
+      (omega (arith, spare_is, held_set l i x h, spare_and_held n (set l i x) then.once (λ j. (then.fine j).inside)))
 
   -- no dropped row holds, if none of those behind the opening does
   pub listed_same : (role i : ℕ) (a : Ask)

@@ -23,7 +23,7 @@ use Rattle.ledger.proofs.Agreement.{map_in, state_of, Matches, Plain, NeverRows,
 use Rattle.ledger.proofs.Wings.{entry_at_lem}
 use Rattle.ledger.proofs.Results as results
 use Rattle.ledger.proofs.Results.{Result, outEnd, out-back, plain_back, one-sheet, result-of}
-use Rattle.ledger.proofs.SameBlocks.{SameBlocks, has_same, keep-blocks}
+use Rattle.ledger.proofs.SameBlocks.{SameBlocks, has_same, keep_blocks}
 
 module _ (n : ℕ) (l : List Sheet) (card : List ℕ) (k : Matches n l card) (role i : ℕ) (a : Ask) (mark : ℕ)
     (change : Sheet → Sheet)
@@ -48,8 +48,8 @@ module _ (n : ℕ) (l : List Sheet) (card : List ℕ) (k : Matches n l card) (ro
       pub ends_so : end_of (state_of n l card) call ≡ ends (verdict_of (at n l card k (turned_in role a) i) (table.on i a))
       pub plain : Plain n l role i a
       pub never : NeverRows n l card k role i a
-      pub no-row-0 : says 0 (rows_in n l call) ≡ false
-      pub no-row-9 : says 9 (rows_in n l call) ≡ false
+      pub no_row_0 : says 0 (rows_in n l call) ≡ false
+      pub no_row_9 : says 9 (rows_in n l call) ≡ false
       -- it does so in every ledger: what is noted of a call is read in the one without sheets
       pub does : (n : ℕ) (l : List Sheet) → deed_in n l call ≡ leaves (set l i (change (sheet_at l i)))
       pub same : verdict_in n l call ≡ accepted → SameBlocks mark (change x) x
@@ -69,18 +69,18 @@ module _ (n : ℕ) (l : List Sheet) (card : List ℕ) (k : Matches n l card) (ro
           card_left = card;
           entry = entry_of mark (start_in x) (length_in x);
           answer = Done;
-          changed = keep-blocks n l card k i lt (change x) same;
+          changed = keep_blocks n l card k i lt (change x) same;
           stored = same.entry;
           ends_so = rw (m.does n l) (ap (λ (e : Entry). marked e accepted) (entry_at_lem l i lt));
           says_so = rw (m.does n l) (refl, refl);
           moved = rw (m.does n l) (omega (arith, same.lasts));
           noted_here = rw unnoted (has_same same);
-          noted-there = λ j p q ne. rw unnoted;
+          noted_there = λ j p q ne. rw unnoted;
         })
 
     pub changes-mark : ChangesMark → Result n l card call (verdict_in n l call)
     changes-mark m =
         result-of n l card k call ends (m.ends_so ∙ ap ends (verdict-at n l card k role i a m.plain m.never))
-        m.no-row-0
-        (accepts m) (plain_back n l card k call _ m.no-row-9 (rw (m.does n l) (out-back n l card k i)))
+        m.no_row_0
+        (accepts m) (plain_back n l card k call _ m.no_row_9 (rw (m.does n l) (out-back n l card k i)))
         (rw (m.does n l) tt)

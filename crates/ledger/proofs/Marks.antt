@@ -29,14 +29,14 @@ marked_map f g w s k to h =
 
 module _ (n : ℕ) (l l' : List Sheet) where
   -- every block covered as before
-  pub map-kept : ((b : ℕ) → cover l' b ≡ cover l b) → map_in n l ≡ map_in n l'
-  map-kept h = map_same (free_in n l) (free_in n l') (words_for n) (λ b lt. ap (λ (c : ℕ). ltb b n && eqb c 0) (sym (h b)))
+  pub map_kept : ((b : ℕ) → cover l' b ≡ cover l b) → map_in n l ≡ map_in n l'
+  map_kept h = map_same (free_in n l) (free_in n l') (words_for n) (λ b lt. ap (λ (c : ℕ). ltb b n && eqb c 0) (sym (h b)))
 
   -- a run taken: its blocks are covered now, and the others as before
-  pub map-taken : (s k : ℕ) → s + k ≤ n → ((b : ℕ) → in_run s k b ≡ true → cover l' b ≡ 0 → ⊥)
+  pub map_taken : (s k : ℕ) → s + k ≤ n → ((b : ℕ) → in_run s k b ≡ true → cover l' b ≡ 0 → ⊥)
       → ((b : ℕ) → in_run s k b ≡ false → cover l' b ≡ cover l b)
       → marked (map_in n l) s k false ≡ map_in n l'
-  map-taken s k inside taken others = marked_map (free_in n l) (free_in n l') (words_for n) s k false
+  map_taken s k inside taken others = marked_map (free_in n l) (free_in n l') (words_for n) s k false
       (λ b. go b (in_run s k b) refl)
     where
       go : (b : ℕ) (t : Bool) → in_run s k b ≡ t → cond t false (free_in n l b) ≡ free_in n l' b
@@ -44,10 +44,10 @@ module _ (n : ℕ) (l l' : List Sheet) where
       go b false e = ap (λ (c : ℕ). ltb b n && eqb c 0) (sym (others b e))
 
   -- a run given back: no block of it is covered now, and the others as before
-  pub map-given : (s k : ℕ) → s + k ≤ n → ((b : ℕ) → in_run s k b ≡ true → (b < n) × (cover l' b ≡ 0))
+  pub map_given : (s k : ℕ) → s + k ≤ n → ((b : ℕ) → in_run s k b ≡ true → (b < n) × (cover l' b ≡ 0))
       → ((b : ℕ) → in_run s k b ≡ false → cover l' b ≡ cover l b)
       → marked (map_in n l) s k true ≡ map_in n l'
-  map-given s k inside given others = marked_map (free_in n l) (free_in n l') (words_for n) s k true (λ b. go b (in_run s k b) refl)
+  map_given s k inside given others = marked_map (free_in n l) (free_in n l') (words_for n) s k true (λ b. go b (in_run s k b) refl)
     where
       go : (b : ℕ) (t : Bool) → in_run s k b ≡ t → cond t true (free_in n l b) ≡ free_in n l' b
       go b true e =

@@ -20,22 +20,22 @@ use Rattle.catalogue_standings.specs.declared.Answer.{Answer}
 use Rattle.catalogue_standings.specs.declared.Answer.TheVariants.{Done, Own, Refused, Counted}
 use Rattle.catalogue_standings.proofs.Rows.{says, never_says}
 use Rattle.call_search.specs.Answers.{search_answer, survey_answer}
-use Rattle.call_summary.specs.Answers.{summary_fits, buildAnswer, check_answer}
+use Rattle.call_summary.specs.Answers.{summary_fits, build_answer, check_answer}
 use Rattle.summary.specs.Summary.{summary_length, is_own}
 use Rattle.image_soundness.specs.Scratch.{scratch_words}
 use Rattle.image_soundness.specs.Sound.{sound}
-use Rattle.image.specs.Effects.{saveNumber}
+use Rattle.image.specs.Effects.{save_number}
 use Rattle.image.specs.Image.{frames_for}
 use Rattle.image.specs.Table.{save_fits, save_rows, save_verdict}
 use Rattle.roles.specs.Roles as roles
 use Rattle.roles.specs.Roles.{pharmacist, turned_away}
-use Rattle.refusals.specs.Effects.{unsearchedVerdict}
+use Rattle.refusals.specs.Effects.{unsearched_verdict}
 use Rattle.refusals.specs.Placement.{Placement}
 use Rattle.refusals.proofs.Reserve as reserving
 use Rattle.refusals.specs.Table.{Ask, reserve, put, grow, complete, change, release, show, standing, offer, accept, show_dated}
 use Rattle.card.specs.Calls.{Kept, lent_by_within}
 use Rattle.card.specs.Public as public
-use Rattle.card.specs.Public.{Public, fresh, search, survey, save, load, build, check, kind_on, Beside, End, endOn, ends}
+use Rattle.card.specs.Public.{Public, fresh, search, survey, save, load, build, check, kind_on, Beside, End, end_on, ends}
 use Rattle.card.specs.Public.{kept_after}
 use Rattle.card.proofs.TurnedAway.{turned_on}
 use Rattle.ledger.specs.Answers.{Told}
@@ -44,14 +44,14 @@ use Rattle.ledger.specs.Ledger.{Sheet, spare_in, dropped, listed, rows_in, verdi
 use Rattle.ledger.specs.Claim.{entry_in}
 use Rattle.ledger.specs.Lists.{Made, end_of, response_of, told_of, Joins, Long, saved_of, heard_in, heard_replies}
 use Rattle.ledger.specs.Never.{Sized, NeitherOneNorFour, NeverOneNorFour}
-use Rattle.ledger.proofs.Agreement.{map_in, state_of, Matches, shape-fits, sheets-fit}
-use Rattle.ledger.proofs.AnySummary.{Ruled, nowhere, short_of, taken, ruled, done-so, too_few, before-refuses}
-use Rattle.ledger.proofs.Demand.{Left, answered, left-by-any}
-use Rattle.ledger.proofs.Feeding.{by_map, all_may, heard-on, heard_one}
+use Rattle.ledger.proofs.Agreement.{map_in, state_of, Matches, shape_fits_lem, sheets_fit_lem}
+use Rattle.ledger.proofs.AnySummary.{Ruled, nowhere, short_of, taken, ruled, done-so, too_few, before_refuses}
+use Rattle.ledger.proofs.Demand.{Left, answered, left_by_any}
+use Rattle.ledger.proofs.Feeding.{by_map, all_may, heard_on, heard_one}
 use Rattle.ledger.proofs.Fresh.{Limits}
-use Rattle.ledger.proofs.GuidedEnds.{reserve-refuses, accept-refuses}
+use Rattle.ledger.proofs.GuidedEnds.{reserve_refuses, accept_refuses}
 use Rattle.ledger.proofs.Plain as plain
-use Rattle.ledger.proofs.Soundness.{kept-sound}
+use Rattle.ledger.proofs.Soundness.{kept_sound}
 use Rattle.ledger.proofs.WideLimits.{told_number}
 
 -- ---- the ledger's rows have no 1 and no 4
@@ -129,8 +129,8 @@ module _ (n : ℕ) (l : List Sheet) (card : List ℕ) (k : Matches n l card) whe
   s = state_of n l card
 
   -- one that is told as the ledger says
-  fed-never : (e : End) (c : Call) (u : Kept) → plain.Step s c (response_of e) u → NeitherOneNorFour (told_of e).number
-  fed-never e c u st =
+  fed_never : (e : End) (c : Call) (u : Kept) → plain.Step s c (response_of e) u → NeitherOneNorFour (told_of e).number
+  fed_never e c u st =
       subst NeitherOneNorFour
       (sym (ap (λ (x : Told). x.number) (answered n l card k c (response_of e) u st)
       ∙ told_number (verdict_in n l c) _ _ refl (λ j. refl)))
@@ -141,22 +141,22 @@ module _ (n : ℕ) (l : List Sheet) (card : List ℕ) (k : Matches n l card) whe
     number e = (told_of e).number
 
     -- by the map, of one who may
-    plain-never : (a : Ask) → NeitherOneNorFour (number (endOn false false s b sheet a))
+    plain-never : (a : Ask) → NeitherOneNorFour (number (end_on false false s b sheet a))
     plain-never a =
         let t : Bool = turned_away pharmacist (kind_on a).name in
-        subst (λ (u : Bool). NeitherOneNorFour (number (endOn (not u) false s b sheet a))) (all_may (kind_on a).name)
-        (fed-never (endOn t false s b sheet a) (on pharmacist sheet a) (kept_after (endOn t false s b sheet a))
-        (ap plain.responseOf (by_map t s b sheet a), ap plain.stateOn (by_map t s b sheet a)))
+        subst (λ (u : Bool). NeitherOneNorFour (number (end_on (not u) false s b sheet a))) (all_may (kind_on a).name)
+        (fed_never (end_on t false s b sheet a) (on pharmacist sheet a) (kept_after (end_on t false s b sheet a))
+        (ap plain.response_of (by_map t s b sheet a), ap plain.state_on (by_map t s b sheet a)))
 
     module _ (long : Long s b.summary) (limits : List ℕ) (m : ℕ) (p : Placement) where
       abbrev reserved : Bool → End
-      reserved t = endOn t true s b sheet (reserve limits m p)
+      reserved t = end_on t true s b sheet (reserve limits m p)
 
-      unsearched-never : (v : Verdict) → unsearchedVerdict (lent_by_within false false [] s card limits sheet) m p ≡ v
+      unsearched-never : (v : Verdict) → unsearched_verdict (lent_by_within false false [] s card limits sheet) m p ≡ v
           → NeitherOneNorFour (number (reserved false))
       unsearched-never (refused j) h =
-          let guided = before-refuses s b limits sheet long m p j h in
-          let by_itself = reserve-refuses false false s b sheet j limits m p
+          let guided = before_refuses s b limits sheet long m p j h in
+          let by_itself = reserve_refuses false false s b sheet j limits m p
           (reserving.refused_before (lent_by_within false false [] s card limits sheet) m p j h) in
           subst NeitherOneNorFour (ap number (by_itself ∙ sym guided)) (plain-never (reserve limits m p))
       unsearched-never accepted h = go (ruled s b limits sheet long m p h)
@@ -164,7 +164,7 @@ module _ (n : ℕ) (l : List Sheet) (card : List ℕ) (k : Matches n l card) whe
           go : Ruled s b limits sheet long m p h → NeitherOneNorFour (number (reserved false))
           go (nowhere e) = subst NeitherOneNorFour (sym (ap number e)) (λ z. omega (arith, z), λ z. omega (arith, z))
           go (short_of t f more e) =
-              absurd ((plain-never (accept limits t m)).1 (ap number (accept-refuses false false s b sheet 4 limits t m
+              absurd ((plain-never (accept limits t m)).1 (ap number (accept_refuses false false s b sheet 4 limits t m
               (too_few s b limits sheet long m p h t f more))))
           go (taken t f few) =
               subst NeitherOneNorFour (sym (done-so s b limits sheet long m p h t f few))
@@ -177,88 +177,88 @@ module _ (n : ℕ) (l : List Sheet) (card : List ℕ) (k : Matches n l card) whe
       reserve-never false = unsearched-never _ refl
 
     abbrev guided-end : ℕ → Ask → End
-    guided-end role a = endOn (turned_away role (kind_on a).name) true s b sheet a
+    guided-end role a = end_on (turned_away role (kind_on a).name) true s b sheet a
 
-    fed-on : (role : ℕ) (a : Ask) → plain.Runs s (on role sheet a ∷ []) (response_of (guided-end role a) ∷ [])
+    fed_on : (role : ℕ) (a : Ask) → plain.Runs s (on role sheet a ∷ []) (response_of (guided-end role a) ∷ [])
         (kept_after (guided-end role a)) → NeitherOneNorFour (number (guided-end role a))
-    fed-on role a h = fed-never (guided-end role a) (on role sheet a) h.0 h.1
+    fed_on role a h = fed_never (guided-end role a) (on role sheet a) h.0 h.1
 
     guided-never : (role : ℕ) → Long s b.summary → (a : Ask) → NeitherOneNorFour (number (guided-end role a))
     guided-never role long (reserve limits m p) = reserve-never long limits m p (turned_away role roles.reserve)
-    guided-never role long (offer limits m) = fed-on role (offer limits m) (heard-on role s b long sheet (offer limits m))
-    guided-never role long (accept limits start m) = fed-on role (accept limits start m)
-        (heard-on role s b long sheet (accept limits start m))
-    guided-never role long (put p payload) = fed-on role (put p payload) (heard-on role s b long sheet (put p payload))
-    guided-never role long (grow limits m) = fed-on role (grow limits m) (heard-on role s b long sheet (grow limits m))
-    guided-never role long complete = fed-on role complete (heard-on role s b long sheet complete)
-    guided-never role long (change c) = fed-on role (change c) (heard-on role s b long sheet (change c))
-    guided-never role long release = fed-on role release (heard-on role s b long sheet release)
-    guided-never role long (show p buffer) = fed-on role (show p buffer) (heard-on role s b long sheet (show p buffer))
-    guided-never role long (show_dated p date buffer) = fed-on role (show_dated p date buffer)
-        (heard-on role s b long sheet (show_dated p date buffer))
-    guided-never role long standing = fed-on role standing (heard-on role s b long sheet standing)
+    guided-never role long (offer limits m) = fed_on role (offer limits m) (heard_on role s b long sheet (offer limits m))
+    guided-never role long (accept limits start m) = fed_on role (accept limits start m)
+        (heard_on role s b long sheet (accept limits start m))
+    guided-never role long (put p payload) = fed_on role (put p payload) (heard_on role s b long sheet (put p payload))
+    guided-never role long (grow limits m) = fed_on role (grow limits m) (heard_on role s b long sheet (grow limits m))
+    guided-never role long complete = fed_on role complete (heard_on role s b long sheet complete)
+    guided-never role long (change c) = fed_on role (change c) (heard_on role s b long sheet (change c))
+    guided-never role long release = fed_on role release (heard_on role s b long sheet release)
+    guided-never role long (show p buffer) = fed_on role (show p buffer) (heard_on role s b long sheet (show p buffer))
+    guided-never role long (show_dated p date buffer) = fed_on role (show_dated p date buffer)
+        (heard_on role s b long sheet (show_dated p date buffer))
+    guided-never role long standing = fed_on role standing (heard_on role s b long sheet standing)
 
     on-never : (role : ℕ) (guided : Bool) → Long s b.summary → (a : Ask)
-        → NeitherOneNorFour (number (endOn (turned_away role (kind_on a).name) guided s b sheet a))
+        → NeitherOneNorFour (number (end_on (turned_away role (kind_on a).name) guided s b sheet a))
     on-never role true long a = guided-never role long a
     on-never role false long a =
         let t : Bool = turned_away role (kind_on a).name in
-        fed-never (endOn t false s b sheet a) (on role sheet a) (kept_after (endOn t false s b sheet a))
-        (ap plain.responseOf (by_map t s b sheet a), ap plain.stateOn (by_map t s b sheet a))
+        fed_never (end_on t false s b sheet a) (on role sheet a) (kept_after (end_on t false s b sheet a))
+        (ap plain.response_of (by_map t s b sheet a), ap plain.state_on (by_map t s b sheet a))
 
   -- ---- the calls that stand between
 
   fits : shape_fits n (spare_in n l) (length (map_in n l)) ≡ true
-  fits = shape-fits n l card k
+  fits = shape_fits_lem n l card k
 
-  search-never : (t : Bool) (m : ℕ) → Never (search_answer t n (spare_in n l) (map_in n l) m)
+  search_never : (t : Bool) (m : ℕ) → Never (search_answer t n (spare_in n l) (map_in n l) m)
   unfolding search_answer
-  search-never t m =
+  search_never t m =
       let found = least_fit (map-blocks.free (map_in n l)) 0 n 1 m in
       let told = start_with_space (map-blocks.free (map_in n l)) n (start_at found) in
       subst (λ (f : Bool). Never (settle (first_of (row 21 t ∷ row 1 (not f) ∷ row 3 (eqb m 0)
       ∷ row 10 (none found) ∷ [])) told Refused)) (sym fits) (search_rows told refl t (eqb m 0) (none found))
 
-  survey-never : (t : Bool) → Never (survey_answer t n (spare_in n l) (map_in n l))
+  survey_never : (t : Bool) → Never (survey_answer t n (spare_in n l) (map_in n l))
   unfolding survey_answer
-  survey-never t =
+  survey_never t =
       let counts = counts_of (map-blocks.free (map_in n l)) n in
       let told : Answer = Counted counts.free counts.runs counts.longest in
       subst (λ (f : Bool). Never (settle (first_of (row 21 t ∷ row 1 (not f) ∷ [])) told Refused)) (sym fits)
       (one_row told refl t)
 
   -- a summary of its length fits
-  beside-fits : (summary : List ℕ) → Long s summary
+  beside_fits_lem : (summary : List ℕ) → Long s summary
       → summary_fits n (spare_in n l) (length (map_in n l)) (length summary) ≡ true
   unfolding summary_fits
-  beside-fits summary long = and_both _ _ fits (eq-eqb (length summary) (summary_length (length (map_in n l))) long)
+  beside_fits_lem summary long = and_both _ _ fits (eq-eqb (length summary) (summary_length (length (map_in n l))) long)
 
-  build-never : (t : Bool) (summary : List ℕ) → Long s summary → Never (buildAnswer t n (spare_in n l) (map_in n l) summary)
-  unfolding buildAnswer
-  build-never t summary long =
+  build_never : (t : Bool) (summary : List ℕ) → Long s summary → Never (build_answer t n (spare_in n l) (map_in n l) summary)
+  unfolding build_answer
+  build_never t summary long =
       subst (λ (f : Bool). Never (settle (first_of (row 21 t ∷ row 1 (not f) ∷ [])) Done Refused))
-      (sym (beside-fits summary long)) (one_row Done refl t)
+      (sym (beside_fits_lem summary long)) (one_row Done refl t)
 
-  check-never : (t : Bool) (summary : List ℕ) → Long s summary → Never (check_answer t n (spare_in n l) (map_in n l) summary)
+  check_never : (t : Bool) (summary : List ℕ) → Long s summary → Never (check_answer t n (spare_in n l) (map_in n l) summary)
   unfolding check_answer
-  check-never t summary long =
+  check_never t summary long =
       subst (λ (f : Bool). Never (settle (first_of (row 21 t ∷ row 1 (not f) ∷ []))
       (Own (cond (is_own (map_in n l) n summary) 1 0)) Refused))
-      (sym (beside-fits summary long)) (one_row _ refl t)
+      (sym (beside_fits_lem summary long)) (one_row _ refl t)
 
-  save-never : (t : Bool) (scratch image : List ℕ) → length scratch ≡ scratch_words (length (map_in n l))
-      → Never (saved_by (saveNumber t n (spare_in n l) (map_in n l) (map entry_in l) scratch image))
-  unfolding saveNumber save_verdict save_rows save_fits
-  save-never t scratch image e =
+  save_never : (t : Bool) (scratch image : List ℕ) → length scratch ≡ scratch_words (length (map_in n l))
+      → Never (saved_by (save_number t n (spare_in n l) (map_in n l) (map entry_in l) scratch image))
+  unfolding save_number save_verdict save_rows save_fits
+  save_never t scratch image e =
       let whole : (shape_fits n (spare_in n l) (length (map_in n l)) && sheets_fit (length (map entry_in l))
       && eqb (length scratch) (scratch_words (length (map_in n l)))) ≡ true =
-      and_both _ _ (and_both _ _ fits (sheets-fit n l card k))
+      and_both _ _ (and_both _ _ fits (sheets_fit_lem n l card k))
       (eq-eqb (length scratch) (scratch_words (length (map_in n l))) e) in
       let rest : Bool = not (eqb (length image) (512 * frames_for n (length (map entry_in l)))) in
       subst (λ (f : Bool). Never (saved_by (row_number (first_of (row 21 t ∷ row 1 (not f) ∷ row 4 (not (sound (saved_of s)))
       ∷ row 12 rest ∷ []))))) (sym whole)
       (subst (λ (f : Bool). Never (saved_by (row_number (first_of (row 21 t ∷ row 1 false ∷ row 4 (not f) ∷ row 12 rest ∷ [])))))
-      (sym (kept-sound n l card k)) (save_rows_lem t rest))
+      (sym (kept_sound n l card k)) (save_rows_lem t rest))
 
   -- ---- every call
 
@@ -267,22 +267,22 @@ module _ (n : ℕ) (l : List Sheet) (card : List ℕ) (k : Matches n l card) whe
       → NeitherOneNorFour (told_of (ends (record { role = role; guided = guided }) s b c)).number
   never role guided b (public.on sheet a) j fit long = on-never b sheet role guided long a
   never role guided b (fresh m) j fit long = absurd j
-  never role guided b (search m) j fit long = search-never (turned_away role roles.search) m
-  never role guided b survey j fit long = survey-never (turned_away role roles.survey)
-  never role guided b save j fit long = save-never (turned_away role roles.save) b.scratch b.image fit
+  never role guided b (search m) j fit long = search_never (turned_away role roles.search) m
+  never role guided b survey j fit long = survey_never (turned_away role roles.survey)
+  never role guided b save j fit long = save_never (turned_away role roles.save) b.scratch b.image fit
   never role guided b (load image) j fit long = absurd j
   never role guided b public.close j fit long =
       let m : Made = record { manner = record { role = role; guided = guided }; beside = b; call = public.close } in
       let h = heard_one s m (record { joins = tt; scratch = λ e. fit; summary = λ e. long }) in
-      fed-never (end_of s m) (close role) h.0 h.1
-  never role guided b build j fit long = build-never (turned_away role roles.buildSummary) b.summary long
-  never role guided b check j fit long = check-never (turned_away role roles.checkSummary) b.summary long
+      fed_never (end_of s m) (close role) h.0 h.1
+  never role guided b build j fit long = build_never (turned_away role roles.build_summary) b.summary long
+  never role guided b check j fit long = check_never (turned_away role roles.check_summary) b.summary long
 
 module _ (n c : ℕ) (card : List ℕ) (limits : Limits n c) (room : length card ≡ 512 * n) where
-  pub never-one-nor-four : NeverOneNorFour n c card
-  never-one-nor-four made es t any runs next fit =
+  pub never_one_nor_four : NeverOneNorFour n c card
+  never_one_nor_four made es t any runs next fit =
       let w : Left n (begun c) (heard_in made es) (heard_replies made es) t =
-      left-by-any n c card limits room made es t any runs in
+      left_by_any n c card limits room made es t any runs in
       let at : state_of n (after n (begun c) (heard_in made es)) w.card_left ≡ t = sym w.state_left in
       subst (λ (x : Kept). Sized x next → NeitherOneNorFour (told_of (end_of x next)).number) at
       (λ here. never n (after n (begun c) (heard_in made es)) w.card_left w.kept_left next.manner.role

@@ -31,8 +31,8 @@ use Rattle.ledger.specs.Pauses.{NotFor, NoneFor, PausedAndResumed}
 use Rattle.ledger.specs.Lists.{Response, told_by, response_of, heard_in, heard_replies}
 use Rattle.ledger.proofs.Plain.{Step}
 use Rattle.ledger.proofs.Closed.{closed_at}
-use Rattle.ledger.proofs.Demand.{Left, answered, lists_left, left-by-any}
-use Rattle.ledger.proofs.Feeding.{heard, all-heard}
+use Rattle.ledger.proofs.Demand.{Left, answered, lists_left, left_by_any}
+use Rattle.ledger.proofs.Feeding.{heard, all_heard}
 use Rattle.ledger.proofs.Fresh.{Limits}
 use Rattle.ledger.proofs.Sheets.{holding}
 
@@ -166,19 +166,19 @@ module _ (n : ℕ) (l : List Sheet) (i s : ℕ) (xs : List (List ℕ)) where
 -- the answer to a call, and what one more call leaves, from a state that a list has left
 module _ {n : ℕ} {l : List Sheet} {calls : List Call} {replies : List Response} {t : Kept} (w : Left n l calls replies t)
     (c : Call) (reply : Response) (u : Kept) (st : Step t c reply u) where
-  pub told-after : told_by reply ≡ told_in n (after n l calls) c
-  told-after = answered n (after n l calls) w.card_left w.kept_left c reply u
+  pub told_after : told_by reply ≡ told_in n (after n l calls) c
+  told_after = answered n (after n l calls) w.card_left w.kept_left c reply u
       (subst (λ (x : Kept). Step x c reply u) w.state_left st)
 
   pub then : Left n (after n l calls) (c ∷ []) (reply ∷ []) u
   then = lists_left n (c ∷ []) (reply ∷ []) (after n l calls) w.card_left t u w.kept_left w.state_left (u, st, refl)
 
 module _ (n c : ℕ) (card : List ℕ) (limits : Limits n c) (room : length card ≡ 512 * n) where
-  pub paused-and-resumed : PausedAndResumed n c card
-  paused-and-resumed made es i t stopped resumed course s xs e =
+  pub paused_and_resumed : PausedAndResumed n c card
+  paused_and_resumed made es i t stopped resumed course s xs e =
       let calls : List Call = heard_in made es in
       let w : Left n (begun c) calls (heard_replies made es) t =
-      left-by-any n c card limits room made es t course.listed course.runs in
+      left_by_any n c card limits room made es t course.listed course.runs in
       let l : List Sheet = after n (begun c) calls in
       let role : ℕ = course.pauser.role in
       let p = pauses n l i s xs e role course.may_pause in
@@ -194,7 +194,7 @@ module _ (n c : ℕ) (card : List ℕ) (limits : Limits n c) (room : length card
       course.goes_on) in
       let l'' : List Sheet = after n l' between in
       let there = after_elsewhere n between l' i
-      (all-heard (NotFor i) (λ role sheet limits k start p h. h) course.between course.came course.elsewhere) in
+      (all_heard (NotFor i) (λ role sheet limits k start p h. h) course.between course.came course.elsewhere) in
       let s' : ℕ = there.0 in
       let still : sheet_at l'' i ≡ PausedWith there.0 xs = there.1 ∙ ap (restart_in there.0) p.1 in
       let by : ℕ = course.resumer.role in
@@ -203,13 +203,13 @@ module _ (n c : ℕ) (card : List ℕ) (limits : Limits n c) (room : length card
       (ap response_of course.resumes, ap kept_after course.resumes) in
       let taken-up = then waits (on by i (change resume)) (response_of resumed) (kept_after resumed) resuming in
       record {
-        pause_done = told-after w (on role i (change pause)) (response_of stopped) (kept_after stopped) pausing ∙ p.0;
-        resume_done = told-after waits (on by i (change resume)) (response_of resumed) (kept_after resumed) resuming ∙ r.0;
+        pause_done = told_after w (on role i (change pause)) (response_of stopped) (kept_after stopped) pausing ∙ p.0;
+        resume_done = told_after waits (on by i (change resume)) (response_of resumed) (kept_after resumed) resuming ∙ r.0;
         shows_the_same = λ m b q buffer.
-            told-after w (on m.role i (show q buffer)) (response_of (ends m t b (public.on i (show q buffer))))
+            told_after w (on m.role i (show q buffer)) (response_of (ends m t b (public.on i (show q buffer))))
             (kept_after (ends m t b (public.on i (show q buffer)))) (refl, refl)
             ∙ shows n l i s xs e m.role q buffer
-            ∙ sym (told-after taken-up (on m.role i (show q buffer))
+            ∙ sym (told_after taken-up (on m.role i (show q buffer))
             (response_of (ends m (kept_after resumed) b (public.on i (show q buffer))))
             (kept_after (ends m (kept_after resumed) b (public.on i (show q buffer)))) (refl, refl)
             ∙ shows n (step_in n l'' (on by i (change resume))) i s' xs r.1 m.role q buffer);

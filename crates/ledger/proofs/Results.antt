@@ -172,7 +172,7 @@ module _ (n : ℕ) (l : List Sheet) (card : List ℕ) where
       -- the blocks that it has now, and what is noted of its places and of no other sheet's
       pub moved : length_in sheet + (deed_in n l (on role i a)).returns ≡ length_in (sheet_at l i) + (deed_in n l (on role i a)).grants
       pub noted_here : (p : ℕ) (m : Place) → Has p m (sheet_at l i) → Has p (noted i p m (note_of (on role i a))) sheet
-      pub noted-there : (j p : ℕ) (m : Place) → j ≢ i → noted j p m (note_of (on role i a)) ≡ m
+      pub noted_there : (j p : ℕ) (m : Place) → j ≢ i → noted j p m (note_of (on role i a)) ≡ m
 
     pub one-sheet : (role i : ℕ) (a : Ask) (end : End) → OneSheet role i a end → Done (on role i a) end
     one-sheet role i a end o = record {
@@ -193,7 +193,7 @@ module _ (n : ℕ) (l : List Sheet) (card : List ℕ) where
         left : ending (told (record { blocks = n; free = o.spare }) o.answer) o.marks (set (map entry_in l) i o.entry)
             o.card_left (deed_in n l (on role i a)).left
             ≡ end_in (set l i o.sheet) o.card_left o.answer (deed_in n l (on role i a)).left
-        left = λ t. ending (told (record { blocks = n; free = o.changed.spare_left t }) o.answer) (o.changed.map_left t)
+        left = λ t. ending (told (record { blocks = n; free = o.changed.spare_left t }) o.answer) (o.changed.map_left_lem t)
             (stored t) o.card_left (deed_in n l (on role i a)).left
 
         go : (j p : ℕ) (m : Place) → Has p m (sheet_at l j) → (t : Bool) → eqb j i ≡ t
@@ -203,7 +203,7 @@ module _ (n : ℕ) (l : List Sheet) (card : List ℕ) where
             (o.noted_here p m (subst (λ (i' : ℕ). Has p m (sheet_at l i')) (eqb-true j i q) was))
         go j p m was false q = rw (
           get_or-set_other l i j o.sheet Absent (eqb-false j i q),
-          o.noted-there j p m (eqb-false j i q),
+          o.noted_there j p m (eqb-false j i q),
         ) was
 
     -- ---- an accepted call that changes nothing

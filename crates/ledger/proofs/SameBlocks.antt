@@ -13,8 +13,8 @@ use Rattle.ledger.specs.Ledger.{Place, Blank, Sheet, Absent, Paused, PausedWith,
 use Rattle.ledger.specs.Ledger.{length_in, places_in, sheet_at, spare_in, change_in}
 use Rattle.ledger.specs.Claim.{entry_in}
 use Rattle.ledger.proofs.Agreement.{map_in, Matches}
-use Rattle.ledger.proofs.Keeping.{Changed, keep-places}
-use Rattle.ledger.proofs.Sheets.{needs, holding, Has, Fine, sound-same}
+use Rattle.ledger.proofs.Keeping.{Changed, keep_places}
+use Rattle.ledger.proofs.Sheets.{needs, holding, Has, Fine, sound_same}
 
 -- sheet x has the blocks and the places of y, and an entry with this mark
 pub record SameBlocks (mark : ℕ) (x y : Sheet) : Type 0 where
@@ -66,11 +66,11 @@ has_same same p m was h =
     ap (λ (ps : List Place). get_or ps p Blank) same.places ∙ was (subst (λ (b : Bool). b ≡ true) same.holds h)
 
 module _ (n : ℕ) (l : List Sheet) (card : List ℕ) (k : Matches n l card) (i : ℕ) (lt : i < length l) where
-  pub keep-blocks : {mark : ℕ} (x : Sheet) → SameBlocks mark x (sheet_at l i) → Changed n l i x (spare_in n l) (map_in n l) card
-  keep-blocks x same =
+  pub keep_blocks : {mark : ℕ} (x : Sheet) → SameBlocks mark x (sheet_at l i) → Changed n l i x (spare_in n l) (map_in n l) card
+  keep_blocks x same =
       let was : Fine n (sheet_at l i) = k.sound.fine i in
-      keep-places n l card k i lt x
-      (sound-same n l k.sound i lt x
+      keep_places n l card k i lt x
+      (sound_same n l k.sound i lt x
       (record {
         inside = omega (arith, was.inside, same.starts, same.lasts);
         needed = omega (arith, was.needed, same.needed, same.lasts);

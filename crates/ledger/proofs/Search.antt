@@ -13,7 +13,7 @@ use Rattle.map_blocks.specs.declared.Found.TheVariants.{At, Nothing}
 use lib.Dec.{eqb}
 use borrow.Author.Tests.{eqb-true, eq-eqb}
 use Rattle.laws.proofs.Bools.{and_left, and_right, and_both, not_true, order, clash}
-use Rattle.map_blocks.proofs.Least.{least-passes, least-below, none_passes}
+use Rattle.map_blocks.proofs.Least.{least_passes, least_below, none_passes}
 use Rattle.catalogue_standings.specs.Searches.{start_at, none}
 use Rattle.catalogue_standings.specs.Rows.{Verdict, accepted, refused, settle}
 use Rattle.ledger.specs.Answers.{refused_with, Told, done}
@@ -23,30 +23,30 @@ use Rattle.ledger.specs.Claim.{Searched}
 module _ (number : ℕ) (some : 0 < number) (passes : ℕ → Bool) (beside : ℕ → ℕ) (n : ℕ)
     (beyond : (s : ℕ) → n ≤ s → passes s ≡ false) where
   -- what is told, by what the search found
-  abbrev pub verdictBy : Found → Verdict
-  verdictBy o = cond (none o) (refused number) accepted
+  abbrev pub verdict_by : Found → Verdict
+  verdict_by o = cond (none o) (refused number) accepted
 
-  abbrev pub tellsBy : Verdict → Found → ℕ → Told
-  tellsBy v o p = settle v (done (start_at o ∷ beside (start_at o) ∷ []) []) (refused_with [] p)
+  abbrev pub tells_by : Verdict → Found → ℕ → Told
+  tells_by v o p = settle v (done (start_at o ∷ beside (start_at o) ∷ []) []) (refused_with [] p)
 
-  pub searched : (v : Verdict) (p : ℕ) → v ≡ verdictBy (least passes 0 n)
-      → Searched number passes beside (tellsBy v (least passes 0 n) p)
-  searched v p is = subst (λ (w : Verdict). Searched number passes beside (tellsBy w (least passes 0 n) p)) (sym is)
+  pub searched : (v : Verdict) (p : ℕ) → v ≡ verdict_by (least passes 0 n)
+      → Searched number passes beside (tells_by v (least passes 0 n) p)
+  searched v p is = subst (λ (w : Verdict). Searched number passes beside (tells_by w (least passes 0 n) p)) (sym is)
       (go (least passes 0 n) refl)
     where
-      found : (s : ℕ) → least passes 0 n ≡ At s → Searched number passes beside (tellsBy accepted (At s) p)
+      found : (s : ℕ) → least passes 0 n ≡ At s → Searched number passes beside (tells_by accepted (At s) p)
       found s e =
-          let fits : passes s ≡ true = (least-passes passes 0 n s e).test in
+          let fits : passes s ≡ true = (least_passes passes 0 n s e).test in
           record {
             exactly = (λ h. absurd (omega (arith, h, some)), λ h. absurd (clash (passes s) fits (h s)));
             otherwise = λ h. (s, refl, fits, λ m fm. at_most m fm (order m s));
           }
         where
           at_most : (m : ℕ) → passes m ≡ true → (m < s) ⊎ (s ≤ m) → s ≤ m
-          at_most m fm (inl h) = absurd (clash (passes m) fm (least-below passes 0 n s e m (omega arith) h))
+          at_most m fm (inl h) = absurd (clash (passes m) fm (least_below passes 0 n s e m (omega arith) h))
           at_most m fm (inr h) = h
 
-      nothing : least passes 0 n ≡ Nothing → Searched number passes beside (tellsBy (refused number) Nothing p)
+      nothing : least passes 0 n ≡ Nothing → Searched number passes beside (tells_by (refused number) Nothing p)
       nothing e = record {
         exactly = (λ h s. no_fit s (order s n), λ h. refl);
         otherwise = λ h. absurd (h refl);
@@ -57,30 +57,30 @@ module _ (number : ℕ) (some : 0 < number) (passes : ℕ → Bool) (beside : �
           no_fit s (inr h) = beyond s h
 
       go : (o : Found) → least passes 0 n ≡ o
-          → Searched number passes beside (tellsBy (verdictBy (least passes 0 n)) (least passes 0 n) p)
-      go (At s) e = subst (λ (o : Found). Searched number passes beside (tellsBy (verdictBy o) o p)) (sym e) (found s e)
-      go Nothing e = subst (λ (o : Found). Searched number passes beside (tellsBy (verdictBy o) o p)) (sym e) (nothing e)
+          → Searched number passes beside (tells_by (verdict_by (least passes 0 n)) (least passes 0 n) p)
+      go (At s) e = subst (λ (o : Found). Searched number passes beside (tells_by (verdict_by o) o p)) (sym e) (found s e)
+      go Nothing e = subst (λ (o : Found). Searched number passes beside (tells_by (verdict_by o) o p)) (sym e) (nothing e)
 
 -- the one start that is asked for, which passes or not
 module _ (number : ℕ) (some : 0 < number) (p : ℕ → Bool) (beside : ℕ → ℕ) (start : ℕ) where
   abbrev pub only : ℕ → Bool
   only s = eqb s start && p s
 
-  abbrev pub tellsAt : Verdict → ℕ → Told
-  tellsAt v place = settle v (done (start ∷ beside start ∷ []) []) (refused_with [] place)
+  abbrev pub tells_at : Verdict → ℕ → Told
+  tells_at v place = settle v (done (start ∷ beside start ∷ []) []) (refused_with [] place)
 
   pub asked : (v : Verdict) (place : ℕ) → v ≡ cond (not (p start)) (refused number) accepted
-      → Searched number only beside (tellsAt v place)
+      → Searched number only beside (tells_at v place)
   asked v place is =
-      subst (λ (w : Verdict). Searched number only beside (tellsAt w place)) (sym is) (go (p start) refl)
+      subst (λ (w : Verdict). Searched number only beside (tells_at w place)) (sym is) (go (p start) refl)
     where
       here : (s : ℕ) → only s ≡ true → s ≡ start
       here s e = eqb-true s start (and_left (eqb s start) (p s) e)
 
       go : (t : Bool) → p start ≡ t
-          → Searched number only beside (tellsAt (cond (not (p start)) (refused number) accepted) place)
+          → Searched number only beside (tells_at (cond (not (p start)) (refused number) accepted) place)
       go true q =
-          subst (λ (t : Bool). Searched number only beside (tellsAt (cond (not t) (refused number) accepted) place)) (sym q)
+          subst (λ (t : Bool). Searched number only beside (tells_at (cond (not t) (refused number) accepted) place)) (sym q)
           (record {
             exactly = (λ h. absurd (omega (arith, h, some)), λ h. absurd (clash (only start) fits (h start)));
             otherwise = λ h. (start, refl, fits, λ m e. omega (arith, here m e));
@@ -89,7 +89,7 @@ module _ (number : ℕ) (some : 0 < number) (p : ℕ → Bool) (beside : ℕ →
           fits : only start ≡ true
           fits = and_both (eqb start start) (p start) (eq-eqb start start refl) q
       go false q =
-          subst (λ (t : Bool). Searched number only beside (tellsAt (cond (not t) (refused number) accepted) place)) (sym q)
+          subst (λ (t : Bool). Searched number only beside (tells_at (cond (not t) (refused number) accepted) place)) (sym q)
           (record {
             exactly = (
               λ h s. not_true (only s) (λ e. clash (p start)

@@ -26,10 +26,10 @@ use Rattle.ledger.specs.Ledger.{start_in, below_in, restart_in, deed_in, step_in
 use Rattle.ledger.specs.Lists.{Made, end_of, ByAny, calls_in, replies_to, fresh_state}
 use Rattle.ledger.specs.Shares.{GoesWith, Unchanging, WithinLimits, Throughout, NoWingOver}
 use Rattle.ledger.proofs.Agreement.{state_of, Matches}
-use Rattle.ledger.proofs.Demand.{Left, lists_left, kept-begun, state-begun, held_begun}
+use Rattle.ledger.proofs.Demand.{Left, lists_left, kept_begun, state_begun, held_begun}
 use Rattle.ledger.proofs.Feeding.{heard_from, heard_one, all_from}
 use Rattle.ledger.proofs.Fresh.{Limits}
-use Rattle.ledger.proofs.Wings.{wing-same, wing_part, wing_more, wing_other, wing_map}
+use Rattle.ledger.proofs.Wings.{wing_same, wing_part, wing_more, wing_other, wing_map}
 use Rattle.ledger.proofs.Closed.{same_length}
 
 -- ---- the length of a sheet after a call
@@ -151,14 +151,14 @@ stepped n limits l w c same = go (verdict_in n l c) refl
 shows : (n : ℕ) (limits : List ℕ) (l : List Sheet) (card : List ℕ) → Matches n l card → InLedger limits l
     → WithinLimits limits (state_of n l card)
 shows n limits l card k w i =
-    let same = wing-same n l k.high (λ j. omega (arith, (k.sound.fine j).inside)) i in omega (arith, same, w i)
+    let same = wing_same n l k.high (λ j. omega (arith, (k.sound.fine j).inside)) i in omega (arith, same, w i)
 
 -- a call with these limits leaves them kept, and so does a list
 module _ (n : ℕ) (limits : List ℕ) where
-  after-calls : (calls : List Call) (l : List Sheet) → InLedger limits l → Unchanging limits calls
+  after_calls : (calls : List Call) (l : List Sheet) → InLedger limits l → Unchanging limits calls
       → InLedger limits (after n l calls)
-  after-calls [] l w same = w
-  after-calls (c ∷ calls) l w same = after-calls calls (step_in n l c) (stepped n limits l w c same.0) same.1
+  after_calls [] l w same = w
+  after_calls (c ∷ calls) l w same = after_calls calls (step_in n l c) (stepped n limits l w c same.0) same.1
 
   throughout : (made : List Made) (l : List Sheet) (card : List ℕ) (s : Kept) → Matches n l card → s ≡ state_of n l card
       → InLedger limits l → ByAny s made → Unchanging limits (calls_in made) → Throughout (WithinLimits limits) s made
@@ -170,13 +170,13 @@ module _ (n : ℕ) (limits : List ℕ) where
       lists_left n calls (replies_to (end_of s m) calls) l card s (kept_after (end_of s m)) k e (heard_one s m any.0) in (
         subst (WithinLimits limits) (sym e) (shows n limits l card k w),
         throughout made (after n l calls) left.card_left (kept_after (end_of s m)) left.kept_left left.state_left
-            (after-calls calls l w unchanged.0) any.1 unchanged.1,
+            (after_calls calls l w unchanged.0) any.1 unchanged.1,
       )
 
 -- from a fresh card, with n and c within their bounds and a card of 512·n bytes
 pub no_wing_over : (n c : ℕ) (card : List ℕ) → Limits n c → length card ≡ 512 * n → NoWingOver n c card
 no_wing_over n c card b room made limits any same =
     throughout n limits made (begun c) card (fresh_state n c card)
-    (kept-begun n c card b.n_low b.n_high b.c_low b.c_high room)
-    (state-begun n c card b.n_low b.n_high b.c_low b.c_high room)
+    (kept_begun n c card b.n_low b.n_high b.c_low b.c_high room)
+    (state_begun n c card b.n_low b.n_high b.c_low b.c_high room)
     (λ j. omega (arith, wing_part (begun c) j, held_begun c)) any same

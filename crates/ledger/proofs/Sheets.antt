@@ -16,7 +16,7 @@ use Rattle.map_blocks.specs.Blocks.{fit}
 use Rattle.map_blocks.specs.Maps.{in_run}
 use Rattle.laws.proofs.Bools.{and_right}
 use Rattle.map_blocks.proofs.Fits.{fit_is}
-use Rattle.map_blocks.proofs.Runs.{all-elim}
+use Rattle.map_blocks.proofs.Runs.{all_elim}
 use Rattle.catalogue_standings.specs.Standings.{is_absent, is_paused, is_open, is_complete}
 use Rattle.refusals.proofs.Room.{fit_inside}
 use Rattle.ledger.specs.Ledger.{Place, Blank, Payload, Sheet, Absent, Paused, PausedWith, Open, Complete, standing_in}
@@ -55,7 +55,7 @@ was_complete (Complete s xs) a p o = (s, xs, refl)
 pub fit_free : (n : ℕ) (l : List Sheet) (k s : ℕ) → fit (free_in n l) 0 n 1 k s ≡ true → (b : ℕ) → s ≤ b → b < s + k
     → cover l b ≡ 0
 fit_free n l k s h b p q =
-    eqb-true (cover l b) 0 (and_right (ltb b n) _ (all-elim (free_in n l) s k (fit_is (free_in n l) 0 n 1 k s h).free b p q))
+    eqb-true (cover l b) 0 (and_right (ltb b n) _ (all_elim (free_in n l) s k (fit_is (free_in n l) 0 n 1 k s h).free b p q))
 
 -- ---- a sheet by itself
 
@@ -147,25 +147,25 @@ set_cases P l i x h new old j = go (eqb j i) refl
     go false e = rw (get_or-set_other l i j x Absent (eqb-false j i e)) (old j (eqb-false j i e))
 
 module _ (n : ℕ) (l : List Sheet) (ok : Sound n l) (i : ℕ) (lt : i < length l) where
-  sound-set : (x : Sheet) → Fine n x → ((b : ℕ) → cover l b + covers x b ≤ 1 + covers (sheet_at l i) b) → Sound n (set l i x)
-  sound-set x f c = record {
+  sound_set : (x : Sheet) → Fine n x → ((b : ℕ) → cover l b + covers x b ≤ 1 + covers (sheet_at l i) b) → Sound n (set l i x)
+  sound_set x f c = record {
     once = λ b. omega (arith, cover_set l i x b lt, c b);
     fine = set_cases (λ j y. Fine n y) l i x lt f (λ j ne. ok.fine j);
   }
 
   -- a sheet that covers nothing
   pub sound_none : (x : Sheet) → Fine n x → length_in x ≡ 0 → Sound n (set l i x)
-  sound_none x f e = sound-set x f (λ b. omega (arith, covers_out x b (λ q. omega (arith, q.0, q.1)), ok.once b))
+  sound_none x f e = sound_set x f (λ b. omega (arith, covers_out x b (λ q. omega (arith, q.0, q.1)), ok.once b))
 
   -- a sheet that covers what it did
-  pub sound-same : (x : Sheet) → Fine n x → ((b : ℕ) → covers x b ≡ covers (sheet_at l i) b) → Sound n (set l i x)
-  sound-same x f e = sound-set x f (λ b. omega (arith, e b, ok.once b))
+  pub sound_same : (x : Sheet) → Fine n x → ((b : ℕ) → covers x b ≡ covers (sheet_at l i) b) → Sound n (set l i x)
+  sound_same x f e = sound_set x f (λ b. omega (arith, e b, ok.once b))
 
   -- a reserve at a fit
   pub reserved : (k s : ℕ) → 0 < k → fit (free_in n l) 0 n 1 k s ≡ true → Sound n (set l i (Open s (replicate k Blank)))
   reserved k s pos f =
       let e : length (replicate k Blank) ≡ k = length-replicate k Blank in
-      sound-set (Open s (replicate k Blank))
+      sound_set (Open s (replicate k Blank))
       (record { inside = omega (arith, fit_inside (free_in n l) n k s f); needed = omega arith; sized = sized_blanks k })
       (λ b. go b (in_run s (length (replicate k Blank)) b) refl)
     where
@@ -184,7 +184,7 @@ module _ (n : ℕ) (l : List Sheet) (ok : Sound n l) (i : ℕ) (lt : i < length 
     pub grown : (m : ℕ) → 0 < m → fit (free_in n l) 0 n 1 m (s + length ps) ≡ true
         → Sound n (set l i (Open s (ps ++ replicate m Blank)))
     grown m pos f =
-        sound-set (Open s (ps ++ replicate m Blank))
+        sound_set (Open s (ps ++ replicate m Blank))
         (record {
           inside = omega (arith, wide, fit_inside (free_in n l) n m (s + length ps) f);
           needed = omega (arith, wide);
@@ -211,7 +211,7 @@ module _ (n : ℕ) (l : List Sheet) (ok : Sound n l) (i : ℕ) (lt : i < length 
     pub completed : map Payload (map bytes_of ps) ≡ ps → Sound n (set l i (Complete s (map bytes_of ps)))
     completed full =
         let w : length (map bytes_of ps) ≡ length ps = length-map ps bytes_of in
-        sound-same (Complete s (map bytes_of ps))
+        sound_same (Complete s (map bytes_of ps))
         (record {
           inside = omega (arith, before-it.inside);
           needed = omega (arith, before-it.needed);
@@ -222,7 +222,7 @@ module _ (n : ℕ) (l : List Sheet) (ok : Sound n l) (i : ℕ) (lt : i < length 
     pub putting : (p : ℕ) (payload : List ℕ) → length payload ≡ 496 → Sound n (set l i (Open s (set ps p (Payload payload))))
     putting p payload len =
         let w : length (set ps p (Payload payload)) ≡ length ps = length-set ps p (Payload payload) in
-        sound-same (Open s (set ps p (Payload payload)))
+        sound_same (Open s (set ps p (Payload payload)))
         (record {
           inside = omega (arith, before-it.inside);
           needed = omega (arith, before-it.needed);

@@ -49,8 +49,8 @@ module _ (n : ℕ) (l : List Sheet) (i p : ℕ) (buffer : List ℕ) where
       ∙ payload_at o.1 q (subst (λ (y : Sheet). q < length_in y) o.2 (inside h.3 q le))
 
   -- so that no row 4 for their blocks holds
-  pub sound-there : Passed → (q : ℕ) → q ≤ p → not ((view_in n l i).sound q) ≡ false
-  sound-there h q le = ap (λ (t : Bool). not (not t)) (filled h q le)
+  pub sound_there : Passed → (q : ℕ) → q ≤ p → not ((view_in n l i).sound q) ≡ false
+  sound_there h q le = ap (λ (t : Bool). not (not t)) (filled h q le)
 
 module _ (n : ℕ) (l : List Sheet) (card : List ℕ) (k : Matches n l card) (role i p : ℕ) (buffer : List ℕ) (a : Ask) where
   abbrev call : Call
@@ -74,8 +74,8 @@ module _ (n : ℕ) (l : List Sheet) (card : List ℕ) (k : Matches n l card) (ro
     pub ends_so : end_of (state_of n l card) call ≡ ends (verdict_of (on-card n l card k (turned_in role a) i) (table.on i a))
     pub own : OwnPlaces n l role i a
     pub never : NeverRows n l card k role i a
-    pub no-row-0 : says 0 (rows_in n l call) ≡ false
-    pub no-row-9 : says 9 (rows_in n l call) ≡ false
+    pub no_row_0 : says 0 (rows_in n l call) ≡ false
+    pub no_row_9 : says 9 (rows_in n l call) ≡ false
     -- it does so in every ledger: what is noted of a call is read in the one without sheets
     pub does : (n : ℕ) (l : List Sheet) → deed_in n l call ≡ leaves l and fills buffer (bytes_of (place_at l i p))
     pub passed : verdict_in n l call ≡ accepted → Passed n l i p buffer
@@ -93,7 +93,7 @@ module _ (n : ℕ) (l : List Sheet) (card : List ℕ) (k : Matches n l card) (ro
       ∙ ap (λ (bytes : List ℕ). filling bytes accepted) (payload_block i p (place_at l i p) full ((k.sound.fine i).sized p))))
       (rw (s.does n l) (refl, refl))
 
-  pub shows-place : ShowsPlace → Result n l card call (verdict_in n l call)
-  shows-place s =
-      result-of n l card k call ends (s.ends_so ∙ ap ends (verdict-on n l card k role i a s.own s.never)) s.no-row-0
-      (accepts s) (plain_back n l card k call _ s.no-row-9 (λ number. rw (s.does n l))) (rw (s.does n l) tt)
+  pub shows_place : ShowsPlace → Result n l card call (verdict_in n l call)
+  shows_place s =
+      result-of n l card k call ends (s.ends_so ∙ ap ends (verdict-on n l card k role i a s.own s.never)) s.no_row_0
+      (accepts s) (plain_back n l card k call _ s.no_row_9 (λ number. rw (s.does n l))) (rw (s.does n l) tt)

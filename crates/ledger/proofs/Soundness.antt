@@ -11,7 +11,7 @@ use borrow.Author.Tests.{le-leb, lt-ltb, le-ltb, eq-eqb}
 use Rattle.map_blocks.specs.Blocks.{free}
 use Rattle.map_blocks.specs.Maps.{in_state}
 use Rattle.laws.proofs.Bools.{and_both}
-use Rattle.map_blocks.proofs.Runs.{all-intro}
+use Rattle.map_blocks.proofs.Runs.{all_intro}
 use Rattle.survey.specs.Survey.{counts_of, free_of, blocks}
 use Rattle.catalogue_standings.specs.Standings.{standing_of, is_damaged}
 use Rattle.image_soundness.specs.Sound as saved
@@ -48,9 +48,9 @@ module _ (n : ℕ) (l : List Sheet) (card : List ℕ) (k : Matches n l card) whe
       ap (λ (c : ℕ). in_state (map_in n l) (eqb c 0) b) (same_cover l b)
       ∙ ap (λ (t : Bool). cond (eqb (cover l b) 0) t (not t)) here ∙ as_it_is (eqb (cover l b) 0)
 
-  pub kept-sound : saved.sound (saved_of (state_of n l card)) ≡ true
+  pub kept_sound : saved.sound (saved_of (state_of n l card)) ≡ true
   unfolding saved.sound counts_of
-  kept-sound =
+  kept_sound =
       and_both _ _
       (and_both _ _
       (and_both _ _
@@ -58,8 +58,8 @@ module _ (n : ℕ) (l : List Sheet) (card : List ℕ) (k : Matches n l card) whe
       (all_undamaged n (free (map_in n l)) l
       (λ i lt. ap (λ e. is_damaged (standing_of n (free (map_in n l)) e)) (sym (entry_at_lem l i lt))
       ∙ ap is_damaged (stands_same n l card k false i lt) ∙ sheet_undamaged (sheet_at l i)))
-      (all-intro _ 0 n (λ b a lt. ap (λ (c : ℕ). leb c 1) (same_cover l b) ∙ le-leb (cover l b) 1 (k.sound.once b))))
-      (all-intro _ 0 n (λ b a lt. below b (omega arith))))
-      (all-intro _ n (64 * length (map_in n l) - n)
+      (all_intro _ 0 n (λ b a lt. ap (λ (c : ℕ). leb c 1) (same_cover l b) ∙ le-leb (cover l b) 1 (k.sound.once b))))
+      (all_intro _ 0 n (λ b a lt. below b (omega arith))))
+      (all_intro _ n (64 * length (map_in n l) - n)
       (λ b ge lt. ap not (reads b ∙ ap (λ (t : Bool). t && eqb (cover l b) 0) (le-ltb b n ge)))))
       (eq-eqb (spare_in n l) _ (ap (λ (f : ℕ → Bool). free_of (blocks f 0 n)) (sym (free_map n l))))

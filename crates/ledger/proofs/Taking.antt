@@ -24,7 +24,7 @@ use Rattle.ledger.specs.Ledger.{Begun, deed_in}
 use Rattle.ledger.specs.Claim.{note_of}
 use Rattle.ledger.proofs.Plain.{End}
 use Rattle.ledger.proofs.Agreement.{map_in, Matches}
-use Rattle.ledger.proofs.Keeping.{keep-reserve}
+use Rattle.ledger.proofs.Keeping.{keep_reserve}
 use Rattle.ledger.proofs.Listed.{spared}
 use Rattle.ledger.proofs.Results as results
 use Rattle.ledger.proofs.Results.{outEnd, one-sheet}
@@ -63,29 +63,29 @@ module _ (n : ℕ) (l : List Sheet) (card : List ℕ) (k : Matches n l card) (ro
 
   -- the deed of the call is `takes_at`
   pub record Takes (a : Ask) : Type 0 where
-    pub ledger-is : (deed_in n l (on role i a)).ledger ≡ set l i (Open start (replicate m Blank))
-    pub values-are : (deed_in n l (on role i a)).values ≡ start ∷ space_in n l start ∷ []
-    pub grants-are : (deed_in n l (on role i a)).grants ≡ m
-    pub returns-are : (deed_in n l (on role i a)).returns ≡ 0
+    pub ledger_is : (deed_in n l (on role i a)).ledger ≡ set l i (Open start (replicate m Blank))
+    pub values_are : (deed_in n l (on role i a)).values ≡ start ∷ space_in n l start ∷ []
+    pub grants_are : (deed_in n l (on role i a)).grants ≡ m
+    pub returns_are : (deed_in n l (on role i a)).returns ≡ 0
     pub left_is : (deed_in n l (on role i a)).left ≡ []
-    pub note-is : note_of (on role i a) ≡ Begun i
+    pub note_is : note_of (on role i a) ≡ Begun i
 
   pub takes : (a : Ask) → Takes a → Shown → results.Done n l card (on role i a) (taken (free_in n l) accepted)
   takes a d s =
       one-sheet n l card k role i a (taken (free_in n l) accepted) (record {
         inside = s.inside;
         sheet = Open start (replicate m Blank);
-        becomes = d.ledger-is;
+        becomes = d.ledger_is;
         spare = spare_in n l - m;
         marks = marked (map_in n l) start m false;
         card_left = zeroed card start m;
         entry = entry_of open_mark start m;
         answer = start_with_space (free_in n l) n start;
-        changed = keep-reserve n l card k i s.inside m start s.gone s.some s.fits;
+        changed = keep_reserve n l card k i s.inside m start s.gone s.some s.fits;
         stored = ap (entry_of open_mark start) (sym (length-replicate m Blank));
         ends_so = rw d.left_is refl;
-        says_so = (refl, sym d.values-are);
-        moved = omega (arith, length-replicate m Blank, ap length_in s.gone, d.grants-are, d.returns-are);
-        noted_here = λ p q was holds. rw (d.note-is, eq-eqb i i refl) (blanks_at m p);
-        noted-there = λ j p q ne. rw (d.note-is, ne_eqb j i ne) refl;
+        says_so = (refl, sym d.values_are);
+        moved = omega (arith, length-replicate m Blank, ap length_in s.gone, d.grants_are, d.returns_are);
+        noted_here = λ p q was holds. rw (d.note_is, eq-eqb i i refl) (blanks_at m p);
+        noted_there = λ j p q ne. rw (d.note_is, ne_eqb j i ne) refl;
       })

@@ -10,7 +10,7 @@ use borrow.Author.Tests.{lt-leb, eq-eqb}
 use Rattle.laws.proofs.Bools.{clash}
 use Rattle.calendar.specs.Calendar.{Date, date_exists, day_number}
 use Rattle.calendar.specs.Term.{Term, term_of, in_term}
-use Rattle.calendar.proofs.Terms.{term-first, term-last, term-holds}
+use Rattle.calendar.proofs.Terms.{term_first, term_last, term_holds}
 use Rattle.blocks_of_card.specs.Card.{block_of}
 use Rattle.block_seals.specs.Sealed.{payload_of}
 use Rattle.catalogue.specs.Entries.{entry_at}
@@ -24,7 +24,7 @@ use Rattle.roles.specs.Roles.{may, turned_away}
 use Rattle.refusals.specs.Table as table
 use Rattle.refusals.specs.Table.{show, show_dated, lowest_blank, table_of}
 use Rattle.refusals.specs.Views.{view_on}
-use Rattle.refusals.proofs.ShowDated.{accepted-too}
+use Rattle.refusals.proofs.ShowDated.{accepted_too}
 use Rattle.card.specs.Calls.{Kept, lent_to, told}
 use Rattle.card.specs.Public as public
 use Rattle.card.specs.Public.{Manner, Beside, End, telling, ends, kept_after}
@@ -35,9 +35,9 @@ use Rattle.ledger.specs.Answers.{Told, done, refused_with, told_in}
 use Rattle.ledger.specs.Lists.{response_of, told_of, heard_in, heard_replies}
 use Rattle.ledger.specs.Terms.{term_in, ShowsInTerm, ShowsExactlyInItsTerm, DoesWhatShowDoes}
 use Rattle.ledger.proofs.Agreement.{Matches}
-use Rattle.ledger.proofs.Demand.{Left, left-by-any, place_of}
+use Rattle.ledger.proofs.Demand.{Left, left_by_any, place_of}
 use Rattle.ledger.proofs.Fresh.{Limits}
-use Rattle.ledger.proofs.Pauses.{held_listed, told-after}
+use Rattle.ledger.proofs.Pauses.{held_listed, told_after}
 use Rattle.catalogue_standings.proofs.Rows.{clear, never_says}
 use Rattle.ledger.proofs.Sheets.{holding}
 
@@ -89,26 +89,26 @@ module _ (n : ℕ) (l : List Sheet) (card : List ℕ) (k : Matches n l card) (i 
         by : (t : Bool) → in_term (term_in xs) day ≡ t → r ≡ cond t (done [] (get_or xs p [])) outside
             → ShowsInTerm xs p day buffer r
         by true h same = record {
-          exactly = ((λ so. (term-first (term_in xs) day h, term-last (term_in xs) day h)), (λ within. same));
-          otherwise = λ none. absurd (none (term-first (term_in xs) day h, term-last (term_in xs) day h));
+          exactly = ((λ so. (term_first (term_in xs) day h, term_last (term_in xs) day h)), (λ within. same));
+          otherwise = λ none. absurd (none (term_first (term_in xs) day h, term_last (term_in xs) day h));
         }
         by false h same = record {
           exactly = (
             (λ so. absurd (let z : ◌≡◌ {A = ℕ} 20 0 = ap (λ (x : Told). x.number) (sym same ∙ so) in omega arith)),
-            (λ within. absurd (clash (in_term (term_in xs) day) (term-holds (term_in xs) day within.0 within.1) h)),
+            (λ within. absurd (clash (in_term (term_in xs) day) (term_holds (term_in xs) day within.0 within.1) h)),
           );
           otherwise = λ none. same;
         }
 
 module _ (n c : ℕ) (card : List ℕ) (limits : Limits n c) (room : length card ≡ 512 * n) where
-  pub shows-exactly-in-its-term : ShowsExactlyInItsTerm n c card
-  shows-exactly-in-its-term made es t any runs i s xs e p lp date exists buffer whole m may-show b =
+  pub shows_exactly_in_its_term : ShowsExactlyInItsTerm n c card
+  shows_exactly_in_its_term made es t any runs i s xs e p lp date exists buffer whole m may-show b =
       let w : Left n (begun c) (heard_in made es) (heard_replies made es) t =
-      left-by-any n c card limits room made es t any runs in
+      left_by_any n c card limits room made es t any runs in
       let came = ends m t b (public.on i (show_dated p date buffer)) in
       in-term n (after n (begun c) (heard_in made es)) w.card_left w.kept_left i s xs e p lp date exists m.role may-show
       buffer whole (told_of came)
-      (told-after w (on m.role i (show_dated p date buffer)) (response_of came) (kept_after came) (refl, refl))
+      (told_after w (on m.role i (show_dated p date buffer)) (response_of came) (kept_after came) (refl, refl))
 
 -- ---- a dated show that is done does what a show does
 
@@ -121,35 +121,35 @@ module _ (s : Kept) (m other : Manner) (b : Beside) (sheet p : ℕ) (may-show : 
   q = lent_to away s s.card sheet
 
   -- what either comes to, by its verdict
-  abbrev comes-to : Verdict → End
-  comes-to v =
+  abbrev comes_to : Verdict → End
+  comes_to v =
       telling s b (told s.shape (settle v Done Refused))
       (settle v (payload_of (block_of s.card ((entry_at s.entries sheet).start + p))) (λ number. buffer))
 
-  done-accepted : number_of (effects.showDatedAnswer q p date buffer) ≡ 0 → effects.showDatedVerdict q p date buffer ≡ accepted
-  unfolding effects.showDatedAnswer effects.showDatedVerdict table_of
-  done-accepted h = go (effects.showDatedVerdict q p date buffer) refl h
+  done_accepted : number_of (effects.show_dated_answer q p date buffer) ≡ 0 → effects.show_dated_verdict q p date buffer ≡ accepted
+  unfolding effects.show_dated_answer effects.show_dated_verdict table_of
+  done_accepted h = go (effects.show_dated_verdict q p date buffer) refl h
     where
-      go : (v : Verdict) → effects.showDatedVerdict q p date buffer ≡ v → number_of (settle v Done Refused) ≡ 0
-          → effects.showDatedVerdict q p date buffer ≡ accepted
+      go : (v : Verdict) → effects.show_dated_verdict q p date buffer ≡ v → number_of (settle v Done Refused) ≡ 0
+          → effects.show_dated_verdict q p date buffer ≡ accepted
       go accepted e h = e
       go (refused number) e h =
           absurd (never_says 0 (table_of (view_on q) (table.on sheet (show_dated p date buffer))) refl (e ∙ ap refused h))
 
-  not-turned : effects.showDatedVerdict q p date buffer ≡ accepted → away ≡ false
-  unfolding effects.showDatedVerdict table_of view_on
-  not-turned h = (clear 21 (table_of (view_on q) (table.on sheet (show_dated p date buffer))) h).0
+  not_turned : effects.show_dated_verdict q p date buffer ≡ accepted → away ≡ false
+  unfolding effects.show_dated_verdict table_of view_on
+  not_turned h = (clear 21 (table_of (view_on q) (table.on sheet (show_dated p date buffer))) h).0
 
-  same_end : effects.showDatedVerdict q p date buffer ≡ accepted
+  same_end : effects.show_dated_verdict q p date buffer ≡ accepted
       → ends m s b (public.on sheet (show_dated p date buffer)) ≡ ends other s b (public.on sheet (show p buffer))
-  unfolding effects.showDatedAnswer effects.showDatedBuffer effects.showAnswer effects.showBuffer
+  unfolding effects.show_dated_answer effects.show_dated_buffer effects.show_answer effects.show_buffer
   same_end h =
-      ap comes-to (h ∙ sym (ap (λ (t : Bool). effects.showVerdict (lent_to t s s.card sheet) p buffer) same_turn
-      ∙ accepted-too q p date buffer h))
+      ap comes_to (h ∙ sym (ap (λ (t : Bool). effects.show_verdict (lent_to t s s.card sheet) p buffer) same_turn
+      ∙ accepted_too q p date buffer h))
     where
       same_turn : turned_away other.role roles.show ≡ away
-      same_turn = ap not may-show ∙ sym (not-turned h)
+      same_turn = ap not may-show ∙ sym (not_turned h)
 
 pub does_what_show_does : DoesWhatShowDoes
 does_what_show_does s m other b sheet p date buffer may-show zero =
-    same_end s m other b sheet p may-show date buffer (done-accepted s m other b sheet p may-show date buffer zero)
+    same_end s m other b sheet p may-show date buffer (done_accepted s m other b sheet p may-show date buffer zero)

@@ -30,7 +30,7 @@ use Rattle.card.specs.Public.{search, survey, Manner, Beside, telling, ends}
 use Rattle.ledger.specs.Answers.{Told}
 use Rattle.ledger.specs.Claim.{Searched}
 use Rattle.ledger.specs.Lists.{told_of}
-use Rattle.ledger.proofs.Search.{verdictBy, tellsBy, searched}
+use Rattle.ledger.proofs.Search.{verdict_by, tells_by, searched}
 
 module _ (m : Manner) (s : Kept) (b : Beside) (fits : shape_fits s.shape.blocks s.shape.free (length s.map) ≡ true)
   where
@@ -53,18 +53,18 @@ module _ (m : Manner) (s : Kept) (b : Beside) (fits : shape_fits s.shape.blocks 
     toldFor answer = told_of (telling s b (told s.shape answer) [])
 
     module _ (k : ℕ) (some : 1 ≤ k) where
-      abbrev fits-at : ℕ → Bool
-      fits-at = fit free 0 n 1 k
+      abbrev fits_at : ℕ → Bool
+      fits_at = fit free 0 n 1 k
 
-      beyond : (start : ℕ) → n ≤ start → fits-at start ≡ false
+      beyond : (start : ℕ) → n ≤ start → fits_at start ≡ false
       beyond start le = not_true _ (λ q. omega (arith, (fit_is free 0 n 1 k start q).high))
 
       -- what is told, and the verdict, by what was found
       abbrev tells : Verdict → Found → ℕ → Told
-      tells = tellsBy 10 (omega arith) fits-at behind n beyond
+      tells = tells_by 10 (omega arith) fits_at behind n beyond
 
       abbrev ruling : Found → Verdict
-      ruling = verdictBy 10 (omega arith) fits-at behind n beyond
+      ruling = verdict_by 10 (omega arith) fits_at behind n beyond
 
       by-found : (o : Found) → toldFor (answerBy false false false o) ≡ tells (ruling o) o 0
       unfolding first_of
@@ -72,10 +72,10 @@ module _ (m : Manner) (s : Kept) (b : Beside) (fits : shape_fits s.shape.blocks 
       by-found Nothing = refl
 
       said : may m.role roles.search ≡ true
-          → told_of (ends m s b (search k)) ≡ tells (ruling (least fits-at 0 n)) (least fits-at 0 n) 0
+          → told_of (ends m s b (search k)) ≡ tells (ruling (least fits_at 0 n)) (least fits_at 0 n) 0
       unfolding search_answer least_fit
       said may-search =
-          let found : Found = least fits-at 0 n in
+          let found : Found = least fits_at 0 n in
           ap (λ (t : Bool). toldFor (answerBy (not t) (not (shape_fits n s.shape.free (length s.map)))
           (eqb k 0) found)) may-search
           ∙ ap (λ (t : Bool). toldFor (answerBy false (not t) (eqb k 0) found)) fits
@@ -85,11 +85,11 @@ module _ (m : Manner) (s : Kept) (b : Beside) (fits : shape_fits s.shape.blocks 
       -- and nothing is changed
       pub search-lowest : may m.role roles.search ≡ true
           → (ends m s b (search k) ≡ telling s b (told s.shape (ends m s b (search k)).outcome.answer) [])
-          × Searched 10 fits-at behind (told_of (ends m s b (search k)))
+          × Searched 10 fits_at behind (told_of (ends m s b (search k)))
       search-lowest may-search = (
         refl,
-        subst (Searched 10 fits-at behind) (sym (said may-search))
-            (searched 10 (omega arith) fits-at behind n beyond (ruling (least fits-at 0 n)) 0 refl),
+        subst (Searched 10 fits_at behind) (sym (said may-search))
+            (searched 10 (omega arith) fits_at behind n beyond (ruling (least fits_at 0 n)) 0 refl),
       )
 
     pub survey-counts : may m.role roles.survey ≡ true → ends m s b survey

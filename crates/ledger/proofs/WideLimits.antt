@@ -1,6 +1,6 @@
 -- The calls that go with limits, beside the same calls before there were limits (document 02 (k)): where the limit of the wing
--- is not passed the verdict is that without row 18 (`under-limit`), and with limits of n or more a call is accepted exactly if
--- it was (`wide-limits`).
+-- is not passed the verdict is that without row 18 (`under_limit`), and with limits of n or more a call is accepted exactly if
+-- it was (`wide_limits`).
 -- Assumes nothing.
 use Prim.Native.Nat.{ℕ, ◌+◌, ◌*◌, ◌≤◌, ◌<◌}
 use mathlib.Core.Path.{◌≡◌, refl, sym, ap, subst, ◌∙◌}
@@ -28,11 +28,11 @@ use Rattle.ledger.specs.Lists.{Made, end_of, response_of, told_of, Runs, Listed,
 use Rattle.ledger.specs.Lists.{replies_in, fresh_state}
 use Rattle.ledger.specs.Shares.{GoesWith, verdict_before, Under, Wide, AsBefore, UnderLimit, WideLimits}
 use Rattle.ledger.proofs.Agreement.{Matches}
-use Rattle.ledger.proofs.Demand.{Left, left-by-own}
+use Rattle.ledger.proofs.Demand.{Left, left_by_own}
 use Rattle.ledger.proofs.Feeding.{fed_one}
 use Rattle.ledger.proofs.Fresh.{Limits}
-use Rattle.ledger.proofs.Listed.{spare-is}
-use Rattle.ledger.proofs.Pauses.{told-after}
+use Rattle.ledger.proofs.Listed.{spare_is}
+use Rattle.ledger.proofs.Pauses.{told_after}
 use Rattle.ledger.proofs.Plain as plain
 use Rattle.ledger.proofs.Taking as taking
 use Rattle.ledger.proofs.Wings.{wing_part}
@@ -110,11 +110,11 @@ module _ (n : ℕ) (l : List Sheet) (card : List ℕ) (k : Matches n l card) (li
       let few : m ≤ spare_in n l = ltb-false (spare_in n l) m enough in
       let limit = wide (wing_of i) (omega (arith, below, k.few_sheets)) in
       le-ltb (limit_of limits (wing_of i)) (held_in l i + m)
-      (omega (arith, few, limit, spare-is n l k.sound, wing_part l i))
+      (omega (arith, few, limit, spare_is n l k.sound, wing_part l i))
 
-  wide-reserve : (m : ℕ) (p : Placement) → Beside18 n l (on role i (reserve limits m p))
+  wide_reserve : (m : ℕ) (p : Placement) → Beside18 n l (on role i (reserve limits m p))
   unfolding table_of listed before without_limits
-  wide-reserve m p =
+  wide_reserve m p =
       let rows = rows_in n l (on role i (reserve limits m p)) in
       let now = without_limits rows in
       (compared (before 18 rows) _ 10 _ (inl refl)
@@ -122,9 +122,9 @@ module _ (n : ℕ) (l : List Sheet) (card : List ℕ) (k : Matches n l card) (li
       (reserving.seen n l card k role i limits m p (clear 2 now h).0 (clear 6 now h).0 (clear 7 now h).0 (clear 8 now h).0
       (clear 3 now h).0 (clear 15 now h).0 (clear 10 now h).0))))
 
-  wide-offer : (m : ℕ) → Beside18 n l (on role i (offer limits m))
+  wide_offer : (m : ℕ) → Beside18 n l (on role i (offer limits m))
   unfolding table_of listed before without_limits
-  wide-offer m =
+  wide_offer m =
       let rows = rows_in n l (on role i (offer limits m)) in
       let now = without_limits rows in
       (compared (before 18 rows) _ 10 _ (inl refl)
@@ -132,9 +132,9 @@ module _ (n : ℕ) (l : List Sheet) (card : List ℕ) (k : Matches n l card) (li
       (reserving.seen n l card k role i limits m plain (clear 2 now h).0 (clear 6 now h).0 (clear 7 now h).0
       (clear 8 now h).0 (clear 3 now h).0 (clear 15 now h).0 (clear 10 now h).0))))
 
-  wide-accept : (start m : ℕ) → Beside18 n l (on role i (accept limits start m))
+  wide_accept : (start m : ℕ) → Beside18 n l (on role i (accept limits start m))
   unfolding table_of listed before without_limits
-  wide-accept start m =
+  wide_accept start m =
       let rows = rows_in n l (on role i (accept limits start m)) in
       let now = without_limits rows in
       (compared (before 18 rows) _ 17 _ (inr (inr refl))
@@ -142,9 +142,9 @@ module _ (n : ℕ) (l : List Sheet) (card : List ℕ) (k : Matches n l card) (li
       (taking.shown n l card k role i m start (clear 2 now h).0 (clear 6 now h).0 (clear 7 now h).0 (clear 8 now h).0
       (clear 3 now h).0 (not-false _ (clear 17 now h).0)))))
 
-  wide-grow : (m : ℕ) → Beside18 n l (on role i (grow limits m))
+  wide_grow : (m : ℕ) → Beside18 n l (on role i (grow limits m))
   unfolding table_of listed before without_limits
-  wide-grow m =
+  wide_grow m =
       let rows = rows_in n l (on role i (grow limits m)) in
       let now = without_limits rows in
       (compared (before 18 rows) _ 11 _ (inr (inl refl))
@@ -156,14 +156,14 @@ wide_call : (n : ℕ) (l : List Sheet) (card : List ℕ) → Matches n l card �
     → GoesWith limits c → Beside18 n l c
 wide_call n l card k limits wide (on role i (reserve given m p)) same =
     subst (λ (ls : List ℕ). Beside18 n l (on role i (reserve ls m p))) (sym same)
-    (wide-reserve n l card k limits wide role i m p)
+    (wide_reserve n l card k limits wide role i m p)
 wide_call n l card k limits wide (on role i (offer given m)) same =
-    subst (λ (ls : List ℕ). Beside18 n l (on role i (offer ls m))) (sym same) (wide-offer n l card k limits wide role i m)
+    subst (λ (ls : List ℕ). Beside18 n l (on role i (offer ls m))) (sym same) (wide_offer n l card k limits wide role i m)
 wide_call n l card k limits wide (on role i (accept given start m)) same =
     subst (λ (ls : List ℕ). Beside18 n l (on role i (accept ls start m))) (sym same)
-    (wide-accept n l card k limits wide role i start m)
+    (wide_accept n l card k limits wide role i start m)
 wide_call n l card k limits wide (on role i (grow given m)) same =
-    subst (λ (ls : List ℕ). Beside18 n l (on role i (grow ls m))) (sym same) (wide-grow n l card k limits wide role i m)
+    subst (λ (ls : List ℕ). Beside18 n l (on role i (grow ls m))) (sym same) (wide_grow n l card k limits wide role i m)
 wide_call n l card k limits wide (on role i (put p payload)) same =
     alike _ _ (without_18 n l (on role i (put p payload)) tt)
 wide_call n l card k limits wide (on role i complete) same = alike _ _ (without_18 n l (on role i complete) tt)
@@ -217,25 +217,25 @@ module _ (n c : ℕ) (card : List ℕ) (limits : Limits n c) (room : length card
   ledger = after n (begun c) (calls_in made)
 
   left : Left n (begun c) (calls_in made) (replies_in made es) t
-  left = left-by-own n c card limits room made es t own runs
+  left = left_by_own n c card limits room made es t own runs
 
-  pub next-number : (told_of (end_of t next)).number ≡ row_number (verdict_in n ledger call)
-  next-number =
+  pub next_number : (told_of (end_of t next)).number ≡ row_number (verdict_in n ledger call)
+  next_number =
       let step = subst (λ (calls : List Call). plain.Runs t calls (replies_to (end_of t next) calls) (kept_after (end_of t next)))
       fed-as (fed_one t next listed-so) in
-      ap (λ (x : Told). x.number) (told-after left call (response_of (end_of t next)) step.0 step.1)
+      ap (λ (x : Told). x.number) (told_after left call (response_of (end_of t next)) step.0 step.1)
       ∙ told_number (verdict_in n ledger call) _ _ refl (λ k. refl)
 
 module _ (n c : ℕ) (card : List ℕ) (b : Limits n c) (room : length card ≡ 512 * n) where
-  pub under-limit : UnderLimit n c card
-  under-limit made es t own runs next listed-so call fed-as under =
-      next-number n c card b room made es t own runs next listed-so call fed-as
+  pub under_limit : UnderLimit n c card
+  under_limit made es t own runs next listed-so call fed-as under =
+      next_number n c card b room made es t own runs next listed-so call fed-as
       ∙ ap row_number (without_18 n (after n (begun c) (calls_in made)) call under)
 
-  pub wide-limits : WideLimits n c card
-  wide-limits made es t own runs next listed-so call fed-as limits wide same =
+  pub wide_limits : WideLimits n c card
+  wide_limits made es t own runs next listed-so call fed-as limits wide same =
       let l : List Sheet = after n (begun c) (calls_in made) in
-      let w = left-by-own n c card b room made es t own runs in
+      let w = left_by_own n c card b room made es t own runs in
       as_before n l call (told_of (end_of t next)).number
-      (next-number n c card b room made es t own runs next listed-so call fed-as)
+      (next_number n c card b room made es t own runs next listed-so call fed-as)
       (wide_call n l w.card_left w.kept_left limits wide call same)

@@ -73,8 +73,8 @@ module _ (n : ℕ) (l : List Sheet) (high : n ≤ 262144) (inside : (i : ℕ) �
           let same = ap (λ (x : Entry). x.length) (get_or-eq_default (map entry_in l) zeros {n = i} past) in
           omega (arith, same)
 
-  pub wing-same : (i : ℕ) → held_by (map entry_in l) i ≡ held_in l i
-  wing-same i = held_is (map entry_in l) i short ∙ wing_lengths l (wing_of i)
+  pub wing_same : (i : ℕ) → held_by (map entry_in l) i ≡ held_in l i
+  wing_same i = held_is (map entry_in l) i short ∙ wing_lengths l (wing_of i)
 
 -- ---- a sheet that has changed
 

@@ -1,12 +1,12 @@
 -- What is claimed of a closing (document 02 (l)): that a plain reserve that comes to the search next, lent no false summary,
 -- is answered 10 exactly when it wants more blocks than are free. That it holds is `closed_full` in proofs/Closings.antt, of
--- every closing that was done, from any state: after a list of calls and after a load alike; and `closed-full-in-lists`, by
+-- every closing that was done, from any state: after a list of calls and after a load alike; and `closed_full_in_lists`, by
 -- the ledger's rows.
 -- Assumes nothing.
 use Rattle.std.specs.Prelude.{ℕ, ◌<◌, ◌≡◌, ◌↔◌, true, List}
 use Rattle.catalogue_standings.specs.Rows.{accepted}
 use Rattle.catalogue_standings.specs.declared.Answer.TheVariants.{Done}
-use Rattle.refusals.specs.Effects.{unsearchedVerdict}
+use Rattle.refusals.specs.Effects.{unsearched_verdict}
 use Rattle.refusals.specs.Placement.{Placement, plain}
 use Rattle.refusals.specs.Table.{reserve}
 use Rattle.card.specs.Calls.{Kept, lent_to_within}
@@ -21,7 +21,7 @@ use Rattle.ledger.specs.Lists.{Made, end_of, told_of, Runs, Listed, IsOwn, ByOwn
 -- A reserve comes to the search if no row before 10 holds, those that ask for the length of a summary not counted.
 abbrev pub Comes : Manner → Kept → List ℕ → ℕ → ℕ → Placement → Type 0
 Comes m s limits sheet k p =
-    unsearchedVerdict (lent_to_within (turned m (on sheet (reserve limits k p))) s s.card limits sheet) k p ≡ accepted
+    unsearched_verdict (lent_to_within (turned m (on sheet (reserve limits k p))) s s.card limits sheet) k p ≡ accepted
 
 -- A plain reserve is told 10 exactly when more blocks are wanted than are free.
 abbrev pub TenWhenMoreWanted : Manner → Kept → Beside → List ℕ → ℕ → ℕ → Type 0

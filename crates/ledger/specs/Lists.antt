@@ -50,7 +50,7 @@ Along P s (m ∷ made) = P s m × Along P (kept_after (end_of s m)) made
 abbrev pub fresh_state : ℕ → ℕ → List ℕ → Kept
 fresh_state n c card = record {
   shape = record { blocks = n; free = n };
-  map = maps.freshMap n (words_for n);
+  map = maps.fresh_map n (words_for n);
   entries = replicate c absent;
   card = card;
 }

@@ -1,7 +1,7 @@
 -- "In a list, rows 1 and 4 hold for none of the calls" (document 01, "The ledger, call by call"; document 02 (a)): whatever
 -- list of calls from a fresh card came before, guided by whatever summaries, no call that may stand in a list, whoever makes
 -- it and by the map or by any summary, is answered 1 or 4 if it is lent a scratch and a summary of their lengths. That it
--- holds is `never-one-nor-four` in proofs/Never.antt.
+-- holds is `never_one_nor_four` in proofs/Never.antt.
 -- Assumes nothing.
 use Rattle.std.specs.Prelude.{ℕ, ◌≡◌, List, length}
 use Rattle.image_soundness.specs.Scratch.{scratch_words}

@@ -1,6 +1,6 @@
 -- What is claimed of a course that is stopped and taken up again (document 02 (g)): a sheet paused and resumed shows what it
 -- showed before, place by place, whatever calls on other sheets come between, guided by whatever summaries. That it holds is
--- `paused-and-resumed` in proofs/Pauses.antt.
+-- `paused_and_resumed` in proofs/Pauses.antt.
 -- Assumes nothing.
 use Rattle.std.specs.Prelude.{ℕ, ◌≡◌, ◌≢◌, true, List, []}
 use Rattle.roles.specs.Roles as roles

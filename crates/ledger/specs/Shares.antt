@@ -1,7 +1,7 @@
 -- What is claimed of the wings' shares of a card (document 02 (k)): over a list with unchanging limits from a fresh card no
 -- wing ever holds more than its limit, whatever summaries guide it; and where the limits leave room for the whole card,
 -- accepted calls are those that were accepted before there were limits. That it holds is `no_wing_over` in
--- proofs/Shares.antt, `under-limit` and `wide-limits` in proofs/WideLimits.antt.
+-- proofs/Shares.antt, `under_limit` and `wide_limits` in proofs/WideLimits.antt.
 -- Assumes nothing.
 use Rattle.std.specs.Prelude.{ℕ, ◌≤◌, ◌<◌, ◌≡◌, ◌⊎◌, false, List, [], ◌∷◌}
 use Rattle.catalogue_wings.specs.Wings.{wing_of, held_by}

@@ -8,7 +8,7 @@ use Rattle.catalogue_standings.specs.Rows.{refused}
 use Rattle.catalogue_standings.specs.declared.Answer.TheVariants.{Done}
 use Rattle.roles.specs.Roles as roles
 use Rattle.roles.specs.Roles.{may}
-use Rattle.refusals.specs.Effects.{unsearchedVerdict}
+use Rattle.refusals.specs.Effects.{unsearched_verdict}
 use Rattle.refusals.specs.Placement.{Placement, figures_in, fit_within}
 use Rattle.refusals.specs.Table.{reserve, grow, release, accept}
 use Rattle.card.specs.Calls.{Kept, lent_to_within}
@@ -80,7 +80,7 @@ pub data Decided (role : ℕ) (s : Kept) (b : Beside) (limits : List ℕ) (sheet
 pub record AnyReserve (role : ℕ) (s : Kept) (b : Beside) (limits : List ℕ) (sheet k : ℕ) (p : Placement) : Type 0 where
   -- one that does not come to the search is answered as by the map alone
   pub refused_before : (number : ℕ)
-      → unsearchedVerdict (lent_to_within (turned (by_map role) (on sheet (reserve limits k p))) s s.card limits sheet) k p
+      → unsearched_verdict (lent_to_within (turned (by_map role) (on sheet (reserve limits k p))) s s.card limits sheet) k p
       ≡ refused number
       → ends (by_summary role) s b (on sheet (reserve limits k p)) ≡ ends (by_map role) s b (on sheet (reserve limits k p))
   pub searched : Comes (by_map role) s limits sheet k p → Decided role s b limits sheet k p

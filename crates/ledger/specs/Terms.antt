@@ -1,5 +1,5 @@
 -- What is claimed of the term of a course (document 02 (m)): a complete sheet shows on a day exactly when that day lies in its
--- term, and a dated show that is done does what a show does. That they hold is `shows-exactly-in-its-term` and
+-- term, and a dated show that is done does what a show does. That they hold is `shows_exactly_in_its_term` and
 -- `does_what_show_does` in proofs/Terms.antt.
 -- Assumes nothing.
 use Rattle.std.specs.Prelude.{ℕ, ◌≤◌, ◌<◌, ◌≡◌, ◌↔◌, true, List, [], length, get_or}

@@ -57,19 +57,19 @@ module _ (op f : ℕ → ℕ → ℕ) (o : op 0 0 ≡ 0)
     (shr : (a b k : ℕ) → op a b / 2 ^ k ≡ op (a / 2 ^ k) (b / 2 ^ k))
     (next : (a b : ℕ) → op a b ≡ op (a / 2) (b / 2) * 2 + f (a % 2) (b % 2))
     (digit : (x y : ℕ) → x < 2 → y < 2 → f x y < 2) where
-  op-low : (a b : ℕ) → op a b % 2 ≡ f (a % 2) (b % 2)
-  op-low a b = ap (λ (x : ℕ). x % 2) (next a b)
+  op_low : (a b : ℕ) → op a b % 2 ≡ f (a % 2) (b % 2)
+  op_low a b = ap (λ (x : ℕ). x % 2) (next a b)
       ∙ digits_mod (op (a / 2) (b / 2)) (digit (a % 2) (b % 2) (mod-lt a (zero-lt-suc 1)) (mod-lt b (zero-lt-suc 1)))
 
-  op-shl : (a b k : ℕ) → op a b * 2 ^ k ≡ op (a * 2 ^ k) (b * 2 ^ k)
-  op-shl a b k =
+  op_shl : (a b k : ℕ) → op a b * 2 ^ k ≡ op (a * 2 ^ k) (b * 2 ^ k)
+  op_shl a b k =
       sym (ap₂ op (sym (add-zero (a * 2 ^ k))) (sym (add-zero (b * 2 ^ k))) ∙ block k a b 0 0 (pow_pos k) (pow_pos k)
       ∙ ap (λ (x : ℕ). op a b * 2 ^ k + x) o ∙ add-zero (op a b * 2 ^ k))
 
-  op-dig : (a b j : ℕ) → dig (op a b) j ≡ f (dig a j) (dig b j)
-  op-dig a b j =
-      ap (λ (x : ℕ). x / 2 ^ 63 % 2) (op-shl a b j) ∙ ap (λ (x : ℕ). x % 2) (shr (a * 2 ^ j) (b * 2 ^ j) 63)
-      ∙ op-low (a * 2 ^ j / 2 ^ 63) (b * 2 ^ j / 2 ^ 63)
+  op_dig : (a b j : ℕ) → dig (op a b) j ≡ f (dig a j) (dig b j)
+  op_dig a b j =
+      ap (λ (x : ℕ). x / 2 ^ 63 % 2) (op_shl a b j) ∙ ap (λ (x : ℕ). x % 2) (shr (a * 2 ^ j) (b * 2 ^ j) 63)
+      ∙ op_low (a * 2 ^ j / 2 ^ 63) (b * 2 ^ j / 2 ^ 63)
 
 min_digit : (x y : ℕ) → x < 2 → y < 2 → min x y < 2
 min_digit x y a b = omega arith
@@ -80,7 +80,7 @@ max_digit x y a b = omega arith
 pub bit_and_lem : (a b j : ℕ) → bit (bit_and a b) j ≡ (bit a j && bit b j)
 unfolding bit
 bit_and_lem a b j =
-    ap (λ (x : ℕ). eqb x 1) (op-dig bit_and min refl and_block and_shr and_step min_digit a b j)
+    ap (λ (x : ℕ). eqb x 1) (op_dig bit_and min refl and_block and_shr and_step min_digit a b j)
     ∙ min-bool (dig a j) (dig b j) (digit_cases (dig a j) (dig_lt a j)) (digit_cases (dig b j) (dig_lt b j))
   where
     min-bool : (x y : ℕ) → (x ≡ 0) ⊎ (x ≡ 1) → (y ≡ 0) ⊎ (y ≡ 1) → eqb (min x y) 1 ≡ (eqb x 1 && eqb y 1)
@@ -92,7 +92,7 @@ bit_and_lem a b j =
 pub bit_or_lem : (a b j : ℕ) → bit (bit_or a b) j ≡ (bit a j || bit b j)
 unfolding bit
 bit_or_lem a b j =
-    ap (λ (x : ℕ). eqb x 1) (op-dig bit_or max refl or_block or_shr or_step max_digit a b j)
+    ap (λ (x : ℕ). eqb x 1) (op_dig bit_or max refl or_block or_shr or_step max_digit a b j)
     ∙ max-bool (dig a j) (dig b j) (digit_cases (dig a j) (dig_lt a j)) (digit_cases (dig b j) (dig_lt b j))
   where
     max-bool : (x y : ℕ) → (x ≡ 0) ⊎ (x ≡ 1) → (y ≡ 0) ⊎ (y ≡ 1) → eqb (max x y) 1 ≡ (eqb x 1 || eqb y 1)

@@ -10,7 +10,7 @@ use lib.Dec.{leb}
 use borrow.Author.Tests.{le-leb, leb-true, eq-eqb, eqb-true}
 use Rattle.map_blocks.specs.Blocks.{all, on_step, fit, run, space}
 use Rattle.laws.proofs.Bools.{and_left, and_right, and_both, not_true, both_ways, clash, order}
-use Rattle.map_blocks.proofs.Runs.{all-intro, all-break}
+use Rattle.map_blocks.proofs.Runs.{all_intro, all_break}
 
 -- what a fit is
 pub record Fits (f : ℕ → Bool) (from before step k s : ℕ) : Type 0 where
@@ -33,9 +33,9 @@ module _ (f : ℕ → Bool) (from before step k s : ℕ) where
         placed = and_right (leb from s && leb (s + k) before && all f s k) (on_step step s) e;
       }
 
-  pub is-fit : Fits f from before step k s → fit f from before step k s ≡ true
+  pub is_fit : Fits f from before step k s → fit f from before step k s ≡ true
   unfolding fit
-  is-fit h =
+  is_fit h =
       and_both (leb from s && leb (s + k) before && all f s k) (on_step step s)
       (and_both (leb from s && leb (s + k) before) (all f s k)
       (and_both (leb from s) (leb (s + k) before) (le-leb from s h.low) (le-leb (s + k) before h.high)) h.free)
@@ -63,9 +63,9 @@ module _ (f : ℕ → Bool) where
   unfolding run
   run_none s = refl
 
-  stop-here : (s m : ℕ) → f s ≡ false → run f s (suc m) ≡ 0
+  stop_here : (s m : ℕ) → f s ≡ false → run f s (suc m) ≡ 0
   unfolding run
-  stop-here s m e = ap (λ (x : Bool). cond x (suc (run f (suc s) m)) 0) e
+  stop_here s m e = ap (λ (x : Bool). cond x (suc (run f (suc s) m)) 0) e
 
   go_on : (s m : ℕ) → f s ≡ true → run f s (suc m) ≡ suc (run f (suc s) m)
   unfolding run
@@ -74,7 +74,7 @@ module _ (f : ℕ → Bool) where
   -- r numbers pass, and there are no more of them or the next does not
   pub run_at : (s m r : ℕ) → r ≤ m → ((t : ℕ) → s ≤ t → t < s + r → f t ≡ true) → (r < m → f (s + r) ≡ false) → run f s m ≡ r
   run_at s zero r l held stop = let z : run f s 0 ≡ 0 = run_none s in omega arith
-  run_at s (suc m) zero l held stop = stop-here s m (subst (λ (x : ℕ). f x ≡ false) (add-zero s) (stop (omega arith)))
+  run_at s (suc m) zero l held stop = stop_here s m (subst (λ (x : ℕ). f x ≡ false) (add-zero s) (stop (omega arith)))
   run_at s (suc m) (suc r) l held stop =
       go_on s m (held s (omega arith) (omega arith))
       ∙ ap suc (run_at (suc s) m r (omega arith) (λ t a b. held t (omega arith) (omega arith))
@@ -114,7 +114,7 @@ module _ (f : ℕ → Bool) where
             stop = λ h. subst (λ (x : ℕ). f x ≡ false) same (rest.stop (omega arith));
           }
       by false p rest =
-          let q : run f s (suc m) ≡ 0 = stop-here f s m p in
+          let q : run f s (suc m) ≡ 0 = stop_here f s m p in
           let same : s ≡ s + run f s (suc m) = omega arith in
           record {
             within = omega arith;
@@ -138,16 +138,16 @@ space_longest f start n k l = both_ways (fit f 0 n 1 k start) (leb k (space f st
         let is = fit_is f 0 n 1 k start e in
         let high : start + k ≤ n = is.high in
         ⊎_elim (λ u. absurd (clash (all f start k) is.free
-        (all-break f start k (start + space f start n) (omega arith) (omega arith) (s.stop (omega arith)))))
+        (all_break f start k (start + space f start n) (omega arith) (omega arith) (s.stop (omega arith)))))
         (λ u. le-leb k (space f start n) u) (order (space f start n) k)
 
     within : leb k (space f start n) ≡ true → fit f 0 n 1 k start ≡ true
     within e =
         let u : k ≤ space f start n = leb-true k (space f start n) e in
         let w : start + space f start n ≤ n = s.within in
-        is-fit f 0 n 1 k start (record {
+        is_fit f 0 n 1 k start (record {
           low = omega arith;
           high = omega arith;
-          free = all-intro f start k (λ t a b. s.held t a (omega arith));
+          free = all_intro f start k (λ t a b. s.held t a (omega arith));
           placed = on_one start;
         })

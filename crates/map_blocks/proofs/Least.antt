@@ -30,12 +30,12 @@ module _ (p : ℕ → Bool) where
       ∙ least_at (suc s) m r l (omega arith) e (λ t c d. h t (omega arith) d))
       (eq-or-lt_of_le a)
 
-  pub least-none : (s m : ℕ) → ((t : ℕ) → s ≤ t → t < s + m → p t ≡ false) → least p s m ≡ Nothing
+  pub least_none : (s m : ℕ) → ((t : ℕ) → s ≤ t → t < s + m → p t ≡ false) → least p s m ≡ Nothing
   unfolding least
-  least-none s zero h = refl
-  least-none s (suc m) h =
+  least_none s zero h = refl
+  least_none s (suc m) h =
       ap (λ (x : Bool). cond x (At s) (least p (suc s) m)) (h s (omega arith) (omega arith))
-      ∙ least-none (suc s) m (λ t a b. h t (omega arith) (omega arith))
+      ∙ least_none (suc s) m (λ t a b. h t (omega arith) (omega arith))
 
   passes_on : (s m r : ℕ) (b : Bool) (rest : Found) → p s ≡ b → cond b (At s) rest ≡ At r
       → (rest ≡ At r → Passes p (suc s) m r) → Passes p s (suc m) r
@@ -46,10 +46,10 @@ module _ (p : ℕ → Bool) where
       let l = later e in
       record { low = omega arith; high = omega arith; test = l.test }
 
-  pub least-passes : (s m r : ℕ) → least p s m ≡ At r → Passes p s m r
+  pub least_passes : (s m r : ℕ) → least p s m ≡ At r → Passes p s m r
   unfolding least
-  least-passes s zero r e = absurd (never_both r (sym e))
-  least-passes s (suc m) r e = passes_on s m r (p s) (least p (suc s) m) refl e (λ h. least-passes (suc s) m r h)
+  least_passes s zero r e = absurd (never_both r (sym e))
+  least_passes s (suc m) r e = passes_on s m r (p s) (least p (suc s) m) refl e (λ h. least_passes (suc s) m r h)
 
   below_on : (s t r : ℕ) (b : Bool) (rest : Found) → p s ≡ b → cond b (At s) rest ≡ At r → s ≤ t → t < r
       → (rest ≡ At r → s < t → p t ≡ false) → p t ≡ false
@@ -57,21 +57,21 @@ module _ (p : ℕ → Bool) where
   below_on s t r false rest q e a l later =
       ⊎_elim (λ (w : s ≡ t). ap p (sym w) ∙ q) (λ (w : s < t). later e w) (eq-or-lt_of_le a)
 
-  pub least-below : (s m r : ℕ) → least p s m ≡ At r → (t : ℕ) → s ≤ t → t < r → p t ≡ false
+  pub least_below : (s m r : ℕ) → least p s m ≡ At r → (t : ℕ) → s ≤ t → t < r → p t ≡ false
   unfolding least
-  least-below s zero r e t a l = absurd (never_both r (sym e))
-  least-below s (suc m) r e t a l = below_on s t r (p s) (least p (suc s) m) refl e a l
-      (λ h w. least-below (suc s) m r h t (omega arith) l)
+  least_below s zero r e t a l = absurd (never_both r (sym e))
+  least_below s (suc m) r e t a l = below_on s t r (p s) (least p (suc s) m) refl e a l
+      (λ h w. least_below (suc s) m r h t (omega arith) l)
 
-  none-on : (s t : ℕ) (b : Bool) (rest : Found) → p s ≡ b → cond b (At s) rest ≡ Nothing → s ≤ t
+  none_on : (s t : ℕ) (b : Bool) (rest : Found) → p s ≡ b → cond b (At s) rest ≡ Nothing → s ≤ t
       → (rest ≡ Nothing → s < t → p t ≡ false) → p t ≡ false
-  none-on s t true rest q e a later = absurd (never_both s e)
-  none-on s t false rest q e a later = ⊎_elim (λ (w : s ≡ t). ap p (sym w) ∙ q) (λ (w : s < t). later e w) (eq-or-lt_of_le a)
+  none_on s t true rest q e a later = absurd (never_both s e)
+  none_on s t false rest q e a later = ⊎_elim (λ (w : s ≡ t). ap p (sym w) ∙ q) (λ (w : s < t). later e w) (eq-or-lt_of_le a)
 
   pub none_passes : (s m : ℕ) → least p s m ≡ Nothing → (t : ℕ) → s ≤ t → t < s + m → p t ≡ false
   unfolding least
   none_passes s zero e t a b = absurd (omega arith)
-  none_passes s (suc m) e t a b = none-on s t (p s) (least p (suc s) m) refl e a
+  none_passes s (suc m) e t a b = none_on s t (p s) (least p (suc s) m) refl e a
       (λ h w. none_passes (suc s) m h t (omega arith) (omega arith))
 
   pub least_more : (s m : ℕ) → least p s (suc m) ≡ or_else (least p s m) (cond (p (s + m)) (At (s + m)) Nothing)

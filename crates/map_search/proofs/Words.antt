@@ -11,7 +11,7 @@ use Rattle.map_blocks.specs.Words.{bit}
 use Rattle.map_search_word.specs.Scan.{Carried}
 use Rattle.map_search.specs.Search.{HasBits}
 use Rattle.laws.proofs.Bools.{order}
-use Rattle.map_blocks.proofs.Runs.{all-break}
+use Rattle.map_blocks.proofs.Runs.{all_break}
 use Rattle.map_blocks.proofs.Bits.{bit_zero}
 use Rattle.map_search_word.proofs.Scan.{inside}
 
@@ -27,9 +27,9 @@ past_taken f k base end s l taken at = let h : s < k = at.short in record {
   short = omega arith;
   held = λ t a b. absurd (omega arith);
   none = λ t a.
-      ⊎_elim (λ u. ⊎_elim (λ v. at.none t v) (λ g. all-break f t k base (omega arith) (omega arith)
+      ⊎_elim (λ u. ⊎_elim (λ v. at.none t v) (λ g. all_break f t k base (omega arith) (omega arith)
       (taken base (omega arith) l)) (order (t + s) base))
-      (λ g. all-break f t k t (omega arith) (omega arith) (taken t g (omega arith))) (order t base);
+      (λ g. all_break f t k t (omega arith) (omega arith) (taken t g (omega arith))) (order t base);
 }
 
 -- words that are 0 show no free block

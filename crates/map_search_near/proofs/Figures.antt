@@ -14,10 +14,10 @@ use Rattle.map_blocks.specs.Words.{bit}
 use Rattle.map_blocks.specs.declared.Found.TheVariants.{At, Nothing}
 use Rattle.map_blocks.proofs.Bits.{bit_zero}
 use Rattle.laws.proofs.Bools.{clash, order, both_ways}
-use Rattle.map_blocks.proofs.Fits.{Fits, is-fit, fit_is, no_fit, on_mod, mod_on, Spaced}
-use Rattle.map_blocks.proofs.Least.{least_at, least-none, least_same}
+use Rattle.map_blocks.proofs.Fits.{Fits, is_fit, fit_is, no_fit, on_mod, mod_on, Spaced}
+use Rattle.map_blocks.proofs.Least.{least_at, least_none, least_same}
 use Rattle.map_blocks.proofs.Maps.{free_bit}
-use Rattle.map_blocks.proofs.Runs.{all-intro, all-break, all-part}
+use Rattle.map_blocks.proofs.Runs.{all_intro, all_break, all_part}
 use borrow.Author.Tests.{lt-ltb, le-ltb}
 use Rattle.map_search_near.specs.Answers.{start_of}
 use Rattle.map_search_starts.specs.Starts.{NoRun, FirstRun}
@@ -38,62 +38,62 @@ module _ (g : ℕ → Bool) (from before step k : ℕ) where
   unfolding least_fit
   found_at s h x none =
       let u : s + k ≤ before = x.high in
-      sym (least_at (fit g from before step k) 0 before s (omega arith) (omega arith) (is-fit g from before step k s x)
+      sym (least_at (fit g from before step k) 0 before s (omega arith) (omega arith) (is_fit g from before step k s x)
       (λ t a b. none t b))
 
   pub found_none : (c : ℕ) → before < c + k → ((t : ℕ) → t < c → fit g from before step k t ≡ false)
       → Nothing ≡ least_fit g from before step k
   unfolding least_fit
   found_none c h none =
-      sym (least-none (fit g from before step k) 0 before (λ t a b.
+      sym (least_none (fit g from before step k) 0 before (λ t a b.
       ⊎_elim (λ u. none t u) (λ u. no_fit g from before step k t
       (λ x. let y : t + k ≤ before = x.high in absurd (omega arith))) (order t c)))
 
-  pub empty-window : 0 < k → before ≤ from → Nothing ≡ least_fit g from before step k
+  pub empty_window : 0 < k → before ≤ from → Nothing ≡ least_fit g from before step k
   unfolding least_fit
-  empty-window h l =
-      sym (least-none (fit g from before step k) 0 before (λ t a b.
+  empty_window h l =
+      sym (least_none (fit g from before step k) 0 before (λ t a b.
       no_fit g from before step k t (λ x. let y : t + k ≤ before = x.high in let z : from ≤ t = x.low in
       absurd (omega arith))))
 
   -- ---- starts passed over
 
   -- those before the first
-  pub before-first : (r : ℕ) → ((j : ℕ) → j < r → on_step step (from + j) ≡ false) → (t : ℕ) → t < from + r
+  pub before_first : (r : ℕ) → ((j : ℕ) → j < r → on_step step (from + j) ≡ false) → (t : ℕ) → t < from + r
       → fit g from before step k t ≡ false
-  before-first r none t l =
+  before_first r none t l =
       no_fit g from before step k t (λ x.
       let a : from ≤ t = x.low in
       let e : from + (t - from) ≡ t = omega arith in
       clash (on_step step t) x.placed (ap (on_step step) (sym e) ∙ none (t - from) (omega arith)))
 
   -- those before the window
-  pub before-from : (t : ℕ) → t < from → fit g from before step k t ≡ false
-  before-from t l = no_fit g from before step k t (λ x. let a : from ≤ t = x.low in absurd (omega arith))
+  pub before_from : (t : ℕ) → t < from → fit g from before step k t ≡ false
+  before_from t l = no_fit g from before step k t (λ x. let a : from ≤ t = x.low in absurd (omega arith))
 
   -- those before the first free block
-  pub past-free : (b : ℕ) → 0 < k → ((t : ℕ) → from ≤ t → t < b → t < before → g t ≡ false) → (t : ℕ) → t < b
+  pub past_free : (b : ℕ) → 0 < k → ((t : ℕ) → from ≤ t → t < b → t < before → g t ≡ false) → (t : ℕ) → t < b
       → fit g from before step k t ≡ false
-  past-free b h taken t l =
+  past_free b h taken t l =
       no_fit g from before step k t (λ x.
       let low : from ≤ t = x.low in
       let high : t + k ≤ before = x.high in
-      clash (all g t k) x.free (all-break g t k t (omega arith) (omega arith) (taken t low l (omega arith))))
+      clash (all g t k) x.free (all_break g t k t (omega arith) (omega arith) (taken t low l (omega arith))))
 
   -- those from c on without a run
-  pub past-runs : (c r : ℕ) → NoRun (on_step step) g k c r → ((t : ℕ) → t < c → fit g from before step k t ≡ false) → (t : ℕ)
+  pub past_runs : (c r : ℕ) → NoRun (on_step step) g k c r → ((t : ℕ) → t < c → fit g from before step k t ≡ false) → (t : ℕ)
       → t < r → fit g from before step k t ≡ false
-  past-runs c r runs none t l =
+  past_runs c r runs none t l =
       ⊎_elim (λ u. none t u)
       (λ u. no_fit g from before step k t (λ x. clash (all g t k) x.free (runs t u l x.placed))) (order t c)
 
   -- those whose run holds the taken block b
-  pub past-block : (c b : ℕ) → c ≤ b → b < c + k → g b ≡ false → ((t : ℕ) → t < c → fit g from before step k t ≡ false)
+  pub past_block : (c b : ℕ) → c ≤ b → b < c + k → g b ≡ false → ((t : ℕ) → t < c → fit g from before step k t ≡ false)
       → (t : ℕ) → t < b + 1 → fit g from before step k t ≡ false
-  past-block c b l u taken none t h =
+  past_block c b l u taken none t h =
       ⊎_elim (λ v. none t v)
       (λ v. no_fit g from before step k t (λ x. clash (all g t k) x.free
-      (all-break g t k b (omega arith) (omega arith) taken))) (order t c)
+      (all_break g t k b (omega arith) (omega arith) taken))) (order t c)
 
   -- where none starts before c, the search may begin there
   pub begun : (c : ℕ) → from ≤ c → ((t : ℕ) → t < c → fit g from before step k t ≡ false)
@@ -103,9 +103,9 @@ module _ (g : ℕ → Bool) (from before step k : ℕ) where
       both_ways (fit g c before step k t) (fit g from before step k t)
       (λ e. let x = fit_is g c before step k t e in
       let low : c ≤ t = x.low in
-      is-fit g from before step k t (record { low = omega arith; high = x.high; free = x.free; placed = x.placed }))
+      is_fit g from before step k t (record { low = omega arith; high = x.high; free = x.free; placed = x.placed }))
       (λ e. let x = fit_is g from before step k t e in
-      is-fit g c before step k t (record {
+      is_fit g c before step k t (record {
         low = ⊎_elim (λ (u : t < c). absurd (clash (fit g from before step k t) e (none t u))) (λ (u : c ≤ t). u) (order t c);
         high = x.high;
         free = x.free;
@@ -114,11 +114,11 @@ module _ (g : ℕ → Bool) (from before step k : ℕ) where
 
 -- no run of m, and so none of more
 pub no_longer : (q g : ℕ → Bool) (m k a b : ℕ) → m ≤ k → NoRun q g m a b → NoRun q g k a b
-no_longer q g m k a b l none t u v on = all-part g t k t m (omega arith) (omega arith) (none t u v on)
+no_longer q g m k a b l none t u v on = all_part g t k t m (omega arith) (omega arith) (none t u v on)
 
 -- no run starts where each start is taken
 pub taken_run : (q g : ℕ → Bool) (k a b : ℕ) → 0 < k → ((t : ℕ) → a ≤ t → t < b → q t ≡ true → g t ≡ false) → NoRun q g k a b
-taken_run q g k a b h taken t u v on = all-break g t k t (omega arith) (omega arith) (taken t u v on)
+taken_run q g k a b h taken t u v on = all_break g t k t (omega arith) (omega arith) (taken t u v on)
 
 -- those whose run holds the taken block behind the space of a start
 pub run_past : (g : ℕ → Bool) (step k c r x : ℕ) → c % step ≡ 0 → r < k → Spaced g c (c + k) r
@@ -128,7 +128,7 @@ run_past g step k c r x e l spaced gap t a b on =
     let near : on_step step (t - c) ≡ true = sym (on_add step c (t - c) e) ∙ ap (on_step step) q ∙ on in
     let u : t - c ≤ r = ⊎_elim (λ (w : r < t - c). absurd (clash (on_step step (t - c)) near (gap (t - c) w (omega arith))))
     (λ (w : t - c ≤ r). w) (order r (t - c)) in
-    all-break g t k (c + r) (omega arith) (omega arith) (spaced.stop (omega arith))
+    all_break g t k (c + r) (omega arith) (omega arith) (spaced.stop (omega arith))
 
 -- from the words passed over on
 pub run_after : (q g : ℕ → Bool) (k a c b end r : ℕ) → a ≤ c → b ≤ end → NoRun q g k a c → FirstRun q g k c b r → r < b
@@ -148,7 +148,7 @@ no_run_after q g k a b c p r t u v on = ⊎_elim (λ w. p t u w on) (λ w. r t w
 
 -- the whole run is free
 pub space_fits : (g : ℕ → Bool) (c k r : ℕ) → r ≡ k → Spaced g c (c + k) r → all g c k ≡ true
-space_fits g c k r e spaced = all-intro g c k (λ t a b. spaced.held t a (omega arith))
+space_fits g c k r e spaced = all_intro g c k (λ t a b. spaced.held t a (omega arith))
 
 -- a step past all blocks admits the start 0 alone, as any such step does
 on_capped : (step m t : ℕ) → t < m → on_step step t ≡ on_step (min step m) t
@@ -167,9 +167,9 @@ pub capped : (g : ℕ → Bool) (from before step m k : ℕ) → before ≤ m
 unfolding least_fit
 capped g from before step m k l = least_same (fit g from before (min step m) k) (fit g from before step k) 0 before (λ t a b.
     both_ways (fit g from before (min step m) k t) (fit g from before step k t)
-    (λ e. is-fit g from before step k t (moved (min step m) step t (on_capped step m t (omega arith))
+    (λ e. is_fit g from before step k t (moved (min step m) step t (on_capped step m t (omega arith))
     (fit_is g from before (min step m) k t e)))
-    (λ e. is-fit g from before (min step m) k t (moved step (min step m) t (sym (on_capped step m t (omega arith)))
+    (λ e. is_fit g from before (min step m) k t (moved step (min step m) t (sym (on_capped step m t (omega arith)))
     (fit_is g from before step k t e))))
   where
     moved : (a b t : ℕ) → on_step b t ≡ on_step a t → Fits g from before a k t → Fits g from before b k t

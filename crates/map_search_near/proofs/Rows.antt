@@ -16,7 +16,7 @@ use Rattle.map_blocks.specs.Words.{bit}
 use Rattle.laws.proofs.Bools.{and_both, and_right, not_true, clash, order}
 use Rattle.map_blocks.proofs.Bits.{bit_and_lem, bit_zero, ones_shr}
 use Rattle.map_blocks.proofs.Maps.{free_bit}
-use Rattle.map_blocks.proofs.Runs.{all-part, all_same}
+use Rattle.map_blocks.proofs.Runs.{all_part, all_same}
 use Rattle.map_search_word.proofs.Ends.{First, first_set}
 use Rattle.map_search_starts.specs.Starts.{Marks, Often, NoRun, FirstRun}
 
@@ -63,9 +63,9 @@ pub no_sixteen : (map : List ℕ) (i : ℕ) → ((u j : ℕ) → i ≤ u → u <
     → 31 ≤ k → i * 64 ≤ t → t < (i + 8) * 64 → all (free map) t k ≡ false
 no_sixteen map i none k t l a b =
     ⊎_elim
-    (λ (u : t % 64 < 49). all-part (free map) t k (t / 64 * 64 + t % 64) 16 (omega arith) (omega arith)
+    (λ (u : t % 64 < 49). all_part (free map) t k (t / 64 * 64 + t % 64) 16 (omega arith) (omega arith)
     (sym (in_word map (t / 64) (t % 64) 16 (omega arith)) ∙ none (t / 64) (t % 64) (omega arith) (omega arith)))
-    (λ (u : 49 ≤ t % 64). all-part (free map) t k ((t / 64 + 1) * 64 + 0) 16 (omega arith) (omega arith)
+    (λ (u : 49 ≤ t % 64). all_part (free map) t k ((t / 64 + 1) * 64 + 0) 16 (omega arith) (omega arith)
     (sym (in_word map (t / 64 + 1) 0 16 (omega arith)) ∙ none (t / 64 + 1) 0 (omega arith) (omega arith)))
     (order (t % 64) 49)
 
@@ -111,8 +111,8 @@ module _ (map : List ℕ) (from : ℕ) where
   abbrev there : ℕ
   there = bit_and (get_or map (from / 64) 0) ((2 ^ 64 - 1) / 2 ^ (from % 64))
 
-  there-bit : (j : ℕ) → j < 64 → bit there j ≡ (bit (get_or map (from / 64) 0) j && leb (from % 64) j)
-  there-bit j l = bit_and_lem (get_or map (from / 64) 0) ((2 ^ 64 - 1) / 2 ^ (from % 64)) j
+  there_bit : (j : ℕ) → j < 64 → bit there j ≡ (bit (get_or map (from / 64) 0) j && leb (from % 64) j)
+  there_bit j l = bit_and_lem (get_or map (from / 64) 0) ((2 ^ 64 - 1) / 2 ^ (from % 64)) j
       ∙ ap (λ (x : Bool). bit (get_or map (from / 64) 0) j && x) (ones_shr (from % 64) j (omega arith) l)
 
   -- a block of it without a bit
@@ -123,18 +123,18 @@ module _ (map : List ℕ) (from : ℕ) where
       ap (free map) (sym e) ∙ free_bit map (from / 64) (t - from / 64 * 64) (omega arith)
       ∙ sym (and_true (bit (get_or map (from / 64) 0) (t - from / 64 * 64)) (leb (from % 64) (t - from / 64 * 64))
       (le-leb (from % 64) (t - from / 64 * 64) (omega arith)))
-      ∙ sym (there-bit (t - from / 64 * 64) (omega arith)) ∙ z
+      ∙ sym (there_bit (t - from / 64 * 64) (omega arith)) ∙ z
 
   pub none_free : there ≡ 0 → (t : ℕ) → from ≤ t → t < from / 64 * 64 + 64 → free map t ≡ false
   none_free z t a b = no_block t a b (ap (λ (x : ℕ). bit x (t - from / 64 * 64)) z ∙ bit_zero (t - from / 64 * 64))
 
-  pub first-free : 0 < there → there < 2 ^ 64
+  pub first_free : 0 < there → there < 2 ^ 64
       → (from ≤ from / 64 * 64 + count_leading_zeros 64 there)
       × ((t : ℕ) → from ≤ t → t < from / 64 * 64 + count_leading_zeros 64 there → free map t ≡ false)
-  first-free p b =
+  first_free p b =
       let first : First there (count_leading_zeros 64 there) = first_set there p b in
       let l : count_leading_zeros 64 there < 64 = first.within in
       let a : from % 64 ≤ count_leading_zeros 64 there = leb-true (from % 64) (count_leading_zeros 64 there)
       (and_right (bit (get_or map (from / 64) 0) (count_leading_zeros 64 there)) (leb (from % 64) (count_leading_zeros 64 there))
-      (sym (there-bit (count_leading_zeros 64 there) l) ∙ first.here)) in
+      (sym (there_bit (count_leading_zeros 64 there) l) ∙ first.here)) in
       (omega arith, λ t u v. no_block t u (omega arith) (first.before (t - from / 64 * 64) (omega arith)))

@@ -12,7 +12,7 @@ use Rattle.map_blocks.specs.Blocks.{all}
 use Rattle.map_blocks.specs.Words.{bit, Mask}
 use Rattle.laws.proofs.Bools.{and_left, and_right, and_both, or_left, or_right, both_ways, clash, not_true, order}
 use Rattle.map_blocks.proofs.Bits.{bit_past, bit_and_lem, bit_or_lem, bit_zero, bit_shl, bit_shr}
-use Rattle.map_blocks.proofs.Runs.{all-intro, all-elim}
+use Rattle.map_blocks.proofs.Runs.{all_intro, all_elim}
 use Rattle.map_search_word.specs.Scan.{Tail}
 use Rattle.map_search_word.proofs.Ends.{First}
 use Rattle.map_search_starts.specs.Starts.{Marks, Head, Alone, NoRun, FirstRun}
@@ -23,11 +23,11 @@ or_either false b e = inr e
 
 module _ (f : ℕ → Bool) (base w n : ℕ) (here : Marks f base w) (behind : Marks f (base + 64) n) where
   -- a block of the first word, and one of the second
-  in-first : (t : ℕ) → base ≤ t → t < base + 64 → bit w (t - base) ≡ f t
-  in-first t a b = let e : base + (t - base) ≡ t = omega arith in here (t - base) (omega arith) ∙ ap f e
+  in_first : (t : ℕ) → base ≤ t → t < base + 64 → bit w (t - base) ≡ f t
+  in_first t a b = let e : base + (t - base) ≡ t = omega arith in here (t - base) (omega arith) ∙ ap f e
 
-  in-second : (t : ℕ) → base + 64 ≤ t → t < base + 128 → bit n (t - (base + 64)) ≡ f t
-  in-second t a b = let e : base + 64 + (t - (base + 64)) ≡ t = omega arith in behind (t - (base + 64)) (omega arith) ∙ ap f e
+  in_second : (t : ℕ) → base + 64 ≤ t → t < base + 128 → bit n (t - (base + 64)) ≡ f t
+  in_second t a b = let e : base + 64 + (t - (base + 64)) ≡ t = omega arith in behind (t - (base + 64)) (omega arith) ∙ ap f e
 
   -- a block that is free, with the next one free too or alone
   pub pair : (lone k : ℕ) → Alone k lone → (j : ℕ) → j < 64 → all f (base + j) k ≡ true
@@ -38,11 +38,11 @@ module _ (f : ℕ → Bool) (base w n : ℕ) (here : Marks f base w) (behind : M
       let p : 0 < k = alone.0 in
       bit_and_lem w (bit_or (bit_or x y) lone) j
       ∙ and_both (bit w j) (bit (bit_or (bit_or x y) lone) j)
-      (here j l ∙ all-elim f (base + j) k e (base + j) (omega arith) (omega arith))
+      (here j l ∙ all_elim f (base + j) k e (base + j) (omega arith) (omega arith))
       (bit_or_lem (bit_or x y) lone j ∙ ⊎_elim
       (λ (u : k < 2). or_right (bit (bit_or x y) j) (bit lone j) (alone.1 u j l))
       (λ (u : 2 ≤ k). or_left (bit (bit_or x y) j) (bit lone j) (bit_or_lem x y j ∙ next x y refl refl
-      (all-elim f (base + j) k e (base + j + 1) (omega arith) (omega arith)) (order j 63))) (order k 2))
+      (all_elim f (base + j) k e (base + j + 1) (omega arith) (omega arith)) (order j 63))) (order k 2))
     where
       next : (x y : ℕ) → x ≡ (w * 2 ^ 1) % 2 ^ 64 → y ≡ n / 2 ^ 63 → f (base + j + 1) ≡ true → (j < 63) ⊎ (63 ≤ j)
           → (bit x j || bit y j) ≡ true
@@ -63,36 +63,36 @@ module _ (f : ℕ → Bool) (base w n : ℕ) (here : Marks f base w) (behind : M
     within j h =
         let ones : all (bit w) j k ≡ true = sym (says j) ∙ h in
         let fits : j + k ≤ 64 =
-        ⊎_elim (λ (u : 64 < j + k). absurd (clash (bit w (j + k - 1)) (all-elim (bit w) j k ones (j + k - 1) (omega arith)
+        ⊎_elim (λ (u : 64 < j + k). absurd (clash (bit w (j + k - 1)) (all_elim (bit w) j k ones (j + k - 1) (omega arith)
         (omega arith)) (bit_past w (j + k - 1) (omega arith)))) (λ u. u) (order 64 (j + k)) in
-        all-intro f (base + j) k (λ b u v. sym (in-first b (omega arith) (omega arith))
-        ∙ all-elim (bit w) j k ones (b - base) (omega arith) (omega arith))
+        all_intro f (base + j) k (λ b u v. sym (in_first b (omega arith) (omega arith))
+        ∙ all_elim (bit w) j k ones (b - base) (omega arith) (omega arith))
 
     over : (j : ℕ) → j < 64 → bit e j ≡ true → bit s j ≡ true → all f (base + j) k ≡ true
     over j h x y =
         let a : 64 - t ≤ j = leb-true (64 - t) j (and_left (leb (64 - t) j) (ltb j 64) (sym (ending j h) ∙ x)) in
         let b : j < p = ltb-true j p (and_right (leb 0 j) (ltb j p) (sym (mask j h) ∙ y)) in
         let lt : t ≤ 64 = tail.within in
-        all-intro f (base + j) k (λ c u v. ⊎_elim
-        (λ (z : c < base + 64). sym (in-first c (omega arith) z) ∙ tail.held (c - base) (omega arith) (omega arith))
-        (λ (z : base + 64 ≤ c). sym (in-second c z (omega arith)) ∙ head.held (c - (base + 64)) (omega arith))
+        all_intro f (base + j) k (λ c u v. ⊎_elim
+        (λ (z : c < base + 64). sym (in_first c (omega arith) z) ∙ tail.held (c - base) (omega arith) (omega arith))
+        (λ (z : base + 64 ≤ c). sym (in_second c z (omega arith)) ∙ head.held (c - (base + 64)) (omega arith))
         (order c (base + 64)))
 
     back : (j : ℕ) → j < 64 → all f (base + j) k ≡ true → (j + k < 65) ⊎ (65 ≤ j + k)
         → bit (bit_or g (bit_and e s)) j ≡ true
     back j h x (inl u) =
         bit_or_lem g (bit_and e s) j ∙ or_left (bit g j) (bit (bit_and e s) j)
-        (says j ∙ all-intro (bit w) j k (λ c a b. here c (omega arith)
-        ∙ all-elim f (base + j) k x (base + c) (omega arith) (omega arith)))
+        (says j ∙ all_intro (bit w) j k (λ c a b. here c (omega arith)
+        ∙ all_elim f (base + j) k x (base + c) (omega arith) (omega arith)))
     back j h x (inr u) =
         let lt : t ≤ 64 = tail.within in
         let a : 64 - t ≤ j =
         ⊎_elim (λ (z : j < 64 - t). absurd (clash (bit w (63 - t)) (here (63 - t) (omega arith)
-        ∙ all-elim f (base + j) k x (base + (63 - t)) (omega arith) (omega arith)) (tail.stop (63 - t) (omega arith))))
+        ∙ all_elim f (base + j) k x (base + (63 - t)) (omega arith) (omega arith)) (tail.stop (63 - t) (omega arith))))
         (λ z. z) (order j (64 - t)) in
         let b : j + k ≤ 64 + l =
         ⊎_elim (λ (z : 64 + l < j + k). absurd (clash (bit n l) (behind l (omega arith)
-        ∙ all-elim f (base + j) k x (base + 64 + l) (omega arith) (omega arith)) (head.stop (omega arith))))
+        ∙ all_elim f (base + j) k x (base + 64 + l) (omega arith) (omega arith)) (head.stop (omega arith))))
         (λ z. z) (order (64 + l) (j + k)) in
         bit_or_lem g (bit_and e s) j ∙ or_right (bit g j) (bit (bit_and e s) j)
         (bit_and_lem e s j ∙ and_both (bit e j) (bit s j)
@@ -115,8 +115,8 @@ module _ (q f : ℕ → Bool) (k c base g m : ℕ) (room : c ≤ base + 64)
     (may : (j : ℕ) → j < 64 → all f (base + j) k ≡ true → bit g j ≡ true)
     (marks : Marks (λ (b : ℕ). q b && leb c b) base m) (before : NoRun q f k c base) where
   -- a block of the word without a bit
-  no-bit : (t : ℕ) → base ≤ t → t < base + 64 → c ≤ t → q t ≡ true → bit (bit_and g m) (t - base) ≡ false → all f t k ≡ false
-  no-bit t a b l x e =
+  no_bit : (t : ℕ) → base ≤ t → t < base + 64 → c ≤ t → q t ≡ true → bit (bit_and g m) (t - base) ≡ false → all f t k ≡ false
+  no_bit t a b l x e =
       let p : base + (t - base) ≡ t = omega arith in
       let on : bit m (t - base) ≡ true = marks (t - base) (omega arith) ∙ ap (λ (b : ℕ). q b && leb c b) p
       ∙ and_both (q t) (leb c t) x (le-leb c t l) in
@@ -124,12 +124,12 @@ module _ (q f : ℕ → Bool) (k c base g m : ℕ) (room : c ≤ base + 64)
       (bit_and_lem g m (t - base) ∙ and_both (bit g (t - base)) (bit m (t - base))
       (may (t - base) (omega arith) (ap (λ (b : ℕ). all f b k) p ∙ h)) on) e)
 
-  pub nothing-there : bit_and g m ≡ 0 → FirstRun q f k c (base + 64) (base + 64)
-  nothing-there z = record {
+  pub nothing_there : bit_and g m ≡ 0 → FirstRun q f k c (base + 64) (base + 64)
+  nothing_there z = record {
     low = room;
     high = omega arith;
     none = λ t a b x. ⊎_elim (λ u. before t a u x)
-        (λ u. no-bit t u b a x (ap (λ (v : ℕ). bit v (t - base)) z ∙ bit_zero (t - base))) (order t base);
+        (λ u. no_bit t u b a x (ap (λ (v : ℕ). bit v (t - base)) z ∙ bit_zero (t - base))) (order t base);
     start = λ u. absurd (omega arith);
     fits = λ u. absurd (omega arith);
   }
@@ -144,7 +144,7 @@ module _ (q f : ℕ → Bool) (k c base g m : ℕ) (room : c ≤ base + 64)
         low = leb-true c (base + r) (and_right (q (base + r)) (leb c (base + r)) on);
         high = omega arith;
         none = λ t a b x. ⊎_elim (λ u. before t a u x)
-            (λ u. no-bit t u (omega arith) a x (first.before (t - base) (omega arith))) (order t base);
+            (λ u. no_bit t u (omega arith) a x (first.before (t - base) (omega arith))) (order t base);
         start = λ u. and_left (q (base + r)) (leb c (base + r)) on;
         fits = λ u. is (and_left (bit g r) (bit m r) both);
       }

@@ -119,15 +119,15 @@ module _ (step base far rest : ℕ) (is : rest ≡ 64 % step) (e : (base + far) 
   whole : 64 / step * step + rest ≡ 64
   whole = ap (λ (x : ℕ). 64 / step * step + x) is ∙ div-add-mod' 64 step
 
-  pub next-back : rest ≤ far → (base + 64 + (far - rest)) % step ≡ 0
-  next-back l = ap (λ (x : ℕ). x % step) (same (64 / step * step) whole)
+  pub next_back : rest ≤ far → (base + 64 + (far - rest)) % step ≡ 0
+  next_back l = ap (λ (x : ℕ). x % step) (same (64 / step * step) whole)
       ∙ moved step base far (64 / step * step) e (mul-mod_left (64 / step) step)
     where
       same : (d : ℕ) → d + rest ≡ 64 → base + 64 + (far - rest) ≡ d + (base + far)
       same d p = omega arith
 
-  pub next-on : rest < step → (base + 64 + (far + step - rest)) % step ≡ 0
-  next-on l = ap (λ (x : ℕ). x % step) (same (64 / step * step) whole)
+  pub next_on : rest < step → (base + 64 + (far + step - rest)) % step ≡ 0
+  next_on l = ap (λ (x : ℕ). x % step) (same (64 / step * step) whole)
       ∙ moved step base far (64 / step * step + step) e (on_mod step (64 / step * step + step)
       (on_add step (64 / step * step) step (mul-mod_left (64 / step) step) ∙ mod_on step step (mod_self step)))
     where

@@ -10,7 +10,7 @@ use Rattle.map_blocks.specs.Blocks.{all}
 use Rattle.map_blocks.specs.Words.{bit, has_all, Mask}
 use Rattle.map_search_word.specs.Scan.{Core, Tail, Carried, Least}
 use Rattle.laws.proofs.Bools.{not_true, clash, order}
-use Rattle.map_blocks.proofs.Runs.{all-intro, all-elim, all-break, all-part, all_same}
+use Rattle.map_blocks.proofs.Runs.{all_intro, all_elim, all_break, all_part, all_same}
 use Rattle.map_blocks.proofs.Bits.{bit_past}
 use Rattle.map_blocks.proofs.Masks.{has_all_intro, has_all_run}
 use Rattle.map_search_word.proofs.Ends.{First}
@@ -26,7 +26,7 @@ pub core_fails : (w m k : ℕ) → Core k m → has_all w m ≡ false → (j : �
 core_fails w m k core e j l =
     not_true (all (bit w) j k) (λ h. clash (has_all w m) (has_all_intro w m (λ t u b.
     let middle : (64 - k ≤ t) × (t < k) = core t u b in
-    all-elim (bit w) j k h t (omega arith) (omega arith))) e)
+    all_elim (bit w) j k h t (omega arith) (omega arith))) e)
 
 -- a word with no run of k does not end in k ones
 pub tail_below : (w r k : ℕ) → ((j : ℕ) → j + k ≤ 64 → all (bit w) j k ≡ false) → Tail w r → r < k
@@ -34,7 +34,7 @@ tail_below w r k none tail =
     let l : r ≤ 64 = tail.within in
     ⊎_elim (λ u. u)
     (λ g. absurd (clash (all (bit w) (64 - k) k)
-    (all-intro (bit w) (64 - k) k (λ t a b. tail.held t (omega arith) (omega arith))) (none (64 - k) (omega arith))))
+    (all_intro (bit w) (64 - k) k (λ t a b. tail.held t (omega arith) (omega arith))) (none (64 - k) (omega arith))))
     (order r k)
 
 -- ---- the word behind s free blocks
@@ -62,9 +62,9 @@ module _ (f : ℕ → Bool) (k base s w : ℕ) (same : (j : ℕ) → j < 64 → 
   }
 
   -- the runs that start before the word all fail in its first m bits, which they hold
-  pub head-fails : (m : ℕ) → s < k → m ≤ k - s → m ≤ 64 → all (bit w) 0 m ≡ false → (t : ℕ) → base ≤ t + s → t < base
+  pub head_fails : (m : ℕ) → s < k → m ≤ k - s → m ≤ 64 → all (bit w) 0 m ≡ false → (t : ℕ) → base ≤ t + s → t < base
       → all f t k ≡ false
-  head-fails m h l u e t a b = all-part f t k (base + 0) m (omega arith) (omega arith) (sym (run 0 m (omega arith)) ∙ e)
+  head_fails m h l u e t a b = all_part f t k (base + 0) m (omega arith) (omega arith) (sym (run 0 m (omega arith)) ∙ e)
 
   -- on to the next word
   pub next : (r : ℕ) → Tail w r → r < k → ((t : ℕ) → base ≤ t + s → t < base → all f t k ≡ false)
@@ -78,29 +78,29 @@ module _ (f : ℕ → Bool) (k base s w : ℕ) (same : (j : ℕ) → j < 64 → 
   }
     where
       late : (t : ℕ) → base ≤ t → t + r < base + 64 → r ≤ 64 → (64 < t - base + k) ⊎ (t - base + k ≤ 64) → all f t k ≡ false
-      late t g a lr (inl u) = all-break f t k (base + (63 - r)) (omega arith) (omega arith)
+      late t g a lr (inl u) = all_break f t k (base + (63 - r)) (omega arith) (omega arith)
           (sym (same (63 - r) (omega arith)) ∙ tail.stop (63 - r) (omega arith))
       late t g a lr (inr u) = let e : base + (t - base) ≡ t = omega arith in
           ap (λ (x : ℕ). all f x k) (sym e) ∙ sym (run (t - base) k u) ∙ within (t - base) u
 
   -- the run before the word goes on in it
-  pub head-hit : s < k → all (bit w) 0 (k - s) ≡ true → k - s ≤ 64 → Least f k (base - s)
-  head-hit h e l = let r : s ≤ base = at.room in record {
-    fits = all-intro f (base - s) k (λ t a b.
+  pub head_hit : s < k → all (bit w) 0 (k - s) ≡ true → k - s ≤ 64 → Least f k (base - s)
+  head_hit h e l = let r : s ≤ base = at.room in record {
+    fits = all_intro f (base - s) k (λ t a b.
         ⊎_elim (λ u. at.held t (omega arith) u)
-        (λ g. sym (inside t g (omega arith)) ∙ all-elim (bit w) 0 (k - s) e (t - base) (omega arith) (omega arith))
+        (λ g. sym (inside t g (omega arith)) ∙ all_elim (bit w) 0 (k - s) e (t - base) (omega arith) (omega arith))
         (order t base));
     none = λ t a. at.none t (omega arith);
   }
 
   -- a run in the word
-  pub gap-hit : (g r : ℕ) → ((j : ℕ) → bit g j ≡ all (bit w) j k) → First g r
+  pub gap_hit : (g r : ℕ) → ((j : ℕ) → bit g j ≡ all (bit w) j k) → First g r
       → ((t : ℕ) → base ≤ t + s → t < base → all f t k ≡ false) → Least f k (base + r)
-  gap-hit g r says first early =
+  gap_hit g r says first early =
       let whole : all (bit w) r k ≡ true = sym (says r) ∙ first.here in
       let lr : r < 64 = first.within in
       let fits : r + k ≤ 64 =
-      ⊎_elim (λ (u : 64 < r + k). absurd (clash (bit w 64) (all-elim (bit w) r k whole 64 (omega arith) u)
+      ⊎_elim (λ (u : 64 < r + k). absurd (clash (bit w 64) (all_elim (bit w) r k whole 64 (omega arith) u)
       (bit_past w 64 (omega arith)))) (λ u. u) (order 64 (r + k)) in
       record {
         fits = sym (run r k fits) ∙ whole;

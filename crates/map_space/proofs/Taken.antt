@@ -26,12 +26,12 @@ module _ (g : ℕ → Bool) (start base w : ℕ) (takes : Takes g start base w)
   at t a b = let e : base + (t - base) ≡ t = omega arith in
       takes (t - base) (omega arith) ∙ ap (λ (x : ℕ). leb start x && not (g x)) e
 
-  no-bit : (t : ℕ) → start ≤ t → base ≤ t → t < base + 64 → bit w (t - base) ≡ false → g t ≡ true
-  no-bit t l a b e = not-false (g t) (ap (λ (x : Bool). x && not (g t)) (sym (le-leb start t l)) ∙ sym (at t a b) ∙ e)
+  no_bit : (t : ℕ) → start ≤ t → base ≤ t → t < base + 64 → bit w (t - base) ≡ false → g t ≡ true
+  no_bit t l a b e = not-false (g t) (ap (λ (x : Bool). x && not (g t)) (sym (le-leb start t l)) ∙ sym (at t a b) ∙ e)
 
-  pub none-taken : w ≡ 0 → (t : ℕ) → start ≤ t → t < base + 64 → g t ≡ true
-  none-taken z t l b = ⊎_elim (λ u. held t l u)
-      (λ u. no-bit t l u b (ap (λ (x : ℕ). bit x (t - base)) z ∙ bit_zero (t - base))) (order t base)
+  pub none_taken : w ≡ 0 → (t : ℕ) → start ≤ t → t < base + 64 → g t ≡ true
+  none_taken z t l b = ⊎_elim (λ u. held t l u)
+      (λ u. no_bit t l u b (ap (λ (x : ℕ). bit x (t - base)) z ∙ bit_zero (t - base))) (order t base)
 
   module _ (r : ℕ) (first : First w r) where
     here : (leb start (base + r) && not (g (base + r))) ≡ true
@@ -45,15 +45,15 @@ module _ (g : ℕ → Bool) (start base w : ℕ) (takes : Takes g start base w)
 
     pub before-taken : (t : ℕ) → start ≤ t → t < base + r → g t ≡ true
     before-taken t l b = let w : r < 64 = first.within in
-        ⊎_elim (λ u. held t l u) (λ u. no-bit t l u (omega arith) (first.before (t - base) (omega arith))) (order t base)
+        ⊎_elim (λ u. held t l u) (λ u. no_bit t l u (omega arith) (first.before (t - base) (omega arith))) (order t base)
 
 -- the word of the start, shifted to it
 module _ (map : List ℕ) (start w : ℕ) (is : w ≡ get_or map (start / 64) 0) (b : w < 2 ^ 64) where
   abbrev head : ℕ
   head = (((2 ^ 64 - 1) - w) * 2 ^ (start % 64)) % 2 ^ 64
 
-  head-bit : (j : ℕ) → start % 64 + j < 64 → bit head j ≡ not (free map (start + j))
-  head-bit j l =
+  head_bit : (j : ℕ) → start % 64 + j < 64 → bit head j ≡ not (free map (start + j))
+  head_bit j l =
       let e : start / 64 * 64 + (start % 64 + j) ≡ start + j = omega arith in
       bit_shl ((2 ^ 64 - 1) - w) (start % 64) j ∙ bit_not w (start % 64 + j) b l
       ∙ ap not (ap (λ (x : ℕ). bit x (start % 64 + j)) is ∙ sym (free_bit map (start / 64) (start % 64 + j) l)
@@ -63,10 +63,10 @@ module _ (map : List ℕ) (start w : ℕ) (is : w ≡ get_or map (start / 64) 0)
   in_word t l u e =
       let same : start + (t - start) ≡ t = omega arith in
       subst (λ (x : ℕ). free map x ≡ true) same (not-false (free map (start + (t - start)))
-      (sym (head-bit (t - start) (omega arith)) ∙ e))
+      (sym (head_bit (t - start) (omega arith)) ∙ e))
 
-  pub head-free : head ≡ 0 → (t : ℕ) → start ≤ t → t < start / 64 * 64 + 64 → free map t ≡ true
-  head-free z t l u = in_word t l u (ap (λ (x : ℕ). bit x (t - start)) z ∙ bit_zero (t - start))
+  pub head_free : head ≡ 0 → (t : ℕ) → start ≤ t → t < start / 64 * 64 + 64 → free map t ≡ true
+  head_free z t l u = in_word t l u (ap (λ (x : ℕ). bit x (t - start)) z ∙ bit_zero (t - start))
 
   module _ (r : ℕ) (first : First head r) where
     within : start % 64 + r < 64
@@ -75,7 +75,7 @@ module _ (map : List ℕ) (start w : ℕ) (is : w ≡ get_or map (start / 64) 0)
         (order (start % 64 + r) 64)
 
     pub head-taken : free map (start + r) ≡ false
-    head-taken = not-true (free map (start + r)) (sym (head-bit r within) ∙ first.here)
+    head-taken = not-true (free map (start + r)) (sym (head_bit r within) ∙ first.here)
 
     pub head-before : (t : ℕ) → start ≤ t → t < start + r → free map t ≡ true
     head-before t l u = let v : start % 64 + r < 64 = within in

@@ -14,16 +14,16 @@ use Rattle.pagunlit.specs.contracts.days.pagunlit_day_of_date as date-function
 use Rattle.pagunlit.specs.contracts.days.pagunlit_day_of_number as number-function
 
 module _ {M : Type 1} {𝓤 : Ura M} (𝓛 : Logic 𝓤) (mem : Memory → SProp 𝓤) (run : Routine → Fun 𝓤) where
-  pub pagunlit-day-of-date-contract : Ensures 𝓤 date-function.ended (date-function.clauses 𝓛 mem run) (λ κs a r t.
+  pub pagunlit_day_of_date_contract : Ensures 𝓤 date-function.ended (date-function.clauses 𝓛 mem run) (λ κs a r t.
       r ≡ day_of_date a.0 a.1.0 a.1.1.0)
-  pagunlit-day-of-date-contract κs a r t g = refl
+  pagunlit_day_of_date_contract κs a r t g = refl
 
-  pub pagunlit-day-of-number-contract : Ensures 𝓤 number-function.ended (number-function.clauses 𝓛 mem run) (λ κs a r t.
+  pub pagunlit_day_of_number_contract : Ensures 𝓤 number-function.ended (number-function.clauses 𝓛 mem run) (λ κs a r t.
       r ≡ day_of_number a.0)
-  pagunlit-day-of-number-contract κs a r t g = refl
+  pagunlit_day_of_number_contract κs a r t g = refl
 
-  pub pagunlit-day-of-date-asks-nothing : AsksNothing 𝓤 date-function.ended (date-function.clauses 𝓛 mem run)
-  pagunlit-day-of-date-asks-nothing κs a g = refl
+  pub pagunlit_day_of_date_asks_nothing : AsksNothing 𝓤 date-function.ended (date-function.clauses 𝓛 mem run)
+  pagunlit_day_of_date_asks_nothing κs a g = refl
 
-  pub pagunlit-day-of-number-asks-nothing : AsksNothing 𝓤 number-function.ended (number-function.clauses 𝓛 mem run)
-  pagunlit-day-of-number-asks-nothing κs a g = refl
+  pub pagunlit_day_of_number_asks_nothing : AsksNothing 𝓤 number-function.ended (number-function.clauses 𝓛 mem run)
+  pagunlit_day_of_number_asks_nothing κs a g = refl

@@ -30,84 +30,84 @@ use Rattle.pagunlit.specs.contracts.summary.pagunlit_close_with_summary as close
 
 -- what is passed is a.0, a.1.0 and so on, in the order of the parameters, and what is left of it t.0, t.1.0 and so on
 module _ {M : Type 1} {𝓤 : Ura M} (𝓛 : Logic 𝓤) (mem : Memory → SProp 𝓤) (run : Routine → Fun 𝓤) where
-  pub pagunlit-summary-build-contract : Ensures 𝓤 summary-build-function.ended
+  pub pagunlit_summary_build_contract : Ensures 𝓤 summary-build-function.ended
       (summary-build-function.clauses 𝓛 mem run) (λ κs a r t.
       LeavesSummary reply_of (ends (by_map a.0) (kept a.1.0 a.1.1.0.now [] no_card) (beside a.1.1.1.0.now
       [] []) build) r t.1.1.1.0.now)
-  pagunlit-summary-build-contract κs a r t g = refl
+  pagunlit_summary_build_contract κs a r t g = refl
 
-  pub pagunlit-summary-check-contract : Ensures 𝓤 summary-check-function.ended
+  pub pagunlit_summary_check_contract : Ensures 𝓤 summary-check-function.ended
       (summary-check-function.clauses 𝓛 mem run) (λ κs a r t.
       HandsBack reply_of (ends (by_map a.0) (kept a.1.0 a.1.1.0.now [] no_card) (beside a.1.1.1.0.now []
       []) check) r)
-  pagunlit-summary-check-contract κs a r t g = refl
+  pagunlit_summary_check_contract κs a r t g = refl
 
-  pub pagunlit-reserve-with-summary-contract : Ensures 𝓤 reserve-with-summary-function.ended
+  pub pagunlit_reserve_with_summary_contract : Ensures 𝓤 reserve-with-summary-function.ended
       (reserve-with-summary-function.clauses 𝓛 mem run) (λ κs a r t.
       LeavesMapSummaryEntriesCard reply_of (ends (by_summary a.0) (kept a.1.0 a.1.1.0.now a.1.1.1.1.0.now a.1.1.1.1.1.0.now) (beside a.1.1.1.0.now [] []) (on a.1.1.1.1.1.1.1.0 (reserve a.1.1.1.1.1.1.0.now a.1.1.1.1.1.1.1.1.0 plain))) r t.1.1.0.now t.1.1.1.0.now
       t.1.1.1.1.0.now t.1.1.1.1.1.0.now)
-  pagunlit-reserve-with-summary-contract κs a r t g = refl
+  pagunlit_reserve_with_summary_contract κs a r t g = refl
 
-  pub pagunlit-reserve-placed-with-summary-contract : Ensures 𝓤 reserve-placed-with-summary-function.ended
+  pub pagunlit_reserve_placed_with_summary_contract : Ensures 𝓤 reserve-placed-with-summary-function.ended
       (reserve-placed-with-summary-function.clauses 𝓛 mem run) (λ κs a r t.
       LeavesMapSummaryEntriesCard reply_of (ends (by_summary a.0) (kept a.1.0 a.1.1.0.now a.1.1.1.1.0.now a.1.1.1.1.1.0.now) (beside a.1.1.1.0.now [] []) (on a.1.1.1.1.1.1.1.0 (reserve a.1.1.1.1.1.1.0.now a.1.1.1.1.1.1.1.1.0 (placed (figures a.1.1.1.1.1.1.1.1.1.0 a.1.1.1.1.1.1.1.1.1.1.0 a.1.1.1.1.1.1.1.1.1.1.1.0))))) r t.1.1.0.now t.1.1.1.0.now
       t.1.1.1.1.0.now t.1.1.1.1.1.0.now)
-  pagunlit-reserve-placed-with-summary-contract κs a r t g = refl
+  pagunlit_reserve_placed_with_summary_contract κs a r t g = refl
 
-  pub pagunlit-accept-with-summary-contract : Ensures 𝓤 accept-with-summary-function.ended
+  pub pagunlit_accept_with_summary_contract : Ensures 𝓤 accept-with-summary-function.ended
       (accept-with-summary-function.clauses 𝓛 mem run) (λ κs a r t.
       LeavesMapSummaryEntriesCard reply_of (ends (by_summary a.0) (kept a.1.0 a.1.1.0.now a.1.1.1.1.0.now a.1.1.1.1.1.0.now) (beside a.1.1.1.0.now [] []) (on a.1.1.1.1.1.1.1.0 (accept a.1.1.1.1.1.1.0.now a.1.1.1.1.1.1.1.1.0 a.1.1.1.1.1.1.1.1.1.0))) r t.1.1.0.now
       t.1.1.1.0.now t.1.1.1.1.0.now t.1.1.1.1.1.0.now)
-  pagunlit-accept-with-summary-contract κs a r t g = refl
+  pagunlit_accept_with_summary_contract κs a r t g = refl
 
-  pub pagunlit-grow-with-summary-contract : Ensures 𝓤 grow-with-summary-function.ended
+  pub pagunlit_grow_with_summary_contract : Ensures 𝓤 grow-with-summary-function.ended
       (grow-with-summary-function.clauses 𝓛 mem run) (λ κs a r t.
       LeavesMapSummaryEntriesCard reply_of (ends (by_summary a.0) (kept a.1.0 a.1.1.0.now a.1.1.1.1.0.now a.1.1.1.1.1.0.now) (beside a.1.1.1.0.now [] []) (on a.1.1.1.1.1.1.1.0 (grow a.1.1.1.1.1.1.0.now a.1.1.1.1.1.1.1.1.0))) r t.1.1.0.now t.1.1.1.0.now
       t.1.1.1.1.0.now t.1.1.1.1.1.0.now)
-  pagunlit-grow-with-summary-contract κs a r t g = refl
+  pagunlit_grow_with_summary_contract κs a r t g = refl
 
-  pub pagunlit-release-with-summary-contract : Ensures 𝓤 release-with-summary-function.ended
+  pub pagunlit_release_with_summary_contract : Ensures 𝓤 release-with-summary-function.ended
       (release-with-summary-function.clauses 𝓛 mem run) (λ κs a r t.
       LeavesMapSummaryEntries reply_of (ends (by_summary a.0) (kept a.1.0 a.1.1.0.now a.1.1.1.1.0.now
       no_card) (beside a.1.1.1.0.now [] []) (on a.1.1.1.1.1.0 release)) r t.1.1.0.now
       t.1.1.1.0.now t.1.1.1.1.0.now)
-  pagunlit-release-with-summary-contract κs a r t g = refl
+  pagunlit_release_with_summary_contract κs a r t g = refl
 
-  pub pagunlit-close-with-summary-contract : Ensures 𝓤 close-with-summary-function.ended
+  pub pagunlit_close_with_summary_contract : Ensures 𝓤 close-with-summary-function.ended
       (close-with-summary-function.clauses 𝓛 mem run) (λ κs a r t.
       LeavesMapSummaryEntriesCardScratch reply_of (ends (by_summary a.0) (kept a.1.0 a.1.1.0.now a.1.1.1.1.0.now a.1.1.1.1.1.0.now) (beside a.1.1.1.0.now a.1.1.1.1.1.1.0.now []) close) r
       t.1.1.0.now t.1.1.1.0.now t.1.1.1.1.0.now t.1.1.1.1.1.0.now
       t.1.1.1.1.1.1.0.now)
-  pagunlit-close-with-summary-contract κs a r t g = refl
+  pagunlit_close_with_summary_contract κs a r t g = refl
 
-  pub pagunlit-summary-build-asks-nothing : AsksNothing 𝓤 summary-build-function.ended (summary-build-function.clauses 𝓛
+  pub pagunlit_summary_build_asks_nothing : AsksNothing 𝓤 summary-build-function.ended (summary-build-function.clauses 𝓛
       mem run)
-  pagunlit-summary-build-asks-nothing κs a g = refl
+  pagunlit_summary_build_asks_nothing κs a g = refl
 
-  pub pagunlit-summary-check-asks-nothing : AsksNothing 𝓤 summary-check-function.ended (summary-check-function.clauses 𝓛
+  pub pagunlit_summary_check_asks_nothing : AsksNothing 𝓤 summary-check-function.ended (summary-check-function.clauses 𝓛
       mem run)
-  pagunlit-summary-check-asks-nothing κs a g = refl
+  pagunlit_summary_check_asks_nothing κs a g = refl
 
-  pub pagunlit-reserve-with-summary-asks-nothing : AsksNothing 𝓤 reserve-with-summary-function.ended
+  pub pagunlit_reserve_with_summary_asks_nothing : AsksNothing 𝓤 reserve-with-summary-function.ended
       (reserve-with-summary-function.clauses 𝓛 mem run)
-  pagunlit-reserve-with-summary-asks-nothing κs a g = refl
+  pagunlit_reserve_with_summary_asks_nothing κs a g = refl
 
-  pub pagunlit-reserve-placed-with-summary-asks-nothing : AsksNothing 𝓤 reserve-placed-with-summary-function.ended
+  pub pagunlit_reserve_placed_with_summary_asks_nothing : AsksNothing 𝓤 reserve-placed-with-summary-function.ended
       (reserve-placed-with-summary-function.clauses 𝓛 mem run)
-  pagunlit-reserve-placed-with-summary-asks-nothing κs a g = refl
+  pagunlit_reserve_placed_with_summary_asks_nothing κs a g = refl
 
-  pub pagunlit-accept-with-summary-asks-nothing : AsksNothing 𝓤 accept-with-summary-function.ended
+  pub pagunlit_accept_with_summary_asks_nothing : AsksNothing 𝓤 accept-with-summary-function.ended
       (accept-with-summary-function.clauses 𝓛 mem run)
-  pagunlit-accept-with-summary-asks-nothing κs a g = refl
+  pagunlit_accept_with_summary_asks_nothing κs a g = refl
 
-  pub pagunlit-grow-with-summary-asks-nothing : AsksNothing 𝓤 grow-with-summary-function.ended
+  pub pagunlit_grow_with_summary_asks_nothing : AsksNothing 𝓤 grow-with-summary-function.ended
       (grow-with-summary-function.clauses 𝓛 mem run)
-  pagunlit-grow-with-summary-asks-nothing κs a g = refl
+  pagunlit_grow_with_summary_asks_nothing κs a g = refl
 
-  pub pagunlit-release-with-summary-asks-nothing : AsksNothing 𝓤 release-with-summary-function.ended
+  pub pagunlit_release_with_summary_asks_nothing : AsksNothing 𝓤 release-with-summary-function.ended
       (release-with-summary-function.clauses 𝓛 mem run)
-  pagunlit-release-with-summary-asks-nothing κs a g = refl
+  pagunlit_release_with_summary_asks_nothing κs a g = refl
 
-  pub pagunlit-close-with-summary-asks-nothing : AsksNothing 𝓤 close-with-summary-function.ended
+  pub pagunlit_close_with_summary_asks_nothing : AsksNothing 𝓤 close-with-summary-function.ended
       (close-with-summary-function.clauses 𝓛 mem run)
-  pagunlit-close-with-summary-asks-nothing κs a g = refl
+  pagunlit_close_with_summary_asks_nothing κs a g = refl

@@ -1,6 +1,6 @@
 // The C function of the dated show (document 02 (m)).
 ghost use Rattle.pagunlit_replies.specs.Replies.{reply_of};
-ghost use Rattle.card.specs.Ends.{showDatedEnd};
+ghost use Rattle.card.specs.Ends.{show_dated_end};
 ghost use Rattle.card.specs.Leaves.{LeavesBuffer};
 
 use card::Shape;
@@ -21,7 +21,7 @@ pub extern "C" fn pagunlit_show_dated(
     day: u32,
     buffer: &mut [u8],
 ) -> Reply
-    ensures { LeavesBuffer reply_of (showDatedEnd shape role map.now catalogue.now
+    ensures { LeavesBuffer reply_of (show_dated_end shape role map.now catalogue.now
         card.now sheet place year month day buffer.old) result buffer.new }
 {
     let outcome = shape.show_dated(

@@ -11,9 +11,9 @@ ghost use Rattle.calendar.specs.Term.{term_answer, with_term};
 ghost use Rattle.counts.specs.Counts.{read_of, write_answer, after_write};
 ghost use Rattle.counts.specs.Replies.{count_reply, count_from};
 ghost use Rattle.pagunlit_replies.specs.Replies.{reply_of};
-ghost use Rattle.card.specs.Ends.{freshEnd, searchEnd, surveyEnd, reserveEnd, reservePlacedEnd, offerEnd, acceptEnd, growEnd};
-ghost use Rattle.card.specs.Ends.{putEnd, completeEnd, pauseEnd, resumeEnd, releaseEnd, showEnd, standingEnd, saveEnd};
-ghost use Rattle.card.specs.Ends.{loadEnd, closeEnd};
+ghost use Rattle.card.specs.Ends.{fresh_end, search_end, survey_end, reserve_end, reservePlacedEnd, offer_end, accept_end, grow_end};
+ghost use Rattle.card.specs.Ends.{putEnd, complete_end, pause_end, resume_end, release_end, showEnd, standing_end, save_end};
+ghost use Rattle.card.specs.Ends.{load_end, close_end};
 ghost use Rattle.card.specs.Leaves.{HandsBack, LeavesCard, LeavesEntries, LeavesBuffer, LeavesMapEntries};
 ghost use Rattle.card.specs.Leaves.{LeavesMapEntriesCard, LeavesScratchImage, LeavesMapEntriesScratch};
 ghost use Rattle.card.specs.Leaves.{LeavesMapEntriesCardScratch};
@@ -31,7 +31,7 @@ pub extern "C" fn pagunlit_fresh(
     map: &mut [u64],
     catalogue: &mut [Entry],
 ) -> Reply
-    ensures { LeavesMapEntries reply_of (freshEnd shape role blocks map.old catalogue.old) result
+    ensures { LeavesMapEntries reply_of (fresh_end shape role blocks map.old catalogue.old) result
         map.new catalogue.new }
 {
     let outcome = shape.fresh(role, blocks, map, catalogue);
@@ -40,7 +40,7 @@ pub extern "C" fn pagunlit_fresh(
 
 #[unsafe(no_mangle)]
 pub extern "C" fn pagunlit_search(role: u32, shape: Shape, map: &[u64], k: u32) -> Reply
-    ensures { HandsBack reply_of (searchEnd shape role map.now k) result }
+    ensures { HandsBack reply_of (search_end shape role map.now k) result }
 {
     let outcome = shape.search(role, map, k);
     reply_of(outcome)
@@ -48,7 +48,7 @@ pub extern "C" fn pagunlit_search(role: u32, shape: Shape, map: &[u64], k: u32) 
 
 #[unsafe(no_mangle)]
 pub extern "C" fn pagunlit_survey(role: u32, shape: Shape, map: &[u64]) -> Reply
-    ensures { HandsBack reply_of (surveyEnd shape role map.now) result }
+    ensures { HandsBack reply_of (survey_end shape role map.now) result }
 {
     let outcome = shape.survey(role, map);
     reply_of(outcome)
@@ -65,7 +65,7 @@ pub extern "C" fn pagunlit_reserve(
     sheet: u32,
     count: u32,
 ) -> Reply
-    ensures { LeavesMapEntriesCard reply_of (reserveEnd shape role map.old catalogue.old
+    ensures { LeavesMapEntriesCard reply_of (reserve_end shape role map.old catalogue.old
         card.old limits.now sheet count) result map.new catalogue.new
         card.new }
 {
@@ -108,7 +108,7 @@ pub extern "C" fn pagunlit_offer(
     sheet: u32,
     count: u32,
 ) -> Reply
-    ensures { HandsBack reply_of (offerEnd shape role map.now catalogue.now card.now
+    ensures { HandsBack reply_of (offer_end shape role map.now catalogue.now card.now
         limits.now sheet count) result }
 {
     let outcome = shape.offer(role, map, catalogue, card, limits, sheet, count);
@@ -127,7 +127,7 @@ pub extern "C" fn pagunlit_accept(
     start: u32,
     count: u32,
 ) -> Reply
-    ensures { LeavesMapEntriesCard reply_of (acceptEnd shape role map.old catalogue.old
+    ensures { LeavesMapEntriesCard reply_of (accept_end shape role map.old catalogue.old
         card.old limits.now sheet start count) result map.new catalogue.new
         card.new }
 {
@@ -146,7 +146,7 @@ pub extern "C" fn pagunlit_grow(
     sheet: u32,
     count: u32,
 ) -> Reply
-    ensures { LeavesMapEntriesCard reply_of (growEnd shape role map.old catalogue.old
+    ensures { LeavesMapEntriesCard reply_of (grow_end shape role map.old catalogue.old
         card.old limits.now sheet count) result map.new catalogue.new
         card.new }
 {
@@ -181,7 +181,7 @@ pub extern "C" fn pagunlit_complete(
     card: &[u8],
     sheet: u32,
 ) -> Reply
-    ensures { LeavesEntries reply_of (completeEnd shape role map.now catalogue.old
+    ensures { LeavesEntries reply_of (complete_end shape role map.now catalogue.old
         card.now sheet) result catalogue.new }
 {
     let outcome = shape.complete(role, map, catalogue, card, sheet);
@@ -196,7 +196,7 @@ pub extern "C" fn pagunlit_pause(
     catalogue: &mut [Entry],
     sheet: u32,
 ) -> Reply
-    ensures { LeavesEntries reply_of (pauseEnd shape role map.now catalogue.old sheet) result
+    ensures { LeavesEntries reply_of (pause_end shape role map.now catalogue.old sheet) result
         catalogue.new }
 {
     let outcome = shape.pause(role, map, catalogue, sheet);
@@ -211,7 +211,7 @@ pub extern "C" fn pagunlit_resume(
     catalogue: &mut [Entry],
     sheet: u32,
 ) -> Reply
-    ensures { LeavesEntries reply_of (resumeEnd shape role map.now catalogue.old sheet) result
+    ensures { LeavesEntries reply_of (resume_end shape role map.now catalogue.old sheet) result
         catalogue.new }
 {
     let outcome = shape.resume(role, map, catalogue, sheet);
@@ -226,7 +226,7 @@ pub extern "C" fn pagunlit_release(
     catalogue: &mut [Entry],
     sheet: u32,
 ) -> Reply
-    ensures { LeavesMapEntries reply_of (releaseEnd shape role map.old catalogue.old sheet) result
+    ensures { LeavesMapEntries reply_of (release_end shape role map.old catalogue.old sheet) result
         map.new catalogue.new }
 {
     let outcome = shape.release(role, map, catalogue, sheet);
@@ -259,7 +259,7 @@ pub extern "C" fn pagunlit_standing(
     catalogue: &[Entry],
     sheet: u32,
 ) -> Reply
-    ensures { HandsBack reply_of (standingEnd shape role map.now catalogue.now sheet) result }
+    ensures { HandsBack reply_of (standing_end shape role map.now catalogue.now sheet) result }
 {
     let outcome = shape.standing(role, map, catalogue, sheet);
     reply_of(outcome)
@@ -274,7 +274,7 @@ pub extern "C" fn pagunlit_save(
     scratch: &mut [u64],
     image: &mut [u8],
 ) -> Reply
-    ensures { LeavesScratchImage reply_of (saveEnd shape role map.now catalogue.now
+    ensures { LeavesScratchImage reply_of (save_end shape role map.now catalogue.now
         scratch.old image.old) result scratch.new image.new }
 {
     let outcome = shape.save(role, map, catalogue, scratch, image);
@@ -290,7 +290,7 @@ pub extern "C" fn pagunlit_close(
     card: &mut [u8],
     scratch: &mut [u64],
 ) -> Reply
-    ensures { LeavesMapEntriesCardScratch reply_of (closeEnd shape role map.old catalogue.old
+    ensures { LeavesMapEntriesCardScratch reply_of (close_end shape role map.old catalogue.old
         card.old scratch.old) result map.new catalogue.new card.new
         scratch.new }
 {
@@ -307,7 +307,7 @@ pub extern "C" fn pagunlit_load(
     catalogue: &mut [Entry],
     scratch: &mut [u64],
 ) -> Reply
-    ensures { LeavesMapEntriesScratch reply_of (loadEnd shape role image.now map.old
+    ensures { LeavesMapEntriesScratch reply_of (load_end shape role image.now map.old
         catalogue.old scratch.old) result map.new catalogue.new scratch.new }
 {
     let outcome = shape.load(role, image, map, catalogue, scratch);

@@ -1,7 +1,7 @@
 // The C functions on a summary beside the map, and of the calls that are lent one (document 02, request j).
 ghost use Rattle.pagunlit_replies.specs.Replies.{reply_of};
-ghost use Rattle.card.specs.Ends.{summaryBuildEnd, summaryCheckEnd, reserveWithSummaryEnd, reservePlacedWithSummaryEnd};
-ghost use Rattle.card.specs.Ends.{acceptWithSummaryEnd, growWithSummaryEnd, releaseWithSummaryEnd, closeWithSummaryEnd};
+ghost use Rattle.card.specs.Ends.{summary_build_end, summary_check_end, reserve_with_summary_end, reserve_placed_with_summary_end};
+ghost use Rattle.card.specs.Ends.{acceptWithSummaryEnd, grow_with_summary_end, release_with_summary_end, close_with_summary_end};
 ghost use Rattle.card.specs.Leaves.{HandsBack, LeavesSummary, LeavesMapSummaryEntries, LeavesMapSummaryEntriesCard};
 ghost use Rattle.card.specs.Leaves.{LeavesMapSummaryEntriesCardScratch};
 
@@ -16,7 +16,7 @@ pub extern "C" fn pagunlit_summary_build(
     map: &[u64],
     summary: &mut [u32],
 ) -> Reply
-    ensures { LeavesSummary reply_of (summaryBuildEnd shape role map.now summary.old) result
+    ensures { LeavesSummary reply_of (summary_build_end shape role map.now summary.old) result
         summary.new }
 {
     let outcome = shape.summary_build(role, map, summary);
@@ -30,7 +30,7 @@ pub extern "C" fn pagunlit_summary_check(
     map: &[u64],
     summary: &[u32],
 ) -> Reply
-    ensures { HandsBack reply_of (summaryCheckEnd shape role map.now summary.now) result }
+    ensures { HandsBack reply_of (summary_check_end shape role map.now summary.now) result }
 {
     let outcome = shape.summary_check(role, map, summary);
     reply_of(outcome)
@@ -48,7 +48,7 @@ pub extern "C" fn pagunlit_reserve_with_summary(
     sheet: u32,
     count: u32,
 ) -> Reply
-    ensures { LeavesMapSummaryEntriesCard reply_of (reserveWithSummaryEnd shape role map.old
+    ensures { LeavesMapSummaryEntriesCard reply_of (reserve_with_summary_end shape role map.old
         summary.old catalogue.old card.old limits.now sheet count) result
         map.new summary.new catalogue.new card.new }
 {
@@ -73,7 +73,7 @@ pub extern "C" fn pagunlit_reserve_placed_with_summary(
     before: u32,
     step: u32,
 ) -> Reply
-    ensures { LeavesMapSummaryEntriesCard reply_of (reservePlacedWithSummaryEnd shape role map.old
+    ensures { LeavesMapSummaryEntriesCard reply_of (reserve_placed_with_summary_end shape role map.old
         summary.old catalogue.old card.old limits.now sheet count from before
         step) result map.new summary.new catalogue.new card.new }
 {
@@ -118,7 +118,7 @@ pub extern "C" fn pagunlit_grow_with_summary(
     sheet: u32,
     count: u32,
 ) -> Reply
-    ensures { LeavesMapSummaryEntriesCard reply_of (growWithSummaryEnd shape role map.old
+    ensures { LeavesMapSummaryEntriesCard reply_of (grow_with_summary_end shape role map.old
         summary.old catalogue.old card.old limits.now sheet count) result
         map.new summary.new catalogue.new card.new }
 {
@@ -137,7 +137,7 @@ pub extern "C" fn pagunlit_release_with_summary(
     catalogue: &mut [Entry],
     sheet: u32,
 ) -> Reply
-    ensures { LeavesMapSummaryEntries reply_of (releaseWithSummaryEnd shape role map.old
+    ensures { LeavesMapSummaryEntries reply_of (release_with_summary_end shape role map.old
         summary.old catalogue.old sheet) result map.new summary.new
         catalogue.new }
 {
@@ -155,7 +155,7 @@ pub extern "C" fn pagunlit_close_with_summary(
     card: &mut [u8],
     scratch: &mut [u64],
 ) -> Reply
-    ensures { LeavesMapSummaryEntriesCardScratch reply_of (closeWithSummaryEnd shape role map.old
+    ensures { LeavesMapSummaryEntriesCardScratch reply_of (close_with_summary_end shape role map.old
         summary.old catalogue.old card.old scratch.old) result map.new
         summary.new catalogue.new card.new scratch.new }
 {

@@ -9,7 +9,7 @@ use borrow.Author.Tests.{leb-false, eqb-false, not-false}
 use Rattle.map_blocks.specs.Blocks as map-blocks
 use Rattle.map_blocks.specs.Blocks.{fit}
 use Rattle.map_blocks.proofs.Fits.{fit_is}
-use Rattle.map_blocks.proofs.Runs.{all-elim}
+use Rattle.map_blocks.proofs.Runs.{all_elim}
 use Rattle.catalogue.specs.Entries.{paused_mark, complete_mark}
 use Rattle.catalogue_standings.specs.Rows.{accepted}
 use Rattle.catalogue_standings.specs.Searches.{start_at}
@@ -69,7 +69,7 @@ both_open p q = λ x. Open (p x) (q x)
 
 -- the blocks of a fit are free
 pub all_free : (f : ℕ → Bool) (n k start : ℕ) → fit f 0 n 1 k start ≡ true → (b : ℕ) → start ≤ b → b < start + k → f b ≡ true
-all_free f n k start e b l h = all-elim f start k (fit_is f 0 n 1 k start e).free b l h
+all_free f n k start e b l h = all_elim f start k (fit_is f 0 n 1 k start e).free b l h
 
 -- ---- reserve and accept: k blocks from a start on
 
@@ -82,9 +82,9 @@ module _ (q : Lent) (k : ℕ) where
     pub some : 1 ≤ k
     pub fits : fit (map-blocks.free q.map) 0 q.n 1 k start ≡ true
 
-  pub reserve-grants : (p : Placement) → effects.reserveVerdict q k p ≡ accepted → Grants (effects.reserveStart q k p)
-  unfolding effects.reserveVerdict effects.reserveStart view_on table_of
-  reserve-grants p h =
+  pub reserve_grants : (p : Placement) → effects.reserve_verdict q k p ≡ accepted → Grants (effects.reserve_start q k p)
+  unfolding effects.reserve_verdict effects.reserve_start view_on table_of
+  reserve_grants p h =
       let rows = table_of (view_on q) (table.on q.sheet (reserve q.limits k p)) in
       let g : Figures = figures_in q.n p in
       let f = map-blocks.free q.map in
@@ -100,9 +100,9 @@ module _ (q : Lent) (k : ℕ) where
             (found_fit q.guided q.summary q.map g k (omega (arith, z)) (clear 10 rows h).0);
       }
 
-  pub accept-grants : (start : ℕ) → effects.acceptVerdict q start k ≡ accepted → Grants start
-  unfolding effects.acceptVerdict view_on table_of
-  accept-grants start h =
+  pub accept_grants : (start : ℕ) → effects.accept_verdict q start k ≡ accepted → Grants start
+  unfolding effects.accept_verdict view_on table_of
+  accept_grants start h =
       let rows = table_of (view_on q) (table.on q.sheet (accept q.limits start k)) in
       let z = eqb-false k 0 (clear 3 rows h).0 in
       record {

@@ -17,9 +17,9 @@ use Rattle.catalogue.specs.Entries.{entry_at, zeros}
 use Rattle.catalogue.specs.declared.Entry.{Entry}
 use Rattle.catalogue_standings.specs.Standings.{standing_of, is_damaged}
 use Rattle.image_soundness.specs.Sound.{coverings, undamaged}
-use Rattle.image_soundness.proofs.Covers.{one, run_in, in_run_lem, head-undamaged, tail-undamaged}
-use Rattle.image_soundness.proofs.Damage.{extent-inside, extent-taken}
-use Rattle.image_soundness.proofs.WhenSound.{sound-to}
+use Rattle.image_soundness.proofs.Covers.{one, run_in, in_run_lem, head_undamaged, tail_undamaged}
+use Rattle.image_soundness.proofs.Damage.{extent_inside, extent_taken}
+use Rattle.image_soundness.proofs.WhenSound.{sound_to}
 use Rattle.card.specs.Calls.{Kept, saved_state}
 use Rattle.power_cuts.specs.Held.{Sound, Covers}
 use Rattle.power_cuts.proofs.Deeds.{entry_in}
@@ -45,8 +45,8 @@ module _ (map : List ℕ) (start k b : ℕ) where
   beyond to h = past (marked map start k to) b (omega (arith, marked_length map start k to))
 
   -- what is taken stays so
-  pub still-taken : free map b ≡ false → free (marked map start k false) b ≡ false
-  still-taken e =
+  pub still_taken : free map b ≡ false → free (marked map start k false) b ≡ false
+  still_taken e =
       ⊎_elim (λ l. within false l ∙ go (in_run start k b)) (λ g. beyond false g) (order b (length map * 64))
     where
       go : (t : Bool) → cond t false (free map b) ≡ false
@@ -54,8 +54,8 @@ module _ (map : List ℕ) (start k b : ℕ) where
       go false = e
 
   -- the run is taken
-  pub now-taken : start ≤ b → b < start + k → free (marked map start k false) b ≡ false
-  now-taken p q =
+  pub now_taken : start ≤ b → b < start + k → free (marked map start k false) b ≡ false
+  now_taken p q =
       ⊎_elim (λ l. within false l ∙ ap (λ (t : Bool). cond t false (free map b)) (run_in start k b p q)) (λ g. beyond false g)
       (order b (length map * 64))
 
@@ -73,8 +73,8 @@ module _ (map : List ℕ) (start k b : ℕ) where
 pub undamaged_at : (n : ℕ) (f : ℕ → Bool) (es : List Entry) (i : ℕ) → i < length es → undamaged n f es ≡ true
     → is_damaged (standing_of n f (entry_at es i)) ≡ false
 undamaged_at n f [] i h u = absurd (omega arith)
-undamaged_at n f (e ∷ es) zero h u = head-undamaged n f e es u
-undamaged_at n f (e ∷ es) (suc i) h u = undamaged_at n f es i (omega arith) (tail-undamaged n f e es u)
+undamaged_at n f (e ∷ es) zero h u = head_undamaged n f e es u
+undamaged_at n f (e ∷ es) (suc i) h u = undamaged_at n f es i (omega arith) (tail_undamaged n f e es u)
 
 -- an entry that covers a block is one of the catalogue
 pub listed : (es : List Entry) (i b : ℕ) → b < (entry_at es i).start + (entry_at es i).length → (entry_at es i).start ≤ b
@@ -110,16 +110,16 @@ two_covers (x ∷ es) (suc i) (suc j) b h l e f few =
 
 pub sound_apart : (s : Kept) → Sound s → Apart s
 sound_apart s h =
-    let x = sound-to (saved_state s.shape s.map s.entries) h in
+    let x = sound_to (saved_state s.shape s.map s.entries) h in
     let n : ℕ = s.shape.blocks in
     let f = free s.map in
     record {
-      taken = λ i b c. extent-taken n (entry_in s i) f (undamaged_at n f s.entries i (listed s.entries i b c.1 c.0)
+      taken = λ i b c. extent_taken n (entry_in s i) f (undamaged_at n f s.entries i (listed s.entries i b c.1 c.0)
           x.whole) b c.0 c.1;
       apart = λ i j b c d.
           let u = listed s.entries i b c.1 c.0 in
           let v = listed s.entries j b d.1 d.0 in
-          let w = extent-inside n (entry_in s i) f (undamaged_at n f s.entries i u x.whole) in
+          let w = extent_inside n (entry_in s i) f (undamaged_at n f s.entries i u x.whole) in
           two_covers s.entries i j b u v (run_in (entry_in s i).start (entry_in s i).length b c.0 c.1)
           (run_in (entry_in s j).start (entry_in s j).length b d.0 d.1) (x.disjoint b (omega (arith, w, c.1)));
     }

@@ -22,10 +22,10 @@ use Rattle.catalogue_standings.specs.declared.Standing.{Standing}
 use Rattle.catalogue_standings.specs.declared.Standing.TheVariants.{Absent, Paused, PausedWith, Open, Complete, Damaged}
 use Rattle.image_soundness.specs.Sound.{coverings}
 use Rattle.image_soundness.proofs.Covers.{one, in_run_lem, decide}
-use Rattle.image_soundness.proofs.WhenSound.{sound-to}
+use Rattle.image_soundness.proofs.WhenSound.{sound_to}
 use Rattle.closing.specs.Claim.{Afterwards}
 use Rattle.closing.specs.Closed.{closed_entries}
-use Rattle.closing.proofs.Claimed.{afterwards, accepted-fits, accepted-sound}
+use Rattle.closing.proofs.Claimed.{afterwards, accepted_fits, accepted_sound}
 use Rattle.closing.proofs.Closes.{close_fits_to}
 use Rattle.card.specs.Calls.{Kept}
 use Rattle.ledger.specs.Lists.{saved_of}
@@ -37,8 +37,8 @@ use Rattle.power_cuts.proofs.Deeds.{entry_in, Closed}
 use Rattle.power_cuts.proofs.Keeping.{Of, closed_sound}
 use Rattle.power_cuts.proofs.Own.{closed_entry_lem, closed_place, closed_own, same_count, covers_none}
 use Rattle.power_cuts.proofs.Since.{Since, Course, gone, stays}
-use Rattle.power_cuts.proofs.Standings.{finishes, holds-so, has_blocks, finished_of, finished_too}
-use Rattle.power_cuts.proofs.Writes.{finished-holds, finished-so, finished-covers}
+use Rattle.power_cuts.proofs.Standings.{finishes, holds_so, has_blocks, finished_of, finished_too}
+use Rattle.power_cuts.proofs.Writes.{finished_holds, finished_so, finished_covers}
 
 blocks_too : (st : Standing) → finishes st ≡ true → has_blocks st ≡ true
 blocks_too Absent h = absurd (true≢false (sym h))
@@ -72,14 +72,14 @@ unfolding block_of
 behind card b h = no_bytes (take 512 (drop (512 * b) card)) (simp (length-take, length-drop) (omega arith))
 
 module _ (saved s t : Kept) (x : Closed s t) where
-  pub closing-sound : Sound s
-  closing-sound = accepted-sound x.away (saved_of s) x.fits (length s.card) (length x.scratch) x.was_accepted
+  pub closing_sound : Sound s
+  closing_sound = accepted_sound x.away (saved_of s) x.fits (length s.card) (length x.scratch) x.was_accepted
 
-  pub closing-bytes : length s.card ≡ 512 * s.shape.blocks
-  closing-bytes =
+  pub closing_bytes : length s.card ≡ 512 * s.shape.blocks
+  closing_bytes =
       (close_fits_to s.shape.blocks s.shape.free x.fits (length s.entries) (length s.map) (length s.card)
       (length x.scratch)
-      (accepted-fits x.away (saved_of s) x.fits (length s.card) (length x.scratch) x.was_accepted)).bytes
+      (accepted_fits x.away (saved_of s) x.fits (length s.card) (length x.scratch) x.was_accepted)).bytes
 
   -- mark and length stay
   entry_kept : (i : ℕ) → ((entry_in t i).mark ≡ (entry_in s i).mark) × ((entry_in t i).length ≡ (entry_in s i).length)
@@ -94,18 +94,18 @@ module _ (saved s t : Kept) (x : Closed s t) where
       (order i (length s.entries))
 
   -- a finished course is finished afterwards
-  finished-then : (i start count : ℕ) → Finished s i start count → 1 ≤ count → Finished t i (entry_in t i).start count
-  finished-then i start count f some =
-      let o = finished-holds s i start count f in
-      let c = finished-covers s i start count f 0 (omega (arith, some)) in
+  finished_then : (i start count : ℕ) → Finished s i start count → 1 ≤ count → Finished t i (entry_in t i).start count
+  finished_then i start count f some =
+      let o = finished_holds s i start count f in
+      let c = finished_covers s i start count f 0 (omega (arith, some)) in
       let l : i < length t.entries = omega (arith, same_count s t x, listed s.entries i (start + 0) c.1 c.0) in
-      let whole = (sound-to (saved_of t) (closed_sound s t x)).whole in
+      let whole = (sound_to (saved_of t) (closed_sound s t x)).whole in
       let k = entry_kept i in
       let count-now : (entry_in t i).length ≡ count = k.1 ∙ o.lasts in
       let h = finished_too s.shape.blocks t.shape.blocks (free s.map) (free t.map) (entry_in s i) (entry_in t i)
-      k.0 (omega (arith, count-now, some)) (finished-so s i start count f)
+      k.0 (omega (arith, count-now, some)) (finished_so s i start count f)
       (undamaged_at t.shape.blocks (free t.map) t.entries i l whole) in
-      let r = holds-so t.shape.blocks (free t.map) (entry_in t i) (stands t i) refl (blocks_too (stands t i) h) in
+      let r = holds_so t.shape.blocks (free t.map) (entry_in t i) (stands t i) refl (blocks_too (stands t i) h) in
       subst (λ (z : ℕ). Finished t i z count) (sym r.starts)
       (subst (λ (z : ℕ). Finished t i (start_of (stands t i)) z) (sym r.lasts ∙ count-now) (finished_of (stands t i) h))
 
@@ -114,8 +114,8 @@ module _ (saved s t : Kept) (x : Closed s t) where
     course-moves : (i start count : ℕ) → Course saved s released true i start count → Course saved t released true i start count
     course-moves i start count (gone r l) = gone r ((entry_kept i).1 ∙ l)
     course-moves i start count (stays then f e g) =
-        let o = finished-holds s i then count f in
-        stays (entry_in t i).start (finished-then i then count f o.some) (λ z. absurd (true≢false z))
+        let o = finished_holds s i then count f in
+        stays (entry_in t i).start (finished_then i then count f o.some) (λ z. absurd (true≢false z))
         (λ q l h.
         let z = closed_place s t x i ((entry_in t i).start + q) (omega arith, omega (arith, (entry_kept i).1, o.lasts)) in
         let was : z.was ≡ then + q = omega (arith, z.place, o.starts) in
@@ -134,8 +134,8 @@ module _ (saved s t : Kept) (x : Closed s t) where
         (λ (u : start + q < s.shape.blocks). unmoved (ap (λ (c : List ℕ). block_of c (start + q)) x.card_now
         ∙ after.rest (start + q) w u))
         (λ (u : s.shape.blocks ≤ start + q).
-        unmoved (behind t.card (start + q) (omega (arith, long, closing-bytes))
-        ∙ sym (behind s.card (start + q) (omega (arith, closing-bytes)))))
+        unmoved (behind t.card (start + q) (omega (arith, long, closing_bytes))
+        ∙ sym (behind s.card (start + q) (omega (arith, closing_bytes)))))
         (order (start + q) s.shape.blocks))
         (order (start + q) (held s.entries))
       where
@@ -164,7 +164,7 @@ module _ (saved s t : Kept) (x : Closed s t) where
                 → sound i q (block_of s.card was) ≡ true → block_of s.card was ≡ block_of saved.card (start + q)
             by-course was c at (gone r z) k = absurd (covers_none s i was z c)
             by-course was c at (stays then g e b) k =
-                let o = finished-holds s i then count g in
+                let o = finished_holds s i then count g in
                 let place : was ≡ then + q = omega (arith, o.starts, at) in
                 ap (block_of s.card) place
                 ∙ b q l (subst (λ (v : ℕ). sound i q (block_of s.card v) ≡ true) place k)

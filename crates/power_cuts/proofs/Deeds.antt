@@ -108,16 +108,16 @@ pub record Loaded (s t : Kept) : Type 0 where
   pub sound_now : Sound t
   pub card_now : t.card ≡ s.card
 
--- What call c comes to, from state s to state t; `was_done` says that it was accepted.
-pub data Deed (s t : Kept) (c : Public) (was_done : Bool) : Type 0 where
-  nothing : t ≡ s → (moves (sort_of c) && was_done) ≡ false → Deed s t c was_done
-  took : sort_of c ≡ taking → was_done ≡ true → (sheet start count from k total : ℕ) → Took s t sheet start count from k total
-      → (asked : table.Ask) → c ≡ on sheet asked → Deed s t c was_done
+-- What call c comes to, from state s to state t; `was_done_lem` says that it was accepted.
+pub data Deed (s t : Kept) (c : Public) (was_done_lem : Bool) : Type 0 where
+  nothing : t ≡ s → (moves (sort_of c) && was_done_lem) ≡ false → Deed s t c was_done_lem
+  took : sort_of c ≡ taking → was_done_lem ≡ true → (sheet start count from k total : ℕ) → Took s t sheet start count from k total
+      → (asked : table.Ask) → c ≡ on sheet asked → Deed s t c was_done_lem
   put : (sheet start count place : ℕ) (payload : List ℕ) → c ≡ on sheet (table.put place payload)
       → Put s t sheet start count place payload
-      → Deed s t c was_done
-  marks : sort_of c ≡ marking → (sheet mark : ℕ) → Marked s t sheet mark → Deed s t c was_done
-  released : sort_of c ≡ releasing → was_done ≡ true → (sheet : ℕ) → Released s t sheet → Deed s t c was_done
-  closed : sort_of c ≡ closing → was_done ≡ true → Closed s t → Deed s t c was_done
-  began : sort_of c ≡ beginning → was_done ≡ true → Began s t → Deed s t c was_done
-  loaded : sort_of c ≡ loading → was_done ≡ true → Loaded s t → Deed s t c was_done
+      → Deed s t c was_done_lem
+  marks : sort_of c ≡ marking → (sheet mark : ℕ) → Marked s t sheet mark → Deed s t c was_done_lem
+  released : sort_of c ≡ releasing → was_done_lem ≡ true → (sheet : ℕ) → Released s t sheet → Deed s t c was_done_lem
+  closed : sort_of c ≡ closing → was_done_lem ≡ true → Closed s t → Deed s t c was_done_lem
+  began : sort_of c ≡ beginning → was_done_lem ≡ true → Began s t → Deed s t c was_done_lem
+  loaded : sort_of c ≡ loading → was_done_lem ≡ true → Loaded s t → Deed s t c was_done_lem

@@ -26,7 +26,7 @@ use Rattle.catalogue_standings.specs.declared.Answer.{Answer}
 use Rattle.catalogue_standings.specs.declared.Answer.TheVariants.{Done, Blank, Refused}
 use Rattle.catalogue_standings.specs.declared.Standing.{Standing}
 use Rattle.catalogue_standings.specs.declared.Standing.TheVariants.{Open}
-use Rattle.catalogue_standings.proofs.Openings.{open-extent}
+use Rattle.catalogue_standings.proofs.Openings.{open_extent}
 use Rattle.catalogue_standings.proofs.Rows.{clear}
 use Rattle.refusals.specs.Effects as effects
 use Rattle.refusals.specs.Effects.{entry_of}
@@ -41,15 +41,15 @@ use Rattle.refusals.proofs.Lent.{sized, below_last}
 use Rattle.refusals.proofs.Room.{only_open}
 use Rattle.card.specs.Calls.{Kept, told, lent_by, lent_to, lent_by_within}
 use Rattle.card.specs.declared.Shape.{Shape}
-use Rattle.card.specs.Public.{on, Beside, End, endOn, kept_after}
+use Rattle.card.specs.Public.{on, Beside, End, end_on, kept_after}
 use Rattle.card.proofs.Refusals as refusals
 use Rattle.role_lists.specs.Carers.{stands}
 use Rattle.power_cuts.specs.Sorts.{done}
 use Rattle.power_cuts.proofs.Deeds.{Took, Put, Turns, completes, Deed}
 use Rattle.power_cuts.proofs.Deeds as deeds
 use Rattle.power_cuts.proofs.Deeds.{nothing, took, marks, released, entry_in}
-use Rattle.power_cuts.proofs.Accepted.{by_pause, by_resume, both_open, all_free, Grants, reserve-grants}
-use Rattle.power_cuts.proofs.Accepted.{accept-grants}
+use Rattle.power_cuts.proofs.Accepted.{by_pause, by_resume, both_open, all_free, Grants, reserve_grants}
+use Rattle.power_cuts.proofs.Accepted.{accept_grants}
 
 module _ (turned guided : Bool) (s : Kept) (b : Beside) (sheet : ℕ) where
   abbrev guide : List ℕ
@@ -59,10 +59,10 @@ module _ (turned guided : Bool) (s : Kept) (b : Beside) (sheet : ℕ) where
   lends limits = lent_by_within turned guided guide s s.card limits sheet
 
   abbrev after : Ask → Kept
-  after a = kept_after (endOn turned guided s b sheet a)
+  after a = kept_after (end_on turned guided s b sheet a)
 
-  abbrev wasDone : Ask → Bool
-  wasDone a = done (endOn turned guided s b sheet a)
+  abbrev was_done : Ask → Bool
+  was_done a = done (end_on turned guided s b sheet a)
 
   given : (limits : List ℕ) (k start : ℕ) → Grants (lends limits) k start → (t : Kept)
       → t.shape.blocks ≡ s.shape.blocks → t.map ≡ marked s.map start k false
@@ -88,34 +88,34 @@ module _ (turned guided : Bool) (s : Kept) (b : Beside) (sheet : ℕ) where
       → e.card ≡ s.card → kept_after e ≡ s
   back e a p q r u = λ x. record { shape = (p x).shape; map = q x; entries = r x; card = u x }
 
-  reserved : (limits : List ℕ) (k : ℕ) (p : Placement) (v : Verdict) → effects.reserveVerdict (lends limits) k p ≡ v
-      → Deed s (after (reserve limits k p)) (on sheet (reserve limits k p)) (wasDone (reserve limits k p))
-  unfolding effects.reserveOut effects.reserveMap effects.reserveCard effects.takenOut effects.takenMap effects.takenCard
+  reserved : (limits : List ℕ) (k : ℕ) (p : Placement) (v : Verdict) → effects.reserve_verdict (lends limits) k p ≡ v
+      → Deed s (after (reserve limits k p)) (on sheet (reserve limits k p)) (was_done (reserve limits k p))
+  unfolding effects.reserve_out effects.reserve_map effects.reserve_card effects.taken_out effects.taken_map effects.taken_card
   reserved limits k p accepted h =
       let q : Lent = lends limits in
-      let start : ℕ = effects.reserveStart q k p in
-      took refl (ap (λ (v : Verdict). eqb (number_of (effects.takenOut q v start k).answer) 0) h) sheet start 0 start k k
-      (given limits k start (reserve-grants q k p h) (after (reserve limits k p)) refl
-      (ap (λ (v : Verdict). effects.takenMap q v start k) h)
-      (ap (λ (v : Verdict). set s.entries sheet (effects.takenOut q v start k).entry) h)
-      (ap (λ (v : Verdict). effects.takenCard q v start k) h)) (reserve limits k p) refl
+      let start : ℕ = effects.reserve_start q k p in
+      took refl (ap (λ (v : Verdict). eqb (number_of (effects.taken_out q v start k).answer) 0) h) sheet start 0 start k k
+      (given limits k start (reserve_grants q k p h) (after (reserve limits k p)) refl
+      (ap (λ (v : Verdict). effects.taken_map q v start k) h)
+      (ap (λ (v : Verdict). set s.entries sheet (effects.taken_out q v start k).entry) h)
+      (ap (λ (v : Verdict). effects.taken_card q v start k) h)) (reserve limits k p) refl
   reserved limits k p (refused number) h =
-      let x = refusals.reserve-refused-by turned guided guide s sheet number limits k p h in
-      nothing (back (endOn turned guided s b sheet (reserve limits k p)) (Refused number) x.0 x.1 x.3 x.4) refl
+      let x = refusals.reserve_refused_by turned guided guide s sheet number limits k p h in
+      nothing (back (end_on turned guided s b sheet (reserve limits k p)) (Refused number) x.0 x.1 x.3 x.4) refl
 
-  accepts : (limits : List ℕ) (start k : ℕ) (v : Verdict) → effects.acceptVerdict (lends limits) start k ≡ v
-      → Deed s (after (accept limits start k)) (on sheet (accept limits start k)) (wasDone (accept limits start k))
-  unfolding effects.acceptOut effects.acceptMap effects.acceptCard effects.takenOut effects.takenMap effects.takenCard
+  accepts : (limits : List ℕ) (start k : ℕ) (v : Verdict) → effects.accept_verdict (lends limits) start k ≡ v
+      → Deed s (after (accept limits start k)) (on sheet (accept limits start k)) (was_done (accept limits start k))
+  unfolding effects.accept_out effects.accept_map effects.accept_card effects.taken_out effects.taken_map effects.taken_card
   accepts limits start k accepted h =
       let q : Lent = lends limits in
-      took refl (ap (λ (v : Verdict). eqb (number_of (effects.takenOut q v start k).answer) 0) h) sheet start 0 start k k
-      (given limits k start (accept-grants q k start h) (after (accept limits start k)) refl
-      (ap (λ (v : Verdict). effects.takenMap q v start k) h)
-      (ap (λ (v : Verdict). set s.entries sheet (effects.takenOut q v start k).entry) h)
-      (ap (λ (v : Verdict). effects.takenCard q v start k) h)) (accept limits start k) refl
+      took refl (ap (λ (v : Verdict). eqb (number_of (effects.taken_out q v start k).answer) 0) h) sheet start 0 start k k
+      (given limits k start (accept_grants q k start h) (after (accept limits start k)) refl
+      (ap (λ (v : Verdict). effects.taken_map q v start k) h)
+      (ap (λ (v : Verdict). set s.entries sheet (effects.taken_out q v start k).entry) h)
+      (ap (λ (v : Verdict). effects.taken_card q v start k) h)) (accept limits start k) refl
   accepts limits start k (refused number) h =
-      let x = refusals.accept-refused-by turned guided guide s sheet number limits start k h in
-      nothing (back (endOn turned guided s b sheet (accept limits start k)) (Refused number) x.0 x.1 x.3 x.4) refl
+      let x = refusals.accept_refused_by turned guided guide s sheet number limits start k h in
+      nothing (back (end_on turned guided s b sheet (accept limits start k)) (Refused number) x.0 x.1 x.3 x.4) refl
 
   -- ---- grow
 
@@ -123,22 +123,22 @@ module _ (turned guided : Bool) (s : Kept) (b : Beside) (sheet : ℕ) where
   e = entry_in s sheet
 
   -- an Open sheet's entry has its start and length
-  open-entry : (a l : ℕ) → stands s sheet ≡ Open a l → (e.start ≡ a) × (e.length ≡ l)
-  open-entry a l h =
-      let x = open-extent s.shape.blocks (map-blocks.free s.map) e a l h in (x.starts, x.lasts)
+  open_entry : (a l : ℕ) → stands s sheet ≡ Open a l → (e.start ≡ a) × (e.length ≡ l)
+  open_entry a l h =
+      let x = open_extent s.shape.blocks (map-blocks.free s.map) e a l h in (x.starts, x.lasts)
 
-  grow-takes : (limits : List ℕ) (m : ℕ) → effects.growVerdict (lends limits) m ≡ accepted → (t : Kept)
+  grow_takes : (limits : List ℕ) (m : ℕ) → effects.grow_verdict (lends limits) m ≡ accepted → (t : Kept)
       → t.shape.blocks ≡ s.shape.blocks → t.map ≡ marked s.map (e.start + e.length) m false
       → t.entries ≡ set s.entries sheet (entry_of open_mark e.start (e.length + m))
       → t.card ≡ zeroed s.card (e.start + e.length) m
       → Took s t sheet e.start e.length (e.start + e.length) m (e.length + m)
-  unfolding effects.growVerdict view_on table_of
-  grow-takes limits m h t n w es c =
+  unfolding effects.grow_verdict view_on table_of
+  grow_takes limits m h t n w es c =
       let q : Lent = lends limits in
       let rows = table_of (view_on q) (table.on sheet (grow limits m)) in
       let st : Standing = stands s sheet in
       let is = only_open st (clear 4 rows h).0 (clear 5 rows h).0 (clear 6 rows h).0 (clear 8 rows h).0 in
-      let x = open-entry (start_of st) (length_of st) is in
+      let x = open_entry (start_of st) (length_of st) is in
       let z = eqb-false m 0 (clear 3 rows h).0 in
       let f = map-blocks.free s.map in
       let end : start_of st + length_of st ≡ e.start + e.length = omega (arith, x.0, x.1) in
@@ -159,25 +159,25 @@ module _ (turned guided : Bool) (s : Kept) (b : Beside) (sheet : ℕ) where
         card_now = c;
       }
 
-  abbrev growTo : ℕ → Verdict → Out
-  growTo m v = settle v (effects.out_of (s.shape.free - m) (entry_of open_mark e.start (e.length + m)) Done)
-      (effects.refusalOut s.shape.free e)
+  abbrev grow_to : ℕ → Verdict → Out
+  grow_to m v = settle v (effects.out_of (s.shape.free - m) (entry_of open_mark e.start (e.length + m)) Done)
+      (effects.refusal_out s.shape.free e)
 
-  grown : (limits : List ℕ) (m : ℕ) (v : Verdict) → effects.growVerdict (lends limits) m ≡ v
-      → Deed s (after (grow limits m)) (on sheet (grow limits m)) (wasDone (grow limits m))
-  unfolding effects.growOut effects.growMap effects.growCard
+  grown : (limits : List ℕ) (m : ℕ) (v : Verdict) → effects.grow_verdict (lends limits) m ≡ v
+      → Deed s (after (grow limits m)) (on sheet (grow limits m)) (was_done (grow limits m))
+  unfolding effects.grow_out effects.grow_map effects.grow_card
   grown limits m accepted h =
       let from : ℕ = e.start + e.length in
-      took refl (ap (λ (v : Verdict). eqb (number_of (growTo m v).answer) 0) h) sheet e.start e.length from m
+      took refl (ap (λ (v : Verdict). eqb (number_of (grow_to m v).answer) 0) h) sheet e.start e.length from m
       (e.length + m)
-      (grow-takes limits m h (after (grow limits m)) refl
+      (grow_takes limits m h (after (grow limits m)) refl
       (ap (λ (v : Verdict). settle v (marked s.map from m false) (λ number. s.map)) h)
-      (ap (λ (v : Verdict). set s.entries sheet (growTo m v).entry) h)
+      (ap (λ (v : Verdict). set s.entries sheet (grow_to m v).entry) h)
       (ap (λ (v : Verdict). settle v (zeroed s.card from m) (λ number. s.card)) h))
       (grow limits m) refl
   grown limits m (refused number) h =
-      let x = refusals.grow-refused-by turned guided guide s sheet number limits m h in
-      nothing (back (endOn turned guided s b sheet (grow limits m)) (Refused number) x.0 x.1 x.3 x.4) refl
+      let x = refusals.grow_refused_by turned guided guide s sheet number limits m h in
+      nothing (back (end_on turned guided s b sheet (grow limits m)) (Refused number) x.0 x.1 x.3 x.4) refl
 
   -- ---- put
 
@@ -187,16 +187,16 @@ module _ (turned guided : Bool) (s : Kept) (b : Beside) (sheet : ℕ) where
   abbrev bare : Lent
   bare = lent_to turned s no_card sheet
 
-  put-writes : (place : ℕ) (payload : List ℕ) → effects.putVerdict q place payload ≡ accepted → (t : Kept)
+  put_writes : (place : ℕ) (payload : List ℕ) → effects.put_verdict q place payload ≡ accepted → (t : Kept)
       → t.shape ≡ s.shape → t.map ≡ s.map → t.entries ≡ s.entries
       → t.card ≡ with_block s.card (e.start + place) (sealed sheet place payload)
       → Put s t sheet e.start e.length place payload
-  unfolding effects.putVerdict view_on table_of
-  put-writes place payload h t n w es c =
+  unfolding effects.put_verdict view_on table_of
+  put_writes place payload h t n w es c =
       let rows = table_of (view_on q) (table.on sheet (put place payload)) in
       let st : Standing = stands s sheet in
       let is = only_open st (clear 4 rows h).0 (clear 5 rows h).0 (clear 6 rows h).0 (clear 8 rows h).0 in
-      let x = open-entry (start_of st) (length_of st) is in
+      let x = open_entry (start_of st) (length_of st) is in
       let misplaced = (clear 3 rows h).0 in
       record {
         sizes = sized q (not-false _ (clear 1 rows h).0);
@@ -210,25 +210,25 @@ module _ (turned guided : Bool) (s : Kept) (b : Beside) (sheet : ℕ) where
         card_now = c;
       }
 
-  wrote : (place : ℕ) (payload : List ℕ) (v : Verdict) → effects.putVerdict q place payload ≡ v
-      → Deed s (after (put place payload)) (on sheet (put place payload)) (wasDone (put place payload))
-  unfolding effects.putAnswer effects.putCard
+  wrote : (place : ℕ) (payload : List ℕ) (v : Verdict) → effects.put_verdict q place payload ≡ v
+      → Deed s (after (put place payload)) (on sheet (put place payload)) (was_done (put place payload))
+  unfolding effects.put_answer effects.put_card
   wrote place payload accepted h =
       deeds.put sheet e.start e.length place payload refl
-      (put-writes place payload h (after (put place payload)) refl refl refl
+      (put_writes place payload h (after (put place payload)) refl refl refl
       (ap (λ (v : Verdict). settle v (with_block s.card (e.start + place) (sealed sheet place payload)) (λ number. s.card))
       h))
   wrote place payload (refused number) h =
       let x = refusals.put_refused turned s sheet number place payload h in
-      nothing (back (endOn turned guided s b sheet (put place payload)) (Refused number) x.0 refl refl x.1) refl
+      nothing (back (end_on turned guided s b sheet (put place payload)) (Refused number) x.0 refl refl x.1) refl
 
   -- ---- complete, pause and resume
 
   abbrev shape_of : Out → Shape
   shape_of out = record { blocks = s.shape.blocks; free = out.free }
 
-  completing : effects.completeVerdict q ≡ accepted → (sheet < length s.entries) × Turns (stands s sheet) complete_mark
-  unfolding effects.completeVerdict view_on table_of
+  completing : effects.complete_verdict q ≡ accepted → (sheet < length s.entries) × Turns (stands s sheet) complete_mark
+  unfolding effects.complete_verdict view_on table_of
   completing h =
       let rows = table_of (view_on q) (table.on sheet complete) in
       let st : Standing = stands s sheet in (
@@ -237,9 +237,9 @@ module _ (turned guided : Bool) (s : Kept) (b : Beside) (sheet : ℕ) where
             (only_open st (clear 4 rows h).0 (clear 5 rows h).0 (clear 6 rows h).0 (clear 8 rows h).0) refl,
       )
 
-  completed : (v : Verdict) → effects.completeVerdict q ≡ v
-      → Deed s (after complete) (on sheet complete) (wasDone complete)
-  unfolding effects.completeOut
+  completed : (v : Verdict) → effects.complete_verdict q ≡ v
+      → Deed s (after complete) (on sheet complete) (was_done complete)
+  unfolding effects.complete_out
   completed accepted h =
       let x = completing h in
       marks refl sheet complete_mark (record {
@@ -247,22 +247,22 @@ module _ (turned guided : Bool) (s : Kept) (b : Beside) (sheet : ℕ) where
         turns = x.1;
         shape_now = ap (λ (v : Verdict). shape_of (settle v (effects.out_of s.shape.free
             (entry_of complete_mark e.start e.length) Done)
-            (λ number. effects.out_of s.shape.free e (cond (eqb number 9) (Blank (effects.blankPlace q))
+            (λ number. effects.out_of s.shape.free e (cond (eqb number 9) (Blank (effects.blank_place q))
             (Refused number))))) h;
         map_now = refl;
         entries_now = ap (λ (v : Verdict). set s.entries sheet (settle v (effects.out_of s.shape.free
             (entry_of complete_mark e.start e.length) Done)
-            (λ number. effects.out_of s.shape.free e (cond (eqb number 9) (Blank (effects.blankPlace q)) (Refused number)))
+            (λ number. effects.out_of s.shape.free e (cond (eqb number 9) (Blank (effects.blank_place q)) (Refused number)))
             ).entry) h;
         card_now = refl;
       })
   completed (refused number) h =
-      let x = refusals.complete-refused turned s sheet number h in
-      nothing (back (endOn turned guided s b sheet complete) _ x.0 refl x.1 refl) refl
+      let x = refusals.complete_refused turned s sheet number h in
+      nothing (back (end_on turned guided s b sheet complete) _ x.0 refl x.1 refl) refl
 
-  turning : (c : Change) → effects.changeVerdict bare c ≡ accepted
+  turning : (c : Change) → effects.change_verdict bare c ≡ accepted
       → (sheet < length s.entries) × Turns (stands s sheet) (mark_after c)
-  unfolding effects.changeVerdict view_at table_of
+  unfolding effects.change_verdict view_at table_of
   turning pause h =
       let rows = table_of (view_at bare) (table.on sheet (change pause)) in (
         leb-false (length s.entries) sheet (clear 2 rows h).0,
@@ -275,40 +275,40 @@ module _ (turned guided : Bool) (s : Kept) (b : Beside) (sheet : ℕ) where
             (clear 8 rows h).0,
       )
 
-  changed : (c : Change) (v : Verdict) → effects.changeVerdict bare c ≡ v
-      → Deed s (after (change c)) (on sheet (change c)) (wasDone (change c))
-  unfolding effects.changeOut
+  changed : (c : Change) (v : Verdict) → effects.change_verdict bare c ≡ v
+      → Deed s (after (change c)) (on sheet (change c)) (was_done (change c))
+  unfolding effects.change_out
   changed c accepted h =
       let x = turning c h in
       marks refl sheet (mark_after c) (record {
         listed = x.0;
         turns = x.1;
         shape_now = ap (λ (v : Verdict). shape_of (settle v (effects.out_of s.shape.free
-            (entry_of (mark_after c) e.start e.length) Done) (effects.refusalOut s.shape.free e))) h;
+            (entry_of (mark_after c) e.start e.length) Done) (effects.refusal_out s.shape.free e))) h;
         map_now = refl;
         entries_now = ap (λ (v : Verdict). set s.entries sheet (settle v (effects.out_of s.shape.free
-            (entry_of (mark_after c) e.start e.length) Done) (effects.refusalOut s.shape.free e)).entry) h;
+            (entry_of (mark_after c) e.start e.length) Done) (effects.refusal_out s.shape.free e)).entry) h;
         card_now = refl;
       })
   changed c (refused number) h =
-      let x = refusals.change-refused turned s sheet number c h in
-      nothing (back (endOn turned guided s b sheet (change c)) (Refused number) x.0 refl x.1 refl) refl
+      let x = refusals.change_refused turned s sheet number c h in
+      nothing (back (end_on turned guided s b sheet (change c)) (Refused number) x.0 refl x.1 refl) refl
 
   -- ---- release
 
   abbrev lent : Lent
   lent = lent_by turned guided guide s no_card sheet
 
-  releasing : effects.releaseVerdict lent ≡ accepted → sheet < length s.entries
-  unfolding effects.releaseVerdict view_at table_of
+  releasing : effects.release_verdict lent ≡ accepted → sheet < length s.entries
+  unfolding effects.release_verdict view_at table_of
   releasing h = leb-false (length s.entries) sheet (clear 2 (table_of (view_at lent) (table.on sheet release)) h).0
 
   abbrev freed : Verdict → Out
-  freed v = settle v (effects.out_of (s.shape.free + e.length) absent Done) (effects.refusalOut s.shape.free e)
+  freed v = settle v (effects.out_of (s.shape.free + e.length) absent Done) (effects.refusal_out s.shape.free e)
 
-  gave-back : (v : Verdict) → effects.releaseVerdict lent ≡ v → Deed s (after release) (on sheet release) (wasDone release)
-  unfolding effects.releaseOut effects.releaseMap
-  gave-back accepted h =
+  gave_back : (v : Verdict) → effects.release_verdict lent ≡ v → Deed s (after release) (on sheet release) (was_done release)
+  unfolding effects.release_out effects.release_map
+  gave_back accepted h =
       released refl (ap (λ (v : Verdict). eqb (number_of (freed v).answer) 0) h) sheet (record {
         listed = releasing h;
         blocks_now = refl;
@@ -316,21 +316,21 @@ module _ (turned guided : Bool) (s : Kept) (b : Beside) (sheet : ℕ) where
         entries_now = ap (λ (v : Verdict). set s.entries sheet (freed v).entry) h;
         card_now = refl;
       })
-  gave-back (refused number) h =
-      let x = refusals.release-refused-by turned guided guide s sheet number h in
-      nothing (back (endOn turned guided s b sheet release) (Refused number) x.0 x.1 x.3 refl) refl
+  gave_back (refused number) h =
+      let x = refusals.release_refused_by turned guided guide s sheet number h in
+      nothing (back (end_on turned guided s b sheet release) (Refused number) x.0 x.1 x.3 refl) refl
 
   -- ---- every call on a sheet
 
-  pub on-a-sheet : (a : Ask) → Deed s (after a) (on sheet a) (wasDone a)
-  on-a-sheet (reserve limits k p) = reserved limits k p (effects.reserveVerdict (lends limits) k p) refl
-  on-a-sheet (accept limits start k) = accepts limits start k (effects.acceptVerdict (lends limits) start k) refl
-  on-a-sheet (grow limits m) = grown limits m (effects.growVerdict (lends limits) m) refl
-  on-a-sheet (put place payload) = wrote place payload (effects.putVerdict q place payload) refl
-  on-a-sheet complete = completed (effects.completeVerdict q) refl
-  on-a-sheet (change c) = changed c (effects.changeVerdict bare c) refl
-  on-a-sheet release = gave-back (effects.releaseVerdict lent) refl
-  on-a-sheet (offer limits k) = nothing refl refl
-  on-a-sheet (show place buffer) = nothing refl refl
-  on-a-sheet (show_dated place date buffer) = nothing refl refl
-  on-a-sheet standing = nothing refl refl
+  pub on_a_sheet : (a : Ask) → Deed s (after a) (on sheet a) (was_done a)
+  on_a_sheet (reserve limits k p) = reserved limits k p (effects.reserve_verdict (lends limits) k p) refl
+  on_a_sheet (accept limits start k) = accepts limits start k (effects.accept_verdict (lends limits) start k) refl
+  on_a_sheet (grow limits m) = grown limits m (effects.grow_verdict (lends limits) m) refl
+  on_a_sheet (put place payload) = wrote place payload (effects.put_verdict q place payload) refl
+  on_a_sheet complete = completed (effects.complete_verdict q) refl
+  on_a_sheet (change c) = changed c (effects.change_verdict bare c) refl
+  on_a_sheet release = gave_back (effects.release_verdict lent) refl
+  on_a_sheet (offer limits k) = nothing refl refl
+  on_a_sheet (show place buffer) = nothing refl refl
+  on_a_sheet (show_dated place date buffer) = nothing refl refl
+  on_a_sheet standing = nothing refl refl

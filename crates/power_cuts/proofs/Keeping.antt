@@ -20,10 +20,10 @@ use Rattle.card.specs.Calls.{Kept, saved_state}
 use Rattle.card.specs.Public.{Public}
 use Rattle.role_lists.specs.Carers.{stands}
 use Rattle.power_cuts.specs.Held.{Sound, Covers}
-use Rattle.power_cuts.proofs.Apart.{Apart, sound_apart, still-taken, now-taken, other}
+use Rattle.power_cuts.proofs.Apart.{Apart, sound_apart, still_taken, now_taken, other}
 use Rattle.power_cuts.proofs.Deeds.{entry_in, Took, Marked, Released, Closed, Began, Deed, nothing, took, put}
 use Rattle.power_cuts.proofs.Deeds.{marks, released, closed, began, loaded}
-use Rattle.power_cuts.proofs.Standings.{holds-so}
+use Rattle.power_cuts.proofs.Standings.{holds_so}
 
 -- ---- one entry of the catalogue is stored
 
@@ -68,7 +68,7 @@ module _ (s t : Kept) (sheet start count from k total : ℕ) (x : Took s t sheet
       (λ (w : b < from). ⊎_elim
       (λ (z : (stands s sheet ≡ _) × (count ≡ 0)). absurd (omega (arith, z.1, c.0)))
       (λ z.
-      let o = holds-so s.shape.blocks (free s.map) (entry_in s sheet) _ z refl in
+      let o = holds_so s.shape.blocks (free s.map) (entry_in s sheet) _ z refl in
       inl (omega (arith, o.starts, c.0), omega (arith, o.starts, o.lasts)))
       x.before)
       (λ (w : from ≤ b). inr (w, omega (arith, c.1)))
@@ -84,12 +84,12 @@ module _ (s t : Kept) (sheet start count from k total : ℕ) (x : Took s t sheet
       (λ n. inl (of_same b (there s t sheet _ x.entries_now j n) c))
       (which j sheet)
 
-  took-apart : Apart s → Apart t
-  took-apart a = record {
+  took_apart : Apart s → Apart t
+  took_apart a = record {
     taken = λ j b c.
         ap (λ (m : List ℕ). free m b) x.map_now
-        ∙ ⊎_elim (λ o. still-taken s.map from k b (a.taken j b o))
-        (λ (o : (j ≡ sheet) × New b). now-taken s.map from k b o.1.0 o.1.1) (split j b c);
+        ∙ ⊎_elim (λ o. still_taken s.map from k b (a.taken j b o))
+        (λ (o : (j ≡ sheet) × New b). now_taken s.map from k b o.1.0 o.1.1) (split j b c);
     apart = λ i j b c d. go i j b (split i b c) (split j b d);
   }
     where
@@ -167,7 +167,7 @@ began_covers s t x j b c =
 
 pub keeps_apart : (s t : Kept) (c : Public) (d : Bool) → Deed s t c d → Apart s → Apart t
 keeps_apart s t c d (nothing e z) a = subst Apart (sym e) a
-keeps_apart s t c d (took i j sheet start count from k total x asked is) a = took-apart s t sheet start count from k total x a
+keeps_apart s t c d (took i j sheet start count from k total x asked is) a = took_apart s t sheet start count from k total x a
 keeps_apart s t c d (put sheet start count place payload i x) a =
     same_extents s t (put_covers s t x.entries_now) x.map_now a
 keeps_apart s t c d (marks i sheet mark x) a = same_extents s t (marked_covers s t sheet mark x) x.map_now a

@@ -7,7 +7,7 @@ use lib.ListN.{length}
 use Rattle.map_blocks.specs.Blocks.{free}
 use Rattle.catalogue_standings.specs.Standings.{is_paused}
 use Rattle.catalogue_standings.specs.declared.Standing.TheVariants.{Paused}
-use Rattle.catalogue_standings.proofs.Pauses.{reads-as-paused}
+use Rattle.catalogue_standings.proofs.Pauses.{reads_as_paused}
 use Rattle.card.specs.Calls.{Kept}
 use Rattle.card.specs.Public.{Public}
 use Rattle.role_lists.specs.Carers.{stands}
@@ -22,7 +22,7 @@ use Rattle.power_cuts.proofs.Closings.{closed-since}
 use Rattle.power_cuts.proofs.Deeds.{entry_in, Deed, nothing, took, put, marks, released, closed, began, loaded}
 use Rattle.power_cuts.proofs.Keeping.{keeps_apart}
 use Rattle.power_cuts.proofs.Own.{deed_own, no_loading}
-use Rattle.power_cuts.proofs.Since.{Since, Pause, since-recalled, since-released, since-moved}
+use Rattle.power_cuts.proofs.Since.{Since, Pause, since_recalled, since_released, since_moved}
 use Rattle.power_cuts.proofs.Standings.{length_so}
 use Rattle.power_cuts.proofs.Steps.{took-since, put-since, marked-since, released-since, began-since}
 use Rattle.power_cuts.proofs.Writes.{settled}
@@ -60,23 +60,23 @@ module _ (saved s t : Kept) (c : Public) (d released₀ moved₀ doubtful₀ : B
       (subst (λ (b : Bool). Since saved t released₀ b doubtful₀) (sym (or_false moved₀)) x)))
 
   -- a release, or a fresh
-  noted-release : freed ≡ true → shut ≡ false → Since saved t true moved₀ doubtful₀ → Then
-  noted-release f m x =
+  noted_release : freed ≡ true → shut ≡ false → Since saved t true moved₀ doubtful₀ → Then
+  noted_release f m x =
       subst (λ (b : Bool). Since saved t (released₀ || freed) (moved₀ || b) (cond b false doubtful₀)) (sym m)
       (subst (λ (b : Bool). Since saved t (released₀ || b) (moved₀ || false) doubtful₀) (sym f)
       (subst (λ (b : Bool). Since saved t b (moved₀ || false) doubtful₀) (sym (or_true released₀))
       (subst (λ (b : Bool). Since saved t true b doubtful₀) (sym (or_false moved₀)) x)))
 
   -- whatever is noted of releases
-  maybe-release : shut ≡ false → Since saved t released₀ moved₀ doubtful₀ → Then
-  maybe-release m x = go freed refl
+  maybe_release : shut ≡ false → Since saved t released₀ moved₀ doubtful₀ → Then
+  maybe_release m x = go freed refl
     where
       go : (f : Bool) → freed ≡ f → Then
-      go true e = noted-release e m (since-released saved t moved₀ doubtful₀ released₀ x)
+      go true e = noted_release e m (since_released saved t moved₀ doubtful₀ released₀ x)
       go false e = unnoted e m x
 
-  noted-closing : freed ≡ false → shut ≡ true → Since saved t released₀ true false → Then
-  noted-closing f m x =
+  noted_closing : freed ≡ false → shut ≡ true → Since saved t released₀ true false → Then
+  noted_closing f m x =
       subst (λ (b : Bool). Since saved t (released₀ || freed) (moved₀ || b) (cond b false doubtful₀)) (sym m)
       (subst (λ (b : Bool). Since saved t (released₀ || b) (moved₀ || true) false) (sym f)
       (subst (λ (b : Bool). Since saved t b (moved₀ || true) false) (sym (or_false released₀))
@@ -106,7 +106,7 @@ module _ (saved s t : Kept) (c : Public) (d released₀ moved₀ doubtful₀ : B
 
         go : Deed s t c d → Then
         go (nothing e z) =
-            maybe-release z (subst (λ (u : Kept). Since saved u released₀ moved₀ doubtful₀) (sym e) x)
+            maybe_release z (subst (λ (u : Kept). Since saved u released₀ moved₀ doubtful₀) (sym e) x)
         go (took i j sheet start count from k total y asked is) =
             unnoted (of_sort frees c taking d i) (of_sort moves c taking d i)
             (took-since saved s t released₀ moved₀ doubtful₀ x a long own sheet start count from k total y
@@ -121,17 +121,17 @@ module _ (saved s t : Kept) (c : Public) (d released₀ moved₀ doubtful₀ : B
             (marked-since saved s t released₀ moved₀ doubtful₀ x a long own sheet mark y
             (quiet (of_sort unsettles c marking d i)))
         go (released i j sheet y) =
-            noted-release (of_sort frees c releasing d i ∙ j) (of_sort moves c releasing d i)
-            (released-since saved s t true moved₀ doubtful₀ (since-released saved s moved₀ doubtful₀ released₀ x) a long own
+            noted_release (of_sort frees c releasing d i ∙ j) (of_sort moves c releasing d i)
+            (released-since saved s t true moved₀ doubtful₀ (since_released saved s moved₀ doubtful₀ released₀ x) a long own
             sheet y refl)
         go (began i j y) =
-            noted-release (of_sort frees c beginning d i ∙ j) (of_sort moves c beginning d i)
+            noted_release (of_sort frees c beginning d i ∙ j) (of_sort moves c beginning d i)
             (began-since saved s t true moved₀ doubtful₀
-            (since-released saved s moved₀ doubtful₀ released₀ x) a long own y refl)
+            (since_released saved s moved₀ doubtful₀ released₀ x) a long own y refl)
         go (closed i j y) =
             let o = owns (of_sort moves c closing d i ∙ j) in
-            noted-closing (of_sort frees c closing d i) (of_sort moves c closing d i ∙ j)
-            (closed-since saved s t y released₀ false (since-moved saved s released₀ doubtful₀ moved₀ x o) o a long)
+            noted_closing (of_sort frees c closing d i) (of_sort moves c closing d i ∙ j)
+            (closed-since saved s t y released₀ false (since_moved saved s released₀ doubtful₀ moved₀ x o) o a long)
         go (loaded i j y) = absurd (no_loading c d i j no_load)
 
 -- ---- a point of a life
@@ -139,10 +139,10 @@ module _ (saved s t : Kept) (c : Public) (d released₀ moved₀ doubtful₀ : B
 -- a sheet that was Paused when a state was saved
 pub was_paused : (s : Kept) (sheet : ℕ) → stands s sheet ≡ Paused → Pause s false sheet
 was_paused s sheet h = record {
-  marked = λ e. (reads-as-paused s.shape.blocks (free s.map) (entry_in s sheet) (ap is_paused h)).marked;
+  marked = λ e. (reads_as_paused s.shape.blocks (free s.map) (entry_in s sheet) (ap is_paused h)).marked;
   empty = length_so s.shape.blocks (free s.map) (entry_in s sheet) Paused h refl;
 }
 
 pub just_saved : (s : Kept) (doubtful : Bool) → Apart s → (doubtful ≡ false → OwnBlocks s) → Since s s false false doubtful
 just_saved s doubtful a own =
-    since-recalled s s.card false doubtful a refl (was_paused s) (λ i b l f q u h. refl) (λ e i b l f q u. refl) own
+    since_recalled s s.card false doubtful a refl (was_paused s) (λ i b l f q u h. refl) (λ e i b l f q u. refl) own

@@ -22,7 +22,7 @@ use Rattle.power_cuts.proofs.Blocks.{keeps_length}
 use Rattle.power_cuts.proofs.Images.{saved_sound, gives_back}
 use Rattle.power_cuts.proofs.Keeping.{keeps_apart}
 use Rattle.power_cuts.proofs.WholeCalls.{every_call}
-use Rattle.power_cuts.proofs.Writes.{settled, finished-holds}
+use Rattle.power_cuts.proofs.Writes.{settled, finished_holds}
 
 -- what a list leaves of the finished courses
 pub untouched_by : (s : Kept) → Apart s → (made : List Made) (es : List End) (t : Kept) → NoneUnsettles s made
@@ -54,7 +54,7 @@ pub recalls : (s : Kept) (card : List ℕ) → length card ≡ length s.card →
     → ShowsAsBefore s (recalled s card) sheet
 recalls s card long sheet start count h same =
     let u : Kept = recalled s card in
-    let o = finished-holds s sheet start count (inl h) in
+    let o = finished_holds s sheet start count (inl h) in
     let moved : Moved s u sheet start start count = record {
       shapes = refl;
       words = refl;

@@ -16,12 +16,12 @@ use Rattle.blocks_of_card.proofs.Card.{block_length}
 use Rattle.block_bytes.specs.Numbers.{number_at}
 use Rattle.block_seals.specs.Sealed.{blank, sound, check_holds}
 use Rattle.block_seals.proofs.Blank.{blank_is_zeros}
-use Rattle.block_seals.proofs.Sealed.{sound_zeros, sound-only}
+use Rattle.block_seals.proofs.Sealed.{sound_zeros, sound_only}
 use Rattle.catalogue.specs.Entries.{entry_at}
 use Rattle.catalogue.specs.declared.Entry.{Entry}
 use Rattle.catalogue_standings.specs.declared.Standing.TheVariants.{Absent, Open}
-use Rattle.image_soundness.proofs.Damage.{extent-inside}
-use Rattle.image_soundness.proofs.WhenSound.{sound-to}
+use Rattle.image_soundness.proofs.Damage.{extent_inside}
+use Rattle.image_soundness.proofs.WhenSound.{sound_to}
 use Rattle.closing.proofs.Claimed.{afterwards}
 use Rattle.closing.proofs.Members.{map_at}
 use Rattle.closing.specs.Closed.{closed_entry, closed_entries, closed_card}
@@ -33,14 +33,14 @@ use Rattle.power_cuts.specs.Held.{Sound, Covers}
 use Rattle.power_cuts.specs.Own.{OwnBlocks, MendedOwn, KeepsOwn, FreshOwn}
 use Rattle.power_cuts.specs.Sorts.{Sort, loading, sort_of, loads, done}
 use Rattle.power_cuts.proofs.Apart.{Apart, sound_apart, undamaged_at, listed}
-use Rattle.power_cuts.proofs.Blocks.{took-other, took-zeros, put_other, put-there}
+use Rattle.power_cuts.proofs.Blocks.{took_other, took_zeros, put_other, put_there}
 use Rattle.power_cuts.proofs.Deeds.{entry_in, Took, Put, Marked, Closed, Deed, nothing, took, put, marks, released}
 use Rattle.power_cuts.proofs.Deeds.{closed, began}
 use Rattle.power_cuts.proofs.Deeds.{loaded}
 use Rattle.power_cuts.proofs.Keeping.{here, there, which, split, put_covers, marked_covers, released_covers}
 use Rattle.power_cuts.proofs.Keeping.{began_covers}
 use Rattle.power_cuts.proofs.Keeping.{keeps_apart, none_held}
-use Rattle.power_cuts.proofs.Standings.{holds-so, length_so}
+use Rattle.power_cuts.proofs.Standings.{holds_so, length_so}
 use Rattle.power_cuts.proofs.WholeCalls.{every_call}
 
 -- ---- a block that is sound carries its sheet and place
@@ -61,8 +61,8 @@ zeros_unsound sheet place block e h =
 
 covered_inside : (s : Kept) → Sound s → (sheet b : ℕ) → Covers s sheet b → b < s.shape.blocks
 covered_inside s h sheet b c =
-    let x = sound-to (saved_of s) h in
-    let w = extent-inside s.shape.blocks (entry_in s sheet) (free s.map)
+    let x = sound_to (saved_of s) h in
+    let w = extent_inside s.shape.blocks (entry_in s sheet) (free s.map)
     (undamaged_at s.shape.blocks (free s.map) s.entries sheet (listed s.entries sheet b c.1 c.0)
     x.whole) in
     omega (arith, w, c.1)
@@ -113,7 +113,7 @@ took_start s t sheet start count from k total x j b c =
     let start-was : (entry_in s sheet).start ≡ start =
     ⊎_elim
     (λ (z : _ × (count ≡ 0)). absurd (no_blocks s sheet b z.0 (subst (λ (i : ℕ). Covers s i b) i c)))
-    (λ z. (holds-so s.shape.blocks (free s.map) (entry_in s sheet) (Open start count) z refl).starts) x.before in
+    (λ z. (holds_so s.shape.blocks (free s.map) (entry_in s sheet) (Open start count) z refl).starts) x.before in
     ap (λ (i : ℕ). (entry_in t i).start) i ∙ h ∙ sym start-was ∙ ap (λ (i : ℕ). (entry_in s i).start) (sym i))
     (λ n. ap (λ (e : Entry). e.start) (there s t sheet _ x.entries_now j n))
     (which j sheet)
@@ -133,12 +133,12 @@ took_own s t sheet start count from k total x a own j b c other place h =
     ⊎_elim
     (λ (d : Covers s j b).
     own_same s t own j b d
-    (took-other s t sheet start count from k total x b
+    (took_other s t sheet start count from k total x b
     (λ u v. true≢false (sym (x.unheld b u v) ∙ a.taken j b d)))
     (took_start s t sheet start count from k total x j b d) other place h)
     (λ (d : (j ≡ sheet) × ((from ≤ b) × (b < from + k))).
     absurd (zeros_unsound other place (block_of t.card b)
-    (took-zeros s t sheet start count from k total x b d.1.0 d.1.1) h))
+    (took_zeros s t sheet start count from k total x b d.1.0 d.1.1) h))
     (split s t sheet start count from k total x j b c)
 
 -- ---- put
@@ -147,22 +147,22 @@ pub put_own_block : (s t : Kept) (sheet start count at : ℕ) (payload : List �
     → (b : ℕ) → b ≡ start + at → (other place : ℕ) → sound other place (block_of t.card b) ≡ true
     → (other ≡ sheet) × (place ≡ at)
 put_own_block s t sheet start count at payload x b e other place h =
-    let q = holds-so s.shape.blocks (free s.map) (entry_in s sheet) (Open start count) x.before refl in
-    sound-only sheet at payload x.bytes other place (omega (arith, x.few))
+    let q = holds_so s.shape.blocks (free s.map) (entry_in s sheet) (Open start count) x.before refl in
+    sound_only sheet at payload x.bytes other place (omega (arith, x.few))
     (omega (arith, x.placed, q.inside, x.sizes.shape.limit))
     (subst (λ (z : List ℕ). sound other place z ≡ true)
-    (ap (block_of t.card) e ∙ put-there s t sheet start count at payload x) h)
+    (ap (block_of t.card) e ∙ put_there s t sheet start count at payload x) h)
 
 pub put_covers_own : (s t : Kept) (sheet start count at : ℕ) (payload : List ℕ) → Put s t sheet start count at payload
     → Covers s sheet (start + at)
 put_covers_own s t sheet start count at payload x =
-    let q = holds-so s.shape.blocks (free s.map) (entry_in s sheet) (Open start count) x.before refl in
+    let q = holds_so s.shape.blocks (free s.map) (entry_in s sheet) (Open start count) x.before refl in
     (omega (arith, q.starts), omega (arith, q.starts, q.lasts, x.placed))
 
 put_own : (s t : Kept) (sheet start count at : ℕ) (payload : List ℕ) → Put s t sheet start count at payload → Apart s
     → OwnBlocks s → OwnBlocks t
 put_own s t sheet start count at payload x a own j b c other place h =
-    let q = holds-so s.shape.blocks (free s.map) (entry_in s sheet) (Open start count) x.before refl in
+    let q = holds_so s.shape.blocks (free s.map) (entry_in s sheet) (Open start count) x.before refl in
     let d = put_covers s t x.entries_now j b c in
     let starts : (entry_in t j).start ≡ (entry_in s j).start =
     ap (λ (es : List Entry). (entry_at es j).start) x.entries_now in

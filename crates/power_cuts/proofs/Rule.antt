@@ -26,14 +26,14 @@ use Rattle.power_cuts.specs.Held.{Finished}
 use Rattle.power_cuts.specs.Images.{SavedAs, recalled}
 use Rattle.power_cuts.specs.Own.{OwnBlocks}
 use Rattle.power_cuts.specs.Rule as rule
-use Rattle.power_cuts.specs.Rule.{Point, begin, Allowed, CutIn, OldNewOrTorn, ending, left, wasSaved, afterSave}
-use Rattle.power_cuts.specs.Rule.{afterOther}
-use Rattle.power_cuts.specs.Rule.{after_call, afterCut, Event, makes, cuts, KeepsRule, lived, Unfinished, Safe, TheRule}
+use Rattle.power_cuts.specs.Rule.{Point, begin, Allowed, CutIn, OldNewOrTorn, ending, left, was_saved, after_save}
+use Rattle.power_cuts.specs.Rule.{after_other}
+use Rattle.power_cuts.specs.Rule.{after_call, after_cut, Event, makes, cuts, KeepsRule, lived, Unfinished, Safe, TheRule}
 use Rattle.power_cuts.specs.Sorts.{Sort, taking, putting, sort_on, sort_of, takes}
 use Rattle.power_cuts.specs.Sorts.{moves, saves, done}
 use Rattle.power_cuts.proofs.Apart.{Apart, sound_apart}
-use Rattle.power_cuts.proofs.Blocks.{took-other, put_other}
-use Rattle.power_cuts.proofs.Closings.{closing-sound, closing-bytes}
+use Rattle.power_cuts.proofs.Blocks.{took_other, put_other}
+use Rattle.power_cuts.proofs.Closings.{closing_sound, closing_bytes}
 use Rattle.power_cuts.proofs.Deeds.{entry_in, Took, Closed}
 use Rattle.power_cuts.proofs.Deeds.{Deed, nothing, took, put, marks, released, closed, began, loaded}
 use Rattle.power_cuts.proofs.Images.{saved_sound, gives_back}
@@ -42,11 +42,11 @@ use Rattle.power_cuts.proofs.Notes.{of_sort, since-call, was_paused, just_saved}
 use Rattle.power_cuts.proofs.OlderImage.{recalls}
 use Rattle.power_cuts.proofs.Own.{deed_own, mended_own}
 use Rattle.power_cuts.proofs.Shown.{shows_or_refuses}
-use Rattle.power_cuts.proofs.Since.{Since, since-recalled, not_open, paused-not-open}
-use Rattle.power_cuts.proofs.Standings.{holds-so, extent_made, is_open_lem}
+use Rattle.power_cuts.proofs.Since.{Since, since_recalled, not_open, paused_not_open}
+use Rattle.power_cuts.proofs.Standings.{holds_so, extent_made, is_open_lem}
 use Rattle.power_cuts.proofs.WholeCalls.{every_call}
 use Rattle.power_cuts.proofs.Words.{Words, keeps_words}
-use Rattle.power_cuts.proofs.Writes.{finished-holds}
+use Rattle.power_cuts.proofs.Writes.{finished_holds}
 
 -- ---- what an accepted closing, a save and a put did
 
@@ -153,10 +153,10 @@ written s t c d (took i j other start count from k total y asked is) a sheet b a
       total = total;
       now_open = ap (stands t) (sym sheets) ∙ took_open s t other start count from k total y a;
       was_free = ⊎_elim
-          (λ (l : b < from). absurd (n (sym (took-other s t other start count from k total y b (λ u v. omega (arith, l, u))))))
+          (λ (l : b < from). absurd (n (sym (took_other s t other start count from k total y b (λ u v. omega (arith, l, u))))))
           (λ (l : from ≤ b). ⊎_elim (λ (u : b < from + k). y.unheld b l u)
           (λ (u : from + k ≤ b).
-          absurd (n (sym (took-other s t other start count from k total y b (λ x v. omega (arith, u, v))))))
+          absurd (n (sym (took_other s t other start count from k total y b (λ x v. omega (arith, u, v))))))
           (order b (from + k)))
           (order b from);
     })
@@ -173,7 +173,7 @@ written s t c d (put other start count at payload i y) a sheet b ask w n =
           (λ k. absurd (n (sym (put_other s t other start count at payload y b k)))) (which b (start + at));
       starts = ap (λ (es : List Entry). (entry_at es sheet).start) y.entries_now
           ∙ ap (λ (z : ℕ). (entry_in s z).start) (sym sheets)
-          ∙ (holds-so s.shape.blocks (free s.map) (entry_in s other) (Open start count) y.before refl).starts;
+          ∙ (holds_so s.shape.blocks (free s.map) (entry_in s other) (Open start count) y.before refl).starts;
     })
 written s t c d (marks i other mark y) a sheet b ask w n =
     absurd (n (ap (λ (x : List ℕ). block_of x b) (sym y.card_now)))
@@ -200,49 +200,49 @@ module _ (p : Point) (m : Made) (good : Good p) (allowed : Allowed p m) where
   owns h =
       let y = closing_deed p.now (left p m) m.call (done (ending p m)) deed h in
       ⊎_elim (λ e. good.since.own_now e)
-      (λ e. mended_own p.now (closing-sound p.saved p.now (left p m) y) (closing-bytes p.saved p.now
+      (λ e. mended_own p.now (closing_sound p.saved p.now (left p m) y) (closing_bytes p.saved p.now
       (left p m) y)
       e)
       (allowed.closes_mended h)
 
-  then-since : Since p.saved (left p m) (p.released || rule.freed p m) (p.moved || rule.closed p m)
+  then_since : Since p.saved (left p m) (p.released || rule.freed p m) (p.moved || rule.closed p m)
       (cond (rule.closed p m) false p.doubtful)
-  then-since =
+  then_since =
       since-call p.saved p.now (left p m) m.call (done (ending p m)) p.released p.moved p.doubtful
       good.since allowed.takes_none owns allowed.no_load deed
 
-  words-then : Words (left p m).map
-  words-then =
+  words_then : Words (left p m).map
+  words_then =
       keeps_words p.now (left p m) m.call (done (ending p m)) deed allowed.no_load good.words
 
   -- a save that was done
-  good-save : wasSaved p m ≡ true → Good (afterSave p m)
-  good-save h =
+  good_save : was_saved p m ≡ true → Good (after_save p m)
+  good_save h =
       let is = is_save m.call (and_left _ (done (ending p m)) h) in
       let d : done (ending p m) ≡ true = and_right (saves (sort_of m.call)) _ h in
       let same : left p m ≡ p.now = saving_deed p.now (left p m) m.call (done (ending p m)) deed h in
       let saved : SavedAs p.now (ending p m).beside.image = record {
         manner = m.manner;
         beside = m.beside;
-        was_done = subst (λ (c : Public). done (ends m.manner p.now m.beside c) ≡ true) is d;
+        was_done_lem = subst (λ (c : Public). done (ends m.manner p.now m.beside c) ≡ true) is d;
         left = ap (λ (c : Public). (ends m.manner p.now m.beside c).beside.image) (sym is);
         words = good.words;
       } in
       record {
         saved_as = subst (λ (s : Kept). SavedAs s (ending p m).beside.image) (sym same) saved;
-        words = words-then;
+        words = words_then;
         since = just_saved (left p m) p.doubtful
             (keeps_apart p.now (left p m) m.call (done (ending p m)) deed good.since.apart)
             (λ e. deed_own p.now (left p m) m.call (done (ending p m)) deed good.since.apart allowed.no_load
             (good.since.own_now e));
       }
 
-  good-call : Good (after_call p m)
-  good-call = go (wasSaved p m) refl
+  good_call : Good (after_call p m)
+  good_call = go (was_saved p m) refl
     where
-      go : (b : Bool) → wasSaved p m ≡ b → Good (cond b (afterSave p m) (afterOther p m))
-      go true e = good-save e
-      go false e = record { saved_as = good.saved_as; words = words-then; since = then-since }
+      go : (b : Bool) → was_saved p m ≡ b → Good (cond b (after_save p m) (after_other p m))
+      go true e = good_save e
+      go false e = record { saved_as = good.saved_as; words = words_then; since = then_since }
 
   -- ---- a cut in the middle of the call
 
@@ -265,7 +265,7 @@ module _ (p : Point) (m : Made) (good : Good p) (allowed : Allowed p m) where
         go (inl e) =
             e ∙ good.since.old sheet start count f q l (subst (λ (x : List ℕ). sound sheet q x ≡ true) e h)
         go (inr (inl e)) =
-            e ∙ then-since.old sheet start count f q l (subst (λ (x : List ℕ). sound sheet q x ≡ true) e h)
+            e ∙ then_since.old sheet start count f q l (subst (λ (x : List ℕ). sound sheet q x ≡ true) e h)
         go (inr (inr t)) =
             let w = t.passes_no_other sheet q h in
             ⊎_elim
@@ -273,8 +273,8 @@ module _ (p : Point) (m : Made) (good : Good p) (allowed : Allowed p m) where
             absurd (not_open s₀ p.now p.released p.moved p.doubtful good.since sheet start count f o.start
             o.count o.was_open))
             (λ (o : Taken p.now (left p m) m.call (done (ending p m)) sheet (start + q)).
-            absurd (not_open s₀ (left p m) _ _ _ then-since sheet start count f o.start o.total o.now_open))
-            (written p.now (left p m) m.call (done (ending p m)) deed then-since.apart sheet (start + q) w.0 w.1
+            absurd (not_open s₀ (left p m) _ _ _ then_since sheet start count f o.start o.total o.now_open))
+            (written p.now (left p m) m.call (done (ending p m)) deed then_since.apart sheet (start + q) w.0 w.1
             t.changed)
 
     exact : (p.moved || rule.closed p m) ≡ false → (sheet start count : ℕ) → Finished s₀ sheet start count → (q : ℕ)
@@ -285,10 +285,10 @@ module _ (p : Point) (m : Made) (good : Good p) (allowed : Allowed p m) where
         go : OldNewOrTorn m.call p.now (left p m) (start + q) (block_of card (start + q))
             → block_of card (start + q) ≡ block_of s₀.card (start + q)
         go (inl e) = e ∙ good.since.exact (unmoved z) sheet start count f q l
-        go (inr (inl e)) = e ∙ then-since.exact z sheet start count f q l
+        go (inr (inl e)) = e ∙ then_since.exact z sheet start count f q l
         go (inr (inr t)) =
             absurd (t.changed (good.since.exact (unmoved z) sheet start count f q l
-            ∙ sym (then-since.exact z sheet start count f q l)))
+            ∙ sym (then_since.exact z sheet start count f q l)))
 
     own : (p.doubtful || (p.moved || rule.closed p m)) ≡ false → OwnBlocks (recalled s₀ card)
     own z i b c other place h = go (cut.blocks b)
@@ -307,12 +307,12 @@ module _ (p : Point) (m : Made) (good : Good p) (allowed : Allowed p m) where
         go (inl e) =
             good.since.own_saved d (unmoved u) i b c other place (subst (λ (x : List ℕ). sound other place x ≡ true) e h)
         go (inr (inl e)) =
-            then-since.own_saved d-then u i b c other place (subst (λ (x : List ℕ). sound other place x ≡ true) e h)
+            then_since.own_saved d-then u i b c other place (subst (λ (x : List ℕ). sound other place x ≡ true) e h)
         go (inr (inr t)) =
             let w = t.passes_no_other other place h in
             ⊎_elim
             (λ (o : Written p.now (left p m) other b).
-            let k = holds-so p.now.shape.blocks (free p.now.map) (entry_in p.now other) (Open o.start o.count)
+            let k = holds_so p.now.shape.blocks (free p.now.map) (entry_in p.now other) (Open o.start o.count)
             o.was_open refl in
             let r = good.since.nobody_else (unmoved u) i other b c
             (omega (arith, o.spot, k.starts), omega (arith, o.spot, k.starts, k.lasts, o.placed)) in
@@ -320,14 +320,14 @@ module _ (p : Point) (m : Made) (good : Good p) (allowed : Allowed p m) where
             (λ (o : Taken p.now (left p m) m.call (done (ending p m)) other b).
             absurd (true≢false (sym o.was_free ∙ good.since.apart.taken i b
             (good.since.still_held (unmoved u) (allowed.takes_none o.took_so) i b c))))
-            (written p.now (left p m) m.call (done (ending p m)) deed then-since.apart other b w.0 w.1
+            (written p.now (left p m) m.call (done (ending p m)) deed then_since.apart other b w.0 w.1
             t.changed)
 
-    good-cut : Good (afterCut p m card)
+    good-cut : Good (after_cut p m card)
     good-cut = record {
       saved_as = good.saved_as;
       words = good.saved_as.words;
-      since = since-recalled s₀ card (p.moved || rule.closed p m) (p.doubtful || (p.moved || rule.closed p m))
+      since = since_recalled s₀ card (p.moved || rule.closed p m) (p.doubtful || (p.moved || rule.closed p m))
           (sound_apart s₀ (saved_sound s₀ p.image good.saved_as)) long (was_paused s₀) old exact own;
     }
 
@@ -338,7 +338,7 @@ module _ (p : Point) (m : Made) (good : Good p) (allowed : Allowed p m) where
         where
           go : (st : Standing) → stands s₀ sheet ≡ st → (is_paused st ≡ false) × (is_complete st ≡ false)
           go Absent e = (refl, refl)
-          go Paused e = absurd (paused-not-open s₀ now released₁ moved₁ doubtful₁ x sheet e start count h)
+          go Paused e = absurd (paused_not_open s₀ now released₁ moved₁ doubtful₁ x sheet e start count h)
           go (PausedWith a l) e = absurd (not_open s₀ now released₁ moved₁ doubtful₁ x sheet a l (inr e) start count h)
           go (Open a l) e = (refl, refl)
           go (Complete a l) e = absurd (not_open s₀ now released₁ moved₁ doubtful₁ x sheet a l (inl e) start count h)
@@ -349,12 +349,12 @@ module _ (p : Point) (m : Made) (good : Good p) (allowed : Allowed p m) where
       gives_back = λ u manner b anew. gives_back s₀ p.image good.saved_as u manner b anew;
       shows = λ z sheet start count h. recalls s₀ card long sheet start count h (λ q l. exact z sheet start count (inl h) q l);
       shows_or_refuses = λ sheet start count h.
-          let o = finished-holds s₀ sheet start count (inl h) in
+          let o = finished_holds s₀ sheet start count (inl h) in
           shows_or_refuses s₀ card sheet start count h long
           (λ q l. subst (λ (b : ℕ). sound sheet q (block_of card (b + q)) ≡ true
           → block_of card (b + q) ≡ block_of s₀.card (b + q)) (sym o.starts) (old sheet start count (inl h) q l));
       open_before = unfinished p.now p.released p.moved p.doubtful good.since;
-      open_after = λ sheet start count h z. unfinished (left p m) _ _ _ then-since sheet start count h;
+      open_after = λ sheet start count h z. unfinished (left p m) _ _ _ then_since sheet start count h;
       own = own;
     }
 
@@ -362,9 +362,9 @@ module _ (p : Point) (m : Made) (good : Good p) (allowed : Allowed p m) where
 
 good_lived : (p : Point) (events : List Event) → Good p → KeepsRule p events → Good (lived p events)
 good_lived p [] good keeps = good
-good_lived p (makes m ∷ events) good keeps = good_lived (after_call p m) events (good-call p m good keeps.0) keeps.1
+good_lived p (makes m ∷ events) good keeps = good_lived (after_call p m) events (good_call p m good keeps.0) keeps.1
 good_lived p (cuts m card ∷ events) good keeps =
-    good_lived (afterCut p m card) events (good-cut p m good keeps.0 card keeps.1) keeps.2
+    good_lived (after_cut p m card) events (good-cut p m good keeps.0 card keeps.1) keeps.2
 
 pub the_rule : TheRule
 the_rule s image doubtful saved own events keeps m card allowed cut =

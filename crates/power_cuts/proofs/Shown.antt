@@ -112,50 +112,50 @@ module _ (s : Kept) (card : List ℕ) (sheet start count : ℕ) (complete : stan
       && sheets_fit (length s.entries) && eqb bytes (512 * s.shape.blocks)))
 
   -- the rows before those that read blocks
-  abbrev frontOf : Bool → ℕ → ℕ → ℕ → Standing → List Row
-  frontOf away place bytes of-card st =
+  abbrev front_of : Bool → ℕ → ℕ → ℕ → Standing → List Row
+  front_of away place bytes of-card st =
       row 21 away ∷ row 1 (misfit_with of-card) ∷ row 2 (leb (length s.entries) sheet) ∷ row 4 (is_damaged st)
       ∷ row 5 (is_absent st) ∷ row 6 (is_paused st) ∷ row 7 (is_open st)
       ∷ row 3 (leb (length_of st) place || not (eqb bytes 496)) ∷ []
 
   -- where they accept, the sheet has the place
-  has-place : (away : Bool) (place bytes of-card : ℕ) → first_of (frontOf away place bytes of-card (stands s sheet)) ≡ accepted
+  has_place : (away : Bool) (place bytes of-card : ℕ) → first_of (front_of away place bytes of-card (stands s sheet)) ≡ accepted
       → place < count
-  has-place away place bytes of-card h =
-      let r = (clear 3 (frontOf away place bytes of-card (stands s sheet)) h).0 in
+  has_place away place bytes of-card h =
+      let r = (clear 3 (front_of away place bytes of-card (stands s sheet)) h).0 in
       let l = leb-false (length_of (stands s sheet)) place (neither_left _ (not (eqb bytes 496)) r) in
       omega (arith, l, ap length_of complete)
 
   abbrev rows_of : Bool → ℕ → ℕ → ℕ → List Row → List Row
-  rows_of away place bytes of-card rest = frontOf away place bytes of-card (stands s sheet) ++ rest
+  rows_of away place bytes of-card rest = front_of away place bytes of-card (stands s sheet) ++ rest
 
   -- what comes of two verdicts
   comes : (v w : Verdict) (new old buffer : List ℕ) → SameOr4 v w (new ≡ old)
-      → ((told s.shape (effects.shownAnswer v) ≡ told s.shape (effects.shownAnswer w))
-      × (effects.shownBuffer v new buffer ≡ effects.shownBuffer w old buffer))
-      ⊎ ((effects.shownAnswer v ≡ Refused 4) × (effects.shownBuffer v new buffer ≡ buffer))
+      → ((told s.shape (effects.shown_answer v) ≡ told s.shape (effects.shown_answer w))
+      × (effects.shown_buffer v new buffer ≡ effects.shown_buffer w old buffer))
+      ⊎ ((effects.shown_answer v ≡ Refused 4) × (effects.shown_buffer v new buffer ≡ buffer))
   comes v w new old buffer (inl h) = inl (
-    ap (λ (x : Verdict). told s.shape (effects.shownAnswer x)) h.0,
-    ap (λ (x : Verdict). effects.shownBuffer x new buffer) h.0 ∙ go w h.1,
+    ap (λ (x : Verdict). told s.shape (effects.shown_answer x)) h.0,
+    ap (λ (x : Verdict). effects.shown_buffer x new buffer) h.0 ∙ go w h.1,
   )
     where
-      go : (x : Verdict) → (x ≡ accepted → new ≡ old) → effects.shownBuffer x new buffer ≡ effects.shownBuffer x old buffer
+      go : (x : Verdict) → (x ≡ accepted → new ≡ old) → effects.shown_buffer x new buffer ≡ effects.shown_buffer x old buffer
       go accepted k = ap payload_of (k refl)
       go (refused number) k = refl
   comes v w new old buffer (inr h) =
-      inr (ap effects.shownAnswer h, ap (λ (x : Verdict). effects.shownBuffer x new buffer) h)
+      inr (ap effects.shown_answer h, ap (λ (x : Verdict). effects.shown_buffer x new buffer) h)
 
   module _ (away : Bool) (place : ℕ) (buffer : List ℕ) where
-    show-rows : (c : List ℕ) → effects.showVerdict (lent_to away (recalled s c) c sheet) place buffer
+    show-rows : (c : List ℕ) → effects.show_verdict (lent_to away (recalled s c) c sheet) place buffer
         ≡ first_of (rows_of away place (length buffer) (length c) (row 4 (not (sound sheet place (block_of c (e + place)))) ∷ []))
-    unfolding effects.showVerdict table_of rows_for view_on
+    unfolding effects.show_verdict table_of rows_for view_on
     show-rows c = refl
 
-    show-so : SameOr4 (effects.showVerdict (lent_to away (recalled s card) card sheet) place buffer)
-        (effects.showVerdict (lent_to away s s.card sheet) place buffer)
+    show-so : SameOr4 (effects.show_verdict (lent_to away (recalled s card) card sheet) place buffer)
+        (effects.show_verdict (lent_to away s s.card sheet) place buffer)
         (block_of card (e + place) ≡ block_of s.card (e + place))
     show-so =
-        subst (λ (v : Verdict). SameOr4 v (effects.showVerdict (lent_to away s s.card sheet) place buffer)
+        subst (λ (v : Verdict). SameOr4 v (effects.show_verdict (lent_to away s s.card sheet) place buffer)
         (block_of card (e + place) ≡ block_of s.card (e + place)))
         (sym (show-rows card ∙ ap (λ (n : ℕ). first_of (rows_of away place (length buffer) n
         (row 4 (not (sound sheet place (block_of card (e + place)))) ∷ []))) long))
@@ -163,20 +163,20 @@ module _ (s : Kept) (card : List ℕ) (sheet start count : ℕ) (complete : stan
         (row 4 (not (sound sheet place (block_of card (e + place)))) ∷ []))) w
         (block_of card (e + place) ≡ block_of s.card (e + place)))
         (sym (show-rows s.card))
-        (behind_rows (frontOf away place (length buffer) (length s.card) (stands s sheet)) _ _ _
+        (behind_rows (front_of away place (length buffer) (length s.card) (stands s sheet)) _ _ _
         (λ h. undated_rows sheet place (block_of card (e + place)) (block_of s.card (e + place))
-        (same place (has-place away place (length buffer) (length s.card) h)))))
+        (same place (has_place away place (length buffer) (length s.card) h)))))
 
     module _ (date : Date) where
-      dated-of : (c : List ℕ) → effects.showDatedVerdict (lent_to away (recalled s c) c sheet) place date buffer
+      dated-of : (c : List ℕ) → effects.show_dated_verdict (lent_to away (recalled s c) c sheet) place date buffer
           ≡ first_of (rows_of away place (length buffer) (length c)
           (term_rows (sound sheet 0 (block_of c (e + 0))) (term_of (payload_of (block_of c e))) date
           (row 4 (not (sound sheet place (block_of c (e + place)))) ∷ [])))
-      unfolding effects.showDatedVerdict table_of rows_for view_on
+      unfolding effects.show_dated_verdict table_of rows_for view_on
       dated-of c = refl
 
       -- place 0 is read where the sheet starts
-      zeroth : (c : List ℕ) → effects.showDatedVerdict (lent_to away (recalled s c) c sheet) place date buffer
+      zeroth : (c : List ℕ) → effects.show_dated_verdict (lent_to away (recalled s c) c sheet) place date buffer
           ≡ first_of (rows_of away place (length buffer) (length c)
           (term_rows (sound sheet 0 (block_of c (e + 0))) (term_of (payload_of (block_of c (e + 0)))) date
           (row 4 (not (sound sheet place (block_of c (e + place)))) ∷ [])))
@@ -188,25 +188,25 @@ module _ (s : Kept) (card : List ℕ) (sheet start count : ℕ) (complete : stan
       rest_of c = term_rows (sound sheet 0 (block_of c (e + 0))) (term_of (payload_of (block_of c (e + 0)))) date
           (row 4 (not (sound sheet place (block_of c (e + place)))) ∷ [])
 
-      dated-so : SameOr4 (effects.showDatedVerdict (lent_to away (recalled s card) card sheet) place date buffer)
-          (effects.showDatedVerdict (lent_to away s s.card sheet) place date buffer)
+      dated-so : SameOr4 (effects.show_dated_verdict (lent_to away (recalled s card) card sheet) place date buffer)
+          (effects.show_dated_verdict (lent_to away s s.card sheet) place date buffer)
           (block_of card (e + place) ≡ block_of s.card (e + place))
       dated-so =
-          subst (λ (v : Verdict). SameOr4 v (effects.showDatedVerdict (lent_to away s s.card sheet) place date buffer)
+          subst (λ (v : Verdict). SameOr4 v (effects.show_dated_verdict (lent_to away s s.card sheet) place date buffer)
           (block_of card (e + place) ≡ block_of s.card (e + place)))
           (sym (zeroth card ∙ ap (λ (n : ℕ). first_of (rows_of away place (length buffer) n (rest_of card))) long))
           (subst (λ (w : Verdict). SameOr4 (first_of (rows_of away place (length buffer) (length s.card) (rest_of card))) w
           (block_of card (e + place) ≡ block_of s.card (e + place)))
           (sym (zeroth s.card))
-          (behind_rows (frontOf away place (length buffer) (length s.card) (stands s sheet)) (rest_of card) (rest_of
+          (behind_rows (front_of away place (length buffer) (length s.card) (stands s sheet)) (rest_of card) (rest_of
           s.card) _
           (λ h.
-          let l = has-place away place (length buffer) (length s.card) h in
+          let l = has_place away place (length buffer) (length s.card) h in
           dated_rows sheet place date (block_of card (e + 0)) (block_of s.card (e + 0)) (block_of card (e + place))
           (block_of s.card (e + place)) (same 0 (omega (arith, l))) (same place l))))
 
   pub shows_or_refuses : ShowsOrRefuses s (recalled s card) sheet
-  unfolding effects.showAnswer effects.showBuffer effects.showDatedAnswer effects.showDatedBuffer
+  unfolding effects.show_answer effects.show_buffer effects.show_dated_answer effects.show_dated_buffer
   shows_or_refuses = record {
     plainly = λ m b place buffer.
         comes _ _ (block_of card (e + place)) (block_of s.card (e + place)) buffer

@@ -19,8 +19,8 @@ use Rattle.power_cuts.specs.Images.{recalled}
 use Rattle.power_cuts.specs.Own.{OwnBlocks}
 use Rattle.power_cuts.proofs.Apart.{Apart}
 use Rattle.power_cuts.proofs.Deeds.{entry_in}
-use Rattle.power_cuts.proofs.Standings.{holds-so}
-use Rattle.power_cuts.proofs.Writes.{not-unfinished}
+use Rattle.power_cuts.proofs.Standings.{holds_so}
+use Rattle.power_cuts.proofs.Writes.{not_unfinished}
 
 -- what became of a course that was finished when the image was saved: it was released; or it is finished, and each of its
 -- places
@@ -67,8 +67,8 @@ module _ (saved : Kept) (card : List ℕ) (moved doubtful : Bool) (a : Apart sav
     (exact : moved ≡ false → (sheet start count : ℕ) → Finished saved sheet start count → (q : ℕ) → q < count
     → block_of card (start + q) ≡ block_of saved.card (start + q))
     (own : doubtful ≡ false → OwnBlocks (recalled saved card)) where
-  pub since-recalled : Since saved (recalled saved card) false moved doubtful
-  since-recalled = record {
+  pub since_recalled : Since saved (recalled saved card) false moved doubtful
+  since_recalled = record {
     apart = record { taken = a.taken; apart = a.apart };
     long = long;
     courses = λ sheet start count f. stays start f (λ e. refl) (λ q l h. old sheet start count f q l h);
@@ -85,8 +85,8 @@ module _ (saved : Kept) (card : List ℕ) (moved doubtful : Bool) (a : Apart sav
 -- ---- weaker notes
 
 module _ (saved now : Kept) (moved doubtful : Bool) where
-  pub since-released : (released : Bool) → Since saved now released moved doubtful → Since saved now true moved doubtful
-  since-released released x = record {
+  pub since_released : (released : Bool) → Since saved now released moved doubtful → Since saved now true moved doubtful
+  since_released released x = record {
     apart = x.apart;
     long = x.long;
     courses = λ sheet start count f. go sheet start count (x.courses sheet start count f);
@@ -105,9 +105,9 @@ module _ (saved now : Kept) (moved doubtful : Bool) where
       go sheet start count (stays then f e g) = stays then f e g
 
 module _ (saved now : Kept) (released doubtful : Bool) where
-  pub since-moved : (moved : Bool) → Since saved now released moved doubtful → OwnBlocks now
+  pub since_moved : (moved : Bool) → Since saved now released moved doubtful → OwnBlocks now
       → Since saved now released true false
-  since-moved moved x own = record {
+  since_moved moved x own = record {
     apart = x.apart;
     long = x.long;
     courses = λ sheet start count f. go sheet start count (x.courses sheet start count f);
@@ -134,12 +134,12 @@ module _ (saved now : Kept) (released moved doubtful : Bool) (x : Since saved no
     where
       go : Course saved now released moved sheet start count → ⊥
       go (gone r z) =
-          let o = holds-so now.shape.blocks (free now.map) (entry_in now sheet) (Open a l) h refl in
+          let o = holds_so now.shape.blocks (free now.map) (entry_in now sheet) (Open a l) h refl in
           omega (arith, z, o.lasts, o.some)
-      go (stays then g e b) = not-unfinished now sheet then count g (Open a l) h refl
+      go (stays then g e b) = not_unfinished now sheet then count g (Open a l) h refl
 
   -- nor is one that was Paused without blocks
-  pub paused-not-open : (sheet : ℕ) → stands saved sheet ≡ Paused → (a l : ℕ) → stands now sheet ≡ Open a l → ⊥
-  paused-not-open sheet h a l o =
-      let q = holds-so now.shape.blocks (free now.map) (entry_in now sheet) (Open a l) o refl in
+  pub paused_not_open : (sheet : ℕ) → stands saved sheet ≡ Paused → (a l : ℕ) → stands now sheet ≡ Open a l → ⊥
+  paused_not_open sheet h a l o =
+      let q = holds_so now.shape.blocks (free now.map) (entry_in now sheet) (Open a l) o refl in
       omega (arith, (x.paused sheet h).empty, q.lasts, q.some)

@@ -9,7 +9,7 @@ use native.Mathlib.Omega.{arith}
 use lib.Dec.{eqb, leb}
 use borrow.Author.Tests.{leb-true, le-leb, not-true, ne_eqb}
 use Rattle.map_blocks.specs.Blocks.{all}
-use Rattle.map_blocks.proofs.Runs.{all-elim, all-intro, all_same}
+use Rattle.map_blocks.proofs.Runs.{all_elim, all_intro, all_same}
 use Rattle.laws.proofs.Bools.{and_left, and_right, and_both}
 use Rattle.catalogue.specs.Entries.{absent_mark, paused_mark, open_mark, complete_mark}
 use Rattle.catalogue.specs.declared.Entry.{Entry}
@@ -73,9 +73,9 @@ module _ (n : ℕ) (f : ℕ → Bool) (e : Entry) where
     pub taken : (b : ℕ) → start ≤ b → b < start + count → f b ≡ false
     pub extent : extent_holds n f start count ≡ true
 
-  said-so : has_blocks (standing_of n f e) ≡ true → Says e (standing_of n f e) (extent_holds n f e.start e.length)
+  said_so : has_blocks (standing_of n f e) ≡ true → Says e (standing_of n f e) (extent_holds n f e.start e.length)
   unfolding standing_of
-  said-so h =
+  said_so h =
       says e (eqb e.mark absent_mark) (eqb e.mark paused_mark) (eqb e.mark open_mark) (eqb e.mark complete_mark)
       (eqb e.start 0 && eqb e.length 0) (extent_holds n f e.start e.length) h
 
@@ -90,13 +90,13 @@ module _ (n : ℕ) (f : ℕ → Bool) (e : Entry) where
         lasts = q;
         some = leb-true 1 count (and_left a b (and_left (a && b) c h));
         inside = leb-true (start + count) n (and_right a b (and_left (a && b) c h));
-        taken = λ x l u. not-true (f x) (all-elim (λ t. not (f t)) start count (and_right (a && b) c h) x l u);
+        taken = λ x l u. not-true (f x) (all_elim (λ t. not (f t)) start count (and_right (a && b) c h) x l u);
         extent = h;
       }
 
-  pub holds-so : (st : Standing) → standing_of n f e ≡ st → has_blocks st ≡ true → Holds (start_of st) (length_of st)
-  holds-so st h b =
-      let x = said-so (ap has_blocks h ∙ b) in
+  pub holds_so : (st : Standing) → standing_of n f e ≡ st → has_blocks st ≡ true → Holds (start_of st) (length_of st)
+  holds_so st h b =
+      let x = said_so (ap has_blocks h ∙ b) in
       let p : e.start ≡ start_of st = sym x.starts ∙ ap start_of h in
       let q : e.length ≡ length_of st = sym x.lasts ∙ ap length_of h in
       parts (start_of st) (length_of st) p q (sym (λ y. extent_holds n f (p y) (q y)) ∙ x.extent)
@@ -194,7 +194,7 @@ unfolding extent_holds
 extent_made n f start count some inside taken =
     and_both (leb 1 count && leb (start + count) n) (all (λ t. not (f t)) start count)
     (and_both (leb 1 count) (leb (start + count) n) (le-leb 1 count some) (le-leb (start + count) n inside))
-    (all-intro (λ t. not (f t)) start count (λ b l u. ap not (taken b l u)))
+    (all_intro (λ t. not (f t)) start count (λ b l u. ap not (taken b l u)))
 
 module _ (n : ℕ) (f : ℕ → Bool) (start count : ℕ) (h : extent_holds n f start count ≡ true) where
   pub is_complete_lem : standing_of n f (entry_of complete_mark start count) ≡ Complete start count
@@ -205,9 +205,9 @@ module _ (n : ℕ) (f : ℕ → Bool) (start count : ℕ) (h : extent_holds n f 
   unfolding standing_of
   is_open_lem = ap (λ (b : Bool). cond b (Open start count) Damaged) h
 
-  pub is-paused : 1 ≤ count → standing_of n f (entry_of paused_mark start count) ≡ PausedWith start count
+  pub is_paused_lem : 1 ≤ count → standing_of n f (entry_of paused_mark start count) ≡ PausedWith start count
   unfolding standing_of
-  is-paused some =
+  is_paused_lem some =
       go (eqb start 0) (eqb count 0) (ne_eqb count 0 (λ z. omega arith))
       ∙ ap (λ (b : Bool). cond b (PausedWith start count) Damaged) h
     where

@@ -22,16 +22,16 @@ use Rattle.power_cuts.specs.Held.{Covers, Finished, Untouched}
 use Rattle.power_cuts.specs.Images.{recalled}
 use Rattle.power_cuts.specs.Own.{OwnBlocks}
 use Rattle.power_cuts.proofs.Apart.{Apart, other}
-use Rattle.power_cuts.proofs.Blocks.{took-other, took-zeros, put_other}
+use Rattle.power_cuts.proofs.Blocks.{took_other, took_zeros, put_other}
 use Rattle.power_cuts.proofs.Deeds.{entry_in, Took, Put, Turns, completes, pauses_none, pauses, resumes, Marked, Released}
 use Rattle.power_cuts.proofs.Deeds.{Began}
 use Rattle.power_cuts.proofs.Keeping.{here, there, which, split, put_covers, marked_covers, released_covers}
 use Rattle.power_cuts.proofs.Keeping.{began_covers}
 use Rattle.power_cuts.proofs.Keeping.{none_held}
 use Rattle.power_cuts.proofs.Own.{took_start, marked_start, put_own_block, put_covers_own, covers_none, zeros_unsound}
-use Rattle.power_cuts.proofs.Since.{Since, Course, gone, stays, not_open, paused-not-open}
-use Rattle.power_cuts.proofs.Standings.{holds-so, length_so, paused_mark_lem}
-use Rattle.power_cuts.proofs.Writes.{finished-covers, finished-kept}
+use Rattle.power_cuts.proofs.Since.{Since, Course, gone, stays, not_open, paused_not_open}
+use Rattle.power_cuts.proofs.Standings.{holds_so, length_so, paused_mark_lem}
+use Rattle.power_cuts.proofs.Writes.{finished_covers, finished_kept}
 
 -- an entry with the mark of a pause and no blocks is neither Absent nor turned into anything
 paused_not_absent : (s : Kept) (sheet : ℕ) → (entry_in s sheet).mark ≡ paused_mark → stands s sheet ≡ Absent → ⊥
@@ -41,14 +41,14 @@ paused_not_absent s sheet m h =
 never_turned : (s : Kept) (sheet mark : ℕ) → (entry_in s sheet).mark ≡ paused_mark → (entry_in s sheet).length ≡ 0
     → Turns (stands s sheet) mark → ⊥
 never_turned s sheet mark m z (completes a l h e) =
-    let o = holds-so s.shape.blocks (free s.map) (entry_in s sheet) (Open a l) h refl in omega
+    let o = holds_so s.shape.blocks (free s.map) (entry_in s sheet) (Open a l) h refl in omega
     (arith, z, o.lasts, o.some)
 never_turned s sheet mark m z (pauses_none h e) = paused_not_absent s sheet m h
 never_turned s sheet mark m z (pauses a l h e) =
-    let o = holds-so s.shape.blocks (free s.map) (entry_in s sheet) (Complete a l) h refl in
+    let o = holds_so s.shape.blocks (free s.map) (entry_in s sheet) (Complete a l) h refl in
     omega (arith, z, o.lasts, o.some)
 never_turned s sheet mark m z (resumes a l h e) =
-    let o = holds-so s.shape.blocks (free s.map) (entry_in s sheet) (PausedWith a l) h refl in
+    let o = holds_so s.shape.blocks (free s.map) (entry_in s sheet) (PausedWith a l) h refl in
     omega (arith, z, o.lasts, o.some)
 
 module _ (saved s t : Kept) (released moved doubtful : Bool) (x : Since saved s released moved doubtful) (a : Apart t)
@@ -85,8 +85,8 @@ module _ (saved s t : Kept) (released moved doubtful : Bool) (x : Since saved s 
     pub not_new : moved ≡ false → (i b : ℕ) → Covers saved i b → from ≤ b → b < from + k → ⊥
     not_new m i b c u v = true≢false (sym (y.unheld b u v) ∙ x.apart.taken i b (x.still_held m none i b c))
 
-    other-entry : (i : ℕ) → (stands s i ≡ Absent → ⊥) → ((a l : ℕ) → stands s i ≡ Open a l → ⊥) → entry_in t i ≡ entry_in s i
-    other-entry i n o =
+    other_entry : (i : ℕ) → (stands s i ≡ Absent → ⊥) → ((a l : ℕ) → stands s i ≡ Open a l → ⊥) → entry_in t i ≡ entry_in s i
+    other_entry i n o =
         there s t sheet _ y.entries_now i (λ e. ⊎_elim (λ z. n (ap (stands s) e ∙ z.0)) (λ z. o start count
         (ap (stands s) e ∙ z)) y.before)
 
@@ -102,7 +102,7 @@ module _ (saved s t : Kept) (released moved doubtful : Bool) (x : Since saved s 
         absurd (covers_none s i b (ap (λ (j : ℕ). (entry_in s j).length) e ∙ length_so s.shape.blocks (free s.map)
         (entry_in s sheet) Absent z.0 refl) c))
         (λ z.
-        let o = holds-so s.shape.blocks (free s.map) (entry_in s sheet) (Open start count) z refl in
+        let o = holds_so s.shape.blocks (free s.map) (entry_in s sheet) (Open start count) z refl in
         let u : (entry_in s i).start ≡ start = ap (λ (j : ℕ). (entry_in s j).start) e ∙ o.starts in
         let v : (entry_in s i).length ≡ count = ap (λ (j : ℕ). (entry_in s j).length) e ∙ o.lasts in
         (omega (arith, p, u, c.0), omega (arith, p, q, u, v, c.1, y.total_is)))
@@ -118,9 +118,9 @@ module _ (saved s t : Kept) (released moved doubtful : Bool) (x : Since saved s 
       courses = λ i b l f. course-stays quiet (λ j r. absurd (true≢false (sym r ∙ none))) i b l (x.courses i b l f);
       paused = λ i h.
           let z = x.paused i h in
-          let e = other-entry i
+          let e = other_entry i
           (λ n. paused_not_absent s i (z.marked none) n)
-          (λ u v o. paused-not-open saved s released moved doubtful x i h u v o) in
+          (λ u v o. paused_not_open saved s released moved doubtful x i h u v o) in
           record {
             marked = λ r. ap (λ (w : Entry). w.mark) e ∙ z.marked r;
             empty = ap (λ (w : Entry). w.length) e ∙ z.empty;
@@ -129,13 +129,13 @@ module _ (saved s t : Kept) (released moved doubtful : Bool) (x : Since saved s 
           ⊎_elim
           (λ (n : (from ≤ b + q) × (b + q < from + k)).
           λ h. absurd (zeros_unsound i q (block_of t.card (b + q))
-          (took-zeros s t sheet start count from k total y (b + q) n.0 n.1) h))
-          (λ n. through i q (b + q) (b + q) (took-other s t sheet start count from k total y (b + q) (λ v w. n (v, w)))
+          (took_zeros s t sheet start count from k total y (b + q) n.0 n.1) h))
+          (λ n. through i q (b + q) (b + q) (took_other s t sheet start count from k total y (b + q) (λ v w. n (v, w)))
           (x.old i b l f q u))
           (among (b + q));
       exact = λ m i b l f q u.
-          took-other s t sheet start count from k total y (b + q)
-          (not_new m i (b + q) (finished-covers saved i b l f q u)) ∙ x.exact m i b l f q u;
+          took_other s t sheet start count from k total y (b + q)
+          (not_new m i (b + q) (finished_covers saved i b l f q u)) ∙ x.exact m i b l f q u;
       nobody_else = λ m i j b c d.
           ⊎_elim
           (λ (e : Covers s j b).
@@ -148,7 +148,7 @@ module _ (saved s t : Kept) (released moved doubtful : Bool) (x : Since saved s 
       own_saved = λ d m i b c other place h.
           x.own_saved d m i b c other place
           (subst (λ (z : List ℕ). sound other place z ≡ true)
-          (took-other s t sheet start count from k total y b (not_new m i b c)) h);
+          (took_other s t sheet start count from k total y b (not_new m i b c)) h);
     }
       where
         among : (b : ℕ) → ((from ≤ b) × (b < from + k)) ⊎ ((from ≤ b) × (b < from + k) → ⊥)
@@ -185,7 +185,7 @@ module _ (saved s t : Kept) (released moved doubtful : Bool) (x : Since saved s 
           (which (b + q) (start + at));
       exact = λ m i b l f q u.
           put_other s t sheet start count at payload y (b + q) (λ e.
-          let r = x.nobody_else m i sheet (b + q) (finished-covers saved i b l f q u)
+          let r = x.nobody_else m i sheet (b + q) (finished_covers saved i b l f q u)
           (subst (λ (z : ℕ). Covers s sheet z) (sym e) (put_covers_own s t sheet start count at payload y)) in
           not_open saved s released moved doubtful x i b l f start count (ap (stands s) (sym r.0) ∙ y.before))
           ∙ x.exact m i b l f q u;
@@ -198,7 +198,7 @@ module _ (saved s t : Kept) (released moved doubtful : Bool) (x : Since saved s 
           ⊎_elim
           (λ (e : b ≡ start + at).
           let r = put_own_block s t sheet start count at payload y b e other place h in
-          let o = holds-so s.shape.blocks (free s.map) (entry_in s sheet) (Open start count) y.before refl in
+          let o = holds_so s.shape.blocks (free s.map) (entry_in s sheet) (Open start count) y.before refl in
           let w = x.nobody_else m i sheet b c
           (subst (λ (z : ℕ). Covers s sheet z) (sym e) (put_covers_own s t sheet start count at payload y)) in
           (r.0 ∙ w.0, omega (arith, w.1, o.starts, e, r.1)))
@@ -269,7 +269,7 @@ module _ (saved s t : Kept) (released moved doubtful : Bool) (x : Since saved s 
         go n (gone r z) = gone r (ap (λ (w : Entry). w.length) (there s t sheet _ y.entries_now i n) ∙ z)
         go n (stays then f e g) =
             stays then
-            (finished-kept s t i y.blocks_now (there s t sheet _ y.entries_now i n)
+            (finished_kept s t i y.blocks_now (there s t sheet _ y.entries_now i n)
             (λ b v. ap (λ (m : List ℕ). free m b) y.map_now
             ∙ other s.map (entry_in s sheet).start (entry_in s sheet).length b true
             (λ l u. n (x.apart.apart i sheet b v (l, u)))) then count f)

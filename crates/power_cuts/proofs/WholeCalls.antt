@@ -18,26 +18,26 @@ use Rattle.image_soundness.specs.Sound.{sound}
 use Rattle.image.specs.Effects as images
 use Rattle.image.specs.Image.{state_in}
 use Rattle.image.specs.Table.{load_verdict}
-use Rattle.image.proofs.Verdicts.{accepted-to}
+use Rattle.image.proofs.Verdicts.{accepted_to}
 use Rattle.closing.proofs.Closes.{refused_number}
-use Rattle.card.specs.Calls.{Kept, told, is_done, saved_state, freshOutcome, fresh_map, load_outcome_by, loadOutcome}
-use Rattle.card.specs.Calls.{loadMap, loadEntries}
+use Rattle.card.specs.Calls.{Kept, told, is_done, saved_state, fresh_outcome, fresh_map, load_outcome_by, load_outcome}
+use Rattle.card.specs.Calls.{load_map, load_entries}
 use Rattle.card.specs.declared.Outcome.{Outcome}
 use Rattle.card.specs.Public.{Public, on, fresh, search, survey, save, close, build, check, load, Manner, turned, Beside}
 use Rattle.card.specs.Public.{kept_after, ends}
-use Rattle.card.proofs.Closings.{verdictBy, close-refused, close-accepted}
+use Rattle.card.proofs.Closings.{verdict_by, close_refused, close_accepted}
 use Rattle.card.proofs.Images.{load_refused}
 use Rattle.card.proofs.Refusals.{fresh_refused}
 use Rattle.power_cuts.specs.Sorts.{done}
 use Rattle.power_cuts.proofs.Deeds.{Deed, nothing, closed, began, loaded}
-use Rattle.power_cuts.proofs.EveryCall.{on-a-sheet}
+use Rattle.power_cuts.proofs.EveryCall.{on_a_sheet}
 
 module _ (m : Manner) (s : Kept) (b : Beside) where
   abbrev after : Public → Kept
   after c = kept_after (ends m s b c)
 
-  abbrev wasDone : Public → Bool
-  wasDone c = done (ends m s b c)
+  abbrev was_done : Public → Bool
+  was_done c = done (ends m s b c)
 
   -- ---- fresh
 
@@ -45,17 +45,17 @@ module _ (m : Manner) (s : Kept) (b : Beside) where
     abbrev away : Bool
     away = turned m (fresh n)
 
-    abbrev outcomeFor : Verdict → Outcome
-    outcomeFor v =
+    abbrev outcome_for : Verdict → Outcome
+    outcome_for v =
         cond (eqb (row_number v) 0) (told (record { blocks = n; free = n }) Done) (told s.shape (Refused (row_number v)))
 
     begins : (v : Verdict) → fresh_verdict away n (length s.map) (length s.entries) ≡ v
-        → Deed s (after (fresh n)) (fresh n) (wasDone (fresh n))
+        → Deed s (after (fresh n)) (fresh n) (was_done (fresh n))
     begins accepted h =
-        let handed : freshOutcome away s.shape n s.map s.entries ≡ outcomeFor accepted = ap outcomeFor h in
+        let handed : fresh_outcome away s.shape n s.map s.entries ≡ outcome_for accepted = ap outcome_for h in
         began refl (ap (λ (o : Outcome). eqb (number_of o.answer) 0) handed) (record {
-          map_now = ap (λ (v : Verdict). settle v (maps.freshMap n (length s.map)) (λ number. s.map)) h
-              ∙ ap (λ (o : Outcome). maps.freshMap o.shape.blocks (length s.map)) (sym handed);
+          map_now = ap (λ (v : Verdict). settle v (maps.fresh_map n (length s.map)) (λ number. s.map)) h
+              ∙ ap (λ (o : Outcome). maps.fresh_map o.shape.blocks (length s.map)) (sym handed);
           entries_now = ap (λ (o : Outcome). cleared_if s.entries (is_done o.answer)) handed;
           card_now = refl;
         })
@@ -68,10 +68,10 @@ module _ (m : Manner) (s : Kept) (b : Beside) where
   abbrev guide : List ℕ
   guide = cond m.guided b.summary []
 
-  closes : (v : Verdict) → verdictBy (turned m close) m.guided guide s b.scratch ≡ v
-      → Deed s (after close) close (wasDone close)
+  closes : (v : Verdict) → verdict_by (turned m close) m.guided guide s b.scratch ≡ v
+      → Deed s (after close) close (was_done close)
   closes accepted h =
-      let x = close-accepted (turned m close) m.guided guide s b.scratch h in
+      let x = close_accepted (turned m close) m.guided guide s b.scratch h in
       closed refl (ap (λ (o : Outcome). eqb (number_of o.answer) 0) x.outcome) (record {
         away = turned m close;
         fits = guide_tested m.guided (length s.map) (length guide);
@@ -83,7 +83,7 @@ module _ (m : Manner) (s : Kept) (b : Beside) where
         card_now = x.bytes;
       })
   closes (refused number) h =
-      let x = close-refused (turned m close) m.guided guide s b.scratch number h in
+      let x = close_refused (turned m close) m.guided guide s b.scratch number h in
       nothing (λ y. record {
         shape = (x.outcome y).shape;
         map = x.words y;
@@ -105,13 +105,13 @@ module _ (m : Manner) (s : Kept) (b : Beside) where
 
     -- what an accepted load hands back and leaves
     record Gives : Type 0 where
-      outcome : loadOutcome off s.shape image s.map s.entries b.scratch
+      outcome : load_outcome off s.shape image s.map s.entries b.scratch
           ≡ told (record { blocks = (state_in image).blocks; free = (state_in image).spare }) Done
-      words : loadMap off s.shape image s.map s.entries b.scratch ≡ (state_in image).map
-      sheets : loadEntries off s.shape image s.map s.entries b.scratch ≡ (state_in image).entries
+      words : load_map off s.shape image s.map s.entries b.scratch ≡ (state_in image).map
+      sheets : load_entries off s.shape image s.map s.entries b.scratch ≡ (state_in image).entries
 
     gives : verdict ≡ accepted → Gives
-    unfolding images.loadResult images.loadMap images.loadEntries
+    unfolding images.load_result images.load_map images.load_entries
     gives h = record {
       outcome = ap (λ (v : Verdict). load_outcome_by s.shape (settle v
           (record { number = 0; blocks = (state_in image).blocks; free = (state_in image).spare })
@@ -120,12 +120,12 @@ module _ (m : Manner) (s : Kept) (b : Beside) where
       sheets = ap (λ (v : Verdict). settle v (state_in image).entries (λ number. s.entries)) h;
     }
 
-    loads : (v : Verdict) → verdict ≡ v → Deed s (after (load image)) (load image) (wasDone (load image))
+    loads : (v : Verdict) → verdict ≡ v → Deed s (after (load image)) (load image) (was_done (load image))
     loads accepted h =
         let x = gives h in
         loaded refl (ap (λ (o : Outcome). eqb (number_of o.answer) 0) x.outcome) (record {
           sound_now = ap sound (λ y. saved_state (x.outcome y).shape (x.words y) (x.sheets y))
-              ∙ (accepted-to off image (length s.map) (length s.entries) (length b.scratch) h).whole;
+              ∙ (accepted_to off image (length s.map) (length s.entries) (length b.scratch) h).whole;
           card_now = refl;
         })
     loads (refused number) h =
@@ -134,12 +134,12 @@ module _ (m : Manner) (s : Kept) (b : Beside) where
 
   -- ---- every call
 
-  pub every_call : (c : Public) → Deed s (after c) c (wasDone c)
-  every_call (on sheet ask) = on-a-sheet (turned m (on sheet ask)) m.guided s b sheet ask
+  pub every_call : (c : Public) → Deed s (after c) c (was_done c)
+  every_call (on sheet ask) = on_a_sheet (turned m (on sheet ask)) m.guided s b sheet ask
   every_call (fresh n) = begins n (fresh_verdict (turned m (fresh n)) n (length s.map) (length s.entries)) refl
   every_call (load image) =
       loads image (load_verdict (turned m (load image)) image (length s.map) (length s.entries) (length b.scratch)) refl
-  every_call close = closes (verdictBy (turned m close) m.guided guide s b.scratch) refl
+  every_call close = closes (verdict_by (turned m close) m.guided guide s b.scratch) refl
   every_call (search k) = nothing refl refl
   every_call survey = nothing refl refl
   every_call save = nothing refl refl

@@ -20,7 +20,7 @@ use Rattle.power_cuts.proofs.Notes.{since-call, just_saved}
 use Rattle.power_cuts.proofs.Shown.{shows_or_refuses}
 use Rattle.power_cuts.proofs.Since.{Since}
 use Rattle.power_cuts.proofs.WholeCalls.{every_call}
-use Rattle.power_cuts.proofs.Writes.{finished-holds}
+use Rattle.power_cuts.proofs.Writes.{finished_holds}
 
 -- what holds since the save, whatever is noted
 pub record Noted (saved t : Kept) : Type 0 where
@@ -56,7 +56,7 @@ with_closings s image saved own made es t quiet r u m b anew same =
     quiet r in (
       gives_back s image saved u m b anew,
       λ sheet start count h.
-          let o = finished-holds s sheet start count (inl h) in
+          let o = finished_holds s sheet start count (inl h) in
           subst (λ (card : List ℕ). ShowsOrRefuses s (recalled s card) sheet) (sym same)
           (shows_or_refuses s t.card sheet start count h x.since.long
           (λ q l. subst (λ (z : ℕ). sound sheet q (block_of t.card (z + q)) ≡ true

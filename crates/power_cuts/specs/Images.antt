@@ -15,7 +15,7 @@ use Rattle.power_cuts.specs.Sorts.{done}
 pub record SavedAs (s : Kept) (image : List ℕ) : Type 0 where
   pub manner : Manner
   pub beside : Beside
-  pub was_done : done (ends manner s beside save) ≡ true
+  pub was_done_lem : done (ends manner s beside save) ≡ true
   pub left : (ends manner s beside save).beside.image ≡ image
   pub words : (i : ℕ) → get_or s.map i 0 < 18446744073709551616
 

@@ -65,12 +65,12 @@ module _ (p : Point) (m : Made) where
   abbrev pub loaded : Bool
   loaded = loads (sort_of m.call) && done ending
 
-  abbrev pub wasSaved : Bool
-  wasSaved = saves (sort_of m.call) && done ending
+  abbrev pub was_saved : Bool
+  was_saved = saves (sort_of m.call) && done ending
 
   -- After a call: after a save that was done, which makes the last image, and after any other.
-  abbrev pub afterSave : Point
-  afterSave = record {
+  abbrev pub after_save : Point
+  after_save = record {
     image = ending.beside.image;
     saved = left;
     now = left;
@@ -79,8 +79,8 @@ module _ (p : Point) (m : Made) where
     doubtful = p.doubtful;
   }
 
-  abbrev pub afterOther : Point
-  afterOther = record {
+  abbrev pub after_other : Point
+  after_other = record {
     image = p.image;
     saved = p.saved;
     now = left;
@@ -90,11 +90,11 @@ module _ (p : Point) (m : Made) where
   }
 
   abbrev pub after_call : Point
-  after_call = cond wasSaved afterSave afterOther
+  after_call = cond was_saved after_save after_other
 
   -- After a cut in the middle of that call, which leaves the card so: the last image is loaded.
-  abbrev pub afterCut : List ℕ → Point
-  afterCut card = record {
+  abbrev pub after_cut : List ℕ → Point
+  after_cut card = record {
     image = p.image;
     saved = p.saved;
     now = recalled p.saved card;
@@ -137,12 +137,12 @@ pub data Event : Type 0 where
 
 abbrev pub next : Point → Event → Point
 next p (makes m) = after_call p m
-next p (cuts m card) = afterCut p m card
+next p (cuts m card) = after_cut p m card
 
 abbrev pub KeepsRule : Point → List Event → Type 0
 KeepsRule p [] = Unit {0}
 KeepsRule p (makes m ∷ events) = Allowed p m × KeepsRule (after_call p m) events
-KeepsRule p (cuts m card ∷ events) = Allowed p m × CutIn p m card × KeepsRule (afterCut p m card) events
+KeepsRule p (cuts m card ∷ events) = Allowed p m × CutIn p m card × KeepsRule (after_cut p m card) events
 
 abbrev pub lived : Point → List Event → Point
 lived p [] = p
@@ -181,10 +181,10 @@ pub record Safe (p : Point) (m : Made) (card : List ℕ) : Type 0 where
       → ShowsOrRefuses p.saved (recalled p.saved card) sheet
   -- no sheet that was Open at the cut, before the call or after it, stands Paused or Complete
   pub open_before : (sheet start count : ℕ) → stands p.now sheet ≡ Open start count → Unfinished p.saved sheet
-  pub open_after : (sheet start count : ℕ) → stands (left p m) sheet ≡ Open start count → wasSaved p m ≡ false
+  pub open_after : (sheet start count : ℕ) → stands (left p m) sheet ≡ Open start count → was_saved p m ≡ false
       → Unfinished p.saved sheet
   -- no held block is sound for another sheet or place, but after a cut between a closing and its save
-  pub own : (afterCut p m card).doubtful ≡ false → OwnBlocks (recalled p.saved card)
+  pub own : (after_cut p m card).doubtful ≡ false → OwnBlocks (recalled p.saved card)
 
 -- Of every life that keeps the rule, from any save of a state: one in which each held block is sound for its own sheet and
 -- place

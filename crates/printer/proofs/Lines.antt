@@ -14,10 +14,10 @@ use Rattle.printer.specs.Decimal.{decimal, numeral}
 use Rattle.printer.specs.Writing.{behind, written, Writes}
 use Rattle.printer.specs.Lines.{space, newline, sheet_line}
 use Rattle.printer.specs.Text.{sheet_lines, card_text}
-use Rattle.printer.specs.Sheets.{cursor, headWriter, headWritten, lines_writer, lines_written, place_of, Describes}
+use Rattle.printer.specs.Sheets.{cursor, head_writer, head_written, lines_writer, lines_written, place_of, Describes}
 use Rattle.printer.specs.declared.Writer.{Writer}
 use Rattle.printer.proofs.Written.{then, writes_past, writes_none}
-use Rattle.printer.proofs.Writers.{full, going, line-some, line-none, cursor_stays, text_stays}
+use Rattle.printer.proofs.Writers.{full, going, line_some, line_none, cursor_stays, text_stays}
 
 -- a line has a byte
 line_long : (sheet : ℕ) (e : Entry) → 0 < length (sheet_line sheet e)
@@ -49,7 +49,7 @@ after_some e es at text s h w =
     let first : Writes (sheet_line at.sheet e) text at.at (behind text at.at (sheet_line at.sheet e))
     (written text at.at (sheet_line at.sheet e)) =
     record { ends = refl; leaves = refl } in
-    let l = line-some at text e _ _ (going at text s h) first in
+    let l = line_some at text e _ _ (going at text s h) first in
     let next : at.sheet + 1 ≡ suc at.sheet = omega arith in
     subst (λ (n : ℕ). Writes (sheet_line at.sheet e ++ sheet_lines n es) text at.at (lines_writer (e ∷ es) at text).at
     (lines_written (e ∷ es) at text)) next
@@ -64,7 +64,7 @@ after_full : (e : Entry) (es : List Entry) (at : Writer) (text : List ℕ) → a
     → at.sheet ≤ at.at → After (e ∷ es) at text
 unfolding lines_writer lines_written
 after_full e es at text s h k =
-    let l = line-none at text e (full at text s h) in
+    let l = line_none at text e (full at text s h) in
     let p = writes_past (sheet_lines at.sheet (e ∷ es)) text at.at (omega (arith, h, k)) in
     record {
       ends = ap (λ (c : Writer). c.at) (ap₂ (lines_writer es) (sym l.0) (sym l.1)
@@ -89,11 +89,11 @@ after (e ∷ es) at text s k = which (order at.sheet (length text)) (λ c t z k.
 -- the lines behind the first two are the text of the card
 pub describes : (n spare : ℕ) (counts : Counts) (entries : List Entry) (text : List ℕ)
     → Describes n spare counts entries text (place_of
-    (lines_writer entries (headWriter n spare (length entries) counts text)
-    (headWritten n spare (length entries) counts text)))
-    (lines_written entries (headWriter n spare (length entries) counts text) (headWritten n spare (length entries) counts text))
-unfolding headWriter headWritten card_text
+    (lines_writer entries (head_writer n spare (length entries) counts text)
+    (head_written n spare (length entries) counts text)))
+    (lines_written entries (head_writer n spare (length entries) counts text) (head_written n spare (length entries) counts text))
+unfolding head_writer head_written card_text
 describes n spare counts entries text =
     then (record { ends = refl; leaves = refl })
-    (after entries (headWriter n spare (length entries) counts text) (headWritten n spare (length entries) counts text) refl
+    (after entries (head_writer n spare (length entries) counts text) (head_written n spare (length entries) counts text) refl
     (omega arith))

@@ -132,15 +132,15 @@ abbrev step_model : Type 0 → Type 0
 step_model X = Writer → List ℕ → Entry → X
 
 module _ (step-out : step_model Writer) (step-x-text : step_model (List ℕ)) where
-  abbrev step-says : Writer → List ℕ → Entry → Writer → List ℕ → Type 0
-  step-says a0 a1 a2 r b1 = (r ≡ step-out a0 a1 a2) × (b1 ≡ step-x-text a0 a1 a2)
+  abbrev step_says : Writer → List ℕ → Entry → Writer → List ℕ → Type 0
+  step_says a0 a1 a2 r b1 = (r ≡ step-out a0 a1 a2) × (b1 ≡ step-x-text a0 a1 a2)
 
   module _ {M : Type 1} (𝓤 : Ura M) where
     abbrev step-clauses : Clauses 𝓤 step_ended
     step-clauses κs a = record {
       ghost = Unit {0};
       requires = λ _. emp 𝓤;
-      ensures = λ _ r e. fact 𝓤 (step-says a.0 a.1.0.now a.1.1.0 r e.1.0.now);
+      ensures = λ _ r e. fact 𝓤 (step_says a.0 a.1.0.now a.1.1.0 r e.1.0.now);
     }
 
     module _ (𝓛 : Logic 𝓤) where
@@ -232,19 +232,19 @@ module _ (#step : Name) (step-out : step_model Writer) (step-x-text : step_model
       left : List Entry
       state : Writer
       is_state : Is Writer'.the_row state (machine-state state ∷ [])
-      z-x-text : List ℕ
-      l-x-text : length z-x-text ≡ length x-text.now
+      z_x_text : List ℕ
+      l_x_text : length z_x_text ≡ length x-text.now
       all : past ++ left ≡ ys
 
     -- the loop ends here: what stands is the outcome
     abbrev Ends : Point → Type 0
-    Ends x = (x.state ≡ after-state ys x-start x-text.now) × (x.z-x-text ≡ after-x-text ys x-start x-text.now)
+    Ends x = (x.state ≡ after-state ys x-start x-text.now) × (x.z_x_text ≡ after-x-text ys x-start x-text.now)
 
     -- the loop goes on from here, and comes to the outcome
     record At : Type 0 where
       at : Point
-      comes-state : after-state at.left at.state at.z-x-text ≡ after-state ys x-start x-text.now
-      comes-x-text : after-x-text at.left at.state at.z-x-text ≡ after-x-text ys x-start x-text.now
+      comes_state : after-state at.left at.state at.z_x_text ≡ after-state ys x-start x-text.now
+      comes_x_text : after-x-text at.left at.state at.z_x_text ≡ after-x-text ys x-start x-text.now
 
     abbrev size : At → ℕ
     size x = length x.at.left
@@ -256,12 +256,12 @@ module _ (#step : Name) (step-out : step_model Writer) (step-x-text : step_model
         left = ys;
         state = x-start;
         is_state = is-x-start;
-        z-x-text = x-text.now;
-        l-x-text = refl;
+        z_x_text = x-text.now;
+        l_x_text = refl;
         all = refl;
       };
-      comes-state = refl;
-      comes-x-text = refl;
+      comes_state = refl;
+      comes_x_text = refl;
     }
 
     sums : (x : Point) → length x.past + length x.left ≡ n
@@ -271,30 +271,30 @@ module _ (#step : Name) (step-out : step_model Writer) (step-x-text : step_model
     len x = length-append x.past x.left ∙ sums x
 
     -- ---- the caller has what `step` asks
-    abbrev step_args : (δ₀-step : GName) (v-state : Writer) (l-x-text : List ℕ) (v-entry : Entry) → Writer
+    abbrev step_args : (δ₀-step : GName) (v-state : Writer) (l_x_text : List ℕ) (v-entry : Entry) → Writer
         × (MutBor (List ℕ) × (Entry × Unit {0}))
-    step_args δ₀-step v-state l-x-text v-entry = (v-state, (at-x-text δ₀-step l-x-text, (v-entry, tt)))
+    step_args δ₀-step v-state l_x_text v-entry = (v-state, (at-x-text δ₀-step l_x_text, (v-entry, tt)))
 
-    abbrev to_step : (ν₀-step : ℕ) (δ₀-step : GName) (v-state : Writer) (l-x-text : List ℕ) (v-entry : Entry)
+    abbrev to_step : (ν₀-step : ℕ) (δ₀-step : GName) (v-state : Writer) (l_x_text : List ℕ) (v-entry : Entry)
         → (step-contract step-out step-x-text 𝓤 𝓛).Ghost
-    to_step ν₀-step δ₀-step v-state l-x-text v-entry = (
+    to_step ν₀-step δ₀-step v-state l_x_text v-entry = (
       (
         (ν₀-step ∷ [], tt),
         (full_share, tt),
         tt,
-        step_args δ₀-step v-state l-x-text v-entry,
+        step_args δ₀-step v-state l_x_text v-entry,
         ((machine-state v-state) ∷ [], (s-x-text ∷ [], ((machine-entry v-entry) ∷ [], tt))),
       ),
       tt,
     )
 
-    goes_step : (ν₀-step : ℕ) (δ₀-step : GName) (v-state : Writer) (l-x-text : List ℕ) (v-entry : Entry)
+    goes_step : (ν₀-step : ℕ) (δ₀-step : GName) (v-state : Writer) (l_x_text : List ℕ) (v-entry : Entry)
         → Is Writer'.the_row v-state ((machine-state v-state) ∷ []) → Is Entry'.the_row v-entry ((machine-entry v-entry) ∷ [])
         → ent 𝓤 (⋆ 𝓛 (‵ (flft (ν₀-step ∷ []) full_share) ∷ ‵ ((MutSlice (named 0) (ν₀-step ∷ []) u8).own_val
-        (at-x-text δ₀-step l-x-text) (s-x-text ∷ [])) ∷ [])) ((step-contract step-out step-x-text 𝓤 𝓛).pre
-        (to_step ν₀-step δ₀-step v-state l-x-text v-entry))
-    goes_step ν₀-step δ₀-step v-state l-x-text v-entry is-v-state is-v-entry =
-        qed 𝓛 (‵ (flft (ν₀-step ∷ []) full_share) ∷ ‵ ((MutSlice (named 0) (ν₀-step ∷ []) u8).own_val (at-x-text δ₀-step l-x-text)
+        (at-x-text δ₀-step l_x_text) (s-x-text ∷ [])) ∷ [])) ((step-contract step-out step-x-text 𝓤 𝓛).pre
+        (to_step ν₀-step δ₀-step v-state l_x_text v-entry))
+    goes_step ν₀-step δ₀-step v-state l_x_text v-entry is-v-state is-v-entry =
+        qed 𝓛 (‵ (flft (ν₀-step ∷ []) full_share) ∷ ‵ ((MutSlice (named 0) (ν₀-step ∷ []) u8).own_val (at-x-text δ₀-step l_x_text)
         (s-x-text ∷ [])) ∷ []) ∵
         nothing ! $ bring ! (1 ∷ 0 ∷ []) $ group ! 2 $ nothing ! $
         owned ! Entry'.the_row (Is Entry'.the_row) (struct.makes Entry'.the_type Entry''.the_plain 𝓛) v-entry _ is-v-entry $
@@ -304,16 +304,16 @@ module _ (#step : Name) (step-out : step_model Writer) (step-x-text : step_model
         fjoin ! $ bring ! (1 ∷ 0 ∷ []) $ join ! $ frame ! $ done !
 
     -- ---- the exit
-    exits : (r : Writer) (z-x-text : List ℕ) → Is Writer'.the_row r (machine-state r ∷ [])
-        → Says x-catalogue.now x-start x-text.now r z-x-text → length z-x-text ≡ length x-text.now
+    exits : (r : Writer) (z_x_text : List ℕ) → Is Writer'.the_row r (machine-state r ∷ [])
+        → Says x-catalogue.now x-start x-text.now r z_x_text → length z_x_text ≡ length x-text.now
         → ent 𝓤 (⋆ 𝓛 (‵ ((ShrSlice (named 0) κ₀ Entry'.the_row).own_val x-catalogue (s-x-catalogue ∷ [])) ∷ ‵ (flft κ₀ q₀)
-        ∷ ‵ ((MutSlice (named 1) κ₁ u8).own_val (at-x-text x-text.name z-x-text) (s-x-text ∷ [])) ∷ ‵ (flft κ₁ q₁) ∷ []))
+        ∷ ‵ ((MutSlice (named 1) κ₁ u8).own_val (at-x-text x-text.name z_x_text) (s-x-text ∷ [])) ∷ ‵ (flft κ₁ q₁) ∷ []))
         (Post (machine-state r))
-    exits r z-x-text is said l-x-text =
+    exits r z_x_text is said l_x_text =
         qed 𝓛 (‵ ((ShrSlice (named 0) κ₀ Entry'.the_row).own_val x-catalogue (s-x-catalogue ∷ [])) ∷ ‵ (flft κ₀ q₀)
-        ∷ ‵ ((MutSlice (named 1) κ₁ u8).own_val (at-x-text x-text.name z-x-text) (s-x-text ∷ [])) ∷ ‵ (flft κ₁ q₁) ∷ []) ∵
-        suffices ! _ (ends_at 𝓛 ended stayed (clauses 𝓤) bound (machine-state r) r (tt, (tt, (z-x-text, tt)))
-        (tt, (tt, (l-x-text, tt)))) $
+        ∷ ‵ ((MutSlice (named 1) κ₁ u8).own_val (at-x-text x-text.name z_x_text) (s-x-text ∷ [])) ∷ ‵ (flft κ₁ q₁) ∷ []) ∵
+        suffices ! _ (ends_at 𝓛 ended stayed (clauses 𝓤) bound (machine-state r) r (tt, (tt, (z_x_text, tt)))
+        (tt, (tt, (l_x_text, tt)))) $
         says ! said $ nothing ! $ bring ! (2 ∷ 3 ∷ 0 ∷ []) $ group ! 3 $ frame ! $ nothing ! $ bring ! (2 ∷ 0 ∷ []) $
         fjoin ! $
         owned ! Writer'.the_row (Is Writer'.the_row) (struct.makes Writer'.the_type Writer''.the_plain 𝓛) x-start _
@@ -341,7 +341,7 @@ module _ (#step : Name) (step-out : step_model Writer) (step-x-text : step_model
       J x = ‵ (row Entry'.the_row q' ys x-catalogue.ptr.0 x-catalogue.ptr.1)
           ∷ ‵ (fobor κ₀ q₀ ((arr_parts (shares Entry'.the_row) n).part q' ys x-catalogue.ptr.0 x-catalogue.ptr.1))
           ∷ ‵ ((ShrSlice (named 0) κ₀ Entry'.the_row).own_val x-catalogue (s-x-catalogue ∷ []))
-          ∷ ‵ ((MutSlice (named 1) κ₁ u8).own_val (at-x-text x-text.name x.z-x-text) (s-x-text ∷ []))
+          ∷ ‵ ((MutSlice (named 1) κ₁ u8).own_val (at-x-text x-text.name x.z_x_text) (s-x-text ∷ []))
           ∷ ‵ (flft κ₁ q₁)
           ∷ ‵ (froom Entry''.mir l₁₁ 0)
           ∷ ‵ (fdies Entry''.mir l₁₁)
@@ -388,7 +388,7 @@ module _ (#step : Name) (step-out : step_model Writer) (step-x-text : step_model
           leave ! 20 refl refl $ leave ! 18 refl refl $ leave ! 16 refl refl $ leave_room ! 14 refl refl $
           leave_room ! 12 refl refl $ leave_room ! 10 refl refl $ leave_room ! 8 refl refl $ leave_room ! 6 refl refl $
           leave_room ! 4 refl refl $ free0 ! $ bring ! (1 ∷ 0 ∷ 0 ∷ 0 ∷ []) $
-          by ! (exits x.state x.z-x-text x.is_state (fin.0, fin.1) x.l-x-text)
+          by ! (exits x.state x.z_x_text x.is_state (fin.0, fin.1) x.l_x_text)
 
       -- ---- the turn that finds no entry
       ends : (x : At) → x.at.left ≡ [] → Sq 𝓛 (I x) (runs C Λ En (turn #step) (any_q (after_turn 𝓤 H (Next x) Left)))
@@ -408,10 +408,10 @@ module _ (#step : Name) (step-out : step_model Writer) (step-x-text : step_model
 
           fin : Ends x.at
           fin = (
-            sym (after-state-nil x.at.state x.at.z-x-text) ∙ ap (λ (l : List Entry). after-state l x.at.state
-                x.at.z-x-text) (sym nil) ∙ x.comes-state,
-            sym (after-x-text-nil x.at.state x.at.z-x-text) ∙ ap (λ (l : List Entry). after-x-text l x.at.state
-                x.at.z-x-text) (sym nil) ∙ x.comes-x-text,
+            sym (after-state-nil x.at.state x.at.z_x_text) ∙ ap (λ (l : List Entry). after-state l x.at.state
+                x.at.z_x_text) (sym nil) ∙ x.comes_state,
+            sym (after-x-text-nil x.at.state x.at.z_x_text) ∙ ap (λ (l : List Entry). after-x-text l x.at.state
+                x.at.z_x_text) (sym nil) ∙ x.comes_x_text,
           )
 
       -- ---- a turn that passes one entry
@@ -454,10 +454,10 @@ module _ (#step : Name) (step-out : step_model Writer) (step-x-text : step_model
             _ is) is
 
         module _ (r : Writer) (m-x-text : List ℕ) (is : Is Writer'.the_row r (machine-state r ∷ []))
-            (heard-el : step-says step-out step-x-text x.at.state x.at.z-x-text el r m-x-text)
+            (heard-el : step_says step-out step-x-text x.at.state x.at.z_x_text el r m-x-text)
             (k-x-text : length m-x-text ≡ length x-text.now) where
-          said : step-says step-out step-x-text x.at.state x.at.z-x-text e r m-x-text
-          said = subst (λ (d : Entry). step-says step-out step-x-text x.at.state x.at.z-x-text d r m-x-text) el-is
+          said : step_says step-out step-x-text x.at.state x.at.z_x_text e r m-x-text
+          said = subst (λ (d : Entry). step_says step-out step-x-text x.at.state x.at.z_x_text d r m-x-text) el-is
               heard-el
 
           -- where the loop stands after the turn
@@ -468,20 +468,20 @@ module _ (#step : Name) (step-out : step_model Writer) (step-x-text : step_model
               left = es;
               state = r;
               is_state = is;
-              z-x-text = m-x-text;
-              l-x-text = k-x-text;
+              z_x_text = m-x-text;
+              l_x_text = k-x-text;
               all = append_snoc x.at.past e es ∙ seam;
             };
-            comes-state = (λ j. after-state es (said.0 j) (said.1 j)) ∙ sym (ap (λ (b : Bool). choose b
-                ((step-out x.at.state x.at.z-x-text e)) (after-state es (step-out x.at.state x.at.z-x-text e)
-                (step-x-text x.at.state x.at.z-x-text e))) (sym (ap (λ (t : Writer). t.stop) said.0) ∙ going))
-                ∙ sym (after-state-cons e es x.at.state x.at.z-x-text) ∙ ap (λ (l : List Entry). after-state l
-                x.at.state x.at.z-x-text) (sym cons) ∙ x.comes-state;
-            comes-x-text = (λ j. after-x-text es (said.0 j) (said.1 j)) ∙ sym (ap (λ (b : Bool). choose b
-                ((step-x-text x.at.state x.at.z-x-text e)) (after-x-text es (step-out x.at.state x.at.z-x-text
-                e) (step-x-text x.at.state x.at.z-x-text e))) (sym (ap (λ (t : Writer). t.stop) said.0) ∙ going))
-                ∙ sym (after-x-text-cons e es x.at.state x.at.z-x-text) ∙ ap (λ (l : List Entry). after-x-text l
-                x.at.state x.at.z-x-text) (sym cons) ∙ x.comes-x-text;
+            comes_state = (λ j. after-state es (said.0 j) (said.1 j)) ∙ sym (ap (λ (b : Bool). choose b
+                ((step-out x.at.state x.at.z_x_text e)) (after-state es (step-out x.at.state x.at.z_x_text e)
+                (step-x-text x.at.state x.at.z_x_text e))) (sym (ap (λ (t : Writer). t.stop) said.0) ∙ going))
+                ∙ sym (after-state-cons e es x.at.state x.at.z_x_text) ∙ ap (λ (l : List Entry). after-state l
+                x.at.state x.at.z_x_text) (sym cons) ∙ x.comes_state;
+            comes_x_text = (λ j. after-x-text es (said.0 j) (said.1 j)) ∙ sym (ap (λ (b : Bool). choose b
+                ((step-x-text x.at.state x.at.z_x_text e)) (after-x-text es (step-out x.at.state x.at.z_x_text
+                e) (step-x-text x.at.state x.at.z_x_text e))) (sym (ap (λ (t : Writer). t.stop) said.0) ∙ going))
+                ∙ sym (after-x-text-cons e es x.at.state x.at.z_x_text) ∙ ap (λ (l : List Entry). after-x-text l
+                x.at.state x.at.z_x_text) (sym cons) ∙ x.comes_x_text;
           }
 
           -- where it stands when it is left
@@ -491,23 +491,23 @@ module _ (#step : Name) (step-out : step_model Writer) (step-x-text : step_model
             left = e ∷ es;
             state = r;
             is_state = is;
-            z-x-text = m-x-text;
-            l-x-text = k-x-text;
+            z_x_text = m-x-text;
+            l_x_text = k-x-text;
             all = seam;
           }
 
           left-off : r.stop ≡ true → Ends last
           left-off stopping = (
-            (λ j. (said.0 j)) ∙ sym (ap (λ (b : Bool). choose b ((step-out x.at.state x.at.z-x-text e))
-                (after-state es (step-out x.at.state x.at.z-x-text e) (step-x-text x.at.state x.at.z-x-text e)))
+            (λ j. (said.0 j)) ∙ sym (ap (λ (b : Bool). choose b ((step-out x.at.state x.at.z_x_text e))
+                (after-state es (step-out x.at.state x.at.z_x_text e) (step-x-text x.at.state x.at.z_x_text e)))
                 (sym (ap (λ (t : Writer). t.stop) said.0) ∙ stopping)) ∙ sym (after-state-cons e es x.at.state
-                x.at.z-x-text) ∙ ap (λ (l : List Entry). after-state l x.at.state x.at.z-x-text) (sym cons)
-                ∙ x.comes-state,
-            (λ j. (said.1 j)) ∙ sym (ap (λ (b : Bool). choose b ((step-x-text x.at.state x.at.z-x-text e))
-                (after-x-text es (step-out x.at.state x.at.z-x-text e) (step-x-text x.at.state x.at.z-x-text
+                x.at.z_x_text) ∙ ap (λ (l : List Entry). after-state l x.at.state x.at.z_x_text) (sym cons)
+                ∙ x.comes_state,
+            (λ j. (said.1 j)) ∙ sym (ap (λ (b : Bool). choose b ((step-x-text x.at.state x.at.z_x_text e))
+                (after-x-text es (step-out x.at.state x.at.z_x_text e) (step-x-text x.at.state x.at.z_x_text
                 e))) (sym (ap (λ (t : Writer). t.stop) said.0) ∙ stopping)) ∙ sym (after-x-text-cons e es x.at.state
-                x.at.z-x-text) ∙ ap (λ (l : List Entry). after-x-text l x.at.state x.at.z-x-text) (sym cons)
-                ∙ x.comes-x-text,
+                x.at.z_x_text) ∙ ap (λ (l : List Entry). after-x-text l x.at.state x.at.z_x_text) (sym cons)
+                ∙ x.comes_x_text,
           )
 
         more : Sq 𝓛 (I x) (runs C Λ En (turn #step) (any_q (after_turn 𝓤 H (Next x) Left)))
@@ -538,27 +538,27 @@ module _ (#step : Name) (step-out : step_model Writer) (step-x-text : step_model
             elem_back ! Entry'.the_row q' ys i zeros (machine-entry el ∷ []) x-catalogue.ptr.0 x-catalogue.ptr.1 small $
             -- step
             lft_new ! tt (λ ν₀-step. bring ! (4 ∷ 4 ∷ []) $
-            use2 𝓛 (later (some (λ (δ : GName). ‵ ((MutSlice (named 0) (ν₀-step ∷ []) u8).own_val (at-x-text δ x.at.z-x-text)
+            use2 𝓛 (later (some (λ (δ : GName). ‵ ((MutSlice (named 0) (ν₀-step ∷ []) u8).own_val (at-x-text δ x.at.z_x_text)
             (s-x-text ∷ [])) ⊛ ‵ (LentAgain u8 κ₁ (ν₀-step ∷ []) q₁ x-text.name x-text.ptr.0 x-text.ptr.1 δ
-            x.at.z-x-text)))) (lends_again u8 κ₁ (ν₀-step ∷ []) q₁ x-text.name x-text.ptr.0 x-text.ptr.1 𝓛
-            (named 1) (named 0) x.at.z-x-text (length x-text.now) x.at.l-x-text) $
+            x.at.z_x_text)))) (lends_again u8 κ₁ (ν₀-step ∷ []) q₁ x-text.name x-text.ptr.0 x-text.ptr.1 𝓛
+            (named 1) (named 0) x.at.z_x_text (length x-text.now) x.at.l_x_text) $
             await ! tt $ pick ! (λ δ₀-step. split ! $ bring ! (2 ∷ 0 ∷ []) $ group ! 2 $
             use1 𝓛 (raw ((step-contract step-out step-x-text 𝓤 𝓛).pre (to_step ν₀-step δ₀-step x.at.state
-            x.at.z-x-text el))) (goes_step ν₀-step δ₀-step x.at.state x.at.z-x-text el x.at.is_state g) $
+            x.at.z_x_text el))) (goes_step ν₀-step δ₀-step x.at.state x.at.z_x_text el x.at.is_state g) $
             calls_at ! (fm_of 𝓤 H 𝓛.laws 𝓣) (step-contract step-out step-x-text 𝓤 𝓛) Known-step
-            (to_step ν₀-step δ₀-step x.at.state x.at.z-x-text el) (and_then ! (load ! (from ! (stop !))
+            (to_step ν₀-step δ₀-step x.at.state x.at.z_x_text el) (and_then ! (load ! (from ! (stop !))
             (look ! 19 refl)) (and_then ! (load ! (from ! (stop !)) (look ! 9 refl)) (and_then !
             (load ! (from ! (stop !)) (look ! 5 refl)) (no_more !)))) (λ w-step.
             use1 𝓛 (later (some (λ (r : Writer). ((‵ (flft (ν₀-step ∷ []) full_share) ⊛ ‵ ftrue)
             ⊛ ‵ ((Writer'.the_row).own_val r (w-step ∷ []))) ⊛ raw (ensured 𝓛 step_ended (step-clauses step-out step-x-text 𝓤)
-            (ν₀-step ∷ [], tt) (step_args δ₀-step x.at.state x.at.z-x-text el) tt r)))) (id⊢ 𝓤 _) $
+            (ν₀-step ∷ [], tt) (step_args δ₀-step x.at.state x.at.z_x_text el) tt r)))) (id⊢ 𝓤 _) $
             await ! tt $ pick ! (λ r-step. split ! $ bring ! (1 ∷ []) $
             use1 𝓛 (some (λ (zs-step : Unit {0} × (List ℕ × (Unit {0} × Unit {0}))). ‵
-            (lasts step_ended (ν₀-step ∷ [], tt) (step_args δ₀-step x.at.state x.at.z-x-text el) zs-step)
-            ⊛ raw (fact 𝓤 (step-says step-out step-x-text x.at.state x.at.z-x-text el r-step zs-step.1.0))))
+            (lasts step_ended (ν₀-step ∷ [], tt) (step_args δ₀-step x.at.state x.at.z_x_text el) zs-step)
+            ⊛ raw (fact 𝓤 (step_says step-out step-x-text x.at.state x.at.z_x_text el r-step zs-step.1.0))))
             (id⊢ 𝓤 _) $
             pick ! (λ zs-step. split ! $ bring ! (1 ∷ []) $
-            heard ! (step-says step-out step-x-text x.at.state x.at.z-x-text el r-step zs-step.1.0) (λ e-step.
+            heard ! (step_says step-out step-x-text x.at.state x.at.z_x_text el r-step zs-step.1.0) (λ e-step.
             fparts 𝓛 (_ ∷ _ ∷ _ ∷ []) _ $ discard ! (0 ∷ 1 ∷ []) $ fsplit ! $ bring ! (1 ∷ []) $ feq_l ! (λ h-step-x-text.
             bring ! (1 ∷ []) $ split ! $ bring ! (1 ∷ []) $
             peeks ! Writer'.the_row (Is Writer'.the_row) (shows 𝓛 Writer'.the_row) r-step (w-step ∷ []) (λ is-w-step.
@@ -569,7 +569,7 @@ module _ (#step : Name) (step-out : step_model Writer) (step-x-text : step_model
             discard ! (0 ∷ []) $ parts 𝓛 (_ ∷ []) _ $ lft_end ! tt $ bring ! (0 ∷ 1 ∷ 0 ∷ []) $
             use3 𝓛 (later (‵ ((MutSlice (named 1) κ₁ u8).own_val (at-x-text x-text.name zs-step.1.0) (s-x-text ∷ []))
             ⊛ ‵ (flft κ₁ q₁))) (comes_back u8 κ₁ (ν₀-step ∷ []) q₁ x-text.name x-text.ptr.0 x-text.ptr.1 𝓛
-            (named 1) (named 0) x.at.z-x-text (length x-text.now) x.at.l-x-text room-x-text δ₀-step zs-step.1.0
+            (named 1) (named 0) x.at.z_x_text (length x-text.now) x.at.l_x_text room-x-text δ₀-step zs-step.1.0
             h-step-x-text) $
             await ! tt $ split ! $
             -- the turn is over
@@ -579,8 +579,8 @@ module _ (#step : Name) (step-out : step_model Writer) (step-x-text : step_model
             breaks-if ! (load ! (from ! (stop !)) (look ! 13 refl))
             (λ z. forget ! 5 refl $ forget ! 7 refl $ forget ! 9 refl $ forget ! 11 refl $ forget ! 13 refl $
             forget ! 15 refl $ exec ! C Λ En rest (at_ret En Post) $
-            finish (last r-step zs-step.1.0 (spelled r-step w-step is-w-step) e-step (h-step-x-text ∙ x.at.l-x-text))
-            (left-off r-step zs-step.1.0 (spelled r-step w-step is-w-step) e-step (h-step-x-text ∙ x.at.l-x-text)
+            finish (last r-step zs-step.1.0 (spelled r-step w-step is-w-step) e-step (h-step-x-text ∙ x.at.l_x_text))
+            (left-off r-step zs-step.1.0 (spelled r-step w-step is-w-step) e-step (h-step-x-text ∙ x.at.l_x_text)
             (is_true _ z)))
             (λ z. assigns_last ! (bin ! (load ! (from ! (stop !)) (look ! 17 refl)) (lit ! tt) (record { fits = next_fits }))
             (from ! (stop !)) (store ! 17 refl (tt, record { fits = next_fits })) $
@@ -589,7 +589,7 @@ module _ (#step : Name) (step-out : step_model Writer) (step-x-text : step_model
             rewrite ! 17 (λ (j : ℕ). ‵ (fat full_share (ty_int w64) l₅ 0 (vint w64 j))) (sym
             (length-append x.at.past (e ∷ []))) refl $
             again ! (Less size) I x (next r-step zs-step.1.0 (spelled r-step w-step is-w-step) e-step
-            (h-step-x-text ∙ x.at.l-x-text) (is_not _ z)) shorter)
+            (h-step-x-text ∙ x.at.l_x_text) (is_not _ z)) shorter)
             )))))))))
 
       turn_at : (x : At) → Sq 𝓛 (I x) (runs C Λ En (turn #step) (any_q (after_turn 𝓤 H (Next x) Left)))

@@ -28,20 +28,20 @@ module _ (at : Writer) (text : List ℕ) (e : Entry) where
   abbrev line : List ℕ
   line = sheet_line at.sheet e
 
-  pub line-some : (r : ℕ) (text' : List ℕ) → room at text ≡ true → Writes line text at.at r text'
+  pub line_some : (r : ℕ) (text' : List ℕ) → room at text ≡ true → Writes line text at.at r text'
       → (cursor r (at.sheet + 1) false ≡ line_writer at text e) × (text' ≡ line_written at text e)
   unfolding line_writer line_written
-  line-some r text' a w = (
+  line_some r text' a w = (
     ap (λ (i : ℕ). cursor i (at.sheet + 1) false) w.ends
         ∙ ap (λ (b : Bool). cond b (cursor (behind text at.at line) (at.sheet + 1) false)
         (cursor at.at at.sheet true)) (sym a),
     w.leaves ∙ ap (λ (b : Bool). cond b (written text at.at line) text) (sym a),
   )
 
-  pub line-none : room at text ≡ false → (cursor at.at at.sheet true ≡ line_writer at text e)
+  pub line_none : room at text ≡ false → (cursor at.at at.sheet true ≡ line_writer at text e)
       × (text ≡ line_written at text e)
   unfolding line_writer line_written
-  line-none a = (
+  line_none a = (
     ap (λ (b : Bool). cond b (cursor (behind text at.at line) (at.sheet + 1) false) (cursor at.at at.sheet true))
         (sym a),
     ap (λ (b : Bool). cond b (written text at.at line) text) (sym a),
@@ -52,14 +52,14 @@ pub cursor_stays : (es : List Entry) (at : Writer) (text : List ℕ) → at.stop
 unfolding lines_writer
 cursor_stays [] at text s = refl
 cursor_stays (e ∷ es) at text s =
-    let w = line-none at text e (stopped at text s) in
+    let w = line_none at text e (stopped at text s) in
     ap₂ (lines_writer es) (sym w.0 ∙ ap (cursor at.at at.sheet) (sym s)) (sym w.1) ∙ cursor_stays es at text s
 
 pub text_stays : (es : List Entry) (at : Writer) (text : List ℕ) → at.stop ≡ true → lines_written es at text ≡ text
 unfolding lines_written
 text_stays [] at text s = refl
 text_stays (e ∷ es) at text s =
-    let w = line-none at text e (stopped at text s) in
+    let w = line_none at text e (stopped at text s) in
     ap₂ (lines_written es) (sym w.0 ∙ ap (cursor at.at at.sheet) (sym s)) (sym w.1) ∙ text_stays es at text s
 
 -- sheet by sheet, as the loop goes

@@ -14,11 +14,11 @@ cursor at sheet stop = record { at = at; sheet = sheet; stop = stop }
 
 -- The first two lines are written, and those of the sheets go behind them.
 module _ (n spare c : ℕ) (counts : Counts) (text : List ℕ) where
-  unfoldable pub headWriter : Writer
-  headWriter = cursor (behind text 0 (card_line n spare c ++ runs_line counts)) 0 false
+  unfoldable pub head_writer : Writer
+  head_writer = cursor (behind text 0 (card_line n spare c ++ runs_line counts)) 0 false
 
-  unfoldable pub headWritten : List ℕ
-  headWritten = written text 0 (card_line n spare c ++ runs_line counts)
+  unfoldable pub head_written : List ℕ
+  head_written = written text 0 (card_line n spare c ++ runs_line counts)
 
 -- There is room for the line of a sheet. A line is longer than one byte, so that a text is full before a sheet's number
 -- comes to its length.

@@ -3,7 +3,7 @@
 ghost use Rattle.std.specs.Prelude.{[], ◌∷◌, ◌≡◌};
 ghost use Rattle.printer.specs.Decimal.{decimal, numeral};
 ghost use Rattle.printer.specs.Lines.{card_line, runs_line, sheet_line};
-ghost use Rattle.printer.specs.Sheets.{headWriter, headWritten, line_writer, line_written};
+ghost use Rattle.printer.specs.Sheets.{head_writer, head_written, line_writer, line_written};
 ghost use Rattle.printer.specs.Sheets.{lines_writer, lines_written, place_of};
 ghost use Rattle.printer.specs.Text.{refusal_text};
 ghost use Rattle.printer.specs.Writing.{Writes};
@@ -99,8 +99,8 @@ pub struct Writer {
 
 // Writes the first two lines. Those of the sheets go behind them.
 pub fn write_head(n: u32, free: u32, c: usize, counts: Counts, text: &mut [u8]) -> Writer
-    ensures { (result ≡ headWriter n free c counts text.old)
-        × (text.new ≡ headWritten n free c counts text.old) }
+    ensures { (result ≡ head_writer n free c counts text.old)
+        × (text.new ≡ head_written n free c counts text.old) }
 {
     let second = write_card(text, 0, n, free, c);
     let third = write_runs(text, second, counts);

@@ -15,49 +15,49 @@ use Rattle.catalogue_standings.proofs.Openings.{rows_of, opened, not_absent, not
 use Rattle.catalogue_standings.proofs.Openings.{NotOpen, not_complete, is_complete_lem, NotComplete}
 
 module _ (turned fits : Bool) (c sheet : ℕ) (s : Standing) (rows : List Row) where
-  abbrev absentOnly : List Row
-  absentOnly = rows_of turned fits c sheet s (row 6 (is_paused s) ∷ row 7 (is_open s) ∷ row 8 (is_complete s) ∷ rows)
+  abbrev absent_only : List Row
+  absent_only = rows_of turned fits c sheet s (row 6 (is_paused s) ∷ row 7 (is_open s) ∷ row 8 (is_complete s) ∷ rows)
 
-  pub absent-else : (t : Standing) → opened_for turned fits c sheet s ≡ Stands t → NotAbsent t
-      → first_of absentOnly ≡ refused (row_of t)
-  absent-else t h differs =
+  pub absent_else : (t : Standing) → opened_for turned fits c sheet s ≡ Stands t → NotAbsent t
+      → first_of absent_only ≡ refused (row_of t)
+  absent_else t h differs =
       let o = opened turned fits c sheet s t _ h in
       o.verdict ∙ not_absent s rows (subst NotAbsent (sym o.same) differs) o.whole
       ∙ ap (λ (t : Standing). refused (row_of t)) o.same
 
-  pub absent-passes : opened_for turned fits c sheet s ≡ Stands Absent → first_of absentOnly ≡ first_of rows
-  absent-passes h =
+  pub absent_passes : opened_for turned fits c sheet s ≡ Stands Absent → first_of absent_only ≡ first_of rows
+  absent_passes h =
       let o = opened turned fits c sheet s Absent _ h in
       o.verdict ∙ is_absent_lem s rows o.same
 
-  abbrev openOnly : List Row
-  openOnly = rows_of turned fits c sheet s (row 5 (is_absent s) ∷ row 6 (is_paused s) ∷ row 8 (is_complete s) ∷ rows)
+  abbrev open_only : List Row
+  open_only = rows_of turned fits c sheet s (row 5 (is_absent s) ∷ row 6 (is_paused s) ∷ row 8 (is_complete s) ∷ rows)
 
-  pub open-else : (t : Standing) → opened_for turned fits c sheet s ≡ Stands t → NotOpen t
-      → first_of openOnly ≡ refused (row_of t)
-  open-else t h differs =
+  pub open_else : (t : Standing) → opened_for turned fits c sheet s ≡ Stands t → NotOpen t
+      → first_of open_only ≡ refused (row_of t)
+  open_else t h differs =
       let o = opened turned fits c sheet s t _ h in
       o.verdict ∙ not_open s rows (subst NotOpen (sym o.same) differs) o.whole
       ∙ ap (λ (t : Standing). refused (row_of t)) o.same
 
-  pub open-passes : (start blocks : ℕ) → opened_for turned fits c sheet s ≡ Stands (Open start blocks) → first_of openOnly ≡
+  pub open_passes : (start blocks : ℕ) → opened_for turned fits c sheet s ≡ Stands (Open start blocks) → first_of open_only ≡
       first_of rows
-  open-passes start blocks h =
+  open_passes start blocks h =
       let o = opened turned fits c sheet s (Open start blocks) _ h in
       o.verdict ∙ is_open_lem s start blocks rows o.same
 
-  abbrev completeOnly : List Row
-  completeOnly = rows_of turned fits c sheet s (row 5 (is_absent s) ∷ row 6 (is_paused s) ∷ row 7 (is_open s) ∷ rows)
+  abbrev complete_only : List Row
+  complete_only = rows_of turned fits c sheet s (row 5 (is_absent s) ∷ row 6 (is_paused s) ∷ row 7 (is_open s) ∷ rows)
 
-  pub complete-else : (t : Standing) → opened_for turned fits c sheet s ≡ Stands t → NotComplete t
-      → first_of completeOnly ≡ refused (row_of t)
-  complete-else t h differs =
+  pub complete_else : (t : Standing) → opened_for turned fits c sheet s ≡ Stands t → NotComplete t
+      → first_of complete_only ≡ refused (row_of t)
+  complete_else t h differs =
       let o = opened turned fits c sheet s t _ h in
       o.verdict ∙ not_complete s rows (subst NotComplete (sym o.same) differs) o.whole
       ∙ ap (λ (t : Standing). refused (row_of t)) o.same
 
-  pub complete-passes : (start blocks : ℕ) → opened_for turned fits c sheet s ≡ Stands (Complete start blocks)
-      → first_of completeOnly ≡ first_of rows
-  complete-passes start blocks h =
+  pub complete_passes : (start blocks : ℕ) → opened_for turned fits c sheet s ≡ Stands (Complete start blocks)
+      → first_of complete_only ≡ first_of rows
+  complete_passes start blocks h =
       let o = opened turned fits c sheet s (Complete start blocks) _ h in
       o.verdict ∙ is_complete_lem s start blocks rows o.same

@@ -14,70 +14,70 @@ use Rattle.catalogue_standings.specs.declared.Opened.TheVariants.{Refused, Stand
 use Rattle.catalogue_standings.specs.declared.Standing.{Standing}
 use Rattle.catalogue_standings.specs.declared.Standing.TheVariants.{Absent, Open}
 use Rattle.catalogue_standings.proofs.Openings.{NotAbsent, NotOpen, Extent, closed, skip, stop, none_left}
-use Rattle.catalogue_standings.proofs.Openings.{open-extent}
+use Rattle.catalogue_standings.proofs.Openings.{open_extent}
 use Rattle.catalogue_standings.proofs.Rows.{clear, first_then, zero_accepts}
-use Rattle.refusals.specs.Effects.{givingVerdict, addingVerdict}
+use Rattle.refusals.specs.Effects.{giving_verdict, adding_verdict}
 use lib.ListN.{length}
 use Rattle.laws.proofs.Bools.{and_left}
 use Rattle.refusals.specs.Guides.{guide_fits}
 use Rattle.refusals.specs.Lent.{Lent, within}
 use Rattle.refusals.specs.Table.{opening, giving, adding}
 use Rattle.refusals.specs.Views.{view_on}
-use Rattle.refusals.proofs.Admitted.{absent-else, absent-passes, open-else, open-passes}
-use Rattle.refusals.proofs.Lent.{Sized, standing, first, lengthsFit, sized, below_last}
+use Rattle.refusals.proofs.Admitted.{absent_else, absent_passes, open_else, open_passes}
+use Rattle.refusals.proofs.Lent.{Sized, standing, first, lengths_fit, sized, below_last}
 use Rattle.refusals.proofs.Room.{view_of, only_open}
 
 -- these rows read nothing of wings and limits
 module _ (held : ℕ) (limits : List ℕ) (q : Lent) (k : ℕ) where
-  pub giving-within : givingVerdict q k ≡ givingVerdict (within held limits q) k
-  unfolding givingVerdict view_on
-  giving-within = refl
+  pub giving_within : giving_verdict q k ≡ giving_verdict (within held limits q) k
+  unfolding giving_verdict view_on
+  giving_within = refl
 
-  pub adding-within : addingVerdict q k ≡ addingVerdict (within held limits q) k
-  unfolding addingVerdict view_on
-  adding-within = refl
+  pub adding_within : adding_verdict q k ≡ adding_verdict (within held limits q) k
+  unfolding adding_verdict view_on
+  adding_within = refl
 
 -- the verdict of any rows behind those that came first
 abbrev pub behind : Verdict → List Row → Verdict
 behind v rows = settle v (first_of rows) refused
 
 module _ (q : Lent) (k : ℕ) where
-  abbrev pub givingRows : List Row → List Row
-  givingRows rows = opening (view_of q) q.sheet (giving (view_of q) k rows)
+  abbrev pub giving_rows : List Row → List Row
+  giving_rows rows = opening (view_of q) q.sheet (giving (view_of q) k rows)
 
-  abbrev pub addingRows : List Row → List Row
-  addingRows rows = opening (view_of q) q.sheet (adding (view_of q) k rows)
+  abbrev pub adding_rows : List Row → List Row
+  adding_rows rows = opening (view_of q) q.sheet (adding (view_of q) k rows)
 
   -- ---- an Absent sheet
 
-  pub giving-shut : (number : ℕ) → first q ≡ Refused number → givingVerdict q k ≡ refused number
-  unfolding givingVerdict view_on
-  giving-shut number h = closed _ _ _ _ _ _ number h
+  pub giving_shut : (number : ℕ) → first q ≡ Refused number → giving_verdict q k ≡ refused number
+  unfolding giving_verdict view_on
+  giving_shut number h = closed _ _ _ _ _ _ number h
 
-  pub giving-turned : q.turned ≡ true → givingVerdict q k ≡ refused 21
-  unfolding givingVerdict view_on
-  giving-turned t = stop 21 _ _ t
+  pub giving_turned : q.turned ≡ true → giving_verdict q k ≡ refused 21
+  unfolding giving_verdict view_on
+  giving_turned t = stop 21 _ _ t
 
-  pub giving-other : (s : Standing) → first q ≡ Stands s → NotAbsent s → givingVerdict q k ≡ refused (row_of s)
-  unfolding givingVerdict view_on
-  giving-other s h differs = absent-else _ _ _ _ _ _ s h differs
+  pub giving_other : (s : Standing) → first q ≡ Stands s → NotAbsent s → giving_verdict q k ≡ refused (row_of s)
+  unfolding giving_verdict view_on
+  giving_other s h differs = absent_else _ _ _ _ _ _ s h differs
 
-  pub giving-nothing : first q ≡ Stands Absent → k ≡ 0 → givingVerdict q k ≡ refused 3
-  unfolding givingVerdict view_on
-  giving-nothing h z = absent-passes _ _ _ _ _ _ h ∙ stop 3 _ _ (eq-eqb k 0 z)
+  pub giving_nothing : first q ≡ Stands Absent → k ≡ 0 → giving_verdict q k ≡ refused 3
+  unfolding giving_verdict view_on
+  giving_nothing h z = absent_passes _ _ _ _ _ _ h ∙ stop 3 _ _ (eq-eqb k 0 z)
 
-  pub giving-passes : first q ≡ Stands Absent → (k ≡ 0 → ⊥) → givingVerdict q k ≡ accepted
-  unfolding givingVerdict view_on
-  giving-passes h z = absent-passes _ _ _ _ _ _ h ∙ skip 3 _ _ _ (ne_eqb k 0 z) none_left
+  pub giving_passes : first q ≡ Stands Absent → (k ≡ 0 → ⊥) → giving_verdict q k ≡ accepted
+  unfolding giving_verdict view_on
+  giving_passes h z = absent_passes _ _ _ _ _ _ h ∙ skip 3 _ _ _ (ne_eqb k 0 z) none_left
 
-  pub giving-then : (rows : List Row) → first_of (givingRows rows) ≡ behind (givingVerdict q k) rows
-  unfolding givingVerdict
-  giving-then rows = first_then (givingRows []) rows
+  pub giving_then : (rows : List Row) → first_of (giving_rows rows) ≡ behind (giving_verdict q k) rows
+  unfolding giving_verdict
+  giving_then rows = first_then (giving_rows []) rows
 
   -- no row has the number 0
-  pub giving-zero : row_number (givingVerdict q k) ≡ 0 → givingVerdict q k ≡ accepted
-  unfolding givingVerdict
-  giving-zero = zero_accepts (givingRows []) refl
+  pub giving_zero : row_number (giving_verdict q k) ≡ 0 → giving_verdict q k ≡ accepted
+  unfolding giving_verdict
+  giving_zero = zero_accepts (giving_rows []) refl
 
   pub record Given : Type 0 where
     pub sizes : Sized q
@@ -85,44 +85,44 @@ module _ (q : Lent) (k : ℕ) where
     pub some : k ≡ 0 → ⊥
     pub below : q.sheet < 1024
 
-  pub given : givingVerdict q k ≡ accepted → Given
-  unfolding givingVerdict view_on
+  pub given : giving_verdict q k ≡ accepted → Given
+  unfolding giving_verdict view_on
   given h = record {
-    sizes = sized q (not-false _ (clear 1 (givingRows []) h).0);
-    guides = and_left _ (lengthsFit q) (not-false _ (clear 1 (givingRows []) h).0);
-    some = eqb-false k 0 (clear 3 (givingRows []) h).0;
-    below = below_last q (not-false _ (clear 1 (givingRows []) h).0) (clear 2 (givingRows []) h).0;
+    sizes = sized q (not-false _ (clear 1 (giving_rows []) h).0);
+    guides = and_left _ (lengths_fit q) (not-false _ (clear 1 (giving_rows []) h).0);
+    some = eqb-false k 0 (clear 3 (giving_rows []) h).0;
+    below = below_last q (not-false _ (clear 1 (giving_rows []) h).0) (clear 2 (giving_rows []) h).0;
   }
 
   -- ---- an Open sheet
 
-  pub adding-shut : (number : ℕ) → first q ≡ Refused number → addingVerdict q k ≡ refused number
-  unfolding addingVerdict view_on
-  adding-shut number h = closed _ _ _ _ _ _ number h
+  pub adding_shut : (number : ℕ) → first q ≡ Refused number → adding_verdict q k ≡ refused number
+  unfolding adding_verdict view_on
+  adding_shut number h = closed _ _ _ _ _ _ number h
 
-  pub adding-turned : q.turned ≡ true → addingVerdict q k ≡ refused 21
-  unfolding addingVerdict view_on
-  adding-turned t = stop 21 _ _ t
+  pub adding_turned : q.turned ≡ true → adding_verdict q k ≡ refused 21
+  unfolding adding_verdict view_on
+  adding_turned t = stop 21 _ _ t
 
-  pub adding_other : (s : Standing) → first q ≡ Stands s → NotOpen s → addingVerdict q k ≡ refused (row_of s)
-  unfolding addingVerdict view_on
-  adding_other s h differs = open-else _ _ _ _ _ _ s h differs
+  pub adding_other : (s : Standing) → first q ≡ Stands s → NotOpen s → adding_verdict q k ≡ refused (row_of s)
+  unfolding adding_verdict view_on
+  adding_other s h differs = open_else _ _ _ _ _ _ s h differs
 
-  pub adding-nothing : (start blocks : ℕ) → first q ≡ Stands (Open start blocks) → k ≡ 0 → addingVerdict q k ≡ refused 3
-  unfolding addingVerdict view_on
-  adding-nothing start blocks h z = open-passes _ _ _ _ _ _ start blocks h ∙ stop 3 _ _ (eq-eqb k 0 z)
+  pub adding_nothing : (start blocks : ℕ) → first q ≡ Stands (Open start blocks) → k ≡ 0 → adding_verdict q k ≡ refused 3
+  unfolding adding_verdict view_on
+  adding_nothing start blocks h z = open_passes _ _ _ _ _ _ start blocks h ∙ stop 3 _ _ (eq-eqb k 0 z)
 
-  pub adding-passes : (start blocks : ℕ) → first q ≡ Stands (Open start blocks) → (k ≡ 0 → ⊥) → addingVerdict q k ≡ accepted
-  unfolding addingVerdict view_on
-  adding-passes start blocks h z = open-passes _ _ _ _ _ _ start blocks h ∙ skip 3 _ _ _ (ne_eqb k 0 z) none_left
+  pub adding_passes : (start blocks : ℕ) → first q ≡ Stands (Open start blocks) → (k ≡ 0 → ⊥) → adding_verdict q k ≡ accepted
+  unfolding adding_verdict view_on
+  adding_passes start blocks h z = open_passes _ _ _ _ _ _ start blocks h ∙ skip 3 _ _ _ (ne_eqb k 0 z) none_left
 
-  pub adding-then : (rows : List Row) → first_of (addingRows rows) ≡ behind (addingVerdict q k) rows
-  unfolding addingVerdict
-  adding-then rows = first_then (addingRows []) rows
+  pub adding_then : (rows : List Row) → first_of (adding_rows rows) ≡ behind (adding_verdict q k) rows
+  unfolding adding_verdict
+  adding_then rows = first_then (adding_rows []) rows
 
-  pub adding-zero : row_number (addingVerdict q k) ≡ 0 → addingVerdict q k ≡ accepted
-  unfolding addingVerdict
-  adding-zero = zero_accepts (addingRows []) refl
+  pub adding_zero : row_number (adding_verdict q k) ≡ 0 → adding_verdict q k ≡ accepted
+  unfolding adding_verdict
+  adding_zero = zero_accepts (adding_rows []) refl
 
   -- what is added to begins where the entry says, and lies inside n
   pub record Added : Type 0 where
@@ -132,15 +132,15 @@ module _ (q : Lent) (k : ℕ) where
     pub below : q.sheet < 1024
     pub extent : Extent q.n (free q.map) q.entry (start_of (standing q)) (length_of (standing q))
 
-  pub added : addingVerdict q k ≡ accepted → Added
-  unfolding addingVerdict view_on
+  pub added : adding_verdict q k ≡ accepted → Added
+  unfolding adding_verdict view_on
   added h =
-      let rows = addingRows [] in
+      let rows = adding_rows [] in
       record {
         sizes = sized q (not-false _ (clear 1 rows h).0);
-        guides = and_left _ (lengthsFit q) (not-false _ (clear 1 rows h).0);
+        guides = and_left _ (lengths_fit q) (not-false _ (clear 1 rows h).0);
         some = eqb-false k 0 (clear 3 rows h).0;
         below = below_last q (not-false _ (clear 1 rows h).0) (clear 2 rows h).0;
-        extent = open-extent q.n (free q.map) q.entry (start_of (standing q)) (length_of (standing q))
+        extent = open_extent q.n (free q.map) q.entry (start_of (standing q)) (length_of (standing q))
             (only_open (standing q) (clear 4 rows h).0 (clear 5 rows h).0 (clear 6 rows h).0 (clear 8 rows h).0);
       }

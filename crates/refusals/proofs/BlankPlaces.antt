@@ -9,8 +9,8 @@ use native.Mathlib.Omega.{arith}
 use Rattle.map_blocks.specs.Blocks.{free, all, least}
 use Rattle.map_blocks.specs.declared.Found.{Found}
 use Rattle.map_blocks.specs.declared.Found.TheVariants.{At, Nothing}
-use Rattle.map_blocks.proofs.Least.{least-passes, least-below, none_passes}
-use Rattle.map_blocks.proofs.Runs.{all-intro}
+use Rattle.map_blocks.proofs.Least.{least_passes, least_below, none_passes}
+use Rattle.map_blocks.proofs.Runs.{all_intro}
 use Rattle.blocks_of_card.specs.Card.{block_of}
 use Rattle.block_seals.specs.Sealed.{blank}
 use Rattle.catalogue_standings.specs.Rows.{refused}
@@ -19,7 +19,7 @@ use Rattle.catalogue_standings.specs.Standings.{standing_of, is_damaged, length_
 use Rattle.catalogue_standings.specs.declared.Standing.{Standing}
 use Rattle.catalogue_standings.specs.declared.Standing.TheVariants.{Absent, Paused, PausedWith, Open, Complete, Damaged}
 use Rattle.catalogue_standings.proofs.Entries.{inside_of}
-use Rattle.refusals.specs.Effects.{completeVerdict, blankPlace}
+use Rattle.refusals.specs.Effects.{complete_verdict, blank_place}
 use Rattle.refusals.specs.Lent.{Lent}
 use Rattle.refusals.specs.Table.{View, on, complete, every_place, lowest_blank, table_of}
 use Rattle.refusals.specs.Views.{view_on}
@@ -35,14 +35,14 @@ pub record Lowest (test : ℕ → Bool) (m p : ℕ) : Type 0 where
 found : (test : ℕ → Bool) (m : ℕ) (r : Found) → least test 0 m ≡ r → all (λ p. not (test p)) 0 m ≡ false
     → Lowest test m (start_at r)
 found test m (At p) e some =
-    let passed = least-passes test 0 m p e in
+    let passed = least_passes test 0 m p e in
     record {
       inside = omega (arith, passed.high);
       passes = passed.test;
-      none_below = λ t l. least-below test 0 m p e t (omega arith) l;
+      none_below = λ t l. least_below test 0 m p e t (omega arith) l;
     }
 found test m Nothing e some =
-    absurd (true≢false (sym (all-intro (λ p. not (test p)) 0 m (λ p a b. ap not (none_passes test 0 m e p a b))) ∙ some))
+    absurd (true≢false (sym (all_intro (λ p. not (test p)) 0 m (λ p a b. ap not (none_passes test 0 m e p a b))) ∙ some))
 
 -- row 9 holds: of any view, the program's as well as the ledger's
 pub lowest_of : (v : View) → not (every_place v (λ p. not (v.blank p))) ≡ true
@@ -70,18 +70,18 @@ module _ (q : Lent) where
   whole (Complete start blocks) p h = refl
   whole Damaged p h = absurd (omega arith)
 
-  nine-holds : completeVerdict q ≡ refused 9 → Lowest blank_at (length_of stands) (blankPlace q)
-  unfolding completeVerdict blankPlace view_on table_of
-  nine-holds h = go (holds 9 (table_of (view_on q) (on q.sheet complete)) h)
+  nine_holds : complete_verdict q ≡ refused 9 → Lowest blank_at (length_of stands) (blank_place q)
+  unfolding complete_verdict blank_place view_on table_of
+  nine_holds h = go (holds 9 (table_of (view_on q) (on q.sheet complete)) h)
     where
       go : (not (all (λ p. not (blank_at p)) 0 (length_of stands)) ≡ true) ⊎ ⊥
           → Lowest blank_at (length_of stands) (lowest_blank (view_on q))
       go (inl nine) = lowest_of (view_on q) nine
       go (inr none) = absurd none
 
-  pub place-is-lowest : completeVerdict q ≡ refused 9
-      → Lowest (λ p. blank (block_of q.card (q.entry.start + p))) q.entry.length (blankPlace q)
-  place-is-lowest h =
-      let l = nine-holds h in
-      let size = (inside_of q.n (free q.map) q.entry (whole stands (blankPlace q) l.inside)).lasts in
+  pub place_is_lowest : complete_verdict q ≡ refused 9
+      → Lowest (λ p. blank (block_of q.card (q.entry.start + p))) q.entry.length (blank_place q)
+  place_is_lowest h =
+      let l = nine_holds h in
+      let size = (inside_of q.n (free q.map) q.entry (whole stands (blank_place q) l.inside)).lasts in
       record { inside = omega (arith, l.inside, size); passes = l.passes; none_below = l.none_below }

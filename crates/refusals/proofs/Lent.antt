@@ -21,7 +21,7 @@ use Rattle.catalogue_standings.specs.declared.Opened.TheVariants.{Refused, Stand
 use Rattle.catalogue_standings.specs.declared.Standing.{Standing}
 use Rattle.catalogue_standings.specs.declared.Standing.TheVariants.{Open}
 use Rattle.catalogue_standings.proofs.Limits.{Fits, sheet_fits, CardFits, card_fits}
-use Rattle.catalogue_standings.proofs.Openings.{Extent, Opening, opened, open-extent}
+use Rattle.catalogue_standings.proofs.Openings.{Extent, Opening, opened, open_extent}
 
 -- row 1 does not hold: the limits of n, and the lengths of map and card
 abbrev pub Sized : Lent → Type 0
@@ -29,67 +29,67 @@ Sized q = CardFits q.n q.spare (length q.map) (length q.card)
 
 module _ (q : Lent) where
   -- the limits of n and c, and the lengths of map and card
-  abbrev pub lengthsFit : Bool
-  lengthsFit = shape_fits q.n q.spare (length q.map) && sheets_fit q.sheets && eqb (length q.card) (512 * q.n)
+  abbrev pub lengths_fit : Bool
+  lengths_fit = shape_fits q.n q.spare (length q.map) && sheets_fit q.sheets && eqb (length q.card) (512 * q.n)
 
   -- and that of a summary, if one is lent
-  abbrev pub allFits : Bool
-  allFits = guide_fits q.guided q.summary (length q.map) && lengthsFit
+  abbrev pub all_fits : Bool
+  all_fits = guide_fits q.guided q.summary (length q.map) && lengths_fit
 
   abbrev pub standing : Standing
   standing = standing_of q.n (free q.map) q.entry
 
   -- what the rows that the call begins with answer
   abbrev pub first : Opened
-  first = opened_for q.turned allFits q.sheets q.sheet standing
+  first = opened_for q.turned all_fits q.sheets q.sheet standing
 
-  pub sized : allFits ≡ true → Sized q
+  pub sized : all_fits ≡ true → Sized q
   sized e = card_fits q.n q.spare (length q.map) q.sheets (length q.card)
-      (and_right (guide_fits q.guided q.summary (length q.map)) lengthsFit e)
+      (and_right (guide_fits q.guided q.summary (length q.map)) lengths_fit e)
 
   -- a sheet that has an entry is one of 1,024
-  pub below_last : allFits ≡ true → leb q.sheets q.sheet ≡ false → q.sheet < 1024
+  pub below_last : all_fits ≡ true → leb q.sheets q.sheet ≡ false → q.sheet < 1024
   unfolding sheets_fit
   below_last e h =
       let shapes : Bool = shape_fits q.n q.spare (length q.map) in
-      let whole = and_right (guide_fits q.guided q.summary (length q.map)) lengthsFit e in
+      let whole = and_right (guide_fits q.guided q.summary (length q.map)) lengths_fit e in
       let sheets = and_right shapes (sheets_fit q.sheets) (and_left (shapes && sheets_fit q.sheets) _ whole) in
       let most = leb-true q.sheets 1024 (and_right (leb 1 q.sheets) (leb q.sheets 1024) sheets) in
       omega (arith, most, leb-false q.sheets q.sheet h)
 
   -- a call that is not lent the card
-  abbrev pub allFitsAt : Bool
-  allFitsAt =
+  abbrev pub all_fits_at : Bool
+  all_fits_at =
       guide_fits q.guided q.summary (length q.map)
       && (shape_fits q.n q.spare (length q.map) && sheets_fit q.sheets)
 
   abbrev pub first_at : Opened
-  first_at = opened_for q.turned allFitsAt q.sheets q.sheet standing
+  first_at = opened_for q.turned all_fits_at q.sheets q.sheet standing
 
   -- what an opening says of what is lent
   pub opens : (s : Standing) (rows : List Row) → first ≡ Stands s
-      → Opening q.turned allFits q.sheets q.sheet standing s rows
-  opens s rows h = opened q.turned allFits q.sheets q.sheet standing s rows h
+      → Opening q.turned all_fits q.sheets q.sheet standing s rows
+  opens s rows h = opened q.turned all_fits q.sheets q.sheet standing s rows h
 
   pub opens_at : (s : Standing) (rows : List Row) → first_at ≡ Stands s
-      → Opening q.turned allFitsAt q.sheets q.sheet standing s rows
-  opens_at s rows h = opened q.turned allFitsAt q.sheets q.sheet standing s rows h
+      → Opening q.turned all_fits_at q.sheets q.sheet standing s rows
+  opens_at s rows h = opened q.turned all_fits_at q.sheets q.sheet standing s rows h
 
-  pub sized-at : allFitsAt ≡ true → Fits q.n q.spare (length q.map)
-  sized-at e =
+  pub sized_at : all_fits_at ≡ true → Fits q.n q.spare (length q.map)
+  sized_at e =
       sheet_fits q.n q.spare (length q.map) q.sheets
       (and_right (guide_fits q.guided q.summary (length q.map)) _ e)
 
-  pub refused-first : (r : Opened) (number : ℕ) → r ≡ first → r ≡ Refused number → first ≡ Refused number
-  refused-first r number asked told = sym asked ∙ told
+  pub refused_first : (r : Opened) (number : ℕ) → r ≡ first → r ≡ Refused number → first ≡ Refused number
+  refused_first r number asked told = sym asked ∙ told
 
-  pub stands-first : (r : Opened) (s t : Standing) → r ≡ first → r ≡ Stands s → s ≡ t → first ≡ Stands t
-  stands-first r s t asked told same = sym asked ∙ told ∙ ap Stands same
+  pub stands_first : (r : Opened) (s t : Standing) → r ≡ first → r ≡ Stands s → s ≡ t → first ≡ Stands t
+  stands_first r s t asked told same = sym asked ∙ told ∙ ap Stands same
 
   pub limits : (s : Standing) → first ≡ Stands s → Sized q
-  limits s h = sized (opens s [] h).all_fits
+  limits s h = sized (opens s [] h).all_fits_lem
 
   pub extent : (start blocks : ℕ) → first ≡ Stands (Open start blocks) → Extent q.n (free q.map) q.entry start blocks
   extent start blocks h =
-      open-extent q.n (free q.map) q.entry start blocks
+      open_extent q.n (free q.map) q.entry start blocks
       (opens (Open start blocks) [] h).same

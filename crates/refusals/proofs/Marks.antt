@@ -14,7 +14,7 @@ use Rattle.catalogue_standings.specs.declared.Standing.TheVariants.{Absent, Paus
 use Rattle.catalogue_standings.proofs.Rows.{not_refused}
 use Rattle.catalogue_standings.proofs.Openings.{closed, opened}
 use Rattle.refusals.proofs.Lent.{first_at}
-use Rattle.refusals.specs.Effects.{entry_of, out_of, refusal_out, changeVerdict, changeOut}
+use Rattle.refusals.specs.Effects.{entry_of, out_of, refusal_out, change_verdict, change_out}
 use Rattle.refusals.specs.Lent.{Lent}
 use Rattle.refusals.specs.Marks.{is_admitted, admitted_of, mark_out}
 use Rattle.refusals.specs.Table.{View, Change, change, admits_of, mark_after, refusing, on, rows_for, table_of, verdict_of}
@@ -88,8 +88,8 @@ module _ (q : Lent) (c : Change) where
   handed (Stands s) = refl
 
   pub changes : {o p : Opened} {r : Out} → o ≡ first_at q → p ≡ admitted_of (admits_of c) o
-      → r ≡ mark_out q.spare q.entry p (mark_after c) → r ≡ changeOut q c
-  unfolding changeOut changeVerdict
+      → r ≡ mark_out q.spare q.entry p (mark_after c) → r ≡ change_out q c
+  unfolding change_out change_verdict
   changes {o} given let-in made =
       made ∙ ap (λ (p : Opened). mark_out q.spare q.entry p (mark_after c)) let-in ∙ handed (admitted_of (admits_of c) o)
       ∙ ap (λ (v : Verdict). settle v done (refusal_out q.spare q.entry)) (sym (ruled o (sym given)))

@@ -10,8 +10,8 @@ use borrow.Author.Tests.{eq-eqb, ne_eqb, eqb-false, le-leb, lt-leb, leb-false, l
 use Rattle.map_blocks.specs.Blocks.{free, fit, least_fit}
 use Rattle.map_blocks.specs.declared.Found.{Found}
 use Rattle.map_blocks.specs.declared.Found.TheVariants.{At, Nothing}
-use Rattle.map_blocks.proofs.Fits.{fit_is, is-fit, on_one}
-use Rattle.map_blocks.proofs.Least.{least-passes}
+use Rattle.map_blocks.proofs.Fits.{fit_is, is_fit, on_one}
+use Rattle.map_blocks.proofs.Least.{least_passes}
 use Rattle.catalogue_standings.specs.Searches.{none, start_at}
 use Rattle.laws.proofs.Bools.{neither_left, neither_right}
 use Rattle.summary_search.proofs.Searches.{by_fits}
@@ -39,8 +39,8 @@ module _ (n : ℕ) (g : Figures) where
   pub no_step : g.step ≡ 0 → misfigured n g ≡ true
   no_step e = simp (eq-eqb g.step 0 e)
 
-  pub no-window : (g.step ≡ 0 → ⊥) → g.before ≤ g.from → misfigured n g ≡ true
-  no-window s l = simp (ne_eqb g.step 0 s, le-leb g.before g.from l)
+  pub no_window : (g.step ≡ 0 → ⊥) → g.before ≤ g.from → misfigured n g ≡ true
+  no_window s l = simp (ne_eqb g.step 0 s, le-leb g.before g.from l)
 
   pub by_end : (g.step ≡ 0 → ⊥) → g.from < g.before → misfigured n g ≡ ltb n g.before
   by_end s l = simp (ne_eqb g.step 0 s, lt-leb g.before g.from l)
@@ -51,7 +51,7 @@ pub plain_fit : (f : ℕ → Bool) (n : ℕ) (g : Figures) (k s : ℕ) → g.bef
 plain_fit f n g k s l e =
     let h = fit_is f g.from g.before g.step k s e in
     let high : s + k ≤ g.before = h.high in
-    is-fit f 0 n 1 k s (record { low = omega arith; high = omega arith; free = h.free; placed = on_one s })
+    is_fit f 0 n 1 k s (record { low = omega arith; high = omega arith; free = h.free; placed = on_one s })
 
 is_found : (o : Found) → none o ≡ false → o ≡ At (start_at o)
 is_found (At s) e = refl
@@ -61,7 +61,7 @@ is_found Nothing e = absurd (true≢false e)
 pub least_fits : (f : ℕ → Bool) (g : Figures) (k : ℕ) → none (least_within f g k) ≡ false
     → fit_within f g k (start_at (least_within f g k)) ≡ true
 unfolding least_fit
-least_fits f g k h = (least-passes (fit_within f g k) 0 g.before _ (is_found _ h)).test
+least_fits f g k h = (least_passes (fit_within f g k) 0 g.before _ (is_found _ h)).test
 
 -- so is what a search finds, by the map alone and by any summary
 pub found_fit : (guided : Bool) (summary map : List ℕ) (g : Figures) (k : ℕ) → 0 < k → none (found_by guided summary map g k)

@@ -24,8 +24,8 @@ module _ (blocks place len : ℕ) where
   pub placed : place < blocks → len ≡ 496 → Misplaced ≡ false
   placed h d = simp (lt-leb blocks place h, eq-eqb len 496 d)
 
-  pub well-placed : Misplaced ≡ false → (place < blocks) × (len ≡ 496)
-  well-placed = go (leb blocks place) (eqb len 496) refl refl
+  pub well_placed : Misplaced ≡ false → (place < blocks) × (len ≡ 496)
+  well_placed = go (leb blocks place) (eqb len 496) refl refl
     where
       go : (a b : Bool) → leb blocks place ≡ a → eqb len 496 ≡ b → a || not b ≡ false → (place < blocks) × (len ≡ 496)
       go true b p q e = absurd (true≢false e)

@@ -8,7 +8,7 @@ use Rattle.blocks_of_card.specs.Card.{with_block}
 use Rattle.block_seals.specs.Sealed.{sealed}
 use Rattle.map_blocks.specs.Blocks.{free}
 use Rattle.refusals.specs.Lent.{Lent}
-use Rattle.refusals.specs.Effects.{putVerdict, putAnswer, putCard}
+use Rattle.refusals.specs.Effects.{put_verdict, put_answer, put_card}
 use Rattle.catalogue_standings.specs.Openings.{row_of}
 use Rattle.catalogue_standings.specs.Rows.{row, Verdict, accepted, refused, first_of, settle}
 use Rattle.catalogue_standings.specs.Standings.{standing_of, length_of}
@@ -21,14 +21,14 @@ use Rattle.catalogue_standings.specs.declared.Opened.TheVariants as opening
 use Rattle.catalogue_standings.specs.declared.Standing.{Standing}
 use Rattle.catalogue_standings.specs.declared.Standing.TheVariants.{Open}
 use Rattle.catalogue_standings.proofs.Limits.{CardFits}
-use Rattle.catalogue_standings.proofs.Openings.{skip, stop, closed, opened, not_open, is_open_lem, none_left, Extent, open-extent}
+use Rattle.catalogue_standings.proofs.Openings.{skip, stop, closed, opened, not_open, is_open_lem, none_left, Extent, open_extent}
 use Rattle.catalogue_standings.proofs.Openings.{NotOpen}
 use Rattle.refusals.proofs.Lent as lent-laws
 use Rattle.refusals.proofs.Places.{Misplaced, beyond, unsized, placed, block-number, block-bytes}
 
 module _ (q : Lent) (place : ℕ) (payload : List ℕ) where
   abbrev pub verdict : Verdict
-  verdict = putVerdict q place payload
+  verdict = put_verdict q place payload
 
   abbrev pub written : List ℕ
   written = with_block q.card (q.entry.start + place) (sealed q.sheet place payload)
@@ -36,8 +36,8 @@ module _ (q : Lent) (place : ℕ) (payload : List ℕ) where
   -- what is answered and what the card becomes, after a verdict
   pub out : (v : Verdict) → verdict ≡ v → (r : Answer) (after : List ℕ) → r ≡ settle v Done Refused
       → after ≡ settle v written (λ number. q.card)
-      → (r ≡ putAnswer q place payload) × (after ≡ putCard q place payload)
-  unfolding putAnswer putCard
+      → (r ≡ put_answer q place payload) × (after ≡ put_card q place payload)
+  unfolding put_answer put_card
   out v h r after made left = (
     made ∙ ap (λ (w : Verdict). settle w Done Refused) (sym h),
     left
@@ -51,12 +51,12 @@ module _ (q : Lent) (place : ℕ) (payload : List ℕ) where
   first = lent-laws.first q
 
   pub shut : {o : Opened} (number : ℕ) → o ≡ first → o ≡ opening.Refused number → verdict ≡ refused number
-  unfolding putVerdict view_on table_of
+  unfolding put_verdict view_on table_of
   shut number given told = closed _ _ _ _ _ _ number (sym given ∙ told)
 
   pub other : {o : Opened} (s : Standing) → o ≡ first → o ≡ opening.Stands s → NotOpen s
       → verdict ≡ refused (row_of s)
-  unfolding putVerdict view_on table_of
+  unfolding put_verdict view_on table_of
   other s given told differs =
       let x = opened _ _ _ _ _ s _ (sym given ∙ told) in
       x.verdict
@@ -65,10 +65,10 @@ module _ (q : Lent) (place : ℕ) (payload : List ℕ) where
 
   module _ (start blocks : ℕ) {o : Opened} (given : o ≡ first) (told : o ≡ opening.Stands (Open start blocks)) where
     pub limits : CardFits q.n q.spare (length q.map) (length q.card)
-    limits = lent-laws.sized q (lent-laws.opens q (Open start blocks) [] (sym given ∙ told)).all_fits
+    limits = lent-laws.sized q (lent-laws.opens q (Open start blocks) [] (sym given ∙ told)).all_fits_lem
 
     pub extent : Extent q.n (free q.map) q.entry start blocks
-    extent = open-extent q.n (free q.map) q.entry start blocks
+    extent = open_extent q.n (free q.map) q.entry start blocks
         (lent-laws.opens q (Open start blocks) [] (sym given ∙ told)).same
 
     pub same_block : with_block q.card (start + place) (sealed q.sheet place payload) ≡ written
@@ -76,7 +76,7 @@ module _ (q : Lent) (place : ℕ) (payload : List ℕ) where
 
     -- an Open sheet comes to row 3
     pub reached : verdict ≡ first_of (row 3 (Misplaced blocks place (length payload)) ∷ [])
-    unfolding putVerdict view_on table_of
+    unfolding put_verdict view_on table_of
     reached =
         let x = opened _ _ _ _ _ (Open start blocks) _ (sym given ∙ told) in
         x.verdict
@@ -95,7 +95,7 @@ module _ (q : Lent) (place : ℕ) (payload : List ℕ) where
 
       pub done : length payload ≡ 496 → (after : List ℕ)
           → after ≡ with_block q.card (start + place) (sealed q.sheet place payload)
-          → (Done ≡ putAnswer q place payload) × (after ≡ putCard q place payload)
+          → (Done ≡ put_answer q place payload) × (after ≡ put_card q place payload)
       done d after w = out accepted (passes d) Done after refl (w ∙ same_block)
 
       pub number_fits : start + place < 262144

@@ -15,7 +15,7 @@ use Rattle.map_blocks.specs.Maps.{marked}
 use Rattle.refusals.proofs.Lent as lent-laws
 use Rattle.refusals.specs.Guides.{guide_after}
 use Rattle.refusals.specs.Lent.{Lent}
-use Rattle.refusals.specs.Effects.{entry_of, out_of, refusal_out, releaseVerdict, releaseOut, releaseMap, releaseSummary}
+use Rattle.refusals.specs.Effects.{entry_of, out_of, refusal_out, release_verdict, release_out, release_map, release_summary}
 use Rattle.catalogue_standings.specs.Rows.{Verdict, accepted, refused, settle}
 use Rattle.catalogue_standings.specs.Standings.{standing_of, is_absent, length_of}
 use Rattle.refusals.specs.Table.{on, release, table_of}
@@ -42,7 +42,7 @@ present Damaged t = refl
 
 module _ (q : Lent) where
   abbrev pub verdict : Verdict
-  verdict = releaseVerdict q
+  verdict = release_verdict q
 
   abbrev pub done : Out
   done = out_of (q.spare + q.entry.length) (entry_of absent_mark 0 0) Done
@@ -50,20 +50,20 @@ module _ (q : Lent) where
   abbrev pub freed : List ℕ
   freed = marked q.map q.entry.start q.entry.length true
 
-  abbrev pub guideLeft : List ℕ
-  guideLeft = guide_after q.guided q.summary freed q.n q.entry.start q.entry.length
+  abbrev pub guide_left : List ℕ
+  guide_left = guide_after q.guided q.summary freed q.n q.entry.start q.entry.length
 
   -- what is answered and what the map and a summary become, after a verdict
   pub out : (v : Verdict) → verdict ≡ v → (r : Out) (after summary : List ℕ)
       → r ≡ settle v done (refusal_out q.spare q.entry)
       → after ≡ settle v freed (λ number. q.map)
-      → summary ≡ settle v guideLeft (λ number. q.summary)
-      → (r ≡ releaseOut q) × (after ≡ releaseMap q) × (summary ≡ releaseSummary q)
-  unfolding releaseOut releaseMap releaseSummary
+      → summary ≡ settle v guide_left (λ number. q.summary)
+      → (r ≡ release_out q) × (after ≡ release_map q) × (summary ≡ release_summary q)
+  unfolding release_out release_map release_summary
   out v h r after summary made left guides = (
     made ∙ ap (λ (w : Verdict). settle w done (refusal_out q.spare q.entry)) (sym h),
     left ∙ ap (λ (w : Verdict). settle w freed (λ number. q.map)) (sym h),
-    guides ∙ ap (λ (w : Verdict). settle w guideLeft (λ number. q.summary)) (sym h),
+    guides ∙ ap (λ (w : Verdict). settle w guide_left (λ number. q.summary)) (sym h),
   )
 
   abbrev pub stands : Standing
@@ -73,11 +73,11 @@ module _ (q : Lent) where
   first = lent-laws.first_at q
 
   pub shut : {o : Opened} (number : ℕ) → o ≡ first → o ≡ Refused number → verdict ≡ refused number
-  unfolding releaseVerdict view_at table_of
+  unfolding release_verdict view_at table_of
   shut number given told = closed _ _ _ _ _ _ number (sym given ∙ told)
 
   pub absent : {o : Opened} → o ≡ first → o ≡ Stands Absent → verdict ≡ refused 5
-  unfolding releaseVerdict view_at table_of
+  unfolding release_verdict view_at table_of
   absent given told =
       let x = opened _ _ _ _ _ Absent _ (sym given ∙ told) in
       x.verdict ∙ stop 5 (is_absent stands) _ (ap is_absent x.same)
@@ -85,7 +85,7 @@ module _ (q : Lent) where
   module _ (s : Standing) {o : Opened} (given : o ≡ first) (told : o ≡ Stands s) where
     -- the limits, and the extent to be freed
     pub limits : Fits q.n q.spare (length q.map)
-    limits = lent-laws.sized-at q (lent-laws.opens_at q s [] (sym given ∙ told)).all_fits
+    limits = lent-laws.sized-at q (lent-laws.opens_at q s [] (sym given ∙ told)).all_fits_lem
 
     pub extent : Inside q.n q.entry stands
     extent = inside_of q.n (free q.map) q.entry (lent-laws.opens_at q s [] (sym given ∙ told)).whole
@@ -99,7 +99,7 @@ module _ (q : Lent) where
 
     module _ (differs : NotAbsent s) where
       pub over : q.n - q.spare < q.entry.length → verdict ≡ refused 4
-      unfolding releaseVerdict view_at table_of
+      unfolding release_verdict view_at table_of
       over above =
           let x = opened _ _ _ _ _ s _ (sym given ∙ told) in
           let below = limits.spare in
@@ -109,7 +109,7 @@ module _ (q : Lent) where
           (stop 4 (ltb q.n (q.spare + length_of stands)) [] (lt-ltb q.n (q.spare + length_of stands) (omega arith)))
 
       pub passes : q.entry.length ≤ q.n - q.spare → verdict ≡ accepted
-      unfolding releaseVerdict view_at table_of
+      unfolding release_verdict view_at table_of
       passes within =
           let x = opened _ _ _ _ _ s _ (sym given ∙ told) in
           let below = limits.spare in
@@ -120,6 +120,6 @@ module _ (q : Lent) where
           (le-ltb q.n (q.spare + length_of stands) (omega arith)) none_left)
 
 -- what an accepted release shows of the lengths
-pub release_sized : (q : Lent) → releaseVerdict q ≡ accepted → Fits q.n q.spare (length q.map)
-unfolding releaseVerdict view_at table_of
+pub release_sized : (q : Lent) → release_verdict q ≡ accepted → Fits q.n q.spare (length q.map)
+unfolding release_verdict view_at table_of
 release_sized q h = lent-laws.sized-at q (not-false _ (clear 1 (table_of (view_at q) (on q.sheet release)) h).0)

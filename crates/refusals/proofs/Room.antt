@@ -8,7 +8,7 @@ use borrow.Author.Tests.{eqb-false, ltb-false, not-false}
 use Rattle.map_blocks.specs.Blocks.{free, fit}
 use Rattle.map_blocks.proofs.Fits.{fit_is}
 use Rattle.catalogue_standings.specs.Searches.{start_at}
-use Rattle.refusals.specs.Effects.{reserveVerdict, reserveStart, growVerdict}
+use Rattle.refusals.specs.Effects.{reserve_verdict, reserve_start, grow_verdict}
 use Rattle.catalogue_standings.specs.Rows.{Verdict, accepted}
 use Rattle.catalogue_standings.specs.Standings.{is_absent, is_paused, is_complete, is_damaged, start_of, length_of}
 use Rattle.refusals.specs.Table.{View, on, reserve, grow, table_of}
@@ -22,9 +22,9 @@ use Rattle.refusals.specs.Guides.{guide_fits, found_by}
 use Rattle.refusals.specs.Lent.{Lent}
 use Rattle.refusals.specs.Placement.{Placement, figures_in}
 use Rattle.refusals.specs.declared.Figures.{Figures}
-use Rattle.refusals.proofs.Lent.{Sized, standing, lengthsFit, sized}
+use Rattle.refusals.proofs.Lent.{Sized, standing, lengths_fit, sized}
 use Rattle.refusals.proofs.Placement.{figured, plain_fit, found_fit}
-use Rattle.catalogue_standings.proofs.Openings.{open-extent}
+use Rattle.catalogue_standings.proofs.Openings.{open_extent}
 
 -- ---- where the blocks lie
 
@@ -51,15 +51,15 @@ abbrev pub view_of : Lent → View
 view_of q = view_on q
 
 module _ (q : Lent) (k : ℕ) (p : Placement) where
-  abbrev pub reserveVerdictOn : Verdict
-  reserveVerdictOn = reserveVerdict q k p
+  abbrev pub reserve_verdict_on : Verdict
+  reserve_verdict_on = reserve_verdict q k p
 
-  abbrev pub reserveStartOn : ℕ
-  reserveStartOn = reserveStart q k p
+  abbrev pub reserve_start_on : ℕ
+  reserve_start_on = reserve_start q k p
 
-  pub reserve-room : reserveVerdictOn ≡ accepted → Room q reserveStartOn k
-  unfolding reserveVerdict reserveStart view_on table_of
-  reserve-room h =
+  pub reserve_room : reserve_verdict_on ≡ accepted → Room q reserve_start_on k
+  unfolding reserve_verdict reserve_start view_on table_of
+  reserve_room h =
       let rows = table_of (view_of q) (on q.sheet (reserve q.limits k p)) in
       let g : Figures = figures_in q.n p in
       let f = free q.map in
@@ -69,16 +69,16 @@ module _ (q : Lent) (k : ℕ) (p : Placement) where
       (clear 10 rows h).0) in
       record {
         sizes = sized q (not-false _ (clear 1 rows h).0);
-        guides = and_left _ (lengthsFit q) (not-false _ (clear 1 rows h).0);
+        guides = and_left _ (lengths_fit q) (not-false _ (clear 1 rows h).0);
         inside = fit_inside f q.n k least fits;
         enough = ltb-false q.spare k (clear 4 rows h).1.0;
       }
 
   -- and they lie within its figures
-  pub reserve-within : reserveVerdictOn ≡ accepted
-      → (reserveStartOn + k ≤ (figures_in q.n p).before) × ((figures_in q.n p).before ≤ q.n)
-  unfolding reserveVerdict reserveStart view_on table_of
-  reserve-within h =
+  pub reserve_within : reserve_verdict_on ≡ accepted
+      → (reserve_start_on + k ≤ (figures_in q.n p).before) × ((figures_in q.n p).before ≤ q.n)
+  unfolding reserve_verdict reserve_start view_on table_of
+  reserve_within h =
       let rows = table_of (view_of q) (on q.sheet (reserve q.limits k p)) in
       let g : Figures = figures_in q.n p in
       let f = free q.map in (
@@ -89,21 +89,21 @@ module _ (q : Lent) (k : ℕ) (p : Placement) where
       )
 
 module _ (q : Lent) (k : ℕ) where
-  abbrev pub growVerdictOn : Verdict
-  growVerdictOn = growVerdict q k
+  abbrev pub grow_verdict_on : Verdict
+  grow_verdict_on = grow_verdict q k
 
-  pub grow-room : growVerdictOn ≡ accepted → Room q (q.entry.start + q.entry.length) k
-  unfolding growVerdict view_on table_of
-  grow-room h =
+  pub grow_room : grow_verdict_on ≡ accepted → Room q (q.entry.start + q.entry.length) k
+  unfolding grow_verdict view_on table_of
+  grow_room h =
       let rows = table_of (view_of q) (on q.sheet (grow q.limits k)) in
       let s : Standing = standing q in
       let x =
-      open-extent q.n (free q.map) q.entry (start_of s) (length_of s)
+      open_extent q.n (free q.map) q.entry (start_of s) (length_of s)
       (only_open s (clear 4 rows h).0 (clear 5 rows h).0 (clear 6 rows h).0 (clear 8 rows h).0) in
       let inside = fit_inside (free q.map) q.n k (start_of s + length_of s) (not-false _ (clear 11 rows h).0) in
       record {
         sizes = sized q (not-false _ (clear 1 rows h).0);
-        guides = and_left _ (lengthsFit q) (not-false _ (clear 1 rows h).0);
+        guides = and_left _ (lengths_fit q) (not-false _ (clear 1 rows h).0);
         inside = omega (arith, x.starts, x.lasts, inside);
         enough = ltb-false q.spare k (clear 4 rows h).1.0;
       }

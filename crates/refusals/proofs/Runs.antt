@@ -10,9 +10,9 @@ use Rattle.catalogue_standings.proofs.Openings.{skip, stop, none_left}
 use Rattle.refusals.specs.Effects.{run_verdict}
 
 module _ (number : ℕ) (f : ℕ → Bool) (n spare start k : ℕ) where
-  pub over-limit : run_verdict number true f n spare start k ≡ refused 18
+  pub over_limit_lem : run_verdict number true f n spare start k ≡ refused 18
   unfolding run_verdict
-  over-limit = stop 18 _ _ refl
+  over_limit_lem = stop 18 _ _ refl
 
   pub not_free : fit f 0 n 1 k start ≡ false → run_verdict number false f n spare start k ≡ refused number
   unfolding run_verdict

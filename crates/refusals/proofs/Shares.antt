@@ -15,11 +15,11 @@ use Rattle.catalogue_standings.proofs.Rows.{Clear, either}
 
 -- a and b are the limit and k, as wider numbers
 module _ (limit held k a b : ℕ) (limits : a ≡ limit) (wants : b ≡ k) where
-  pub past-alone : a < b → true ≡ ltb limit (held + k)
-  past-alone l = sym (lt-ltb limit (held + k) (omega arith))
+  pub past_alone : a < b → true ≡ ltb limit (held + k)
+  past_alone l = sym (lt-ltb limit (held + k) (omega arith))
 
-  pub past-together : b ≤ a → ltb (a - b) held ≡ ltb limit (held + k)
-  past-together enough = go (ltb (a - b) held) refl
+  pub past_together : b ≤ a → ltb (a - b) held ≡ ltb limit (held + k)
+  past_together enough = go (ltb (a - b) held) refl
     where
       go : (t : Bool) → ltb (a - b) held ≡ t → t ≡ ltb limit (held + k)
       go true e = let l = ltb-true (a - b) held e in sym (lt-ltb limit (held + k) (omega arith))

@@ -12,12 +12,12 @@ use Rattle.catalogue_standings.specs.declared.Answer.TheVariants.{Refused}
 use Rattle.catalogue_standings.proofs.Openings.{skip, stop, none_left}
 use Rattle.catalogue_standings.proofs.Rows.{other_row}
 use Rattle.refusals.specs.Effects.{showing_verdict, block_verdict, shown_answer, shown_buffer}
-use Rattle.refusals.specs.Effects.{showVerdict, showAnswer, showBuffer}
+use Rattle.refusals.specs.Effects.{show_verdict, show_answer, show_buffer}
 use Rattle.refusals.specs.Lent.{Lent}
 use Rattle.refusals.specs.Table.{table_of}
 use Rattle.refusals.specs.Views.{view_on}
 use Rattle.refusals.proofs.Beginnings.{behind}
-use Rattle.refusals.proofs.Showing.{showing-then}
+use Rattle.refusals.proofs.Showing.{showing_then}
 
 -- ---- the block of the place
 
@@ -41,32 +41,32 @@ module _ (q : Lent) (place : ℕ) where
   abbrev pub block_at : List ℕ
   block_at = block_of q.card (q.entry.start + place)
 
-  abbrev pub soundAt : Bool
-  soundAt = sound q.sheet place block_at
+  abbrev pub sound_at : Bool
+  sound_at = sound q.sheet place block_at
 
 module _ (q : Lent) (place : ℕ) (buffer : List ℕ) where
-  verdict-behind : showVerdict q place buffer
-      ≡ behind (showing_verdict q place buffer) (row 4 (not (soundAt q place)) ∷ [])
-  unfolding showVerdict view_on table_of
-  verdict-behind = showing-then q place buffer (row 4 (not (soundAt q place)) ∷ [])
+  verdict_behind : show_verdict q place buffer
+      ≡ behind (showing_verdict q place buffer) (row 4 (not (sound_at q place)) ∷ [])
+  unfolding show_verdict view_on table_of
+  verdict_behind = showing_then q place buffer (row 4 (not (sound_at q place)) ∷ [])
 
   -- one of the first rows holds
   pub by_first : (number : ℕ) → number ≡ row_number (showing_verdict q place buffer) → (number ≡ 0 → ⊥)
-      → (Refused number ≡ showAnswer q place buffer) × (buffer ≡ showBuffer q place buffer)
-  unfolding showAnswer showBuffer
+      → (Refused number ≡ show_answer q place buffer) × (buffer ≡ show_buffer q place buffer)
+  unfolding show_answer show_buffer
   by_first number e some =
-      told (showVerdict q place buffer) (refused number)
-      (verdict-behind ∙ ap (λ (x : Verdict). behind x (row 4 (not (soundAt q place)) ∷ []))
+      told (show_verdict q place buffer) (refused number)
+      (verdict_behind ∙ ap (λ (x : Verdict). behind x (row 4 (not (sound_at q place)) ∷ []))
       (other_row (showing_verdict q place buffer) number e some))
       (block_at q place) buffer (Refused number) buffer refl refl
 
   -- none of them does
-  pub by-block : showing_verdict q place buffer ≡ accepted → (r : Answer) (after : List ℕ)
-      → r ≡ shown_answer (block_verdict (soundAt q place))
-      → after ≡ shown_buffer (block_verdict (soundAt q place)) (block_at q place) buffer
-      → (r ≡ showAnswer q place buffer) × (after ≡ showBuffer q place buffer)
-  unfolding showAnswer showBuffer block_verdict
-  by-block opens r after made left =
-      told (showVerdict q place buffer) (block_verdict (soundAt q place))
-      (verdict-behind ∙ ap (λ (x : Verdict). behind x (row 4 (not (soundAt q place)) ∷ [])) opens)
+  pub by_block : showing_verdict q place buffer ≡ accepted → (r : Answer) (after : List ℕ)
+      → r ≡ shown_answer (block_verdict (sound_at q place))
+      → after ≡ shown_buffer (block_verdict (sound_at q place)) (block_at q place) buffer
+      → (r ≡ show_answer q place buffer) × (after ≡ show_buffer q place buffer)
+  unfolding show_answer show_buffer block_verdict
+  by_block opens r after made left =
+      told (show_verdict q place buffer) (block_verdict (sound_at q place))
+      (verdict_behind ∙ ap (λ (x : Verdict). behind x (row 4 (not (sound_at q place)) ∷ [])) opens)
       (block_at q place) buffer r after made left

@@ -16,14 +16,14 @@ use Rattle.catalogue_standings.specs.declared.Answer.TheVariants.{Refused}
 use Rattle.catalogue_standings.proofs.Openings.{skip, stop, none_left}
 use Rattle.catalogue_standings.proofs.Rows.{clear, first_then, zero_accepts, other_row}
 use Rattle.refusals.specs.Effects.{showing_verdict, term_verdict, block_verdict, shown_answer, shown_buffer}
-use Rattle.refusals.specs.Effects.{showVerdict, showDatedVerdict, showDatedAnswer, showDatedBuffer}
+use Rattle.refusals.specs.Effects.{show_verdict, show_dated_verdict, show_dated_answer, show_dated_buffer}
 use Rattle.refusals.specs.Lent.{Lent}
 use Rattle.refusals.specs.Table.{on, show_dated, term_rows, table_of}
 use Rattle.refusals.specs.Views.{view_on}
 use Rattle.refusals.proofs.Beginnings.{behind}
 use Rattle.refusals.proofs.Room.{view_of}
-use Rattle.refusals.proofs.Show.{told, block_at, soundAt}
-use Rattle.refusals.proofs.Showing.{showing-then}
+use Rattle.refusals.proofs.Show.{told, block_at, sound_at}
+use Rattle.refusals.proofs.Showing.{showing_then}
 
 -- ---- the rows of a date
 
@@ -49,90 +49,90 @@ module _ (s : Bool) (t : Term) (date : Date) where
           (skip 4 _ _ accepted (ap not holds) (skip 20 _ _ accepted (ap not e) none_left))
 
   -- no row has the number 0
-  none-zero : row_number (term_verdict s t date) ≡ 0 → term_verdict s t date ≡ accepted
+  none_zero : row_number (term_verdict s t date) ≡ 0 → term_verdict s t date ≡ accepted
   unfolding term_verdict
-  none-zero = zero_accepts (term_rows s t date []) refl
+  none_zero = zero_accepts (term_rows s t date []) refl
 
-  pub term-zero : (number : ℕ) → number ≡ row_number (term_verdict s t date) → number ≡ 0 → term_verdict s t date ≡ accepted
-  term-zero number e z = none-zero (sym e ∙ z)
+  pub term_zero : (number : ℕ) → number ≡ row_number (term_verdict s t date) → number ≡ 0 → term_verdict s t date ≡ accepted
+  term_zero number e z = none_zero (sym e ∙ z)
 
   -- the rows behind them decide, where none of them holds
-  term-then : (rows : List Row) → first_of (term_rows s t date rows) ≡ behind (term_verdict s t date) rows
+  term_then : (rows : List Row) → first_of (term_rows s t date rows) ≡ behind (term_verdict s t date) rows
   unfolding term_verdict
-  term-then rows = first_then (term_rows s t date []) rows
+  term_then rows = first_then (term_rows s t date []) rows
 
 -- ---- what the call answers
 
 module _ (q : Lent) (place : ℕ) (date : Date) (buffer : List ℕ) where
   -- place 0 lies at the start of the extent
-  abbrev pub firstBlock : List ℕ
-  firstBlock = block_of q.card q.entry.start
+  abbrev pub first_block : List ℕ
+  first_block = block_of q.card q.entry.start
 
-  abbrev pub firstSound : Bool
-  firstSound = sound q.sheet 0 firstBlock
+  abbrev pub first_sound : Bool
+  first_sound = sound q.sheet 0 first_block
 
   abbrev pub term : Term
-  term = term_of (payload_of firstBlock)
+  term = term_of (payload_of first_block)
 
-  abbrev pub byDate : Verdict
-  byDate = term_verdict firstSound term date
+  abbrev pub by_date : Verdict
+  by_date = term_verdict first_sound term date
 
   abbrev last : List Row
-  last = row 4 (not (soundAt q place)) ∷ []
+  last = row 4 (not (sound_at q place)) ∷ []
 
-  verdict-behind : showDatedVerdict q place date buffer
-      ≡ behind (showing_verdict q place buffer) (term_rows firstSound term date last)
-  unfolding showDatedVerdict view_on table_of
-  verdict-behind =
-      showing-then q place buffer (term_rows (sound q.sheet 0 (block_of q.card (q.entry.start + 0))) term date last)
+  verdict_behind : show_dated_verdict q place date buffer
+      ≡ behind (showing_verdict q place buffer) (term_rows first_sound term date last)
+  unfolding show_dated_verdict view_on table_of
+  verdict_behind =
+      showing_then q place buffer (term_rows (sound q.sheet 0 (block_of q.card (q.entry.start + 0))) term date last)
       ∙ ap (λ (b : ℕ). behind (showing_verdict q place buffer)
       (term_rows (sound q.sheet 0 (block_of q.card b)) term date last))
       (add-zero q.entry.start)
 
   abbrev Answered : Answer → List ℕ → Type 0
-  Answered r after = (r ≡ showDatedAnswer q place date buffer) × (after ≡ showDatedBuffer q place date buffer)
+  Answered r after = (r ≡ show_dated_answer q place date buffer) × (after ≡ show_dated_buffer q place date buffer)
 
-  answered : (v : Verdict) → showDatedVerdict q place date buffer ≡ v → (r : Answer) (after : List ℕ) → r ≡ shown_answer v
+  answered : (v : Verdict) → show_dated_verdict q place date buffer ≡ v → (r : Answer) (after : List ℕ) → r ≡ shown_answer v
       → after ≡ shown_buffer v (block_at q place) buffer → Answered r after
-  unfolding showDatedAnswer showDatedBuffer
+  unfolding show_dated_answer show_dated_buffer
   answered v h r after made left =
-      told (showDatedVerdict q place date buffer) v h (block_at q place) buffer r after made left
+      told (show_dated_verdict q place date buffer) v h (block_at q place) buffer r after made left
 
   -- one of the first rows holds
   pub by_first : (number : ℕ) → number ≡ row_number (showing_verdict q place buffer) → (number ≡ 0 → ⊥)
       → Answered (Refused number) buffer
   by_first number e some =
       answered (refused number)
-      (verdict-behind ∙ ap (λ (x : Verdict). behind x (term_rows firstSound term date last))
+      (verdict_behind ∙ ap (λ (x : Verdict). behind x (term_rows first_sound term date last))
       (other_row (showing_verdict q place buffer) number e some))
       (Refused number) buffer refl refl
 
   module _ (opens : showing_verdict q place buffer ≡ accepted) where
-    past_first : showDatedVerdict q place date buffer ≡ behind byDate last
+    past_first : show_dated_verdict q place date buffer ≡ behind by_date last
     past_first =
-        verdict-behind ∙ ap (λ (x : Verdict). behind x (term_rows firstSound term date last)) opens
-        ∙ term-then firstSound term date last
+        verdict_behind ∙ ap (λ (x : Verdict). behind x (term_rows first_sound term date last)) opens
+        ∙ term_then first_sound term date last
 
     -- one of the rows of the date does
-    pub by-term : (number : ℕ) → number ≡ row_number byDate → (number ≡ 0 → ⊥) → Answered (Refused number) buffer
+    pub by-term : (number : ℕ) → number ≡ row_number by_date → (number ≡ 0 → ⊥) → Answered (Refused number) buffer
     by-term number e some =
         answered (refused number)
-        (past_first ∙ ap (λ (x : Verdict). behind x last) (other_row byDate number e some))
+        (past_first ∙ ap (λ (x : Verdict). behind x last) (other_row by_date number e some))
         (Refused number) buffer refl refl
 
     -- none of them does
-    pub by-block : byDate ≡ accepted → (r : Answer) (after : List ℕ)
-        → r ≡ shown_answer (block_verdict (soundAt q place))
-        → after ≡ shown_buffer (block_verdict (soundAt q place)) (block_at q place) buffer → Answered r after
+    pub by_block : by_date ≡ accepted → (r : Answer) (after : List ℕ)
+        → r ≡ shown_answer (block_verdict (sound_at q place))
+        → after ≡ shown_buffer (block_verdict (sound_at q place)) (block_at q place) buffer → Answered r after
     unfolding block_verdict
-    by-block holds r after made left =
-        answered (block_verdict (soundAt q place)) (past_first ∙ ap (λ (x : Verdict). behind x last) holds) r after made left
+    by_block holds r after made left =
+        answered (block_verdict (sound_at q place)) (past_first ∙ ap (λ (x : Verdict). behind x last) holds) r after made left
 
   -- ---- where it is accepted, so is a show of the place
 
-  pub accepted-too : showDatedVerdict q place date buffer ≡ accepted → showVerdict q place buffer ≡ accepted
-  unfolding showDatedVerdict showVerdict view_on table_of
-  accepted-too h =
+  pub accepted_too : show_dated_verdict q place date buffer ≡ accepted → show_verdict q place buffer ≡ accepted
+  unfolding show_dated_verdict show_verdict view_on table_of
+  accepted_too h =
       let rows = table_of (view_of q) (on q.sheet (show_dated place date buffer)) in
       skip 21 _ _ _ (clear 21 rows h).0
       (skip 1 _ _ _ (clear 1 rows h).0

@@ -15,16 +15,16 @@ use Rattle.catalogue_standings.specs.Standings.{start_of, length_of, is_absent, 
 use Rattle.catalogue_standings.specs.declared.Opened.TheVariants.{Refused, Stands}
 use Rattle.catalogue_standings.specs.declared.Standing.{Standing}
 use Rattle.catalogue_standings.specs.declared.Standing.TheVariants.{Absent, Paused, PausedWith, Open, Complete, Damaged}
-use Rattle.catalogue_standings.proofs.Openings.{Extent, NotComplete, opened, closed, skip, stop, none_left, complete-extent}
+use Rattle.catalogue_standings.proofs.Openings.{Extent, NotComplete, opened, closed, skip, stop, none_left, complete_extent}
 use Rattle.catalogue_standings.proofs.Rows.{clear, first_then, zero_accepts}
 use Rattle.refusals.specs.Effects.{showing_verdict}
 use Rattle.refusals.specs.Lent.{Lent}
 use Rattle.refusals.specs.Table.{opening, showing}
 use Rattle.refusals.specs.Views.{view_on}
-use Rattle.refusals.proofs.Admitted.{complete-else, complete-passes}
+use Rattle.refusals.proofs.Admitted.{complete_else, complete_passes}
 use Rattle.refusals.proofs.Beginnings.{behind}
-use Rattle.refusals.proofs.Lent.{Sized, standing, first, allFits, sized}
-use Rattle.refusals.proofs.Places.{beyond, unsized, placed, well-placed, block-number, block-bytes}
+use Rattle.refusals.proofs.Lent.{Sized, standing, first, all_fits, sized}
+use Rattle.refusals.proofs.Places.{beyond, unsized, placed, well_placed, block-number, block-bytes}
 use Rattle.refusals.proofs.Room.{view_of}
 
 -- the one standing that a show admits
@@ -38,53 +38,53 @@ only_complete (Complete s l) d a p o = refl
 only_complete Damaged d a p o = absurd (true≢false d)
 
 module _ (q : Lent) (place : ℕ) (buffer : List ℕ) where
-  abbrev pub showingRows : List Row → List Row
-  showingRows rows = opening (view_of q) q.sheet (showing (view_of q) place buffer rows)
+  abbrev pub showing_rows : List Row → List Row
+  showing_rows rows = opening (view_of q) q.sheet (showing (view_of q) place buffer rows)
 
-  pub showing-shut : (number : ℕ) → first q ≡ Refused number → showing_verdict q place buffer ≡ refused number
+  pub showing_shut : (number : ℕ) → first q ≡ Refused number → showing_verdict q place buffer ≡ refused number
   unfolding showing_verdict view_on
-  showing-shut number h = closed _ _ _ _ _ _ number h
+  showing_shut number h = closed _ _ _ _ _ _ number h
 
-  pub showing-other : (s : Standing) → first q ≡ Stands s → NotComplete s → showing_verdict q place buffer ≡ refused (row_of s)
+  pub showing_other : (s : Standing) → first q ≡ Stands s → NotComplete s → showing_verdict q place buffer ≡ refused (row_of s)
   unfolding showing_verdict view_on
-  showing-other s h differs = complete-else _ _ _ _ _ _ s h differs
+  showing_other s h differs = complete_else _ _ _ _ _ _ s h differs
 
   module _ (start blocks : ℕ) (h : first q ≡ Stands (Complete start blocks)) where
     lasts : length_of (standing q) ≡ blocks
-    lasts = ap length_of (opened q.turned (allFits q) q.sheets q.sheet (standing q) (Complete start blocks) [] h).same
+    lasts = ap length_of (opened q.turned (all_fits q) q.sheets q.sheet (standing q) (Complete start blocks) [] h).same
 
     pub showing-past-end : blocks ≤ place → showing_verdict q place buffer ≡ refused 3
     unfolding showing_verdict view_on
     showing-past-end b =
-        complete-passes _ _ _ _ _ _ start blocks h
+        complete_passes _ _ _ _ _ _ start blocks h
         ∙ stop 3 _ _ (beyond (length_of (standing q)) place (length buffer) (omega (arith, lasts)))
 
     module _ (listed : place < blocks) where
       pub showing-misfit : (length buffer ≡ 496 → ⊥) → showing_verdict q place buffer ≡ refused 3
       unfolding showing_verdict view_on
       showing-misfit d =
-          complete-passes _ _ _ _ _ _ start blocks h
+          complete_passes _ _ _ _ _ _ start blocks h
           ∙ stop 3 _ _ (unsized (length_of (standing q)) place (length buffer) (omega (arith, lasts)) d)
 
       pub showing-passes : length buffer ≡ 496 → showing_verdict q place buffer ≡ accepted
       unfolding showing_verdict view_on
       showing-passes d =
-          complete-passes _ _ _ _ _ _ start blocks h
+          complete_passes _ _ _ _ _ _ start blocks h
           ∙ skip 3 _ _ _ (placed (length_of (standing q)) place (length buffer) (omega (arith, lasts)) d) none_left
 
   -- no row has the number 0
-  none-zero : row_number (showing_verdict q place buffer) ≡ 0 → showing_verdict q place buffer ≡ accepted
+  none_zero : row_number (showing_verdict q place buffer) ≡ 0 → showing_verdict q place buffer ≡ accepted
   unfolding showing_verdict
-  none-zero = zero_accepts (showingRows []) refl
+  none_zero = zero_accepts (showing_rows []) refl
 
-  pub showing-zero : (number : ℕ) → number ≡ row_number (showing_verdict q place buffer) → number ≡ 0
+  pub showing_zero : (number : ℕ) → number ≡ row_number (showing_verdict q place buffer) → number ≡ 0
       → showing_verdict q place buffer ≡ accepted
-  showing-zero number e z = none-zero (sym e ∙ z)
+  showing_zero number e z = none_zero (sym e ∙ z)
 
   -- the rows behind them decide, where none of them holds
-  pub showing-then : (rows : List Row) → first_of (showingRows rows) ≡ behind (showing_verdict q place buffer) rows
+  pub showing_then : (rows : List Row) → first_of (showing_rows rows) ≡ behind (showing_verdict q place buffer) rows
   unfolding showing_verdict
-  showing-then rows = first_then (showingRows []) rows
+  showing_then rows = first_then (showing_rows []) rows
 
   -- ---- where none of them holds
 
@@ -97,11 +97,11 @@ module _ (q : Lent) (place : ℕ) (buffer : List ℕ) where
   pub shown : showing_verdict q place buffer ≡ accepted → Shown
   unfolding showing_verdict view_on
   shown h =
-      let rows = showingRows [] in
-      let fits = well-placed (length_of (standing q)) place (length buffer) (clear 3 rows h).0 in
+      let rows = showing_rows [] in
+      let fits = well_placed (length_of (standing q)) place (length buffer) (clear 3 rows h).0 in
       record {
         sizes = sized q (not-false _ (clear 1 rows h).0);
-        extent = complete-extent q.n (free q.map) q.entry (start_of (standing q)) (length_of (standing q))
+        extent = complete_extent q.n (free q.map) q.entry (start_of (standing q)) (length_of (standing q))
             (only_complete (standing q) (clear 4 rows h).0 (clear 5 rows h).0 (clear 6 rows h).0 (clear 7 rows h).0);
         listed = fits.0;
         whole = fits.1;

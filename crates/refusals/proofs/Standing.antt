@@ -5,7 +5,7 @@ use Prim.Native.Nat.{ℕ}
 use lib.ListN.{length}
 use Rattle.refusals.proofs.Lent as lent-laws
 use Rattle.refusals.specs.Lent.{Lent}
-use Rattle.refusals.specs.Effects.{standingAnswer}
+use Rattle.refusals.specs.Effects.{standing_answer}
 use Rattle.catalogue_standings.specs.Rows.{Verdict, accepted, refused, settle}
 use Rattle.refusals.specs.Table as table
 use Rattle.refusals.specs.Table.{table_of, verdict_of}
@@ -20,9 +20,9 @@ module _ (q : Lent) where
   abbrev pub verdict : Verdict
   verdict = verdict_of (view_at q) (table.on q.sheet table.standing)
 
-  pub out : (v : Verdict) → verdict ≡ v → standingAnswer q
+  pub out : (v : Verdict) → verdict ≡ v → standing_answer q
       ≡ settle v (Reads q.entry.mark q.entry.start q.entry.length) Refused
-  unfolding standingAnswer
+  unfolding standing_answer
   out v h = ap (λ (w : Verdict). settle w (Reads q.entry.mark q.entry.start q.entry.length) Refused) h
 
   abbrev pub first : Opened

@@ -7,8 +7,8 @@ ghost use Rattle.roles.specs.Roles as names;
 ghost use Rattle.roles.specs.Roles.{turned_away};
 ghost use Rattle.refusals.specs.Placement.{placed};
 ghost use Rattle.catalogue_standings.specs.Rows.{row_number};
-ghost use Rattle.refusals.specs.Effects.{givingVerdict, addingVerdict, run_verdict, unsearchedVerdict, reserveVerdict};
-ghost use Rattle.refusals.specs.Effects.{reserveStart, acceptVerdict, growVerdict};
+ghost use Rattle.refusals.specs.Effects.{giving_verdict, adding_verdict, run_verdict, unsearched_verdict, reserve_verdict};
+ghost use Rattle.refusals.specs.Effects.{reserve_start, accept_verdict, grow_verdict};
 ghost use Rattle.refusals_rulings.specs.Rulings.{ruling_of};
 
 use catalogue::Entry;
@@ -42,7 +42,7 @@ fn giving_row(
 ) -> u32
     ensures { let q = lent_beside guided summary.now n free map.now card.now c entry sheet
         in
-        result ≡ row_number (givingVerdict q k) }
+        result ≡ row_number (giving_verdict q k) }
 {
     if !guide_fits(guided, map.len(), summary.len()) {
         return 1;
@@ -77,7 +77,7 @@ fn enter_giving(
 ) -> u32
     ensures { let q = lent_beside guided summary.now n free map.now card.now c entry sheet
         in
-        result ≡ row_number (givingVerdict (called_by (turned_away role call) q) k) }
+        result ≡ row_number (giving_verdict (called_by (turned_away role call) q) k) }
 {
     if turned_away(role, call) {
         return TURNED_AWAY;
@@ -100,7 +100,7 @@ fn adding_row(
 ) -> u32
     ensures { let q = lent_beside guided summary.now n free map.now card.now c entry sheet
         in
-        result ≡ row_number (addingVerdict q m) }
+        result ≡ row_number (adding_verdict q m) }
 {
     if !guide_fits(guided, map.len(), summary.len()) {
         return 1;
@@ -135,7 +135,7 @@ fn enter_adding(
 ) -> u32
     ensures { let q = lent_beside guided summary.now n free map.now card.now c entry sheet
         in
-        result ≡ row_number (addingVerdict (called_by (turned_away role call) q) m) }
+        result ≡ row_number (adding_verdict (called_by (turned_away role call) q) m) }
 {
     if turned_away(role, call) {
         return TURNED_AWAY;
@@ -164,7 +164,7 @@ fn reserve_row(
     ensures { let q = called_by (turned_away role call) (lent_within held limits.now guided summary.now
         n free map.now
         card.now c entry sheet) in
-        result ≡ row_number (unsearchedVerdict q k (placed figures)) }
+        result ≡ row_number (unsearched_verdict q k (placed figures)) }
 {
     let row = enter_giving(
         role, call, n, free, map, guided, summary, card, c, entry, sheet, k,
@@ -202,7 +202,7 @@ pub fn reserve_ruling(
     ensures { let q = called_by (turned_away role call) (lent_within held limits.now guided summary.now
         n free map.now
         card.now c entry sheet) in
-        result ≡ ruling_of (reserveVerdict q k (placed figures)) (reserveStart q k (placed figures)) }
+        result ≡ ruling_of (reserve_verdict q k (placed figures)) (reserve_start q k (placed figures)) }
 {
     let row = reserve_row(
         role, call, n, free, map, guided, summary, card, c, entry, sheet, held, limits, k, figures,
@@ -257,7 +257,7 @@ pub fn accept_ruling(
 ) -> Ruling
     ensures { let q = called_by (turned_away role names.accept) (lent_within held limits.now guided summary.entry.now n free map.now
         card.now c entry sheet) in
-        result ≡ ruling_of (acceptVerdict q start k) start }
+        result ≡ ruling_of (accept_verdict q start k) start }
 {
     let row = enter_giving(
         role,
@@ -298,7 +298,7 @@ pub fn grow_ruling(
 ) -> Ruling
     ensures { let q = called_by (turned_away role names.grow) (lent_within held limits.now guided summary.entry.now n free map.now
         card.now c entry sheet) in
-        result ≡ ruling_of (growVerdict q m) (entry.start + entry.length) }
+        result ≡ ruling_of (grow_verdict q m) (entry.start + entry.length) }
 {
     let row = enter_adding(
         role,

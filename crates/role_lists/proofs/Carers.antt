@@ -16,19 +16,19 @@ use Rattle.roles.specs.Roles.{may, carer, turned_away}
 use Rattle.refusals.specs.Effects as effects
 use Rattle.refusals.specs.Table.{Ask, reserve, put, grow, complete, change, release, show, standing, offer, accept, show_dated}
 use Rattle.refusals.specs.Table.{table_of}
-use Rattle.card.specs.Calls.{Kept, kept, lent_to, told, survey_outcome, standingOutcome}
+use Rattle.card.specs.Calls.{Kept, kept, lent_to, told, survey_outcome, standing_outcome}
 use Rattle.card.specs.Public as public
 use Rattle.card.specs.Public.{Public, on, fresh, search, survey, save, load, build, check, kind_on, kind_of, Manner, Beside}
 use Rattle.card.specs.Public.{with_scratch, End, refused_end, ends, kept_after}
 use Rattle.card.specs.declared.Shape.{Shape}
-use Rattle.card.proofs.TurnedAway.{every-call-turned-away}
+use Rattle.card.proofs.TurnedAway.{every_call_turned_away}
 use Rattle.ledger.specs.Calls as ledgers
 use Rattle.ledger.specs.Calls.{Call, turned_in}
 use Rattle.ledger.specs.Ledger.{Sheet, listed, verdict_in, deed_in, step_in, after}
 use Rattle.ledger.specs.Lists.{Made, Runs, call_in, calls_in}
 use Rattle.role_lists.specs.Carers.{Agree, asked_with, bringing, LearnsTheSame, ChangesNothing, AllBy, SameCalls, SameCame}
 use Rattle.role_lists.specs.Carers.{ListsLearnTheSame, ListsChangeNothing, LeavesTheLedger}
-use Rattle.role_lists.proofs.Cases.{carers-calls}
+use Rattle.role_lists.proofs.Cases.{carers_calls}
 use Rattle.role_lists.proofs.Learning.{same_answer, same-buffer}
 
 -- ---- a call with another buffer
@@ -93,7 +93,7 @@ module _ (m : Manner) (by : m.role ≡ carer) (s : Kept) (b : Beside) where
   -- not in a carer's row
   turned_so : (c : Public) → may carer (kind_of c).name ≡ false → ends m s b c ≡ refused_end 21 s b (kind_of c)
   turned_so c e =
-      every-call-turned-away m s b c (ap (λ (r : ℕ). turned_away r (kind_of c).name) by ∙ ap not e)
+      every_call_turned_away m s b c (ap (λ (r : ℕ). turned_away r (kind_of c).name) by ∙ ap not e)
 
 module _ (s t : Kept) (agree : Agree s t) (m o : Manner) (by : m.role ≡ carer) (too : o.role ≡ carer) (a b : Beside) where
   abbrev Same : Public → Type 0
@@ -119,7 +119,7 @@ module _ (s t : Kept) (agree : Agree s t) (m o : Manner) (by : m.role ≡ carer)
 
   stands : (sheet : ℕ) → Same (on sheet standing)
   stands sheet buffer long = (
-    λ z. standingOutcome (turns roles.standing z) (kept (agree.shapes z) (agree.maps z) (agree.catalogues z) []) sheet,
+    λ z. standing_outcome (turns roles.standing z) (kept (agree.shapes z) (agree.maps z) (agree.catalogues z) []) sheet,
     λ same. refl,
   )
 
@@ -129,16 +129,16 @@ module _ (s t : Kept) (agree : Agree s t) (m o : Manner) (by : m.role ≡ carer)
         ap (told s.shape) (same_answer tm s sheet place date s.card t.card agree.lengths
             agree.blocks brings buffer
             long)
-            ∙ (λ z. told (agree.shapes z) (effects.showDatedAnswer (lent_to (turns roles.show_dated z)
+            ∙ (λ z. told (agree.shapes z) (effects.show_dated_answer (lent_to (turns roles.show_dated z)
             (kept (agree.shapes z) (agree.maps z) (agree.catalogues z) t.card) t.card sheet) place date buffer)),
         λ same. same-buffer tm s sheet place date s.card t.card agree.lengths agree.blocks brings
-            ∙ (λ z. effects.showDatedBuffer (lent_to (turns roles.show_dated z)
+            ∙ (λ z. effects.show_dated_buffer (lent_to (turns roles.show_dated z)
             (kept (agree.shapes z) (agree.maps z) (agree.catalogues z) t.card) t.card sheet) place date (same z)),
       )
 
 pub learns_the_same : LearnsTheSame
 learns_the_same s t agree m o by too a b c =
-    carers-calls (Same s t agree m o by too a b) (away s t agree m o by too a b) (surveys s t agree m o by too a b)
+    carers_calls (Same s t agree m o by too a b) (away s t agree m o by too a b) (surveys s t agree m o by too a b)
     (stands s t agree m o by too a b) (shows s t agree m o by too a b) c
 
 -- ---- nothing is changed
@@ -148,8 +148,8 @@ module _ (s : Kept) (m : Manner) (by : m.role ≡ carer) (b : Beside) where
   Left e = (kept_after e ≡ s) × (e.beside.image ≡ b.image) × (e.beside.summary ≡ b.summary)
 
   -- whether a scratch is lent or not
-  refused-left : (number : ℕ) (c : Public) → Left (refused_end number s b (kind_of c))
-  refused-left number c = go (kind_of c).scratched
+  refused_left : (number : ℕ) (c : Public) → Left (refused_end number s b (kind_of c))
+  refused_left number c = go (kind_of c).scratched
     where
       go : (lent : Bool) → (s ≡ s) × ((cond lent (with_scratch (zeros_for b.scratch) b) b).image ≡ b.image)
           × ((cond lent (with_scratch (zeros_for b.scratch) b) b).summary ≡ b.summary)
@@ -158,8 +158,8 @@ module _ (s : Kept) (m : Manner) (by : m.role ≡ carer) (b : Beside) where
 
   left : (c : Public) → Left (ends m s b c)
   left =
-      carers-calls (λ c. Left (ends m s b c))
-      (λ c e. subst Left (sym (turned_so m by s b c e)) (refused-left 21 c))
+      carers_calls (λ c. Left (ends m s b c))
+      (λ c e. subst Left (sym (turned_so m by s b c e)) (refused_left 21 c))
       (refl, refl, refl)
       (λ sheet. (refl, refl, refl))
       (λ sheet place date buffer. (refl, refl, refl))
@@ -221,26 +221,26 @@ module _ (n : ℕ) (l : List Sheet) (role : ℕ) (by : role ≡ carer) where
   abbrev Stays : Public → Type 0
   Stays c = after n l (call_in role c) ≡ l
 
-  turned-stays : (c : Public) → may carer (kind_of c).name ≡ false → Stays c
+  turned_stays : (c : Public) → may carer (kind_of c).name ≡ false → Stays c
   unfolding first_of
-  turned-stays (on sheet a) e =
+  turned_stays (on sheet a) e =
       ap (λ (v : Verdict). settle v (deed_in n l (ledgers.on role sheet a)).ledger (λ number. l))
       (away_on n l role sheet a (ap (λ (r : ℕ). turned_away r (kind_on a).name) by ∙ ap not e))
-  turned-stays (fresh k) e = refl
-  turned-stays (search k) e = refl
-  turned-stays survey e = refl
-  turned-stays save e = refl
-  turned-stays (load image) e = refl
-  turned-stays public.close e =
+  turned_stays (fresh k) e = refl
+  turned_stays (search k) e = refl
+  turned_stays survey e = refl
+  turned_stays save e = refl
+  turned_stays (load image) e = refl
+  turned_stays public.close e =
       ap (λ (t : Bool). settle (cond t (refused 21) accepted) (deed_in n l (ledgers.close role)).ledger (λ number. l))
       (ap (λ (r : ℕ). turned_away r roles.close) by ∙ ap not e)
-  turned-stays build e = refl
-  turned-stays check e = refl
+  turned_stays build e = refl
+  turned_stays check e = refl
 
   stays : (c : Public) → Stays c
   unfolding deed_in
   stays =
-      carers-calls Stays turned-stays refl
+      carers_calls Stays turned_stays refl
       (λ sheet. either_way l (verdict_in n l (ledgers.on role sheet standing)))
       (λ sheet place date buffer. either_way l (verdict_in n l (ledgers.on role sheet (show_dated place date buffer))))
 

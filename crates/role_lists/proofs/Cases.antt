@@ -25,63 +25,63 @@ pharmacist_may c = refl
 module _ (P : Public → Type 0) (away : (c : Public) → may carer (kind_of c).name ≡ false → P c) (surveys : P survey)
     (stands : (sheet : ℕ) → P (on sheet standing))
     (shows : (sheet place : ℕ) (date : Date) (buffer : List ℕ) → P (on sheet (show_dated place date buffer))) where
-  carers-asks : (sheet : ℕ) (a : Ask) → P (on sheet a)
+  carers_asks : (sheet : ℕ) (a : Ask) → P (on sheet a)
   unfolding may carer_may
-  carers-asks sheet (reserve limits k placement) = away (on sheet (reserve limits k placement)) refl
-  carers-asks sheet (offer limits k) = away (on sheet (offer limits k)) refl
-  carers-asks sheet (accept limits start k) = away (on sheet (accept limits start k)) refl
-  carers-asks sheet (put place payload) = away (on sheet (put place payload)) refl
-  carers-asks sheet (grow limits m) = away (on sheet (grow limits m)) refl
-  carers-asks sheet complete = away (on sheet complete) refl
-  carers-asks sheet (change pause) = away (on sheet (change pause)) refl
-  carers-asks sheet (change resume) = away (on sheet (change resume)) refl
-  carers-asks sheet release = away (on sheet release) refl
-  carers-asks sheet (show place buffer) = away (on sheet (show place buffer)) refl
-  carers-asks sheet (show_dated place date buffer) = shows sheet place date buffer
-  carers-asks sheet standing = stands sheet
+  carers_asks sheet (reserve limits k placement) = away (on sheet (reserve limits k placement)) refl
+  carers_asks sheet (offer limits k) = away (on sheet (offer limits k)) refl
+  carers_asks sheet (accept limits start k) = away (on sheet (accept limits start k)) refl
+  carers_asks sheet (put place payload) = away (on sheet (put place payload)) refl
+  carers_asks sheet (grow limits m) = away (on sheet (grow limits m)) refl
+  carers_asks sheet complete = away (on sheet complete) refl
+  carers_asks sheet (change pause) = away (on sheet (change pause)) refl
+  carers_asks sheet (change resume) = away (on sheet (change resume)) refl
+  carers_asks sheet release = away (on sheet release) refl
+  carers_asks sheet (show place buffer) = away (on sheet (show place buffer)) refl
+  carers_asks sheet (show_dated place date buffer) = shows sheet place date buffer
+  carers_asks sheet standing = stands sheet
 
-  pub carers-calls : (c : Public) → P c
+  pub carers_calls : (c : Public) → P c
   unfolding may carer_may
-  carers-calls (on sheet a) = carers-asks sheet a
-  carers-calls (fresh n) = away (fresh n) refl
-  carers-calls (search k) = away (search k) refl
-  carers-calls survey = surveys
-  carers-calls save = away save refl
-  carers-calls (load image) = away (load image) refl
-  carers-calls close = away close refl
-  carers-calls build = away build refl
-  carers-calls check = away check refl
+  carers_calls (on sheet a) = carers_asks sheet a
+  carers_calls (fresh n) = away (fresh n) refl
+  carers_calls (search k) = away (search k) refl
+  carers_calls survey = surveys
+  carers_calls save = away save refl
+  carers_calls (load image) = away (load image) refl
+  carers_calls close = away close refl
+  carers_calls build = away build refl
+  carers_calls check = away check refl
 
 -- and of service's calls but fresh and load
 module _ (P : Public → Type 0) (away : (c : Public) → may service (kind_of c).name ≡ false → P c)
     (freshens : (n : ℕ) → P (fresh n)) (loads : (image : List ℕ) → P (load image)) (surveys : P survey) (saves : P save)
     (closes : P close) (stands : (sheet : ℕ) → P (on sheet standing)) where
-  services-asks : (sheet : ℕ) (a : Ask) → P (on sheet a)
+  services_asks : (sheet : ℕ) (a : Ask) → P (on sheet a)
   unfolding may service_may
-  services-asks sheet (reserve limits k placement) = away (on sheet (reserve limits k placement)) refl
-  services-asks sheet (offer limits k) = away (on sheet (offer limits k)) refl
-  services-asks sheet (accept limits start k) = away (on sheet (accept limits start k)) refl
-  services-asks sheet (put place payload) = away (on sheet (put place payload)) refl
-  services-asks sheet (grow limits m) = away (on sheet (grow limits m)) refl
-  services-asks sheet complete = away (on sheet complete) refl
-  services-asks sheet (change pause) = away (on sheet (change pause)) refl
-  services-asks sheet (change resume) = away (on sheet (change resume)) refl
-  services-asks sheet release = away (on sheet release) refl
-  services-asks sheet (show place buffer) = away (on sheet (show place buffer)) refl
-  services-asks sheet (show_dated place date buffer) = away (on sheet (show_dated place date buffer)) refl
-  services-asks sheet standing = stands sheet
+  services_asks sheet (reserve limits k placement) = away (on sheet (reserve limits k placement)) refl
+  services_asks sheet (offer limits k) = away (on sheet (offer limits k)) refl
+  services_asks sheet (accept limits start k) = away (on sheet (accept limits start k)) refl
+  services_asks sheet (put place payload) = away (on sheet (put place payload)) refl
+  services_asks sheet (grow limits m) = away (on sheet (grow limits m)) refl
+  services_asks sheet complete = away (on sheet complete) refl
+  services_asks sheet (change pause) = away (on sheet (change pause)) refl
+  services_asks sheet (change resume) = away (on sheet (change resume)) refl
+  services_asks sheet release = away (on sheet release) refl
+  services_asks sheet (show place buffer) = away (on sheet (show place buffer)) refl
+  services_asks sheet (show_dated place date buffer) = away (on sheet (show_dated place date buffer)) refl
+  services_asks sheet standing = stands sheet
 
-  pub services-calls : (c : Public) → P c
+  pub services_calls : (c : Public) → P c
   unfolding may service_may
-  services-calls (on sheet a) = services-asks sheet a
-  services-calls (fresh n) = freshens n
-  services-calls (search k) = away (search k) refl
-  services-calls survey = surveys
-  services-calls save = saves
-  services-calls (load image) = loads image
-  services-calls close = closes
-  services-calls build = away build refl
-  services-calls check = away check refl
+  services_calls (on sheet a) = services_asks sheet a
+  services_calls (fresh n) = freshens n
+  services_calls (search k) = away (search k) refl
+  services_calls survey = surveys
+  services_calls save = saves
+  services_calls (load image) = loads image
+  services_calls close = closes
+  services_calls build = away build refl
+  services_calls check = away check refl
 
 -- ---- the rows
 
@@ -100,7 +100,7 @@ clashes c role e h = absurd (false≢true (sym e ∙ h))
 
 carers_so : (c : Public) → may carer (kind_of c).name ≡ true → CarersCall c
 carers_so =
-    carers-calls (λ c. may carer (kind_of c).name ≡ true → CarersCall c) (λ c e h. clashes c carer e h)
+    carers_calls (λ c. may carer (kind_of c).name ≡ true → CarersCall c) (λ c e h. clashes c carer e h)
     (λ h. inr (inr refl)) (λ sheet h. inr (inl (sheet, refl)))
     (λ sheet place date buffer h. inl (sheet, place, date, buffer, refl))
 
@@ -117,7 +117,7 @@ carers_then c =
 
 services_so : (c : Public) → may service (kind_of c).name ≡ true → ServicesCall c
 services_so =
-    services-calls (λ c. may service (kind_of c).name ≡ true → ServicesCall c) (λ c e h. clashes c service e h)
+    services_calls (λ c. may service (kind_of c).name ≡ true → ServicesCall c) (λ c e h. clashes c service e h)
     (λ n h. inl (n, refl)) (λ image h. inr (inr (inl (image, refl)))) (λ h. inr (inr (inr (inr (inr refl)))))
     (λ h. inr (inl refl)) (λ h. inr (inr (inr (inl refl)))) (λ sheet h. inr (inr (inr (inr (inl (sheet, refl))))))
 

@@ -13,13 +13,13 @@ use Rattle.calendar.specs.Calendar.{Date}
 use Rattle.calendar.specs.Term.{term_of}
 use Rattle.map_blocks.specs.Blocks.{free}
 use Rattle.blocks_of_card.specs.Card.{block_of}
-use Rattle.blocks_of_card.proofs.Card.{other_block, length-withBlock}
+use Rattle.blocks_of_card.proofs.Card.{other_block, length_with_block}
 use Rattle.block_seals.specs.Sealed.{sound, payload_of}
 use Rattle.catalogue.specs.Entries.{entry_at}
 use Rattle.catalogue_standings.specs.Limits.{shape_fits, sheets_fit}
 use Rattle.catalogue_standings.specs.declared.Answer.TheVariants.{Done, Refused}
 use Rattle.catalogue_standings.specs.declared.Standing.TheVariants.{Complete}
-use Rattle.catalogue_standings.proofs.Openings.{complete-extent}
+use Rattle.catalogue_standings.proofs.Openings.{complete_extent}
 use Rattle.refusals.specs.Effects as effects
 use Rattle.refusals.specs.Guides.{guide_fits}
 use Rattle.refusals.specs.Table.{table_of, rows_for}
@@ -41,30 +41,30 @@ module _ (turned : Bool) (s : Kept) (sheet place : ℕ) (date : Date) where
   start = (entry_at s.entries sheet).start
 
   -- what its blocks tell, the call being done with what `done` makes of the block of the place; place 0 lies at the start
-  abbrev seenIn : {A : Type 0} → (List ℕ → A) → List ℕ → List ℕ → List ℕ → Seen A
-  seenIn done zeroth first wanted = record {
+  abbrev seen_in : {A : Type 0} → (List ℕ → A) → List ℕ → List ℕ → List ℕ → Seen A
+  seen_in done zeroth first wanted = record {
     first = sound sheet 0 zeroth;
     term = term_of (payload_of first);
     wanted = sound sheet place wanted;
     done = done wanted;
   }
 
-  abbrev seenOn : {A : Type 0} → (List ℕ → A) → List ℕ → Seen A
-  seenOn done card = seenIn done (block_of card (start + 0)) (block_of card start) (block_of card (start + place))
+  abbrev seen_on : {A : Type 0} → (List ℕ → A) → List ℕ → Seen A
+  seen_on done card = seen_in done (block_of card (start + 0)) (block_of card start) (block_of card (start + place))
 
   module _ (card : List ℕ) (buffer : List ℕ) where
-    answer-comes : effects.showDatedAnswer (lent_to turned s card sheet) place date buffer
+    answer-comes : effects.show_dated_answer (lent_to turned s card sheet) place date buffer
         ≡ comes Refused (dated date) place (length buffer) turned (misfit_with (length card)) (leb (length s.entries) sheet)
         (stands s sheet)
-        (seenOn (λ block. Done) card)
-    unfolding effects.showDatedAnswer effects.showDatedVerdict table_of rows_for view_on comes misfit_with
+        (seen_on (λ block. Done) card)
+    unfolding effects.show_dated_answer effects.show_dated_verdict table_of rows_for view_on comes misfit_with
     answer-comes = refl
 
-    buffer-comes : effects.showDatedBuffer (lent_to turned s card sheet) place date buffer
+    buffer-comes : effects.show_dated_buffer (lent_to turned s card sheet) place date buffer
         ≡ comes (λ number. buffer) (dated date) place (length buffer) turned (misfit_with (length card))
         (leb (length s.entries) sheet)
-        (stands s sheet) (seenOn payload_of card)
-    unfolding effects.showDatedBuffer effects.showDatedVerdict table_of rows_for view_on comes misfit_with
+        (stands s sheet) (seen_on payload_of card)
+    unfolding effects.show_dated_buffer effects.show_dated_verdict table_of rows_for view_on comes misfit_with
     buffer-comes = refl
 
   -- ---- two cards that agree
@@ -75,12 +75,12 @@ module _ (turned : Bool) (s : Kept) (sheet place : ℕ) (date : Date) where
         → block_of card (start + p) ≡ block_of other (start + p)
     at_place from count listed h p inside =
         subst (λ (x : ℕ). block_of card (x + p) ≡ block_of other (x + p))
-        (sym (complete-extent s.shape.blocks (free s.map) (entry_at s.entries sheet) from count h).starts)
+        (sym (complete_extent s.shape.blocks (free s.map) (entry_at s.entries sheet) from count h).starts)
         (blocks sheet from count listed h p inside)
 
     module _ {A : Type 0} (done : List ℕ → A) where
       same_seen : (from count : ℕ) → leb (length s.entries) sheet ≡ false → stands s sheet ≡ Complete from count
-          → place < count → seenOn done card ≡ seenOn done other
+          → place < count → seen_on done card ≡ seen_on done other
       same_seen from count below h inside =
           let listed : sheet < length s.entries = leb-false (length s.entries) sheet below in
           let zeroth : block_of card (start + 0) ≡ block_of other (start + 0) =
@@ -89,9 +89,9 @@ module _ (turned : Bool) (s : Kept) (sheet place : ℕ) (date : Date) where
           subst (λ (x : ℕ). block_of card x ≡ block_of other x) (add-zero start) zeroth in
           let wanted : block_of card (start + place) ≡ block_of other (start + place) =
           at_place from count listed h place inside in
-          ap (λ (x : List ℕ). seenIn done x (block_of card start) (block_of card (start + place))) zeroth
-          ∙ ap (λ (x : List ℕ). seenIn done (block_of other (start + 0)) x (block_of card (start + place))) first
-          ∙ ap (seenIn done (block_of other (start + 0)) (block_of other start)) wanted
+          ap (λ (x : List ℕ). seen_in done x (block_of card start) (block_of card (start + place))) zeroth
+          ∙ ap (λ (x : List ℕ). seen_in done (block_of other (start + 0)) x (block_of card (start + place))) first
+          ∙ ap (seen_in done (block_of other (start + 0)) (block_of other start)) wanted
 
       module _ (refusal : ℕ → A) where
         abbrev comesIn : ℕ → ℕ → Seen A → A
@@ -100,23 +100,23 @@ module _ (turned : Bool) (s : Kept) (sheet place : ℕ) (date : Date) where
             (stands s sheet) seen
 
         comes-same : (m n : ℕ) → m ≡ n
-            → comesIn m (length card) (seenOn done card) ≡ comesIn n (length other) (seenOn done other)
+            → comesIn m (length card) (seen_on done card) ≡ comesIn n (length other) (seen_on done other)
         comes-same m n e =
-            ap (λ (x : ℕ). comesIn x (length card) (seenOn done card)) e
-            ∙ ap (λ (x : ℕ). comesIn n x (seenOn done card)) lengths
-            ∙ only_complete refusal (dated date) place n (seenOn done card) (seenOn done other) turned
+            ap (λ (x : ℕ). comesIn x (length card) (seen_on done card)) e
+            ∙ ap (λ (x : ℕ). comesIn n x (seen_on done card)) lengths
+            ∙ only_complete refusal (dated date) place n (seen_on done card) (seen_on done other) turned
             (misfit_with (length other))
             (leb (length s.entries) sheet) (stands s sheet) same_seen
 
     pub same_answer : (a b : List ℕ) → length a ≡ length b
-        → effects.showDatedAnswer (lent_to turned s card sheet) place date a
-        ≡ effects.showDatedAnswer (lent_to turned s other sheet) place date b
+        → effects.show_dated_answer (lent_to turned s card sheet) place date a
+        ≡ effects.show_dated_answer (lent_to turned s other sheet) place date b
     same_answer a b e =
         answer-comes card a ∙ comes-same (λ block. Done) Refused (length a) (length b) e ∙ sym (answer-comes other b)
 
     pub same-buffer : (a : List ℕ)
-        → effects.showDatedBuffer (lent_to turned s card sheet) place date a
-        ≡ effects.showDatedBuffer (lent_to turned s other sheet) place date a
+        → effects.show_dated_buffer (lent_to turned s card sheet) place date a
+        ≡ effects.show_dated_buffer (lent_to turned s other sheet) place date a
     same-buffer a =
         buffer-comes card a ∙ comes-same payload_of (λ number. a) (length a) (length a) refl ∙ sym (buffer-comes other a)
 
@@ -124,7 +124,7 @@ module _ (turned : Bool) (s : Kept) (sheet place : ℕ) (date : Date) where
 
 pub other_blocks_may_differ : OtherBlocksMayDiffer
 other_blocks_may_differ s b bytes whole inside unheld = record {
-  lengths = sym (length-withBlock s.card bytes b inside whole);
+  lengths = sym (length_with_block s.card bytes b inside whole);
   shapes = refl;
   maps = refl;
   catalogues = refl;

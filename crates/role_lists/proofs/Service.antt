@@ -11,23 +11,23 @@ use Rattle.roles.specs.Roles as roles
 use Rattle.roles.specs.Roles.{may, service, turned_away}
 use Rattle.catalogue_standings.specs.Rows.{Verdict, accepted, refused}
 use Rattle.catalogue_standings.specs.declared.Standing.TheVariants.{Complete}
-use Rattle.card.specs.Calls.{Kept, showOutcome, showBuffer, showDatedOutcome, showDatedBuffer}
+use Rattle.card.specs.Calls.{Kept, show_outcome, show_buffer, show_dated_outcome, show_dated_buffer}
 use Rattle.card.specs.Public.{Public, fresh, load, close, kind_of, Manner, Beside, End}
-use Rattle.card.specs.Public.{endClose, ends, kept_after}
-use Rattle.card.proofs.Closings.{verdictBy, close-refused, close-accepted}
-use Rattle.card.proofs.TurnedAway.{every-call-turned-away}
+use Rattle.card.specs.Public.{end_close, ends, kept_after}
+use Rattle.card.proofs.Closings.{verdict_by, close_refused, close_accepted}
+use Rattle.card.proofs.TurnedAway.{every_call_turned_away}
 use Rattle.ledger.specs.Claim.{entry_in}
 use Rattle.ledger.specs.Ledger.{Sheet, standing_in, after, begun}
 use Rattle.ledger.specs.Lists.{Made, told_by, Runs, heard_in, heard_replies}
 use Rattle.ledger.proofs.Agreement.{stands_same}
-use Rattle.ledger.proofs.Demand.{Left, every-list-by-any, left-by-any}
+use Rattle.ledger.proofs.Demand.{Left, every_list_by_any, left_by_any}
 use Rattle.ledger.proofs.Fresh.{Limits}
 use Rattle.ledger.proofs.Pauses.{held_listed}
 use Rattle.ledger.proofs.Sheets.{holding}
 use Rattle.role_lists.specs.Carers.{stands, AllBy}
 use Rattle.role_lists.specs.Service.{NeitherFreshNorLoad, ServiceShowsAsBefore, ServiceShowsTheSame}
-use Rattle.role_lists.proofs.Cases.{services-calls}
-use Rattle.role_lists.proofs.ClosedSheets.{closed_kept, closed-moved}
+use Rattle.role_lists.proofs.Cases.{services_calls}
+use Rattle.role_lists.proofs.ClosedSheets.{closed_kept, closed_moved}
 use Rattle.role_lists.proofs.Shown.{show-same, show-buffer-same, dated-same, dated-buffer-same}
 
 -- ---- a sheet that stands Complete and shows the same
@@ -37,11 +37,11 @@ pub record Still (s u : Kept) (sheet count : ℕ) : Type 0 where
   pub there : sheet < length u.entries
   pub standing_so : stands u sheet ≡ Complete start count
   pub shows : (t : Bool) (place : ℕ) (buffer : List ℕ)
-      → (showOutcome t u sheet place buffer ≡ showOutcome t s sheet place buffer)
-      × (showBuffer t u sheet place buffer ≡ showBuffer t s sheet place buffer)
+      → (show_outcome t u sheet place buffer ≡ show_outcome t s sheet place buffer)
+      × (show_buffer t u sheet place buffer ≡ show_buffer t s sheet place buffer)
   pub shows_dated : (t : Bool) (place : ℕ) (date : Date) (buffer : List ℕ)
-      → (showDatedOutcome t u sheet place date buffer ≡ showDatedOutcome t s sheet place date buffer)
-      × (showDatedBuffer t u sheet place date buffer ≡ showDatedBuffer t s sheet place date buffer)
+      → (show_dated_outcome t u sheet place date buffer ≡ show_dated_outcome t s sheet place date buffer)
+      × (show_dated_buffer t u sheet place date buffer ≡ show_dated_buffer t s sheet place date buffer)
 
 -- of every sheet
 abbrev AllStill : Kept → Kept → Type 0
@@ -84,9 +84,9 @@ module _ (away guided : Bool) (s : Kept) (b : Beside) where
   abbrev guide : List ℕ
   guide = cond guided b.summary []
 
-  closed : verdictBy away guided guide s b.scratch ≡ accepted → AllStill s (closed_kept s)
+  closed : verdict_by away guided guide s b.scratch ≡ accepted → AllStill s (closed_kept s)
   closed ok sheet start count listed stood =
-      let m = closed-moved away guided guide s b.scratch ok sheet start count listed stood in
+      let m = closed_moved away guided guide s b.scratch ok sheet start count listed stood in
       record {
         start = _;
         there = subst (λ (x : ℕ). sheet < x) (sym m.sheets) listed;
@@ -101,13 +101,13 @@ module _ (away guided : Bool) (s : Kept) (b : Beside) where
         );
       }
 
-  closing-stays : AllStill s (kept_after (endClose away guided s b))
-  closing-stays = by (verdictBy away guided guide s b.scratch) refl
+  closing_stays : AllStill s (kept_after (end_close away guided s b))
+  closing_stays = by (verdict_by away guided guide s b.scratch) refl
     where
-      by : (v : Verdict) → verdictBy away guided guide s b.scratch ≡ v → AllStill s (kept_after (endClose away guided s b))
+      by : (v : Verdict) → verdict_by away guided guide s b.scratch ≡ v → AllStill s (kept_after (end_close away guided s b))
       by accepted ok =
-          let a = close-accepted away guided guide s b.scratch ok in
-          let same : kept_after (endClose away guided s b) ≡ closed_kept s = λ x. record {
+          let a = close_accepted away guided guide s b.scratch ok in
+          let same : kept_after (end_close away guided s b) ≡ closed_kept s = λ x. record {
             shape = (a.outcome x).shape;
             map = a.words x;
             entries = a.sheets x;
@@ -115,8 +115,8 @@ module _ (away guided : Bool) (s : Kept) (b : Beside) where
           } in
           subst (λ (x : Kept). AllStill s x) (sym same) (closed ok)
       by (refused number) refusal =
-          let a = close-refused away guided guide s b.scratch number refusal in
-          as_it_was s (kept_after (endClose away guided s b)) (λ x. record {
+          let a = close_refused away guided guide s b.scratch number refusal in
+          as_it_was s (kept_after (end_close away guided s b)) (λ x. record {
             shape = (a.outcome x).shape;
             map = a.words x;
             entries = a.sheets x;
@@ -131,14 +131,14 @@ module _ (m : Manner) (by : m.role ≡ service) (s : Kept) (b : Beside) where
 
   away : (c : Public) → may service (kind_of c).name ≡ false → Stays c
   away c e no-fresh no_load =
-      as_it_was s (kept_after (ends m s b c)) (ap kept_after (every-call-turned-away m s b c
+      as_it_was s (kept_after (ends m s b c)) (ap kept_after (every_call_turned_away m s b c
       (ap (λ (r : ℕ). turned_away r (kind_of c).name) by ∙ ap not e)))
 
   stays : (c : Public) → Stays c
   stays =
-      services-calls Stays away (λ n no-fresh no_load. absurd (no-fresh refl)) (λ image no-fresh no_load. absurd (no_load refl))
+      services_calls Stays away (λ n no-fresh no_load. absurd (no-fresh refl)) (λ image no-fresh no_load. absurd (no_load refl))
       (λ no-fresh no_load. unmoved s) (λ no-fresh no_load. unmoved s)
-      (λ no-fresh no_load. closing-stays (turned_away m.role roles.close) m.guided s b)
+      (λ no-fresh no_load. closing_stays (turned_away m.role roles.close) m.guided s b)
       (λ sheet no-fresh no_load. unmoved s)
 
 -- ---- lists
@@ -168,11 +168,11 @@ service_shows_as_before s u made es all neither runs sheet start count listed st
 -- ---- from a fresh card
 
 module _ (n c : ℕ) (card : List ℕ) (limits : Limits n c) (room : length card ≡ 512 * n) where
-  pub service-shows-the-same : ServiceShowsTheSame n c card
-  service-shows-the-same made es t any runs more came u all neither then i s xs e p lp =
+  pub service_shows_the_same : ServiceShowsTheSame n c card
+  service_shows_the_same made es t any runs more came u all neither then i s xs e p lp =
       let l : List Sheet = after n (begun c) (heard_in made es) in
       let w : Left n (begun c) (heard_in made es) (heard_replies made es) t =
-      left-by-any n c card limits room made es t any runs in
+      left_by_any n c card limits room made es t any runs in
       let below : i < length l = held_listed l i (ap holding e) in
       let stood : stands t i ≡ Complete s (length xs) =
       ap (λ (x : Kept). stands x i) w.state_left ∙ stands_same n l w.card_left w.kept_left false i below
@@ -180,7 +180,7 @@ module _ (n c : ℕ) (card : List ℕ) (limits : Limits n c) (room : length card
       let listed : i < length t.entries =
       subst (λ (x : ℕ). i < x) (sym (ap (λ (x : Kept). length x.entries) w.state_left ∙ length-map l entry_in)) below in
       let k = all_still t u more came all neither then i s (length xs) listed stood in
-      let shown = (every-list-by-any n c card limits room made es t any runs).shows i s xs e p lp in (
+      let shown = (every_list_by_any n c card limits room made es t any runs).shows i s xs e p lp in (
         shown.0,
         shown.2,
         λ m may-show b buffer long.

@@ -22,7 +22,7 @@ use Rattle.refusals.specs.Effects as effects
 use Rattle.refusals.specs.Guides.{guide_fits}
 use Rattle.refusals.specs.Table.{table_of, rows_for}
 use Rattle.refusals.specs.Views.{view_on}
-use Rattle.card.specs.Calls.{Kept, lent_to, told, showOutcome, showBuffer, showDatedOutcome, showDatedBuffer}
+use Rattle.card.specs.Calls.{Kept, lent_to, told, show_outcome, show_buffer, show_dated_outcome, show_dated_buffer}
 use Rattle.card.specs.declared.Shape.{Shape}
 use Rattle.role_lists.specs.Carers.{stands}
 use Rattle.role_lists.proofs.Verdicts.{Seen, undated, dated, comes, moved}
@@ -51,16 +51,16 @@ pub record Moved (s u : Kept) (sheet start then count : ℕ) : Type 0 where
   pub blocks : (p : ℕ) → p < count → block_of u.card (start_at u sheet + p) ≡ block_of s.card (start_at s sheet + p)
 
 module _ (turned : Bool) (s u : Kept) (sheet start then count : ℕ) (m : Moved s u sheet start then count) where
-  misfit-same : misfit_of u ≡ misfit_of s
-  misfit-same =
+  misfit_same : misfit_of u ≡ misfit_of s
+  misfit_same =
       ap (λ (x : Shape). misfit_with x (length u.map) (length u.entries) (length u.card)) m.shapes
       ∙ ap (λ (x : ℕ). misfit_with s.shape x (length u.entries) (length u.card)) m.words
       ∙ ap (λ (x : ℕ). misfit_with s.shape (length s.map) x (length u.card)) m.sheets
       ∙ ap (λ (x : ℕ). misfit_with s.shape (length s.map) (length s.entries) x) m.bytes
 
   module _ {A : Type 0} (refusal : ℕ → A) (done : List ℕ → A) (rest : Bool → Term → Bool → List Row) (place bytes : ℕ) where
-    abbrev seenIn : List ℕ → List ℕ → List ℕ → Seen A
-    seenIn zeroth first wanted = record {
+    abbrev seen_in : List ℕ → List ℕ → List ℕ → Seen A
+    seen_in zeroth first wanted = record {
       first = sound sheet 0 zeroth;
       term = term_of (payload_of first);
       wanted = sound sheet place wanted;
@@ -69,7 +69,7 @@ module _ (turned : Bool) (s u : Kept) (sheet start then count : ℕ) (m : Moved 
 
     abbrev seen_at : Kept → Seen A
     seen_at k =
-        seenIn (block_of k.card (start_at k sheet + 0)) (block_of k.card (start_at k sheet))
+        seen_in (block_of k.card (start_at k sheet + 0)) (block_of k.card (start_at k sheet))
         (block_of k.card (start_at k sheet + place))
 
     same_seen : place < count → seen_at u ≡ seen_at s
@@ -79,10 +79,10 @@ module _ (turned : Bool) (s u : Kept) (sheet start then count : ℕ) (m : Moved 
         let first : block_of u.card (start_at u sheet) ≡ block_of s.card (start_at s sheet) =
         ap (block_of u.card) (sym (add-zero (start_at u sheet))) ∙ zeroth
         ∙ ap (block_of s.card) (add-zero (start_at s sheet)) in
-        ap (λ (x : List ℕ). seenIn x (block_of u.card (start_at u sheet)) (block_of u.card (start_at u sheet + place))) zeroth
-        ∙ ap (λ (x : List ℕ). seenIn (block_of s.card (start_at s sheet + 0)) x (block_of u.card (start_at u sheet + place)))
+        ap (λ (x : List ℕ). seen_in x (block_of u.card (start_at u sheet)) (block_of u.card (start_at u sheet + place))) zeroth
+        ∙ ap (λ (x : List ℕ). seen_in (block_of s.card (start_at s sheet + 0)) x (block_of u.card (start_at u sheet + place)))
         first
-        ∙ ap (seenIn (block_of s.card (start_at s sheet + 0)) (block_of s.card (start_at s sheet))) wanted
+        ∙ ap (seen_in (block_of s.card (start_at s sheet + 0)) (block_of s.card (start_at s sheet))) wanted
 
     abbrev comesIn : Kept → A
     comesIn k = comes refusal rest place bytes turned (misfit_of k) (leb (length k.entries) sheet) (stands k sheet) (seen_at k)
@@ -90,7 +90,7 @@ module _ (turned : Bool) (s u : Kept) (sheet start then count : ℕ) (m : Moved 
     same : comesIn u ≡ comesIn s
     same =
         ap (λ (x : Bool). comes refusal rest place bytes turned x (leb (length u.entries) sheet) (stands u sheet) (seen_at u))
-        misfit-same
+        misfit_same
         ∙ ap (λ (x : ℕ). comes refusal rest place bytes turned (misfit_of s) (leb x sheet) (stands u sheet) (seen_at u))
         m.sheets
         ∙ ap (λ (x : Standing). comes refusal rest place bytes turned (misfit_of s) (leb (length s.entries) sheet) x
@@ -106,46 +106,46 @@ module _ (turned : Bool) (s u : Kept) (sheet start then count : ℕ) (m : Moved 
   -- ---- show
 
   module _ (place : ℕ) (buffer : List ℕ) where
-    answer-comes : (k : Kept) → effects.showAnswer (lent_to turned k k.card sheet) place buffer
+    answer-comes : (k : Kept) → effects.show_answer (lent_to turned k k.card sheet) place buffer
         ≡ comesIn Refused (λ block. Done) undated place (length buffer) k
-    unfolding effects.showAnswer effects.showVerdict table_of rows_for view_on comes
+    unfolding effects.show_answer effects.show_verdict table_of rows_for view_on comes
     answer-comes k = refl
 
-    buffer-comes : (k : Kept) → effects.showBuffer (lent_to turned k k.card sheet) place buffer
+    buffer-comes : (k : Kept) → effects.show_buffer (lent_to turned k k.card sheet) place buffer
         ≡ comesIn (λ number. buffer) payload_of undated place (length buffer) k
-    unfolding effects.showBuffer effects.showVerdict table_of rows_for view_on comes
+    unfolding effects.show_buffer effects.show_verdict table_of rows_for view_on comes
     buffer-comes k = refl
 
-    pub show-same : showOutcome turned u sheet place buffer ≡ showOutcome turned s sheet place buffer
+    pub show-same : show_outcome turned u sheet place buffer ≡ show_outcome turned s sheet place buffer
     show-same =
-        ap (λ (x : Shape). told x (effects.showAnswer (lent_to turned u u.card sheet) place buffer)) m.shapes
+        ap (λ (x : Shape). told x (effects.show_answer (lent_to turned u u.card sheet) place buffer)) m.shapes
         ∙ ap (told s.shape) (answer-comes u ∙ same Refused (λ block. Done) undated place (length buffer)
         ∙ sym (answer-comes s))
 
-    pub show-buffer-same : showBuffer turned u sheet place buffer ≡ showBuffer turned s sheet place buffer
+    pub show-buffer-same : show_buffer turned u sheet place buffer ≡ show_buffer turned s sheet place buffer
     show-buffer-same =
         buffer-comes u ∙ same (λ number. buffer) payload_of undated place (length buffer) ∙ sym (buffer-comes s)
 
   -- ---- the dated show
 
   module _ (place : ℕ) (date : Date) (buffer : List ℕ) where
-    dated-answer-comes : (k : Kept) → effects.showDatedAnswer (lent_to turned k k.card sheet) place date buffer
+    dated-answer-comes : (k : Kept) → effects.show_dated_answer (lent_to turned k k.card sheet) place date buffer
         ≡ comesIn Refused (λ block. Done) (dated date) place (length buffer) k
-    unfolding effects.showDatedAnswer effects.showDatedVerdict table_of rows_for view_on comes
+    unfolding effects.show_dated_answer effects.show_dated_verdict table_of rows_for view_on comes
     dated-answer-comes k = refl
 
-    dated-buffer-comes : (k : Kept) → effects.showDatedBuffer (lent_to turned k k.card sheet) place date buffer
+    dated-buffer-comes : (k : Kept) → effects.show_dated_buffer (lent_to turned k k.card sheet) place date buffer
         ≡ comesIn (λ number. buffer) payload_of (dated date) place (length buffer) k
-    unfolding effects.showDatedBuffer effects.showDatedVerdict table_of rows_for view_on comes
+    unfolding effects.show_dated_buffer effects.show_dated_verdict table_of rows_for view_on comes
     dated-buffer-comes k = refl
 
-    pub dated-same : showDatedOutcome turned u sheet place date buffer ≡ showDatedOutcome turned s sheet place date buffer
+    pub dated-same : show_dated_outcome turned u sheet place date buffer ≡ show_dated_outcome turned s sheet place date buffer
     dated-same =
-        ap (λ (x : Shape). told x (effects.showDatedAnswer (lent_to turned u u.card sheet) place date buffer)) m.shapes
+        ap (λ (x : Shape). told x (effects.show_dated_answer (lent_to turned u u.card sheet) place date buffer)) m.shapes
         ∙ ap (told s.shape) (dated-answer-comes u ∙ same Refused (λ block. Done) (dated date) place (length buffer)
         ∙ sym (dated-answer-comes s))
 
-    pub dated-buffer-same : showDatedBuffer turned u sheet place date buffer ≡ showDatedBuffer turned s sheet place date buffer
+    pub dated-buffer-same : show_dated_buffer turned u sheet place date buffer ≡ show_dated_buffer turned s sheet place date buffer
     dated-buffer-same =
         dated-buffer-comes u ∙ same (λ number. buffer) payload_of (dated date) place (length buffer)
         ∙ sym (dated-buffer-comes s)

@@ -32,8 +32,8 @@ dated date first term wanted = term_rows first term date (row 4 (not wanted) ∷
 
 module _ {A : Type 0} (refusal : ℕ → A) (rest : Bool → Term → Bool → List Row) (place bytes : ℕ) where
   -- what comes of the rows from 3 on, of a sheet of so many blocks
-  unfoldable pub comesOf : ℕ → Seen A → A
-  comesOf count seen =
+  unfoldable pub comes_of : ℕ → Seen A → A
+  comes_of count seen =
       settle (first_of (row 3 (leb count place || not (eqb bytes 496)) ∷ rest seen.first seen.term seen.wanted))
       seen.done refusal
 
@@ -46,18 +46,18 @@ module _ {A : Type 0} (refusal : ℕ → A) (rest : Bool → Term → Bool → L
       seen.done refusal
 
   module _ (seen other : Seen A) where
-    at_places : (count : ℕ) → (place < count → seen ≡ other) → comesOf count seen ≡ comesOf count other
-    unfolding comesOf first_of
+    at_places : (count : ℕ) → (place < count → seen ≡ other) → comes_of count seen ≡ comes_of count other
+    unfolding comes_of first_of
     at_places count same = by (leb count place) refl
       where
-        by : (outside : Bool) → leb count place ≡ outside → comesOf count seen ≡ comesOf count other
+        by : (outside : Bool) → leb count place ≡ outside → comes_of count seen ≡ comes_of count other
         by true e = rw (e) refl
-        by false e = ap (comesOf count) (same (leb-false count place e))
+        by false e = ap (comes_of count) (same (leb-false count place e))
 
     pub only_complete : (turned misfit beyond : Bool) (stands : Standing)
         → ((start count : ℕ) → beyond ≡ false → stands ≡ Complete start count → place < count → seen ≡ other)
         → comes turned misfit beyond stands seen ≡ comes turned misfit beyond stands other
-    unfolding comes comesOf first_of
+    unfolding comes comes_of first_of
     only_complete true misfit beyond stands same = refl
     only_complete false true beyond stands same = refl
     only_complete false false true stands same = refl
@@ -71,7 +71,7 @@ module _ {A : Type 0} (refusal : ℕ → A) (rest : Bool → Term → Bool → L
     -- wherever a complete sheet starts
     pub moved : (count : ℕ) → (place < count → seen ≡ other) → (turned misfit beyond : Bool) (start then : ℕ)
         → comes turned misfit beyond (Complete start count) seen ≡ comes turned misfit beyond (Complete then count) other
-    unfolding comes comesOf first_of
+    unfolding comes comes_of first_of
     moved count same true misfit beyond start then = refl
     moved count same false true beyond start then = refl
     moved count same false false true start then = refl

@@ -1,6 +1,6 @@
 -- What service leaves alone (document 02, request (n)): service moves sheets, and after any list of its calls but fresh and
 -- load, turned away or not, every sheet that stands Complete shows what it showed, from any state, sound or not. That it
--- holds is `service_shows_as_before` in proofs/Service.antt; of lists from a fresh card, `service-shows-the-same`.
+-- holds is `service_shows_as_before` in proofs/Service.antt; of lists from a fresh card, `service_shows_the_same`.
 -- Assumes nothing.
 use Rattle.std.specs.Prelude.{ℕ, ◌<◌, ◌≡◌, List, [], ◌∷◌, length}
 use Rattle.calendar.specs.Calendar.{Date}

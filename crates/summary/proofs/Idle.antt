@@ -18,28 +18,28 @@ use Rattle.summary.specs.Updates.{changed, holds_all, same_group, idle, built_fr
 -- ---- the words that hold a changed block
 
 module _ (start count : ℕ) (l : Span) where
-  pub is-changed : 0 < count → start < 64 * (l.first + l.size) → 64 * l.first < start + count → changed start count l ≡ true
-  is-changed a b c =
+  pub is_changed : 0 < count → start < 64 * (l.first + l.size) → 64 * l.first < start + count → changed start count l ≡ true
+  is_changed a b c =
       and_both (ltb 0 count) (ltb start (64 * (l.first + l.size)) && ltb (64 * l.first) (start + count)) (lt-ltb 0 count a)
       (and_both (ltb start (64 * (l.first + l.size))) (ltb (64 * l.first) (start + count))
       (lt-ltb start (64 * (l.first + l.size)) b) (lt-ltb (64 * l.first) (start + count) c))
 
-  none-and : (x y : Bool) → (x && (false && y)) ≡ false
-  none-and true y = refl
-  none-and false y = refl
+  none_and : (x y : Bool) → (x && (false && y)) ≡ false
+  none_and true y = refl
+  none_and false y = refl
 
   none_last : (x y : Bool) → (x && (y && false)) ≡ false
   none_last true true = refl
   none_last true false = refl
   none_last false y = refl
 
-  pub not-changed : ((start + count + 63) / 64 ≤ l.first) ⊎ (l.first + l.size ≤ start / 64) → changed start count l ≡ false
-  not-changed (inl u) =
+  pub not_changed : ((start + count + 63) / 64 ≤ l.first) ⊎ (l.first + l.size ≤ start / 64) → changed start count l ≡ false
+  not_changed (inl u) =
       ap (λ (x : Bool). ltb 0 count && (ltb start (64 * (l.first + l.size)) && x))
       (le-ltb (64 * l.first) (start + count) (omega arith)) ∙ none_last (ltb 0 count) (ltb start (64 * (l.first + l.size)))
-  not-changed (inr u) =
+  not_changed (inr u) =
       ap (λ (x : Bool). ltb 0 count && (x && ltb (64 * l.first) (start + count)))
-      (le-ltb start (64 * (l.first + l.size)) (omega arith)) ∙ none-and (ltb 0 count) (ltb (64 * l.first) (start + count))
+      (le-ltb start (64 * (l.first + l.size)) (omega arith)) ∙ none_and (ltb 0 count) (ltb (64 * l.first) (start + count))
 
 -- ---- groups that stay as they were
 

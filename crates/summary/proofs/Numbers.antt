@@ -21,8 +21,8 @@ use Rattle.summary.specs.Walks.{with_group}
 -- ---- one group stored
 
 module _ (s : List ℕ) (g : ℕ) (x : Group) where
-  pub in-with-same : 3 * g + 2 < length s → group_in (with_group s g x) g ≡ x
-  in-with-same l =
+  pub in_with_same : 3 * g + 2 < length s → group_in (with_group s g x) g ≡ x
+  in_with_same l =
       let s₁ : List ℕ = set s (3 * g) x.head in
       let s₂ : List ℕ = set s₁ (3 * g + 1) x.tail in
       let l₁ : length s₁ ≡ length s = length-set s (3 * g) x.head in
@@ -40,8 +40,8 @@ module _ (s : List ℕ) (g : ℕ) (x : Group) where
       get_or-set_other (set (set s (3 * g) x.head) (3 * g + 1) x.tail) (3 * g + 2) i x.longest 0 c
       ∙ get_or-set_other (set s (3 * g) x.head) (3 * g + 1) i x.tail 0 b ∙ get_or-set_other s (3 * g) i x.head 0 a
 
-  pub in-with-other : (h : ℕ) → (h ≡ g → ⊥) → group_in (with_group s g x) h ≡ group_in s h
-  in-with-other h ne =
+  pub in_with_other : (h : ℕ) → (h ≡ g → ⊥) → group_in (with_group s g x) h ≡ group_in s h
+  in_with_other h ne =
       group_eq (other (3 * h) (λ e. ne (omega arith)) (λ e. omega arith) (λ e. omega arith))
       (other (3 * h + 1) (λ e. omega arith) (λ e. ne (omega arith)) (λ e. omega arith))
       (other (3 * h + 2) (λ e. omega arith) (λ e. omega arith) (λ e. ne (omega arith)))
@@ -57,31 +57,31 @@ in_cons x y z s h =
     (ap (λ (i : ℕ). get_or (x ∷ y ∷ z ∷ s) i 0) c)
 
 module _ (group : ℕ → Group) where
-  pub numbers-length : (g c : ℕ) → length (numbers group g c) ≡ 3 * c
+  pub numbers_length : (g c : ℕ) → length (numbers group g c) ≡ 3 * c
   unfolding numbers
-  numbers-length g zero = refl
-  numbers-length g (suc c) = let e : length (numbers group (suc g) c) ≡ 3 * c = numbers-length (suc g) c in omega arith
+  numbers_length g zero = refl
+  numbers_length g (suc c) = let e : length (numbers group (suc g) c) ≡ 3 * c = numbers_length (suc g) c in omega arith
 
-  pub numbers-at : (g c h : ℕ) → h < c → group_in (numbers group g c) h ≡ group (g + h)
+  pub numbers_at : (g c h : ℕ) → h < c → group_in (numbers group g c) h ≡ group (g + h)
   unfolding numbers
-  numbers-at g zero h l = absurd (omega arith)
-  numbers-at g (suc c) zero l = ap group (sym (add-zero g))
-  numbers-at g (suc c) (suc h) l =
+  numbers_at g zero h l = absurd (omega arith)
+  numbers_at g (suc c) zero l = ap group (sym (add-zero g))
+  numbers_at g (suc c) (suc h) l =
       let e : suc g + h ≡ g + suc h = omega arith in
       in_cons (group g).head (group g).tail (group g).longest (numbers group (suc g) c) h
-      ∙ numbers-at (suc g) c h (omega arith) ∙ ap group e
+      ∙ numbers_at (suc g) c h (omega arith) ∙ ap group e
 
-  pub numbers-only : (g c : ℕ) (s : List ℕ) → length s ≡ 3 * c → ((h : ℕ) → h < c → group_in s h ≡ group (g + h))
+  pub numbers_only : (g c : ℕ) (s : List ℕ) → length s ≡ 3 * c → ((h : ℕ) → h < c → group_in s h ≡ group (g + h))
       → s ≡ numbers group g c
   unfolding numbers
-  numbers-only g zero [] e same = refl
-  numbers-only g zero (x ∷ s) e same = absurd (omega arith)
-  numbers-only g (suc c) [] e same = absurd (omega arith)
-  numbers-only g (suc c) (x ∷ []) e same = absurd (omega arith)
-  numbers-only g (suc c) (x ∷ y ∷ []) e same = absurd (omega arith)
-  numbers-only g (suc c) (x ∷ y ∷ z ∷ s) e same =
+  numbers_only g zero [] e same = refl
+  numbers_only g zero (x ∷ s) e same = absurd (omega arith)
+  numbers_only g (suc c) [] e same = absurd (omega arith)
+  numbers_only g (suc c) (x ∷ []) e same = absurd (omega arith)
+  numbers_only g (suc c) (x ∷ y ∷ []) e same = absurd (omega arith)
+  numbers_only g (suc c) (x ∷ y ∷ z ∷ s) e same =
       joined (same 0 (omega arith) ∙ ap group (add-zero g))
-      (numbers-only (suc g) c s (omega arith) (λ h l. let q : g + suc h ≡ suc g + h = omega arith in
+      (numbers_only (suc g) c s (omega arith) (λ h l. let q : g + suc h ≡ suc g + h = omega arith in
       sym (in_cons x y z s h) ∙ same (suc h) (omega arith) ∙ ap group q))
     where
       joined : {u : Group} {t : List ℕ} → ◌≡◌ {A = Group} (record { head = x; tail = y; longest = z }) u → s ≡ t
@@ -92,18 +92,18 @@ module _ (group : ℕ → Group) where
 -- a summary is that of f exactly if every group is right
 pub summary_at : (f : ℕ → Bool) (p h : ℕ) → h + 1 < 2 * p → group_in (summary_of f p) h ≡ group_at f p h
 unfolding summary_of
-summary_at f p h l = numbers-at (group_at f p) 0 (2 * p - 1) h (omega arith) ∙ ap (group_at f p) (zero-add h)
+summary_at f p h l = numbers_at (group_at f p) 0 (2 * p - 1) h (omega arith) ∙ ap (group_at f p) (zero-add h)
 
 pub summary_only : (f : ℕ → Bool) (p : ℕ) (s : List ℕ) → length s ≡ 3 * (2 * p - 1)
     → ((h : ℕ) → h + 1 < 2 * p → group_in s h ≡ group_at f p h) → s ≡ summary_of f p
 unfolding summary_of
 summary_only f p s e right =
-    numbers-only (group_at f p) 0 (2 * p - 1) s e (λ h l. right h (omega arith) ∙ ap (group_at f p) (sym (zero-add h)))
+    numbers_only (group_at f p) 0 (2 * p - 1) s e (λ h l. right h (omega arith) ∙ ap (group_at f p) (sym (zero-add h)))
 
 -- the map's own summary has its length
 pub own_length : (map : List ℕ) (n : ℕ) → length (own_summary map n) ≡ summary_length (length map)
 unfolding own_summary summary_of
-own_length map n = numbers-length (group_at (usable map n) (power (length map))) 0 (2 * power (length map) - 1)
+own_length map n = numbers_length (group_at (usable map n) (power (length map))) 0 (2 * power (length map) - 1)
 
 -- ---- lists that are the same
 

@@ -22,12 +22,12 @@ own_right map n s e h l =
 
 module _ (map : List ℕ) (n : ℕ) (s : List ℕ) (lent : Matched map n s) where
   -- the summary is the map's own if every group is right
-  pub right-own : RightBelow (usable map n) (power (length map)) s 0 → s ≡ own_summary map n
+  pub right_own : RightBelow (usable map n) (power (length map)) s 0 → s ≡ own_summary map n
   unfolding own_summary
-  right-own r = summary_only (usable map n) (power (length map)) s lent.long (λ h l. r h l (below_zero h))
+  right_own r = summary_only (usable map n) (power (length map)) s lent.long (λ h l. r h l (below_zero h))
 
   pub decided : (r : Bool) → Decides r (RightBelow (usable map n) (power (length map)) s 0) → r ≡ is_own map n s
-  decided true d = sym (own_is map n s (right-own (d.0 mathlib.Core.Path.refl)))
+  decided true d = sym (own_is map n s (right_own (d.0 mathlib.Core.Path.refl)))
   decided false d =
       sym (not_true (is_own map n s) (λ e. d.1 mathlib.Core.Path.refl (λ h l b. own_right map n s (is_own_lem map n s e) h l)))
 

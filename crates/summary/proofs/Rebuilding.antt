@@ -13,10 +13,10 @@ use Rattle.laws.proofs.Bools.{order}
 use Rattle.summary_groups.specs.declared.Group.{Group}
 use Rattle.summary_groups.specs.Groups.{Span, place, group_of, joined_of}
 use Rattle.summary_groups.specs.Places.{same, Sited, Apart}
-use Rattle.summary_groups.proofs.Places.{below_split, sited-left, sited-right, sited-index, sited-last}
+use Rattle.summary_groups.proofs.Places.{below_split, sited_left, sited_right, sited_index, sited_last}
 use Rattle.summary.specs.Summary.{group_in, group_at}
 use Rattle.summary.specs.Walks.{with_group, halves_of, Builds}
-use Rattle.summary.proofs.Numbers.{in-with-same, in-with-other}
+use Rattle.summary.proofs.Numbers.{in_with_same, in_with_other}
 use Rattle.summary.proofs.Sites.{group_at_lem, at_halves}
 
 pub equal : (a b : ℕ) → (a ≡ b) ⊎ (a ≡ b → ⊥)
@@ -40,20 +40,20 @@ module _ (p lo hi g first size : ℕ) (s : Sited p g first size) where
 -- a group stored as it is to be
 module _ (f : ℕ → Bool) (p : ℕ) (s : List ℕ) (g : ℕ) (x : Group) (l : 3 * g + 2 < length s) (e : x ≡ group_at f p g) where
   stored : group_in (with_group s g x) g ≡ group_at f p g
-  stored = in-with-same s g x l ∙ e
+  stored = in_with_same s g x l ∙ e
 
   stays : (h : ℕ) → group_in s h ≡ group_at f p h → group_in (with_group s g x) h ≡ group_at f p h
   stays h r =
       ⊎_elim (λ q. subst (λ (i : ℕ). group_in (with_group s g x) i ≡ group_at f p i) (sym q) stored)
-      (λ ne. in-with-other s g x h ne ∙ r) (equal h g)
+      (λ ne. in_with_other s g x h ne ∙ r) (equal h g)
 
 module _ (f : ℕ → Bool) (p g : ℕ) where
-  pub at-word : (first : ℕ) (s : List ℕ) → Sited p g first 1 → 3 * g + 2 < length s
+  pub at_word : (first : ℕ) (s : List ℕ) → Sited p g first 1 → 3 * g + 2 < length s
       → Builds f p g s (with_group s g (group_of f (64 * first) 64))
-  at-word first s sited l = record {
+  at_word first s sited l = record {
     still = stays f p s g x l e;
     done = λ h u b. subst (λ (i : ℕ). group_in (with_group s g x) i ≡ group_at f p i)
-        (sym (sited-last p g first 1 sited refl h u b)) (stored f p s g x l e);
+        (sym (sited_last p g first 1 sited refl h u b)) (stored f p s g x l e);
   }
     where
       x : Group
@@ -68,9 +68,9 @@ module _ (f : ℕ → Bool) (p g : ℕ) where
     unfolding halves_of
     told =
         let i : 2 * g + 1 + 1 < 2 * p =
-        sited-index p (2 * g + 1) first (size / 2) (sited-left p g first size sited ne) in
+        sited_index p (2 * g + 1) first (size / 2) (sited_left p g first size sited ne) in
         let j : 2 * g + 2 + 1 < 2 * p =
-        sited-index p (2 * g + 2) (first + size / 2) (size / 2) (sited-right p g first size sited ne) in
+        sited_index p (2 * g + 2) (first + size / 2) (size / 2) (sited_right p g first size sited ne) in
         ap₂ (λ (y z : Group). joined_of y z (64 * (size / 2))) (r₂.still (2 * g + 1) (r₁.done (2 * g + 1) i same))
         (r₂.done (2 * g + 2) j same)
         ∙ at_halves f p g first size sited ne

@@ -18,17 +18,17 @@ use Rattle.summary_groups.specs.declared.Group.{Group}
 use Rattle.summary_groups.specs.Groups.{Span, place, power, joined_of}
 use Rattle.summary_groups.specs.Places.{Sited, Apart}
 use Rattle.summary_groups.proofs.Joins.{group_same}
-use Rattle.summary_groups.proofs.Places.{power_power, power_small, below_zero, sited_all, sited-left, sited-right}
-use Rattle.summary_groups.proofs.Places.{Power, sited-pos, sited-even, sited-index}
+use Rattle.summary_groups.proofs.Places.{power_power, power_small, below_zero, sited_all, sited_left, sited_right}
+use Rattle.summary_groups.proofs.Places.{Power, sited_pos, sited_even, sited_index}
 use Rattle.summary.specs.Summary.{group_in, group_at, summary_of, usable, own_summary, summary_length, Matched}
 use Rattle.summary.specs.Updates.{changed, idle, built_from, updated_in, updated_summary}
 use Rattle.summary.specs.Walks.{Idle, Target, RestIn}
-use Rattle.summary.proofs.Idle.{is-changed, not-changed, built-kept, built-joined}
+use Rattle.summary.proofs.Idle.{is_changed, not_changed, built-kept, built-joined}
 use Rattle.summary.proofs.Idle.{is-idle, idle-low, idle-high, idle-same}
 use Rattle.summary.proofs.Rebuilding.{equal}
-use Rattle.summary.proofs.Numbers.{numbers-length, numbers-at, numbers-only, summary_at, summary_only}
+use Rattle.summary.proofs.Numbers.{numbers_length, numbers_at, numbers_only, summary_at, summary_only}
 use Rattle.summary.proofs.Sites.{group_at_lem, at_halves}
-use Rattle.summary.proofs.Usable.{below-n, from-n}
+use Rattle.summary.proofs.Usable.{below_n, from_n}
 
 -- ---- group by group
 
@@ -76,16 +76,16 @@ module _ (f : ℕ → Bool) (p : ℕ) (s : List ℕ) (start count : ℕ) where
   -- once a group can be halved often enough, it does not matter how often
   enough : (m m' g first size : ℕ) → Sited p g first size → size ≤ m → size ≤ m'
       → updated_in m f p s start count g ≡ updated_in m' f p s start count g
-  enough zero m' g first size sited a b = absurd (omega (arith, sited-pos p g first size sited))
-  enough (suc m) zero g first size sited a b = absurd (omega (arith, sited-pos p g first size sited))
+  enough zero m' g first size sited a b = absurd (omega (arith, sited_pos p g first size sited))
+  enough (suc m) zero g first size sited a b = absurd (omega (arith, sited_pos p g first size sited))
   enough (suc m) (suc m') g first size sited a b =
       ⊎_elim (λ e. after-word m g first size sited e ∙ sym (after-word m' g first size sited e))
-      (λ ne. let even : size ≡ 2 * (size / 2) = sited-even p g first size sited ne in
-      let pos : 0 < size = sited-pos p g first size sited in
+      (λ ne. let even : size ≡ 2 * (size / 2) = sited_even p g first size sited ne in
+      let pos : 0 < size = sited_pos p g first size sited in
       after-halves m g first size sited ne
       ∙ ap₂ (λ (x y : Group). cond (changed start count (place p g)) (built_from start count p s g x y (size / 2)) (group_in s g))
-      (enough m m' (2 * g + 1) first (size / 2) (sited-left p g first size sited ne) (omega arith) (omega arith))
-      (enough m m' (2 * g + 2) (first + size / 2) (size / 2) (sited-right p g first size sited ne) (omega arith) (omega arith))
+      (enough m m' (2 * g + 1) first (size / 2) (sited_left p g first size sited ne) (omega arith) (omega arith))
+      (enough m m' (2 * g + 2) (first + size / 2) (size / 2) (sited_right p g first size sited ne) (omega arith) (omega arith))
       ∙ sym (after-halves m' g first size sited ne)) (equal size 1)
 
   -- where the groups that have no changed word are right, and each was as its halves told, all are right afterwards
@@ -94,14 +94,14 @@ module _ (f : ℕ → Bool) (p : ℕ) (s : List ℕ) (start count : ℕ) where
       → group_in s g ≡ joined_of (group_in s (2 * g + 1)) (group_in s (2 * g + 2)) (64 * (size / 2))) where
     module _ (g first size : ℕ) (sited : Sited p g first size) (ne : size ≡ 1 → ⊥) (x y : Group)
         (a : x ≡ group_at f p (2 * g + 1)) (b : y ≡ group_at f p (2 * g + 2)) where
-      joined-right : joined_of x y (64 * (size / 2)) ≡ group_at f p g
-      joined-right = ap₂ (λ (v w : Group). joined_of v w (64 * (size / 2))) a b ∙ at_halves f p g first size sited ne
+      joined_right : joined_of x y (64 * (size / 2)) ≡ group_at f p g
+      joined_right = ap₂ (λ (v w : Group). joined_of v w (64 * (size / 2))) a b ∙ at_halves f p g first size sited ne
 
       left_is : place p (2 * g + 1) ≡ record { first = first; size = size / 2 }
-      left_is = (sited-left p g first size sited ne).lies
+      left_is = (sited_left p g first size sited ne).lies
 
       right_is : place p (2 * g + 2) ≡ record { first = first + size / 2; size = size / 2 }
-      right_is = (sited-right p g first size sited ne).lies
+      right_is = (sited_right p g first size sited ne).lies
 
       kept_left : idle start count p s (2 * g + 1) x ≡ true → group_in s g ≡ group_at f p g
       kept_left e =
@@ -111,10 +111,10 @@ module _ (f : ℕ → Bool) (p : ℕ) (s : List ℕ) (start count : ℕ) where
           let d : (place p (2 * g + 1)).size ≡ size / 2 = ap (λ (l : Span). l.size) left_is in
           let v : (place p (2 * g + 2)).first ≡ first + size / 2 = ap (λ (l : Span). l.first) right_is in
           let i : 2 * g + 2 + 1 < 2 * p =
-          sited-index p (2 * g + 2) (first + size / 2) (size / 2) (sited-right p g first size sited ne) in
+          sited_index p (2 * g + 2) (first + size / 2) (size / 2) (sited_right p g first size sited ne) in
           was g first size sited ne
           ∙ ap₂ (λ (v w : Group). joined_of v w (64 * (size / 2))) (sym (idle-same p s start count (2 * g + 1) x e) ∙ a)
-          (rest (2 * g + 2) i (not-changed start count (place p (2 * g + 2)) (inl (omega arith))))
+          (rest (2 * g + 2) i (not_changed start count (place p (2 * g + 2)) (inl (omega arith))))
           ∙ at_halves f p g first size sited ne
 
       kept-right : idle start count p s (2 * g + 2) y ≡ true → group_in s g ≡ group_at f p g
@@ -124,10 +124,10 @@ module _ (f : ℕ → Bool) (p : ℕ) (s : List ℕ) (start count : ℕ) where
           let d : (place p (2 * g + 1)).size ≡ size / 2 = ap (λ (l : Span). l.size) left_is in
           let v : (place p (2 * g + 2)).first ≡ first + size / 2 = ap (λ (l : Span). l.first) right_is in
           let i : 2 * g + 1 + 1 < 2 * p =
-          sited-index p (2 * g + 1) first (size / 2) (sited-left p g first size sited ne) in
+          sited_index p (2 * g + 1) first (size / 2) (sited_left p g first size sited ne) in
           was g first size sited ne
           ∙ ap₂ (λ (v w : Group). joined_of v w (64 * (size / 2)))
-          (rest (2 * g + 1) i (not-changed start count (place p (2 * g + 1)) (inr (omega arith))))
+          (rest (2 * g + 1) i (not_changed start count (place p (2 * g + 1)) (inr (omega arith))))
           (sym (idle-same p s start count (2 * g + 2) y e) ∙ b)
           ∙ at_halves f p g first size sited ne
 
@@ -138,27 +138,27 @@ module _ (f : ℕ → Bool) (p : ℕ) (s : List ℕ) (start count : ℕ) where
               → built_from start count p s g x y (size / 2) ≡ group_at f p g
           go true u q r = built-kept p s start count g x y (size / 2) (inl q) ∙ kept_left q
           go false true q r = built-kept p s start count g x y (size / 2) (inr r) ∙ kept-right r
-          go false false q r = built-joined p s start count g x y (size / 2) q r ∙ joined-right
+          go false false q r = built-joined p s start count g x y (size / 2) q r ∙ joined_right
 
     after-right : (m g first size : ℕ) → Sited p g first size → size ≤ m → updated_in m f p s start count g ≡ group_at f p g
-    after-right zero g first size sited a = absurd (omega (arith, sited-pos p g first size sited))
+    after-right zero g first size sited a = absurd (omega (arith, sited_pos p g first size sited))
     after-right (suc m) g first size sited a =
         ⊎_elim (λ e. after-word m g first size sited e ∙ settled (group_at f p g) refl)
-        (λ ne. let even : size ≡ 2 * (size / 2) = sited-even p g first size sited ne in
-        let pos : 0 < size = sited-pos p g first size sited in
+        (λ ne. let even : size ≡ 2 * (size / 2) = sited_even p g first size sited ne in
+        let pos : 0 < size = sited_pos p g first size sited in
         after-halves m g first size sited ne
         ∙ settled (built_from start count p s g (updated_in m f p s start count (2 * g + 1))
         (updated_in m f p s start count (2 * g + 2)) (size / 2))
         (built-right g first size sited ne (updated_in m f p s start count (2 * g + 1))
         (updated_in m f p s start count (2 * g + 2))
-        (after-right m (2 * g + 1) first (size / 2) (sited-left p g first size sited ne) (omega arith))
-        (after-right m (2 * g + 2) (first + size / 2) (size / 2) (sited-right p g first size sited ne) (omega arith))))
+        (after-right m (2 * g + 1) first (size / 2) (sited_left p g first size sited ne) (omega arith))
+        (after-right m (2 * g + 2) (first + size / 2) (size / 2) (sited_right p g first size sited ne) (omega arith))))
         (equal size 1)
       where
         by : (x : Group) → x ≡ group_at f p g → (t : Bool) → changed start count (place p g) ≡ t → cond t x (group_in s g)
             ≡ group_at f p g
         by x e true q = e
-        by x e false q = rest g (sited-index p g first size sited) q
+        by x e false q = rest g (sited_index p g first size sited) q
 
         settled : (x : Group) → x ≡ group_at f p g → cond (changed start count (place p g)) x (group_in s g) ≡ group_at f p g
         settled x e = by x e (changed start count (place p g)) refl
@@ -168,7 +168,7 @@ module _ (f : ℕ → Bool) (p : ℕ) (s : List ℕ) (start count : ℕ) where
   module _ (some : 0 < count) where
     meeting : (g : ℕ) → (Apart p (start / 64) ((start + count + 63) / 64) g → ⊥) → changed start count (place p g) ≡ true
     meeting g m =
-        ⊎_elim (λ a. ⊎_elim (λ b. is-changed start count (place p g) some (omega arith) (omega arith)) (λ b. absurd (m (inr b)))
+        ⊎_elim (λ a. ⊎_elim (λ b. is_changed start count (place p g) some (omega arith) (omega arith)) (λ b. absurd (m (inr b)))
         (order (start / 64) ((place p g).first + (place p g).size))) (λ a. absurd (m (inl a)))
         (order (place p g).first ((start + count + 63) / 64))
 
@@ -221,12 +221,12 @@ module _ (f f' : ℕ → Bool) (p start count : ℕ) (outside : (b : ℕ) → (b
   apart h b e u v =
       ⊎_elim (λ a. inl a)
       (λ a. ⊎_elim (λ c. absurd (clash (changed start count (place p h))
-      (is-changed start count (place p h) (omega arith) (omega arith) (omega arith)) e)) (λ c. inr c) (order b (start + count)))
+      (is_changed start count (place p h) (omega arith) (omega arith) (omega arith)) e)) (λ c. inr c) (order b (start + count)))
       (order b start)
 
-  same-group : (h : ℕ) → changed start count (place p h) ≡ false → group_at f p h ≡ group_at f' p h
+  same_group_lem : (h : ℕ) → changed start count (place p h) ≡ false → group_at f p h ≡ group_at f' p h
   unfolding group_at
-  same-group h e =
+  same_group_lem h e =
       group_same f f' (64 * (place p h).first) (64 * (place p h).first) (64 * (place p h).size) (λ j l.
       outside (64 * (place p h).first + j) (apart h (64 * (place p h).first + j) e (omega arith) (omega arith)))
 
@@ -238,17 +238,17 @@ module _ (f f' : ℕ → Bool) (p start count : ℕ) (outside : (b : ℕ) → (b
         → group_in s g ≡ joined_of (group_in s (2 * g + 1)) (group_in s (2 * g + 2)) (64 * (size / 2))
     halves-were g first size sited ne =
         let i : 2 * g + 1 + 1 < 2 * p =
-        sited-index p (2 * g + 1) first (size / 2) (sited-left p g first size sited ne) in
+        sited_index p (2 * g + 1) first (size / 2) (sited_left p g first size sited ne) in
         let j : 2 * g + 2 + 1 < 2 * p =
-        sited-index p (2 * g + 2) (first + size / 2) (size / 2) (sited-right p g first size sited ne) in
-        right-was g (sited-index p g first size sited) ∙ sym (at_halves f p g first size sited ne)
+        sited_index p (2 * g + 2) (first + size / 2) (size / 2) (sited_right p g first size sited ne) in
+        right-was g (sited_index p g first size sited) ∙ sym (at_halves f p g first size sited ne)
         ∙ ap₂ (λ (x y : Group). joined_of x y (64 * (size / 2))) (sym (right-was (2 * g + 1) i)) (sym (right-was (2 * g + 2) j))
 
-  right-after : Power p → p ≤ 4096 → (s : List ℕ) → s ≡ summary_of f p → (h : ℕ) → h + 1 < 2 * p
+  right_after : Power p → p ≤ 4096 → (s : List ℕ) → s ≡ summary_of f p → (h : ℕ) → h + 1 < 2 * p
       → updated_in p f' p s start count h ≡ group_at f' p h
-  right-after k small s was h l =
+  right_after k small s was h l =
       let sited : Sited p h (place p h).first (place p h).size = sited_all p h k small l (below_zero h) in
-      after-right f' p s start count (λ i u e. right-was s was i u ∙ same-group i e)
+      after-right f' p s start count (λ i u e. right-was s was i u ∙ same_group_lem i e)
       (λ g first size sited ne. halves-were s was g first size sited ne)
       p h (place p h).first (place p h).size sited (omega (arith, sited.inside))
 
@@ -256,34 +256,34 @@ module _ (f f' : ℕ → Bool) (p start count : ℕ) (outside : (b : ℕ) → (b
 
 module _ (map : List ℕ) (n : ℕ) (s : List ℕ) (start count : ℕ) where
   -- the length stays
-  pub updated-length : length (updated_summary map n s start count) ≡ summary_length (length map)
+  pub updated_length : length (updated_summary map n s start count) ≡ summary_length (length map)
   unfolding updated_summary
-  updated-length =
-      numbers-length (updated_in (power (length map)) (usable map n) (power (length map)) s start count) 0
+  updated_length =
+      numbers_length (updated_in (power (length map)) (usable map n) (power (length map)) s start count) 0
       (2 * power (length map) - 1)
 
   -- what is read of it, group by group
-  pub updated-at : (h : ℕ) → h + 1 < 2 * power (length map) → group_in (updated_summary map n s start count) h
+  pub updated_at : (h : ℕ) → h + 1 < 2 * power (length map) → group_in (updated_summary map n s start count) h
       ≡ updated_in (power (length map)) (usable map n) (power (length map)) s start count h
   unfolding updated_summary
-  updated-at h l =
-      numbers-at (updated_in (power (length map)) (usable map n) (power (length map)) s start count) 0
+  updated_at h l =
+      numbers_at (updated_in (power (length map)) (usable map n) (power (length map)) s start count) 0
       (2 * power (length map) - 1) h
       (omega arith)
       ∙ ap (updated_in (power (length map)) (usable map n) (power (length map)) s start count) (zero-add h)
 
   -- a group that has none of the changed words is as it was
-  pub updated-kept : (h : ℕ) → h + 1 < 2 * power (length map) → changed start count (place (power (length map)) h) ≡ false
+  pub updated_kept : (h : ℕ) → h + 1 < 2 * power (length map) → changed start count (place (power (length map)) h) ≡ false
       → group_in (updated_summary map n s start count) h ≡ group_in s h
-  updated-kept h l e = updated-at h l ∙ passed (usable map n) (power (length map)) s start count (power (length map)) h e
+  updated_kept h l e = updated_at h l ∙ passed (usable map n) (power (length map)) s start count (power (length map)) h e
 
-  pub updated-only : (s' : List ℕ) → length s' ≡ summary_length (length map)
+  pub updated_only : (s' : List ℕ) → length s' ≡ summary_length (length map)
       → ((h : ℕ) → h + 1 < 2 * power (length map) → group_in s' h
       ≡ updated_in (power (length map)) (usable map n) (power (length map)) s start count h)
       → s' ≡ updated_summary map n s start count
   unfolding updated_summary
-  updated-only s' e same =
-      numbers-only (updated_in (power (length map)) (usable map n) (power (length map)) s start count) 0
+  updated_only s' e same =
+      numbers_only (updated_in (power (length map)) (usable map n) (power (length map)) s start count) 0
       (2 * power (length map) - 1)
       s' e (λ h l. same h (omega arith)
       ∙ ap (updated_in (power (length map)) (usable map n) (power (length map)) s start count) (sym (zero-add h)))
@@ -291,7 +291,7 @@ module _ (map : List ℕ) (n : ℕ) (s : List ℕ) (start count : ℕ) where
   -- nothing changes where no block has changed
   pub updated_none : length s ≡ summary_length (length map) → count ≡ 0 → s ≡ updated_summary map n s start count
   updated_none e z =
-      updated-only s e (λ h l. sym (passed (usable map n) (power (length map)) s start count (power (length map)) h
+      updated_only s e (λ h l. sym (passed (usable map n) (power (length map)) s start count (power (length map)) h
       (ap (λ (t : Bool). t && (ltb start (64 * ((place (power (length map)) h).first + (place (power (length map)) h).size))
       && ltb (64 * (place (power (length map)) h).first) (start + count))) (le-ltb 0 count (omega arith)))))
 
@@ -302,21 +302,21 @@ module _ (map : List ℕ) (n : ℕ) (s : List ℕ) (start count : ℕ) where
       → (h : ℕ) → h + 1 < 2 * power (length map) → group_in s' h ≡ aim h)
       → s' ≡ updated_summary map n s start count
   rebuilt s' lent some e r =
-      updated-only s' (e ∙ lent.long)
+      updated_only s' (e ∙ lent.long)
       (r (updated_in (power (length map)) (usable map n) (power (length map)) s start count)
       (update-target (usable map n) (power (length map)) s start count some)
       (λ i u a. sym (passed (usable map n) (power (length map)) s start count (power (length map)) i
-      (not-changed start count (place (power (length map)) i) a))))
+      (not_changed start count (place (power (length map)) i) a))))
 
   -- where the summary was that of blocks which differ from the map's in the changed ones alone, it becomes the map's own
-  pub own-updated : (f : ℕ → Bool) → length map ≤ 4096 → s ≡ summary_of f (power (length map))
+  pub own_updated : (f : ℕ → Bool) → length map ≤ 4096 → s ≡ summary_of f (power (length map))
       → ((b : ℕ) → (b < start) ⊎ (start + count ≤ b) → f b ≡ usable map n b)
       → updated_summary map n s start count ≡ own_summary map n
   unfolding own_summary
-  own-updated f few was outside =
-      summary_only (usable map n) (power (length map)) (updated_summary map n s start count) updated-length (λ h l.
-      updated-at h l
-      ∙ right-after f (usable map n) (power (length map)) start count outside (power_power (length map))
+  own_updated f few was outside =
+      summary_only (usable map n) (power (length map)) (updated_summary map n s start count) updated_length (λ h l.
+      updated_at h l
+      ∙ right_after f (usable map n) (power (length map)) start count outside (power_power (length map))
       (power_small (length map) few) s was h l)
 
 -- ---- a map whose blocks were marked
@@ -339,9 +339,9 @@ marked_free map start k to b l q =
 still_usable : (map : List ℕ) (n start k : ℕ) (to : Bool) → n ≤ 64 * length map → (b : ℕ) → (b < start) ⊎ (start + k ≤ b)
     → usable map n b ≡ usable (marked map start k to) n b
 still_usable map n start k to l b q =
-    ⊎_elim (λ (u : b < n). below-n map n b u ∙ sym (marked_free map start k to b (omega arith) q)
-    ∙ sym (below-n (marked map start k to) n b u))
-    (λ (u : n ≤ b). from-n map n b u ∙ sym (from-n (marked map start k to) n b u)) (order b n)
+    ⊎_elim (λ (u : b < n). below_n map n b u ∙ sym (marked_free map start k to b (omega arith) q)
+    ∙ sym (below_n (marked map start k to) n b u))
+    (λ (u : n ≤ b). from_n map n b u ∙ sym (from_n (marked map start k to) n b u)) (order b n)
 
 -- the map's own summary, brought up to date after a run of blocks was marked, is the marked map's own
 pub own_marked : (map : List ℕ) (n start k : ℕ) (to : Bool) (s : List ℕ) → length map ≤ 4096 → n ≤ 64 * length map
@@ -349,5 +349,5 @@ pub own_marked : (map : List ℕ) (n start k : ℕ) (to : Bool) (s : List ℕ) �
 unfolding own_summary
 own_marked map n start k to s few l was =
     let e : length (marked map start k to) ≡ length map = marked_length map start k to in
-    own-updated (marked map start k to) n s start k (usable map n) (omega arith)
+    own_updated (marked map start k to) n s start k (usable map n) (omega arith)
     (was ∙ ap (λ (w : ℕ). summary_of (usable map n) (power w)) (sym e)) (still_usable map n start k to l)

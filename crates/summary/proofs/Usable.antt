@@ -12,13 +12,13 @@ use Rattle.map_blocks.specs.Words.{in_window}
 use Rattle.summary.specs.Summary.{usable}
 
 module _ (map : List ℕ) (n b : ℕ) where
-  pub from-n : n ≤ b → usable map n b ≡ false
+  pub from_n : n ≤ b → usable map n b ≡ false
   unfolding usable
-  from-n l = ap (λ (x : Bool). x && free map b) (le-ltb b n l)
+  from_n l = ap (λ (x : Bool). x && free map b) (le-ltb b n l)
 
-  pub below-n : b < n → usable map n b ≡ free map b
+  pub below_n : b < n → usable map n b ≡ free map b
   unfolding usable
-  below-n l = ap (λ (x : Bool). x && free map b) (lt-ltb b n l)
+  below_n l = ap (λ (x : Bool). x && free map b) (lt-ltb b n l)
 
   -- they are those of a window from block 0 on
   pub in_window_lem : in_window (free map) 0 n b ≡ usable map n b

@@ -5,7 +5,7 @@ use borrow.Author.Tests.{eqb-false}
 use Rattle.survey_bytes.specs.Runs.{head_of, tail_of, longest_of}
 use Rattle.map_blocks.specs.Blocks.{all}
 use Rattle.laws.proofs.Bools.{order, clash}
-use Rattle.map_blocks.proofs.Runs.{all-intro, all-elim}
+use Rattle.map_blocks.proofs.Runs.{all_intro, all_elim}
 use Rattle.survey.specs.Survey.{blocks}
 
 pub record HeadRun (f : ℕ → Bool) (b m r : ℕ) : Type 0 where
@@ -33,22 +33,22 @@ module _ (f : ℕ → Bool) where
     stop = λ t a c. let q : b ≡ t = omega arith in subst (λ (x : ℕ). f x ≡ false) q e;
   }
 
-  pub head-run : (b m : ℕ) → HeadRun f b m (head_of (blocks f b m))
+  pub head_run : (b m : ℕ) → HeadRun f b m (head_of (blocks f b m))
   unfolding blocks head_of
-  head-run b zero = record { within = omega arith; held = λ t a c. absurd (omega arith); stop = λ t a c. absurd (omega arith) }
-  head-run b (suc m) = head_step b m (f b) refl (head_of (blocks f (suc b) m)) (head-run (suc b) m)
+  head_run b zero = record { within = omega arith; held = λ t a c. absurd (omega arith); stop = λ t a c. absurd (omega arith) }
+  head_run b (suc m) = head_step b m (f b) refl (head_of (blocks f (suc b) m)) (head_run (suc b) m)
 
-  head-not : (b m r s : ℕ) → HeadRun f b m r → HeadRun f b m s → r < s → ⊥
-  head-not b m r s h g l =
+  head_not : (b m r s : ℕ) → HeadRun f b m r → HeadRun f b m s → r < s → ⊥
+  head_not b m r s h g l =
       let u : s ≤ m = g.within in
       clash (f (b + r)) (g.held (b + r) (omega arith) (omega arith)) (h.stop (b + r) refl (omega arith))
 
   -- the only number that says this
-  pub head-is : (b m r : ℕ) → HeadRun f b m r → r ≡ head_of (blocks f b m)
-  head-is b m r h =
-      let g : HeadRun f b m (head_of (blocks f b m)) = head-run b m in
-      ⊎_elim (λ l. absurd (head-not b m r (head_of (blocks f b m)) h g l))
-      (λ a. ⊎_elim (λ l. absurd (head-not b m (head_of (blocks f b m)) r g h l)) (λ c. omega arith)
+  pub head_is : (b m r : ℕ) → HeadRun f b m r → r ≡ head_of (blocks f b m)
+  head_is b m r h =
+      let g : HeadRun f b m (head_of (blocks f b m)) = head_run b m in
+      ⊎_elim (λ l. absurd (head_not b m r (head_of (blocks f b m)) h g l))
+      (λ a. ⊎_elim (λ l. absurd (head_not b m (head_of (blocks f b m)) r g h l)) (λ c. omega arith)
       (order (head_of (blocks f b m)) r)) (order r (head_of (blocks f b m)))
 
   -- ---- the tail
@@ -92,51 +92,51 @@ module _ (f : ℕ → Bool) where
       (suc (tail_of (blocks f (suc b) m))) (tail_of (blocks f (suc b) m)))) (sym (blocks_length (suc b) m))
       (tail_step b m (f b) refl (tail_of (blocks f (suc b) m)) (eqb (tail_of (blocks f (suc b) m)) m) refl (tail_run (suc b) m))
 
-  tail-not : (b m r s : ℕ) → TailRun f b m r → TailRun f b m s → r < s → ⊥
-  tail-not b m r s h g l =
+  tail_not : (b m r s : ℕ) → TailRun f b m r → TailRun f b m s → r < s → ⊥
+  tail_not b m r s h g l =
       let u : s ≤ m = g.within in
       clash (f (b + m - suc r)) (g.held (b + m - suc r) (omega arith) (omega arith)) (h.stop (b + m - suc r) (omega arith)
       (omega arith))
 
-  pub tail-is : (b m r : ℕ) → TailRun f b m r → r ≡ tail_of (blocks f b m)
-  tail-is b m r h =
+  pub tail_is : (b m r : ℕ) → TailRun f b m r → r ≡ tail_of (blocks f b m)
+  tail_is b m r h =
       let g : TailRun f b m (tail_of (blocks f b m)) = tail_run b m in
-      ⊎_elim (λ l. absurd (tail-not b m r (tail_of (blocks f b m)) h g l))
-      (λ a. ⊎_elim (λ l. absurd (tail-not b m (tail_of (blocks f b m)) r g h l)) (λ c. omega arith)
+      ⊎_elim (λ l. absurd (tail_not b m r (tail_of (blocks f b m)) h g l))
+      (λ a. ⊎_elim (λ l. absurd (tail_not b m (tail_of (blocks f b m)) r g h l)) (λ c. omega arith)
       (order (tail_of (blocks f b m)) r)) (order r (tail_of (blocks f b m)))
 
   -- ---- the longest run
 
-  head-least : (b m k : ℕ) → k ≤ m → all f b k ≡ true → k ≤ head_of (blocks f b m)
-  head-least b m k a e =
-      let h : HeadRun f b m (head_of (blocks f b m)) = head-run b m in
-      ⊎_elim (λ l. absurd (clash (f (b + head_of (blocks f b m))) (all-elim f b k e (b + head_of (blocks f b m)) (omega arith)
+  head_least : (b m k : ℕ) → k ≤ m → all f b k ≡ true → k ≤ head_of (blocks f b m)
+  head_least b m k a e =
+      let h : HeadRun f b m (head_of (blocks f b m)) = head_run b m in
+      ⊎_elim (λ l. absurd (clash (f (b + head_of (blocks f b m))) (all_elim f b k e (b + head_of (blocks f b m)) (omega arith)
       (omega arith)) (h.stop (b + head_of (blocks f b m)) refl (omega arith))))
       (λ g. g) (order (head_of (blocks f b m)) k)
 
   -- no run within the blocks is longer
-  pub longest-least : (b m t k : ℕ) → b ≤ t → t + k ≤ b + m → all f t k ≡ true → k ≤ longest_of (blocks f b m)
+  pub longest_least : (b m t k : ℕ) → b ≤ t → t + k ≤ b + m → all f t k ≡ true → k ≤ longest_of (blocks f b m)
   unfolding blocks longest_of
-  longest-least b zero t k a c e = omega arith
-  longest-least b (suc m) t k a c e =
-      ⊎_elim (λ q. let g : k ≤ head_of (blocks f b (suc m)) = head-least b (suc m) k (omega arith)
+  longest_least b zero t k a c e = omega arith
+  longest_least b (suc m) t k a c e =
+      ⊎_elim (λ q. let g : k ≤ head_of (blocks f b (suc m)) = head_least b (suc m) k (omega arith)
       (subst (λ (x : ℕ). all f x k ≡ true) (sym q) e) in omega arith)
-      (λ l. let g : k ≤ longest_of (blocks f (suc b) m) = longest-least (suc b) m t k l (omega arith) e in omega arith)
+      (λ l. let g : k ≤ longest_of (blocks f (suc b) m) = longest_least (suc b) m t k l (omega arith) e in omega arith)
       (eq-or-lt_of_le a)
 
-  head-most : (b m c : ℕ) → (suc c ≤ m → all f b (suc c) ≡ false) → head_of (blocks f b m) ≤ c
-  head-most b m c none =
-      let h : HeadRun f b m (head_of (blocks f b m)) = head-run b m in
-      ⊎_elim (λ l. absurd (clash (all f b (suc c)) (all-intro f b (suc c) (λ t u v. h.held t u (omega arith)))
+  head_most : (b m c : ℕ) → (suc c ≤ m → all f b (suc c) ≡ false) → head_of (blocks f b m) ≤ c
+  head_most b m c none =
+      let h : HeadRun f b m (head_of (blocks f b m)) = head_run b m in
+      ⊎_elim (λ l. absurd (clash (all f b (suc c)) (all_intro f b (suc c) (λ t u v. h.held t u (omega arith)))
       (none (omega (arith, h.within)))))
       (λ g. g) (order c (head_of (blocks f b m)))
 
   -- and one is as long
-  pub longest-most : (b m c : ℕ) → ((t : ℕ) → b ≤ t → t + suc c ≤ b + m → all f t (suc c) ≡ false)
+  pub longest_most : (b m c : ℕ) → ((t : ℕ) → b ≤ t → t + suc c ≤ b + m → all f t (suc c) ≡ false)
       → longest_of (blocks f b m) ≤ c
   unfolding blocks longest_of
-  longest-most b zero c none = omega arith
-  longest-most b (suc m) c none =
-      let g : head_of (blocks f b (suc m)) ≤ c = head-most b (suc m) c (λ l. none b (omega arith) (omega arith)) in
-      let k : longest_of (blocks f (suc b) m) ≤ c = longest-most (suc b) m c (λ t a d. none t (omega arith) (omega arith)) in
+  longest_most b zero c none = omega arith
+  longest_most b (suc m) c none =
+      let g : head_of (blocks f b (suc m)) ≤ c = head_most b (suc m) c (λ l. none b (omega arith) (omega arith)) in
+      let k : longest_of (blocks f (suc b) m) ≤ c = longest_most (suc b) m c (λ t a d. none t (omega arith) (omega arith)) in
       omega arith

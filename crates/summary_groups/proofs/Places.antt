@@ -198,29 +198,29 @@ sited_halves p g first size h e k s =
     )
 
 module _ (p g first size : ℕ) (s : Sited p g first size) where
-  pub sited-left : (size ≡ 1 → ⊥) → Sited p (2 * g + 1) first (size / 2)
-  sited-left ne = let h = halved size s.level ne in (sited_halves p g first size h.0 h.1 h.2 s).0
+  pub sited_left : (size ≡ 1 → ⊥) → Sited p (2 * g + 1) first (size / 2)
+  sited_left ne = let h = halved size s.level ne in (sited_halves p g first size h.0 h.1 h.2 s).0
 
-  pub sited-right : (size ≡ 1 → ⊥) → Sited p (2 * g + 2) (first + size / 2) (size / 2)
-  sited-right ne = let h = halved size s.level ne in (sited_halves p g first size h.0 h.1 h.2 s).1
+  pub sited_right : (size ≡ 1 → ⊥) → Sited p (2 * g + 2) (first + size / 2) (size / 2)
+  sited_right ne = let h = halved size s.level ne in (sited_halves p g first size h.0 h.1 h.2 s).1
 
-  pub sited-even : (size ≡ 1 → ⊥) → size ≡ 2 * (size / 2)
-  sited-even ne = let h = halved size s.level ne in let e : size ≡ 2 * h.0 = h.1 in omega arith
+  pub sited_even : (size ≡ 1 → ⊥) → size ≡ 2 * (size / 2)
+  sited_even ne = let h = halved size s.level ne in let e : size ≡ 2 * h.0 = h.1 in omega arith
 
-  pub sited-pos : 0 < size
-  sited-pos = let k = s.level in let e : size ≡ 2 ^ k.0 = k.1 in omega (arith, pow_pos k.0)
+  pub sited_pos : 0 < size
+  sited_pos = let k = s.level in let e : size ≡ 2 ^ k.0 = k.1 in omega (arith, pow_pos k.0)
 
   -- it is a group of the summary
-  pub sited-index : g + 1 < 2 * p
-  sited-index = go size s.sum s.inside sited-pos
+  pub sited_index : g + 1 < 2 * p
+  sited_index = go size s.sum s.inside sited_pos
     where
       go : (z : ℕ) → first + p ≡ (g + 1) * z → first + z ≤ p → 0 < z → g + 1 < 2 * p
       go zero a b c = absurd (omega arith)
       go (suc z) a b c = omega arith
 
   -- a group of one word has none below it
-  pub sited-last : size ≡ 1 → (h : ℕ) → h + 1 < 2 * p → Below g h → h ≡ g
-  sited-last e h l b =
+  pub sited_last : size ≡ 1 → (h : ℕ) → h + 1 < 2 * p → Below g h → h ≡ g
+  sited_last e h l b =
       let sum : first + p ≡ (g + 1) * 1 = s.sum ∙ ap (λ (x : ℕ). (g + 1) * x) e in
       ⊎_elim (λ q. q) (λ u. absurd (omega arith)) (below_least g h b)
 
@@ -230,14 +230,14 @@ sited_all p h k l u same = subst (λ (x : Span). Sited p 0 x.first x.size) (sym 
 sited_all p h k l u (left i b) =
     let s = sited_all p i k l (omega arith) b in
     subst (λ (x : Span). Sited p (2 * i + 1) x.first x.size) (sym (place_left p i))
-    (sited-left p i (place p i).first (place p i).size s (more i s u))
+    (sited_left p i (place p i).first (place p i).size s (more i s u))
   where
     more : (i : ℕ) → Sited p i (place p i).first (place p i).size → 2 * i + 1 + 1 < 2 * p → (place p i).size ≡ 1 → ⊥
     more i s u e = let sum : (place p i).first + p ≡ (i + 1) * 1 = s.sum ∙ ap (λ (x : ℕ). (i + 1) * x) e in omega arith
 sited_all p h k l u (right i b) =
     let s = sited_all p i k l (omega arith) b in
     subst (λ (x : Span). Sited p (2 * i + 2) x.first x.size) (sym (place_right p i))
-    (sited-right p i (place p i).first (place p i).size s (more i s u))
+    (sited_right p i (place p i).first (place p i).size s (more i s u))
   where
     more : (i : ℕ) → Sited p i (place p i).first (place p i).size → 2 * i + 2 + 1 < 2 * p → (place p i).size ≡ 1 → ⊥
     more i s u e = let sum : (place p i).first + p ≡ (i + 1) * 1 = s.sum ∙ ap (λ (x : ℕ). (i + 1) * x) e in omega arith

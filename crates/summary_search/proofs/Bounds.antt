@@ -32,16 +32,16 @@ GlanceBounds at k end (Settled r) = Bounds at k end r
 GlanceBounds at k end Look = at < end
 
 module _ (x : Group) (at k base m s : ℕ) (pos : 0 < m) (short : s < k) (behind : at ≤ base → s + at ≤ base) where
-  inside-bounds : at < base + m → GlanceBounds at k (base + m) (inside_of x at k (base + m))
+  inside_bounds : at < base + m → GlanceBounds at k (base + m) (inside_of x at k (base + m))
   unfolding inside_of
-  inside-bounds l =
+  inside_bounds l =
       by_test (GlanceBounds at k (base + m)) (leb k x.longest) Look
       (Settled (Next (min (min x.tail x.longest) (base + m - at)))) (λ e. l)
       (λ e. let u : x.longest < k = leb-false k x.longest e in (omega arith, omega arith, λ v. omega arith))
 
-  whole-bounds : at ≤ base → GlanceBounds at k (base + m) (whole_of x k base m s)
+  whole_bounds : at ≤ base → GlanceBounds at k (base + m) (whole_of x k base m s)
   unfolding whole_of
-  whole-bounds l =
+  whole_bounds l =
       let r : s + at ≤ base = behind l in
       by_test (GlanceBounds at k (base + m)) (leb (k - s) x.head) (Settled (Hit (base - s)))
       (cond (leb k x.longest) Look
@@ -56,15 +56,15 @@ module _ (x : Group) (at k base m s : ℕ) (pos : 0 < m) (short : s < k) (behind
       (λ z. let w : x.head ≡ m = eqb-true x.head m z in (omega arith, omega arith, λ v. omega arith))
       (λ z. (omega arith, omega arith, λ v. omega arith))))
 
-  pub glance-bounds : GlanceBounds at k (base + m) (glance_of x at k base m s)
+  pub glance_bounds : GlanceBounds at k (base + m) (glance_of x at k base m s)
   unfolding glance_of
-  glance-bounds =
+  glance_bounds =
       by_test (GlanceBounds at k (base + m)) (leb (base + m) at) (Settled (Next 0))
       (cond (ltb base at) (inside_of x at k (base + m)) (whole_of x k base m s)) (λ e.
       (omega arith, omega arith, λ v. omega arith))
       (λ e. let l : at < base + m = leb-false (base + m) at e in
       by_test (GlanceBounds at k (base + m)) (ltb base at) (inside_of x at k (base + m)) (whole_of x k base m s)
-      (λ q. inside-bounds l) (λ q. whole-bounds (ltb-false base at q)))
+      (λ q. inside_bounds l) (λ q. whole_bounds (ltb-false base at q)))
 
 -- ---- down the groups
 
@@ -74,61 +74,61 @@ looked at k end (Settled r) deeper b look = b
 looked at k end Look deeper b look = look b
 
 module _ (summary : List ℕ) (at k : ℕ) where
-  onward-bounds : (base m : ℕ) (r : Step) (next : ℕ → Step) → m ≡ 2 * (m / 2) → 0 < m → Bounds at k (base + m / 2) r
+  onward_bounds : (base m : ℕ) (r : Step) (next : ℕ → Step) → m ≡ 2 * (m / 2) → 0 < m → Bounds at k (base + m / 2) r
       → ((s : ℕ) → s < k → (at ≤ base + m / 2 → s + at ≤ base + m / 2) → Bounds at k (base + m / 2 + m / 2) (next s))
       → Bounds at k (base + m) (onward r next)
-  onward-bounds base m (Hit t) next even pos b on = (b.0, omega (arith, b.1))
-  onward-bounds base m (Next s) next even pos b on =
+  onward_bounds base m (Hit t) next even pos b on = (b.0, omega (arith, b.1))
+  onward_bounds base m (Next s) next even pos b on =
       let e : base + m / 2 + m / 2 ≡ base + m = omega arith in
       subst (λ (end : ℕ). Bounds at k end (next s)) e (on s b.0 b.2)
 
-  pub seek-bounds : (d g base m s : ℕ) → Level m → s < k → (at ≤ base → s + at ≤ base)
+  pub seek_bounds : (d g base m s : ℕ) → Level m → s < k → (at ≤ base → s + at ≤ base)
       → Bounds at k (base + m) (seek_in d summary at k g base m s)
   unfolding seek_in
-  seek-bounds zero g base m s l short behind = (omega arith, omega arith, λ v. omega arith)
-  seek-bounds (suc d) g base m s l short behind =
+  seek_bounds zero g base m s l short behind = (omega arith, omega arith, λ v. omega arith)
+  seek_bounds (suc d) g base m s l short behind =
       let least : 64 ≤ m = level_least m l in
       looked at k (base + m) (glance_of (group_in summary g) at k base m s)
       (cond (eqb m 64) (Hit (max at base))
       (onward (seek_in d summary at k (2 * g + 1) base (m / 2) s)
       (λ next. seek_in d summary at k (2 * g + 2) (base + m / 2) (m / 2) next)))
-      (glance-bounds (group_in summary g) at k base m s (omega arith) short behind)
+      (glance_bounds (group_in summary g) at k base m s (omega arith) short behind)
       (λ u. by_test (Bounds at k (base + m)) (eqb m 64) (Hit (max at base))
       (onward (seek_in d summary at k (2 * g + 1) base (m / 2) s)
       (λ next. seek_in d summary at k (2 * g + 2) (base + m / 2) (m / 2) next))
       (λ e. (omega arith, omega arith))
       (λ e. let half = level_halves m l (eqb-false m 64 e) in
-      onward-bounds base m (seek_in d summary at k (2 * g + 1) base (m / 2) s)
+      onward_bounds base m (seek_in d summary at k (2 * g + 1) base (m / 2) s)
       (λ next. seek_in d summary at k (2 * g + 2) (base + m / 2) (m / 2) next) half.0 (omega arith)
-      (seek-bounds d (2 * g + 1) base (m / 2) s half.1 short behind)
-      (λ next a b. seek-bounds d (2 * g + 2) (base + m / 2) (m / 2) next half.1 a b)))
+      (seek_bounds d (2 * g + 1) base (m / 2) s half.1 short behind)
+      (λ next a b. seek_bounds d (2 * g + 2) (base + m / 2) (m / 2) next half.1 a b)))
 
 -- ---- what a step comes to
 
 module _ (summary : List ℕ) (at k d g base m s : ℕ) where
-  pub seek-settled : (r : Step) → glance_of (group_in summary g) at k base m s ≡ Settled r
+  pub seek_settled : (r : Step) → glance_of (group_in summary g) at k base m s ≡ Settled r
       → seek_in (suc d) summary at k g base m s ≡ r
   unfolding seek_in
-  seek-settled r e =
+  seek_settled r e =
       ap (λ (x : Glance). or_look x (cond (eqb m 64) (Hit (max at base))
       (onward (seek_in d summary at k (2 * g + 1) base (m / 2) s)
       (λ next. seek_in d summary at k (2 * g + 2) (base + m / 2) (m / 2) next)))) e
 
-  pub seek-word : glance_of (group_in summary g) at k base m s ≡ Look → m ≡ 64 → seek_in (suc d) summary at k g base m s
+  pub seek_word : glance_of (group_in summary g) at k base m s ≡ Look → m ≡ 64 → seek_in (suc d) summary at k g base m s
       ≡ Hit (max at base)
   unfolding seek_in
-  seek-word e q =
+  seek_word e q =
       ap (λ (x : Glance). or_look x (cond (eqb m 64) (Hit (max at base))
       (onward (seek_in d summary at k (2 * g + 1) base (m / 2) s)
       (λ next. seek_in d summary at k (2 * g + 2) (base + m / 2) (m / 2) next)))) e
       ∙ ap (λ (t : Bool). cond t (Hit (max at base)) (onward (seek_in d summary at k (2 * g + 1) base (m / 2) s)
       (λ next. seek_in d summary at k (2 * g + 2) (base + m / 2) (m / 2) next))) (eq-eqb m 64 q)
 
-  pub seek-halves : glance_of (group_in summary g) at k base m s ≡ Look → (m ≡ 64 → ⊥) → seek_in (suc d) summary at k g base m s
+  pub seek_halves : glance_of (group_in summary g) at k base m s ≡ Look → (m ≡ 64 → ⊥) → seek_in (suc d) summary at k g base m s
       ≡ onward (seek_in d summary at k (2 * g + 1) base (m / 2) s)
       (λ next. seek_in d summary at k (2 * g + 2) (base + m / 2) (m / 2) next)
   unfolding seek_in
-  seek-halves e ne =
+  seek_halves e ne =
       ap (λ (x : Glance). or_look x (cond (eqb m 64) (Hit (max at base))
       (onward (seek_in d summary at k (2 * g + 1) base (m / 2) s)
       (λ next. seek_in d summary at k (2 * g + 2) (base + m / 2) (m / 2) next)))) e

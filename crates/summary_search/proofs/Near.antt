@@ -17,18 +17,18 @@ module _ (step k : ℕ) where
   pub near_apart : 8 < step → 0 ≡ near_of step k
   near_apart l = ap (λ (b : Bool). cond b 0 (cond (ltb 16 k) 0 512)) (sym (lt-ltb 8 step l))
 
-  pub near-long : step ≤ 8 → 16 < k → 0 ≡ near_of step k
-  near-long u l =
+  pub near_long : step ≤ 8 → 16 < k → 0 ≡ near_of step k
+  near_long u l =
       ap (λ (b : Bool). cond b 0 512) (sym (lt-ltb 16 k l))
       ∙ ap (λ (b : Bool). cond b 0 (cond (ltb 16 k) 0 512)) (sym (le-ltb 8 step u))
 
-  pub near-few : step ≤ 8 → k ≤ 16 → 512 ≡ near_of step k
-  near-few u l =
+  pub near_few : step ≤ 8 → k ≤ 16 → 512 ≡ near_of step k
+  near_few u l =
       ap (λ (b : Bool). cond b 0 512) (sym (le-ltb 16 k l))
       ∙ ap (λ (b : Bool). cond b 0 (cond (ltb 16 k) 0 512)) (sym (le-ltb 8 step u))
 
-  pub near-small : near_of step k ≤ 512
-  near-small = go (ltb 8 step) (ltb 16 k)
+  pub near_small : near_of step k ≤ 512
+  near_small = go (ltb 8 step) (ltb 16 k)
     where
       go : (a b : Bool) → cond a 0 (cond b 0 512) ≤ 512
       go true b = omega arith
@@ -45,10 +45,10 @@ module _ (map summary : List ℕ) (from before step k : ℕ) (l : k ≤ (group_i
       ∙ ap (λ (b : Bool). cond b (or_else (least_fit (free map) from (min before (from + near_of step k)) step k)
       (search_down map summary from before step k)) Nothing) (sym (le-leb k (group_in summary 0).longest l))
 
-  pub found-near : (s : ℕ) → least_fit (free map) from (min before (from + near_of step k)) step k ≡ At s
+  pub found_near : (s : ℕ) → least_fit (free map) from (min before (from + near_of step k)) step k ≡ At s
       → At s ≡ search_by map summary from before step k
-  found-near s e = begun (At s) e
+  found_near s e = begun (At s) e
 
-  pub none-near : least_fit (free map) from (min before (from + near_of step k)) step k ≡ Nothing
+  pub none_near : least_fit (free map) from (min before (from + near_of step k)) step k ≡ Nothing
       → search_down map summary from before step k ≡ search_by map summary from before step k
-  none-near e = begun Nothing e
+  none_near e = begun Nothing e

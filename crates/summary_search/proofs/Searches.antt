@@ -14,9 +14,9 @@ use Rattle.laws.proofs.Bools.{order, clash, and_both, not_true}
 use Rattle.map_blocks.specs.declared.Found.{Found}
 use Rattle.map_blocks.specs.declared.Found.TheVariants.{At, Nothing}
 use Rattle.map_blocks.specs.Blocks.{free, all, fit, least_fit, or_else}
-use Rattle.map_blocks.proofs.Fits.{Fits, fit_is, is-fit}
-use Rattle.map_blocks.proofs.Least.{never_both, least_at, least-none, least-passes, least-below, none_passes}
-use Rattle.map_blocks.proofs.Runs.{all-intro, all-elim}
+use Rattle.map_blocks.proofs.Fits.{Fits, fit_is, is_fit}
+use Rattle.map_blocks.proofs.Least.{never_both, least_at, least_none, least_passes, least_below, none_passes}
+use Rattle.map_blocks.proofs.Runs.{all_intro, all_elim}
 use Rattle.map_search_word.specs.declared.Step.{Step}
 use Rattle.map_search_word.specs.declared.Step.TheVariants.{Hit, Next}
 use Rattle.map_search_word.specs.Scan.{Carried}
@@ -28,39 +28,39 @@ use Rattle.summary_search.specs.SearchBy.{seek, stretch, turns, search_down, nea
 use Rattle.summary_search.specs.Seeking.{Located}
 use Rattle.summary_search.proofs.Bounds.{Bounds}
 use Rattle.summary_search.proofs.Places.{located_whole}
-use Rattle.summary_search.proofs.Telling.{Says, says, since, after_since, NoneBefore, Knows, seek-true, group-true}
-use Rattle.summary_search.proofs.Turns.{bounded, turn-none, turn-far, turn_near, short_of, turning_first}
+use Rattle.summary_search.proofs.Telling.{Says, says, since, after_since, NoneBefore, Knows, seek_true, group_true}
+use Rattle.summary_search.proofs.Turns.{bounded, turn_none, turn_far, turn_near, short_of, turning_first}
 
 -- ---- a stretch of the map
 
 module _ (f : ℕ → Bool) (from before step k t end : ℕ) (inside : end ≤ before) (low : from ≤ t) where
   -- its least fit is a fit of the whole
-  stretch-fits : (s : ℕ) → least_fit f t end step k ≡ At s → Fits f t end step k s
+  stretch_fits : (s : ℕ) → least_fit f t end step k ≡ At s → Fits f t end step k s
   unfolding least_fit
-  stretch-fits s e = fit_is f t end step k s (least-passes (fit f t end step k) 0 end s e).test
+  stretch_fits s e = fit_is f t end step k s (least_passes (fit f t end step k) 0 end s e).test
 
-  pub whole-fits : (s : ℕ) → least_fit f t end step k ≡ At s → Fits f from before step k s
-  whole-fits s e =
-      let h : Fits f t end step k s = stretch-fits s e in
+  pub whole_fits : (s : ℕ) → least_fit f t end step k ≡ At s → Fits f from before step k s
+  whole_fits s e =
+      let h : Fits f t end step k s = stretch_fits s e in
       let a : t ≤ s = h.low in
       let b : s + k ≤ end = h.high in
       record { low = omega arith; high = omega arith; free = h.free; placed = h.placed }
 
   -- a fit of the whole that starts in it is one of its fits
-  part-fits : (u : ℕ) → t ≤ u → u + k ≤ end → Fits f from before step k u → fit f t end step k u ≡ true
-  part-fits u a b h = is-fit f t end step k u (record { low = a; high = b; free = h.free; placed = h.placed })
+  part_fits : (u : ℕ) → t ≤ u → u + k ≤ end → Fits f from before step k u → fit f t end step k u ≡ true
+  part_fits u a b h = is_fit f t end step k u (record { low = a; high = b; free = h.free; placed = h.placed })
 
-  stretch-below : (s u : ℕ) → least_fit f t end step k ≡ At s → t ≤ u → u < s → Fits f from before step k u → ⊥
+  stretch_below : (s u : ℕ) → least_fit f t end step k ≡ At s → t ≤ u → u < s → Fits f from before step k u → ⊥
   unfolding least_fit
-  stretch-below s u e a b h =
-      let l : s + k ≤ end = (stretch-fits s e).high in
-      clash (fit f t end step k u) (part-fits u a (omega arith) h) (least-below (fit f t end step k) 0 end s e u (omega arith)
+  stretch_below s u e a b h =
+      let l : s + k ≤ end = (stretch_fits s e).high in
+      clash (fit f t end step k u) (part_fits u a (omega arith) h) (least_below (fit f t end step k) 0 end s e u (omega arith)
       b)
 
-  stretch-none : (u : ℕ) → 0 < k → least_fit f t end step k ≡ Nothing → t ≤ u → u + k ≤ end → Fits f from before step k u → ⊥
+  stretch_none : (u : ℕ) → 0 < k → least_fit f t end step k ≡ Nothing → t ≤ u → u + k ≤ end → Fits f from before step k u → ⊥
   unfolding least_fit
-  stretch-none u some e a b h =
-      clash (fit f t end step k u) (part-fits u a b h)
+  stretch_none u some e a b h =
+      clash (fit f t end step k u) (part_fits u a b h)
       (none_passes (fit f t end step k) 0 end e u (omega arith) (omega arith))
 
 -- ---- with any summary
@@ -77,15 +77,15 @@ module _ (map summary : List ℕ) (from before step k : ℕ) (some : 0 < k) wher
           → ((at' : ℕ) → from ≤ at' → turns d map summary before step k at' ≡ At t → Fits (free map) from before step k t)
           → Fits (free map) from before step k t
       found u (At s) f v q on =
-          whole-fits (free map) from before step k u (min before (u + k + stretch step)) (omega arith) v t (f ∙ q)
+          whole_fits (free map) from before step k u (min before (u + k + stretch step)) (omega arith) v t (f ∙ q)
       found u Nothing f v q on = on (u + stretch step + 1) (omega arith) q
 
       by : (r : Step) → seek summary (power (length map)) at k ≡ r → Bounds at k (0 + 64 * power (length map)) r
           → ((at' : ℕ) → from ≤ at' → turns d map summary before step k at' ≡ At t → Fits (free map) from before step k t)
           → Fits (free map) from before step k t
-      by (Next s) q b on = absurd (never_both t (sym e ∙ turn-none map summary before step k d at s q))
+      by (Next s) q b on = absurd (never_both t (sym e ∙ turn_none map summary before step k d at s q))
       by (Hit u) q b on =
-          ⊎_elim (λ v. absurd (never_both t (sym e ∙ turn-far map summary before step k d at u q v)))
+          ⊎_elim (λ v. absurd (never_both t (sym e ∙ turn_far map summary before step k d at u q v)))
           (λ v. found u (least_fit (free map) u (min before (u + k + stretch step)) step k) refl (omega (arith, b.0))
           (sym (turn_near map summary before step k d at u q v) ∙ e) on) (order before (u + k))
 
@@ -94,7 +94,7 @@ module _ (map summary : List ℕ) (from before step k : ℕ) (some : 0 < k) wher
   down_fits t e =
       ⊎_elim (λ l. absurd (never_both t (sym e ∙ short_of map summary from before step k l)))
       (λ l. let first = turning_first map summary from before step k l in
-      is-fit (free map) from before step k t (turns_fit first.left from t (omega arith) (first.is ∙ e)))
+      is_fit (free map) from before step k t (turns_fit first.left from t (omega arith) (first.is ∙ e)))
       (order (group_in summary 0).longest k)
 
   -- every start that is given is a fit, of the first words or of those that the groups lead to
@@ -109,8 +109,8 @@ module _ (map summary : List ℕ) (from before step k : ℕ) (some : 0 < k) wher
       go false r q h = absurd (never_both t (sym h))
       go true Nothing q h = down_fits t h
       go true (At s) q h =
-          is-fit (free map) from before step k t
-          (whole-fits (free map) from before step k from (min before (from + near_of step k)) (omega arith) (omega arith) t
+          is_fit (free map) from before step k t
+          (whole_fits (free map) from before step k from (min before (from + near_of step k)) (omega arith) (omega arith) t
           (q ∙ h))
 
 -- where group 0's longest is below k there is none, whatever the map holds
@@ -134,13 +134,13 @@ module _ (map : List ℕ) (n : ℕ) (summary : List ℕ) (from before step k : �
   unfolding usable
   counts u h =
       let b : u + k ≤ before = h.high in
-      all-intro (usable map n) u k (λ t l v.
-      and_both (ltb t n) (free map t) (lt-ltb t n (omega arith)) (all-elim (free map) u k h.free t l v))
+      all_intro (usable map n) u k (λ t l v.
+      and_both (ltb t n) (free map t) (lt-ltb t n (omega arith)) (all_elim (free map) u k h.free t l v))
 
-  counts-since : (at u : ℕ) → at ≤ u → Fits (free map) from before step k u → all (since at (usable map n)) u k ≡ true
-  counts-since at u l h =
-      all-intro (since at (usable map n)) u k (λ t a b.
-      after_since at (usable map n) t (omega arith) ∙ all-elim (usable map n) u k (counts u h) t a b)
+  counts_since : (at u : ℕ) → at ≤ u → Fits (free map) from before step k u → all (since at (usable map n)) u k ≡ true
+  counts_since at u l h =
+      all_intro (since at (usable map n)) u k (λ t a b.
+      after_since at (usable map n) t (omega arith) ∙ all_elim (usable map n) u k (counts u h) t a b)
 
   -- no fit starts before t
   abbrev Clear : ℕ → Type 0
@@ -149,14 +149,14 @@ module _ (map : List ℕ) (n : ℕ) (summary : List ℕ) (from before step k : �
   none_left : Clear before → least_fit (free map) from before step k ≡ Nothing
   unfolding least_fit
   none_left clear =
-      least-none (fit (free map) from before step k) 0 before (λ t a b.
+      least_none (fit (free map) from before step k) 0 before (λ t a b.
       not_true (fit (free map) from before step k t) (λ e. clear t (omega arith) (fit_is (free map) from before step k t e)))
 
   -- where the summary gives a start, none starts before it
-  clear-hit : (at t : ℕ) → Clear at → NoneBefore (since at (usable map n)) k t → Clear t
-  clear-hit at t clear none u l h =
+  clear_hit : (at t : ℕ) → Clear at → NoneBefore (since at (usable map n)) k t → Clear t
+  clear_hit at t clear none u l h =
       ⊎_elim (λ v. clear u v h)
-      (λ v. clash (all (since at (usable map n)) u k) (counts-since at u v h) (none u l)) (order u at)
+      (λ v. clash (all (since at (usable map n)) u k) (counts_since at u v h) (none u l)) (order u at)
 
   -- where it gives none, none starts at all
   clear_next : (at s : ℕ) → Clear at → Carried (since at (usable map n)) k (0 + 64 * power (length map)) s → Clear before
@@ -165,42 +165,42 @@ module _ (map : List ℕ) (n : ℕ) (summary : List ℕ) (from before step k : �
       let r : u + k ≤ before = h.high in
       let v : s < k = carried.short in
       ⊎_elim (λ a. clear u a h)
-      (λ a. clash (all (since at (usable map n)) u k) (counts-since at u a h) (carried.none u (omega arith))) (order u at)
+      (λ a. clash (all (since at (usable map n)) u k) (counts_since at u a h) (carried.none u (omega arith))) (order u at)
 
-  found-own : (t end : ℕ) → end ≤ before → Clear t → from ≤ t → (s : ℕ)
+  found_own : (t end : ℕ) → end ≤ before → Clear t → from ≤ t → (s : ℕ)
       → least_fit (free map) t end step k ≡ At s
       → least_fit (free map) from before step k ≡ At s
   unfolding least_fit
-  found-own t end in_all clear l s e =
-      let h : Fits (free map) from before step k s = whole-fits (free map) from before step k t end in_all l s e in
+  found_own t end in_all clear l s e =
+      let h : Fits (free map) from before step k s = whole_fits (free map) from before step k t end in_all l s e in
       let b : s + k ≤ before = h.high in
       least_at (fit (free map) from before step k) 0 before s (omega arith) (omega arith)
-      (is-fit (free map) from before step k s h)
+      (is_fit (free map) from before step k s h)
       (λ u a c. not_true (fit (free map) from before step k u) (λ q. below u c (fit_is (free map) from before step k u q)))
     where
       below : (u : ℕ) → u < s → Fits (free map) from before step k u → ⊥
       below u c h =
           ⊎_elim (λ a. clear u a h)
-          (λ a. stretch-below (free map) from before step k t end in_all l s u e a c h)
+          (λ a. stretch_below (free map) from before step k t end in_all l s u e a c h)
           (order u t)
 
-  clear-on : (t : ℕ) → Clear t → from ≤ t → least_fit (free map) t (min before (t + k + stretch step)) step k ≡ Nothing
+  clear_on : (t : ℕ) → Clear t → from ≤ t → least_fit (free map) t (min before (t + k + stretch step)) step k ≡ Nothing
       → Clear (t + stretch step + 1)
-  clear-on t clear l e u v h =
+  clear_on t clear l e u v h =
       let b : u + k ≤ before = h.high in
       ⊎_elim (λ a. clear u a h)
-      (λ a. stretch-none (free map) from before step k t (min before (t + k + stretch step)) (omega arith) l u some e a
+      (λ a. stretch_none (free map) from before step k t (min before (t + k + stretch step)) (omega arith) l u some e a
       (omega arith) h)
       (order u t)
 
-  turns-own : (d at : ℕ) → from ≤ at → before < d + at → Clear at
+  turns_own : (d at : ℕ) → from ≤ at → before < d + at → Clear at
       → turns d map summary before step k at ≡ least_fit (free map) from before step k
   unfolding turns
-  turns-own zero at l room clear = sym (none_left (λ u v h. clear u (omega arith) h))
-  turns-own (suc d) at l room clear =
+  turns_own zero at l room clear = sym (none_left (λ u v h. clear u (omega arith) h))
+  turns_own (suc d) at l room clear =
       by (seek summary (power (length map)) at k) refl (bounded map summary k at some)
-      (seek-true (usable map n) (power (length map)) summary at k some (own_right map n summary own) located)
-      (λ at' a b c. turns-own d at' a b c)
+      (seek_true (usable map n) (power (length map)) summary at k some (own_right map n summary own) located)
+      (λ at' a b c. turns_own d at' a b c)
     where
       found : (t : ℕ) (r : Found) → least_fit (free map) t (min before (t + k + stretch step)) step k ≡ r → at ≤ t → t
           + k ≤ before
@@ -209,9 +209,9 @@ module _ (map : List ℕ) (n : ℕ) (summary : List ℕ) (from before step k : �
           → turns d map summary before step k at' ≡ least_fit (free map) from before step k)
           → or_else r (turns d map summary before step k (t + stretch step + 1)) ≡ least_fit (free map) from before step k
       found t (At s) e a v clear' on =
-          sym (found-own t (min before (t + k + stretch step)) (omega arith) clear' (omega arith) s e)
+          sym (found_own t (min before (t + k + stretch step)) (omega arith) clear' (omega arith) s e)
       found t Nothing e a v clear' on =
-          on (t + stretch step + 1) (omega arith) (omega arith) (clear-on t clear' (omega arith) e)
+          on (t + stretch step + 1) (omega arith) (omega arith) (clear_on t clear' (omega arith) e)
 
       by : (r : Step) → seek summary (power (length map)) at k ≡ r → Bounds at k (0 + 64 * power (length map)) r
           → Knows (since at (usable map n)) k (0 + 64 * power (length map)) r
@@ -219,41 +219,41 @@ module _ (map : List ℕ) (n : ℕ) (summary : List ℕ) (from before step k : �
           → turns d map summary before step k at' ≡ least_fit (free map) from before step k)
           → turns (suc d) map summary before step k at ≡ least_fit (free map) from before step k
       by (Next s) q b knows on =
-          turn-none map summary before step k d at s q ∙ sym (none_left (clear_next at s clear knows))
+          turn_none map summary before step k d at s q ∙ sym (none_left (clear_next at s clear knows))
       by (Hit t) q b knows on =
-          ⊎_elim (λ v. turn-far map summary before step k d at t q v
-          ∙ sym (none_left (λ u w h. clear-hit at t clear knows u (omega (arith, h.high)) h)))
+          ⊎_elim (λ v. turn_far map summary before step k d at t q v
+          ∙ sym (none_left (λ u w h. clear_hit at t clear knows u (omega (arith, h.high)) h)))
           (λ v. turn_near map summary before step k d at t q v
           ∙ found t (least_fit (free map) t (min before (t + k + stretch step)) step k) refl b.0 v
-          (clear-hit at t clear knows) on)
+          (clear_hit at t clear knows) on)
           (order before (t + k))
 
   -- no run is longer than group 0's longest
-  long-enough : (group_in summary 0).longest < k → Clear before
-  long-enough l u v h =
+  long_enough : (group_in summary 0).longest < k → Clear before
+  long_enough l u v h =
       let q : length map ≤ power (length map) = power_enough (length map) in
       let r : u + k ≤ before = h.high in
       let y : Says (usable map n) 0 (64 * power (length map)) (group_in summary 0) =
       says (usable map n) 0 (64 * power (length map)) (group_in summary 0)
-      (group-true (usable map n) (power (length map)) summary 0 k some (own_right map n summary own) 0 0
+      (group_true (usable map n) (power (length map)) summary 0 k some (own_right map n summary own) 0 0
       (64 * power (length map))
       located) in
       let z : k ≤ (group_in summary 0).longest = y.longest u k (omega arith) (omega arith) (counts u h) in
       omega arith
 
   -- the search down the groups gives the least fit
-  down-own : search_down map summary from before step k ≡ least_fit (free map) from before step k
-  down-own =
-      ⊎_elim (λ l. short_of map summary from before step k l ∙ sym (none_left (long-enough l)))
+  down_own : search_down map summary from before step k ≡ least_fit (free map) from before step k
+  down_own =
+      ⊎_elim (λ l. short_of map summary from before step k l ∙ sym (none_left (long_enough l)))
       (λ l. let first = turning_first map summary from before step k l in
-      sym first.is ∙ turns-own first.left from (omega arith) first.room (λ u v h. omega (arith, h.low)))
+      sym first.is ∙ turns_own first.left from (omega arith) first.room (λ u v h. omega (arith, h.low)))
       (order (group_in summary 0).longest k)
 
   -- and so does the search by the summary
-  pub by-own : search_by map summary from before step k ≡ least_fit (free map) from before step k
+  pub by_own : search_by map summary from before step k ≡ least_fit (free map) from before step k
   unfolding search_by
-  by-own =
-      ⊎_elim (λ l. by_none map summary from before step k l ∙ sym (none_left (long-enough l)))
+  by_own =
+      ⊎_elim (λ l. by_none map summary from before step k l ∙ sym (none_left (long_enough l)))
       (λ l. ap (λ (b : Bool). cond b (or_else (least_fit (free map) from (min before (from + near_of step k)) step k)
       (search_down map summary from before step k)) Nothing) (le-leb k (group_in summary 0).longest l)
       ∙ go (least_fit (free map) from (min before (from + near_of step k)) step k) refl)
@@ -261,7 +261,7 @@ module _ (map : List ℕ) (n : ℕ) (summary : List ℕ) (from before step k : �
     where
       go : (r : Found) → least_fit (free map) from (min before (from + near_of step k)) step k ≡ r
           → or_else r (search_down map summary from before step k) ≡ least_fit (free map) from before step k
-      go Nothing q = down-own
+      go Nothing q = down_own
       go (At s) q =
-          sym (found-own from (min before (from + near_of step k)) (omega arith) (λ u v h. omega (arith, h.low)) (omega arith) s
+          sym (found_own from (min before (from + near_of step k)) (omega arith) (λ u v h. omega (arith, h.low)) (omega arith) s
           q)

@@ -10,7 +10,7 @@ use lib.Dec.{eqb, leb, ltb}
 use borrow.Author.Tests.{le-leb, lt-leb, leb-true, leb-false, ltb-true, ltb-false, eqb-true, eqb-false}
 use Rattle.laws.proofs.Bools.{order, not_true}
 use Rattle.map_blocks.specs.Blocks.{all}
-use Rattle.map_blocks.proofs.Runs.{all-intro, all-elim, all-break}
+use Rattle.map_blocks.proofs.Runs.{all_intro, all_elim, all_break}
 use Rattle.map_search_word.specs.declared.Step.{Step}
 use Rattle.map_search_word.specs.declared.Step.TheVariants.{Hit, Next}
 use Rattle.map_search_word.specs.Scan.{Carried}
@@ -18,7 +18,7 @@ use Rattle.survey.specs.Survey.{blocks}
 use Rattle.survey_words.proofs.Joining.{tail_longest}
 use Rattle.summary_groups.specs.declared.Group.{Group}
 use Rattle.summary_groups.specs.Groups.{group_of}
-use Rattle.summary_groups.proofs.Ends.{HeadRun, TailRun, head-run, tail_run, longest-least, longest-most}
+use Rattle.summary_groups.proofs.Ends.{HeadRun, TailRun, head_run, tail_run, longest_least, longest_most}
 use Rattle.summary_groups.proofs.Joins.{group_same}
 use Rattle.summary.specs.Summary.{group_in, group_at}
 use Rattle.summary.proofs.Sites.{group_at_lem}
@@ -27,7 +27,7 @@ use Rattle.summary_search.specs.declared.Glance.TheVariants.{Settled, Look}
 use Rattle.summary_search.specs.SearchBy.{inside_of, whole_of, glance_of, or_look, onward, seek_in, seek}
 use Rattle.summary_search.specs.Seeking.{Located}
 use Rattle.summary_search.proofs.Bounds.{by_test}
-use Rattle.summary_search.proofs.Places.{located-index, located-least, located-even, located-left, located-right}
+use Rattle.summary_search.proofs.Places.{located_index, located_least, located-even, located-left, located-right}
 
 -- ---- a group that is right, block by block
 
@@ -41,11 +41,11 @@ pub record Says (f : ℕ → Bool) (b m : ℕ) (x : Group) : Type 0 where
 right : (f : ℕ → Bool) (b m : ℕ) → Says f b m (group_of f b m)
 unfolding group_of
 right f b m = record {
-  head = head-run f b m;
+  head = head_run f b m;
   tail = tail_run f b m;
-  longest = longest-least f b m;
+  longest = longest_least f b m;
   ends = tail_longest (blocks f b m);
-  most = longest-most f b m m (λ t a c. absurd (omega arith));
+  most = longest_most f b m m (λ t a c. absurd (omega arith));
 }
 
 pub says : (f : ℕ → Bool) (b m : ℕ) (x : Group) → x ≡ group_of f b m → Says f b m x
@@ -76,7 +76,7 @@ GlanceKnows f k low end (Settled r) = Knows f k end r
 GlanceKnows f k low end Look = NoneBefore f k low
 
 none_since : (at k : ℕ) (f : ℕ → Bool) → 0 < k → NoneBefore (since at f) k at
-none_since at k f some u l = all-break (since at f) u k u (omega arith) (omega arith) (before_since at f u l)
+none_since at k f some u l = all_break (since at f) u k u (omega arith) (omega arith) (before_since at f u l)
 
 module _ (f : ℕ → Bool) (at k base m s : ℕ) (x : Group) (some : 0 < k) (true' : x ≡ group_of f base m) where
   -- a group before `at`
@@ -101,7 +101,7 @@ module _ (f : ℕ → Bool) (at k base m s : ℕ) (x : Group) (some : 0 < k) (tr
         none = λ t a.
             ⊎_elim (λ w. none_since at k f some t w)
             (λ w. ⊎_elim
-            (λ z. all-break (since at f) t k (base + m - suc x.tail) (omega arith) (omega arith)
+            (λ z. all_break (since at f) t k (base + m - suc x.tail) (omega arith) (omega arith)
             (after_since at f (base + m - suc x.tail) (omega arith)
             ∙ y.tail.stop (base + m - suc x.tail) (omega arith) (omega arith)))
             (λ z. not_true (all (since at f) t k) (λ run.
@@ -110,8 +110,8 @@ module _ (f : ℕ → Bool) (at k base m s : ℕ) (x : Group) (some : 0 < k) (tr
       }
     where
       sinceless : (t : ℕ) → at ≤ t → all (since at f) t k ≡ true → all f t k ≡ true
-      sinceless t w run = all-intro f t k (λ b a c.
-          sym (after_since at f b (omega arith)) ∙ all-elim (since at f) t k run b a c)
+      sinceless t w run = all_intro f t k (λ b a c.
+          sym (after_since at f b (omega arith)) ∙ all_elim (since at f) t k run b a c)
 
   -- a group from `at` on, with s free blocks right before it
   module _ (l : at ≤ base) (before : Carried (since at f) k base s) where
@@ -134,7 +134,7 @@ module _ (f : ℕ → Bool) (at k base m s : ℕ) (x : Group) (some : 0 < k) (tr
     over : x.head < k - s → x.head < m → (t : ℕ) → t < base → all (since at f) t k ≡ false
     over u v t a =
         ⊎_elim (λ w. before.none t w)
-        (λ w. all-break (since at f) t k (base + x.head) (omega arith) (omega arith)
+        (λ w. all_break (since at f) t k (base + x.head) (omega arith) (omega arith)
         (y.head.stop (base + x.head) refl v)) (order (t + s) base)
 
     ending : x.head < k - s → (x.head ≡ m → ⊥) → x.longest < k
@@ -149,7 +149,7 @@ module _ (f : ℕ → Bool) (at k base m s : ℕ) (x : Group) (some : 0 < k) (tr
           held = λ t a b. y.tail.held t (omega arith) b;
           none = λ t a.
               ⊎_elim (λ z. over u (omega arith) t z)
-              (λ z. ⊎_elim (λ q. all-break (since at f) t k (base + m - suc x.tail) (omega arith) (omega arith)
+              (λ z. ⊎_elim (λ q. all_break (since at f) t k (base + m - suc x.tail) (omega arith) (omega arith)
               (y.tail.stop (base + m - suc x.tail) (omega arith) (omega arith)))
               (λ q. not_true (all (since at f) t k) (λ run. let r : k ≤ x.longest = y.longest t k z q run in omega arith))
               (order (base + m) (t + k))) (order t base);
@@ -159,10 +159,10 @@ module _ (f : ℕ → Bool) (at k base m s : ℕ) (x : Group) (some : 0 < k) (tr
     word u v t a = over u (omega (arith, y.most)) t a
 
   -- any group
-  pub glance-knows : Carried (since at f) k base s → GlanceKnows (since at f) k (max at base) (base + m)
+  pub glance_knows : Carried (since at f) k base s → GlanceKnows (since at f) k (max at base) (base + m)
       (glance_of x at k base m s)
   unfolding glance_of inside_of whole_of
-  glance-knows before =
+  glance_knows before =
       by_test (GlanceKnows (since at f) k (max at base) (base + m)) (leb (base + m) at) (Settled (Next 0))
       (cond (ltb base at) (inside_of x at k (base + m)) (whole_of x k base m s)) (λ e. passed (leb-true (base + m) at e))
       (λ e. let l : at < base + m = leb-false (base + m) at e in
@@ -189,9 +189,9 @@ module _ (f : ℕ → Bool) (at k base m s : ℕ) (x : Group) (some : 0 < k) (tr
 
 module _ (f : ℕ → Bool) (p : ℕ) (summary : List ℕ) (at k : ℕ) (some : 0 < k)
     (own : (h : ℕ) → h + 1 < 2 * p → group_in summary h ≡ group_at f p h) where
-  pub group-true : (g base m : ℕ) → Located p g base m → group_in summary g ≡ group_of f base m
-  group-true g base m l =
-      own g (located-index p g base m l) ∙ group_at_lem f p g l.first l.size l.sited
+  pub group_true : (g base m : ℕ) → Located p g base m → group_in summary g ≡ group_of f base m
+  group_true g base m l =
+      own g (located_index p g base m l) ∙ group_at_lem f p g l.first l.size l.sited
       ∙ ap₂ (group_of f) (sym l.starts) (sym l.blocks)
 
   looked : (low end : ℕ) (x : Glance) (deeper : Step) → GlanceKnows (since at f) k low end x
@@ -207,26 +207,26 @@ module _ (f : ℕ → Bool) (p : ℕ) (summary : List ℕ) (at k : ℕ) (some : 
       let e : base + m / 2 + m / 2 ≡ base + m = omega arith in
       subst (λ (end : ℕ). Knows (since at f) k end (next s)) e (on s b)
 
-  seek-knows : (d g base m s : ℕ) → Located p g base m → m ≤ 64 * d → Carried (since at f) k base s
+  seek_knows : (d g base m s : ℕ) → Located p g base m → m ≤ 64 * d → Carried (since at f) k base s
       → Knows (since at f) k (base + m) (seek_in d summary at k g base m s)
   unfolding seek_in
-  seek-knows zero g base m s l u before = absurd (omega (arith, located-least p g base m l))
-  seek-knows (suc d) g base m s l u before =
+  seek_knows zero g base m s l u before = absurd (omega (arith, located_least p g base m l))
+  seek_knows (suc d) g base m s l u before =
       looked (max at base) (base + m) (glance_of (group_in summary g) at k base m s)
       (cond (eqb m 64) (Hit (max at base))
       (onward (seek_in d summary at k (2 * g + 1) base (m / 2) s)
       (λ next. seek_in d summary at k (2 * g + 2) (base + m / 2) (m / 2) next)))
-      (glance-knows f at k base m s (group_in summary g) some (group-true g base m l) before)
+      (glance_knows f at k base m s (group_in summary g) some (group_true g base m l) before)
       (λ none. by_test (Knows (since at f) k (base + m)) (eqb m 64) (Hit (max at base))
       (onward (seek_in d summary at k (2 * g + 1) base (m / 2) s)
       (λ next. seek_in d summary at k (2 * g + 2) (base + m / 2) (m / 2) next)) (λ e. none)
       (λ e. let ne : (m ≡ 64 → ⊥) = eqb-false m 64 e in
       let even : m ≡ 2 * (m / 2) = located-even p g base m l ne in
-      let least : 64 ≤ m / 2 = located-least p (2 * g + 1) base (m / 2) (located-left p g base m l ne) in
+      let least : 64 ≤ m / 2 = located_least p (2 * g + 1) base (m / 2) (located-left p g base m l ne) in
       both base m (seek_in d summary at k (2 * g + 1) base (m / 2) s)
       (λ next. seek_in d summary at k (2 * g + 2) (base + m / 2) (m / 2) next) even
-      (seek-knows d (2 * g + 1) base (m / 2) s (located-left p g base m l ne) (omega arith) before)
-      (λ next b. seek-knows d (2 * g + 2) (base + m / 2) (m / 2) next (located-right p g base m l ne) (omega arith) b)))
+      (seek_knows d (2 * g + 1) base (m / 2) s (located-left p g base m l ne) (omega arith) before)
+      (λ next b. seek_knows d (2 * g + 2) (base + m / 2) (m / 2) next (located-right p g base m l ne) (omega arith) b)))
 
   nothing_yet : Carried (since at f) k 0 0
   nothing_yet = record {
@@ -237,6 +237,6 @@ module _ (f : ℕ → Bool) (p : ℕ) (summary : List ℕ) (at k : ℕ) (some : 
   }
 
   -- all groups: no run starts before the start that is given; where none is given, none starts at all
-  pub seek-true : Located p 0 0 (64 * p) → Knows (since at f) k (0 + 64 * p) (seek summary p at k)
+  pub seek_true : Located p 0 0 (64 * p) → Knows (since at f) k (0 + 64 * p) (seek summary p at k)
   unfolding seek
-  seek-true l = seek-knows p 0 0 (64 * p) 0 l (omega arith) nothing_yet
+  seek_true l = seek_knows p 0 0 (64 * p) 0 l (omega arith) nothing_yet

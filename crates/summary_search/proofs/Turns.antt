@@ -18,7 +18,7 @@ use Rattle.summary_groups.proofs.Places.{power_power, power_small}
 use Rattle.summary.specs.Summary.{group_in}
 use Rattle.summary_search.specs.SearchBy.{seek_in, seek, stretch, on_hit, turns, search_down}
 use Rattle.summary_search.specs.Seeking.{step_number}
-use Rattle.summary_search.proofs.Bounds.{Bounds, seek-bounds, number_hit, number_next}
+use Rattle.summary_search.proofs.Bounds.{Bounds, seek_bounds, number_hit, number_next}
 
 -- ---- where the summary gives a start, and where it gives none
 
@@ -27,7 +27,7 @@ pub bounded : (map summary : List ℕ) (k at : ℕ) → 0 < k
 unfolding seek
 bounded map summary k at some =
     let j = power_power (length map) in
-    seek-bounds summary at k (power (length map)) 0 0 (64 * power (length map)) 0 (j.0, ap (λ (x : ℕ). 64 * x) j.1) some
+    seek_bounds summary at k (power (length map)) 0 0 (64 * power (length map)) 0 (j.0, ap (λ (x : ℕ). 64 * x) j.1) some
     (λ l. omega arith)
 
 module _ (map summary : List ℕ) (k : ℕ) (few : length map ≤ 4096) (some : 0 < k) where
@@ -51,18 +51,18 @@ module _ (map summary : List ℕ) (k : ℕ) (few : length map ≤ 4096) (some : 
 -- ---- one turn
 
 module _ (map summary : List ℕ) (before step k d at : ℕ) where
-  pub turn-none : (s : ℕ) → seek summary (power (length map)) at k ≡ Next s → turns (suc d) map summary before step k at
+  pub turn_none : (s : ℕ) → seek summary (power (length map)) at k ≡ Next s → turns (suc d) map summary before step k at
       ≡ Nothing
   unfolding turns
-  turn-none s e =
+  turn_none s e =
       ap (λ (r : Step). on_hit r (λ t. cond (ltb before (t + k)) Nothing
       (or_else (least_fit (free map) t (min before (t + k + stretch step)) step k)
       (turns d map summary before step k (t + stretch step + 1))))) e
 
-  pub turn-far : (t : ℕ) → seek summary (power (length map)) at k ≡ Hit t → before < t + k
+  pub turn_far : (t : ℕ) → seek summary (power (length map)) at k ≡ Hit t → before < t + k
       → turns (suc d) map summary before step k at ≡ Nothing
   unfolding turns
-  turn-far t e l =
+  turn_far t e l =
       ap (λ (r : Step). on_hit r (λ t. cond (ltb before (t + k)) Nothing
       (or_else (least_fit (free map) t (min before (t + k + stretch step)) step k)
       (turns d map summary before step k (t + stretch step + 1))))) e
@@ -91,8 +91,8 @@ late map summary before step k some (suc d) at l = by (seek summary (power (leng
   where
     by : (r : Step) → seek summary (power (length map)) at k ≡ r → Bounds at k (0 + 64 * power (length map)) r
         → turns (suc d) map summary before step k at ≡ Nothing
-    by (Hit t) e b = let u : at ≤ t = b.0 in turn-far map summary before step k d at t e (omega arith)
-    by (Next s) e b = turn-none map summary before step k d at s e
+    by (Hit t) e b = let u : at ≤ t = b.0 in turn_far map summary before step k d at t e (omega arith)
+    by (Next s) e b = turn_none map summary before step k d at s e
 
 -- ---- the search, turn by turn
 
@@ -121,15 +121,15 @@ turning_first map summary from before step k l = record {
 
 module _ (map summary : List ℕ) (from before step k : ℕ) (few : length map ≤ 4096) (some : 0 < k) (at : ℕ)
     (turning : Turning map summary from before step k at) where
-  pub turning-late : before ≤ at → Nothing ≡ search_down map summary from before step k
-  turning-late l = sym (late map summary before step k some turning.left at l) ∙ turning.is
+  pub turning_late : before ≤ at → Nothing ≡ search_down map summary from before step k
+  turning_late l = sym (late map summary before step k some turning.left at l) ∙ turning.is
 
   module _ (t : ℕ) (e : t ≡ step_number (seek summary (power (length map)) at k)) where
     turning-none : (d : ℕ) → turns d map summary before step k at ≡ search_down map summary from before step k → before < d + at
         → at < before → 2 ^ 31 ≤ t → Nothing ≡ search_down map summary from before step k
     turning-none zero q room u l = absurd (omega arith)
     turning-none (suc d) q room u l =
-        sym (turn-none map summary before step k d at (t - 2 ^ 31) (is-next map summary k few some at t e l)) ∙ q
+        sym (turn_none map summary before step k d at (t - 2 ^ 31) (is-next map summary k few some at t e l)) ∙ q
 
     pub found_none : at < before → 2 ^ 31 ≤ t → Nothing ≡ search_down map summary from before step k
     found_none u l = turning-none turning.left turning.is turning.room u l
@@ -138,7 +138,7 @@ module _ (map summary : List ℕ) (from before step k : ℕ) (few : length map �
         → at < before → t < 2 ^ 31 → before < t + k → Nothing ≡ search_down map summary from before step k
     turning-far zero q room u l v = absurd (omega arith)
     turning-far (suc d) q room u l v =
-        sym (turn-far map summary before step k d at t (is-hit map summary k few some at t e l) v) ∙ q
+        sym (turn_far map summary before step k d at t (is-hit map summary k few some at t e l) v) ∙ q
 
     pub found-far : at < before → t < 2 ^ 31 → before < t + k → Nothing ≡ search_down map summary from before step k
     found-far u l v = turning-far turning.left turning.is turning.room u l v

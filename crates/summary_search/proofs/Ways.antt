@@ -12,42 +12,42 @@ use Rattle.summary_search.specs.declared.Place.{Place}
 use Rattle.summary_search.specs.declared.Glance.TheVariants.{Settled, Look}
 use Rattle.summary_search.specs.SearchBy.{glance_of, onward, seek_in}
 use Rattle.summary_search.specs.Seeking.{Lies, Way, Ahead, Passed, Ended, Stands, to_go, step_number}
-use Rattle.summary_search.proofs.Bounds.{Bounds, GlanceBounds, glance-bounds, seek-settled, seek-word, seek-halves}
-use Rattle.summary_search.proofs.Places.{Level, located-level, located-least, located-even, located-left, located-few}
-use Rattle.summary_search.proofs.Places.{located-small, lies-left, lies-right}
+use Rattle.summary_search.proofs.Bounds.{Bounds, GlanceBounds, glance_bounds, seek_settled, seek_word, seek_halves}
+use Rattle.summary_search.proofs.Places.{Level, located_level, located_least, located-even, located-left, located_few}
+use Rattle.summary_search.proofs.Places.{located_small, lies_left, lies_right}
 
 module _ (summary : List ℕ) (at k whole : ℕ) where
   -- ---- what comes of a group's step
 
   -- a start is the whole search's
-  way-hit : (j d g base m : ℕ) (on : Step → Step) → Way summary at k whole j d g base m on → (t : ℕ) → on (Hit t) ≡ Hit t
-  way-hit zero d g base m on w t = w.3 (Hit t)
-  way-hit (suc j) d g base m on w t =
-      let above = way-hit j (suc d) w.h w.start (2 * m) w.above w.way t in
+  way_hit : (j d g base m : ℕ) (on : Step → Step) → Way summary at k whole j d g base m on → (t : ℕ) → on (Hit t) ≡ Hit t
+  way_hit zero d g base m on w t = w.3 (Hit t)
+  way_hit (suc j) d g base m on w t =
+      let above = way_hit j (suc d) w.h w.start (2 * m) w.above w.way t in
       ⊎_elim (λ f. f.2 (Hit t) ∙ above) (λ q. q.2 (Hit t) ∙ above) w.side
 
-  pub way-inside : (j d g base m : ℕ) (on : Step → Step) → Way summary at k whole j d g base m on → base + m ≤ whole
-  way-inside zero d g base m on w = let a = w.1 in let b = w.2 in omega arith
-  way-inside (suc j) d g base m on w =
-      let u : w.start + 2 * m ≤ whole = way-inside j (suc d) w.h w.start (2 * m) w.above w.way in
+  pub way_inside : (j d g base m : ℕ) (on : Step → Step) → Way summary at k whole j d g base m on → base + m ≤ whole
+  way_inside zero d g base m on w = let a = w.1 in let b = w.2 in omega arith
+  way_inside (suc j) d g base m on w =
+      let u : w.start + 2 * m ≤ whole = way_inside j (suc d) w.h w.start (2 * m) w.above w.way in
       ⊎_elim (λ f. let e = f.1 in omega arith) (λ q. let e = q.1 in omega arith) w.side
 
   -- behind the last group there is none
-  way-last : (j d g base m : ℕ) (on : Step → Step) → Way summary at k whole j d g base m on → 0 < m → base + m ≡ whole
+  way_last : (j d g base m : ℕ) (on : Step → Step) → Way summary at k whole j d g base m on → 0 < m → base + m ≡ whole
       → (s : ℕ) → on (Next s) ≡ Next s
-  way-last zero d g base m on w pos end s = w.3 (Next s)
-  way-last (suc j) d g base m on w pos end s =
-      let u : w.start + 2 * m ≤ whole = way-inside j (suc d) w.h w.start (2 * m) w.above w.way in
+  way_last zero d g base m on w pos end s = w.3 (Next s)
+  way_last (suc j) d g base m on w pos end s =
+      let u : w.start + 2 * m ≤ whole = way_inside j (suc d) w.h w.start (2 * m) w.above w.way in
       ⊎_elim (λ f. let e = f.1 in absurd (omega arith))
       (λ q. let e = q.1 in
-      q.2 (Next s) ∙ way-last j (suc d) w.h w.start (2 * m) w.above w.way (omega arith) (omega arith) s)
+      q.2 (Next s) ∙ way_last j (suc d) w.h w.start (2 * m) w.above w.way (omega arith) (omega arith) s)
       w.side
 
   -- ---- where the search stands
 
-  pub passed-in : (p : Place) → Stands summary at k whole p → p.stage ≡ 1
+  pub passed_in : (p : Place) → Stands summary at k whole p → p.stage ≡ 1
       → Passed summary at k whole p.g p.base p.m p.s
-  passed-in p s e =
+  passed_in p s e =
       ⊎_elim (λ a. absurd (omega (arith, a.0, e))) (λ b. ⊎_elim (λ x. x.1) (λ y. absurd (omega (arith, y.0, e))) b) s
 
   pub ahead_in : (p : Place) → Stands summary at k whole p → p.stage < 2 → (p.stage ≡ 1 → ⊥)
@@ -55,12 +55,12 @@ module _ (summary : List ℕ) (at k whole : ℕ) where
   ahead_in p s l ne =
       ⊎_elim (λ a. a.1) (λ b. ⊎_elim (λ x. absurd (ne x.0)) (λ y. absurd (omega (arith, y.0, l))) b) s
 
-  pub ended-in : (p : Place) → Stands summary at k whole p → 2 ≤ p.stage → Ended summary at k whole p.s
-  ended-in p s l =
+  pub ended_in : (p : Place) → Stands summary at k whole p → 2 ≤ p.stage → Ended summary at k whole p.s
+  ended_in p s l =
       ⊎_elim (λ a. absurd (omega (arith, a.0, l))) (λ b. ⊎_elim (λ x. absurd (omega (arith, x.0, l))) (λ y. y.1) b) s
 
-  pub is-ahead : (p : Place) → Stands summary at k whole p → p.stage < 2 → (p.stage ≡ 1 → ⊥) → p.stage ≡ 0
-  is-ahead p s l ne = let q : p.stage ≡ 1 → ⊥ = ne in go p.stage l q
+  pub is_ahead : (p : Place) → Stands summary at k whole p → p.stage < 2 → (p.stage ≡ 1 → ⊥) → p.stage ≡ 0
+  is_ahead p s l ne = let q : p.stage ≡ 1 → ⊥ = ne in go p.stage l q
     where
       go : (n : ℕ) → n < 2 → (n ≡ 1 → ⊥) → n ≡ 0
       go zero u v = refl
@@ -70,18 +70,18 @@ module _ (summary : List ℕ) (at k whole : ℕ) where
   -- ---- from a group that is passed
   module _ (g base m s : ℕ) (p : Passed summary at k whole g base m s) where
     pub passed-small : base + m ≤ 262144
-    passed-small = located-small p.lies.words g base m p.lies.located
+    passed-small = located_small p.lies.words g base m p.lies.located
 
     pub passed-least : 64 ≤ m
-    passed-least = located-least p.lies.words g base m p.lies.located
+    passed-least = located_least p.lies.words g base m p.lies.located
 
     pub passed-few : g ≤ 8192
-    passed-few = located-few p.lies.words g base m p.lies.located
+    passed-few = located_few p.lies.words g base m p.lies.located
 
     pub none-behind : base + m ≡ whole → Ended summary at k whole (2 ^ 31 + s)
     none-behind end = record {
       gives = sym (ap step_number (p.comes
-          ∙ way-last p.j (suc p.d) g base m p.on p.way (omega (arith, passed-least)) end s));
+          ∙ way_last p.j (suc p.d) g base m p.on p.way (omega (arith, passed-least)) end s));
     }
 
     pub second_half_lem : g % 2 ≡ 1 → Ahead summary at k whole (g + 1) (base + m) m s
@@ -112,7 +112,7 @@ module _ (summary : List ℕ) (at k whole : ℕ) where
               lies = subst (λ (x : ℕ). Lies summary x (base + m) m) (sym n)
                   (subst (λ (x : ℕ). Lies summary (2 * w.h + 2) x m) there
                   (subst (λ (x : ℕ). Lies summary (2 * w.h + 2) (w.start + 2 * m / 2) x) twice
-                  (lies-right summary w.h w.start (2 * m) w.lies (λ q. omega (arith, q, passed-least)))));
+                  (lies_right summary w.h w.start (2 * m) w.lies (λ q. omega (arith, q, passed-least)))));
               enough = p.enough;
               behind = p.behind;
               short = p.short;
@@ -162,29 +162,29 @@ module _ (summary : List ℕ) (at k whole : ℕ) where
   -- ---- from a group that is ahead
   module _ (g base m s : ℕ) (a : Ahead summary at k whole g base m s) where
     pub ahead_small : base + m ≤ 262144
-    ahead_small = located-small a.lies.words g base m a.lies.located
+    ahead_small = located_small a.lies.words g base m a.lies.located
 
     pub ahead-least : 64 ≤ m
-    ahead-least = located-least a.lies.words g base m a.lies.located
+    ahead-least = located_least a.lies.words g base m a.lies.located
 
     pub ahead-few : g ≤ 8192
-    ahead-few = located-few a.lies.words g base m a.lies.located
+    ahead-few = located_few a.lies.words g base m a.lies.located
 
     bounded : GlanceBounds at k (base + m) (glance_of (group_in summary g) at k base m s)
-    bounded = glance-bounds (group_in summary g) at k base m s (omega (arith, ahead-least)) a.short a.behind
+    bounded = glance_bounds (group_in summary g) at k base m s (omega (arith, ahead-least)) a.short a.behind
 
     found : (t : ℕ) → seek_in (suc a.d) summary at k g base m s ≡ Hit t → Ended summary at k whole t
     found t e = record {
       gives = sym (ap step_number (a.comes ∙ ap a.on e
-          ∙ way-hit a.j (suc a.d) g base m a.on a.way t));
+          ∙ way_hit a.j (suc a.d) g base m a.on a.way t));
     }
 
     pub told-hit : (t : ℕ) → glance_of (group_in summary g) at k base m s ≡ Settled (Hit t) → Ended summary at k whole t
-    told-hit t e = found t (seek-settled summary at k a.d g base m s (Hit t) e)
+    told-hit t e = found t (seek_settled summary at k a.d g base m s (Hit t) e)
 
     pub in_word : glance_of (group_in summary g) at k base m s ≡ Look → m ≡ 64 → (x : ℕ) → x ≡ max at base
         → Ended summary at k whole x
-    in_word look e x q = found x (seek-word summary at k a.d g base m s look e ∙ ap Hit (sym q))
+    in_word look e x q = found x (seek_word summary at k a.d g base m s look e ∙ ap Hit (sym q))
 
     pub told-next : (c : ℕ) → glance_of (group_in summary g) at k base m s ≡ Settled (Next c)
         → Passed summary at k whole g base m c
@@ -200,7 +200,7 @@ module _ (summary : List ℕ) (at k whole : ℕ) where
           behind = b.2;
           few = b.1;
           short = b.0;
-          comes = a.comes ∙ ap a.on (seek-settled summary at k a.d g base m s (Next c) e);
+          comes = a.comes ∙ ap a.on (seek_settled summary at k a.d g base m s (Next c) e);
         }
 
     pub first_half_lem : glance_of (group_in summary g) at k base m s ≡ Look → (m ≡ 64 → ⊥)
@@ -211,7 +211,7 @@ module _ (summary : List ℕ) (at k whole : ℕ) where
         even = located-even a.lies.words g base m a.lies.located ne
 
         least : 64 ≤ m / 2
-        least = located-least a.lies.words (2 * g + 1) base (m / 2)
+        least = located_least a.lies.words (2 * g + 1) base (m / 2)
             (located-left a.lies.words g base m a.lies.located ne)
 
         go : (d : ℕ) → m ≤ 64 * suc d → Way summary at k whole a.j (suc d) g base m a.on
@@ -231,19 +231,19 @@ module _ (summary : List ℕ) (at k whole : ℕ) where
             enough = omega (arith, l, even);
             side = inl (refl, refl, λ r. refl);
           };
-          lies = lies-left summary g base m a.lies ne;
+          lies = lies_left summary g base m a.lies ne;
           enough = omega (arith, l, even, least);
           behind = a.behind;
           short = a.short;
-          comes = e ∙ ap a.on (seek-halves summary at k (suc d) g base m s look ne);
+          comes = e ∙ ap a.on (seek_halves summary at k (suc d) g base m s look ne);
         }
 
 -- ---- the first group
 pub first_ahead : (summary : List ℕ) (at k m : ℕ) → Lies summary 0 0 m → 0 < k → Ahead summary at k m 0 0 m 0
 first_ahead summary at k m lies some =
-    let l : Level m = located-level lies.words 0 0 m lies.located in
+    let l : Level m = located_level lies.words 0 0 m lies.located in
     let e : m ≡ 64 * 2 ^ l.0 = l.1 in
-    let least : 64 ≤ m = located-least lies.words 0 0 m lies.located in
+    let least : 64 ≤ m = located_least lies.words 0 0 m lies.located in
     let whole : suc (m / 64 - 1) ≡ m / 64 = omega (arith, least) in
     record {
       j = 0;

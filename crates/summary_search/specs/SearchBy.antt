@@ -1,7 +1,7 @@
 -- The search by a summary (document 02, request (j)), for all figures; the plain search is the one with 0, n and 1. Where few
 -- blocks are wanted it looks at the first words of the map, where a card mostly has them. Otherwise it goes down from group 0
 -- by the summary's numbers alone to where a run of k may start first, and looks at the map there. With the map's own summary it
--- gives the least fit (`by-own`), and with any summary nothing but fits (`by_fits`); both in proofs/Searches.antt.
+-- gives the least fit (`by_own`), and with any summary nothing but fits (`by_fits`); both in proofs/Searches.antt.
 -- Assumes nothing.
 use Rattle.std.specs.Prelude.{ℕ, zero, suc, ◌+◌, ◌-◌, ◌*◌, ◌/◌, min, max, cond, List, eqb, leb, ltb, length}
 use Rattle.map_blocks.specs.declared.Found.{Found}

@@ -11,13 +11,13 @@ use Rattle.laws.proofs.Bools.{order}
 use Rattle.summary_groups.specs.declared.Group.{Group}
 use Rattle.summary_groups.specs.Groups.{Span, place, group_of, joined_of}
 use Rattle.summary_groups.specs.Places.{Sited}
-use Rattle.summary_groups.proofs.Places.{Power, sited-index}
+use Rattle.summary_groups.proofs.Places.{Power, sited_index}
 use Rattle.summary.specs.Summary.{group_in}
 use Rattle.summary.specs.Walks.{with_group, halves_of, Idle, Target, RestIn}
 use Rattle.summary_write.specs.Climbs.{Joins, Stores, At, Climbs, Rises, Stands, Comes}
-use Rattle.summary_write.proofs.Stored.{none_stored, one-stored, told}
+use Rattle.summary_write.proofs.Stored.{none_stored, one_stored, told}
 use Rattle.summary_write.proofs.Levels.{at_words, even_count, more, at_above, sited-here, one_of, has_some, up}
-use Rattle.summary_write.proofs.Levels.{above-few, only_one}
+use Rattle.summary_write.proofs.Levels.{above_few, only_one}
 
 -- ---- the words
 
@@ -32,13 +32,13 @@ module _ (f : ℕ → Bool) (p lo hi leaf : ℕ) (k : Power p) (few : p ≤ 4096
       (sited-here p lo hi 1 p (leaf + lo) (leaf + hi) at (leaf + i) (omega arith) (omega arith)))
       (has_some p lo hi 1 p (leaf + lo) (leaf + hi) at (leaf + i) (omega arith) (omega arith) (omega arith) (omega arith))
 
-  pub climbs-words : (s : List ℕ)
+  pub climbs_words : (s : List ℕ)
       → ((aim : ℕ → Group) → ((i : ℕ) → lo ≤ i → i < hi → group_of f (64 * i) 64 ≡ aim (leaf + i))
       → Stores aim s₀ s (leaf + lo) (leaf + hi))
       → ((aim : ℕ → Group) → Target f p lo hi s₀ aim → RestIn p lo hi s₀ aim → leaf + hi ≡ leaf + lo + 1
       → aim (leaf + lo) ≡ group_in s₀ (leaf + lo) → ⊥)
       → Climbs f p lo hi s₀ s 1 (leaf + lo) (leaf + hi)
-  climbs-words s stored moved = record {
+  climbs_words s stored moved = record {
     count = p;
     at = at_words p lo hi leaf k few e l u;
     rest = λ aim target rest h v q. (stored aim (word aim target)).still h (rest h v q);
@@ -135,8 +135,8 @@ module _ (f : ℕ → Bool) (p lo hi : ℕ) (s₀ s : List ℕ) (half g stop : �
   here : At p lo hi (2 * half) c ((g - 1) / 2) (stop / 2)
   here = at_above p lo hi half climb.count g stop climb.at k few c halves.1 halves.2 l
 
-  few-here : stop / 2 < p
-  few-here = (above-few p lo hi half climb.count g stop k few climb.at l).0
+  few_here : stop / 2 < p
+  few_here = (above_few p lo hi half climb.count g stop k few climb.at l).0
 
   module _ (aim : ℕ → Group) (target : Target f p lo hi s₀ aim) (rest : RestIn p lo hi s₀ aim) where
     not-idle : (i : ℕ) → climb.count ≤ i + 1 → i + 1 < 2 * climb.count → Idle p lo hi s₀ aim i → ⊥
@@ -155,7 +155,7 @@ module _ (f : ℕ → Bool) (p lo hi : ℕ) (s₀ s : List ℕ) (half g stop : �
       below : (i : ℕ) → 2 * h + 1 ≤ i → i ≤ 2 * h + 2 → group_in s i ≡ aim i
       below i u v =
           let e : climb.count ≡ 2 * c = halves.1 in
-          climb.aimed aim target rest i (omega (arith, low)) (omega (arith, few-here))
+          climb.aimed aim target rest i (omega (arith, low)) (omega (arith, few_here))
 
       joins : joined_of (aim (2 * h + 1)) (aim (2 * h + 2)) (64 * half) ≡ aim h
       joins =
@@ -229,8 +229,8 @@ module _ (f : ℕ → Bool) (p lo hi : ℕ) (s₀ s : List ℕ) (half g stop : �
 
 module _ (f : ℕ → Bool) (p lo hi : ℕ) (s₀ s : List ℕ) (half g : ℕ) (r : Rises f p lo hi s₀ s half g) where
   -- group 0 is above all
-  pub rises-top : g ≡ 0 → Comes f p lo hi s₀ s
-  rises-top z aim target rest h u =
+  pub rises_top : g ≡ 0 → Comes f p lo hi s₀ s
+  rises_top z aim target rest h u =
       let e : g + 1 ≡ r.climb.count + r.climb.at.a = r.climb.at.first in
       r.climb.aimed aim target rest h (omega arith) u
 
@@ -254,7 +254,7 @@ module _ (f : ℕ → Bool) (p lo hi : ℕ) (s₀ s : List ℕ) (half g : ℕ) (
     stored aim j =
         subst (Stores aim s s₁ ((g - 1) / 2)) (sym one)
         (subst (λ (x : List ℕ). Stores aim s x ((g - 1) / 2) ((g - 1) / 2 + 1)) (sym e)
-        (one-stored aim s ((g - 1) / 2) (halves_of s ((g - 1) / 2) half) fits (is aim j)))
+        (one_stored aim s ((g - 1) / 2) (halves_of s ((g - 1) / 2) half) fits (is aim j)))
 
     -- it has become another
     pub rises-on : (group_in s ((g - 1) / 2) ≡ halves_of s ((g - 1) / 2) half → ⊥) → Rises f p lo hi s₀ s₁ (2 * half)
@@ -279,24 +279,24 @@ module _ (f : ℕ → Bool) (p lo hi : ℕ) (s₀ s : List ℕ) (half g : ℕ) (
 
 -- what is read and stored on the way is there
 module _ (s : List ℕ) (half g : ℕ) (t : Stands s half g) where
-  pub stands-small : (g < 8192) × (half ≤ 4096)
-  stands-small =
+  pub stands_small : (g < 8192) × (half ≤ 4096)
+  stands_small =
       let e : g + 1 ≡ t.count + t.at.a = t.at.first in
       let u : t.at.a ≤ t.at.z = t.at.least in
       let v : t.at.z < t.count = t.at.inside in
       let few : t.p ≤ 4096 = t.few in
       let some : 0 < t.count = t.at.level.some in
-      let n : g + 1 < 2 * t.p = sited-index t.p g ((g + 1 - t.count) * half) half
+      let n : g + 1 < 2 * t.p = sited_index t.p g ((g + 1 - t.count) * half) half
       (sited-here t.p t.lo t.hi half t.count g t.stop t.at g (omega arith) (omega arith)) in
       let i : (g + 1 - t.count) * half + half ≤ t.p =
       (sited-here t.p t.lo t.hi half t.count g t.stop t.at g (omega arith) (omega arith)).inside in
       (omega arith, omega arith)
 
-  pub stands-in : 0 < g → 3 * (2 * ((g - 1) / 2) + 2) + 2 < length s
-  stands-in l =
+  pub stands_in : 0 < g → 3 * (2 * ((g - 1) / 2) + 2) + 2 < length s
+  stands_in l =
       let next = up t.p t.lo t.hi half t.count g t.stop t.power t.few t.at l in
       let small : t.stop / 2 < t.p =
-      (above-few t.p t.lo t.hi half t.count g t.stop t.power t.few t.at l).0 in
+      (above_few t.p t.lo t.hi half t.count g t.stop t.power t.few t.at l).0 in
       let a : (g - 1) / 2 + 1 ≡ next.0 + next.1.a = next.1.first in
       let b : t.stop / 2 ≡ next.0 + next.1.z = next.1.last in
       let d : next.1.a ≤ next.1.z = next.1.least in
@@ -336,39 +336,39 @@ word_stands p i leaf k few e u s long = record {
 
 module _ (f : ℕ → Bool) (p i leaf : ℕ) (k : Power p) (few : p ≤ 4096) (e : leaf + 1 ≡ p) (u : i < p) (s₀ s : List ℕ)
     (fits : 3 * (leaf + i) + 2 < length s₀) (q : s ≡ with_group s₀ (leaf + i) (group_of f (64 * i) 64)) where
-  word-told : (aim : ℕ → Group) → Target f p i (i + 1) s₀ aim → group_of f (64 * i) 64 ≡ aim (leaf + i)
-  word-told aim target = word f p i (i + 1) leaf k few e (omega arith) (omega arith) s₀ aim target i (omega arith) (omega arith)
+  word_told : (aim : ℕ → Group) → Target f p i (i + 1) s₀ aim → group_of f (64 * i) 64 ≡ aim (leaf + i)
+  word_told aim target = word f p i (i + 1) leaf k few e (omega arith) (omega arith) s₀ aim target i (omega arith) (omega arith)
 
-  word-stored : (aim : ℕ → Group) → group_of f (64 * i) 64 ≡ aim (leaf + i) → Stores aim s₀ s (leaf + i) (leaf + (i + 1))
-  word-stored aim w =
+  word_stored : (aim : ℕ → Group) → group_of f (64 * i) 64 ≡ aim (leaf + i) → Stores aim s₀ s (leaf + i) (leaf + (i + 1))
+  word_stored aim w =
       let z : leaf + i + 1 ≡ leaf + (i + 1) = omega arith in
       subst (Stores aim s₀ s (leaf + i)) z
       (subst (λ (x : List ℕ). Stores aim s₀ x (leaf + i) (leaf + i + 1)) (sym q)
-      (one-stored aim s₀ (leaf + i) (group_of f (64 * i) 64) fits w))
+      (one_stored aim s₀ (leaf + i) (group_of f (64 * i) 64) fits w))
 
   -- it has become another
-  pub word-rises : (group_in s₀ (leaf + i) ≡ group_of f (64 * i) 64 → ⊥) → Rises f p i (i + 1) s₀ s 1 (leaf + i)
-  word-rises ne = record {
+  pub word_rises : (group_in s₀ (leaf + i) ≡ group_of f (64 * i) 64 → ⊥) → Rises f p i (i + 1) s₀ s 1 (leaf + i)
+  word_rises ne = record {
     stop = leaf + (i + 1);
     power = k;
     few = few;
-    climb = climbs-words f p i (i + 1) leaf k few e (omega arith) (omega arith) s₀ s
-        (λ aim told. word-stored aim (told i (omega arith) (omega arith)))
-        (λ aim target rest o same. ne (sym same ∙ sym (word-told aim target)));
+    climb = climbs_words f p i (i + 1) leaf k few e (omega arith) (omega arith) s₀ s
+        (λ aim told. word_stored aim (told i (omega arith) (omega arith)))
+        (λ aim target rest o same. ne (sym same ∙ sym (word_told aim target)));
     one = omega arith;
   }
 
   -- it stays as it was
-  pub word-no-more : group_in s₀ (leaf + i) ≡ group_of f (64 * i) 64 → Comes f p i (i + 1) s₀ s
-  word-no-more same aim target rest h v =
+  pub word_no_more : group_in s₀ (leaf + i) ≡ group_of f (64 * i) 64 → Comes f p i (i + 1) s₀ s
+  word_no_more same aim target rest h v =
       let at : At p i (i + 1) 1 p (leaf + i) (leaf + (i + 1)) =
       at_words p i (i + 1) leaf k few e (omega arith) (omega arith) in
       let z : leaf + (i + 1) ≡ leaf + i + 1 = omega arith in
-      let d : Stores aim s₀ s (leaf + i) (leaf + (i + 1)) = word-stored aim (word-told aim target) in
+      let d : Stores aim s₀ s (leaf + i) (leaf + (i + 1)) = word_stored aim (word_told aim target) in
       ⊎_elim
       (λ a. d.other h (inl (omega arith))
       ∙ none_above f p i (i + 1) s₀ k few aim target rest (leaf + i) 1 p (leaf + i) (omega arith)
-      (subst (At p i (i + 1) 1 p (leaf + i)) z at) (sym (word-told aim target) ∙ sym same) h a v)
+      (subst (At p i (i + 1) 1 p (leaf + i)) z at) (sym (word_told aim target) ∙ sym same) h a v)
       (λ a. one_of p i (i + 1) 1 p (leaf + i) (leaf + (i + 1)) at h a v aim s (λ j x y. d.still j (rest j x y)) d.done v)
       (order (h + 1) p)
 

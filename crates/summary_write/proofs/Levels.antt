@@ -10,7 +10,7 @@ use Rattle.laws.proofs.Bools.{order}
 use Rattle.summary_groups.specs.declared.Group.{Group}
 use Rattle.summary_groups.specs.Groups.{Span, first_half, place}
 use Rattle.summary_groups.specs.Places.{Sited, Apart}
-use Rattle.summary_groups.proofs.Places.{Power, sited_all, below_zero, place_left, sited-even, sited-pos, sited-index}
+use Rattle.summary_groups.proofs.Places.{Power, sited_all, below_zero, place_left, sited_even, sited_pos, sited_index}
 use Rattle.summary.specs.Summary.{group_in}
 use Rattle.summary.specs.Walks.{Level, RestIn}
 use Rattle.summary.proofs.Rebuilding.{apart, meets}
@@ -20,7 +20,7 @@ use Rattle.summary_write.specs.Climbs.{At}
 
 -- a group whose number is p - 1 + i is word i
 word_at : (p i first size : ℕ) → Sited p (p - 1 + i) first size → i < p → (first ≡ i * 1) × (size ≡ 1)
-word_at p i first size s l = go size s.sum s.inside (sited-pos p (p - 1 + i) first size s)
+word_at p i first size s l = go size s.sum s.inside (sited_pos p (p - 1 + i) first size s)
   where
     go : (z : ℕ) → first + p ≡ (p - 1 + i + 1) * z → first + z ≤ p → 0 < z → (first ≡ i * 1) × (z ≡ 1)
     go zero a b c = absurd (omega arith)
@@ -54,7 +54,7 @@ module _ (p c half : ℕ) (k : Power p) (few : p ≤ 4096) (pos : 0 < c) (v : Le
   above_in : above + 1 < 2 * p
   above_in =
       let j : 2 * c - 1 + (2 * i + 1) + 1 < 2 * p =
-      sited-index p (2 * c - 1 + (2 * i + 1)) ((2 * i + 1) * half) half (v.sited (2 * i + 1) (omega arith)) in
+      sited_index p (2 * c - 1 + (2 * i + 1)) ((2 * i + 1) * half) half (v.sited (2 * i + 1) (omega arith)) in
       omega arith
 
   placed : Sited p above (place p above).first (place p above).size
@@ -67,21 +67,21 @@ module _ (p c half : ℕ) (k : Power p) (few : p ≤ 4096) (pos : 0 < c) (v : Le
 
   twice : (place p above).size ≡ 2 * half
   twice =
-      let pos-half : 0 < half = sited-pos p (2 * c - 1 + 2 * i) (2 * i * half) half (v.sited (2 * i) (omega arith)) in
+      let pos-half : 0 < half = sited_pos p (2 * c - 1 + 2 * i) (2 * i * half) half (v.sited (2 * i) (omega arith)) in
       let z : (place p above).size / 2 ≡ half = halved.1 in
       let ne : (place p above).size ≡ 1 → ⊥ = λ e. omega arith in
       let even : (place p above).size ≡ 2 * ((place p above).size / 2) =
-      sited-even p above (place p above).first (place p above).size placed ne in
+      sited_even p above (place p above).first (place p above).size placed ne in
       omega arith
 
-  sited-above : Sited p above (i * (2 * half)) (2 * half)
-  sited-above =
+  sited_above : Sited p above (i * (2 * half)) (2 * half)
+  sited_above =
       let e : (place p above).first ≡ i * (2 * half) = halved.0 ∙ (let q : 2 * i * half ≡ i * (2 * half) = omega arith in q) in
       subst (λ (x : ℕ). Sited p above x (2 * half)) e
       (subst (λ (z : ℕ). Sited p above (place p above).first z) twice placed)
 
 pub level_above : (p c half : ℕ) → Power p → p ≤ 4096 → 0 < c → Level p (2 * c) half → Level p c (2 * half)
-level_above p c half k few pos v = record { some = pos; sited = λ i l. sited-above p c half k few pos v i l }
+level_above p c half k few pos v = record { some = pos; sited = λ i l. sited_above p c half k few pos v i l }
 
 -- ---- the groups of a level that have one of the words lo to hi - 1: the numbers a to z of it, groups g to stop - 1
 
@@ -109,8 +109,8 @@ module _ (a half lo : ℕ) where
       let m : 2 * (a / 2) * half ≤ a * half = mul-le-mul_right half (let q : 2 * (a / 2) ≤ a = omega arith in q) in
       omega arith
 
-  low-half-less : a * half < lo → a / 2 * (2 * half) < lo
-  low-half-less l =
+  low_half_less : a * half < lo → a / 2 * (2 * half) < lo
+  low_half_less l =
       let m : 2 * (a / 2) * half ≤ a * half = mul-le-mul_right half (let q : 2 * (a / 2) ≤ a = omega arith in q) in
       omega arith
 
@@ -120,8 +120,8 @@ module _ (a half lo : ℕ) where
       (let q : a + 1 ≤ 2 * (a / 2) + 2 = omega arith in q) in
       omega arith
 
-  high-half-most : lo ≤ a * half + half → lo ≤ a / 2 * (2 * half) + 2 * half
-  high-half-most l =
+  high_half_most : lo ≤ a * half + half → lo ≤ a / 2 * (2 * half) + 2 * half
+  high_half_most l =
       let m : (a + 1) * half ≤ (2 * (a / 2) + 2) * half = mul-le-mul_right half
       (let q : a + 1 ≤ 2 * (a / 2) + 2 = omega arith in q) in
       omega arith
@@ -157,8 +157,8 @@ module _ (p lo hi half count g stop : ℕ) (at : At p lo hi half count g stop) w
         inside = omega arith;
         from = low_half at.a half lo at.from;
         before = high_half at.a half lo at.before;
-        to = low-half-less at.z half hi at.to;
-        behind = high-half-most at.z half hi at.behind;
+        to = low_half_less at.z half hi at.to;
+        behind = high_half_most at.z half hi at.behind;
       }
 
   -- a group of the level is one of those, or apart
@@ -205,8 +205,8 @@ module _ (p lo hi half count g stop : ℕ) (k : Power p) (few : p ≤ 4096) (at 
       let e = even_count count at.power (more p lo hi half count g stop at l) in
       (e.0, at_above p lo hi half count g stop at k few e.0 e.1 e.2 l)
 
-  pub above-few : 0 < g → (stop / 2 < p) × (2 * half ≤ p)
-  above-few l =
+  pub above_few : 0 < g → (stop / 2 < p) × (2 * half ≤ p)
+  above_few l =
       let e = even_count count at.power (more p lo hi half count g stop at l) in
       let c : ℕ = e.0 in
       let twice : count ≡ 2 * c = e.1 in
@@ -217,7 +217,7 @@ module _ (p lo hi half count g stop : ℕ) (k : Power p) (few : p ≤ 4096) (at 
       let some : 0 < c = here.level.some in
       let m : ℕ = count - 1 in
       let n : count - 1 + m + 1 < 2 * p =
-      sited-index p (count - 1 + m) (m * half) half (at.level.sited m (omega arith)) in
+      sited_index p (count - 1 + m) (m * half) half (at.level.sited m (omega arith)) in
       let i : (c - 1) * (2 * half) + 2 * half ≤ p = (here.level.sited (c - 1) (omega arith)).inside in
       (omega arith, omega arith)
 

@@ -12,7 +12,7 @@ use Rattle.summary_groups.specs.declared.Group.{Group}
 use Rattle.summary_groups.specs.Groups.{joined_of}
 use Rattle.summary.specs.Summary.{group_in}
 use Rattle.summary.specs.Walks.{with_group, halves_of, Decides}
-use Rattle.summary.proofs.Numbers.{in-with-same, in-with-other}
+use Rattle.summary.proofs.Numbers.{in_with_same, in_with_other}
 use Rattle.summary.proofs.Rebuilding.{equal}
 use Rattle.summary_write.specs.Climbs.{Joins, Stores}
 
@@ -23,13 +23,13 @@ none_stored aim s g stop l = record { still = λ h r. r; done = λ h a b. absurd
 -- one
 module _ (aim : ℕ → Group) (s : List ℕ) (g : ℕ) (x : Group) (l : 3 * g + 2 < length s) (e : x ≡ aim g) where
   there : (h : ℕ) → h ≡ g → group_in (with_group s g x) h ≡ aim h
-  there h q = subst (λ (i : ℕ). group_in (with_group s g x) i ≡ aim i) (sym q) (in-with-same s g x l ∙ e)
+  there h q = subst (λ (i : ℕ). group_in (with_group s g x) i ≡ aim i) (sym q) (in_with_same s g x l ∙ e)
 
-  pub one-stored : Stores aim s (with_group s g x) g (g + 1)
-  one-stored = record {
-    still = λ h r. ⊎_elim (λ q. there h q) (λ ne. in-with-other s g x h ne ∙ r) (equal h g);
+  pub one_stored : Stores aim s (with_group s g x) g (g + 1)
+  one_stored = record {
+    still = λ h r. ⊎_elim (λ q. there h q) (λ ne. in_with_other s g x h ne ∙ r) (equal h g);
     done = λ h a b. there h (omega arith);
-    other = λ h q. in-with-other s g x h (λ e. ⊎_elim (λ l. omega arith) (λ l. omega arith) q);
+    other = λ h q. in_with_other s g x h (λ e. ⊎_elim (λ l. omega arith) (λ l. omega arith) q);
   }
 
 -- one more

@@ -103,26 +103,26 @@ module _ (Slot Shape Outcome : Value) where
   }
 
   -- ---- what `find` is, and what it ensures
-  abbrev find-signature : Signature
-  find-signature = record {
+  abbrev find_signature : Signature
+  find_signature = record {
     lifetimes = 1;
     outlives = [];
     params = shr_slice 0 tt (λ _. Entry'.the_row) ∷ plain (λ _. u32) ∷ [];
     result = plain (λ _. (row_of Slot));
   }
 
-  abbrev find-ended : Ended
-  find-ended = record { signature = find-signature; kept = (yes, (yes, tt)) }
+  abbrev find_ended : Ended
+  find_ended = record { signature = find_signature; kept = (yes, (yes, tt)) }
 
-  abbrev find-Model : Type 0 → Type 0
-  find-Model X = List Entry → ℕ → X
+  abbrev find_model : Type 0 → Type 0
+  find_model X = List Entry → ℕ → X
 
-  module _ (find-out : find-Model (denotes Slot)) where
+  module _ (find-out : find_model (denotes Slot)) where
     abbrev find-says : List Entry → ℕ → (denotes Slot) → Type 0
     find-says a0 a1 r = r ≡ find-out a0 a1
 
     module _ {M : Type 1} (𝓤 : Ura M) where
-      abbrev find-clauses : Clauses 𝓤 find-ended
+      abbrev find-clauses : Clauses 𝓤 find_ended
       find-clauses κs a = record {
         ghost = Unit {0};
         requires = λ _. emp 𝓤;
@@ -131,11 +131,11 @@ module _ (Slot Shape Outcome : Value) where
 
       module _ (𝓛 : Logic 𝓤) where
         abbrev pub find-contract : Contract 𝓤
-        find-contract = triple_of 𝓛 find-signature (closing 𝓛 find-ended find-clauses)
+        find-contract = triple_of 𝓛 find_signature (closing 𝓛 find_ended find-clauses)
 
   -- ---- what `core` is, and what it ensures
-  abbrev core-signature : Signature
-  core-signature = record {
+  abbrev core_signature : Signature
+  core_signature = record {
     lifetimes = 3;
     outlives = [];
     params = plain (λ _. (row_of Shape)) ∷ plain (λ _. u32) ∷ shr_slice 0 tt (λ _. u64) ∷ shr_slice 1 tt (λ _. u8)
@@ -143,20 +143,20 @@ module _ (Slot Shape Outcome : Value) where
     result = plain (λ _. (row_of Outcome));
   }
 
-  abbrev core-ended : Ended
-  core-ended = record { signature = core-signature; kept = (yes, (yes, (yes, (yes, (yes, (yes, (yes, (yes, tt)))))))) }
+  abbrev core_ended : Ended
+  core_ended = record { signature = core_signature; kept = (yes, (yes, (yes, (yes, (yes, (yes, (yes, (yes, tt)))))))) }
 
-  abbrev core-Model : Type 0 → Type 0
-  core-Model X = (denotes Shape) → ℕ → List ℕ → List ℕ → (denotes Slot) → ℕ → ℕ → List ℕ → X
+  abbrev core_model : Type 0 → Type 0
+  core_model X = (denotes Shape) → ℕ → List ℕ → List ℕ → (denotes Slot) → ℕ → ℕ → List ℕ → X
 
-  module _ (core-out : core-Model (denotes Outcome)) (core-x-buffer : core-Model (List ℕ)) where
+  module _ (core-out : core_model (denotes Outcome)) (core-x-buffer : core_model (List ℕ)) where
     abbrev core-says : (denotes Shape) → ℕ → List ℕ → List ℕ → (denotes Slot) → ℕ → ℕ → List ℕ → (denotes Outcome) → List ℕ
         → Type 0
     core-says a0 a1 a2 a3 a4 a5 a6 a7 r b7 = (r ≡ core-out a0 a1 a2 a3 a4 a5 a6 a7) × (b7
         ≡ core-x-buffer a0 a1 a2 a3 a4 a5 a6 a7)
 
     module _ {M : Type 1} (𝓤 : Ura M) where
-      abbrev core-clauses : Clauses 𝓤 core-ended
+      abbrev core-clauses : Clauses 𝓤 core_ended
       core-clauses κs a = record {
         ghost = Unit {0};
         requires = λ _. emp 𝓤;
@@ -167,10 +167,10 @@ module _ (Slot Shape Outcome : Value) where
 
       module _ (𝓛 : Logic 𝓤) where
         abbrev pub core-contract : Contract 𝓤
-        core-contract = triple_of 𝓛 core-signature (closing 𝓛 core-ended core-clauses)
+        core-contract = triple_of 𝓛 core_signature (closing 𝓛 core_ended core-clauses)
 
-  module _ (#find #core : Name) (find-out : find-Model (denotes Slot)) (core-out : core-Model (denotes Outcome))
-      (core-x-buffer : core-Model (List ℕ)) where
+  module _ (#find #core : Name) (find-out : find_model (denotes Slot)) (core-out : core_model (denotes Outcome))
+      (core-x-buffer : core_model (List ℕ)) where
     -- ---- what the chain gives, call by call
     module _ (x-self : (denotes Shape)) (x-role : ℕ) (x-map : List ℕ) (x-catalogue : List Entry) (x-card : List ℕ) (x-sheet : ℕ)
         (x-place : ℕ) (x-buffer : List ℕ) where
@@ -410,9 +410,9 @@ module _ (Slot Shape Outcome : Value) where
           (and_then ! (load ! (from ! (stop !)) (look ! 22 refl)) (and_then ! (load ! (from ! (stop !)) (look ! 18 refl))
           (no_more !))) (λ w-find.
           use1 𝓛 (later (some (λ (r : (denotes Slot)). ((‵ (flft κ₁ q₁) ⊛ ‵ ftrue) ⊛ ‵ ((row_of Slot).own_val r (w-find ∷ [])))
-          ⊛ raw (ensured 𝓛 find-ended (find-clauses find-out 𝓤) (κ₁, tt) (find-args) tt r)))) (id⊢ 𝓤 _) $
+          ⊛ raw (ensured 𝓛 find_ended (find-clauses find-out 𝓤) (κ₁, tt) (find-args) tt r)))) (id⊢ 𝓤 _) $
           await ! tt $ pick ! (λ r-find. split ! $ bring ! (1 ∷ []) $
-          use1 𝓛 (some (λ (zs-find : Unit {0} × (Unit {0} × Unit {0})). ‵ (lasts find-ended (κ₁, tt) (find-args) zs-find)
+          use1 𝓛 (some (λ (zs-find : Unit {0} × (Unit {0} × Unit {0})). ‵ (lasts find_ended (κ₁, tt) (find-args) zs-find)
           ⊛ raw (fact 𝓤 (find-says find-out x-catalogue.now x-sheet r-find)))) (id⊢ 𝓤 _) $
           pick ! (λ zs-find. split ! $ bring ! (1 ∷ []) $
           heard ! (find-says find-out x-catalogue.now x-sheet r-find) (λ e-find. fparts 𝓛 (_ ∷ _ ∷ []) _ $
@@ -449,11 +449,11 @@ module _ (Slot Shape Outcome : Value) where
           (and_then ! (load ! (from ! (stop !)) (look ! 14 refl)) (and_then ! (load ! (from ! (stop !)) (look ! 6 refl))
           (no_more !))))))))) (λ w-core.
           use1 𝓛 (later (some (λ (r : (denotes Outcome)). ((‵ (flft κ₀ q₀) ⊛ ‵ (flft κ₂ q₂) ⊛ ‵ (flft (ν₀-core ∷ []) full_share)
-          ⊛ ‵ ftrue) ⊛ ‵ ((row_of Outcome).own_val r (w-core ∷ []))) ⊛ raw (ensured 𝓛 core-ended
+          ⊛ ‵ ftrue) ⊛ ‵ ((row_of Outcome).own_val r (w-core ∷ []))) ⊛ raw (ensured 𝓛 core_ended
           (core-clauses core-out core-x-buffer 𝓤) (κ₀, (κ₂, (ν₀-core ∷ [], tt))) (core-args δ₀-core) tt r)))) (id⊢ 𝓤 _) $
           await ! tt $ pick ! (λ r-core. split ! $ bring ! (1 ∷ []) $
           use1 𝓛 (some (λ (zs-core : Unit {0} × (Unit {0} × (Unit {0} × (Unit {0} × (Unit {0}
-          × (Unit {0} × (Unit {0} × (List ℕ × Unit {0})))))))). ‵ (lasts core-ended (κ₀, (κ₂, (ν₀-core ∷ [], tt)))
+          × (Unit {0} × (Unit {0} × (List ℕ × Unit {0})))))))). ‵ (lasts core_ended (κ₀, (κ₂, (ν₀-core ∷ [], tt)))
           (core-args δ₀-core) zs-core) ⊛ raw (fact 𝓤 (core-says core-out core-x-buffer x-self x-role x-map.now x-card.now
           v-slot x-sheet x-place x-buffer.now r-core zs-core.1.1.1.1.1.1.1.0)))) (id⊢ 𝓤 _) $
           pick ! (λ zs-core. split ! $ bring ! (1 ∷ []) $

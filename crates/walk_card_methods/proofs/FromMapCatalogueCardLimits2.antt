@@ -101,26 +101,26 @@ module _ (Slot Shape Outcome : Value) where
   }
 
   -- ---- what `find` is, and what it ensures
-  abbrev find-signature : Signature
-  find-signature = record {
+  abbrev find_signature : Signature
+  find_signature = record {
     lifetimes = 1;
     outlives = [];
     params = shr_slice 0 tt (λ _. Entry'.the_row) ∷ plain (λ _. u32) ∷ [];
     result = plain (λ _. (row_of Slot));
   }
 
-  abbrev find-ended : Ended
-  find-ended = record { signature = find-signature; kept = (yes, (yes, tt)) }
+  abbrev find_ended : Ended
+  find_ended = record { signature = find_signature; kept = (yes, (yes, tt)) }
 
-  abbrev find-Model : Type 0 → Type 0
-  find-Model X = List Entry → ℕ → X
+  abbrev find_model : Type 0 → Type 0
+  find_model X = List Entry → ℕ → X
 
-  module _ (find-out : find-Model (denotes Slot)) where
+  module _ (find-out : find_model (denotes Slot)) where
     abbrev find-says : List Entry → ℕ → (denotes Slot) → Type 0
     find-says a0 a1 r = r ≡ find-out a0 a1
 
     module _ {M : Type 1} (𝓤 : Ura M) where
-      abbrev find-clauses : Clauses 𝓤 find-ended
+      abbrev find-clauses : Clauses 𝓤 find_ended
       find-clauses κs a = record {
         ghost = Unit {0};
         requires = λ _. emp 𝓤;
@@ -129,29 +129,29 @@ module _ (Slot Shape Outcome : Value) where
 
       module _ (𝓛 : Logic 𝓤) where
         abbrev pub find-contract : Contract 𝓤
-        find-contract = triple_of 𝓛 find-signature (closing 𝓛 find-ended find-clauses)
+        find-contract = triple_of 𝓛 find_signature (closing 𝓛 find_ended find-clauses)
 
   -- ---- what `held_by` is, and what it ensures
-  abbrev held-by-signature : Signature
-  held-by-signature = record {
+  abbrev held_by_signature : Signature
+  held_by_signature = record {
     lifetimes = 1;
     outlives = [];
     params = shr_slice 0 tt (λ _. Entry'.the_row) ∷ plain (λ _. u32) ∷ [];
     result = plain (λ _. u64);
   }
 
-  abbrev held-by-ended : Ended
-  held-by-ended = record { signature = held-by-signature; kept = (yes, (yes, tt)) }
+  abbrev held_by_ended : Ended
+  held_by_ended = record { signature = held_by_signature; kept = (yes, (yes, tt)) }
 
-  abbrev held-by-Model : Type 0 → Type 0
-  held-by-Model X = List Entry → ℕ → X
+  abbrev held_by_model : Type 0 → Type 0
+  held_by_model X = List Entry → ℕ → X
 
-  module _ (held-by-out : held-by-Model ℕ) where
+  module _ (held-by-out : held_by_model ℕ) where
     abbrev held-by-says : List Entry → ℕ → ℕ → Type 0
     held-by-says a0 a1 r = r ≡ held-by-out a0 a1
 
     module _ {M : Type 1} (𝓤 : Ura M) where
-      abbrev held-by-clauses : Clauses 𝓤 held-by-ended
+      abbrev held-by-clauses : Clauses 𝓤 held_by_ended
       held-by-clauses κs a = record {
         ghost = Unit {0};
         requires = λ _. emp 𝓤;
@@ -160,11 +160,11 @@ module _ (Slot Shape Outcome : Value) where
 
       module _ (𝓛 : Logic 𝓤) where
         abbrev pub held-by-contract : Contract 𝓤
-        held-by-contract = triple_of 𝓛 held-by-signature (closing 𝓛 held-by-ended held-by-clauses)
+        held-by-contract = triple_of 𝓛 held_by_signature (closing 𝓛 held_by_ended held-by-clauses)
 
   -- ---- what `core` is, and what it ensures
-  abbrev core-signature : Signature
-  core-signature = record {
+  abbrev core_signature : Signature
+  core_signature = record {
     lifetimes = 3;
     outlives = [];
     params = plain (λ _. (row_of Shape)) ∷ plain (λ _. u32) ∷ shr_slice 0 tt (λ _. u64) ∷ shr_slice 1 tt (λ _. u8)
@@ -173,19 +173,19 @@ module _ (Slot Shape Outcome : Value) where
     result = plain (λ _. (row_of Outcome));
   }
 
-  abbrev core-ended : Ended
-  core-ended = record { signature = core-signature; kept = (yes, (yes, (yes, (yes, (yes, (yes, (yes, (yes, (yes, tt))))))))) }
+  abbrev core_ended : Ended
+  core_ended = record { signature = core_signature; kept = (yes, (yes, (yes, (yes, (yes, (yes, (yes, (yes, (yes, tt))))))))) }
 
-  abbrev core-Model : Type 0 → Type 0
-  core-Model X = (denotes Shape) → ℕ → List ℕ → List ℕ → (List ℕ) → (denotes Slot) → ℕ → ℕ → ℕ → X
+  abbrev core_model : Type 0 → Type 0
+  core_model X = (denotes Shape) → ℕ → List ℕ → List ℕ → (List ℕ) → (denotes Slot) → ℕ → ℕ → ℕ → X
 
-  module _ (core-out : core-Model (denotes Outcome)) where
+  module _ (core-out : core_model (denotes Outcome)) where
     abbrev core-says : (denotes Shape) → ℕ → List ℕ → List ℕ → (List ℕ) → (denotes Slot) → ℕ → ℕ → ℕ → (denotes Outcome)
         → Type 0
     core-says a0 a1 a2 a3 a4 a5 a6 a7 a8 r = r ≡ core-out a0 a1 a2 a3 a4 a5 a6 a7 a8
 
     module _ {M : Type 1} (𝓤 : Ura M) where
-      abbrev core-clauses : Clauses 𝓤 core-ended
+      abbrev core-clauses : Clauses 𝓤 core_ended
       core-clauses κs a = record {
         ghost = Unit {0};
         requires = λ _. emp 𝓤;
@@ -195,10 +195,10 @@ module _ (Slot Shape Outcome : Value) where
 
       module _ (𝓛 : Logic 𝓤) where
         abbrev pub core-contract : Contract 𝓤
-        core-contract = triple_of 𝓛 core-signature (closing 𝓛 core-ended core-clauses)
+        core-contract = triple_of 𝓛 core_signature (closing 𝓛 core_ended core-clauses)
 
-  module _ (#find #held-by #core : Name) (find-out : find-Model (denotes Slot)) (held-by-out : held-by-Model ℕ)
-      (core-out : core-Model (denotes Outcome)) where
+  module _ (#find #held-by #core : Name) (find-out : find_model (denotes Slot)) (held-by-out : held_by_model ℕ)
+      (core-out : core_model (denotes Outcome)) where
     -- ---- what the chain gives, call by call
     module _ (x-self : (denotes Shape)) (x-role : ℕ) (x-map : List ℕ) (x-catalogue : List Entry) (x-card : List ℕ)
         (x-limits : (List ℕ)) (x-sheet : ℕ) (x-k : ℕ) where
@@ -452,9 +452,9 @@ module _ (Slot Shape Outcome : Value) where
           (and_then ! (load ! (from ! (stop !)) (look ! 20 refl)) (and_then ! (load ! (from ! (stop !)) (look ! 14 refl))
           (no_more !))) (λ w-find.
           use1 𝓛 (later (some (λ (r : (denotes Slot)). ((‵ (flft κ₁ q₁) ⊛ ‵ ftrue) ⊛ ‵ ((row_of Slot).own_val r (w-find ∷ [])))
-          ⊛ raw (ensured 𝓛 find-ended (find-clauses find-out 𝓤) (κ₁, tt) (find-args) tt r)))) (id⊢ 𝓤 _) $
+          ⊛ raw (ensured 𝓛 find_ended (find-clauses find-out 𝓤) (κ₁, tt) (find-args) tt r)))) (id⊢ 𝓤 _) $
           await ! tt $ pick ! (λ r-find. split ! $ bring ! (1 ∷ []) $
-          use1 𝓛 (some (λ (zs-find : Unit {0} × (Unit {0} × Unit {0})). ‵ (lasts find-ended (κ₁, tt) (find-args) zs-find)
+          use1 𝓛 (some (λ (zs-find : Unit {0} × (Unit {0} × Unit {0})). ‵ (lasts find_ended (κ₁, tt) (find-args) zs-find)
           ⊛ raw (fact 𝓤 (find-says find-out x-catalogue.now x-sheet r-find)))) (id⊢ 𝓤 _) $
           pick ! (λ zs-find. split ! $ bring ! (1 ∷ []) $
           heard ! (find-says find-out x-catalogue.now x-sheet r-find) (λ e-find. fparts 𝓛 (_ ∷ _ ∷ []) _ $
@@ -475,9 +475,9 @@ module _ (Slot Shape Outcome : Value) where
           (and_then ! (load ! (from ! (stop !)) (look ! 20 refl)) (and_then ! (load ! (from ! (stop !)) (look ! 14 refl))
           (no_more !))) (λ w-held-by.
           use1 𝓛 (later (some (λ (r : ℕ). ((‵ (flft κ₁ q₁) ⊛ ‵ ftrue) ⊛ ‵ (u64.own_val r (w-held-by ∷ [])))
-          ⊛ raw (ensured 𝓛 held-by-ended (held-by-clauses held-by-out 𝓤) (κ₁, tt) (held-by-args) tt r)))) (id⊢ 𝓤 _) $
+          ⊛ raw (ensured 𝓛 held_by_ended (held-by-clauses held-by-out 𝓤) (κ₁, tt) (held-by-args) tt r)))) (id⊢ 𝓤 _) $
           await ! tt $ pick ! (λ r-held-by. split ! $ bring ! (1 ∷ []) $
-          use1 𝓛 (some (λ (zs-held-by : Unit {0} × (Unit {0} × Unit {0})). ‵ (lasts held-by-ended (κ₁, tt) (held-by-args)
+          use1 𝓛 (some (λ (zs-held-by : Unit {0} × (Unit {0} × Unit {0})). ‵ (lasts held_by_ended (κ₁, tt) (held-by-args)
           zs-held-by) ⊛ raw (fact 𝓤 (held-by-says held-by-out x-catalogue.now x-sheet r-held-by)))) (id⊢ 𝓤 _) $
           pick ! (λ zs-held-by. split ! $ bring ! (1 ∷ []) $
           heard ! (held-by-says held-by-out x-catalogue.now x-sheet r-held-by) (λ e-held-by.
@@ -509,11 +509,11 @@ module _ (Slot Shape Outcome : Value) where
           (and_then ! (load ! (from ! (stop !)) (look ! 6 refl)) (and_then ! (load ! (from ! (stop !)) (look ! 12 refl))
           (and_then ! (load ! (from ! (stop !)) (look ! 10 refl)) (no_more !)))))))))) (λ w-core.
           use1 𝓛 (later (some (λ (r : (denotes Outcome)). ((‵ (flft κ₀ q₀) ⊛ ‵ (flft κ₂ q₂) ⊛ ‵ (flft κ₃ q₃) ⊛ ‵ ftrue)
-          ⊛ ‵ ((row_of Outcome).own_val r (w-core ∷ []))) ⊛ raw (ensured 𝓛 core-ended (core-clauses core-out 𝓤)
+          ⊛ ‵ ((row_of Outcome).own_val r (w-core ∷ []))) ⊛ raw (ensured 𝓛 core_ended (core-clauses core-out 𝓤)
           (κ₀, (κ₂, (κ₃, tt))) (core-args) tt r)))) (id⊢ 𝓤 _) $
           await ! tt $ pick ! (λ r-core. split ! $ bring ! (1 ∷ []) $
           use1 𝓛 (some (λ (zs-core : Unit {0} × (Unit {0} × (Unit {0} × (Unit {0} × (Unit {0}
-          × (Unit {0} × (Unit {0} × (Unit {0} × (Unit {0} × Unit {0}))))))))). ‵ (lasts core-ended (κ₀, (κ₂, (κ₃, tt)))
+          × (Unit {0} × (Unit {0} × (Unit {0} × (Unit {0} × Unit {0}))))))))). ‵ (lasts core_ended (κ₀, (κ₂, (κ₃, tt)))
           (core-args) zs-core) ⊛ raw (fact 𝓤 (core-says core-out x-self x-role x-map.now x-card.now x-limits.now v-slot
           v-held x-sheet x-k r-core)))) (id⊢ 𝓤 _) $
           pick ! (λ zs-core. split ! $ bring ! (1 ∷ []) $

@@ -116,26 +116,26 @@ module _ (Shape Outcome : Value) where
   }
 
   -- ---- what `blocks-of` is, and what it ensures
-  abbrev blocks-of-signature : Signature
-  blocks-of-signature = record {
+  abbrev blocks_of_signature : Signature
+  blocks_of_signature = record {
     lifetimes = 0;
     outlives = [];
     params = plain (λ _. (row_of Shape)) ∷ [];
     result = plain (λ _. u32);
   }
 
-  abbrev blocks-of-ended : Ended
-  blocks-of-ended = record { signature = blocks-of-signature; kept = (yes, tt) }
+  abbrev blocks_of_ended : Ended
+  blocks_of_ended = record { signature = blocks_of_signature; kept = (yes, tt) }
 
-  abbrev blocks-of-Model : Type 0 → Type 0
-  blocks-of-Model X = (denotes Shape) → X
+  abbrev blocks_of_model : Type 0 → Type 0
+  blocks_of_model X = (denotes Shape) → X
 
-  module _ (blocks-of-out : blocks-of-Model ℕ) where
+  module _ (blocks-of-out : blocks_of_model ℕ) where
     abbrev blocks-of-says : (denotes Shape) → ℕ → Type 0
     blocks-of-says a0 r = r ≡ blocks-of-out a0
 
     module _ {M : Type 1} (𝓤 : Ura M) where
-      abbrev blocks-of-clauses : Clauses 𝓤 blocks-of-ended
+      abbrev blocks-of-clauses : Clauses 𝓤 blocks_of_ended
       blocks-of-clauses κs a = record {
         ghost = Unit {0};
         requires = λ _. emp 𝓤;
@@ -144,29 +144,29 @@ module _ (Shape Outcome : Value) where
 
       module _ (𝓛 : Logic 𝓤) where
         abbrev pub blocks-of-contract : Contract 𝓤
-        blocks-of-contract = triple_of 𝓛 blocks-of-signature (closing 𝓛 blocks-of-ended blocks-of-clauses)
+        blocks-of-contract = triple_of 𝓛 blocks_of_signature (closing 𝓛 blocks_of_ended blocks-of-clauses)
 
   -- ---- what `Free-of` is, and what it ensures
-  abbrev free-of-signature : Signature
-  free-of-signature = record {
+  abbrev free_of_signature : Signature
+  free_of_signature = record {
     lifetimes = 0;
     outlives = [];
     params = plain (λ _. (row_of Shape)) ∷ [];
     result = plain (λ _. u32);
   }
 
-  abbrev free-of-ended : Ended
-  free-of-ended = record { signature = free-of-signature; kept = (yes, tt) }
+  abbrev free_of_ended : Ended
+  free_of_ended = record { signature = free_of_signature; kept = (yes, tt) }
 
-  abbrev free-of-Model : Type 0 → Type 0
-  free-of-Model X = (denotes Shape) → X
+  abbrev free_of_model : Type 0 → Type 0
+  free_of_model X = (denotes Shape) → X
 
-  module _ (free-of-out : free-of-Model ℕ) where
+  module _ (free-of-out : free_of_model ℕ) where
     abbrev free-of-says : (denotes Shape) → ℕ → Type 0
     free-of-says a0 r = r ≡ free-of-out a0
 
     module _ {M : Type 1} (𝓤 : Ura M) where
-      abbrev free-of-clauses : Clauses 𝓤 free-of-ended
+      abbrev free-of-clauses : Clauses 𝓤 free_of_ended
       free-of-clauses κs a = record {
         ghost = Unit {0};
         requires = λ _. emp 𝓤;
@@ -175,29 +175,29 @@ module _ (Shape Outcome : Value) where
 
       module _ (𝓛 : Logic 𝓤) where
         abbrev pub free-of-contract : Contract 𝓤
-        free-of-contract = triple_of 𝓛 free-of-signature (closing 𝓛 free-of-ended free-of-clauses)
+        free-of-contract = triple_of 𝓛 free_of_signature (closing 𝓛 free_of_ended free-of-clauses)
 
   -- ---- what `nothing-else` is, and what it ensures
-  abbrev nothing-else-signature : Signature
-  nothing-else-signature = record {
+  abbrev nothing_else_signature : Signature
+  nothing_else_signature = record {
     lifetimes = 0;
     outlives = [];
     params = plain (λ _. (row_of Shape)) ∷ [];
     result = plain (λ _. Boolean);
   }
 
-  abbrev nothing-else-ended : Ended
-  nothing-else-ended = record { signature = nothing-else-signature; kept = (yes, tt) }
+  abbrev nothing_else_ended : Ended
+  nothing_else_ended = record { signature = nothing_else_signature; kept = (yes, tt) }
 
-  abbrev nothing-else-Model : Type 0 → Type 0
-  nothing-else-Model X = (denotes Shape) → X
+  abbrev nothing_else_model : Type 0 → Type 0
+  nothing_else_model X = (denotes Shape) → X
 
-  module _ (nothing-else-out : nothing-else-Model Bool) where
+  module _ (nothing-else-out : nothing_else_model Bool) where
     abbrev nothing-else-says : (denotes Shape) → Bool → Type 0
     nothing-else-says a0 r = r ≡ nothing-else-out a0
 
     module _ {M : Type 1} (𝓤 : Ura M) where
-      abbrev nothing-else-clauses : Clauses 𝓤 nothing-else-ended
+      abbrev nothing-else-clauses : Clauses 𝓤 nothing_else_ended
       nothing-else-clauses κs a = record {
         ghost = Unit {0};
         requires = λ _. emp 𝓤;
@@ -206,11 +206,11 @@ module _ (Shape Outcome : Value) where
 
       module _ (𝓛 : Logic 𝓤) where
         abbrev pub nothing-else-contract : Contract 𝓤
-        nothing-else-contract = triple_of 𝓛 nothing-else-signature (closing 𝓛 nothing-else-ended nothing-else-clauses)
+        nothing-else-contract = triple_of 𝓛 nothing_else_signature (closing 𝓛 nothing_else_ended nothing-else-clauses)
 
   -- ---- what `close` is, and what it ensures
-  abbrev close-signature : Signature
-  close-signature = record {
+  abbrev close_signature : Signature
+  close_signature = record {
     lifetimes = 4;
     outlives = [];
     params = plain (λ _. u32) ∷ plain (λ _. u32) ∷ plain (λ _. u32) ∷ plain (λ _. Boolean) ∷ mut_slice 0 tt (λ _. u64)
@@ -218,14 +218,14 @@ module _ (Shape Outcome : Value) where
     result = plain (λ _. u32);
   }
 
-  abbrev close-ended : Ended
-  close-ended = record { signature = close-signature; kept = (yes, (yes, (yes, (yes, (yes, (yes, (yes, (yes, tt)))))))) }
+  abbrev close_ended : Ended
+  close_ended = record { signature = close_signature; kept = (yes, (yes, (yes, (yes, (yes, (yes, (yes, (yes, tt)))))))) }
 
-  abbrev close-Model : Type 0 → Type 0
-  close-Model X = ℕ → ℕ → ℕ → Bool → List ℕ → List Entry → List ℕ → List ℕ → X
+  abbrev close_model : Type 0 → Type 0
+  close_model X = ℕ → ℕ → ℕ → Bool → List ℕ → List Entry → List ℕ → List ℕ → X
 
-  module _ (close-out : close-Model ℕ) (close-x-map : close-Model (List ℕ)) (close-x-catalogue : close-Model (List Entry))
-      (close-x-card : close-Model (List ℕ)) (close-x-scratch : close-Model (List ℕ)) where
+  module _ (close-out : close_model ℕ) (close-x-map : close_model (List ℕ)) (close-x-catalogue : close_model (List Entry))
+      (close-x-card : close_model (List ℕ)) (close-x-scratch : close_model (List ℕ)) where
     abbrev close-says : ℕ → ℕ → ℕ → Bool → List ℕ → List Entry → List ℕ → List ℕ → ℕ → List ℕ → List Entry → List ℕ → List ℕ
         → Type 0
     close-says a0 a1 a2 a3 a4 a5 a6 a7 r b4 b5 b6 b7 = (r ≡ close-out a0 a1 a2 a3 a4 a5 a6 a7)
@@ -233,7 +233,7 @@ module _ (Shape Outcome : Value) where
         × (b6 ≡ close-x-card a0 a1 a2 a3 a4 a5 a6 a7) × (b7 ≡ close-x-scratch a0 a1 a2 a3 a4 a5 a6 a7)
 
     module _ {M : Type 1} (𝓤 : Ura M) where
-      abbrev close-clauses : Clauses 𝓤 close-ended
+      abbrev close-clauses : Clauses 𝓤 close_ended
       close-clauses κs a = record {
         ghost = Unit {0};
         requires = λ _. emp 𝓤;
@@ -244,30 +244,30 @@ module _ (Shape Outcome : Value) where
       }
 
       module _ (𝓛 : Logic 𝓤) where
-        abbrev pub close-contract : Contract 𝓤
-        close-contract = triple_of 𝓛 close-signature (closing 𝓛 close-ended close-clauses)
+        abbrev pub close_contract : Contract 𝓤
+        close_contract = triple_of 𝓛 close_signature (closing 𝓛 close_ended close-clauses)
 
-  -- ---- what `save-outcome` is, and what it ensures
-  abbrev save-outcome-signature : Signature
-  save-outcome-signature = record {
+  -- ---- what `save_outcome_lem` is, and what it ensures
+  abbrev save_outcome_signature : Signature
+  save_outcome_signature = record {
     lifetimes = 0;
     outlives = [];
     params = plain (λ _. (row_of Shape)) ∷ plain (λ _. u32) ∷ [];
     result = plain (λ _. (row_of Outcome));
   }
 
-  abbrev save-outcome-ended : Ended
-  save-outcome-ended = record { signature = save-outcome-signature; kept = (yes, (yes, tt)) }
+  abbrev save_outcome_ended : Ended
+  save_outcome_ended = record { signature = save_outcome_signature; kept = (yes, (yes, tt)) }
 
-  abbrev save-outcome-Model : Type 0 → Type 0
-  save-outcome-Model X = (denotes Shape) → ℕ → X
+  abbrev save_outcome_model : Type 0 → Type 0
+  save_outcome_model X = (denotes Shape) → ℕ → X
 
-  module _ (save-outcome-out : save-outcome-Model (denotes Outcome)) where
+  module _ (save-outcome-out : save_outcome_model (denotes Outcome)) where
     abbrev save-outcome-says : (denotes Shape) → ℕ → (denotes Outcome) → Type 0
     save-outcome-says a0 a1 r = r ≡ save-outcome-out a0 a1
 
     module _ {M : Type 1} (𝓤 : Ura M) where
-      abbrev save-outcome-clauses : Clauses 𝓤 save-outcome-ended
+      abbrev save-outcome-clauses : Clauses 𝓤 save_outcome_ended
       save-outcome-clauses κs a = record {
         ghost = Unit {0};
         requires = λ _. emp 𝓤;
@@ -276,12 +276,12 @@ module _ (Shape Outcome : Value) where
 
       module _ (𝓛 : Logic 𝓤) where
         abbrev pub save-outcome-contract : Contract 𝓤
-        save-outcome-contract = triple_of 𝓛 save-outcome-signature (closing 𝓛 save-outcome-ended save-outcome-clauses)
+        save-outcome-contract = triple_of 𝓛 save_outcome_signature (closing 𝓛 save_outcome_ended save-outcome-clauses)
 
-  module _ (#blocks-of #free-of #nothing-else #close #save-outcome : Name) (blocks-of-out : blocks-of-Model ℕ)
-      (free-of-out : free-of-Model ℕ) (nothing-else-out : nothing-else-Model Bool) (close-out : close-Model ℕ)
-      (close-x-map : close-Model (List ℕ)) (close-x-catalogue : close-Model (List Entry)) (close-x-card : close-Model (List ℕ))
-      (close-x-scratch : close-Model (List ℕ)) (save-outcome-out : save-outcome-Model (denotes Outcome)) where
+  module _ (#blocks-of #free-of #nothing-else #close #save-outcome : Name) (blocks-of-out : blocks_of_model ℕ)
+      (free-of-out : free_of_model ℕ) (nothing-else-out : nothing_else_model Bool) (close-out : close_model ℕ)
+      (close-x-map : close_model (List ℕ)) (close-x-catalogue : close_model (List Entry)) (close-x-card : close_model (List ℕ))
+      (close-x-scratch : close_model (List ℕ)) (save-outcome-out : save_outcome_model (denotes Outcome)) where
     -- ---- what the chain gives, call by call
     module _ (x-self : (denotes Shape)) (x-role : ℕ) (x-map : List ℕ) (x-catalogue : List Entry) (x-card : List ℕ)
         (x-scratch : List ℕ) where
@@ -502,7 +502,7 @@ module _ (Shape Outcome : Value) where
       )
 
       abbrev to-close : (ν₀-close ν₁-close ν₂-close ν₃-close : ℕ) (δ₀-close δ₁-close δ₂-close δ₃-close : GName)
-          → (close-contract close-out close-x-map close-x-catalogue close-x-card close-x-scratch 𝓤 𝓛).Ghost
+          → (close_contract close-out close-x-map close-x-catalogue close-x-card close-x-scratch 𝓤 𝓛).Ghost
       to-close ν₀-close ν₁-close ν₂-close ν₃-close δ₀-close δ₁-close δ₂-close δ₃-close
           = (
             (
@@ -532,7 +532,7 @@ module _ (Shape Outcome : Value) where
           ∷ ‵ ((MutSlice (named 1) (ν₁-close ∷ []) Entry'.the_row).own_val (at-x-catalogue δ₁-close x-catalogue.now)
           (s-x-catalogue ∷ [])) ∷ ‵ ((MutSlice (named 2) (ν₂-close ∷ []) u8).own_val (at-x-card δ₂-close x-card.now)
           (s-x-card ∷ [])) ∷ ‵ ((MutSlice (named 3) (ν₃-close ∷ []) u64).own_val (at-x-scratch δ₃-close x-scratch.now)
-          (s-x-scratch ∷ [])) ∷ [])) ((close-contract close-out close-x-map close-x-catalogue close-x-card close-x-scratch 𝓤 𝓛).pre (to-close ν₀-close ν₁-close ν₂-close ν₃-close δ₀-close δ₁-close δ₂-close δ₃-close))
+          (s-x-scratch ∷ [])) ∷ [])) ((close_contract close-out close-x-map close-x-catalogue close-x-card close-x-scratch 𝓤 𝓛).pre (to-close ν₀-close ν₁-close ν₂-close ν₃-close δ₀-close δ₁-close δ₂-close δ₃-close))
       goes_close ν₀-close ν₁-close ν₂-close ν₃-close δ₀-close δ₁-close δ₂-close δ₃-close is-v-n is-v-free is-v-fits =
           qed 𝓛 (‵ (flft (ν₀-close ∷ []) full_share) ∷ ‵ (flft (ν₁-close ∷ []) full_share) ∷ ‵ (flft (ν₂-close ∷ []) full_share)
           ∷ ‵ (flft (ν₃-close ∷ []) full_share) ∷ ‵ ((MutSlice (named 0) (ν₀-close ∷ []) u64).own_val (at-x-map δ₀-close x-map.now)
@@ -548,7 +548,7 @@ module _ (Shape Outcome : Value) where
           owned ! u32 (Is u32) (uint_Makes 𝓛 w32) x-role _ is-x-role $ fjoin ! $ bring ! (1 ∷ 0 ∷ []) $ join ! $
           frame ! $ done !
 
-      -- ---- the caller has what `save-outcome` asks
+      -- ---- the caller has what `save_outcome_lem` asks
       abbrev save-outcome-args : (denotes Shape) × (ℕ × Unit {0})
       save-outcome-args = (x-self, (v-number, tt))
 
@@ -571,7 +571,7 @@ module _ (Shape Outcome : Value) where
           ∷ ‵ ((MutSlice (named 2) κ₂ u8).own_val (at-x-card x-card.name z-close-x-card) (s-x-card ∷ [])) ∷ ‵ (flft κ₂ q₂)
           ∷ ‵ ((MutSlice (named 3) κ₃ u64).own_val (at-x-scratch x-scratch.name z-close-x-scratch) (s-x-scratch ∷ []))
           ∷ ‵ (flft κ₃ q₃) ∷ [])) (Post m-v-result)
-      exits is l-x-map l-x-catalogue l-x-card l-x-scratch =
+      exits is l-x-map l_x_catalogue l_x_card l_x_scratch =
           qed 𝓛 (‵ ((MutSlice (named 0) κ₀ u64).own_val (at-x-map x-map.name z-close-x-map) (s-x-map ∷ [])) ∷ ‵ (flft κ₀ q₀)
           ∷ ‵ ((MutSlice (named 1) κ₁ Entry'.the_row).own_val (at-x-catalogue x-catalogue.name z-close-x-catalogue)
           (s-x-catalogue ∷ [])) ∷ ‵ (flft κ₁ q₁) ∷ ‵ ((MutSlice (named 2) κ₂ u8).own_val (at-x-card x-card.name z-close-x-card)
@@ -579,7 +579,7 @@ module _ (Shape Outcome : Value) where
           z-close-x-scratch) (s-x-scratch ∷ [])) ∷ ‵ (flft κ₃ q₃) ∷ []) ∵
           suffices ! _ (ends_at 𝓛 ended stayed (clauses 𝓤) bound m-v-result v-result
           (tt, (tt, (z-close-x-map, (z-close-x-catalogue, (z-close-x-card, (z-close-x-scratch, tt))))))
-          (tt, (tt, (l-x-map, (l-x-catalogue, (l-x-card, (l-x-scratch, tt))))))) $
+          (tt, (tt, (l-x-map, (l_x_catalogue, (l_x_card, (l_x_scratch, tt))))))) $
           says ! (refl, refl, refl, refl, refl) $ nothing ! $ bring ! (2 ∷ 3 ∷ 4 ∷ 5 ∷ 0 ∷ []) $ group ! 5 $ frame ! $
           nothing ! $ bring ! (4 ∷ 0 ∷ []) $ fjoin ! $ bring ! (3 ∷ 0 ∷ []) $ fjoin ! $ bring ! (2 ∷ 0 ∷ []) $
           fjoin ! $ bring ! (1 ∷ 0 ∷ []) $ fjoin ! $ owned ! u32 (Is u32) (uint_Makes 𝓛 w32) x-role _ is-x-role $
@@ -590,7 +590,7 @@ module _ (Shape Outcome : Value) where
       -- ---- the walk
       walk : (𝓣 : Tables 𝓤 H) → Triple 𝓤 (𝓣.C #blocks-of) (blocks-of-contract blocks-of-out 𝓤 𝓛)
           → Triple 𝓤 (𝓣.C #free-of) (free-of-contract free-of-out 𝓤 𝓛) → Triple 𝓤 (𝓣.C #nothing-else)
-          (nothing-else-contract nothing-else-out 𝓤 𝓛) → Triple 𝓤 (𝓣.C #close) (close-contract close-out close-x-map
+          (nothing-else-contract nothing-else-out 𝓤 𝓛) → Triple 𝓤 (𝓣.C #close) (close_contract close-out close-x-map
           close-x-catalogue close-x-card close-x-scratch 𝓤 𝓛) → Triple 𝓤 (𝓣.C #save-outcome)
           (save-outcome-contract save-outcome-out 𝓤 𝓛) → ent 𝓤 (on_entry 𝓛 signature (κ₀, (κ₁, (κ₂, (κ₃, tt))))
           (q₀, (q₁, (q₂, (q₃, tt)))) args vals)
@@ -618,9 +618,9 @@ module _ (Shape Outcome : Value) where
           calls_at ! (fm_of 𝓤 H 𝓛.laws 𝓣) (blocks-of-contract blocks-of-out 𝓤 𝓛) known-blocks-of (to-blocks-of)
           (and_then ! (load ! (from ! (stop !)) (look ! 43 refl)) (no_more !)) (λ w-blocks-of.
           use1 𝓛 (later (some (λ (r : ℕ). ((‵ ftrue) ⊛ ‵ (u32.own_val r (w-blocks-of ∷ [])))
-          ⊛ raw (ensured 𝓛 blocks-of-ended (blocks-of-clauses blocks-of-out 𝓤) tt (blocks-of-args) tt r)))) (id⊢ 𝓤 _) $
+          ⊛ raw (ensured 𝓛 blocks_of_ended (blocks-of-clauses blocks-of-out 𝓤) tt (blocks-of-args) tt r)))) (id⊢ 𝓤 _) $
           await ! tt $ pick ! (λ r-blocks-of. split ! $ bring ! (1 ∷ []) $
-          use1 𝓛 (some (λ (zs-blocks-of : Unit {0} × Unit {0}). ‵ (lasts blocks-of-ended tt (blocks-of-args) zs-blocks-of)
+          use1 𝓛 (some (λ (zs-blocks-of : Unit {0} × Unit {0}). ‵ (lasts blocks_of_ended tt (blocks-of-args) zs-blocks-of)
           ⊛ raw (fact 𝓤 (blocks-of-says blocks-of-out x-self r-blocks-of)))) (id⊢ 𝓤 _) $
           pick ! (λ zs-blocks-of. split ! $ bring ! (1 ∷ []) $
           heard ! (blocks-of-says blocks-of-out x-self r-blocks-of) (λ e-blocks-of. fparts 𝓛 (_ ∷ []) _ $
@@ -636,9 +636,9 @@ module _ (Shape Outcome : Value) where
           calls_at ! (fm_of 𝓤 H 𝓛.laws 𝓣) (free-of-contract free-of-out 𝓤 𝓛) known-free-of (to-free-of)
           (and_then ! (load ! (from ! (stop !)) (look ! 43 refl)) (no_more !)) (λ w-free-of.
           use1 𝓛 (later (some (λ (r : ℕ). ((‵ ftrue) ⊛ ‵ (u32.own_val r (w-free-of ∷ [])))
-          ⊛ raw (ensured 𝓛 free-of-ended (free-of-clauses free-of-out 𝓤) tt (free-of-args) tt r)))) (id⊢ 𝓤 _) $
+          ⊛ raw (ensured 𝓛 free_of_ended (free-of-clauses free-of-out 𝓤) tt (free-of-args) tt r)))) (id⊢ 𝓤 _) $
           await ! tt $ pick ! (λ r-free-of. split ! $ bring ! (1 ∷ []) $
-          use1 𝓛 (some (λ (zs-free-of : Unit {0} × Unit {0}). ‵ (lasts free-of-ended tt (free-of-args) zs-free-of)
+          use1 𝓛 (some (λ (zs-free-of : Unit {0} × Unit {0}). ‵ (lasts free_of_ended tt (free-of-args) zs-free-of)
           ⊛ raw (fact 𝓤 (free-of-says free-of-out x-self r-free-of)))) (id⊢ 𝓤 _) $
           pick ! (λ zs-free-of. split ! $ bring ! (1 ∷ []) $
           heard ! (free-of-says free-of-out x-self r-free-of) (λ e-free-of. fparts 𝓛 (_ ∷ []) _ $ discard ! (0 ∷ []) $
@@ -653,10 +653,10 @@ module _ (Shape Outcome : Value) where
           calls_at ! (fm_of 𝓤 H 𝓛.laws 𝓣) (nothing-else-contract nothing-else-out 𝓤 𝓛) known-nothing-else (to-nothing-else)
           (and_then ! (load ! (from ! (stop !)) (look ! 43 refl)) (no_more !)) (λ w-nothing-else.
           use1 𝓛 (later (some (λ (r : Bool). ((‵ ftrue) ⊛ ‵ (Boolean.own r (w-nothing-else ∷ [])))
-          ⊛ raw (ensured 𝓛 nothing-else-ended (nothing-else-clauses nothing-else-out 𝓤) tt (nothing-else-args) tt r))))
+          ⊛ raw (ensured 𝓛 nothing_else_ended (nothing-else-clauses nothing-else-out 𝓤) tt (nothing-else-args) tt r))))
           (id⊢ 𝓤 _) $
           await ! tt $ pick ! (λ r-nothing-else. split ! $ bring ! (1 ∷ []) $
-          use1 𝓛 (some (λ (zs-nothing-else : Unit {0} × Unit {0}). ‵ (lasts nothing-else-ended tt (nothing-else-args)
+          use1 𝓛 (some (λ (zs-nothing-else : Unit {0} × Unit {0}). ‵ (lasts nothing_else_ended tt (nothing-else-args)
           zs-nothing-else) ⊛ raw (fact 𝓤 (nothing-else-says nothing-else-out x-self r-nothing-else)))) (id⊢ 𝓤 _) $
           pick ! (λ zs-nothing-else. split ! $ bring ! (1 ∷ []) $
           heard ! (nothing-else-says nothing-else-out x-self r-nothing-else) (λ e-nothing-else. fparts 𝓛 (_ ∷ []) _ $
@@ -709,12 +709,12 @@ module _ (Shape Outcome : Value) where
           δ x-scratch.now)))) (lends_again u64 κ₃ (ν₃-close ∷ []) q₃ x-scratch.ghost_name x-scratch.ref_ptr.0 x-scratch.ref_ptr.1
           𝓛 (named 3) (named 3) x-scratch.now (length x-scratch.now) refl) $
           await ! tt $ pick ! (λ δ₃-close. split ! $ bring ! (11 ∷ 8 ∷ 5 ∷ 2 ∷ 6 ∷ 4 ∷ 2 ∷ 0 ∷ []) $ group ! 8 $
-          use1 𝓛 (raw ((close-contract close-out close-x-map close-x-catalogue close-x-card close-x-scratch 𝓤 𝓛).pre
+          use1 𝓛 (raw ((close_contract close-out close-x-map close-x-catalogue close-x-card close-x-scratch 𝓤 𝓛).pre
           (to-close ν₀-close ν₁-close ν₂-close ν₃-close δ₀-close δ₁-close δ₂-close δ₃-close)))
           (goes_close ν₀-close ν₁-close ν₂-close ν₃-close δ₀-close δ₁-close δ₂-close δ₃-close
           (spelled-v-n w-blocks-of is-w-blocks-of) (spelled-v-free w-free-of is-w-free-of)
           (spelled-v-fits w-nothing-else is-w-nothing-else)) $
-          calls_at ! (fm_of 𝓤 H 𝓛.laws 𝓣) (close-contract close-out close-x-map close-x-catalogue close-x-card close-x-scratch
+          calls_at ! (fm_of 𝓤 H 𝓛.laws 𝓣) (close_contract close-out close-x-map close-x-catalogue close-x-card close-x-scratch
           𝓤 𝓛) known-close (to-close ν₀-close ν₁-close ν₂-close ν₃-close δ₀-close δ₁-close δ₂-close δ₃-close)
           (and_then ! (load ! (from ! (stop !)) (look ! 37 refl)) (and_then ! (load ! (from ! (stop !)) (look ! 27 refl))
           (and_then ! (load ! (from ! (stop !)) (look ! 25 refl)) (and_then ! (load ! (from ! (stop !)) (look ! 23 refl))
@@ -723,13 +723,13 @@ module _ (Shape Outcome : Value) where
           (no_more !))))))))) (λ w-close.
           use1 𝓛 (later (some (λ (r : ℕ). ((‵ (flft (ν₀-close ∷ []) full_share) ⊛ ‵ (flft (ν₁-close ∷ []) full_share)
           ⊛ ‵ (flft (ν₂-close ∷ []) full_share) ⊛ ‵ (flft (ν₃-close ∷ []) full_share) ⊛ ‵ ftrue) ⊛ ‵ (u32.own_val r (w-close ∷ [])))
-          ⊛ raw (ensured 𝓛 close-ended (close-clauses close-out close-x-map close-x-catalogue close-x-card close-x-scratch
+          ⊛ raw (ensured 𝓛 close_ended (close-clauses close-out close-x-map close-x-catalogue close-x-card close-x-scratch
           𝓤)
           (ν₀-close ∷ [], (ν₁-close ∷ [], (ν₂-close ∷ [], (ν₃-close ∷ [], tt)))) (close-args δ₀-close δ₁-close δ₂-close
           δ₃-close) tt r)))) (id⊢ 𝓤 _) $
           await ! tt $ pick ! (λ r-close. split ! $ bring ! (1 ∷ []) $
           use1 𝓛 (some (λ (zs-close : Unit {0} × (Unit {0} × (Unit {0} × (Unit {0} × (List ℕ
-          × (List Entry × (List ℕ × (List ℕ × Unit {0})))))))). ‵ (lasts close-ended
+          × (List Entry × (List ℕ × (List ℕ × Unit {0})))))))). ‵ (lasts close_ended
           (ν₀-close ∷ [], (ν₁-close ∷ [], (ν₂-close ∷ [], (ν₃-close ∷ [], tt)))) (close-args δ₀-close δ₁-close δ₂-close
           δ₃-close) zs-close) ⊛ raw (fact 𝓤 (close-says close-out close-x-map close-x-catalogue close-x-card close-x-scratch
           x-role v-n v-free v-fits x-map.now x-catalogue.now x-card.now x-scratch.now r-close zs-close.1.1.1.1.0
@@ -772,17 +772,17 @@ module _ (Shape Outcome : Value) where
           x-scratch.ref_ptr.1 𝓛 (named 3) (named 3) x-scratch.now (length x-scratch.now) refl room-x-scratch δ₃-close
           z-close-x-scratch (ap {B = ℕ} length (sym e-close.4) ∙ h-close-x-scratch)) $
           await ! tt $ split ! $
-          -- save-outcome
+          -- save_outcome_lem
           use0 𝓛 (raw ((save-outcome-contract save-outcome-out 𝓤 𝓛).pre (to-save-outcome)))
           (goes-save-outcome (spelled-v-number w-close is-w-close)) $
           calls_at ! (fm_of 𝓤 H 𝓛.laws 𝓣) (save-outcome-contract save-outcome-out 𝓤 𝓛) known-save-outcome (to-save-outcome)
           (and_then ! (load ! (from ! (stop !)) (look ! 43 refl)) (and_then ! (load ! (from ! (stop !)) (look ! 25 refl))
           (no_more !))) (λ w-save-outcome.
           use1 𝓛 (later (some (λ (r : (denotes Outcome)). ((‵ ftrue) ⊛ ‵ ((row_of Outcome).own_val r (w-save-outcome ∷ [])))
-          ⊛ raw (ensured 𝓛 save-outcome-ended (save-outcome-clauses save-outcome-out 𝓤) tt (save-outcome-args) tt r))))
+          ⊛ raw (ensured 𝓛 save_outcome_ended (save-outcome-clauses save-outcome-out 𝓤) tt (save-outcome-args) tt r))))
           (id⊢ 𝓤 _) $
           await ! tt $ pick ! (λ r-save-outcome. split ! $ bring ! (1 ∷ []) $
-          use1 𝓛 (some (λ (zs-save-outcome : Unit {0} × (Unit {0} × Unit {0})). ‵ (lasts save-outcome-ended tt
+          use1 𝓛 (some (λ (zs-save-outcome : Unit {0} × (Unit {0} × Unit {0})). ‵ (lasts save_outcome_ended tt
           (save-outcome-args) zs-save-outcome) ⊛ raw (fact 𝓤 (save-outcome-says save-outcome-out x-self v-number
           r-save-outcome)))) (id⊢ 𝓤 _) $
           pick ! (λ zs-save-outcome. split ! $ bring ! (1 ∷ []) $
@@ -809,7 +809,7 @@ module _ (Shape Outcome : Value) where
 
       walks : (𝓣 : Tables 𝓤 H) → Triple 𝓤 (𝓣.C #blocks-of) (blocks-of-contract blocks-of-out 𝓤 𝓛)
           → Triple 𝓤 (𝓣.C #free-of) (free-of-contract free-of-out 𝓤 𝓛) → Triple 𝓤 (𝓣.C #nothing-else)
-          (nothing-else-contract nothing-else-out 𝓤 𝓛) → Triple 𝓤 (𝓣.C #close) (close-contract close-out close-x-map
+          (nothing-else-contract nothing-else-out 𝓤 𝓛) → Triple 𝓤 (𝓣.C #close) (close_contract close-out close-x-map
           close-x-catalogue close-x-card close-x-scratch 𝓤 𝓛) → Triple 𝓤 (𝓣.C #save-outcome)
           (save-outcome-contract save-outcome-out 𝓤 𝓛) → Walks 𝓛 ended stayed (WpFn 𝓤 H 𝓣.C 𝓣.Λ
           (function #blocks-of #free-of #nothing-else #close #save-outcome)) (clauses 𝓤)
@@ -837,7 +837,7 @@ module _ (Shape Outcome : Value) where
 
       pub meets : (𝓣 : Tables 𝓤 H) → Triple 𝓤 (𝓣.C #blocks-of) (blocks-of-contract blocks-of-out 𝓤 𝓛)
           → Triple 𝓤 (𝓣.C #free-of) (free-of-contract free-of-out 𝓤 𝓛) → Triple 𝓤 (𝓣.C #nothing-else)
-          (nothing-else-contract nothing-else-out 𝓤 𝓛) → Triple 𝓤 (𝓣.C #close) (close-contract close-out close-x-map
+          (nothing-else-contract nothing-else-out 𝓤 𝓛) → Triple 𝓤 (𝓣.C #close) (close_contract close-out close-x-map
           close-x-catalogue close-x-card close-x-scratch 𝓤 𝓛) → Triple 𝓤 (𝓣.C #save-outcome)
           (save-outcome-contract save-outcome-out 𝓤 𝓛) → Meets 𝓛 signature (WpFn 𝓤 H 𝓣.C 𝓣.Λ
           (function #blocks-of #free-of #nothing-else #close #save-outcome)) (closing 𝓛 ended (clauses 𝓤))

@@ -140,26 +140,26 @@ module _ (Slot Out Shape Outcome : Value) where
   }
 
   -- ---- what `find` is, and what it ensures
-  abbrev find-signature : Signature
-  find-signature = record {
+  abbrev find_signature : Signature
+  find_signature = record {
     lifetimes = 1;
     outlives = [];
     params = shr_slice 0 tt (λ _. Entry'.the_row) ∷ plain (λ _. u32) ∷ [];
     result = plain (λ _. (row_of Slot));
   }
 
-  abbrev find-ended : Ended
-  find-ended = record { signature = find-signature; kept = (yes, (yes, tt)) }
+  abbrev find_ended : Ended
+  find_ended = record { signature = find_signature; kept = (yes, (yes, tt)) }
 
-  abbrev find-Model : Type 0 → Type 0
-  find-Model X = List Entry → ℕ → X
+  abbrev find_model : Type 0 → Type 0
+  find_model X = List Entry → ℕ → X
 
-  module _ (find-out : find-Model (denotes Slot)) where
+  module _ (find-out : find_model (denotes Slot)) where
     abbrev find-says : List Entry → ℕ → (denotes Slot) → Type 0
     find-says a0 a1 r = r ≡ find-out a0 a1
 
     module _ {M : Type 1} (𝓤 : Ura M) where
-      abbrev find-clauses : Clauses 𝓤 find-ended
+      abbrev find-clauses : Clauses 𝓤 find_ended
       find-clauses κs a = record {
         ghost = Unit {0};
         requires = λ _. emp 𝓤;
@@ -168,29 +168,29 @@ module _ (Slot Out Shape Outcome : Value) where
 
       module _ (𝓛 : Logic 𝓤) where
         abbrev pub find-contract : Contract 𝓤
-        find-contract = triple_of 𝓛 find-signature (closing 𝓛 find-ended find-clauses)
+        find-contract = triple_of 𝓛 find_signature (closing 𝓛 find_ended find-clauses)
 
   -- ---- what `held_by` is, and what it ensures
-  abbrev held-by-signature : Signature
-  held-by-signature = record {
+  abbrev held_by_signature : Signature
+  held_by_signature = record {
     lifetimes = 1;
     outlives = [];
     params = shr_slice 0 tt (λ _. Entry'.the_row) ∷ plain (λ _. u32) ∷ [];
     result = plain (λ _. u64);
   }
 
-  abbrev held-by-ended : Ended
-  held-by-ended = record { signature = held-by-signature; kept = (yes, (yes, tt)) }
+  abbrev held_by_ended : Ended
+  held_by_ended = record { signature = held_by_signature; kept = (yes, (yes, tt)) }
 
-  abbrev held-by-Model : Type 0 → Type 0
-  held-by-Model X = List Entry → ℕ → X
+  abbrev held_by_model : Type 0 → Type 0
+  held_by_model X = List Entry → ℕ → X
 
-  module _ (held-by-out : held-by-Model ℕ) where
+  module _ (held-by-out : held_by_model ℕ) where
     abbrev held-by-says : List Entry → ℕ → ℕ → Type 0
     held-by-says a0 a1 r = r ≡ held-by-out a0 a1
 
     module _ {M : Type 1} (𝓤 : Ura M) where
-      abbrev held-by-clauses : Clauses 𝓤 held-by-ended
+      abbrev held-by-clauses : Clauses 𝓤 held_by_ended
       held-by-clauses κs a = record {
         ghost = Unit {0};
         requires = λ _. emp 𝓤;
@@ -199,11 +199,11 @@ module _ (Slot Out Shape Outcome : Value) where
 
       module _ (𝓛 : Logic 𝓤) where
         abbrev pub held-by-contract : Contract 𝓤
-        held-by-contract = triple_of 𝓛 held-by-signature (closing 𝓛 held-by-ended held-by-clauses)
+        held-by-contract = triple_of 𝓛 held_by_signature (closing 𝓛 held_by_ended held-by-clauses)
 
   -- ---- what `core` is, and what it ensures
-  abbrev core-signature : Signature
-  core-signature = record {
+  abbrev core_signature : Signature
+  core_signature = record {
     lifetimes = 4;
     outlives = [];
     params = plain (λ _. (row_of Shape)) ∷ plain (λ _. u32) ∷ mut_slice 0 tt (λ _. u64) ∷ mut_slice 1 tt (λ _. u32)
@@ -212,17 +212,17 @@ module _ (Slot Out Shape Outcome : Value) where
     result = plain (λ _. (row_of Out));
   }
 
-  abbrev core-ended : Ended
-  core-ended = record {
-    signature = core-signature;
+  abbrev core_ended : Ended
+  core_ended = record {
+    signature = core_signature;
     kept = (yes, (yes, (yes, (yes, (yes, (yes, (yes, (yes, (yes, (yes, tt))))))))));
   }
 
-  abbrev core-Model : Type 0 → Type 0
-  core-Model X = (denotes Shape) → ℕ → List ℕ → List ℕ → List ℕ → (List ℕ) → (denotes Slot) → ℕ → ℕ → ℕ → X
+  abbrev core_model : Type 0 → Type 0
+  core_model X = (denotes Shape) → ℕ → List ℕ → List ℕ → List ℕ → (List ℕ) → (denotes Slot) → ℕ → ℕ → ℕ → X
 
-  module _ (core-out : core-Model (denotes Out)) (core-x-map : core-Model (List ℕ)) (core-x-summary : core-Model (List ℕ))
-      (core-x-card : core-Model (List ℕ)) where
+  module _ (core-out : core_model (denotes Out)) (core-x-map : core_model (List ℕ)) (core-x-summary : core_model (List ℕ))
+      (core-x-card : core_model (List ℕ)) where
     abbrev core-says : (denotes Shape) → ℕ → List ℕ → List ℕ → List ℕ → (List ℕ) → (denotes Slot) → ℕ → ℕ → ℕ → (denotes Out)
         → List ℕ → List ℕ → List ℕ → Type 0
     core-says a0 a1 a2 a3 a4 a5 a6 a7 a8 a9 r b2 b3 b4 = (r ≡ core-out a0 a1 a2 a3 a4 a5 a6 a7 a8 a9)
@@ -230,7 +230,7 @@ module _ (Slot Out Shape Outcome : Value) where
         × (b4 ≡ core-x-card a0 a1 a2 a3 a4 a5 a6 a7 a8 a9)
 
     module _ {M : Type 1} (𝓤 : Ura M) where
-      abbrev core-clauses : Clauses 𝓤 core-ended
+      abbrev core-clauses : Clauses 𝓤 core_ended
       core-clauses κs a = record {
         ghost = Unit {0};
         requires = λ _. emp 𝓤;
@@ -241,29 +241,29 @@ module _ (Slot Out Shape Outcome : Value) where
 
       module _ (𝓛 : Logic 𝓤) where
         abbrev pub core-contract : Contract 𝓤
-        core-contract = triple_of 𝓛 core-signature (closing 𝓛 core-ended core-clauses)
+        core-contract = triple_of 𝓛 core_signature (closing 𝓛 core_ended core-clauses)
 
   -- ---- what `entry_of` is, and what it ensures
-  abbrev entry-of-signature : Signature
-  entry-of-signature = record {
+  abbrev entry_of_signature : Signature
+  entry_of_signature = record {
     lifetimes = 0;
     outlives = [];
     params = plain (λ _. (row_of Out)) ∷ [];
     result = plain (λ _. Entry'.the_row);
   }
 
-  abbrev entry-of-ended : Ended
-  entry-of-ended = record { signature = entry-of-signature; kept = (yes, tt) }
+  abbrev entry_of_ended : Ended
+  entry_of_ended = record { signature = entry_of_signature; kept = (yes, tt) }
 
-  abbrev entry-of-Model : Type 0 → Type 0
-  entry-of-Model X = (denotes Out) → X
+  abbrev entry_of_model : Type 0 → Type 0
+  entry_of_model X = (denotes Out) → X
 
-  module _ (entry-of-out : entry-of-Model Entry) where
+  module _ (entry-of-out : entry_of_model Entry) where
     abbrev entry-of-says : (denotes Out) → Entry → Type 0
     entry-of-says a0 r = r ≡ entry-of-out a0
 
     module _ {M : Type 1} (𝓤 : Ura M) where
-      abbrev entry-of-clauses : Clauses 𝓤 entry-of-ended
+      abbrev entry-of-clauses : Clauses 𝓤 entry_of_ended
       entry-of-clauses κs a = record {
         ghost = Unit {0};
         requires = λ _. emp 𝓤;
@@ -272,29 +272,29 @@ module _ (Slot Out Shape Outcome : Value) where
 
       module _ (𝓛 : Logic 𝓤) where
         abbrev pub entry-of-contract : Contract 𝓤
-        entry-of-contract = triple_of 𝓛 entry-of-signature (closing 𝓛 entry-of-ended entry-of-clauses)
+        entry-of-contract = triple_of 𝓛 entry_of_signature (closing 𝓛 entry_of_ended entry-of-clauses)
 
   -- ---- what `store` is, and what it ensures
-  abbrev store-signature : Signature
-  store-signature = record {
+  abbrev store_signature : Signature
+  store_signature = record {
     lifetimes = 1;
     outlives = [];
     params = mut_slice 0 tt (λ _. Entry'.the_row) ∷ plain (λ _. u32) ∷ plain (λ _. Entry'.the_row) ∷ [];
     result = plain (λ _. Nothing);
   }
 
-  abbrev store-ended : Ended
-  store-ended = record { signature = store-signature; kept = (yes, (yes, (yes, tt))) }
+  abbrev store_ended : Ended
+  store_ended = record { signature = store_signature; kept = (yes, (yes, (yes, tt))) }
 
-  abbrev store-Model : Type 0 → Type 0
-  store-Model X = List Entry → ℕ → Entry → X
+  abbrev store_model : Type 0 → Type 0
+  store_model X = List Entry → ℕ → Entry → X
 
-  module _ (store-x-catalogue : store-Model (List Entry)) where
+  module _ (store-x-catalogue : store_model (List Entry)) where
     abbrev store-says : List Entry → ℕ → Entry → (Unit {0}) → List Entry → Type 0
     store-says a0 a1 a2 r b0 = b0 ≡ store-x-catalogue a0 a1 a2
 
     module _ {M : Type 1} (𝓤 : Ura M) where
-      abbrev store-clauses : Clauses 𝓤 store-ended
+      abbrev store-clauses : Clauses 𝓤 store_ended
       store-clauses κs a = record {
         ghost = Unit {0};
         requires = λ _. emp 𝓤;
@@ -303,29 +303,29 @@ module _ (Slot Out Shape Outcome : Value) where
 
       module _ (𝓛 : Logic 𝓤) where
         abbrev pub store-contract : Contract 𝓤
-        store-contract = triple_of 𝓛 store-signature (closing 𝓛 store-ended store-clauses)
+        store-contract = triple_of 𝓛 store_signature (closing 𝓛 store_ended store-clauses)
 
   -- ---- what `outcome-of` is, and what it ensures
-  abbrev outcome-of-signature : Signature
-  outcome-of-signature = record {
+  abbrev outcome_of_signature : Signature
+  outcome_of_signature = record {
     lifetimes = 0;
     outlives = [];
     params = plain (λ _. (row_of Shape)) ∷ plain (λ _. (row_of Out)) ∷ [];
     result = plain (λ _. (row_of Outcome));
   }
 
-  abbrev outcome-of-ended : Ended
-  outcome-of-ended = record { signature = outcome-of-signature; kept = (yes, (yes, tt)) }
+  abbrev outcome_of_ended : Ended
+  outcome_of_ended = record { signature = outcome_of_signature; kept = (yes, (yes, tt)) }
 
-  abbrev outcome-of-Model : Type 0 → Type 0
-  outcome-of-Model X = (denotes Shape) → (denotes Out) → X
+  abbrev outcome_of_model : Type 0 → Type 0
+  outcome_of_model X = (denotes Shape) → (denotes Out) → X
 
-  module _ (outcome-of-out : outcome-of-Model (denotes Outcome)) where
+  module _ (outcome-of-out : outcome_of_model (denotes Outcome)) where
     abbrev outcome-of-says : (denotes Shape) → (denotes Out) → (denotes Outcome) → Type 0
     outcome-of-says a0 a1 r = r ≡ outcome-of-out a0 a1
 
     module _ {M : Type 1} (𝓤 : Ura M) where
-      abbrev outcome-of-clauses : Clauses 𝓤 outcome-of-ended
+      abbrev outcome-of-clauses : Clauses 𝓤 outcome_of_ended
       outcome-of-clauses κs a = record {
         ghost = Unit {0};
         requires = λ _. emp 𝓤;
@@ -334,12 +334,12 @@ module _ (Slot Out Shape Outcome : Value) where
 
       module _ (𝓛 : Logic 𝓤) where
         abbrev pub outcome-of-contract : Contract 𝓤
-        outcome-of-contract = triple_of 𝓛 outcome-of-signature (closing 𝓛 outcome-of-ended outcome-of-clauses)
+        outcome-of-contract = triple_of 𝓛 outcome_of_signature (closing 𝓛 outcome_of_ended outcome-of-clauses)
 
-  module _ (#find #held-by #core #entry-of #store #outcome-of : Name) (find-out : find-Model (denotes Slot))
-      (held-by-out : held-by-Model ℕ) (core-out : core-Model (denotes Out)) (core-x-map : core-Model (List ℕ))
-      (core-x-summary : core-Model (List ℕ)) (core-x-card : core-Model (List ℕ)) (entry-of-out : entry-of-Model Entry)
-      (store-x-catalogue : store-Model (List Entry)) (outcome-of-out : outcome-of-Model (denotes Outcome)) where
+  module _ (#find #held-by #core #entry-of #store #outcome-of : Name) (find-out : find_model (denotes Slot))
+      (held-by-out : held_by_model ℕ) (core-out : core_model (denotes Out)) (core-x-map : core_model (List ℕ))
+      (core-x-summary : core_model (List ℕ)) (core-x-card : core_model (List ℕ)) (entry-of-out : entry_of_model Entry)
+      (store-x-catalogue : store_model (List Entry)) (outcome-of-out : outcome_of_model (denotes Outcome)) where
     -- ---- what the chain gives, call by call
     module _ (x-self : (denotes Shape)) (x-role : ℕ) (x-map : List ℕ) (x-summary : List ℕ) (x-catalogue : List Entry)
         (x-card : List ℕ) (x-limits : (List ℕ)) (x-sheet : ℕ) (x-k : ℕ) where
@@ -710,7 +710,7 @@ module _ (Slot Out Shape Outcome : Value) where
           (at-x-catalogue x-catalogue.name z-store-x-catalogue) (s-x-catalogue ∷ [])) ∷ ‵ (flft κ₂ q₂)
           ∷ ‵ ((MutSlice (named 3) κ₃ u8).own_val (at-x-card x-card.name z-core-x-card) (s-x-card ∷ [])) ∷ ‵ (flft κ₃ q₃)
           ∷ ‵ ((ShrRef (named 4) κ₄ (Array u32 8)).own_val x-limits (s-x-limits ∷ [])) ∷ ‵ (flft κ₄ q₄) ∷ [])) (Post m-v-result)
-      exits is l-x-map l-x-summary l-x-catalogue l-x-card =
+      exits is l-x-map l-x-summary l_x_catalogue l_x_card =
           qed 𝓛 (‵ ((MutSlice (named 0) κ₀ u64).own_val (at-x-map x-map.name z-core-x-map) (s-x-map ∷ [])) ∷ ‵ (flft κ₀ q₀)
           ∷ ‵ ((MutSlice (named 1) κ₁ u32).own_val (at-x-summary x-summary.name z-core-x-summary) (s-x-summary ∷ []))
           ∷ ‵ (flft κ₁ q₁) ∷ ‵ ((MutSlice (named 2) κ₂ Entry'.the_row).own_val (at-x-catalogue x-catalogue.name
@@ -719,7 +719,7 @@ module _ (Slot Out Shape Outcome : Value) where
           ((ShrRef (named 4) κ₄ (Array u32 8)).own_val x-limits (s-x-limits ∷ [])) ∷ ‵ (flft κ₄ q₄) ∷ []) ∵
           suffices ! _ (ends_at 𝓛 ended stayed (clauses 𝓤) bound m-v-result v-result
           (tt, (tt, (z-core-x-map, (z-core-x-summary, (z-store-x-catalogue, (z-core-x-card, (tt, (tt, (tt, tt)))))))))
-          (tt, (tt, (l-x-map, (l-x-summary, (l-x-catalogue, (l-x-card, (tt, (tt, (tt, tt)))))))))) $
+          (tt, (tt, (l-x-map, (l-x-summary, (l_x_catalogue, (l_x_card, (tt, (tt, (tt, tt)))))))))) $
           says ! (refl, refl, refl, refl, refl) $ nothing ! $ bring ! (2 ∷ 3 ∷ 4 ∷ 5 ∷ 6 ∷ 0 ∷ []) $ group ! 6 $
           frame ! $ nothing ! $ owned ! u32 (Is u32) (uint_Makes 𝓛 w32) x-k _ is-x-k $ fjoin ! $
           owned ! u32 (Is u32) (uint_Makes 𝓛 w32) x-sheet _ is-x-sheet $ fjoin ! $ bring ! (5 ∷ 0 ∷ []) $
@@ -776,10 +776,10 @@ module _ (Slot Out Shape Outcome : Value) where
           (and_then ! (load ! (from ! (stop !)) (look ! 32 refl)) (and_then ! (load ! (from ! (stop !)) (look ! 46 refl))
           (no_more !))) (λ w-find.
           use1 𝓛 (later (some (λ (r : (denotes Slot)). ((‵ (flft (ν₀-find ∷ []) full_share) ⊛ ‵ ftrue)
-          ⊛ ‵ ((row_of Slot).own_val r (w-find ∷ []))) ⊛ raw (ensured 𝓛 find-ended (find-clauses find-out 𝓤) (ν₀-find ∷ [], tt)
+          ⊛ ‵ ((row_of Slot).own_val r (w-find ∷ []))) ⊛ raw (ensured 𝓛 find_ended (find-clauses find-out 𝓤) (ν₀-find ∷ [], tt)
           (find-args δ₀-find) tt r)))) (id⊢ 𝓤 _) $
           await ! tt $ pick ! (λ r-find. split ! $ bring ! (1 ∷ []) $
-          use1 𝓛 (some (λ (zs-find : Unit {0} × (Unit {0} × Unit {0})). ‵ (lasts find-ended (ν₀-find ∷ [], tt)
+          use1 𝓛 (some (λ (zs-find : Unit {0} × (Unit {0} × Unit {0})). ‵ (lasts find_ended (ν₀-find ∷ [], tt)
           (find-args δ₀-find) zs-find) ⊛ raw (fact 𝓤 (find-says find-out x-catalogue.now x-sheet r-find)))) (id⊢ 𝓤 _) $
           pick ! (λ zs-find. split ! $ bring ! (1 ∷ []) $
           heard ! (find-says find-out x-catalogue.now x-sheet r-find) (λ e-find. fparts 𝓛 (_ ∷ _ ∷ []) _ $
@@ -813,10 +813,10 @@ module _ (Slot Out Shape Outcome : Value) where
           (to-held-by ν₀-held-by δ₀-held-by) (and_then ! (load ! (from ! (stop !)) (look ! 28 refl))
           (and_then ! (load ! (from ! (stop !)) (look ! 46 refl)) (no_more !))) (λ w-held-by.
           use1 𝓛 (later (some (λ (r : ℕ). ((‵ (flft (ν₀-held-by ∷ []) full_share) ⊛ ‵ ftrue) ⊛ ‵ (u64.own_val r (w-held-by ∷ [])))
-          ⊛ raw (ensured 𝓛 held-by-ended (held-by-clauses held-by-out 𝓤) (ν₀-held-by ∷ [], tt) (held-by-args δ₀-held-by) tt
+          ⊛ raw (ensured 𝓛 held_by_ended (held-by-clauses held-by-out 𝓤) (ν₀-held-by ∷ [], tt) (held-by-args δ₀-held-by) tt
           r)))) (id⊢ 𝓤 _) $
           await ! tt $ pick ! (λ r-held-by. split ! $ bring ! (1 ∷ []) $
-          use1 𝓛 (some (λ (zs-held-by : Unit {0} × (Unit {0} × Unit {0})). ‵ (lasts held-by-ended (ν₀-held-by ∷ [], tt)
+          use1 𝓛 (some (λ (zs-held-by : Unit {0} × (Unit {0} × Unit {0})). ‵ (lasts held_by_ended (ν₀-held-by ∷ [], tt)
           (held-by-args δ₀-held-by) zs-held-by) ⊛ raw (fact 𝓤 (held-by-says held-by-out x-catalogue.now x-sheet r-held-by))))
           (id⊢ 𝓤 _) $
           pick ! (λ zs-held-by. split ! $ bring ! (1 ∷ []) $
@@ -881,12 +881,12 @@ module _ (Slot Out Shape Outcome : Value) where
           (and_then ! (load ! (from ! (stop !)) (look ! 41 refl)) (no_more !))))))))))) (λ w-core.
           use1 𝓛 (later (some (λ (r : (denotes Out)). ((‵ (flft (ν₀-core ∷ []) full_share) ⊛ ‵ (flft (ν₁-core ∷ []) full_share)
           ⊛ ‵ (flft (ν₂-core ∷ []) full_share) ⊛ ‵ (flft κ₄ q₄) ⊛ ‵ ftrue) ⊛ ‵ ((row_of Out).own_val r (w-core ∷ [])))
-          ⊛ raw (ensured 𝓛 core-ended (core-clauses core-out core-x-map core-x-summary core-x-card 𝓤)
+          ⊛ raw (ensured 𝓛 core_ended (core-clauses core-out core-x-map core-x-summary core-x-card 𝓤)
           (ν₀-core ∷ [], (ν₁-core ∷ [], (ν₂-core ∷ [], (κ₄, tt)))) (core-args δ₀-core δ₁-core δ₂-core) tt r)))) (id⊢ 𝓤 _) $
           await ! tt $ pick ! (λ r-core. split ! $ bring ! (1 ∷ []) $
           use1 𝓛 (some (λ (zs-core : Unit {0} × (Unit {0} × (List ℕ × (List ℕ × (List ℕ
           × (Unit {0} × (Unit {0} × (Unit {0} × (Unit {0} × (Unit {0} × Unit {0})))))))))). ‵
-          (lasts core-ended (ν₀-core ∷ [], (ν₁-core ∷ [], (ν₂-core ∷ [], (κ₄, tt)))) (core-args δ₀-core δ₁-core δ₂-core)
+          (lasts core_ended (ν₀-core ∷ [], (ν₁-core ∷ [], (ν₂-core ∷ [], (κ₄, tt)))) (core-args δ₀-core δ₁-core δ₂-core)
           zs-core) ⊛ raw (fact 𝓤 (core-says core-out core-x-map core-x-summary core-x-card x-self x-role x-map.now
           x-summary.now x-card.now x-limits.now v-slot v-held x-sheet x-k r-core zs-core.1.1.0 zs-core.1.1.1.0
           zs-core.1.1.1.1.0)))) (id⊢ 𝓤 _) $
@@ -927,9 +927,9 @@ module _ (Slot Out Shape Outcome : Value) where
           calls_at ! (fm_of 𝓤 H 𝓛.laws 𝓣) (entry-of-contract entry-of-out 𝓤 𝓛) known-entry-of (to-entry-of)
           (and_then ! (load ! (from ! (stop !)) (look ! 39 refl)) (no_more !)) (λ w-entry-of.
           use1 𝓛 (later (some (λ (r : Entry). ((‵ ftrue) ⊛ ‵ ((Entry'.the_row).own_val r (w-entry-of ∷ [])))
-          ⊛ raw (ensured 𝓛 entry-of-ended (entry-of-clauses entry-of-out 𝓤) tt (entry-of-args) tt r)))) (id⊢ 𝓤 _) $
+          ⊛ raw (ensured 𝓛 entry_of_ended (entry-of-clauses entry-of-out 𝓤) tt (entry-of-args) tt r)))) (id⊢ 𝓤 _) $
           await ! tt $ pick ! (λ r-entry-of. split ! $ bring ! (1 ∷ []) $
-          use1 𝓛 (some (λ (zs-entry-of : Unit {0} × Unit {0}). ‵ (lasts entry-of-ended tt (entry-of-args) zs-entry-of)
+          use1 𝓛 (some (λ (zs-entry-of : Unit {0} × Unit {0}). ‵ (lasts entry_of_ended tt (entry-of-args) zs-entry-of)
           ⊛ raw (fact 𝓤 (entry-of-says entry-of-out v-out r-entry-of)))) (id⊢ 𝓤 _) $
           pick ! (λ zs-entry-of. split ! $ bring ! (1 ∷ []) $
           heard ! (entry-of-says entry-of-out v-out r-entry-of) (λ e-entry-of. fparts 𝓛 (_ ∷ []) _ $
@@ -960,11 +960,11 @@ module _ (Slot Out Shape Outcome : Value) where
           (and_then ! (load ! (from ! (stop !)) (look ! 10 refl)) (and_then ! (load ! (from ! (stop !)) (look ! 46 refl))
           (and_then ! (load ! (from ! (stop !)) (look ! 36 refl)) (no_more !)))) (λ w-store.
           use1 𝓛 (later (some (λ (r : (Unit {0})). ((‵ (flft (ν₀-store ∷ []) full_share) ⊛ ‵ ftrue)
-          ⊛ ‵ (Nothing.own r (w-store ∷ []))) ⊛ raw (ensured 𝓛 store-ended (store-clauses store-x-catalogue 𝓤)
+          ⊛ ‵ (Nothing.own r (w-store ∷ []))) ⊛ raw (ensured 𝓛 store_ended (store-clauses store-x-catalogue 𝓤)
           (ν₀-store ∷ [], tt) (store-args δ₀-store) tt r)))) (id⊢ 𝓤 _) $
           await ! tt $ pick ! (λ r-store. split ! $ bring ! (1 ∷ []) $
           use1 𝓛 (some (λ (zs-store : List Entry × (Unit {0} × (Unit {0} × Unit {0}))). ‵
-          (lasts store-ended (ν₀-store ∷ [], tt) (store-args δ₀-store) zs-store) ⊛ raw
+          (lasts store_ended (ν₀-store ∷ [], tt) (store-args δ₀-store) zs-store) ⊛ raw
           (fact 𝓤 (store-says store-x-catalogue x-catalogue.now x-sheet v-entry r-store zs-store.0)))) (id⊢ 𝓤 _) $
           pick ! (λ zs-store. split ! $ bring ! (1 ∷ []) $
           heard ! (store-says store-x-catalogue x-catalogue.now x-sheet v-entry r-store zs-store.0) (λ e-store.
@@ -987,9 +987,9 @@ module _ (Slot Out Shape Outcome : Value) where
           (and_then ! (load ! (from ! (stop !)) (look ! 61 refl)) (and_then ! (load ! (from ! (stop !)) (look ! 39 refl))
           (no_more !))) (λ w-outcome-of.
           use1 𝓛 (later (some (λ (r : (denotes Outcome)). ((‵ ftrue) ⊛ ‵ ((row_of Outcome).own_val r (w-outcome-of ∷ [])))
-          ⊛ raw (ensured 𝓛 outcome-of-ended (outcome-of-clauses outcome-of-out 𝓤) tt (outcome-of-args) tt r)))) (id⊢ 𝓤 _) $
+          ⊛ raw (ensured 𝓛 outcome_of_ended (outcome-of-clauses outcome-of-out 𝓤) tt (outcome-of-args) tt r)))) (id⊢ 𝓤 _) $
           await ! tt $ pick ! (λ r-outcome-of. split ! $ bring ! (1 ∷ []) $
-          use1 𝓛 (some (λ (zs-outcome-of : Unit {0} × (Unit {0} × Unit {0})). ‵ (lasts outcome-of-ended tt (outcome-of-args)
+          use1 𝓛 (some (λ (zs-outcome-of : Unit {0} × (Unit {0} × Unit {0})). ‵ (lasts outcome_of_ended tt (outcome-of-args)
           zs-outcome-of) ⊛ raw (fact 𝓤 (outcome-of-says outcome-of-out x-self v-out r-outcome-of)))) (id⊢ 𝓤 _) $
           pick ! (λ zs-outcome-of. split ! $ bring ! (1 ∷ []) $
           heard ! (outcome-of-says outcome-of-out x-self v-out r-outcome-of) (λ e-outcome-of. fparts 𝓛 (_ ∷ _ ∷ []) _ $

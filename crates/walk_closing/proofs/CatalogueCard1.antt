@@ -110,26 +110,26 @@ module _ (Pick Slot : Value) where
   }
 
   -- ---- what `first-pick` is, and what it ensures
-  abbrev first-pick-signature : Signature
-  first-pick-signature = record {
+  abbrev first_pick_signature : Signature
+  first_pick_signature = record {
     lifetimes = 0;
     outlives = [];
     params = plain (λ _. u32) ∷ [];
     result = plain (λ _. (row_of Pick));
   }
 
-  abbrev first-pick-ended : Ended
-  first-pick-ended = record { signature = first-pick-signature; kept = (yes, tt) }
+  abbrev first_pick_ended : Ended
+  first_pick_ended = record { signature = first_pick_signature; kept = (yes, tt) }
 
-  abbrev first-pick-Model : Type 0 → Type 0
-  first-pick-Model X = ℕ → X
+  abbrev first_pick_model : Type 0 → Type 0
+  first_pick_model X = ℕ → X
 
-  module _ (first-pick-out : first-pick-Model (denotes Pick)) where
+  module _ (first-pick-out : first_pick_model (denotes Pick)) where
     abbrev first-pick-says : ℕ → (denotes Pick) → Type 0
     first-pick-says a0 r = r ≡ first-pick-out a0
 
     module _ {M : Type 1} (𝓤 : Ura M) where
-      abbrev first-pick-clauses : Clauses 𝓤 first-pick-ended
+      abbrev first-pick-clauses : Clauses 𝓤 first_pick_ended
       first-pick-clauses κs a = record {
         ghost = Unit {0};
         requires = λ _. emp 𝓤;
@@ -138,29 +138,29 @@ module _ (Pick Slot : Value) where
 
       module _ (𝓛 : Logic 𝓤) where
         abbrev pub first-pick-contract : Contract 𝓤
-        first-pick-contract = triple_of 𝓛 first-pick-signature (closing 𝓛 first-pick-ended first-pick-clauses)
+        first-pick-contract = triple_of 𝓛 first_pick_signature (closing 𝓛 first_pick_ended first-pick-clauses)
 
   -- ---- what `nearest` is, and what it ensures
-  abbrev nearest-signature : Signature
-  nearest-signature = record {
+  abbrev nearest_signature : Signature
+  nearest_signature = record {
     lifetimes = 1;
     outlives = [];
     params = shr_slice 0 tt (λ _. Entry'.the_row) ∷ plain (λ _. (row_of Pick)) ∷ [];
     result = plain (λ _. (row_of Pick));
   }
 
-  abbrev nearest-ended : Ended
-  nearest-ended = record { signature = nearest-signature; kept = (yes, (yes, tt)) }
+  abbrev nearest_ended : Ended
+  nearest_ended = record { signature = nearest_signature; kept = (yes, (yes, tt)) }
 
-  abbrev nearest-Model : Type 0 → Type 0
-  nearest-Model X = List Entry → (denotes Pick) → X
+  abbrev nearest_model : Type 0 → Type 0
+  nearest_model X = List Entry → (denotes Pick) → X
 
-  module _ (nearest-out : nearest-Model (denotes Pick)) where
+  module _ (nearest-out : nearest_model (denotes Pick)) where
     abbrev nearest-says : List Entry → (denotes Pick) → (denotes Pick) → Type 0
     nearest-says a0 a1 r = r ≡ nearest-out a0 a1
 
     module _ {M : Type 1} (𝓤 : Ura M) where
-      abbrev nearest-clauses : Clauses 𝓤 nearest-ended
+      abbrev nearest-clauses : Clauses 𝓤 nearest_ended
       nearest-clauses κs a = record {
         ghost = Unit {0};
         requires = λ _. emp 𝓤;
@@ -169,29 +169,29 @@ module _ (Pick Slot : Value) where
 
       module _ (𝓛 : Logic 𝓤) where
         abbrev pub nearest-contract : Contract 𝓤
-        nearest-contract = triple_of 𝓛 nearest-signature (closing 𝓛 nearest-ended nearest-clauses)
+        nearest-contract = triple_of 𝓛 nearest_signature (closing 𝓛 nearest_ended nearest-clauses)
 
   -- ---- what `move-extent` is, and what it ensures
-  abbrev move-extent-signature : Signature
-  move-extent-signature = record {
+  abbrev move_extent_signature : Signature
+  move_extent_signature = record {
     lifetimes = 1;
     outlives = [];
     params = mut_slice 0 tt (λ _. u8) ∷ plain (λ _. (row_of Pick)) ∷ [];
     result = plain (λ _. Nothing);
   }
 
-  abbrev move-extent-ended : Ended
-  move-extent-ended = record { signature = move-extent-signature; kept = (yes, (yes, tt)) }
+  abbrev move_extent_ended : Ended
+  move_extent_ended = record { signature = move_extent_signature; kept = (yes, (yes, tt)) }
 
-  abbrev move-extent-Model : Type 0 → Type 0
-  move-extent-Model X = List ℕ → (denotes Pick) → X
+  abbrev move_extent_model : Type 0 → Type 0
+  move_extent_model X = List ℕ → (denotes Pick) → X
 
-  module _ (move-extent-x-card : move-extent-Model (List ℕ)) where
+  module _ (move-extent-x-card : move_extent_model (List ℕ)) where
     abbrev move-extent-says : List ℕ → (denotes Pick) → (Unit {0}) → List ℕ → Type 0
     move-extent-says a0 a1 r b0 = b0 ≡ move-extent-x-card a0 a1
 
     module _ {M : Type 1} (𝓤 : Ura M) where
-      abbrev move-extent-clauses : Clauses 𝓤 move-extent-ended
+      abbrev move-extent-clauses : Clauses 𝓤 move_extent_ended
       move-extent-clauses κs a = record {
         ghost = Unit {0};
         requires = λ _. emp 𝓤;
@@ -200,29 +200,29 @@ module _ (Pick Slot : Value) where
 
       module _ (𝓛 : Logic 𝓤) where
         abbrev pub move-extent-contract : Contract 𝓤
-        move-extent-contract = triple_of 𝓛 move-extent-signature (closing 𝓛 move-extent-ended move-extent-clauses)
+        move-extent-contract = triple_of 𝓛 move_extent_signature (closing 𝓛 move_extent_ended move-extent-clauses)
 
   -- ---- what `sheet-of` is, and what it ensures
-  abbrev sheet-of-signature : Signature
-  sheet-of-signature = record {
+  abbrev sheet_of_signature : Signature
+  sheet_of_signature = record {
     lifetimes = 0;
     outlives = [];
     params = plain (λ _. (row_of Pick)) ∷ [];
     result = plain (λ _. u32);
   }
 
-  abbrev sheet-of-ended : Ended
-  sheet-of-ended = record { signature = sheet-of-signature; kept = (yes, tt) }
+  abbrev sheet_of_ended : Ended
+  sheet_of_ended = record { signature = sheet_of_signature; kept = (yes, tt) }
 
-  abbrev sheet-of-Model : Type 0 → Type 0
-  sheet-of-Model X = (denotes Pick) → X
+  abbrev sheet_of_model : Type 0 → Type 0
+  sheet_of_model X = (denotes Pick) → X
 
-  module _ (sheet-of-out : sheet-of-Model ℕ) where
+  module _ (sheet-of-out : sheet_of_model ℕ) where
     abbrev sheet-of-says : (denotes Pick) → ℕ → Type 0
     sheet-of-says a0 r = r ≡ sheet-of-out a0
 
     module _ {M : Type 1} (𝓤 : Ura M) where
-      abbrev sheet-of-clauses : Clauses 𝓤 sheet-of-ended
+      abbrev sheet-of-clauses : Clauses 𝓤 sheet_of_ended
       sheet-of-clauses κs a = record {
         ghost = Unit {0};
         requires = λ _. emp 𝓤;
@@ -231,29 +231,29 @@ module _ (Pick Slot : Value) where
 
       module _ (𝓛 : Logic 𝓤) where
         abbrev pub sheet-of-contract : Contract 𝓤
-        sheet-of-contract = triple_of 𝓛 sheet-of-signature (closing 𝓛 sheet-of-ended sheet-of-clauses)
+        sheet-of-contract = triple_of 𝓛 sheet_of_signature (closing 𝓛 sheet_of_ended sheet-of-clauses)
 
   -- ---- what `find` is, and what it ensures
-  abbrev find-signature : Signature
-  find-signature = record {
+  abbrev find_signature : Signature
+  find_signature = record {
     lifetimes = 1;
     outlives = [];
     params = shr_slice 0 tt (λ _. Entry'.the_row) ∷ plain (λ _. u32) ∷ [];
     result = plain (λ _. (row_of Slot));
   }
 
-  abbrev find-ended : Ended
-  find-ended = record { signature = find-signature; kept = (yes, (yes, tt)) }
+  abbrev find_ended : Ended
+  find_ended = record { signature = find_signature; kept = (yes, (yes, tt)) }
 
-  abbrev find-Model : Type 0 → Type 0
-  find-Model X = List Entry → ℕ → X
+  abbrev find_model : Type 0 → Type 0
+  find_model X = List Entry → ℕ → X
 
-  module _ (find-out : find-Model (denotes Slot)) where
+  module _ (find-out : find_model (denotes Slot)) where
     abbrev find-says : List Entry → ℕ → (denotes Slot) → Type 0
     find-says a0 a1 r = r ≡ find-out a0 a1
 
     module _ {M : Type 1} (𝓤 : Ura M) where
-      abbrev find-clauses : Clauses 𝓤 find-ended
+      abbrev find-clauses : Clauses 𝓤 find_ended
       find-clauses κs a = record {
         ghost = Unit {0};
         requires = λ _. emp 𝓤;
@@ -262,29 +262,29 @@ module _ (Pick Slot : Value) where
 
       module _ (𝓛 : Logic 𝓤) where
         abbrev pub find-contract : Contract 𝓤
-        find-contract = triple_of 𝓛 find-signature (closing 𝓛 find-ended find-clauses)
+        find-contract = triple_of 𝓛 find_signature (closing 𝓛 find_ended find-clauses)
 
   -- ---- what `restart` is, and what it ensures
-  abbrev restart-signature : Signature
-  restart-signature = record {
+  abbrev restart_signature : Signature
+  restart_signature = record {
     lifetimes = 0;
     outlives = [];
     params = plain (λ _. (row_of Pick)) ∷ plain (λ _. (row_of Slot)) ∷ [];
     result = plain (λ _. Entry'.the_row);
   }
 
-  abbrev restart-ended : Ended
-  restart-ended = record { signature = restart-signature; kept = (yes, (yes, tt)) }
+  abbrev restart_ended : Ended
+  restart_ended = record { signature = restart_signature; kept = (yes, (yes, tt)) }
 
-  abbrev restart-Model : Type 0 → Type 0
-  restart-Model X = (denotes Pick) → (denotes Slot) → X
+  abbrev restart_model : Type 0 → Type 0
+  restart_model X = (denotes Pick) → (denotes Slot) → X
 
-  module _ (restart-out : restart-Model Entry) where
+  module _ (restart-out : restart_model Entry) where
     abbrev restart-says : (denotes Pick) → (denotes Slot) → Entry → Type 0
     restart-says a0 a1 r = r ≡ restart-out a0 a1
 
     module _ {M : Type 1} (𝓤 : Ura M) where
-      abbrev restart-clauses : Clauses 𝓤 restart-ended
+      abbrev restart-clauses : Clauses 𝓤 restart_ended
       restart-clauses κs a = record {
         ghost = Unit {0};
         requires = λ _. emp 𝓤;
@@ -293,29 +293,29 @@ module _ (Pick Slot : Value) where
 
       module _ (𝓛 : Logic 𝓤) where
         abbrev pub restart-contract : Contract 𝓤
-        restart-contract = triple_of 𝓛 restart-signature (closing 𝓛 restart-ended restart-clauses)
+        restart-contract = triple_of 𝓛 restart_signature (closing 𝓛 restart_ended restart-clauses)
 
   -- ---- what `store` is, and what it ensures
-  abbrev store-signature : Signature
-  store-signature = record {
+  abbrev store_signature : Signature
+  store_signature = record {
     lifetimes = 1;
     outlives = [];
     params = mut_slice 0 tt (λ _. Entry'.the_row) ∷ plain (λ _. u32) ∷ plain (λ _. Entry'.the_row) ∷ [];
     result = plain (λ _. Nothing);
   }
 
-  abbrev store-ended : Ended
-  store-ended = record { signature = store-signature; kept = (yes, (yes, (yes, tt))) }
+  abbrev store_ended : Ended
+  store_ended = record { signature = store_signature; kept = (yes, (yes, (yes, tt))) }
 
-  abbrev store-Model : Type 0 → Type 0
-  store-Model X = List Entry → ℕ → Entry → X
+  abbrev store_model : Type 0 → Type 0
+  store_model X = List Entry → ℕ → Entry → X
 
-  module _ (store-x-catalogue : store-Model (List Entry)) where
+  module _ (store-x-catalogue : store_model (List Entry)) where
     abbrev store-says : List Entry → ℕ → Entry → (Unit {0}) → List Entry → Type 0
     store-says a0 a1 a2 r b0 = b0 ≡ store-x-catalogue a0 a1 a2
 
     module _ {M : Type 1} (𝓤 : Ura M) where
-      abbrev store-clauses : Clauses 𝓤 store-ended
+      abbrev store-clauses : Clauses 𝓤 store_ended
       store-clauses κs a = record {
         ghost = Unit {0};
         requires = λ _. emp 𝓤;
@@ -324,29 +324,29 @@ module _ (Pick Slot : Value) where
 
       module _ (𝓛 : Logic 𝓤) where
         abbrev pub store-contract : Contract 𝓤
-        store-contract = triple_of 𝓛 store-signature (closing 𝓛 store-ended store-clauses)
+        store-contract = triple_of 𝓛 store_signature (closing 𝓛 store_ended store-clauses)
 
   -- ---- what `at_after` is, and what it ensures
-  abbrev at-after-signature : Signature
-  at-after-signature = record {
+  abbrev at_after_signature : Signature
+  at_after_signature = record {
     lifetimes = 0;
     outlives = [];
     params = plain (λ _. (row_of Pick)) ∷ [];
     result = plain (λ _. u32);
   }
 
-  abbrev at-after-ended : Ended
-  at-after-ended = record { signature = at-after-signature; kept = (yes, tt) }
+  abbrev at_after_ended : Ended
+  at_after_ended = record { signature = at_after_signature; kept = (yes, tt) }
 
-  abbrev at-after-Model : Type 0 → Type 0
-  at-after-Model X = (denotes Pick) → X
+  abbrev at_after_model : Type 0 → Type 0
+  at_after_model X = (denotes Pick) → X
 
-  module _ (at-after-out : at-after-Model ℕ) where
+  module _ (at-after-out : at_after_model ℕ) where
     abbrev at-after-says : (denotes Pick) → ℕ → Type 0
     at-after-says a0 r = r ≡ at-after-out a0
 
     module _ {M : Type 1} (𝓤 : Ura M) where
-      abbrev at-after-clauses : Clauses 𝓤 at-after-ended
+      abbrev at-after-clauses : Clauses 𝓤 at_after_ended
       at-after-clauses κs a = record {
         ghost = Unit {0};
         requires = λ _. emp 𝓤;
@@ -355,12 +355,12 @@ module _ (Pick Slot : Value) where
 
       module _ (𝓛 : Logic 𝓤) where
         abbrev pub at-after-contract : Contract 𝓤
-        at-after-contract = triple_of 𝓛 at-after-signature (closing 𝓛 at-after-ended at-after-clauses)
+        at-after-contract = triple_of 𝓛 at_after_signature (closing 𝓛 at_after_ended at-after-clauses)
 
   module _ (#first-pick #nearest #move-extent #sheet-of #find #restart #store #at-after : Name)
-      (first-pick-out : first-pick-Model (denotes Pick)) (nearest-out : nearest-Model (denotes Pick))
-      (move-extent-x-card : move-extent-Model (List ℕ)) (sheet-of-out : sheet-of-Model ℕ) (find-out : find-Model (denotes Slot))
-      (restart-out : restart-Model Entry) (store-x-catalogue : store-Model (List Entry)) (at-after-out : at-after-Model ℕ) where
+      (first-pick-out : first_pick_model (denotes Pick)) (nearest-out : nearest_model (denotes Pick))
+      (move-extent-x-card : move_extent_model (List ℕ)) (sheet-of-out : sheet_of_model ℕ) (find-out : find_model (denotes Slot))
+      (restart-out : restart_model Entry) (store-x-catalogue : store_model (List Entry)) (at-after-out : at_after_model ℕ) where
     -- ---- what the chain gives, call by call
     module _ (x-catalogue : List Entry) (x-card : List ℕ) (x-at : ℕ) where
       abbrev v-first-of : (denotes Pick)
@@ -666,12 +666,12 @@ module _ (Pick Slot : Value) where
           (at-x-catalogue x-catalogue.name z-store-x-catalogue) (s-x-catalogue ∷ [])) ∷ ‵ (flft κ₀ q₀)
           ∷ ‵ ((MutSlice (named 1) κ₁ u8).own_val (at-x-card x-card.name z-move-extent-x-card) (s-x-card ∷ [])) ∷ ‵ (flft κ₁ q₁)
           ∷ [])) (Post m-v-result)
-      exits is l-x-catalogue l-x-card =
+      exits is l_x_catalogue l_x_card =
           qed 𝓛 (‵ ((MutSlice (named 0) κ₀ Entry'.the_row).own_val (at-x-catalogue x-catalogue.name z-store-x-catalogue)
           (s-x-catalogue ∷ [])) ∷ ‵ (flft κ₀ q₀) ∷ ‵ ((MutSlice (named 1) κ₁ u8).own_val (at-x-card x-card.name
           z-move-extent-x-card) (s-x-card ∷ [])) ∷ ‵ (flft κ₁ q₁) ∷ []) ∵
           suffices ! _ (ends_at 𝓛 ended stayed (clauses 𝓤) bound m-v-result v-result
-          (z-store-x-catalogue, (z-move-extent-x-card, (tt, tt))) (l-x-catalogue, (l-x-card, (tt, tt)))) $
+          (z-store-x-catalogue, (z-move-extent-x-card, (tt, tt))) (l_x_catalogue, (l_x_card, (tt, tt)))) $
           says ! (refl, refl, refl) $ nothing ! $ bring ! (2 ∷ 3 ∷ 0 ∷ []) $ group ! 3 $ frame ! $ nothing ! $
           owned ! u32 (Is u32) (uint_Makes 𝓛 w32) x-at _ is-x-at $ fjoin ! $ bring ! (2 ∷ 0 ∷ []) $ fjoin ! $
           bring ! (1 ∷ 0 ∷ []) $ fjoin ! $ owned ! u32 (Is u32) (uint_Makes 𝓛 w32) v-result _ is $
@@ -704,9 +704,9 @@ module _ (Pick Slot : Value) where
           calls_at ! (fm_of 𝓤 H 𝓛.laws 𝓣) (first-pick-contract first-pick-out 𝓤 𝓛) known-first-pick (to-first-pick)
           (and_then ! (load ! (from ! (stop !)) (look ! 33 refl)) (no_more !)) (λ w-first-pick.
           use1 𝓛 (later (some (λ (r : (denotes Pick)). ((‵ ftrue) ⊛ ‵ ((row_of Pick).own_val r (w-first-pick ∷ [])))
-          ⊛ raw (ensured 𝓛 first-pick-ended (first-pick-clauses first-pick-out 𝓤) tt (first-pick-args) tt r)))) (id⊢ 𝓤 _) $
+          ⊛ raw (ensured 𝓛 first_pick_ended (first-pick-clauses first-pick-out 𝓤) tt (first-pick-args) tt r)))) (id⊢ 𝓤 _) $
           await ! tt $ pick ! (λ r-first-pick. split ! $ bring ! (1 ∷ []) $
-          use1 𝓛 (some (λ (zs-first-pick : Unit {0} × Unit {0}). ‵ (lasts first-pick-ended tt (first-pick-args) zs-first-pick)
+          use1 𝓛 (some (λ (zs-first-pick : Unit {0} × Unit {0}). ‵ (lasts first_pick_ended tt (first-pick-args) zs-first-pick)
           ⊛ raw (fact 𝓤 (first-pick-says first-pick-out x-at r-first-pick)))) (id⊢ 𝓤 _) $
           pick ! (λ zs-first-pick. split ! $ bring ! (1 ∷ []) $
           heard ! (first-pick-says first-pick-out x-at r-first-pick) (λ e-first-pick. fparts 𝓛 (_ ∷ []) _ $
@@ -736,10 +736,10 @@ module _ (Pick Slot : Value) where
           (to-nearest ν₀-nearest δ₀-nearest) (and_then ! (load ! (from ! (stop !)) (look ! 18 refl))
           (and_then ! (load ! (from ! (stop !)) (look ! 30 refl)) (no_more !))) (λ w-nearest.
           use1 𝓛 (later (some (λ (r : (denotes Pick)). ((‵ (flft (ν₀-nearest ∷ []) full_share) ⊛ ‵ ftrue)
-          ⊛ ‵ ((row_of Pick).own_val r (w-nearest ∷ []))) ⊛ raw (ensured 𝓛 nearest-ended (nearest-clauses nearest-out 𝓤)
+          ⊛ ‵ ((row_of Pick).own_val r (w-nearest ∷ []))) ⊛ raw (ensured 𝓛 nearest_ended (nearest-clauses nearest-out 𝓤)
           (ν₀-nearest ∷ [], tt) (nearest-args δ₀-nearest) tt r)))) (id⊢ 𝓤 _) $
           await ! tt $ pick ! (λ r-nearest. split ! $ bring ! (1 ∷ []) $
-          use1 𝓛 (some (λ (zs-nearest : Unit {0} × (Unit {0} × Unit {0})). ‵ (lasts nearest-ended (ν₀-nearest ∷ [], tt)
+          use1 𝓛 (some (λ (zs-nearest : Unit {0} × (Unit {0} × Unit {0})). ‵ (lasts nearest_ended (ν₀-nearest ∷ [], tt)
           (nearest-args δ₀-nearest) zs-nearest) ⊛ raw (fact 𝓤 (nearest-says nearest-out x-catalogue.now v-first r-nearest))))
           (id⊢ 𝓤 _) $
           pick ! (λ zs-nearest. split ! $ bring ! (1 ∷ []) $
@@ -774,11 +774,11 @@ module _ (Pick Slot : Value) where
           (to-move-extent ν₀-move-extent δ₀-move-extent) (and_then ! (load ! (from ! (stop !)) (look ! 12 refl))
           (and_then ! (load ! (from ! (stop !)) (look ! 28 refl)) (no_more !))) (λ w-move-extent.
           use1 𝓛 (later (some (λ (r : (Unit {0})). ((‵ (flft (ν₀-move-extent ∷ []) full_share) ⊛ ‵ ftrue)
-          ⊛ ‵ (Nothing.own r (w-move-extent ∷ []))) ⊛ raw (ensured 𝓛 move-extent-ended
+          ⊛ ‵ (Nothing.own r (w-move-extent ∷ []))) ⊛ raw (ensured 𝓛 move_extent_ended
           (move-extent-clauses move-extent-x-card 𝓤) (ν₀-move-extent ∷ [], tt) (move-extent-args δ₀-move-extent) tt r))))
           (id⊢ 𝓤 _) $
           await ! tt $ pick ! (λ r-move-extent. split ! $ bring ! (1 ∷ []) $
-          use1 𝓛 (some (λ (zs-move-extent : List ℕ × (Unit {0} × Unit {0})). ‵ (lasts move-extent-ended
+          use1 𝓛 (some (λ (zs-move-extent : List ℕ × (Unit {0} × Unit {0})). ‵ (lasts move_extent_ended
           (ν₀-move-extent ∷ [], tt) (move-extent-args δ₀-move-extent) zs-move-extent) ⊛ raw
           (fact 𝓤 (move-extent-says move-extent-x-card x-card.now v-pick r-move-extent zs-move-extent.0)))) (id⊢ 𝓤 _) $
           pick ! (λ zs-move-extent. split ! $ bring ! (1 ∷ []) $
@@ -802,9 +802,9 @@ module _ (Pick Slot : Value) where
           calls_at ! (fm_of 𝓤 H 𝓛.laws 𝓣) (sheet-of-contract sheet-of-out 𝓤 𝓛) known-sheet-of (to-sheet-of)
           (and_then ! (load ! (from ! (stop !)) (look ! 29 refl)) (no_more !)) (λ w-sheet-of.
           use1 𝓛 (later (some (λ (r : ℕ). ((‵ ftrue) ⊛ ‵ (u32.own_val r (w-sheet-of ∷ [])))
-          ⊛ raw (ensured 𝓛 sheet-of-ended (sheet-of-clauses sheet-of-out 𝓤) tt (sheet-of-args) tt r)))) (id⊢ 𝓤 _) $
+          ⊛ raw (ensured 𝓛 sheet_of_ended (sheet-of-clauses sheet-of-out 𝓤) tt (sheet-of-args) tt r)))) (id⊢ 𝓤 _) $
           await ! tt $ pick ! (λ r-sheet-of. split ! $ bring ! (1 ∷ []) $
-          use1 𝓛 (some (λ (zs-sheet-of : Unit {0} × Unit {0}). ‵ (lasts sheet-of-ended tt (sheet-of-args) zs-sheet-of)
+          use1 𝓛 (some (λ (zs-sheet-of : Unit {0} × Unit {0}). ‵ (lasts sheet_of_ended tt (sheet-of-args) zs-sheet-of)
           ⊛ raw (fact 𝓤 (sheet-of-says sheet-of-out v-pick r-sheet-of)))) (id⊢ 𝓤 _) $
           pick ! (λ zs-sheet-of. split ! $ bring ! (1 ∷ []) $
           heard ! (sheet-of-says sheet-of-out v-pick r-sheet-of) (λ e-sheet-of. fparts 𝓛 (_ ∷ []) _ $
@@ -834,10 +834,10 @@ module _ (Pick Slot : Value) where
           (and_then ! (load ! (from ! (stop !)) (look ! 8 refl)) (and_then ! (load ! (from ! (stop !)) (look ! 26 refl))
           (no_more !))) (λ w-find.
           use1 𝓛 (later (some (λ (r : (denotes Slot)). ((‵ (flft (ν₀-find ∷ []) full_share) ⊛ ‵ ftrue)
-          ⊛ ‵ ((row_of Slot).own_val r (w-find ∷ []))) ⊛ raw (ensured 𝓛 find-ended (find-clauses find-out 𝓤) (ν₀-find ∷ [], tt)
+          ⊛ ‵ ((row_of Slot).own_val r (w-find ∷ []))) ⊛ raw (ensured 𝓛 find_ended (find-clauses find-out 𝓤) (ν₀-find ∷ [], tt)
           (find-args δ₀-find) tt r)))) (id⊢ 𝓤 _) $
           await ! tt $ pick ! (λ r-find. split ! $ bring ! (1 ∷ []) $
-          use1 𝓛 (some (λ (zs-find : Unit {0} × (Unit {0} × Unit {0})). ‵ (lasts find-ended (ν₀-find ∷ [], tt)
+          use1 𝓛 (some (λ (zs-find : Unit {0} × (Unit {0} × Unit {0})). ‵ (lasts find_ended (ν₀-find ∷ [], tt)
           (find-args δ₀-find) zs-find) ⊛ raw (fact 𝓤 (find-says find-out x-catalogue.now v-sheet r-find)))) (id⊢ 𝓤 _) $
           pick ! (λ zs-find. split ! $ bring ! (1 ∷ []) $
           heard ! (find-says find-out x-catalogue.now v-sheet r-find) (λ e-find. fparts 𝓛 (_ ∷ _ ∷ []) _ $
@@ -859,9 +859,9 @@ module _ (Pick Slot : Value) where
           (and_then ! (load ! (from ! (stop !)) (look ! 29 refl)) (and_then ! (load ! (from ! (stop !)) (look ! 25 refl))
           (no_more !))) (λ w-restart.
           use1 𝓛 (later (some (λ (r : Entry). ((‵ ftrue) ⊛ ‵ ((Entry'.the_row).own_val r (w-restart ∷ [])))
-          ⊛ raw (ensured 𝓛 restart-ended (restart-clauses restart-out 𝓤) tt (restart-args) tt r)))) (id⊢ 𝓤 _) $
+          ⊛ raw (ensured 𝓛 restart_ended (restart-clauses restart-out 𝓤) tt (restart-args) tt r)))) (id⊢ 𝓤 _) $
           await ! tt $ pick ! (λ r-restart. split ! $ bring ! (1 ∷ []) $
-          use1 𝓛 (some (λ (zs-restart : Unit {0} × (Unit {0} × Unit {0})). ‵ (lasts restart-ended tt (restart-args) zs-restart)
+          use1 𝓛 (some (λ (zs-restart : Unit {0} × (Unit {0} × Unit {0})). ‵ (lasts restart_ended tt (restart-args) zs-restart)
           ⊛ raw (fact 𝓤 (restart-says restart-out v-pick v-slot r-restart)))) (id⊢ 𝓤 _) $
           pick ! (λ zs-restart. split ! $ bring ! (1 ∷ []) $
           heard ! (restart-says restart-out v-pick v-slot r-restart) (λ e-restart. fparts 𝓛 (_ ∷ _ ∷ []) _ $
@@ -892,11 +892,11 @@ module _ (Pick Slot : Value) where
           (and_then ! (load ! (from ! (stop !)) (look ! 4 refl)) (and_then ! (load ! (from ! (stop !)) (look ! 26 refl))
           (and_then ! (load ! (from ! (stop !)) (look ! 22 refl)) (no_more !)))) (λ w-store.
           use1 𝓛 (later (some (λ (r : (Unit {0})). ((‵ (flft (ν₀-store ∷ []) full_share) ⊛ ‵ ftrue)
-          ⊛ ‵ (Nothing.own r (w-store ∷ []))) ⊛ raw (ensured 𝓛 store-ended (store-clauses store-x-catalogue 𝓤)
+          ⊛ ‵ (Nothing.own r (w-store ∷ []))) ⊛ raw (ensured 𝓛 store_ended (store-clauses store-x-catalogue 𝓤)
           (ν₀-store ∷ [], tt) (store-args δ₀-store) tt r)))) (id⊢ 𝓤 _) $
           await ! tt $ pick ! (λ r-store. split ! $ bring ! (1 ∷ []) $
           use1 𝓛 (some (λ (zs-store : List Entry × (Unit {0} × (Unit {0} × Unit {0}))). ‵
-          (lasts store-ended (ν₀-store ∷ [], tt) (store-args δ₀-store) zs-store) ⊛ raw
+          (lasts store_ended (ν₀-store ∷ [], tt) (store-args δ₀-store) zs-store) ⊛ raw
           (fact 𝓤 (store-says store-x-catalogue x-catalogue.now v-sheet v-entry r-store zs-store.0)))) (id⊢ 𝓤 _) $
           pick ! (λ zs-store. split ! $ bring ! (1 ∷ []) $
           heard ! (store-says store-x-catalogue x-catalogue.now v-sheet v-entry r-store zs-store.0) (λ e-store.
@@ -918,9 +918,9 @@ module _ (Pick Slot : Value) where
           calls_at ! (fm_of 𝓤 H 𝓛.laws 𝓣) (at-after-contract at-after-out 𝓤 𝓛) known-at-after (to-at-after)
           (and_then ! (load ! (from ! (stop !)) (look ! 29 refl)) (no_more !)) (λ w-at-after.
           use1 𝓛 (later (some (λ (r : ℕ). ((‵ ftrue) ⊛ ‵ (u32.own_val r (w-at-after ∷ [])))
-          ⊛ raw (ensured 𝓛 at-after-ended (at-after-clauses at-after-out 𝓤) tt (at-after-args) tt r)))) (id⊢ 𝓤 _) $
+          ⊛ raw (ensured 𝓛 at_after_ended (at-after-clauses at-after-out 𝓤) tt (at-after-args) tt r)))) (id⊢ 𝓤 _) $
           await ! tt $ pick ! (λ r-at-after. split ! $ bring ! (1 ∷ []) $
-          use1 𝓛 (some (λ (zs-at-after : Unit {0} × Unit {0}). ‵ (lasts at-after-ended tt (at-after-args) zs-at-after)
+          use1 𝓛 (some (λ (zs-at-after : Unit {0} × Unit {0}). ‵ (lasts at_after_ended tt (at-after-args) zs-at-after)
           ⊛ raw (fact 𝓤 (at-after-says at-after-out v-pick r-at-after)))) (id⊢ 𝓤 _) $
           pick ! (λ zs-at-after. split ! $ bring ! (1 ∷ []) $
           heard ! (at-after-says at-after-out v-pick r-at-after) (λ e-at-after. fparts 𝓛 (_ ∷ []) _ $

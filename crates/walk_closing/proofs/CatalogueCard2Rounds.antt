@@ -116,8 +116,8 @@ close_next_model X = List Entry → List ℕ → ℕ → X
 
 module _ (close-next-out : close_next_model ℕ) (close-next-x-catalogue : close_next_model (List Entry))
     (close-next-x-card : close_next_model (List ℕ)) where
-  abbrev close-next-says : List Entry → List ℕ → ℕ → ℕ → List Entry → List ℕ → Type 0
-  close-next-says a0 a1 a2 r b0 b1 = (r ≡ close-next-out a0 a1 a2) × (b0 ≡ close-next-x-catalogue a0 a1 a2)
+  abbrev close_next_says : List Entry → List ℕ → ℕ → ℕ → List Entry → List ℕ → Type 0
+  close_next_says a0 a1 a2 r b0 b1 = (r ≡ close-next-out a0 a1 a2) × (b0 ≡ close-next-x-catalogue a0 a1 a2)
       × (b1 ≡ close-next-x-card a0 a1 a2)
 
   module _ {M : Type 1} (𝓤 : Ura M) where
@@ -125,7 +125,7 @@ module _ (close-next-out : close_next_model ℕ) (close-next-x-catalogue : close
     close-next-clauses κs a = record {
       ghost = Unit {0};
       requires = λ _. emp 𝓤;
-      ensures = λ _ r e. fact 𝓤 (close-next-says a.0.now a.1.0.now a.1.1.0 r e.0.now e.1.0.now);
+      ensures = λ _ r e. fact 𝓤 (close_next_says a.0.now a.1.0.now a.1.1.0 r e.0.now e.1.0.now);
     }
 
     module _ (𝓛 : Logic 𝓤) where
@@ -226,19 +226,19 @@ module _ (#close-next : Name) (close-next-out : close_next_model ℕ) (close-nex
       all : done + left ≡ x-count
       state : ℕ
       is_state : Is u32 state (machine-state state ∷ [])
-      z-x-catalogue : List Entry
-      l-x-catalogue : length z-x-catalogue ≡ length x-catalogue.now
-      z-x-card : List ℕ
-      l-x-card : length z-x-card ≡ length x-card.now
-      is-after-state : state ≡ after-state x-catalogue.now x-card.now done x-start
-      is-after-x-catalogue : z-x-catalogue ≡ after-x-catalogue x-catalogue.now x-card.now done x-start
-      is-after-x-card : z-x-card ≡ after-x-card x-catalogue.now x-card.now done x-start
+      z_x_catalogue : List Entry
+      l_x_catalogue : length z_x_catalogue ≡ length x-catalogue.now
+      z_x_card : List ℕ
+      l_x_card : length z_x_card ≡ length x-card.now
+      is_after_state : state ≡ after-state x-catalogue.now x-card.now done x-start
+      is_after_x_catalogue : z_x_catalogue ≡ after-x-catalogue x-catalogue.now x-card.now done x-start
+      is_after_x_card : z_x_card ≡ after-x-card x-catalogue.now x-card.now done x-start
 
     -- the loop ends here: what stands is the outcome
     abbrev Ends : At → Type 0
     Ends x = (x.state ≡ after-state x-catalogue.now x-card.now x-count x-start)
-        × (x.z-x-catalogue ≡ after-x-catalogue x-catalogue.now x-card.now x-count x-start)
-        × (x.z-x-card ≡ after-x-card x-catalogue.now x-card.now x-count x-start)
+        × (x.z_x_catalogue ≡ after-x-catalogue x-catalogue.now x-card.now x-count x-start)
+        × (x.z_x_card ≡ after-x-card x-catalogue.now x-card.now x-count x-start)
 
     abbrev size : At → ℕ
     size x = x.left
@@ -250,65 +250,65 @@ module _ (#close-next : Name) (close-next-out : close_next_model ℕ) (close-nex
       all = zero-add x-count;
       state = x-start;
       is_state = is-x-start;
-      z-x-catalogue = x-catalogue.now;
-      l-x-catalogue = refl;
-      z-x-card = x-card.now;
-      l-x-card = refl;
-      is-after-state = sym (after-state-none x-catalogue.now x-card.now x-start);
-      is-after-x-catalogue = sym (after-x-catalogue-none x-catalogue.now x-card.now x-start);
-      is-after-x-card = sym (after-x-card-none x-catalogue.now x-card.now x-start);
+      z_x_catalogue = x-catalogue.now;
+      l_x_catalogue = refl;
+      z_x_card = x-card.now;
+      l_x_card = refl;
+      is_after_state = sym (after-state-none x-catalogue.now x-card.now x-start);
+      is_after_x_catalogue = sym (after-x-catalogue-none x-catalogue.now x-card.now x-start);
+      is_after_x_card = sym (after-x-card-none x-catalogue.now x-card.now x-start);
     }
 
     -- ---- the caller has what `close-next` asks
-    abbrev close-next-args : (δ₀-close-next δ₁-close-next : GName) (v-state : ℕ) (l-x-catalogue : List Entry)
-        (l-x-card : List ℕ) → MutBor (List Entry) × (MutBor (List ℕ) × (ℕ × Unit {0}))
-    close-next-args δ₀-close-next δ₁-close-next v-state l-x-catalogue l-x-card =
-        (at-x-catalogue δ₀-close-next l-x-catalogue, (at-x-card δ₁-close-next l-x-card, (v-state, tt)))
+    abbrev close-next-args : (δ₀-close-next δ₁-close-next : GName) (v-state : ℕ) (l_x_catalogue : List Entry)
+        (l_x_card : List ℕ) → MutBor (List Entry) × (MutBor (List ℕ) × (ℕ × Unit {0}))
+    close-next-args δ₀-close-next δ₁-close-next v-state l_x_catalogue l_x_card =
+        (at-x-catalogue δ₀-close-next l_x_catalogue, (at-x-card δ₁-close-next l_x_card, (v-state, tt)))
 
     abbrev to-close-next : (ν₀-close-next ν₁-close-next : ℕ) (δ₀-close-next δ₁-close-next : GName) (v-state : ℕ)
-        (l-x-catalogue : List Entry) (l-x-card : List ℕ) → (close-next-contract close-next-out close-next-x-catalogue
+        (l_x_catalogue : List Entry) (l_x_card : List ℕ) → (close-next-contract close-next-out close-next-x-catalogue
         close-next-x-card 𝓤 𝓛).Ghost
-    to-close-next ν₀-close-next ν₁-close-next δ₀-close-next δ₁-close-next v-state l-x-catalogue l-x-card
+    to-close-next ν₀-close-next ν₁-close-next δ₀-close-next δ₁-close-next v-state l_x_catalogue l_x_card
         = (
           (
             (ν₀-close-next ∷ [], (ν₁-close-next ∷ [], tt)),
             (full_share, (full_share, tt)),
             tt,
-            close-next-args δ₀-close-next δ₁-close-next v-state l-x-catalogue l-x-card,
+            close-next-args δ₀-close-next δ₁-close-next v-state l_x_catalogue l_x_card,
             (s-x-catalogue ∷ [], (s-x-card ∷ [], ((machine-state v-state) ∷ [], tt))),
           ),
           tt,
         )
 
     goes-close-next : (ν₀-close-next ν₁-close-next : ℕ) (δ₀-close-next δ₁-close-next : GName) (v-state : ℕ)
-        (l-x-catalogue : List Entry) (l-x-card : List ℕ) → Is u32 v-state ((machine-state v-state) ∷ [])
+        (l_x_catalogue : List Entry) (l_x_card : List ℕ) → Is u32 v-state ((machine-state v-state) ∷ [])
         → ent 𝓤 (⋆ 𝓛 (‵ (flft (ν₀-close-next ∷ []) full_share) ∷ ‵ (flft (ν₁-close-next ∷ []) full_share)
-        ∷ ‵ ((MutSlice (named 0) (ν₀-close-next ∷ []) Entry'.the_row).own_val (at-x-catalogue δ₀-close-next l-x-catalogue)
-        (s-x-catalogue ∷ [])) ∷ ‵ ((MutSlice (named 1) (ν₁-close-next ∷ []) u8).own_val (at-x-card δ₁-close-next l-x-card)
+        ∷ ‵ ((MutSlice (named 0) (ν₀-close-next ∷ []) Entry'.the_row).own_val (at-x-catalogue δ₀-close-next l_x_catalogue)
+        (s-x-catalogue ∷ [])) ∷ ‵ ((MutSlice (named 1) (ν₁-close-next ∷ []) u8).own_val (at-x-card δ₁-close-next l_x_card)
         (s-x-card ∷ [])) ∷ [])) ((close-next-contract close-next-out close-next-x-catalogue close-next-x-card 𝓤 𝓛).pre
-        (to-close-next ν₀-close-next ν₁-close-next δ₀-close-next δ₁-close-next v-state l-x-catalogue l-x-card))
-    goes-close-next ν₀-close-next ν₁-close-next δ₀-close-next δ₁-close-next v-state l-x-catalogue l-x-card is-v-state =
+        (to-close-next ν₀-close-next ν₁-close-next δ₀-close-next δ₁-close-next v-state l_x_catalogue l_x_card))
+    goes-close-next ν₀-close-next ν₁-close-next δ₀-close-next δ₁-close-next v-state l_x_catalogue l_x_card is-v-state =
         qed 𝓛 (‵ (flft (ν₀-close-next ∷ []) full_share) ∷ ‵ (flft (ν₁-close-next ∷ []) full_share)
-        ∷ ‵ ((MutSlice (named 0) (ν₀-close-next ∷ []) Entry'.the_row).own_val (at-x-catalogue δ₀-close-next l-x-catalogue)
-        (s-x-catalogue ∷ [])) ∷ ‵ ((MutSlice (named 1) (ν₁-close-next ∷ []) u8).own_val (at-x-card δ₁-close-next l-x-card)
+        ∷ ‵ ((MutSlice (named 0) (ν₀-close-next ∷ []) Entry'.the_row).own_val (at-x-catalogue δ₀-close-next l_x_catalogue)
+        (s-x-catalogue ∷ [])) ∷ ‵ ((MutSlice (named 1) (ν₁-close-next ∷ []) u8).own_val (at-x-card δ₁-close-next l_x_card)
         (s-x-card ∷ [])) ∷ []) ∵
         nothing ! $ bring ! (1 ∷ 1 ∷ 0 ∷ []) $ group ! 3 $ nothing ! $
         owned ! u32 (Is u32) (uint_Makes 𝓛 w32) v-state _ is-v-state $ fjoin ! $ bring ! (3 ∷ 0 ∷ []) $
         fjoin ! $ bring ! (2 ∷ 0 ∷ []) $ fjoin ! $ bring ! (1 ∷ 0 ∷ []) $ join ! $ frame ! $ done !
 
     -- ---- the exit
-    exits : (r : ℕ) (z-x-catalogue : List Entry) (z-x-card : List ℕ) → Is u32 r (machine-state r ∷ [])
-        → Says x-catalogue.now x-card.now x-count x-start r z-x-catalogue z-x-card → length z-x-catalogue
-        ≡ length x-catalogue.now → length z-x-card ≡ length x-card.now → ent 𝓤 (⋆ 𝓛
-        (‵ ((MutSlice (named 0) κ₀ Entry'.the_row).own_val (at-x-catalogue x-catalogue.name z-x-catalogue) (s-x-catalogue ∷ []))
-        ∷ ‵ (flft κ₀ q₀) ∷ ‵ ((MutSlice (named 1) κ₁ u8).own_val (at-x-card x-card.name z-x-card) (s-x-card ∷ []))
+    exits : (r : ℕ) (z_x_catalogue : List Entry) (z_x_card : List ℕ) → Is u32 r (machine-state r ∷ [])
+        → Says x-catalogue.now x-card.now x-count x-start r z_x_catalogue z_x_card → length z_x_catalogue
+        ≡ length x-catalogue.now → length z_x_card ≡ length x-card.now → ent 𝓤 (⋆ 𝓛
+        (‵ ((MutSlice (named 0) κ₀ Entry'.the_row).own_val (at-x-catalogue x-catalogue.name z_x_catalogue) (s-x-catalogue ∷ []))
+        ∷ ‵ (flft κ₀ q₀) ∷ ‵ ((MutSlice (named 1) κ₁ u8).own_val (at-x-card x-card.name z_x_card) (s-x-card ∷ []))
         ∷ ‵ (flft κ₁ q₁) ∷ [])) (Post (machine-state r))
-    exits r z-x-catalogue z-x-card is said l-x-catalogue l-x-card =
-        qed 𝓛 (‵ ((MutSlice (named 0) κ₀ Entry'.the_row).own_val (at-x-catalogue x-catalogue.name z-x-catalogue)
-        (s-x-catalogue ∷ [])) ∷ ‵ (flft κ₀ q₀) ∷ ‵ ((MutSlice (named 1) κ₁ u8).own_val (at-x-card x-card.name z-x-card)
+    exits r z_x_catalogue z_x_card is said l_x_catalogue l_x_card =
+        qed 𝓛 (‵ ((MutSlice (named 0) κ₀ Entry'.the_row).own_val (at-x-catalogue x-catalogue.name z_x_catalogue)
+        (s-x-catalogue ∷ [])) ∷ ‵ (flft κ₀ q₀) ∷ ‵ ((MutSlice (named 1) κ₁ u8).own_val (at-x-card x-card.name z_x_card)
         (s-x-card ∷ [])) ∷ ‵ (flft κ₁ q₁) ∷ []) ∵
         suffices ! _ (ends_at 𝓛 ended stayed (clauses 𝓤) bound (machine-state r) r
-        (z-x-catalogue, (z-x-card, (tt, (tt, tt)))) (l-x-catalogue, (l-x-card, (tt, (tt, tt))))) $
+        (z_x_catalogue, (z_x_card, (tt, (tt, tt)))) (l_x_catalogue, (l_x_card, (tt, (tt, tt))))) $
         says ! said $ nothing ! $ bring ! (2 ∷ 3 ∷ 0 ∷ []) $ group ! 3 $ frame ! $ nothing ! $
         owned ! u32 (Is u32) (uint_Makes 𝓛 w32) x-start _ is-x-start $ fjoin ! $
         owned ! usize (Is usize) (uint_Makes 𝓛 w64) x-count _ is-x-count $ fjoin ! $ bring ! (2 ∷ 0 ∷ []) $
@@ -332,10 +332,10 @@ module _ (#close-next : Name) (close-next-out : close_next_model ℕ) (close-nex
 
       -- the invariant: the slices, and the locals from the last to the first
       abbrev I : At → List (Item 𝓤)
-      I x = ‵ ((MutSlice (named 0) κ₀ Entry'.the_row).own_val (at-x-catalogue x-catalogue.name x.z-x-catalogue)
+      I x = ‵ ((MutSlice (named 0) κ₀ Entry'.the_row).own_val (at-x-catalogue x-catalogue.name x.z_x_catalogue)
           (s-x-catalogue ∷ []))
           ∷ ‵ (flft κ₀ q₀)
-          ∷ ‵ ((MutSlice (named 1) κ₁ u8).own_val (at-x-card x-card.name x.z-x-card) (s-x-card ∷ []))
+          ∷ ‵ ((MutSlice (named 1) κ₁ u8).own_val (at-x-card x-card.name x.z_x_card) (s-x-card ∷ []))
           ∷ ‵ (flft κ₁ q₁)
           ∷ ‵ (froom (slice_ty (ty_ref erased mut (ty_int w8))) l₁₁ 0)
           ∷ ‵ (fdies (slice_ty (ty_ref erased mut (ty_int w8))) l₁₁)
@@ -378,7 +378,7 @@ module _ (#close-next : Name) (close-next-out : close_next_model ℕ) (close-nex
           leave ! 20 refl refl $ leave ! 18 refl refl $ leave ! 16 refl refl $ leave ! 14 refl refl $
           leave_room ! 12 refl refl $ leave_room ! 10 refl refl $ leave_room ! 8 refl refl $ leave_room ! 6 refl refl $
           leave_room ! 4 refl refl $ free0 ! $
-          by ! (exits x.state x.z-x-catalogue x.z-x-card x.is_state fin x.l-x-catalogue x.l-x-card)
+          by ! (exits x.state x.z_x_catalogue x.z_x_card x.is_state fin x.l_x_catalogue x.l_x_card)
 
       -- ---- the turn that finds all rounds done
       ends : (x : At) → x.left ≡ 0 → Sq 𝓛 (I x) (runs C Λ En (turn #close-next) (any_q (after_turn 𝓤 H (Next x) Left)))
@@ -399,9 +399,9 @@ module _ (#close-next : Name) (close-next-out : close_next_model ℕ) (close-nex
 
           fin : Ends x
           fin = (
-            x.is-after-state ∙ ap (λ (k : ℕ). after-state x-catalogue.now x-card.now k x-start) all_done,
-            x.is-after-x-catalogue ∙ ap (λ (k : ℕ). after-x-catalogue x-catalogue.now x-card.now k x-start) all_done,
-            x.is-after-x-card ∙ ap (λ (k : ℕ). after-x-card x-catalogue.now x-card.now k x-start) all_done,
+            x.is_after_state ∙ ap (λ (k : ℕ). after-state x-catalogue.now x-card.now k x-start) all_done,
+            x.is_after_x_catalogue ∙ ap (λ (k : ℕ). after-x-catalogue x-catalogue.now x-card.now k x-start) all_done,
+            x.is_after_x_card ∙ ap (λ (k : ℕ). after-x-card x-catalogue.now x-card.now k x-start) all_done,
           )
 
       -- ---- a turn that does a round
@@ -423,7 +423,7 @@ module _ (#close-next : Name) (close-next-out : close_next_model ℕ) (close-nex
 
         -- where the loop stands after the turn
         module _ (r : ℕ) (m-x-catalogue : List Entry) (m-x-card : List ℕ) (is : Is u32 r (machine-state r ∷ []))
-            (said : close-next-says close-next-out close-next-x-catalogue close-next-x-card x.z-x-catalogue x.z-x-card
+            (said : close_next_says close-next-out close-next-x-catalogue close-next-x-card x.z_x_catalogue x.z_x_card
             x.state r m-x-catalogue m-x-card) (k-x-catalogue : length m-x-catalogue ≡ length x-catalogue.now)
             (k-x-card : length m-x-card ≡ length x-card.now) where
           abbrev next : At
@@ -433,18 +433,18 @@ module _ (#close-next : Name) (close-next-out : close_next_model ℕ) (close-nex
             all = passes;
             state = r;
             is_state = is;
-            z-x-catalogue = m-x-catalogue;
-            l-x-catalogue = k-x-catalogue;
-            z-x-card = m-x-card;
-            l-x-card = k-x-card;
-            is-after-state = said.0 ∙ (λ j. close-next-out (x.is-after-x-catalogue j) (x.is-after-x-card j)
-                (x.is-after-state j)) ∙ sym (after-state-more x.done x-catalogue.now x-card.now x-start)
+            z_x_catalogue = m-x-catalogue;
+            l_x_catalogue = k-x-catalogue;
+            z_x_card = m-x-card;
+            l_x_card = k-x-card;
+            is_after_state = said.0 ∙ (λ j. close-next-out (x.is_after_x_catalogue j) (x.is_after_x_card j)
+                (x.is_after_state j)) ∙ sym (after-state-more x.done x-catalogue.now x-card.now x-start)
                 ∙ ap (λ (m : ℕ). after-state x-catalogue.now x-card.now m x-start) one_more;
-            is-after-x-catalogue = said.1 ∙ (λ j. close-next-x-catalogue (x.is-after-x-catalogue j) (x.is-after-x-card j)
-                (x.is-after-state j)) ∙ sym (after-x-catalogue-more x.done x-catalogue.now x-card.now x-start)
+            is_after_x_catalogue = said.1 ∙ (λ j. close-next-x-catalogue (x.is_after_x_catalogue j) (x.is_after_x_card j)
+                (x.is_after_state j)) ∙ sym (after-x-catalogue-more x.done x-catalogue.now x-card.now x-start)
                 ∙ ap (λ (m : ℕ). after-x-catalogue x-catalogue.now x-card.now m x-start) one_more;
-            is-after-x-card = said.2 ∙ (λ j. close-next-x-card (x.is-after-x-catalogue j) (x.is-after-x-card j)
-                (x.is-after-state j)) ∙ sym (after-x-card-more x.done x-catalogue.now x-card.now x-start)
+            is_after_x_card = said.2 ∙ (λ j. close-next-x-card (x.is_after_x_catalogue j) (x.is_after_x_card j)
+                (x.is_after_state j)) ∙ sym (after-x-card-more x.done x-catalogue.now x-card.now x-start)
                 ∙ ap (λ (m : ℕ). after-x-card x-catalogue.now x-card.now m x-start) one_more;
           }
 
@@ -469,39 +469,39 @@ module _ (#close-next : Name) (close-next-out : close_next_model ℕ) (close-nex
             (init ! 4 refl (tt, (tt, (record { fits = room-x-card.0 }, tt)))) $
             lft_new ! tt (λ ν₀-close-next. bring ! (1 ∷ 1 ∷ []) $
             use2 𝓛 (later (some (λ (δ : GName). ‵ ((MutSlice (named 0) (ν₀-close-next ∷ []) Entry'.the_row).own_val
-            (at-x-catalogue δ x.z-x-catalogue) (s-x-catalogue ∷ [])) ⊛ ‵ (LentAgain Entry'.the_row κ₀ (ν₀-close-next ∷ []) q₀
-            x-catalogue.name x-catalogue.ptr.0 x-catalogue.ptr.1 δ x.z-x-catalogue))))
+            (at-x-catalogue δ x.z_x_catalogue) (s-x-catalogue ∷ [])) ⊛ ‵ (LentAgain Entry'.the_row κ₀ (ν₀-close-next ∷ []) q₀
+            x-catalogue.name x-catalogue.ptr.0 x-catalogue.ptr.1 δ x.z_x_catalogue))))
             (lends_again Entry'.the_row κ₀ (ν₀-close-next ∷ []) q₀ x-catalogue.name x-catalogue.ptr.0
-            x-catalogue.ref_ptr.1 𝓛 (named 0) (named 0) x.z-x-catalogue (length x-catalogue.now) x.l-x-catalogue)
+            x-catalogue.ref_ptr.1 𝓛 (named 0) (named 0) x.z_x_catalogue (length x-catalogue.now) x.l_x_catalogue)
             $
             await ! tt $ pick ! (λ δ₀-close-next. split ! $ lft_new ! tt (λ ν₁-close-next. bring ! (4 ∷ 4 ∷ []) $
-            use2 𝓛 (later (some (λ (δ : GName). ‵ ((MutSlice (named 1) (ν₁-close-next ∷ []) u8).own_val (at-x-card δ x.z-x-card)
+            use2 𝓛 (later (some (λ (δ : GName). ‵ ((MutSlice (named 1) (ν₁-close-next ∷ []) u8).own_val (at-x-card δ x.z_x_card)
             (s-x-card ∷ [])) ⊛ ‵ (LentAgain u8 κ₁ (ν₁-close-next ∷ []) q₁ x-card.name x-card.ptr.0 x-card.ptr.1 δ
-            x.z-x-card)))) (lends_again u8 κ₁ (ν₁-close-next ∷ []) q₁ x-card.name x-card.ptr.0 x-card.ptr.1 𝓛
-            (named 1) (named 1) x.z-x-card (length x-card.now) x.l-x-card) $
+            x.z_x_card)))) (lends_again u8 κ₁ (ν₁-close-next ∷ []) q₁ x-card.name x-card.ptr.0 x-card.ptr.1 𝓛
+            (named 1) (named 1) x.z_x_card (length x-card.now) x.l_x_card) $
             await ! tt $ pick ! (λ δ₁-close-next. split ! $ bring ! (5 ∷ 2 ∷ 2 ∷ 0 ∷ []) $ group ! 4 $
             use1 𝓛 (raw ((close-next-contract close-next-out close-next-x-catalogue close-next-x-card 𝓤 𝓛).pre
-            (to-close-next ν₀-close-next ν₁-close-next δ₀-close-next δ₁-close-next x.state x.z-x-catalogue
-            x.z-x-card))) (goes-close-next ν₀-close-next ν₁-close-next δ₀-close-next δ₁-close-next x.state
-            x.z-x-catalogue x.z-x-card x.is_state) $
+            (to-close-next ν₀-close-next ν₁-close-next δ₀-close-next δ₁-close-next x.state x.z_x_catalogue
+            x.z_x_card))) (goes-close-next ν₀-close-next ν₁-close-next δ₀-close-next δ₁-close-next x.state
+            x.z_x_catalogue x.z_x_card x.is_state) $
             calls_at ! (fm_of 𝓤 H 𝓛.laws 𝓣) (close-next-contract close-next-out close-next-x-catalogue close-next-x-card 𝓤 𝓛) known-close-next (to-close-next ν₀-close-next ν₁-close-next δ₀-close-next δ₁-close-next x.state
-            x.z-x-catalogue x.z-x-card) (and_then ! (load ! (from ! (stop !)) (look ! 7 refl))
+            x.z_x_catalogue x.z_x_card) (and_then ! (load ! (from ! (stop !)) (look ! 7 refl))
             (and_then ! (load ! (from ! (stop !)) (look ! 3 refl)) (and_then ! (load ! (from ! (stop !)) (look ! 15 refl))
             (no_more !)))) (λ w-close-next.
             use1 𝓛 (later (some (λ (r : ℕ). ((‵ (flft (ν₀-close-next ∷ []) full_share) ⊛ ‵ (flft (ν₁-close-next ∷ []) full_share)
             ⊛ ‵ ftrue) ⊛ ‵ (u32.own_val r (w-close-next ∷ []))) ⊛ raw (ensured 𝓛 close_next_ended
             (close-next-clauses close-next-out close-next-x-catalogue close-next-x-card 𝓤)
             (ν₀-close-next ∷ [], (ν₁-close-next ∷ [], tt)) (close-next-args δ₀-close-next δ₁-close-next x.state
-            x.z-x-catalogue x.z-x-card) tt r)))) (id⊢ 𝓤 _) $
+            x.z_x_catalogue x.z_x_card) tt r)))) (id⊢ 𝓤 _) $
             await ! tt $ pick ! (λ r-close-next. split ! $ bring ! (1 ∷ []) $
             use1 𝓛 (some (λ (zs-close-next : List Entry × (List ℕ × (Unit {0} × Unit {0}))). ‵
             (lasts close_next_ended
             (ν₀-close-next ∷ [], (ν₁-close-next ∷ [], tt)) (close-next-args δ₀-close-next δ₁-close-next x.state
-            x.z-x-catalogue x.z-x-card) zs-close-next) ⊛ raw (fact 𝓤 (close-next-says close-next-out
-            close-next-x-catalogue close-next-x-card x.z-x-catalogue x.z-x-card x.state r-close-next zs-close-next.0
+            x.z_x_catalogue x.z_x_card) zs-close-next) ⊛ raw (fact 𝓤 (close_next_says close-next-out
+            close-next-x-catalogue close-next-x-card x.z_x_catalogue x.z_x_card x.state r-close-next zs-close-next.0
             zs-close-next.1.0)))) (id⊢ 𝓤 _) $
             pick ! (λ zs-close-next. split ! $ bring ! (1 ∷ []) $
-            heard ! (close-next-says close-next-out close-next-x-catalogue close-next-x-card x.z-x-catalogue x.z-x-card
+            heard ! (close_next_says close-next-out close-next-x-catalogue close-next-x-card x.z_x_catalogue x.z_x_card
             x.state r-close-next zs-close-next.0 zs-close-next.1.0) (λ e-close-next.
             fparts 𝓛 (_ ∷ _ ∷ _ ∷ []) _ $ discard ! (2 ∷ []) $ fsplit ! $ bring ! (1 ∷ []) $
             feq_l ! (λ h-close-next-x-catalogue. bring ! (1 ∷ []) $ fsplit ! $ bring ! (1 ∷ []) $
@@ -513,13 +513,13 @@ module _ (#close-next : Name) (close-next-out : close_next_model ℕ) (close-nex
             discard ! (0 ∷ []) $ parts 𝓛 (_ ∷ _ ∷ []) _ $ lft_end ! tt $ bring ! (0 ∷ 4 ∷ 2 ∷ []) $
             use3 𝓛 (later (‵ ((MutSlice (named 0) κ₀ Entry'.the_row).own_val (at-x-catalogue x-catalogue.name zs-close-next.0)
             (s-x-catalogue ∷ [])) ⊛ ‵ (flft κ₀ q₀))) (comes_back Entry'.the_row κ₀ (ν₀-close-next ∷ []) q₀ x-catalogue.name
-            x-catalogue.ptr.0 x-catalogue.ptr.1 𝓛 (named 0) (named 0) x.z-x-catalogue
-            (length x-catalogue.now) x.l-x-catalogue room-x-catalogue δ₀-close-next zs-close-next.0
+            x-catalogue.ptr.0 x-catalogue.ptr.1 𝓛 (named 0) (named 0) x.z_x_catalogue
+            (length x-catalogue.now) x.l_x_catalogue room-x-catalogue δ₀-close-next zs-close-next.0
             h-close-next-x-catalogue) $
             await ! tt $ split ! $ bring ! (2 ∷ []) $ lft_end ! tt $ bring ! (0 ∷ 3 ∷ 2 ∷ []) $
             use3 𝓛 (later (‵ ((MutSlice (named 1) κ₁ u8).own_val (at-x-card x-card.name zs-close-next.1.0) (s-x-card ∷ []))
             ⊛ ‵ (flft κ₁ q₁))) (comes_back u8 κ₁ (ν₁-close-next ∷ []) q₁ x-card.name x-card.ptr.0 x-card.ptr.1 𝓛
-            (named 1) (named 1) x.z-x-card (length x-card.now) x.l-x-card room-x-card δ₁-close-next
+            (named 1) (named 1) x.z_x_card (length x-card.now) x.l_x_card room-x-card δ₁-close-next
             zs-close-next.1.0 h-close-next-x-card) $
             await ! tt $ split ! $
             -- the turn is over
@@ -528,8 +528,8 @@ module _ (#close-next : Name) (close-next-out : close_next_model ℕ) (close-nex
             (from ! (stop !)) (store ! 14 refl (tt, record { fits = next_fits })) $
             forget ! 4 refl $ forget ! 6 refl $ forget ! 8 refl $ forget ! 10 refl $ forget ! 12 refl $
             again ! (Less size) I x (next r-close-next zs-close-next.0 zs-close-next.1.0
-            (spelled r-close-next w-close-next is-w-close-next) e-close-next (h-close-next-x-catalogue ∙ x.l-x-catalogue)
-            (h-close-next-x-card ∙ x.l-x-card)) shorter)))))))))))
+            (spelled r-close-next w-close-next is-w-close-next) e-close-next (h-close-next-x-catalogue ∙ x.l_x_catalogue)
+            (h-close-next-x-card ∙ x.l_x_card)) shorter)))))))))))
 
       turn_at : (x : At) → Sq 𝓛 (I x) (runs C Λ En (turn #close-next) (any_q (after_turn 𝓤 H (Next x) Left)))
       turn_at x = by_cases x.left refl

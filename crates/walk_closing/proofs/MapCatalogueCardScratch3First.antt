@@ -152,26 +152,26 @@ module _ (Tally : Value) where
   }
 
   -- ---- what `count` is, and what it ensures
-  abbrev count-signature : Signature
-  count-signature = record {
+  abbrev count_signature : Signature
+  count_signature = record {
     lifetimes = 1;
     outlives = [];
     params = shr_slice 0 tt (λ _. Entry'.the_row) ∷ [];
     result = plain (λ _. usize);
   }
 
-  abbrev count-ended : Ended
-  count-ended = record { signature = count-signature; kept = (yes, tt) }
+  abbrev count_ended : Ended
+  count_ended = record { signature = count_signature; kept = (yes, tt) }
 
-  abbrev count-Model : Type 0 → Type 0
-  count-Model X = List Entry → X
+  abbrev count_model : Type 0 → Type 0
+  count_model X = List Entry → X
 
-  module _ (count-out : count-Model ℕ) where
+  module _ (count-out : count_model ℕ) where
     abbrev count-says : List Entry → ℕ → Type 0
     count-says a0 r = r ≡ count-out a0
 
     module _ {M : Type 1} (𝓤 : Ura M) where
-      abbrev count-clauses : Clauses 𝓤 count-ended
+      abbrev count-clauses : Clauses 𝓤 count_ended
       count-clauses κs a = record {
         ghost = Unit {0};
         requires = λ _. emp 𝓤;
@@ -180,11 +180,11 @@ module _ (Tally : Value) where
 
       module _ (𝓛 : Logic 𝓤) where
         abbrev pub count-contract : Contract 𝓤
-        count-contract = triple_of 𝓛 count-signature (closing 𝓛 count-ended count-clauses)
+        count-contract = triple_of 𝓛 count_signature (closing 𝓛 count_ended count-clauses)
 
   -- ---- what `begin` is, and what it ensures
-  abbrev begin-signature : Signature
-  begin-signature = record {
+  abbrev begin_signature : Signature
+  begin_signature = record {
     lifetimes = 3;
     outlives = [];
     params = plain (λ _. u32) ∷ plain (λ _. u32) ∷ plain (λ _. u32) ∷ plain (λ _. Boolean) ∷ shr_slice 0 tt (λ _. u64)
@@ -192,18 +192,18 @@ module _ (Tally : Value) where
     result = plain (λ _. (row_of Tally));
   }
 
-  abbrev begin-ended : Ended
-  begin-ended = record { signature = begin-signature; kept = (yes, (yes, (yes, (yes, (yes, (yes, (yes, (yes, tt)))))))) }
+  abbrev begin_ended : Ended
+  begin_ended = record { signature = begin_signature; kept = (yes, (yes, (yes, (yes, (yes, (yes, (yes, (yes, tt)))))))) }
 
-  abbrev begin-Model : Type 0 → Type 0
-  begin-Model X = ℕ → ℕ → ℕ → Bool → List ℕ → ℕ → List ℕ → List ℕ → X
+  abbrev begin_model : Type 0 → Type 0
+  begin_model X = ℕ → ℕ → ℕ → Bool → List ℕ → ℕ → List ℕ → List ℕ → X
 
-  module _ (begin-out : begin-Model (denotes Tally)) where
+  module _ (begin-out : begin_model (denotes Tally)) where
     abbrev begin-says : ℕ → ℕ → ℕ → Bool → List ℕ → ℕ → List ℕ → List ℕ → (denotes Tally) → Type 0
     begin-says a0 a1 a2 a3 a4 a5 a6 a7 r = r ≡ begin-out a0 a1 a2 a3 a4 a5 a6 a7
 
     module _ {M : Type 1} (𝓤 : Ura M) where
-      abbrev begin-clauses : Clauses 𝓤 begin-ended
+      abbrev begin-clauses : Clauses 𝓤 begin_ended
       begin-clauses κs a = record {
         ghost = Unit {0};
         requires = λ _. emp 𝓤;
@@ -213,11 +213,11 @@ module _ (Tally : Value) where
 
       module _ (𝓛 : Logic 𝓤) where
         abbrev pub begin-contract : Contract 𝓤
-        begin-contract = triple_of 𝓛 begin-signature (closing 𝓛 begin-ended begin-clauses)
+        begin-contract = triple_of 𝓛 begin_signature (closing 𝓛 begin_ended begin-clauses)
 
   -- ---- what `test` is, and what it ensures
-  abbrev test-signature : Signature
-  test-signature = record {
+  abbrev test_signature : Signature
+  test_signature = record {
     lifetimes = 3;
     outlives = [];
     params = shr_slice 0 tt (λ _. u64) ∷ shr_slice 1 tt (λ _. Entry'.the_row) ∷ mut_slice 2 tt (λ _. u64) ∷ plain (λ _. u32)
@@ -225,18 +225,18 @@ module _ (Tally : Value) where
     result = plain (λ _. Boolean);
   }
 
-  abbrev test-ended : Ended
-  test-ended = record { signature = test-signature; kept = (yes, (yes, (yes, (yes, (yes, tt))))) }
+  abbrev test_ended : Ended
+  test_ended = record { signature = test_signature; kept = (yes, (yes, (yes, (yes, (yes, tt))))) }
 
-  abbrev test-Model : Type 0 → Type 0
-  test-Model X = List ℕ → List Entry → List ℕ → ℕ → (denotes Tally) → X
+  abbrev test_model : Type 0 → Type 0
+  test_model X = List ℕ → List Entry → List ℕ → ℕ → (denotes Tally) → X
 
-  module _ (test-out : test-Model Bool) (test-x-scratch : test-Model (List ℕ)) where
+  module _ (test-out : test_model Bool) (test-x-scratch : test_model (List ℕ)) where
     abbrev test-says : List ℕ → List Entry → List ℕ → ℕ → (denotes Tally) → Bool → List ℕ → Type 0
     test-says a0 a1 a2 a3 a4 r b2 = (r ≡ test-out a0 a1 a2 a3 a4) × (b2 ≡ test-x-scratch a0 a1 a2 a3 a4)
 
     module _ {M : Type 1} (𝓤 : Ura M) where
-      abbrev test-clauses : Clauses 𝓤 test-ended
+      abbrev test-clauses : Clauses 𝓤 test_ended
       test-clauses κs a = record {
         ghost = Unit {0};
         requires = λ _. emp 𝓤;
@@ -246,29 +246,29 @@ module _ (Tally : Value) where
 
       module _ (𝓛 : Logic 𝓤) where
         abbrev pub test-contract : Contract 𝓤
-        test-contract = triple_of 𝓛 test-signature (closing 𝓛 test-ended test-clauses)
+        test-contract = triple_of 𝓛 test_signature (closing 𝓛 test_ended test-clauses)
 
   -- ---- what `verdict` is, and what it ensures
-  abbrev verdict-signature : Signature
-  verdict-signature = record {
+  abbrev verdict_signature : Signature
+  verdict_signature = record {
     lifetimes = 0;
     outlives = [];
     params = plain (λ _. u32) ∷ plain (λ _. (row_of Tally)) ∷ plain (λ _. Boolean) ∷ [];
     result = plain (λ _. u32);
   }
 
-  abbrev verdict-ended : Ended
-  verdict-ended = record { signature = verdict-signature; kept = (yes, (yes, (yes, tt))) }
+  abbrev verdict_ended : Ended
+  verdict_ended = record { signature = verdict_signature; kept = (yes, (yes, (yes, tt))) }
 
-  abbrev verdict-Model : Type 0 → Type 0
-  verdict-Model X = ℕ → (denotes Tally) → Bool → X
+  abbrev verdict_model : Type 0 → Type 0
+  verdict_model X = ℕ → (denotes Tally) → Bool → X
 
-  module _ (verdict-out : verdict-Model ℕ) where
+  module _ (verdict-out : verdict_model ℕ) where
     abbrev verdict-says : ℕ → (denotes Tally) → Bool → ℕ → Type 0
     verdict-says a0 a1 a2 r = r ≡ verdict-out a0 a1 a2
 
     module _ {M : Type 1} (𝓤 : Ura M) where
-      abbrev verdict-clauses : Clauses 𝓤 verdict-ended
+      abbrev verdict-clauses : Clauses 𝓤 verdict_ended
       verdict-clauses κs a = record {
         ghost = Unit {0};
         requires = λ _. emp 𝓤;
@@ -277,29 +277,29 @@ module _ (Tally : Value) where
 
       module _ (𝓛 : Logic 𝓤) where
         abbrev pub verdict-contract : Contract 𝓤
-        verdict-contract = triple_of 𝓛 verdict-signature (closing 𝓛 verdict-ended verdict-clauses)
+        verdict-contract = triple_of 𝓛 verdict_signature (closing 𝓛 verdict_ended verdict-clauses)
 
   -- ---- what `rounds-for` is, and what it ensures
-  abbrev rounds-for-signature : Signature
-  rounds-for-signature = record {
+  abbrev rounds_for_signature : Signature
+  rounds_for_signature = record {
     lifetimes = 0;
     outlives = [];
     params = plain (λ _. usize) ∷ plain (λ _. u32) ∷ [];
     result = plain (λ _. usize);
   }
 
-  abbrev rounds-for-ended : Ended
-  rounds-for-ended = record { signature = rounds-for-signature; kept = (yes, (yes, tt)) }
+  abbrev rounds_for_ended : Ended
+  rounds_for_ended = record { signature = rounds_for_signature; kept = (yes, (yes, tt)) }
 
-  abbrev rounds-for-Model : Type 0 → Type 0
-  rounds-for-Model X = ℕ → ℕ → X
+  abbrev rounds_for_model : Type 0 → Type 0
+  rounds_for_model X = ℕ → ℕ → X
 
-  module _ (rounds-for-out : rounds-for-Model ℕ) where
+  module _ (rounds-for-out : rounds_for_model ℕ) where
     abbrev rounds-for-says : ℕ → ℕ → ℕ → Type 0
     rounds-for-says a0 a1 r = r ≡ rounds-for-out a0 a1
 
     module _ {M : Type 1} (𝓤 : Ura M) where
-      abbrev rounds-for-clauses : Clauses 𝓤 rounds-for-ended
+      abbrev rounds-for-clauses : Clauses 𝓤 rounds_for_ended
       rounds-for-clauses κs a = record {
         ghost = Unit {0};
         requires = λ _. emp 𝓤;
@@ -308,31 +308,31 @@ module _ (Tally : Value) where
 
       module _ (𝓛 : Logic 𝓤) where
         abbrev pub rounds-for-contract : Contract 𝓤
-        rounds-for-contract = triple_of 𝓛 rounds-for-signature (closing 𝓛 rounds-for-ended rounds-for-clauses)
+        rounds-for-contract = triple_of 𝓛 rounds_for_signature (closing 𝓛 rounds_for_ended rounds-for-clauses)
 
   -- ---- what `close-rounds` is, and what it ensures
-  abbrev close-rounds-signature : Signature
-  close-rounds-signature = record {
+  abbrev close_rounds_signature : Signature
+  close_rounds_signature = record {
     lifetimes = 2;
     outlives = [];
     params = mut_slice 0 tt (λ _. Entry'.the_row) ∷ mut_slice 1 tt (λ _. u8) ∷ plain (λ _. usize) ∷ plain (λ _. u32) ∷ [];
     result = plain (λ _. u32);
   }
 
-  abbrev close-rounds-ended : Ended
-  close-rounds-ended = record { signature = close-rounds-signature; kept = (yes, (yes, (yes, (yes, tt)))) }
+  abbrev close_rounds_ended : Ended
+  close_rounds_ended = record { signature = close_rounds_signature; kept = (yes, (yes, (yes, (yes, tt)))) }
 
-  abbrev close-rounds-Model : Type 0 → Type 0
-  close-rounds-Model X = List Entry → List ℕ → ℕ → ℕ → X
+  abbrev close_rounds_model : Type 0 → Type 0
+  close_rounds_model X = List Entry → List ℕ → ℕ → ℕ → X
 
-  module _ (close-rounds-out : close-rounds-Model ℕ) (close-rounds-x-catalogue : close-rounds-Model (List Entry))
-      (close-rounds-x-card : close-rounds-Model (List ℕ)) where
+  module _ (close-rounds-out : close_rounds_model ℕ) (close-rounds-x-catalogue : close_rounds_model (List Entry))
+      (close-rounds-x-card : close_rounds_model (List ℕ)) where
     abbrev close-rounds-says : List Entry → List ℕ → ℕ → ℕ → ℕ → List Entry → List ℕ → Type 0
     close-rounds-says a0 a1 a2 a3 r b0 b1 = (r ≡ close-rounds-out a0 a1 a2 a3) × (b0 ≡ close-rounds-x-catalogue a0 a1 a2 a3)
         × (b1 ≡ close-rounds-x-card a0 a1 a2 a3)
 
     module _ {M : Type 1} (𝓤 : Ura M) where
-      abbrev close-rounds-clauses : Clauses 𝓤 close-rounds-ended
+      abbrev close-rounds-clauses : Clauses 𝓤 close_rounds_ended
       close-rounds-clauses κs a = record {
         ghost = Unit {0};
         requires = λ _. emp 𝓤;
@@ -342,29 +342,29 @@ module _ (Tally : Value) where
 
       module _ (𝓛 : Logic 𝓤) where
         abbrev pub close-rounds-contract : Contract 𝓤
-        close-rounds-contract = triple_of 𝓛 close-rounds-signature (closing 𝓛 close-rounds-ended close-rounds-clauses)
+        close-rounds-contract = triple_of 𝓛 close_rounds_signature (closing 𝓛 close_rounds_ended close-rounds-clauses)
 
   -- ---- what `close-map` is, and what it ensures
-  abbrev close-map-signature : Signature
-  close-map-signature = record {
+  abbrev close_map_signature : Signature
+  close_map_signature = record {
     lifetimes = 1;
     outlives = [];
     params = mut_slice 0 tt (λ _. u64) ∷ plain (λ _. u32) ∷ plain (λ _. u32) ∷ plain (λ _. u32) ∷ [];
     result = plain (λ _. Nothing);
   }
 
-  abbrev close-map-ended : Ended
-  close-map-ended = record { signature = close-map-signature; kept = (yes, (yes, (yes, (yes, tt)))) }
+  abbrev close_map_ended : Ended
+  close_map_ended = record { signature = close_map_signature; kept = (yes, (yes, (yes, (yes, tt)))) }
 
-  abbrev close-map-Model : Type 0 → Type 0
-  close-map-Model X = List ℕ → ℕ → ℕ → ℕ → X
+  abbrev close_map_model : Type 0 → Type 0
+  close_map_model X = List ℕ → ℕ → ℕ → ℕ → X
 
-  module _ (close-map-x-map : close-map-Model (List ℕ)) where
+  module _ (close-map-x-map : close_map_model (List ℕ)) where
     abbrev close-map-says : List ℕ → ℕ → ℕ → ℕ → (Unit {0}) → List ℕ → Type 0
     close-map-says a0 a1 a2 a3 r b0 = b0 ≡ close-map-x-map a0 a1 a2 a3
 
     module _ {M : Type 1} (𝓤 : Ura M) where
-      abbrev close-map-clauses : Clauses 𝓤 close-map-ended
+      abbrev close-map-clauses : Clauses 𝓤 close_map_ended
       close-map-clauses κs a = record {
         ghost = Unit {0};
         requires = λ _. emp 𝓤;
@@ -373,13 +373,13 @@ module _ (Tally : Value) where
 
       module _ (𝓛 : Logic 𝓤) where
         abbrev pub close-map-contract : Contract 𝓤
-        close-map-contract = triple_of 𝓛 close-map-signature (closing 𝓛 close-map-ended close-map-clauses)
+        close-map-contract = triple_of 𝓛 close_map_signature (closing 𝓛 close_map_ended close-map-clauses)
 
-  module _ (#count #begin #test #verdict #rounds-for #close-rounds #close-map : Name) (count-out : count-Model ℕ)
-      (begin-out : begin-Model (denotes Tally)) (test-out : test-Model Bool) (test-x-scratch : test-Model (List ℕ))
-      (verdict-out : verdict-Model ℕ) (rounds-for-out : rounds-for-Model ℕ) (close-rounds-out : close-rounds-Model ℕ)
-      (close-rounds-x-catalogue : close-rounds-Model (List Entry)) (close-rounds-x-card : close-rounds-Model (List ℕ))
-      (close-map-x-map : close-map-Model (List ℕ)) where
+  module _ (#count #begin #test #verdict #rounds-for #close-rounds #close-map : Name) (count-out : count_model ℕ)
+      (begin-out : begin_model (denotes Tally)) (test-out : test_model Bool) (test-x-scratch : test_model (List ℕ))
+      (verdict-out : verdict_model ℕ) (rounds-for-out : rounds_for_model ℕ) (close-rounds-out : close_rounds_model ℕ)
+      (close-rounds-x-catalogue : close_rounds_model (List Entry)) (close-rounds-x-card : close_rounds_model (List ℕ))
+      (close-map-x-map : close_map_model (List ℕ)) where
     -- ---- what the chain gives, call by call
     module _ (x-role : ℕ) (x-n : ℕ) (x-free : ℕ) (x_Fits : Bool) (x-map : List ℕ) (x-catalogue : List Entry) (x-card : List ℕ)
         (x-scratch : List ℕ) where
@@ -814,7 +814,7 @@ module _ (Tally : Value) where
             (s-x-catalogue ∷ [])) ∷ ‵ (flft κ₁ q₁) ∷ ‵ ((MutSlice (named 2) κ₂ u8).own_val (at-x-card x-card.name
             z-close-rounds-x-card) (s-x-card ∷ [])) ∷ ‵ (flft κ₂ q₂) ∷ ‵ ((MutSlice (named 3) κ₃ u64).own_val
             (at-x-scratch x-scratch.name z-test-x-scratch) (s-x-scratch ∷ [])) ∷ ‵ (flft κ₃ q₃) ∷ [])) (Post m-v-number)
-        exits is l-x-map l-x-catalogue l-x-card l-x-scratch =
+        exits is l-x-map l_x_catalogue l_x_card l_x_scratch =
             qed 𝓛 (‵ ((MutSlice (named 0) κ₀ u64).own_val (at-x-map x-map.name z-close-map-x-map) (s-x-map ∷ [])) ∷ ‵ (flft κ₀ q₀)
             ∷ ‵ ((MutSlice (named 1) κ₁ Entry'.the_row).own_val (at-x-catalogue x-catalogue.name z-close-rounds-x-catalogue)
             (s-x-catalogue ∷ [])) ∷ ‵ (flft κ₁ q₁) ∷ ‵ ((MutSlice (named 2) κ₂ u8).own_val (at-x-card x-card.name
@@ -826,7 +826,7 @@ module _ (Tally : Value) where
                 tt,
                 (tt, (tt, (z-close-map-x-map, (z-close-rounds-x-catalogue, (z-close-rounds-x-card, (z-test-x-scratch, tt)))))),
               ),
-            ) (tt, (tt, (tt, (tt, (l-x-map, (l-x-catalogue, (l-x-card, (l-x-scratch, tt))))))))) $
+            ) (tt, (tt, (tt, (tt, (l-x-map, (l_x_catalogue, (l_x_card, (l_x_scratch, tt))))))))) $
             says ! (law x-role x-n x-free x_Fits x-map.now x-catalogue.now x-card.now x-scratch.now) $
             nothing ! $ bring ! (2 ∷ 3 ∷ 4 ∷ 5 ∷ 0 ∷ []) $ group ! 5 $ frame ! $ nothing ! $ bring ! (4 ∷ 0 ∷ []) $
             fjoin ! $ bring ! (3 ∷ 0 ∷ []) $ fjoin ! $ bring ! (2 ∷ 0 ∷ []) $ fjoin ! $ bring ! (1 ∷ 0 ∷ []) $ fjoin ! $
@@ -883,10 +883,10 @@ module _ (Tally : Value) where
             calls_at ! (fm_of 𝓤 H 𝓛.laws 𝓣) (count-contract count-out 𝓤 𝓛) known-count (to-count ν₀-count δ₀-count)
             (and_then ! (load ! (from ! (stop !)) (look ! 46 refl)) (no_more !)) (λ w-count.
             use1 𝓛 (later (some (λ (r : ℕ). ((‵ (flft (ν₀-count ∷ []) full_share) ⊛ ‵ ftrue) ⊛ ‵ (usize.own_val r (w-count ∷ [])))
-            ⊛ raw (ensured 𝓛 count-ended (count-clauses count-out 𝓤) (ν₀-count ∷ [], tt) (count-args δ₀-count) tt r))))
+            ⊛ raw (ensured 𝓛 count_ended (count-clauses count-out 𝓤) (ν₀-count ∷ [], tt) (count-args δ₀-count) tt r))))
             (id⊢ 𝓤 _) $
             await ! tt $ pick ! (λ r-count. split ! $ bring ! (1 ∷ []) $
-            use1 𝓛 (some (λ (zs-count : Unit {0} × Unit {0}). ‵ (lasts count-ended (ν₀-count ∷ [], tt) (count-args δ₀-count)
+            use1 𝓛 (some (λ (zs-count : Unit {0} × Unit {0}). ‵ (lasts count_ended (ν₀-count ∷ [], tt) (count-args δ₀-count)
             zs-count) ⊛ raw (fact 𝓤 (count-says count-out x-catalogue.now r-count)))) (id⊢ 𝓤 _) $
             pick ! (λ zs-count. split ! $ bring ! (1 ∷ []) $
             heard ! (count-says count-out x-catalogue.now r-count) (λ e-count. fparts 𝓛 (_ ∷ []) _ $
@@ -946,11 +946,11 @@ module _ (Tally : Value) where
             (no_more !))))))))) (λ w-begin.
             use1 𝓛 (later (some (λ (r : (denotes Tally)). ((‵ (flft (ν₀-begin ∷ []) full_share)
             ⊛ ‵ (flft (ν₁-begin ∷ []) full_share) ⊛ ‵ (flft (ν₂-begin ∷ []) full_share) ⊛ ‵ ftrue)
-            ⊛ ‵ ((row_of Tally).own_val r (w-begin ∷ []))) ⊛ raw (ensured 𝓛 begin-ended (begin-clauses begin-out 𝓤)
+            ⊛ ‵ ((row_of Tally).own_val r (w-begin ∷ []))) ⊛ raw (ensured 𝓛 begin_ended (begin-clauses begin-out 𝓤)
             (ν₀-begin ∷ [], (ν₁-begin ∷ [], (ν₂-begin ∷ [], tt))) (begin-args δ₀-begin δ₁-begin δ₂-begin) tt r)))) (id⊢ 𝓤 _) $
             await ! tt $ pick ! (λ r-begin. split ! $ bring ! (1 ∷ []) $
             use1 𝓛 (some (λ (zs-begin : Unit {0} × (Unit {0} × (Unit {0} × (Unit {0} ×
-            (Unit {0} × (Unit {0} × (Unit {0} × (Unit {0} × Unit {0})))))))). ‵ (lasts begin-ended
+            (Unit {0} × (Unit {0} × (Unit {0} × (Unit {0} × Unit {0})))))))). ‵ (lasts begin_ended
             (ν₀-begin ∷ [], (ν₁-begin ∷ [], (ν₂-begin ∷ [], tt))) (begin-args δ₀-begin δ₁-begin δ₂-begin) zs-begin)
             ⊛ raw (fact 𝓤 (begin-says begin-out x-role x-n x-free x_Fits x-map.now v_count x-card.now x-scratch.now
             r-begin)))) (id⊢ 𝓤 _) $
@@ -1019,11 +1019,11 @@ module _ (Tally : Value) where
             (no_more !)))))) (λ w-test.
             use1 𝓛 (later (some (λ (r : Bool). ((‵ (flft (ν₀-test ∷ []) full_share) ⊛ ‵ (flft (ν₁-test ∷ []) full_share)
             ⊛ ‵ (flft (ν₂-test ∷ []) full_share) ⊛ ‵ ftrue) ⊛ ‵ (Boolean.own r (w-test ∷ [])))
-            ⊛ raw (ensured 𝓛 test-ended (test-clauses test-out test-x-scratch 𝓤)
+            ⊛ raw (ensured 𝓛 test_ended (test-clauses test-out test-x-scratch 𝓤)
             (ν₀-test ∷ [], (ν₁-test ∷ [], (ν₂-test ∷ [], tt))) (test-args δ₀-test δ₁-test δ₂-test) tt r)))) (id⊢ 𝓤 _) $
             await ! tt $ pick ! (λ r-test. split ! $ bring ! (1 ∷ []) $
             use1 𝓛 (some (λ (zs-test : Unit {0} × (Unit {0} × (List ℕ × (Unit {0} × (Unit {0} × Unit {0}))))). ‵
-            (lasts test-ended (ν₀-test ∷ [], (ν₁-test ∷ [], (ν₂-test ∷ [], tt))) (test-args δ₀-test δ₁-test δ₂-test) zs-test)
+            (lasts test_ended (ν₀-test ∷ [], (ν₁-test ∷ [], (ν₂-test ∷ [], tt))) (test-args δ₀-test δ₁-test δ₂-test) zs-test)
             ⊛ raw (fact 𝓤 (test-says test-out test-x-scratch x-map.now x-catalogue.now x-scratch.now x-n v-start r-test
             zs-test.1.1.0)))) (id⊢ 𝓤 _) $
             pick ! (λ zs-test. split ! $ bring ! (1 ∷ []) $
@@ -1058,10 +1058,10 @@ module _ (Tally : Value) where
             (and_then ! (load ! (from ! (stop !)) (look ! 77 refl)) (and_then ! (load ! (from ! (stop !)) (look ! 59 refl))
             (and_then ! (load ! (from ! (stop !)) (look ! 57 refl)) (no_more !)))) (λ w-verdict.
             use1 𝓛 (later (some (λ (r : ℕ). ((‵ ftrue) ⊛ ‵ (u32.own_val r (w-verdict ∷ [])))
-            ⊛ raw (ensured 𝓛 verdict-ended (verdict-clauses verdict-out 𝓤) tt (verdict-args) tt r)))) (id⊢ 𝓤 _) $
+            ⊛ raw (ensured 𝓛 verdict_ended (verdict-clauses verdict-out 𝓤) tt (verdict-args) tt r)))) (id⊢ 𝓤 _) $
             await ! tt $ pick ! (λ r-verdict. split ! $ bring ! (1 ∷ []) $
             use1 𝓛 (some (λ (zs-verdict : Unit {0} × (Unit {0} × (Unit {0} × Unit {0}))). ‵
-            (lasts verdict-ended tt (verdict-args) zs-verdict) ⊛ raw (fact 𝓤 (verdict-says verdict-out x-role v-start v-sound
+            (lasts verdict_ended tt (verdict-args) zs-verdict) ⊛ raw (fact 𝓤 (verdict-says verdict-out x-role v-start v-sound
             r-verdict)))) (id⊢ 𝓤 _) $
             pick ! (λ zs-verdict. split ! $ bring ! (1 ∷ []) $
             heard ! (verdict-says verdict-out x-role v-start v-sound r-verdict) (λ e-verdict.
@@ -1079,10 +1079,10 @@ module _ (Tally : Value) where
             (and_then ! (load ! (from ! (stop !)) (look ! 61 refl)) (and_then ! (load ! (from ! (stop !)) (look ! 55 refl))
             (no_more !))) (λ w-rounds-for.
             use1 𝓛 (later (some (λ (r : ℕ). ((‵ ftrue) ⊛ ‵ (usize.own_val r (w-rounds-for ∷ [])))
-            ⊛ raw (ensured 𝓛 rounds-for-ended (rounds-for-clauses rounds-for-out 𝓤) tt (rounds-for-args) tt r)))) (id⊢ 𝓤 _)
+            ⊛ raw (ensured 𝓛 rounds_for_ended (rounds-for-clauses rounds-for-out 𝓤) tt (rounds-for-args) tt r)))) (id⊢ 𝓤 _)
             $
             await ! tt $ pick ! (λ r-rounds-for. split ! $ bring ! (1 ∷ []) $
-            use1 𝓛 (some (λ (zs-rounds-for : Unit {0} × (Unit {0} × Unit {0})). ‵ (lasts rounds-for-ended tt (rounds-for-args)
+            use1 𝓛 (some (λ (zs-rounds-for : Unit {0} × (Unit {0} × Unit {0})). ‵ (lasts rounds_for_ended tt (rounds-for-args)
             zs-rounds-for) ⊛ raw (fact 𝓤 (rounds-for-says rounds-for-out v_count v-number r-rounds-for)))) (id⊢ 𝓤 _) $
             pick ! (λ zs-rounds-for. split ! $ bring ! (1 ∷ []) $
             heard ! (rounds-for-says rounds-for-out v_count v-number r-rounds-for) (λ e-rounds-for.
@@ -1127,13 +1127,13 @@ module _ (Tally : Value) where
             (and_then ! (load ! (from ! (stop !)) (look ! 53 refl)) (no_more !))))) (λ w-close-rounds.
             use1 𝓛 (later (some (λ (r : ℕ). ((‵ (flft (ν₀-close-rounds ∷ []) full_share)
             ⊛ ‵ (flft (ν₁-close-rounds ∷ []) full_share) ⊛ ‵ ftrue) ⊛ ‵ (u32.own_val r (w-close-rounds ∷ [])))
-            ⊛ raw (ensured 𝓛 close-rounds-ended (close-rounds-clauses close-rounds-out close-rounds-x-catalogue
+            ⊛ raw (ensured 𝓛 close_rounds_ended (close-rounds-clauses close-rounds-out close-rounds-x-catalogue
             close-rounds-x-card 𝓤)
             (ν₀-close-rounds ∷ [], (ν₁-close-rounds ∷ [], tt)) (close-rounds-args δ₀-close-rounds δ₁-close-rounds) tt r))))
             (id⊢ 𝓤 _) $
             await ! tt $ pick ! (λ r-close-rounds. split ! $ bring ! (1 ∷ []) $
             use1 𝓛 (some (λ (zs-close-rounds : List Entry × (List ℕ × (Unit {0} × (Unit {0} × Unit {0})))). ‵
-            (lasts close-rounds-ended (ν₀-close-rounds ∷ [], (ν₁-close-rounds ∷ [], tt))
+            (lasts close_rounds_ended (ν₀-close-rounds ∷ [], (ν₁-close-rounds ∷ [], tt))
             (close-rounds-args δ₀-close-rounds δ₁-close-rounds) zs-close-rounds) ⊛ raw
             (fact 𝓤 (close-rounds-says close-rounds-out close-rounds-x-catalogue close-rounds-x-card x-catalogue.now
             x-card.now v-rounds v-number r-close-rounds zs-close-rounds.0 zs-close-rounds.1.0)))) (id⊢ 𝓤 _) $
@@ -1182,11 +1182,11 @@ module _ (Tally : Value) where
             (and_then ! (load ! (from ! (stop !)) (look ! 74 refl)) (and_then ! (load ! (from ! (stop !)) (look ! 50 refl))
             (and_then ! (load ! (from ! (stop !)) (look ! 54 refl)) (no_more !))))) (λ w-close-map.
             use1 𝓛 (later (some (λ (r : (Unit {0})). ((‵ (flft (ν₀-close-map ∷ []) full_share) ⊛ ‵ ftrue)
-            ⊛ ‵ (Nothing.own r (w-close-map ∷ []))) ⊛ raw (ensured 𝓛 close-map-ended (close-map-clauses close-map-x-map 𝓤)
+            ⊛ ‵ (Nothing.own r (w-close-map ∷ []))) ⊛ raw (ensured 𝓛 close_map_ended (close-map-clauses close-map-x-map 𝓤)
             (ν₀-close-map ∷ [], tt) (close-map-args δ₀-close-map) tt r)))) (id⊢ 𝓤 _) $
             await ! tt $ pick ! (λ r-close-map. split ! $ bring ! (1 ∷ []) $
             use1 𝓛 (some (λ (zs-close-map : List ℕ × (Unit {0} × (Unit {0} × (Unit {0} × Unit {0})))). ‵
-            (lasts close-map-ended (ν₀-close-map ∷ [], tt) (close-map-args δ₀-close-map) zs-close-map)
+            (lasts close_map_ended (ν₀-close-map ∷ [], tt) (close-map-args δ₀-close-map) zs-close-map)
             ⊛ raw (fact 𝓤 (close-map-says close-map-x-map x-map.now x-n v-last v-number r-close-map zs-close-map.0))))
             (id⊢ 𝓤 _) $
             pick ! (λ zs-close-map. split ! $ bring ! (1 ∷ []) $

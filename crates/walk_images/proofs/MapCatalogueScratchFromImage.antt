@@ -115,26 +115,26 @@ module _ (Cursor Loaded : Value) where
   }
 
   -- ---- what `count` is, and what it ensures
-  abbrev count-signature : Signature
-  count-signature = record {
+  abbrev count_signature : Signature
+  count_signature = record {
     lifetimes = 1;
     outlives = [];
     params = shr_slice 0 tt (λ _. Entry'.the_row) ∷ [];
     result = plain (λ _. usize);
   }
 
-  abbrev count-ended : Ended
-  count-ended = record { signature = count-signature; kept = (yes, tt) }
+  abbrev count_ended : Ended
+  count_ended = record { signature = count_signature; kept = (yes, tt) }
 
-  abbrev count-Model : Type 0 → Type 0
-  count-Model X = List Entry → X
+  abbrev count_model : Type 0 → Type 0
+  count_model X = List Entry → X
 
-  module _ (count-out : count-Model ℕ) where
+  module _ (count-out : count_model ℕ) where
     abbrev count-says : List Entry → ℕ → Type 0
     count-says a0 r = r ≡ count-out a0
 
     module _ {M : Type 1} (𝓤 : Ura M) where
-      abbrev count-clauses : Clauses 𝓤 count-ended
+      abbrev count-clauses : Clauses 𝓤 count_ended
       count-clauses κs a = record {
         ghost = Unit {0};
         requires = λ _. emp 𝓤;
@@ -143,11 +143,11 @@ module _ (Cursor Loaded : Value) where
 
       module _ (𝓛 : Logic 𝓤) where
         abbrev pub count-contract : Contract 𝓤
-        count-contract = triple_of 𝓛 count-signature (closing 𝓛 count-ended count-clauses)
+        count-contract = triple_of 𝓛 count_signature (closing 𝓛 count_ended count-clauses)
 
   -- ---- what `load-core` is, and what it ensures
-  abbrev load-core-signature : Signature
-  load-core-signature = record {
+  abbrev load_core_signature : Signature
+  load_core_signature = record {
     lifetimes = 3;
     outlives = [];
     params = plain (λ _. u32) ∷ shr_slice 0 tt (λ _. u8) ∷ mut_slice 1 tt (λ _. u64) ∷ plain (λ _. usize)
@@ -155,20 +155,20 @@ module _ (Cursor Loaded : Value) where
     result = plain (λ _. (row_of Loaded));
   }
 
-  abbrev load-core-ended : Ended
-  load-core-ended = record { signature = load-core-signature; kept = (yes, (yes, (yes, (yes, (yes, tt))))) }
+  abbrev load_core_ended : Ended
+  load_core_ended = record { signature = load_core_signature; kept = (yes, (yes, (yes, (yes, (yes, tt))))) }
 
-  abbrev load-core-Model : Type 0 → Type 0
-  load-core-Model X = ℕ → List ℕ → List ℕ → ℕ → List ℕ → X
+  abbrev load_core_model : Type 0 → Type 0
+  load_core_model X = ℕ → List ℕ → List ℕ → ℕ → List ℕ → X
 
-  module _ (load-core-out : load-core-Model (denotes Loaded)) (load-core-x-map : load-core-Model (List ℕ))
-      (load-core-x-scratch : load-core-Model (List ℕ)) where
+  module _ (load-core-out : load_core_model (denotes Loaded)) (load-core-x-map : load_core_model (List ℕ))
+      (load-core-x-scratch : load_core_model (List ℕ)) where
     abbrev load-core-says : ℕ → List ℕ → List ℕ → ℕ → List ℕ → (denotes Loaded) → List ℕ → List ℕ → Type 0
     load-core-says a0 a1 a2 a3 a4 r b2 b4 = (r ≡ load-core-out a0 a1 a2 a3 a4) × (b2 ≡ load-core-x-map a0 a1 a2 a3 a4)
         × (b4 ≡ load-core-x-scratch a0 a1 a2 a3 a4)
 
     module _ {M : Type 1} (𝓤 : Ura M) where
-      abbrev load-core-clauses : Clauses 𝓤 load-core-ended
+      abbrev load-core-clauses : Clauses 𝓤 load_core_ended
       load-core-clauses κs a = record {
         ghost = Unit {0};
         requires = λ _. emp 𝓤;
@@ -178,29 +178,29 @@ module _ (Cursor Loaded : Value) where
 
       module _ (𝓛 : Logic 𝓤) where
         abbrev pub load-core-contract : Contract 𝓤
-        load-core-contract = triple_of 𝓛 load-core-signature (closing 𝓛 load-core-ended load-core-clauses)
+        load-core-contract = triple_of 𝓛 load_core_signature (closing 𝓛 load_core_ended load-core-clauses)
 
   -- ---- what `first-cursor` is, and what it ensures
-  abbrev first-cursor-signature : Signature
-  first-cursor-signature = record {
+  abbrev first_cursor_signature : Signature
+  first_cursor_signature = record {
     lifetimes = 0;
     outlives = [];
     params = plain (λ _. (row_of Loaded)) ∷ [];
     result = plain (λ _. (row_of Cursor));
   }
 
-  abbrev first-cursor-ended : Ended
-  first-cursor-ended = record { signature = first-cursor-signature; kept = (yes, tt) }
+  abbrev first_cursor_ended : Ended
+  first_cursor_ended = record { signature = first_cursor_signature; kept = (yes, tt) }
 
-  abbrev first-cursor-Model : Type 0 → Type 0
-  first-cursor-Model X = (denotes Loaded) → X
+  abbrev first_cursor_model : Type 0 → Type 0
+  first_cursor_model X = (denotes Loaded) → X
 
-  module _ (first-cursor-out : first-cursor-Model (denotes Cursor)) where
+  module _ (first-cursor-out : first_cursor_model (denotes Cursor)) where
     abbrev first-cursor-says : (denotes Loaded) → (denotes Cursor) → Type 0
     first-cursor-says a0 r = r ≡ first-cursor-out a0
 
     module _ {M : Type 1} (𝓤 : Ura M) where
-      abbrev first-cursor-clauses : Clauses 𝓤 first-cursor-ended
+      abbrev first-cursor-clauses : Clauses 𝓤 first_cursor_ended
       first-cursor-clauses κs a = record {
         ghost = Unit {0};
         requires = λ _. emp 𝓤;
@@ -209,30 +209,30 @@ module _ (Cursor Loaded : Value) where
 
       module _ (𝓛 : Logic 𝓤) where
         abbrev pub first-cursor-contract : Contract 𝓤
-        first-cursor-contract = triple_of 𝓛 first-cursor-signature (closing 𝓛 first-cursor-ended first-cursor-clauses)
+        first-cursor-contract = triple_of 𝓛 first_cursor_signature (closing 𝓛 first_cursor_ended first-cursor-clauses)
 
   -- ---- what `read-entries` is, and what it ensures
-  abbrev read-entries-signature : Signature
-  read-entries-signature = record {
+  abbrev read_entries_signature : Signature
+  read_entries_signature = record {
     lifetimes = 2;
     outlives = [];
     params = mut_slice 0 tt (λ _. Entry'.the_row) ∷ shr_slice 1 tt (λ _. u8) ∷ plain (λ _. (row_of Cursor)) ∷ [];
     result = plain (λ _. (row_of Cursor));
   }
 
-  abbrev read-entries-ended : Ended
-  read-entries-ended = record { signature = read-entries-signature; kept = (yes, (yes, (yes, tt))) }
+  abbrev read_entries_ended : Ended
+  read_entries_ended = record { signature = read_entries_signature; kept = (yes, (yes, (yes, tt))) }
 
-  abbrev read-entries-Model : Type 0 → Type 0
-  read-entries-Model X = List Entry → List ℕ → (denotes Cursor) → X
+  abbrev read_entries_model : Type 0 → Type 0
+  read_entries_model X = List Entry → List ℕ → (denotes Cursor) → X
 
-  module _ (read-entries-out : read-entries-Model (denotes Cursor)) (read-entries-x-catalogue : read-entries-Model
+  module _ (read-entries-out : read_entries_model (denotes Cursor)) (read-entries-x-catalogue : read_entries_model
       (List Entry)) where
     abbrev read-entries-says : List Entry → List ℕ → (denotes Cursor) → (denotes Cursor) → List Entry → Type 0
     read-entries-says a0 a1 a2 r b0 = (r ≡ read-entries-out a0 a1 a2) × (b0 ≡ read-entries-x-catalogue a0 a1 a2)
 
     module _ {M : Type 1} (𝓤 : Ura M) where
-      abbrev read-entries-clauses : Clauses 𝓤 read-entries-ended
+      abbrev read-entries-clauses : Clauses 𝓤 read_entries_ended
       read-entries-clauses κs a = record {
         ghost = Unit {0};
         requires = λ _. emp 𝓤;
@@ -241,12 +241,12 @@ module _ (Cursor Loaded : Value) where
 
       module _ (𝓛 : Logic 𝓤) where
         abbrev pub read-entries-contract : Contract 𝓤
-        read-entries-contract = triple_of 𝓛 read-entries-signature (closing 𝓛 read-entries-ended read-entries-clauses)
+        read-entries-contract = triple_of 𝓛 read_entries_signature (closing 𝓛 read_entries_ended read-entries-clauses)
 
-  module _ (#count #load-core #first-cursor #read-entries : Name) (count-out : count-Model ℕ)
-      (load-core-out : load-core-Model (denotes Loaded)) (load-core-x-map : load-core-Model (List ℕ))
-      (load-core-x-scratch : load-core-Model (List ℕ)) (first-cursor-out : first-cursor-Model (denotes Cursor))
-      (read-entries-out : read-entries-Model (denotes Cursor)) (read-entries-x-catalogue : read-entries-Model
+  module _ (#count #load-core #first-cursor #read-entries : Name) (count-out : count_model ℕ)
+      (load-core-out : load_core_model (denotes Loaded)) (load-core-x-map : load_core_model (List ℕ))
+      (load-core-x-scratch : load_core_model (List ℕ)) (first-cursor-out : first_cursor_model (denotes Cursor))
+      (read-entries-out : read_entries_model (denotes Cursor)) (read-entries-x-catalogue : read_entries_model
       (List Entry)) where
     -- ---- what the chain gives, call by call
     module _ (x-role : ℕ) (x-image : List ℕ) (x-map : List ℕ) (x-catalogue : List Entry) (x-scratch : List ℕ) where
@@ -492,7 +492,7 @@ module _ (Cursor Loaded : Value) where
             ∷ ‵ (flft κ₁ q₁) ∷ ‵ ((MutSlice (named 2) κ₂ Entry'.the_row).own_val (at-x-catalogue x-catalogue.name
             z-read-entries-x-catalogue) (s-x-catalogue ∷ [])) ∷ ‵ (flft κ₂ q₂) ∷ ‵ ((MutSlice (named 3) κ₃ u64).own_val
             (at-x-scratch x-scratch.name z-load-core-x-scratch) (s-x-scratch ∷ [])) ∷ ‵ (flft κ₃ q₃) ∷ [])) (Post m-v-loaded)
-        exits is l-x-map l-x-catalogue l-x-scratch =
+        exits is l-x-map l_x_catalogue l_x_scratch =
             qed 𝓛 (‵ ((ShrSlice (named 0) κ₀ u8).own_val x-image (s-x-image ∷ [])) ∷ ‵ (flft κ₀ q₀)
             ∷ ‵ ((MutSlice (named 1) κ₁ u64).own_val (at-x-map x-map.name z-load-core-x-map) (s-x-map ∷ [])) ∷ ‵ (flft κ₁ q₁)
             ∷ ‵ ((MutSlice (named 2) κ₂ Entry'.the_row).own_val (at-x-catalogue x-catalogue.name z-read-entries-x-catalogue)
@@ -500,7 +500,7 @@ module _ (Cursor Loaded : Value) where
             (at-x-scratch x-scratch.name z-load-core-x-scratch) (s-x-scratch ∷ [])) ∷ ‵ (flft κ₃ q₃) ∷ []) ∵
             suffices ! _ (ends_at 𝓛 ended stayed (clauses 𝓤) bound m-v-loaded v-loaded
             (tt, (tt, (z-load-core-x-map, (z-read-entries-x-catalogue, (z-load-core-x-scratch, tt)))))
-            (tt, (tt, (l-x-map, (l-x-catalogue, (l-x-scratch, tt)))))) $
+            (tt, (tt, (l-x-map, (l_x_catalogue, (l_x_scratch, tt)))))) $
             says ! (law x-role x-image.now x-map.now x-catalogue.now x-scratch.now) $ nothing ! $
             bring ! (2 ∷ 3 ∷ 4 ∷ 5 ∷ 0 ∷ []) $ group ! 5 $ frame ! $ nothing ! $ bring ! (4 ∷ 0 ∷ []) $ fjoin ! $
             bring ! (3 ∷ 0 ∷ []) $ fjoin ! $ bring ! (2 ∷ 0 ∷ []) $ fjoin ! $ bring ! (1 ∷ 0 ∷ []) $ fjoin ! $
@@ -549,10 +549,10 @@ module _ (Cursor Loaded : Value) where
             calls_at ! (fm_of 𝓤 H 𝓛.laws 𝓣) (count-contract count-out 𝓤 𝓛) known-count (to-count ν₀-count δ₀-count)
             (and_then ! (load ! (from ! (stop !)) (look ! 20 refl)) (no_more !)) (λ w-count.
             use1 𝓛 (later (some (λ (r : ℕ). ((‵ (flft (ν₀-count ∷ []) full_share) ⊛ ‵ ftrue) ⊛ ‵ (usize.own_val r (w-count ∷ [])))
-            ⊛ raw (ensured 𝓛 count-ended (count-clauses count-out 𝓤) (ν₀-count ∷ [], tt) (count-args δ₀-count) tt r))))
+            ⊛ raw (ensured 𝓛 count_ended (count-clauses count-out 𝓤) (ν₀-count ∷ [], tt) (count-args δ₀-count) tt r))))
             (id⊢ 𝓤 _) $
             await ! tt $ pick ! (λ r-count. split ! $ bring ! (1 ∷ []) $
-            use1 𝓛 (some (λ (zs-count : Unit {0} × Unit {0}). ‵ (lasts count-ended (ν₀-count ∷ [], tt) (count-args δ₀-count)
+            use1 𝓛 (some (λ (zs-count : Unit {0} × Unit {0}). ‵ (lasts count_ended (ν₀-count ∷ [], tt) (count-args δ₀-count)
             zs-count) ⊛ raw (fact 𝓤 (count-says count-out x-catalogue.now r-count)))) (id⊢ 𝓤 _) $
             pick ! (λ zs-count. split ! $ bring ! (1 ∷ []) $
             heard ! (count-says count-out x-catalogue.now r-count) (λ e-count. fparts 𝓛 (_ ∷ []) _ $
@@ -604,11 +604,11 @@ module _ (Cursor Loaded : Value) where
             (and_then ! (load ! (from ! (stop !)) (look ! 10 refl)) (no_more !)))))) (λ w-load-core.
             use1 𝓛 (later (some (λ (r : (denotes Loaded)). ((‵ (flft κ₀ q₀) ⊛ ‵ (flft (ν₀-load-core ∷ []) full_share)
             ⊛ ‵ (flft (ν₁-load-core ∷ []) full_share) ⊛ ‵ ftrue) ⊛ ‵ ((row_of Loaded).own_val r (w-load-core ∷ [])))
-            ⊛ raw (ensured 𝓛 load-core-ended (load-core-clauses load-core-out load-core-x-map load-core-x-scratch 𝓤)
+            ⊛ raw (ensured 𝓛 load_core_ended (load-core-clauses load-core-out load-core-x-map load-core-x-scratch 𝓤)
             (κ₀, (ν₀-load-core ∷ [], (ν₁-load-core ∷ [], tt))) (load-core-args δ₀-load-core δ₁-load-core) tt r)))) (id⊢ 𝓤 _) $
             await ! tt $ pick ! (λ r-load-core. split ! $ bring ! (1 ∷ []) $
             use1 𝓛 (some (λ (zs-load-core : Unit {0} × (Unit {0} × (List ℕ × (Unit {0} × (List ℕ × Unit {0}))))). ‵
-            (lasts load-core-ended (κ₀, (ν₀-load-core ∷ [], (ν₁-load-core ∷ [], tt))) (load-core-args δ₀-load-core δ₁-load-core)
+            (lasts load_core_ended (κ₀, (ν₀-load-core ∷ [], (ν₁-load-core ∷ [], tt))) (load-core-args δ₀-load-core δ₁-load-core)
             zs-load-core) ⊛ raw (fact 𝓤 (load-core-says load-core-out load-core-x-map load-core-x-scratch x-role x-image.now
             x-map.now v_count x-scratch.now r-load-core zs-load-core.1.1.0 zs-load-core.1.1.1.1.0)))) (id⊢ 𝓤 _)
             $
@@ -645,10 +645,10 @@ module _ (Cursor Loaded : Value) where
             calls_at ! (fm_of 𝓤 H 𝓛.laws 𝓣) (first-cursor-contract first-cursor-out 𝓤 𝓛) known-first-cursor
             (to-first-cursor) (and_then ! (load ! (from ! (stop !)) (look ! 29 refl)) (no_more !)) (λ w-first-cursor.
             use1 𝓛 (later (some (λ (r : (denotes Cursor)). ((‵ ftrue) ⊛ ‵ ((row_of Cursor).own_val r (w-first-cursor ∷ [])))
-            ⊛ raw (ensured 𝓛 first-cursor-ended (first-cursor-clauses first-cursor-out 𝓤) tt (first-cursor-args) tt r))))
+            ⊛ raw (ensured 𝓛 first_cursor_ended (first-cursor-clauses first-cursor-out 𝓤) tt (first-cursor-args) tt r))))
             (id⊢ 𝓤 _) $
             await ! tt $ pick ! (λ r-first-cursor. split ! $ bring ! (1 ∷ []) $
-            use1 𝓛 (some (λ (zs-first-cursor : Unit {0} × Unit {0}). ‵ (lasts first-cursor-ended tt (first-cursor-args)
+            use1 𝓛 (some (λ (zs-first-cursor : Unit {0} × Unit {0}). ‵ (lasts first_cursor_ended tt (first-cursor-args)
             zs-first-cursor) ⊛ raw (fact 𝓤 (first-cursor-says first-cursor-out v-loaded r-first-cursor)))) (id⊢ 𝓤 _) $
             pick ! (λ zs-first-cursor. split ! $ bring ! (1 ∷ []) $
             heard ! (first-cursor-says first-cursor-out v-loaded r-first-cursor) (λ e-first-cursor. fparts 𝓛 (_ ∷ []) _ $
@@ -684,12 +684,12 @@ module _ (Cursor Loaded : Value) where
             (load ! (from ! (stop !)) (look ! 7 refl)) (and_then ! (load ! (from ! (stop !)) (look ! 37 refl))
             (and_then ! (load ! (from ! (stop !)) (look ! 25 refl)) (no_more !)))) (λ w-read-entries.
             use1 𝓛 (later (some (λ (r : (denotes Cursor)). ((‵ (flft (ν₀-read-entries ∷ []) full_share) ⊛ ‵ (flft κ₀ q₀)
-            ⊛ ‵ ftrue) ⊛ ‵ ((row_of Cursor).own_val r (w-read-entries ∷ []))) ⊛ raw (ensured 𝓛 read-entries-ended
+            ⊛ ‵ ftrue) ⊛ ‵ ((row_of Cursor).own_val r (w-read-entries ∷ []))) ⊛ raw (ensured 𝓛 read_entries_ended
             (read-entries-clauses read-entries-out read-entries-x-catalogue 𝓤) (ν₀-read-entries ∷ [], (κ₀, tt))
             (read-entries-args δ₀-read-entries) tt r)))) (id⊢ 𝓤 _) $
             await ! tt $ pick ! (λ r-read-entries. split ! $ bring ! (1 ∷ []) $
             use1 𝓛 (some (λ (zs-read-entries : List Entry × (Unit {0} × (Unit {0} × Unit {0}))). ‵
-            (lasts read-entries-ended (ν₀-read-entries ∷ [], (κ₀, tt)) (read-entries-args δ₀-read-entries) zs-read-entries)
+            (lasts read_entries_ended (ν₀-read-entries ∷ [], (κ₀, tt)) (read-entries-args δ₀-read-entries) zs-read-entries)
             ⊛ raw (fact 𝓤 (read-entries-says read-entries-out read-entries-x-catalogue x-catalogue.now x-image.now v-first
             r-read-entries zs-read-entries.0)))) (id⊢ 𝓤 _) $
             pick ! (λ zs-read-entries. split ! $ bring ! (1 ∷ []) $

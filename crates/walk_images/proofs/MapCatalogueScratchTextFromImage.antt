@@ -136,26 +136,26 @@ module _ (Writer Shape Outcome Reply : Value) where
   }
 
   -- ---- what `count` is, and what it ensures
-  abbrev count-signature : Signature
-  count-signature = record {
+  abbrev count_signature : Signature
+  count_signature = record {
     lifetimes = 1;
     outlives = [];
     params = shr_slice 0 tt (λ _. Entry'.the_row) ∷ [];
     result = plain (λ _. usize);
   }
 
-  abbrev count-ended : Ended
-  count-ended = record { signature = count-signature; kept = (yes, tt) }
+  abbrev count_ended : Ended
+  count_ended = record { signature = count_signature; kept = (yes, tt) }
 
-  abbrev count-Model : Type 0 → Type 0
-  count-Model X = List Entry → X
+  abbrev count_model : Type 0 → Type 0
+  count_model X = List Entry → X
 
-  module _ (count-out : count-Model ℕ) where
+  module _ (count-out : count_model ℕ) where
     abbrev count-says : List Entry → ℕ → Type 0
     count-says a0 r = r ≡ count-out a0
 
     module _ {M : Type 1} (𝓤 : Ura M) where
-      abbrev count-clauses : Clauses 𝓤 count-ended
+      abbrev count-clauses : Clauses 𝓤 count_ended
       count-clauses κs a = record {
         ghost = Unit {0};
         requires = λ _. emp 𝓤;
@@ -164,11 +164,11 @@ module _ (Writer Shape Outcome Reply : Value) where
 
       module _ (𝓛 : Logic 𝓤) where
         abbrev pub count-contract : Contract 𝓤
-        count-contract = triple_of 𝓛 count-signature (closing 𝓛 count-ended count-clauses)
+        count-contract = triple_of 𝓛 count_signature (closing 𝓛 count_ended count-clauses)
 
   -- ---- what `load` is, and what it ensures
-  abbrev load-signature : Signature
-  load-signature = record {
+  abbrev load_signature : Signature
+  load_signature = record {
     lifetimes = 4;
     outlives = [];
     params = plain (λ _. (row_of Shape)) ∷ plain (λ _. u32) ∷ shr_slice 0 tt (λ _. u8) ∷ mut_slice 1 tt (λ _. u64)
@@ -176,21 +176,21 @@ module _ (Writer Shape Outcome Reply : Value) where
     result = plain (λ _. (row_of Outcome));
   }
 
-  abbrev load-ended : Ended
-  load-ended = record { signature = load-signature; kept = (yes, (yes, (yes, (yes, (yes, (yes, tt)))))) }
+  abbrev load_ended : Ended
+  load_ended = record { signature = load_signature; kept = (yes, (yes, (yes, (yes, (yes, (yes, tt)))))) }
 
-  abbrev load-Model : Type 0 → Type 0
-  load-Model X = (denotes Shape) → ℕ → List ℕ → List ℕ → List Entry → List ℕ → X
+  abbrev load_model : Type 0 → Type 0
+  load_model X = (denotes Shape) → ℕ → List ℕ → List ℕ → List Entry → List ℕ → X
 
-  module _ (load-out : load-Model (denotes Outcome)) (load-x-map : load-Model (List ℕ))
-      (load-x-catalogue : load-Model (List Entry)) (load-x-scratch : load-Model (List ℕ)) where
+  module _ (load-out : load_model (denotes Outcome)) (load-x-map : load_model (List ℕ))
+      (load-x-catalogue : load_model (List Entry)) (load-x-scratch : load_model (List ℕ)) where
     abbrev load-says : (denotes Shape) → ℕ → List ℕ → List ℕ → List Entry → List ℕ → (denotes Outcome) → List ℕ → List Entry
         → List ℕ → Type 0
     load-says a0 a1 a2 a3 a4 a5 r b3 b4 b5 = (r ≡ load-out a0 a1 a2 a3 a4 a5) × (b3 ≡ load-x-map a0 a1 a2 a3 a4 a5)
         × (b4 ≡ load-x-catalogue a0 a1 a2 a3 a4 a5) × (b5 ≡ load-x-scratch a0 a1 a2 a3 a4 a5)
 
     module _ {M : Type 1} (𝓤 : Ura M) where
-      abbrev load-clauses : Clauses 𝓤 load-ended
+      abbrev load-clauses : Clauses 𝓤 load_ended
       load-clauses κs a = record {
         ghost = Unit {0};
         requires = λ _. emp 𝓤;
@@ -199,30 +199,30 @@ module _ (Writer Shape Outcome Reply : Value) where
       }
 
       module _ (𝓛 : Logic 𝓤) where
-        abbrev pub load-contract : Contract 𝓤
-        load-contract = triple_of 𝓛 load-signature (closing 𝓛 load-ended load-clauses)
+        abbrev pub load_contract : Contract 𝓤
+        load_contract = triple_of 𝓛 load_signature (closing 𝓛 load_ended load-clauses)
 
   -- ---- what `reply-of` is, and what it ensures
-  abbrev reply-of-signature : Signature
-  reply-of-signature = record {
+  abbrev reply_of_signature : Signature
+  reply_of_signature = record {
     lifetimes = 0;
     outlives = [];
     params = plain (λ _. (row_of Outcome)) ∷ [];
     result = plain (λ _. (row_of Reply));
   }
 
-  abbrev reply-of-ended : Ended
-  reply-of-ended = record { signature = reply-of-signature; kept = (yes, tt) }
+  abbrev reply_of_ended : Ended
+  reply_of_ended = record { signature = reply_of_signature; kept = (yes, tt) }
 
-  abbrev reply-of-Model : Type 0 → Type 0
-  reply-of-Model X = (denotes Outcome) → X
+  abbrev reply_of_model : Type 0 → Type 0
+  reply_of_model X = (denotes Outcome) → X
 
-  module _ (reply-of-out : reply-of-Model (denotes Reply)) where
+  module _ (reply-of-out : reply_of_model (denotes Reply)) where
     abbrev reply-of-says : (denotes Outcome) → (denotes Reply) → Type 0
     reply-of-says a0 r = r ≡ reply-of-out a0
 
     module _ {M : Type 1} (𝓤 : Ura M) where
-      abbrev reply-of-clauses : Clauses 𝓤 reply-of-ended
+      abbrev reply-of-clauses : Clauses 𝓤 reply_of_ended
       reply-of-clauses κs a = record {
         ghost = Unit {0};
         requires = λ _. emp 𝓤;
@@ -230,30 +230,30 @@ module _ (Writer Shape Outcome Reply : Value) where
       }
 
       module _ (𝓛 : Logic 𝓤) where
-        abbrev pub reply-of-contract : Contract 𝓤
-        reply-of-contract = triple_of 𝓛 reply-of-signature (closing 𝓛 reply-of-ended reply-of-clauses)
+        abbrev pub reply_of_contract : Contract 𝓤
+        reply_of_contract = triple_of 𝓛 reply_of_signature (closing 𝓛 reply_of_ended reply-of-clauses)
 
   -- ---- what `begin` is, and what it ensures
-  abbrev begin-signature : Signature
-  begin-signature = record {
+  abbrev begin_signature : Signature
+  begin_signature = record {
     lifetimes = 2;
     outlives = [];
     params = plain (λ _. (row_of Reply)) ∷ shr_slice 0 tt (λ _. u64) ∷ plain (λ _. usize) ∷ mut_slice 1 tt (λ _. u8) ∷ [];
     result = plain (λ _. (row_of Writer));
   }
 
-  abbrev begin-ended : Ended
-  begin-ended = record { signature = begin-signature; kept = (yes, (yes, (yes, (yes, tt)))) }
+  abbrev begin_ended : Ended
+  begin_ended = record { signature = begin_signature; kept = (yes, (yes, (yes, (yes, tt)))) }
 
-  abbrev begin-Model : Type 0 → Type 0
-  begin-Model X = (denotes Reply) → List ℕ → ℕ → List ℕ → X
+  abbrev begin_model : Type 0 → Type 0
+  begin_model X = (denotes Reply) → List ℕ → ℕ → List ℕ → X
 
-  module _ (begin-out : begin-Model (denotes Writer)) (begin-x-text : begin-Model (List ℕ)) where
+  module _ (begin-out : begin_model (denotes Writer)) (begin-x-text : begin_model (List ℕ)) where
     abbrev begin-says : (denotes Reply) → List ℕ → ℕ → List ℕ → (denotes Writer) → List ℕ → Type 0
     begin-says a0 a1 a2 a3 r b3 = (r ≡ begin-out a0 a1 a2 a3) × (b3 ≡ begin-x-text a0 a1 a2 a3)
 
     module _ {M : Type 1} (𝓤 : Ura M) where
-      abbrev begin-clauses : Clauses 𝓤 begin-ended
+      abbrev begin-clauses : Clauses 𝓤 begin_ended
       begin-clauses κs a = record {
         ghost = Unit {0};
         requires = λ _. emp 𝓤;
@@ -263,29 +263,29 @@ module _ (Writer Shape Outcome Reply : Value) where
 
       module _ (𝓛 : Logic 𝓤) where
         abbrev pub begin-contract : Contract 𝓤
-        begin-contract = triple_of 𝓛 begin-signature (closing 𝓛 begin-ended begin-clauses)
+        begin-contract = triple_of 𝓛 begin_signature (closing 𝓛 begin_ended begin-clauses)
 
   -- ---- what `write-sheets` is, and what it ensures
-  abbrev write-sheets-signature : Signature
-  write-sheets-signature = record {
+  abbrev write_sheets_signature : Signature
+  write_sheets_signature = record {
     lifetimes = 2;
     outlives = [];
     params = shr_slice 0 tt (λ _. Entry'.the_row) ∷ plain (λ _. (row_of Writer)) ∷ mut_slice 1 tt (λ _. u8) ∷ [];
     result = plain (λ _. (row_of Writer));
   }
 
-  abbrev write-sheets-ended : Ended
-  write-sheets-ended = record { signature = write-sheets-signature; kept = (yes, (yes, (yes, tt))) }
+  abbrev write_sheets_ended : Ended
+  write_sheets_ended = record { signature = write_sheets_signature; kept = (yes, (yes, (yes, tt))) }
 
-  abbrev write-sheets-Model : Type 0 → Type 0
-  write-sheets-Model X = List Entry → (denotes Writer) → List ℕ → X
+  abbrev write_sheets_model : Type 0 → Type 0
+  write_sheets_model X = List Entry → (denotes Writer) → List ℕ → X
 
-  module _ (write-sheets-out : write-sheets-Model (denotes Writer)) (write-sheets-x-text : write-sheets-Model (List ℕ)) where
+  module _ (write-sheets-out : write_sheets_model (denotes Writer)) (write-sheets-x-text : write_sheets_model (List ℕ)) where
     abbrev write-sheets-says : List Entry → (denotes Writer) → List ℕ → (denotes Writer) → List ℕ → Type 0
     write-sheets-says a0 a1 a2 r b2 = (r ≡ write-sheets-out a0 a1 a2) × (b2 ≡ write-sheets-x-text a0 a1 a2)
 
     module _ {M : Type 1} (𝓤 : Ura M) where
-      abbrev write-sheets-clauses : Clauses 𝓤 write-sheets-ended
+      abbrev write-sheets-clauses : Clauses 𝓤 write_sheets_ended
       write-sheets-clauses κs a = record {
         ghost = Unit {0};
         requires = λ _. emp 𝓤;
@@ -294,29 +294,29 @@ module _ (Writer Shape Outcome Reply : Value) where
 
       module _ (𝓛 : Logic 𝓤) where
         abbrev pub write-sheets-contract : Contract 𝓤
-        write-sheets-contract = triple_of 𝓛 write-sheets-signature (closing 𝓛 write-sheets-ended write-sheets-clauses)
+        write-sheets-contract = triple_of 𝓛 write_sheets_signature (closing 𝓛 write_sheets_ended write-sheets-clauses)
 
   -- ---- what `place_of` is, and what it ensures
-  abbrev place-of-signature : Signature
-  place-of-signature = record {
+  abbrev place_of_signature : Signature
+  place_of_signature = record {
     lifetimes = 0;
     outlives = [];
     params = plain (λ _. (row_of Writer)) ∷ [];
     result = plain (λ _. usize);
   }
 
-  abbrev place-of-ended : Ended
-  place-of-ended = record { signature = place-of-signature; kept = (yes, tt) }
+  abbrev place_of_ended : Ended
+  place_of_ended = record { signature = place_of_signature; kept = (yes, tt) }
 
-  abbrev place-of-Model : Type 0 → Type 0
-  place-of-Model X = (denotes Writer) → X
+  abbrev place_of_model : Type 0 → Type 0
+  place_of_model X = (denotes Writer) → X
 
-  module _ (place-of-out : place-of-Model ℕ) where
+  module _ (place-of-out : place_of_model ℕ) where
     abbrev place-of-says : (denotes Writer) → ℕ → Type 0
     place-of-says a0 r = r ≡ place-of-out a0
 
     module _ {M : Type 1} (𝓤 : Ura M) where
-      abbrev place-of-clauses : Clauses 𝓤 place-of-ended
+      abbrev place-of-clauses : Clauses 𝓤 place_of_ended
       place-of-clauses κs a = record {
         ghost = Unit {0};
         requires = λ _. emp 𝓤;
@@ -325,14 +325,14 @@ module _ (Writer Shape Outcome Reply : Value) where
 
       module _ (𝓛 : Logic 𝓤) where
         abbrev pub place-of-contract : Contract 𝓤
-        place-of-contract = triple_of 𝓛 place-of-signature (closing 𝓛 place-of-ended place-of-clauses)
+        place-of-contract = triple_of 𝓛 place_of_signature (closing 𝓛 place_of_ended place-of-clauses)
 
-  module _ (#count #load #reply-of #begin #write-sheets #place-of : Name) (count-out : count-Model ℕ)
-      (load-out : load-Model (denotes Outcome)) (load-x-map : load-Model (List ℕ)) (load-x-catalogue : load-Model (List Entry))
-      (load-x-scratch : load-Model (List ℕ)) (reply-of-out : reply-of-Model (denotes Reply))
-      (begin-out : begin-Model (denotes Writer)) (begin-x-text : begin-Model (List ℕ))
-      (write-sheets-out : write-sheets-Model (denotes Writer)) (write-sheets-x-text : write-sheets-Model (List ℕ))
-      (place-of-out : place-of-Model ℕ) where
+  module _ (#count #load #reply-of #begin #write-sheets #place-of : Name) (count-out : count_model ℕ)
+      (load-out : load_model (denotes Outcome)) (load-x-map : load_model (List ℕ)) (load-x-catalogue : load_model (List Entry))
+      (load-x-scratch : load_model (List ℕ)) (reply-of-out : reply_of_model (denotes Reply))
+      (begin-out : begin_model (denotes Writer)) (begin-x-text : begin_model (List ℕ))
+      (write-sheets-out : write_sheets_model (denotes Writer)) (write-sheets-x-text : write_sheets_model (List ℕ))
+      (place-of-out : place_of_model ℕ) where
     -- ---- what the chain gives, call by call
     module _ (x-shape : (denotes Shape)) (x-role : ℕ) (x-image : List ℕ) (x-map : List ℕ) (x-catalogue : List Entry)
         (x-scratch : List ℕ) (x-text : List ℕ) where
@@ -564,7 +564,7 @@ module _ (Writer Shape Outcome Reply : Value) where
         )
 
         abbrev to-load : (ν₀-load ν₁-load ν₂-load : ℕ) (δ₀-load δ₁-load δ₂-load : GName)
-            → (load-contract load-out load-x-map load-x-catalogue load-x-scratch 𝓤 𝓛).Ghost
+            → (load_contract load-out load-x-map load-x-catalogue load-x-scratch 𝓤 𝓛).Ghost
         to-load ν₀-load ν₁-load ν₂-load δ₀-load δ₁-load δ₂-load = (
           (
             (κ₀, (ν₀-load ∷ [], (ν₁-load ∷ [], (ν₂-load ∷ [], tt)))),
@@ -582,7 +582,7 @@ module _ (Writer Shape Outcome Reply : Value) where
             ∷ ‵ ((MutSlice (named 1) (ν₀-load ∷ []) u64).own_val (at-x-map δ₀-load x-map.now) (s-x-map ∷ []))
             ∷ ‵ ((MutSlice (named 2) (ν₁-load ∷ []) Entry'.the_row).own_val (at-x-catalogue δ₁-load x-catalogue.now)
             (s-x-catalogue ∷ [])) ∷ ‵ ((MutSlice (named 3) (ν₂-load ∷ []) u64).own_val (at-x-scratch δ₂-load x-scratch.now)
-            (s-x-scratch ∷ [])) ∷ [])) ((load-contract load-out load-x-map load-x-catalogue load-x-scratch 𝓤 𝓛).pre
+            (s-x-scratch ∷ [])) ∷ [])) ((load_contract load-out load-x-map load-x-catalogue load-x-scratch 𝓤 𝓛).pre
             (to-load ν₀-load ν₁-load ν₂-load δ₀-load δ₁-load δ₂-load))
         goes_load ν₀-load ν₁-load ν₂-load δ₀-load δ₁-load δ₂-load =
             qed 𝓛 (‵ (flft κ₀ q₀) ∷ ‵ (flft (ν₀-load ∷ []) full_share) ∷ ‵ (flft (ν₁-load ∷ []) full_share)
@@ -601,11 +601,11 @@ module _ (Writer Shape Outcome Reply : Value) where
         abbrev reply-of-args : (denotes Outcome) × Unit {0}
         reply-of-args = (v-outcome, tt)
 
-        abbrev to-reply-of : (reply-of-contract reply-of-out 𝓤 𝓛).Ghost
+        abbrev to-reply-of : (reply_of_contract reply-of-out 𝓤 𝓛).Ghost
         to-reply-of = ((tt, tt, tt, reply-of-args, (m-v-outcome ∷ [], tt)), tt)
 
         goes-reply-of : Is (row_of Outcome) v-outcome (m-v-outcome ∷ []) → ent 𝓤 (⋆ 𝓛 ([]))
-            ((reply-of-contract reply-of-out 𝓤 𝓛).pre (to-reply-of))
+            ((reply_of_contract reply-of-out 𝓤 𝓛).pre (to-reply-of))
         goes-reply-of is-v-outcome =
             qed 𝓛 ([]) ∵
             nothing ! $ nothing ! $
@@ -706,7 +706,7 @@ module _ (Writer Shape Outcome Reply : Value) where
             (at-x-scratch x-scratch.name z-load-x-scratch) (s-x-scratch ∷ [])) ∷ ‵ (flft κ₃ q₃)
             ∷ ‵ ((MutSlice (named 4) κ₄ u8).own_val (at-x-text x-text.name z-write-sheets-x-text) (s-x-text ∷ []))
             ∷ ‵ (flft κ₄ q₄) ∷ [])) (Post m-v-result)
-        exits is l-x-map l-x-catalogue l-x-scratch l-x-text =
+        exits is l-x-map l_x_catalogue l_x_scratch l_x_text =
             qed 𝓛 (‵ ((ShrSlice (named 0) κ₀ u8).own_val x-image (s-x-image ∷ [])) ∷ ‵ (flft κ₀ q₀)
             ∷ ‵ ((MutSlice (named 1) κ₁ u64).own_val (at-x-map x-map.name z-load-x-map) (s-x-map ∷ [])) ∷ ‵ (flft κ₁ q₁)
             ∷ ‵ ((MutSlice (named 2) κ₂ Entry'.the_row).own_val (at-x-catalogue x-catalogue.name z-load-x-catalogue)
@@ -716,7 +716,7 @@ module _ (Writer Shape Outcome Reply : Value) where
             ∷ ‵ (flft κ₄ q₄) ∷ []) ∵
             suffices ! _ (ends_at 𝓛 ended stayed (clauses 𝓤) bound m-v-result v-result
             (tt, (tt, (tt, (z-load-x-map, (z-load-x-catalogue, (z-load-x-scratch, (z-write-sheets-x-text, tt)))))))
-            (tt, (tt, (tt, (l-x-map, (l-x-catalogue, (l-x-scratch, (l-x-text, tt)))))))) $
+            (tt, (tt, (tt, (l-x-map, (l_x_catalogue, (l_x_scratch, (l_x_text, tt)))))))) $
             says ! (law x-shape x-role x-image.now x-map.now x-catalogue.now x-scratch.now x-text.now) $
             nothing ! $ bring ! (2 ∷ 3 ∷ 4 ∷ 5 ∷ 6 ∷ 0 ∷ []) $ group ! 6 $ frame ! $ nothing ! $ bring ! (5 ∷ 0 ∷ []) $
             fjoin ! $ bring ! (4 ∷ 0 ∷ []) $ fjoin ! $ bring ! (3 ∷ 0 ∷ []) $ fjoin ! $ bring ! (2 ∷ 0 ∷ []) $ fjoin ! $
@@ -726,8 +726,8 @@ module _ (Writer Shape Outcome Reply : Value) where
 
         -- ---- the walk
         walk : (𝓣 : Tables 𝓤 H) → Triple 𝓤 (𝓣.C #count) (count-contract count-out 𝓤 𝓛)
-            → Triple 𝓤 (𝓣.C #load) (load-contract load-out load-x-map load-x-catalogue load-x-scratch 𝓤 𝓛)
-            → Triple 𝓤 (𝓣.C #reply-of) (reply-of-contract reply-of-out 𝓤 𝓛) → Triple 𝓤 (𝓣.C #begin)
+            → Triple 𝓤 (𝓣.C #load) (load_contract load-out load-x-map load-x-catalogue load-x-scratch 𝓤 𝓛)
+            → Triple 𝓤 (𝓣.C #reply-of) (reply_of_contract reply-of-out 𝓤 𝓛) → Triple 𝓤 (𝓣.C #begin)
             (begin-contract begin-out begin-x-text 𝓤 𝓛) → Triple 𝓤 (𝓣.C #write-sheets)
             (write-sheets-contract write-sheets-out write-sheets-x-text 𝓤 𝓛) → Triple 𝓤 (𝓣.C #place-of)
             (place-of-contract place-of-out 𝓤 𝓛) → ent 𝓤 (on_entry 𝓛 signature (κ₀, (κ₁, (κ₂, (κ₃, (κ₄, tt)))))
@@ -771,10 +771,10 @@ module _ (Writer Shape Outcome Reply : Value) where
             calls_at ! (fm_of 𝓤 H 𝓛.laws 𝓣) (count-contract count-out 𝓤 𝓛) known-count (to-count ν₀-count δ₀-count)
             (and_then ! (load ! (from ! (stop !)) (look ! 38 refl)) (no_more !)) (λ w-count.
             use1 𝓛 (later (some (λ (r : ℕ). ((‵ (flft (ν₀-count ∷ []) full_share) ⊛ ‵ ftrue) ⊛ ‵ (usize.own_val r (w-count ∷ [])))
-            ⊛ raw (ensured 𝓛 count-ended (count-clauses count-out 𝓤) (ν₀-count ∷ [], tt) (count-args δ₀-count) tt r))))
+            ⊛ raw (ensured 𝓛 count_ended (count-clauses count-out 𝓤) (ν₀-count ∷ [], tt) (count-args δ₀-count) tt r))))
             (id⊢ 𝓤 _) $
             await ! tt $ pick ! (λ r-count. split ! $ bring ! (1 ∷ []) $
-            use1 𝓛 (some (λ (zs-count : Unit {0} × Unit {0}). ‵ (lasts count-ended (ν₀-count ∷ [], tt) (count-args δ₀-count)
+            use1 𝓛 (some (λ (zs-count : Unit {0} × Unit {0}). ‵ (lasts count_ended (ν₀-count ∷ [], tt) (count-args δ₀-count)
             zs-count) ⊛ raw (fact 𝓤 (count-says count-out x-catalogue.now r-count)))) (id⊢ 𝓤 _) $
             pick ! (λ zs-count. split ! $ bring ! (1 ∷ []) $
             heard ! (count-says count-out x-catalogue.now r-count) (λ e-count. fparts 𝓛 (_ ∷ []) _ $
@@ -826,10 +826,10 @@ module _ (Writer Shape Outcome Reply : Value) where
             x-scratch.ref_ptr.1 δ x-scratch.now)))) (lends_again u64 κ₃ (ν₂-load ∷ []) q₃ x-scratch.ghost_name
             x-scratch.ref_ptr.0 x-scratch.ref_ptr.1 𝓛 (named 3) (named 3) x-scratch.now (length x-scratch.now) refl) $
             await ! tt $ pick ! (λ δ₂-load. split ! $ bring ! (12 ∷ 8 ∷ 5 ∷ 2 ∷ 6 ∷ 4 ∷ 2 ∷ 0 ∷ []) $ group ! 8 $
-            use1 𝓛 (raw ((load-contract load-out load-x-map load-x-catalogue load-x-scratch 𝓤 𝓛).pre
+            use1 𝓛 (raw ((load_contract load-out load-x-map load-x-catalogue load-x-scratch 𝓤 𝓛).pre
             (to-load ν₀-load ν₁-load ν₂-load δ₀-load δ₁-load δ₂-load))) (goes_load ν₀-load ν₁-load ν₂-load δ₀-load δ₁-load
             δ₂-load) $
-            calls_at ! (fm_of 𝓤 H 𝓛.laws 𝓣) (load-contract load-out load-x-map load-x-catalogue load-x-scratch 𝓤 𝓛)
+            calls_at ! (fm_of 𝓤 H 𝓛.laws 𝓣) (load_contract load-out load-x-map load-x-catalogue load-x-scratch 𝓤 𝓛)
             known-load (to-load ν₀-load ν₁-load ν₂-load δ₀-load δ₁-load δ₂-load) (and_then !
             (load ! (from ! (stop !)) (look ! 61 refl)) (and_then ! (load ! (from ! (stop !)) (look ! 59 refl))
             (and_then ! (load ! (from ! (stop !)) (look ! 57 refl)) (and_then ! (load ! (from ! (stop !)) (look ! 31 refl))
@@ -837,12 +837,12 @@ module _ (Writer Shape Outcome Reply : Value) where
             (no_more !))))))) (λ w-load.
             use1 𝓛 (later (some (λ (r : (denotes Outcome)). ((‵ (flft κ₀ q₀) ⊛ ‵ (flft (ν₀-load ∷ []) full_share)
             ⊛ ‵ (flft (ν₁-load ∷ []) full_share) ⊛ ‵ (flft (ν₂-load ∷ []) full_share) ⊛ ‵ ftrue)
-            ⊛ ‵ ((row_of Outcome).own_val r (w-load ∷ []))) ⊛ raw (ensured 𝓛 load-ended
+            ⊛ ‵ ((row_of Outcome).own_val r (w-load ∷ []))) ⊛ raw (ensured 𝓛 load_ended
             (load-clauses load-out load-x-map load-x-catalogue load-x-scratch 𝓤)
             (κ₀, (ν₀-load ∷ [], (ν₁-load ∷ [], (ν₂-load ∷ [], tt)))) (load-args δ₀-load δ₁-load δ₂-load) tt r)))) (id⊢ 𝓤 _) $
             await ! tt $ pick ! (λ r-load. split ! $ bring ! (1 ∷ []) $
             use1 𝓛 (some (λ (zs-load : Unit {0} × (Unit {0} × (Unit {0} × (List ℕ × (List Entry × (List ℕ × Unit {0})))))). ‵
-            (lasts load-ended (κ₀, (ν₀-load ∷ [], (ν₁-load ∷ [], (ν₂-load ∷ [], tt)))) (load-args δ₀-load δ₁-load δ₂-load)
+            (lasts load_ended (κ₀, (ν₀-load ∷ [], (ν₁-load ∷ [], (ν₂-load ∷ [], tt)))) (load-args δ₀-load δ₁-load δ₂-load)
             zs-load) ⊛ raw (fact 𝓤 (load-says load-out load-x-map load-x-catalogue load-x-scratch x-shape x-role x-image.now
             x-map.now x-catalogue.now x-scratch.now r-load zs-load.1.1.1.0 zs-load.1.1.1.1.0
             zs-load.1.1.1.1.1.0)))) (id⊢ 𝓤 _) $
@@ -880,14 +880,14 @@ module _ (Writer Shape Outcome Reply : Value) where
             z-load-x-scratch (ap {B = ℕ} length (sym e-load.3) ∙ h-load-x-scratch)) $
             await ! tt $ split ! $
             -- reply-of
-            use0 𝓛 (raw ((reply-of-contract reply-of-out 𝓤 𝓛).pre (to-reply-of))) (goes-reply-of
+            use0 𝓛 (raw ((reply_of_contract reply-of-out 𝓤 𝓛).pre (to-reply-of))) (goes-reply-of
             (spelled-v-outcome w-load is-w-load)) $
-            calls_at ! (fm_of 𝓤 H 𝓛.laws 𝓣) (reply-of-contract reply-of-out 𝓤 𝓛) known-reply-of (to-reply-of)
+            calls_at ! (fm_of 𝓤 H 𝓛.laws 𝓣) (reply_of_contract reply-of-out 𝓤 𝓛) known-reply-of (to-reply-of)
             (and_then ! (load ! (from ! (stop !)) (look ! 49 refl)) (no_more !)) (λ w-reply-of.
             use1 𝓛 (later (some (λ (r : (denotes Reply)). ((‵ ftrue) ⊛ ‵ ((row_of Reply).own_val r (w-reply-of ∷ [])))
-            ⊛ raw (ensured 𝓛 reply-of-ended (reply-of-clauses reply-of-out 𝓤) tt (reply-of-args) tt r)))) (id⊢ 𝓤 _) $
+            ⊛ raw (ensured 𝓛 reply_of_ended (reply-of-clauses reply-of-out 𝓤) tt (reply-of-args) tt r)))) (id⊢ 𝓤 _) $
             await ! tt $ pick ! (λ r-reply-of. split ! $ bring ! (1 ∷ []) $
-            use1 𝓛 (some (λ (zs-reply-of : Unit {0} × Unit {0}). ‵ (lasts reply-of-ended tt (reply-of-args) zs-reply-of)
+            use1 𝓛 (some (λ (zs-reply-of : Unit {0} × Unit {0}). ‵ (lasts reply_of_ended tt (reply-of-args) zs-reply-of)
             ⊛ raw (fact 𝓤 (reply-of-says reply-of-out v-outcome r-reply-of)))) (id⊢ 𝓤 _) $
             pick ! (λ zs-reply-of. split ! $ bring ! (1 ∷ []) $
             heard ! (reply-of-says reply-of-out v-outcome r-reply-of) (λ e-reply-of. fparts 𝓛 (_ ∷ []) _ $
@@ -929,11 +929,11 @@ module _ (Writer Shape Outcome Reply : Value) where
             (and_then ! (load ! (from ! (stop !)) (look ! 17 refl)) (no_more !))))) (λ w-begin.
             use1 𝓛 (later (some (λ (r : (denotes Writer)). ((‵ (flft (ν₀-begin ∷ []) full_share)
             ⊛ ‵ (flft (ν₁-begin ∷ []) full_share) ⊛ ‵ ftrue) ⊛ ‵ ((row_of Writer).own_val r (w-begin ∷ [])))
-            ⊛ raw (ensured 𝓛 begin-ended (begin-clauses begin-out begin-x-text 𝓤) (ν₀-begin ∷ [], (ν₁-begin ∷ [], tt))
+            ⊛ raw (ensured 𝓛 begin_ended (begin-clauses begin-out begin-x-text 𝓤) (ν₀-begin ∷ [], (ν₁-begin ∷ [], tt))
             (begin-args δ₀-begin δ₁-begin) tt r)))) (id⊢ 𝓤 _) $
             await ! tt $ pick ! (λ r-begin. split ! $ bring ! (1 ∷ []) $
             use1 𝓛 (some (λ (zs-begin : Unit {0} × (Unit {0} × (Unit {0} × (List ℕ × Unit {0})))). ‵
-            (lasts begin-ended (ν₀-begin ∷ [], (ν₁-begin ∷ [], tt)) (begin-args δ₀-begin δ₁-begin) zs-begin)
+            (lasts begin_ended (ν₀-begin ∷ [], (ν₁-begin ∷ [], tt)) (begin-args δ₀-begin δ₁-begin) zs-begin)
             ⊛ raw (fact 𝓤 (begin-says begin-out begin-x-text v-loaded z-load-x-map v_count x-text.now r-begin
             zs-begin.1.1.1.0)))) (id⊢ 𝓤 _) $
             pick ! (λ zs-begin. split ! $ bring ! (1 ∷ []) $
@@ -993,12 +993,12 @@ module _ (Writer Shape Outcome Reply : Value) where
             (and_then ! (load ! (from ! (stop !)) (look ! 9 refl)) (no_more !)))) (λ w-write-sheets.
             use1 𝓛 (later (some (λ (r : (denotes Writer)). ((‵ (flft (ν₀-write-sheets ∷ []) full_share)
             ⊛ ‵ (flft (ν₁-write-sheets ∷ []) full_share) ⊛ ‵ ftrue) ⊛ ‵ ((row_of Writer).own_val r (w-write-sheets ∷ [])))
-            ⊛ raw (ensured 𝓛 write-sheets-ended (write-sheets-clauses write-sheets-out write-sheets-x-text 𝓤)
+            ⊛ raw (ensured 𝓛 write_sheets_ended (write-sheets-clauses write-sheets-out write-sheets-x-text 𝓤)
             (ν₀-write-sheets ∷ [], (ν₁-write-sheets ∷ [], tt)) (write-sheets-args δ₀-write-sheets δ₁-write-sheets) tt r))))
             (id⊢ 𝓤 _) $
             await ! tt $ pick ! (λ r-write-sheets. split ! $ bring ! (1 ∷ []) $
             use1 𝓛 (some (λ (zs-write-sheets : Unit {0} × (Unit {0} × (List ℕ × Unit {0}))). ‵
-            (lasts write-sheets-ended (ν₀-write-sheets ∷ [], (ν₁-write-sheets ∷ [], tt))
+            (lasts write_sheets_ended (ν₀-write-sheets ∷ [], (ν₁-write-sheets ∷ [], tt))
             (write-sheets-args δ₀-write-sheets δ₁-write-sheets) zs-write-sheets) ⊛ raw
             (fact 𝓤 (write-sheets-says write-sheets-out write-sheets-x-text z-load-x-catalogue v-first z-begin-x-text
             r-write-sheets zs-write-sheets.1.1.0)))) (id⊢ 𝓤 _) $
@@ -1032,9 +1032,9 @@ module _ (Writer Shape Outcome Reply : Value) where
             calls_at ! (fm_of 𝓤 H 𝓛.laws 𝓣) (place-of-contract place-of-out 𝓤 𝓛) known-place-of (to-place-of)
             (and_then ! (load ! (from ! (stop !)) (look ! 43 refl)) (no_more !)) (λ w-place-of.
             use1 𝓛 (later (some (λ (r : ℕ). ((‵ ftrue) ⊛ ‵ (usize.own_val r (w-place-of ∷ [])))
-            ⊛ raw (ensured 𝓛 place-of-ended (place-of-clauses place-of-out 𝓤) tt (place-of-args) tt r)))) (id⊢ 𝓤 _) $
+            ⊛ raw (ensured 𝓛 place_of_ended (place-of-clauses place-of-out 𝓤) tt (place-of-args) tt r)))) (id⊢ 𝓤 _) $
             await ! tt $ pick ! (λ r-place-of. split ! $ bring ! (1 ∷ []) $
-            use1 𝓛 (some (λ (zs-place-of : Unit {0} × Unit {0}). ‵ (lasts place-of-ended tt (place-of-args) zs-place-of)
+            use1 𝓛 (some (λ (zs-place-of : Unit {0} × Unit {0}). ‵ (lasts place_of_ended tt (place-of-args) zs-place-of)
             ⊛ raw (fact 𝓤 (place-of-says place-of-out v-last r-place-of)))) (id⊢ 𝓤 _) $
             pick ! (λ zs-place-of. split ! $ bring ! (1 ∷ []) $
             heard ! (place-of-says place-of-out v-last r-place-of) (λ e-place-of. fparts 𝓛 (_ ∷ []) _ $
@@ -1062,8 +1062,8 @@ module _ (Writer Shape Outcome Reply : Value) where
         open 𝓛 use {H}
 
         walks : (𝓣 : Tables 𝓤 H) → Triple 𝓤 (𝓣.C #count) (count-contract count-out 𝓤 𝓛)
-            → Triple 𝓤 (𝓣.C #load) (load-contract load-out load-x-map load-x-catalogue load-x-scratch 𝓤 𝓛)
-            → Triple 𝓤 (𝓣.C #reply-of) (reply-of-contract reply-of-out 𝓤 𝓛) → Triple 𝓤 (𝓣.C #begin)
+            → Triple 𝓤 (𝓣.C #load) (load_contract load-out load-x-map load-x-catalogue load-x-scratch 𝓤 𝓛)
+            → Triple 𝓤 (𝓣.C #reply-of) (reply_of_contract reply-of-out 𝓤 𝓛) → Triple 𝓤 (𝓣.C #begin)
             (begin-contract begin-out begin-x-text 𝓤 𝓛) → Triple 𝓤 (𝓣.C #write-sheets)
             (write-sheets-contract write-sheets-out write-sheets-x-text 𝓤 𝓛) → Triple 𝓤 (𝓣.C #place-of)
             (place-of-contract place-of-out 𝓤 𝓛) → Walks 𝓛 ended stayed (WpFn 𝓤 H 𝓣.C 𝓣.Λ
@@ -1096,8 +1096,8 @@ module _ (Writer Shape Outcome Reply : Value) where
             known-place-of))
 
         pub meets : (𝓣 : Tables 𝓤 H) → Triple 𝓤 (𝓣.C #count) (count-contract count-out 𝓤 𝓛)
-            → Triple 𝓤 (𝓣.C #load) (load-contract load-out load-x-map load-x-catalogue load-x-scratch 𝓤 𝓛)
-            → Triple 𝓤 (𝓣.C #reply-of) (reply-of-contract reply-of-out 𝓤 𝓛) → Triple 𝓤 (𝓣.C #begin)
+            → Triple 𝓤 (𝓣.C #load) (load_contract load-out load-x-map load-x-catalogue load-x-scratch 𝓤 𝓛)
+            → Triple 𝓤 (𝓣.C #reply-of) (reply_of_contract reply-of-out 𝓤 𝓛) → Triple 𝓤 (𝓣.C #begin)
             (begin-contract begin-out begin-x-text 𝓤 𝓛) → Triple 𝓤 (𝓣.C #write-sheets)
             (write-sheets-contract write-sheets-out write-sheets-x-text 𝓤 𝓛) → Triple 𝓤 (𝓣.C #place-of)
             (place-of-contract place-of-out 𝓤 𝓛) → Meets 𝓛 signature (WpFn 𝓤 H 𝓣.C 𝓣.Λ

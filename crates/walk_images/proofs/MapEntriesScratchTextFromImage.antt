@@ -123,8 +123,8 @@ module _ (Shape : Value) where
   }
 
   -- ---- what `call` is
-  abbrev call-signature : Signature
-  call-signature = record {
+  abbrev call_signature : Signature
+  call_signature = record {
     lifetimes = 5;
     outlives = [];
     params = plain (λ _. (row_of Shape)) ∷ plain (λ _. u32) ∷ shr_slice 0 tt (λ _. u8) ∷ mut_slice 1 tt (λ _. u64)
@@ -132,13 +132,13 @@ module _ (Shape : Value) where
     result = plain (λ _. usize);
   }
 
-  abbrev call-ended : Ended
-  call-ended = record { signature = call-signature; kept = (yes, (yes, (yes, (yes, (yes, (yes, (yes, tt))))))) }
+  abbrev call_ended : Ended
+  call_ended = record { signature = call_signature; kept = (yes, (yes, (yes, (yes, (yes, (yes, (yes, tt))))))) }
 
   module _ (call-says : (denotes Shape) → ℕ → List ℕ → List ℕ → List Entry → List ℕ → List ℕ → ℕ → List ℕ → List Entry → List ℕ
       → List ℕ → Type 0) where
     module _ {M : Type 1} (𝓤 : Ura M) where
-      abbrev call-clauses : Clauses 𝓤 call-ended
+      abbrev call-clauses : Clauses 𝓤 call_ended
       call-clauses κs a = record {
         ghost = Unit {0};
         requires = λ _. emp 𝓤;
@@ -149,23 +149,23 @@ module _ (Shape : Value) where
 
       module _ (𝓛 : Logic 𝓤) where
         abbrev pub call-contract : Contract 𝓤
-        call-contract = triple_of 𝓛 call-signature (closing 𝓛 call-ended call-clauses)
+        call-contract = triple_of 𝓛 call_signature (closing 𝓛 call_ended call-clauses)
 
   -- ---- what `used-of` is
-  abbrev used-of-signature : Signature
-  used-of-signature = record {
+  abbrev used_of_signature : Signature
+  used_of_signature = record {
     lifetimes = 0;
     outlives = [];
     params = plain (λ _. usize) ∷ plain (λ _. (Array Entry'.the_row 1024)) ∷ [];
     result = plain (λ _. usize);
   }
 
-  abbrev used-of-ended : Ended
-  used-of-ended = record { signature = used-of-signature; kept = (yes, (yes, tt)) }
+  abbrev used_of_ended : Ended
+  used_of_ended = record { signature = used_of_signature; kept = (yes, (yes, tt)) }
 
   module _ (used-of-says : ℕ → (List Entry) → ℕ → Type 0) where
     module _ {M : Type 1} (𝓤 : Ura M) where
-      abbrev used-of-clauses : Clauses 𝓤 used-of-ended
+      abbrev used-of-clauses : Clauses 𝓤 used_of_ended
       used-of-clauses κs a = record {
         ghost = Unit {0};
         requires = λ _. emp 𝓤;
@@ -174,7 +174,7 @@ module _ (Shape : Value) where
 
       module _ (𝓛 : Logic 𝓤) where
         abbrev pub used-of-contract : Contract 𝓤
-        used-of-contract = triple_of 𝓛 used-of-signature (closing 𝓛 used-of-ended used-of-clauses)
+        used-of-contract = triple_of 𝓛 used_of_signature (closing 𝓛 used_of_ended used-of-clauses)
 
   module _ (#call #used-of : Name) (call-says : (denotes Shape) → ℕ → List ℕ → List ℕ → List Entry → List ℕ → List ℕ → ℕ
       → List ℕ → List Entry → List ℕ → List ℕ → Type 0) (used-of-says : ℕ → (List Entry) → ℕ → Type 0) where
@@ -377,23 +377,23 @@ module _ (Shape : Value) where
             bring ! (1 ∷ 0 ∷ []) $ join ! $ frame ! $ done !
 
         -- ---- the exit
-        exits : (r : ℕ) (w : Val) (z-x-map : List ℕ) (z-x-scratch : List ℕ) (z-x-text : List ℕ) → Is usize r (w ∷ [])
-            → length z-x-map ≡ length x-map.now → length z-x-scratch ≡ length x-scratch.now → length z-x-text
+        exits : (r : ℕ) (w : Val) (z-x-map : List ℕ) (z_x_scratch : List ℕ) (z_x_text : List ℕ) → Is usize r (w ∷ [])
+            → length z-x-map ≡ length x-map.now → length z_x_scratch ≡ length x-scratch.now → length z_x_text
             ≡ length x-text.now → Says x-shape x-role x-image.now x-map.now x-entries x-c x-scratch.now x-text.now r
-            z-x-map z-x-scratch z-x-text → ent 𝓤 (⋆ 𝓛 (‵ ((ShrSlice (named 0) κ₀ u8).own_val x-image (s-x-image ∷ []))
+            z-x-map z_x_scratch z_x_text → ent 𝓤 (⋆ 𝓛 (‵ ((ShrSlice (named 0) κ₀ u8).own_val x-image (s-x-image ∷ []))
             ∷ ‵ (flft κ₀ q₀) ∷ ‵ ((MutSlice (named 1) κ₁ u64).own_val (at-x-map x-map.name z-x-map) (s-x-map ∷ []))
-            ∷ ‵ (flft κ₁ q₁) ∷ ‵ ((MutSlice (named 2) κ₂ u64).own_val (at-x-scratch x-scratch.name z-x-scratch)
-            (s-x-scratch ∷ [])) ∷ ‵ (flft κ₂ q₂) ∷ ‵ ((MutSlice (named 3) κ₃ u8).own_val (at-x-text x-text.name z-x-text)
+            ∷ ‵ (flft κ₁ q₁) ∷ ‵ ((MutSlice (named 2) κ₂ u64).own_val (at-x-scratch x-scratch.name z_x_scratch)
+            (s-x-scratch ∷ [])) ∷ ‵ (flft κ₂ q₂) ∷ ‵ ((MutSlice (named 3) κ₃ u8).own_val (at-x-text x-text.name z_x_text)
             (s-x-text ∷ [])) ∷ ‵ (flft κ₃ q₃) ∷ [])) (Post w)
-        exits r w z-x-map z-x-scratch z-x-text is l-x-map l-x-scratch l-x-text said =
+        exits r w z-x-map z_x_scratch z_x_text is l-x-map l_x_scratch l_x_text said =
             qed 𝓛 (‵ ((ShrSlice (named 0) κ₀ u8).own_val x-image (s-x-image ∷ [])) ∷ ‵ (flft κ₀ q₀)
             ∷ ‵ ((MutSlice (named 1) κ₁ u64).own_val (at-x-map x-map.name z-x-map) (s-x-map ∷ [])) ∷ ‵ (flft κ₁ q₁)
-            ∷ ‵ ((MutSlice (named 2) κ₂ u64).own_val (at-x-scratch x-scratch.name z-x-scratch) (s-x-scratch ∷ []))
-            ∷ ‵ (flft κ₂ q₂) ∷ ‵ ((MutSlice (named 3) κ₃ u8).own_val (at-x-text x-text.name z-x-text) (s-x-text ∷ []))
+            ∷ ‵ ((MutSlice (named 2) κ₂ u64).own_val (at-x-scratch x-scratch.name z_x_scratch) (s-x-scratch ∷ []))
+            ∷ ‵ (flft κ₂ q₂) ∷ ‵ ((MutSlice (named 3) κ₃ u8).own_val (at-x-text x-text.name z_x_text) (s-x-text ∷ []))
             ∷ ‵ (flft κ₃ q₃) ∷ []) ∵
             suffices ! _ (ends_at 𝓛 ended stayed (clauses 𝓤) bound w r
-            (tt, (tt, (tt, (z-x-map, (tt, (tt, (z-x-scratch, (z-x-text, tt))))))))
-            (tt, (tt, (tt, (l-x-map, (tt, (tt, (l-x-scratch, (l-x-text, tt))))))))) $
+            (tt, (tt, (tt, (z-x-map, (tt, (tt, (z_x_scratch, (z_x_text, tt))))))))
+            (tt, (tt, (tt, (l-x-map, (tt, (tt, (l_x_scratch, (l_x_text, tt))))))))) $
             says ! said $ nothing ! $ bring ! (2 ∷ 3 ∷ 4 ∷ 5 ∷ 0 ∷ []) $ group ! 5 $ frame ! $ nothing ! $
             bring ! (4 ∷ 0 ∷ []) $ fjoin ! $ bring ! (3 ∷ 0 ∷ []) $ fjoin ! $
             owned ! usize (Is usize) (uint_Makes 𝓛 w64) x-c _ is-x-c $ fjoin ! $
@@ -485,12 +485,12 @@ module _ (Shape : Value) where
             (and_then ! (load ! (from ! (stop !)) (look ! 8 refl)) (no_more !)))))))) (λ w_call.
             use1 𝓛 (later (some (λ (r : ℕ). ((‵ (flft κ₀ q₀) ⊛ ‵ (flft (ν₀-call ∷ []) full_share)
             ⊛ ‵ (flft (ν₁-call ∷ []) full_share) ⊛ ‵ (flft (ν₂-call ∷ []) full_share) ⊛ ‵ (flft (ν₃-call ∷ []) full_share)
-            ⊛ ‵ ftrue) ⊛ ‵ (usize.own_val r (w_call ∷ []))) ⊛ raw (ensured 𝓛 call-ended (call-clauses call-says 𝓤)
+            ⊛ ‵ ftrue) ⊛ ‵ (usize.own_val r (w_call ∷ []))) ⊛ raw (ensured 𝓛 call_ended (call-clauses call-says 𝓤)
             (κ₀, (ν₀-call ∷ [], (ν₁-call ∷ [], (ν₂-call ∷ [], (ν₃-call ∷ [], tt))))) (call-args δ₀-call δ₁-call δ₂-call δ₃-call
             l₉) tt r)))) (id⊢ 𝓤 _) $
             await ! tt $ pick ! (λ r-call. split ! $ bring ! (1 ∷ []) $
             use1 𝓛 (some (λ (zs-call : Unit {0} × (Unit {0} × (Unit {0} × (List ℕ × (List Entry
-            × (List ℕ × (List ℕ × Unit {0}))))))). ‵ (lasts call-ended
+            × (List ℕ × (List ℕ × Unit {0}))))))). ‵ (lasts call_ended
             (κ₀, (ν₀-call ∷ [], (ν₁-call ∷ [], (ν₂-call ∷ [], (ν₃-call ∷ [], tt))))) (call-args δ₀-call δ₁-call δ₂-call δ₃-call
             l₉) zs-call) ⊛ raw (fact 𝓤 (call-says x-shape x-role x-image.now x-map.now (take x-c x-entries) x-scratch.now
             x-text.now r-call zs-call.1.1.1.0 zs-call.1.1.1.1.0 zs-call.1.1.1.1.1.0
@@ -541,10 +541,10 @@ module _ (Shape : Value) where
             (and_then ! (load ! (from ! (stop !)) (look ! 28 refl)) (and_then ! (load ! (from ! (stop !)) (look ! 10 refl))
             (no_more !))) (λ w-used-of.
             use1 𝓛 (later (some (λ (r : ℕ). ((‵ ftrue) ⊛ ‵ (usize.own_val r (w-used-of ∷ [])))
-            ⊛ raw (ensured 𝓛 used-of-ended (used-of-clauses used-of-says 𝓤) tt (used-of-args r-call w_call
+            ⊛ raw (ensured 𝓛 used_of_ended (used-of-clauses used-of-says 𝓤) tt (used-of-args r-call w_call
             (zs-call.1.1.1.1.0 ++ drop-list x-c x-entries)) tt r)))) (id⊢ 𝓤 _) $
             await ! tt $ pick ! (λ r-used-of. split ! $ bring ! (1 ∷ []) $
-            use1 𝓛 (some (λ (zs-used-of : Unit {0} × (Unit {0} × Unit {0})). ‵ (lasts used-of-ended tt
+            use1 𝓛 (some (λ (zs-used-of : Unit {0} × (Unit {0} × Unit {0})). ‵ (lasts used_of_ended tt
             (used-of-args r-call w_call (zs-call.1.1.1.1.0 ++ drop-list x-c x-entries)) zs-used-of)
             ⊛ raw (fact 𝓤 (used-of-says r-call (zs-call.1.1.1.1.0 ++ drop-list x-c x-entries) r-used-of)))) (id⊢ 𝓤 _) $
             pick ! (λ zs-used-of. split ! $ bring ! (1 ∷ []) $

@@ -140,26 +140,26 @@ module _ (Tally Cursor : Value) where
   }
 
   -- ---- what `count` is, and what it ensures
-  abbrev count-signature : Signature
-  count-signature = record {
+  abbrev count_signature : Signature
+  count_signature = record {
     lifetimes = 1;
     outlives = [];
     params = shr_slice 0 tt (λ _. Entry'.the_row) ∷ [];
     result = plain (λ _. usize);
   }
 
-  abbrev count-ended : Ended
-  count-ended = record { signature = count-signature; kept = (yes, tt) }
+  abbrev count_ended : Ended
+  count_ended = record { signature = count_signature; kept = (yes, tt) }
 
-  abbrev count-Model : Type 0 → Type 0
-  count-Model X = List Entry → X
+  abbrev count_model : Type 0 → Type 0
+  count_model X = List Entry → X
 
-  module _ (count-out : count-Model ℕ) where
+  module _ (count-out : count_model ℕ) where
     abbrev count-says : List Entry → ℕ → Type 0
     count-says a0 r = r ≡ count-out a0
 
     module _ {M : Type 1} (𝓤 : Ura M) where
-      abbrev count-clauses : Clauses 𝓤 count-ended
+      abbrev count-clauses : Clauses 𝓤 count_ended
       count-clauses κs a = record {
         ghost = Unit {0};
         requires = λ _. emp 𝓤;
@@ -168,11 +168,11 @@ module _ (Tally Cursor : Value) where
 
       module _ (𝓛 : Logic 𝓤) where
         abbrev pub count-contract : Contract 𝓤
-        count-contract = triple_of 𝓛 count-signature (closing 𝓛 count-ended count-clauses)
+        count-contract = triple_of 𝓛 count_signature (closing 𝓛 count_ended count-clauses)
 
   -- ---- what `begin` is, and what it ensures
-  abbrev begin-signature : Signature
-  begin-signature = record {
+  abbrev begin_signature : Signature
+  begin_signature = record {
     lifetimes = 2;
     outlives = [];
     params = plain (λ _. u32) ∷ plain (λ _. u32) ∷ plain (λ _. u32) ∷ shr_slice 0 tt (λ _. u64) ∷ plain (λ _. usize)
@@ -180,18 +180,18 @@ module _ (Tally Cursor : Value) where
     result = plain (λ _. (row_of Tally));
   }
 
-  abbrev begin-ended : Ended
-  begin-ended = record { signature = begin-signature; kept = (yes, (yes, (yes, (yes, (yes, (yes, tt)))))) }
+  abbrev begin_ended : Ended
+  begin_ended = record { signature = begin_signature; kept = (yes, (yes, (yes, (yes, (yes, (yes, tt)))))) }
 
-  abbrev begin-Model : Type 0 → Type 0
-  begin-Model X = ℕ → ℕ → ℕ → List ℕ → ℕ → List ℕ → X
+  abbrev begin_model : Type 0 → Type 0
+  begin_model X = ℕ → ℕ → ℕ → List ℕ → ℕ → List ℕ → X
 
-  module _ (begin-out : begin-Model (denotes Tally)) where
+  module _ (begin-out : begin_model (denotes Tally)) where
     abbrev begin-says : ℕ → ℕ → ℕ → List ℕ → ℕ → List ℕ → (denotes Tally) → Type 0
     begin-says a0 a1 a2 a3 a4 a5 r = r ≡ begin-out a0 a1 a2 a3 a4 a5
 
     module _ {M : Type 1} (𝓤 : Ura M) where
-      abbrev begin-clauses : Clauses 𝓤 begin-ended
+      abbrev begin-clauses : Clauses 𝓤 begin_ended
       begin-clauses κs a = record {
         ghost = Unit {0};
         requires = λ _. emp 𝓤;
@@ -201,11 +201,11 @@ module _ (Tally Cursor : Value) where
 
       module _ (𝓛 : Logic 𝓤) where
         abbrev pub begin-contract : Contract 𝓤
-        begin-contract = triple_of 𝓛 begin-signature (closing 𝓛 begin-ended begin-clauses)
+        begin-contract = triple_of 𝓛 begin_signature (closing 𝓛 begin_ended begin-clauses)
 
   -- ---- what `test-sound` is, and what it ensures
-  abbrev test-sound-signature : Signature
-  test-sound-signature = record {
+  abbrev test_sound_signature : Signature
+  test_sound_signature = record {
     lifetimes = 3;
     outlives = [];
     params = shr_slice 0 tt (λ _. u64) ∷ shr_slice 1 tt (λ _. Entry'.the_row) ∷ mut_slice 2 tt (λ _. u64) ∷ plain (λ _. u32)
@@ -213,18 +213,18 @@ module _ (Tally Cursor : Value) where
     result = plain (λ _. Boolean);
   }
 
-  abbrev test-sound-ended : Ended
-  test-sound-ended = record { signature = test-sound-signature; kept = (yes, (yes, (yes, (yes, (yes, tt))))) }
+  abbrev test_sound_ended : Ended
+  test_sound_ended = record { signature = test_sound_signature; kept = (yes, (yes, (yes, (yes, (yes, tt))))) }
 
-  abbrev test-sound-Model : Type 0 → Type 0
-  test-sound-Model X = List ℕ → List Entry → List ℕ → ℕ → (denotes Tally) → X
+  abbrev test_sound_model : Type 0 → Type 0
+  test_sound_model X = List ℕ → List Entry → List ℕ → ℕ → (denotes Tally) → X
 
-  module _ (test-sound-out : test-sound-Model Bool) (test-sound-x-scratch : test-sound-Model (List ℕ)) where
+  module _ (test-sound-out : test_sound_model Bool) (test-sound-x-scratch : test_sound_model (List ℕ)) where
     abbrev test-sound-says : List ℕ → List Entry → List ℕ → ℕ → (denotes Tally) → Bool → List ℕ → Type 0
     test-sound-says a0 a1 a2 a3 a4 r b2 = (r ≡ test-sound-out a0 a1 a2 a3 a4) × (b2 ≡ test-sound-x-scratch a0 a1 a2 a3 a4)
 
     module _ {M : Type 1} (𝓤 : Ura M) where
-      abbrev test-sound-clauses : Clauses 𝓤 test-sound-ended
+      abbrev test-sound-clauses : Clauses 𝓤 test_sound_ended
       test-sound-clauses κs a = record {
         ghost = Unit {0};
         requires = λ _. emp 𝓤;
@@ -234,11 +234,11 @@ module _ (Tally Cursor : Value) where
 
       module _ (𝓛 : Logic 𝓤) where
         abbrev pub test-sound-contract : Contract 𝓤
-        test-sound-contract = triple_of 𝓛 test-sound-signature (closing 𝓛 test-sound-ended test-sound-clauses)
+        test-sound-contract = triple_of 𝓛 test_sound_signature (closing 𝓛 test_sound_ended test-sound-clauses)
 
   -- ---- what `verdict` is, and what it ensures
-  abbrev verdict-signature : Signature
-  verdict-signature = record {
+  abbrev verdict_signature : Signature
+  verdict_signature = record {
     lifetimes = 3;
     outlives = [];
     params = plain (λ _. u32) ∷ plain (λ _. u32) ∷ plain (λ _. u32) ∷ shr_slice 0 tt (λ _. u64) ∷ plain (λ _. usize)
@@ -246,18 +246,18 @@ module _ (Tally Cursor : Value) where
     result = plain (λ _. u32);
   }
 
-  abbrev verdict-ended : Ended
-  verdict-ended = record { signature = verdict-signature; kept = (yes, (yes, (yes, (yes, (yes, (yes, (yes, (yes, tt)))))))) }
+  abbrev verdict_ended : Ended
+  verdict_ended = record { signature = verdict_signature; kept = (yes, (yes, (yes, (yes, (yes, (yes, (yes, (yes, tt)))))))) }
 
-  abbrev verdict-Model : Type 0 → Type 0
-  verdict-Model X = ℕ → ℕ → ℕ → List ℕ → ℕ → Bool → List ℕ → List ℕ → X
+  abbrev verdict_model : Type 0 → Type 0
+  verdict_model X = ℕ → ℕ → ℕ → List ℕ → ℕ → Bool → List ℕ → List ℕ → X
 
-  module _ (verdict-out : verdict-Model ℕ) where
+  module _ (verdict-out : verdict_model ℕ) where
     abbrev verdict-says : ℕ → ℕ → ℕ → List ℕ → ℕ → Bool → List ℕ → List ℕ → ℕ → Type 0
     verdict-says a0 a1 a2 a3 a4 a5 a6 a7 r = r ≡ verdict-out a0 a1 a2 a3 a4 a5 a6 a7
 
     module _ {M : Type 1} (𝓤 : Ura M) where
-      abbrev verdict-clauses : Clauses 𝓤 verdict-ended
+      abbrev verdict-clauses : Clauses 𝓤 verdict_ended
       verdict-clauses κs a = record {
         ghost = Unit {0};
         requires = λ _. emp 𝓤;
@@ -267,29 +267,29 @@ module _ (Tally Cursor : Value) where
 
       module _ (𝓛 : Logic 𝓤) where
         abbrev pub verdict-contract : Contract 𝓤
-        verdict-contract = triple_of 𝓛 verdict-signature (closing 𝓛 verdict-ended verdict-clauses)
+        verdict-contract = triple_of 𝓛 verdict_signature (closing 𝓛 verdict_ended verdict-clauses)
 
   -- ---- what `write-head` is, and what it ensures
-  abbrev write-head-signature : Signature
-  write-head-signature = record {
+  abbrev write_head_signature : Signature
+  write_head_signature = record {
     lifetimes = 1;
     outlives = [];
     params = plain (λ _. u32) ∷ plain (λ _. u32) ∷ plain (λ _. usize) ∷ plain (λ _. u32) ∷ mut_slice 0 tt (λ _. u8) ∷ [];
     result = plain (λ _. (row_of Cursor));
   }
 
-  abbrev write-head-ended : Ended
-  write-head-ended = record { signature = write-head-signature; kept = (yes, (yes, (yes, (yes, (yes, tt))))) }
+  abbrev write_head_ended : Ended
+  write_head_ended = record { signature = write_head_signature; kept = (yes, (yes, (yes, (yes, (yes, tt))))) }
 
-  abbrev write-head-Model : Type 0 → Type 0
-  write-head-Model X = ℕ → ℕ → ℕ → ℕ → List ℕ → X
+  abbrev write_head_model : Type 0 → Type 0
+  write_head_model X = ℕ → ℕ → ℕ → ℕ → List ℕ → X
 
-  module _ (write-head-out : write-head-Model (denotes Cursor)) (write-head-x-image : write-head-Model (List ℕ)) where
+  module _ (write-head-out : write_head_model (denotes Cursor)) (write-head-x-image : write_head_model (List ℕ)) where
     abbrev write-head-says : ℕ → ℕ → ℕ → ℕ → List ℕ → (denotes Cursor) → List ℕ → Type 0
     write-head-says a0 a1 a2 a3 a4 r b4 = (r ≡ write-head-out a0 a1 a2 a3 a4) × (b4 ≡ write-head-x-image a0 a1 a2 a3 a4)
 
     module _ {M : Type 1} (𝓤 : Ura M) where
-      abbrev write-head-clauses : Clauses 𝓤 write-head-ended
+      abbrev write-head-clauses : Clauses 𝓤 write_head_ended
       write-head-clauses κs a = record {
         ghost = Unit {0};
         requires = λ _. emp 𝓤;
@@ -299,30 +299,30 @@ module _ (Tally Cursor : Value) where
 
       module _ (𝓛 : Logic 𝓤) where
         abbrev pub write-head-contract : Contract 𝓤
-        write-head-contract = triple_of 𝓛 write-head-signature (closing 𝓛 write-head-ended write-head-clauses)
+        write-head-contract = triple_of 𝓛 write_head_signature (closing 𝓛 write_head_ended write-head-clauses)
 
   -- ---- what `write_entries` is, and what it ensures
-  abbrev write-entries-signature : Signature
-  write-entries-signature = record {
+  abbrev write_entries_signature : Signature
+  write_entries_signature = record {
     lifetimes = 2;
     outlives = [];
     params = shr_slice 0 tt (λ _. Entry'.the_row) ∷ plain (λ _. (row_of Cursor)) ∷ mut_slice 1 tt (λ _. u8) ∷ [];
     result = plain (λ _. (row_of Cursor));
   }
 
-  abbrev write-entries-ended : Ended
-  write-entries-ended = record { signature = write-entries-signature; kept = (yes, (yes, (yes, tt))) }
+  abbrev write_entries_ended : Ended
+  write_entries_ended = record { signature = write_entries_signature; kept = (yes, (yes, (yes, tt))) }
 
-  abbrev write-entries-Model : Type 0 → Type 0
-  write-entries-Model X = List Entry → (denotes Cursor) → List ℕ → X
+  abbrev write_entries_model : Type 0 → Type 0
+  write_entries_model X = List Entry → (denotes Cursor) → List ℕ → X
 
-  module _ (write-entries-out : write-entries-Model (denotes Cursor)) (write-entries-x-image : write-entries-Model
+  module _ (write-entries-out : write_entries_model (denotes Cursor)) (write-entries-x-image : write_entries_model
       (List ℕ)) where
     abbrev write-entries-says : List Entry → (denotes Cursor) → List ℕ → (denotes Cursor) → List ℕ → Type 0
     write-entries-says a0 a1 a2 r b2 = (r ≡ write-entries-out a0 a1 a2) × (b2 ≡ write-entries-x-image a0 a1 a2)
 
     module _ {M : Type 1} (𝓤 : Ura M) where
-      abbrev write-entries-clauses : Clauses 𝓤 write-entries-ended
+      abbrev write-entries-clauses : Clauses 𝓤 write_entries_ended
       write-entries-clauses κs a = record {
         ghost = Unit {0};
         requires = λ _. emp 𝓤;
@@ -331,30 +331,30 @@ module _ (Tally Cursor : Value) where
 
       module _ (𝓛 : Logic 𝓤) where
         abbrev pub write-entries-contract : Contract 𝓤
-        write-entries-contract = triple_of 𝓛 write-entries-signature (closing 𝓛 write-entries-ended
+        write-entries-contract = triple_of 𝓛 write_entries_signature (closing 𝓛 write_entries_ended
             write-entries-clauses)
 
   -- ---- what `write-rest` is, and what it ensures
-  abbrev write-rest-signature : Signature
-  write-rest-signature = record {
+  abbrev write_rest_signature : Signature
+  write_rest_signature = record {
     lifetimes = 2;
     outlives = [];
     params = shr_slice 0 tt (λ _. u64) ∷ plain (λ _. (row_of Cursor)) ∷ mut_slice 1 tt (λ _. u8) ∷ [];
     result = plain (λ _. Nothing);
   }
 
-  abbrev write-rest-ended : Ended
-  write-rest-ended = record { signature = write-rest-signature; kept = (yes, (yes, (yes, tt))) }
+  abbrev write_rest_ended : Ended
+  write_rest_ended = record { signature = write_rest_signature; kept = (yes, (yes, (yes, tt))) }
 
-  abbrev write-rest-Model : Type 0 → Type 0
-  write-rest-Model X = List ℕ → (denotes Cursor) → List ℕ → X
+  abbrev write_rest_model : Type 0 → Type 0
+  write_rest_model X = List ℕ → (denotes Cursor) → List ℕ → X
 
-  module _ (write-rest-x-image : write-rest-Model (List ℕ)) where
+  module _ (write-rest-x-image : write_rest_model (List ℕ)) where
     abbrev write-rest-says : List ℕ → (denotes Cursor) → List ℕ → (Unit {0}) → List ℕ → Type 0
     write-rest-says a0 a1 a2 r b2 = b2 ≡ write-rest-x-image a0 a1 a2
 
     module _ {M : Type 1} (𝓤 : Ura M) where
-      abbrev write-rest-clauses : Clauses 𝓤 write-rest-ended
+      abbrev write-rest-clauses : Clauses 𝓤 write_rest_ended
       write-rest-clauses κs a = record {
         ghost = Unit {0};
         requires = λ _. emp 𝓤;
@@ -363,14 +363,14 @@ module _ (Tally Cursor : Value) where
 
       module _ (𝓛 : Logic 𝓤) where
         abbrev pub write-rest-contract : Contract 𝓤
-        write-rest-contract = triple_of 𝓛 write-rest-signature (closing 𝓛 write-rest-ended write-rest-clauses)
+        write-rest-contract = triple_of 𝓛 write_rest_signature (closing 𝓛 write_rest_ended write-rest-clauses)
 
-  module _ (#count #begin #test-sound #verdict #write-head #write-entries #write-rest : Name) (count-out : count-Model ℕ)
-      (begin-out : begin-Model (denotes Tally)) (test-sound-out : test-sound-Model Bool)
-      (test-sound-x-scratch : test-sound-Model (List ℕ)) (verdict-out : verdict-Model ℕ)
-      (write-head-out : write-head-Model (denotes Cursor)) (write-head-x-image : write-head-Model (List ℕ))
-      (write-entries-out : write-entries-Model (denotes Cursor)) (write-entries-x-image : write-entries-Model (List ℕ))
-      (write-rest-x-image : write-rest-Model (List ℕ)) where
+  module _ (#count #begin #test-sound #verdict #write-head #write-entries #write-rest : Name) (count-out : count_model ℕ)
+      (begin-out : begin_model (denotes Tally)) (test-sound-out : test_sound_model Bool)
+      (test-sound-x-scratch : test_sound_model (List ℕ)) (verdict-out : verdict_model ℕ)
+      (write-head-out : write_head_model (denotes Cursor)) (write-head-x-image : write_head_model (List ℕ))
+      (write-entries-out : write_entries_model (denotes Cursor)) (write-entries-x-image : write_entries_model (List ℕ))
+      (write-rest-x-image : write_rest_model (List ℕ)) where
     -- ---- what the chain gives, call by call
     module _ (x-role : ℕ) (x-n : ℕ) (x-free : ℕ) (x-map : List ℕ) (x-catalogue : List Entry) (x-scratch : List ℕ)
         (x-image : List ℕ) where
@@ -804,7 +804,7 @@ module _ (Tally Cursor : Value) where
             ∷ ‵ (flft κ₁ q₁) ∷ ‵ ((MutSlice (named 2) κ₂ u64).own_val (at-x-scratch x-scratch.name z-test-sound-x-scratch)
             (s-x-scratch ∷ [])) ∷ ‵ (flft κ₂ q₂) ∷ ‵ ((MutSlice (named 3) κ₃ u8).own_val (at-x-image x-image.name
             z-write-rest-x-image) (s-x-image ∷ [])) ∷ ‵ (flft κ₃ q₃) ∷ [])) (Post m-v-number)
-        exits is l-x-scratch l-x-image =
+        exits is l_x_scratch l_x_image =
             qed 𝓛 (‵ ((ShrSlice (named 0) κ₀ u64).own_val x-map (s-x-map ∷ [])) ∷ ‵ (flft κ₀ q₀)
             ∷ ‵ ((ShrSlice (named 1) κ₁ Entry'.the_row).own_val x-catalogue (s-x-catalogue ∷ [])) ∷ ‵ (flft κ₁ q₁)
             ∷ ‵ ((MutSlice (named 2) κ₂ u64).own_val (at-x-scratch x-scratch.name z-test-sound-x-scratch) (s-x-scratch ∷ []))
@@ -812,7 +812,7 @@ module _ (Tally Cursor : Value) where
             (s-x-image ∷ [])) ∷ ‵ (flft κ₃ q₃) ∷ []) ∵
             suffices ! _ (ends_at 𝓛 ended stayed (clauses 𝓤) bound m-v-number v-number
             (tt, (tt, (tt, (tt, (tt, (z-test-sound-x-scratch, (z-write-rest-x-image, tt)))))))
-            (tt, (tt, (tt, (tt, (tt, (l-x-scratch, (l-x-image, tt)))))))) $
+            (tt, (tt, (tt, (tt, (tt, (l_x_scratch, (l_x_image, tt)))))))) $
             says ! (law x-role x-n x-free x-map.now x-catalogue.now x-scratch.now x-image.now) $ nothing ! $
             bring ! (2 ∷ 3 ∷ 4 ∷ 5 ∷ 0 ∷ []) $ group ! 5 $ frame ! $ nothing ! $ bring ! (4 ∷ 0 ∷ []) $ fjoin ! $
             bring ! (3 ∷ 0 ∷ []) $ fjoin ! $ bring ! (2 ∷ 0 ∷ []) $ fjoin ! $ bring ! (1 ∷ 0 ∷ []) $ fjoin ! $
@@ -860,9 +860,9 @@ module _ (Tally Cursor : Value) where
             calls_at ! (fm_of 𝓤 H 𝓛.laws 𝓣) (count-contract count-out 𝓤 𝓛) known-count (to-count)
             (and_then ! (load ! (from ! (stop !)) (look ! 54 refl)) (no_more !)) (λ w-count.
             use1 𝓛 (later (some (λ (r : ℕ). ((‵ (flft κ₁ q₁) ⊛ ‵ ftrue) ⊛ ‵ (usize.own_val r (w-count ∷ [])))
-            ⊛ raw (ensured 𝓛 count-ended (count-clauses count-out 𝓤) (κ₁, tt) (count-args) tt r)))) (id⊢ 𝓤 _) $
+            ⊛ raw (ensured 𝓛 count_ended (count-clauses count-out 𝓤) (κ₁, tt) (count-args) tt r)))) (id⊢ 𝓤 _) $
             await ! tt $ pick ! (λ r-count. split ! $ bring ! (1 ∷ []) $
-            use1 𝓛 (some (λ (zs-count : Unit {0} × Unit {0}). ‵ (lasts count-ended (κ₁, tt) (count-args) zs-count)
+            use1 𝓛 (some (λ (zs-count : Unit {0} × Unit {0}). ‵ (lasts count_ended (κ₁, tt) (count-args) zs-count)
             ⊛ raw (fact 𝓤 (count-says count-out x-catalogue.now r-count)))) (id⊢ 𝓤 _) $
             pick ! (λ zs-count. split ! $ bring ! (1 ∷ []) $
             heard ! (count-says count-out x-catalogue.now r-count) (λ e-count. fparts 𝓛 (_ ∷ []) _ $
@@ -896,11 +896,11 @@ module _ (Tally Cursor : Value) where
             (and_then ! (load ! (from ! (stop !)) (look ! 47 refl)) (and_then ! (load ! (from ! (stop !)) (look ! 33 refl))
             (no_more !))))))) (λ w-begin.
             use1 𝓛 (later (some (λ (r : (denotes Tally)). ((‵ (flft κ₀ q₀) ⊛ ‵ (flft (ν₀-begin ∷ []) full_share) ⊛ ‵ ftrue)
-            ⊛ ‵ ((row_of Tally).own_val r (w-begin ∷ []))) ⊛ raw (ensured 𝓛 begin-ended (begin-clauses begin-out 𝓤)
+            ⊛ ‵ ((row_of Tally).own_val r (w-begin ∷ []))) ⊛ raw (ensured 𝓛 begin_ended (begin-clauses begin-out 𝓤)
             (κ₀, (ν₀-begin ∷ [], tt)) (begin-args δ₀-begin) tt r)))) (id⊢ 𝓤 _) $
             await ! tt $ pick ! (λ r-begin. split ! $ bring ! (1 ∷ []) $
             use1 𝓛 (some (λ (zs-begin : Unit {0} × (Unit {0} × (Unit {0} × (Unit {0} × (Unit {0} × (Unit {0} × Unit {0})))))). ‵
-            (lasts begin-ended (κ₀, (ν₀-begin ∷ [], tt)) (begin-args δ₀-begin) zs-begin)
+            (lasts begin_ended (κ₀, (ν₀-begin ∷ [], tt)) (begin-args δ₀-begin) zs-begin)
             ⊛ raw (fact 𝓤 (begin-says begin-out x-role x-n x-free x-map.now v_count x-scratch.now r-begin)))) (id⊢ 𝓤 _) $
             pick ! (λ zs-begin. split ! $ bring ! (1 ∷ []) $
             heard ! (begin-says begin-out x-role x-n x-free x-map.now v_count x-scratch.now r-begin) (λ e-begin.
@@ -945,12 +945,12 @@ module _ (Tally Cursor : Value) where
             (and_then ! (load ! (from ! (stop !)) (look ! 58 refl)) (and_then ! (load ! (from ! (stop !)) (look ! 44 refl))
             (no_more !)))))) (λ w-test-sound.
             use1 𝓛 (later (some (λ (r : Bool). ((‵ (flft κ₀ q₀) ⊛ ‵ (flft κ₁ q₁) ⊛ ‵ (flft (ν₀-test-sound ∷ []) full_share)
-            ⊛ ‵ ftrue) ⊛ ‵ (Boolean.own r (w-test-sound ∷ []))) ⊛ raw (ensured 𝓛 test-sound-ended
+            ⊛ ‵ ftrue) ⊛ ‵ (Boolean.own r (w-test-sound ∷ []))) ⊛ raw (ensured 𝓛 test_sound_ended
             (test-sound-clauses test-sound-out test-sound-x-scratch 𝓤) (κ₀, (κ₁, (ν₀-test-sound ∷ [], tt)))
             (test-sound-args δ₀-test-sound) tt r)))) (id⊢ 𝓤 _) $
             await ! tt $ pick ! (λ r-test-sound. split ! $ bring ! (1 ∷ []) $
             use1 𝓛 (some (λ (zs-test-sound : Unit {0} × (Unit {0} × (List ℕ × (Unit {0} × (Unit {0} × Unit {0}))))). ‵
-            (lasts test-sound-ended (κ₀, (κ₁, (ν₀-test-sound ∷ [], tt))) (test-sound-args δ₀-test-sound) zs-test-sound)
+            (lasts test_sound_ended (κ₀, (κ₁, (ν₀-test-sound ∷ [], tt))) (test-sound-args δ₀-test-sound) zs-test-sound)
             ⊛ raw (fact 𝓤 (test-sound-says test-sound-out test-sound-x-scratch x-map.now x-catalogue.now x-scratch.now x-n
             v-start r-test-sound zs-test-sound.1.1.0)))) (id⊢ 𝓤 _) $
             pick ! (λ zs-test-sound. split ! $ bring ! (1 ∷ []) $
@@ -1009,11 +1009,11 @@ module _ (Tally Cursor : Value) where
             (and_then ! (load ! (from ! (stop !)) (look ! 20 refl)) (no_more !))))))))) (λ w-verdict.
             use1 𝓛 (later (some (λ (r : ℕ). ((‵ (flft κ₀ q₀) ⊛ ‵ (flft (ν₀-verdict ∷ []) full_share)
             ⊛ ‵ (flft (ν₁-verdict ∷ []) full_share) ⊛ ‵ ftrue) ⊛ ‵ (u32.own_val r (w-verdict ∷ [])))
-            ⊛ raw (ensured 𝓛 verdict-ended (verdict-clauses verdict-out 𝓤) (κ₀, (ν₀-verdict ∷ [], (ν₁-verdict ∷ [], tt)))
+            ⊛ raw (ensured 𝓛 verdict_ended (verdict-clauses verdict-out 𝓤) (κ₀, (ν₀-verdict ∷ [], (ν₁-verdict ∷ [], tt)))
             (verdict-args δ₀-verdict δ₁-verdict) tt r)))) (id⊢ 𝓤 _) $
             await ! tt $ pick ! (λ r-verdict. split ! $ bring ! (1 ∷ []) $
             use1 𝓛 (some (λ (zs-verdict : Unit {0} × (Unit {0} × (Unit {0} × (Unit {0}
-            × (Unit {0} × (Unit {0} × (Unit {0} × (Unit {0} × Unit {0})))))))). ‵ (lasts verdict-ended
+            × (Unit {0} × (Unit {0} × (Unit {0} × (Unit {0} × Unit {0})))))))). ‵ (lasts verdict_ended
             (κ₀, (ν₀-verdict ∷ [], (ν₁-verdict ∷ [], tt))) (verdict-args δ₀-verdict δ₁-verdict) zs-verdict)
             ⊛ raw (fact 𝓤 (verdict-says verdict-out x-role x-n x-free x-map.now v_count v-sound z-test-sound-x-scratch
             x-image.now r-verdict)))) (id⊢ 𝓤 _) $
@@ -1057,12 +1057,12 @@ module _ (Tally Cursor : Value) where
             (and_then ! (load ! (from ! (stop !)) (look ! 42 refl)) (and_then ! (load ! (from ! (stop !)) (look ! 18 refl))
             (no_more !)))))) (λ w-write-head.
             use1 𝓛 (later (some (λ (r : (denotes Cursor)). ((‵ (flft (ν₀-write-head ∷ []) full_share) ⊛ ‵ ftrue)
-            ⊛ ‵ ((row_of Cursor).own_val r (w-write-head ∷ []))) ⊛ raw (ensured 𝓛 write-head-ended
+            ⊛ ‵ ((row_of Cursor).own_val r (w-write-head ∷ []))) ⊛ raw (ensured 𝓛 write_head_ended
             (write-head-clauses write-head-out write-head-x-image 𝓤) (ν₀-write-head ∷ [], tt) (write-head-args δ₀-write-head) tt
             r)))) (id⊢ 𝓤 _) $
             await ! tt $ pick ! (λ r-write-head. split ! $ bring ! (1 ∷ []) $
             use1 𝓛 (some (λ (zs-write-head : Unit {0} × (Unit {0} × (Unit {0} × (Unit {0} × (List ℕ × Unit {0}))))). ‵
-            (lasts write-head-ended (ν₀-write-head ∷ [], tt) (write-head-args δ₀-write-head) zs-write-head)
+            (lasts write_head_ended (ν₀-write-head ∷ [], tt) (write-head-args δ₀-write-head) zs-write-head)
             ⊛ raw (fact 𝓤 (write-head-says write-head-out write-head-x-image x-n x-free v_count v-number x-image.now
             r-write-head zs-write-head.1.1.1.1.0)))) (id⊢ 𝓤 _) $
             pick ! (λ zs-write-head. split ! $ bring ! (1 ∷ []) $
@@ -1109,12 +1109,12 @@ module _ (Tally Cursor : Value) where
             (load ! (from ! (stop !)) (look ! 53 refl)) (and_then ! (load ! (from ! (stop !)) (look ! 39 refl))
             (and_then ! (load ! (from ! (stop !)) (look ! 13 refl)) (no_more !)))) (λ w-write-entries.
             use1 𝓛 (later (some (λ (r : (denotes Cursor)). ((‵ (flft κ₁ q₁) ⊛ ‵ (flft (ν₀-write-entries ∷ []) full_share)
-            ⊛ ‵ ftrue) ⊛ ‵ ((row_of Cursor).own_val r (w-write-entries ∷ []))) ⊛ raw (ensured 𝓛 write-entries-ended
+            ⊛ ‵ ftrue) ⊛ ‵ ((row_of Cursor).own_val r (w-write-entries ∷ []))) ⊛ raw (ensured 𝓛 write_entries_ended
             (write-entries-clauses write-entries-out write-entries-x-image 𝓤) (κ₁, (ν₀-write-entries ∷ [], tt))
             (write-entries-args δ₀-write-entries) tt r)))) (id⊢ 𝓤 _) $
             await ! tt $ pick ! (λ r-write-entries. split ! $ bring ! (1 ∷ []) $
             use1 𝓛 (some (λ (zs-write-entries : Unit {0} × (Unit {0} × (List ℕ × Unit {0}))). ‵
-            (lasts write-entries-ended (κ₁, (ν₀-write-entries ∷ [], tt)) (write-entries-args δ₀-write-entries) zs-write-entries)
+            (lasts write_entries_ended (κ₁, (ν₀-write-entries ∷ [], tt)) (write-entries-args δ₀-write-entries) zs-write-entries)
             ⊛ raw (fact 𝓤 (write-entries-says write-entries-out write-entries-x-image x-catalogue.now v-first
             z-write-head-x-image r-write-entries zs-write-entries.1.1.0)))) (id⊢ 𝓤 _) $
             pick ! (λ zs-write-entries. split ! $ bring ! (1 ∷ []) $
@@ -1160,12 +1160,12 @@ module _ (Tally Cursor : Value) where
             (and_then ! (load ! (from ! (stop !)) (look ! 37 refl)) (and_then ! (load ! (from ! (stop !)) (look ! 7 refl))
             (no_more !)))) (λ w-write-rest.
             use1 𝓛 (later (some (λ (r : (Unit {0})). ((‵ (flft κ₀ q₀) ⊛ ‵ (flft (ν₀-write-rest ∷ []) full_share) ⊛ ‵ ftrue)
-            ⊛ ‵ (Nothing.own r (w-write-rest ∷ []))) ⊛ raw (ensured 𝓛 write-rest-ended
+            ⊛ ‵ (Nothing.own r (w-write-rest ∷ []))) ⊛ raw (ensured 𝓛 write_rest_ended
             (write-rest-clauses write-rest-x-image 𝓤) (κ₀, (ν₀-write-rest ∷ [], tt)) (write-rest-args δ₀-write-rest) tt r))))
             (id⊢ 𝓤 _) $
             await ! tt $ pick ! (λ r-write-rest. split ! $ bring ! (1 ∷ []) $
             use1 𝓛 (some (λ (zs-write-rest : Unit {0} × (Unit {0} × (List ℕ × Unit {0}))). ‵
-            (lasts write-rest-ended (κ₀, (ν₀-write-rest ∷ [], tt)) (write-rest-args δ₀-write-rest) zs-write-rest)
+            (lasts write_rest_ended (κ₀, (ν₀-write-rest ∷ [], tt)) (write-rest-args δ₀-write-rest) zs-write-rest)
             ⊛ raw (fact 𝓤 (write-rest-says write-rest-x-image x-map.now v-last z-write-entries-x-image r-write-rest
             zs-write-rest.1.1.0)))) (id⊢ 𝓤 _) $
             pick ! (λ zs-write-rest. split ! $ bring ! (1 ∷ []) $

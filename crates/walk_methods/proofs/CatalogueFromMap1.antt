@@ -109,26 +109,26 @@ module _ (Slot Out Shape Outcome : Value) where
   }
 
   -- ---- what `find` is, and what it ensures
-  abbrev find-signature : Signature
-  find-signature = record {
+  abbrev find_signature : Signature
+  find_signature = record {
     lifetimes = 1;
     outlives = [];
     params = shr_slice 0 tt (λ _. Entry'.the_row) ∷ plain (λ _. u32) ∷ [];
     result = plain (λ _. (row_of Slot));
   }
 
-  abbrev find-ended : Ended
-  find-ended = record { signature = find-signature; kept = (yes, (yes, tt)) }
+  abbrev find_ended : Ended
+  find_ended = record { signature = find_signature; kept = (yes, (yes, tt)) }
 
-  abbrev find-Model : Type 0 → Type 0
-  find-Model X = List Entry → ℕ → X
+  abbrev find_model : Type 0 → Type 0
+  find_model X = List Entry → ℕ → X
 
-  module _ (find-out : find-Model (denotes Slot)) where
+  module _ (find-out : find_model (denotes Slot)) where
     abbrev find-says : List Entry → ℕ → (denotes Slot) → Type 0
     find-says a0 a1 r = r ≡ find-out a0 a1
 
     module _ {M : Type 1} (𝓤 : Ura M) where
-      abbrev find-clauses : Clauses 𝓤 find-ended
+      abbrev find-clauses : Clauses 𝓤 find_ended
       find-clauses κs a = record {
         ghost = Unit {0};
         requires = λ _. emp 𝓤;
@@ -137,11 +137,11 @@ module _ (Slot Out Shape Outcome : Value) where
 
       module _ (𝓛 : Logic 𝓤) where
         abbrev pub find-contract : Contract 𝓤
-        find-contract = triple_of 𝓛 find-signature (closing 𝓛 find-ended find-clauses)
+        find-contract = triple_of 𝓛 find_signature (closing 𝓛 find_ended find-clauses)
 
   -- ---- what `core` is, and what it ensures
-  abbrev core-signature : Signature
-  core-signature = record {
+  abbrev core_signature : Signature
+  core_signature = record {
     lifetimes = 1;
     outlives = [];
     params = plain (λ _. (row_of Shape)) ∷ plain (λ _. u32) ∷ shr_slice 0 tt (λ _. u64) ∷ plain (λ _. (row_of Slot))
@@ -149,18 +149,18 @@ module _ (Slot Out Shape Outcome : Value) where
     result = plain (λ _. (row_of Out));
   }
 
-  abbrev core-ended : Ended
-  core-ended = record { signature = core-signature; kept = (yes, (yes, (yes, (yes, (yes, tt))))) }
+  abbrev core_ended : Ended
+  core_ended = record { signature = core_signature; kept = (yes, (yes, (yes, (yes, (yes, tt))))) }
 
-  abbrev core-Model : Type 0 → Type 0
-  core-Model X = (denotes Shape) → ℕ → List ℕ → (denotes Slot) → ℕ → X
+  abbrev core_model : Type 0 → Type 0
+  core_model X = (denotes Shape) → ℕ → List ℕ → (denotes Slot) → ℕ → X
 
-  module _ (core-out : core-Model (denotes Out)) where
+  module _ (core-out : core_model (denotes Out)) where
     abbrev core-says : (denotes Shape) → ℕ → List ℕ → (denotes Slot) → ℕ → (denotes Out) → Type 0
     core-says a0 a1 a2 a3 a4 r = r ≡ core-out a0 a1 a2 a3 a4
 
     module _ {M : Type 1} (𝓤 : Ura M) where
-      abbrev core-clauses : Clauses 𝓤 core-ended
+      abbrev core-clauses : Clauses 𝓤 core_ended
       core-clauses κs a = record {
         ghost = Unit {0};
         requires = λ _. emp 𝓤;
@@ -169,29 +169,29 @@ module _ (Slot Out Shape Outcome : Value) where
 
       module _ (𝓛 : Logic 𝓤) where
         abbrev pub core-contract : Contract 𝓤
-        core-contract = triple_of 𝓛 core-signature (closing 𝓛 core-ended core-clauses)
+        core-contract = triple_of 𝓛 core_signature (closing 𝓛 core_ended core-clauses)
 
   -- ---- what `entry_of` is, and what it ensures
-  abbrev entry-of-signature : Signature
-  entry-of-signature = record {
+  abbrev entry_of_signature : Signature
+  entry_of_signature = record {
     lifetimes = 0;
     outlives = [];
     params = plain (λ _. (row_of Out)) ∷ [];
     result = plain (λ _. Entry'.the_row);
   }
 
-  abbrev entry-of-ended : Ended
-  entry-of-ended = record { signature = entry-of-signature; kept = (yes, tt) }
+  abbrev entry_of_ended : Ended
+  entry_of_ended = record { signature = entry_of_signature; kept = (yes, tt) }
 
-  abbrev entry-of-Model : Type 0 → Type 0
-  entry-of-Model X = (denotes Out) → X
+  abbrev entry_of_model : Type 0 → Type 0
+  entry_of_model X = (denotes Out) → X
 
-  module _ (entry-of-out : entry-of-Model Entry) where
+  module _ (entry-of-out : entry_of_model Entry) where
     abbrev entry-of-says : (denotes Out) → Entry → Type 0
     entry-of-says a0 r = r ≡ entry-of-out a0
 
     module _ {M : Type 1} (𝓤 : Ura M) where
-      abbrev entry-of-clauses : Clauses 𝓤 entry-of-ended
+      abbrev entry-of-clauses : Clauses 𝓤 entry_of_ended
       entry-of-clauses κs a = record {
         ghost = Unit {0};
         requires = λ _. emp 𝓤;
@@ -200,29 +200,29 @@ module _ (Slot Out Shape Outcome : Value) where
 
       module _ (𝓛 : Logic 𝓤) where
         abbrev pub entry-of-contract : Contract 𝓤
-        entry-of-contract = triple_of 𝓛 entry-of-signature (closing 𝓛 entry-of-ended entry-of-clauses)
+        entry-of-contract = triple_of 𝓛 entry_of_signature (closing 𝓛 entry_of_ended entry-of-clauses)
 
   -- ---- what `store` is, and what it ensures
-  abbrev store-signature : Signature
-  store-signature = record {
+  abbrev store_signature : Signature
+  store_signature = record {
     lifetimes = 1;
     outlives = [];
     params = mut_slice 0 tt (λ _. Entry'.the_row) ∷ plain (λ _. u32) ∷ plain (λ _. Entry'.the_row) ∷ [];
     result = plain (λ _. Nothing);
   }
 
-  abbrev store-ended : Ended
-  store-ended = record { signature = store-signature; kept = (yes, (yes, (yes, tt))) }
+  abbrev store_ended : Ended
+  store_ended = record { signature = store_signature; kept = (yes, (yes, (yes, tt))) }
 
-  abbrev store-Model : Type 0 → Type 0
-  store-Model X = List Entry → ℕ → Entry → X
+  abbrev store_model : Type 0 → Type 0
+  store_model X = List Entry → ℕ → Entry → X
 
-  module _ (store-x-catalogue : store-Model (List Entry)) where
+  module _ (store-x-catalogue : store_model (List Entry)) where
     abbrev store-says : List Entry → ℕ → Entry → (Unit {0}) → List Entry → Type 0
     store-says a0 a1 a2 r b0 = b0 ≡ store-x-catalogue a0 a1 a2
 
     module _ {M : Type 1} (𝓤 : Ura M) where
-      abbrev store-clauses : Clauses 𝓤 store-ended
+      abbrev store-clauses : Clauses 𝓤 store_ended
       store-clauses κs a = record {
         ghost = Unit {0};
         requires = λ _. emp 𝓤;
@@ -231,29 +231,29 @@ module _ (Slot Out Shape Outcome : Value) where
 
       module _ (𝓛 : Logic 𝓤) where
         abbrev pub store-contract : Contract 𝓤
-        store-contract = triple_of 𝓛 store-signature (closing 𝓛 store-ended store-clauses)
+        store-contract = triple_of 𝓛 store_signature (closing 𝓛 store_ended store-clauses)
 
   -- ---- what `outcome-of` is, and what it ensures
-  abbrev outcome-of-signature : Signature
-  outcome-of-signature = record {
+  abbrev outcome_of_signature : Signature
+  outcome_of_signature = record {
     lifetimes = 0;
     outlives = [];
     params = plain (λ _. (row_of Shape)) ∷ plain (λ _. (row_of Out)) ∷ [];
     result = plain (λ _. (row_of Outcome));
   }
 
-  abbrev outcome-of-ended : Ended
-  outcome-of-ended = record { signature = outcome-of-signature; kept = (yes, (yes, tt)) }
+  abbrev outcome_of_ended : Ended
+  outcome_of_ended = record { signature = outcome_of_signature; kept = (yes, (yes, tt)) }
 
-  abbrev outcome-of-Model : Type 0 → Type 0
-  outcome-of-Model X = (denotes Shape) → (denotes Out) → X
+  abbrev outcome_of_model : Type 0 → Type 0
+  outcome_of_model X = (denotes Shape) → (denotes Out) → X
 
-  module _ (outcome-of-out : outcome-of-Model (denotes Outcome)) where
+  module _ (outcome-of-out : outcome_of_model (denotes Outcome)) where
     abbrev outcome-of-says : (denotes Shape) → (denotes Out) → (denotes Outcome) → Type 0
     outcome-of-says a0 a1 r = r ≡ outcome-of-out a0 a1
 
     module _ {M : Type 1} (𝓤 : Ura M) where
-      abbrev outcome-of-clauses : Clauses 𝓤 outcome-of-ended
+      abbrev outcome-of-clauses : Clauses 𝓤 outcome_of_ended
       outcome-of-clauses κs a = record {
         ghost = Unit {0};
         requires = λ _. emp 𝓤;
@@ -262,11 +262,11 @@ module _ (Slot Out Shape Outcome : Value) where
 
       module _ (𝓛 : Logic 𝓤) where
         abbrev pub outcome-of-contract : Contract 𝓤
-        outcome-of-contract = triple_of 𝓛 outcome-of-signature (closing 𝓛 outcome-of-ended outcome-of-clauses)
+        outcome-of-contract = triple_of 𝓛 outcome_of_signature (closing 𝓛 outcome_of_ended outcome-of-clauses)
 
-  module _ (#find #core #entry-of #store #outcome-of : Name) (find-out : find-Model (denotes Slot))
-      (core-out : core-Model (denotes Out)) (entry-of-out : entry-of-Model Entry) (store-x-catalogue : store-Model (List Entry))
-      (outcome-of-out : outcome-of-Model (denotes Outcome)) where
+  module _ (#find #core #entry-of #store #outcome-of : Name) (find-out : find_model (denotes Slot))
+      (core-out : core_model (denotes Out)) (entry-of-out : entry_of_model Entry) (store-x-catalogue : store_model (List Entry))
+      (outcome-of-out : outcome_of_model (denotes Outcome)) where
     -- ---- what the chain gives, call by call
     module _ (x-self : (denotes Shape)) (x-role : ℕ) (x-map : List ℕ) (x-catalogue : List Entry) (x-sheet : ℕ) where
       abbrev v-slot-of : (denotes Slot)
@@ -500,12 +500,12 @@ module _ (Slot Out Shape Outcome : Value) where
           → ent 𝓤 (⋆ 𝓛 (‵ ((ShrSlice (named 0) κ₀ u64).own_val x-map (s-x-map ∷ [])) ∷ ‵ (flft κ₀ q₀)
           ∷ ‵ ((MutSlice (named 1) κ₁ Entry'.the_row).own_val (at-x-catalogue x-catalogue.name z-store-x-catalogue)
           (s-x-catalogue ∷ [])) ∷ ‵ (flft κ₁ q₁) ∷ [])) (Post m-v-result)
-      exits is l-x-catalogue =
+      exits is l_x_catalogue =
           qed 𝓛 (‵ ((ShrSlice (named 0) κ₀ u64).own_val x-map (s-x-map ∷ [])) ∷ ‵ (flft κ₀ q₀)
           ∷ ‵ ((MutSlice (named 1) κ₁ Entry'.the_row).own_val (at-x-catalogue x-catalogue.name z-store-x-catalogue)
           (s-x-catalogue ∷ [])) ∷ ‵ (flft κ₁ q₁) ∷ []) ∵
           suffices ! _ (ends_at 𝓛 ended stayed (clauses 𝓤) bound m-v-result v-result
-          (tt, (tt, (tt, (z-store-x-catalogue, (tt, tt))))) (tt, (tt, (tt, (l-x-catalogue, (tt, tt)))))) $
+          (tt, (tt, (tt, (z-store-x-catalogue, (tt, tt))))) (tt, (tt, (tt, (l_x_catalogue, (tt, tt)))))) $
           says ! (refl, refl) $ nothing ! $ bring ! (2 ∷ 3 ∷ 0 ∷ []) $ group ! 3 $ frame ! $ nothing ! $
           owned ! u32 (Is u32) (uint_Makes 𝓛 w32) x-sheet _ is-x-sheet $ fjoin ! $ bring ! (2 ∷ 0 ∷ []) $
           fjoin ! $ bring ! (1 ∷ 0 ∷ []) $ fjoin ! $ owned ! u32 (Is u32) (uint_Makes 𝓛 w32) x-role _ is-x-role $
@@ -551,10 +551,10 @@ module _ (Slot Out Shape Outcome : Value) where
           (and_then ! (load ! (from ! (stop !)) (look ! 10 refl)) (and_then ! (load ! (from ! (stop !)) (look ! 20 refl))
           (no_more !))) (λ w-find.
           use1 𝓛 (later (some (λ (r : (denotes Slot)). ((‵ (flft (ν₀-find ∷ []) full_share) ⊛ ‵ ftrue)
-          ⊛ ‵ ((row_of Slot).own_val r (w-find ∷ []))) ⊛ raw (ensured 𝓛 find-ended (find-clauses find-out 𝓤) (ν₀-find ∷ [], tt)
+          ⊛ ‵ ((row_of Slot).own_val r (w-find ∷ []))) ⊛ raw (ensured 𝓛 find_ended (find-clauses find-out 𝓤) (ν₀-find ∷ [], tt)
           (find-args δ₀-find) tt r)))) (id⊢ 𝓤 _) $
           await ! tt $ pick ! (λ r-find. split ! $ bring ! (1 ∷ []) $
-          use1 𝓛 (some (λ (zs-find : Unit {0} × (Unit {0} × Unit {0})). ‵ (lasts find-ended (ν₀-find ∷ [], tt)
+          use1 𝓛 (some (λ (zs-find : Unit {0} × (Unit {0} × Unit {0})). ‵ (lasts find_ended (ν₀-find ∷ [], tt)
           (find-args δ₀-find) zs-find) ⊛ raw (fact 𝓤 (find-says find-out x-catalogue.now x-sheet r-find)))) (id⊢ 𝓤 _) $
           pick ! (λ zs-find. split ! $ bring ! (1 ∷ []) $
           heard ! (find-says find-out x-catalogue.now x-sheet r-find) (λ e-find. fparts 𝓛 (_ ∷ _ ∷ []) _ $
@@ -580,10 +580,10 @@ module _ (Slot Out Shape Outcome : Value) where
           (and_then ! (load ! (from ! (stop !)) (look ! 24 refl)) (and_then ! (load ! (from ! (stop !)) (look ! 18 refl))
           (and_then ! (load ! (from ! (stop !)) (look ! 20 refl)) (no_more !)))))) (λ w-core.
           use1 𝓛 (later (some (λ (r : (denotes Out)). ((‵ (flft κ₀ q₀) ⊛ ‵ ftrue) ⊛ ‵ ((row_of Out).own_val r (w-core ∷ [])))
-          ⊛ raw (ensured 𝓛 core-ended (core-clauses core-out 𝓤) (κ₀, tt) (core-args) tt r)))) (id⊢ 𝓤 _) $
+          ⊛ raw (ensured 𝓛 core_ended (core-clauses core-out 𝓤) (κ₀, tt) (core-args) tt r)))) (id⊢ 𝓤 _) $
           await ! tt $ pick ! (λ r-core. split ! $ bring ! (1 ∷ []) $
           use1 𝓛 (some (λ (zs-core : Unit {0} × (Unit {0} × (Unit {0} × (Unit {0} × (Unit {0} × Unit {0}))))). ‵
-          (lasts core-ended
+          (lasts core_ended
           (κ₀, tt) (core-args) zs-core) ⊛ raw (fact 𝓤 (core-says core-out x-self x-role x-map.now v-slot x-sheet r-core))))
           (id⊢ 𝓤 _) $
           pick ! (λ zs-core. split ! $ bring ! (1 ∷ []) $
@@ -600,9 +600,9 @@ module _ (Slot Out Shape Outcome : Value) where
           calls_at ! (fm_of 𝓤 H 𝓛.laws 𝓣) (entry-of-contract entry-of-out 𝓤 𝓛) known-entry-of (to-entry-of)
           (and_then ! (load ! (from ! (stop !)) (look ! 17 refl)) (no_more !)) (λ w-entry-of.
           use1 𝓛 (later (some (λ (r : Entry). ((‵ ftrue) ⊛ ‵ ((Entry'.the_row).own_val r (w-entry-of ∷ [])))
-          ⊛ raw (ensured 𝓛 entry-of-ended (entry-of-clauses entry-of-out 𝓤) tt (entry-of-args) tt r)))) (id⊢ 𝓤 _) $
+          ⊛ raw (ensured 𝓛 entry_of_ended (entry-of-clauses entry-of-out 𝓤) tt (entry-of-args) tt r)))) (id⊢ 𝓤 _) $
           await ! tt $ pick ! (λ r-entry-of. split ! $ bring ! (1 ∷ []) $
-          use1 𝓛 (some (λ (zs-entry-of : Unit {0} × Unit {0}). ‵ (lasts entry-of-ended tt (entry-of-args) zs-entry-of)
+          use1 𝓛 (some (λ (zs-entry-of : Unit {0} × Unit {0}). ‵ (lasts entry_of_ended tt (entry-of-args) zs-entry-of)
           ⊛ raw (fact 𝓤 (entry-of-says entry-of-out v-out r-entry-of)))) (id⊢ 𝓤 _) $
           pick ! (λ zs-entry-of. split ! $ bring ! (1 ∷ []) $
           heard ! (entry-of-says entry-of-out v-out r-entry-of) (λ e-entry-of. fparts 𝓛 (_ ∷ []) _ $
@@ -633,11 +633,11 @@ module _ (Slot Out Shape Outcome : Value) where
           (and_then ! (load ! (from ! (stop !)) (look ! 4 refl)) (and_then ! (load ! (from ! (stop !)) (look ! 20 refl))
           (and_then ! (load ! (from ! (stop !)) (look ! 14 refl)) (no_more !)))) (λ w-store.
           use1 𝓛 (later (some (λ (r : (Unit {0})). ((‵ (flft (ν₀-store ∷ []) full_share) ⊛ ‵ ftrue)
-          ⊛ ‵ (Nothing.own r (w-store ∷ []))) ⊛ raw (ensured 𝓛 store-ended (store-clauses store-x-catalogue 𝓤)
+          ⊛ ‵ (Nothing.own r (w-store ∷ []))) ⊛ raw (ensured 𝓛 store_ended (store-clauses store-x-catalogue 𝓤)
           (ν₀-store ∷ [], tt) (store-args δ₀-store) tt r)))) (id⊢ 𝓤 _) $
           await ! tt $ pick ! (λ r-store. split ! $ bring ! (1 ∷ []) $
           use1 𝓛 (some (λ (zs-store : List Entry × (Unit {0} × (Unit {0} × Unit {0}))). ‵
-          (lasts store-ended (ν₀-store ∷ [], tt) (store-args δ₀-store) zs-store) ⊛ raw
+          (lasts store_ended (ν₀-store ∷ [], tt) (store-args δ₀-store) zs-store) ⊛ raw
           (fact 𝓤 (store-says store-x-catalogue x-catalogue.now x-sheet v-entry r-store zs-store.0)))) (id⊢ 𝓤 _) $
           pick ! (λ zs-store. split ! $ bring ! (1 ∷ []) $
           heard ! (store-says store-x-catalogue x-catalogue.now x-sheet v-entry r-store zs-store.0) (λ e-store.
@@ -660,9 +660,9 @@ module _ (Slot Out Shape Outcome : Value) where
           (and_then ! (load ! (from ! (stop !)) (look ! 29 refl)) (and_then ! (load ! (from ! (stop !)) (look ! 17 refl))
           (no_more !))) (λ w-outcome-of.
           use1 𝓛 (later (some (λ (r : (denotes Outcome)). ((‵ ftrue) ⊛ ‵ ((row_of Outcome).own_val r (w-outcome-of ∷ [])))
-          ⊛ raw (ensured 𝓛 outcome-of-ended (outcome-of-clauses outcome-of-out 𝓤) tt (outcome-of-args) tt r)))) (id⊢ 𝓤 _) $
+          ⊛ raw (ensured 𝓛 outcome_of_ended (outcome-of-clauses outcome-of-out 𝓤) tt (outcome-of-args) tt r)))) (id⊢ 𝓤 _) $
           await ! tt $ pick ! (λ r-outcome-of. split ! $ bring ! (1 ∷ []) $
-          use1 𝓛 (some (λ (zs-outcome-of : Unit {0} × (Unit {0} × Unit {0})). ‵ (lasts outcome-of-ended tt (outcome-of-args)
+          use1 𝓛 (some (λ (zs-outcome-of : Unit {0} × (Unit {0} × Unit {0})). ‵ (lasts outcome_of_ended tt (outcome-of-args)
           zs-outcome-of) ⊛ raw (fact 𝓤 (outcome-of-says outcome-of-out x-self v-out r-outcome-of)))) (id⊢ 𝓤 _) $
           pick ! (λ zs-outcome-of. split ! $ bring ! (1 ∷ []) $
           heard ! (outcome-of-says outcome-of-out x-self v-out r-outcome-of) (λ e-outcome-of. fparts 𝓛 (_ ∷ _ ∷ []) _ $

@@ -110,26 +110,26 @@ module _ (Shape Outcome : Value) where
   }
 
   -- ---- what `count` is, and what it ensures
-  abbrev count-signature : Signature
-  count-signature = record {
+  abbrev count_signature : Signature
+  count_signature = record {
     lifetimes = 1;
     outlives = [];
     params = shr_slice 0 tt (λ _. Entry'.the_row) ∷ [];
     result = plain (λ _. usize);
   }
 
-  abbrev count-ended : Ended
-  count-ended = record { signature = count-signature; kept = (yes, tt) }
+  abbrev count_ended : Ended
+  count_ended = record { signature = count_signature; kept = (yes, tt) }
 
-  abbrev count-Model : Type 0 → Type 0
-  count-Model X = List Entry → X
+  abbrev count_model : Type 0 → Type 0
+  count_model X = List Entry → X
 
-  module _ (count-out : count-Model ℕ) where
+  module _ (count-out : count_model ℕ) where
     abbrev count-says : List Entry → ℕ → Type 0
     count-says a0 r = r ≡ count-out a0
 
     module _ {M : Type 1} (𝓤 : Ura M) where
-      abbrev count-clauses : Clauses 𝓤 count-ended
+      abbrev count-clauses : Clauses 𝓤 count_ended
       count-clauses κs a = record {
         ghost = Unit {0};
         requires = λ _. emp 𝓤;
@@ -138,11 +138,11 @@ module _ (Shape Outcome : Value) where
 
       module _ (𝓛 : Logic 𝓤) where
         abbrev pub count-contract : Contract 𝓤
-        count-contract = triple_of 𝓛 count-signature (closing 𝓛 count-ended count-clauses)
+        count-contract = triple_of 𝓛 count_signature (closing 𝓛 count_ended count-clauses)
 
   -- ---- what `core` is, and what it ensures
-  abbrev core-signature : Signature
-  core-signature = record {
+  abbrev core_signature : Signature
+  core_signature = record {
     lifetimes = 1;
     outlives = [];
     params = plain (λ _. (row_of Shape)) ∷ plain (λ _. u32) ∷ plain (λ _. u32) ∷ mut_slice 0 tt (λ _. u64) ∷ plain (λ _. usize)
@@ -150,18 +150,18 @@ module _ (Shape Outcome : Value) where
     result = plain (λ _. (row_of Outcome));
   }
 
-  abbrev core-ended : Ended
-  core-ended = record { signature = core-signature; kept = (yes, (yes, (yes, (yes, (yes, tt))))) }
+  abbrev core_ended : Ended
+  core_ended = record { signature = core_signature; kept = (yes, (yes, (yes, (yes, (yes, tt))))) }
 
-  abbrev core-Model : Type 0 → Type 0
-  core-Model X = (denotes Shape) → ℕ → ℕ → List ℕ → ℕ → X
+  abbrev core_model : Type 0 → Type 0
+  core_model X = (denotes Shape) → ℕ → ℕ → List ℕ → ℕ → X
 
-  module _ (core-out : core-Model (denotes Outcome)) (core-x-map : core-Model (List ℕ)) where
+  module _ (core-out : core_model (denotes Outcome)) (core-x-map : core_model (List ℕ)) where
     abbrev core-says : (denotes Shape) → ℕ → ℕ → List ℕ → ℕ → (denotes Outcome) → List ℕ → Type 0
     core-says a0 a1 a2 a3 a4 r b3 = (r ≡ core-out a0 a1 a2 a3 a4) × (b3 ≡ core-x-map a0 a1 a2 a3 a4)
 
     module _ {M : Type 1} (𝓤 : Ura M) where
-      abbrev core-clauses : Clauses 𝓤 core-ended
+      abbrev core-clauses : Clauses 𝓤 core_ended
       core-clauses κs a = record {
         ghost = Unit {0};
         requires = λ _. emp 𝓤;
@@ -171,29 +171,29 @@ module _ (Shape Outcome : Value) where
 
       module _ (𝓛 : Logic 𝓤) where
         abbrev pub core-contract : Contract 𝓤
-        core-contract = triple_of 𝓛 core-signature (closing 𝓛 core-ended core-clauses)
+        core-contract = triple_of 𝓛 core_signature (closing 𝓛 core_ended core-clauses)
 
   -- ---- what `is-done` is, and what it ensures
-  abbrev is-done-signature : Signature
-  is-done-signature = record {
+  abbrev is_done_signature : Signature
+  is_done_signature = record {
     lifetimes = 0;
     outlives = [];
     params = plain (λ _. (row_of Outcome)) ∷ [];
     result = plain (λ _. Boolean);
   }
 
-  abbrev is-done-ended : Ended
-  is-done-ended = record { signature = is-done-signature; kept = (yes, tt) }
+  abbrev is_done_ended : Ended
+  is_done_ended = record { signature = is_done_signature; kept = (yes, tt) }
 
-  abbrev is-done-Model : Type 0 → Type 0
-  is-done-Model X = (denotes Outcome) → X
+  abbrev is_done_model : Type 0 → Type 0
+  is_done_model X = (denotes Outcome) → X
 
-  module _ (is-done-out : is-done-Model Bool) where
+  module _ (is-done-out : is_done_model Bool) where
     abbrev is-done-says : (denotes Outcome) → Bool → Type 0
     is-done-says a0 r = r ≡ is-done-out a0
 
     module _ {M : Type 1} (𝓤 : Ura M) where
-      abbrev is-done-clauses : Clauses 𝓤 is-done-ended
+      abbrev is-done-clauses : Clauses 𝓤 is_done_ended
       is-done-clauses κs a = record {
         ghost = Unit {0};
         requires = λ _. emp 𝓤;
@@ -202,29 +202,29 @@ module _ (Shape Outcome : Value) where
 
       module _ (𝓛 : Logic 𝓤) where
         abbrev pub is-done-contract : Contract 𝓤
-        is-done-contract = triple_of 𝓛 is-done-signature (closing 𝓛 is-done-ended is-done-clauses)
+        is-done-contract = triple_of 𝓛 is_done_signature (closing 𝓛 is_done_ended is-done-clauses)
 
   -- ---- what `clear-if` is, and what it ensures
-  abbrev clear-if-signature : Signature
-  clear-if-signature = record {
+  abbrev clear_if_signature : Signature
+  clear_if_signature = record {
     lifetimes = 1;
     outlives = [];
     params = mut_slice 0 tt (λ _. Entry'.the_row) ∷ plain (λ _. Boolean) ∷ [];
     result = plain (λ _. Nothing);
   }
 
-  abbrev clear-if-ended : Ended
-  clear-if-ended = record { signature = clear-if-signature; kept = (yes, (yes, tt)) }
+  abbrev clear_if_ended : Ended
+  clear_if_ended = record { signature = clear_if_signature; kept = (yes, (yes, tt)) }
 
-  abbrev clear-if-Model : Type 0 → Type 0
-  clear-if-Model X = List Entry → Bool → X
+  abbrev clear_if_model : Type 0 → Type 0
+  clear_if_model X = List Entry → Bool → X
 
-  module _ (clear-if-x-catalogue : clear-if-Model (List Entry)) where
+  module _ (clear-if-x-catalogue : clear_if_model (List Entry)) where
     abbrev clear-if-says : List Entry → Bool → (Unit {0}) → List Entry → Type 0
     clear-if-says a0 a1 r b0 = b0 ≡ clear-if-x-catalogue a0 a1
 
     module _ {M : Type 1} (𝓤 : Ura M) where
-      abbrev clear-if-clauses : Clauses 𝓤 clear-if-ended
+      abbrev clear-if-clauses : Clauses 𝓤 clear_if_ended
       clear-if-clauses κs a = record {
         ghost = Unit {0};
         requires = λ _. emp 𝓤;
@@ -233,10 +233,10 @@ module _ (Shape Outcome : Value) where
 
       module _ (𝓛 : Logic 𝓤) where
         abbrev pub clear-if-contract : Contract 𝓤
-        clear-if-contract = triple_of 𝓛 clear-if-signature (closing 𝓛 clear-if-ended clear-if-clauses)
+        clear-if-contract = triple_of 𝓛 clear_if_signature (closing 𝓛 clear_if_ended clear-if-clauses)
 
-  module _ (#count #core #is-done #clear-if : Name) (count-out : count-Model ℕ) (core-out : core-Model (denotes Outcome))
-      (core-x-map : core-Model (List ℕ)) (is-done-out : is-done-Model Bool) (clear-if-x-catalogue : clear-if-Model
+  module _ (#count #core #is-done #clear-if : Name) (count-out : count_model ℕ) (core-out : core_model (denotes Outcome))
+      (core-x-map : core_model (List ℕ)) (is-done-out : is_done_model Bool) (clear-if-x-catalogue : clear_if_model
       (List Entry)) where
     -- ---- what the chain gives, call by call
     module _ (x-self : (denotes Shape)) (x-role : ℕ) (x-blocks : ℕ) (x-map : List ℕ) (x-catalogue : List Entry) where
@@ -447,12 +447,12 @@ module _ (Shape Outcome : Value) where
           (s-x-map ∷ [])) ∷ ‵ (flft κ₀ q₀) ∷ ‵ ((MutSlice (named 1) κ₁ Entry'.the_row).own_val
           (at-x-catalogue x-catalogue.name z-clear-if-x-catalogue) (s-x-catalogue ∷ [])) ∷ ‵ (flft κ₁ q₁) ∷ []))
           (Post m-v-out)
-      exits is l-x-map l-x-catalogue =
+      exits is l-x-map l_x_catalogue =
           qed 𝓛 (‵ ((MutSlice (named 0) κ₀ u64).own_val (at-x-map x-map.name z-core-x-map) (s-x-map ∷ [])) ∷ ‵ (flft κ₀ q₀)
           ∷ ‵ ((MutSlice (named 1) κ₁ Entry'.the_row).own_val (at-x-catalogue x-catalogue.name z-clear-if-x-catalogue)
           (s-x-catalogue ∷ [])) ∷ ‵ (flft κ₁ q₁) ∷ []) ∵
           suffices ! _ (ends_at 𝓛 ended stayed (clauses 𝓤) bound m-v-out v-out
-          (tt, (tt, (tt, (z-core-x-map, (z-clear-if-x-catalogue, tt))))) (tt, (tt, (tt, (l-x-map, (l-x-catalogue, tt)))))) $
+          (tt, (tt, (tt, (z-core-x-map, (z-clear-if-x-catalogue, tt))))) (tt, (tt, (tt, (l-x-map, (l_x_catalogue, tt)))))) $
           says ! (refl, refl, refl) $ nothing ! $ bring ! (2 ∷ 3 ∷ 0 ∷ []) $ group ! 3 $ frame ! $ nothing ! $
           bring ! (2 ∷ 0 ∷ []) $ fjoin ! $ bring ! (1 ∷ 0 ∷ []) $ fjoin ! $
           owned ! u32 (Is u32) (uint_Makes 𝓛 w32) x-blocks _ is-x-blocks $ fjoin ! $
@@ -499,10 +499,10 @@ module _ (Shape Outcome : Value) where
           calls_at ! (fm_of 𝓤 H 𝓛.laws 𝓣) (count-contract count-out 𝓤 𝓛) known-count (to-count ν₀-count δ₀-count)
           (and_then ! (load ! (from ! (stop !)) (look ! 14 refl)) (no_more !)) (λ w-count.
           use1 𝓛 (later (some (λ (r : ℕ). ((‵ (flft (ν₀-count ∷ []) full_share) ⊛ ‵ ftrue) ⊛ ‵ (usize.own_val r (w-count ∷ [])))
-          ⊛ raw (ensured 𝓛 count-ended (count-clauses count-out 𝓤) (ν₀-count ∷ [], tt) (count-args δ₀-count) tt r))))
+          ⊛ raw (ensured 𝓛 count_ended (count-clauses count-out 𝓤) (ν₀-count ∷ [], tt) (count-args δ₀-count) tt r))))
           (id⊢ 𝓤 _) $
           await ! tt $ pick ! (λ r-count. split ! $ bring ! (1 ∷ []) $
-          use1 𝓛 (some (λ (zs-count : Unit {0} × Unit {0}). ‵ (lasts count-ended (ν₀-count ∷ [], tt) (count-args δ₀-count)
+          use1 𝓛 (some (λ (zs-count : Unit {0} × Unit {0}). ‵ (lasts count_ended (ν₀-count ∷ [], tt) (count-args δ₀-count)
           zs-count) ⊛ raw (fact 𝓤 (count-says count-out x-catalogue.now r-count)))) (id⊢ 𝓤 _) $
           pick ! (λ zs-count. split ! $ bring ! (1 ∷ []) $
           heard ! (count-says count-out x-catalogue.now r-count) (λ e-count. fparts 𝓛 (_ ∷ []) _ $
@@ -537,11 +537,11 @@ module _ (Shape Outcome : Value) where
           (and_then ! (load ! (from ! (stop !)) (look ! 28 refl)) (and_then ! (load ! (from ! (stop !)) (look ! 10 refl))
           (and_then ! (load ! (from ! (stop !)) (look ! 22 refl)) (no_more !)))))) (λ w-core.
           use1 𝓛 (later (some (λ (r : (denotes Outcome)). ((‵ (flft (ν₀-core ∷ []) full_share) ⊛ ‵ ftrue)
-          ⊛ ‵ ((row_of Outcome).own_val r (w-core ∷ []))) ⊛ raw (ensured 𝓛 core-ended (core-clauses core-out core-x-map 𝓤)
+          ⊛ ‵ ((row_of Outcome).own_val r (w-core ∷ []))) ⊛ raw (ensured 𝓛 core_ended (core-clauses core-out core-x-map 𝓤)
           (ν₀-core ∷ [], tt) (core-args δ₀-core) tt r)))) (id⊢ 𝓤 _) $
           await ! tt $ pick ! (λ r-core. split ! $ bring ! (1 ∷ []) $
           use1 𝓛 (some (λ (zs-core : Unit {0} × (Unit {0} × (Unit {0} × (List ℕ × (Unit {0} × Unit {0}))))). ‵
-          (lasts core-ended (ν₀-core ∷ [], tt) (core-args δ₀-core) zs-core) ⊛ raw (fact 𝓤
+          (lasts core_ended (ν₀-core ∷ [], tt) (core-args δ₀-core) zs-core) ⊛ raw (fact 𝓤
           (core-says core-out core-x-map x-self x-role x-blocks x-map.now v_count r-core zs-core.1.1.1.0)))) (id⊢ 𝓤 _) $
           pick ! (λ zs-core. split ! $ bring ! (1 ∷ []) $
           heard ! (core-says core-out core-x-map x-self x-role x-blocks x-map.now v_count r-core zs-core.1.1.1.0)
@@ -566,9 +566,9 @@ module _ (Shape Outcome : Value) where
           calls_at ! (fm_of 𝓤 H 𝓛.laws 𝓣) (is-done-contract is-done-out 𝓤 𝓛) known-is-done (to-is-done)
           (and_then ! (load ! (from ! (stop !)) (look ! 21 refl)) (no_more !)) (λ w-is-done.
           use1 𝓛 (later (some (λ (r : Bool). ((‵ ftrue) ⊛ ‵ (Boolean.own r (w-is-done ∷ [])))
-          ⊛ raw (ensured 𝓛 is-done-ended (is-done-clauses is-done-out 𝓤) tt (is-done-args) tt r)))) (id⊢ 𝓤 _) $
+          ⊛ raw (ensured 𝓛 is_done_ended (is-done-clauses is-done-out 𝓤) tt (is-done-args) tt r)))) (id⊢ 𝓤 _) $
           await ! tt $ pick ! (λ r-is-done. split ! $ bring ! (1 ∷ []) $
-          use1 𝓛 (some (λ (zs-is-done : Unit {0} × Unit {0}). ‵ (lasts is-done-ended tt (is-done-args) zs-is-done)
+          use1 𝓛 (some (λ (zs-is-done : Unit {0} × Unit {0}). ‵ (lasts is_done_ended tt (is-done-args) zs-is-done)
           ⊛ raw (fact 𝓤 (is-done-says is-done-out v-out r-is-done)))) (id⊢ 𝓤 _) $
           pick ! (λ zs-is-done. split ! $ bring ! (1 ∷ []) $
           heard ! (is-done-says is-done-out v-out r-is-done) (λ e-is-done. fparts 𝓛 (_ ∷ []) _ $ discard ! (0 ∷ []) $
@@ -597,10 +597,10 @@ module _ (Shape Outcome : Value) where
           (to-clear-if ν₀-clear-if δ₀-clear-if) (and_then ! (load ! (from ! (stop !)) (look ! 4 refl))
           (and_then ! (load ! (from ! (stop !)) (look ! 18 refl)) (no_more !))) (λ w-clear-if.
           use1 𝓛 (later (some (λ (r : (Unit {0})). ((‵ (flft (ν₀-clear-if ∷ []) full_share) ⊛ ‵ ftrue)
-          ⊛ ‵ (Nothing.own r (w-clear-if ∷ []))) ⊛ raw (ensured 𝓛 clear-if-ended (clear-if-clauses clear-if-x-catalogue 𝓤)
+          ⊛ ‵ (Nothing.own r (w-clear-if ∷ []))) ⊛ raw (ensured 𝓛 clear_if_ended (clear-if-clauses clear-if-x-catalogue 𝓤)
           (ν₀-clear-if ∷ [], tt) (clear-if-args δ₀-clear-if) tt r)))) (id⊢ 𝓤 _) $
           await ! tt $ pick ! (λ r-clear-if. split ! $ bring ! (1 ∷ []) $
-          use1 𝓛 (some (λ (zs-clear-if : List Entry × (Unit {0} × Unit {0})). ‵ (lasts clear-if-ended (ν₀-clear-if ∷ [], tt)
+          use1 𝓛 (some (λ (zs-clear-if : List Entry × (Unit {0} × Unit {0})). ‵ (lasts clear_if_ended (ν₀-clear-if ∷ [], tt)
           (clear-if-args δ₀-clear-if) zs-clear-if) ⊛ raw (fact 𝓤 (clear-if-says clear-if-x-catalogue x-catalogue.now
           v-accepted r-clear-if zs-clear-if.0)))) (id⊢ 𝓤 _) $
           pick ! (λ zs-clear-if. split ! $ bring ! (1 ∷ []) $

@@ -107,8 +107,8 @@ module _ (Loaded Shape Outcome : Value) where
   }
 
   -- ---- what `load` is, and what it ensures
-  abbrev load-signature : Signature
-  load-signature = record {
+  abbrev load_signature : Signature
+  load_signature = record {
     lifetimes = 4;
     outlives = [];
     params = plain (λ _. u32) ∷ shr_slice 0 tt (λ _. u8) ∷ mut_slice 1 tt (λ _. u64) ∷ mut_slice 2 tt (λ _. Entry'.the_row)
@@ -116,20 +116,20 @@ module _ (Loaded Shape Outcome : Value) where
     result = plain (λ _. (row_of Loaded));
   }
 
-  abbrev load-ended : Ended
-  load-ended = record { signature = load-signature; kept = (yes, (yes, (yes, (yes, (yes, tt))))) }
+  abbrev load_ended : Ended
+  load_ended = record { signature = load_signature; kept = (yes, (yes, (yes, (yes, (yes, tt))))) }
 
-  abbrev load-Model : Type 0 → Type 0
-  load-Model X = ℕ → List ℕ → List ℕ → List Entry → List ℕ → X
+  abbrev load_model : Type 0 → Type 0
+  load_model X = ℕ → List ℕ → List ℕ → List Entry → List ℕ → X
 
-  module _ (load-out : load-Model (denotes Loaded)) (load-x-map : load-Model (List ℕ))
-      (load-x-catalogue : load-Model (List Entry)) (load-x-scratch : load-Model (List ℕ)) where
+  module _ (load-out : load_model (denotes Loaded)) (load-x-map : load_model (List ℕ))
+      (load-x-catalogue : load_model (List Entry)) (load-x-scratch : load_model (List ℕ)) where
     abbrev load-says : ℕ → List ℕ → List ℕ → List Entry → List ℕ → (denotes Loaded) → List ℕ → List Entry → List ℕ → Type 0
     load-says a0 a1 a2 a3 a4 r b2 b3 b4 = (r ≡ load-out a0 a1 a2 a3 a4) × (b2 ≡ load-x-map a0 a1 a2 a3 a4)
         × (b3 ≡ load-x-catalogue a0 a1 a2 a3 a4) × (b4 ≡ load-x-scratch a0 a1 a2 a3 a4)
 
     module _ {M : Type 1} (𝓤 : Ura M) where
-      abbrev load-clauses : Clauses 𝓤 load-ended
+      abbrev load-clauses : Clauses 𝓤 load_ended
       load-clauses κs a = record {
         ghost = Unit {0};
         requires = λ _. emp 𝓤;
@@ -138,30 +138,30 @@ module _ (Loaded Shape Outcome : Value) where
       }
 
       module _ (𝓛 : Logic 𝓤) where
-        abbrev pub load-contract : Contract 𝓤
-        load-contract = triple_of 𝓛 load-signature (closing 𝓛 load-ended load-clauses)
+        abbrev pub load_contract : Contract 𝓤
+        load_contract = triple_of 𝓛 load_signature (closing 𝓛 load_ended load-clauses)
 
   -- ---- what `load-outcome` is, and what it ensures
-  abbrev load-outcome-signature : Signature
-  load-outcome-signature = record {
+  abbrev load_outcome_signature : Signature
+  load_outcome_signature = record {
     lifetimes = 0;
     outlives = [];
     params = plain (λ _. (row_of Shape)) ∷ plain (λ _. (row_of Loaded)) ∷ [];
     result = plain (λ _. (row_of Outcome));
   }
 
-  abbrev load-outcome-ended : Ended
-  load-outcome-ended = record { signature = load-outcome-signature; kept = (yes, (yes, tt)) }
+  abbrev load_outcome_ended : Ended
+  load_outcome_ended = record { signature = load_outcome_signature; kept = (yes, (yes, tt)) }
 
-  abbrev load-outcome-Model : Type 0 → Type 0
-  load-outcome-Model X = (denotes Shape) → (denotes Loaded) → X
+  abbrev load_outcome_model : Type 0 → Type 0
+  load_outcome_model X = (denotes Shape) → (denotes Loaded) → X
 
-  module _ (load-outcome-out : load-outcome-Model (denotes Outcome)) where
+  module _ (load-outcome-out : load_outcome_model (denotes Outcome)) where
     abbrev load-outcome-says : (denotes Shape) → (denotes Loaded) → (denotes Outcome) → Type 0
     load-outcome-says a0 a1 r = r ≡ load-outcome-out a0 a1
 
     module _ {M : Type 1} (𝓤 : Ura M) where
-      abbrev load-outcome-clauses : Clauses 𝓤 load-outcome-ended
+      abbrev load-outcome-clauses : Clauses 𝓤 load_outcome_ended
       load-outcome-clauses κs a = record {
         ghost = Unit {0};
         requires = λ _. emp 𝓤;
@@ -170,11 +170,11 @@ module _ (Loaded Shape Outcome : Value) where
 
       module _ (𝓛 : Logic 𝓤) where
         abbrev pub load-outcome-contract : Contract 𝓤
-        load-outcome-contract = triple_of 𝓛 load-outcome-signature (closing 𝓛 load-outcome-ended load-outcome-clauses)
+        load-outcome-contract = triple_of 𝓛 load_outcome_signature (closing 𝓛 load_outcome_ended load-outcome-clauses)
 
-  module _ (#load #load-outcome : Name) (load-out : load-Model (denotes Loaded)) (load-x-map : load-Model (List ℕ))
-      (load-x-catalogue : load-Model (List Entry)) (load-x-scratch : load-Model (List ℕ))
-      (load-outcome-out : load-outcome-Model (denotes Outcome)) where
+  module _ (#load #load-outcome : Name) (load-out : load_model (denotes Loaded)) (load-x-map : load_model (List ℕ))
+      (load-x-catalogue : load_model (List Entry)) (load-x-scratch : load_model (List ℕ))
+      (load-outcome-out : load_outcome_model (denotes Outcome)) where
     -- ---- what the chain gives, call by call
     module _ (x-self : (denotes Shape)) (x-role : ℕ) (x-image : List ℕ) (x-map : List ℕ) (x-catalogue : List Entry)
         (x-scratch : List ℕ) where
@@ -305,7 +305,7 @@ module _ (Loaded Shape Outcome : Value) where
       )
 
       abbrev to-load : (ν₀-load ν₁-load ν₂-load : ℕ) (δ₀-load δ₁-load δ₂-load : GName)
-          → (load-contract load-out load-x-map load-x-catalogue load-x-scratch 𝓤 𝓛).Ghost
+          → (load_contract load-out load-x-map load-x-catalogue load-x-scratch 𝓤 𝓛).Ghost
       to-load ν₀-load ν₁-load ν₂-load δ₀-load δ₁-load δ₂-load = (
         (
           (κ₀, (ν₀-load ∷ [], (ν₁-load ∷ [], (ν₂-load ∷ [], tt)))),
@@ -323,7 +323,7 @@ module _ (Loaded Shape Outcome : Value) where
           ∷ ‵ ((MutSlice (named 1) (ν₀-load ∷ []) u64).own_val (at-x-map δ₀-load x-map.now) (s-x-map ∷ []))
           ∷ ‵ ((MutSlice (named 2) (ν₁-load ∷ []) Entry'.the_row).own_val (at-x-catalogue δ₁-load x-catalogue.now)
           (s-x-catalogue ∷ [])) ∷ ‵ ((MutSlice (named 3) (ν₂-load ∷ []) u64).own_val (at-x-scratch δ₂-load x-scratch.now)
-          (s-x-scratch ∷ [])) ∷ [])) ((load-contract load-out load-x-map load-x-catalogue load-x-scratch 𝓤 𝓛).pre
+          (s-x-scratch ∷ [])) ∷ [])) ((load_contract load-out load-x-map load-x-catalogue load-x-scratch 𝓤 𝓛).pre
           (to-load ν₀-load ν₁-load ν₂-load δ₀-load δ₁-load δ₂-load))
       goes_load ν₀-load ν₁-load ν₂-load δ₀-load δ₁-load δ₂-load =
           qed 𝓛 (‵ (flft κ₀ q₀) ∷ ‵ (flft (ν₀-load ∷ []) full_share) ∷ ‵ (flft (ν₁-load ∷ []) full_share)
@@ -361,7 +361,7 @@ module _ (Loaded Shape Outcome : Value) where
           ∷ ‵ ((MutSlice (named 2) κ₂ Entry'.the_row).own_val (at-x-catalogue x-catalogue.name z-load-x-catalogue)
           (s-x-catalogue ∷ [])) ∷ ‵ (flft κ₂ q₂) ∷ ‵ ((MutSlice (named 3) κ₃ u64).own_val (at-x-scratch x-scratch.name
           z-load-x-scratch) (s-x-scratch ∷ [])) ∷ ‵ (flft κ₃ q₃) ∷ [])) (Post m-v-result)
-      exits is l-x-map l-x-catalogue l-x-scratch =
+      exits is l-x-map l_x_catalogue l_x_scratch =
           qed 𝓛 (‵ ((ShrSlice (named 0) κ₀ u8).own_val x-image (s-x-image ∷ [])) ∷ ‵ (flft κ₀ q₀)
           ∷ ‵ ((MutSlice (named 1) κ₁ u64).own_val (at-x-map x-map.name z-load-x-map) (s-x-map ∷ [])) ∷ ‵ (flft κ₁ q₁)
           ∷ ‵ ((MutSlice (named 2) κ₂ Entry'.the_row).own_val (at-x-catalogue x-catalogue.name z-load-x-catalogue)
@@ -369,7 +369,7 @@ module _ (Loaded Shape Outcome : Value) where
           z-load-x-scratch) (s-x-scratch ∷ [])) ∷ ‵ (flft κ₃ q₃) ∷ []) ∵
           suffices ! _ (ends_at 𝓛 ended stayed (clauses 𝓤) bound m-v-result v-result
           (tt, (tt, (tt, (z-load-x-map, (z-load-x-catalogue, (z-load-x-scratch, tt))))))
-          (tt, (tt, (tt, (l-x-map, (l-x-catalogue, (l-x-scratch, tt))))))) $
+          (tt, (tt, (tt, (l-x-map, (l_x_catalogue, (l_x_scratch, tt))))))) $
           says ! (refl, refl, refl, refl) $ nothing ! $ bring ! (2 ∷ 3 ∷ 4 ∷ 5 ∷ 0 ∷ []) $ group ! 5 $ frame ! $
           nothing ! $ bring ! (4 ∷ 0 ∷ []) $ fjoin ! $ bring ! (3 ∷ 0 ∷ []) $ fjoin ! $ bring ! (2 ∷ 0 ∷ []) $
           fjoin ! $ bring ! (1 ∷ 0 ∷ []) $ fjoin ! $ owned ! u32 (Is u32) (uint_Makes 𝓛 w32) x-role _ is-x-role $
@@ -378,7 +378,7 @@ module _ (Loaded Shape Outcome : Value) where
           done !
 
       -- ---- the walk
-      walk : (𝓣 : Tables 𝓤 H) → Triple 𝓤 (𝓣.C #load) (load-contract load-out load-x-map load-x-catalogue load-x-scratch 𝓤 𝓛)
+      walk : (𝓣 : Tables 𝓤 H) → Triple 𝓤 (𝓣.C #load) (load_contract load-out load-x-map load-x-catalogue load-x-scratch 𝓤 𝓛)
           → Triple 𝓤 (𝓣.C #load-outcome) (load-outcome-contract load-outcome-out 𝓤 𝓛)
           → ent 𝓤 (on_entry 𝓛 signature (κ₀, (κ₁, (κ₂, (κ₃, tt)))) (q₀, (q₁, (q₂, (q₃, tt)))) args vals)
           (WpFn 𝓤 H 𝓣.C 𝓣.Λ (function #load #load-outcome) (m-x-self ∷ m-x-role ∷ s-x-image ∷ s-x-map ∷ s-x-catalogue
@@ -434,22 +434,22 @@ module _ (Loaded Shape Outcome : Value) where
           δ x-scratch.now)))) (lends_again u64 κ₃ (ν₂-load ∷ []) q₃ x-scratch.ghost_name x-scratch.ref_ptr.0 x-scratch.ref_ptr.1
           𝓛 (named 3) (named 3) x-scratch.now (length x-scratch.now) refl) $
           await ! tt $ pick ! (λ δ₂-load. split ! $ bring ! (11 ∷ 8 ∷ 5 ∷ 2 ∷ 6 ∷ 4 ∷ 2 ∷ 0 ∷ []) $ group ! 8 $
-          use1 𝓛 (raw ((load-contract load-out load-x-map load-x-catalogue load-x-scratch 𝓤 𝓛).pre
+          use1 𝓛 (raw ((load_contract load-out load-x-map load-x-catalogue load-x-scratch 𝓤 𝓛).pre
           (to-load ν₀-load ν₁-load ν₂-load δ₀-load δ₁-load δ₂-load))) (goes_load ν₀-load ν₁-load ν₂-load δ₀-load δ₁-load
           δ₂-load) $
-          calls_at ! (fm_of 𝓤 H 𝓛.laws 𝓣) (load-contract load-out load-x-map load-x-catalogue load-x-scratch 𝓤 𝓛) known-load
+          calls_at ! (fm_of 𝓤 H 𝓛.laws 𝓣) (load_contract load-out load-x-map load-x-catalogue load-x-scratch 𝓤 𝓛) known-load
           (to-load ν₀-load ν₁-load ν₂-load δ₀-load δ₁-load δ₂-load) (and_then ! (load ! (from ! (stop !)) (look ! 27 refl))
           (and_then ! (load ! (from ! (stop !)) (look ! 25 refl)) (and_then ! (load ! (from ! (stop !)) (look ! 13 refl))
           (and_then ! (load ! (from ! (stop !)) (look ! 9 refl)) (and_then ! (load ! (from ! (stop !)) (look ! 5 refl))
           (no_more !)))))) (λ w-load.
           use1 𝓛 (later (some (λ (r : (denotes Loaded)). ((‵ (flft κ₀ q₀) ⊛ ‵ (flft (ν₀-load ∷ []) full_share)
           ⊛ ‵ (flft (ν₁-load ∷ []) full_share) ⊛ ‵ (flft (ν₂-load ∷ []) full_share) ⊛ ‵ ftrue)
-          ⊛ ‵ ((row_of Loaded).own_val r (w-load ∷ []))) ⊛ raw (ensured 𝓛 load-ended (load-clauses load-out load-x-map
+          ⊛ ‵ ((row_of Loaded).own_val r (w-load ∷ []))) ⊛ raw (ensured 𝓛 load_ended (load-clauses load-out load-x-map
           load-x-catalogue load-x-scratch 𝓤) (κ₀, (ν₀-load ∷ [], (ν₁-load ∷ [], (ν₂-load ∷ [], tt))))
           (load-args δ₀-load δ₁-load δ₂-load) tt r)))) (id⊢ 𝓤 _) $
           await ! tt $ pick ! (λ r-load. split ! $ bring ! (1 ∷ []) $
           use1 𝓛 (some (λ (zs-load : Unit {0} × (Unit {0} × (List ℕ × (List Entry × (List ℕ × Unit {0}))))). ‵
-          (lasts load-ended (κ₀, (ν₀-load ∷ [], (ν₁-load ∷ [], (ν₂-load ∷ [], tt)))) (load-args δ₀-load δ₁-load δ₂-load)
+          (lasts load_ended (κ₀, (ν₀-load ∷ [], (ν₁-load ∷ [], (ν₂-load ∷ [], tt)))) (load-args δ₀-load δ₁-load δ₂-load)
           zs-load) ⊛ raw (fact 𝓤 (load-says load-out load-x-map load-x-catalogue load-x-scratch x-role x-image.now x-map.now
           x-catalogue.now x-scratch.now r-load zs-load.1.1.0 zs-load.1.1.1.0 zs-load.1.1.1.1.0))))
           (id⊢ 𝓤 _) $
@@ -492,10 +492,10 @@ module _ (Loaded Shape Outcome : Value) where
           (and_then ! (load ! (from ! (stop !)) (look ! 33 refl)) (and_then ! (load ! (from ! (stop !)) (look ! 21 refl))
           (no_more !))) (λ w-load-outcome.
           use1 𝓛 (later (some (λ (r : (denotes Outcome)). ((‵ ftrue) ⊛ ‵ ((row_of Outcome).own_val r (w-load-outcome ∷ [])))
-          ⊛ raw (ensured 𝓛 load-outcome-ended (load-outcome-clauses load-outcome-out 𝓤) tt (load-outcome-args) tt r))))
+          ⊛ raw (ensured 𝓛 load_outcome_ended (load-outcome-clauses load-outcome-out 𝓤) tt (load-outcome-args) tt r))))
           (id⊢ 𝓤 _) $
           await ! tt $ pick ! (λ r-load-outcome. split ! $ bring ! (1 ∷ []) $
-          use1 𝓛 (some (λ (zs-load-outcome : Unit {0} × (Unit {0} × Unit {0})). ‵ (lasts load-outcome-ended tt
+          use1 𝓛 (some (λ (zs-load-outcome : Unit {0} × (Unit {0} × Unit {0})). ‵ (lasts load_outcome_ended tt
           (load-outcome-args) zs-load-outcome) ⊛ raw (fact 𝓤 (load-outcome-says load-outcome-out x-self v-loaded
           r-load-outcome)))) (id⊢ 𝓤 _) $
           pick ! (λ zs-load-outcome. split ! $ bring ! (1 ∷ []) $
@@ -519,7 +519,7 @@ module _ (Loaded Shape Outcome : Value) where
     module _ {M : Type 1} {𝓤 : Ura M} (𝓛 : Logic 𝓤) where
       open 𝓛 use {H}
 
-      walks : (𝓣 : Tables 𝓤 H) → Triple 𝓤 (𝓣.C #load) (load-contract load-out load-x-map load-x-catalogue load-x-scratch 𝓤 𝓛)
+      walks : (𝓣 : Tables 𝓤 H) → Triple 𝓤 (𝓣.C #load) (load_contract load-out load-x-map load-x-catalogue load-x-scratch 𝓤 𝓛)
           → Triple 𝓤 (𝓣.C #load-outcome) (load-outcome-contract load-outcome-out 𝓤 𝓛)
           → Walks 𝓛 ended stayed (WpFn 𝓤 H 𝓣.C 𝓣.Λ (function #load #load-outcome)) (clauses 𝓤)
       walks 𝓣 known-load known-load-outcome =
@@ -546,7 +546,7 @@ module _ (Loaded Shape Outcome : Value) where
           a.1.1.1.1.1.0 are.0 are.1.0 are.1.1.0.0.1 are.1.1.1.0.0.1 are.1.1.1.1.0.0.1
           are.1.1.1.1.1.0.0.1 𝓣 known-load known-load-outcome))
 
-      pub meets : (𝓣 : Tables 𝓤 H) → Triple 𝓤 (𝓣.C #load) (load-contract load-out load-x-map load-x-catalogue load-x-scratch 𝓤
+      pub meets : (𝓣 : Tables 𝓤 H) → Triple 𝓤 (𝓣.C #load) (load_contract load-out load-x-map load-x-catalogue load-x-scratch 𝓤
           𝓛) → Triple 𝓤 (𝓣.C #load-outcome) (load-outcome-contract load-outcome-out 𝓤 𝓛)
           → Meets 𝓛 signature (WpFn 𝓤 H 𝓣.C 𝓣.Λ (function #load #load-outcome)) (closing 𝓛 ended (clauses 𝓤))
       meets 𝓣 known-load known-load-outcome =

@@ -107,26 +107,26 @@ module _ (Shape Outcome : Value) where
   }
 
   -- ---- what `blocks-of` is, and what it ensures
-  abbrev blocks-of-signature : Signature
-  blocks-of-signature = record {
+  abbrev blocks_of_signature : Signature
+  blocks_of_signature = record {
     lifetimes = 0;
     outlives = [];
     params = plain (λ _. (row_of Shape)) ∷ [];
     result = plain (λ _. u32);
   }
 
-  abbrev blocks-of-ended : Ended
-  blocks-of-ended = record { signature = blocks-of-signature; kept = (yes, tt) }
+  abbrev blocks_of_ended : Ended
+  blocks_of_ended = record { signature = blocks_of_signature; kept = (yes, tt) }
 
-  abbrev blocks-of-Model : Type 0 → Type 0
-  blocks-of-Model X = (denotes Shape) → X
+  abbrev blocks_of_model : Type 0 → Type 0
+  blocks_of_model X = (denotes Shape) → X
 
-  module _ (blocks-of-out : blocks-of-Model ℕ) where
+  module _ (blocks-of-out : blocks_of_model ℕ) where
     abbrev blocks-of-says : (denotes Shape) → ℕ → Type 0
     blocks-of-says a0 r = r ≡ blocks-of-out a0
 
     module _ {M : Type 1} (𝓤 : Ura M) where
-      abbrev blocks-of-clauses : Clauses 𝓤 blocks-of-ended
+      abbrev blocks-of-clauses : Clauses 𝓤 blocks_of_ended
       blocks-of-clauses κs a = record {
         ghost = Unit {0};
         requires = λ _. emp 𝓤;
@@ -135,29 +135,29 @@ module _ (Shape Outcome : Value) where
 
       module _ (𝓛 : Logic 𝓤) where
         abbrev pub blocks-of-contract : Contract 𝓤
-        blocks-of-contract = triple_of 𝓛 blocks-of-signature (closing 𝓛 blocks-of-ended blocks-of-clauses)
+        blocks-of-contract = triple_of 𝓛 blocks_of_signature (closing 𝓛 blocks_of_ended blocks-of-clauses)
 
   -- ---- what `Free-of` is, and what it ensures
-  abbrev free-of-signature : Signature
-  free-of-signature = record {
+  abbrev free_of_signature : Signature
+  free_of_signature = record {
     lifetimes = 0;
     outlives = [];
     params = plain (λ _. (row_of Shape)) ∷ [];
     result = plain (λ _. u32);
   }
 
-  abbrev free-of-ended : Ended
-  free-of-ended = record { signature = free-of-signature; kept = (yes, tt) }
+  abbrev free_of_ended : Ended
+  free_of_ended = record { signature = free_of_signature; kept = (yes, tt) }
 
-  abbrev free-of-Model : Type 0 → Type 0
-  free-of-Model X = (denotes Shape) → X
+  abbrev free_of_model : Type 0 → Type 0
+  free_of_model X = (denotes Shape) → X
 
-  module _ (free-of-out : free-of-Model ℕ) where
+  module _ (free-of-out : free_of_model ℕ) where
     abbrev free-of-says : (denotes Shape) → ℕ → Type 0
     free-of-says a0 r = r ≡ free-of-out a0
 
     module _ {M : Type 1} (𝓤 : Ura M) where
-      abbrev free-of-clauses : Clauses 𝓤 free-of-ended
+      abbrev free-of-clauses : Clauses 𝓤 free_of_ended
       free-of-clauses κs a = record {
         ghost = Unit {0};
         requires = λ _. emp 𝓤;
@@ -166,11 +166,11 @@ module _ (Shape Outcome : Value) where
 
       module _ (𝓛 : Logic 𝓤) where
         abbrev pub free-of-contract : Contract 𝓤
-        free-of-contract = triple_of 𝓛 free-of-signature (closing 𝓛 free-of-ended free-of-clauses)
+        free-of-contract = triple_of 𝓛 free_of_signature (closing 𝓛 free_of_ended free-of-clauses)
 
   -- ---- what `save` is, and what it ensures
-  abbrev save-signature : Signature
-  save-signature = record {
+  abbrev save_signature : Signature
+  save_signature = record {
     lifetimes = 4;
     outlives = [];
     params = plain (λ _. u32) ∷ plain (λ _. u32) ∷ plain (λ _. u32) ∷ shr_slice 0 tt (λ _. u64)
@@ -178,19 +178,19 @@ module _ (Shape Outcome : Value) where
     result = plain (λ _. u32);
   }
 
-  abbrev save-ended : Ended
-  save-ended = record { signature = save-signature; kept = (yes, (yes, (yes, (yes, (yes, (yes, (yes, tt))))))) }
+  abbrev save_ended : Ended
+  save_ended = record { signature = save_signature; kept = (yes, (yes, (yes, (yes, (yes, (yes, (yes, tt))))))) }
 
-  abbrev save-Model : Type 0 → Type 0
-  save-Model X = ℕ → ℕ → ℕ → List ℕ → List Entry → List ℕ → List ℕ → X
+  abbrev save_model : Type 0 → Type 0
+  save_model X = ℕ → ℕ → ℕ → List ℕ → List Entry → List ℕ → List ℕ → X
 
-  module _ (save-out : save-Model ℕ) (save-x-scratch : save-Model (List ℕ)) (save-x-image : save-Model (List ℕ)) where
+  module _ (save-out : save_model ℕ) (save-x-scratch : save_model (List ℕ)) (save-x-image : save_model (List ℕ)) where
     abbrev save-says : ℕ → ℕ → ℕ → List ℕ → List Entry → List ℕ → List ℕ → ℕ → List ℕ → List ℕ → Type 0
     save-says a0 a1 a2 a3 a4 a5 a6 r b5 b6 = (r ≡ save-out a0 a1 a2 a3 a4 a5 a6) × (b5 ≡ save-x-scratch a0 a1 a2 a3 a4 a5 a6)
         × (b6 ≡ save-x-image a0 a1 a2 a3 a4 a5 a6)
 
     module _ {M : Type 1} (𝓤 : Ura M) where
-      abbrev save-clauses : Clauses 𝓤 save-ended
+      abbrev save-clauses : Clauses 𝓤 save_ended
       save-clauses κs a = record {
         ghost = Unit {0};
         requires = λ _. emp 𝓤;
@@ -200,30 +200,30 @@ module _ (Shape Outcome : Value) where
       }
 
       module _ (𝓛 : Logic 𝓤) where
-        abbrev pub save-contract : Contract 𝓤
-        save-contract = triple_of 𝓛 save-signature (closing 𝓛 save-ended save-clauses)
+        abbrev pub save_contract : Contract 𝓤
+        save_contract = triple_of 𝓛 save_signature (closing 𝓛 save_ended save-clauses)
 
-  -- ---- what `save-outcome` is, and what it ensures
-  abbrev save-outcome-signature : Signature
-  save-outcome-signature = record {
+  -- ---- what `save_outcome_lem` is, and what it ensures
+  abbrev save_outcome_signature : Signature
+  save_outcome_signature = record {
     lifetimes = 0;
     outlives = [];
     params = plain (λ _. (row_of Shape)) ∷ plain (λ _. u32) ∷ [];
     result = plain (λ _. (row_of Outcome));
   }
 
-  abbrev save-outcome-ended : Ended
-  save-outcome-ended = record { signature = save-outcome-signature; kept = (yes, (yes, tt)) }
+  abbrev save_outcome_ended : Ended
+  save_outcome_ended = record { signature = save_outcome_signature; kept = (yes, (yes, tt)) }
 
-  abbrev save-outcome-Model : Type 0 → Type 0
-  save-outcome-Model X = (denotes Shape) → ℕ → X
+  abbrev save_outcome_model : Type 0 → Type 0
+  save_outcome_model X = (denotes Shape) → ℕ → X
 
-  module _ (save-outcome-out : save-outcome-Model (denotes Outcome)) where
+  module _ (save-outcome-out : save_outcome_model (denotes Outcome)) where
     abbrev save-outcome-says : (denotes Shape) → ℕ → (denotes Outcome) → Type 0
     save-outcome-says a0 a1 r = r ≡ save-outcome-out a0 a1
 
     module _ {M : Type 1} (𝓤 : Ura M) where
-      abbrev save-outcome-clauses : Clauses 𝓤 save-outcome-ended
+      abbrev save-outcome-clauses : Clauses 𝓤 save_outcome_ended
       save-outcome-clauses κs a = record {
         ghost = Unit {0};
         requires = λ _. emp 𝓤;
@@ -232,11 +232,11 @@ module _ (Shape Outcome : Value) where
 
       module _ (𝓛 : Logic 𝓤) where
         abbrev pub save-outcome-contract : Contract 𝓤
-        save-outcome-contract = triple_of 𝓛 save-outcome-signature (closing 𝓛 save-outcome-ended save-outcome-clauses)
+        save-outcome-contract = triple_of 𝓛 save_outcome_signature (closing 𝓛 save_outcome_ended save-outcome-clauses)
 
-  module _ (#blocks-of #free-of #save #save-outcome : Name) (blocks-of-out : blocks-of-Model ℕ) (free-of-out : free-of-Model ℕ)
-      (save-out : save-Model ℕ) (save-x-scratch : save-Model (List ℕ)) (save-x-image : save-Model (List ℕ))
-      (save-outcome-out : save-outcome-Model (denotes Outcome)) where
+  module _ (#blocks-of #free-of #save #save-outcome : Name) (blocks-of-out : blocks_of_model ℕ) (free-of-out : free_of_model ℕ)
+      (save-out : save_model ℕ) (save-x-scratch : save_model (List ℕ)) (save-x-image : save_model (List ℕ))
+      (save-outcome-out : save_outcome_model (denotes Outcome)) where
     -- ---- what the chain gives, call by call
     module _ (x-self : (denotes Shape)) (x-role : ℕ) (x-map : List ℕ) (x-catalogue : List Entry) (x-scratch : List ℕ)
         (x-image : List ℕ) where
@@ -402,7 +402,7 @@ module _ (Shape Outcome : Value) where
         (v-n, (v-free, (x-map, (x-catalogue, (at-x-scratch δ₀-save x-scratch.now, (at-x-image δ₁-save x-image.now, tt)))))),
       )
 
-      abbrev to-save : (ν₀-save ν₁-save : ℕ) (δ₀-save δ₁-save : GName) → (save-contract save-out save-x-scratch save-x-image 𝓤 𝓛).Ghost
+      abbrev to-save : (ν₀-save ν₁-save : ℕ) (δ₀-save δ₁-save : GName) → (save_contract save-out save-x-scratch save-x-image 𝓤 𝓛).Ghost
       to-save ν₀-save ν₁-save δ₀-save δ₁-save = (
         (
           (κ₀, (κ₁, (ν₀-save ∷ [], (ν₁-save ∷ [], tt)))),
@@ -423,7 +423,7 @@ module _ (Shape Outcome : Value) where
           ∷ ‵ ((ShrSlice (named 1) κ₁ Entry'.the_row).own_val x-catalogue (s-x-catalogue ∷ []))
           ∷ ‵ ((MutSlice (named 2) (ν₀-save ∷ []) u64).own_val (at-x-scratch δ₀-save x-scratch.now) (s-x-scratch ∷ []))
           ∷ ‵ ((MutSlice (named 3) (ν₁-save ∷ []) u8).own_val (at-x-image δ₁-save x-image.now) (s-x-image ∷ [])) ∷ []))
-          ((save-contract save-out save-x-scratch save-x-image 𝓤 𝓛).pre (to-save ν₀-save ν₁-save δ₀-save δ₁-save))
+          ((save_contract save-out save-x-scratch save-x-image 𝓤 𝓛).pre (to-save ν₀-save ν₁-save δ₀-save δ₁-save))
       goes-save ν₀-save ν₁-save δ₀-save δ₁-save is-v-n is-v-free =
           qed 𝓛 (‵ (flft κ₀ q₀) ∷ ‵ (flft κ₁ q₁) ∷ ‵ (flft (ν₀-save ∷ []) full_share) ∷ ‵ (flft (ν₁-save ∷ []) full_share)
           ∷ ‵ ((ShrSlice (named 0) κ₀ u64).own_val x-map (s-x-map ∷ [])) ∷ ‵ ((ShrSlice (named 1) κ₁ Entry'.the_row).own_val x-catalogue
@@ -437,7 +437,7 @@ module _ (Shape Outcome : Value) where
           owned ! u32 (Is u32) (uint_Makes 𝓛 w32) x-role _ is-x-role $ fjoin ! $ bring ! (1 ∷ 0 ∷ []) $ join ! $
           frame ! $ done !
 
-      -- ---- the caller has what `save-outcome` asks
+      -- ---- the caller has what `save_outcome_lem` asks
       abbrev save-outcome-args : (denotes Shape) × (ℕ × Unit {0})
       save-outcome-args = (x-self, (v-number, tt))
 
@@ -458,7 +458,7 @@ module _ (Shape Outcome : Value) where
           ∷ ‵ (flft κ₁ q₁) ∷ ‵ ((MutSlice (named 2) κ₂ u64).own_val (at-x-scratch x-scratch.name z-save-x-scratch)
           (s-x-scratch ∷ [])) ∷ ‵ (flft κ₂ q₂) ∷ ‵ ((MutSlice (named 3) κ₃ u8).own_val (at-x-image x-image.name z-save-x-image)
           (s-x-image ∷ [])) ∷ ‵ (flft κ₃ q₃) ∷ [])) (Post m-v-result)
-      exits is l-x-scratch l-x-image =
+      exits is l_x_scratch l_x_image =
           qed 𝓛 (‵ ((ShrSlice (named 0) κ₀ u64).own_val x-map (s-x-map ∷ [])) ∷ ‵ (flft κ₀ q₀)
           ∷ ‵ ((ShrSlice (named 1) κ₁ Entry'.the_row).own_val x-catalogue (s-x-catalogue ∷ [])) ∷ ‵ (flft κ₁ q₁)
           ∷ ‵ ((MutSlice (named 2) κ₂ u64).own_val (at-x-scratch x-scratch.name z-save-x-scratch) (s-x-scratch ∷ []))
@@ -466,7 +466,7 @@ module _ (Shape Outcome : Value) where
           ∷ ‵ (flft κ₃ q₃) ∷ []) ∵
           suffices ! _ (ends_at 𝓛 ended stayed (clauses 𝓤) bound m-v-result v-result
           (tt, (tt, (tt, (tt, (z-save-x-scratch, (z-save-x-image, tt))))))
-          (tt, (tt, (tt, (tt, (l-x-scratch, (l-x-image, tt))))))) $
+          (tt, (tt, (tt, (tt, (l_x_scratch, (l_x_image, tt))))))) $
           says ! (refl, refl, refl) $ nothing ! $ bring ! (2 ∷ 3 ∷ 4 ∷ 5 ∷ 0 ∷ []) $ group ! 5 $ frame ! $ nothing ! $
           bring ! (4 ∷ 0 ∷ []) $ fjoin ! $ bring ! (3 ∷ 0 ∷ []) $ fjoin ! $ bring ! (2 ∷ 0 ∷ []) $ fjoin ! $
           bring ! (1 ∷ 0 ∷ []) $ fjoin ! $ owned ! u32 (Is u32) (uint_Makes 𝓛 w32) x-role _ is-x-role $ fjoin ! $
@@ -477,7 +477,7 @@ module _ (Shape Outcome : Value) where
       -- ---- the walk
       walk : (𝓣 : Tables 𝓤 H) → Triple 𝓤 (𝓣.C #blocks-of) (blocks-of-contract blocks-of-out 𝓤 𝓛)
           → Triple 𝓤 (𝓣.C #free-of) (free-of-contract free-of-out 𝓤 𝓛) → Triple 𝓤 (𝓣.C #save)
-          (save-contract save-out save-x-scratch save-x-image 𝓤 𝓛) → Triple 𝓤 (𝓣.C #save-outcome)
+          (save_contract save-out save-x-scratch save-x-image 𝓤 𝓛) → Triple 𝓤 (𝓣.C #save-outcome)
           (save-outcome-contract save-outcome-out 𝓤 𝓛) → ent 𝓤 (on_entry 𝓛 signature (κ₀, (κ₁, (κ₂, (κ₃, tt))))
           (q₀, (q₁, (q₂, (q₃, tt)))) args vals)
           (WpFn 𝓤 H 𝓣.C 𝓣.Λ (function #blocks-of #free-of #save #save-outcome) (m-x-self ∷ m-x-role ∷ s-x-map
@@ -503,9 +503,9 @@ module _ (Shape Outcome : Value) where
           calls_at ! (fm_of 𝓤 H 𝓛.laws 𝓣) (blocks-of-contract blocks-of-out 𝓤 𝓛) known-blocks-of (to-blocks-of)
           (and_then ! (load ! (from ! (stop !)) (look ! 33 refl)) (no_more !)) (λ w-blocks-of.
           use1 𝓛 (later (some (λ (r : ℕ). ((‵ ftrue) ⊛ ‵ (u32.own_val r (w-blocks-of ∷ [])))
-          ⊛ raw (ensured 𝓛 blocks-of-ended (blocks-of-clauses blocks-of-out 𝓤) tt (blocks-of-args) tt r)))) (id⊢ 𝓤 _) $
+          ⊛ raw (ensured 𝓛 blocks_of_ended (blocks-of-clauses blocks-of-out 𝓤) tt (blocks-of-args) tt r)))) (id⊢ 𝓤 _) $
           await ! tt $ pick ! (λ r-blocks-of. split ! $ bring ! (1 ∷ []) $
-          use1 𝓛 (some (λ (zs-blocks-of : Unit {0} × Unit {0}). ‵ (lasts blocks-of-ended tt (blocks-of-args) zs-blocks-of)
+          use1 𝓛 (some (λ (zs-blocks-of : Unit {0} × Unit {0}). ‵ (lasts blocks_of_ended tt (blocks-of-args) zs-blocks-of)
           ⊛ raw (fact 𝓤 (blocks-of-says blocks-of-out x-self r-blocks-of)))) (id⊢ 𝓤 _) $
           pick ! (λ zs-blocks-of. split ! $ bring ! (1 ∷ []) $
           heard ! (blocks-of-says blocks-of-out x-self r-blocks-of) (λ e-blocks-of. fparts 𝓛 (_ ∷ []) _ $
@@ -521,9 +521,9 @@ module _ (Shape Outcome : Value) where
           calls_at ! (fm_of 𝓤 H 𝓛.laws 𝓣) (free-of-contract free-of-out 𝓤 𝓛) known-free-of (to-free-of)
           (and_then ! (load ! (from ! (stop !)) (look ! 33 refl)) (no_more !)) (λ w-free-of.
           use1 𝓛 (later (some (λ (r : ℕ). ((‵ ftrue) ⊛ ‵ (u32.own_val r (w-free-of ∷ [])))
-          ⊛ raw (ensured 𝓛 free-of-ended (free-of-clauses free-of-out 𝓤) tt (free-of-args) tt r)))) (id⊢ 𝓤 _) $
+          ⊛ raw (ensured 𝓛 free_of_ended (free-of-clauses free-of-out 𝓤) tt (free-of-args) tt r)))) (id⊢ 𝓤 _) $
           await ! tt $ pick ! (λ r-free-of. split ! $ bring ! (1 ∷ []) $
-          use1 𝓛 (some (λ (zs-free-of : Unit {0} × Unit {0}). ‵ (lasts free-of-ended tt (free-of-args) zs-free-of)
+          use1 𝓛 (some (λ (zs-free-of : Unit {0} × Unit {0}). ‵ (lasts free_of_ended tt (free-of-args) zs-free-of)
           ⊛ raw (fact 𝓤 (free-of-says free-of-out x-self r-free-of)))) (id⊢ 𝓤 _) $
           pick ! (λ zs-free-of. split ! $ bring ! (1 ∷ []) $
           heard ! (free-of-says free-of-out x-self r-free-of) (λ e-free-of. fparts 𝓛 (_ ∷ []) _ $ discard ! (0 ∷ []) $
@@ -561,10 +561,10 @@ module _ (Shape Outcome : Value) where
           x-image.now)))) (lends_again u8 κ₃ (ν₁-save ∷ []) q₃ x-image.ghost_name x-image.ref_ptr.0 x-image.ref_ptr.1 𝓛
           (named 3) (named 3) x-image.now (length x-image.now) refl) $
           await ! tt $ pick ! (λ δ₁-save. split ! $ bring ! (10 ∷ 10 ∷ 5 ∷ 2 ∷ 6 ∷ 4 ∷ 2 ∷ 0 ∷ []) $ group ! 8 $
-          use1 𝓛 (raw ((save-contract save-out save-x-scratch save-x-image 𝓤 𝓛).pre
+          use1 𝓛 (raw ((save_contract save-out save-x-scratch save-x-image 𝓤 𝓛).pre
           (to-save ν₀-save ν₁-save δ₀-save δ₁-save))) (goes-save ν₀-save ν₁-save δ₀-save δ₁-save
           (spelled-v-n w-blocks-of is-w-blocks-of) (spelled-v-free w-free-of is-w-free-of)) $
-          calls_at ! (fm_of 𝓤 H 𝓛.laws 𝓣) (save-contract save-out save-x-scratch save-x-image 𝓤 𝓛) known-save
+          calls_at ! (fm_of 𝓤 H 𝓛.laws 𝓣) (save_contract save-out save-x-scratch save-x-image 𝓤 𝓛) known-save
           (to-save ν₀-save ν₁-save δ₀-save δ₁-save) (and_then ! (load ! (from ! (stop !)) (look ! 27 refl))
           (and_then ! (load ! (from ! (stop !)) (look ! 17 refl)) (and_then ! (load ! (from ! (stop !)) (look ! 15 refl))
           (and_then ! (load ! (from ! (stop !)) (look ! 25 refl)) (and_then ! (load ! (from ! (stop !)) (look ! 23 refl))
@@ -572,11 +572,11 @@ module _ (Shape Outcome : Value) where
           (no_more !)))))))) (λ w-save.
           use1 𝓛 (later (some (λ (r : ℕ). ((‵ (flft κ₀ q₀) ⊛ ‵ (flft κ₁ q₁) ⊛ ‵ (flft (ν₀-save ∷ []) full_share)
           ⊛ ‵ (flft (ν₁-save ∷ []) full_share) ⊛ ‵ ftrue) ⊛ ‵ (u32.own_val r (w-save ∷ [])))
-          ⊛ raw (ensured 𝓛 save-ended (save-clauses save-out save-x-scratch save-x-image 𝓤)
+          ⊛ raw (ensured 𝓛 save_ended (save-clauses save-out save-x-scratch save-x-image 𝓤)
           (κ₀, (κ₁, (ν₀-save ∷ [], (ν₁-save ∷ [], tt)))) (save-args δ₀-save δ₁-save) tt r)))) (id⊢ 𝓤 _) $
           await ! tt $ pick ! (λ r-save. split ! $ bring ! (1 ∷ []) $
           use1 𝓛 (some (λ (zs-save : Unit {0} × (Unit {0} × (Unit {0} × (Unit {0} × (Unit {0}
-          × (List ℕ × (List ℕ × Unit {0}))))))). ‵ (lasts save-ended (κ₀, (κ₁, (ν₀-save ∷ [], (ν₁-save ∷ [], tt))))
+          × (List ℕ × (List ℕ × Unit {0}))))))). ‵ (lasts save_ended (κ₀, (κ₁, (ν₀-save ∷ [], (ν₁-save ∷ [], tt))))
           (save-args δ₀-save δ₁-save) zs-save) ⊛ raw (fact 𝓤 (save-says save-out save-x-scratch save-x-image x-role v-n v-free
           x-map.now x-catalogue.now x-scratch.now x-image.now r-save zs-save.1.1.1.1.1.0
           zs-save.1.1.1.1.1.1.0)))) (id⊢ 𝓤 _) $
@@ -605,17 +605,17 @@ module _ (Shape Outcome : Value) where
           (named 3) (named 3) x-image.now (length x-image.now) refl room-x-image δ₁-save z-save-x-image
           (ap {B = ℕ} length (sym e-save.2) ∙ h-save-x-image)) $
           await ! tt $ split ! $
-          -- save-outcome
+          -- save_outcome_lem
           use0 𝓛 (raw ((save-outcome-contract save-outcome-out 𝓤 𝓛).pre (to-save-outcome)))
           (goes-save-outcome (spelled-v-number w-save is-w-save)) $
           calls_at ! (fm_of 𝓤 H 𝓛.laws 𝓣) (save-outcome-contract save-outcome-out 𝓤 𝓛) known-save-outcome (to-save-outcome)
           (and_then ! (load ! (from ! (stop !)) (look ! 33 refl)) (and_then ! (load ! (from ! (stop !)) (look ! 17 refl))
           (no_more !))) (λ w-save-outcome.
           use1 𝓛 (later (some (λ (r : (denotes Outcome)). ((‵ ftrue) ⊛ ‵ ((row_of Outcome).own_val r (w-save-outcome ∷ [])))
-          ⊛ raw (ensured 𝓛 save-outcome-ended (save-outcome-clauses save-outcome-out 𝓤) tt (save-outcome-args) tt r))))
+          ⊛ raw (ensured 𝓛 save_outcome_ended (save-outcome-clauses save-outcome-out 𝓤) tt (save-outcome-args) tt r))))
           (id⊢ 𝓤 _) $
           await ! tt $ pick ! (λ r-save-outcome. split ! $ bring ! (1 ∷ []) $
-          use1 𝓛 (some (λ (zs-save-outcome : Unit {0} × (Unit {0} × Unit {0})). ‵ (lasts save-outcome-ended tt
+          use1 𝓛 (some (λ (zs-save-outcome : Unit {0} × (Unit {0} × Unit {0})). ‵ (lasts save_outcome_ended tt
           (save-outcome-args) zs-save-outcome) ⊛ raw (fact 𝓤 (save-outcome-says save-outcome-out x-self v-number
           r-save-outcome)))) (id⊢ 𝓤 _) $
           pick ! (λ zs-save-outcome. split ! $ bring ! (1 ∷ []) $
@@ -640,7 +640,7 @@ module _ (Shape Outcome : Value) where
 
       walks : (𝓣 : Tables 𝓤 H) → Triple 𝓤 (𝓣.C #blocks-of) (blocks-of-contract blocks-of-out 𝓤 𝓛)
           → Triple 𝓤 (𝓣.C #free-of) (free-of-contract free-of-out 𝓤 𝓛) → Triple 𝓤 (𝓣.C #save)
-          (save-contract save-out save-x-scratch save-x-image 𝓤 𝓛) → Triple 𝓤 (𝓣.C #save-outcome)
+          (save_contract save-out save-x-scratch save-x-image 𝓤 𝓛) → Triple 𝓤 (𝓣.C #save-outcome)
           (save-outcome-contract save-outcome-out 𝓤 𝓛) → Walks 𝓛 ended stayed (WpFn 𝓤 H 𝓣.C 𝓣.Λ
           (function #blocks-of #free-of #save #save-outcome)) (clauses 𝓤)
       walks 𝓣 known-blocks-of known-free-of known-save known-save-outcome =
@@ -666,7 +666,7 @@ module _ (Shape Outcome : Value) where
 
       pub meets : (𝓣 : Tables 𝓤 H) → Triple 𝓤 (𝓣.C #blocks-of) (blocks-of-contract blocks-of-out 𝓤 𝓛)
           → Triple 𝓤 (𝓣.C #free-of) (free-of-contract free-of-out 𝓤 𝓛) → Triple 𝓤 (𝓣.C #save)
-          (save-contract save-out save-x-scratch save-x-image 𝓤 𝓛) → Triple 𝓤 (𝓣.C #save-outcome)
+          (save_contract save-out save-x-scratch save-x-image 𝓤 𝓛) → Triple 𝓤 (𝓣.C #save-outcome)
           (save-outcome-contract save-outcome-out 𝓤 𝓛) → Meets 𝓛 signature (WpFn 𝓤 H 𝓣.C 𝓣.Λ
           (function #blocks-of #free-of #save #save-outcome)) (closing 𝓛 ended (clauses 𝓤))
       meets 𝓣 known-blocks-of known-free-of known-save known-save-outcome =

@@ -99,8 +99,8 @@ module _ (Shape Outcome Reply : Value) where
   }
 
   -- ---- what `call` is, and what it ensures
-  abbrev call-signature : Signature
-  call-signature = record {
+  abbrev call_signature : Signature
+  call_signature = record {
     lifetimes = 4;
     outlives = [];
     params = plain (λ _. (row_of Shape)) ∷ plain (λ _. u32) ∷ shr_slice 0 tt (λ _. u64) ∷ shr_slice 1 tt (λ _. Entry'.the_row)
@@ -108,18 +108,18 @@ module _ (Shape Outcome Reply : Value) where
     result = plain (λ _. (row_of Outcome));
   }
 
-  abbrev call-ended : Ended
-  call-ended = record { signature = call-signature; kept = (yes, (yes, (yes, (yes, (yes, (yes, (yes, (yes, tt)))))))) }
+  abbrev call_ended : Ended
+  call_ended = record { signature = call_signature; kept = (yes, (yes, (yes, (yes, (yes, (yes, (yes, (yes, tt)))))))) }
 
-  abbrev call-Model : Type 0 → Type 0
-  call-Model X = (denotes Shape) → ℕ → List ℕ → List Entry → List ℕ → (List ℕ) → ℕ → ℕ → X
+  abbrev call_model : Type 0 → Type 0
+  call_model X = (denotes Shape) → ℕ → List ℕ → List Entry → List ℕ → (List ℕ) → ℕ → ℕ → X
 
-  module _ (call-out : call-Model (denotes Outcome)) where
+  module _ (call-out : call_model (denotes Outcome)) where
     abbrev call-says : (denotes Shape) → ℕ → List ℕ → List Entry → List ℕ → (List ℕ) → ℕ → ℕ → (denotes Outcome) → Type 0
     call-says a0 a1 a2 a3 a4 a5 a6 a7 r = r ≡ call-out a0 a1 a2 a3 a4 a5 a6 a7
 
     module _ {M : Type 1} (𝓤 : Ura M) where
-      abbrev call-clauses : Clauses 𝓤 call-ended
+      abbrev call-clauses : Clauses 𝓤 call_ended
       call-clauses κs a = record {
         ghost = Unit {0};
         requires = λ _. emp 𝓤;
@@ -129,29 +129,29 @@ module _ (Shape Outcome Reply : Value) where
 
       module _ (𝓛 : Logic 𝓤) where
         abbrev pub call-contract : Contract 𝓤
-        call-contract = triple_of 𝓛 call-signature (closing 𝓛 call-ended call-clauses)
+        call-contract = triple_of 𝓛 call_signature (closing 𝓛 call_ended call-clauses)
 
   -- ---- what `reply-of` is, and what it ensures
-  abbrev reply-of-signature : Signature
-  reply-of-signature = record {
+  abbrev reply_of_signature : Signature
+  reply_of_signature = record {
     lifetimes = 0;
     outlives = [];
     params = plain (λ _. (row_of Outcome)) ∷ [];
     result = plain (λ _. (row_of Reply));
   }
 
-  abbrev reply-of-ended : Ended
-  reply-of-ended = record { signature = reply-of-signature; kept = (yes, tt) }
+  abbrev reply_of_ended : Ended
+  reply_of_ended = record { signature = reply_of_signature; kept = (yes, tt) }
 
-  abbrev reply-of-Model : Type 0 → Type 0
-  reply-of-Model X = (denotes Outcome) → X
+  abbrev reply_of_model : Type 0 → Type 0
+  reply_of_model X = (denotes Outcome) → X
 
-  module _ (reply-of-out : reply-of-Model (denotes Reply)) where
+  module _ (reply-of-out : reply_of_model (denotes Reply)) where
     abbrev reply-of-says : (denotes Outcome) → (denotes Reply) → Type 0
     reply-of-says a0 r = r ≡ reply-of-out a0
 
     module _ {M : Type 1} (𝓤 : Ura M) where
-      abbrev reply-of-clauses : Clauses 𝓤 reply-of-ended
+      abbrev reply-of-clauses : Clauses 𝓤 reply_of_ended
       reply-of-clauses κs a = record {
         ghost = Unit {0};
         requires = λ _. emp 𝓤;
@@ -159,10 +159,10 @@ module _ (Shape Outcome Reply : Value) where
       }
 
       module _ (𝓛 : Logic 𝓤) where
-        abbrev pub reply-of-contract : Contract 𝓤
-        reply-of-contract = triple_of 𝓛 reply-of-signature (closing 𝓛 reply-of-ended reply-of-clauses)
+        abbrev pub reply_of_contract : Contract 𝓤
+        reply_of_contract = triple_of 𝓛 reply_of_signature (closing 𝓛 reply_of_ended reply-of-clauses)
 
-  module _ (#call #reply-of : Name) (call-out : call-Model (denotes Outcome)) (reply-of-out : reply-of-Model
+  module _ (#call #reply-of : Name) (call-out : call_model (denotes Outcome)) (reply-of-out : reply_of_model
       (denotes Reply)) where
     -- ---- what the chain gives, call by call
     module _ (x-role : ℕ) (x-shape : (denotes Shape)) (x-map : List ℕ) (x-catalogue : List Entry) (x-card : List ℕ)
@@ -322,11 +322,11 @@ module _ (Shape Outcome Reply : Value) where
       abbrev reply-of-args : (denotes Outcome) × Unit {0}
       reply-of-args = (v-outcome, tt)
 
-      abbrev to-reply-of : (reply-of-contract reply-of-out 𝓤 𝓛).Ghost
+      abbrev to-reply-of : (reply_of_contract reply-of-out 𝓤 𝓛).Ghost
       to-reply-of = ((tt, tt, tt, reply-of-args, (m-v-outcome ∷ [], tt)), tt)
 
       goes-reply-of : Is (row_of Outcome) v-outcome (m-v-outcome ∷ []) → ent 𝓤 (⋆ 𝓛 ([]))
-          ((reply-of-contract reply-of-out 𝓤 𝓛).pre (to-reply-of))
+          ((reply_of_contract reply-of-out 𝓤 𝓛).pre (to-reply-of))
       goes-reply-of is-v-outcome =
           qed 𝓛 ([]) ∵
           nothing ! $ nothing ! $
@@ -355,7 +355,7 @@ module _ (Shape Outcome Reply : Value) where
 
       -- ---- the walk
       walk : (𝓣 : Tables 𝓤 H) → Triple 𝓤 (𝓣.C #call) (call-contract call-out 𝓤 𝓛) → Triple 𝓤 (𝓣.C #reply-of)
-          (reply-of-contract reply-of-out 𝓤 𝓛) → ent 𝓤 (on_entry 𝓛 signature (κ₀, (κ₁, (κ₂, (κ₃, tt))))
+          (reply_of_contract reply-of-out 𝓤 𝓛) → ent 𝓤 (on_entry 𝓛 signature (κ₀, (κ₁, (κ₂, (κ₃, tt))))
           (q₀, (q₁, (q₂, (q₃, tt)))) args vals)
           (WpFn 𝓤 H 𝓣.C 𝓣.Λ (function #call #reply-of) (m-x-role ∷ m-x-shape ∷ s-x-map ∷ s-x-catalogue ∷ s-x-card
           ∷ s-x-limits ∷ m-x-sheet ∷ m-x-count ∷ []) Post)
@@ -397,11 +397,11 @@ module _ (Shape Outcome Reply : Value) where
           (and_then ! (load ! (from ! (stop !)) (look ! 9 refl)) (and_then ! (load ! (from ! (stop !)) (look ! 7 refl))
           (no_more !))))))))) (λ w_call.
           use1 𝓛 (later (some (λ (r : (denotes Outcome)). ((‵ (flft κ₀ q₀) ⊛ ‵ (flft κ₁ q₁) ⊛ ‵ (flft κ₂ q₂) ⊛ ‵ (flft κ₃ q₃)
-          ⊛ ‵ ftrue) ⊛ ‵ ((row_of Outcome).own_val r (w_call ∷ []))) ⊛ raw (ensured 𝓛 call-ended (call-clauses call-out 𝓤)
+          ⊛ ‵ ftrue) ⊛ ‵ ((row_of Outcome).own_val r (w_call ∷ []))) ⊛ raw (ensured 𝓛 call_ended (call-clauses call-out 𝓤)
           (κ₀, (κ₁, (κ₂, (κ₃, tt)))) (call-args) tt r)))) (id⊢ 𝓤 _) $
           await ! tt $ pick ! (λ r-call. split ! $ bring ! (1 ∷ []) $
           use1 𝓛 (some (λ (zs-call : Unit {0} × (Unit {0} × (Unit {0} × (Unit {0} × (Unit {0}
-          × (Unit {0} × (Unit {0} × (Unit {0} × Unit {0})))))))). ‵ (lasts call-ended (κ₀, (κ₁, (κ₂, (κ₃, tt)))) (call-args)
+          × (Unit {0} × (Unit {0} × (Unit {0} × Unit {0})))))))). ‵ (lasts call_ended (κ₀, (κ₁, (κ₂, (κ₃, tt)))) (call-args)
           zs-call) ⊛ raw (fact 𝓤 (call-says call-out x-shape x-role x-map.now x-catalogue.now x-card.now x-limits.now
           x-sheet x-count r-call)))) (id⊢ 𝓤 _) $
           pick ! (λ zs-call. split ! $ bring ! (1 ∷ []) $
@@ -416,14 +416,14 @@ module _ (Shape Outcome Reply : Value) where
           refl $
           discard ! (0 ∷ []) $ parts 𝓛 (_ ∷ _ ∷ _ ∷ _ ∷ []) _ $
           -- reply-of
-          use0 𝓛 (raw ((reply-of-contract reply-of-out 𝓤 𝓛).pre (to-reply-of))) (goes-reply-of
+          use0 𝓛 (raw ((reply_of_contract reply-of-out 𝓤 𝓛).pre (to-reply-of))) (goes-reply-of
           (spelled-v-outcome w_call is-w-call)) $
-          calls_at ! (fm_of 𝓤 H 𝓛.laws 𝓣) (reply-of-contract reply-of-out 𝓤 𝓛) known-reply-of (to-reply-of)
+          calls_at ! (fm_of 𝓤 H 𝓛.laws 𝓣) (reply_of_contract reply-of-out 𝓤 𝓛) known-reply-of (to-reply-of)
           (and_then ! (load ! (from ! (stop !)) (look ! 9 refl)) (no_more !)) (λ w-reply-of.
           use1 𝓛 (later (some (λ (r : (denotes Reply)). ((‵ ftrue) ⊛ ‵ ((row_of Reply).own_val r (w-reply-of ∷ [])))
-          ⊛ raw (ensured 𝓛 reply-of-ended (reply-of-clauses reply-of-out 𝓤) tt (reply-of-args) tt r)))) (id⊢ 𝓤 _) $
+          ⊛ raw (ensured 𝓛 reply_of_ended (reply-of-clauses reply-of-out 𝓤) tt (reply-of-args) tt r)))) (id⊢ 𝓤 _) $
           await ! tt $ pick ! (λ r-reply-of. split ! $ bring ! (1 ∷ []) $
-          use1 𝓛 (some (λ (zs-reply-of : Unit {0} × Unit {0}). ‵ (lasts reply-of-ended tt (reply-of-args) zs-reply-of)
+          use1 𝓛 (some (λ (zs-reply-of : Unit {0} × Unit {0}). ‵ (lasts reply_of_ended tt (reply-of-args) zs-reply-of)
           ⊛ raw (fact 𝓤 (reply-of-says reply-of-out v-outcome r-reply-of)))) (id⊢ 𝓤 _) $
           pick ! (λ zs-reply-of. split ! $ bring ! (1 ∷ []) $
           heard ! (reply-of-says reply-of-out v-outcome r-reply-of) (λ e-reply-of. fparts 𝓛 (_ ∷ []) _ $
@@ -443,7 +443,7 @@ module _ (Shape Outcome Reply : Value) where
       open 𝓛 use {H}
 
       walks : (𝓣 : Tables 𝓤 H) → Triple 𝓤 (𝓣.C #call) (call-contract call-out 𝓤 𝓛) → Triple 𝓤 (𝓣.C #reply-of)
-          (reply-of-contract reply-of-out 𝓤 𝓛) → Walks 𝓛 ended stayed (WpFn 𝓤 H 𝓣.C 𝓣.Λ (function #call #reply-of))
+          (reply_of_contract reply-of-out 𝓤 𝓛) → Walks 𝓛 ended stayed (WpFn 𝓤 H 𝓣.C 𝓣.Λ (function #call #reply-of))
           (clauses 𝓤)
       walks 𝓣 known-call known-reply-of =
           walked 𝓛 ended stayed (clauses 𝓤) (WpFn 𝓤 H 𝓣.C 𝓣.Λ (function #call #reply-of))
@@ -474,7 +474,7 @@ module _ (Shape Outcome Reply : Value) where
           known-call known-reply-of))
 
       pub meets : (𝓣 : Tables 𝓤 H) → Triple 𝓤 (𝓣.C #call) (call-contract call-out 𝓤 𝓛)
-          → Triple 𝓤 (𝓣.C #reply-of) (reply-of-contract reply-of-out 𝓤 𝓛) → Meets 𝓛 signature
+          → Triple 𝓤 (𝓣.C #reply-of) (reply_of_contract reply-of-out 𝓤 𝓛) → Meets 𝓛 signature
           (WpFn 𝓤 H 𝓣.C 𝓣.Λ (function #call #reply-of)) (closing 𝓛 ended (clauses 𝓤))
       meets 𝓣 known-call known-reply-of =
           walk_Meets 𝓛 ended stayed (

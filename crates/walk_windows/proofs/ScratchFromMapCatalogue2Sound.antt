@@ -104,26 +104,26 @@ module _ (Tally Window : Value) where
   }
 
   -- ---- what `tally-entries` is, and what it ensures
-  abbrev tally-entries-signature : Signature
-  tally-entries-signature = record {
+  abbrev tally_entries_signature : Signature
+  tally_entries_signature = record {
     lifetimes = 1;
     outlives = [];
     params = shr_slice 0 tt (λ _. Entry'.the_row) ∷ plain (λ _. u32) ∷ plain (λ _. (row_of Tally)) ∷ [];
     result = plain (λ _. (row_of Tally));
   }
 
-  abbrev tally-entries-ended : Ended
-  tally-entries-ended = record { signature = tally-entries-signature; kept = (yes, (yes, (yes, tt))) }
+  abbrev tally_entries_ended : Ended
+  tally_entries_ended = record { signature = tally_entries_signature; kept = (yes, (yes, (yes, tt))) }
 
-  abbrev tally-entries-Model : Type 0 → Type 0
-  tally-entries-Model X = List Entry → ℕ → (denotes Tally) → X
+  abbrev tally_entries_model : Type 0 → Type 0
+  tally_entries_model X = List Entry → ℕ → (denotes Tally) → X
 
-  module _ (tally-entries-out : tally-entries-Model (denotes Tally)) where
+  module _ (tally-entries-out : tally_entries_model (denotes Tally)) where
     abbrev tally-entries-says : List Entry → ℕ → (denotes Tally) → (denotes Tally) → Type 0
     tally-entries-says a0 a1 a2 r = r ≡ tally-entries-out a0 a1 a2
 
     module _ {M : Type 1} (𝓤 : Ura M) where
-      abbrev tally-entries-clauses : Clauses 𝓤 tally-entries-ended
+      abbrev tally-entries-clauses : Clauses 𝓤 tally_entries_ended
       tally-entries-clauses κs a = record {
         ghost = Unit {0};
         requires = λ _. emp 𝓤;
@@ -132,30 +132,30 @@ module _ (Tally Window : Value) where
 
       module _ (𝓛 : Logic 𝓤) where
         abbrev pub tally-entries-contract : Contract 𝓤
-        tally-entries-contract = triple_of 𝓛 tally-entries-signature (closing 𝓛 tally-entries-ended
+        tally-entries-contract = triple_of 𝓛 tally_entries_signature (closing 𝓛 tally_entries_ended
             tally-entries-clauses)
 
   -- ---- what `first-window` is, and what it ensures
-  abbrev first-window-signature : Signature
-  first-window-signature = record {
+  abbrev first_window_signature : Signature
+  first_window_signature = record {
     lifetimes = 0;
     outlives = [];
     params = plain (λ _. (row_of Tally)) ∷ [];
     result = plain (λ _. (row_of Window));
   }
 
-  abbrev first-window-ended : Ended
-  first-window-ended = record { signature = first-window-signature; kept = (yes, tt) }
+  abbrev first_window_ended : Ended
+  first_window_ended = record { signature = first_window_signature; kept = (yes, tt) }
 
-  abbrev first-window-Model : Type 0 → Type 0
-  first-window-Model X = (denotes Tally) → X
+  abbrev first_window_model : Type 0 → Type 0
+  first_window_model X = (denotes Tally) → X
 
-  module _ (first-window-out : first-window-Model (denotes Window)) where
+  module _ (first-window-out : first_window_model (denotes Window)) where
     abbrev first-window-says : (denotes Tally) → (denotes Window) → Type 0
     first-window-says a0 r = r ≡ first-window-out a0
 
     module _ {M : Type 1} (𝓤 : Ura M) where
-      abbrev first-window-clauses : Clauses 𝓤 first-window-ended
+      abbrev first-window-clauses : Clauses 𝓤 first_window_ended
       first-window-clauses κs a = record {
         ghost = Unit {0};
         requires = λ _. emp 𝓤;
@@ -164,29 +164,29 @@ module _ (Tally Window : Value) where
 
       module _ (𝓛 : Logic 𝓤) where
         abbrev pub first-window-contract : Contract 𝓤
-        first-window-contract = triple_of 𝓛 first-window-signature (closing 𝓛 first-window-ended first-window-clauses)
+        first-window-contract = triple_of 𝓛 first_window_signature (closing 𝓛 first_window_ended first-window-clauses)
 
   -- ---- what `window-count` is, and what it ensures
-  abbrev window-count-signature : Signature
-  window-count-signature = record {
+  abbrev window_count_signature : Signature
+  window_count_signature = record {
     lifetimes = 0;
     outlives = [];
     params = plain (λ _. u32) ∷ plain (λ _. (row_of Window)) ∷ [];
     result = plain (λ _. usize);
   }
 
-  abbrev window-count-ended : Ended
-  window-count-ended = record { signature = window-count-signature; kept = (yes, (yes, tt)) }
+  abbrev window_count_ended : Ended
+  window_count_ended = record { signature = window_count_signature; kept = (yes, (yes, tt)) }
 
-  abbrev window-count-Model : Type 0 → Type 0
-  window-count-Model X = ℕ → (denotes Window) → X
+  abbrev window_count_model : Type 0 → Type 0
+  window_count_model X = ℕ → (denotes Window) → X
 
-  module _ (window-count-out : window-count-Model ℕ) where
+  module _ (window-count-out : window_count_model ℕ) where
     abbrev window-count-says : ℕ → (denotes Window) → ℕ → Type 0
     window-count-says a0 a1 r = r ≡ window-count-out a0 a1
 
     module _ {M : Type 1} (𝓤 : Ura M) where
-      abbrev window-count-clauses : Clauses 𝓤 window-count-ended
+      abbrev window-count-clauses : Clauses 𝓤 window_count_ended
       window-count-clauses κs a = record {
         ghost = Unit {0};
         requires = λ _. emp 𝓤;
@@ -195,11 +195,11 @@ module _ (Tally Window : Value) where
 
       module _ (𝓛 : Logic 𝓤) where
         abbrev pub window-count-contract : Contract 𝓤
-        window-count-contract = triple_of 𝓛 window-count-signature (closing 𝓛 window-count-ended window-count-clauses)
+        window-count-contract = triple_of 𝓛 window_count_signature (closing 𝓛 window_count_ended window-count-clauses)
 
   -- ---- what `test-windows` is, and what it ensures
-  abbrev test-windows-signature : Signature
-  test-windows-signature = record {
+  abbrev test_windows_signature : Signature
+  test_windows_signature = record {
     lifetimes = 3;
     outlives = [];
     params = shr_slice 0 tt (λ _. u64) ∷ shr_slice 1 tt (λ _. Entry'.the_row) ∷ mut_slice 2 tt (λ _. u64) ∷ plain (λ _. u32)
@@ -207,19 +207,19 @@ module _ (Tally Window : Value) where
     result = plain (λ _. (row_of Window));
   }
 
-  abbrev test-windows-ended : Ended
-  test-windows-ended = record { signature = test-windows-signature; kept = (yes, (yes, (yes, (yes, (yes, (yes, tt)))))) }
+  abbrev test_windows_ended : Ended
+  test_windows_ended = record { signature = test_windows_signature; kept = (yes, (yes, (yes, (yes, (yes, (yes, tt)))))) }
 
-  abbrev test-windows-Model : Type 0 → Type 0
-  test-windows-Model X = List ℕ → List Entry → List ℕ → ℕ → ℕ → (denotes Window) → X
+  abbrev test_windows_model : Type 0 → Type 0
+  test_windows_model X = List ℕ → List Entry → List ℕ → ℕ → ℕ → (denotes Window) → X
 
-  module _ (test-windows-out : test-windows-Model (denotes Window)) (test-windows-x-scratch : test-windows-Model (List ℕ)) where
+  module _ (test-windows-out : test_windows_model (denotes Window)) (test-windows-x-scratch : test_windows_model (List ℕ)) where
     abbrev test-windows-says : List ℕ → List Entry → List ℕ → ℕ → ℕ → (denotes Window) → (denotes Window) → List ℕ → Type 0
     test-windows-says a0 a1 a2 a3 a4 a5 r b2 = (r ≡ test-windows-out a0 a1 a2 a3 a4 a5)
         × (b2 ≡ test-windows-x-scratch a0 a1 a2 a3 a4 a5)
 
     module _ {M : Type 1} (𝓤 : Ura M) where
-      abbrev test-windows-clauses : Clauses 𝓤 test-windows-ended
+      abbrev test-windows-clauses : Clauses 𝓤 test_windows_ended
       test-windows-clauses κs a = record {
         ghost = Unit {0};
         requires = λ _. emp 𝓤;
@@ -229,29 +229,29 @@ module _ (Tally Window : Value) where
 
       module _ (𝓛 : Logic 𝓤) where
         abbrev pub test-windows-contract : Contract 𝓤
-        test-windows-contract = triple_of 𝓛 test-windows-signature (closing 𝓛 test-windows-ended test-windows-clauses)
+        test-windows-contract = triple_of 𝓛 test_windows_signature (closing 𝓛 test_windows_ended test-windows-clauses)
 
-  -- ---- what `all-passed` is, and what it ensures
-  abbrev all-passed-signature : Signature
-  all-passed-signature = record {
+  -- ---- what `all_passed_lem` is, and what it ensures
+  abbrev all_passed_signature : Signature
+  all_passed_signature = record {
     lifetimes = 1;
     outlives = [];
     params = plain (λ _. (row_of Window)) ∷ mut_slice 0 tt (λ _. u64) ∷ [];
     result = plain (λ _. Boolean);
   }
 
-  abbrev all-passed-ended : Ended
-  all-passed-ended = record { signature = all-passed-signature; kept = (yes, (yes, tt)) }
+  abbrev all_passed_ended : Ended
+  all_passed_ended = record { signature = all_passed_signature; kept = (yes, (yes, tt)) }
 
-  abbrev all-passed-Model : Type 0 → Type 0
-  all-passed-Model X = (denotes Window) → List ℕ → X
+  abbrev all_passed_model : Type 0 → Type 0
+  all_passed_model X = (denotes Window) → List ℕ → X
 
-  module _ (all-passed-out : all-passed-Model Bool) (all-passed-x-scratch : all-passed-Model (List ℕ)) where
+  module _ (all-passed-out : all_passed_model Bool) (all-passed-x-scratch : all_passed_model (List ℕ)) where
     abbrev all-passed-says : (denotes Window) → List ℕ → Bool → List ℕ → Type 0
     all-passed-says a0 a1 r b1 = (r ≡ all-passed-out a0 a1) × (b1 ≡ all-passed-x-scratch a0 a1)
 
     module _ {M : Type 1} (𝓤 : Ura M) where
-      abbrev all-passed-clauses : Clauses 𝓤 all-passed-ended
+      abbrev all-passed-clauses : Clauses 𝓤 all_passed_ended
       all-passed-clauses κs a = record {
         ghost = Unit {0};
         requires = λ _. emp 𝓤;
@@ -260,13 +260,13 @@ module _ (Tally Window : Value) where
 
       module _ (𝓛 : Logic 𝓤) where
         abbrev pub all-passed-contract : Contract 𝓤
-        all-passed-contract = triple_of 𝓛 all-passed-signature (closing 𝓛 all-passed-ended all-passed-clauses)
+        all-passed-contract = triple_of 𝓛 all_passed_signature (closing 𝓛 all_passed_ended all-passed-clauses)
 
   module _ (#tally-entries #first-window #window-count #test-windows #all-passed : Name)
-      (tally-entries-out : tally-entries-Model (denotes Tally)) (first-window-out : first-window-Model (denotes Window))
-      (window-count-out : window-count-Model ℕ) (test-windows-out : test-windows-Model (denotes Window))
-      (test-windows-x-scratch : test-windows-Model (List ℕ)) (all-passed-out : all-passed-Model Bool)
-      (all-passed-x-scratch : all-passed-Model (List ℕ)) where
+      (tally-entries-out : tally_entries_model (denotes Tally)) (first-window-out : first_window_model (denotes Window))
+      (window-count-out : window_count_model ℕ) (test-windows-out : test_windows_model (denotes Window))
+      (test-windows-x-scratch : test_windows_model (List ℕ)) (all-passed-out : all_passed_model Bool)
+      (all-passed-x-scratch : all_passed_model (List ℕ)) where
     -- ---- what the chain gives, call by call
     module _ (x-map : List ℕ) (x-catalogue : List Entry) (x-scratch : List ℕ) (x-n : ℕ) (x-start : (denotes Tally)) where
       abbrev v-tally-of : (denotes Tally)
@@ -490,7 +490,7 @@ module _ (Tally Window : Value) where
             bring ! (3 ∷ 0 ∷ []) $ fjoin ! $ bring ! (2 ∷ 0 ∷ []) $ fjoin ! $ bring ! (1 ∷ 0 ∷ []) $ join ! $ frame ! $
             done !
 
-        -- ---- the caller has what `all-passed` asks
+        -- ---- the caller has what `all_passed_lem` asks
         abbrev all-passed-args : (δ₀-all-passed : GName) → (denotes Window) × (MutBor (List ℕ) × Unit {0})
         all-passed-args δ₀-all-passed = (v-last, (at-x-scratch δ₀-all-passed z-test-windows-x-scratch, tt))
 
@@ -524,13 +524,13 @@ module _ (Tally Window : Value) where
             ∷ ‵ ((ShrSlice (named 1) κ₁ Entry'.the_row).own_val x-catalogue (s-x-catalogue ∷ [])) ∷ ‵ (flft κ₁ q₁)
             ∷ ‵ ((MutSlice (named 2) κ₂ u64).own_val (at-x-scratch x-scratch.name z-all-passed-x-scratch) (s-x-scratch ∷ []))
             ∷ ‵ (flft κ₂ q₂) ∷ [])) (Post m-v-result)
-        exits is l-x-scratch =
+        exits is l_x_scratch =
             qed 𝓛 (‵ ((ShrSlice (named 0) κ₀ u64).own_val x-map (s-x-map ∷ [])) ∷ ‵ (flft κ₀ q₀)
             ∷ ‵ ((ShrSlice (named 1) κ₁ Entry'.the_row).own_val x-catalogue (s-x-catalogue ∷ [])) ∷ ‵ (flft κ₁ q₁)
             ∷ ‵ ((MutSlice (named 2) κ₂ u64).own_val (at-x-scratch x-scratch.name z-all-passed-x-scratch) (s-x-scratch ∷ []))
             ∷ ‵ (flft κ₂ q₂) ∷ []) ∵
             suffices ! _ (ends_at 𝓛 ended stayed (clauses 𝓤) bound m-v-result v-result
-            (tt, (tt, (z-all-passed-x-scratch, (tt, (tt, tt))))) (tt, (tt, (l-x-scratch, (tt, (tt, tt)))))) $
+            (tt, (tt, (z-all-passed-x-scratch, (tt, (tt, tt))))) (tt, (tt, (l_x_scratch, (tt, (tt, tt)))))) $
             says ! (law x-map.now x-catalogue.now x-scratch.now x-n x-start) $ nothing ! $
             bring ! (2 ∷ 3 ∷ 4 ∷ 0 ∷ []) $ group ! 4 $ frame ! $ nothing ! $
             owned ! (row_of Tally) (Is (row_of Tally)) (Tally.makes 𝓛) x-start _ is-x-start $ fjoin ! $
@@ -574,11 +574,11 @@ module _ (Tally Window : Value) where
             (and_then ! (load ! (from ! (stop !)) (look ! 24 refl)) (and_then ! (load ! (from ! (stop !)) (look ! 22 refl))
             (no_more !)))) (λ w-tally-entries.
             use1 𝓛 (later (some (λ (r : (denotes Tally)). ((‵ (flft κ₁ q₁) ⊛ ‵ ftrue) ⊛ ‵
-            ((row_of Tally).own_val r (w-tally-entries ∷ []))) ⊛ raw (ensured 𝓛 tally-entries-ended
+            ((row_of Tally).own_val r (w-tally-entries ∷ []))) ⊛ raw (ensured 𝓛 tally_entries_ended
             (tally-entries-clauses tally-entries-out 𝓤) (κ₁, tt) (tally-entries-args) tt r)))) (id⊢ 𝓤 _) $
             await ! tt $ pick ! (λ r-tally-entries. split ! $ bring ! (1 ∷ []) $
             use1 𝓛 (some (λ (zs-tally-entries : Unit {0} × (Unit {0} × (Unit {0} × Unit {0}))). ‵
-            (lasts tally-entries-ended (κ₁, tt) (tally-entries-args) zs-tally-entries)
+            (lasts tally_entries_ended (κ₁, tt) (tally-entries-args) zs-tally-entries)
             ⊛ raw (fact 𝓤 (tally-entries-says tally-entries-out x-catalogue.now x-n x-start r-tally-entries)))) (id⊢ 𝓤 _) $
             pick ! (λ zs-tally-entries. split ! $ bring ! (1 ∷ []) $
             heard ! (tally-entries-says tally-entries-out x-catalogue.now x-n x-start r-tally-entries) (λ e-tally-entries.
@@ -596,10 +596,10 @@ module _ (Tally Window : Value) where
             calls_at ! (fm_of 𝓤 H 𝓛.laws 𝓣) (first-window-contract first-window-out 𝓤 𝓛) known-first-window
             (to-first-window) (and_then ! (load ! (from ! (stop !)) (look ! 21 refl)) (no_more !)) (λ w-first-window.
             use1 𝓛 (later (some (λ (r : (denotes Window)). ((‵ ftrue) ⊛ ‵ ((row_of Window).own_val r (w-first-window ∷ [])))
-            ⊛ raw (ensured 𝓛 first-window-ended (first-window-clauses first-window-out 𝓤) tt (first-window-args) tt r))))
+            ⊛ raw (ensured 𝓛 first_window_ended (first-window-clauses first-window-out 𝓤) tt (first-window-args) tt r))))
             (id⊢ 𝓤 _) $
             await ! tt $ pick ! (λ r-first-window. split ! $ bring ! (1 ∷ []) $
-            use1 𝓛 (some (λ (zs-first-window : Unit {0} × Unit {0}). ‵ (lasts first-window-ended tt (first-window-args)
+            use1 𝓛 (some (λ (zs-first-window : Unit {0} × Unit {0}). ‵ (lasts first_window_ended tt (first-window-args)
             zs-first-window) ⊛ raw (fact 𝓤 (first-window-says first-window-out v-tally r-first-window)))) (id⊢ 𝓤 _) $
             pick ! (λ zs-first-window. split ! $ bring ! (1 ∷ []) $
             heard ! (first-window-says first-window-out v-tally r-first-window) (λ e-first-window. fparts 𝓛 (_ ∷ []) _ $
@@ -618,10 +618,10 @@ module _ (Tally Window : Value) where
             (to-window-count) (and_then ! (load ! (from ! (stop !)) (look ! 25 refl)) (and_then !
             (load ! (from ! (stop !)) (look ! 19 refl)) (no_more !))) (λ w-window-count.
             use1 𝓛 (later (some (λ (r : ℕ). ((‵ ftrue) ⊛ ‵ (usize.own_val r (w-window-count ∷ [])))
-            ⊛ raw (ensured 𝓛 window-count-ended (window-count-clauses window-count-out 𝓤) tt (window-count-args) tt r))))
+            ⊛ raw (ensured 𝓛 window_count_ended (window-count-clauses window-count-out 𝓤) tt (window-count-args) tt r))))
             (id⊢ 𝓤 _) $
             await ! tt $ pick ! (λ r-window-count. split ! $ bring ! (1 ∷ []) $
-            use1 𝓛 (some (λ (zs-window-count : Unit {0} × (Unit {0} × Unit {0})). ‵ (lasts window-count-ended tt
+            use1 𝓛 (some (λ (zs-window-count : Unit {0} × (Unit {0} × Unit {0})). ‵ (lasts window_count_ended tt
             (window-count-args) zs-window-count) ⊛ raw (fact 𝓤 (window-count-says window-count-out x-n v-first
             r-window-count)))) (id⊢ 𝓤 _) $
             pick ! (λ zs-window-count. split ! $ bring ! (1 ∷ []) $
@@ -664,11 +664,11 @@ module _ (Tally Window : Value) where
             (no_more !))))))) (λ w-test-windows.
             use1 𝓛 (later (some (λ (r : (denotes Window)). ((‵ (flft κ₀ q₀) ⊛ ‵ (flft κ₁ q₁)
             ⊛ ‵ (flft (ν₀-test-windows ∷ []) full_share) ⊛ ‵ ftrue) ⊛ ‵ ((row_of Window).own_val r (w-test-windows ∷ [])))
-            ⊛ raw (ensured 𝓛 test-windows-ended (test-windows-clauses test-windows-out test-windows-x-scratch 𝓤)
+            ⊛ raw (ensured 𝓛 test_windows_ended (test-windows-clauses test-windows-out test-windows-x-scratch 𝓤)
             (κ₀, (κ₁, (ν₀-test-windows ∷ [], tt))) (test-windows-args δ₀-test-windows) tt r)))) (id⊢ 𝓤 _) $
             await ! tt $ pick ! (λ r-test-windows. split ! $ bring ! (1 ∷ []) $
             use1 𝓛 (some (λ (zs-test-windows : Unit {0} × (Unit {0} × (List ℕ × (Unit {0}
-            × (Unit {0} × (Unit {0} × Unit {0})))))). ‵ (lasts test-windows-ended (κ₀, (κ₁, (ν₀-test-windows ∷ [], tt)))
+            × (Unit {0} × (Unit {0} × Unit {0})))))). ‵ (lasts test_windows_ended (κ₀, (κ₁, (ν₀-test-windows ∷ [], tt)))
             (test-windows-args δ₀-test-windows) zs-test-windows) ⊛ raw (fact 𝓤 (test-windows-says test-windows-out
             test-windows-x-scratch x-map.now x-catalogue.now x-scratch.now x-n v_count v-first r-test-windows
             zs-test-windows.1.1.0)))) (id⊢ 𝓤 _) $
@@ -692,7 +692,7 @@ module _ (Tally Window : Value) where
             room-x-scratch δ₀-test-windows z-test-windows-x-scratch (ap {B = ℕ} length (sym e-test-windows.1)
             ∙ h-test-windows-x-scratch)) $
             await ! tt $ split ! $
-            -- all-passed
+            -- all_passed_lem
             assigns ! (addr ! (from ! (fld ! refl (hop ! (look_in ! 26 (sub ! 0 refl (whole !))) (stop !))))) (from ! (stop !))
             (init ! 8 refl (tt, tt)) $
             assigns ! (agg ! (and_then ! (load ! (from ! (stop !)) (look ! 8 refl)) (and_then !
@@ -713,11 +713,11 @@ module _ (Tally Window : Value) where
             (to-all-passed ν₀-all-passed δ₀-all-passed) (and_then ! (load ! (from ! (stop !)) (look ! 14 refl))
             (and_then ! (load ! (from ! (stop !)) (look ! 6 refl)) (no_more !))) (λ w-all-passed.
             use1 𝓛 (later (some (λ (r : Bool). ((‵ (flft (ν₀-all-passed ∷ []) full_share) ⊛ ‵ ftrue)
-            ⊛ ‵ (Boolean.own r (w-all-passed ∷ []))) ⊛ raw (ensured 𝓛 all-passed-ended
+            ⊛ ‵ (Boolean.own r (w-all-passed ∷ []))) ⊛ raw (ensured 𝓛 all_passed_ended
             (all-passed-clauses all-passed-out all-passed-x-scratch 𝓤) (ν₀-all-passed ∷ [], tt) (all-passed-args δ₀-all-passed)
             tt r)))) (id⊢ 𝓤 _) $
             await ! tt $ pick ! (λ r-all-passed. split ! $ bring ! (1 ∷ []) $
-            use1 𝓛 (some (λ (zs-all-passed : Unit {0} × (List ℕ × Unit {0})). ‵ (lasts all-passed-ended (ν₀-all-passed ∷ [], tt)
+            use1 𝓛 (some (λ (zs-all-passed : Unit {0} × (List ℕ × Unit {0})). ‵ (lasts all_passed_ended (ν₀-all-passed ∷ [], tt)
             (all-passed-args δ₀-all-passed) zs-all-passed) ⊛ raw (fact 𝓤 (all-passed-says all-passed-out all-passed-x-scratch
             v-last z-test-windows-x-scratch r-all-passed zs-all-passed.1.0)))) (id⊢ 𝓤 _) $
             pick ! (λ zs-all-passed. split ! $ bring ! (1 ∷ []) $

@@ -100,26 +100,26 @@ module _ (Window : Value) where
   }
 
   -- ---- what `fill-window` is, and what it ensures
-  abbrev fill-window-signature : Signature
-  fill-window-signature = record {
+  abbrev fill_window_signature : Signature
+  fill_window_signature = record {
     lifetimes = 2;
     outlives = [];
     params = shr_slice 0 tt (λ _. u64) ∷ plain (λ _. (row_of Window)) ∷ mut_slice 1 tt (λ _. u64) ∷ [];
     result = plain (λ _. Nothing);
   }
 
-  abbrev fill-window-ended : Ended
-  fill-window-ended = record { signature = fill-window-signature; kept = (yes, (yes, (yes, tt))) }
+  abbrev fill_window_ended : Ended
+  fill_window_ended = record { signature = fill_window_signature; kept = (yes, (yes, (yes, tt))) }
 
-  abbrev fill-window-Model : Type 0 → Type 0
-  fill-window-Model X = List ℕ → (denotes Window) → List ℕ → X
+  abbrev fill_window_model : Type 0 → Type 0
+  fill_window_model X = List ℕ → (denotes Window) → List ℕ → X
 
-  module _ (fill-window-x-scratch : fill-window-Model (List ℕ)) where
+  module _ (fill-window-x-scratch : fill_window_model (List ℕ)) where
     abbrev fill-window-says : List ℕ → (denotes Window) → List ℕ → (Unit {0}) → List ℕ → Type 0
     fill-window-says a0 a1 a2 r b2 = b2 ≡ fill-window-x-scratch a0 a1 a2
 
     module _ {M : Type 1} (𝓤 : Ura M) where
-      abbrev fill-window-clauses : Clauses 𝓤 fill-window-ended
+      abbrev fill-window-clauses : Clauses 𝓤 fill_window_ended
       fill-window-clauses κs a = record {
         ghost = Unit {0};
         requires = λ _. emp 𝓤;
@@ -128,30 +128,30 @@ module _ (Window : Value) where
 
       module _ (𝓛 : Logic 𝓤) where
         abbrev pub fill-window-contract : Contract 𝓤
-        fill-window-contract = triple_of 𝓛 fill-window-signature (closing 𝓛 fill-window-ended fill-window-clauses)
+        fill-window-contract = triple_of 𝓛 fill_window_signature (closing 𝓛 fill_window_ended fill-window-clauses)
 
   -- ---- what `release-parts` is, and what it ensures
-  abbrev release-parts-signature : Signature
-  release-parts-signature = record {
+  abbrev release_parts_signature : Signature
+  release_parts_signature = record {
     lifetimes = 2;
     outlives = [];
     params = shr_slice 0 tt (λ _. Entry'.the_row) ∷ plain (λ _. (row_of Window)) ∷ mut_slice 1 tt (λ _. u64) ∷ [];
     result = plain (λ _. (row_of Window));
   }
 
-  abbrev release-parts-ended : Ended
-  release-parts-ended = record { signature = release-parts-signature; kept = (yes, (yes, (yes, tt))) }
+  abbrev release_parts_ended : Ended
+  release_parts_ended = record { signature = release_parts_signature; kept = (yes, (yes, (yes, tt))) }
 
-  abbrev release-parts-Model : Type 0 → Type 0
-  release-parts-Model X = List Entry → (denotes Window) → List ℕ → X
+  abbrev release_parts_model : Type 0 → Type 0
+  release_parts_model X = List Entry → (denotes Window) → List ℕ → X
 
-  module _ (release-parts-out : release-parts-Model (denotes Window)) (release-parts-x-scratch : release-parts-Model
+  module _ (release-parts-out : release_parts_model (denotes Window)) (release-parts-x-scratch : release_parts_model
       (List ℕ)) where
     abbrev release-parts-says : List Entry → (denotes Window) → List ℕ → (denotes Window) → List ℕ → Type 0
     release-parts-says a0 a1 a2 r b2 = (r ≡ release-parts-out a0 a1 a2) × (b2 ≡ release-parts-x-scratch a0 a1 a2)
 
     module _ {M : Type 1} (𝓤 : Ura M) where
-      abbrev release-parts-clauses : Clauses 𝓤 release-parts-ended
+      abbrev release-parts-clauses : Clauses 𝓤 release_parts_ended
       release-parts-clauses κs a = record {
         ghost = Unit {0};
         requires = λ _. emp 𝓤;
@@ -160,30 +160,30 @@ module _ (Window : Value) where
 
       module _ (𝓛 : Logic 𝓤) where
         abbrev pub release-parts-contract : Contract 𝓤
-        release-parts-contract = triple_of 𝓛 release-parts-signature (closing 𝓛 release-parts-ended
+        release-parts-contract = triple_of 𝓛 release_parts_signature (closing 𝓛 release_parts_ended
             release-parts-clauses)
 
   -- ---- what `end-window` is, and what it ensures
-  abbrev end-window-signature : Signature
-  end-window-signature = record {
+  abbrev end_window_signature : Signature
+  end_window_signature = record {
     lifetimes = 1;
     outlives = [];
     params = plain (λ _. u32) ∷ plain (λ _. (row_of Window)) ∷ shr_slice 0 tt (λ _. u64) ∷ [];
     result = plain (λ _. (row_of Window));
   }
 
-  abbrev end-window-ended : Ended
-  end-window-ended = record { signature = end-window-signature; kept = (yes, (yes, (yes, tt))) }
+  abbrev end_window_ended : Ended
+  end_window_ended = record { signature = end_window_signature; kept = (yes, (yes, (yes, tt))) }
 
-  abbrev end-window-Model : Type 0 → Type 0
-  end-window-Model X = ℕ → (denotes Window) → List ℕ → X
+  abbrev end_window_model : Type 0 → Type 0
+  end_window_model X = ℕ → (denotes Window) → List ℕ → X
 
-  module _ (end-window-out : end-window-Model (denotes Window)) where
+  module _ (end-window-out : end_window_model (denotes Window)) where
     abbrev end-window-says : ℕ → (denotes Window) → List ℕ → (denotes Window) → Type 0
     end-window-says a0 a1 a2 r = r ≡ end-window-out a0 a1 a2
 
     module _ {M : Type 1} (𝓤 : Ura M) where
-      abbrev end-window-clauses : Clauses 𝓤 end-window-ended
+      abbrev end-window-clauses : Clauses 𝓤 end_window_ended
       end-window-clauses κs a = record {
         ghost = Unit {0};
         requires = λ _. emp 𝓤;
@@ -192,11 +192,11 @@ module _ (Window : Value) where
 
       module _ (𝓛 : Logic 𝓤) where
         abbrev pub end-window-contract : Contract 𝓤
-        end-window-contract = triple_of 𝓛 end-window-signature (closing 𝓛 end-window-ended end-window-clauses)
+        end-window-contract = triple_of 𝓛 end_window_signature (closing 𝓛 end_window_ended end-window-clauses)
 
-  module _ (#fill-window #release-parts #end-window : Name) (fill-window-x-scratch : fill-window-Model (List ℕ))
-      (release-parts-out : release-parts-Model (denotes Window)) (release-parts-x-scratch : release-parts-Model (List ℕ))
-      (end-window-out : end-window-Model (denotes Window)) where
+  module _ (#fill-window #release-parts #end-window : Name) (fill-window-x-scratch : fill_window_model (List ℕ))
+      (release-parts-out : release_parts_model (denotes Window)) (release-parts-x-scratch : release_parts_model (List ℕ))
+      (end-window-out : end_window_model (denotes Window)) where
     -- ---- what the chain gives, call by call
     module _ (x-map : List ℕ) (x-catalogue : List Entry) (x-scratch : List ℕ) (x-n : ℕ) (x-window : (denotes Window)) where
       abbrev z-fill-window-x-scratch-of : List ℕ
@@ -402,13 +402,13 @@ module _ (Window : Value) where
           ∷ ‵ ((ShrSlice (named 1) κ₁ Entry'.the_row).own_val x-catalogue (s-x-catalogue ∷ [])) ∷ ‵ (flft κ₁ q₁)
           ∷ ‵ ((MutSlice (named 2) κ₂ u64).own_val (at-x-scratch x-scratch.name z-release-parts-x-scratch) (s-x-scratch ∷ []))
           ∷ ‵ (flft κ₂ q₂) ∷ [])) (Post m-v-result)
-      exits is l-x-scratch =
+      exits is l_x_scratch =
           qed 𝓛 (‵ ((ShrSlice (named 0) κ₀ u64).own_val x-map (s-x-map ∷ [])) ∷ ‵ (flft κ₀ q₀)
           ∷ ‵ ((ShrSlice (named 1) κ₁ Entry'.the_row).own_val x-catalogue (s-x-catalogue ∷ [])) ∷ ‵ (flft κ₁ q₁)
           ∷ ‵ ((MutSlice (named 2) κ₂ u64).own_val (at-x-scratch x-scratch.name z-release-parts-x-scratch) (s-x-scratch ∷ []))
           ∷ ‵ (flft κ₂ q₂) ∷ []) ∵
           suffices ! _ (ends_at 𝓛 ended stayed (clauses 𝓤) bound m-v-result v-result
-          (tt, (tt, (z-release-parts-x-scratch, (tt, (tt, tt))))) (tt, (tt, (l-x-scratch, (tt, (tt, tt)))))) $
+          (tt, (tt, (z-release-parts-x-scratch, (tt, (tt, tt))))) (tt, (tt, (l_x_scratch, (tt, (tt, tt)))))) $
           says ! (refl, refl) $ nothing ! $ bring ! (2 ∷ 3 ∷ 4 ∷ 0 ∷ []) $ group ! 4 $ frame ! $ nothing ! $
           owned ! (row_of Window) (Is (row_of Window)) (Window.makes 𝓛) x-window _ is-x-window $ fjoin ! $
           owned ! u32 (Is u32) (uint_Makes 𝓛 w32) x-n _ is-x-n $ fjoin ! $ bring ! (3 ∷ 0 ∷ []) $ fjoin ! $
@@ -460,12 +460,12 @@ module _ (Window : Value) where
           (and_then ! (load ! (from ! (stop !)) (look ! 21 refl)) (and_then ! (load ! (from ! (stop !)) (look ! 13 refl))
           (no_more !)))) (λ w-fill-window.
           use1 𝓛 (later (some (λ (r : (Unit {0})). ((‵ (flft κ₀ q₀) ⊛ ‵ (flft (ν₀-fill-window ∷ []) full_share) ⊛ ‵ ftrue)
-          ⊛ ‵ (Nothing.own r (w-fill-window ∷ []))) ⊛ raw (ensured 𝓛 fill-window-ended
+          ⊛ ‵ (Nothing.own r (w-fill-window ∷ []))) ⊛ raw (ensured 𝓛 fill_window_ended
           (fill-window-clauses fill-window-x-scratch 𝓤) (κ₀, (ν₀-fill-window ∷ [], tt)) (fill-window-args δ₀-fill-window) tt
           r)))) (id⊢ 𝓤 _) $
           await ! tt $ pick ! (λ r-fill-window. split ! $ bring ! (1 ∷ []) $
           use1 𝓛 (some (λ (zs-fill-window : Unit {0} × (Unit {0} × (List ℕ × Unit {0}))). ‵
-          (lasts fill-window-ended (κ₀, (ν₀-fill-window ∷ [], tt)) (fill-window-args δ₀-fill-window) zs-fill-window)
+          (lasts fill_window_ended (κ₀, (ν₀-fill-window ∷ [], tt)) (fill-window-args δ₀-fill-window) zs-fill-window)
           ⊛ raw (fact 𝓤 (fill-window-says fill-window-x-scratch x-map.now x-window x-scratch.now r-fill-window
           zs-fill-window.1.1.0)))) (id⊢ 𝓤 _) $
           pick ! (λ zs-fill-window. split ! $ bring ! (1 ∷ []) $
@@ -510,12 +510,12 @@ module _ (Window : Value) where
           (load ! (from ! (stop !)) (look ! 27 refl)) (and_then ! (load ! (from ! (stop !)) (look ! 21 refl))
           (and_then ! (load ! (from ! (stop !)) (look ! 9 refl)) (no_more !)))) (λ w-release-parts.
           use1 𝓛 (later (some (λ (r : (denotes Window)). ((‵ (flft κ₁ q₁) ⊛ ‵ (flft (ν₀-release-parts ∷ []) full_share)
-          ⊛ ‵ ftrue) ⊛ ‵ ((row_of Window).own_val r (w-release-parts ∷ []))) ⊛ raw (ensured 𝓛 release-parts-ended
+          ⊛ ‵ ftrue) ⊛ ‵ ((row_of Window).own_val r (w-release-parts ∷ []))) ⊛ raw (ensured 𝓛 release_parts_ended
           (release-parts-clauses release-parts-out release-parts-x-scratch 𝓤) (κ₁, (ν₀-release-parts ∷ [], tt))
           (release-parts-args δ₀-release-parts) tt r)))) (id⊢ 𝓤 _) $
           await ! tt $ pick ! (λ r-release-parts. split ! $ bring ! (1 ∷ []) $
           use1 𝓛 (some (λ (zs-release-parts : Unit {0} × (Unit {0} × (List ℕ × Unit {0}))). ‵
-          (lasts release-parts-ended (κ₁, (ν₀-release-parts ∷ [], tt)) (release-parts-args δ₀-release-parts) zs-release-parts)
+          (lasts release_parts_ended (κ₁, (ν₀-release-parts ∷ [], tt)) (release-parts-args δ₀-release-parts) zs-release-parts)
           ⊛ raw (fact 𝓤 (release-parts-says release-parts-out release-parts-x-scratch x-catalogue.now x-window
           z-fill-window-x-scratch r-release-parts zs-release-parts.1.1.0)))) (id⊢ 𝓤 _) $
           pick ! (λ zs-release-parts. split ! $ bring ! (1 ∷ []) $
@@ -558,11 +558,11 @@ module _ (Window : Value) where
           (and_then ! (load ! (from ! (stop !)) (look ! 20 refl)) (and_then ! (load ! (from ! (stop !)) (look ! 6 refl))
           (no_more !)))) (λ w-end-window.
           use1 𝓛 (later (some (λ (r : (denotes Window)). ((‵ (flft (ν₀-end-window ∷ []) full_share) ⊛ ‵ ftrue)
-          ⊛ ‵ ((row_of Window).own_val r (w-end-window ∷ []))) ⊛ raw (ensured 𝓛 end-window-ended
+          ⊛ ‵ ((row_of Window).own_val r (w-end-window ∷ []))) ⊛ raw (ensured 𝓛 end_window_ended
           (end-window-clauses end-window-out 𝓤) (ν₀-end-window ∷ [], tt) (end-window-args δ₀-end-window) tt r)))) (id⊢ 𝓤 _) $
           await ! tt $ pick ! (λ r-end-window. split ! $ bring ! (1 ∷ []) $
           use1 𝓛 (some (λ (zs-end-window : Unit {0} × (Unit {0} × (Unit {0} × Unit {0}))). ‵
-          (lasts end-window-ended (ν₀-end-window ∷ [], tt) (end-window-args δ₀-end-window) zs-end-window)
+          (lasts end_window_ended (ν₀-end-window ∷ [], tt) (end-window-args δ₀-end-window) zs-end-window)
           ⊛ raw (fact 𝓤 (end-window-says end-window-out x-n v-last z-release-parts-x-scratch r-end-window)))) (id⊢ 𝓤 _) $
           pick ! (λ zs-end-window. split ! $ bring ! (1 ∷ []) $
           heard ! (end-window-says end-window-out x-n v-last z-release-parts-x-scratch r-end-window) (λ e-end-window.

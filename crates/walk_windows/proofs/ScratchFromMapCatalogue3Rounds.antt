@@ -109,8 +109,8 @@ module _ (Window : Value) where
   }
 
   -- ---- what `test-window` is, and what it ensures
-  abbrev test-window-signature : Signature
-  test-window-signature = record {
+  abbrev test_window_signature : Signature
+  test_window_signature = record {
     lifetimes = 3;
     outlives = [];
     params = shr_slice 0 tt (λ _. u64) ∷ shr_slice 1 tt (λ _. Entry'.the_row) ∷ mut_slice 2 tt (λ _. u64) ∷ plain (λ _. u32)
@@ -118,18 +118,18 @@ module _ (Window : Value) where
     result = plain (λ _. (row_of Window));
   }
 
-  abbrev test-window-ended : Ended
-  test-window-ended = record { signature = test-window-signature; kept = (yes, (yes, (yes, (yes, (yes, tt))))) }
+  abbrev test_window_ended : Ended
+  test_window_ended = record { signature = test_window_signature; kept = (yes, (yes, (yes, (yes, (yes, tt))))) }
 
-  abbrev test-window-Model : Type 0 → Type 0
-  test-window-Model X = List ℕ → List Entry → List ℕ → ℕ → (denotes Window) → X
+  abbrev test_window_model : Type 0 → Type 0
+  test_window_model X = List ℕ → List Entry → List ℕ → ℕ → (denotes Window) → X
 
-  module _ (test-window-out : test-window-Model (denotes Window)) (test-window-x-scratch : test-window-Model (List ℕ)) where
+  module _ (test-window-out : test_window_model (denotes Window)) (test-window-x-scratch : test_window_model (List ℕ)) where
     abbrev test-window-says : List ℕ → List Entry → List ℕ → ℕ → (denotes Window) → (denotes Window) → List ℕ → Type 0
     test-window-says a0 a1 a2 a3 a4 r b2 = (r ≡ test-window-out a0 a1 a2 a3 a4) × (b2 ≡ test-window-x-scratch a0 a1 a2 a3 a4)
 
     module _ {M : Type 1} (𝓤 : Ura M) where
-      abbrev test-window-clauses : Clauses 𝓤 test-window-ended
+      abbrev test-window-clauses : Clauses 𝓤 test_window_ended
       test-window-clauses κs a = record {
         ghost = Unit {0};
         requires = λ _. emp 𝓤;
@@ -139,10 +139,10 @@ module _ (Window : Value) where
 
       module _ (𝓛 : Logic 𝓤) where
         abbrev pub test-window-contract : Contract 𝓤
-        test-window-contract = triple_of 𝓛 test-window-signature (closing 𝓛 test-window-ended test-window-clauses)
+        test-window-contract = triple_of 𝓛 test_window_signature (closing 𝓛 test_window_ended test-window-clauses)
 
-  module _ (#test-window : Name) (test-window-out : test-window-Model (denotes Window))
-      (test-window-x-scratch : test-window-Model (List ℕ))
+  module _ (#test-window : Name) (test-window-out : test_window_model (denotes Window))
+      (test-window-x-scratch : test_window_model (List ℕ))
       (after-state : List ℕ → List Entry → List ℕ → ℕ → ℕ → (denotes Window) → (denotes Window))
       (after-x-scratch : List ℕ → List Entry → List ℕ → ℕ → ℕ → (denotes Window) → List ℕ)
       (after-state-none : (x-map : List ℕ) (x-catalogue : List Entry) (x-scratch : List ℕ) (x-n : ℕ)
@@ -247,15 +247,15 @@ module _ (Window : Value) where
         all : done + left ≡ x-count
         state : (denotes Window)
         is_state : Is (row_of Window) state (machine-state state ∷ [])
-        z-x-scratch : List ℕ
-        l-x-scratch : length z-x-scratch ≡ length x-scratch.now
-        is-after-state : state ≡ after-state x-map.now x-catalogue.now x-scratch.now x-n done x-start
-        is-after-x-scratch : z-x-scratch ≡ after-x-scratch x-map.now x-catalogue.now x-scratch.now x-n done x-start
+        z_x_scratch : List ℕ
+        l_x_scratch : length z_x_scratch ≡ length x-scratch.now
+        is_after_state : state ≡ after-state x-map.now x-catalogue.now x-scratch.now x-n done x-start
+        is_after_x_scratch : z_x_scratch ≡ after-x-scratch x-map.now x-catalogue.now x-scratch.now x-n done x-start
 
       -- the loop ends here: what stands is the outcome
       abbrev Ends : At → Type 0
       Ends x = (x.state ≡ after-state x-map.now x-catalogue.now x-scratch.now x-n x-count x-start)
-          × (x.z-x-scratch ≡ after-x-scratch x-map.now x-catalogue.now x-scratch.now x-n x-count x-start)
+          × (x.z_x_scratch ≡ after-x-scratch x-map.now x-catalogue.now x-scratch.now x-n x-count x-start)
 
       abbrev size : At → ℕ
       size x = x.left
@@ -267,42 +267,42 @@ module _ (Window : Value) where
         all = zero-add x-count;
         state = x-start;
         is_state = is-x-start;
-        z-x-scratch = x-scratch.now;
-        l-x-scratch = refl;
-        is-after-state = sym (after-state-none x-map.now x-catalogue.now x-scratch.now x-n x-start);
-        is-after-x-scratch = sym (after-x-scratch-none x-map.now x-catalogue.now x-scratch.now x-n x-start);
+        z_x_scratch = x-scratch.now;
+        l_x_scratch = refl;
+        is_after_state = sym (after-state-none x-map.now x-catalogue.now x-scratch.now x-n x-start);
+        is_after_x_scratch = sym (after-x-scratch-none x-map.now x-catalogue.now x-scratch.now x-n x-start);
       }
 
       -- ---- the caller has what `test-window` asks
-      abbrev test-window-args : (δ₀-test-window : GName) (v-state : (denotes Window)) (l-x-scratch : List ℕ) → MutBor (List ℕ)
+      abbrev test-window-args : (δ₀-test-window : GName) (v-state : (denotes Window)) (l_x_scratch : List ℕ) → MutBor (List ℕ)
           × (MutBor (List Entry) × (MutBor (List ℕ) × (ℕ × ((denotes Window) × Unit {0}))))
-      test-window-args δ₀-test-window v-state l-x-scratch =
-          (x-map, (x-catalogue, (at-x-scratch δ₀-test-window l-x-scratch, (x-n, (v-state, tt)))))
+      test-window-args δ₀-test-window v-state l_x_scratch =
+          (x-map, (x-catalogue, (at-x-scratch δ₀-test-window l_x_scratch, (x-n, (v-state, tt)))))
 
-      abbrev to-test-window : (ν₀-test-window : ℕ) (δ₀-test-window : GName) (v-state : (denotes Window)) (l-x-scratch : List ℕ)
+      abbrev to-test-window : (ν₀-test-window : ℕ) (δ₀-test-window : GName) (v-state : (denotes Window)) (l_x_scratch : List ℕ)
           → (test-window-contract test-window-out test-window-x-scratch 𝓤 𝓛).Ghost
-      to-test-window ν₀-test-window δ₀-test-window v-state l-x-scratch = (
+      to-test-window ν₀-test-window δ₀-test-window v-state l_x_scratch = (
         (
           (κ₀, (κ₁, (ν₀-test-window ∷ [], tt))),
           (q₀, (q₁, (full_share, tt))),
           tt,
-          test-window-args δ₀-test-window v-state l-x-scratch,
+          test-window-args δ₀-test-window v-state l_x_scratch,
           (s-x-map ∷ [], (s-x-catalogue ∷ [], (s-x-scratch ∷ [], (m-x-n ∷ [], ((machine-state v-state) ∷ [], tt))))),
         ),
         tt,
       )
 
-      goes-test-window : (ν₀-test-window : ℕ) (δ₀-test-window : GName) (v-state : (denotes Window)) (l-x-scratch : List ℕ)
+      goes-test-window : (ν₀-test-window : ℕ) (δ₀-test-window : GName) (v-state : (denotes Window)) (l_x_scratch : List ℕ)
           → Is (row_of Window) v-state ((machine-state v-state) ∷ []) → ent 𝓤 (⋆ 𝓛 (‵ (flft κ₀ q₀) ∷ ‵ (flft κ₁ q₁)
           ∷ ‵ (flft (ν₀-test-window ∷ []) full_share) ∷ ‵ ((ShrSlice (named 0) κ₀ u64).own_val x-map (s-x-map ∷ []))
           ∷ ‵ ((ShrSlice (named 1) κ₁ Entry'.the_row).own_val x-catalogue (s-x-catalogue ∷ []))
-          ∷ ‵ ((MutSlice (named 2) (ν₀-test-window ∷ []) u64).own_val (at-x-scratch δ₀-test-window l-x-scratch) (s-x-scratch ∷ []))
+          ∷ ‵ ((MutSlice (named 2) (ν₀-test-window ∷ []) u64).own_val (at-x-scratch δ₀-test-window l_x_scratch) (s-x-scratch ∷ []))
           ∷ [])) ((test-window-contract test-window-out test-window-x-scratch 𝓤 𝓛).pre
-          (to-test-window ν₀-test-window δ₀-test-window v-state l-x-scratch))
-      goes-test-window ν₀-test-window δ₀-test-window v-state l-x-scratch is-v-state =
+          (to-test-window ν₀-test-window δ₀-test-window v-state l_x_scratch))
+      goes-test-window ν₀-test-window δ₀-test-window v-state l_x_scratch is-v-state =
           qed 𝓛 (‵ (flft κ₀ q₀) ∷ ‵ (flft κ₁ q₁) ∷ ‵ (flft (ν₀-test-window ∷ []) full_share)
           ∷ ‵ ((ShrSlice (named 0) κ₀ u64).own_val x-map (s-x-map ∷ [])) ∷ ‵ ((ShrSlice (named 1) κ₁ Entry'.the_row).own_val x-catalogue
-          (s-x-catalogue ∷ [])) ∷ ‵ ((MutSlice (named 2) (ν₀-test-window ∷ []) u64).own_val (at-x-scratch δ₀-test-window l-x-scratch)
+          (s-x-catalogue ∷ [])) ∷ ‵ ((MutSlice (named 2) (ν₀-test-window ∷ []) u64).own_val (at-x-scratch δ₀-test-window l_x_scratch)
           (s-x-scratch ∷ [])) ∷ []) ∵
           nothing ! $ bring ! (1 ∷ 1 ∷ 1 ∷ 0 ∷ []) $ group ! 4 $ nothing ! $
           owned ! (row_of Window) (Is (row_of Window)) (Window.makes 𝓛) v-state _ is-v-state $ fjoin ! $
@@ -311,19 +311,19 @@ module _ (Window : Value) where
           done !
 
       -- ---- the exit
-      exits : (r : (denotes Window)) (z-x-scratch : List ℕ) → Is (row_of Window) r (machine-state r ∷ [])
-          → Says x-map.now x-catalogue.now x-scratch.now x-n x-count x-start r z-x-scratch → length z-x-scratch
+      exits : (r : (denotes Window)) (z_x_scratch : List ℕ) → Is (row_of Window) r (machine-state r ∷ [])
+          → Says x-map.now x-catalogue.now x-scratch.now x-n x-count x-start r z_x_scratch → length z_x_scratch
           ≡ length x-scratch.now → ent 𝓤 (⋆ 𝓛 (‵ ((ShrSlice (named 0) κ₀ u64).own_val x-map (s-x-map ∷ [])) ∷ ‵ (flft κ₀ q₀)
           ∷ ‵ ((ShrSlice (named 1) κ₁ Entry'.the_row).own_val x-catalogue (s-x-catalogue ∷ [])) ∷ ‵ (flft κ₁ q₁)
-          ∷ ‵ ((MutSlice (named 2) κ₂ u64).own_val (at-x-scratch x-scratch.name z-x-scratch) (s-x-scratch ∷ [])) ∷ ‵ (flft κ₂ q₂)
+          ∷ ‵ ((MutSlice (named 2) κ₂ u64).own_val (at-x-scratch x-scratch.name z_x_scratch) (s-x-scratch ∷ [])) ∷ ‵ (flft κ₂ q₂)
           ∷ [])) (Post (machine-state r))
-      exits r z-x-scratch is said l-x-scratch =
+      exits r z_x_scratch is said l_x_scratch =
           qed 𝓛 (‵ ((ShrSlice (named 0) κ₀ u64).own_val x-map (s-x-map ∷ [])) ∷ ‵ (flft κ₀ q₀)
           ∷ ‵ ((ShrSlice (named 1) κ₁ Entry'.the_row).own_val x-catalogue (s-x-catalogue ∷ [])) ∷ ‵ (flft κ₁ q₁)
-          ∷ ‵ ((MutSlice (named 2) κ₂ u64).own_val (at-x-scratch x-scratch.name z-x-scratch) (s-x-scratch ∷ [])) ∷ ‵ (flft κ₂ q₂)
+          ∷ ‵ ((MutSlice (named 2) κ₂ u64).own_val (at-x-scratch x-scratch.name z_x_scratch) (s-x-scratch ∷ [])) ∷ ‵ (flft κ₂ q₂)
           ∷ []) ∵
           suffices ! _ (ends_at 𝓛 ended stayed (clauses 𝓤) bound (machine-state r) r
-          (tt, (tt, (z-x-scratch, (tt, (tt, (tt, tt)))))) (tt, (tt, (l-x-scratch, (tt, (tt, (tt, tt))))))) $
+          (tt, (tt, (z_x_scratch, (tt, (tt, (tt, tt)))))) (tt, (tt, (l_x_scratch, (tt, (tt, (tt, tt))))))) $
           says ! said $ nothing ! $ bring ! (2 ∷ 3 ∷ 4 ∷ 0 ∷ []) $ group ! 4 $ frame ! $ nothing ! $
           owned ! (row_of Window) (Is (row_of Window)) (Window.makes 𝓛) x-start _ is-x-start $ fjoin ! $
           owned ! usize (Is usize) (uint_Makes 𝓛 w64) x-count _ is-x-count $ fjoin ! $
@@ -352,7 +352,7 @@ module _ (Window : Value) where
             ∷ ‵ (flft κ₀ q₀)
             ∷ ‵ ((ShrSlice (named 1) κ₁ Entry'.the_row).own_val x-catalogue (s-x-catalogue ∷ []))
             ∷ ‵ (flft κ₁ q₁)
-            ∷ ‵ ((MutSlice (named 2) κ₂ u64).own_val (at-x-scratch x-scratch.name x.z-x-scratch) (s-x-scratch ∷ []))
+            ∷ ‵ ((MutSlice (named 2) κ₂ u64).own_val (at-x-scratch x-scratch.name x.z_x_scratch) (s-x-scratch ∷ []))
             ∷ ‵ (flft κ₂ q₂)
             ∷ ‵ (froom (slice_ty (ty_ref erased mut (ty_int w64))) l₁₁ 0)
             ∷ ‵ (fdies (slice_ty (ty_ref erased mut (ty_int w64))) l₁₁)
@@ -395,7 +395,7 @@ module _ (Window : Value) where
             leave ! 22 refl refl $ leave ! 20 refl refl $ leave ! 18 refl refl $ leave ! 16 refl refl $
             leave ! 14 refl refl $ leave ! 12 refl refl $ leave_room ! 10 refl refl $ leave_room ! 8 refl refl $
             leave_room ! 6 refl refl $ free0 ! $
-            by ! (exits x.state x.z-x-scratch x.is_state fin x.l-x-scratch)
+            by ! (exits x.state x.z_x_scratch x.is_state fin x.l_x_scratch)
 
         -- ---- the turn that finds all rounds done
         ends : (x : At) → x.left ≡ 0 → Sq 𝓛 (I x) (runs C Λ En (turn #test-window) (any_q (after_turn 𝓤 H (Next x) Left)))
@@ -416,9 +416,9 @@ module _ (Window : Value) where
 
             fin : Ends x
             fin = (
-              x.is-after-state ∙ ap (λ (k : ℕ). after-state x-map.now x-catalogue.now x-scratch.now x-n k x-start)
+              x.is_after_state ∙ ap (λ (k : ℕ). after-state x-map.now x-catalogue.now x-scratch.now x-n k x-start)
                   all_done,
-              x.is-after-x-scratch ∙ ap (λ (k : ℕ). after-x-scratch x-map.now x-catalogue.now x-scratch.now x-n k
+              x.is_after_x_scratch ∙ ap (λ (k : ℕ). after-x-scratch x-map.now x-catalogue.now x-scratch.now x-n k
                   x-start) all_done,
             )
 
@@ -441,7 +441,7 @@ module _ (Window : Value) where
 
           -- where the loop stands after the turn
           module _ (r : (denotes Window)) (m-x-scratch : List ℕ) (is : Is (row_of Window) r (machine-state r ∷ []))
-              (said : test-window-says test-window-out test-window-x-scratch x-map.now x-catalogue.now x.z-x-scratch x-n
+              (said : test-window-says test-window-out test-window-x-scratch x-map.now x-catalogue.now x.z_x_scratch x-n
               x.state r m-x-scratch) (k-x-scratch : length m-x-scratch ≡ length x-scratch.now) where
             abbrev next : At
             next = record {
@@ -450,13 +450,13 @@ module _ (Window : Value) where
               all = passes;
               state = r;
               is_state = is;
-              z-x-scratch = m-x-scratch;
-              l-x-scratch = k-x-scratch;
-              is-after-state = said.0 ∙ (λ j. test-window-out x-map.now x-catalogue.now (x.is-after-x-scratch j) x-n
-                  (x.is-after-state j)) ∙ sym (after-state-more x.done x-map.now x-catalogue.now x-scratch.now x-n
+              z_x_scratch = m-x-scratch;
+              l_x_scratch = k-x-scratch;
+              is_after_state = said.0 ∙ (λ j. test-window-out x-map.now x-catalogue.now (x.is_after_x_scratch j) x-n
+                  (x.is_after_state j)) ∙ sym (after-state-more x.done x-map.now x-catalogue.now x-scratch.now x-n
                   x-start) ∙ ap (λ (m : ℕ). after-state x-map.now x-catalogue.now x-scratch.now x-n m x-start) one_more;
-              is-after-x-scratch = said.1 ∙ (λ j. test-window-x-scratch x-map.now x-catalogue.now (x.is-after-x-scratch j)
-                  x-n (x.is-after-state j)) ∙ sym (after-x-scratch-more x.done x-map.now x-catalogue.now x-scratch.now
+              is_after_x_scratch = said.1 ∙ (λ j. test-window-x-scratch x-map.now x-catalogue.now (x.is_after_x_scratch j)
+                  x-n (x.is_after_state j)) ∙ sym (after-x-scratch-more x.done x-map.now x-catalogue.now x-scratch.now
                   x-n x-start) ∙ ap (λ (m : ℕ). after-x-scratch x-map.now x-catalogue.now x-scratch.now x-n m x-start)
                   one_more;
             }
@@ -483,32 +483,32 @@ module _ (Window : Value) where
               ((shr_slice_copy 𝓛 (named 1) κ₁ Entry'.the_row).twice x-catalogue (s-x-catalogue ∷ [])) $
               split ! $ lft_new ! tt (λ ν₀-test-window. bring ! (7 ∷ 7 ∷ []) $
               use2 𝓛 (later (some (λ (δ : GName). ‵ ((MutSlice (named 2) (ν₀-test-window ∷ []) u64).own_val
-              (at-x-scratch δ x.z-x-scratch) (s-x-scratch ∷ [])) ⊛ ‵ (LentAgain u64 κ₂ (ν₀-test-window ∷ []) q₂
-              x-scratch.name x-scratch.ptr.0 x-scratch.ptr.1 δ x.z-x-scratch))))
+              (at-x-scratch δ x.z_x_scratch) (s-x-scratch ∷ [])) ⊛ ‵ (LentAgain u64 κ₂ (ν₀-test-window ∷ []) q₂
+              x-scratch.name x-scratch.ptr.0 x-scratch.ptr.1 δ x.z_x_scratch))))
               (lends_again u64 κ₂ (ν₀-test-window ∷ []) q₂ x-scratch.name x-scratch.ptr.0 x-scratch.ptr.1 𝓛
-              (named 2) (named 2) x.z-x-scratch (length x-scratch.now) x.l-x-scratch) $
+              (named 2) (named 2) x.z_x_scratch (length x-scratch.now) x.l_x_scratch) $
               await ! tt $ pick ! (λ δ₀-test-window. split ! $ bring ! (7 ∷ 7 ∷ 2 ∷ 4 ∷ 2 ∷ 0 ∷ []) $ group ! 6 $
               use1 𝓛 (raw ((test-window-contract test-window-out test-window-x-scratch 𝓤 𝓛).pre
-              (to-test-window ν₀-test-window δ₀-test-window x.state x.z-x-scratch)))
-              (goes-test-window ν₀-test-window δ₀-test-window x.state x.z-x-scratch x.is_state) $
+              (to-test-window ν₀-test-window δ₀-test-window x.state x.z_x_scratch)))
+              (goes-test-window ν₀-test-window δ₀-test-window x.state x.z_x_scratch x.is_state) $
               calls_at ! (fm_of 𝓤 H 𝓛.laws 𝓣) (test-window-contract test-window-out test-window-x-scratch 𝓤 𝓛)
-              known-test-window (to-test-window ν₀-test-window δ₀-test-window x.state x.z-x-scratch)
+              known-test-window (to-test-window ν₀-test-window δ₀-test-window x.state x.z_x_scratch)
               (and_then ! (load ! (from ! (stop !)) (look ! 24 refl)) (and_then ! (load ! (from ! (stop !)) (look ! 22 refl))
               (and_then ! (load ! (from ! (stop !)) (look ! 4 refl)) (and_then ! (load ! (from ! (stop !)) (look ! 18 refl))
               (and_then ! (load ! (from ! (stop !)) (look ! 12 refl)) (no_more !)))))) (λ w-test-window.
               use1 𝓛 (later (some (λ (r : (denotes Window)). ((‵ (flft κ₀ q₀) ⊛ ‵ (flft κ₁ q₁)
               ⊛ ‵ (flft (ν₀-test-window ∷ []) full_share) ⊛ ‵ ftrue) ⊛ ‵ ((row_of Window).own_val r (w-test-window ∷ [])))
-              ⊛ raw (ensured 𝓛 test-window-ended (test-window-clauses test-window-out test-window-x-scratch 𝓤)
-              (κ₀, (κ₁, (ν₀-test-window ∷ [], tt))) (test-window-args δ₀-test-window x.state x.z-x-scratch) tt r))))
+              ⊛ raw (ensured 𝓛 test_window_ended (test-window-clauses test-window-out test-window-x-scratch 𝓤)
+              (κ₀, (κ₁, (ν₀-test-window ∷ [], tt))) (test-window-args δ₀-test-window x.state x.z_x_scratch) tt r))))
               (id⊢ 𝓤 _) $
               await ! tt $ pick ! (λ r-test-window. split ! $ bring ! (1 ∷ []) $
               use1 𝓛 (some (λ (zs-test-window : Unit {0} × (Unit {0} × (List ℕ × (Unit {0} × (Unit {0} × Unit {0}))))). ‵
-              (lasts test-window-ended
-              (κ₀, (κ₁, (ν₀-test-window ∷ [], tt))) (test-window-args δ₀-test-window x.state x.z-x-scratch)
+              (lasts test_window_ended
+              (κ₀, (κ₁, (ν₀-test-window ∷ [], tt))) (test-window-args δ₀-test-window x.state x.z_x_scratch)
               zs-test-window) ⊛ raw (fact 𝓤 (test-window-says test-window-out test-window-x-scratch x-map.now
-              x-catalogue.now x.z-x-scratch x-n x.state r-test-window zs-test-window.1.1.0)))) (id⊢ 𝓤 _) $
+              x-catalogue.now x.z_x_scratch x-n x.state r-test-window zs-test-window.1.1.0)))) (id⊢ 𝓤 _) $
               pick ! (λ zs-test-window. split ! $ bring ! (1 ∷ []) $
-              heard ! (test-window-says test-window-out test-window-x-scratch x-map.now x-catalogue.now x.z-x-scratch x-n
+              heard ! (test-window-says test-window-out test-window-x-scratch x-map.now x-catalogue.now x.z_x_scratch x-n
               x.state r-test-window zs-test-window.1.1.0) (λ e-test-window.
               fparts 𝓛 (_ ∷ _ ∷ _ ∷ _ ∷ _ ∷ []) _ $ discard ! (0 ∷ 0 ∷ 1 ∷ 1 ∷ []) $ fsplit ! $ bring ! (1 ∷ []) $
               feq_l ! (λ h-test-window-x-scratch. bring ! (1 ∷ []) $ split ! $ bring ! (1 ∷ []) $
@@ -521,8 +521,8 @@ module _ (Window : Value) where
               bring ! (0 ∷ 3 ∷ 2 ∷ []) $
               use3 𝓛 (later (‵ ((MutSlice (named 2) κ₂ u64).own_val (at-x-scratch x-scratch.name zs-test-window.1.1.0)
               (s-x-scratch ∷ [])) ⊛ ‵ (flft κ₂ q₂))) (comes_back u64 κ₂ (ν₀-test-window ∷ []) q₂ x-scratch.name
-              x-scratch.ref_ptr.0 x-scratch.ref_ptr.1 𝓛 (named 2) (named 2) x.z-x-scratch (length x-scratch.now)
-              x.l-x-scratch room-x-scratch δ₀-test-window zs-test-window.1.1.0 h-test-window-x-scratch) $
+              x-scratch.ref_ptr.0 x-scratch.ref_ptr.1 𝓛 (named 2) (named 2) x.z_x_scratch (length x-scratch.now)
+              x.l_x_scratch room-x-scratch δ₀-test-window zs-test-window.1.1.0 h-test-window-x-scratch) $
               await ! tt $ split ! $
               -- the turn is over
               bring ! (5 ∷ 2 ∷ 3 ∷ 2 ∷ 0 ∷ 0 ∷ []) $
@@ -530,7 +530,7 @@ module _ (Window : Value) where
               (from ! (stop !)) (store ! 12 refl (tt, record { fits = next_fits })) $
               forget ! 6 refl $ forget ! 8 refl $ forget ! 10 refl $
               again ! (Less size) I x (next r-test-window zs-test-window.1.1.0 (spelled r-test-window w-test-window
-              is-w-test-window) e-test-window (h-test-window-x-scratch ∙ x.l-x-scratch)) shorter))))))))
+              is-w-test-window) e-test-window (h-test-window-x-scratch ∙ x.l_x_scratch)) shorter))))))))
 
         turn_at : (x : At) → Sq 𝓛 (I x) (runs C Λ En (turn #test-window) (any_q (after_turn 𝓤 H (Next x) Left)))
         turn_at x = by_cases x.left refl

@@ -1,12 +1,12 @@
 -- `check` meets its contract, at each of its answers.
 -- Assumes nothing.
-use Rattle.block.proofs.Answers.{check-wrong, check_done}
+use Rattle.block.proofs.Answers.{check_wrong, check_done}
 use borrow.Author.Rules.{rules}
 use Rattle.block.proofs.check.Statement.{statement}
 use Rattle.block.proofs.check.Tie as tie
 
 returns : tie.Need-returns
-returns c = check-wrong c.before.before.args.block.now c.if1.true
+returns c = check_wrong c.before.before.args.block.now c.if1.true
 
 check-holds-requires : tie.Need-check-holds-requires
 check-holds-requires c κs = search rules

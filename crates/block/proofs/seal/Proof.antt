@@ -1,6 +1,6 @@
 -- `seal` meets its contract, at each of its answers.
 -- Assumes nothing.
-use Rattle.block.proofs.Answers.{seal-wrong-payload, seal-wrong-block, seal-done}
+use Rattle.block.proofs.Answers.{seal_wrong_payload, seal_wrong_block, seal_done}
 use borrow.Author.Rules.{rules}
 use Rattle.block.proofs.seal.Statement.{statement}
 use Rattle.block.proofs.seal.Tie as tie
@@ -8,13 +8,13 @@ use Rattle.block.proofs.seal.Tie as tie
 returns : tie.Need-returns
 returns c =
     let start = c.before.before.before in
-    seal-wrong-payload start.args.sheet start.args.place start.args.payload.now start.args.block.now
+    seal_wrong_payload start.args.sheet start.args.place start.args.payload.now start.args.block.now
     c.if1.true
 
 returns-2 : tie.Need-returns-2
 returns-2 c =
     let start = c.before.before.before.before in
-    seal-wrong-block start.args.sheet start.args.place start.args.payload.now start.args.block.now
+    seal_wrong_block start.args.sheet start.args.place start.args.payload.now start.args.block.now
     c.before.if1.false c.if2.true
 
 write-sealed-requires : tie.Need-write-sealed-requires
@@ -27,7 +27,7 @@ returns-3 : tie.Need-returns-3
 returns-3 c =
     let if2 = c.before.before.before.before in
     let start = if2.before.before.before.before in
-    seal-done start.args.sheet start.args.place start.args.payload.now start.args.block.now _
+    seal_done start.args.sheet start.args.place start.args.payload.now start.args.block.now _
     if2.before.if1.false if2.if2.false c.before.before.write-sealed.ensures
 
 pub seal_spec : {M : Type 1} → statement M

@@ -1,6 +1,6 @@
 -- `check_holds` meets its contract: it compares both sums.
 -- Assumes nothing.
-use Rattle.block_seals.proofs.Tests.{check-not-A, check-by-B}
+use Rattle.block_seals.proofs.Tests.{check_not_a, check_by_b}
 use borrow.Author.Rules.{rules}
 use Rattle.block_seals.proofs.check_holds.Statement.{statement}
 use Rattle.block_seals.proofs.check_holds.Tie as tie
@@ -23,7 +23,7 @@ get4-requires c κs = search rules
 returns : tie.Need-returns
 returns c =
     let sums-of = c.before.before.before in
-    check-not-A sums-of.before.before.before.args.block.now _ _ c.before.before.get4.ensures
+    check_not_a sums-of.before.before.before.args.block.now _ _ c.before.before.get4.ensures
     sums-of.sums-of.ensures.0 c.if1.true
 
 get4-requires-2 : tie.Need-get4-requires-2
@@ -33,7 +33,7 @@ returns-2 : tie.Need-returns-2
 returns-2 c =
     let if1 = c.before.before in
     let sums-of = if1.before.before.before in
-    check-by-B sums-of.before.before.before.args.block.now _ _ if1.before.before.get4.ensures
+    check_by_b sums-of.before.before.before.args.block.now _ _ if1.before.before.get4.ensures
     sums-of.sums-of.ensures.0 _ _ if1.if1.false
     c.before.get42.ensures sums-of.sums-of.ensures.1
 

@@ -7,7 +7,7 @@ use native.Mathlib.Omega.{arith}
 use lib.Dec.{eqb}
 use lib.ListN.{drop}
 use Rattle.block_seals.specs.Sealed.{blank}
-use Rattle.block_seals.proofs.Blank.{gather-more, gathered}
+use Rattle.block_seals.proofs.Blank.{gather_more, gathered}
 use borrow.Author.Rules.{rules}
 use Rattle.block_seals.proofs.is_blank.Statement.{statement}
 use Rattle.block_seals.proofs.is_blank.Tie as tie
@@ -34,7 +34,7 @@ loop-again : tie.Need-loop-preserved invariant-loop decreases-loop
 loop-again c =
     let loop = c.before.before in (
       search rules,
-      gather-more loop.before.args.block.now loop.loop.i loop.loop.all (omega arith)
+      gather_more loop.before.args.block.now loop.loop.i loop.loop.all (omega arith)
           ∙ loop.loop.invariant.1,
     )
 

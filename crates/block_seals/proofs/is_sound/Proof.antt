@@ -1,6 +1,6 @@
 -- `is_sound` meets its contract, at each of its answers.
 -- Assumes nothing.
-use Rattle.block_seals.proofs.Tests.{sound-not-sheet, sound-not-place, sound-by-check}
+use Rattle.block_seals.proofs.Tests.{sound_not_sheet, sound-not-place, sound-by-check}
 use borrow.Author.Rules.{rules}
 use Rattle.block_seals.proofs.is_sound.Statement.{statement}
 use Rattle.block_seals.proofs.is_sound.Tie as tie
@@ -11,7 +11,7 @@ get4-requires c κs = search rules
 returns : tie.Need-returns
 returns c =
     let start = c.before.before.before in
-    sound-not-sheet _ start.args.place _ 0 start.args.block.now c.before.get4.ensures c.if1.true
+    sound_not_sheet _ start.args.place _ 0 start.args.block.now c.before.get4.ensures c.if1.true
 
 get4-requires-2 : tie.Need-get4-requires-2
 get4-requires-2 c κs = search rules

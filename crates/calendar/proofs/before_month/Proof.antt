@@ -2,7 +2,7 @@
 -- Assumes nothing.
 use native.Mathlib.Omega.{arith}
 use borrow.Author.Rules.{rules}
-use Rattle.calendar.proofs.Formulas.{early-month, late-month}
+use Rattle.calendar.proofs.Formulas.{early_month, late_month}
 use Rattle.calendar.proofs.before_month.Statement.{statement}
 use Rattle.calendar.proofs.before_month.Tie as tie
 
@@ -14,7 +14,7 @@ mul-result c = search rules
 
 returns : tie.Need-returns
 returns c = (
-  early-month c.before.args.leap c.before.args.month c.before.requires.1 c.before.requires.2
+  early_month c.before.args.leap c.before.args.month c.before.requires.1 c.before.requires.2
       c.if1.true,
   omega arith,
 )
@@ -33,7 +33,7 @@ add-result-2 c = search rules
 
 returns-2 : tie.Need-returns-2
 returns-2 c = (
-  late-month c.before.args.leap c.before.args.month c.before.requires.1 c.before.requires.2
+  late_month c.before.args.leap c.before.args.month c.before.requires.1 c.before.requires.2
       c.if1.false,
   omega arith,
 )

@@ -6,7 +6,7 @@ use native.Mathlib.Omega.{arith}
 use Rattle.calendar.specs.Calendar.{before_month}
 use borrow.Author.Rules.{rules}
 use Rattle.calendar.proofs.Formulas.{day_told, no_date}
-use Rattle.calendar.proofs.Dates.{date-of, day_most}
+use Rattle.calendar.proofs.Dates.{date_of_lem, day_most}
 use Rattle.calendar.proofs.day_number.Statement.{statement}
 use Rattle.calendar.proofs.day_number.Tie as tie
 
@@ -14,20 +14,20 @@ is-date-requires : tie.Need-is-date-requires
 is-date-requires c κs = search rules
 
 sub-years : tie.Need-overflow-sub-years
-sub-years c = omega (arith, (date-of _ _ _ (sym c.before.is-date.ensures ∙ c.if1.true)).year-low)
+sub-years c = omega (arith, (date_of_lem _ _ _ (sym c.before.is-date.ensures ∙ c.if1.true)).year-low)
 
 leap-day-requires : tie.Need-leap-day-requires
 leap-day-requires c κs = search rules
 
 before-month-requires : tie.Need-before-month-requires
 before-month-requires c κs =
-    let date = date-of _ _ _ (sym c.before.before.is-date.ensures ∙ c.before.if1.true) in
+    let date = date_of_lem _ _ _ (sym c.before.before.is-date.ensures ∙ c.before.if1.true) in
     (c.leap-day.ensures.1, date.month_low, date.month_high)
 
 mul-t8 : tie.Need-overflow-mul-t8
 mul-t8 c = omega (
   arith,
-  (date-of _ _ _ (sym c.before.before.before.is-date.ensures ∙ c.before.before.if1.true)
+  (date_of_lem _ _ _ (sym c.before.before.before.is-date.ensures ∙ c.before.before.if1.true)
       ).year_high,
 )
 
@@ -37,14 +37,14 @@ add-t9 c = search rules
 add-t11 : tie.Need-overflow-add-t11
 add-t11 c = omega (
   arith,
-  (date-of _ _ _ (sym c.before.before.before.is-date.ensures ∙ c.before.before.if1.true)
+  (date_of_lem _ _ _ (sym c.before.before.before.is-date.ensures ∙ c.before.before.if1.true)
       ).year_high,
 )
 
 add-t12 : tie.Need-overflow-add-t12
 add-t12 c = omega (
   arith,
-  (date-of _ _ _ (sym c.before.before.before.is-date.ensures ∙ c.before.before.if1.true)
+  (date_of_lem _ _ _ (sym c.before.before.before.is-date.ensures ∙ c.before.before.if1.true)
       ).year_high,
   c.before-month.ensures.1,
 )
@@ -52,13 +52,13 @@ add-t12 c = omega (
 sub-t13 : tie.Need-overflow-sub-t13
 sub-t13 c = omega (
   arith,
-  (date-of _ _ _ (sym c.before.before.before.is-date.ensures ∙ c.before.before.if1.true)
+  (date_of_lem _ _ _ (sym c.before.before.before.is-date.ensures ∙ c.before.before.if1.true)
       ).day_low,
 )
 
 add-t14 : tie.Need-overflow-add-t14
 add-t14 c =
-    let date = date-of _ _ _ (sym c.before.before.before.is-date.ensures ∙ c.before.before.if1.true) in
+    let date = date_of_lem _ _ _ (sym c.before.before.before.is-date.ensures ∙ c.before.before.if1.true) in
     omega (arith, date.year_high, c.before-month.ensures.1, day_most _ _ _ date)
 
 returns : tie.Need-returns

@@ -2,7 +2,7 @@
 -- Assumes nothing.
 use mathlib.Core.Path.{sym, ◌∙◌}
 use borrow.Author.Rules.{rules}
-use Rattle.calendar.proofs.Dates.{span_low, span_high, date-tested, no-month, no-year}
+use Rattle.calendar.proofs.Dates.{span_low, span_high, date_tested, no_month, no_year}
 use Rattle.calendar.proofs.is_date.Statement.{statement}
 use Rattle.calendar.proofs.is_date.Tie as tie
 
@@ -27,17 +27,17 @@ returns : tie.Need-returns
 returns c =
     let if2 = c.before.before.before in
     let if1 = if2.before.before in
-    date-tested _ if1.before.before.args.month _ _ _ _
+    date_tested _ if1.before.before.args.month _ _ _ _
     (sym if1.before.in-span.ensures ∙ if1.if1.true) (sym if2.before.in-span2.ensures ∙ if2.if2.true)
     c.in-span3.ensures c.before.month-length.ensures c.before.before.leap-day.ensures.0
 
 returns-2 : tie.Need-returns-2
-returns-2 c = no-month _ _ c.before.before.before.before.args.day
+returns-2 c = no_month _ _ c.before.before.before.before.args.day
     (sym c.before.before.before.in-span.ensures ∙ c.before.before.if1.true)
     (sym c.before.in-span2.ensures ∙ c.if2.false)
 
 returns-3 : tie.Need-returns-3
-returns-3 c = no-year _ c.before.before.args.month c.before.before.args.day
+returns-3 c = no_year _ c.before.before.args.month c.before.before.args.day
     (sym c.before.in-span.ensures ∙ c.if1.false)
 
 pub is_date_spec : {M : Type 1} → statement M

@@ -1,12 +1,12 @@
 -- `write_term` meets its contract: two parts of four bytes are lent, one behind the other.
 -- Assumes nothing.
 use borrow.Author.Rules.{rules}
-use Rattle.calendar.proofs.Terms.{wrong-length, done}
+use Rattle.calendar.proofs.Terms.{wrong_length, done}
 use Rattle.calendar.proofs.write_term.Statement.{statement}
 use Rattle.calendar.proofs.write_term.Tie as tie
 
 returns : tie.Need-returns
-returns c = wrong-length c.before.before.args.payload.now _ _ c.if1.true
+returns c = wrong_length c.before.before.args.payload.now _ _ c.if1.true
 
 sub-put4 : tie.Need-overflow-sub-put4
 sub-put4 c = search rules

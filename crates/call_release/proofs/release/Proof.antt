@@ -8,7 +8,7 @@ use borrow.Author.Rules.{rules}
 use Rattle.catalogue_standings.specs.Rows.{refused}
 use Rattle.roles.specs.Roles as names
 use Rattle.roles.specs.Roles.{turned_away}
-use Rattle.refusals.specs.Effects.{releaseVerdict, releaseOut, releaseMap, releaseSummary}
+use Rattle.refusals.specs.Effects.{release_verdict, release_out, release_map, release_summary}
 use Rattle.refusals.specs.Lent.{Lent, lent_beside, called_by, no_card}
 use Rattle.refusals.specs.Table.{on, release}
 use Rattle.refusals.specs.Views.{view_at}
@@ -18,18 +18,18 @@ use Rattle.refusals.proofs.Turned.{turned_first}
 use Rattle.call_release.proofs.release.Statement.{statement}
 use Rattle.call_release.proofs.release.Tie as tie
 
-turned-verdict : (q : Lent) → q.turned ≡ true → releaseVerdict q ≡ refused 21
-unfolding releaseVerdict view_at
+turned-verdict : (q : Lent) → q.turned ≡ true → release_verdict q ≡ refused 21
+unfolding release_verdict view_at
 turned-verdict q e = turned_first (view_at q) (on q.sheet release) e
 
 -- one who may make the call is not turned away
 allowed : (q : Lent) (t : Bool) (r : Out) (map summary : List ℕ) → t ≡ false
-    → (r ≡ releaseOut (called_by false q)) × (map ≡ releaseMap (called_by false q)) × (summary ≡ releaseSummary (called_by false
+    → (r ≡ release_out (called_by false q)) × (map ≡ release_map (called_by false q)) × (summary ≡ release_summary (called_by false
     q))
-    → (r ≡ releaseOut (called_by t q)) × (map ≡ releaseMap (called_by t q)) × (summary ≡ releaseSummary (called_by t q))
+    → (r ≡ release_out (called_by t q)) × (map ≡ release_map (called_by t q)) × (summary ≡ release_summary (called_by t q))
 allowed q t r map summary e h =
-    subst (λ (u : Bool). (r ≡ releaseOut (called_by u q)) × (map ≡ releaseMap (called_by u q))
-    × (summary ≡ releaseSummary (called_by u q))) (sym e) h
+    subst (λ (u : Bool). (r ≡ release_out (called_by u q)) × (map ≡ release_map (called_by u q))
+    × (summary ≡ release_summary (called_by u q))) (sym e) h
 
 turned-away-requires : tie.Need-turned-away-requires
 turned-away-requires c κs = search rules

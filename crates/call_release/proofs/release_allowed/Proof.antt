@@ -15,7 +15,7 @@ use Rattle.refusals.specs.Guides.{guide_fits, guide_after}
 use Rattle.catalogue_standings.specs.Openings.{refused_row}
 use Rattle.catalogue_standings.specs.Rows.{accepted, refused}
 use Rattle.catalogue_standings.specs.declared.Opened.TheVariants.{Stands}
-use Rattle.refusals.proofs.Guides.{guide-shut-at, guide-open-at, guided-so}
+use Rattle.refusals.proofs.Guides.{guide_shut_at, guide_open_at, guided_so}
 use Rattle.refusals.proofs.Release.{out, shut, absent, limits, in_map, over, passes}
 use Rattle.call_release.proofs.release_allowed.Statement.{statement}
 use Rattle.call_release.proofs.release_allowed.Tie as tie
@@ -30,7 +30,7 @@ returns : tie.Need-returns
 returns c =
     let a = c.before.before.before.before.before.args in
     let q = lent_beside a.guided a.summary.now a.n a.free a.map.now no_card a.c a.entry a.sheet in
-    let shuts = guide-shut-at q refl (fails c.before.before.guide-fits.ensures c.before.if1.true) in
+    let shuts = guide_shut_at q refl (fails c.before.before.guide-fits.ensures c.before.if1.true) in
     out q (refused 1) (shut q 1 refl shuts) _ _ _ c.refusal.ensures refl refl
 
 open-sheet-requires : tie.Need-open-sheet-requires
@@ -58,7 +58,7 @@ returns-2 c =
     let q = lent_beside a.guided a.summary.now a.n a.free a.map.now no_card a.c a.entry a.sheet in
     let told = c.before.before.enum_told.given in
     out q (refused told.0.0)
-    (shut q told.0.0 (guide-open-at q opening.open_sheet.result refl
+    (shut q told.0.0 (guide_open_at q opening.open_sheet.result refl
     (holds opening.before.before.before.guide-fits.ensures
     opening.before.before.if1.false)
     opening.open_sheet.ensures) told.1) _ _ _
@@ -79,7 +79,7 @@ returns-3 c =
     let a = opening.before.before.before.before.before.before.args in
     let q = lent_beside a.guided a.summary.now a.n a.free a.map.now no_card a.c a.entry a.sheet in
     out q (refused 5)
-    (absent q (guide-open-at q opening.open_sheet.result refl
+    (absent q (guide_open_at q opening.open_sheet.result refl
     (holds opening.before.before.before.guide-fits.ensures
     opening.before.before.if1.false)
     opening.open_sheet.ensures)
@@ -95,7 +95,7 @@ sub-if2 c =
     omega (
       arith,
       (limits q c.before.before.opened.given.0.0
-          (guide-open-at q opening.open_sheet.result refl
+          (guide_open_at q opening.open_sheet.result refl
           (holds opening.before.before.before.guide-fits.ensures
           opening.before.before.if1.false)
           opening.open_sheet.ensures) c.before.before.opened.given.1).spare,
@@ -114,7 +114,7 @@ returns-4 c =
     let q = lent_beside a.guided a.summary.now a.n a.free a.map.now no_card a.c a.entry a.sheet in
     out q (refused 4)
     (over q c.before.before.before.before.opened.given.0.0
-    (guide-open-at q opening.open_sheet.result refl
+    (guide_open_at q opening.open_sheet.result refl
     (holds opening.before.before.before.guide-fits.ensures
     opening.before.before.if1.false)
     opening.open_sheet.ensures)
@@ -128,7 +128,7 @@ mark-requires c κs =
     let a = opening.before.before.before.before.before.before.args in
     let q = lent_beside a.guided a.summary.now a.n a.free a.map.now no_card a.c a.entry a.sheet in
     in_map q c.before.before.before.before.opened.given.0.0
-    (guide-open-at q opening.open_sheet.result refl
+    (guide_open_at q opening.open_sheet.result refl
     (holds opening.before.before.before.guide-fits.ensures
     opening.before.before.if1.false)
     opening.open_sheet.ensures)
@@ -141,7 +141,7 @@ follow-requires c κs =
     let q = lent_beside a.guided a.summary.now a.n a.free a.map.now no_card a.c a.entry a.sheet in
     let test =
     (holds opening.before.before.before.guide-fits.ensures opening.before.before.if1.false) in
-    let opens = guide-open-at q opening.open_sheet.result refl
+    let opens = guide_open_at q opening.open_sheet.result refl
     (holds opening.before.before.before.guide-fits.ensures opening.before.before.if1.false)
     opening.open_sheet.ensures in
     let f = limits q c.before.before.before.before.before.before.before.before.before.opened.given.0.0 opens
@@ -154,7 +154,7 @@ follow-requires c κs =
       omega (arith, f.words, f.limit),
       omega (arith, f.covered),
       omega (arith, inside.1),
-      subst (λ (w : ℕ). guide_fits a.guided a.summary.now w ≡ true) (sym same) (guided-so q test),
+      subst (λ (w : ℕ). guide_fits a.guided a.summary.now w ≡ true) (sym same) (guided_so q test),
     )
 
 add-t20 : tie.Need-overflow-add-t20
@@ -164,7 +164,7 @@ add-t20 c =
     let a = opening.before.before.before.before.before.before.args in
     let q = lent_beside a.guided a.summary.now a.n a.free a.map.now no_card a.c a.entry a.sheet in
     let f = limits q c.before.before.before.before.before.before.before.before.before.before.before.before.opened.given.0.0
-    (guide-open-at q opening.open_sheet.result refl
+    (guide_open_at q opening.open_sheet.result refl
     (holds opening.before.before.before.guide-fits.ensures
     opening.before.before.if1.left)
     opening.open_sheet.ensures)
@@ -185,7 +185,7 @@ returns-5 c =
     let q = lent_beside a.guided a.summary.now a.n a.free a.map.now no_card a.c a.entry a.sheet in
     out q accepted
     (passes q c.before.before.before.before.before.before.before.before.before.before.before.before.opened.given.0.0
-    (guide-open-at q opening.open_sheet.result refl
+    (guide_open_at q opening.open_sheet.result refl
     (holds opening.before.before.before.guide-fits.ensures
     opening.before.before.if1.left)
     opening.open_sheet.ensures)

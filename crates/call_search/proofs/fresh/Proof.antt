@@ -34,10 +34,10 @@ module _ (n maplen c : ℕ) where
 -- the number and the map, by the verdict
 module _ (turned : Bool) (n : ℕ) (map after : List ℕ) (c : ℕ) where
   settled : (v : Verdict) → fresh_verdict turned n (length map) c ≡ v
-      → after ≡ settle v (maps.freshMap n (length map)) (λ number. map)
+      → after ≡ settle v (maps.fresh_map n (length map)) (λ number. map)
       → (row_number v ≡ fresh_number turned n map c) × (after ≡ fresh_map turned n map c)
   settled v e h =
-      (ap row_number (sym e), h ∙ ap (λ (w : Verdict). settle w (maps.freshMap n (length map)) (λ number. map)) (sym e))
+      (ap row_number (sym e), h ∙ ap (λ (w : Verdict). settle w (maps.fresh_map n (length map)) (λ number. map)) (sym e))
 
   away : turned ≡ true → fresh_verdict turned n (length map) c ≡ refused 21
   unfolding fresh_verdict

@@ -4,7 +4,7 @@ use mathlib.Core.Bool.{Bool}
 use mathlib.Core.Path.{sym, ap, ◌∙◌}
 use borrow.Author.Rules.{rules}
 use Rattle.catalogue_standings.specs.Rows.{refused}
-use Rattle.call_summary.specs.Answers.{buildAnswer, builtSummary}
+use Rattle.call_summary.specs.Answers.{build_answer, built_summary}
 use Rattle.call_summary.proofs.Fits.{build-told, build-left, away}
 use Rattle.call_summary.proofs.build_summary.Statement.{statement}
 use Rattle.call_summary.proofs.build_summary.Tie as tie
@@ -34,9 +34,9 @@ returns-2 c =
     let a = role.before.before.before.before.args in
     let may = sym (sym role.before.turned-away.ensures ∙ role.if1.false) in (
       built.rebuild-summary.ensures.0
-          ∙ ap (λ (t : Bool). buildAnswer t a.n a.free a.map.now a.summary.now) may,
+          ∙ ap (λ (t : Bool). build_answer t a.n a.free a.map.now a.summary.now) may,
       built.rebuild-summary.ensures.1
-          ∙ ap (λ (t : Bool). builtSummary t a.n a.free a.map.now a.summary.now) may,
+          ∙ ap (λ (t : Bool). built_summary t a.n a.free a.map.now a.summary.now) may,
     )
 
 pub build_summary_spec : {M : Type 1} → statement M

@@ -6,9 +6,9 @@ use contract.Running.{tables, tables_of}
 use denote.Triple.Spec.{triple_of}
 use denote.Triple.Table.{entered, cited}
 use Rattle.std.proofs.Common.{length}
-use Rattle.image_soundness.specs.Windows.{tested, testedScratch}
+use Rattle.image_soundness.specs.Windows.{tested, tested_scratch}
 use Rattle.closing.specs.Rounds.{rounds_at, rounds_entries, rounds_card}
-use Rattle.closing.specs.Rounds.{firstTally, number_by, rounds_for, map_after, ClosesBy}
+use Rattle.closing.specs.Rounds.{first_tally, number_by, rounds_for, map_after, ClosesBy}
 use Rattle.closing.proofs.Closes.{closes}
 use Rattle.catalogue.proofs.Values.{Value, value_of}
 use Rattle.image_soundness.specs.contracts.Tally as Tally'
@@ -44,14 +44,14 @@ close_spec 𝓤 𝓛 𝓜 𝓡 =
     entered 𝓤 𝓛.H (triple_of 𝓛 close.signature (close.spec 𝓛 𝓜.mem 𝓡.run))
     (tables 𝓤 𝓛.H 𝓜 𝓡 code.env).C (tables 𝓤 𝓛.H 𝓜 𝓡 code.env).Λ #close code.function (code.unfolded 𝓤 𝓛.H 𝓜 𝓡)
     (meets Tally count-def.name begin-def.name test-def.name verdict-def.name rounds-for-def.name close-rounds-def.name
-    close-map-def.name length firstTally tested testedScratch number_by rounds_for rounds_at rounds_entries rounds_card map_after
+    close-map-def.name length first_tally tested tested_scratch number_by rounds_for rounds_at rounds_entries rounds_card map_after
     ClosesBy closes
     𝓛 (tables_of 𝓤 𝓛.H 𝓜 (tables 𝓤 𝓛.H 𝓜 𝓡 code.env))
     (cited 𝓤 𝓛.H (count-contract Tally length 𝓤 𝓛) 𝓜 𝓡 code.env count-def.name count-def.routine code.calls-catalogue::count
     (count-met.met 𝓤 𝓛 𝓜 𝓡))
-    (cited 𝓤 𝓛.H (begin-contract Tally firstTally 𝓤 𝓛) 𝓜 𝓡 code.env begin-def.name begin-def.routine
+    (cited 𝓤 𝓛.H (begin-contract Tally first_tally 𝓤 𝓛) 𝓜 𝓡 code.env begin-def.name begin-def.routine
     code.calls-closing::begin (begin-met.met 𝓤 𝓛 𝓜 𝓡))
-    (cited 𝓤 𝓛.H (test-contract Tally tested testedScratch 𝓤 𝓛) 𝓜 𝓡 code.env test-def.name test-def.routine
+    (cited 𝓤 𝓛.H (test-contract Tally tested tested_scratch 𝓤 𝓛) 𝓜 𝓡 code.env test-def.name test-def.routine
     code.calls-image-windows::test-sound (test-met.met 𝓤 𝓛 𝓜 𝓡))
     (cited 𝓤 𝓛.H (verdict-contract Tally number_by 𝓤 𝓛) 𝓜 𝓡 code.env verdict-def.name verdict-def.routine
     code.calls-closing::verdict (verdict-met.met 𝓤 𝓛 𝓜 𝓡))

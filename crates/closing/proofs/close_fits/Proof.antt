@@ -1,7 +1,7 @@
 -- `close_fits` meets its contract, test by test.
 -- Assumes nothing.
 use Rattle.catalogue_standings.proofs.Tested.{fails, holds}
-use Rattle.closing.proofs.Steps.{not_saved, wrong-card, by-the-rest}
+use Rattle.closing.proofs.Steps.{not_saved, wrong_card, by_the_rest}
 use Rattle.std.proofs.Common.{rules}
 use Rattle.closing.proofs.close_fits.Statement.{statement}
 use Rattle.closing.proofs.close_fits.Tie as tie
@@ -17,11 +17,11 @@ mul-if2 c = search rules
 
 returns-2 : tie.Need-returns-2
 returns-2 c =
-    wrong-card _ _ _ _ _ _ _ (holds c.before.before.save-fits.ensures c.before.if1.false) c.if2.true
+    wrong_card _ _ _ _ _ _ _ (holds c.before.before.save-fits.ensures c.before.if1.false) c.if2.true
 
 returns-3 : tie.Need-returns-3
 returns-3 c =
-    by-the-rest _ _ _ _ _ _ _ (holds c.before.before.save-fits.ensures c.before.if1.false) c.if2.false
+    by_the_rest _ _ _ _ _ _ _ (holds c.before.before.save-fits.ensures c.before.if1.false) c.if2.false
 
 pub close_fits_spec : {M : Type 1} → statement M
 close_fits_spec = tie.close (tie.spec save-fits-requires returns mul-if2 returns-2 returns-3)

@@ -3,13 +3,13 @@
 use Rattle.std.proofs.Common.{ℕ, false, List, ap, ◌∙◌, arith, rules}
 use Rattle.catalogue_standings.proofs.Tested.{fails, holds}
 use Rattle.map_blocks.specs.Maps.{marked}
-use Rattle.closing.proofs.Steps.{map-fits-to, refused-map, unfit-map, marked_map}
+use Rattle.closing.proofs.Steps.{map_fits_to, refused_map, unfit-map, marked_map}
 use Rattle.closing.proofs.Taken.{taken_first_map}
 use Rattle.closing.proofs.close_map.Statement.{statement}
 use Rattle.closing.proofs.close_map.Tie as tie
 
 returns : tie.Need-returns
-returns c = refused-map _ _ _ _ c.if1.true
+returns c = refused_map _ _ _ _ c.if1.true
 
 map-fits-requires : tie.Need-map-fits-requires
 map-fits-requires c κs = search rules
@@ -20,12 +20,12 @@ returns-2 c =
 
 fresh-requires : tie.Need-fresh-requires
 fresh-requires c κs =
-    (map-fits-to _ _ _ (holds c.before.before.map-fits.ensures c.before.if2.false)).words
+    (map_fits_to _ _ _ (holds c.before.before.map-fits.ensures c.before.if2.false)).words
 
 mark-requires : tie.Need-mark-requires
 mark-requires c κs =
     let at = c.before.before.before.before.before in
-    let l = map-fits-to _ _ _ (holds at.before.map-fits.ensures at.if2.false) in
+    let l = map_fits_to _ _ _ (holds at.before.map-fits.ensures at.if2.false) in
     (omega (arith, l.limit, l.blocks), omega (arith, l.room, l.blocks))
 
 same_length : tie.Need-same-length

@@ -1,7 +1,7 @@
 -- `verdict` meets its contract, row by row.
 -- Assumes nothing.
 use Rattle.std.proofs.Common.{sym, ◌∙◌, rules}
-use Rattle.closing.proofs.Steps.{verdict-21, verdict-1, verdict-0, verdict-4}
+use Rattle.closing.proofs.Steps.{verdict_21, verdict-1, verdict-0, verdict-4}
 use Rattle.closing.proofs.verdict.Statement.{statement}
 use Rattle.closing.proofs.verdict.Tie as tie
 
@@ -9,7 +9,7 @@ turned-away-requires : tie.Need-turned-away-requires
 turned-away-requires c κs = search rules
 
 returns : tie.Need-returns
-returns c = verdict-21 _ _ _ (sym c.before.turned-away.ensures ∙ c.if1.true)
+returns c = verdict_21 _ _ _ (sym c.before.turned-away.ensures ∙ c.if1.true)
 
 returns-2 : tie.Need-returns-2
 returns-2 c =

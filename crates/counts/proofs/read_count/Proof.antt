@@ -1,12 +1,12 @@
 -- `read_count` meets its contract, at each of its answers.
 -- Assumes nothing.
-use Rattle.counts.proofs.Tests.{read-wrong, read_told, read_none}
+use Rattle.counts.proofs.Tests.{read_wrong, read_told, read_none}
 use borrow.Author.Rules.{rules}
 use Rattle.counts.proofs.read_count.Statement.{statement}
 use Rattle.counts.proofs.read_count.Tie as tie
 
 returns : tie.Need-returns
-returns c = read-wrong c.before.before.args.payload.now c.before.before.args.which c.if1.true
+returns c = read_wrong c.before.before.args.payload.now c.before.before.args.which c.if1.true
 
 mul-get4 : tie.Need-overflow-mul-get4
 mul-get4 c = search rules

@@ -1,7 +1,7 @@
 -- `write_count` meets its contract, at each of its answers: the part that is lent is the four bytes of the count.
 -- Assumes nothing.
 use mathlib.Core.Path.{sym, ◌∙◌}
-use Rattle.counts.proofs.Tests.{write-wrong, write-none, write-range, write_done}
+use Rattle.counts.proofs.Tests.{write_wrong, write-none, write-range, write_done}
 use borrow.Author.Rules.{rules}
 use Rattle.counts.proofs.write_count.Statement.{statement}
 use Rattle.counts.proofs.write_count.Tie as tie
@@ -9,7 +9,7 @@ use Rattle.counts.proofs.write_count.Tie as tie
 returns : tie.Need-returns
 returns c =
     let start = c.before.before in
-    write-wrong start.args.payload.now start.args.which start.args.count c.if1.true
+    write_wrong start.args.payload.now start.args.which start.args.count c.if1.true
 
 returns-2 : tie.Need-returns-2
 returns-2 c =

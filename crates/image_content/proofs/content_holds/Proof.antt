@@ -7,8 +7,8 @@ use Prim.Native.Nat.{ℕ}
 use native.Mathlib.Omega.{arith}
 use Rattle.image.specs.Image.{state_in, filled, blocks_in, sheets_in}
 use Rattle.image_soundness.specs.Sound.{sound}
-use Rattle.image.proofs.Fitting.{head-to}
-use Rattle.image_content.proofs.Contents.{content-sound, content-filled}
+use Rattle.image.proofs.Fitting.{head_to}
+use Rattle.image_content.proofs.Contents.{content_sound, content_filled}
 use borrow.Author.Rules.{rules}
 use Rattle.image_content.proofs.content_holds.Statement.{statement}
 use Rattle.image_content.proofs.content_holds.Tie as tie
@@ -25,11 +25,11 @@ module _ (image : List ℕ) where
   by-fill passed answer e r f = f ∙ ap (λ (s : Bool). s && fill) (sym r ∙ e)
 
 sub-t9 : tie.Need-overflow-sub-t9
-sub-t9 c = let h = head-to _ _ _ _ c.before.before.requires.3 in omega (arith, h.limits.spare)
+sub-t9 c = let h = head_to _ _ _ _ c.before.before.requires.3 in omega (arith, h.limits.spare)
 
 tally-in-requires : tie.Need-tally-in-requires
 tally-in-requires c κs =
-    let h = head-to _ _ _ _ c.before.before.requires.3 in
+    let h = head_to _ _ _ _ c.before.before.requires.3 in
     (refl, h.count.few, omega (arith, h.exact))
 
 first-window-requires : tie.Need-first-window-requires
@@ -38,7 +38,7 @@ first-window-requires c κs = search rules
 test-windows-requires : tie.Need-test-windows-requires
 test-windows-requires c κs =
     let pre = c.before.before.before.before.before.requires in
-    let h = head-to _ _ _ _ pre.3 in
+    let h = head_to _ _ _ _ pre.3 in
     (h.limits.limit, h.count.few, omega (arith, h.exact), omega (arith, pre.4))
 
 same_length : tie.Need-same-length
@@ -49,34 +49,34 @@ returns c =
     let start = c.before.before.before.before.before.before.before.before.before in
     let a = start.args in
     let pre = start.requires in
-    let h = head-to _ _ _ _ pre.3 in
-    unsound a.image.now _ (content-sound a.image.now a.n a.free a.c pre.0 pre.1 pre.2 h.shape
+    let h = head_to _ _ _ _ pre.3 in
+    unsound a.image.now _ (content_sound a.image.now a.n a.free a.c pre.0 pre.1 pre.2 h.shape
     a.scratch.now pre.4 _ _ _ c.before.before.before.before.before.before.tally-in.ensures
     c.before.before.before.before.before.first-window.ensures c.before.before.before.test-windows.ensures)
     (ap not c.if1.true)
 
 mul-zeros-from : tie.Need-overflow-mul-zeros-from
 mul-zeros-from c =
-    let h = head-to _ _ _ _ c.before.before.before.before.before.before.before.before.before.requires.3 in
+    let h = head_to _ _ _ _ c.before.before.before.before.before.before.before.before.before.requires.3 in
     omega (arith, h.count.few)
 
 add-zeros-from : tie.Need-overflow-add-zeros-from
 add-zeros-from c =
-    let h = head-to _ _ _ _ c.before.before.before.before.before.before.before.before.before.requires.3 in
+    let h = head_to _ _ _ _ c.before.before.before.before.before.before.before.before.before.requires.3 in
     omega (arith, h.count.few)
 
 words-for-requires : tie.Need-words-for-requires
 words-for-requires c κs =
-    (head-to _ _ _ _ c.before.before.before.before.before.before.before.before.before.requires.3).limits.limit
+    (head_to _ _ _ _ c.before.before.before.before.before.before.before.before.before.requires.3).limits.limit
 
 mul-zeros-from-2 : tie.Need-overflow-mul-zeros-from-2
 mul-zeros-from-2 c =
-    let h = head-to _ _ _ _ c.before.before.before.before.before.before.before.before.before.before.requires.3 in
+    let h = head_to _ _ _ _ c.before.before.before.before.before.before.before.before.before.before.requires.3 in
     omega (arith, h.count.few, h.limits.limit)
 
 add-zeros-from-2 : tie.Need-overflow-add-zeros-from-2
 add-zeros-from-2 c =
-    let h = head-to _ _ _ _ c.before.before.before.before.before.before.before.before.before.before.requires.3 in
+    let h = head_to _ _ _ _ c.before.before.before.before.before.before.before.before.before.before.requires.3 in
     omega (arith, h.count.few, h.limits.limit)
 
 zeros-from-requires : tie.Need-zeros-from-requires
@@ -90,12 +90,12 @@ returns-2 c =
     let start = c.before.before.before.before.before.before.before.before.before.before.before in
     let a = start.args in
     let pre = start.requires in
-    let h = head-to _ _ _ _ pre.3 in
-    by-fill a.image.now _ _ (content-sound a.image.now a.n a.free a.c pre.0 pre.1 pre.2 h.shape
+    let h = head_to _ _ _ _ pre.3 in
+    by-fill a.image.now _ _ (content_sound a.image.now a.n a.free a.c pre.0 pre.1 pre.2 h.shape
     a.scratch.now pre.4 _ _ _ c.before.before.before.before.before.before.before.before.tally-in.ensures
     c.before.before.before.before.before.before.before.first-window.ensures
     c.before.before.before.before.before.test-windows.ensures) (ap not c.before.before.if1.false)
-    (c.zeros-from.ensures ∙ content-filled a.image.now a.n a.free a.c pre.0 pre.1 pre.2 _
+    (c.zeros-from.ensures ∙ content_filled a.image.now a.n a.free a.c pre.0 pre.1 pre.2 _
     c.before.words-for.ensures)
 
 pub content_holds_spec : {M : Type 1} → statement M

@@ -4,7 +4,7 @@ use mathlib.Core.Path.{sym}
 use native.Mathlib.Omega.{arith}
 use lib.ListN.{length-take}
 use lib.Seq.{length-take-le}
-use Rattle.image_content.proofs.Filling.{window-read}
+use Rattle.image_content.proofs.Filling.{window_read}
 use borrow.Author.Rules.{rules}
 use Rattle.image_content.proofs.fill_in.Statement.{statement}
 use Rattle.image_content.proofs.fill_in.Tie as tie
@@ -64,7 +64,7 @@ returns c =
     let far = c.before.before.before.before.before.before.before.before in
     let a = far.before.before.before.before.before.before.args in
     let w = far.before.before.before.words-for.ensures in
-    window-read a.image.now a.n a.c far.before.lesser.result far.lesser2.result a.window
+    window_read a.image.now a.n a.c far.before.lesser.result far.lesser2.result a.window
     a.scratch.now
     (omega arith) (omega (arith, w, far.before.lesser.ensures)) (omega (arith, w, far.lesser2.ensures))
     _ _ c.before.before.before.before.before.before.clear.ensures c.before.before.read-words.ensures

@@ -5,8 +5,8 @@ use Prim.Native.Nat.{◌-◌, ◌≤◌}
 use native.Mathlib.Omega.{arith}
 use Rattle.image_frames.specs.Frames.{body_of}
 use Rattle.image.specs.Image.{entries_in}
-use Rattle.image_content.proofs.EntriesFrom.{rest, rest-none, rest_in, rest_across, together-room, together-first}
-use Rattle.image_content.proofs.Passing.{Left, left-from, left_end, one-released, some-released}
+use Rattle.image_content.proofs.EntriesFrom.{rest, rest_none, rest_in, rest_across, together_room, together_first}
+use Rattle.image_content.proofs.Passing.{Left, left_from, left_end, one_released, some_released}
 use borrow.Author.Rules.{rules}
 use Rattle.image_content.proofs.release_in.Statement.{statement}
 use Rattle.image_content.proofs.release_in.Tie as tie
@@ -19,7 +19,7 @@ abbrev decreases-loop : tie.decreases-loop
 decreases-loop scratch₀ image c window₀ sheet₀ scratch window sheet = c - sheet
 
 loop-holds : tie.Need-loop-init invariant-loop decreases-loop
-loop-holds c = (omega arith, left-from _ _ _ _ (rest_in _ _))
+loop-holds c = (omega arith, left_from _ _ _ _ (rest_in _ _))
 
 together-requires : tie.Need-together-requires invariant-loop decreases-loop
 together-requires c κs = search rules
@@ -37,7 +37,7 @@ release-together-requires : tie.Need-release-together-requires invariant-loop de
 release-together-requires c κs =
     let at = c.before.before.before.before.loop in
     let a = c.before.before.before.before.before.before.before.args in
-    together-room a.image.now at.sheet a.c _ (omega arith) (omega arith) c.before.before.together.ensures _
+    together_room a.image.now at.sheet a.c _ (omega arith) (omega arith) c.before.before.together.ensures _
     c.place.ensures
 
 add-sheet : tie.Need-overflow-add-sheet invariant-loop decreases-loop
@@ -57,10 +57,10 @@ returns c =
     let image = a.image.now in
     let all = entries_in image a.c in
     let first = a.scratch.now in
-    let split = together-first image at.sheet a.c _ (omega arith) (omega arith)
+    let split = together_first image at.sheet a.c _ (omega arith) (omega arith)
     far.before.before.before.together.ensures _ far.before.place.ensures in
-    let l = some-released all a.first first _ _ _ at.window _ at.scratch _ split r.0 r.1 at.invariant.1 in
-    left_end all a.first first _ _ _ (rest-none (body_of image) 12 a.c _ (omega arith)) l
+    let l = some_released all a.first first _ _ _ at.window _ at.scratch _ split r.0 r.1 at.invariant.1 in
+    left_end all a.first first _ _ _ (rest_none (body_of image) 12 a.c _ (omega arith)) l
 
 mul-entry-across : tie.Need-overflow-mul-entry-across invariant-loop decreases-loop
 mul-entry-across c = search rules
@@ -89,12 +89,12 @@ loop-again c =
     let image = a.image.now in
     let all = entries_in image a.c in
     let first = a.scratch.now in
-    let split = together-first image at.sheet a.c _ (omega arith) (omega arith)
+    let split = together_first image at.sheet a.c _ (omega arith) (omega arith)
     far.before.before.before.together.ensures _ far.before.place.ensures in
-    let l = some-released all a.first first _ _ _ at.window _ at.scratch _ split r.0 r.1 at.invariant.1 in
+    let l = some_released all a.first first _ _ _ at.window _ at.scratch _ split r.0 r.1 at.invariant.1 in
     let next = rest_across image a.c _ _ (omega arith) c.before.before.before.entry-across.ensures in
     let p = c.before.before.release-part.ensures in
-    (omega arith, one-released all a.first first _ _ _ _ _ _ _ next p.0 p.1 l)
+    (omega arith, one_released all a.first first _ _ _ _ _ _ _ next p.0 p.1 l)
 
 same-length-2 : tie.Need-same-length-2 invariant-loop decreases-loop
 same-length-2 c = c.before.loop.invariant.1.long
@@ -104,7 +104,7 @@ returns-2 c =
     let at = c.before.loop in
     let a = c.before.before.before.before.args in
     left_end (entries_in a.image.now a.c) a.first a.scratch.now _ at.window at.scratch
-    (rest-none (body_of a.image.now) 12 a.c at.sheet (omega arith)) at.invariant.1
+    (rest_none (body_of a.image.now) 12 a.c at.sheet (omega arith)) at.invariant.1
 
 pub release_in_spec : {M : Type 1} → statement M
 release_in_spec =

@@ -9,8 +9,8 @@ use Rattle.image_soundness.specs.Windows.{window, window_after}
 use Rattle.image_soundness.specs.declared.Window.{Window}
 use Rattle.image_soundness.proofs.Parts.{after_lo}
 use Rattle.image.specs.Image.{entries_from}
-use Rattle.image_content.proofs.EntriesFrom.{rest, rest_all, rest-none, rest-next}
-use Rattle.image_content.proofs.Passing.{Left, left-from, left_end, one-released}
+use Rattle.image_content.proofs.EntriesFrom.{rest, rest_all, rest_none, rest_next}
+use Rattle.image_content.proofs.Passing.{Left, left_from, left_end, one_released}
 use borrow.Author.Rules.{rules}
 use Rattle.image_content.proofs.release_together.Statement.{statement}
 use Rattle.image_content.proofs.release_together.Tie as tie
@@ -31,7 +31,7 @@ abbrev decreases-loop : tie.decreases-loop
 decreases-loop scratch₀ image at count lo stop₀ i₀ scratch stop i = count - i
 
 loop-holds : tie.Need-loop-init invariant-loop decreases-loop
-loop-holds c = (omega arith, left-from _ _ _ _ (rest_all _ _ _))
+loop-holds c = (omega arith, left_from _ _ _ _ (rest_all _ _ _))
 
 mul-entry-here : tie.Need-overflow-mul-entry-here invariant-loop decreases-loop
 mul-entry-here c = search rules
@@ -57,10 +57,10 @@ loop-again c =
     let at = far.before.before.before.loop in
     let a = far.before.before.before.before.before.before.args in
     let r = c.before.before.release-near in
-    let next = rest-next a.image.now a.at a.count at.i _ (omega arith) far.entry_here.ensures in
+    let next = rest_next a.image.now a.at a.count at.i _ (omega arith) far.entry_here.ensures in
     let w : Window = window a.first.lo at.stop in (
       omega arith,
-      one-released _ a.first a.scratch.now _ _ _ w _ at.scratch _ next
+      one_released _ a.first a.scratch.now _ _ _ w _ at.scratch _ next
           (same-lo w at.scratch _ r.result r.ensures.0) r.ensures.1 at.invariant.1,
     )
 
@@ -72,7 +72,7 @@ returns c =
     let at = c.before.loop in
     let a = c.before.before.before.before.args in
     left_end _ a.first a.scratch.now _ (window a.first.lo at.stop) at.scratch
-    (rest-none a.image.now a.at a.count at.i (omega arith)) at.invariant.1
+    (rest_none a.image.now a.at a.count at.i (omega arith)) at.invariant.1
 
 pub release_together_spec : {M : Type 1} → statement M
 release_together_spec =

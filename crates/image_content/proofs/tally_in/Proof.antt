@@ -6,8 +6,8 @@ use Prim.Native.Nat.{◌-◌, ◌≤◌}
 use native.Mathlib.Omega.{arith}
 use Rattle.image_frames.specs.Frames.{body_of}
 use Rattle.image.specs.Image.{entries_in}
-use Rattle.image_content.proofs.EntriesFrom.{rest, rest-none, rest_in, rest_across, together-room, together-first}
-use Rattle.image_content.proofs.Passing.{LeftToCount, count-from, count_none, one-stopped, one-counted, some-stopped}
+use Rattle.image_content.proofs.EntriesFrom.{rest, rest_none, rest_in, rest_across, together_room, together_first}
+use Rattle.image_content.proofs.Passing.{LeftToCount, count_from_lem, count_none, one_stopped, one-counted, some-stopped}
 use Rattle.image_content.proofs.Passing.{some-counted}
 use borrow.Author.Rules.{rules}
 use Rattle.image_content.proofs.tally_in.Statement.{statement}
@@ -21,7 +21,7 @@ abbrev decreases-loop : tie.decreases-loop
 decreases-loop n image c tally₀ sheet₀ tally sheet = c - sheet
 
 loop-holds : tie.Need-loop-init invariant-loop decreases-loop
-loop-holds c = (omega arith, c.before.requires.0, count-from _ _ _ _ (rest_in _ _))
+loop-holds c = (omega arith, c.before.requires.0, count_from_lem _ _ _ _ (rest_in _ _))
 
 together-requires : tie.Need-together-requires invariant-loop decreases-loop
 together-requires c κs = search rules
@@ -39,7 +39,7 @@ tally-together-requires : tie.Need-tally-together-requires invariant-loop decrea
 tally-together-requires c κs =
     let at = c.before.before.before.loop in
     let a = c.before.before.before.before.before.args in
-    together-room a.image.now at.sheet a.c _ (omega arith) (omega arith) c.before.together.ensures _
+    together_room a.image.now at.sheet a.c _ (omega arith) (omega arith) c.before.together.ensures _
     c.place.ensures
 
 add-sheet : tie.Need-overflow-add-sheet invariant-loop decreases-loop
@@ -52,7 +52,7 @@ returns c =
     let a = far.before.before.before.before.before.before.args in
     let image = a.image.now in
     let all = entries_in image a.c in
-    let split = together-first image at.sheet a.c _ (omega arith) (omega arith) far.before.before.together.ensures _
+    let split = together_first image at.sheet a.c _ (omega arith) (omega arith) far.before.before.together.ensures _
     far.before.place.ensures in
     some-stopped a.n all a.first _ _ _ at.tally _ split far.tally-together.ensures at.invariant.1
     at.invariant.2 c.if1.true
@@ -64,11 +64,11 @@ returns-2 c =
     let a = far.before.before.before.before.before.before.args in
     let image = a.image.now in
     let all = entries_in image a.c in
-    let split = together-first image at.sheet a.c _ (omega arith) (omega arith) far.before.before.together.ensures _
+    let split = together_first image at.sheet a.c _ (omega arith) (omega arith) far.before.before.together.ensures _
     far.before.place.ensures in
     let l = some-counted a.n all a.first _ _ _ at.tally _ split far.tally-together.ensures at.invariant.1
     at.invariant.2 c.before.if1.false in
-    count_none a.n all a.first _ _ (rest-none (body_of image) 12 a.c _ (omega arith)) l
+    count_none a.n all a.first _ _ (rest_none (body_of image) 12 a.c _ (omega arith)) l
 
 mul-entry-across : tie.Need-overflow-mul-entry-across invariant-loop decreases-loop
 mul-entry-across c = search rules
@@ -89,12 +89,12 @@ returns-3 c =
     let a = far.before.before.before.before.before.before.args in
     let image = a.image.now in
     let all = entries_in image a.c in
-    let split = together-first image at.sheet a.c _ (omega arith) (omega arith) far.before.before.together.ensures _
+    let split = together_first image at.sheet a.c _ (omega arith) (omega arith) far.before.before.together.ensures _
     far.before.place.ensures in
     let l = some-counted a.n all a.first _ _ _ at.tally _ split far.tally-together.ensures at.invariant.1
     at.invariant.2 c.before.before.before.before.if1.false in
     let next = rest_across image a.c _ _ (omega arith) c.before.before.entry-across.ensures in
-    one-stopped a.n all a.first _ _ _ _ _ next c.before.tally-entry.ensures l c.if3.true
+    one_stopped a.n all a.first _ _ _ _ _ next c.before.tally-entry.ensures l c.if3.true
 
 add-sheet-2 : tie.Need-overflow-add-sheet-2 invariant-loop decreases-loop
 add-sheet-2 c = search rules
@@ -109,7 +109,7 @@ loop-again c =
     let a = far.before.before.before.before.before.before.args in
     let image = a.image.now in
     let all = entries_in image a.c in
-    let split = together-first image at.sheet a.c _ (omega arith) (omega arith) far.before.before.together.ensures _
+    let split = together_first image at.sheet a.c _ (omega arith) (omega arith) far.before.before.together.ensures _
     far.before.place.ensures in
     let l = some-counted a.n all a.first _ _ _ at.tally _ split far.tally-together.ensures at.invariant.1
     at.invariant.2 c.before.before.before.before.if1.false in
@@ -122,7 +122,7 @@ returns-4 c =
     let at = c.before.loop in
     let a = c.before.before.before.args in
     count_none a.n (entries_in a.image.now a.c) a.first _ at.tally
-    (rest-none (body_of a.image.now) 12 a.c at.sheet (omega arith)) at.invariant.2
+    (rest_none (body_of a.image.now) 12 a.c at.sheet (omega arith)) at.invariant.2
 
 pub tally_in_spec : {M : Type 1} → statement M
 tally_in_spec =

@@ -3,8 +3,8 @@
 use Prim.Native.Nat.{◌-◌, ◌≤◌}
 use native.Mathlib.Omega.{arith}
 use Rattle.image.specs.Image.{entries_from}
-use Rattle.image_content.proofs.EntriesFrom.{rest, rest_all, rest-none, rest-next}
-use Rattle.image_content.proofs.Passing.{LeftToCount, count-from, count_none, one-stopped, one-counted}
+use Rattle.image_content.proofs.EntriesFrom.{rest, rest_all, rest_none, rest_next}
+use Rattle.image_content.proofs.Passing.{LeftToCount, count_from_lem, count_none, one_stopped, one-counted}
 use borrow.Author.Rules.{rules}
 use Rattle.image_content.proofs.tally_together.Statement.{statement}
 use Rattle.image_content.proofs.tally_together.Tie as tie
@@ -17,7 +17,7 @@ abbrev decreases-loop : tie.decreases-loop
 decreases-loop n image at count tally₀ i₀ tally i = count - i
 
 loop-holds : tie.Need-loop-init invariant-loop decreases-loop
-loop-holds c = (omega arith, count-from _ _ _ _ (rest_all _ _ _))
+loop-holds c = (omega arith, count_from_lem _ _ _ _ (rest_all _ _ _))
 
 mul-entry-here : tie.Need-overflow-mul-entry-here invariant-loop decreases-loop
 mul-entry-here c = search rules
@@ -36,8 +36,8 @@ returns c =
     let far = c.before.before in
     let at = far.before.before.loop in
     let a = far.before.before.before.before.args in
-    let next = rest-next a.image.now a.at a.count at.i _ (omega arith) far.entry_here.ensures in
-    one-stopped a.n _ a.first _ _ _ at.tally _ next c.before.tally-entry.ensures at.invariant.1 c.if1.true
+    let next = rest_next a.image.now a.at a.count at.i _ (omega arith) far.entry_here.ensures in
+    one_stopped a.n _ a.first _ _ _ at.tally _ next c.before.tally-entry.ensures at.invariant.1 c.if1.true
 
 add-i : tie.Need-overflow-add-i invariant-loop decreases-loop
 add-i c = search rules
@@ -50,7 +50,7 @@ loop-again c =
     let far = c.before.before in
     let at = far.before.before.loop in
     let a = far.before.before.before.before.args in
-    let next = rest-next a.image.now a.at a.count at.i _ (omega arith) far.entry_here.ensures in
+    let next = rest_next a.image.now a.at a.count at.i _ (omega arith) far.entry_here.ensures in
     let l = one-counted a.n _ a.first _ _ _ at.tally _ next c.before.tally-entry.ensures at.invariant.1
     c.if1.false in
     (omega arith, l)
@@ -59,7 +59,7 @@ returns-2 : tie.Need-returns-2 invariant-loop decreases-loop
 returns-2 c =
     let at = c.before.loop in
     let a = c.before.before.before.args in
-    count_none a.n _ a.first _ at.tally (rest-none a.image.now a.at a.count at.i (omega arith))
+    count_none a.n _ a.first _ at.tally (rest_none a.image.now a.at a.count at.i (omega arith))
     at.invariant.1
 
 pub tally_together_spec : {M : Type 1} → statement M

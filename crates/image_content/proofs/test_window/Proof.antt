@@ -1,6 +1,6 @@
 -- `test_window` meets its contract.
 -- Assumes nothing.
-use Rattle.image_content.proofs.Filling.{window-tested}
+use Rattle.image_content.proofs.Filling.{window_tested}
 use borrow.Author.Rules.{rules}
 use Rattle.image_content.proofs.test_window.Statement.{statement}
 use Rattle.image_content.proofs.test_window.Tie as tie
@@ -20,7 +20,7 @@ same_length c = search rules
 returns : tie.Need-returns
 returns c =
     let r = c.before.before.before.before.release-in.ensures in
-    window-tested _ _ _ _ _ _ _ _ _ c.before.before.before.before.before.before.before.before.fill-in.ensures r.0
+    window_tested _ _ _ _ _ _ _ _ _ c.before.before.before.before.before.before.before.before.fill-in.ensures r.0
     r.1 c.end-window.ensures
 
 pub test_window_spec : {M : Type 1} → statement M

@@ -4,7 +4,7 @@ use mathlib.Core.Path.{◌≡◌, ◌∙◌}
 use Prim.Native.Nat.{◌-◌, ◌≤◌}
 use native.Mathlib.Omega.{arith}
 use Rattle.image.specs.Image.{entries_in, map_in}
-use Rattle.image_content.proofs.Filling.{Stands, stands-first, stands-last, stands-ended, stands-long, stands-next}
+use Rattle.image_content.proofs.Filling.{Stands, stands_first, stands-last, stands-ended, stands-long, stands-next}
 use borrow.Author.Rules.{rules}
 use Rattle.image_content.proofs.test_windows.Statement.{statement}
 use Rattle.image_content.proofs.test_windows.Tie as tie
@@ -20,7 +20,7 @@ window-count-requires : tie.Need-window-count-requires invariant-loop decreases-
 window-count-requires c κs = search rules
 
 loop-holds : tie.Need-loop-init invariant-loop decreases-loop
-loop-holds c = (omega arith, stands-first _ _ _ _ _)
+loop-holds c = (omega arith, stands_first _ _ _ _ _)
 
 same_length : tie.Need-same-length invariant-loop decreases-loop
 same_length c =

@@ -12,7 +12,7 @@ use borrow.Author.Tests.{not-true, not-false}
 use Rattle.blocks_of_card.specs.Card.{block_of}
 use Rattle.block_seals.specs.Sealed.{sound}
 use Rattle.image_frames.specs.Frames.{total_of, framed}
-use Rattle.map_blocks.proofs.Runs.{all-intro, all-break}
+use Rattle.map_blocks.proofs.Runs.{all_intro, all_break}
 use Rattle.image_frames.proofs.all_framed.Statement.{statement}
 use Rattle.image_frames.proofs.all_framed.Tie as tie
 
@@ -20,12 +20,12 @@ whole : (image : List ℕ) → ((j : ℕ) → j < total_of image → sound j (to
     → true ≡ framed image
 unfolding framed
 whole image good =
-    sym (all-intro (λ i. sound i (total_of image) (block_of image i)) 0 (total_of image) (λ j l u. good j (omega arith)))
+    sym (all_intro (λ i. sound i (total_of image) (block_of image i)) 0 (total_of image) (λ j l u. good j (omega arith)))
 
 broken : (image : List ℕ) (j : ℕ) → j < total_of image → sound j (total_of image) (block_of image j) ≡ false → false ≡ framed image
 unfolding framed
 broken image j u e =
-    sym (all-break (λ i. sound i (total_of image) (block_of image i)) 0 (total_of image) j (omega arith) (omega arith) e)
+    sym (all_break (λ i. sound i (total_of image) (block_of image i)) 0 (total_of image) j (omega arith) (omega arith) e)
 
 abbrev invariant-loop : tie.invariant-loop
 invariant-loop image total i₀ i = (i ≤ total) × ((j : ℕ) → j < i → sound j total (block_of image j) ≡ true)

@@ -7,7 +7,7 @@ use native.Mathlib.Omega.{arith}
 use borrow.Author.Rules.{rules}
 use borrow.Rule.Slice.PartMut.{put_mid}
 use Rattle.block_bytes.specs.Numbers.{bytes4}
-use Rattle.image_frames.proofs.Numbered.{stored-in, stored-out}
+use Rattle.image_frames.proofs.Numbered.{stored_in, stored_out}
 use Rattle.block_bytes.specs.Replaced.{replaced}
 use Rattle.image_frames.specs.Numbers.{place_of}
 use Rattle.image_frames.proofs.put_number.Statement.{statement}
@@ -49,12 +49,12 @@ returns c =
     let a = c.before.before.before.before.before.before.before.args in
     put_back a.image.now a.k a.number _ _ c.before.before.before.before.place.ensures
     c.before.before.put4.ensures
-    ∙ sym (stored-in a.image.now a.k a.number (omega arith))
+    ∙ sym (stored_in a.image.now a.k a.number (omega arith))
 
 returns-2 : tie.Need-returns-2
 returns-2 c =
     let a = c.before.before.args in
-    sym (stored-out a.image.now a.k a.number (omega arith))
+    sym (stored_out a.image.now a.k a.number (omega arith))
 
 pub put_number_spec : {M : Type 1} → statement M
 put_number_spec =

@@ -6,7 +6,7 @@ use Prim.Native.Nat.{ℕ, ◌≤◌, ◌-◌, ◌*◌}
 use native.Mathlib.Omega.{arith}
 use lib.ListN.{replicate}
 use borrow.Author.Rules.{rules}
-use Rattle.image_frames.proofs.Stored.{Written, zeros-none, zeros-more}
+use Rattle.image_frames.proofs.Stored.{Written, zeros_none, zeros_more}
 use Rattle.image_frames.specs.Frames.{body_of, total_of}
 use Rattle.block_bytes.specs.Replaced.{replaced}
 use Rattle.image_frames.proofs.put_zeros.Statement.{statement}
@@ -28,7 +28,7 @@ mul-end : tie.Need-overflow-mul-end invariant-loop decreases-loop
 mul-end c = search rules
 
 loop-holds : tie.Need-loop-init invariant-loop decreases-loop
-loop-holds c = (omega arith, omega arith, zeros-none _ _)
+loop-holds c = (omega arith, omega arith, zeros_none _ _)
 
 put-number-requires : tie.Need-put-number-requires invariant-loop decreases-loop
 put-number-requires c κs = search rules
@@ -45,7 +45,7 @@ loop-again c =
     let a = c.before.before.before.before.before.before.before.args in (
       omega arith,
       omega arith,
-      zeros-more a.image.now a.k loop.image _ loop.i (omega arith) (omega arith)
+      zeros_more a.image.now a.k loop.image _ loop.i (omega arith) (omega arith)
           c.before.before.put-number.ensures loop.invariant.2,
     )
 

@@ -5,7 +5,7 @@ use Prim.Native.Nat.{◌≤◌, ◌-◌}
 use native.Mathlib.Omega.{arith}
 use lib.ListN.{length}
 use borrow.Author.Rules.{rules}
-use Rattle.image_frames.proofs.Stored.{Reading, reading-none, reading-more, reading-end}
+use Rattle.image_frames.proofs.Stored.{Reading, reading_none, reading_more, reading_end}
 use Rattle.image_frames.proofs.read_together.Statement.{statement}
 use Rattle.image_frames.proofs.read_together.Tie as tie
 
@@ -16,7 +16,7 @@ abbrev decreases-loop : tie.decreases-loop
 decreases-loop words₀ image at i₀ words i = length words₀ - i
 
 loop-holds : tie.Need-loop-init invariant-loop decreases-loop
-loop-holds c = (omega arith, reading-none _ _ _)
+loop-holds c = (omega arith, reading_none _ _ _)
 
 mul-word-here : tie.Need-overflow-mul-word-here invariant-loop decreases-loop
 mul-word-here c = search rules
@@ -45,7 +45,7 @@ loop-again c =
     let a = c.before.before.before.before.before.args in
     let long : length loop.words ≡ length a.words.now = loop.invariant.1.long in (
       omega arith,
-      reading-more a.image.now a.at a.words.now loop.i loop.words _ (omega arith) c.word-here.ensures
+      reading_more a.image.now a.at a.words.now loop.i loop.words _ (omega arith) c.word-here.ensures
           loop.invariant.1,
     )
 
@@ -57,7 +57,7 @@ returns c =
     let loop = c.before.loop in
     let a = c.before.before.before.before.args in
     let long : length loop.words ≡ length a.words.now = loop.invariant.1.long in
-    reading-end a.image.now a.at a.words.now loop.i loop.words (omega arith) loop.invariant.1
+    reading_end a.image.now a.at a.words.now loop.i loop.words (omega arith) loop.invariant.1
 
 pub read_together_spec : {M : Type 1} → statement M
 read_together_spec =

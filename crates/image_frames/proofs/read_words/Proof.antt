@@ -8,7 +8,7 @@ use lib.ListN.{length, drop, length-take}
 use borrow.Author.Rules.{rules}
 use borrow.Rule.Slice.PartMut.{mid_of}
 use Rattle.image_frames.specs.Frames.{body_of}
-use Rattle.image_frames.proofs.Stored.{Reading, reading-none, reading-more, reading-part, reading-end, word_halves}
+use Rattle.image_frames.proofs.Stored.{Reading, reading_none, reading_more, reading_part, reading_end, word_halves}
 use Rattle.image_frames.proofs.read_words.Statement.{statement}
 use Rattle.image_frames.proofs.read_words.Tie as tie
 
@@ -22,7 +22,7 @@ abbrev decreases-loop : tie.decreases-loop
 decreases-loop words₀ image k i₀ words i = length words₀ - i
 
 loop-holds : tie.Need-loop-init invariant-loop decreases-loop
-loop-holds c = (omega arith, reading-none _ _ _)
+loop-holds c = (omega arith, reading_none _ _ _)
 
 mul-read-frame : tie.Need-overflow-mul-read-frame invariant-loop decreases-loop
 mul-read-frame c = search rules
@@ -58,7 +58,7 @@ same_length c =
     let f = c.before.before.before.read-frame in
     let most = mid-most loop.i loop.words in
     let long = loop.invariant.1.long in
-    let read = reading-part (body_of a.image.now) (4 * a.k) a.words.now loop.i _ f.result loop.words
+    let read = reading_part (body_of a.image.now) (4 * a.k) a.words.now loop.i _ f.result loop.words
     f.new.0 (omega arith) (omega arith) f.ensures.0 f.ensures.1 loop.invariant.1 in
     read.long
 
@@ -69,9 +69,9 @@ returns c =
     let f = c.before.before.before.read-frame in
     let most = mid-most loop.i loop.words in
     let long = loop.invariant.1.long in
-    let read = reading-part (body_of a.image.now) (4 * a.k) a.words.now loop.i _ f.result loop.words
+    let read = reading_part (body_of a.image.now) (4 * a.k) a.words.now loop.i _ f.result loop.words
     f.new.0 (omega arith) (omega arith) f.ensures.0 f.ensures.1 loop.invariant.1 in
-    reading-end (body_of a.image.now) (4 * a.k) a.words.now _ _ (omega arith) read
+    reading_end (body_of a.image.now) (4 * a.k) a.words.now _ _ (omega arith) read
 
 mul-word : tie.Need-overflow-mul-word invariant-loop decreases-loop
 mul-word c = search rules
@@ -104,10 +104,10 @@ loop-again c =
     let f = c.before.before.before.before.read-frame in
     let most = mid-most loop.i loop.words in
     let long = loop.invariant.1.long in
-    let read = reading-part (body_of a.image.now) (4 * a.k) a.words.now loop.i _ f.result loop.words
+    let read = reading_part (body_of a.image.now) (4 * a.k) a.words.now loop.i _ f.result loop.words
     f.new.0 (omega arith) (omega arith) f.ensures.0 f.ensures.1 loop.invariant.1 in (
       omega arith,
-      reading-more (body_of a.image.now) (4 * a.k) a.words.now (loop.i + f.result) _ _ (omega (arith, read.long))
+      reading_more (body_of a.image.now) (4 * a.k) a.words.now (loop.i + f.result) _ _ (omega (arith, read.long))
           (c.word.ensures ∙ word_halves a.image.now a.k (loop.i + f.result)) read,
     )
 
@@ -119,7 +119,7 @@ returns-2 c =
     let loop = c.before.loop in
     let a = c.before.before.before.before.args in
     let long : length loop.words ≡ length a.words.now = loop.invariant.1.long in
-    reading-end (body_of a.image.now) (4 * a.k) a.words.now loop.i loop.words (omega arith) loop.invariant.1
+    reading_end (body_of a.image.now) (4 * a.k) a.words.now loop.i loop.words (omega arith) loop.invariant.1
 
 pub read_words_spec : {M : Type 1} → statement M
 read_words_spec =

@@ -6,7 +6,7 @@ use Prim.Native.Nat.{ℕ, ◌≤◌, ◌-◌, ◌+◌, ◌/◌}
 use native.Mathlib.Omega.{arith}
 use lib.ListN.{length}
 use borrow.Author.Rules.{rules}
-use Rattle.image_frames.proofs.Framing.{Sealing, sealing-more, sealing-end}
+use Rattle.image_frames.proofs.Framing.{Sealing, sealing_more, sealing_end}
 use Rattle.image_frames.proofs.seal_all.Statement.{statement}
 use Rattle.image_frames.proofs.seal_all.Tie as tie
 
@@ -38,7 +38,7 @@ loop-again c =
       omega arith,
       subst (λ (l : List ℕ). Sealing a.image.now (length a.image.now / 512) (loop.i + 1) l)
           (sym c.before.before.seal-frame.ensures)
-          (sealing-more a.image.now (length a.image.now / 512) (omega arith) loop.i loop.image (omega arith)
+          (sealing_more a.image.now (length a.image.now / 512) (omega arith) loop.i loop.image (omega arith)
           loop.invariant.1),
     )
 
@@ -49,7 +49,7 @@ returns : tie.Need-returns invariant-loop decreases-loop
 returns c =
     let loop = c.before.loop in
     let a = c.before.before.before.args in
-    sealing-end a.image.now (length a.image.now / 512) (omega arith) loop.i loop.image (omega arith) refl
+    sealing_end a.image.now (length a.image.now / 512) (omega arith) loop.i loop.image (omega arith) refl
     loop.invariant.1
 
 pub seal_all_spec : {M : Type 1} → statement M

@@ -4,7 +4,7 @@ use Prim.Native.Nat.{◌≤◌, ◌-◌}
 use native.Mathlib.Omega.{arith}
 use lib.ListN.{length, take}
 use borrow.Author.Rules.{rules}
-use Rattle.image_frames.proofs.Stored.{Written, words-none, words_more, words-end}
+use Rattle.image_frames.proofs.Stored.{Written, words_none, words_more, words_end}
 use Rattle.image_frames.specs.Numbers.{word_bytes}
 use Rattle.image_frames.proofs.write_words.Statement.{statement}
 use Rattle.image_frames.proofs.write_words.Tie as tie
@@ -16,7 +16,7 @@ abbrev decreases-loop : tie.decreases-loop
 decreases-loop image₀ k words i₀ image i = length words - i
 
 loop-holds : tie.Need-loop-init invariant-loop decreases-loop
-loop-holds c = (omega arith, words-none _ _ c.before.before.args.words.now)
+loop-holds c = (omega arith, words_none _ _ c.before.before.args.words.now)
 
 mul-word : tie.Need-overflow-mul-word invariant-loop decreases-loop
 mul-word c = search rules
@@ -74,7 +74,7 @@ returns : tie.Need-returns invariant-loop decreases-loop
 returns c =
     let loop = c.before.loop in
     let a = c.before.before.before.before.args in
-    (words-end a.image.now a.k a.words.now loop.image loop.i (omega arith) loop.invariant.1).bytes
+    (words_end a.image.now a.k a.words.now loop.image loop.i (omega arith) loop.invariant.1).bytes
 
 pub write_words_spec : {M : Type 1} → statement M
 write_words_spec =

@@ -5,7 +5,7 @@ use Prim.Native.Nat.{ℕ, ◌≤◌, ◌<◌, ◌-◌}
 use native.Mathlib.Omega.{arith}
 use borrow.Author.Count.{below_more}
 use borrow.Author.Rules.{rules}
-use Rattle.image_frames.proofs.Stored.{zeros-all, zeros-not}
+use Rattle.image_frames.proofs.Stored.{zeros_all, zeros_not}
 use Rattle.image_frames.specs.Numbers.{number_in}
 use Rattle.image_frames.proofs.zeros_from.Statement.{statement}
 use Rattle.image_frames.proofs.zeros_from.Tie as tie
@@ -29,7 +29,7 @@ returns : tie.Need-returns invariant-loop decreases-loop
 returns c =
     let loop = c.before.before.before.loop in
     let a = c.before.before.before.before.before.args in
-    zeros-not a.image.now a.k loop.i (omega arith) (λ e. c.if1.true (c.before.number.ensures ∙ e))
+    zeros_not a.image.now a.k loop.i (omega arith) (λ e. c.if1.true (c.before.number.ensures ∙ e))
 
 add-i : tie.Need-overflow-add-i invariant-loop decreases-loop
 add-i c = search rules
@@ -46,7 +46,7 @@ returns-2 : tie.Need-returns-2 invariant-loop decreases-loop
 returns-2 c =
     let loop = c.before.loop in
     let a = c.before.before.before.args in
-    zeros-all a.image.now a.k loop.i (omega arith) (λ j o u. loop.invariant.1 j u o)
+    zeros_all a.image.now a.k loop.i (omega arith) (λ j o u. loop.invariant.1 j u o)
 
 pub zeros_from_spec : {M : Type 1} → statement M
 zeros_from_spec =

@@ -6,7 +6,7 @@ use contract.Running.{tables, tables_of}
 use denote.Triple.Spec.{triple_of}
 use denote.Triple.Table.{entered, cited}
 use lib.ListN.{length}
-use Rattle.image_load.specs.Parts.{LoadsBy, coreLoaded, coreMap, coreScratch, first_cursor, read_cursor, read_entries}
+use Rattle.image_load.specs.Parts.{LoadsBy, core_loaded, core_map, core_scratch, first_cursor, read_cursor, read_entries}
 use Rattle.image_load.proofs.Loads.{loads}
 use Rattle.catalogue.proofs.Values.{Value, value_of}
 use Rattle.image.specs.contracts.Cursor as Cursor'
@@ -39,12 +39,12 @@ unfolding code.routine tables_of
 load_spec 𝓤 𝓛 𝓜 𝓡 =
     entered 𝓤 𝓛.H (triple_of 𝓛 load.signature (load.spec 𝓛 𝓜.mem 𝓡.run))
     (tables 𝓤 𝓛.H 𝓜 𝓡 code.env).C (tables 𝓤 𝓛.H 𝓜 𝓡 code.env).Λ #load code.function (code.unfolded 𝓤 𝓛.H 𝓜 𝓡)
-    (meets Cursor Loaded count-def.name load-core-def.name first-cursor-def.name read-entries-def.name length coreLoaded coreMap
-    coreScratch first_cursor read_cursor read_entries LoadsBy loads
+    (meets Cursor Loaded count-def.name load-core-def.name first-cursor-def.name read-entries-def.name length core_loaded core_map
+    core_scratch first_cursor read_cursor read_entries LoadsBy loads
     𝓛 (tables_of 𝓤 𝓛.H 𝓜 (tables 𝓤 𝓛.H 𝓜 𝓡 code.env))
     (cited 𝓤 𝓛.H (count-contract Cursor Loaded length 𝓤 𝓛) 𝓜 𝓡 code.env count-def.name count-def.routine
     code.calls-catalogue::count (count-met.met 𝓤 𝓛 𝓜 𝓡))
-    (cited 𝓤 𝓛.H (load-core-contract Cursor Loaded coreLoaded coreMap coreScratch 𝓤 𝓛) 𝓜 𝓡 code.env load-core-def.name
+    (cited 𝓤 𝓛.H (load-core-contract Cursor Loaded core_loaded core_map core_scratch 𝓤 𝓛) 𝓜 𝓡 code.env load-core-def.name
     load-core-def.routine code.calls-image-load::load-core (load-core-met.met 𝓤 𝓛 𝓜 𝓡))
     (cited 𝓤 𝓛.H (first-cursor-contract Cursor Loaded first_cursor 𝓤 𝓛) 𝓜 𝓡 code.env first-cursor-def.name
     first-cursor-def.routine code.calls-image-load::first-cursor (first-cursor-met.met 𝓤 𝓛 𝓜 𝓡))

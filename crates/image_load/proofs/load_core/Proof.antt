@@ -13,14 +13,14 @@ use Rattle.catalogue_standings.specs.Rows.{Verdict, accepted, refused, settle, r
 use Rattle.image_frames.specs.Frames.{body_of}
 use Rattle.image_frames.specs.Numbers.{number_in, words_at}
 use Rattle.image.specs.Image.{blocks_in, free_count_in, sheets_in, state_in, map_in}
-use Rattle.image_load.specs.Parts.{coreLoaded, coreMap, coreScratch}
+use Rattle.image_load.specs.Parts.{core_loaded, core_map, core_scratch}
 use Rattle.image.specs.Table.{load_verdict}
 use Rattle.image.specs.declared.Loaded.{Loaded}
 use Rattle.image_load.proofs.load_core.Statement.{statement}
 use Rattle.image_load.proofs.load_core.Tie as tie
-use Rattle.image.proofs.Fitting.{head-to, load_fits_to}
-use Rattle.image.proofs.Verdicts.{load-accepted, accepted-to}
-use Rattle.image_load.proofs.Heads.{blocks-in, spare-in, map_read}
+use Rattle.image.proofs.Fitting.{head_to, load_fits_to}
+use Rattle.image.proofs.Verdicts.{load_accepted, accepted_to}
+use Rattle.image_load.proofs.Heads.{blocks_in_lem, spare_in_lem, map_read}
 
 abbrev loaded : ℕ → ℕ → ℕ → Loaded
 loaded number n spare = record { number = number; blocks = n; free = spare }
@@ -34,8 +34,8 @@ module _ (role : ℕ) (image map : List ℕ) (count : ℕ) (scratch : List ℕ) 
 
   -- after a refusal
   told-refused : (number : ℕ) → number ≡ row_number ruled → (number ≡ 0 → ⊥)
-      → (loaded number 0 0 ≡ coreLoaded role image map count scratch) × (map ≡ coreMap role image map count scratch)
-  unfolding coreLoaded coreMap
+      → (loaded number 0 0 ≡ core_loaded role image map count scratch) × (map ≡ core_map role image map count scratch)
+  unfolding core_loaded core_map
   told-refused number e h = by ruled number e h
     where
       by : (v : Verdict) (number : ℕ) → number ≡ row_number v → (number ≡ 0 → ⊥)
@@ -49,22 +49,22 @@ module _ (role : ℕ) (image map : List ℕ) (count : ℕ) (scratch : List ℕ) 
     few : count ≤ 1024
     short : length map ≤ 4096
     gives : (n spare : ℕ) → n ≡ number_in image 0 → spare ≡ number_in image 1
-        → loaded 0 n spare ≡ coreLoaded role image map count scratch
+        → loaded 0 n spare ≡ core_loaded role image map count scratch
     reads : (words : List ℕ) → words ≡ words_at (body_of image) (4 * (3 + 3 * count)) (length map)
-        → words ≡ coreMap role image map count scratch
+        → words ≡ core_map role image map count scratch
 
   done : (number : ℕ) → number ≡ row_number ruled → number ≡ 0 → Done
-  unfolding coreLoaded coreMap
+  unfolding core_loaded core_map
   done number e z =
-      let v : ruled ≡ accepted = load-accepted turned image (length map) count (length scratch) (sym e ∙ z) in
-      let p = accepted-to turned image (length map) count (length scratch) v in
-      let h = head-to (blocks_in image) (free_count_in image) (sheets_in image) _ p.first in
+      let v : ruled ≡ accepted = load_accepted turned image (length map) count (length scratch) (sym e ∙ z) in
+      let p = accepted_to turned image (length map) count (length scratch) v in
+      let h = head_to (blocks_in image) (free_count_in image) (sheets_in image) _ p.first in
       let l = load_fits_to (blocks_in image) (sheets_in image) (length map) count (length scratch) p.lengths in
       record {
         few = omega (arith, h.count.few, l.entries);
         short = omega (arith, h.limits.limit, l.words);
         gives = λ n spare en es.
-            ap₂ (loaded 0) (en ∙ blocks-in image) (es ∙ spare-in image)
+            ap₂ (loaded 0) (en ∙ blocks_in_lem image) (es ∙ spare_in_lem image)
             ∙ ap (λ (w : Verdict). settle w (loaded 0 (blocks_in image) (free_count_in image)) (λ k. loaded k 0 0)) (sym v);
         reads = λ words e.
             map_read image (blocks_in image) count (length map) words l.words e
@@ -72,8 +72,8 @@ module _ (role : ℕ) (image map : List ℕ) (count : ℕ) (scratch : List ℕ) 
             ∙ ap (λ (w : Verdict). settle w (state_in image).map (λ k. map)) (sym v);
       }
 
-  cleared : (a : List ℕ) → length a ≡ length scratch → replicate (length a) 0 ≡ coreScratch role image map count scratch
-  unfolding coreScratch
+  cleared : (a : List ℕ) → length a ≡ length scratch → replicate (length a) 0 ≡ core_scratch role image map count scratch
+  unfolding core_scratch
   cleared a e = ap (λ (k : ℕ). replicate k 0) e
 
 verdict-requires : tie.Need-verdict-requires

@@ -12,22 +12,22 @@ use Rattle.image.specs.Image.{blocks_in, free_count_in, sheets_in}
 use Rattle.image.specs.Table.{head_fits, load_fits}
 use Rattle.image_load.proofs.verdict.Statement.{statement}
 use Rattle.image_load.proofs.verdict.Tie as tie
-use Rattle.image.proofs.Fitting.{whole_to, head-to, load_fits_to}
-use Rattle.image_load.proofs.Heads.{blocks-in, spare-in, sheets-in}
-use Rattle.image_load.proofs.LoadRows.{load-row-21, load-row-12, load-row-13, load-row-14, load-row-1, load-row-content}
+use Rattle.image.proofs.Fitting.{whole_to, head_to, load_fits_to}
+use Rattle.image_load.proofs.Heads.{blocks_in_lem, spare_in_lem, sheets_in_lem}
+use Rattle.image_load.proofs.LoadRows.{load_row_21, load-row-12, load-row-13, load-row-14, load-row-1, load-row-content}
 use Rattle.image_load.proofs.LoadRows.{load-row-none}
 
 -- the numbers at the head, as they were read
 head_read : (image : List ℕ) (n spare c total : ℕ) → n ≡ number_in image 0 → spare ≡ number_in image 1 → c ≡ number_in image 2
     → head_fits n spare c total ≡ head_fits (blocks_in image) (free_count_in image) (sheets_in image) total
 head_read image n spare c total p q r =
-    ap₂ (λ (x y : ℕ). head_fits x y c total) (p ∙ blocks-in image) (q ∙ spare-in image)
-    ∙ ap (λ (x : ℕ). head_fits (blocks_in image) (free_count_in image) x total) (r ∙ sheets-in image)
+    ap₂ (λ (x y : ℕ). head_fits x y c total) (p ∙ blocks_in_lem image) (q ∙ spare_in_lem image)
+    ∙ ap (λ (x : ℕ). head_fits (blocks_in image) (free_count_in image) x total) (r ∙ sheets_in_lem image)
 
 lent-read : (image : List ℕ) (n c maplen count scratchlen : ℕ) → n ≡ number_in image 0 → c ≡ number_in image 2
     → load_fits n c maplen count scratchlen ≡ load_fits (blocks_in image) (sheets_in image) maplen count scratchlen
 lent-read image n c maplen count scratchlen p r =
-    ap₂ (λ (x y : ℕ). load_fits x y maplen count scratchlen) (p ∙ blocks-in image) (r ∙ sheets-in image)
+    ap₂ (λ (x y : ℕ). load_fits x y maplen count scratchlen) (p ∙ blocks_in_lem image) (r ∙ sheets_in_lem image)
 
 turned-away-requires : tie.Need-turned-away-requires
 turned-away-requires c κs = search rules
@@ -35,7 +35,7 @@ turned-away-requires c κs = search rules
 returns : tie.Need-returns
 returns c =
     let a = c.before.before.before.before.args in
-    load-row-21 _ a.image.now a.maplen a.count (length a.scratch.now)
+    load_row_21 _ a.image.now a.maplen a.count (length a.scratch.now)
     (sym c.before.turned-away.ensures ∙ c.if1.true)
 
 whole-blocks-requires : tie.Need-whole-blocks-requires
@@ -89,7 +89,7 @@ returns-4 c =
     ∙ fails c.before.head-fits.ensures c.if4.true)
 
 load-fits-requires : tie.Need-load-fits-requires
-load-fits-requires c κs = (head-to _ _ _ _ (holds c.before.head-fits.ensures c.if4.false)).limits.limit
+load-fits-requires c κs = (head_to _ _ _ _ (holds c.before.head-fits.ensures c.if4.false)).limits.limit
 
 returns-5 : tie.Need-returns-5
 returns-5 c =
@@ -114,9 +114,9 @@ content-holds-requires c κs =
     (holds far.before.before.before.whole-blocks.ensures
     far.before.before.if2.false) in
     let l = load_fits_to _ _ _ _ _ (holds c.before.before.load-fits.ensures c.before.if5.false) in (
-      c.before.before.before.before.before.before.before.number.ensures ∙ blocks-in a.image.now,
-      c.before.before.before.before.before.before.number2.ensures ∙ spare-in a.image.now,
-      c.before.before.before.before.before.number3.ensures ∙ sheets-in a.image.now,
+      c.before.before.before.before.before.before.before.number.ensures ∙ blocks_in_lem a.image.now,
+      c.before.before.before.before.before.before.number2.ensures ∙ spare_in_lem a.image.now,
+      c.before.before.before.before.before.number3.ensures ∙ sheets_in_lem a.image.now,
       holds c.before.before.before.before.head-fits.ensures c.before.before.before.if4.false,
       l.scratch,
       omega (arith, w.exact, w.few),

@@ -8,7 +8,7 @@ use native.Mathlib.Omega.{arith}
 use lib.ListN.{length}
 use borrow.Author.Rules.{rules}
 use Rattle.catalogue_standings.proofs.Tested.{fails, holds}
-use Rattle.image_save.specs.Parts.{firstTally}
+use Rattle.image_save.specs.Parts.{first_tally}
 use Rattle.image.specs.Table.{save_fits}
 use Rattle.image_soundness.specs.Windows.{tally}
 use Rattle.image_soundness.specs.declared.Tally.{Tally}
@@ -16,25 +16,25 @@ use Rattle.roles.specs.Roles as names
 use Rattle.roles.specs.Roles.{turned_away}
 use Rattle.image_save.proofs.begin.Statement.{statement}
 use Rattle.image_save.proofs.begin.Tie as tie
-use Rattle.image.proofs.Fitting.{save-fits-to}
+use Rattle.image.proofs.Fitting.{save_fits_to}
 
 module _ (role n spare : ℕ) (map : List ℕ) (count : ℕ) (scratch : List ℕ) where
   abbrev by : Bool → Bool → Tally
   by t f = cond t (tally 0 true) (cond f (tally (n - spare) false) (tally 0 true))
 
-  away : turned_away role names.save ≡ true → tally 0 true ≡ firstTally role n spare map count scratch
-  unfolding firstTally
+  away : turned_away role names.save ≡ true → tally 0 true ≡ first_tally role n spare map count scratch
+  unfolding first_tally
   away e = ap (λ (t : Bool). by t (save_fits n spare count (length map) (length scratch))) (sym e)
 
   module _ (may : turned_away role names.save ≡ false) where
     refused : save_fits n spare count (length map) (length scratch) ≡ false
-        → tally 0 true ≡ firstTally role n spare map count scratch
-    unfolding firstTally
+        → tally 0 true ≡ first_tally role n spare map count scratch
+    unfolding first_tally
     refused f = ap₂ by (sym may) (sym f)
 
     begun : save_fits n spare count (length map) (length scratch) ≡ true
-        → tally (n - spare) false ≡ firstTally role n spare map count scratch
-    unfolding firstTally
+        → tally (n - spare) false ≡ first_tally role n spare map count scratch
+    unfolding first_tally
     begun f = ap₂ by (sym may) (sym f)
 
 turned-away-requires : tie.Need-turned-away-requires
@@ -58,7 +58,7 @@ returns-2 c =
 
 sub-t12 : tie.Need-overflow-sub-t12
 sub-t12 c =
-    let s = save-fits-to _ _ _ _ _ (holds c.before.save-fits.ensures c.if2.false) in
+    let s = save_fits_to _ _ _ _ _ (holds c.before.save-fits.ensures c.if2.false) in
     omega (arith, s.limits.spare)
 
 returns-3 : tie.Need-returns-3

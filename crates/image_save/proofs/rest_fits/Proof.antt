@@ -6,10 +6,10 @@ use borrow.Author.Tests.{le-leb}
 use Rattle.catalogue_standings.proofs.Tested.{fails, holds}
 use Rattle.image_save.proofs.rest_fits.Statement.{statement}
 use Rattle.image_save.proofs.rest_fits.Tie as tie
-use Rattle.image_save.proofs.Room.{rest-stopped, rest-cut, rest-far, rest-many, rest-by-room}
+use Rattle.image_save.proofs.Room.{rest_stopped, rest-cut, rest-far, rest-many, rest-by-room}
 
 returns : tie.Need-returns
-returns c = rest-stopped _ c.before.args.at _ c.if1.true
+returns c = rest_stopped _ c.before.args.at _ c.if1.true
 
 whole-blocks-requires : tie.Need-whole-blocks-requires
 whole-blocks-requires c κs = search rules

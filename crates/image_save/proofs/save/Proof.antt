@@ -6,8 +6,8 @@ use contract.Running.{tables, tables_of}
 use denote.Triple.Spec.{triple_of}
 use denote.Triple.Table.{entered, cited}
 use lib.ListN.{length}
-use Rattle.image_soundness.specs.Windows.{tested, testedScratch}
-use Rattle.image_save.specs.Parts.{SavesBy, firstTally, number_by, headCursor, headImage}
+use Rattle.image_soundness.specs.Windows.{tested, tested_scratch}
+use Rattle.image_save.specs.Parts.{SavesBy, first_tally, number_by, head_cursor, head_image}
 use Rattle.image_save.specs.Parts.{entries_cursor, entries_image, rest_image}
 use Rattle.image_save.proofs.Saves.{saves}
 use Rattle.catalogue.proofs.Values.{Value, value_of}
@@ -49,18 +49,18 @@ save_spec 𝓤 𝓛 𝓜 𝓡 =
     entered 𝓤 𝓛.H (triple_of 𝓛 save.signature (save.spec 𝓛 𝓜.mem 𝓡.run))
     (tables 𝓤 𝓛.H 𝓜 𝓡 code.env).C (tables 𝓤 𝓛.H 𝓜 𝓡 code.env).Λ #save code.function (code.unfolded 𝓤 𝓛.H 𝓜 𝓡)
     (meets Tally Cursor count-def.name begin-def.name test-sound-def.name verdict-def.name write-head-def.name
-    write-entries-def.name write-rest-def.name length firstTally tested testedScratch number_by headCursor headImage
+    write-entries-def.name write-rest-def.name length first_tally tested tested_scratch number_by head_cursor head_image
     entries_cursor entries_image rest_image SavesBy saves
     𝓛 (tables_of 𝓤 𝓛.H 𝓜 (tables 𝓤 𝓛.H 𝓜 𝓡 code.env))
     (cited 𝓤 𝓛.H (count-contract Tally Cursor length 𝓤 𝓛) 𝓜 𝓡 code.env count-def.name count-def.routine
     code.calls-catalogue::count (count-met.met 𝓤 𝓛 𝓜 𝓡))
-    (cited 𝓤 𝓛.H (begin-contract Tally Cursor firstTally 𝓤 𝓛) 𝓜 𝓡 code.env begin-def.name begin-def.routine
+    (cited 𝓤 𝓛.H (begin-contract Tally Cursor first_tally 𝓤 𝓛) 𝓜 𝓡 code.env begin-def.name begin-def.routine
     code.calls-image-save::begin (begin-met.met 𝓤 𝓛 𝓜 𝓡))
-    (cited 𝓤 𝓛.H (test-sound-contract Tally Cursor tested testedScratch 𝓤 𝓛) 𝓜 𝓡 code.env test-sound-def.name
+    (cited 𝓤 𝓛.H (test-sound-contract Tally Cursor tested tested_scratch 𝓤 𝓛) 𝓜 𝓡 code.env test-sound-def.name
     test-sound-def.routine code.calls-image-windows::test-sound (test-sound-met.met 𝓤 𝓛 𝓜 𝓡))
     (cited 𝓤 𝓛.H (verdict-contract Tally Cursor number_by 𝓤 𝓛) 𝓜 𝓡 code.env verdict-def.name verdict-def.routine
     code.calls-image-save::verdict (verdict-met.met 𝓤 𝓛 𝓜 𝓡))
-    (cited 𝓤 𝓛.H (write-head-contract Tally Cursor headCursor headImage 𝓤 𝓛) 𝓜 𝓡 code.env write-head-def.name
+    (cited 𝓤 𝓛.H (write-head-contract Tally Cursor head_cursor head_image 𝓤 𝓛) 𝓜 𝓡 code.env write-head-def.name
     write-head-def.routine code.calls-image-save::write-head (write-head-met.met 𝓤 𝓛 𝓜 𝓡))
     (cited 𝓤 𝓛.H (write-entries-contract Tally Cursor entries_cursor entries_image 𝓤 𝓛) 𝓜 𝓡 code.env write-entries-def.name
     write-entries-def.routine code.calls-image-save::write-entries (write-entries-met.met 𝓤 𝓛 𝓜 𝓡))

@@ -7,8 +7,8 @@ use borrow.Author.Tests.{not-true, not-false}
 use Rattle.catalogue_standings.proofs.Tested.{fails, holds}
 use Rattle.image_save.proofs.verdict.Statement.{statement}
 use Rattle.image_save.proofs.verdict.Tie as tie
-use Rattle.image.proofs.Fitting.{save-fits-to}
-use Rattle.image_save.proofs.SaveRows.{save-row-21, save-row-1, save-row-4, save-row-12, save-row-none}
+use Rattle.image.proofs.Fitting.{save_fits_to}
+use Rattle.image_save.proofs.SaveRows.{save_row_21, save-row-1, save-row-4, save-row-12, save-row-none}
 
 turned-away-requires : tie.Need-turned-away-requires
 turned-away-requires c κs = search rules
@@ -16,7 +16,7 @@ turned-away-requires c κs = search rules
 returns : tie.Need-returns
 returns c =
     let a = c.before.before.before.before.before.args in
-    save-row-21 a.role a.n a.free a.map.now a.count a.sound a.scratch.now a.image.now
+    save_row_21 a.role a.n a.free a.map.now a.count a.sound a.scratch.now a.image.now
     (sym c.before.turned-away.ensures ∙ c.if1.true)
 
 save-fits-requires : tie.Need-save-fits-requires
@@ -41,13 +41,13 @@ returns-3 c =
 frames-for-requires : tie.Need-frames-for-requires
 frames-for-requires c κs =
     let at = c.before in
-    let s = save-fits-to _ _ _ _ _ (holds at.before.save-fits.ensures at.if2.false) in
+    let s = save_fits_to _ _ _ _ _ (holds at.before.save-fits.ensures at.if2.false) in
     (s.limits.limit, s.count.few)
 
 mul-if4 : tie.Need-overflow-mul-if4
 mul-if4 c =
     let at = c.before.before in
-    let s = save-fits-to _ _ _ _ _ (holds at.before.save-fits.ensures at.if2.false) in
+    let s = save_fits_to _ _ _ _ _ (holds at.before.save-fits.ensures at.if2.false) in
     omega (arith, s.limits.limit, s.count.few)
 
 returns-4 : tie.Need-returns-4

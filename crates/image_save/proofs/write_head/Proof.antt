@@ -9,7 +9,7 @@ use borrow.Author.Rules.{rules}
 use borrow.Author.Tests.{eq-eqb, ne_eqb}
 use Rattle.image_frames.specs.Numbers.{with_number}
 use Rattle.image.specs.Cursors.{cursor}
-use Rattle.image_save.specs.Parts.{headCursor, headImage}
+use Rattle.image_save.specs.Parts.{head_cursor, head_image}
 use Rattle.image_save.proofs.write_head.Statement.{statement}
 use Rattle.image_save.proofs.write_head.Tie as tie
 
@@ -17,17 +17,17 @@ module _ (n spare count number : ℕ) (image : List ℕ) where
   abbrev whole : List ℕ
   whole = with_number (with_number (with_number image 0 n) 1 spare) 2 (count % 4294967296)
 
-  refused : (number ≡ 0 → ⊥) → (cursor 3 true ≡ headCursor n spare count number image)
-      × (image ≡ headImage n spare count number image)
-  unfolding headCursor headImage
+  refused : (number ≡ 0 → ⊥) → (cursor 3 true ≡ head_cursor n spare count number image)
+      × (image ≡ head_image n spare count number image)
+  unfolding head_cursor head_image
   refused h = (
     ap (λ (b : Bool). cursor 3 (not b)) (sym (ne_eqb number 0 h)),
     ap (λ (b : Bool). cond b whole image) (sym (ne_eqb number 0 h)),
   )
 
-  written : number ≡ 0 → (cursor 3 false ≡ headCursor n spare count number image)
-      × (whole ≡ headImage n spare count number image)
-  unfolding headCursor headImage
+  written : number ≡ 0 → (cursor 3 false ≡ head_cursor n spare count number image)
+      × (whole ≡ head_image n spare count number image)
+  unfolding head_cursor head_image
   written h = (
     ap (λ (b : Bool). cursor 3 (not b)) (sym (eq-eqb number 0 h)),
     ap (λ (b : Bool). cond b whole image) (sym (eq-eqb number 0 h)),

@@ -15,7 +15,7 @@ use Rattle.image_save.specs.Parts.{rest_fits, rest_image}
 use Rattle.image.specs.declared.Cursor.{Cursor}
 use Rattle.image_save.proofs.write_rest.Statement.{statement}
 use Rattle.image_save.proofs.write_rest.Tie as tie
-use Rattle.image_save.proofs.Room.{rest-to}
+use Rattle.image_save.proofs.Room.{rest_to}
 
 module _ (map : List ℕ) (at : Cursor) (image : List ℕ) where
   abbrev end : ℕ
@@ -54,7 +54,7 @@ returns c =
 
 write-words-requires : tie.Need-write-words-requires
 write-words-requires c κs =
-    let r = rest-to _ _ _ (holds c.before.before.rest-fits.ensures c.before.if1.false) in
+    let r = rest_to _ _ _ (holds c.before.before.rest-fits.ensures c.before.if1.false) in
     let w = r.whole in
     let m = r.room in
     (omega (arith, w.exact, w.few), m)
@@ -65,14 +65,14 @@ mul-put-zeros c = search rules
 add-put-zeros : tie.Need-overflow-add-put-zeros
 add-put-zeros c =
     let at = c.before.before.before.before.before.before in
-    let r = rest-to _ _ _ (holds at.before.rest-fits.ensures at.if1.false) in
+    let r = rest_to _ _ _ (holds at.before.rest-fits.ensures at.if1.false) in
     record { fits = omega (arith, r.near, r.few) }
 
 put-zeros-requires : tie.Need-put-zeros-requires
 put-zeros-requires c κs =
     let at = c.before.before.before.before.before.before in
     let a = at.before.before.before.before.args in
-    let r = rest-to _ _ _ (holds at.before.rest-fits.ensures at.if1.false) in
+    let r = rest_to _ _ _ (holds at.before.rest-fits.ensures at.if1.false) in
     let same : length c.before.before.before.before.write-words.new.0 ≡ length a.image.now =
     c.before.before.before.image.given in (
       omega (arith, r.whole.exact, r.whole.few),
@@ -83,7 +83,7 @@ seal-all-requires : tie.Need-seal-all-requires
 seal-all-requires c κs =
     let at = c.before.before.before.before.before.before.before.before.before.before in
     let a = at.before.before.before.before.args in
-    let r = rest-to _ _ _ (holds at.before.rest-fits.ensures at.if1.false) in
+    let r = rest_to _ _ _ (holds at.before.rest-fits.ensures at.if1.false) in
     let next : length c.before.before.before.before.before.before.before.before.write-words.new.0
     ≡ length a.image.now = c.before.before.before.before.before.before.before.image.given in
     let more : length c.before.before.before.put-zeros.new.0 ≡ length a.image.now =

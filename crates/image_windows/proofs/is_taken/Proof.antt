@@ -1,7 +1,7 @@
 -- `is_taken` meets its contract.
 -- Assumes nothing.
 use Rattle.std.proofs.Common.{◌∙◌, rules}
-use Rattle.image_soundness.proofs.Steps.{taken-short, taken-all}
+use Rattle.image_soundness.proofs.Steps.{taken_short, taken_all}
 use Rattle.image_windows.proofs.is_taken.Statement.{statement}
 use Rattle.image_windows.proofs.is_taken.Tie as tie
 
@@ -15,13 +15,13 @@ cast-if1 : tie.Need-overflow-cast-if1
 cast-if1 c = search rules
 
 returns : tie.Need-returns
-returns c = taken-short _ _ _ c.if1.true
+returns c = taken_short _ _ _ c.if1.true
 
 all-marked-requires : tie.Need-all-marked-requires
 all-marked-requires c κs = search rules
 
 returns-2 : tie.Need-returns-2
-returns-2 c = c.all-marked.ensures ∙ taken-all _ _ _ c.before.if1.false
+returns-2 c = c.all-marked.ensures ∙ taken_all _ _ _ c.before.if1.false
 
 pub is_taken_spec : {M : Type 1} → statement M
 is_taken_spec =

@@ -2,8 +2,8 @@
 -- Assumes nothing.
 use Rattle.std.proofs.Common.{◌∙◌, arith, rules}
 use Rattle.catalogue_standings.proofs.Tested.{fails, holds}
-use Rattle.image_soundness.proofs.Parts.{part-past, part-fails, part-releases}
-use Rattle.image_soundness.proofs.Steps.{taken-fits}
+use Rattle.image_soundness.proofs.Parts.{part_past, part-fails, part-releases}
+use Rattle.image_soundness.proofs.Steps.{taken_fits}
 use Rattle.image_windows.proofs.release_part.Statement.{statement}
 use Rattle.image_windows.proofs.release_part.Tie as tie
 
@@ -32,7 +32,7 @@ lesser-requires : tie.Need-lesser-requires
 lesser-requires c κs = search rules
 
 returns : tie.Need-returns
-returns c = part-past _ _ _ _ _ c.before.before.larger.ensures c.before.lesser.ensures c.if1.true
+returns c = part_past _ _ _ _ _ c.before.before.larger.ensures c.before.lesser.ensures c.if1.true
 
 sub-s : tie.Need-overflow-sub-s
 sub-s c = search rules
@@ -61,7 +61,7 @@ returns-2 c =
 mark-requires : tie.Need-mark-requires
 mark-requires c κs =
     let at = c.before.before.before.before in
-    let f = taken-fits _ _ _ (holds c.before.before.is-taken.ensures c.before.if2.false) in
+    let f = taken_fits _ _ _ (holds c.before.before.is-taken.ensures c.before.if2.false) in
     (omega (arith, at.before.lesser.ensures, at.before.before.larger.ensures), f)
 
 same-length-2 : tie.Need-same-length-2

@@ -47,7 +47,7 @@ module _ (n : ℕ) (l : List Sheet) (card : List ℕ) (k : Matches n l card) (ro
       (λ (h : ℕ). says_on n l role i ask (record { blank = y.blank; sound = y.sound; term = y.term; held = h })) same
 
   ends_so : end_of (state_of n l card) call ≡ taken n l card k role i m start (free_in n l) (verdict_in n l call)
-  unfolding effects.acceptOut effects.acceptMap effects.acceptCard effects.takenOut effects.takenMap effects.takenCard rows_for
+  unfolding effects.accept_out effects.accept_map effects.accept_card effects.taken_out effects.taken_map effects.taken_card rows_for
   ends_so =
       ap (taken n l card k role i m start (map-blocks.free (map_in n l)))
       (verdict-within n l card k role i ask limits sharing never)
@@ -57,12 +57,12 @@ module _ (n : ℕ) (l : List Sheet) (card : List ℕ) (k : Matches n l card) (ro
   unfolding table_of listed deed_in
   accepts h =
       takes n l card k role i m start (accept limits start m) (record {
-        ledger-is = refl;
-        values-are = refl;
-        grants-are = refl;
-        returns-are = refl;
+        ledger_is = refl;
+        values_are = refl;
+        grants_are = refl;
+        returns_are = refl;
         left_is = refl;
-        note-is = refl;
+        note_is = refl;
       }) (shown n l card k role i m start (clear 2 rows h).0 (clear 6 rows h).0 (clear 7 rows h).0 (clear 8 rows h).0
       (clear 3 rows h).0 (not-false _ (clear 17 rows h).0))
 
@@ -70,13 +70,13 @@ module _ (n : ℕ) (l : List Sheet) (card : List ℕ) (k : Matches n l card) (ro
   fits s = fit (free_in n l) 0 n 1 m s
 
   -- the verdict is that of the run which is asked for
-  by-search : Came 17 n l call → Searched 17 (only 17 (omega arith) fits (space_in n l) start) (space_in n l) (told_in n l call)
+  by_search : Came 17 n l call → Searched 17 (only 17 (omega arith) fits (space_in n l) start) (space_in n l) (told_in n l call)
   unfolding table_of listed before onwards first_of deed_in
-  by-search came =
+  by_search came =
       asked 17 (omega arith) fits (space_in n l) start (verdict_in n l call) (lowest_blank (view_in n l i))
       (from_there 17 rows came)
 
-  pub accept-result : Result n l card call (verdict_in n l call)
+  pub accept_result : Result n l card call (verdict_in n l call)
   unfolding table_of listed deed_in
-  accept-result = result-of n l card k call (taken n l card k role i m start (free_in n l)) ends_so refl accepts
-      (plain_back n l card k call _ refl (out-back n l card k i)) by-search
+  accept_result = result-of n l card k call (taken n l card k role i m start (free_in n l)) ends_so refl accepts
+      (plain_back n l card k call _ refl (out-back n l card k i)) by_search

@@ -20,20 +20,20 @@ use Rattle.ledger.proofs.SameBlocks.{changed}
 
 module _ (n : ℕ) (l : List Sheet) (card : List ℕ) (k : Matches n l card) (role i : ℕ) (c : Change) where
   -- behind 21 and 2 stand the rows of what it admits
-  admits-so : verdict_in n l (on role i (change c)) ≡ accepted → is_admitted (admits_of c) (standing_in (sheet_at l i)) ≡ true
+  admits_so : verdict_in n l (on role i (change c)) ≡ accepted → is_admitted (admits_of c) (standing_in (sheet_at l i)) ≡ true
   unfolding rows_for table_of listed
-  admits-so h =
+  admits_so h =
       let behind = (rest_accepted _ _ (rest_accepted _ _ h).1).1 in
       admitted (admits_of c) (view_by n l (turned_in role (change c)) i) (sheet_undamaged (sheet_at l i)) behind
 
-  pub change-result : Result n l card (on role i (change c)) (verdict_in n l (on role i (change c)))
-  unfolding effects.changeOut rows_for table_of listed deed_in
-  change-result = changes-mark n l card k role i (change c) (mark_after c) (change_in c) (record {
+  pub change_result : Result n l card (on role i (change c)) (verdict_in n l (on role i (change c)))
+  unfolding effects.change_out rows_for table_of listed deed_in
+  change_result = changes-mark n l card k role i (change c) (mark_after c) (change_in c) (record {
     ends_so = refl;
     plain = λ x y. refl;
     never = tt;
-    no-row-0 = refl;
-    no-row-9 = refl;
+    no_row_0 = refl;
+    no_row_9 = refl;
     does = λ n l. refl;
-    same = λ h. changed c (sheet_at l i) (admits-so h);
+    same = λ h. changed c (sheet_at l i) (admits_so h);
   })

@@ -15,22 +15,22 @@ use Rattle.closing.specs.Closed.{closed_card}
 use Rattle.closing.specs.Table.{close_fits}
 use Rattle.closing.proofs.Closes.{verdict-0}
 use Rattle.card.specs.Calls.{Kept, told}
-use Rattle.card.specs.Public.{endClose}
+use Rattle.card.specs.Public.{end_close}
 use Rattle.card.proofs.TurnedAway.{turned_close}
-use Rattle.card.specs.Closings.{closeOutcomeBy, closeMapBy, closeEntriesBy, closeCardBy}
+use Rattle.card.specs.Closings.{close_outcome_by, close_map_by, close_entries_by, close_card_by}
 use Rattle.roles.specs.Roles as roles
 use Rattle.roles.specs.Roles.{turned_away}
-use Rattle.card.proofs.Closings.{verdictBy, close-accepted}
+use Rattle.card.proofs.Closings.{verdict_by, close_accepted}
 use Rattle.ledger.specs.Calls.{close}
 use Rattle.ledger.specs.Ledger.{Sheet, closed_in, spare_in, verdict_in, deed_in}
 use Rattle.ledger.specs.Claim.{entry_in}
 use Rattle.ledger.specs.Lists.{saved_of}
 use Rattle.ledger.proofs.Plain.{End, ending, came, lends, end_of, scratch_of}
-use Rattle.ledger.proofs.Agreement.{map_in, state_of, Matches, shape-fits, sheets-fit}
-use Rattle.ledger.proofs.Closed.{entries-closed, map-closed, spare-closed, kept-closed, held-closed, has-closed}
+use Rattle.ledger.proofs.Agreement.{map_in, state_of, Matches, shape_fits_lem, sheets_fit_lem}
+use Rattle.ledger.proofs.Closed.{entries_closed, map_closed, spare_closed, kept_closed, held_closed, has_closed}
 use Rattle.ledger.proofs.Results as results
 use Rattle.ledger.proofs.Results.{Result, result-of, plain_back}
-use Rattle.ledger.proofs.Soundness.{kept-sound}
+use Rattle.ledger.proofs.Soundness.{kept_sound}
 
 module _ (n : ℕ) (l : List Sheet) (card : List ℕ) (k : Matches n l card) (role : ℕ) where
   abbrev scratch : List ℕ
@@ -41,14 +41,14 @@ module _ (n : ℕ) (l : List Sheet) (card : List ℕ) (k : Matches n l card) (ro
   fits =
       and_both _ _
       (and_both _ _
-      (and_both _ _ (and_both _ _ (shape-fits n l card k) (sheets-fit n l card k))
+      (and_both _ _ (and_both _ _ (shape_fits_lem n l card k) (sheets_fit_lem n l card k))
       (eq-eqb (length scratch) (scratch_words (length (map_in n l))) (length-replicate (scratch_words (length (map_in n l))) 0)))
       (eq-eqb (length card) (512 * n) k.room))
       refl
 
-  accepted_then : verdictBy false false [] (state_of n l card) scratch ≡ accepted
+  accepted_then : verdict_by false false [] (state_of n l card) scratch ≡ accepted
   accepted_then = verdict-0 false (saved_of (state_of n l card)) true (length card) (length scratch) refl fits
-      (kept-sound n l card k)
+      (kept_sound n l card k)
 
   abbrev left : List ℕ
   left = closed_card (map entry_in l) card
@@ -57,25 +57,25 @@ module _ (n : ℕ) (l : List Sheet) (card : List ℕ) (k : Matches n l card) (ro
   abbrev closes : End
   closes =
       let s = state_of n l card in
-      ending (closeOutcomeBy false false [] s scratch) (closeMapBy false false [] s scratch)
-      (closeEntriesBy false false [] s scratch)
-      (closeCardBy false false [] s scratch) []
+      ending (close_outcome_by false false [] s scratch) (close_map_by false false [] s scratch)
+      (close_entries_by false false [] s scratch)
+      (close_card_by false false [] s scratch) []
 
-  closes-so : closes ≡ results.end_in n l card (closed_in l) left Done []
-  closes-so =
-      let a = close-accepted false false [] (state_of n l card) scratch accepted_then in
-      λ t. ending (told-then t) (words-then t) (sheets-then t) (a.bytes t) []
+  closes_so : closes ≡ results.end_in n l card (closed_in l) left Done []
+  closes_so =
+      let a = close_accepted false false [] (state_of n l card) scratch accepted_then in
+      λ t. ending (told-then t) (words_then t) (sheets-then t) (a.bytes t) []
     where
       told-then : closes.outcome ≡ told (record { blocks = n; free = spare_in n (closed_in l) }) Done
       told-then =
-          (close-accepted false false [] (state_of n l card) scratch accepted_then).outcome
-          ∙ ap (λ (s : ℕ). told (record { blocks = n; free = s }) Done) (sym (spare-closed n l card k))
+          (close_accepted false false [] (state_of n l card) scratch accepted_then).outcome
+          ∙ ap (λ (s : ℕ). told (record { blocks = n; free = s }) Done) (sym (spare_closed n l card k))
 
-      words-then : closes.map ≡ map_in n (closed_in l)
-      words-then = (close-accepted false false [] (state_of n l card) scratch accepted_then).words ∙ map-closed n l card k
+      words_then : closes.map ≡ map_in n (closed_in l)
+      words_then = (close_accepted false false [] (state_of n l card) scratch accepted_then).words ∙ map_closed n l card k
 
       sheets-then : closes.entries ≡ map entry_in (closed_in l)
-      sheets-then = (close-accepted false false [] (state_of n l card) scratch accepted_then).sheets ∙ entries-closed l
+      sheets-then = (close_accepted false false [] (state_of n l card) scratch accepted_then).sheets ∙ entries_closed l
 
   abbrev ends : Verdict → End
   ends accepted = results.end_in n l card (closed_in l) left Done []
@@ -89,21 +89,21 @@ module _ (n : ℕ) (l : List Sheet) (card : List ℕ) (k : Matches n l card) (ro
       s : Kept
       s = state_of n l card
 
-      go : (t : Bool) → came (endClose t false s (lends s [])) ≡ ends (cond t (refused 21) accepted)
+      go : (t : Bool) → came (end_close t false s (lends s [])) ≡ ends (cond t (refused 21) accepted)
       go true = ap came (turned_close false s (lends s []))
-      go false = closes-so
+      go false = closes_so
 
-  pub close-result : Result n l card (close role) (verdict_in n l (close role))
+  pub close_result : Result n l card (close role) (verdict_in n l (close role))
   unfolding deed_in
-  close-result =
+  close_result =
       result-of n l card k (close role) ends ends_so refl
       (λ h. record {
         card_left = left;
         answer = Done;
         ends_so = refl;
         says_so = (refl, refl);
-        kept_left = kept-closed n l card k;
-        sum = ap (λ (b : ℕ). b + 0) (held-closed l);
-        noted_so = λ j p m was. has-closed l j p m was;
+        kept_left = kept_closed n l card k;
+        sum = ap (λ (b : ℕ). b + 0) (held_closed l);
+        noted_so = λ j p m was. has_closed l j p m was;
       })
       (plain_back n l card k (close role) (λ number. ends (refused number)) refl (λ number. refl)) tt

@@ -11,7 +11,7 @@ use borrow.Author.Tests.{leb-false, eqb-true}
 use Rattle.catalogue.specs.Entries.{complete_mark, open_mark}
 use Rattle.map_blocks.specs.Blocks.{all, least}
 use Rattle.map_blocks.proofs.Least.{least_same}
-use Rattle.map_blocks.proofs.Runs.{all-intro, all_same}
+use Rattle.map_blocks.proofs.Runs.{all_intro, all_same}
 use Rattle.catalogue.specs.declared.Entry.{Entry}
 use Rattle.catalogue_standings.specs.Answers.{number_of, values_of}
 use Rattle.catalogue_standings.specs.Rows.{Row, Verdict, accepted, refused, settle}
@@ -68,11 +68,11 @@ module _ (n : ℕ) (l : List Sheet) (card : List ℕ) (k : Matches n l card) (ro
 
   never : NeverRows n l card k role i complete
   unfolding rows_for
-  never = (λ h. ap not (all-intro _ 0 (length_in (sheet_at l i)) (λ p a b. or_not (is_blank (place_at l i p)))), tt)
+  never = (λ h. ap not (all_intro _ 0 (length_in (sheet_at l i)) (λ p a b. or_not (is_blank (place_at l i p)))), tt)
 
   -- the place that goes with 9
   abbrev given : ℕ
-  given = effects.blankPlace (called_by turns (lent n (spare_in n l) (map_in n l) card (length (map entry_in l)) e i))
+  given = effects.blank_place (called_by turns (lent n (spare_in n l) (map_in n l) card (length (map entry_in l)) e i))
 
   abbrev answer : ℕ → Answer
   answer number = cond (eqb number 9) (answers.Blank given) (Refused number)
@@ -86,13 +86,13 @@ module _ (n : ℕ) (l : List Sheet) (card : List ℕ) (k : Matches n l card) (ro
   abbrev ends : Verdict → End
   ends = stored (entry_of complete_mark e.start e.length)
 
-  verdict : effects.completeVerdict (called_by turns (lent n (spare_in n l) (map_in n l) card (length (map entry_in l)) e i))
+  verdict : effects.complete_verdict (called_by turns (lent n (spare_in n l) (map_in n l) card (length (map entry_in l)) e i))
       ≡ verdict_in n l call
-  unfolding effects.completeVerdict
+  unfolding effects.complete_verdict
   verdict = verdict-on n l card k role i complete own never
 
   ends_so : end_of (state_of n l card) call ≡ ends (verdict_in n l call)
-  unfolding effects.completeOut
+  unfolding effects.complete_out
   ends_so = ap ends verdict
 
   accepts : verdict_in n l call ≡ accepted → results.Done n l card call (ends accepted)
@@ -118,13 +118,13 @@ module _ (n : ℕ) (l : List Sheet) (card : List ℕ) (k : Matches n l card) (ro
         says_so = (refl, refl);
         moved = omega (arith, w, ap length_in o.2);
         noted_here = λ p m had holds. ap (λ (ps : List Place). get_or ps p Blank) filled ∙ subst (Has p m) o.2 had refl;
-        noted-there = λ j p m ne. refl;
+        noted_there = λ j p m ne. refl;
       })
 
   -- the place given is the ledger's
-  given-same : verdict_in n l call ≡ refused 9 → given ≡ lowest_blank (view_in n l i)
-  unfolding effects.blankPlace lowest_blank view_on
-  given-same nine =
+  given_same : verdict_in n l call ≡ refused 9 → given ≡ lowest_blank (view_in n l i)
+  unfolding effects.blank_place lowest_blank view_on
+  given_same nine =
       ap (λ (s : Standing). start_at (least (on-card n l card k turns i).blank 0 (length_of s)))
       (stands_same n l card k turns i lt)
       ∙ ap start_at (least_same (on-card n l card k turns i).blank (λ p. is_blank (place_at l i p)) 0 (length_in (sheet_at l i))
@@ -155,9 +155,9 @@ module _ (n : ℕ) (l : List Sheet) (card : List ℕ) (k : Matches n l card) (ro
           × (values_of (answer number) ≡ cond (eqb number 9) (lowest_blank (view_in n l i) ∷ []) [])
       with-place number h true q =
           let nine : number ≡ 9 = eqb-true number 9 q in
-          rw (q) (sym nine, ap (λ (p : ℕ). p ∷ []) (given-same (h ∙ ap refused nine)))
+          rw (q) (sym nine, ap (λ (p : ℕ). p ∷ []) (given_same (h ∙ ap refused nine)))
       with-place number h false q = rw (q) (refl, refl)
 
-  pub complete-result : Result n l card call (verdict_in n l call)
+  pub complete_result : Result n l card call (verdict_in n l call)
   unfolding table_of listed deed_in
-  complete-result = result-of n l card k call ends ends_so refl accepts refuses tt
+  complete_result = result-of n l card k call ends ends_so refl accepts refuses tt

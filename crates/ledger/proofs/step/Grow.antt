@@ -102,7 +102,7 @@ module _ (n : ℕ) (l : List Sheet) (card : List ℕ) (k : Matches n l card) (ro
       (λ (h : ℕ). says_on n l role i ask (record { blank = y.blank; sound = y.sound; term = y.term; held = h })) same
 
   ends_so : end_of (state_of n l card) call ≡ ends (verdict_in n l call)
-  unfolding effects.growOut effects.growMap effects.growCard rows_for
+  unfolding effects.grow_out effects.grow_map effects.grow_card rows_for
   ends_so = ap ends (verdict-within n l card k role i ask limits sharing never)
 
   accepts : verdict_in n l call ≡ accepted → results.Done n l card call (ends accepted)
@@ -126,10 +126,10 @@ module _ (n : ℕ) (l : List Sheet) (card : List ℕ) (k : Matches n l card) (ro
         says_so = (refl, refl);
         moved = omega (arith, s.wide, ap length_in s.was);
         noted_here = λ p q had holds. more_at s.places m p ∙ subst (Has p q) s.was had refl;
-        noted-there = λ j p q ne. refl;
+        noted_there = λ j p q ne. refl;
       })
 
-  pub grow-result : Result n l card call (verdict_in n l call)
+  pub grow_result : Result n l card call (verdict_in n l call)
   unfolding table_of listed deed_in
-  grow-result = result-of n l card k call ends ends_so refl accepts (plain_back n l card k call _ refl (out-back n l card k i))
+  grow_result = result-of n l card k call ends ends_so refl accepts (plain_back n l card k call _ refl (out-back n l card k i))
       tt

@@ -44,13 +44,13 @@ module _ (n : ℕ) (l : List Sheet) (card : List ℕ) (k : Matches n l card) (ro
   rows = rows_in n l call
 
   -- what it comes to, for a start
-  abbrev tellsAt : ℕ → Verdict → End
-  tellsAt start v =
+  abbrev tells_at : ℕ → Verdict → End
+  tells_at start v =
       ending (told (record { blocks = n; free = spare_in n l }) (settle v (Start start m) Refused)) (map_in n l) (map entry_in l)
       card []
 
   abbrev ends : Verdict → End
-  ends = tellsAt (least_in n l m plain)
+  ends = tells_at (least_in n l m plain)
 
   -- its rows are those of the plain reserve
   never : NeverRows n l card k role i (offer limits m)
@@ -63,26 +63,26 @@ module _ (n : ℕ) (l : List Sheet) (card : List ℕ) (k : Matches n l card) (ro
       (λ (h : ℕ). says_on n l role i ask (record { blank = y.blank; sound = y.sound; term = y.term; held = h })) same
 
   ends_so : end_of (state_of n l card) call ≡ ends (verdict_in n l call)
-  unfolding effects.offerAnswer rows_for
+  unfolding effects.offer_answer rows_for
   ends_so =
-      ap (tellsAt (start_at (least_within (map-blocks.free (map_in n l)) g m)))
+      ap (tells_at (start_at (least_within (map-blocks.free (map_in n l)) g m)))
       (verdict-within n l card k role i ask limits sharing never)
-      ∙ ap (λ (f : ℕ → Bool). tellsAt (start_at (least_within f g m)) (verdict_in n l call)) (free_map n l)
+      ∙ ap (λ (f : ℕ → Bool). tells_at (start_at (least_within f g m)) (verdict_in n l call)) (free_map n l)
 
   accepts : verdict_in n l call ≡ accepted → results.Done n l card call (ends accepted)
   unfolding table_of listed deed_in
   accepts h = no_change n l card k call (ends accepted) (Start (least_in n l m plain) m) refl refl (λ j p m. refl) refl
       (refl, refl)
 
-  by-search : Came 10 n l call → Searched 10 (fit_within (free_in n l) g m) (λ start. m) (told_in n l call)
+  by_search : Came 10 n l call → Searched 10 (fit_within (free_in n l) g m) (λ start. m) (told_in n l call)
   unfolding table_of listed before onwards first_of deed_in least_fit
-  by-search came =
+  by_search came =
       let some : 0 < m = omega (arith, eqb-false m 0 (clear 3 (before 10 rows) came).0) in
       searched 10 (omega arith) (fit_within (free_in n l) g m) (λ start. m) g.before
       (λ s le. not_true _ (λ q. omega (arith, (fit_is (free_in n l) g.from g.before g.step m s q).high)))
       (verdict_in n l call) (lowest_blank (view_in n l i)) (from_there 10 rows came)
 
-  pub offer-result : Result n l card call (verdict_in n l call)
+  pub offer_result : Result n l card call (verdict_in n l call)
   unfolding table_of listed deed_in
-  offer-result = result-of n l card k call ends ends_so refl accepts (plain_back n l card k call _ refl (λ number. refl))
-      by-search
+  offer_result = result-of n l card k call ends ends_so refl accepts (plain_back n l card k call _ refl (λ number. refl))
+      by_search

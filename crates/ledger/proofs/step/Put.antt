@@ -54,13 +54,13 @@ module _ (n : ℕ) (l : List Sheet) (card : List ℕ) (k : Matches n l card) (ro
   ends = written (map entry_in l) e.start
 
   ends_so : end_of (state_of n l card) call ≡ ends (verdict_in n l call)
-  unfolding effects.putAnswer effects.putCard rows_for
+  unfolding effects.put_answer effects.put_card rows_for
   ends_so = ap ends (verdict-on n l card k role i (put p payload) (λ x y alike. refl) tt)
 
-  put-at : (ps : List Place) (q : ℕ) (m : Place) → p < length ps → get_or ps q Blank ≡ m → (t : Bool) → eqb q p ≡ t
+  put_at : (ps : List Place) (q : ℕ) (m : Place) → p < length ps → get_or ps q Blank ≡ m → (t : Bool) → eqb q p ≡ t
       → get_or (set ps p (Payload payload)) q Blank ≡ cond t (Payload payload) m
-  put-at ps q m lp was true h = rw (eqb-true q p h) (get_or-set_same ps p (Payload payload) Blank lp)
-  put-at ps q m lp was false h = get_or-set_other ps p q (Payload payload) Blank (eqb-false q p h) ∙ was
+  put_at ps q m lp was true h = rw (eqb-true q p h) (get_or-set_same ps p (Payload payload) Blank lp)
+  put_at ps q m lp was false h = get_or-set_other ps p q (Payload payload) Blank (eqb-false q p h) ∙ was
 
   accepts : verdict_in n l call ≡ accepted → results.Done n l card call (ends accepted)
   unfolding table_of listed deed_in
@@ -93,11 +93,11 @@ module _ (n : ℕ) (l : List Sheet) (card : List ℕ) (k : Matches n l card) (ro
         says_so = (refl, refl);
         moved = omega (arith, w, ap length_in o.2);
         noted_here = λ q m had holds. rw (eq-eqb i i refl)
-            (put-at o.1 q m lp (subst (Has q m) o.2 had refl) (eqb q p) refl);
-        noted-there = λ j q m ne. rw (ne_eqb j i ne);
+            (put_at o.1 q m lp (subst (Has q m) o.2 had refl) (eqb q p) refl);
+        noted_there = λ j q m ne. rw (ne_eqb j i ne);
       })
 
-  pub put-result : Result n l card call (verdict_in n l call)
+  pub put_result : Result n l card call (verdict_in n l call)
   unfolding table_of listed deed_in
-  put-result = result-of n l card k call ends ends_so refl accepts (plain_back n l card k call _ refl (λ number. refl))
+  put_result = result-of n l card k call ends ends_so refl accepts (plain_back n l card k call _ refl (λ number. refl))
       tt

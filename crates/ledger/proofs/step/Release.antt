@@ -22,8 +22,8 @@ use Rattle.ledger.proofs.Plain.{End, end_of}
 use Rattle.ledger.proofs.Agreement.{map_in, state_of, Matches, verdict-at}
 use Rattle.ledger.proofs.Wings.{entry_at_lem}
 use Rattle.ledger.proofs.Cover.{length_held}
-use Rattle.ledger.proofs.Keeping.{keep-release}
-use Rattle.ledger.proofs.Listed.{spare-is}
+use Rattle.ledger.proofs.Keeping.{keep_release}
+use Rattle.ledger.proofs.Listed.{spare_is}
 use Rattle.ledger.proofs.Results as results
 use Rattle.ledger.proofs.Results.{Result, outEnd, out-back, plain_back, one-sheet, result-of}
 
@@ -45,11 +45,11 @@ module _ (n : ℕ) (l : List Sheet) (card : List ℕ) (k : Matches n l card) (ro
   ends = freed (results.e n l card k i)
 
   ends_so : end_of (state_of n l card) call ≡ ends (verdict_in n l call)
-  unfolding effects.releaseOut effects.releaseMap rows_for
+  unfolding effects.release_out effects.release_map rows_for
   ends_so =
       ap ends
       (verdict-at n l card k role i release (λ x y. refl)
-      (λ h. le-ltb n (spare_in n l + length_in (sheet_at l i)) (omega (arith, spare-is n l k.sound, length_held l i)), tt))
+      (λ h. le-ltb n (spare_in n l + length_in (sheet_at l i)) (omega (arith, spare_is n l k.sound, length_held l i)), tt))
 
   accepts : verdict_in n l call ≡ accepted → results.Done n l card call (ends accepted)
   unfolding table_of listed deed_in
@@ -65,16 +65,16 @@ module _ (n : ℕ) (l : List Sheet) (card : List ℕ) (k : Matches n l card) (ro
         card_left = card;
         entry = entry_of absent_mark 0 0;
         answer = Done;
-        changed = keep-release n l card k i lt;
+        changed = keep_release n l card k i lt;
         stored = refl;
         ends_so = ap (λ (e : Entry). freed e accepted) (entry_at_lem l i lt);
         says_so = (refl, refl);
         moved = omega arith;
         noted_here = λ p m was holds. absurd (false≢true holds);
-        noted-there = λ j p m ne. refl;
+        noted_there = λ j p m ne. refl;
       })
 
-  pub release-result : Result n l card call (verdict_in n l call)
+  pub release_result : Result n l card call (verdict_in n l call)
   unfolding table_of listed deed_in
-  release-result = result-of n l card k call ends ends_so refl accepts
+  release_result = result-of n l card k call ends ends_so refl accepts
       (plain_back n l card k call _ refl (out-back n l card k i)) tt

@@ -59,17 +59,17 @@ module _ (n : ℕ) (l : List Sheet) (card : List ℕ) (k : Matches n l card) (ro
       (plain_fit (free_in n l) n g m start (figured n g h15).inside (least_fits (free_in n l) g m h10))
 
   -- whoever calls: an offer has these rows by another name
-  pub never-for : (t : Bool)
+  pub never_for : (t : Bool)
       → Never (row 2 (leb (length l) i) ∷ row 21 t ∷ []) (rows_for (view_by n l t i) (reserve limits m placement))
   unfolding rows_for
-  never-for t = (
+  never_for t = (
     (λ h. enough n l card k role i m start (seen (clear 2 _ h).0 (clear 6 _ h).0 (clear 7 _ h).0 (clear 8 _ h).0
         (clear 3 _ h).0 (clear 15 _ h).0 (clear 10 _ h).0)),
     tt,
   )
 
   never : NeverRows n l card k role i (reserve limits m placement)
-  never = never-for (turned_in role (reserve limits m placement))
+  never = never_for (turned_in role (reserve limits m placement))
 
   sharing : Sharing n l role i ask
   unfolding rows_for
@@ -77,7 +77,7 @@ module _ (n : ℕ) (l : List Sheet) (card : List ℕ) (k : Matches n l card) (ro
       (λ (h : ℕ). says_on n l role i ask (record { blank = y.blank; sound = y.sound; term = y.term; held = h })) same
 
   ends_so : end_of (state_of n l card) call ≡ taken n l card k role i m start (free_in n l) (verdict_in n l call)
-  unfolding effects.reserveOut effects.reserveMap effects.reserveCard effects.takenOut effects.takenMap effects.takenCard
+  unfolding effects.reserve_out effects.reserve_map effects.reserve_card effects.taken_out effects.taken_map effects.taken_card
       rows_for
   ends_so =
       ap (taken n l card k role i m (start_at (least_within (map-blocks.free (map_in n l)) g m)) (map-blocks.free (map_in n l)))
@@ -88,25 +88,25 @@ module _ (n : ℕ) (l : List Sheet) (card : List ℕ) (k : Matches n l card) (ro
   unfolding table_of listed deed_in
   accepts h =
       takes n l card k role i m start (reserve limits m placement) (record {
-        ledger-is = refl;
-        values-are = refl;
-        grants-are = refl;
-        returns-are = refl;
+        ledger_is = refl;
+        values_are = refl;
+        grants_are = refl;
+        returns_are = refl;
         left_is = refl;
-        note-is = refl;
+        note_is = refl;
       }) (seen (clear 2 rows h).0 (clear 6 rows h).0 (clear 7 rows h).0 (clear 8 rows h).0 (clear 3 rows h).0
       (clear 15 rows h).0 (clear 10 rows h).0)
 
   -- no start from `before` on is a fit, and the verdict is that of the search alone
-  by-search : Came 10 n l call → Searched 10 (fit_within (free_in n l) g m) (space_in n l) (told_in n l call)
+  by_search : Came 10 n l call → Searched 10 (fit_within (free_in n l) g m) (space_in n l) (told_in n l call)
   unfolding table_of listed before onwards first_of deed_in least_fit
-  by-search came =
+  by_search came =
       let some : 0 < m = omega (arith, eqb-false m 0 (clear 3 (before 10 rows) came).0) in
       searched 10 (omega arith) (fit_within (free_in n l) g m) (space_in n l) g.before
       (λ s le. not_true _ (λ q. omega (arith, (fit_is (free_in n l) g.from g.before g.step m s q).high)))
       (verdict_in n l call) (lowest_blank (view_in n l i)) (from_there 10 rows came)
 
-  pub reserve-result : Result n l card call (verdict_in n l call)
+  pub reserve_result : Result n l card call (verdict_in n l call)
   unfolding table_of listed deed_in
-  reserve-result = result-of n l card k call (taken n l card k role i m start (free_in n l)) ends_so refl accepts
-      (plain_back n l card k call _ refl (out-back n l card k i)) by-search
+  reserve_result = result-of n l card k call (taken n l card k role i m start (free_in n l)) ends_so refl accepts
+      (plain_back n l card k call _ refl (out-back n l card k i)) by_search

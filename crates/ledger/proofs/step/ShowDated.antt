@@ -15,7 +15,7 @@ use Rattle.ledger.specs.Calls.{on}
 use Rattle.ledger.specs.Ledger.{Sheet, listed, rows_in, verdict_in, deed_in}
 use Rattle.ledger.proofs.Agreement.{Matches, OwnPlaces, says_on}
 use Rattle.ledger.proofs.Results.{Result}
-use Rattle.ledger.proofs.Showing.{misses, inside, sound-there, shows-place}
+use Rattle.ledger.proofs.Showing.{misses, inside, sound_there, shows_place}
 
 module _ (n : ℕ) (l : List Sheet) (card : List ℕ) (k : Matches n l card) (role i p : ℕ) (date : Date) (buffer : List ℕ) where
   abbrev ask : Ask
@@ -41,20 +41,20 @@ module _ (n : ℕ) (l : List Sheet) (card : List ℕ) (k : Matches n l card) (ro
         e,
       )
 
-  pub show-dated-result : Result n l card (on role i ask) (verdict_in n l (on role i ask))
-  unfolding effects.showDatedAnswer effects.showDatedBuffer rows_for table_of listed deed_in
-  show-dated-result = shows-place n l card k role i p buffer ask (record {
+  pub show_dated_result : Result n l card (on role i ask) (verdict_in n l (on role i ask))
+  unfolding effects.show_dated_answer effects.show_dated_buffer rows_for table_of listed deed_in
+  show_dated_result = shows_place n l card k role i p buffer ask (record {
     ends_so = refl;
     own = own;
     never = (
-      (λ h. sound-there n l i p buffer ((clear 5 _ h).0, (clear 6 _ h).0, (clear 7 _ h).0, (clear 3 _ h).0) 0 (omega arith)),
+      (λ h. sound_there n l i p buffer ((clear 5 _ h).0, (clear 6 _ h).0, (clear 7 _ h).0, (clear 3 _ h).0) 0 (omega arith)),
       (
-        (λ h. sound-there n l i p buffer ((clear 5 _ h).0, (clear 6 _ h).0, (clear 7 _ h).0, (clear 3 _ h).0) p (omega arith)),
+        (λ h. sound_there n l i p buffer ((clear 5 _ h).0, (clear 6 _ h).0, (clear 7 _ h).0, (clear 3 _ h).0) p (omega arith)),
         tt,
       ),
     );
-    no-row-0 = refl;
-    no-row-9 = refl;
+    no_row_0 = refl;
+    no_row_9 = refl;
     does = λ n l. refl;
     passed = λ h. ((clear 5 rows h).0, (clear 6 rows h).0, (clear 7 rows h).0, (clear 3 rows h).0);
   })

@@ -28,16 +28,16 @@ module _ (n : ℕ) (l : List Sheet) (card : List ℕ) (k : Matches n l card) (ro
   abbrev rows : List Row
   rows = rows_in n l call
 
-  abbrev tellsOf : Entry → Verdict → End
-  tellsOf e v =
+  abbrev tells_of : Entry → Verdict → End
+  tells_of e v =
       ending (told (record { blocks = n; free = spare_in n l }) (settle v (Reads e.mark e.start e.length) Refused))
       (map_in n l) (map entry_in l) card []
 
   abbrev ends : Verdict → End
-  ends = tellsOf (results.e n l card k i)
+  ends = tells_of (results.e n l card k i)
 
   ends_so : end_of (state_of n l card) call ≡ ends (verdict_in n l call)
-  unfolding effects.standingAnswer rows_for
+  unfolding effects.standing_answer rows_for
   ends_so = ap ends (verdict-at n l card k role i standing (λ x y. refl) tt)
 
   accepts : verdict_in n l call ≡ accepted → results.Done n l card call (ends accepted)
@@ -46,9 +46,9 @@ module _ (n : ℕ) (l : List Sheet) (card : List ℕ) (k : Matches n l card) (ro
       let lt : i < length l = leb-false (length l) i (clear 2 rows h).0 in
       let x = entry_in (sheet_at l i) in
       no_change n l card k call (ends accepted) (Reads x.mark x.start x.length) refl refl (λ j p m. refl)
-      (ap (λ (e : Entry). tellsOf e accepted) (entry_at_lem l i lt)) (refl, refl)
+      (ap (λ (e : Entry). tells_of e accepted) (entry_at_lem l i lt)) (refl, refl)
 
-  pub standing-result : Result n l card call (verdict_in n l call)
+  pub standing_result : Result n l card call (verdict_in n l call)
   unfolding table_of listed deed_in
-  standing-result = result-of n l card k call ends ends_so refl accepts (plain_back n l card k call _ refl (λ number. refl))
+  standing_result = result-of n l card k call ends ends_so refl accepts (plain_back n l card k call _ refl (λ number. refl))
       tt

@@ -11,7 +11,7 @@ use Rattle.map_blocks.specs.Blocks.{all}
 use Rattle.map_blocks.specs.Words.{bit, has_all}
 use Rattle.laws.proofs.Bools.{and_left, and_right, and_both, not_true, clash}
 use Rattle.map_blocks.proofs.Masks.{has_all_elim, has_all_intro}
-use Rattle.map_blocks.proofs.Runs.{all-elim}
+use Rattle.map_blocks.proofs.Runs.{all_elim}
 
 module _ (g : ℕ → Bool) (lo hi base w m : ℕ) (mask : (j : ℕ) → j < 64 → bit m j ≡ (leb lo (base + j) && ltb (base + j) hi))
     (shows : (j : ℕ) → j < 64 → bit w j ≡ g (base + j)) where
@@ -29,4 +29,4 @@ module _ (g : ℕ → Bool) (lo hi base w m : ℕ) (mask : (j : ℕ) → j < 64 
       let inside : (leb lo (base + j) && ltb (base + j) hi) ≡ true = sym (mask j u) ∙ b in
       let a : lo ≤ base + j = leb-true lo (base + j) (and_left (leb lo (base + j)) (ltb (base + j) hi) inside) in
       let c : base + j < hi = ltb-true (base + j) hi (and_right (leb lo (base + j)) (ltb (base + j) hi) inside) in
-      shows j u ∙ all-elim g lo k h (base + j) a (omega arith))) e)
+      shows j u ∙ all_elim g lo k h (base + j) a (omega arith))) e)

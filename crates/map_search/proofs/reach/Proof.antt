@@ -11,7 +11,7 @@ use Rattle.map_blocks.specs.Words.{bit, in_window}
 use Rattle.map_search_word.specs.Scan.{Carried}
 use Rattle.map_blocks.proofs.Maps.{cut_word}
 use Rattle.map_search.proofs.Words.{past_word}
-use Rattle.map_search.proofs.Window.{at-start, whole_words}
+use Rattle.map_search.proofs.Window.{at_start, whole_words}
 use Rattle.map_search.proofs.reach.Statement.{statement}
 use Rattle.map_search.proofs.reach.Tie as tie
 
@@ -50,7 +50,7 @@ returns c =
       (omega arith, omega arith),
       (
         cut_word a.map.now a.from a.before (a.from / 64) c.before.part.result c.before.part.ensures,
-        λ k h. at-start (free a.map.now) a.from a.before k (a.from / 64 * 64) h (omega arith),
+        λ k h. at_start (free a.map.now) a.from a.before k (a.from / 64 * 64) h (omega arith),
       ),
     )
 
@@ -64,7 +64,7 @@ returns-2 c =
       (
         cut_word a.map.now a.from a.before (a.from / 64) c.before.before.part.result
             c.before.before.part.ensures,
-        λ k h. at-start (free a.map.now) a.from a.before k (a.from / 64 * 64) h (omega arith),
+        λ k h. at_start (free a.map.now) a.from a.before k (a.from / 64 * 64) h (omega arith),
       ),
     )
 
@@ -78,7 +78,7 @@ loop-holds c =
       omega arith,
       cut_word a.map.now a.from a.before (a.from / 64) c.before.before.part.result
           c.before.before.part.ensures,
-      λ k h. at-start (free a.map.now) a.from a.before k (a.from / 64 * 64) h (omega arith),
+      λ k h. at_start (free a.map.now) a.from a.before k (a.from / 64 * 64) h (omega arith),
     )
 
 add-i : tie.Need-overflow-add-i invariant-loop decreases-loop

@@ -13,8 +13,8 @@ use Rattle.map_blocks.specs.declared.Found.TheVariants.{At, Nothing}
 use Rattle.map_search_word.specs.Scan.{Carried}
 use Rattle.map_blocks.proofs.Bits.{bit_zero}
 use Rattle.map_search_word.proofs.Ends.{first_set}
-use Rattle.map_search_word.proofs.Scan.{next, gap-hit, tail_below}
-use Rattle.map_search.proofs.Window.{at-start, at-end, told-least}
+use Rattle.map_search_word.proofs.Scan.{next, gap_hit, tail_below}
+use Rattle.map_search.proofs.Window.{at_start, at_end, told_least}
 use Rattle.map_search.proofs.search.Statement.{statement}
 use Rattle.map_search.proofs.search.Tie as tie
 
@@ -22,9 +22,9 @@ returns : tie.Need-returns
 returns c =
     let a = c.before.before.args in
     let g : ℕ → Bool = free a.map.now in
-    told-least g a.from a.before a.k (omega arith) Nothing
-    (at-end g a.from a.before a.k a.from 0 c.if1.true
-    (at-start g a.from a.before a.k a.from (omega arith) (omega arith)))
+    told_least g a.from a.before a.k (omega arith) Nothing
+    (at_end g a.from a.before a.k a.from 0 c.if1.true
+    (at_start g a.from a.before a.k a.from (omega arith) (omega arith)))
 
 reach-requires : tie.Need-reach-requires
 reach-requires c κs = search rules
@@ -59,7 +59,7 @@ search-on-requires c κs =
 returns-2 : tie.Need-returns-2
 returns-2 c =
     let a = c.before.before.before.before.before.before.before.before.args in
-    told-least (free a.map.now) a.from a.before a.k (omega arith) c.search-on.result c.search-on.ensures
+    told_least (free a.map.now) a.from a.before a.k (omega arith) c.search-on.result c.search-on.ensures
 
 cast-t10 : tie.Need-overflow-cast-t10
 cast-t10 c = search rules
@@ -78,8 +78,8 @@ returns-3 c =
     let w : ℕ = here.reach.result.bits in
     let base : ℕ = here.reach.result.word * 64 in
     let g : ℕ = at-gaps.gaps.result in
-    told-least (free a.map.now) a.from a.before a.k (omega arith) (At (base + count_leading_zeros 64 g))
-    (gap-hit (in_window (free a.map.now) a.from a.before) a.k base 0 w here.reach.ensures.1.0
+    told_least (free a.map.now) a.from a.before a.k (omega arith) (At (base + count_leading_zeros 64 g))
+    (gap_hit (in_window (free a.map.now) a.from a.before) a.k base 0 w here.reach.ensures.1.0
     (here.reach.ensures.1.1 a.k (omega arith)) g (count_leading_zeros 64 g)
     at-gaps.gaps.ensures (first_set g (omega arith) (omega arith)) (λ t u l. absurd (omega arith)))
 

@@ -12,8 +12,8 @@ use Rattle.map_blocks.specs.declared.Found.TheVariants.{At}
 use Rattle.map_search_word.specs.Scan.{Carried}
 use Rattle.map_blocks.proofs.Bits.{bit_zero}
 use Rattle.map_search_word.proofs.Ends.{first_set}
-use Rattle.map_search_word.proofs.Scan.{next, gap-hit, tail_below}
-use Rattle.map_search.proofs.Window.{told-least}
+use Rattle.map_search_word.proofs.Scan.{next, gap_hit, tail_below}
+use Rattle.map_search.proofs.Window.{told_least}
 use Rattle.map_search.proofs.search_card.Statement.{statement}
 use Rattle.map_search.proofs.search_card.Tie as tie
 
@@ -58,14 +58,14 @@ returns c =
     let here = c.before.before.before in
     let a = here.before.before.before.before.before.before.before.args in
     sym c.before.start.given.1
-    ∙ told-least (free a.map.now) 0 a.n a.k (omega arith) here.search-on.result here.search-on.ensures
+    ∙ told_least (free a.map.now) 0 a.n a.k (omega arith) here.search-on.result here.search-on.ensures
 
 returns-2 : tie.Need-returns-2
 returns-2 c =
     let here = c.before.before in
     let a = here.before.before.before.before.before.before.before.args in
     sym c.enum_told.given.1
-    ∙ told-least (free a.map.now) 0 a.n a.k (omega arith) here.search-on.result here.search-on.ensures
+    ∙ told_least (free a.map.now) 0 a.n a.k (omega arith) here.search-on.result here.search-on.ensures
 
 cast-t11 : tie.Need-overflow-cast-t11
 cast-t11 c = search rules
@@ -84,8 +84,8 @@ returns-3 c =
     let w : ℕ = here.reach.result.bits in
     let base : ℕ = here.reach.result.word * 64 in
     let g : ℕ = at-gaps.gaps.result in
-    told-least (free a.map.now) 0 a.n a.k (omega arith) (At (base + count_leading_zeros 64 g))
-    (gap-hit (in_window (free a.map.now) 0 a.n) a.k base 0 w here.reach.ensures.1.0
+    told_least (free a.map.now) 0 a.n a.k (omega arith) (At (base + count_leading_zeros 64 g))
+    (gap_hit (in_window (free a.map.now) 0 a.n) a.k base 0 w here.reach.ensures.1.0
     (here.reach.ensures.1.1 a.k (omega arith)) g (count_leading_zeros 64 g)
     at-gaps.gaps.ensures (first_set g (omega arith) (omega arith)) (λ t u l. absurd (omega arith)))
 

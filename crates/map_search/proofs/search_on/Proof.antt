@@ -11,7 +11,7 @@ use Rattle.map_blocks.specs.Words.{in_window}
 use Rattle.map_search_word.specs.Scan.{Stepped, Bounded}
 use Rattle.map_search_word.specs.declared.Step.TheVariants.{Next}
 use Rattle.map_blocks.proofs.Maps.{cut_word}
-use Rattle.map_search.proofs.Window.{at-end, whole_words}
+use Rattle.map_search.proofs.Window.{at_end, whole_words}
 use Rattle.map_search.proofs.search_on.Statement.{statement}
 use Rattle.map_search.proofs.search_on.Tie as tie
 
@@ -38,7 +38,7 @@ returns : tie.Need-returns
 returns c =
     let start = c.before.before in
     let a = start.args in
-    at-end (free a.map.now) a.from a.before a.k (a.first * 64) a.s (omega arith) start.requires.1
+    at_end (free a.map.now) a.from a.before a.k (a.first * 64) a.s (omega arith) start.requires.1
 
 core-of-requires : tie.Need-core-of-requires
 core-of-requires c κs = search rules
@@ -110,7 +110,7 @@ returns-4 : tie.Need-returns-4
 returns-4 c =
     let here = c.before.before in
     let a = here.before.before.before.before.before.before.before.before.before.before.args in
-    at-end (free a.map.now) a.from a.before a.k ((a.before - 1) / 64 * 64 + 64) _ (omega arith)
+    at_end (free a.map.now) a.from a.before a.k ((a.before - 1) / 64 * 64 + 64) _ (omega arith)
     (subst (Stepped _ _ _) c.enum_told.given.1 (last here))
 
 pub search_on_spec : {M : Type 1} → statement M

@@ -7,7 +7,7 @@ use Prim.Native.Nat.{ℕ, ◌+◌, ◌-◌, ◌≤◌, ◌<◌, min}
 use Rattle.map_blocks.specs.Blocks.{free, all, on_step, fit}
 use Rattle.map_blocks.proofs.Fits.{Spaced, spaced}
 use Rattle.map_search_near.proofs.Figures.{is_nothing, is_start, found_at, found_none}
-use Rattle.map_search_near.proofs.Figures.{past-runs, past-block, before-from, no_longer, space_fits}
+use Rattle.map_search_near.proofs.Figures.{past_runs, past_block, before_from, no_longer, space_fits}
 use borrow.Author.Rules.{rules}
 use Rattle.map_search_near.proofs.search_near.Statement.{statement}
 use Rattle.map_search_near.proofs.search_near.Tie as tie
@@ -32,7 +32,7 @@ none-to c =
     let g : ℕ → Bool = free a.map.now in
     let few : ℕ = c.before.before.before.before.smaller.result in
     let is : few ≡ min a.k 64 = c.before.before.before.before.smaller.ensures in
-    past-runs g a.from a.before a.step a.k loop.c c.near-start.result
+    past_runs g a.from a.before a.step a.k loop.c c.near-start.result
     (no_longer (on_step a.step) g few a.k loop.c c.near-start.result (omega arith) c.near-start.ensures.none)
     loop.invariant.2
 
@@ -60,7 +60,7 @@ multiples-requires c κs = search rules
 loop-holds : tie.Need-loop-init invariant-loop decreases-loop
 loop-holds c =
     let a = c.before.before.before.args in
-    (omega arith, omega arith, before-from (free a.map.now) a.from a.before a.step a.k)
+    (omega arith, omega arith, before_from (free a.map.now) a.from a.before a.step a.k)
 
 near-start-requires : tie.Need-near-start-requires invariant-loop decreases-loop
 near-start-requires c κs =
@@ -148,7 +148,7 @@ loop-again c =
     let l : s + r ≤ s + a.k = told.within in (
       omega arith,
       omega arith,
-      past-block g a.from a.before a.step a.k s (s + r) (omega arith) (omega arith) (told.stop (omega arith))
+      past_block g a.from a.before a.step a.k s (s + r) (omega arith) (omega arith) (told.stop (omega arith))
           (none-to here),
     )
 

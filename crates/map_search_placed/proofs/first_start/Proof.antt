@@ -7,7 +7,7 @@ use Prim.Native.Nat.{ℕ, ◌+◌}
 use Rattle.map_blocks.specs.Blocks.{free}
 use Rattle.map_blocks.proofs.Fits.{Spaced, spaced, mod_on}
 use Rattle.map_search_starts.proofs.Steps.{none_ahead}
-use Rattle.map_search_near.proofs.Figures.{is_start, found_at, before-first, space_fits}
+use Rattle.map_search_near.proofs.Figures.{is_start, found_at, before_first, space_fits}
 use borrow.Author.Rules.{rules}
 use Rattle.map_search_placed.proofs.first_start.Statement.{statement}
 use Rattle.map_search_placed.proofs.first_start.Tie as tie
@@ -45,7 +45,7 @@ returns-2 c =
       free = space_fits g s a.k c.before.space.result c.if2.true told;
       placed = mod_on a.step s far.ensures.1;
     })
-    (before-first g a.from a.before a.step a.k far.result
+    (before_first g a.from a.before a.step a.k far.result
     (λ j l. none_ahead a.step a.from far.result j far.ensures.1 l far.ensures.0))
 
 returns-3 : tie.Need-returns-3

@@ -5,7 +5,7 @@ use native.Mathlib.Omega.{arith}
 use mathlib.Core.Bool.{false}
 use Prim.Native.Nat.{ℕ, ◌<◌, min}
 use Rattle.map_blocks.specs.Blocks.{free, fit, least_fit}
-use Rattle.map_search_near.proofs.Figures.{found_none, empty-window, past-free, begun, capped}
+use Rattle.map_search_near.proofs.Figures.{found_none, empty_window, past_free, begun, capped}
 use borrow.Author.Rules.{rules}
 use Rattle.map_search_placed.proofs.search_placed.Statement.{statement}
 use Rattle.map_search_placed.proofs.search_placed.Tie as tie
@@ -19,7 +19,7 @@ none-to : (c : tie.After-reach) (t : ℕ) → t < c.reach.result
     c.before.before.before.before.before.before.args.k t ≡ false
 none-to c =
     let a = c.before.before.before.before.before.before.args in
-    past-free (free a.map.now) a.from a.before a.step a.k c.reach.result (omega arith)
+    past_free (free a.map.now) a.from a.before a.step a.k c.reach.result (omega arith)
     c.reach.ensures.2
 
 -- the search may begin there
@@ -51,7 +51,7 @@ returns c =
 returns-2 : tie.Need-returns-2
 returns-2 c =
     let a = c.before.before.before.args in
-    empty-window (free a.map.now) a.from a.before a.step a.k (omega arith) c.if3.true
+    empty_window (free a.map.now) a.from a.before a.step a.k (omega arith) c.if3.true
 
 returns-3 : tie.Need-returns-3
 returns-3 c =

@@ -3,7 +3,7 @@
 use Prim.Native.Nat.{◌%◌, ◌<◌}
 use native.Mathlib.Nat.{mod-lt}
 use native.Mathlib.Omega.{arith}
-use Rattle.map_search_starts.proofs.Steps.{next-back, next-on}
+use Rattle.map_search_starts.proofs.Steps.{next_back, next_on}
 use borrow.Author.Rules.{rules}
 use Rattle.map_search_starts.proofs.ahead_next.Statement.{statement}
 use Rattle.map_search_starts.proofs.ahead_next.Tie as tie
@@ -21,12 +21,12 @@ returns : tie.Need-returns
 returns c =
     let a = c.before.args in
     let l : 64 % a.step < a.step = mod-lt 64 (omega arith) in
-    (omega arith, λ base e. next-on a.step base a.far a.rest c.before.requires.1 e (omega arith))
+    (omega arith, λ base e. next_on a.step base a.far a.rest c.before.requires.1 e (omega arith))
 
 returns-2 : tie.Need-returns-2
 returns-2 c =
     let a = c.before.args in
-    (omega arith, λ base e. next-back a.step base a.far a.rest c.before.requires.1 e (omega arith))
+    (omega arith, λ base e. next_back a.step base a.far a.rest c.before.requires.1 e (omega arith))
 
 pub ahead_next_spec : {M : Type 1} → statement M
 ahead_next_spec = tie.close (tie.spec add-result sub-result returns returns-2)

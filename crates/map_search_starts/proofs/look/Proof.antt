@@ -6,7 +6,7 @@ use native.Mathlib.Omega.{arith}
 use lib.Bits.{bit_and, and_lt}
 use lib.Count.{count_leading_zeros, leading_le}
 use Rattle.map_search_word.proofs.Ends.{first_set, First}
-use Rattle.map_search_starts.proofs.Spans.{nothing-there, there}
+use Rattle.map_search_starts.proofs.Spans.{nothing_there, there}
 use borrow.Author.Rules.{rules}
 use Rattle.map_search_starts.proofs.look.Statement.{statement}
 use Rattle.map_search_starts.proofs.look.Tie as tie
@@ -22,7 +22,7 @@ returns c =
     let p = c.before.pairs in
     let start = c.before.before in
     let a = start.args in (
-      λ q f from room here behind marks none. nothing-there q f a.k from a.base p.result a.m room
+      λ q f from room here behind marks none. nothing_there q f a.k from a.base p.result a.m room
           (p.ensures f a.k a.base here behind start.requires.3) marks none c.if1.true,
       (omega arith, omega arith),
     )
@@ -37,7 +37,7 @@ returns-2 : tie.Need-returns-2
 returns-2 c =
     let all_runs = c.before.runs in
     let a = c.before.before.before.before.args in (
-      λ q f from room here behind marks none. nothing-there q f a.k from a.base all_runs.result a.m room
+      λ q f from room here behind marks none. nothing_there q f a.k from a.base all_runs.result a.m room
           (λ j l e. all_runs.ensures f a.base here behind j l ∙ e) marks none c.if2.true,
       (omega arith, omega arith),
     )

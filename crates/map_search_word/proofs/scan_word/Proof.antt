@@ -10,9 +10,9 @@ use Rattle.map_blocks.specs.Blocks.{all}
 use Rattle.map_blocks.specs.Words.{bit}
 use Rattle.map_search_word.specs.Scan.{Tail, Least}
 use Rattle.map_blocks.proofs.Bits.{bit_zero}
-use Rattle.map_blocks.proofs.Runs.{all-elim}
+use Rattle.map_blocks.proofs.Runs.{all_elim}
 use Rattle.map_search_word.proofs.Ends.{first_set}
-use Rattle.map_search_word.proofs.Scan.{prefix, core_fails, tail_below, whole, next, head-fails, head-hit, gap-hit}
+use Rattle.map_search_word.proofs.Scan.{prefix, core_fails, tail_below, whole, next, head_fails, head_hit, gap_hit}
 use Rattle.map_search_word.proofs.scan_word.Statement.{statement}
 use Rattle.map_search_word.proofs.scan_word.Tie as tie
 
@@ -55,7 +55,7 @@ returns c =
     let e : min (start.args.k - start.args.s) 64 ≡ 64 = omega arith in
     let ones : all (bit w) 0 64 ≡ true = ap (all (bit w) 0) (sym e) ∙ sym (tested here) ∙ c.before.if1.true in (
       (omega arith, omega arith),
-      λ f same at. whole f _ _ _ w same at (omega arith) (λ j l. all-elim (bit w) 0 64 ones j (omega arith) (omega arith)),
+      λ f same at. whole f _ _ _ w same at (omega arith) (λ j l. all_elim (bit w) 0 64 ones j (omega arith) (omega arith)),
     )
 
 run-start-requires : tie.Need-run-start-requires
@@ -71,7 +71,7 @@ returns-2 c =
     ∙ c.before.before.if1.true in (
       omega (arith, c.run-start.ensures),
       λ f same at. subst (Least f start.args.k) (sym c.run-start.ensures)
-          (head-hit f _ _ _ w same at (omega arith) ones (omega arith)),
+          (head_hit f _ _ _ w same at (omega arith) ones (omega arith)),
     )
 
 has-all-requires-2 : tie.Need-has-all-requires-2
@@ -94,7 +94,7 @@ returns-3 c =
     let below : c.tail.result < start.args.k = tail_below w c.tail.result start.args.k none tail in (
       (below, omega (arith, tail.within)),
       λ f same at. next f _ _ _ w same at c.tail.result tail below
-          (head-fails f _ _ _ w same at _ (omega arith) (omega arith) (omega arith) (early at-if1)) none,
+          (head_fails f _ _ _ w same at _ (omega arith) (omega arith) (omega arith) (early at-if1)) none,
     )
 
 add-t18 : tie.Need-overflow-add-t18
@@ -108,8 +108,8 @@ returns-4 c =
     let g : ℕ = c.before.gaps.result in (
       omega (arith, leading_le 64 g),
       λ f same at.
-          gap-hit f _ _ _ w same at g (count_leading_zeros 64 g) c.before.gaps.ensures (first_set g (omega arith) (omega arith))
-          (head-fails f _ _ _ w same at _ (omega arith) (omega arith) (omega arith) (early at-if1)),
+          gap_hit f _ _ _ w same at g (count_leading_zeros 64 g) c.before.gaps.ensures (first_set g (omega arith) (omega arith))
+          (head_fails f _ _ _ w same at _ (omega arith) (omega arith) (omega arith) (early at-if1)),
     )
 
 tail-requires-2 : tie.Need-tail-requires-2
@@ -127,7 +127,7 @@ returns-5 c =
     let below : c.tail2.result < start.args.k = tail_below w c.tail2.result start.args.k none tail in (
       (below, omega (arith, tail.within)),
       λ f same at. next f _ _ _ w same at c.tail2.result tail below
-          (head-fails f _ _ _ w same at _ (omega arith) (omega arith) (omega arith) (early at-if1)) none,
+          (head_fails f _ _ _ w same at _ (omega arith) (omega arith) (omega arith) (early at-if1)) none,
     )
 
 pub scan_word_spec : {M : Type 1} → statement M

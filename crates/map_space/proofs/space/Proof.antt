@@ -11,8 +11,8 @@ use borrow.Author.Rules.{rules}
 use Rattle.map_blocks.specs.Blocks.{free}
 use Rattle.map_blocks.proofs.Fits.{no_space, space_at}
 use Rattle.map_search_word.proofs.Ends.{First, first_set}
-use Rattle.map_space.proofs.Taken.{head-free, head-taken, head-before, none_takes}
-use Rattle.map_space.proofs.Taken.{Takes, later_word, none-taken, from_start, is-taken, before-taken}
+use Rattle.map_space.proofs.Taken.{head_free, head-taken, head-before, none_takes}
+use Rattle.map_space.proofs.Taken.{Takes, later_word, none_taken, from_start, is-taken, before-taken}
 use Rattle.map_space.proofs.space.Statement.{statement}
 use Rattle.map_space.proofs.space.Tie as tie
 
@@ -87,7 +87,7 @@ loop-holds : tie.Need-loop-init invariant-loop decreases-loop
 loop-holds c =
     let a = c.before.before.before.before.args in
     let all : (t : ℕ) → a.start ≤ t → t < a.start / 64 * 64 + 64 → free a.map.now t ≡ true =
-    head-free a.map.now a.start _ refl (c.before.shared-slice-known2.given (a.start / 64)).fits c.if2.false in (
+    head_free a.map.now a.start _ refl (c.before.shared-slice-known2.given (a.start / 64)).fits c.if2.false in (
       omega arith,
       omega arith,
       omega arith,
@@ -106,7 +106,7 @@ returns-3 c =
     let a = c.before.before.before.before.before.before.before.args in
     let g : ℕ → Bool = free a.map.now in
     let free_on : (t : ℕ) → a.start ≤ t → t < loop.i * 64 + 64
-    → g t ≡ true = none-taken g a.start (loop.i * 64) loop.taken loop.invariant.3 loop.invariant.4
+    → g t ≡ true = none_taken g a.start (loop.i * 64) loop.taken loop.invariant.3 loop.invariant.4
     c.before.loop-test.true in
     sym (space_at g a.start a.n (a.n - a.start) (omega arith) (λ t l u. free_on t l (omega arith))
     (λ h. absurd (omega arith)))
@@ -138,7 +138,7 @@ loop-again c =
       omega arith,
       later_word a.map.now a.start (loop.i + 1) _ refl (c.shared-slice-known3.given (loop.i + 1)).fits
           (omega arith),
-      λ t l u. none-taken g a.start (loop.i * 64) loop.taken loop.invariant.3 loop.invariant.4
+      λ t l u. none_taken g a.start (loop.i * 64) loop.taken loop.invariant.3 loop.invariant.4
           c.before.before.loop-test.true t l (omega arith),
     )
 

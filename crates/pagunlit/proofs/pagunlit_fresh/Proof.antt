@@ -5,7 +5,7 @@ use contract.Running.{tables, tables_of}
 use denote.Triple.Spec.{triple_of}
 use denote.Triple.Table.{entered, cited}
 use Rattle.pagunlit_replies.specs.Replies.{reply_of}
-use Rattle.card.specs.Ends.{freshEnd}
+use Rattle.card.specs.Ends.{fresh_end}
 use Rattle.catalogue.proofs.Values.{Value, value_of}
 use Rattle.card.specs.contracts.Shape as Shape'
 use Rattle.card.proofs.Shape.TheLaws as Shape''
@@ -13,7 +13,7 @@ use Rattle.card.specs.contracts.Outcome as Outcome'
 use Rattle.card.proofs.Outcome.TheLaws as Outcome''
 use Rattle.pagunlit_replies.specs.contracts.Reply as Reply'
 use Rattle.pagunlit_replies.proofs.Reply.TheLaws as Reply''
-use Rattle.walk_replies.proofs.MapCatalogue1First.{call-contract, reply-of-contract, meets}
+use Rattle.walk_replies.proofs.MapCatalogue1First.{call-contract, reply_of_contract, meets}
 use Rattle.card.proofs.Shape.fresh.Symbol as call-def
 use Rattle.card.proofs.Shape.fresh.Met as call_met
 use Rattle.pagunlit_replies.proofs.reply_of.Symbol as reply-of-def
@@ -37,11 +37,11 @@ unfolding code.routine tables_of
 pagunlit_fresh_spec 𝓤 𝓛 𝓜 𝓡 =
     entered 𝓤 𝓛.H (triple_of 𝓛 pagunlit-fresh.signature (pagunlit-fresh.spec 𝓛 𝓜.mem 𝓡.run))
     (tables 𝓤 𝓛.H 𝓜 𝓡 code.env).C (tables 𝓤 𝓛.H 𝓜 𝓡 code.env).Λ #pagunlit-fresh code.function (code.unfolded 𝓤 𝓛.H 𝓜 𝓡)
-    (meets Shape Outcome Reply call-def.name reply-of-def.name (λ x0 x1 x2 x3 x4. (freshEnd x0 x1 x2 x3 x4).outcome)
-    (λ x0 x1 x2 x3 x4. (freshEnd x0 x1 x2 x3 x4).map) (λ x0 x1 x2 x3 x4. (freshEnd x0 x1 x2 x3 x4).entries) reply_of
+    (meets Shape Outcome Reply call-def.name reply-of-def.name (λ x0 x1 x2 x3 x4. (fresh_end x0 x1 x2 x3 x4).outcome)
+    (λ x0 x1 x2 x3 x4. (fresh_end x0 x1 x2 x3 x4).map) (λ x0 x1 x2 x3 x4. (fresh_end x0 x1 x2 x3 x4).entries) reply_of
     𝓛 (tables_of 𝓤 𝓛.H 𝓜 (tables 𝓤 𝓛.H 𝓜 𝓡 code.env))
-    (cited 𝓤 𝓛.H (call-contract Shape Outcome Reply (λ x0 x1 x2 x3 x4. (freshEnd x0 x1 x2 x3 x4).outcome)
-    (λ x0 x1 x2 x3 x4. (freshEnd x0 x1 x2 x3 x4).map) (λ x0 x1 x2 x3 x4. (freshEnd x0 x1 x2 x3 x4).entries) 𝓤 𝓛) 𝓜 𝓡
+    (cited 𝓤 𝓛.H (call-contract Shape Outcome Reply (λ x0 x1 x2 x3 x4. (fresh_end x0 x1 x2 x3 x4).outcome)
+    (λ x0 x1 x2 x3 x4. (fresh_end x0 x1 x2 x3 x4).map) (λ x0 x1 x2 x3 x4. (fresh_end x0 x1 x2 x3 x4).entries) 𝓤 𝓛) 𝓜 𝓡
     code.env call-def.name call-def.routine code.calls-card::Shape::fresh (call_met.met 𝓤 𝓛 𝓜 𝓡))
-    (cited 𝓤 𝓛.H (reply-of-contract Shape Outcome Reply reply_of 𝓤 𝓛) 𝓜 𝓡 code.env reply-of-def.name reply-of-def.routine
+    (cited 𝓤 𝓛.H (reply_of_contract Shape Outcome Reply reply_of 𝓤 𝓛) 𝓜 𝓡 code.env reply-of-def.name reply-of-def.routine
     code.calls-pagunlit-replies::reply-of (reply-of-met.met 𝓤 𝓛 𝓜 𝓡)))

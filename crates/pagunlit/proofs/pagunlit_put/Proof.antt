@@ -13,7 +13,7 @@ use Rattle.card.specs.contracts.Outcome as Outcome'
 use Rattle.card.proofs.Outcome.TheLaws as Outcome''
 use Rattle.pagunlit_replies.specs.contracts.Reply as Reply'
 use Rattle.pagunlit_replies.proofs.Reply.TheLaws as Reply''
-use Rattle.walk_replies.proofs.CardFromMapCataloguePayload2.{call-contract, reply-of-contract, meets}
+use Rattle.walk_replies.proofs.CardFromMapCataloguePayload2.{call-contract, reply_of_contract, meets}
 use Rattle.card.proofs.Shape.put.Symbol as call-def
 use Rattle.card.proofs.Shape.put.Met as call_met
 use Rattle.pagunlit_replies.proofs.reply_of.Symbol as reply-of-def
@@ -43,5 +43,5 @@ pagunlit_put_spec 𝓤 𝓛 𝓜 𝓡 =
     (cited 𝓤 𝓛.H (call-contract Shape Outcome Reply (λ x0 x1 x2 x3 x4 x5 x6 x7. (putEnd x0 x1 x2 x3 x4 x5 x6 x7).outcome)
     (λ x0 x1 x2 x3 x4 x5 x6 x7. (putEnd x0 x1 x2 x3 x4 x5 x6 x7).card) 𝓤 𝓛) 𝓜 𝓡 code.env call-def.name call-def.routine
     code.calls-card::Shape::put (call_met.met 𝓤 𝓛 𝓜 𝓡))
-    (cited 𝓤 𝓛.H (reply-of-contract Shape Outcome Reply reply_of 𝓤 𝓛) 𝓜 𝓡 code.env reply-of-def.name reply-of-def.routine
+    (cited 𝓤 𝓛.H (reply_of_contract Shape Outcome Reply reply_of 𝓤 𝓛) 𝓜 𝓡 code.env reply-of-def.name reply-of-def.routine
     code.calls-pagunlit-replies::reply-of (reply-of-met.met 𝓤 𝓛 𝓜 𝓡)))

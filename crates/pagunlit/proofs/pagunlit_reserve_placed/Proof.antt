@@ -14,7 +14,7 @@ use Rattle.card.specs.contracts.Outcome as Outcome'
 use Rattle.card.proofs.Outcome.TheLaws as Outcome''
 use Rattle.pagunlit_replies.specs.contracts.Reply as Reply'
 use Rattle.pagunlit_replies.proofs.Reply.TheLaws as Reply''
-use Rattle.walk_replies.proofs.MapCatalogueCardFromLimits5.{call-contract, reply-of-contract, meets}
+use Rattle.walk_replies.proofs.MapCatalogueCardFromLimits5.{call-contract, reply_of_contract, meets}
 use Rattle.card.proofs.Shape.reserve_placed.Symbol as call-def
 use Rattle.card.proofs.Shape.reserve_placed.Met as call_met
 use Rattle.pagunlit_replies.proofs.reply_of.Symbol as reply-of-def
@@ -49,5 +49,5 @@ pagunlit_reserve_placed_spec 𝓤 𝓛 𝓜 𝓡 =
     (λ x0 x1 x2 x3 x4 x5 x6 x7 x8 x9 x10. (reservePlacedEnd x0 x1 x2 x3 x4 x5 x6 x7 x8 x9 x10).entries)
     (λ x0 x1 x2 x3 x4 x5 x6 x7 x8 x9 x10. (reservePlacedEnd x0 x1 x2 x3 x4 x5 x6 x7 x8 x9 x10).card) 𝓤 𝓛) 𝓜 𝓡 code.env
     call-def.name call-def.routine code.calls-card::Shape::reserve-placed (call_met.met 𝓤 𝓛 𝓜 𝓡))
-    (cited 𝓤 𝓛.H (reply-of-contract Shape Outcome Reply reply_of 𝓤 𝓛) 𝓜 𝓡 code.env reply-of-def.name reply-of-def.routine
+    (cited 𝓤 𝓛.H (reply_of_contract Shape Outcome Reply reply_of 𝓤 𝓛) 𝓜 𝓡 code.env reply-of-def.name reply-of-def.routine
     code.calls-pagunlit-replies::reply-of (reply-of-met.met 𝓤 𝓛 𝓜 𝓡)))

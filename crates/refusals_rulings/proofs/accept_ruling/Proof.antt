@@ -5,12 +5,12 @@ use mathlib.Core.Bool.{Bool}
 use native.Mathlib.Omega.{arith}
 use borrow.Author.Rules.{rules}
 use Rattle.map_blocks.specs.Blocks.{free}
-use Rattle.refusals.specs.Effects.{givingVerdict, run_verdict, acceptVerdict}
+use Rattle.refusals.specs.Effects.{giving_verdict, run_verdict, accept_verdict}
 use Rattle.roles.specs.Roles as names
 use Rattle.roles.specs.Roles.{turned_away}
 use Rattle.refusals.specs.Lent.{called_by, lent_beside, lent_within}
-use Rattle.refusals.proofs.Accept.{run, verdict-behind}
-use Rattle.refusals.proofs.Beginnings.{giving-within, giving-zero, given}
+use Rattle.refusals.proofs.Accept.{run, verdict_behind}
+use Rattle.refusals.proofs.Beginnings.{giving_within, giving_zero, given}
 use Rattle.refusals_rulings.specs.Rulings.{ruling_of}
 use Rattle.refusals_rulings.proofs.Rulings.{ruled, first_row, by_first, by_rest}
 use Rattle.refusals_rulings.proofs.accept_ruling.Statement.{statement}
@@ -29,8 +29,8 @@ returns c =
     a.n a.free a.map.now
     a.card.now
     a.c a.entry a.sheet) in
-    by_first a.start (givingVerdict q a.k) (run q a.start a.k) (acceptVerdict q a.start a.k) call.result
-    (verdict-behind q a.start a.k) (first_row (giving-within a.held a.limits.now q₀ a.k) call.ensures)
+    by_first a.start (giving_verdict q a.k) (run q a.start a.k) (accept_verdict q a.start a.k) call.result
+    (verdict_behind q a.start a.k) (first_row (giving_within a.held a.limits.now q₀ a.k) call.ensures)
     c.if1.true
 
 over-limit-requires : tie.Need-over-limit-requires
@@ -39,7 +39,7 @@ over-limit-requires c κs =
     let a = c.before.before.before.before.before.args in
     let q₀ = called_by (turned_away a.role names.accept) (lent_beside a.guided a.summary.now a.n a.free a.map.now a.card.now a.c a.entry
     a.sheet) in
-    (given q₀ a.k (giving-zero q₀ a.k (sym call.ensures ∙ c.if1.false))).below
+    (given q₀ a.k (giving_zero q₀ a.k (sym call.ensures ∙ c.if1.false))).below
 
 run-ruling-requires : tie.Need-run-ruling-requires
 run-ruling-requires c κs =
@@ -47,7 +47,7 @@ run-ruling-requires c κs =
     let a = c.before.before.before.before.before.before.args in
     let q₀ = called_by (turned_away a.role names.accept) (lent_beside a.guided a.summary.now a.n a.free a.map.now a.card.now a.c a.entry
     a.sheet) in
-    let g = given q₀ a.k (giving-zero q₀ a.k (sym call.ensures ∙ c.before.if1.false)) in
+    let g = given q₀ a.k (giving_zero q₀ a.k (sym call.ensures ∙ c.before.if1.false)) in
     (omega (arith, g.sizes.shape.limit), omega (arith, g.sizes.shape.covered))
 
 returns-2 : tie.Need-returns-2
@@ -60,13 +60,13 @@ returns-2 c =
     a.n a.free a.map.now
     a.card.now
     a.c a.entry a.sheet) in
-    let opens = first_row (giving-within a.held a.limits.now q₀ a.k) call.ensures in
+    let opens = first_row (giving_within a.held a.limits.now q₀ a.k) call.ensures in
     c.run-ruling.ensures
     ∙ ap (λ (o : Bool). ruling_of (run_verdict 17 o (free q.map) q.n q.spare a.start a.k) a.start)
     c.before.over-limit.ensures
-    ∙ ruled a.start (run q a.start a.k) (acceptVerdict q a.start a.k)
-    (by_rest (givingVerdict q a.k) (run q a.start a.k) (acceptVerdict q a.start a.k) (run q a.start a.k)
-    (verdict-behind q a.start a.k) (giving-zero q a.k (sym opens ∙ c.before.before.if1.false)) refl)
+    ∙ ruled a.start (run q a.start a.k) (accept_verdict q a.start a.k)
+    (by_rest (giving_verdict q a.k) (run q a.start a.k) (accept_verdict q a.start a.k) (run q a.start a.k)
+    (verdict_behind q a.start a.k) (giving_zero q a.k (sym opens ∙ c.before.before.if1.false)) refl)
 
 pub accept_ruling_spec : {M : Type 1} → statement M
 accept_ruling_spec = tie.close (tie.spec enter-giving-requires returns over-limit-requires run-ruling-requires returns-2)

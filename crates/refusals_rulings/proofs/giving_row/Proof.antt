@@ -7,9 +7,9 @@ use Rattle.catalogue_standings.specs.Rows.{row_number}
 use Rattle.catalogue_standings.specs.declared.Standing.TheVariants.{Absent}
 use Rattle.catalogue_standings.proofs.Tested.{fails, holds}
 use Rattle.refusals.specs.Lent.{lent_beside}
-use Rattle.refusals.proofs.Beginnings.{giving-shut, giving-other, giving-nothing, giving-passes}
-use Rattle.refusals.proofs.Guides.{guide-shut, guide-open}
-use Rattle.refusals.proofs.Lent.{refused-first, stands-first}
+use Rattle.refusals.proofs.Beginnings.{giving_shut, giving_other, giving_nothing, giving_passes}
+use Rattle.refusals.proofs.Guides.{guide_shut, guide_open}
+use Rattle.refusals.proofs.Lent.{refused_first, stands_first}
 use Rattle.refusals_rulings.proofs.giving_row.Statement.{statement}
 use Rattle.refusals_rulings.proofs.giving_row.Tie as tie
 
@@ -22,7 +22,7 @@ returns c =
     let a = c.before.before.before.before.before.args in
     let q = lent_beside a.guided a.summary.now a.n a.free a.map.now a.card.now a.c a.entry
     a.sheet in
-    sym (ap row_number (giving-shut q a.k 1 (guide-shut q refl (fails test.ensures c.if1.true))))
+    sym (ap row_number (giving_shut q a.k 1 (guide_shut q refl (fails test.ensures c.if1.true))))
 
 open-on-requires : tie.Need-open-on-requires
 open-on-requires c κs = search rules
@@ -45,9 +45,9 @@ returns-2 c =
     let q = lent_beside a.guided a.summary.now a.n a.free a.map.now a.card.now a.c a.entry
     a.sheet in
     let opens =
-    guide-open q call.result refl (holds test.ensures c.before.before.before.before.if1.false) call.ensures in
+    guide_open q call.result refl (holds test.ensures c.before.before.before.before.if1.false) call.ensures in
     c.refused-row.ensures ∙ ap refused_row told.1
-    ∙ sym (ap row_number (giving-shut q a.k told.0.0 (refused-first q call.result told.0.0 opens told.1)))
+    ∙ sym (ap row_number (giving_shut q a.k told.0.0 (refused_first q call.result told.0.0 opens told.1)))
 
 enum-told-2 : tie.Need-enum-told-2
 enum-told-2 c = search rules
@@ -63,11 +63,11 @@ returns-3 c =
     let a = c.before.before.before.before.before.before.before.before.before.before.before.args in
     let q = lent_beside a.guided a.summary.now a.n a.free a.map.now a.card.now a.c a.entry
     a.sheet in
-    let opens = guide-open q call.result refl (holds test.ensures
+    let opens = guide_open q call.result refl (holds test.ensures
     c.before.before.before.before.before.before.if1.false) call.ensures in
     c.row_of.ensures
-    ∙ sym (ap row_number (giving-other q a.k stands.0.0
-    (stands-first q call.result stands.0.0 stands.0.0 opens stands.1 refl) c.before.match2.keys2))
+    ∙ sym (ap row_number (giving_other q a.k stands.0.0
+    (stands_first q call.result stands.0.0 stands.0.0 opens stands.1 refl) c.before.match2.keys2))
 
 returns-4 : tie.Need-returns-4
 returns-4 c =
@@ -78,10 +78,10 @@ returns-4 c =
     let a = c.before.before.before.before.before.before.before.before.before.before.before.before.args in
     let q = lent_beside a.guided a.summary.now a.n a.free a.map.now a.card.now a.c a.entry
     a.sheet in
-    let opens = guide-open q call.result refl (holds test.ensures
+    let opens = guide_open q call.result refl (holds test.ensures
     c.before.before.before.before.before.before.before.if1.false) call.ensures in
-    sym (ap row_number (giving-nothing q a.k
-    (stands-first q call.result stands.0.0 Absent opens stands.1 told.1) c.if2.true))
+    sym (ap row_number (giving_nothing q a.k
+    (stands_first q call.result stands.0.0 Absent opens stands.1 told.1) c.if2.true))
 
 returns-5 : tie.Need-returns-5
 returns-5 c =
@@ -92,10 +92,10 @@ returns-5 c =
     let a = c.before.before.before.before.before.before.before.before.before.before.before.before.args in
     let q = lent_beside a.guided a.summary.now a.n a.free a.map.now a.card.now a.c a.entry
     a.sheet in
-    let opens = guide-open q call.result refl (holds test.ensures
+    let opens = guide_open q call.result refl (holds test.ensures
     c.before.before.before.before.before.before.before.if1.false) call.ensures in
-    sym (ap row_number (giving-passes q a.k
-    (stands-first q call.result stands.0.0 Absent opens stands.1 told.1) c.if2.false))
+    sym (ap row_number (giving_passes q a.k
+    (stands_first q call.result stands.0.0 Absent opens stands.1 told.1) c.if2.false))
 
 pub giving_row_spec : {M : Type 1} → statement M
 giving_row_spec =

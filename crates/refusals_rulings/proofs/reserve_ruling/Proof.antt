@@ -5,15 +5,15 @@ use Prim.Native.Nat.{ℕ}
 use native.Mathlib.Omega.{arith}
 use borrow.Author.Rules.{rules}
 use Rattle.catalogue_standings.specs.Rows.{Verdict, accepted, refused, first_of}
-use Rattle.refusals.specs.Effects.{unsearchedVerdict}
+use Rattle.refusals.specs.Effects.{unsearched_verdict}
 use Rattle.roles.specs.Roles.{turned_away}
 use Rattle.refusals.specs.Lent.{called_by, Lent, lent_within}
 use Rattle.refusals.specs.Placement.{Placement, placed}
 use Rattle.refusals.proofs.Beginnings.{given}
 use Rattle.refusals.proofs.Placement.{figured}
-use Rattle.refusals.proofs.Reserve.{unsearched-zero, passed, searching, verdict-behind, searched, no_fit, too_few, passes}
+use Rattle.refusals.proofs.Reserve.{unsearched_zero, passed, searching, verdict_behind, searched, no_fit, too_few, passes}
 use Rattle.refusals.proofs.Reserve.{starts}
-use Rattle.refusals.proofs.Room.{reserveVerdictOn, reserveStartOn}
+use Rattle.refusals.proofs.Room.{reserve_verdict_on, reserve_start_on}
 use Rattle.refusals_rulings.specs.Rulings.{ruling_of}
 use Rattle.refusals_rulings.specs.declared.Ruling.TheVariants as ruling
 use Rattle.refusals_rulings.proofs.Rulings.{ruled, by_first}
@@ -22,9 +22,9 @@ use Rattle.refusals_rulings.proofs.reserve_ruling.Tie as tie
 
 module _ (q : Lent) (k : ℕ) (p : Placement) where
   -- the ruling, where no row before the search holds
-  by-search : unsearchedVerdict q k p ≡ accepted → (v : Verdict) → first_of (searching q k p) ≡ v
-      → ruling_of v (reserveStartOn q k p) ≡ ruling_of (reserveVerdictOn q k p) (reserveStartOn q k p)
-  by-search comes v h = ruled (reserveStartOn q k p) v (reserveVerdictOn q k p) (searched q k p v comes h)
+  by_search : unsearched_verdict q k p ≡ accepted → (v : Verdict) → first_of (searching q k p) ≡ v
+      → ruling_of v (reserve_start_on q k p) ≡ ruling_of (reserve_verdict_on q k p) (reserve_start_on q k p)
+  by_search comes v h = ruled (reserve_start_on q k p) v (reserve_verdict_on q k p) (searched q k p v comes h)
 
 reserve-row-requires : tie.Need-reserve-row-requires
 reserve-row-requires c κs = search rules
@@ -37,8 +37,8 @@ returns c =
     a.card.now
     a.c a.entry a.sheet) in
     let p = placed a.figures in
-    by_first (reserveStartOn q a.k p) (unsearchedVerdict q a.k p) (first_of (searching q a.k p))
-    (reserveVerdictOn q a.k p) call.result (verdict-behind q a.k p) call.ensures c.if1.true
+    by_first (reserve_start_on q a.k p) (unsearched_verdict q a.k p) (first_of (searching q a.k p))
+    (reserve_verdict_on q a.k p) call.result (verdict_behind q a.k p) call.ensures c.if1.true
 
 find-run-requires : tie.Need-find-run-requires
 find-run-requires c κs =
@@ -48,7 +48,7 @@ find-run-requires c κs =
     a.card.now
     a.c a.entry a.sheet) in
     let w = passed q a.k (placed a.figures)
-    (unsearched-zero q a.k (placed a.figures) (sym call.ensures ∙ c.if1.false)) in
+    (unsearched_zero q a.k (placed a.figures) (sym call.ensures ∙ c.if1.false)) in
     let opens = given q a.k w.opens in
     let g = figured a.n a.figures w.right in (
       omega (arith, opens.sizes.shape.words, opens.sizes.shape.limit),
@@ -72,9 +72,9 @@ returns-2 c =
     a.card.now
     a.c a.entry a.sheet) in
     let p = placed a.figures in
-    let comes = unsearched-zero q a.k p
+    let comes = unsearched_zero q a.k p
     (sym c.before.before.before.before.reserve-row.ensures ∙ c.before.before.before.if1.false) in
-    by-search q a.k p comes (refused 10)
+    by_search q a.k p comes (refused 10)
     (no_fit q a.k p (sym c.before.before.find-run.ensures ∙ c.enum_told.given.1))
 
 returns-3 : tie.Need-returns-3
@@ -84,10 +84,10 @@ returns-3 c =
     a.card.now
     a.c a.entry a.sheet) in
     let p = placed a.figures in
-    let comes = unsearched-zero q a.k p
+    let comes = unsearched_zero q a.k p
     (sym c.before.before.before.before.before.before.reserve-row.ensures ∙ c.before.before.before.before.before.if1.false) in
     let place = c.before.before.found.given in
-    by-search q a.k p comes (refused 4)
+    by_search q a.k p comes (refused 4)
     (too_few q a.k p place.0.0 (sym c.before.before.before.before.find-run.ensures ∙ place.1) c.if2.true)
 
 returns-4 : tie.Need-returns-4
@@ -97,12 +97,12 @@ returns-4 c =
     a.card.now
     a.c a.entry a.sheet) in
     let p = placed a.figures in
-    let comes = unsearched-zero q a.k p
+    let comes = unsearched_zero q a.k p
     (sym c.before.before.before.before.before.before.reserve-row.ensures ∙ c.before.before.before.before.before.if1.false) in
     let place = c.before.before.found.given in
     let fit = sym c.before.before.before.before.find-run.ensures ∙ place.1 in
     ap ruling.At (starts q a.k p place.0.0 fit)
-    ∙ by-search q a.k p comes accepted (passes q a.k p place.0.0 fit c.if2.false)
+    ∙ by_search q a.k p comes accepted (passes q a.k p place.0.0 fit c.if2.false)
 
 pub reserve_ruling_spec : {M : Type 1} → statement M
 reserve_ruling_spec =

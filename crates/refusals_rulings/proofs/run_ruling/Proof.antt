@@ -8,7 +8,7 @@ use Rattle.map_blocks.specs.Blocks.{free}
 use Rattle.catalogue_standings.specs.Rows.{Verdict, accepted, refused}
 use Rattle.catalogue_standings.proofs.Tested.{fails, holds}
 use Rattle.refusals.specs.Effects.{run_verdict}
-use Rattle.refusals.proofs.Runs.{over-limit, not_free, too_few, passes}
+use Rattle.refusals.proofs.Runs.{over_limit_lem, not_free, too_few, passes}
 use Rattle.refusals_rulings.proofs.Rulings.{ruled}
 use Rattle.refusals_rulings.proofs.run_ruling.Statement.{statement}
 use Rattle.refusals_rulings.proofs.run_ruling.Tie as tie
@@ -24,7 +24,7 @@ returns c =
     let f = free a.map.now in
     ruled a.start (refused 18) (run_verdict a.number a.over f a.n a.free a.start a.k)
     (tested a.over true a.number f a.n a.free a.start a.k (refused 18) c.if1.true
-    (over-limit a.number f a.n a.free a.start a.k))
+    (over_limit_lem a.number f a.n a.free a.start a.k))
 
 run-is-free-requires : tie.Need-run-is-free-requires
 run-is-free-requires c κs = search rules

@@ -1,7 +1,7 @@
 -- `refusals_runs::figures_wrong` meets its contract: row 15, test by test.
 -- Assumes nothing.
 use mathlib.Core.Path.{sym}
-use Rattle.refusals.proofs.Placement.{no_step, no-window, by_end}
+use Rattle.refusals.proofs.Placement.{no_step, no_window, by_end}
 use Rattle.refusals_runs.proofs.figures_wrong.Statement.{statement}
 use Rattle.refusals_runs.proofs.figures_wrong.Tie as tie
 
@@ -11,7 +11,7 @@ returns c = let a = c.before.before.args in sym (no_step a.n a.figures c.if1.tru
 returns-2 : tie.Need-returns-2
 returns-2 c =
     let a = c.before.before.before.before.args in
-    sym (no-window a.n a.figures c.before.before.if1.false c.if2.true)
+    sym (no_window a.n a.figures c.before.before.if1.false c.if2.true)
 
 returns-3 : tie.Need-returns-3
 returns-3 c =

@@ -1,7 +1,7 @@
 -- `refusals_runs::over_limit` meets its contract: where the limit is not less than k, the limit less k is compared.
 -- Assumes nothing.
 use borrow.Author.Rules.{rules}
-use Rattle.refusals.proofs.Shares.{past-alone, past-together}
+use Rattle.refusals.proofs.Shares.{past_alone, past_together}
 use Rattle.refusals_runs.proofs.over_limit.Statement.{statement}
 use Rattle.refusals_runs.proofs.over_limit.Tie as tie
 
@@ -21,10 +21,10 @@ wide-requires-2 : tie.Need-wide-requires-2
 wide-requires-2 c κs = search rules
 
 returns : tie.Need-returns
-returns c = past-alone _ _ _ _ _ c.before.before.wide.ensures c.before.wide2.ensures c.if1.true
+returns c = past_alone _ _ _ _ _ c.before.before.wide.ensures c.before.wide2.ensures c.if1.true
 
 returns-2 : tie.Need-returns-2
-returns-2 c = past-together _ _ _ _ _ c.before.before.wide.ensures c.before.wide2.ensures c.if1.false
+returns-2 c = past_together _ _ _ _ _ c.before.before.wide.ensures c.before.wide2.ensures c.if1.false
 
 pub over_limit_spec : {M : Type 1} → statement M
 over_limit_spec =

@@ -7,7 +7,7 @@ use native.Mathlib.Omega.{arith}
 use borrow.Author.Rules.{rules}
 use Rattle.map_blocks.specs.Blocks.{all, fit, free}
 use Rattle.laws.proofs.Bools.{both_ways}
-use Rattle.map_blocks.proofs.Fits.{fit_is, is-fit, no_fit, on_one}
+use Rattle.map_blocks.proofs.Fits.{fit_is, is_fit, no_fit, on_one}
 use Rattle.refusals_runs.proofs.run_is_free.Statement.{statement}
 use Rattle.refusals_runs.proofs.run_is_free.Tie as tie
 
@@ -16,7 +16,7 @@ use Rattle.refusals_runs.proofs.run_is_free.Tie as tie
 inside : (f : ℕ → Bool) (n k start : ℕ) → start + k ≤ n → all f start k ≡ fit f 0 n 1 k start
 inside f n k start l =
     both_ways (all f start k) (fit f 0 n 1 k start)
-    (λ e. is-fit f 0 n 1 k start (record { low = omega arith; high = l; free = e; placed = on_one start }))
+    (λ e. is_fit f 0 n 1 k start (record { low = omega arith; high = l; free = e; placed = on_one start }))
     (λ e. (fit_is f 0 n 1 k start e).free)
 
 returns : tie.Need-returns

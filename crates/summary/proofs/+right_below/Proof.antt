@@ -6,8 +6,8 @@ use native.Mathlib.Omega.{arith}
 use lib.ListN.{length}
 use Rattle.summary_groups.specs.Groups.{power}
 use Rattle.summary_groups.specs.Places.{Sited}
-use Rattle.summary_groups.proofs.Places.{sited-index, sited-pos, sited-left, sited-right}
-use Rattle.summary.proofs.Checking.{refuted, word-decides, halves-decide, first-wrong, second-wrong}
+use Rattle.summary_groups.proofs.Places.{sited_index, sited_pos, sited_left, sited_right}
+use Rattle.summary.proofs.Checking.{refuted, word_decides, halves-decide, first_wrong, second_wrong}
 use borrow.Fn.Kinds.{In}
 use borrow.Fn.PlainCycle.{Measures, is, falls, and}
 use Rattle.summary.proofs.right_below.Reads as right-below
@@ -40,7 +40,7 @@ right-below-word-agrees-requires : (t : ℕ) → right-below-lts.Need-word-agree
 right-below-word-agrees-requires t c κs =
     let start = c.before.before.before in
     let a = start.args in
-    let i : a.g + 1 < 2 * power (length a.map.now) = sited-index _ _ _ _ start.requires.1.1 in
+    let i : a.g + 1 < 2 * power (length a.map.now) = sited_index _ _ _ _ start.requires.1.1 in
     (omega arith, omega arith, omega arith, omega arith)
 
 right-below-returns : (t : ℕ) → right-below-lts.Need-returns (
@@ -52,7 +52,7 @@ right-below-returns : (t : ℕ) → right-below-lts.Need-returns (
   halves-agree-reads.Learnt,
 ) (right-below-at t) right-below.Post
 right-below-returns t c =
-    let start = c.before.before.before.before in word-decides _ _ start.args.summary.now _ _ _
+    let start = c.before.before.before.before in word_decides _ _ start.args.summary.now _ _ _
     (subst (Sited _ _ _) c.before.if1.true start.requires.1.1) c.word-agrees.ensures
 
 right-below-mul-right-below : (t : ℕ) → right-below-lts.Need-overflow-mul-right-below (
@@ -66,7 +66,7 @@ right-below-mul-right-below : (t : ℕ) → right-below-lts.Need-overflow-mul-ri
 right-below-mul-right-below t c =
     let start = c.before.before.before in
     let a = start.args in
-    let i : a.g + 1 < 2 * power (length a.map.now) = sited-index _ _ _ _ start.requires.1.1 in
+    let i : a.g + 1 < 2 * power (length a.map.now) = sited_index _ _ _ _ start.requires.1.1 in
     omega arith
 
 right-below-add-right-below : (t : ℕ) → right-below-lts.Need-overflow-add-right-below (
@@ -80,7 +80,7 @@ right-below-add-right-below : (t : ℕ) → right-below-lts.Need-overflow-add-ri
 right-below-add-right-below t c =
     let start = c.before.before.before in
     let a = start.args in
-    let i : a.g + 1 < 2 * power (length a.map.now) = sited-index _ _ _ _ start.requires.1.1 in
+    let i : a.g + 1 < 2 * power (length a.map.now) = sited_index _ _ _ _ start.requires.1.1 in
     omega arith
 
 right-below-right-below-requires : (t : ℕ) → right-below-lts.Need-right-below-requires (
@@ -94,9 +94,9 @@ right-below-right-below-requires : (t : ℕ) → right-below-lts.Need-right-belo
 right-below-right-below-requires t c κs =
     let start = c.before.before.before in
     let a = start.args in
-    let i : a.g + 1 < 2 * power (length a.map.now) = sited-index _ _ _ _ start.requires.1.1 in (
-      omega (arith, sited-pos _ _ _ _ start.requires.1.1),
-      (start.requires.1.0, sited-left _ _ _ _ start.requires.1.1 c.if1.false),
+    let i : a.g + 1 < 2 * power (length a.map.now) = sited_index _ _ _ _ start.requires.1.1 in (
+      omega (arith, sited_pos _ _ _ _ start.requires.1.1),
+      (start.requires.1.0, sited_left _ _ _ _ start.requires.1.1 c.if1.false),
     )
 
 right-below-mul-right-below-2 : (t : ℕ) → right-below-lts.Need-overflow-mul-right-below-2 (
@@ -110,7 +110,7 @@ right-below-mul-right-below-2 : (t : ℕ) → right-below-lts.Need-overflow-mul-
 right-below-mul-right-below-2 t c =
     let start = c.before.before.before.before.before in
     let a = start.args in
-    let i : a.g + 1 < 2 * power (length a.map.now) = sited-index _ _ _ _ start.requires.1.1 in
+    let i : a.g + 1 < 2 * power (length a.map.now) = sited_index _ _ _ _ start.requires.1.1 in
     omega arith
 
 right-below-add-right-below-2 : (t : ℕ) → right-below-lts.Need-overflow-add-right-below-2 (
@@ -124,7 +124,7 @@ right-below-add-right-below-2 : (t : ℕ) → right-below-lts.Need-overflow-add-
 right-below-add-right-below-2 t c =
     let start = c.before.before.before.before.before in
     let a = start.args in
-    let i : a.g + 1 < 2 * power (length a.map.now) = sited-index _ _ _ _ start.requires.1.1 in
+    let i : a.g + 1 < 2 * power (length a.map.now) = sited_index _ _ _ _ start.requires.1.1 in
     omega arith
 
 right-below-add-right-below-3 : (t : ℕ) → right-below-lts.Need-overflow-add-right-below-3 (
@@ -138,7 +138,7 @@ right-below-add-right-below-3 : (t : ℕ) → right-below-lts.Need-overflow-add-
 right-below-add-right-below-3 t c =
     let start = c.before.before.before.before.before in
     let a = start.args in
-    let i : a.g + 1 < 2 * power (length a.map.now) = sited-index _ _ _ _ start.requires.1.1 in
+    let i : a.g + 1 < 2 * power (length a.map.now) = sited_index _ _ _ _ start.requires.1.1 in
     omega arith
 
 right-below-right-below-requires-2 : (t : ℕ) → right-below-lts.Need-right-below-requires-2 (
@@ -152,9 +152,9 @@ right-below-right-below-requires-2 : (t : ℕ) → right-below-lts.Need-right-be
 right-below-right-below-requires-2 t c κs =
     let start = c.before.before.before.before.before in
     let a = start.args in
-    let i : a.g + 1 < 2 * power (length a.map.now) = sited-index _ _ _ _ start.requires.1.1 in (
-      omega (arith, sited-pos _ _ _ _ start.requires.1.1),
-      (start.requires.1.0, sited-right _ _ _ _ start.requires.1.1 c.before.before.if1.false),
+    let i : a.g + 1 < 2 * power (length a.map.now) = sited_index _ _ _ _ start.requires.1.1 in (
+      omega (arith, sited_pos _ _ _ _ start.requires.1.1),
+      (start.requires.1.0, sited_right _ _ _ _ start.requires.1.1 c.before.before.if1.false),
     )
 
 right-below-halves-agree-requires : (t : ℕ) → right-below-lts.Need-halves-agree-requires (
@@ -168,9 +168,9 @@ right-below-halves-agree-requires : (t : ℕ) → right-below-lts.Need-halves-ag
 right-below-halves-agree-requires t c κs =
     let start = c.before.before.before.before.before.before.before in
     let a = start.args in
-    let i : a.g + 1 < 2 * power (length a.map.now) = sited-index _ _ _ _ start.requires.1.1 in
-    let j : 2 * a.g + 2 + 1 < 2 * power (length a.map.now) = sited-index _ _ _ _
-    (sited-right _ _ _ _ start.requires.1.1 c.before.before.before.before.if1.false) in
+    let i : a.g + 1 < 2 * power (length a.map.now) = sited_index _ _ _ _ start.requires.1.1 in
+    let j : 2 * a.g + 2 + 1 < 2 * power (length a.map.now) = sited_index _ _ _ _
+    (sited_right _ _ _ _ start.requires.1.1 c.before.before.before.before.if1.false) in
     (omega arith, omega arith, omega arith)
 
 right-below-returns-2 : (t : ℕ) → right-below-lts.Need-returns-2 (
@@ -197,7 +197,7 @@ right-below-returns-3 : (t : ℕ) → right-below-lts.Need-returns-3 (
   halves-agree-reads.Asked,
   halves-agree-reads.Learnt,
 ) (right-below-at t) right-below.Post
-right-below-returns-3 t c = refuted _ (second-wrong _ _ c.before.before.before.before.before.before.before.args.summary.now _ (c.before.right-below2.ensures.1
+right-below-returns-3 t c = refuted _ (second_wrong _ _ c.before.before.before.before.before.before.before.args.summary.now _ (c.before.right-below2.ensures.1
     c.if3.false))
 
 right-below-returns-4 : (t : ℕ) → right-below-lts.Need-returns-4 (
@@ -208,7 +208,7 @@ right-below-returns-4 : (t : ℕ) → right-below-lts.Need-returns-4 (
   halves-agree-reads.Asked,
   halves-agree-reads.Learnt,
 ) (right-below-at t) right-below.Post
-right-below-returns-4 t c = refuted _ (first-wrong _ _ c.before.before.before.before.before.args.summary.now _
+right-below-returns-4 t c = refuted _ (first_wrong _ _ c.before.before.before.before.before.args.summary.now _
     (c.before.right-below.ensures.1 c.if2.false))
 
 pub +right-below-spec : {M : Type 1} → statement M

@@ -11,7 +11,7 @@ use Rattle.map_blocks.proofs.Bits.{bit_zero}
 use Rattle.map_blocks.proofs.Maps.{cut_word}
 use Rattle.summary_groups.proofs.Joins.{group_same}
 use Rattle.summary.specs.Summary.{usable}
-use Rattle.summary.proofs.Usable.{from-n, in_window_lem}
+use Rattle.summary.proofs.Usable.{from_n, in_window_lem}
 use Rattle.summary.proofs.free_word.Statement.{statement}
 use Rattle.summary.proofs.free_word.Tie as tie
 
@@ -25,7 +25,7 @@ returns : tie.Need-returns
 returns c =
     let a = c.before.before.args in
     group_same (bit 0) (usable a.map.now a.n) 0 (64 * a.i) 64 (λ j l.
-    bit_zero (0 + j) ∙ sym (from-n a.map.now a.n (64 * a.i + j) (omega arith)))
+    bit_zero (0 + j) ∙ sym (from_n a.map.now a.n (64 * a.i + j) (omega arith)))
 
 mul-result : tie.Need-overflow-mul-result
 mul-result c = search rules

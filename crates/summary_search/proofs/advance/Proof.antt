@@ -9,8 +9,8 @@ use Rattle.summary_groups.specs.declared.Group.{Group}
 use Rattle.summary_search.specs.declared.Glance.{Glance}
 use Rattle.summary_search.specs.declared.Glance.TheVariants.{Settled}
 use Rattle.summary_search.specs.SearchBy.{glance_of}
-use Rattle.summary_search.proofs.Places.{lies-room}
-use Rattle.summary_search.proofs.Ways.{passed-in, ahead_in, is-ahead, passed-small, passed-least, passed-few}
+use Rattle.summary_search.proofs.Places.{lies_room}
+use Rattle.summary_search.proofs.Ways.{passed_in, ahead_in, is_ahead, passed-small, passed-least, passed-few}
 use Rattle.summary_search.proofs.Ways.{none-behind, second_half_lem, whole-passed, ahead_small, ahead-least, ahead-few}
 use Rattle.summary_search.proofs.Ways.{told-hit, told-next, in_word, first_half_lem, to_go_ahead, to_go_passed}
 use Rattle.summary_search.proofs.advance.Statement.{statement}
@@ -26,21 +26,21 @@ add-if2 : tie.Need-overflow-add-if2
 add-if2 c =
     let start = c.before.before.before in
     let p = start.args.place in
-    let l = passed-in _ _ _ _ p start.requires.0 c.if1.true in
+    let l = passed_in _ _ _ _ p start.requires.0 c.if1.true in
     omega (arith, passed-small _ _ _ _ _ _ _ _ l)
 
 add-t16 : tie.Need-overflow-add-t16
 add-t16 c =
     let start = c.before.before.before.before in
     let p = start.args.place in
-    let l = passed-in _ _ _ _ p start.requires.0 c.before.if1.true in
+    let l = passed_in _ _ _ _ p start.requires.0 c.before.if1.true in
     omega (arith, l.few, passed-small _ _ _ _ _ _ _ _ l)
 
 returns : tie.Need-returns
 returns c =
     let start = c.before.before.before.before in
     let p = start.args.place in
-    let l = passed-in _ _ _ _ p start.requires.0 c.before.if1.true in
+    let l = passed_in _ _ _ _ p start.requires.0 c.before.if1.true in
     let w = to_go_passed p.stage p.g p.base p.m c.before.if1.true in
     (inr (inr (refl, none-behind _ _ _ _ _ _ _ _ l c.if2.true)), omega (arith, w))
 
@@ -48,21 +48,21 @@ add-t18 : tie.Need-overflow-add-t18
 add-t18 c =
     let start = c.before.before.before.before.before in
     let p = start.args.place in
-    let l = passed-in _ _ _ _ p start.requires.0 c.before.before.if1.true in
+    let l = passed_in _ _ _ _ p start.requires.0 c.before.before.if1.true in
     omega (arith, passed-few _ _ _ _ _ _ _ _ l)
 
 add-t19 : tie.Need-overflow-add-t19
 add-t19 c =
     let start = c.before.before.before.before.before in
     let p = start.args.place in
-    let l = passed-in _ _ _ _ p start.requires.0 c.before.before.if1.true in
+    let l = passed_in _ _ _ _ p start.requires.0 c.before.before.if1.true in
     omega (arith, passed-small _ _ _ _ _ _ _ _ l)
 
 returns-2 : tie.Need-returns-2
 returns-2 c =
     let start = c.before.before.before.before.before in
     let p = start.args.place in
-    let l = passed-in _ _ _ _ p start.requires.0 c.before.before.if1.true in
+    let l = passed_in _ _ _ _ p start.requires.0 c.before.before.if1.true in
     let w = to_go_passed p.stage p.g p.base p.m c.before.before.if1.true in (
       inl (refl, second_half_lem _ _ _ _ _ _ _ _ l c.if3.true),
       omega
@@ -73,28 +73,28 @@ sub-t20 : tie.Need-overflow-sub-t20
 sub-t20 c =
     let start = c.before.before.before.before.before in
     let p = start.args.place in
-    let l = passed-in _ _ _ _ p start.requires.0 c.before.before.if1.true in
+    let l = passed_in _ _ _ _ p start.requires.0 c.before.before.if1.true in
     omega (arith, (whole-passed _ _ _ _ _ _ _ _ l c.if3.false c.before.if2.false).some)
 
 sub-t14 : tie.Need-overflow-sub-t14
 sub-t14 c =
     let start = c.before.before.before.before.before in
     let p = start.args.place in
-    let l = passed-in _ _ _ _ p start.requires.0 c.before.before.if1.true in
+    let l = passed_in _ _ _ _ p start.requires.0 c.before.before.if1.true in
     omega (arith, (whole-passed _ _ _ _ _ _ _ _ l c.if3.false c.before.if2.false).back)
 
 mul-t21 : tie.Need-overflow-mul-t21
 mul-t21 c =
     let start = c.before.before.before.before.before in
     let p = start.args.place in
-    let l = passed-in _ _ _ _ p start.requires.0 c.before.before.if1.true in
+    let l = passed_in _ _ _ _ p start.requires.0 c.before.before.if1.true in
     omega (arith, (whole-passed _ _ _ _ _ _ _ _ l c.if3.false c.before.if2.false).short-of)
 
 returns-3 : tie.Need-returns-3
 returns-3 c =
     let start = c.before.before.before.before.before in
     let p = start.args.place in
-    let l = passed-in _ _ _ _ p start.requires.0 c.before.before.if1.true in
+    let l = passed_in _ _ _ _ p start.requires.0 c.before.before.if1.true in
     let w = to_go_passed p.stage p.g p.base p.m c.before.before.if1.true in
     let b = whole-passed _ _ _ _ _ _ _ _ l c.if3.false c.before.if2.false in
     (inr (inl (refl, b.up)), omega (arith, w, b.some, b.back, passed-small _ _ _ _ _ _ _ _ l))
@@ -106,7 +106,7 @@ read-requires c κs =
     let start = c.before.before.before in
     let p = start.args.place in
     let l = ahead_in _ _ _ _ p start.requires.0 start.requires.1 c.if1.false in
-    (omega (arith, ahead-few _ _ _ _ _ _ _ _ l), lies-room _ _ _ _ l.lies)
+    (omega (arith, ahead-few _ _ _ _ _ _ _ _ l), lies_room _ _ _ _ l.lies)
 
 glance-at-requires : tie.Need-glance-at-requires
 glance-at-requires c κs =
@@ -127,7 +127,7 @@ returns-4 c =
     let p = start.args.place in
     let l = ahead_in _ _ _ _ p start.requires.0 start.requires.1
     c.before.before.before.before.before.before.before.before.if1.false in
-    let w = to_go_ahead p.stage p.g p.base p.m (is-ahead _ _ _ _ p start.requires.0 start.requires.1
+    let w = to_go_ahead p.stage p.g p.base p.m (is_ahead _ _ _ _ p start.requires.0 start.requires.1
     c.before.before.before.before.before.before.before.before.if1.false) in
     let e = glanced _ _ _ _ _ c.before.before.before.before.before.before.before.read.ensures
     c.before.before.before.before.before.before.glance_at.ensures
@@ -143,7 +143,7 @@ returns-5 c =
     let p = start.args.place in
     let l = ahead_in _ _ _ _ p start.requires.0 start.requires.1
     c.before.before.before.before.before.before.before.before.if1.false in
-    let w = to_go_ahead p.stage p.g p.base p.m (is-ahead _ _ _ _ p start.requires.0 start.requires.1
+    let w = to_go_ahead p.stage p.g p.base p.m (is_ahead _ _ _ _ p start.requires.0 start.requires.1
     c.before.before.before.before.before.before.before.before.if1.false) in
     let e = glanced _ _ _ _ _ c.before.before.before.before.before.before.before.read.ensures
     c.before.before.before.before.before.before.glance_at.ensures
@@ -164,7 +164,7 @@ returns-6 c =
     let start = c.before.before.before.before.before.before.before.before.before in
     let p = start.args.place in
     let l = ahead_in _ _ _ _ p start.requires.0 start.requires.1 c.before.before.before.before.before.before.if1.false in
-    let w = to_go_ahead p.stage p.g p.base p.m (is-ahead _ _ _ _ p start.requires.0 start.requires.1
+    let w = to_go_ahead p.stage p.g p.base p.m (is_ahead _ _ _ _ p start.requires.0 start.requires.1
     c.before.before.before.before.before.before.if1.false) in
     let e = glanced _ _ _ _ _ c.before.before.before.before.before.read.ensures
     c.before.before.before.before.glance_at.ensures ∙ c.before.before.enum_told.given.1 in (
@@ -192,7 +192,7 @@ returns-7 c =
     let start = c.before.before.before.before.before.before.before.before in
     let p = start.args.place in
     let l = ahead_in _ _ _ _ p start.requires.0 start.requires.1 c.before.before.before.before.before.if1.false in
-    let w = to_go_ahead p.stage p.g p.base p.m (is-ahead _ _ _ _ p start.requires.0 start.requires.1
+    let w = to_go_ahead p.stage p.g p.base p.m (is_ahead _ _ _ _ p start.requires.0 start.requires.1
     c.before.before.before.before.before.if1.false) in
     let e = glanced _ _ _ _ _ c.before.before.before.before.read.ensures
     c.before.before.before.glance_at.ensures ∙ c.before.enum_told.given.1 in

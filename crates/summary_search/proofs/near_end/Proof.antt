@@ -1,7 +1,7 @@
 -- `summary_search::near_end` meets its contract.
 -- Assumes nothing.
 use native.Mathlib.Omega.{arith}
-use Rattle.summary_search.proofs.Near.{near-small}
+use Rattle.summary_search.proofs.Near.{near_small}
 use borrow.Author.Rules.{rules}
 use Rattle.summary_search.proofs.near_end.Statement.{statement}
 use Rattle.summary_search.proofs.near_end.Tie as tie
@@ -15,7 +15,7 @@ near-of-requires c κs = search rules
 add-smaller : tie.Need-add-smaller
 add-smaller c =
     let a = c.before.before.args in
-    omega (arith, c.Near-of.ensures, near-small a.step a.k)
+    omega (arith, c.Near-of.ensures, near_small a.step a.k)
 
 smaller-requires : tie.Need-smaller-requires
 smaller-requires c κs = search rules

@@ -5,7 +5,7 @@ use Prim.Native.Nat.{◌<◌}
 use native.Mathlib.Omega.{arith}
 use lib.ListN.{length, get_or}
 use Rattle.summary_groups.proofs.Places.{power_pos}
-use Rattle.summary_search.proofs.Near.{found-near, none-near}
+use Rattle.summary_search.proofs.Near.{found_near, none_near}
 use Rattle.summary_search.proofs.Searches.{by_none}
 use borrow.Author.Rules.{rules}
 use Rattle.summary_search.proofs.search_by.Statement.{statement}
@@ -33,13 +33,13 @@ returns c =
     let look = c.before.before.before in
     let long = look.before.if1.true in
     c.search-down.ensures
-    ∙ none-near _ _ _ _ _ _ long (sym look.look-near.ensures ∙ c.before.enum_told.given.1)
+    ∙ none_near _ _ _ _ _ _ long (sym look.look-near.ensures ∙ c.before.enum_told.given.1)
 
 returns-2 : tie.Need-returns-2
 returns-2 c =
     let look = c.before.before.before in
     let long = look.before.if1.true in
-    found-near _ _ _ _ _ _ long _ (sym look.look-near.ensures ∙ c.before.near.given.1)
+    found_near _ _ _ _ _ _ long _ (sym look.look-near.ensures ∙ c.before.near.given.1)
 
 returns-3 : tie.Need-returns-3
 returns-3 c =

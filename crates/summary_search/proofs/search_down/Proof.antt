@@ -11,7 +11,7 @@ use Rattle.summary_groups.proofs.Places.{power_small, power_pos}
 use Rattle.summary_search.specs.SearchBy.{seek}
 use Rattle.summary_search.specs.Seeking.{step_number}
 use Rattle.summary_search.proofs.Places.{lies_whole}
-use Rattle.summary_search.proofs.Turns.{Turning, short_of, turning_first, turning-late, not-before, sought}
+use Rattle.summary_search.proofs.Turns.{Turning, short_of, turning_first, turning_late, not-before, sought}
 use Rattle.summary_search.proofs.Turns.{found_none, found-far, found_at, found_nothing}
 use Rattle.summary_search.proofs.search_down.Statement.{statement}
 use Rattle.summary_search.proofs.search_down.Tie as tie
@@ -162,7 +162,7 @@ returns-4 c =
 returns-5 : tie.Need-returns-5 invariant-loop decreases-loop
 returns-5 c =
     let start = c.before.before.before.before.before.before.before in
-    turning-late _ _ _ _ _ _ start.requires.0 start.requires.3 _ c.before.loop.invariant c.loop-test.false
+    turning_late _ _ _ _ _ _ start.requires.0 start.requires.3 _ c.before.loop.invariant c.loop-test.false
 
 pub search_down_spec : {M : Type 1} → statement M
 search_down_spec =

@@ -4,7 +4,7 @@ use mathlib.Core.Path.{refl}
 use mathlib.Core.Logic.{inl}
 use native.Mathlib.Omega.{arith}
 use Rattle.summary_search.specs.Seeking.{Stands, to_go}
-use Rattle.summary_search.proofs.Ways.{first_ahead, ended-in}
+use Rattle.summary_search.proofs.Ways.{first_ahead, ended_in}
 use Rattle.summary_search.proofs.seek_down.Statement.{statement}
 use Rattle.summary_search.proofs.seek_down.Tie as tie
 
@@ -32,7 +32,7 @@ returns : tie.Need-returns invariant-loop decreases-loop
 returns c =
     let at = c.before.before.loop in
     let a = c.before.before.before.before.args in
-    (ended-in a.summary.now a.at a.k a.m at.place at.invariant (omega (arith, c.if1.false))).gives
+    (ended_in a.summary.now a.at a.k a.m at.place at.invariant (omega (arith, c.if1.false))).gives
 
 pub seek_down_spec : {M : Type 1} → statement M
 seek_down_spec = tie.close (tie.spec invariant-loop decreases-loop loop-holds advance-requires loop-less loop-again returns)

@@ -8,8 +8,8 @@ use borrow.Author.Rules.{rules}
 use Rattle.summary_groups.specs.Groups.{power}
 use Rattle.summary_groups.specs.Places.{Sited}
 use Rattle.summary.specs.Walks.{with_group, Builds}
-use Rattle.summary_groups.proofs.Places.{sited-index, sited-pos, sited-left, sited-right}
-use Rattle.summary.proofs.Rebuilding.{at-word, from_halves}
+use Rattle.summary_groups.proofs.Places.{sited_index, sited_pos, sited_left, sited_right}
+use Rattle.summary.proofs.Rebuilding.{at_word, from_halves}
 use borrow.Fn.Kinds.{In}
 use borrow.Fn.PlainCycle.{Measures, is, falls, and}
 use Rattle.summary_write.proofs.build_group.Reads as build-group
@@ -55,7 +55,7 @@ build-group-store-word-requires : (t : ℕ) → build-group-lts.Need-store-word-
 build-group-store-word-requires t c κs =
     let start = c.before.before.before.before.before in
     let a = start.args in
-    let i : a.g + 1 < 2 * power (length a.map.now) = sited-index _ _ _ _ start.requires.1.1 in
+    let i : a.g + 1 < 2 * power (length a.map.now) = sited_index _ _ _ _ start.requires.1.1 in
     (omega arith, omega arith)
 
 build-group-same-length : (t : ℕ) → build-group-lts.Need-same-length (
@@ -86,12 +86,12 @@ build-group-returns t c =
     let tests = word.before.before in
     let start = tests.before.before.before in
     let a = start.args in
-    let i : a.g + 1 < 2 * power (length a.map.now) = sited-index _ _ _ _ start.requires.1.1 in
+    let i : a.g + 1 < 2 * power (length a.map.now) = sited_index _ _ _ _ start.requires.1.1 in
     let s : Sited (power (length a.map.now)) a.g a.first 1 = subst (Sited _ _ _) tests.if1.true
     start.requires.1.1 in
     subst (Builds _ _ _ _)
     (sym (stored.Store-word.ensures ∙ ap (with_group a.summary.now a.g) word.free-word.ensures))
-    (at-word _ _ _ _ _ s (omega arith))
+    (at_word _ _ _ _ _ s (omega arith))
 
 build-group-mul-build-group : (t : ℕ) → build-group-lts.Need-overflow-mul-build-group (
   free-word-reads.Asked,
@@ -106,7 +106,7 @@ build-group-mul-build-group : (t : ℕ) → build-group-lts.Need-overflow-mul-bu
 build-group-mul-build-group t c =
     let start = c.before.before.before.before in
     let a = start.args in
-    let i : a.g + 1 < 2 * power (length a.map.now) = sited-index _ _ _ _ start.requires.1.1 in
+    let i : a.g + 1 < 2 * power (length a.map.now) = sited_index _ _ _ _ start.requires.1.1 in
     omega arith
 
 build-group-add-build-group : (t : ℕ) → build-group-lts.Need-overflow-add-build-group (
@@ -122,7 +122,7 @@ build-group-add-build-group : (t : ℕ) → build-group-lts.Need-overflow-add-bu
 build-group-add-build-group t c =
     let start = c.before.before.before.before in
     let a = start.args in
-    let i : a.g + 1 < 2 * power (length a.map.now) = sited-index _ _ _ _ start.requires.1.1 in
+    let i : a.g + 1 < 2 * power (length a.map.now) = sited_index _ _ _ _ start.requires.1.1 in
     omega arith
 
 build-group-build-group-requires : (t : ℕ) → build-group-lts.Need-build-group-requires (
@@ -138,9 +138,9 @@ build-group-build-group-requires : (t : ℕ) → build-group-lts.Need-build-grou
 build-group-build-group-requires t c κs =
     let start = c.before.before.before.before in
     let a = start.args in
-    let i : a.g + 1 < 2 * power (length a.map.now) = sited-index _ _ _ _ start.requires.1.1 in (
-      omega (arith, sited-pos _ _ _ _ start.requires.1.1),
-      (start.requires.1.0, sited-left _ _ _ _ start.requires.1.1 c.before.if1.false),
+    let i : a.g + 1 < 2 * power (length a.map.now) = sited_index _ _ _ _ start.requires.1.1 in (
+      omega (arith, sited_pos _ _ _ _ start.requires.1.1),
+      (start.requires.1.0, sited_left _ _ _ _ start.requires.1.1 c.before.if1.false),
     )
 
 build-group-mul-build-group-2 : (t : ℕ) → build-group-lts.Need-overflow-mul-build-group-2 (
@@ -156,7 +156,7 @@ build-group-mul-build-group-2 : (t : ℕ) → build-group-lts.Need-overflow-mul-
 build-group-mul-build-group-2 t c =
     let start = c.before.before.before.before.before.before.before.before in
     let a = start.args in
-    let i : a.g + 1 < 2 * power (length a.map.now) = sited-index _ _ _ _ start.requires.1.1 in
+    let i : a.g + 1 < 2 * power (length a.map.now) = sited_index _ _ _ _ start.requires.1.1 in
     omega arith
 
 build-group-add-build-group-2 : (t : ℕ) → build-group-lts.Need-overflow-add-build-group-2 (
@@ -172,7 +172,7 @@ build-group-add-build-group-2 : (t : ℕ) → build-group-lts.Need-overflow-add-
 build-group-add-build-group-2 t c =
     let start = c.before.before.before.before.before.before.before.before in
     let a = start.args in
-    let i : a.g + 1 < 2 * power (length a.map.now) = sited-index _ _ _ _ start.requires.1.1 in
+    let i : a.g + 1 < 2 * power (length a.map.now) = sited_index _ _ _ _ start.requires.1.1 in
     omega arith
 
 build-group-add-build-group-3 : (t : ℕ) → build-group-lts.Need-overflow-add-build-group-3 (
@@ -200,12 +200,12 @@ build-group-build-group-requires-2 : (t : ℕ) → build-group-lts.Need-build-gr
 build-group-build-group-requires-2 t c κs =
     let start = c.before.before.before.before.before.before.before.before in
     let a = start.args in
-    let i : a.g + 1 < 2 * power (length a.map.now) = sited-index _ _ _ _ start.requires.1.1 in
+    let i : a.g + 1 < 2 * power (length a.map.now) = sited_index _ _ _ _ start.requires.1.1 in
     let l = start.requires.1.0 in (
-      omega (arith, sited-pos _ _ _ _ start.requires.1.1),
+      omega (arith, sited_pos _ _ _ _ start.requires.1.1),
       (
         record { few = l.few; fits = l.fits; long = c.before.before.before.build-group.auto.1.1.0 ∙ l.long },
-        sited-right _ _ _ _ start.requires.1.1 c.before.before.before.before.before.if1.false,
+        sited_right _ _ _ _ start.requires.1.1 c.before.before.before.before.before.if1.false,
       ),
     )
 
@@ -223,11 +223,11 @@ build-group-store-joined-requires t c κs =
     let start =
     c.before.before.before.before.before.before.before.before.before.before.before.before in
     let a = start.args in
-    let i : a.g + 1 < 2 * power (length a.map.now) = sited-index _ _ _ _ start.pre.1.1 in
+    let i : a.g + 1 < 2 * power (length a.map.now) = sited_index _ _ _ _ start.pre.1.1 in
     let second = c.before.before.before in
     let ne = second.before.before.before.before.before.before.if1.false in
-    let j : 2 * a.g + 2 + 1 < 2 * power (length a.map.now) = sited-index _ _ _ _
-    (sited-right _ _ _ _ start.pre.1.1 ne) in
+    let j : 2 * a.g + 2 + 1 < 2 * power (length a.map.now) = sited_index _ _ _ _
+    (sited_right _ _ _ _ start.pre.1.1 ne) in
     let l : length second.build-group2.new.1.1.0 ≡ length a.summary.now = second.build-group2.auto.1.1.0
     ∙ second.before.before.before.before.build-group.auto.1.1.0 in
     (omega arith, omega arith, omega arith)
@@ -261,7 +261,7 @@ build-group-returns-2 t c =
     let tests = first.before.before in
     let start = tests.before.before.before in
     let a = start.args in
-    let i : a.g + 1 < 2 * power (length a.map.now) = sited-index _ _ _ _ start.requires.1.1 in
+    let i : a.g + 1 < 2 * power (length a.map.now) = sited_index _ _ _ _ start.requires.1.1 in
     let l : length second.build-group2.new.1.1.0 ≡ length a.summary.now = second.build-group2.auto.1.1.0
     ∙ first.build-group.auto.1.1.0 in
     subst (Builds _ _ _ _) (sym joined.store-joined.ensures)

@@ -3,7 +3,7 @@
 use mathlib.Core.Path.{◌∙◌}
 use lib.ListN.{length}
 use borrow.Author.Rules.{rules}
-use Rattle.summary.proofs.Own.{sited_whole, right-own}
+use Rattle.summary.proofs.Own.{sited_whole, right_own}
 use Rattle.summary_write.proofs.build.Statement.{statement}
 use Rattle.summary_write.proofs.build.Tie as tie
 
@@ -24,7 +24,7 @@ returns c =
     let call = c.before.before in
     let start = call.before.before.before.before.before.before in
     let lent = start.requires in
-    right-own _ _ _ (record { few = lent.few; fits = lent.fits; long = call.build-group.auto.1.1.0 ∙ lent.long })
+    right_own _ _ _ (record { few = lent.few; fits = lent.fits; long = call.build-group.auto.1.1.0 ∙ lent.long })
     call.build-group.ensures.done
 
 pub build_spec : {M : Type 1} → statement M

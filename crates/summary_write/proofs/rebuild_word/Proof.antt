@@ -7,7 +7,7 @@ use lib.ListN.{length}
 use Rattle.summary_groups.specs.Groups.{power}
 use Rattle.summary_groups.proofs.Places.{power_power, power_small, power_pos}
 use Rattle.summary.specs.Summary.{usable}
-use Rattle.summary_write.proofs.Climbs.{word_stands, word-rises, word-no-more}
+use Rattle.summary_write.proofs.Climbs.{word_stands, word_rises, word_no_more}
 use borrow.Author.Rules.{rules}
 use Rattle.summary_write.proofs.rebuild_word.Statement.{statement}
 use Rattle.summary_write.proofs.rebuild_word.Tie as tie
@@ -63,7 +63,7 @@ returns c =
     let few : power w ≤ 4096 = power_small w start.requires.0.few in
     let leaf : ℕ = c.before.before.before.before.before.words_of.result - 1 in
     let fits : 3 * (leaf + a.i) + 2 < length a.summary.now = omega (arith, start.requires.1, start.requires.0.long) in
-    word-no-more (usable a.map.now a.n) (power w) a.i leaf (power_power w) few (omega arith) start.requires.1 _ _ fits
+    word_no_more (usable a.map.now a.n) (power w) a.i leaf (power_power w) few (omega arith) start.requires.1 _ _ fits
     c.before.before.before.restore-word.ensures.1 (c.before.before.before.restore-word.ensures.0.0
     c.if1.true)
 
@@ -95,7 +95,7 @@ returns-2 c =
     let leaf : ℕ = c.before.before.before.before.before.before.before.before.before.words_of.result - 1 in
     let fits : 3 * (leaf + a.i) + 2 < length a.summary.now = omega (arith, start.requires.1, start.requires.0.long) in
     c.before.before.climb.ensures _ _ _ _ _
-    (word-rises (usable a.map.now a.n) (power w) a.i leaf (power_power w) few (omega arith) start.requires.1 _ _ fits
+    (word_rises (usable a.map.now a.n) (power w) a.i leaf (power_power w) few (omega arith) start.requires.1 _ _ fits
     c.before.before.before.before.before.before.before.restore-word.ensures.1
     (c.before.before.before.before.before.before.before.restore-word.ensures.0.1
     c.before.before.before.before.if1.false))

@@ -11,8 +11,8 @@ use Rattle.summary_groups.specs.Groups.{power}
 use Rattle.summary_groups.proofs.Places.{power_power, power_small, power_pos}
 use Rattle.summary.specs.Summary.{usable}
 use Rattle.summary_write.specs.Climbs.{At, Climbs}
-use Rattle.summary_write.proofs.Climbs.{climbs-words, climbs-above, several_rise}
-use Rattle.summary_write.proofs.Levels.{at_words, up, above-few, several}
+use Rattle.summary_write.proofs.Climbs.{climbs_words, climbs-above, several_rise}
+use Rattle.summary_write.proofs.Levels.{at_words, up, above_few, several}
 use borrow.Author.Rules.{rules}
 use Rattle.summary_write.proofs.rebuild_words.Statement.{statement}
 use Rattle.summary_write.proofs.rebuild_words.Tie as tie
@@ -126,7 +126,7 @@ store-joins-requires c κs =
     let loop = c.before.before.loop in
     let at : At (power w) a.lo a.hi loop.half loop.invariant.4.0 loop.g loop.stop = loop.invariant.4.1 in
     let some : 0 < loop.g = several _ _ _ _ _ _ _ at loop.invariant.3 in
-    let small = above-few _ _ _ _ _ _ _ (power_power w) few at some in
+    let small = above_few _ _ _ _ _ _ _ (power_power w) few at some in
     let e : length loop.summary ≡ length a.summary.now = loop.invariant.2
     ∙ c.before.before.before.before.before.store-leaves.auto.1.1.0 in
     let test : (loop.g - 1) / 2 + 1 < loop.stop / 2 = c.before.loop-test.true in
@@ -157,7 +157,7 @@ loop-again c =
     let loop = c.before.before.before.before.before.loop in
     let at : At (power w) a.lo a.hi loop.half loop.invariant.4.0 loop.g loop.stop = loop.invariant.4.1 in
     let some : 0 < loop.g = several _ _ _ _ _ _ _ at loop.invariant.3 in
-    let small = above-few _ _ _ _ _ _ _ (power_power w) few at some in
+    let small = above_few _ _ _ _ _ _ _ (power_power w) few at some in
     let test : (loop.g - 1) / 2 + 1 < loop.stop / 2 = c.before.before.before.before.loop-test.true in (
       omega (arith, loop.invariant.0),
       omega (arith, small.1),
@@ -207,7 +207,7 @@ returns c =
     c.before.before.climb.ensures _ _ _ _ _
     (several_rise _ _ _ _ _ _ _ _ _ (power_power w) few
     (loop.invariant.5 a.summary.now
-    (climbs-words _ _ _ _ _ (power_power w) few (omega arith) (omega (arith, start.requires.1)) start.requires.2 _ _
+    (climbs_words _ _ _ _ _ (power_power w) few (omega arith) (omega (arith, start.requires.1)) start.requires.2 _ _
     c.before.before.before.before.before.before.before.before.store-leaves.ensures
     (λ aim target rest o same. omega (arith, start.requires.1)))) one)
 

@@ -9,7 +9,7 @@ use borrow.Author.Rules.{rules}
 use Rattle.summary_groups.specs.declared.Group.{Group}
 use Rattle.summary.specs.Walks.{halves_of}
 use Rattle.summary_write.specs.Climbs.{Joins, Stores}
-use Rattle.summary_write.proofs.Stored.{none_stored, one-stored, next_stored, told, stored_all}
+use Rattle.summary_write.proofs.Stored.{none_stored, one_stored, next_stored, told, stored_all}
 use Rattle.summary_write.proofs.store_joins.Statement.{statement}
 use Rattle.summary_write.proofs.store_joins.Tie as tie
 
@@ -49,7 +49,7 @@ loop-again c =
           next_stored aim _ _ _ _ _ loop.loop.invariant.0 d
           (subst (λ (s : List ℕ). Stores aim loop.loop.summary s loop.loop.i (loop.loop.i + 1))
           (sym joined.store-joined.ensures)
-          (one-stored aim loop.loop.summary loop.loop.i (halves_of loop.loop.summary loop.loop.i a.half) l
+          (one_stored aim loop.loop.summary loop.loop.i (halves_of loop.loop.summary loop.loop.i a.half) l
           (told aim _ _ _ _ _ j loop.loop.invariant.0 i _ d))),
     )
 

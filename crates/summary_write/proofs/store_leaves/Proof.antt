@@ -12,7 +12,7 @@ use Rattle.summary_groups.proofs.Places.{power_small}
 use Rattle.summary.specs.Summary.{usable}
 use Rattle.summary.specs.Walks.{with_group}
 use Rattle.summary_write.specs.Climbs.{Stores}
-use Rattle.summary_write.proofs.Stored.{none_stored, one-stored, next_stored, stored_all}
+use Rattle.summary_write.proofs.Stored.{none_stored, one_stored, next_stored, stored_all}
 use Rattle.summary_write.proofs.store_leaves.Statement.{statement}
 use Rattle.summary_write.proofs.store_leaves.Tie as tie
 
@@ -80,7 +80,7 @@ loop-again c =
           (next_stored aim _ _ _ _ _ (omega (arith, loop.loop.invariant.0)) (loop.loop.invariant.3 aim j)
           (subst (λ (s : List ℕ). Stores aim at s g (g + 1))
           (sym (stored.Store-word.ensures ∙ ap (with_group at g) word.free-word.ensures))
-          (one-stored aim at g (group_of (usable a.map.now a.n) (64 * loop.loop.i) 64) l
+          (one_stored aim at g (group_of (usable a.map.now a.n) (64 * loop.loop.i) 64) l
           (j loop.loop.i loop.loop.invariant.0 i)))),
     )
 

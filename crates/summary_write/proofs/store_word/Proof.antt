@@ -5,7 +5,7 @@ use Prim.Native.Nat.{ℕ}
 use borrow.Author.Rules.{rules}
 use Rattle.map_blocks.specs.Words.{bit}
 use Rattle.map_blocks.proofs.Bits.{bit_zero}
-use Rattle.summary_groups.proofs.Joins.{group-none}
+use Rattle.summary_groups.proofs.Joins.{group_none}
 use Rattle.summary.specs.Walks.{with_group}
 use Rattle.summary_write.proofs.store_word.Statement.{statement}
 use Rattle.summary_write.proofs.store_word.Tie as tie
@@ -22,7 +22,7 @@ returns c =
     let test = stored.before.before in
     let a = test.before.before.args in
     stored.store.ensures
-    ∙ ap (with_group a.summary.now a.g) (group-none (bit a.w) 0 64 (λ t l.
+    ∙ ap (with_group a.summary.now a.g) (group_none (bit a.w) 0 64 (λ t l.
     ap (λ (w : ℕ). bit w t) test.if1.true ∙ bit_zero t))
 
 word-group-requires : tie.Need-word-group-requires

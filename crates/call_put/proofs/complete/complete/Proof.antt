@@ -6,7 +6,7 @@ use Prim.Native.Nat.{ℕ}
 use native.Mathlib.Omega.{arith}
 use borrow.Author.Rules.{rules}
 use Rattle.catalogue.specs.Entries.{complete_mark}
-use Rattle.refusals.specs.Effects.{entry_of, out_of, refusal_out, completeOut}
+use Rattle.refusals.specs.Effects.{entry_of, out_of, refusal_out, complete_out}
 use Rattle.call_put.specs.Fillings.{filling_of}
 use Rattle.catalogue_standings.specs.Openings.{refused_row, row_of}
 use Rattle.catalogue_standings.specs.Rows.{accepted, refused}
@@ -15,34 +15,34 @@ use Rattle.call_put.specs.declared.places.Filling.{Filling}
 use Rattle.call_put.specs.declared.places.Filling.TheVariants.{Filled, Blank, Broken}
 use Rattle.catalogue_standings.specs.declared.Opened.TheVariants.{Stands}
 use Rattle.catalogue_standings.specs.declared.Standing.TheVariants.{Open}
-use Rattle.call_put.proofs.Fillings.{was-broken, was-blank, was-filled}
+use Rattle.call_put.proofs.Fillings.{was_broken, was_blank, was_filled}
 use Rattle.roles.specs.Roles as names
 use Rattle.roles.specs.Roles.{turned_away}
 use Rattle.refusals.specs.Lent.{called_by, Lent, lent}
-use Rattle.refusals.proofs.Lent.{allFits, standing, first, limits, extent, refused-first, stands-first}
+use Rattle.refusals.proofs.Lent.{all_fits, standing, first, limits, extent, refused_first, stands_first}
 use Rattle.catalogue_standings.proofs.Openings.{opened, skip, stop, none_left}
 use Rattle.call_put.proofs.complete.complete.Statement.{statement}
 use Rattle.call_put.proofs.complete.complete.Tie as tie
-use Rattle.refusals.proofs.Complete.{opening_row, standing_row, verdict, refusal, out, by_row, shut, other, blank_at, soundAt}
+use Rattle.refusals.proofs.Complete.{opening_row, standing_row, verdict, refusal, out, by_row, shut, other, blank_at, sound_at}
 use Rattle.refusals.proofs.Complete.{admitted, lowest-is}
 
 -- what the places hold, and the row or the entry that it comes to
 module _ (q : Lent) (start blocks : ℕ) (opens : first q ≡ Stands (Open start blocks))
-    (filling : Filling) (seen : filling ≡ filling_of (blank_at q start) (soundAt q start) blocks)
+    (filling : Filling) (seen : filling ≡ filling_of (blank_at q start) (sound_at q start) blocks)
   where
     some-broken : filling ≡ Broken → verdict q ≡ refused 4
     some-broken h = admitted q start blocks opens
-        ∙ stop 4 _ _ (ap not (was-broken (blank_at q start) (soundAt q start) blocks (sym seen ∙ h)))
+        ∙ stop 4 _ _ (ap not (was_broken (blank_at q start) (sound_at q start) blocks (sym seen ∙ h)))
 
-    some-blank : (p : ℕ) → filling ≡ Blank p → out_of q.spare q.entry (answer.Blank p) ≡ completeOut q
+    some-blank : (p : ℕ) → filling ≡ Blank p → out_of q.spare q.entry (answer.Blank p) ≡ complete_out q
     some-blank p h =
-        let w = was-blank (blank_at q start) (soundAt q start) blocks p (sym seen ∙ h) in
+        let w = was_blank (blank_at q start) (sound_at q start) blocks p (sym seen ∙ h) in
         ap (λ (p : ℕ). out_of q.spare q.entry (answer.Blank p)) (sym w.2 ∙ lowest-is q start blocks opens)
         ∙ out q (refused 9) (admitted q start blocks opens ∙ skip 4 _ _ _ (ap not w.0) (stop 9 _ _ (ap not w.1)))
 
-    all-filled : filling ≡ Filled → out_of q.spare (entry_of complete_mark start blocks) answer.Done ≡ completeOut q
+    all-filled : filling ≡ Filled → out_of q.spare (entry_of complete_mark start blocks) answer.Done ≡ complete_out q
     all-filled h =
-        let w = was-filled (blank_at q start) (soundAt q start) blocks (sym seen ∙ h) in
+        let w = was_filled (blank_at q start) (sound_at q start) blocks (sym seen ∙ h) in
         let x = extent q start blocks opens in
         ap (λ (s : ℕ). out_of q.spare (entry_of complete_mark s blocks) answer.Done) (sym x.starts)
         ∙ ap (λ (l : ℕ). out_of q.spare (entry_of complete_mark q.entry.start l) answer.Done) (sym x.lasts)
@@ -68,11 +68,11 @@ returns c =
     let a = c.before.before.before.before.before.before.before.args in
     let q = called_by (turned_away a.role names.complete) (lent a.n a.free a.map.now a.card.now a.c a.entry a.sheet) in
     let told = c.before.before.enum_told.given in
-    let shuts = refused-first q c.before.before.before.before.enter-on.result told.0.0
+    let shuts = refused_first q c.before.before.before.before.enter-on.result told.0.0
     c.before.before.before.before.enter-on.ensures told.1 in
     by_row q told.0.0 c.refusal.result (c.refusal.ensures
     ∙ ap (refusal_out a.free a.entry) (c.before.refused-row.ensures ∙ ap refused_row told.1))
-    (shut q told.0.0 shuts) (opening_row q.turned (allFits q) q.sheets q.sheet (standing q) told.0.0 shuts)
+    (shut q told.0.0 shuts) (opening_row q.turned (all_fits q) q.sheets q.sheet (standing q) told.0.0 shuts)
 
 enum-known-stands : tie.Need-enum-known-stands
 enum-known-stands c = search rules
@@ -89,7 +89,7 @@ returns-2 c =
     let a = here.before.before.before.before.before.args in
     let q = called_by (turned_away a.role names.complete) (lent a.n a.free a.map.now a.card.now a.c a.entry a.sheet) in
     let s = here.opened.given.0.0 in
-    let stands = stands-first q here.before.before.enter-on.result here.opened.given.0.0 s
+    let stands = stands_first q here.before.before.enter-on.result here.opened.given.0.0 s
     here.before.before.enter-on.ensures here.opened.given.1 refl in
     by_row q (row_of s) c.refusal2.result (c.refusal2.ensures
     ∙ ap (refusal_out a.free a.entry) c.before.row_of.ensures)
@@ -103,7 +103,7 @@ look-requires c κs =
     let q = called_by (turned_away a.role names.complete) (lent a.n a.free a.map.now a.card.now a.c a.entry a.sheet) in
     let start = place.stands.given.0.0 in
     let blocks = place.stands.given.0.1.0 in
-    let opens = stands-first q here.before.before.enter-on.result here.opened.given.0.0 (Open start blocks)
+    let opens = stands_first q here.before.before.enter-on.result here.opened.given.0.0 (Open start blocks)
     here.before.before.enter-on.ensures here.opened.given.1 place.stands.given.1 in
     let x = extent q start blocks opens in
     let l = limits q (Open start blocks) opens in
@@ -130,7 +130,7 @@ returns-3 c =
     let q = called_by (turned_away a.role names.complete) (lent a.n a.free a.map.now a.card.now a.c a.entry a.sheet) in
     let start = place.stands.given.0.0 in
     let blocks = place.stands.given.0.1.0 in
-    let opens = stands-first q here.before.before.enter-on.result here.opened.given.0.0 (Open start blocks)
+    let opens = stands_first q here.before.before.enter-on.result here.opened.given.0.0 (Open start blocks)
     here.before.before.enter-on.ensures here.opened.given.1 place.stands.given.1 in
     by_row q 4 c.refusal3.result c.refusal3.ensures
     (some-broken q start blocks opens seen.result seen.ensures c.before.enum-told2.given.1) refl
@@ -144,7 +144,7 @@ returns-4 c =
     let q = called_by (turned_away a.role names.complete) (lent a.n a.free a.map.now a.card.now a.c a.entry a.sheet) in
     let start = place.stands.given.0.0 in
     let blocks = place.stands.given.0.1.0 in
-    let opens = stands-first q here.before.before.enter-on.result here.opened.given.0.0 (Open start blocks)
+    let opens = stands_first q here.before.before.enter-on.result here.opened.given.0.0 (Open start blocks)
     here.before.before.enter-on.ensures here.opened.given.1 place.stands.given.1 in
     some-blank q start blocks opens seen.result seen.ensures c.before.place.given.0.0 c.before.place.given.1
 
@@ -157,7 +157,7 @@ returns-5 c =
     let q = called_by (turned_away a.role names.complete) (lent a.n a.free a.map.now a.card.now a.c a.entry a.sheet) in
     let start = place.stands.given.0.0 in
     let blocks = place.stands.given.0.1.0 in
-    let opens = stands-first q here.before.before.enter-on.result here.opened.given.0.0 (Open start blocks)
+    let opens = stands_first q here.before.before.enter-on.result here.opened.given.0.0 (Open start blocks)
     here.before.before.enter-on.ensures here.opened.given.1 place.stands.given.1 in
     all-filled q start blocks opens seen.result seen.ensures c.enum-told3.given.1
 

@@ -10,7 +10,7 @@ use lib.ListN.{length}
 use Rattle.blocks_of_card.specs.Card.{block_of}
 use Rattle.block_seals.specs.Sealed.{blank, sound}
 use Rattle.call_put.specs.Fillings.{filling_of}
-use Rattle.call_put.proofs.Fillings.{Passed, none_passed, all-passed, broken, breaks, passed-more, not_broken}
+use Rattle.call_put.proofs.Fillings.{Passed, none_passed, all_passed_lem, broken, breaks, passed_more, not_broken}
 use Rattle.call_put.proofs.Fillings.{blank_apart}
 use borrow.Author.Rules.{rules}
 use Rattle.call_put.proofs.places.look.Statement.{statement}
@@ -66,7 +66,7 @@ loop-again c =
     let inside : 512 * (a.start + loop.place) + 512 ≤ length a.card.now = omega arith in
     let step = c.before.with-place in (
       omega arith,
-      passed-more (blankIn a.card.now a.start) (soundIn a.card.now a.start a.sheet) loop.place
+      passed_more (blankIn a.card.now a.start) (soundIn a.card.now a.start a.sheet) loop.place
           loop.passed step.result loop.invariant.1
           (blank_apart a.card.now (a.start + loop.place) a.sheet loop.place inside) step.ensures
           (not_broken step.result c.match.keys2),
@@ -77,7 +77,7 @@ returns-2 c =
     let loop = c.before.loop in
     let a = c.before.before.before.args in
     let last : loop.place ≡ a.blocks = omega arith in
-    all-passed (blankIn a.card.now a.start) (soundIn a.card.now a.start a.sheet) loop.place
+    all_passed_lem (blankIn a.card.now a.start) (soundIn a.card.now a.start a.sheet) loop.place
     loop.passed loop.invariant.1
     ∙ ap (filling_of (blankIn a.card.now a.start) (soundIn a.card.now a.start a.sheet)) last
 

@@ -6,7 +6,7 @@ use borrow.Author.Rules.{rules}
 use Rattle.refusals.specs.Lent.{lent_within, called_by}
 use Rattle.roles.specs.Roles as names
 use Rattle.roles.specs.Roles.{turned_away}
-use Rattle.refusals.proofs.Accept.{taken, acceptVerdictOn, accept-room}
+use Rattle.refusals.proofs.Accept.{taken, accept_verdict_on, accept_room}
 use Rattle.refusals.proofs.Taken.{unchanged, changed}
 use Rattle.refusals_rulings.proofs.Rulings.{accepts, refuses}
 use Rattle.call_reserve.proofs.accept.accept.Statement.{statement}
@@ -33,9 +33,9 @@ take-requires c κs =
     a.n a.free a.map.now
     a.card.now
     a.c a.entry a.sheet) in
-    let ruled = accepts a.start call.result (acceptVerdictOn q a.start a.k) place.0.0 call.ensures
+    let ruled = accepts a.start call.result (accept_verdict_on q a.start a.k) place.0.0 call.ensures
     place.1 in
-    let room = accept-room q a.start a.k ruled.0 in (
+    let room = accept_room q a.start a.k ruled.0 in (
       omega (arith, room.inside, ruled.1),
       omega (arith, room.sizes.shape.limit),
       omega (arith, room.sizes.shape.words, room.sizes.shape.limit),
@@ -64,8 +64,8 @@ returns c =
     a.card.now
     a.c a.entry a.sheet) in
     taken q a.start a.k _ _ _ _
-    (unchanged q (acceptVerdictOn q a.start a.k) a.start a.k place.0.0 c.refusal.result
-    (refuses a.start call.result (acceptVerdictOn q a.start a.k) place.0.0 call.ensures
+    (unchanged q (accept_verdict_on q a.start a.k) a.start a.k place.0.0 c.refusal.result
+    (refuses a.start call.result (accept_verdict_on q a.start a.k) place.0.0 call.ensures
     place.1) c.refusal.ensures)
 
 same-length-4 : tie.Need-same-length-4
@@ -86,11 +86,11 @@ returns-2 c =
     a.n a.free a.map.now
     a.card.now
     a.c a.entry a.sheet) in
-    let ruled = accepts a.start call.result (acceptVerdictOn q a.start a.k) place.0.0 call.ensures
+    let ruled = accepts a.start call.result (accept_verdict_on q a.start a.k) place.0.0 call.ensures
     place.1 in
     let done = c.before.before.before.before.before.before.take in
     taken q a.start a.k _ _ _ _
-    (changed q (acceptVerdictOn q a.start a.k) a.start a.k place.0.0 done.result _ _ _ ruled.0
+    (changed q (accept_verdict_on q a.start a.k) a.start a.k place.0.0 done.result _ _ _ ruled.0
     ruled.1 done.ensures.0 done.ensures.1 done.ensures.2 done.ensures.3)
 
 pub accept_spec : {M : Type 1} → statement M

@@ -7,7 +7,7 @@ use Rattle.refusals.specs.Lent.{lent_within, called_by}
 use Rattle.roles.specs.Roles as names
 use Rattle.roles.specs.Roles.{turned_away}
 use Rattle.refusals.proofs.Grow.{end, unchanged, changed}
-use Rattle.refusals.proofs.Room.{growVerdictOn, grow-room}
+use Rattle.refusals.proofs.Room.{grow_verdict_on, grow_room}
 use Rattle.refusals_rulings.proofs.Rulings.{accepts, refuses}
 use Rattle.call_reserve.proofs.grow.grow.Statement.{statement}
 use Rattle.call_reserve.proofs.grow.grow.Tie as tie
@@ -33,8 +33,8 @@ occupy-requires c κs =
     a.n a.free a.map.now
     a.card.now
     a.c a.entry a.sheet) in
-    let ruled = accepts (end q a.m) call.result (growVerdictOn q a.m) place.0.0 call.ensures place.1 in
-    let room = grow-room q a.m ruled.0 in (
+    let ruled = accepts (end q a.m) call.result (grow_verdict_on q a.m) place.0.0 call.ensures place.1 in
+    let room = grow_room q a.m ruled.0 in (
       omega (arith, room.inside, ruled.1),
       omega (arith, room.sizes.shape.limit),
       omega (arith, room.sizes.shape.words, room.sizes.shape.limit),
@@ -52,8 +52,8 @@ sub-t31 c =
     a.n a.free a.map.now
     a.card.now
     a.c a.entry a.sheet) in
-    let ruled = accepts (end q a.m) call.result (growVerdictOn q a.m) place.0.0 call.ensures place.1 in
-    omega (arith, (grow-room q a.m ruled.0).enough)
+    let ruled = accepts (end q a.m) call.result (grow_verdict_on q a.m) place.0.0 call.ensures place.1 in
+    omega (arith, (grow_room q a.m ruled.0).enough)
 
 add-t32 : tie.Need-overflow-add-t32
 add-t32 c =
@@ -64,8 +64,8 @@ add-t32 c =
     a.n a.free a.map.now
     a.card.now
     a.c a.entry a.sheet) in
-    let ruled = accepts (end q a.m) call.result (growVerdictOn q a.m) place.0.0 call.ensures place.1 in
-    let room = grow-room q a.m ruled.0 in
+    let ruled = accepts (end q a.m) call.result (grow_verdict_on q a.m) place.0.0 call.ensures place.1 in
+    let room = grow_room q a.m ruled.0 in
     omega (arith, room.inside, room.sizes.shape.limit)
 
 same_length : tie.Need-same-length
@@ -87,7 +87,7 @@ returns c =
     a.card.now
     a.c a.entry a.sheet) in
     unchanged q a.m place.0.0 c.refusal.result
-    (refuses (end q a.m) call.result (growVerdictOn q a.m) place.0.0 call.ensures place.1)
+    (refuses (end q a.m) call.result (grow_verdict_on q a.m) place.0.0 call.ensures place.1)
     c.refusal.ensures
 
 same-length-4 : tie.Need-same-length-4
@@ -108,7 +108,7 @@ returns-2 c =
     a.n a.free a.map.now
     a.card.now
     a.c a.entry a.sheet) in
-    let ruled = accepts (end q a.m) call.result (growVerdictOn q a.m) place.0.0 call.ensures place.1 in
+    let ruled = accepts (end q a.m) call.result (grow_verdict_on q a.m) place.0.0 call.ensures place.1 in
     let done = c.before.before.before.before.before.before.before.occupy.ensures in
     changed q a.m place.0.0 _ _ _ ruled.0 ruled.1 done.0 done.1 done.2
 

@@ -9,7 +9,7 @@ use Rattle.roles.specs.Roles as names
 use Rattle.roles.specs.Roles.{turned_away}
 use Rattle.refusals.specs.Placement.{placed, figures}
 use Rattle.refusals.proofs.Offer.{answers}
-use Rattle.refusals.proofs.Room.{reserveVerdictOn, reserveStartOn}
+use Rattle.refusals.proofs.Room.{reserve_verdict_on, reserve_start_on}
 use Rattle.catalogue_standings.specs.Rows.{accepted, refused}
 use Rattle.refusals_rulings.proofs.Rulings.{accepts, refuses}
 use Rattle.call_reserve.proofs.offer.offer.Statement.{statement}
@@ -37,7 +37,7 @@ returns c =
     let p = placed (figures 0 a.n 1) in
     let number = place.given.0.0 in
     answers q a.k (refused number) _
-    (refuses (reserveStartOn q a.k p) call.result (reserveVerdictOn q a.k p) number call.ensures
+    (refuses (reserve_start_on q a.k p) call.result (reserve_verdict_on q a.k p) number call.ensures
     place.given.1) refl
 
 returns-2 : tie.Need-returns-2
@@ -48,7 +48,7 @@ returns-2 c =
     let q = called_by (turned_away a.role names.offer) (lent_within a.held a.limits.now false [] a.n a.free a.map.now a.card.now a.c a.entry
     a.sheet) in
     let p = placed (figures 0 a.n 1) in
-    let ruled = accepts (reserveStartOn q a.k p) call.result (reserveVerdictOn q a.k p) place.given.0.0
+    let ruled = accepts (reserve_start_on q a.k p) call.result (reserve_verdict_on q a.k p) place.given.0.0
     call.ensures place.given.1 in
     answers q a.k accepted place.given.0.0 ruled.0 ruled.1
 

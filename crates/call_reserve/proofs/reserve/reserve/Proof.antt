@@ -8,7 +8,7 @@ use Rattle.roles.specs.Roles as names
 use Rattle.roles.specs.Roles.{turned_away}
 use Rattle.refusals.specs.Placement.{placed}
 use Rattle.refusals.proofs.Reserve.{taken}
-use Rattle.refusals.proofs.Room.{reserveVerdictOn, reserveStartOn, reserve-room}
+use Rattle.refusals.proofs.Room.{reserve_verdict_on, reserve_start_on, reserve_room}
 use Rattle.refusals.proofs.Taken.{unchanged, changed}
 use Rattle.refusals_rulings.proofs.Rulings.{accepts, refuses}
 use Rattle.call_reserve.proofs.reserve.reserve.Statement.{statement}
@@ -35,9 +35,9 @@ take-requires c κs =
     a.card.now
     a.c a.entry a.sheet) in
     let p = placed a.figures in
-    let ruled = accepts (reserveStartOn q a.k p) call.result (reserveVerdictOn q a.k p) place.0.0 call.ensures
+    let ruled = accepts (reserve_start_on q a.k p) call.result (reserve_verdict_on q a.k p) place.0.0 call.ensures
     place.1 in
-    let room = reserve-room q a.k p ruled.0 in (
+    let room = reserve_room q a.k p ruled.0 in (
       omega (arith, room.inside, ruled.1),
       omega (arith, room.sizes.shape.limit),
       omega (arith, room.sizes.shape.words, room.sizes.shape.limit),
@@ -66,8 +66,8 @@ returns c =
     a.c a.entry a.sheet) in
     let p = placed a.figures in
     taken q a.k p _ _ _ _
-    (unchanged q (reserveVerdictOn q a.k p) (reserveStartOn q a.k p) a.k place.0.0 c.refusal.result
-    (refuses (reserveStartOn q a.k p) call.result (reserveVerdictOn q a.k p) place.0.0 call.ensures
+    (unchanged q (reserve_verdict_on q a.k p) (reserve_start_on q a.k p) a.k place.0.0 c.refusal.result
+    (refuses (reserve_start_on q a.k p) call.result (reserve_verdict_on q a.k p) place.0.0 call.ensures
     place.1) c.refusal.ensures)
 
 same-length-4 : tie.Need-same-length-4
@@ -88,11 +88,11 @@ returns-2 c =
     a.card.now
     a.c a.entry a.sheet) in
     let p = placed a.figures in
-    let ruled = accepts (reserveStartOn q a.k p) call.result (reserveVerdictOn q a.k p) place.0.0 call.ensures
+    let ruled = accepts (reserve_start_on q a.k p) call.result (reserve_verdict_on q a.k p) place.0.0 call.ensures
     place.1 in
     let done = c.before.before.before.before.before.before.take in
     taken q a.k p _ _ _ _
-    (changed q (reserveVerdictOn q a.k p) (reserveStartOn q a.k p) a.k place.0.0 done.result _ _ _ ruled.0
+    (changed q (reserve_verdict_on q a.k p) (reserve_start_on q a.k p) a.k place.0.0 done.result _ _ _ ruled.0
     ruled.1 done.ensures.0 done.ensures.1 done.ensures.2 done.ensures.3)
 
 pub reserve_spec : {M : Type 1} → statement M

@@ -5,8 +5,8 @@ use Rattle.roles.specs.Roles as names
 use Rattle.roles.specs.Roles.{turned_away}
 use Rattle.refusals.specs.Lent.{called_by, lent}
 use Rattle.calendar.specs.Calendar.{date_of}
-use Rattle.refusals.proofs.ShowDated.{by_first, by-term, by-block, term-zero}
-use Rattle.refusals.proofs.Showing.{showing-zero, number_fits, in-card, first-in-card, sized-buffer}
+use Rattle.refusals.proofs.ShowDated.{by_first, by-term, by_block, term_zero}
+use Rattle.refusals.proofs.Showing.{showing_zero, number_fits, in-card, first-in-card, sized-buffer}
 use borrow.Author.Rules.{rules}
 use Rattle.call_show.proofs.dated.show_dated.Statement.{statement}
 use Rattle.call_show.proofs.dated.show_dated.Tie as tie
@@ -29,7 +29,7 @@ term-row-requires c κs =
     let row = c in
     let a = row.before.before.before.before.before.before.args in
     let q = called_by (turned_away a.role names.show_dated) (lent a.n a.free a.map.now a.card.now a.c a.entry a.sheet) in
-    let opens = showing-zero q a.place a.buffer.now _ row.before.showing-row.ensures row.if1.false in
+    let opens = showing_zero q a.place a.buffer.now _ row.before.showing-row.ensures row.if1.false in
     first-in-card q a.place a.buffer.now opens
 
 same-length-2 : tie.Need-same-length-2
@@ -41,7 +41,7 @@ returns-2 c =
     let row = date.before.before in
     let a = row.before.before.before.before.before.before.args in
     let q = called_by (turned_away a.role names.show_dated) (lent a.n a.free a.map.now a.card.now a.c a.entry a.sheet) in
-    let opens = showing-zero q a.place a.buffer.now _ row.before.showing-row.ensures row.if1.false in
+    let opens = showing_zero q a.place a.buffer.now _ row.before.showing-row.ensures row.if1.false in
     by-term q a.place (date_of a.year a.month a.day) a.buffer.now opens _ c.before.term-row.ensures
     c.if2.true
 
@@ -51,7 +51,7 @@ add-show-block c =
     let row = date.before.before in
     let a = row.before.before.before.before.before.before.args in
     let q = called_by (turned_away a.role names.show_dated) (lent a.n a.free a.map.now a.card.now a.c a.entry a.sheet) in
-    let opens = showing-zero q a.place a.buffer.now _ row.before.showing-row.ensures row.if1.false in
+    let opens = showing_zero q a.place a.buffer.now _ row.before.showing-row.ensures row.if1.false in
     omega (arith, number_fits q a.place a.buffer.now opens)
 
 show-block-requires : tie.Need-show-block-requires
@@ -60,7 +60,7 @@ show-block-requires c κs =
     let row = date.before.before in
     let a = row.before.before.before.before.before.before.args in
     let q = called_by (turned_away a.role names.show_dated) (lent a.n a.free a.map.now a.card.now a.c a.entry a.sheet) in
-    let opens = showing-zero q a.place a.buffer.now _ row.before.showing-row.ensures row.if1.false in
+    let opens = showing_zero q a.place a.buffer.now _ row.before.showing-row.ensures row.if1.false in
     let inside = in-card q a.place a.buffer.now opens in
     (omega (arith, inside), sized-buffer q a.place a.buffer.now opens)
 
@@ -73,9 +73,9 @@ returns-3 c =
     let row = date.before.before in
     let a = row.before.before.before.before.before.before.args in
     let q = called_by (turned_away a.role names.show_dated) (lent a.n a.free a.map.now a.card.now a.c a.entry a.sheet) in
-    let opens = showing-zero q a.place a.buffer.now _ row.before.showing-row.ensures row.if1.false in
-    by-block q a.place (date_of a.year a.month a.day) a.buffer.now opens
-    (term-zero _ _ _ _ date.before.term-row.ensures date.if2.false) _ _
+    let opens = showing_zero q a.place a.buffer.now _ row.before.showing-row.ensures row.if1.false in
+    by_block q a.place (date_of a.year a.month a.day) a.buffer.now opens
+    (term_zero _ _ _ _ date.before.term-row.ensures date.if2.false) _ _
     c.before.before.show-block.ensures.0 c.before.before.show-block.ensures.1
 
 pub show_dated_spec : {M : Type 1} → statement M

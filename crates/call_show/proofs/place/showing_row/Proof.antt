@@ -6,8 +6,8 @@ use Rattle.catalogue_standings.specs.Rows.{row_number}
 use Rattle.catalogue_standings.specs.declared.Standing.TheVariants.{Complete}
 use Rattle.roles.specs.Roles.{turned_away}
 use Rattle.refusals.specs.Lent.{called_by, lent}
-use Rattle.refusals.proofs.Lent.{refused-first, stands-first}
-use Rattle.refusals.proofs.Showing.{showing-shut, showing-other, showing-past-end, showing-misfit, showing-passes}
+use Rattle.refusals.proofs.Lent.{refused_first, stands_first}
+use Rattle.refusals.proofs.Showing.{showing_shut, showing_other, showing-past-end, showing-misfit, showing-passes}
 use borrow.Author.Rules.{rules}
 use Rattle.call_show.proofs.place.showing_row.Statement.{statement}
 use Rattle.call_show.proofs.place.showing_row.Tie as tie
@@ -32,8 +32,8 @@ returns c =
     let q = called_by (turned_away a.role a.call) (lent a.n a.free a.map.now a.card.now a.c a.entry
     a.sheet) in
     c.refused-row.ensures ∙ ap refused_row told.1
-    ∙ sym (ap row_number (showing-shut q a.place a.buffer.now told.0.0
-    (refused-first q call.result told.0.0 call.ensures told.1)))
+    ∙ sym (ap row_number (showing_shut q a.place a.buffer.now told.0.0
+    (refused_first q call.result told.0.0 call.ensures told.1)))
 
 enum-known-stands : tie.Need-enum-known-stands
 enum-known-stands c = search rules
@@ -49,8 +49,8 @@ returns-2 c =
     let q = called_by (turned_away a.role a.call) (lent a.n a.free a.map.now a.card.now a.c a.entry
     a.sheet) in
     c.row_of.ensures
-    ∙ sym (ap row_number (showing-other q a.place a.buffer.now held.0.0
-    (stands-first q call.result held.0.0 held.0.0 call.ensures held.1 refl) c.before.match2.keys2))
+    ∙ sym (ap row_number (showing_other q a.place a.buffer.now held.0.0
+    (stands_first q call.result held.0.0 held.0.0 call.ensures held.1 refl) c.before.match2.keys2))
 
 returns-3 : tie.Need-returns-3
 returns-3 c =
@@ -61,7 +61,7 @@ returns-3 c =
     let q = called_by (turned_away a.role a.call) (lent a.n a.free a.map.now a.card.now a.c a.entry
     a.sheet) in
     sym (ap row_number (showing-past-end q a.place a.buffer.now at.0.0 at.0.1.0
-    (stands-first q call.result held.0.0 (Complete at.0.0 at.0.1.0) call.ensures held.1 at.1)
+    (stands_first q call.result held.0.0 (Complete at.0.0 at.0.1.0) call.ensures held.1 at.1)
     c.if1.true))
 
 returns-4 : tie.Need-returns-4
@@ -73,7 +73,7 @@ returns-4 c =
     let q = called_by (turned_away a.role a.call) (lent a.n a.free a.map.now a.card.now a.c a.entry
     a.sheet) in
     sym (ap row_number (showing-misfit q a.place a.buffer.now at.0.0 at.0.1.0
-    (stands-first q call.result held.0.0 (Complete at.0.0 at.0.1.0) call.ensures held.1 at.1)
+    (stands_first q call.result held.0.0 (Complete at.0.0 at.0.1.0) call.ensures held.1 at.1)
     c.before.if1.false c.if2.true))
 
 returns-5 : tie.Need-returns-5
@@ -85,7 +85,7 @@ returns-5 c =
     let q = called_by (turned_away a.role a.call) (lent a.n a.free a.map.now a.card.now a.c a.entry
     a.sheet) in
     sym (ap row_number (showing-passes q a.place a.buffer.now at.0.0 at.0.1.0
-    (stands-first q call.result held.0.0 (Complete at.0.0 at.0.1.0) call.ensures held.1 at.1)
+    (stands_first q call.result held.0.0 (Complete at.0.0 at.0.1.0) call.ensures held.1 at.1)
     c.before.if1.false c.if2.false))
 
 pub showing_row_spec : {M : Type 1} → statement M

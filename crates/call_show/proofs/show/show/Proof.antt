@@ -4,8 +4,8 @@ use native.Mathlib.Omega.{arith}
 use Rattle.roles.specs.Roles as names
 use Rattle.roles.specs.Roles.{turned_away}
 use Rattle.refusals.specs.Lent.{called_by, lent}
-use Rattle.refusals.proofs.Show.{by_first, by-block}
-use Rattle.refusals.proofs.Showing.{showing-zero, number_fits, in-card, sized-buffer}
+use Rattle.refusals.proofs.Show.{by_first, by_block}
+use Rattle.refusals.proofs.Showing.{showing_zero, number_fits, in-card, sized-buffer}
 use borrow.Author.Rules.{rules}
 use Rattle.call_show.proofs.show.show.Statement.{statement}
 use Rattle.call_show.proofs.show.show.Tie as tie
@@ -29,7 +29,7 @@ add-show-block c =
     let a = row.before.before.before.before.before.before.args in
     let q = called_by (turned_away a.role names.show) (lent a.n a.free a.map.now a.card.now a.c a.entry
     a.sheet) in
-    let opens = showing-zero q a.place a.buffer.now _ row.before.showing-row.ensures row.if1.false in
+    let opens = showing_zero q a.place a.buffer.now _ row.before.showing-row.ensures row.if1.false in
     omega (arith, number_fits q a.place a.buffer.now opens)
 
 show-block-requires : tie.Need-show-block-requires
@@ -38,7 +38,7 @@ show-block-requires c κs =
     let a = row.before.before.before.before.before.before.args in
     let q = called_by (turned_away a.role names.show) (lent a.n a.free a.map.now a.card.now a.c a.entry
     a.sheet) in
-    let opens = showing-zero q a.place a.buffer.now _ row.before.showing-row.ensures row.if1.false in
+    let opens = showing_zero q a.place a.buffer.now _ row.before.showing-row.ensures row.if1.false in
     let inside = in-card q a.place a.buffer.now opens in
     (omega (arith, inside), sized-buffer q a.place a.buffer.now opens)
 
@@ -51,8 +51,8 @@ returns-2 c =
     let a = row.before.before.before.before.before.before.args in
     let q = called_by (turned_away a.role names.show) (lent a.n a.free a.map.now a.card.now a.c a.entry
     a.sheet) in
-    let opens = showing-zero q a.place a.buffer.now _ row.before.showing-row.ensures row.if1.false in
-    by-block q a.place a.buffer.now opens _ _
+    let opens = showing_zero q a.place a.buffer.now _ row.before.showing-row.ensures row.if1.false in
+    by_block q a.place a.buffer.now opens _ _
     c.before.before.show-block.ensures.0 c.before.before.show-block.ensures.1
 
 pub show_spec : {M : Type 1} → statement M

@@ -5,7 +5,7 @@
 use contract.Running.{tables, tables_of}
 use denote.Triple.Spec.{triple_of}
 use denote.Triple.Table.{entered, cited}
-use Rattle.closing.specs.Effects.{closeNumber, closeMap, closeEntries, closeCard, closeScratch}
+use Rattle.closing.specs.Effects.{close_number, close_map, close_entries, close_card, close_scratch}
 use Rattle.card.specs.Calls.{save_outcome_by}
 use Rattle.card.specs.Cores.{by_role}
 use Rattle.card.specs.Cores.{blocks_of, spare_of, nothing_else}
@@ -16,7 +16,7 @@ use Rattle.card.proofs.Shape.TheLaws as Shape''
 use Rattle.card.specs.contracts.Outcome as Outcome'
 use Rattle.card.proofs.Outcome.TheLaws as Outcome''
 use Rattle.walk_card_methods.proofs.MapCatalogueCardScratch.{blocks-of-contract, free-of-contract, nothing-else-contract}
-use Rattle.walk_card_methods.proofs.MapCatalogueCardScratch.{close-contract, save-outcome-contract, meets}
+use Rattle.walk_card_methods.proofs.MapCatalogueCardScratch.{close_contract, save-outcome-contract, meets}
 use Rattle.card.proofs.cores.blocks_of.Symbol as blocks-of-def
 use Rattle.card.proofs.cores.blocks_of.Met as blocks-of-met
 use Rattle.card.proofs.cores.free_of.Symbol as free-of-def
@@ -44,8 +44,8 @@ close_spec 𝓤 𝓛 𝓜 𝓡 =
     entered 𝓤 𝓛.H (triple_of 𝓛 close.signature (close.spec 𝓛 𝓜.mem 𝓡.run))
     (tables 𝓤 𝓛.H 𝓜 𝓡 code.env).C (tables 𝓤 𝓛.H 𝓜 𝓡 code.env).Λ #close code.function (code.unfolded 𝓤 𝓛.H 𝓜 𝓡)
     (meets Shape Outcome blocks-of-def.name free-of-def.name nothing-else-def.name close-def.name save-outcome-def.name blocks_of
-    spare_of nothing_else (by_role asClose closeNumber) (by_role asClose closeMap) (by_role asClose closeEntries)
-    (by_role asClose closeCard) (by_role asClose closeScratch) save_outcome_by
+    spare_of nothing_else (by_role asClose close_number) (by_role asClose close_map) (by_role asClose close_entries)
+    (by_role asClose close_card) (by_role asClose close_scratch) save_outcome_by
     𝓛 (tables_of 𝓤 𝓛.H 𝓜 (tables 𝓤 𝓛.H 𝓜 𝓡 code.env))
     (cited 𝓤 𝓛.H (blocks-of-contract Shape Outcome blocks_of 𝓤 𝓛) 𝓜 𝓡 code.env blocks-of-def.name blocks-of-def.routine
     code.calls-card::cores::blocks-of (blocks-of-met.met 𝓤 𝓛 𝓜 𝓡))
@@ -53,8 +53,8 @@ close_spec 𝓤 𝓛 𝓜 𝓡 =
     code.calls-card::cores::free-of (free-of-met.met 𝓤 𝓛 𝓜 𝓡))
     (cited 𝓤 𝓛.H (nothing-else-contract Shape Outcome nothing_else 𝓤 𝓛) 𝓜 𝓡 code.env nothing-else-def.name
     nothing-else-def.routine code.calls-card::cores::nothing-else (nothing-else-met.met 𝓤 𝓛 𝓜 𝓡))
-    (cited 𝓤 𝓛.H (close-contract Shape Outcome (by_role asClose closeNumber) (by_role asClose closeMap)
-    (by_role asClose closeEntries) (by_role asClose closeCard) (by_role asClose closeScratch) 𝓤 𝓛) 𝓜 𝓡 code.env
+    (cited 𝓤 𝓛.H (close_contract Shape Outcome (by_role asClose close_number) (by_role asClose close_map)
+    (by_role asClose close_entries) (by_role asClose close_card) (by_role asClose close_scratch) 𝓤 𝓛) 𝓜 𝓡 code.env
     close-def.name close-def.routine code.calls-closing::close (close-met.met 𝓤 𝓛 𝓜 𝓡))
     (cited 𝓤 𝓛.H (save-outcome-contract Shape Outcome save_outcome_by 𝓤 𝓛) 𝓜 𝓡 code.env save-outcome-def.name
     save-outcome-def.routine code.calls-card::cores::save-outcome (save-outcome-met.met 𝓤 𝓛 𝓜 𝓡)))

@@ -5,7 +5,7 @@
 use contract.Running.{tables, tables_of}
 use denote.Triple.Spec.{triple_of}
 use denote.Triple.Table.{entered, cited}
-use Rattle.closing.specs.Effects.{closeNumber, closeMap, closeEntries, closeCard, closeScratch}
+use Rattle.closing.specs.Effects.{close_number, close_map, close_entries, close_card, close_scratch}
 use Rattle.card.specs.Calls.{save_outcome_by}
 use Rattle.card.specs.Cores.{by_role}
 use Rattle.card.specs.Closings.{rebuilt}
@@ -17,7 +17,7 @@ use Rattle.card.proofs.Shape.TheLaws as Shape''
 use Rattle.card.specs.contracts.Outcome as Outcome'
 use Rattle.card.proofs.Outcome.TheLaws as Outcome''
 use Rattle.walk_card_methods.proofs.MapSummaryCatalogueCardScratch.{blocks-of-contract, free-of-contract, beside-fits-contract}
-use Rattle.walk_card_methods.proofs.MapSummaryCatalogueCardScratch.{close-contract, rebuild-contract, save-outcome-contract}
+use Rattle.walk_card_methods.proofs.MapSummaryCatalogueCardScratch.{close_contract, rebuild-contract, save-outcome-contract}
 use Rattle.walk_card_methods.proofs.MapSummaryCatalogueCardScratch.{meets}
 use Rattle.card.proofs.cores.blocks_of.Symbol as blocks-of-def
 use Rattle.card.proofs.cores.blocks_of.Met as blocks-of-met
@@ -48,8 +48,8 @@ close_with_summary_spec 𝓤 𝓛 𝓜 𝓡 =
     entered 𝓤 𝓛.H (triple_of 𝓛 close-with-summary.signature (close-with-summary.spec 𝓛 𝓜.mem 𝓡.run))
     (tables 𝓤 𝓛.H 𝓜 𝓡 code.env).C (tables 𝓤 𝓛.H 𝓜 𝓡 code.env).Λ #close-with-summary code.function (code.unfolded 𝓤 𝓛.H 𝓜 𝓡)
     (meets Shape Outcome blocks-of-def.name free-of-def.name beside-fits-def.name close-def.name rebuild-def.name
-    save-outcome-def.name blocks_of spare_of beside_fits (by_role asClose closeNumber) (by_role asClose closeMap)
-    (by_role asClose closeEntries) (by_role asClose closeCard) (by_role asClose closeScratch) rebuilt save_outcome_by
+    save-outcome-def.name blocks_of spare_of beside_fits (by_role asClose close_number) (by_role asClose close_map)
+    (by_role asClose close_entries) (by_role asClose close_card) (by_role asClose close_scratch) rebuilt save_outcome_by
     𝓛 (tables_of 𝓤 𝓛.H 𝓜 (tables 𝓤 𝓛.H 𝓜 𝓡 code.env))
     (cited 𝓤 𝓛.H (blocks-of-contract Shape Outcome blocks_of 𝓤 𝓛) 𝓜 𝓡 code.env blocks-of-def.name blocks-of-def.routine
     code.calls-card::cores::blocks-of (blocks-of-met.met 𝓤 𝓛 𝓜 𝓡))
@@ -57,8 +57,8 @@ close_with_summary_spec 𝓤 𝓛 𝓜 𝓡 =
     code.calls-card::cores::free-of (free-of-met.met 𝓤 𝓛 𝓜 𝓡))
     (cited 𝓤 𝓛.H (beside-fits-contract Shape Outcome beside_fits 𝓤 𝓛) 𝓜 𝓡 code.env beside-fits-def.name
     beside-fits-def.routine code.calls-card::guided::beside-fits (beside-fits-met.met 𝓤 𝓛 𝓜 𝓡))
-    (cited 𝓤 𝓛.H (close-contract Shape Outcome (by_role asClose closeNumber) (by_role asClose closeMap)
-    (by_role asClose closeEntries) (by_role asClose closeCard) (by_role asClose closeScratch) 𝓤 𝓛) 𝓜 𝓡 code.env
+    (cited 𝓤 𝓛.H (close_contract Shape Outcome (by_role asClose close_number) (by_role asClose close_map)
+    (by_role asClose close_entries) (by_role asClose close_card) (by_role asClose close_scratch) 𝓤 𝓛) 𝓜 𝓡 code.env
     close-def.name close-def.routine code.calls-closing::close (close-met.met 𝓤 𝓛 𝓜 𝓡))
     (cited 𝓤 𝓛.H (rebuild-contract Shape Outcome rebuilt 𝓤 𝓛) 𝓜 𝓡 code.env rebuild-def.name rebuild-def.routine
     code.calls-card::guided::rebuild (rebuild-met.met 𝓤 𝓛 𝓜 𝓡))

@@ -10,7 +10,7 @@ use Rattle.catalogue.specs.Entries.{slot_at}
 use Rattle.card.specs.Calls.{outcome_of}
 use Rattle.card.specs.Cores.{entry_left}
 use Rattle.card.specs.Cores.{with_slot}
-use Rattle.refusals.specs.Effects.{completeOut}
+use Rattle.refusals.specs.Effects.{complete_out}
 use Rattle.roles.specs.Roles.{complete as asComplete}
 use Rattle.catalogue.proofs.Values.{Value, value_of}
 use Rattle.catalogue.specs.contracts.Slot as Slot'
@@ -56,11 +56,11 @@ complete_spec 𝓤 𝓛 𝓜 𝓡 =
     entered 𝓤 𝓛.H (triple_of 𝓛 complete.signature (complete.spec 𝓛 𝓜.mem 𝓡.run))
     (tables 𝓤 𝓛.H 𝓜 𝓡 code.env).C (tables 𝓤 𝓛.H 𝓜 𝓡 code.env).Λ #complete code.function (code.unfolded 𝓤 𝓛.H 𝓜 𝓡)
     (meets Slot Out Shape Outcome find-def.name core-def.name entry-of-def.name store-def.name outcome-of-def.name slot_at
-    (with_slot asComplete completeOut) entry_left set outcome_of
+    (with_slot asComplete complete_out) entry_left set outcome_of
     𝓛 (tables_of 𝓤 𝓛.H 𝓜 (tables 𝓤 𝓛.H 𝓜 𝓡 code.env))
     (cited 𝓤 𝓛.H (find-contract Slot Out Shape Outcome slot_at 𝓤 𝓛) 𝓜 𝓡 code.env find-def.name find-def.routine
     code.calls-catalogue::find (find-met.met 𝓤 𝓛 𝓜 𝓡))
-    (cited 𝓤 𝓛.H (core-contract Slot Out Shape Outcome (with_slot asComplete completeOut) 𝓤 𝓛) 𝓜 𝓡 code.env core-def.name
+    (cited 𝓤 𝓛.H (core-contract Slot Out Shape Outcome (with_slot asComplete complete_out) 𝓤 𝓛) 𝓜 𝓡 code.env core-def.name
     core-def.routine code.calls-card::cores::complete-core (core-met.met 𝓤 𝓛 𝓜 𝓡))
     (cited 𝓤 𝓛.H (entry-of-contract Slot Out Shape Outcome entry_left 𝓤 𝓛) 𝓜 𝓡 code.env entry-of-def.name
     entry-of-def.routine code.calls-card::cores::entry-of (entry-of-met.met 𝓤 𝓛 𝓜 𝓡))

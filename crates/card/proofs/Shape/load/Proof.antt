@@ -4,7 +4,7 @@
 use contract.Running.{tables, tables_of}
 use denote.Triple.Spec.{triple_of}
 use denote.Triple.Table.{entered, cited}
-use Rattle.image.specs.Effects.{loadResult, loadMap, loadEntries, loadScratch}
+use Rattle.image.specs.Effects.{load_result, load_map, load_entries, load_scratch}
 use Rattle.card.specs.Calls.{load_outcome_by}
 use Rattle.card.specs.Cores.{by_role}
 use Rattle.roles.specs.Roles.{load as asLoad}
@@ -15,7 +15,7 @@ use Rattle.card.specs.contracts.Shape as Shape'
 use Rattle.card.proofs.Shape.TheLaws as Shape''
 use Rattle.card.specs.contracts.Outcome as Outcome'
 use Rattle.card.proofs.Outcome.TheLaws as Outcome''
-use Rattle.walk_methods.proofs.MapCatalogueScratchFromImage.{load-contract, load-outcome-contract, meets}
+use Rattle.walk_methods.proofs.MapCatalogueScratchFromImage.{load_contract, load-outcome-contract, meets}
 use Rattle.image_load.proofs.load.Symbol as load-def
 use Rattle.image_load.proofs.load.Met as load-met
 use Rattle.card.proofs.cores.load_outcome.Symbol as load-outcome-def
@@ -39,11 +39,11 @@ unfolding code.routine tables_of
 load_spec 𝓤 𝓛 𝓜 𝓡 =
     entered 𝓤 𝓛.H (triple_of 𝓛 load.signature (load.spec 𝓛 𝓜.mem 𝓡.run))
     (tables 𝓤 𝓛.H 𝓜 𝓡 code.env).C (tables 𝓤 𝓛.H 𝓜 𝓡 code.env).Λ #load code.function (code.unfolded 𝓤 𝓛.H 𝓜 𝓡)
-    (meets Loaded Shape Outcome load-def.name load-outcome-def.name (by_role asLoad loadResult) (by_role asLoad loadMap)
-    (by_role asLoad loadEntries) (by_role asLoad loadScratch) load_outcome_by
+    (meets Loaded Shape Outcome load-def.name load-outcome-def.name (by_role asLoad load_result) (by_role asLoad load_map)
+    (by_role asLoad load_entries) (by_role asLoad load_scratch) load_outcome_by
     𝓛 (tables_of 𝓤 𝓛.H 𝓜 (tables 𝓤 𝓛.H 𝓜 𝓡 code.env))
-    (cited 𝓤 𝓛.H (load-contract Loaded Shape Outcome (by_role asLoad loadResult) (by_role asLoad loadMap)
-    (by_role asLoad loadEntries) (by_role asLoad loadScratch) 𝓤 𝓛) 𝓜 𝓡 code.env load-def.name load-def.routine
+    (cited 𝓤 𝓛.H (load_contract Loaded Shape Outcome (by_role asLoad load_result) (by_role asLoad load_map)
+    (by_role asLoad load_entries) (by_role asLoad load_scratch) 𝓤 𝓛) 𝓜 𝓡 code.env load-def.name load-def.routine
     code.calls-image-load::load (load-met.met 𝓤 𝓛 𝓜 𝓡))
     (cited 𝓤 𝓛.H (load-outcome-contract Loaded Shape Outcome load_outcome_by 𝓤 𝓛) 𝓜 𝓡 code.env load-outcome-def.name
     load-outcome-def.routine code.calls-card::cores::load-outcome (load-outcome-met.met 𝓤 𝓛 𝓜 𝓡)))

@@ -6,7 +6,7 @@ use denote.Triple.Spec.{triple_of}
 use denote.Triple.Table.{entered, cited}
 use Rattle.catalogue.specs.Entries.{slot_at}
 use Rattle.card.specs.Cores.{with_slot, put_outcome_at}
-use Rattle.refusals.specs.Effects.{putCard}
+use Rattle.refusals.specs.Effects.{put_card}
 use Rattle.roles.specs.Roles.{put as asPut}
 use Rattle.catalogue.proofs.Values.{Value, value_of}
 use Rattle.catalogue.specs.contracts.Slot as Slot'
@@ -39,9 +39,9 @@ unfolding code.routine tables_of
 put_spec 𝓤 𝓛 𝓜 𝓡 =
     entered 𝓤 𝓛.H (triple_of 𝓛 put.signature (put.spec 𝓛 𝓜.mem 𝓡.run))
     (tables 𝓤 𝓛.H 𝓜 𝓡 code.env).C (tables 𝓤 𝓛.H 𝓜 𝓡 code.env).Λ #put code.function (code.unfolded 𝓤 𝓛.H 𝓜 𝓡)
-    (meets Slot Shape Outcome find-def.name core-def.name slot_at put_outcome_at (with_slot asPut putCard)
+    (meets Slot Shape Outcome find-def.name core-def.name slot_at put_outcome_at (with_slot asPut put_card)
     𝓛 (tables_of 𝓤 𝓛.H 𝓜 (tables 𝓤 𝓛.H 𝓜 𝓡 code.env))
     (cited 𝓤 𝓛.H (find-contract Slot Shape Outcome slot_at 𝓤 𝓛) 𝓜 𝓡 code.env find-def.name find-def.routine
     code.calls-catalogue::find (find-met.met 𝓤 𝓛 𝓜 𝓡))
-    (cited 𝓤 𝓛.H (core-contract Slot Shape Outcome put_outcome_at (with_slot asPut putCard) 𝓤 𝓛) 𝓜 𝓡 code.env core-def.name
+    (cited 𝓤 𝓛.H (core-contract Slot Shape Outcome put_outcome_at (with_slot asPut put_card) 𝓤 𝓛) 𝓜 𝓡 code.env core-def.name
     core-def.routine code.calls-card::cores::put-core (core-met.met 𝓤 𝓛 𝓜 𝓡)))

@@ -11,7 +11,7 @@ use Rattle.card.specs.Calls.{outcome_of}
 use Rattle.card.specs.Cores.{entry_left}
 use Rattle.card.specs.Cores.{with_slot_alone}
 use Rattle.roles.specs.Roles.{release as asRelease}
-use Rattle.refusals.specs.Effects.{releaseOut, releaseMap}
+use Rattle.refusals.specs.Effects.{release_out, release_map}
 use Rattle.catalogue.proofs.Values.{Value, value_of}
 use Rattle.catalogue.specs.contracts.Slot as Slot'
 use Rattle.catalogue.proofs.Slot.TheLaws as Slot''
@@ -56,11 +56,11 @@ release_spec 𝓤 𝓛 𝓜 𝓡 =
     entered 𝓤 𝓛.H (triple_of 𝓛 release.signature (release.spec 𝓛 𝓜.mem 𝓡.run))
     (tables 𝓤 𝓛.H 𝓜 𝓡 code.env).C (tables 𝓤 𝓛.H 𝓜 𝓡 code.env).Λ #release code.function (code.unfolded 𝓤 𝓛.H 𝓜 𝓡)
     (meets Slot Out Shape Outcome find-def.name core-def.name entry-of-def.name store-def.name outcome-of-def.name slot_at
-    (with_slot_alone asRelease releaseOut) (with_slot_alone asRelease releaseMap) entry_left set outcome_of
+    (with_slot_alone asRelease release_out) (with_slot_alone asRelease release_map) entry_left set outcome_of
     𝓛 (tables_of 𝓤 𝓛.H 𝓜 (tables 𝓤 𝓛.H 𝓜 𝓡 code.env))
     (cited 𝓤 𝓛.H (find-contract Slot Out Shape Outcome slot_at 𝓤 𝓛) 𝓜 𝓡 code.env find-def.name find-def.routine
     code.calls-catalogue::find (find-met.met 𝓤 𝓛 𝓜 𝓡))
-    (cited 𝓤 𝓛.H (core-contract Slot Out Shape Outcome (with_slot_alone asRelease releaseOut) (with_slot_alone asRelease releaseMap) 𝓤
+    (cited 𝓤 𝓛.H (core-contract Slot Out Shape Outcome (with_slot_alone asRelease release_out) (with_slot_alone asRelease release_map) 𝓤
     𝓛) 𝓜 𝓡 code.env core-def.name core-def.routine code.calls-card::cores::release-core (core-met.met 𝓤 𝓛 𝓜 𝓡))
     (cited 𝓤 𝓛.H (entry-of-contract Slot Out Shape Outcome entry_left 𝓤 𝓛) 𝓜 𝓡 code.env entry-of-def.name
     entry-of-def.routine code.calls-card::cores::entry-of (entry-of-met.met 𝓤 𝓛 𝓜 𝓡))

@@ -11,8 +11,8 @@ use Rattle.card.specs.Calls.{outcome_of}
 use Rattle.card.specs.Cores.{entry_left}
 use Rattle.card.specs.Cores.{with_summary_alone}
 use Rattle.roles.specs.Roles.{release as asRelease}
-use Rattle.refusals.specs.Effects.{releaseOut, releaseMap}
-use Rattle.refusals.specs.Effects.{releaseSummary}
+use Rattle.refusals.specs.Effects.{release_out, release_map}
+use Rattle.refusals.specs.Effects.{release_summary}
 use Rattle.catalogue.proofs.Values.{Value, value_of}
 use Rattle.catalogue.specs.contracts.Slot as Slot'
 use Rattle.catalogue.proofs.Slot.TheLaws as Slot''
@@ -57,13 +57,13 @@ release_with_summary_spec 𝓤 𝓛 𝓜 𝓡 =
     entered 𝓤 𝓛.H (triple_of 𝓛 release-with-summary.signature (release-with-summary.spec 𝓛 𝓜.mem 𝓡.run))
     (tables 𝓤 𝓛.H 𝓜 𝓡 code.env).C (tables 𝓤 𝓛.H 𝓜 𝓡 code.env).Λ #release-with-summary code.function (code.unfolded 𝓤 𝓛.H 𝓜 𝓡)
     (meets Slot Out Shape Outcome find-def.name core-def.name entry-of-def.name store-def.name outcome-of-def.name slot_at
-    (with_summary_alone asRelease releaseOut) (with_summary_alone asRelease releaseMap) (with_summary_alone asRelease releaseSummary)
+    (with_summary_alone asRelease release_out) (with_summary_alone asRelease release_map) (with_summary_alone asRelease release_summary)
     entry_left set outcome_of
     𝓛 (tables_of 𝓤 𝓛.H 𝓜 (tables 𝓤 𝓛.H 𝓜 𝓡 code.env))
     (cited 𝓤 𝓛.H (find-contract Slot Out Shape Outcome slot_at 𝓤 𝓛) 𝓜 𝓡 code.env find-def.name find-def.routine
     code.calls-catalogue::find (find-met.met 𝓤 𝓛 𝓜 𝓡))
-    (cited 𝓤 𝓛.H (core-contract Slot Out Shape Outcome (with_summary_alone asRelease releaseOut)
-    (with_summary_alone asRelease releaseMap) (with_summary_alone asRelease releaseSummary) 𝓤 𝓛) 𝓜 𝓡 code.env core-def.name
+    (cited 𝓤 𝓛.H (core-contract Slot Out Shape Outcome (with_summary_alone asRelease release_out)
+    (with_summary_alone asRelease release_map) (with_summary_alone asRelease release_summary) 𝓤 𝓛) 𝓜 𝓡 code.env core-def.name
     core-def.routine code.calls-card::guided::release-guided (core-met.met 𝓤 𝓛 𝓜 𝓡))
     (cited 𝓤 𝓛.H (entry-of-contract Slot Out Shape Outcome entry_left 𝓤 𝓛) 𝓜 𝓡 code.env entry-of-def.name
     entry-of-def.routine code.calls-card::cores::entry-of (entry-of-met.met 𝓤 𝓛 𝓜 𝓡))

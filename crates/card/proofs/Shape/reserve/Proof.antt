@@ -11,7 +11,7 @@ use Rattle.catalogue_wings.specs.Wings.{held_by}
 use Rattle.card.specs.Calls.{outcome_of}
 use Rattle.card.specs.Cores.{entry_left}
 use Rattle.card.specs.Cores.{with_limits}
-use Rattle.card.specs.Reserves.{plainOut, plainMap, plainCard}
+use Rattle.card.specs.Reserves.{plain_out, plain_map, plain_card}
 use Rattle.roles.specs.Roles.{reserve as asReserve}
 use Rattle.catalogue.proofs.Values.{Value, value_of}
 use Rattle.catalogue.specs.contracts.Slot as Slot'
@@ -59,15 +59,15 @@ reserve_spec 𝓤 𝓛 𝓜 𝓡 =
     entered 𝓤 𝓛.H (triple_of 𝓛 reserve.signature (reserve.spec 𝓛 𝓜.mem 𝓡.run))
     (tables 𝓤 𝓛.H 𝓜 𝓡 code.env).C (tables 𝓤 𝓛.H 𝓜 𝓡 code.env).Λ #reserve code.function (code.unfolded 𝓤 𝓛.H 𝓜 𝓡)
     (meets Slot Out Shape Outcome find-def.name held-by-def.name core-def.name entry-of-def.name store-def.name
-    outcome-of-def.name slot_at held_by (with_limits asReserve plainOut) (with_limits asReserve plainMap)
-    (with_limits asReserve plainCard) entry_left set outcome_of
+    outcome-of-def.name slot_at held_by (with_limits asReserve plain_out) (with_limits asReserve plain_map)
+    (with_limits asReserve plain_card) entry_left set outcome_of
     𝓛 (tables_of 𝓤 𝓛.H 𝓜 (tables 𝓤 𝓛.H 𝓜 𝓡 code.env))
     (cited 𝓤 𝓛.H (find-contract Slot Out Shape Outcome slot_at 𝓤 𝓛) 𝓜 𝓡 code.env find-def.name find-def.routine
     code.calls-catalogue::find (find-met.met 𝓤 𝓛 𝓜 𝓡))
     (cited 𝓤 𝓛.H (held-by-contract Slot Out Shape Outcome held_by 𝓤 𝓛) 𝓜 𝓡 code.env held-by-def.name held-by-def.routine
     code.calls-catalogue-wings::held-by (held-by-met.met 𝓤 𝓛 𝓜 𝓡))
-    (cited 𝓤 𝓛.H (core-contract Slot Out Shape Outcome (with_limits asReserve plainOut) (with_limits asReserve plainMap)
-    (with_limits asReserve plainCard) 𝓤 𝓛) 𝓜 𝓡 code.env core-def.name core-def.routine
+    (cited 𝓤 𝓛.H (core-contract Slot Out Shape Outcome (with_limits asReserve plain_out) (with_limits asReserve plain_map)
+    (with_limits asReserve plain_card) 𝓤 𝓛) 𝓜 𝓡 code.env core-def.name core-def.routine
     code.calls-card::reserves::reserve-core (core-met.met 𝓤 𝓛 𝓜 𝓡))
     (cited 𝓤 𝓛.H (entry-of-contract Slot Out Shape Outcome entry_left 𝓤 𝓛) 𝓜 𝓡 code.env entry-of-def.name
     entry-of-def.routine code.calls-card::cores::entry-of (entry-of-met.met 𝓤 𝓛 𝓜 𝓡))

@@ -12,7 +12,7 @@ use Rattle.catalogue_wings.specs.Wings.{held_by}
 use Rattle.card.specs.Calls.{outcome_of}
 use Rattle.card.specs.Cores.{entry_left}
 use Rattle.card.specs.Cores.{with_summary}
-use Rattle.card.specs.Reserves.{plainOut, plainMap, plainSummary, plainCard}
+use Rattle.card.specs.Reserves.{plain_out, plain_map, plain_summary, plain_card}
 use Rattle.roles.specs.Roles.{reserve as asReserve}
 use Rattle.catalogue.proofs.Values.{Value, value_of}
 use Rattle.catalogue.specs.contracts.Slot as Slot'
@@ -61,15 +61,15 @@ reserve_with_summary_spec 𝓤 𝓛 𝓜 𝓡 =
     entered 𝓤 𝓛.H (triple_of 𝓛 reserve-with-summary.signature (reserve-with-summary.spec 𝓛 𝓜.mem 𝓡.run))
     (tables 𝓤 𝓛.H 𝓜 𝓡 code.env).C (tables 𝓤 𝓛.H 𝓜 𝓡 code.env).Λ #reserve-with-summary code.function (code.unfolded 𝓤 𝓛.H 𝓜 𝓡)
     (meets Slot Out Shape Outcome find-def.name held-by-def.name core-def.name entry-of-def.name store-def.name
-    outcome-of-def.name slot_at held_by (with_summary asReserve plainOut) (with_summary asReserve plainMap)
-    (with_summary asReserve plainSummary) (with_summary asReserve plainCard) entry_left set outcome_of
+    outcome-of-def.name slot_at held_by (with_summary asReserve plain_out) (with_summary asReserve plain_map)
+    (with_summary asReserve plain_summary) (with_summary asReserve plain_card) entry_left set outcome_of
     𝓛 (tables_of 𝓤 𝓛.H 𝓜 (tables 𝓤 𝓛.H 𝓜 𝓡 code.env))
     (cited 𝓤 𝓛.H (find-contract Slot Out Shape Outcome slot_at 𝓤 𝓛) 𝓜 𝓡 code.env find-def.name find-def.routine
     code.calls-catalogue::find (find-met.met 𝓤 𝓛 𝓜 𝓡))
     (cited 𝓤 𝓛.H (held-by-contract Slot Out Shape Outcome held_by 𝓤 𝓛) 𝓜 𝓡 code.env held-by-def.name held-by-def.routine
     code.calls-catalogue-wings::held-by (held-by-met.met 𝓤 𝓛 𝓜 𝓡))
-    (cited 𝓤 𝓛.H (core-contract Slot Out Shape Outcome (with_summary asReserve plainOut) (with_summary asReserve plainMap)
-    (with_summary asReserve plainSummary) (with_summary asReserve plainCard) 𝓤 𝓛) 𝓜 𝓡 code.env core-def.name
+    (cited 𝓤 𝓛.H (core-contract Slot Out Shape Outcome (with_summary asReserve plain_out) (with_summary asReserve plain_map)
+    (with_summary asReserve plain_summary) (with_summary asReserve plain_card) 𝓤 𝓛) 𝓜 𝓡 code.env core-def.name
     core-def.routine code.calls-card::guided::reserve-guided (core-met.met 𝓤 𝓛 𝓜 𝓡))
     (cited 𝓤 𝓛.H (entry-of-contract Slot Out Shape Outcome entry_left 𝓤 𝓛) 𝓜 𝓡 code.env entry-of-def.name
     entry-of-def.routine code.calls-card::cores::entry-of (entry-of-met.met 𝓤 𝓛 𝓜 𝓡))

@@ -7,7 +7,7 @@ use denote.Triple.Table.{entered, cited}
 use Rattle.catalogue.specs.Entries.{slot_at}
 use Rattle.card.specs.Cores.{with_slot, show_outcome_at}
 use Rattle.roles.specs.Roles.{show as asShow}
-use Rattle.refusals.specs.Effects.{showBuffer}
+use Rattle.refusals.specs.Effects.{show_buffer}
 use Rattle.catalogue.proofs.Values.{Value, value_of}
 use Rattle.catalogue.specs.contracts.Slot as Slot'
 use Rattle.catalogue.proofs.Slot.TheLaws as Slot''
@@ -39,9 +39,9 @@ unfolding code.routine tables_of
 show_spec 𝓤 𝓛 𝓜 𝓡 =
     entered 𝓤 𝓛.H (triple_of 𝓛 show.signature (show.spec 𝓛 𝓜.mem 𝓡.run))
     (tables 𝓤 𝓛.H 𝓜 𝓡 code.env).C (tables 𝓤 𝓛.H 𝓜 𝓡 code.env).Λ #show code.function (code.unfolded 𝓤 𝓛.H 𝓜 𝓡)
-    (meets Slot Shape Outcome find-def.name core-def.name slot_at show_outcome_at (with_slot asShow showBuffer)
+    (meets Slot Shape Outcome find-def.name core-def.name slot_at show_outcome_at (with_slot asShow show_buffer)
     𝓛 (tables_of 𝓤 𝓛.H 𝓜 (tables 𝓤 𝓛.H 𝓜 𝓡 code.env))
     (cited 𝓤 𝓛.H (find-contract Slot Shape Outcome slot_at 𝓤 𝓛) 𝓜 𝓡 code.env find-def.name find-def.routine
     code.calls-catalogue::find (find-met.met 𝓤 𝓛 𝓜 𝓡))
-    (cited 𝓤 𝓛.H (core-contract Slot Shape Outcome show_outcome_at (with_slot asShow showBuffer) 𝓤 𝓛) 𝓜 𝓡 code.env
+    (cited 𝓤 𝓛.H (core-contract Slot Shape Outcome show_outcome_at (with_slot asShow show_buffer) 𝓤 𝓛) 𝓜 𝓡 code.env
     core-def.name core-def.routine code.calls-card::cores::show-core (core-met.met 𝓤 𝓛 𝓜 𝓡)))

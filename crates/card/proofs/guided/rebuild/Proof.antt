@@ -6,7 +6,7 @@ use mathlib.Core.List.{List}
 use Prim.Native.Nat.{ℕ}
 use borrow.Author.Rules.{rules}
 use borrow.Author.Tests.{eq-eqb, ne_eqb}
-use Rattle.call_summary.specs.Answers.{builtSummary}
+use Rattle.call_summary.specs.Answers.{built_summary}
 use Rattle.card.specs.Closings.{rebuilt}
 use Rattle.card.specs.declared.Shape.{Shape}
 use Rattle.card.proofs.guided.rebuild.Statement.{statement}
@@ -14,12 +14,12 @@ use Rattle.card.proofs.guided.rebuild.Tie as tie
 
 module _ (shape : Shape) (map summary : List ℕ) (number : ℕ) where
   abbrev by : Bool → List ℕ
-  by b = cond b (builtSummary false shape.blocks shape.free map summary) summary
+  by b = cond b (built_summary false shape.blocks shape.free map summary) summary
 
   stays : (number ≡ 0 → ⊥) → summary ≡ rebuilt shape map summary number
   stays d = sym (ap by (ne_eqb number 0 d))
 
-  builds : number ≡ 0 → builtSummary false shape.blocks shape.free map summary ≡ rebuilt shape map summary number
+  builds : number ≡ 0 → built_summary false shape.blocks shape.free map summary ≡ rebuilt shape map summary number
   builds z = sym (ap by (eq-eqb number 0 z))
 
 returns : tie.Need-returns

@@ -3,7 +3,7 @@
 use mathlib.Core.Bool.{true}
 use mathlib.Core.Path.{◌∙◌}
 use borrow.Author.Rules.{rules}
-use Rattle.refusals.proofs.Reserve.{plain_out, plain_map, plain_summary, plain_card}
+use Rattle.refusals.proofs.Reserve.{plain_out, plain_map, plain_summary_lem, plain_card_lem}
 use Rattle.refusals.specs.Lent.{within}
 use Rattle.roles.specs.Roles as roles
 use Rattle.card.specs.Cores.{lent_at_by}
@@ -30,8 +30,8 @@ returns c =
     let left = c.before.before.before.before.before.before.reserve-placed-guided.ensures in (
       left.0 ∙ plain_out q a.k,
       left.1 ∙ plain_map q a.k,
-      left.2 ∙ plain_summary q a.k,
-      left.3 ∙ plain_card q a.k,
+      left.2 ∙ plain_summary_lem q a.k,
+      left.3 ∙ plain_card_lem q a.k,
     )
 
 pub reserve_guided_spec : {M : Type 1} → statement M

@@ -2,7 +2,7 @@
 -- Assumes nothing.
 use mathlib.Core.Path.{◌∙◌}
 use borrow.Author.Rules.{rules}
-use Rattle.refusals.proofs.Reserve.{plain_out, plain_map, plain_card}
+use Rattle.refusals.proofs.Reserve.{plain_out, plain_map, plain_card_lem}
 use Rattle.refusals.specs.Lent.{within}
 use Rattle.roles.specs.Roles as roles
 use Rattle.card.specs.Cores.{lent_at}
@@ -24,7 +24,7 @@ returns c =
     let a = placed.before.before.before.before.before.args in
     let q = within a.held a.limits.now (lent_at roles.reserve a.shape a.role a.map.now a.card.now a.slot a.sheet) in
     let left = placed.reserve-placed-core.ensures in
-    (left.0 ∙ plain_out q a.k, left.1 ∙ plain_map q a.k, left.2 ∙ plain_card q a.k)
+    (left.0 ∙ plain_out q a.k, left.1 ∙ plain_map q a.k, left.2 ∙ plain_card_lem q a.k)
 
 pub reserve_core_spec : {M : Type 1} → statement M
 reserve_core_spec = tie.close (tie.spec reserve-placed-core-requires same_length same-length-2 returns)

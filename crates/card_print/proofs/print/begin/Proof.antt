@@ -1,6 +1,6 @@
 use Rattle.catalogue_standings.proofs.Limits.{fits}
 use Rattle.catalogue_standings.proofs.Tested.{fails, holds}
-use Rattle.card_print.proofs.Beginning.{refusal-begins, misfit-begins, card-begins}
+use Rattle.card_print.proofs.Beginning.{refusal_begins, misfit_begins, card_begins}
 use borrow.Author.Rules.{rules}
 use Rattle.card_print.proofs.print.begin.Statement.{statement}
 use Rattle.card_print.proofs.print.begin.Tie as tie
@@ -15,7 +15,7 @@ returns : tie.Need-returns
 returns c =
     let call = c.before.before in
     let a = call.before.before.before.before.before.before.args in
-    refusal-begins a.loaded a.map.now a.count a.text.now _ _ call.before.before.if1.true
+    refusal_begins a.loaded a.map.now a.count a.text.now _ _ call.before.before.if1.true
     call.refuse.ensures.0 call.refuse.ensures.1
 
 shape-fits-requires : tie.Need-shape-fits-requires
@@ -32,7 +32,7 @@ returns-2 c =
     let call = c.before.before in
     let fits = call.before.before.before in
     let a = fits.before.before.before.before.before.args in
-    misfit-begins a.loaded a.map.now a.count a.text.now _ _ fits.before.if1.false
+    misfit_begins a.loaded a.map.now a.count a.text.now _ _ fits.before.if1.false
     (fails fits.shape-fits.ensures call.before.before.if2.true)
     call.refuse2.ensures.0 call.refuse2.ensures.1
 
@@ -53,7 +53,7 @@ returns-3 c =
     let counted = call.before.before in
     let fits = counted.before.before in
     let a = fits.before.before.before.before.before.args in
-    card-begins a.loaded a.map.now a.count a.text.now _ _ _ fits.before.if1.false
+    card_begins a.loaded a.map.now a.count a.text.now _ _ _ fits.before.if1.false
     (holds fits.shape-fits.ensures counted.before.if2.false)
     counted.survey.ensures call.write-head.ensures.0 call.write-head.ensures.1
 

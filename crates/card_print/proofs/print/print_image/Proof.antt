@@ -6,10 +6,10 @@ use contract.Running.{tables, tables_of}
 use denote.Triple.Spec.{triple_of}
 use denote.Triple.Table.{entered, cited}
 use lib.ListN.{length}
-use Rattle.card.specs.Ends.{loadEnd}
+use Rattle.card.specs.Ends.{load_end}
 use Rattle.pagunlit_replies.specs.Replies.{reply_of}
 use Rattle.printer.specs.Sheets.{lines_writer, lines_written, place_of}
-use Rattle.card_print.specs.Beginnings.{beginWriter, beginWritten}
+use Rattle.card_print.specs.Beginnings.{begin_writer, begin_written}
 use Rattle.card_print.specs.Printed.{Prints}
 use Rattle.card_print.proofs.Prints.{prints}
 use Rattle.catalogue.proofs.Values.{Value, value_of}
@@ -21,7 +21,7 @@ use Rattle.card.specs.contracts.Outcome as Outcome'
 use Rattle.card.proofs.Outcome.TheLaws as Outcome''
 use Rattle.pagunlit_replies.specs.contracts.Reply as Reply'
 use Rattle.pagunlit_replies.proofs.Reply.TheLaws as Reply''
-use Rattle.walk_images.proofs.MapCatalogueScratchTextFromImage.{count-contract, load-contract, reply-of-contract}
+use Rattle.walk_images.proofs.MapCatalogueScratchTextFromImage.{count-contract, load_contract, reply_of_contract}
 use Rattle.walk_images.proofs.MapCatalogueScratchTextFromImage.{begin-contract, write-sheets-contract, place-of-contract, meets}
 use Rattle.catalogue.proofs.count.Symbol as count-def
 use Rattle.catalogue.proofs.count.Met as count-met
@@ -58,20 +58,20 @@ print_image_spec 𝓤 𝓛 𝓜 𝓡 =
     entered 𝓤 𝓛.H (triple_of 𝓛 print-image.signature (print-image.spec 𝓛 𝓜.mem 𝓡.run))
     (tables 𝓤 𝓛.H 𝓜 𝓡 code.env).C (tables 𝓤 𝓛.H 𝓜 𝓡 code.env).Λ #print-image code.function (code.unfolded 𝓤 𝓛.H 𝓜 𝓡)
     (meets Writer Shape Outcome Reply count-def.name load-def.name reply-of-def.name begin-def.name write-sheets-def.name
-    place-of-def.name length (λ x0 x1 x2 x3 x4 x5. (loadEnd x0 x1 x2 x3 x4 x5).outcome)
-    (λ x0 x1 x2 x3 x4 x5. (loadEnd x0 x1 x2 x3 x4 x5).map) (λ x0 x1 x2 x3 x4 x5. (loadEnd x0 x1 x2 x3 x4 x5).entries)
-    (λ x0 x1 x2 x3 x4 x5. (loadEnd x0 x1 x2 x3 x4 x5).beside.scratch) reply_of beginWriter beginWritten lines_writer lines_written
+    place-of-def.name length (λ x0 x1 x2 x3 x4 x5. (load_end x0 x1 x2 x3 x4 x5).outcome)
+    (λ x0 x1 x2 x3 x4 x5. (load_end x0 x1 x2 x3 x4 x5).map) (λ x0 x1 x2 x3 x4 x5. (load_end x0 x1 x2 x3 x4 x5).entries)
+    (λ x0 x1 x2 x3 x4 x5. (load_end x0 x1 x2 x3 x4 x5).beside.scratch) reply_of begin_writer begin_written lines_writer lines_written
     place_of Prints prints
     𝓛 (tables_of 𝓤 𝓛.H 𝓜 (tables 𝓤 𝓛.H 𝓜 𝓡 code.env))
     (cited 𝓤 𝓛.H (count-contract Writer Shape Outcome Reply length 𝓤 𝓛) 𝓜 𝓡 code.env count-def.name count-def.routine
     code.calls-catalogue::count (count-met.met 𝓤 𝓛 𝓜 𝓡))
-    (cited 𝓤 𝓛.H (load-contract Writer Shape Outcome Reply (λ x0 x1 x2 x3 x4 x5. (loadEnd x0 x1 x2 x3 x4 x5).outcome)
-    (λ x0 x1 x2 x3 x4 x5. (loadEnd x0 x1 x2 x3 x4 x5).map) (λ x0 x1 x2 x3 x4 x5. (loadEnd x0 x1 x2 x3 x4 x5).entries)
-    (λ x0 x1 x2 x3 x4 x5. (loadEnd x0 x1 x2 x3 x4 x5).beside.scratch) 𝓤 𝓛) 𝓜 𝓡 code.env load-def.name load-def.routine
+    (cited 𝓤 𝓛.H (load_contract Writer Shape Outcome Reply (λ x0 x1 x2 x3 x4 x5. (load_end x0 x1 x2 x3 x4 x5).outcome)
+    (λ x0 x1 x2 x3 x4 x5. (load_end x0 x1 x2 x3 x4 x5).map) (λ x0 x1 x2 x3 x4 x5. (load_end x0 x1 x2 x3 x4 x5).entries)
+    (λ x0 x1 x2 x3 x4 x5. (load_end x0 x1 x2 x3 x4 x5).beside.scratch) 𝓤 𝓛) 𝓜 𝓡 code.env load-def.name load-def.routine
     code.calls-card::Shape::load (load-met.met 𝓤 𝓛 𝓜 𝓡))
-    (cited 𝓤 𝓛.H (reply-of-contract Writer Shape Outcome Reply reply_of 𝓤 𝓛) 𝓜 𝓡 code.env reply-of-def.name
+    (cited 𝓤 𝓛.H (reply_of_contract Writer Shape Outcome Reply reply_of 𝓤 𝓛) 𝓜 𝓡 code.env reply-of-def.name
     reply-of-def.routine code.calls-pagunlit-replies::reply-of (reply-of-met.met 𝓤 𝓛 𝓜 𝓡))
-    (cited 𝓤 𝓛.H (begin-contract Writer Shape Outcome Reply beginWriter beginWritten 𝓤 𝓛) 𝓜 𝓡 code.env begin-def.name
+    (cited 𝓤 𝓛.H (begin-contract Writer Shape Outcome Reply begin_writer begin_written 𝓤 𝓛) 𝓜 𝓡 code.env begin-def.name
     begin-def.routine code.calls-card-print::print::begin (begin-met.met 𝓤 𝓛 𝓜 𝓡))
     (cited 𝓤 𝓛.H (write-sheets-contract Writer Shape Outcome Reply lines_writer lines_written 𝓤 𝓛) 𝓜 𝓡 code.env
     write-sheets-def.name write-sheets-def.routine code.calls-printer::write-sheets (write-sheets-met.met 𝓤 𝓛 𝓜 𝓡))

@@ -58,7 +58,7 @@ returns-4 c =
       sym shape.before.shape-fits.ensures ∙ not-false shape.before.shape-fits.result shape.if1.false,
       sym sheets.before.sheets-fit.ensures ∙ not-false sheets.before.sheets-fit.result sheets.if2.false,
       lt-leb _ _ c.before.before.if3.false,
-    ) (c.unless-damaged.ensures ∙ ap openings.unlessDamaged c.before.decode.ensures)
+    ) (c.unless-damaged.ensures ∙ ap openings.unless_damaged c.before.decode.ensures)
 
 pub open_sheet_spec : {M : Type 1} → statement M
 open_sheet_spec =

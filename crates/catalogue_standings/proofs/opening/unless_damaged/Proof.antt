@@ -25,22 +25,22 @@ enum-told-3 : tie.Need-enum-told-3
 enum-told-3 c = search rules
 
 returns : tie.Need-returns
-returns c = ap openings.unlessDamaged (sym c.enum_told.given.1)
+returns c = ap openings.unless_damaged (sym c.enum_told.given.1)
 
 returns-2 : tie.Need-returns-2
-returns-2 c = ap openings.unlessDamaged (sym c.enum-told2.given.1)
+returns-2 c = ap openings.unless_damaged (sym c.enum-told2.given.1)
 
 returns-3 : tie.Need-returns-3
-returns-3 c = ap openings.unlessDamaged (sym c.before.stands.given.1)
+returns-3 c = ap openings.unless_damaged (sym c.before.stands.given.1)
 
 returns-4 : tie.Need-returns-4
-returns-4 c = ap openings.unlessDamaged (sym c.before.stands2.given.1)
+returns-4 c = ap openings.unless_damaged (sym c.before.stands2.given.1)
 
 returns-5 : tie.Need-returns-5
-returns-5 c = ap openings.unlessDamaged (sym c.before.stands3.given.1)
+returns-5 c = ap openings.unless_damaged (sym c.before.stands3.given.1)
 
 returns-6 : tie.Need-returns-6
-returns-6 c = ap openings.unlessDamaged (sym c.enum-told3.given.1)
+returns-6 c = ap openings.unless_damaged (sym c.enum-told3.given.1)
 
 pub unless_damaged_spec : {M : Type 1} → statement M
 unless_damaged_spec =

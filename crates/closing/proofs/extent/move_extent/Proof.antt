@@ -1,12 +1,12 @@
 -- `move_extent` meets its contract.
 -- Assumes nothing.
 use Rattle.std.proofs.Common.{◌∙◌, rules}
-use Rattle.closing.proofs.Cards.{not-up, not-outside, moves}
+use Rattle.closing.proofs.Cards.{not_up, not-outside, moves}
 use Rattle.closing.proofs.extent.move_extent.Statement.{statement}
 use Rattle.closing.proofs.extent.move_extent.Tie as tie
 
 returns : tie.Need-returns
-returns c = not-up _ _ c.if1.true
+returns c = not_up _ _ c.if1.true
 
 cast-if2 : tie.Need-overflow-cast-if2
 cast-if2 c = search rules

@@ -2,7 +2,7 @@
 -- Assumes nothing.
 use Rattle.std.proofs.Common.{sym, ap, ◌∙◌, rules}
 use Rattle.closing.specs.Rounds.{pick}
-use Rattle.closing.proofs.Picks.{is-nearer, is_not}
+use Rattle.closing.proofs.Picks.{is_nearer_lem, is_not}
 use Rattle.closing.proofs.extent.nearer.Statement.{statement}
 use Rattle.closing.proofs.extent.nearer.Tie as tie
 
@@ -16,7 +16,7 @@ returns : tie.Need-returns
 returns c =
     let a = c.before.before.before.args in
     ap (pick a.pick.at a.entry.start a.entry.length a.pick.next) c.before.before.wrapping-add-u32.ensures
-    ∙ is-nearer a.pick a.entry (sym c.before.is-nearer.ensures ∙ c.if1.true)
+    ∙ is_nearer_lem a.pick a.entry (sym c.before.is-nearer.ensures ∙ c.if1.true)
 
 returns-2 : tie.Need-returns-2
 returns-2 c =

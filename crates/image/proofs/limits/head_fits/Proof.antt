@@ -7,7 +7,7 @@ use Rattle.catalogue_standings.proofs.Tested.{fails, holds}
 use Rattle.catalogue_standings.specs.Limits.{shape_fits}
 use Rattle.image.proofs.limits.head_fits.Statement.{statement}
 use Rattle.image.proofs.limits.head_fits.Tie as tie
-use Rattle.image.proofs.Fitting.{head_large, head-unshaped, head-uncounted, head-by-total, sheets-few}
+use Rattle.image.proofs.Fitting.{head_large, head_unshaped, head-uncounted, head-by-total, sheets_few}
 
 returns : tie.Need-returns
 returns c = head_large _ _ _ _ (omega arith)
@@ -21,7 +21,7 @@ shape-fits-requires c κs = search rules
 returns-2 : tie.Need-returns-2
 returns-2 c =
     let a = c.before.before.before.before.args in
-    head-unshaped a.n a.free a.c a.total
+    head_unshaped a.n a.free a.c a.total
     (ap (shape_fits a.n a.free) (sym c.before.before.words-for.ensures)
     ∙ fails c.before.shape-fits.ensures c.if2.true)
 
@@ -40,7 +40,7 @@ returns-3 c =
 frames-for-requires : tie.Need-frames-for-requires
 frames-for-requires c κs =
     let a = c.before.before.before.before.before.before.args in
-    (omega arith, sheets-few a.n a.free a.c a.total (holds c.before.sheets-fit.ensures c.if3.false))
+    (omega arith, sheets_few a.n a.free a.c a.total (holds c.before.sheets-fit.ensures c.if3.false))
 
 returns-4 : tie.Need-returns-4
 returns-4 c =

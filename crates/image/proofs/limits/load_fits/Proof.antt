@@ -5,13 +5,13 @@ use borrow.Author.Rules.{rules}
 use Rattle.image_soundness.specs.Scratch.{scratch_words}
 use Rattle.image.proofs.limits.load_fits.Statement.{statement}
 use Rattle.image.proofs.limits.load_fits.Tie as tie
-use Rattle.image.proofs.Fitting.{load-words, load-entries, load-by-scratch}
+use Rattle.image.proofs.Fitting.{load_words, load-entries, load-by-scratch}
 
 words-for-requires : tie.Need-words-for-requires
 words-for-requires c κs = search rules
 
 returns : tie.Need-returns
-returns c = load-words _ _ _ _ _ _ c.before.words-for.ensures c.if1.true
+returns c = load_words _ _ _ _ _ _ c.before.words-for.ensures c.if1.true
 
 returns-2 : tie.Need-returns-2
 returns-2 c = load-entries _ _ _ _ _ _ c.before.before.words-for.ensures c.before.if1.false c.if2.true

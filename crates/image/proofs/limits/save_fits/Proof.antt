@@ -4,13 +4,13 @@ use borrow.Author.Rules.{rules}
 use Rattle.catalogue_standings.proofs.Tested.{fails, holds}
 use Rattle.image.proofs.limits.save_fits.Statement.{statement}
 use Rattle.image.proofs.limits.save_fits.Tie as tie
-use Rattle.image.proofs.Fitting.{save-unshaped, save-uncounted, save-by-scratch}
+use Rattle.image.proofs.Fitting.{save_unshaped, save-uncounted, save-by-scratch}
 
 shape-fits-requires : tie.Need-shape-fits-requires
 shape-fits-requires c κs = search rules
 
 returns : tie.Need-returns
-returns c = save-unshaped _ _ _ _ _ (fails c.before.shape-fits.ensures c.if1.true)
+returns c = save_unshaped _ _ _ _ _ (fails c.before.shape-fits.ensures c.if1.true)
 
 sheets-fit-requires : tie.Need-sheets-fit-requires
 sheets-fit-requires c κs = search rules

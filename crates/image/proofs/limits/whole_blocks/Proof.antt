@@ -5,10 +5,10 @@ use native.Mathlib.Omega.{arith}
 use borrow.Author.Tests.{le-leb}
 use Rattle.image.proofs.limits.whole_blocks.Statement.{statement}
 use Rattle.image.proofs.limits.whole_blocks.Tie as tie
-use Rattle.image.proofs.Fitting.{whole-cut, whole-none, whole-by-few}
+use Rattle.image.proofs.Fitting.{whole_cut, whole-none, whole-by-few}
 
 returns : tie.Need-returns
-returns c = whole-cut _ c.if1.true
+returns c = whole_cut _ c.if1.true
 
 returns-2 : tie.Need-returns-2
 returns-2 c = whole-none _ c.before.if1.false (omega arith)

@@ -1,7 +1,7 @@
 -- `rule::keeps_rule` meets its contract, mark by mark.
 -- Assumes nothing.
 use mathlib.Core.Path.{◌∙◌}
-use Rattle.image_soundness.proofs.Marks.{rule-absent, rule-paused, rule-open, rule-complete, rule-none}
+use Rattle.image_soundness.proofs.Marks.{rule_absent, rule-paused, rule-open, rule-complete, rule-none}
 use borrow.Author.Rules.{rules}
 use Rattle.image_soundness.proofs.rule.keeps_rule.Statement.{statement}
 use Rattle.image_soundness.proofs.rule.keeps_rule.Tie as tie
@@ -10,7 +10,7 @@ no-extent-requires : tie.Need-no-extent-requires
 no-extent-requires c κs = search rules
 
 returns : tie.Need-returns
-returns c = c.no-extent.ensures ∙ rule-absent _ _ c.before.if1.true
+returns c = c.no-extent.ensures ∙ rule_absent _ _ c.before.if1.true
 
 pause-keeps-requires : tie.Need-pause-keeps-requires
 pause-keeps-requires c κs = search rules

@@ -14,7 +14,7 @@ use Rattle.map_blocks.specs.Maps.{in_state}
 use Rattle.map_blocks.specs.Words.{bit}
 use Rattle.laws.proofs.Bools.{order}
 use Rattle.map_blocks.proofs.Maps.{free_bit}
-use Rattle.map_blocks.proofs.Runs.{all-intro}
+use Rattle.map_blocks.proofs.Runs.{all_intro}
 use Rattle.map_blocks.proofs.run.Test.{holds, fails}
 use Rattle.map_blocks.proofs.run.all_marked.Statement.{statement}
 use Rattle.map_blocks.proofs.run.all_marked.Tie as tie
@@ -100,7 +100,7 @@ returns-2 : tie.Need-returns-2 invariant-loop decreases-loop
 returns-2 c =
     let loop = c.before.loop in
     let a = c.before.before.before.args in
-    sym (all-intro (in_state a.map.now a.state) a.start a.k (λ t l u. loop.invariant.2 t l (omega arith) u))
+    sym (all_intro (in_state a.map.now a.state) a.start a.k (λ t l u. loop.invariant.2 t l (omega arith) u))
 
 pub all_marked_spec : {M : Type 1} → statement M
 all_marked_spec =

@@ -4,7 +4,7 @@ use Prim.Native.Nat.{◌≤◌, ◌-◌}
 use native.Mathlib.Omega.{arith}
 use lib.ListN.{length}
 use borrow.Author.Rules.{rules}
-use Rattle.map_blocks.proofs.run.Freshness.{Passed, passed-more, passed-not, passed-end}
+use Rattle.map_blocks.proofs.run.Freshness.{Passed, passed_more, passed-not, passed_end}
 use Rattle.map_blocks.proofs.run.is_fresh.Statement.{statement}
 use Rattle.map_blocks.proofs.run.is_fresh.Tie as tie
 
@@ -50,12 +50,12 @@ loop-again c =
     let at = c.before.before.before.before in
     let a = at.before.before.args in (
       omega arith,
-      passed-more a.map.now a.n at.loop.i _ c.before.fresh-word.ensures at.loop.invariant.1
+      passed_more a.map.now a.n at.loop.i _ c.before.fresh-word.ensures at.loop.invariant.1
           c.if1.false,
     )
 
 returns-2 : tie.Need-returns-2 invariant-loop decreases-loop
-returns-2 c = passed-end _ _ c.before.loop.i (omega arith) c.before.loop.invariant.1
+returns-2 c = passed_end _ _ c.before.loop.i (omega arith) c.before.loop.invariant.1
 
 pub is_fresh_spec : {M : Type 1} → statement M
 is_fresh_spec =

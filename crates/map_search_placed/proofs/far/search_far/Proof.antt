@@ -8,7 +8,7 @@ use Rattle.map_blocks.specs.Blocks.{free, on_step, fit}
 use Rattle.map_blocks.proofs.Fits.{mod_on}
 use Rattle.map_search_starts.proofs.Steps.{none_ahead}
 use Rattle.map_search_near.proofs.Figures.{is_nothing, is_start, found_at}
-use Rattle.map_search_near.proofs.Figures.{found_none, before-first, past-runs, taken_run}
+use Rattle.map_search_near.proofs.Figures.{found_none, before_first, past_runs, taken_run}
 use borrow.Author.Rules.{rules}
 use Rattle.map_search_placed.proofs.far.search_far.Statement.{statement}
 use Rattle.map_search_placed.proofs.far.search_far.Tie as tie
@@ -30,7 +30,7 @@ none-to : (c : tie.After-some-starts invariant-loop decreases-loop) (t : ℕ) �
 none-to c =
     let a = c.before.before.before.before.before.before.args in
     let loop = c.before.before.before.loop in
-    past-runs (free a.map.now) a.from a.before a.step a.k loop.c c.some-starts.result
+    past_runs (free a.map.now) a.from a.before a.step a.k loop.c c.some-starts.result
     c.some-starts.ensures.3 loop.invariant.3
 
 sub-last : tie.Need-overflow-sub-last invariant-loop decreases-loop
@@ -48,7 +48,7 @@ loop-holds c =
       omega arith,
       omega arith,
       c.ahead.ensures.1,
-      before-first (free a.map.now) a.from a.before a.step a.k c.ahead.result
+      before_first (free a.map.now) a.from a.before a.step a.k c.ahead.result
           (λ j l. none_ahead a.step a.from c.ahead.result j c.ahead.ensures.1 l c.ahead.ensures.0),
     )
 
@@ -113,7 +113,7 @@ loop-again c =
       omega arith,
       omega arith,
       c.past-taken.ensures.2,
-      past-runs g a.from a.before a.step a.k s c.past-taken.result
+      past_runs g a.from a.before a.step a.k s c.past-taken.result
           (taken_run (on_step a.step) g a.k s c.past-taken.result (omega arith) c.past-taken.ensures.3)
           (none-to here),
     )

@@ -8,7 +8,7 @@ use lib.Count.{count_leading_zeros, leading_le}
 use lib.ListN.{get_or}
 use Rattle.laws.proofs.Bools.{order}
 use Rattle.map_search_near.proofs.Figures.{zero_free}
-use Rattle.map_search_near.proofs.Rows.{first-free, none_free, zeros_taken}
+use Rattle.map_search_near.proofs.Rows.{first_free, none_free, zeros_taken}
 use borrow.Author.Rules.{rules}
 use Rattle.map_search_placed.proofs.taken.reach.Statement.{statement}
 use Rattle.map_search_placed.proofs.taken.reach.Tie as tie
@@ -50,7 +50,7 @@ returns c =
     let a = c.before.before.before.args in
     let w : ℕ = bit_and (get_or a.map.now (a.from / 64) 0) ((2 ^ 64 - 1) / 2 ^ (a.from % 64)) in
     let b : get_or a.map.now (a.from / 64) 0 < 2 ^ 64 = (c.before.shared-slice-known2.given (a.from / 64)).fits in
-    let free-at = first-free a.map.now a.from (omega arith) (omega (
+    let free-at = first_free a.map.now a.from (omega arith) (omega (
       arith,
       and_le_l (get_or a.map.now (a.from / 64) 0)
           ((2 ^ 64 - 1) / 2 ^ (a.from % 64)),

@@ -6,7 +6,7 @@ use native.Mathlib.Omega.{arith}
 use borrow.Author.Rules.{rules}
 use Rattle.map_blocks.specs.Words.{bit}
 use Rattle.map_blocks.proofs.Bits.{bit_past, bit_zero}
-use Rattle.map_blocks.proofs.Runs.{all_one, all-break}
+use Rattle.map_blocks.proofs.Runs.{all_one, all_break}
 use Rattle.map_search_word.proofs.word.gaps.Statement.{statement}
 use Rattle.map_search_word.proofs.word.gaps.Tie as tie
 
@@ -15,7 +15,7 @@ returns c =
     let a = c.before.args in
     -- no run of more than 64 is in a word
     λ j. bit_zero j
-    ∙ sym (all-break (bit a.w) j a.k (j + 64) (omega arith) (omega arith) (bit_past a.w (j + 64) (omega arith)))
+    ∙ sym (all_break (bit a.w) j a.k (j + 64) (omega arith) (omega arith) (bit_past a.w (j + 64) (omega arith)))
 
 rounds-requires : tie.Need-rounds-requires
 rounds-requires c κs = search rules

@@ -8,7 +8,7 @@ use borrow.Author.Rules.{rules}
 use Rattle.map_blocks.specs.Blocks.{all}
 use Rattle.map_blocks.specs.Words.{bit}
 use Rattle.map_blocks.proofs.Bits.{bit_zero}
-use Rattle.map_blocks.proofs.Runs.{all-part}
+use Rattle.map_blocks.proofs.Runs.{all_part}
 use Rattle.map_search_word.proofs.word.Doubling.{round}
 use Rattle.map_search_word.proofs.word.rounds.Statement.{statement}
 use Rattle.map_search_word.proofs.word.rounds.Tie as tie
@@ -26,7 +26,7 @@ loop-holds c = (omega arith, omega arith, λ w says. says)
 returns : tie.Need-returns invariant-loop decreases-loop
 returns c = λ w says j.
     bit_zero j
-    ∙ sym (all-part (bit w) j c.before.before.before.args.k j c.before.before.loop.done (omega arith) (omega arith)
+    ∙ sym (all_part (bit w) j c.before.before.before.args.k j c.before.before.loop.done (omega arith) (omega arith)
     (sym (c.before.before.loop.invariant.2 w says j) ∙ ap (λ (x : ℕ). bit x j) c.if1.true ∙ bit_zero j))
 
 sub-smaller : tie.Need-overflow-sub-smaller invariant-loop decreases-loop
