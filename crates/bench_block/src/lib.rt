@@ -1,4 +1,6 @@
 // For the benchmark: two functions over a card, to be called from C. Blocks that do not lie inside the card give 3.
+#![tactic(auto)]
+
 ghost use Rattle.std.specs.Prelude.{◌≡◌, cond, ◌+◌, ◌*◌, leb, length};
 ghost use Rattle.block_seals.specs.Sealed.{blank};
 ghost use Rattle.blocks_of_card.specs.Card.{block_of, zeroed};

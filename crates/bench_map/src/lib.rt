@@ -1,4 +1,6 @@
 // The search and the survey for C, as the benchmark calls them: numbers and a slice of words.
+#![tactic(auto)]
+
 ghost use Rattle.std.specs.Prelude.{◌≡◌};
 ghost use Rattle.bench_map.specs.Answers.{within_limits, searched, surveyed};
 
@@ -11,7 +13,7 @@ pub const OUT_OF_LIMITS: u32 = 0xffff_fffe;
 
 // What a survey answers, as C has it.
 #[repr(C)]
-#[derive(Drop)]
+#[derive(Clone, Copy)]
 pub struct Counts {
     pub free: u32,
     pub runs: u32,

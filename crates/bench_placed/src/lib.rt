@@ -1,5 +1,7 @@
 // The search within figures for C, as the benchmark calls it. It is apart from bench_map, whose search is then used once there
 // and compiled into the function that C calls, as before there were figures.
+#![tactic(auto)]
+
 ghost use Rattle.std.specs.Prelude.{◌≡◌};
 ghost use Rattle.bench_placed.specs.Answers.{placed_searched};
 

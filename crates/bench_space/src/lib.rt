@@ -1,5 +1,7 @@
 // The space behind a start for C, as the benchmark calls it. It is apart from bench_map and bench_placed, so that theirs are
 // compiled as they were before there was a space.
+#![tactic(auto)]
+
 ghost use Rattle.std.specs.Prelude.{◌≡◌};
 ghost use Rattle.bench_space.specs.Answers.{space_answered};
 

@@ -2,6 +2,8 @@
 //
 // A block is 512 bytes: sheet number, place in the sheet, 496 bytes of payload, and the two sums A and B. `seal` and
 // `check` are for the dispenser's C program: they take slices of any length, and refuse a wrong one with 3.
+#![tactic(auto)]
+
 ghost use Rattle.std.specs.Prelude.{◌≡◌};
 ghost use Rattle.block.specs.Calls.{seal_answer, after_seal, check_answer};
 

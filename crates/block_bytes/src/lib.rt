@@ -1,4 +1,6 @@
 // Byte slices: numbers stored in them as four bytes, the high byte first; a slice copied, and filled with zeros.
+#![tactic(auto)]
+
 ghost use Rattle.std.specs.Prelude.{◌≡◌, ◌+◌, ◌*◌, ◌≤◌, length, replicate};
 ghost use Rattle.block_bytes.specs.Numbers.{bytes4, number_at};
 

@@ -1,6 +1,8 @@
 // A sealed block (document 01, "Shape, catalogue, blocks"): its sums A and B, its tests, and how it is written.
 //
 // One whole block: bytes 0 to 3 the sheet number, 4 to 7 the place, 8 to 503 the payload, 504 to 507 A, 508 to 511 B.
+#![tactic(auto)]
+
 ghost use Rattle.std.specs.Prelude.{◌≡◌, ◌+◌, ◌*◌, ◌≤◌, length};
 ghost use Rattle.block_seals.specs.Sealed.{sums, check_holds, blank, sound, front, sealed};
 
@@ -14,7 +16,7 @@ pub const PAYLOAD: usize = 496;
 const MODULUS: u32 = 65521;
 
 // The sums A and B.
-#[derive(Drop)]
+#[derive(Clone, Copy)]
 pub struct Sums {
     pub a: u32,
     pub b: u32,

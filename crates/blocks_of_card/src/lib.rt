@@ -1,5 +1,7 @@
 // The blocks of a card (document 01, "Shape, catalogue, blocks"): block b of a lent card is its bytes 512·b to 512·b + 511,
 // and the caller sees that they lie inside the card.
+#![tactic(auto)]
+
 ghost use Rattle.std.specs.Prelude.{◌≡◌, ◌+◌, ◌*◌, ◌≤◌, length, replicate};
 ghost use Rattle.block_seals.specs.Sealed.{sealed, blank, sound, payload_of};
 ghost use Rattle.blocks_of_card.specs.Card.{block_of, with_block, zeroed};

@@ -7,7 +7,7 @@ use crate::{Dated, before_month, day_number, leap_day};
 
 // A day: 0 or the refusal's number, the days since 1 January 2000, and the date. With a refusal all but its number is 0.
 #[repr(C)]
-#[derive(Drop)]
+#[derive(Clone, Copy)]
 pub struct DayReply {
     pub number: u32,
     pub days: u32,

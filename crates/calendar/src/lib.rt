@@ -1,6 +1,8 @@
 // The calendar of a course's term (document 02, request (m)): dates from 1 January 2000, day 0, to 31 December 2099. Years
 // divisible by 4 in this span are leap years. The term is the two days, first and last, that the payload of place 0 starts
 // with.
+#![tactic(auto)]
+
 pub mod days;
 
 ghost use Rattle.std.specs.Prelude.{◌≡◌, ◌≤◌, length};
@@ -11,7 +13,7 @@ use block_bytes::{get4, put4};
 use block_seals::PAYLOAD;
 
 // What a date is: a number of days since 1 January 2000, or no date between the two ends.
-#[derive(Drop)]
+#[derive(Clone, Copy)]
 pub enum Dated {
     Day(u32),
     NoSuchDate,

@@ -8,7 +8,7 @@ use blocks_of_card::{blank_block, sound_block};
 
 // What the places of an Open sheet hold: a payload each, some blank block, the lowest of which is named, or some block
 // that is neither blank nor sound.
-#[derive(Drop)]
+#[derive(Clone, Copy)]
 pub enum Filling {
     Filled,
     Blank(u32),

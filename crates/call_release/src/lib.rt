@@ -1,4 +1,6 @@
 // Release: any standing but Absent becomes Absent, and its blocks free. The card's bytes stay.
+#![tactic(auto)]
+
 ghost use Rattle.std.specs.Prelude.{◌≡◌};
 ghost use Rattle.refusals.specs.Lent.{lent_beside, called_by, no_card};
 ghost use Rattle.roles.specs.Roles as names;

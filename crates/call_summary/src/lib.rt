@@ -1,4 +1,6 @@
 // The calls that are lent a map and a summary alone: a summary is built, or held against the map (document 02, request j).
+#![tactic(auto)]
+
 ghost use Rattle.std.specs.Prelude.{false, ◌≡◌};
 ghost use Rattle.roles.specs.Roles as names;
 ghost use Rattle.roles.specs.Roles.{turned_away};

@@ -1,6 +1,8 @@
 // What reserve does at the start that it found, and accept at the one that is asked for: a sheet without blocks takes k from
 // there on and becomes Open. Every block taken is filled with zeros, so that no old seal of the same sheet passes for a new
 // place. The space behind the start is measured before the marking.
+#![tactic(auto)]
+
 ghost use Rattle.std.specs.Prelude.{◌≡◌, true, false, ◌+◌, ◌-◌, ◌*◌, ◌≤◌, length};
 ghost use Rattle.map_blocks.specs.Blocks;
 ghost use Rattle.map_blocks.specs.Maps.{marked};

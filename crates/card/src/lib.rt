@@ -3,6 +3,8 @@
 // scratch. The methods are inner, they ask nobody's role: a program calls the functions of the crate role_calls (02 (n)). Here
 // stand those for a sheet, and search and survey; beside it the dated show, those for the whole card, and the forms with a
 // summary.
+#![tactic(auto)]
+
 mod cores;
 pub mod dated;
 mod guided;
@@ -21,14 +23,14 @@ use catalogue_standings::Answer;
 
 // n and the carried free count.
 #[repr(C)]
-#[derive(Drop)]
+#[derive(Clone, Copy)]
 pub struct Shape {
     pub blocks: u32,
     pub free: u32,
 }
 
 // What a call hands back: the shape, with its changed free count, and the answer.
-#[derive(Drop)]
+#[derive(Clone, Copy)]
 pub struct Outcome {
     pub shape: Shape,
     pub answer: Answer,

@@ -1,5 +1,7 @@
 // The card printer: reads an image from standard input and prints the card that it is of, or `refused` and a number (document
 // 01, "Saved image").
+#![tactic(auto)]
+
 ghost use Rattle.std.specs.Prelude.{◌≡◌, ◌≤◌};
 ghost use Rattle.std.proofs.Math.ListN;
 ghost use Rattle.card_print.specs.Printed.{room};

@@ -1,5 +1,7 @@
 // The catalogue: a lent run of entries, one for each sheet number from 0 (document 01, "Shape, catalogue, blocks").
 // These functions read, store and clear entries, and decide nothing: every decision is in code on an entry by value.
+#![tactic(auto)]
+
 ghost use Rattle.std.specs.Prelude.{◌≡◌, length, set};
 ghost use Rattle.catalogue.specs.Entries.{slot_at, cleared, cleared_if};
 
@@ -14,7 +16,7 @@ pub const COMPLETE: u32 = 0x43;
 
 // A mark, a start and a length.
 #[repr(C)]
-#[derive(Drop)]
+#[derive(Clone, Copy)]
 pub struct Entry {
     pub mark: u32,
     pub start: u32,
@@ -22,7 +24,7 @@ pub struct Entry {
 }
 
 // A sheet in the catalogue: how many entries there are, and its entry.
-#[derive(Drop)]
+#[derive(Clone, Copy)]
 pub struct Slot {
     pub count: usize,
     pub entry: Entry,

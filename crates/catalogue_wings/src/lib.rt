@@ -1,5 +1,7 @@
 // Wings: the sheets of a card in groups of 128, and how many blocks a wing holds (document 02, request k). The sum is made in
 // one pass over the wing's own entries, whatever they say: a damaged one counts by its length too.
+#![tactic(auto)]
+
 ghost use Rattle.std.specs.Prelude.{◌≡◌, length};
 ghost use Rattle.catalogue_wings.specs.Wings.{held_by};
 ghost use Rattle.catalogue_wings.specs.Passes.{first_of, end_of, nothing_yet, added_to, added_entries};

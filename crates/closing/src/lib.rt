@@ -2,6 +2,8 @@
 // the extents that start at or after the end of those that have moved, the one with the least start moves down to that end.
 // There are as many rounds as entries, and each is one pass over them. Last the map: as many blocks as all extents have are
 // taken.
+#![tactic(auto)]
+
 mod extent;
 
 ghost use Rattle.std.specs.Prelude.{◌≡◌};
@@ -24,7 +26,7 @@ use roles::{TURNED_AWAY, turned_away};
 
 // The end of the extents that have moved; of the extent that moves next its start, length and sheet; and the sheet whose entry
 // is looked at next.
-#[derive(Drop)]
+#[derive(Clone, Copy)]
 pub struct Pick {
     pub at: u32,
     pub start: u32,

@@ -1,5 +1,7 @@
 // Moving blocks of a card towards block 0 (document 02 (l)): the lowest block first, so that no block is overwritten before it
 // is read, where the old place and the new one overlap. Each block is read once and written once, and none that stays.
+#![tactic(auto)]
+
 ghost use Rattle.std.specs.Prelude.{◌≡◌, ◌+◌, ◌*◌, ◌≤◌, length};
 ghost use Rattle.blocks_of_card.specs.Card.{block_of, with_block};
 ghost use Rattle.closing_moves.specs.Moved.{moved};

@@ -2,6 +2,8 @@
 // at byte 4 · which: two digits a byte, the high digit first; four bytes of FF hex mean absent. Over numbers and a lent
 // payload alone: no card is needed. `read_count` and `write_count` are the calls; the C functions over them stand in the
 // crate pagunlit.
+#![tactic(auto)]
+
 ghost use Rattle.std.specs.Prelude.{◌≡◌, true, ◌/◌, ◌%◌, ◌<◌, ◌≤◌};
 ghost use Rattle.block_bytes.specs.Numbers.{bytes4};
 ghost use Rattle.counts.specs.Counts.{pair_of, byte_of, digits, hundredths_of, count_of, read_of};
@@ -11,7 +13,7 @@ ghost use Rattle.counts.specs.Replies.{count_reply, count_from};
 use block_seals::PAYLOAD;
 
 // A count: absent, or a number of hundredths.
-#[derive(Drop)]
+#[derive(Clone, Copy)]
 pub enum Count {
     Absent,
     Hundredths(u32),
@@ -19,7 +21,7 @@ pub enum Count {
 
 // What a read of a count gives: the count, or why it is refused. Two variants without a number in place of one with it
 // stay in registers: a read is then faster than plain C.
-#[derive(Drop)]
+#[derive(Clone, Copy)]
 pub enum Reading {
     Is(Count),
     WrongLength,
@@ -147,7 +149,7 @@ pub fn write_count(payload: &mut [u8], which: u32, count: Count) -> u32
 
 // What a read hands to C: 0 or the refusal's number, and the hundredths.
 #[repr(C)]
-#[derive(Drop)]
+#[derive(Clone, Copy)]
 pub struct CountReply {
     pub number: u32,
     pub hundredths: u32,

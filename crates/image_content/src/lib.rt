@@ -1,5 +1,7 @@
 // What stands in an image (document 01, "Saved image"): its entries, and whether its state is sound and the fill zero. Each
 // entry is tested alone, and then the map in windows, as of a lent state, with the entries and the words read from the image.
+#![tactic(auto)]
+
 pub mod entries;
 
 ghost use Rattle.std.specs.Prelude.{◌≡◌, true, false, ◌&&◌, ◌+◌, ◌*◌, ◌≤◌, length};

@@ -1,4 +1,6 @@
 // The frames of an image, and the numbers of the body that they carry (document 01, "Saved image").
+#![tactic(auto)]
+
 ghost use Rattle.std.specs.Prelude.{◌≡◌, ◌++◌, ◌+◌, ◌-◌, ◌*◌, ◌/◌, ◌%◌, ◌≤◌, min, length, drop, replicate};
 ghost use Rattle.block_seals.specs.Sealed.{sealed, blank, payload_of};
 ghost use Rattle.blocks_of_card.specs.Card.{block_of, with_block};

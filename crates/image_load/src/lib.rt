@@ -1,5 +1,7 @@
 // Load (document 01, "Saved image"): the verdict, and then the map and the entries one by one. Everything is validated before
 // the first word of the map or the first entry is written, so that a refusal changes nothing but the scratch.
+#![tactic(auto)]
+
 ghost use Rattle.std.specs.Prelude.{◌≡◌, length};
 ghost use Rattle.catalogue_standings.specs.Rows.{row_number};
 ghost use Rattle.roles.specs.Roles as names;
@@ -20,7 +22,7 @@ use image_soundness::words::clear;
 use roles::{TURNED_AWAY, turned_away};
 
 // One entry read: where the next one stands, and the entry.
-#[derive(Drop)]
+#[derive(Clone, Copy)]
 pub struct Turn {
     pub state: Cursor,
     pub entry: Entry,

@@ -1,5 +1,7 @@
 // Save (document 01, "Saved image"): whether the state is sound, the verdict, and then the image from its head to its fill.
 // Everything is validated before the first byte of the image is written, so that a refusal changes nothing but the scratch.
+#![tactic(auto)]
+
 ghost use Rattle.std.specs.Prelude.{◌≡◌};
 ghost use Rattle.roles.specs.Roles as names;
 ghost use Rattle.roles.specs.Roles.{turned_away};

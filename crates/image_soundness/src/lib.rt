@@ -1,6 +1,8 @@
 // What a sound state is (document 01, "Saved image"), and what each entry alone says of it: it must keep the rule of its mark,
 // and the lengths must make what the free count leaves of n. The map is tested in windows (crate image_windows), with a scratch
 // of 64 words (document 02, (h)), whose words are copied and cleared here.
+#![tactic(auto)]
+
 pub mod rule;
 pub mod words;
 
@@ -14,14 +16,14 @@ use catalogue::Entry;
 pub const SCRATCH: usize = 64;
 
 // How many blocks the entries that are left must make, and whether one did not count.
-#[derive(Drop)]
+#[derive(Clone, Copy)]
 pub struct Tally {
     pub left: u32,
     pub stop: bool,
 }
 
 // The first block of a window, and whether something failed there or before.
-#[derive(Drop)]
+#[derive(Clone, Copy)]
 pub struct Window {
     pub lo: u32,
     pub stop: bool,

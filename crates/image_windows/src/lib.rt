@@ -2,6 +2,8 @@
 // as image_soundness has it. Then the map, window by window: the words of a window are copied to the scratch, and of each
 // extent the part that lies there is released, which must be taken; at the end all blocks of the window below n, and no
 // others, must be free.
+#![tactic(auto)]
+
 ghost use Rattle.std.specs.Prelude.{◌≡◌, ◌+◌, ◌≤◌, max, false, length};
 ghost use Rattle.image_soundness.specs.Windows.{copied, touches, taken, window_after};
 ghost use Rattle.image_soundness.specs.Windows.{scratch_after, window_over, scratch_over, passes, window_end, one_window};

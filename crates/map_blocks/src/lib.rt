@@ -1,5 +1,7 @@
 // The map of a card, one bit to a block: marked and tested a word at a time (document 01, "Map and search"). The crate
 // `search` searches it.
+#![tactic(auto)]
+
 pub mod run;
 pub mod word;
 
@@ -7,7 +9,7 @@ pub mod word;
 pub const BLOCKS: u32 = 262144;
 
 // What a search answers.
-#[derive(Drop)]
+#[derive(Clone, Copy)]
 pub enum Found {
     At(u32),
     Nothing,

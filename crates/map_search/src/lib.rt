@@ -1,5 +1,7 @@
 // The search for a run of free blocks, a word at a time (003, sections 3 and 4), within a window: a start at or after
 // `from`, an end at or before `before`. Blocks outside the window are never read as free, whatever their bits are.
+#![tactic(auto)]
+
 ghost use Rattle.std.specs.Prelude.{◌≡◌, Bool, ℕ, ◌+◌, ◌*◌, ◌/◌, ◌<◌, ◌≤◌, length, get_or};
 ghost use Rattle.map_blocks.specs.Blocks.{free, least_fit};
 ghost use Rattle.map_blocks.specs.Words.{bit, in_window};
@@ -12,14 +14,14 @@ use map_search_word::word::{gaps, tail};
 use map_search_word::{Step, core_of, scan_word};
 
 // Where a search goes on: at a word, with so many free blocks right before it.
-#[derive(Drop)]
+#[derive(Clone, Copy)]
 pub struct Position {
     pub word: usize,
     pub carried: u32,
 }
 
 // The word that a search has come to, and its bits: those of blocks outside the window are 0.
-#[derive(Drop)]
+#[derive(Clone, Copy)]
 pub struct Reached {
     pub word: usize,
     pub bits: u64,

@@ -1,5 +1,7 @@
 // The search by masks of the starts, for starts that are near each other. Each word is looked at with the word behind it, so
 // that nothing is carried from word to word; words in which no run can start are passed over eight at a time.
+#![tactic(auto)]
+
 ghost use Rattle.std.specs.Prelude.{◌≡◌, true, false, ℕ, ◌+◌, ◌-◌, ◌*◌, ◌/◌, ◌%◌, ◌<◌, ◌≤◌, length, get_or};
 ghost use Rattle.map_blocks.specs.Blocks.{free, all, on_step, least_fit};
 ghost use Rattle.map_blocks.specs.Words.{bit};

@@ -1,5 +1,7 @@
 // The search for a run of free blocks within three figures: from, before and step (document 02, request a). From block 0 on
 // with a step of 1 it is the plain search. Below 64 the starts are masked word by word; from 64 on it goes from start to start.
+#![tactic(auto)]
+
 ghost use Rattle.std.specs.Prelude.{◌≡◌, ◌*◌, ◌<◌, ◌≤◌, length};
 ghost use Rattle.map_blocks.specs.Blocks.{free, least_fit};
 ghost use Rattle.map_search_near.specs.Answers.{start_of};

@@ -1,5 +1,7 @@
 // The search for a run of free blocks at one word, where it may start only at some blocks: those whose bits a second word
 // has. The starts that are multiples of a step (document 02, request a) are such a word.
+#![tactic(auto)]
+
 ghost use Rattle.std.specs.Prelude.{◌≡◌, Bool, true, ◌&&◌, ℕ, ◌+◌, ◌-◌, ◌%◌, ◌<◌, ◌≤◌, leb};
 ghost use Rattle.map_blocks.specs.Blocks.{all, on_step};
 ghost use Rattle.map_blocks.specs.Words.{bit, Mask};

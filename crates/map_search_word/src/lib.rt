@@ -1,5 +1,7 @@
 // The search for a run of free blocks at one word (003, sections 3 and 4): what the word tells, with the free blocks right
 // before it known. The crate `map_search` goes through a map by it.
+#![tactic(auto)]
+
 ghost use Rattle.std.specs.Prelude.{◌≡◌, Bool, ℕ, ◌+◌, ◌-◌, ◌<◌, ◌≤◌};
 ghost use Rattle.map_blocks.specs.Words.{bit};
 ghost use Rattle.map_search_word.specs.Scan.{Core, Carried, Stepped, Bounded};
@@ -10,7 +12,7 @@ use map_blocks::word::{has_all, smaller, span};
 use word::{gaps, tail};
 
 // What the words passed tell a search: where the run that it wants starts, or how many free blocks they end in.
-#[derive(Drop)]
+#[derive(Clone, Copy)]
 pub enum Step {
     Hit(u32),
     Next(u32),

@@ -1,6 +1,8 @@
 // The C library: every call of the card for the dispenser's C program (include/pagunlit.h). Each function makes the public
 // call of its name (crate role_calls), with the role of who makes it, and turns the outcome into document 01's numbers. A slice
 // is a pointer and a length to C; the shape, the entries and the reply are structs of 32-bit numbers.
+#![tactic(auto)]
+
 pub mod dated;
 pub mod days;
 pub mod summary;

@@ -1,4 +1,6 @@
 // What the C library hands back of an outcome: document 01's number and values, as a struct of 32-bit numbers.
+#![tactic(auto)]
+
 ghost use Rattle.std.specs.Prelude.{◌≡◌, get_or};
 ghost use Rattle.catalogue_standings.specs.Answers.{number_of, values_of};
 ghost use Rattle.pagunlit_replies.specs.Replies.{reply_of};
@@ -8,7 +10,7 @@ use catalogue_standings::Answer;
 
 // The outcome of a call: the shape, 0 or the refusal's number, and the answer's values, 0 where there are none.
 #[repr(C)]
-#[derive(Drop)]
+#[derive(Clone, Copy)]
 pub struct Reply {
     pub shape: Shape,
     pub number: u32,

@@ -1,5 +1,7 @@
 // The text that the card printer prints (document 01, "Saved image"): of a card, line by line, and of a refusal. It is written
 // to a lent text; what finds no room there is left out, so that no length has to be asked for.
+#![tactic(auto)]
+
 ghost use Rattle.std.specs.Prelude.{[], ◌∷◌, ◌≡◌};
 ghost use Rattle.printer.specs.Decimal.{decimal, numeral};
 ghost use Rattle.printer.specs.Lines.{card_line, runs_line, sheet_line};
@@ -90,7 +92,7 @@ pub fn write_line(text: &mut [u8], at: usize, sheet: usize, entry: Entry) -> usi
 }
 
 // Where the next line goes, which sheet it is of, and whether there is none to go on to.
-#[derive(Drop)]
+#[derive(Clone, Copy)]
 pub struct Writer {
     pub at: usize,
     pub sheet: usize,

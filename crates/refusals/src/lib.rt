@@ -1,6 +1,8 @@
 // What the calls on a card are refused with, hand back and leave (document 01, "The ledger, call by call" and "What the
 // caller gets instead"): definitions in specs/, their laws in proofs/. The calls themselves stand in the crates over this
 // one, whose names begin with call_.
+#![tactic(auto)]
+
 ghost use Rattle.std.specs.Prelude.{◌≡◌, true, ◌+◌, ◌*◌, ◌≤◌, length};
 ghost use Rattle.refusals.specs.Effects.{refusal_out};
 ghost use Rattle.refusals.specs.Guides.{guide_fits, guide_tested, guide_after};
@@ -12,7 +14,7 @@ use summary_write::update;
 
 // The figures of a reserve (document 02, request a): it starts at or after `from`, ends at or before `before`, and starts on a
 // multiple of `step`.
-#[derive(Drop)]
+#[derive(Clone, Copy)]
 pub struct Figures {
     pub from: u32,
     pub before: u32,
@@ -20,7 +22,7 @@ pub struct Figures {
 }
 
 // The standings that a call admits, by the names of `Standing`. A damaged one is admitted by none.
-#[derive(Drop)]
+#[derive(Clone, Copy)]
 pub struct Admits {
     pub absent: bool,
     pub paused: bool,
@@ -30,7 +32,7 @@ pub struct Admits {
 }
 
 // What a call that may change a sheet hands back: the free count, the sheet's entry and the answer.
-#[derive(Drop)]
+#[derive(Clone, Copy)]
 pub struct Out {
     pub free: u32,
     pub entry: Entry,

@@ -1,5 +1,7 @@
 // The rulings on the calls that take blocks, reserve, accept and grow: where the blocks start, or the row that refuses the
 // call.
+#![tactic(auto)]
+
 ghost use Rattle.std.specs.Prelude.{◌≡◌, ◌+◌, ◌*◌, ◌≤◌, length};
 ghost use Rattle.map_blocks.specs.Blocks;
 ghost use Rattle.refusals.specs.Lent.{lent_beside, lent_within, called_by};
@@ -20,7 +22,7 @@ use refusals_runs::{figures_wrong, find_run, over_limit, run_is_free};
 use roles::{TURNED_AWAY, turned_away};
 
 // Where the blocks that a call takes start, or the number of the refusal.
-#[derive(Drop)]
+#[derive(Clone, Copy)]
 pub enum Ruling {
     At(u32),
     Refused(u32),

@@ -1,5 +1,7 @@
 // What the rulings ask of a run of blocks: whether the figures for it are right, whether the wing's limit allows it, where the
 // least fit is, and whether one that is asked for is free.
+#![tactic(auto)]
+
 ghost use Rattle.std.specs.Prelude.{◌≡◌, true, ◌*◌, ◌≤◌, ◌<◌, length};
 ghost use Rattle.map_blocks.specs.Blocks;
 ghost use Rattle.map_blocks.specs.Blocks.{fit};

@@ -1,4 +1,6 @@
 // Who may do what (document 02, request (n)): which role may make which call.
+#![tactic(auto)]
+
 ghost use Rattle.std.specs.Prelude.{◌≡◌};
 ghost use Rattle.roles.specs.Roles as table;
 

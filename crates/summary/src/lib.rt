@@ -1,6 +1,8 @@
 // The summary beside a map (document 02, request (j)): for each group of words the free run at its head, at its tail and its
 // longest, three numbers to a group. Its length, a group of it, the free blocks of a word that it tells of, and whether it
 // is the map's own.
+#![tactic(auto)]
+
 ghost use Rattle.std.specs.Prelude.{◌≡◌, ℕ, ◌+◌, ◌*◌, ◌<◌, ◌≤◌, length};
 ghost use Rattle.map_blocks.specs.Words.{bit};
 ghost use Rattle.summary_groups.specs.Groups.{power, group_of};

@@ -1,4 +1,6 @@
 // One group of a summary (document 02, request (j)): what one word of a map tells, and a group from its two halves.
+#![tactic(auto)]
+
 ghost use Rattle.std.specs.Prelude.{◌≡◌, ℕ, ◌+◌, ◌<◌, ◌≤◌};
 ghost use Rattle.map_blocks.specs.Words.{bit};
 ghost use Rattle.summary_groups.specs.Groups.{group_of, carried_of, joined_of};
@@ -10,7 +12,7 @@ use map_search_word::word::tail;
 use survey_words::larger;
 
 // What a summary tells of a group: the free run at its head, at its tail, and its longest.
-#[derive(Drop)]
+#[derive(Clone, Copy)]
 pub struct Group {
     pub head: u32,
     pub tail: u32,
@@ -18,7 +20,7 @@ pub struct Group {
 }
 
 // The runs of a word that are `length` long: the bits of `starts` are where they start.
-#[derive(Drop)]
+#[derive(Clone, Copy)]
 struct Runs {
     starts: u64,
     length: u32,

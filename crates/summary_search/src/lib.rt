@@ -1,5 +1,7 @@
 // The search by a summary (document 02, request (j)), for all figures: the summary tells where a run may start first, and the
 // map is looked at there, a stretch of blocks at a time. So every start that it gives was found in the map.
+#![tactic(auto)]
+
 ghost use Rattle.std.specs.Prelude.{◌≡◌, ◌+◌, ◌*◌, ◌/◌, ◌<◌, ◌≤◌, min, leb, length};
 ghost use Rattle.map_blocks.specs.Blocks.{free, least_fit};
 ghost use Rattle.summary.specs.Summary.{summary_length};
@@ -17,7 +19,7 @@ use summary_groups::Group;
 use survey_words::larger;
 
 // What the numbers of a group tell a search: how it goes on, or that the group must be looked into.
-#[derive(Drop)]
+#[derive(Clone, Copy)]
 pub enum Glance {
     Settled(Step),
     Look,
@@ -71,7 +73,7 @@ const NONE: u32 = 0x8000_0000;
 // Where a search down the groups stands: at group g, of the m blocks from base on. The group is to be looked at, with s free
 // blocks right before it; or it is passed, and ends in s free blocks; or the search has ended with a start, or with NONE and
 // the free blocks carried on, which is s.
-#[derive(Drop)]
+#[derive(Clone, Copy)]
 pub struct Place {
     pub g: usize,
     pub base: u32,

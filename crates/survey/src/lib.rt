@@ -1,5 +1,7 @@
 // The survey of a map: free blocks, separate free runs and the longest run, a byte at a time by a fixed table (document
 // 01, "Map and search"). It goes from the last word to the first, so that what it keeps describes the blocks behind.
+#![tactic(auto)]
+
 ghost use Rattle.std.specs.Prelude.{◌≡◌, Bool, List, ◌++◌, ◌+◌, ◌*◌, ◌≤◌, ◌/◌, length};
 ghost use Rattle.map_blocks.specs.Blocks.{free};
 ghost use Rattle.map_blocks.specs.Maps.{words_for};
@@ -18,7 +20,7 @@ use survey_words::{
 use table::TABLE;
 
 // What a survey answers.
-#[derive(Drop)]
+#[derive(Clone, Copy)]
 pub struct Counts {
     pub free: u32,
     pub runs: u32,

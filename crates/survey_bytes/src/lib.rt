@@ -1,6 +1,8 @@
 // What a survey goes by at a byte: its head and tail, which are worked out, and its numbers in the table (document 01, "Map and
 // search"; document 02 (c)), how they join those of the blocks behind it, and where a run goes on from a byte of a word into
 // the next.
+#![tactic(auto)]
+
 ghost use Rattle.std.specs.Prelude.{◌≡◌, true, cond, ◌+◌, ◌<◌, ◌≤◌, ◌/◌, ◌%◌, eqb};
 ghost use Rattle.survey_bytes.specs.Runs.{head_of, tail_of, longest_of, runs_of, meet};
 ghost use Rattle.survey_bytes.specs.Bytes.{bits_of, column, Ruled, Apart, crossed};

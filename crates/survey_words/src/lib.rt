@@ -1,5 +1,7 @@
 // The blocks that a survey has passed, with a byte or a word before them. A word has three ways, each a byte at a time by the
 // table: each byte joined to what is behind it, and two that need fewer of its numbers, where the bits allow them.
+#![tactic(auto)]
+
 ghost use Rattle.std.specs.Prelude.{◌≡◌, Bool, true, List, ◌++◌, ◌+◌, ◌≤◌, ◌%◌, max};
 ghost use Rattle.survey_bytes.specs.Runs.{head_of, tail_of, runs_of, meet};
 ghost use Rattle.survey_bytes.specs.Bytes.{bits_of, Ruled, Apart};
@@ -17,7 +19,7 @@ const FIRST_BITS: u64 = 0x8080_8080_8080_8080;
 const OTHER_BITS: u64 = 0x7f7f_7f7f_7f7f_7f7f;
 
 // What a survey keeps of the blocks passed: the free blocks at their head, their longest run, their number of runs.
-#[derive(Drop)]
+#[derive(Clone, Copy)]
 pub struct Passed {
     pub head: u32,
     pub longest: u32,

@@ -1,2 +1,3 @@
 // No code: the proofs that the functions of the C library, chains of calls over a lent run of entries, meet their contracts,
 // each for any callees and any types by value (docs/WALKS.md).
+#![tactic(auto)]

@@ -1,2 +1,0 @@
--- Laws of tests and of order.
-pub mod Bools
