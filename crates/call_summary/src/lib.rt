@@ -36,7 +36,7 @@ pub fn rebuild_summary(n: u32, free: u32, map: &[u64], summary: &mut [u32]) -> A
 
 // The call of that.
 pub fn build_summary(role: u32, n: u32, free: u32, map: &[u64], summary: &mut [u32]) -> Answer
-    ensures { let turned = turned_away role names.buildSummary in
+    ensures { let turned = turned_away role names.build_summary in
         (result ≡ build_answer turned n free map.now summary.old)
         × (summary.new ≡ built_summary turned n free map.now summary.old) }
 {
@@ -48,7 +48,7 @@ pub fn build_summary(role: u32, n: u32, free: u32, map: &[u64], summary: &mut [u
 
 // Whether the summary is the map's own.
 pub fn check_summary(role: u32, n: u32, free: u32, map: &[u64], summary: &[u32]) -> Answer
-    ensures { let turned = turned_away role names.checkSummary in
+    ensures { let turned = turned_away role names.check_summary in
         result ≡ check_answer turned n free map.now summary.now }
 {
     if turned_away(role, roles::CHECK_SUMMARY) {

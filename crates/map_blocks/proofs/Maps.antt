@@ -15,7 +15,7 @@ use lib.Seq.{ext_get_or}
 use lib.Pow.{shr-shr}
 use native.Mathlib.Numerals.{one-add}
 use Rattle.map_blocks.specs.Blocks.{free}
-use Rattle.map_blocks.specs.Maps.{pack, words, map_of, marked, in_state}
+use Rattle.map_blocks.specs.Maps.{pack, words, map_of, marked, in_state, in_run}
 use Rattle.map_blocks.specs.Words.{bit, in_window}
 use Rattle.laws.proofs.Bools.{and_swap}
 use Rattle.map_blocks.proofs.Bits.{low, word_ext, bit_and_lem}
@@ -90,7 +90,7 @@ map_length f w = words_length f 0 w
 -- a map whose blocks were marked has the words it had
 pub marked_length : (map : List ℕ) (start k : ℕ) (to : Bool) → length (marked map start k to) ≡ length map
 unfolding marked
-marked_length map start k to = map_length _ (length map)
+marked_length map start k to = map_length (λ b. cond (in_run start k b) to (free map b)) (length map)
 
 pub map_at : (f : ℕ → Bool) (w i : ℕ) → i < w → get_or (map_of f w) i 0 ≡ pack f (i * 64) 64
 unfolding map_of

@@ -58,7 +58,7 @@ pub const CHECK_SUMMARY: u32 = 20;
 
 // Carers read.
 fn carer_may(call: u32) -> bool
-    ensures { result ≡ table.carerMay call }
+    ensures { result ≡ table.carer_may call }
 {
     if call == SHOW_DATED {
         return true;
@@ -74,7 +74,7 @@ fn carer_may(call: u32) -> bool
 
 // Service looks after the card.
 fn service_may(call: u32) -> bool
-    ensures { result ≡ table.serviceMay call }
+    ensures { result ≡ table.service_may call }
 {
     if call == FRESH {
         return true;
@@ -115,7 +115,7 @@ pub fn may(role: u32, call: u32) -> bool
 
 // Whether a call is turned away by role: row 21 of every call.
 pub fn turned_away(role: u32, call: u32) -> bool
-    ensures { result ≡ table.turnedAway role call }
+    ensures { result ≡ table.turned_away role call }
 {
     !may(role, call)
 }

@@ -1,0 +1,19 @@
+-- `map_blocks::run::fresh` meets its contract. The loop's invariant is `Rewritten`: the words passed are those of a fresh map.
+-- Assumes nothing.
+
+use mathlib.Core.Path.{◌≡◌, subst}
+use mathlib.Core.List.{List}
+use Prim.Native.Nat.{ℕ, ◌+◌, ◌-◌, ◌*◌, ◌≤◌}
+use native.Mathlib.Omega.{arith}
+use lib.Dec.{ltb}
+use lib.ListN.{length, set}
+use borrow.Author.Rules.{rules}
+use Rattle.map_blocks.specs.Maps.{fresh_map}
+use Rattle.map_blocks.proofs.run.Rewrite.{Rewritten, begin, turn, finish}
+use Rattle.map_blocks.proofs.run.fresh.Given as goal
+
+abbrev pub invariant-loop-i : goal.invariant-loop-i
+invariant-loop-i l = (l.i ≤ length l.initial.map) × Rewritten (λ b. ltb b l.n) l.initial.map (l.i * 64) l.map
+
+abbrev pub decreases-loop-i : goal.decreases-loop-i
+decreases-loop-i l = length l.initial.map - l.i

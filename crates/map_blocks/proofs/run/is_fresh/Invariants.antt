@@ -1,0 +1,15 @@
+-- `map_blocks::run::is_fresh` meets its contract. The loop's invariant: the words passed are those of a fresh map.
+-- Assumes nothing.
+
+use Prim.Native.Nat.{◌≤◌, ◌-◌}
+use native.Mathlib.Omega.{arith}
+use lib.ListN.{length}
+use borrow.Author.Rules.{rules}
+use Rattle.map_blocks.proofs.run.Freshness.{Passed, passed_more, passed-not, passed_end}
+use Rattle.map_blocks.proofs.run.is_fresh.Given as goal
+
+abbrev pub invariant-loop-i : goal.invariant-loop-i
+invariant-loop-i l = (l.i ≤ length l.map) × Passed l.map l.n l.i
+
+abbrev pub decreases-loop-i : goal.decreases-loop-i
+decreases-loop-i l = length l.map - l.i
