@@ -1,5 +1,6 @@
 -- `map_search_starts::head` meets its contract: the first zero is the first one of the complement.
 -- Assumes nothing.
+
 use mathlib.Core.Path.{◌≡◌, sym, ap, ◌∙◌}
 use mathlib.Core.Logic.{⊎_elim}
 use Prim.Native.Nat.{ℕ, ◌-◌, ◌^◌, ◌≤◌, ◌<◌}
@@ -11,18 +12,17 @@ use Rattle.map_blocks.specs.Words.{bit}
 use Rattle.map_blocks.proofs.Bits.{bit_ones, bit_not}
 use Rattle.map_search_word.proofs.Ends.{First, first_set}
 use Rattle.map_search_starts.specs.Starts.{Head}
-use Rattle.map_search_starts.proofs.head.Statement.{statement}
-use Rattle.map_search_starts.proofs.head.Tie as tie
+use Rattle.map_search_starts.proofs.head.Goals as goal
 
-returns : tie.Need-returns
-returns c = record {
+pub returns-then-n-eq-ONES : goal.returns-then-n-eq-ONES
+returns-then-n-eq-ONES c = record {
   within = omega arith;
-  held = λ j l. ap (λ (x : ℕ). bit x j) c.if1.true ∙ bit_ones j l;
+  held = λ j l. ap (λ (x : ℕ). bit x j) c.if-n-eq-ONES.true ∙ bit_ones j l;
   stop = λ l. absurd (omega arith);
 }
 
-returns-2 : tie.Need-returns-2
-returns-2 c = by c.before.args.n c.before.ranges.n.fits c.if1.false
+pub returns : goal.returns
+returns c = by c.args.n c.ranges.n.fits c.if-n-eq-ONES.false
   where
     by : (n : ℕ) → n < 2 ^ 64 → (n ≡ 2 ^ 64 - 1 → ⊥) → Head n (count_leading_zeros 64 ((2 ^ 64 - 1) - n))
     by n b h =
@@ -38,6 +38,3 @@ returns-2 c = by c.before.args.n c.before.ranges.n.fits c.if1.false
         some : (n : ℕ) → n < 2 ^ 64 → (n ≡ 2 ^ 64 - 1 → ⊥) → 0 < (2 ^ 64 - 1) - n
         some n b h = ⊎_elim (λ (u : 0 < (2 ^ 64 - 1) - n). u) (λ (u : (2 ^ 64 - 1) - n ≤ 0). absurd (h (omega arith)))
             (order 0 ((2 ^ 64 - 1) - n))
-
-pub head_spec : {M : Type 1} → statement M
-head_spec = tie.close (tie.spec returns returns-2)
