@@ -1,5 +1,6 @@
 -- `catalogue_standings::opening::open_on` meets its contract: the card's length, then the rows without it.
 -- Assumes nothing.
+
 use mathlib.Core.Path.{◌≡◌, refl, sym, ap, ◌∙◌}
 use mathlib.Core.Bool.{Bool, true, false, ◌&&◌}
 use borrow.Author.Rules.{rules}
@@ -13,11 +14,7 @@ use Rattle.catalogue_standings.specs.Standings.{standing_of}
 use Rattle.catalogue_standings.specs.Limits.{shape_fits, sheets_fit}
 use Rattle.catalogue_standings.specs.declared.Standing.{Standing}
 use Rattle.catalogue_standings.specs.declared.Opened.TheVariants.{Refused}
-use Rattle.catalogue_standings.proofs.opening.open_on.Statement.{statement}
-use Rattle.catalogue_standings.proofs.opening.open_on.Tie as tie
-
-mul-if1 : tie.Need-overflow-mul-if1
-mul-if1 c = search rules
+use Rattle.catalogue_standings.proofs.opening.open_on.Goals as goal
 
 and-false : (x y : Bool) → y ≡ false → (x && y) ≡ false
 and-false true y e = e
@@ -32,23 +29,15 @@ fitted : (x : Bool) (c sheet : ℕ) (s : Standing) → x ≡ false → Refused 1
 unfolding opened_of
 fitted x c sheet s e = simp e
 
-returns : tie.Need-returns
-returns c =
-    let a = c.before.before.args in
+pub returns-then-cardlen-n : goal.returns-then-cardlen-n
+returns-then-cardlen-n c = let a = c.args in
     fitted _ _ _ _
     (and-false (shape_fits a.n a.free (length a.map.now) && sheets_fit a.c) (eqb a.cardlen (512 * a.n))
-    (ne_eqb _ _ c.if1.true))
+    (ne_eqb _ _ c.if-cardlen-n.true))
 
-open-sheet-requires : tie.Need-open-sheet-requires
-open-sheet-requires c κs = search rules
-
-returns-2 : tie.Need-returns-2
-returns-2 c =
-    let a = c.before.before.before.args in
-    c.open-sheet.ensures
+pub returns : goal.returns
+returns c = let a = c.args in
+    c.open_sheet.ensures
     ∙ ap (λ (fits : Bool). opened_of fits a.c a.sheet (standing_of a.n (free a.map.now) a.entry))
     (sym (and_true (shape_fits a.n a.free (length a.map.now) && sheets_fit a.c) (eqb a.cardlen (512 * a.n))
-    (eq-eqb _ _ c.before.if1.false)))
-
-pub open_on_spec : {M : Type 1} → statement M
-open_on_spec = tie.close (tie.spec mul-if1 returns open-sheet-requires returns-2)
+    (eq-eqb _ _ c.if-cardlen-n.false)))
