@@ -1,5 +1,6 @@
 -- `summary::width` meets its contract. The loop's invariant: p doubled on until it is not below w is the power wanted.
 -- Assumes nothing.
+
 use mathlib.Core.Path.{◌≡◌, refl, ap, sym, ◌∙◌}
 use mathlib.Core.Bool.{Bool, cond}
 use Prim.Native.Nat.{ℕ, zero, suc, ◌+◌, ◌-◌, ◌*◌, ◌≤◌, ◌<◌}
@@ -7,14 +8,8 @@ use native.Mathlib.Omega.{arith}
 use borrow.Author.Rules.{rules}
 use borrow.Author.Tests.{lt-ltb, le-ltb}
 use Rattle.summary_groups.specs.Groups.{doubled, power}
-use Rattle.summary.proofs.width.Statement.{statement}
-use Rattle.summary.proofs.width.Tie as tie
-
-record Doubling (w p : ℕ) : Type 0 where
-  left : ℕ
-  is : doubled left p w ≡ power w
-  room : w ≤ p + left
-  pos : 0 < p
+use Rattle.summary.proofs.width.Invariants.{Doubling}
+use Rattle.summary.proofs.width.Goals as goal
 
 begin : (w : ℕ) → Doubling w 1
 unfolding power
@@ -38,26 +33,11 @@ unfolding doubled
 stop w p zero l = refl
 stop w p (suc m) l = ap (λ (t : Bool). cond t (doubled m (2 * p) w) p) (le-ltb p w l)
 
-abbrev invariant-loop : tie.invariant-loop
-invariant-loop w p₀ p = Doubling w p
+pub loop-p-init : goal.loop-p-init
+loop-p-init c = begin _
 
-abbrev decreases-loop : tie.decreases-loop
-decreases-loop w p₀ p = w - p
+pub loop-p-preserved : goal.loop-p-preserved
+loop-p-preserved c = next _ _ c.loop-p-test.true c.loop-p.invariant
 
-loop-holds : tie.Need-loop-init invariant-loop decreases-loop
-loop-holds c = begin _
-
-mul-p : tie.Need-overflow-mul-p invariant-loop decreases-loop
-mul-p c = search rules
-
-loop-less : tie.Need-loop-smaller invariant-loop decreases-loop
-loop-less c = search rules
-
-loop-again : tie.Need-loop-preserved invariant-loop decreases-loop
-loop-again c = next _ _ c.loop-test.true c.before.loop.invariant
-
-returns : tie.Need-returns invariant-loop decreases-loop
-returns c = let d = c.before.loop.invariant in sym (stop _ _ d.left c.loop-test.false) ∙ d.is
-
-pub width_spec : {M : Type 1} → statement M
-width_spec = tie.close (tie.spec invariant-loop decreases-loop loop-holds mul-p loop-less loop-again returns)
+pub returns : goal.returns
+returns c = let d = c.loop-p.invariant in sym (stop _ _ d.left c.loop-p-test.false) ∙ d.is
