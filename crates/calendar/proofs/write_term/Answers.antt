@@ -9,6 +9,5 @@ pub returns-then-payload-ne-PAYLOAD : goal.returns-then-payload-ne-PAYLOAD
 returns-then-payload-ne-PAYLOAD c = wrong_length c.args.payload.now _ _ c.if-payload-ne-PAYLOAD.true
 
 pub returns : goal.returns
-returns c = let start = c in
-    done start.args.payload.now _ _ start.if-payload-ne-PAYLOAD.false _ _
+returns c = done c.args.payload.now _ _ c.if-payload-ne-PAYLOAD.false _ _
     c.put4.ensures c.put4-2.ensures
