@@ -2,7 +2,6 @@
 -- Assumes nothing.
 
 use mathlib.Core.Path.{sym, ◌∙◌}
-use borrow.Author.Rules.{rules}
 use Rattle.calendar.proofs.Dates.{span_low, span_high, date_tested, no_month, no_year}
 use Rattle.calendar.proofs.is_date.Goals as goal
 

@@ -1,7 +1,6 @@
 -- `write_term` meets its contract: two parts of four bytes are lent, one behind the other.
 -- Assumes nothing.
 
-use borrow.Author.Rules.{rules}
 use Rattle.calendar.proofs.Terms.{wrong_length, done}
 use Rattle.calendar.proofs.write_term.Goals as goal
 

@@ -3,7 +3,6 @@
 
 use mathlib.Core.Path.{◌∙◌}
 use Rattle.blocks_of_card.proofs.Card.{lent, given_back}
-use borrow.Author.Rules.{rules}
 use Rattle.closing_moves.proofs.move_block.Goals as goal
 
 pub returns : goal.returns

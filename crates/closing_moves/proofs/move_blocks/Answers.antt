@@ -1,10 +1,8 @@
 -- `move_blocks` meets its contract. The invariant: the first i of the blocks are moved, and all others are as they were.
 -- Assumes nothing.
 
-use mathlib.Core.Path.{◌≡◌, ap, ◌∙◌}
-use Prim.Native.Nat.{◌≤◌, ◌-◌}
+use mathlib.Core.Path.{ap, ◌∙◌}
 use native.Mathlib.Omega.{arith}
-use lib.ListN.{length}
 use Rattle.closing_moves.specs.Moved.{moved}
 use Rattle.closing_moves.proofs.Moved.{moved_nowhere, moved_none, moved_next}
 use borrow.Author.Rules.{rules}
@@ -18,11 +16,11 @@ loop-i-init c = let a = c.args in (omega arith, moved_none a.card.now a.to a.fro
 
 pub loop-i-preserved : goal.loop-i-preserved
 loop-i-preserved c = let a = c.args in (
-      omega arith,
-      moved_next a.card.now c.loop-i.card _ a.to a.from c.loop-i.i (omega arith) (omega arith)
-          c.loop-i.invariant.1 c.move_block.ensures,
-      search rules,
-    )
+  omega arith,
+  moved_next a.card.now c.loop-i.card _ a.to a.from c.loop-i.i (omega arith) (omega arith)
+      c.loop-i.invariant.1 c.move_block.ensures,
+  search rules,
+)
 
 pub returns : goal.returns
 returns c = let a = c.args in

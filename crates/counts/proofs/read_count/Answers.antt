@@ -2,7 +2,6 @@
 -- Assumes nothing.
 
 use Rattle.counts.proofs.Tests.{read_wrong, read_told, read_none}
-use borrow.Author.Rules.{rules}
 use Rattle.counts.proofs.read_count.Goals as goal
 
 pub returns-then-payload-ne-PAYLOAD : goal.returns-then-payload-ne-PAYLOAD

@@ -5,7 +5,6 @@ use mathlib.Core.Path.{sym, ap, ◌∙◌}
 use native.Mathlib.Omega.{arith}
 use Rattle.counts.specs.Counts.{form_of}
 use Rattle.counts.proofs.Tests.{eight_digits, absent_form, number_form}
-use borrow.Author.Rules.{rules}
 use Rattle.counts.proofs.stored.Goals as goal
 
 pub byte_of-requires : goal.byte_of-requires

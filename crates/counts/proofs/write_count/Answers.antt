@@ -3,7 +3,6 @@
 
 use mathlib.Core.Path.{sym, ◌∙◌}
 use Rattle.counts.proofs.Tests.{write_wrong, write-none, write-range, write_done}
-use borrow.Author.Rules.{rules}
 use Rattle.counts.proofs.write_count.Goals as goal
 
 pub returns-then-payload-ne-PAYLOAD : goal.returns-then-payload-ne-PAYLOAD
