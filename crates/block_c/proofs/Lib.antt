@@ -1,0 +1,2 @@
+-- The contracts of seal and check as C calls them.
+pub mod Contracts
