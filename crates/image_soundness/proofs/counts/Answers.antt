@@ -3,7 +3,6 @@
 
 use Rattle.catalogue_standings.proofs.Tested.{fails, holds}
 use Rattle.image_soundness.proofs.Steps.{counts_stopped, counts_broken, counts_by_length}
-use borrow.Author.Rules.{rules}
 use Rattle.image_soundness.proofs.counts.Goals as goal
 
 pub returns-then-tally : goal.returns-then-tally

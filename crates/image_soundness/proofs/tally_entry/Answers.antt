@@ -4,7 +4,6 @@
 use native.Mathlib.Omega.{arith}
 use Rattle.catalogue_standings.proofs.Tested.{fails, holds}
 use Rattle.image_soundness.proofs.Steps.{counted_enough, not_counted, is_counted}
-use borrow.Author.Rules.{rules}
 use Rattle.image_soundness.proofs.tally_entry.Goals as goal
 
 pub returns-then-not-counts : goal.returns-then-not-counts

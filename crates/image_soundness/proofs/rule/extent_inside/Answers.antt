@@ -3,7 +3,6 @@
 
 use borrow.Author.Tests.{le-leb, lt-leb}
 use Rattle.image_soundness.proofs.Steps.{first_fails, first_holds}
-use borrow.Author.Rules.{rules}
 use Rattle.image_soundness.proofs.rule.extent_inside.Goals as goal
 
 pub returns-then-blocks-lt1 : goal.returns-then-blocks-lt1

@@ -3,7 +3,6 @@
 
 use mathlib.Core.Path.{◌∙◌}
 use Rattle.image_soundness.proofs.Marks.{rule_absent, rule-paused, rule-open, rule-complete, rule-none}
-use borrow.Author.Rules.{rules}
 use Rattle.image_soundness.proofs.rule.keeps_rule.Goals as goal
 
 pub returns-then-mark-eq-ABSENT : goal.returns-then-mark-eq-ABSENT

@@ -3,7 +3,6 @@
 
 use mathlib.Core.Path.{sym, ◌∙◌}
 use Rattle.image_soundness.proofs.Steps.{either_first, either_second}
-use borrow.Author.Rules.{rules}
 use Rattle.image_soundness.proofs.rule.pause_keeps.Goals as goal
 
 pub returns-then-no_extent : goal.returns-then-no_extent

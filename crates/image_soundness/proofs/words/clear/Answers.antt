@@ -1,11 +1,8 @@
 -- `words::clear` meets its contract. The loop's invariant: the first i words are 0 and the others are as they were.
 -- Assumes nothing.
 
-use mathlib.Core.List.{◌++◌}
-use mathlib.Core.Path.{◌≡◌, ◌∙◌}
-use Prim.Native.Nat.{◌≤◌, ◌-◌}
+use mathlib.Core.Path.{◌∙◌}
 use native.Mathlib.Omega.{arith}
-use lib.ListN.{length, replicate, drop}
 use borrow.Author.Fill.{fill_more}
 use borrow.Author.Rules.{rules}
 use Rattle.block_bytes.proofs.Stores.{filled}

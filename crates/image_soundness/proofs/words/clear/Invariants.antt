@@ -2,13 +2,9 @@
 -- Assumes nothing.
 
 use mathlib.Core.List.{◌++◌}
-use mathlib.Core.Path.{◌≡◌, ◌∙◌}
+use mathlib.Core.Path.{◌≡◌}
 use Prim.Native.Nat.{◌≤◌, ◌-◌}
-use native.Mathlib.Omega.{arith}
 use lib.ListN.{length, replicate, drop}
-use borrow.Author.Fill.{fill_more}
-use borrow.Author.Rules.{rules}
-use Rattle.block_bytes.proofs.Stores.{filled}
 use Rattle.image_soundness.proofs.words.clear.Given as goal
 
 abbrev pub invariant-loop-i : goal.invariant-loop-i

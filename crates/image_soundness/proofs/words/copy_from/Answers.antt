@@ -1,10 +1,8 @@
 -- `words::copy_from` meets its contract. The loop's invariant: the words before i are those of the map.
 -- Assumes nothing.
 
-use mathlib.Core.Path.{◌≡◌, refl}
-use Prim.Native.Nat.{ℕ, ◌+◌, ◌-◌, ◌≤◌, ◌<◌}
+use mathlib.Core.Path.{refl}
 use native.Mathlib.Omega.{arith}
-use lib.ListN.{length, get_or}
 use Rattle.image_soundness.proofs.Rounds.{words_more, words_all}
 use borrow.Author.Rules.{rules}
 use Rattle.image_soundness.proofs.words.copy_from.Goals as goal

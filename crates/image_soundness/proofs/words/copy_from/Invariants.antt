@@ -1,12 +1,9 @@
 -- `words::copy_from` meets its contract. The loop's invariant: the words before i are those of the map.
 -- Assumes nothing.
 
-use mathlib.Core.Path.{◌≡◌, refl}
+use mathlib.Core.Path.{◌≡◌}
 use Prim.Native.Nat.{ℕ, ◌+◌, ◌-◌, ◌≤◌, ◌<◌}
-use native.Mathlib.Omega.{arith}
 use lib.ListN.{length, get_or}
-use Rattle.image_soundness.proofs.Rounds.{words_more, words_all}
-use borrow.Author.Rules.{rules}
 use Rattle.image_soundness.proofs.words.copy_from.Given as goal
 
 abbrev pub invariant-loop-i : goal.invariant-loop-i

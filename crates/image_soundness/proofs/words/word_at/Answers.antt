@@ -4,7 +4,6 @@
 use mathlib.Core.Path.{sym}
 use native.Mathlib.Omega.{arith}
 use lib.ListN.{get_or-eq_default}
-use borrow.Author.Rules.{rules}
 use Rattle.image_soundness.proofs.words.word_at.Goals as goal
 
 pub returns : goal.returns
