@@ -12,8 +12,9 @@ use card::Shape;
 use catalogue::Entry;
 use catalogue_standings::opening::SHEETS;
 use image_soundness::SCRATCH;
-use libc::{STDIN_FILENO, STDOUT_FILENO};
 use roles::SERVICE;
+use std::io;
+use std::io::{Read, Write};
 
 // 91 blocks, and one byte more, by which a longer input is seen.
 fn image_space() -> [u8; 46593]
@@ -52,7 +53,13 @@ fn smaller(a: usize, b: usize) -> usize
 // Prints an image as service, with as many words, entries and words of scratch as it asks for and there are at most. The text
 // has room
 // for all that is to be printed: in so many bytes nothing is cut (`prints_whole`, proofs/Whole.antt).
-fn print_card(image: &[u8], map: &mut [u64], scratch: &mut [u64], text: &mut [u8])
+fn print_card<W: Write>(
+    out: &mut W,
+    image: &[u8],
+    map: &mut [u64],
+    scratch: &mut [u64],
+    text: &mut [u8],
+) -> io::Result<()>
     requires { room ≤ ListN.length text.old }
 {
     let entries = [Entry {
@@ -76,15 +83,29 @@ fn print_card(image: &[u8], map: &mut [u64], scratch: &mut [u64], text: &mut [u8
         text,
     );
     let end = smaller(used, text.len());
-    io::write_all(STDOUT_FILENO, &text[..end]);
+    out.write_all(&text[..end])
 }
 
-fn main() {
+// Reads to the end of the input, or until all the bytes are filled, and gives how many were read.
+fn read_full<R: Read>(input: &mut R, bytes: &mut [u8]) -> io::Result<usize> {
+    let mut at = 0;
+    while at < bytes.len() {
+        let read = input.read(&mut bytes[at..])?;
+        if read == 0 {
+            break;
+        }
+        at += read;
+    }
+    Ok(at)
+}
+
+fn main(rt: HostRuntime) -> io::Result<()> {
     let mut image = image_space();
-    let read = io::read_full(STDIN_FILENO, &mut image);
+    let read = read_full(&mut rt.stdin(), &mut image)?;
     let mut map = map_space();
     let mut scratch = scratch_space();
     let mut text = text_space();
     let end = smaller(read, image.len());
-    print_card(&image[..end], &mut map, &mut scratch, &mut text);
+    let mut out = rt.stdout();
+    print_card(&mut out, &image[..end], &mut map, &mut scratch, &mut text)
 }

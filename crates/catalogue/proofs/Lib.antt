@@ -1,8 +1,3 @@
--- What every walk over entries is made of, the walk of `clear_if`, and the laws of what is found, stored and cleared.
-pub mod Arrays
-pub mod Cleared
+-- The laws of what is found, stored and cleared.
 pub mod Clearing
-pub mod Lending
-pub mod Steps
 pub mod Storing
-pub mod Values

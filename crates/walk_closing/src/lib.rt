@@ -1,3 +1,4 @@
-// No code: the proofs that closing, chains of calls and a counted loop that are lent the entries as a `&mut`, meets its
-// contracts, each for any callees and any types by value (docs/WALKS.md).
+// No code. Here stood the proofs that closing, being
+// chains of calls over a lent run of entries, meet their contracts. Today's Rattle lays out such functions by itself, and each is
+// proved in its own crate (docs/PORT.md).
 #![tactic(auto)]

@@ -1,4 +1,4 @@
-// No code: the proofs that save, load and the printer, chains of calls over a lent run of entries, meet their contracts, and so
-// does the printer's function that lends a part of a local array of entries, each for any callees and any types by value
-// (docs/WALKS.md).
+// No code. Here stood the proofs that save, load and the printer, being
+// chains of calls over a lent run of entries, meet their contracts. Today's Rattle lays out such functions by itself, and each is
+// proved in its own crate (docs/PORT.md).
 #![tactic(auto)]

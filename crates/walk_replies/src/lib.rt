@@ -1,3 +1,4 @@
-// No code: the proofs that the functions of the C library, chains of calls over a lent run of entries, meet their contracts,
-// each for any callees and any types by value (docs/WALKS.md).
+// No code. Here stood the proofs that the functions of the C library, being
+// chains of calls over a lent run of entries, meet their contracts. Today's Rattle lays out such functions by itself, and each is
+// proved in its own crate (docs/PORT.md).
 #![tactic(auto)]

@@ -1,3 +1,4 @@
-// No code: the proofs that the test of soundness, chains of calls and a counted loop over a lent run of entries, meets its
-// contracts, each for any callees and any types by value (docs/WALKS.md).
+// No code. Here stood the proofs that the test of soundness, being
+// chains of calls over a lent run of entries, meet their contracts. Today's Rattle lays out such functions by itself, and each is
+// proved in its own crate (docs/PORT.md).
 #![tactic(auto)]

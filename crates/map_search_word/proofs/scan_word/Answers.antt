@@ -1,6 +1,5 @@
 -- `map_search_word::scan_word` meets its contract: each way out by its law in `Scan.antt`.
 -- Assumes nothing.
--- the prefix test: the first bits of the word, 64 at the most, as far as they are wanted
 
 use mathlib.Core.Path.{◌≡◌, sym, ap, ◌∙◌, subst}
 use mathlib.Core.Bool.{true, false}
@@ -15,9 +14,10 @@ use Rattle.map_blocks.proofs.Bits.{bit_zero}
 use Rattle.map_blocks.proofs.Runs.{all_elim}
 use Rattle.map_search_word.proofs.Ends.{first_set}
 use Rattle.map_search_word.proofs.Scan.{prefix, core_fails, tail_below, whole, next, head_fails, head_hit, gap_hit}
-use Rattle.map_search_word.proofs.scan_word.Goals.{After-has_all, Else-has_all}
+use Rattle.map_search_word.proofs.scan_word.Goals.{After-has_all}
 use Rattle.map_search_word.proofs.scan_word.Goals as goal
 
+-- the prefix test: the first bits of the word, 64 at the most, as far as they are wanted
 tested : (c : After-has_all) → c.has_all.result
     ≡ all (bit c.args.w) 0
     (min (c.args.k - c.args.s) 64)
@@ -29,31 +29,31 @@ tested c =
     c.span.ensures ∙ ap (all (bit start.args.w) 0) e
 
 -- it failed
-early : (c : Else-has_all) → all (bit c.args.w) 0
+early : (c : After-has_all) → c.has_all.result ≡ false → all (bit c.args.w) 0
     (min (c.args.k - c.args.s) 64) ≡ false
-early c = sym (tested c) ∙ c.if-has_all.false
+early c failed = sym (tested c) ∙ failed
 
 pub returns-then-wanted-gt64 : goal.returns-then-wanted-gt64
 returns-then-wanted-gt64 c = let here = c in
     let start = here in
     let w : ℕ = start.args.w in
     let e : min (start.args.k - start.args.s) 64 ≡ 64 = omega arith in
-    let ones : all (bit w) 0 64 ≡ true = ap (all (bit w) 0) (sym e) ∙ sym (tested here) ∙ c.if-has_all.true in (
-      (omega arith, omega arith),
-      λ f same at. whole f _ _ _ w same at (omega arith) (λ j l. all_elim (bit w) 0 64 ones j (omega arith) (omega arith)),
-    )
+    let ones : all (bit w) 0 64 ≡ true = ap (all (bit w) 0) (sym e) ∙ sym (tested (goal.at.returns-then-wanted-gt64 c).After-has_all) ∙ c.if-has_all.true in record {
+      bounded = (omega arith, omega arith);
+      by_index = λ f same at. whole f _ _ _ w same at (omega arith) (λ j l. all_elim (bit w) 0 64 ones j (omega arith) (omega arith));
+    }
 
 pub returns-then-has_all : goal.returns-then-has_all
 returns-then-has_all c = let here = c in
     let start = here in
     let w : ℕ = start.args.w in
     let e : min (start.args.k - start.args.s) 64 ≡ start.args.k - start.args.s = omega arith in
-    let ones : all (bit w) 0 (start.args.k - start.args.s) ≡ true = ap (all (bit w) 0) (sym e) ∙ sym (tested here)
-    ∙ c.if-has_all.true in (
-      omega (arith, c.run_start.ensures),
-      λ f same at. subst (Least f start.args.k) (sym c.run_start.ensures)
-          (head_hit f _ _ _ w same at (omega arith) ones (omega arith)),
-    )
+    let ones : all (bit w) 0 (start.args.k - start.args.s) ≡ true = ap (all (bit w) 0) (sym e) ∙ sym (tested (goal.at.returns-then-has_all c).After-has_all)
+    ∙ c.if-has_all.true in record {
+      bounded = omega (arith, c.run_start.ensures);
+      by_index = λ f same at. subst (Least f start.args.k) (sym c.run_start.ensures)
+          (head_hit f _ _ _ w same at (omega arith) ones (omega arith));
+    }
 
 pub returns-then-g-eq0 : goal.returns-then-g-eq0
 returns-then-g-eq0 c = let at-if1 = c in
@@ -62,11 +62,11 @@ returns-then-g-eq0 c = let at-if1 = c in
     let tail : Tail w c.tail.result = c.tail.ensures in
     let none : (j : ℕ) → j + start.args.k ≤ 64 → all (bit w) j start.args.k ≡ false =
     λ j u. sym (c.gaps-g.ensures j) ∙ ap (λ (x : ℕ). bit x j) c.if-g-eq0.true ∙ bit_zero j in
-    let below : c.tail.result < start.args.k = tail_below w c.tail.result start.args.k none tail in (
-      (below, omega (arith, tail.within)),
-      λ f same at. next f _ _ _ w same at c.tail.result tail below
-          (head_fails f _ _ _ w same at _ (omega arith) (omega arith) (omega arith) (early at-if1)) none,
-    )
+    let below : c.tail.result < start.args.k = tail_below w c.tail.result start.args.k none tail in record {
+      bounded = (below, omega (arith, tail.within));
+      by_index = λ f same at. next f _ _ _ w same at c.tail.result tail below
+          (head_fails f _ _ _ w same at _ (omega arith) (omega arith) (omega arith) (early (goal.at.returns-then-g-eq0 c).After-has_all c.if-has_all.false)) none;
+    }
 
 pub overflow_add-result-then-has_all-2 : goal.overflow_add-result-then-has_all-2
 overflow_add-result-then-has_all-2 c = omega (arith, leading_le 64 c.gaps-g.result)
@@ -75,12 +75,12 @@ pub returns-then-has_all-2 : goal.returns-then-has_all-2
 returns-then-has_all-2 c = let at-if1 = c in
     let start = at-if1 in
     let w : ℕ = start.args.w in
-    let g : ℕ = c.gaps-g.result in (
-      omega (arith, leading_le 64 g),
-      λ f same at.
+    let g : ℕ = c.gaps-g.result in record {
+      bounded = omega (arith, leading_le 64 g);
+      by_index = λ f same at.
           gap_hit f _ _ _ w same at g (count_leading_zeros 64 g) c.gaps-g.ensures (first_set g (omega arith) (omega arith))
-          (head_fails f _ _ _ w same at _ (omega arith) (omega arith) (omega arith) (early at-if1)),
-    )
+          (head_fails f _ _ _ w same at _ (omega arith) (omega arith) (omega arith) (early (goal.at.returns-then-has_all-2 c).After-has_all c.if-has_all.false));
+    }
 
 pub returns : goal.returns
 returns c = let at-if1 = c in
@@ -90,8 +90,8 @@ returns c = let at-if1 = c in
     let none : (j : ℕ) → j + start.args.k ≤ 64 → all (bit w) j start.args.k ≡ false =
     core_fails w start.args.core start.args.k start.requires.3
     (sym c.has_all-2.ensures ∙ c.if-has_all-2.false) in
-    let below : c.tail-2.result < start.args.k = tail_below w c.tail-2.result start.args.k none tail in (
-      (below, omega (arith, tail.within)),
-      λ f same at. next f _ _ _ w same at c.tail-2.result tail below
-          (head_fails f _ _ _ w same at _ (omega arith) (omega arith) (omega arith) (early at-if1)) none,
-    )
+    let below : c.tail-2.result < start.args.k = tail_below w c.tail-2.result start.args.k none tail in record {
+      bounded = (below, omega (arith, tail.within));
+      by_index = λ f same at. next f _ _ _ w same at c.tail-2.result tail below
+          (head_fails f _ _ _ w same at _ (omega arith) (omega arith) (omega arith) (early (goal.at.returns c).After-has_all c.if-has_all.false)) none;
+    }

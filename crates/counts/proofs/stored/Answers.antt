@@ -1,0 +1,24 @@
+-- `stored` meets its contract, case by case.
+-- Assumes nothing.
+
+use mathlib.Core.Path.{sym, ap, ◌∙◌}
+use native.Mathlib.Omega.{arith}
+use Rattle.counts.specs.Counts.{form_of}
+use Rattle.counts.proofs.Tests.{eight_digits, absent_form, number_form}
+use borrow.Author.Rules.{rules}
+use Rattle.counts.proofs.stored.Goals as goal
+
+pub byte_of-requires : goal.byte_of-requires
+byte_of-requires c = let start = c in
+    omega (arith, eight_digits start.args.count _ start.requires c.in-Hundredths.is)
+
+pub returns-in-Absent : goal.returns-in-Absent
+returns-in-Absent c = absent_form ∙ ap form_of (sym c.in-Absent.is)
+
+pub returns-in-Hundredths : goal.returns-in-Hundredths
+returns-in-Hundredths c = number_form _ _ _ _ _
+    c.byte_of.ensures
+    c.byte_of-in-Hundredths.ensures
+    c.byte_of-in-Hundredths-2.ensures
+    c.byte_of-in-Hundredths-3.ensures
+    ∙ ap form_of (sym c.in-Hundredths.is)

@@ -1,0 +1,19 @@
+-- `map_search::scan_words` meets its contract. The loop's invariant: what is carried from `first` on to `i`.
+-- Assumes nothing.
+
+use mathlib.Core.Path.{◌≡◌, subst}
+use mathlib.Core.Bool.{Bool}
+use Prim.Native.Nat.{ℕ, ◌+◌, ◌-◌, ◌*◌, ◌<◌, ◌≤◌}
+use native.Mathlib.Omega.{arith}
+use borrow.Author.Rules.{rules}
+use Rattle.map_search_word.specs.Scan.{Carried, Stepped, Bounded}
+use Rattle.map_search.specs.Search.{HasBits}
+use Rattle.map_search_word.specs.declared.Step.TheVariants.{Next}
+use Rattle.map_search.proofs.scan_words.Given as goal
+
+abbrev pub invariant-loop-i : goal.invariant-loop-i
+invariant-loop-i l = (l.first ≤ l.i) × (l.i ≤ l.stop) × (l.carried ≤ l.i * 64) × (l.carried < l.k)
+    × ((f : ℕ → Bool) → HasBits l.map l.first l.stop f → Carried f l.k (l.first * 64) l.s → Carried f l.k (l.i * 64) l.carried)
+
+abbrev pub decreases-loop-i : goal.decreases-loop-i
+decreases-loop-i l = l.stop - l.i

@@ -1,0 +1,18 @@
+-- `map_search::skip_taken` meets its contract. The loop's invariant: what is carried from `first` on to `i`.
+-- Assumes nothing.
+
+use mathlib.Core.Bool.{Bool}
+use Prim.Native.Nat.{ℕ, ◌+◌, ◌-◌, ◌*◌, ◌≤◌}
+use native.Mathlib.Omega.{arith}
+use borrow.Author.Rules.{rules}
+use Rattle.map_search_word.specs.Scan.{Carried}
+use Rattle.map_search.specs.Search.{HasBits}
+use Rattle.map_search.proofs.Words.{past_taken, zero_words}
+use Rattle.map_search.proofs.skip_taken.Given as goal
+
+abbrev pub invariant-loop-i : goal.invariant-loop-i
+invariant-loop-i l = (l.first ≤ l.i) × (l.i ≤ l.stop) × (l.carried ≤ l.s)
+    × ((f : ℕ → Bool) (k : ℕ) → HasBits l.map l.first l.stop f → Carried f k (l.first * 64) l.s → Carried f k (l.i * 64) l.carried)
+
+abbrev pub decreases-loop-i : goal.decreases-loop-i
+decreases-loop-i l = l.stop - l.i

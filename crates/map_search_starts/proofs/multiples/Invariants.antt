@@ -1,0 +1,18 @@
+-- `map_search_starts::multiples` meets its contract. The loop's invariant: m has the multiples below `done`, which is one
+-- itself.
+-- Assumes nothing.
+
+use mathlib.Core.Path.{◌≡◌, sym, ap, ◌∙◌}
+use Prim.Native.Nat.{ℕ, ◌+◌, ◌-◌, ◌/◌, ◌%◌, ◌^◌, ◌<◌, ◌≤◌}
+use native.Mathlib.Nat.{mod_self, mod-add-mod, zero-add, div-le_self}
+use native.Mathlib.Omega.{arith}
+use lib.Bits.{or_lt}
+use Rattle.map_search_starts.proofs.Steps.{Below, one_below, twice_below, all_below}
+use borrow.Author.Rules.{rules}
+use Rattle.map_search_starts.proofs.multiples.Given as goal
+
+abbrev pub invariant-loop-done : goal.invariant-loop-done
+invariant-loop-done l = (0 < l.done) × (l.done < 128) × (l.done % l.step ≡ 0) × (l.m < 2 ^ 64) × Below l.step l.done l.m
+
+abbrev pub decreases-loop-done : goal.decreases-loop-done
+decreases-loop-done l = 128 - l.done

@@ -1,0 +1,16 @@
+-- `summary::check` meets its contract: the summary is the map's own exactly if every group below group 0 is right.
+-- Assumes nothing.
+
+use lib.ListN.{length}
+use borrow.Author.Rules.{rules}
+use Rattle.summary.proofs.Own.{decided, sited_whole}
+use Rattle.summary.proofs.check.Goals as goal
+
+pub right_below-requires : goal.right_below-requires
+right_below-requires c = let start = c in
+    let lent = start.requires in
+    (lent, sited_whole _ _ _ _ lent (c.words_of.ensures (length start.args.map.now) lent.long))
+
+pub returns : goal.returns
+returns c = let start = c in
+    decided start.args.map.now start.args.n start.args.summary.now start.requires _ c.right_below.ensures

@@ -1,0 +1,25 @@
+-- `summary_write::store_leaves` meets its contract. The invariant: the groups of the words lo to i - 1 are stored.
+-- Assumes nothing.
+
+use mathlib.Core.Path.{◌≡◌, refl, sym, ap, ◌∙◌, subst}
+use mathlib.Core.List.{List}
+use Prim.Native.Nat.{ℕ, ◌+◌, ◌-◌, ◌*◌, ◌≤◌, ◌<◌}
+use native.Mathlib.Omega.{arith}
+use lib.ListN.{length}
+use borrow.Author.Rules.{rules}
+use Rattle.summary_groups.specs.declared.Group.{Group}
+use Rattle.summary_groups.specs.Groups.{power, group_of}
+use Rattle.summary_groups.proofs.Places.{power_small}
+use Rattle.summary.specs.Summary.{usable}
+use Rattle.summary.specs.Walks.{with_group}
+use Rattle.summary_write.specs.Climbs.{Stores}
+use Rattle.summary_write.proofs.Stored.{none_stored, one_stored, next_stored, stored_all}
+use Rattle.summary_write.proofs.store_leaves.Given as goal
+
+abbrev pub invariant-loop-i : goal.invariant-loop-i
+invariant-loop-i l = (l.lo ≤ l.i) × (l.i ≤ l.hi) × (length l.summary ≡ length l.initial.summary)
+    × ((aim : ℕ → Group) → ((i : ℕ) → l.lo ≤ i → i < l.hi → group_of (usable l.map l.n) (64 * i) 64 ≡ aim (l.leaf + i))
+    → Stores aim l.initial.summary l.summary (l.leaf + l.lo) (l.leaf + l.i))
+
+abbrev pub decreases-loop-i : goal.decreases-loop-i
+decreases-loop-i l = l.hi - l.i

@@ -1,0 +1,29 @@
+-- `survey::prepend_word` meets its contract, each way by the function it calls.
+-- Assumes nothing.
+-- a word with no free block
+
+use mathlib.Core.Path.{sym, subst}
+use mathlib.Core.List.{◌++◌}
+use Prim.Native.Nat.{ℕ}
+use native.Mathlib.Omega.{arith}
+use Rattle.survey_bytes.specs.Bytes.{bits_of}
+use Rattle.survey_words.specs.Passing.{Summary}
+use Rattle.survey.proofs.Taken.{past_zero}
+use borrow.Author.Rules.{rules}
+use Rattle.survey.proofs.prepend_word.Goals as goal
+
+pub returns-then-w-eq0 : goal.returns-then-w-eq0
+returns-then-w-eq0 c = let a = c.args in record {
+  summary = λ ys s.
+      subst (λ (w : ℕ). Summary 0 a.passed.longest a.passed.runs (bits_of 64 w ++ ys)) (sym c.if-w-eq0.true)
+      (past_zero _ _ a.passed.head ys s);
+  head_bound_2 = omega arith;
+}
+
+pub prepend_word_short-requires : goal.prepend_word_short-requires
+prepend_word_short-requires c = let start = c in
+    record { ruled = (start.requires.ruled, c.bytes_short.ensures c.if-bytes_short.true); le_longest = (omega arith, omega arith, omega arith) }
+
+pub prepend_word_apart-requires : goal.prepend_word_apart-requires
+prepend_word_apart-requires c = let start = c in
+    record { ruled = (start.requires.ruled, c.bytes_apart.ensures c.if-bytes_apart.true); head_bound = start.requires.head_bound }
