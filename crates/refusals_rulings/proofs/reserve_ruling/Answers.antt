@@ -1,5 +1,6 @@
 -- `refusals_rulings::reserve_ruling` meets its contract: each way out by its row.
 -- Assumes nothing.
+
 use mathlib.Core.Path.{◌≡◌, sym, ap, ◌∙◌}
 use Prim.Native.Nat.{ℕ}
 use native.Mathlib.Omega.{arith}
@@ -17,8 +18,7 @@ use Rattle.refusals.proofs.Room.{reserve_verdict_on, reserve_start_on}
 use Rattle.refusals_rulings.specs.Rulings.{ruling_of}
 use Rattle.refusals_rulings.specs.declared.Ruling.TheVariants as ruling
 use Rattle.refusals_rulings.proofs.Rulings.{ruled, by_first}
-use Rattle.refusals_rulings.proofs.reserve_ruling.Statement.{statement}
-use Rattle.refusals_rulings.proofs.reserve_ruling.Tie as tie
+use Rattle.refusals_rulings.proofs.reserve_ruling.Goals as goal
 
 module _ (q : Lent) (k : ℕ) (p : Placement) where
   -- the ruling, where no row before the search holds
@@ -26,29 +26,24 @@ module _ (q : Lent) (k : ℕ) (p : Placement) where
       → ruling_of v (reserve_start_on q k p) ≡ ruling_of (reserve_verdict_on q k p) (reserve_start_on q k p)
   by_search comes v h = ruled (reserve_start_on q k p) v (reserve_verdict_on q k p) (searched q k p v comes h)
 
-reserve-row-requires : tie.Need-reserve-row-requires
-reserve-row-requires c κs = search rules
-
-returns : tie.Need-returns
-returns c =
-    let call = c.before.reserve-row in
-    let a = c.before.before.before.before.before.args in
+pub returns-then-row-ne0 : goal.returns-then-row-ne0
+returns-then-row-ne0 c = let call = c.reserve_row-row in
+    let a = c.args in
     let q = called_by (turned_away a.role a.call) (lent_within a.held a.limits.now a.guided a.summary.now a.n a.free a.map.now
     a.card.now
     a.c a.entry a.sheet) in
     let p = placed a.figures in
     by_first (reserve_start_on q a.k p) (unsearched_verdict q a.k p) (first_of (searching q a.k p))
-    (reserve_verdict_on q a.k p) call.result (verdict_behind q a.k p) call.ensures c.if1.true
+    (reserve_verdict_on q a.k p) call.result (verdict_behind q a.k p) call.ensures c.if-row-ne0.true
 
-find-run-requires : tie.Need-find-run-requires
-find-run-requires c κs =
-    let call = c.before.reserve-row in
-    let a = c.before.before.before.before.before.args in
+pub find_run-found-requires : goal.find_run-found-requires
+find_run-found-requires c = let call = c.reserve_row-row in
+    let a = c.args in
     let q = called_by (turned_away a.role a.call) (lent_within a.held a.limits.now a.guided a.summary.now a.n a.free a.map.now
     a.card.now
     a.c a.entry a.sheet) in
     let w = passed q a.k (placed a.figures)
-    (unsearched_zero q a.k (placed a.figures) (sym call.ensures ∙ c.if1.false)) in
+    (unsearched_zero q a.k (placed a.figures) (sym call.ensures ∙ c.if-row-ne0.false)) in
     let opens = given q a.k w.opens in
     let g = figured a.n a.figures w.right in (
       omega (arith, opens.sizes.shape.words, opens.sizes.shape.limit),
@@ -59,60 +54,36 @@ find-run-requires c κs =
       omega (arith, g.stepped),
     )
 
-enum-known-found : tie.Need-enum-known-found
-enum-known-found c = search rules
-
-enum_told : tie.Need-enum-told
-enum_told c = search rules
-
-returns-2 : tie.Need-returns-2
-returns-2 c =
-    let a = c.before.before.before.before.before.before.before.before.args in
+pub returns-in_default : goal.returns-in_default
+returns-in_default c = let a = c.args in
     let q = called_by (turned_away a.role a.call) (lent_within a.held a.limits.now a.guided a.summary.now a.n a.free a.map.now
     a.card.now
     a.c a.entry a.sheet) in
     let p = placed a.figures in
     let comes = unsearched_zero q a.k p
-    (sym c.before.before.before.before.reserve-row.ensures ∙ c.before.before.before.if1.false) in
+    (sym c.reserve_row-row.ensures ∙ c.if-row-ne0.false) in
     by_search q a.k p comes (refused 10)
-    (no_fit q a.k p (sym c.before.before.find-run.ensures ∙ c.enum_told.given.1))
+    (no_fit q a.k p (sym c.find_run-found.ensures ∙ c.in_default.is))
 
-returns-3 : tie.Need-returns-3
-returns-3 c =
-    let a = c.before.before.before.before.before.before.before.before.before.before.args in
+pub returns-then-free-k : goal.returns-then-free-k
+returns-then-free-k c = let a = c.args in
     let q = called_by (turned_away a.role a.call) (lent_within a.held a.limits.now a.guided a.summary.now a.n a.free a.map.now
     a.card.now
     a.c a.entry a.sheet) in
     let p = placed a.figures in
     let comes = unsearched_zero q a.k p
-    (sym c.before.before.before.before.before.before.reserve-row.ensures ∙ c.before.before.before.before.before.if1.false) in
-    let place = c.before.before.found.given in
+    (sym c.reserve_row-row.ensures ∙ c.if-row-ne0.false) in
     by_search q a.k p comes (refused 4)
-    (too_few q a.k p place.0.0 (sym c.before.before.before.before.find-run.ensures ∙ place.1) c.if2.true)
+    (too_few q a.k p c.in-At.least (sym c.find_run-found.ensures ∙ c.in-At.is) c.if-free-k.true)
 
-returns-4 : tie.Need-returns-4
-returns-4 c =
-    let a = c.before.before.before.before.before.before.before.before.before.before.args in
+pub returns : goal.returns
+returns c = let a = c.args in
     let q = called_by (turned_away a.role a.call) (lent_within a.held a.limits.now a.guided a.summary.now a.n a.free a.map.now
     a.card.now
     a.c a.entry a.sheet) in
     let p = placed a.figures in
     let comes = unsearched_zero q a.k p
-    (sym c.before.before.before.before.before.before.reserve-row.ensures ∙ c.before.before.before.before.before.if1.false) in
-    let place = c.before.before.found.given in
-    let fit = sym c.before.before.before.before.find-run.ensures ∙ place.1 in
-    ap ruling.At (starts q a.k p place.0.0 fit)
-    ∙ by_search q a.k p comes accepted (passes q a.k p place.0.0 fit c.if2.false)
-
-pub reserve_ruling_spec : {M : Type 1} → statement M
-reserve_ruling_spec =
-    tie.close
-    (tie.spec
-    reserve-row-requires
-    returns
-    find-run-requires
-    enum-known-found
-    enum_told
-    returns-2
-    returns-3
-    returns-4)
+    (sym c.reserve_row-row.ensures ∙ c.if-row-ne0.false) in
+    let fit = sym c.find_run-found.ensures ∙ c.in-At.is in
+    ap ruling.At (starts q a.k p c.in-At.least fit)
+    ∙ by_search q a.k p comes accepted (passes q a.k p c.in-At.least fit c.if-free-k.false)
