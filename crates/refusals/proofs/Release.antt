@@ -85,7 +85,7 @@ module _ (q : Lent) where
   module _ (s : Standing) {o : Opened} (given : o ≡ first) (told : o ≡ Stands s) where
     -- the limits, and the extent to be freed
     pub limits : Fits q.n q.spare (length q.map)
-    limits = lent-laws.sized-at q (lent-laws.opens_at q s [] (sym given ∙ told)).all_fits_lem
+    limits = lent-laws.sized_at q (lent-laws.opens_at q s [] (sym given ∙ told)).all_fits_lem
 
     pub extent : Inside q.n q.entry stands
     extent = inside_of q.n (free q.map) q.entry (lent-laws.opens_at q s [] (sym given ∙ told)).whole
@@ -122,4 +122,4 @@ module _ (q : Lent) where
 -- what an accepted release shows of the lengths
 pub release_sized : (q : Lent) → release_verdict q ≡ accepted → Fits q.n q.spare (length q.map)
 unfolding release_verdict view_at table_of
-release_sized q h = lent-laws.sized-at q (not-false _ (clear 1 (table_of (view_at q) (on q.sheet release)) h).0)
+release_sized q h = lent-laws.sized_at q (not-false _ (clear 1 (table_of (view_at q) (on q.sheet release)) h).0)

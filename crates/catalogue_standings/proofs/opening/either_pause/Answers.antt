@@ -1,11 +1,9 @@
 -- `catalogue_standings::opening::either_pause` meets its contract: without blocks no extent holds, and else they are not 0.
 -- Assumes nothing.
--- an extent of no blocks does not hold
 
 use mathlib.Core.Path.{◌≡◌, refl, sym, ap, ◌∙◌}
 use mathlib.Core.Bool.{Bool, true, false, ◌&&◌, cond}
 use Prim.Native.Nat.{ℕ}
-use borrow.Author.Rules.{rules}
 use borrow.Author.Tests.{ne_eqb}
 use lib.Dec.{eqb}
 use Rattle.map_blocks.specs.Blocks.{free}
@@ -14,6 +12,7 @@ use Rattle.catalogue_standings.specs.declared.Standing.{Standing}
 use Rattle.catalogue_standings.specs.declared.Standing.TheVariants.{Paused, PausedWith, Damaged}
 use Rattle.catalogue_standings.proofs.opening.either_pause.Goals as goal
 
+-- an extent of no blocks does not hold
 none-holds : (n : ℕ) (free : ℕ → Bool) (start blocks : ℕ) (z : Bool) (s t : Standing) → blocks ≡ 0
     → cond z s Damaged ≡ cond z s (cond (extent_holds n free start blocks) t Damaged)
 unfolding extent_holds

@@ -3,7 +3,6 @@
 
 use Prim.Native.Nat.{◌+◌, ◌<◌, ◌≤◌}
 use native.Mathlib.Omega.{arith}
-use borrow.Author.Rules.{rules}
 use borrow.Author.Tests.{le-leb, lt-leb}
 use Rattle.catalogue_standings.specs.Standings.{extent_holds}
 use Rattle.catalogue_standings.proofs.opening.extent_holds.Goals as goal
