@@ -1,5 +1,7 @@
 -- `call_search::fresh` meets its contract: refused with the map as it was, or the fresh map.
 -- Assumes nothing.
+-- fresh fits, test by test
+
 use mathlib.Core.Path.{◌≡◌, refl, sym, ap, ◌∙◌}
 use mathlib.Core.Bool.{Bool, true, false, not}
 use mathlib.Core.List.{List, []}
@@ -14,10 +16,8 @@ use Rattle.catalogue_standings.proofs.Limits.{fits}
 use Rattle.catalogue_standings.proofs.Openings.{skip, stop, none_left}
 use Rattle.catalogue_standings.proofs.Tested.{fails, holds}
 use Rattle.call_search.specs.Answers.{fresh_verdict, fresh_number, fresh_map}
-use Rattle.call_search.proofs.fresh.Statement.{statement}
-use Rattle.call_search.proofs.fresh.Tie as tie
+use Rattle.call_search.proofs.fresh.Goals as goal
 
--- fresh fits, test by test
 module _ (n maplen c : ℕ) where
   no-shape : shape_fits n n maplen ≡ false → fresh_fits n maplen c ≡ false
   unfolding fresh_fits
@@ -52,71 +52,40 @@ module _ (turned : Bool) (n : ℕ) (map after : List ℕ) (c : ℕ) where
     unfolding fresh_verdict
     passes e = skip 21 _ _ accepted may (skip 1 _ [] accepted (ap not e) none_left)
 
-turned-away-requires : tie.Need-turned-away-requires
-turned-away-requires c κs = search rules
-
-returns : tie.Need-returns
-returns c =
-    let a = c.before.before.before.args in
+pub returns-then-turned_away : goal.returns-then-turned_away
+returns-then-turned_away c = let a = c.args in
     settled _ a.n a.map.now a.map.now a.c (refused 21)
-    (away _ a.n a.map.now a.map.now a.c (sym c.before.turned-away.ensures ∙ c.if1.true)) refl
+    (away _ a.n a.map.now a.map.now a.c (sym c.turned_away.ensures ∙ c.if-turned_away.true)) refl
 
-shape-fits-requires : tie.Need-shape-fits-requires
-shape-fits-requires c κs = search rules
-
-returns-2 : tie.Need-returns-2
-returns-2 c =
-    let role = c.before.before in
-    let a = role.before.before.before.args in
+pub returns-then-not-shape_fits : goal.returns-then-not-shape_fits
+returns-then-not-shape_fits c = let role = c in
+    let a = role.args in
     settled _ a.n a.map.now a.map.now a.c (refused 1)
-    (shut _ a.n a.map.now a.map.now a.c (sym role.before.turned-away.ensures ∙ role.if1.false)
-    (no-shape _ _ a.c (fails c.before.shape-fits.ensures c.if2.true))) refl
+    (shut _ a.n a.map.now a.map.now a.c (sym role.turned_away.ensures ∙ role.if-turned_away.false)
+    (no-shape _ _ a.c (fails c.shape_fits.ensures c.if-not-shape_fits.true-raw))) refl
 
-sheets-fit-requires : tie.Need-sheets-fit-requires
-sheets-fit-requires c κs = search rules
-
-returns-3 : tie.Need-returns-3
-returns-3 c =
-    let shape = c.before.before in
-    let role = shape.before.before in
-    let a = role.before.before.before.args in
+pub returns-then-not-sheets_fit : goal.returns-then-not-sheets_fit
+returns-then-not-sheets_fit c = let shape = c in
+    let role = shape in
+    let a = role.args in
     settled _ a.n a.map.now a.map.now a.c (refused 1)
-    (shut _ a.n a.map.now a.map.now a.c (sym role.before.turned-away.ensures ∙ role.if1.false)
-    (no-sheets _ _ a.c (holds shape.before.shape-fits.ensures shape.if2.false)
-    (fails c.before.sheets-fit.ensures c.if3.true))) refl
+    (shut _ a.n a.map.now a.map.now a.c (sym role.turned_away.ensures ∙ role.if-turned_away.false)
+    (no-sheets _ _ a.c (holds shape.shape_fits.ensures shape.if-not-shape_fits.false-raw)
+    (fails c.sheets_fit.ensures c.if-not-sheets_fit.true-raw))) refl
 
-fresh-requires : tie.Need-fresh-requires
-fresh-requires c κs =
-    let shape = c.before.before.before in
-    let f = fits _ _ _ (holds shape.before.shape-fits.ensures shape.if2.false) in
+pub fresh-requires : goal.fresh-requires
+fresh-requires c = let shape = c in
+    let f = fits _ _ _ (holds shape.shape_fits.ensures shape.if-not-shape_fits.false-raw) in
     omega (arith, f.limit, f.words)
 
-same_length : tie.Need-same-length
-same_length c = search rules
-
-returns-4 : tie.Need-returns-4
-returns-4 c =
-    let sheets = c.before.before.before.before in
-    let shape = sheets.before.before in
-    let role = shape.before.before in
-    let a = role.before.before.before.args in
-    let after = c.before.before.fresh.new.0 in
+pub returns : goal.returns
+returns c = let sheets = c in
+    let shape = sheets in
+    let role = shape in
+    let a = role.args in
+    let after = c.fresh.new.map in
     settled _ a.n a.map.now after a.c accepted
-    (passes _ a.n a.map.now after a.c (sym role.before.turned-away.ensures ∙ role.if1.false)
-    (both _ _ a.c (holds shape.before.shape-fits.ensures shape.if2.false)
-    (holds sheets.before.sheets-fit.ensures sheets.if3.false)))
-    c.before.before.fresh.ensures
-
-pub fresh_spec : {M : Type 1} → statement M
-fresh_spec =
-    tie.close
-    (tie.spec
-    turned-away-requires
-    returns
-    shape-fits-requires
-    returns-2
-    sheets-fit-requires
-    returns-3
-    fresh-requires
-    same_length
-    returns-4)
+    (passes _ a.n a.map.now after a.c (sym role.turned_away.ensures ∙ role.if-turned_away.false)
+    (both _ _ a.c (holds shape.shape_fits.ensures shape.if-not-shape_fits.false-raw)
+    (holds sheets.sheets_fit.ensures sheets.if-not-sheets_fit.false-raw)))
+    c.fresh.ensures

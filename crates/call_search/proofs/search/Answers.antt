@@ -1,5 +1,6 @@
 -- `call_search::search` meets its contract: each way out by its row, and the start by what the map's search found.
 -- Assumes nothing.
+
 use mathlib.Core.Path.{◌≡◌, sym, ap, ◌∙◌}
 use mathlib.Core.Bool.{Bool, true, false, not}
 use mathlib.Core.List.{List, [], ◌∷◌}
@@ -20,8 +21,7 @@ use Rattle.catalogue_standings.proofs.Limits.{fits}
 use Rattle.catalogue_standings.proofs.Openings.{skip, stop, none_left}
 use Rattle.catalogue_standings.proofs.Tested.{fails, holds}
 use Rattle.call_search.specs.Answers.{search_answer}
-use Rattle.call_search.proofs.search.Statement.{statement}
-use Rattle.call_search.proofs.search.Tie as tie
+use Rattle.call_search.proofs.search.Goals as goal
 
 module _ (turned : Bool) (n spare : ℕ) (map : List ℕ) (k : ℕ) where
   abbrev found : Found
@@ -58,92 +58,56 @@ module _ (turned : Bool) (n spare : ℕ) (map : List ℕ) (k : ℕ) where
             skip 21 _ _ accepted may
             (skip 1 _ _ accepted (ap not fit) (skip 3 _ _ accepted some (skip 10 _ _ accepted (ap none e) none_left)))
 
-turned-away-requires : tie.Need-turned-away-requires
-turned-away-requires c κs = search rules
-
-returns : tie.Need-returns
-returns c =
-    let a = c.before.before.before.args in
+pub returns-then-turned_away : goal.returns-then-turned_away
+returns-then-turned_away c = let a = c.args in
     out _ a.n a.free a.map.now a.k (refused 21)
-    (away _ a.n a.free a.map.now a.k (sym c.before.turned-away.ensures ∙ c.if1.true))
+    (away _ a.n a.free a.map.now a.k (sym c.turned_away.ensures ∙ c.if-turned_away.true))
 
-shape-fits-requires : tie.Need-shape-fits-requires
-shape-fits-requires c κs = search rules
-
-returns-2 : tie.Need-returns-2
-returns-2 c =
-    let role = c.before.before in
-    let a = role.before.before.before.args in
+pub returns-then-not-shape_fits : goal.returns-then-not-shape_fits
+returns-then-not-shape_fits c = let role = c in
+    let a = role.args in
     out _ a.n a.free a.map.now a.k (refused 1)
-    (shut _ a.n a.free a.map.now a.k (sym role.before.turned-away.ensures ∙ role.if1.false)
-    (fails c.before.shape-fits.ensures c.if2.true))
+    (shut _ a.n a.free a.map.now a.k (sym role.turned_away.ensures ∙ role.if-turned_away.false)
+    (fails c.shape_fits.ensures c.if-not-shape_fits.true-raw))
 
-returns-3 : tie.Need-returns-3
-returns-3 c =
-    let shape = c.before in
-    let role = shape.before.before in
-    let a = role.before.before.before.args in
+pub returns-then-k-eq0 : goal.returns-then-k-eq0
+returns-then-k-eq0 c = let shape = c in
+    let role = shape in
+    let a = role.args in
     out _ a.n a.free a.map.now a.k (refused 3)
-    (empty _ a.n a.free a.map.now a.k (sym role.before.turned-away.ensures ∙ role.if1.false)
-    (holds shape.before.shape-fits.ensures shape.if2.false) c.if3.true)
+    (empty _ a.n a.free a.map.now a.k (sym role.turned_away.ensures ∙ role.if-turned_away.false)
+    (holds shape.shape_fits.ensures shape.if-not-shape_fits.false-raw) c.if-k-eq0.true)
 
-search-card-requires : tie.Need-search-card-requires
-search-card-requires c κs =
-    let shape = c.before in
-    let f = fits _ _ _ (holds shape.before.shape-fits.ensures shape.if2.false) in
+pub search_card-found-requires : goal.search_card-found-requires
+search_card-found-requires c = let shape = c in
+    let f = fits _ _ _ (holds shape.shape_fits.ensures shape.if-not-shape_fits.false-raw) in
     (omega (arith, f.some), omega (arith, f.limit), omega (arith, f.some, f.covered), omega arith)
 
-enum-known-found : tie.Need-enum-known-found
-enum-known-found c = search rules
-
-enum_told : tie.Need-enum-told
-enum_told c = search rules
-
-space-requires : tie.Need-space-requires
-space-requires c κs =
-    let shape = c.before.before.before.before.before in
-    let f = fits _ _ _ (holds shape.before.shape-fits.ensures shape.if2.false) in
+pub space-requires : goal.space-requires
+space-requires c = let shape = c in
+    let f = fits _ _ _ (holds shape.shape_fits.ensures shape.if-not-shape_fits.false-raw) in
     (omega (arith, f.limit), omega (arith, f.covered))
 
-returns-4 : tie.Need-returns-4
-returns-4 c =
-    let some = c.before.before.before in
-    let shape = some.before in
-    let role = shape.before.before in
-    let a = role.before.before.before.args in
+pub returns-in_default : goal.returns-in_default
+returns-in_default c = let some = c in
+    let shape = some in
+    let role = shape in
+    let a = role.args in
     out _ a.n a.free a.map.now a.k (refused 10)
-    (nothing _ a.n a.free a.map.now a.k (sym role.before.turned-away.ensures ∙ role.if1.false)
-    (holds shape.before.shape-fits.ensures shape.if2.false) (ne_eqb _ _ some.if3.false)
-    (sym c.before.before.search-card.ensures ∙ c.enum_told.given.1))
+    (nothing _ a.n a.free a.map.now a.k (sym role.turned_away.ensures ∙ role.if-turned_away.false)
+    (holds shape.shape_fits.ensures shape.if-not-shape_fits.false-raw) (ne_eqb _ _ some.if-k-eq0.false)
+    (sym c.search_card-found.ensures ∙ c.in_default.is))
 
-returns-5 : tie.Need-returns-5
-returns-5 c =
-    let known = c.before.before in
-    let at = known.found.given in
-    let some = known.before.before.before in
-    let shape = some.before in
-    let role = shape.before.before in
-    let a = role.before.before.before.args in
-    let here = sym known.before.before.search-card.ensures ∙ at.1 in
-    ap (Start at.0.0) c.space.ensures
+pub returns : goal.returns
+returns c = let known = c in
+    let some = known in
+    let shape = some in
+    let role = shape in
+    let a = role.args in
+    let here = sym known.search_card-found.ensures ∙ known.in-At.is in
+    ap (Start known.in-At.start) c.space.ensures
     ∙ ap (start_with_space (free a.map.now) a.n) (sym (ap start_at here))
     ∙ out _ a.n a.free a.map.now a.k accepted
-    (passes _ a.n a.free a.map.now a.k (sym role.before.turned-away.ensures ∙ role.if1.false)
-    (holds shape.before.shape-fits.ensures shape.if2.false)
-    (ne_eqb _ _ some.if3.false) at.0.0 here)
-
-pub search_spec : {M : Type 1} → statement M
-search_spec =
-    tie.close
-    (tie.spec
-    turned-away-requires
-    returns
-    shape-fits-requires
-    returns-2
-    returns-3
-    search-card-requires
-    enum-known-found
-    enum_told
-    returns-4
-    space-requires
-    returns-5)
+    (passes _ a.n a.free a.map.now a.k (sym role.turned_away.ensures ∙ role.if-turned_away.false)
+    (holds shape.shape_fits.ensures shape.if-not-shape_fits.false-raw)
+    (ne_eqb _ _ some.if-k-eq0.false) known.in-At.start here)

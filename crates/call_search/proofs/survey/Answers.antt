@@ -1,5 +1,6 @@
 -- `call_search::survey` meets its contract: row 21, row 1, or the counts of the first n blocks.
 -- Assumes nothing.
+
 use mathlib.Core.Path.{◌≡◌, sym, ap, ◌∙◌}
 use mathlib.Core.Bool.{Bool, true, false, not}
 use mathlib.Core.List.{List, [], ◌∷◌}
@@ -18,8 +19,7 @@ use Rattle.catalogue_standings.proofs.Limits.{fits}
 use Rattle.catalogue_standings.proofs.Openings.{skip, stop, none_left}
 use Rattle.catalogue_standings.proofs.Tested.{fails, holds}
 use Rattle.call_search.specs.Answers.{survey_answer}
-use Rattle.call_search.proofs.survey.Statement.{statement}
-use Rattle.call_search.proofs.survey.Tie as tie
+use Rattle.call_search.proofs.survey.Goals as goal
 
 abbrev counted : Counts → Answer
 counted r = Counted r.free r.runs r.longest
@@ -40,36 +40,23 @@ module _ (turned : Bool) (n spare : ℕ) (map : List ℕ) where
     passes : shape_fits n spare (length map) ≡ true → counted (counts_of (free map) n) ≡ survey_answer turned n spare map
     passes e = out accepted (skip 21 _ _ accepted may (skip 1 _ [] accepted (ap not e) none_left))
 
-turned-away-requires : tie.Need-turned-away-requires
-turned-away-requires c κs = search rules
+pub returns-then-turned_away : goal.returns-then-turned_away
+returns-then-turned_away c = away _ _ _ _ (sym c.turned_away.ensures ∙ c.if-turned_away.true)
 
-returns : tie.Need-returns
-returns c = away _ _ _ _ (sym c.before.turned-away.ensures ∙ c.if1.true)
+pub returns-then-not-shape_fits : goal.returns-then-not-shape_fits
+returns-then-not-shape_fits c = let role = c in
+    shut _ _ _ _ (sym role.turned_away.ensures ∙ role.if-turned_away.false)
+    (fails c.shape_fits.ensures c.if-not-shape_fits.true-raw)
 
-shape-fits-requires : tie.Need-shape-fits-requires
-shape-fits-requires c κs = search rules
-
-returns-2 : tie.Need-returns-2
-returns-2 c =
-    let role = c.before.before in
-    shut _ _ _ _ (sym role.before.turned-away.ensures ∙ role.if1.false)
-    (fails c.before.shape-fits.ensures c.if2.true)
-
-survey-requires : tie.Need-survey-requires
-survey-requires c κs =
-    let f = fits _ _ _ (holds c.before.shape-fits.ensures c.if2.false) in
+pub survey-counts-requires : goal.survey-counts-requires
+survey-counts-requires c = let f = fits _ _ _ (holds c.shape_fits.ensures c.if-not-shape_fits.false-raw) in
     (omega (arith, f.limit), omega (arith, f.covered))
 
-returns-3 : tie.Need-returns-3
-returns-3 c =
-    let shape = c.before in
-    let role = shape.before.before in
-    let a = role.before.before.before.args in
-    let counts : c.survey.result ≡ counts_of (free a.map.now) a.n = c.survey.ensures in
+pub returns : goal.returns
+returns c = let shape = c in
+    let role = shape in
+    let a = role.args in
+    let counts : c.survey-counts.result ≡ counts_of (free a.map.now) a.n = c.survey-counts.ensures in
     ap counted counts
-    ∙ passes _ a.n a.free a.map.now (sym role.before.turned-away.ensures ∙ role.if1.false)
-    (holds shape.before.shape-fits.ensures shape.if2.false)
-
-pub survey_spec : {M : Type 1} → statement M
-survey_spec =
-    tie.close (tie.spec turned-away-requires returns shape-fits-requires returns-2 survey-requires returns-3)
+    ∙ passes _ a.n a.free a.map.now (sym role.turned_away.ensures ∙ role.if-turned_away.false)
+    (holds shape.shape_fits.ensures shape.if-not-shape_fits.false-raw)

@@ -1,5 +1,6 @@
 -- `call_release::release` meets its contract: turned away by role, or what the rows behind 21 say.
 -- Assumes nothing.
+
 use mathlib.Core.Path.{◌≡◌, refl, sym, subst, ◌∙◌}
 use mathlib.Core.Bool.{Bool, true, false}
 use mathlib.Core.List.{List}
@@ -15,8 +16,7 @@ use Rattle.refusals.specs.Views.{view_at}
 use Rattle.refusals.specs.declared.Out.{Out}
 use Rattle.refusals.proofs.Release.{out}
 use Rattle.refusals.proofs.Turned.{turned_first}
-use Rattle.call_release.proofs.release.Statement.{statement}
-use Rattle.call_release.proofs.release.Tie as tie
+use Rattle.call_release.proofs.release.Goals as goal
 
 turned-verdict : (q : Lent) → q.turned ≡ true → release_verdict q ≡ refused 21
 unfolding release_verdict view_at
@@ -31,46 +31,17 @@ allowed q t r map summary e h =
     subst (λ (u : Bool). (r ≡ release_out (called_by u q)) × (map ≡ release_map (called_by u q))
     × (summary ≡ release_summary (called_by u q))) (sym e) h
 
-turned-away-requires : tie.Need-turned-away-requires
-turned-away-requires c κs = search rules
-
-refusal-requires : tie.Need-refusal-requires
-refusal-requires c κs = search rules
-
-returns : tie.Need-returns
-returns c =
-    let a = c.before.before.before.before.before.args in
+pub returns-then-turned_away : goal.returns-then-turned_away
+returns-then-turned_away c = let a = c.args in
     let q = called_by (turned_away a.role names.release)
     (lent_beside a.guided a.summary.now a.n a.free a.map.now no_card a.c a.entry a.sheet) in
-    out q (refused 21) (turned-verdict q (sym c.before.before.turned-away.ensures ∙ c.before.if1.true)) _ _ _
+    out q (refused 21) (turned-verdict q (sym c.turned_away.ensures ∙ c.if-turned_away.true)) _ _ _
     c.refusal.ensures refl refl
 
-release-allowed-requires : tie.Need-release-allowed-requires
-release-allowed-requires c κs = search rules
-
-same_length : tie.Need-same-length
-same_length c = search rules
-
-same-length-2 : tie.Need-same-length-2
-same-length-2 c = search rules
-
-returns-2 : tie.Need-returns-2
-returns-2 c =
-    let start = c.before.before.before.before.before.before.before.before in
-    let a = start.before.before.before.args in
+pub returns : goal.returns
+returns c = let start = c in
+    let a = start.args in
     allowed
     (lent_beside a.guided a.summary.now a.n a.free a.map.now no_card a.c a.entry a.sheet)
-    (turned_away a.role names.release) _ _ _ (sym start.turned-away.ensures ∙ c.before.before.before.before.before.before.before.if1.false)
-    c.before.before.before.before.release-allowed.ensures
-
-pub release_spec : {M : Type 1} → statement M
-release_spec =
-    tie.close
-    (tie.spec
-    turned-away-requires
-    refusal-requires
-    returns
-    release-allowed-requires
-    same_length
-    same-length-2
-    returns-2)
+    (turned_away a.role names.release) _ _ _ (sym start.turned_away.ensures ∙ c.if-turned_away.false)
+    c.release_allowed.ensures
