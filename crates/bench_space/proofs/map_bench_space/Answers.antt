@@ -2,7 +2,6 @@
 -- Assumes nothing.
 
 use mathlib.Core.Path.{sym, ◌∙◌}
-use borrow.Author.Rules.{rules}
 use Rattle.bench_map.proofs.Limits.{fits}
 use Rattle.bench_space.proofs.Limits.{space_within, space_outside}
 use Rattle.bench_space.proofs.map_bench_space.Goals as goal
