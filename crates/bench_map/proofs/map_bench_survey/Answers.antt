@@ -2,7 +2,6 @@
 -- Assumes nothing.
 
 use mathlib.Core.Path.{sym, ap, ◌∙◌}
-use borrow.Author.Rules.{rules}
 use Rattle.bench_map.specs.Answers.{counts_for}
 use Rattle.bench_map.proofs.Limits.{fits, survey_outside, survey_within}
 use Rattle.bench_map.proofs.map_bench_survey.Goals as goal
