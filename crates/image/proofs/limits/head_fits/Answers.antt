@@ -3,7 +3,6 @@
 
 use mathlib.Core.Path.{sym, ap, ◌∙◌}
 use native.Mathlib.Omega.{arith}
-use borrow.Author.Rules.{rules}
 use Rattle.catalogue_standings.proofs.Tested.{fails, holds}
 use Rattle.catalogue_standings.specs.Limits.{shape_fits}
 use Rattle.image.proofs.Fitting.{head_large, head_unshaped, head-uncounted, head-by-total, sheets_few}

@@ -2,7 +2,6 @@
 -- Assumes nothing.
 
 use mathlib.Core.Path.{ap, ◌∙◌}
-use borrow.Author.Rules.{rules}
 use Rattle.image_soundness.specs.Scratch.{scratch_words}
 use Rattle.image.proofs.Fitting.{load_words, load-entries, load-by-scratch}
 use Rattle.image.proofs.limits.load_fits.Goals as goal

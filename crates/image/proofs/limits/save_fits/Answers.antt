@@ -1,7 +1,6 @@
 -- `limits::save_fits` meets its contract, test by test.
 -- Assumes nothing.
 
-use borrow.Author.Rules.{rules}
 use Rattle.catalogue_standings.proofs.Tested.{fails, holds}
 use Rattle.image.proofs.Fitting.{save_unshaped, save-uncounted, save-by-scratch}
 use Rattle.image.proofs.limits.save_fits.Goals as goal
