@@ -2,7 +2,6 @@
 -- Assumes nothing.
 
 use Rattle.image_soundness.proofs.Steps.{window_ends}
-use Rattle.std.proofs.Common.{rules}
 use Rattle.image_windows.proofs.end_window.Goals as goal
 
 pub returns : goal.returns

@@ -1,7 +1,7 @@
 -- `fill_window` meets its contract.
 -- Assumes nothing.
 
-use Rattle.std.proofs.Common.{◌∙◌, rules}
+use Rattle.std.proofs.Common.{◌∙◌}
 use Rattle.image_soundness.proofs.Steps.{not_copied, is_copied}
 use Rattle.image_windows.proofs.fill_window.Goals as goal
 

@@ -1,7 +1,7 @@
 -- `is_taken` meets its contract.
 -- Assumes nothing.
 
-use Rattle.std.proofs.Common.{◌∙◌, rules}
+use Rattle.std.proofs.Common.{◌∙◌}
 use Rattle.image_soundness.proofs.Steps.{taken_short, taken_all}
 use Rattle.image_windows.proofs.is_taken.Goals as goal
 

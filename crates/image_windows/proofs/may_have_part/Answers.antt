@@ -1,7 +1,7 @@
 -- `may_have_part` meets its contract.
 -- Assumes nothing.
 
-use Rattle.std.proofs.Common.{sym, true≢false, arith, rules}
+use Rattle.std.proofs.Common.{sym, arith}
 use Rattle.image_soundness.proofs.Steps.{lies_apart}
 use Rattle.image_windows.proofs.may_have_part.Goals as goal
 

@@ -2,7 +2,6 @@
 -- Assumes nothing.
 
 use Rattle.image_soundness.proofs.Parts.{step_past}
-use Rattle.std.proofs.Common.{rules}
 use Rattle.image_windows.proofs.release_near.Goals as goal
 
 pub returns : goal.returns

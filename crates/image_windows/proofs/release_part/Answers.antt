@@ -1,7 +1,7 @@
 -- `release_part` meets its contract.
 -- Assumes nothing.
 
-use Rattle.std.proofs.Common.{◌∙◌, arith, rules}
+use Rattle.std.proofs.Common.{◌∙◌, arith}
 use Rattle.catalogue_standings.proofs.Tested.{fails, holds}
 use Rattle.image_soundness.proofs.Parts.{part_past, part-fails, part-releases}
 use Rattle.image_soundness.proofs.Steps.{taken_fits}

@@ -1,6 +1,5 @@
 -- `test_sound`: what the parts of the test come to.
 -- Assumes nothing.
-use Rattle.std.proofs.Common.{arith}
 use Rattle.image_soundness.proofs.Rounds.{tests}
 use Rattle.image_windows.proofs.test_sound.Goals as goal
 

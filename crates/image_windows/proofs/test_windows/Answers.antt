@@ -1,6 +1,6 @@
 -- `test_windows`: a turn tests one window more.
 -- Assumes nothing.
-use Rattle.std.proofs.Common.{◌≡◌, ℕ, ◌+◌, ◌≤◌, sym, add-one, arith}
+use Rattle.std.proofs.Common.{sym, add-one, arith}
 use Rattle.image_soundness.proofs.Rounds.{windows_none, windows_more, scratch_none, scratch_more}
 use Rattle.image_windows.proofs.test_windows.Goals as goal
 

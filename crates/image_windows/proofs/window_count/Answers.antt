@@ -2,7 +2,6 @@
 -- Assumes nothing.
 
 use Rattle.image_soundness.proofs.Steps.{count_none, count_all}
-use Rattle.std.proofs.Common.{rules}
 use Rattle.image_windows.proofs.window_count.Goals as goal
 
 pub returns-then-window : goal.returns-then-window

@@ -1,7 +1,7 @@
 -- `window_passes` meets its contract, test by test.
 -- Assumes nothing.
 
-use Rattle.std.proofs.Common.{◌∙◌, rules}
+use Rattle.std.proofs.Common.{◌∙◌}
 use Rattle.image_soundness.proofs.Steps.{passes_stopped, passes_long, passes_fresh}
 use Rattle.image_windows.proofs.window_passes.Goals as goal
 
