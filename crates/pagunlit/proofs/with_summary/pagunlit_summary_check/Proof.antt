@@ -1,10 +1,10 @@
--- `pagunlit::summary::pagunlit_summary_check` meets its contract.
+-- `pagunlit::with_summary::pagunlit_summary_check` meets its contract.
 -- Assumes nothing.
 use mathlib.Core.Path.{ap, ◌∙◌}
 use Rattle.pagunlit_replies.specs.Replies.{reply_of}
 use borrow.Author.Rules.{rules}
-use Rattle.pagunlit.proofs.summary.pagunlit_summary_check.Statement.{statement}
-use Rattle.pagunlit.proofs.summary.pagunlit_summary_check.Tie as tie
+use Rattle.pagunlit.proofs.with_summary.pagunlit_summary_check.Statement.{statement}
+use Rattle.pagunlit.proofs.with_summary.pagunlit_summary_check.Tie as tie
 
 summary-check-requires : tie.Need-summary-check-requires
 summary-check-requires c κs = search rules

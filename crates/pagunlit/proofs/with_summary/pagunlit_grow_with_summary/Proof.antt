@@ -1,4 +1,4 @@
--- Written by tools/walks: `pagunlit::summary::pagunlit_grow_with_summary` meets its contract, by the walk of
+-- Written by tools/walks: `pagunlit::with_summary::pagunlit_grow_with_summary` meets its contract, by the walk of
 -- `MapSummaryCatalogueCardFromLimits2.antt` of the crate walk_replies, with the calls of `card::Shape::grow_with_summary`,
 -- `pagunlit_replies::reply_of`.
 -- Assumes nothing.
@@ -19,10 +19,10 @@ use Rattle.card.proofs.Shape.grow_with_summary.Symbol as call-def
 use Rattle.card.proofs.Shape.grow_with_summary.Met as call_met
 use Rattle.pagunlit_replies.proofs.reply_of.Symbol as reply-of-def
 use Rattle.pagunlit_replies.proofs.reply_of.Met as reply-of-met
-use Rattle.pagunlit.specs.contracts.summary.pagunlit_grow_with_summary.Key.{name as #pagunlit-grow-with-summary}
-use Rattle.pagunlit.specs.contracts.summary.pagunlit_grow_with_summary as pagunlit-grow-with-summary
-use Rattle.pagunlit.proofs.summary.pagunlit_grow_with_summary.Statement as stated
-use Rattle.pagunlit.proofs.summary.pagunlit_grow_with_summary.Code as code
+use Rattle.pagunlit.specs.contracts.with_summary.pagunlit_grow_with_summary.Key.{name as #pagunlit-grow-with-summary}
+use Rattle.pagunlit.specs.contracts.with_summary.pagunlit_grow_with_summary as pagunlit-grow-with-summary
+use Rattle.pagunlit.proofs.with_summary.pagunlit_grow_with_summary.Statement as stated
+use Rattle.pagunlit.proofs.with_summary.pagunlit_grow_with_summary.Code as code
 
 abbrev Shape : Value
 Shape = value_of Shape'.the_type Shape''.the_laws Shape''.the_plain

@@ -1,10 +1,10 @@
--- `pagunlit::summary::pagunlit_summary_build` meets its contract.
+-- `pagunlit::with_summary::pagunlit_summary_build` meets its contract.
 -- Assumes nothing.
 use mathlib.Core.Path.{ap, ◌∙◌}
 use Rattle.pagunlit_replies.specs.Replies.{reply_of}
 use borrow.Author.Rules.{rules}
-use Rattle.pagunlit.proofs.summary.pagunlit_summary_build.Statement.{statement}
-use Rattle.pagunlit.proofs.summary.pagunlit_summary_build.Tie as tie
+use Rattle.pagunlit.proofs.with_summary.pagunlit_summary_build.Statement.{statement}
+use Rattle.pagunlit.proofs.with_summary.pagunlit_summary_build.Tie as tie
 
 summary-build-requires : tie.Need-summary-build-requires
 summary-build-requires c κs = search rules
