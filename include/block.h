@@ -11,7 +11,7 @@
  * is lent. So both may be called from any thread, as long as no other thread
  * writes to the same bytes during the call.
  *
- * Link with libblock.a (tools/staticlib block writes it as
+ * Link with libblock.a (tools/archive block writes it as
  * target/staticlib/libblock.a, for x86-64 Linux). seal and check are global
  * names: the program can have no other global function of these names.
  * pagunlit.h with libpagunlit.a has both functions too, and a program links

@@ -50,8 +50,8 @@ def kit():
 
 
 def words(name, crates, jobs=2):
-    """what `rattle check` and `rattle build` are told of a crate when they are run in a folder with its src/, specs/ and proofs/;
-    `rt` tells them the same"""
+    """what `rattle check` and `rattle build` are told of a crate, in a folder with its src/, specs/ and proofs/, as `rt` tells
+    them"""
     crate, here = crates[name], kit()
     told = ['--crate-name', name, 'src/main.rt' if crate.is_program else 'src/lib.rt']
     for dep in ['std', *crate.deps]:
@@ -83,8 +83,8 @@ def stands(crates):
 
 
 def note():
-    """Notes, right behind an `rt ci` that passed, that the libraries and programs are those which it proved and built; not where it
-    has put back libraries of an earlier `rt check`, which have a stamp."""
+    """Notes, right behind an `rt ci` that passed, that the libraries and programs are those that it proved and built; not where
+    it has put back libraries of an earlier `rt check`, which have a stamp."""
     crates = listed()
     is_own = not any(os.path.exists(f'{c.folder}/out/rlib/stamp') for c in crates.values())
     found = stands(crates) if is_own else None

@@ -4,4 +4,3 @@ pub mod Written
 pub mod Writers
 pub mod Lines
 pub mod Room
-pub mod SheetsWritten

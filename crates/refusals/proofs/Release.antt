@@ -8,7 +8,6 @@ use native.Mathlib.Omega.{arith}
 use borrow.Author.Tests.{le-ltb, lt-ltb}
 use lib.Dec.{ltb}
 use lib.ListN.{length}
-use types.Run as Run
 use Rattle.catalogue.specs.Entries.{absent_mark}
 use Rattle.map_blocks.specs.Blocks.{free}
 use Rattle.map_blocks.specs.Maps.{marked}
@@ -33,7 +32,7 @@ use Rattle.catalogue_standings.proofs.Limits.{Fits}
 use Rattle.catalogue_standings.proofs.Openings.{skip, stop, closed, opened, none_left, NotAbsent}
 
 pub present : (s : Standing) → NotAbsent s → is_absent s ≡ false
-present Absent t = absurd (Run.miss (1 ∷ 2 ∷ 3 ∷ 4 ∷ 5 ∷ []) 0 tt t)
+present Absent t = absurd (t refl)
 present Paused t = refl
 present (PausedWith a b) t = refl
 present (Open a b) t = refl
