@@ -10,7 +10,6 @@ use Rattle.image.specs.Image.{state_in, filled, blocks_in, sheets_in}
 use Rattle.image_soundness.specs.Sound.{sound}
 use Rattle.image.proofs.Fitting.{head_to}
 use Rattle.image_content.proofs.Contents.{content_sound, content_filled}
-use borrow.Author.Rules.{rules}
 use Rattle.image_content.proofs.content_holds.Goals as goal
 
 module _ (image : List ℕ) where
@@ -25,21 +24,24 @@ module _ (image : List ℕ) where
   by-fill passed answer e r f = f ∙ ap (λ (s : Bool). s && fill) (sym r ∙ e)
 
 pub overflow_sub-first : goal.overflow_sub-first
-overflow_sub-first c = let h = head_to _ _ _ _ c.requires.3 in omega (arith, h.limits.spare)
+overflow_sub-first c =
+    let h = head_to _ _ _ _ c.requires.3 in omega (arith, h.limits.spare)
 
 pub tally_in-tally-requires : goal.tally_in-tally-requires
-tally_in-tally-requires c = let h = head_to _ _ _ _ c.requires.3 in
+tally_in-tally-requires c =
+    let h = head_to _ _ _ _ c.requires.3 in
     (refl, h.count.few, omega (arith, h.exact))
 
 pub test_windows-last-requires : goal.test_windows-last-requires
-test_windows-last-requires c = let pre = c.requires in
+test_windows-last-requires c =
+    let pre = c.requires in
     let h = head_to _ _ _ _ pre.3 in
     (h.limits.limit, h.count.few, omega (arith, h.exact), omega (arith, pre.4))
 
 pub returns-then-last : goal.returns-then-last
-returns-then-last c = let start = c in
-    let a = start.args in
-    let pre = start.requires in
+returns-then-last c =
+    let a = c.args in
+    let pre = c.requires in
     let h = head_to _ _ _ _ pre.3 in
     unsound a.image.now _ (content_sound a.image.now a.n a.free a.c pre.0 pre.1 pre.2 h.shape
     a.scratch.now pre.4 _ _ _ c.tally_in-tally.ensures
@@ -47,28 +49,32 @@ returns-then-last c = let start = c in
     (ap not c.if-last.true)
 
 pub overflow_mul-c : goal.overflow_mul-c
-overflow_mul-c c = let h = head_to _ _ _ _ c.requires.3 in
+overflow_mul-c c =
+    let h = head_to _ _ _ _ c.requires.3 in
     omega (arith, h.count.few)
 
 pub overflow_add-c : goal.overflow_add-c
-overflow_add-c c = let h = head_to _ _ _ _ c.requires.3 in
+overflow_add-c c =
+    let h = head_to _ _ _ _ c.requires.3 in
     omega (arith, h.count.few)
 
 pub words_for-requires : goal.words_for-requires
 words_for-requires c = (head_to _ _ _ _ c.requires.3).limits.limit
 
 pub overflow_mul-words_for : goal.overflow_mul-words_for
-overflow_mul-words_for c = let h = head_to _ _ _ _ c.requires.3 in
+overflow_mul-words_for c =
+    let h = head_to _ _ _ _ c.requires.3 in
     omega (arith, h.count.few, h.limits.limit)
 
 pub overflow_add-c-2 : goal.overflow_add-c-2
-overflow_add-c-2 c = let h = head_to _ _ _ _ c.requires.3 in
+overflow_add-c-2 c =
+    let h = head_to _ _ _ _ c.requires.3 in
     omega (arith, h.count.few, h.limits.limit)
 
 pub returns : goal.returns
-returns c = let start = c in
-    let a = start.args in
-    let pre = start.requires in
+returns c =
+    let a = c.args in
+    let pre = c.requires in
     let h = head_to _ _ _ _ pre.3 in
     by-fill a.image.now _ _ (content_sound a.image.now a.n a.free a.c pre.0 pre.1 pre.2 h.shape
     a.scratch.now pre.4 _ _ _ c.tally_in-tally.ensures

@@ -6,26 +6,25 @@ use native.Mathlib.Omega.{arith}
 use lib.ListN.{length-take}
 use lib.Seq.{length-take-le}
 use Rattle.image_content.proofs.Filling.{window_read}
-use borrow.Author.Rules.{rules}
 use Rattle.image_content.proofs.fill_in.Goals as goal
 
 pub slice_bounds-read_words-end-2 : goal.slice_bounds-read_words-end-2
 slice_bounds-read_words-end-2 c = sym (length-take-le _ _
-    (omega (arith, c.scratch-1.given, c.lesser-w.ensures)))
+    (omega (arith, c.lesser-w.ensures)))
 
 pub read_words-requires : goal.read_words-requires
-read_words-requires c = let far = c in
-    let w = far.words_for-words.ensures in
-    let l = far.lesser-a.ensures in
-    let k = far.lesser-w.ensures in
-    let a = far.args in
-    (omega arith, omega (arith, length-take far.lesser-w.result c.clear.new.s))
+read_words-requires c =
+    let w = c.words_for-words.ensures in
+    let l = c.lesser-a.ensures in
+    let k = c.lesser-w.ensures in
+    let a = c.args in
+    (omega arith, omega (arith, length-take c.lesser-w.result c.clear.new.s))
 
 pub returns : goal.returns
-returns c = let far = c in
-    let a = far.args in
-    let w = far.words_for-words.ensures in
-    window_read a.image.now a.n a.c far.lesser-a.result far.lesser-w.result a.window
+returns c =
+    let a = c.args in
+    let w = c.words_for-words.ensures in
+    window_read a.image.now a.n a.c c.lesser-a.result c.lesser-w.result a.window
     a.scratch.now
-    (omega arith) (omega (arith, w, far.lesser-a.ensures)) (omega (arith, w, far.lesser-w.ensures))
+    (omega arith) (omega (arith, w, c.lesser-a.ensures)) (omega (arith, w, c.lesser-w.ensures))
     _ _ c.clear.ensures c.read_words.ensures

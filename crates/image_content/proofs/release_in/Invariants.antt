@@ -1,14 +1,11 @@
 -- `release_in` meets its contract. The loop's invariant: releasing the parts left comes to releasing all of them.
 -- Assumes nothing.
 
-use mathlib.Core.Path.{◌∙◌}
 use Prim.Native.Nat.{◌-◌, ◌≤◌}
-use native.Mathlib.Omega.{arith}
 use Rattle.image_frames.specs.Frames.{body_of}
 use Rattle.image.specs.Image.{entries_in}
-use Rattle.image_content.proofs.EntriesFrom.{rest, rest_none, rest_in, rest_across, together_room, together_first}
-use Rattle.image_content.proofs.Passing.{Left, left_from, left_end, one_released, some_released}
-use borrow.Author.Rules.{rules}
+use Rattle.image_content.proofs.EntriesFrom.{rest}
+use Rattle.image_content.proofs.Passing.{Left}
 use Rattle.image_content.proofs.release_in.Given as goal
 
 abbrev pub invariant-loop-sheet : goal.invariant-loop-sheet

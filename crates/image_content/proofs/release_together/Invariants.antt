@@ -2,18 +2,11 @@
 -- Assumes nothing.
 -- the window begins where it began
 
-use mathlib.Core.Path.{◌≡◌, sym, ap, ◌∙◌}
-use mathlib.Core.List.{List}
-use Prim.Native.Nat.{ℕ, ◌-◌, ◌≤◌}
-use native.Mathlib.Omega.{arith}
-use Rattle.catalogue.specs.declared.Entry.{Entry}
-use Rattle.image_soundness.specs.Windows.{window, window_after}
-use Rattle.image_soundness.specs.declared.Window.{Window}
-use Rattle.image_soundness.proofs.Parts.{after_lo}
+use Prim.Native.Nat.{◌-◌, ◌≤◌}
+use Rattle.image_soundness.specs.Windows.{window}
 use Rattle.image.specs.Image.{entries_from}
-use Rattle.image_content.proofs.EntriesFrom.{rest, rest_all, rest_none, rest_next}
-use Rattle.image_content.proofs.Passing.{Left, left_from, left_end, one_released}
-use borrow.Author.Rules.{rules}
+use Rattle.image_content.proofs.EntriesFrom.{rest}
+use Rattle.image_content.proofs.Passing.{Left}
 use Rattle.image_content.proofs.release_together.Given as goal
 
 abbrev pub invariant-loop-i : goal.invariant-loop-i

@@ -4,13 +4,10 @@
 use mathlib.Core.Path.{◌≡◌}
 use mathlib.Core.Bool.{false}
 use Prim.Native.Nat.{◌-◌, ◌≤◌}
-use native.Mathlib.Omega.{arith}
 use Rattle.image_frames.specs.Frames.{body_of}
 use Rattle.image.specs.Image.{entries_in}
-use Rattle.image_content.proofs.EntriesFrom.{rest, rest_none, rest_in, rest_across, together_room, together_first}
-use Rattle.image_content.proofs.Passing.{LeftToCount, count_from_lem, count_none, one_stopped, one-counted, some-stopped}
-use Rattle.image_content.proofs.Passing.{some-counted}
-use borrow.Author.Rules.{rules}
+use Rattle.image_content.proofs.EntriesFrom.{rest}
+use Rattle.image_content.proofs.Passing.{LeftToCount}
 use Rattle.image_content.proofs.tally_in.Given as goal
 
 abbrev pub invariant-loop-sheet : goal.invariant-loop-sheet

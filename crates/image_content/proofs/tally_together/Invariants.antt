@@ -2,11 +2,9 @@
 -- Assumes nothing.
 
 use Prim.Native.Nat.{◌-◌, ◌≤◌}
-use native.Mathlib.Omega.{arith}
 use Rattle.image.specs.Image.{entries_from}
-use Rattle.image_content.proofs.EntriesFrom.{rest, rest_all, rest_none, rest_next}
-use Rattle.image_content.proofs.Passing.{LeftToCount, count_from_lem, count_none, one_stopped, one-counted}
-use borrow.Author.Rules.{rules}
+use Rattle.image_content.proofs.EntriesFrom.{rest}
+use Rattle.image_content.proofs.Passing.{LeftToCount}
 use Rattle.image_content.proofs.tally_together.Given as goal
 
 abbrev pub invariant-loop-i : goal.invariant-loop-i

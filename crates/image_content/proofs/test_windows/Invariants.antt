@@ -1,12 +1,9 @@
 -- `test_windows` meets its contract. The loop's invariant: the window and the scratch are those after i windows.
 -- Assumes nothing.
 
-use mathlib.Core.Path.{◌≡◌, ◌∙◌}
 use Prim.Native.Nat.{◌-◌, ◌≤◌}
-use native.Mathlib.Omega.{arith}
 use Rattle.image.specs.Image.{entries_in, map_in}
-use Rattle.image_content.proofs.Filling.{Stands, stands_first, stands-last, stands-ended, stands-long, stands-next}
-use borrow.Author.Rules.{rules}
+use Rattle.image_content.proofs.Filling.{Stands}
 use Rattle.image_content.proofs.test_windows.Given as goal
 
 abbrev pub invariant-loop-i : goal.invariant-loop-i

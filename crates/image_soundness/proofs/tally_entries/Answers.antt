@@ -24,7 +24,8 @@ loop-i-preserved c =
     (omega arith, sym (simp (sym c.tally_entry-state.ensures, c.if-state.false) at e) ∙ c.loop-i.invariant.1)
 
 pub returns-after-loop-i : goal.returns-after-loop-i
-returns-after-loop-i c = let e = end c.args.catalogue.now c.loop-i.i c.args.n c.loop-i.state c.loop-i-test.false in cc
+returns-after-loop-i c =
+    let e = end c.args.catalogue.now c.loop-i.i c.args.n c.loop-i.state c.loop-i-test.false in cc
 
 pub returns-then-state : goal.returns-then-state
 returns-then-state c =

@@ -10,7 +10,8 @@ pub returns-then-not-counts : goal.returns-then-not-counts
 returns-then-not-counts c = not_counted _ _ _ (fails c.counts.ensures c.if-not-counts.true-raw)
 
 pub overflow_sub-result : goal.overflow_sub-result
-overflow_sub-result c = let e = counted_enough _ _ _ (holds c.counts.ensures c.if-not-counts.false-raw) in omega arith
+overflow_sub-result c =
+    let e = counted_enough _ _ _ (holds c.counts.ensures c.if-not-counts.false-raw) in omega arith
 
 pub returns : goal.returns
 returns c = is_counted _ _ _ (holds c.counts.ensures c.if-not-counts.false-raw)

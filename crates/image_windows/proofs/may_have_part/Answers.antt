@@ -6,5 +6,6 @@ use Rattle.image_soundness.proofs.Steps.{lies_apart}
 use Rattle.image_windows.proofs.may_have_part.Goals as goal
 
 pub returns-then-blocks-wrapping_sub_usize : goal.returns-then-blocks-wrapping_sub_usize
-returns-then-blocks-wrapping_sub_usize c = let w = c.wrapping_sub_usize in
+returns-then-blocks-wrapping_sub_usize c =
+    let w = c.wrapping_sub_usize in
     λ e. sym (lies_apart _ _ w.result (omega arith) w.ensures.value (omega arith))

@@ -5,7 +5,8 @@ use Rattle.image_soundness.proofs.Rounds.{windows_none, windows_more, scratch_no
 use Rattle.image_windows.proofs.test_windows.Goals as goal
 
 pub loop-i-init : goal.loop-i-init
-loop-i-init c = let a = c.args in
+loop-i-init c =
+    let a = c.args in
     record {
       inside = omega arith;
       state = sym (windows_none a.map.now a.catalogue.now a.scratch.now a.n a.start);
@@ -13,7 +14,8 @@ loop-i-init c = let a = c.args in
     }
 
 pub loop-i-preserved : goal.loop-i-preserved
-loop-i-preserved c = let a = c.args in
+loop-i-preserved c =
+    let a = c.args in
     let w = windows_more c.loop-i.i a.map.now a.catalogue.now a.scratch.now a.n a.start in
     let s = scratch_more c.loop-i.i a.map.now a.catalogue.now a.scratch.now a.n a.start in
     record {

@@ -23,12 +23,14 @@ some-blocks true b s t e = ap (λ (x : Bool). cond x s t) (sym e)
 some-blocks false b s t e = refl
 
 pub returns-then-blocks-eq0 : goal.returns-then-blocks-eq0
-returns-then-blocks-eq0 c = let a = c.args in
+returns-then-blocks-eq0 c =
+    let a = c.args in
     c.without_extent.ensures
     ∙ none-holds a.n (free a.map.now) a.start a.blocks (eqb a.start 0 && eqb a.blocks 0) Paused
     (PausedWith a.start a.blocks) c.if-blocks-eq0.true
 
 pub returns : goal.returns
-returns c = let a = c.args in
+returns c =
+    let a = c.args in
     c.with_extent.ensures
     ∙ some-blocks (eqb a.start 0) (eqb a.blocks 0) Paused _ (ne_eqb _ _ c.if-blocks-eq0.false)

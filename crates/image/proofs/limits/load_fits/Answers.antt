@@ -13,6 +13,5 @@ pub returns-then-count-c : goal.returns-then-count-c
 returns-then-count-c c = load-entries _ _ _ _ _ _ c.words_for.ensures c.if-maplen-words_for.false c.if-count-c.true
 
 pub returns : goal.returns
-returns c = let at = c in
-    load-by-scratch _ _ _ _ _ _ at.words_for.ensures at.if-maplen-words_for.false
-    at.if-count-c.false _ (c.scratch_words.ensures ∙ ap scratch_words at.words_for-2.ensures)
+returns c = load-by-scratch _ _ _ _ _ _ c.words_for.ensures c.if-maplen-words_for.false
+    c.if-count-c.false _ (c.scratch_words.ensures ∙ ap scratch_words c.words_for-2.ensures)

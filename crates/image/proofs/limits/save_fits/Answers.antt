@@ -13,6 +13,5 @@ returns-then-not-sheets_fit c = save-uncounted _ _ _ _ _ (holds c.shape_fits.ens
     (fails c.sheets_fit.ensures c.if-not-sheets_fit.true-raw)
 
 pub returns : goal.returns
-returns c = let at = c in
-    save-by-scratch _ _ _ _ _ (holds at.shape_fits.ensures at.if-not-shape_fits.false-raw)
-    (holds at.sheets_fit.ensures at.if-not-sheets_fit.false-raw) _ c.scratch_words.ensures
+returns c = save-by-scratch _ _ _ _ _ (holds c.shape_fits.ensures c.if-not-shape_fits.false-raw)
+    (holds c.sheets_fit.ensures c.if-not-sheets_fit.false-raw) _ c.scratch_words.ensures

@@ -9,8 +9,7 @@ use Rattle.block_bytes.proofs.Stores.{filled}
 use Rattle.image_soundness.proofs.words.clear.Goals as goal
 
 pub loop-i-preserved : goal.loop-i-preserved
-loop-i-preserved c = let at = c in
-    (search rules, rw at.loop-i.invariant.1 (fill_more at.loop-i.i 0 at.args.s.now (omega arith)), search rules)
+loop-i-preserved c = (search rules, rw c.loop-i.invariant.1 (fill_more c.loop-i.i 0 c.args.s.now (omega arith)), search rules)
 
 pub returns : goal.returns
 returns c = c.loop-i.invariant.1 ∙ filled _ c.loop-i.i (omega arith)

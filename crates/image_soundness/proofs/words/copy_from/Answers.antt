@@ -11,7 +11,8 @@ pub loop-i-init : goal.loop-i-init
 loop-i-init c = (omega arith, refl, λ j h. absurd (omega arith))
 
 pub loop-i-preserved : goal.loop-i-preserved
-loop-i-preserved c = let at = c.loop-i in
+loop-i-preserved c =
+    let at = c.loop-i in
     let a = c.args in (
       omega arith,
       search rules,
@@ -19,5 +20,6 @@ loop-i-preserved c = let at = c.loop-i in
     )
 
 pub returns : goal.returns
-returns c = let a = c.args in
+returns c =
+    let a = c.args in
     words_all a.map.now _ a.a c.loop-i.i _ c.loop-i.invariant.1 (omega arith) c.loop-i.invariant.2
