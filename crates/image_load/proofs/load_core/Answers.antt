@@ -1,5 +1,6 @@
 -- `image_load::load_core` meets its contract.
 -- Assumes nothing.
+
 use mathlib.Core.Bool.{Bool}
 use mathlib.Core.List.{List}
 use mathlib.Core.Path.{◌≡◌, refl, sym, ap, ap₂, ◌∙◌}
@@ -16,11 +17,10 @@ use Rattle.image.specs.Image.{blocks_in, free_count_in, sheets_in, state_in, map
 use Rattle.image_load.specs.Parts.{core_loaded, core_map, core_scratch}
 use Rattle.image.specs.Table.{load_verdict}
 use Rattle.image.specs.declared.Loaded.{Loaded}
-use Rattle.image_load.proofs.load_core.Statement.{statement}
-use Rattle.image_load.proofs.load_core.Tie as tie
 use Rattle.image.proofs.Fitting.{head_to, load_fits_to}
 use Rattle.image.proofs.Verdicts.{load_accepted, accepted_to}
 use Rattle.image_load.proofs.Heads.{blocks_in_lem, spare_in_lem, map_read}
+use Rattle.image_load.proofs.load_core.Goals as goal
 
 abbrev loaded : ℕ → ℕ → ℕ → Loaded
 loaded number n spare = record { number = number; blocks = n; free = spare }
@@ -76,89 +76,46 @@ module _ (role : ℕ) (image map : List ℕ) (count : ℕ) (scratch : List ℕ) 
   unfolding core_scratch
   cleared a e = ap (λ (k : ℕ). replicate k 0) e
 
-verdict-requires : tie.Need-verdict-requires
-verdict-requires c κs = search rules
-
-clear-requires : tie.Need-clear-requires
-clear-requires c κs = search rules
-
-same_length : tie.Need-same-length
-same_length c = search rules
-
-returns : tie.Need-returns
-returns c =
-    let a = c.before.before.before.before.before.before.before.before.before.before.before.before.args in
+pub returns-then-refusal-ne0 : goal.returns-then-refusal-ne0
+returns-then-refusal-ne0 c = let a = c.args in
     let r = told-refused a.role a.image.now a.map.now a.count a.scratch.now _
-    c.before.before.before.before.before.before.before.verdict.ensures c.if1.true in (
+    c.verdict-refusal.ensures c.if-refusal-ne0.true in (
       r.0,
       r.1,
-      c.before.before.before.clear.ensures
+      c.clear.ensures
           ∙ cleared a.role a.image.now a.map.now a.count a.scratch.now
-          c.before.before.before.before.before.before.before.verdict.new.1.1.1.1.0
-          c.before.before.before.before.before.before.scratch.given,
+          c.verdict-refusal.new.scratch
+          (omega arith),
     )
 
-mul-read-words : tie.Need-overflow-mul-read-words
-mul-read-words c =
-    let a = c.before.before.before.before.before.before.before.before.before.before.before.before.before.args in
+pub overflow_mul-count : goal.overflow_mul-count
+overflow_mul-count c = let a = c.args in
     let f = done a.role a.image.now a.map.now a.count a.scratch.now _
-    c.before.before.before.before.before.before.before.before.verdict.ensures c.before.if1.false in
+    c.verdict-refusal.ensures c.if-refusal-ne0.false in
     omega (arith, f.few)
 
-add-read-words : tie.Need-overflow-add-read-words
-add-read-words c =
-    let a = c.before.before.before.before.before.before.before.before.before.before.before.before.before.args in
+pub overflow_add-count : goal.overflow_add-count
+overflow_add-count c = let a = c.args in
     let f = done a.role a.image.now a.map.now a.count a.scratch.now _
-    c.before.before.before.before.before.before.before.before.verdict.ensures c.before.if1.false in
+    c.verdict-refusal.ensures c.if-refusal-ne0.false in
     omega (arith, f.few)
 
-read-words-requires : tie.Need-read-words-requires
-read-words-requires c κs =
-    let a = c.before.before.before.before.before.before.before.before.before.before.before.before.before.args in
+pub read_words-requires : goal.read_words-requires
+read_words-requires c = let a = c.args in
     let f = done a.role a.image.now a.map.now a.count a.scratch.now _
-    c.before.before.before.before.before.before.before.before.verdict.ensures c.before.if1.false in
+    c.verdict-refusal.ensures c.if-refusal-ne0.false in
     (omega (arith, f.few), f.short)
 
-number-requires : tie.Need-number-requires
-number-requires c κs = search rules
-
-number-requires-2 : tie.Need-number-requires-2
-number-requires-2 c κs = search rules
-
-same-length-2 : tie.Need-same-length-2
-same-length-2 c = search rules
-
-same-length-3 : tie.Need-same-length-3
-same-length-3 c = search rules
-
-returns-2 : tie.Need-returns-2
-returns-2 c =
-    let far = c.before.before.before.before.before.before.before.before in
-    let a = far.before.before.before.before.before.before.before.before.before.before.args in
+pub returns : goal.returns
+returns c = let far = c in
+    let a = far.args in
     let f = done a.role a.image.now a.map.now a.count a.scratch.now _
-    far.before.before.before.before.before.verdict.ensures
-    c.before.before.before.before.before.before.if1.false in (
-      f.gives _ _ c.before.number.ensures c.number2.ensures,
-      f.reads _ c.before.before.before.before.read-words.ensures,
-      far.before.clear.ensures
+    far.verdict-refusal.ensures
+    c.if-refusal-ne0.false in (
+      f.gives _ _ c.number.ensures c.number-2.ensures,
+      f.reads _ c.read_words.ensures,
+      far.clear.ensures
           ∙ cleared a.role a.image.now a.map.now a.count a.scratch.now
-          far.before.before.before.before.before.verdict.new.1.1.1.1.0
-          far.before.before.before.before.scratch.given,
+          far.verdict-refusal.new.scratch
+          (omega arith),
     )
-
-pub load_core_spec : {M : Type 1} → statement M
-load_core_spec =
-    tie.close
-    (tie.spec
-    verdict-requires
-    clear-requires
-    same_length
-    returns
-    mul-read-words
-    add-read-words
-    read-words-requires
-    number-requires
-    number-requires-2
-    same-length-2
-    same-length-3
-    returns-2)
