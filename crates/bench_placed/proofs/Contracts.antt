@@ -1,5 +1,5 @@
 -- The contract of the benchmark's function, of the function itself: what it ensures is the proposition that stands
--- here, by computation (`..-contract`), and it asks nothing of its caller (`..-asks-nothing`).
+-- here, by computation (`.._contract`), and it asks nothing of its caller (`.._asks_nothing`).
 -- Assumes nothing.
 use mathlib.Core.Path.{◌≡◌, refl}
 use seplogic.Ra.Ura.{Ura}
