@@ -11,10 +11,11 @@
  * is lent. So both may be called from any thread, as long as no other thread
  * writes to the same bytes during the call.
  *
- * Link with libblock.a (rt staticlib block writes target/staticlib/libblock.a,
- * for x86-64 Linux). seal and check are global names: the program can have no
- * other global function of these names. pagunlit.h with libpagunlit.a has both
- * functions too, and a program links one of the two archives.
+ * Link with libblock.a (tools/archive block writes it as
+ * target/staticlib/libblock.a, for x86-64 Linux). seal and check are global
+ * names: the program can have no other global function of these names.
+ * pagunlit.h with libpagunlit.a has both functions too, and a program links
+ * one of the two archives.
  */
 #ifndef BLOCK_H
 #define BLOCK_H

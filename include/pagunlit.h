@@ -3,7 +3,7 @@
  * A card is `blocks` blocks of 512 bytes. A map keeps which of them are free, one bit to a block. A catalogue keeps what
  * stands for each sheet: Absent, Paused, Open or Complete, and the run of blocks that it holds.
  *
- * Build and link. `rt staticlib pagunlit` proves the library and writes target/staticlib/libpagunlit.a, for x86-64 Linux;
+ * Build and link. `tools/archive pagunlit` proves the library and writes target/staticlib/libpagunlit.a, for x86-64 Linux;
  *
  *     gcc -std=c99 -Iinclude examples/course.c target/staticlib/libpagunlit.a -o course
  *

@@ -1,5 +1,5 @@
-//! Links target/staticlib/libpagunlit.a of the tree that the package stands in, which `rt staticlib pagunlit` writes, and tells
-//! the program the archive's sha256 checksum, so that a run can say which library it tested.
+//! Links target/staticlib/libpagunlit.a of the tree that the package stands in, which `tools/archive pagunlit` writes, and
+//! tells the program the archive's sha256 checksum, so that a run can say which library it tested.
 
 use std::process::Command;
 

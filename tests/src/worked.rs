@@ -61,13 +61,13 @@ pub fn sums() -> String {
     let stored = |at: usize| u32::from_be_bytes(block[at..at + 4].try_into().expect("four bytes"));
     let mut file = "-- A worked block whose sums A and B pass 65,521, as the program in tests/ works them out: \
                     `worked-sums` there writes this\n-- file, and the gate compares.\n-- Assumes nothing.\n\
-                    use Prim.Native.Nat.{ℕ}\n"
+                    use Rattle.std.specs.Prelude.{ℕ}\n"
         .to_string();
-    number(&mut file, "worked-sheet", "its sheet", sheet);
-    number(&mut file, "worked-place", "its place", place);
-    number(&mut file, "worked-byte", "each byte of its payload", byte);
-    number(&mut file, "worked-A", "A", stored(504));
-    number(&mut file, "worked-B", "B", stored(508));
+    number(&mut file, "worked_sheet", "its sheet", sheet);
+    number(&mut file, "worked_place", "its place", place);
+    number(&mut file, "worked_byte", "each byte of its payload", byte);
+    number(&mut file, "worked_a", "A", stored(504));
+    number(&mut file, "worked_b", "B", stored(508));
     file
 }
 
@@ -89,15 +89,14 @@ fn line(bytes: &[u8]) -> String {
     bytes.join(" ∷ ")
 }
 
-/// What both files begin with: the card's state.
-fn state(what: &str) -> String {
+/// What both files begin with: what they bring in, and the card's state.
+fn state(what: &str, uses: &str) -> String {
     let card = card();
     let mut file = format!(
         "-- A worked card of {N} blocks and two sheets whose values all differ, and its {what}, as the program in\n\
          -- tests/ works them out bit by bit: `worked-{what}` there writes this file, and the gate compares.\n\
          -- Assumes nothing.\n\
-         use mathlib.Core.List.{{List, [], _∷_}}\n\
-         use Prim.Native.Nat.{{ℕ}}\n"
+         {uses}\n"
     );
     number(&mut file, "blocks", "n", card.n);
     number(&mut file, "spare", "free count", card.free);
@@ -105,7 +104,7 @@ fn state(what: &str) -> String {
         let mark = format!("0x{:02X}", held.mark);
         let mut field = |field, value: &dyn Display| {
             let comment = format!("{field} of sheet {sheet}");
-            number(&mut file, &format!("{field}-{sheet}"), &comment, value);
+            number(&mut file, &format!("{field}_{sheet}"), &comment, value);
         };
         field("mark", &mark);
         field("start", &held.start);
@@ -123,7 +122,10 @@ pub fn image() -> String {
     let used = 8 + 12 + 12 * SHEETS.len() + 8 * words_of(N);
     assert!(image.len() == 512 && image[used..504].iter().all(|&byte| byte == 0));
     let lines = |bytes: &[u8]| -> Vec<String> { bytes.chunks(4).map(line).collect() };
-    let mut file = state("image");
+    let mut file = state(
+        "image",
+        "use mathlib.Core.List.{List, [], ◌∷◌}\nuse Prim.Native.Nat.{ℕ}",
+    );
     let comment = "block number, number of blocks; n, free count, c; mark, start, length of each; halves of each word";
     list(&mut file, "head", comment, &lines(&image[..used]));
     number(&mut file, "fill", "how many zeros follow", 504 - used);
@@ -138,7 +140,7 @@ pub fn text() -> String {
         .split_inclusive('\n')
         .flat_map(|printed| printed.as_bytes().chunks(16).map(line))
         .collect();
-    let mut file = state("text");
+    let mut file = state("text", "use Rattle.std.specs.Prelude.{List, [], ◌∷◌, ℕ}");
     let comment = text.trim_end().replace('\n', "\n-- ");
     list(&mut file, "text", &comment, &lines);
     file

@@ -5,14 +5,17 @@ from cited.groups import section
 
 SPECIFICATION = 'docs/SPECIFICATION.md'
 HEADING = '## All files'
-USE = re.compile(r'Rattle·(\w+?)(?:·specs)?\.specs\.(\w+)(?:\.\{([^}]*)\})?')
+USE = re.compile(r'Rattle\.(\w+)\.specs\.(\w+)(?:\.\{([^}]*)\})?')
+# What the check makes of the sources, and the kit's own.
+MADE = ('declared', 'contracts')
+KIT = ('std', 'core')
 PUBLIC = re.compile(r'(?ms)^ *pub (?:extern "C" )?fn .*?^ *\{$')
 
 
 def specs_used(text):
     """the files of specs/ that a text brings in, each with the names that it takes from it (None: all)"""
     for m in USE.finditer(text):
-        if m.group(2) != 'declared':
+        if m.group(2) not in MADE and m.group(1) not in KIT:
             names = m.group(3) and {n.strip() for n in m.group(3).split(',')}
             yield f'crates/{m.group(1)}/specs/{m.group(2)}.antt', names
 

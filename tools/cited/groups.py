@@ -46,7 +46,7 @@ def in_crates(sources):
     found = []
     for number, line in enumerate(sources.text(CRATES).split('\n'), 1):
         group = re.match(r'# (\w+: .+)\.$', line)
-        crate = re.match(r'(\w+):', line)
+        crate = re.match(r'(\w+)(?: staticlib)?:', line)
         if crate:
             if not found:
                 found.append(('', [], number))

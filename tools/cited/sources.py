@@ -8,6 +8,9 @@ import sys
 CODE = ('.rt', '.rs', '.c', '.h')
 MARKED = ('.py', '.toml', '.txt')  # a comment begins with a number sign
 
+# The port to a newer kit: what was renamed, moved and deleted in it, by its names before and after.
+OF_BEFORE = ('docs/PORT.md',)
+
 C_COMMENT = re.compile(r'/\*.*?\*/|//[^\n]*', re.S)
 DASHES = re.compile(r'(?m)(^|\s)--(\s[^\n]*)?$')
 NUMBER_SIGN = re.compile(r'(?m)(^|\s)#[^\n]*$')
@@ -41,7 +44,8 @@ class Sources:
             return f.read()
 
     def documents(self):
-        return ['README.md'] + [p for p in self.files if re.fullmatch(r'docs/[^/]+\.md|include/[^/]+\.h', p)]
+        found = ['README.md'] + [p for p in self.files if re.fullmatch(r'docs/[^/]+\.md|include/[^/]+\.h', p)]
+        return [p for p in found if p not in OF_BEFORE]
 
     def is_source(self, path):
         """not what examples read and print, nor the documents and this tool, whose names would vouch for themselves"""

@@ -18,9 +18,6 @@ use Rattle.map_blocks.specs.Blocks.{all, least, or_else}
 use Rattle.map_blocks.specs.declared.Found.{Found}
 use Rattle.map_blocks.specs.declared.Found.TheVariants.{At, Nothing}
 use Rattle.map_blocks.proofs.Runs.{all_intro, all_elim, all_break}
-use denote.Enum.Declared as Declared
-use types.Run as Run
-use Rattle.call_put.specs.contracts.places.Filling as FillingType
 use Rattle.catalogue_standings.specs.Searches.{start_at}
 use Rattle.call_put.specs.Fillings.{blank_at, filling_of, with_place}
 use Rattle.call_put.specs.declared.places.Filling.{Filling}
@@ -112,12 +109,10 @@ module _ (blank sound : ℕ → Bool) where
 -- ---- what the answer says of the places
 
 abbrev pub NotBroken : Filling → Type 0
-NotBroken f = Run.OneOf (0 ∷ 1 ∷ []) (Declared.tag_of FillingType.the_type f)
+NotBroken f = f ≡ Broken → ⊥
 
 pub not_broken : (f : Filling) → NotBroken f → f ≡ Broken → ⊥
-not_broken Filled t e = let z : ◌≡◌ {A = ℕ} 0 1 = cc in omega arith
-not_broken (Blank p) t e = let z : ◌≡◌ {A = ℕ} 0 1 = cc in omega arith
-not_broken Broken t e = Run.miss (0 ∷ 1 ∷ []) 2 tt t
+not_broken f t e = t e
 
 module _ (blank sound : ℕ → Bool) (k : ℕ) where
   whole : (x : Bool) (o : Found) (f : Filling) → (f ≡ Broken → ⊥) → cond x (blank_at o) Broken ≡ f → (x ≡ true) × (blank_at o ≡ f)

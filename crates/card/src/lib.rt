@@ -9,8 +9,8 @@ mod cores;
 pub mod dated;
 mod guided;
 mod reserves;
-pub mod summary;
 pub mod whole;
+pub mod with_summary;
 
 ghost use Rattle.std.specs.Prelude.{true, ◌≡◌};
 ghost use Rattle.card.specs.Ends.{search_end, survey_end, reserve_end, reservePlacedEnd, offer_end, accept_end, grow_end};

@@ -11,9 +11,6 @@ use Rattle.catalogue.specs.Entries.{absent_mark, paused_mark, open_mark, complet
 use Rattle.map_blocks.specs.Blocks.{all}
 use Rattle.laws.proofs.Bools.{and_left, and_right}
 use Rattle.catalogue.specs.declared.Entry.{Entry}
-use denote.Enum.Declared as Declared
-use types.Run as Run
-use Rattle.catalogue_standings.specs.contracts.Standing as StandingType
 use Rattle.catalogue_standings.specs.Openings.{opened_of, opened_for, unless_damaged, row_of}
 use Rattle.catalogue_standings.specs.Rows.{Row, row, Verdict, accepted, refused, first_of}
 use Rattle.catalogue_standings.specs.Standings.{extent_holds, standing_of, is_absent, is_paused, is_open, is_complete}
@@ -129,23 +126,19 @@ held n free e h =
 
 -- ---- a standing that a call does not admit is refused by its own row
 
--- by the numbers of the variants, from Absent, 0, to Damaged, 5
-abbrev pub Not : List ℕ → Standing → Type 0
-Not tags s = Run.OneOf tags (Declared.tag_of StandingType.the_type s)
-
 abbrev pub NotAbsent : Standing → Type 0
-NotAbsent = Not (1 ∷ 2 ∷ 3 ∷ 4 ∷ 5 ∷ [])
+NotAbsent s = s ≡ Absent → ⊥
 
 abbrev pub NotOpen : Standing → Type 0
-NotOpen = Not (0 ∷ 1 ∷ 2 ∷ 4 ∷ 5 ∷ [])
+NotOpen s = (start blocks : ℕ) → s ≡ Open start blocks → ⊥
 
 abbrev pub NotComplete : Standing → Type 0
-NotComplete = Not (0 ∷ 1 ∷ 2 ∷ 3 ∷ 5 ∷ [])
+NotComplete s = (start blocks : ℕ) → s ≡ Complete start blocks → ⊥
 
 pub not_absent : (s : Standing) (rows : List Row) → NotAbsent s → is_damaged s ≡ false
     → first_of (row 6 (is_paused s) ∷ row 7 (is_open s) ∷ row 8 (is_complete s) ∷ rows) ≡ refused (row_of s)
 unfolding first_of
-not_absent Absent rows t d = absurd (Run.miss (1 ∷ 2 ∷ 3 ∷ 4 ∷ 5 ∷ []) 0 tt t)
+not_absent Absent rows t d = absurd (t refl)
 not_absent Paused rows t d = refl
 not_absent (PausedWith a b) rows t d = refl
 not_absent (Open a b) rows t d = refl
@@ -158,7 +151,7 @@ unfolding first_of
 not_open Absent rows t d = refl
 not_open Paused rows t d = refl
 not_open (PausedWith a b) rows t d = refl
-not_open (Open a b) rows t d = absurd (Run.miss (0 ∷ 1 ∷ 2 ∷ 4 ∷ 5 ∷ []) 3 tt t)
+not_open (Open a b) rows t d = absurd (t a b refl)
 not_open (Complete a b) rows t d = refl
 not_open Damaged rows t d = absurd (true≢false d)
 
@@ -169,7 +162,7 @@ not_complete Absent rows t d = refl
 not_complete Paused rows t d = refl
 not_complete (PausedWith a b) rows t d = refl
 not_complete (Open a b) rows t d = refl
-not_complete (Complete a b) rows t d = absurd (Run.miss (0 ∷ 1 ∷ 2 ∷ 3 ∷ 5 ∷ []) 4 tt t)
+not_complete (Complete a b) rows t d = absurd (t a b refl)
 not_complete Damaged rows t d = absurd (true≢false d)
 
 -- ---- a standing that a call admits passes

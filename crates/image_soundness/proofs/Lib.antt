@@ -1,6 +1,5 @@
 -- Laws that the functions here and the crates above cite: the rule of a mark, damage, covers and sums, a sound state block by
--- block, the entries counted, windows one after the other, and that the test is soundness. `EntriesCounted`
--- is a walk over the entries.
+-- block, the entries counted, windows one after the other, and that the test is soundness.
 pub mod Marks
 pub mod Damage
 pub mod Covers
@@ -11,4 +10,3 @@ pub mod Steps
 pub mod Parts
 pub mod Windowed
 pub mod Tested
-pub mod EntriesCounted

@@ -201,6 +201,7 @@ pub fn window_count(n: u32, window: Window) -> usize
 }
 
 // Whether every window passed. The scratch is cleared.
+#[tactic(auto, unfolding(image_soundness::specs::Windows::passed_all, image_soundness::specs::Windows::cleared_all))]
 fn all_passed(window: Window, scratch: &mut [u64]) -> bool
     ensures { (result ≡ passed_all window scratch.old)
         × (scratch.new ≡ cleared_all window scratch.old) }

@@ -197,7 +197,7 @@ sound_block : (i p : ℕ) (x : Place) → Sized x → i < 4294967296 → p < 429
 sound_block i p Blank h hi hp = sound_zeros i p
 sound_block i p (Payload bytes) h hi hp = sound_own i p bytes h hi hp
 
-pub payload_block : (i p : ℕ) (x : Place) → is_blank x ≡ false → Sized x → sealed-block.payloadOf (block_in i p x) ≡ bytes_of x
+pub payload_block : (i p : ℕ) (x : Place) → is_blank x ≡ false → Sized x → sealed-block.payload_of (block_in i p x) ≡ bytes_of x
 payload_block i p Blank h z = absurd (true≢false h)
 payload_block i p (Payload bytes) h z = payload_sealed i p bytes z
 
@@ -292,7 +292,7 @@ module _ (n : ℕ) (l : List Sheet) (card : List ℕ) (k : Matches n l card) whe
         found = least_within (free_map n l t);
         blank = λ p. sealed-block.blank (block_of card (e.start + p));
         sound = λ p. sealed-block.sound i p (block_of card (e.start + p));
-        term = term_of (sealed-block.payloadOf (block_of card e.start));
+        term = term_of (sealed-block.payload_of (block_of card e.start));
         wing = wing_of i;
         held = blocks;
       }
@@ -339,8 +339,8 @@ module _ (n : ℕ) (l : List Sheet) (card : List ℕ) (k : Matches n l card) whe
           → on-card.term ≡ term_of (bytes_of (place_at l i 0))
       unfolding view_on
       term-same some sealed =
-          ap term_of (ap (λ (b : ℕ). sealed-block.payloadOf (block_of card b)) (sym (add-zero e.start))
-          ∙ ap sealed-block.payloadOf (here 0 some)
+          ap term_of (ap (λ (b : ℕ). sealed-block.payload_of (block_of card b)) (sym (add-zero e.start))
+          ∙ ap sealed-block.payload_of (here 0 some)
           ∙ payload_block i 0 (place_at l i 0) (not-true _ sealed) ((k.sound.fine i).sized 0))
 
   inside_card : (i : ℕ) → length_in (sheet_at l i) ≤ n

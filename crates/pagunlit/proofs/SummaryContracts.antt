@@ -19,14 +19,14 @@ use Rattle.card.specs.Ends.{beside}
 use Rattle.card.specs.Leaves.{HandsBack, LeavesSummary, LeavesMapSummaryEntries, LeavesMapSummaryEntriesCard}
 use Rattle.card.specs.Leaves.{LeavesMapSummaryEntriesCardScratch}
 use Rattle.card.specs.Public.{on, close, build, check, by_map, by_summary, ends}
-use Rattle.pagunlit.specs.contracts.summary.pagunlit_summary_build as summary-build-function
-use Rattle.pagunlit.specs.contracts.summary.pagunlit_summary_check as summary-check-function
-use Rattle.pagunlit.specs.contracts.summary.pagunlit_reserve_with_summary as reserve-with-summary-function
-use Rattle.pagunlit.specs.contracts.summary.pagunlit_reserve_placed_with_summary as reserve-placed-with-summary-function
-use Rattle.pagunlit.specs.contracts.summary.pagunlit_accept_with_summary as accept-with-summary-function
-use Rattle.pagunlit.specs.contracts.summary.pagunlit_grow_with_summary as grow-with-summary-function
-use Rattle.pagunlit.specs.contracts.summary.pagunlit_release_with_summary as release-with-summary-function
-use Rattle.pagunlit.specs.contracts.summary.pagunlit_close_with_summary as close-with-summary-function
+use Rattle.pagunlit.specs.contracts.with_summary.pagunlit_summary_build as summary-build-function
+use Rattle.pagunlit.specs.contracts.with_summary.pagunlit_summary_check as summary-check-function
+use Rattle.pagunlit.specs.contracts.with_summary.pagunlit_reserve_with_summary as reserve-with-summary-function
+use Rattle.pagunlit.specs.contracts.with_summary.pagunlit_reserve_placed_with_summary as reserve-placed-with-summary-function
+use Rattle.pagunlit.specs.contracts.with_summary.pagunlit_accept_with_summary as accept-with-summary-function
+use Rattle.pagunlit.specs.contracts.with_summary.pagunlit_grow_with_summary as grow-with-summary-function
+use Rattle.pagunlit.specs.contracts.with_summary.pagunlit_release_with_summary as release-with-summary-function
+use Rattle.pagunlit.specs.contracts.with_summary.pagunlit_close_with_summary as close-with-summary-function
 
 -- what is passed is a.0, a.1.0 and so on, in the order of the parameters, and what is left of it t.0, t.1.0 and so on
 module _ {M : Type 1} {𝓤 : Ura M} (𝓛 : Logic 𝓤) (mem : Memory → SProp 𝓤) (run : Routine → Fun 𝓤) where

@@ -5,7 +5,7 @@
 
 pub mod dated;
 pub mod days;
-pub mod summary;
+pub mod with_summary;
 
 ghost use Rattle.std.specs.Prelude.{◌≡◌};
 ghost use Rattle.block.specs.Calls.{seal_answer, after_seal, check_answer};

@@ -8,7 +8,6 @@ use native.Mathlib.Omega.{arith}
 use borrow.Author.Tests.{le-ltb, lt-ltb}
 use lib.Dec.{ltb}
 use lib.ListN.{length}
-use types.Run as Run
 use Rattle.catalogue.specs.Entries.{absent_mark}
 use Rattle.map_blocks.specs.Blocks.{free}
 use Rattle.map_blocks.specs.Maps.{marked}
@@ -33,7 +32,7 @@ use Rattle.catalogue_standings.proofs.Limits.{Fits}
 use Rattle.catalogue_standings.proofs.Openings.{skip, stop, closed, opened, none_left, NotAbsent}
 
 pub present : (s : Standing) → NotAbsent s → is_absent s ≡ false
-present Absent t = absurd (Run.miss (1 ∷ 2 ∷ 3 ∷ 4 ∷ 5 ∷ []) 0 tt t)
+present Absent t = absurd (t refl)
 present Paused t = refl
 present (PausedWith a b) t = refl
 present (Open a b) t = refl
@@ -85,7 +84,7 @@ module _ (q : Lent) where
   module _ (s : Standing) {o : Opened} (given : o ≡ first) (told : o ≡ Stands s) where
     -- the limits, and the extent to be freed
     pub limits : Fits q.n q.spare (length q.map)
-    limits = lent-laws.sized-at q (lent-laws.opens_at q s [] (sym given ∙ told)).all_fits_lem
+    limits = lent-laws.sized_at q (lent-laws.opens_at q s [] (sym given ∙ told)).all_fits_lem
 
     pub extent : Inside q.n q.entry stands
     extent = inside_of q.n (free q.map) q.entry (lent-laws.opens_at q s [] (sym given ∙ told)).whole
@@ -122,4 +121,4 @@ module _ (q : Lent) where
 -- what an accepted release shows of the lengths
 pub release_sized : (q : Lent) → release_verdict q ≡ accepted → Fits q.n q.spare (length q.map)
 unfolding release_verdict view_at table_of
-release_sized q h = lent-laws.sized-at q (not-false _ (clear 1 (table_of (view_at q) (on q.sheet release)) h).0)
+release_sized q h = lent-laws.sized_at q (not-false _ (clear 1 (table_of (view_at q) (on q.sheet release)) h).0)

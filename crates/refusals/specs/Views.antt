@@ -47,7 +47,7 @@ view_on q = record {
   found = found_by q.guided q.summary q.map;
   blank = λ p. sealed-block.blank (block_of q.card (q.entry.start + p));
   sound = λ p. sealed-block.sound q.sheet p (block_of q.card (q.entry.start + p));
-  term = term_of (sealed-block.payloadOf (block_of q.card q.entry.start));
+  term = term_of (sealed-block.payload_of (block_of q.card q.entry.start));
   wing = wing_of q.sheet;
   held = q.held;
 }

@@ -57,6 +57,7 @@ pub const BUILD_SUMMARY: u32 = 19;
 pub const CHECK_SUMMARY: u32 = 20;
 
 // Carers read.
+#[tactic(auto, unfolding(crate::specs::Roles::carer_may))]
 fn carer_may(call: u32) -> bool
     ensures { result ≡ table.carer_may call }
 {
@@ -73,6 +74,7 @@ fn carer_may(call: u32) -> bool
 }
 
 // Service looks after the card.
+#[tactic(auto, unfolding(crate::specs::Roles::service_may))]
 fn service_may(call: u32) -> bool
     ensures { result ≡ table.service_may call }
 {
@@ -98,6 +100,7 @@ fn service_may(call: u32) -> bool
 }
 
 // Whether a role, which may be any number, may make a call.
+#[tactic(auto, unfolding(crate::specs::Roles::may))]
 pub fn may(role: u32, call: u32) -> bool
     ensures { result ≡ table.may role call }
 {

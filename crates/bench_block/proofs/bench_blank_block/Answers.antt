@@ -2,7 +2,6 @@
 -- Assumes nothing.
 
 use borrow.Author.Tests.{le-leb, lt-leb}
-use borrow.Author.Rules.{rules}
 use Rattle.bench_block.proofs.bench_blank_block.Goals as goal
 
 pub returns-then-blank_block : goal.returns-then-blank_block

@@ -2,7 +2,6 @@
 -- Assumes nothing.
 
 use borrow.Author.Tests.{le-leb, lt-leb}
-use borrow.Author.Rules.{rules}
 use Rattle.bench_block.proofs.bench_zero_blocks.Goals as goal
 
 pub returns-then-b-k : goal.returns-then-b-k

@@ -2,7 +2,6 @@
 -- Assumes nothing.
 
 use Rattle.block.proofs.Answers.{check_wrong, check_done}
-use borrow.Author.Rules.{rules}
 use Rattle.block.proofs.check.Goals as goal
 
 pub returns-then-block-ne-BLOCK : goal.returns-then-block-ne-BLOCK

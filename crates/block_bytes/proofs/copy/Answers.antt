@@ -1,19 +1,16 @@
 -- `copy` meets its contract. The invariant: the first i bytes are copied and the others are as they were.
 -- Assumes nothing.
 
-use mathlib.Core.Path.{◌≡◌, ◌∙◌}
-use mathlib.Core.List.{◌++◌}
-use Prim.Native.Nat.{◌≤◌, ◌-◌}
+use mathlib.Core.Path.{◌∙◌}
 use native.Mathlib.Omega.{arith}
-use lib.ListN.{length, take, drop}
 use Rattle.block_bytes.proofs.Stores.{copy_more, copied}
 use borrow.Author.Rules.{rules}
 use Rattle.block_bytes.proofs.copy.Goals as goal
 
 pub loop-i-preserved : goal.loop-i-preserved
-loop-i-preserved c = let at = c in (
+loop-i-preserved c = (
   search rules,
-  rw at.loop-i.invariant.1 (copy_more at.loop-i.i at.args.to.now at.args.from.now (omega arith)
+  rw c.loop-i.invariant.1 (copy_more c.loop-i.i c.args.to.now c.args.from.now (omega arith)
       (omega arith)),
   search rules,
 )

@@ -1,13 +1,10 @@
 -- `copy` meets its contract. The invariant: the first i bytes are copied and the others are as they were.
 -- Assumes nothing.
 
-use mathlib.Core.Path.{◌≡◌, ◌∙◌}
+use mathlib.Core.Path.{◌≡◌}
 use mathlib.Core.List.{◌++◌}
 use Prim.Native.Nat.{◌≤◌, ◌-◌}
-use native.Mathlib.Omega.{arith}
 use lib.ListN.{length, take, drop}
-use Rattle.block_bytes.proofs.Stores.{copy_more, copied}
-use borrow.Author.Rules.{rules}
 use Rattle.block_bytes.proofs.copy.Given as goal
 
 abbrev pub invariant-loop-i : goal.invariant-loop-i

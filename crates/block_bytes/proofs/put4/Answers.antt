@@ -3,7 +3,6 @@
 
 use Rattle.block_bytes.specs.Numbers.{bytes4}
 use Rattle.block_bytes.proofs.Stores.{four_stores}
-use borrow.Author.Rules.{rules}
 use Rattle.block_bytes.proofs.put4.Goals as goal
 
 pub returns : goal.returns

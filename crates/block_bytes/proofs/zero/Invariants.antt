@@ -1,14 +1,10 @@
 -- `zero` meets its contract. The invariant: the first i bytes are 0 and the others are as they were.
 -- Assumes nothing.
 
-use mathlib.Core.Path.{◌≡◌, ◌∙◌}
+use mathlib.Core.Path.{◌≡◌}
 use mathlib.Core.List.{◌++◌}
 use Prim.Native.Nat.{◌≤◌, ◌-◌}
-use native.Mathlib.Omega.{arith}
 use lib.ListN.{length, replicate, drop}
-use borrow.Author.Fill.{fill_more}
-use Rattle.block_bytes.proofs.Stores.{filled}
-use borrow.Author.Rules.{rules}
 use Rattle.block_bytes.proofs.zero.Given as goal
 
 abbrev pub invariant-loop-i : goal.invariant-loop-i

@@ -1,22 +1,17 @@
 -- `is_blank` meets its contract. The invariant: what is gathered is 0 and the rest is blank exactly if the whole is blank.
 -- Assumes nothing.
 
-use mathlib.Core.Path.{◌≡◌, ◌∙◌}
-use mathlib.Core.Bool.{◌&&◌}
-use Prim.Native.Nat.{◌≤◌, ◌-◌}
+use mathlib.Core.Path.{◌∙◌}
 use native.Mathlib.Omega.{arith}
-use lib.Dec.{eqb}
-use lib.ListN.{drop}
-use Rattle.block_seals.specs.Sealed.{blank}
 use Rattle.block_seals.proofs.Blank.{gather_more, gathered}
 use borrow.Author.Rules.{rules}
 use Rattle.block_seals.proofs.is_blank.Goals as goal
 
 pub loop-i-preserved : goal.loop-i-preserved
-loop-i-preserved c = let loop = c in (
+loop-i-preserved c = (
   search rules,
-  gather_more loop.args.block.now loop.loop-i.i loop.loop-i.all (omega arith)
-      ∙ loop.loop-i.invariant.1,
+  gather_more c.args.block.now c.loop-i.i c.loop-i.all (omega arith)
+      ∙ c.loop-i.invariant.1,
 )
 
 pub returns : goal.returns

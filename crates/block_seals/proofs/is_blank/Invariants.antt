@@ -1,15 +1,12 @@
 -- `is_blank` meets its contract. The invariant: what is gathered is 0 and the rest is blank exactly if the whole is blank.
 -- Assumes nothing.
 
-use mathlib.Core.Path.{◌≡◌, ◌∙◌}
+use mathlib.Core.Path.{◌≡◌}
 use mathlib.Core.Bool.{◌&&◌}
 use Prim.Native.Nat.{◌≤◌, ◌-◌}
-use native.Mathlib.Omega.{arith}
 use lib.Dec.{eqb}
 use lib.ListN.{drop}
 use Rattle.block_seals.specs.Sealed.{blank}
-use Rattle.block_seals.proofs.Blank.{gather_more, gathered}
-use borrow.Author.Rules.{rules}
 use Rattle.block_seals.proofs.is_blank.Given as goal
 
 abbrev pub invariant-loop-i : goal.invariant-loop-i

@@ -2,14 +2,10 @@
 -- whole.
 -- Assumes nothing.
 
-use mathlib.Core.Path.{◌≡◌, ap, ◌∙◌}
-use mathlib.Core.List.{[]}
-use Prim.Native.Nat.{ℕ, ◌≤◌, ◌-◌, ◌*◌, ◌+◌, ◌%◌}
-use native.Mathlib.Omega.{arith}
-use lib.ListN.{drop, drop_of_length-le}
+use mathlib.Core.Path.{◌≡◌}
+use Prim.Native.Nat.{◌≤◌, ◌-◌, ◌*◌, ◌+◌, ◌%◌}
+use lib.ListN.{drop}
 use Rattle.block_seals.specs.Sealed.{sums}
-use Rattle.block_seals.proofs.Checksum.{two_bytes}
-use borrow.Author.Rules.{rules}
 use Rattle.block_seals.proofs.sums_of.Given as goal
 
 abbrev pub invariant-loop-i : goal.invariant-loop-i

@@ -2,9 +2,7 @@
 -- Assumes nothing.
 
 use Rattle.blocks_of_card.proofs.Card.{given_back}
-use borrow.Author.Rules.{rules}
 use Rattle.blocks_of_card.proofs.write_block.Goals as goal
 
 pub returns : goal.returns
-returns c = let start = c in
-    given_back start.args.card.now start.args.b _ _ c.write_sealed.ensures
+returns c = given_back c.args.card.now c.args.b _ _ c.write_sealed.ensures

@@ -1,10 +1,8 @@
 -- `zero_blocks` meets its contract. The invariant: the first i of the blocks are filled.
 -- Assumes nothing.
 
-use mathlib.Core.Path.{◌≡◌, ap, ◌∙◌}
-use Prim.Native.Nat.{◌≤◌, ◌-◌}
+use mathlib.Core.Path.{ap, ◌∙◌}
 use native.Mathlib.Omega.{arith}
-use lib.ListN.{length}
 use Rattle.blocks_of_card.specs.Card.{zeroed}
 use Rattle.blocks_of_card.proofs.Card.{zeroed_more}
 use borrow.Author.Rules.{rules}
@@ -15,15 +13,12 @@ unfolding zeroed
 loop-i-init c = search rules
 
 pub loop-i-preserved : goal.loop-i-preserved
-loop-i-preserved c = let loop = c in
-    let start = loop in (
-      omega arith,
-      zeroed_more loop.loop-i.card _ start.args.card.now start.args.b loop.loop-i.i
-          loop.loop-i.invariant.1 c.zero_block.ensures,
-      search rules,
-    )
+loop-i-preserved c = (
+  omega arith,
+  zeroed_more c.loop-i.card _ c.args.card.now c.args.b c.loop-i.i
+      c.loop-i.invariant.1 c.zero_block.ensures,
+  search rules,
+)
 
 pub returns : goal.returns
-returns c = let loop = c in
-    let start = loop in
-    loop.loop-i.invariant.1 ∙ ap (zeroed start.args.card.now start.args.b) (omega arith)
+returns c = c.loop-i.invariant.1 ∙ ap (zeroed c.args.card.now c.args.b) (omega arith)

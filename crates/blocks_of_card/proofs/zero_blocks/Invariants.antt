@@ -1,13 +1,10 @@
 -- `zero_blocks` meets its contract. The invariant: the first i of the blocks are filled.
 -- Assumes nothing.
 
-use mathlib.Core.Path.{◌≡◌, ap, ◌∙◌}
+use mathlib.Core.Path.{◌≡◌}
 use Prim.Native.Nat.{◌≤◌, ◌-◌}
-use native.Mathlib.Omega.{arith}
 use lib.ListN.{length}
 use Rattle.blocks_of_card.specs.Card.{zeroed}
-use Rattle.blocks_of_card.proofs.Card.{zeroed_more}
-use borrow.Author.Rules.{rules}
 use Rattle.blocks_of_card.proofs.zero_blocks.Given as goal
 
 abbrev pub invariant-loop-i : goal.invariant-loop-i

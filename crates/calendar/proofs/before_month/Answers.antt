@@ -2,7 +2,6 @@
 -- Assumes nothing.
 
 use native.Mathlib.Omega.{arith}
-use borrow.Author.Rules.{rules}
 use Rattle.calendar.proofs.Formulas.{early_month, late_month}
 use Rattle.calendar.proofs.before_month.Goals as goal
 

@@ -5,7 +5,6 @@ use mathlib.Core.Path.{sym, ap, ◌∙◌}
 use Prim.Native.Nat.{ℕ}
 use native.Mathlib.Omega.{arith}
 use Rattle.calendar.specs.Calendar.{before_month}
-use borrow.Author.Rules.{rules}
 use Rattle.calendar.proofs.Formulas.{day_told, no_date}
 use Rattle.calendar.proofs.Dates.{date_of_lem, day_most}
 use Rattle.calendar.proofs.day_number.Goals as goal

@@ -1,7 +1,6 @@
 -- `in_term` meets its contract: the two stored days, and the span between them.
 -- Assumes nothing.
 
-use borrow.Author.Rules.{rules}
 use Rattle.calendar.proofs.Terms.{in_term_by}
 use Rattle.calendar.proofs.in_term.Goals as goal
 

@@ -2,7 +2,6 @@
 -- Assumes nothing.
 
 use mathlib.Core.Path.{sym, ◌∙◌}
-use borrow.Author.Rules.{rules}
 use Rattle.calendar.proofs.Dates.{span_low, span_high, date_tested, no_month, no_year}
 use Rattle.calendar.proofs.is_date.Goals as goal
 
@@ -11,10 +10,8 @@ month_length-requires c = let month = sym c.in_span-then-in_span.ensures ∙ c.i
     (c.leap_day.ensures.1, span_low 1 12 _ month, span_high 1 12 _ month)
 
 pub returns-then-in_span-2 : goal.returns-then-in_span-2
-returns-then-in_span-2 c = let if2 = c in
-    let if1 = if2 in
-    date_tested _ if1.args.month _ _ _ _
-    (sym if1.in_span.ensures ∙ if1.if-in_span.true) (sym if2.in_span-then-in_span.ensures ∙ if2.if-in_span-2.true)
+returns-then-in_span-2 c = date_tested _ c.args.month _ _ _ _
+    (sym c.in_span.ensures ∙ c.if-in_span.true) (sym c.in_span-then-in_span.ensures ∙ c.if-in_span-2.true)
     c.in_span-then-in_span-2.ensures c.month_length.ensures c.leap_day.ensures.0
 
 pub returns-else-in_span-2 : goal.returns-else-in_span-2

@@ -1,7 +1,6 @@
 -- `month_length` meets its contract: February, and the other months by a formula.
 -- Assumes nothing.
 
-use borrow.Author.Rules.{rules}
 use Rattle.calendar.proofs.Formulas.{february, other_month}
 use Rattle.calendar.proofs.month_length.Goals as goal
 

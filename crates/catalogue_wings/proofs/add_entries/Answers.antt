@@ -1,8 +1,8 @@
 -- `catalogue_wings::add_entries`: a turn adds the length of the entry at `i`.
 -- Assumes nothing.
-use Rattle.std.proofs.Common.{◌≡◌, length, ◌∙◌, sym, arith}
+use Rattle.std.proofs.Common.{length, arith}
 use Rattle.catalogue_wings.specs.Passes.{end_of}
-use Rattle.catalogue_wings.proofs.Sums.{entries_none, entries_more, end_inside}
+use Rattle.catalogue_wings.proofs.Sums.{entries_none, entries_more}
 use Rattle.catalogue_wings.proofs.add_entries.Goals as goal
 
 pub loop-i-preserved : goal.loop-i-preserved

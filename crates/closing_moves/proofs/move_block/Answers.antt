@@ -3,11 +3,8 @@
 
 use mathlib.Core.Path.{◌∙◌}
 use Rattle.blocks_of_card.proofs.Card.{lent, given_back}
-use borrow.Author.Rules.{rules}
 use Rattle.closing_moves.proofs.move_block.Goals as goal
 
 pub returns : goal.returns
-returns c = let second = c in
-    let first = second in
-    let a = first.args in
-    given_back a.card.now a.to _ _ (second.copy-2.ensures ∙ first.copy.ensures ∙ lent a.card.now a.from)
+returns c = let a = c.args in
+    given_back a.card.now a.to _ _ (c.copy-2.ensures ∙ c.copy.ensures ∙ lent a.card.now a.from)

@@ -1,10 +1,8 @@
 -- `move_blocks` meets its contract. The invariant: the first i of the blocks are moved, and all others are as they were.
 -- Assumes nothing.
 
-use mathlib.Core.Path.{◌≡◌, ap, ◌∙◌}
-use Prim.Native.Nat.{◌≤◌, ◌-◌}
+use mathlib.Core.Path.{ap, ◌∙◌}
 use native.Mathlib.Omega.{arith}
-use lib.ListN.{length}
 use Rattle.closing_moves.specs.Moved.{moved}
 use Rattle.closing_moves.proofs.Moved.{moved_nowhere, moved_none, moved_next}
 use borrow.Author.Rules.{rules}
@@ -17,15 +15,13 @@ pub loop-i-init : goal.loop-i-init
 loop-i-init c = let a = c.args in (omega arith, moved_none a.card.now a.to a.from, search rules)
 
 pub loop-i-preserved : goal.loop-i-preserved
-loop-i-preserved c = let loop = c in
-    let a = loop.args in (
-      omega arith,
-      moved_next a.card.now loop.loop-i.card _ a.to a.from loop.loop-i.i (omega arith) (omega arith)
-          loop.loop-i.invariant.1 c.move_block.ensures,
-      search rules,
-    )
+loop-i-preserved c = let a = c.args in (
+  omega arith,
+  moved_next a.card.now c.loop-i.card _ a.to a.from c.loop-i.i (omega arith) (omega arith)
+      c.loop-i.invariant.1 c.move_block.ensures,
+  search rules,
+)
 
 pub returns : goal.returns
-returns c = let loop = c in
-    let a = loop.args in
-    loop.loop-i.invariant.1 ∙ ap (moved a.card.now a.to a.from) (omega arith)
+returns c = let a = c.args in
+    c.loop-i.invariant.1 ∙ ap (moved a.card.now a.to a.from) (omega arith)

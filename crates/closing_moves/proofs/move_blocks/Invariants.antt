@@ -1,13 +1,10 @@
 -- `move_blocks` meets its contract. The invariant: the first i of the blocks are moved, and all others are as they were.
 -- Assumes nothing.
 
-use mathlib.Core.Path.{◌≡◌, ap, ◌∙◌}
+use mathlib.Core.Path.{◌≡◌}
 use Prim.Native.Nat.{◌≤◌, ◌-◌}
-use native.Mathlib.Omega.{arith}
 use lib.ListN.{length}
 use Rattle.closing_moves.specs.Moved.{moved}
-use Rattle.closing_moves.proofs.Moved.{moved_nowhere, moved_none, moved_next}
-use borrow.Author.Rules.{rules}
 use Rattle.closing_moves.proofs.move_blocks.Given as goal
 
 abbrev pub invariant-loop-i : goal.invariant-loop-i

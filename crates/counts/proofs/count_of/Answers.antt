@@ -3,7 +3,6 @@
 
 use mathlib.Core.Path.{sym, ◌∙◌}
 use Rattle.counts.proofs.Tests.{number_told, absent_told, not_absent, digit_refused}
-use borrow.Author.Rules.{rules}
 use Rattle.counts.proofs.count_of.Goals as goal
 
 pub returns-then-all_digits : goal.returns-then-all_digits

@@ -2,7 +2,6 @@
 -- Assumes nothing.
 
 use Rattle.counts.proofs.Tests.{sum_told}
-use borrow.Author.Rules.{rules}
 use Rattle.counts.proofs.hundredths_of.Goals as goal
 
 pub returns : goal.returns

@@ -3,7 +3,6 @@
 
 use mathlib.Core.Path.{sym, ap}
 use Rattle.counts.specs.Counts.{in_range}
-use borrow.Author.Rules.{rules}
 use Rattle.counts.proofs.in_range.Goals as goal
 
 pub returns-in-Absent : goal.returns-in-Absent

@@ -2,15 +2,13 @@
 -- Assumes nothing.
 
 use Rattle.counts.proofs.Tests.{read_wrong, read_told, read_none}
-use borrow.Author.Rules.{rules}
 use Rattle.counts.proofs.read_count.Goals as goal
 
 pub returns-then-payload-ne-PAYLOAD : goal.returns-then-payload-ne-PAYLOAD
 returns-then-payload-ne-PAYLOAD c = read_wrong c.args.payload.now c.args.which c.if-payload-ne-PAYLOAD.true
 
 pub returns-then-which-lt-COUNTS : goal.returns-then-which-lt-COUNTS
-returns-then-which-lt-COUNTS c = let start = c in
-    read_told start.args.payload.now start.args.which _ _
+returns-then-which-lt-COUNTS c = read_told c.args.payload.now c.args.which _ _
     c.if-payload-ne-PAYLOAD.false
     c.if-which-lt-COUNTS.true
     (λ i. (c.type_inv.payload i).fits)
@@ -18,5 +16,4 @@ returns-then-which-lt-COUNTS c = let start = c in
     c.count_of.ensures
 
 pub returns : goal.returns
-returns c = let start = c in
-    read_none start.args.payload.now start.args.which c.if-payload-ne-PAYLOAD.false c.if-which-lt-COUNTS.false
+returns c = read_none c.args.payload.now c.args.which c.if-payload-ne-PAYLOAD.false c.if-which-lt-COUNTS.false

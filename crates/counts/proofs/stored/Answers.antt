@@ -5,12 +5,10 @@ use mathlib.Core.Path.{sym, ap, ◌∙◌}
 use native.Mathlib.Omega.{arith}
 use Rattle.counts.specs.Counts.{form_of}
 use Rattle.counts.proofs.Tests.{eight_digits, absent_form, number_form}
-use borrow.Author.Rules.{rules}
 use Rattle.counts.proofs.stored.Goals as goal
 
 pub byte_of-requires : goal.byte_of-requires
-byte_of-requires c = let start = c in
-    omega (arith, eight_digits start.args.count _ start.requires c.in-Hundredths.is)
+byte_of-requires c = omega (arith, eight_digits c.args.count _ c.requires c.in-Hundredths.is)
 
 pub returns-in-Absent : goal.returns-in-Absent
 returns-in-Absent c = absent_form ∙ ap form_of (sym c.in-Absent.is)

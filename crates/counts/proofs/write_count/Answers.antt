@@ -3,29 +3,23 @@
 
 use mathlib.Core.Path.{sym, ◌∙◌}
 use Rattle.counts.proofs.Tests.{write_wrong, write-none, write-range, write_done}
-use borrow.Author.Rules.{rules}
 use Rattle.counts.proofs.write_count.Goals as goal
 
 pub returns-then-payload-ne-PAYLOAD : goal.returns-then-payload-ne-PAYLOAD
-returns-then-payload-ne-PAYLOAD c = let start = c in
-    write_wrong start.args.payload.now start.args.which start.args.count c.if-payload-ne-PAYLOAD.true
+returns-then-payload-ne-PAYLOAD c = write_wrong c.args.payload.now c.args.which c.args.count c.if-payload-ne-PAYLOAD.true
 
 pub returns-then-which-ge-COUNTS : goal.returns-then-which-ge-COUNTS
-returns-then-which-ge-COUNTS c = let start = c in
-    write-none start.args.payload.now start.args.which start.args.count c.if-payload-ne-PAYLOAD.false c.if-which-ge-COUNTS.true
+returns-then-which-ge-COUNTS c = write-none c.args.payload.now c.args.which c.args.count c.if-payload-ne-PAYLOAD.false c.if-which-ge-COUNTS.true
 
 pub stored-requires : goal.stored-requires
 stored-requires c = sym c.in_range.ensures ∙ c.if-in_range.true
 
 pub returns-then-in_range : goal.returns-then-in_range
-returns-then-in_range c = let asked = c in
-    let start = asked in
-    write_done start.args.payload.now start.args.which start.args.count
-    asked.if-payload-ne-PAYLOAD.false _ asked.if-which-ge-COUNTS.false
-    (sym asked.in_range.ensures ∙ asked.if-in_range.true)
+returns-then-in_range c = write_done c.args.payload.now c.args.which c.args.count
+    c.if-payload-ne-PAYLOAD.false _ c.if-which-ge-COUNTS.false
+    (sym c.in_range.ensures ∙ c.if-in_range.true)
     (c.put4.ensures ∙ c.stored.ensures)
 
 pub returns : goal.returns
-returns c = let start = c in
-    write-range start.args.payload.now start.args.which start.args.count
+returns c = write-range c.args.payload.now c.args.which c.args.count
     c.if-payload-ne-PAYLOAD.false (sym c.in_range.ensures ∙ c.if-in_range.false)

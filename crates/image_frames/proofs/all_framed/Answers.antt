@@ -5,11 +5,9 @@ use mathlib.Core.Bool.{false}
 use mathlib.Core.Bool.{true}
 use mathlib.Core.List.{List}
 use mathlib.Core.Path.{◌≡◌, sym, ◌∙◌}
-use Prim.Native.Nat.{ℕ, ◌≤◌, ◌<◌, ◌-◌}
+use Prim.Native.Nat.{ℕ, ◌<◌}
 use native.Mathlib.Omega.{arith}
 use borrow.Author.Count.{below_more}
-use borrow.Author.Rules.{rules}
-use borrow.Author.Tests.{not-true, not-false}
 use Rattle.blocks_of_card.specs.Card.{block_of}
 use Rattle.block_seals.specs.Sealed.{sound}
 use Rattle.image_frames.specs.Frames.{total_of, framed}
@@ -34,13 +32,13 @@ pub returns-then-not-sound_block : goal.returns-then-not-sound_block
 returns-then-not-sound_block c = let loop = c.loop-i in
     let a = c.args in
     broken a.image.now loop.i (omega arith)
-    (sym c.sound_block.ensures ∙ not-true c.sound_block.result c.if-not-sound_block.true-raw)
+    (sym c.sound_block.ensures ∙ c.if-not-sound_block.true)
 
 pub loop-i-preserved : goal.loop-i-preserved
 loop-i-preserved c = let loop = c.loop-i in (
   omega arith,
   below_more _ _ loop.invariant.1 (sym c.sound_block.ensures
-      ∙ not-false c.sound_block.result c.if-not-sound_block.false-raw),
+      ∙ c.if-not-sound_block.false),
 )
 
 pub returns : goal.returns

@@ -1,19 +1,11 @@
 -- `all_framed` meets its contract. The loop's invariant: the frames passed hold.
 -- Assumes nothing.
 
-use mathlib.Core.Bool.{false}
 use mathlib.Core.Bool.{true}
-use mathlib.Core.List.{List}
-use mathlib.Core.Path.{◌≡◌, sym, ◌∙◌}
+use mathlib.Core.Path.{◌≡◌}
 use Prim.Native.Nat.{ℕ, ◌≤◌, ◌<◌, ◌-◌}
-use native.Mathlib.Omega.{arith}
-use borrow.Author.Count.{below_more}
-use borrow.Author.Rules.{rules}
-use borrow.Author.Tests.{not-true, not-false}
 use Rattle.blocks_of_card.specs.Card.{block_of}
 use Rattle.block_seals.specs.Sealed.{sound}
-use Rattle.image_frames.specs.Frames.{total_of, framed}
-use Rattle.map_blocks.proofs.Runs.{all_intro, all_break}
 use Rattle.image_frames.proofs.all_framed.Given as goal
 
 abbrev pub invariant-loop-i : goal.invariant-loop-i

@@ -3,7 +3,6 @@
 
 use mathlib.Core.Path.{ap, ◌∙◌}
 use native.Mathlib.Omega.{arith}
-use borrow.Author.Rules.{rules}
 use Rattle.block_bytes.specs.Numbers.{number_at}
 use Rattle.image_frames.proofs.Numbered.{number_in_lem, number_out}
 use Rattle.image_frames.proofs.number.Goals as goal

@@ -3,10 +3,9 @@
 
 use mathlib.Core.List.{List}
 use mathlib.Core.Path.{◌≡◌, ap, ◌∙◌}
-use Prim.Native.Nat.{ℕ, ◌≤◌, ◌-◌, ◌*◌}
+use Prim.Native.Nat.{ℕ, ◌-◌, ◌*◌}
 use native.Mathlib.Omega.{arith}
 use lib.ListN.{replicate}
-use borrow.Author.Rules.{rules}
 use Rattle.image_frames.proofs.Stored.{Written, zeros_none, zeros_more}
 use Rattle.image_frames.specs.Frames.{body_of, total_of}
 use Rattle.block_bytes.specs.Replaced.{replaced}

@@ -1,15 +1,9 @@
 -- `put_zeros` meets its contract. The loop's invariant: zeros were written from number k up to i.
 -- Assumes nothing.
 
-use mathlib.Core.List.{List}
-use mathlib.Core.Path.{◌≡◌, ap, ◌∙◌}
-use Prim.Native.Nat.{ℕ, ◌≤◌, ◌-◌, ◌*◌}
-use native.Mathlib.Omega.{arith}
+use Prim.Native.Nat.{◌≤◌, ◌-◌, ◌*◌}
 use lib.ListN.{replicate}
-use borrow.Author.Rules.{rules}
-use Rattle.image_frames.proofs.Stored.{Written, zeros_none, zeros_more}
-use Rattle.image_frames.specs.Frames.{body_of, total_of}
-use Rattle.block_bytes.specs.Replaced.{replaced}
+use Rattle.image_frames.proofs.Stored.{Written}
 use Rattle.image_frames.proofs.put_zeros.Given as goal
 
 abbrev pub invariant-loop-i : goal.invariant-loop-i

@@ -5,7 +5,6 @@ use mathlib.Core.Path.{sym}
 use native.Mathlib.Omega.{arith}
 use lib.ListN.{length-take}
 use lib.Seq.{length-take-le}
-use borrow.Author.Rules.{rules}
 use Rattle.image_frames.proofs.Stored.{frame_none, frame_some}
 use Rattle.image_frames.proofs.read_frame.Goals as goal
 
@@ -20,10 +19,9 @@ read_together-requires c = let a = c.args in
     omega (arith, length-take c.words_together-count.result a.words.now)
 
 pub returns : goal.returns
-returns c = let far = c in
-    let a = far.args in (
-      omega arith,
-      frame_some a.image.now a.k _ far.words_together-count.result a.words.now _
-          c.place.ensures
-          c.read_together.ensures (omega arith) (omega arith) (omega arith),
-    )
+returns c = let a = c.args in (
+  omega arith,
+  frame_some a.image.now a.k _ c.words_together-count.result a.words.now _
+      c.place.ensures
+      c.read_together.ensures (omega arith) (omega arith) (omega arith),
+)

@@ -2,11 +2,9 @@
 -- Assumes nothing.
 
 use mathlib.Core.Path.{◌≡◌}
-use Prim.Native.Nat.{◌≤◌, ◌-◌}
 use native.Mathlib.Omega.{arith}
 use lib.ListN.{length}
-use borrow.Author.Rules.{rules}
-use Rattle.image_frames.proofs.Stored.{Reading, reading_none, reading_more, reading_end}
+use Rattle.image_frames.proofs.Stored.{reading_none, reading_more, reading_end}
 use Rattle.image_frames.proofs.read_together.Goals as goal
 
 pub loop-i-init : goal.loop-i-init

@@ -1,12 +1,9 @@
 -- `read_together` meets its contract. The loop's invariant is `Reading`: the words passed are those of the image.
 -- Assumes nothing.
 
-use mathlib.Core.Path.{◌≡◌}
 use Prim.Native.Nat.{◌≤◌, ◌-◌}
-use native.Mathlib.Omega.{arith}
 use lib.ListN.{length}
-use borrow.Author.Rules.{rules}
-use Rattle.image_frames.proofs.Stored.{Reading, reading_none, reading_more, reading_end}
+use Rattle.image_frames.proofs.Stored.{Reading}
 use Rattle.image_frames.proofs.read_together.Given as goal
 
 abbrev pub invariant-loop-i : goal.invariant-loop-i

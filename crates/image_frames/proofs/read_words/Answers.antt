@@ -6,10 +6,9 @@ use mathlib.Core.List.{List}
 use Prim.Native.Nat.{ℕ, ◌≤◌, ◌+◌, ◌-◌, ◌*◌}
 use native.Mathlib.Omega.{arith}
 use lib.ListN.{length, drop, length-take}
-use borrow.Author.Rules.{rules}
 use borrow.Rule.Slice.PartMut.{mid_of}
 use Rattle.image_frames.specs.Frames.{body_of}
-use Rattle.image_frames.proofs.Stored.{Reading, reading_none, reading_more, reading_part, reading_end, word_halves}
+use Rattle.image_frames.proofs.Stored.{reading_none, reading_more, reading_part, reading_end, word_halves}
 use Rattle.image_frames.proofs.read_words.Goals as goal
 
 mid-most : (i : ℕ) (words : List ℕ) → length (mid_of i (length words - i) words) ≤ length words - i

@@ -3,10 +3,9 @@
 
 use mathlib.Core.Path.{refl, sym, subst}
 use mathlib.Core.List.{List}
-use Prim.Native.Nat.{ℕ, ◌≤◌, ◌-◌, ◌+◌, ◌/◌}
+use Prim.Native.Nat.{ℕ, ◌+◌, ◌/◌}
 use native.Mathlib.Omega.{arith}
 use lib.ListN.{length}
-use borrow.Author.Rules.{rules}
 use Rattle.image_frames.proofs.Framing.{Sealing, sealing_more, sealing_end}
 use Rattle.image_frames.proofs.seal_all.Goals as goal
 

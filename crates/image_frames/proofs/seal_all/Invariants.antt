@@ -1,13 +1,8 @@
 -- `seal_all` meets its contract. The loop's invariant is `Sealing`: the blocks passed are sealed, the others as they were.
 -- Assumes nothing.
 
-use mathlib.Core.Path.{refl, sym, subst}
-use mathlib.Core.List.{List}
-use Prim.Native.Nat.{ℕ, ◌≤◌, ◌-◌, ◌+◌, ◌/◌}
-use native.Mathlib.Omega.{arith}
-use lib.ListN.{length}
-use borrow.Author.Rules.{rules}
-use Rattle.image_frames.proofs.Framing.{Sealing, sealing_more, sealing_end}
+use Prim.Native.Nat.{◌≤◌, ◌-◌}
+use Rattle.image_frames.proofs.Framing.{Sealing}
 use Rattle.image_frames.proofs.seal_all.Given as goal
 
 abbrev pub invariant-loop-i : goal.invariant-loop-i

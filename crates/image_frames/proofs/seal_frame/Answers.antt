@@ -4,7 +4,6 @@
 use mathlib.Core.List.{List}
 use mathlib.Core.Path.{ap, ◌∙◌}
 use Prim.Native.Nat.{ℕ}
-use borrow.Author.Rules.{rules}
 use Rattle.blocks_of_card.specs.Card.{with_block}
 use Rattle.block_seals.specs.Sealed.{sealed}
 use Rattle.image_frames.proofs.seal_frame.Goals as goal

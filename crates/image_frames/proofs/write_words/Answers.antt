@@ -1,19 +1,15 @@
 -- `write_words` meets its contract. The loop's invariant: the first i words were written from number k on.
 -- Assumes nothing.
 
-use Prim.Native.Nat.{◌≤◌, ◌-◌}
 use native.Mathlib.Omega.{arith}
-use lib.ListN.{length, take}
-use borrow.Author.Rules.{rules}
-use Rattle.image_frames.proofs.Stored.{Written, words_none, words_more, words_end}
-use Rattle.image_frames.specs.Numbers.{word_bytes}
+use Rattle.image_frames.proofs.Stored.{words_none, words_more, words_end}
 use Rattle.image_frames.proofs.write_words.Goals as goal
 
 pub loop-i-init : goal.loop-i-init
 loop-i-init c = (omega arith, words_none _ _ c.args.words.now)
 
 pub overflow_cast-word : goal.overflow_cast-word
-overflow_cast-word c = record { fits = omega (arith, c.shared_slice_known-in-loop-i-1.given c.loop-i.i) }
+overflow_cast-word c = record { fits = omega (arith, c.type_inv.words c.loop-i.i) }
 
 pub loop-i-preserved : goal.loop-i-preserved
 loop-i-preserved c = let loop = c.loop-i in

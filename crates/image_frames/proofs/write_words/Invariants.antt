@@ -2,10 +2,8 @@
 -- Assumes nothing.
 
 use Prim.Native.Nat.{◌≤◌, ◌-◌}
-use native.Mathlib.Omega.{arith}
 use lib.ListN.{length, take}
-use borrow.Author.Rules.{rules}
-use Rattle.image_frames.proofs.Stored.{Written, words_none, words_more, words_end}
+use Rattle.image_frames.proofs.Stored.{Written}
 use Rattle.image_frames.specs.Numbers.{word_bytes}
 use Rattle.image_frames.proofs.write_words.Given as goal
 

@@ -1,13 +1,10 @@
 -- `zeros_from` meets its contract. The loop's invariant: the numbers passed are 0.
 -- Assumes nothing.
 
-use mathlib.Core.Path.{◌≡◌, sym, ◌∙◌}
-use Prim.Native.Nat.{ℕ, ◌≤◌, ◌<◌, ◌-◌}
+use mathlib.Core.Path.{sym, ◌∙◌}
 use native.Mathlib.Omega.{arith}
 use borrow.Author.Count.{below_more}
-use borrow.Author.Rules.{rules}
 use Rattle.image_frames.proofs.Stored.{zeros_all, zeros_not}
-use Rattle.image_frames.specs.Numbers.{number_in}
 use Rattle.image_frames.proofs.zeros_from.Goals as goal
 
 pub loop-i-init : goal.loop-i-init

@@ -1,12 +1,8 @@
 -- `zeros_from` meets its contract. The loop's invariant: the numbers passed are 0.
 -- Assumes nothing.
 
-use mathlib.Core.Path.{◌≡◌, sym, ◌∙◌}
+use mathlib.Core.Path.{◌≡◌}
 use Prim.Native.Nat.{ℕ, ◌≤◌, ◌<◌, ◌-◌}
-use native.Mathlib.Omega.{arith}
-use borrow.Author.Count.{below_more}
-use borrow.Author.Rules.{rules}
-use Rattle.image_frames.proofs.Stored.{zeros_all, zeros_not}
 use Rattle.image_frames.specs.Numbers.{number_in}
 use Rattle.image_frames.proofs.zeros_from.Given as goal
 

@@ -1,14 +1,9 @@
 -- `map_search::any_free` meets its contract. The loop's invariant: where `any` is 0, so is each word passed.
 -- Assumes nothing.
 
-use mathlib.Core.Path.{◌≡◌, subst}
-use mathlib.Core.Logic.{⊎_elim}
+use mathlib.Core.Path.{◌≡◌}
 use Prim.Native.Nat.{ℕ, ◌+◌, ◌-◌, ◌<◌, ◌≤◌}
-use native.Mathlib.Omega.{arith}
-use lib.Bits.{bit_or, or_add_and, and_le_l, and_le_r}
 use lib.ListN.{get_or}
-use borrow.Author.Rules.{rules}
-use Rattle.laws.proofs.Bools.{order}
 use Rattle.map_search.proofs.any_free.Given as goal
 
 abbrev pub invariant-loop-t : goal.invariant-loop-t

@@ -4,11 +4,10 @@
 
 use mathlib.Core.Path.{◌≡◌, subst}
 use mathlib.Core.Bool.{Bool}
-use Prim.Native.Nat.{ℕ, ◌+◌, ◌-◌, ◌*◌, ◌/◌, ◌<◌, ◌≤◌}
+use Prim.Native.Nat.{ℕ, ◌+◌, ◌*◌, ◌/◌}
 use native.Mathlib.Omega.{arith}
-use borrow.Author.Rules.{rules}
 use Rattle.map_blocks.specs.Blocks.{free}
-use Rattle.map_blocks.specs.Words.{bit, in_window}
+use Rattle.map_blocks.specs.Words.{in_window}
 use Rattle.map_search_word.specs.Scan.{Carried}
 use Rattle.map_blocks.proofs.Maps.{cut_word}
 use Rattle.map_search.proofs.Words.{past_word}

@@ -2,17 +2,11 @@
 -- taken.
 -- Assumes nothing.
 
-use mathlib.Core.Path.{◌≡◌, subst}
-use mathlib.Core.Bool.{Bool}
-use Prim.Native.Nat.{ℕ, ◌+◌, ◌-◌, ◌*◌, ◌/◌, ◌<◌, ◌≤◌}
-use native.Mathlib.Omega.{arith}
-use borrow.Author.Rules.{rules}
+use mathlib.Core.Path.{◌≡◌}
+use Prim.Native.Nat.{ℕ, ◌+◌, ◌-◌, ◌*◌, ◌<◌, ◌≤◌}
 use Rattle.map_blocks.specs.Blocks.{free}
 use Rattle.map_blocks.specs.Words.{bit, in_window}
 use Rattle.map_search_word.specs.Scan.{Carried}
-use Rattle.map_blocks.proofs.Maps.{cut_word}
-use Rattle.map_search.proofs.Words.{past_word}
-use Rattle.map_search.proofs.Window.{at_start, whole_words}
 use Rattle.map_search.proofs.reach.Given as goal
 
 abbrev pub invariant-loop-i : goal.invariant-loop-i

@@ -3,9 +3,8 @@
 
 use mathlib.Core.Path.{◌≡◌, subst}
 use mathlib.Core.Bool.{Bool}
-use Prim.Native.Nat.{ℕ, ◌-◌, ◌*◌, ◌<◌, ◌≤◌}
+use Prim.Native.Nat.{ℕ, ◌*◌}
 use native.Mathlib.Omega.{arith}
-use borrow.Author.Rules.{rules}
 use Rattle.map_search_word.specs.Scan.{Carried, Stepped, Bounded}
 use Rattle.map_search.specs.Search.{HasBits}
 use Rattle.map_search_word.specs.declared.Step.TheVariants.{Hit, Next}

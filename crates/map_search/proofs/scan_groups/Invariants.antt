@@ -1,15 +1,10 @@
 -- `map_search::scan_groups` meets its contract. The loop's invariant: what is carried from `first` on to `i`.
 -- Assumes nothing.
 
-use mathlib.Core.Path.{◌≡◌, subst}
 use mathlib.Core.Bool.{Bool}
 use Prim.Native.Nat.{ℕ, ◌-◌, ◌*◌, ◌<◌, ◌≤◌}
-use native.Mathlib.Omega.{arith}
-use borrow.Author.Rules.{rules}
-use Rattle.map_search_word.specs.Scan.{Carried, Stepped, Bounded}
+use Rattle.map_search_word.specs.Scan.{Carried}
 use Rattle.map_search.specs.Search.{HasBits}
-use Rattle.map_search_word.specs.declared.Step.TheVariants.{Hit, Next}
-use Rattle.map_search.proofs.Words.{shows_part}
 use Rattle.map_search.proofs.scan_groups.Given as goal
 
 abbrev pub invariant-loop-i : goal.invariant-loop-i

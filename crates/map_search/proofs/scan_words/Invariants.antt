@@ -1,14 +1,10 @@
 -- `map_search::scan_words` meets its contract. The loop's invariant: what is carried from `first` on to `i`.
 -- Assumes nothing.
 
-use mathlib.Core.Path.{◌≡◌, subst}
 use mathlib.Core.Bool.{Bool}
-use Prim.Native.Nat.{ℕ, ◌+◌, ◌-◌, ◌*◌, ◌<◌, ◌≤◌}
-use native.Mathlib.Omega.{arith}
-use borrow.Author.Rules.{rules}
-use Rattle.map_search_word.specs.Scan.{Carried, Stepped, Bounded}
+use Prim.Native.Nat.{ℕ, ◌-◌, ◌*◌, ◌<◌, ◌≤◌}
+use Rattle.map_search_word.specs.Scan.{Carried}
 use Rattle.map_search.specs.Search.{HasBits}
-use Rattle.map_search_word.specs.declared.Step.TheVariants.{Next}
 use Rattle.map_search.proofs.scan_words.Given as goal
 
 abbrev pub invariant-loop-i : goal.invariant-loop-i

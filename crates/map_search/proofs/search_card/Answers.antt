@@ -6,7 +6,6 @@ use mathlib.Core.Bool.{Bool, false}
 use Prim.Native.Nat.{ℕ, ◌+◌, ◌*◌, ◌≤◌}
 use native.Mathlib.Omega.{arith}
 use lib.Count.{count_leading_zeros, leading_le}
-use borrow.Author.Rules.{rules}
 use Rattle.map_blocks.specs.Blocks.{free, all}
 use Rattle.map_blocks.specs.Words.{bit, in_window}
 use Rattle.map_blocks.specs.declared.Found.TheVariants.{At}

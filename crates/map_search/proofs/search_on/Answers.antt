@@ -6,7 +6,6 @@ use mathlib.Core.Path.{subst}
 use mathlib.Core.Bool.{Bool}
 use Prim.Native.Nat.{ℕ, ◌+◌, ◌-◌, ◌*◌, ◌/◌}
 use native.Mathlib.Omega.{arith}
-use borrow.Author.Rules.{rules}
 use Rattle.map_blocks.specs.Blocks.{free}
 use Rattle.map_blocks.specs.Words.{in_window}
 use Rattle.map_search_word.specs.Scan.{Stepped, Bounded}

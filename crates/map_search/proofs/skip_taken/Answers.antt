@@ -1,12 +1,8 @@
 -- `map_search::skip_taken` meets its contract. The loop's invariant: what is carried from `first` on to `i`.
 -- Assumes nothing.
 
-use mathlib.Core.Bool.{Bool}
-use Prim.Native.Nat.{ℕ, ◌+◌, ◌-◌, ◌*◌, ◌≤◌}
+use Prim.Native.Nat.{ℕ, ◌+◌, ◌*◌}
 use native.Mathlib.Omega.{arith}
-use borrow.Author.Rules.{rules}
-use Rattle.map_search_word.specs.Scan.{Carried}
-use Rattle.map_search.specs.Search.{HasBits}
 use Rattle.map_search.proofs.Words.{past_taken, zero_words}
 use Rattle.map_search.proofs.skip_taken.Goals as goal
 

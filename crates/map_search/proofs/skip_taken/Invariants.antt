@@ -2,12 +2,9 @@
 -- Assumes nothing.
 
 use mathlib.Core.Bool.{Bool}
-use Prim.Native.Nat.{ℕ, ◌+◌, ◌-◌, ◌*◌, ◌≤◌}
-use native.Mathlib.Omega.{arith}
-use borrow.Author.Rules.{rules}
+use Prim.Native.Nat.{ℕ, ◌-◌, ◌*◌, ◌≤◌}
 use Rattle.map_search_word.specs.Scan.{Carried}
 use Rattle.map_search.specs.Search.{HasBits}
-use Rattle.map_search.proofs.Words.{past_taken, zero_words}
 use Rattle.map_search.proofs.skip_taken.Given as goal
 
 abbrev pub invariant-loop-i : goal.invariant-loop-i

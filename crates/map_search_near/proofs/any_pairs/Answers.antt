@@ -5,16 +5,14 @@ use mathlib.Core.Path.{◌≡◌, refl, ◌∙◌, subst}
 use native.Mathlib.Omega.{arith}
 use mathlib.Core.Logic.{⊎_elim}
 use mathlib.Core.Bool.{true}
-use Prim.Native.Nat.{ℕ, ◌+◌, ◌-◌, ◌*◌, ◌≤◌, ◌<◌}
+use Prim.Native.Nat.{ℕ, ◌+◌, ◌*◌}
 use lib.ListN.{get_or}
 use Rattle.laws.proofs.Bools.{order}
 use Rattle.map_blocks.specs.Blocks.{free, all}
 use Rattle.map_blocks.specs.Words.{bit}
 use Rattle.map_blocks.proofs.Bits.{bit_or_lem}
-use Rattle.map_search_starts.specs.Starts.{Alone}
 use Rattle.laws.proofs.Bools.{or_left, or_right}
 use Rattle.map_search_near.proofs.Rows.{word_marks}
-use borrow.Author.Rules.{rules}
 use Rattle.map_search_near.proofs.any_pairs.Goals as goal
 
 pub loop-t-init : goal.loop-t-init

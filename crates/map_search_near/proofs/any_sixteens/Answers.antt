@@ -6,14 +6,13 @@ use mathlib.Core.Path.{◌≡◌, sym, ap, ◌∙◌, subst}
 use native.Mathlib.Omega.{arith}
 use mathlib.Core.Logic.{⊎_elim}
 use mathlib.Core.Bool.{false}
-use Prim.Native.Nat.{ℕ, ◌+◌, ◌-◌, ◌≤◌, ◌<◌}
+use Prim.Native.Nat.{ℕ}
 use lib.ListN.{get_or}
 use Rattle.laws.proofs.Bools.{order}
 use Rattle.map_blocks.specs.Blocks.{all}
 use Rattle.map_blocks.specs.Words.{bit}
 use Rattle.map_blocks.proofs.Bits.{bit_zero}
 use Rattle.map_search_near.proofs.Rows.{or_zero, no_sixteen}
-use borrow.Author.Rules.{rules}
 use Rattle.map_search_near.proofs.any_sixteens.Goals as goal
 
 pub loop-t-init : goal.loop-t-init

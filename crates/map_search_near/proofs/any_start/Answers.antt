@@ -3,7 +3,6 @@
 
 use native.Mathlib.Omega.{arith}
 use Rattle.map_search_near.proofs.Rows.{no_pair}
-use borrow.Author.Rules.{rules}
 use Rattle.map_search_near.proofs.any_start.Goals as goal
 
 pub returns-then-k-lt31 : goal.returns-then-k-lt31

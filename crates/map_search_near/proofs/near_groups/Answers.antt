@@ -4,12 +4,11 @@
 use mathlib.Core.Path.{◌≡◌, refl, subst}
 use native.Mathlib.Omega.{arith}
 use mathlib.Core.Bool.{Bool}
-use Prim.Native.Nat.{ℕ, ◌-◌, ◌*◌, ◌≤◌}
+use Prim.Native.Nat.{ℕ, ◌*◌}
 use Rattle.map_blocks.specs.Blocks.{free, on_step}
-use Rattle.map_search_starts.specs.Starts.{NoRun, FirstRun}
+use Rattle.map_search_starts.specs.Starts.{FirstRun}
 use Rattle.map_search_near.proofs.Figures.{run_after, no_run_after}
 use Rattle.map_search_near.proofs.Rows.{no_first}
-use borrow.Author.Rules.{rules}
 use Rattle.map_search_near.proofs.near_groups.Goals as goal
 
 pub often-mostly-requires : goal.often-mostly-requires

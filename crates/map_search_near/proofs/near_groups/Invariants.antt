@@ -1,15 +1,9 @@
 -- `map_search_near::near_groups` meets its contract. The loop's invariant: no run starts from c to `at`.
 -- Assumes nothing.
 
-use mathlib.Core.Path.{◌≡◌, refl, subst}
-use native.Mathlib.Omega.{arith}
-use mathlib.Core.Bool.{Bool}
-use Prim.Native.Nat.{ℕ, ◌-◌, ◌*◌, ◌≤◌}
+use Prim.Native.Nat.{◌-◌, ◌*◌, ◌≤◌}
 use Rattle.map_blocks.specs.Blocks.{free, on_step}
-use Rattle.map_search_starts.specs.Starts.{NoRun, FirstRun}
-use Rattle.map_search_near.proofs.Figures.{run_after, no_run_after}
-use Rattle.map_search_near.proofs.Rows.{no_first}
-use borrow.Author.Rules.{rules}
+use Rattle.map_search_starts.specs.Starts.{NoRun}
 use Rattle.map_search_near.proofs.near_groups.Given as goal
 
 abbrev pub invariant-loop-at : goal.invariant-loop-at

@@ -6,7 +6,6 @@ use native.Mathlib.Omega.{arith}
 use Prim.Native.Nat.{ℕ, ◌+◌, ◌*◌}
 use Rattle.map_blocks.specs.Blocks.{free, on_step}
 use Rattle.map_search_near.proofs.Rows.{word_marks, from_marks}
-use borrow.Author.Rules.{rules}
 use Rattle.map_search_near.proofs.near_last.Goals as goal
 
 pub returns : goal.returns

@@ -5,7 +5,6 @@ use native.Mathlib.Omega.{arith}
 use Prim.Native.Nat.{ℕ, ◌+◌, ◌-◌, ◌*◌, ◌/◌}
 use Rattle.map_blocks.specs.Blocks.{free, on_step}
 use Rattle.map_search_near.proofs.Figures.{run_after}
-use borrow.Author.Rules.{rules}
 use Rattle.map_search_near.proofs.near_start.Goals as goal
 
 pub near_last-requires : goal.near_last-requires

@@ -4,15 +4,12 @@
 
 use mathlib.Core.Path.{◌≡◌, refl, subst}
 use native.Mathlib.Omega.{arith}
-use mathlib.Core.Bool.{◌&&◌}
-use Prim.Native.Nat.{ℕ, ◌+◌, ◌-◌, ◌*◌, ◌/◌, ◌%◌, ◌^◌, ◌≤◌, ◌<◌}
+use Prim.Native.Nat.{ℕ, ◌+◌, ◌*◌, ◌/◌}
 use lib.Bits.{and_lt}
-use lib.Dec.{leb}
 use Rattle.map_blocks.specs.Blocks.{free, on_step}
-use Rattle.map_search_starts.specs.Starts.{Marks, NoRun, FirstRun}
+use Rattle.map_search_starts.specs.Starts.{FirstRun}
 use Rattle.map_search_near.proofs.Figures.{run_after}
 use Rattle.map_search_near.proofs.Rows.{word_marks, from_marks, all_marks, no_first}
-use borrow.Author.Rules.{rules}
 use Rattle.map_search_near.proofs.near_words.Goals.{After-look-r}
 use Rattle.map_search_near.proofs.near_words.Goals as goal
 

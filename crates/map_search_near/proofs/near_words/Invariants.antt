@@ -2,17 +2,12 @@
 -- run starts before that word.
 -- Assumes nothing.
 
-use mathlib.Core.Path.{◌≡◌, refl, subst}
-use native.Mathlib.Omega.{arith}
+use mathlib.Core.Path.{◌≡◌}
 use mathlib.Core.Bool.{◌&&◌}
 use Prim.Native.Nat.{ℕ, ◌+◌, ◌-◌, ◌*◌, ◌/◌, ◌%◌, ◌^◌, ◌≤◌, ◌<◌}
-use lib.Bits.{and_lt}
 use lib.Dec.{leb}
 use Rattle.map_blocks.specs.Blocks.{free, on_step}
-use Rattle.map_search_starts.specs.Starts.{Marks, NoRun, FirstRun}
-use Rattle.map_search_near.proofs.Figures.{run_after}
-use Rattle.map_search_near.proofs.Rows.{word_marks, from_marks, all_marks, no_first}
-use borrow.Author.Rules.{rules}
+use Rattle.map_search_starts.specs.Starts.{Marks, NoRun}
 use Rattle.map_search_near.proofs.near_words.Given as goal
 
 abbrev pub invariant-loop-i : goal.invariant-loop-i

@@ -2,11 +2,9 @@
 -- Assumes nothing.
 
 use native.Mathlib.Omega.{arith}
-use Prim.Native.Nat.{ℕ, ◌+◌, ◌-◌, ◌*◌, ◌≤◌}
+use Prim.Native.Nat.{◌+◌, ◌*◌}
 use Rattle.map_blocks.specs.Blocks.{free, on_step}
-use Rattle.map_search_starts.specs.Starts.{Often, NoRun}
 use Rattle.map_search_near.proofs.Figures.{no_run_after}
-use borrow.Author.Rules.{rules}
 use Rattle.map_search_near.proofs.quiet_words.Goals as goal
 
 pub loop-i-init : goal.loop-i-init

@@ -1,12 +1,9 @@
 -- `map_search_near::quiet_words` meets its contract. The loop's invariant: no run starts from `first` to i.
 -- Assumes nothing.
 
-use native.Mathlib.Omega.{arith}
-use Prim.Native.Nat.{ℕ, ◌+◌, ◌-◌, ◌*◌, ◌≤◌}
+use Prim.Native.Nat.{ℕ, ◌-◌, ◌*◌, ◌≤◌}
 use Rattle.map_blocks.specs.Blocks.{free, on_step}
 use Rattle.map_search_starts.specs.Starts.{Often, NoRun}
-use Rattle.map_search_near.proofs.Figures.{no_run_after}
-use borrow.Author.Rules.{rules}
 use Rattle.map_search_near.proofs.quiet_words.Given as goal
 
 abbrev pub invariant-loop-i : goal.invariant-loop-i

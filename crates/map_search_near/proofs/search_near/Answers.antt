@@ -4,12 +4,11 @@
 use mathlib.Core.Path.{◌≡◌, sym, ap, ◌∙◌, subst}
 use native.Mathlib.Omega.{arith}
 use mathlib.Core.Bool.{Bool, false}
-use Prim.Native.Nat.{ℕ, ◌+◌, ◌-◌, ◌≤◌, ◌<◌, min}
+use Prim.Native.Nat.{ℕ, ◌+◌, ◌≤◌, ◌<◌, min}
 use Rattle.map_blocks.specs.Blocks.{free, all, on_step, fit}
 use Rattle.map_blocks.proofs.Fits.{Spaced, spaced}
 use Rattle.map_search_near.proofs.Figures.{is_nothing, is_start, found_at, found_none}
 use Rattle.map_search_near.proofs.Figures.{past_runs, past_block, before_from, no_longer, space_fits}
-use borrow.Author.Rules.{rules}
 use Rattle.map_search_near.proofs.search_near.Goals.{After-near_start-s, After-space-r}
 use Rattle.map_search_near.proofs.search_near.Goals as goal
 

@@ -1,15 +1,10 @@
 -- `map_search_near::search_near` meets its contract. The loop's invariant: no fit starts before c.
 -- Assumes nothing.
 
-use mathlib.Core.Path.{◌≡◌, sym, ap, ◌∙◌, subst}
-use native.Mathlib.Omega.{arith}
-use mathlib.Core.Bool.{Bool, false}
-use Prim.Native.Nat.{ℕ, ◌+◌, ◌-◌, ◌≤◌, ◌<◌, min}
-use Rattle.map_blocks.specs.Blocks.{free, all, on_step, fit}
-use Rattle.map_blocks.proofs.Fits.{Spaced, spaced}
-use Rattle.map_search_near.proofs.Figures.{is_nothing, is_start, found_at, found_none}
-use Rattle.map_search_near.proofs.Figures.{past_runs, past_block, before_from, no_longer, space_fits}
-use borrow.Author.Rules.{rules}
+use mathlib.Core.Path.{◌≡◌}
+use mathlib.Core.Bool.{false}
+use Prim.Native.Nat.{ℕ, ◌+◌, ◌-◌, ◌≤◌, ◌<◌}
+use Rattle.map_blocks.specs.Blocks.{free, fit}
 use Rattle.map_search_near.proofs.search_near.Given as goal
 
 abbrev pub invariant-loop-c : goal.invariant-loop-c

@@ -4,7 +4,6 @@
 use mathlib.Core.Path.{sym}
 use native.Mathlib.Omega.{arith}
 use lib.ListN.{get_or-eq_default}
-use borrow.Author.Rules.{rules}
 use Rattle.map_search_near.proofs.word_at.Goals as goal
 
 pub returns-else-i-map : goal.returns-else-i-map

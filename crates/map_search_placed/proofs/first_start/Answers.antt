@@ -9,7 +9,6 @@ use Rattle.map_blocks.specs.Blocks.{free}
 use Rattle.map_blocks.proofs.Fits.{Spaced, spaced, mod_on}
 use Rattle.map_search_starts.proofs.Steps.{none_ahead}
 use Rattle.map_search_near.proofs.Figures.{is_start, found_at, before_first, space_fits}
-use borrow.Author.Rules.{rules}
 use Rattle.map_search_placed.proofs.first_start.Goals as goal
 
 pub returns-then-before-k : goal.returns-then-before-k

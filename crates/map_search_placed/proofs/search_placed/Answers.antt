@@ -7,7 +7,6 @@ use mathlib.Core.Bool.{false}
 use Prim.Native.Nat.{ℕ, ◌<◌, min}
 use Rattle.map_blocks.specs.Blocks.{free, fit, least_fit}
 use Rattle.map_search_near.proofs.Figures.{found_none, empty_window, past_free, begun, capped}
-use borrow.Author.Rules.{rules}
 use Rattle.map_search_placed.proofs.search_placed.Goals.{After-reach-b}
 use Rattle.map_search_placed.proofs.search_placed.Goals as goal
 
@@ -40,8 +39,8 @@ from_there c =
 
 pub returns-then-from-eq0 : goal.returns-then-from-eq0
 returns-then-from-eq0 c = let a = c.args in
-    let start : 0 ≡ a.from = omega (arith, c.if-from-eq0.true) in
-    let every : 1 ≡ a.step = omega (arith, c.if-step-eq1.true) in
+    let start : 0 ≡ a.from = omega arith in
+    let every : 1 ≡ a.step = omega arith in
     c.search.ensures ∙ ap (λ (x : ℕ). least_fit (free a.map.now) x a.before 1 a.k) start
     ∙ ap (λ (x : ℕ). least_fit (free a.map.now) a.from a.before x a.k) every
 

@@ -6,7 +6,6 @@ use Prim.Native.Nat.{ℕ, ◌+◌, ◌-◌, ◌%◌, ◌<◌}
 use native.Mathlib.Nat.{add-zero, mod-lt}
 use native.Mathlib.Omega.{arith}
 use Rattle.map_search_starts.proofs.Steps.{to_next}
-use borrow.Author.Rules.{rules}
 use Rattle.map_search_starts.proofs.ahead.Goals as goal
 
 pub returns-then-p-eq0 : goal.returns-then-p-eq0

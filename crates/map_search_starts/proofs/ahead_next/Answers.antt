@@ -5,7 +5,6 @@ use Prim.Native.Nat.{◌%◌, ◌<◌}
 use native.Mathlib.Nat.{mod-lt}
 use native.Mathlib.Omega.{arith}
 use Rattle.map_search_starts.proofs.Steps.{next_back, next_on}
-use borrow.Author.Rules.{rules}
 use Rattle.map_search_starts.proofs.ahead_next.Goals as goal
 
 pub overflow_sub-result : goal.overflow_sub-result

@@ -8,7 +8,6 @@ use native.Mathlib.Omega.{arith}
 use lib.Dec.{leb, ltb}
 use borrow.Author.Tests.{lt-leb, lt-ltb}
 use Rattle.map_blocks.proofs.Bits.{bit_zero, ones_shr}
-use borrow.Author.Rules.{rules}
 use Rattle.map_search_starts.proofs.ending.Goals as goal
 
 pub returns-then-t-eq0 : goal.returns-then-t-eq0

@@ -8,7 +8,6 @@ use lib.Bits.{bit_and, and_lt}
 use lib.Count.{count_leading_zeros, leading_le}
 use Rattle.map_search_word.proofs.Ends.{first_set, First}
 use Rattle.map_search_starts.proofs.Spans.{nothing_there, there}
-use borrow.Author.Rules.{rules}
 use Rattle.map_search_starts.proofs.look.Goals as goal
 
 pub returns-then-pairs-m-eq0 : goal.returns-then-pairs-m-eq0

@@ -2,13 +2,12 @@
 -- itself.
 -- Assumes nothing.
 
-use mathlib.Core.Path.{◌≡◌, sym, ap, ◌∙◌}
-use Prim.Native.Nat.{ℕ, ◌+◌, ◌-◌, ◌/◌, ◌%◌, ◌^◌, ◌<◌, ◌≤◌}
+use mathlib.Core.Path.{sym, ap, ◌∙◌}
+use Prim.Native.Nat.{ℕ, ◌+◌, ◌/◌, ◌%◌, ◌^◌, ◌<◌, ◌≤◌}
 use native.Mathlib.Nat.{mod_self, mod-add-mod, zero-add, div-le_self}
 use native.Mathlib.Omega.{arith}
 use lib.Bits.{or_lt}
-use Rattle.map_search_starts.proofs.Steps.{Below, one_below, twice_below, all_below}
-use borrow.Author.Rules.{rules}
+use Rattle.map_search_starts.proofs.Steps.{one_below, twice_below, all_below}
 use Rattle.map_search_starts.proofs.multiples.Goals as goal
 
 le-lt : {a b c : ℕ} → a ≤ b → b < c → a < c

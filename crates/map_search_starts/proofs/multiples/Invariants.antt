@@ -2,13 +2,9 @@
 -- itself.
 -- Assumes nothing.
 
-use mathlib.Core.Path.{◌≡◌, sym, ap, ◌∙◌}
-use Prim.Native.Nat.{ℕ, ◌+◌, ◌-◌, ◌/◌, ◌%◌, ◌^◌, ◌<◌, ◌≤◌}
-use native.Mathlib.Nat.{mod_self, mod-add-mod, zero-add, div-le_self}
-use native.Mathlib.Omega.{arith}
-use lib.Bits.{or_lt}
-use Rattle.map_search_starts.proofs.Steps.{Below, one_below, twice_below, all_below}
-use borrow.Author.Rules.{rules}
+use mathlib.Core.Path.{◌≡◌}
+use Prim.Native.Nat.{◌-◌, ◌%◌, ◌^◌, ◌<◌}
+use Rattle.map_search_starts.proofs.Steps.{Below}
 use Rattle.map_search_starts.proofs.multiples.Given as goal
 
 abbrev pub invariant-loop-done : goal.invariant-loop-done

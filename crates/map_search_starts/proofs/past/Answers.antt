@@ -4,7 +4,6 @@
 use mathlib.Core.Path.{sym, ap, ◌∙◌}
 use Prim.Native.Nat.{ℕ, ◌%◌}
 use native.Mathlib.Nat.{mod-one}
-use borrow.Author.Rules.{rules}
 use Rattle.map_search_starts.proofs.past.Goals as goal
 
 pub returns-then-step-eq1 : goal.returns-then-step-eq1

@@ -3,7 +3,6 @@
 
 use native.Mathlib.Omega.{arith}
 use Rattle.map_search_starts.proofs.Spans.{run-bits}
-use borrow.Author.Rules.{rules}
 use Rattle.map_search_starts.proofs.runs.Goals as goal
 
 pub returns : goal.returns

@@ -3,7 +3,6 @@
 
 use native.Mathlib.Omega.{arith}
 use Rattle.map_search_starts.proofs.Steps.{shifted}
-use borrow.Author.Rules.{rules}
 use Rattle.map_search_starts.proofs.starts.Goals as goal
 
 pub returns : goal.returns

@@ -2,7 +2,6 @@
 -- Assumes nothing.
 
 use mathlib.Core.Path.{refl}
-use borrow.Author.Rules.{rules}
 use Rattle.map_search_word.proofs.run_start.Goals as goal
 
 pub returns : goal.returns

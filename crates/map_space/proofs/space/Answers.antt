@@ -8,12 +8,11 @@ use Prim.Native.Nat.{ℕ, ◌+◌, ◌-◌, ◌*◌, ◌/◌, ◌%◌, ◌^◌, 
 use native.Mathlib.Omega.{arith}
 use lib.ListN.{get_or}
 use lib.Count.{count_leading_zeros, leading_le}
-use borrow.Author.Rules.{rules}
 use Rattle.map_blocks.specs.Blocks.{free}
 use Rattle.map_blocks.proofs.Fits.{no_space, space_at}
 use Rattle.map_search_word.proofs.Ends.{First, first_set}
 use Rattle.map_space.proofs.Taken.{head_free, head-taken, head-before, none_takes}
-use Rattle.map_space.proofs.Taken.{Takes, later_word, none_taken, from_start, is-taken, before-taken}
+use Rattle.map_space.proofs.Taken.{later_word, none_taken, from_start, is-taken, before-taken}
 use Rattle.map_space.proofs.space.Goals as goal
 
 -- src/lib.rt:16:9
@@ -26,7 +25,7 @@ pub returns-then-head-ne0 : goal.returns-then-head-ne0
 returns-then-head-ne0 c = let a = c.args in
     let g : ℕ → Bool = free a.map.now in
     let w : ℕ = get_or a.map.now (a.start / 64) 0 in
-    let fits : w < 2 ^ 64 = (c.shared_slice_known-2-1.given (a.start / 64)).fits in
+    let fits : w < 2 ^ 64 = (c.type_inv.map (a.start / 64)).fits in
     let head : ℕ = (((2 ^ 64 - 1) - w) * 2 ^ (a.start % 64)) % 2 ^ 64 in
     let r : ℕ = count_leading_zeros 64 head in
     let first : First head r = first_set head (omega arith) (omega arith) in
@@ -40,7 +39,7 @@ returns-then-head-ne0 c = let a = c.args in
 pub loop-taken-init : goal.loop-taken-init
 loop-taken-init c = let a = c.args in
     let all : (t : ℕ) → a.start ≤ t → t < a.start / 64 * 64 + 64 → free a.map.now t ≡ true =
-    head_free a.map.now a.start _ refl (c.shared_slice_known-2-1.given (a.start / 64)).fits c.if-head-ne0.false in (
+    head_free a.map.now a.start _ refl (c.type_inv.map (a.start / 64)).fits c.if-head-ne0.false in (
       omega arith,
       omega arith,
       omega arith,
@@ -67,7 +66,7 @@ loop-taken-preserved c = let loop = c.loop-taken in
       omega arith,
       omega arith,
       omega arith,
-      later_word a.map.now a.start (loop.i + 1) _ refl (c.shared_slice_known-in-loop-taken-1.given (loop.i + 1)).fits
+      later_word a.map.now a.start (loop.i + 1) _ refl (c.type_inv.map (loop.i + 1)).fits
           (omega arith),
       λ t l u. none_taken g a.start (loop.i * 64) loop.taken loop.invariant.3 loop.invariant.4
           c.loop-taken-test.true t l (omega arith),

@@ -1,7 +1,6 @@
 -- `before_year` meets its contract, by the formula for the days before a year.
 -- Assumes nothing.
 
-use borrow.Author.Rules.{rules}
 use Rattle.calendar.proofs.Formulas.{year_days}
 use Rattle.calendar.proofs.days.before_year.Goals as goal
 

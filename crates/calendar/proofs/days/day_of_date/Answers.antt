@@ -2,7 +2,6 @@
 -- Assumes nothing.
 
 use mathlib.Core.Path.{◌∙◌}
-use borrow.Author.Rules.{rules}
 use Rattle.calendar.proofs.Formulas.{dated, undated}
 use Rattle.calendar.proofs.Inverse.{date_found, no_day_found}
 use Rattle.calendar.proofs.days.day_of_date.Goals as goal

@@ -3,7 +3,6 @@
 
 use mathlib.Core.Path.{ap, ◌∙◌}
 use Prim.Native.Nat.{ℕ, ◌-◌}
-use borrow.Author.Rules.{rules}
 use Rattle.calendar.proofs.Inverse.{within, day_found, past}
 use Rattle.calendar.proofs.days.day_of_number.Goals as goal
 

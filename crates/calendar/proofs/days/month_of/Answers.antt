@@ -1,7 +1,6 @@
 -- `month_of` meets its contract: by a formula for January and February, and one from March on.
 -- Assumes nothing.
 
-use borrow.Author.Rules.{rules}
 use Rattle.calendar.proofs.Inverse.{early_found, late_found}
 use Rattle.calendar.proofs.days.month_of.Goals as goal
 

@@ -1,7 +1,6 @@
 -- `year_of` meets its contract: four years have 1461 days.
 -- Assumes nothing.
 
-use borrow.Author.Rules.{rules}
 use Rattle.calendar.proofs.Inverse.{year_found}
 use Rattle.calendar.proofs.days.year_of.Goals as goal
 

@@ -1,7 +1,6 @@
 -- `catalogue_standings::opening::decode` meets its contract, mark by mark.
 -- Assumes nothing.
 
-use borrow.Author.Rules.{rules}
 use borrow.Author.Tests.{eq-eqb, ne_eqb}
 use Rattle.catalogue_standings.specs.Standings.{standing_of}
 use Rattle.catalogue_standings.proofs.opening.decode.Goals as goal

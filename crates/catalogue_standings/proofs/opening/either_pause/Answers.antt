@@ -1,11 +1,9 @@
 -- `catalogue_standings::opening::either_pause` meets its contract: without blocks no extent holds, and else they are not 0.
 -- Assumes nothing.
--- an extent of no blocks does not hold
 
 use mathlib.Core.Path.{◌≡◌, refl, sym, ap, ◌∙◌}
 use mathlib.Core.Bool.{Bool, true, false, ◌&&◌, cond}
 use Prim.Native.Nat.{ℕ}
-use borrow.Author.Rules.{rules}
 use borrow.Author.Tests.{ne_eqb}
 use lib.Dec.{eqb}
 use Rattle.map_blocks.specs.Blocks.{free}
@@ -14,6 +12,7 @@ use Rattle.catalogue_standings.specs.declared.Standing.{Standing}
 use Rattle.catalogue_standings.specs.declared.Standing.TheVariants.{Paused, PausedWith, Damaged}
 use Rattle.catalogue_standings.proofs.opening.either_pause.Goals as goal
 
+-- an extent of no blocks does not hold
 none-holds : (n : ℕ) (free : ℕ → Bool) (start blocks : ℕ) (z : Bool) (s t : Standing) → blocks ≡ 0
     → cond z s Damaged ≡ cond z s (cond (extent_holds n free start blocks) t Damaged)
 unfolding extent_holds
@@ -24,12 +23,14 @@ some-blocks true b s t e = ap (λ (x : Bool). cond x s t) (sym e)
 some-blocks false b s t e = refl
 
 pub returns-then-blocks-eq0 : goal.returns-then-blocks-eq0
-returns-then-blocks-eq0 c = let a = c.args in
+returns-then-blocks-eq0 c =
+    let a = c.args in
     c.without_extent.ensures
     ∙ none-holds a.n (free a.map.now) a.start a.blocks (eqb a.start 0 && eqb a.blocks 0) Paused
     (PausedWith a.start a.blocks) c.if-blocks-eq0.true
 
 pub returns : goal.returns
-returns c = let a = c.args in
+returns c =
+    let a = c.args in
     c.with_extent.ensures
     ∙ some-blocks (eqb a.start 0) (eqb a.blocks 0) Paused _ (ne_eqb _ _ c.if-blocks-eq0.false)

@@ -2,7 +2,6 @@
 -- Assumes nothing.
 
 use mathlib.Core.Path.{sym, ◌∙◌}
-use borrow.Author.Rules.{rules}
 use Rattle.catalogue_standings.proofs.opening.enter_on.Goals as goal
 
 pub returns-then-turned_away : goal.returns-then-turned_away

@@ -3,7 +3,6 @@
 
 use mathlib.Core.Path.{◌≡◌, refl, sym, ap, ◌∙◌}
 use mathlib.Core.Bool.{Bool, true, false, ◌&&◌}
-use borrow.Author.Rules.{rules}
 use borrow.Author.Tests.{eq-eqb, ne_eqb}
 use Prim.Native.Nat.{ℕ, ◌*◌}
 use lib.Dec.{eqb}
@@ -30,13 +29,15 @@ unfolding opened_of
 fitted x c sheet s e = simp e
 
 pub returns-then-cardlen-n : goal.returns-then-cardlen-n
-returns-then-cardlen-n c = let a = c.args in
+returns-then-cardlen-n c =
+    let a = c.args in
     fitted _ _ _ _
     (and-false (shape_fits a.n a.free (length a.map.now) && sheets_fit a.c) (eqb a.cardlen (512 * a.n))
     (ne_eqb _ _ c.if-cardlen-n.true))
 
 pub returns : goal.returns
-returns c = let a = c.args in
+returns c =
+    let a = c.args in
     c.open_sheet.ensures
     ∙ ap (λ (fits : Bool). opened_of fits a.c a.sheet (standing_of a.n (free a.map.now) a.entry))
     (sym (and_true (shape_fits a.n a.free (length a.map.now) && sheets_fit a.c) (eqb a.cardlen (512 * a.n))

@@ -2,7 +2,6 @@
 -- Assumes nothing.
 
 use mathlib.Core.Path.{sym, ap, ◌∙◌}
-use borrow.Author.Rules.{rules}
 use borrow.Author.Tests.{le-leb, lt-leb, not-true, not-false}
 use Rattle.catalogue_standings.specs.Openings as openings
 use Rattle.catalogue_standings.specs.Openings.{opened_of}
@@ -15,34 +14,32 @@ returns-then-not-shape_fits c = simp (sym c.shape_fits.ensures ∙ not-true c.sh
 
 pub returns-then-not-sheets_fit : goal.returns-then-not-sheets_fit
 unfolding opened_of
-returns-then-not-sheets_fit c = let shape = c in
+returns-then-not-sheets_fit c =
     simp (
-      sym shape.shape_fits.ensures ∙ not-false shape.shape_fits.result shape.if-not-shape_fits.false-raw,
+      sym c.shape_fits.ensures ∙ not-false c.shape_fits.result c.if-not-shape_fits.false-raw,
       sym c.sheets_fit.ensures ∙ not-true c.sheets_fit.result c.if-not-sheets_fit.true-raw,
     )
 
 pub returns-then-c-sheet : goal.returns-then-c-sheet
 unfolding opened_of
-returns-then-c-sheet c = let sheets = c in
-    let shape = sheets in
+returns-then-c-sheet c =
     simp (
-      sym shape.shape_fits.ensures ∙ not-false shape.shape_fits.result shape.if-not-shape_fits.false-raw,
-      sym sheets.sheets_fit.ensures ∙ not-false sheets.sheets_fit.result sheets.if-not-sheets_fit.false-raw,
+      sym c.shape_fits.ensures ∙ not-false c.shape_fits.result c.if-not-shape_fits.false-raw,
+      sym c.sheets_fit.ensures ∙ not-false c.sheets_fit.result c.if-not-sheets_fit.false-raw,
       le-leb _ _ c.if-c-sheet.true,
     )
 
 pub decode-requires : goal.decode-requires
-decode-requires c = let shape = c in
-    let f = fits _ _ _ (sym shape.shape_fits.ensures
-    ∙ not-false shape.shape_fits.result shape.if-not-shape_fits.false-raw) in
+decode-requires c =
+    let f = fits _ _ _ (sym c.shape_fits.ensures
+    ∙ not-false c.shape_fits.result c.if-not-shape_fits.false-raw) in
     (f.limit, f.covered)
 
 pub returns : goal.returns
 unfolding opened_of
-returns c = let sheets = c in
-    let shape = sheets in
+returns c =
     simp (
-      sym shape.shape_fits.ensures ∙ not-false shape.shape_fits.result shape.if-not-shape_fits.false-raw,
-      sym sheets.sheets_fit.ensures ∙ not-false sheets.sheets_fit.result sheets.if-not-sheets_fit.false-raw,
+      sym c.shape_fits.ensures ∙ not-false c.shape_fits.result c.if-not-shape_fits.false-raw,
+      sym c.sheets_fit.ensures ∙ not-false c.sheets_fit.result c.if-not-sheets_fit.false-raw,
       lt-leb _ _ c.if-c-sheet.false,
     ) (c.unless_damaged.ensures ∙ ap openings.unless_damaged c.decode.ensures)

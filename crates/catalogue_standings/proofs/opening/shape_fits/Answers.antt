@@ -1,7 +1,6 @@
 -- `catalogue_standings::opening::shape_fits` meets its contract, test by test.
 -- Assumes nothing.
 
-use borrow.Author.Rules.{rules}
 use borrow.Author.Tests.{le-leb, lt-leb}
 use Rattle.catalogue_standings.specs.Limits.{shape_fits}
 use Rattle.catalogue_standings.proofs.opening.shape_fits.Goals as goal

@@ -2,7 +2,6 @@
 -- Assumes nothing.
 
 use mathlib.Core.Path.{sym, ◌∙◌}
-use borrow.Author.Rules.{rules}
 use Rattle.catalogue_standings.proofs.opening.with_extent.Goals as goal
 
 pub returns-then-extent_holds : goal.returns-then-extent_holds

@@ -1,16 +1,13 @@
 -- `map_blocks::run::all_marked` meets its contract. The loop's invariant: the blocks passed are in the state asked for.
 -- Assumes nothing.
--- the state of a word's blocks, by its bits
 
 use mathlib.Core.Path.{◌≡◌, refl, sym, ap, ◌∙◌}
 use mathlib.Core.Logic.{⊎_elim}
-use mathlib.Core.Bool.{Bool, true, not, cond}
+use mathlib.Core.Bool.{Bool, not, cond}
 use mathlib.Core.List.{List}
-use Prim.Native.Nat.{ℕ, ◌≤◌, ◌<◌, ◌-◌, ◌+◌, ◌*◌, ◌/◌, ◌%◌}
+use Prim.Native.Nat.{ℕ, ◌<◌, ◌+◌, ◌*◌, ◌/◌, ◌%◌}
 use native.Mathlib.Omega.{arith}
 use lib.ListN.{get_or}
-use borrow.Author.Rules.{rules}
-use borrow.Author.Tests.{not-true, not-false}
 use Rattle.map_blocks.specs.Blocks.{free}
 use Rattle.map_blocks.specs.Maps.{in_state}
 use Rattle.map_blocks.specs.Words.{bit}
@@ -20,6 +17,7 @@ use Rattle.map_blocks.proofs.Runs.{all_intro}
 use Rattle.map_blocks.proofs.run.Test.{holds, fails}
 use Rattle.map_blocks.proofs.run.all_marked.Goals as goal
 
+-- the state of a word's blocks, by its bits
 shown : (map : List ℕ) (state : Bool) (base w : ℕ) → base % 64 ≡ 0
     → ((j : ℕ) → j < 64 → bit w j ≡ cond state (bit (get_or map (base / 64) 0) j) (not (bit (get_or map (base / 64) 0) j)))
     → (j : ℕ) → j < 64 → bit w j ≡ in_state map state (base + j)
@@ -38,7 +36,7 @@ returns-then-not-has_all c = let at = c in
     c.part.result
     c.part.ensures (shown a.map.now a.state at.loop-base.base state.result (omega arith)
     state.ensures)
-    a.k refl (sym c.has_all.ensures ∙ not-true c.has_all.result c.if-not-has_all.true-raw))
+    a.k refl (sym c.has_all.ensures ∙ c.if-not-has_all.true))
 
 pub loop-base-preserved : goal.loop-base-preserved
 loop-base-preserved c = let at = c in
@@ -53,7 +51,7 @@ loop-base-preserved c = let at = c in
           c.part.result
           c.part.ensures (shown a.map.now a.state at.loop-base.base state.result (omega arith)
           state.ensures)
-          (sym c.has_all.ensures ∙ not-false c.has_all.result c.if-not-has_all.false-raw) t g u l v)
+          (sym c.has_all.ensures ∙ c.if-not-has_all.false) t g u l v)
           (order t at.loop-base.base),
     )
 

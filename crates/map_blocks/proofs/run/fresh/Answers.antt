@@ -3,11 +3,10 @@
 
 use mathlib.Core.Path.{◌≡◌, subst}
 use mathlib.Core.List.{List}
-use Prim.Native.Nat.{ℕ, ◌+◌, ◌-◌, ◌*◌, ◌≤◌}
+use Prim.Native.Nat.{ℕ, ◌+◌, ◌*◌, ◌≤◌}
 use native.Mathlib.Omega.{arith}
 use lib.Dec.{ltb}
 use lib.ListN.{length, set}
-use borrow.Author.Rules.{rules}
 use Rattle.map_blocks.specs.Maps.{fresh_map}
 use Rattle.map_blocks.proofs.run.Rewrite.{Rewritten, begin, turn, finish}
 use Rattle.map_blocks.proofs.run.fresh.Goals as goal
@@ -18,7 +17,7 @@ unfolding fresh_map
 whole n old i map h m = finish (λ b. ltb b n) old (i * 64) map m (λ b l u. absurd (omega arith))
 
 pub loop-i-init : goal.loop-i-init
-loop-i-init c = (omega arith, begin _ _ _ (λ i l. omega (arith, c.slice_known-1.given i)) (λ b l. absurd (omega arith)))
+loop-i-init c = (omega arith, begin _ _ _ (λ i l. omega (arith, c.type_inv.map i)) (λ b l. absurd (omega arith)))
 
 pub loop-i-preserved : goal.loop-i-preserved
 loop-i-preserved c = let loop = c.loop-i in

@@ -1,15 +1,10 @@
 -- `map_blocks::run::fresh` meets its contract. The loop's invariant is `Rewritten`: the words passed are those of a fresh map.
 -- Assumes nothing.
 
-use mathlib.Core.Path.{◌≡◌, subst}
-use mathlib.Core.List.{List}
-use Prim.Native.Nat.{ℕ, ◌+◌, ◌-◌, ◌*◌, ◌≤◌}
-use native.Mathlib.Omega.{arith}
+use Prim.Native.Nat.{◌-◌, ◌*◌, ◌≤◌}
 use lib.Dec.{ltb}
-use lib.ListN.{length, set}
-use borrow.Author.Rules.{rules}
-use Rattle.map_blocks.specs.Maps.{fresh_map}
-use Rattle.map_blocks.proofs.run.Rewrite.{Rewritten, begin, turn, finish}
+use lib.ListN.{length}
+use Rattle.map_blocks.proofs.run.Rewrite.{Rewritten}
 use Rattle.map_blocks.proofs.run.fresh.Given as goal
 
 abbrev pub invariant-loop-i : goal.invariant-loop-i

@@ -6,7 +6,6 @@ use mathlib.Core.Bool.{Bool, ◌&&◌}
 use Prim.Native.Nat.{◌+◌}
 use native.Mathlib.Omega.{arith}
 use lib.Dec.{ltb}
-use borrow.Author.Rules.{rules}
 use borrow.Author.Tests.{le-ltb, le-leb}
 use Rattle.map_blocks.proofs.Bits.{bit_zero}
 use Rattle.map_blocks.proofs.run.fresh_word.Goals as goal

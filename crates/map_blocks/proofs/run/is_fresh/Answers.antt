@@ -1,11 +1,8 @@
 -- `map_blocks::run::is_fresh` meets its contract. The loop's invariant: the words passed are those of a fresh map.
 -- Assumes nothing.
 
-use Prim.Native.Nat.{◌≤◌, ◌-◌}
 use native.Mathlib.Omega.{arith}
-use lib.ListN.{length}
-use borrow.Author.Rules.{rules}
-use Rattle.map_blocks.proofs.run.Freshness.{Passed, passed_more, passed-not, passed_end}
+use Rattle.map_blocks.proofs.run.Freshness.{passed_more, passed-not, passed_end}
 use Rattle.map_blocks.proofs.run.is_fresh.Goals as goal
 
 pub loop-i-init : goal.loop-i-init
@@ -15,7 +12,7 @@ pub returns-then-map-i : goal.returns-then-map-i
 returns-then-map-i c = let at = c in
     let a = at.args in
     passed-not a.map.now a.n at.loop-i.i _ c.fresh_word.ensures (omega arith)
-    (omega (arith, c.shared_slice_known-in-loop-i-1.given at.loop-i.i)) (omega arith) c.if-map-i.true
+    (omega (arith, c.type_inv.map at.loop-i.i)) (omega arith) c.if-map-i.true
 
 pub loop-i-preserved : goal.loop-i-preserved
 loop-i-preserved c = let at = c in

@@ -2,10 +2,8 @@
 -- Assumes nothing.
 
 use Prim.Native.Nat.{◌≤◌, ◌-◌}
-use native.Mathlib.Omega.{arith}
 use lib.ListN.{length}
-use borrow.Author.Rules.{rules}
-use Rattle.map_blocks.proofs.run.Freshness.{Passed, passed_more, passed-not, passed_end}
+use Rattle.map_blocks.proofs.run.Freshness.{Passed}
 use Rattle.map_blocks.proofs.run.is_fresh.Given as goal
 
 abbrev pub invariant-loop-i : goal.invariant-loop-i

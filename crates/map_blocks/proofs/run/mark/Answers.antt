@@ -1,17 +1,15 @@
 -- `map_blocks::run::mark` meets its contract. The loop's invariant is `Rewritten`: the words passed are those of the marked
 -- map.
 -- Assumes nothing.
--- which blocks are to be free
 
 use mathlib.Core.Path.{◌≡◌, sym, ap, ap₂, ◌∙◌, subst}
 use mathlib.Core.Logic.{inl, inr}
 use mathlib.Core.Bool.{Bool, ◌&&◌, cond}
 use mathlib.Core.List.{List}
-use Prim.Native.Nat.{ℕ, ◌≤◌, ◌<◌, ◌-◌, ◌+◌, ◌*◌, ◌/◌, ◌%◌, ◌^◌}
+use Prim.Native.Nat.{ℕ, ◌≤◌, ◌<◌, ◌+◌, ◌*◌, ◌/◌, ◌%◌, ◌^◌}
 use native.Mathlib.Omega.{arith}
 use lib.Dec.{leb, ltb}
 use lib.ListN.{length, get_or, set}
-use borrow.Author.Rules.{rules}
 use Rattle.map_blocks.specs.Blocks.{free}
 use Rattle.map_blocks.specs.Maps.{marked, in_run}
 use Rattle.map_blocks.specs.Words.{bit}
@@ -45,7 +43,7 @@ pub loop-base-init : owed.loop-base-init
 loop-base-init c = (
   omega arith,
   omega arith,
-  begin _ _ _ (λ i l. omega (arith, c.slice_known-1.given i))
+  begin _ _ _ (λ i l. omega (arith, c.type_inv.map i))
       (λ b l. outside _ _ b _ _ (inl (omega arith))),
 )
 

@@ -6,7 +6,6 @@ use mathlib.Core.Bool.{◌&&◌}
 use Prim.Native.Nat.{ℕ}
 use native.Mathlib.Omega.{arith}
 use lib.Dec.{leb, ltb}
-use borrow.Author.Rules.{rules}
 use Rattle.map_blocks.proofs.Masks.{in_word}
 use Rattle.map_blocks.proofs.word.part.Goals as goal
 

@@ -5,7 +5,7 @@ use mathlib.Core.Path.{◌≡◌, sym, ap, ◌∙◌}
 use native.Mathlib.Omega.{arith}
 use mathlib.Core.List.{List}
 use mathlib.Core.Logic.{⊎_elim}
-use mathlib.Core.Bool.{true, false}
+use mathlib.Core.Bool.{false}
 use Prim.Native.Nat.{ℕ, ◌+◌, ◌-◌, ◌/◌, ◌%◌, ◌^◌, ◌≤◌, ◌<◌}
 use native.Mathlib.Nat.{mod_self}
 use lib.ListN.{get_or}
@@ -14,7 +14,6 @@ use Rattle.laws.proofs.Bools.{clash, order}
 use Rattle.map_blocks.specs.Blocks.{free, on_step}
 use Rattle.map_search_starts.proofs.Steps.{between}
 use Rattle.map_search_near.proofs.Figures.{sum}
-use borrow.Author.Rules.{rules}
 use Rattle.map_search_placed.proofs.far.open_start.Goals as goal
 
 not_free : (map : List ℕ) (b : ℕ) → (get_or map (b / 64) 0 / 2 ^ (63 - b % 64) % 2 ≡ 1 → ⊥) → free map b ≡ false

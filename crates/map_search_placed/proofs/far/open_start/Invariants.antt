@@ -1,20 +1,10 @@
 -- `map_search_placed::far::open_start` meets its contract. The loop's invariant: the starts from c to s are taken.
 -- Assumes nothing.
 
-use mathlib.Core.Path.{◌≡◌, sym, ap, ◌∙◌}
-use native.Mathlib.Omega.{arith}
-use mathlib.Core.List.{List}
-use mathlib.Core.Logic.{⊎_elim}
+use mathlib.Core.Path.{◌≡◌}
 use mathlib.Core.Bool.{true, false}
-use Prim.Native.Nat.{ℕ, ◌+◌, ◌-◌, ◌/◌, ◌%◌, ◌^◌, ◌≤◌, ◌<◌}
-use native.Mathlib.Nat.{mod_self}
-use lib.ListN.{get_or}
-use borrow.Author.Tests.{ne_eqb}
-use Rattle.laws.proofs.Bools.{clash, order}
+use Prim.Native.Nat.{ℕ, ◌+◌, ◌-◌, ◌%◌, ◌≤◌, ◌<◌}
 use Rattle.map_blocks.specs.Blocks.{free, on_step}
-use Rattle.map_search_starts.proofs.Steps.{between}
-use Rattle.map_search_near.proofs.Figures.{sum}
-use borrow.Author.Rules.{rules}
 use Rattle.map_search_placed.proofs.far.open_start.Given as goal
 
 abbrev pub invariant-loop-s : goal.invariant-loop-s

@@ -7,7 +7,6 @@ use native.Mathlib.Nat.{mod_self, zero-mod, zero-add}
 use native.Mathlib.Omega.{arith}
 use Rattle.map_blocks.specs.Blocks.{on_step}
 use Rattle.map_search_starts.proofs.Steps.{between, none_ahead}
-use borrow.Author.Rules.{rules}
 use Rattle.map_search_placed.proofs.far.past_run.Goals as goal
 
 pub returns-then-r-step : goal.returns-then-r-step

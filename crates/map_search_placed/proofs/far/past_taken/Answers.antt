@@ -9,7 +9,6 @@ use Rattle.map_blocks.specs.Blocks.{on_step}
 use Rattle.laws.proofs.Bools.{clash, order}
 use Rattle.map_search_starts.proofs.Steps.{none_ahead}
 use Rattle.map_search_near.proofs.Figures.{zero_free}
-use borrow.Author.Rules.{rules}
 use Rattle.map_search_placed.proofs.far.past_taken.Goals as goal
 
 pub returns-then-step-ge512 : goal.returns-then-step-ge512

@@ -4,13 +4,12 @@
 use mathlib.Core.Path.{◌≡◌, ◌∙◌}
 use native.Mathlib.Omega.{arith}
 use mathlib.Core.Bool.{Bool, false}
-use Prim.Native.Nat.{ℕ, ◌+◌, ◌-◌, ◌*◌, ◌%◌, ◌≤◌, ◌<◌, min}
+use Prim.Native.Nat.{ℕ, ◌+◌, ◌-◌, ◌*◌, ◌<◌, min}
 use Rattle.map_blocks.specs.Blocks.{free, on_step, fit}
 use Rattle.map_blocks.proofs.Fits.{mod_on}
 use Rattle.map_search_starts.proofs.Steps.{none_ahead}
 use Rattle.map_search_near.proofs.Figures.{is_nothing, is_start, found_at}
 use Rattle.map_search_near.proofs.Figures.{found_none, before_first, past_runs, taken_run}
-use borrow.Author.Rules.{rules}
 use Rattle.map_search_placed.proofs.far.search_far.Goals.{After-some_starts-s}
 use Rattle.map_search_placed.proofs.far.search_far.Goals as goal
 

@@ -1,15 +1,14 @@
 -- `map_search_placed::far::some_starts` meets its contract. The loop's invariant: s is a start, and no run starts from c to s.
 -- Assumes nothing.
 
-use mathlib.Core.Path.{◌≡◌, sym, subst}
+use mathlib.Core.Path.{sym, subst}
 use native.Mathlib.Omega.{arith}
 use mathlib.Core.Bool.{Bool}
-use Prim.Native.Nat.{ℕ, ◌+◌, ◌-◌, ◌%◌, ◌≤◌}
+use Prim.Native.Nat.{ℕ, ◌+◌, ◌≤◌}
 use Rattle.map_blocks.specs.Blocks.{free, on_step}
 use Rattle.map_blocks.proofs.Fits.{Spaced, spaced}
 use Rattle.map_search_starts.specs.Starts.{NoRun}
 use Rattle.map_search_near.proofs.Figures.{sum, no_run_after, taken_run, run_past, space_fits}
-use borrow.Author.Rules.{rules}
 use Rattle.map_search_placed.proofs.far.some_starts.Goals.{After-open_start-a, After-past_run}
 use Rattle.map_search_placed.proofs.far.some_starts.Goals as goal
 

@@ -5,7 +5,6 @@ use native.Mathlib.Omega.{arith}
 use mathlib.Core.Logic.{⊎_elim}
 use Prim.Native.Nat.{◌<◌, ◌≤◌}
 use Rattle.laws.proofs.Bools.{order}
-use borrow.Author.Rules.{rules}
 use Rattle.map_search_placed.proofs.taken.past_words.Goals as goal
 
 pub returns : goal.returns

@@ -10,7 +10,6 @@ use lib.ListN.{get_or}
 use Rattle.laws.proofs.Bools.{order}
 use Rattle.map_search_near.proofs.Figures.{zero_free}
 use Rattle.map_search_near.proofs.Rows.{first_free, none_free, zeros_taken}
-use borrow.Author.Rules.{rules}
 use Rattle.map_search_placed.proofs.taken.reach.Goals as goal
 
 pub overflow_add-result : goal.overflow_add-result
@@ -20,7 +19,7 @@ overflow_add-result c = let a = c.args in
 pub returns-then-w-ne0 : goal.returns-then-w-ne0
 returns-then-w-ne0 c = let a = c.args in
     let w : ℕ = bit_and (get_or a.map.now (a.from / 64) 0) ((2 ^ 64 - 1) / 2 ^ (a.from % 64)) in
-    let b : get_or a.map.now (a.from / 64) 0 < 2 ^ 64 = (c.shared_slice_known-2-1.given (a.from / 64)).fits in
+    let b : get_or a.map.now (a.from / 64) 0 < 2 ^ 64 = (c.type_inv.map (a.from / 64)).fits in
     let free-at = first_free a.map.now a.from (omega arith) (omega (
       arith,
       and_le_l (get_or a.map.now (a.from / 64) 0)
@@ -63,6 +62,6 @@ returns c = let a = c.args in
           t l x)
           (λ (x : a.from / 64 * 64 + 64 ≤ t). ⊎_elim
           (λ (y : t < i * 64). zero_free a.map.now (a.from / 64 + 1) i words.ensures.2 t (omega arith) y)
-          (λ (y : i * 64 ≤ t). zeros_taken a.map.now i (c.shared_slice_known-3-1.given i).fits t y (omega arith))
+          (λ (y : i * 64 ≤ t). zeros_taken a.map.now i (c.type_inv.map i).fits t y (omega arith))
           (order t (i * 64))) (order t (a.from / 64 * 64 + 64)),
     )

@@ -4,10 +4,9 @@
 use mathlib.Core.Path.{◌≡◌, subst}
 use native.Mathlib.Omega.{arith}
 use mathlib.Core.Logic.{⊎_elim}
-use Prim.Native.Nat.{ℕ, ◌-◌, ◌≤◌, ◌<◌}
+use Prim.Native.Nat.{ℕ}
 use lib.ListN.{get_or}
 use Rattle.laws.proofs.Bools.{order}
-use borrow.Author.Rules.{rules}
 use Rattle.map_search_placed.proofs.taken.taken_singly.Goals as goal
 
 pub loop-i-init : goal.loop-i-init

@@ -1,13 +1,9 @@
 -- `map_search_placed::taken::taken_singly` meets its contract. The loop's invariant: the words from `first` to i are 0.
 -- Assumes nothing.
 
-use mathlib.Core.Path.{◌≡◌, subst}
-use native.Mathlib.Omega.{arith}
-use mathlib.Core.Logic.{⊎_elim}
+use mathlib.Core.Path.{◌≡◌}
 use Prim.Native.Nat.{ℕ, ◌-◌, ◌≤◌, ◌<◌}
 use lib.ListN.{get_or}
-use Rattle.laws.proofs.Bools.{order}
-use borrow.Author.Rules.{rules}
 use Rattle.map_search_placed.proofs.taken.taken_singly.Given as goal
 
 abbrev pub invariant-loop-i : goal.invariant-loop-i

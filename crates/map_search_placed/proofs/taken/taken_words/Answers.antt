@@ -1,13 +1,9 @@
 -- `map_search_placed::taken::taken_words` meets its contract. The loop's invariant: the words from `first` to i are 0.
 -- Assumes nothing.
 
-use mathlib.Core.Path.{◌≡◌}
 use mathlib.Core.Logic.{⊎_elim}
-use Prim.Native.Nat.{ℕ, ◌-◌, ◌≤◌, ◌<◌}
 use native.Mathlib.Omega.{arith}
-use lib.ListN.{get_or}
 use Rattle.laws.proofs.Bools.{order}
-use borrow.Author.Rules.{rules}
 use Rattle.map_search_placed.proofs.taken.taken_words.Goals as goal
 
 pub loop-i-init : goal.loop-i-init

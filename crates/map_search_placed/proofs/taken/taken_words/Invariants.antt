@@ -2,12 +2,8 @@
 -- Assumes nothing.
 
 use mathlib.Core.Path.{◌≡◌}
-use mathlib.Core.Logic.{⊎_elim}
 use Prim.Native.Nat.{ℕ, ◌-◌, ◌≤◌, ◌<◌}
-use native.Mathlib.Omega.{arith}
 use lib.ListN.{get_or}
-use Rattle.laws.proofs.Bools.{order}
-use borrow.Author.Rules.{rules}
 use Rattle.map_search_placed.proofs.taken.taken_words.Given as goal
 
 abbrev pub invariant-loop-i : goal.invariant-loop-i

@@ -4,7 +4,6 @@
 use mathlib.Core.Path.{sym, ◌∙◌}
 use Prim.Native.Nat.{ℕ, ◌+◌}
 use native.Mathlib.Omega.{arith}
-use borrow.Author.Rules.{rules}
 use Rattle.map_blocks.specs.Words.{bit}
 use Rattle.map_blocks.proofs.Bits.{bit_past, bit_zero}
 use Rattle.map_blocks.proofs.Runs.{all_one, all_break}

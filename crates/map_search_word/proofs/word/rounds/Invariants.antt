@@ -2,15 +2,10 @@
 -- 1.
 -- Assumes nothing.
 
-use mathlib.Core.Path.{◌≡◌, sym, ap, ◌∙◌}
+use mathlib.Core.Path.{◌≡◌}
 use Prim.Native.Nat.{ℕ, ◌≤◌, ◌<◌, ◌-◌}
-use native.Mathlib.Omega.{arith}
-use borrow.Author.Rules.{rules}
 use Rattle.map_blocks.specs.Blocks.{all}
 use Rattle.map_blocks.specs.Words.{bit}
-use Rattle.map_blocks.proofs.Bits.{bit_zero}
-use Rattle.map_blocks.proofs.Runs.{all_part}
-use Rattle.map_search_word.proofs.word.Doubling.{round}
 use Rattle.map_search_word.proofs.word.rounds.Given as goal
 
 abbrev pub invariant-loop-done : goal.invariant-loop-done

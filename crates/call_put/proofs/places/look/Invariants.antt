@@ -1,0 +1,30 @@
+-- `call_put::places::look` meets its contract. The loop's invariant: the places passed are blank or sound each, and the
+-- lowest blank one among them is known. The measure is how many are left.
+-- Assumes nothing.
+
+use mathlib.Core.Path.{◌≡◌, ap, ◌∙◌}
+use mathlib.Core.Bool.{Bool}
+use mathlib.Core.List.{List}
+use Prim.Native.Nat.{ℕ, ◌+◌, ◌-◌, ◌*◌, ◌≤◌}
+use native.Mathlib.Omega.{arith}
+use lib.ListN.{length}
+use Rattle.blocks_of_card.specs.Card.{block_of}
+use Rattle.block_seals.specs.Sealed.{blank, sound}
+use Rattle.call_put.specs.Fillings.{filling_of}
+use Rattle.call_put.proofs.Fillings.{Passed, none_passed, all_passed_lem, broken, breaks, passed_more, not_broken}
+use Rattle.call_put.proofs.Fillings.{blank_apart}
+use borrow.Author.Rules.{rules}
+use Rattle.call_put.proofs.places.look.Given as goal
+
+abbrev pub blankIn : List ℕ → ℕ → ℕ → Bool
+blankIn card start p = blank (block_of card (start + p))
+
+abbrev pub soundIn : List ℕ → ℕ → ℕ → ℕ → Bool
+soundIn card start sheet p = sound sheet p (block_of card (start + p))
+
+abbrev pub invariant-loop-place : goal.invariant-loop-place
+invariant-loop-place l = (l.place ≤ l.blocks)
+    × Passed (blankIn l.card l.start) (soundIn l.card l.start l.sheet) l.place l.passed
+
+abbrev pub decreases-loop-place : goal.decreases-loop-place
+decreases-loop-place l = l.blocks - l.place

@@ -1,2 +1,0 @@
--- `PartsReleased` is a walk over the entries.
-pub mod PartsReleased

@@ -1,0 +1,11 @@
+-- `may_have_part` meets its contract.
+-- Assumes nothing.
+
+use Rattle.std.proofs.Common.{sym, arith}
+use Rattle.image_soundness.proofs.Steps.{lies_apart}
+use Rattle.image_windows.proofs.may_have_part.Goals as goal
+
+pub returns-then-blocks-wrapping_sub_usize : goal.returns-then-blocks-wrapping_sub_usize
+returns-then-blocks-wrapping_sub_usize c =
+    let w = c.wrapping_sub_usize in
+    λ e. sym (lies_apart _ _ w.result (omega arith) w.ensures.value (omega arith))
