@@ -1,5 +1,6 @@
 -- `image_save::begin` meets its contract.
 -- Assumes nothing.
+
 use mathlib.Core.Bool.{Bool, true, false, cond}
 use mathlib.Core.List.{List}
 use mathlib.Core.Path.{◌≡◌, sym, ap, ap₂, ◌∙◌}
@@ -14,9 +15,8 @@ use Rattle.image_soundness.specs.Windows.{tally}
 use Rattle.image_soundness.specs.declared.Tally.{Tally}
 use Rattle.roles.specs.Roles as names
 use Rattle.roles.specs.Roles.{turned_away}
-use Rattle.image_save.proofs.begin.Statement.{statement}
-use Rattle.image_save.proofs.begin.Tie as tie
 use Rattle.image.proofs.Fitting.{save_fits_to}
+use Rattle.image_save.proofs.begin.Goals as goal
 
 module _ (role n spare : ℕ) (map : List ℕ) (count : ℕ) (scratch : List ℕ) where
   abbrev by : Bool → Bool → Tally
@@ -37,37 +37,23 @@ module _ (role n spare : ℕ) (map : List ℕ) (count : ℕ) (scratch : List ℕ
     unfolding first_tally
     begun f = ap₂ by (sym may) (sym f)
 
-turned-away-requires : tie.Need-turned-away-requires
-turned-away-requires c κs = search rules
-
-returns : tie.Need-returns
-returns c =
-    let a = c.before.before.before.before.args in
+pub returns-then-turned_away : goal.returns-then-turned_away
+returns-then-turned_away c = let a = c.args in
     away a.role a.n a.free a.map.now a.count a.scratch.now
-    (sym c.before.turned-away.ensures ∙ c.if1.true)
+    (sym c.turned_away.ensures ∙ c.if-turned_away.true)
 
-save-fits-requires : tie.Need-save-fits-requires
-save-fits-requires c κs = search rules
-
-returns-2 : tie.Need-returns-2
-returns-2 c =
-    let role = c.before.before in
-    let a = role.before.before.before.before.args in
+pub returns-then-not-save_fits : goal.returns-then-not-save_fits
+returns-then-not-save_fits c = let role = c in
+    let a = role.args in
     refused a.role a.n a.free a.map.now a.count a.scratch.now
-    (sym role.before.turned-away.ensures ∙ role.if1.false) (fails c.before.save-fits.ensures c.if2.true)
+    (sym role.turned_away.ensures ∙ role.if-turned_away.false) (fails c.save_fits.ensures c.if-not-save_fits.true-raw)
 
-sub-t12 : tie.Need-overflow-sub-t12
-sub-t12 c =
-    let s = save_fits_to _ _ _ _ _ (holds c.before.save-fits.ensures c.if2.false) in
+pub overflow_sub-result : goal.overflow_sub-result
+overflow_sub-result c = let s = save_fits_to _ _ _ _ _ (holds c.save_fits.ensures c.if-not-save_fits.false-raw) in
     omega (arith, s.limits.spare)
 
-returns-3 : tie.Need-returns-3
-returns-3 c =
-    let role = c.before.before in
-    let a = role.before.before.before.before.args in
+pub returns : goal.returns
+returns c = let role = c in
+    let a = role.args in
     begun a.role a.n a.free a.map.now a.count a.scratch.now
-    (sym role.before.turned-away.ensures ∙ role.if1.false) (holds c.before.save-fits.ensures c.if2.false)
-
-pub begin_spec : {M : Type 1} → statement M
-begin_spec =
-    tie.close (tie.spec turned-away-requires returns save-fits-requires returns-2 sub-t12 returns-3)
+    (sym role.turned_away.ensures ∙ role.if-turned_away.false) (holds c.save_fits.ensures c.if-not-save_fits.false-raw)
