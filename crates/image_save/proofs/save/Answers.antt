@@ -1,6 +1,5 @@
 -- `image_save::save`: what its parts come to.
 -- Assumes nothing.
-use Rattle.std.proofs.Common.{arith}
 use Rattle.image_save.proofs.Saves.{saves}
 use Rattle.image_save.proofs.save.Goals as goal
 

@@ -1,6 +1,6 @@
 -- `image_save::write_entries`: a turn writes the entry at `i`, and a cursor that stopped writes none behind it.
 -- Assumes nothing.
-use Rattle.std.proofs.Common.{◌+◌, add-one, arith}
+use Rattle.std.proofs.Common.{add-one}
 use Rattle.image_save.proofs.Writing.{wrote_end, wrote_on, wrote_stopped}
 use Rattle.image_save.proofs.write_entries.Goals as goal
 
