@@ -78,8 +78,10 @@ class Lookup:
         if library:
             return None if library.group(1) in self.sources.crates else f'no crate for {token}'
         if parts[0] == 'target':
-            program = parts[1:2] == ['bin'] and len(parts) == 3
-            return f'no program {token}' if program and f'crates/{parts[2]}/src/main.rt' not in self.sources.all else None
+            return None
+        if parts[0] == 'crates' and parts[2:3] == ['out']:
+            is_program = parts[1:2] == parts[3:] and f'crates/{parts[1]}/src/main.rt' in self.sources.all
+            return None if is_program else f'no program {token}'
         if self.files(token):
             return None
         if parts[0] in self.sources.tops:

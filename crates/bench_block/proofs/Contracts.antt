@@ -1,5 +1,5 @@
 -- The contracts of the benchmark's functions, of the functions themselves: what each ensures is the proposition that stands
--- here, by computation (`..-contract`), and it asks nothing of its caller (`..-asks-nothing`).
+-- here, by computation (`.._contract`), and it asks nothing of its caller (`.._asks_nothing`).
 -- Assumes nothing.
 use mathlib.Core.Path.{◌≡◌, refl}
 use mathlib.Core.Bool.{cond}

@@ -1,5 +1,5 @@
 -- The contracts of seal and check, of the two functions themselves: what each ensures is the proposition that stands here, by
--- computation (`..-contract`), and it asks nothing of its caller (`..-asks-nothing`). So a clause of the source that is made
+-- computation (`.._contract`), and it asks nothing of its caller (`.._asks_nothing`). So a clause of the source that is made
 -- weaker, or one that asks something, is refused here.
 -- Assumes nothing.
 use mathlib.Core.Path.{◌≡◌, refl}

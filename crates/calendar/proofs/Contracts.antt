@@ -1,5 +1,5 @@
 -- The contracts of the calendar's public functions, of the functions themselves: what each ensures is the proposition that
--- stands here, by computation (`..-contract`), and it asks nothing of its caller (`..-asks-nothing`), but that the test of a
+-- stands here, by computation (`.._contract`), and it asks nothing of its caller (`.._asks_nothing`), but that the test of a
 -- term asks for a payload's length (`in_term_asks`). So a clause of the source that is made weaker, or one that asks more, is
 -- refused here.
 -- Assumes nothing.

@@ -26,7 +26,7 @@ pub fn accept(
     start: u32,
     k: u32,
 ) -> Out
-    ensures { let q = called_by (turned_away role names.accept) (lent_within held limits.now guided summary.entry.now n free map.old
+    ensures { let q = called_by (turned_away role names.accept) (lent_within held limits.now guided summary.old n free map.old
         card.old c entry sheet) in
         (result ≡ accept_out q start k)
         × (map.new ≡ accept_map q start k)

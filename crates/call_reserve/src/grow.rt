@@ -26,7 +26,7 @@ pub fn grow(
     limits: &[u32; 8],
     m: u32,
 ) -> Out
-    ensures { let q = called_by (turned_away role names.grow) (lent_within held limits.now guided summary.entry.now n free map.old
+    ensures { let q = called_by (turned_away role names.grow) (lent_within held limits.now guided summary.old n free map.old
         card.old c entry sheet) in
         (result ≡ grow_out q m)
         × (map.new ≡ grow_map q m)

@@ -27,7 +27,7 @@ pub fn reserve(
     k: u32,
     figures: Figures,
 ) -> Out
-    ensures { let q = called_by (turned_away role names.reserve) (lent_within held limits.now guided summary.entry.now n free map.old
+    ensures { let q = called_by (turned_away role names.reserve) (lent_within held limits.now guided summary.old n free map.old
         card.old c entry sheet) in
         (result ≡ reserve_out q k (placed figures))
         × (map.new ≡ reserve_map q k (placed figures))

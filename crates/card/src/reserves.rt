@@ -24,7 +24,7 @@ pub fn reserve_core(
     sheet: u32,
     k: u32,
 ) -> Out
-    ensures { let q = within held limits.now (lent_at roles.reserve shape role map.old card.entry.now slot
+    ensures { let q = within held limits.now (lent_at roles.reserve shape role map.old card.old slot
         sheet) in
         (result ≡ plain_out q k)
         × (map.new ≡ plain_map q k)
@@ -60,7 +60,7 @@ pub fn reserve_placed_core(
     before: u32,
     step: u32,
 ) -> Out
-    ensures { let q = within held limits.now (lent_at roles.reserve shape role map.old card.entry.now slot
+    ensures { let q = within held limits.now (lent_at roles.reserve shape role map.old card.old slot
         sheet) in
         (result ≡ placed_out q k from before step)
         × (map.new ≡ placed_map q k from before step)
@@ -137,7 +137,7 @@ pub fn accept_core(
     start: u32,
     k: u32,
 ) -> Out
-    ensures { let q = within held limits.now (lent_at roles.accept shape role map.old card.entry.now slot
+    ensures { let q = within held limits.now (lent_at roles.accept shape role map.old card.old slot
         sheet) in
         (result ≡ accept_out q start k)
         × (map.new ≡ accept_map q start k)
@@ -174,7 +174,7 @@ pub fn grow_core(
     sheet: u32,
     m: u32,
 ) -> Out
-    ensures { let q = within held limits.now (lent_at roles.grow shape role map.old card.entry.now slot
+    ensures { let q = within held limits.now (lent_at roles.grow shape role map.old card.old slot
         sheet) in
         (result ≡ grow_out q m)
         × (map.new ≡ grow_map q m)

@@ -46,6 +46,7 @@ below_grows (e ∷ es) s t h =
 pub below_adds : (es : List Entry) (e : Entry) (t : ℕ) → Member e es → e.start < t
     → below es e.start + e.length ≤ below es t
 unfolding below
+below_adds [] e t x'' h = elim x'' [ ]
 below_adds (x ∷ xs) e t (inl p) h =
     subst (λ (z : Entry). z.start < t → below (x ∷ xs) z.start + z.length ≤ below (x ∷ xs) t) p (λ (g : x.start < t).
     let a : part x x.start ≡ 0 = part_out x x.start (omega arith) in
@@ -79,6 +80,7 @@ below_same (x ∷ xs) t s h none =
 pub below_one : (es : List Entry) → Apart es → (e : Entry) → Member e es → 1 ≤ e.length
     → below es (e.start + 1) ≡ below es e.start + e.length
 unfolding below
+below_one [] a e x3 l = elim x3 [ ]
 below_one (x ∷ xs) a e (inl p) l =
     subst (λ (z : Entry). 1 ≤ z.length → below (x ∷ xs) (z.start + 1) ≡ below (x ∷ xs) z.start + z.length) p
     (λ (g : 1 ≤ x.length).
@@ -180,6 +182,7 @@ waiting_falls (x ∷ xs) s t h =
 pub waiting_less : (es : List Entry) (e : Entry) (t : ℕ) → Member e es → 1 ≤ e.length → t ≤ e.start
     → waiting es (e.start + 1) + 1 ≤ waiting es t
 unfolding waiting
+waiting_less [] e t x3 l h = elim x3 [ ]
 waiting_less (x ∷ xs) e t (inl p) l h =
     subst (λ (z : Entry). 1 ≤ z.length → t ≤ z.start → waiting (x ∷ xs) (z.start + 1) + 1 ≤ waiting (x ∷ xs) t) p
     (λ (g : 1 ≤ x.length) (k : t ≤ x.start).
@@ -195,6 +198,7 @@ waiting_less (x ∷ xs) e t (inr m) l h =
 -- none waits
 pub none_waits : (es : List Entry) (t : ℕ) → waiting es t ≡ 0 → (e : Entry) → Member e es → 1 ≤ e.length → e.start < t
 unfolding waiting
+none_waits [] t z e x3 l = elim x3 [ ]
 none_waits (x ∷ xs) t z e (inl p) l =
     subst (λ (y : Entry). 1 ≤ y.length → y.start < t) p (λ (g : 1 ≤ x.length).
     ⊎_elim

@@ -186,6 +186,7 @@ module _ (all : List Entry) where
     there : (es : List Entry) → ((e : Entry) → Member e es → Member e all) → Member which es → (b : ℕ) → below all t ≤ b
         → b < below all t + which.length
         → source_to t' es b ≡ which.start + (b - below all t)
+    there [] sub m b lo hi = elim m [ ]
     there (e ∷ es) sub m b lo hi =
         ⊎_elim
         (λ (h : over t' e b ≡ true).

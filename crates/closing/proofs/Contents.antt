@@ -56,6 +56,7 @@ module _ (all : List Entry) where
         (two_apart all apart y e m member (omega (arith, k.0, k.1)) (omega arith))
 
     its_own : (es : List Entry) → ((y : Entry) → Member y es → Member y all) → Member e es → source all es b ≡ e.start + p
+    its_own [] sub m = elim m [ ]
     its_own (y ∷ es) sub m =
         ⊎_elim
         (λ (o : lies y b ≡ true).

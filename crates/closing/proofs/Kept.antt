@@ -64,6 +64,7 @@ module _ (all : List Entry) where
   -- ---- the blocks that are covered
   map_member : (f : Entry → Entry) (es : List Entry) (P : Entry → Type 0) → ((e : Entry) → Member e es → P (f e))
       → (y : Entry) → Member y (map f es) → P y
+  map_member f [] P h y x'' = elim x'' [ ]
   map_member f (x ∷ xs) P h y (inl p) = subst P p (h x (inl refl))
   map_member f (x ∷ xs) P h y (inr m) = map_member f xs P (λ e k. h e (inr k)) y m
 

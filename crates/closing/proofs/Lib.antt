@@ -1,5 +1,4 @@
--- Laws of closing: what the tests decide, the rounds one by one, what they come to, and what closing keeps. `NearestFound` is
--- the walk over the entries.
+-- Laws of closing: what the tests decide, the rounds one by one, what they come to, and what closing keeps.
 pub mod Members
 pub mod Below
 pub mod Steps
@@ -17,4 +16,3 @@ pub mod Taken
 pub mod Twice
 pub mod Closes
 pub mod Claimed
-pub mod NearestFound

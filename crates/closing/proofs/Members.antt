@@ -47,6 +47,7 @@ Apart (x ∷ xs) = ((e : Entry) → Member e xs → Off x e) × Apart xs
 
 pub two_apart : (es : List Entry) → Apart es → (x e : Entry) → Member x es → Member e es → 1 ≤ x.length → 1 ≤ e.length
     → ((x.start + x.length ≤ e.start) ⊎ (e.start + e.length ≤ x.start)) ⊎ (x ≡ e)
+two_apart [] a x e x7 _ lx le = elim x7 [ ]
 two_apart (y ∷ ys) a x e (inl p) (inl q) lx le = inr (sym p ∙ q)
 two_apart (y ∷ ys) a x e (inl p) (inr q) lx le = inl (subst (λ (z : Entry). Off z e) p (a.0 e q) lx le)
 two_apart (y ∷ ys) a x e (inr p) (inl q) lx le =

@@ -16,12 +16,14 @@ use Rattle.closing.proofs.Packing.{Placed}
 
 pub member_undamaged : (n : ℕ) (f : ℕ → Bool) (es : List Entry) → undamaged n f es ≡ true → (e : Entry) → Member e es
     → is_damaged (standing_of n f e) ≡ false
+member_undamaged n f [] u e x'' = elim x'' [ ]
 member_undamaged n f (x ∷ xs) u e (inl p) = ap (λ (z : Entry). is_damaged (standing_of n f z)) (sym p) ∙ head_undamaged n f x xs u
 member_undamaged n f (x ∷ xs) u e (inr m) = member_undamaged n f xs (tail_undamaged n f x xs u) e m
 
 member_covers : (es : List Entry) (e : Entry) (b : ℕ) → Member e es → e.start ≤ b → b < e.start + e.length
     → 1 ≤ coverings es b
 unfolding coverings
+member_covers [] e b x3 lo hi = elim x3 [ ]
 member_covers (x ∷ xs) e b (inl p) lo hi =
     let s : x.start ≡ e.start = ap (λ (z : Entry). z.start) p in
     let l : x.length ≡ e.length = ap (λ (z : Entry). z.length) p in

@@ -204,7 +204,7 @@ pub fn close(
         scratch.old)
         × (map.new ≡ close_map turned n free fits map.old catalogue.old card.old
         scratch.old)
-        × (catalogue.new ≡ close_entries turned n free fits map.old catalogue.old card.entry.now
+        × (catalogue.new ≡ close_entries turned n free fits map.old catalogue.old card.old
         scratch.old)
         × (card.new ≡ close_card turned n free fits map.old catalogue.old card.old
         scratch.old)

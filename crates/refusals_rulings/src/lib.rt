@@ -257,7 +257,7 @@ pub fn accept_ruling(
     start: u32,
     k: u32,
 ) -> Ruling
-    ensures { let q = called_by (turned_away role names.accept) (lent_within held limits.now guided summary.entry.now n free map.now
+    ensures { let q = called_by (turned_away role names.accept) (lent_within held limits.now guided summary.now n free map.now
         card.now c entry sheet) in
         result ≡ ruling_of (accept_verdict q start k) start }
 {
@@ -298,7 +298,7 @@ pub fn grow_ruling(
     limits: &[u32; 8],
     m: u32,
 ) -> Ruling
-    ensures { let q = called_by (turned_away role names.grow) (lent_within held limits.now guided summary.entry.now n free map.now
+    ensures { let q = called_by (turned_away role names.grow) (lent_within held limits.now guided summary.now n free map.now
         card.now c entry sheet) in
         result ≡ ruling_of (grow_verdict q m) (entry.start + entry.length) }
 {

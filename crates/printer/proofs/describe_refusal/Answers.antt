@@ -3,7 +3,6 @@
 
 use mathlib.Core.List.{List}
 use Prim.Native.Nat.{ℕ}
-use borrow.Author.Rules.{rules}
 use Rattle.printer.specs.Decimal.{numeral}
 use Rattle.printer.specs.Writing.{Writes}
 use Rattle.printer.specs.Lines.{newline}

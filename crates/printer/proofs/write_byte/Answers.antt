@@ -2,7 +2,6 @@
 -- Assumes nothing.
 
 use mathlib.Core.List.{[], ◌∷◌}
-use borrow.Author.Rules.{rules}
 use Rattle.printer.proofs.Written.{writes_byte, writes_past}
 use Rattle.printer.proofs.write_byte.Goals as goal
 

@@ -3,7 +3,6 @@
 
 use mathlib.Core.List.{List}
 use Prim.Native.Nat.{ℕ}
-use borrow.Author.Rules.{rules}
 use Rattle.printer.specs.Decimal.{numeral}
 use Rattle.printer.specs.Writing.{Writes}
 use Rattle.printer.specs.Lines.{card_word, space, newline, card_line}
@@ -18,10 +17,6 @@ unfolding card_line
 whole n spare c text t₁ t₂ t₃ t₄ at a₁ a₂ a₃ a₄ w₁ w₂ w₃ w₄ = then (then (then w₁ w₂) w₃) w₄
 
 pub returns : goal.returns
-returns c = let last = c in
-    let third = last in
-    let second = third in
-    let first = second in
-    whole _ _ _ _ _ _ _ _ _ _ _ _ _ first.write_word-at.ensures second.write_numeral-at.ensures
-    third.write_numeral-at-2.ensures
-    last.write_numeral.ensures
+returns c = whole _ _ _ _ _ _ _ _ _ _ _ _ _ c.write_word-at.ensures c.write_numeral-at.ensures
+    c.write_numeral-at-2.ensures
+    c.write_numeral.ensures

@@ -5,7 +5,6 @@ use mathlib.Core.List.{List}
 use mathlib.Core.Path.{◌≡◌, ap}
 use mathlib.Core.Bool.{false}
 use Prim.Native.Nat.{ℕ}
-use borrow.Author.Rules.{rules}
 use Rattle.survey.specs.declared.Counts.{Counts}
 use Rattle.printer.specs.Writing.{Writes}
 use Rattle.printer.specs.Lines.{card_line, runs_line}

@@ -3,7 +3,6 @@
 
 use mathlib.Core.List.{List, [], ◌∷◌}
 use Prim.Native.Nat.{ℕ, ◌%◌}
-use borrow.Author.Rules.{rules}
 use Rattle.catalogue.specs.declared.Entry.{Entry}
 use Rattle.printer.specs.Decimal.{numeral}
 use Rattle.printer.specs.Writing.{Writes}
@@ -19,11 +18,6 @@ unfolding sheet_line
 whole sheet e text t₁ t₂ t₃ t₄ t₅ at a₁ a₂ a₃ a₄ a₅ w₁ w₂ w₃ w₄ w₅ = then (then (then w₁ (then w₂ w₃)) w₄) w₅
 
 pub returns : goal.returns
-returns c = let last = c in
-    let start = last in
-    let gap = start in
-    let mark = gap in
-    let sheet = mark in
-    whole _ _ _ _ _ _ _ _ _ _ _ _ _ _ sheet.write_numeral-at.ensures mark.write_byte-at.ensures gap.write_byte-at-2.ensures
-    start.write_numeral-at-2.ensures
-    last.write_numeral.ensures
+returns c = whole _ _ _ _ _ _ _ _ _ _ _ _ _ _ c.write_numeral-at.ensures c.write_byte-at.ensures c.write_byte-at-2.ensures
+    c.write_numeral-at-2.ensures
+    c.write_numeral.ensures

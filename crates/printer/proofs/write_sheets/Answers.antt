@@ -1,6 +1,6 @@
 -- `write_sheets` meets its contract: each turn writes a line more, and a cursor that stopped stays where it is.
 -- Assumes nothing.
-use Rattle.std.proofs.Common.{◌≡◌, ℕ, ◌+◌, ◌<◌, ◌≤◌, true, List, [], ◌∷◌, length, get_or, drop, refl, sym, ap, ap₂, ◌∙◌, arith, add-one, drop-cons}
+use Rattle.std.proofs.Common.{◌≡◌, ℕ, ◌+◌, ◌<◌, List, ◌∷◌, length, get_or, drop, sym, ap, ap₂, ◌∙◌, arith, add-one, drop-cons}
 use Rattle.std.proofs.lemmas.List.{drop_all}
 use Rattle.catalogue.specs.declared.Entry.{Entry}
 use Rattle.printer.specs.Sheets.{line_writer, line_written, lines_writer, lines_written}

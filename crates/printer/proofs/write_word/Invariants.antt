@@ -1,13 +1,10 @@
 -- `write_word` meets its contract: as many bytes of the word stand there as were passed.
 -- Assumes nothing.
 
-use mathlib.Core.Path.{◌≡◌, refl, ◌∙◌}
+use mathlib.Core.Path.{◌≡◌}
 use Prim.Native.Nat.{◌≤◌, ◌-◌}
-use native.Mathlib.Omega.{arith}
 use lib.ListN.{length, take}
-use borrow.Author.Rules.{rules}
 use Rattle.printer.specs.Writing.{Writes}
-use Rattle.printer.proofs.Written.{writes_none, writes_next, writes_all}
 use Rattle.printer.proofs.write_word.Given as goal
 
 abbrev pub invariant-loop-i : goal.invariant-loop-i

@@ -2,7 +2,7 @@
 -- Assumes nothing.
 use Rattle.std.proofs.Common.{subst, arith}
 use Rattle.summary_groups.specs.Places.{Sited}
-use Rattle.summary_groups.proofs.Places.{sited_index, sited_pos, sited_left, sited_right}
+use Rattle.summary_groups.proofs.Places.{sited_pos, sited_left, sited_right}
 use Rattle.summary.proofs.Checking.{refuted, word_decides, halves-decide, first_wrong, second_wrong}
 use Rattle.summary.proofs.+right_below.Goals as goal
 

@@ -15,7 +15,8 @@ pub returns-then-a-b-2 : goal.returns-then-a-b-2
 returns-then-a-b-2 c = refuted _ (λ e. c.if-a-b-2.true (ap (λ (x : Group). x.head) e))
 
 pub returns : goal.returns
-returns c = let a = c.args.a in
+returns c =
+    let a = c.args.a in
     let b = c.args.b in (
       λ y. group_eq c.if-a-b-2.false c.if-a-b.false
           (eqb-true a.longest b.longest y),

@@ -2,15 +2,13 @@
 -- Assumes nothing.
 
 use lib.ListN.{length}
-use borrow.Author.Rules.{rules}
 use Rattle.summary.proofs.Own.{decided, sited_whole}
 use Rattle.summary.proofs.check.Goals as goal
 
 pub right_below-requires : goal.right_below-requires
-right_below-requires c = let start = c in
-    let lent = start.requires in
-    (lent, sited_whole _ _ _ _ lent (c.words_of.ensures (length start.args.map.now) lent.long))
+right_below-requires c =
+    let lent = c.requires in
+    (lent, sited_whole _ _ _ _ lent (c.words_of.ensures (length c.args.map.now) lent.long))
 
 pub returns : goal.returns
-returns c = let start = c in
-    decided start.args.map.now start.args.n start.args.summary.now start.requires _ c.right_below.ensures
+returns c = decided c.args.map.now c.args.n c.args.summary.now c.requires _ c.right_below.ensures

@@ -6,7 +6,6 @@ use mathlib.Core.List.{List}
 use Prim.Native.Nat.{ℕ, ◌+◌, ◌*◌}
 use native.Mathlib.Nat.{zero-add}
 use native.Mathlib.Omega.{arith}
-use borrow.Author.Rules.{rules}
 use Rattle.map_blocks.specs.Words.{bit}
 use Rattle.map_blocks.proofs.Bits.{bit_zero}
 use Rattle.map_blocks.proofs.Maps.{cut_word}
@@ -16,12 +15,14 @@ use Rattle.summary.proofs.Usable.{from_n, in_window_lem}
 use Rattle.summary.proofs.free_word.Goals as goal
 
 pub returns-then-n-base : goal.returns-then-n-base
-returns-then-n-base c = let a = c.args in
+returns-then-n-base c =
+    let a = c.args in
     group_same (bit 0) (usable a.map.now a.n) 0 (64 * a.i) 64 (λ j l.
     bit_zero (0 + j) ∙ sym (from_n a.map.now a.n (64 * a.i + j) (omega arith)))
 
 pub returns : goal.returns
-returns c = let a = c.args in
+returns c =
+    let a = c.args in
     let map : List ℕ = a.map.now in
     let e : a.i * 64 ≡ 64 * a.i = omega arith in
     group_same (bit _) (usable map a.n) 0 (64 * a.i) 64 (λ j l.

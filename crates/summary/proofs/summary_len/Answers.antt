@@ -2,7 +2,6 @@
 -- Assumes nothing.
 
 use native.Mathlib.Omega.{arith}
-use borrow.Author.Rules.{rules}
 use Rattle.summary_groups.proofs.Places.{power_pos, power_small}
 use Rattle.summary.proofs.summary_len.Goals as goal
 

@@ -1,12 +1,8 @@
 -- `summary::width` meets its contract. The loop's invariant: p doubled on until it is not below w is the power wanted.
 -- Assumes nothing.
 
-use mathlib.Core.Path.{◌≡◌, refl, ap, sym, ◌∙◌}
-use mathlib.Core.Bool.{Bool, cond}
-use Prim.Native.Nat.{ℕ, zero, suc, ◌+◌, ◌-◌, ◌*◌, ◌≤◌, ◌<◌}
-use native.Mathlib.Omega.{arith}
-use borrow.Author.Rules.{rules}
-use borrow.Author.Tests.{lt-ltb, le-ltb}
+use mathlib.Core.Path.{◌≡◌}
+use Prim.Native.Nat.{ℕ, ◌+◌, ◌-◌, ◌≤◌, ◌<◌}
 use Rattle.summary_groups.specs.Groups.{doubled, power}
 use Rattle.summary.proofs.width.Given as goal
 

@@ -1,7 +1,7 @@
 -- `summary_groups::longer` meets its contract: the runs of `length` behind which runs of `more` start are longer by these.
 -- Assumes nothing.
 
-use Rattle.std.proofs.Common.{arith, rules}
+use Rattle.std.proofs.Common.{arith}
 use Rattle.summary_groups.proofs.Rounds.{reach_on, reach_same}
 use Rattle.summary_groups.proofs.longer.Goals as goal
 

@@ -1,15 +1,13 @@
 -- `summary_groups::longest` meets its contract: after each step no run is longer by as much as the step would have added.
 -- Assumes nothing.
 
-use Rattle.std.proofs.Common.{ℕ, rules}
+use Rattle.std.proofs.Common.{ℕ}
 use Rattle.summary_groups.proofs.Rounds.{behind, ones, reach_first, reach_last}
 use Rattle.summary_groups.proofs.longest.Goals as goal
 
 pub returns : goal.returns
-returns c = let r4 = c in
-    let r16 = r4 in
-    let start = r16 in
-    let w : ℕ = start.args.w in
+returns c =
+    let w : ℕ = c.args.w in
     let twos = behind w w 1 w 1 (ones w) (ones w) in
     let fours = behind w _ 2 _ 2 twos twos in
     let eights = behind w _ 4 _ 4 fours fours in
@@ -17,8 +15,8 @@ returns c = let r4 = c in
     reach_last w _ _
     (c.longer.ensures.by_index w
     (c.longer-r2.ensures.by_index w
-    (r4.longer-r4.ensures.by_index w
-    (r4.longer-r8.ensures.by_index w
-    (r16.longer-r16.ensures.by_index w
-    (r16.longer-r32.ensures.by_index w (reach_first w start.requires start.ranges.w.fits)
+    (c.longer-r4.ensures.by_index w
+    (c.longer-r8.ensures.by_index w
+    (c.longer-r16.ensures.by_index w
+    (c.longer-r32.ensures.by_index w (reach_first w c.requires c.ranges.w.fits)
     (behind w _ 16 _ 16 sixteens sixteens)) sixteens) eights) fours) twos) (ones w))

@@ -1,7 +1,6 @@
 -- `summary_groups::word_group` meets its contract: its three numbers make the group.
 -- Assumes nothing.
 
-use Rattle.std.proofs.Common.{rules}
 use Rattle.summary_groups.proofs.Rounds.{word_is, head_none, tail_none, longest_none, head_full, tail_full, longest_full}
 use Rattle.summary_groups.proofs.word_group.Goals as goal
 

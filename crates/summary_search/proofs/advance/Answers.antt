@@ -1,12 +1,10 @@
 -- `summary_search::advance` meets its contract, each way by a law of Ways.
 -- Assumes nothing.
--- what the group read tells
 
 use mathlib.Core.Path.{◌≡◌, refl, sym, ap, ◌∙◌}
 use mathlib.Core.Logic.{inl, inr}
 use Prim.Native.Nat.{ℕ}
 use native.Mathlib.Omega.{arith}
-use borrow.Author.Rules.{rules}
 use Rattle.summary_groups.specs.declared.Group.{Group}
 use Rattle.summary_search.specs.declared.Glance.{Glance}
 use Rattle.summary_search.specs.declared.Glance.TheVariants.{Settled}
@@ -17,10 +15,12 @@ use Rattle.summary_search.proofs.Ways.{none-behind, second_half_lem, whole-passe
 use Rattle.summary_search.proofs.Ways.{told-hit, told-next, in_word, first_half_lem, to_go_ahead, to_go_passed}
 use Rattle.summary_search.proofs.advance.Goals as goal
 
+-- what the group read tells
 glanced : (at k base m s : ℕ) {x y : Group} {r : Glance} → x ≡ y → r ≡ glance_of x at k base m s → glance_of y at k base m s ≡ r
 glanced at k base m s e q = ap (λ (z : Group). glance_of z at k base m s) (sym e) ∙ sym q
 
 -- ---- a group that is passed
+
 pub overflow_add-base : goal.overflow_add-base
 overflow_add-base c = let start = c in
     let p = start.args.place in

@@ -2,7 +2,6 @@
 -- Assumes nothing.
 
 use native.Mathlib.Omega.{arith}
-use borrow.Author.Rules.{rules}
 use borrow.Author.Tests.{le-leb, lt-leb, lt-ltb, le-ltb}
 use Rattle.summary_search.specs.SearchBy.{glance_of}
 use Rattle.summary_search.proofs.glance_at.Goals as goal

@@ -3,7 +3,6 @@
 
 use Prim.Native.Nat.{◌<◌, ◌≤◌}
 use native.Mathlib.Omega.{arith}
-use borrow.Author.Rules.{rules}
 use borrow.Author.Tests.{le-leb, lt-leb}
 use Rattle.summary_search.specs.SearchBy.{inside_of}
 use Rattle.summary_search.proofs.glance_inside.Goals as goal

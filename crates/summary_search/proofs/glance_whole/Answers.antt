@@ -3,7 +3,6 @@
 
 use Prim.Native.Nat.{◌<◌, ◌≤◌}
 use native.Mathlib.Omega.{arith}
-use borrow.Author.Rules.{rules}
 use borrow.Author.Tests.{le-leb, lt-leb, eq-eqb, ne_eqb}
 use Rattle.summary_search.specs.SearchBy.{whole_of}
 use Rattle.summary_search.proofs.glance_whole.Goals as goal

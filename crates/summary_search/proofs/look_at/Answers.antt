@@ -4,7 +4,6 @@
 use mathlib.Core.Path.{sym, ap, ap₂, ◌∙◌}
 use Prim.Native.Nat.{ℕ, ◌+◌, min}
 use native.Mathlib.Omega.{arith}
-use borrow.Author.Rules.{rules}
 use Rattle.map_blocks.specs.Blocks.{free, least_fit}
 use Rattle.summary_search.proofs.look_at.Goals as goal
 

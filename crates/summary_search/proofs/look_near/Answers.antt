@@ -5,7 +5,6 @@ use mathlib.Core.Path.{sym, ap, ap₂, ◌∙◌}
 use Prim.Native.Nat.{ℕ}
 use native.Mathlib.Omega.{arith}
 use Rattle.map_blocks.specs.Blocks.{free, least_fit}
-use borrow.Author.Rules.{rules}
 use Rattle.summary_search.proofs.look_near.Goals as goal
 
 pub search-requires : goal.search-requires

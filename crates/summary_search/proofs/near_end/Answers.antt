@@ -3,7 +3,6 @@
 
 use native.Mathlib.Omega.{arith}
 use Rattle.summary_search.proofs.Near.{near_small}
-use borrow.Author.Rules.{rules}
 use Rattle.summary_search.proofs.near_end.Goals as goal
 
 pub overflow_add-from : goal.overflow_add-from

@@ -8,7 +8,6 @@ use lib.ListN.{length, get_or}
 use Rattle.summary_groups.proofs.Places.{power_pos}
 use Rattle.summary_search.proofs.Near.{found_near, none_near}
 use Rattle.summary_search.proofs.Searches.{by_none}
-use borrow.Author.Rules.{rules}
 use Rattle.summary_search.proofs.search_by.Goals as goal
 
 pub bounds-summary-2 : goal.bounds-summary-2

@@ -4,7 +4,6 @@
 use mathlib.Core.Path.{refl}
 use mathlib.Core.Logic.{inl}
 use native.Mathlib.Omega.{arith}
-use Rattle.summary_search.specs.Seeking.{Stands, to_go}
 use Rattle.summary_search.proofs.Ways.{first_ahead, ended_in}
 use Rattle.summary_search.proofs.seek_down.Goals as goal
 

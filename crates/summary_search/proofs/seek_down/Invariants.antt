@@ -1,11 +1,7 @@
 -- `summary_search::seek_down` meets its contract. The loop's invariant: the search stands where it comes to its answer.
 -- Assumes nothing.
 
-use mathlib.Core.Path.{refl}
-use mathlib.Core.Logic.{inl}
-use native.Mathlib.Omega.{arith}
 use Rattle.summary_search.specs.Seeking.{Stands, to_go}
-use Rattle.summary_search.proofs.Ways.{first_ahead, ended_in}
 use Rattle.summary_search.proofs.seek_down.Given as goal
 
 abbrev pub invariant-loop-place : goal.invariant-loop-place

@@ -1,15 +1,12 @@
 -- `summary_write::climb` meets its contract. The invariant: group g stands where the way up has come to.
 -- Assumes nothing.
 
-use mathlib.Core.Path.{◌≡◌, refl, ◌∙◌}
+use mathlib.Core.Path.{◌≡◌}
 use mathlib.Core.Bool.{Bool}
 use mathlib.Core.List.{List}
-use Prim.Native.Nat.{ℕ, ◌+◌, ◌-◌, ◌*◌, ◌/◌, ◌<◌}
-use native.Mathlib.Omega.{arith}
+use Prim.Native.Nat.{ℕ}
 use lib.ListN.{length}
 use Rattle.summary_write.specs.Climbs.{Rises, Stands}
-use Rattle.summary_write.proofs.Climbs.{rises_top, rises-on, rises-no-more, stands_small, stands_in, stands_up}
-use borrow.Author.Rules.{rules}
 use Rattle.summary_write.proofs.climb.Given as goal
 
 abbrev pub invariant-loop-g : goal.invariant-loop-g

@@ -1,20 +1,14 @@
--- `summary_write::rebuild_words` meets its contract. The invariant: groups g to stop - 1, two or more, are those of the level
--- that
+-- `summary_write::rebuild_words` meets its contract. The invariant: groups g to stop - 1, two or more, are those of the level that
 -- have one of the words, and what has been stored is as aimed at.
 -- Assumes nothing.
 
-use mathlib.Core.Path.{◌≡◌, refl, ◌∙◌}
+use mathlib.Core.Path.{◌≡◌}
 use mathlib.Core.List.{List}
-use Prim.Native.Nat.{ℕ, ◌+◌, ◌-◌, ◌/◌, ◌≤◌, ◌<◌}
-use native.Mathlib.Omega.{arith}
+use Prim.Native.Nat.{ℕ, ◌+◌, ◌≤◌, ◌<◌}
 use lib.ListN.{length}
 use Rattle.summary_groups.specs.Groups.{power}
-use Rattle.summary_groups.proofs.Places.{power_power, power_small, power_pos}
 use Rattle.summary.specs.Summary.{usable}
 use Rattle.summary_write.specs.Climbs.{At, Climbs}
-use Rattle.summary_write.proofs.Climbs.{climbs_words, climbs-above, several_rise}
-use Rattle.summary_write.proofs.Levels.{at_words, up, above_few, several}
-use borrow.Author.Rules.{rules}
 use Rattle.summary_write.proofs.rebuild_words.Given as goal
 
 abbrev pub invariant-loop-g : goal.invariant-loop-g

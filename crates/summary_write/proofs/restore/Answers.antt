@@ -3,7 +3,6 @@
 
 use mathlib.Core.Path.{refl}
 use Rattle.summary_write.proofs.Stored.{decides_same}
-use borrow.Author.Rules.{rules}
 use Rattle.summary_write.proofs.restore.Goals as goal
 
 pub returns : goal.returns

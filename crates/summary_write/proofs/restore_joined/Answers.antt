@@ -7,17 +7,16 @@ use Rattle.summary_groups.specs.declared.Group.{Group}
 use Rattle.summary_groups.specs.Groups.{joined_of}
 use Rattle.summary.specs.Walks.{with_group, halves_of}
 use Rattle.summary_write.proofs.Stored.{decides_same}
-use borrow.Author.Rules.{rules}
 use Rattle.summary_write.proofs.restore_joined.Goals as goal
 
 pub returns : goal.returns
 unfolding halves_of
-returns c = let stored = c in
+returns c =
     let a = c.args in
-    let e : stored.joined.result ≡ halves_of a.summary.now a.g a.half =
-    stored.joined.ensures ∙ ap₂ (λ (x y : Group). joined_of x y (64 * a.half))
+    let e : c.joined.result ≡ halves_of a.summary.now a.g a.half =
+    c.joined.ensures ∙ ap₂ (λ (x y : Group). joined_of x y (64 * a.half))
     c.read-a.ensures
     c.read-b.ensures in (
-      decides_same _ _ _ _ _ refl e stored.restore.ensures.0,
-      stored.restore.ensures.1 ∙ ap (with_group a.summary.now a.g) e,
+      decides_same _ _ _ _ _ refl e c.restore.ensures.0,
+      c.restore.ensures.1 ∙ ap (with_group a.summary.now a.g) e,
     )

@@ -3,7 +3,6 @@
 
 use native.Mathlib.Omega.{arith}
 use lib.ListN.{length-set}
-use borrow.Author.Rules.{rules}
 use Rattle.summary_write.proofs.store.Goals as goal
 
 pub bounds-summary-i-2 : goal.bounds-summary-i-2

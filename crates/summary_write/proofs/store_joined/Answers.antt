@@ -3,7 +3,6 @@
 
 use mathlib.Core.Path.{ap, ap₂, ◌∙◌}
 use Prim.Native.Nat.{◌*◌}
-use borrow.Author.Rules.{rules}
 use Rattle.summary_groups.specs.declared.Group.{Group}
 use Rattle.summary_groups.specs.Groups.{joined_of}
 use Rattle.summary.specs.Walks.{with_group, halves_of}
@@ -11,9 +10,8 @@ use Rattle.summary_write.proofs.store_joined.Goals as goal
 
 pub returns : goal.returns
 unfolding halves_of
-returns c = let stored = c in
-    let reads = stored in
-    let a = reads.args in
-    stored.store.ensures
-    ∙ ap (with_group a.summary.now a.g) (stored.joined.ensures ∙ ap₂ (λ (x y : Group). joined_of x y
-    (64 * a.half)) reads.read-a.ensures reads.read-b.ensures)
+returns c =
+    let a = c.args in
+    c.store.ensures
+    ∙ ap (with_group a.summary.now a.g) (c.joined.ensures ∙ ap₂ (λ (x y : Group). joined_of x y
+    (64 * a.half)) c.read-a.ensures c.read-b.ensures)

@@ -1,16 +1,11 @@
 -- `summary_write::store_joins` meets its contract. The invariant: the groups g to i - 1 are stored.
 -- Assumes nothing.
 
-use mathlib.Core.Path.{◌≡◌, refl, sym, ◌∙◌, subst}
-use mathlib.Core.List.{List}
-use Prim.Native.Nat.{ℕ, ◌+◌, ◌-◌, ◌*◌, ◌≤◌, ◌<◌}
-use native.Mathlib.Omega.{arith}
+use mathlib.Core.Path.{◌≡◌}
+use Prim.Native.Nat.{ℕ, ◌-◌, ◌≤◌}
 use lib.ListN.{length}
-use borrow.Author.Rules.{rules}
 use Rattle.summary_groups.specs.declared.Group.{Group}
-use Rattle.summary.specs.Walks.{halves_of}
 use Rattle.summary_write.specs.Climbs.{Joins, Stores}
-use Rattle.summary_write.proofs.Stored.{none_stored, one_stored, next_stored, told, stored_all}
 use Rattle.summary_write.proofs.store_joins.Given as goal
 
 abbrev pub invariant-loop-i : goal.invariant-loop-i

@@ -3,11 +3,9 @@
 
 use mathlib.Core.Path.{◌≡◌, refl, sym, ap, ◌∙◌, subst}
 use mathlib.Core.List.{List}
-use Prim.Native.Nat.{ℕ, ◌+◌, ◌-◌, ◌*◌, ◌≤◌, ◌<◌}
+use Prim.Native.Nat.{ℕ, ◌+◌, ◌*◌, ◌≤◌, ◌<◌}
 use native.Mathlib.Omega.{arith}
 use lib.ListN.{length}
-use borrow.Author.Rules.{rules}
-use Rattle.summary_groups.specs.declared.Group.{Group}
 use Rattle.summary_groups.specs.Groups.{power, group_of}
 use Rattle.summary_groups.proofs.Places.{power_small}
 use Rattle.summary.specs.Summary.{usable}
@@ -20,55 +18,52 @@ pub loop-i-init : goal.loop-i-init
 loop-i-init c = (omega arith, c.requires.3, refl, λ aim j. none_stored aim _ _ _ (omega arith))
 
 pub overflow_add-leaf : goal.overflow_add-leaf
-overflow_add-leaf c = let start = c in
-    let few : power (length start.args.map.now) ≤ 4096 = power_small _ start.requires.0.few in
-    omega (arith, start.requires.1, c.loop-i-test.true)
+overflow_add-leaf c =
+    let few : power (length c.args.map.now) ≤ 4096 = power_small _ c.requires.0.few in
+    omega (arith, c.requires.1, c.loop-i-test.true)
 
 pub free_word-requires : goal.free_word-requires
-free_word-requires c = let start = c in
-    let few : power (length start.args.map.now) ≤ 4096 = power_small _ start.requires.0.few in
-    (omega (arith, start.requires.1, start.requires.2, c.loop-i-test.true), start.requires.0.fits)
+free_word-requires c =
+    let few : power (length c.args.map.now) ≤ 4096 = power_small _ c.requires.0.few in
+    (omega (arith, c.requires.1, c.requires.2, c.loop-i-test.true), c.requires.0.fits)
 
 pub store_word-requires : goal.store_word-requires
-store_word-requires c = let start = c in
-    let few : power (length start.args.map.now) ≤ 4096 = power_small _ start.requires.0.few in
+store_word-requires c =
+    let few : power (length c.args.map.now) ≤ 4096 = power_small _ c.requires.0.few in
     let loop = c.loop-i in
-    let i : loop.i < start.args.hi = c.loop-i-test.true in (
-      omega (arith, start.requires.1, start.requires.2),
-      omega (arith, start.requires.1, start.requires.2, loop.invariant.2, start.requires.0.long),
+    let i : loop.i < c.args.hi = c.loop-i-test.true in (
+      omega (arith, c.requires.1, c.requires.2),
+      omega (arith, c.requires.1, c.requires.2, loop.invariant.2, c.requires.0.long),
     )
 
 pub overflow_add-i : goal.overflow_add-i
-overflow_add-i c = let start = c in
-    let few : power (length start.args.map.now) ≤ 4096 = power_small _ start.requires.0.few in
-    omega (arith, start.requires.1, start.requires.2, c.loop-i-test.true)
+overflow_add-i c =
+    let few : power (length c.args.map.now) ≤ 4096 = power_small _ c.requires.0.few in
+    omega (arith, c.requires.1, c.requires.2, c.loop-i-test.true)
 
 pub loop-i-preserved : goal.loop-i-preserved
-loop-i-preserved c = let stored = c in
-    let word = stored in
-    let loop = word in
-    let start = loop in
-    let a = start.args in
-    let i : loop.loop-i.i < a.hi = word.loop-i-test.true in
-    let at : List ℕ = loop.loop-i.summary in
-    let g : ℕ = a.leaf + loop.loop-i.i in
-    let e : a.leaf + (loop.loop-i.i + 1) ≡ g + 1 = omega arith in
-    let l : 3 * (a.leaf + loop.loop-i.i) + 2 < length loop.loop-i.summary =
-    omega (arith, start.requires.1, start.requires.2, loop.loop-i.invariant.2, start.requires.0.long) in (
-      omega (arith, loop.loop-i.invariant.0),
+loop-i-preserved c =
+    let a = c.args in
+    let i : c.loop-i.i < a.hi = c.loop-i-test.true in
+    let at : List ℕ = c.loop-i.summary in
+    let g : ℕ = a.leaf + c.loop-i.i in
+    let e : a.leaf + (c.loop-i.i + 1) ≡ g + 1 = omega arith in
+    let l : 3 * (a.leaf + c.loop-i.i) + 2 < length c.loop-i.summary =
+    omega (arith, c.requires.1, c.requires.2, c.loop-i.invariant.2, c.requires.0.long) in (
+      omega (arith, c.loop-i.invariant.0),
       omega arith,
-      stored.store_word.auto.summary ∙ loop.loop-i.invariant.2,
+      c.store_word.auto.summary ∙ c.loop-i.invariant.2,
       λ aim j.
-          subst (Stores aim a.summary.now stored.store_word.new.summary (a.leaf + a.lo)) (sym e)
-          (next_stored aim _ _ _ _ _ (omega (arith, loop.loop-i.invariant.0)) (loop.loop-i.invariant.3 aim j)
+          subst (Stores aim a.summary.now c.store_word.new.summary (a.leaf + a.lo)) (sym e)
+          (next_stored aim _ _ _ _ _ (omega (arith, c.loop-i.invariant.0)) (c.loop-i.invariant.3 aim j)
           (subst (λ (s : List ℕ). Stores aim at s g (g + 1))
-          (sym (stored.store_word.ensures ∙ ap (with_group at g) word.free_word.ensures))
-          (one_stored aim at g (group_of (usable a.map.now a.n) (64 * loop.loop-i.i) 64) l
-          (j loop.loop-i.i loop.loop-i.invariant.0 i)))),
+          (sym (c.store_word.ensures ∙ ap (with_group at g) c.free_word.ensures))
+          (one_stored aim at g (group_of (usable a.map.now a.n) (64 * c.loop-i.i) 64) l
+          (j c.loop-i.i c.loop-i.invariant.0 i)))),
     )
 
 pub returns : goal.returns
-returns c = let loop = c.loop-i in
-    let start = c in
-    let all : start.args.hi ≡ loop.i = omega (arith, c.loop-i-test.false, loop.invariant.1) in
+returns c =
+    let loop = c.loop-i in
+    let all : c.args.hi ≡ loop.i = omega (arith, c.loop-i-test.false, loop.invariant.1) in
     λ aim j. stored_all aim _ _ _ _ _ (omega arith) (loop.invariant.3 aim j)

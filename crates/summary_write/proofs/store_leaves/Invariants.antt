@@ -1,19 +1,13 @@
 -- `summary_write::store_leaves` meets its contract. The invariant: the groups of the words lo to i - 1 are stored.
 -- Assumes nothing.
 
-use mathlib.Core.Path.{◌≡◌, refl, sym, ap, ◌∙◌, subst}
-use mathlib.Core.List.{List}
+use mathlib.Core.Path.{◌≡◌}
 use Prim.Native.Nat.{ℕ, ◌+◌, ◌-◌, ◌*◌, ◌≤◌, ◌<◌}
-use native.Mathlib.Omega.{arith}
 use lib.ListN.{length}
-use borrow.Author.Rules.{rules}
 use Rattle.summary_groups.specs.declared.Group.{Group}
-use Rattle.summary_groups.specs.Groups.{power, group_of}
-use Rattle.summary_groups.proofs.Places.{power_small}
+use Rattle.summary_groups.specs.Groups.{group_of}
 use Rattle.summary.specs.Summary.{usable}
-use Rattle.summary.specs.Walks.{with_group}
 use Rattle.summary_write.specs.Climbs.{Stores}
-use Rattle.summary_write.proofs.Stored.{none_stored, one_stored, next_stored, stored_all}
 use Rattle.summary_write.proofs.store_leaves.Given as goal
 
 abbrev pub invariant-loop-i : goal.invariant-loop-i

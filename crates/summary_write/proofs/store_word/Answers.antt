@@ -3,7 +3,6 @@
 
 use mathlib.Core.Path.{ap, ◌∙◌}
 use Prim.Native.Nat.{ℕ}
-use borrow.Author.Rules.{rules}
 use Rattle.map_blocks.specs.Words.{bit}
 use Rattle.map_blocks.proofs.Bits.{bit_zero}
 use Rattle.summary_groups.proofs.Joins.{group_none}
@@ -11,14 +10,13 @@ use Rattle.summary.specs.Walks.{with_group}
 use Rattle.summary_write.proofs.store_word.Goals as goal
 
 pub returns-then-w-eq0 : goal.returns-then-w-eq0
-returns-then-w-eq0 c = let stored = c in
-    let test = stored in
-    let a = test.args in
-    stored.store.ensures
+returns-then-w-eq0 c =
+    let a = c.args in
+    c.store.ensures
     ∙ ap (with_group a.summary.now a.g) (group_none (bit a.w) 0 64 (λ t l.
-    ap (λ (w : ℕ). bit w t) test.if-w-eq0.true ∙ bit_zero t))
+    ap (λ (w : ℕ). bit w t) c.if-w-eq0.true ∙ bit_zero t))
 
 pub returns : goal.returns
-returns c = let stored = c in
-    let a = stored.args in
-    stored.store-2.ensures ∙ ap (with_group a.summary.now a.g) stored.word_group.ensures
+returns c =
+    let a = c.args in
+    c.store-2.ensures ∙ ap (with_group a.summary.now a.g) c.word_group.ensures

@@ -3,7 +3,6 @@
 -- no word holds any
 
 use native.Mathlib.Omega.{arith}
-use borrow.Author.Rules.{rules}
 use Rattle.survey.proofs.Passing.{part_before}
 use Rattle.survey.proofs.last_part.Goals as goal
 

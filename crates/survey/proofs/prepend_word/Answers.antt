@@ -9,7 +9,6 @@ use native.Mathlib.Omega.{arith}
 use Rattle.survey_bytes.specs.Bytes.{bits_of}
 use Rattle.survey_words.specs.Passing.{Summary}
 use Rattle.survey.proofs.Taken.{past_zero}
-use borrow.Author.Rules.{rules}
 use Rattle.survey.proofs.prepend_word.Goals as goal
 
 pub returns-then-w-eq0 : goal.returns-then-w-eq0
@@ -21,9 +20,7 @@ returns-then-w-eq0 c = let a = c.args in record {
 }
 
 pub prepend_word_short-requires : goal.prepend_word_short-requires
-prepend_word_short-requires c = let start = c in
-    record { ruled = (start.requires.ruled, c.bytes_short.ensures c.if-bytes_short.true); le_longest = (omega arith, omega arith, omega arith) }
+prepend_word_short-requires c = record { ruled = (c.requires.ruled, c.bytes_short.ensures c.if-bytes_short.true); le_longest = (omega arith, omega arith, omega arith) }
 
 pub prepend_word_apart-requires : goal.prepend_word_apart-requires
-prepend_word_apart-requires c = let start = c in
-    record { ruled = (start.requires.ruled, c.bytes_apart.ensures c.if-bytes_apart.true); head_bound = start.requires.head_bound }
+prepend_word_apart-requires c = record { ruled = (c.requires.ruled, c.bytes_apart.ensures c.if-bytes_apart.true); head_bound = c.requires.head_bound }

@@ -3,19 +3,17 @@
 -- Assumes nothing.
 
 use mathlib.Core.Path.{◌≡◌, refl, ap, subst, ◌∙◌}
-use Prim.Native.Nat.{ℕ, ◌<◌, ◌≤◌, ◌-◌, ◌*◌, ◌^◌}
+use Prim.Native.Nat.{ℕ, ◌<◌, ◌-◌, ◌^◌}
 use native.Mathlib.Omega.{arith}
 use lib.Bits.{bit_and, and_le_r}
 use lib.Count.{ones-le}
 use lib.ListN.{get_or}
-use borrow.Author.Rules.{rules}
 use Rattle.map_blocks.specs.Maps.{words_for}
 use Rattle.map_blocks.specs.Blocks.{free}
 use Rattle.survey_bytes.specs.Runs.{head_of, longest_of, runs_of}
 use Rattle.survey_bytes.specs.Bytes.{bits_of, column}
 use Rattle.survey_words.specs.Passing.{Summary}
 use Rattle.survey.specs.Survey.{free_of}
-use Rattle.survey.specs.Words.{Before}
 use Rattle.survey.proofs.Blocks.{free_append}
 use Rattle.survey.proofs.Passing.{rest, rest_more, counted, nothing, ones_before}
 use Rattle.survey.proofs.Rule.{right, ruled}
@@ -24,12 +22,14 @@ use Rattle.map_blocks.proofs.Maps.{cut_word}
 use Rattle.survey.proofs.survey.Goals as goal
 
 pub loop-i-init : goal.loop-i-init
-loop-i-init c = let a = c.args in
+loop-i-init c =
+    let a = c.args in
     let start = nothing (free a.map.now) a.n (words_for a.n) in
     (omega arith, start.0, start.1, omega arith, omega arith, omega arith, c.last_part-mask.ensures, omega arith)
 
 pub overflow_add-free : goal.overflow_add-free
-overflow_add-free c = let loop = c.loop-i in
+overflow_add-free c =
+    let loop = c.loop-i in
     let word : ℕ = get_or c.args.map.now (loop.i - 1) 0 in
     let small : bit_and word loop.mask < 2 ^ 64 = omega (arith, and_le_r word loop.mask, loop.invariant.7) in
     omega (arith, ones-le 64 (bit_and word loop.mask) small)
@@ -39,7 +39,8 @@ unfolding right bits_of head_of longest_of runs_of column
 prepend_word-passed-requires c = record { ruled = ruled _ refl tt; head_bound = omega arith }
 
 pub loop-i-preserved : goal.loop-i-preserved
-loop-i-preserved c = let loop = c.loop-i in
+loop-i-preserved c =
+    let loop = c.loop-i in
     let a = c.args in
     let i : ℕ = loop.i in
     let w : ℕ = bit_and (get_or a.map.now (i - 1) 0) loop.mask in
@@ -63,7 +64,8 @@ loop-i-preserved c = let loop = c.loop-i in
     )
 
 pub returns : goal.returns
-returns c = let loop = c.loop-i in
+returns c =
+    let loop = c.loop-i in
     let a = c.args in
     let z : loop.i ≡ 0 = omega arith in
     counted (free a.map.now) a.n (words_for a.n) loop.free loop.passed.head loop.passed.longest

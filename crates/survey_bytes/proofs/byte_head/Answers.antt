@@ -3,11 +3,11 @@
 
 use Prim.Native.Nat.{ℕ, ◌%◌}
 use native.Mathlib.Omega.{arith}
-use borrow.Author.Rules.{rules}
 use Rattle.survey_bytes.proofs.Ends.{head_byte, head_reach}
 use Rattle.survey_bytes.proofs.byte_head.Goals as goal
 
 pub returns : goal.returns
-returns c = let w : ℕ = c.args.w in
+returns c =
+    let w : ℕ = c.args.w in
     let e = head_byte (w % 256) (omega arith) in
     (e, omega (arith, e, (head_reach 8 (w % 256)).within))

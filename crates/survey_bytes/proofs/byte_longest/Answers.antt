@@ -4,7 +4,6 @@
 use mathlib.Core.Path.{◌∙◌}
 use Prim.Native.Nat.{◌*◌, ◌%◌}
 use native.Mathlib.Omega.{arith}
-use borrow.Author.Rules.{rules}
 use Rattle.survey_bytes.specs.Bytes.{column}
 use Rattle.survey_bytes.proofs.Bytes.{columns}
 use Rattle.survey_bytes.proofs.byte_longest.Goals as goal

@@ -2,7 +2,6 @@
 -- Assumes nothing.
 
 use native.Mathlib.Omega.{arith}
-use borrow.Author.Rules.{rules}
 use Rattle.survey_bytes.proofs.Edges.{counted_crossings}
 use Rattle.survey_bytes.proofs.crossings.Goals as goal
 

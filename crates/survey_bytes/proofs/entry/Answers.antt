@@ -1,7 +1,6 @@
 -- `survey_bytes::entry` meets its contract, by the table's rule.
 -- Assumes nothing.
 
-use borrow.Author.Rules.{rules}
 use Rattle.survey_bytes.specs.Bytes.{Ruled}
 use Rattle.survey_bytes.proofs.entry.Goals as goal
 

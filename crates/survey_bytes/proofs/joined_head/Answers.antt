@@ -3,7 +3,6 @@
 
 use borrow.Author.Tests.{eq-eqb, ne_eqb}
 use native.Mathlib.Omega.{arith}
-use borrow.Author.Rules.{rules}
 use Rattle.survey_bytes.proofs.joined_head.Goals as goal
 
 pub returns-then-h-eq8 : goal.returns-then-h-eq8

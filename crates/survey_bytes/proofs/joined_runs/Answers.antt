@@ -3,7 +3,6 @@
 
 use native.Mathlib.Nat.{mul-le-mul_left}
 use native.Mathlib.Omega.{arith}
-use borrow.Author.Rules.{rules}
 use Rattle.survey_bytes.proofs.Meeting.{product_none, product_some}
 use Rattle.survey_bytes.proofs.joined_runs.Goals as goal
 
@@ -17,5 +16,6 @@ pub overflow_sub-result : goal.overflow_sub-result
 overflow_sub-result c = omega (arith, c.requires.4 (product_some c.args.t c.args.head c.if-t-head-eq0.false).0)
 
 pub returns : goal.returns
-returns c = let met = product_some c.args.t c.args.head c.if-t-head-eq0.false in
+returns c =
+    let met = product_some c.args.t c.args.head c.if-t-head-eq0.false in
     (omega (arith, met.1, c.requires.4 met.0), omega (arith, c.requires.4 met.0))

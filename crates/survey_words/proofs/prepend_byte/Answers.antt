@@ -6,38 +6,32 @@ use native.Mathlib.Omega.{arith}
 use Rattle.survey_bytes.specs.Bytes.{bits_of}
 use Rattle.survey_words.proofs.Joining.{tail_runs}
 use Rattle.survey_words.proofs.Prepending.{summary}
-use borrow.Author.Rules.{rules}
 use Rattle.survey_words.proofs.prepend_byte.Goals as goal
 
 pub joined_head-requires : goal.joined_head-requires
 joined_head-requires c = (omega (arith, c.byte_head.ensures.1), omega (arith, c.requires.head_bound))
 
 pub overflow_add-t : goal.overflow_add-t
-overflow_add-t c = let tail = c in
-    omega (arith, tail.byte_tail-t.ensures.1, tail.requires.head_bound)
+overflow_add-t c = omega (arith, c.byte_tail-t.ensures.1, c.requires.head_bound)
 
 pub joined_runs-requires : goal.joined_runs-requires
-joined_runs-requires c = let counted = c in
-    let tail = counted in
-    let start = tail in (
-      omega (arith, tail.byte_tail-t.ensures.1),
-      omega (arith, counted.byte_runs-n.ensures.1),
-      omega (arith, start.requires.head_bound),
-      omega (arith, start.requires.head_bound),
-      λ p. omega (
-        arith,
-        counted.byte_runs-n.ensures.0,
-        tail_runs (bits_of 8 (start.args.w % 256)) (omega (arith, tail.byte_tail-t.ensures.0)),
-      ),
-    )
+joined_runs-requires c = (
+  omega (arith, c.byte_tail-t.ensures.1),
+  omega (arith, c.byte_runs-n.ensures.1),
+  omega (arith, c.requires.head_bound),
+  omega (arith, c.requires.head_bound),
+  λ p. omega (
+    arith,
+    c.byte_runs-n.ensures.0,
+    tail_runs (bits_of 8 (c.args.w % 256)) (omega (arith, c.byte_tail-t.ensures.0)),
+  ),
+)
 
 pub returns : goal.returns
-returns c = let headed = c in
-    let tail = headed in
-    let a = tail.args in record {
-      summary = summary (a.w % 256) _ _ _ _ a.passed.head a.passed.longest a.passed.runs _ _ _ _
-          headed.byte_head.ensures.0 tail.byte_tail-t.ensures.0 headed.byte_longest-l.ensures
-          headed.byte_runs-n.ensures.0 c.joined_head.ensures.0
-          c.larger.ensures c.larger-2.ensures c.joined_runs.ensures.0;
-      head_bound_2 = (c.joined_head.ensures.1, c.joined_runs.ensures.1);
-    }
+returns c = let a = c.args in record {
+  summary = summary (a.w % 256) _ _ _ _ a.passed.head a.passed.longest a.passed.runs _ _ _ _
+      c.byte_head.ensures.0 c.byte_tail-t.ensures.0 c.byte_longest-l.ensures
+      c.byte_runs-n.ensures.0 c.joined_head.ensures.0
+      c.larger.ensures c.larger-2.ensures c.joined_runs.ensures.0;
+  head_bound_2 = (c.joined_head.ensures.1, c.joined_runs.ensures.1);
+}

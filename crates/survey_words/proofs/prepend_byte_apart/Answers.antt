@@ -5,18 +5,15 @@ use mathlib.Core.Path.{refl}
 use Prim.Native.Nat.{◌%◌}
 use native.Mathlib.Omega.{arith}
 use Rattle.survey_words.proofs.Prepending.{summary_apart}
-use borrow.Author.Rules.{rules}
 use Rattle.survey_words.proofs.prepend_byte_apart.Goals as goal
 
 pub overflow_add-result : goal.overflow_add-result
 overflow_add-result c = omega (arith, c.byte_runs-n.ensures.1, c.requires.runs_bound)
 
 pub returns : goal.returns
-returns c = let headed = c in
-    let counted = headed in
-    let a = counted.args in record {
-      summary = summary_apart (a.w % 256) _ _ _ a.passed.head a.passed.longest a.passed.runs _ _
-          headed.byte_head.ensures.0 counted.byte_longest-l.ensures counted.byte_runs-n.ensures.0
-          c.larger.ensures refl;
-      head_bound = (omega (arith, headed.byte_head.ensures.1), omega (arith, counted.byte_runs-n.ensures.1));
-    }
+returns c = let a = c.args in record {
+  summary = summary_apart (a.w % 256) _ _ _ a.passed.head a.passed.longest a.passed.runs _ _
+      c.byte_head.ensures.0 c.byte_longest-l.ensures c.byte_runs-n.ensures.0
+      c.larger.ensures refl;
+  head_bound = (omega (arith, c.byte_head.ensures.1), omega (arith, c.byte_runs-n.ensures.1));
+}

@@ -8,7 +8,6 @@ use native.Mathlib.Omega.{arith}
 use Rattle.survey_bytes.specs.Runs.{head_of, meet}
 use Rattle.survey_bytes.proofs.Meeting.{product_none}
 use Rattle.survey_words.proofs.Apart.{byte_parts}
-use borrow.Author.Rules.{rules}
 use Rattle.survey_words.proofs.prepend_last_byte.Goals as goal
 
 pub overflow_mul-w : goal.overflow_mul-w

@@ -8,7 +8,6 @@ use native.Mathlib.Omega.{arith}
 use Rattle.survey_words.specs.Passing.{Summary}
 use Rattle.survey_words.proofs.Apart.{bytes_part}
 use Rattle.survey_words.proofs.Words.{word_bits}
-use borrow.Author.Rules.{rules}
 use Rattle.survey_words.proofs.prepend_word_apart.Goals as goal
 
 pub prepend_byte_apart-requires : goal.prepend_byte_apart-requires
@@ -28,7 +27,8 @@ prepend_byte_apart-requires c = record {
 }
 
 pub returns : goal.returns
-returns c = let pre = c.requires in
+returns c =
+    let pre = c.requires in
     let w = c.args.w in record {
       summary = λ ys s. subst (Summary _ _ _) (word_bits 8 w ys)
           (c.prepend_byte_apart.ensures.summary _ (c.prepend_byte_apart-p6.ensures.summary _

@@ -6,7 +6,6 @@ use native.Mathlib.Omega.{arith}
 use Rattle.survey_words.specs.Passing.{Summary}
 use Rattle.survey_words.proofs.Prepending.{recounted}
 use Rattle.survey_words.proofs.Words.{word_bits}
-use borrow.Author.Rules.{rules}
 use Rattle.survey_words.proofs.prepend_word_joined.Goals as goal
 
 pub prepend_byte-p6-requires : goal.prepend_byte-p6-requires

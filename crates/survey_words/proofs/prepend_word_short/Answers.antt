@@ -3,22 +3,18 @@
 
 use native.Mathlib.Omega.{arith}
 use Rattle.survey_words.proofs.Short.{summary_short}
-use borrow.Author.Rules.{rules}
 use Rattle.survey_words.proofs.prepend_word_short.Goals as goal
 
 pub overflow_add-byte_tail : goal.overflow_add-byte_tail
 overflow_add-byte_tail c = omega (arith, c.byte_tail.ensures.1, c.requires.le_longest)
 
 pub word_runs-requires : goal.word_runs-requires
-word_runs-requires c = let start = c in
-    record { ruled = start.requires.ruled.0; head_bound = omega (arith, start.requires.le_longest) }
+word_runs-requires c = record { ruled = c.requires.ruled.0; head_bound = omega (arith, c.requires.le_longest) }
 
 pub returns : goal.returns
-returns c = let headed = c in
-    let start = headed in
-    let a = start.args in record {
-      summary = summary_short a.w a.passed.head a.passed.longest a.passed.runs _ _ _ _ start.requires.ruled.1
-          headed.byte_head.ensures.0 c.byte_tail.ensures.0 start.requires.le_longest.0
-          c.larger.ensures c.word_runs.ensures.value;
-      head_bound = (omega (arith, headed.byte_head.ensures.1), omega (arith, c.word_runs.ensures.upper_bound));
-    }
+returns c = let a = c.args in record {
+  summary = summary_short a.w a.passed.head a.passed.longest a.passed.runs _ _ _ _ c.requires.ruled.1
+      c.byte_head.ensures.0 c.byte_tail.ensures.0 c.requires.le_longest.0
+      c.larger.ensures c.word_runs.ensures.value;
+  head_bound = (omega (arith, c.byte_head.ensures.1), omega (arith, c.word_runs.ensures.upper_bound));
+}

@@ -3,7 +3,6 @@
 
 use native.Mathlib.Omega.{arith}
 use Rattle.survey_words.specs.Passing.{runs_in}
-use borrow.Author.Rules.{rules}
 use Rattle.survey_words.proofs.runs_of_bytes.Goals as goal
 
 pub returns : goal.returns

@@ -1,0 +1,36 @@
+-- `closing::close_rounds`: a turn makes one round more.
+-- Assumes nothing.
+use Rattle.std.proofs.Common.{◌≡◌, ℕ, suc, ◌+◌, List, refl, sym, ap, ◌∙◌, add-one, arith}
+use Rattle.catalogue.specs.declared.Entry.{Entry}
+use Rattle.closing.specs.Rounds.{Stand, rounds, stand, round_at, round_entries, round_card, rounds_at, rounds_entries, rounds_card}
+use Rattle.closing.proofs.close_rounds.Goals as goal
+
+none : (es : List Entry) (card : List ℕ) (at : ℕ) → rounds 0 (stand es card at) ≡ stand es card at
+unfolding rounds
+none es card at = refl
+
+more : (k : ℕ) (s : Stand) (es : List Entry) (card : List ℕ) (at : ℕ) → rounds k s ≡ stand es card at
+    → rounds (k + 1) s ≡ stand (round_entries es card at) (round_card es card at) (round_at es card at)
+unfolding rounds
+more k s es card at e =
+    rw add-one
+    (ap (λ (t : Stand). record {
+      at = round_at t.entries t.card t.at;
+      entries = round_entries t.entries t.card t.at;
+      card = round_card t.entries t.card t.at;
+    }) e)
+
+pub loop-i-init : goal.loop-i-init
+loop-i-init c = (omega arith, none _ _ _)
+
+pub loop-i-preserved : goal.loop-i-preserved
+loop-i-preserved c =
+    let e = more c.loop-i.i _ c.loop-i.catalogue c.loop-i.card c.loop-i.state c.loop-i.invariant.1 in
+    (omega arith, simp (sym c.close_next-state.ensures.0, sym c.close_next-state.ensures.1, sym c.close_next-state.ensures.2) at e)
+
+pub returns : goal.returns
+unfolding rounds_at rounds_entries rounds_card
+returns c =
+    let k : c.loop-i.i ≡ c.args.count = omega arith in
+    let e = ap (λ (i : ℕ). rounds i (stand c.args.catalogue.now c.args.card.now c.args.start)) (sym k) ∙ c.loop-i.invariant.1 in
+    (sym (ap (λ (s : Stand). s.at) e), sym (ap (λ (s : Stand). s.entries) e), sym (ap (λ (s : Stand). s.card) e))
