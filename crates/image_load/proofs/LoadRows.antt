@@ -28,43 +28,43 @@ module _ (turned : Bool) (image : List ℕ) (maplen count scratchlen : ℕ) wher
   load_row_21 t = sym (ap row_number (stop 21 turned _ t))
 
   module _ (t : turned ≡ false) where
-    pub load-row-12 : whole_blocks (length image) ≡ false → 12 ≡ row_number (load_verdict turned image maplen count scratchlen)
+    pub load_row_12 : whole_blocks (length image) ≡ false → 12 ≡ row_number (load_verdict turned image maplen count scratchlen)
     unfolding load_verdict load_rows
-    load-row-12 w = sym (ap row_number (skip 21 turned _ _ t (stop 12 (not (whole_blocks (length image))) _ (ap not w))))
+    load_row_12 w = sym (ap row_number (skip 21 turned _ _ t (stop 12 (not (whole_blocks (length image))) _ (ap not w))))
 
     module _ (w : whole_blocks (length image) ≡ true) where
-      pub load-row-13 : framed image ≡ false → 13 ≡ row_number (load_verdict turned image maplen count scratchlen)
+      pub load_row_13 : framed image ≡ false → 13 ≡ row_number (load_verdict turned image maplen count scratchlen)
       unfolding load_verdict load_rows
-      load-row-13 f =
+      load_row_13 f =
           sym (ap row_number (skip 21 turned _ _ t (skip 12 (not (whole_blocks (length image))) _ _ (ap not w)
           (stop 13 (not (framed image)) _ (ap not f)))))
 
       module _ (f : framed image ≡ true) where
-        pub load-row-14 : head ≡ false → 14 ≡ row_number (load_verdict turned image maplen count scratchlen)
+        pub load_row_14 : head ≡ false → 14 ≡ row_number (load_verdict turned image maplen count scratchlen)
         unfolding load_verdict load_rows
-        load-row-14 h =
+        load_row_14 h =
             sym (ap row_number (skip 21 turned _ _ t (skip 12 (not (whole_blocks (length image))) _ _ (ap not w)
             (skip 13 (not (framed image)) _ _ (ap not f) (stop 14 (not head) _ (ap not h))))))
 
         module _ (h : head ≡ true) where
-          pub load-row-1 : lent ≡ false → 1 ≡ row_number (load_verdict turned image maplen count scratchlen)
+          pub load_row_1 : lent ≡ false → 1 ≡ row_number (load_verdict turned image maplen count scratchlen)
           unfolding load_verdict load_rows
-          load-row-1 l =
+          load_row_1 l =
               sym (ap row_number (skip 21 turned _ _ t (skip 12 (not (whole_blocks (length image))) _ _ (ap not w)
               (skip 13 (not (framed image)) _ _ (ap not f)
               (skip 14 (not head) _ _ (ap not h) (stop 1 (not lent) _ (ap not l)))))))
 
           module _ (l : lent ≡ true) where
-            pub load-row-content : content ≡ false → 14 ≡ row_number (load_verdict turned image maplen count scratchlen)
+            pub load_row_content : content ≡ false → 14 ≡ row_number (load_verdict turned image maplen count scratchlen)
             unfolding load_verdict load_rows
-            load-row-content c =
+            load_row_content c =
                 sym (ap row_number (skip 21 turned _ _ t (skip 12 (not (whole_blocks (length image))) _ _ (ap not w)
                 (skip 13 (not (framed image)) _ _ (ap not f) (skip 14 (not head) _ _ (ap not h)
                 (skip 1 (not lent) _ _ (ap not l) (stop 14 (not content) [] (ap not c))))))))
 
-            pub load-row-none : content ≡ true → 0 ≡ row_number (load_verdict turned image maplen count scratchlen)
+            pub load_row_none : content ≡ true → 0 ≡ row_number (load_verdict turned image maplen count scratchlen)
             unfolding load_verdict load_rows
-            load-row-none c =
+            load_row_none c =
                 sym (ap row_number (skip 21 turned _ _ t (skip 12 (not (whole_blocks (length image))) _ _ (ap not w)
                 (skip 13 (not (framed image)) _ _ (ap not f) (skip 14 (not head) _ _ (ap not h)
                 (skip 1 (not lent) _ _ (ap not l) (skip 14 (not content) [] _ (ap not c) none_left)))))))

@@ -3,8 +3,12 @@
 use mathlib.Core.Path.{◌≡◌, refl, sym, ap, ap₂, ◌∙◌}
 use mathlib.Core.Bool.{Bool, true, false, cond}
 use mathlib.Core.List.{List, [], ◌∷◌}
-use Prim.Native.Nat.{ℕ, ◌+◌}
-use lib.ListN.{length}
+use Prim.Native.Nat.{ℕ, suc, ◌+◌, ◌<◌, ◌≤◌}
+use native.Mathlib.Omega.{arith}
+use lib.ListN.{length, get_or, drop}
+use lib.Seq.{drop-cons}
+use Rattle.std.proofs.lemmas.List.{drop_all}
+use Rattle.catalogue.specs.Entries.{zeros}
 use Rattle.catalogue.specs.declared.Entry.{Entry}
 use Rattle.image_frames.specs.Numbers.{with_number}
 use Rattle.image.specs.Cursors.{cursor, active}
@@ -80,3 +84,38 @@ image_more e es at image = by (cursor_after at image e).stop refl
         ≡ cond b (image_after at image e) (entries_image es (cursor_after at image e) (image_after at image e))
     by true s = image_stays es (cursor_after at image e) (image_after at image e) s
     by false s = refl
+
+-- the entries before i are written
+pub record Wrote (es : List Entry) (start : Cursor) (first : List ℕ) (i : ℕ) (at : Cursor) (image : List ℕ) : Type 0 where
+  pub inside : i ≤ length es
+  pub state : entries_cursor (drop i es) at image ≡ entries_cursor es start first
+  pub all : entries_image (drop i es) at image ≡ entries_image es start first
+
+module _ (es : List Entry) (start : Cursor) (first : List ℕ) (i : ℕ) (at : Cursor) (image : List ℕ)
+    (r : Wrote es start first i at image) where
+  pub wrote_end : length es ≤ i → (at ≡ entries_cursor es start first) × (image ≡ entries_image es start first)
+  unfolding entries_cursor entries_image
+  wrote_end h =
+      let none = drop_all i es h in
+      (rw none at r.state, rw none at r.all)
+
+  module _ (h : i < length es) where
+    abbrev e : Entry
+    e = get_or es i zeros
+
+    pub wrote_on : Wrote es start first (suc i) (cursor_after at image e) (image_after at image e)
+    unfolding entries_cursor entries_image
+    wrote_on =
+        let more = drop-cons es i zeros h in
+        record {
+          inside = omega arith;
+          state = rw more at r.state;
+          all = rw more at r.all;
+        }
+
+    pub wrote_stopped : (cursor_after at image e).stop ≡ true
+        → (cursor_after at image e ≡ entries_cursor es start first) × (image_after at image e ≡ entries_image es start first)
+    wrote_stopped s = (
+      sym (cursor_stays (drop (suc i) es) (cursor_after at image e) (image_after at image e) s) ∙ wrote_on.state,
+      sym (image_stays (drop (suc i) es) (cursor_after at image e) (image_after at image e) s) ∙ wrote_on.all,
+    )

@@ -1,6 +1,5 @@
 -- `image_load::load`: what its parts come to.
 -- Assumes nothing.
-use Rattle.std.proofs.Common.{arith}
 use Rattle.image_load.proofs.Loads.{loads}
 use Rattle.image_load.proofs.load.Goals as goal
 

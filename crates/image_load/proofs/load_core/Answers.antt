@@ -7,7 +7,6 @@ use mathlib.Core.Path.{◌≡◌, refl, sym, ap, ap₂, ◌∙◌}
 use Prim.Native.Nat.{ℕ, ◌≤◌, ◌+◌, ◌*◌}
 use native.Mathlib.Omega.{arith}
 use lib.ListN.{length, replicate}
-use borrow.Author.Rules.{rules}
 use Rattle.roles.specs.Roles as names
 use Rattle.roles.specs.Roles.{turned_away}
 use Rattle.catalogue_standings.specs.Rows.{Verdict, accepted, refused, settle, row_number}
@@ -77,7 +76,8 @@ module _ (role : ℕ) (image map : List ℕ) (count : ℕ) (scratch : List ℕ) 
   cleared a e = ap (λ (k : ℕ). replicate k 0) e
 
 pub returns-then-refusal-ne0 : goal.returns-then-refusal-ne0
-returns-then-refusal-ne0 c = let a = c.args in
+returns-then-refusal-ne0 c =
+    let a = c.args in
     let r = told-refused a.role a.image.now a.map.now a.count a.scratch.now _
     c.verdict-refusal.ensures c.if-refusal-ne0.true in (
       r.0,
@@ -89,33 +89,36 @@ returns-then-refusal-ne0 c = let a = c.args in
     )
 
 pub overflow_mul-count : goal.overflow_mul-count
-overflow_mul-count c = let a = c.args in
+overflow_mul-count c =
+    let a = c.args in
     let f = done a.role a.image.now a.map.now a.count a.scratch.now _
     c.verdict-refusal.ensures c.if-refusal-ne0.false in
     omega (arith, f.few)
 
 pub overflow_add-count : goal.overflow_add-count
-overflow_add-count c = let a = c.args in
+overflow_add-count c =
+    let a = c.args in
     let f = done a.role a.image.now a.map.now a.count a.scratch.now _
     c.verdict-refusal.ensures c.if-refusal-ne0.false in
     omega (arith, f.few)
 
 pub read_words-requires : goal.read_words-requires
-read_words-requires c = let a = c.args in
+read_words-requires c =
+    let a = c.args in
     let f = done a.role a.image.now a.map.now a.count a.scratch.now _
     c.verdict-refusal.ensures c.if-refusal-ne0.false in
     (omega (arith, f.few), f.short)
 
 pub returns : goal.returns
-returns c = let far = c in
-    let a = far.args in
+returns c =
+    let a = c.args in
     let f = done a.role a.image.now a.map.now a.count a.scratch.now _
-    far.verdict-refusal.ensures
+    c.verdict-refusal.ensures
     c.if-refusal-ne0.false in (
       f.gives _ _ c.number.ensures c.number-2.ensures,
       f.reads _ c.read_words.ensures,
-      far.clear.ensures
+      c.clear.ensures
           ∙ cleared a.role a.image.now a.map.now a.count a.scratch.now
-          far.verdict-refusal.new.scratch
+          c.verdict-refusal.new.scratch
           (omega arith),
     )

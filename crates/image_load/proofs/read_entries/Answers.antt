@@ -1,7 +1,7 @@
 -- `image_load::read_entries`: a turn reads the entry at `i`, and a cursor that stopped reads none behind it.
 -- Assumes nothing.
-use Rattle.std.proofs.Common.{◌≡◌, ◌+◌, ◌<◌, length, add-one, arith}
-use Rattle.image_load.proofs.Reading.{Read, read_end, read_on, read_stopped}
+use Rattle.std.proofs.Common.{◌<◌, length, add-one, arith}
+use Rattle.image_load.proofs.Reading.{read_end, read_on, read_stopped}
 use Rattle.image_load.proofs.read_entries.Goals as goal
 
 pub loop-i-preserved : goal.loop-i-preserved

@@ -7,7 +7,6 @@ use mathlib.Core.Path.{◌≡◌, sym, ap, ap₂, ◌∙◌}
 use Prim.Native.Nat.{ℕ, ◌-◌}
 use native.Mathlib.Omega.{arith}
 use lib.ListN.{length}
-use borrow.Author.Rules.{rules}
 use Rattle.catalogue_standings.proofs.Tested.{fails, holds}
 use Rattle.image_save.specs.Parts.{first_tally}
 use Rattle.image.specs.Table.{save_fits}
@@ -38,22 +37,24 @@ module _ (role n spare : ℕ) (map : List ℕ) (count : ℕ) (scratch : List ℕ
     begun f = ap₂ by (sym may) (sym f)
 
 pub returns-then-turned_away : goal.returns-then-turned_away
-returns-then-turned_away c = let a = c.args in
+returns-then-turned_away c =
+    let a = c.args in
     away a.role a.n a.free a.map.now a.count a.scratch.now
     (sym c.turned_away.ensures ∙ c.if-turned_away.true)
 
 pub returns-then-not-save_fits : goal.returns-then-not-save_fits
-returns-then-not-save_fits c = let role = c in
-    let a = role.args in
+returns-then-not-save_fits c =
+    let a = c.args in
     refused a.role a.n a.free a.map.now a.count a.scratch.now
-    (sym role.turned_away.ensures ∙ role.if-turned_away.false) (fails c.save_fits.ensures c.if-not-save_fits.true-raw)
+    (sym c.turned_away.ensures ∙ c.if-turned_away.false) (fails c.save_fits.ensures c.if-not-save_fits.true-raw)
 
 pub overflow_sub-result : goal.overflow_sub-result
-overflow_sub-result c = let s = save_fits_to _ _ _ _ _ (holds c.save_fits.ensures c.if-not-save_fits.false-raw) in
+overflow_sub-result c =
+    let s = save_fits_to _ _ _ _ _ (holds c.save_fits.ensures c.if-not-save_fits.false-raw) in
     omega (arith, s.limits.spare)
 
 pub returns : goal.returns
-returns c = let role = c in
-    let a = role.args in
+returns c =
+    let a = c.args in
     begun a.role a.n a.free a.map.now a.count a.scratch.now
-    (sym role.turned_away.ensures ∙ role.if-turned_away.false) (holds c.save_fits.ensures c.if-not-save_fits.false-raw)
+    (sym c.turned_away.ensures ∙ c.if-turned_away.false) (holds c.save_fits.ensures c.if-not-save_fits.false-raw)

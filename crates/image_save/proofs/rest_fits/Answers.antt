@@ -2,7 +2,6 @@
 -- Assumes nothing.
 
 use native.Mathlib.Omega.{arith}
-use borrow.Author.Rules.{rules}
 use borrow.Author.Tests.{le-leb}
 use Rattle.catalogue_standings.proofs.Tested.{fails, holds}
 use Rattle.image_save.proofs.Room.{rest_stopped, rest-cut, rest-far, rest-many, rest-by-room}
@@ -19,14 +18,14 @@ returns-then-at-gt4096 c = rest-far _ _ _ c.if-at.false
     (holds c.whole_blocks.ensures c.if-not-whole_blocks.false-raw) (omega arith)
 
 pub returns-then-maplen-gt4096 : goal.returns-then-maplen-gt4096
-returns-then-maplen-gt4096 c = let at = c in
+returns-then-maplen-gt4096 c =
     let a = c.args in
-    rest-many a.maplen a.at a.bytes at.if-at.false
-    (holds at.whole_blocks.ensures at.if-not-whole_blocks.false-raw) (le-leb a.at.next 4096 (omega arith)) (omega arith)
+    rest-many a.maplen a.at a.bytes c.if-at.false
+    (holds c.whole_blocks.ensures c.if-not-whole_blocks.false-raw) (le-leb a.at.next 4096 (omega arith)) (omega arith)
 
 pub returns : goal.returns
-returns c = let at = c in
-    let a = at.args in
-    rest-by-room a.maplen a.at a.bytes at.if-at.false
-    (holds at.whole_blocks.ensures at.if-not-whole_blocks.false-raw) (le-leb a.at.next 4096 (omega arith))
+returns c =
+    let a = c.args in
+    rest-by-room a.maplen a.at a.bytes c.if-at.false
+    (holds c.whole_blocks.ensures c.if-not-whole_blocks.false-raw) (le-leb a.at.next 4096 (omega arith))
     (le-leb a.maplen 4096 (omega arith))

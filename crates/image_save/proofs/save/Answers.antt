@@ -1,4 +1,4 @@
--- `image_save::save`: what its parts come to is what it answers and leaves (`saves`).
+-- `image_save::save`: what its parts come to.
 -- Assumes nothing.
 use Rattle.image_save.proofs.Saves.{saves}
 use Rattle.image_save.proofs.save.Goals as goal

@@ -6,7 +6,6 @@ use mathlib.Core.List.{List}
 use mathlib.Core.Path.{◌≡◌, sym, ap, ◌∙◌}
 use Prim.Native.Nat.{ℕ, ◌%◌}
 use native.Mathlib.Omega.{arith}
-use borrow.Author.Rules.{rules}
 use borrow.Author.Tests.{eq-eqb, ne_eqb}
 use Rattle.image_frames.specs.Numbers.{with_number}
 use Rattle.image.specs.Cursors.{cursor}
@@ -34,16 +33,17 @@ module _ (n spare count number : ℕ) (image : List ℕ) where
   )
 
 pub returns-then-number-ne0 : goal.returns-then-number-ne0
-returns-then-number-ne0 c = let a = c.args in
+returns-then-number-ne0 c =
+    let a = c.args in
     refused a.n a.free a.count a.number a.image.now c.if-number-ne0.true
 
 pub overflow_cast-count : goal.overflow_cast-count
 overflow_cast-count c = record { fits = omega arith }
 
 pub returns : goal.returns
-returns c = let at = c in
-    let a = at.args in
-    let w = written a.n a.free a.count a.number a.image.now at.if-number-ne0.false in
+returns c =
+    let a = c.args in
+    let w = written a.n a.free a.count a.number a.image.now c.if-number-ne0.false in
     let i1 = c.put_number.ensures in
     let i2 = c.put_number-2.ensures in
     let i3 = c.put_number-3.ensures in (

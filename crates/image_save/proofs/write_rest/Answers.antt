@@ -7,7 +7,6 @@ use mathlib.Core.Path.{◌≡◌, sym, ap, ap₂, subst, ◌∙◌}
 use Prim.Native.Nat.{ℕ, ◌≤◌, ◌-◌, ◌+◌, ◌*◌, ◌/◌}
 use native.Mathlib.Omega.{arith}
 use lib.ListN.{length, replicate}
-use borrow.Author.Rules.{rules}
 use Rattle.catalogue_standings.proofs.Tested.{fails, holds}
 use Rattle.image_frames.specs.Frames.{frames, body_of, total_of, sealed_image}
 use Rattle.block_bytes.specs.Replaced.{replaced}
@@ -45,48 +44,50 @@ module _ (map : List ℕ) (at : Cursor) (image : List ℕ) where
       ∙ ap (λ (b : Bool). cond b whole image) (sym f)
 
 pub returns-then-not-rest_fits : goal.returns-then-not-rest_fits
-returns-then-not-rest_fits c = let a = c.args in
+returns-then-not-rest_fits c =
+    let a = c.args in
     unfit a.map.now a.at a.image.now (fails c.rest_fits.ensures c.if-not-rest_fits.true-raw)
 
 pub write_words-requires : goal.write_words-requires
-write_words-requires c = let r = rest_to _ _ _ (holds c.rest_fits.ensures c.if-not-rest_fits.false-raw) in
+write_words-requires c =
+    let r = rest_to _ _ _ (holds c.rest_fits.ensures c.if-not-rest_fits.false-raw) in
     let w = r.whole in
     let m = r.room in
     (omega (arith, w.exact, w.few), m)
 
 pub overflow_add-at : goal.overflow_add-at
-overflow_add-at c = let at = c in
-    let r = rest_to _ _ _ (holds at.rest_fits.ensures at.if-not-rest_fits.false-raw) in
+overflow_add-at c =
+    let r = rest_to _ _ _ (holds c.rest_fits.ensures c.if-not-rest_fits.false-raw) in
     record { fits = omega (arith, r.near, r.few) }
 
 pub put_zeros-requires : goal.put_zeros-requires
-put_zeros-requires c = let at = c in
-    let a = at.args in
-    let r = rest_to _ _ _ (holds at.rest_fits.ensures at.if-not-rest_fits.false-raw) in
+put_zeros-requires c =
+    let a = c.args in
+    let r = rest_to _ _ _ (holds c.rest_fits.ensures c.if-not-rest_fits.false-raw) in
     let same : length c.write_words.new.image ≡ length a.image.now =
-    c.image-1.given in (
+    omega arith in (
       omega (arith, r.whole.exact, r.whole.few),
       subst (λ (k : ℕ). a.at.next + 2 * length a.map.now ≤ 124 * (k / 512)) (sym same) r.room,
     )
 
 pub seal_all-requires : goal.seal_all-requires
-seal_all-requires c = let at = c in
-    let a = at.args in
-    let r = rest_to _ _ _ (holds at.rest_fits.ensures at.if-not-rest_fits.false-raw) in
+seal_all-requires c =
+    let a = c.args in
+    let r = rest_to _ _ _ (holds c.rest_fits.ensures c.if-not-rest_fits.false-raw) in
     let next : length c.write_words.new.image
-    ≡ length a.image.now = c.image-1.given in
+    ≡ length a.image.now = omega arith in
     let more : length c.put_zeros.new.image ≡ length a.image.now =
-    c.image-2-1.given ∙ next in
+    omega arith in
     (omega (arith, r.whole.exact, r.whole.few), omega (arith, r.whole.exact))
 
 pub returns : goal.returns
-returns c = let at = c in
-    let a = at.args in
+returns c =
+    let a = c.args in
     let next : length
     c.write_words.new.image
     ≡ length a.image.now =
-    c.image-1.given in
-    written a.map.now a.at a.image.now (holds at.rest_fits.ensures at.if-not-rest_fits.false-raw) _ _ _ next
-    (c.image-2-1.given ∙ next)
+    omega arith in
+    written a.map.now a.at a.image.now (holds c.rest_fits.ensures c.if-not-rest_fits.false-raw) _ _ _ next
+    (omega arith)
     c.write_words.ensures
     c.put_zeros.ensures c.seal_all.ensures
