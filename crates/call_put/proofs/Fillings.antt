@@ -115,7 +115,8 @@ pub not_broken : (f : Filling) → NotBroken f → f ≡ Broken → ⊥
 not_broken f t e = t e
 
 module _ (blank sound : ℕ → Bool) (k : ℕ) where
-  whole : (x : Bool) (o : Found) (f : Filling) → (f ≡ Broken → ⊥) → cond x (blank_at o) Broken ≡ f → (x ≡ true) × (blank_at o ≡ f)
+  whole : (x : Bool) (o : Found) (f : Filling) → (f ≡ Broken → ⊥) → cond x (blank_at o) Broken ≡ f → (x ≡ true)
+      × (blank_at o ≡ f)
   whole true o f n e = (refl, e)
   whole false o f n e = absurd (n (sym e))
 

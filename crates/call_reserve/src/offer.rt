@@ -23,7 +23,8 @@ pub fn offer(
     limits: &[u32; 8],
     k: u32,
 ) -> Answer
-    ensures { let q = called_by (turned_away role names.offer) (lent_within held limits.now false [] n free map.now card.now c entry
+    ensures { let q = called_by (turned_away role names.offer) (lent_within held limits.now false [] n free map.now card.now c
+        entry
         sheet) in
         result ≡ offer_answer q k }
 {

@@ -45,7 +45,8 @@ module _ (turned guided : Bool) (summary : List ℕ) (s : Kept) (scratch : List 
   unfolding closings.close_map
   map_is = refl
 
-  entries_are : close_entries_by turned guided summary s scratch ≡ settle verdict_by (closed_entries s.entries) (λ number. s.entries)
+  entries_are : close_entries_by turned guided summary s scratch ≡ settle verdict_by (closed_entries s.entries)
+      (λ number. s.entries)
   unfolding closings.close_entries
   entries_are = refl
 

@@ -66,36 +66,45 @@ module _ {M : Type 1} {𝓤 : Ura M} (𝓛 : Logic 𝓤) (mem : Memory → SProp
   survey_contract κs a r t g = refl
 
   pub reserve_contract : Ensures 𝓤 reserve-method.ended (reserve-method.clauses 𝓛 mem run) (λ κs a r t.
-      LeavesMapEntriesCard itself (ends (by_map a.1.0) (kept a.0 a.1.1.0.now a.1.1.1.0.now a.1.1.1.1.0.now) nothing (on a.1.1.1.1.1.1.0 (reserve a.1.1.1.1.1.0.now a.1.1.1.1.1.1.1.0
+      LeavesMapEntriesCard itself (ends (by_map a.1.0) (kept a.0 a.1.1.0.now a.1.1.1.0.now a.1.1.1.1.0.now) nothing
+      (on a.1.1.1.1.1.1.0 (reserve a.1.1.1.1.1.0.now a.1.1.1.1.1.1.1.0
       plain))) r t.1.1.0.now t.1.1.1.0.now t.1.1.1.1.0.now)
   reserve_contract κs a r t g = refl
 
   pub reserve_placed_contract : Ensures 𝓤 reserve-placed-method.ended
       (reserve-placed-method.clauses 𝓛 mem run) (λ κs a r t.
-      LeavesMapEntriesCard itself (ends (by_map a.1.0) (kept a.0 a.1.1.0.now a.1.1.1.0.now a.1.1.1.1.0.now) nothing (on a.1.1.1.1.1.1.0 (reserve a.1.1.1.1.1.0.now a.1.1.1.1.1.1.1.0
-      (placed (figures a.1.1.1.1.1.1.1.1.0 a.1.1.1.1.1.1.1.1.1.0 a.1.1.1.1.1.1.1.1.1.1.0))))) r t.1.1.0.now t.1.1.1.0.now t.1.1.1.1.0.now)
+      LeavesMapEntriesCard itself (ends (by_map a.1.0) (kept a.0 a.1.1.0.now a.1.1.1.0.now a.1.1.1.1.0.now) nothing
+      (on a.1.1.1.1.1.1.0 (reserve a.1.1.1.1.1.0.now a.1.1.1.1.1.1.1.0
+      (placed (figures a.1.1.1.1.1.1.1.1.0 a.1.1.1.1.1.1.1.1.1.0 a.1.1.1.1.1.1.1.1.1.1.0))))) r t.1.1.0.now t.1.1.1.0.now
+      t.1.1.1.1.0.now)
   reserve_placed_contract κs a r t g = refl
 
   pub offer_contract : Ensures 𝓤 offer-method.ended (offer-method.clauses 𝓛 mem run) (λ κs a r t.
-      HandsBack itself (ends (by_map a.1.0) (kept a.0 a.1.1.0.now a.1.1.1.0.now a.1.1.1.1.0.now) nothing (on a.1.1.1.1.1.1.0 (offer a.1.1.1.1.1.0.now a.1.1.1.1.1.1.1.0))) r)
+      HandsBack itself (ends (by_map a.1.0) (kept a.0 a.1.1.0.now a.1.1.1.0.now a.1.1.1.1.0.now) nothing
+      (on a.1.1.1.1.1.1.0 (offer a.1.1.1.1.1.0.now a.1.1.1.1.1.1.1.0))) r)
   offer_contract κs a r t g = refl
 
   pub accept_contract : Ensures 𝓤 accept-method.ended (accept-method.clauses 𝓛 mem run) (λ κs a r t.
-      LeavesMapEntriesCard itself (ends (by_map a.1.0) (kept a.0 a.1.1.0.now a.1.1.1.0.now a.1.1.1.1.0.now) nothing (on a.1.1.1.1.1.1.0 (accept a.1.1.1.1.1.0.now a.1.1.1.1.1.1.1.0 a.1.1.1.1.1.1.1.1.0))) r t.1.1.0.now t.1.1.1.0.now t.1.1.1.1.0.now)
+      LeavesMapEntriesCard itself (ends (by_map a.1.0) (kept a.0 a.1.1.0.now a.1.1.1.0.now a.1.1.1.1.0.now) nothing
+      (on a.1.1.1.1.1.1.0 (accept a.1.1.1.1.1.0.now a.1.1.1.1.1.1.1.0 a.1.1.1.1.1.1.1.1.0))) r t.1.1.0.now t.1.1.1.0.now
+      t.1.1.1.1.0.now)
   accept_contract κs a r t g = refl
 
   pub grow_contract : Ensures 𝓤 grow-method.ended (grow-method.clauses 𝓛 mem run) (λ κs a r t.
-      LeavesMapEntriesCard itself (ends (by_map a.1.0) (kept a.0 a.1.1.0.now a.1.1.1.0.now a.1.1.1.1.0.now) nothing (on a.1.1.1.1.1.1.0 (grow a.1.1.1.1.1.0.now a.1.1.1.1.1.1.1.0))) r
+      LeavesMapEntriesCard itself (ends (by_map a.1.0) (kept a.0 a.1.1.0.now a.1.1.1.0.now a.1.1.1.1.0.now) nothing
+      (on a.1.1.1.1.1.1.0 (grow a.1.1.1.1.1.0.now a.1.1.1.1.1.1.1.0))) r
       t.1.1.0.now t.1.1.1.0.now t.1.1.1.1.0.now)
   grow_contract κs a r t g = refl
 
   pub put_contract : Ensures 𝓤 put-method.ended (put-method.clauses 𝓛 mem run) (λ κs a r t.
-      LeavesCard itself (ends (by_map a.1.0) (kept a.0 a.1.1.0.now a.1.1.1.0.now a.1.1.1.1.0.now) nothing (on a.1.1.1.1.1.0 (put a.1.1.1.1.1.1.0 a.1.1.1.1.1.1.1.0.now))) r
+      LeavesCard itself (ends (by_map a.1.0) (kept a.0 a.1.1.0.now a.1.1.1.0.now a.1.1.1.1.0.now) nothing
+      (on a.1.1.1.1.1.0 (put a.1.1.1.1.1.1.0 a.1.1.1.1.1.1.1.0.now))) r
       t.1.1.1.1.0.now)
   put_contract κs a r t g = refl
 
   pub complete_contract : Ensures 𝓤 complete-method.ended (complete-method.clauses 𝓛 mem run) (λ κs a r t.
-      LeavesEntries itself (ends (by_map a.1.0) (kept a.0 a.1.1.0.now a.1.1.1.0.now a.1.1.1.1.0.now) nothing (on a.1.1.1.1.1.0 complete)) r t.1.1.1.0.now)
+      LeavesEntries itself (ends (by_map a.1.0) (kept a.0 a.1.1.0.now a.1.1.1.0.now a.1.1.1.1.0.now) nothing
+      (on a.1.1.1.1.1.0 complete)) r t.1.1.1.0.now)
   complete_contract κs a r t g = refl
 
   pub pause_contract : Ensures 𝓤 pause-method.ended (pause-method.clauses 𝓛 mem run) (λ κs a r t.
@@ -114,12 +123,15 @@ module _ {M : Type 1} {𝓤 : Ura M} (𝓛 : Logic 𝓤) (mem : Memory → SProp
   release_contract κs a r t g = refl
 
   pub show_contract : Ensures 𝓤 show-method.ended (show-method.clauses 𝓛 mem run) (λ κs a r t.
-      LeavesBuffer itself (ends (by_map a.1.0) (kept a.0 a.1.1.0.now a.1.1.1.0.now a.1.1.1.1.0.now) nothing (on a.1.1.1.1.1.0 (show a.1.1.1.1.1.1.0 a.1.1.1.1.1.1.1.0.now))) r
+      LeavesBuffer itself (ends (by_map a.1.0) (kept a.0 a.1.1.0.now a.1.1.1.0.now a.1.1.1.1.0.now) nothing
+      (on a.1.1.1.1.1.0 (show a.1.1.1.1.1.1.0 a.1.1.1.1.1.1.1.0.now))) r
       t.1.1.1.1.1.1.1.0.now)
   show_contract κs a r t g = refl
 
   pub show_dated_contract : Ensures 𝓤 show-dated-method.ended (show-dated-method.clauses 𝓛 mem run) (λ κs a r t.
-      LeavesBuffer itself (ends (by_map a.1.0) (kept a.0 a.1.1.0.now a.1.1.1.0.now a.1.1.1.1.0.now) nothing (on a.1.1.1.1.1.0 (show_dated a.1.1.1.1.1.1.0 (date_of a.1.1.1.1.1.1.1.0 a.1.1.1.1.1.1.1.1.0 a.1.1.1.1.1.1.1.1.1.0) a.1.1.1.1.1.1.1.1.1.1.0.now))) r
+      LeavesBuffer itself (ends (by_map a.1.0) (kept a.0 a.1.1.0.now a.1.1.1.0.now a.1.1.1.1.0.now) nothing
+      (on a.1.1.1.1.1.0 (show_dated a.1.1.1.1.1.1.0 (date_of a.1.1.1.1.1.1.1.0 a.1.1.1.1.1.1.1.1.0 a.1.1.1.1.1.1.1.1.1.0)
+      a.1.1.1.1.1.1.1.1.1.1.0.now))) r
       t.1.1.1.1.1.1.1.1.1.1.0.now)
   show_dated_contract κs a r t g = refl
 
@@ -134,7 +146,8 @@ module _ {M : Type 1} {𝓤 : Ura M} (𝓛 : Logic 𝓤) (mem : Memory → SProp
   save_contract κs a r t g = refl
 
   pub close_contract : Ensures 𝓤 close-method.ended (close-method.clauses 𝓛 mem run) (λ κs a r t.
-      LeavesMapEntriesCardScratch itself (ends (by_map a.1.0) (kept a.0 a.1.1.0.now a.1.1.1.0.now a.1.1.1.1.0.now) (beside [] a.1.1.1.1.1.0.now []) close) r t.1.1.0.now t.1.1.1.0.now
+      LeavesMapEntriesCardScratch itself (ends (by_map a.1.0) (kept a.0 a.1.1.0.now a.1.1.1.0.now a.1.1.1.1.0.now)
+      (beside [] a.1.1.1.1.1.0.now []) close) r t.1.1.0.now t.1.1.1.0.now
       t.1.1.1.1.0.now t.1.1.1.1.1.0.now)
   close_contract κs a r t g = refl
 

@@ -90,9 +90,11 @@ module _ (turned guided : Bool) (summary : List ℕ) (s : Kept) (sheet number : 
   -- plain and placed
   pub reserve_refused_by : (limits : List ℕ) (k : ℕ) (p : Placement) → effects.reserve_verdict (lent_on limits) k p ≡ refused
       number
-      → Refuses (reserve_outcome_by turned guided summary s limits sheet k p) (reserve_map_by turned guided summary s limits sheet
+      → Refuses (reserve_outcome_by turned guided summary s limits sheet k p)
+      (reserve_map_by turned guided summary s limits sheet
       k p)
-      (reserve_summary_by turned guided summary s limits sheet k p) (reserve_entries_by turned guided summary s limits sheet k p)
+      (reserve_summary_by turned guided summary s limits sheet k p)
+      (reserve_entries_by turned guided summary s limits sheet k p)
       (reserve_card_by turned guided summary s limits sheet k p)
   unfolding effects.reserve_out effects.reserve_map effects.reserve_summary effects.reserve_card effects.taken_out
       effects.taken_map effects.taken_summary effects.taken_card

@@ -40,25 +40,33 @@ module _ {M : Type 1} {𝓤 : Ura M} (𝓛 : Logic 𝓤) (mem : Memory → SProp
 
   pub reserve_with_summary_contract : Ensures 𝓤 reserve-with-summary-method.ended
       (reserve-with-summary-method.clauses 𝓛 mem run) (λ κs a r t.
-      LeavesMapSummaryEntriesCard itself (ends (by_summary a.1.0) (kept a.0 a.1.1.0.now a.1.1.1.1.0.now a.1.1.1.1.1.0.now) (beside a.1.1.1.0.now [] []) (on a.1.1.1.1.1.1.1.0 (reserve a.1.1.1.1.1.1.0.now a.1.1.1.1.1.1.1.1.0 plain))) r t.1.1.0.now t.1.1.1.0.now
+      LeavesMapSummaryEntriesCard itself (ends (by_summary a.1.0) (kept a.0 a.1.1.0.now a.1.1.1.1.0.now a.1.1.1.1.1.0.now)
+      (beside a.1.1.1.0.now [] []) (on a.1.1.1.1.1.1.1.0 (reserve a.1.1.1.1.1.1.0.now a.1.1.1.1.1.1.1.1.0 plain))) r t.1.1.0.now
+      t.1.1.1.0.now
       t.1.1.1.1.0.now t.1.1.1.1.1.0.now)
   reserve_with_summary_contract κs a r t g = refl
 
   pub reserve_placed_with_summary_contract : Ensures 𝓤 reserve-placed-with-summary-method.ended
       (reserve-placed-with-summary-method.clauses 𝓛 mem run) (λ κs a r t.
-      LeavesMapSummaryEntriesCard itself (ends (by_summary a.1.0) (kept a.0 a.1.1.0.now a.1.1.1.1.0.now a.1.1.1.1.1.0.now) (beside a.1.1.1.0.now [] []) (on a.1.1.1.1.1.1.1.0 (reserve a.1.1.1.1.1.1.0.now a.1.1.1.1.1.1.1.1.0 (placed (figures a.1.1.1.1.1.1.1.1.1.0 a.1.1.1.1.1.1.1.1.1.1.0 a.1.1.1.1.1.1.1.1.1.1.1.0))))) r t.1.1.0.now t.1.1.1.0.now
+      LeavesMapSummaryEntriesCard itself (ends (by_summary a.1.0) (kept a.0 a.1.1.0.now a.1.1.1.1.0.now a.1.1.1.1.1.0.now)
+      (beside a.1.1.1.0.now [] []) (on a.1.1.1.1.1.1.1.0 (reserve a.1.1.1.1.1.1.0.now a.1.1.1.1.1.1.1.1.0
+      (placed (figures a.1.1.1.1.1.1.1.1.1.0 a.1.1.1.1.1.1.1.1.1.1.0 a.1.1.1.1.1.1.1.1.1.1.1.0))))) r t.1.1.0.now t.1.1.1.0.now
       t.1.1.1.1.0.now t.1.1.1.1.1.0.now)
   reserve_placed_with_summary_contract κs a r t g = refl
 
   pub accept_with_summary_contract : Ensures 𝓤 accept-with-summary-method.ended
       (accept-with-summary-method.clauses 𝓛 mem run) (λ κs a r t.
-      LeavesMapSummaryEntriesCard itself (ends (by_summary a.1.0) (kept a.0 a.1.1.0.now a.1.1.1.1.0.now a.1.1.1.1.1.0.now) (beside a.1.1.1.0.now [] []) (on a.1.1.1.1.1.1.1.0 (accept a.1.1.1.1.1.1.0.now a.1.1.1.1.1.1.1.1.0 a.1.1.1.1.1.1.1.1.1.0))) r t.1.1.0.now
+      LeavesMapSummaryEntriesCard itself (ends (by_summary a.1.0) (kept a.0 a.1.1.0.now a.1.1.1.1.0.now a.1.1.1.1.1.0.now)
+      (beside a.1.1.1.0.now [] []) (on a.1.1.1.1.1.1.1.0 (accept a.1.1.1.1.1.1.0.now a.1.1.1.1.1.1.1.1.0
+      a.1.1.1.1.1.1.1.1.1.0))) r t.1.1.0.now
       t.1.1.1.0.now t.1.1.1.1.0.now t.1.1.1.1.1.0.now)
   accept_with_summary_contract κs a r t g = refl
 
   pub grow_with_summary_contract : Ensures 𝓤 grow-with-summary-method.ended
       (grow-with-summary-method.clauses 𝓛 mem run) (λ κs a r t.
-      LeavesMapSummaryEntriesCard itself (ends (by_summary a.1.0) (kept a.0 a.1.1.0.now a.1.1.1.1.0.now a.1.1.1.1.1.0.now) (beside a.1.1.1.0.now [] []) (on a.1.1.1.1.1.1.1.0 (grow a.1.1.1.1.1.1.0.now a.1.1.1.1.1.1.1.1.0))) r t.1.1.0.now t.1.1.1.0.now
+      LeavesMapSummaryEntriesCard itself (ends (by_summary a.1.0) (kept a.0 a.1.1.0.now a.1.1.1.1.0.now a.1.1.1.1.1.0.now)
+      (beside a.1.1.1.0.now [] []) (on a.1.1.1.1.1.1.1.0 (grow a.1.1.1.1.1.1.0.now a.1.1.1.1.1.1.1.1.0))) r t.1.1.0.now
+      t.1.1.1.0.now
       t.1.1.1.1.0.now t.1.1.1.1.1.0.now)
   grow_with_summary_contract κs a r t g = refl
 
@@ -97,7 +105,8 @@ module _ {M : Type 1} {𝓤 : Ura M} (𝓛 : Logic 𝓤) (mem : Memory → SProp
 
   pub close_with_summary_contract : Ensures 𝓤 close-with-summary-method.ended
       (close-with-summary-method.clauses 𝓛 mem run) (λ κs a r t.
-      LeavesMapSummaryEntriesCardScratch itself (ends (by_summary a.1.0) (kept a.0 a.1.1.0.now a.1.1.1.1.0.now a.1.1.1.1.1.0.now) (beside a.1.1.1.0.now a.1.1.1.1.1.1.0.now []) close) r
+      LeavesMapSummaryEntriesCardScratch itself (ends (by_summary a.1.0)
+      (kept a.0 a.1.1.0.now a.1.1.1.1.0.now a.1.1.1.1.1.0.now) (beside a.1.1.1.0.now a.1.1.1.1.1.1.0.now []) close) r
       t.1.1.0.now t.1.1.1.0.now t.1.1.1.1.0.now t.1.1.1.1.1.0.now
       t.1.1.1.1.1.1.0.now)
   close_with_summary_contract κs a r t g = refl

@@ -66,7 +66,8 @@ show_outcome_at shape role map card slot sheet place buffer =
 -- its date is three numbers (document 02 (m))
 abbrev pub dated_outcome_at : Shape → ℕ → List ℕ → List ℕ → Slot → ℕ → ℕ → ℕ → ℕ → ℕ → List ℕ → Outcome
 dated_outcome_at shape role map card slot sheet place year month day buffer =
-    told shape (effects.show_dated_answer (lent_at roles.show_dated shape role map card slot sheet) place (date_of year month day)
+    told shape (effects.show_dated_answer (lent_at roles.show_dated shape role map card slot sheet) place
+    (date_of year month day)
     buffer)
 
 abbrev pub dated_buffer_at : Lent → ℕ → ℕ → ℕ → ℕ → List ℕ → List ℕ

@@ -40,7 +40,8 @@ module _ (shape : Shape) (role : ℕ) (map : List ℕ) (entries : List Entry) (c
 module _ (shape : Shape) (role : ℕ) (map : List ℕ) (entries : List Entry) (card limits : List ℕ) (sheet k from before step : ℕ)
   where
     abbrev pub reservePlacedEnd : End
-    reservePlacedEnd = ends (by_map role) (kept shape map entries card) nothing (on sheet (reserve limits k (placed (figures from
+    reservePlacedEnd = ends (by_map role) (kept shape map entries card) nothing
+        (on sheet (reserve limits k (placed (figures from
         before step))))
 
 module _ (shape : Shape) (role : ℕ) (map : List ℕ) (entries : List Entry) (card limits : List ℕ) (sheet k : ℕ) where
@@ -110,13 +111,15 @@ module _ (shape : Shape) (role : ℕ) (map summary : List ℕ) where
 
 module _ (shape : Shape) (role : ℕ) (map summary : List ℕ) (entries : List Entry) (card limits : List ℕ) (sheet k : ℕ) where
   abbrev pub reserve_with_summary_end : End
-  reserve_with_summary_end = ends (by_summary role) (kept shape map entries card) (beside summary [] []) (on sheet (reserve limits
+  reserve_with_summary_end = ends (by_summary role) (kept shape map entries card) (beside summary [] [])
+      (on sheet (reserve limits
       k plain))
 
 module _ (shape : Shape) (role : ℕ) (map summary : List ℕ) (entries : List Entry) (card limits : List ℕ) (sheet k from before
     step : ℕ) where
   abbrev pub reserve_placed_with_summary_end : End
-  reserve_placed_with_summary_end = ends (by_summary role) (kept shape map entries card) (beside summary [] []) (on sheet (reserve
+  reserve_placed_with_summary_end = ends (by_summary role) (kept shape map entries card) (beside summary [] [])
+      (on sheet (reserve
       limits k (placed (figures from before step))))
 
 module _ (shape : Shape) (role : ℕ) (map summary : List ℕ) (entries : List Entry) (card limits : List ℕ) (sheet start k : ℕ)

@@ -15,13 +15,16 @@ use Rattle.image.specs.Effects.{zeros_for}
 use Rattle.card.specs.Calls.{Kept, told, fresh_outcome, fresh_map, fresh_entries, search_outcome, survey_outcome}
 use Rattle.card.specs.Calls.{build_outcome, build_summary, check_outcome}
 use Rattle.card.specs.Calls.{reserve_outcome_by, reserve_map_by, reserve_summary_by, reserve_entries_by, reserve_card_by}
-use Rattle.card.specs.Calls.{offer_outcome, accept_outcome_by, accept_map_by, accept_summary_by, accept_entries_by, accept_card_by}
-use Rattle.card.specs.Calls.{grow_outcome_by, grow_map_by, grow_summary_by, grow_entries_by, grow_card_by, put_outcome, put_card}
+use Rattle.card.specs.Calls.{offer_outcome, accept_outcome_by, accept_map_by, accept_summary_by, accept_entries_by}
+use Rattle.card.specs.Calls.{accept_card_by}
+use Rattle.card.specs.Calls.{grow_outcome_by, grow_map_by, grow_summary_by, grow_entries_by, grow_card_by, put_outcome}
+use Rattle.card.specs.Calls.{put_card}
 use Rattle.card.specs.Calls.{complete_outcome, complete_entries, change_outcome, change_entries}
 use Rattle.card.specs.Calls.{release_outcome_by, release_map_by, release_summary_by, release_entries_by}
 use Rattle.card.specs.Calls.{show_outcome, show_buffer, show_dated_outcome, show_dated_buffer, standing_outcome}
 use Rattle.card.specs.Calls.{save_outcome, save_scratch, save_image, load_outcome, load_map, load_entries, load_scratch}
-use Rattle.card.specs.Closings.{close_outcome_by, close_map_by, close_summary_by, close_entries_by, close_card_by, close_scratch_by}
+use Rattle.card.specs.Closings.{close_outcome_by, close_map_by, close_summary_by, close_entries_by, close_card_by}
+use Rattle.card.specs.Closings.{close_scratch_by}
 use Rattle.card.specs.declared.Outcome.{Outcome}
 
 -- ---- the calls

@@ -3,7 +3,8 @@
 ghost use Rattle.std.specs.Prelude.{◌≡◌};
 ghost use Rattle.roles.specs.Roles as roles;
 ghost use Rattle.card.specs.Calls.{outcome_of, save_outcome_by, load_outcome_by};
-ghost use Rattle.card.specs.Cores.{entry_left, done_by, lent_at, put_outcome_at, show_outcome_at, standing_outcome_at, pause_out_at};
+ghost use Rattle.card.specs.Cores.{entry_left, done_by, lent_at, put_outcome_at, show_outcome_at, standing_outcome_at};
+ghost use Rattle.card.specs.Cores.{pause_out_at};
 ghost use Rattle.card.specs.Cores.{resume_out_at, fresh_outcome_at, fresh_map_at};
 ghost use Rattle.card.specs.Cores.{blocks_of, spare_of, nothing_else};
 ghost use Rattle.refusals.specs.Lent.{no_card};

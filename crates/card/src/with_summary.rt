@@ -1,6 +1,8 @@
 // The calls on a summary beside the map, and the calls that are lent one (document 02, request j).
-ghost use Rattle.card.specs.Ends.{summary_build_end, summary_check_end, reserve_with_summary_end, reserve_placed_with_summary_end};
-ghost use Rattle.card.specs.Ends.{acceptWithSummaryEnd, grow_with_summary_end, release_with_summary_end, close_with_summary_end};
+ghost use Rattle.card.specs.Ends.{summary_build_end, summary_check_end, reserve_with_summary_end};
+ghost use Rattle.card.specs.Ends.{reserve_placed_with_summary_end};
+ghost use Rattle.card.specs.Ends.{acceptWithSummaryEnd, grow_with_summary_end, release_with_summary_end};
+ghost use Rattle.card.specs.Ends.{close_with_summary_end};
 ghost use Rattle.card.specs.Leaves.{itself, HandsBack, LeavesSummary, LeavesMapSummaryEntries};
 ghost use Rattle.card.specs.Leaves.{LeavesMapSummaryEntriesCard, LeavesMapSummaryEntriesCardScratch};
 

@@ -35,7 +35,8 @@ Prints shape role image map entries scratch text r map' entries' scratch' text' 
 abbrev pub PrintsWith : Shape → ℕ → List ℕ → List ℕ → List Entry → ℕ → List ℕ → List ℕ → ℕ → List ℕ → List ℕ → List ℕ
     → Type 0
 PrintsWith shape role image map entries c scratch text r map' scratch' text' =
-    Writes (printed_of (turned_away role names.load) image (length map) (length (take c entries)) (length scratch)) text 0 r text'
+    Writes (printed_of (turned_away role names.load) image (length map) (length (take c entries)) (length scratch)) text 0 r
+    text'
     × (map' ≡ load_map (turned_away role names.load) image map (take c entries) scratch) × (scratch' ≡ zeros_for scratch)
 
 -- What was used is given back, whatever the entries are.

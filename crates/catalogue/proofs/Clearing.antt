@@ -1,6 +1,7 @@
 -- What fresh leaves in the catalogue.
 -- Assumes nothing.
-use Rattle.std.proofs.Common.{◌≡◌, Bool, true, false, ℕ, zero, suc, ◌<◌, List, [], ◌∷◌, ◌++◌, length, get_or, set, take, drop, refl, ap, arith}
+use Rattle.std.proofs.Common.{◌≡◌, Bool, true, false, ℕ, zero, suc, ◌<◌, List, [], ◌∷◌, ◌++◌, length, get_or, set, take, drop}
+use Rattle.std.proofs.Common.{refl, ap, arith}
 use Rattle.catalogue.specs.Entries.{zeros, absent, cleared, cleared_if}
 use Rattle.catalogue.specs.declared.Entry.{Entry}
 

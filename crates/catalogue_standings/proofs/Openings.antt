@@ -170,7 +170,8 @@ not_complete Damaged rows t d = absurd (true≢false d)
 pub is_absent_lem : (s : Standing) (rows : List Row) → s ≡ Absent
     → first_of (row 6 (is_paused s) ∷ row 7 (is_open s) ∷ row 8 (is_complete s) ∷ rows) ≡ first_of rows
 unfolding first_of
-is_absent_lem s rows e = ap (λ (t : Standing). first_of (row 6 (is_paused t) ∷ row 7 (is_open t) ∷ row 8 (is_complete t) ∷ rows)) e
+is_absent_lem s rows e = ap (λ (t : Standing). first_of (row 6 (is_paused t) ∷ row 7 (is_open t) ∷ row 8 (is_complete t)
+    ∷ rows)) e
 
 pub is_open_lem : (s : Standing) (start blocks : ℕ) (rows : List Row) → s ≡ Open start blocks
     → first_of (row 5 (is_absent s) ∷ row 6 (is_paused s) ∷ row 8 (is_complete s) ∷ rows) ≡ first_of rows

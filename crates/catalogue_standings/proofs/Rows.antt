@@ -80,7 +80,8 @@ abbrev pub Clear : ℕ → List Row → Type 0
 Clear number [] = Unit {0}
 Clear number (r ∷ rows) = either (eqb r.number number) ((r.holds ≡ false) × Clear number rows) (Clear number rows)
 
-pub rest_accepted : (r : Row) (rows : List Row) → first_of (r ∷ rows) ≡ accepted → (r.holds ≡ false) × (first_of rows ≡ accepted)
+pub rest_accepted : (r : Row) (rows : List Row) → first_of (r ∷ rows) ≡ accepted → (r.holds ≡ false)
+    × (first_of rows ≡ accepted)
 unfolding first_of
 rest_accepted r rows e = go r.holds e
   where

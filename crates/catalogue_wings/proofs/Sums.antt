@@ -1,6 +1,8 @@
 -- The sum of a wing's lengths, entry by entry, and that it does not wrap.
 -- Assumes nothing.
-use Rattle.std.proofs.Common.{◌≡◌, ℕ, zero, suc, ◌+◌, ◌-◌, ◌*◌, ◌/◌, ◌%◌, ◌^◌, ◌<◌, ◌≤◌, Bool, true, false, ltb, List, [], ◌∷◌, length, get_or, take, drop, sym, refl, ap, ◌∙◌, subst, mod-eq_of_lt, suc-mul, add-one, arith, length-drop, get_or-drop, take_all, ltb-false, ltb-true}
+use Rattle.std.proofs.Common.{◌≡◌, ℕ, zero, suc, ◌+◌, ◌-◌, ◌*◌, ◌/◌, ◌%◌, ◌^◌, ◌<◌, ◌≤◌, Bool, true, false, ltb, List, [], ◌∷◌}
+use Rattle.std.proofs.Common.{length, get_or, take, drop, sym, refl, ap, ◌∙◌, subst, mod-eq_of_lt, suc-mul, add-one, arith}
+use Rattle.std.proofs.Common.{length-drop, get_or-drop, take_all, ltb-false, ltb-true}
 use native.Mathlib.Nat.{mod-add-mod}
 use Rattle.catalogue.specs.Entries.{zeros, entry_at, held}
 use Rattle.catalogue.specs.declared.Entry.{Entry}

@@ -132,8 +132,10 @@ module _ (b c : List ℕ) (lb : length b ≡ 512) (lc : length c ≡ 512) (sb : 
   unfolding in_data in_a in_b
   data_kept e =
       let same : take 504 b ≡ take 504 c = apart_none (take 504 b) (take 504 c) (long b lb ∙ sym (long c lc)) e in
-      let a : number_at b 504 ≡ number_at c 504 = stored_a b hb ∙ ap (λ (l : List ℕ). (sums 1 0 l).0) same ∙ sym (stored_a c hc) in
-      let z : number_at b 508 ≡ number_at c 508 = stored_b b hb ∙ ap (λ (l : List ℕ). (sums 1 0 l).1) same ∙ sym (stored_b c hc) in
+      let a : number_at b 504 ≡ number_at c 504 = stored_a b hb ∙ ap (λ (l : List ℕ). (sums 1 0 l).0) same
+      ∙ sym (stored_a c hc) in
+      let z : number_at b 508 ≡ number_at c 508 = stored_b b hb ∙ ap (λ (l : List ℕ). (sums 1 0 l).1) same
+      ∙ sym (stored_b c hc) in
       sym (take-append-drop 504 b)
       ∙ ap₂ ◌++◌ same
       (sym (take-append-drop 4 (drop 504 b))

@@ -1,6 +1,7 @@
 -- `closes`: what the functions that a close consists of come to is what it answers and leaves.
 -- Assumes nothing.
-use Rattle.std.proofs.Common.{◌≡◌, ℕ, suc, ◌-◌, ◌*◌, ◌≤◌, Bool, true, false, cond, not, ◌&&◌, eqb, leb, List, length, sym, refl, ap, ◌∙◌, ap₂, arith, ne_eqb, eqb-true, le-leb}
+use Rattle.std.proofs.Common.{◌≡◌, ℕ, suc, ◌-◌, ◌*◌, ◌≤◌, Bool, true, false, cond, not, ◌&&◌, eqb, leb, List, length, sym, refl}
+use Rattle.std.proofs.Common.{ap, ◌∙◌, ap₂, arith, ne_eqb, eqb-true, le-leb}
 use Rattle.laws.proofs.Bools.{and_left, and_right, and_both}
 use Rattle.catalogue.specs.Entries.{held}
 use Rattle.catalogue.specs.declared.Entry.{Entry}

@@ -1,7 +1,8 @@
 -- `rounds_close`: of a sound state as many rounds as there are entries make the closed entries and the closed card, and end
 -- where all extents end.
 -- Assumes nothing.
-use Rattle.std.proofs.Common.{◌≡◌, ℕ, zero, suc, ◌+◌, ◌-◌, ◌*◌, ◌<◌, ◌≤◌, List, map, length, set, sym, ap, ◌∙◌, ap₂, ⊎_elim, arith}
+use Rattle.std.proofs.Common.{◌≡◌, ℕ, zero, suc, ◌+◌, ◌-◌, ◌*◌, ◌<◌, ◌≤◌, List, map, length, set, sym, ap, ◌∙◌, ap₂, ⊎_elim}
+use Rattle.std.proofs.Common.{arith}
 use Rattle.catalogue.specs.Entries.{entry_at, held, slot_at}
 use Rattle.catalogue.specs.declared.Entry.{Entry}
 use Rattle.closing_moves.specs.Moved.{sourced}

@@ -1,6 +1,7 @@
 -- An undamaged entry: what it shows of its extent, and that it is undamaged wherever its extent moves to blocks that are taken.
 -- Assumes nothing.
-use Rattle.std.proofs.Common.{◌≡◌, ℕ, ◌+◌, ◌<◌, ◌≤◌, Bool, true, false, cond, not, ◌&&◌, eqb, leb, sym, refl, ap, ◌∙◌, ap₂, true≢false, arith, ne_eqb, eqb-true, le-leb}
+use Rattle.std.proofs.Common.{◌≡◌, ℕ, ◌+◌, ◌<◌, ◌≤◌, Bool, true, false, cond, not, ◌&&◌, eqb, leb, sym, refl, ap, ◌∙◌, ap₂}
+use Rattle.std.proofs.Common.{true≢false, arith, ne_eqb, eqb-true, le-leb}
 use borrow.Author.Tests.{lt-leb}
 use Rattle.map_blocks.specs.Blocks.{all}
 use Rattle.laws.proofs.Bools.{and_left, and_both}

@@ -1,7 +1,8 @@
 -- The entries while closing goes: those that start before t have moved, which is called packed here, and the others are as they
 -- were. What one round does to them.
 -- Assumes nothing.
-use Rattle.std.proofs.Common.{◌≡◌, ℕ, ◌+◌, ◌<◌, ◌≤◌, Bool, true, false, cond, ltb, ◌⊎◌, List, map, length, set, sym, refl, ap, ◌∙◌, ap₂, inl, inr, ⊎_elim, arith, le-ltb, lt-ltb}
+use Rattle.std.proofs.Common.{◌≡◌, ℕ, ◌+◌, ◌<◌, ◌≤◌, Bool, true, false, cond, ltb, ◌⊎◌, List, map, length, set, sym, refl, ap}
+use Rattle.std.proofs.Common.{◌∙◌, ap₂, inl, inr, ⊎_elim, arith, le-ltb, lt-ltb}
 use lib.ListN.{length-map}
 use Rattle.laws.proofs.Bools.{order}
 use Rattle.catalogue.specs.Entries.{entry_at, slot_at}

@@ -1,7 +1,8 @@
 -- The extent that moves next: of those that start at or after the end of those that have moved, the one with the least start,
 -- and its place among the entries. The entries are those of a list that f has changed.
 -- Assumes nothing.
-use Rattle.std.proofs.Common.{◌≡◌, ℕ, suc, ◌+◌, ◌%◌, ◌<◌, ◌≤◌, Bool, true, false, cond, ◌&&◌, ltb, leb, ◌⊎◌, List, [], ◌∷◌, map, length, sym, refl, ap, subst, inl, inr, ⊎_elim, arith, ltb-true, lt-ltb, le-leb, leb-true}
+use Rattle.std.proofs.Common.{◌≡◌, ℕ, suc, ◌+◌, ◌%◌, ◌<◌, ◌≤◌, Bool, true, false, cond, ◌&&◌, ltb, leb, ◌⊎◌, List, [], ◌∷◌, map}
+use Rattle.std.proofs.Common.{length, sym, refl, ap, subst, inl, inr, ⊎_elim, arith, ltb-true, lt-ltb, le-leb, leb-true}
 use Rattle.laws.proofs.Bools.{and_left, and_right, and_both, clash, order}
 use Rattle.catalogue.specs.Entries.{entry_at}
 use Rattle.catalogue.specs.declared.Entry.{Entry}

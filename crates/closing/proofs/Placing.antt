@@ -1,6 +1,7 @@
 -- The entries of a sound state can be packed: their extents lie inside n and apart, and an entry without blocks starts at 0.
 -- Assumes nothing.
-use Rattle.std.proofs.Common.{◌≡◌, ℕ, ◌+◌, ◌<◌, ◌≤◌, Bool, true, false, List, [], ◌∷◌, sym, refl, ap, ◌∙◌, inl, inr, ⊎_elim, arith}
+use Rattle.std.proofs.Common.{◌≡◌, ℕ, ◌+◌, ◌<◌, ◌≤◌, Bool, true, false, List, [], ◌∷◌, sym, refl, ap, ◌∙◌, inl, inr, ⊎_elim}
+use Rattle.std.proofs.Common.{arith}
 use Rattle.laws.proofs.Bools.{order}
 use Rattle.map_blocks.specs.Blocks.{free}
 use Rattle.map_blocks.specs.Maps.{in_run}
@@ -17,7 +18,8 @@ use Rattle.closing.proofs.Packing.{Placed}
 pub member_undamaged : (n : ℕ) (f : ℕ → Bool) (es : List Entry) → undamaged n f es ≡ true → (e : Entry) → Member e es
     → is_damaged (standing_of n f e) ≡ false
 member_undamaged n f [] u e x'' = elim x'' [ ]
-member_undamaged n f (x ∷ xs) u e (inl p) = ap (λ (z : Entry). is_damaged (standing_of n f z)) (sym p) ∙ head_undamaged n f x xs u
+member_undamaged n f (x ∷ xs) u e (inl p) = ap (λ (z : Entry). is_damaged (standing_of n f z)) (sym p)
+    ∙ head_undamaged n f x xs u
 member_undamaged n f (x ∷ xs) u e (inr m) = member_undamaged n f xs (tail_undamaged n f x xs u) e m
 
 member_covers : (es : List Entry) (e : Entry) (b : ℕ) → Member e es → e.start ≤ b → b < e.start + e.length

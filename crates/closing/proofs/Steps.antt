@@ -1,6 +1,7 @@
 -- What the tests of the functions here decide, one by one.
 -- Assumes nothing.
-use Rattle.std.proofs.Common.{◌≡◌, ℕ, ◌-◌, ◌*◌, ◌<◌, ◌≤◌, Bool, true, false, ◌&&◌, ltb, leb, List, length, eq-eqb, ne_eqb, le-leb, leb-true}
+use Rattle.std.proofs.Common.{◌≡◌, ℕ, ◌-◌, ◌*◌, ◌<◌, ◌≤◌, Bool, true, false, ◌&&◌, ltb, leb, List, length, eq-eqb, ne_eqb}
+use Rattle.std.proofs.Common.{le-leb, leb-true}
 use borrow.Author.Tests.{lt-leb}
 use Rattle.laws.proofs.Bools.{and_left, and_right}
 use Rattle.catalogue.specs.declared.Entry.{Entry}

@@ -1,6 +1,7 @@
 -- The map in which the first blocks are taken: the fresh map, with these marked.
 -- Assumes nothing.
-use Rattle.std.proofs.Common.{◌≡◌, ℕ, ◌*◌, ◌^◌, ◌<◌, ◌≤◌, Bool, false, cond, ◌&&◌, ltb, leb, length, get_or, sym, ap, ◌∙◌, subst, ⊎_elim, arith, le-leb}
+use Rattle.std.proofs.Common.{◌≡◌, ℕ, ◌*◌, ◌^◌, ◌<◌, ◌≤◌, Bool, false, cond, ◌&&◌, ltb, leb, length, get_or, sym, ap, ◌∙◌}
+use Rattle.std.proofs.Common.{subst, ⊎_elim, arith, le-leb}
 use borrow.Author.Tests.{lt-leb}
 use Rattle.map_blocks.specs.Blocks.{free}
 use Rattle.map_blocks.specs.Maps.{map_of, fresh_map, marked, in_run}

@@ -1,6 +1,7 @@
 -- Closing twice is closing once: on a closed card every extent is where it belongs, and no block moves.
 -- Assumes nothing.
-use Rattle.std.proofs.Common.{◌≡◌, ℕ, ◌+◌, ◌-◌, ◌<◌, ◌≤◌, Bool, true, false, cond, ltb, List, [], ◌∷◌, map, length, sym, refl, ap, ◌∙◌, ap₂, inl, inr, ⊎_elim, arith, le-ltb, lt-ltb}
+use Rattle.std.proofs.Common.{◌≡◌, ℕ, ◌+◌, ◌-◌, ◌<◌, ◌≤◌, Bool, true, false, cond, ltb, List, [], ◌∷◌, map, length, sym, refl}
+use Rattle.std.proofs.Common.{ap, ◌∙◌, ap₂, inl, inr, ⊎_elim, arith, le-ltb, lt-ltb}
 use Rattle.laws.proofs.Bools.{order}
 use Rattle.map_blocks.specs.Maps.{in_run}
 use Rattle.map_blocks.proofs.Maps.{map_length}

@@ -1,7 +1,8 @@
 -- How closing goes: round by round the extent that starts next moves to the end of those that have moved. `rounds_close`
 -- (proofs/Closing.antt) says that as many rounds as there are entries make the closed card of a sound state.
 -- Assumes nothing.
-use Rattle.std.specs.Prelude.{ℕ, zero, suc, ◌+◌, ◌-◌, ◌*◌, ◌%◌, Bool, true, false, cond, ◌&&◌, List, [], ◌∷◌, length, ◌==◌, nat_le, nat_lt, slice_set}
+use Rattle.std.specs.Prelude.{ℕ, zero, suc, ◌+◌, ◌-◌, ◌*◌, ◌%◌, Bool, true, false, cond, ◌&&◌, List, [], ◌∷◌, length, ◌==◌}
+use Rattle.std.specs.Prelude.{nat_le, nat_lt, slice_set}
 use Rattle.catalogue.specs.Entries.{slot_at}
 use Rattle.catalogue.specs.declared.Entry.{Entry}
 use Rattle.catalogue.specs.declared.Slot.{Slot}
@@ -114,7 +115,8 @@ module _ (role n spare : ℕ) (fits : Bool) (map : List ℕ) (count : ℕ) (card
   unfolding close_fits
   first_tally =
       cond (turned_away role names.close) (tally 0 true)
-      (cond (close_fits n spare fits count (length map) (length card) (length scratch)) (tally (n - spare) false) (tally 0 true))
+      (cond (close_fits n spare fits count (length map) (length card) (length scratch)) (tally (n - spare) false)
+      (tally 0 true))
 
 -- The number, by who closes, whether there is something to test and whether the state is sound.
 unfoldable pub number_by : ℕ → Tally → Bool → ℕ

@@ -247,6 +247,7 @@ module _ (card : List ℕ) (to from i : ℕ) (down : to ≤ from) (inside : 512 
       ∙ sourced_same card (λ x. moved_from to from i (one x)) (moved_from to from (i + 1)) composed
 
 pub moved_next : (orig card next : List ℕ) (to from i : ℕ) → to ≤ from → 512 * (from + i) + 512 ≤ length orig
-    → card ≡ moved orig to from i → next ≡ with_block card (to + i) (block_of card (from + i)) → next ≡ moved orig to from (i + 1)
+    → card ≡ moved orig to from i → next ≡ with_block card (to + i) (block_of card (from + i)) → next
+    ≡ moved orig to from (i + 1)
 moved_next orig card next to from i down inside e en =
     en ∙ ap (λ (l : List ℕ). with_block l (to + i) (block_of l (from + i))) e ∙ moved_more orig to from i down inside

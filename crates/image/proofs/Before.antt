@@ -52,7 +52,8 @@ module _ (n : ℕ) (f : ℕ → Bool) (e : Entry) where
 
 -- ---- a state
 
-same_undamaged : (n : ℕ) (f : ℕ → Bool) (es : List Entry) → no_paused_blocks es ≡ true → undamaged n f es ≡ undamaged_before n f es
+same_undamaged : (n : ℕ) (f : ℕ → Bool) (es : List Entry) → no_paused_blocks es ≡ true → undamaged n f es
+    ≡ undamaged_before n f es
 unfolding undamaged undamaged_before no_paused_blocks
 same_undamaged n f [] b = refl
 same_undamaged n f (e ∷ es) b =

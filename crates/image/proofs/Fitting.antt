@@ -184,7 +184,8 @@ module _ (n c maplen count scratchlen w : ℕ) (ew : w ≡ words_for n) where
         → eqb scratchlen v ≡ load_fits n c maplen count scratchlen
     unfolding load_fits
     load-by-scratch h v ev = ap (eqb scratchlen) ev
-        ∙ sym (ap₂ (λ (a b : Bool). a && b && eqb scratchlen (scratch_words (words_for n))) (eq-eqb maplen (words_for n) (e ∙ ew))
+        ∙ sym (ap₂ (λ (a b : Bool). a && b && eqb scratchlen (scratch_words (words_for n)))
+        (eq-eqb maplen (words_for n) (e ∙ ew))
         (eq-eqb count c h))
 
 pub load_fits_to : (n c maplen count scratchlen : ℕ) → load_fits n c maplen count scratchlen ≡ true

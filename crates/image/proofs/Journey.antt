@@ -92,7 +92,8 @@ entries_stored n f p (x ∷ es) q at h u e =
     let e2 : number_at (p ++ (m ++ (s ++ (l ++ rest)))) (at + 8) ≡ x.length =
     ap (λ (b : List ℕ). number_at b (at + 8)) b2 ∙ number_at_lem ((p ++ m) ++ s) rest x.length (at + 8) (omega arith)
     (omega arith) in
-    ap (λ (b : List ℕ). entry (number_at b at) (number_at b (at + 4)) (number_at b (at + 8)) ∷ entries_from b (at + 12) (length es))
+    ap (λ (b : List ℕ). entry (number_at b at) (number_at b (at + 4)) (number_at b (at + 8))
+    ∷ entries_from b (at + 12) (length es))
     all
     ∙ ap₂ (λ (y : Entry) (ys : List Entry). y ∷ ys)
     (ap₂ (λ (a b : ℕ). entry a b (number_at (p ++ (m ++ (s ++ (l ++ rest)))) (at + 8))) e0 e1
@@ -181,7 +182,8 @@ module _ (turned : Bool) (image : List ℕ) (maplen count scratchlen : ℕ) (sma
   fill_bytes : replicate (496 * frames_for n c - content_length n c) 0 ≡ drop (content_length n c) b
   unfolding filled
   fill_bytes =
-      let l : length (drop (content_length n c) b) ≡ 496 * frames_for n c - content_length n c = length-drop (content_length n c) b
+      let l : length (drop (content_length n c) b) ≡ 496 * frames_for n c - content_length n c = length-drop
+      (content_length n c) b
       ∙ ap (λ (k : ℕ). k - content_length n c) long in
       sym (blank_is_zeros (drop (content_length n c) b) facts.fill ∙ ap (λ (k : ℕ). replicate k 0) l)
 

@@ -71,7 +71,8 @@ module _ (turned : Bool) (n spare : ℕ) (map : List ℕ) (entries : List Entry)
       let s : State = state n spare entries map in
       let v : save_verdict turned s (length scratch) (length buffer) ≡ accepted =
       save_accepted turned s (length scratch) (length buffer) e in
-      let written : settle (save_verdict turned s (length scratch) (length buffer)) (image_of s) (λ number. buffer) ≡ image_of s =
+      let written : settle (save_verdict turned s (length scratch) (length buffer)) (image_of s) (λ number. buffer)
+      ≡ image_of s =
       ap (λ (w : Verdict). settle w (image_of s) (λ number. buffer)) v in
       let same = saved_state_lem turned s (length scratch) (length buffer) words v in
       let a : load_verdict false (image_of s) (length map') (length entries') (length scratch') ≡ accepted =
@@ -126,7 +127,8 @@ module _ (turned : Bool) (image map : List ℕ) (entries : List Entry) (scratch 
             admitted = refl;
             lengths = ap₂ (λ (x y : ℕ). save_fits (blocks_in image) (free_count_in image) x y scratchlen)
                 (entries_length image (sheets_in image)) (map_length image (blocks_in image) (sheets_in image))
-                ∙ to_save_fits (blocks_in image) (free_count_in image) (sheets_in image) (words_for (blocks_in image)) scratchlen
+                ∙ to_save_fits (blocks_in image) (free_count_in image) (sheets_in image) (words_for (blocks_in image))
+                scratchlen
                 h.shape h.listed
                 (ls ∙ ap (λ (x : State). scratch_words (length x.map)) (sym same_given)
                 ∙ ap scratch_words (map_length image (blocks_in image) (sheets_in image)));

@@ -26,7 +26,8 @@ state n spare entries map = record { blocks = n; spare = spare; entries = entrie
 -- n, free count and c as they were read
 module _ (image : List ℕ) (n spare c : ℕ) (en : n ≡ blocks_in image) (es : spare ≡ free_count_in image)
     (ec : c ≡ sheets_in image) where
-  pub content_sound : shape_fits n spare (words_for n) ≡ true → (scratch : List ℕ) → length scratch ≡ scratch_words (words_for n)
+  pub content_sound : shape_fits n spare (words_for n) ≡ true → (scratch : List ℕ) → length scratch
+      ≡ scratch_words (words_for n)
       → (t : Tally) (first : Window) (stop : Bool) → t ≡ tally_of (entries_in image c) n (tally (n - spare) false)
       → first ≡ first_window t
       → stop ≡ (windows_of (map_in image n c) (entries_in image c) scratch n (window_count n first) first).stop
@@ -39,7 +40,8 @@ module _ (image : List ℕ) (n spare c : ℕ) (en : n ≡ blocks_in image) (es :
       ∙ tested_sound (state n spare (entries_in image c) (map_in image n c)) scratch
       (ap (shape_fits n spare) (map_length image n c) ∙ fit) (size ∙ ap scratch_words (sym (map_length image n c)))
       ∙ ap₂ (λ (x y : ℕ). sound (state x y (entries_in image c) (map_in image x c))) en es
-      ∙ ap (λ (x : ℕ). sound (state (blocks_in image) (free_count_in image) (entries_in image x) (map_in image (blocks_in image) x)))
+      ∙ ap (λ (x : ℕ). sound (state (blocks_in image) (free_count_in image) (entries_in image x)
+      (map_in image (blocks_in image) x)))
       ec
 
   pub content_filled : (w : ℕ) → w ≡ words_for n
@@ -47,4 +49,5 @@ module _ (image : List ℕ) (n spare c : ℕ) (en : n ≡ blocks_in image) (es :
   unfolding filled
   content_filled w ew =
       let e : 4 * (3 + 3 * c + 2 * w) ≡ content_length n c = omega arith in
-      ap (λ (x : ℕ). blank (drop x (body_of image))) e ∙ ap₂ (λ (x y : ℕ). blank (drop (content_length x y) (body_of image))) en ec
+      ap (λ (x : ℕ). blank (drop x (body_of image))) e ∙ ap₂ (λ (x y : ℕ). blank (drop (content_length x y) (body_of image))) en
+      ec

@@ -128,7 +128,8 @@ module _ (map : List ℕ) (es : List Entry) (n : ℕ) where
         → Stands i w scratch → w.stop ≡ (windows_of map es start n count first).stop
     stands-ended i k w scratch t h e s =
         let z : i + (k - i) ≡ k = omega arith in
-        t ∙ sym (ap (λ (x : ℕ). (windows_of map es start n x first).stop) (sym (z ∙ e)) ∙ stands-stopped (k - i) i w scratch t s)
+        t ∙ sym (ap (λ (x : ℕ). (windows_of map es start n x first).stop) (sym (z ∙ e))
+        ∙ stands-stopped (k - i) i w scratch t s)
 
     pub stands-next : (i : ℕ) (w w' : Window) (scratch scratch' : List ℕ) → w' ≡ one_window map es scratch n w
         → scratch' ≡ one_scratch map es scratch n w → Stands i w scratch → Stands (i + 1) w' scratch'

@@ -17,7 +17,8 @@ pub payload_length : (block : List ℕ) → length block ≡ 512 → length (pay
 unfolding payload_of
 payload_length block e = length-take-le 496 (drop 8 block) (omega (arith, length-drop 8 block))
 
-pub payload_at : (image : List ℕ) (i y : ℕ) → y < 496 → get_or (payload_of (block_of image i)) y 0 ≡ get_or image (512 * i + 8 + y) 0
+pub payload_at : (image : List ℕ) (i y : ℕ) → y < 496 → get_or (payload_of (block_of image i)) y 0
+    ≡ get_or image (512 * i + 8 + y) 0
 unfolding payload_of block_of
 payload_at image i y h =
     let e : 512 * i + (8 + y) ≡ 512 * i + 8 + y = omega arith in

@@ -10,7 +10,8 @@ use native.Mathlib.Omega.{arith}
 use lib.Dec.{eqb}
 use lib.ListN.{length, get_or, take, drop, length-append, length-take, length-drop, take-append-drop, drop_of_length-le}
 use lib.ListN.{get_or-eq_default}
-use lib.Seq.{take_at, drop_at, take-add, take_all, drop-drop, drop-append-add, drop-cons, length-take-le, get_or-take, get_or-drop}
+use lib.Seq.{take_at, drop_at, take-add, take_all, drop-drop, drop-append-add, drop-cons, length-take-le, get_or-take}
+use lib.Seq.{get_or-drop}
 use borrow.Author.Tests.{eqb-true}
 use Rattle.map_blocks.specs.Blocks.{all}
 use Rattle.laws.proofs.Bools.{and_left, and_right, order}
@@ -136,7 +137,8 @@ unfolding bytes4
 four n a b c d p q r s = cc
 
 take_four : (bytes : List ℕ) (at : ℕ) → at + 4 ≤ length bytes
-    → take 4 (drop at bytes) ≡ get_or bytes at 0 ∷ get_or bytes (at + 1) 0 ∷ get_or bytes (at + 2) 0 ∷ get_or bytes (at + 3) 0 ∷ []
+    → take 4 (drop at bytes) ≡ get_or bytes at 0 ∷ get_or bytes (at + 1) 0 ∷ get_or bytes (at + 2) 0 ∷ get_or bytes (at + 3) 0
+    ∷ []
 take_four bytes at h =
     rw (
       drop-cons bytes at 0 (omega arith),
@@ -192,7 +194,8 @@ block_back i t b len small e =
     let ei : number_at b 0 ≡ i = eqb-true (number_at b 0) i
     (and_left (eqb (number_at b 0) i) (eqb (number_at b 4) t && check_holds b) e) in
     let et : number_at b 4 ≡ t = eqb-true (number_at b 4) t (and_left (eqb (number_at b 4) t) (check_holds b) r1) in
-    let ea : number_at b 504 ≡ A = eqb-true (number_at b 504) A (and_left (eqb (number_at b 504) A) (eqb (number_at b 508) B) r2) in
+    let ea : number_at b 504 ≡ A = eqb-true (number_at b 504) A (and_left (eqb (number_at b 504) A) (eqb (number_at b 508) B)
+    r2) in
     let eb : number_at b 508 ≡ B = eqb-true (number_at b 508) B
     (and_right (eqb (number_at b 504) A) (eqb (number_at b 508) B) r2) in
     let f0 : bytes4 i ≡ take 4 b = ap bytes4 (sym ei) ∙ bytes_back b 0 small (omega arith) in

@@ -54,7 +54,8 @@ module _ (image : List ℕ) (k : ℕ) where
   number_out h =
       let past : (y : ℕ) → get_or (body_of image) (4 * k + y) 0 ≡ 0 =
       λ y. get_or-eq_default (body_of image) 0 {n = 4 * k + y} (omega (arith, body_length image)) in
-      let z : get_or (body_of image) (4 * k) 0 ≡ 0 = ap (λ (x : ℕ). get_or (body_of image) x 0) (sym (add-zero (4 * k))) ∙ past 0 in
+      let z : get_or (body_of image) (4 * k) 0 ≡ 0 = ap (λ (x : ℕ). get_or (body_of image) x 0) (sym (add-zero (4 * k)))
+      ∙ past 0 in
       omega (arith, z, past 1, past 2, past 3)
 
   pub stored_in : (number : ℕ) → k / 124 < total_of image
@@ -72,7 +73,8 @@ module _ (image : List ℕ) (k : ℕ) where
   stored_length number =
       ⊎_elim
       (λ (lo : k / 124 < total_of image).
-      ap length (stored_in number lo) ∙ replaced_length image (place_of k) (bytes4 number) (omega (arith, bytes4_length number)))
+      ap length (stored_in number lo) ∙ replaced_length image (place_of k) (bytes4 number)
+      (omega (arith, bytes4_length number)))
       (λ (hi : total_of image ≤ k / 124). ap length (stored_out number hi))
       (order (k / 124) (total_of image))
 
@@ -126,5 +128,6 @@ module _ (image : List ℕ) (k : ℕ) where
         ap body_of (stored_in number inside)
         ∙ ext_get_or 0 (body_of new) (replaced (body_of image) (4 * k) (bytes4 number))
         (body_length new ∙ ap (λ (x : ℕ). 496 * x) t ∙ sym (body_length image)
-        ∙ sym (replaced_length (body_of image) (4 * k) (bytes4 number) (omega (arith, bytes4_length number, body_length image))))
+        ∙ sym (replaced_length (body_of image) (4 * k) (bytes4 number)
+        (omega (arith, bytes4_length number, body_length image))))
         (λ j h. byte j (omega (arith, body_length new)))

@@ -10,7 +10,8 @@ use native.Mathlib.Numerals.{add-one}
 use native.Mathlib.Omega.{arith}
 use lib.ListN.{length, get_or, set, take, drop, replicate, length-append, length-replicate, length-drop, length-set}
 use lib.ListN.{replicate-append-replicate, get_or-append}
-use lib.Seq.{ext_get_or, take-suc, take_all, length-take-le, get_or-take, get_or-drop, get_or-append-add, get_or-set_same, get_or-set_other}
+use lib.Seq.{ext_get_or, take-suc, take_all, length-take-le, get_or-take, get_or-drop, get_or-append-add, get_or-set_same}
+use lib.Seq.{get_or-set_other}
 use borrow.Rule.Slice.PartMut.{mid_of, put_mid, same_len_mid}
 use Rattle.laws.proofs.Bools.{order, not_true}
 use Rattle.block_bytes.specs.Numbers.{bytes4, number_at}

@@ -83,7 +83,8 @@ read_more e es image at = by (turn_after image at e).state.stop refl
         → (turn_after image at e).entry ∷ read_entries es image (turn_after image at e).state
         ≡ cond b ((turn_after image at e).entry ∷ es) ((turn_after image at e).entry
         ∷ read_entries es image (turn_after image at e).state)
-    by true s = ap (λ (l : List Entry). (turn_after image at e).entry ∷ l) (entries_stay es image (turn_after image at e).state s)
+    by true s = ap (λ (l : List Entry). (turn_after image at e).entry ∷ l)
+        (entries_stay es image (turn_after image at e).state s)
     by false s = refl
 
 -- the entries before i are read, and the rest are as they were

@@ -172,7 +172,8 @@ module _ (s : State) (image : List ℕ) (n_high : s.blocks ≤ 262144) (c_high :
       let a1 : 4 * (3 + 3 * c) ≡ 4 * 0 + length (head_bytes ++ E) = omega arith in
       let a2 : 4 * end ≡ 4 * 0 + length ((head_bytes ++ E) ++ W) = omega arith in
       ap₂ (λ (x : List ℕ) (y : ℕ). replaced (replaced x y W) (4 * end) Z) e a1
-      ∙ ap₂ (λ (x : List ℕ) (y : ℕ). replaced x y Z) (replaced_more (body_of image) (4 * 0) (head_bytes ++ E) (omega arith) W) a2
+      ∙ ap₂ (λ (x : List ℕ) (y : ℕ). replaced x y Z) (replaced_more (body_of image) (4 * 0) (head_bytes ++ E) (omega arith) W)
+      a2
       ∙ replaced_more (body_of image) (4 * 0) ((head_bytes ++ E) ++ W) (omega arith) Z
       ∙ replaced_all (body_of image) (((head_bytes ++ E) ++ W) ++ Z) (omega arith)
 
@@ -305,7 +306,8 @@ module _ (role n spare : ℕ) (map : List ℕ) (entries : List Entry) (scratch i
       let l = save_fits_to n spare (length entries) (length map) (length scratch) p.lengths in
       let ef : first ≡ cursor 3 false = ap (λ (b : Bool). cursor 3 (not b)) z in
       let ei : headed_image ≡ with_number (with_number (with_number image 0 n) 1 spare) 2 (length entries % 4294967296) =
-      ap (λ (b : Bool). cond b (with_number (with_number (with_number image 0 n) 1 spare) 2 (length entries % 4294967296)) image)
+      ap (λ (b : Bool). cond b (with_number (with_number (with_number image 0 n) 1 spare) 2 (length entries % 4294967296))
+      image)
       z in
       ap₂ (λ (f : Cursor) (i : List ℕ). rest_image map (entries_cursor entries f i) (entries_image entries f i)) ef ei
       ∙ accepted_image state image l.limits.limit l.count.few l.limits.words p.exact

@@ -192,7 +192,8 @@ module _ (lo : ℕ) where
       (λ (p : part_taken lo scratch e ≡ true).
       let next : List ℕ = marked scratch (part_from lo e - lo) (part_to lo e - part_from lo e) true in
       let on = over_on (window lo false) scratch e es next (step_releases (window lo false) scratch e t p) in
-      let long : length next ≡ length scratch = marked_length scratch (part_from lo e - lo) (part_to lo e - part_from lo e) true in
+      let long : length next ≡ length scratch = marked_length scratch (part_from lo e - lo) (part_to lo e - part_from lo e)
+      true in
       let rest : coverings es (lo + b) + one (free next b) ≡ one (free (scratch_over es (window lo false) next) b) =
       over_adds es next (ap (λ (x : Window). x.stop) (sym on.0) ∙ o) b (omega arith) k in
       let m = moved lo scratch e t p b h k in

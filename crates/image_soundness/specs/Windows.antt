@@ -3,7 +3,8 @@
 -- copied to the scratch, and of each extent the part that lies there is released, which must be taken; at the end all blocks
 -- of the window below n, and no others, must be free. `tested_sound` (proofs/Tested.antt) says that this is soundness.
 -- Assumes nothing.
-use Rattle.std.specs.Prelude.{◌≡◌, Bool, true, false, ◌&&◌, cond, List, [], ◌∷◌, ℕ, zero, suc, ◌+◌, ◌-◌, ◌*◌, ◌/◌, min, max, eqb, leb, ltb, length, get_or, replicate}
+use Rattle.std.specs.Prelude.{◌≡◌, Bool, true, false, ◌&&◌, cond, List, [], ◌∷◌, ℕ, zero, suc, ◌+◌, ◌-◌, ◌*◌, ◌/◌, min, max}
+use Rattle.std.specs.Prelude.{eqb, leb, ltb, length, get_or, replicate}
 use Rattle.std.proofs.Math.Bool.{not}
 use Rattle.map_blocks.specs.Blocks.{all}
 use Rattle.map_blocks.specs.Maps.{marked, in_state, is_fresh}
@@ -151,7 +152,8 @@ module _ (map : List ℕ) (es : List Entry) (scratch : List ℕ) (n : ℕ) (star
   unfoldable pub tested : Bool
   unfolding tally_of first_window window_count windows_of
   tested =
-      not (windows_of map es scratch n (window_count n (first_window (tally_of es n start))) (first_window (tally_of es n start))
+      not (windows_of map es scratch n (window_count n (first_window (tally_of es n start)))
+      (first_window (tally_of es n start))
       ).stop
 
   unfoldable pub tested_scratch : List ℕ

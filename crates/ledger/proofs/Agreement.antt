@@ -65,7 +65,8 @@ pub record Matches (n : ℕ) (l : List Sheet) (card : List ℕ) : Type 0 where
   pub few_sheets : length l ≤ 1024
   pub sound : Sound n l
   pub room : length card ≡ 512 * n
-  pub blocks : (i p : ℕ) → p < length_in (sheet_at l i) → block_of card (start_in (sheet_at l i) + p) ≡ block_in i p (place_at l i p)
+  pub blocks : (i p : ℕ) → p < length_in (sheet_at l i) → block_of card (start_in (sheet_at l i) + p)
+      ≡ block_in i p (place_at l i p)
 
 -- ---- what the rows read of it
 
@@ -83,7 +84,8 @@ free_map n l = fun_ext (λ b. go b (ltb b (words_for n * 64)) refl)
     go b true e = map_free (free_in n l) (words_for n) b (ltb-true b (words_for n * 64) e)
     go b false e =
         let past : words_for n * 64 ≤ b = ltb-false b (words_for n * 64) e in
-        past_words (free_in n l) (words_for n) b past ∙ sym (ap (λ (t : Bool). t && eqb (cover l b) 0) (le-ltb b n (omega arith)))
+        past_words (free_in n l) (words_for n) b past ∙ sym (ap (λ (t : Bool). t && eqb (cover l b) 0)
+        (le-ltb b n (omega arith)))
 
 -- what a view shows of the sheet's places, and of its wing
 pub record Places : Type 0 where

@@ -27,7 +27,8 @@ use Rattle.catalogue_standings.specs.declared.Answer.TheVariants.{Done}
 use Rattle.roles.specs.Roles as roles
 use Rattle.roles.specs.Roles.{turned_away}
 use Rattle.refusals.specs.Effects as effects
-use Rattle.refusals.specs.Effects.{entry_of, out_of, refusal_out, run_verdict, unsearched_verdict, reserve_verdict, reserve_start}
+use Rattle.refusals.specs.Effects.{entry_of, out_of, refusal_out, run_verdict, unsearched_verdict, reserve_verdict}
+use Rattle.refusals.specs.Effects.{reserve_start}
 use Rattle.refusals.specs.Effects.{accept_verdict}
 use Rattle.refusals.specs.Guides.{found_by}
 use Rattle.refusals.specs.Lent.{Lent, no_card}

@@ -188,14 +188,16 @@ module _ (n : ℕ) (l : List Sheet) (card : List ℕ) (k : Matches n l card) whe
   unfolding closed_map
   map_closed =
       ap (first_taken (catalogue.held all) n) (map_length (free_in n l) (words_for n))
-      ∙ map_same (λ b. leb (catalogue.held all) b && ltb b n) (free_in n (closed_in l)) (words_for n) (λ b h. sym (free_closed b))
+      ∙ map_same (λ b. leb (catalogue.held all) b && ltb b n) (free_in n (closed_in l)) (words_for n)
+      (λ b h. sym (free_closed b))
 
   pub few_held : catalogue.held all ≤ n
   few_held = held_fits (saved_of (state_of n l card)) sound_before_lem
 
   -- a sheet of the ledger, where it goes
   here : (i : ℕ) → i < length l → Member (entry_in (sheet_at l i)) all
-  here i h = subst (λ (e : Entry). Member e all) (entry_at_lem l i h) (at_member all i (omega (arith, length-map l entry_in, h)))
+  here i h = subst (λ (e : Entry). Member e all) (entry_at_lem l i h)
+      (at_member all i (omega (arith, length-map l entry_in, h)))
 
   inside_then : (i : ℕ) → i < length l → 1 ≤ length_in (sheet_at l i)
       → start_in (moved l (sheet_at l i)) + length_in (sheet_at l i) ≤ n
@@ -227,7 +229,8 @@ module _ (n : ℕ) (l : List Sheet) (card : List ℕ) (k : Matches n l card) whe
       let x : Sheet = sheet_at l i in
       let s : ℕ = below_in l (start_in x) in
       let f : Fine n (sheet_at l i) = k.sound.fine i in
-      let len : length_in (moved l (sheet_at l i)) ≡ length_in (sheet_at l i) = same_length (below_in l (start_in (sheet_at l i)))
+      let len : length_in (moved l (sheet_at l i)) ≡ length_in (sheet_at l i) = same_length
+      (below_in l (start_in (sheet_at l i)))
       (sheet_at l i) in
       let inside : start_in (moved l (sheet_at l i)) + length_in (sheet_at l i) ≤ n =
       ⊎_elim
@@ -259,9 +262,11 @@ module _ (n : ℕ) (l : List Sheet) (card : List ℕ) (k : Matches n l card) whe
       let x : Sheet = sheet_at l i in
       let lt : i < length l = listed_here l i (omega arith) in
       let s : start_in (moved l (sheet_at l i)) ≡ below all (start_in (sheet_at l i)) =
-      start_of (below_in l (start_in (sheet_at l i))) (sheet_at l i) (omega arith) ∙ sym (same_below l (start_in (sheet_at l i))) in
+      start_of (below_in l (start_in (sheet_at l i))) (sheet_at l i) (omega arith)
+      ∙ sym (same_below l (start_in (sheet_at l i))) in
       ap (λ (b : ℕ). block_of (closed_card all card) (b + p)) s
-      ∙ closed_block all card (placed (saved_of (state_of n l card)) sound_before_lem).apart (entry_in (sheet_at l i)) (here i lt) p h
+      ∙ closed_block all card (placed (saved_of (state_of n l card)) sound_before_lem).apart (entry_in (sheet_at l i))
+      (here i lt) p h
       (omega (arith, k.room, (k.sound.fine i).inside)) (omega (arith, k.room, few_held))
       ∙ k.blocks i p h
 
@@ -277,7 +282,8 @@ module _ (n : ℕ) (l : List Sheet) (card : List ℕ) (k : Matches n l card) whe
   }
     where
       at-sheet : (i p : ℕ) → p < length_in (moved l (sheet_at l i))
-          → block_of (closed_card all card) (start_in (sheet_at (closed_in l) i) + p) ≡ block_in i p (place_at (closed_in l) i p)
+          → block_of (closed_card all card) (start_in (sheet_at (closed_in l) i) + p)
+          ≡ block_in i p (place_at (closed_in l) i p)
       at-sheet i p h =
           let len : length_in (moved l (sheet_at l i)) ≡ length_in (sheet_at l i) =
           same_length (below_in l (start_in (sheet_at l i))) (sheet_at l i) in

@@ -83,7 +83,8 @@ sum_none : (s m : ℕ) → sum (λ b. 0) s m ≡ 0
 sum_none s zero = refl
 sum_none s (suc m) = omega (arith, sum_none (suc s) m)
 
-run_step : (a k s : ℕ) (t : Bool) → in_run a k s ≡ t → cond t 1 0 + min s (a + k) + min (suc s) a ≡ min (suc s) (a + k) + min s a
+run_step : (a k s : ℕ) (t : Bool) → in_run a k s ≡ t → cond t 1 0 + min s (a + k) + min (suc s) a ≡ min (suc s) (a + k)
+    + min s a
 run_step a k s true e = let h = in_run_lem a k s e in omega arith
 run_step a k s false e = go (ltb s a) refl
   where

@@ -190,7 +190,8 @@ module _ (n : ℕ) (l : List Sheet) (card : List ℕ) (k : Matches n l card) (i 
       let st : Step (state_of n l card) call (response_of e) (kept_after e) =
       subst (λ (x : Kept). Step x call (response_of e) (kept_after e)) at (refl, refl) in
       answered n l card k call (response_of e) (kept_after e) st
-      ∙ ap (λ (v : Verdict). settle v (done [] (bytes_of (place_at l i p))) (refused_with buffer (lowest_blank (view_in n l i))))
+      ∙ ap (λ (v : Verdict). settle v (done [] (bytes_of (place_at l i p)))
+      (refused_with buffer (lowest_blank (view_in n l i))))
       (show_accepted n l i s xs e-at p lp m.role may-show buffer len)
       ∙ ap (λ (x : Place). done [] (bytes_of x)) place_of
 
@@ -341,7 +342,8 @@ module _ (n c : ℕ) (card : List ℕ) (limits : Limits n c) (room : length card
       → Claim n c (calls_in made) (replies_in made es) t × (last ≡ own_of t)
   every_list_with_summary m b built made es t last handed-on listed-so runs =
       let own = own_runs (fresh_state n c card) made last es t runs
-      (subst (λ (x : List ℕ). HandedOn x (fresh_state n c card) made last) (built_own m (fresh_state n c card) b built) handed-on)
+      (subst (λ (x : List ℕ). HandedOn x (fresh_state n c card) made last) (built_own m (fresh_state n c card) b built)
+      handed-on)
       listed-so in
       (every_list made es t own.0 runs, own.1)
 

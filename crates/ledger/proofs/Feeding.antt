@@ -250,7 +250,8 @@ module _ (role : ℕ) (s : Kept) (b : Beside) where
 abbrev pub heard_from : Kept → Made → List Call
 heard_from s m = heard_of m.manner m.call (lists.end_of s m).outcome.answer
 
-pub heard_one : (s : Kept) (m : Made) → Listed Long s m → Runs s (heard_from s m) (replies_to (lists.end_of s m) (heard_from s m))
+pub heard_one : (s : Kept) (m : Made) → Listed Long s m → Runs s (heard_from s m)
+    (replies_to (lists.end_of s m) (heard_from s m))
     (kept_after (lists.end_of s m))
 heard_one s m h = heard_once m.manner.role s m.beside m.manner.guided h.summary m.call h.joins h.scratch
 

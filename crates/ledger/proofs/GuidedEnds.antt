@@ -51,7 +51,8 @@ module _ (s : Kept) (limits : List ℕ) (sheet k : ℕ) where
     pub reserve-takes : (p : Placement) → end_on turned guided s b sheet (reserve limits k p)
         ≡ takes (effects.reserve_verdict q k p) (effects.reserve_start q k p)
         (cond guided (with_summary (reserve_summary_by turned guided guide s limits sheet k p) b) b)
-    unfolding effects.reserve_out effects.reserve_map effects.reserve_card effects.taken_out effects.taken_map effects.taken_card
+    unfolding effects.reserve_out effects.reserve_map effects.reserve_card effects.taken_out effects.taken_map
+        effects.taken_card
     reserve-takes p = refl
 
     pub accept-takes : (start : ℕ) → end_on turned guided s b sheet (accept limits start k)

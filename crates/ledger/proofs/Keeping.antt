@@ -127,7 +127,8 @@ module _ (n : ℕ) (l : List Sheet) (card : List ℕ) (k : Matches n l card) (i 
       }
 
   -- sheet i becomes one that has the same places, the card as it was
-  pub keep_places : (x : Sheet) → Sound n (set l i x) → start_in x ≡ start_in (sheet_at l i) → length_in x ≡ length_in (sheet_at l i)
+  pub keep_places : (x : Sheet) → Sound n (set l i x) → start_in x ≡ start_in (sheet_at l i) → length_in x
+      ≡ length_in (sheet_at l i)
       → places_in x ≡ places_in (sheet_at l i)
       → Changed n l i x (spare_in n l) (map_in n l) card
   keep_places x ok es el ep =
@@ -161,7 +162,8 @@ module _ (n : ℕ) (l : List Sheet) (card : List ℕ) (k : Matches n l card) (i 
 
   module _ (s : ℕ) (ps : List Place) (was : sheet_at l i ≡ Open s ps) where
     had : (p : ℕ) → p < length ps → block_of card (s + p) ≡ block_in i p (get_or ps p Blank)
-    had p = subst (λ (y : Sheet). p < length_in y → block_of card (start_in y + p) ≡ block_in i p (get_or (places_in y) p Blank)) was
+    had p = subst (λ (y : Sheet). p < length_in y → block_of card (start_in y + p)
+        ≡ block_in i p (get_or (places_in y) p Blank)) was
         (k.blocks i p)
 
     held-before : length_in (sheet_at l i) ≡ length ps
@@ -210,7 +212,8 @@ module _ (n : ℕ) (l : List Sheet) (card : List ℕ) (k : Matches n l card) (i 
         outside : (b : ℕ) → in_run at m b ≡ false → covers x b ≡ covers (Open s ps) b
         outside b e = go (in_run s (length ps) b) refl
           where
-            two : (s ≤ b) × (b < s + length (ps ++ replicate m Blank)) → (b < at) ⊎ (at ≤ b) → in_run s (length ps) b ≡ false → ⊥
+            two : (s ≤ b) × (b < s + length (ps ++ replicate m Blank)) → (b < at) ⊎ (at ≤ b) → in_run s (length ps) b ≡ false
+                → ⊥
             two r (inl h) q = clash (in_run s (length ps) b) (run_in s (length ps) b r.0 h) q
             two r (inr h) q = clash (in_run at m b) (run_in at m b h (omega (arith, r.1, wide))) e
 

@@ -17,7 +17,8 @@ use Rattle.refusals.specs.Table.{Ask, on, rows_for, table_of}
 use Rattle.ledger.specs.Calls as book
 use Rattle.ledger.specs.Calls.{turned_in}
 use Rattle.ledger.specs.Ledger.{Place, Blank, Payload, Sheet, Absent, Paused, PausedWith, Open, Complete, standing_in}
-use Rattle.ledger.specs.Ledger.{held, length_in, places_in, is_blank, bytes_of, sheet_at, place_at, spare_in, view_by, verdict_in}
+use Rattle.ledger.specs.Ledger.{held, length_in, places_in, is_blank, bytes_of, sheet_at, place_at, spare_in, view_by}
+use Rattle.ledger.specs.Ledger.{verdict_in}
 use Rattle.ledger.specs.Ledger.{listed}
 use Rattle.ledger.proofs.Cover.{held_set, spare_and_held}
 use Rattle.ledger.proofs.Rows.{Never, never_listed}
@@ -40,7 +41,8 @@ pub full : (l : List Sheet) (i s : ℕ) (ps : List Place) → sheet_at l i ≡ O
     → map Payload (map bytes_of ps) ≡ ps
 full l i s ps was h =
     let every : all (λ p. not (is_blank (get_or ps p Blank))) 0 (length ps) ≡ true =
-    subst (λ (x : Sheet). all (λ p. not (is_blank (get_or (places_in x) p Blank))) 0 (length_in x) ≡ true) was (not-false _ h) in
+    subst (λ (x : Sheet). all (λ p. not (is_blank (get_or (places_in x) p Blank))) 0 (length_in x) ≡ true) was
+    (not-false _ h) in
     refilled ps (λ p lp. not-true-is (is_blank (get_or ps p Blank))
     (all_elim (λ p. not (is_blank (get_or ps p Blank))) 0 (length ps) every p (omega arith) (omega arith)))
   where

@@ -47,7 +47,8 @@ module _ (n : ℕ) (l l' : List Sheet) where
   pub map_given : (s k : ℕ) → s + k ≤ n → ((b : ℕ) → in_run s k b ≡ true → (b < n) × (cover l' b ≡ 0))
       → ((b : ℕ) → in_run s k b ≡ false → cover l' b ≡ cover l b)
       → marked (map_in n l) s k true ≡ map_in n l'
-  map_given s k inside given others = marked_map (free_in n l) (free_in n l') (words_for n) s k true (λ b. go b (in_run s k b) refl)
+  map_given s k inside given others = marked_map (free_in n l) (free_in n l') (words_for n) s k true
+      (λ b. go b (in_run s k b) refl)
     where
       go : (b : ℕ) (t : Bool) → in_run s k b ≡ t → cond t true (free_in n l b) ≡ free_in n l' b
       go b true e =

@@ -108,7 +108,8 @@ search_rows told zero false false true = (λ z. omega (arith, z), λ z. omega (a
 search_rows told zero false false false = (λ z. omega (arith, zero, z), λ z. omega (arith, zero, z))
 
 -- survey, build and check
-one_row : (told : Answer) → number_of told ≡ 0 → (a : Bool) → Never (settle (first_of (row 21 a ∷ row 1 false ∷ [])) told Refused)
+one_row : (told : Answer) → number_of told ≡ 0 → (a : Bool) → Never
+    (settle (first_of (row 21 a ∷ row 1 false ∷ [])) told Refused)
 unfolding first_of
 one_row told zero true = (λ z. omega (arith, z), λ z. omega (arith, z))
 one_row told zero false = (λ z. omega (arith, zero, z), λ z. omega (arith, zero, z))
@@ -257,7 +258,8 @@ module _ (n : ℕ) (l : List Sheet) (card : List ℕ) (k : Matches n l card) whe
       let rest : Bool = not (eqb (length image) (512 * frames_for n (length (map entry_in l)))) in
       subst (λ (f : Bool). Never (saved_by (row_number (first_of (row 21 t ∷ row 1 (not f) ∷ row 4 (not (sound (saved_of s)))
       ∷ row 12 rest ∷ []))))) (sym whole)
-      (subst (λ (f : Bool). Never (saved_by (row_number (first_of (row 21 t ∷ row 1 false ∷ row 4 (not f) ∷ row 12 rest ∷ [])))))
+      (subst (λ (f : Bool). Never (saved_by (row_number (first_of
+      (row 21 t ∷ row 1 false ∷ row 4 (not f) ∷ row 12 rest ∷ [])))))
       (sym (kept_sound n l card k)) (save_rows_lem t rest))
 
   -- ---- every call

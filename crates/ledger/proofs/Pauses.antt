@@ -135,7 +135,8 @@ module _ (n : ℕ) (l : List Sheet) (i s : ℕ) (xs : List (List ℕ)) where
         (done [] (bytes_of (get_or (map Payload xs) p Blank))))
     unfolding deed_in
     shows role p buffer =
-        ap (λ (v : Verdict). settle v (done [] (bytes_of (place_at l i p))) (refused_with buffer (lowest_blank (view_in n l i))))
+        ap (λ (v : Verdict). settle v (done [] (bytes_of (place_at l i p)))
+        (refused_with buffer (lowest_blank (view_in n l i))))
         (show-verdict role p buffer)
         ∙ go (turned_away role roles.show) (leb (length xs) p || not (eqb (length buffer) 496))
       where

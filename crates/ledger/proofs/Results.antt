@@ -44,7 +44,8 @@ tells n l c v = settle v (done (deed_in n l c).values (deed_in n l c).left)
 -- what a call comes to, by its verdict
 pub record Result (n : ℕ) (l : List Sheet) (card : List ℕ) (c : Call) (v : Verdict) : Type 0 where
   pub card_left : List ℕ
-  pub state_left : state_on (end_of (state_of n l card) c) ≡ state_of n (settle v (deed_in n l c).ledger (λ number. l)) card_left
+  pub state_left : state_on (end_of (state_of n l card) c) ≡ state_of n (settle v (deed_in n l c).ledger (λ number. l))
+      card_left
   pub kept_left : Matches n (settle v (deed_in n l c).ledger (λ number. l)) card_left
   pub told_so : told_by (response_of (end_of (state_of n l card) c)) ≡ tells n l c v
   pub sum : held (settle v (deed_in n l c).ledger (λ number. l)) + settle v (deed_in n l c).returns (λ number. 0)
@@ -86,7 +87,8 @@ module _ (n : ℕ) (l : List Sheet) (card : List ℕ) where
         → SearchedBy n l c (tells n l c (verdict_in n l c)) → Result n l card c (verdict_in n l c)
     result-of c ends is zero accept refuse sought = go (verdict_in n l c) refl sought
       where
-        says_all : (a : Answer) (buffer : List ℕ) (number : ℕ) (values : List ℕ) → (number_of a ≡ number) × (values_of a ≡ values)
+        says_all : (a : Answer) (buffer : List ℕ) (number : ℕ) (values : List ℕ) → (number_of a ≡ number)
+            × (values_of a ≡ values)
             → ◌≡◌ {A = Told} (record { number = number_of a; values = values_of a; buffer = buffer })
             (record { number = number; values = values; buffer = buffer })
         says_all a buffer number values h = λ t. record { number = h.0 t; values = h.1 t; buffer = buffer }
@@ -170,7 +172,8 @@ module _ (n : ℕ) (l : List Sheet) (card : List ℕ) where
           (set (map entry_in l) i entry) card_left (deed_in n l (on role i a)).left
       pub says_so : (number_of answer ≡ 0) × (values_of answer ≡ (deed_in n l (on role i a)).values)
       -- the blocks that it has now, and what is noted of its places and of no other sheet's
-      pub moved : length_in sheet + (deed_in n l (on role i a)).returns ≡ length_in (sheet_at l i) + (deed_in n l (on role i a)).grants
+      pub moved : length_in sheet + (deed_in n l (on role i a)).returns ≡ length_in (sheet_at l i)
+          + (deed_in n l (on role i a)).grants
       pub noted_here : (p : ℕ) (m : Place) → Has p m (sheet_at l i) → Has p (noted i p m (note_of (on role i a))) sheet
       pub noted_there : (j p : ℕ) (m : Place) → j ≢ i → noted j p m (note_of (on role i a)) ≡ m
 

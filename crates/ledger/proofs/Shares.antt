@@ -20,7 +20,8 @@ use Rattle.card.specs.Calls.{Kept}
 use Rattle.card.specs.Public.{kept_after}
 use Rattle.ledger.specs.Calls.{Call, on, close}
 use Rattle.ledger.specs.Ledger.{Blank, Sheet, Absent, Paused, PausedWith, Open, Complete, length_in, sheet_at, held}
-use Rattle.ledger.specs.Ledger.{held_in, put_in, grow_in, complete_in, pause_in, resume_in, change_in, bytes_of, listed, rows_in}
+use Rattle.ledger.specs.Ledger.{held_in, put_in, grow_in, complete_in, pause_in, resume_in, change_in, bytes_of, listed}
+use Rattle.ledger.specs.Ledger.{rows_in}
 use Rattle.ledger.specs.Ledger.{verdict_in}
 use Rattle.ledger.specs.Ledger.{start_in, below_in, restart_in, deed_in, step_in, after, begun, closed_in}
 use Rattle.ledger.specs.Lists.{Made, end_of, ByAny, calls_in, replies_to, fresh_state}

@@ -18,7 +18,8 @@ use Rattle.refusals.specs.Table.{Ask, misplaced, table_of, verdict_of}
 use Rattle.catalogue_standings.proofs.Rows.{clear, says}
 use Rattle.card.specs.Calls.{told}
 use Rattle.ledger.specs.Calls.{Call, on, turned_in}
-use Rattle.ledger.specs.Ledger.{Blank, Sheet, standing_in, length_in, places_in, is_blank, bytes_of, sheet_at, place_at, spare_in}
+use Rattle.ledger.specs.Ledger.{Blank, Sheet, standing_in, length_in, places_in, is_blank, bytes_of, sheet_at, place_at}
+use Rattle.ledger.specs.Ledger.{spare_in}
 use Rattle.ledger.specs.Ledger.{view_in, listed, rows_in, verdict_in, Unnoted, Deed, leaves, ◌and◌, fills, deed_in}
 use Rattle.ledger.specs.Claim.{entry_in, note_of}
 use Rattle.ledger.proofs.Plain.{End, ending, end_of}

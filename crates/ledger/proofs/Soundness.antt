@@ -44,7 +44,8 @@ module _ (n : ℕ) (l : List Sheet) (card : List ℕ) (k : Matches n l card) whe
 
   below : (b : ℕ) → b < n → in_state (map_in n l) (eqb (saved.coverings (map entry_in l) b) 0) b ≡ true
   below b lt =
-      let here : free (map_in n l) b ≡ eqb (cover l b) 0 = reads b ∙ ap (λ (t : Bool). t && eqb (cover l b) 0) (lt-ltb b n lt) in
+      let here : free (map_in n l) b ≡ eqb (cover l b) 0 = reads b
+      ∙ ap (λ (t : Bool). t && eqb (cover l b) 0) (lt-ltb b n lt) in
       ap (λ (c : ℕ). in_state (map_in n l) (eqb c 0) b) (same_cover l b)
       ∙ ap (λ (t : Bool). cond (eqb (cover l b) 0) t (not t)) here ∙ as_it_is (eqb (cover l b) 0)
 

@@ -38,7 +38,8 @@ module _ (n : ℕ) (l : List Sheet) (card : List ℕ) (k : Matches n l card) (ro
     pub some : 0 < m
     pub fits : fit (free_in n l) 0 n 1 m start ≡ true
 
-  pub shown : leb (length l) i ≡ false → is_paused (standing_in (sheet_at l i)) ≡ false → is_open (standing_in (sheet_at l i)) ≡ false
+  pub shown : leb (length l) i ≡ false → is_paused (standing_in (sheet_at l i)) ≡ false → is_open (standing_in (sheet_at l i))
+      ≡ false
       → is_complete (standing_in (sheet_at l i)) ≡ false → eqb m 0 ≡ false → fit (free_in n l) 0 n 1 m start ≡ true → Shown
   shown h2 h6 h7 h8 h3 fits = record {
     inside = leb-false (length l) i h2;

@@ -73,7 +73,8 @@ module _ (n : ℕ) (l : List Sheet) (card : List ℕ) (k : Matches n l card) (i 
         ≡ cond (in_term (term_in xs) day) (done [] (get_or xs p [])) outside
     unfolding deed_in
     answers =
-        ap (λ (v : Verdict). settle v (done [] (bytes_of (place_at l i p))) (refused_with buffer (lowest_blank (view_in n l i))))
+        ap (λ (v : Verdict). settle v (done [] (bytes_of (place_at l i p)))
+        (refused_with buffer (lowest_blank (view_in n l i))))
         (by-term ∙ ap (λ (t : Term). cond (not (in_term t day)) (refused 20) accepted) first-place)
         ∙ go (in_term (term_in xs) day)
       where
@@ -126,7 +127,8 @@ module _ (s : Kept) (m other : Manner) (b : Beside) (sheet p : ℕ) (may-show : 
       telling s b (told s.shape (settle v Done Refused))
       (settle v (payload_of (block_of s.card ((entry_at s.entries sheet).start + p))) (λ number. buffer))
 
-  done_accepted : number_of (effects.show_dated_answer q p date buffer) ≡ 0 → effects.show_dated_verdict q p date buffer ≡ accepted
+  done_accepted : number_of (effects.show_dated_answer q p date buffer) ≡ 0 → effects.show_dated_verdict q p date buffer
+      ≡ accepted
   unfolding effects.show_dated_answer effects.show_dated_verdict table_of
   done_accepted h = go (effects.show_dated_verdict q p date buffer) refl h
     where

@@ -104,7 +104,8 @@ Beside18 n l c = Compared (verdict_in n l c) (verdict_before n l c)
 module _ (n : ℕ) (l : List Sheet) (card : List ℕ) (k : Matches n l card) (limits : List ℕ) (wide : Wide n limits)
     (role i : ℕ) where
   -- what was spare is within the limit
-  roomy : (m : ℕ) → leb (length l) i ≡ false → ltb (spare_in n l) m ≡ false → over_limit limits (wing_of i) (held_in l i) m ≡ false
+  roomy : (m : ℕ) → leb (length l) i ≡ false → ltb (spare_in n l) m ≡ false → over_limit limits (wing_of i) (held_in l i) m
+      ≡ false
   roomy m inside enough =
       let below : i < length l = leb-false (length l) i inside in
       let few : m ≤ spare_in n l = ltb-false (spare_in n l) m enough in
@@ -221,7 +222,8 @@ module _ (n c : ℕ) (card : List ℕ) (limits : Limits n c) (room : length card
 
   pub next_number : (told_of (end_of t next)).number ≡ row_number (verdict_in n ledger call)
   next_number =
-      let step = subst (λ (calls : List Call). plain.Runs t calls (replies_to (end_of t next) calls) (kept_after (end_of t next)))
+      let step = subst (λ (calls : List Call). plain.Runs t calls (replies_to (end_of t next) calls)
+      (kept_after (end_of t next)))
       fed-as (fed_one t next listed-so) in
       ap (λ (x : Told). x.number) (told_after left call (response_of (end_of t next)) step.0 step.1)
       ∙ told_number (verdict_in n ledger call) _ _ refl (λ k. refl)

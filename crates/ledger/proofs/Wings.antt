@@ -115,7 +115,8 @@ past_wing : (l : List Sheet) (w j : ℕ) (x : Sheet) → 128 ≤ j → in_wing w
 past_wing l w j x past =
     ap (λ (r : List Sheet). take 128 r) (drop-set-add (128 * w) l j x) ∙ take-set-le 128 (drop (128 * w) l) j x past
 
-pub wing_more : (l : List Sheet) (i j : ℕ) (x : Sheet) (g : ℕ) → wing_of j ≡ wing_of i → length_in x ≤ length_in (sheet_at l i) + g
+pub wing_more : (l : List Sheet) (i j : ℕ) (x : Sheet) (g : ℕ) → wing_of j ≡ wing_of i → length_in x ≤ length_in (sheet_at l i)
+    + g
     → held_in (set l i x) j ≤ held_in l j + g
 wing_more l i j x g same h =
     let w : ℕ = wing_of i in

@@ -18,7 +18,8 @@ use Rattle.image_soundness.specs.Scratch.{scratch_words}
 use Rattle.image_soundness.specs.Sound as saved
 use Rattle.card.specs.Calls.{Kept, saved_state}
 use Rattle.card.specs.Public as public
-use Rattle.card.specs.Public.{Public, fresh, search, survey, save, load, build, check, kind_of, Manner, by_map, Beside, End, ends}
+use Rattle.card.specs.Public.{Public, fresh, search, survey, save, load, build, check, kind_of, Manner, by_map, Beside, End}
+use Rattle.card.specs.Public.{ends}
 use Rattle.card.specs.Public.{kept_after}
 use Rattle.ledger.specs.Calls.{Call, on, close}
 use Rattle.ledger.specs.Answers.{Told}

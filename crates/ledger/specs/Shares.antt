@@ -84,7 +84,8 @@ Next n c card P =
 
 -- Where the limit is not passed its number is that of the rows without 18, 0 if none of them holds.
 abbrev pub UnderLimit : ℕ → ℕ → List ℕ → Type 0
-UnderLimit n c card = Next n c card (λ ledger call number. Under ledger call → number ≡ row_number (verdict_before n ledger call))
+UnderLimit n c card = Next n c card (λ ledger call number. Under ledger call → number
+    ≡ row_number (verdict_before n ledger call))
 
 -- Under wide limits a call is accepted exactly if it was before. A refusal is the one that it was; or it is 18, and was one
 -- that found no room: 10, 11 or 17.

@@ -86,4 +86,5 @@ pub record AnyReserve (role : ℕ) (s : Kept) (b : Beside) (limits : List ℕ) (
   pub searched : Comes (by_map role) s limits sheet k p → Decided role s b limits sheet k p
   -- where group 0's longest is below k, the search gives no fit, whatever the map holds
   pub short : Comes (by_map role) s limits sheet k p → get_or b.summary 2 0 < k
-      → ends (by_summary role) s b (on sheet (reserve limits k p)) ≡ refused_end 10 s b (kind_of (on sheet (reserve limits k p)))
+      → ends (by_summary role) s b (on sheet (reserve limits k p))
+      ≡ refused_end 10 s b (kind_of (on sheet (reserve limits k p)))

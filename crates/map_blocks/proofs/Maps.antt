@@ -34,7 +34,8 @@ pub cut_word : (map : List ℕ) (from before i m : ℕ)
     → ((j : ℕ) → j < 64 → bit m j ≡ (leb from (i * 64 + j) && ltb (i * 64 + j) before))
     → (j : ℕ) → j < 64 → bit (bit_and (get_or map i 0) m) j ≡ in_window (free map) from before (i * 64 + j)
 cut_word map from before i m mask j l =
-    bit_and_lem (get_or map i 0) m j ∙ and_swap (bit (get_or map i 0) j) (bit m j) ∙ ap₂ ◌&&◌ (mask j l) (sym (free_bit map i j l))
+    bit_and_lem (get_or map i 0) m j ∙ and_swap (bit (get_or map i 0) j) (bit m j)
+    ∙ ap₂ ◌&&◌ (mask j l) (sym (free_bit map i j l))
 
 digit_lt : (a : Bool) → cond a 1 0 < 2
 digit_lt true = omega arith

@@ -51,7 +51,8 @@ module _ (g : ℕ → Bool) (from before : ℕ) where
 
   -- ---- runs within the window are fits
 
-  pub run_fit : (k t : ℕ) → 0 < k → all (in_window g from before) t k ≡ true → (from ≤ t) × (t + k ≤ before) × (all g t k ≡ true)
+  pub run_fit : (k t : ℕ) → 0 < k → all (in_window g from before) t k ≡ true → (from ≤ t) × (t + k ≤ before)
+      × (all g t k ≡ true)
   run_fit k t h e =
       let parts : (b : ℕ) → t ≤ b → b < t + k → in_window g from before b ≡ true =
       λ b l u. all_elim (in_window g from before) t k e b l u in

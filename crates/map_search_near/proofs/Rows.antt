@@ -135,6 +135,7 @@ module _ (map : List ℕ) (from : ℕ) where
       let first : First there (count_leading_zeros 64 there) = first_set there p b in
       let l : count_leading_zeros 64 there < 64 = first.within in
       let a : from % 64 ≤ count_leading_zeros 64 there = leb-true (from % 64) (count_leading_zeros 64 there)
-      (and_right (bit (get_or map (from / 64) 0) (count_leading_zeros 64 there)) (leb (from % 64) (count_leading_zeros 64 there))
+      (and_right (bit (get_or map (from / 64) 0) (count_leading_zeros 64 there))
+      (leb (from % 64) (count_leading_zeros 64 there))
       (sym (there_bit (count_leading_zeros 64 there) l) ∙ first.here)) in
       (omega arith, λ t u v. no_block t u (omega arith) (first.before (t - from / 64 * 64) (omega arith)))

@@ -32,7 +32,8 @@ fn past_taken(map: &[u64], c: u32, before: u32, step: u32) -> u32
 // How far behind a start the next is that lies behind the r free blocks from it on and the taken one after them.
 fn past_run(r: u32, step: u32) -> u32
     requires { (r ≤ 262144) × (0 < step) × (step ≤ 262144) }
-    ensures { (r < result) × (result ≤ r + step) × (result % step ≡ 0) × ((t : ℕ) → r < t → t < result → on_step step t ≡ false) }
+    ensures { (r < result) × (result ≤ r + step) × (result % step ≡ 0)
+        × ((t : ℕ) → r < t → t < result → on_step step t ≡ false) }
 {
     if r < step {
         return step;

@@ -142,7 +142,8 @@ words_on step (suc a) e =
     ap (λ (x : ℕ). x % step) p
     ∙ on_mod step (64 + a * 64) (on_add step 64 (a * 64) e ∙ mod_on step (a * 64) (words_on step a e))
 
-pub same_bits : (step m : ℕ) → 64 % step ≡ 0 → Marks (on_step step) 0 m → (t : ℕ) → on_step step t ≡ true → bit m (t % 64) ≡ true
+pub same_bits : (step m : ℕ) → 64 % step ≡ 0 → Marks (on_step step) 0 m → (t : ℕ) → on_step step t ≡ true → bit m (t % 64)
+    ≡ true
 same_bits step m e marks t on =
     let p : t / 64 * 64 + t % 64 ≡ t = omega arith in
     marks (t % 64) (omega arith) ∙ ap (on_step step) (zero-add (t % 64))

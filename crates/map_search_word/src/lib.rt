@@ -44,7 +44,8 @@ pub fn core_of(k: u32) -> u64
 pub fn scan_word(w: u64, base: u32, s: u32, k: u32, core: u64) -> Step
     requires { (base ≤ 262144) × (s ≤ base) × (s < k) × Core k core }
     ensures bounded { Bounded k (base + 64) result }
-    ensures by_index { (f : ℕ → Bool) → ((j : ℕ) → j < 64 → bit w j ≡ f (base + j)) → Carried f k base s → Stepped f k (base + 64) result }
+    ensures by_index { (f : ℕ → Bool) → ((j : ℕ) → j < 64 → bit w j ≡ f (base + j)) → Carried f k base s
+        → Stepped f k (base + 64) result }
 {
     let wanted = k - s;
     if has_all(w, span(0, smaller(wanted, 64))) {

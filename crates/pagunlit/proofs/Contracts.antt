@@ -1,7 +1,8 @@
 -- The contracts of the C library, of its functions themselves: what each ensures is the proposition that stands here, by
 -- computation (`..-contract`), and it asks nothing of its caller (`..-asks-nothing`). So a clause of the source that is made
 -- weaker, or one that asks something, is refused here. A call ensures what the public call of its name
--- (crate role_calls) does, with `reply_of` of the outcome for its reply; seal and check ensure what those of the crate block do.
+-- (crate role_calls) does, with `reply_of` of the outcome for its reply; seal and check ensure what those of the crate block
+-- do.
 -- Assumes nothing.
 use mathlib.Core.Path.{◌≡◌, refl}
 use mathlib.Core.List.{[]}
@@ -69,36 +70,45 @@ module _ {M : Type 1} {𝓤 : Ura M} (𝓛 : Logic 𝓤) (mem : Memory → SProp
   pagunlit_survey_contract κs a r t g = refl
 
   pub pagunlit_reserve_contract : Ensures 𝓤 reserve-function.ended (reserve-function.clauses 𝓛 mem run) (λ κs a r t.
-      LeavesMapEntriesCard reply_of (ends (by_map a.0) (kept a.1.0 a.1.1.0.now a.1.1.1.0.now a.1.1.1.1.0.now) nothing (on a.1.1.1.1.1.1.0 (reserve a.1.1.1.1.1.0.now a.1.1.1.1.1.1.1.0
+      LeavesMapEntriesCard reply_of (ends (by_map a.0) (kept a.1.0 a.1.1.0.now a.1.1.1.0.now a.1.1.1.1.0.now) nothing
+      (on a.1.1.1.1.1.1.0 (reserve a.1.1.1.1.1.0.now a.1.1.1.1.1.1.1.0
       plain))) r t.1.1.0.now t.1.1.1.0.now t.1.1.1.1.0.now)
   pagunlit_reserve_contract κs a r t g = refl
 
   pub pagunlit_reserve_placed_contract : Ensures 𝓤 reserve-placed-function.ended
       (reserve-placed-function.clauses 𝓛 mem run) (λ κs a r t.
-      LeavesMapEntriesCard reply_of (ends (by_map a.0) (kept a.1.0 a.1.1.0.now a.1.1.1.0.now a.1.1.1.1.0.now) nothing (on a.1.1.1.1.1.1.0 (reserve a.1.1.1.1.1.0.now a.1.1.1.1.1.1.1.0
-      (placed (figures a.1.1.1.1.1.1.1.1.0 a.1.1.1.1.1.1.1.1.1.0 a.1.1.1.1.1.1.1.1.1.1.0))))) r t.1.1.0.now t.1.1.1.0.now t.1.1.1.1.0.now)
+      LeavesMapEntriesCard reply_of (ends (by_map a.0) (kept a.1.0 a.1.1.0.now a.1.1.1.0.now a.1.1.1.1.0.now) nothing
+      (on a.1.1.1.1.1.1.0 (reserve a.1.1.1.1.1.0.now a.1.1.1.1.1.1.1.0
+      (placed (figures a.1.1.1.1.1.1.1.1.0 a.1.1.1.1.1.1.1.1.1.0 a.1.1.1.1.1.1.1.1.1.1.0))))) r t.1.1.0.now t.1.1.1.0.now
+      t.1.1.1.1.0.now)
   pagunlit_reserve_placed_contract κs a r t g = refl
 
   pub pagunlit_offer_contract : Ensures 𝓤 offer-function.ended (offer-function.clauses 𝓛 mem run) (λ κs a r t.
-      HandsBack reply_of (ends (by_map a.0) (kept a.1.0 a.1.1.0.now a.1.1.1.0.now a.1.1.1.1.0.now) nothing (on a.1.1.1.1.1.1.0 (offer a.1.1.1.1.1.0.now a.1.1.1.1.1.1.1.0))) r)
+      HandsBack reply_of (ends (by_map a.0) (kept a.1.0 a.1.1.0.now a.1.1.1.0.now a.1.1.1.1.0.now) nothing
+      (on a.1.1.1.1.1.1.0 (offer a.1.1.1.1.1.0.now a.1.1.1.1.1.1.1.0))) r)
   pagunlit_offer_contract κs a r t g = refl
 
   pub pagunlit_accept_contract : Ensures 𝓤 accept-function.ended (accept-function.clauses 𝓛 mem run) (λ κs a r t.
-      LeavesMapEntriesCard reply_of (ends (by_map a.0) (kept a.1.0 a.1.1.0.now a.1.1.1.0.now a.1.1.1.1.0.now) nothing (on a.1.1.1.1.1.1.0 (accept a.1.1.1.1.1.0.now a.1.1.1.1.1.1.1.0 a.1.1.1.1.1.1.1.1.0))) r t.1.1.0.now t.1.1.1.0.now t.1.1.1.1.0.now)
+      LeavesMapEntriesCard reply_of (ends (by_map a.0) (kept a.1.0 a.1.1.0.now a.1.1.1.0.now a.1.1.1.1.0.now) nothing
+      (on a.1.1.1.1.1.1.0 (accept a.1.1.1.1.1.0.now a.1.1.1.1.1.1.1.0 a.1.1.1.1.1.1.1.1.0))) r t.1.1.0.now t.1.1.1.0.now
+      t.1.1.1.1.0.now)
   pagunlit_accept_contract κs a r t g = refl
 
   pub pagunlit_grow_contract : Ensures 𝓤 grow-function.ended (grow-function.clauses 𝓛 mem run) (λ κs a r t.
-      LeavesMapEntriesCard reply_of (ends (by_map a.0) (kept a.1.0 a.1.1.0.now a.1.1.1.0.now a.1.1.1.1.0.now) nothing (on a.1.1.1.1.1.1.0 (grow a.1.1.1.1.1.0.now a.1.1.1.1.1.1.1.0))) r
+      LeavesMapEntriesCard reply_of (ends (by_map a.0) (kept a.1.0 a.1.1.0.now a.1.1.1.0.now a.1.1.1.1.0.now) nothing
+      (on a.1.1.1.1.1.1.0 (grow a.1.1.1.1.1.0.now a.1.1.1.1.1.1.1.0))) r
       t.1.1.0.now t.1.1.1.0.now t.1.1.1.1.0.now)
   pagunlit_grow_contract κs a r t g = refl
 
   pub pagunlit_put_contract : Ensures 𝓤 put_function.ended (put_function.clauses 𝓛 mem run) (λ κs a r t.
-      LeavesCard reply_of (ends (by_map a.0) (kept a.1.0 a.1.1.0.now a.1.1.1.0.now a.1.1.1.1.0.now) nothing (on a.1.1.1.1.1.0 (put a.1.1.1.1.1.1.0 a.1.1.1.1.1.1.1.0.now))) r
+      LeavesCard reply_of (ends (by_map a.0) (kept a.1.0 a.1.1.0.now a.1.1.1.0.now a.1.1.1.1.0.now) nothing
+      (on a.1.1.1.1.1.0 (put a.1.1.1.1.1.1.0 a.1.1.1.1.1.1.1.0.now))) r
       t.1.1.1.1.0.now)
   pagunlit_put_contract κs a r t g = refl
 
   pub pagunlit_complete_contract : Ensures 𝓤 complete-function.ended (complete-function.clauses 𝓛 mem run) (λ κs a r t.
-      LeavesEntries reply_of (ends (by_map a.0) (kept a.1.0 a.1.1.0.now a.1.1.1.0.now a.1.1.1.1.0.now) nothing (on a.1.1.1.1.1.0 complete)) r t.1.1.1.0.now)
+      LeavesEntries reply_of (ends (by_map a.0) (kept a.1.0 a.1.1.0.now a.1.1.1.0.now a.1.1.1.1.0.now) nothing
+      (on a.1.1.1.1.1.0 complete)) r t.1.1.1.0.now)
   pagunlit_complete_contract κs a r t g = refl
 
   pub pagunlit_pause_contract : Ensures 𝓤 pause-function.ended (pause-function.clauses 𝓛 mem run) (λ κs a r t.
@@ -117,13 +127,16 @@ module _ {M : Type 1} {𝓤 : Ura M} (𝓛 : Logic 𝓤) (mem : Memory → SProp
   pagunlit_release_contract κs a r t g = refl
 
   pub pagunlit_show_contract : Ensures 𝓤 show-function.ended (show-function.clauses 𝓛 mem run) (λ κs a r t.
-      LeavesBuffer reply_of (ends (by_map a.0) (kept a.1.0 a.1.1.0.now a.1.1.1.0.now a.1.1.1.1.0.now) nothing (on a.1.1.1.1.1.0 (show a.1.1.1.1.1.1.0 a.1.1.1.1.1.1.1.0.now))) r
+      LeavesBuffer reply_of (ends (by_map a.0) (kept a.1.0 a.1.1.0.now a.1.1.1.0.now a.1.1.1.1.0.now) nothing
+      (on a.1.1.1.1.1.0 (show a.1.1.1.1.1.1.0 a.1.1.1.1.1.1.1.0.now))) r
       t.1.1.1.1.1.1.1.0.now)
   pagunlit_show_contract κs a r t g = refl
 
   pub pagunlit_show_dated_contract : Ensures 𝓤 show-dated-function.ended
       (show-dated-function.clauses 𝓛 mem run) (λ κs a r t.
-      LeavesBuffer reply_of (ends (by_map a.0) (kept a.1.0 a.1.1.0.now a.1.1.1.0.now a.1.1.1.1.0.now) nothing (on a.1.1.1.1.1.0 (show_dated a.1.1.1.1.1.1.0 (date_of a.1.1.1.1.1.1.1.0 a.1.1.1.1.1.1.1.1.0 a.1.1.1.1.1.1.1.1.1.0) a.1.1.1.1.1.1.1.1.1.1.0.now))) r
+      LeavesBuffer reply_of (ends (by_map a.0) (kept a.1.0 a.1.1.0.now a.1.1.1.0.now a.1.1.1.1.0.now) nothing
+      (on a.1.1.1.1.1.0 (show_dated a.1.1.1.1.1.1.0 (date_of a.1.1.1.1.1.1.1.0 a.1.1.1.1.1.1.1.1.0 a.1.1.1.1.1.1.1.1.1.0)
+      a.1.1.1.1.1.1.1.1.1.1.0.now))) r
       t.1.1.1.1.1.1.1.1.1.1.0.now)
   pagunlit_show_dated_contract κs a r t g = refl
 
@@ -138,7 +151,8 @@ module _ {M : Type 1} {𝓤 : Ura M} (𝓛 : Logic 𝓤) (mem : Memory → SProp
   pagunlit_save_contract κs a r t g = refl
 
   pub pagunlit_close_contract : Ensures 𝓤 close-function.ended (close-function.clauses 𝓛 mem run) (λ κs a r t.
-      LeavesMapEntriesCardScratch reply_of (ends (by_map a.0) (kept a.1.0 a.1.1.0.now a.1.1.1.0.now a.1.1.1.1.0.now) (beside [] a.1.1.1.1.1.0.now []) close) r t.1.1.0.now t.1.1.1.0.now
+      LeavesMapEntriesCardScratch reply_of (ends (by_map a.0) (kept a.1.0 a.1.1.0.now a.1.1.1.0.now a.1.1.1.1.0.now)
+      (beside [] a.1.1.1.1.1.0.now []) close) r t.1.1.0.now t.1.1.1.0.now
       t.1.1.1.1.0.now t.1.1.1.1.1.0.now)
   pagunlit_close_contract κs a r t g = refl
 

@@ -44,25 +44,33 @@ module _ {M : Type 1} {𝓤 : Ura M} (𝓛 : Logic 𝓤) (mem : Memory → SProp
 
   pub pagunlit_reserve_with_summary_contract : Ensures 𝓤 reserve-with-summary-function.ended
       (reserve-with-summary-function.clauses 𝓛 mem run) (λ κs a r t.
-      LeavesMapSummaryEntriesCard reply_of (ends (by_summary a.0) (kept a.1.0 a.1.1.0.now a.1.1.1.1.0.now a.1.1.1.1.1.0.now) (beside a.1.1.1.0.now [] []) (on a.1.1.1.1.1.1.1.0 (reserve a.1.1.1.1.1.1.0.now a.1.1.1.1.1.1.1.1.0 plain))) r t.1.1.0.now t.1.1.1.0.now
+      LeavesMapSummaryEntriesCard reply_of (ends (by_summary a.0) (kept a.1.0 a.1.1.0.now a.1.1.1.1.0.now a.1.1.1.1.1.0.now)
+      (beside a.1.1.1.0.now [] []) (on a.1.1.1.1.1.1.1.0 (reserve a.1.1.1.1.1.1.0.now a.1.1.1.1.1.1.1.1.0 plain))) r t.1.1.0.now
+      t.1.1.1.0.now
       t.1.1.1.1.0.now t.1.1.1.1.1.0.now)
   pagunlit_reserve_with_summary_contract κs a r t g = refl
 
   pub pagunlit_reserve_placed_with_summary_contract : Ensures 𝓤 reserve-placed-with-summary-function.ended
       (reserve-placed-with-summary-function.clauses 𝓛 mem run) (λ κs a r t.
-      LeavesMapSummaryEntriesCard reply_of (ends (by_summary a.0) (kept a.1.0 a.1.1.0.now a.1.1.1.1.0.now a.1.1.1.1.1.0.now) (beside a.1.1.1.0.now [] []) (on a.1.1.1.1.1.1.1.0 (reserve a.1.1.1.1.1.1.0.now a.1.1.1.1.1.1.1.1.0 (placed (figures a.1.1.1.1.1.1.1.1.1.0 a.1.1.1.1.1.1.1.1.1.1.0 a.1.1.1.1.1.1.1.1.1.1.1.0))))) r t.1.1.0.now t.1.1.1.0.now
+      LeavesMapSummaryEntriesCard reply_of (ends (by_summary a.0) (kept a.1.0 a.1.1.0.now a.1.1.1.1.0.now a.1.1.1.1.1.0.now)
+      (beside a.1.1.1.0.now [] []) (on a.1.1.1.1.1.1.1.0 (reserve a.1.1.1.1.1.1.0.now a.1.1.1.1.1.1.1.1.0
+      (placed (figures a.1.1.1.1.1.1.1.1.1.0 a.1.1.1.1.1.1.1.1.1.1.0 a.1.1.1.1.1.1.1.1.1.1.1.0))))) r t.1.1.0.now t.1.1.1.0.now
       t.1.1.1.1.0.now t.1.1.1.1.1.0.now)
   pagunlit_reserve_placed_with_summary_contract κs a r t g = refl
 
   pub pagunlit_accept_with_summary_contract : Ensures 𝓤 accept-with-summary-function.ended
       (accept-with-summary-function.clauses 𝓛 mem run) (λ κs a r t.
-      LeavesMapSummaryEntriesCard reply_of (ends (by_summary a.0) (kept a.1.0 a.1.1.0.now a.1.1.1.1.0.now a.1.1.1.1.1.0.now) (beside a.1.1.1.0.now [] []) (on a.1.1.1.1.1.1.1.0 (accept a.1.1.1.1.1.1.0.now a.1.1.1.1.1.1.1.1.0 a.1.1.1.1.1.1.1.1.1.0))) r t.1.1.0.now
+      LeavesMapSummaryEntriesCard reply_of (ends (by_summary a.0) (kept a.1.0 a.1.1.0.now a.1.1.1.1.0.now a.1.1.1.1.1.0.now)
+      (beside a.1.1.1.0.now [] []) (on a.1.1.1.1.1.1.1.0 (accept a.1.1.1.1.1.1.0.now a.1.1.1.1.1.1.1.1.0
+      a.1.1.1.1.1.1.1.1.1.0))) r t.1.1.0.now
       t.1.1.1.0.now t.1.1.1.1.0.now t.1.1.1.1.1.0.now)
   pagunlit_accept_with_summary_contract κs a r t g = refl
 
   pub pagunlit_grow_with_summary_contract : Ensures 𝓤 grow-with-summary-function.ended
       (grow-with-summary-function.clauses 𝓛 mem run) (λ κs a r t.
-      LeavesMapSummaryEntriesCard reply_of (ends (by_summary a.0) (kept a.1.0 a.1.1.0.now a.1.1.1.1.0.now a.1.1.1.1.1.0.now) (beside a.1.1.1.0.now [] []) (on a.1.1.1.1.1.1.1.0 (grow a.1.1.1.1.1.1.0.now a.1.1.1.1.1.1.1.1.0))) r t.1.1.0.now t.1.1.1.0.now
+      LeavesMapSummaryEntriesCard reply_of (ends (by_summary a.0) (kept a.1.0 a.1.1.0.now a.1.1.1.1.0.now a.1.1.1.1.1.0.now)
+      (beside a.1.1.1.0.now [] []) (on a.1.1.1.1.1.1.1.0 (grow a.1.1.1.1.1.1.0.now a.1.1.1.1.1.1.1.1.0))) r t.1.1.0.now
+      t.1.1.1.0.now
       t.1.1.1.1.0.now t.1.1.1.1.1.0.now)
   pagunlit_grow_with_summary_contract κs a r t g = refl
 
@@ -75,7 +83,8 @@ module _ {M : Type 1} {𝓤 : Ura M} (𝓛 : Logic 𝓤) (mem : Memory → SProp
 
   pub pagunlit_close_with_summary_contract : Ensures 𝓤 close-with-summary-function.ended
       (close-with-summary-function.clauses 𝓛 mem run) (λ κs a r t.
-      LeavesMapSummaryEntriesCardScratch reply_of (ends (by_summary a.0) (kept a.1.0 a.1.1.0.now a.1.1.1.1.0.now a.1.1.1.1.1.0.now) (beside a.1.1.1.0.now a.1.1.1.1.1.1.0.now []) close) r
+      LeavesMapSummaryEntriesCardScratch reply_of (ends (by_summary a.0)
+      (kept a.1.0 a.1.1.0.now a.1.1.1.1.0.now a.1.1.1.1.1.0.now) (beside a.1.1.1.0.now a.1.1.1.1.1.1.0.now []) close) r
       t.1.1.0.now t.1.1.1.0.now t.1.1.1.1.0.now t.1.1.1.1.1.0.now
       t.1.1.1.1.1.1.0.now)
   pagunlit_close_with_summary_contract κs a r t g = refl

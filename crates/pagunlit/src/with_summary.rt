@@ -1,7 +1,9 @@
 // The C functions on a summary beside the map, and of the calls that are lent one (document 02, request j).
 ghost use Rattle.pagunlit_replies.specs.Replies.{reply_of};
-ghost use Rattle.card.specs.Ends.{summary_build_end, summary_check_end, reserve_with_summary_end, reserve_placed_with_summary_end};
-ghost use Rattle.card.specs.Ends.{acceptWithSummaryEnd, grow_with_summary_end, release_with_summary_end, close_with_summary_end};
+ghost use Rattle.card.specs.Ends.{summary_build_end, summary_check_end, reserve_with_summary_end};
+ghost use Rattle.card.specs.Ends.{reserve_placed_with_summary_end};
+ghost use Rattle.card.specs.Ends.{acceptWithSummaryEnd, grow_with_summary_end, release_with_summary_end};
+ghost use Rattle.card.specs.Ends.{close_with_summary_end};
 ghost use Rattle.card.specs.Leaves.{HandsBack, LeavesSummary, LeavesMapSummaryEntries, LeavesMapSummaryEntriesCard};
 ghost use Rattle.card.specs.Leaves.{LeavesMapSummaryEntriesCardScratch};
 

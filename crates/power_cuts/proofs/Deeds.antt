@@ -111,7 +111,8 @@ pub record Loaded (s t : Kept) : Type 0 where
 -- What call c comes to, from state s to state t; `was_done_lem` says that it was accepted.
 pub data Deed (s t : Kept) (c : Public) (was_done_lem : Bool) : Type 0 where
   nothing : t ≡ s → (moves (sort_of c) && was_done_lem) ≡ false → Deed s t c was_done_lem
-  took : sort_of c ≡ taking → was_done_lem ≡ true → (sheet start count from k total : ℕ) → Took s t sheet start count from k total
+  took : sort_of c ≡ taking → was_done_lem ≡ true → (sheet start count from k total : ℕ)
+      → Took s t sheet start count from k total
       → (asked : table.Ask) → c ≡ on sheet asked → Deed s t c was_done_lem
   put : (sheet start count place : ℕ) (payload : List ℕ) → c ≡ on sheet (table.put place payload)
       → Put s t sheet start count place payload

@@ -51,7 +51,8 @@ use Rattle.power_cuts.proofs.Writes.{finished_holds}
 -- ---- what an accepted closing, a save and a put did
 
 -- a deed of another sort
-not_of : (f : Sort → Bool) (c : Public) (sort : Sort) (d : Bool) → sort_of c ≡ sort → f sort ≡ false → (f (sort_of c) && d) ≡ true
+not_of : (f : Sort → Bool) (c : Public) (sort : Sort) (d : Bool) → sort_of c ≡ sort → f sort ≡ false → (f (sort_of c) && d)
+    ≡ true
     → ⊥
 not_of f c sort d i n h = true≢false (sym h ∙ of_sort f c sort d i ∙ ap (λ (x : Bool). x && d) n)
 

@@ -147,7 +147,8 @@ module _ (s : Kept) (card : List ℕ) (sheet start count : ℕ) (complete : stan
 
   module _ (away : Bool) (place : ℕ) (buffer : List ℕ) where
     show-rows : (c : List ℕ) → effects.show_verdict (lent_to away (recalled s c) c sheet) place buffer
-        ≡ first_of (rows_of away place (length buffer) (length c) (row 4 (not (sound sheet place (block_of c (e + place)))) ∷ []))
+        ≡ first_of (rows_of away place (length buffer) (length c)
+        (row 4 (not (sound sheet place (block_of c (e + place)))) ∷ []))
     unfolding effects.show_verdict table_of rows_for view_on
     show-rows c = refl
 

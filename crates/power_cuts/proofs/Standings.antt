@@ -211,7 +211,8 @@ module _ (n : ℕ) (f : ℕ → Bool) (start count : ℕ) (h : extent_holds n f 
       go (eqb start 0) (eqb count 0) (ne_eqb count 0 (λ z. omega arith))
       ∙ ap (λ (b : Bool). cond b (PausedWith start count) Damaged) h
     where
-      go : (a b : Bool) → b ≡ false → cond (a && b) Paused (cond (extent_holds n f start count) (PausedWith start count) Damaged)
+      go : (a b : Bool) → b ≡ false → cond (a && b) Paused (cond (extent_holds n f start count) (PausedWith start count)
+          Damaged)
           ≡ cond (extent_holds n f start count) (PausedWith start count) Damaged
       go true b z = ap (λ (x : Bool). cond x Paused (cond (extent_holds n f start count) (PausedWith start count) Damaged)) z
       go false b z = refl

@@ -20,16 +20,21 @@ use Rattle.power_cuts.specs.Worked.{UnfinishedIsShownAfterALoad, Worked}
 use Rattle.power_cuts.proofs.WorkedClosings.{old_text_is_shown}
 
 unfinished_is_paused : UnfinishedIsPaused
-unfolding effects.reserve_out effects.reserve_map effects.reserve_card effects.change_out effects.release_out effects.release_map
-    effects.put_card effects.put_answer view_on view_at table_of first_of standing_of marked free fresh_map zeroed with_block sealed
+unfolding effects.reserve_out effects.reserve_map effects.reserve_card effects.change_out effects.release_out
+    effects.release_map
+    effects.put_card effects.put_answer view_on view_at table_of first_of standing_of marked free fresh_map zeroed with_block
+    sealed
     held_by
     may
 unfinished_is_paused = record { open_at_the_cut = refl; paused_then = refl }
 
 unfinished_is_shown : UnfinishedIsShown
-unfolding effects.reserve_out effects.reserve_map effects.reserve_card effects.change_out effects.release_out effects.release_map
-    effects.put_card effects.put_answer effects.complete_out effects.show_dated_answer effects.show_dated_buffer view_on view_at table_of
-    first_of standing_of marked free fresh_map zeroed with_block block_of sealed sound payload_of blank held_by may day_of is_date term_of
+unfolding effects.reserve_out effects.reserve_map effects.reserve_card effects.change_out effects.release_out
+    effects.release_map
+    effects.put_card effects.put_answer effects.complete_out effects.show_dated_answer effects.show_dated_buffer view_on view_at
+    table_of
+    first_of standing_of marked free fresh_map zeroed with_block block_of sealed sound payload_of blank held_by may day_of
+    is_date term_of
     in_term bytes4 number_at check_holds sums in_span month_length before_year sum_of
     leap_day before_month
 unfinished_is_shown = record {
@@ -42,7 +47,8 @@ unfinished_is_shown = record {
 
 unfinished_is_shown_after_a_load : UnfinishedIsShownAfterALoad
 unfolding effects.reserve_out effects.reserve_map effects.reserve_card effects.put_card effects.put_answer effects.complete_out
-    effects.show_answer effects.show_buffer view_on table_of first_of standing_of marked free fresh_map zeroed with_block block_of sealed
+    effects.show_answer effects.show_buffer view_on table_of first_of standing_of marked free fresh_map zeroed with_block
+    block_of sealed
     sound payload_of blank held_by may bytes4 number_at check_holds sums
 unfinished_is_shown_after_a_load = record { was_complete = refl; shown = refl; the_new_text = refl }
 

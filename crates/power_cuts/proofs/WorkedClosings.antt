@@ -57,16 +57,20 @@ once = sealed 1 0 (text 2) ++ (sealed 0 0 (text 1) ++ sealed 0 0 (text 1))
 closed_card_lem : (shut behind_agap).card ≡ closed_card behind_agap.entries behind_agap.card
 unfolding effects.reserve_out effects.reserve_map effects.reserve_card effects.accept_out effects.accept_map effects.accept_card
     effects.release_out effects.release_map effects.put_card effects.put_answer effects.complete_out effects.show_answer
-    effects.show_buffer closings.close_number closings.close_map closings.close_entries closings.close_card view_on view_at table_of
-    first_of standing_of marked free fresh_map zeroed with_block block_of sealed sound payload_of blank held_by may bytes4 number_at
+    effects.show_buffer closings.close_number closings.close_map closings.close_entries closings.close_card view_on view_at
+    table_of
+    first_of standing_of marked free fresh_map zeroed with_block block_of sealed sound payload_of blank held_by may bytes4
+    number_at
     check_holds sums counts_of
 closed_card_lem = refl
 
 bytes : length behind_agap.card ≡ 1536
 unfolding effects.reserve_out effects.reserve_map effects.reserve_card effects.accept_out effects.accept_map effects.accept_card
     effects.release_out effects.release_map effects.put_card effects.put_answer effects.complete_out effects.show_answer
-    effects.show_buffer closings.close_number closings.close_map closings.close_entries closings.close_card view_on view_at table_of
-    first_of standing_of marked free fresh_map zeroed with_block block_of sealed sound payload_of blank held_by may bytes4 number_at
+    effects.show_buffer closings.close_number closings.close_map closings.close_entries closings.close_card view_on view_at
+    table_of
+    first_of standing_of marked free fresh_map zeroed with_block block_of sealed sound payload_of blank held_by may bytes4
+    number_at
     check_holds sums counts_of
 bytes = refl
 
@@ -85,15 +89,19 @@ module _ (entries : List Entry) (card : List ℕ) (long : length card ≡ 1536) 
       of at from e l u = sourced_block card (source entries entries) at from e (omega (arith, long)) (omega (arith, long))
 
 blocks_once : block_of behind_agap.card 1 ++ (block_of behind_agap.card 2 ++ block_of behind_agap.card 2) ≡ once
-unfolding effects.accept_out effects.accept_map effects.accept_card effects.put_card effects.put_answer effects.complete_out view_on
-    table_of first_of standing_of marked free fresh_map zeroed with_block block_of sealed sound blank held_by may bytes4 number_at
+unfolding effects.accept_out effects.accept_map effects.accept_card effects.put_card effects.put_answer effects.complete_out
+    view_on
+    table_of first_of standing_of marked free fresh_map zeroed with_block block_of sealed sound blank held_by may bytes4
+    number_at
     check_holds sums source
 blocks_once = refl
 
 sources_once : (source behind_agap.entries behind_agap.entries 0 ≡ 1)
     × (source behind_agap.entries behind_agap.entries 1 ≡ 2) × (source behind_agap.entries behind_agap.entries 2 ≡ 2)
-unfolding effects.accept_out effects.accept_map effects.accept_card effects.put_card effects.put_answer effects.complete_out view_on
-    table_of first_of standing_of marked free fresh_map zeroed with_block block_of sealed sound blank held_by may bytes4 number_at
+unfolding effects.accept_out effects.accept_map effects.accept_card effects.put_card effects.put_answer effects.complete_out
+    view_on
+    table_of first_of standing_of marked free fresh_map zeroed with_block block_of sealed sound blank held_by may bytes4
+    number_at
     check_holds sums source
 sources_once = (refl, refl, refl)
 
@@ -122,16 +130,20 @@ twice = sealed 0 0 (text 1) ++ (sealed 0 0 (text 1) ++ sealed 0 0 (text 1))
 closed_again : (shut (freed_from once)).card ≡ closed_card (freed_from once).entries (freed_from once).card
 unfolding effects.reserve_out effects.reserve_map effects.reserve_card effects.accept_out effects.accept_map effects.accept_card
     effects.release_out effects.release_map effects.put_card effects.put_answer effects.complete_out effects.show_answer
-    effects.show_buffer closings.close_number closings.close_map closings.close_entries closings.close_card view_on view_at table_of
-    first_of standing_of marked free fresh_map zeroed with_block block_of sealed sound payload_of blank held_by may bytes4 number_at
+    effects.show_buffer closings.close_number closings.close_map closings.close_entries closings.close_card view_on view_at
+    table_of
+    first_of standing_of marked free fresh_map zeroed with_block block_of sealed sound payload_of blank held_by may bytes4
+    number_at
     check_holds sums counts_of source
 closed_again = refl
 
 bytes_again : length (freed_from once).card ≡ 1536
 unfolding effects.reserve_out effects.reserve_map effects.reserve_card effects.accept_out effects.accept_map effects.accept_card
     effects.release_out effects.release_map effects.put_card effects.put_answer effects.complete_out effects.show_answer
-    effects.show_buffer closings.close_number closings.close_map closings.close_entries closings.close_card view_on view_at table_of
-    first_of standing_of marked free fresh_map zeroed with_block block_of sealed sound payload_of blank held_by may bytes4 number_at
+    effects.show_buffer closings.close_number closings.close_map closings.close_entries closings.close_card view_on view_at
+    table_of
+    first_of standing_of marked free fresh_map zeroed with_block block_of sealed sound payload_of blank held_by may bytes4
+    number_at
     check_holds sums counts_of source
 bytes_again = refl
 
@@ -140,8 +152,10 @@ sources_twice : (source (freed_from once).entries (freed_from once).entries 0 �
     × (source (freed_from once).entries (freed_from once).entries 2 ≡ 2)
 unfolding effects.reserve_out effects.reserve_map effects.reserve_card effects.accept_out effects.accept_map effects.accept_card
     effects.release_out effects.release_map effects.put_card effects.put_answer effects.complete_out effects.show_answer
-    effects.show_buffer closings.close_number closings.close_map closings.close_entries closings.close_card view_on view_at table_of
-    first_of standing_of marked free fresh_map zeroed with_block block_of sealed sound payload_of blank held_by may bytes4 number_at
+    effects.show_buffer closings.close_number closings.close_map closings.close_entries closings.close_card view_on view_at
+    table_of
+    first_of standing_of marked free fresh_map zeroed with_block block_of sealed sound payload_of blank held_by may bytes4
+    number_at
     check_holds sums counts_of source
 sources_twice = (refl, refl, refl)
 
@@ -149,8 +163,10 @@ blocks_twice : block_of (freed_from once).card 1 ++ (block_of (freed_from once).
     (freed_from once).card 2) ≡ twice
 unfolding effects.reserve_out effects.reserve_map effects.reserve_card effects.accept_out effects.accept_map effects.accept_card
     effects.release_out effects.release_map effects.put_card effects.put_answer effects.complete_out effects.show_answer
-    effects.show_buffer closings.close_number closings.close_map closings.close_entries closings.close_card view_on view_at table_of
-    first_of standing_of marked free fresh_map zeroed with_block block_of sealed sound payload_of blank held_by may bytes4 number_at
+    effects.show_buffer closings.close_number closings.close_map closings.close_entries closings.close_card view_on view_at
+    table_of
+    first_of standing_of marked free fresh_map zeroed with_block block_of sealed sound payload_of blank held_by may bytes4
+    number_at
     check_holds sums counts_of source
 blocks_twice = refl
 
@@ -169,40 +185,50 @@ seen s card sheet = pharmacist_sees (recalled s card) sheet 0
 not_its_own : (seen behind_agap once 1).outcome.answer ≡ Refused 4
 unfolding effects.reserve_out effects.reserve_map effects.reserve_card effects.accept_out effects.accept_map effects.accept_card
     effects.release_out effects.release_map effects.put_card effects.put_answer effects.complete_out effects.show_answer
-    effects.show_buffer closings.close_number closings.close_map closings.close_entries closings.close_card view_on view_at table_of
-    first_of standing_of marked free fresh_map zeroed with_block block_of sealed sound payload_of blank held_by may bytes4 number_at
+    effects.show_buffer closings.close_number closings.close_map closings.close_entries closings.close_card view_on view_at
+    table_of
+    first_of standing_of marked free fresh_map zeroed with_block block_of sealed sound payload_of blank held_by may bytes4
+    number_at
     check_holds sums counts_of source
 not_its_own = refl
 
 saved_complete : stands (written_from once) 0 ≡ Complete 0 1
 unfolding effects.reserve_out effects.reserve_map effects.reserve_card effects.accept_out effects.accept_map effects.accept_card
     effects.release_out effects.release_map effects.put_card effects.put_answer effects.complete_out effects.show_answer
-    effects.show_buffer closings.close_number closings.close_map closings.close_entries closings.close_card view_on view_at table_of
-    first_of standing_of marked free fresh_map zeroed with_block block_of sealed sound payload_of blank held_by may bytes4 number_at
+    effects.show_buffer closings.close_number closings.close_map closings.close_entries closings.close_card view_on view_at
+    table_of
+    first_of standing_of marked free fresh_map zeroed with_block block_of sealed sound payload_of blank held_by may bytes4
+    number_at
     check_holds sums counts_of source
 saved_complete = refl
 
 saved_text : (pharmacist_sees (written_from once) 0 0).buffer ≡ text 3
 unfolding effects.reserve_out effects.reserve_map effects.reserve_card effects.accept_out effects.accept_map effects.accept_card
     effects.release_out effects.release_map effects.put_card effects.put_answer effects.complete_out effects.show_answer
-    effects.show_buffer closings.close_number closings.close_map closings.close_entries closings.close_card view_on view_at table_of
-    first_of standing_of marked free fresh_map zeroed with_block block_of sealed sound payload_of blank held_by may bytes4 number_at
+    effects.show_buffer closings.close_number closings.close_map closings.close_entries closings.close_card view_on view_at
+    table_of
+    first_of standing_of marked free fresh_map zeroed with_block block_of sealed sound payload_of blank held_by may bytes4
+    number_at
     check_holds sums counts_of source
 saved_text = refl
 
 shown : (seen (written_from once) twice 0).outcome.answer ≡ Done
 unfolding effects.reserve_out effects.reserve_map effects.reserve_card effects.accept_out effects.accept_map effects.accept_card
     effects.release_out effects.release_map effects.put_card effects.put_answer effects.complete_out effects.show_answer
-    effects.show_buffer closings.close_number closings.close_map closings.close_entries closings.close_card view_on view_at table_of
-    first_of standing_of marked free fresh_map zeroed with_block block_of sealed sound payload_of blank held_by may bytes4 number_at
+    effects.show_buffer closings.close_number closings.close_map closings.close_entries closings.close_card view_on view_at
+    table_of
+    first_of standing_of marked free fresh_map zeroed with_block block_of sealed sound payload_of blank held_by may bytes4
+    number_at
     check_holds sums counts_of source
 shown = refl
 
 old_text : (seen (written_from once) twice 0).buffer ≡ text 1
 unfolding effects.reserve_out effects.reserve_map effects.reserve_card effects.accept_out effects.accept_map effects.accept_card
     effects.release_out effects.release_map effects.put_card effects.put_answer effects.complete_out effects.show_answer
-    effects.show_buffer closings.close_number closings.close_map closings.close_entries closings.close_card view_on view_at table_of
-    first_of standing_of marked free fresh_map zeroed with_block block_of sealed sound payload_of blank held_by may bytes4 number_at
+    effects.show_buffer closings.close_number closings.close_map closings.close_entries closings.close_card view_on view_at
+    table_of
+    first_of standing_of marked free fresh_map zeroed with_block block_of sealed sound payload_of blank held_by may bytes4
+    number_at
     check_holds sums counts_of source
 old_text = refl
 

@@ -165,7 +165,8 @@ pub record ShowsOrRefuses (s u : Kept) (sheet : ℕ) : Type 0 where
   pub plainly : (m : Manner) (b : Beside) (place : ℕ) (buffer : List ℕ)
       → AsBeforeOr4 (ends m s b (on sheet (show place buffer))) (ends m u b (on sheet (show place buffer))) buffer
   pub on_a_day : (m : Manner) (b : Beside) (place : ℕ) (date : Date) (buffer : List ℕ)
-      → AsBeforeOr4 (ends m s b (on sheet (show_dated place date buffer))) (ends m u b (on sheet (show_dated place date buffer)))
+      → AsBeforeOr4 (ends m s b (on sheet (show_dated place date buffer)))
+      (ends m u b (on sheet (show_dated place date buffer)))
       buffer
 
 -- From point p the power goes in the middle of a call that the rule allows, and leaves this card.

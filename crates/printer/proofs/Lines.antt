@@ -91,7 +91,8 @@ pub describes : (n spare : ℕ) (counts : Counts) (entries : List Entry) (text :
     → Describes n spare counts entries text (place_of
     (lines_writer entries (head_writer n spare (length entries) counts text)
     (head_written n spare (length entries) counts text)))
-    (lines_written entries (head_writer n spare (length entries) counts text) (head_written n spare (length entries) counts text))
+    (lines_written entries (head_writer n spare (length entries) counts text)
+    (head_written n spare (length entries) counts text))
 unfolding head_writer head_written card_text
 describes n spare counts entries text =
     then (record { ends = refl; leaves = refl })

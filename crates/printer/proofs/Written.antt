@@ -87,7 +87,8 @@ pub writes_none : (text : List ℕ) (at : ℕ) → Writes [] text at at text
 writes_none text at = record { ends = sym (behind_none text at); leaves = sym (written_none text at) }
 
 -- one byte of a word more
-pub writes_next : (word text text' text'' : List ℕ) (at at' at'' i : ℕ) → i < length word → Writes (take i word) text at at' text'
+pub writes_next : (word text text' text'' : List ℕ) (at at' at'' i : ℕ) → i < length word
+    → Writes (take i word) text at at' text'
     → Writes (get_or word i 0 ∷ []) text' at' at'' text'' → Writes (take (i + 1) word) text at at'' text''
 writes_next word text text' text'' at at' at'' i h w w' =
     let e : i + 1 ≡ suc i = omega arith in

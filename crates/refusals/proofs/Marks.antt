@@ -67,7 +67,8 @@ verdict_in (Refused number) = refused number
 verdict_in (Stands s) = accepted
 
 module _ (q : Lent) (c : Change) where
-  ruled : (o : Opened) → first_at q ≡ o → verdict_of (view_at q) (on q.sheet (change c)) ≡ verdict_in (admitted_of (admits_of c) o)
+  ruled : (o : Opened) → first_at q ≡ o → verdict_of (view_at q) (on q.sheet (change c))
+      ≡ verdict_in (admitted_of (admits_of c) o)
   unfolding view_at table_of rows_for
   ruled (Refused number) e = closed _ _ _ _ _ _ number e
   ruled (Stands s) e =

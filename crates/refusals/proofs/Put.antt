@@ -21,7 +21,8 @@ use Rattle.catalogue_standings.specs.declared.Opened.TheVariants as opening
 use Rattle.catalogue_standings.specs.declared.Standing.{Standing}
 use Rattle.catalogue_standings.specs.declared.Standing.TheVariants.{Open}
 use Rattle.catalogue_standings.proofs.Limits.{CardFits}
-use Rattle.catalogue_standings.proofs.Openings.{skip, stop, closed, opened, not_open, is_open_lem, none_left, Extent, open_extent}
+use Rattle.catalogue_standings.proofs.Openings.{skip, stop, closed, opened, not_open, is_open_lem, none_left, Extent}
+use Rattle.catalogue_standings.proofs.Openings.{open_extent}
 use Rattle.catalogue_standings.proofs.Openings.{NotOpen}
 use Rattle.refusals.proofs.Lent as lent-laws
 use Rattle.refusals.proofs.Places.{Misplaced, beyond, unsized, placed, block-number, block-bytes}

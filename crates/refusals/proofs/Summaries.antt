@@ -130,7 +130,8 @@ module _ (held : ℕ) (limits summary : List ℕ) (n spare : ℕ) (map card : Li
       abbrev pub Same : Type 0
       Same =
           ((number : ℕ) × (reserve_verdict with_it k p ≡ refused number) × (reserve_verdict without k p ≡ refused number))
-          ⊎ ((reserve_verdict with_it k p ≡ reserve_verdict without k p) × (reserve_start with_it k p ≡ reserve_start without k p))
+          ⊎ ((reserve_verdict with_it k p ≡ reserve_verdict without k p)
+          × (reserve_start with_it k p ≡ reserve_start without k p))
 
       by-unsearched : (v : Verdict) → unsearched_verdict without k p ≡ v → Same
       unfolding reserve_start

@@ -145,7 +145,8 @@ module _ (turned : Bool) (s u : Kept) (sheet start then count : ℕ) (m : Moved 
         ∙ ap (told s.shape) (dated-answer-comes u ∙ same Refused (λ block. Done) (dated date) place (length buffer)
         ∙ sym (dated-answer-comes s))
 
-    pub dated-buffer-same : show_dated_buffer turned u sheet place date buffer ≡ show_dated_buffer turned s sheet place date buffer
+    pub dated-buffer-same : show_dated_buffer turned u sheet place date buffer
+        ≡ show_dated_buffer turned s sheet place date buffer
     dated-buffer-same =
         dated-buffer-comes u ∙ same (λ number. buffer) payload_of (dated date) place (length buffer)
         ∙ sym (dated-buffer-comes s)

@@ -70,7 +70,8 @@ module _ (p : ℕ) (s : List ℕ) (start count : ℕ) where
 
   -- what idle says, and when it is so
   module _ (h : ℕ) (x : Group) where
-    pub is-idle : 64 * (place p h).first ≤ start → start + count ≤ 64 * ((place p h).first + (place p h).size) → x ≡ group_in s h
+    pub is-idle : 64 * (place p h).first ≤ start → start + count ≤ 64 * ((place p h).first + (place p h).size) → x
+        ≡ group_in s h
         → idle start count p s h x ≡ true
     unfolding idle
     is-idle a b e =

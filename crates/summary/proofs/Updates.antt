@@ -83,7 +83,8 @@ module _ (f : ℕ → Bool) (p : ℕ) (s : List ℕ) (start count : ℕ) where
       (λ ne. let even : size ≡ 2 * (size / 2) = sited_even p g first size sited ne in
       let pos : 0 < size = sited_pos p g first size sited in
       after-halves m g first size sited ne
-      ∙ ap₂ (λ (x y : Group). cond (changed start count (place p g)) (built_from start count p s g x y (size / 2)) (group_in s g))
+      ∙ ap₂ (λ (x y : Group). cond (changed start count (place p g)) (built_from start count p s g x y (size / 2))
+      (group_in s g))
       (enough m m' (2 * g + 1) first (size / 2) (sited_left p g first size sited ne) (omega arith) (omega arith))
       (enough m m' (2 * g + 2) (first + size / 2) (size / 2) (sited_right p g first size sited ne) (omega arith) (omega arith))
       ∙ sym (after-halves m' g first size sited ne)) (equal size 1)

@@ -1,7 +1,8 @@
 -- The summary of a map (document 02, request (j)): with p the least power of two not below w, 2p - 1 groups of three 32-bit
 -- numbers, in the order head, tail, longest.
 -- Assumes nothing.
-use Rattle.std.specs.Prelude.{ℕ, zero, suc, ◌+◌, ◌-◌, ◌*◌, ◌≤◌, ◌≡◌, Bool, true, false, ◌&&◌, List, [], ◌∷◌, eqb, ltb, length, get_or}
+use Rattle.std.specs.Prelude.{ℕ, zero, suc, ◌+◌, ◌-◌, ◌*◌, ◌≤◌, ◌≡◌, Bool, true, false, ◌&&◌, List, [], ◌∷◌, eqb, ltb, length}
+use Rattle.std.specs.Prelude.{get_or}
 use Rattle.map_blocks.specs.Blocks.{free}
 use Rattle.summary_groups.specs.declared.Group.{Group}
 use Rattle.summary_groups.specs.Groups.{place, power, group_of}

@@ -1,6 +1,7 @@
 -- The ends and the longest run of m blocks from b on, block by block: what each number says, and that it is the only one.
 -- Assumes nothing.
-use Rattle.std.proofs.Common.{◌≡◌, ℕ, zero, suc, ◌+◌, ◌-◌, ◌<◌, ◌≤◌, Bool, true, false, cond, ◌&&◌, eqb, length, sym, refl, ap, subst, ⊎_elim, eq-or-lt_of_le, arith, eqb-true}
+use Rattle.std.proofs.Common.{◌≡◌, ℕ, zero, suc, ◌+◌, ◌-◌, ◌<◌, ◌≤◌, Bool, true, false, cond, ◌&&◌, eqb, length, sym, refl, ap}
+use Rattle.std.proofs.Common.{subst, ⊎_elim, eq-or-lt_of_le, arith, eqb-true}
 use borrow.Author.Tests.{eqb-false}
 use Rattle.survey_bytes.specs.Runs.{head_of, tail_of, longest_of}
 use Rattle.map_blocks.specs.Blocks.{all}

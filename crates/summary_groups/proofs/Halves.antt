@@ -7,7 +7,8 @@ use Rattle.summary_groups.proofs.Joins.{joined_right}
 use Rattle.summary_groups.proofs.Places.{sited_even}
 
 module _ (f : ℕ → Bool) (p g first size : ℕ) (s : Sited p g first size) (ne : size ≡ 1 → ⊥) where
-  pub group_halves : joined_of (group_of f (64 * first) (64 * (size / 2))) (group_of f (64 * (first + size / 2)) (64 * (size / 2)))
+  pub group_halves : joined_of (group_of f (64 * first) (64 * (size / 2)))
+      (group_of f (64 * (first + size / 2)) (64 * (size / 2)))
       (64 * (size / 2))
       ≡ group_of f (64 * first) (64 * size)
   group_halves =

@@ -1,6 +1,7 @@
 -- A group from its two halves, and from what is known of its blocks.
 -- Assumes nothing.
-use Rattle.std.proofs.Common.{◌≡◌, ℕ, ◌+◌, ◌%◌, ◌^◌, ◌<◌, ◌≤◌, max, Bool, true, false, cond, eqb, sym, refl, ap, ◌∙◌, subst, ⊎_elim, arith, eqb-true}
+use Rattle.std.proofs.Common.{◌≡◌, ℕ, ◌+◌, ◌%◌, ◌^◌, ◌<◌, ◌≤◌, max, Bool, true, false, cond, eqb, sym, refl, ap, ◌∙◌, subst}
+use Rattle.std.proofs.Common.{⊎_elim, arith, eqb-true}
 use borrow.Author.Tests.{eqb-false}
 use Rattle.survey_bytes.specs.Runs.{head_of, tail_of, longest_of}
 use Rattle.laws.proofs.Bools.{order}

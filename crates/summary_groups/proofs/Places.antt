@@ -1,6 +1,8 @@
 -- Where the groups of a summary lie: the halves of a group, and the groups below one.
 -- Assumes nothing.
-use Rattle.std.proofs.Common.{◌≡◌, ℕ, zero, suc, ◌+◌, ◌-◌, ◌*◌, ◌/◌, ◌%◌, ◌^◌, ◌<◌, ◌≤◌, Bool, true, false, cond, eqb, ltb, ◌⊎◌, sym, refl, ap, ◌∙◌, subst, inl, inr, ⊎_elim, arith, pow_pos, pow_mono, ltb-false, ltb-true, eq-eqb, ne_eqb}
+use Rattle.std.proofs.Common.{◌≡◌, ℕ, zero, suc, ◌+◌, ◌-◌, ◌*◌, ◌/◌, ◌%◌, ◌^◌, ◌<◌, ◌≤◌, Bool, true, false, cond, eqb, ltb, ◌⊎◌}
+use Rattle.std.proofs.Common.{sym, refl, ap, ◌∙◌, subst, inl, inr, ⊎_elim, arith, pow_pos, pow_mono, ltb-false, ltb-true}
+use Rattle.std.proofs.Common.{eq-eqb, ne_eqb}
 use Rattle.laws.proofs.Bools.{order}
 use Rattle.summary_groups.specs.Groups.{doubled, power, Span, first_half, second_half, half_of, place_in, place}
 use Rattle.summary_groups.specs.Places.{Below, same, left, right, Sited, Apart}

@@ -1,6 +1,7 @@
 -- The longest run of a word, by runs that grow, and the group that a word's numbers make.
 -- Assumes nothing.
-use Rattle.std.proofs.Common.{◌≡◌, ℕ, ◌+◌, ◌-◌, ◌*◌, ◌%◌, ◌^◌, ◌<◌, ◌≤◌, Bool, true, false, ◌&&◌, sym, refl, ap, ◌∙◌, subst, ap₂, ⊎_elim, add_assoc, add-one, arith}
+use Rattle.std.proofs.Common.{◌≡◌, ℕ, ◌+◌, ◌-◌, ◌*◌, ◌%◌, ◌^◌, ◌<◌, ◌≤◌, Bool, true, false, ◌&&◌, sym, refl, ap, ◌∙◌, subst}
+use Rattle.std.proofs.Common.{ap₂, ⊎_elim, add_assoc, add-one, arith}
 use lib.Bits.{bit_and, and_lt}
 use lib.Count.{count_leading_zeros}
 use Rattle.laws.proofs.Bools.{order, clash, both_ways, and_left, and_right, and_both}

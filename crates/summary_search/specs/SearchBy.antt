@@ -98,5 +98,6 @@ unfoldable pub search_by : List ℕ → List ℕ → ℕ → ℕ → ℕ → ℕ
 unfolding search_down
 search_by map summary from before step k =
     cond (leb k (group_in summary 0).longest)
-    (or_else (least_fit (free map) from (min before (from + near_of step k)) step k) (search_down map summary from before step k))
+    (or_else (least_fit (free map) from (min before (from + near_of step k)) step k)
+    (search_down map summary from before step k))
     Nothing

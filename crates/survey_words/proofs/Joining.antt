@@ -113,7 +113,8 @@ tail_runs (false ∷ xs) p = omega (arith, tail_runs xs p)
 tail_runs (true ∷ xs) p = true_runs xs
 
 -- the free blocks at the head of eight before others
-pub head_eight : (xs ys : List Bool) → length xs ≡ 8 → head_of (xs ++ ys) ≡ cond (eqb (head_of xs) 8) (8 + head_of ys) (head_of xs)
+pub head_eight : (xs ys : List Bool) → length xs ≡ 8 → head_of (xs ++ ys)
+    ≡ cond (eqb (head_of xs) 8) (8 + head_of ys) (head_of xs)
 head_eight xs ys e =
     ⊎_elim
     (λ (f : Full xs ys). rw (eq-eqb (head_of xs) 8 (f.h ∙ e)) (f.a ∙ ap (λ (n : ℕ). n + head_of ys) e))

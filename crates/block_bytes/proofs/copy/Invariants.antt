@@ -8,7 +8,8 @@ use lib.ListN.{length, take, drop}
 use Rattle.block_bytes.proofs.copy.Given as goal
 
 abbrev pub invariant-loop-i : goal.invariant-loop-i
-invariant-loop-i l = (l.i ≤ length l.from) × (l.to ≡ take l.i l.from ++ drop l.i l.initial.to) × (length l.to ≡ length l.initial.to)
+invariant-loop-i l = (l.i ≤ length l.from) × (l.to ≡ take l.i l.from ++ drop l.i l.initial.to)
+    × (length l.to ≡ length l.initial.to)
 
 abbrev pub decreases-loop-i : goal.decreases-loop-i
 decreases-loop-i l = length l.from - l.i

@@ -24,7 +24,8 @@ turned-verdict q e = turned_first (view_at q) (on q.sheet release) e
 
 -- one who may make the call is not turned away
 allowed : (q : Lent) (t : Bool) (r : Out) (map summary : List ℕ) → t ≡ false
-    → (r ≡ release_out (called_by false q)) × (map ≡ release_map (called_by false q)) × (summary ≡ release_summary (called_by false
+    → (r ≡ release_out (called_by false q)) × (map ≡ release_map (called_by false q))
+    × (summary ≡ release_summary (called_by false
     q))
     → (r ≡ release_out (called_by t q)) × (map ≡ release_map (called_by t q)) × (summary ≡ release_summary (called_by t q))
 allowed q t r map summary e h =

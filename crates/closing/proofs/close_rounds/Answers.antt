@@ -2,7 +2,8 @@
 -- Assumes nothing.
 use Rattle.std.proofs.Common.{◌≡◌, ℕ, suc, ◌+◌, List, refl, sym, ap, ◌∙◌, add-one, arith}
 use Rattle.catalogue.specs.declared.Entry.{Entry}
-use Rattle.closing.specs.Rounds.{Stand, rounds, stand, round_at, round_entries, round_card, rounds_at, rounds_entries, rounds_card}
+use Rattle.closing.specs.Rounds.{Stand, rounds, stand, round_at, round_entries, round_card, rounds_at, rounds_entries}
+use Rattle.closing.specs.Rounds.{rounds_card}
 use Rattle.closing.proofs.close_rounds.Goals as goal
 
 none : (es : List Entry) (card : List ℕ) (at : ℕ) → rounds 0 (stand es card at) ≡ stand es card at

@@ -4,7 +4,8 @@ use Rattle.closing.specs.Rounds.{nearest_of}
 use Rattle.closing.proofs.nearest.Given as goal
 
 abbrev pub invariant-loop-i : goal.invariant-loop-i
-invariant-loop-i l = (l.i ≤ length l.catalogue) × (nearest_of (drop l.i l.catalogue) l.state ≡ nearest_of l.catalogue l.initial.state)
+invariant-loop-i l = (l.i ≤ length l.catalogue) × (nearest_of (drop l.i l.catalogue) l.state
+    ≡ nearest_of l.catalogue l.initial.state)
 
 abbrev pub decreases-loop-i : goal.decreases-loop-i
 decreases-loop-i l = length l.catalogue - l.i

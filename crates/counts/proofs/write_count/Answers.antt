@@ -9,7 +9,8 @@ pub returns-then-payload-ne-PAYLOAD : goal.returns-then-payload-ne-PAYLOAD
 returns-then-payload-ne-PAYLOAD c = write_wrong c.args.payload.now c.args.which c.args.count c.if-payload-ne-PAYLOAD.true
 
 pub returns-then-which-ge-COUNTS : goal.returns-then-which-ge-COUNTS
-returns-then-which-ge-COUNTS c = write-none c.args.payload.now c.args.which c.args.count c.if-payload-ne-PAYLOAD.false c.if-which-ge-COUNTS.true
+returns-then-which-ge-COUNTS c = write-none c.args.payload.now c.args.which c.args.count c.if-payload-ne-PAYLOAD.false
+    c.if-which-ge-COUNTS.true
 
 pub stored-requires : goal.stored-requires
 stored-requires c = sym c.in_range.ensures ∙ c.if-in_range.true

@@ -9,7 +9,8 @@ use Rattle.image_content.proofs.Passing.{Left}
 use Rattle.image_content.proofs.release_in.Given as goal
 
 abbrev pub invariant-loop-sheet : goal.invariant-loop-sheet
-invariant-loop-sheet l = (l.sheet ≤ l.c) × Left (entries_in l.image l.c) l.initial.window l.initial.scratch (rest (body_of l.image) 12 l.c l.sheet) l.window l.scratch
+invariant-loop-sheet l = (l.sheet ≤ l.c) × Left (entries_in l.image l.c) l.initial.window l.initial.scratch
+    (rest (body_of l.image) 12 l.c l.sheet) l.window l.scratch
 
 abbrev pub decreases-loop-sheet : goal.decreases-loop-sheet
 decreases-loop-sheet l = l.c - l.sheet

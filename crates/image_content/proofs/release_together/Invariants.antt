@@ -11,7 +11,8 @@ use Rattle.image_content.proofs.release_together.Given as goal
 
 abbrev pub invariant-loop-i : goal.invariant-loop-i
 invariant-loop-i l = (l.i ≤ l.count)
-    × Left (entries_from l.image l.at l.count) (window l.lo l.initial.stop) l.initial.scratch (rest l.image l.at l.count l.i) (window l.lo l.stop) l.scratch
+    × Left (entries_from l.image l.at l.count) (window l.lo l.initial.stop) l.initial.scratch (rest l.image l.at l.count l.i)
+    (window l.lo l.stop) l.scratch
 
 abbrev pub decreases-loop-i : goal.decreases-loop-i
 decreases-loop-i l = l.count - l.i

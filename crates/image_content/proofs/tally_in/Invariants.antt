@@ -11,7 +11,8 @@ use Rattle.image_content.proofs.Passing.{LeftToCount}
 use Rattle.image_content.proofs.tally_in.Given as goal
 
 abbrev pub invariant-loop-sheet : goal.invariant-loop-sheet
-invariant-loop-sheet l = (l.sheet ≤ l.c) × (l.tally.stop ≡ false) × LeftToCount l.n (entries_in l.image l.c) l.initial.tally (rest (body_of l.image) 12 l.c l.sheet) l.tally
+invariant-loop-sheet l = (l.sheet ≤ l.c) × (l.tally.stop ≡ false)
+    × LeftToCount l.n (entries_in l.image l.c) l.initial.tally (rest (body_of l.image) 12 l.c l.sheet) l.tally
 
 abbrev pub decreases-loop-sheet : goal.decreases-loop-sheet
 decreases-loop-sheet l = l.c - l.sheet

@@ -8,7 +8,8 @@ use Rattle.image_content.proofs.Passing.{LeftToCount}
 use Rattle.image_content.proofs.tally_together.Given as goal
 
 abbrev pub invariant-loop-i : goal.invariant-loop-i
-invariant-loop-i l = (l.i ≤ l.count) × LeftToCount l.n (entries_from l.image l.at l.count) l.initial.tally (rest l.image l.at l.count l.i) l.tally
+invariant-loop-i l = (l.i ≤ l.count) × LeftToCount l.n (entries_from l.image l.at l.count) l.initial.tally
+    (rest l.image l.at l.count l.i) l.tally
 
 abbrev pub decreases-loop-i : goal.decreases-loop-i
 decreases-loop-i l = l.count - l.i

@@ -7,7 +7,8 @@ use Rattle.image_content.proofs.Filling.{Stands}
 use Rattle.image_content.proofs.test_windows.Given as goal
 
 abbrev pub invariant-loop-i : goal.invariant-loop-i
-invariant-loop-i l = (l.i ≤ l.count) × Stands (map_in l.image l.n l.c) (entries_in l.image l.c) l.n l.initial.scratch l.initial.window l.i l.window l.scratch
+invariant-loop-i l = (l.i ≤ l.count) × Stands (map_in l.image l.n l.c) (entries_in l.image l.c) l.n l.initial.scratch
+    l.initial.window l.i l.window l.scratch
 
 abbrev pub decreases-loop-i : goal.decreases-loop-i
 decreases-loop-i l = l.count - l.i

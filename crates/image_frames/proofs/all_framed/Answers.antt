@@ -20,7 +20,8 @@ unfolding framed
 whole image good =
     sym (all_intro (λ i. sound i (total_of image) (block_of image i)) 0 (total_of image) (λ j l u. good j (omega arith)))
 
-broken : (image : List ℕ) (j : ℕ) → j < total_of image → sound j (total_of image) (block_of image j) ≡ false → false ≡ framed image
+broken : (image : List ℕ) (j : ℕ) → j < total_of image → sound j (total_of image) (block_of image j) ≡ false → false
+    ≡ framed image
 unfolding framed
 broken image j u e =
     sym (all_break (λ i. sound i (total_of image) (block_of image i)) 0 (total_of image) j (omega arith) (omega arith) e)

@@ -47,7 +47,8 @@ module _ (n : ℕ) (l : List Sheet) (card : List ℕ) (k : Matches n l card) (ro
       (λ (h : ℕ). says_on n l role i ask (record { blank = y.blank; sound = y.sound; term = y.term; held = h })) same
 
   ends_so : end_of (state_of n l card) call ≡ taken n l card k role i m start (free_in n l) (verdict_in n l call)
-  unfolding effects.accept_out effects.accept_map effects.accept_card effects.taken_out effects.taken_map effects.taken_card rows_for
+  unfolding effects.accept_out effects.accept_map effects.accept_card effects.taken_out effects.taken_map effects.taken_card
+      rows_for
   ends_so =
       ap (taken n l card k role i m start (map-blocks.free (map_in n l)))
       (verdict-within n l card k role i ask limits sharing never)

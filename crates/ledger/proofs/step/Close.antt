@@ -42,7 +42,8 @@ module _ (n : ℕ) (l : List Sheet) (card : List ℕ) (k : Matches n l card) (ro
       and_both _ _
       (and_both _ _
       (and_both _ _ (and_both _ _ (shape_fits_lem n l card k) (sheets_fit_lem n l card k))
-      (eq-eqb (length scratch) (scratch_words (length (map_in n l))) (length-replicate (scratch_words (length (map_in n l))) 0)))
+      (eq-eqb (length scratch) (scratch_words (length (map_in n l)))
+      (length-replicate (scratch_words (length (map_in n l))) 0)))
       (eq-eqb (length card) (512 * n) k.room))
       refl
 

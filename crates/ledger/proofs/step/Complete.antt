@@ -134,7 +134,8 @@ module _ (n : ℕ) (l : List Sheet) (card : List ℕ) (k : Matches n l card) (ro
       in_list true out = absurd (go turns refl)
         where
           go : (t : Bool) → turns ≡ t → ⊥
-          go true e = let q : ◌≡◌ {A = ℕ} 21 9 = same_number 21 9 (sym (turned_in_lem n l role i complete e) ∙ nine) in omega arith
+          go true e = let q : ◌≡◌ {A = ℕ} 21 9 = same_number 21 9 (sym (turned_in_lem n l role i complete e) ∙ nine) in omega
+              arith
           go false e = let q : ◌≡◌ {A = ℕ} 2 9 = same_number 2 9
               (sym (beyond_in n l role i complete e out) ∙ nine) in omega arith
       in_list false q = leb-false (length l) i q

@@ -53,7 +53,8 @@ module _ (n : ℕ) (l : List Sheet) (card : List ℕ) (k : Matches n l card) (ro
     fits : fit (free_in n l) 0 n 1 m (start + length places) ≡ true
     wide : length (places ++ replicate m Blank) ≡ length places + m
 
-  pub shown : leb (length l) i ≡ false → is_absent (standing_in (sheet_at l i)) ≡ false → is_paused (standing_in (sheet_at l i)) ≡
+  pub shown : leb (length l) i ≡ false → is_absent (standing_in (sheet_at l i)) ≡ false → is_paused (standing_in (sheet_at l i))
+      ≡
       false
       → is_complete (standing_in (sheet_at l i)) ≡ false
       → eqb m 0 ≡ false → not (fit (free_in n l) 0 n 1 m (start_in (sheet_at l i) + length_in (sheet_at l i))) ≡ false → Shown

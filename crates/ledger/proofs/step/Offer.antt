@@ -46,7 +46,8 @@ module _ (n : ℕ) (l : List Sheet) (card : List ℕ) (k : Matches n l card) (ro
   -- what it comes to, for a start
   abbrev tells_at : ℕ → Verdict → End
   tells_at start v =
-      ending (told (record { blocks = n; free = spare_in n l }) (settle v (Start start m) Refused)) (map_in n l) (map entry_in l)
+      ending (told (record { blocks = n; free = spare_in n l }) (settle v (Start start m) Refused)) (map_in n l)
+      (map entry_in l)
       card []
 
   abbrev ends : Verdict → End

@@ -51,9 +51,11 @@ module _ (n : ℕ) (l : List Sheet) (card : List ℕ) (k : Matches n l card) (ro
   abbrev start : ℕ
   start = least_in n l m placement
 
-  pub seen : leb (length l) i ≡ false → is_paused (standing_in (sheet_at l i)) ≡ false → is_open (standing_in (sheet_at l i)) ≡ false
+  pub seen : leb (length l) i ≡ false → is_paused (standing_in (sheet_at l i)) ≡ false → is_open (standing_in (sheet_at l i))
+      ≡ false
       → is_complete (standing_in (sheet_at l i)) ≡ false
-      → eqb m 0 ≡ false → misfigured n g ≡ false → none (least_within (free_in n l) g m) ≡ false → Shown n l card k role i m start
+      → eqb m 0 ≡ false → misfigured n g ≡ false → none (least_within (free_in n l) g m) ≡ false
+      → Shown n l card k role i m start
   seen h2 h6 h7 h8 h3 h15 h10 =
       shown n l card k role i m start h2 h6 h7 h8 h3
       (plain_fit (free_in n l) n g m start (figured n g h15).inside (least_fits (free_in n l) g m h10))

@@ -42,4 +42,5 @@ module _ (map : List ℕ) (n : ℕ) where
   pub passed_end : (i : ℕ) → length map ≤ i → Passed i → true ≡ is_fresh map n
   unfolding is_fresh
   passed_end i l p =
-      sym (all_intro (λ b. in_state map (ltb b n) b) 0 (64 * length map) (λ b a h. state_of map (ltb b n) b (p b (omega arith))))
+      sym (all_intro (λ b. in_state map (ltb b n) b) 0 (64 * length map)
+      (λ b a h. state_of map (ltb b n) b (p b (omega arith))))

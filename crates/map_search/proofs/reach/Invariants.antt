@@ -10,7 +10,8 @@ use Rattle.map_search_word.specs.Scan.{Carried}
 use Rattle.map_search.proofs.reach.Given as goal
 
 abbrev pub invariant-loop-i : goal.invariant-loop-i
-invariant-loop-i l = (l.first ≤ l.i) × (l.i ≤ l.first + 8) × ((j : ℕ) → j < 64 → bit l.w j ≡ in_window (free l.map) l.from l.before (l.i * 64 + j))
+invariant-loop-i l = (l.first ≤ l.i) × (l.i ≤ l.first + 8) × ((j : ℕ) → j < 64 → bit l.w j
+    ≡ in_window (free l.map) l.from l.before (l.i * 64 + j))
     × ((k : ℕ) → 0 < k → Carried (in_window (free l.map) l.from l.before) k (l.i * 64) 0)
 
 abbrev pub decreases-loop-i : goal.decreases-loop-i

@@ -64,10 +64,12 @@ pub returns-in-Hit : goal.returns-in-Hit
 returns-in-Hit c = subst (Stepped _ _ _) c.in-Hit.is (between (goal.at.returns-in-Hit c).After-scan_groups)
 
 pub returns-in-Hit-scan_word : goal.returns-in-Hit-scan_word
-returns-in-Hit-scan_word c = subst (Stepped _ _ _) c.in-Hit-scan_word.is (last (goal.at.returns-in-Hit-scan_word c).After-scan_word (between (goal.at.returns-in-Hit-scan_word c).After-scan_groups))
+returns-in-Hit-scan_word c = subst (Stepped _ _ _) c.in-Hit-scan_word.is
+    (last (goal.at.returns-in-Hit-scan_word c).After-scan_word (between (goal.at.returns-in-Hit-scan_word c).After-scan_groups))
 
 pub returns-in-Next-scan_word : goal.returns-in-Next-scan_word
 returns-in-Next-scan_word c = let here = c in
     let a = here.args in
     at_end (free a.map.now) a.from a.before a.k ((a.before - 1) / 64 * 64 + 64) _ (omega arith)
-    (subst (Stepped _ _ _) c.in-Next-scan_word.is (last (goal.at.returns-in-Next-scan_word c).After-scan_word (between (goal.at.returns-in-Next-scan_word c).After-scan_groups)))
+    (subst (Stepped _ _ _) c.in-Next-scan_word.is (last (goal.at.returns-in-Next-scan_word c).After-scan_word
+    (between (goal.at.returns-in-Next-scan_word c).After-scan_groups)))

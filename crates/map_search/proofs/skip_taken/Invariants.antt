@@ -9,7 +9,8 @@ use Rattle.map_search.proofs.skip_taken.Given as goal
 
 abbrev pub invariant-loop-i : goal.invariant-loop-i
 invariant-loop-i l = (l.first ≤ l.i) × (l.i ≤ l.stop) × (l.carried ≤ l.s)
-    × ((f : ℕ → Bool) (k : ℕ) → HasBits l.map l.first l.stop f → Carried f k (l.first * 64) l.s → Carried f k (l.i * 64) l.carried)
+    × ((f : ℕ → Bool) (k : ℕ) → HasBits l.map l.first l.stop f → Carried f k (l.first * 64) l.s
+    → Carried f k (l.i * 64) l.carried)
 
 abbrev pub decreases-loop-i : goal.decreases-loop-i
 decreases-loop-i l = l.stop - l.i

@@ -47,7 +47,8 @@ pub returns-then-r-base : goal.returns-then-r-base
 returns-then-r-base c = let a = c.args in
     let loop = c.loop-i in
     run_after (on_step a.step) (free a.map.now) a.k a.c a.c (loop.base + 64) (a.stop * 64)
-    c.look-r.result (omega arith) (omega arith) (λ t u v. absurd (omega arith)) (told (goal.at.returns-then-r-base c).After-look-r) c.if-r-base.true
+    c.look-r.result (omega arith) (omega arith) (λ t u v. absurd (omega arith))
+    (told (goal.at.returns-then-r-base c).After-look-r) c.if-r-base.true
 
 pub loop-i-preserved : goal.loop-i-preserved
 loop-i-preserved c = let here = c in

@@ -11,7 +11,8 @@ use Rattle.map_search_starts.specs.Starts.{Marks, NoRun}
 use Rattle.map_search_near.proofs.near_words.Given as goal
 
 abbrev pub invariant-loop-i : goal.invariant-loop-i
-invariant-loop-i l = (l.c / 64 ≤ l.i) × (l.i ≤ l.stop) × (l.base ≡ l.i * 64) × (l.far < l.step) × ((l.base + l.far) % l.step ≡ 0) × (l.m < 2 ^ 64)
+invariant-loop-i l = (l.c / 64 ≤ l.i) × (l.i ≤ l.stop) × (l.base ≡ l.i * 64) × (l.far < l.step)
+    × ((l.base + l.far) % l.step ≡ 0) × (l.m < 2 ^ 64)
     × Marks (λ (b : ℕ). on_step l.step b && leb l.c b) l.base l.m × NoRun (on_step l.step) (free l.map) l.k l.c l.base
 
 abbrev pub decreases-loop-i : goal.decreases-loop-i

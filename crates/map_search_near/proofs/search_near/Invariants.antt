@@ -8,7 +8,8 @@ use Rattle.map_blocks.specs.Blocks.{free, fit}
 use Rattle.map_search_near.proofs.search_near.Given as goal
 
 abbrev pub invariant-loop-c : goal.invariant-loop-c
-invariant-loop-c l = (l.from ≤ l.c) × (l.c ≤ l.before) × ((t : ℕ) → t < l.c → fit (free l.map) l.from l.before l.step l.k t ≡ false)
+invariant-loop-c l = (l.from ≤ l.c) × (l.c ≤ l.before) × ((t : ℕ) → t < l.c → fit (free l.map) l.from l.before l.step l.k t
+    ≡ false)
 
 abbrev pub decreases-loop-c : goal.decreases-loop-c
 decreases-loop-c l = l.last + 1 - l.c

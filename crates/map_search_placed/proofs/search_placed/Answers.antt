@@ -70,7 +70,8 @@ returns-then-before-b c = let a = c.args in
     (none-to (goal.at.returns-then-before-b c).After-reach-b)
 
 pub returns-then-step-ge64 : goal.returns-then-step-ge64
-returns-then-step-ge64 c = c.found-then-step-ge64.ensures ∙ c.search_far-then-step-ge64.ensures ∙ from_there (goal.at.returns-then-step-ge64 c).After-reach-b
+returns-then-step-ge64 c = c.found-then-step-ge64.ensures ∙ c.search_far-then-step-ge64.ensures
+    ∙ from_there (goal.at.returns-then-step-ge64 c).After-reach-b
 
 pub returns-then-c-before : goal.returns-then-c-before
 returns-then-c-before c = c.found-then-c-before.ensures ∙ c.first_start-c.ensures c.if-c-before.true ∙ from_there

@@ -37,9 +37,11 @@ returns-then-wanted-gt64 c = let here = c in
     let start = here in
     let w : ℕ = start.args.w in
     let e : min (start.args.k - start.args.s) 64 ≡ 64 = omega arith in
-    let ones : all (bit w) 0 64 ≡ true = ap (all (bit w) 0) (sym e) ∙ sym (tested (goal.at.returns-then-wanted-gt64 c).After-has_all) ∙ c.if-has_all.true in record {
+    let ones : all (bit w) 0 64 ≡ true = ap (all (bit w) 0) (sym e)
+    ∙ sym (tested (goal.at.returns-then-wanted-gt64 c).After-has_all) ∙ c.if-has_all.true in record {
       bounded = (omega arith, omega arith);
-      by_index = λ f same at. whole f _ _ _ w same at (omega arith) (λ j l. all_elim (bit w) 0 64 ones j (omega arith) (omega arith));
+      by_index = λ f same at. whole f _ _ _ w same at (omega arith)
+          (λ j l. all_elim (bit w) 0 64 ones j (omega arith) (omega arith));
     }
 
 pub returns-then-has_all : goal.returns-then-has_all
@@ -47,7 +49,8 @@ returns-then-has_all c = let here = c in
     let start = here in
     let w : ℕ = start.args.w in
     let e : min (start.args.k - start.args.s) 64 ≡ start.args.k - start.args.s = omega arith in
-    let ones : all (bit w) 0 (start.args.k - start.args.s) ≡ true = ap (all (bit w) 0) (sym e) ∙ sym (tested (goal.at.returns-then-has_all c).After-has_all)
+    let ones : all (bit w) 0 (start.args.k - start.args.s) ≡ true = ap (all (bit w) 0) (sym e)
+    ∙ sym (tested (goal.at.returns-then-has_all c).After-has_all)
     ∙ c.if-has_all.true in record {
       bounded = omega (arith, c.run_start.ensures);
       by_index = λ f same at. subst (Least f start.args.k) (sym c.run_start.ensures)
@@ -64,7 +67,8 @@ returns-then-g-eq0 c = let at-if1 = c in
     let below : c.tail.result < start.args.k = tail_below w c.tail.result start.args.k none tail in record {
       bounded = (below, omega (arith, tail.within));
       by_index = λ f same at. next f _ _ _ w same at c.tail.result tail below
-          (head_fails f _ _ _ w same at _ (omega arith) (omega arith) (omega arith) (early (goal.at.returns-then-g-eq0 c).After-has_all c.if-has_all.false)) none;
+          (head_fails f _ _ _ w same at _ (omega arith) (omega arith) (omega arith)
+          (early (goal.at.returns-then-g-eq0 c).After-has_all c.if-has_all.false)) none;
     }
 
 pub overflow_add-result-then-has_all-2 : goal.overflow_add-result-then-has_all-2
@@ -78,7 +82,8 @@ returns-then-has_all-2 c = let at-if1 = c in
       bounded = omega (arith, leading_le 64 g);
       by_index = λ f same at.
           gap_hit f _ _ _ w same at g (count_leading_zeros 64 g) c.gaps-g.ensures (first_set g (omega arith) (omega arith))
-          (head_fails f _ _ _ w same at _ (omega arith) (omega arith) (omega arith) (early (goal.at.returns-then-has_all-2 c).After-has_all c.if-has_all.false));
+          (head_fails f _ _ _ w same at _ (omega arith) (omega arith) (omega arith)
+          (early (goal.at.returns-then-has_all-2 c).After-has_all c.if-has_all.false));
     }
 
 pub returns : goal.returns
@@ -92,5 +97,6 @@ returns c = let at-if1 = c in
     let below : c.tail-2.result < start.args.k = tail_below w c.tail-2.result start.args.k none tail in record {
       bounded = (below, omega (arith, tail.within));
       by_index = λ f same at. next f _ _ _ w same at c.tail-2.result tail below
-          (head_fails f _ _ _ w same at _ (omega arith) (omega arith) (omega arith) (early (goal.at.returns c).After-has_all c.if-has_all.false)) none;
+          (head_fails f _ _ _ w same at _ (omega arith) (omega arith) (omega arith)
+          (early (goal.at.returns c).After-has_all c.if-has_all.false)) none;
     }

@@ -10,7 +10,8 @@ use Rattle.map_space.proofs.Taken.{Takes}
 use Rattle.map_space.proofs.space.Given as goal
 
 abbrev pub invariant-loop-taken : goal.invariant-loop-taken
-invariant-loop-taken l = (l.start / 64 ≤ l.i) × (l.i ≤ l.last) × (l.taken < 2 ^ 64) × Takes (free l.map) l.start (l.i * 64) l.taken
+invariant-loop-taken l = (l.start / 64 ≤ l.i) × (l.i ≤ l.last) × (l.taken < 2 ^ 64)
+    × Takes (free l.map) l.start (l.i * 64) l.taken
     × ((t : ℕ) → l.start ≤ t → t < l.i * 64 → free l.map t ≡ true)
 
 abbrev pub decreases-loop-taken : goal.decreases-loop-taken

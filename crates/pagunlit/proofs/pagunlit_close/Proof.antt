@@ -39,12 +39,14 @@ pagunlit_close_spec 𝓤 𝓛 𝓜 𝓡 =
     (tables 𝓤 𝓛.H 𝓜 𝓡 code.env).C (tables 𝓤 𝓛.H 𝓜 𝓡 code.env).Λ #pagunlit-close code.function (code.unfolded 𝓤 𝓛.H 𝓜 𝓡)
     (meets Shape Outcome Reply call-def.name reply-of-def.name (λ x0 x1 x2 x3 x4 x5. (close_end x0 x1 x2 x3 x4 x5).outcome)
     (λ x0 x1 x2 x3 x4 x5. (close_end x0 x1 x2 x3 x4 x5).map) (λ x0 x1 x2 x3 x4 x5. (close_end x0 x1 x2 x3 x4 x5).entries)
-    (λ x0 x1 x2 x3 x4 x5. (close_end x0 x1 x2 x3 x4 x5).card) (λ x0 x1 x2 x3 x4 x5. (close_end x0 x1 x2 x3 x4 x5).beside.scratch)
+    (λ x0 x1 x2 x3 x4 x5. (close_end x0 x1 x2 x3 x4 x5).card) (λ x0 x1 x2 x3 x4 x5.
+    (close_end x0 x1 x2 x3 x4 x5).beside.scratch)
     reply_of
     𝓛 (tables_of 𝓤 𝓛.H 𝓜 (tables 𝓤 𝓛.H 𝓜 𝓡 code.env))
     (cited 𝓤 𝓛.H (call-contract Shape Outcome Reply (λ x0 x1 x2 x3 x4 x5. (close_end x0 x1 x2 x3 x4 x5).outcome)
     (λ x0 x1 x2 x3 x4 x5. (close_end x0 x1 x2 x3 x4 x5).map) (λ x0 x1 x2 x3 x4 x5. (close_end x0 x1 x2 x3 x4 x5).entries)
-    (λ x0 x1 x2 x3 x4 x5. (close_end x0 x1 x2 x3 x4 x5).card) (λ x0 x1 x2 x3 x4 x5. (close_end x0 x1 x2 x3 x4 x5).beside.scratch) 𝓤
+    (λ x0 x1 x2 x3 x4 x5. (close_end x0 x1 x2 x3 x4 x5).card) (λ x0 x1 x2 x3 x4 x5.
+    (close_end x0 x1 x2 x3 x4 x5).beside.scratch) 𝓤
     𝓛) 𝓜 𝓡 code.env call-def.name call-def.routine code.calls-card::Shape::close (call_met.met 𝓤 𝓛 𝓜 𝓡))
     (cited 𝓤 𝓛.H (reply_of_contract Shape Outcome Reply reply_of 𝓤 𝓛) 𝓜 𝓡 code.env reply-of-def.name reply-of-def.routine
     code.calls-pagunlit-replies::reply-of (reply-of-met.met 𝓤 𝓛 𝓜 𝓡)))

@@ -38,11 +38,13 @@ pagunlit_grow_spec 𝓤 𝓛 𝓜 𝓡 =
     entered 𝓤 𝓛.H (triple_of 𝓛 pagunlit-grow.signature (pagunlit-grow.spec 𝓛 𝓜.mem 𝓡.run))
     (tables 𝓤 𝓛.H 𝓜 𝓡 code.env).C (tables 𝓤 𝓛.H 𝓜 𝓡 code.env).Λ #pagunlit-grow code.function (code.unfolded 𝓤 𝓛.H 𝓜 𝓡)
     (meets Shape Outcome Reply call-def.name reply-of-def.name (λ x0 x1 x2 x3 x4 x5 x6 x7. (grow_end x0 x1 x2 x3 x4 x5 x6
-    x7).outcome) (λ x0 x1 x2 x3 x4 x5 x6 x7. (grow_end x0 x1 x2 x3 x4 x5 x6 x7).map) (λ x0 x1 x2 x3 x4 x5 x6 x7. (grow_end x0 x1 x2
+    x7).outcome) (λ x0 x1 x2 x3 x4 x5 x6 x7. (grow_end x0 x1 x2 x3 x4 x5 x6 x7).map)
+    (λ x0 x1 x2 x3 x4 x5 x6 x7. (grow_end x0 x1 x2
     x3 x4 x5 x6 x7).entries) (λ x0 x1 x2 x3 x4 x5 x6 x7. (grow_end x0 x1 x2 x3 x4 x5 x6 x7).card) reply_of
     𝓛 (tables_of 𝓤 𝓛.H 𝓜 (tables 𝓤 𝓛.H 𝓜 𝓡 code.env))
     (cited 𝓤 𝓛.H (call-contract Shape Outcome Reply (λ x0 x1 x2 x3 x4 x5 x6 x7. (grow_end x0 x1 x2 x3 x4 x5 x6 x7).outcome)
-    (λ x0 x1 x2 x3 x4 x5 x6 x7. (grow_end x0 x1 x2 x3 x4 x5 x6 x7).map) (λ x0 x1 x2 x3 x4 x5 x6 x7. (grow_end x0 x1 x2 x3 x4 x5 x6
+    (λ x0 x1 x2 x3 x4 x5 x6 x7. (grow_end x0 x1 x2 x3 x4 x5 x6 x7).map)
+    (λ x0 x1 x2 x3 x4 x5 x6 x7. (grow_end x0 x1 x2 x3 x4 x5 x6
     x7).entries) (λ x0 x1 x2 x3 x4 x5 x6 x7. (grow_end x0 x1 x2 x3 x4 x5 x6 x7).card) 𝓤 𝓛) 𝓜 𝓡 code.env call-def.name
     call-def.routine code.calls-card::Shape::grow (call_met.met 𝓤 𝓛 𝓜 𝓡))
     (cited 𝓤 𝓛.H (reply_of_contract Shape Outcome Reply reply_of 𝓤 𝓛) 𝓜 𝓡 code.env reply-of-def.name reply-of-def.routine

@@ -44,7 +44,8 @@ pagunlit_reserve_placed_spec 𝓤 𝓛 𝓜 𝓡 =
     x10).map) (λ x0 x1 x2 x3 x4 x5 x6 x7 x8 x9 x10. (reservePlacedEnd x0 x1 x2 x3 x4 x5 x6 x7 x8 x9 x10).entries)
     (λ x0 x1 x2 x3 x4 x5 x6 x7 x8 x9 x10. (reservePlacedEnd x0 x1 x2 x3 x4 x5 x6 x7 x8 x9 x10).card) reply_of
     𝓛 (tables_of 𝓤 𝓛.H 𝓜 (tables 𝓤 𝓛.H 𝓜 𝓡 code.env))
-    (cited 𝓤 𝓛.H (call-contract Shape Outcome Reply (λ x0 x1 x2 x3 x4 x5 x6 x7 x8 x9 x10. (reservePlacedEnd x0 x1 x2 x3 x4 x5 x6 x7
+    (cited 𝓤 𝓛.H (call-contract Shape Outcome Reply (λ x0 x1 x2 x3 x4 x5 x6 x7 x8 x9 x10.
+    (reservePlacedEnd x0 x1 x2 x3 x4 x5 x6 x7
     x8 x9 x10).outcome) (λ x0 x1 x2 x3 x4 x5 x6 x7 x8 x9 x10. (reservePlacedEnd x0 x1 x2 x3 x4 x5 x6 x7 x8 x9 x10).map)
     (λ x0 x1 x2 x3 x4 x5 x6 x7 x8 x9 x10. (reservePlacedEnd x0 x1 x2 x3 x4 x5 x6 x7 x8 x9 x10).entries)
     (λ x0 x1 x2 x3 x4 x5 x6 x7 x8 x9 x10. (reservePlacedEnd x0 x1 x2 x3 x4 x5 x6 x7 x8 x9 x10).card) 𝓤 𝓛) 𝓜 𝓡 code.env

@@ -37,7 +37,8 @@ unfolding code.routine tables_of
 pagunlit_standing_spec 𝓤 𝓛 𝓜 𝓡 =
     entered 𝓤 𝓛.H (triple_of 𝓛 pagunlit-standing.signature (pagunlit-standing.spec 𝓛 𝓜.mem 𝓡.run))
     (tables 𝓤 𝓛.H 𝓜 𝓡 code.env).C (tables 𝓤 𝓛.H 𝓜 𝓡 code.env).Λ #pagunlit-standing code.function (code.unfolded 𝓤 𝓛.H 𝓜 𝓡)
-    (meets Shape Outcome Reply call-def.name reply-of-def.name (λ x0 x1 x2 x3 x4. (standing_end x0 x1 x2 x3 x4).outcome) reply_of
+    (meets Shape Outcome Reply call-def.name reply-of-def.name (λ x0 x1 x2 x3 x4. (standing_end x0 x1 x2 x3 x4).outcome)
+    reply_of
     𝓛 (tables_of 𝓤 𝓛.H 𝓜 (tables 𝓤 𝓛.H 𝓜 𝓡 code.env))
     (cited 𝓤 𝓛.H (call-contract Shape Outcome Reply (λ x0 x1 x2 x3 x4. (standing_end x0 x1 x2 x3 x4).outcome) 𝓤 𝓛) 𝓜 𝓡
     code.env call-def.name call-def.routine code.calls-card::Shape::standing (call_met.met 𝓤 𝓛 𝓜 𝓡))

@@ -17,7 +17,8 @@ module _ (es : List Entry) (i : ℕ) (d : Entry) (from to : Writer) (text text' 
   writer_more : lines_writer (drop i es) from text ≡ lines_writer (drop (i + 1) es) to text'
   unfolding lines_writer
   writer_more =
-      ap (λ (xs : List Entry). lines_writer xs from text) (rest es i d h) ∙ ap₂ (lines_writer (drop (i + 1) es)) (sym w.0) (sym w.1)
+      ap (λ (xs : List Entry). lines_writer xs from text) (rest es i d h)
+      ∙ ap₂ (lines_writer (drop (i + 1) es)) (sym w.0) (sym w.1)
 
   written_more : lines_written (drop i es) from text ≡ lines_written (drop (i + 1) es) to text'
   unfolding lines_written
@@ -48,6 +49,8 @@ returns-then-state c =
     let l = c.loop-i.invariant in
     let w = c.write_sheet-state.ensures in
     let es : List Entry = drop (c.loop-i.i + 1) c.args.catalogue.now in (
-      sym (l.1 ∙ writer_more c.args.catalogue.now c.loop-i.i _ _ _ _ _ c.loop-i-test.true w ∙ cursor_stays es _ _ c.if-state.true),
-      sym (l.2 ∙ written_more c.args.catalogue.now c.loop-i.i _ _ _ _ _ c.loop-i-test.true w ∙ text_stays es _ _ c.if-state.true),
+      sym (l.1 ∙ writer_more c.args.catalogue.now c.loop-i.i _ _ _ _ _ c.loop-i-test.true w
+          ∙ cursor_stays es _ _ c.if-state.true),
+      sym (l.2 ∙ written_more c.args.catalogue.now c.loop-i.i _ _ _ _ _ c.loop-i-test.true w
+          ∙ text_stays es _ _ c.if-state.true),
     )

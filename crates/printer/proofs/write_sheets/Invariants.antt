@@ -6,7 +6,8 @@ use Rattle.printer.proofs.write_sheets.Given as goal
 
 abbrev pub invariant-loop-i : goal.invariant-loop-i
 invariant-loop-i l =
-    (l.i ≤ length l.catalogue) × (lines_writer l.catalogue l.initial.state l.initial.text ≡ lines_writer (drop l.i l.catalogue) l.state l.text)
+    (l.i ≤ length l.catalogue) × (lines_writer l.catalogue l.initial.state l.initial.text
+    ≡ lines_writer (drop l.i l.catalogue) l.state l.text)
     × (lines_written l.catalogue l.initial.state l.initial.text ≡ lines_written (drop l.i l.catalogue) l.state l.text)
 
 abbrev pub decreases-loop-i : goal.decreases-loop-i

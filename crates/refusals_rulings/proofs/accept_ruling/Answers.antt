@@ -19,7 +19,8 @@ use Rattle.refusals_rulings.proofs.accept_ruling.Goals as goal
 pub returns-then-row-ne0 : goal.returns-then-row-ne0
 returns-then-row-ne0 c = let call = c.enter_giving-row in
     let a = c.args in
-    let q₀ = called_by (turned_away a.role names.accept) (lent_beside a.guided a.summary.now a.n a.free a.map.now a.card.now a.c a.entry
+    let q₀ = called_by (turned_away a.role names.accept) (lent_beside a.guided a.summary.now a.n a.free a.map.now a.card.now a.c
+    a.entry
     a.sheet) in
     let q = called_by (turned_away a.role names.accept) (lent_within a.held a.limits.now a.guided a.summary.now
     a.n a.free a.map.now
@@ -32,14 +33,16 @@ returns-then-row-ne0 c = let call = c.enter_giving-row in
 pub over_limit-over-requires : goal.over_limit-over-requires
 over_limit-over-requires c = let call = c.enter_giving-row in
     let a = c.args in
-    let q₀ = called_by (turned_away a.role names.accept) (lent_beside a.guided a.summary.now a.n a.free a.map.now a.card.now a.c a.entry
+    let q₀ = called_by (turned_away a.role names.accept) (lent_beside a.guided a.summary.now a.n a.free a.map.now a.card.now a.c
+    a.entry
     a.sheet) in
     (given q₀ a.k (giving_zero q₀ a.k (sym call.ensures ∙ c.if-row-ne0.false))).below
 
 pub run_ruling-requires : goal.run_ruling-requires
 run_ruling-requires c = let call = c.enter_giving-row in
     let a = c.args in
-    let q₀ = called_by (turned_away a.role names.accept) (lent_beside a.guided a.summary.now a.n a.free a.map.now a.card.now a.c a.entry
+    let q₀ = called_by (turned_away a.role names.accept) (lent_beside a.guided a.summary.now a.n a.free a.map.now a.card.now a.c
+    a.entry
     a.sheet) in
     let g = given q₀ a.k (giving_zero q₀ a.k (sym call.ensures ∙ c.if-row-ne0.false)) in
     (omega (arith, g.sizes.shape.limit), omega (arith, g.sizes.shape.covered))
@@ -47,7 +50,8 @@ run_ruling-requires c = let call = c.enter_giving-row in
 pub returns : goal.returns
 returns c = let call = c.enter_giving-row in
     let a = c.args in
-    let q₀ = called_by (turned_away a.role names.accept) (lent_beside a.guided a.summary.now a.n a.free a.map.now a.card.now a.c a.entry
+    let q₀ = called_by (turned_away a.role names.accept) (lent_beside a.guided a.summary.now a.n a.free a.map.now a.card.now a.c
+    a.entry
     a.sheet) in
     let q = called_by (turned_away a.role names.accept) (lent_within a.held a.limits.now a.guided a.summary.now
     a.n a.free a.map.now

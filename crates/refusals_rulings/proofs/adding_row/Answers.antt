@@ -29,7 +29,8 @@ returns-in_default c = let test = c.guide_fits in
     let opens =
     guide_open q call.result refl (holds test.ensures c.if-not-guide_fits.false-raw) call.ensures in
     c.refused_row.ensures ∙ ap refused_row c.in_default.is
-    ∙ sym (ap row_number (adding_shut q a.m c.in_default.field-0 (refused_first q call.result c.in_default.field-0 opens c.in_default.is)))
+    ∙ sym (ap row_number (adding_shut q a.m c.in_default.field-0 (refused_first q call.result c.in_default.field-0 opens
+    c.in_default.is)))
 
 pub returns-in_default-stands : goal.returns-in_default-stands
 returns-in_default-stands c = let test = c.guide_fits in

@@ -29,7 +29,8 @@ returns-in_default c = let test = c.guide_fits in
     let opens =
     guide_open q call.result refl (holds test.ensures c.if-not-guide_fits.false-raw) call.ensures in
     c.refused_row.ensures ∙ ap refused_row c.in_default.is
-    ∙ sym (ap row_number (giving_shut q a.k c.in_default.field-0 (refused_first q call.result c.in_default.field-0 opens c.in_default.is)))
+    ∙ sym (ap row_number (giving_shut q a.k c.in_default.field-0 (refused_first q call.result c.in_default.field-0 opens
+    c.in_default.is)))
 
 pub returns-in_default-stands : goal.returns-in_default-stands
 returns-in_default-stands c = let test = c.guide_fits in
@@ -41,7 +42,8 @@ returns-in_default-stands c = let test = c.guide_fits in
     c.if-not-guide_fits.false-raw) call.ensures in
     c.row_of.ensures
     ∙ sym (ap row_number (giving_other q a.k c.in-Stands.stands
-    (stands_first q call.result c.in-Stands.stands c.in-Stands.stands opens c.in-Stands.is refl) c.in_default-stands.not-Absent))
+    (stands_first q call.result c.in-Stands.stands c.in-Stands.stands opens c.in-Stands.is refl)
+    c.in_default-stands.not-Absent))
 
 pub returns-then-k-eq0 : goal.returns-then-k-eq0
 returns-then-k-eq0 c = let test = c.guide_fits in

@@ -19,7 +19,8 @@ use Rattle.refusals_rulings.proofs.grow_ruling.Goals as goal
 pub returns-then-row-ne0 : goal.returns-then-row-ne0
 returns-then-row-ne0 c = let call = c.enter_adding-row in
     let a = c.args in
-    let q₀ = called_by (turned_away a.role names.grow) (lent_beside a.guided a.summary.now a.n a.free a.map.now a.card.now a.c a.entry
+    let q₀ = called_by (turned_away a.role names.grow) (lent_beside a.guided a.summary.now a.n a.free a.map.now a.card.now a.c
+    a.entry
     a.sheet) in
     let q = called_by (turned_away a.role names.grow) (lent_within a.held a.limits.now a.guided a.summary.now
     a.n a.free a.map.now
@@ -31,14 +32,16 @@ returns-then-row-ne0 c = let call = c.enter_adding-row in
 pub over_limit-over-requires : goal.over_limit-over-requires
 over_limit-over-requires c = let call = c.enter_adding-row in
     let a = c.args in
-    let q₀ = called_by (turned_away a.role names.grow) (lent_beside a.guided a.summary.now a.n a.free a.map.now a.card.now a.c a.entry
+    let q₀ = called_by (turned_away a.role names.grow) (lent_beside a.guided a.summary.now a.n a.free a.map.now a.card.now a.c
+    a.entry
     a.sheet) in
     (added q₀ a.m (adding_zero q₀ a.m (sym call.ensures ∙ c.if-row-ne0.false))).below
 
 pub overflow_add-entry : goal.overflow_add-entry
 overflow_add-entry c = let call = c.enter_adding-row in
     let a = c.args in
-    let q₀ = called_by (turned_away a.role names.grow) (lent_beside a.guided a.summary.now a.n a.free a.map.now a.card.now a.c a.entry
+    let q₀ = called_by (turned_away a.role names.grow) (lent_beside a.guided a.summary.now a.n a.free a.map.now a.card.now a.c
+    a.entry
     a.sheet) in
     let g = added q₀ a.m (adding_zero q₀ a.m (sym call.ensures ∙ c.if-row-ne0.false)) in
     omega (arith, g.extent.starts, g.extent.lasts, g.extent.inside, g.sizes.shape.limit)
@@ -46,7 +49,8 @@ overflow_add-entry c = let call = c.enter_adding-row in
 pub run_ruling-requires : goal.run_ruling-requires
 run_ruling-requires c = let call = c.enter_adding-row in
     let a = c.args in
-    let q₀ = called_by (turned_away a.role names.grow) (lent_beside a.guided a.summary.now a.n a.free a.map.now a.card.now a.c a.entry
+    let q₀ = called_by (turned_away a.role names.grow) (lent_beside a.guided a.summary.now a.n a.free a.map.now a.card.now a.c
+    a.entry
     a.sheet) in
     let g = added q₀ a.m (adding_zero q₀ a.m (sym call.ensures ∙ c.if-row-ne0.false)) in
     (omega (arith, g.sizes.shape.limit), omega (arith, g.sizes.shape.covered))
@@ -54,7 +58,8 @@ run_ruling-requires c = let call = c.enter_adding-row in
 pub returns : goal.returns
 returns c = let call = c.enter_adding-row in
     let a = c.args in
-    let q₀ = called_by (turned_away a.role names.grow) (lent_beside a.guided a.summary.now a.n a.free a.map.now a.card.now a.c a.entry
+    let q₀ = called_by (turned_away a.role names.grow) (lent_beside a.guided a.summary.now a.n a.free a.map.now a.card.now a.c
+    a.entry
     a.sheet) in
     let q = called_by (turned_away a.role names.grow) (lent_within a.held a.limits.now a.guided a.summary.now
     a.n a.free a.map.now

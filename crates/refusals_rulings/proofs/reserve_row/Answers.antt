@@ -35,7 +35,8 @@ module _ (q : Lent) (k : ℕ) (p : Placement) where
 pub returns-then-row-ne0 : goal.returns-then-row-ne0
 returns-then-row-ne0 c = let call = c.enter_giving-row in
     let a = c.args in
-    let q₀ = called_by (turned_away a.role a.call) (lent_beside a.guided a.summary.now a.n a.free a.map.now a.card.now a.c a.entry
+    let q₀ = called_by (turned_away a.role a.call) (lent_beside a.guided a.summary.now a.n a.free a.map.now a.card.now a.c
+    a.entry
     a.sheet) in
     let q = called_by (turned_away a.role a.call) (lent_within a.held a.limits.now a.guided a.summary.now a.n a.free a.map.now
     a.card.now
@@ -45,7 +46,8 @@ returns-then-row-ne0 c = let call = c.enter_giving-row in
 
 pub returns-then-figures_wrong : goal.returns-then-figures_wrong
 returns-then-figures_wrong c = let a = c.args in
-    let q₀ = called_by (turned_away a.role a.call) (lent_beside a.guided a.summary.now a.n a.free a.map.now a.card.now a.c a.entry
+    let q₀ = called_by (turned_away a.role a.call) (lent_beside a.guided a.summary.now a.n a.free a.map.now a.card.now a.c
+    a.entry
     a.sheet) in
     let q = called_by (turned_away a.role a.call) (lent_within a.held a.limits.now a.guided a.summary.now a.n a.free a.map.now
     a.card.now
@@ -57,14 +59,16 @@ returns-then-figures_wrong c = let a = c.args in
 
 pub over_limit-requires : goal.over_limit-requires
 over_limit-requires c = let a = c.args in
-    let q₀ = called_by (turned_away a.role a.call) (lent_beside a.guided a.summary.now a.n a.free a.map.now a.card.now a.c a.entry
+    let q₀ = called_by (turned_away a.role a.call) (lent_beside a.guided a.summary.now a.n a.free a.map.now a.card.now a.c
+    a.entry
     a.sheet) in
     (given q₀ a.k
     (giving_zero q₀ a.k (sym c.enter_giving-row.ensures ∙ c.if-row-ne0.false))).below
 
 pub returns-then-over_limit : goal.returns-then-over_limit
 returns-then-over_limit c = let a = c.args in
-    let q₀ = called_by (turned_away a.role a.call) (lent_beside a.guided a.summary.now a.n a.free a.map.now a.card.now a.c a.entry
+    let q₀ = called_by (turned_away a.role a.call) (lent_beside a.guided a.summary.now a.n a.free a.map.now a.card.now a.c
+    a.entry
     a.sheet) in
     let q = called_by (turned_away a.role a.call) (lent_within a.held a.limits.now a.guided a.summary.now a.n a.free a.map.now
     a.card.now
@@ -77,7 +81,8 @@ returns-then-over_limit c = let a = c.args in
 
 pub returns : goal.returns
 returns c = let a = c.args in
-    let q₀ = called_by (turned_away a.role a.call) (lent_beside a.guided a.summary.now a.n a.free a.map.now a.card.now a.c a.entry
+    let q₀ = called_by (turned_away a.role a.call) (lent_beside a.guided a.summary.now a.n a.free a.map.now a.card.now a.c
+    a.entry
     a.sheet) in
     let q = called_by (turned_away a.role a.call) (lent_within a.held a.limits.now a.guided a.summary.now a.n a.free a.map.now
     a.card.now

@@ -1,4 +1,5 @@
--- `summary::right_below` meets its contract: a group is right where its word tells so, or where its halves are right and tell so.
+-- `summary::right_below` meets its contract: a group is right where its word tells so, or where its halves are right and tell
+-- so.
 -- Assumes nothing.
 use Rattle.std.proofs.Common.{subst, arith}
 use Rattle.summary_groups.specs.Places.{Sited}

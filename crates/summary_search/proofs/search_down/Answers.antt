@@ -62,14 +62,16 @@ loop-at-init c = let a = c.args in
 pub seek_down-t-requires : goal.seek_down-t-requires
 seek_down-t-requires c = let begun = c in
     let start = begun in (
-      lies_whole (length start.args.map.now) _ _ start.requires.0 start.requires.2 (words (goal.at.seek_down-t-requires c).After-words_of),
+      lies_whole (length start.args.map.now) _ _ start.requires.0 start.requires.2
+          (words (goal.at.seek_down-t-requires c).After-words_of),
       omega arith,
     )
 
 pub returns-then-t-ge-NONE : goal.returns-then-t-ge-NONE
 returns-then-t-ge-NONE c = let sought = c in
     let start = sought in
-    found_none _ _ _ _ _ _ start.requires.0 start.requires.3 _ sought.loop-at.invariant _ (number (goal.at.returns-then-t-ge-NONE c).After-seek_down-t (words (goal.at.returns-then-t-ge-NONE c).After-words_of))
+    found_none _ _ _ _ _ _ start.requires.0 start.requires.3 _ sought.loop-at.invariant _
+    (number (goal.at.returns-then-t-ge-NONE c).After-seek_down-t (words (goal.at.returns-then-t-ge-NONE c).After-words_of))
     sought.loop-at-test.true c.if-t-ge-NONE.true
 
 pub look_at-requires : goal.look_at-requires
@@ -81,7 +83,8 @@ returns-in-At c = let look = c in
     let test = look in
     let sought = test in
     let start = sought in
-    found_at _ _ _ _ _ _ start.requires.0 start.requires.3 _ sought.loop-at.invariant _ (number (goal.at.returns-in-At c).After-seek_down-t (words (goal.at.returns-in-At c).After-words_of))
+    found_at _ _ _ _ _ _ start.requires.0 start.requires.3 _ sought.loop-at.invariant _
+    (number (goal.at.returns-in-At c).After-seek_down-t (words (goal.at.returns-in-At c).After-words_of))
     test.if-t-ge-NONE.false (fits (goal.at.returns-in-At c).Then-ends_before)
     sought.loop-at-test.true _ (sym look.look_at.ensures ∙ c.in-At.is)
 
@@ -102,7 +105,8 @@ loop-at-smaller c = let sought = c in
     omega (
       arith,
       sought.loop-at-test.true,
-      not-before start.args.map.now _ _ start.requires.0 start.requires.3 _ _ (number (goal.at.loop-at-smaller c).After-seek_down-t (words (goal.at.loop-at-smaller c).After-words_of))
+      not-before start.args.map.now _ _ start.requires.0 start.requires.3 _ _
+          (number (goal.at.loop-at-smaller c).After-seek_down-t (words (goal.at.loop-at-smaller c).After-words_of))
           c.if-t-ge-NONE.false,
     )
 
@@ -113,14 +117,16 @@ loop-at-preserved c = let look = c in
     let start = sought in
     subst (λ (x : ℕ). Turning start.args.map.now start.args.summary.now start.args.from start.args.before
     start.args.step start.args.k (sought.seek_down-t.result + x + 1)) (sym c.stretch_of.ensures)
-    (found_nothing _ _ _ _ _ _ start.requires.0 start.requires.3 _ sought.loop-at.invariant _ (number (goal.at.loop-at-preserved c).After-seek_down-t (words (goal.at.loop-at-preserved c).After-words_of))
+    (found_nothing _ _ _ _ _ _ start.requires.0 start.requires.3 _ sought.loop-at.invariant _
+    (number (goal.at.loop-at-preserved c).After-seek_down-t (words (goal.at.loop-at-preserved c).After-words_of))
     test.if-t-ge-NONE.false (fits (goal.at.loop-at-preserved c).Then-ends_before) sought.loop-at-test.true
     (sym look.look_at.ensures ∙ c.in-Nothing.is))
 
 pub returns-else-ends_before : goal.returns-else-ends_before
 returns-else-ends_before c = let sought = c in
     let start = sought in
-    found-far _ _ _ _ _ _ start.requires.0 start.requires.3 _ sought.loop-at.invariant _ (number (goal.at.returns-else-ends_before c).After-seek_down-t (words (goal.at.returns-else-ends_before c).After-words_of))
+    found-far _ _ _ _ _ _ start.requires.0 start.requires.3 _ sought.loop-at.invariant _
+    (number (goal.at.returns-else-ends_before c).After-seek_down-t (words (goal.at.returns-else-ends_before c).After-words_of))
     sought.loop-at-test.true c.if-t-ge-NONE.false
     (leb-false _ _ (sym c.ends_before.ensures ∙ c.if-ends_before.false))
 

@@ -1,4 +1,5 @@
--- `summary_write::build_group` meets its contract: a group of one word is stored, and another built from its halves as they are built.
+-- `summary_write::build_group` meets its contract: a group of one word is stored, and another built from its halves as they are
+-- built.
 -- Assumes nothing.
 use Rattle.std.proofs.Common.{◌≡◌, ◌+◌, ◌*◌, ◌<◌, length, sym, ap, ◌∙◌, subst, arith}
 use Rattle.summary_groups.specs.Groups.{power}

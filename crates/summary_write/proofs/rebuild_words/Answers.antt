@@ -1,4 +1,5 @@
--- `summary_write::rebuild_words` meets its contract. The invariant: groups g to stop - 1, two or more, are those of the level that
+-- `summary_write::rebuild_words` meets its contract. The invariant: groups g to stop - 1, two or more, are those of the level
+-- that
 -- have one of the words, and what has been stored is as aimed at.
 -- Assumes nothing.
 

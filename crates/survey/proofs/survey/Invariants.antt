@@ -13,9 +13,11 @@ use Rattle.survey.proofs.Passing.{rest}
 use Rattle.survey.proofs.survey.Given as goal
 
 abbrev pub invariant-loop-i : goal.invariant-loop-i
-invariant-loop-i l = (l.i ≤ words_for l.n) × Summary l.passed.head l.passed.longest l.passed.runs (rest (free l.map) l.n (words_for l.n) l.i)
+invariant-loop-i l = (l.i ≤ words_for l.n) × Summary l.passed.head l.passed.longest l.passed.runs
+    (rest (free l.map) l.n (words_for l.n) l.i)
     × (l.free ≡ free_of (rest (free l.map) l.n (words_for l.n) l.i))
-    × (l.passed.head ≤ 2040 * (words_for l.n - l.i)) × (l.passed.runs ≤ 2040 * (words_for l.n - l.i)) × (l.free ≤ 64 * (words_for l.n - l.i))
+    × (l.passed.head ≤ 2040 * (words_for l.n - l.i)) × (l.passed.runs ≤ 2040 * (words_for l.n - l.i))
+    × (l.free ≤ 64 * (words_for l.n - l.i))
     × Before l.n l.i l.mask × (l.mask < 2 ^ 64)
 
 abbrev pub decreases-loop-i : goal.decreases-loop-i

@@ -55,7 +55,8 @@ returns-in_default c = let a = c.args in
     c.enter_on-opened.ensures c.in_default.is in
     by_row q c.in_default.field-0 c.refusal.result (c.refusal.ensures
     ∙ ap (refusal_out a.free a.entry) (c.refused_row.ensures ∙ ap refused_row c.in_default.is))
-    (shut q c.in_default.field-0 shuts) (opening_row q.turned (all_fits q) q.sheets q.sheet (standing q) c.in_default.field-0 shuts)
+    (shut q c.in_default.field-0 shuts) (opening_row q.turned (all_fits q) q.sheets q.sheet (standing q) c.in_default.field-0
+    shuts)
 
 pub returns-in_default-stands : goal.returns-in_default-stands
 returns-in_default-stands c = let here = c in

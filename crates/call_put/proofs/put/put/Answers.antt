@@ -18,7 +18,8 @@ use Rattle.call_put.proofs.put.put.Goals as goal
 
 pub returns-in_default : goal.returns-in_default
 returns-in_default c = let here = c in
-    out _ _ _ (refused here.in_default.field-0) (shut _ _ _ here.in_default.field-0 here.enter_on-opened.ensures here.in_default.is) _ _
+    out _ _ _ (refused here.in_default.field-0) (shut _ _ _ here.in_default.field-0 here.enter_on-opened.ensures
+    here.in_default.is) _ _
     (ap Refused (c.refused_row.ensures ∙ ap refused_row here.in_default.is))
     refl
 

@@ -19,7 +19,8 @@ pub returns-in-Refused : goal.returns-in-Refused
 returns-in-Refused c =
     let call = c.reserve_ruling in
     let a = c.args in
-    let q = called_by (turned_away a.role names.offer) (lent_within a.held a.limits.now false [] a.n a.free a.map.now a.card.now a.c a.entry
+    let q = called_by (turned_away a.role names.offer) (lent_within a.held a.limits.now false [] a.n a.free a.map.now a.card.now
+    a.c a.entry
     a.sheet) in
     let p = placed (figures 0 a.n 1) in
     let number = c.in-Refused.row in
@@ -31,7 +32,8 @@ pub returns-in-At : goal.returns-in-At
 returns-in-At c =
     let call = c.reserve_ruling in
     let a = c.args in
-    let q = called_by (turned_away a.role names.offer) (lent_within a.held a.limits.now false [] a.n a.free a.map.now a.card.now a.c a.entry
+    let q = called_by (turned_away a.role names.offer) (lent_within a.held a.limits.now false [] a.n a.free a.map.now a.card.now
+    a.c a.entry
     a.sheet) in
     let p = placed (figures 0 a.n 1) in
     let ruled = accepts (reserve_start_on q a.k p) call.result (reserve_verdict_on q a.k p) c.in-At.start

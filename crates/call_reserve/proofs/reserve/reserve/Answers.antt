@@ -18,7 +18,8 @@ pub take-requires : goal.take-requires
 take-requires c =
     let call = c.reserve_ruling in
     let a = c.args in
-    let q = called_by (turned_away a.role names.reserve) (lent_within a.held a.limits.now a.guided a.summary.now a.n a.free a.map.now
+    let q = called_by (turned_away a.role names.reserve) (lent_within a.held a.limits.now a.guided a.summary.now a.n a.free
+    a.map.now
     a.card.now
     a.c a.entry a.sheet) in
     let p = placed a.figures in
@@ -38,7 +39,8 @@ pub returns-in-Refused : goal.returns-in-Refused
 returns-in-Refused c =
     let call = c.reserve_ruling in
     let a = c.args in
-    let q = called_by (turned_away a.role names.reserve) (lent_within a.held a.limits.now a.guided a.summary.now a.n a.free a.map.now
+    let q = called_by (turned_away a.role names.reserve) (lent_within a.held a.limits.now a.guided a.summary.now a.n a.free
+    a.map.now
     a.card.now
     a.c a.entry a.sheet) in
     let p = placed a.figures in
@@ -51,7 +53,8 @@ pub returns-in-At : goal.returns-in-At
 returns-in-At c =
     let call = c.reserve_ruling in
     let a = c.args in
-    let q = called_by (turned_away a.role names.reserve) (lent_within a.held a.limits.now a.guided a.summary.now a.n a.free a.map.now
+    let q = called_by (turned_away a.role names.reserve) (lent_within a.held a.limits.now a.guided a.summary.now a.n a.free
+    a.map.now
     a.card.now
     a.c a.entry a.sheet) in
     let p = placed a.figures in

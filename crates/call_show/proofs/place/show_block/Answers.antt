@@ -9,7 +9,8 @@ use borrow.Author.Rules.{rules}
 use Rattle.call_show.proofs.place.show_block.Goals as goal
 
 pub returns-then-not-sound_block : goal.returns-then-not-sound_block
-returns-then-not-sound_block c = told _ (refused 4) (not_sound _ (fails c.sound_block.ensures c.if-not-sound_block.true-raw)) _ _ _ _ refl refl
+returns-then-not-sound_block c = told _ (refused 4) (not_sound _ (fails c.sound_block.ensures c.if-not-sound_block.true-raw)) _
+    _ _ _ refl refl
 
 pub returns : goal.returns
 returns c = let if1 = c in

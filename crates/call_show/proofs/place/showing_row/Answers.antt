@@ -28,7 +28,8 @@ returns-in_default-stands c = let call = c.enter_on-opened in
     a.sheet) in
     c.row_of.ensures
     ∙ sym (ap row_number (showing_other q a.place a.buffer.now c.in-Stands.stands
-    (stands_first q call.result c.in-Stands.stands c.in-Stands.stands call.ensures c.in-Stands.is refl) c.in_default-stands.not-Complete))
+    (stands_first q call.result c.in-Stands.stands c.in-Stands.stands call.ensures c.in-Stands.is refl)
+    c.in_default-stands.not-Complete))
 
 pub returns-then-blocks-place : goal.returns-then-blocks-place
 returns-then-blocks-place c = let call = c.enter_on-opened in
@@ -36,7 +37,8 @@ returns-then-blocks-place c = let call = c.enter_on-opened in
     let q = called_by (turned_away a.role a.call) (lent a.n a.free a.map.now a.card.now a.c a.entry
     a.sheet) in
     sym (ap row_number (showing-past-end q a.place a.buffer.now c.in-Complete.field-0 c.in-Complete.blocks
-    (stands_first q call.result c.in-Stands.stands (Complete c.in-Complete.field-0 c.in-Complete.blocks) call.ensures c.in-Stands.is c.in-Complete.is)
+    (stands_first q call.result c.in-Stands.stands (Complete c.in-Complete.field-0 c.in-Complete.blocks) call.ensures
+    c.in-Stands.is c.in-Complete.is)
     c.if-blocks-place.true))
 
 pub returns-then-buffer-ne-PAYLOAD : goal.returns-then-buffer-ne-PAYLOAD
@@ -45,7 +47,8 @@ returns-then-buffer-ne-PAYLOAD c = let call = c.enter_on-opened in
     let q = called_by (turned_away a.role a.call) (lent a.n a.free a.map.now a.card.now a.c a.entry
     a.sheet) in
     sym (ap row_number (showing-misfit q a.place a.buffer.now c.in-Complete.field-0 c.in-Complete.blocks
-    (stands_first q call.result c.in-Stands.stands (Complete c.in-Complete.field-0 c.in-Complete.blocks) call.ensures c.in-Stands.is c.in-Complete.is)
+    (stands_first q call.result c.in-Stands.stands (Complete c.in-Complete.field-0 c.in-Complete.blocks) call.ensures
+    c.in-Stands.is c.in-Complete.is)
     c.if-blocks-place.false c.if-buffer-ne-PAYLOAD.true))
 
 pub returns : goal.returns
@@ -54,5 +57,6 @@ returns c = let call = c.enter_on-opened in
     let q = called_by (turned_away a.role a.call) (lent a.n a.free a.map.now a.card.now a.c a.entry
     a.sheet) in
     sym (ap row_number (showing-passes q a.place a.buffer.now c.in-Complete.field-0 c.in-Complete.blocks
-    (stands_first q call.result c.in-Stands.stands (Complete c.in-Complete.field-0 c.in-Complete.blocks) call.ensures c.in-Stands.is c.in-Complete.is)
+    (stands_first q call.result c.in-Stands.stands (Complete c.in-Complete.field-0 c.in-Complete.blocks) call.ensures
+    c.in-Stands.is c.in-Complete.is)
     c.if-blocks-place.false c.if-buffer-ne-PAYLOAD.false))

@@ -60,7 +60,8 @@ print_image_spec 𝓤 𝓛 𝓜 𝓡 =
     (meets Writer Shape Outcome Reply count-def.name load-def.name reply-of-def.name begin-def.name write-sheets-def.name
     place-of-def.name length (λ x0 x1 x2 x3 x4 x5. (load_end x0 x1 x2 x3 x4 x5).outcome)
     (λ x0 x1 x2 x3 x4 x5. (load_end x0 x1 x2 x3 x4 x5).map) (λ x0 x1 x2 x3 x4 x5. (load_end x0 x1 x2 x3 x4 x5).entries)
-    (λ x0 x1 x2 x3 x4 x5. (load_end x0 x1 x2 x3 x4 x5).beside.scratch) reply_of begin_writer begin_written lines_writer lines_written
+    (λ x0 x1 x2 x3 x4 x5. (load_end x0 x1 x2 x3 x4 x5).beside.scratch) reply_of begin_writer begin_written lines_writer
+    lines_written
     place_of Prints prints
     𝓛 (tables_of 𝓤 𝓛.H 𝓜 (tables 𝓤 𝓛.H 𝓜 𝓡 code.env))
     (cited 𝓤 𝓛.H (count-contract Writer Shape Outcome Reply length 𝓤 𝓛) 𝓜 𝓡 code.env count-def.name count-def.routine

@@ -11,7 +11,8 @@ returns-then-mark-eq-ABSENT c = simp (eq-eqb _ _ c.if-mark-eq-ABSENT.true) c.wit
 
 pub returns-then-mark-eq-PAUSED : goal.returns-then-mark-eq-PAUSED
 unfolding standing_of
-returns-then-mark-eq-PAUSED c = simp (ne_eqb _ _ c.if-mark-eq-ABSENT.false, eq-eqb _ _ c.if-mark-eq-PAUSED.true) c.either_pause.ensures
+returns-then-mark-eq-PAUSED c = simp (ne_eqb _ _ c.if-mark-eq-ABSENT.false, eq-eqb _ _ c.if-mark-eq-PAUSED.true)
+    c.either_pause.ensures
 
 pub returns-then-mark-eq-OPEN : goal.returns-then-mark-eq-OPEN
 unfolding standing_of

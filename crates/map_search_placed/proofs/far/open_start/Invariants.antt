@@ -8,7 +8,8 @@ use Rattle.map_blocks.specs.Blocks.{free, on_step}
 use Rattle.map_search_placed.proofs.far.open_start.Given as goal
 
 abbrev pub invariant-loop-s : goal.invariant-loop-s
-invariant-loop-s l = (l.c ≤ l.s) × (l.s ≤ l.stop + l.step) × (l.s % l.step ≡ 0) × ((t : ℕ) → l.c ≤ t → t < l.s → on_step l.step t ≡ true → free l.map t ≡ false)
+invariant-loop-s l = (l.c ≤ l.s) × (l.s ≤ l.stop + l.step) × (l.s % l.step ≡ 0)
+    × ((t : ℕ) → l.c ≤ t → t < l.s → on_step l.step t ≡ true → free l.map t ≡ false)
 
 abbrev pub decreases-loop-s : goal.decreases-loop-s
 decreases-loop-s l = l.stop + 1 - l.s

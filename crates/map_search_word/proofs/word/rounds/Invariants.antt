@@ -9,7 +9,8 @@ use Rattle.map_blocks.specs.Words.{bit}
 use Rattle.map_search_word.proofs.word.rounds.Given as goal
 
 abbrev pub invariant-loop-done : goal.invariant-loop-done
-invariant-loop-done l = (0 < l.done) × (l.done ≤ l.k) × ((w : ℕ) → ((j : ℕ) → bit l.runs j ≡ all (bit w) j l.have) → (j : ℕ) → bit l.g j ≡ all (bit w) j l.done)
+invariant-loop-done l = (0 < l.done) × (l.done ≤ l.k) × ((w : ℕ) → ((j : ℕ) → bit l.runs j ≡ all (bit w) j l.have) → (j : ℕ)
+    → bit l.g j ≡ all (bit w) j l.done)
 
 abbrev pub decreases-loop-done : goal.decreases-loop-done
 decreases-loop-done l = l.k - l.done

@@ -46,7 +46,8 @@ pagunlit_accept_with_summary_spec 𝓤 𝓛 𝓜 𝓡 =
     (λ x0 x1 x2 x3 x4 x5 x6 x7 x8 x9. (acceptWithSummaryEnd x0 x1 x2 x3 x4 x5 x6 x7 x8 x9).entries)
     (λ x0 x1 x2 x3 x4 x5 x6 x7 x8 x9. (acceptWithSummaryEnd x0 x1 x2 x3 x4 x5 x6 x7 x8 x9).card) reply_of
     𝓛 (tables_of 𝓤 𝓛.H 𝓜 (tables 𝓤 𝓛.H 𝓜 𝓡 code.env))
-    (cited 𝓤 𝓛.H (call-contract Shape Outcome Reply (λ x0 x1 x2 x3 x4 x5 x6 x7 x8 x9. (acceptWithSummaryEnd x0 x1 x2 x3 x4 x5 x6 x7
+    (cited 𝓤 𝓛.H (call-contract Shape Outcome Reply (λ x0 x1 x2 x3 x4 x5 x6 x7 x8 x9.
+    (acceptWithSummaryEnd x0 x1 x2 x3 x4 x5 x6 x7
     x8 x9).outcome) (λ x0 x1 x2 x3 x4 x5 x6 x7 x8 x9. (acceptWithSummaryEnd x0 x1 x2 x3 x4 x5 x6 x7 x8 x9).map)
     (λ x0 x1 x2 x3 x4 x5 x6 x7 x8 x9. (acceptWithSummaryEnd x0 x1 x2 x3 x4 x5 x6 x7 x8 x9).beside.summary)
     (λ x0 x1 x2 x3 x4 x5 x6 x7 x8 x9. (acceptWithSummaryEnd x0 x1 x2 x3 x4 x5 x6 x7 x8 x9).entries)

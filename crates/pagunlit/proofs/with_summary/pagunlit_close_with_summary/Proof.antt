@@ -38,17 +38,23 @@ unfolding code.routine tables_of
 pagunlit_close_with_summary_spec 𝓤 𝓛 𝓜 𝓡 =
     entered 𝓤 𝓛.H (triple_of 𝓛 pagunlit-close-with-summary.signature (pagunlit-close-with-summary.spec 𝓛 𝓜.mem
     𝓡.run))
-    (tables 𝓤 𝓛.H 𝓜 𝓡 code.env).C (tables 𝓤 𝓛.H 𝓜 𝓡 code.env).Λ #pagunlit-close-with-summary code.function (code.unfolded 𝓤 𝓛.H 𝓜 𝓡)
-    (meets Shape Outcome Reply call-def.name reply-of-def.name (λ x0 x1 x2 x3 x4 x5 x6. (close_with_summary_end x0 x1 x2 x3 x4 x5
+    (tables 𝓤 𝓛.H 𝓜 𝓡 code.env).C (tables 𝓤 𝓛.H 𝓜 𝓡 code.env).Λ #pagunlit-close-with-summary code.function
+    (code.unfolded 𝓤 𝓛.H 𝓜 𝓡)
+    (meets Shape Outcome Reply call-def.name reply-of-def.name (λ x0 x1 x2 x3 x4 x5 x6.
+    (close_with_summary_end x0 x1 x2 x3 x4 x5
     x6).outcome) (λ x0 x1 x2 x3 x4 x5 x6. (close_with_summary_end x0 x1 x2 x3 x4 x5 x6).map)
     (λ x0 x1 x2 x3 x4 x5 x6. (close_with_summary_end x0 x1 x2 x3 x4 x5 x6).beside.summary)
-    (λ x0 x1 x2 x3 x4 x5 x6. (close_with_summary_end x0 x1 x2 x3 x4 x5 x6).entries) (λ x0 x1 x2 x3 x4 x5 x6. (close_with_summary_end x0
+    (λ x0 x1 x2 x3 x4 x5 x6. (close_with_summary_end x0 x1 x2 x3 x4 x5 x6).entries)
+    (λ x0 x1 x2 x3 x4 x5 x6. (close_with_summary_end x0
     x1 x2 x3 x4 x5 x6).card) (λ x0 x1 x2 x3 x4 x5 x6. (close_with_summary_end x0 x1 x2 x3 x4 x5 x6).beside.scratch) reply_of
     𝓛 (tables_of 𝓤 𝓛.H 𝓜 (tables 𝓤 𝓛.H 𝓜 𝓡 code.env))
-    (cited 𝓤 𝓛.H (call-contract Shape Outcome Reply (λ x0 x1 x2 x3 x4 x5 x6. (close_with_summary_end x0 x1 x2 x3 x4 x5 x6).outcome)
-    (λ x0 x1 x2 x3 x4 x5 x6. (close_with_summary_end x0 x1 x2 x3 x4 x5 x6).map) (λ x0 x1 x2 x3 x4 x5 x6. (close_with_summary_end x0 x1
+    (cited 𝓤 𝓛.H (call-contract Shape Outcome Reply (λ x0 x1 x2 x3 x4 x5 x6.
+    (close_with_summary_end x0 x1 x2 x3 x4 x5 x6).outcome)
+    (λ x0 x1 x2 x3 x4 x5 x6. (close_with_summary_end x0 x1 x2 x3 x4 x5 x6).map)
+    (λ x0 x1 x2 x3 x4 x5 x6. (close_with_summary_end x0 x1
     x2 x3 x4 x5 x6).beside.summary) (λ x0 x1 x2 x3 x4 x5 x6. (close_with_summary_end x0 x1 x2 x3 x4 x5 x6).entries)
-    (λ x0 x1 x2 x3 x4 x5 x6. (close_with_summary_end x0 x1 x2 x3 x4 x5 x6).card) (λ x0 x1 x2 x3 x4 x5 x6. (close_with_summary_end x0 x1
+    (λ x0 x1 x2 x3 x4 x5 x6. (close_with_summary_end x0 x1 x2 x3 x4 x5 x6).card)
+    (λ x0 x1 x2 x3 x4 x5 x6. (close_with_summary_end x0 x1
     x2 x3 x4 x5 x6).beside.scratch) 𝓤 𝓛) 𝓜 𝓡 code.env call-def.name call-def.routine
     code.calls-card::Shape::close-with-summary (call_met.met 𝓤 𝓛 𝓜 𝓡))
     (cited 𝓤 𝓛.H (reply_of_contract Shape Outcome Reply reply_of 𝓤 𝓛) 𝓜 𝓡 code.env reply-of-def.name reply-of-def.routine

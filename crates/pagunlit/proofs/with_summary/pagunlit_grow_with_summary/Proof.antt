@@ -38,14 +38,17 @@ unfolding code.routine tables_of
 pagunlit_grow_with_summary_spec 𝓤 𝓛 𝓜 𝓡 =
     entered 𝓤 𝓛.H (triple_of 𝓛 pagunlit-grow-with-summary.signature (pagunlit-grow-with-summary.spec 𝓛 𝓜.mem
     𝓡.run))
-    (tables 𝓤 𝓛.H 𝓜 𝓡 code.env).C (tables 𝓤 𝓛.H 𝓜 𝓡 code.env).Λ #pagunlit-grow-with-summary code.function (code.unfolded 𝓤 𝓛.H 𝓜 𝓡)
-    (meets Shape Outcome Reply call-def.name reply-of-def.name (λ x0 x1 x2 x3 x4 x5 x6 x7 x8. (grow_with_summary_end x0 x1 x2 x3 x4
+    (tables 𝓤 𝓛.H 𝓜 𝓡 code.env).C (tables 𝓤 𝓛.H 𝓜 𝓡 code.env).Λ #pagunlit-grow-with-summary code.function
+    (code.unfolded 𝓤 𝓛.H 𝓜 𝓡)
+    (meets Shape Outcome Reply call-def.name reply-of-def.name (λ x0 x1 x2 x3 x4 x5 x6 x7 x8.
+    (grow_with_summary_end x0 x1 x2 x3 x4
     x5 x6 x7 x8).outcome) (λ x0 x1 x2 x3 x4 x5 x6 x7 x8. (grow_with_summary_end x0 x1 x2 x3 x4 x5 x6 x7 x8).map)
     (λ x0 x1 x2 x3 x4 x5 x6 x7 x8. (grow_with_summary_end x0 x1 x2 x3 x4 x5 x6 x7 x8).beside.summary)
     (λ x0 x1 x2 x3 x4 x5 x6 x7 x8. (grow_with_summary_end x0 x1 x2 x3 x4 x5 x6 x7 x8).entries)
     (λ x0 x1 x2 x3 x4 x5 x6 x7 x8. (grow_with_summary_end x0 x1 x2 x3 x4 x5 x6 x7 x8).card) reply_of
     𝓛 (tables_of 𝓤 𝓛.H 𝓜 (tables 𝓤 𝓛.H 𝓜 𝓡 code.env))
-    (cited 𝓤 𝓛.H (call-contract Shape Outcome Reply (λ x0 x1 x2 x3 x4 x5 x6 x7 x8. (grow_with_summary_end x0 x1 x2 x3 x4 x5 x6 x7
+    (cited 𝓤 𝓛.H (call-contract Shape Outcome Reply (λ x0 x1 x2 x3 x4 x5 x6 x7 x8.
+    (grow_with_summary_end x0 x1 x2 x3 x4 x5 x6 x7
     x8).outcome) (λ x0 x1 x2 x3 x4 x5 x6 x7 x8. (grow_with_summary_end x0 x1 x2 x3 x4 x5 x6 x7 x8).map)
     (λ x0 x1 x2 x3 x4 x5 x6 x7 x8. (grow_with_summary_end x0 x1 x2 x3 x4 x5 x6 x7 x8).beside.summary)
     (λ x0 x1 x2 x3 x4 x5 x6 x7 x8. (grow_with_summary_end x0 x1 x2 x3 x4 x5 x6 x7 x8).entries)

@@ -44,13 +44,19 @@ pagunlit_reserve_placed_with_summary_spec 𝓤 𝓛 𝓜 𝓡 =
     (reserve_placed_with_summary_end x0 x1 x2 x3 x4 x5 x6 x7 x8 x9 x10 x11).map) (λ x0 x1 x2 x3 x4 x5 x6 x7 x8 x9 x10 x11.
     (reserve_placed_with_summary_end x0 x1 x2 x3 x4 x5 x6 x7 x8 x9 x10 x11).beside.summary)
     (λ x0 x1 x2 x3 x4 x5 x6 x7 x8 x9 x10 x11. (reserve_placed_with_summary_end x0 x1 x2 x3 x4 x5 x6 x7 x8 x9 x10 x11).entries)
-    (λ x0 x1 x2 x3 x4 x5 x6 x7 x8 x9 x10 x11. (reserve_placed_with_summary_end x0 x1 x2 x3 x4 x5 x6 x7 x8 x9 x10 x11).card) reply_of
+    (λ x0 x1 x2 x3 x4 x5 x6 x7 x8 x9 x10 x11. (reserve_placed_with_summary_end x0 x1 x2 x3 x4 x5 x6 x7 x8 x9 x10 x11).card)
+    reply_of
     𝓛 (tables_of 𝓤 𝓛.H 𝓜 (tables 𝓤 𝓛.H 𝓜 𝓡 code.env))
-    (cited 𝓤 𝓛.H (call-contract Shape Outcome Reply (λ x0 x1 x2 x3 x4 x5 x6 x7 x8 x9 x10 x11. (reserve_placed_with_summary_end x0 x1 x2
-    x3 x4 x5 x6 x7 x8 x9 x10 x11).outcome) (λ x0 x1 x2 x3 x4 x5 x6 x7 x8 x9 x10 x11. (reserve_placed_with_summary_end x0 x1 x2 x3 x4
-    x5 x6 x7 x8 x9 x10 x11).map) (λ x0 x1 x2 x3 x4 x5 x6 x7 x8 x9 x10 x11. (reserve_placed_with_summary_end x0 x1 x2 x3 x4 x5 x6 x7
-    x8 x9 x10 x11).beside.summary) (λ x0 x1 x2 x3 x4 x5 x6 x7 x8 x9 x10 x11. (reserve_placed_with_summary_end x0 x1 x2 x3 x4 x5 x6
-    x7 x8 x9 x10 x11).entries) (λ x0 x1 x2 x3 x4 x5 x6 x7 x8 x9 x10 x11. (reserve_placed_with_summary_end x0 x1 x2 x3 x4 x5 x6 x7 x8
+    (cited 𝓤 𝓛.H (call-contract Shape Outcome Reply (λ x0 x1 x2 x3 x4 x5 x6 x7 x8 x9 x10 x11.
+    (reserve_placed_with_summary_end x0 x1 x2
+    x3 x4 x5 x6 x7 x8 x9 x10 x11).outcome) (λ x0 x1 x2 x3 x4 x5 x6 x7 x8 x9 x10 x11.
+    (reserve_placed_with_summary_end x0 x1 x2 x3 x4
+    x5 x6 x7 x8 x9 x10 x11).map) (λ x0 x1 x2 x3 x4 x5 x6 x7 x8 x9 x10 x11.
+    (reserve_placed_with_summary_end x0 x1 x2 x3 x4 x5 x6 x7
+    x8 x9 x10 x11).beside.summary) (λ x0 x1 x2 x3 x4 x5 x6 x7 x8 x9 x10 x11.
+    (reserve_placed_with_summary_end x0 x1 x2 x3 x4 x5 x6
+    x7 x8 x9 x10 x11).entries) (λ x0 x1 x2 x3 x4 x5 x6 x7 x8 x9 x10 x11.
+    (reserve_placed_with_summary_end x0 x1 x2 x3 x4 x5 x6 x7 x8
     x9 x10 x11).card) 𝓤 𝓛) 𝓜 𝓡 code.env call-def.name call-def.routine code.calls-card::Shape::reserve-placed-with-summary
     (call_met.met 𝓤 𝓛 𝓜 𝓡))
     (cited 𝓤 𝓛.H (reply_of_contract Shape Outcome Reply reply_of 𝓤 𝓛) 𝓜 𝓡 code.env reply-of-def.name reply-of-def.routine
