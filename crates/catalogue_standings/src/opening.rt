@@ -19,6 +19,7 @@ use roles::{TURNED_AWAY, turned_away};
 pub const SHEETS: usize = 1024;
 
 // Row 1 for the shape and the map's length.
+#[tactic(auto, unfolding(crate::specs::Limits::shape_fits))]
 pub fn shape_fits(n: u32, free: u32, maplen: usize) -> bool
     ensures { result ≡ shape_fits n free maplen }
 {
@@ -35,6 +36,7 @@ pub fn shape_fits(n: u32, free: u32, maplen: usize) -> bool
 }
 
 // Row 1 for the number of sheets.
+#[tactic(auto, unfolding(crate::specs::Limits::sheets_fit))]
 pub fn sheets_fit(c: usize) -> bool
     ensures { result ≡ sheets_fit c }
 {
