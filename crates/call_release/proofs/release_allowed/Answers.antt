@@ -7,7 +7,6 @@ use mathlib.Core.List.{List}
 use Prim.Native.Nat.{ℕ}
 use native.Mathlib.Omega.{arith}
 use lib.ListN.{length}
-use borrow.Author.Rules.{rules}
 use Rattle.map_blocks.proofs.Maps.{marked_length}
 use Rattle.catalogue_standings.proofs.Tested.{fails, holds}
 use Rattle.refusals.specs.Lent.{lent_beside, no_card}

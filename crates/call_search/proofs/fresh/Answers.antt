@@ -7,7 +7,6 @@ use mathlib.Core.Bool.{Bool, true, false, not}
 use mathlib.Core.List.{List, []}
 use Prim.Native.Nat.{ℕ}
 use native.Mathlib.Omega.{arith}
-use borrow.Author.Rules.{rules}
 use lib.ListN.{length}
 use Rattle.map_blocks.specs.Maps as maps
 use Rattle.catalogue_standings.specs.Limits.{shape_fits, sheets_fit, fresh_fits}

@@ -3,7 +3,6 @@
 
 use mathlib.Core.Bool.{Bool}
 use mathlib.Core.Path.{sym, ap, ◌∙◌}
-use borrow.Author.Rules.{rules}
 use Rattle.catalogue_standings.specs.Rows.{refused}
 use Rattle.call_summary.specs.Answers.{build_answer, built_summary}
 use Rattle.call_summary.proofs.Fits.{build-told, build-left, away}

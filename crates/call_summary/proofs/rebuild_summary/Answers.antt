@@ -3,7 +3,6 @@
 
 use mathlib.Core.Bool.{false}
 use mathlib.Core.Path.{refl, ◌∙◌}
-use borrow.Author.Rules.{rules}
 use Rattle.catalogue_standings.specs.Rows.{accepted, refused}
 use Rattle.catalogue_standings.proofs.Tested.{fails, holds}
 use Rattle.call_summary.proofs.Fits.{lengths, build-told, build-left, shut, passes}

@@ -7,7 +7,6 @@ use mathlib.Core.List.{List}
 use Prim.Native.Nat.{ℕ}
 use native.Mathlib.Omega.{arith}
 use lib.ListN.{length}
-use borrow.Author.Rules.{rules}
 use Rattle.map_blocks.proofs.Maps.{marked_length}
 use Rattle.refusals.specs.Guides.{guide_fits, guide_after}
 use Rattle.call_take.proofs.occupy.Goals as goal

@@ -3,7 +3,6 @@
 
 use mathlib.Core.Path.{ap}
 use Prim.Native.Nat.{ℕ, ◌-◌}
-use borrow.Author.Rules.{rules}
 use Rattle.catalogue.specs.Entries.{open_mark}
 use Rattle.catalogue_standings.specs.declared.Answer.TheVariants.{Start}
 use Rattle.refusals.specs.Effects.{entry_of, out_of}

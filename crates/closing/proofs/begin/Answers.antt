@@ -1,7 +1,7 @@
 -- `begin` meets its contract.
 -- Assumes nothing.
 
-use Rattle.std.proofs.Common.{sym, ◌∙◌, arith, rules}
+use Rattle.std.proofs.Common.{sym, ◌∙◌, arith}
 use Rattle.catalogue_standings.proofs.Tested.{fails, holds}
 use Rattle.closing.proofs.Closes.{close_fits_to}
 use Rattle.closing.proofs.Steps.{away, not-begun, begun}

@@ -3,7 +3,6 @@
 
 use Rattle.catalogue_standings.proofs.Tested.{fails, holds}
 use Rattle.closing.proofs.Steps.{not_saved, wrong_card, by_the_rest}
-use Rattle.std.proofs.Common.{rules}
 use Rattle.closing.proofs.close_fits.Goals as goal
 
 pub returns-then-not-save_fits : goal.returns-then-not-save_fits

@@ -1,7 +1,7 @@
 -- `close_map` meets its contract.
 -- Assumes nothing.
 
-use Rattle.std.proofs.Common.{ℕ, false, List, ap, ◌∙◌, arith, rules}
+use Rattle.std.proofs.Common.{ℕ, false, List, ap, ◌∙◌, arith}
 use Rattle.catalogue_standings.proofs.Tested.{fails, holds}
 use Rattle.map_blocks.specs.Maps.{marked}
 use Rattle.closing.proofs.Steps.{map_fits_to, refused_map, unfit-map, marked_map}

@@ -1,6 +1,6 @@
 -- `closing::close_rounds`: a turn makes one round more.
 -- Assumes nothing.
-use Rattle.std.proofs.Common.{◌≡◌, ℕ, suc, ◌+◌, List, refl, sym, ap, ◌∙◌, add-one, arith}
+use Rattle.std.proofs.Common.{◌≡◌, ℕ, ◌+◌, List, refl, sym, ap, ◌∙◌, add-one, arith}
 use Rattle.catalogue.specs.declared.Entry.{Entry}
 use Rattle.closing.specs.Rounds.{Stand, rounds, stand, round_at, round_entries, round_card, rounds_at, rounds_entries}
 use Rattle.closing.specs.Rounds.{rounds_card}

@@ -1,6 +1,6 @@
 -- After i rounds, catalogue, card and the end of those that have moved are what i rounds leave.
 use Rattle.std.proofs.Common.{◌≡◌, ◌-◌, ◌≤◌}
-use Rattle.closing.specs.Rounds.{Stand, rounds, stand}
+use Rattle.closing.specs.Rounds.{rounds, stand}
 use Rattle.closing.proofs.close_rounds.Given as goal
 
 abbrev pub invariant-loop-i : goal.invariant-loop-i

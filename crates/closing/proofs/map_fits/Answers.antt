@@ -2,7 +2,6 @@
 -- Assumes nothing.
 
 use Rattle.closing.proofs.Steps.{too_long, too_many, too_short, by_blocks}
-use Rattle.std.proofs.Common.{rules}
 use Rattle.closing.proofs.map_fits.Goals as goal
 
 pub returns-then-words-gt4096 : goal.returns-then-words-gt4096

@@ -1,7 +1,7 @@
 -- `verdict` meets its contract, row by row.
 -- Assumes nothing.
 
-use Rattle.std.proofs.Common.{sym, ◌∙◌, rules}
+use Rattle.std.proofs.Common.{sym, ◌∙◌}
 use Rattle.closing.proofs.Steps.{verdict_21, verdict-1, verdict-0, verdict-4}
 use Rattle.closing.proofs.verdict.Goals as goal
 

@@ -5,7 +5,6 @@ use Rattle.catalogue_standings.specs.Answers.{number_of, values_of}
 use Rattle.card.specs.declared.Outcome.{Outcome}
 use Rattle.pagunlit_replies.specs.Replies.{reply_of}
 use Rattle.pagunlit_replies.specs.declared.Reply.{Reply}
-use borrow.Author.Rules.{rules}
 use Rattle.pagunlit_replies.proofs.reply_of.Goals as goal
 
 filled : (o : Outcome) (number first second third : ℕ) → number ≡ number_of o.answer

@@ -4,7 +4,6 @@
 use mathlib.Core.Path.{◌≡◌, sym, ap, subst, ◌∙◌}
 use mathlib.Core.Bool.{Bool, true}
 use lib.ListN.{length}
-use borrow.Author.Rules.{rules}
 use borrow.Author.Tests.{eqb-true}
 use Rattle.summary.specs.Summary.{summary_length}
 use Rattle.refusals.specs.Guides.{guide_fits, guide_after}

@@ -3,7 +3,6 @@
 
 use mathlib.Core.Path.{sym, ap, ◌∙◌}
 use mathlib.Core.Bool.{Bool}
-use borrow.Author.Rules.{rules}
 use Rattle.catalogue_standings.specs.Rows.{row_number}
 use Rattle.refusals.specs.Effects.{adding_verdict}
 use Rattle.refusals.specs.Lent.{lent_beside, called_by}

@@ -2,7 +2,6 @@
 -- Assumes nothing.
 
 use mathlib.Core.Path.{refl, sym, ap, ◌∙◌}
-use borrow.Author.Rules.{rules}
 use Rattle.catalogue_standings.specs.Openings.{refused_row}
 use Rattle.catalogue_standings.specs.Rows.{row_number}
 use Rattle.catalogue_standings.specs.declared.Standing.TheVariants.{Absent}

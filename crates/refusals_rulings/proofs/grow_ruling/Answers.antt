@@ -4,7 +4,6 @@
 use mathlib.Core.Path.{refl, sym, ap, ◌∙◌}
 use mathlib.Core.Bool.{Bool}
 use native.Mathlib.Omega.{arith}
-use borrow.Author.Rules.{rules}
 use Rattle.map_blocks.specs.Blocks.{free}
 use Rattle.refusals.specs.Effects.{adding_verdict, run_verdict, grow_verdict}
 use Rattle.refusals.specs.Lent.{called_by, lent_beside, lent_within}

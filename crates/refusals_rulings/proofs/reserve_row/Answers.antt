@@ -3,7 +3,6 @@
 
 use mathlib.Core.Path.{◌≡◌, sym, ap, ◌∙◌}
 use Prim.Native.Nat.{ℕ}
-use borrow.Author.Rules.{rules}
 use Rattle.catalogue_standings.specs.Rows.{Verdict, accepted, refused, first_of, row_number}
 use Rattle.catalogue_standings.proofs.Openings.{skip, stop, none_left}
 use Rattle.catalogue_standings.proofs.Rows.{other_row}

@@ -4,7 +4,6 @@
 use mathlib.Core.Path.{◌≡◌, sym, ap, ◌∙◌}
 use Prim.Native.Nat.{ℕ}
 use native.Mathlib.Omega.{arith}
-use borrow.Author.Rules.{rules}
 use Rattle.catalogue_standings.specs.Rows.{Verdict, accepted, refused, first_of}
 use Rattle.refusals.specs.Effects.{unsearched_verdict}
 use Rattle.roles.specs.Roles.{turned_away}

@@ -1,7 +1,6 @@
 -- `refusals_runs::over_limit` meets its contract: where the limit is not less than k, the limit less k is compared.
 -- Assumes nothing.
 
-use borrow.Author.Rules.{rules}
 use Rattle.refusals.proofs.Shares.{past_alone, past_together}
 use Rattle.refusals_runs.proofs.over_limit.Goals as goal
 

@@ -7,7 +7,6 @@ use mathlib.Core.Path.{◌≡◌, sym, ◌∙◌}
 use mathlib.Core.Bool.{Bool}
 use Prim.Native.Nat.{ℕ, ◌+◌, ◌≤◌}
 use native.Mathlib.Omega.{arith}
-use borrow.Author.Rules.{rules}
 use Rattle.map_blocks.specs.Blocks.{all, fit, free}
 use Rattle.laws.proofs.Bools.{both_ways}
 use Rattle.map_blocks.proofs.Fits.{fit_is, is_fit, no_fit, on_one}

@@ -1,7 +1,6 @@
 -- `call_pause::marks::admit` meets its contract: each way out by the standing, and by whether it is admitted.
 -- Assumes nothing.
 
-use borrow.Author.Rules.{rules}
 use Rattle.call_pause.proofs.marks.admit.Goals as goal
 
 pub returns-then-is_admitted : goal.returns-then-is_admitted

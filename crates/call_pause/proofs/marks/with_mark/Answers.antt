@@ -1,7 +1,6 @@
 -- `call_pause::marks::with_mark` meets its contract: each way out by the verdict.
 -- Assumes nothing.
 
-use borrow.Author.Rules.{rules}
 use Rattle.call_pause.proofs.marks.with_mark.Goals as goal
 
 pub returns-in-Refused : goal.returns-in-Refused

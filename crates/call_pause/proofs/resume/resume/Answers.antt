@@ -1,7 +1,6 @@
 -- `call_pause::resume::resume` meets its contract.
 -- Assumes nothing.
 
-use borrow.Author.Rules.{rules}
 use Rattle.refusals.proofs.Marks.{changes}
 use Rattle.refusals.specs.Table as table
 use Rattle.call_pause.proofs.resume.resume.Goals as goal

@@ -6,7 +6,6 @@ use mathlib.Core.Path.{◌≡◌, refl, sym, ap, ◌∙◌}
 use mathlib.Core.Bool.{not}
 use Prim.Native.Nat.{ℕ}
 use native.Mathlib.Omega.{arith}
-use borrow.Author.Rules.{rules}
 use Rattle.catalogue.specs.Entries.{complete_mark}
 use Rattle.refusals.specs.Effects.{entry_of, out_of, refusal_out, complete_out}
 use Rattle.call_put.specs.Fillings.{filling_of}
@@ -22,7 +21,7 @@ use Rattle.roles.specs.Roles as names
 use Rattle.roles.specs.Roles.{turned_away}
 use Rattle.refusals.specs.Lent.{called_by, Lent, lent}
 use Rattle.refusals.proofs.Lent.{all_fits, standing, first, limits, extent, refused_first, stands_first}
-use Rattle.catalogue_standings.proofs.Openings.{opened, skip, stop, none_left}
+use Rattle.catalogue_standings.proofs.Openings.{skip, stop, none_left}
 use Rattle.refusals.proofs.Complete.{opening_row, standing_row, verdict, refusal, out, by_row, shut, other, blank_at, sound_at}
 use Rattle.refusals.proofs.Complete.{admitted, lowest-is}
 use Rattle.call_put.proofs.complete.complete.Goals as goal

@@ -3,17 +3,12 @@
 -- Assumes nothing.
 
 use mathlib.Core.Path.{◌≡◌, ap, ◌∙◌}
-use mathlib.Core.Bool.{Bool}
-use mathlib.Core.List.{List}
-use Prim.Native.Nat.{ℕ, ◌+◌, ◌-◌, ◌*◌, ◌≤◌}
+use Prim.Native.Nat.{◌+◌, ◌*◌, ◌≤◌}
 use native.Mathlib.Omega.{arith}
 use lib.ListN.{length}
-use Rattle.blocks_of_card.specs.Card.{block_of}
-use Rattle.block_seals.specs.Sealed.{blank, sound}
 use Rattle.call_put.specs.Fillings.{filling_of}
-use Rattle.call_put.proofs.Fillings.{Passed, none_passed, all_passed_lem, broken, breaks, passed_more, not_broken}
+use Rattle.call_put.proofs.Fillings.{none_passed, all_passed_lem, broken, breaks, passed_more, not_broken}
 use Rattle.call_put.proofs.Fillings.{blank_apart}
-use borrow.Author.Rules.{rules}
 use Rattle.call_put.proofs.places.look.Invariants.{blankIn, soundIn}
 use Rattle.call_put.proofs.places.look.Goals as goal
 

@@ -2,18 +2,12 @@
 -- lowest blank one among them is known. The measure is how many are left.
 -- Assumes nothing.
 
-use mathlib.Core.Path.{◌≡◌, ap, ◌∙◌}
 use mathlib.Core.Bool.{Bool}
 use mathlib.Core.List.{List}
-use Prim.Native.Nat.{ℕ, ◌+◌, ◌-◌, ◌*◌, ◌≤◌}
-use native.Mathlib.Omega.{arith}
-use lib.ListN.{length}
+use Prim.Native.Nat.{ℕ, ◌+◌, ◌-◌, ◌≤◌}
 use Rattle.blocks_of_card.specs.Card.{block_of}
 use Rattle.block_seals.specs.Sealed.{blank, sound}
-use Rattle.call_put.specs.Fillings.{filling_of}
-use Rattle.call_put.proofs.Fillings.{Passed, none_passed, all_passed_lem, broken, breaks, passed_more, not_broken}
-use Rattle.call_put.proofs.Fillings.{blank_apart}
-use borrow.Author.Rules.{rules}
+use Rattle.call_put.proofs.Fillings.{Passed}
 use Rattle.call_put.proofs.places.look.Given as goal
 
 abbrev pub blankIn : List ℕ → ℕ → ℕ → Bool

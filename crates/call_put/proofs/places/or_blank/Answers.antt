@@ -2,7 +2,6 @@
 -- Assumes nothing.
 
 use mathlib.Core.Path.{sym, ap}
-use borrow.Author.Rules.{rules}
 use Rattle.call_put.specs.Fillings.{or_blank}
 use Rattle.call_put.specs.declared.places.Filling.{Filling}
 use Rattle.call_put.proofs.places.or_blank.Goals as goal

@@ -2,7 +2,6 @@
 -- Assumes nothing.
 
 use mathlib.Core.Path.{sym, ◌∙◌}
-use borrow.Author.Rules.{rules}
 use Rattle.call_put.specs.Fillings.{with_place}
 use Rattle.call_put.proofs.places.with_place.Goals as goal
 

@@ -3,13 +3,11 @@
 
 use mathlib.Core.Path.{refl, ap, ◌∙◌}
 use native.Mathlib.Omega.{arith}
-use borrow.Author.Rules.{rules}
 use Rattle.map_blocks.specs.Blocks.{free}
 use Rattle.catalogue_standings.specs.Openings.{refused_row, row_of}
 use Rattle.catalogue_standings.specs.Rows.{refused}
 use Rattle.catalogue_standings.specs.declared.Answer.TheVariants.{Refused}
 use Rattle.catalogue_standings.specs.declared.Opened.TheVariants as opening
-use Rattle.catalogue_standings.proofs.Openings.{opened}
 use Rattle.roles.specs.Roles as names
 use Rattle.roles.specs.Roles.{turned_away}
 use Rattle.refusals.specs.Lent.{called_by, lent}

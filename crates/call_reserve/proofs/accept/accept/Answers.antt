@@ -3,7 +3,6 @@
 -- Assumes nothing.
 
 use native.Mathlib.Omega.{arith}
-use borrow.Author.Rules.{rules}
 use Rattle.refusals.specs.Lent.{lent_within, called_by}
 use Rattle.roles.specs.Roles as names
 use Rattle.roles.specs.Roles.{turned_away}

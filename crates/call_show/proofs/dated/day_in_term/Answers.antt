@@ -6,7 +6,6 @@ use mathlib.Core.List.{List}
 use Prim.Native.Nat.{ℕ}
 use Rattle.blocks_of_card.proofs.Card.{lent_payload}
 use Rattle.calendar.specs.Term.{term_of, in_term}
-use borrow.Author.Rules.{rules}
 use Rattle.call_show.proofs.dated.day_in_term.Goals as goal
 
 pub returns : goal.returns

@@ -8,7 +8,6 @@ use Rattle.refusals.specs.Lent.{called_by, lent}
 use Rattle.calendar.specs.Calendar.{date_of}
 use Rattle.refusals.proofs.ShowDated.{by_first, by-term, by_block, term_zero}
 use Rattle.refusals.proofs.Showing.{showing_zero, number_fits, in-card, first-in-card, sized-buffer}
-use borrow.Author.Rules.{rules}
 use Rattle.call_show.proofs.dated.show_dated.Goals as goal
 
 pub returns-then-row-ne0 : goal.returns-then-row-ne0

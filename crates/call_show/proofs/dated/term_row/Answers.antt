@@ -9,7 +9,6 @@ use Rattle.blocks_of_card.specs.Card.{block_of}
 use Rattle.catalogue_standings.specs.Rows.{row_number}
 use Rattle.catalogue_standings.proofs.Tested.{fails, holds}
 use Rattle.refusals.proofs.ShowDated.{no_date, first-unsound, outside, within}
-use borrow.Author.Rules.{rules}
 use Rattle.call_show.proofs.dated.term_row.Goals as goal
 
 pub returns-in_default : goal.returns-in_default

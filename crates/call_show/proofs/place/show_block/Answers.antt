@@ -5,7 +5,6 @@ use mathlib.Core.Path.{refl}
 use Rattle.catalogue_standings.specs.Rows.{accepted, refused}
 use Rattle.catalogue_standings.proofs.Tested.{fails, holds}
 use Rattle.refusals.proofs.Show.{told, not_sound, is_sound}
-use borrow.Author.Rules.{rules}
 use Rattle.call_show.proofs.place.show_block.Goals as goal
 
 pub returns-then-not-sound_block : goal.returns-then-not-sound_block

@@ -9,7 +9,6 @@ use Rattle.roles.specs.Roles.{turned_away}
 use Rattle.refusals.specs.Lent.{called_by, lent}
 use Rattle.refusals.proofs.Lent.{refused_first, stands_first}
 use Rattle.refusals.proofs.Showing.{showing_shut, showing_other, showing-past-end, showing-misfit, showing-passes}
-use borrow.Author.Rules.{rules}
 use Rattle.call_show.proofs.place.showing_row.Goals as goal
 
 pub returns-in_default : goal.returns-in_default

@@ -7,7 +7,6 @@ use Rattle.roles.specs.Roles.{turned_away}
 use Rattle.refusals.specs.Lent.{called_by, lent}
 use Rattle.refusals.proofs.Show.{by_first, by_block}
 use Rattle.refusals.proofs.Showing.{showing_zero, number_fits, in-card, sized-buffer}
-use borrow.Author.Rules.{rules}
 use Rattle.call_show.proofs.show.show.Goals as goal
 
 pub returns-then-row-ne0 : goal.returns-then-row-ne0

@@ -2,7 +2,6 @@
 -- Assumes nothing.
 
 use mathlib.Core.Path.{sym, ap, ◌∙◌}
-use borrow.Author.Rules.{rules}
 use Rattle.catalogue_standings.specs.Openings.{refused_row}
 use Rattle.catalogue_standings.specs.Rows.{accepted, refused}
 use Rattle.catalogue_standings.specs.declared.Answer.TheVariants.{Refused}

@@ -2,7 +2,6 @@
 -- Assumes nothing.
 
 use mathlib.Core.Path.{ap}
-use borrow.Author.Rules.{rules}
 use Rattle.card.specs.Calls.{told}
 use Rattle.card.proofs.dated.show_dated_core.Goals as goal
 

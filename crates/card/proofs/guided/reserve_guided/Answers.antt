@@ -3,7 +3,6 @@
 
 use mathlib.Core.Bool.{true}
 use mathlib.Core.Path.{◌∙◌}
-use borrow.Author.Rules.{rules}
 use Rattle.refusals.proofs.Reserve.{plain_out, plain_map, plain_summary_lem, plain_card_lem}
 use Rattle.refusals.specs.Lent.{within}
 use Rattle.roles.specs.Roles as roles

@@ -2,7 +2,6 @@
 -- Assumes nothing.
 
 use mathlib.Core.Path.{◌∙◌}
-use borrow.Author.Rules.{rules}
 use Rattle.refusals.proofs.Reserve.{plain_out, plain_map, plain_card_lem}
 use Rattle.refusals.specs.Lent.{within}
 use Rattle.roles.specs.Roles as roles

@@ -2,7 +2,6 @@
 -- Assumes nothing.
 
 use Rattle.closing.specs.Rounds.{at_after}
-use Rattle.std.proofs.Common.{rules}
 use Rattle.closing.proofs.extent.at_after.Goals as goal
 
 pub returns : goal.returns

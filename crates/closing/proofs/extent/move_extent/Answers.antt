@@ -1,7 +1,7 @@
 -- `move_extent` meets its contract.
 -- Assumes nothing.
 
-use Rattle.std.proofs.Common.{◌∙◌, rules}
+use Rattle.std.proofs.Common.{◌∙◌}
 use Rattle.closing.proofs.Cards.{not_up, not-outside, moves}
 use Rattle.closing.proofs.extent.move_extent.Goals as goal
 

@@ -1,7 +1,7 @@
 -- `nearer` meets its contract.
 -- Assumes nothing.
 
-use Rattle.std.proofs.Common.{sym, ap, ◌∙◌, rules}
+use Rattle.std.proofs.Common.{sym, ap, ◌∙◌}
 use Rattle.closing.specs.Rounds.{pick}
 use Rattle.closing.proofs.Picks.{is_nearer_lem, is_not}
 use Rattle.closing.proofs.extent.nearer.Goals as goal
