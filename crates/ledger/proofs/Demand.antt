@@ -307,6 +307,7 @@ module _ (n c : ℕ) (card : List ℕ) (limits : Limits n c) (room : length card
         beside = record { summary = []; scratch = []; image = [] };
         call = public.on sheet ask;
       }
+
       isClose : Public → Bool
       isClose (public.on sheet ask) = false
       isClose (fresh n) = false
