@@ -10,9 +10,7 @@ use native.Mathlib.Omega.{arith}
 use lib.Dec.{eqb, ltb}
 use borrow.Author.Tests.{eq-eqb, eqb-false, ltb-true, not-true}
 use Rattle.laws.proofs.Bools.{and_left, and_right, order}
-
-abbrev modulus : ℕ
-modulus = 65521
+use Rattle.check_power.proofs.Modulus.{modulus}
 
 -- none of the n numbers from 2 on divides it
 none : ℕ → Bool
