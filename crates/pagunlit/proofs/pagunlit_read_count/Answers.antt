@@ -3,7 +3,6 @@
 
 use mathlib.Core.Path.{ap, ◌∙◌}
 use Rattle.counts.specs.Replies.{count_reply}
-use borrow.Author.Rules.{rules}
 use Rattle.pagunlit.proofs.pagunlit_read_count.Goals as goal
 
 pub returns : goal.returns

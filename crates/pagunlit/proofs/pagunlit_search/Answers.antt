@@ -1,6 +1,5 @@
 use mathlib.Core.Path.{ap, ◌∙◌}
 use Rattle.pagunlit_replies.specs.Replies.{reply_of}
-use borrow.Author.Rules.{rules}
 use Rattle.pagunlit.proofs.pagunlit_search.Goals as goal
 
 pub returns : goal.returns

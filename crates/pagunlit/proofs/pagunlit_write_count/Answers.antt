@@ -3,7 +3,6 @@
 
 use mathlib.Core.Path.{ap, ◌∙◌}
 use Rattle.counts.specs.Counts.{write_answer, after_write}
-use borrow.Author.Rules.{rules}
 use Rattle.pagunlit.proofs.pagunlit_write_count.Goals as goal
 
 pub returns : goal.returns

@@ -1,7 +1,6 @@
 -- `pagunlit::seal` meets its contract: it is what `block::seal` ensures.
 -- Assumes nothing.
 
-use borrow.Author.Rules.{rules}
 use Rattle.pagunlit.proofs.seal.Goals as goal
 
 pub returns : goal.returns

@@ -1,7 +1,6 @@
 use Rattle.catalogue_standings.proofs.Limits.{fits}
 use Rattle.catalogue_standings.proofs.Tested.{fails, holds}
 use Rattle.card_print.proofs.Beginning.{refusal_begins, misfit_begins, card_begins}
-use borrow.Author.Rules.{rules}
 use Rattle.card_print.proofs.print.begin.Goals as goal
 
 pub returns-then-loaded-ne0 : goal.returns-then-loaded-ne0

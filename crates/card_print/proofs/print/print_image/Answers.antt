@@ -10,9 +10,10 @@ returns c =
     let p = prints a.shape a.role a.image.now a.map.now a.catalogue.now a.scratch.now a.text.now in
     let e = c.load-outcome.ensures in
     let lines = c.write_sheets-last.ensures in
-    let begun = c.begin-first.ensures in (
-      rw (c.place_of.ensures, lines.0, lines.1, begun.0, begun.1, c.reply_of-loaded.ensures, c.count-count.ensures, e.0, e.1, e.2)
-          p.0,
+    let begun = c.begin-first.ensures in
+    let reply = c.reply_of-loaded.ensures in
+    let count = c.count-count.ensures in (
+      rw (c.place_of.ensures, lines.0, lines.1, begun.0, begun.1, reply, count, e.0, e.1, e.2) p.0,
       e.1 ∙ p.1,
       e.2 ∙ p.2,
       e.3 ∙ p.3,

@@ -1,5 +1,4 @@
 use Rattle.card_print.proofs.Beginning.{refused_at}
-use borrow.Author.Rules.{rules}
 use Rattle.card_print.proofs.print.refuse.Goals as goal
 
 pub returns : goal.returns

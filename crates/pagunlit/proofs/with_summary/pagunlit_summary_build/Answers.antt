@@ -3,7 +3,6 @@
 
 use mathlib.Core.Path.{ap, ◌∙◌}
 use Rattle.pagunlit_replies.specs.Replies.{reply_of}
-use borrow.Author.Rules.{rules}
 use Rattle.pagunlit.proofs.with_summary.pagunlit_summary_build.Goals as goal
 
 pub returns : goal.returns
